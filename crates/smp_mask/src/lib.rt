@@ -1,0 +1,14 @@
+//! Sets of CPUs, their text as CPU lists, and the errors of every call of the workspace.
+#![tactic(auto)]
+
+mod error;
+mod iter;
+pub mod laws;
+mod mask;
+
+pub use error::{Cause, Edge, Side, SmpError};
+pub use iter::MaskIter;
+pub use mask::{CpuMask, NR_CPUS};
+
+#[cfg(test)]
+mod tests;
