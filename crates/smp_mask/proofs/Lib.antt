@@ -1,2 +1,4 @@
 pub mod Members
+pub mod Reach
+pub mod Readers
 pub mod Sets

@@ -1,12 +1,13 @@
 -- What the bit operations of `CpuMask` do to the members. All is over the width w of the set, of at most 32 bits.
-use Rattle.std.proofs.Common.{◌≡◌, ℕ, ◌+◌, ◌-◌, ◌*◌, ◌%◌, ◌^◌, ◌<◌, ◌≤◌, true, false, not, cond, subst, Option, Some, None, Bool, IsTrue, ◌&&◌, ◌||◌, ◌==◌, bit_and, bit_or, nat_lt, [], ◌∷◌, length, length-append, zero, suc, sym, ap, ◌∙◌, arith}
+use Rattle.std.proofs.Common.{◌≡◌, ℕ, ◌+◌, ◌-◌, ◌*◌, ◌%◌, ◌^◌, ◌<◌, ◌≤◌, true, false, not, cond, subst, inl, inr, refl, min, nat_le, ◌/◌, Option, Some, None, Bool, IsTrue, ◌&&◌, ◌||◌, ◌==◌, bit_and, bit_or, nat_lt, [], ◌∷◌, length, length-append, zero, suc, sym, ap, ◌∙◌, arith}
 use Rattle.std.specs.Int.{bit_at, w32, trailing_zeros}
 use Rattle.std.specs.Int.Count.{ones}
 use Rattle.std.proofs.Math.Nat.{pow-suc, pow-le-pow_right}
 use Rattle.std.proofs.Math.Pow.{pow-lt}
+use Rattle.std.proofs.lemmas.Bool.{cases_lt}
 use Rattle.std.proofs.lemmas.Bool.Decides.{nat_tests}
 use Rattle.std.proofs.lemmas.Nat.{or_lt, and_le_l, ones-le, ones_cat, mod-pow-add, pow_pos}
-use Rattle.std.proofs.lemmas.Nat.Bits.{bit_at-lt, bit_at_and, bit_at_or, bit_at_above, bit_at_set_same, bit_at_set_other, bit_at_clear_same, bit_at_clear_other, bit_at-trailing_zeros, ones_shl, bit_at_mask_inside, bit_at_mask_below, same_from_bits}
+use Rattle.std.proofs.lemmas.Nat.Bits.{bit_at-lt, bit_at_and, bit_at_or, bit_at_above, bit_at_set_same, bit_at_set_other, bit_at_clear_same, bit_at_clear_other, bit_at-trailing_zeros, ones_shl, bit_at_mask_inside, bit_at_mask_below, bit_at_mask_above, bit_at_ones, bit_at_ones_above, ones_shr, bit_at-zero, same_from_bits}
 use lib.Count.{ones_step}
 use Rattle.smp_mask.specs.Mask.{has, members_below, IsLeast, FindsLeast}
 
@@ -94,3 +95,35 @@ and_below w a b low = omega (arith, and_le_l a b)
 
 pub same_members : (a b : ℕ) → ((c : ℕ) → has a c ≡ has b c) → a ≡ b
 same_members a b same = same_from_bits a b (λ c. grind (arith, nat_tests, same c, bit_at-lt a c, bit_at-lt b c))
+
+run_bit : (low high i : ℕ) → low ≤ high → high < 32 → min (bit_at (2 ^ 32 - 2 ^ low) i) (bit_at (2 ^ suc high - 1) i) ≡ bit_at (2 ^ suc high - 2 ^ low) i
+run_bit low high i up within = elim (cases_lt i low) [
+  | inl below ↦ rw (bit_at_mask_below low 32 i below, bit_at_mask_below low (suc high) i below) (omega (arith, bit_at-lt (2 ^ suc high - 1) i))
+  | inr from_low ↦ elim (cases_lt i (suc high)) [
+    | inl inside ↦ rw (bit_at_mask_inside low 32 i from_low (omega arith), bit_at_mask_inside low (suc high) i from_low inside, bit_at_ones (suc high) i inside) refl
+    | inr past ↦ rw (bit_at_ones_above (suc high) i past, bit_at_mask_above low (suc high) i past) (omega (arith, bit_at-lt (2 ^ 32 - 2 ^ low) i))
+  ]
+]
+
+-- the mask of a run of CPUs, as the two shifts give it
+pub run_bits : (low high : ℕ) → low ≤ high → high < 32 → bit_and (4294967295 * 2 ^ low % 4294967296) (4294967295 / 2 ^ (31 - high)) ≡ 2 ^ suc high - 2 ^ low
+run_bits low high up within =
+    let from_low : 4294967295 * 2 ^ low % 4294967296 ≡ 2 ^ 32 - 2 ^ low = ones_shl 32 low (omega arith) in
+    let width : 32 - (31 - high) ≡ suc high = omega arith in
+    let to_high : 4294967295 / 2 ^ (31 - high) ≡ 2 ^ suc high - 1 = ones_shr 32 (31 - high) (omega arith) ∙ ap (λ e. 2 ^ e - 1) width in
+    rw (from_low, to_high) (same_from_bits _ _ (λ i. bit_at_and (2 ^ 32 - 2 ^ low) (2 ^ suc high - 1) i ∙ run_bit low high i up within))
+
+pub has_run : (n low high c : ℕ) → low ≤ high → has (bit_or n (2 ^ suc high - 2 ^ low)) c ≡ (has n c || (nat_le low c && nat_le c high))
+has_run n low high c up = grind (arith, nat_tests, bit_at_or n (2 ^ suc high - 2 ^ low) c, bit_at-lt n c, bit_at_mask_below low (suc high) c, bit_at_mask_inside low (suc high) c, bit_at_mask_above low (suc high) c)
+
+pub run_below : (w n low high : ℕ) → n < 2 ^ w → high < w → bit_or n (2 ^ suc high - 2 ^ low) < 2 ^ w
+run_below w n low high below within =
+    let step : suc high ≤ w = omega arith in
+    let top : 2 ^ suc high ≤ 2 ^ w = pow-le-pow_right (omega arith) step in
+    or_lt w n (2 ^ suc high - 2 ^ low) below (omega (arith, pow_pos low, pow_pos w))
+
+has_none : (c : ℕ) → has 0 c ≡ false
+has_none c = grind (arith, nat_tests, bit_at-zero c)
+
+pub none_empty : (n : ℕ) → ((c : ℕ) → has n c ≡ false) → n ≡ 0
+none_empty n none = same_members n 0 (λ c. none c ∙ sym (has_none c))

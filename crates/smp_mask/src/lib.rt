@@ -5,6 +5,7 @@ mod error;
 mod iter;
 pub mod laws;
 mod mask;
+mod parse;
 
 pub use error::{Cause, Edge, Side, SmpError};
 pub use iter::MaskIter;

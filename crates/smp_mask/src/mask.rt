@@ -1,6 +1,7 @@
 //! A set of CPUs.
 
-ghost use Rattle.std.specs.Prelude.{◌≡◌, ℕ, ◌<◌, ◌≤◌, ◌↔◌, ◌&&◌, ◌||◌, ◌==◌, not, true, false, nat_lt, length, IsErrOf, IfOk, IfSome, OnErr};
+ghost use Rattle.std.specs.Prelude.{◌≡◌, ℕ, ◌+◌, ◌-◌, ◌^◌, ◌<◌, ◌≤◌, ◌↔◌, ◌&&◌, ◌||◌, ◌==◌, not, true, false, nat_lt, length, IsErrOf, IfOk, IfSome, OnErr};
+ghost use Rattle.std.specs.Int.Bits.{bit_or};
 ghost use Rattle.smp_mask.specs.Mask.{has, members, FindsLeast};
 
 use crate::error::SmpError;
@@ -60,6 +61,19 @@ impl CpuMask {
         Ok(CpuMask {
             bits: self.bits | 1 << cpu,
         })
+    }
+
+    // The set with the CPUs from `low` to `high` too.
+    pub(crate) fn with_run(self, low: u32, high: u32) -> CpuMask
+        requires run { low ≤ high }
+        requires within { high < NR_CPUS }
+        ensures { result ≡ bit_or self (2 ^ (high + 1) - 2 ^ low) }
+    {
+        let from_low = u32::MAX << low;
+        let to_high = u32::MAX >> (31 - high);
+        CpuMask {
+            bits: self.bits | (from_low & to_high),
+        }
     }
 
     /// The set without that member, as Linux's `cpumask_clear_cpu`.

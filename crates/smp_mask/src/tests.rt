@@ -1,7 +1,10 @@
 ghost use Rattle.std.specs.Prelude.{◌≡◌, length};
 ghost use Rattle.smp_mask.specs.Mask.{members};
 
+mod cpu_lists;
+
 use super::*;
+use cpu_lists::CPU_LISTS;
 use std::test::*;
 
 #[test]
@@ -42,5 +45,17 @@ fn loops_over_members(rt: HostRuntime) -> Result<(), Fail> {
         mask.iter().collect::<Vec<u32>>(rt.alloc())?.as_slice(),
         [0, 3, 7].as_slice()
     );
+    Ok(())
+}
+
+#[test]
+fn refuses_what_is_no_cpu_list(rt: HostRuntime) -> Result<(), Fail> {
+    assert_eq!(rt; CPU_LISTS.lines().count(), 291);
+    for line in CPU_LISTS.lines() {
+        let (text, answer) = line.split_once("\t").ok_or("no tab")?;
+        if let Err(error) = CpuMask::parse(text.as_bytes()) {
+            assert_eq!(rt; error.to_string(rt.alloc())?.as_str(), answer, "{text}");
+        }
+    }
     Ok(())
 }

@@ -1,0 +1,170 @@
+//! Reading the text of a mask, a CPU list.
+
+ghost use Rattle.std.specs.Prelude.{◌≡◌, ℕ, ◌+◌, ◌<◌, ◌≤◌, ◌^◌, true, length, option_map, IfOk, IfErr, IfSome};
+ghost use Rattle.smp_mask.specs.CpuList.{IsMaskOf, IsRefusedAt, lowest, highest};
+ghost use Rattle.smp_mask.specs.Reading.{after, digit, finished, is_live, longer, mask_of_text, reaches, step, whole};
+
+use crate::error::SmpError;
+use crate::mask::{CpuMask, NR_CPUS};
+
+/// Where in a CPU list the reader stands, with the numbers of the item that it is in.
+#[derive(Clone, Copy)]
+enum Place {
+    /// Before the first byte.
+    Start,
+    /// After a comma.
+    Item,
+    /// In the digits of a CPU, or of the low end of a run.
+    Low(u32),
+    /// After the hyphen of a run from that CPU.
+    Dash(u32),
+    /// In the digits of the high end of a run, the second number.
+    High(u32, u32),
+}
+
+impl Place {
+    // The item that is whole here, by its lowest and its highest CPU.
+    fn whole(self) -> Option<(u32, u32)>
+        requires { is_live NR_CPUS self ≡ true }
+        ensures item { result ≡ option_map (λ i. (lowest i, highest i)) (whole self) }
+        ensures up { IfSome result (λ i. i.0 ≤ i.1) }
+        ensures within { IfSome result (λ i. i.1 < NR_CPUS) }
+    {
+        match self {
+            Place::Low(low) => Some((low, low)),
+            Place::High(low, high) if low <= high => Some((low, high)),
+            _ => None,
+        }
+    }
+
+    // The place after a byte that is no comma, whether or not a CPU list goes on from there.
+    fn after(self, byte: u8) -> Option<Place>
+        requires { is_live NR_CPUS self ≡ true }
+        ensures { result ≡ after self byte }
+    {
+        Some(match self {
+            Place::Start | Place::Item => Place::Low(digit(byte)?),
+            Place::Low(low) if byte == b'-' => Place::Dash(low),
+            Place::Low(low) => Place::Low(longer(low, byte)?),
+            Place::Dash(low) => Place::High(low, digit(byte)?),
+            Place::High(low, high) => Place::High(low, longer(high, byte)?),
+        })
+    }
+
+    // Whether some CPU list goes on from here.
+    fn is_live(self) -> bool
+        ensures { result ≡ is_live NR_CPUS self }
+    {
+        match self {
+            Place::Start | Place::Item => true,
+            Place::Low(low) | Place::Dash(low) => low < NR_CPUS,
+            Place::High(low, high) => low < NR_CPUS && reaches(low, high),
+        }
+    }
+}
+
+fn digit(byte: u8) -> Option<u32>
+    ensures { result ≡ digit byte }
+{
+    match byte {
+        b'0'..=b'9' => Some((byte - b'0') as u32),
+        _ => None,
+    }
+}
+
+// The number with one digit more. A lone zero has none.
+fn longer(number: u32, byte: u8) -> Option<u32>
+    requires { number < NR_CPUS }
+    ensures { result ≡ longer number byte }
+{
+    if number == 0 {
+        return None;
+    }
+    Some(number * 10 + digit(byte)?)
+}
+
+// Whether a number from `low` on and below NR_CPUS begins with the digits of `high`: each digit
+// more takes the numbers that begin so, from `least` to below `past`, to ten times as many.
+fn reaches(low: u32, high: u32) -> bool
+    requires { low < NR_CPUS }
+    ensures { result ≡ reaches NR_CPUS low high }
+{
+    if high >= NR_CPUS {
+        return false;
+    }
+    let mut least = high;
+    let mut past = high + 1;
+    while past <= low && least > 0 {
+        least *= 10;
+        past *= 10;
+    }
+    low < past && least < NR_CPUS
+}
+
+// A CPU list as far as it is read: the place, and the CPUs of the items before it.
+#[derive(Clone, Copy)]
+struct Reader {
+    place: Place,
+    mask: CpuMask,
+}
+
+impl Reader {
+    // The reader after one byte, or `None` where no CPU list goes on so.
+    fn step(self, byte: u8) -> Option<Reader>
+        requires { is_live NR_CPUS self.place ≡ true }
+        ensures reads { result ≡ step NR_CPUS self byte }
+        ensures live { IfSome result (λ r. is_live NR_CPUS r.place ≡ true) }
+    {
+        if byte == b',' {
+            let (low, high) = self.place.whole()?;
+            return Some(Reader {
+                place: Place::Item,
+                mask: self.mask.with_run(low, high),
+            });
+        }
+        let place = self.place.after(byte)?;
+        place.is_live().then_some(Reader {
+            place,
+            mask: self.mask,
+        })
+    }
+
+    // The mask of the text, or `None` where the text can't end here.
+    fn finish(self) -> Option<CpuMask>
+        requires { is_live NR_CPUS self.place ≡ true }
+        ensures { result ≡ finished self.place self.mask }
+    {
+        if let Place::Start = self.place {
+            return Some(self.mask);
+        }
+        let (low, high) = self.place.whole()?;
+        Some(self.mask.with_run(low, high))
+    }
+}
+
+impl CpuMask {
+    /// Reads a CPU list: empty, or items joined by commas, each a CPU or `low-high` with `low` at
+    /// most `high`, in any order and overlapping, without leading zeros or spaces. It is Linux's
+    /// `cpulist_parse` (`lib/bitmap.c: bitmap_parselist`) without spaces, strides and groups.
+    ///
+    /// `BadMask` where the text is none. Its position is the length of the longest prefix of the
+    /// text that is also a prefix of a CPU list: so `1,` goes wrong at 2, where it ends.
+    pub fn parse(text: &[u8]) -> Result<CpuMask, SmpError>
+        requires { length text.now < 2 ^ 32 }
+        ensures { result ≡ mask_of_text NR_CPUS text.now }
+    {
+        let mut reader = Reader {
+            place: Place::Start,
+            mask: CpuMask::empty(),
+        };
+        for (i, byte) in text.iter().enumerate() {
+            let Some(next) = reader.step(*byte) else {
+                return Err(SmpError::BadMask { position: i as u32 });
+            };
+            reader = next;
+        }
+        reader.finish().ok_or(SmpError::BadMask {
+            position: text.len() as u32,
+        })
+    }
+}
