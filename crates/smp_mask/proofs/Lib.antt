@@ -1,4 +1,7 @@
+pub mod Accepts
+pub mod Fronts
 pub mod Members
 pub mod Reach
 pub mod Readers
 pub mod Sets
+pub mod Walks

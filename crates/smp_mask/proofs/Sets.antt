@@ -122,7 +122,7 @@ run_below w n low high below within =
     let top : 2 ^ suc high ≤ 2 ^ w = pow-le-pow_right (omega arith) step in
     or_lt w n (2 ^ suc high - 2 ^ low) below (omega (arith, pow_pos low, pow_pos w))
 
-has_none : (c : ℕ) → has 0 c ≡ false
+pub has_none : (c : ℕ) → has 0 c ≡ false
 has_none c = grind (arith, nat_tests, bit_at-zero c)
 
 pub none_empty : (n : ℕ) → ((c : ℕ) → has n c ≡ false) → n ≡ 0

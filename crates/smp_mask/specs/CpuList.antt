@@ -48,12 +48,11 @@ pub record IsListOf (width : ℕ) (text : List ℕ) (items : List Item) : Type 0
   pub items_are : AreItems width items
   pub text_is : text ≡ joined items
 
--- the text is accepted, and the mask is its set: its items are these and no others
+-- the text is accepted, and the mask is the set of its items
 pub record IsMaskOf (width : ℕ) (text : List ℕ) (mask : ℕ) : Type 0 where
   pub items : List Item
   pub is_list : IsListOf width text items
-  pub only : (others : List Item) → IsListOf width text others → others ≡ items
-  pub members : (cpu : ℕ) → has mask cpu ≡ names items cpu
+  pub members : (others : List Item) → IsListOf width text others → (cpu : ℕ) → has mask cpu ≡ names others cpu
 
 -- some accepted text begins so
 pub record IsFront (width : ℕ) (text : List ℕ) : Type 0 where

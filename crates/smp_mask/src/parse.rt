@@ -151,7 +151,9 @@ impl CpuMask {
     /// text that is also a prefix of a CPU list: so `1,` goes wrong at 2, where it ends.
     pub fn parse(text: &[u8]) -> Result<CpuMask, SmpError>
         requires { length text.now < 2 ^ 32 }
-        ensures { result ≡ mask_of_text NR_CPUS text.now }
+        ensures accepted { IfOk result (λ m. IsMaskOf NR_CPUS text.now m) }
+        ensures refused { IfErr result (λ e. (p : ℕ) × (e ≡ SmpError.BadMask p) × IsRefusedAt NR_CPUS text.now p) }
+        ensures reads { result ≡ mask_of_text NR_CPUS text.now }
     {
         let mut reader = Reader {
             place: Place::Start,
