@@ -4,9 +4,11 @@ use Rattle.std.proofs.lemmas.Bool.Decides.{nat_tests}
 use Rattle.std.proofs.lemmas.Fmt.{decimal_by_steps}
 use Rattle.std.specs.Fmt.{decimal}
 use Rattle.std.specs.Option.{option_map}
-use Rattle.smp_mask.specs.CpuList.{Item, one, run, item_text, lowest, highest, IsItem, AreItems, joined, names}
+use Rattle.smp_mask.specs.CpuList.{item_text, lowest, highest, IsItem, AreItems, joined, names}
 use Rattle.smp_mask.specs.Mask.{has}
 use Rattle.smp_mask.specs.Reading.{digit, longer, after, is_live, whole, with_item, step, read_from, mask_of_text}
+use Rattle.smp_mask.specs.declared.item.Item.{Item}
+use Rattle.smp_mask.specs.declared.item.Item.TheVariants.{One, Run}
 use Rattle.smp_mask.specs.declared.parse.Place.{Place}
 use Rattle.smp_mask.specs.declared.parse.Place.TheVariants.{Start, Item as AtItem, Low, Dash, High}
 use Rattle.smp_mask.specs.declared.parse.Reader.{Reader}
@@ -63,20 +65,20 @@ reads_number w p place d = decimal_by_steps (λ n ds. is_live w (place n) ≡ tr
 
 -- the place where an item is whole
 abbrev pub place_of : Item → Place
-place_of (one cpu) = Low cpu
-place_of (run low high) = High low high
+place_of (One cpu) = Low cpu
+place_of (Run low high) = High low high
 
 whole_of : (w : ℕ) (i : Item) → IsItem w i → whole (place_of i) ≡ Some i
-whole_of w (one cpu) h = refl
-whole_of w (run low high) h = let up : nat_le low high ≡ true = grind (arith, nat_tests, h.0) in rw up refl
+whole_of w (One cpu) h = refl
+whole_of w (Run low high) h = let up : nat_le low high ≡ true = grind (arith, nat_tests, h.0) in rw up refl
 
 -- where an item may begin
 abbrev pub IsOpening : Place → Type 0
 IsOpening p = (b : ℕ) → after p b ≡ option_map Low (digit b)
 
 reads_item : (w : ℕ) (p : Place) → w < 2 ^ 64 → IsOpening p → (i : Item) → IsItem w i → (at mask : ℕ) (rest : List ℕ) → read_from w (record { place = p; mask = mask }) at (item_text i ++ rest) ≡ read_from w (record { place = place_of i; mask = mask }) (at + length (item_text i)) rest
-reads_item w p wide opens (one cpu) h at mask rest = reads_number w p Low (opening_low w p opens) cpu (omega (arith, h.1)) (grind (arith, nat_tests, h.1)) at mask rest
-reads_item w p wide opens (run low high) h at mask rest =
+reads_item w p wide opens (One cpu) h at mask rest = reads_number w p Low (opening_low w p opens) cpu (omega (arith, h.1)) (grind (arith, nat_tests, h.1)) at mask rest
+reads_item w p wide opens (Run low high) h at mask rest =
     let below : nat_lt low w ≡ true = grind (arith, nat_tests, h.0, h.1) in
     let first = reads_number w p Low (opening_low w p opens) low (omega (arith, h.0, h.1)) below at mask (45 ∷ (decimal high ++ rest)) in
     let hyphen : read_from w (record { place = Low low; mask = mask }) (at + length (decimal low)) (45 ∷ (decimal high ++ rest)) ≡ read_from w (record { place = Dash low; mask = mask }) (at + length (decimal low) + 1) (decimal high ++ rest) = read_step w (at + length (decimal low)) _ _ 45 (decimal high ++ rest) (step_other w (Low low) (Dash low) mask 45 refl refl below) in
@@ -96,8 +98,8 @@ has_items w (i ∷ is) h mask c = has_items w is h.1 (with_item mask i) c ∙ rw
 
 item_ends : (w at mask : ℕ) (i : Item) → IsItem w i → read_from w (record { place = place_of i; mask = mask }) at [] ≡ Ok (with_item mask i)
 unfolding read_from
-item_ends w at mask (one cpu) h = refl
-item_ends w at mask (run low high) h = rw (whole_of w (run low high) h) refl
+item_ends w at mask (One cpu) h = refl
+item_ends w at mask (Run low high) h = rw (whole_of w (Run low high) h) refl
 
 comma_on : (w at mask : ℕ) (i : Item) (rest : List ℕ) → IsItem w i → read_from w (record { place = place_of i; mask = mask }) at (44 ∷ rest) ≡ read_from w (record { place = AtItem; mask = with_item mask i }) (at + 1) rest
 unfolding read_from

@@ -8,8 +8,10 @@ use Rattle.std.proofs.lemmas.List.Concat.{flat_map-append}
 use Rattle.std.specs.Fmt.{decimal}
 use Rattle.std.specs.List.{flat_map}
 use Rattle.std.specs.Option.{option_map, option_and_then}
-use Rattle.smp_mask.specs.CpuList.{Item, one, run, item_text, IsItem, AreItems, joined, IsListOf, IsFront}
+use Rattle.smp_mask.specs.CpuList.{item_text, IsItem, AreItems, joined, IsListOf, IsFront}
 use Rattle.smp_mask.specs.Reading.{digit, longer, after, is_live, live_after, whole, with_item, step, finished}
+use Rattle.smp_mask.specs.declared.item.Item.{Item}
+use Rattle.smp_mask.specs.declared.item.Item.TheVariants.{One, Run}
 use Rattle.smp_mask.specs.declared.parse.Place.{Place}
 use Rattle.smp_mask.specs.declared.parse.Place.TheVariants.{Start, Item as AtItem, Low, Dash, High}
 use Rattle.smp_mask.specs.declared.parse.Reader.{Reader}
@@ -143,13 +145,13 @@ whole_is : (w : ℕ) (p : Place) (i : Item) → is_live w p ≡ true → whole p
 whole_is w Start i live h = cc
 whole_is w AtItem i live h = cc
 whole_is w (Low low) i live h =
-    let same : one low ≡ i = cc in
+    let same : One low ≡ i = cc in
     (ap item_text same, subst (λ z. IsItem w z) same (omega arith, live_below w low live))
 whole_is w (Dash low) i live h = cc
 whole_is w (High low high) i live h = elim (cases_Bool (nat_le low high)) [
   | inl up ↦
-      let e : Some (run low high) ≡ Some i = sym (rw up refl) ∙ h in
-      let same : run low high ≡ i = cc in
+      let e : Some (Run low high) ≡ Some i = sym (rw up refl) ∙ h in
+      let same : Run low high ≡ i = cc in
       (ap item_text same, subst (λ z. IsItem w z) same (grind (arith, nat_tests, up), live_high w low high live))
   | inr down ↦ let e : None ≡ Some i = sym (rw down refl) ∙ h in cc
 ]
@@ -199,7 +201,7 @@ completes_at w low high j m wide digits from to up below =
     let quotient : m / 10 ^ j ≡ high = div-eq_of_lt-le (10 ^ j) from to in
     let front = decimal_front j m (omega (arith, below, wide)) (rw quotient digits) in
     let text : decimal m ≡ decimal high ++ front.0 = front.1 ∙ ap (λ z. decimal z ++ front.0) quotient in
-    record { item = run low m; is_item = (up, below); more = front.0; text_is = append_assoc (decimal low) (45 ∷ decimal high) front.0 ∙ ap (λ z. decimal low ++ (45 ∷ z)) (sym text) }
+    record { item = Run low m; is_item = (up, below); more = front.0; text_is = append_assoc (decimal low) (45 ∷ decimal high) front.0 ∙ ap (λ z. decimal low ++ (45 ∷ z)) (sym text) }
 
 completes_high : (w low high : ℕ) → w < 2 ^ 64 → is_live w (High low high) ≡ true → Completion w (High low high)
 completes_high w low high wide live =
@@ -211,10 +213,10 @@ completes_high w low high wide live =
     ]
 
 completes : (w : ℕ) (p : Place) → 0 < w → w < 2 ^ 64 → is_live w p ≡ true → Completion w p
-completes w Start some wide live = record { item = one 0; is_item = (omega arith, some); more = decimal 0; text_is = refl }
-completes w AtItem some wide live = record { item = one 0; is_item = (omega arith, some); more = decimal 0; text_is = refl }
-completes w (Low low) some wide live = record { item = one low; is_item = (omega arith, live_below w low live); more = []; text_is = append-nil (decimal low) }
-completes w (Dash low) some wide live = record { item = run low low; is_item = (omega arith, live_below w low live); more = decimal low; text_is = append_assoc (decimal low) (45 ∷ []) (decimal low) }
+completes w Start some wide live = record { item = One 0; is_item = (omega arith, some); more = decimal 0; text_is = refl }
+completes w AtItem some wide live = record { item = One 0; is_item = (omega arith, some); more = decimal 0; text_is = refl }
+completes w (Low low) some wide live = record { item = One low; is_item = (omega arith, live_below w low live); more = []; text_is = append-nil (decimal low) }
+completes w (Dash low) some wide live = record { item = Run low low; is_item = (omega arith, live_below w low live); more = decimal low; text_is = append_assoc (decimal low) (45 ∷ []) (decimal low) }
 completes w (High low high) some wide live = completes_high w low high wide live
 
 -- ---- the reader's place in a text
@@ -274,7 +276,7 @@ at_item w p i text a h =
 pub at_end : (w : ℕ) (p : Place) (mask m : ℕ) (text : List ℕ) → At w p text → finished p mask ≡ Some m → (items : List Item) × IsListOf w text items
 at_end w Start mask m text a h = ([], record { items_are = tt; text_is = a.text_is ∙ ap (λ z. closed z ++ []) a.begins })
 at_end w AtItem mask m text a h = cc
-at_end w (Low low) mask m text a h = at_item w (Low low) (one low) text a refl
+at_end w (Low low) mask m text a h = at_item w (Low low) (One low) text a refl
 at_end w (Dash low) mask m text a h = cc
 at_end w (High low high) mask m text a h =
     let x = map_some (with_item mask) (whole (High low high)) m h in

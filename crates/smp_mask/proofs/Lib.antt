@@ -1,7 +1,9 @@
 pub mod Accepts
+pub mod Canonical
 pub mod Fronts
 pub mod Members
 pub mod Reach
 pub mod Readers
+pub mod Runs
 pub mod Sets
 pub mod Walks

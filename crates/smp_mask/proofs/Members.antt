@@ -32,7 +32,7 @@ least_off m n cpu (suc k) least off h = elim (cases_lt cpu k) [
 ]
 
 -- an item off the front of a list brings the end nearer
-pub item_goes : {S : Type 0} (rest : S → List ℕ) (can : S → Type 0) (s t : S) (x : ℕ) → can t → rest s ≡ x ∷ rest t → MakesProgress can (item_count rest) s (Some x) t
+pub item_goes : {S A : Type 0} (rest : S → List A) (can : S → Type 0) (s t : S) (x : A) → can t → rest s ≡ x ∷ rest t → MakesProgress can (item_count rest) s (Some x) t
 item_goes rest can s t x c e = let shorter = ap length e in record { on = λ f. (c, tt, omega arith); keeps = c; rests = λ f. tt }
 
 pub members_fit : (n k : ℕ) → length (members_below n k) ≤ k

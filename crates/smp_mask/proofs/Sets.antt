@@ -6,8 +6,8 @@ use Rattle.std.proofs.Math.Nat.{pow-suc, pow-le-pow_right}
 use Rattle.std.proofs.Math.Pow.{pow-lt}
 use Rattle.std.proofs.lemmas.Bool.{cases_lt}
 use Rattle.std.proofs.lemmas.Bool.Decides.{nat_tests}
-use Rattle.std.proofs.lemmas.Nat.{or_lt, and_le_l, ones-le, ones_cat, mod-pow-add, pow_pos}
-use Rattle.std.proofs.lemmas.Nat.Bits.{bit_at-lt, bit_at_and, bit_at_or, bit_at_above, bit_at_set_same, bit_at_set_other, bit_at_clear_same, bit_at_clear_other, bit_at-trailing_zeros, ones_shl, bit_at_mask_inside, bit_at_mask_below, bit_at_mask_above, bit_at_ones, bit_at_ones_above, ones_shr, bit_at-zero, same_from_bits}
+use Rattle.std.proofs.lemmas.Nat.{or_lt, and_le_l, ones-le, ones_cat, mod-pow-add, pow_pos, shr-shr}
+use Rattle.std.proofs.lemmas.Nat.Bits.{bit_at-lt, bit_at_and, bit_at_or, bit_at_above, bit_at_set_same, bit_at_set_other, bit_at_clear_same, bit_at_clear_other, bit_at-trailing_zeros, ones_shl, bit_at_mask_inside, bit_at_mask_below, bit_at_mask_above, bit_at_ones, bit_at_ones_above, ones_shr, bit_at-zero, bit_at_cat_low, bit_at_cat_high, same_from_bits}
 use lib.Count.{ones_step}
 use Rattle.smp_mask.specs.Mask.{has, members_below, IsLeast, FindsLeast}
 
@@ -127,3 +127,19 @@ has_none c = grind (arith, nat_tests, bit_at-zero c)
 
 pub none_empty : (n : ℕ) → ((c : ℕ) → has n c ≡ false) → n ≡ 0
 none_empty n none = same_members n 0 (λ c. none c ∙ sym (has_none c))
+
+-- the members of n above k, as a number
+abbrev pub above_of : ℕ → ℕ → ℕ
+above_of n k = n / 2 ^ suc k * 2 ^ suc k + 0
+
+bit_above_of : (n k c : ℕ) → suc k ≤ c → bit_at (above_of n k) c ≡ bit_at n c
+bit_above_of n k c from =
+    let place : suc k + (c - suc k) ≡ c = omega arith in
+    let shifted : n / 2 ^ suc k / 2 ^ (c - suc k) ≡ n / 2 ^ c = shr-shr n (suc k) (c - suc k) ∙ ap (λ z. n / 2 ^ z) place in
+    bit_at_cat_high (n / 2 ^ suc k) (suc k) 0 c (pow_pos (suc k)) from ∙ ap (λ z. z % 2) shifted
+
+pub has_above_of : (n k c : ℕ) → has (above_of n k) c ≡ (nat_lt k c && has n c)
+has_above_of n k c = elim (cases_lt c (suc k)) [
+  | inl below ↦ grind (arith, nat_tests, bit_at_cat_low (n / 2 ^ suc k) (suc k) 0 c below, bit_at-zero c)
+  | inr from ↦ grind (arith, nat_tests, bit_above_of n k c from)
+]

@@ -1,10 +1,11 @@
 -- What comes of a text: the mask of its CPU list, or where it goes wrong.
 use Rattle.std.proofs.Common.{◌≡◌, ℕ, zero, suc, ◌+◌, ◌^◌, ◌<◌, ◌≤◌, List, [], ◌∷◌, ◌++◌, length, append_assoc, append-nil, take, refl, sym, ap, subst, ◌∙◌, Option, Some, None, Result, Ok, Err, IfOk, IfErr, ◌⊎◌, ◌||◌, inl, inr, arith}
 use Rattle.smp_mask.specs.Mask.{has}
-use Rattle.smp_mask.specs.CpuList.{Item, IsListOf, IsFront, IsMaskOf, IsRefusedAt, names}
+use Rattle.smp_mask.specs.CpuList.{IsListOf, IsFront, IsMaskOf, IsRefusedAt, names}
 use Rattle.smp_mask.specs.Reading.{step, finished, or_refused, read_from, mask_of_text}
 use Rattle.smp_mask.specs.declared.error.SmpError.{SmpError}
 use Rattle.smp_mask.specs.declared.error.SmpError.TheVariants.{BadMask}
+use Rattle.smp_mask.specs.declared.item.Item.{Item}
 use Rattle.smp_mask.specs.declared.parse.Place.TheVariants.{Start}
 use Rattle.smp_mask.specs.declared.parse.Reader.{Reader}
 use Rattle.smp_mask.proofs.Accepts.{reads_list, with_items, has_items}

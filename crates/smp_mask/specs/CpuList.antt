@@ -3,25 +3,22 @@ use Rattle.std.specs.Prelude.{◌≡◌, ℕ, ◌<◌, ◌≤◌, Bool, nat_le, 
 use Rattle.std.specs.Fmt.{decimal}
 use Rattle.std.specs.List.{join_with_byte, list_any}
 use Rattle.smp_mask.specs.Mask.{has}
+use Rattle.smp_mask.specs.declared.item.Item.{Item}
+use Rattle.smp_mask.specs.declared.item.Item.TheVariants.{One, Run}
 
--- an item is one CPU, or a run from a low one to a high one
-pub data Item : Type 0 where
-  one : ℕ → Item
-  run : ℕ → ℕ → Item
-
--- its text: decimal numbers, a run's two with a hyphen between
+-- the text of an item, one CPU or a run from a low one to a high one: decimal numbers, with a hyphen between a run's two
 abbrev pub item_text : Item → List ℕ
-item_text (one cpu) = decimal cpu
-item_text (run low high) = decimal low ++ (45 ∷ decimal high)
+item_text (One cpu) = decimal cpu
+item_text (Run low high) = decimal low ++ (45 ∷ decimal high)
 
 -- its lowest and its highest CPU
 abbrev pub lowest : Item → ℕ
-lowest (one cpu) = cpu
-lowest (run low high) = low
+lowest (One cpu) = cpu
+lowest (Run low high) = low
 
 abbrev pub highest : Item → ℕ
-highest (one cpu) = cpu
-highest (run low high) = high
+highest (One cpu) = cpu
+highest (Run low high) = high
 
 -- the CPUs of an item are below the width, and a run goes up
 abbrev pub IsItem : ℕ → Item → Type 0

@@ -1,9 +1,11 @@
 -- Reading a CPU list byte by byte, as a function: for what computes with the mask of a text. That it reads the lists of `CpuList` is in the contract of `CpuMask.parse`.
 use Rattle.std.specs.Prelude.{ℕ, zero, suc, ◌+◌, ◌-◌, ◌*◌, ◌^◌, Bool, true, nat_lt, nat_le, ◌==◌, ◌&&◌, ◌||◌, cond, List, [], ◌∷◌, Option, Some, None, option_map, option_and_then, Result, Ok, Err}
 use Rattle.std.specs.Int.Bits.{bit_or}
-use Rattle.smp_mask.specs.CpuList.{Item, one, run, lowest, highest}
+use Rattle.smp_mask.specs.CpuList.{lowest, highest}
 use Rattle.smp_mask.specs.declared.error.SmpError.{SmpError}
 use Rattle.smp_mask.specs.declared.error.SmpError.TheVariants.{BadMask}
+use Rattle.smp_mask.specs.declared.item.Item.{Item}
+use Rattle.smp_mask.specs.declared.item.Item.TheVariants.{One, Run}
 use Rattle.smp_mask.specs.declared.parse.Place.{Place}
 use Rattle.smp_mask.specs.declared.parse.Place.TheVariants.{Start, Item as AtItem, Low, Dash, High}
 use Rattle.smp_mask.specs.declared.parse.Reader.{Reader}
@@ -49,9 +51,9 @@ live_after width place byte = option_and_then (λ p. cond (is_live width p) (Som
 abbrev pub whole : Place → Option Item
 whole Start = None
 whole AtItem = None
-whole (Low low) = Some (one low)
+whole (Low low) = Some (One low)
 whole (Dash low) = None
-whole (High low high) = cond (nat_le low high) (Some (run low high)) None
+whole (High low high) = cond (nat_le low high) (Some (Run low high)) None
 
 -- the mask with the CPUs of an item too
 abbrev pub with_item : ℕ → Item → ℕ
@@ -67,7 +69,7 @@ step width reader byte = cond (byte == 44)
 abbrev pub finished : Place → ℕ → Option ℕ
 finished Start mask = Some mask
 finished AtItem mask = None
-finished (Low low) mask = Some (with_item mask (one low))
+finished (Low low) mask = Some (with_item mask (One low))
 finished (Dash low) mask = None
 finished (High low high) mask = option_map (with_item mask) (whole (High low high))
 

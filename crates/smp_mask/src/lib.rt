@@ -1,7 +1,9 @@
 //! Sets of CPUs, their text as CPU lists, and the errors of every call of the workspace.
 #![tactic(auto)]
 
+mod display;
 mod error;
+mod item;
 mod iter;
 pub mod laws;
 mod mask;

@@ -14,7 +14,7 @@ pub const NR_CPUS: u32 = 8;
 /// A set of CPU numbers below [`NR_CPUS`], as Linux's `cpumask_t` (`include/linux/cpumask.h`).
 ///
 /// A contract sees it as the number that has bit `c` where CPU `c` is a member.
-#[derive(Clone, Copy, Debug, PartialEq, Eq)]
+#[derive(Clone, Copy, PartialEq, Eq)]
 pub struct CpuMask {
     bits: u32,
 }
@@ -134,19 +134,25 @@ impl CpuMask {
         }
     }
 
+    // The members above `cpu`.
+    pub(crate) fn above(self, cpu: u32) -> CpuMask
+        ensures { (c : ℕ) → has result c ≡ (nat_lt cpu c && has self c) }
+    {
+        let bits = self.bits;
+        if cpu >= NR_CPUS {
+            return CpuMask::empty();
+        }
+        CpuMask {
+            bits: bits & (u32::MAX << cpu << 1),
+        }
+    }
+
     /// The least member above `cpu`, as Linux's `cpumask_next`.
     pub fn next_after(self, cpu: u32) -> Option<u32>
         ensures least { FindsLeast result (λ c. nat_lt cpu c && has self c) }
         ensures within { IfSome result (λ c. c < NR_CPUS) }
     {
-        let bits = self.bits;
-        if cpu >= NR_CPUS {
-            return None;
-        }
-        let above = CpuMask {
-            bits: bits & (u32::MAX << cpu << 1),
-        };
-        above.first()
+        self.above(cpu).first()
     }
 
     /// The least member of both, as Linux's `cpumask_first_and`.

@@ -1,10 +1,11 @@
 //! Reading the text of a mask, a CPU list.
 
-ghost use Rattle.std.specs.Prelude.{◌≡◌, ℕ, ◌+◌, ◌<◌, ◌≤◌, ◌^◌, true, length, option_map, IfOk, IfErr, IfSome};
+ghost use Rattle.std.specs.Prelude.{◌≡◌, ℕ, ◌+◌, ◌<◌, ◌≤◌, ◌^◌, true, length, IfOk, IfErr, IfSome};
 ghost use Rattle.smp_mask.specs.CpuList.{IsMaskOf, IsRefusedAt, lowest, highest};
 ghost use Rattle.smp_mask.specs.Reading.{after, digit, finished, is_live, longer, mask_of_text, reaches, step, whole};
 
 use crate::error::SmpError;
+use crate::item::Item;
 use crate::mask::{CpuMask, NR_CPUS};
 
 /// Where in a CPU list the reader stands, with the numbers of the item that it is in.
@@ -23,16 +24,16 @@ enum Place {
 }
 
 impl Place {
-    // The item that is whole here, by its lowest and its highest CPU.
-    fn whole(self) -> Option<(u32, u32)>
+    // The item that is whole here.
+    fn whole(self) -> Option<Item>
         requires { is_live NR_CPUS self ≡ true }
-        ensures item { result ≡ option_map (λ i. (lowest i, highest i)) (whole self) }
-        ensures up { IfSome result (λ i. i.0 ≤ i.1) }
-        ensures within { IfSome result (λ i. i.1 < NR_CPUS) }
+        ensures item { result ≡ whole self }
+        ensures up { IfSome result (λ i. lowest i ≤ highest i) }
+        ensures within { IfSome result (λ i. highest i < NR_CPUS) }
     {
         match self {
-            Place::Low(low) => Some((low, low)),
-            Place::High(low, high) if low <= high => Some((low, high)),
+            Place::Low(cpu) => Some(Item::One(cpu)),
+            Place::High(low, high) if low <= high => Some(Item::Run(low, high)),
             _ => None,
         }
     }
@@ -116,10 +117,10 @@ impl Reader {
         ensures live { IfSome result (λ r. is_live NR_CPUS r.place ≡ true) }
     {
         if byte == b',' {
-            let (low, high) = self.place.whole()?;
+            let item = self.place.whole()?;
             return Some(Reader {
                 place: Place::Item,
-                mask: self.mask.with_run(low, high),
+                mask: self.mask.with_run(item.lowest(), item.highest()),
             });
         }
         let place = self.place.after(byte)?;
@@ -137,8 +138,8 @@ impl Reader {
         if let Place::Start = self.place {
             return Some(self.mask);
         }
-        let (low, high) = self.place.whole()?;
-        Some(self.mask.with_run(low, high))
+        let item = self.place.whole()?;
+        Some(self.mask.with_run(item.lowest(), item.highest()))
     }
 }
 

@@ -49,13 +49,16 @@ fn loops_over_members(rt: HostRuntime) -> Result<(), Fail> {
 }
 
 #[test]
-fn refuses_what_is_no_cpu_list(rt: HostRuntime) -> Result<(), Fail> {
+fn reads_and_prints_cpu_lists(rt: HostRuntime) -> Result<(), Fail> {
+    let alloc = rt.alloc();
     assert_eq!(rt; CPU_LISTS.lines().count(), 291);
     for line in CPU_LISTS.lines() {
         let (text, answer) = line.split_once("\t").ok_or("no tab")?;
-        if let Err(error) = CpuMask::parse(text.as_bytes()) {
-            assert_eq!(rt; error.to_string(rt.alloc())?.as_str(), answer, "{text}");
-        }
+        let printed = match CpuMask::parse(text.as_bytes()) {
+            Ok(mask) => mask.to_string(alloc)?,
+            Err(error) => error.to_string(alloc)?,
+        };
+        assert_eq!(rt; printed.as_str(), answer, "{text}");
     }
     Ok(())
 }
