@@ -1,0 +1,175 @@
+-- A command that may start begins where it should, and changes no call.
+use Rattle.std.proofs.Common.{◌≡◌, ◌≢◌, ℕ, zero, suc, ◌+◌, ◌<◌, ◌≤◌, ◌^◌, Bool, true, false, ◌==◌, ◌||◌, not, nat_lt, cond, Option, Some, None, List, [], length, get_or, sym, subst, refl, ap, ◌∙◌, arith, replicate, inl}
+use Rattle.std.proofs.lemmas.Bool.{ltb-true}
+use Rattle.std.specs.Prelude.{slice_set}
+use Rattle.smp_mask.specs.Mask.{has}
+use Rattle.smp_mask.specs.declared.error.SmpError.{SmpError}
+use Rattle.smp_core.specs.Size.{cpus, table_size, records_of_one}
+use Rattle.smp_core.specs.Put.{put}
+use Rattle.smp_core.specs.Layout.{index_of, number_in, number_at}
+use Rattle.smp_core.specs.Calls.{CallState, no_calls}
+use Rattle.smp_core.specs.Drains.{DrainValue}
+use Rattle.smp_core.specs.Stages.{ControlValue}
+use Rattle.smp_core.specs.Limits.{AreLimits}
+use Rattle.smp_core.specs.Start.{refusal_of, command_refusal, busy_or, first_stage, fits_record, control_at, FitsCommand}
+use Rattle.smp_core.specs.Stands.{Share, share_of, Rests, Stands, StandsAt, held_of, HandIs}
+use Rattle.smp_core.specs.Value.{CoreValue, ValuesShow, control_of, outside}
+use Rattle.smp_core.specs.Words.{hands_in}
+use Rattle.smp_core.specs.Shows.{Shows}
+use Rattle.smp_core.proofs.Cores.{controls_by_cpu}
+use Rattle.smp_core.proofs.Puts.{put_all}
+use Rattle.smp_core.proofs.Sizes.{owner-of_record, record_of-below}
+use Rattle.smp_core.specs.declared.command.Command.{Command}
+use Rattle.smp_core.specs.declared.command.Command.TheVariants as command
+use Rattle.smp_core.specs.declared.place.RecPlace.{RecPlace}
+use Rattle.smp_core.specs.declared.word.Word.{Word}
+use Rattle.smp_core.specs.declared.word.Word.TheVariants.{Head, Intr, Hand, Queued, Ran, Flags, Next}
+use Rattle.smp_core.specs.declared.stage.Stage.{Stage}
+
+else_none : (b : Bool) (x : Option SmpError) (y : SmpError) → cond b x (Some y) ≡ None → (b ≡ true) × (x ≡ None)
+else_none true x y e = (refl, e)
+else_none false x y e = cc
+
+then_none : (b : Bool) (y : SmpError) → cond b (Some y) None ≡ None → b ≡ false
+then_none true y e = cc
+then_none false y e = refl
+
+or_false : (x y : Bool) → (x || y) ≡ false → x ≡ false
+or_false true y e = e
+or_false false y e = refl
+
+not_false : (x : Bool) → not x ≡ false → x ≡ true
+not_false true e = refl
+not_false false e = cc
+
+not_busy : (stage : Option Stage) (r : Option SmpError) → busy_or stage r ≡ None → (stage ≡ None) × (r ≡ None)
+not_busy None r e = (refl, e)
+not_busy (Some stage) r e = cc
+
+-- a CPU that is online is one that there can be
+pub online_below : (nr online cpu : ℕ) → AreLimits nr online → has online cpu ≡ true → cpu < cpus
+online_below nr online cpu l e = let below = l.below cpu e in let within = l.within in omega arith
+
+-- what a command that may start knows
+pub record MayStart (core : CoreValue) (cpu : ℕ) (c : Command) : Type 0 where
+  pub is_online : has core.online cpu ≡ true
+  pub is_outside : (control_of core.controls cpu).stage ≡ None
+  pub is_allowed : command_refusal core.online cpu c ≡ None
+
+pub may_start : (core : CoreValue) (cpu : ℕ) (c : Command) → refusal_of core cpu c ≡ None → MayStart core cpu c
+may_start core cpu c e =
+    let o = else_none (has core.online cpu) _ _ e in
+    let b = not_busy (control_of core.controls cpu).stage (command_refusal core.online cpu c) o.1 in
+    record { is_online = o.0; is_outside = b.0; is_allowed = b.1 }
+
+-- a CPU on which a command may start is one that there can be
+pub start_below : (core : CoreValue) (cpu : ℕ) (c : Command) → AreLimits core.nr core.online → refusal_of core cpu c ≡ None → cpu < cpus
+start_below core cpu c limits e = let m = may_start core cpu c e in online_below core.nr core.online cpu limits m.is_online
+
+begins_empty : (online cpu : ℕ) (c : Command) → held_of (Some (first_stage online cpu c)) ≡ None
+begins_empty online cpu (command.Post k to class func info tries) = refl
+begins_empty online cpu (command.Send to) = refl
+begins_empty online cpu (command.Done k) = refl
+begins_empty online cpu command.Handle = refl
+
+begins_outside : (online cpu : ℕ) (c : Command) (hand : ℕ) → hand ≡ 0 → HandIs (Some (first_stage online cpu c)) hand
+begins_outside online cpu (command.Post k to class func info tries) hand e = e
+begins_outside online cpu (command.Send to) hand e = e
+begins_outside online cpu (command.Done k) hand e = e
+begins_outside online cpu command.Handle hand e = e
+
+begins : (nr online : ℕ) (places : ℕ → RecPlace) (at : Word → ℕ) (s : Share) (d : DrainValue) (cpu : ℕ) (c : Command) → AreLimits nr online → cpu < cpus → command_refusal online cpu c ≡ None → FitsCommand c →
+    StandsAt places at s d cpu None → StandsAt places at s d cpu (Some (first_stage online cpu c))
+begins nr online places at s d cpu (command.Post k to class func info tries) limits l e f h =
+    let one = not (nat_lt k records_of_one) in
+    let bad = ((one || tries == 0) || to == cpu) || not (fits_record k to class) in
+    let ok = or_false one (tries == 0) (or_false (one || tries == 0) (to == cpu) (or_false ((one || tries == 0) || to == cpu) (not (fits_record k to class)) (then_none bad _ e))) in
+    let small = ltb-true k records_of_one (not_false (nat_lt k records_of_one) ok) in (
+      h.0,
+      h.1,
+      h.2,
+      record {
+        owned = owner-of_record cpu k small;
+        is_call = record { in_range = record_of-below cpu k l small; func = f.0; info = f.1 };
+        me_in_range = l;
+        goes = λ o. online_below nr online to limits o;
+        knows = tt;
+      },
+    )
+begins nr online places at s d cpu (command.Send to) limits l e f h = (h.0, h.1, h.2, online_below nr online to limits (else_none (has online to) None _ e).0, l)
+begins nr online places at s d cpu (command.Done k) limits l e f h =
+    let small = ltb-true k records_of_one (else_none (nat_lt k records_of_one) None _ e).0 in
+    (h.0, h.1, h.2, owner-of_record cpu k small, record_of-below cpu k l small)
+begins nr online places at s d cpu command.Handle limits l e f h = (l, (h.0, h.1, h.2))
+
+module _ (nr online : ℕ) (a : CallState) (at : Word → ℕ) (control : ℕ → ControlValue) (cpu : ℕ) (c : Command) (shows : Shows a at control) (outside_now : (control cpu).stage ≡ None) where
+  begun_stands : AreLimits nr online → cpu < cpus → command_refusal online cpu c ≡ None → FitsCommand c → Stands a.place at (share_of a cpu) cpu (control_at (control cpu) (first_stage online cpu c))
+  begun_stands limits l e f =
+      let h : StandsAt a.place at (share_of a cpu) (control cpu).drain cpu None = rw outside_now at (shows.stands cpu) in
+      begins nr online a.place at (share_of a cpu) (control cpu).drain cpu c limits l e f h
+
+  pub begun_shows : AreLimits nr online → cpu < cpus → command_refusal online cpu c ≡ None → FitsCommand c → Shows a at (put control cpu (control_at (control cpu) (first_stage online cpu c)))
+  begun_shows limits l e f =
+      let next = control_at (control cpu) (first_stage online cpu c) in
+      let hand : hands_in at cpu ≡ 0 = rw outside_now at (shows.hands cpu) in
+      record {
+        held = put_all (λ (j : ℕ) (x : ControlValue). a.held j ≡ held_of x.stage) control cpu next (shows.held cpu ∙ (ap held_of outside_now ∙ sym (begins_empty online cpu c))) (λ j _. shows.held j);
+        stands = put_all (λ (j : ℕ) (x : ControlValue). Stands a.place at (share_of a j) j x) control cpu next (begun_stands limits l e f) (λ j _. shows.stands j);
+        hands = put_all (λ (j : ℕ) (x : ControlValue). HandIs x.stage (hands_in at j)) control cpu next (begins_outside online cpu c (hands_in at cpu) hand) (λ j _. shows.hands j);
+        placed = shows.placed;
+        written = shows.written;
+        chained = shows.chained;
+        links = shows.links;
+        noticed = shows.noticed;
+        recorded = shows.recorded;
+        tallied = shows.tallied;
+      }
+
+-- the calls that a core shows are those that it shows once a command has started
+pub started_shown : (a : CallState) (core : CoreValue) (cpu : ℕ) (c : Command) → AreLimits core.nr core.online → length core.controls ≡ cpus → refusal_of core cpu c ≡ None → FitsCommand c →
+    ValuesShow a core.words core.controls → ValuesShow a core.words (slice_set core.controls cpu (control_at (control_of core.controls cpu) (first_stage core.online cpu c)))
+started_shown a core cpu c limits l e f s =
+    let m = may_start core cpu c e in
+    let below = online_below core.nr core.online cpu limits m.is_online in
+    rw (controls_by_cpu core.controls cpu (control_at (control_of core.controls cpu) (first_stage core.online cpu c)) l below)
+    (begun_shows core.nr core.online a (number_in core.words) (control_of core.controls) cpu c s m.is_outside limits below m.is_allowed f)
+
+pub get_or-same : {A : Type 0} (x : A) (n i : ℕ) → get_or (replicate n x) i x ≡ x
+get_or-same {A} x zero i = refl
+get_or-same {A} x (suc n) zero = refl
+get_or-same {A} x (suc n) (suc i) = get_or-same x n i
+
+pub zero_at : (n : ℕ) (i : Option ℕ) → number_at (replicate n 0) i ≡ 0
+zero_at n None = refl
+zero_at n (Some i) = get_or-same 0 n i
+
+rests : Rests (share_of no_calls 0)
+rests = record { batch = refl; running = refl; accepted = refl }
+
+-- words that are all 0, with each CPU outside, show no calls
+pub zeros_shown : (at : Word → ℕ) (control : ℕ → ControlValue) → ((w : Word) → at w ≡ 0) → ((cpu : ℕ) → control cpu ≡ outside) → Shows no_calls at control
+zeros_shown at control z n = record {
+  held = λ cpu. rw (n cpu) refl;
+  stands = λ cpu. rw (n cpu) (rests, refl, refl);
+  hands = λ cpu. rw (n cpu) (z (Hand cpu));
+  placed = record {
+    queued = λ _. tt;
+    batched = λ _. tt;
+    runs = λ _. tt;
+    queue_apart = λ _. tt;
+    batch_apart = λ _. tt;
+    is_there = λ _. tt;
+    settled = λ _ _ _ _. inl refl;
+  };
+  written = record { locks = λ id. z (Flags id); queued = λ _. tt; batched = λ _. tt; runs = λ _. tt };
+  chained = record { chain = λ cpu. z (Head cpu) };
+  links = record { held_links = λ _. tt; batch_links = λ _. tt };
+  noticed = record { words = λ cpu. z (Intr cpu); noticed = λ _. inl tt };
+  recorded = record { in_order = λ _ _. refl; drained = λ _. refl };
+  tallied = record { queued_are = λ source cpu. z (Queued source cpu); ran_are = λ cpu source. z (Ran cpu source) };
+}
+
+-- a table of zeros, with each CPU outside, shows no calls
+pub new_shown : (words : List ℕ) (controls : List ControlValue) → words ≡ replicate table_size 0 → controls ≡ replicate cpus outside → ValuesShow no_calls words controls
+new_shown words controls e f =
+    zeros_shown (number_in words) (control_of controls) (λ w. rw e (zero_at table_size (index_of w))) (λ cpu. rw f (get_or-same outside cpus cpu))

@@ -1,0 +1,38 @@
+-- One access: its word, what it leaves in the words, and how it is seen.
+use Rattle.std.specs.Prelude.{◌≡◌, ℕ, Bool, ◌==◌, if◌then◌else◌, Option, Some, None, List}
+use Rattle.smp_core.specs.Put.{put_word}
+use Rattle.smp_core.specs.Layout.{number_in, put_in}
+use Rattle.smp_core.specs.declared.word.Word.{Word}
+use Rattle.smp_core.specs.declared.access.Access.{Access}
+use Rattle.smp_core.specs.declared.access.Access.TheVariants.{Load, Store, Swap, Exchange}
+use Rattle.smp_core.specs.declared.seen.Act.TheVariants as act
+use Rattle.smp_core.specs.declared.seen.Note.{Note}
+use Rattle.smp_core.specs.declared.seen.Seen.{Seen}
+
+abbrev pub word_of : Access → Word
+word_of (Load word) = word
+word_of (Store word n) = word
+word_of (Swap word n) = word
+word_of (Exchange word expected n) = word
+
+-- the words by name after an access
+abbrev pub at_after : (Word → ℕ) → Access → Word → ℕ
+at_after at (Load word) = at
+at_after at (Store word n) = put_word at word n
+at_after at (Swap word n) = put_word at word n
+at_after at (Exchange word expected n) = if at word == expected then put_word at word n else at
+
+-- the list of words after an access
+abbrev pub words_after : List ℕ → Access → List ℕ
+words_after words (Load word) = words
+words_after words (Store word n) = put_in words word n
+words_after words (Swap word n) = put_in words word n
+words_after words (Exchange word expected n) = if number_in words word == expected then put_in words word n else words
+
+-- the step as it is seen, by what it found
+abbrev pub seen_of : ℕ → Access → ℕ → Option Note → Seen
+seen_of me (Load word) found n = record { cpu = me; act = act.Load; word = word; found = Some found; put = None; note = n }
+seen_of me (Store word x) found n = record { cpu = me; act = act.Store; word = word; found = None; put = Some x; note = n }
+seen_of me (Swap word x) found n = record { cpu = me; act = act.Swap; word = word; found = Some found; put = Some x; note = n }
+seen_of me (Exchange word expected x) found n =
+    record { cpu = me; act = act.Cas; word = word; found = Some found; put = if found == expected then Some x else None; note = n }

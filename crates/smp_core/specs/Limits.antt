@@ -1,0 +1,16 @@
+-- The CPUs of a table: how many there may be, and which are online.
+use Rattle.std.specs.Prelude.{◌≡◌, ℕ, ◌<◌, ◌≤◌, true, List, [], replicate}
+use Rattle.smp_mask.specs.Mask.{has}
+use Rattle.smp_core.specs.Size.{cpus, table_size}
+use Rattle.smp_core.specs.Value.{CoreValue, outside}
+
+-- at least one CPU and no more than there can be; some of them online, and no other
+pub record AreLimits (nr online : ℕ) : Type 0 where
+  pub some : 0 < nr
+  pub within : nr ≤ cpus
+  pub member : (cpu : ℕ) × (has online cpu ≡ true)
+  pub below : (cpu : ℕ) → has online cpu ≡ true → cpu < nr
+
+-- a core with no calls
+abbrev pub new_core : ℕ → ℕ → CoreValue
+new_core nr online = record { nr = nr; online = online; words = replicate table_size 0; controls = replicate cpus outside }

@@ -1,0 +1,55 @@
+-- A list of events, one after the other, up to the first that is refused.
+use Rattle.std.specs.Prelude.{◌≡◌, ℕ, ◌+◌, Option, Some, None, Result, Ok, Err, List, [], ◌∷◌, ◌++◌}
+use Rattle.smp_mask.specs.declared.error.SmpError.{SmpError}
+use Rattle.smp_mask.specs.declared.error.SmpError.TheVariants as error
+use Rattle.smp_core.specs.Value.{CoreValue, control_of}
+use Rattle.smp_core.specs.Machine.{seen_at, stepped}
+use Rattle.smp_core.specs.Start.{refusal_of, started}
+use Rattle.smp_core.specs.declared.seen.Seen.{Seen}
+use Rattle.smp_core.specs.declared.stage.Stage.{Stage}
+use Rattle.smp_core.specs.declared.command.Event.{Event}
+use Rattle.smp_core.specs.declared.command.Event.TheVariants as event
+
+-- the answer to one event, and the core after it
+pub record Turn : Type 0 where
+  pub answer : Result (Option Seen) SmpError
+  pub core : CoreValue
+
+abbrev pub start_turn : CoreValue → CoreValue → Option SmpError → Turn
+start_turn old new (Some refused) = record { answer = Err refused; core = old }
+start_turn old new None = record { answer = Ok None; core = new }
+
+abbrev pub step_turn : CoreValue → ℕ → Option Stage → Turn
+step_turn core cpu None = record { answer = Err error.IdleStep; core = core }
+step_turn core cpu (Some stage) = record { answer = Ok (Some (seen_at core cpu stage)); core = stepped core cpu stage }
+
+-- one event
+abbrev pub turn_of : CoreValue → Event → Turn
+turn_of core (event.Start cpu command) = start_turn core (started core cpu command) (refusal_of core cpu command)
+turn_of core (event.Step cpu) = step_turn core cpu (control_of core.controls cpu).stage
+
+-- what a replay leaves
+pub record Replay : Type 0 where
+  pub core : CoreValue
+  pub seen : List Seen
+  pub stopped : Option (ℕ × SmpError)
+
+abbrev pub seen_list : Option Seen → List Seen
+seen_list None = []
+seen_list (Some seen) = seen ∷ []
+
+-- with these seen before
+abbrev pub after_seen : List Seen → Replay → Replay
+after_seen before r = record { core = r.core; seen = before ++ r.seen; stopped = r.stopped }
+
+-- where one event answered so: the end, or what it showed and then the rest
+abbrev pub replay_on : ℕ → CoreValue → Result (Option Seen) SmpError → Replay → Replay
+replay_on position core (Err refused) rest = record { core = core; seen = []; stopped = Some (position, refused) }
+replay_on position core (Ok seen) rest = after_seen (seen_list seen) rest
+
+-- the events from this position on
+abbrev pub replay_from : ℕ → CoreValue → List Event → Replay
+replay_from position core [] = record { core = core; seen = []; stopped = None }
+replay_from position core (event ∷ rest) =
+    let turn = turn_of core event in
+    replay_on position turn.core turn.answer (replay_from (position + 1) turn.core rest)

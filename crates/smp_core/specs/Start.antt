@@ -1,0 +1,67 @@
+-- When a command may start, and where it begins.
+use Rattle.std.specs.Prelude.{◌≡◌, ℕ, ◌+◌, ◌<◌, ◌^◌, Bool, true, false, ◌==◌, ◌||◌, ◌&&◌, not, nat_lt, if◌then◌else◌, Option, Some, None, List, slice_set}
+use Rattle.smp_mask.specs.Mask.{has}
+use Rattle.smp_mask.specs.declared.error.SmpError.{SmpError}
+use Rattle.smp_mask.specs.declared.error.SmpError.TheVariants as error
+use Rattle.smp_core.specs.Size.{records_of_one, record_of}
+use Rattle.smp_core.specs.Stages.{ControlValue}
+use Rattle.smp_core.specs.Value.{CoreValue, control_of}
+use Rattle.smp_core.specs.declared.call.Class.{Class}
+use Rattle.smp_core.specs.declared.call.Class.TheVariants.{Sync, Async}
+use Rattle.smp_core.specs.declared.command.Command.{Command}
+use Rattle.smp_core.specs.declared.command.Command.TheVariants as command
+use Rattle.smp_core.specs.declared.post.PostStage.TheVariants as post
+use Rattle.smp_core.specs.declared.handle.HandleStage.TheVariants as handle
+use Rattle.smp_core.specs.declared.stage.Stage.{Stage}
+use Rattle.smp_core.specs.declared.stage.Stage.TheVariants.{Send, Done, Post, Handle}
+
+abbrev pub is_sync : Class → Bool
+is_sync Sync = true
+is_sync Async = false
+
+-- record 0 carries SYNC calls, 1 and the two last ones ASYNC calls, the others those to one CPU each
+abbrev pub fits_record : ℕ → ℕ → Class → Bool
+fits_record k to class =
+    if k == 0 then is_sync class
+    else if (k == 1 || k + 2 == records_of_one) || k + 1 == records_of_one then not (is_sync class)
+    else k == to + 2
+
+-- a command's own refusals
+abbrev pub command_refusal : ℕ → ℕ → Command → Option SmpError
+command_refusal online cpu (command.Post k to class func info tries) =
+    if ((not (nat_lt k records_of_one) || tries == 0) || to == cpu) || not (fits_record k to class) then Some error.BadArgument else None
+command_refusal online cpu (command.Send to) = if has online to then None else Some error.NoCpu
+command_refusal online cpu (command.Done k) = if nat_lt k records_of_one then None else Some error.BadArgument
+command_refusal online cpu command.Handle = None
+
+-- the answer to a CPU that is inside a command, else this one
+abbrev pub busy_or : Option Stage → Option SmpError → Option SmpError
+busy_or (Some stage) refusal = Some error.Busy
+busy_or None refusal = refusal
+
+-- why a command may not start; none where it may
+abbrev pub refusal_of : CoreValue → ℕ → Command → Option SmpError
+refusal_of core cpu c =
+    if has core.online cpu then busy_or (control_of core.controls cpu).stage (command_refusal core.online cpu c)
+    else Some error.NoCpu
+
+-- where a command begins
+abbrev pub first_stage : ℕ → ℕ → Command → Stage
+first_stage online cpu (command.Post k to class func info tries) =
+    Post (record { id = record_of cpu k; to = to; is_online = has online to; class = class; func = func; info = info; tries = tries }) post.LoadFlags
+first_stage online cpu (command.Send to) = Send to
+first_stage online cpu (command.Done k) = Done (record_of cpu k)
+first_stage online cpu command.Handle = Handle handle.Enter
+
+-- numbers of a command's types
+abbrev pub FitsCommand : Command → Type 0
+FitsCommand (command.Post k to class func info tries) = (func < 2 ^ 16) × (info < 2 ^ 64)
+FitsCommand _ = Unit {0}
+
+-- a control at this stage, with the drain that it has
+abbrev pub control_at : ControlValue → Stage → ControlValue
+control_at c stage = record c { stage = Some stage }
+
+-- the core with the CPU at the beginning of a command
+abbrev pub started : CoreValue → ℕ → Command → CoreValue
+started core cpu c = record core { controls = slice_set core.controls cpu (control_at (control_of core.controls cpu) (first_stage core.online cpu c)) }

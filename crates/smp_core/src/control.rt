@@ -1,0 +1,104 @@
+//! Where a CPU stands: its stage, and what it has loaded of a batch.
+
+ghost use Rattle.std.specs.Prelude.{◌≡◌};
+ghost use Rattle.smp_core.specs.Stages.{control_after, outcome_of, FitsStage};
+ghost use Rattle.smp_core.specs.Start.{control_at};
+ghost use Rattle.smp_core.specs.Value.{outside};
+ghost use Rattle.smp_core.specs.Batches.{has_record, unloaded_link, loaded, running_of};
+
+use crate::drain::Drain;
+use crate::seen::Note;
+use crate::stage::{Outcome, Stage};
+use std::marker::Model;
+
+/// Where a CPU stands.
+#[derive(Drop)]
+pub struct Control {
+    /// None outside a command.
+    stage: Option<Stage>,
+    drain: Drain,
+}
+
+impl Model for Control {
+    ghost use Rattle.smp_core.specs.Stages.{ControlValue};
+
+    ghost Value = { ControlValue };
+
+    ghost view = { λ c. record { stage = c.stage; drain = c.drain } };
+}
+
+impl Control {
+    /// A CPU outside a command.
+    pub fn new() -> Self
+        ensures { result ≡ outside }
+    {
+        Control {
+            stage: None,
+            drain: Drain::new(),
+        }
+    }
+
+    /// The stage; none outside a command.
+    pub fn stage(&self) -> Option<Stage>
+        ensures { result ≡ self.now.stage }
+    {
+        self.stage
+    }
+
+    /// Begins at a stage.
+    pub fn begin(&mut self, stage: Stage)
+        ensures { self.new ≡ control_at self.old stage }
+    {
+        self.stage = Some(stage);
+    }
+
+    /// Goes on after the step of this stage, by the number that it found, and tells what that means.
+    pub fn advance(&mut self, stage: Stage, found: u64) -> Option<Note>
+        requires { FitsStage self.old.drain stage found }
+        ensures note { result ≡ (outcome_of self.old.drain stage found).note }
+        ensures control { self.new ≡ control_after self.old stage found }
+    {
+        let outcome = match stage {
+            Stage::Handle(handle) => self.drain.advance(handle, found),
+            Stage::Send(_) => Outcome::end(Note::Sent),
+            Stage::Done(_) => Outcome::end(if found % 2 == 1 {
+                Note::Locked
+            } else {
+                Note::Done
+            }),
+            Stage::Post(posting, post) => posting.outcome(post, found),
+        };
+        self.stage = outcome.next;
+        outcome.note
+    }
+
+    /// The link to the records of the batch that are not loaded yet; 0 where all are.
+    pub fn unloaded(&self) -> u64
+        ensures { result ≡ unloaded_link self.now.stage }
+    {
+        match self.stage {
+            Some(Stage::Handle(stage)) => stage.unloaded(),
+            _ => 0,
+        }
+    }
+
+    /// Whether a call by this record is loaded and has not begun.
+    pub fn has_loaded(&self, id: u32) -> bool
+        ensures { result ≡ has_record id (loaded self.now) }
+    {
+        match self.stage {
+            Some(Stage::Handle(stage)) => stage.begins(id) || self.drain.has(id),
+            _ => self.drain.has(id),
+        }
+    }
+
+    /// Whether a SYNC call by this record runs.
+    pub fn is_running(&self, id: u32) -> bool
+        ensures { result ≡ has_record id (running_of self.now.stage) }
+    {
+        match self.stage {
+            Some(Stage::Handle(stage)) => stage.is_running(id),
+            _ => false,
+        }
+    }
+}

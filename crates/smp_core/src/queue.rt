@@ -1,0 +1,31 @@
+//! A chain of records, as the words link them.
+
+ghost use Rattle.std.specs.Prelude.{◌≡◌, length};
+ghost use Rattle.smp_core.specs.Size.{records, table_size};
+ghost use Rattle.smp_core.specs.Layout.{number_in};
+ghost use Rattle.smp_core.specs.Words.{nexts_in};
+ghost use Rattle.smp_core.specs.Queues.{HasChain, chain_in};
+
+use crate::size::{MOST_CALLS, RECORDS};
+use crate::table::read;
+use crate::word::Word;
+use arrayvec::ArrayVec;
+
+/// The records that the next words lead through from this link, oldest first.
+pub fn chain(words: &[u64], first: u64) -> ArrayVec<u32, MOST_CALLS>
+    requires sized { length words.now ≡ table_size }
+    requires chained { HasChain (nexts_in (number_in words.now)) first }
+    ensures { result.items ≡ chain_in (nexts_in (number_in words.now)) records first }
+{
+    let mut oldest_first = ArrayVec::new();
+    let mut link = first;
+    for _round in 0..RECORDS {
+        if link == 0 {
+            break;
+        }
+        let id = (link - 1) as u32;
+        oldest_first.insert(0, id);
+        link = read(words, Word::Next(id));
+    }
+    oldest_first
+}

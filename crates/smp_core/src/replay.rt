@@ -1,0 +1,64 @@
+//! A list of events, one after the other.
+
+ghost use Rattle.std.specs.Prelude.{◌≡◌, ◌++◌, IfOk, IfErr, OnOk, OnErr};
+ghost use Rattle.smp_core.specs.Calls.{CallState, tells_all};
+ghost use Rattle.smp_core.specs.Value.{Shown};
+ghost use Rattle.smp_core.specs.Runs.{IsReplay};
+ghost use Rattle.smp_core.specs.Replay.{seen_list};
+
+use crate::command::Event;
+use crate::machine::Core;
+use crate::seen::Seen;
+use smp_mask::SmpError;
+use std::alloc::Allocator;
+
+/// What a replay leaves: the core, the steps that were made, and where an event was refused its position, from
+/// 0, and why.
+#[derive(Drop)]
+pub struct Replayed<A: Allocator> {
+    pub core: Core<A>,
+    pub seen: Vec<Seen, A>,
+    pub stopped: Option<(usize, SmpError)>,
+}
+
+/// Runs the events one after the other, up to the first that is refused. E6 where a growth is refused.
+pub fn run_events<A: Allocator>(
+    alloc: A,
+    mut core: Core<A>,
+    events: &[Event],
+) -> Result<Replayed<A>, SmpError>
+    ensures run { IfOk result (λ r. IsReplay core events.now r.core r.seen.items r.stopped) }
+    ensures told { IfOk result (λ r. (calls : CallState) → Shown calls core → Shown (tells_all calls r.seen.items) r.core) }
+    ensures err { IfErr result (λ e. e ≡ SmpError.NoMemory) }
+{
+    let mut seen = Vec::new(alloc);
+    for (position, event) in events.iter().enumerate() {
+        match core.turn(*event) {
+            Ok(step) => note_step(&mut seen, step)?,
+            Err(error) => {
+                return Ok(Replayed {
+                    core,
+                    seen,
+                    stopped: Some((position, error)),
+                });
+            }
+        }
+    }
+    Ok(Replayed {
+        core,
+        seen,
+        stopped: None,
+    })
+}
+
+fn note_step<A: Allocator>(seen: &mut Vec<Seen, A>, step: Option<Seen>) -> Result<(), SmpError>
+    ensures ok { OnOk result (seen.new.items ≡ seen.old.items ++ seen_list step) }
+    ensures err { IfErr result (λ e. e ≡ SmpError.NoMemory) }
+{
+    if let Some(step) = step {
+        if seen.push(step).is_err() {
+            return Err(SmpError::NoMemory);
+        }
+    }
+    Ok(())
+}

@@ -1,0 +1,58 @@
+//! How many CPUs, records and words there are, and to whom a record belongs. No other file has these numbers.
+
+ghost use Rattle.std.specs.Prelude.{◌≡◌, ◌<◌};
+ghost use Rattle.smp_core.specs.Size.{owner as owner_in, record_of as record_in, cpus, records_of_one, records};
+
+/// The most CPUs that there are (`CONFIG_NR_CPUS`).
+pub const NR_CPUS: u32 = smp_mask::NR_CPUS;
+
+/// The records of each source CPU: the sync record, the async record, one for each destination of a call to
+/// many, and two for the user.
+pub const RECORDS_OF_ONE: u32 = NR_CPUS + 4;
+
+/// All records.
+pub const RECORDS: u32 = NR_CPUS * RECORDS_OF_ONE;
+
+/// The most calls that a queue or a batch has: a record is in one place.
+pub const MOST_CALLS: usize = RECORDS as usize;
+
+/// The words of one record.
+pub const WORDS_OF_ONE: usize = 4;
+
+/// Where the words of each kind begin: one for each CPU, then one for each pair of CPUs, then the records.
+pub const HEADS: usize = 0;
+
+pub const INTRS: usize = HEADS + NR_CPUS as usize;
+
+pub const HANDS: usize = INTRS + NR_CPUS as usize;
+
+pub const QUEUED: usize = HANDS + NR_CPUS as usize;
+
+pub const RAN: usize = QUEUED + (NR_CPUS * NR_CPUS) as usize;
+
+pub const FLAGS: usize = RAN + (NR_CPUS * NR_CPUS) as usize;
+
+pub const FUNCS: usize = FLAGS + 1;
+
+pub const INFOS: usize = FLAGS + 2;
+
+pub const NEXTS: usize = FLAGS + 3;
+
+/// The words of the call table.
+pub const WORDS: usize = FLAGS + WORDS_OF_ONE * RECORDS as usize;
+
+/// The record of this source with this local number.
+pub fn record_of(source: u32, local: u32) -> u32
+    requires source { source < cpus }
+    requires local { local < records_of_one }
+    ensures { result ≡ record_in source local }
+{
+    RECORDS_OF_ONE * source + local
+}
+
+/// The source that a record belongs to.
+pub fn owner_of(id: u32) -> u32
+    ensures { result ≡ owner_in id }
+{
+    id / RECORDS_OF_ONE
+}

@@ -1,0 +1,82 @@
+//! When a command may start, and where it begins.
+
+ghost use Rattle.std.specs.Prelude.{◌≡◌, ◌<◌, ◌-◌, ◌^◌};
+ghost use Rattle.smp_mask.specs.Mask.{has};
+ghost use Rattle.smp_core.specs.Size.{cpus};
+ghost use Rattle.smp_core.specs.Start.{command_refusal, first_stage as stage_at_first, fits_record as record_fits, FitsCommand};
+
+use crate::call::Class;
+use crate::command::Command;
+use crate::handle::HandleStage;
+use crate::post::{PostStage, Posting};
+use crate::size::{RECORDS_OF_ONE, record_of};
+use crate::stage::Stage;
+use smp_mask::{CpuMask, SmpError};
+
+impl Command {
+    /// The command's own refusal; none where it may start on this CPU.
+    pub fn refusal(self, online: CpuMask, cpu: u32) -> Option<SmpError>
+        ensures { result ≡ command_refusal online cpu self }
+    {
+        let is_good = match self {
+            Command::Post(k, to, class, _, _, tries) => {
+                k < RECORDS_OF_ONE && tries != 0 && to != cpu && fits_record(k, to, class)
+            }
+            Command::Done(k) => k < RECORDS_OF_ONE,
+            Command::Handle => true,
+            Command::Send(to) => {
+                return if online.contains(to) {
+                    None
+                } else {
+                    Some(SmpError::NoCpu)
+                };
+            }
+        };
+        if is_good {
+            None
+        } else {
+            Some(SmpError::BadArgument)
+        }
+    }
+
+    /// Where a command begins that may start.
+    pub fn first_stage(self, online: CpuMask, cpu: u32) -> Stage
+        requires known { cpu < cpus }
+        requires allowed { command_refusal online cpu self ≡ None }
+        ensures stage { result ≡ stage_at_first online cpu self }
+        ensures fits { FitsCommand self }
+    {
+        match self {
+            Command::Post(k, to, class, func, info, tries) => {
+                let posting = Posting {
+                    id: record_of(cpu, k),
+                    to,
+                    is_online: online.contains(to),
+                    class,
+                    func,
+                    info,
+                    tries,
+                };
+                Stage::Post(posting, PostStage::LoadFlags)
+            }
+            Command::Send(to) => Stage::Send(to),
+            Command::Done(k) => Stage::Done(record_of(cpu, k)),
+            Command::Handle => Stage::Handle(HandleStage::Enter),
+        }
+    }
+}
+
+/// Whether a source's record `k` may carry a call of this class to this CPU: record 0 carries SYNC calls, 1 and
+/// the two last ones ASYNC calls, the others calls of either class to one CPU each.
+pub fn fits_record(k: u32, to: u32, class: Class) -> bool
+    requires { k < 2 ^ 32 - 2 }
+    ensures { result ≡ record_fits k to class }
+{
+    if k == 0 {
+        class == Class::Sync
+    } else if k == 1 || k + 2 == RECORDS_OF_ONE || k + 1 == RECORDS_OF_ONE {
+        class == Class::Async
+    } else {
+        k - 2 == to
+    }
+}
