@@ -2,7 +2,7 @@
 use Rattle.std.proofs.Common.{◌≡◌, ℕ, ◌+◌, ◌<◌, List, length, drop, get_or, refl, Option, Some, None, Ok, Err, arith}
 use Rattle.std.proofs.lemmas.List.{drop_more, drop_all}
 use Rattle.std.specs.Option.{ok_or}
-use Rattle.smp_mask.specs.Reading.{read_from, step, finished, or_refused}
+use Rattle.smp_mask.specs.Reading.{read_from, step, finished, or_refused, answered}
 use Rattle.smp_mask.specs.declared.error.SmpError.TheVariants.{BadMask}
 use Rattle.smp_mask.specs.declared.parse.Reader.{Reader}
 
@@ -15,10 +15,10 @@ pub read_stops : (w : ℕ) (r : Reader) (at : ℕ) (text : List ℕ) (d : ℕ) �
 unfolding read_from
 read_stops w r at text d h e = rw (drop_more text at d h, e) refl
 
-refused_or_ok : (at : ℕ) (o : Option ℕ) → or_refused at (λ m. Ok m) o ≡ ok_or o (BadMask at)
-refused_or_ok at None = refl
-refused_or_ok at (Some m) = refl
+answered_or : (at : ℕ) (o : Option ℕ) → or_refused at (λ m. Ok m) o ≡ answered (ok_or o at)
+answered_or at None = refl
+answered_or at (Some m) = refl
 
-pub read_ends : (w : ℕ) (r : Reader) (at : ℕ) (text : List ℕ) → length text ≡ at → read_from w r at (drop at text) ≡ ok_or (finished r.place r.mask) (BadMask at)
+pub read_ends : (w : ℕ) (r : Reader) (at : ℕ) (text : List ℕ) → length text ≡ at → read_from w r at (drop at text) ≡ answered (ok_or (finished r.place r.mask) at)
 unfolding read_from
-read_ends w r at text h = rw (drop_all at text (omega arith)) (refused_or_ok at (finished r.place r.mask))
+read_ends w r at text h = rw (drop_all at text (omega arith)) (answered_or at (finished r.place r.mask))

@@ -2,7 +2,7 @@
 use Rattle.std.proofs.Common.{◌≡◌, ℕ, zero, suc, ◌+◌, ◌^◌, ◌<◌, ◌≤◌, List, [], ◌∷◌, ◌++◌, length, append_assoc, append-nil, take, refl, sym, ap, subst, ◌∙◌, Option, Some, None, Result, Ok, Err, IfOk, IfErr, ◌⊎◌, ◌||◌, inl, inr, arith}
 use Rattle.smp_mask.specs.Mask.{has}
 use Rattle.smp_mask.specs.CpuList.{IsListOf, IsFront, IsMaskOf, IsRefusedAt, names}
-use Rattle.smp_mask.specs.Reading.{step, finished, or_refused, read_from, mask_of_text}
+use Rattle.smp_mask.specs.Reading.{step, finished, or_refused, read_from, mask_of_text, answered}
 use Rattle.smp_mask.specs.declared.error.SmpError.{SmpError}
 use Rattle.smp_mask.specs.declared.error.SmpError.TheVariants.{BadMask}
 use Rattle.smp_mask.specs.declared.item.Item.{Item}
@@ -101,10 +101,14 @@ refused w some wide text e h =
     )
 
 -- an answer of the reader is what the grammar says of the text
-pub means_ok : (w : ℕ) → w < 2 ^ 64 → (text : List ℕ) (r : Result ℕ SmpError) → r ≡ mask_of_text w text → IfOk r (λ m. IsMaskOf w text m)
+pub means_ok : (w : ℕ) → w < 2 ^ 64 → (text : List ℕ) (r : Result ℕ ℕ) → answered r ≡ mask_of_text w text → IfOk r (λ m. IsMaskOf w text m)
 means_ok w wide text (Ok m) h = accepted w wide text m (sym h)
-means_ok w wide text (Err e) h = tt
+means_ok w wide text (Err at) h = tt
 
-pub means_err : (w : ℕ) → 0 < w → w < 2 ^ 64 → (text : List ℕ) (r : Result ℕ SmpError) → r ≡ mask_of_text w text → IfErr r (λ e. (p : ℕ) × (e ≡ BadMask p) × IsRefusedAt w text p)
+pub means_err : (w : ℕ) → 0 < w → w < 2 ^ 64 → (text : List ℕ) (r : Result ℕ ℕ) → answered r ≡ mask_of_text w text → IfErr r (λ at. IsRefusedAt w text at)
 means_err w some wide text (Ok m) h = tt
-means_err w some wide text (Err e) h = refused w some wide text e (sym h)
+means_err w some wide text (Err at) h =
+    let r = refused w some wide text (BadMask at) (sym h) in
+    let e = r.1 in
+    let same : r.0 ≡ at = cc in
+    subst (λ z. IsRefusedAt w text z) same r.2

@@ -86,3 +86,8 @@ read_from width reader at (b ∷ bs) = or_refused at (λ r. read_from width r (a
 -- the mask of a text, or the error with the position where it goes wrong
 abbrev pub mask_of_text : ℕ → List ℕ → Result ℕ SmpError
 mask_of_text width text = read_from width (record { place = Start; mask = 0 }) 0 text
+
+-- an answer with a bare position, as one with the error of that position
+abbrev pub answered : Result ℕ ℕ → Result ℕ SmpError
+answered (Ok mask) = Ok mask
+answered (Err at) = Err (BadMask at)

@@ -1,6 +1,6 @@
 //! Printing a mask, as a CPU list.
 
-ghost use Rattle.std.specs.Prelude.{◌≡◌, ℕ, ◌+◌, ◌<◌, ◌≤◌, true, false, Some};
+ghost use Rattle.std.specs.Prelude.{◌≡◌, ℕ, ◌+◌, ◌<◌, ◌≤◌, true, false, Some, ◌++◌, codes};
 ghost use Rattle.std.specs.Iterator.{YieldsFirst, item_count};
 ghost use Rattle.smp_mask.specs.Mask.{has};
 ghost use Rattle.smp_mask.specs.ListText.{list_text, mask_items};
@@ -64,8 +64,10 @@ impl fmt::Display for CpuMask {
     }
 }
 
-/// The members as a CPU list, in the name of the type.
+/// The CPU list in the name of the type, as `CpuMask(0-3,5)`.
 impl fmt::Debug for CpuMask {
+    ghost debug_output = { λ m. Some (codes "CpuMask(" ++ list_text m ++ codes ")") };
+
     fn fmt<W: fmt::Write>(&self, f: &mut fmt::Formatter<W>) -> fmt::Result {
         let mask = *self;
         write!(f, "CpuMask({mask})")

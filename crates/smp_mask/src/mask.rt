@@ -118,6 +118,7 @@ impl CpuMask {
     pub fn weight(self) -> u32
         ensures count { result ≡ length (members self) }
         ensures within { result ≤ NR_CPUS }
+        ensures width { self < 2 ^ NR_CPUS }
     {
         self.bits.count_ones()
     }

@@ -2,11 +2,12 @@
 
 ghost use Rattle.std.specs.Prelude.{◌≡◌, ℕ, ◌+◌, ◌<◌, ◌≤◌, ◌^◌, true, length, IfOk, IfErr, IfSome};
 ghost use Rattle.smp_mask.specs.CpuList.{IsMaskOf, IsRefusedAt, lowest, highest};
-ghost use Rattle.smp_mask.specs.Reading.{after, digit, finished, is_live, longer, mask_of_text, reaches, step, whole};
+ghost use Rattle.smp_mask.specs.Reading.{after, answered, digit, finished, is_live, longer, mask_of_text, reaches, step, whole};
 
 use crate::error::SmpError;
 use crate::item::Item;
 use crate::mask::{CpuMask, NR_CPUS};
+use std::str::FromStr;
 
 /// Where in a CPU list the reader stands, with the numbers of the item that it is in.
 #[derive(Clone, Copy)]
@@ -143,6 +144,25 @@ impl Reader {
     }
 }
 
+// Reads a whole text: its mask, or the position where it goes wrong.
+fn read(text: &[u8]) -> Result<CpuMask, usize>
+    ensures accepted { IfOk result (λ m. IsMaskOf NR_CPUS text.now m) }
+    ensures refused { IfErr result (λ at. IsRefusedAt NR_CPUS text.now at) }
+    ensures reads { answered result ≡ mask_of_text NR_CPUS text.now }
+{
+    let mut reader = Reader {
+        place: Place::Start,
+        mask: CpuMask::empty(),
+    };
+    for (i, byte) in text.iter().enumerate() {
+        let Some(next) = reader.step(*byte) else {
+            return Err(i);
+        };
+        reader = next;
+    }
+    reader.finish().ok_or(text.len())
+}
+
 impl CpuMask {
     /// Reads a CPU list: empty, or items joined by commas, each a CPU or `low-high` with `low` at
     /// most `high`, in any order and overlapping, without leading zeros or spaces. It is Linux's
@@ -156,18 +176,34 @@ impl CpuMask {
         ensures refused { IfErr result (λ e. (p : ℕ) × (e ≡ SmpError.BadMask p) × IsRefusedAt NR_CPUS text.now p) }
         ensures reads { result ≡ mask_of_text NR_CPUS text.now }
     {
-        let mut reader = Reader {
-            place: Place::Start,
-            mask: CpuMask::empty(),
-        };
-        for (i, byte) in text.iter().enumerate() {
-            let Some(next) = reader.step(*byte) else {
-                return Err(SmpError::BadMask { position: i as u32 });
-            };
-            reader = next;
+        match read(text) {
+            Ok(mask) => Ok(mask),
+            Err(at) => Err(SmpError::BadMask {
+                position: at as u32,
+            }),
         }
-        reader.finish().ok_or(SmpError::BadMask {
-            position: text.len() as u32,
-        })
+    }
+}
+
+/// As [`CpuMask::parse`], for a text of any length: a position past `u32::MAX` is told as `u32::MAX`.
+impl FromStr for CpuMask {
+    ghost use Rattle.std.specs.Prelude.{◌≡◌, ℕ, ◌-◌, ◌^◌, min, MatchResult};
+    ghost use Rattle.smp_mask.specs.CpuList.{IsMaskOf, IsRefusedAt};
+    ghost use Rattle.smp_mask.specs.declared.error.SmpError.TheVariants.{BadMask};
+    ghost use Rattle.smp_mask.specs.declared.mask.TheConstants.{NR_CPUS};
+
+    type Err = SmpError;
+
+    ghost from_str_gives = { λ text result.
+        MatchResult result (λ m. IsMaskOf NR_CPUS text m)
+        (λ e. (p : ℕ) × (e ≡ BadMask (min p (2 ^ 32 - 1))) × IsRefusedAt NR_CPUS text p) };
+
+    fn from_str(s: &str) -> Result<CpuMask, SmpError> {
+        match read(s.as_bytes()) {
+            Ok(mask) => Ok(mask),
+            Err(at) => Err(SmpError::BadMask {
+                position: at.min(u32::MAX as usize) as u32,
+            }),
+        }
     }
 }

@@ -8,19 +8,61 @@ use cpu_lists::CPU_LISTS;
 use std::test::*;
 
 #[test]
-fn texts(rt: HostRuntime) -> Result<(), Fail> {
-    let alloc = rt.alloc();
-    let nine = SmpError::BadScript {
-        line: 3,
-        cause: Cause::Word,
-    };
-    assert_eq!(rt; nine.to_string(alloc)?.as_str(), "E9 line 3 Word");
-    let twelve = SmpError::StreamFailed(Side::Read);
-    assert_eq!(rt; twelve.to_string(alloc)?.as_str(), "E12 read failed");
+fn prints_errors(rt: HostRuntime) -> Result<(), Fail> {
+    let texts = [
+        (SmpError::NoCpu, "E1 no such CPU"),
+        (SmpError::Busy, "E2 busy"),
+        (SmpError::NoStopper, "E3 no stopper"),
+        (SmpError::BadArgument, "E4 bad argument"),
+        (SmpError::Contended, "E5 contended"),
+        (SmpError::NoMemory, "E6 no memory"),
+        (SmpError::Stale, "E7 stale"),
+        (SmpError::SlotBusy, "E8 slot busy"),
+        (SmpError::IdleStep, "E10 idle step"),
+        (SmpError::BadMask { position: 2 }, "E11 bad mask at 2"),
+        (SmpError::StreamFailed(Side::Read), "E12 read failed"),
+        (SmpError::StreamFailed(Side::Write), "E12 write failed"),
+        (SmpError::KeyRange(Edge::Full), "E13 key full"),
+        (SmpError::KeyRange(Edge::Zero), "E13 key zero"),
+    ];
+    for (error, text) in texts {
+        assert_eq!(rt; error.to_string(rt.alloc())?.as_str(), text);
+    }
+    Ok(())
+}
+
+#[test]
+fn prints_causes(rt: HostRuntime) -> Result<(), Fail> {
+    let texts = [
+        (Cause::TooLong, "E9 line 0 TooLong"),
+        (Cause::Cut, "E9 line 0 Cut"),
+        (Cause::Word, "E9 line 0 Word"),
+        (Cause::Number, "E9 line 0 Number"),
+        (Cause::Range, "E9 line 0 Range"),
+        (Cause::Mask, "E9 line 0 Mask"),
+        (Cause::SharedKey, "E9 line 0 SharedKey"),
+    ];
+    for (cause, text) in texts {
+        let error = SmpError::BadScript { line: 0, cause };
+        assert_eq!(rt; error.to_string(rt.alloc())?.as_str(), text);
+    }
+    Ok(())
+}
+
+#[test]
+fn masks_are_sets(rt: HostRuntime) -> Result<(), Fail> {
+    let low: CpuMask = "0-3".parse()?;
+    let high: CpuMask = "2-5,7".parse()?;
+    assert_eq!(rt; (low.and(high).weight(), low.or(high).weight()), (2, 7));
     assert_eq!(rt;
-        SmpError::BadMask { position: 2 }.to_string(alloc)?.as_str(),
-        "E11 bad mask at 2"
+        (low.first_and(high), high.without(2).first()),
+        (Some(2), Some(3))
     );
+    assert_eq!(rt; (high.next_after(5), high.next_after(7)), (Some(7), None));
+    assert_eq!(rt; (high.contains(7), high.contains(6)), (true, false));
+    assert_eq!(rt; CpuMask::of(8).err(), Some(SmpError::BadArgument));
+    let shown = format!(in rt.alloc(); "{high:?} {:?}", CpuMask::empty())?;
+    assert_eq!(rt; shown.as_str(), "CpuMask(2-5,7) CpuMask()");
     Ok(())
 }
 
