@@ -1,7 +1,8 @@
 //! What is proved of masks and their texts beside the contracts of the calls.
 
-ghost use Rattle.std.specs.Prelude.{◌≡◌, ℕ, ◌<◌, ◌^◌, Ok};
+ghost use Rattle.std.specs.Prelude.{◌≡◌, ℕ, ◌<◌, ◌^◌, Ok, List};
 ghost use Rattle.smp_mask.specs.ListText.{list_text, mask_items, AreCanonical};
+ghost use Rattle.smp_mask.specs.declared.item.Item.{Item};
 ghost use Rattle.smp_mask.specs.Mask.{has};
 ghost use Rattle.smp_mask.specs.Reading.{mask_of_text};
 
@@ -12,10 +13,11 @@ pub fn masks_are_sets()
     ensures { (a b : ℕ) → ((c : ℕ) → has a c ≡ has b c) → a ≡ b }
 {}
 
-/// What Display prints is the canonical list of the mask: its items have the members and no other
-/// CPU, they ascend, and between two of them a CPU is left out.
+/// What Display prints is the canonical list of the mask, of which there is one: its items have the
+/// members and no other CPU, they ascend, and between two of them a CPU is left out.
 pub fn lists_are_canonical()
-    ensures { (mask : ℕ) → mask < 2 ^ NR_CPUS → AreCanonical NR_CPUS mask (mask_items mask) }
+    ensures canonical { (mask : ℕ) → mask < 2 ^ NR_CPUS → AreCanonical NR_CPUS mask (mask_items mask) }
+    ensures only { (mask : ℕ) (items : List Item) → mask < 2 ^ NR_CPUS → AreCanonical NR_CPUS mask items → items ≡ mask_items mask }
 {}
 
 /// What Display prints of a mask, `CpuMask::parse` reads back.

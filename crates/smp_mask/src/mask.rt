@@ -70,7 +70,7 @@ impl CpuMask {
         ensures { result ≡ bit_or self (2 ^ (high + 1) - 2 ^ low) }
     {
         let from_low = u32::MAX << low;
-        let to_high = u32::MAX >> (31 - high);
+        let to_high = u32::MAX >> (u32::BITS - 1 - high);
         CpuMask {
             bits: self.bits | (from_low & to_high),
         }
