@@ -11,11 +11,12 @@ abbrev pub item_text : Item → List ℕ
 item_text (One cpu) = decimal cpu
 item_text (Run low high) = decimal low ++ (45 ∷ decimal high)
 
--- its lowest and its highest CPU
+-- its lowest CPU
 abbrev pub lowest : Item → ℕ
 lowest (One cpu) = cpu
 lowest (Run low high) = low
 
+-- its highest CPU
 abbrev pub highest : Item → ℕ
 highest (One cpu) = cpu
 highest (Run low high) = high
@@ -24,6 +25,7 @@ highest (Run low high) = high
 abbrev pub IsItem : ℕ → Item → Type 0
 IsItem width i = (lowest i ≤ highest i) × (highest i < width)
 
+-- the same of each
 abbrev pub AreItems : ℕ → List Item → Type 0
 AreItems width [] = Unit {0}
 AreItems width (i ∷ is) = IsItem width i × AreItems width is

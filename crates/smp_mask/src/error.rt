@@ -76,8 +76,10 @@ pub enum Cause {
 /// Which device failed.
 #[derive(Clone, Copy, Debug, PartialEq, Eq, Error)]
 pub enum Side {
+    /// The reader that gives the script.
     #[error("read")]
     Read,
+    /// The writer that takes the output.
     #[error("write")]
     Write,
 }
