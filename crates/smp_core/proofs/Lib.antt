@@ -20,6 +20,7 @@ pub mod OneStep
 pub mod Own
 pub mod Parts
 pub mod Places
+pub mod Posted
 pub mod Posting
 pub mod Puts
 pub mod QueueChains

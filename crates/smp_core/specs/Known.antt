@@ -329,3 +329,31 @@ pub record GoesOn (a : CallState) (control : ℕ → ControlValue) (me : ℕ) (a
   pub shown : Shows calls at controls
   pub mine : known_of calls controls me ≡ w
   pub others : (cpu : ℕ) → ¬ (cpu ≡ me) → known_of calls controls cpu ≡ known_of a control cpu
+
+-- the call that a post is queueing, once all is told of it
+abbrev pub posting_of : ℕ → Class → ℕ → ℕ → ℕ → Posting
+posting_of id class func info to = record { id = id; to = to; is_online = true; class = class; func = func; info = info; tries = 0 }
+
+-- a CPU that stands at this step of a post
+abbrev pub standing : Posting → PostStage → Known → Known
+standing p stage v = record v { stage = Some (Post p stage) }
+
+-- a CPU outside a command
+abbrev pub outside_known : Known → Known
+outside_known v = record v { stage = None }
+
+-- a CPU that has seen its record confirmed
+abbrev pub confirmed_known : ℕ → Known → Known
+confirmed_known id v = record v { confirmed = slice_set v.confirmed id true }
+
+-- a CPU that has queued this call
+abbrev pub appended_known : ℕ → Bool → Option Holding → Known → Known
+appended_known to first h v = knowing v.number None v.drain (part_appended to first h (part_in v))
+
+-- a CPU that has sent an interrupt
+abbrev pub sent_known : ℕ → Known → Known
+sent_known to v = record v { owes = slice_set v.owes to false }
+
+-- whether it has seen its record confirmed
+abbrev pub is_confirmed : Known → ℕ → Bool
+is_confirmed v id = slice_index_or v.confirmed id false

@@ -1,0 +1,39 @@
+-- A CPU that tries to append a call: what it knows between two tries.
+use Rattle.std.proofs.Common.{◌≡◌, ℕ, ◌==◌, Bool, true, Some, Option, length, ◌%◌, ◌^◌, sym, refl, ap, ◌∙◌}
+use Rattle.atomic_table.specs.Seated.{TableId}
+use Rattle.smp_core.specs.Histories.{sent_to}
+use Rattle.smp_core.specs.Stands.{holding}
+use Rattle.smp_core.specs.Known.{standing, appended_known, outside_known}
+use Rattle.smp_core.specs.declared.known.Known.{Known}
+use Rattle.smp_core.specs.declared.post.Posting.{Posting}
+use Rattle.smp_core.specs.declared.post.PostStage.TheVariants as post
+use Rattle.smp_core.specs.declared.stage.Stage.{Stage}
+use Rattle.smp_core.specs.declared.stage.Stage.TheVariants.{Post}
+use Rattle.smp_queue.specs.Desk.{Desk, IsMine, IsCounting, IsTallied, counted}
+use Rattle.smp_queue.proofs.Ready.{mine_moved}
+
+-- it stands before its next try, and knows what it knew
+pub record Tries (table : TableId) (before desk : Desk) (p : Posting) : Type 0 where
+  pub table_is : desk.table ≡ table
+  pub known_is : desk.known ≡ standing (counted p) post.LoadHead before.known
+
+module _ (table : TableId) (before desk : Desk) (p : Posting) (t : Tries table before desk p) where
+  pub tries_mine : IsMine table before p → IsMine table desk p
+  tries_mine m = mine_moved table before desk p (standing (counted p) post.LoadHead before.known) m t.table_is t.known_is refl
+
+  pub tries_stage : desk.known.stage ≡ Some (Post (counted p) post.LoadHead)
+  tries_stage = ap (λ (u : Known). u.stage) t.known_is
+
+  pub tries_tallied : (number count : ℕ) → IsCounting before.known p number count → IsTallied desk.known p number count
+  tries_tallied number count k = record {
+    number_is = ap (λ (u : Known). u.number) t.known_is ∙ k.number_is;
+    count_is = k.count_is ∙ ap (λ (u : Known). length (sent_to p.to u.sent) % 2 ^ 64) (sym t.known_is);
+  }
+
+  -- the call is queued
+  pub tries_won : (v : Known) (first : Bool) → v ≡ appended_known p.to first (Some (holding (counted p) p.func p.info p.to true)) desk.known → v ≡ appended_known p.to first (Some (holding (counted p) p.func p.info p.to true)) before.known
+  tries_won v first e = e ∙ ap (appended_known p.to first (Some (holding (counted p) p.func p.info p.to true))) t.known_is
+
+  -- it has given up
+  pub tries_left : (v : Known) → v ≡ outside_known desk.known → v ≡ outside_known before.known
+  tries_left v e = e ∙ ap outside_known t.known_is

@@ -1,0 +1,36 @@
+use Rattle.std.proofs.Common.{◌≡◌, sym, refl, ap, ◌∙◌, Some, None}
+use Rattle.smp_core.specs.Known.{posting_of, standing}
+use Rattle.smp_core.proofs.Posted.{locked_known, func_known, info_known}
+use Rattle.smp_queue.proofs.Ready.{ready_post, mine_moved}
+use Rattle.smp_core.specs.declared.word.Word.TheVariants.{Flags}
+use Rattle.smp_core.specs.declared.known.Known.{Known}
+use Rattle.smp_core.specs.declared.access.Access.TheVariants.{Store}
+use Rattle.smp_core.specs.declared.post.Posting.{Posting}
+use Rattle.smp_core.specs.declared.post.PostStage.TheVariants as post
+use Rattle.smp_queue.proofs.post.write_record.Goals as goal
+
+pub store-requires : goal.store-requires
+store-requires c = ready_post _ _ c.args.posting.now post.Lock _ c.requires.mine (sym c.requires.outside) c.requires.free (ap (Store (Flags c.args.posting.now.id)) (sym c.flags.ensures))
+
+pub store-requires-2 : goal.store-requires-2
+store-requires-2 c =
+    let p = c.args.posting.now in
+    let v = c.args.chair.now.known in
+    let known = locked_known v c.store.new.chair.known p.id c.flags.result p.class c.requires.outside c.store.ensures.known c.flags.ensures in
+    ready_post _ _ p post.StoreFunc _ (mine_moved _ _ _ _ _ c.requires.mine c.store.ensures.table known refl) (sym (ap (λ u. u.stage) known)) tt refl
+
+pub store-requires-3 : goal.store-requires-3
+store-requires-3 c =
+    let p = c.args.posting.now in
+    let v = c.args.chair.now.known in
+    let known = locked_known v c.store.new.chair.known p.id c.flags.result p.class c.requires.outside c.store.ensures.known c.flags.ensures in
+    let known2 = func_known v c.store-2.new.chair.known c.store.new.chair.known p.id p.func (posting_of p.id p.class 0 0 0) c.store-2.ensures.known known in
+    ready_post _ _ p post.StoreInfo _ (mine_moved _ _ _ _ _ c.requires.mine c.store-2.ensures.table known2 refl) (sym (ap (λ u. u.stage) known2)) tt refl
+
+pub returns-clause-known : goal.returns-clause-known
+returns-clause-known c =
+    let p = c.args.posting.now in
+    let v = c.args.chair.now.known in
+    let known = locked_known v c.store.new.chair.known p.id c.flags.result p.class c.requires.outside c.store.ensures.known c.flags.ensures in
+    let known2 = func_known v c.store-2.new.chair.known c.store.new.chair.known p.id p.func (posting_of p.id p.class 0 0 0) c.store-2.ensures.known known in
+    info_known v c.store-3.new.chair.known c.store-2.new.chair.known p.id p.info (posting_of p.id p.class p.func 0 0) c.store-3.ensures.known known2

@@ -1,0 +1,20 @@
+use Rattle.std.proofs.Common.{◌≡◌, ◌<◌, sym, refl, ap, ◌∙◌, arith}
+use Rattle.smp_core.specs.Size.{cpus}
+use Rattle.smp_core.proofs.Starts.{online_below}
+use Rattle.smp_core.specs.declared.word.Word.TheVariants.{Intr}
+use Rattle.smp_core.specs.declared.stage.Stage.TheVariants.{Send}
+use Rattle.smp_queue.proofs.Cells.{has_cell}
+use Rattle.smp_queue.proofs.table.CallTable.send.Goals as goal
+
+pub store-requires : goal.store-requires
+store-requires g c =
+    let m = c.me.invariant in
+    let l = m.below in
+    let n = m.number_is in
+    let to : c.args.to < cpus = online_below c.self.inside.nr c.self.inside.online c.args.to c.self.invariant.limits (sym c.contains.ensures.member ∙ c.if-not-contains.false) in
+    record {
+      table_is = ap (λ d. d.table) c.me.view_is ∙ (c.requires ∙ sym (ap (λ t. t.table) c.self.view_is));
+      sized = c.self.invariant.sized;
+      can = record { stage = Send c.args.to; aims = (m.outside, to, omega arith); is_access = refl };
+      cell = has_cell (Intr c.args.to) to;
+    }

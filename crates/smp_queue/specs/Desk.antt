@@ -1,0 +1,78 @@
+-- A CPU at the table: its table and what it knows, and which accesses it may make.
+use Rattle.std.specs.Prelude.{◌≡◌, ℕ, ◌%◌, ◌^◌, ◌<◌, Some, length}
+use Rattle.atomic_table.specs.Seated.{TableId}
+use Rattle.smp_core.specs.Access.{word_of}
+use Rattle.smp_core.specs.Size.{cpus, records, owner}
+use Rattle.smp_core.specs.Places.{IsCall}
+use Rattle.smp_core.specs.Histories.{sent_to}
+use Rattle.smp_core.specs.Stands.{posted}
+use Rattle.smp_core.specs.Known.{Aims, known_access, fresh, posting_of}
+use Rattle.smp_core.specs.declared.known.Known.{Known}
+use Rattle.smp_core.specs.declared.access.Access.{Access}
+use Rattle.smp_core.specs.declared.post.Posting.{Posting}
+use Rattle.smp_core.specs.declared.post.PostStage.TheVariants as post
+use Rattle.smp_core.specs.declared.stage.Stage.{Stage}
+use Rattle.smp_core.specs.declared.stage.Stage.TheVariants.{Post}
+use Rattle.smp_queue.specs.Cells.{cells, HasCell}
+use Rattle.smp_queue.specs.declared.seated.Seated.{Seated}
+use Rattle.smp_queue.specs.declared.seated.Seated.TheVariants.{Of}
+use Rattle.smp_queue.specs.Rule.{known}
+
+-- the table that a CPU sits at, and what it knows
+pub record Desk : Type 0 where
+  pub table : TableId
+  pub known : Known
+
+-- the seat of a CPU
+abbrev pub IsOf : Seated → Type 0
+IsOf v = v ≡ Of (known v)
+
+-- a CPU that knows this may make this access
+pub record Can (v : Known) (access : Access) : Type 0 where
+  pub stage : Stage
+  pub aims : Aims v stage
+  pub is_access : known_access v stage ≡ access
+
+-- a CPU may make this access at this table
+pub record Ready (table : TableId) (desk : Desk) (access : Access) : Type 0 where
+  pub table_is : desk.table ≡ table
+  pub sized : table.words ≡ cells
+  pub can : Can desk.known access
+  pub cell : HasCell (word_of access)
+
+-- a CPU that has done nothing
+abbrev pub fresh_desk : TableId → ℕ → Desk
+fresh_desk table cpu = record { table = table; known = fresh cpu }
+
+-- a seat at this table, whose CPU owns this record
+pub record At (table : TableId) (desk : Desk) (id : ℕ) : Type 0 where
+  pub table_is : desk.table ≡ table
+  pub sized : table.words ≡ cells
+  pub me_in_range : desk.known.number < cpus
+  pub owned : owner id ≡ desk.known.number
+  pub in_range : id < records
+
+-- the call that a post is queueing, not counted yet
+abbrev pub uncounted : Posting → Posting
+uncounted p = posting_of p.id p.class p.func p.info 0
+
+-- the same, once it is counted
+abbrev pub counted : Posting → Posting
+counted p = posting_of p.id p.class p.func p.info p.to
+
+-- the record of a call is its CPU's own, and its numbers fit
+pub record IsMine (table : TableId) (desk : Desk) (p : Posting) : Type 0 where
+  pub at : At table desk p.id
+  pub is_call : IsCall (posted p)
+  pub to_in_range : p.to < cpus
+
+-- a CPU that is about to count a call, and so many that it has queued for the same CPU
+pub record IsCounting (v : Known) (p : Posting) (number count : ℕ) : Type 0 where
+  pub stage : v.stage ≡ Some (Post (uncounted p) post.Count)
+  pub number_is : v.number ≡ number
+  pub count_is : count ≡ length (sent_to p.to v.sent) % 2 ^ 64
+
+-- so many calls that a CPU has queued for a call's destination
+pub record IsTallied (v : Known) (p : Posting) (number count : ℕ) : Type 0 where
+  pub number_is : v.number ≡ number
+  pub count_is : count ≡ length (sent_to p.to v.sent) % 2 ^ 64

@@ -1,0 +1,9 @@
+-- where words lie
+pub mod Cells
+-- the rule, and what each kind of access tells
+pub mod Rule
+pub mod Plays
+-- a CPU at the table
+pub mod Desk
+pub mod Cpu
+pub mod Table

@@ -1,0 +1,24 @@
+-- What each kind of access tells.
+use Rattle.std.specs.Prelude.{◌≡◌, ℕ, ◌==◌, if◌then◌else◌, Some, None}
+use Rattle.atomic_table.specs.Table.{Me, Step}
+use Rattle.smp_core.specs.Known.{known_told, known_taking, Moment}
+use Rattle.smp_core.specs.declared.word.Word.{Word}
+use Rattle.smp_core.specs.declared.seen.Act.TheVariants as act
+use Rattle.smp_queue.specs.Cells.{cell_of}
+use Rattle.smp_queue.specs.declared.seated.Seated.{Seated}
+use Rattle.smp_queue.specs.declared.seated.Seated.TheVariants.{Of}
+use Rattle.smp_queue.specs.Rule.{known}
+
+module _ {S : Type 0} where
+  abbrev pub loaded : Step S → Me S Seated → ℕ → Me S Seated → Type 0
+  loaded st m n m' = let v = known m.0 in (w : Word) → cell_of w ≡ Some st.word → Moment v w n × (m'.0 ≡ Of (known_told v act.Load w (Some n) None))
+
+  abbrev pub stored : Step S → Me S Seated → ℕ → Me S Seated → Type 0
+  stored st m n m' = let v = known m.0 in (w : Word) → cell_of w ≡ Some st.word → m'.0 ≡ Of (known_told v act.Store w None (Some st.first))
+
+  abbrev pub exchanged : Step S → Me S Seated → ℕ → Me S Seated → Type 0
+  exchanged st m n m' = let v = known m.0 in (w : Word) → cell_of w ≡ Some st.word → m'.0 ≡ Of (known_told v act.Cas w (Some n) (if n == st.first then Some st.second else None))
+
+  -- the queue that a swap of the head takes is that of the calls at that moment
+  abbrev pub swapped : Step S → Me S Seated → ℕ → Me S Seated → Type 0
+  swapped st m n m' = let v = known m.0 in (w : Word) → cell_of w ≡ Some st.word → (t : Moment v w n) × (m'.0 ≡ Of (known_taking (t.calls.queue v.number) v act.Swap w (Some n) (Some st.first)))

@@ -1,0 +1,44 @@
+-- The rule of the table: its words show calls, of which each seat knows its CPU's part.
+use Rattle.std.specs.Prelude.{◌≡◌, ℕ, ◌+◌, ◌<◌, ◌≤◌, length}
+use mathlib.Core.Option.{some}
+use lib.ListN.{get_elem?}
+use Rattle.atomic_table.specs.Table.{State}
+use Rattle.smp_core.specs.Calls.{CallState}
+use Rattle.smp_core.specs.Stages.{ControlValue}
+use Rattle.smp_core.specs.Shows.{Shows}
+use Rattle.smp_core.specs.Known.{known_of, fresh}
+use Rattle.smp_core.specs.declared.known.Known.{Known}
+use Rattle.smp_queue.specs.Cells.{cells, number_in}
+use Rattle.smp_queue.specs.declared.seated.Seated.{Seated}
+use Rattle.smp_queue.specs.declared.seated.Seated.TheVariants.{Boot, Of}
+
+-- what a seat's CPU knows
+abbrev pub known : Seated → Known
+known (Boot n) = fresh n
+known (Of v) = v
+
+-- the first seat after it has made one for the next CPU
+abbrev pub after : Seated → Seated
+after (Boot n) = Boot (n + 1)
+after (Of v) = Of v
+
+-- the seat that it makes
+abbrev pub seated : Seated → Seated
+seated (Boot n) = Of (fresh n)
+seated (Of v) = Of v
+
+-- a seat knows its CPU's part of the calls, and no other seat is of that CPU
+abbrev pub Sits : CallState → (ℕ → ControlValue) → (ℕ → ℕ) → ℕ → ℕ → Seated → Type 0
+Sits a control seat next id (Boot n) = (n ≡ next) × (id ≡ 0)
+Sits a control seat next id (Of v) = (v.number < next) × (seat v.number ≡ id) × (v ≡ known_of a control v.number)
+
+-- the words show some calls; each seat knows its part; CPUs with no seat have done nothing
+pub record Ruled {S : Type 0} (s : State S Seated) : Type 0 where
+  pub calls : CallState
+  pub controls : ℕ → ControlValue
+  pub seat : ℕ → ℕ
+  pub next : ℕ
+  pub wide : length s.words ≡ cells
+  pub shown : Shows calls (number_in s.words) controls
+  pub each_seat : (id : ℕ) (v : Seated) → get_elem? s.views id ≡ some v → Sits calls controls seat next id v
+  pub absent : (cpu : ℕ) → next ≤ cpu → known_of calls controls cpu ≡ fresh cpu

@@ -1,0 +1,10 @@
+-- What every call table keeps.
+use Rattle.std.specs.Prelude.{◌≡◌, ℕ}
+use Rattle.atomic_table.specs.Seated.{TableId}
+use Rattle.smp_core.specs.Limits.{AreLimits}
+use Rattle.smp_queue.specs.Cells.{cells}
+
+-- it has a cell for each word, and its CPUs are such as may be
+pub record IsTable (table : TableId) (nr online : ℕ) : Type 0 where
+  pub sized : table.words ≡ cells
+  pub limits : AreLimits nr online

@@ -1,0 +1,47 @@
+//! The CPUs of a table that were not given out yet.
+
+ghost use Rattle.std.specs.Prelude.{◌≡◌, ◌≤◌, true, false, None, Some, length, IfOk, IfErr, ◌⊎◌};
+ghost use Rattle.smp_mask.specs.Mask.{has};
+ghost use Rattle.smp_queue.specs.Cpu.{left_at, given};
+
+use crate::cpu::CallCpu;
+use smp_core::size::NR_CPUS;
+use smp_mask::{CpuMask, SmpError};
+use std::alloc::Allocator;
+use std::marker::Model;
+
+/// Hands each CPU of a table out once.
+#[derive(Drop)]
+pub struct Boot<A: Allocator> {
+    pub(crate) online: CpuMask,
+    pub(crate) waiting: Vec<Option<CallCpu>, A>,
+}
+
+impl<A: Allocator> Model for Boot<A> {
+    ghost use Rattle.std.specs.Prelude.{◌≡◌, length};
+    ghost use Rattle.smp_core.specs.Size.{cpus};
+    ghost use Rattle.smp_queue.specs.Cpu.{BootValue};
+
+    ghost Value = { BootValue };
+
+    ghost view = { λ b. record { online = b.online; cpus_left = b.waiting.items } };
+
+    ghost invariant = { λ b. length b.waiting.items ≡ cpus };
+}
+
+impl<A: Allocator> Boot<A> {
+    /// This CPU's value. E1 where it is not online, then E2 where it was given out.
+    pub fn cpu(&mut self, cpu: u32) -> Result<CallCpu, SmpError>
+        ensures ok { IfOk result (λ c. (has self.old.online cpu ≡ true) × (left_at self.old cpu ≡ Some c) × (self.new ≡ given cpu self.old)) }
+        ensures err { IfErr result (λ e. ((e ≡ SmpError.NoCpu) × (has self.old.online cpu ≡ false)) ⊎ ((e ≡ SmpError.Busy) × (has self.old.online cpu ≡ true) × (left_at self.old cpu ≡ None))) }
+        ensures kept { IfErr result (λ e. self.new ≡ self.old) }
+    {
+        if !self.online.contains(cpu) {
+            return Err(SmpError::NoCpu);
+        }
+        match self.waiting[cpu as usize].take() {
+            Some(given) => Ok(given),
+            None => Err(SmpError::Busy),
+        }
+    }
+}

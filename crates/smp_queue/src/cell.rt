@@ -1,0 +1,18 @@
+//! Where each word lies in the table. Only this page and its proofs know: for now the words lie one after the
+//! other by their numbers.
+
+ghost use Rattle.std.specs.Prelude.{◌≡◌, Some};
+ghost use Rattle.smp_queue.specs.Cells.{HasCell, cell_of};
+
+use smp_core::{Word, call_index};
+
+/// The cell of a word.
+pub(crate) fn cell(word: Word) -> usize
+    requires { HasCell word }
+    ensures { cell_of word ≡ Some result }
+{
+    match call_index(word) {
+        Some(index) => index,
+        None => 0,
+    }
+}

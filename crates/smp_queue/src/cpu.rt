@@ -1,0 +1,55 @@
+//! One CPU at the table.
+
+ghost use Rattle.std.specs.Prelude.{◌≡◌, ◌<◌};
+ghost use Rattle.smp_core.specs.Size.{cpus};
+ghost use Rattle.smp_core.specs.Known.{fresh};
+ghost use Rattle.smp_queue.specs.Cpu.{cpu_of};
+
+use crate::chair::Chair;
+use smp_core::size::NR_CPUS;
+use std::marker::Model;
+
+/// One CPU between two calls, seen as its table, its number and its own part of the calls: what it has sent and
+/// owes, which of its records it has seen confirmed, and what it has taken and run. Only calls with this value
+/// change that part. It may move to another thread.
+#[derive(Drop)]
+pub struct CallCpu {
+    pub(crate) chair: Chair,
+    pub(crate) number: u32,
+    /// How many calls it has queued for each CPU, modulo 2^64.
+    pub(crate) queued: [u64; NR_CPUS as usize],
+    /// How many calls from each CPU it has run, modulo 2^64.
+    pub(crate) ran: [u64; NR_CPUS as usize],
+}
+
+impl Model for CallCpu {
+    ghost use Rattle.smp_queue.specs.Cpu.{CpuValue, IsKept, cpu_of};
+
+    ghost Value = { CpuValue };
+
+    ghost view = { λ c. cpu_of c.chair };
+
+    ghost invariant = { λ c. IsKept c.chair.known c.number c.queued c.ran };
+}
+
+impl CallCpu {
+    /// A CPU that has done nothing.
+    pub(crate) fn new(chair: Chair, number: u32) -> CallCpu
+        requires { (chair.known ≡ fresh number) × (number < cpus) }
+        ensures { result ≡ cpu_of chair }
+    {
+        CallCpu {
+            chair,
+            number,
+            queued: [0; 8],
+            ran: [0; 8],
+        }
+    }
+
+    /// The CPU's number.
+    pub fn number(&self) -> u32
+        ensures { result ≡ self.now.number }
+    {
+        self.number
+    }
+}

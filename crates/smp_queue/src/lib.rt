@@ -1,0 +1,25 @@
+//! The call table: words that the CPUs' threads change in single steps.
+//!
+//! The machine is that of `smp_core`: the same stages, the same steps, the same laws, between any two steps of
+//! any threads. Each CPU is driven through one value, `CallCpu`.
+//!
+//! | Call | By | May run together with | Ordered by |
+//! |---|---|---|---|
+//! | `post_within`, `post` | the source | all calls of other CPUs | the compare-exchange of the target's head |
+//! | `send` | any CPU | all calls of other CPUs | the store of the target's interrupt word |
+//! | `is_done`, `tally` | the source | all calls of other CPUs | the load of the record's flags |
+#![tactic(auto)]
+
+mod boot;
+mod cell;
+mod chair;
+mod cpu;
+mod plays;
+mod post;
+mod rule;
+mod seated;
+mod table;
+
+pub use boot::Boot;
+pub use cpu::CallCpu;
+pub use table::CallTable;

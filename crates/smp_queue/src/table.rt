@@ -1,0 +1,252 @@
+//! The call table.
+
+ghost use Rattle.std.specs.Prelude.{◌≡◌, ◌≢◌, ◌⊎◌, ◌↔◌, ◌<◌, ◌≤◌, ◌%◌, ◌^◌, true, false, length, if◌then◌else◌, IfOk, IfErr, OnOk, IsErrOf, Ok};
+ghost use Rattle.smp_mask.specs.Mask.{has};
+ghost use Rattle.smp_core.specs.Size.{records_of_one};
+ghost use Rattle.smp_core.specs.Limits.{AreLimits};
+ghost use Rattle.smp_core.specs.Histories.{sent_to, calls_from};
+ghost use Rattle.smp_queue.specs.declared.seated.Seated.TheVariants.{Boot as BootSeat};
+ghost use Rattle.smp_queue.specs.Cells.{cells};
+ghost use Rattle.smp_queue.specs.Cpu.{TableValue, IsFull, PostAnswers, BeginAnswers, confirmed_at, confirms, sends};
+
+use crate::boot::Boot;
+use crate::chair::{seat_next, store};
+use crate::cpu::CallCpu;
+use crate::post::{append, append_at_last, is_locked, write_record};
+use crate::rule::{Owner, Place};
+use atomic_table::Table;
+use smp_core::Word;
+use smp_core::call::Class;
+use smp_core::command::Command;
+use smp_core::limits::are_limits;
+use smp_core::post::Posting;
+use smp_core::size::{NR_CPUS, RECORDS_OF_ONE, WORDS, record_of};
+use smp_mask::{CpuMask, SmpError};
+use std::alloc::{AllocError, Allocator};
+use std::marker::Model;
+use std::sync::Wait;
+
+/// The call table: its name, how many CPUs it has, and those online. Threads share it by reference.
+#[derive(Drop)]
+pub struct CallTable<A: Allocator> {
+    owner: Owner<A>,
+    nr: u32,
+    online: CpuMask,
+}
+
+impl<A: Allocator> Model for CallTable<A> {
+    ghost use Rattle.smp_queue.specs.Cpu.{TableValue};
+    ghost use Rattle.smp_queue.specs.Table.{IsTable};
+
+    ghost Value = { TableValue };
+
+    ghost view = { λ t. record { table = t.owner.shared.table_id; nr = t.nr; online = t.online } };
+
+    ghost invariant = { λ t. IsTable t.owner.shared.table_id t.nr t.online };
+}
+
+/// The words, all 0, and the first seat.
+fn lay<A: Allocator>(alloc: A) -> Result<(Owner<A>, Place), AllocError>
+where
+    A: Copy,
+    ensures { IfOk result (λ t. (t.0.shared.table_id.words ≡ cells) × (t.1.table_id ≡ t.0.shared.table_id) × (t.1.me.0 ≡ BootSeat 0)) }
+{
+    let words = Vec::from_elem(alloc, 0u64, WORDS)?;
+    let (table, seat) = Table::of_words(alloc, words.as_slice(), &())?;
+    Ok((table, seat))
+}
+
+/// The table, and its CPUs: one seat for each number, of which those online are kept.
+fn build<A: Allocator>(
+    alloc: A,
+    nr: u32,
+    online: CpuMask,
+) -> Result<(CallTable<A>, Boot<A>), AllocError>
+where
+    A: Copy,
+    requires { AreLimits nr online }
+    ensures { IfOk result (λ t. (t.0.nr ≡ nr) × (t.0.online ≡ online) × IsFull t.1 t.0.table online) }
+{
+    let mut waiting = Vec::with_capacity(alloc, NR_CPUS as usize)?;
+    let (owner, mut boot) = lay(alloc)?;
+    for number in 0..NR_CPUS {
+        let chair = seat_next(&owner.shared, &mut boot, number);
+        let cpu = CallCpu::new(chair, number);
+        waiting.push(kept_if(online.contains(number), cpu))?;
+    }
+    let table = CallTable { owner, nr, online };
+    Ok((table, Boot { online, waiting }))
+}
+
+fn kept_if(keep: bool, cpu: CallCpu) -> Option<CallCpu>
+    ensures { result ≡ if keep then Some cpu else None }
+{
+    if keep { Some(cpu) } else { None }
+}
+
+impl<A: Allocator> CallTable<A> {
+    /// A table of `nr` CPUs with no calls, and those of its CPUs that are online, each to be handed out once.
+    /// E4 where `nr` is not 1 to `NR_CPUS`, no CPU is online, or one that is online is not below `nr`; E6 where
+    /// a growth is refused.
+    pub fn new(alloc: A, nr: u32, online: CpuMask) -> Result<(CallTable<A>, Boot<A>), SmpError>
+    where
+        A: Copy,
+        ensures ok { IfOk result (λ t. (t.0.nr ≡ nr) × (t.0.online ≡ online) × IsFull t.1 t.0.table online) }
+        ensures limits { OnOk result (AreLimits nr online) }
+        ensures refused { IsErrOf result SmpError.BadArgument ↔ (¬ (AreLimits nr online)) }
+        ensures only { IfErr result (λ e. (e ≡ SmpError.BadArgument) ⊎ (e ≡ SmpError.NoMemory)) }
+    {
+        if !are_limits(nr, online) {
+            return Err(SmpError::BadArgument);
+        }
+        match build(alloc, nr, online) {
+            Ok(built) => Ok(built),
+            Err(_) => Err(SmpError::NoMemory),
+        }
+    }
+
+    /// The CPUs that are online.
+    pub fn online(&self) -> CpuMask
+        ensures { result ≡ self.now.online }
+    {
+        self.online
+    }
+
+    /// Whether the record of this local number is unlocked, as it is when its last call was run or given up, or
+    /// it was never used (one turn of `kernel/smp.c: csd_lock_wait`). A record that is unlocked is confirmed.
+    /// E4 where there is no such record.
+    pub fn is_done(&self, me: &mut CallCpu, k: u32) -> Result<bool, SmpError>
+        requires { me.old.table ≡ self.now.table }
+        ensures known { IfOk result (λ done. (k < records_of_one) × (me.new ≡ if done then confirms k me.old else me.old)) }
+        ensures locked { IfOk result (λ done. done ≡ false → confirmed_at me.old k ≢ true) }
+        ensures err { IfErr result (λ e. (e ≡ SmpError.BadArgument) × (records_of_one ≤ k) × (me.new ≡ me.old)) }
+    {
+        if k >= RECORDS_OF_ONE {
+            return Err(SmpError::BadArgument);
+        }
+        let id = record_of(me.number, k);
+        let locked = is_locked(&self.owner.shared, &mut me.chair, id);
+        Ok(!locked)
+    }
+
+    /// How many calls this CPU has queued for `other`, and how many calls from `other` it has run, modulo 2^64;
+    /// zeros where there is no such CPU.
+    pub fn tally(&self, me: &mut CallCpu, other: u32) -> (u64, u64)
+        requires { me.old.table ≡ self.now.table }
+        ensures counts { other < self.now.nr → result ≡ (length (sent_to other me.old.sent) % 2 ^ 64, length (calls_from other me.old.ran) % 2 ^ 64) }
+        ensures zeros { self.now.nr ≤ other → result ≡ (0, 0) }
+        ensures kept { me.new ≡ me.old }
+    {
+        if other < self.nr {
+            (me.queued[other as usize], me.ran[other as usize])
+        } else {
+            (0, 0)
+        }
+    }
+
+    /// Sends an interrupt to a CPU, which then takes its queue (`arch_send_call_function_single_ipi`). One that
+    /// is not owed does no harm. E1 where the CPU is not online.
+    pub fn send(&self, me: &mut CallCpu, to: u32) -> Result<(), SmpError>
+        requires { me.old.table ≡ self.now.table }
+        ensures ok { IfOk result (λ _. (has self.now.online to ≡ true) × (me.new ≡ sends to me.old)) }
+        ensures err { IfErr result (λ e. (e ≡ SmpError.NoCpu) × (has self.now.online to ≡ false) × (me.new ≡ me.old)) }
+    {
+        if !self.online.contains(to) {
+            return Err(SmpError::NoCpu);
+        }
+        store(&self.owner.shared, &mut me.chair, Word::Intr(to), 1);
+        Ok(())
+    }
+
+    /// The refusals of a post that come before its record is written, and else the call that it queues: E4, E2
+    /// and E1, in this order. Where LOCK is clear, the record is confirmed.
+    fn begin_post(
+        &self,
+        me: &mut CallCpu,
+        k: u32,
+        to: u32,
+        class: Class,
+        func: u16,
+        info: u64,
+        tries: u32,
+    ) -> Result<Posting, SmpError>
+        requires { me.old.table ≡ self.now.table }
+        ensures { BeginAnswers self.now me.old me.new k to class func info tries result }
+    {
+        let command = Command::Post(k, to, class, func, info, tries);
+        if let Some(error) = command.refusal(self.online, me.number) {
+            return Err(error);
+        }
+        let id = record_of(me.number, k);
+        if is_locked(&self.owner.shared, &mut me.chair, id) {
+            return Err(SmpError::Busy);
+        }
+        if !self.online.contains(to) {
+            return Err(SmpError::NoCpu);
+        }
+        Ok(Posting {
+            id,
+            to,
+            is_online: true,
+            class,
+            func,
+            info,
+            tries: 0,
+        })
+    }
+
+    /// Queues one call by the CPU's record `k`, and answers whether an interrupt is owed, since the queue was
+    /// empty; queued at the compare-exchange (`kernel/smp.c: generic_exec_single`). `tries` counts
+    /// compare-exchanges. E4 where `k` is no record, `tries` is 0, `to` is the own CPU or the record may not
+    /// carry such a call; then E2 where the record is locked; then E1 where `to` is not online; then E5 where
+    /// the tries are used up: then nothing is queued, and the record is free again.
+    pub fn post_within(
+        &self,
+        me: &mut CallCpu,
+        k: u32,
+        to: u32,
+        class: Class,
+        func: u16,
+        info: u64,
+        tries: u32,
+    ) -> Result<bool, SmpError>
+        requires { me.old.table ≡ self.now.table }
+        ensures { PostAnswers self.now me.old me.new k to class func info tries result }
+    {
+        let posting = self.begin_post(me, k, to, class, func, info, tries)?;
+        write_record(&self.owner.shared, &mut me.chair, &posting);
+        let queued = me.queued[to as usize];
+        let words = &self.owner.shared;
+        match append(words, &mut me.chair, &posting, me.number, queued, tries) {
+            Some(first) => {
+                me.queued[to as usize] = queued.wrapping_add(1);
+                Ok(first)
+            }
+            None => Err(SmpError::Contended),
+        }
+    }
+
+    /// As `post_within`, but tries until its call is queued: it never answers E5. It pauses between two tries.
+    pub fn post<R: Wait>(
+        &self,
+        rt: &R,
+        me: &mut CallCpu,
+        k: u32,
+        to: u32,
+        class: Class,
+        func: u16,
+        info: u64,
+    ) -> Result<bool, SmpError>
+        requires { me.old.table ≡ self.now.table }
+        ensures answers { PostAnswers self.now me.old me.new k to class func info 1 result }
+        ensures queued { IfErr result (λ e. e ≢ SmpError.Contended) }
+    {
+        let posting = self.begin_post(me, k, to, class, func, info, 1)?;
+        write_record(&self.owner.shared, &mut me.chair, &posting);
+        let queued = me.queued[to as usize];
+        let words = &self.owner.shared;
+        let first = append_at_last(rt, words, &mut me.chair, &posting, me.number, queued);
+        me.queued[to as usize] = queued.wrapping_add(1);
+        Ok(first)
+    }
+}
