@@ -1,0 +1,4 @@
+pub mod Filled
+pub mod Lawful
+pub mod Patched
+pub mod Stores

@@ -1,0 +1,206 @@
+-- A plan leads from a lawful table to the lawful table with its key changed.
+use Rattle.std.proofs.Common.{◌≡◌, ◌≢◌, ℕ, zero, suc, ◌+◌, ◌<◌, ◌==◌, Bool, true, false, cond, Option, None, Some, List, [], ◌∷◌, ◌++◌, get_or, inl, inr, refl, sym, ap, subst, ◌∙◌, ne_eqb, eq-eqb, arith}
+use Rattle.std.proofs.lemmas.Bool.{cases_eq, cases_lt}
+use Rattle.std.proofs.lemmas.List.{get_or_past}
+use Rattle.std.proofs.Math.Bool.{beq}
+use Rattle.smp_labels.specs.declared.entries.Entry.{Entry}
+use Rattle.smp_labels.specs.declared.patch.Place.{Place}
+use Rattle.smp_labels.specs.declared.patch.Place.TheVariants.{Key, Site}
+use Rattle.smp_labels.specs.declared.words.TheConstants.{MOST_KEYS, MOST_SITES}
+use Rattle.smp_labels.specs.Keys.{is_on, key_word, IsKeyWord}
+use Rattle.smp_labels.specs.Kinds.{xor, kind_of, kind_word}
+use Rattle.smp_labels.specs.Entries.{entry_at}
+use Rattle.smp_labels.specs.Law.{Table, site_word, IsLawful}
+use Rattle.smp_labels.specs.Plans.{put, stored, applied, is_of, site_change, site_changes, patch_of, plan_of, AreEntriesOf, SetsKey, StandsPartWay}
+use Rattle.smp_labels.proofs.Stores.{applied-append, put_same, put_other, entries_kept, LeaveOut, leave_out_each, leave_out-append, place_kept, AreDistinct, distinct_front, all_made}
+
+-- the change of a site is of no other place
+change_elsewhere : (p : Place) (key : ℕ) (on : Bool) (i : ℕ) (e : Option Entry) → Site i ≢ p → LeaveOut p (site_change key on i e)
+change_elsewhere p key on i None other = tt
+change_elsewhere p key on i (Some e) other = elim (e.key == key) as (λ b. LeaveOut p (cond b ((Site i, kind_word (kind_of on e.branch)) ∷ []) [])) [ true ↦ (other, tt) | false ↦ tt ]
+
+change_none : (key : ℕ) (on : Bool) (i : ℕ) (e : Option Entry) → is_of key e ≡ false → site_change key on i e ≡ []
+change_none key on i None other = refl
+change_none key on i (Some e) other = rw other refl
+
+change_one : (key : ℕ) (on : Bool) (i : ℕ) (e : Entry) → e.key ≡ key → site_change key on i (Some e) ≡ (Site i, kind_word (kind_of on e.branch)) ∷ []
+change_one key on i e of = rw (eq-eqb e.key key of) refl
+
+-- the changes from site i on leave out the keys and the sites before
+changes_leave_key : (key : ℕ) (on : Bool) (i : ℕ) (entries : List ℕ) (k : ℕ) → LeaveOut (Key k) (site_changes key on i entries)
+changes_leave_key key on i [] k = tt
+changes_leave_key key on i (word ∷ rest) k =
+    leave_out-append (Key k) (site_change key on i (entry_at word)) (site_changes key on (i + 1) rest)
+    (change_elsewhere (Key k) key on i (entry_at word) (λ e. cc)) (changes_leave_key key on (i + 1) rest k)
+
+changes_leave_before : (key : ℕ) (on : Bool) (i : ℕ) (entries : List ℕ) (j : ℕ) → j < i → LeaveOut (Site j) (site_changes key on i entries)
+changes_leave_before key on i [] j before = tt
+changes_leave_before key on i (word ∷ rest) j before =
+    leave_out-append (Site j) (site_change key on i (entry_at word)) (site_changes key on (i + 1) rest)
+    (change_elsewhere (Site j) key on i (entry_at word) (λ e. let same : i ≡ j = cc in omega arith)) (changes_leave_before key on (i + 1) rest j (omega arith))
+
+-- they leave out the sites of other keys
+changes_leave_other : (key : ℕ) (on : Bool) (i : ℕ) (entries : List ℕ) (j : ℕ) → is_of key (entry_at (get_or entries j 0)) ≡ false → LeaveOut (Site (i + j)) (site_changes key on i entries)
+changes_leave_other key on i [] j other = tt
+changes_leave_other key on i (word ∷ rest) zero other =
+    let here : i + 0 ≡ i = omega arith in
+    rw (change_none key on i (entry_at word) other) (changes_leave_before key on (i + 1) rest (i + 0) (omega arith))
+changes_leave_other key on i (word ∷ rest) (suc j) other =
+    let place : i + suc j ≡ i + 1 + j = omega arith in
+    leave_out-append (Site (i + suc j)) (site_change key on i (entry_at word)) (site_changes key on (i + 1) rest)
+    (change_elsewhere (Site (i + suc j)) key on i (entry_at word) (λ e. let same : i ≡ i + suc j = cc in omega arith))
+    (subst (λ n. LeaveOut (Site n) (site_changes key on (i + 1) rest)) (sym place) (changes_leave_other key on (i + 1) rest j other))
+
+distinct_one_more : (key : ℕ) (on : Bool) (i : ℕ) (e : Option Entry) (rest : List (Place × ℕ)) → LeaveOut (Site i) rest → AreDistinct rest → AreDistinct (site_change key on i e ++ rest)
+distinct_one_more key on i None rest out distinct = distinct
+distinct_one_more key on i (Some e) rest out distinct = elim (e.key == key) as (λ b. AreDistinct (cond b ((Site i, kind_word (kind_of on e.branch)) ∷ []) [] ++ rest)) [
+  | true ↦ (out, distinct)
+  | false ↦ distinct
+]
+
+-- they are of different sites
+changes_distinct : (key : ℕ) (on : Bool) (i : ℕ) (entries : List ℕ) → AreDistinct (site_changes key on i entries)
+changes_distinct key on i [] = tt
+changes_distinct key on i (word ∷ rest) =
+    distinct_one_more key on i (entry_at word) (site_changes key on (i + 1) rest) (changes_leave_before key on (i + 1) rest i (omega arith)) (changes_distinct key on (i + 1) rest)
+
+-- they give each site of the key its new word
+changes_make : (key : ℕ) (on : Bool) (i : ℕ) (entries : List ℕ) (t : Table) (j : ℕ) (e : Entry) → entry_at (get_or entries j 0) ≡ Some e → e.key ≡ key →
+    (applied (site_changes key on i entries) t).site (i + j) ≡ kind_word (kind_of on e.branch)
+changes_make key on i [] t j e is of = cc
+changes_make key on i (word ∷ rest) t zero e is of =
+    let here : i + 0 ≡ i = omega arith in
+    rw (here, is, change_one key on i e of)
+    (place_kept (site_changes key on (i + 1) rest) (stored (Site i) (kind_word (kind_of on e.branch)) t) (Site i) (changes_leave_before key on (i + 1) rest i (omega arith)) ∙ put_same t.site i (kind_word (kind_of on e.branch)))
+changes_make key on i (word ∷ rest) t (suc j) e is of =
+    let place : i + suc j ≡ i + 1 + j = omega arith in
+    rw (applied-append (site_change key on i (entry_at word)) (site_changes key on (i + 1) rest) t, place)
+    (changes_make key on (i + 1) rest (applied (site_change key on i (entry_at word)) t) j e is of)
+
+patch_distinct : (key word : ℕ) (entries : List ℕ) → AreDistinct (patch_of key word entries)
+patch_distinct key word entries = (changes_leave_key key (is_on word) 0 entries key, changes_distinct key (is_on word) 0 entries)
+
+module _ (key word : ℕ) (entries : List ℕ) (t : Table) where
+  -- the key has its new word, and the others stand
+  patched_key : (k : ℕ) → (applied (patch_of key word entries) t).key k ≡ put t.key key word k
+  patched_key k = place_kept (site_changes key (is_on word) 0 entries) (stored (Key key) word t) (Key k) (changes_leave_key key (is_on word) 0 entries k)
+
+  -- the sites of other keys stand
+  patched_other : AreEntriesOf entries t → (i : ℕ) → is_of key (entry_at (t.entry i)) ≡ false → (applied (patch_of key word entries) t).site i ≡ t.site i
+  patched_other are i other =
+      let loaded : is_of key (entry_at (get_or entries i 0)) ≡ false = elim (cases_lt i MOST_SITES) [
+        | inl within ↦ rw (are.read i within) at other
+        | inr past ↦ rw (get_or_past entries i 0 (omega (arith, are.few))) refl
+      ] in
+      let here : 0 + i ≡ i = omega arith in
+      let out : LeaveOut (Site i) (site_changes key (is_on word) 0 entries) =
+      subst (λ n. LeaveOut (Site n) (site_changes key (is_on word) 0 entries)) here (changes_leave_other key (is_on word) 0 entries i loaded) in
+      place_kept (patch_of key word entries) t (Site i) ((λ e. cc), out)
+
+  -- the sites of the key have the kind of its new state
+  patched_own : AreEntriesOf entries t → (i : ℕ) (e : Entry) → i < MOST_SITES → entry_at (t.entry i) ≡ Some e → e.key ≡ key →
+      (applied (patch_of key word entries) t).site i ≡ kind_word (kind_of (is_on word) e.branch)
+  patched_own are i e within is of =
+      let here : 0 + i ≡ i = omega arith in
+      subst (λ n. (applied (patch_of key word entries) t).site n ≡ kind_word (kind_of (is_on word) e.branch)) here
+      (changes_make key (is_on word) 0 entries (stored (Key key) word t) i e (rw (are.read i within) at is) of)
+
+  patched_site : AreEntriesOf entries t → (i : ℕ) (e : Option Entry) → i < MOST_SITES → entry_at (t.entry i) ≡ e → t.site i ≡ site_word t.key e →
+      (applied (patch_of key word entries) t).site i ≡ site_word (applied (patch_of key word entries) t).key e
+  patched_site are i None within is before = patched_other are i (rw is refl) ∙ before
+  patched_site are i (Some e) within is before = elim (cases_eq e.key key) [
+    | inl of ↦ rw (patched_own are i e within is of, patched_key e.key, of, put_same t.key key word) refl
+    | inr other ↦ rw (patched_other are i (rw is (ne_eqb e.key key other)), patched_key e.key, put_other t.key key word e.key other) before
+  ]
+
+  patched_in_form : IsKeyWord word → IsLawful t → (k : ℕ) → k < MOST_KEYS → IsKeyWord ((applied (patch_of key word entries) t).key k)
+  patched_in_form in_form lawful k within = elim (cases_eq k key) [
+    | inl same ↦ rw (patched_key k, same, put_same t.key key word) in_form
+    | inr other ↦ rw (patched_key k, put_other t.key key word k other) (lawful.keys k within)
+  ]
+
+  -- a patch leads from a lawful table to the lawful table with the key at its new word
+  pub patch_leads : IsKeyWord word → IsLawful t → AreEntriesOf entries t → SetsKey key (is_on word) t (applied (patch_of key word entries) t)
+  patch_leads in_form lawful are =
+      let kept = entries_kept (patch_of key word entries) t in
+      record {
+        lawful = record {
+          keys = patched_in_form in_form lawful;
+          entries = λ i within. rw (kept i) (lawful.entries i within);
+          packed = λ i j before within ended. kept j ∙ lawful.packed i j before within (sym (kept i) ∙ ended);
+          sites = λ i within. rw (kept i) (patched_site are i (entry_at (t.entry i)) within refl (lawful.sites i within));
+        };
+        set = ap is_on (patched_key key ∙ put_same t.key key word);
+        keys = λ k other. patched_key k ∙ put_other t.key key word k other;
+        entries = kept;
+        sites = patched_other are;
+      }
+
+xor_same : (a b : Bool) → xor a b ≡ false → a ≡ b
+xor_same true true same = refl
+xor_same true false same = cc
+xor_same false b same = sym same
+
+module _ (key new : ℕ) (entries : List ℕ) (t : Table) (in_form : IsKeyWord new) (lawful : IsLawful t) (are : AreEntriesOf entries t) where
+  -- so does a plan
+  pub plan_leads : SetsKey key (is_on new) t (applied (plan_of key (t.key key) new entries) t)
+  plan_leads = go (xor (is_on (t.key key)) (is_on new)) refl
+    where
+      go : (b : Bool) → xor (is_on (t.key key)) (is_on new) ≡ b → SetsKey key (is_on new) t (applied (cond b (patch_of key new entries) []) t)
+      go true _ = patch_leads key new entries t in_form lawful are
+      go false same = record {
+        lawful = lawful;
+        set = xor_same (is_on (t.key key)) (is_on new) same;
+        keys = λ k _. refl;
+        entries = λ i. refl;
+        sites = λ i _. refl;
+      }
+
+  plan_distinct : AreDistinct (plan_of key (t.key key) new entries)
+  plan_distinct = elim (xor (is_on (t.key key)) (is_on new)) as (λ b. AreDistinct (cond b (patch_of key new entries) [])) [ true ↦ patch_distinct key new entries | false ↦ tt ]
+
+  -- and each part of it leaves the rest to do
+  pub plan_part_way : (front rest : List (Place × ℕ)) → plan_of key (t.key key) new entries ≡ front ++ rest → StandsPartWay key (is_on new) front rest t
+  plan_part_way front rest parts = record {
+    made = all_made front t (distinct_front front rest (subst AreDistinct parts plan_distinct));
+    kept = λ p out. place_kept front t p (leave_out_each p front out);
+    entries = entries_kept front t;
+    leads = subst (λ u. SetsKey key (is_on new) t u) (ap (λ plan. applied plan t) parts ∙ applied-append front rest t) plan_leads;
+  }
+
+set_in_form : (on : Bool) → IsKeyWord (key_word on)
+set_in_form true = omega arith
+set_in_form false = omega arith
+
+is_on-key_word : (on : Bool) → is_on (key_word on) ≡ on
+is_on-key_word true = refl
+is_on-key_word false = refl
+
+-- the plan, where the key is not as it is to be
+pub plan_changes : (key old : ℕ) (on : Bool) (entries : List ℕ) → beq (is_on old) on ≡ false → plan_of key old (key_word on) entries ≡ (Key key, key_word on) ∷ site_changes key on 0 entries
+plan_changes key old on entries other = go on (is_on old) refl other
+  where
+    go : (new was : Bool) → is_on old ≡ was → beq was new ≡ false → plan_of key old (key_word new) entries ≡ (Key key, key_word new) ∷ site_changes key new 0 entries
+    go true true is other = cc
+    go true false is other = rw is refl
+    go false true is other = rw is refl
+    go false false is other = cc
+
+-- the plan, where the key is so
+pub plan_same : (key old : ℕ) (on : Bool) (entries : List ℕ) → beq (is_on old) on ≡ true → plan_of key old (key_word on) entries ≡ []
+plan_same key old on entries same = go on (is_on old) refl same
+  where
+    go : (new was : Bool) → is_on old ≡ was → beq was new ≡ true → plan_of key old (key_word new) entries ≡ []
+    go true true is same = rw is refl
+    go true false is same = cc
+    go false true is same = cc
+    go false false is same = rw is refl
+
+module _ (key : ℕ) (on : Bool) (entries : List ℕ) (t : Table) (lawful : IsLawful t) (are : AreEntriesOf entries t) (plan : List (Place × ℕ)) (is : plan ≡ plan_of key (t.key key) (key_word on) entries) where
+  -- the plan that sets a key on or off
+  pub set_leads : SetsKey key on t (applied plan t)
+  set_leads = rw is (subst (λ b. SetsKey key b t (applied (plan_of key (t.key key) (key_word on) entries) t)) (is_on-key_word on) (plan_leads key (key_word on) entries t (set_in_form on) lawful are))
+
+  pub set_part_way : (front rest : List (Place × ℕ)) → plan ≡ front ++ rest → StandsPartWay key on front rest t
+  set_part_way front rest parts =
+      subst (λ b. StandsPartWay key b front rest t) (is_on-key_word on) (plan_part_way key (key_word on) entries t (set_in_form on) lawful are front rest (sym is ∙ parts))

@@ -1,0 +1,7 @@
+pub mod Entries
+pub mod Keys
+pub mod Kinds
+pub mod Labels
+pub mod Law
+pub mod Plans
+pub mod Words

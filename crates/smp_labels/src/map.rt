@@ -1,0 +1,91 @@
+//! The keys and the sites that a machine is made with.
+
+ghost use Rattle.std.specs.Prelude.{◌≡◌, ◌≤◌, ◌-◌, ◌++◌, ◌↔◌, length, map, replicate, IsOk, IfOk, OnErr, IsErrOf};
+ghost use Rattle.smp_labels.specs.Entries.{entry_word};
+ghost use Rattle.smp_labels.specs.Labels.{AreLabels};
+ghost use Rattle.smp_labels.specs.Law.{IsLawful};
+ghost use Rattle.smp_labels.specs.Words.{table_of};
+
+use crate::entries::Entry;
+use crate::keys::{is_on, key_word};
+use crate::kinds::kind_of;
+use crate::words::{LabelWords, MOST_KEYS, MOST_SITES};
+use arrayvec::ArrayVec;
+use smp_mask::SmpError;
+use std::marker::Model;
+
+/// The keys and the sites that a machine is made with, as the jump table that
+/// `kernel/jump_label.c: jump_label_init` walks.
+///
+/// A contract sees it as the number of its keys and the list of its entries.
+#[derive(Clone, Debug, PartialEq, Eq, Drop)]
+pub struct LabelMap {
+    entries: ArrayVec<Entry, MOST_SITES>,
+    keys: u32,
+}
+
+impl Model for LabelMap {
+    ghost use Rattle.smp_labels.specs.Labels.{Labels, AreLabels};
+
+    ghost Value = { Labels };
+
+    ghost view = { λ m. record { keys = m.keys; entries = m.entries.items } };
+
+    ghost invariant = { λ m. AreLabels m.keys m.entries.items };
+
+    ghost inverse = { λ v. record { entries = record { items = v.entries }; keys = v.keys } };
+}
+
+impl LabelMap {
+    /// The map of these entries, in the order of their sites, over the keys 0 to `keys - 1`.
+    /// `BadArgument` where there are more than [`MOST_SITES`] entries or more than [`MOST_KEYS`]
+    /// keys, or an entry's key is not below `keys`.
+    pub fn new(entries: &[Entry], keys: u32) -> Result<LabelMap, SmpError>
+        ensures taken { IsOk result ↔ AreLabels keys entries.now }
+        ensures refused { OnErr result (IsErrOf result SmpError.BadArgument) }
+        ensures made { IfOk result (λ m. m ≡ record { keys = keys; entries = entries.now }) }
+    {
+        if keys as usize > MOST_KEYS || entries.iter().any(|entry| entry.key >= keys) {
+            return Err(SmpError::BadArgument);
+        }
+        let entries = ArrayVec::try_from(entries).map_err(|_| SmpError::BadArgument)?;
+        Ok(LabelMap { entries, keys })
+    }
+
+    /// The words of a table with these entries and all keys off, as keys that are defined by
+    /// `DEFINE_STATIC_KEY_FALSE` (`include/linux/jump_label.h`). They are lawful.
+    pub fn words(&self) -> LabelWords
+        ensures lawful { IsLawful (table_of result) }
+        ensures off { result.keys ≡ replicate MOST_KEYS 0 }
+        ensures entries { result.entries
+            ≡ map entry_word self.now.entries ++ replicate (MOST_SITES - length self.now.entries) 0 }
+        ensures known { AreLabels self.now.keys self.now.entries }
+    {
+        let mut words = LabelWords {
+            keys: [key_word(false); MOST_KEYS],
+            entries: [0; MOST_SITES],
+            sites: [0; MOST_SITES],
+        };
+        for (site, entry) in self.entries.iter().enumerate() {
+            words.entries[site] = entry.word();
+            words.sites[site] = kind_of(is_on(key_word(false)), entry.branch).word();
+        }
+        words
+    }
+
+    /// The number of keys that it was made with.
+    pub fn keys(&self) -> u32
+        ensures value { result ≡ self.now.keys }
+        ensures within { result ≤ MOST_KEYS }
+    {
+        self.keys
+    }
+
+    /// The number of entries, one for each site.
+    pub fn sites(&self) -> u32
+        ensures value { result ≡ length self.now.entries }
+        ensures within { result ≤ MOST_SITES }
+    {
+        self.entries.len() as u32
+    }
+}
