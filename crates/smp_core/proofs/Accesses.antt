@@ -1,13 +1,13 @@
 -- The word of each access is in the table.
-use Rattle.std.proofs.Common.{◌≡◌, ℕ, ◌+◌, ◌<◌, Some, None, List, [], ◌∷◌, ◌++◌, sym, subst, refl, ap, ◌∙◌}
+use Rattle.std.proofs.Common.{◌≡◌, ℕ, ◌<◌, Some, List, [], ◌∷◌, ◌++◌, subst, refl, ap, ◌∙◌}
 use Rattle.std.specs.List.{AllByRecursion}
-use Rattle.smp_core.specs.Size.{cpus, records, owner}
+use Rattle.smp_core.specs.Size.{cpus, records}
 use Rattle.smp_core.specs.Access.{word_of}
-use Rattle.smp_core.specs.Calls.{CallState, Running, Nothing, SyncCall, CountedCall, AsyncCall}
+use Rattle.smp_core.specs.Calls.{CallState, Running, SyncCall, CountedCall}
 use Rattle.smp_core.specs.Drains.{DrainValue}
-use Rattle.smp_core.specs.Places.{IsPlaced, IsCall, Placed, locked_by}
+use Rattle.smp_core.specs.Places.{IsPlaced, locked_by}
 use Rattle.smp_core.specs.Stages.{ControlValue, access_of}
-use Rattle.smp_core.specs.Stands.{Share, share_of, Stands, StandsAt, HandleStands, Loads, Runs, PostStands}
+use Rattle.smp_core.specs.Stands.{Share, share_of, StandsAt, HandleStands, Loads, PostStands}
 use Rattle.smp_core.specs.Shows.{Shows}
 use Rattle.smp_core.specs.Words.{nexts_in}
 use Rattle.smp_core.proofs.Alls.{every_unloaded, every_last}

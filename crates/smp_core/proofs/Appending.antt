@@ -1,5 +1,5 @@
 -- The compare-exchange that wins: the held call joins the queue.
-use Rattle.std.proofs.Common.{◌≡◌, ◌≢◌, ℕ, suc, ◌+◌, ◌*◌, ◌/◌, ◌%◌, ◌^◌, ◌<◌, Bool, true, false, ◌==◌, ◌&&◌, cond, Option, Some, None, List, [], ◌∷◌, ◌++◌, length, sym, subst, refl, ap, ◌∙◌, ◌⊎◌, inl, inr, arith, append_assoc, length-append}
+use Rattle.std.proofs.Common.{◌≡◌, ◌≢◌, ℕ, ◌+◌, ◌%◌, ◌^◌, Bool, true, false, cond, Option, Some, None, List, [], ◌∷◌, ◌++◌, length, sym, subst, refl, ap, ◌∙◌, ◌⊎◌, inl, inr, arith, length-append}
 use Rattle.std.proofs.lemmas.List.{append-nil}
 use Rattle.std.proofs.lemmas.Bool.{eq-eqb, ne_eqb, cases_eq}
 use Rattle.std.specs.List.{AllByRecursion}
@@ -7,21 +7,21 @@ use Rattle.smp_core.specs.Put.{put, put_word}
 use Rattle.smp_core.specs.Size.{owner}
 use Rattle.smp_core.specs.Calls.{CallState, Holding, Sending, appended, is_nil}
 use Rattle.smp_core.specs.Stages.{ControlValue}
-use Rattle.smp_core.specs.Places.{Placed, IsPlaced, IsCall, IsThere, Holds, HasRecord, IsAbsent, IsApart, locked_by}
+use Rattle.smp_core.specs.Places.{Placed, IsPlaced, IsCall, IsThere, Holds, HasRecord, IsApart, locked_by}
 use Rattle.smp_core.specs.Words.{Written, IsWritten, FlagsShow, Chained, Leads, Linked, LinkIs, last_batch, Noticed, IsNoticed, is_pending, is_accepted, is_owed, IsEmpty, flags_in, funcs_in, infos_in, nexts_in, heads_in, intrs_in, queued_in, ran_in}
 use Rattle.smp_core.specs.Histories.{Recorded, Tallied, Marked, mark, sent_to, marked_from, history_of, one_held}
 use Rattle.smp_core.specs.Stands.{Stands, share_of, held_of, HandIs}
 use Rattle.smp_core.specs.Shows.{Shows}
 use Rattle.smp_core.proofs.Puts.{at_test, put_all}
 use Rattle.smp_core.proofs.Alls.{every, every_push}
-use Rattle.smp_core.proofs.Frames.{Touches, leaves_others, Stands-kept, Leads-kept}
-use Rattle.smp_core.proofs.Lists.{one_if, sent_to-push, marked_from-push, history-push, one_if-same, one_if-other}
-use Rattle.smp_core.proofs.Own.{put_other, put_same, holder_owns, KeepsLinks-kept}
+use Rattle.smp_core.proofs.Frames.{Touches, leaves_others, Stands-kept}
+use Rattle.smp_core.proofs.Lists.{sent_to-push, marked_from-push, history-push, one_if-same, one_if-other}
+use Rattle.smp_core.proofs.Own.{put_other, put_same, KeepsLinks-kept}
 use Rattle.smp_core.specs.declared.call.Call.{Call}
 use Rattle.smp_core.specs.declared.place.RecPlace.{RecPlace}
 use Rattle.smp_core.specs.declared.place.RecPlace.TheVariants as place
 use Rattle.smp_core.specs.declared.word.Word.{Word}
-use Rattle.smp_core.specs.declared.word.Word.TheVariants.{Head, Intr, Hand, Queued, Ran, Flags, Func, Info, Next}
+use Rattle.smp_core.specs.declared.word.Word.TheVariants.{Head, Hand, Queued, Flags, Next}
 
 -- one more, above what the head was
 pub Leads-push : (nexts : ℕ → ℕ) (link : ℕ) (calls : List Call) (below : ℕ) (new : Call) → nexts new.id ≡ link → Leads nexts link calls below → Leads nexts (new.id + 1) (calls ++ new ∷ []) below

@@ -15,12 +15,12 @@ use Rattle.smp_core.specs.declared.place.RecPlace.TheVariants as place
 pub every_order : (P : Call → Type 0) (calls : List Call) → AllByRecursion P calls → AllByRecursion P (order calls)
 every_order P calls h = every_append P (sync_calls calls) (async_calls calls) (every_sync P calls h) (every_async P calls h)
 
-has_left : (id : ℕ) (xs ys : List Call) → HasRecord id xs → HasRecord id (xs ++ ys)
+pub has_left : (id : ℕ) (xs ys : List Call) → HasRecord id xs → HasRecord id (xs ++ ys)
 has_left id [] ys h = absurd h
 has_left id (x ∷ xs) ys (inl e) = inl e
 has_left id (x ∷ xs) ys (inr h) = inr (has_left id xs ys h)
 
-has_right : (id : ℕ) (xs ys : List Call) → HasRecord id ys → HasRecord id (xs ++ ys)
+pub has_right : (id : ℕ) (xs ys : List Call) → HasRecord id ys → HasRecord id (xs ++ ys)
 has_right id [] ys h = h
 has_right id (x ∷ xs) ys h = inr (has_right id xs ys h)
 

@@ -1,5 +1,5 @@
 -- A step, over a core's list of words and list of controls.
-use Rattle.std.proofs.Common.{◌≡◌, ◌≢◌, ℕ, ◌+◌, ◌<◌, ◌≤◌, Bool, true, false, ◌==◌, nat_lt, cond, Option, Some, None, List, length, get_or, sym, subst, refl, ap, ◌∙◌, arith}
+use Rattle.std.proofs.Common.{◌≡◌, ℕ, ◌<◌, ◌≤◌, Bool, true, false, ◌==◌, nat_lt, cond, Option, Some, None, List, length, refl, ap, arith}
 use Rattle.std.proofs.lemmas.List.{get_or-set_same, get_or-set_other, get_or_past, length-set}
 use Rattle.std.proofs.lemmas.Bool.{ltb-true, ltb-false}
 use Rattle.std.specs.Prelude.{slice_set}
@@ -8,9 +8,8 @@ use Rattle.smp_core.specs.Put.{put, put_word}
 use Rattle.smp_core.specs.Layout.{index_of, number_in, put_in, put_at}
 use Rattle.smp_core.specs.Access.{word_of, at_after, words_after, seen_of}
 use Rattle.smp_core.specs.Calls.{CallState, tells}
-use Rattle.smp_core.specs.Stages.{ControlValue, access_of, outcome_of, control_after, FitsStage}
+use Rattle.smp_core.specs.Stages.{ControlValue, access_of, outcome_of, control_after}
 use Rattle.smp_core.specs.Value.{ValuesShow, control_of, outside}
-use Rattle.smp_core.specs.Shows.{Shows}
 use Rattle.smp_core.proofs.Accesses.{access_in_table}
 use Rattle.smp_core.proofs.Every.{step_shown}
 use Rattle.smp_core.proofs.Links.{HasIndex, number_in-put_in}

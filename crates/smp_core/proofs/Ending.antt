@@ -23,7 +23,7 @@ use Rattle.smp_core.specs.declared.call.Call.{Call}
 use Rattle.smp_core.specs.declared.place.RecPlace.{RecPlace}
 use Rattle.smp_core.specs.declared.place.RecPlace.TheVariants as place
 use Rattle.smp_core.specs.declared.word.Word.{Word}
-use Rattle.smp_core.specs.declared.word.Word.TheVariants.{Hand, Queued, Ran, Flags}
+use Rattle.smp_core.specs.declared.word.Word.TheVariants.{Hand, Ran, Flags}
 use Rattle.smp_core.specs.declared.handle.HandleStage.TheVariants as handle
 use Rattle.smp_core.specs.declared.stage.Stage.TheVariants.{Handle}
 

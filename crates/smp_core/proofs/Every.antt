@@ -1,5 +1,5 @@
 -- Each step of a CPU keeps what the words show of the calls, and what was seen of it tells the calls after it.
-use Rattle.std.proofs.Common.{◌≡◌, ℕ, Option, Some}
+use Rattle.std.proofs.Common.{◌≡◌, ℕ, Some}
 use Rattle.smp_core.specs.Calls.{CallState}
 use Rattle.smp_core.specs.Stages.{ControlValue}
 use Rattle.smp_core.specs.Shows.{Shows}

@@ -1,19 +1,18 @@
 -- What a step leaves to another CPU: a CPU stands where it stood.
-use Rattle.std.proofs.Common.{◌≡◌, ◌≢◌, ℕ, ◌+◌, ◌<◌, Bool, true, false, Option, Some, None, List, [], ◌∷◌, ◌++◌, sym, subst, refl, ap, ◌∙◌}
+use Rattle.std.proofs.Common.{◌≡◌, ◌≢◌, ℕ, ◌+◌, Option, Some, None, List, [], ◌∷◌, ◌++◌, sym, subst, refl, ◌∙◌}
 use Rattle.std.specs.List.{AllByRecursion}
 use Rattle.smp_core.specs.Size.{owner}
-use Rattle.smp_core.specs.Calls.{Running}
 use Rattle.smp_core.specs.Drains.{DrainValue}
 use Rattle.smp_core.specs.Stages.{ControlValue}
-use Rattle.smp_core.specs.Places.{IsPlaced, IsCall}
+use Rattle.smp_core.specs.Places.{IsPlaced}
 use Rattle.smp_core.specs.Words.{Leads, IsWritten, flags_in, funcs_in, infos_in, nexts_in}
-use Rattle.smp_core.specs.Stands.{Share, Stands, StandsAt, HandleStands, Loads, PostStands, PostKnows, PostGoes, posted}
-use Rattle.smp_core.proofs.Alls.{every, every_left, every_last, every_unloaded}
+use Rattle.smp_core.specs.Stands.{Share, Stands, StandsAt, HandleStands, Loads, PostKnows, posted}
+use Rattle.smp_core.proofs.Alls.{every_left, every_last, every_unloaded}
 use Rattle.smp_core.specs.declared.call.Call.{Call}
 use Rattle.smp_core.specs.declared.place.RecPlace.{RecPlace}
 use Rattle.smp_core.specs.declared.place.RecPlace.TheVariants as place
 use Rattle.smp_core.specs.declared.word.Word.{Word}
-use Rattle.smp_core.specs.declared.word.Word.TheVariants.{Head, Intr, Hand, Queued, Ran, Flags, Func, Info, Next}
+use Rattle.smp_core.specs.declared.word.Word.TheVariants.{Flags, Func, Info, Next}
 use Rattle.smp_core.specs.declared.post.Posting.{Posting}
 use Rattle.smp_core.specs.declared.post.PostStage.{PostStage}
 use Rattle.smp_core.specs.declared.post.PostStage.TheVariants as post

@@ -7,6 +7,7 @@ pub mod Chains
 pub mod Cores
 pub mod Ending
 pub mod Entering
+pub mod Counts
 pub mod Every
 pub mod Fits
 pub mod Frames

@@ -1,19 +1,18 @@
 -- One step of a CPU that knows v: what holds after it, and what each CPU knows then.
-use Rattle.std.proofs.Common.{◌≡◌, ◌≢◌, ℕ, ◌+◌, ◌-◌, ◌%◌, ◌<◌, nat_lt, Bool, true, false, ◌==◌, cond, Option, Some, None, List, [], ◌∷◌, sym, subst, refl, ap, ◌∙◌}
+use Rattle.std.proofs.Common.{◌≡◌, ◌≢◌, ℕ, ◌+◌, ◌-◌, ◌%◌, nat_lt, Bool, true, false, ◌==◌, cond, Option, Some, None, List, [], ◌∷◌, sym, subst, refl, ap, ◌∙◌}
 use Rattle.smp_core.specs.Put.{put}
-use Rattle.smp_core.specs.Flags.{flags_of}
-use Rattle.smp_core.specs.Calls.{CallState, Holding, tells}
+use Rattle.smp_core.specs.Calls.{CallState, Holding}
 use Rattle.smp_core.specs.Posts.{ends, goes_to}
-use Rattle.smp_core.specs.Drains.{DrainValue, run_next, load_or_run, with_loaded, handle_goes, handle_outcome, drain_after}
+use Rattle.smp_core.specs.Drains.{DrainValue, run_next, with_loaded, handle_goes}
 use Rattle.smp_core.specs.Stages.{ControlValue, access_of, outcome_of, drain_of, control_after}
 use Rattle.smp_core.specs.Access.{word_of, at_after, seen_of}
 use Rattle.smp_core.specs.Stands.{held_of}
 use Rattle.smp_core.specs.Shows.{Shows}
-use Rattle.smp_core.specs.Known.{told_post, told_handle, told_stage, knowing, part_of, part_told, known_of, known_taking, known_tells, known_told, stage_after, drain_then, Aims, known_access, GoesOn}
+use Rattle.smp_core.specs.Known.{told_post, told_handle, told_stage, knowing, part_of, part_told, known_of, known_tells, stage_after, drain_then, Aims, known_access, GoesOn}
 use Rattle.smp_core.proofs.Own.{put_same, put_other}
 use Rattle.smp_core.proofs.Every.{step_shown}
-use Rattle.smp_core.proofs.Restages.{held_told, restages, access_known, aims_held, aims_told}
-use Rattle.smp_core.proofs.Parts.{Told, PartTold, part_mine, part_else}
+use Rattle.smp_core.proofs.Restages.{held_told, restages, access_known, aims_told}
+use Rattle.smp_core.proofs.Parts.{Told, part_mine, part_else}
 use Rattle.smp_core.specs.declared.call.Call.{Call}
 use Rattle.smp_core.specs.declared.call.Class.{Class}
 use Rattle.smp_core.specs.declared.call.Class.TheVariants.{Sync, Async}
@@ -21,15 +20,12 @@ use Rattle.smp_core.specs.declared.known.Known.{Known}
 use Rattle.smp_core.specs.declared.word.Word.{Word}
 use Rattle.smp_core.specs.declared.word.Word.TheVariants.{Head, Intr, Flags, Next}
 use Rattle.smp_core.specs.declared.access.Access.{Access}
-use Rattle.smp_core.specs.declared.access.Access.TheVariants.{Load, Store, Swap, Exchange}
 use Rattle.smp_core.specs.declared.seen.Act.TheVariants as act
 use Rattle.smp_core.specs.declared.seen.Note.{Note}
 use Rattle.smp_core.specs.declared.seen.Note.TheVariants as note
 use Rattle.smp_core.specs.declared.seen.Seen.{Seen}
 use Rattle.smp_core.specs.declared.post.Posting.{Posting}
-use Rattle.smp_core.specs.declared.post.PostStage.{PostStage}
 use Rattle.smp_core.specs.declared.post.PostStage.TheVariants as post
-use Rattle.smp_core.specs.declared.handle.HandleStage.{HandleStage}
 use Rattle.smp_core.specs.declared.handle.HandleStage.TheVariants as handle
 use Rattle.smp_core.specs.declared.stage.Outcome.{Outcome}
 use Rattle.smp_core.specs.declared.stage.Stage.{Stage}

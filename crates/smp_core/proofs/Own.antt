@@ -1,14 +1,14 @@
 -- A step of a CPU on a record of its own that is in no queue and no batch.
-use Rattle.std.proofs.Common.{◌≡◌, ◌≢◌, ℕ, ◌+◌, ◌<◌, Bool, true, false, ◌==◌, cond, Option, Some, None, List, [], ◌∷◌, ◌++◌, sym, subst, refl, ap, ◌∙◌, ◌⊎◌, inl, inr}
+use Rattle.std.proofs.Common.{◌≡◌, ◌≢◌, ℕ, ◌+◌, cond, Option, Some, None, List, [], ◌∷◌, sym, subst, refl, ap, ◌∙◌, ◌⊎◌, inl, inr}
 use Rattle.std.proofs.lemmas.Bool.{cases_eq}
 use Rattle.std.specs.List.{AllByRecursion}
-use Rattle.smp_core.specs.Put.{put, put_word}
+use Rattle.smp_core.specs.Put.{put}
 use Rattle.smp_core.specs.Size.{owner}
 use Rattle.smp_core.specs.Calls.{CallState, Holding}
 use Rattle.smp_core.specs.Stages.{ControlValue}
 use Rattle.smp_core.specs.Places.{Placed, IsPlaced, IsThere, Holds, locked_by}
-use Rattle.smp_core.specs.Words.{Written, IsWritten, FlagsShow, Chained, Linked, LinkIs, KeepsLinks, last_batch, Noticed, flags_in, funcs_in, infos_in, nexts_in, heads_in, intrs_in, hands_in, queued_in, ran_in}
-use Rattle.smp_core.specs.Histories.{Tallied, sent_to, one_held}
+use Rattle.smp_core.specs.Words.{Written, IsWritten, FlagsShow, Chained, Linked, LinkIs, KeepsLinks, last_batch, Noticed, flags_in, funcs_in, infos_in, nexts_in, heads_in, intrs_in, queued_in, ran_in}
+use Rattle.smp_core.specs.Histories.{Tallied}
 use Rattle.smp_core.specs.Stands.{Stands, StandsAt, share_of, held_of, held_of_post, HandIs}
 use Rattle.smp_core.specs.Shows.{Shows}
 use Rattle.smp_core.proofs.Puts.{at_test, put_all}
@@ -18,7 +18,7 @@ use Rattle.smp_core.specs.declared.call.Call.{Call}
 use Rattle.smp_core.specs.declared.place.RecPlace.{RecPlace}
 use Rattle.smp_core.specs.declared.place.RecPlace.TheVariants as place
 use Rattle.smp_core.specs.declared.word.Word.{Word}
-use Rattle.smp_core.specs.declared.word.Word.TheVariants.{Head, Intr, Hand, Queued, Ran, Flags, Func, Info, Next}
+use Rattle.smp_core.specs.declared.word.Word.TheVariants.{Head, Intr, Hand, Flags}
 use Rattle.smp_core.specs.declared.post.Posting.{Posting}
 use Rattle.smp_core.specs.declared.post.PostStage.{PostStage}
 use Rattle.smp_core.specs.declared.post.PostStage.TheVariants as post

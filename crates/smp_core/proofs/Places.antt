@@ -1,24 +1,25 @@
 -- Where a record is in a queue, a batch or a running call, there it is; and its lists tell so.
-use Rattle.std.proofs.Common.{◌≡◌, ◌≢◌, ℕ, suc, ◌+◌, ◌<◌, ◌≤◌, ◌==◌, ◌||◌, Bool, true, false, Option, Some, None, List, [], ◌∷◌, ◌++◌, length, ◌⊎◌, inl, inr, sym, subst, refl, ap, ◌∙◌, arith, length-append}
+use Rattle.std.proofs.Common.{◌≡◌, ◌≢◌, ℕ, ◌+◌, ◌<◌, ◌≤◌, ◌==◌, ◌||◌, Bool, true, false, Option, Some, None, List, [], ◌∷◌, ◌++◌, length, ◌⊎◌, inl, inr, sym, subst, refl, ap, ◌∙◌, arith, length-append}
 use Rattle.std.proofs.lemmas.Bool.{eqb-true, eq-eqb, or_cases, cases_lt}
 use Rattle.std.proofs.lemmas.List.{get_or_past}
-use Rattle.std.proofs.lemmas.List.Folds.{list_any-append}
 use Rattle.std.specs.List.{AllByRecursion, list_any}
 use Rattle.smp_core.specs.Size.{cpus, records}
 use Rattle.smp_core.specs.Batches.{has_record, unloaded_link, beginning_of, running_of, loaded}
-use Rattle.smp_core.specs.Calls.{CallState, Running, Nothing, SyncCall, CountedCall, AsyncCall}
+use Rattle.smp_core.specs.Calls.{CallState}
 use Rattle.smp_core.specs.Drains.{DrainValue, no_drain}
 use Rattle.smp_core.specs.Layout.{number_in}
 use Rattle.smp_core.specs.Order.{if_sync, if_async, sync_calls, async_calls}
-use Rattle.smp_core.specs.Places.{HasRecord, IsPlaced, IsThere, Placed, locked_by}
+use Rattle.smp_core.specs.Places.{HasRecord, IsPlaced, IsThere, locked_by}
 use Rattle.smp_core.specs.Queues.{HasChain, chain_in, ids}
 use Rattle.smp_core.specs.Shows.{Shows}
 use Rattle.smp_core.specs.Stages.{ControlValue}
-use Rattle.smp_core.specs.Stands.{Share, share_of, Rests, Stands, StandsAt, HandleStands, Loads, Runs}
+use Rattle.smp_core.specs.Stands.{Share, share_of, Rests, StandsAt, HandleStands, Loads}
 use Rattle.smp_core.specs.Words.{Leads, nexts_in, FlagsShow}
 use Rattle.smp_core.specs.Value.{control_of, outside}
 use Rattle.smp_core.proofs.Alls.{every, every_append, every_left, every_right, every_unloaded}
-use Rattle.smp_core.proofs.Chains.{chain_read, no_chain}
+use Rattle.smp_core.proofs.Appending.{Leads-push}
+use Rattle.smp_core.proofs.Batches.{no_chain, has_left, has_right}
+use Rattle.smp_core.proofs.Chains.{chain_read}
 use Rattle.smp_core.proofs.Links.{no_head}
 use Rattle.smp_core.proofs.Short.{length-apart}
 use Rattle.smp_core.specs.declared.call.Call.{Call}
@@ -28,23 +29,12 @@ use Rattle.smp_core.specs.declared.place.RecPlace.{RecPlace}
 use Rattle.smp_core.specs.declared.place.RecPlace.TheVariants as place
 use Rattle.smp_core.specs.declared.word.Word.{Word}
 use Rattle.smp_core.specs.declared.word.Word.TheVariants.{Head, Flags}
-use Rattle.smp_core.specs.declared.post.Posting.{Posting}
-use Rattle.smp_core.specs.declared.post.PostStage.{PostStage}
 use Rattle.smp_core.specs.declared.handle.HandleStage.{HandleStage}
 use Rattle.smp_core.specs.declared.handle.HandleStage.TheVariants as handle
 use Rattle.smp_core.specs.declared.stage.Stage.{Stage}
 use Rattle.smp_core.specs.declared.stage.Stage.TheVariants.{Send, Done, Post, Handle}
 
 -- lists that have a call by a record
-
-has-left : (id : ℕ) (xs ys : List Call) → HasRecord id xs → HasRecord id (xs ++ ys)
-has-left id [] ys h = absurd h
-has-left id (x ∷ xs) ys (inl e) = inl e
-has-left id (x ∷ xs) ys (inr h) = inr (has-left id xs ys h)
-
-has-right : (id : ℕ) (xs ys : List Call) → HasRecord id ys → HasRecord id (xs ++ ys)
-has-right id [] ys h = h
-has-right id (x ∷ xs) ys h = inr (has-right id xs ys h)
 
 has-either : (id : ℕ) (xs ys : List Call) → HasRecord id (xs ++ ys) → HasRecord id xs ⊎ HasRecord id ys
 has-either id [] ys h = inr h
@@ -103,11 +93,6 @@ place_of places p id [] all h = absurd h
 place_of places p id (call ∷ rest) all (inl e) = rw e at all.0.placed
 place_of places p id (call ∷ rest) all (inr h) = place_of places p id rest all.1 h
 
--- one more, above what the link was
-Leads-last : (nexts : ℕ → ℕ) (link : ℕ) (calls : List Call) (below : ℕ) (new : Call) → nexts new.id ≡ link → Leads nexts link calls below → Leads nexts (new.id + 1) (calls ++ new ∷ []) below
-Leads-last nexts link [] below new e l = (e ∙ l, refl)
-Leads-last nexts link (call ∷ rest) below new e l = (l.0, Leads-last nexts link rest (call.id + 1) new e l.1)
-
 -- a batch is what is not loaded yet and what is loaded
 pub record Splits (nexts : ℕ → ℕ) (batch : List Call) (c : ControlValue) : Type 0 where
   pub unloaded : List Call
@@ -125,7 +110,7 @@ loads_split nexts s d stage call l b h = record {
   unloaded = h.older ++ call ∷ [];
   sync = d.sync;
   async = d.async;
-  leads = rw l (Leads-last nexts (nexts call.id) h.older 0 call refl h.leads);
+  leads = rw l (Leads-push nexts (nexts call.id) h.older 0 call refl h.leads);
   whole = h.in_order;
   is_loaded = rw b refl;
 }
@@ -216,8 +201,8 @@ module _ (nexts : ℕ → ℕ) (batch : List Call) (c : ControlValue) (p : Split
   in_parts id h =
       let k : HasRecord id ((sync_calls p.unloaded ++ p.sync) ++ (async_calls p.unloaded ++ p.async)) = subst (λ (xs : List Call). HasRecord id xs) p.whole h in
       elim (has-either id (sync_calls p.unloaded ++ p.sync) (async_calls p.unloaded ++ p.async) k) [
-        | inl l ↦ elim (has-either id (sync_calls p.unloaded) p.sync l) [ inl u ↦ inr (has-sync id p.unloaded u) | inr q ↦ inl (rw p.is_loaded (has-left id p.sync p.async q)) ]
-        | inr r ↦ elim (has-either id (async_calls p.unloaded) p.async r) [ inl u ↦ inr (has-async id p.unloaded u) | inr q ↦ inl (rw p.is_loaded (has-right id p.sync p.async q)) ]
+        | inl l ↦ elim (has-either id (sync_calls p.unloaded) p.sync l) [ inl u ↦ inr (has-sync id p.unloaded u) | inr q ↦ inl (rw p.is_loaded (has_left id p.sync p.async q)) ]
+        | inr r ↦ elim (has-either id (async_calls p.unloaded) p.async r) [ inl u ↦ inr (has-async id p.unloaded u) | inr q ↦ inl (rw p.is_loaded (has_right id p.sync p.async q)) ]
       ]
 
 module _ (a : CallState) (at : Word → ℕ) (control : ℕ → ControlValue) (s : Shows a at control) (cpu : ℕ) where
@@ -313,7 +298,7 @@ module _ (a : CallState) (at : Word → ℕ) (control : ℕ → ControlValue) (s
       h.0
 
   queue_past : IsBare at control → (cpu : ℕ) → cpus ≤ cpu → a.queue cpu ≡ []
-  queue_past bare cpu l = no_chain (nexts_in at) (a.queue cpu) (rw (bare.heads cpu l) at (s.chained.chain cpu))
+  queue_past bare cpu l = no_chain (nexts_in at) 0 (a.queue cpu) refl (rw (bare.heads cpu l) at (s.chained.chain cpu))
 
   not_past : (xs : List Call) → xs ≡ [] → HasRecord id xs → ⊥
   not_past xs e h = subst (λ (ys : List Call). HasRecord id ys) e h

@@ -1,31 +1,29 @@
 -- Each step of a post, of a send and of a question for a record keeps what the words show of the calls.
-use Rattle.std.proofs.Common.{◌≡◌, ◌≢◌, ℕ, suc, ◌+◌, ◌-◌, ◌*◌, ◌/◌, ◌%◌, ◌^◌, ◌<◌, Bool, true, false, ◌==◌, ◌&&◌, nat_lt, cond, Option, Some, None, List, [], ◌∷◌, ◌++◌, length, sym, subst, refl, ap, ◌∙◌, ◌⊎◌, inl, inr, arith}
-use Rattle.std.proofs.lemmas.Bool.{cases_eq, eq-eqb, ne_eqb, eqb-true, eqb-false}
+use Rattle.std.proofs.Common.{◌≡◌, ◌≢◌, ℕ, ◌+◌, ◌-◌, ◌%◌, ◌^◌, Bool, true, false, ◌==◌, ◌&&◌, nat_lt, cond, Option, Some, None, [], length, sym, subst, refl, ap, ◌∙◌, inl, inr, arith}
+use Rattle.std.proofs.lemmas.Bool.{cases_eq, eq-eqb, ne_eqb, eqb-true}
 use Rattle.smp_core.specs.Put.{put, put_word}
-use Rattle.smp_core.specs.Size.{cpus, records, owner}
 use Rattle.smp_core.specs.Flags.{flags_of, class_of}
-use Rattle.smp_core.specs.Calls.{CallState, Holding, locked, given_up, releases, links, confirms, appended, holding_with, with_func, with_info, with_count, holds_with, flags_told, head_told}
-use Rattle.smp_core.specs.Posts.{ends, goes_to, post_outcome}
+use Rattle.smp_core.specs.Calls.{CallState, Holding, locked, given_up, releases, links, confirms, appended, holding_with, with_func, with_info, with_count, flags_told, head_told}
+use Rattle.smp_core.specs.Posts.{ends, goes_to}
 use Rattle.smp_core.specs.Drains.{DrainValue}
 use Rattle.smp_core.specs.Stages.{ControlValue}
-use Rattle.smp_core.specs.Places.{Holds, IsCall}
+use Rattle.smp_core.specs.Places.{Holds}
 use Rattle.smp_core.specs.Words.{IsWritten, FlagsShow, LinkIs, flags_in, funcs_in, infos_in, nexts_in, queued_in, ran_in}
 use Rattle.smp_core.specs.Histories.{Tallied, sent_to, one_held}
 use Rattle.smp_core.specs.Stands.{Rests, Stands, StandsAt, PostStands, PostKnows, PostGoes, posted, share_of, held_of, held_of_post, holding, HandIs}
 use Rattle.smp_core.specs.Shows.{Shows}
-use Rattle.smp_core.proofs.Puts.{at_test, put_all}
+use Rattle.smp_core.proofs.Puts.{at_test}
 use Rattle.smp_core.proofs.Frames.{Touches}
-use Rattle.smp_core.proofs.Own.{put_other, put_same, post_holds, own_step, OwnStep, KeepsCpus, IsHome}
+use Rattle.smp_core.proofs.Own.{put_other, put_same, post_holds, own_step, KeepsCpus}
 use Rattle.smp_core.proofs.Sending.{stands_on, unlocked_free, confirms_kept, confirm_if, send_kept}
 use Rattle.smp_core.proofs.Appending.{append_kept}
 use Rattle.smp_core.proofs.StepShows.{StepShows}
-use Rattle.smp_core.specs.declared.call.Call.{Call}
 use Rattle.smp_core.specs.declared.call.Class.{Class}
 use Rattle.smp_core.specs.declared.call.Class.TheVariants.{Sync, Async}
 use Rattle.smp_core.specs.declared.place.RecPlace.{RecPlace}
 use Rattle.smp_core.specs.declared.place.RecPlace.TheVariants as place
 use Rattle.smp_core.specs.declared.word.Word.{Word}
-use Rattle.smp_core.specs.declared.word.Word.TheVariants.{Head, Intr, Hand, Queued, Ran, Flags, Func, Info, Next}
+use Rattle.smp_core.specs.declared.word.Word.TheVariants.{Head, Hand, Queued, Flags, Func, Info, Next}
 use Rattle.smp_core.specs.declared.seen.Act.TheVariants as act
 use Rattle.smp_core.specs.declared.seen.Note.{Note}
 use Rattle.smp_core.specs.declared.seen.Note.TheVariants as note
@@ -33,7 +31,7 @@ use Rattle.smp_core.specs.declared.post.Posting.{Posting}
 use Rattle.smp_core.specs.declared.post.PostStage.{PostStage}
 use Rattle.smp_core.specs.declared.post.PostStage.TheVariants as post
 use Rattle.smp_core.specs.declared.stage.Stage.{Stage}
-use Rattle.smp_core.specs.declared.stage.Stage.TheVariants.{Send, Done, Post, Handle}
+use Rattle.smp_core.specs.declared.stage.Stage.TheVariants.{Send, Done, Post}
 
 class_of-flags_of : (c : Class) → class_of (flags_of c) ≡ c
 class_of-flags_of Sync = refl

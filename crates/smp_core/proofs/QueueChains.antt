@@ -1,5 +1,5 @@
 -- The chain of a queue, and what is read of it.
-use Rattle.std.proofs.Common.{◌≡◌, ℕ, ◌<◌, List}
+use Rattle.std.proofs.Common.{◌≡◌, ℕ, ◌<◌}
 use Rattle.std.specs.List.{AllByRecursion}
 use Rattle.smp_core.specs.Size.{records}
 use Rattle.smp_core.specs.Calls.{CallState}
@@ -11,8 +11,6 @@ use Rattle.smp_core.specs.Words.{nexts_in}
 use Rattle.smp_core.proofs.Alls.{every}
 use Rattle.smp_core.proofs.Chains.{chain_read}
 use Rattle.smp_core.proofs.Short.{length-apart}
-use Rattle.smp_core.specs.declared.call.Call.{Call}
-use Rattle.smp_core.specs.declared.place.RecPlace.{RecPlace}
 use Rattle.smp_core.specs.declared.place.RecPlace.TheVariants as place
 use Rattle.smp_core.specs.declared.word.Word.{Word}
 use Rattle.smp_core.specs.declared.word.Word.TheVariants.{Head}

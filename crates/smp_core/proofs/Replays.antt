@@ -1,6 +1,6 @@
 -- One more event of a replay.
-use Rattle.std.proofs.Common.{◌≡◌, ℕ, ◌+◌, ◌<◌, List, [], ◌∷◌, ◌++◌, Option, Some, None, Result, Ok, Err, length, get_or, drop, sym, ◌∙◌, ap, subst, refl, append_assoc}
-use Rattle.std.proofs.lemmas.List.{append-nil, drop_more}
+use Rattle.std.proofs.Common.{◌≡◌, ℕ, ◌+◌, ◌<◌, List, [], ◌∷◌, ◌++◌, Option, Some, None, Result, Ok, length, get_or, drop, sym, ◌∙◌, ap, refl, append_assoc}
+use Rattle.std.proofs.lemmas.List.{drop_more}
 use Rattle.smp_core.specs.Calls.{CallState, tells, tells_all, tells_if}
 use Rattle.smp_core.specs.Value.{CoreValue, Shown}
 use Rattle.smp_core.specs.Replay.{Replay, replay_from, replay_on, after_seen, seen_list, turn_of}

@@ -1,24 +1,22 @@
 -- A CPU may stand at any stage that its steps so far leave open.
-use Rattle.std.proofs.Common.{◌≡◌, ◌≢◌, ℕ, zero, suc, ◌+◌, ◌%◌, ◌^◌, ◌<◌, ◌≤◌, Bool, true, false, ◌==◌, cond, Option, Some, None, List, [], ◌∷◌, ◌++◌, length, get_or, sym, subst, refl, ap, ◌∙◌, ◌⊎◌, inl, inr, arith}
-use Rattle.smp_core.specs.Put.{put, put_word}
-use Rattle.smp_core.specs.Size.{cpus, records, owner}
-use Rattle.smp_core.specs.Calls.{CallState, Holding}
+use Rattle.std.proofs.Common.{◌≡◌, ℕ, ◌%◌, ◌<◌, true, false, ◌==◌, Option, Some, None, [], get_or, sym, subst, refl, ap, ◌∙◌, ◌⊎◌, inl, inr}
+use Rattle.smp_core.specs.Put.{put}
+use Rattle.smp_core.specs.Size.{records, owner}
+use Rattle.smp_core.specs.Calls.{CallState}
 use Rattle.smp_core.specs.Posts.{post_access}
 use Rattle.smp_core.specs.Drains.{DrainValue, handle_access, source_at}
 use Rattle.smp_core.specs.Stages.{ControlValue, access_of}
 use Rattle.smp_core.specs.Places.{Holds}
-use Rattle.smp_core.specs.Words.{IsWritten}
-use Rattle.smp_core.specs.Stands.{Rests, StandsAt, PostStands, PostKnows, share_of, held_of, held_of_post, HandIs}
+use Rattle.smp_core.specs.Stands.{Rests, StandsAt, PostKnows, share_of, held_of, held_of_post, HandIs}
 use Rattle.smp_core.specs.Shows.{Shows}
-use Rattle.smp_core.specs.Known.{row, told_post, told_handle, told_stage, known_of, Aims, PostAims, Moment, known_access, queued_tally, ran_tally}
-use Rattle.smp_core.proofs.Own.{put_same}
+use Rattle.smp_core.specs.Known.{told_post, told_handle, told_stage, known_of, Aims, PostAims, Moment, known_access, queued_tally}
 use Rattle.smp_core.proofs.Rows.{row-at}
 use Rattle.smp_core.proofs.Sending.{stands_on}
 use Rattle.smp_core.specs.declared.known.Known.{Known}
 use Rattle.smp_core.specs.declared.place.RecPlace.{RecPlace}
 use Rattle.smp_core.specs.declared.place.RecPlace.TheVariants as place
 use Rattle.smp_core.specs.declared.word.Word.{Word}
-use Rattle.smp_core.specs.declared.word.Word.TheVariants.{Hand, Queued, Ran, Flags}
+use Rattle.smp_core.specs.declared.word.Word.TheVariants.{Hand, Flags}
 use Rattle.smp_core.specs.declared.post.Posting.{Posting}
 use Rattle.smp_core.specs.declared.post.PostStage.{PostStage}
 use Rattle.smp_core.specs.declared.post.PostStage.TheVariants as post

@@ -1,5 +1,5 @@
 -- Rows: the first values of a function, as a list.
-use Rattle.std.proofs.Common.{◌≡◌, ◌≢◌, ℕ, zero, suc, ◌+◌, ◌<◌, Bool, true, false, ◌==◌, cond, List, [], ◌∷◌, length, get_or, set, sym, subst, refl, ap, ◌∙◌, arith}
+use Rattle.std.proofs.Common.{◌≡◌, ℕ, zero, suc, ◌<◌, cond, ◌∷◌, length, get_or, set, refl, ap, ◌∙◌, arith}
 use Rattle.smp_core.specs.Put.{put}
 use Rattle.smp_core.specs.Known.{row}
 use Rattle.smp_core.proofs.Puts.{at_test}

@@ -1,21 +1,19 @@
 -- Steps that touch no record: loads of the own flags, and the send of an interrupt.
-use Rattle.std.proofs.Common.{◌≡◌, ◌≢◌, ℕ, ◌%◌, ◌<◌, Bool, true, false, ◌==◌, cond, Option, Some, None, List, [], ◌∷◌, sym, subst, refl, ap, ◌∙◌, ◌⊎◌, inl, inr}
+use Rattle.std.proofs.Common.{◌≡◌, ◌≢◌, ℕ, ◌%◌, Bool, true, false, ◌==◌, cond, refl, ap, ◌∙◌, ◌⊎◌, inl, inr}
 use Rattle.std.proofs.lemmas.Bool.{cases_eq, eqb-false}
 use Rattle.smp_core.specs.Put.{put, put_word}
-use Rattle.smp_core.specs.Size.{owner}
-use Rattle.smp_core.specs.Calls.{CallState, Holding, confirms, sends}
+use Rattle.smp_core.specs.Calls.{CallState, confirms, sends}
 use Rattle.smp_core.specs.Stages.{ControlValue}
-use Rattle.smp_core.specs.Places.{Placed, Holds}
-use Rattle.smp_core.specs.Words.{FlagsShow, Noticed, IsNoticed, is_pending, is_accepted, is_owed, IsEmpty, bit, intrs_in}
+use Rattle.smp_core.specs.Places.{Holds}
+use Rattle.smp_core.specs.Words.{FlagsShow, IsNoticed, is_pending, is_accepted, is_owed, bit}
 use Rattle.smp_core.specs.Stands.{Stands, share_of, held_of, HandIs}
 use Rattle.smp_core.specs.Shows.{Shows}
 use Rattle.smp_core.proofs.Puts.{at_test, put_all}
 use Rattle.smp_core.proofs.Frames.{leaves_all, Stands-kept}
-use Rattle.smp_core.specs.declared.call.Call.{Call}
 use Rattle.smp_core.specs.declared.place.RecPlace.{RecPlace}
 use Rattle.smp_core.specs.declared.place.RecPlace.TheVariants as place
 use Rattle.smp_core.specs.declared.word.Word.{Word}
-use Rattle.smp_core.specs.declared.word.Word.TheVariants.{Head, Intr, Hand, Queued, Ran, Flags, Func, Info, Next}
+use Rattle.smp_core.specs.declared.word.Word.TheVariants.{Intr, Hand, Flags}
 
 -- a step that changes no word and no call
 pub stands_on : (a : CallState) (at : Word → ℕ) (control : ℕ → ControlValue) (me : ℕ) (next : ControlValue) → Shows a at control →

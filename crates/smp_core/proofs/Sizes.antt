@@ -1,5 +1,5 @@
 -- To whom a record belongs. The only proofs that know how records are numbered.
-use Rattle.std.proofs.Common.{◌≡◌, ℕ, ◌+◌, ◌*◌, ◌/◌, ◌%◌, ◌^◌, ◌<◌, refl, arith}
+use Rattle.std.proofs.Common.{◌≡◌, ℕ, ◌^◌, ◌<◌, arith}
 use Rattle.smp_core.specs.Size.{cpus, records, records_of_one, owner, local, record_of}
 
 pub owner-of_record : (source k : ℕ) → k < records_of_one → owner (record_of source k) ≡ source

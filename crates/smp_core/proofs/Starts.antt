@@ -1,5 +1,5 @@
 -- A command that may start begins where it should, and changes no call.
-use Rattle.std.proofs.Common.{◌≡◌, ◌≢◌, ℕ, zero, suc, ◌+◌, ◌<◌, ◌≤◌, ◌^◌, Bool, true, false, ◌==◌, ◌||◌, not, nat_lt, cond, Option, Some, None, List, [], length, get_or, sym, subst, refl, ap, ◌∙◌, arith, replicate, inl}
+use Rattle.std.proofs.Common.{◌≡◌, ℕ, zero, suc, ◌<◌, Bool, true, false, ◌==◌, ◌||◌, not, nat_lt, cond, Option, Some, None, List, length, get_or, sym, refl, ap, ◌∙◌, arith, replicate, inl}
 use Rattle.std.proofs.lemmas.Bool.{ltb-true}
 use Rattle.std.specs.Prelude.{slice_set}
 use Rattle.smp_mask.specs.Mask.{has}
@@ -23,7 +23,7 @@ use Rattle.smp_core.specs.declared.command.Command.{Command}
 use Rattle.smp_core.specs.declared.command.Command.TheVariants as command
 use Rattle.smp_core.specs.declared.place.RecPlace.{RecPlace}
 use Rattle.smp_core.specs.declared.word.Word.{Word}
-use Rattle.smp_core.specs.declared.word.Word.TheVariants.{Head, Intr, Hand, Queued, Ran, Flags, Next}
+use Rattle.smp_core.specs.declared.word.Word.TheVariants.{Head, Intr, Hand, Queued, Ran, Flags}
 use Rattle.smp_core.specs.declared.stage.Stage.{Stage}
 
 else_none : (b : Bool) (x : Option SmpError) (y : SmpError) → cond b x (Some y) ≡ None → (b ≡ true) × (x ≡ None)

@@ -1,5 +1,5 @@
 -- What is to be proved of each step of a CPU.
-use Rattle.std.proofs.Common.{◌≡◌, ℕ}
+use Rattle.std.proofs.Common.{ℕ}
 use Rattle.smp_core.specs.Put.{put}
 use Rattle.smp_core.specs.Access.{at_after, word_of, seen_of}
 use Rattle.smp_core.specs.Calls.{CallState, tells}

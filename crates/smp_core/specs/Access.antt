@@ -1,5 +1,5 @@
 -- One access: its word, what it leaves in the words, and how it is seen.
-use Rattle.std.specs.Prelude.{◌≡◌, ℕ, Bool, ◌==◌, if◌then◌else◌, Option, Some, None, List}
+use Rattle.std.specs.Prelude.{ℕ, ◌==◌, if◌then◌else◌, Option, Some, None, List}
 use Rattle.smp_core.specs.Put.{put_word}
 use Rattle.smp_core.specs.Layout.{number_in, put_in}
 use Rattle.smp_core.specs.declared.word.Word.{Word}

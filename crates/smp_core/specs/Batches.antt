@@ -1,12 +1,12 @@
 -- What is left of a batch, as the stage and the drain of its CPU have it.
-use Rattle.std.specs.Prelude.{◌≡◌, ℕ, ◌+◌, Bool, ◌==◌, Option, Some, None, List, [], ◌∷◌, ◌++◌}
+use Rattle.std.specs.Prelude.{ℕ, ◌+◌, Bool, ◌==◌, Option, Some, List, [], ◌∷◌, ◌++◌}
 use Rattle.std.specs.List.{list_any}
 use Rattle.smp_core.specs.Stages.{ControlValue}
 use Rattle.smp_core.specs.declared.call.Call.{Call}
 use Rattle.smp_core.specs.declared.handle.HandleStage.{HandleStage}
 use Rattle.smp_core.specs.declared.handle.HandleStage.TheVariants as handle
 use Rattle.smp_core.specs.declared.stage.Stage.{Stage}
-use Rattle.smp_core.specs.declared.stage.Stage.TheVariants.{Send, Done, Post, Handle}
+use Rattle.smp_core.specs.declared.stage.Stage.TheVariants.{Handle}
 
 -- whether some call of the list is by this record
 abbrev pub has_record : ℕ → List Call → Bool

@@ -1,6 +1,6 @@
 -- The state of the calls, and how each step that was seen changes it. It has lists, sets and places; it has no
 -- heads, links, flags, retries or reversal.
-use Rattle.std.specs.Prelude.{◌≡◌, ℕ, ◌+◌, ◌%◌, Bool, true, false, ◌==◌, not, nat_lt, if◌then◌else◌, Option, Some, None, List, [], ◌∷◌, ◌++◌}
+use Rattle.std.specs.Prelude.{ℕ, ◌%◌, Bool, true, false, ◌==◌, not, nat_lt, if◌then◌else◌, Option, Some, None, List, [], ◌∷◌, ◌++◌}
 use Rattle.smp_core.specs.Put.{put}
 use Rattle.smp_core.specs.Flags.{class_of}
 use Rattle.smp_core.specs.Order.{order}

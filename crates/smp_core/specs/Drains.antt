@@ -1,11 +1,11 @@
 -- The steps of `handle`, one after another, and what it has loaded of its batch.
-use Rattle.std.specs.Prelude.{◌≡◌, ℕ, ◌+◌, ◌-◌, ◌%◌, ◌^◌, ◌<◌, ◌≤◌, Bool, ◌==◌, if◌then◌else◌, Option, Some, None, List, [], ◌∷◌, ◌++◌, length}
+use Rattle.std.specs.Prelude.{ℕ, ◌+◌, ◌-◌, ◌%◌, ◌^◌, ◌<◌, ◌≤◌, ◌==◌, if◌then◌else◌, Some, List, [], ◌∷◌, ◌++◌, length}
 use Rattle.smp_core.specs.Size.{owner}
 use Rattle.smp_core.specs.Flags.{class_of}
 use Rattle.smp_core.specs.Order.{if_sync, if_async}
 use Rattle.smp_core.specs.Posts.{go_on, ends}
 use Rattle.smp_core.specs.declared.size.TheConstants.{MOST_CALLS}
-use Rattle.smp_core.specs.declared.word.Word.TheVariants.{Head, Intr, Hand, Queued, Ran, Flags, Func, Info, Next}
+use Rattle.smp_core.specs.declared.word.Word.TheVariants.{Head, Intr, Hand, Ran, Flags, Func, Info, Next}
 use Rattle.smp_core.specs.declared.access.Access.{Access}
 use Rattle.smp_core.specs.declared.access.Access.TheVariants.{Load, Store, Swap}
 use Rattle.smp_core.specs.declared.call.Call.{Call}

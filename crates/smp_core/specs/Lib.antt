@@ -25,5 +25,6 @@ pub mod Replay
 pub mod Runs
 pub mod Queues
 pub mod Batches
+pub mod Counts
 -- what a CPU knows
 pub mod Known

@@ -1,5 +1,5 @@
 -- The CPUs of a table: how many there may be, and which are online.
-use Rattle.std.specs.Prelude.{◌≡◌, ℕ, ◌<◌, ◌≤◌, true, List, [], replicate}
+use Rattle.std.specs.Prelude.{◌≡◌, ℕ, ◌<◌, ◌≤◌, true, replicate}
 use Rattle.smp_mask.specs.Mask.{has}
 use Rattle.smp_core.specs.Size.{cpus, table_size}
 use Rattle.smp_core.specs.Value.{CoreValue, outside}

@@ -1,10 +1,9 @@
 -- One step of a core: what it does to the words, what is seen of it, and where the CPU stands after it.
-use Rattle.std.specs.Prelude.{◌≡◌, ℕ, Option, Some, None, List, slice_set, Result, Ok, Err}
+use Rattle.std.specs.Prelude.{ℕ, slice_set}
 use Rattle.smp_core.specs.Layout.{number_in}
 use Rattle.smp_core.specs.Access.{word_of, words_after, seen_of}
-use Rattle.smp_core.specs.Stages.{ControlValue, access_of, outcome_of, control_after}
+use Rattle.smp_core.specs.Stages.{access_of, outcome_of, control_after}
 use Rattle.smp_core.specs.Value.{CoreValue, control_of}
-use Rattle.smp_core.specs.declared.access.Access.{Access}
 use Rattle.smp_core.specs.declared.seen.Seen.{Seen}
 use Rattle.smp_core.specs.declared.stage.Stage.{Stage}
 

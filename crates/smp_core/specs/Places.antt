@@ -1,5 +1,5 @@
 -- The place law: each record is in exactly one place, and the lists of the call state agree with it.
-use Rattle.std.specs.Prelude.{◌≡◌, ◌≢◌, ℕ, ◌^◌, ◌<◌, ◌⊎◌, Bool, true, false, Option, Some, None, List, [], ◌∷◌, ◌++◌}
+use Rattle.std.specs.Prelude.{◌≡◌, ◌≢◌, ℕ, ◌^◌, ◌<◌, ◌⊎◌, Bool, true, Option, Some, None, List, [], ◌∷◌}
 use Rattle.std.specs.List.{AllByRecursion}
 use Rattle.smp_core.specs.Size.{owner, records}
 use Rattle.smp_core.specs.Calls.{Holding, Running, Nothing, SyncCall, CountedCall, AsyncCall}

@@ -1,7 +1,7 @@
 -- The steps of a post, one after another.
-use Rattle.std.specs.Prelude.{◌≡◌, ℕ, ◌+◌, ◌-◌, ◌%◌, ◌^◌, Bool, ◌==◌, nat_lt, if◌then◌else◌, Option, Some, None}
+use Rattle.std.specs.Prelude.{ℕ, ◌+◌, ◌-◌, ◌%◌, ◌^◌, ◌==◌, nat_lt, if◌then◌else◌, Some, None}
 use Rattle.smp_core.specs.Flags.{flags_of}
-use Rattle.smp_core.specs.declared.word.Word.TheVariants.{Head, Intr, Hand, Queued, Ran, Flags, Func, Info, Next}
+use Rattle.smp_core.specs.declared.word.Word.TheVariants.{Head, Queued, Flags, Func, Info, Next}
 use Rattle.smp_core.specs.declared.access.Access.{Access}
 use Rattle.smp_core.specs.declared.access.Access.TheVariants.{Load, Store, Exchange}
 use Rattle.smp_core.specs.declared.seen.Note.{Note}

@@ -1,5 +1,5 @@
 -- Functions of a number or of a word, with one value put in another's place.
-use Rattle.std.specs.Prelude.{ℕ, Bool, true, false, ◌==◌, ◌&&◌, cond}
+use Rattle.std.specs.Prelude.{ℕ, Bool, false, ◌==◌, ◌&&◌, cond}
 use Rattle.smp_core.specs.declared.word.Word.{Word}
 use Rattle.smp_core.specs.declared.word.Word.TheVariants.{Head, Intr, Hand, Queued, Ran, Flags, Func, Info, Next}
 

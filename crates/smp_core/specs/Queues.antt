@@ -1,5 +1,5 @@
 -- The chain of a queue, as it is read.
-use Rattle.std.specs.Prelude.{◌≡◌, ℕ, zero, suc, ◌+◌, ◌<◌, ◌≤◌, List, [], ◌∷◌, length, ◌++◌, if◌then◌else◌}
+use Rattle.std.specs.Prelude.{ℕ, zero, suc, ◌<◌, ◌≤◌, List, [], ◌∷◌, length, ◌++◌, if◌then◌else◌}
 use Rattle.std.specs.List.{AllByRecursion}
 use Rattle.smp_mask.specs.Mask.{has}
 use Rattle.smp_core.specs.Size.{records}
@@ -7,8 +7,7 @@ use Rattle.smp_core.specs.Layout.{number_in}
 use Rattle.smp_core.specs.Value.{CoreValue}
 use Rattle.smp_core.specs.Words.{Leads, nexts_in}
 use Rattle.smp_core.specs.declared.call.Call.{Call}
-use Rattle.smp_core.specs.declared.word.Word.{Word}
-use Rattle.smp_core.specs.declared.word.Word.TheVariants.{Head, Next}
+use Rattle.smp_core.specs.declared.word.Word.TheVariants.{Head}
 
 -- the records of these calls
 abbrev pub ids : List Call → List ℕ

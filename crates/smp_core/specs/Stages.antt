@@ -1,14 +1,12 @@
 -- The step that a CPU makes at each stage, and what follows it.
-use Rattle.std.specs.Prelude.{◌≡◌, ℕ, ◌+◌, ◌%◌, ◌==◌, ◌<◌, ◌^◌, if◌then◌else◌, Option, Some, None}
+use Rattle.std.specs.Prelude.{ℕ, ◌%◌, ◌==◌, if◌then◌else◌, Option}
 use Rattle.smp_core.specs.Posts.{ends, post_access, post_outcome}
 use Rattle.smp_core.specs.Drains.{DrainValue, source_at, handle_access, handle_outcome, drain_after, FitsFound, RoomAt}
 use Rattle.smp_core.specs.declared.word.Word.{Word}
-use Rattle.smp_core.specs.declared.word.Word.TheVariants.{Head, Intr, Hand, Queued, Ran, Flags, Func, Info, Next}
+use Rattle.smp_core.specs.declared.word.Word.TheVariants.{Intr, Queued, Ran, Flags}
 use Rattle.smp_core.specs.declared.access.Access.{Access}
 use Rattle.smp_core.specs.declared.access.Access.TheVariants.{Load, Store}
 use Rattle.smp_core.specs.declared.seen.Note.TheVariants as note
-use Rattle.smp_core.specs.declared.handle.HandleStage.{HandleStage}
-use Rattle.smp_core.specs.declared.handle.HandleStage.TheVariants as handle
 use Rattle.smp_core.specs.declared.stage.Stage.{Stage}
 use Rattle.smp_core.specs.declared.stage.Stage.TheVariants.{Send, Done, Post, Handle}
 use Rattle.smp_core.specs.declared.stage.Outcome.{Outcome}

@@ -1,5 +1,5 @@
 -- What holds of a CPU at each stage.
-use Rattle.std.specs.Prelude.{◌≡◌, ◌≢◌, ℕ, ◌+◌, ◌<◌, ◌≤◌, ◌^◌, Bool, true, false, Option, Some, None, List, [], ◌∷◌, ◌++◌}
+use Rattle.std.specs.Prelude.{◌≡◌, ◌≢◌, ℕ, ◌+◌, ◌<◌, Bool, true, false, Option, Some, None, List, [], ◌∷◌, ◌++◌}
 use Rattle.std.specs.List.{AllByRecursion}
 use Rattle.smp_core.specs.Size.{cpus, records, owner}
 use Rattle.smp_core.specs.Flags.{flags_of}
@@ -10,12 +10,11 @@ use Rattle.smp_core.specs.Stages.{ControlValue}
 use Rattle.smp_core.specs.Words.{Leads, IsWritten, flags_in, funcs_in, infos_in, nexts_in}
 use Rattle.smp_core.specs.Places.{IsCall}
 use Rattle.smp_core.specs.declared.call.Call.{Call}
-use Rattle.smp_core.specs.declared.call.Class.{Class}
 use Rattle.smp_core.specs.declared.call.Class.TheVariants.{Sync, Async}
 use Rattle.smp_core.specs.declared.place.RecPlace.{RecPlace}
 use Rattle.smp_core.specs.declared.place.RecPlace.TheVariants as place
 use Rattle.smp_core.specs.declared.word.Word.{Word}
-use Rattle.smp_core.specs.declared.word.Word.TheVariants.{Flags, Func, Info, Next}
+use Rattle.smp_core.specs.declared.word.Word.TheVariants.{Flags, Func, Next}
 use Rattle.smp_core.specs.declared.post.Posting.{Posting}
 use Rattle.smp_core.specs.declared.post.PostStage.{PostStage}
 use Rattle.smp_core.specs.declared.post.PostStage.TheVariants as post

@@ -1,11 +1,10 @@
 -- What contracts see of a core.
-use Rattle.std.specs.Prelude.{ℕ, Option, Some, None, List, slice_index_or}
+use Rattle.std.specs.Prelude.{ℕ, None, List, slice_index_or}
 use Rattle.smp_core.specs.Drains.{no_drain}
 use Rattle.smp_core.specs.Stages.{ControlValue}
 use Rattle.smp_core.specs.Layout.{number_in}
 use Rattle.smp_core.specs.Calls.{CallState}
 use Rattle.smp_core.specs.Shows.{Shows}
-use Rattle.smp_core.specs.declared.stage.Stage.{Stage}
 
 -- the number of CPUs, those online, the words, and where each CPU stands
 pub record CoreValue : Type 0 where

@@ -1,5 +1,5 @@
 -- What the words show of the calls: flags, functions, infos, chains, interrupts and handling words.
-use Rattle.std.specs.Prelude.{◌≡◌, ◌≢◌, ℕ, ◌+◌, ◌%◌, ◌⊎◌, Bool, true, false, Option, Some, None, List, [], ◌∷◌}
+use Rattle.std.specs.Prelude.{◌≡◌, ℕ, ◌+◌, ◌%◌, ◌⊎◌, Bool, true, false, Option, Some, List, [], ◌∷◌}
 use Rattle.std.specs.List.{AllByRecursion}
 use Rattle.smp_core.specs.Flags.{flags_of}
 use Rattle.smp_core.specs.Places.{locked_by}

@@ -10,6 +10,7 @@ pub mod call;
 pub mod command;
 pub mod control;
 pub mod drain;
+pub mod events;
 pub mod handle;
 pub mod known;
 pub mod limits;
@@ -17,7 +18,6 @@ pub mod machine;
 pub mod place;
 pub mod post;
 pub mod queue;
-pub mod replay;
 pub mod seen;
 pub mod size;
 pub mod stage;
@@ -28,8 +28,11 @@ pub mod word;
 pub use access::Access;
 pub use call::{Call, Class};
 pub use command::{Command, Event};
+pub use events::{Replayed, replay};
 pub use machine::Core;
 pub use place::RecPlace;
-pub use replay::Replayed;
 pub use seen::{Act, Note, Seen};
 pub use word::{Word, call_index};
+
+#[cfg(test)]
+mod tests;

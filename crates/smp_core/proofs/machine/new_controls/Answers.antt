@@ -1,5 +1,4 @@
-use Rattle.std.proofs.Common.{◌≡◌, ℕ, ◌+◌, ◌++◌, ◌∷◌, [], List, replicate, sym, ◌∙◌, ap, subst, arith}
-use Rattle.smp_core.specs.Value.{outside}
+use Rattle.std.proofs.Common.{◌≡◌, arith}
 use Rattle.smp_core.proofs.machine.new_controls.Goals as goal
 
 pub returns : goal.returns

@@ -1,7 +1,7 @@
-use Rattle.std.proofs.Common.{◌≡◌, ◌≢◌, ℕ, ◌<◌, ◌∙◌, below_more, arith}
+use Rattle.std.proofs.Common.{◌≢◌, ◌∙◌, below_more, arith}
 use Rattle.smp_core.specs.Layout.{number_in}
 use Rattle.smp_core.specs.Value.{control_of}
-use Rattle.smp_core.proofs.Places.{IsNotOn, not_on, is_held, bare}
+use Rattle.smp_core.proofs.Places.{not_on, is_held, bare}
 use Rattle.smp_core.specs.declared.word.Word.TheVariants.{Flags}
 use Rattle.smp_core.proofs.place.place_of.Goals as goal
 

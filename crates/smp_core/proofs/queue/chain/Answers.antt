@@ -1,8 +1,8 @@
-use Rattle.std.proofs.Common.{◌≡◌, ℕ, ◌+◌, ◌-◌, ◌<◌, ◌≤◌, List, [], ◌∷◌, length, sym, subst, refl, ap, ◌∙◌, arith, rules}
+use Rattle.std.proofs.Common.{◌≡◌, ◌+◌, ◌-◌, ◌≤◌, arith, rules}
 use Rattle.smp_core.specs.Layout.{number_in}
 use Rattle.smp_core.specs.Size.{records}
 use Rattle.smp_core.specs.Words.{nexts_in}
-use Rattle.smp_core.proofs.Chains.{Follows, Passes, follows_all, passes, ended, ended_by_count}
+use Rattle.smp_core.proofs.Chains.{Follows, follows_all, passes, ended, ended_by_count}
 use Rattle.smp_core.proofs.queue.chain.Goals as goal
 
 pub loop-round-init : goal.loop-round-init

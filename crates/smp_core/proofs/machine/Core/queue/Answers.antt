@@ -1,4 +1,4 @@
-use Rattle.std.proofs.Common.{◌≡◌, ℕ, List, sym, subst, ◌∙◌, ap}
+use Rattle.std.proofs.Common.{◌∙◌}
 use Rattle.smp_core.specs.Layout.{number_in}
 use Rattle.smp_core.specs.Words.{nexts_in}
 use Rattle.smp_core.specs.Value.{ValuesShow, control_of}

@@ -1,4 +1,3 @@
-use Rattle.std.proofs.Common.{◌≡◌}
 use Rattle.smp_core.proofs.machine.Core.shows_calls.Goals as goal
 
 pub returns : goal.returns

@@ -1,4 +1,4 @@
-use Rattle.std.proofs.Common.{◌≡◌, ℕ, ◌<◌, List, Option, Some, None, length, sym, ◌∙◌, ap, subst, refl, arith}
+use Rattle.std.proofs.Common.{◌≡◌, None, length, sym, ◌∙◌, arith}
 use Rattle.std.proofs.lemmas.List.{get_or_read, length-set}
 use Rattle.std.specs.Prelude.{slice_set}
 use Rattle.smp_core.specs.Size.{cpus}

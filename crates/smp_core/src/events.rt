@@ -22,7 +22,7 @@ pub struct Replayed<A: Allocator> {
 }
 
 /// Runs the events one after the other, up to the first that is refused. E6 where a growth is refused.
-pub fn run_events<A: Allocator>(
+pub fn replay<A: Allocator>(
     alloc: A,
     mut core: Core<A>,
     events: &[Event],

@@ -1,6 +1,6 @@
-use Rattle.std.proofs.Common.{◌≡◌, refl, get_or, arith, ◌<◌, length}
+use Rattle.std.proofs.Common.{arith}
 use Rattle.smp_core.proofs.Replays.{GoesOn-more}
-use Rattle.smp_core.proofs.replay.run_events.Goals as goal
+use Rattle.smp_core.proofs.events.replay.Goals as goal
 
 pub loop-position-preserved : goal.loop-position-preserved
 loop-position-preserved g c =

@@ -1,0 +1,7 @@
+use Rattle.smp_core.specs.Layout.{number_in}
+use Rattle.smp_core.specs.Value.{control_of}
+use Rattle.smp_core.proofs.Counts.{confirmed_calls_ran}
+use Rattle.smp_core.proofs.machine.Core.confirmed_calls_ran.Goals as goal
+
+pub returns : goal.returns
+returns g c calls shown = confirmed_calls_ran calls (number_in c.args.self.now.words) (control_of c.args.self.now.controls) shown
