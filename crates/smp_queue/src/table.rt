@@ -1,4 +1,19 @@
 //! The call table.
+//!
+//! Which steps may meet in which word, and what orders them. A record's source is the CPU that owns it, its target
+//! the CPU whose queue it goes to. The rule of the table has the target's steps; the call that makes them is not
+//! built yet.
+//!
+//! | Word | Loads | Stores | Exchanges | What orders them |
+//! |---|---|---|---|---|
+//! | `head.c` | each CPU but c, before its first exchange | none | compare-exchange by each CPU but c; swap by c | each won exchange and each swap is one point in the queue's order; a lost one finds the newest head |
+//! | `intr.c` | none | 1 by each CPU | swap with 0 by c | the swap answers all stores of 1 before it; whoever found an empty queue still owes a store |
+//! | `hand.c` | none | c | none | c alone |
+//! | `queued.s.d` | s | s | none | s alone |
+//! | `ran.d.s` | d | d | none | d alone |
+//! | `flags.r` | the source at any time, the target with the record in its batch | the source while LOCK is clear or its record is not queued; the target's last store of a call | none | LOCK: between the won exchange and the target's clearing store, the source only loads |
+//! | `func.r`, `info.r` | the target with the record in its batch | the source before the exchange that queues the record | none | that exchange, and the swap that takes the queue |
+//! | `next.r` | the target with the record in its batch | the source before each exchange | none | the same |
 
 ghost use Rattle.std.specs.Prelude.{◌≡◌, ◌≢◌, ◌⊎◌, ◌↔◌, ◌<◌, ◌≤◌, ◌%◌, ◌^◌, true, false, length, if◌then◌else◌, IfOk, IfErr, OnOk, IsErrOf, Ok};
 ghost use Rattle.smp_mask.specs.Mask.{has};
