@@ -23,3 +23,6 @@ mod table;
 pub use boot::Boot;
 pub use cpu::CallCpu;
 pub use table::CallTable;
+
+#[cfg(test)]
+mod tests;

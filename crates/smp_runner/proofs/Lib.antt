@@ -1,0 +1,16 @@
+pub mod Digits
+pub mod Directives
+pub mod Linings
+pub mod Online
+pub mod Spellings
+pub mod Streams
+pub mod Showings
+pub mod Progresses
+pub mod Wholes
+pub mod Decimals
+pub mod Spelt
+pub mod Written
+pub mod CanonicalTexts
+pub mod Cut
+pub mod Readings
+pub mod Firsts

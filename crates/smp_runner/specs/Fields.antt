@@ -1,0 +1,33 @@
+-- What one field may be.
+use Rattle.std.specs.Prelude.{ℕ, if◌then◌else◌, List, codes, Result, Ok, Err}
+use Rattle.std.specs.Str.{bytes_eq}
+use Rattle.smp_mask.specs.declared.error.Cause.{Cause}
+use Rattle.smp_mask.specs.declared.error.Cause.TheVariants.{Word, Mask}
+use Rattle.smp_mask.specs.declared.error.SmpError.{SmpError}
+use Rattle.smp_mask.specs.declared.mask.TheConstants.{NR_CPUS}
+use Rattle.smp_mask.specs.Reading.{mask_of_text}
+use Rattle.smp_core.specs.declared.call.Class.{Class}
+use Rattle.smp_core.specs.declared.call.Class.TheVariants.{Sync, Async}
+use Rattle.smp_runner.specs.Numbers.{number_in}
+
+-- the numbers of 16, 32 and 64 bits
+abbrev pub word16 : List ℕ → Result ℕ Cause
+word16 text = number_in 0 65535 text
+
+abbrev pub word32 : List ℕ → Result ℕ Cause
+word32 text = number_in 0 4294967295 text
+
+abbrev pub word64 : List ℕ → Result ℕ Cause
+word64 text = number_in 0 18446744073709551615 text
+
+-- `sync` or `async`
+abbrev pub class_of : List ℕ → Result Class Cause
+class_of text = if bytes_eq text (codes "sync") then Ok Sync else (if bytes_eq text (codes "async") then Ok Async else Err Word)
+
+abbrev pub or_mask : Result ℕ SmpError → Result ℕ Cause
+or_mask (Ok mask) = Ok mask
+or_mask (Err error) = Err Mask
+
+-- a CPU list, where `-` is the empty mask
+abbrev pub mask_of : List ℕ → Result ℕ Cause
+mask_of text = if bytes_eq text (codes "-") then Ok 0 else or_mask (mask_of_text NR_CPUS text)

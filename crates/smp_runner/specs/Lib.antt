@@ -1,0 +1,21 @@
+-- texts
+pub mod Lines
+pub mod LineOf
+pub mod Numbers
+-- scripts, and their first fault
+pub mod Faults
+pub mod Fields
+pub mod Commands
+pub mod Script
+pub mod MeaningOf
+-- devices
+pub mod Watched
+-- output
+pub mod Text
+pub mod Showing
+pub mod Output
+pub mod ProgressOf
+pub mod Replays
+-- how scripts are written
+pub mod Spelling
+pub mod FirstFault

@@ -1,0 +1,100 @@
+-- What a step prints, and what a refused event does.
+use Rattle.std.specs.Prelude.{ℕ, List, [], ◌∷◌, ◌++◌, Option, Some, None, unwrap_or, codes}
+use Rattle.std.specs.Fmt.{decimal}
+use Rattle.std.specs.List.{flat_map}
+use Rattle.smp_mask.specs.declared.error.SmpError.{SmpError}
+use Rattle.smp_mask.specs.declared.error.SmpError.TheVariants as errors
+use Rattle.smp_core.specs.declared.word.Word.{Word}
+use Rattle.smp_core.specs.declared.word.Word.TheVariants as words
+use Rattle.smp_core.specs.declared.seen.Act.{Act}
+use Rattle.smp_core.specs.declared.seen.Act.TheVariants as acts
+use Rattle.smp_core.specs.declared.seen.Note.{Note}
+use Rattle.smp_core.specs.declared.seen.Note.TheVariants as notes
+use Rattle.smp_core.specs.declared.seen.Seen.{Seen}
+
+-- a name with one number, and with two
+abbrev pub named : List ℕ → ℕ → List ℕ
+named name i = name ++ decimal i
+
+abbrev pub named_pair : List ℕ → ℕ → ℕ → List ℕ
+named_pair name i j = name ++ decimal i ++ codes "." ++ decimal j
+
+-- the name of a word
+abbrev pub word_text : Word → List ℕ
+word_text (words.Head cpu) = named (codes "head.") cpu
+word_text (words.Intr cpu) = named (codes "intr.") cpu
+word_text (words.Hand cpu) = named (codes "hand.") cpu
+word_text (words.Queued from to) = named_pair (codes "queued.") from to
+word_text (words.Ran by from) = named_pair (codes "ran.") by from
+word_text (words.Flags id) = named (codes "flags.") id
+word_text (words.Func id) = named (codes "func.") id
+word_text (words.Info id) = named (codes "info.") id
+word_text (words.Next id) = named (codes "next.") id
+
+abbrev pub act_text : Act → List ℕ
+act_text acts.Load = codes "load"
+act_text acts.Store = codes "store"
+act_text acts.Swap = codes "swap"
+act_text acts.Cas = codes "cas"
+
+-- a compare-exchange puts a number where it won
+abbrev pub cas_text : ℕ → Option ℕ → List ℕ
+cas_text found (Some put) = decimal found ++ codes " > " ++ decimal put
+cas_text found None = decimal found ++ codes " kept"
+
+-- of a store the number put, of all else the number found
+abbrev pub value_text : Act → Option ℕ → Option ℕ → List ℕ
+value_text acts.Store found put = decimal (unwrap_or put 0)
+value_text acts.Cas found put = cas_text (unwrap_or found 0) put
+value_text _ found put = decimal (unwrap_or found 0)
+
+abbrev pub note_text : Note → List ℕ
+note_text notes.Busy = codes "E2"
+note_text notes.NoCpu = codes "E1"
+note_text notes.Owed = codes "owed"
+note_text notes.Queued = codes "queued"
+note_text notes.Contended = codes "E5"
+note_text notes.Sent = codes "sent"
+note_text notes.Done = codes "done"
+note_text notes.Locked = codes "locked"
+note_text notes.Idle = codes "idle"
+note_text (notes.Call source func info) = codes "call " ++ decimal source ++ codes " " ++ decimal func ++ codes " " ++ decimal info
+note_text (notes.Handled count) = codes "handled " ++ decimal count
+
+-- a note stands behind a semicolon
+abbrev pub after_step : Option Note → List ℕ
+after_step None = codes ""
+after_step (Some note) = codes " ; " ++ note_text note
+
+-- the line of a step: CPU ACT WORD VALUE, and its note
+abbrev pub seen_text : Seen → List ℕ
+seen_text seen =
+    decimal seen.cpu ++ codes " " ++ act_text seen.act ++ codes " " ++ word_text seen.word ++ codes " "
+    ++ value_text seen.act seen.found seen.put ++ after_step seen.note ++ 10 ∷ []
+
+-- the number of an error
+abbrev pub error_number : SmpError → ℕ
+error_number errors.NoCpu = 1
+error_number errors.Busy = 2
+error_number errors.NoStopper = 3
+error_number errors.BadArgument = 4
+error_number errors.Contended = 5
+error_number errors.NoMemory = 6
+error_number errors.Stale = 7
+error_number errors.SlotBusy = 8
+error_number (errors.BadScript line cause) = 9
+error_number errors.IdleStep = 10
+error_number (errors.BadMask position) = 11
+error_number (errors.StreamFailed side) = 12
+error_number (errors.KeyRange edge) = 13
+
+-- the line of a refused event, by its position
+abbrev pub stopped_text : ℕ → SmpError → List ℕ
+stopped_text position error = codes "stopped " ++ decimal position ++ codes " E" ++ decimal (error_number error) ++ 10 ∷ []
+
+-- numbers, each behind a space
+abbrev pub spaced : ℕ → List ℕ
+spaced n = codes " " ++ decimal n
+
+abbrev pub list_text : List ℕ → List ℕ
+list_text numbers = flat_map spaced numbers

@@ -1,0 +1,42 @@
+//! What the words of the command line ask for.
+
+use clap::error::ErrorKind;
+use clap::{Arg, Command};
+use std::alloc::{AllocError, Global};
+
+/// What to run.
+#[derive(Drop)]
+pub enum Request<'a> {
+    /// The replay of a file, or of standard input.
+    Replay(Option<&'a str>),
+}
+
+/// Why the words ask for nothing.
+#[derive(Clone, Copy, Debug, PartialEq, Eq)]
+pub enum WordsError {
+    NoMemory,
+    Usage,
+}
+
+fn grammar<'a>(alloc: Global) -> Result<Command<'a>, AllocError> {
+    let replay = Command::new(alloc, "replay").arg(Arg::new(alloc, "FILE"))?;
+    Command::new(alloc, "smp_runner").subcommand(replay)
+}
+
+/// What the words ask for: `NoMemory` where a growth was refused, and `Usage` where they are no command line, or
+/// ask for help.
+pub fn read_words<'a>(alloc: Global, words: &'a [&'a str]) -> Result<Request<'a>, WordsError> {
+    let Ok(grammar) = grammar(alloc) else {
+        return Err(WordsError::NoMemory);
+    };
+    match grammar.try_get_matches_from(words) {
+        Ok(matches) => match matches.subcommand() {
+            Some((_, found)) => Ok(Request::Replay(found.get_str("FILE"))),
+            None => Err(WordsError::Usage),
+        },
+        Err(e) => match e.kind() {
+            ErrorKind::OutOfMemory => Err(WordsError::NoMemory),
+            _ => Err(WordsError::Usage),
+        },
+    }
+}

@@ -1,0 +1,155 @@
+//! The lines of a replay's output.
+
+ghost use Rattle.std.specs.Prelude.{◌≡◌, ◌++◌, OnOk, string_bytes};
+ghost use Rattle.smp_runner.specs.Text.{act_text, after_step, cas_text, error_number, list_text, note_text, seen_text, stopped_text, value_text, word_text};
+
+use smp_core::{Act, Note, Seen, Word};
+use smp_mask::SmpError;
+use std::alloc::{AllocError, Allocator};
+
+// The name of a word.
+fn write_word<A: Allocator>(out: &mut String<A>, word: Word) -> Result<(), AllocError>
+    ensures { OnOk result (string_bytes out.new ≡ string_bytes out.old ++ word_text word) }
+{
+    match word {
+        Word::Head(cpu) => write!(out, "head.{cpu}"),
+        Word::Intr(cpu) => write!(out, "intr.{cpu}"),
+        Word::Hand(cpu) => write!(out, "hand.{cpu}"),
+        Word::Queued(from, to) => write!(out, "queued.{from}.{to}"),
+        Word::Ran(by, from) => write!(out, "ran.{by}.{from}"),
+        Word::Flags(id) => write!(out, "flags.{id}"),
+        Word::Func(id) => write!(out, "func.{id}"),
+        Word::Info(id) => write!(out, "info.{id}"),
+        Word::Next(id) => write!(out, "next.{id}"),
+    }
+}
+
+fn act_name(act: Act) -> &'static str
+    ensures { result.now ≡ act_text act }
+{
+    match act {
+        Act::Load => "load",
+        Act::Store => "store",
+        Act::Swap => "swap",
+        Act::Cas => "cas",
+    }
+}
+
+// A compare-exchange puts a number where it won.
+fn write_cas<A: Allocator>(
+    out: &mut String<A>,
+    found: u64,
+    put: Option<u64>,
+) -> Result<(), AllocError>
+    ensures { OnOk result (string_bytes out.new ≡ string_bytes out.old ++ cas_text found put) }
+{
+    match put {
+        Some(put) => write!(out, "{found} > {put}"),
+        None => write!(out, "{found} kept"),
+    }
+}
+
+// Of a store the number put, of all else the number found.
+fn write_value<A: Allocator>(
+    out: &mut String<A>,
+    act: Act,
+    found: Option<u64>,
+    put: Option<u64>,
+) -> Result<(), AllocError>
+    ensures { OnOk result (string_bytes out.new ≡ string_bytes out.old ++ value_text act found put) }
+{
+    let found = found.unwrap_or(0);
+    match act {
+        Act::Cas => write_cas(out, found, put),
+        Act::Store => {
+            let put = put.unwrap_or(0);
+            write!(out, "{put}")
+        }
+        Act::Load | Act::Swap => write!(out, "{found}"),
+    }
+}
+
+fn write_note<A: Allocator>(out: &mut String<A>, note: Note) -> Result<(), AllocError>
+    ensures { OnOk result (string_bytes out.new ≡ string_bytes out.old ++ note_text note) }
+{
+    match note {
+        Note::Busy => write!(out, "E2"),
+        Note::NoCpu => write!(out, "E1"),
+        Note::Owed => write!(out, "owed"),
+        Note::Queued => write!(out, "queued"),
+        Note::Contended => write!(out, "E5"),
+        Note::Sent => write!(out, "sent"),
+        Note::Done => write!(out, "done"),
+        Note::Locked => write!(out, "locked"),
+        Note::Idle => write!(out, "idle"),
+        Note::Call(source, func, info) => write!(out, "call {source} {func} {info}"),
+        Note::Handled(count) => write!(out, "handled {count}"),
+    }
+}
+
+// A note stands behind a semicolon.
+fn write_after<A: Allocator>(out: &mut String<A>, note: Option<Note>) -> Result<(), AllocError>
+    ensures { OnOk result (string_bytes out.new ≡ string_bytes out.old ++ after_step note) }
+{
+    let Some(note) = note else {
+        return write!(out, "");
+    };
+    write!(out, " ; ")?;
+    write_note(out, note)
+}
+
+/// The line of a step: CPU ACT WORD VALUE, and its note.
+pub fn write_seen<A: Allocator>(out: &mut String<A>, seen: Seen) -> Result<(), AllocError>
+    ensures { OnOk result (string_bytes out.new ≡ string_bytes out.old ++ seen_text seen) }
+{
+    let cpu = seen.cpu;
+    let act = act_name(seen.act);
+    write!(out, "{cpu} {act} ")?;
+    write_word(out, seen.word)?;
+    write!(out, " ")?;
+    write_value(out, seen.act, seen.found, seen.put)?;
+    write_after(out, seen.note)?;
+    writeln!(out, "")
+}
+
+fn number_of(error: SmpError) -> u32
+    ensures { result ≡ error_number error }
+{
+    match error {
+        SmpError::NoCpu => 1,
+        SmpError::Busy => 2,
+        SmpError::NoStopper => 3,
+        SmpError::BadArgument => 4,
+        SmpError::Contended => 5,
+        SmpError::NoMemory => 6,
+        SmpError::Stale => 7,
+        SmpError::SlotBusy => 8,
+        SmpError::BadScript { .. } => 9,
+        SmpError::IdleStep => 10,
+        SmpError::BadMask { .. } => 11,
+        SmpError::StreamFailed(_) => 12,
+        SmpError::KeyRange(_) => 13,
+    }
+}
+
+/// The line of a refused event, by its position and why it was refused.
+pub fn write_stopped<A: Allocator>(
+    out: &mut String<A>,
+    position: u32,
+    error: SmpError,
+) -> Result<(), AllocError>
+    ensures { OnOk result (string_bytes out.new ≡ string_bytes out.old ++ stopped_text position error) }
+{
+    let number = number_of(error);
+    writeln!(out, "stopped {position} E{number}")
+}
+
+/// Numbers, each behind a space.
+pub fn write_list<A: Allocator>(out: &mut String<A>, numbers: &[u32]) -> Result<(), AllocError>
+    ensures { OnOk result (string_bytes out.new ≡ string_bytes out.old ++ list_text numbers.now) }
+{
+    for number in numbers {
+        write!(out, " {number}")?;
+    }
+    Ok(())
+}
