@@ -13,7 +13,7 @@ use Rattle.smp_mask.proofs.Canonical.{reads_back}
 use Rattle.smp_mask.proofs.Members.{none_below}
 use Rattle.smp_runner.specs.Script.{Script, are_online, script_of}
 use Rattle.smp_runner.specs.Spelling.{IsLawful, canonical_text, lacks}
-use Rattle.smp_runner.proofs.Written.{spelling_is_read}
+use Rattle.smp_runner.proofs.Writing.{spelling_is_read}
 
 -- a byte that no CPU list has
 record NoList (c : ℕ) : Type 0 where

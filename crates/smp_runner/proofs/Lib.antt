@@ -1,16 +1,19 @@
+-- reading, from the front
 pub mod Digits
-pub mod Directives
-pub mod Linings
+pub mod Fronts
+pub mod FieldLists
+pub mod FieldCounts
 pub mod Online
-pub mod Spellings
+pub mod Directives
+-- devices and output
 pub mod Streams
 pub mod Showings
 pub mod Progresses
-pub mod Wholes
+-- how scripts are written
 pub mod Decimals
-pub mod Spelt
-pub mod Written
+pub mod Joins
+pub mod Writing
 pub mod CanonicalTexts
-pub mod Cut
+pub mod Splits
 pub mod Readings
-pub mod Firsts
+pub mod FirstFaults

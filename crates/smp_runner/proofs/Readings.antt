@@ -23,7 +23,7 @@ use Rattle.smp_runner.specs.Commands.{are_whole, directive_of, line_directive, s
 use Rattle.smp_runner.specs.Script.{Script, are_online, cpus_of, directives_of, events_of, line_at, script_of, table_of, title_of, whole_cpus}
 use Rattle.smp_runner.specs.Spelling.{DirectiveFits, IsSpelling, class_text, directive_words, is_field, lacks, line_before, spelled_lines}
 use Rattle.smp_runner.proofs.Decimals.{number_in-ok}
-use Rattle.smp_runner.proofs.Cut.{Begins, fields_lack, fields_lack_spaces, join_fields, line_back, no_line}
+use Rattle.smp_runner.proofs.Splits.{Begins, fields_lack, fields_lack_spaces, join_fields, line_back, no_line}
 
 -- what was read before something was read after it
 record Both {A B E : Type 0} (r : Result A E) (f : A → Result B E) (y : B) : Type 0 where

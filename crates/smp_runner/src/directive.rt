@@ -132,7 +132,7 @@ pub fn are_all_whole(fields: &[&[u8]]) -> bool
 }
 
 /// What the fields of a line ask for, none of which may be empty.
-#[tactic(auto, using(crate::proofs::Wholes::are_whole_map))]
+#[tactic(auto, using(crate::proofs::FieldLists::are_whole_map))]
 pub fn read_whole(fields: &[&[u8]]) -> Result<Directive, Cause>
     ensures { result ≡ whole_directive (map (λ f. f.now) fields.now) }
 {

@@ -1,5 +1,5 @@
 use Rattle.std.proofs.Common.{◌∙◌, sym}
-use Rattle.smp_runner.proofs.Spellings.{directive_two, directive_long}
+use Rattle.smp_runner.proofs.FieldCounts.{directive_two, directive_long}
 use Rattle.smp_runner.proofs.directive.read_directive.Goals as goal
 
 pub returns-in_default-3 : goal.returns-in_default-3

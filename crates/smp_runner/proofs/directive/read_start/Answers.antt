@@ -1,5 +1,5 @@
 use Rattle.std.proofs.Common.{◌∙◌, sym}
-use Rattle.smp_runner.proofs.Spellings.{start_six}
+use Rattle.smp_runner.proofs.FieldCounts.{start_six}
 use Rattle.smp_runner.proofs.directive.read_start.Goals as goal
 
 pub returns-in_default-4 : goal.returns-in_default-4

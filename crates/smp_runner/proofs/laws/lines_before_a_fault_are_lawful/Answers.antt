@@ -1,4 +1,4 @@
-use Rattle.smp_runner.proofs.Firsts.{stops_at}
+use Rattle.smp_runner.proofs.FirstFaults.{stops_at}
 use Rattle.smp_runner.proofs.laws.lines_before_a_fault_are_lawful.Goals as goal
 
 pub returns : goal.returns

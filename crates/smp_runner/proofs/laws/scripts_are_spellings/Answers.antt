@@ -1,6 +1,6 @@
 use Rattle.smp_runner.proofs.CanonicalTexts.{canonical_is_read}
 use Rattle.smp_runner.proofs.Readings.{script_is_spelled}
-use Rattle.smp_runner.proofs.Written.{spelling_is_read}
+use Rattle.smp_runner.proofs.Writing.{spelling_is_read}
 use Rattle.smp_runner.proofs.laws.scripts_are_spellings.Goals as goal
 
 pub returns-clause-canonical : goal.returns-clause-canonical

@@ -1,7 +1,7 @@
 use Rattle.std.proofs.Common.{◌+◌, rules, add-one, arith, length}
 use Rattle.std.proofs.lemmas.List.{take_rest}
 use Rattle.std.proofs.Math.Seq.{drop-length}
-use Rattle.smp_runner.proofs.Linings.{lines_some, lines_none}
+use Rattle.smp_runner.proofs.Fronts.{lines_some, lines_none}
 use Rattle.smp_runner.proofs.line.next_line.Goals as goal
 
 pub returns-then-byte-eq10-clause-lines : goal.returns-then-byte-eq10-clause-lines

@@ -1,6 +1,6 @@
 use Rattle.std.proofs.Common.{◌+◌, add-one, arith}
 use Rattle.std.proofs.lemmas.List.{take_rest}
-use Rattle.smp_runner.proofs.Linings.{fields_none, fields_some}
+use Rattle.smp_runner.proofs.Fronts.{fields_none, fields_some}
 use Rattle.smp_runner.proofs.line.split_field.Goals as goal
 
 pub returns-then-byte-eq32-clause-fields : goal.returns-then-byte-eq32-clause-fields

@@ -1,5 +1,5 @@
 use Rattle.std.proofs.Common.{arith}
-use Rattle.smp_runner.proofs.Wholes.{fields_short}
+use Rattle.smp_runner.proofs.FieldLists.{fields_short}
 use Rattle.smp_runner.proofs.script.read_script.Goals as goal
 
 pub read_whole_cpus-requires : goal.read_whole_cpus-requires

@@ -16,7 +16,7 @@ use Rattle.smp_runner.specs.Commands.{directive_of, line_directive, start_post}
 use Rattle.smp_runner.specs.Script.{Script, are_online, directives_of, events_of, script_of, whole_cpus}
 use Rattle.smp_runner.specs.Spelling.{DirectiveFits, IsSpelling, class_text, directive_words, is_field, line_before, spelled_lines}
 use Rattle.smp_runner.proofs.Decimals.{is_field-decimal, number_in-decimal}
-use Rattle.smp_runner.proofs.Spelt.{fields_join, lines_of-line, whole_fields}
+use Rattle.smp_runner.proofs.Joins.{fields_join, lines_of-line, whole_fields}
 
 wide : (n : ℕ) → n < 2 ^ 32 → is_field (decimal n) ≡ true
 wide n h = is_field-decimal n (omega arith)

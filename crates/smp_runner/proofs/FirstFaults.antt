@@ -12,8 +12,8 @@ use Rattle.smp_runner.specs.Commands.{line_directive}
 use Rattle.smp_runner.specs.Script.{Script, directives_of, events_of, line_at, script_of, title_of, whole_cpus}
 use Rattle.smp_runner.specs.Spelling.{lacks}
 use Rattle.smp_runner.specs.FirstFault.{IsWrong, too_many, is_cut, misread, too_long, StopsAt}
-use Rattle.smp_runner.proofs.Cut.{Begins, line_back}
-use Rattle.smp_runner.proofs.Spelt.{lines_front}
+use Rattle.smp_runner.proofs.Splits.{Begins, line_back}
+use Rattle.smp_runner.proofs.Joins.{lines_front}
 use Rattle.smp_runner.proofs.Readings.{after_first, after_second, after_table, after_title, front_ok}
 
 -- where one thing is read after another, the fault is of the first, or of the second
