@@ -231,8 +231,8 @@ fn each_write_fails_in_turn(rt: HostRuntime) {
 
 #[test]
 fn each_heap_size(rt: HostRuntime) -> Result<(), Fail> {
-    for size in 0..20_000usize {
-        let heap = LocalHeap::new(rt.alloc(), size * 16)?;
+    for size in 0..100_000usize {
+        let heap = LocalHeap::new(rt.alloc(), size)?;
         let mut reader = Watched::new(ONE_CALL);
         let mut writer = Watched::new(Vec::new(rt.alloc()));
         let answer = replay_script(&heap, &mut reader, &mut writer);
