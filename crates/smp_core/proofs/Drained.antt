@@ -164,12 +164,14 @@ module _ (a : CallState) (at : Word → ℕ) (control : ℕ → ControlValue) (s
       ∙ ap (λ (r : Running). length (calls_from source (a.ran cpu ++ counted_call r)) % 2 ^ 64) (rests cpu).running
       ∙ ap (λ (calls : List Call). length (calls_from source calls) % 2 ^ 64) (append-nil (a.ran cpu))
 
-  all_ran : (cpu : ℕ) → a.ran cpu ≡ orders (a.taken cpu)
+  -- each CPU has run what it has taken, in drain order
+  pub all_ran : (cpu : ℕ) → a.ran cpu ≡ orders (a.taken cpu)
   all_ran cpu =
       let r = rests cpu in
       sym (append-nil (a.ran cpu)) ∙ (λ i. a.ran cpu ++ (running_call (sym r.running i) ++ sym r.batch i)) ∙ s.recorded.drained cpu
 
-  all_sent : (source cpu : ℕ) → sent_to cpu (a.sent source) ≡ marked_from source (batches_marked (a.taken cpu))
+  -- and has taken what was sent to it
+  pub all_sent : (source cpu : ℕ) → sent_to cpu (a.sent source) ≡ marked_from source (batches_marked (a.taken cpu))
   all_sent source cpu =
       s.recorded.in_order source cpu
       ∙ ap (λ (queue : List Call). marked_from source (history_of (a.taken cpu) queue)) (nothing_queued cpu)

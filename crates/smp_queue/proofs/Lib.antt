@@ -1,5 +1,7 @@
 pub mod Appends
+pub mod Auditing
 pub mod Cells
+pub mod Closed
 pub mod Keeps
 pub mod Kept
 pub mod Own

@@ -7,3 +7,5 @@ pub mod Plays
 pub mod Desk
 pub mod Cpu
 pub mod Table
+-- what an audit answers
+pub mod Audit

@@ -4,7 +4,8 @@ use Rattle.atomic_table.specs.Seated.{TableId}
 use Rattle.smp_core.specs.Limits.{AreLimits}
 use Rattle.smp_queue.specs.Cells.{cells}
 
--- it has a cell for each word, and its CPUs are such as may be
+-- it has a cell for each word and no slots, and its CPUs are such as may be
 pub record IsTable (table : TableId) (nr online : ℕ) : Type 0 where
   pub sized : table.words ≡ cells
+  pub no_slots : table.slots ≡ 0
   pub limits : AreLimits nr online

@@ -23,9 +23,12 @@ ghost use Rattle.smp_core.specs.Histories.{sent_to, calls_from};
 ghost use Rattle.smp_queue.specs.declared.seated.Seated.TheVariants.{Boot as BootSeat};
 ghost use Rattle.smp_queue.specs.Cells.{cells};
 ghost use Rattle.smp_queue.specs.Cpu.{TableValue, IsFull, PostAnswers, BeginAnswers, confirmed_at, confirms, sends};
+ghost use Rattle.smp_queue.specs.Audit.{Audited, IfDrained, AreEqual, HasRowsOf};
 
+use crate::audit::{Audit, answer};
 use crate::boot::Boot;
 use crate::chair::{seat_next, store};
+use crate::closing::Closing;
 use crate::cpu::CallCpu;
 use crate::post::{append, append_at_last, is_locked, write_record};
 use crate::rule::{Owner, Place};
@@ -64,7 +67,7 @@ impl<A: Allocator> Model for CallTable<A> {
 fn lay<A: Allocator>(alloc: A) -> Result<(Owner<A>, Place), AllocError>
 where
     A: Copy,
-    ensures { IfOk result (λ t. (t.0.shared.table_id.words ≡ cells) × (t.1.table_id ≡ t.0.shared.table_id) × (t.1.me.0 ≡ BootSeat 0)) }
+    ensures { IfOk result (λ t. (t.0.shared.table_id.words ≡ cells) × (t.0.shared.table_id.slots ≡ 0) × (t.1.table_id ≡ t.0.shared.table_id) × (t.1.me.0 ≡ BootSeat 0)) }
 {
     let words = Vec::from_elem(alloc, 0u64, WORDS)?;
     let (table, seat) = Table::of_words(alloc, words.as_slice(), &())?;
@@ -263,5 +266,20 @@ impl<A: Allocator> CallTable<A> {
         let first = append_at_last(rt, words, &mut me.chair, &posting, me.number, queued);
         me.queued[to as usize] = queued.wrapping_add(1);
         Ok(first)
+    }
+
+    /// Gives up the table and one of its CPUs. Drained where all queues are empty, all records unlocked and all
+    /// CPUs outside `handle`: then each call that was queued has run. Else what is left. Other CPUs of the table
+    /// are useless afterwards.
+    pub fn audit(self, last: CallCpu) -> Audit
+        requires { last.table ≡ self.table }
+        ensures audited { Audited self last result }
+        ensures equal { IfDrained result AreEqual }
+        ensures rows { IfDrained result (HasRowsOf last) }
+    {
+        let words = Closing::of(self.owner, last.chair);
+        let audit = answer(&words);
+        words.free();
+        audit
     }
 }

@@ -1,14 +1,12 @@
-use Rattle.std.proofs.Common.{◌≡◌, ℕ, ◌+◌, ◌≤◌, length, cond, Option, Some, None, sym, refl, ap, ◌∙◌, arith}
-use Rattle.smp_mask.specs.Mask.{has}
-use Rattle.smp_queue.specs.Desk.{Desk}
-use Rattle.smp_queue.specs.Cpu.{CpuValue, cpu_of, fresh_cpu}
+use Rattle.std.proofs.Common.{◌≡◌, length, cond, Some, None, refl, ap, ◌∙◌, arith}
+use Rattle.smp_queue.specs.Cpu.{cpu_of, fresh_cpu}
 use Rattle.smp_queue.proofs.Seating.{seats_more, seats_full}
 use Rattle.smp_queue.proofs.table.build.Goals as goal
 
 pub loop-number-init : goal.loop-number-init
 loop-number-init g c =
     let e = c.in_ok-owner.ensures in
-    record { sized = e.0; boot_is = e.1; next = e.2; count = ap length c.in_ok-waiting.ensures.items; each = λ cpu l. absurd (omega arith) }
+    record { sized = e.0; boot_is = e.2; next = e.3; count = ap length c.in_ok-waiting.ensures.items; each = λ cpu l. absurd (omega arith) }
 
 pub seat_next-chair-requires : goal.seat_next-chair-requires
 seat_next-chair-requires g c = let s = c.loop-number.invariant in (s.boot_is, s.sized, s.next)
