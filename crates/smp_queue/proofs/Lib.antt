@@ -1,5 +1,6 @@
 pub mod Appends
 pub mod Auditing
+pub mod Below
 pub mod Cells
 pub mod Closed
 pub mod Keeps

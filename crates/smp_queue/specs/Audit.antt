@@ -1,16 +1,16 @@
 -- What an audit answers, by the words of a table that no thread shares any more.
-use Rattle.std.specs.Prelude.{◌≡◌, ◌≢◌, ℕ, zero, suc, ◌+◌, ◌%◌, ◌^◌, ◌<◌, Bool, not, ◌==◌, if◌then◌else◌, List, [], length, slice_index_or}
+use Rattle.std.specs.Prelude.{◌≡◌, ◌≢◌, ℕ, zero, suc, ◌+◌, ◌%◌, ◌^◌, ◌<◌, ◌≤◌, ◌⊎◌, Bool, not, ◌==◌, if◌then◌else◌, List, [], length, slice_index_or}
 use Rattle.smp_core.specs.Size.{cpus, records}
 use Rattle.smp_core.specs.Calls.{CallState}
 use Rattle.smp_core.specs.Histories.{sent_to, calls_from, marked_from, batches_marked, orders}
-use Rattle.smp_core.specs.Known.{known_of}
+use Rattle.smp_core.specs.Known.{known_of, fresh}
 use Rattle.smp_core.specs.Shows.{Shows}
 use Rattle.smp_core.specs.Stages.{ControlValue}
 use Rattle.smp_core.specs.declared.known.Known.{Known}
 use Rattle.smp_core.specs.declared.word.Word.{Word}
 use Rattle.smp_core.specs.declared.word.Word.TheVariants.{Head, Hand, Queued, Ran, Flags}
 use Rattle.smp_queue.specs.Cells.{number_in}
-use Rattle.smp_queue.specs.Cpu.{TableValue, CpuValue, cpu_of}
+use Rattle.smp_queue.specs.Cpu.{TableValue, CpuValue, cpu_of, fresh_cpu}
 use Rattle.smp_queue.specs.declared.audit.Left.{Left}
 use Rattle.smp_queue.specs.declared.audit.Tally.{Tally}
 use Rattle.smp_queue.specs.declared.audit.Audit.{Audit}
@@ -58,12 +58,14 @@ abbrev pub AuditAnswers : (Word → ℕ) → Audit → Type 0
 AuditAnswers at (audit.Drained t) = (left_in at ≡ nothing_left) × IsTally at t
 AuditAnswers at (audit.Left left) = (left_in at ≡ left) × (left ≢ nothing_left)
 
--- these words show some calls, of which this is one CPU's part
-pub record Closes (v : Known) (words : List ℕ) : Type 0 where
+-- these words show some calls of nr CPUs, of which this is one CPU's part
+pub record Closes (nr : ℕ) (v : Known) (words : List ℕ) : Type 0 where
   pub calls : CallState
   pub controls : ℕ → ControlValue
   pub shown : Shows calls (number_in words) controls
   pub view : v ≡ known_of calls controls v.number
+  pub below : v.number < nr
+  pub absent : (cpu : ℕ) → nr ≤ cpu → known_of calls controls cpu ≡ fresh cpu
 
 -- all calls have run: what a source has sent to a CPU is what that has taken, in order, and it has run that in drain order
 pub record HaveRun (a : CallState) : Type 0 where
@@ -74,13 +76,15 @@ abbrev pub IfDrained : Audit → (Tally → Type 0) → Type 0
 IfDrained (audit.Drained t) P = P t
 IfDrained (audit.Left left) P = Unit {0}
 
--- the answer is that of some words which show some calls; the last CPU's part of them is its own
+-- the answer is that of some words which show some calls; the last CPU's part of them is its own, and CPUs that are not there have done nothing
 pub record Audited (t : TableValue) (last : CpuValue) (answer : Audit) : Type 0 where
   pub calls : CallState
   pub at : Word → ℕ
   pub controls : ℕ → ControlValue
   pub shown : Shows calls at controls
   pub view : last ≡ cpu_of (record { table = t.table; known = known_of calls controls last.number })
+  pub below : last.number < t.nr
+  pub absent : (cpu : ℕ) → t.nr ≤ cpu → cpu_of (record { table = t.table; known = known_of calls controls cpu }) ≡ fresh_cpu t.table cpu
   pub answers : AuditAnswers at answer
   pub drained : IfDrained answer (λ t. HaveRun calls)
 
@@ -91,3 +95,7 @@ AreEqual t = (source to : ℕ) → source < cpus → to < cpus → tally_at t.qu
 -- a CPU's rows are its own tallies
 abbrev pub HasRowsOf : CpuValue → Tally → Type 0
 HasRowsOf c t = (other : ℕ) → other < cpus → (tally_at t.queued c.number other ≡ length (sent_to other c.sent) % 2 ^ 64) × (tally_at t.ran c.number other ≡ length (calls_from other c.ran) % 2 ^ 64)
+
+-- no calls to or from a CPU that is not there
+abbrev pub HasZerosFrom : ℕ → Tally → Type 0
+HasZerosFrom nr t = (cpu other : ℕ) → cpu < cpus → other < cpus → (nr ≤ cpu) ⊎ (nr ≤ other) → (tally_at t.queued cpu other ≡ 0) × (tally_at t.ran cpu other ≡ 0)

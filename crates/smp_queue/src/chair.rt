@@ -34,7 +34,7 @@ impl Model for Chair {
 
 /// A seat for the next CPU.
 pub(crate) fn seat_next(words: &Words, boot: &mut Place, n: u32) -> Chair
-    requires { (boot.old.table_id ≡ words.now.table_id) × (words.now.table_id.words ≡ cells) × (boot.old.me.0 ≡ Boot n) }
+    requires { (boot.old.table_id ≡ words.now.table_id) × (words.now.table_id.words ≡ cells) × (boot.old.me.0 ≡ Boot n) × (n < words.now.key) }
     ensures boot { (boot.new.table_id ≡ words.now.table_id) × (boot.new.me.0 ≡ Boot (n + 1)) }
     ensures seat { (result.table ≡ words.now.table_id) × (result.known ≡ fresh n) }
 {

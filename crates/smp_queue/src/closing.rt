@@ -34,7 +34,7 @@ impl<A: Allocator> Closing<A> {
     pub fn of(owner: Owner<A>, chair: Chair) -> Closing<A>
         requires table { chair.table ≡ owner.shared.table_id }
         requires sized { (owner.shared.table_id.words ≡ cells) × (owner.shared.table_id.slots ≡ 0) }
-        ensures { Closes chair.known result }
+        ensures { Closes owner.shared.key chair.known result }
     {
         let closed = owner.close_with(leave(chair));
         Closing { closed }

@@ -2,6 +2,8 @@ ghost use Rattle.std.specs.Prelude.{ℕ, ◌≡◌, true, IfSome};
 ghost use Rattle.smp_mask.specs.Mask.{has};
 ghost use Rattle.smp_queue.specs.Cpu.{left_at};
 
+mod audits;
+
 use super::*;
 use linked_list_allocator::LocalHeap;
 use smp_core::call::Class;

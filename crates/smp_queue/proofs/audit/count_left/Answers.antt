@@ -33,8 +33,8 @@ pub loop-cpu-preserved : goal.loop-cpu-preserved
 loop-cpu-preserved g c =
     let i = c.loop-cpu.invariant in
     record {
-      heads = counted_more _ c.loop-cpu.cpu c.loop-cpu.left.heads c.from.result _ i.heads c.from.ensures (ap (λ n. not (n == 0)) c.number.ensures);
-      handling = counted_more _ c.loop-cpu.cpu c.loop-cpu.left.handling c.from-in-loop-cpu.result _ i.handling c.from-in-loop-cpu.ensures (ap (λ n. not (n == 0)) c.number-in-loop-cpu.ensures);
+      heads = counted_more _ c.loop-cpu.cpu c.loop-cpu.left.heads c.from.result _ i.heads c.from.ensures (λ i. not (c.number.ensures i == 0));
+      handling = counted_more _ c.loop-cpu.cpu c.loop-cpu.left.handling c.from-in-loop-cpu.result _ i.handling c.from-in-loop-cpu.ensures (λ i. not (c.number-in-loop-cpu.ensures i == 0));
       locked = i.locked;
     }
 
@@ -63,5 +63,5 @@ loop-id-preserved g c =
     record {
       heads = i.heads;
       handling = i.handling;
-      locked = counted_more _ c.loop-id.id c.loop-id.left.locked c.from-in-loop-id.result _ i.locked c.from-in-loop-id.ensures (ap (λ n. n % 2 == 1) c.number-in-loop-id.ensures);
+      locked = counted_more _ c.loop-id.id c.loop-id.left.locked c.from-in-loop-id.result _ i.locked c.from-in-loop-id.ensures (λ i. c.number-in-loop-id.ensures i % 2 == 1);
     }
