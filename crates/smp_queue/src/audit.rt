@@ -75,8 +75,8 @@ fn read_tally<A: Allocator>(words: &Closing<A>) -> Tally
     ensures { IsTally (number_in words.now) result }
 {
     let mut tally = Tally {
-        queued: [[0; 8]; 8],
-        ran: [[0; 8]; 8],
+        queued: [[0; NR_CPUS as usize]; NR_CPUS as usize],
+        ran: [[0; NR_CPUS as usize]; NR_CPUS as usize],
     };
     for cpu in 0..NR_CPUS {
         tally.queued[cpu as usize] = queued_by(words, cpu);
@@ -90,7 +90,7 @@ fn queued_by<A: Allocator>(words: &Closing<A>, source: u32) -> [u64; NR_CPUS as 
     requires { source < cpus }
     ensures { IsRow (λ to. number_in words.now (Queued source to)) result }
 {
-    let mut row = [0; 8];
+    let mut row = [0; NR_CPUS as usize];
     for to in 0..NR_CPUS {
         row[to as usize] = words.number(Word::Queued(source, to));
     }
@@ -102,7 +102,7 @@ fn ran_by<A: Allocator>(words: &Closing<A>, cpu: u32) -> [u64; NR_CPUS as usize]
     requires { cpu < cpus }
     ensures { IsRow (λ source. number_in words.now (Ran cpu source)) result }
 {
-    let mut row = [0; 8];
+    let mut row = [0; NR_CPUS as usize];
     for source in 0..NR_CPUS {
         row[source as usize] = words.number(Word::Ran(cpu, source));
     }

@@ -6,6 +6,7 @@ ghost use Rattle.smp_queue.specs.Cpu.{left_at};
 
 use crate::{Audit, Boot, CallCpu, CallTable, Left, Tally};
 use smp_core::call::Class;
+use smp_core::size::NR_CPUS;
 use smp_mask::SmpError;
 use std::alloc::Global;
 use std::test::*;
@@ -29,8 +30,8 @@ fn a_table_with_no_calls_is_drained(rt: HostRuntime) -> Result<(), Fail> {
         let (table, mut boot) = CallTable::new(rt.alloc(), nr, cpus.parse()?)?;
         let zero = seat(&table, &mut boot, 0)?;
         let nothing = Tally {
-            queued: [[0; 8]; 8],
-            ran: [[0; 8]; 8],
+            queued: [[0; NR_CPUS as usize]; NR_CPUS as usize],
+            ran: [[0; NR_CPUS as usize]; NR_CPUS as usize],
         };
         assert_eq!(rt; table.audit(zero), Audit::Drained(nothing), "{nr} {cpus}");
     }
