@@ -53,6 +53,7 @@ still words e = record {
     outside cpu true t = no_number (number_in words (Hand cpu)) _ refl (count_none (has_hand (number_in words)) cpus cpu (ap (λ (l : Left). l.handling) e) (ltb-true cpu cpus t))
     outside cpu false t = no_hand words cpu (ltb-false cpu cpus t)
 
+-- the tallies of a table that is drained are equal
 pub drained_equal : (nr : ℕ) (v : Known) (words : List ℕ) (answer : Audit) → Closes nr v words → AuditAnswers (number_in words) answer → IfDrained answer AreEqual
 drained_equal nr v words (audit.Drained t) c a = λ source to s d. a.1.queued_are source to s d ∙ (equal_tallies c.calls (number_in words) c.controls c.shown (still words a.0) source to ∙ sym (a.1.ran_are to source d s))
 drained_equal nr v words (audit.Left left) c a = tt
@@ -68,7 +69,7 @@ drained_rows nr d words (audit.Drained t) within c a = λ other below.
       a.1.queued_are me other l below ∙ (still_queued c.calls at c.controls c.shown s me other ∙ ap (λ (v : Known). length (sent_to other v.sent) % 2 ^ 64) (sym c.view)),
       a.1.ran_are me other l below ∙ (still_ran c.calls at c.controls c.shown s me other ∙ ap (λ (v : Known). length (calls_from other v.ran) % 2 ^ 64) (sym c.view)),
     )
-drained_rows nr d words (audit.Left left) l c a = tt
+drained_rows nr d words (audit.Left left) within c a = tt
 
 -- nothing was queued for or by a CPU that is not there
 pub drained_zeros : (nr : ℕ) (v : Known) (words : List ℕ) (answer : Audit) → Closes nr v words → AuditAnswers (number_in words) answer → IfDrained answer (HasZerosFrom nr)
@@ -87,6 +88,7 @@ drained_zeros nr v words (audit.Drained t) c a = λ cpu other l m past. (
     none_ran cpu source p = still_ran c.calls (number_in words) c.controls c.shown (still words a.0) cpu source ∙ ap (λ (u : Known). length (calls_from source u.ran) % 2 ^ 64) (c.absent cpu p)
 drained_zeros nr v words (audit.Left left) c a = tt
 
+-- all its calls have run
 drained_run : (nr : ℕ) (v : Known) (words : List ℕ) (answer : Audit) (c : Closes nr v words) → AuditAnswers (number_in words) answer → IfDrained answer (λ t. HaveRun c.calls)
 drained_run nr v words (audit.Drained t) c a =
     let at = number_in words in

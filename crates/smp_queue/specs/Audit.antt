@@ -37,6 +37,7 @@ has_hand at cpu = not (at (Hand cpu) == 0)
 abbrev pub left_in : (Word → ℕ) → Left
 left_in at = record { heads = count_below (has_head at) cpus; locked = count_below (has_lock at) records; handling = count_below (has_hand at) cpus }
 
+-- no head, no lock, no handling word
 abbrev pub nothing_left : Left
 nothing_left = record { heads = 0; locked = 0; handling = 0 }
 
@@ -72,11 +73,13 @@ pub record HaveRun (a : CallState) : Type 0 where
   pub taken : (source cpu : ℕ) → sent_to cpu (a.sent source) ≡ marked_from source (batches_marked (a.taken cpu))
   pub ran : (cpu : ℕ) → a.ran cpu ≡ orders (a.taken cpu)
 
+-- a fact of the tallies, where the answer has them
 abbrev pub IfDrained : Audit → (Tally → Type 0) → Type 0
 IfDrained (audit.Drained t) P = P t
 IfDrained (audit.Left left) P = Unit {0}
 
--- the answer is that of some words which show some calls; the last CPU's part of them is its own, and CPUs that are not there have done nothing
+-- The answer is that of some words, which show some calls. The last CPU's part of these is its own, CPUs that the
+-- table does not have have done nothing, and where it is drained the calls have run.
 pub record Audited (t : TableValue) (last : CpuValue) (answer : Audit) : Type 0 where
   pub calls : CallState
   pub at : Word → ℕ
@@ -96,6 +99,6 @@ AreEqual t = (source to : ℕ) → source < cpus → to < cpus → tally_at t.qu
 abbrev pub HasRowsOf : CpuValue → Tally → Type 0
 HasRowsOf c t = (other : ℕ) → other < cpus → (tally_at t.queued c.number other ≡ length (sent_to other c.sent) % 2 ^ 64) × (tally_at t.ran c.number other ≡ length (calls_from other c.ran) % 2 ^ 64)
 
--- no calls to or from a CPU that is not there
+-- no calls to or from a CPU that the table does not have
 abbrev pub HasZerosFrom : ℕ → Tally → Type 0
 HasZerosFrom nr t = (cpu other : ℕ) → cpu < cpus → other < cpus → (nr ≤ cpu) ⊎ (nr ≤ other) → (tally_at t.queued cpu other ≡ 0) × (tally_at t.ran cpu other ≡ 0)
