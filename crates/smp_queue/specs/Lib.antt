@@ -7,3 +7,5 @@ pub mod Plays
 pub mod Desk
 pub mod Cpu
 pub mod Table
+-- a handler, and what handling makes of it
+pub mod Handling

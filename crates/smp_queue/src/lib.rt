@@ -14,7 +14,8 @@ mod boot;
 mod cell;
 mod chair;
 mod cpu;
-mod plays;
+mod handle;
+mod handler;
 mod post;
 mod rule;
 mod seated;
@@ -22,6 +23,8 @@ mod table;
 
 pub use boot::Boot;
 pub use cpu::CallCpu;
+pub use handle::Handled;
+pub use handler::{Handler, Heard};
 pub use table::CallTable;
 
 #[cfg(test)]
