@@ -1,11 +1,11 @@
 -- A CPU inside handle: what holds of it by the laws, and what it knows after each of its steps.
-use Rattle.std.proofs.Common.{◌≡◌, ◌≢◌, ℕ, ◌+◌, ◌%◌, ◌^◌, ◌<◌, nat_lt, ◌==◌, Bool, true, false, cond, Option, Some, None, List, [], ◌∷◌, ◌++◌, length, append-nil, append_assoc, sym, subst, refl, ap, ◌∙◌, ◌⊎◌, inl, inr, arith}
+use Rattle.std.proofs.Common.{◌≡◌, ◌≢◌, ℕ, ◌+◌, ◌%◌, ◌^◌, ◌<◌, nat_lt, ◌==◌, Bool, true, false, cond, Option, Some, None, List, [], ◌∷◌, ◌++◌, length, length-append, append-nil, append_assoc, sym, subst, refl, ap, ◌∙◌, ◌⊎◌, inl, inr, arith}
 use Rattle.std.proofs.lemmas.Bool.{lt-ltb, eq-eqb}
 use Rattle.std.specs.Prelude.{slice_set}
 use Rattle.std.specs.List.{AllByRecursion}
 use Rattle.smp_core.specs.Size.{cpus, records}
 use Rattle.smp_core.specs.Flags.{class_of}
-use Rattle.smp_core.specs.Order.{order}
+use Rattle.smp_core.specs.Order.{order, if_sync, if_async, sync_calls, async_calls}
 use Rattle.smp_core.specs.Access.{word_of}
 use Rattle.smp_core.specs.Calls.{CallState, Running, Nothing, SyncCall, CountedCall, AsyncCall}
 use Rattle.smp_core.specs.Drains.{DrainValue, HasRoom, handle_goes, popped, with_loaded, rest_of, run_next, async_rest, load_or_run, loaded_or_run, FitsFound}
@@ -19,7 +19,7 @@ use Rattle.smp_core.specs.Known.{told_stage, told_post, told_handle, part_in, pa
 use Rattle.smp_core.specs.Handling.{handling, accepted_known, taken_known, loaded_known, begun_sync, counted_sync, begun_async, ended_call}
 use Rattle.smp_core.proofs.Links.{HasIndex, IsInTable}
 use Rattle.smp_core.proofs.Accesses.{access_in_table, loaded_placed}
-use Rattle.smp_core.proofs.Fits.{found_fits}
+use Rattle.smp_core.proofs.Fits.{found_fits, length-classes, one_class}
 use Rattle.smp_core.proofs.Restages.{access_known}
 use Rattle.smp_core.specs.declared.call.Call.{Call}
 use Rattle.smp_core.specs.declared.call.Class.{Class}
@@ -50,7 +50,7 @@ lives_on a control me at w g = record {
   view = subst (λ (n : ℕ). w ≡ known_of g.calls g.controls n) (ap (λ (u : Known). u.number) g.mine) (sym g.mine);
 }
 
-pub lives_then : (v : Known) (word : Word) (n : ℕ) → Moment v word n → Lives v
+abbrev pub lives_then : (v : Known) (word : Word) (n : ℕ) → Moment v word n → Lives v
 lives_then v word n t = record { calls = t.calls; at = t.at; control = t.control; shown = t.shown; view = t.view }
 
 -- who is told to be at a step of handle is there
@@ -173,6 +173,25 @@ module _ (v : Known) (l : Lives v) where
       bit_is true = refl
       bit_is false = refl
 
+  -- the batch is more than what is loaded
+  pub lives_more : (id : ℕ) → v.stage ≡ Some (Handle (handle.LoadFlags id)) → length v.drain.sync + length v.drain.async < length v.batch
+  lives_more id e =
+      let k = lives_stands (handle.LoadFlags id) e in
+      let left : List Call = k.1.older ++ k.0 ∷ [] in
+      let classes = length-classes left in
+      let some = length-append k.1.older (k.0 ∷ []) in
+      let sync = length-append (sync_calls left) v.drain.sync in
+      let async = length-append (async_calls left) v.drain.async in
+      let all = length-append (sync_calls left ++ v.drain.sync) (async_calls left ++ v.drain.async) in
+      let batch : length v.batch ≡ length ((sync_calls left ++ v.drain.sync) ++ (async_calls left ++ v.drain.async)) = ap length k.1.in_order in
+      omega arith
+
+  -- all is loaded, and the first call is taken out
+  pub lives_loaded : (sync async : List Call) → v.stage ≡ Some (Handle (run_next sync async)) → v.drain.sync ≡ rest_of sync → v.drain.async ≡ async_rest sync async → v.batch ≡ sync ++ async
+  lives_loaded (call ∷ rest) async e s a = (lives_stands (handle.BeginSync call) e).0.batch ∙ (λ i. call ∷ (s i ++ a i))
+  lives_loaded [] (call ∷ rest) e s a = (lives_stands (handle.BeginAsync call) e).0.batch ∙ (λ i. call ∷ a i)
+  lives_loaded [] [] e s a = (lives_stands handle.Leave e).0.batch
+
 -- what a CPU that stands here knows after a step
 pub told_at : (queue : List Call) (v : Known) (s : Option Stage) (act : Act) (w : Word) (found put : Option ℕ) → v.stage ≡ s →
     known_taking queue v act w found put ≡ knowing v.number (stage_after s v.drain act w found put) (drain_then s v.drain found) (part_told queue (held_of s) act w found put (part_in v))
@@ -243,3 +262,11 @@ pub counted_async_is : (v : Known) (cpu source n : ℕ) (call : Call) → v.stag
 counted_async_is v cpu source n call e r =
     told_at [] v (Some (Handle (handle.CountAsync call))) act.Store (Ran cpu source) None (Some n) e
     ∙ (λ i. knowing v.number (Some (Handle (run_next v.drain.sync v.drain.async))) (popped v.drain) (part_counted (r i) (part_in v)))
+
+-- one call more is loaded
+pub length-with_loaded : (call : Call) (d : DrainValue) → length (with_loaded call d).sync + length (with_loaded call d).async ≡ length d.sync + length d.async + 1
+length-with_loaded call d =
+    let one = one_class call.class call in
+    let sync = length-append (if_sync call.class call) d.sync in
+    let async = length-append (if_async call.class call) d.async in
+    omega arith

@@ -62,3 +62,9 @@ IsRunStage (handle.BeginSync call) = Unit {0}
 IsRunStage (handle.BeginAsync call) = Unit {0}
 IsRunStage handle.Leave = Unit {0}
 IsRunStage _ = ⊥
+
+-- where a CPU has nothing more to do inside handle
+abbrev pub IsLeaving : HandleStage → Type 0
+IsLeaving handle.LeaveIdle = Unit {0}
+IsLeaving handle.Leave = Unit {0}
+IsLeaving _ = ⊥

@@ -1,7 +1,9 @@
 pub mod Appends
 pub mod Cells
+pub mod Handles
 pub mod Keeps
 pub mod Kept
+pub mod Loads
 pub mod Own
 pub mod Ready
 pub mod Seating

@@ -16,8 +16,11 @@ mod chair;
 mod cpu;
 mod handle;
 mod handler;
+pub mod laws;
+mod load;
 mod post;
 mod rule;
+mod run;
 mod seated;
 mod table;
 
