@@ -165,6 +165,13 @@ module _ (v : Known) (l : Lives v) where
       let placed : l.calls.place id ≡ place.Batch v.number = ap l.calls.place (sym k.1) ∙ k.2.placed in
       subst (λ (p : RecPlace). FlagsShow p (l.at (Flags id))) placed (l.shown.written.locks id)
 
+  -- the front of the batch is by a record
+  pub lives_front : (call : Call) (rest : List Call) → v.batch ≡ call ∷ rest → call.id < records
+  lives_front call rest e =
+      let all : AllByRecursion (IsPlaced l.calls.place (place.Batch v.number)) (call ∷ rest) = subst (λ (calls : List Call). AllByRecursion (IsPlaced l.calls.place (place.Batch v.number)) calls) e
+        (subst (λ (s : Share). AllByRecursion (IsPlaced l.calls.place (place.Batch v.number)) s.batch) same_share (l.shown.placed.batched v.number)) in
+      all.0.is_call.in_range
+
   -- an interrupt word is 0 or 1
   pub lives_intr : (cpu : ℕ) → (l.at (Intr cpu) == 1) ≡ cond (l.at (Intr cpu) == 0) false true
   lives_intr cpu = subst (λ (n : ℕ). (n == 1) ≡ cond (n == 0) false true) (sym (l.shown.noticed.words cpu)) (bit_is (l.calls.pending cpu))

@@ -6,4 +6,5 @@ pub mod Kept
 pub mod Loads
 pub mod Own
 pub mod Ready
+pub mod Running
 pub mod Seating

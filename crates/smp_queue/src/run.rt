@@ -39,7 +39,7 @@ fn run_sync<H: Handler>(
     requires me { chair.old.known.number ≡ number }
     requires at { InHandle words.now.table_id chair.old (handle.BeginSync call) }
     requires counts { AreRan counts.old chair.old.known }
-    ensures ran { HasRun H.leads words.now.table_id chair.old chair.new call counts.new handler.old handler.new }
+    ensures { HasRun H.leads words.now.table_id chair.old chair.new call counts.new handler.old handler.new }
 {
     let begun = laws::begin_sync(words, chair, number, call, handler);
     handler.call(owner_of(call.id), call.func, call.info);
@@ -60,7 +60,7 @@ fn run_async<H: Handler>(
     requires me { chair.old.known.number ≡ number }
     requires at { InHandle words.now.table_id chair.old (handle.BeginAsync call) }
     requires counts { AreRan counts.old chair.old.known }
-    ensures ran { HasRun H.leads words.now.table_id chair.old chair.new call counts.new handler.old handler.new }
+    ensures { HasRun H.leads words.now.table_id chair.old chair.new call counts.new handler.old handler.new }
 {
     let begun = laws::begin_async(words, chair, call, handler);
     handler.call(owner_of(call.id), call.func, call.info);
