@@ -1,5 +1,6 @@
 pub mod Appends
 pub mod Cells
+pub mod Entering
 pub mod Handles
 pub mod Keeps
 pub mod Kept

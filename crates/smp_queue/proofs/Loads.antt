@@ -76,10 +76,10 @@ module _ (t : TableId) (d d' : Desk) (v : Known) (call : Call) (n : ℕ) (h : Lo
     pub loads_over : InHandle t d' (load_or_run (with_loaded call v.drain) n)
     loads_over = in_handle_then t d' (load_or_run (with_loaded call v.drain) n) (loaded_known call n v) h.at.sized l.table_is l.lives loads_all refl
 
-same_stage : (d e : DrainValue) (link : ℕ) → SameCalls d e → load_or_run d link ≡ load_or_run e link
+pub same_stage : (d e : DrainValue) (link : ℕ) → SameCalls d e → load_or_run d link ≡ load_or_run e link
 same_stage d e link h = λ i. if link == 0 then run_next (h.0 i) (h.1 i) else handle.LoadFlags (link - 1)
 
-same_run : (d e : DrainValue) (b : Bool) → SameCalls d e → SameCalls (if b then first_run d else d) (if b then first_run e else e)
+pub same_run : (d e : DrainValue) (b : Bool) → SameCalls d e → SameCalls (if b then first_run d else d) (if b then first_run e else e)
 same_run d e true h = (ap rest_of h.0, λ i. async_rest (h.0 i) (h.1 i))
 same_run d e false h = h
 

@@ -63,3 +63,37 @@ fn leave(words: &Words, chair: &mut Chair, number: u32)
 {
     store(words, chair, Word::Hand(number), 0);
 }
+
+/// Takes the interrupt and, where there was one, the queue, and runs that.
+pub(crate) fn handle<H: Handler>(
+    words: &Words,
+    chair: &mut Chair,
+    number: u32,
+    counts: &mut [u64],
+    handler: &mut H,
+) -> Handled
+    requires outside { IsOutside words.now.table_id chair.old number }
+    requires counts { AreRan counts.old chair.old.known }
+    ensures outside { IsOutside words.now.table_id chair.new number }
+    ensures counts { AreRan counts.new chair.new.known }
+    ensures asked { result.interrupted ≡ true → (batch : List Call) × (cpu_of chair.new ≡ drains batch (asks true (cpu_of chair.old))) × (Grows H.leads handler.old (order batch) handler.new) × (result.ran ≡ length batch) }
+    ensures idle { result.interrupted ≡ false → (cpu_of chair.new ≡ asks false (cpu_of chair.old)) × (handler.new ≡ handler.old) × (result.ran ≡ 0) }
+{
+    if !enter(words, chair, number) {
+        leave(words, chair, number);
+        return Handled {
+            ran: 0,
+            interrupted: false,
+        };
+    }
+    let newest = take(words, chair, number);
+    let mut drain = Drain::new();
+    let first = load_batch(words, chair, &mut drain, newest);
+    let ran = drain.calls();
+    run_batch(words, chair, number, counts, &mut drain, first, handler);
+    leave(words, chair, number);
+    Handled {
+        ran,
+        interrupted: true,
+    }
+}
