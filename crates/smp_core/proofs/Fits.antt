@@ -45,11 +45,11 @@ link_fits nexts link (x ∷ xs) below b h l = link_fits nexts link xs (x.id + 1)
 chain_fits : (nexts : ℕ → ℕ) (link : ℕ) (calls : List Call) → AllByRecursion IsRecord calls → Leads nexts link calls 0 → link ≤ 2 ^ 32
 chain_fits nexts link calls h l = link_fits nexts link calls 0 (omega arith) h l
 
-one_class : (class : Class) (call : Call) → length (if_sync class call) + length (if_async class call) ≡ 1
+pub one_class : (class : Class) (call : Call) → length (if_sync class call) + length (if_async class call) ≡ 1
 one_class Sync call = refl
 one_class Async call = refl
 
-length-classes : (calls : List Call) → length (sync_calls calls) + length (async_calls calls) ≡ length calls
+pub length-classes : (calls : List Call) → length (sync_calls calls) + length (async_calls calls) ≡ length calls
 length-classes [] = refl
 length-classes (x ∷ xs) =
     let one = one_class x.class x in

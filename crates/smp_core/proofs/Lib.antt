@@ -13,6 +13,7 @@ pub mod Every
 pub mod Fits
 pub mod Frames
 pub mod Handles
+pub mod Handling
 pub mod Links
 pub mod Lists
 pub mod Loaded

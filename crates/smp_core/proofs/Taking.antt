@@ -67,7 +67,7 @@ batches_marked-push : (batches : List (List Call)) (batch : List Call) → batch
 batches_marked-push [] batch = append-nil (marked batch)
 batches_marked-push (x ∷ xs) batch = ap (λ k. marked x ++ k) (batches_marked-push xs batch) ∙ sym (append_assoc (marked x) (batches_marked xs) (marked batch))
 
-orders-push : (batches : List (List Call)) (batch : List Call) → orders (batches ++ batch ∷ []) ≡ orders batches ++ order batch
+pub orders-push : (batches : List (List Call)) (batch : List Call) → orders (batches ++ batch ∷ []) ≡ orders batches ++ order batch
 orders-push [] batch = append-nil (order batch)
 orders-push (x ∷ xs) batch = ap (λ k. order x ++ k) (orders-push xs batch) ∙ sym (append_assoc (order x) (orders xs) (order batch))
 

@@ -16,12 +16,12 @@ calls_from-push source [] y = refl
 calls_from-push source (x ∷ xs) y = rw (calls_from-push source xs y) (push_one (owner x.id == source) x (calls_from source xs) (if owner y.id == source then y ∷ [] else []))
 
 -- one more of its own source
-count-same : (source : ℕ) (xs : List Call) (y : Call) → owner y.id ≡ source → length (calls_from source (xs ++ y ∷ [])) ≡ length (calls_from source xs) + 1
+pub count-same : (source : ℕ) (xs : List Call) (y : Call) → owner y.id ≡ source → length (calls_from source (xs ++ y ∷ [])) ≡ length (calls_from source xs) + 1
 count-same source xs y e =
     ap length (calls_from-push source xs y) ∙ (ap (λ (b : Bool). length (calls_from source xs ++ (if b then y ∷ [] else []))) (eq-eqb (owner y.id) source e) ∙ length-append (calls_from source xs) (y ∷ []))
 
 -- and none of another
-count-other : (source : ℕ) (xs : List Call) (y : Call) → owner y.id ≢ source → length (calls_from source (xs ++ y ∷ [])) ≡ length (calls_from source xs)
+pub count-other : (source : ℕ) (xs : List Call) (y : Call) → owner y.id ≢ source → length (calls_from source (xs ++ y ∷ [])) ≡ length (calls_from source xs)
 count-other source xs y ne =
     let sum : length (calls_from source xs ++ []) ≡ length (calls_from source xs) + length {A = Call} [] = length-append (calls_from source xs) [] in
     ap length (calls_from-push source xs y) ∙ (ap (λ (b : Bool). length (calls_from source xs ++ (if b then y ∷ [] else []))) (ne_eqb (owner y.id) source ne) ∙ omega arith)

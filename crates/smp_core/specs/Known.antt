@@ -320,6 +320,14 @@ pub record Moment (v : Known) (word : Word) (number : ℕ) : Type 0 where
   pub view : v ≡ known_of calls control v.number
   pub number_is : number ≡ at word
 
+-- some words show some calls, of which a CPU that knows v knows its part
+pub record Lives (v : Known) : Type 0 where
+  pub calls : CallState
+  pub at : Word → ℕ
+  pub control : ℕ → ControlValue
+  pub shown : Shows calls at control
+  pub view : v ≡ known_of calls control v.number
+
 -- the table goes on by a step of this CPU, after which it knows w
 pub record GoesOn (a : CallState) (control : ℕ → ControlValue) (me : ℕ) (at : Word → ℕ) (w : Known) : Type 0 where
   pub seen : Seen

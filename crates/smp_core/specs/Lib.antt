@@ -28,3 +28,4 @@ pub mod Batches
 pub mod Counts
 -- what a CPU knows
 pub mod Known
+pub mod Handling

@@ -2,7 +2,7 @@
 
 ghost use Rattle.std.specs.Prelude.{◌≡◌, ◌≤◌, ◌^◌, ◌++◌};
 ghost use Rattle.smp_core.specs.Batches.{has_record as has_record_in};
-ghost use Rattle.smp_core.specs.Drains.{no_drain, handle_outcome, drain_after, handle_goes, calling, popped, run_next as next_run, with_loaded, load_or_run as load_or_next, loaded_or_run, HasRoom, FitsFound, RoomAt};
+ghost use Rattle.smp_core.specs.Drains.{no_drain, handle_outcome, drain_after, handle_goes, calling, popped, first_run, run_next as next_run, with_loaded, load_or_run as load_or_next, loaded_or_run, HasRoom, FitsFound, RoomAt};
 
 use crate::call::{Call, Class};
 use crate::handle::HandleStage;
@@ -94,8 +94,15 @@ impl Drain {
         has_record(&self.sync_calls, id) || has_record(&self.async_calls, id)
     }
 
+    /// How many calls it has loaded, once all are.
+    pub fn calls(&self) -> u32
+        ensures { result ≡ self.now.calls }
+    {
+        self.calls
+    }
+
     /// One call more, older than all so far.
-    fn load(&mut self, call: Call)
+    pub fn load(&mut self, call: Call)
         requires { HasRoom self.old }
         ensures { self.new ≡ with_loaded call self.old }
     {
@@ -112,8 +119,7 @@ impl Drain {
         ensures drain { self.new ≡ loaded_or_run self.old link }
     {
         if link == 0 {
-            self.calls = (self.sync_calls.len() + self.async_calls.len()) as u32;
-            self.run_next()
+            self.begin()
         } else {
             HandleStage::LoadFlags {
                 id: (link - 1) as u32,
@@ -121,8 +127,17 @@ impl Drain {
         }
     }
 
+    /// All is loaded: takes out the call that runs first.
+    pub fn begin(&mut self) -> HandleStage
+        ensures stage { result ≡ next_run self.old.sync self.old.async }
+        ensures drain { self.new ≡ first_run self.old }
+    {
+        self.calls = (self.sync_calls.len() + self.async_calls.len()) as u32;
+        self.run_next()
+    }
+
     /// Takes out the call that runs next: the oldest SYNC call, else the oldest ASYNC call.
-    fn run_next(&mut self) -> HandleStage
+    pub fn run_next(&mut self) -> HandleStage
         ensures stage { result ≡ next_run self.old.sync self.old.async }
         ensures drain { self.new ≡ popped self.old }
     {

@@ -13,9 +13,10 @@ use Rattle.smp_core.specs.Stages.{ControlValue}
 use Rattle.smp_core.specs.Value.{outside}
 use Rattle.smp_core.specs.Shows.{Shows}
 use Rattle.smp_core.specs.Access.{at_after, word_of, seen_of}
-use Rattle.smp_core.specs.Known.{known_of, fresh, known_told, known_taking, known_tells, Aims, known_access, GoesOn, Moment}
+use Rattle.smp_core.specs.Known.{known_of, fresh, known_told, known_taking, known_tells, Aims, known_access, GoesOn, Moment, Lives}
 use Rattle.smp_core.proofs.Own.{put_same, put_other}
 use Rattle.smp_core.proofs.OneStep.{known_step}
+use Rattle.smp_core.proofs.Handling.{lives_on}
 use Rattle.smp_core.proofs.Starts.{zeros_shown, zero_at}
 use Rattle.smp_core.specs.declared.call.Call.{Call}
 use Rattle.smp_core.specs.declared.known.Known.{Known}
@@ -29,7 +30,7 @@ use Rattle.smp_queue.specs.declared.seated.Seated.{Seated}
 use Rattle.smp_queue.specs.declared.seated.Seated.TheVariants.{Boot, Of}
 use Rattle.smp_queue.specs.Cells.{cells, cell_of, number_in}
 use Rattle.smp_queue.specs.Rule.{Ruled, Sits, known, after, seated}
-use Rattle.smp_queue.specs.Plays.{loaded, stored, exchanged, swapped}
+use Rattle.smp_queue.specs.Plays.{LoadTells, StoreTells, ExchangeTells, SwapTells, loaded, stored, exchanged, swapped}
 use Rattle.smp_queue.specs.Desk.{IsOf, Can}
 use Rattle.smp_queue.proofs.Cells.{one_cell, number_here, stored_here}
 
@@ -168,15 +169,16 @@ module _ {S : Type 0} where
     steps : (i : ℕ) (f : ℕ → ℕ) (then : ℕ → Me S Seated → Type 0) →
         ((a : CallState) (control : ℕ → ControlValue) (words : List ℕ) → Shows a (number_in words) control → length words ≡ cells → known me.0 ≡ known_of a control (known me.0).number →
         (w : Known) × GoesOn a control (known me.0).number (number_in (set words i (f (get_or words i 0)))) w × then (get_or words i 0) (Of w, me.1)) →
-        Allows Ruled slots id me i f then
+        Allows Ruled slots id me i f (λ n m. Lives (known m.0) × then n m)
     steps i f then go s r sized at fits =
         let at' : get_elem? s.views id ≡ some (Of v) = at ∙ ap some is in
         let mine : Sits r.calls r.controls r.seat r.next id (Of v) = r.each_seat id (Of v) at' in
         let t = go r.calls r.controls s.words r.shown r.wide mine.2 in
-        (Of t.0, keeps, tt, lifts s r id i (f (get_or s.words i 0)) v t.0 me.1 at' t.1, t.2)
+        let lives : Lives t.0 = lives_on r.calls r.controls v.number (number_in (set s.words i (f (get_or s.words i 0)))) t.0 t.1 in
+        (Of t.0, keeps, tt, lifts s r id i (f (get_or s.words i 0)) v t.0 me.1 at' t.1, (lives, t.2))
 
     pub load_allowed : (w : Word) (i : ℕ) → cell_of w ≡ Some i → Can (known me.0) (Load w) → Allows Ruled slots id me i (λ n. n) (loaded (step slots i 0 0 none) me)
-    load_allowed w i e can = steps i (λ n. n) (loaded (step slots i 0 0 none) me) (λ a control words shown wide view.
+    load_allowed w i e can = steps i (λ n. n) (LoadTells (step slots i 0 0 none) me) (λ a control words shown wide view.
         let here : number_in words w ≡ get_or words i 0 = number_here words w i e in (
           known_told v act.Load w (Some (get_or words i 0)) None,
           subst (λ (x : List ℕ). GoesOn a control v.number (number_in x) (known_told v act.Load w (Some (get_or words i 0)) None)) (sym (set-get_or words i 0))
@@ -188,7 +190,7 @@ module _ {S : Type 0} where
         ))
 
     pub store_allowed : (w : Word) (i x : ℕ) → cell_of w ≡ Some i → Can (known me.0) (Store w x) → Allows Ruled slots id me i (λ _. x) (λ _. stored (step slots i x 0 none) me x)
-    store_allowed w i x e can = steps i (λ _. x) (λ _. stored (step slots i x 0 none) me x) (λ a control words shown wide view. (
+    store_allowed w i x e can = steps i (λ _. x) (λ _. StoreTells (step slots i x 0 none) me x) (λ a control words shown wide view. (
       known_told v act.Store w None (Some x),
       subst (λ (at : Word → ℕ). GoesOn a control v.number at (known_told v act.Store w None (Some x))) (sym (stored_here words w i x wide e)) (store_step a (number_in words) control v w x can shown view),
       λ u f. ap (λ (y : Word). Of (known_told v act.Store y None (Some x))) (one_cell w u i e f),
@@ -200,7 +202,7 @@ module _ {S : Type 0} where
 
     pub exchange_allowed : (w : Word) (i old new : ℕ) → cell_of w ≡ Some i → Can (known me.0) (Exchange w old new) →
         Allows Ruled slots id me i (λ n. either (n == old) new n) (exchanged (step slots i old new none) me)
-    exchange_allowed w i old new e can = steps i (λ n. either (n == old) new n) (exchanged (step slots i old new none) me) (λ a control words shown wide view.
+    exchange_allowed w i old new e can = steps i (λ n. either (n == old) new n) (ExchangeTells (step slots i old new none) me) (λ a control words shown wide view.
         let n = get_or words i 0 in
         let here : number_in words w ≡ n = number_here words w i e in
         let same : (cond (number_in words w == old) (put_word (number_in words) w new) (number_in words)) ≡ number_in (set words i (either (n == old) new n)) =
@@ -213,7 +215,7 @@ module _ {S : Type 0} where
         ))
 
     pub swap_allowed : (w : Word) (i x : ℕ) → cell_of w ≡ Some i → Can (known me.0) (Swap w x) → Allows Ruled slots id me i (λ _. x) (swapped (step slots i x 0 none) me)
-    swap_allowed w i x e can = steps i (λ _. x) (swapped (step slots i x 0 none) me) (λ a control words shown wide view.
+    swap_allowed w i x e can = steps i (λ _. x) (SwapTells (step slots i x 0 none) me) (λ a control words shown wide view.
         let here : number_in words w ≡ get_or words i 0 = number_here words w i e in
         let q = a.queue v.number in (
           known_taking q v act.Swap w (Some (get_or words i 0)) (Some x),

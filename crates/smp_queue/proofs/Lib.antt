@@ -3,8 +3,12 @@ pub mod Auditing
 pub mod Below
 pub mod Cells
 pub mod Closed
+pub mod Entering
+pub mod Handles
 pub mod Keeps
 pub mod Kept
+pub mod Loads
 pub mod Own
 pub mod Ready
+pub mod Running
 pub mod Seating

@@ -34,6 +34,7 @@ ready_done t d id a out = record {
   table_is = a.table_is;
   sized = a.sized;
   can = record { stage = Done id; aims = (out, a.owned, a.in_range); is_access = refl };
+  apart = tt;
   cell = has_cell (Flags id) a.in_range;
 }
 
@@ -72,5 +73,6 @@ ready_post t d p st access m told ready same = record {
     aims = record { told = told; owned = m.at.owned; is_call = m.is_call; me_in_range = m.at.me_in_range; goes = goes p st m.to_in_range; ready = ready };
     is_access = same;
   };
+  apart = tt;
   cell = subst (λ (x : Access). HasCell (word_of x)) same (has_cell (word_of (known_access d.known (Post (counted p) st))) (post_in_table t d p st m));
 }

@@ -1,18 +1,22 @@
 -- A CPU at the table: its table and what it knows, and which accesses it may make.
-use Rattle.std.specs.Prelude.{◌≡◌, ℕ, ◌%◌, ◌^◌, ◌<◌, Some, length}
+use Rattle.std.specs.Prelude.{◌≡◌, ℕ, ◌%◌, ◌^◌, ◌<◌, Some, None, length}
 use Rattle.atomic_table.specs.Seated.{TableId}
 use Rattle.smp_core.specs.Access.{word_of}
 use Rattle.smp_core.specs.Size.{cpus, records, owner}
 use Rattle.smp_core.specs.Places.{IsCall}
 use Rattle.smp_core.specs.Histories.{sent_to}
 use Rattle.smp_core.specs.Stands.{posted}
-use Rattle.smp_core.specs.Known.{Aims, known_access, fresh, posting_of}
+use Rattle.smp_core.specs.Known.{Aims, known_access, fresh, posting_of, Lives}
 use Rattle.smp_core.specs.declared.known.Known.{Known}
+use Rattle.smp_core.specs.declared.word.Word.{Word}
 use Rattle.smp_core.specs.declared.access.Access.{Access}
+use Rattle.smp_core.specs.declared.access.Access.TheVariants.{Store}
 use Rattle.smp_core.specs.declared.post.Posting.{Posting}
 use Rattle.smp_core.specs.declared.post.PostStage.TheVariants as post
+use Rattle.smp_core.specs.declared.handle.HandleStage.{HandleStage}
+use Rattle.smp_core.specs.declared.handle.HandleStage.TheVariants as handle
 use Rattle.smp_core.specs.declared.stage.Stage.{Stage}
-use Rattle.smp_core.specs.declared.stage.Stage.TheVariants.{Post}
+use Rattle.smp_core.specs.declared.stage.Stage.TheVariants.{Post, Handle}
 use Rattle.smp_queue.specs.Cells.{cells, HasCell}
 use Rattle.smp_queue.specs.declared.seated.Seated.{Seated}
 use Rattle.smp_queue.specs.declared.seated.Seated.TheVariants.{Of}
@@ -33,12 +37,43 @@ pub record Can (v : Known) (access : Access) : Type 0 where
   pub aims : Aims v stage
   pub is_access : known_access v stage ≡ access
 
--- a CPU may make this access at this table
+-- a stage at which no call begins, is counted or ends
+abbrev pub IsApartFromCalls : Stage → Type 0
+IsApartFromCalls (Handle (handle.BeginSync call)) = ⊥
+IsApartFromCalls (Handle (handle.CountSync call)) = ⊥
+IsApartFromCalls (Handle (handle.EndSync call)) = ⊥
+IsApartFromCalls (Handle (handle.BeginAsync call)) = ⊥
+IsApartFromCalls (Handle (handle.CountAsync call)) = ⊥
+IsApartFromCalls _ = Unit {0}
+
+-- a CPU may make this access at this table, which begins, counts and ends no call
 pub record Ready (table : TableId) (desk : Desk) (access : Access) : Type 0 where
   pub table_is : desk.table ≡ table
   pub sized : table.words ≡ cells
   pub can : Can desk.known access
+  pub apart : IsApartFromCalls can.stage
   pub cell : HasCell (word_of access)
+
+-- a CPU of this number outside a command
+pub record IsOutside (table : TableId) (desk : Desk) (number : ℕ) : Type 0 where
+  pub table_is : desk.table ≡ table
+  pub sized : table.words ≡ cells
+  pub number_is : desk.known.number ≡ number
+  pub below : number < cpus
+  pub stage_is : desk.known.stage ≡ None
+
+-- a CPU inside handle, at this step of it
+pub record InHandle (table : TableId) (desk : Desk) (stage : HandleStage) : Type 0 where
+  pub table_is : desk.table ≡ table
+  pub sized : table.words ≡ cells
+  pub stage_is : desk.known.stage ≡ Some (Handle stage)
+  pub lives : Lives desk.known
+
+-- a step inside handle that stores this number in this word
+pub record IsStepOfCall (table : TableId) (desk : Desk) (word : Word) (number : ℕ) : Type 0 where
+  pub stage : HandleStage
+  pub at : InHandle table desk stage
+  pub is_access : known_access desk.known (Handle stage) ≡ Store word number
 
 -- a CPU that has done nothing
 abbrev pub fresh_desk : TableId → ℕ → Desk

@@ -9,3 +9,5 @@ pub mod Cpu
 pub mod Table
 -- what an audit answers
 pub mod Audit
+-- a handler, and what handling makes of it
+pub mod Handling

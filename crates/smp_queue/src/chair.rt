@@ -1,23 +1,25 @@
 //! A CPU's seat, and the accesses that it makes. Nothing above this page names a seat or a cell.
 
 ghost use Rattle.std.specs.Prelude.{◌≡◌, ◌+◌, ◌<◌, ◌==◌, if◌then◌else◌, Some, None};
-ghost use Rattle.smp_core.specs.Known.{known_told, known_taking, fresh, Moment};
+ghost use Rattle.smp_core.specs.Known.{known_told, known_taking, fresh, Moment, Lives};
 ghost use Rattle.smp_core.specs.declared.access.Access.TheVariants as access;
 ghost use Rattle.smp_core.specs.declared.seen.Act.TheVariants as act;
 ghost use Rattle.smp_queue.specs.declared.seated.Seated.TheVariants.{Boot, Of};
 ghost use Rattle.smp_queue.specs.Cells.{cells};
 ghost use Rattle.smp_queue.specs.Desk.{Desk, Ready};
+ghost use Rattle.smp_queue.specs.Plays.{loaded, stored, exchanged, swapped};
 
 use crate::cell::cell;
-use crate::plays::{Exchanged, Loaded, Stored, Swapped};
 use crate::rule::{Place, Seats, Words};
+use crate::seated::Seated;
+use atomic_table::Play;
 use smp_core::Word;
 use std::marker::Model;
 
 /// The seat of one CPU, seen as its table and what the CPU knows.
 #[derive(Drop)]
 pub struct Chair {
-    place: Place,
+    pub(crate) place: Place,
 }
 
 impl Model for Chair {
@@ -30,6 +32,32 @@ impl Model for Chair {
     ghost view = { λ c. record { table = c.place.table_id; known = known c.place.me.0 } };
 
     ghost invariant = { λ c. IsOf c.place.me.0 };
+}
+
+// What each kind of access tells. Only this page plays them.
+
+struct Loaded;
+
+impl Play<(), Seated> for Loaded {
+    ghost then = { loaded };
+}
+
+struct Stored;
+
+impl Play<(), Seated> for Stored {
+    ghost then = { stored };
+}
+
+struct Exchanged;
+
+impl Play<(), Seated> for Exchanged {
+    ghost then = { exchanged };
+}
+
+struct Swapped;
+
+impl Play<(), Seated> for Swapped {
+    ghost then = { swapped };
 }
 
 /// A seat for the next CPU.
@@ -53,6 +81,7 @@ pub(crate) fn leave(chair: Chair) -> Place
 pub(crate) fn load(words: &Words, chair: &mut Chair, word: Word) -> u64
     requires { Ready words.now.table_id chair.old (access.Load word) }
     ensures table { chair.new.table ≡ words.now.table_id }
+    ensures lives { Lives chair.new.known }
     ensures known { chair.new.known ≡ known_told chair.old.known act.Load word (Some result) None }
     ensures then { Moment chair.old.known word result }
 {
@@ -63,6 +92,7 @@ pub(crate) fn load(words: &Words, chair: &mut Chair, word: Word) -> u64
 pub(crate) fn store(words: &Words, chair: &mut Chair, word: Word, number: u64)
     requires { Ready words.now.table_id chair.old (access.Store word number) }
     ensures table { chair.new.table ≡ words.now.table_id }
+    ensures lives { Lives chair.new.known }
     ensures known { chair.new.known ≡ known_told chair.old.known act.Store word None (Some number) }
 {
     words.store::<Stored>(&mut chair.place, cell(word), number);
@@ -78,6 +108,7 @@ pub(crate) fn exchange(
 ) -> u64
     requires { Ready words.now.table_id chair.old (access.Exchange word expected number) }
     ensures table { chair.new.table ≡ words.now.table_id }
+    ensures lives { Lives chair.new.known }
     ensures known { chair.new.known ≡ known_told chair.old.known act.Cas word (Some result) (if result == expected then Some number else None) }
 {
     words.compare_exchange::<Exchanged>(&mut chair.place, cell(word), expected, number)
@@ -87,6 +118,7 @@ pub(crate) fn exchange(
 pub(crate) fn swap(words: &Words, chair: &mut Chair, word: Word, number: u64) -> u64
     requires { Ready words.now.table_id chair.old (access.Swap word number) }
     ensures table { chair.new.table ≡ words.now.table_id }
+    ensures lives { Lives chair.new.known }
     ensures known { (t : Moment chair.old.known word result) × (chair.new.known ≡ known_taking (t.calls.queue chair.old.known.number) chair.old.known act.Swap word (Some result) (Some number)) }
 {
     words.swap::<Swapped>(&mut chair.place, cell(word), number)

@@ -1,7 +1,7 @@
 //! One CPU at the table.
 
-ghost use Rattle.std.specs.Prelude.{◌≡◌, ◌<◌};
-ghost use Rattle.smp_core.specs.Size.{cpus};
+ghost use Rattle.std.specs.Prelude.{◌≡◌, ◌<◌, length};
+ghost use Rattle.smp_core.specs.Size.{cpus, records};
 ghost use Rattle.smp_core.specs.Known.{fresh};
 ghost use Rattle.smp_queue.specs.Cpu.{cpu_of};
 
@@ -46,9 +46,10 @@ impl CallCpu {
         }
     }
 
-    /// The CPU's number.
+    /// The CPU's number, which is below `NR_CPUS`. It has a confirmation of each record.
     pub fn number(&self) -> u32
-        ensures { result ≡ self.now.number }
+        ensures number { result ≡ self.now.number }
+        ensures sized { (self.now.number < cpus) × (length self.now.confirmed ≡ records) }
     {
         self.number
     }

@@ -17,15 +17,21 @@ mod cell;
 mod chair;
 mod closing;
 mod cpu;
-mod plays;
+mod handle;
+mod handler;
+pub mod laws;
+mod load;
 mod post;
 mod rule;
+mod run;
 mod seated;
 mod table;
 
 pub use audit::{Audit, Left, Tally};
 pub use boot::Boot;
 pub use cpu::CallCpu;
+pub use handle::Handled;
+pub use handler::{Handler, Heard};
 pub use table::CallTable;
 
 #[cfg(test)]

@@ -1,8 +1,7 @@
 //! The call table.
 //!
 //! Which steps may meet in which word, and what orders them. A record's source is the CPU that owns it, its target
-//! the CPU whose queue it goes to. The rule of the table has the target's steps; the call that makes them is not
-//! built yet.
+//! the CPU whose queue it goes to.
 //!
 //! | Word | Loads | Stores | Exchanges | What orders them |
 //! |---|---|---|---|---|
@@ -15,13 +14,16 @@
 //! | `func.r`, `info.r` | the target with the record in its batch | the source before the exchange that queues the record | none | that exchange, and the swap that takes the queue |
 //! | `next.r` | the target with the record in its batch | the source before each exchange | none | the same |
 
-ghost use Rattle.std.specs.Prelude.{◌≡◌, ◌≢◌, ◌⊎◌, ◌↔◌, ◌<◌, ◌≤◌, ◌%◌, ◌^◌, true, false, length, if◌then◌else◌, IfOk, IfErr, OnOk, IsErrOf, Ok};
+ghost use Rattle.std.specs.Prelude.{◌≡◌, ◌≢◌, ◌⊎◌, ◌↔◌, ◌<◌, ◌≤◌, ◌%◌, ◌^◌, true, false, length, if◌then◌else◌, IfOk, IfErr, OnOk, IsErrOf, Ok, List};
 ghost use Rattle.smp_mask.specs.Mask.{has};
 ghost use Rattle.smp_core.specs.Size.{records_of_one};
 ghost use Rattle.smp_core.specs.Limits.{AreLimits};
 ghost use Rattle.smp_core.specs.Histories.{sent_to, calls_from};
 ghost use Rattle.smp_queue.specs.declared.seated.Seated.TheVariants.{Boot as BootSeat};
+ghost use Rattle.smp_core.specs.Order.{order};
+ghost use Rattle.smp_core.specs.declared.call.Call.{Call};
 ghost use Rattle.smp_queue.specs.Cells.{cells};
+ghost use Rattle.smp_queue.specs.Handling.{Grows, asks, drains};
 ghost use Rattle.smp_queue.specs.Cpu.{TableValue, IsFull, PostAnswers, BeginAnswers, confirmed_at, confirms, sends};
 ghost use Rattle.smp_queue.specs.Audit.{Audited, IfDrained, AreEqual, HasRowsOf, HasZerosFrom};
 
@@ -30,6 +32,8 @@ use crate::boot::Boot;
 use crate::chair::{seat_next, store};
 use crate::closing::Closing;
 use crate::cpu::CallCpu;
+use crate::handle::{Handled, handle};
+use crate::handler::Handler;
 use crate::post::{append, append_at_last, is_locked, write_record};
 use crate::rule::{Owner, Place};
 use atomic_table::Table;
@@ -266,6 +270,18 @@ impl<A: Allocator> CallTable<A> {
         let first = append_at_last(rt, words, &mut me.chair, &posting, me.number, queued);
         me.queued[to as usize] = queued.wrapping_add(1);
         Ok(first)
+    }
+
+    /// Takes the CPU's interrupt and, where one was pending, its whole queue, and runs that batch: SYNC calls
+    /// first, each record unlocked after its function, then ASYNC calls, each record unlocked before its function,
+    /// both oldest first (`kernel/smp.c: __flush_smp_call_function_queue`). Where none was pending, nothing runs.
+    pub fn handle<H: Handler>(&self, me: &mut CallCpu, handler: &mut H) -> Handled
+        requires { me.old.table ≡ self.now.table }
+        ensures asked { result.interrupted ≡ true → (batch : List Call) × (me.new ≡ drains batch (asks true me.old)) × (Grows H.leads handler.old (order batch) handler.new) × (result.ran ≡ length batch) }
+        ensures idle { result.interrupted ≡ false → (me.new ≡ asks false me.old) × (handler.new ≡ handler.old) × (result.ran ≡ 0) }
+    {
+        let words = &self.owner.shared;
+        handle(words, &mut me.chair, me.number, &mut me.ran, handler)
     }
 
     /// Gives up the table and one of its CPUs. Drained where all queues are empty, all records unlocked and all

@@ -16,5 +16,6 @@ store-requires g c =
       table_is = ap (λ d. d.table) c.me.view_is ∙ (c.requires ∙ sym (ap (λ t. t.table) c.self.view_is));
       sized = c.self.invariant.sized;
       can = record { stage = Send c.args.to; aims = (m.outside, to, omega arith); is_access = refl };
+      apart = tt;
       cell = has_cell (Intr c.args.to) to;
     }

@@ -1,0 +1,6 @@
+use Rattle.std.proofs.Common.{◌≡◌, ◌∙◌, ◌<◌, refl, ap, sym, subst, arith}
+use Rattle.smp_queue.proofs.Entering.{leave_ready, leave_known}
+use Rattle.smp_queue.proofs.handle.leave.Goals as goal
+
+pub store-requires : goal.store-requires
+store-requires c = let h = c.requires.at in leave_ready _ _ c.args.chair.now _ h.0 h.1 h.2 c.requires.me

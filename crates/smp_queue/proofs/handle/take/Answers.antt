@@ -1,0 +1,9 @@
+use Rattle.std.proofs.Common.{◌≡◌, ◌∙◌, ◌<◌, ℕ, refl, ap, sym, subst, arith}
+use Rattle.smp_core.specs.declared.access.Access.TheVariants.{Swap}
+use Rattle.smp_core.specs.declared.word.Word.TheVariants.{Head}
+use Rattle.smp_core.specs.declared.handle.HandleStage.TheVariants as handle
+use Rattle.smp_queue.proofs.Handles.{in_handle_ready}
+use Rattle.smp_queue.proofs.handle.take.Goals as goal
+
+pub swap-requires : goal.swap-requires
+swap-requires c = in_handle_ready _ _ handle.Take c.requires.at (Swap (Head c.args.number) 0) tt (ap (λ (n : ℕ). Swap (Head n) 0) c.requires.me)

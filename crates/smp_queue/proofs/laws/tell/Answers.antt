@@ -1,0 +1,18 @@
+use Rattle.std.proofs.Common.{arith, refl, ap, sym, ◌∙◌, ◌≡◌, ◌<◌}
+use Rattle.smp_core.specs.declared.access.Access.TheVariants.{Store}
+use Rattle.smp_queue.proofs.Cells.{cell_below}
+use Rattle.smp_queue.proofs.Below.{store_below}
+use Rattle.smp_queue.proofs.Keeps.{can_same}
+use Rattle.smp_queue.proofs.Handles.{in_handle_can, in_handle_cell}
+use Rattle.smp_queue.proofs.laws.tell.Goals as goal
+
+pub cell-requires : goal.cell-requires
+cell-requires c = let r = c.requires in in_handle_cell _ _ r.stage r.at (Store c.args.word c.args.number) r.is_access
+
+pub store-requires : goal.store-requires
+store-requires c = let r = c.requires in let low = cell_below c.args.word c.cell.result c.cell.ensures in let w = r.at.sized in (
+  ap (λ d. d.table) c.chair.view_is ∙ r.at.table_is,
+  omega arith,
+  store_below _ _ _ _ c.chair.invariant c.args.word c.cell.result c.args.number c.cell.ensures
+      (can_same _ _ _ (ap (λ d. d.known) c.chair.view_is) (in_handle_can _ _ r.stage r.at (Store c.args.word c.args.number) r.is_access)),
+)

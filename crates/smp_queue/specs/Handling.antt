@@ -1,0 +1,65 @@
+-- What handling makes of a CPU and of its handler.
+use Rattle.std.specs.Prelude.{◌≡◌, ℕ, ◌%◌, ◌^◌, ◌<◌, Bool, List, [], ◌∷◌, ◌++◌, length, slice_index_or}
+use Rattle.std.specs.List.{FoldsTo}
+use Rattle.atomic_table.specs.Seated.{TableId}
+use Rattle.smp_core.specs.Size.{cpus, owner}
+use Rattle.smp_core.specs.Order.{order}
+use Rattle.smp_core.specs.Histories.{calls_from}
+use Rattle.smp_core.specs.Drains.{DrainValue, loaded_or_run, run_next, popped}
+use Rattle.smp_core.specs.declared.call.Call.{Call}
+use Rattle.smp_core.specs.declared.known.Known.{Known}
+use Rattle.smp_queue.specs.Cpu.{CpuValue, cpu_of}
+use Rattle.smp_queue.specs.Desk.{Desk, InHandle}
+use Rattle.smp_queue.specs.declared.handler.Heard.{Heard}
+
+abbrev pub heard : ℕ → ℕ → ℕ → Heard
+heard src func info = record { src = src; func = func; info = info }
+
+-- the call as its function hears it
+abbrev pub heard_of : Call → Heard
+heard_of call = heard (owner call.id) call.func call.info
+
+-- these calls, in order and no others, lead a handler from one value to the other
+abbrev pub Grows : {H : Type 0} → (H → Heard → H → Type 0) → H → List Call → H → Type 0
+Grows leads before calls after = FoldsTo (λ p call q. leads p (heard_of call) q) before calls after
+
+-- a CPU that has taken its interrupt word, where an interrupt was pending or not
+abbrev pub asks : Bool → CpuValue → CpuValue
+asks pending c = record c { asked = c.asked ++ pending ∷ [] }
+
+-- a CPU that has taken this batch and run it in drain order
+abbrev pub drains : List Call → CpuValue → CpuValue
+drains batch c = record c { taken = c.taken ++ batch ∷ []; ran = c.ran ++ order batch }
+
+-- the calls that two drains have loaded and not begun are the same
+abbrev pub SameCalls : DrainValue → DrainValue → Type 0
+SameCalls d e = (d.sync ≡ e.sync) × (d.async ≡ e.async)
+
+-- a CPU's drain, that has loaded what d has, and found this link
+abbrev pub HasLoaded : DrainValue → ℕ → DrainValue → Type 0
+HasLoaded d link e = SameCalls (loaded_or_run d link) e
+
+-- these are the numbers of the calls that a CPU has run, by their source
+pub record AreRan (counts : List ℕ) (v : Known) : Type 0 where
+  pub sized : length counts ≡ cpus
+  pub are : (source : ℕ) → source < cpus → slice_index_or counts source 0 ≡ length (calls_from source v.ran) % 2 ^ 64
+
+-- a CPU that has run these calls
+abbrev pub runs : List Call → CpuValue → CpuValue
+runs calls c = record c { ran = c.ran ++ calls }
+
+-- a CPU inside handle has run this call, and its handler has heard it
+pub record HasRun {H : Type 0} (leads : H → Heard → H → Type 0) (table : TableId) (old new : Desk) (call : Call) (counts : List ℕ) (before after : H) : Type 0 where
+  pub at : InHandle table new (run_next old.known.drain.sync old.known.drain.async)
+  pub drain : new.known.drain ≡ popped old.known.drain
+  pub batch : old.known.batch ≡ call ∷ new.known.batch
+  pub cpu : cpu_of new ≡ runs (call ∷ []) (cpu_of old)
+  pub counts_are : AreRan counts new.known
+  pub heard_it : leads before (heard_of call) after
+
+-- a CPU inside handle has run some calls, and its handler has heard them
+pub record HasRunAll {H : Type 0} (leads : H → Heard → H → Type 0) (old new : Desk) (counts : List ℕ) (before after : H) : Type 0 where
+  pub calls : List Call
+  pub cpu : cpu_of new ≡ runs calls (cpu_of old)
+  pub counts_are : AreRan counts new.known
+  pub grows : Grows leads before calls after

@@ -1,0 +1,99 @@
+//! Handling: a CPU takes its interrupt and, where there was one, its whole queue, and runs it
+//! (`kernel/smp.c: generic_smp_call_function_single_interrupt`).
+//!
+//! The interrupt is taken before the queue: a call that is queued later finds either its queue not yet taken or
+//! an interrupt word that may be set again.
+
+ghost use Rattle.std.specs.Prelude.{◌≡◌, ◌<◌, true, false, None, List, if◌then◌else◌, length};
+ghost use Rattle.smp_core.specs.Size.{cpus};
+ghost use Rattle.smp_core.specs.Order.{order};
+ghost use Rattle.smp_core.specs.Drains.{load_or_run};
+ghost use Rattle.smp_core.specs.Known.{outside_known};
+ghost use Rattle.smp_core.specs.Handling.{handling, accepted_known, taken_known, IsLeaving};
+ghost use Rattle.smp_core.specs.declared.call.Call.{Call};
+ghost use Rattle.smp_core.specs.declared.handle.HandleStage.{HandleStage};
+ghost use Rattle.smp_core.specs.declared.handle.HandleStage.TheVariants as handle;
+ghost use Rattle.smp_queue.specs.Desk.{InHandle, IsOutside};
+ghost use Rattle.smp_queue.specs.Cpu.{cpu_of};
+ghost use Rattle.smp_queue.specs.Handling.{AreRan, Grows, asks, drains};
+
+use crate::chair::{Chair, store, swap};
+use crate::handler::Handler;
+use crate::load::load_batch;
+use crate::rule::Words;
+use crate::run::run_batch;
+use smp_core::Word;
+use smp_core::drain::Drain;
+
+/// What `handle` has done.
+#[derive(Clone, Copy, Debug, PartialEq, Eq)]
+pub struct Handled {
+    /// How many calls it has run.
+    pub ran: u32,
+    /// Whether an interrupt was pending.
+    pub interrupted: bool,
+}
+
+/// Begins to handle, and takes the interrupt: whether one was pending.
+fn enter(words: &Words, chair: &mut Chair, number: u32) -> bool
+    requires { IsOutside words.now.table_id chair.old number }
+    ensures at { InHandle words.now.table_id chair.new (if result then handle.Take else handle.LeaveIdle) }
+    ensures known { chair.new.known ≡ accepted_known result (handling handle.Accept chair.old.known.drain chair.old.known) }
+{
+    store(words, chair, Word::Hand(number), 1);
+    swap(words, chair, Word::Intr(number), 0) != 0
+}
+
+/// Takes the whole queue: the link to its newest call, 0 where it is empty.
+fn take(words: &Words, chair: &mut Chair, number: u32) -> u64
+    requires me { chair.old.known.number ≡ number }
+    requires at { InHandle words.now.table_id chair.old handle.Take }
+    ensures at { InHandle words.now.table_id chair.new (load_or_run chair.old.known.drain result) }
+    ensures known { (queue : List Call) × (chair.new.known ≡ taken_known queue result chair.old.known) }
+{
+    swap(words, chair, Word::Head(number), 0)
+}
+
+/// Has handled.
+fn leave(words: &Words, chair: &mut Chair, number: u32)
+    requires me { chair.old.known.number ≡ number }
+    requires at { (stage : HandleStage) × InHandle words.now.table_id chair.old stage × IsLeaving stage }
+    ensures table { chair.new.table ≡ words.now.table_id }
+    ensures known { chair.new.known ≡ outside_known chair.old.known }
+{
+    store(words, chair, Word::Hand(number), 0);
+}
+
+/// Takes the interrupt and, where there was one, the queue, and runs that.
+pub(crate) fn handle<H: Handler>(
+    words: &Words,
+    chair: &mut Chair,
+    number: u32,
+    counts: &mut [u64],
+    handler: &mut H,
+) -> Handled
+    requires outside { IsOutside words.now.table_id chair.old number }
+    requires counts { AreRan counts.old chair.old.known }
+    ensures outside { IsOutside words.now.table_id chair.new number }
+    ensures counts { AreRan counts.new chair.new.known }
+    ensures asked { result.interrupted ≡ true → (batch : List Call) × (cpu_of chair.new ≡ drains batch (asks true (cpu_of chair.old))) × (Grows H.leads handler.old (order batch) handler.new) × (result.ran ≡ length batch) }
+    ensures idle { result.interrupted ≡ false → (cpu_of chair.new ≡ asks false (cpu_of chair.old)) × (handler.new ≡ handler.old) × (result.ran ≡ 0) }
+{
+    if !enter(words, chair, number) {
+        leave(words, chair, number);
+        return Handled {
+            ran: 0,
+            interrupted: false,
+        };
+    }
+    let newest = take(words, chair, number);
+    let mut drain = Drain::new();
+    let first = load_batch(words, chair, &mut drain, newest);
+    let ran = drain.calls();
+    run_batch(words, chair, number, counts, &mut drain, first, handler);
+    leave(words, chair, number);
+    Handled {
+        ran,
+        interrupted: true,
+    }
+}

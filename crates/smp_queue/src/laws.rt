@@ -1,0 +1,143 @@
+//! The steps that begin, count and end a call. Each is lent the handler, and one that counts or ends a call asks
+//! that the call has led the handler from what it was at its beginning to what it is: so no call is counted, and
+//! no SYNC record unlocked, before its function has run. No other page can make these steps.
+
+ghost use Rattle.std.specs.Prelude.{◌≡◌, ◌+◌, ◌%◌, ◌^◌, Some, None};
+ghost use Rattle.smp_core.specs.Size.{owner};
+ghost use Rattle.smp_core.specs.Drains.{run_next};
+ghost use Rattle.smp_core.specs.Known.{Lives, known_told, ran_tally};
+ghost use Rattle.smp_core.specs.Handling.{begun_sync, counted_sync, begun_async, ended_call};
+ghost use Rattle.smp_core.specs.declared.seen.Act.TheVariants as act;
+ghost use Rattle.smp_core.specs.declared.handle.HandleStage.TheVariants as handle;
+ghost use Rattle.smp_queue.specs.Desk.{InHandle, IsStepOfCall};
+ghost use Rattle.smp_queue.specs.Plays.{stored};
+ghost use Rattle.smp_queue.specs.Handling.{heard_of};
+
+use crate::cell::cell;
+use crate::chair::Chair;
+use crate::handler::Handler;
+use crate::rule::Words;
+use crate::seated::Seated;
+use atomic_table::Play;
+use smp_core::size::owner_of;
+use smp_core::{Call, Word};
+use std::snapshot::Snapshot;
+
+struct Told;
+
+impl Play<(), Seated> for Told {
+    ghost then = { stored };
+}
+
+/// A call that has begun, and the handler as it was then.
+#[derive(Drop)]
+pub struct Begun<H> {
+    before: Snapshot<H>,
+}
+
+fn tell(words: &Words, chair: &mut Chair, word: Word, number: u64)
+    requires { IsStepOfCall words.now.table_id chair.old word number }
+    ensures table { chair.new.table ≡ words.now.table_id }
+    ensures lives { Lives chair.new.known }
+    ensures known { chair.new.known ≡ known_told chair.old.known act.Store word None (Some number) }
+{
+    words.store::<Told>(&mut chair.place, cell(word), number);
+}
+
+/// A SYNC call begins: the handling word names its record, which stays locked.
+pub fn begin_sync<H: Handler>(
+    words: &Words,
+    chair: &mut Chair,
+    number: u32,
+    call: Call,
+    handler: &H,
+) -> Begun<H>
+    requires me { chair.old.known.number ≡ number }
+    requires at { InHandle words.now.table_id chair.old (handle.BeginSync call) }
+    ensures at { InHandle words.now.table_id chair.new (handle.CountSync call) }
+    ensures known { chair.new.known ≡ begun_sync call chair.old.known }
+    ensures before { result.before.value ≡ handler.now }
+{
+    tell(words, chair, Word::Hand(number), call.id as u64 + 2);
+    Begun {
+        before: Snapshot::of(handler),
+    }
+}
+
+/// A SYNC call whose function has run is counted, as the call of this count from its source.
+pub fn count_sync<H: Handler>(
+    words: &Words,
+    chair: &mut Chair,
+    number: u32,
+    call: Call,
+    count: u64,
+    handler: &H,
+    begun: &Begun<H>,
+)
+    requires me { chair.old.known.number ≡ number }
+    requires at { InHandle words.now.table_id chair.old (handle.CountSync call) }
+    requires count { count ≡ (ran_tally chair.old.known (owner call.id) + 1) % 2 ^ 64 }
+    requires heard { H.leads begun.now.before.value (heard_of call) handler.now }
+    ensures at { InHandle words.now.table_id chair.new (handle.EndSync call) }
+    ensures known { chair.new.known ≡ counted_sync call chair.old.known }
+{
+    let _ = handler;
+    let _ = begun;
+    tell(words, chair, Word::Ran(number, owner_of(call.id)), count);
+}
+
+/// A SYNC call whose function has run ends: its record is unlocked.
+pub fn end_sync<H: Handler>(
+    words: &Words,
+    chair: &mut Chair,
+    call: Call,
+    handler: &H,
+    begun: Begun<H>,
+)
+    requires at { InHandle words.now.table_id chair.old (handle.EndSync call) }
+    requires heard { H.leads begun.before.value (heard_of call) handler.now }
+    ensures at { InHandle words.now.table_id chair.new (run_next chair.old.known.drain.sync chair.old.known.drain.async) }
+    ensures known { chair.new.known ≡ ended_call call chair.old.known }
+{
+    let _ = handler;
+    tell(words, chair, Word::Flags(call.id), 0);
+}
+
+/// An ASYNC call begins: its record is unlocked.
+pub fn begin_async<H: Handler>(
+    words: &Words,
+    chair: &mut Chair,
+    call: Call,
+    handler: &H,
+) -> Begun<H>
+    requires at { InHandle words.now.table_id chair.old (handle.BeginAsync call) }
+    ensures at { InHandle words.now.table_id chair.new (handle.CountAsync call) }
+    ensures known { chair.new.known ≡ begun_async call chair.old.known }
+    ensures before { result.before.value ≡ handler.now }
+{
+    tell(words, chair, Word::Flags(call.id), 0);
+    Begun {
+        before: Snapshot::of(handler),
+    }
+}
+
+/// An ASYNC call whose function has run is counted, as the call of this count from its source, and ends.
+pub fn count_async<H: Handler>(
+    words: &Words,
+    chair: &mut Chair,
+    number: u32,
+    call: Call,
+    count: u64,
+    handler: &H,
+    begun: Begun<H>,
+)
+    requires me { chair.old.known.number ≡ number }
+    requires at { InHandle words.now.table_id chair.old (handle.CountAsync call) }
+    requires count { count ≡ (ran_tally chair.old.known (owner call.id) + 1) % 2 ^ 64 }
+    requires heard { H.leads begun.before.value (heard_of call) handler.now }
+    ensures at { InHandle words.now.table_id chair.new (run_next chair.old.known.drain.sync chair.old.known.drain.async) }
+    ensures known { chair.new.known ≡ ended_call call chair.old.known }
+{
+    let _ = handler;
+    tell(words, chair, Word::Ran(number, owner_of(call.id)), count);
+}
