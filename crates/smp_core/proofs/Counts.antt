@@ -103,7 +103,7 @@ held_out : (p : RecPlace) → p ≡ place.Held → IsOut p
 held_out p e = record { queue = λ cpu f. cc; batch = λ cpu f. cc; running = λ cpu f. cc }
 
 module _ (a : CallState) (at : Word → ℕ) (control : ℕ → ControlValue) (s : Shows a at control) where
-  held_place : (source id : ℕ) → Holds (a.held source) id → a.place id ≡ place.Held
+  pub held_place : (source id : ℕ) → Holds (a.held source) id → a.place id ≡ place.Held
   held_place source id h =
       let k : Holds (held_of (control source).stage) id = rw (s.held source) at h in
       stage_held a.place at (share_of a source) (control source).drain source id (control source).stage (s.stands source) k

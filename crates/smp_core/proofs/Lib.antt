@@ -8,6 +8,7 @@ pub mod Cores
 pub mod Ending
 pub mod Entering
 pub mod Counts
+pub mod Drained
 pub mod Every
 pub mod Fits
 pub mod Frames

@@ -1,5 +1,8 @@
 pub mod Appends
+pub mod Auditing
+pub mod Below
 pub mod Cells
+pub mod Closed
 pub mod Entering
 pub mod Handles
 pub mod Keeps

@@ -1,14 +1,12 @@
 -- The CPUs of a table, as they are seated one after the other.
-use Rattle.std.proofs.Common.{◌≡◌, ◌≢◌, ℕ, ◌+◌, ◌<◌, ◌≤◌, Bool, true, false, cond, Option, Some, None, List, [], ◌∷◌, ◌++◌, length, length-append, get_or, sym, refl, ap, ◌∙◌, subst, inl, inr, arith}
+use Rattle.std.proofs.Common.{◌≡◌, ℕ, ◌+◌, ◌<◌, ◌≤◌, Bool, cond, Option, Some, None, List, [], ◌∷◌, ◌++◌, length, length-append, get_or, sym, refl, ap, ◌∙◌, inl, inr, arith}
 use Rattle.std.proofs.lemmas.List.{get_or_push, get_or_append_left}
 use Rattle.std.proofs.lemmas.Bool.{cases_eq}
 use Rattle.atomic_table.specs.Seated.{TableId}
 use Rattle.smp_mask.specs.Mask.{has}
-use Rattle.smp_core.specs.Size.{cpus}
 use Rattle.smp_core.specs.Limits.{AreLimits}
-use Rattle.smp_core.proofs.Starts.{online_below}
 use Rattle.smp_queue.specs.Cells.{cells}
-use Rattle.smp_queue.specs.Cpu.{CpuValue, fresh_cpu, BootValue, IsFull, left_at}
+use Rattle.smp_queue.specs.Cpu.{CpuValue, fresh_cpu, IsFull}
 use Rattle.smp_queue.specs.declared.seated.Seated.{Seated}
 use Rattle.smp_queue.specs.declared.seated.Seated.TheVariants.{Boot}
 
@@ -36,9 +34,9 @@ seats_more table boot_table boot_table' boot boot' online n waiting waiting' x s
     })
 
 -- once all are seated, all that are online are left
-pub seats_full : (table boot_table : TableId) (boot : Seated) (nr online n : ℕ) (waiting : List (Option CpuValue)) → AreLimits nr online → cpus ≤ n → Seats table boot_table boot online n waiting →
+pub seats_full : (table boot_table : TableId) (boot : Seated) (nr online n : ℕ) (waiting : List (Option CpuValue)) → AreLimits nr online → nr ≤ n → Seats table boot_table boot online n waiting →
     IsFull (record { online = online; cpus_left = waiting }) table online
 seats_full table boot_table boot nr online n waiting limits all s = record {
   online_is = refl;
-  fresh_are = λ cpu e. let below = online_below nr online cpu limits e in s.each cpu (omega arith) ∙ ap (λ (b : Bool). cond b (Some (fresh_cpu table cpu)) None) e;
+  fresh_are = λ cpu e. let below = limits.below cpu e in s.each cpu (omega arith) ∙ ap (λ (b : Bool). cond b (Some (fresh_cpu table cpu)) None) e;
 }

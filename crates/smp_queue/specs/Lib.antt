@@ -7,5 +7,7 @@ pub mod Plays
 pub mod Desk
 pub mod Cpu
 pub mod Table
+-- what an audit answers
+pub mod Audit
 -- a handler, and what handling makes of it
 pub mod Handling

@@ -42,3 +42,13 @@ pub record Ruled {S : Type 0} (s : State S Seated) : Type 0 where
   pub shown : Shows calls (number_in s.words) controls
   pub each_seat : (id : ℕ) (v : Seated) → get_elem? s.views id ≡ some v → Sits calls controls seat next id v
   pub absent : (cpu : ℕ) → next ≤ cpu → known_of calls controls cpu ≡ fresh cpu
+
+-- only CPUs below nr have a seat: the first seat counts them
+pub record SeatsBelow {S : Type 0} (nr : ℕ) (s : State S Seated) : Type 0 where
+  pub next : ℕ
+  pub few : next ≤ nr
+  pub counts : get_elem? s.views 0 ≡ some (Boot next)
+
+-- the rule of a table of nr CPUs
+abbrev pub RuledFor : {S : Type 0} → ℕ → State S Seated → Type 0
+RuledFor nr s = Ruled s × SeatsBelow nr s

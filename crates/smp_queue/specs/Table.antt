@@ -4,7 +4,9 @@ use Rattle.atomic_table.specs.Seated.{TableId}
 use Rattle.smp_core.specs.Limits.{AreLimits}
 use Rattle.smp_queue.specs.Cells.{cells}
 
--- it has a cell for each word, and its CPUs are such as may be
-pub record IsTable (table : TableId) (nr online : ℕ) : Type 0 where
+-- it has a cell for each word and no slots, its rule is that of nr CPUs, and its CPUs are such as may be
+pub record IsTable (table : TableId) (key nr online : ℕ) : Type 0 where
   pub sized : table.words ≡ cells
+  pub no_slots : table.slots ≡ 0
+  pub key_is : key ≡ nr
   pub limits : AreLimits nr online

@@ -5,7 +5,6 @@ ghost use Rattle.smp_mask.specs.Mask.{has};
 ghost use Rattle.smp_queue.specs.Cpu.{left_at, given};
 
 use crate::cpu::CallCpu;
-use smp_core::size::NR_CPUS;
 use smp_mask::{CpuMask, SmpError};
 use std::alloc::Allocator;
 use std::marker::Model;
@@ -18,15 +17,15 @@ pub struct Boot<A: Allocator> {
 }
 
 impl<A: Allocator> Model for Boot<A> {
-    ghost use Rattle.std.specs.Prelude.{◌≡◌, length};
-    ghost use Rattle.smp_core.specs.Size.{cpus};
+    ghost use Rattle.std.specs.Prelude.{◌≡◌, ℕ, ◌<◌, true, length};
+    ghost use Rattle.smp_mask.specs.Mask.{has};
     ghost use Rattle.smp_queue.specs.Cpu.{BootValue};
 
     ghost Value = { BootValue };
 
     ghost view = { λ b. record { online = b.online; cpus_left = b.waiting.items } };
 
-    ghost invariant = { λ b. length b.waiting.items ≡ cpus };
+    ghost invariant = { λ b. (cpu : ℕ) → has b.online cpu ≡ true → cpu < length b.waiting.items };
 }
 
 impl<A: Allocator> Boot<A> {

@@ -4,7 +4,7 @@ ghost use Rattle.std.specs.Prelude.{◌≡◌, ◌+◌, ◌<◌, ◌==◌, if◌
 ghost use Rattle.smp_core.specs.Known.{known_told, known_taking, fresh, Moment, Lives};
 ghost use Rattle.smp_core.specs.declared.access.Access.TheVariants as access;
 ghost use Rattle.smp_core.specs.declared.seen.Act.TheVariants as act;
-ghost use Rattle.smp_queue.specs.declared.seated.Seated.TheVariants.{Boot};
+ghost use Rattle.smp_queue.specs.declared.seated.Seated.TheVariants.{Boot, Of};
 ghost use Rattle.smp_queue.specs.Cells.{cells};
 ghost use Rattle.smp_queue.specs.Desk.{Desk, Ready};
 ghost use Rattle.smp_queue.specs.Plays.{loaded, stored, exchanged, swapped};
@@ -62,12 +62,19 @@ impl Play<(), Seated> for Swapped {
 
 /// A seat for the next CPU.
 pub(crate) fn seat_next(words: &Words, boot: &mut Place, n: u32) -> Chair
-    requires { (boot.old.table_id ≡ words.now.table_id) × (words.now.table_id.words ≡ cells) × (boot.old.me.0 ≡ Boot n) }
+    requires { (boot.old.table_id ≡ words.now.table_id) × (words.now.table_id.words ≡ cells) × (boot.old.me.0 ≡ Boot n) × (n < words.now.key) }
     ensures boot { (boot.new.table_id ≡ words.now.table_id) × (boot.new.me.0 ≡ Boot (n + 1)) }
     ensures seat { (result.table ≡ words.now.table_id) × (result.known ≡ fresh n) }
 {
     let place = words.split_seat::<Seats>(boot);
     Chair { place }
+}
+
+/// The seat of a CPU that makes no more steps.
+pub(crate) fn leave(chair: Chair) -> Place
+    ensures { (result.table_id ≡ chair.table) × (result.me.0 ≡ Of chair.known) }
+{
+    chair.place
 }
 
 /// Loads a word.

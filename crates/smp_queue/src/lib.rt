@@ -8,11 +8,14 @@
 //! | `post_within`, `post` | the source | all calls of other CPUs | the compare-exchange of the target's head |
 //! | `send` | any CPU | all calls of other CPUs | the store of the target's interrupt word |
 //! | `is_done`, `tally` | the source | all calls of other CPUs | the load of the record's flags |
+//! | `audit` | whoever owns the table | no other call: it takes the table | the end of all calls |
 #![tactic(auto)]
 
+mod audit;
 mod boot;
 mod cell;
 mod chair;
+mod closing;
 mod cpu;
 mod handle;
 mod handler;
@@ -24,6 +27,7 @@ mod run;
 mod seated;
 mod table;
 
+pub use audit::{Audit, Left, Tally};
 pub use boot::Boot;
 pub use cpu::CallCpu;
 pub use handle::Handled;

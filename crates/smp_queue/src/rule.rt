@@ -3,14 +3,14 @@
 use crate::seated::Seated;
 use atomic_table::{Seat, Shared, Split, Table, TableRule};
 
-/// The rule of the table.
+/// The rule of the table. Its key is how many CPUs the table has.
 pub struct CallRule;
 
-impl TableRule<(), Seated, ()> for CallRule {
-    ghost use Rattle.smp_queue.specs.Rule.{Ruled};
+impl TableRule<(), Seated, u32> for CallRule {
+    ghost use Rattle.smp_queue.specs.Rule.{RuledFor};
     ghost use Rattle.smp_queue.specs.declared.seated.Seated.TheVariants.{Boot};
 
-    ghost holds = { λ _. Ruled };
+    ghost holds = { λ nr. RuledFor nr };
 
     ghost first = { λ _. Boot 0 };
 }
@@ -27,10 +27,10 @@ impl Split<Seated> for Seats {
 }
 
 /// The words, as all threads share them.
-pub type Words = Shared<(), Seated, (), CallRule>;
+pub type Words = Shared<(), Seated, u32, CallRule>;
 
 /// The words with their memory.
-pub type Owner<A> = Table<(), Seated, (), CallRule, A>;
+pub type Owner<A> = Table<(), Seated, u32, CallRule, A>;
 
 /// A seat at the table.
 pub type Place = Seat<(), Seated>;

@@ -25,9 +25,12 @@ ghost use Rattle.smp_core.specs.declared.call.Call.{Call};
 ghost use Rattle.smp_queue.specs.Cells.{cells};
 ghost use Rattle.smp_queue.specs.Handling.{Grows, asks, drains};
 ghost use Rattle.smp_queue.specs.Cpu.{TableValue, IsFull, PostAnswers, BeginAnswers, confirmed_at, confirms, sends};
+ghost use Rattle.smp_queue.specs.Audit.{Audited, IfDrained, AreEqual, HasRowsOf, HasZerosFrom};
 
+use crate::audit::{Audit, answer};
 use crate::boot::Boot;
 use crate::chair::{seat_next, store};
+use crate::closing::Closing;
 use crate::cpu::CallCpu;
 use crate::handle::{Handled, handle};
 use crate::handler::Handler;
@@ -39,7 +42,7 @@ use smp_core::call::Class;
 use smp_core::command::Command;
 use smp_core::limits::are_limits;
 use smp_core::post::Posting;
-use smp_core::size::{NR_CPUS, RECORDS_OF_ONE, WORDS, record_of};
+use smp_core::size::{RECORDS_OF_ONE, WORDS, record_of};
 use smp_mask::{CpuMask, SmpError};
 use std::alloc::{AllocError, Allocator};
 use std::marker::Model;
@@ -61,21 +64,21 @@ impl<A: Allocator> Model for CallTable<A> {
 
     ghost view = { λ t. record { table = t.owner.shared.table_id; nr = t.nr; online = t.online } };
 
-    ghost invariant = { λ t. IsTable t.owner.shared.table_id t.nr t.online };
+    ghost invariant = { λ t. IsTable t.owner.shared.table_id t.owner.shared.key t.nr t.online };
 }
 
-/// The words, all 0, and the first seat.
-fn lay<A: Allocator>(alloc: A) -> Result<(Owner<A>, Place), AllocError>
+/// The words of a table of `nr` CPUs, all 0, and the first seat.
+fn lay<A: Allocator>(alloc: A, nr: u32) -> Result<(Owner<A>, Place), AllocError>
 where
     A: Copy,
-    ensures { IfOk result (λ t. (t.0.shared.table_id.words ≡ cells) × (t.1.table_id ≡ t.0.shared.table_id) × (t.1.me.0 ≡ BootSeat 0)) }
+    ensures { IfOk result (λ t. (t.0.shared.table_id.words ≡ cells) × (t.0.shared.table_id.slots ≡ 0) × (t.0.shared.key ≡ nr) × (t.1.table_id ≡ t.0.shared.table_id) × (t.1.me.0 ≡ BootSeat 0)) }
 {
     let words = Vec::from_elem(alloc, 0u64, WORDS)?;
-    let (table, seat) = Table::of_words(alloc, words.as_slice(), &())?;
+    let (table, seat) = Table::of_words(alloc, words.as_slice(), &nr)?;
     Ok((table, seat))
 }
 
-/// The table, and its CPUs: one seat for each number, of which those online are kept.
+/// The table, and its CPUs: one seat for each below `nr`, of which those online are kept.
 fn build<A: Allocator>(
     alloc: A,
     nr: u32,
@@ -86,9 +89,9 @@ where
     requires { AreLimits nr online }
     ensures { IfOk result (λ t. (t.0.nr ≡ nr) × (t.0.online ≡ online) × IsFull t.1 t.0.table online) }
 {
-    let mut waiting = Vec::with_capacity(alloc, NR_CPUS as usize)?;
-    let (owner, mut boot) = lay(alloc)?;
-    for number in 0..NR_CPUS {
+    let mut waiting = Vec::with_capacity(alloc, nr as usize)?;
+    let (owner, mut boot) = lay(alloc, nr)?;
+    for number in 0..nr {
         let chair = seat_next(&owner.shared, &mut boot, number);
         let cpu = CallCpu::new(chair, number);
         waiting.push(kept_if(online.contains(number), cpu))?;
@@ -279,5 +282,21 @@ impl<A: Allocator> CallTable<A> {
     {
         let words = &self.owner.shared;
         handle(words, &mut me.chair, me.number, &mut me.ran, handler)
+    }
+
+    /// Gives up the table and one of its CPUs. Drained where all queues are empty, all records unlocked and all
+    /// CPUs outside `handle`: then each call that was queued has run. Else what is left. Other CPUs of the table
+    /// are useless afterwards.
+    pub fn audit(self, last: CallCpu) -> Audit
+        requires { last.table ≡ self.table }
+        ensures audited { Audited self last result }
+        ensures equal { IfDrained result AreEqual }
+        ensures rows { IfDrained result (HasRowsOf last) }
+        ensures zeros { IfDrained result (HasZerosFrom self.nr) }
+    {
+        let words = Closing::of(self.owner, last.chair);
+        let audit = answer(&words);
+        words.free();
+        audit
     }
 }

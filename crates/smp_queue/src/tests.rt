@@ -2,6 +2,8 @@ ghost use Rattle.std.specs.Prelude.{ℕ, ◌≡◌, true, IfSome};
 ghost use Rattle.smp_mask.specs.Mask.{has};
 ghost use Rattle.smp_queue.specs.Cpu.{left_at};
 
+mod audits;
+
 use super::*;
 use crossbeam_utils::Backoff;
 use linked_list_allocator::LocalHeap;

@@ -1,15 +1,16 @@
-use Rattle.std.proofs.Common.{arith, refl, ap, sym, subst, ◌∙◌, ◌≡◌, ◌<◌, Some}
+use Rattle.std.proofs.Common.{arith, ap, subst, ◌∙◌, ◌≡◌, Some}
 use Rattle.smp_core.specs.Known.{Moment, known_taking}
 use Rattle.smp_core.specs.declared.known.Known.{Known}
 use Rattle.smp_core.specs.declared.seen.Act.TheVariants as act
 use Rattle.smp_queue.specs.Rule.{known}
+use Rattle.smp_queue.proofs.Below.{swap_below}
 use Rattle.smp_queue.proofs.Cells.{cell_below}
-use Rattle.smp_queue.proofs.Keeps.{swap_allowed, can_same}
+use Rattle.smp_queue.proofs.Keeps.{can_same}
 use Rattle.smp_queue.proofs.chair.swap.Goals as goal
 
 pub swap-requires : goal.swap-requires
 swap-requires c = let r = c.requires in let low = cell_below c.args.word c.cell.result c.cell.ensures in let w = r.sized in
-    (ap (λ d. d.table) c.chair.view_is ∙ r.table_is, omega arith, swap_allowed _ _ _ c.chair.invariant c.args.word c.cell.result c.args.number c.cell.ensures (can_same _ _ _ (ap (λ d. d.known) c.chair.view_is) r.can))
+    (ap (λ d. d.table) c.chair.view_is ∙ r.table_is, omega arith, swap_below _ _ _ _ c.chair.invariant c.args.word c.cell.result c.args.number c.cell.ensures (can_same _ _ _ (ap (λ d. d.known) c.chair.view_is) r.can))
 
 -- the moment, of what the caller sees
 pub returns-clause-known : goal.returns-clause-known

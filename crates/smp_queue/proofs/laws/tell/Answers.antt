@@ -1,7 +1,8 @@
 use Rattle.std.proofs.Common.{arith, refl, ap, sym, ◌∙◌, ◌≡◌, ◌<◌}
 use Rattle.smp_core.specs.declared.access.Access.TheVariants.{Store}
 use Rattle.smp_queue.proofs.Cells.{cell_below}
-use Rattle.smp_queue.proofs.Keeps.{store_allowed, can_same}
+use Rattle.smp_queue.proofs.Below.{store_below}
+use Rattle.smp_queue.proofs.Keeps.{can_same}
 use Rattle.smp_queue.proofs.Handles.{in_handle_can, in_handle_cell}
 use Rattle.smp_queue.proofs.laws.tell.Goals as goal
 
@@ -12,6 +13,6 @@ pub store-requires : goal.store-requires
 store-requires c = let r = c.requires in let low = cell_below c.args.word c.cell.result c.cell.ensures in let w = r.at.sized in (
   ap (λ d. d.table) c.chair.view_is ∙ r.at.table_is,
   omega arith,
-  store_allowed _ _ _ c.chair.invariant c.args.word c.cell.result c.args.number c.cell.ensures
+  store_below _ _ _ _ c.chair.invariant c.args.word c.cell.result c.args.number c.cell.ensures
       (can_same _ _ _ (ap (λ d. d.known) c.chair.view_is) (in_handle_can _ _ r.stage r.at (Store c.args.word c.args.number) r.is_access)),
 )

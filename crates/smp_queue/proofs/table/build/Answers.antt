@@ -1,17 +1,15 @@
-use Rattle.std.proofs.Common.{◌≡◌, ℕ, ◌+◌, ◌≤◌, length, cond, Option, Some, None, sym, refl, ap, ◌∙◌, arith}
-use Rattle.smp_mask.specs.Mask.{has}
-use Rattle.smp_queue.specs.Desk.{Desk}
-use Rattle.smp_queue.specs.Cpu.{CpuValue, cpu_of, fresh_cpu}
+use Rattle.std.proofs.Common.{◌≡◌, length, cond, Some, None, refl, ap, ◌∙◌, arith}
+use Rattle.smp_queue.specs.Cpu.{cpu_of, fresh_cpu}
 use Rattle.smp_queue.proofs.Seating.{seats_more, seats_full}
 use Rattle.smp_queue.proofs.table.build.Goals as goal
 
 pub loop-number-init : goal.loop-number-init
 loop-number-init g c =
     let e = c.in_ok-owner.ensures in
-    record { sized = e.0; boot_is = e.1; next = e.2; count = ap length c.in_ok-waiting.ensures.items; each = λ cpu l. absurd (omega arith) }
+    record { sized = e.0; boot_is = e.3; next = e.4; count = ap length c.in_ok-waiting.ensures.items; each = λ cpu l. absurd (omega arith) }
 
 pub seat_next-chair-requires : goal.seat_next-chair-requires
-seat_next-chair-requires g c = let s = c.loop-number.invariant in (s.boot_is, s.sized, s.next)
+seat_next-chair-requires g c = let s = c.loop-number.invariant in let t = c.loop-number-test.true in let k = c.in_ok-owner.ensures.2 in (s.boot_is, s.sized, s.next, omega arith)
 
 pub loop-number-preserved : goal.loop-number-preserved
 loop-number-preserved g c =
@@ -22,9 +20,6 @@ loop-number-preserved g c =
     let cpu : c.new-cpu.result ≡ fresh_cpu c.in_ok-owner.owner.shared.table_id c.loop-number.number = c.new-cpu.ensures ∙ ap cpu_of desk in
     seats_more _ _ _ _ _ c.args.online c.loop-number.number c.loop-number.waiting.items c.push.new.self.items c.kept_if.result s b.0 b.1 c.in_ok-push.ensures.items
     (c.kept_if.ensures ∙ (λ i. cond (c.contains.ensures.member i) (Some (cpu i)) None))
-
-pub invariant_of-result : goal.invariant_of-result
-invariant_of-result g c = let s = c.loop-number.invariant in let t = c.loop-number-test.false in let n = c.loop-number.auto.number-end in s.count ∙ omega arith
 
 pub returns : goal.returns
 returns g c = (refl, refl, seats_full _ _ _ c.args.nr c.args.online c.loop-number.number c.loop-number.waiting.items c.requires c.loop-number-test.false c.loop-number.invariant)

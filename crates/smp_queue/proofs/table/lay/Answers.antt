@@ -3,9 +3,9 @@ use Rattle.std.proofs.lemmas.Grind.{common_steps}
 use Rattle.atomic_table.specs.Table.{opening}
 use Rattle.smp_queue.specs.declared.seated.Seated.TheVariants.{Boot}
 use Rattle.smp_queue.specs.Cells.{cells}
-use Rattle.smp_queue.specs.Rule.{Ruled}
-use Rattle.smp_queue.proofs.Keeps.{starts}
+use Rattle.smp_queue.specs.Rule.{RuledFor}
+use Rattle.smp_queue.proofs.Below.{starts_below}
 use Rattle.smp_queue.proofs.table.lay.Goals as goal
 
 pub of_words-requires : goal.of_words-requires
-of_words-requires g c = let same : c.as_slice.result.now ≡ replicate cells 0 = first_of (search rules, grind (arith, common_steps)) in subst (λ (ws : List ℕ). Ruled (opening ws [] (Boot 0))) (sym same) starts
+of_words-requires g c = let same : c.as_slice.result.now ≡ replicate cells 0 = first_of (search rules, grind (arith, common_steps)) in subst (λ (ws : List ℕ). RuledFor c.args.nr (opening ws [] (Boot 0))) (sym same) (starts_below c.args.nr)

@@ -1,0 +1,6 @@
+use Rattle.smp_core.specs.declared.word.Word.TheVariants.{Queued}
+use Rattle.smp_queue.proofs.Cells.{has_cell}
+use Rattle.smp_queue.proofs.audit.queued_by.Goals as goal
+
+pub number-requires : goal.number-requires
+number-requires g c = has_cell (Queued c.args.source c.loop-to.to) (c.requires, c.loop-to-test.true)

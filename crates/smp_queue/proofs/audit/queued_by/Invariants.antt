@@ -1,0 +1,7 @@
+use Rattle.smp_core.specs.declared.word.Word.TheVariants.{Queued}
+use Rattle.smp_queue.specs.Cells.{number_in}
+use Rattle.smp_queue.proofs.Auditing.{Reads}
+use Rattle.smp_queue.proofs.audit.queued_by.Given as goal
+
+abbrev pub invariant-loop-to : goal.invariant-loop-to
+invariant-loop-to g l = Reads (λ to. number_in l.words (Queued l.source to)) l.to l.row

@@ -1,0 +1,6 @@
+use Rattle.smp_core.specs.declared.word.Word.TheVariants.{Ran}
+use Rattle.smp_queue.proofs.Cells.{has_cell}
+use Rattle.smp_queue.proofs.audit.ran_by.Goals as goal
+
+pub number-requires : goal.number-requires
+number-requires g c = has_cell (Ran c.args.cpu c.loop-source.source) (c.requires, c.loop-source-test.true)

@@ -1,0 +1,7 @@
+use Rattle.smp_core.specs.declared.word.Word.TheVariants.{Ran}
+use Rattle.smp_queue.specs.Cells.{number_in}
+use Rattle.smp_queue.proofs.Auditing.{Reads}
+use Rattle.smp_queue.proofs.audit.ran_by.Given as goal
+
+abbrev pub invariant-loop-source : goal.invariant-loop-source
+invariant-loop-source g l = Reads (λ source. number_in l.words (Ran l.cpu source)) l.source l.row

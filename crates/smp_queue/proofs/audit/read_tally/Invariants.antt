@@ -1,0 +1,6 @@
+use Rattle.smp_queue.specs.Cells.{number_in}
+use Rattle.smp_queue.proofs.Auditing.{ReadsTally}
+use Rattle.smp_queue.proofs.audit.read_tally.Given as goal
+
+abbrev pub invariant-loop-cpu : goal.invariant-loop-cpu
+invariant-loop-cpu g l = ReadsTally (number_in l.words) l.cpu l.tally
