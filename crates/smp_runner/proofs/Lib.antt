@@ -16,4 +16,9 @@ pub mod Writing
 pub mod CanonicalTexts
 pub mod Splits
 pub mod Readings
+pub mod FieldFaults
+pub mod LineShapes
+pub mod OnlineFaults
+pub mod LineFaults
 pub mod FirstFaults
+pub mod OneFault
