@@ -4,3 +4,13 @@ pub mod Turns
 pub mod Steps
 -- a call by one record
 pub mod One
+-- lists of the members of a mask
+pub mod Lists
+-- one more of many CPUs
+pub mod Round
+-- the loops over many CPUs
+pub mod Loops
+-- the loops that send, and that wait
+pub mod Passes
+-- a call to many, out of its parts
+pub mod Parts

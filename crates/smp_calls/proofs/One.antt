@@ -70,7 +70,7 @@ or_cond : (b x : Bool) → (b || cond b false x) ≡ cond b true x
 or_cond true x = refl
 or_cond false x = refl
 
-by_case : (is wait m o : Bool) → (is ≡ false → m ≡ o) → cond is wait m ≡ cond is wait o
+pub by_case : (is wait m o : Bool) → (is ≡ false → m ≡ o) → cond is wait m ≡ cond is wait o
 by_case true wait m o e = refl
 by_case false wait m o e = e refl
 

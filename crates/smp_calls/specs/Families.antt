@@ -13,7 +13,7 @@ use Rattle.smp_queue.specs.declared.handler.Heard.{Heard}
 use Rattle.smp_calls.specs.declared.records.TheConstants.{ASYNC_RECORD, USER_RECORDS}
 use Rattle.smp_calls.specs.Handles.{Handled}
 use Rattle.smp_calls.specs.Queued.{Queued, destinations, sendings, is_first_to, is_used}
-use Rattle.smp_calls.specs.Records.{call_by, class_for, single_record, user_record}
+use Rattle.smp_calls.specs.Records.{call_by, class_for, single_record, user_record, many_call}
 
 -- a CPU's number is one, and it has all its records
 pub record IsSized (c : CpuValue) : Type 0 where
@@ -71,3 +71,9 @@ RefusesUser online old new u dst error.BadArgument = (USER_RECORDS ≤ u) × (ne
 RefusesUser online old new u dst error.Busy = (u < USER_RECORDS) × (confirmed_at old (user_record u) ≢ true) × (new ≡ old)
 RefusesUser online old new u dst error.NoCpu = (u < USER_RECORDS) × (dst ≢ old.number) × (has online dst ≡ false) × (new ≡ confirms (user_record u) old)
 RefusesUser online old new u dst _ = ⊥
+
+-- calls to these CPUs, ascending, each by its record for calls to many; these are confirmed exactly where it waited
+abbrev pub CallsMany : {H : Type 0} → (H → Heard → H → Type 0) → CpuValue → H → CpuValue → H → List ℕ → Class → ℕ → ℕ → Option Heard → Bool → Type 0
+CallsMany leads old before new after to class func info here waited =
+    (queued : List Queued) × (destinations queued ≡ to) ×
+    Calls leads old before new after (many_call old.number class func info) queued here waited

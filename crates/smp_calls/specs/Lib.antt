@@ -7,3 +7,5 @@ pub mod Queued
 pub mod Handles
 -- what a family leaves of its CPU and its handler
 pub mod Families
+-- what the parts of a call to many leave
+pub mod Rounds

@@ -25,3 +25,7 @@ single_record wait = if wait then SYNC_RECORD else ASYNC_RECORD
 -- the call by this record of this CPU
 abbrev pub call_by : ℕ → ℕ → Class → ℕ → ℕ → Call
 call_by number k class func info = record { id = record_of number k; class = class; func = func; info = info }
+
+-- the call to each of many CPUs
+abbrev pub many_call : ℕ → Class → ℕ → ℕ → ℕ → Call
+many_call number class func info to = call_by number (many_record to) class func info

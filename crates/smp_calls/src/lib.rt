@@ -2,6 +2,8 @@
 #![tactic(auto)]
 
 mod any;
+mod each;
+mod many;
 mod queue;
 mod records;
 mod single;
@@ -10,6 +12,7 @@ mod target;
 mod wait;
 
 pub use any::call_any;
+pub use many::{call_many, each_cpu_cond};
 pub use records::{ASYNC_RECORD, SYNC_RECORD, USER_RECORDS};
 pub use single::call_single;
 pub use single_async::call_async;
