@@ -81,6 +81,7 @@ module _ {H : Type 0} (leads : H → Heard → H → Type 0) where
     table_is = refl;
     number_is = refl;
     sized = length-set c.confirmed (record_of c.number k) false;
+    owes_sized = length-set (set c.owes to true) to false ∙ length-set c.owes to true;
     sent_is = refl;
     owes_are = λ x. owed_at c.owes to x;
     confirmed_are = λ j b. locked c c.number k j s l b refl;
@@ -90,6 +91,7 @@ module _ {H : Type 0} (leads : H → Heard → H → Type 0) where
     table_is = refl;
     number_is = refl;
     sized = length-set c.confirmed (record_of c.number k) false;
+    owes_sized = refl;
     sent_is = refl;
     owes_are = λ x. sym (and_true (owes_at c x));
     confirmed_are = λ j b. locked c c.number k j s l b refl;

@@ -101,6 +101,7 @@ module _ {H : Type 0} (leads : H → Heard → H → Type 0) where
         table_is = ap (λ (x : CpuValue). x.table) field;
         number_is = ap (λ (x : CpuValue). x.number) field;
         sized = ap (λ (x : CpuValue). length x.confirmed) field;
+        owes_sized = s.owes_sized;
         sent_is = ap (λ (x : CpuValue). x.sent) field ∙ sym (append-nil c.sent);
         owes_are = s.owes_are;
         confirmed_are = λ k b. ap (λ (x : CpuValue). confirmed_at x k) field;
@@ -118,7 +119,7 @@ module _ {H : Type 0} (leads : H → Heard → H → Type 0) where
         q.queued,
         q.called_are,
         leaves_as leads (λ c. owes_at old c && not (is_first_to c q.queued)) (λ k. cond (is_used call (record_of old.number k) q.queued) false (confirmed_at old k)) sent
-            (λ c. ap (λ (xs : List ℕ). owes_at mid c && not (is_in c xs)) (sym q.owed_are) ∙ owed_by (is_first_to c q.queued) (owes_at mid c) (owes_at old c) (q.queues.owed c))
+            (λ c. ap (λ (xs : List ℕ). owes_at mid c && not (is_in c xs)) (sym q.owed_are) ∙ owed_by (is_first_to c q.queued) (owes_at mid c) (owes_at old c) (q.queues.kept c))
             q.queues.leaves.confirmed_are,
       )
 

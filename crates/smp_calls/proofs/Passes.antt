@@ -1,5 +1,5 @@
 -- The loops that send an interrupt to each of many CPUs, and that wait for the record of each.
-use Rattle.std.proofs.Common.{◌≡◌, ℕ, ◌<◌, ◌==◌, ◌||◌, ◌&&◌, not, Bool, true, false, None, List, [], ◌∷◌, ◌++◌, append_assoc, set, get_or, inl, inr, refl, sym, ap, ◌∙◌, subst}
+use Rattle.std.proofs.Common.{◌≡◌, length, length-set, ℕ, ◌<◌, ◌==◌, ◌||◌, ◌&&◌, not, Bool, true, false, None, List, [], ◌∷◌, ◌++◌, append_assoc, set, get_or, inl, inr, refl, sym, ap, ◌∙◌, subst}
 use Rattle.std.proofs.lemmas.Bool.{cases_eq, ne_eqb, eq-eqb}
 use Rattle.std.proofs.lemmas.List.{append-nil, get_or-set_other}
 use Rattle.smp_mask.specs.Mask.{has, members}
@@ -40,7 +40,7 @@ passed_all all left xs p none = sym (append-nil xs) ∙ (ap (λ (ys : List ℕ).
 -- ---- sending
 
 pub sends_none : (c : CpuValue) → Sends c c []
-sends_none c = record { others_are = refl; owes_are = λ x. sym (and_true (owes_at c x)) }
+sends_none c = record { others_are = refl; owes_sized = refl; owes_are = λ x. sym (and_true (owes_at c x)) }
 
 all_in : (o i : Bool) → false ≡ (o && not (i || true))
 all_in true true = refl
@@ -60,6 +60,7 @@ sends_more old mid new cpu xs s e =
     let owes : new.owes ≡ set mid.owes cpu false = ap (λ (x : CpuValue). x.owes) e in
     record {
       others_are = e ∙ (ap (λ (x : CpuValue). record x { owes = set mid.owes cpu false }) s.others_are ∙ ap (λ (o : List Bool). record old { owes = o }) (sym owes));
+      owes_sized = ap length owes ∙ (length-set mid.owes cpu false ∙ s.owes_sized);
       owes_are = λ c.
           ap (λ (o : List Bool). get_or o c false) owes ∙
           (owed_after mid.owes cpu c (owes_at old c) (is_in c xs) (s.owes_are c) ∙

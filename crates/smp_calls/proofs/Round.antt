@@ -1,7 +1,7 @@
 -- One more of many CPUs.
-use Rattle.std.proofs.Common.{◌≡◌, ℕ, ◌<◌, ◌==◌, ◌||◌, Bool, true, false, cond, None, List, [], ◌∷◌, ◌++◌, length-set, set, get_or, inl, inr, refl, sym, ap, ◌∙◌, subst}
-use Rattle.std.proofs.lemmas.Bool.{cases_eq, eq-eqb, or_parts}
-use Rattle.std.proofs.lemmas.List.{get_or-set_other}
+use Rattle.std.proofs.Common.{◌≡◌, length, ℕ, ◌<◌, ◌==◌, ◌||◌, Bool, true, false, cond, None, List, [], ◌∷◌, ◌++◌, length-set, set, get_or, inl, inr, refl, sym, ap, ◌∙◌, subst}
+use Rattle.std.proofs.lemmas.Bool.{cases_eq, cases_Bool, eq-eqb, eqb-true, or_parts}
+use Rattle.std.proofs.lemmas.List.{get_or-set_same, get_or-set_other}
 use Rattle.smp_core.specs.Size.{records_of_one, record_of}
 use Rattle.smp_core.specs.declared.call.Call.{Call}
 use Rattle.smp_core.specs.declared.call.Class.{Class}
@@ -68,9 +68,23 @@ owed_else true owes to c e = elim (cases_eq c to) [
 ]
 owed_else false owes to c e = refl
 
+owed_then : (first : Bool) (owes : List Bool) (to c : ℕ) → is_first_to c (one_queued to first) ≡ true → c < length owes → get_or (cond first (set owes to true) owes) c false ≡ true
+owed_then true owes to c e l =
+    let same : to ≡ c = eqb-true to c (sym (or_false (to == c)) ∙ e) in
+    subst (λ (x : ℕ). get_or (set owes to true) x false ≡ true) same (get_or-set_same owes to true false (subst (λ (x : ℕ). x < length owes) (sym same) l))
+owed_then false owes to c e l = cc
+
+owes_length : (first : Bool) (owes : List Bool) (to : ℕ) → length (cond first (set owes to true) owes) ≡ length owes
+owes_length true owes to = length-set owes to true
+owes_length false owes to = refl
+
+first_one : (a b : Bool) → (a || b) ≡ true → b ≡ false → a ≡ true
+first_one true b e n = refl
+first_one false b e n = cc
+
 module _ {H : Type 0} (leads : H → Heard → H → Type 0) where
   pub queues_none : (c : CpuValue) (h : H) (call : ℕ → Call) → Queues leads c h c h call []
-  queues_none c h call = record { leaves = leaves_none leads c h; owed = λ x e. refl }
+  queues_none c h call = record { leaves = leaves_none leads c h; kept = λ x e. refl; due = λ x e l. cc }
 
   -- the step of a post alone
   queues_post : (c : CpuValue) (h : H) (to : ℕ) (class : Class) (func info : ℕ) (first : Bool) → IsSized c → many_record to < records_of_one →
@@ -80,12 +94,14 @@ module _ {H : Type 0} (leads : H → Heard → H → Type 0) where
       table_is = refl;
       number_is = refl;
       sized = length-set c.confirmed (record_of c.number (many_record to)) false;
+      owes_sized = owes_length first c.owes to;
       sent_is = refl;
       owes_are = λ x. refl;
       confirmed_are = λ j b. locks_at c (many_record to) j s l b ∙ ap (λ x. cond x false (confirmed_at c j)) (sym (or_false (record_of c.number j == record_of c.number (many_record to))));
       handled = handles_same leads c (posts (many_record to) to class func info first c) h refl refl refl;
     };
-    owed = λ x e. owed_else first c.owes to x e;
+    kept = λ x e. owed_else first c.owes to x e;
+    due = λ x e l. owed_then first c.owes to x e l;
   }
 
   -- one queueing after the other
@@ -99,9 +115,13 @@ module _ {H : Type 0} (leads : H → Heard → H → Type 0) where
             (ap (cond (is_used call (record_of old.number k) ys) false) (f.leaves.confirmed_are k b) ∙
             (cond_both (is_used call (record_of old.number k) xs) (is_used call (record_of old.number k) ys) (confirmed_at old k) ∙
             ap (λ x. cond x false (confirmed_at old k)) (sym (ap (is_by (λ to. (call to).id) (record_of old.number k)) (destinations-append xs ys) ∙ is_by-append (λ to. (call to).id) (record_of old.number k) (destinations xs) (destinations ys))))));
-        owed = λ c e.
+        kept = λ c e.
             let parts = or_parts (is_first_to c xs) (is_first_to c ys) (sym (ap (is_in c) (firsts-append xs ys) ∙ is_in-append c (firsts xs) (firsts ys)) ∙ e) in
-            g.owed c parts.1 ∙ f.owed c parts.0;
+            g.kept c parts.1 ∙ f.kept c parts.0;
+        due = λ c e l. elim (cases_Bool (is_first_to c ys)) [
+          | inl last ↦ g.due c last (subst (λ (n : ℕ). c < n) (sym f.leaves.owes_sized) l)
+          | inr not_last ↦ g.kept c not_last ∙ f.due c (first_one (is_first_to c xs) (is_first_to c ys) (sym (ap (is_in c) (firsts-append xs ys) ∙ is_in-append c (firsts xs) (firsts ys)) ∙ e) not_last) l
+        ];
       }
 
   -- the record was waited for before
@@ -124,6 +144,7 @@ module _ {H : Type 0} (leads : H → Heard → H → Type 0) where
           leaves = leaves_as leads (owes_at new) (λ j. cond (is_used call (record_of old.number j) (one_queued to first)) false (confirmed_at old j)) both (λ c. refl) (λ j b.
               ap (λ (n : ℕ). cond (is_used call (record_of n j) (one_queued to first)) false (confirmed_at mid j)) f.number_is ∙
               by_case (is_used call (record_of old.number j) (one_queued to first)) false (confirmed_at mid j) (confirmed_at old j) (λ unused. f.confirmed_are j b ∙ ap (λ x. x || confirmed_at old j) (other_record old.number j k to b l is_k unused)));
-          owed = λ c none. posted.owed c none ∙ f.owes_are c;
+          kept = λ c none. posted.kept c none ∙ f.owes_are c;
+          due = λ c it below. posted.due c it (subst (λ (n : ℕ). c < n) (sym f.owes_sized) below);
         },
       )

@@ -44,6 +44,7 @@ module _ {H : Type 0} (leads : H → Heard → H → Type 0) where
     table_is = refl;
     number_is = refl;
     sized = refl;
+    owes_sized = refl;
     sent_is = sym (append-nil c.sent);
     owes_are = λ x. refl;
     confirmed_are = λ k l. refl;
@@ -56,6 +57,7 @@ module _ {H : Type 0} (leads : H → Heard → H → Type 0) where
     table_is = l.table_is;
     number_is = l.number_is;
     sized = l.sized;
+    owes_sized = l.owes_sized;
     sent_is = l.sent_is;
     owes_are = λ c. l.owes_are c ∙ same c;
     confirmed_are = λ k b. l.confirmed_are k b ∙ alike k b;
@@ -67,6 +69,7 @@ module _ {H : Type 0} (leads : H → Heard → H → Type 0) where
     table_is = l.table_is ∙ f.table_is;
     number_is = l.number_is ∙ f.number_is;
     sized = l.sized ∙ f.sized;
+    owes_sized = l.owes_sized ∙ f.owes_sized;
     sent_is = l.sent_is ∙ (ap (λ (xs : List Sending). xs ++ t) f.sent_is ∙ append_assoc old.sent s t);
     owes_are = l.owes_are;
     confirmed_are = l.confirmed_are;
@@ -78,6 +81,7 @@ module _ {H : Type 0} (leads : H → Heard → H → Type 0) where
     table_is = l.table_is ∙ f.table_is;
     number_is = l.number_is ∙ f.number_is;
     sized = l.sized ∙ f.sized;
+    owes_sized = l.owes_sized ∙ f.owes_sized;
     sent_is = l.sent_is ∙ (ap (λ (xs : List Sending). xs ++ t) f.sent_is ∙ append_assoc old.sent s t);
     owes_are = l.owes_are;
     confirmed_are = l.confirmed_are;
@@ -96,6 +100,7 @@ module _ {H : Type 0} (leads : H → Heard → H → Type 0) where
         table_is = refl;
         number_is = refl;
         sized = refl;
+        owes_sized = refl;
         sent_is = sym (append-nil c.sent);
         owes_are = λ x. refl;
         confirmed_are = λ k l. refl;
@@ -109,6 +114,7 @@ module _ {H : Type 0} (leads : H → Heard → H → Type 0) where
         table_is = refl;
         number_is = refl;
         sized = refl;
+        owes_sized = refl;
         sent_is = sym (append-nil c.sent);
         owes_are = λ x. refl;
         confirmed_are = λ k l. refl;
@@ -121,6 +127,7 @@ module _ {H : Type 0} (leads : H → Heard → H → Type 0) where
     table_is = refl;
     number_is = refl;
     sized = length-set c.confirmed (record_of c.number k) true;
+    owes_sized = refl;
     sent_is = sym (append-nil c.sent);
     owes_are = λ x. refl;
     confirmed_are = λ j b. confirms_at c k j s l b;
@@ -133,6 +140,7 @@ module _ {H : Type 0} (leads : H → Heard → H → Type 0) where
     table_is = refl;
     number_is = refl;
     sized = refl;
+    owes_sized = refl;
     sent_is = sym (append-nil c.sent);
     owes_are = λ y. refl;
     confirmed_are = λ k l. refl;

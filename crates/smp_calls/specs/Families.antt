@@ -29,6 +29,7 @@ pub record Leaves {H : Type 0} (leads : H → Heard → H → Type 0) (old : Cpu
   pub table_is : new.table ≡ old.table
   pub number_is : new.number ≡ old.number
   pub sized : length new.confirmed ≡ length old.confirmed
+  pub owes_sized : length new.owes ≡ length old.owes
   pub sent_is : new.sent ≡ old.sent ++ sent
   pub owes_are : (c : ℕ) → owes_at new c ≡ owes c
   pub confirmed_are : (k : ℕ) → k < records_of_one → confirmed_at new k ≡ confirmed k

@@ -1,5 +1,5 @@
 -- The parts of a call to many: queue each call, send each interrupt, wait for each record.
-use Rattle.std.specs.Prelude.{◌≡◌, ℕ, ◌<◌, Bool, true, false, not, ◌&&◌, ◌||◌, if◌then◌else◌, Option, Some, None, List, [], ◌∷◌}
+use Rattle.std.specs.Prelude.{◌≡◌, length, ℕ, ◌<◌, Bool, true, false, not, ◌&&◌, ◌||◌, if◌then◌else◌, Option, Some, None, List, [], ◌∷◌}
 use Rattle.smp_mask.specs.Mask.{has, members}
 use Rattle.smp_core.specs.Size.{cpus, record_of}
 use Rattle.smp_core.specs.declared.call.Call.{Call}
@@ -13,14 +13,16 @@ use Rattle.smp_calls.specs.Queued.{Queued, destinations, firsts, sendings, is_fi
 abbrev pub only_if : Bool → ℕ → List ℕ
 only_if counts cpu = if counts then cpu ∷ [] else []
 
--- calls were queued; where a call was the first in its queue, its CPU may be owed an interrupt
+-- calls were queued; where a call was the first in its queue, its CPU is owed an interrupt, and none is sent yet
 pub record Queues {H : Type 0} (leads : H → Heard → H → Type 0) (old : CpuValue) (before : H) (new : CpuValue) (after : H) (call : ℕ → Call) (queued : List Queued) : Type 0 where
   pub leaves : Leaves leads old before new after (sendings call queued) None (owes_at new) (λ k. if is_used call (record_of old.number k) queued then false else confirmed_at old k)
-  pub owed : (c : ℕ) → is_first_to c queued ≡ false → owes_at new c ≡ owes_at old c
+  pub kept : (c : ℕ) → is_first_to c queued ≡ false → owes_at new c ≡ owes_at old c
+  pub due : (c : ℕ) → is_first_to c queued ≡ true → c < length old.owes → owes_at new c ≡ true
 
 -- interrupts were sent to these CPUs, and nothing else was done
 pub record Sends (old new : CpuValue) (sent : List ℕ) : Type 0 where
   pub others_are : new ≡ record old { owes = new.owes }
+  pub owes_sized : length new.owes ≡ length old.owes
   pub owes_are : (c : ℕ) → owes_at new c ≡ (owes_at old c && not (is_in c sent))
 
 -- whether this record of a CPU is the one for calls to many with one of these destinations

@@ -17,3 +17,6 @@ pub use records::{ASYNC_RECORD, SYNC_RECORD, USER_RECORDS};
 pub use single::call_single;
 pub use single_async::call_async;
 pub use target::targets;
+
+#[cfg(test)]
+mod tests;

@@ -33,7 +33,7 @@ fn handle_own<A: Allocator, R: Wait, H: Handler>(
     requires { me.old.table ≡ table.now.table }
     ensures { Leaves H.leads me.old handler.old me.new handler.new [] None (owes_at me.old) (confirmed_at me.old) }
 {
-    table.handle(rt, me, handler);
+    table.handle(me, handler);
 }
 
 /// Waits until the record is unlocked, and handles the CPU's own interrupts meanwhile
