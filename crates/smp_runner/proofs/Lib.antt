@@ -16,6 +16,7 @@ pub mod Writing
 pub mod CanonicalTexts
 pub mod Splits
 pub mod Readings
+-- the first fault
 pub mod FieldFaults
 pub mod LineShapes
 pub mod OnlineFaults

@@ -7,7 +7,7 @@ use Rattle.smp_runner.specs.Lines.{Line, fields_of, lines_of}
 use Rattle.smp_runner.specs.Shapes.{Form, shape_of}
 use Rattle.smp_runner.specs.FieldFaults.{FieldFault, value_of}
 
--- what is wrong with a line as line n, where the lines up to it make so many events: the rank of the fault in the line, from the first in order, and its cause
+-- what is wrong with line n, where the lines up to it make so many events, by rank: its place in the order of a line's faults
 pub data LineFault (n events : ℕ) (line : Line) : ℕ → Cause → Type 0 where
   past_lines : 2000 < n → LineFault n events line 0 TooLong
   unended : line.ended ≡ false → LineFault n events line 1 Cut
@@ -25,7 +25,7 @@ events_in _ = 0
 abbrev pub events_to : List ℕ → ℕ → ℕ
 events_to text n = sum_by (λ l. events_in (fields_of l.text)) (take n (lines_of text))
 
--- what is wrong with line n of a text, counted from 1; line 0 is the text as a whole
+-- what is wrong with line n of a text, by rank; lines are counted from 1, and line 0 is the text as a whole
 pub data IsFault (text : List ℕ) : ℕ → ℕ → Cause → Type 0 where
   past_bytes : 65536 < length text → IsFault text 0 0 TooLong
   no_line : {n : ℕ} → length (lines_of text) < n → n ≤ 2 → IsFault text n 1 Cut
