@@ -97,9 +97,10 @@ to_load t d d' queue newest h known at =
     let k = lives_stands d.known h.lives handle.Take h.stage_is in
     let same : SameCalls no_drain d.known.drain = (sym k.3, sym k.4) in
     let run = same_run no_drain d.known.drain (newest == 0) same in
-    let here : d'.known.drain ≡ loaded_or_run d.known.drain newest = ap (λ (u : Known). u.drain) known in
-    (subst (λ (stage : HandleStage). InHandle t d' stage) (sym (same_stage no_drain d.known.drain newest same)) at,
-     (run.0 ∙ sym (ap (λ (e : DrainValue). e.sync) here), run.1 ∙ sym (ap (λ (e : DrainValue). e.async) here)))
+    let here : d'.known.drain ≡ loaded_or_run d.known.drain newest = ap (λ (u : Known). u.drain) known in (
+      subst (λ (stage : HandleStage). InHandle t d' stage) (sym (same_stage no_drain d.known.drain newest same)) at,
+      (run.0 ∙ sym (ap (λ (e : DrainValue). e.sync) here), run.1 ∙ sym (ap (λ (e : DrainValue). e.async) here)),
+    )
 
 -- outside a call, what ran is the drain order of the batches
 ran_orders : (v : Known) → Lives v → v.batch ≡ [] → v.running ≡ Nothing → v.ran ≡ orders v.taken
@@ -126,8 +127,7 @@ module _ {H : Type 0} (leads : H → Heard → H → Type 0) (t : TableId) (s0 s
       let c4 : cpu_of s4 ≡ runs ran.calls (record (cpu_of s1) { taken = s1.known.taken ++ queue ∷ [] }) = ran.cpu ∙ ap (runs ran.calls) (c3 ∙ c2) in
       let taking = lives_stands s1.known h1.lives handle.Take h1.stage_is in
       let leaving = (lives_stands s4.known h4.lives handle.Leave h4.stage_is).0 in
-      let same : ran.calls ≡ order queue = ran_order s1.known s4.known queue ran.calls h1.lives taking.0 taking.1 h4.lives leaving.batch leaving.running (ap (λ (v : CpuValue). v.taken) c4) (ap (λ (v : CpuValue). v.ran) c4) in
-      (
+      let same : ran.calls ≡ order queue = ran_order s1.known s4.known queue ran.calls h1.lives taking.0 taking.1 h4.lives leaving.batch leaving.running (ap (λ (v : CpuValue). v.taken) c4) (ap (λ (v : CpuValue). v.ran) c4) in (
         queue,
         c5 ∙ (c4 ∙ ((λ i. runs (same i) (record (c1 i) { taken = (c1 i).taken ++ queue ∷ [] })))),
         subst (λ (calls : List Call). Grows leads before calls after) same ran.grows,

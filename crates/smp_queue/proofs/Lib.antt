@@ -12,3 +12,4 @@ pub mod Own
 pub mod Ready
 pub mod Running
 pub mod Seating
+pub mod Showing

@@ -37,7 +37,7 @@ more_ran counts counts' v w call a in_range ran is = rw is (record {
   are = λ source l. elim (cases_eq source (owner call.id)) [
     | inl e ↦ rw e (get_or-set_same counts (owner call.id) ((get_or counts (owner call.id) 0 + 1) % 2 ^ 64) 0 (let s = a.sized in let b = owner-below call.id in_range in omega arith)
         ∙ one_more (get_or counts (owner call.id) 0) (length (calls_from (owner call.id) v.ran)) (length (calls_from (owner call.id) w.ran)) (a.are (owner call.id) (owner-below call.id in_range))
-          (ap (λ (calls : List Call). length (calls_from (owner call.id) calls)) ran ∙ count-same (owner call.id) v.ran call refl))
+        (ap (λ (calls : List Call). length (calls_from (owner call.id) calls)) ran ∙ count-same (owner call.id) v.ran call refl))
     | inr ne ↦ get_or-set_other counts (owner call.id) source ((get_or counts (owner call.id) 0 + 1) % 2 ^ 64) 0 ne
         ∙ (a.are source l ∙ ap (λ (n : ℕ). n % 2 ^ 64) (sym (ap (λ (calls : List Call). length (calls_from source calls)) ran ∙ count-other source v.ran call (λ e. ne (sym e)))))
   ];

@@ -11,3 +11,5 @@ pub mod Table
 pub mod Audit
 -- a handler, and what handling makes of it
 pub mod Handling
+-- what holds while threads run
+pub mod Laws

@@ -8,7 +8,7 @@ ghost use Rattle.std.specs.Prelude.{◌≡◌, ◌<◌, true, false, None, List,
 ghost use Rattle.smp_core.specs.Size.{cpus};
 ghost use Rattle.smp_core.specs.Order.{order};
 ghost use Rattle.smp_core.specs.Drains.{load_or_run};
-ghost use Rattle.smp_core.specs.Known.{outside_known};
+ghost use Rattle.smp_core.specs.Known.{outside_known, Lives};
 ghost use Rattle.smp_core.specs.Handling.{handling, accepted_known, taken_known, IsLeaving};
 ghost use Rattle.smp_core.specs.declared.call.Call.{Call};
 ghost use Rattle.smp_core.specs.declared.handle.HandleStage.{HandleStage};
@@ -59,6 +59,7 @@ fn leave(words: &Words, chair: &mut Chair, number: u32)
     requires me { chair.old.known.number ≡ number }
     requires at { (stage : HandleStage) × InHandle words.now.table_id chair.old stage × IsLeaving stage }
     ensures table { chair.new.table ≡ words.now.table_id }
+    ensures lives { Lives chair.new.known }
     ensures known { chair.new.known ≡ outside_known chair.old.known }
 {
     store(words, chair, Word::Hand(number), 0);
@@ -76,6 +77,7 @@ pub(crate) fn handle<H: Handler>(
     requires counts { AreRan counts.old chair.old.known }
     ensures outside { IsOutside words.now.table_id chair.new number }
     ensures counts { AreRan counts.new chair.new.known }
+    ensures lives { Lives chair.new.known }
     ensures asked { result.interrupted ≡ true → (batch : List Call) × (cpu_of chair.new ≡ drains batch (asks true (cpu_of chair.old))) × (Grows H.leads handler.old (order batch) handler.new) × (result.ran ≡ length batch) }
     ensures idle { result.interrupted ≡ false → (cpu_of chair.new ≡ asks false (cpu_of chair.old)) × (handler.new ≡ handler.old) × (result.ran ≡ 0) }
 {

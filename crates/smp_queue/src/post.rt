@@ -6,7 +6,7 @@
 ghost use Rattle.std.specs.Prelude.{◌≡◌, ◌≢◌, ◌+◌, ◌*◌, ◌<◌, ◌%◌, ◌^◌, ◌==◌, true, length, if◌then◌else◌, IfSome, IfNone, Some, None};
 ghost use Rattle.smp_core.specs.Size.{records};
 ghost use Rattle.smp_core.specs.Stands.{holding};
-ghost use Rattle.smp_core.specs.Known.{confirmed_known, appended_known, outside_known, is_confirmed, standing};
+ghost use Rattle.smp_core.specs.Known.{confirmed_known, appended_known, outside_known, is_confirmed, standing, Lives};
 ghost use Rattle.smp_core.specs.declared.post.PostStage.TheVariants as post;
 ghost use Rattle.smp_core.specs.declared.stage.Stage.TheVariants.{Post};
 ghost use Rattle.smp_queue.specs.Desk.{At, IsMine, IsCounting, IsTallied, uncounted, counted};
@@ -23,6 +23,7 @@ pub(crate) fn is_locked(words: &Words, chair: &mut Chair, id: u32) -> bool
     requires at { At words.now.table_id chair.old id }
     requires outside { chair.old.known.stage ≡ None }
     ensures table { chair.new.table ≡ words.now.table_id }
+    ensures lives { Lives chair.new.known }
     ensures known { chair.new.known ≡ if result then chair.old.known else confirmed_known id chair.old.known }
     ensures locked { result ≡ true → is_confirmed chair.old.known id ≢ true }
 {

@@ -24,6 +24,7 @@ ghost use Rattle.smp_core.specs.Order.{order};
 ghost use Rattle.smp_core.specs.declared.call.Call.{Call};
 ghost use Rattle.smp_queue.specs.Cells.{cells};
 ghost use Rattle.smp_queue.specs.Handling.{Grows, asks, drains};
+ghost use Rattle.smp_queue.specs.Laws.{IsShown};
 ghost use Rattle.smp_queue.specs.Cpu.{TableValue, IsFull, PostAnswers, BeginAnswers, confirmed_at, confirms, sends};
 ghost use Rattle.smp_queue.specs.Audit.{Audited, IfDrained, AreEqual, HasRowsOf, HasZerosFrom};
 
@@ -141,6 +142,7 @@ impl<A: Allocator> CallTable<A> {
         requires { me.old.table ≡ self.now.table }
         ensures known { IfOk result (λ done. (k < records_of_one) × (me.new ≡ if done then confirms k me.old else me.old)) }
         ensures locked { IfOk result (λ done. done ≡ false → confirmed_at me.old k ≢ true) }
+        ensures laws { IfOk result (λ _. IsShown me.new) }
         ensures err { IfErr result (λ e. (e ≡ SmpError.BadArgument) × (records_of_one ≤ k) × (me.new ≡ me.old)) }
     {
         if k >= RECORDS_OF_ONE {
@@ -171,6 +173,7 @@ impl<A: Allocator> CallTable<A> {
     pub fn send(&self, me: &mut CallCpu, to: u32) -> Result<(), SmpError>
         requires { me.old.table ≡ self.now.table }
         ensures ok { IfOk result (λ _. (has self.now.online to ≡ true) × (me.new ≡ sends to me.old)) }
+        ensures laws { IfOk result (λ _. IsShown me.new) }
         ensures err { IfErr result (λ e. (e ≡ SmpError.NoCpu) × (has self.now.online to ≡ false) × (me.new ≡ me.old)) }
     {
         if !self.online.contains(to) {
@@ -279,6 +282,7 @@ impl<A: Allocator> CallTable<A> {
         requires { me.old.table ≡ self.now.table }
         ensures asked { result.interrupted ≡ true → (batch : List Call) × (me.new ≡ drains batch (asks true me.old)) × (Grows H.leads handler.old (order batch) handler.new) × (result.ran ≡ length batch) }
         ensures idle { result.interrupted ≡ false → (me.new ≡ asks false me.old) × (handler.new ≡ handler.old) × (result.ran ≡ 0) }
+        ensures laws { IsShown me.new }
     {
         let words = &self.owner.shared;
         handle(words, &mut me.chair, me.number, &mut me.ran, handler)

@@ -5,6 +5,7 @@ ghost use Rattle.smp_queue.specs.Cpu.{left_at};
 mod audits;
 
 use super::*;
+use crossbeam_utils::Backoff;
 use linked_list_allocator::LocalHeap;
 use smp_core::call::Class;
 use smp_mask::{CpuMask, SmpError};
@@ -15,6 +16,8 @@ use std::sync::atomic::{AtomicU64, Ordering};
 use std::test::*;
 use std::thread;
 use std::thread::Threads;
+
+mod handling;
 
 /// A CPU with its table.
 #[derive(Drop)]
@@ -38,6 +41,22 @@ impl<'a> Driver<'a> {
     fn post_as(&mut self, k: u32, to: u32, class: Class, tries: u32) -> Result<bool, SmpError> {
         self.table
             .post_within(&mut self.cpu, k, to, class, 1, 1, tries)
+    }
+
+    fn call(
+        &mut self,
+        k: u32,
+        to: u32,
+        class: Class,
+        func: u16,
+        info: u64,
+    ) -> Result<bool, SmpError> {
+        self.table
+            .post_within(&mut self.cpu, k, to, class, func, info, 1)
+    }
+
+    fn handle<H: Handler>(&mut self, handler: &mut H) -> Handled {
+        self.table.handle(&mut self.cpu, handler)
     }
 
     fn post(&mut self, k: u32, to: u32, tries: u32) -> Result<bool, SmpError> {

@@ -1,180 +1,200 @@
--- The first fault of a script.
-use Rattle.std.proofs.Common.{◌≡◌, ℕ, ◌+◌, ◌≤◌, Bool, true, false, nat_lt, List, [], ◌∷◌, ◌++◌, length, sum_by, Result, Ok, Err, cond, refl, sym, ap, ◌∙◌, inl, inr, arith, subst, append_assoc, length-append}
-use Rattle.std.proofs.lemmas.Bool.{cases_Bool}
+-- The first fault of a text, line by line.
+use Rattle.std.proofs.Common.{◌≡◌, ℕ, zero, suc, ◌+◌, ◌<◌, ◌≤◌, true, false, nat_lt, ◌==◌, List, [], ◌∷◌, length, drop, get_or, Some, Result, Ok, Err, cond, refl, ap, ◌∙◌, inl, inr, arith, subst, add-one}
+use Rattle.std.specs.Prelude.{slice_get}
+use Rattle.std.proofs.lemmas.Bool.{cases_Bool, cases_lt}
 use Rattle.std.proofs.lemmas.Bool.Decides.{nat_tests}
-use Rattle.std.proofs.lemmas.List.Sums.{sum_by-cons}
+use Rattle.std.proofs.lemmas.List.Sums.{sum_by_more}
+use Rattle.std.proofs.lemmas.Option.{get_or_from_slice_get, slice_get_within}
 use Rattle.smp_mask.specs.declared.error.Cause.{Cause}
 use Rattle.smp_mask.specs.declared.error.Cause.TheVariants.{TooLong, Cut}
 use Rattle.smp_runner.specs.declared.directive.Directive.{Directive}
 use Rattle.smp_runner.specs.Lines.{Line, fields_of, lines_of}
 use Rattle.smp_runner.specs.Faults.{Fault, ◌>>=◌, at_line}
 use Rattle.smp_runner.specs.Commands.{line_directive}
-use Rattle.smp_runner.specs.Script.{Script, directives_of, events_of, line_at, script_of, title_of, whole_cpus}
-use Rattle.smp_runner.specs.Spelling.{lacks}
-use Rattle.smp_runner.specs.FirstFault.{IsWrong, too_many, is_cut, misread, too_long, StopsAt}
-use Rattle.smp_runner.proofs.Splits.{Begins, line_back}
-use Rattle.smp_runner.proofs.Joins.{lines_front}
-use Rattle.smp_runner.proofs.Readings.{after_first, after_second, after_table, after_title, front_ok}
+use Rattle.smp_runner.specs.Script.{directives_of, events_of, line_at, script_of, title_of, whole_cpus}
+use Rattle.smp_runner.specs.Shapes.{shapes_of}
+use Rattle.smp_runner.specs.FirstFault.{IsFault, IsFirstFault, LineFault, past_bytes, no_line, in_line, events_in, events_to}
+use Rattle.smp_runner.proofs.LineShapes.{TellsLine, HasEvents, line_told, requests, title_told}
+use Rattle.smp_runner.proofs.OnlineFaults.{cpus_told}
+use Rattle.smp_runner.proofs.LineFaults.{FirstOf, end_first, events_first, lines_first, read_first, read_right, right_line}
+use Rattle.smp_runner.proofs.Readings.{after_first, after_second, after_table, after_title}
 
--- where one thing is read after another, the fault is of the first, or of the second
-data Either {A B E : Type 0} (r : Result A E) (f : A → Result B E) (e : E) : Type 0 where
-  of_first : r ≡ Err e → Either r f e
-  of_second : (x : A) → r ≡ Ok x → f x ≡ Err e → Either r f e
+-- no line before line n has a fault
+abbrev NoneBefore : List ℕ → ℕ → Type 0
+NoneBefore text n = (m k : ℕ) (cause : Cause) → m < n → IsFault text m k cause → ⊥
 
-either : {A B E : Type 0} (r : Result A E) (f : A → Result B E) (e : E) → (r >>= f) ≡ Err e → Either r f e
-either (Ok x) f e h = of_second x refl h
-either (Err d) f e h = of_first (let same : d ≡ e = cc in ap Err same)
+-- what reading a text tells of its faults
+abbrev pub TellsText : {A : Type 0} → List ℕ → Result A Fault → Type 0
+TellsText text (Ok x) = (n rank : ℕ) (cause : Cause) → IsFault text n rank cause → ⊥
+TellsText text (Err fault) = IsFirstFault text fault.0 fault.1
 
-placed_err : {A : Type 0} (n : ℕ) (r : Result A Cause) (m : ℕ) (cause : Cause) → at_line n r ≡ Err (m, cause) → (n ≡ m) × (r ≡ Err cause)
-placed_err n (Ok x) m cause h = cc
-placed_err n (Err e) m cause h =
-    let same : ◌≡◌ {A = Fault} (n, e) (m, cause) = cc in
-    (ap (λ p. p.0) same, ap (λ p. Err p.1) same)
+-- a fault of a line that is there is one in it
+in_that_line : (text : List ℕ) (n : ℕ) (line : Line) → slice_get (lines_of text) n ≡ Some line → (m k : ℕ) (cause : Cause) → m ≡ n + 1 → IsFault text m k cause → LineFault (n + 1) (events_to text (n + 1)) line k cause
+in_that_line text n line here m k cause e (past_bytes f) = absurd (omega (arith, e))
+in_that_line text n line here m k cause e (no_line short few) = absurd (omega (arith, e, short, slice_get_within (lines_of text) n line here))
+in_that_line text n line here m k cause e (in_line n' {line = other} found f) =
+    let same : n' ≡ n = omega (arith, e) in
+    let there : slice_get (lines_of text) n ≡ Some other = subst (λ i. slice_get (lines_of text) i ≡ Some other) same found in
+    let one : other ≡ line = cc in
+    subst (λ l. LineFault (n + 1) (events_to text (n + 1)) l k cause) one (subst (λ i. LineFault (i + 1) (events_to text (i + 1)) other k cause) same f)
 
-placed_good : {A : Type 0} (n : ℕ) (r : Result A Cause) (x : A) → at_line n r ≡ Ok x → r ≡ Ok x
-placed_good n (Ok y) x h = cc
-placed_good n (Err e) x h = cc
+-- the first fault of a line is that of the text where no line before has one
+line_first : (text : List ℕ) (n : ℕ) (line : Line) (cause : Cause) → slice_get (lines_of text) n ≡ Some line → NoneBefore text (n + 1) → FirstOf (n + 1) (events_to text (n + 1)) line cause → IsFirstFault text (n + 1) cause
+line_first text n line cause here none f =
+    record { rank = f.rank; fault = in_line n here f.fault; before = none; least = λ k other below g. f.least k other below (in_that_line text n line here (n + 1) k other refl g) }
 
-err_same : {A : Type 0} (n m : ℕ) (c d : Cause) → ◌≡◌ {A = Result A Fault} (Err (n, c)) (Err (m, d)) → (n ≡ m) × (c ≡ d)
-err_same n m c d h =
-    let same : ◌≡◌ {A = Fault} (n, c) (m, d) = cc in
-    (ap (λ p. p.0) same, ap (λ p. p.1) same)
-
--- where the lines of a text stop
-record LinesStop (m events : ℕ) (bs : List ℕ) (n : ℕ) (cause : Cause) : Type 0 where
-  front : List ℕ
-  rest : List ℕ
-  text_is : bs ≡ front ++ rest
-  directives : List Directive
-  lawful : directives_of m events (lines_of front) ≡ Ok directives
-  lines : m + length directives ≡ n
-  line : Line
-  others : List Line
-  next : lines_of rest ≡ line ∷ others
-  wrong : IsWrong n (events + sum_by events_of directives) line cause
-
-at_once : (m events : ℕ) (bs : List ℕ) (l : Line) (ls : List Line) (n : ℕ) (cause : Cause) → lines_of bs ≡ l ∷ ls → m ≡ n → IsWrong n (events + 0) l cause → LinesStop m events bs n cause
-unfolding directives_of
-at_once m events bs l ls n cause e same wrong =
-    record { front = []; rest = bs; text_is = refl; directives = []; lawful = refl; lines = omega arith; line = l; others = ls; next = e; wrong = wrong }
-
-one_more : (m events : ℕ) (bs : List ℕ) (l : Line) (ls : List Line) (d : Directive) (n : ℕ) (cause : Cause) (b : Begins bs l.text ls) → m ≤ 2000 → line_directive l.text ≡ Ok d → events + events_of d ≤ 100000
-    → LinesStop (m + 1) (events + events_of d) b.rest n cause → LinesStop m events bs n cause
-unfolding directives_of
-one_more m events bs l ls d n cause b few read under s =
-    let fits : nat_lt 2000 m ≡ false = grind (arith, nat_tests) in
-    let below : nat_lt 100000 (events + events_of d) ≡ false = grind (arith, nat_tests) in
-    let here = lines_front l.text s.front b.on_line in
-    let total : events + events_of d + sum_by events_of s.directives ≡ events + sum_by events_of (d ∷ s.directives) = omega (arith, sum_by-cons events_of d s.directives) in
-    record {
-      front = l.text ++ 10 ∷ s.front;
-      rest = s.rest;
-      text_is = b.text_is ∙ ap (λ t. l.text ++ 10 ∷ t) s.text_is ∙ sym (append_assoc l.text (10 ∷ s.front) s.rest);
-      directives = d ∷ s.directives;
-      lawful = rw (here, fits, read, below, s.lawful) refl;
-      lines = omega (arith, s.lines);
-      line = s.line;
-      others = s.others;
-      next = s.next;
-      wrong = subst (λ t. IsWrong n t s.line cause) total s.wrong;
-    }
-
-lines_stop : (m events : ℕ) (ls : List Line) (bs : List ℕ) (n : ℕ) (cause : Cause) → lines_of bs ≡ ls → directives_of m events ls ≡ Err (n, cause) → LinesStop m events bs n cause
-unfolding directives_of
-lines_stop m events [] bs n cause e h = cc
-lines_stop m events (l ∷ ls) bs n cause e h = elim (cases_Bool (nat_lt 2000 m)) [
-  | inl many ↦
-      let same = err_same {A = List Directive} m n TooLong cause (rw many at h) in
-      at_once m events bs l ls n cause e same.0 (subst (λ c. IsWrong n (events + 0) l c) same.1 (too_many (grind (arith, nat_tests, many, same.0))))
-  | inr fits ↦
-      let few : m ≤ 2000 = grind (arith, nat_tests, fits) in
-      elim (cases_Bool l.ended) [
-        | inr open_end ↦
-            let same = err_same {A = List Directive} m n Cut cause (rw (fits, open_end) at h) in
-            at_once m events bs l ls n cause e same.0 (subst (λ c. IsWrong n (events + 0) l c) same.1 (is_cut (omega (arith, same.0)) open_end))
-        | inl ended ↦
-            let go = either (at_line m (line_directive l.text)) (λ d. cond (nat_lt 100000 (events + events_of d)) (Err (m, TooLong)) (directives_of (m + 1) (events + events_of d) ls >>= λ rest. Ok (d ∷ rest))) (n, cause) (rw (fits, ended) at h) in
-            elim go [
-              | of_first bad ↦
-                  let p = placed_err m (line_directive l.text) n cause bad in
-                  at_once m events bs l ls n cause e p.0 (misread (omega (arith, p.0)) ended p.1)
-              | of_second d good then ↦
-                  let read = placed_good m (line_directive l.text) d good in
-                  elim (cases_Bool (nat_lt 100000 (events + events_of d))) [
-                    | inl past ↦
-                        let same = err_same {A = List Directive} m n TooLong cause (rw past at then) in
-                        at_once m events bs l ls n cause e same.0 (subst (λ c. IsWrong n (events + 0) l c) same.1 (too_long d (omega (arith, same.0)) ended read (grind (arith, nat_tests, past))))
-                    | inr within ↦
-                        let begins = line_back bs l ls e ended in
-                        let next = either (directives_of (m + 1) (events + events_of d) ls) (λ rest. Ok (d ∷ rest)) (n, cause) (rw within at then) in
-                        elim next [
-                          | of_first bad ↦ one_more m events bs l ls d n cause begins few read (grind (arith, nat_tests, within)) (lines_stop (m + 1) (events + events_of d) ls begins.rest n cause (sym begins.others_are) bad)
-                          | of_second rest good bad ↦ cc
-                        ]
-                  ]
-            ]
-      ]
+line_right : (text : List ℕ) (n : ℕ) (line : Line) → slice_get (lines_of text) n ≡ Some line → NoneBefore text (n + 1) → ((k : ℕ) (cause : Cause) → LineFault (n + 1) (events_to text (n + 1)) line k cause → ⊥) → NoneBefore text (n + 1 + 1)
+line_right text n line here none right m k cause below f = elim (cases_lt m (n + 1)) [
+  | inl before ↦ none m k cause before f
+  | inr at ↦ right k cause (in_that_line text n line here m k cause (omega arith) f)
 ]
 
-ended_fault : (n : ℕ) (l : Line) (ls : List Line) (m : ℕ) (cause : Cause) (b : Bool) → ◌≡◌ {A = Result (List ℕ × List Line) Fault} (cond b (Ok (l.text, ls)) (Err (n, Cut))) (Err (m, cause)) → n ≡ m
-ended_fault n l ls m cause true h = cc
-ended_fault n l ls m cause false h = (err_same {A = List ℕ × List Line} n m Cut cause h).0
+-- a line that is missing has no fault of rank 0
+none_missing : (text : List ℕ) (n : ℕ) → length (lines_of text) ≤ n → (m k : ℕ) (cause : Cause) → m ≡ n + 1 → k < 1 → IsFault text m k cause → ⊥
+none_missing text n short m k cause e below (past_bytes f) = omega (arith, e)
+none_missing text n short m k cause e below (no_line f few) = omega arith
+none_missing text n short m k cause e below (in_line n' {line = other} found f) = omega (arith, e, slice_get_within (lines_of text) n' other found)
 
-front_fault : (n : ℕ) (ls : List Line) (m : ℕ) (cause : Cause) → line_at n ls ≡ Err (m, cause) → n ≡ m
-front_fault n [] m cause h = (err_same {A = List ℕ × List Line} n m Cut cause h).0
-front_fault n (l ∷ ls) m cause h = ended_fault n l ls m cause l.ended h
+missing_first : (text : List ℕ) (n : ℕ) → length (lines_of text) ≤ n → n ≤ 1 → NoneBefore text (n + 1) → IsFirstFault text (n + 1) Cut
+missing_first text n short few none =
+    record { rank = 1; fault = no_line (omega arith) (omega arith); before = none; least = λ k other below f. none_missing text n short (n + 1) k other refl below f }
 
-small : (n : ℕ) → n ≤ 65536 → nat_lt 65536 n ≡ false
-small n h = grind (arith, nat_tests)
+-- after the last line there is no fault
+none_after : (text : List ℕ) (n : ℕ) → length (lines_of text) ≤ n → 2 ≤ n → (m k : ℕ) (cause : Cause) → n < m → IsFault text m k cause → ⊥
+none_after text n short long m k cause after (past_bytes f) = omega arith
+none_after text n short long m k cause after (no_line f few) = omega arith
+none_after text n short long m k cause after (in_line n' {line = other} found f) = omega (arith, slice_get_within (lines_of text) n' other found)
 
--- a script whose first two lines are right stops where its lines stop
-assembled : (text : List ℕ) (n : ℕ) (cause : Cause) (first second : List ℕ) (body : List ℕ) (table : ℕ × ℕ) (u : Unit {0}) → length text ≤ 65536
-    → text ≡ first ++ 10 ∷ (second ++ 10 ∷ body) → lacks 10 first ≡ true → lacks 10 second ≡ true → title_of (fields_of first) ≡ Ok u → whole_cpus (fields_of second) ≡ Ok table
-    → LinesStop 3 0 body n cause → StopsAt text n cause
-unfolding script_of
-assembled text n cause first second body table u short e one two title cpus s =
-    let whole : text ≡ (first ++ 10 ∷ (second ++ 10 ∷ s.front)) ++ s.rest =
-    e ∙ ap (λ t. first ++ 10 ∷ (second ++ 10 ∷ t)) s.text_is ∙ ap (λ t. first ++ 10 ∷ t) (sym (append_assoc second (10 ∷ s.front) s.rest)) ∙ sym (append_assoc first (10 ∷ (second ++ 10 ∷ s.front)) s.rest) in
-    let size : length text ≡ length (first ++ 10 ∷ (second ++ 10 ∷ s.front)) + length s.rest = ap length whole ∙ length-append (first ++ 10 ∷ (second ++ 10 ∷ s.front)) s.rest in
-    let fits : nat_lt 65536 (length (first ++ 10 ∷ (second ++ 10 ∷ s.front))) ≡ false = small _ (omega arith) in
-    let a = lines_front first (second ++ 10 ∷ s.front) one in
-    let b = lines_front second s.front two in
-    record {
-      front = first ++ 10 ∷ (second ++ 10 ∷ s.front);
-      rest = s.rest;
-      text_is = whole;
-      script = record { nr = table.0; online = table.1; directives = s.directives };
-      lawful = rw (fits, a, title, b, cpus, s.lawful) refl;
-      lines = s.lines;
-      line = s.line;
-      others = s.others;
-      next = s.next;
-      wrong = subst (λ t. IsWrong n t s.line cause) (omega arith) s.wrong;
-    }
+ends_right : (text : List ℕ) (n : ℕ) → length (lines_of text) ≤ n → 2 ≤ n → NoneBefore text (n + 1) → (m k : ℕ) (cause : Cause) → IsFault text m k cause → ⊥
+ends_right text n short long none m k cause f = elim (cases_lt m (n + 1)) [
+  | inl before ↦ none m k cause before f
+  | inr after ↦ none_after text n short long m k cause (omega arith) f
+]
 
--- the lines before a first fault are a lawful script
-pub stops_at : (text : List ℕ) (n : ℕ) (cause : Cause) → script_of text ≡ Err (n, cause) → 3 ≤ n → StopsAt text n cause
-unfolding script_of
-stops_at text n cause h late = elim (cases_Bool (nat_lt 65536 (length text))) [
-  | inl long ↦ let same = err_same {A = Script} 0 n TooLong cause (rw long at h) in absurd (omega (arith, same.0))
-  | inr short ↦ elim (either (line_at 1 (lines_of text)) after_first (n, cause) (rw short at h)) [
-    | of_first bad ↦ absurd (omega (arith, front_fault 1 (lines_of text) n cause bad))
-    | of_second first good then ↦ elim (either (at_line 1 (title_of (fields_of first.0))) (after_title first) (n, cause) then) [
-      | of_first bad ↦ absurd (omega (arith, (placed_err 1 (title_of (fields_of first.0)) n cause bad).0))
-      | of_second u title more ↦ elim (either (line_at 2 first.1) after_second (n, cause) more) [
-        | of_first bad ↦ absurd (omega (arith, front_fault 2 first.1 n cause bad))
-        | of_second second fine rest ↦ elim (either (at_line 2 (whole_cpus (fields_of second.0))) (after_table second.1) (n, cause) rest) [
-          | of_first bad ↦ absurd (omega (arith, (placed_err 2 (whole_cpus (fields_of second.0)) n cause bad).0))
-          | of_second table cpus last ↦ elim (either (directives_of 3 0 second.1) (λ ds. Ok (record { nr = table.0; online = table.1; directives = ds })) (n, cause) last) [
-            | of_second ds read bad ↦ cc
-            | of_first bad ↦
-                let one = front_ok 1 text (lines_of text) first refl good in
-                let two = front_ok 2 one.rest first.1 second (sym one.others_are) fine in
-                assembled text n cause first.0 second.0 two.rest table u (grind (arith, nat_tests, short)) (one.text_is ∙ ap (λ t. first.0 ++ 10 ∷ t) two.text_is) one.on_line two.on_line (placed_good 1 (title_of (fields_of first.0)) u title) (placed_good 2 (whole_cpus (fields_of second.0)) table cpus)
-                (lines_stop 3 0 second.1 two.rest n cause (sym two.others_are) bad)
-          ]
-        ]
-      ]
+-- what is left of a list
+record Left {A : Type 0} (xs : List A) (n : ℕ) (x : A) (rest : List A) : Type 0 where
+  here : slice_get xs n ≡ Some x
+  next : drop (n + 1) xs ≡ rest
+
+left_of : {A : Type 0} (xs : List A) (n : ℕ) (x : A) (rest : List A) → drop n xs ≡ x ∷ rest → Left xs n x rest
+left_of [] zero x rest h = cc
+left_of [] (suc n) x rest h = cc
+left_of (y ∷ ys) zero x rest h = record { here = let same : y ≡ x = cc in ap Some same; next = cc }
+left_of (y ∷ ys) (suc n) x rest h =
+    let more = left_of ys n x rest h in
+    record { here = more.here; next = rw add-one (rw add-one at more.next) }
+
+none_left : {A : Type 0} (xs : List A) (n : ℕ) → drop n xs ≡ [] → length xs ≤ n
+none_left [] n h = omega arith
+none_left (y ∷ ys) zero h = cc
+none_left (y ∷ ys) (suc n) h = omega (arith, none_left ys n h)
+
+-- the events of one line more
+events_more : (text : List ℕ) (n : ℕ) (line : Line) → slice_get (lines_of text) n ≡ Some line → events_to text (n + 1) ≡ events_to text n + events_in (fields_of line.text)
+events_more text n line here =
+    let same : get_or (lines_of text) n line ≡ line = get_or_from_slice_get (lines_of text) n line line here in
+    sum_by_more (λ l. events_in (fields_of l.text)) (lines_of text) n line (slice_get_within (lines_of text) n line here) ∙ ap (λ l. events_to text n + events_in (fields_of l.text)) same
+
+tells_then : {A B : Type 0} (text : List ℕ) (r : Result A Fault) (f : A → B) → TellsText text r → TellsText text (r >>= λ x. Ok (f x))
+tells_then text (Ok x) f t = t
+tells_then text (Err e) f t = t
+
+later_shapes : (n : ℕ) → 2 ≤ n → shapes_of (n + 1) ≡ requests
+later_shapes n h =
+    let one : (n + 1 == 1) ≡ false = grind (arith, nat_tests) in
+    let two : (n + 1 == 2) ≡ false = grind (arith, nat_tests) in
+    rw (one, two) refl
+
+line_shapes : (n : ℕ) (line : Line) → 2 ≤ n → TellsLine (shapes_of (n + 1)) (fields_of line.text) (HasEvents (fields_of line.text)) (line_directive line.text)
+unfolding line_directive
+line_shapes n line h = rw (later_shapes n h) (line_told (fields_of line.text))
+
+-- what follows a line that is read
+abbrev after_line : ℕ → ℕ → List Line → Directive → Result (List Directive) Fault
+after_line n events ls d =
+    cond (nat_lt 100000 (events + events_of d)) (Err (n + 1, TooLong)) (directives_of (n + 1 + 1) (events + events_of d) ls >>= λ ds. Ok (d ∷ ds))
+
+-- one line from the third on, and then the rest
+line_tells : (text : List ℕ) (l : Line) (ls : List Line) (n : ℕ) → slice_get (lines_of text) n ≡ Some l → 2 ≤ n → NoneBefore text (n + 1) → n + 1 ≤ 2000 → l.ended ≡ true
+    → (NoneBefore text (n + 1 + 1) → TellsText text (directives_of (n + 1 + 1) (events_to text (n + 1)) ls)) → (r : Result Directive Cause) → line_directive l.text ≡ r → TellsText text (at_line (n + 1) r >>= after_line n (events_to text n) ls)
+line_tells text l ls n here h none few ended rest (Err cause) e =
+    line_first text n l cause here none (read_first (n + 1) (events_to text (n + 1)) l (HasEvents (fields_of l.text)) (line_directive l.text) cause few ended (line_shapes n l h) e)
+line_tells text l ls n here h none few ended rest (Ok d) e =
+    let right = read_right (n + 1) l (HasEvents (fields_of l.text)) (line_directive l.text) d (line_shapes n l h) e in
+    let more : events_to text (n + 1) ≡ events_to text n + events_of d = events_more text n l here ∙ ap (λ k. events_to text n + k) right.holding in
+    elim (cases_Bool (nat_lt 100000 (events_to text n + events_of d))) [
+      | inl past ↦ rw past (line_first text n l TooLong here none (events_first (n + 1) (events_to text (n + 1)) l (HasEvents (fields_of l.text)) d few ended right (grind (arith, nat_tests, past, more))))
+      | inr within ↦
+          let go = rest (line_right text n l here none (right_line (n + 1) (events_to text (n + 1)) l (HasEvents (fields_of l.text)) d few ended right (grind (arith, nat_tests, within, more)))) in
+          let there : TellsText text (directives_of (n + 1 + 1) (events_to text n + events_of d) ls) = subst (λ k. TellsText text (directives_of (n + 1 + 1) k ls)) more go in
+          rw within (tells_then text (directives_of (n + 1 + 1) (events_to text n + events_of d) ls) (λ ds. d ∷ ds) there)
     ]
-  ]
+
+-- the lines from the third on
+lines_tell : (text : List ℕ) (ls : List Line) (n : ℕ) → drop n (lines_of text) ≡ ls → 2 ≤ n → NoneBefore text (n + 1) → TellsText text (directives_of (n + 1) (events_to text n) ls)
+unfolding directives_of
+lines_tell text [] n e h none = ends_right text n (none_left (lines_of text) n e) h none
+lines_tell text (l ∷ ls) n e h none =
+    let left = left_of (lines_of text) n l ls e in
+    elim (cases_Bool (nat_lt 2000 (n + 1))) [
+      | inl many ↦ rw many (line_first text n l TooLong left.here none (lines_first (n + 1) (events_to text (n + 1)) l (grind (arith, nat_tests, many))))
+      | inr fits ↦
+          let few : n + 1 ≤ 2000 = grind (arith, nat_tests, fits) in
+          elim (cases_Bool l.ended) [
+            | inr open_end ↦ rw (fits, open_end) (line_first text n l Cut left.here none (end_first (n + 1) (events_to text (n + 1)) l few open_end))
+            | inl ended ↦ rw (fits, ended) (line_tells text l ls n left.here h none few ended (lines_tell text ls (n + 1) left.next (omega arith)) (line_directive l.text) refl)
+          ]
+    ]
+
+-- the second line, and then the rest
+table_tells : (text : List ℕ) (l : Line) (ls : List Line) → drop 1 (lines_of text) ≡ l ∷ ls → NoneBefore text 2 → events_to text 1 ≡ 0 → l.ended ≡ true → (r : Result (ℕ × ℕ) Cause) → whole_cpus (fields_of l.text) ≡ r
+    → TellsText text (at_line 2 r >>= after_table ls)
+table_tells text l ls e none no_events ended (Err cause) read =
+    let left = left_of (lines_of text) 1 l ls e in
+    line_first text 1 l cause left.here none (read_first 2 (events_to text 2) l (λ t. events_in (fields_of l.text) ≡ 0) (whole_cpus (fields_of l.text)) cause (omega arith) ended (cpus_told (fields_of l.text)) read)
+table_tells text l ls e none no_events ended (Ok table) read =
+    let left = left_of (lines_of text) 1 l ls e in
+    let right = read_right 2 l (λ t. events_in (fields_of l.text) ≡ 0) (whole_cpus (fields_of l.text)) table (cpus_told (fields_of l.text)) read in
+    let more : events_to text 2 ≡ 0 = omega (arith, events_more text 1 l left.here, right.holding, no_events) in
+    let body = lines_tell text ls 2 left.next (omega arith) (line_right text 1 l left.here none (right_line 2 (events_to text 2) l (λ t. events_in (fields_of l.text) ≡ 0) table (omega arith) ended right (omega (arith, more)))) in
+    tells_then text (directives_of 3 0 ls) (λ ds. record { nr = table.0; online = table.1; directives = ds }) (subst (λ k. TellsText text (directives_of 3 k ls)) more body)
+
+second_tells : (text : List ℕ) (ls : List Line) → drop 1 (lines_of text) ≡ ls → NoneBefore text 2 → events_to text 1 ≡ 0 → TellsText text (line_at 2 ls >>= after_second)
+second_tells text [] e none no_events = missing_first text 1 (none_left (lines_of text) 1 e) (omega arith) none
+second_tells text (l ∷ ls) e none no_events = elim (cases_Bool l.ended) [
+  | inr open_end ↦ rw open_end (line_first text 1 l Cut (left_of (lines_of text) 1 l ls e).here none (end_first 2 (events_to text 2) l (omega arith) open_end))
+  | inl ended ↦ rw ended (table_tells text l ls e none no_events ended (whole_cpus (fields_of l.text)) refl)
+]
+
+-- the first line, and then the rest
+title_tells : (text : List ℕ) (l : Line) (ls : List Line) → drop 0 (lines_of text) ≡ l ∷ ls → NoneBefore text 1 → l.ended ≡ true → (r : Result (Unit {0}) Cause) → title_of (fields_of l.text) ≡ r → TellsText text (at_line 1 r >>= after_title (l.text, ls))
+title_tells text l ls e none ended (Err cause) read =
+    let left = left_of (lines_of text) 0 l ls e in
+    line_first text 0 l cause left.here none (read_first 1 (events_to text 1) l (λ t. events_in (fields_of l.text) ≡ 0) (title_of (fields_of l.text)) cause (omega arith) ended (title_told (fields_of l.text)) read)
+title_tells text l ls e none ended (Ok u) read =
+    let left = left_of (lines_of text) 0 l ls e in
+    let right = read_right 1 l (λ t. events_in (fields_of l.text) ≡ 0) (title_of (fields_of l.text)) u (title_told (fields_of l.text)) read in
+    let none_first : events_to text 0 ≡ 0 = refl in
+    let more : events_to text 1 ≡ 0 = omega (arith, events_more text 0 l left.here, right.holding, none_first) in
+    second_tells text ls left.next (line_right text 0 l left.here none (right_line 1 (events_to text 1) l (λ t. events_in (fields_of l.text) ≡ 0) u (omega arith) ended right (omega (arith, more)))) more
+
+first_tells : (text : List ℕ) (ls : List Line) → lines_of text ≡ ls → NoneBefore text 1 → TellsText text (line_at 1 ls >>= after_first)
+first_tells text [] e none = missing_first text 0 (none_left (lines_of text) 0 e) (omega arith) none
+first_tells text (l ∷ ls) e none = elim (cases_Bool l.ended) [
+  | inr open_end ↦ rw open_end (line_first text 0 l Cut (left_of (lines_of text) 0 l ls e).here none (end_first 1 (events_to text 1) l (omega arith) open_end))
+  | inl ended ↦ rw ended (title_tells text l ls e none ended (title_of (fields_of l.text)) refl)
+]
+
+-- a text that is not too long has no fault as a whole
+none_whole : (text : List ℕ) → length text ≤ 65536 → NoneBefore text 1
+none_whole text short m k cause below (past_bytes f) = omega arith
+none_whole text short m k cause below (no_line f few) = omega arith
+none_whole text short m k cause below (in_line n found f) = omega arith
+
+-- what reading a text tells
+pub script_tells : (text : List ℕ) → TellsText text (script_of text)
+unfolding script_of
+script_tells text = elim (cases_Bool (nat_lt 65536 (length text))) [
+  | inl long ↦ rw long (record { rank = 0; fault = past_bytes (grind (arith, nat_tests, long)); before = λ m k cause below f. omega arith; least = λ k cause below f. omega arith })
+  | inr short ↦ rw short (first_tells text (lines_of text) refl (none_whole text (grind (arith, nat_tests, short))))
 ]

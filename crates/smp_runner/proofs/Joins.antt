@@ -52,7 +52,7 @@ lacks-join (t ∷ u ∷ us) h =
     let rest : list_all is_field (u ∷ us) ≡ true = grind (arith, h) in
     rw (lacks-append 10 t (32 ∷ join_with_byte 32 (u ∷ us)), here, lacks-join (u ∷ us) rest) refl
 
-pub lines_front : (t rest : List ℕ) → lacks 10 t ≡ true → lines_of (t ++ 10 ∷ rest) ≡ record { text = t; ended = true } ∷ lines_of rest
+lines_front : (t rest : List ℕ) → lacks 10 t ≡ true → lines_of (t ++ 10 ∷ rest) ≡ record { text = t; ended = true } ∷ lines_of rest
 lines_front [] rest h = refl
 lines_front (b ∷ bs) rest h =
     let here : (b == 10) ≡ false = grind (arith, h) in

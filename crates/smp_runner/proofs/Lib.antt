@@ -16,4 +16,10 @@ pub mod Writing
 pub mod CanonicalTexts
 pub mod Splits
 pub mod Readings
+-- the first fault
+pub mod FieldFaults
+pub mod LineShapes
+pub mod OnlineFaults
+pub mod LineFaults
 pub mod FirstFaults
+pub mod OneFault

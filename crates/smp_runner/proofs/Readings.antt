@@ -43,7 +43,7 @@ placed_ok : {A : Type 0} (n : ℕ) (r : Result A Cause) (y : A) → at_line n r 
 placed_ok n (Ok x) y h = cc
 placed_ok n (Err e) y h = cc
 
-same_word : (a b : List ℕ) → bytes_eq a b ≡ true → a ≡ b
+pub same_word : (a b : List ℕ) → bytes_eq a b ≡ true → a ≡ b
 same_word a b h = (bytes_eq-Decides a b).0 h
 
 read32 : (text : List ℕ) (n : ℕ) → word32 text ≡ Ok n → (text ≡ decimal n) × (n < 2 ^ 32)
@@ -223,7 +223,7 @@ after_title first title = line_at 2 first.1 >>= after_second
 abbrev pub after_first : List ℕ × List Line → Result Script Fault
 after_first first = at_line 1 (title_of (fields_of first.0)) >>= after_title first
 
-pub front_ok : (n : ℕ) (bs : List ℕ) (ls : List Line) (p : List ℕ × List Line) → lines_of bs ≡ ls → line_at n ls ≡ Ok p → Begins bs p.0 p.1
+front_ok : (n : ℕ) (bs : List ℕ) (ls : List Line) (p : List ℕ × List Line) → lines_of bs ≡ ls → line_at n ls ≡ Ok p → Begins bs p.0 p.1
 front_ok n bs [] p e h = cc
 front_ok n bs (l ∷ ls) p e h =
     let g = guarded l.ended (Ok (l.text, ls)) (n, Cut) p h in

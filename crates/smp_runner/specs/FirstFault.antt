@@ -1,28 +1,44 @@
--- The first fault of a script, by what stands before it.
-use Rattle.std.specs.Prelude.{◌≡◌, ℕ, ◌+◌, ◌<◌, ◌≤◌, true, false, List, ◌∷◌, ◌++◌, length, sum_by, Ok, Err}
+-- What is wrong with a text that is no script: every fault of it, and which of them is the first.
+use Rattle.std.specs.Prelude.{◌≡◌, ℕ, ◌+◌, ◌<◌, ◌≤◌, false, if◌then◌else◌, List, ◌∷◌, length, take, slice_get, sum_by, Some, None, codes}
+use Rattle.std.specs.Str.{bytes_eq}
 use Rattle.smp_mask.specs.declared.error.Cause.{Cause}
-use Rattle.smp_mask.specs.declared.error.Cause.TheVariants.{TooLong, Cut}
-use Rattle.smp_runner.specs.declared.directive.Directive.{Directive}
-use Rattle.smp_runner.specs.Lines.{Line, lines_of}
-use Rattle.smp_runner.specs.Commands.{line_directive}
-use Rattle.smp_runner.specs.Script.{Script, events_of, script_of}
+use Rattle.smp_mask.specs.declared.error.Cause.TheVariants.{TooLong, Cut, Word}
+use Rattle.smp_runner.specs.Lines.{Line, fields_of, lines_of}
+use Rattle.smp_runner.specs.Shapes.{Form, shape_of}
+use Rattle.smp_runner.specs.FieldFaults.{FieldFault, value_of}
 
--- what is wrong with a line, as line n after so many events: each cause stands where none before it does
-pub data IsWrong (n events : ℕ) (l : Line) : Cause → Type 0 where
-  too_many : 2000 < n → IsWrong n events l TooLong
-  is_cut : n ≤ 2000 → l.ended ≡ false → IsWrong n events l Cut
-  misread : {cause : Cause} → n ≤ 2000 → l.ended ≡ true → line_directive l.text ≡ Err cause → IsWrong n events l cause
-  too_long : (d : Directive) → n ≤ 2000 → l.ended ≡ true → line_directive l.text ≡ Ok d → 100000 < events + events_of d → IsWrong n events l TooLong
+-- what is wrong with line n, where the lines up to it make so many events, by rank: its place in the order of a line's faults
+pub data LineFault (n events : ℕ) (line : Line) : ℕ → Cause → Type 0 where
+  past_lines : 2000 < n → LineFault n events line 0 TooLong
+  unended : line.ended ≡ false → LineFault n events line 1 Cut
+  no_shape : shape_of n (fields_of line.text) ≡ None → LineFault n events line 2 Word
+  wrong_field : (i : ℕ) {shape : List Form} {form : Form} {cause : Cause} → shape_of n (fields_of line.text) ≡ Some shape → slice_get shape i ≡ Some form
+      → FieldFault (fields_of line.text) i form cause → LineFault n events line (3 + i) cause
+  past_events : 100000 < events → LineFault n events line (3 + length (fields_of line.text)) TooLong
 
--- the text up to line n is a lawful script, and line n, the first of the rest, is wrong
-pub record StopsAt (text : List ℕ) (n : ℕ) (cause : Cause) : Type 0 where
-  pub front : List ℕ
-  pub rest : List ℕ
-  pub text_is : text ≡ front ++ rest
-  pub script : Script
-  pub lawful : script_of front ≡ Ok script
-  pub lines : 3 + length script.directives ≡ n
-  pub line : Line
-  pub others : List Line
-  pub next : lines_of rest ≡ line ∷ others
-  pub wrong : IsWrong n (sum_by events_of script.directives) line cause
+-- how many events a line makes: `start` one, `step CPU N` so many
+abbrev pub events_in : List (List ℕ) → ℕ
+events_in (name ∷ cpu ∷ third ∷ rest) = if bytes_eq name (codes "step") then value_of third else (if bytes_eq name (codes "start") then 1 else 0)
+events_in _ = 0
+
+-- how many the first n lines make
+abbrev pub events_to : List ℕ → ℕ → ℕ
+events_to text n = sum_by (λ l. events_in (fields_of l.text)) (take n (lines_of text))
+
+-- what is wrong with line n of a text, by rank; lines are counted from 1, and line 0 is the text as a whole
+pub data IsFault (text : List ℕ) : ℕ → ℕ → Cause → Type 0 where
+  past_bytes : 65536 < length text → IsFault text 0 0 TooLong
+  no_line : {n : ℕ} → length (lines_of text) < n → n ≤ 2 → IsFault text n 1 Cut
+  in_line : (n : ℕ) {rank : ℕ} {line : Line} {cause : Cause} → slice_get (lines_of text) n ≡ Some line → LineFault (n + 1) (events_to text (n + 1)) line rank cause
+      → IsFault text (n + 1) rank cause
+
+-- the first fault of a text: no line before has one, and line n has none of a lower rank
+pub record IsFirstFault (text : List ℕ) (n : ℕ) (cause : Cause) : Type 0 where
+  pub rank : ℕ
+  pub fault : IsFault text n rank cause
+  pub before : (m k : ℕ) (other : Cause) → m < n → IsFault text m k other → ⊥
+  pub least : (k : ℕ) (other : Cause) → k < rank → IsFault text n k other → ⊥
+
+-- no line has a fault, nor has the text as a whole
+abbrev pub IsFaultless : List ℕ → Type 0
+IsFaultless text = (n rank : ℕ) → (cause : Cause) → IsFault text n rank cause → ⊥

@@ -16,6 +16,8 @@ pub mod Showing
 pub mod Output
 pub mod ProgressOf
 pub mod Replays
--- how scripts are written
+-- how scripts are written, and what is wrong with texts that are none
 pub mod Spelling
+pub mod Shapes
+pub mod FieldFaults
 pub mod FirstFault

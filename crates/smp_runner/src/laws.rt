@@ -1,8 +1,8 @@
 //! What is proved of scripts beside the contracts of the calls.
 
-ghost use Rattle.std.specs.Prelude.{◌≡◌, ◌↔◌, ◌≤◌, ℕ, List, Ok, Err};
+ghost use Rattle.std.specs.Prelude.{◌≡◌, ◌↔◌, ℕ, List, Ok, Err, IsOk};
 ghost use Rattle.smp_mask.specs.declared.error.Cause.{Cause};
-ghost use Rattle.smp_runner.specs.FirstFault.{StopsAt};
+ghost use Rattle.smp_runner.specs.FirstFault.{IsFaultless, IsFirstFault};
 ghost use Rattle.smp_runner.specs.Script.{Script, script_of};
 ghost use Rattle.smp_runner.specs.Spelling.{IsLawful, IsSpelling, canonical_text};
 
@@ -13,8 +13,9 @@ pub fn scripts_are_spellings()
     ensures only { (text : List ℕ) → (script : Script) → (script_of text ≡ Ok script) ↔ ((mask : List ℕ) × IsSpelling mask script text) }
 {}
 
-/// Where the first fault of a text is in line 3 or later, the lines before it are a lawful script, and the cause is
-/// the first that this line has.
-pub fn lines_before_a_fault_are_lawful()
-    ensures { (text : List ℕ) → (n : ℕ) → (cause : Cause) → script_of text ≡ Err (n, cause) → 3 ≤ n → StopsAt text n cause }
+/// A text is refused with a line and a cause exactly where these are its first fault: no line before has a fault,
+/// and none of that line's comes earlier in the order. It reads as a script exactly where it has no fault at all.
+pub fn first_faults_are_told()
+    ensures first { (text : List ℕ) → (n : ℕ) → (cause : Cause) → (script_of text ≡ Err (n, cause)) ↔ IsFirstFault text n cause }
+    ensures none { (text : List ℕ) → IsOk (script_of text) ↔ IsFaultless text }
 {}

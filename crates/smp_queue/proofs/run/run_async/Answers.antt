@@ -38,10 +38,10 @@ returns g c =
     let begun = c.begin_async-begun.ensures.known in
     let same : c.begin_async-begun.new.chair.known.drain ≡ c.args.chair.now.known.drain = ap (λ (u : Known). u.drain) begun in
     let is : c.count-count.new.counts ≡ set c.args.counts.now (owner c.args.call.id) ((get_or c.args.counts.now (owner c.args.call.id) 0 + 1) % 2 ^ 64) =
-      c.count-count.ensures.counts ∙ (ap (set c.args.counts.now c.owner_of-2.result) c.count-count.ensures.count ∙ ap (λ (n : ℕ). set c.args.counts.now n ((get_or c.args.counts.now n 0 + 1) % 2 ^ 64)) c.owner_of-2.ensures) in
+    c.count-count.ensures.counts ∙ (ap (set c.args.counts.now c.owner_of-2.result) c.count-count.ensures.count ∙ ap (λ (n : ℕ). set c.args.counts.now n ((get_or c.args.counts.now n 0 + 1) % 2 ^ 64)) c.owner_of-2.ensures) in
     has_run g.H.Handler.leads c.args.words.now.table_id c.args.chair.now c.count_async.new.chair c.args.call _ c.args.counts.now c.count-count.new.counts c.args.handler.now c.call.new.self
-      at.table_is c.requires.counts (lives_front _ at.lives c.args.call _ batch) batch
-      (c.count_async.ensures.known ∙ ap (ended_call c.args.call) begun)
-      (subst (λ (d : DrainValue). InHandle c.args.words.now.table_id c.count_async.new.chair (run_next d.sync d.async)) same c.count_async.ensures.at)
-      is
-      (subst (λ (n : ℕ). g.H.Handler.leads c.args.handler.now (heard n c.args.call.func c.args.call.info) c.call.new.self) c.owner_of.ensures c.call.ensures)
+    at.table_is c.requires.counts (lives_front _ at.lives c.args.call _ batch) batch
+    (c.count_async.ensures.known ∙ ap (ended_call c.args.call) begun)
+    (subst (λ (d : DrainValue). InHandle c.args.words.now.table_id c.count_async.new.chair (run_next d.sync d.async)) same c.count_async.ensures.at)
+    is
+    (subst (λ (n : ℕ). g.H.Handler.leads c.args.handler.now (heard n c.args.call.func c.args.call.info) c.call.new.self) c.owner_of.ensures c.call.ensures)

@@ -4,6 +4,7 @@ use Rattle.smp_core.proofs.Starts.{online_below}
 use Rattle.smp_core.specs.declared.word.Word.TheVariants.{Intr}
 use Rattle.smp_core.specs.declared.stage.Stage.TheVariants.{Send}
 use Rattle.smp_queue.proofs.Cells.{has_cell}
+use Rattle.smp_queue.proofs.Showing.{is_shown}
 use Rattle.smp_queue.proofs.table.CallTable.send.Goals as goal
 
 pub store-requires : goal.store-requires
@@ -19,3 +20,6 @@ store-requires g c =
       apart = tt;
       cell = has_cell (Intr c.args.to) to;
     }
+
+pub returns-clause-laws : goal.returns-clause-laws
+returns-clause-laws g c = is_shown _ c.store.ensures.lives

@@ -1,0 +1,16 @@
+-- lists of what was queued, and of what was handled
+pub mod Turns
+-- one step after the other
+pub mod Steps
+-- a call by one record
+pub mod One
+-- lists of the members of a mask
+pub mod Lists
+-- one more of many CPUs
+pub mod Round
+-- the loops over many CPUs
+pub mod Loops
+-- the loops that send, and that wait
+pub mod Passes
+-- a call to many, out of its parts
+pub mod Parts

@@ -1,0 +1,120 @@
+-- Lists of the members of a mask, and masks without one member.
+use Rattle.std.proofs.Common.{◌≡◌, ℕ, zero, suc, ◌+◌, ◌<◌, ◌≤◌, Bool, true, false, not, ◌&&◌, ◌==◌, nat_lt, cond, List, [], ◌∷◌, ◌++◌, append_assoc, inl, inr, refl, sym, ap, ◌∙◌, subst, arith}
+use Rattle.std.specs.List.{filter}
+use Rattle.std.proofs.lemmas.Bool.{cases_eq, cases_Bool, ne_eqb, eq-eqb, lt-ltb}
+use Rattle.std.proofs.lemmas.Bool.Decides.{nat_tests}
+use Rattle.std.proofs.lemmas.List.{append-nil}
+use Rattle.std.proofs.lemmas.List.Elements.{filter-append}
+use Rattle.smp_mask.specs.Mask.{has, members, members_below}
+use Rattle.smp_mask.specs.declared.mask.TheConstants.{NR_CPUS}
+use Rattle.smp_calls.specs.Rounds.{only_if}
+
+-- a test as a number
+abbrev pub one_if : Bool → ℕ
+one_if b = cond b 1 0
+
+-- how often a number stands in a list
+pub times : ℕ → List ℕ → ℕ
+times c [] = 0
+times c (x ∷ xs) = cond (x == c) 1 0 + times c xs
+
+times-append : (c : ℕ) (xs ys : List ℕ) → times c (xs ++ ys) ≡ times c xs + times c ys
+unfolding times
+times-append c [] ys = omega arith
+times-append c (x ∷ xs) ys = omega (arith, times-append c xs ys)
+
+-- a member stands once in the list of the members below k, where it is below k
+times_member : (m c k : ℕ) → times c (members_below m k) ≡ cond (nat_lt c k && has m c) 1 0
+unfolding times members_below
+times_member m c zero = grind (arith, nat_tests)
+times_member m c (suc k) = elim (cases_Bool (has m k)) [
+  | inl member ↦
+      let split = times-append c (members_below m k) (k ∷ []) in
+      elim (cases_eq k c) [
+        | inl e ↦
+            let here : has m c ≡ true = subst (λ (x : ℕ). has m x ≡ true) e member in
+            let last : times c (k ∷ []) ≡ 1 = rw (eq-eqb k c e) refl in
+            rw member (split ∙ grind (arith, nat_tests, times_member m c k, here, last, e))
+        | inr n ↦
+            let last : times c (k ∷ []) ≡ 0 = rw (ne_eqb k c n) refl in
+            rw member (split ∙ grind (arith, nat_tests, times_member m c k, last, n))
+      ]
+  | inr other ↦
+      let split = times-append c (members_below m k) [] in
+      elim (cases_eq k c) [
+        | inl e ↦
+            let here : has m c ≡ false = subst (λ (x : ℕ). has m x ≡ false) e other in
+            rw other (split ∙ grind (arith, nat_tests, times_member m c k, here, e))
+        | inr n ↦ rw other (split ∙ grind (arith, nat_tests, times_member m c k, n))
+      ]
+]
+
+last : (member kept passes : Bool) (k : ℕ) (p : ℕ → Bool) → p k ≡ passes → kept ≡ (member && passes) → filter p (cond member (k ∷ []) []) ≡ cond kept (k ∷ []) []
+last true kept passes k p e same = rw (e, same) refl
+last false kept passes k p e same = rw same refl
+
+-- a filter leaves the members that pass
+pub filter_members : (m n : ℕ) (p : ℕ → Bool) (k : ℕ) → ((c : ℕ) → has n c ≡ (has m c && p c)) → filter p (members_below m k) ≡ members_below n k
+unfolding members_below
+filter_members m n p zero same = refl
+filter_members m n p (suc k) same =
+    filter-append p (members_below m k) (cond (has m k) (k ∷ []) []) ∙
+    (ap (λ (xs : List ℕ). xs ++ filter p (cond (has m k) (k ∷ []) [])) (filter_members m n p k same) ∙
+    ap (λ (xs : List ℕ). members_below n k ++ xs) (last (has m k) (has n k) (p k) k p refl (same k)))
+
+-- what does not stand in a list is not filtered out
+filter_without : (c : ℕ) (xs : List ℕ) → times c xs ≡ 0 → filter (λ x. not (x == c)) xs ≡ xs
+unfolding times
+filter_without c [] none = refl
+filter_without c (x ∷ xs) none = elim (cases_eq x c) [
+  | inl e ↦ absurd (let h : one_if (x == c) ≡ 1 = ap one_if (eq-eqb x c e) in omega arith)
+  | inr n ↦ rw (ne_eqb x c n) (ap (λ (ys : List ℕ). x ∷ ys) (filter_without c xs (grind (arith, none))))
+]
+
+-- the masks that agree have the same members
+pub agreeing : (m n k : ℕ) → ((c : ℕ) → c < k → has m c ≡ has n c) → members_below m k ≡ members_below n k
+unfolding members_below
+agreeing m n zero same = refl
+agreeing m n (suc k) same = rw (agreeing m n k (λ c l. same c (omega arith)), same k (omega arith)) refl
+
+-- the next one of those that are left is gone from them, and the others stay
+pub next_gone : (left next cpu c : ℕ) → members left ≡ cpu ∷ members next → c < NR_CPUS → has next c ≡ (has left c && not (c == cpu))
+unfolding times
+next_gone left next cpu c e below =
+    let before : times c (members left) ≡ cond (has left c) 1 0 = times_member left c NR_CPUS ∙ ap (λ b. cond (b && has left c) 1 0) (lt-ltb c NR_CPUS below) in
+    let after : times c (members next) ≡ cond (has next c) 1 0 = times_member next c NR_CPUS ∙ ap (λ b. cond (b && has next c) 1 0) (lt-ltb c NR_CPUS below) in
+    let split : times c (members left) ≡ cond (cpu == c) 1 0 + times c (members next) = ap (times c) e in
+    grind (arith, nat_tests, before, after, split)
+
+-- none is left
+pub none_left : (left c : ℕ) → members left ≡ [] → c < NR_CPUS → has left c ≡ false
+unfolding times
+none_left left c e below =
+    let before : times c (members left) ≡ cond (has left c) 1 0 = times_member left c NR_CPUS ∙ ap (λ b. cond (b && has left c) 1 0) (lt-ltb c NR_CPUS below) in
+    let none : times c (members left) ≡ 0 = ap (times c) e in
+    grind (arith, nat_tests, before, none)
+
+-- a mask without one member has the others in their order
+without_one : (m n c : ℕ) (xs ys : List ℕ) → members m ≡ xs ++ c ∷ ys → ((x : ℕ) → has n x ≡ (has m x && not (x == c))) → members n ≡ xs ++ ys
+unfolding times
+without_one m n c xs ys e gone =
+    let once : times c (members m) ≡ cond (nat_lt c NR_CPUS && has m c) 1 0 = times_member m c NR_CPUS in
+    let few : times c (members m) ≤ 1 = grind (arith, nat_tests, once) in
+    let here : one_if (c == c) ≡ 1 = ap one_if (eq-eqb c c refl) in
+    let split : times c (members m) ≡ times c xs + (cond (c == c) 1 0 + times c ys) = ap (times c) e ∙ times-append c xs (c ∷ ys) in
+    let before : times c xs ≡ 0 = omega arith in
+    let after : times c ys ≡ 0 = omega arith in
+    sym (filter_members m n (λ x. not (x == c)) NR_CPUS gone) ∙
+    (ap (filter (λ x. not (x == c))) e ∙
+    (filter-append (λ x. not (x == c)) xs (c ∷ ys) ∙
+    (ap (λ (zs : List ℕ). zs ++ filter (λ x. not (x == c)) (c ∷ ys)) (filter_without c xs before) ∙
+    ap (λ (zs : List ℕ). xs ++ zs) (ap (λ b. cond (not b) (c ∷ filter (λ x. not (x == c)) ys) (filter (λ x. not (x == c)) ys)) (eq-eqb c c refl) ∙ filter_without c ys after))))
+
+-- a mask's members are those done and those left; it stays so where the next one is done, and where it is taken out
+pub goes_on : (keep : Bool) (xs : List ℕ) (left next cpu m n : ℕ) → xs ++ members left ≡ members m → members left ≡ cpu ∷ members next →
+    (keep ≡ true → n ≡ m) → (keep ≡ false → (c : ℕ) → has n c ≡ (has m c && not (c == cpu))) →
+    (xs ++ only_if keep cpu) ++ members next ≡ members n
+goes_on true xs left next cpu m n e step kept out =
+    append_assoc xs (cpu ∷ []) (members next) ∙ (ap (λ (ys : List ℕ). xs ++ ys) (sym step) ∙ (e ∙ ap members (sym (kept refl))))
+goes_on false xs left next cpu m n e step kept out =
+    ap (λ (ys : List ℕ). ys ++ members next) (append-nil xs) ∙ sym (without_one m n cpu xs (members next) (sym e ∙ ap (λ (ys : List ℕ). xs ++ ys) step) (out refl))

@@ -1,0 +1,91 @@
+-- The loops that send an interrupt to each of many CPUs, and that wait for the record of each.
+use Rattle.std.proofs.Common.{◌≡◌, length, length-set, ℕ, ◌<◌, ◌==◌, ◌||◌, ◌&&◌, not, Bool, true, false, None, List, [], ◌∷◌, ◌++◌, append_assoc, set, get_or, inl, inr, refl, sym, ap, ◌∙◌, subst}
+use Rattle.std.proofs.lemmas.Bool.{cases_eq, ne_eqb, eq-eqb}
+use Rattle.std.proofs.lemmas.List.{append-nil, get_or-set_other}
+use Rattle.smp_mask.specs.Mask.{has, members}
+use Rattle.smp_mask.specs.declared.mask.TheConstants.{NR_CPUS}
+use Rattle.smp_core.specs.Size.{records_of_one, record_of}
+use Rattle.smp_queue.specs.Cpu.{CpuValue, confirmed_at, sends}
+use Rattle.smp_queue.specs.declared.handler.Heard.{Heard}
+use Rattle.smp_calls.specs.Families.{Leaves, owes_at}
+use Rattle.smp_calls.specs.Queued.{is_in}
+use Rattle.smp_calls.specs.Records.{many_record}
+use Rattle.smp_calls.specs.Rounds.{Sends, WaitsFor, is_many}
+use Rattle.smp_calls.proofs.Steps.{leaves_none, leaves_as, leaves_then}
+use Rattle.smp_calls.proofs.One.{and_true, or_false, same_record, set_false}
+use Rattle.smp_calls.proofs.Round.{is_in-append, is_by-append}
+use Rattle.smp_calls.proofs.Lists.{next_gone}
+
+-- these members of a mask were passed, and those left not yet
+pub record Passed (all left : ℕ) (xs : List ℕ) : Type 0 where
+  pub passed_are : xs ++ members left ≡ members all
+  pub among : (c : ℕ) → c < NR_CPUS → has left c ≡ true → has all c ≡ true
+
+pub passed_none : (all : ℕ) → Passed all all []
+passed_none all = record { passed_are = refl; among = λ c l h. h }
+
+first_of : (a b c : Bool) → c ≡ (a && b) → c ≡ true → a ≡ true
+first_of true b c e h = refl
+first_of false b c e h = sym e ∙ h
+
+pub passed_more : (all left next cpu : ℕ) (xs : List ℕ) → Passed all left xs → members left ≡ cpu ∷ members next → Passed all next (xs ++ cpu ∷ [])
+passed_more all left next cpu xs p step = record {
+  passed_are = append_assoc xs (cpu ∷ []) (members next) ∙ (ap (λ (ys : List ℕ). xs ++ ys) (sym step) ∙ p.passed_are);
+  among = λ c l h. p.among c l (first_of (has left c) (not (c == cpu)) (has next c) (next_gone left next cpu c step l) h);
+}
+
+pub passed_all : (all left : ℕ) (xs : List ℕ) → Passed all left xs → members left ≡ [] → xs ≡ members all
+passed_all all left xs p none = sym (append-nil xs) ∙ (ap (λ (ys : List ℕ). xs ++ ys) (sym none) ∙ p.passed_are)
+
+-- ---- sending
+
+pub sends_none : (c : CpuValue) → Sends c c []
+sends_none c = record { others_are = refl; owes_sized = refl; owes_are = λ x. sym (and_true (owes_at c x)) }
+
+all_in : (o i : Bool) → false ≡ (o && not (i || true))
+all_in true true = refl
+all_in true false = refl
+all_in false i = refl
+
+owed_after : (owes : List Bool) (cpu c : ℕ) (o i : Bool) → get_or owes c false ≡ (o && not i) → get_or (set owes cpu false) c false ≡ (o && not (i || (cpu == c || false)))
+owed_after owes cpu c o i e = elim (cases_eq c cpu) [
+  | inl same ↦
+      rw (eq-eqb cpu c (sym same)) (subst (λ (x : ℕ). get_or (set owes cpu false) x false ≡ (o && not (i || true))) (sym same) (set_false owes cpu ∙ all_in o i))
+  | inr apart ↦
+      rw (ne_eqb cpu c (λ h. apart (sym h))) (get_or-set_other owes cpu c false false apart ∙ (e ∙ ap (λ b. o && not b) (sym (or_false i))))
+]
+
+pub sends_more : (old mid new : CpuValue) (cpu : ℕ) (xs : List ℕ) → Sends old mid xs → new ≡ sends cpu mid → Sends old new (xs ++ cpu ∷ [])
+sends_more old mid new cpu xs s e =
+    let owes : new.owes ≡ set mid.owes cpu false = ap (λ (x : CpuValue). x.owes) e in
+    record {
+      others_are = e ∙ (ap (λ (x : CpuValue). record x { owes = set mid.owes cpu false }) s.others_are ∙ ap (λ (o : List Bool). record old { owes = o }) (sym owes));
+      owes_sized = ap length owes ∙ (length-set mid.owes cpu false ∙ s.owes_sized);
+      owes_are = λ c.
+          ap (λ (o : List Bool). get_or o c false) owes ∙
+          (owed_after mid.owes cpu c (owes_at old c) (is_in c xs) (s.owes_are c) ∙
+          ap (λ b. owes_at old c && not b) (sym (is_in-append c xs (cpu ∷ []))));
+    }
+
+-- ---- waiting
+
+turned : (b a o : Bool) → (b || (a || o)) ≡ ((a || (b || false)) || o)
+turned true true o = refl
+turned true false o = refl
+turned false true o = refl
+turned false false o = refl
+
+module _ {H : Type 0} (leads : H → Heard → H → Type 0) where
+  pub waits_none : (c : CpuValue) (h : H) → WaitsFor leads c h c h [] true
+  waits_none c h = leaves_none leads c h
+
+  pub waits_more : {old mid new : CpuValue} {before m after : H} (k cpu : ℕ) (xs : List ℕ) → k ≡ many_record cpu → k < records_of_one →
+      WaitsFor leads old before mid m xs true →
+      Leaves leads mid m new after [] None (owes_at mid) (λ j. j == k || confirmed_at mid j) →
+      WaitsFor leads old before new after (xs ++ cpu ∷ []) true
+  waits_more {old} {mid} k cpu xs is_k small f g =
+      leaves_as leads (owes_at old) (λ j. is_many old.number j (xs ++ cpu ∷ []) || confirmed_at old j) (leaves_then leads f g) f.owes_are (λ j b.
+      ap (λ x. j == k || x) (f.confirmed_are j b) ∙
+      (turned (j == k) (is_many old.number j xs) (confirmed_at old j) ∙
+      (ap (λ x. (is_many old.number j xs || (x || false)) || confirmed_at old j) (sym (same_record old.number j k b small) ∙ ap (λ (i : ℕ). record_of old.number j == record_of old.number i) is_k) ∙
+      ap (λ x. x || confirmed_at old j) (sym (is_by-append (λ x. record_of old.number (many_record x)) (record_of old.number j) xs (cpu ∷ []))))))

@@ -1,0 +1,148 @@
+-- What one step of a call leaves, and one step after the other.
+use Rattle.std.proofs.Common.{◌≡◌, ℕ, ◌<◌, ◌==◌, ◌||◌, Bool, true, false, Option, Some, None, List, [], ◌++◌, append_assoc, length, length-set, slice_index_or, slice_set, inl, inr, refl, sym, ap, ◌∙◌, subst, arith}
+use Rattle.std.proofs.lemmas.List.{append-nil, get_or-set_same, get_or-set_other}
+use Rattle.std.proofs.lemmas.Bool.{cases_eq, ne_eqb, eq-eqb}
+use Rattle.smp_core.specs.Size.{cpus, records_of_one, record_of, local}
+use Rattle.smp_core.specs.Order.{order}
+use Rattle.smp_core.proofs.Sizes.{record_of-below, local-of_record}
+use Rattle.smp_core.specs.declared.call.Call.{Call}
+use Rattle.smp_core.specs.declared.known.Sending.{Sending}
+use Rattle.smp_queue.specs.Cpu.{CpuValue, confirmed_at, confirms}
+use Rattle.smp_queue.specs.Handling.{Grows, asks, drains}
+use Rattle.smp_queue.specs.declared.handler.Heard.{Heard}
+use Rattle.smp_calls.specs.Families.{IsSized, Leaves, owes_at}
+use Rattle.smp_calls.proofs.Turns.{handles_none, handles_same, handles_nothing, handles_batch, handled_then, handled_later, handled_here}
+
+-- sized as before
+pub sized_moved : (c d : CpuValue) → d.number ≡ c.number → length d.confirmed ≡ length c.confirmed → IsSized c → IsSized d
+sized_moved c d n e s = record { number = subst (λ (m : ℕ). m < cpus) (sym n) s.number; records_are = e ∙ s.records_are }
+
+-- a record that is stored as confirmed or not, and the others
+pub set_here : (c : CpuValue) (k : ℕ) (b : Bool) → IsSized c → k < records_of_one → slice_index_or (slice_set c.confirmed (record_of c.number k) b) (record_of c.number k) false ≡ b
+set_here c k b s l =
+    let e = s.records_are in
+    let below = record_of-below c.number k s.number l in
+    get_or-set_same c.confirmed (record_of c.number k) b false (omega arith)
+
+pub set_else : (c : CpuValue) (i j : ℕ) (b : Bool) → (j ≡ i → ⊥) → slice_index_or (slice_set c.confirmed i b) j false ≡ slice_index_or c.confirmed j false
+set_else c i j b other = get_or-set_other c.confirmed i j b false other
+
+-- one CPU's records are as many as their local numbers
+pub same_local : (number j k : ℕ) → j < records_of_one → k < records_of_one → record_of number j ≡ record_of number k → j ≡ k
+same_local number j k b l e = sym (local-of_record number j b) ∙ (ap local e ∙ local-of_record number k l)
+
+-- whether a record is confirmed once that of number k is
+pub confirms_at : (c : CpuValue) (k j : ℕ) → IsSized c → k < records_of_one → j < records_of_one → confirmed_at (confirms k c) j ≡ (j == k || confirmed_at c j)
+confirms_at c k j s l b = elim (cases_eq j k) [
+  | inl e ↦ rw (eq-eqb j k e) (subst (λ (i : ℕ). slice_index_or (slice_set c.confirmed (record_of c.number k) true) (record_of c.number i) false ≡ true) (sym e) (set_here c k true s l))
+  | inr n ↦ rw (ne_eqb j k n) (set_else c (record_of c.number k) (record_of c.number j) true (λ e. n (same_local c.number j k b l e)))
+]
+
+module _ {H : Type 0} (leads : H → Heard → H → Type 0) where
+  pub leaves_none : (c : CpuValue) (h : H) → Leaves leads c h c h [] None (owes_at c) (confirmed_at c)
+  leaves_none c h = record {
+    table_is = refl;
+    number_is = refl;
+    sized = refl;
+    owes_sized = refl;
+    sent_is = sym (append-nil c.sent);
+    owes_are = λ x. refl;
+    confirmed_are = λ k l. refl;
+    handled = handles_none leads c h;
+  }
+
+  -- the same, with what it owes and has confirmed said in other words
+  pub leaves_as : {old new : CpuValue} {before after : H} {sent : List Sending} {here : Option Heard} {o d : ℕ → Bool} (p e : ℕ → Bool) → Leaves leads old before new after sent here o d → ((c : ℕ) → o c ≡ p c) → ((k : ℕ) → k < records_of_one → d k ≡ e k) → Leaves leads old before new after sent here p e
+  leaves_as p e l same alike = record {
+    table_is = l.table_is;
+    number_is = l.number_is;
+    sized = l.sized;
+    owes_sized = l.owes_sized;
+    sent_is = l.sent_is;
+    owes_are = λ c. l.owes_are c ∙ same c;
+    confirmed_are = λ k b. l.confirmed_are k b ∙ alike k b;
+    handled = l.handled;
+  }
+
+  pub leaves_then : {old mid new : CpuValue} {before m after : H} {s t : List Sending} {here : Option Heard} {o d p e : ℕ → Bool} → Leaves leads old before mid m s None o d → Leaves leads mid m new after t here p e → Leaves leads old before new after (s ++ t) here p e
+  leaves_then {old} {mid} {new} {before} {m} {after} {s} {t} {here} f l = record {
+    table_is = l.table_is ∙ f.table_is;
+    number_is = l.number_is ∙ f.number_is;
+    sized = l.sized ∙ f.sized;
+    owes_sized = l.owes_sized ∙ f.owes_sized;
+    sent_is = l.sent_is ∙ (ap (λ (xs : List Sending). xs ++ t) f.sent_is ∙ append_assoc old.sent s t);
+    owes_are = l.owes_are;
+    confirmed_are = l.confirmed_are;
+    handled = handled_then leads old mid new before m after here f.handled l.handled;
+  }
+
+  pub leaves_later : {old mid new : CpuValue} {before m after : H} {s t : List Sending} {here : Option Heard} {o d p e : ℕ → Bool} → Leaves leads old before mid m s here o d → Leaves leads mid m new after t None p e → Leaves leads old before new after (s ++ t) here p e
+  leaves_later {old} {mid} {new} {before} {m} {after} {s} {t} {here} f l = record {
+    table_is = l.table_is ∙ f.table_is;
+    number_is = l.number_is ∙ f.number_is;
+    sized = l.sized ∙ f.sized;
+    owes_sized = l.owes_sized ∙ f.owes_sized;
+    sent_is = l.sent_is ∙ (ap (λ (xs : List Sending). xs ++ t) f.sent_is ∙ append_assoc old.sent s t);
+    owes_are = l.owes_are;
+    confirmed_are = l.confirmed_are;
+    handled = handled_later leads old mid new before m after here f.handled l.handled;
+  }
+
+  -- one look at the interrupt word, by what `handle` answers
+  pub leaves_handled : (interrupted : Bool) (c d : CpuValue) (h i : H) →
+      (interrupted ≡ true → (batch : List Call) × (d ≡ drains batch (asks true c)) × Grows leads h (order batch) i) →
+      (interrupted ≡ false → (d ≡ asks false c) × (i ≡ h)) →
+      Leaves leads c h d i [] None (owes_at c) (confirmed_at c)
+  leaves_handled true c d h i took idle =
+      let t = took refl in
+      subst (λ (x : CpuValue). Leaves leads c h x i [] None (owes_at c) (confirmed_at c)) (sym t.1)
+      (record {
+        table_is = refl;
+        number_is = refl;
+        sized = refl;
+        owes_sized = refl;
+        sent_is = sym (append-nil c.sent);
+        owes_are = λ x. refl;
+        confirmed_are = λ k l. refl;
+        handled = handles_batch leads c t.0 h i t.2;
+      })
+  leaves_handled false c d h i took idle =
+      let n = idle refl in
+      subst (λ (x : CpuValue). Leaves leads c h x i [] None (owes_at c) (confirmed_at c)) (sym n.0)
+      (subst (λ (y : H). Leaves leads c h (asks false c) y [] None (owes_at c) (confirmed_at c)) (sym n.1)
+      (record {
+        table_is = refl;
+        number_is = refl;
+        sized = refl;
+        owes_sized = refl;
+        sent_is = sym (append-nil c.sent);
+        owes_are = λ x. refl;
+        confirmed_are = λ k l. refl;
+        handled = handles_nothing leads c h;
+      }))
+
+  -- a record is seen confirmed
+  pub leaves_confirmed : (c d : CpuValue) (h : H) (k : ℕ) → IsSized c → k < records_of_one → d ≡ confirms k c → Leaves leads c h d h [] None (owes_at c) (λ j. j == k || confirmed_at c j)
+  leaves_confirmed c d h k s l e = subst (λ (x : CpuValue). Leaves leads c h x h [] None (owes_at c) (λ j. j == k || confirmed_at c j)) (sym e) (record {
+    table_is = refl;
+    number_is = refl;
+    sized = length-set c.confirmed (record_of c.number k) true;
+    owes_sized = refl;
+    sent_is = sym (append-nil c.sent);
+    owes_are = λ x. refl;
+    confirmed_are = λ j b. confirms_at c k j s l b;
+    handled = handles_same leads c (confirms k c) h refl refl refl;
+  })
+
+  -- a call is made directly
+  pub leaves_here : (c : CpuValue) (h i : H) (x : Heard) → leads h x i → Leaves leads c h c i [] (Some x) (owes_at c) (confirmed_at c)
+  leaves_here c h i x call = record {
+    table_is = refl;
+    number_is = refl;
+    sized = refl;
+    owes_sized = refl;
+    sent_is = sym (append-nil c.sent);
+    owes_are = λ y. refl;
+    confirmed_are = λ k l. refl;
+    handled = handled_here leads c h i x call;
+  }

@@ -1,0 +1,28 @@
+use Rattle.std.proofs.Common.{ℕ, true, [], ◌++◌, ◌∷◌, List, ◌∙◌, sym, subst, rules}
+use Rattle.smp_calls.specs.Rounds.{WaitsFor}
+use Rattle.smp_calls.proofs.Steps.{sized_moved}
+use Rattle.smp_calls.proofs.Passes.{Passed, passed_none, passed_more, passed_all, waits_none, waits_more}
+use Rattle.smp_calls.proofs.each.wait_each.Goals as goal
+
+pub loop-cpu-init : goal.loop-cpu-init
+loop-cpu-init g c = ([], subst (λ (left : ℕ). Passed c.args.called left []) (sym (c.into_iter-cpu-iterator.ensures.into_iter_gives ∙ c.iter-cpu-items.ensures)) (passed_none c.args.called), waits_none g.H.Handler.leads c.args.me.now c.args.handler.now)
+
+pub wait_for-requires-clause-table : goal.wait_for-requires-clause-table
+wait_for-requires-clause-table g c = c.loop-cpu.invariant.2.table_is ∙ c.requires.table
+
+pub wait_for-requires-clause-sized : goal.wait_for-requires-clause-sized
+wait_for-requires-clause-sized g c = sized_moved c.args.me.now c.loop-cpu.me c.loop-cpu.invariant.2.number_is c.loop-cpu.invariant.2.sized c.requires.sized
+
+pub loop-cpu-preserved : goal.loop-cpu-preserved
+loop-cpu-preserved g c =
+    let a = c.loop-cpu.invariant in
+    let next = c.in-Some.ensures.steps in (
+      a.0 ++ c.in-Some.cpu ∷ [],
+      passed_more c.args.called c.loop-cpu.cpu-iterator c.next.new.self c.in-Some.cpu a.0 a.1 next.0,
+      waits_more g.H.Handler.leads c.many_record.result c.in-Some.cpu a.0 c.many_record.ensures (search rules) a.2 c.wait_for.ensures,
+    )
+
+pub returns : goal.returns
+returns g c =
+    let a = c.loop-cpu.invariant in
+    subst (λ (xs : List ℕ). WaitsFor g.H.Handler.leads c.args.me.now c.args.handler.now c.loop-cpu.me c.loop-cpu.handler xs true) (passed_all c.args.called c.loop-cpu.cpu-iterator a.0 a.1 c.in-None.ensures.steps.0.0) a.2

@@ -1,0 +1,30 @@
+use Rattle.std.proofs.Common.{◌≡◌, ℕ, Bool, List, Option, true, false, cond, Some, None, sym, subst}
+use Rattle.smp_mask.specs.Mask.{has, members}
+use Rattle.smp_queue.specs.Handling.{heard}
+use Rattle.smp_queue.specs.declared.handler.Heard.{Heard}
+use Rattle.smp_calls.specs.Families.{CallsMany}
+use Rattle.smp_calls.specs.Rounds.{Picks}
+use Rattle.smp_calls.specs.Targets.{is_target, remote}
+use Rattle.smp_calls.specs.Records.{class_for}
+use Rattle.smp_calls.proofs.Parts.{not_called, picks_with, others_called, called_here, calls_then_here, calls_waited_for}
+use Rattle.smp_calls.proofs.many.each_cpu_cond.Goals as goal
+
+pub returns-clause-picks : goal.returns-clause-picks
+returns-clause-picks g c =
+    let says = λ (x : ℕ) (answer : Bool). g.C.Fn.post c.args.cond.now (x, (c.args.info, tt)) answer in
+    let made = picks_with says c.args.mask c.online.result c.number-this.result c.targets-others.result c.queue_all-called.result c.with_if.result c.runs_here-here.result c.targets-others.ensures c.queue_all-called.ensures.picks c.with_if.ensures c.runs_here-here.ensures.member c.runs_here-here.ensures.answered in
+    subst (λ (n : ℕ). Picks says (is_target c.args.mask c.args.table.now.online n true) c.with_if.result) c.number-this.ensures.number
+    (subst (λ (online : ℕ). Picks says (is_target c.args.mask online c.number-this.result true) c.with_if.result) c.online.ensures made)
+
+pub returns-clause-calls : goal.returns-clause-calls
+returns-clause-calls g c =
+    let this = c.number-this.result in
+    let called = c.queue_all-called.result in
+    let here = c.runs_here-here.result in
+    let out : has called this ≡ false = not_called c.args.mask c.online.result this c.targets-others.result called c.targets-others.ensures c.queue_all-called.ensures.picks.among in
+    let direct : Option Heard = cond here (Some (heard this c.args.func c.args.info)) None in
+    let made = calls_waited_for g.H.Handler.leads (class_for c.args.wait) c.args.func c.args.info (members called) direct c.args.wait
+    (calls_then_here g.H.Handler.leads (class_for c.args.wait) c.args.func c.args.info (members called) direct c.queue_all-called.ensures.calls c.call_if.ensures) c.wait_all.ensures in
+    subst (λ (n : ℕ). CallsMany g.H.Handler.leads c.args.me.now c.args.handler.now c.wait_all.new.me c.wait_all.new.handler (remote n c.with_if.result) (class_for c.args.wait) c.args.func c.args.info (cond (has c.with_if.result n) (Some (heard n c.args.func c.args.info)) None) c.args.wait) c.number-this.ensures.number
+    (subst (λ (b : Bool). CallsMany g.H.Handler.leads c.args.me.now c.args.handler.now c.wait_all.new.me c.wait_all.new.handler (remote this c.with_if.result) (class_for c.args.wait) c.args.func c.args.info (cond b (Some (heard this c.args.func c.args.info)) None) c.args.wait) (sym (called_here this called c.with_if.result here c.with_if.ensures out))
+    (subst (λ (to : List ℕ). CallsMany g.H.Handler.leads c.args.me.now c.args.handler.now c.wait_all.new.me c.wait_all.new.handler to (class_for c.args.wait) c.args.func c.args.info direct c.args.wait) (others_called this called c.with_if.result here c.with_if.ensures out) made))

@@ -1,0 +1,41 @@
+-- What a CPU does while it waits: it takes its interrupts, and runs what was queued for it.
+use Rattle.std.specs.Prelude.{◌≡◌, Bool, true, false, Option, Some, None, List, [], ◌∷◌, ◌++◌}
+use Rattle.smp_core.specs.Histories.{orders}
+use Rattle.smp_core.specs.declared.call.Call.{Call}
+use Rattle.smp_queue.specs.Cpu.{CpuValue}
+use Rattle.smp_queue.specs.Handling.{Grows}
+use Rattle.smp_queue.specs.declared.handler.Heard.{Heard}
+
+-- what the looks at the interrupt word found, of looks that each took a batch or found nothing
+abbrev pub looks : List (Option (List Call)) → List Bool
+looks [] = []
+looks (None ∷ rest) = false ∷ looks rest
+looks (Some batch ∷ rest) = true ∷ looks rest
+
+-- the batches that they took
+abbrev pub batches : List (Option (List Call)) → List (List Call)
+batches [] = []
+batches (None ∷ rest) = batches rest
+batches (Some batch ∷ rest) = batch ∷ batches rest
+
+-- from one value to the other a CPU has looked for interrupts so often, has taken and run a batch wherever one was pending, and its handler has run just these calls
+pub record Handles {H : Type 0} (leads : H → Heard → H → Type 0) (old : CpuValue) (before : H) (new : CpuValue) (after : H) : Type 0 where
+  pub turns : List (Option (List Call))
+  pub asked_is : new.asked ≡ old.asked ++ looks turns
+  pub taken_is : new.taken ≡ old.taken ++ batches turns
+  pub ran_is : new.ran ≡ old.ran ++ orders (batches turns)
+  pub grows : Grows leads before (orders (batches turns)) after
+
+-- the same, and at some point between two looks its handler has run one call directly
+pub record HandlesAround {H : Type 0} (leads : H → Heard → H → Type 0) (old : CpuValue) (before : H) (new : CpuValue) (after : H) (heard : Heard) : Type 0 where
+  pub middle : CpuValue
+  pub called : H
+  pub ended : H
+  pub first : Handles leads old before middle called
+  pub call : leads called heard ended
+  pub later : Handles leads middle ended new after
+
+-- with the direct call, if any
+abbrev pub Handled : {H : Type 0} → (H → Heard → H → Type 0) → CpuValue → H → CpuValue → H → Option Heard → Type 0
+Handled leads old before new after None = Handles leads old before new after
+Handled leads old before new after (Some heard) = HandlesAround leads old before new after heard

@@ -1,0 +1,11 @@
+-- the targets of a call, and the record of each
+pub mod Targets
+pub mod Records
+-- the calls that a family queues
+pub mod Queued
+-- what a CPU handles while it waits
+pub mod Handles
+-- what a family leaves of its CPU and its handler
+pub mod Families
+-- what the parts of a call to many leave
+pub mod Rounds

@@ -1,0 +1,31 @@
+-- Which of its records a CPU uses for a call.
+use Rattle.std.specs.Prelude.{ℕ, ◌+◌, ◌-◌, Bool, if◌then◌else◌}
+use Rattle.smp_core.specs.Size.{records_of_one, record_of}
+use Rattle.smp_core.specs.declared.call.Call.{Call}
+use Rattle.smp_core.specs.declared.call.Class.{Class}
+use Rattle.smp_core.specs.declared.call.Class.TheVariants.{Sync, Async}
+use Rattle.smp_calls.specs.declared.records.TheConstants.{SYNC_RECORD, ASYNC_RECORD}
+
+-- the record for calls to many with this destination
+abbrev pub many_record : ℕ → ℕ
+many_record to = to + 2
+
+-- the two records of the user
+abbrev pub user_record : ℕ → ℕ
+user_record u = (records_of_one - 2) + u
+
+-- a call that is waited for keeps its record until it has run
+abbrev pub class_for : Bool → Class
+class_for wait = if wait then Sync else Async
+
+-- the record for a call to one CPU
+abbrev pub single_record : Bool → ℕ
+single_record wait = if wait then SYNC_RECORD else ASYNC_RECORD
+
+-- the call by this record of this CPU
+abbrev pub call_by : ℕ → ℕ → Class → ℕ → ℕ → Call
+call_by number k class func info = record { id = record_of number k; class = class; func = func; info = info }
+
+-- the call to each of many CPUs
+abbrev pub many_call : ℕ → Class → ℕ → ℕ → ℕ → Call
+many_call number class func info to = call_by number (many_record to) class func info

@@ -1,0 +1,48 @@
+//! A call to any CPU of a mask.
+
+ghost use Rattle.std.specs.Prelude.{◌≡◌, ◌≢◌, true, None, IfOk, IfErr, IfNone, IfSome};
+ghost use Rattle.smp_calls.specs.Targets.{IsAny, HasNone};
+ghost use Rattle.smp_calls.specs.Families.{CallsOne, CallsHere};
+
+use crate::single::call_single;
+use smp_mask::{CpuMask, SmpError};
+use smp_queue::{CallCpu, CallTable, Handler};
+use std::alloc::Allocator;
+use std::sync::Wait;
+
+/// The CPU `this` where the mask has it, else the lowest CPU of the mask that is online.
+fn any_of(mask: CpuMask, online: CpuMask, this: u32) -> Option<u32>
+    ensures some { IfSome result (λ cpu. IsAny mask online this cpu) }
+    ensures none { IfNone result (HasNone mask online this) }
+{
+    if mask.contains(this) {
+        Some(this)
+    } else {
+        mask.first_and(online)
+    }
+}
+
+/// Calls a function on one CPU of the mask (`kernel/smp.c: smp_call_function_any`): on this CPU where the mask
+/// has it, else on the lowest one that is online. It then does as [`call_single`], and answers that CPU.
+///
+/// E1 where there is no such CPU; then nothing is waited for.
+pub fn call_any<A: Allocator, R: Wait, H: Handler>(
+    table: &CallTable<A>,
+    rt: &R,
+    me: &mut CallCpu,
+    handler: &mut H,
+    mask: CpuMask,
+    func: u16,
+    info: u64,
+    wait: bool,
+) -> Result<u32, SmpError>
+    requires { me.old.table ≡ table.now.table }
+    ensures any { IfOk result (λ cpu. IsAny mask table.now.online me.old.number cpu) }
+    ensures queued { IfOk result (λ cpu. cpu ≢ me.old.number → CallsOne H.leads me.old handler.old me.new handler.new cpu func info wait) }
+    ensures here { IfOk result (λ cpu. cpu ≡ me.old.number → CallsHere H.leads me.old handler.old me.new handler.new func info wait) }
+    ensures refused { IfErr result (λ e. (e ≡ SmpError.NoCpu) × HasNone mask table.now.online me.old.number × (me.new ≡ me.old) × (handler.new ≡ handler.old)) }
+{
+    let dst = any_of(mask, table.online(), me.number()).ok_or(SmpError::NoCpu)?;
+    call_single(table, rt, me, handler, dst, func, info, wait)?;
+    Ok(dst)
+}

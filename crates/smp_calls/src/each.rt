@@ -1,0 +1,108 @@
+//! The parts of a call to many CPUs: a call is queued for each, an interrupt is sent to each that is owed one,
+//! each record is waited for.
+
+ghost use Rattle.std.specs.Prelude.{◌≡◌, ◌≢◌, ℕ, ◌<◌, ◌==◌, ◌&&◌, not, true, false, Bool, List, [], ◌∷◌, ◌++◌, None, if◌then◌else◌};
+ghost use Rattle.smp_mask.specs.Mask.{has, members};
+ghost use Rattle.smp_core.specs.Size.{cpus};
+ghost use Rattle.smp_calls.specs.Records.{many_call};
+ghost use Rattle.smp_calls.specs.Queued.{Queued, destinations, firsts};
+ghost use Rattle.smp_calls.specs.Families.{IsSized};
+ghost use Rattle.smp_calls.specs.Rounds.{only_if, Queues, Sends, WaitsFor, QueuesEach};
+
+use crate::queue::{Job, interrupt, queue};
+use crate::records::many_record;
+use crate::wait::wait_for;
+use smp_mask::CpuMask;
+use smp_queue::{CallCpu, CallTable, Handler};
+use std::alloc::Allocator;
+use std::sync::Wait;
+
+/// Queues one of many calls, once the record for its destination is free, where it is `asked` for: whether the
+/// queue was empty.
+fn queue_if<A: Allocator, R: Wait, H: Handler>(
+    table: &CallTable<A>,
+    rt: &R,
+    me: &mut CallCpu,
+    handler: &mut H,
+    to: u32,
+    job: Job,
+    asked: bool,
+) -> bool
+    requires table { me.old.table ≡ table.now.table }
+    requires sized { IsSized me.old }
+    requires within { to < cpus }
+    requires online { has table.now.online to ≡ true }
+    requires other { to ≢ me.old.number }
+    ensures { (queued : List Queued) × (destinations queued ≡ only_if asked to) × (firsts queued ≡ only_if result to) × Queues H.leads me.old handler.old me.new handler.new (many_call me.old.number job.class job.func job.info) queued }
+{
+    if !asked {
+        return false;
+    }
+    let k = many_record(to);
+    wait_for(table, rt, me, handler, k);
+    queue(table, rt, me, k, to, job)
+}
+
+/// The mask with the CPU, or without.
+fn kept_if(mask: CpuMask, cpu: u32, keep: bool) -> CpuMask
+    ensures kept { keep ≡ true → result ≡ mask }
+    ensures out { keep ≡ false → (c : ℕ) → has result c ≡ (has mask c && not (c == cpu)) }
+{
+    if keep { mask } else { mask.without(cpu) }
+}
+
+/// Asks the condition of each of these CPUs, ascending, and queues a call for each that it holds of, just after:
+/// for which CPUs, and which of these are owed an interrupt.
+pub(crate) fn queue_each<A: Allocator, R: Wait, H: Handler, C: Fn(u32, u64) -> bool>(
+    table: &CallTable<A>,
+    rt: &R,
+    me: &mut CallCpu,
+    handler: &mut H,
+    others: CpuMask,
+    job: Job,
+    cond: &C,
+) -> (CpuMask, CpuMask)
+    requires table { me.old.table ≡ table.now.table }
+    requires sized { IsSized me.old }
+    requires online { (c : ℕ) → has others c ≡ true → (has table.now.online c ≡ true) × (c ≢ me.old.number) }
+    requires condition { (c : ℕ) → c < cpus → C.pre cond.now c job.info }
+    ensures { QueuesEach H.leads me.old handler.old me.new handler.new (λ c answer. C.post cond.now c job.info answer) (many_call me.old.number job.class job.func job.info) others result.0 result.1 }
+{
+    let mut called = others;
+    let mut owed = others;
+    for cpu in others.iter() {
+        let asked = cond(cpu, job.info);
+        let first = queue_if(table, rt, me, handler, cpu, job, asked);
+        called = kept_if(called, cpu, asked);
+        owed = kept_if(owed, cpu, first);
+    }
+    (called, owed)
+}
+
+/// Sends an interrupt to each of these CPUs, which are online.
+pub(crate) fn send_each<A: Allocator>(table: &CallTable<A>, me: &mut CallCpu, owed: CpuMask)
+    requires table { me.old.table ≡ table.now.table }
+    requires online { (c : ℕ) → has owed c ≡ true → has table.now.online c ≡ true }
+    ensures { Sends me.old me.new (members owed) }
+{
+    for cpu in owed.iter() {
+        interrupt(table, me, cpu);
+    }
+}
+
+/// Waits for the record for calls to many of each of these CPUs.
+pub(crate) fn wait_each<A: Allocator, R: Wait, H: Handler>(
+    table: &CallTable<A>,
+    rt: &R,
+    me: &mut CallCpu,
+    handler: &mut H,
+    called: CpuMask,
+)
+    requires table { me.old.table ≡ table.now.table }
+    requires sized { IsSized me.old }
+    ensures { WaitsFor H.leads me.old handler.old me.new handler.new (members called) true }
+{
+    for cpu in called.iter() {
+        wait_for(table, rt, me, handler, many_record(cpu));
+    }
+}

@@ -1,0 +1,158 @@
+//! Calls to many CPUs.
+
+ghost use Rattle.std.specs.Prelude.{◌≡◌, ◌≢◌, ℕ, ◌<◌, ◌==◌, ◌&&◌, ◌||◌, true, false, List, None, Some, if◌then◌else◌};
+ghost use Rattle.smp_mask.specs.Mask.{has, members};
+ghost use Rattle.smp_core.specs.Size.{cpus};
+ghost use Rattle.smp_queue.specs.Handling.{heard};
+ghost use Rattle.smp_calls.specs.Records.{many_call, class_for as class_in};
+ghost use Rattle.smp_calls.specs.Targets.{is_target, remote};
+ghost use Rattle.smp_calls.specs.Families.{IsSized, CallsMany};
+ghost use Rattle.smp_calls.specs.Rounds.{WaitsFor, Picks, HearsIf};
+
+use crate::each::{queue_each, send_each, wait_each};
+use crate::queue::Job;
+use crate::records::class_for;
+use crate::target::targets;
+use smp_mask::CpuMask;
+use smp_queue::{CallCpu, CallTable, Handler};
+use std::alloc::Allocator;
+use std::sync::Wait;
+
+/// Queues a call for each of these CPUs that the condition holds of, and then sends all interrupts that are
+/// owed: the CPUs called.
+fn queue_all<A: Allocator, R: Wait, H: Handler, C: Fn(u32, u64) -> bool>(
+    table: &CallTable<A>,
+    rt: &R,
+    me: &mut CallCpu,
+    handler: &mut H,
+    others: CpuMask,
+    func: u16,
+    info: u64,
+    cond: &C,
+    wait: bool,
+) -> CpuMask
+    requires table { me.old.table ≡ table.now.table }
+    requires sized { IsSized me.old }
+    requires online { (c : ℕ) → has others c ≡ true → (has table.now.online c ≡ true) × (c ≢ me.old.number) }
+    requires condition { (c : ℕ) → c < cpus → C.pre cond.now c info }
+    ensures picks { Picks (λ c answer. C.post cond.now c info answer) (has others) result }
+    ensures calls { CallsMany H.leads me.old handler.old me.new handler.new (members result) (class_in wait) func info None false }
+{
+    let class = class_for(wait);
+    let job = Job { class, func, info };
+    let (called, owed) = queue_each(table, rt, me, handler, others, job, cond);
+    send_each(table, me, owed);
+    called
+}
+
+/// Where the calls are to be waited for, waits for that to each of these CPUs.
+fn wait_all<A: Allocator, R: Wait, H: Handler>(
+    table: &CallTable<A>,
+    rt: &R,
+    me: &mut CallCpu,
+    handler: &mut H,
+    called: CpuMask,
+    wait: bool,
+)
+    requires table { me.old.table ≡ table.now.table }
+    requires sized { IsSized me.old }
+    ensures { WaitsFor H.leads me.old handler.old me.new handler.new (members called) wait }
+{
+    if wait {
+        wait_each(table, rt, me, handler, called);
+    }
+}
+
+/// Whether the mask has this CPU and the condition holds of it. The condition is asked only where the mask has
+/// it.
+fn runs_here<C: Fn(u32, u64) -> bool>(mask: CpuMask, this: u32, info: u64, cond: &C) -> bool
+    requires { (c : ℕ) → c < cpus → C.pre cond.now c info }
+    ensures member { result ≡ true → (has mask this ≡ true) × (this < cpus) }
+    ensures answered { has mask this ≡ true → this < cpus → C.post cond.now this info result }
+{
+    mask.contains(this) && cond(this, info)
+}
+
+/// Runs the function here, where it is called here.
+fn call_if<H: Handler>(handler: &mut H, this: u32, func: u16, info: u64, here: bool)
+    ensures { HearsIf H.leads handler.old (if here then Some (heard this func info) else None) handler.new }
+{
+    if here {
+        handler.call(this, func, info);
+    }
+}
+
+/// The mask, with this CPU where it is called.
+fn with_if(mask: CpuMask, this: u32, here: bool) -> CpuMask
+    requires { here ≡ true → this < cpus }
+    ensures { (c : ℕ) → has result c ≡ (has mask c || (here && c == this)) }
+{
+    if here {
+        mask.with(this).unwrap_or(mask)
+    } else {
+        mask
+    }
+}
+
+/// Calls a function on each online CPU of the mask but this one (`kernel/smp.c: smp_call_function_many`): all
+/// calls are queued, ascending, before the first interrupt is sent. With `wait` the call returns once they have
+/// run. Each call uses the record for its destination, for whose last call it first waits. While it waits, the
+/// CPU handles its own interrupts. Answers the CPUs called.
+pub fn call_many<A: Allocator, R: Wait, H: Handler>(
+    table: &CallTable<A>,
+    rt: &R,
+    me: &mut CallCpu,
+    handler: &mut H,
+    mask: CpuMask,
+    func: u16,
+    info: u64,
+    wait: bool,
+) -> CpuMask
+    requires { me.old.table ≡ table.now.table }
+    ensures targets { (c : ℕ) → has result c ≡ is_target mask table.now.online me.old.number false c }
+    ensures calls { CallsMany H.leads me.old handler.old me.new handler.new (members result) (class_in wait) func info None wait }
+{
+    let others = targets(mask, table.online(), me.number(), false);
+    let called = queue_all(
+        table,
+        rt,
+        me,
+        handler,
+        others,
+        func,
+        info,
+        &|_, _| true,
+        wait,
+    );
+    wait_all(table, rt, me, handler, called, wait);
+    others
+}
+
+/// Calls a function on each online CPU of the mask of which the condition holds, this one included
+/// (`kernel/smp.c: on_each_cpu_cond_mask`). The condition is asked of the other CPUs ascending, each just before
+/// its call is queued, and of this CPU after all interrupts are sent; the function then runs here at once. The
+/// rest is as in [`call_many`]. Answers the CPUs called.
+pub fn each_cpu_cond<A: Allocator, R: Wait, H: Handler, C: Fn(u32, u64) -> bool>(
+    table: &CallTable<A>,
+    rt: &R,
+    me: &mut CallCpu,
+    handler: &mut H,
+    mask: CpuMask,
+    func: u16,
+    info: u64,
+    cond: &C,
+    wait: bool,
+) -> CpuMask
+    requires table { me.old.table ≡ table.now.table }
+    requires condition { (c : ℕ) → c < cpus → C.pre cond.now c info }
+    ensures picks { Picks (λ c answer. C.post cond.now c info answer) (is_target mask table.now.online me.old.number true) result }
+    ensures calls { CallsMany H.leads me.old handler.old me.new handler.new (remote me.old.number result) (class_in wait) func info (if has result me.old.number then Some (heard me.old.number func info) else None) wait }
+{
+    let this = me.number();
+    let others = targets(mask, table.online(), this, false);
+    let called = queue_all(table, rt, me, handler, others, func, info, cond, wait);
+    let here = runs_here(mask, this, info, cond);
+    call_if(handler, this, func, info, here);
+    wait_all(table, rt, me, handler, called, wait);
+    with_if(called, this, here)
+}

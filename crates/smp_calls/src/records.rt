@@ -1,0 +1,48 @@
+//! Which of its records a CPU uses for a call.
+
+ghost use Rattle.std.specs.Prelude.{◌≡◌, ◌<◌};
+ghost use Rattle.smp_core.specs.Size.{cpus, records_of_one};
+ghost use Rattle.smp_calls.specs.Records.{many_record as many_record_in, user_record as user_record_in, single_record as single_record_in, class_for as class_in};
+
+use smp_core::call::Class;
+use smp_core::size::RECORDS_OF_ONE;
+
+/// The record for a call to one CPU that is waited for. It stands for the one on the caller's stack in
+/// `kernel/smp.c: smp_call_function_single`.
+pub const SYNC_RECORD: u32 = 0;
+
+/// The record for a call to one CPU that is not waited for (`csd_data`).
+pub const ASYNC_RECORD: u32 = 1;
+
+/// How many records the user has.
+pub const USER_RECORDS: u32 = 2;
+
+/// The record for calls to many with this destination (`cfd_data`).
+pub(crate) fn many_record(to: u32) -> u32
+    requires { to < cpus }
+    ensures { result ≡ many_record_in to }
+{
+    to + 2
+}
+
+/// The record of the user with this number.
+pub(crate) fn user_record(u: u32) -> u32
+    requires { u < USER_RECORDS }
+    ensures { result ≡ user_record_in u }
+{
+    RECORDS_OF_ONE - USER_RECORDS + u
+}
+
+/// The record for a call to one CPU.
+pub(crate) fn single_record(wait: bool) -> u32
+    ensures { result ≡ single_record_in wait }
+{
+    if wait { SYNC_RECORD } else { ASYNC_RECORD }
+}
+
+/// The class of a call: one that is waited for keeps its record until its function has run.
+pub(crate) fn class_for(wait: bool) -> Class
+    ensures { result ≡ class_in wait }
+{
+    if wait { Class::Sync } else { Class::Async }
+}

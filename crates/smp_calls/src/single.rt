@@ -1,0 +1,108 @@
+//! A call to one CPU.
+
+ghost use Rattle.std.specs.Prelude.{◌≡◌, ◌≢◌, true, false, None, Some, IfOk, IfErr};
+ghost use Rattle.smp_mask.specs.Mask.{has};
+ghost use Rattle.smp_calls.specs.Families.{IsSized, CallsOne, CallsHere, QueuesNone};
+
+use crate::queue::{Job, queue_and_send};
+use crate::records::{ASYNC_RECORD, class_for, single_record};
+use crate::wait::wait_for;
+use smp_mask::SmpError;
+use smp_queue::{CallCpu, CallTable, Handler};
+use std::alloc::Allocator;
+use std::sync::Wait;
+
+/// Waits for the async record where the call is not to be waited for.
+fn free_async<A: Allocator, R: Wait, H: Handler>(
+    table: &CallTable<A>,
+    rt: &R,
+    me: &mut CallCpu,
+    handler: &mut H,
+    wait: bool,
+)
+    requires table { me.old.table ≡ table.now.table }
+    requires sized { IsSized me.old }
+    ensures { QueuesNone H.leads me.old handler.old me.new handler.new None wait }
+{
+    if !wait {
+        wait_for(table, rt, me, handler, ASYNC_RECORD);
+    }
+}
+
+/// Runs the function on this CPU.
+fn call_here<A: Allocator, R: Wait, H: Handler>(
+    table: &CallTable<A>,
+    rt: &R,
+    me: &mut CallCpu,
+    handler: &mut H,
+    func: u16,
+    info: u64,
+    wait: bool,
+)
+    requires table { me.old.table ≡ table.now.table }
+    requires sized { IsSized me.old }
+    ensures { CallsHere H.leads me.old handler.old me.new handler.new func info wait }
+{
+    free_async(table, rt, me, handler, wait);
+    handler.call(me.number(), func, info);
+}
+
+/// Queues the call for another CPU, which is online.
+fn call_there<A: Allocator, R: Wait, H: Handler>(
+    table: &CallTable<A>,
+    rt: &R,
+    me: &mut CallCpu,
+    handler: &mut H,
+    dst: u32,
+    func: u16,
+    info: u64,
+    wait: bool,
+)
+    requires table { me.old.table ≡ table.now.table }
+    requires sized { IsSized me.old }
+    requires other { dst ≢ me.old.number }
+    requires online { has table.now.online dst ≡ true }
+    ensures { CallsOne H.leads me.old handler.old me.new handler.new dst func info wait }
+{
+    let k = single_record(wait);
+    let class = class_for(wait);
+    wait_for(table, rt, me, handler, k);
+    queue_and_send(table, rt, me, k, dst, Job { class, func, info });
+    if wait {
+        wait_for(table, rt, me, handler, k);
+    }
+}
+
+/// Calls a function on one CPU (`kernel/smp.c: smp_call_function_single`).
+///
+/// The function runs on the CPU `dst`, with this CPU as its source. With `wait` the call returns once it has run
+/// there. Without, it uses the async record, for whose last call it first waits, whatever `dst` is. On this CPU
+/// it runs at once, and nothing is queued. While it waits, the CPU handles its own interrupts.
+///
+/// E1 where `dst` is another CPU that is not online.
+pub fn call_single<A: Allocator, R: Wait, H: Handler>(
+    table: &CallTable<A>,
+    rt: &R,
+    me: &mut CallCpu,
+    handler: &mut H,
+    dst: u32,
+    func: u16,
+    info: u64,
+    wait: bool,
+) -> Result<(), SmpError>
+    requires { me.old.table ≡ table.now.table }
+    ensures queued { IfOk result (λ _. dst ≢ me.old.number → (has table.now.online dst ≡ true) × CallsOne H.leads me.old handler.old me.new handler.new dst func info wait) }
+    ensures here { IfOk result (λ _. dst ≡ me.old.number → CallsHere H.leads me.old handler.old me.new handler.new func info wait) }
+    ensures refused { IfErr result (λ e. (e ≡ SmpError.NoCpu) × (dst ≢ me.old.number) × (has table.now.online dst ≡ false) × QueuesNone H.leads me.old handler.old me.new handler.new None wait) }
+{
+    if dst == me.number() {
+        call_here(table, rt, me, handler, func, info, wait);
+        return Ok(());
+    }
+    if !table.online().contains(dst) {
+        free_async(table, rt, me, handler, wait);
+        return Err(SmpError::NoCpu);
+    }
+    call_there(table, rt, me, handler, dst, func, info, wait);
+    Ok(())
+}

@@ -1,0 +1,62 @@
+//! Waiting for a record: the CPU handles its own interrupts meanwhile.
+
+ghost use Rattle.std.specs.Prelude.{◌≡◌, ◌≢◌, ◌<◌, ◌==◌, ◌||◌, None, [], true, false, if◌then◌else◌};
+ghost use Rattle.smp_core.specs.Size.{records_of_one};
+ghost use Rattle.smp_queue.specs.Cpu.{confirmed_at, confirms};
+ghost use Rattle.smp_calls.specs.Families.{IsSized, Leaves, owes_at};
+
+use crossbeam_utils::Backoff;
+use smp_queue::{CallCpu, CallTable, Handler};
+use std::alloc::Allocator;
+use std::sync::Wait;
+
+/// Whether the record is unlocked; if so, it is confirmed.
+pub(crate) fn is_done<A: Allocator>(table: &CallTable<A>, me: &mut CallCpu, k: u32) -> bool
+    requires table { me.old.table ≡ table.now.table }
+    requires within { k < records_of_one }
+    ensures known { me.new ≡ if result then confirms k me.old else me.old }
+    ensures locked { result ≡ false → confirmed_at me.old k ≢ true }
+{
+    match table.is_done(me, k) {
+        Ok(done) => done,
+        Err(_) => unreachable!(),
+    }
+}
+
+/// Handles the CPU's own interrupt, if one is pending.
+fn handle_own<A: Allocator, R: Wait, H: Handler>(
+    table: &CallTable<A>,
+    rt: &R,
+    me: &mut CallCpu,
+    handler: &mut H,
+)
+    requires { me.old.table ≡ table.now.table }
+    ensures { Leaves H.leads me.old handler.old me.new handler.new [] None (owes_at me.old) (confirmed_at me.old) }
+{
+    table.handle(me, handler);
+}
+
+/// Waits until the record is unlocked, and handles the CPU's own interrupts meanwhile
+/// (`kernel/smp.c: csd_lock_wait`, with interrupts on).
+pub(crate) fn wait_for<A: Allocator, R: Wait, H: Handler>(
+    table: &CallTable<A>,
+    rt: &R,
+    me: &mut CallCpu,
+    handler: &mut H,
+    k: u32,
+)
+    requires table { me.old.table ≡ table.now.table }
+    requires sized { IsSized me.old }
+    requires within { k < records_of_one }
+    ensures { Leaves H.leads me.old handler.old me.new handler.new [] None (owes_at me.old) (λ j. j == k || confirmed_at me.old j) }
+{
+    let backoff = Backoff::new();
+    for _ in rt.forever() {
+        if is_done(table, me, k) {
+            return;
+        }
+        handle_own(table, rt, me, handler);
+        backoff.snooze();
+    }
+    unreachable!()
+}

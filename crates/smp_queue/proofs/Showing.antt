@@ -1,0 +1,18 @@
+-- What a CPU knows is its part of calls that keep all laws.
+use Rattle.std.proofs.Common.{◌≡◌, ℕ, sym, subst, refl, ap, ◌∙◌}
+use Rattle.smp_core.specs.Known.{Lives}
+use Rattle.smp_core.proofs.Counts.{confirmed_calls_ran}
+use Rattle.smp_core.specs.declared.known.Known.{Known}
+use Rattle.smp_queue.specs.Cpu.{CpuValue, cpu_of}
+use Rattle.smp_queue.specs.Desk.{Desk}
+use Rattle.smp_queue.specs.Laws.{IsShown}
+
+pub is_shown : (d : Desk) → Lives d.known → IsShown (cpu_of d)
+is_shown d l = record {
+  calls = l.calls;
+  at = l.at;
+  controls = l.control;
+  shown = l.shown;
+  confirmed_ran = confirmed_calls_ran l.calls l.at l.control l.shown;
+  view = λ i. cpu_of (record { table = d.table; known = l.view i });
+}

@@ -1,0 +1,5 @@
+use Rattle.smp_queue.proofs.Showing.{is_shown}
+use Rattle.smp_queue.proofs.table.CallTable.handle.Goals as goal
+
+pub returns-clause-laws : goal.returns-clause-laws
+returns-clause-laws g c = is_shown _ c.handle.ensures.lives

@@ -1,0 +1,18 @@
+-- What a CPU's value says of running threads.
+use Rattle.std.specs.Prelude.{◌≡◌, ℕ}
+use Rattle.smp_core.specs.Calls.{CallState}
+use Rattle.smp_core.specs.Counts.{ConfirmedCallsRan}
+use Rattle.smp_core.specs.Known.{known_of}
+use Rattle.smp_core.specs.Shows.{Shows}
+use Rattle.smp_core.specs.Stages.{ControlValue}
+use Rattle.smp_core.specs.declared.word.Word.{Word}
+use Rattle.smp_queue.specs.Cpu.{CpuValue, cpu_of}
+
+-- some words of the table show calls that keep all laws, of which this value is one CPU's part; calls by confirmed records have run
+pub record IsShown (c : CpuValue) : Type 0 where
+  pub calls : CallState
+  pub at : Word → ℕ
+  pub controls : ℕ → ControlValue
+  pub shown : Shows calls at controls
+  pub confirmed_ran : ConfirmedCallsRan calls
+  pub view : c ≡ cpu_of (record { table = c.table; known = known_of calls controls c.number })

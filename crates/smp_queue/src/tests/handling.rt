@@ -1,0 +1,274 @@
+//! What runs, in which order, and what others see meanwhile.
+
+ghost use Rattle.std.specs.Prelude.{◌≡◌};
+ghost use Rattle.smp_queue.specs.declared.handler.Heard.{Heard};
+
+use super::*;
+
+/// Writes down the calls that it hears.
+#[derive(Drop)]
+struct Recorder {
+    heard: Vec<Heard, Global>,
+    /// Whether it has missed none.
+    whole: bool,
+}
+
+impl Recorder {
+    fn new(alloc: Global) -> Recorder {
+        Recorder {
+            heard: Vec::new(alloc),
+            whole: true,
+        }
+    }
+
+    fn has_heard(&self, calls: &[(u32, u16, u64)]) -> bool {
+        let mut same = self.whole && self.heard.len() == calls.len();
+        for (heard, call) in self.heard.iter().zip(calls) {
+            same = same && (heard.src, heard.func, heard.info) == *call;
+        }
+        same
+    }
+}
+
+impl Handler for Recorder {
+    ghost leads = { λ _ _ _. Unit {0} };
+
+    fn call(&mut self, src: u32, func: u16, info: u64) {
+        let pushed = self.heard.push(Heard { src, func, info });
+        self.whole = self.whole && pushed.is_ok();
+    }
+}
+
+fn handled(ran: u32) -> Handled {
+    Handled {
+        ran,
+        interrupted: true,
+    }
+}
+
+const IDLE: Handled = Handled {
+    ran: 0,
+    interrupted: false,
+};
+
+#[test]
+fn calls_of_two_cpus_run_in_their_order(rt: HostRuntime) -> Result<(), Fail> {
+    let (table, mut boot) = CallTable::new(rt.alloc(), 3, "0-2".parse()?)?;
+    let mut zero = drive(&table, &mut boot, 0)?;
+    let mut one = drive(&table, &mut boot, 1)?;
+    let mut two = drive(&table, &mut boot, 2)?;
+    let mut heard = Recorder::new(rt.alloc());
+    assert_eq!(rt; zero.call(1, 2, Class::Async, 1, 0), Ok(true));
+    assert_eq!(rt; one.call(1, 2, Class::Async, 2, 0), Ok(false));
+    // No interrupt is pending yet, so that nothing runs.
+    assert_eq!(rt; two.handle(&mut heard), IDLE);
+    // CPU 0 owes the interrupt, and any CPU may send it.
+    assert_eq!(rt; one.send(2), Ok(()));
+    assert_eq!(rt; two.handle(&mut heard), handled(2));
+    assert!(rt; heard.has_heard(&[(0, 1, 0), (1, 2, 0)]));
+    assert_eq!(rt; (two.tally(0), two.tally(1)), ((0, 1), (0, 1)));
+    // Its own interrupt comes late, and finds nothing to run.
+    assert_eq!(rt; zero.send(2), Ok(()));
+    assert_eq!(rt; two.handle(&mut heard), handled(0));
+    assert_eq!(rt; two.handle(&mut heard), IDLE);
+    Ok(())
+}
+
+#[test]
+fn sync_calls_run_first(rt: HostRuntime) -> Result<(), Fail> {
+    let (table, mut boot) = CallTable::new(rt.alloc(), 2, "0-1".parse()?)?;
+    let mut zero = drive(&table, &mut boot, 0)?;
+    let mut one = drive(&table, &mut boot, 1)?;
+    let mut heard = Recorder::new(rt.alloc());
+    assert_eq!(rt; zero.call(1, 1, Class::Async, 1, 0), Ok(true));
+    assert_eq!(rt; zero.call(0, 1, Class::Sync, 2, 0), Ok(false));
+    assert_eq!(rt; zero.call(10, 1, Class::Async, 3, 0), Ok(false));
+    assert_eq!(rt; zero.call(3, 1, Class::Sync, 4, 0), Ok(false));
+    assert_eq!(rt; zero.send(1), Ok(()));
+    assert_eq!(rt; one.handle(&mut heard), handled(4));
+    assert!(rt; heard.has_heard(&[(0, 2, 0), (0, 4, 0), (0, 1, 0), (0, 3, 0)]));
+    Ok(())
+}
+
+#[test]
+fn a_record_is_busy_until_its_call_has_run(rt: HostRuntime) -> Result<(), Fail> {
+    let (table, mut boot) = CallTable::new(rt.alloc(), 2, "0-1".parse()?)?;
+    let mut zero = drive(&table, &mut boot, 0)?;
+    let mut one = drive(&table, &mut boot, 1)?;
+    let mut heard = Recorder::new(rt.alloc());
+    assert_eq!(rt; zero.post(10, 1, 1), Ok(true));
+    assert_eq!(rt; zero.post(10, 1, 1), Err(SmpError::Busy));
+    assert_eq!(rt; zero.send(1), Ok(()));
+    assert_eq!(rt; one.handle(&mut heard), handled(1));
+    assert_eq!(rt; zero.is_done(10), Ok(true));
+    assert_eq!(rt; zero.post(10, 1, 1), Ok(true));
+    assert_eq!(rt; (zero.tally(1), one.tally(0)), ((2, 0), (0, 1)));
+    Ok(())
+}
+
+/// Asks, whenever it hears a call, whether the record of that call is done.
+#[derive(Drop)]
+struct Asker<'a> {
+    source: Driver<'a>,
+    /// Of the SYNC call, and of the ASYNC call.
+    answers: [Option<bool>; 2],
+}
+
+impl<'a> Handler for Asker<'a> {
+    ghost leads = { λ _ _ _. Unit {0} };
+
+    fn call(&mut self, _src: u32, func: u16, _info: u64) {
+        // Function 0 is called by record 0, function 1 by record 1.
+        let answer = self.source.is_done(func as u32).ok();
+        if func < 2 {
+            self.answers[func as usize] = answer;
+        }
+    }
+}
+
+#[test]
+fn a_sync_record_stays_locked_while_its_function_runs(rt: HostRuntime) -> Result<(), Fail> {
+    let (table, mut boot) = CallTable::new(rt.alloc(), 2, "0-1".parse()?)?;
+    let mut zero = drive(&table, &mut boot, 0)?;
+    let mut one = drive(&table, &mut boot, 1)?;
+    assert_eq!(rt; zero.call(0, 1, Class::Sync, 0, 0), Ok(true));
+    assert_eq!(rt; zero.call(1, 1, Class::Async, 1, 0), Ok(false));
+    assert_eq!(rt; zero.send(1), Ok(()));
+    let mut asker = Asker {
+        source: zero,
+        answers: [None, None],
+    };
+    assert_eq!(rt; one.handle(&mut asker), handled(2));
+    assert_eq!(rt; asker.answers, [Some(false), Some(true)]);
+    Ok(())
+}
+
+/// Counts the calls that it hears.
+#[derive(Drop)]
+struct Counter {
+    calls: u64,
+}
+
+impl Handler for Counter {
+    ghost leads = { λ _ _ _. Unit {0} };
+
+    fn call(&mut self, _src: u32, _func: u16, _info: u64) {
+        self.calls = self.calls.wrapping_add(1);
+    }
+}
+
+/// No wait takes more turns than this.
+const TURNS: u32 = 20_000_000;
+
+/// Posts one call, and handles its own interrupts until the record and the queue allow it; true where it did.
+fn post_at_last(cpu: &mut Driver, k: u32, to: u32, counter: &mut Counter) -> bool {
+    let backoff = Backoff::new();
+    for _ in 0..TURNS {
+        match cpu.post(k, to, 1) {
+            Ok(owed) => return !owed || cpu.send(to).is_ok(),
+            Err(SmpError::Busy) | Err(SmpError::Contended) => {}
+            Err(_) => return false,
+        }
+        cpu.handle(counter);
+        backoff.snooze();
+    }
+    false
+}
+
+/// Handles its own interrupts until it has heard so many calls; true where it has.
+fn handle_until(cpu: &mut Driver, counter: &mut Counter, calls: u64) -> bool {
+    let backoff = Backoff::new();
+    for _ in 0..TURNS {
+        if counter.calls >= calls {
+            return counter.calls == calls;
+        }
+        cpu.handle(counter);
+        backoff.snooze();
+    }
+    false
+}
+
+/// Posts 100 calls to each other CPU of four while it handles the 300 that they post to it.
+fn post_to_all(mut cpu: Driver, number: u32, right: &AtomicU64) {
+    let mut counter = Counter { calls: 0 };
+    let mut whole = true;
+    for _ in 0..100u32 {
+        for to in 0..4u32 {
+            if to != number {
+                whole = post_at_last(&mut cpu, 2 + to, to, &mut counter) && whole;
+            }
+        }
+    }
+    if handle_until(&mut cpu, &mut counter, 300) && whole {
+        right.fetch_add(1, Ordering::SeqCst);
+    }
+}
+
+/// Lets four CPUs of a new table post to each other: how many of them saw what they should.
+fn all_to_all<R: Wait + Threads>(rt: &R, alloc: Global) -> Result<u64, Fail> {
+    let (table, mut boot) = CallTable::new(alloc, 4, "0-3".parse()?)?;
+    let shared = AtomicU64::new(0);
+    let right = &shared;
+    let zero = drive(&table, &mut boot, 0)?;
+    let one = drive(&table, &mut boot, 1)?;
+    let two = drive(&table, &mut boot, 2)?;
+    let three = drive(&table, &mut boot, 3)?;
+    thread::scope(thread::scope_env(), rt, |scope| {
+        let _ = scope.spawn(move || post_to_all(zero, 0, right));
+        let _ = scope.spawn(move || post_to_all(one, 1, right));
+        let _ = scope.spawn(move || post_to_all(two, 2, right));
+        let _ = scope.spawn(move || post_to_all(three, 3, right));
+    });
+    Ok(right.load(Ordering::SeqCst))
+}
+
+#[test]
+fn four_threads_post_to_each_other(rt: HostRuntime) -> Result<(), Fail> {
+    assert_eq!(rt; all_to_all(&rt, rt.alloc())?, 4);
+    Ok(())
+}
+
+/// Queues 1,000 calls for CPU 0.
+fn post_to_zero(mut cpu: Driver, right: &AtomicU64) {
+    let mut counter = Counter { calls: 0 };
+    let mut whole = true;
+    for _ in 0..1_000u32 {
+        whole = post_at_last(&mut cpu, 10, 0, &mut counter) && whole;
+    }
+    if whole && counter.calls == 0 {
+        right.fetch_add(1, Ordering::SeqCst);
+    }
+}
+
+/// Handles 3,000 calls, 1,000 of each other CPU.
+fn handle_all(mut cpu: Driver, right: &AtomicU64) {
+    let mut counter = Counter { calls: 0 };
+    let heard = handle_until(&mut cpu, &mut counter, 3_000);
+    if heard && (cpu.tally(1), cpu.tally(2), cpu.tally(3)) == ((0, 1_000), (0, 1_000), (0, 1_000)) {
+        right.fetch_add(1, Ordering::SeqCst);
+    }
+}
+
+/// Lets three CPUs of a new table post to the fourth: how many of them saw what they should.
+fn all_to_one<R: Wait + Threads>(rt: &R, alloc: Global) -> Result<u64, Fail> {
+    let (table, mut boot) = CallTable::new(alloc, 4, "0-3".parse()?)?;
+    let shared = AtomicU64::new(0);
+    let right = &shared;
+    let zero = drive(&table, &mut boot, 0)?;
+    let one = drive(&table, &mut boot, 1)?;
+    let two = drive(&table, &mut boot, 2)?;
+    let three = drive(&table, &mut boot, 3)?;
+    thread::scope(thread::scope_env(), rt, |scope| {
+        let _ = scope.spawn(move || handle_all(zero, right));
+        let _ = scope.spawn(move || post_to_zero(one, right));
+        let _ = scope.spawn(move || post_to_zero(two, right));
+        let _ = scope.spawn(move || post_to_zero(three, right));
+    });
+    Ok(right.load(Ordering::SeqCst))
+}
+
+#[test]
+fn three_cpus_crowd_one_queue(rt: HostRuntime) -> Result<(), Fail> {
+    assert_eq!(rt; all_to_one(&rt, rt.alloc())?, 4);
+    Ok(())
+}
