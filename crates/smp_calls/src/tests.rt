@@ -1,12 +1,13 @@
-ghost use Rattle.std.specs.Prelude.{ℕ, ◌≡◌, true, IfSome};
+ghost use Rattle.std.specs.Prelude.{ℕ, ◌≡◌, true, IfOk, IfSome};
 ghost use Rattle.smp_mask.specs.Mask.{has};
 ghost use Rattle.smp_queue.specs.Cpu.{left_at};
 
 mod threads;
 
 use super::*;
+use smp_core::size::NR_CPUS;
 use smp_mask::{CpuMask, SmpError};
-use smp_queue::{Boot, CallCpu, CallTable, Handler, Heard};
+use smp_queue::{Audit, Boot, CallCpu, CallTable, Handler, Heard, Tally};
 use std::alloc::Global;
 use std::marker::Model;
 use std::sync::Wait;
@@ -18,6 +19,15 @@ use std::test::*;
 struct Recorder {
     calls: Vec<Heard, Global>,
     whole: bool,
+}
+
+impl Recorder {
+    fn new(alloc: Global) -> Recorder {
+        Recorder {
+            calls: Vec::new(alloc),
+            whole: true,
+        }
+    }
 }
 
 impl Handler for Recorder {
@@ -155,7 +165,20 @@ impl<'a> Driver<'a> {
     }
 }
 
-/// A CPU that the table gives out, with its table. All CPUs that are left sit at that table.
+/// A CPU that the table gives out. All CPUs that are left sit at that table.
+fn seat(
+    table: &CallTable<Global>,
+    boot: &mut Boot<Global>,
+    number: u32,
+) -> Result<CallCpu, SmpError>
+    requires { (cpu : ℕ) → has boot.old.online cpu ≡ true → IfSome (left_at boot.old cpu) (λ c. c.table ≡ table.now.table) }
+    ensures seat { IfOk result (λ c. c.table ≡ table.now.table) }
+    ensures left { (cpu : ℕ) → has boot.new.online cpu ≡ true → IfSome (left_at boot.new cpu) (λ c. c.table ≡ table.now.table) }
+{
+    boot.cpu(number)
+}
+
+/// The same with its table and a handler.
 fn drive<'a>(
     table: &'a CallTable<Global>,
     boot: &mut Boot<Global>,
@@ -165,26 +188,29 @@ fn drive<'a>(
     requires { (cpu : ℕ) → has boot.old.online cpu ≡ true → IfSome (left_at boot.old cpu) (λ c. c.table ≡ table.now.table) }
     ensures { (cpu : ℕ) → has boot.new.online cpu ≡ true → IfSome (left_at boot.new cpu) (λ c. c.table ≡ table.now.table) }
 {
-    let cpu = boot.cpu(number)?;
-    let heard = Recorder {
-        calls: Vec::new(alloc),
-        whole: true,
-    };
+    let cpu = seat(table, boot, number)?;
+    let heard = Recorder::new(alloc);
     Ok(Driver { table, cpu, heard })
 }
 
 #[test]
 fn the_only_cpu_calls_itself(rt: HostRuntime) -> Result<(), Fail> {
     let (table, mut boot) = CallTable::new(rt.alloc(), 1, "0".parse()?)?;
-    let mut zero = drive(&table, &mut boot, rt.alloc(), 0)?;
-    assert_eq!(rt; zero.single(&rt, 0, 5, true), Ok(()));
+    let mut zero = seat(&table, &mut boot, 0)?;
+    let mut heard = Recorder::new(rt.alloc());
+    let answer = call_single(&table, &rt, &mut zero, &mut heard, 0, 5, 6, true);
+    assert_eq!(rt; (answer, table.tally(&mut zero, 0)), (Ok(()), (0, 0)));
     let call = Heard {
         src: 0,
         func: 5,
         info: 6,
     };
-    assert!(rt; zero.heard.calls.as_slice() == &[call][..]);
-    assert_eq!(rt; zero.tally(0), (0, 0));
+    assert!(rt; heard.calls.as_slice() == &[call][..]);
+    let nothing = Tally {
+        queued: [[0; NR_CPUS as usize]; NR_CPUS as usize],
+        ran: [[0; NR_CPUS as usize]; NR_CPUS as usize],
+    };
+    assert_eq!(rt; table.audit(zero), Audit::Drained(nothing));
     Ok(())
 }
 

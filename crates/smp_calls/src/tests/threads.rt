@@ -2,6 +2,7 @@
 
 use super::*;
 use crossbeam_utils::Backoff;
+use smp_queue::Left;
 use std::thread;
 use std::thread::Threads;
 
@@ -109,10 +110,11 @@ fn run<R: Wait>(mut driver: Driver, rt: &R, all: CpuMask, progress: &Progress) {
     }
 }
 
-/// Runs each CPU on a thread of its own: how many heard what they should.
-fn run_all<R: Wait + Threads + Sync>(rt: &R, alloc: Global) -> Result<u64, Fail> {
+/// Runs each CPU on a thread of its own: how many heard what they should, and what is left.
+fn run_all<R: Wait + Threads + Sync>(rt: &R, alloc: Global) -> Result<(u64, Audit), Fail> {
     let all: CpuMask = "0-2".parse()?;
-    let (table, mut boot) = CallTable::new(alloc, CPUS, all)?;
+    // One CPU more keeps the table's last value.
+    let (table, mut boot) = CallTable::new(alloc, CPUS + 1, "0-3".parse()?)?;
     let shared = Progress {
         sign: AtomicU64::new(0),
         done: AtomicU64::new(0),
@@ -122,6 +124,7 @@ fn run_all<R: Wait + Threads + Sync>(rt: &R, alloc: Global) -> Result<u64, Fail>
     let zero = drive(&table, &mut boot, alloc, 0)?;
     let one = drive(&table, &mut boot, alloc, 1)?;
     let two = drive(&table, &mut boot, alloc, 2)?;
+    let last = seat(&table, &mut boot, 3)?;
     thread::scope(thread::scope_env(), rt, |scope| {
         let first = scope.spawn(move || run(zero, rt, all, progress));
         let second = scope.spawn(move || run(one, rt, all, progress));
@@ -131,11 +134,27 @@ fn run_all<R: Wait + Threads + Sync>(rt: &R, alloc: Global) -> Result<u64, Fail>
             .sign
             .store(if started { BEGIN } else { LEAVE }, Ordering::SeqCst);
     });
-    Ok(progress.right.load(Ordering::SeqCst))
+    Ok((progress.right.load(Ordering::SeqCst), table.audit(last)))
 }
 
 #[test]
 fn calls_between_threads_that_poll_all_run(rt: HostRuntime) -> Result<(), Fail> {
-    assert_eq!(rt; run_all(&rt, rt.alloc())?, CPUS as u64);
+    let (right, audit) = run_all(&rt, rt.alloc())?;
+    assert_eq!(rt; right, CPUS as u64);
+    // From CPU 0 to CPU 1: five of the six calls, that to the even CPUs not; to CPU 2: four, as it is not the next.
+    match audit {
+        Audit::Drained(tally) => {
+            assert_eq!(rt; (tally.queued[0][1], tally.ran[1][0]), (250, 250));
+            assert_eq!(rt; (tally.queued[0][2], tally.ran[2][0]), (200, 200));
+        }
+        Audit::Left(left) => assert_eq!(rt;
+            left,
+            Left {
+                heads: 0,
+                locked: 0,
+                handling: 0
+            }
+        ),
+    }
     Ok(())
 }

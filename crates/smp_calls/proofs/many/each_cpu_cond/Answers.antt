@@ -25,7 +25,7 @@ returns-clause-calls g c =
     let out : has called this ≡ false = not_called c.args.mask c.online.result this c.targets-others.result called c.targets-others.ensures c.queue_all-called.ensures.picks.among in
     let direct : Option Heard = cond here (Some (heard this c.args.func c.args.info)) None in
     let made = calls_waited_for g.H.Handler.leads c.class_for-class.result c.args.func c.args.info (members called) direct c.args.wait
-      (calls_then_here g.H.Handler.leads c.class_for-class.result c.args.func c.args.info (members called) direct c.queue_all-called.ensures.calls c.call_if.ensures) c.wait_all.ensures in
+    (calls_then_here g.H.Handler.leads c.class_for-class.result c.args.func c.args.info (members called) direct c.queue_all-called.ensures.calls c.call_if.ensures) c.wait_all.ensures in
     let Made = λ (to : List ℕ) (class : Class) (heard : Option Heard). CallsMany g.H.Handler.leads c.args.me.now c.args.handler.now c.wait_all.new.me c.wait_all.new.handler to class c.args.func c.args.info heard c.args.wait in
     subst (λ (n : ℕ). Made (remote n c.with_if.result) (class_for c.args.wait) (cond (has c.with_if.result n) (Some (heard n c.args.func c.args.info)) None)) c.number-this.ensures.number
     (subst (λ (class : Class). Made (remote this c.with_if.result) class (cond (has c.with_if.result this) (Some (heard this c.args.func c.args.info)) None)) c.class_for-class.ensures
