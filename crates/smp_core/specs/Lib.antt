@@ -28,3 +28,5 @@ pub mod Batches
 pub mod Counts
 -- what a CPU knows
 pub mod Known
+-- the stop half
+pub mod Stops

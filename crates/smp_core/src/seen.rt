@@ -8,6 +8,10 @@ pub enum Act {
     Load,
     Store,
     Swap,
+    /// Takes 1 away.
+    Sub,
+    /// Keeps some of the bits.
+    And,
     Cas,
 }
 
