@@ -4,3 +4,10 @@ pub mod Phases
 pub mod Raises
 pub mod Works
 pub mod Ends
+-- one slot among all, with all CPUs
+pub mod Moves
+pub mod Steps
+pub mod Entered
+pub mod Patched
+pub mod Owns
+pub mod Pasts

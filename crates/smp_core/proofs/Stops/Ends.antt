@@ -8,7 +8,7 @@ use Rattle.smp_core.proofs.Stops.Works.{ack_kept, outside_is, result_kept}
 use Rattle.smp_core.specs.Put.{put}
 use Rattle.smp_core.specs.Stops.Counts.{behind, bit, count_behind, count_unfinished, mask_weight, unfinished}
 use Rattle.smp_core.specs.Stops.Laws.{FunctionLaw, IsAnswer, IsResult, IsThrough}
-use Rattle.smp_core.specs.Stops.Slots.{DoneShows, Gives, IsLevel, IsPhaseOf, IsStored, Keeps, ResultShows, SlotShows, put_field}
+use Rattle.smp_core.specs.Stops.Slots.{DoneShows, HasGiven, IsLevel, IsPhaseOf, IsStored, Keeps, ResultShows, SlotShows, put_field}
 use Rattle.smp_core.specs.Stops.Stop.{Answering, Called, Completed, Ended, Ending, Inside, Last, Outside, Running, Standing, Stop, acked, answer_of, closed, completed, ended, first_phase, is_called, is_of, opened}
 use Rattle.smp_core.specs.declared.stop.field.Field.TheVariants.{Ack, Active, Arg, Done, Func, Kind, Mask, Result, Roll, State, Todo}
 use Rattle.smp_core.specs.declared.stop.field.Field.{Field}
@@ -50,14 +50,14 @@ module _ (p a v : ℕ) where
   answer_behind (Answering b w) h = ap (λ x. cond (x == p) 0 1) (sym h.0)
   answer_behind (Completed b w) h = absurd h
 
-  answer_back : (s : Standing) → IsAnswer s a v → (w : ℕ) → v ≡ w → Gives s w ⊎ (w ≡ 0)
+  answer_back : (s : Standing) → IsAnswer s a v → (w : ℕ) → v ≡ w → HasGiven s w ⊎ (w ≡ 0)
   answer_back Outside h w e = absurd h
   answer_back Called h w e = absurd h
   answer_back (Inside b l) h w e = inr (sym e ∙ h.1)
   answer_back (Answering b u) h w e = inl (sym h.1 ∙ e)
   answer_back (Completed b u) h w e = absurd h
 
-  answer_on : (s : Standing) → IsAnswer s a v → (w : ℕ) → Gives s w → v ≡ w
+  answer_on : (s : Standing) → IsAnswer s a v → (w : ℕ) → HasGiven s w → v ≡ w
   answer_on Outside h w e = absurd h
   answer_on Called h w e = absurd h
   answer_on (Inside b l) h w e = absurd e
@@ -224,7 +224,7 @@ module _ (cpus : ℕ) (stop : Stop) (word : Field → ℕ) (g : SlotShows cpus s
       behind_all : first_phase work.kind ≢ 0 → count_behind cpus (first_phase work.kind) (λ c. cond (has work.mask c) Called Outside) ≡ mask_weight cpus work.mask
       behind_all ne = sum_same (λ c. bit (has work.mask c)) (λ c. behind (first_phase work.kind) (cond (has work.mask c) Called Outside)) cpus (λ c _. behind_first work.kind (has work.mask c) ne)
 
-      gives_none : (c : ℕ) (b : Bool) (w : ℕ) → Gives (cond b Called Outside) w → ⊥
+      gives_none : (c : ℕ) (b : Bool) (w : ℕ) → HasGiven (cond b Called Outside) w → ⊥
       gives_none c true w h = h
       gives_none c false w h = h
 
@@ -259,14 +259,14 @@ module _ (cpus : ℕ) (stop : Stop) (word : Field → ℕ) (g : SlotShows cpus s
       not_called (Answering a v) h = refl
       not_called (Completed a v) h = refl
 
-      given : (s : Standing) → is_of s ≡ true → (is_of s ≡ true → unfinished s ≡ 0) → Gives s (answer_of s)
+      given : (s : Standing) → is_of s ≡ true → (is_of s ≡ true → unfinished s ≡ 0) → HasGiven s (answer_of s)
       given Outside of h = cc
       given Called of h = absurd (let e : 1 ≡ 0 = h refl in omega arith)
       given (Inside a l) of h = absurd (let e : 1 ≡ 0 = h refl in omega arith)
       given (Answering a v) of h = refl
       given (Completed a v) of h = refl
 
-      given_of : (s : Standing) (w : ℕ) → Gives s w → (is_of s ≡ true) × (answer_of s ≡ w)
+      given_of : (s : Standing) (w : ℕ) → HasGiven s w → (is_of s ≡ true) × (answer_of s ≡ w)
       given_of Outside w h = absurd h
       given_of Called w h = absurd h
       given_of (Inside a l) w h = absurd h
@@ -275,6 +275,6 @@ module _ (cpus : ℕ) (stop : Stop) (word : Field → ℕ) (g : SlotShows cpus s
 
       answered : count_unfinished cpus stop.standing ≡ 0 → ResultShows stop.standing (word Result) → IsResult stop.work.mask (λ c. answer_of (stop.standing c)) (word Result)
       answered z h = ⊎_elim
-          (λ (t : (word Result ≡ 0) × ((c w : ℕ) → Gives (stop.standing c) w → w ≡ 0)). inl (t.0, λ c of. t.1 c (answer_of (stop.standing c)) (given (stop.standing c) (mask_is c ∙ of) (each z c))))
-          (λ (t : (word Result ≢ 0) × ((c : ℕ) × Gives (stop.standing c) (word Result))). inr (t.0, (t.1.0, sym (mask_is t.1.0) ∙ (given_of (stop.standing t.1.0) (word Result) t.1.1).0, (given_of (stop.standing t.1.0) (word Result) t.1.1).1)))
+          (λ (t : (word Result ≡ 0) × ((c w : ℕ) → HasGiven (stop.standing c) w → w ≡ 0)). inl (t.0, λ c of. t.1 c (answer_of (stop.standing c)) (given (stop.standing c) (mask_is c ∙ of) (each z c))))
+          (λ (t : (word Result ≢ 0) × ((c : ℕ) × HasGiven (stop.standing c) (word Result))). inr (t.0, (t.1.0, sym (mask_is t.1.0) ∙ (given_of (stop.standing t.1.0) (word Result) t.1.1).0, (given_of (stop.standing t.1.0) (word Result) t.1.1).1)))
           h

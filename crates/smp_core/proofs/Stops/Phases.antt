@@ -4,7 +4,7 @@ use Rattle.smp_core.proofs.Puts.{at_test, put_all}
 use Rattle.smp_core.proofs.Stops.Counts.{put_else, put_here, sum_put, sum_same, sum_zero}
 use Rattle.smp_core.specs.Put.{put}
 use Rattle.smp_core.specs.Stops.Counts.{behind, count_behind, count_unfinished, one, unfinished, weight}
-use Rattle.smp_core.specs.Stops.Slots.{AckShows, DoneShows, Gives, Keeps, ResultShows, SlotShows, put_field}
+use Rattle.smp_core.specs.Stops.Slots.{AckShows, DoneShows, HasGiven, Keeps, ResultShows, SlotShows, put_field}
 use Rattle.smp_core.specs.Stops.Stop.{Answering, Called, Completed, Ended, Ending, Inside, Last, Nobody, Outside, Raises, Raising, Refills, Running, Standing, Stop, acked, acknowledged, is_called, is_of, refilled}
 use Rattle.smp_core.specs.declared.stop.field.Field.TheVariants.{Ack, Done, Result, Roll}
 use Rattle.smp_core.specs.declared.stop.field.Field.{Field}
@@ -67,8 +67,8 @@ module _ (cpus : ℕ) (standing : ℕ → Standing) (me : ℕ) (a l a' l' : ℕ)
 
   result_inside : (n : ℕ) → ResultShows standing n → ResultShows (put standing me (Inside a' l')) n
   result_inside n h = ⊎_elim
-      (λ (t : (n ≡ 0) × ((c w : ℕ) → Gives (standing c) w → w ≡ 0)). inl (t.0, put_all (λ c s. (w : ℕ) → Gives s w → w ≡ 0) standing me (Inside a' l') (λ w g. absurd g) (λ c ne. t.1 c)))
-      (λ (t : (n ≢ 0) × ((c : ℕ) × Gives (standing c) n)). inr (t.0, (t.1.0, put_all (λ c s. Gives (standing c) n → Gives s n) standing me (Inside a' l') (λ g. absurd (subst (λ s. Gives s n) is g)) (λ c ne g. g) t.1.0 t.1.1)))
+      (λ (t : (n ≡ 0) × ((c w : ℕ) → HasGiven (standing c) w → w ≡ 0)). inl (t.0, put_all (λ c s. (w : ℕ) → HasGiven s w → w ≡ 0) standing me (Inside a' l') (λ w g. absurd g) (λ c ne. t.1 c)))
+      (λ (t : (n ≢ 0) × ((c : ℕ) × HasGiven (standing c) n)). inr (t.0, (t.1.0, put_all (λ c s. HasGiven (standing c) n → HasGiven s n) standing me (Inside a' l') (λ g. absurd (subst (λ s. HasGiven s n) is g)) (λ c ne g. g) t.1.0 t.1.1)))
       h
 
   done_inside : (e : Ending) (n : ℕ) → DoneShows cpus standing e n → DoneShows cpus (put standing me (Inside a' l')) e n

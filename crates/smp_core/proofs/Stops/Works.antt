@@ -6,7 +6,7 @@ use Rattle.smp_core.proofs.Stops.Phases.{is_open_inside, keeps_inside}
 use Rattle.smp_core.specs.Put.{put}
 use Rattle.smp_core.specs.Stops.Counts.{behind, bit, count_behind, count_unfinished, mask_weight, one, unfinished, weight}
 use Rattle.smp_core.specs.Stops.Laws.{IsNot, IsThrough}
-use Rattle.smp_core.specs.Stops.Slots.{AckShows, DoneShows, Gives, Keeps, ResultShows, SlotShows, put_field}
+use Rattle.smp_core.specs.Stops.Slots.{AckShows, DoneShows, HasGiven, Keeps, ResultShows, SlotShows, put_field}
 use Rattle.smp_core.specs.Stops.Stop.{Answering, Called, Completed, Ended, Ending, Inside, Last, Nobody, Outside, Raises, Raising, Refills, Running, Standing, Stop, is_called, is_of, stands}
 use Rattle.smp_core.specs.declared.stop.field.Field.TheVariants.{Ack, Done, Result, Roll, State}
 use Rattle.smp_core.specs.declared.stop.field.Field.{Field}
@@ -35,11 +35,11 @@ module _ (cpus : ℕ) (standing : ℕ → Standing) (me : ℕ) (to : Standing) (
   done_kept Ended n h = (h.0, unfinished_kept ∙ h.1)
 
 -- what is known of the answers
-pub result_kept : (standing : ℕ → Standing) (me : ℕ) (to : Standing) (n : ℕ) → ((w : ℕ) → Gives to w → (Gives (standing me) w) ⊎ (w ≡ 0)) → ((w : ℕ) → Gives (standing me) w → Gives to w) →
+pub result_kept : (standing : ℕ → Standing) (me : ℕ) (to : Standing) (n : ℕ) → ((w : ℕ) → HasGiven to w → (HasGiven (standing me) w) ⊎ (w ≡ 0)) → ((w : ℕ) → HasGiven (standing me) w → HasGiven to w) →
     ResultShows standing n → ResultShows (put standing me to) n
 result_kept standing me to n back on h = ⊎_elim
-    (λ (t : (n ≡ 0) × ((c w : ℕ) → Gives (standing c) w → w ≡ 0)). inl (t.0, put_all (λ c s. (w : ℕ) → Gives s w → w ≡ 0) standing me to (λ w g. ⊎_elim (λ (a : Gives (standing me) w). t.1 me w a) (λ (z : w ≡ 0). z) (back w g)) (λ c ne. t.1 c)))
-    (λ (t : (n ≢ 0) × ((c : ℕ) × Gives (standing c) n)). inr (t.0, (t.1.0, put_all (λ c s. Gives (standing c) n → Gives s n) standing me to (on n) (λ c ne g. g) t.1.0 t.1.1)))
+    (λ (t : (n ≡ 0) × ((c w : ℕ) → HasGiven (standing c) w → w ≡ 0)). inl (t.0, put_all (λ c s. (w : ℕ) → HasGiven s w → w ≡ 0) standing me to (λ w g. ⊎_elim (λ (a : HasGiven (standing me) w). t.1 me w a) (λ (z : w ≡ 0). z) (back w g)) (λ c ne. t.1 c)))
+    (λ (t : (n ≢ 0) × ((c : ℕ) × HasGiven (standing c) n)). inr (t.0, (t.1.0, put_all (λ c s. HasGiven (standing c) n → HasGiven s n) standing me to (on n) (λ c ne g. g) t.1.0 t.1.1)))
     h
 
 pub called_is : (s : Standing) → is_called s ≡ true → s ≡ Called
@@ -83,7 +83,7 @@ module _ (cpus : ℕ) (stop : Stop) (word : Field → ℕ) (g : SlotShows cpus s
           calm = o.calm; kinds = o.kinds;
           todo = o.todo ∙ sym (unfinished_kept cpus stop.standing me to (sym (ap unfinished is)));
           done = done_kept cpus stop.standing me to (sym (ap unfinished is)) stop.ending (word Done) o.done;
-          result = result_kept stop.standing me to (word Result) (λ w a. absurd a) (λ w a. absurd (subst (λ s. Gives s w) is a)) o.result;
+          result = result_kept stop.standing me to (word Result) (λ w a. absurd a) (λ w a. absurd (subst (λ s. HasGiven s w) is a)) o.result;
         };
       }
 
@@ -107,7 +107,7 @@ module _ (cpus : ℕ) (stop : Stop) (word : Field → ℕ) (g : SlotShows cpus s
           calm = o.calm; kinds = o.kinds;
           todo = o.todo ∙ sym (unfinished_kept cpus stop.standing me to (sym (ap unfinished is)));
           done = done_kept cpus stop.standing me to (sym (ap unfinished is)) stop.ending (word Done) o.done;
-          result = result_kept stop.standing me to (word Result) (λ w a. absurd a) (λ w a. absurd (subst (λ s. Gives s w) is a)) o.result;
+          result = result_kept stop.standing me to (word Result) (λ w a. absurd a) (λ w a. absurd (subst (λ s. HasGiven s w) is a)) o.result;
         };
       }
     where
@@ -132,7 +132,7 @@ module _ (cpus : ℕ) (stop : Stop) (word : Field → ℕ) (g : SlotShows cpus s
           calm = o.calm; kinds = o.kinds;
           todo = o.todo ∙ sym (unfinished_kept cpus stop.standing me to (sym (ap unfinished is)));
           done = done_kept cpus stop.standing me to (sym (ap unfinished is)) stop.ending (word Done) o.done;
-          result = inr (some, (me, subst (λ s. Gives s v) (sym (put_here stop.standing me to)) refl));
+          result = inr (some, (me, subst (λ s. HasGiven s v) (sym (put_here stop.standing me to)) refl));
         };
       }
 

@@ -60,14 +60,14 @@ DoneShows cpus standing (Last c) done = (done ≡ 0) × (count_unfinished cpus s
 DoneShows cpus standing Ended done = (done ≡ 1) × (count_unfinished cpus standing ≡ 0)
 
 -- this answer is known of the CPU
-abbrev pub Gives : Standing → ℕ → Type 0
-Gives (Answering a v) w = v ≡ w
-Gives (Completed a v) w = v ≡ w
-Gives _ w = ⊥
+abbrev pub HasGiven : Standing → ℕ → Type 0
+HasGiven (Answering a v) w = v ≡ w
+HasGiven (Completed a v) w = v ≡ w
+HasGiven _ w = ⊥
 
 -- 0 where all answers known are 0, else one of those that are not
 abbrev pub ResultShows : (ℕ → Standing) → ℕ → Type 0
-ResultShows standing result = ((result ≡ 0) × ((c w : ℕ) → Gives (standing c) w → w ≡ 0)) ⊎ ((result ≢ 0) × ((c : ℕ) × Gives (standing c) result))
+ResultShows standing result = ((result ≡ 0) × ((c w : ℕ) → HasGiven (standing c) w → w ≡ 0)) ⊎ ((result ≢ 0) × ((c : ℕ) × HasGiven (standing c) result))
 
 -- a stop of kind One has phase 0, the others have not
 abbrev pub IsPhaseOf : Kind → ℕ → Type 0
