@@ -11,3 +11,6 @@ pub mod Entered
 pub mod Patched
 pub mod Owns
 pub mod Pasts
+-- all the laws
+pub mod Kept
+pub mod Rounds

@@ -37,7 +37,7 @@ pub record SaveMe (p : Present) (me : ℕ) (inside' : ℕ → Option ℕ) (irq' 
   pub irq : (c : ℕ) → c ≢ me → irq' c ≡ p.irq c
   pub readings : (c : ℕ) → c ≢ me → readings' c ≡ p.readings c
 
-field_false : (f g : Field) → same_field f g false ≡ false
+pub field_false : (f g : Field) → same_field f g false ≡ false
 field_false f g = both (place_of f == place_of g)
   where
     both : (b : Bool) → cond b false false ≡ false

@@ -1,5 +1,5 @@
 -- The label law: patching, and reading.
-use Rattle.std.proofs.Common.{◌≡◌, ◌≢◌, ℕ, ◌+◌, ◌-◌, ◌<◌, ◌≤◌, Bool, true, false, not, nat_lt, ◌==◌, ◌&&◌, ◌||◌, cond, sym, subst, refl, ap, ◌∙◌, ◌⊎◌, inl, inr, arith, le-ltb, ⊎_elim, ne_eqb, eq-eqb, Option, Some, None, List, [], ◌∷◌, ◌++◌}
+use Rattle.std.proofs.Common.{◌≡◌, ◌≢◌, ℕ, ◌+◌, ◌-◌, ◌<◌, ◌≤◌, Bool, true, false, not, nat_lt, ◌==◌, ◌&&◌, ◌||◌, cond, sym, subst, refl, ap, ◌∙◌, ◌⊎◌, inl, inr, arith, le-ltb, eqb-true, ⊎_elim, ne_eqb, eq-eqb, Option, Some, None, List, [], ◌∷◌, ◌++◌}
 use Rattle.smp_core.proofs.Puts.{put_all}
 use Rattle.smp_core.proofs.Stops.Counts.{put_here}
 use Rattle.smp_core.proofs.Stops.Ends.{function_law}
@@ -92,7 +92,7 @@ module _ (u : Setup) (p : Present) (at : Word → ℕ) (seat : ℕ → Seat) (h 
   patch_starts job plan is kind active leads =
       let st : Stands p me (In s job 2 3 Rests) = subst (Stands p me) is (h.stands me) in
       let open_ = is_open_inside u.cpus (p.stop s) (λ f. at (Slot s f)) (h.slots s) me (Inside 2 3) st.1 refl in
-      let mine : me ≡ u.first = (h.works s open_ (ap (λ (w : Work). w.kind) st.3 ∙ kind)).first me (ap (λ (w : Work). has w.active me) st.3 ∙ active) in
+      let mine : me ≡ u.first = eqb-true me u.first (sym ((h.works s open_ (ap (λ (w : Work). w.kind) st.3 ∙ kind)).first me) ∙ (ap (λ (w : Work). has w.active me) st.3 ∙ active)) in
       let whole : p.patching ≡ Whole = go p.patching h.runner mine in
       let lawful : IsLawful (labels_in at) = subst (λ x. LabelsShow x (labels_in at)) whole h.labels in
       let next = Alters s job [] plan in

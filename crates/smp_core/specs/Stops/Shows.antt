@@ -1,6 +1,6 @@
 -- What holds between the stops, the words of the stop table, and where each CPU is, between any two steps.
 use Rattle.std.specs.Prelude.{◌≡◌, ℕ, ◌+◌, Option, Some, None}
-use Rattle.smp_core.specs.Stops.State.{Setup, StopState}
+use Rattle.smp_core.specs.Stops.State.{Setup, IsSetup, StopState}
 use Rattle.smp_core.specs.Stops.Seats.{Seat}
 use Rattle.smp_core.specs.Stops.Sources.{Source, SourceShows}
 use Rattle.smp_core.specs.Stops.Past.{HasPast}
@@ -14,6 +14,7 @@ gate_word None = 0
 gate_word (Some c) = c + 1
 
 pub record StopShows (u : Setup) (p : StopState) (at : Word → ℕ) (seat : ℕ → Seat) (source : ℕ → Source) : Type 0 where
+  pub setup : IsSetup u
   -- the words show the stops, the phase law and the label law
   pub present : PresentShows u p.now at seat
   pub gate : at Gate ≡ gate_word p.gate

@@ -1,8 +1,8 @@
 -- Where a source is with its own stop.
-use Rattle.std.specs.Prelude.{◌≡◌, ◌≢◌, ℕ, ◌<◌, true, false, Option, Some, None}
+use Rattle.std.specs.Prelude.{◌≡◌, ◌≢◌, ℕ, ◌<◌, true, false, ◌==◌, Option, Some, None}
 use Rattle.smp_mask.specs.Mask.{has}
 use Rattle.smp_labels.specs.Keys.{IsKeyWord}
-use Rattle.smp_core.specs.Stops.Stop.{Stop}
+use Rattle.smp_core.specs.Stops.Stop.{Stop, Ended}
 use Rattle.smp_core.specs.Stops.Counts.{mask_weight}
 use Rattle.smp_core.specs.Stops.Slots.{IsStored}
 use Rattle.smp_core.specs.Stops.State.{Setup}
@@ -14,7 +14,7 @@ use Rattle.smp_core.specs.declared.stop.work.Work.{Work}
 -- a patch is of all online CPUs, its function runs on the first of them, and it gives a key a word that a key can have
 pub record IsPatchWork (u : Setup) (work : Work) : Type 0 where
   pub all : (c : ℕ) → has work.mask c ≡ u.online c
-  pub first : (c : ℕ) → has work.active c ≡ true → c ≡ u.first
+  pub first : (c : ℕ) → has work.active c ≡ (c == u.first)
   pub key : work.func < u.keys
   pub word : IsKeyWord work.arg
 
@@ -38,6 +38,8 @@ pub data Source : Type 0 where
   Drafts : (work : Work) → (stored : ℕ) → Source
   -- its stop is open
   Owns : (work : Work) → Source
+  -- and it has found done set
+  Collects : (work : Work) → Source
 
 -- what the first k stores tell of the work
 pub record IsDrafted (k : ℕ) (told work : Work) : Type 0 where
@@ -55,7 +57,14 @@ pub record DraftShows (u : Setup) (gate : Option ℕ) (stop : Stop) (word : Fiel
   pub stored : IsStored u.cpus word work k
   pub told : IsDrafted k stop.work work
 
+-- a source with its stop open
+pub record OwnerShows (u : Setup) (stop : Stop) (work : Work) : Type 0 where
+  pub is_open : stop.is_open ≡ true
+  pub work_is : stop.work ≡ work
+  pub is_work : IsWork u work
+
 abbrev pub SourceShows : Setup → Option ℕ → Stop → (Field → ℕ) → ℕ → Source → Type 0
 SourceShows u gate stop word s Shut = stop.is_open ≡ false
 SourceShows u gate stop word s (Drafts work k) = DraftShows u gate stop word s work k
-SourceShows u gate stop word s (Owns work) = (stop.is_open ≡ true) × (stop.work ≡ work) × IsWork u work
+SourceShows u gate stop word s (Owns work) = OwnerShows u stop work
+SourceShows u gate stop word s (Collects work) = OwnerShows u stop work × (stop.ending ≡ Ended)

@@ -1,16 +1,22 @@
 -- The state of all stops: what is now, and the lists of the past.
-use Rattle.std.specs.Prelude.{ℕ, Bool, true, Option, None, List, []}
+use Rattle.std.specs.Prelude.{◌≡◌, ℕ, ◌<◌, Bool, true, Option, None, List, []}
 use Rattle.smp_core.specs.Stops.Stop.{Stop, no_stop}
 use Rattle.smp_core.specs.Stops.Labels.{Patching, Whole, Reading}
 use Rattle.smp_core.specs.declared.stop.work.Work.{Work}
 
--- what a table is made with: how many CPUs there are, which are online, the first of them, and the entry words of the sites
+-- what a table is made with: how many CPUs there are, which are online, the first of them, how many
+-- keys there are, and the entry words of the sites
 pub record Setup : Type 0 where
   pub cpus : ℕ
   pub online : ℕ → Bool
   pub first : ℕ
   pub keys : ℕ
   pub entries : List ℕ
+
+-- the first online CPU is online, and those online are CPUs
+pub record IsSetup (u : Setup) : Type 0 where
+  pub first : u.online u.first ≡ true
+  pub below : (c : ℕ) → u.online c ≡ true → c < u.cpus
 
 -- what is now
 pub record Present : Type 0 where

@@ -87,8 +87,8 @@ looks p me s found = record p { now = looks_now p.now me s found; looks = put p.
 abbrev pub first_readings : ℕ → ℕ → Work → List Reading
 first_readings me s w = cond (is_patch w.kind && s == me) (ReadKey w.func (is_on w.arg) ∷ []) []
 
-abbrev pub leaves : Present → ℕ → ℕ → Present
-leaves n me s = record n { irq = put n.irq me true; readings = put n.readings me (first_readings me s (n.stop s).work) }
+abbrev pub leaves : Present → ℕ → ℕ → Work → Present
+leaves n me s w = record n { irq = put n.irq me true; readings = put n.readings me (first_readings me s w) }
 
 -- a patch ends with its runner's acknowledgement
 abbrev pub unpatched : ℕ → Patching → Patching
@@ -99,7 +99,7 @@ unpatched me (Patches c w made rest) = cond (c == me) Whole (Patches c w made re
 abbrev pub acknowledges_now : Present → ℕ → ℕ → ℕ → ℕ → Present
 acknowledges_now n me s p found =
     let acked = record n { stop = put n.stop s (acknowledged (n.stop s) me p found); patching = cond (p == 3) (unpatched me n.patching) n.patching } in
-    cond (p == 4 && not (found == 1)) (leaves acked me s) acked
+    cond (p == 4 && not (found == 1)) (leaves acked me s (n.stop s).work) acked
 
 -- the call of a stop function grows the CPU's list
 abbrev pub calls_more : (ℕ → List StopCall) → ℕ → Work → ℕ → ℕ → List StopCall
@@ -114,7 +114,7 @@ acknowledges p me s _ found answer = p
 
 -- raise; who raises from 4 to 5 leaves with it
 abbrev pub raises : Present → ℕ → ℕ → ℕ → Present
-raises n me s p = cond (p == 5) (leaves (with_stop n s (raised (n.stop s) p)) me s) (with_stop n s (raised (n.stop s) p))
+raises n me s p = cond (p == 5) (leaves (with_stop n s (raised (n.stop s) p)) me s (n.stop s).work) (with_stop n s (raised (n.stop s) p))
 
 -- an answer that is not 0 goes into the result word
 abbrev pub answered_by : Standing → ℕ → Standing
