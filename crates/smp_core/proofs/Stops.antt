@@ -14,3 +14,4 @@ pub mod Pasts
 -- all the laws
 pub mod Kept
 pub mod Rounds
+pub mod Completions
