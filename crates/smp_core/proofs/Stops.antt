@@ -15,3 +15,6 @@ pub mod Pasts
 pub mod Kept
 pub mod Rounds
 pub mod Completions
+pub mod Sources
+pub mod Patching
+pub mod Facts

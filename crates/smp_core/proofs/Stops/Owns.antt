@@ -18,7 +18,7 @@ use Rattle.smp_labels.specs.Keys.{is_on}
 use Rattle.smp_mask.specs.Mask.{has}
 
 module _ (u : Setup) (p : Present) (at : Word → ℕ) (seat : ℕ → Seat) (h : PresentShows u p at seat) where
-  mask_is : (s c : ℕ) → (p.stop s).is_open ≡ true → is_of ((p.stop s).standing c) ≡ has (p.stop s).work.mask c
+  pub mask_is : (s c : ℕ) → (p.stop s).is_open ≡ true → is_of ((p.stop s).standing c) ≡ has (p.stop s).work.mask c
   mask_is s c open_ = subst (λ b. is_of ((p.stop s).standing c) ≡ (b && has (p.stop s).work.mask c)) open_ ((h.slots s).members c)
 
   -- while a function runs, each CPU of the mask is inside that stop
