@@ -15,6 +15,10 @@ pub enum Access {
     Swap(Word, u64),
     /// Puts the second number where the first is found.
     Exchange(Word, u64, u64),
+    /// Takes 1 away, modulo 2^64.
+    Sub(Word),
+    /// Keeps the bits that the number has.
+    And(Word, u64),
 }
 
 impl Access {
@@ -34,6 +38,8 @@ impl Access {
                 };
                 (Act::Cas, word, Some(found), put)
             }
+            Access::Sub(word) => (Act::Sub, word, Some(found), Some(found.wrapping_sub(1))),
+            Access::And(word, number) => (Act::And, word, Some(found), Some(found & number)),
         };
         Seen {
             cpu,
