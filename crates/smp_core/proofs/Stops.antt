@@ -18,3 +18,5 @@ pub mod Completions
 pub mod Sources
 pub mod Patching
 pub mod Facts
+-- the steps of the commands
+pub mod StageSteps

@@ -15,3 +15,6 @@ pub mod Sources
 pub mod Past
 pub mod Present
 pub mod Shows
+-- the steps of its commands
+pub mod Stages
+pub mod Sits

@@ -36,7 +36,7 @@ use Rattle.smp_mask.specs.Mask.{has}
 use Rattle.std.specs.List.{AllByRecursion}
 
 -- a look changes whether interrupts are on at phase 2 alone
-look_irq : (l a n p : ℕ) → n ≡ p → IsLevel p a → ((l ≡ a) ⊎ ((l ≡ a + 1) × (p ≡ l))) → n ≢ 2 → nat_lt l 2 ≡ nat_lt n 2
+pub look_irq : (l a n p : ℕ) → n ≡ p → IsLevel p a → ((l ≡ a) ⊎ ((l ≡ a + 1) × (p ≡ l))) → n ≢ 2 → nat_lt l 2 ≡ nat_lt n 2
 look_irq l a n p e level near ne = elim (cases_lt n 2) [
   | inl low ↦ lt-ltb l 2 (below low) ∙ sym (lt-ltb n 2 low)
   | inr high ↦ le-ltb l 2 (above high) ∙ sym (le-ltb n 2 high)

@@ -32,7 +32,7 @@ use Rattle.smp_labels.specs.Keys.{is_on}
 use Rattle.smp_labels.specs.Plans.{stored}
 use Rattle.smp_mask.specs.Mask.{has}
 
-kind_back : (k : KindOf) → kind_at (kind_word k) ≡ k
+pub kind_back : (k : KindOf) → kind_at (kind_word k) ≡ k
 kind_back One = refl
 kind_back Multi = refl
 kind_back Patch = refl

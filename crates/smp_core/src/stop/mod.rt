@@ -1,4 +1,5 @@
 //! The stop half: rendezvous of CPUs (`kernel/stop_machine.c`) and label words (`kernel/jump_label.c`).
 
 pub mod field;
+pub mod stage;
 pub mod work;
