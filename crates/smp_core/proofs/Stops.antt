@@ -19,4 +19,8 @@ pub mod Sources
 pub mod Patching
 pub mod Facts
 -- the steps of the commands
+pub mod Bits
 pub mod StageSteps
+pub mod RoundSteps
+pub mod AckSteps
+pub mod CompletionSteps

@@ -102,7 +102,7 @@ module _ (u : Setup) (p : StopState) (at : Word → ℕ) (seat : ℕ → Seat) (
     is_done : IsDone (p.now.stop s).phase a
     is_done = ⊎_elim (λ (e : a ≡ 4). inl e) (λ (e : job.kind ≡ One). inr (phase_one e)) through
 
-    on_now : irq_of (seat me) ≡ true
+    pub on_now : irq_of (seat me) ≡ true
     on_now = ap irq_of is ∙ ⊎_elim (λ (e : a ≡ 4). ap (λ b. nat_lt l 2 || b) (eq-eqb a 4 e) ∙ or_true (nat_lt l 2)) (λ (e : job.kind ≡ One). early (phase_one e)) through
       where
         early : (p.now.stop s).phase ≡ 0 → nat_lt l 2 || a == 4 ≡ true

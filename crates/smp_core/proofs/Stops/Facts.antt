@@ -5,8 +5,8 @@ use Rattle.smp_core.proofs.Stops.Counts.{sum_zero}
 use Rattle.smp_core.proofs.Stops.Phases.{is_open_inside, keeps_inside, none_raises}
 use Rattle.smp_core.proofs.Stops.Steps.{nobody_raises}
 use Rattle.smp_core.specs.Stops.Counts.{behind, count_behind, sum_below, unfinished}
-use Rattle.smp_core.specs.Stops.Labels.{labels_in}
-use Rattle.smp_core.specs.Stops.Seats.{Free, Gives, In, Rests, Seat, Stands, Turn}
+use Rattle.smp_core.specs.Stops.Labels.{Change, labels_in}
+use Rattle.smp_core.specs.Stops.Seats.{Alters, Free, Gives, In, Rests, Seat, Stands, Turn}
 use Rattle.smp_core.specs.Stops.Shows.{StopShows}
 use Rattle.smp_core.specs.Stops.Slots.{AckShows, IsWritten, Keeps, OpenShows}
 use Rattle.smp_core.specs.Stops.Sources.{Shut, Source}
@@ -87,22 +87,27 @@ module _ (u : Setup) (p : StopState) (at : Word → ℕ) (seat : ℕ → Seat) (
         more zero ne = absurd (ne refl)
         more (suc n) ne = omega arith
 
-  -- the count of acknowledgements is not 0, and at most the number of CPUs
-  pub ack_bounds : (job : Work) (a : ℕ) → seat me ≡ In s job a (a + 1) Rests → (0 < at (Slot s Ack)) × (at (Slot s Ack) ≤ u.cpus)
-  ack_bounds job a is =
-      let now = st job a (a + 1) Rests is in
-      let o = shown job a (a + 1) Rests is in
-      let k = inside_keeps job a (a + 1) Rests is in
+  -- the count of acknowledgements is not 0, and at most the number of CPUs, for who has looked at a new phase
+  ack_known : (a : ℕ) → (p.now.stop s).standing me ≡ Inside a (a + 1) → (0 < at (Slot s Ack)) × (at (Slot s Ack) ≤ u.cpus)
+  ack_known a is =
+      let o = (h.present.slots s).shows (is_open_inside u.cpus (p.now.stop s) (λ f. at (Slot s f)) (h.present.slots s) me (Inside a (a + 1)) is refl) in
+      let k = keeps_inside u.cpus (p.now.stop s) (λ f. at (Slot s f)) (h.present.slots s) me (Inside a (a + 1)) is in
       let phase : (p.now.stop s).phase ≡ a + 1 = ⊎_elim (λ (e : a + 1 ≡ a). absurd (omega arith)) (λ (e : (a + 1 ≡ a + 1) × ((p.now.stop s).phase ≡ a + 1)). e.1) k.2 in
       let busy : (p.now.stop s).phase ≢ 0 = λ z. omega arith in
-      let none = nobody_raises u.cpus (p.now.stop s) (at (Slot s Ack)) me a (a + 1) (p.now.stop s).raising now.1 k.0 (λ e. omega arith) (o.ack busy) in
+      let none = nobody_raises u.cpus (p.now.stop s) (at (Slot s Ack)) me a (a + 1) (p.now.stop s).raising is k.0 (λ e. omega arith) (o.ack busy) in
       let counted : at (Slot s Ack) ≡ count_behind u.cpus (p.now.stop s).phase (p.now.stop s).standing = subst (λ r. AckShows u.cpus (p.now.stop s).phase (p.now.stop s).standing r (at (Slot s Ack))) none (o.ack busy) in
       let most = sum_most (λ c. behind (p.now.stop s).phase ((p.now.stop s).standing c)) u.cpus (λ c. behind_most (p.now.stop s).phase ((p.now.stop s).standing c)) in
-      (more (at (Slot s Ack)) (λ z. none_raises u.cpus (p.now.stop s).phase (p.now.stop s).standing me a (a + 1) now.1 k.0 (λ e. omega arith) (sym counted ∙ z)), omega arith)
+      (more (at (Slot s Ack)) (λ z. none_raises u.cpus (p.now.stop s).phase (p.now.stop s).standing me a (a + 1) is k.0 (λ e. omega arith) (sym counted ∙ z)), omega arith)
     where
       more : (n : ℕ) → n ≢ 0 → 0 < n
       more zero ne = absurd (ne refl)
       more (suc n) ne = omega arith
+
+  pub ack_bounds : (job : Work) (a : ℕ) → seat me ≡ In s job a (a + 1) Rests → (0 < at (Slot s Ack)) × (at (Slot s Ack) ≤ u.cpus)
+  ack_bounds job a is = ack_known a (st job a (a + 1) Rests is).1
+
+  pub ack_bounds_patched : (job : Work) (made : List Change) → seat me ≡ Alters s job made [] → (0 < at (Slot s Ack)) × (at (Slot s Ack) ≤ u.cpus)
+  ack_bounds_patched job made is = let now : Stands p.now me (Alters s job made []) = subst (Stands p.now me) is (h.present.stands me) in ack_known 2 now.1
 
   -- the same of todo, for who has stored its answer
   pub todo_bounds_answered : (job : Work) (a v : ℕ) → seat me ≡ Gives s job a v → (0 < at (Slot s Todo)) × (at (Slot s Todo) ≤ u.cpus)

@@ -54,7 +54,7 @@ put_kept {A} f i j = at_test j i (λ b. cond b (f i) (f j) ≡ f j) (λ e. ap f 
 pub put_same_fn : {A : Type 0} (f : ℕ → A) (i : ℕ) → put f i (f i) ≡ f
 put_same_fn {A} f i = λ k j. put_kept f i j k
 
-less_one : (n : ℕ) → 0 < n → n < 2 ^ 64 → one_less n ≡ n - 1
+pub less_one : (n : ℕ) → 0 < n → n < 2 ^ 64 → one_less n ≡ n - 1
 less_one n some small = omega arith
 
 module _ (u : Setup) (p : StopState) (at : Word → ℕ) (seat : ℕ → Seat) (source : ℕ → Source) (h : StopShows u p at seat source) (c : StopControlValue) (me : ℕ)
@@ -93,7 +93,7 @@ module _ (u : Setup) (p : StopState) (at : Word → ℕ) (seat : ℕ → Seat) (
       go true o = let bad : Owns o.0 ≡ Drafts work k = sym o.1 ∙ e in cc
       go false o = let bad : Shut ≡ Drafts work k = sym o ∙ e in cc
 
-  take_gate : c.stage ≡ Some TakeGate → StopStep u p at seat source c me TakeGate
+  pub take_gate : c.stage ≡ Some TakeGate → StopStep u p at seat source c me TakeGate
   take_gate e =
       let x : AtRest = subst (λ (st : Option StopStage). SitsAt u me c st (seat me)) e s.seat in
       let y : OwnsIf c.is_open (source me) = subst (λ (st : Option StopStage). SourceSits c.is_open st (source me)) e s.source in
@@ -103,7 +103,7 @@ module _ (u : Setup) (p : StopState) (at : Word → ℕ) (seat : ℕ → Seat) (
         sits = record { below = s.below; irq = s.irq; seat = x; source = y; gate_held = tt };
       }
 
-  open_gate : c.stage ≡ Some OpenGate → StopStep u p at seat source c me OpenGate
+  pub open_gate : c.stage ≡ Some OpenGate → StopStep u p at seat source c me OpenGate
   open_gate e =
       let x : AtRest = subst (λ (st : Option StopStage). SitsAt u me c st (seat me)) e s.seat in
       let y : OwnsIf c.is_open (source me) = subst (λ (st : Option StopStage). SourceSits c.is_open st (source me)) e s.source in
@@ -133,7 +133,7 @@ module _ (u : Setup) (p : StopState) (at : Word → ℕ) (seat : ℕ → Seat) (
           (subst (λ k. StopShows u p' at' seat (put source me (Drafts work k))) (sym next) (field_stored u p at seat source h me work (order f) f 0 y.1 refl low)),
         record { below = s.below; irq = s.irq; seat = begins_seat work f e; source = (y.0, refl); gate_held = tt })
 
-  begin_step : (work : Work) (f : Field) → c.stage ≡ Some (Begin work f) → StopStep u p at seat source c me (Begin work f)
+  pub begin_step : (work : Work) (f : Field) → c.stage ≡ Some (Begin work f) → StopStep u p at seat source c me (Begin work f)
   begin_step work Kind e = let d = drafts_step work Kind Mask e (omega arith) refl in record { seat_after = seat me; source_after = Drafts work 1; shows = d.0; sits = d.1 }
   begin_step work Mask e = let d = drafts_step work Mask Active e (omega arith) refl in record { seat_after = seat me; source_after = Drafts work 2; shows = d.0; sits = d.1 }
   begin_step work Active e = let d = drafts_step work Active Func e (omega arith) refl in record { seat_after = seat me; source_after = Drafts work 3; shows = d.0; sits = d.1 }
@@ -157,7 +157,7 @@ module _ (u : Setup) (p : StopState) (at : Word → ℕ) (seat : ℕ → Seat) (
       Sits u me (at Gate) c' (seat me) (source me)
   nothing stage next c' same x y g = record { below = s.below; irq = same ∙ s.irq; seat = x; source = y; gate_held = g }
 
-  enter_kind : (slot : ℕ) → c.stage ≡ Some (EnterKind slot) → StopStep u p at seat source c me (EnterKind slot)
+  pub enter_kind : (slot : ℕ) → c.stage ≡ Some (EnterKind slot) → StopStep u p at seat source c me (EnterKind slot)
   enter_kind slot e =
       let x : (work : Work) × (seat me ≡ In slot work 0 0 Rests) = subst (λ (st : Option StopStage). SitsAt u me c st (seat me)) e s.seat in
       let y : OwnsIf c.is_open (source me) = subst (λ (st : Option StopStage). SourceSits c.is_open st (source me)) e s.source in
@@ -168,7 +168,7 @@ module _ (u : Setup) (p : StopState) (at : Word → ℕ) (seat : ℕ → Seat) (
         sits = record { below = s.below; irq = s.irq; seat = (x.0, x.1, ap kind_at w.kind ∙ kind_back x.0.kind); source = y; gate_held = tt };
       }
 
-  enter_mask : (slot : ℕ) (kind : KindOf) → c.stage ≡ Some (EnterMask slot kind) → StopStep u p at seat source c me (EnterMask slot kind)
+  pub enter_mask : (slot : ℕ) (kind : KindOf) → c.stage ≡ Some (EnterMask slot kind) → StopStep u p at seat source c me (EnterMask slot kind)
   enter_mask slot kind e =
       let x : (work : Work) × (seat me ≡ In slot work 0 0 Rests) × (kind ≡ work.kind) = subst (λ (st : Option StopStage). SitsAt u me c st (seat me)) e s.seat in
       let y : OwnsIf c.is_open (source me) = subst (λ (st : Option StopStage). SourceSits c.is_open st (source me)) e s.source in
@@ -179,7 +179,7 @@ module _ (u : Setup) (p : StopState) (at : Word → ℕ) (seat : ℕ → Seat) (
         sits = record { below = s.below; irq = s.irq; seat = (x.0, x.1, x.2, w.mask); source = y; gate_held = tt };
       }
 
-  enter_active : (slot : ℕ) (kind : KindOf) (mask : ℕ) → c.stage ≡ Some (EnterActive slot kind mask) → StopStep u p at seat source c me (EnterActive slot kind mask)
+  pub enter_active : (slot : ℕ) (kind : KindOf) (mask : ℕ) → c.stage ≡ Some (EnterActive slot kind mask) → StopStep u p at seat source c me (EnterActive slot kind mask)
   enter_active slot kind mask e =
       let x : (work : Work) × (seat me ≡ In slot work 0 0 Rests) × (kind ≡ work.kind) × (mask ≡ work.mask) = subst (λ (st : Option StopStage). SitsAt u me c st (seat me)) e s.seat in
       let y : OwnsIf c.is_open (source me) = subst (λ (st : Option StopStage). SourceSits c.is_open st (source me)) e s.source in
@@ -190,7 +190,7 @@ module _ (u : Setup) (p : StopState) (at : Word → ℕ) (seat : ℕ → Seat) (
         sits = record { below = s.below; irq = s.irq; seat = (x.0, record { kind = x.2; mask = x.3; active = w.active }, x.1); source = y; gate_held = tt };
       }
 
-  read_key : (k : ℕ) → c.stage ≡ Some (ReadKey k) → StopStep u p at seat source c me (ReadKey k)
+  pub read_key : (k : ℕ) → c.stage ≡ Some (ReadKey k) → StopStep u p at seat source c me (ReadKey k)
   read_key k e =
       let x : (c.interrupts ≡ true) × AtRest = subst (λ (st : Option StopStage). SitsAt u me c st (seat me)) e s.seat in
       let y : OwnsIf c.is_open (source me) = subst (λ (st : Option StopStage). SourceSits c.is_open st (source me)) e s.source in
@@ -200,7 +200,7 @@ module _ (u : Setup) (p : StopState) (at : Word → ℕ) (seat : ℕ → Seat) (
         sits = record { below = s.below; irq = s.irq; seat = x.1; source = y; gate_held = tt };
       }
 
-  read_site : (i : ℕ) → c.stage ≡ Some (ReadSite i) → StopStep u p at seat source c me (ReadSite i)
+  pub read_site : (i : ℕ) → c.stage ≡ Some (ReadSite i) → StopStep u p at seat source c me (ReadSite i)
   read_site i e =
       let x : (c.interrupts ≡ true) × AtRest = subst (λ (st : Option StopStage). SitsAt u me c st (seat me)) e s.seat in
       let y : OwnsIf c.is_open (source me) = subst (λ (st : Option StopStage). SourceSits c.is_open st (source me)) e s.source in
@@ -211,7 +211,7 @@ module _ (u : Setup) (p : StopState) (at : Word → ℕ) (seat : ℕ → Seat) (
       }
 
   -- the looks of a source
-  load_done : c.stage ≡ Some LoadDone → StopStep u p at seat source c me LoadDone
+  pub load_done : c.stage ≡ Some LoadDone → StopStep u p at seat source c me LoadDone
   load_done e =
       let x : AtRest = subst (λ (st : Option StopStage). SitsAt u me c st (seat me)) e s.seat in
       let y : (c.is_open ≡ true) × ((work : Work) × (source me ≡ Owns work)) = subst (λ (st : Option StopStage). SourceSits c.is_open st (source me)) e s.source in
@@ -238,7 +238,7 @@ module _ (u : Setup) (p : StopState) (at : Word → ℕ) (seat : ℕ → Seat) (
       go x op work own false z =
           (Collects work, moved_source p at (Collects work) (done_loaded u p at seat source h me work own (open_done work own z)), record { below = s.below; irq = s.irq; seat = x; source = (op, (work, refl)); gate_held = tt })
 
-  load_result : c.stage ≡ Some LoadResult → StopStep u p at seat source c me LoadResult
+  pub load_result : c.stage ≡ Some LoadResult → StopStep u p at seat source c me LoadResult
   load_result e =
       let x : AtRest = subst (λ (st : Option StopStage). SitsAt u me c st (seat me)) e s.seat in
       let y : (c.is_open ≡ true) × ((work : Work) × (source me ≡ Collects work)) = subst (λ (st : Option StopStage). SourceSits c.is_open st (source me)) e s.source in

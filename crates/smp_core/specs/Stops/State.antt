@@ -1,5 +1,5 @@
 -- The state of all stops: what is now, and the lists of the past.
-use Rattle.std.specs.Prelude.{◌≡◌, ℕ, ◌<◌, Bool, true, Option, None, List, []}
+use Rattle.std.specs.Prelude.{◌≡◌, ◌≢◌, ℕ, ◌<◌, ◌≤◌, Bool, true, Option, None, List, [], length, slice_index}
 use Rattle.smp_core.specs.Stops.Stop.{Stop, no_stop}
 use Rattle.smp_core.specs.Stops.Labels.{Patching, Whole, Reading}
 use Rattle.smp_core.specs.declared.stop.work.Work.{Work}
@@ -13,10 +13,13 @@ pub record Setup : Type 0 where
   pub keys : ℕ
   pub entries : List ℕ
 
--- the first online CPU is online, and those online are CPUs
+-- the first online CPU is online, those online are CPUs, of which there are no more than bits of a word; and each site
+-- has an entry
 pub record IsSetup (u : Setup) : Type 0 where
   pub first : u.online u.first ≡ true
   pub below : (c : ℕ) → u.online c ≡ true → c < u.cpus
+  pub few : u.cpus ≤ 64
+  pub named : (i : ℕ) → i < length u.entries → slice_index u.entries i ≢ 0
 
 -- what is now
 pub record Present : Type 0 where
