@@ -204,7 +204,7 @@ module _ (u : Setup) (p : StopState) (at : Word → ℕ) (seat : ℕ → Seat) (
       whole : c.visit ≡ Some v → (work : Work) → SitsAtPatch u v work [] (seat me) → OwnsIf c.is_open (source me) → (changes : List Change) → changes ≡ patch_of work.func work.arg u.entries →
           Sits u me (at Gate) (stop_goes (record c { changes = changes }) (Advance v (round.StoreChange 0))).control (seat me) (source me)
       whole visit work patch y changes is = record { below = s.below; irq = s.irq;
-        seat = (visit, (work, patch.0, patch.1, subst (λ (l : List Change). 0 < length l) (sym is) (omega arith), ([], changes, refl, refl, patch.2 ∙ ap (λ l. Alters v.slot work [] l) (sym is))));
+        seat = (visit, (work, patch.0, patch.1, subst (λ (l : List Change). 0 < length l) (sym is) (omega arith), is, ([], changes, refl, refl, patch.2 ∙ ap (λ l. Alters v.slot work [] l) (sym is))));
         source = y; gate_held = tt }
 
       loads : c.visit ≡ Some v → (work : Work) → SitsAtPatch u v work [] (seat me) → site ≤ length u.entries → site < MOST_SITES → c.changes ≡ changes_of u work site → OwnsIf c.is_open (source me) →
@@ -254,13 +254,13 @@ module _ (u : Setup) (p : StopState) (at : Word → ℕ) (seat : ℕ → Seat) (
   pub store_change : (made : ℕ) → c.stage ≡ Some (Advance v (round.StoreChange made)) → StopStep u p at seat source c me (Advance v (round.StoreChange made))
   store_change made e =
       let r = in_round (round.StoreChange made) e in
-      go r.0 r.1.0 r.1.1 r.1.2 r.1.3 r.1.4.0 r.1.4.1 r.1.4.2 r.1.4.3 r.1.4.4 (at_source (round.StoreChange made) e)
+      go r.0 r.1.0 r.1.1 r.1.2 r.1.3 r.1.4 r.1.5.0 r.1.5.1 r.1.5.2 r.1.5.3 r.1.5.4 (at_source (round.StoreChange made) e)
     where
-      go : c.visit ≡ Some v → (work : Work) → IsLoaded v work → v.acked ≡ 2 → made < length c.changes → (before after : List Change) → c.changes ≡ before ++ after → length before ≡ made →
+      go : c.visit ≡ Some v → (work : Work) → IsLoaded v work → v.acked ≡ 2 → made < length c.changes → c.changes ≡ patch_of work.func work.arg u.entries → (before after : List Change) → c.changes ≡ before ++ after → length before ≡ made →
           seat me ≡ Alters v.slot work before after → OwnsIf c.is_open (source me) → StopStep u p at seat source c me (Advance v (round.StoreChange made))
-      go visit work loaded two low before [] are long is y =
+      go visit work loaded two low plan before [] are long is y =
           absurd (let same : length c.changes ≡ length before = ap length (are ∙ append-nil before) in omega arith)
-      go visit work loaded two low before (change ∷ rest) are long is y =
+      go visit work loaded two low plan before (change ∷ rest) are long is y =
           let here : change_at c.changes made ≡ change = ap (λ l. change_at l made) are ∙ (ap (λ n. change_at (before ++ change ∷ rest) n) (sym long) ∙ change_here before change rest) in
           let next = Alters v.slot work (before ++ change ∷ []) rest in
           let stored = shown change before rest work is in
@@ -269,7 +269,7 @@ module _ (u : Setup) (p : StopState) (at : Word → ℕ) (seat : ℕ → Seat) (
             shows = subst (λ (x : Change). StopShows u (tells u p (seen_of me (store_of x) (at (word_of (store_of x))) None) 0) (at_after at (store_of x)) (put seat me next) (put source me (source me))) (sym here)
                 (moved_seat (tells u p (seen_of me (store_of change) (at (word_of (store_of change))) None) 0) (at_after at (store_of change)) next stored);
             sits = subst (λ (x : Change). Sits u me (at_after at (store_of x) Gate) (stop_goes c (Advance v (cond (made + 1 == length c.changes) (round.Acknowledge 0 true) (round.StoreChange (made + 1))))).control next (source me)) (sym here)
-                (gate_kept change (ends visit work loaded two low before change rest are long is y (made + 1 == length c.changes) refl));
+                (gate_kept change (ends visit work loaded two low plan before change rest are long is y (made + 1 == length c.changes) refl));
           }
         where
           shown : (change : Change) (before rest : List Change) (work : Work) → seat me ≡ Alters v.slot work before (change ∷ rest) →
@@ -281,16 +281,16 @@ module _ (u : Setup) (p : StopState) (at : Word → ℕ) (seat : ℕ → Seat) (
           gate_kept (place.Key k, n) {c'} {x} sits = sits
           gate_kept (place.Site i, n) {c'} {x} sits = sits
 
-          ends : c.visit ≡ Some v → (work : Work) → IsLoaded v work → v.acked ≡ 2 → made < length c.changes → (before : List Change) (change : Change) (rest : List Change) → c.changes ≡ before ++ change ∷ rest → length before ≡ made →
+          ends : c.visit ≡ Some v → (work : Work) → IsLoaded v work → v.acked ≡ 2 → made < length c.changes → c.changes ≡ patch_of work.func work.arg u.entries → (before : List Change) (change : Change) (rest : List Change) → c.changes ≡ before ++ change ∷ rest → length before ≡ made →
               seat me ≡ Alters v.slot work before (change ∷ rest) → OwnsIf c.is_open (source me) → (b : Bool) → (made + 1 == length c.changes) ≡ b →
               Sits u me (at Gate) (stop_goes c (Advance v (cond b (round.Acknowledge 0 true) (round.StoreChange (made + 1))))).control (Alters v.slot work (before ++ change ∷ []) rest) (source me)
-          ends visit work loaded two low before change [] are long is y true last =
+          ends visit work loaded two low plan before change [] are long is y true last =
               record { below = s.below; irq = s.irq ∙ ap irq_of is; seat = (visit, (work, loaded, (let t = two in omega arith), inr (two, (before ++ change ∷ [], refl)))); source = y; gate_held = tt }
-          ends visit work loaded two low before change (x ∷ rest) are long is y true last =
+          ends visit work loaded two low plan before change (x ∷ rest) are long is y true last =
               absurd (let all : made + 1 ≡ length c.changes = eqb-true (made + 1) (length c.changes) last in
                   let sized : length c.changes ≡ length before + length (change ∷ x ∷ rest) = ap length are ∙ length-append before (change ∷ x ∷ rest) in omega arith)
-          ends visit work loaded two low before change rest are long is y false last =
+          ends visit work loaded two low plan before change rest are long is y false last =
               let on : made + 1 ≢ length c.changes = λ z. let bad : true ≡ false = sym (eq-eqb (made + 1) (length c.changes) z) ∙ last in cc in
               record { below = s.below; irq = s.irq ∙ ap irq_of is;
-                seat = (visit, (work, loaded, two, omega arith, (before ++ change ∷ [], rest, are ∙ sym (append_assoc before (change ∷ []) rest), length-append before (change ∷ []) ∙ (let z = long in omega arith), refl)));
+                seat = (visit, (work, loaded, two, omega arith, plan, (before ++ change ∷ [], rest, are ∙ sym (append_assoc before (change ∷ []) rest), length-append before (change ∷ []) ∙ (let z = long in omega arith), refl)));
                 source = y; gate_held = tt }

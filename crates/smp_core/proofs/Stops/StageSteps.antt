@@ -192,22 +192,22 @@ module _ (u : Setup) (p : StopState) (at : Word → ℕ) (seat : ℕ → Seat) (
 
   pub read_key : (k : ℕ) → c.stage ≡ Some (ReadKey k) → StopStep u p at seat source c me (ReadKey k)
   read_key k e =
-      let x : (c.interrupts ≡ true) × AtRest = subst (λ (st : Option StopStage). SitsAt u me c st (seat me)) e s.seat in
+      let x : (c.interrupts ≡ true) × (k < u.keys) × AtRest = subst (λ (st : Option StopStage). SitsAt u me c st (seat me)) e s.seat in
       let y : OwnsIf c.is_open (source me) = subst (λ (st : Option StopStage). SourceSits c.is_open st (source me)) e s.source in
       record {
         seat_after = seat me; source_after = source me;
         shows = still (state_after u p at c me (ReadKey k)) at (key_read u p at seat source h me k 0 (h.present.irq me ∙ (sym s.irq ∙ x.0)));
-        sits = record { below = s.below; irq = s.irq; seat = x.1; source = y; gate_held = tt };
+        sits = record { below = s.below; irq = s.irq; seat = x.2; source = y; gate_held = tt };
       }
 
   pub read_site : (i : ℕ) → c.stage ≡ Some (ReadSite i) → StopStep u p at seat source c me (ReadSite i)
   read_site i e =
-      let x : (c.interrupts ≡ true) × AtRest = subst (λ (st : Option StopStage). SitsAt u me c st (seat me)) e s.seat in
+      let x : (c.interrupts ≡ true) × (i < length u.entries) × AtRest = subst (λ (st : Option StopStage). SitsAt u me c st (seat me)) e s.seat in
       let y : OwnsIf c.is_open (source me) = subst (λ (st : Option StopStage). SourceSits c.is_open st (source me)) e s.source in
       record {
         seat_after = seat me; source_after = source me;
         shows = still (state_after u p at c me (ReadSite i)) at (site_read u p at seat source h me i 0);
-        sits = record { below = s.below; irq = s.irq; seat = x.1; source = y; gate_held = tt };
+        sits = record { below = s.below; irq = s.irq; seat = x.2; source = y; gate_held = tt };
       }
 
   -- the looks of a source

@@ -59,7 +59,7 @@ SitsInRound u me changes v (round.LoadKey key word) x = (v.kind ≡ Patch) × ((
 SitsInRound u me changes v (round.LoadEntry key word site) x =
     (work : Work) × SitsAtPatch u v work [] x × (key ≡ work.func) × (word ≡ work.arg) × (site ≤ length u.entries) × (site < MOST_SITES) × (changes ≡ changes_of u work site)
 SitsInRound u me changes v (round.StoreChange made) x =
-    (work : Work) × IsLoaded v work × (v.acked ≡ 2) × (made < length changes) ×
+    (work : Work) × IsLoaded v work × (v.acked ≡ 2) × (made < length changes) × (changes ≡ patch_of work.func work.arg u.entries) ×
     ((before after : List Change) × (changes ≡ before ++ after) × (length before ≡ made) × (x ≡ Alters v.slot work before after))
 SitsInRound u me changes v (round.Acknowledge answer ran) x =
     (work : Work) × IsLoaded v work × (v.acked ≤ 3) ×
@@ -79,15 +79,15 @@ SitsInCompletion v _ x = (v.kind ≡ One) × SitsIn v v.acked Rests x
 
 -- its seat at this stage
 abbrev pub SitsAt : Setup → ℕ → StopControlValue → Option StopStage → Seat → Type 0
-SitsAt u me c (Some (Enter slot)) x = (c.visit ≡ None) × (x ≡ Free)
+SitsAt u me c (Some (Enter slot)) x = (c.visit ≡ None) × (x ≡ Free) × (slot < u.cpus)
 SitsAt u me c (Some (EnterKind slot)) x = (work : Work) × (x ≡ In slot work 0 0 Rests)
 SitsAt u me c (Some (EnterMask slot kind)) x = (work : Work) × (x ≡ In slot work 0 0 Rests) × (kind ≡ work.kind)
 SitsAt u me c (Some (EnterActive slot kind mask)) x = (work : Work) × (x ≡ In slot work 0 0 Rests) × (kind ≡ work.kind) × (mask ≡ work.mask)
 SitsAt u me c (Some (Advance v stage)) x = (c.visit ≡ Some v) × SitsInRound u me c.changes v stage x
 SitsAt u me c (Some (Complete v stage)) x = (c.visit ≡ Some v) × SitsInCompletion v stage x
 SitsAt u me c (Some (Close slot)) x = (c.visit ≡ None) × (x ≡ Closes slot)
-SitsAt u me c (Some (ReadKey k)) x = (c.interrupts ≡ true) × SitsAtRest c.visit x
-SitsAt u me c (Some (ReadSite i)) x = (c.interrupts ≡ true) × SitsAtRest c.visit x
+SitsAt u me c (Some (ReadKey k)) x = (c.interrupts ≡ true) × (k < u.keys) × SitsAtRest c.visit x
+SitsAt u me c (Some (ReadSite i)) x = (c.interrupts ≡ true) × (i < length u.entries) × SitsAtRest c.visit x
 SitsAt u me c _ x = SitsAtRest c.visit x
 
 -- a source whose stop is open or not

@@ -1,5 +1,5 @@
 -- Where a source is with its own stop.
-use Rattle.std.specs.Prelude.{◌≡◌, ◌≢◌, ℕ, ◌<◌, true, false, ◌==◌, Option, Some, None}
+use Rattle.std.specs.Prelude.{◌≡◌, ◌≢◌, ℕ, ◌<◌, ◌^◌, true, false, ◌==◌, Option, Some, None}
 use Rattle.smp_mask.specs.Mask.{has}
 use Rattle.smp_labels.specs.Keys.{IsKeyWord}
 use Rattle.smp_core.specs.Stops.Stop.{Stop, Ended}
@@ -30,6 +30,7 @@ pub record IsWork (u : Setup) (work : Work) : Type 0 where
   pub below : (c : ℕ) → has work.mask c ≡ true → c < u.cpus
   pub some : mask_weight u.cpus work.mask ≢ 0
   pub kind : IsOfKind u work work.kind
+  pub func : work.func < 2 ^ 16
 
 pub data Source : Type 0 where
   -- its slot is closed

@@ -2,6 +2,7 @@
 use Rattle.std.specs.Prelude.{◌≡◌, ◌≢◌, ℕ, ◌<◌, ◌≤◌, Bool, true, Option, None, List, [], length, slice_index}
 use Rattle.smp_core.specs.Stops.Stop.{Stop, no_stop}
 use Rattle.smp_core.specs.Stops.Labels.{Patching, Whole, Reading}
+use Rattle.smp_labels.specs.declared.words.TheConstants.{MOST_KEYS}
 use Rattle.smp_core.specs.declared.stop.work.Work.{Work}
 
 -- what a table is made with: how many CPUs there are, which are online, the first of them, how many
@@ -13,12 +14,13 @@ pub record Setup : Type 0 where
   pub keys : ℕ
   pub entries : List ℕ
 
--- the first online CPU is online, those online are CPUs, of which there are no more than bits of a word; and each site
--- has an entry
+-- the first online CPU is online, those online are CPUs, of which there are no more than bits of a word; there is
+-- room for the keys; and each site has an entry
 pub record IsSetup (u : Setup) : Type 0 where
   pub first : u.online u.first ≡ true
   pub below : (c : ℕ) → u.online c ≡ true → c < u.cpus
   pub few : u.cpus ≤ 64
+  pub few_keys : u.keys ≤ MOST_KEYS
   pub named : (i : ℕ) → i < length u.entries → slice_index u.entries i ≢ 0
 
 -- what is now
