@@ -18,3 +18,5 @@ pub mod Shows
 -- the steps of its commands
 pub mod Stages
 pub mod Sits
+pub mod Steps
+pub mod Promises

@@ -5,7 +5,7 @@ use Rattle.smp_core.proofs.Puts.{at_test}
 use Rattle.smp_core.proofs.Stops.Facts.{ack_bounds, ack_bounds_patched}
 use Rattle.smp_core.proofs.Stops.RoundSteps.{ack_small}
 use Rattle.smp_core.proofs.Stops.Rounds.{ack_stored, ack_subtracted, ack_subtracted_patched, state_stored}
-use Rattle.smp_core.proofs.Stops.StageSteps.{StopStep, at_then, less_one, put_same_fn, state_after}
+use Rattle.smp_core.proofs.Stops.StageSteps.{less_one, put_same_fn}
 use Rattle.smp_core.specs.Put.{put, put_word}
 use Rattle.smp_core.specs.Stops.Counts.{mask_weight}
 use Rattle.smp_core.specs.Stops.Labels.{Change}
@@ -15,6 +15,7 @@ use Rattle.smp_core.specs.Stops.Sits.{IsLoaded, OwnsIf, Sits, SitsAt, SitsAtRest
 use Rattle.smp_core.specs.Stops.Sources.{Source}
 use Rattle.smp_core.specs.Stops.Stages.{StopControlValue, stop_goes, turn_ends, visit_acked}
 use Rattle.smp_core.specs.Stops.State.{Setup, StopState}
+use Rattle.smp_core.specs.Stops.Steps.{StopStep, at_then, state_after}
 use Rattle.smp_core.specs.Stops.Tells.{told}
 use Rattle.smp_core.specs.declared.seen.Act.TheVariants as act
 use Rattle.smp_core.specs.declared.stop.field.Field.TheVariants.{Ack}

@@ -7,7 +7,7 @@ use Rattle.smp_core.proofs.Stops.Bits.{clear_none, clear_other, clear_same}
 use Rattle.smp_core.proofs.Stops.Completions.{done_stored, on_now, result_stored, roll_cleared, roll_stale, todo_subtracted, todo_subtracted_answered}
 use Rattle.smp_core.proofs.Stops.Facts.{todo_bounds, todo_bounds_answered}
 use Rattle.smp_core.proofs.Stops.RoundSteps.{ack_small, load_arg, load_entry, load_func, load_key, look, store_change}
-use Rattle.smp_core.proofs.Stops.StageSteps.{StopStep, at_then, begin_step, enter_active, enter_kind, enter_mask, less_one, load_done, load_result, open_gate, put_same_fn, read_key, read_site, state_after, take_gate}
+use Rattle.smp_core.proofs.Stops.StageSteps.{begin_step, enter_active, enter_kind, enter_mask, less_one, load_done, load_result, open_gate, put_same_fn, read_key, read_site, take_gate}
 use Rattle.smp_core.specs.Put.{put, put_word, same_word}
 use Rattle.smp_core.specs.Stops.Counts.{one}
 use Rattle.smp_core.specs.Stops.Seats.{Closes, Free, Gives, In, Rests, Seat, irq_of}
@@ -17,6 +17,7 @@ use Rattle.smp_core.specs.Stops.Slots.{Keeps}
 use Rattle.smp_core.specs.Stops.Sources.{Source}
 use Rattle.smp_core.specs.Stops.Stages.{StopControlValue, all_but, stop_ends, stop_goes}
 use Rattle.smp_core.specs.Stops.State.{Setup, StopState}
+use Rattle.smp_core.specs.Stops.Steps.{StopStep, at_then, state_after}
 use Rattle.smp_core.specs.Stops.Stop.{Answering, Called, Completed, Inside, Outside, Standing, is_called}
 use Rattle.smp_core.specs.declared.seen.Note.TheVariants as note
 use Rattle.smp_core.specs.declared.stop.field.Field.TheVariants.{Roll, Todo}

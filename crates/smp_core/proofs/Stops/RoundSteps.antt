@@ -7,7 +7,7 @@ use Rattle.smp_core.proofs.Stops.Facts.{inside_keeps, state_near, work_words}
 use Rattle.smp_core.proofs.Stops.Kept.{after}
 use Rattle.smp_core.proofs.Stops.Patching.{key_loaded_first, key_stored, site_stored}
 use Rattle.smp_core.proofs.Stops.Rounds.{look_irq, state_loaded}
-use Rattle.smp_core.proofs.Stops.StageSteps.{StopStep, put_same_fn, state_after}
+use Rattle.smp_core.proofs.Stops.StageSteps.{put_same_fn}
 use Rattle.smp_core.specs.Access.{at_after, seen_of, word_of}
 use Rattle.smp_core.specs.Put.{put}
 use Rattle.smp_core.specs.Stops.Labels.{Change}
@@ -17,6 +17,7 @@ use Rattle.smp_core.specs.Stops.Sits.{IsLoaded, OwnsIf, Sits, SitsAt, SitsAtPatc
 use Rattle.smp_core.specs.Stops.Sources.{Source}
 use Rattle.smp_core.specs.Stops.Stages.{StopControlValue, change_at, entry_on, round_outcome, stop_ends, stop_goes, store_of}
 use Rattle.smp_core.specs.Stops.State.{Setup, StopState}
+use Rattle.smp_core.specs.Stops.Steps.{StopStep, state_after}
 use Rattle.smp_core.specs.Stops.Tells.{is_multi, tells, told}
 use Rattle.smp_core.specs.declared.seen.Act.TheVariants as act
 use Rattle.smp_core.specs.declared.seen.Note.TheVariants as note

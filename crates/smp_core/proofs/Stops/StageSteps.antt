@@ -5,17 +5,18 @@ use Rattle.smp_core.proofs.Puts.{at_test}
 use Rattle.smp_core.proofs.Stops.Facts.{work_words}
 use Rattle.smp_core.proofs.Stops.Patching.{key_read, site_read}
 use Rattle.smp_core.proofs.Stops.Sources.{done_loaded, field_stored, gate_opened, gate_taken, kind_back, result_loaded, roll_stored}
-use Rattle.smp_core.specs.Access.{at_after, one_less, seen_of, word_of}
+use Rattle.smp_core.specs.Access.{one_less}
 use Rattle.smp_core.specs.Put.{put, put_word}
 use Rattle.smp_core.specs.Stops.Seats.{In, Rests, Seat}
 use Rattle.smp_core.specs.Stops.Shows.{StopShows, gate_word}
 use Rattle.smp_core.specs.Stops.Sits.{HoldsGate, OwnsIf, Sits, SitsAt, SitsAtRest, SourceSits}
 use Rattle.smp_core.specs.Stops.Slots.{DoneShows, begun_value, kind_at, order}
 use Rattle.smp_core.specs.Stops.Sources.{Collects, Drafts, OwnerShows, Owns, Shut, Source, SourceShows}
-use Rattle.smp_core.specs.Stops.Stages.{StopControlValue, answer_at, stop_access, stop_ends, stop_goes, stop_outcome}
+use Rattle.smp_core.specs.Stops.Stages.{StopControlValue, stop_ends, stop_goes}
 use Rattle.smp_core.specs.Stops.State.{Setup, StopState}
+use Rattle.smp_core.specs.Stops.Steps.{StopStep, at_then, state_after}
 use Rattle.smp_core.specs.Stops.Stop.{Ended, Ending, Last, Running}
-use Rattle.smp_core.specs.Stops.Tells.{gate_told, tells, told}
+use Rattle.smp_core.specs.Stops.Tells.{gate_told, told}
 use Rattle.smp_core.specs.declared.seen.Act.TheVariants as act
 use Rattle.smp_core.specs.declared.seen.Note.TheVariants as note
 use Rattle.smp_core.specs.declared.stop.field.Field.TheVariants.{Ack, Active, Arg, Done, Func, Kind, Mask, Result, Roll, State, Todo}
@@ -26,26 +27,6 @@ use Rattle.smp_core.specs.declared.stop.work.Kind.{Kind as KindOf}
 use Rattle.smp_core.specs.declared.stop.work.Work.{Work}
 use Rattle.smp_core.specs.declared.word.Word.TheVariants.{Gate, Slot}
 use Rattle.smp_core.specs.declared.word.Word.{Word}
-
--- the state after a step of a CPU at this stage
-abbrev pub state_after : Setup → StopState → (Word → ℕ) → StopControlValue → ℕ → StopStage → StopState
-state_after u p at c me stage =
-    let access = stop_access u.cpus me c.changes stage in
-    let found = at (word_of access) in
-    tells u p (seen_of me access found (stop_outcome me c stage found).note) (answer_at stage)
-
-abbrev pub at_then : Setup → (Word → ℕ) → StopControlValue → ℕ → StopStage → Word → ℕ
-at_then u at c me stage = at_after at (stop_access u.cpus me c.changes stage)
-
-abbrev pub control_then : Setup → (Word → ℕ) → StopControlValue → ℕ → StopStage → StopControlValue
-control_then u at c me stage = (stop_outcome me c stage (at (word_of (stop_access u.cpus me c.changes stage)))).control
-
--- after the step the words show the stops that it tells, with the CPU where its next stage says
-pub record StopStep (u : Setup) (p : StopState) (at : Word → ℕ) (seat : ℕ → Seat) (source : ℕ → Source) (c : StopControlValue) (me : ℕ) (stage : StopStage) : Type 0 where
-  pub seat_after : Seat
-  pub source_after : Source
-  pub shows : StopShows u (state_after u p at c me stage) (at_then u at c me stage) (put seat me seat_after) (put source me source_after)
-  pub sits : Sits u me (at_then u at c me stage Gate) (control_then u at c me stage) seat_after source_after
 
 -- a put of what is there
 put_kept : {A : Type 0} (f : ℕ → A) (i j : ℕ) → put f i (f i) j ≡ f j
