@@ -20,3 +20,5 @@ pub mod Stages
 pub mod Sits
 pub mod Steps
 pub mod Promises
+-- the words of a stop table
+pub mod Table

@@ -1,7 +1,7 @@
 //! What a step does to one word.
 
 ghost use Rattle.std.specs.Prelude.{◌≡◌};
-ghost use Rattle.smp_core.specs.Access.{seen_of};
+ghost use Rattle.smp_core.specs.Access.{seen_of, word_of};
 
 use crate::seen::{Act, Note, Seen};
 use crate::word::Word;
@@ -22,6 +22,20 @@ pub enum Access {
 }
 
 impl Access {
+    /// The word that it is made on.
+    pub fn word(self) -> Word
+        ensures { result ≡ word_of self }
+    {
+        match self {
+            Access::Load(word) => word,
+            Access::Store(word, _) => word,
+            Access::Swap(word, _) => word,
+            Access::Exchange(word, _, _) => word,
+            Access::Sub(word) => word,
+            Access::And(word, _) => word,
+        }
+    }
+
     /// The step as it is seen, by what it found.
     pub fn seen(self, cpu: u32, found: u64, note: Option<Note>) -> Seen
         ensures { result ≡ seen_of cpu self found note }

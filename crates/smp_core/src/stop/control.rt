@@ -1,0 +1,1 @@
+//! Where a CPU stands in the stop half.
