@@ -1,8 +1,8 @@
 -- The steps of the commands of the stop half, one after another.
 use Rattle.std.specs.Int.{w32, cast_signed}
-use Rattle.std.specs.Prelude.{ℕ, ◌+◌, ◌-◌, ◌*◌, ◌%◌, ◌^◌, Bool, true, false, ◌==◌, ◌&&◌, ◌||◌, if◌then◌else◌, Option, Some, None, List, [], ◌∷◌, ◌++◌, length}
+use Rattle.std.specs.Prelude.{ℕ, ◌+◌, ◌-◌, ◌*◌, ◌%◌, ◌^◌, ◌<◌, ◌≤◌, Bool, true, false, ◌==◌, ◌&&◌, ◌||◌, if◌then◌else◌, Option, Some, None, List, [], ◌∷◌, ◌++◌, length}
 use Rattle.smp_mask.specs.Mask.{has}
-use Rattle.smp_labels.specs.Entries.{entry_at}
+use Rattle.smp_labels.specs.Entries.{entry_at, IsEntryWord}
 use Rattle.smp_labels.specs.Keys.{is_on}
 use Rattle.smp_labels.specs.Plans.{site_change}
 use Rattle.smp_labels.specs.declared.patch.Place.{Place}
@@ -204,3 +204,20 @@ stop_outcome me c (ReadSite i) found = stop_ends c (if is_on found then note.Jmp
 abbrev pub answer_at : StopStage → ℕ
 answer_at (Advance v (round.Acknowledge answer ran)) = answer
 answer_at _ = 0
+
+-- the number found fits, and there is room for what it makes
+abbrev pub FitsRound : StopControlValue → Visit → RoundStage → ℕ → Type 0
+FitsRound c v (round.LoadFunc answer) found = found < 2 ^ 16
+FitsRound c v (round.LoadEntry key word site) found = IsEntryWord found × (site < MOST_SITES) × (length c.changes ≤ site + 1)
+FitsRound c v (round.StoreChange made) found = made < length c.changes
+FitsRound c v (round.Acknowledge answer ran) found = v.acked ≤ 3
+FitsRound c v _ found = Unit {0}
+
+abbrev pub FitsCompletion : CompletionStage → ℕ → Type 0
+FitsCompletion (completion.LoadFunc answer) found = found < 2 ^ 16
+FitsCompletion _ found = Unit {0}
+
+abbrev pub FitsStop : StopControlValue → StopStage → ℕ → Type 0
+FitsStop c (Advance v stage) found = FitsRound c v stage found
+FitsStop c (Complete v stage) found = FitsCompletion stage found
+FitsStop c _ found = Unit {0}
