@@ -20,6 +20,8 @@ pub mod Patching
 pub mod Facts
 -- the steps of the commands
 pub mod Bits
+pub mod Weights
+pub mod Changes
 pub mod StageSteps
 pub mod RoundSteps
 pub mod AckSteps

@@ -221,3 +221,17 @@ abbrev pub FitsStop : StopControlValue → StopStage → ℕ → Type 0
 FitsStop c (Advance v stage) found = FitsRound c v stage found
 FitsStop c (Complete v stage) found = FitsCompletion stage found
 FitsStop c _ found = Unit {0}
+
+-- a stage of the source, of who closes a slot, or of a reading
+abbrev pub IsOfSource : StopStage → Type 0
+IsOfSource (Close slot) = Unit {0}
+IsOfSource LoadDone = Unit {0}
+IsOfSource LoadResult = Unit {0}
+IsOfSource (ReadKey k) = Unit {0}
+IsOfSource (ReadSite i) = Unit {0}
+IsOfSource _ = ⊥
+
+-- the store that a patch makes next is one of its changes
+abbrev pub FitsAccess : StopControlValue → StopStage → Type 0
+FitsAccess c (Advance v (round.StoreChange made)) = made < length c.changes
+FitsAccess c _ = Unit {0}

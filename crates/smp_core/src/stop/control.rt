@@ -3,13 +3,19 @@
 ghost use Rattle.std.specs.Prelude.{◌≡◌, ◌<◌, ◌≤◌, ◌^◌, ℕ};
 ghost use Rattle.smp_core.specs.Size.{cpus};
 ghost use Rattle.smp_core.specs.Stops.Stages.{acked_on, begun_next, completion_outcome, entry_on, looked_on, round_outcome, stop_access, stop_ends, stop_goes, stop_outcome, stop_outside, turn_ends, FitsStop, FitsRound, FitsCompletion};
+ghost use Rattle.std.specs.Prelude.{length};
+ghost use Rattle.smp_core.specs.Stops.Slots.{begun_value as value_of_begin};
+ghost use Rattle.smp_core.specs.Stops.Stages.{change_at};
+ghost use Rattle.smp_core.specs.Stops.Stages.{completes_from as first_of_completion, completion_access as access_of_completion, round_access, store_of, visit_acked, FitsAccess, IsOfSource};
 ghost use Rattle.smp_core.specs.Stops.Slots.{kind_at};
 
 use crate::access::Access;
 use crate::seen::Note;
 use crate::stop::field::Field;
+use crate::stop::mask::{has_bit, mask_word, weight};
 use crate::stop::stage::{CompletionStage, RoundStage, StopStage, Visit};
 use crate::stop::work::{Kind, Work};
+use crate::word::Word;
 use arrayvec::ArrayVec;
 use smp_labels::{Entry, MOST_CHANGES, MOST_SITES, Place, is_on, kind_of};
 use std::marker::Model;
@@ -166,14 +172,356 @@ impl StopControl {
             self.end_turn(visit.acked, ran)
         }
     }
+
+    /// An entry was loaded: the change of its site, where that is of the key, and then the next entry or the stores.
+    fn entry_on(&mut self, visit: Visit, key: u16, word: u64, site: u32, found: u64) -> Option<Note>
+        requires { FitsRound self.old visit (RoundStage.LoadEntry key word site) found }
+        ensures note { result ≡ (entry_on self.old visit key word site found).note }
+        ensures control { self.new ≡ (entry_on self.old visit key word site found).control }
+    {
+        if let Some(entry) = Entry::from_word(found)
+            && entry.key == u32::from(key)
+        {
+            let number = kind_of(is_on(word), entry.branch).word();
+            self.changes.push((Place::Site(site), number));
+        }
+        let next = if found == 0 || site as usize + 1 == MOST_SITES {
+            RoundStage::StoreChange { made: 0 }
+        } else {
+            RoundStage::LoadEntry {
+                key,
+                word,
+                site: site + 1,
+            }
+        };
+        self.go_on(StopStage::Advance(visit, next))
+    }
+
+    /// The first load of a patch: nothing is to be done where the key stands as it shall.
+    fn key_on(&mut self, visit: Visit, key: u16, word: u64, found: u64) -> Option<Note>
+        ensures note { result ≡ (round_outcome 0 self.old visit (RoundStage.LoadKey key word) found).note }
+        ensures control { self.new ≡ (round_outcome 0 self.old visit (RoundStage.LoadKey key word) found).control }
+    {
+        self.changes.clear();
+        let next = if found == word {
+            RoundStage::Acknowledge {
+                answer: 0,
+                ran: true,
+            }
+        } else {
+            self.changes.push((Place::Key(u32::from(key)), word));
+            RoundStage::LoadEntry { key, word, site: 0 }
+        };
+        self.go_on(StopStage::Advance(visit, next))
+    }
+
+    /// A store of the patch was made.
+    fn stored_on(&mut self, visit: Visit, made: u32) -> Option<Note>
+        requires { FitsRound self.old visit (RoundStage.StoreChange made) 0 }
+        ensures note { result ≡ (round_outcome 0 self.old visit (RoundStage.StoreChange made) 0).note }
+        ensures control { self.new ≡ (round_outcome 0 self.old visit (RoundStage.StoreChange made) 0).control }
+    {
+        let next = if made as usize + 1 == self.changes.len() {
+            RoundStage::Acknowledge {
+                answer: 0,
+                ran: true,
+            }
+        } else {
+            RoundStage::StoreChange { made: made + 1 }
+        };
+        self.go_on(StopStage::Advance(visit, next))
+    }
+
+    /// The argument was loaded: a function runs now, or a patch begins.
+    fn arg_on(&mut self, visit: Visit, answer: u64, func: u16, found: u64) -> Option<Note>
+        ensures note { result ≡ (round_outcome 0 self.old visit (RoundStage.LoadArg answer func) found).note }
+        ensures control { self.new ≡ (round_outcome 0 self.old visit (RoundStage.LoadArg answer func) found).control }
+    {
+        if visit.kind == Kind::Multi {
+            let next = RoundStage::Acknowledge { answer, ran: true };
+            self.stage = Some(StopStage::Advance(visit, next));
+            return Some(Note::Run(func, found));
+        }
+        let next = RoundStage::LoadKey {
+            key: func,
+            word: found,
+        };
+        self.go_on(StopStage::Advance(visit, next))
+    }
+
+    /// What follows a step of a turn.
+    fn advance_round(
+        &mut self,
+        me: u32,
+        visit: Visit,
+        stage: RoundStage,
+        found: u64,
+    ) -> Option<Note>
+        requires cpu { me < 64 }
+        requires fits { FitsRound self.old visit stage found }
+        ensures note { result ≡ (round_outcome me self.old visit stage found).note }
+        ensures control { self.new ≡ (round_outcome me self.old visit stage found).control }
+    {
+        match stage {
+            RoundStage::Look { answer } => {
+                if found == u64::from(visit.acked) {
+                    self.end(Note::Same)
+                } else {
+                    self.look_on(me, visit, answer, found)
+                }
+            }
+            RoundStage::LoadFunc { answer } => {
+                let func = found as u16;
+                self.go_on(StopStage::Advance(visit, RoundStage::LoadArg { answer, func }))
+            }
+            RoundStage::LoadArg { answer, func } => self.arg_on(visit, answer, func, found),
+            RoundStage::LoadKey { key, word } => self.key_on(visit, key, word, found),
+            RoundStage::LoadEntry { key, word, site } => {
+                self.entry_on(visit, key, word, site, found)
+            }
+            RoundStage::StoreChange { made } => self.stored_on(visit, made),
+            RoundStage::Acknowledge { answer, ran } => {
+                let visit = acked(visit, answer, ran);
+                self.ack_on(visit, ran, found)
+            }
+            RoundStage::Refill { ran } => {
+                self.go_on(StopStage::Advance(visit, RoundStage::Raise { ran }))
+            }
+            RoundStage::Raise { ran } => self.end_turn(visit.acked, ran),
+        }
+    }
+
+    /// What follows a step of a completion.
+    fn advance_completion(
+        &mut self,
+        visit: Visit,
+        stage: CompletionStage,
+        found: u64,
+    ) -> Option<Note>
+        requires { FitsCompletion stage found }
+        ensures note { result ≡ (completion_outcome self.old visit stage found).note }
+        ensures control { self.new ≡ (completion_outcome self.old visit stage found).control }
+    {
+        match stage {
+            CompletionStage::LoadFunc { answer } => {
+                let func = found as u16;
+                let next = CompletionStage::LoadArg { answer, func };
+                self.go_on(StopStage::Complete(visit, next))
+            }
+            CompletionStage::LoadArg { answer, func } => {
+                let visit = Visit { answer, ..visit };
+                self.stage = Some(StopStage::Complete(visit, completes_from(visit)));
+                self.visit = Some(visit);
+                Some(Note::Run(func, found))
+            }
+            CompletionStage::StoreAnswer => {
+                self.go_on(StopStage::Complete(visit, CompletionStage::CountDown))
+            }
+            CompletionStage::CountDown => {
+                self.visit = None;
+                if found == 1 {
+                    self.go_on(StopStage::Close(visit.slot))
+                } else {
+                    self.end(Note::Finished)
+                }
+            }
+        }
+    }
+
+    /// Goes on after the step of this stage, by the number that it found, and tells what that means.
+    pub fn advance(&mut self, me: u32, stage: StopStage, found: u64) -> Option<Note>
+        requires cpu { me < 64 }
+        requires fits { FitsStop self.old stage found }
+        ensures note { result ≡ (stop_outcome me self.old stage found).note }
+        ensures control { self.new ≡ (stop_outcome me self.old stage found).control }
+    {
+        match stage {
+            StopStage::TakeGate => self.end(if found == 0 { Note::Gate } else { Note::Taken }),
+            StopStage::OpenGate => self.end(Note::Open),
+            StopStage::Begin(work, field) => self.begin_next(work, field),
+            StopStage::Enter(slot) => {
+                if has_bit(found, me) {
+                    self.go_on(StopStage::EnterKind(slot))
+                } else {
+                    self.end(Note::Stale)
+                }
+            }
+            StopStage::EnterKind(slot) => {
+                self.go_on(StopStage::EnterMask(slot, Kind::of_word(found)))
+            }
+            StopStage::EnterMask(slot, kind) => {
+                self.go_on(StopStage::EnterActive(slot, kind, found))
+            }
+            StopStage::EnterActive(slot, kind, mask) => {
+                self.visit = Some(Visit {
+                    slot,
+                    kind,
+                    mask,
+                    active: found,
+                    acked: 0,
+                    answer: 0,
+                });
+                self.end(Note::Entered)
+            }
+            StopStage::Advance(visit, round) => self.advance_round(me, visit, round, found),
+            StopStage::Complete(visit, completion) => {
+                self.advance_completion(visit, completion, found)
+            }
+            _ => self.advance_source(me, stage, found),
+        }
+    }
+
+    /// What follows a step of the source, or a reading.
+    fn advance_source(&mut self, me: u32, stage: StopStage, found: u64) -> Option<Note>
+        requires { IsOfSource stage }
+        ensures note { result ≡ (stop_outcome me self.old stage found).note }
+        ensures control { self.new ≡ (stop_outcome me self.old stage found).control }
+    {
+        let _me = me;
+        match stage {
+            StopStage::LoadDone => {
+                if found == 0 {
+                    self.end(Note::Pending)
+                } else {
+                    self.go_on(StopStage::LoadResult)
+                }
+            }
+            StopStage::LoadResult => {
+                self.is_open = false;
+                self.end(Note::Result(((found % 0x1_0000_0000) as u32).cast_signed()))
+            }
+            StopStage::ReadKey(_) => self.end(if is_on(found) { Note::On } else { Note::Off }),
+            StopStage::ReadSite(_) => self.end(if is_on(found) { Note::Jmp } else { Note::Nop }),
+            _ => self.end(Note::Finished),
+        }
+    }
+
+    /// The access that is made next.
+    pub fn access(&self, me: u32, stage: StopStage) -> Access
+        requires cpu { me < 64 }
+        requires fits { FitsAccess self.now stage }
+        ensures { result ≡ stop_access cpus me self.now.changes stage }
+    {
+        match stage {
+            StopStage::TakeGate => Access::Exchange(Word::Gate, 0, u64::from(me) + 1),
+            StopStage::OpenGate => Access::Store(Word::Gate, 0),
+            StopStage::Begin(work, field) => {
+                Access::Store(Word::Slot(me, field), begun_value(work, field))
+            }
+            StopStage::Enter(slot) => Access::And(Word::Slot(slot, Field::Roll), !(1 << me)),
+            StopStage::EnterKind(slot) => Access::Load(Word::Slot(slot, Field::Kind)),
+            StopStage::EnterMask(slot, _) => Access::Load(Word::Slot(slot, Field::Mask)),
+            StopStage::EnterActive(slot, _, _) => Access::Load(Word::Slot(slot, Field::Active)),
+            StopStage::Advance(visit, round) => self.round_access(visit, round),
+            StopStage::Complete(visit, completion) => completion_access(visit, completion),
+            StopStage::Close(slot) => Access::Store(Word::Slot(slot, Field::Done), 1),
+            StopStage::LoadDone => Access::Load(Word::Slot(me, Field::Done)),
+            StopStage::LoadResult => Access::Load(Word::Slot(me, Field::Result)),
+            StopStage::ReadKey(key) => Access::Load(Word::Key(key)),
+            StopStage::ReadSite(site) => Access::Load(Word::Site(site)),
+        }
+    }
+
+    /// The store of the patch that is made after so many.
+    fn change(&self, made: u32) -> (Place, u64)
+        requires { made < length self.now.changes }
+        ensures { result ≡ change_at self.now.changes made }
+    {
+        self.changes[made as usize]
+    }
+
+    fn round_access(&self, visit: Visit, stage: RoundStage) -> Access
+        requires { FitsAccess self.now (StopStage.Advance visit stage) }
+        ensures { result ≡ round_access cpus self.now.changes visit stage }
+    {
+        let slot = visit.slot;
+        match stage {
+            RoundStage::Look { answer: _ } => Access::Load(Word::Slot(slot, Field::State)),
+            RoundStage::LoadFunc { answer: _ } => Access::Load(Word::Slot(slot, Field::Func)),
+            RoundStage::LoadArg { answer: _, func: _ } => {
+                Access::Load(Word::Slot(slot, Field::Arg))
+            }
+            RoundStage::LoadKey { key, word: _ } => Access::Load(Word::Key(u32::from(key))),
+            RoundStage::LoadEntry {
+                key: _,
+                word: _,
+                site,
+            } => Access::Load(Word::Entry(site)),
+            RoundStage::StoreChange { made } => store(self.change(made)),
+            RoundStage::Acknowledge { answer: _, ran: _ } => {
+                Access::Sub(Word::Slot(slot, Field::Ack))
+            }
+            RoundStage::Refill { ran: _ } => {
+                Access::Store(Word::Slot(slot, Field::Ack), weight(visit.mask))
+            }
+            RoundStage::Raise { ran: _ } => {
+                Access::Store(Word::Slot(slot, Field::State), u64::from(visit.acked) + 1)
+            }
+        }
+    }
 }
 
-/// Whether the bit of a CPU is set.
-fn has_bit(mask: u64, cpu: u32) -> bool
-    requires { cpu < 64 }
-    ensures { result ≡ has mask cpu }
+
+
+/// The visit once the next phase is acknowledged.
+fn acked(visit: Visit, answer: u64, ran: bool) -> Visit
+    requires { visit.acked ≤ 3 }
+    ensures { result ≡ visit_acked visit answer ran }
 {
-    (mask >> cpu) & 1 == 1
+    Visit {
+        acked: visit.acked + 1,
+        answer: if ran { answer } else { visit.answer },
+        ..visit
+    }
 }
 
-ghost use Rattle.smp_mask.specs.Mask.{has};
+/// The first step of a completion with the visit's answer.
+pub fn completes_from(visit: Visit) -> CompletionStage
+    ensures { result ≡ first_of_completion visit }
+{
+    if visit.answer == 0 {
+        CompletionStage::CountDown
+    } else {
+        CompletionStage::StoreAnswer
+    }
+}
+
+fn completion_access(visit: Visit, stage: CompletionStage) -> Access
+    ensures { result ≡ access_of_completion visit stage }
+{
+    let slot = visit.slot;
+    match stage {
+        CompletionStage::LoadFunc { answer: _ } => Access::Load(Word::Slot(slot, Field::Func)),
+        CompletionStage::LoadArg { answer: _, func: _ } => {
+            Access::Load(Word::Slot(slot, Field::Arg))
+        }
+        CompletionStage::StoreAnswer => Access::Store(Word::Slot(slot, Field::Result), visit.answer),
+        CompletionStage::CountDown => Access::Sub(Word::Slot(slot, Field::Todo)),
+    }
+}
+
+/// A store of a patch.
+fn store(change: (Place, u64)) -> Access
+    ensures { result ≡ store_of change }
+{
+    match change.0 {
+        Place::Key(key) => Access::Store(Word::Key(key), change.1),
+        Place::Site(site) => Access::Store(Word::Site(site), change.1),
+    }
+}
+
+/// What begin stores in a field.
+fn begun_value(work: Work, field: Field) -> u64
+    ensures { result ≡ value_of_begin cpus work field }
+{
+    match field {
+        Field::Kind => work.kind.word(),
+        Field::Mask | Field::Roll => mask_word(work.mask),
+        Field::Active => mask_word(work.active),
+        Field::Func => u64::from(work.func),
+        Field::Arg => work.arg,
+        Field::Todo | Field::Ack => weight(mask_word(work.mask)),
+        Field::State => u64::from(work.kind != Kind::One),
+        Field::Result | Field::Done => 0,
+    }
+}

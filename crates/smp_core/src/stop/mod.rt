@@ -3,6 +3,7 @@
 pub mod control;
 pub mod field;
 pub mod laws;
+pub mod mask;
 pub mod stage;
 pub mod table;
 pub mod work;

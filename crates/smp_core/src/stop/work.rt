@@ -1,5 +1,8 @@
 //! What a stop is to do.
 
+ghost use Rattle.std.specs.Prelude.{◌≡◌};
+ghost use Rattle.smp_core.specs.Stops.Slots.{kind_word, kind_at};
+
 use smp_mask::CpuMask;
 
 /// What kind of stop it is.
@@ -12,6 +15,30 @@ pub enum Kind {
     Multi,
     /// As `Multi`; in place of the function, the first CPU changes a key and its sites.
     Patch,
+}
+
+impl Kind {
+    /// The number of the kind, as a slot has it.
+    pub fn word(self) -> u64
+        ensures { result ≡ kind_word self }
+    {
+        match self {
+            Kind::One => 0,
+            Kind::Multi => 1,
+            Kind::Patch => 2,
+        }
+    }
+
+    /// The kind of this number; all but 0 and 1 are of a patch.
+    pub fn of_word(word: u64) -> Kind
+        ensures { result ≡ kind_at word }
+    {
+        match word {
+            0 => Kind::One,
+            1 => Kind::Multi,
+            _ => Kind::Patch,
+        }
+    }
 }
 
 /// What a stop is to do.
