@@ -1,21 +1,17 @@
 //! Where a CPU stands in the stop half: which step it makes next, and what it knows of the stop that it is in.
 
 ghost use Rattle.std.specs.Prelude.{◌≡◌, ◌<◌, ◌≤◌, ◌^◌, ℕ};
-ghost use Rattle.smp_core.specs.Size.{cpus};
-ghost use Rattle.smp_core.specs.Stops.Stages.{acked_on, begun_next, completion_outcome, entry_on, looked_on, round_outcome, stop_access, stop_ends, stop_goes, stop_outcome, stop_outside, turn_ends, FitsStop, FitsRound, FitsCompletion};
+ghost use Rattle.smp_core.specs.Stops.Stages.{acked_on, begun_next, completion_outcome, entry_on, looked_on, round_outcome, stop_ends, stop_goes, stop_outcome, stop_outside, turn_ends, FitsStop, FitsRound, FitsCompletion};
 ghost use Rattle.std.specs.Prelude.{length};
-ghost use Rattle.smp_core.specs.Stops.Slots.{begun_value as value_of_begin};
 ghost use Rattle.smp_core.specs.Stops.Stages.{change_at};
-ghost use Rattle.smp_core.specs.Stops.Stages.{completes_from as first_of_completion, completion_access as access_of_completion, round_access, store_of, visit_acked, FitsAccess, IsOfSource};
+ghost use Rattle.smp_core.specs.Stops.Stages.{IsOfSource};
 ghost use Rattle.smp_core.specs.Stops.Slots.{kind_at};
 
-use crate::access::Access;
 use crate::seen::Note;
 use crate::stop::field::Field;
-use crate::stop::mask::{has_bit, mask_word, weight};
+use crate::stop::mask::has_bit;
 use crate::stop::stage::{CompletionStage, RoundStage, StopStage, Visit};
 use crate::stop::work::{Kind, Work};
-use crate::word::Word;
 use arrayvec::ArrayVec;
 use smp_labels::{Entry, MOST_CHANGES, MOST_SITES, Place, is_on, kind_of};
 use std::marker::Model;
@@ -281,8 +277,7 @@ impl StopControl {
             }
             RoundStage::StoreChange { made } => self.stored_on(visit, made),
             RoundStage::Acknowledge { answer, ran } => {
-                let visit = acked(visit, answer, ran);
-                self.ack_on(visit, ran, found)
+                self.ack_on(visit.acknowledged(answer, ran), ran, found)
             }
             RoundStage::Refill { ran } => {
                 self.go_on(StopStage::Advance(visit, RoundStage::Raise { ran }))
@@ -310,7 +305,7 @@ impl StopControl {
             }
             CompletionStage::LoadArg { answer, func } => {
                 let visit = Visit { answer, ..visit };
-                self.stage = Some(StopStage::Complete(visit, completes_from(visit)));
+                self.stage = Some(StopStage::Complete(visit, visit.completion()));
                 self.visit = Some(visit);
                 Some(Note::Run(func, found))
             }
@@ -372,12 +367,11 @@ impl StopControl {
     }
 
     /// What follows a step of the source, or a reading.
-    fn advance_source(&mut self, me: u32, stage: StopStage, found: u64) -> Option<Note>
+    fn advance_source(&mut self, _me: u32, stage: StopStage, found: u64) -> Option<Note>
         requires { IsOfSource stage }
-        ensures note { result ≡ (stop_outcome me self.old stage found).note }
-        ensures control { self.new ≡ (stop_outcome me self.old stage found).control }
+        ensures note { result ≡ (stop_outcome _me self.old stage found).note }
+        ensures control { self.new ≡ (stop_outcome _me self.old stage found).control }
     {
-        let _me = me;
         match stage {
             StopStage::LoadDone => {
                 if found == 0 {
@@ -396,132 +390,11 @@ impl StopControl {
         }
     }
 
-    /// The access that is made next.
-    pub fn access(&self, me: u32, stage: StopStage) -> Access
-        requires cpu { me < 64 }
-        requires fits { FitsAccess self.now stage }
-        ensures { result ≡ stop_access cpus me self.now.changes stage }
-    {
-        match stage {
-            StopStage::TakeGate => Access::Exchange(Word::Gate, 0, u64::from(me) + 1),
-            StopStage::OpenGate => Access::Store(Word::Gate, 0),
-            StopStage::Begin(work, field) => {
-                Access::Store(Word::Slot(me, field), begun_value(work, field))
-            }
-            StopStage::Enter(slot) => Access::And(Word::Slot(slot, Field::Roll), !(1 << me)),
-            StopStage::EnterKind(slot) => Access::Load(Word::Slot(slot, Field::Kind)),
-            StopStage::EnterMask(slot, _) => Access::Load(Word::Slot(slot, Field::Mask)),
-            StopStage::EnterActive(slot, _, _) => Access::Load(Word::Slot(slot, Field::Active)),
-            StopStage::Advance(visit, round) => self.round_access(visit, round),
-            StopStage::Complete(visit, completion) => completion_access(visit, completion),
-            StopStage::Close(slot) => Access::Store(Word::Slot(slot, Field::Done), 1),
-            StopStage::LoadDone => Access::Load(Word::Slot(me, Field::Done)),
-            StopStage::LoadResult => Access::Load(Word::Slot(me, Field::Result)),
-            StopStage::ReadKey(key) => Access::Load(Word::Key(key)),
-            StopStage::ReadSite(site) => Access::Load(Word::Site(site)),
-        }
-    }
-
     /// The store of the patch that is made after so many.
-    fn change(&self, made: u32) -> (Place, u64)
+    pub fn change(&self, made: u32) -> (Place, u64)
         requires { made < length self.now.changes }
         ensures { result ≡ change_at self.now.changes made }
     {
         self.changes[made as usize]
-    }
-
-    fn round_access(&self, visit: Visit, stage: RoundStage) -> Access
-        requires { FitsAccess self.now (StopStage.Advance visit stage) }
-        ensures { result ≡ round_access cpus self.now.changes visit stage }
-    {
-        let slot = visit.slot;
-        match stage {
-            RoundStage::Look { answer: _ } => Access::Load(Word::Slot(slot, Field::State)),
-            RoundStage::LoadFunc { answer: _ } => Access::Load(Word::Slot(slot, Field::Func)),
-            RoundStage::LoadArg { answer: _, func: _ } => {
-                Access::Load(Word::Slot(slot, Field::Arg))
-            }
-            RoundStage::LoadKey { key, word: _ } => Access::Load(Word::Key(u32::from(key))),
-            RoundStage::LoadEntry {
-                key: _,
-                word: _,
-                site,
-            } => Access::Load(Word::Entry(site)),
-            RoundStage::StoreChange { made } => store(self.change(made)),
-            RoundStage::Acknowledge { answer: _, ran: _ } => {
-                Access::Sub(Word::Slot(slot, Field::Ack))
-            }
-            RoundStage::Refill { ran: _ } => {
-                Access::Store(Word::Slot(slot, Field::Ack), weight(visit.mask))
-            }
-            RoundStage::Raise { ran: _ } => {
-                Access::Store(Word::Slot(slot, Field::State), u64::from(visit.acked) + 1)
-            }
-        }
-    }
-}
-
-
-
-/// The visit once the next phase is acknowledged.
-fn acked(visit: Visit, answer: u64, ran: bool) -> Visit
-    requires { visit.acked ≤ 3 }
-    ensures { result ≡ visit_acked visit answer ran }
-{
-    Visit {
-        acked: visit.acked + 1,
-        answer: if ran { answer } else { visit.answer },
-        ..visit
-    }
-}
-
-/// The first step of a completion with the visit's answer.
-pub fn completes_from(visit: Visit) -> CompletionStage
-    ensures { result ≡ first_of_completion visit }
-{
-    if visit.answer == 0 {
-        CompletionStage::CountDown
-    } else {
-        CompletionStage::StoreAnswer
-    }
-}
-
-fn completion_access(visit: Visit, stage: CompletionStage) -> Access
-    ensures { result ≡ access_of_completion visit stage }
-{
-    let slot = visit.slot;
-    match stage {
-        CompletionStage::LoadFunc { answer: _ } => Access::Load(Word::Slot(slot, Field::Func)),
-        CompletionStage::LoadArg { answer: _, func: _ } => {
-            Access::Load(Word::Slot(slot, Field::Arg))
-        }
-        CompletionStage::StoreAnswer => Access::Store(Word::Slot(slot, Field::Result), visit.answer),
-        CompletionStage::CountDown => Access::Sub(Word::Slot(slot, Field::Todo)),
-    }
-}
-
-/// A store of a patch.
-fn store(change: (Place, u64)) -> Access
-    ensures { result ≡ store_of change }
-{
-    match change.0 {
-        Place::Key(key) => Access::Store(Word::Key(key), change.1),
-        Place::Site(site) => Access::Store(Word::Site(site), change.1),
-    }
-}
-
-/// What begin stores in a field.
-fn begun_value(work: Work, field: Field) -> u64
-    ensures { result ≡ value_of_begin cpus work field }
-{
-    match field {
-        Field::Kind => work.kind.word(),
-        Field::Mask | Field::Roll => mask_word(work.mask),
-        Field::Active => mask_word(work.active),
-        Field::Func => u64::from(work.func),
-        Field::Arg => work.arg,
-        Field::Todo | Field::Ack => weight(mask_word(work.mask)),
-        Field::State => u64::from(work.kind != Kind::One),
-        Field::Result | Field::Done => 0,
     }
 }

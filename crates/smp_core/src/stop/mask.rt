@@ -33,6 +33,7 @@ pub fn weight(mask: u64) -> u64
 pub fn mask_word(mask: CpuMask) -> u64
     ensures { result ≡ mask }
 {
+    // that a mask has no more bits than there are CPUs
     let _members = mask.weight();
     let mut word = 0;
     for cpu in 0..NR_CPUS {

@@ -1,5 +1,8 @@
 //! Where a CPU stands inside a command of the stop half.
 
+ghost use Rattle.std.specs.Prelude.{◌≡◌, ◌≤◌};
+ghost use Rattle.smp_core.specs.Stops.Stages.{completes_from, visit_acked};
+
 use crate::stop::field::Field;
 use crate::stop::work::{Kind, Work};
 
@@ -17,6 +20,31 @@ pub struct Visit {
     pub acked: u32,
     /// What its function has answered, as the result word has it; 0 before, and where it calls none.
     pub answer: u64,
+}
+
+impl Visit {
+    /// The visit once the next phase is acknowledged, with the function's answer where it has run.
+    pub fn acknowledged(self, answer: u64, ran: bool) -> Visit
+        requires { self.acked ≤ 3 }
+        ensures { result ≡ visit_acked self answer ran }
+    {
+        Visit {
+            acked: self.acked + 1,
+            answer: if ran { answer } else { self.answer },
+            ..self
+        }
+    }
+
+    /// The first step of a completion with the visit's answer.
+    pub fn completion(self) -> CompletionStage
+        ensures { result ≡ completes_from self }
+    {
+        if self.answer == 0 {
+            CompletionStage::CountDown
+        } else {
+            CompletionStage::StoreAnswer
+        }
+    }
 }
 
 /// The next step of one turn of `multi_cpu_stop`. `answer` is what the function will answer, `ran` whether the
