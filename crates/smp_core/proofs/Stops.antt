@@ -26,3 +26,5 @@ pub mod StageSteps
 pub mod RoundSteps
 pub mod AckSteps
 pub mod CompletionSteps
+-- a stop table, and the stops of a machine
+pub mod Tables

@@ -22,3 +22,4 @@ pub mod Steps
 pub mod Promises
 -- the words of a stop table
 pub mod Table
+pub mod Value
