@@ -28,3 +28,5 @@ pub mod AckSteps
 pub mod CompletionSteps
 -- a stop table, and the stops of a machine
 pub mod Tables
+pub mod Named
+pub mod Values

@@ -46,7 +46,7 @@ some_is {A} {x} {y} e = cc
 pub ack_small : (n m : ℕ) → m ≤ 64 → n ≤ m → n < 2 ^ 64
 ack_small n m few most = omega arith
 
-change_here : (before : List Change) (change : Change) (rest : List Change) → change_at (before ++ change ∷ rest) (length before) ≡ change
+pub change_here : (before : List Change) (change : Change) (rest : List Change) → change_at (before ++ change ∷ rest) (length before) ≡ change
 change_here [] change rest = refl
 change_here (x ∷ before) change rest =
     ap (λ b. cond b x (change_at (before ++ change ∷ rest) (suc (length before) - 1))) (ne_eqb (suc (length before)) 0 (λ z. omega arith))
