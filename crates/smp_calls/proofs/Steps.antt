@@ -134,6 +134,13 @@ module _ {H : Type 0} (leads : H → Heard → H → Type 0) where
     handled = handles_same leads c (confirms k c) h refl refl refl;
   })
 
+  -- the same after some waiting
+  pub leaves_ended : (old mid new : CpuValue) (before m : H) (k : ℕ) → IsSized old → k < records_of_one → Leaves leads old before mid m [] None (owes_at old) (confirmed_at old) → new ≡ confirms k mid →
+      Leaves leads old before new m [] None (owes_at old) (λ j. j == k || confirmed_at old j)
+  leaves_ended old mid new before m k s l f e =
+      let g = leaves_confirmed mid new m k (sized_moved old mid f.number_is f.sized s) l e in
+      leaves_as (owes_at old) (λ j. j == k || confirmed_at old j) (leaves_then f g) f.owes_are (λ j b. ap (λ x. j == k || x) (f.confirmed_are j b))
+
   -- a call is made directly
   pub leaves_here : (c : CpuValue) (h i : H) (x : Heard) → leads h x i → Leaves leads c h c i [] (Some x) (owes_at c) (confirmed_at c)
   leaves_here c h i x call = record {

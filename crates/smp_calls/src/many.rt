@@ -26,20 +26,16 @@ fn queue_all<A: Allocator, R: Wait, H: Handler, C: Fn(u32, u64) -> bool>(
     me: &mut CallCpu,
     handler: &mut H,
     others: CpuMask,
-    func: u16,
-    info: u64,
+    job: Job,
     cond: &C,
-    wait: bool,
 ) -> CpuMask
     requires table { me.old.table ≡ table.now.table }
     requires sized { IsSized me.old }
     requires online { (c : ℕ) → has others c ≡ true → (has table.now.online c ≡ true) × (c ≢ me.old.number) }
-    requires condition { (c : ℕ) → c < cpus → C.pre cond.now c info }
-    ensures picks { Picks (λ c answer. C.post cond.now c info answer) (has others) result }
-    ensures calls { CallsMany H.leads me.old handler.old me.new handler.new (members result) (class_in wait) func info None false }
+    requires condition { (c : ℕ) → c < cpus → C.pre cond.now c job.info }
+    ensures picks { Picks (λ c answer. C.post cond.now c job.info answer) (has others) result }
+    ensures calls { CallsMany H.leads me.old handler.old me.new handler.new (members result) job.class job.func job.info None false }
 {
-    let class = class_for(wait);
-    let job = Job { class, func, info };
     let (called, owed) = queue_each(table, rt, me, handler, others, job, cond);
     send_each(table, me, owed);
     called
@@ -113,17 +109,9 @@ pub fn call_many<A: Allocator, R: Wait, H: Handler>(
     ensures calls { CallsMany H.leads me.old handler.old me.new handler.new (members result) (class_in wait) func info None wait }
 {
     let others = targets(mask, table.online(), me.number(), false);
-    let called = queue_all(
-        table,
-        rt,
-        me,
-        handler,
-        others,
-        func,
-        info,
-        &|_, _| true,
-        wait,
-    );
+    let class = class_for(wait);
+    let job = Job { class, func, info };
+    let called = queue_all(table, rt, me, handler, others, job, &|_, _| true);
     wait_all(table, rt, me, handler, called, wait);
     others
 }
@@ -150,7 +138,9 @@ pub fn each_cpu_cond<A: Allocator, R: Wait, H: Handler, C: Fn(u32, u64) -> bool>
 {
     let this = me.number();
     let others = targets(mask, table.online(), this, false);
-    let called = queue_all(table, rt, me, handler, others, func, info, cond, wait);
+    let class = class_for(wait);
+    let job = Job { class, func, info };
+    let called = queue_all(table, rt, me, handler, others, job, cond);
     let here = runs_here(mask, this, info, cond);
     call_if(handler, this, func, info, here);
     wait_all(table, rt, me, handler, called, wait);

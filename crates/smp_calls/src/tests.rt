@@ -110,9 +110,16 @@ impl<'a> Driver<'a> {
         )
     }
 
-    /// Calls the CPUs with even numbers.
-    fn even<R: Wait>(&mut self, rt: &R, mask: CpuMask, func: u16, wait: bool) -> CpuMask {
-        let cond = |cpu: u32, _: u64| cpu % 2 == 0;
+    fn each<R: Wait, C: Fn(u32, u64) -> bool>(
+        &mut self,
+        rt: &R,
+        mask: CpuMask,
+        func: u16,
+        cond: &C,
+        wait: bool,
+    ) -> CpuMask
+        requires { C.IsAlwaysCallable cond.now }
+    {
         each_cpu_cond(
             self.table,
             rt,
@@ -121,7 +128,7 @@ impl<'a> Driver<'a> {
             mask,
             func,
             6,
-            &cond,
+            cond,
             wait,
         )
     }
@@ -241,8 +248,7 @@ fn the_condition_is_asked_of_the_others_and_then_of_this_cpu(rt: HostRuntime) ->
         );
         cpu % 2 == 0
     };
-    let (cpu, heard) = (&mut two.cpu, &mut two.heard);
-    let called = each_cpu_cond(&table, &rt, cpu, heard, all, 1, 6, &cond, false);
+    let called = two.each(&rt, all, 1, &cond, false);
     assert!(rt; called == "0,2,4,6".parse()?);
     assert_eq!(rt; asked.load(Ordering::SeqCst), 901_345_672);
     assert_eq!(rt;

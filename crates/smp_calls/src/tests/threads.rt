@@ -59,7 +59,7 @@ fn call_all<R: Wait>(driver: &mut Driver, rt: &R, all: CpuMask) -> Result<(), Sm
     let next = if this + 1 < CPUS { this + 1 } else { 0 };
     driver.any(rt, CpuMask::of(next)?, 3, true)?;
     driver.many(rt, all, 4, true);
-    driver.even(rt, all, 5, true);
+    driver.each(rt, all, 5, &|cpu, _| cpu % 2 == 0, true);
     repeat_by_user(driver, rt, next);
     Ok(())
 }

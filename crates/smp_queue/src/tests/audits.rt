@@ -12,7 +12,7 @@ use std::alloc::Global;
 use std::test::*;
 
 /// A CPU that the table gives out. All CPUs that are left sit at that table.
-fn seat(
+pub(super) fn seat(
     table: &CallTable<Global>,
     boot: &mut Boot<Global>,
     number: u32,

@@ -3,6 +3,7 @@
 ghost use Rattle.std.specs.Prelude.{◌≡◌};
 ghost use Rattle.smp_queue.specs.declared.handler.Heard.{Heard};
 
+use super::audits::seat;
 use super::*;
 
 /// Writes down the calls that it hears.
@@ -106,6 +107,27 @@ fn a_record_is_busy_until_its_call_has_run(rt: HostRuntime) -> Result<(), Fail> 
     Ok(())
 }
 
+#[test]
+fn a_table_is_drained_once_its_call_has_run(rt: HostRuntime) -> Result<(), Fail> {
+    let (table, mut boot) = CallTable::new(rt.alloc(), 2, "0-1".parse()?)?;
+    let mut zero = seat(&table, &mut boot, 0)?;
+    let mut one = seat(&table, &mut boot, 1)?;
+    let mut heard = Recorder::new(rt.alloc());
+    let owed = table.post_within(&mut zero, 1, 1, Class::Async, 7, 9, 1);
+    assert_eq!(rt; (owed, table.send(&mut zero, 1)), (Ok(true), Ok(())));
+    assert_eq!(rt; table.handle(&mut one, &mut heard), handled(1));
+    assert_eq!(rt; table.handle(&mut one, &mut heard), IDLE);
+    assert!(rt; heard.has_heard(&[(0, 7, 9)]));
+    let mut tally = Tally {
+        queued: [[0; 8]; 8],
+        ran: [[0; 8]; 8],
+    };
+    tally.queued[0][1] = 1;
+    tally.ran[1][0] = 1;
+    assert_eq!(rt; table.audit(one), Audit::Drained(tally));
+    Ok(())
+}
+
 /// Asks, whenever it hears a call, whether the record of that call is done.
 #[derive(Drop)]
 struct Asker<'a> {
@@ -204,9 +226,11 @@ fn post_to_all(mut cpu: Driver, number: u32, right: &AtomicU64) {
     }
 }
 
-/// Lets four CPUs of a new table post to each other: how many of them saw what they should.
-fn all_to_all<R: Wait + Threads>(rt: &R, alloc: Global) -> Result<u64, Fail> {
-    let (table, mut boot) = CallTable::new(alloc, 4, "0-3".parse()?)?;
+/// Lets four CPUs of a new table post to each other: how many of them saw what they should, and the audit with
+/// a fifth CPU.
+fn all_to_all<R: Wait + Threads>(rt: &R, alloc: Global) -> Result<(u64, Audit), Fail> {
+    let (table, mut boot) = CallTable::new(alloc, 5, "0-4".parse()?)?;
+    let last = seat(&table, &mut boot, 4)?;
     let shared = AtomicU64::new(0);
     let right = &shared;
     let zero = drive(&table, &mut boot, 0)?;
@@ -217,14 +241,37 @@ fn all_to_all<R: Wait + Threads>(rt: &R, alloc: Global) -> Result<u64, Fail> {
         let _ = scope.spawn(move || post_to_all(zero, 0, right));
         let _ = scope.spawn(move || post_to_all(one, 1, right));
         let _ = scope.spawn(move || post_to_all(two, 2, right));
-        let _ = scope.spawn(move || post_to_all(three, 3, right));
+        post_to_all(three, 3, right);
     });
-    Ok(right.load(Ordering::SeqCst))
+    let count = right.load(Ordering::SeqCst);
+    Ok((count, table.audit(last)))
 }
 
 #[test]
 fn four_threads_post_to_each_other(rt: HostRuntime) -> Result<(), Fail> {
-    assert_eq!(rt; all_to_all(&rt, rt.alloc())?, 4);
+    let (right, audit) = all_to_all(&rt, rt.alloc())?;
+    assert_eq!(rt; right, 4);
+    // Each of CPUs 0 to 3 has queued 100 calls for each other of them.
+    let row = |cpu: usize| {
+        let mut row = [100, 100, 100, 100, 0, 0, 0, 0];
+        row[cpu % 8] = 0;
+        row
+    };
+    let pairs = [
+        row(0),
+        row(1),
+        row(2),
+        row(3),
+        [0; 8],
+        [0; 8],
+        [0; 8],
+        [0; 8],
+    ];
+    let tally = Tally {
+        queued: pairs,
+        ran: pairs,
+    };
+    assert_eq!(rt; audit, Audit::Drained(tally));
     Ok(())
 }
 
@@ -259,10 +306,10 @@ fn all_to_one<R: Wait + Threads>(rt: &R, alloc: Global) -> Result<u64, Fail> {
     let two = drive(&table, &mut boot, 2)?;
     let three = drive(&table, &mut boot, 3)?;
     thread::scope(thread::scope_env(), rt, |scope| {
-        let _ = scope.spawn(move || handle_all(zero, right));
         let _ = scope.spawn(move || post_to_zero(one, right));
         let _ = scope.spawn(move || post_to_zero(two, right));
         let _ = scope.spawn(move || post_to_zero(three, right));
+        handle_all(zero, right);
     });
     Ok(right.load(Ordering::SeqCst))
 }

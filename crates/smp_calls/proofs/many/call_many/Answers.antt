@@ -1,8 +1,8 @@
 use Rattle.std.proofs.Common.{◌≡◌, ◌<◌, ℕ, List, true, None, subst, rules}
 use Rattle.smp_mask.specs.Mask.{has, members}
 use Rattle.smp_mask.specs.declared.mask.TheConstants.{NR_CPUS}
+use Rattle.smp_core.specs.declared.call.Class.{Class}
 use Rattle.smp_calls.specs.Families.{CallsMany}
-use Rattle.smp_calls.specs.Records.{class_for}
 use Rattle.smp_calls.proofs.Parts.{all_called, calls_waited_for}
 use Rattle.smp_calls.proofs.many.call_many.Goals as goal
 
@@ -10,6 +10,6 @@ pub returns-clause-calls : goal.returns-clause-calls
 returns-clause-calls g c =
     let picks = c.queue_all-called.ensures.picks in
     let every : (x : ℕ) → x < NR_CPUS → has c.targets-others.result x ≡ true → has c.queue_all-called.result x ≡ true = λ x l o. let said = picks.answered x l o in search rules in
-    subst (λ (to : List ℕ). CallsMany g.H.Handler.leads c.args.me.now c.args.handler.now c.wait_all.new.me c.wait_all.new.handler to (class_for c.args.wait) c.args.func c.args.info None c.args.wait)
-    (all_called c.targets-others.result c.queue_all-called.result picks.among every)
-    (calls_waited_for g.H.Handler.leads (class_for c.args.wait) c.args.func c.args.info (members c.queue_all-called.result) None c.args.wait c.queue_all-called.ensures.calls c.wait_all.ensures)
+    subst (λ (class : Class). CallsMany g.H.Handler.leads c.args.me.now c.args.handler.now c.wait_all.new.me c.wait_all.new.handler (members c.targets-others.result) class c.args.func c.args.info None c.args.wait) c.class_for-class.ensures
+    (subst (λ (to : List ℕ). CallsMany g.H.Handler.leads c.args.me.now c.args.handler.now c.wait_all.new.me c.wait_all.new.handler to c.class_for-class.result c.args.func c.args.info None c.args.wait) (all_called c.targets-others.result c.queue_all-called.result picks.among every)
+    (calls_waited_for g.H.Handler.leads c.class_for-class.result c.args.func c.args.info (members c.queue_all-called.result) None c.args.wait c.queue_all-called.ensures.calls c.wait_all.ensures))

@@ -1,5 +1,6 @@
 use Rattle.std.proofs.Common.{◌≡◌, ℕ, Bool, List, Option, true, false, cond, Some, None, sym, subst}
 use Rattle.smp_mask.specs.Mask.{has, members}
+use Rattle.smp_core.specs.declared.call.Class.{Class}
 use Rattle.smp_queue.specs.Handling.{heard}
 use Rattle.smp_queue.specs.declared.handler.Heard.{Heard}
 use Rattle.smp_calls.specs.Families.{CallsMany}
@@ -23,8 +24,10 @@ returns-clause-calls g c =
     let here = c.runs_here-here.result in
     let out : has called this ≡ false = not_called c.args.mask c.online.result this c.targets-others.result called c.targets-others.ensures c.queue_all-called.ensures.picks.among in
     let direct : Option Heard = cond here (Some (heard this c.args.func c.args.info)) None in
-    let made = calls_waited_for g.H.Handler.leads (class_for c.args.wait) c.args.func c.args.info (members called) direct c.args.wait
-    (calls_then_here g.H.Handler.leads (class_for c.args.wait) c.args.func c.args.info (members called) direct c.queue_all-called.ensures.calls c.call_if.ensures) c.wait_all.ensures in
-    subst (λ (n : ℕ). CallsMany g.H.Handler.leads c.args.me.now c.args.handler.now c.wait_all.new.me c.wait_all.new.handler (remote n c.with_if.result) (class_for c.args.wait) c.args.func c.args.info (cond (has c.with_if.result n) (Some (heard n c.args.func c.args.info)) None) c.args.wait) c.number-this.ensures.number
-    (subst (λ (b : Bool). CallsMany g.H.Handler.leads c.args.me.now c.args.handler.now c.wait_all.new.me c.wait_all.new.handler (remote this c.with_if.result) (class_for c.args.wait) c.args.func c.args.info (cond b (Some (heard this c.args.func c.args.info)) None) c.args.wait) (sym (called_here this called c.with_if.result here c.with_if.ensures out))
-    (subst (λ (to : List ℕ). CallsMany g.H.Handler.leads c.args.me.now c.args.handler.now c.wait_all.new.me c.wait_all.new.handler to (class_for c.args.wait) c.args.func c.args.info direct c.args.wait) (others_called this called c.with_if.result here c.with_if.ensures out) made))
+    let made = calls_waited_for g.H.Handler.leads c.class_for-class.result c.args.func c.args.info (members called) direct c.args.wait
+      (calls_then_here g.H.Handler.leads c.class_for-class.result c.args.func c.args.info (members called) direct c.queue_all-called.ensures.calls c.call_if.ensures) c.wait_all.ensures in
+    let Made = λ (to : List ℕ) (class : Class) (heard : Option Heard). CallsMany g.H.Handler.leads c.args.me.now c.args.handler.now c.wait_all.new.me c.wait_all.new.handler to class c.args.func c.args.info heard c.args.wait in
+    subst (λ (n : ℕ). Made (remote n c.with_if.result) (class_for c.args.wait) (cond (has c.with_if.result n) (Some (heard n c.args.func c.args.info)) None)) c.number-this.ensures.number
+    (subst (λ (class : Class). Made (remote this c.with_if.result) class (cond (has c.with_if.result this) (Some (heard this c.args.func c.args.info)) None)) c.class_for-class.ensures
+    (subst (λ (b : Bool). Made (remote this c.with_if.result) c.class_for-class.result (cond b (Some (heard this c.args.func c.args.info)) None)) (sym (called_here this called c.with_if.result here c.with_if.ensures out))
+    (subst (λ (to : List ℕ). Made to c.class_for-class.result direct) (others_called this called c.with_if.result here c.with_if.ensures out) made)))
