@@ -30,3 +30,4 @@ pub mod CompletionSteps
 pub mod Tables
 pub mod Named
 pub mod Values
+pub mod Made

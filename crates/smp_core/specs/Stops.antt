@@ -23,3 +23,4 @@ pub mod Promises
 -- the words of a stop table
 pub mod Table
 pub mod Value
+pub mod Machine

@@ -4,6 +4,7 @@ pub mod accesses;
 pub mod control;
 pub mod field;
 pub mod laws;
+pub mod machine;
 pub mod mask;
 pub mod stage;
 pub mod table;
