@@ -2,11 +2,12 @@
 use Rattle.std.proofs.Common.{◌≡◌, ℕ, ◌<◌, ◌≤◌, Bool, true, false, ◌==◌, nat_lt, cond, Option, Some, None, List, length, refl, ap, arith}
 use Rattle.std.proofs.lemmas.List.{get_or-set_same, get_or-set_other, get_or_past, length-set}
 use Rattle.std.proofs.lemmas.Bool.{ltb-true, ltb-false}
+use Rattle.std.specs.Int.Bits.{bit_and}
 use Rattle.std.specs.Prelude.{slice_set}
 use Rattle.smp_core.specs.Size.{cpus, table_size}
 use Rattle.smp_core.specs.Put.{put, put_word}
 use Rattle.smp_core.specs.Layout.{index_of, number_in, put_in, put_at}
-use Rattle.smp_core.specs.Access.{word_of, at_after, words_after, seen_of}
+use Rattle.smp_core.specs.Access.{word_of, one_less, at_after, words_after, seen_of}
 use Rattle.smp_core.specs.Calls.{CallState, tells}
 use Rattle.smp_core.specs.Stages.{ControlValue, access_of, outcome_of, control_after}
 use Rattle.smp_core.specs.Value.{ValuesShow, control_of, outside}
@@ -16,7 +17,7 @@ use Rattle.smp_core.proofs.Links.{HasIndex, number_in-put_in}
 use Rattle.smp_core.proofs.Puts.{at_test}
 use Rattle.smp_core.specs.declared.word.Word.{Word}
 use Rattle.smp_core.specs.declared.access.Access.{Access}
-use Rattle.smp_core.specs.declared.access.Access.TheVariants.{Load, Store, Swap, Exchange}
+use Rattle.smp_core.specs.declared.access.Access.TheVariants.{Load, Store, Swap, Exchange, Sub, And}
 use Rattle.smp_core.specs.declared.seen.Seen.{Seen}
 use Rattle.smp_core.specs.declared.stage.Stage.{Stage}
 
@@ -31,6 +32,8 @@ words_by_name words (Load w) l h = refl
 words_by_name words (Store w n) l h = number_in-put_in words w n l h
 words_by_name words (Swap w n) l h = number_in-put_in words w n l h
 words_by_name words (Exchange w expected n) l h = words_if words w n (number_in words w == expected) l h
+words_by_name words (Sub w) l h = number_in-put_in words w (one_less (number_in words w)) l h
+words_by_name words (And w n) l h = number_in-put_in words w (bit_and (number_in words w) n) l h
 
 length-put_at : (words : List ℕ) (i : Option ℕ) (n : ℕ) → length (put_at words i n) ≡ length words
 length-put_at words None n = refl
@@ -46,6 +49,8 @@ length-words_after words (Load w) = refl
 length-words_after words (Store w n) = length-put_at words (index_of w) n
 length-words_after words (Swap w n) = length-put_at words (index_of w) n
 length-words_after words (Exchange w expected n) = length_if (number_in words w == expected) w n words
+length-words_after words (Sub w) = length-put_at words (index_of w) (one_less (number_in words w))
+length-words_after words (And w n) = length-put_at words (index_of w) (bit_and (number_in words w) n)
 
 set_control : (controls : List ControlValue) (me : ℕ) (x : ControlValue) → length controls ≡ cpus → me < cpus → (j : ℕ) → control_of (slice_set controls me x) j ≡ put (control_of controls) me x j
 set_control controls me x l m j = at_test j me (λ b. control_of (slice_set controls me x) j ≡ cond b x (control_of controls j))

@@ -30,11 +30,13 @@ pub mod QueueChains
 pub mod Replays
 pub mod Restages
 pub mod Rows
+pub mod SameWords
 pub mod Sending
 pub mod Short
 pub mod Sizes
 pub mod Starts
 pub mod StepShows
+pub mod Stops
 pub mod Taking
 pub mod Tallies
 pub mod Turns

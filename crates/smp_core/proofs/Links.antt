@@ -6,6 +6,7 @@ use Rattle.std.proofs.lemmas.Bool.{eqb-true, eq-eqb, ltb-true, and_parts, and_fr
 use Rattle.smp_core.specs.Size.{cpus, records, table_size}
 use Rattle.smp_core.specs.Put.{put_word, same_word}
 use Rattle.smp_core.specs.Layout.{index_of, number_in, number_at, put_in, put_at, cpu_word, pair_word, record_word}
+use Rattle.smp_core.proofs.SameWords.{same_word-true, same_word-itself}
 use Rattle.smp_core.specs.declared.size.TheConstants.{NR_CPUS, RECORDS, WORDS_OF_ONE, HEADS, INTRS, HANDS, QUEUED, RAN, FLAGS, FUNCS, INFOS, NEXTS}
 use Rattle.smp_core.specs.declared.word.Word.{Word}
 use Rattle.smp_core.specs.declared.word.Word.TheVariants.{Head, Intr, Hand, Queued, Ran, Flags, Func, Info, Next}
@@ -35,6 +36,7 @@ Reads (Flags r) i = (r < RECORDS) × (FLAGS + WORDS_OF_ONE * r ≡ i)
 Reads (Func r) i = (r < RECORDS) × (FUNCS + WORDS_OF_ONE * r ≡ i)
 Reads (Info r) i = (r < RECORDS) × (INFOS + WORDS_OF_ONE * r ≡ i)
 Reads (Next r) i = (r < RECORDS) × (NEXTS + WORDS_OF_ONE * r ≡ i)
+Reads _ i = ⊥
 
 some_is : (a b : ℕ) → Some a ≡ Some b → a ≡ b
 some_is a b e = cc
@@ -65,6 +67,7 @@ index_reads (Flags r) i e = record_reads FLAGS r i e
 index_reads (Func r) i e = record_reads FUNCS r i e
 index_reads (Info r) i e = record_reads INFOS r i e
 index_reads (Next r) i e = record_reads NEXTS r i e
+index_reads _ i e = cc
 
 -- the tests of word_at, for a number of a later kind
 record Past (i : ℕ) : Type 0 where
@@ -128,6 +131,7 @@ word_at-reads (Flags r) i p = record_at i r 0 (omega arith) (omega arith)
 word_at-reads (Func r) i p = record_at i r 1 (omega arith) (omega arith)
 word_at-reads (Info r) i p = record_at i r 2 (omega arith) (omega arith)
 word_at-reads (Next r) i p = record_at i r 3 (omega arith) (omega arith)
+word_at-reads _ i p = absurd p
 
 -- the word that has a word's number is that word
 pub word_at-index : (w : Word) (i : ℕ) → index_of w ≡ Some i → word_at i ≡ w
@@ -136,29 +140,6 @@ word_at-index w i e = word_at-reads w i (index_reads w i e)
 -- a number has one name
 pub one_word : (u w : Word) (i : ℕ) → index_of u ≡ Some i → index_of w ≡ Some i → u ≡ w
 one_word u w i e f = sym (word_at-index u i e) ∙ word_at-index w i f
-
-same_word-true : (u w : Word) → same_word u w ≡ true → u ≡ w
-same_word-true (Head c) (Head c') e = let x = eqb-true c c' e in cc
-same_word-true (Intr c) (Intr c') e = let x = eqb-true c c' e in cc
-same_word-true (Hand c) (Hand c') e = let x = eqb-true c c' e in cc
-same_word-true (Queued s d) (Queued s' d') e = let p = and_parts (s == s') (d == d') e in let x = eqb-true s s' p.0 in let y = eqb-true d d' p.1 in cc
-same_word-true (Ran s d) (Ran s' d') e = let p = and_parts (s == s') (d == d') e in let x = eqb-true s s' p.0 in let y = eqb-true d d' p.1 in cc
-same_word-true (Flags r) (Flags r') e = let x = eqb-true r r' e in cc
-same_word-true (Func r) (Func r') e = let x = eqb-true r r' e in cc
-same_word-true (Info r) (Info r') e = let x = eqb-true r r' e in cc
-same_word-true (Next r) (Next r') e = let x = eqb-true r r' e in cc
-same_word-true _ _ e = cc
-
-same_word-itself : (w : Word) → same_word w w ≡ true
-same_word-itself (Head c) = eq-eqb c c refl
-same_word-itself (Intr c) = eq-eqb c c refl
-same_word-itself (Hand c) = eq-eqb c c refl
-same_word-itself (Queued s d) = and_from (s == s) (d == d) (eq-eqb s s refl) (eq-eqb d d refl)
-same_word-itself (Ran s d) = and_from (s == s) (d == d) (eq-eqb s s refl) (eq-eqb d d refl)
-same_word-itself (Flags r) = eq-eqb r r refl
-same_word-itself (Func r) = eq-eqb r r refl
-same_word-itself (Info r) = eq-eqb r r refl
-same_word-itself (Next r) = eq-eqb r r refl
 
 other_index : (u w : Word) (i : ℕ) → same_word u w ≡ false → index_of w ≡ Some i → index_of u ≢ Some i
 other_index u w i s e f =
@@ -195,6 +176,7 @@ IsInTable (Flags r) = r < records
 IsInTable (Func r) = r < records
 IsInTable (Info r) = r < records
 IsInTable (Next r) = r < records
+IsInTable _ = ⊥
 
 of_cpu : (base c : ℕ) → c < cpus → cpu_word base c ≡ Some (base + c)
 of_cpu base c l = rw (lt-ltb c cpus l) refl
@@ -216,6 +198,7 @@ in_table (Flags r) l = record { index = FLAGS + WORDS_OF_ONE * r; below = omega 
 in_table (Func r) l = record { index = FUNCS + WORDS_OF_ONE * r; below = omega arith; is_index = of_record FUNCS r l }
 in_table (Info r) l = record { index = INFOS + WORDS_OF_ONE * r; below = omega arith; is_index = of_record INFOS r l }
 in_table (Next r) l = record { index = NEXTS + WORDS_OF_ONE * r; below = omega arith; is_index = of_record NEXTS r l }
+in_table _ l = absurd l
 
 -- no queue begins at a CPU that there cannot be
 pub no_head : (words : List ℕ) (cpu : ℕ) → cpus ≤ cpu → number_in words (Head cpu) ≡ 0
@@ -231,6 +214,7 @@ below_end (Flags r) i p = omega arith
 below_end (Func r) i p = omega arith
 below_end (Info r) i p = omega arith
 below_end (Next r) i p = omega arith
+below_end _ i p = absurd p
 
 -- a word's number is in the table
 pub index_below : (w : Word) (i : ℕ) → index_of w ≡ Some i → i < table_size

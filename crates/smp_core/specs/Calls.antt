@@ -237,6 +237,7 @@ told a me act (Intr to) found put = intr_told a me to act
 told a me act (Hand cpu) found put = hand_told a me put
 told a me act (Ran by from) found put = counts a me (a.running me)
 told a me act (Next id) found put = links a me (a.held me) put
+told a me act _ found put = a
 
 -- the calls after a step that was seen
 abbrev pub tells : CallState → Seen → CallState

@@ -16,7 +16,7 @@ pair_word base row column = if nat_lt row NR_CPUS && nat_lt column NR_CPUS then 
 abbrev pub record_word : ℕ → ℕ → Option ℕ
 record_word base r = if nat_lt r RECORDS then Some (base + WORDS_OF_ONE * r) else None
 
--- the number of a word; none where there is no such CPU or record
+-- the number of a word; none where there is no such CPU or record, and for a word of the stop table
 abbrev pub index_of : Word → Option ℕ
 index_of (Head cpu) = cpu_word HEADS cpu
 index_of (Intr cpu) = cpu_word INTRS cpu
@@ -27,6 +27,7 @@ index_of (Flags r) = record_word FLAGS r
 index_of (Func r) = record_word FUNCS r
 index_of (Info r) = record_word INFOS r
 index_of (Next r) = record_word NEXTS r
+index_of _ = None
 
 -- the number at an index; 0 where there is none
 abbrev pub number_at : List ℕ → Option ℕ → ℕ

@@ -29,3 +29,5 @@ pub mod Counts
 -- what a CPU knows
 pub mod Known
 pub mod Handling
+-- the stop half
+pub mod Stops

@@ -22,6 +22,7 @@ pub mod seen;
 pub mod size;
 pub mod stage;
 pub mod start;
+pub mod stop;
 pub mod table;
 pub mod word;
 
@@ -32,6 +33,8 @@ pub use events::{Replayed, replay};
 pub use machine::Core;
 pub use place::RecPlace;
 pub use seen::{Act, Note, Seen};
+pub use stop::field::Field;
+pub use stop::work::{Kind, Work};
 pub use word::{Word, call_index};
 
 #[cfg(test)]

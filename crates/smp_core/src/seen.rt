@@ -8,6 +8,10 @@ pub enum Act {
     Load,
     Store,
     Swap,
+    /// Takes 1 away.
+    Sub,
+    /// Keeps some of the bits.
+    And,
     Cas,
 }
 
@@ -36,6 +40,42 @@ pub enum Note {
     Call(u32, u16, u64),
     /// The batch has run: how many calls.
     Handled(u32),
+    /// The gate is this CPU's.
+    Gate,
+    /// Somebody holds the gate.
+    Taken,
+    /// The gate is given up.
+    Open,
+    /// The stop is open.
+    Begun,
+    /// This CPU may not enter that slot now.
+    Stale,
+    /// This CPU is in the stop.
+    Entered,
+    /// There is no new phase.
+    Same,
+    /// This phase is acknowledged.
+    Moved(u32),
+    /// After this step the stop function runs: function, argument.
+    Run(u16, u64),
+    /// Phase 3 is acknowledged, by an active CPU.
+    Ran,
+    /// Phase 4 is acknowledged, and interrupts are on.
+    Left,
+    /// This CPU has completed, and is in no stop.
+    Finished,
+    /// Not all have completed.
+    Pending,
+    /// The stop is collected: its result.
+    Result(i32),
+    /// The key is on.
+    On,
+    /// The key is off.
+    Off,
+    /// The site goes on.
+    Nop,
+    /// The site jumps.
+    Jmp,
 }
 
 /// One atomic step: what CPU `cpu` did to `word`, what it found there and what it put. A store has no

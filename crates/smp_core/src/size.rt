@@ -41,6 +41,12 @@ pub const NEXTS: usize = FLAGS + 3;
 /// The words of the call table.
 pub const WORDS: usize = FLAGS + WORDS_OF_ONE * RECORDS as usize;
 
+/// The words of one rendezvous slot.
+pub const FIELDS: usize = 11;
+
+/// The words of all rendezvous slots: one slot for each CPU.
+pub const SLOT_WORDS: usize = FIELDS * NR_CPUS as usize;
+
 /// The record of this source with this local number.
 pub fn record_of(source: u32, local: u32) -> u32
     requires source { source < cpus }

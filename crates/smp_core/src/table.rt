@@ -53,5 +53,15 @@ pub fn perform(words: &mut [u64], access: Access) -> u64
             }
             found
         }
+        Access::Sub(word) => {
+            let found = read(words, word);
+            write(words, word, found.wrapping_sub(1));
+            found
+        }
+        Access::And(word, number) => {
+            let found = read(words, word);
+            write(words, word, found & number);
+            found
+        }
     }
 }

@@ -1,4 +1,4 @@
-//! The words of the call table, by name and by number.
+//! The words of both tables, by name, and those of the call table by number.
 
 ghost use Rattle.std.specs.Prelude.{◌≡◌, ◌<◌, ◌≤◌};
 ghost use Rattle.smp_core.specs.Layout.{index_of, cpu_word, pair_word, record_word};
@@ -7,8 +7,10 @@ use crate::size::{
     FLAGS, FUNCS, HANDS, HEADS, INFOS, INTRS, NEXTS, NR_CPUS, QUEUED, RAN, RECORDS, WORDS,
     WORDS_OF_ONE,
 };
+use crate::stop::field::Field;
 
-/// A word of the call table, by its name. CPUs and records are numbers.
+/// A word, by its name: those up to `Next` are of the call table, the others of the stop table. CPUs, records,
+/// keys and sites are numbers.
 #[derive(Clone, Copy, Debug, PartialEq, Eq)]
 pub enum Word {
     /// The newest record of this CPU's queue + 1, or 0 (`call_single_queue`).
@@ -29,9 +31,20 @@ pub enum Word {
     Info(u32),
     /// The record queued before this one + 1, or 0 (`llist_node.next`).
     Next(u32),
+    /// The holder of the gate that orders all stops + 1, or 0.
+    Gate,
+    /// A word of this source's rendezvous slot.
+    Slot(u32, Field),
+    /// The word of this label key.
+    Key(u32),
+    /// The entry of this label site.
+    Entry(u32),
+    /// The word of this label site.
+    Site(u32),
 }
 
-/// The number of a word in the call table; none where there is no such CPU or record.
+/// The number of a word in the call table; none where there is no such CPU or record, and for a word of the stop
+/// table.
 pub fn call_index(word: Word) -> Option<usize>
     ensures { result ≡ index_of word }
 {
@@ -45,6 +58,7 @@ pub fn call_index(word: Word) -> Option<usize>
         Word::Func(id) => of_record(FUNCS, id),
         Word::Info(id) => of_record(INFOS, id),
         Word::Next(id) => of_record(NEXTS, id),
+        Word::Gate | Word::Slot(_, _) | Word::Key(_) | Word::Entry(_) | Word::Site(_) => None,
     }
 }
 

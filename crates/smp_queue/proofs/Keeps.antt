@@ -51,6 +51,7 @@ load_else queue v (Flags r) n = refl
 load_else queue v (Func r) n = refl
 load_else queue v (Info r) n = refl
 load_else queue v (Next r) n = refl
+load_else queue v _ n = refl
 
 store_else : (queue : List Call) (v : Known) (w : Word) (x : ℕ) → known_taking queue v act.Store w None (Some x) ≡ known_told v act.Store w None (Some x)
 store_else queue v (Head to) x = refl
@@ -62,6 +63,7 @@ store_else queue v (Flags r) x = refl
 store_else queue v (Func r) x = refl
 store_else queue v (Info r) x = refl
 store_else queue v (Next r) x = refl
+store_else queue v _ x = refl
 
 exchange_else : (queue : List Call) (v : Known) (w : Word) (n : ℕ) (o : Option ℕ) → known_taking queue v act.Cas w (Some n) o ≡ known_told v act.Cas w (Some n) o
 exchange_else queue v (Head to) n None = refl
@@ -74,6 +76,7 @@ exchange_else queue v (Flags r) n o = refl
 exchange_else queue v (Func r) n o = refl
 exchange_else queue v (Info r) n o = refl
 exchange_else queue v (Next r) n o = refl
+exchange_else queue v _ n o = refl
 
 load_step : (a : CallState) (at : Word → ℕ) (control : ℕ → ControlValue) (v : Known) (w : Word) → Can v (Load w) → Shows a at control → v ≡ known_of a control v.number → GoesOn a control v.number at (known_told v act.Load w (Some (at w)) None)
 load_step a at control v w can shown view = subst (GoesOn a control v.number at) (load_else (a.queue v.number) v w (at w)) (known_step a at control v can.stage (Load w) shown view can.aims can.is_access)

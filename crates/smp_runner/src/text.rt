@@ -1,9 +1,9 @@
 //! The lines of a replay's output.
 
 ghost use Rattle.std.specs.Prelude.{◌≡◌, ◌++◌, OnOk, string_bytes};
-ghost use Rattle.smp_runner.specs.Text.{act_text, after_step, cas_text, error_number, list_text, note_text, seen_text, stopped_text, value_text, word_text};
+ghost use Rattle.smp_runner.specs.Text.{act_text, after_step, cas_text, error_number, field_text, list_text, note_text, seen_text, stopped_text, value_text, word_text};
 
-use smp_core::{Act, Note, Seen, Word};
+use smp_core::{Act, Field, Note, Seen, Word};
 use smp_mask::SmpError;
 use std::alloc::{AllocError, Allocator};
 
@@ -21,6 +21,32 @@ fn write_word<A: Allocator>(out: &mut String<A>, word: Word) -> Result<(), Alloc
         Word::Func(id) => write!(out, "func.{id}"),
         Word::Info(id) => write!(out, "info.{id}"),
         Word::Next(id) => write!(out, "next.{id}"),
+        Word::Gate => write!(out, "gate"),
+        Word::Slot(slot, field) => {
+            let name = field_name(field);
+            write!(out, "slot.{slot}.{name}")
+        }
+        Word::Key(key) => write!(out, "key.{key}"),
+        Word::Entry(site) => write!(out, "entry.{site}"),
+        Word::Site(site) => write!(out, "site.{site}"),
+    }
+}
+
+fn field_name(field: Field) -> &'static str
+    ensures { result.now ≡ field_text field }
+{
+    match field {
+        Field::Kind => "kind",
+        Field::Mask => "mask",
+        Field::Active => "active",
+        Field::Func => "func",
+        Field::Arg => "arg",
+        Field::State => "state",
+        Field::Ack => "ack",
+        Field::Roll => "roll",
+        Field::Todo => "todo",
+        Field::Result => "result",
+        Field::Done => "done",
     }
 }
 
@@ -31,6 +57,8 @@ fn act_name(act: Act) -> &'static str
         Act::Load => "load",
         Act::Store => "store",
         Act::Swap => "swap",
+        Act::Sub => "sub",
+        Act::And => "and",
         Act::Cas => "cas",
     }
 }
@@ -65,7 +93,7 @@ fn write_value<A: Allocator>(
             let put = put.unwrap_or(0);
             write!(out, "{put}")
         }
-        Act::Load | Act::Swap => write!(out, "{found}"),
+        Act::Load | Act::Swap | Act::Sub | Act::And => write!(out, "{found}"),
     }
 }
 
@@ -84,6 +112,24 @@ fn write_note<A: Allocator>(out: &mut String<A>, note: Note) -> Result<(), Alloc
         Note::Idle => write!(out, "idle"),
         Note::Call(source, func, info) => write!(out, "call {source} {func} {info}"),
         Note::Handled(count) => write!(out, "handled {count}"),
+        Note::Gate => write!(out, "gate"),
+        Note::Taken => write!(out, "taken"),
+        Note::Open => write!(out, "open"),
+        Note::Begun => write!(out, "begun"),
+        Note::Stale => write!(out, "E7"),
+        Note::Entered => write!(out, "entered"),
+        Note::Same => write!(out, "same"),
+        Note::Moved(phase) => write!(out, "moved {phase}"),
+        Note::Run(func, arg) => write!(out, "run {func} {arg}"),
+        Note::Ran => write!(out, "ran"),
+        Note::Left => write!(out, "left"),
+        Note::Finished => write!(out, "finished"),
+        Note::Pending => write!(out, "pending"),
+        Note::Result(result) => write!(out, "result {result}"),
+        Note::On => write!(out, "on"),
+        Note::Off => write!(out, "off"),
+        Note::Nop => write!(out, "NOP"),
+        Note::Jmp => write!(out, "JMP"),
     }
 }
 

@@ -1,0 +1,139 @@
+-- The kinds of step on labels: readings, and the loads and stores of a patch.
+use Rattle.std.proofs.Common.{◌≡◌, ◌≢◌, ℕ, ◌+◌, ◌-◌, ◌<◌, ◌≤◌, Bool, true, false, nat_lt, eq-eqb, ne_eqb, eqb-true, ◌==◌, ◌&&◌, ◌||◌, cond, sym, subst, refl, ap, ◌∙◌, ◌⊎◌, inl, inr, arith, ⊎_elim, Option, Some, None, List, [], ◌∷◌, ◌++◌}
+use Rattle.smp_core.proofs.Puts.{at_test}
+use Rattle.smp_core.proofs.Stops.Kept.{source_same}
+use Rattle.smp_core.proofs.Stops.Owns.{owns_stores}
+use Rattle.smp_core.proofs.Stops.Patched.{off_inside, patch_starts, patch_stores, reads_label}
+use Rattle.smp_core.proofs.Stops.Phases.{is_open_inside}
+use Rattle.smp_core.specs.Put.{put, put_word}
+use Rattle.smp_core.specs.Stops.Labels.{Change, Patches, Patching, ReadKey, ReadSite, Reading, labels_in}
+use Rattle.smp_core.specs.Stops.Present.{OwnsKey, PresentShows}
+use Rattle.smp_core.specs.Stops.Seats.{Alters, In, Rests, Seat, Stands}
+use Rattle.smp_core.specs.Stops.Shows.{StopShows}
+use Rattle.smp_core.specs.Stops.Sources.{Source}
+use Rattle.smp_core.specs.Stops.State.{Setup, StopState}
+use Rattle.smp_core.specs.Stops.Stop.{Answering, Called, Completed, Inside, Outside, Standing}
+use Rattle.smp_core.specs.Stops.Tells.{is_at_run, is_patch, key_loaded, patch_begun, patched_more, reads, told}
+use Rattle.smp_core.specs.declared.seen.Act.TheVariants as act
+use Rattle.smp_core.specs.declared.stop.field.Field.{Field}
+use Rattle.smp_core.specs.declared.stop.work.Kind.TheVariants.{Patch}
+use Rattle.smp_core.specs.declared.stop.work.Work.{Work}
+use Rattle.smp_core.specs.declared.word.Word.TheVariants.{Entry, Gate, Key, Site, Slot}
+use Rattle.smp_core.specs.declared.word.Word.{Word}
+use Rattle.smp_labels.proofs.Patched.{patch_leads}
+use Rattle.smp_labels.specs.Keys.{IsKeyWord, is_on}
+use Rattle.smp_labels.specs.Law.{IsLawful}
+use Rattle.smp_labels.specs.Plans.{AreEntriesOf, SetsKey, applied, patch_of}
+use Rattle.smp_labels.specs.declared.patch.Place.TheVariants as place
+use Rattle.smp_mask.specs.Mask.{has}
+
+module _ (u : Setup) (p : StopState) (at : Word → ℕ) (seat : ℕ → Seat) (source : ℕ → Source) (h : StopShows u p at seat source) (me : ℕ) where
+  -- a step that leaves the stops
+  label_step : (readings' : ℕ → List Reading) (patching' : Patching) (at' : Word → ℕ) (seat' : ℕ → Seat) → at' Gate ≡ at Gate → ((j : ℕ) (f : Field) → at' (Slot j f) ≡ at (Slot j f)) →
+      ((j : ℕ) → OwnsKey u.first p.now (λ k. at' (Key k)) j) →
+      PresentShows u (record (p.now) { readings = readings'; patching = patching' }) at' seat' →
+      StopShows u (record p { now = record (p.now) { readings = readings'; patching = patching' } }) at' seat' source
+  label_step readings' patching' at' seat' gate slots own present = record {
+    setup = h.setup;
+    present = present;
+    gate = gate ∙ h.gate;
+    sources = λ j. source_same u p.gate j (p.now.stop j) (λ f. at (Slot j f)) (λ f. at' (Slot j f)) (slots j) (source j) (h.sources j);
+    past = h.past;
+    owns = own;
+  }
+
+  run_is : (x : Standing) → is_at_run x ≡ true → x ≡ Inside 2 3
+  run_is Outside e = cc
+  run_is Called e = cc
+  run_is (Inside a l) e = let a_two = eqb-true a 2 (first_true (a == 2) (l == 3) e) in let l_three = eqb-true l 3 (second_true (a == 2) (l == 3) e) in cc
+    where
+      first_true : (b c : Bool) → b && c ≡ true → b ≡ true
+      first_true true c e = refl
+      first_true false c e = cc
+
+      second_true : (b c : Bool) → b && c ≡ true → c ≡ true
+      second_true true c e = e
+      second_true false c e = cc
+  run_is (Answering a v) e = cc
+  run_is (Completed a v) e = cc
+
+  -- where interrupts are on, the CPU is not at phase 3
+  not_run : (s : ℕ) → p.now.irq me ≡ true → p.now.inside me ≡ Some s → is_at_run ((p.now.stop s).standing me) ≡ false
+  not_run s on in_ = go (is_at_run ((p.now.stop s).standing me)) refl
+    where
+      go : (b : Bool) → is_at_run ((p.now.stop s).standing me) ≡ b → b ≡ false
+      go false e = refl
+      go true e =
+          let is = run_is ((p.now.stop s).standing me) e in
+          let off = off_inside p.now me s 2 3 (seat me) (h.present.stands me) in_ is (omega arith) (λ z. omega arith) in
+          let bad : true ≡ false = sym on ∙ (h.present.irq me ∙ off) in cc
+
+  -- load of a key, where interrupts are on: a reading
+  pub key_read : (k answer : ℕ) → p.now.irq me ≡ true →
+      StopShows u (told u p me act.Load (Key k) (Some (at (Key k))) None answer) at seat source
+  key_read k answer on = go (p.now.inside me) refl
+    where
+      read : StopShows u (record p { now = reads p.now me (ReadKey k (is_on (at (Key k)))) }) at seat source
+      read = label_step (put p.now.readings me (p.now.readings me ++ ReadKey k (is_on (at (Key k))) ∷ [])) p.now.patching at seat refl (λ j f. refl) h.owns
+          (reads_label u p.now at seat h.present me (ReadKey k (is_on (at (Key k)))) refl)
+
+      go : (x : Option ℕ) → p.now.inside me ≡ x → StopShows u (record p { now = key_loaded u p.now me k (at (Key k)) x }) at seat source
+      go None e = read
+      go (Some s) e = subst (λ b. StopShows u (record p { now = cond (b && is_patch (p.now.stop s).work.kind) (record (p.now) { patching = patch_begun u me (p.now.stop s).work (at (Key k)) }) (reads p.now me (ReadKey k (is_on (at (Key k))))) }) at seat source)
+          (sym (not_run s on e)) read
+
+  -- load of a site, where interrupts are on: a reading
+  pub site_read : (i answer : ℕ) → StopShows u (told u p me act.Load (Site i) (Some (at (Site i))) None answer) at seat source
+  site_read i answer = label_step (put p.now.readings me (p.now.readings me ++ ReadSite i (is_on (at (Site i))) ∷ [])) p.now.patching at seat refl (λ j f. refl) h.owns
+      (reads_label u p.now at seat h.present me (ReadSite i (is_on (at (Site i)))) refl)
+
+  module _ (s : ℕ) (job : Work) where
+    -- load of the key of a patch, by the CPU that is to make it
+    pub key_loaded_first : (answer : ℕ) → seat me ≡ In s job 2 3 Rests → job.kind ≡ Patch → has job.active me ≡ true →
+        let plan = cond (at (Key job.func) == job.arg) [] (patch_of job.func job.arg u.entries) in
+        StopShows u (told u p me act.Load (Key job.func) (Some (at (Key job.func))) None answer) at (put seat me (Alters s job [] plan)) source
+    key_loaded_first answer is kind active =
+        let st : Stands p.now me (In s job 2 3 Rests) = subst (Stands p.now me) is (h.present.stands me) in
+        let found = at (Key job.func) in
+        let plan = cond (found == job.arg) [] (patch_of job.func job.arg u.entries) in
+        let seat' = put seat me (Alters s job [] plan) in
+        let open_ = is_open_inside u.cpus (p.now.stop s) (λ f. at (Slot s f)) (h.present.slots s) me (Inside 2 3) st.1 refl in
+        let word : IsKeyWord job.arg = subst (λ (w : Work). IsKeyWord w.arg) st.3 (h.present.works s open_ (ap (λ (w : Work). w.kind) st.3 ∙ kind)).word in
+        let shown = label_step p.now.readings (Patches me job [] plan) at seat' refl (λ j f. refl) h.owns
+            (patch_starts u p.now at seat h.present s me job plan is kind active (leads found refl word)) in
+        subst (λ x. StopShows u (record p { now = key_loaded u p.now me job.func found x }) at seat' source) (sym st.0)
+            (subst (λ x. StopShows u (record p { now = cond (is_at_run x && is_patch (p.now.stop s).work.kind) (record (p.now) { patching = patch_begun u me (p.now.stop s).work found }) (reads p.now me (ReadKey job.func (is_on found))) }) at seat' source) (sym st.1)
+                (subst (λ (x : Work). StopShows u (record p { now = cond (is_patch x.kind) (record (p.now) { patching = patch_begun u me x found }) (reads p.now me (ReadKey job.func (is_on found))) }) at seat' source) (sym st.3)
+                    (subst (λ k. StopShows u (record p { now = cond (is_patch k) (record (p.now) { patching = patch_begun u me job found }) (reads p.now me (ReadKey job.func (is_on found))) }) at seat' source) (sym kind) shown)))
+      where
+        leads : (found : ℕ) → found ≡ at (Key job.func) → IsKeyWord job.arg → IsLawful (labels_in at) →
+            SetsKey job.func (is_on job.arg) (labels_in at) (applied (cond (found == job.arg) [] (patch_of job.func job.arg u.entries)) (labels_in at))
+        leads found is word lawful = at_test found job.arg (λ b. SetsKey job.func (is_on job.arg) (labels_in at) (applied (cond b [] (patch_of job.func job.arg u.entries)) (labels_in at)))
+            (λ e. record { lawful = lawful; set = ap is_on (sym is ∙ e); keys = λ k _. refl; entries = λ i. refl; sites = λ i _. refl })
+            (λ _. patch_leads job.func job.arg u.entries (labels_in at) word lawful h.present.entries)
+
+    entries_same : (at' : Word → ℕ) → ((i : ℕ) → at' (Entry i) ≡ at (Entry i)) → AreEntriesOf u.entries (labels_in at')
+    entries_same at' same = record { few = h.present.entries.few; read = λ i l. same i ∙ h.present.entries.read i l }
+
+    -- store of the key by a patch
+    pub key_stored : (made rest : List Change) (k n answer : ℕ) → seat me ≡ Alters s job made ((place.Key k, n) ∷ rest) →
+        StopShows u (told u p me act.Store (Key k) None (Some n) answer) (put_word at (Key k) n) (put seat me (Alters s job (made ++ (place.Key k, n) ∷ []) rest)) source
+    key_stored made rest k n answer is =
+        let st : Stands p.now me (Alters s job made ((place.Key k, n) ∷ rest)) = subst (Stands p.now me) is (h.present.stands me) in
+        let made' = made ++ (place.Key k, n) ∷ [] in
+        let at' = put_word at (Key k) n in
+        subst (λ x. StopShows u (record p { now = record (p.now) { patching = patched_more x } }) at' (put seat me (Alters s job made' rest)) source) (sym st.5)
+            (label_step p.now.readings (Patches me job made' rest) at' (put seat me (Alters s job made' rest)) refl (λ j f. refl)
+                (λ j. owns_stores u p.now at seat h.present j me s k n job made ((place.Key k, n) ∷ rest) is (h.owns j))
+                (patch_stores u p.now at seat h.present s me job made rest (place.Key k, n) at' is refl h.present.slots (entries_same at' (λ i. refl))))
+
+    -- store of a site by a patch
+    pub site_stored : (made rest : List Change) (i n answer : ℕ) → seat me ≡ Alters s job made ((place.Site i, n) ∷ rest) →
+        StopShows u (told u p me act.Store (Site i) None (Some n) answer) (put_word at (Site i) n) (put seat me (Alters s job (made ++ (place.Site i, n) ∷ []) rest)) source
+    site_stored made rest i n answer is =
+        let st : Stands p.now me (Alters s job made ((place.Site i, n) ∷ rest)) = subst (Stands p.now me) is (h.present.stands me) in
+        let made' = made ++ (place.Site i, n) ∷ [] in
+        let at' = put_word at (Site i) n in
+        subst (λ x. StopShows u (record p { now = record (p.now) { patching = patched_more x } }) at' (put seat me (Alters s job made' rest)) source) (sym st.5)
+            (label_step p.now.readings (Patches me job made' rest) at' (put seat me (Alters s job made' rest)) refl (λ j f. refl) h.owns
+                (patch_stores u p.now at seat h.present s me job made rest (place.Site i, n) at' is refl h.present.slots (entries_same at' (λ i. refl))))

@@ -1,0 +1,35 @@
+//! The laws of the stop half, each as a function that does nothing and whose contract is the law.
+//!
+//! They speak of any number of CPUs and of any words that show stops, so that they hold of the pure machine and of
+//! words that threads share alike.
+
+ghost use Rattle.smp_core.specs.Stops.Promises.{NothingBegun, StepsAreTold, KeepThePhaseLaw, KeepTheFunctionLaw, KeepTheLabelLaw};
+
+/// Words with a free gate, free slots and a lawful label table show that no stop was begun.
+pub fn nothing_is_begun()
+    ensures { NothingBegun }
+{}
+
+/// Each step of a CPU, at any stage of any command, is the step of the state of all stops that it tells, and keeps
+/// all laws: the words show the stops, the phase law, the label law and the results of stops.
+pub fn steps_are_told()
+    ensures { StepsAreTold }
+{}
+
+/// In an open stop of several CPUs each CPU of the mask has acknowledged the phase or the one before it, and the
+/// count of acknowledgements says how many have not (`kernel/stop_machine.c: multi_cpu_stop`).
+pub fn phase_law()
+    ensures { KeepThePhaseLaw }
+{}
+
+/// The function of such a stop runs only while every CPU of the mask has acknowledged disabled interrupts, and has
+/// them off.
+pub fn function_law()
+    ensures { KeepTheFunctionLaw }
+{}
+
+/// A CPU that is online and has its interrupts on finds a lawful label table, which says all that it has read since
+/// they went on.
+pub fn label_law()
+    ensures { KeepTheLabelLaw }
+{}

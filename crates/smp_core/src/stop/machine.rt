@@ -1,0 +1,112 @@
+//! The stop half of a pure machine: its words, and where each CPU stands, one atomic step at a time.
+
+ghost use Rattle.std.specs.Prelude.{◌≡◌, MatchOption};
+
+use crate::access::Access;
+use crate::seen::{Note, Seen};
+use crate::size::NR_CPUS;
+use crate::stop::control::StopControl;
+use crate::stop::stage::StopStage;
+use crate::stop::table::StopTable;
+use crate::word::Word;
+use smp_labels::LabelMap;
+use smp_mask::CpuMask;
+use std::alloc::Allocator;
+use std::marker::Model;
+
+/// The stop table as one thread sees it, with the place of each CPU inside its command.
+#[derive(Drop)]
+pub struct Stops<A: Allocator> {
+    online: CpuMask,
+    labels: LabelMap,
+    table: StopTable<A>,
+    /// One for each CPU that there can be.
+    controls: Vec<StopControl, A>,
+}
+
+impl<A: Allocator> Model for Stops<A> {
+    ghost use Rattle.smp_core.specs.Stops.Value.{StopsValue};
+    ghost use Rattle.smp_core.specs.Stops.Machine.{AreSoundStops};
+
+    ghost Value = { StopsValue };
+
+    ghost view = { λ s. record { online = s.online; labels = s.labels; table = s.table; controls = s.controls.items } };
+
+    ghost invariant = { λ s. AreSoundStops s.online s.labels s.table s.controls.items };
+}
+
+/// Moves the control of one CPU, which is inside a command, on.
+fn advance(controls: &mut [StopControl], cpu: u32, found: u64) -> Option<Note>
+    requires cpu { cpu < length controls.old }
+    requires small { cpu < 64 }
+    requires fits { IfSome (stop_control_of controls.old cpu).stage (λ stage. FitsStop (stop_control_of controls.old cpu) stage found) }
+    ensures note { IfSome (stop_control_of controls.old cpu).stage (λ stage. result ≡ (stop_outcome cpu (stop_control_of controls.old cpu) stage found).note) }
+    ensures controls { IfSome (stop_control_of controls.old cpu).stage (λ stage. controls.new ≡ slice_set controls.old cpu (stop_outcome cpu (stop_control_of controls.old cpu) stage found).control) }
+{
+    let control = &mut controls[cpu as usize];
+    let Some(stage) = control.stage() else {
+        return None;
+    };
+    control.advance(cpu, stage, found)
+}
+
+ghost use Rattle.std.specs.Prelude.{◌<◌, length, slice_set, IfSome};
+ghost use Rattle.smp_core.specs.Stops.Stages.{FitsStop, stop_outcome};
+ghost use Rattle.smp_core.specs.Stops.Value.{stop_control_of};
+
+impl<A: Allocator> Stops<A> {
+    ghost use Rattle.smp_core.specs.Stops.Machine.{StopTold, stop_access_at, stop_seen_at, stop_stepped};
+    ghost use Rattle.smp_core.specs.Size.{cpus};
+    ghost use Rattle.smp_core.specs.Stops.Stages.{FitsAccess};
+    ghost use Rattle.smp_core.specs.Stops.State.{StopState};
+    ghost use Rattle.smp_core.specs.Stops.Table.{stop_number};
+    ghost use Rattle.smp_core.specs.Stops.Value.{StopShown};
+
+    /// Where this CPU stands; none outside a command of the stop half, or where there is no such CPU.
+    pub fn stage(&self, cpu: u32) -> Option<StopStage>
+        ensures { result ≡ (stop_control_of self.now.controls cpu).stage }
+    {
+        if cpu < NR_CPUS {
+            self.controls[cpu as usize].stage()
+        } else {
+            None
+        }
+    }
+
+    /// The access that this CPU makes at this stage.
+    fn access(&self, cpu: u32, stage: StopStage) -> Access
+        requires cpu { cpu < cpus }
+        requires fits { FitsAccess (stop_control_of self.now.controls cpu) stage }
+        ensures { result ≡ stop_access_at self.now cpu stage }
+    {
+        stage.access(cpu, &self.controls[cpu as usize])
+    }
+
+    /// Makes one atomic step of the CPU's command; none where it has none.
+    pub fn step(&mut self, cpu: u32) -> Option<Seen>
+        ensures step { MatchOption (stop_control_of self.old.controls cpu).stage ((result ≡ None) × (self.new ≡ self.old)) (λ stage. (result ≡ Some (stop_seen_at self.old cpu stage)) × (self.new ≡ stop_stepped self.old cpu stage)) }
+        ensures told { MatchOption (stop_control_of self.old.controls cpu).stage (self.new ≡ self.old) (λ stage. StopTold self.old cpu stage self.new) }
+    {
+        let Some(stage) = self.stage(cpu) else {
+            return None;
+        };
+        let access = self.access(cpu, stage);
+        let found = self.table.perform(access);
+        let note = advance(&mut self.controls, cpu, found);
+        Some(access.seen(cpu, found, note))
+    }
+
+    /// The number in a word; 0 where there is no such word.
+    pub fn number(&self, word: Word) -> u64
+        ensures { result ≡ stop_number self.now.table word }
+    {
+        self.table.read(word)
+    }
+
+    /// Every stop half shows a state of the stops that keeps all laws.
+    pub fn shows_stops(&self)
+        ensures { (p : StopState) × StopShown p self.now }
+    {
+        let _online = self.online;
+    }
+}
