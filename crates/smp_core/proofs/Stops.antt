@@ -32,3 +32,4 @@ pub mod Named
 pub mod Values
 pub mod Made
 pub mod Opened
+pub mod Begun
