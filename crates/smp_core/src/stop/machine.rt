@@ -71,6 +71,7 @@ fn new_controls<A: Allocator>(alloc: A) -> Result<Vec<StopControl, A>, AllocErro
 
 impl<A: Allocator> Stops<A> {
     ghost use Rattle.smp_core.specs.Stops.Machine.{StopTold, stop_access_at, stop_seen_at, stop_stepped};
+    ghost use Rattle.smp_core.specs.Stops.Begins.{MayBeginAt, stop_begun};
     ghost use Rattle.smp_core.specs.Stops.Stages.{FitsAccess};
     ghost use Rattle.smp_core.specs.Stops.State.{StopState};
     ghost use Rattle.smp_core.specs.Stops.Table.{stop_number};
@@ -110,6 +111,17 @@ impl<A: Allocator> Stops<A> {
         } else {
             None
         }
+    }
+
+    /// Puts a CPU that is outside a command at the first stage of one that may begin. It makes no step.
+    pub fn begin(&mut self, cpu: u32, stage: StopStage)
+        requires cpu { cpu < cpus }
+        requires outside { (stop_control_of self.old.controls cpu).stage ≡ None }
+        requires may { MayBeginAt self.old cpu stage }
+        ensures begun { self.new ≡ stop_begun self.old cpu stage }
+        ensures told { (p : StopState) → StopShown p self.old → StopShown p self.new }
+    {
+        self.controls[cpu as usize].begin(stage);
     }
 
     /// The access that this CPU makes at this stage.
