@@ -31,3 +31,5 @@ pub mod Tables
 pub mod Named
 pub mod Values
 pub mod Made
+pub mod Opened
+pub mod Begun

@@ -24,3 +24,4 @@ pub mod Promises
 pub mod Table
 pub mod Value
 pub mod Machine
+pub mod Begins

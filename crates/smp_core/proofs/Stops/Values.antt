@@ -43,7 +43,7 @@ use Rattle.smp_labels.specs.declared.patch.Place.TheVariants as place
 use Rattle.smp_labels.specs.declared.words.TheConstants.{MOST_SITES}
 
 -- the controls by CPU, with one of them set
-stop_controls_by_cpu : (controls : List StopControlValue) (me cpu : ℕ) (x : StopControlValue) → me < length controls → stop_control_of (slice_set controls me x) cpu ≡ put (stop_control_of controls) me x cpu
+pub stop_controls_by_cpu : (controls : List StopControlValue) (me cpu : ℕ) (x : StopControlValue) → me < length controls → stop_control_of (slice_set controls me x) cpu ≡ put (stop_control_of controls) me x cpu
 stop_controls_by_cpu controls me cpu x low = at_test cpu me (λ b. stop_control_of (slice_set controls me x) cpu ≡ cond b x (stop_control_of controls cpu))
     (λ e. subst (λ j. stop_control_of (slice_set controls me x) j ≡ x) (sym e) (get_or-set_same controls me x stop_outside low))
     (λ ne. get_or-set_other controls me cpu x stop_outside ne)

@@ -11,7 +11,7 @@ use crate::stop::table::StopTable;
 use crate::word::Word;
 use smp_labels::LabelMap;
 use smp_mask::CpuMask;
-use std::alloc::Allocator;
+use std::alloc::{AllocError, Allocator};
 use std::marker::Model;
 
 /// The stop table as one thread sees it, with the place of each CPU inside its command.
@@ -54,13 +54,53 @@ ghost use Rattle.std.specs.Prelude.{◌<◌, length, slice_set, IfSome};
 ghost use Rattle.smp_core.specs.Stops.Stages.{FitsStop, stop_outcome};
 ghost use Rattle.smp_core.specs.Stops.Value.{stop_control_of};
 
+ghost use Rattle.std.specs.Prelude.{IfOk, replicate};
+ghost use Rattle.smp_core.specs.Size.{cpus};
+ghost use Rattle.smp_core.specs.Stops.Stages.{stop_outside};
+
+/// All CPUs in no stop, outside a command.
+fn new_controls<A: Allocator>(alloc: A) -> Result<Vec<StopControl, A>, AllocError>
+    ensures { IfOk result (λ controls. controls.items ≡ replicate cpus stop_outside) }
+{
+    let mut controls = Vec::new(alloc);
+    for _cpu in 0..NR_CPUS {
+        controls.push(StopControl::new())?;
+    }
+    Ok(controls)
+}
+
 impl<A: Allocator> Stops<A> {
     ghost use Rattle.smp_core.specs.Stops.Machine.{StopTold, stop_access_at, stop_seen_at, stop_stepped};
-    ghost use Rattle.smp_core.specs.Size.{cpus};
+    ghost use Rattle.smp_core.specs.Stops.Begins.{MayBeginAt, stop_begun};
     ghost use Rattle.smp_core.specs.Stops.Stages.{FitsAccess};
     ghost use Rattle.smp_core.specs.Stops.State.{StopState};
     ghost use Rattle.smp_core.specs.Stops.Table.{stop_number};
     ghost use Rattle.smp_core.specs.Stops.Value.{StopShown};
+
+    ghost use Rattle.std.specs.Prelude.{ℕ, true};
+    ghost use Rattle.smp_mask.specs.Mask.{has};
+    ghost use Rattle.smp_core.specs.Stops.State.{no_stops};
+
+    /// A half in which nothing was begun, with these CPUs online and these labels.
+    pub fn new(alloc: A, online: CpuMask, labels: LabelMap) -> Result<Self, AllocError>
+    where
+        A: Copy,
+        requires member { (cpu : ℕ) × (has online cpu ≡ true) }
+        requires below { (cpu : ℕ) → has online cpu ≡ true → cpu < cpus }
+        ensures online { IfOk result (λ s. s.online ≡ online) }
+        ensures labels { IfOk result (λ s. s.labels ≡ labels) }
+        ensures outside { IfOk result (λ s. s.controls ≡ replicate cpus stop_outside) }
+        ensures empty { IfOk result (StopShown no_stops) }
+    {
+        let controls = new_controls(alloc)?;
+        let table = StopTable::new(alloc, labels.words())?;
+        Ok(Stops {
+            online,
+            labels,
+            table,
+            controls,
+        })
+    }
 
     /// Where this CPU stands; none outside a command of the stop half, or where there is no such CPU.
     pub fn stage(&self, cpu: u32) -> Option<StopStage>
@@ -71,6 +111,17 @@ impl<A: Allocator> Stops<A> {
         } else {
             None
         }
+    }
+
+    /// Puts a CPU that is outside a command at the first stage of one that may begin. It makes no step.
+    pub fn begin(&mut self, cpu: u32, stage: StopStage)
+        requires cpu { cpu < cpus }
+        requires outside { (stop_control_of self.old.controls cpu).stage ≡ None }
+        requires may { MayBeginAt self.old cpu stage }
+        ensures begun { self.new ≡ stop_begun self.old cpu stage }
+        ensures told { (p : StopState) → StopShown p self.old → StopShown p self.new }
+    {
+        self.controls[cpu as usize].begin(stage);
     }
 
     /// The access that this CPU makes at this stage.

@@ -3,6 +3,7 @@
 ghost use Rattle.std.specs.Prelude.{◌≡◌, IfOk, replicate};
 ghost use Rattle.smp_core.specs.Access.{word_of};
 ghost use Rattle.smp_core.specs.Put.{place_of};
+ghost use Rattle.smp_core.specs.Stops.Value.{IsStopTable};
 ghost use Rattle.smp_core.specs.Stops.Table.{slot_cell as cell_in, stop_number, stop_put, stop_words_after};
 
 use crate::access::Access;
@@ -70,7 +71,8 @@ ghost use Rattle.std.specs.Prelude.{slice_index, slice_set};
 impl<A: Allocator> StopTable<A> {
     /// A table with a free gate, free slots, and these labels.
     pub fn new(alloc: A, labels: LabelWords) -> Result<Self, AllocError>
-        ensures { IfOk result (λ t. t ≡ record { gate = 0; slots = replicate SLOT_WORDS 0; keys = labels.keys; entries = labels.entries; sites = labels.sites }) }
+        ensures sized { IfOk result IsStopTable }
+        ensures made { IfOk result (λ t. t ≡ record { gate = 0; slots = replicate SLOT_WORDS 0; keys = labels.keys; entries = labels.entries; sites = labels.sites }) }
     {
         let slots = vec![in alloc; 0; SLOT_WORDS]?;
         Ok(StopTable {
