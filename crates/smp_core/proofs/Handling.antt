@@ -1,23 +1,22 @@
 -- A CPU inside handle: what holds of it by the laws, and what it knows after each of its steps.
-use Rattle.std.proofs.Common.{◌≡◌, ◌≢◌, ℕ, ◌+◌, ◌%◌, ◌^◌, ◌<◌, nat_lt, ◌==◌, Bool, true, false, cond, Option, Some, None, List, [], ◌∷◌, ◌++◌, length, length-append, append-nil, append_assoc, sym, subst, refl, ap, ◌∙◌, ◌⊎◌, inl, inr, arith}
+use Rattle.std.proofs.Common.{◌≡◌, ◌≢◌, ℕ, ◌+◌, ◌%◌, ◌<◌, ◌==◌, Bool, true, false, cond, Option, Some, None, List, [], ◌∷◌, ◌++◌, length, length-append, sym, subst, refl, ap, ◌∙◌, arith}
 use Rattle.std.proofs.lemmas.Bool.{lt-ltb, eq-eqb}
 use Rattle.std.specs.Prelude.{slice_set}
 use Rattle.std.specs.List.{AllByRecursion}
 use Rattle.smp_core.specs.Size.{cpus, records}
 use Rattle.smp_core.specs.Flags.{class_of}
-use Rattle.smp_core.specs.Order.{order, if_sync, if_async, sync_calls, async_calls}
+use Rattle.smp_core.specs.Order.{if_sync, if_async, sync_calls, async_calls}
 use Rattle.smp_core.specs.Access.{word_of}
-use Rattle.smp_core.specs.Calls.{CallState, Running, Nothing, SyncCall, CountedCall, AsyncCall}
-use Rattle.smp_core.specs.Drains.{DrainValue, HasRoom, handle_goes, popped, with_loaded, rest_of, run_next, async_rest, load_or_run, loaded_or_run, FitsFound}
-use Rattle.smp_core.specs.Places.{IsPlaced, IsCall}
-use Rattle.smp_core.specs.Words.{FlagsShow, bit, flags_in, nexts_in}
+use Rattle.smp_core.specs.Calls.{CallState, Nothing, SyncCall, CountedCall, AsyncCall}
+use Rattle.smp_core.specs.Drains.{DrainValue, handle_goes, popped, with_loaded, rest_of, run_next, async_rest}
+use Rattle.smp_core.specs.Places.{IsPlaced}
+use Rattle.smp_core.specs.Words.{FlagsShow, bit, nexts_in}
 use Rattle.smp_core.specs.Histories.{orders, running_call}
 use Rattle.smp_core.specs.Stages.{ControlValue, access_of, FitsStage}
-use Rattle.smp_core.specs.Stands.{Share, share_of, StandsAt, HandleStands, Loads, Runs, Rests, held_of}
-use Rattle.smp_core.specs.Shows.{Shows}
+use Rattle.smp_core.specs.Stands.{Share, share_of, StandsAt, HandleStands, held_of}
 use Rattle.smp_core.specs.Known.{told_stage, told_post, told_handle, part_in, part_told, known_of, known_told, known_taking, knowing, stage_after, drain_then, Aims, known_access, Moment, Lives, GoesOn, part_begun_sync, part_begun_async, part_unlocked, part_counted}
 use Rattle.smp_core.specs.Handling.{handling, accepted_known, taken_known, loaded_known, begun_sync, counted_sync, begun_async, ended_call}
-use Rattle.smp_core.proofs.Links.{HasIndex, IsInTable}
+use Rattle.smp_core.proofs.Links.{HasIndex}
 use Rattle.smp_core.proofs.Accesses.{access_in_table, loaded_placed}
 use Rattle.smp_core.proofs.Fits.{found_fits, length-classes, one_class}
 use Rattle.smp_core.proofs.Restages.{access_known}
@@ -27,7 +26,7 @@ use Rattle.smp_core.specs.declared.known.Known.{Known}
 use Rattle.smp_core.specs.declared.place.RecPlace.{RecPlace}
 use Rattle.smp_core.specs.declared.place.RecPlace.TheVariants as place
 use Rattle.smp_core.specs.declared.word.Word.{Word}
-use Rattle.smp_core.specs.declared.word.Word.TheVariants.{Head, Intr, Hand, Queued, Ran, Flags, Func, Info, Next}
+use Rattle.smp_core.specs.declared.word.Word.TheVariants.{Head, Intr, Hand, Ran, Flags, Func, Info, Next}
 use Rattle.smp_core.specs.declared.access.Access.{Access}
 use Rattle.smp_core.specs.declared.seen.Act.{Act}
 use Rattle.smp_core.specs.declared.seen.Act.TheVariants as act
@@ -169,7 +168,7 @@ module _ (v : Known) (l : Lives v) where
   pub lives_front : (call : Call) (rest : List Call) → v.batch ≡ call ∷ rest → call.id < records
   lives_front call rest e =
       let all : AllByRecursion (IsPlaced l.calls.place (place.Batch v.number)) (call ∷ rest) = subst (λ (calls : List Call). AllByRecursion (IsPlaced l.calls.place (place.Batch v.number)) calls) e
-        (subst (λ (s : Share). AllByRecursion (IsPlaced l.calls.place (place.Batch v.number)) s.batch) same_share (l.shown.placed.batched v.number)) in
+      (subst (λ (s : Share). AllByRecursion (IsPlaced l.calls.place (place.Batch v.number)) s.batch) same_share (l.shown.placed.batched v.number)) in
       all.0.is_call.in_range
 
   -- an interrupt word is 0 or 1

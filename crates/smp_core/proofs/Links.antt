@@ -2,7 +2,7 @@
 -- that know the numbers of the words.
 use Rattle.std.proofs.Common.{◌≡◌, ◌≢◌, ℕ, ◌+◌, ◌*◌, ◌-◌, ◌/◌, ◌%◌, ◌<◌, ◌≤◌, Bool, true, false, ◌==◌, ◌&&◌, nat_lt, cond, Option, Some, None, List, length, sym, subst, refl, ap, ◌∙◌, arith}
 use Rattle.std.proofs.lemmas.List.{get_or-set_same, get_or-set_other}
-use Rattle.std.proofs.lemmas.Bool.{eqb-true, eq-eqb, ltb-true, and_parts, and_from, lt-ltb, le-ltb}
+use Rattle.std.proofs.lemmas.Bool.{ltb-true, and_parts, lt-ltb, le-ltb}
 use Rattle.smp_core.specs.Size.{cpus, records, table_size}
 use Rattle.smp_core.specs.Put.{put_word, same_word}
 use Rattle.smp_core.specs.Layout.{index_of, number_in, number_at, put_in, put_at, cpu_word, pair_word, record_word}

@@ -1,7 +1,7 @@
 -- What a CPU knows inside handle, after each of its steps.
-use Rattle.std.specs.Prelude.{◌≡◌, ℕ, ◌==◌, Bool, true, false, if◌then◌else◌, Some, None, List, [], ◌∷◌, ◌++◌}
+use Rattle.std.specs.Prelude.{ℕ, Bool, true, false, if◌then◌else◌, Some, List, [], ◌∷◌, ◌++◌}
 use Rattle.smp_core.specs.Order.{order}
-use Rattle.smp_core.specs.Calls.{Running, Nothing, SyncCall, CountedCall, AsyncCall}
+use Rattle.smp_core.specs.Calls.{Nothing, SyncCall, CountedCall, AsyncCall}
 use Rattle.smp_core.specs.Drains.{DrainValue, run_next, rest_of, popped, load_or_run, loaded_or_run, with_loaded}
 use Rattle.smp_core.specs.declared.call.Call.{Call}
 use Rattle.smp_core.specs.declared.known.Known.{Known}

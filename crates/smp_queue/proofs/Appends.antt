@@ -1,5 +1,5 @@
 -- A CPU that tries to append a call: what it knows between two tries.
-use Rattle.std.proofs.Common.{◌≡◌, ℕ, ◌==◌, Bool, true, Some, Option, length, ◌%◌, ◌^◌, sym, refl, ap, ◌∙◌}
+use Rattle.std.proofs.Common.{◌≡◌, ℕ, Bool, true, Some, length, ◌%◌, ◌^◌, sym, refl, ap, ◌∙◌}
 use Rattle.atomic_table.specs.Seated.{TableId}
 use Rattle.smp_core.specs.Histories.{sent_to}
 use Rattle.smp_core.specs.Stands.{holding}
@@ -7,7 +7,6 @@ use Rattle.smp_core.specs.Known.{standing, appended_known, outside_known}
 use Rattle.smp_core.specs.declared.known.Known.{Known}
 use Rattle.smp_core.specs.declared.post.Posting.{Posting}
 use Rattle.smp_core.specs.declared.post.PostStage.TheVariants as post
-use Rattle.smp_core.specs.declared.stage.Stage.{Stage}
 use Rattle.smp_core.specs.declared.stage.Stage.TheVariants.{Post}
 use Rattle.smp_queue.specs.Desk.{Desk, IsMine, IsCounting, IsTallied, counted}
 use Rattle.smp_queue.proofs.Ready.{mine_moved}

@@ -1,31 +1,28 @@
 -- A CPU that enters handle, takes its queue, and leaves.
-use Rattle.std.proofs.Common.{◌≡◌, ◌≢◌, ℕ, ◌+◌, ◌<◌, ◌==◌, Bool, true, false, cond, Some, None, List, [], ◌∷◌, ◌++◌, length, length-append, append-nil, sym, refl, ap, ◌∙◌, subst, arith}
+use Rattle.std.proofs.Common.{◌≡◌, ℕ, ◌<◌, ◌==◌, true, false, cond, Some, None, List, [], ◌∷◌, ◌++◌, length, length-append, append-nil, sym, refl, ap, ◌∙◌, subst}
 use Rattle.std.proofs.lemmas.List.{append_cancel_left}
 use Rattle.atomic_table.specs.Seated.{TableId}
 use Rattle.smp_core.specs.Size.{cpus}
 use Rattle.smp_core.specs.Order.{order, sync_calls, async_calls}
-use Rattle.smp_core.specs.declared.known.Running.{Running}
 use Rattle.smp_core.specs.declared.known.Running.TheVariants.{Nothing}
 use Rattle.smp_core.specs.Drains.{DrainValue, no_drain, load_or_run, loaded_or_run}
 use Rattle.smp_core.specs.Histories.{orders, running_call}
-use Rattle.smp_core.specs.Known.{known_told, known_taking, known_access, Moment, Lives, outside_known}
+use Rattle.smp_core.specs.Known.{known_told, known_taking, Moment, Lives, outside_known}
 use Rattle.smp_core.specs.Handling.{handling, accepted_known, taken_known, IsLeaving}
-use Rattle.smp_core.proofs.Handling.{lives_then, lives_stands, lives_drained, lives_intr, entered_is, accepted_is, taken_is, left_is}
+use Rattle.smp_core.proofs.Handling.{lives_then, lives_stands, lives_drained, lives_intr, entered_is, accepted_is, left_is}
 use Rattle.smp_core.proofs.Fits.{length-classes}
 use Rattle.smp_core.proofs.Taking.{orders-push}
 use Rattle.smp_core.specs.declared.call.Call.{Call}
 use Rattle.smp_core.specs.declared.known.Known.{Known}
-use Rattle.smp_core.specs.declared.word.Word.TheVariants.{Head, Intr, Hand}
-use Rattle.smp_core.specs.declared.access.Access.{Access}
+use Rattle.smp_core.specs.declared.word.Word.TheVariants.{Intr, Hand}
 use Rattle.smp_core.specs.declared.access.Access.TheVariants.{Store, Swap}
 use Rattle.smp_core.specs.declared.seen.Act.TheVariants as act
 use Rattle.smp_core.specs.declared.handle.HandleStage.{HandleStage}
 use Rattle.smp_core.specs.declared.handle.HandleStage.TheVariants as handle
 use Rattle.smp_core.specs.declared.stage.Stage.TheVariants.{Handle}
-use Rattle.smp_queue.specs.Cells.{cells}
 use Rattle.smp_queue.specs.Cpu.{CpuValue, cpu_of}
 use Rattle.smp_queue.specs.Desk.{Desk, Ready, InHandle, IsOutside}
-use Rattle.smp_queue.specs.Handling.{Grows, SameCalls, HasLoaded, AreRan, HasRunAll, runs, asks, drains}
+use Rattle.smp_queue.specs.Handling.{Grows, SameCalls, HasLoaded, HasRunAll, runs, asks, drains}
 use Rattle.smp_queue.specs.declared.handler.Heard.{Heard}
 use Rattle.smp_queue.proofs.Cells.{has_cell}
 use Rattle.smp_queue.proofs.Handles.{in_handle_ready, in_handle_then}

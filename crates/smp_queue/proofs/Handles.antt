@@ -1,15 +1,13 @@
 -- A CPU inside handle: when it may make its next step, and where it stands after it.
-use Rattle.std.proofs.Common.{◌≡◌, ℕ, ◌+◌, ◌%◌, ◌^◌, ◌<◌, Some, List, [], ◌∷◌, ◌++◌, length, sym, refl, ap, ◌∙◌, subst, arith}
+use Rattle.std.proofs.Common.{◌≡◌, Some, ap, ◌∙◌, subst}
 use Rattle.atomic_table.specs.Seated.{TableId}
 use Rattle.smp_core.specs.Access.{word_of}
 use Rattle.smp_core.specs.Known.{known_access, Lives}
 use Rattle.smp_core.proofs.Links.{HasIndex}
 use Rattle.smp_core.proofs.Handling.{lives_aims, lives_in_table}
 use Rattle.smp_core.specs.declared.known.Known.{Known}
-use Rattle.smp_core.specs.declared.word.Word.{Word}
 use Rattle.smp_core.specs.declared.access.Access.{Access}
 use Rattle.smp_core.specs.declared.handle.HandleStage.{HandleStage}
-use Rattle.smp_core.specs.declared.stage.Stage.{Stage}
 use Rattle.smp_core.specs.declared.stage.Stage.TheVariants.{Handle}
 use Rattle.smp_queue.specs.Cells.{cells, HasCell}
 use Rattle.smp_queue.specs.Desk.{Desk, Can, Ready, InHandle, IsApartFromCalls}

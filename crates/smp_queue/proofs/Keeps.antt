@@ -1,5 +1,5 @@
 -- Each access keeps the rule of the table, and tells what its play says.
-use Rattle.std.proofs.Common.{◌≡◌, ◌≢◌, ℕ, zero, suc, ◌+◌, ◌<◌, ◌≤◌, ◌⊎◌, Bool, true, false, ◌==◌, cond, List, [], ◌∷◌, ◌++◌, length, get_or, set, replicate, sym, refl, ap, ◌∙◌, subst, inl, inr, ⊎_elim, arith, Option, Some, None, length-set}
+use Rattle.std.proofs.Common.{◌≡◌, ◌≢◌, ℕ, zero, suc, ◌+◌, ◌<◌, ◌⊎◌, Bool, true, false, ◌==◌, cond, List, [], ◌∷◌, ◌++◌, length, get_or, set, replicate, sym, refl, ap, ◌∙◌, subst, inl, inr, ⊎_elim, arith, Option, Some, None, length-set}
 use mathlib.Core.Option.{none, some, some-injective, some-ne-none}
 use lib.ListN.{get_elem?, length-replicate}
 use lib.Seq.{set-get_or}
@@ -7,13 +7,11 @@ use prog.Atomic.{either}
 use Rattle.atomic_table.specs.Table.{State, Me, step, keeps, stepped, Allows, Splits, opening}
 use Rattle.atomic_table.proofs.Lists.{at_set}
 use Rattle.smp_core.specs.Put.{put, put_word}
-use Rattle.smp_core.specs.Layout.{number_at}
 use Rattle.smp_core.specs.Calls.{CallState, no_calls}
 use Rattle.smp_core.specs.Stages.{ControlValue}
 use Rattle.smp_core.specs.Value.{outside}
 use Rattle.smp_core.specs.Shows.{Shows}
-use Rattle.smp_core.specs.Access.{at_after, word_of, seen_of}
-use Rattle.smp_core.specs.Known.{known_of, fresh, known_told, known_taking, known_tells, Aims, known_access, GoesOn, Moment, Lives}
+use Rattle.smp_core.specs.Known.{known_of, fresh, known_told, known_taking, GoesOn, Lives}
 use Rattle.smp_core.proofs.Own.{put_same, put_other}
 use Rattle.smp_core.proofs.OneStep.{known_step}
 use Rattle.smp_core.proofs.Handling.{lives_on}
@@ -25,7 +23,6 @@ use Rattle.smp_core.specs.declared.word.Word.TheVariants.{Head, Intr, Hand, Queu
 use Rattle.smp_core.specs.declared.access.Access.{Access}
 use Rattle.smp_core.specs.declared.access.Access.TheVariants.{Load, Store, Swap, Exchange}
 use Rattle.smp_core.specs.declared.seen.Act.TheVariants as act
-use Rattle.smp_core.specs.declared.stage.Stage.{Stage}
 use Rattle.smp_queue.specs.declared.seated.Seated.{Seated}
 use Rattle.smp_queue.specs.declared.seated.Seated.TheVariants.{Boot, Of}
 use Rattle.smp_queue.specs.Cells.{cells, cell_of, number_in}

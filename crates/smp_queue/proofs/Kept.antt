@@ -1,12 +1,12 @@
 -- What a CPU keeps between two calls stays over each of them.
-use Rattle.std.proofs.Common.{◌≡◌, ◌≢◌, ℕ, zero, suc, ◌+◌, ◌%◌, ◌^◌, ◌<◌, Bool, true, false, ◌==◌, cond, Option, Some, None, List, [], ◌∷◌, ◌++◌, length, get_or, set, replicate, length-set, length-append, sym, refl, ap, ◌∙◌, subst, inl, inr, arith}
+use Rattle.std.proofs.Common.{◌≡◌, ℕ, ◌+◌, ◌%◌, ◌^◌, ◌<◌, Bool, true, false, cond, Some, List, [], ◌∷◌, ◌++◌, length, get_or, set, replicate, length-set, length-append, sym, refl, ap, ◌∙◌, subst, inl, inr, arith}
 use Rattle.std.proofs.lemmas.List.{append-nil, get_or-set_same, get_or-set_other, length-replicate}
 use Rattle.std.proofs.lemmas.Bool.{cases_eq}
 use Rattle.smp_core.specs.Size.{cpus, records}
 use Rattle.smp_core.specs.Stands.{holding, posted}
 use Rattle.smp_core.specs.Histories.{Marked, mark, sent_to, calls_from}
-use Rattle.smp_core.specs.Known.{row, fresh, confirmed_known, sent_known, appended_known, outside_known, standing}
-use Rattle.smp_core.proofs.Lists.{one_if, sent_to-push, one_if-same, one_if-other}
+use Rattle.smp_core.specs.Known.{fresh, confirmed_known, sent_known, appended_known, outside_known, standing}
+use Rattle.smp_core.proofs.Lists.{sent_to-push, one_if-same, one_if-other}
 use Rattle.smp_core.proofs.Rows.{length-row}
 use Rattle.smp_core.proofs.Starts.{get_or-same}
 use Rattle.smp_core.specs.declared.call.Call.{Call}

@@ -1,5 +1,5 @@
 -- A CPU that loads a record of its batch, word by word.
-use Rattle.std.proofs.Common.{◌≡◌, ℕ, ◌+◌, ◌-◌, ◌%◌, ◌^◌, ◌<◌, ◌≢◌, ◌==◌, Bool, true, false, if◌then◌else◌, Some, None, List, [], ◌∷◌, ◌++◌, length, length-append, sym, refl, ap, ◌∙◌, subst, arith}
+use Rattle.std.proofs.Common.{◌≡◌, ℕ, ◌+◌, ◌-◌, ◌%◌, ◌^◌, ◌<◌, ◌≢◌, ◌==◌, Bool, true, false, if◌then◌else◌, Some, None, List, ◌++◌, length, length-append, sym, refl, ap, ◌∙◌, subst, arith}
 use Rattle.std.proofs.lemmas.Bool.{eq-eqb, ne_eqb}
 use Rattle.atomic_table.specs.Seated.{TableId}
 use Rattle.smp_core.specs.Flags.{class_of}
@@ -15,15 +15,13 @@ use Rattle.smp_core.specs.declared.call.Class.{Class}
 use Rattle.smp_core.specs.declared.known.Known.{Known}
 use Rattle.smp_core.specs.declared.word.Word.{Word}
 use Rattle.smp_core.specs.declared.word.Word.TheVariants.{Flags, Func, Info, Next}
-use Rattle.smp_core.specs.declared.access.Access.TheVariants.{Load}
 use Rattle.smp_core.specs.declared.seen.Act.TheVariants as act
 use Rattle.smp_core.specs.declared.handle.HandleStage.{HandleStage}
 use Rattle.smp_core.specs.declared.handle.HandleStage.TheVariants as handle
-use Rattle.smp_queue.specs.Cells.{cells}
 use Rattle.smp_queue.specs.Cpu.{cpu_of}
-use Rattle.smp_queue.specs.Desk.{Desk, Ready, InHandle}
+use Rattle.smp_queue.specs.Desk.{Desk, InHandle}
 use Rattle.smp_queue.specs.Handling.{SameCalls, HasLoaded}
-use Rattle.smp_queue.proofs.Handles.{in_handle_ready, in_handle_then}
+use Rattle.smp_queue.proofs.Handles.{in_handle_then}
 
 -- it stands at this step, and knows what v knew
 pub record LoadsAt (t : TableId) (d : Desk) (v : Known) (stage : HandleStage) : Type 0 where

@@ -1,5 +1,5 @@
 -- A CPU's own records, and what a post leaves of its CPU.
-use Rattle.std.proofs.Common.{◌≡◌, ℕ, zero, suc, ◌+◌, ◌%◌, ◌^◌, ◌<◌, Bool, true, false, not, ◌||◌, ◌==◌, nat_lt, cond, Option, Some, None, List, [], ◌∷◌, ◌++◌, length, length-set, get_or, set, sym, refl, ap, ◌∙◌, subst, arith}
+use Rattle.std.proofs.Common.{◌≡◌, ℕ, zero, suc, ◌^◌, ◌<◌, Bool, true, false, not, ◌||◌, ◌==◌, nat_lt, cond, Some, None, List, [], ◌∷◌, ◌++◌, length, length-set, get_or, set, sym, refl, ap, ◌∙◌, subst, arith}
 use Rattle.std.proofs.lemmas.Bool.{or_parts, ltb-true}
 use Rattle.std.proofs.lemmas.List.{get_or-set_same}
 use Rattle.atomic_table.specs.Seated.{TableId}
@@ -19,7 +19,7 @@ use Rattle.smp_core.specs.declared.post.PostStage.TheVariants as post
 use Rattle.smp_mask.specs.declared.error.SmpError.{SmpError}
 use Rattle.smp_queue.specs.Cells.{cells}
 use Rattle.smp_queue.specs.Desk.{Desk, At, IsMine, uncounted, counted}
-use Rattle.smp_queue.specs.Cpu.{CpuValue, IsKept, cpu_of, confirms, posts, misused}
+use Rattle.smp_queue.specs.Cpu.{CpuValue, IsKept, cpu_of, confirms, posts}
 
 pub at_own : (table : TableId) (d : Desk) (number k id : ℕ) (queued ran : List ℕ) → IsKept d.known number queued ran → d.table ≡ table → table.words ≡ cells → k < records_of_one → id ≡ record_of number k → At table d id
 at_own table d number k id queued ran m is sized l e =

@@ -1,24 +1,22 @@
 -- A CPU that runs its batch: what it knows after each call.
-use Rattle.std.proofs.Common.{◌≡◌, ◌≢◌, ℕ, ◌+◌, ◌%◌, ◌^◌, ◌<◌, Some, List, [], ◌∷◌, ◌++◌, length, length-set, get_or, set, append-nil, append_assoc, sym, refl, ap, ◌∙◌, subst, inl, inr, arith}
+use Rattle.std.proofs.Common.{◌≡◌, ℕ, ◌+◌, ◌%◌, ◌^◌, ◌<◌, List, [], ◌∷◌, ◌++◌, length, length-set, get_or, set, append-nil, append_assoc, sym, refl, ap, ◌∙◌, subst, inl, inr, arith}
 use Rattle.std.proofs.lemmas.List.{get_or-set_same, get_or-set_other}
 use Rattle.std.proofs.lemmas.Bool.{cases_eq}
 use Rattle.std.proofs.lemmas.Fn.{FoldsTo-push}
 use Rattle.atomic_table.specs.Seated.{TableId}
-use Rattle.smp_core.specs.Size.{cpus, records, owner}
+use Rattle.smp_core.specs.Size.{records, owner}
 use Rattle.smp_core.specs.Drains.{DrainValue, run_next, rest_of, async_rest, popped}
 use Rattle.smp_core.specs.Histories.{calls_from, counted_call}
 use Rattle.smp_core.specs.Known.{ran_tally}
 use Rattle.smp_core.specs.Handling.{begun_async, ended_call, IsRunStage}
 use Rattle.smp_core.proofs.Sizes.{owner-below}
 use Rattle.smp_core.proofs.Tallies.{count-same, count-other}
-use Rattle.smp_core.proofs.Handling.{lives_front}
 use Rattle.smp_core.specs.declared.call.Call.{Call}
 use Rattle.smp_core.specs.declared.known.Known.{Known}
 use Rattle.smp_core.specs.declared.handle.HandleStage.{HandleStage}
-use Rattle.smp_core.specs.declared.handle.HandleStage.TheVariants as handle
-use Rattle.smp_queue.specs.Cpu.{CpuValue, cpu_of}
+use Rattle.smp_queue.specs.Cpu.{cpu_of}
 use Rattle.smp_queue.specs.Desk.{Desk, InHandle}
-use Rattle.smp_queue.specs.Handling.{heard_of, Grows, SameCalls, AreRan, runs, HasRun, HasRunAll}
+use Rattle.smp_queue.specs.Handling.{heard_of, SameCalls, AreRan, runs, HasRun, HasRunAll}
 use Rattle.smp_queue.specs.declared.handler.Heard.{Heard}
 
 -- a call that runs is not counted yet

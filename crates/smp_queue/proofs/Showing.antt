@@ -1,9 +1,7 @@
 -- What a CPU knows is its part of calls that keep all laws.
-use Rattle.std.proofs.Common.{◌≡◌, ℕ, sym, subst, refl, ap, ◌∙◌}
 use Rattle.smp_core.specs.Known.{Lives}
 use Rattle.smp_core.proofs.Counts.{confirmed_calls_ran}
-use Rattle.smp_core.specs.declared.known.Known.{Known}
-use Rattle.smp_queue.specs.Cpu.{CpuValue, cpu_of}
+use Rattle.smp_queue.specs.Cpu.{cpu_of}
 use Rattle.smp_queue.specs.Desk.{Desk}
 use Rattle.smp_queue.specs.Laws.{IsShown}
 

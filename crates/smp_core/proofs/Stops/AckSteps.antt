@@ -1,6 +1,5 @@
 -- The steps that acknowledge a phase and set the next one, by a CPU's stage.
-use Rattle.std.proofs.Common.{◌≡◌, ◌≢◌, ℕ, zero, suc, ◌+◌, ◌-◌, ◌%◌, ◌^◌, ◌<◌, ◌≤◌, Bool, true, false, not, nat_lt, le-ltb, eq-eqb, ne_eqb, eqb-true, ◌==◌, ◌&&◌, ◌||◌, cond, sym, subst, refl, ap, ◌∙◌, ◌⊎◌, inl, inr, arith, ⊎_elim, Option, Some, None, List, [], ◌∷◌, ◌++◌, length}
-use Rattle.std.proofs.lemmas.Bool.{cases_eq}
+use Rattle.std.proofs.Common.{◌≡◌, ℕ, ◌+◌, ◌-◌, ◌≤◌, Bool, true, false, nat_lt, le-ltb, ne_eqb, ◌==◌, ◌||◌, cond, sym, subst, refl, ap, ◌∙◌, ◌⊎◌, inl, inr, arith, Option, Some, None, List, []}
 use Rattle.smp_core.proofs.Puts.{at_test}
 use Rattle.smp_core.proofs.Stops.Facts.{ack_bounds, ack_bounds_patched}
 use Rattle.smp_core.proofs.Stops.RoundSteps.{ack_small}
@@ -40,7 +39,6 @@ or_true false = refl
 
 module _ (u : Setup) (p : StopState) (at : Word → ℕ) (seat : ℕ → Seat) (source : ℕ → Source) (h : StopShows u p at seat source) (c : StopControlValue) (me : ℕ)
     (s : Sits u me (at Gate) c (seat me) (source me)) (v : Visit) where
-
   in_round : (stage : RoundStage) → c.stage ≡ Some (Advance v stage) → (c.visit ≡ Some v) × SitsInRound u me c.changes v stage (seat me)
   in_round stage e = subst (λ (st : Option StopStage). SitsAt u me c st (seat me)) e s.seat
 
@@ -53,11 +51,15 @@ module _ (u : Setup) (p : StopState) (at : Word → ℕ) (seat : ℕ → Seat) (
   -- where the CPU stands once the phase is acknowledged
   acked_sits : (answer : ℕ) (ran : Bool) (work : Work) → IsLoaded v work → OwnsIf c.is_open (source me) → c.interrupts ≡ nat_lt (v.acked + 1) 2 → (b : Bool) →
       Sits u me (at Gate) (cond b (stop_goes (record c { visit = Some (visit_acked v answer ran) }) (Advance (visit_acked v answer ran) (round.Refill ran))) (turn_ends (record c { visit = Some (visit_acked v answer ran) }) (v.acked + 1) ran)).control
-          (In v.slot work (v.acked + 1) (v.acked + 1) (cond b Fills Rests)) (source me)
+      (In v.slot work (v.acked + 1) (v.acked + 1) (cond b Fills Rests)) (source me)
   acked_sits answer ran work loaded y irq true = record { below = s.below; irq = irq; seat = (refl, (work, record { kind = loaded.kind; mask = loaded.mask; active = loaded.active }, refl)); source = y; gate_held = tt }
-  acked_sits answer ran work loaded y irq false = record { below = s.below;
+  acked_sits answer ran work loaded y irq false = record {
+    below = s.below;
     irq = at_test (v.acked + 1) 4 (λ d. cond d true c.interrupts ≡ nat_lt (v.acked + 1) 2 || d) (λ _. sym (or_true (nat_lt (v.acked + 1) 2))) (λ _. irq ∙ sym (or_false (nat_lt (v.acked + 1) 2)));
-    seat = (work, record { kind = loaded.kind; mask = loaded.mask; active = loaded.active }, refl); source = y; gate_held = tt }
+    seat = (work, record { kind = loaded.kind; mask = loaded.mask; active = loaded.active }, refl);
+    source = y;
+    gate_held = tt;
+  }
 
   pub acknowledge : (answer : ℕ) (ran : Bool) → c.stage ≡ Some (Advance v (round.Acknowledge answer ran)) → StopStep u p at seat source c me (Advance v (round.Acknowledge answer ran))
   acknowledge answer ran e =
@@ -75,11 +77,12 @@ module _ (u : Setup) (p : StopState) (at : Word → ℕ) (seat : ℕ → Seat) (
           let bounds = ack_bounds u p at seat source h v.slot me work v.acked is in
           let less = less_one (at (Slot v.slot Ack)) bounds.0 (ack_small (at (Slot v.slot Ack)) u.cpus h.setup.few bounds.1) in
           record {
-            seat_after = next; source_after = source me;
+            seat_after = next;
+            source_after = source me;
             shows = subst (λ n. StopShows u (state_after u p at c me (Advance v (round.Acknowledge answer ran))) (put_word at (Slot v.slot Ack) n) (put seat me next) (put source me (source me))) (sym less)
                 (moved_seat (state_after u p at c me (Advance v (round.Acknowledge answer ran))) (put_word at (Slot v.slot Ack) (at (Slot v.slot Ack) - 1)) next
                 (ack_subtracted u p at seat source h v.slot me work v.acked answer is
-                    (λ two kind. ap (λ m. has m me) (sym loaded.active) ∙ calm two (loaded.kind ∙ kind))));
+                (λ two kind. ap (λ m. has m me) (sym loaded.active) ∙ calm two (loaded.kind ∙ kind))));
             sits = acked_sits answer ran work loaded y
                 (s.irq ∙ (ap irq_of is ∙ (ap (λ b. nat_lt (v.acked + 1) 2 || b) (ne_eqb v.acked 4 (λ z. omega arith)) ∙ or_false (nat_lt (v.acked + 1) 2)))) (at (Slot v.slot Ack) == 1);
           }
@@ -89,7 +92,8 @@ module _ (u : Setup) (p : StopState) (at : Word → ℕ) (seat : ℕ → Seat) (
           let bounds = ack_bounds_patched u p at seat source h v.slot me work made is in
           let less = less_one (at (Slot v.slot Ack)) bounds.0 (ack_small (at (Slot v.slot Ack)) u.cpus h.setup.few bounds.1) in
           record {
-            seat_after = next; source_after = source me;
+            seat_after = next;
+            source_after = source me;
             shows = subst (λ n. StopShows u (state_after u p at c me (Advance v (round.Acknowledge answer ran))) (put_word at (Slot v.slot Ack) n) (put seat me next) (put source me (source me))) (sym less)
                 (moved_seat (state_after u p at c me (Advance v (round.Acknowledge answer ran))) (put_word at (Slot v.slot Ack) (at (Slot v.slot Ack) - 1)) next
                 (subst (λ x. StopShows u (state_after u p at c me (Advance v (round.Acknowledge answer ran))) (put_word at (Slot v.slot Ack) (at (Slot v.slot Ack) - 1)) (put seat me x) source) three
@@ -104,7 +108,8 @@ module _ (u : Setup) (p : StopState) (at : Word → ℕ) (seat : ℕ → Seat) (
       let loaded = r.1.1 in
       let next = In v.slot work v.acked v.acked Sets in
       record {
-        seat_after = next; source_after = source me;
+        seat_after = next;
+        source_after = source me;
         shows = subst (λ m. StopShows u (told u p me act.Store (Slot v.slot Ack) None (Some (mask_weight u.cpus m)) 0) (put_word at (Slot v.slot Ack) (mask_weight u.cpus m)) (put seat me next) (put source me (source me))) (sym loaded.mask)
             (moved_seat (told u p me act.Store (Slot v.slot Ack) None (Some (mask_weight u.cpus work.mask)) 0) (put_word at (Slot v.slot Ack) (mask_weight u.cpus work.mask)) next
             (ack_stored u p at seat source h v.slot me work v.acked v.acked 0 r.1.2));
@@ -118,9 +123,14 @@ module _ (u : Setup) (p : StopState) (at : Word → ℕ) (seat : ℕ → Seat) (
       let next = In v.slot work v.acked v.acked Rests in
       let off : c.interrupts ≡ nat_lt v.acked 2 = s.irq ∙ ap irq_of r.1.2 in
       record {
-        seat_after = next; source_after = source me;
+        seat_after = next;
+        source_after = source me;
         shows = moved_seat (state_after u p at c me (Advance v (round.Raise ran))) (at_then u at c me (Advance v (round.Raise ran))) next (state_stored u p at seat source h v.slot me work v.acked v.acked 0 r.1.2);
-        sits = record { below = s.below;
+        sits = record {
+          below = s.below;
           irq = at_test v.acked 4 (λ d. cond d true c.interrupts ≡ nat_lt v.acked 2 || d) (λ _. sym (or_true (nat_lt v.acked 2))) (λ _. off ∙ sym (or_false (nat_lt v.acked 2)));
-          seat = subst (λ x. SitsAtRest x next) (sym r.0) (work, r.1.1, refl); source = at_source (round.Raise ran) e; gate_held = tt };
+          seat = subst (λ x. SitsAtRest x next) (sym r.0) (work, r.1.1, refl);
+          source = at_source (round.Raise ran) e;
+          gate_held = tt;
+        };
       }

@@ -1,6 +1,5 @@
 -- The steps at the ends of a stop for one CPU, by its stage; and all steps.
-use Rattle.std.proofs.Common.{◌≡◌, ◌≢◌, ℕ, zero, suc, ◌+◌, ◌-◌, ◌%◌, ◌^◌, ◌<◌, ◌≤◌, Bool, true, false, not, nat_lt, le-ltb, eq-eqb, ne_eqb, eqb-true, ◌==◌, ◌&&◌, ◌||◌, cond, sym, subst, refl, ap, ◌∙◌, ◌⊎◌, inl, inr, arith, ⊎_elim, Option, Some, None, List, [], ◌∷◌, ◌++◌, length, bit_and}
-use Rattle.std.proofs.lemmas.Bool.{cases_eq}
+use Rattle.std.proofs.Common.{◌≡◌, ℕ, ◌-◌, ◌<◌, ◌≤◌, Bool, true, false, eq-eqb, eqb-true, ◌==◌, cond, sym, subst, refl, ap, ◌∙◌, ◌⊎◌, inl, inr, arith, ⊎_elim, Option, Some, None, bit_and}
 use Rattle.smp_core.proofs.SameWords.{same_word-true}
 use Rattle.smp_core.proofs.Stops.AckSteps.{acknowledge, raise, refill}
 use Rattle.smp_core.proofs.Stops.Bits.{clear_none, clear_other, clear_same}
@@ -34,7 +33,6 @@ use Rattle.smp_mask.specs.Mask.{has}
 
 module _ (u : Setup) (p : StopState) (at : Word → ℕ) (seat : ℕ → Seat) (source : ℕ → Source) (h : StopShows u p at seat source) (c : StopControlValue) (me : ℕ)
     (s : Sits u me (at Gate) c (seat me) (source me)) where
-
   at_source : (stage : StopStage) → c.stage ≡ Some stage → SourceSits c.is_open (Some stage) (source me)
   at_source stage e = subst (λ (st : Option StopStage). SourceSits c.is_open st (source me)) e s.source
 
@@ -81,25 +79,28 @@ module _ (u : Setup) (p : StopState) (at : Word → ℕ) (seat : ℕ → Seat) (
           (x : Seat) × (StopShows u (state_after u p at c me (Enter slot)) (at_then u at c me (Enter slot)) (put seat me x) (put source me (source me))) ×
           Sits u me (at Gate) (cond b (stop_goes c (EnterKind slot)) (stop_ends c note.Stale)).control x (source me)
       go visit is y true found =
-          let next = In slot (p.now.stop slot).work 0 0 Rests in
-          (next,
+          let next = In slot (p.now.stop slot).work 0 0 Rests in (
+            next,
             moved_seat (state_after u p at c me (Enter slot)) (at_then u at c me (Enter slot)) next
                 (roll_cleared u p at seat source h slot me (bit_and (at (Slot slot Roll)) (all_but me)) 0 is found (clear_same (at (Slot slot Roll)) me low)
-                    (λ d ne. clear_other (at (Slot slot Roll)) me d low ne (high_none slot d))),
-            record { below = s.below; irq = s.irq ∙ ap irq_of is; seat = ((p.now.stop slot).work, refl); source = y; gate_held = tt })
-      go visit is y false missing =
-          (seat me,
-            still (state_after u p at c me (Enter slot)) (at_then u at c me (Enter slot))
-                (subst (λ n. StopShows u (state_after u p at c me (Enter slot)) (put_word at (Slot slot Roll) n) seat source) (sym (clear_none (at (Slot slot Roll)) me low missing (high_none slot)))
-                (subst (λ (x : Word → ℕ). StopShows u (state_after u p at c me (Enter slot)) x seat source) (sym (word_same (Slot slot Roll)))
-                (roll_stale u p at seat source h slot me (Some (bit_and (at (Slot slot Roll)) (all_but me))) 0 missing))),
-            record { below = s.below; irq = s.irq; seat = subst (λ x. SitsAtRest x (seat me)) (sym visit) is; source = y; gate_held = tt })
+                (λ d ne. clear_other (at (Slot slot Roll)) me d low ne (high_none slot d))),
+            record { below = s.below; irq = s.irq ∙ ap irq_of is; seat = ((p.now.stop slot).work, refl); source = y; gate_held = tt },
+          )
+      go visit is y false missing = (
+        seat me,
+        still (state_after u p at c me (Enter slot)) (at_then u at c me (Enter slot))
+            (subst (λ n. StopShows u (state_after u p at c me (Enter slot)) (put_word at (Slot slot Roll) n) seat source) (sym (clear_none (at (Slot slot Roll)) me low missing (high_none slot)))
+            (subst (λ (x : Word → ℕ). StopShows u (state_after u p at c me (Enter slot)) x seat source) (sym (word_same (Slot slot Roll)))
+            (roll_stale u p at seat source h slot me (Some (bit_and (at (Slot slot Roll)) (all_but me))) 0 missing))),
+        record { below = s.below; irq = s.irq; seat = subst (λ x. SitsAtRest x (seat me)) (sym visit) is; source = y; gate_held = tt },
+      )
 
   close : (slot : ℕ) → c.stage ≡ Some (Close slot) → StopStep u p at seat source c me (Close slot)
   close slot e =
       let x = at_seat (Close slot) e in
       record {
-        seat_after = Free; source_after = source me;
+        seat_after = Free;
+        source_after = source me;
         shows = moved_seat (state_after u p at c me (Close slot)) (at_then u at c me (Close slot)) Free (done_stored u p at seat source h slot me 0 x.1);
         sits = record { below = s.below; irq = s.irq ∙ ap irq_of x.1; seat = subst (λ x. SitsAtRest x Free) (sym x.0) refl; source = at_source (Close slot) e; gate_held = tt };
       }
@@ -109,7 +110,8 @@ module _ (u : Setup) (p : StopState) (at : Word → ℕ) (seat : ℕ → Seat) (
     one_func answer e =
         let x = at_seat (Complete v (completion.LoadFunc answer)) e in
         record {
-          seat_after = seat me; source_after = source me;
+          seat_after = seat me;
+          source_after = source me;
           shows = still p at h;
           sits = record { below = s.below; irq = s.irq; seat = x; source = at_source (Complete v (completion.LoadFunc answer)) e; gate_held = tt };
         }
@@ -118,17 +120,28 @@ module _ (u : Setup) (p : StopState) (at : Word → ℕ) (seat : ℕ → Seat) (
     one_arg answer func e =
         let x = at_seat (Complete v (completion.LoadArg answer func)) e in
         record {
-          seat_after = seat me; source_after = source me;
+          seat_after = seat me;
+          source_after = source me;
           shows = still p at h;
           sits = go x.1.0 x.1.1.0 x.1.1.1 x.1.1.2 (at_source (Complete v (completion.LoadArg answer func)) e) (answer == 0) refl;
         }
       where
         go : v.kind ≡ One → (work : Work) → IsLoaded v work → seat me ≡ In v.slot work v.acked v.acked Rests → OwnsIf c.is_open (source me) → (b : Bool) → (answer == 0) ≡ b →
             Sits u me (at Gate) (record c { stage = Some (Complete (record v { answer = answer }) (cond b completion.CountDown completion.StoreAnswer)); visit = Some (record v { answer = answer }) }) (seat me) (source me)
-        go one work loaded is y true z = record { below = s.below; irq = s.irq;
-          seat = (refl, (work, inl (eqb-true answer 0 z, record { kind = loaded.kind; mask = loaded.mask; active = loaded.active }, inr one, is))); source = y; gate_held = tt }
-        go one work loaded is y false z = record { below = s.below; irq = s.irq;
-          seat = (refl, ((λ none. let bad : true ≡ false = sym (eq-eqb answer 0 none) ∙ z in cc), inr one, (work, record { kind = loaded.kind; mask = loaded.mask; active = loaded.active }, is))); source = y; gate_held = tt }
+        go one work loaded is y true z = record {
+          below = s.below;
+          irq = s.irq;
+          seat = (refl, (work, inl (eqb-true answer 0 z, record { kind = loaded.kind; mask = loaded.mask; active = loaded.active }, inr one, is)));
+          source = y;
+          gate_held = tt;
+        }
+        go one work loaded is y false z = record {
+          below = s.below;
+          irq = s.irq;
+          seat = (refl, ((λ none. let bad : true ≡ false = sym (eq-eqb answer 0 none) ∙ z in cc), inr one, (work, record { kind = loaded.kind; mask = loaded.mask; active = loaded.active }, is)));
+          source = y;
+          gate_held = tt;
+        }
 
     through_of : (work : Work) → IsLoaded v work → IsThroughAll v → (v.acked ≡ 4) ⊎ (work.kind ≡ One)
     through_of work loaded t = ⊎_elim (λ (x : v.acked ≡ 4). inl x) (λ (x : v.kind ≡ One). inr (sym loaded.kind ∙ x)) t
@@ -142,11 +155,17 @@ module _ (u : Setup) (p : StopState) (at : Word → ℕ) (seat : ℕ → Seat) (
         let through = through_of work x.1.2.1 x.1.1 in
         let next = Gives v.slot work v.acked v.answer in
         record {
-          seat_after = next; source_after = source me;
+          seat_after = next;
+          source_after = source me;
           shows = moved_seat (state_after u p at c me (Complete v completion.StoreAnswer)) (at_then u at c me (Complete v completion.StoreAnswer)) next
               (result_stored u p at seat source h v.slot me work v.acked v.acked is through v.answer 0 some);
-          sits = record { below = s.below; irq = s.irq ∙ on_now u p at seat source h v.slot me work v.acked v.acked is through; seat = (x.0, (work, inr refl));
-            source = at_source (Complete v completion.StoreAnswer) e; gate_held = tt };
+          sits = record {
+            below = s.below;
+            irq = s.irq ∙ on_now u p at seat source h v.slot me work v.acked v.acked is through;
+            seat = (x.0, (work, inr refl));
+            source = at_source (Complete v completion.StoreAnswer) e;
+            gate_held = tt;
+          };
         }
 
     counted_sits : OwnsIf c.is_open (source me) → c.interrupts ≡ true → (b : Bool) →
@@ -168,7 +187,8 @@ module _ (u : Setup) (p : StopState) (at : Word → ℕ) (seat : ℕ → Seat) (
             let bounds = todo_bounds u p at seat source h v.slot me work v.acked v.acked Rests is in
             let less = less_one found bounds.0 (ack_small found u.cpus h.setup.few bounds.1) in
             record {
-              seat_after = next; source_after = source me;
+              seat_after = next;
+              source_after = source me;
               shows = subst (λ n. StopShows u (state_after u p at c me (Complete v completion.CountDown)) (put_word at (Slot v.slot Todo) n) (put seat me next) (put source me (source me))) (sym less)
                   (moved_seat (state_after u p at c me (Complete v completion.CountDown)) (put_word at (Slot v.slot Todo) (found - 1)) next (todo_subtracted u p at seat source h v.slot me work v.acked v.acked 0 is through));
               sits = counted_sits y (s.irq ∙ on_now u p at seat source h v.slot me work v.acked v.acked is through) (found == 1);
@@ -179,7 +199,8 @@ module _ (u : Setup) (p : StopState) (at : Word → ℕ) (seat : ℕ → Seat) (
             let bounds = todo_bounds_answered u p at seat source h v.slot me work v.acked v.answer is in
             let less = less_one found bounds.0 (ack_small found u.cpus h.setup.few bounds.1) in
             record {
-              seat_after = next; source_after = source me;
+              seat_after = next;
+              source_after = source me;
               shows = subst (λ n. StopShows u (state_after u p at c me (Complete v completion.CountDown)) (put_word at (Slot v.slot Todo) n) (put seat me next) (put source me (source me))) (sym less)
                   (moved_seat (state_after u p at c me (Complete v completion.CountDown)) (put_word at (Slot v.slot Todo) (found - 1)) next (todo_subtracted_answered u p at seat source h v.slot me work v.acked v.answer 0 is));
               sits = counted_sits y (s.irq ∙ ap irq_of is) (found == 1);

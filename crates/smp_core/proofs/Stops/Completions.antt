@@ -1,5 +1,5 @@
 -- The kinds of step at the ends of a stop for one CPU: it enters, stores its answer, counts itself, and stores done.
-use Rattle.std.proofs.Common.{◌≡◌, ◌≢◌, ℕ, ◌+◌, ◌-◌, ◌<◌, ◌≤◌, Bool, true, false, nat_lt, eq-eqb, ne_eqb, ◌==◌, ◌&&◌, ◌||◌, cond, sym, subst, refl, ap, ◌∙◌, ◌⊎◌, inl, inr, arith, ⊎_elim, Option, Some, None, List, [], ◌∷◌, ◌++◌}
+use Rattle.std.proofs.Common.{◌≡◌, ◌≢◌, ℕ, ◌+◌, ◌-◌, ◌≤◌, Bool, true, false, nat_lt, eq-eqb, ◌==◌, ◌||◌, cond, sym, subst, refl, ap, ◌∙◌, ◌⊎◌, inl, inr, arith, ⊎_elim, Option, Some, None, List, [], ◌∷◌, ◌++◌}
 use Rattle.smp_core.proofs.Puts.{at_test, put_all}
 use Rattle.smp_core.proofs.Stops.Counts.{put_else, put_here, sum_zero}
 use Rattle.smp_core.proofs.Stops.Ends.{answer_of_it, answer_unfinished}
@@ -63,14 +63,19 @@ module _ (u : Setup) (p : StopState) (at : Word → ℕ) (seat : ℕ → Seat) (
       let called : (p.now.stop s).standing me ≡ Called = called_is ((p.now.stop s).standing me) (sym ((h.present.slots s).roll me) ∙ found) in
       let open_ = is_open_inside u.cpus (p.now.stop s) w (h.present.slots s) me Called called refl in
       let k = keeps_inside u.cpus (p.now.stop s) w (h.present.slots s) me Called called in
-      let stays : StaysOpen (p.now.stop s) stop' = record { was = open_; now = open_; work = refl; end = λ e. e;
-        given = put_all (λ c y. answer_now y ≡ answer_now ((p.now.stop s).standing c)) (p.now.stop s).standing me to (sym (ap answer_now called)) (λ c ne. refl) } in
+      let stays : StaysOpen (p.now.stop s) stop' = record {
+        was = open_;
+        now = open_;
+        work = refl;
+        end = λ e. e;
+        given = put_all (λ c y. answer_now y ≡ answer_now ((p.now.stop s).standing c)) (p.now.stop s).standing me to (sym (ap answer_now called)) (λ c ne. refl);
+      } in
       let at' = put_word at (Slot s Roll) n in
       subst (λ b. StopShows u (cond b (record p { now = enters p.now me s }) p) at' (put seat me (In s (p.now.stop s).work 0 0 Rests)) source) (sym found)
-          (open_step u p at seat source h s stop' inside' p.now.irq p.now.readings p.now.patching at' (put seat me (In s (p.now.stop s).work 0 0 Rests)) p.looks p.calls stays
-              refl (other_slots at s Roll n)
-              (own k.1)
-              (step_enters u p.now at seat h.present s me n is found clears others))
+      (open_step u p at seat source h s stop' inside' p.now.irq p.now.readings p.now.patching at' (put seat me (In s (p.now.stop s).work 0 0 Rests)) p.looks p.calls stays
+      refl (other_slots at s Roll n)
+      (own k.1)
+      (step_enters u p.now at seat h.present s me n is found clears others))
     where
       low : IsLevel (p.now.stop s).phase 0 → (c : ℕ) → acked ((p.now.stop s).standing c) ≤ 1
       low level c = let m = acked_most_phase u.cpus (p.now.stop s).phase c ((p.now.stop s).standing c) ((h.present.slots s).keeps c) in
@@ -82,8 +87,8 @@ module _ (u : Setup) (p : StopState) (at : Word → ℕ) (seat : ℕ → Seat) (
       own : IsLevel (p.now.stop s).phase 0 → (j : ℕ) → OwnsKey u.first (after p.now s (stands (p.now.stop s) me (Inside 0 0)) (put p.now.inside me (Some s)) p.now.irq p.now.readings p.now.patching) (λ k. at (Key k)) j
       own level j =
           at_test j s (λ b. let y = cond b (stands (p.now.stop s) me (Inside 0 0)) (p.now.stop j) in
-              y.is_open ≡ true → y.work.kind ≡ Patch → is_inside (y.standing j) ≡ true → 3 ≤ acked (y.standing u.first) → is_on (at (Key y.work.func)) ≡ is_on y.work.arg)
-              (λ e op kind in_ late. let m = early level u.first in absurd (omega arith)) (λ ne. h.owns j)
+          y.is_open ≡ true → y.work.kind ≡ Patch → is_inside (y.standing j) ≡ true → 3 ≤ acked (y.standing u.first) → is_on (at (Key y.work.func)) ≡ is_on y.work.arg)
+          (λ e op kind in_ late. let m = early level u.first in absurd (omega arith)) (λ ne. h.owns j)
 
   -- fetch_and of the roll, that did not find it: E7
   pub roll_stale : (new : Option ℕ) (answer : ℕ) → has (at (Slot s Roll)) me ≡ false → StopShows u (told u p me act.And (Slot s Roll) (Some (at (Slot s Roll))) new answer) at seat source
@@ -122,11 +127,11 @@ module _ (u : Setup) (p : StopState) (at : Word → ℕ) (seat : ℕ → Seat) (
         let inside : MovesInside ((p.now.stop s).standing me) to = record { inside = λ _. ap is_inside st.1; late = λ x. subst (λ (y : Standing). 3 ≤ acked y) (sym st.1) x; given = sym (ap answer_now st.1) } in
         let stays : StaysOpen (p.now.stop s) stop' = record { was = open_; now = open_; work = refl; end = λ e. e; given = moves_given u.first s me (p.now.stop s) to inside } in
         subst (λ b. StopShows u (cond b (stored_open p me s Result v) (stored_shut p s Result v)) at' (put seat me (Gives s job a v)) source) (sym open_)
-            (subst (λ (x : Standing). StopShows u (record p { now = with_stop p.now s (stands (p.now.stop s) me (answered_by x v)) }) at' (put seat me (Gives s job a v)) source) (sym st.1)
-                (open_step u p at seat source h s stop' p.now.inside p.now.irq p.now.readings p.now.patching at' (put seat me (Gives s job a v)) p.looks p.calls stays
-                    refl (other_slots at s Result v)
-                    (owns_kept u.first p.now (λ k. at (Key k)) s stop' p.now.inside p.now.irq p.now.readings p.now.patching stays (moves_early u.first s me (p.now.stop s) to inside stop' refl) h.owns)
-                    (step_answers u p.now at seat h.present s me job a l v is some is_done (rests_not me (p.now.stop s).raising st.2) on_now)))
+        (subst (λ (x : Standing). StopShows u (record p { now = with_stop p.now s (stands (p.now.stop s) me (answered_by x v)) }) at' (put seat me (Gives s job a v)) source) (sym st.1)
+        (open_step u p at seat source h s stop' p.now.inside p.now.irq p.now.readings p.now.patching at' (put seat me (Gives s job a v)) p.looks p.calls stays
+        refl (other_slots at s Result v)
+        (owns_kept u.first p.now (λ k. at (Key k)) s stop' p.now.inside p.now.irq p.now.readings p.now.patching stays (moves_early u.first s me (p.now.stop s) to inside stop' refl) h.owns)
+        (step_answers u p.now at seat h.present s me job a l v is some is_done (rests_not me (p.now.stop s).raising st.2) on_now)))
 
   -- fetch_sub of todo, of whoever is ready to be counted
   completes_shown : (job : Work) (a v : ℕ) → p.now.inside me ≡ Some s → IsAnswer ((p.now.stop s).standing me) a v → turn_of (p.now.stop s).raising me ≡ Rests → IsDone (p.now.stop s).phase a →
@@ -144,21 +149,21 @@ module _ (u : Setup) (p : StopState) (at : Word → ℕ) (seat : ℕ → Seat) (
       let answers' = put p.answers me (put (p.answers me) s (p.answers me s ++ v ∷ [])) in
       let calls' = cond (is_one (p.now.stop s).work.kind) (calls_more p.calls me (p.now.stop s).work v) p.calls in
       open_step_with u p at seat source h s stop' inside' p.now.irq p.now.readings p.now.patching (put_word at (Slot s Todo) (found - 1)) (put seat me (cond (found == 1) (Closes s) Free))
-          p.looks calls' answers' open_ open_ refl
-          (λ e. absurd (ended_not e (subst (λ x. DoneShows u.cpus (p.now.stop s).standing x (at (Slot s Done))) e o.done) of))
-          refl (other_slots at s Todo (found - 1))
-          (λ j. at_test j s (λ b. HasPast (cond b stop' (p.now.stop j)) (p.begun j) (p.collected j) (λ c. answers' c j))
-              (λ e. let P : ℕ → Type 0 = λ k. HasPast stop' (p.begun k) (p.collected k) (λ c. answers' c k) in
-                  subst P (sym e) (past_answers stop' (p.begun s) (p.collected s) (put (λ c. p.answers c s) me (p.answers me s ++ v ∷ [])) (λ c. answers' c s) (here_more (p.answers me s ++ v ∷ []))
-                      ((h.past s).0, past_completes (h.past s).0 (p.now.stop s) (p.begun s) (p.collected s) (λ c. p.answers c s) (h.past s).1 me a v found none)))
-              (λ ne. past_answers (p.now.stop j) (p.begun j) (p.collected j) (λ c. p.answers c j) (λ c. answers' c j) (there_same j ne (p.answers me s ++ v ∷ [])) (h.past j)))
-          (λ j. at_test j s (λ b. let y = cond b stop' (p.now.stop j) in
-              y.is_open ≡ true → y.work.kind ≡ Patch → is_inside (y.standing j) ≡ true → 3 ≤ acked (y.standing u.first) → is_on (at (Key y.work.func)) ≡ is_on y.work.arg)
-              (λ e op kind in_ late. h.owns s op kind
-                  (put_all (λ c y. is_inside y ≡ true → is_inside ((p.now.stop s).standing c) ≡ true) (p.now.stop s).standing me to (λ bad. cc) (λ c ne i. i) s (subst (λ k. is_inside (stop'.standing k) ≡ true) e in_))
-                  (put_all (λ c y. 3 ≤ acked y → 3 ≤ acked ((p.now.stop s).standing c)) (p.now.stop s).standing me to (λ x. subst (λ n. 3 ≤ n) (sym (acked_it ((p.now.stop s).standing me) is)) x) (λ c ne l. l) u.first late))
-              (λ ne. h.owns j))
-          (step_completes u p.now at seat h.present s me a v in_ is turn (done, rests_not me (p.now.stop s).raising turn) on idle)
+      p.looks calls' answers' open_ open_ refl
+      (λ e. absurd (ended_not e (subst (λ x. DoneShows u.cpus (p.now.stop s).standing x (at (Slot s Done))) e o.done) of))
+      refl (other_slots at s Todo (found - 1))
+      (λ j. at_test j s (λ b. HasPast (cond b stop' (p.now.stop j)) (p.begun j) (p.collected j) (λ c. answers' c j))
+      (λ e. let P : ℕ → Type 0 = λ k. HasPast stop' (p.begun k) (p.collected k) (λ c. answers' c k) in
+      subst P (sym e) (past_answers stop' (p.begun s) (p.collected s) (put (λ c. p.answers c s) me (p.answers me s ++ v ∷ [])) (λ c. answers' c s) (here_more (p.answers me s ++ v ∷ []))
+      ((h.past s).0, past_completes (h.past s).0 (p.now.stop s) (p.begun s) (p.collected s) (λ c. p.answers c s) (h.past s).1 me a v found none)))
+      (λ ne. past_answers (p.now.stop j) (p.begun j) (p.collected j) (λ c. p.answers c j) (λ c. answers' c j) (there_same j ne (p.answers me s ++ v ∷ [])) (h.past j)))
+      (λ j. at_test j s (λ b. let y = cond b stop' (p.now.stop j) in
+      y.is_open ≡ true → y.work.kind ≡ Patch → is_inside (y.standing j) ≡ true → 3 ≤ acked (y.standing u.first) → is_on (at (Key y.work.func)) ≡ is_on y.work.arg)
+      (λ e op kind in_ late. h.owns s op kind
+      (put_all (λ c y. is_inside y ≡ true → is_inside ((p.now.stop s).standing c) ≡ true) (p.now.stop s).standing me to (λ bad. cc) (λ c ne i. i) s (subst (λ k. is_inside (stop'.standing k) ≡ true) e in_))
+      (put_all (λ c y. 3 ≤ acked y → 3 ≤ acked ((p.now.stop s).standing c)) (p.now.stop s).standing me to (λ x. subst (λ n. 3 ≤ n) (sym (acked_it ((p.now.stop s).standing me) is)) x) (λ c ne l. l) u.first late))
+      (λ ne. h.owns j))
+      (step_completes u p.now at seat h.present s me a v in_ is turn (done, rests_not me (p.now.stop s).raising turn) on idle)
     where
       acked_it : (x : Standing) → IsAnswer x a v → acked x ≡ a
       acked_it Outside e = absurd e
@@ -186,7 +191,7 @@ module _ (u : Setup) (p : StopState) (at : Word → ℕ) (seat : ℕ → Seat) (
       let found = at (Slot s Todo) in
       let now = st job a l is through in
       subst (λ (x : Standing). StopShows u (completes p me s x found) (put_word at (Slot s Todo) (found - 1)) (put seat me (cond (found == 1) (Closes s) Free)) source) (sym now.1)
-          (completes_shown job a 0 now.0 (subst (λ x. IsAnswer x a 0) (sym now.1) (refl, refl)) now.2 (is_done job a l is through) (on_now job a l is through) (subst IsNoPatch (sym is) tt) (ap answer_now now.1))
+      (completes_shown job a 0 now.0 (subst (λ x. IsAnswer x a 0) (sym now.1) (refl, refl)) now.2 (is_done job a l is through) (on_now job a l is through) (subst IsNoPatch (sym is) tt) (ap answer_now now.1))
 
   -- and by who has stored its answer
   pub todo_subtracted_answered : (job : Work) (a v answer : ℕ) → seat me ≡ Gives s job a v →
@@ -197,7 +202,7 @@ module _ (u : Setup) (p : StopState) (at : Word → ℕ) (seat : ℕ → Seat) (
       let now : Stands p.now me (Gives s job a v) = subst (Stands p.now me) is (h.present.stands me) in
       let k = keeps_inside u.cpus (p.now.stop s) w (h.present.slots s) me (Answering a v) now.1 in
       subst (λ (x : Standing). StopShows u (completes p me s x found) (put_word at (Slot s Todo) (found - 1)) (put seat me (cond (found == 1) (Closes s) Free)) source) (sym now.1)
-          (completes_shown job a v now.0 (subst (λ x. IsAnswer x a v) (sym now.1) (refl, refl)) now.2 k.2 (ap irq_of is) (subst IsNoPatch (sym is) tt) (ap answer_now now.1))
+      (completes_shown job a v now.0 (subst (λ x. IsAnswer x a v) (sym now.1) (refl, refl)) now.2 k.2 (ap irq_of is) (subst IsNoPatch (sym is) tt) (ap answer_now now.1))
 
   -- store of done by the last
   pub done_stored : (answer : ℕ) → seat me ≡ Closes s → StopShows u (told u p me act.Store (Slot s Done) None (Some 1) answer) (put_word at (Slot s Done) 1) (put seat me Free) source
@@ -206,7 +211,7 @@ module _ (u : Setup) (p : StopState) (at : Word → ℕ) (seat : ℕ → Seat) (
       let stop' = ended (p.now.stop s) in
       let stays : StaysOpen (p.now.stop s) stop' = record { was = now.1; now = now.1; work = refl; end = λ _. refl; given = λ c. refl } in
       subst (λ b. StopShows u (cond b (stored_open p me s Done 1) (stored_shut p s Done 1)) (put_word at (Slot s Done) 1) (put seat me Free) source) (sym now.1)
-          (open_step u p at seat source h s stop' p.now.inside p.now.irq p.now.readings p.now.patching (put_word at (Slot s Done) 1) (put seat me Free) p.looks p.calls stays
-              refl (other_slots at s Done 1)
-              (owns_kept u.first p.now (λ k. at (Key k)) s stop' p.now.inside p.now.irq p.now.readings p.now.patching stays record { inside = λ i. i; late = λ i. i } h.owns)
-              (step_finishes u p.now at seat h.present s me is))
+      (open_step u p at seat source h s stop' p.now.inside p.now.irq p.now.readings p.now.patching (put_word at (Slot s Done) 1) (put seat me Free) p.looks p.calls stays
+      refl (other_slots at s Done 1)
+      (owns_kept u.first p.now (λ k. at (Key k)) s stop' p.now.inside p.now.irq p.now.readings p.now.patching stays record { inside = λ i. i; late = λ i. i } h.owns)
+      (step_finishes u p.now at seat h.present s me is))

@@ -1,5 +1,5 @@
 -- Opening, completing and collecting, and the function law.
-use Rattle.std.proofs.Common.{◌≡◌, ◌≢◌, ℕ, ◌+◌, ◌-◌, ◌<◌, ◌≤◌, Bool, true, false, not, ◌==◌, ◌&&◌, cond, sym, subst, refl, ap, ◌∙◌, ◌⊎◌, inl, inr, arith, ⊎_elim, ne_eqb, eq-eqb}
+use Rattle.std.proofs.Common.{◌≡◌, ◌≢◌, ℕ, ◌+◌, ◌-◌, ◌<◌, ◌≤◌, Bool, true, false, ◌==◌, ◌&&◌, cond, sym, subst, refl, ap, ◌∙◌, ◌⊎◌, inl, inr, arith, ⊎_elim}
 use Rattle.smp_core.proofs.Puts.{at_test, put_all}
 use Rattle.smp_core.proofs.Stops.Counts.{put_else, put_here, sum_put, sum_same, sum_zero}
 use Rattle.smp_core.proofs.Stops.Phases.{is_open_inside, keeps_inside}
@@ -105,9 +105,11 @@ module _ (cpus : ℕ) (stop : Stop) (word : Field → ℕ) (g : SlotShows cpus s
         keeps = put_all (λ c s. Keeps cpus stop.phase c s) stop.standing me to (answer_keeps stop.phase a v cpus me (stop.standing me) is through.0 (g.keeps me)) (λ c ne. g.keeps c);
         shows = λ _. record {
           written = record { kind = o.written.kind; mask = o.written.mask; active = o.written.active; func = o.written.func; arg = o.written.arg };
-          state = o.state; bound = o.bound;
+          state = o.state;
+          bound = o.bound;
           ack = λ ne. ack_kept cpus stop.standing me stop.phase to (answer_behind stop.phase a v (stop.standing me) is) (sym of) stop.raising (word Ack) through.1 (o.ack ne);
-          calm = o.calm; kinds = o.kinds;
+          calm = o.calm;
+          kinds = o.kinds;
           todo = let l = one_less cpus stop.standing me a v (word Todo) small left o.todo in omega arith;
           done = done_more cpus stop.standing me a v (word Todo) small left o.todo stop.ending (word Done) o.done;
           result = result_kept stop.standing me to (word Result) (answer_back stop.phase a v (stop.standing me) is) (answer_on stop.phase a v (stop.standing me) is) o.result;
@@ -117,14 +119,21 @@ module _ (cpus : ℕ) (stop : Stop) (word : Field → ℕ) (g : SlotShows cpus s
   -- store of done by the last
   pub finishes_slot : stop.ending ≡ Last me → SlotShows cpus (ended stop) (put_field word Done 1)
   finishes_slot is = record {
-    members = g.members; roll = g.roll; keeps = g.keeps;
+    members = g.members;
+    roll = g.roll;
+    keeps = g.keeps;
     shows = λ open_. let o = g.shows open_ in
         let h : DoneShows cpus stop.standing (Last me) (word Done) = subst (λ e. DoneShows cpus stop.standing e (word Done)) is o.done in record {
-      written = record { kind = o.written.kind; mask = o.written.mask; active = o.written.active; func = o.written.func; arg = o.written.arg };
-      state = o.state; bound = o.bound; ack = o.ack; calm = o.calm; kinds = o.kinds; todo = o.todo;
-      done = (refl, h.1);
-      result = o.result;
-    };
+          written = record { kind = o.written.kind; mask = o.written.mask; active = o.written.active; func = o.written.func; arg = o.written.arg };
+          state = o.state;
+          bound = o.bound;
+          ack = o.ack;
+          calm = o.calm;
+          kinds = o.kinds;
+          todo = o.todo;
+          done = (refl, h.1);
+          result = o.result;
+        };
   }
 
   -- a CPU that looked at a new phase, 3: its function may run
@@ -231,12 +240,15 @@ module _ (cpus : ℕ) (stop : Stop) (word : Field → ℕ) (g : SlotShows cpus s
   -- done is 1: all have completed, and the result word is the result of their answers
   pub collects_slot : stop.is_open ≡ true → word Done ≡ 1 →
       IsResult stop.work.mask (λ c. answer_of (stop.standing c)) (word Result) × SlotShows cpus (closed stop) word
-  collects_slot open_ found = let o = g.shows open_ in let z = none_left stop.ending o.done in (answered z o.result, record {
-    members = λ c. refl;
-    roll = λ c. g.roll c ∙ not_called (stop.standing c) (each z c);
-    keeps = λ c. tt;
-    shows = λ bad. absurd (no bad);
-  })
+  collects_slot open_ found = let o = g.shows open_ in let z = none_left stop.ending o.done in (
+    answered z o.result,
+    record {
+      members = λ c. refl;
+      roll = λ c. g.roll c ∙ not_called (stop.standing c) (each z c);
+      keeps = λ c. tt;
+      shows = λ bad. absurd (no bad);
+    },
+  )
     where
       no : false ≡ true → ⊥
       no e = cc

@@ -1,5 +1,5 @@
 -- Entering, completing, opening and collecting, among all slots and CPUs.
-use Rattle.std.proofs.Common.{◌≡◌, ◌≢◌, ℕ, zero, suc, ◌+◌, ◌-◌, ◌<◌, ◌≤◌, Bool, true, false, not, ◌==◌, ◌&&◌, ◌||◌, cond, sym, subst, refl, ap, ◌∙◌, ◌⊎◌, inl, inr, arith, ⊎_elim, ne_eqb, eq-eqb, Option, Some, None, List, [], ◌∷◌, ◌++◌}
+use Rattle.std.proofs.Common.{◌≡◌, ◌≢◌, ℕ, zero, suc, ◌-◌, ◌<◌, Bool, true, false, ◌==◌, cond, sym, subst, refl, ap, ◌∙◌, ◌⊎◌, arith, ne_eqb, eq-eqb, Option, Some, None}
 use Rattle.smp_core.proofs.Puts.{at_test}
 use Rattle.smp_core.proofs.Stops.Counts.{put_else, put_here, sum_zero}
 use Rattle.smp_core.proofs.Stops.Ends.{all_outside, answer_of_it, answer_unfinished, collects_slot, completes_slot, finishes_slot, opens_slot}
@@ -8,7 +8,7 @@ use Rattle.smp_core.proofs.Stops.Phases.{is_open_inside}
 use Rattle.smp_core.proofs.Stops.Raises.{in_machine}
 use Rattle.smp_core.proofs.Stops.Works.{answers_slot, called_is, enters_slot, not_raising}
 use Rattle.smp_core.specs.Put.{place_of, put, put_word, same_field}
-use Rattle.smp_core.specs.Stops.Counts.{count_unfinished, one, unfinished}
+use Rattle.smp_core.specs.Stops.Counts.{count_unfinished, unfinished}
 use Rattle.smp_core.specs.Stops.Laws.{IsAnswer, IsNot, IsThrough}
 use Rattle.smp_core.specs.Stops.Present.{PresentShows}
 use Rattle.smp_core.specs.Stops.Seats.{Closes, Fills, Free, Gives, In, Rests, Seat, Sets, Stands, irq_of, turn_of}
@@ -36,15 +36,15 @@ module _ (u : Setup) (p : Present) (at : Word → ℕ) (seat : ℕ → Seat) (h 
   step_opens work shut is_work stored =
       let out = all_outside u.cpus (p.stop s) w (h.slots s) shut in
       source_moves u p at (put_word at (Slot s Roll) work.mask) seat s (opened (p.stop s) work) h
-          (slot_put u.cpus p.stop at s Roll work.mask (opened (p.stop s) work) h.slots (opens_slot u.cpus (p.stop s) w (h.slots s) work is_work.below is_work.some stored)) refl
-          (λ c. record {
-            on = λ i. absurd (nobody (out c) i);
-            back = λ i. absurd (calls (has work.mask c) i);
-            work = λ i. absurd (nobody (out c) i);
-            turn = λ i. absurd (nobody (out c) i);
-            ending = λ op e. absurd (apart (sym op ∙ shut));
-          })
-          (λ _ kind. patch_of_kind work.kind kind is_work.kind)
+      (slot_put u.cpus p.stop at s Roll work.mask (opened (p.stop s) work) h.slots (opens_slot u.cpus (p.stop s) w (h.slots s) work is_work.below is_work.some stored)) refl
+      (λ c. record {
+        on = λ i. absurd (nobody (out c) i);
+        back = λ i. absurd (calls (has work.mask c) i);
+        work = λ i. absurd (nobody (out c) i);
+        turn = λ i. absurd (nobody (out c) i);
+        ending = λ op e. absurd (apart (sym op ∙ shut));
+      })
+      (λ _ kind. patch_of_kind work.kind kind is_work.kind)
     where
       patch_of_kind : (k : KindOf) → k ≡ Patch → IsOfKind u work k → IsPatchWork u work
       patch_of_kind One e is = cc
@@ -68,9 +68,9 @@ module _ (u : Setup) (p : Present) (at : Word → ℕ) (seat : ℕ → Seat) (h 
       let out = all_outside u.cpus (p.stop s) w (h.slots s) shut in
       let stop' : Stop = record (p.stop s) { work = work } in
       source_moves u p at (put_word at (Slot s f) n) seat s stop' h
-          (slot_put u.cpus p.stop at s f n stop' h.slots (drafted_slot f n work shut out other)) refl
-          (λ c. record { on = λ _. refl; back = λ i. i; work = λ i. absurd (nobody (out c) i); turn = λ _. refl; ending = λ op e. absurd (apart (sym op ∙ shut)) })
-          (λ op _. absurd (apart (sym op ∙ shut)))
+      (slot_put u.cpus p.stop at s f n stop' h.slots (drafted_slot f n work shut out other)) refl
+      (λ c. record { on = λ _. refl; back = λ i. i; work = λ i. absurd (nobody (out c) i); turn = λ _. refl; ending = λ op e. absurd (apart (sym op ∙ shut)) })
+      (λ op _. absurd (apart (sym op ∙ shut)))
     where
       apart : true ≡ false → ⊥
       apart e = cc
@@ -98,15 +98,15 @@ module _ (u : Setup) (p : Present) (at : Word → ℕ) (seat : ℕ → Seat) (h 
       let o = (h.slots s).shows open_ in
       let z = none_left (p.stop s).ending o.done in
       source_moves u p at at seat s (closed (p.stop s)) h
-          (slot_same u.cpus p.stop at s (closed (p.stop s)) h.slots (collects_slot u.cpus (p.stop s) w (h.slots s) open_ found).1) refl
-          (λ c. record {
-            on = λ i. absurd (gone z c i);
-            back = λ i. absurd (apart i);
-            work = λ _. refl;
-            turn = λ _. refl;
-            ending = λ op e. absurd (running c (p.stop s).ending e o.done);
-          })
-          (λ bad kind. absurd (apart bad))
+      (slot_same u.cpus p.stop at s (closed (p.stop s)) h.slots (collects_slot u.cpus (p.stop s) w (h.slots s) open_ found).1) refl
+      (λ c. record {
+        on = λ i. absurd (gone z c i);
+        back = λ i. absurd (apart i);
+        work = λ _. refl;
+        turn = λ _. refl;
+        ending = λ op e. absurd (running c (p.stop s).ending e o.done);
+      })
+      (λ bad kind. absurd (apart bad))
     where
       apart : false ≡ true → ⊥
       apart e = cc
@@ -155,22 +155,25 @@ module _ (u : Setup) (p : Present) (at : Word → ℕ) (seat : ℕ → Seat) (h 
         let called : (p.stop s).standing me ≡ Called = called_is ((p.stop s).standing me) (sym ((h.slots s).roll me) ∙ found) in
         let o = (h.slots s).shows (is_open_inside u.cpus (p.stop s) w (h.slots s) me Called called refl) in
         moves u p at (put_word at (Slot s Roll) n) seat s me stop' (put p.inside me (Some s)) p.irq p.readings (In s (p.stop s).work 0 0 Rests) h
-            (slot_put u.cpus p.stop at s Roll n stop' h.slots (enters_slot u.cpus (p.stop s) w (h.slots s) me n found clears others)) refl
-            (λ c ne. record {
-              on = λ _. put_else (p.stop s).standing me to c ne;
-              back = λ i. subst (λ x. is_inside x ≡ true) (put_else (p.stop s).standing me to c ne) i;
-              work = λ _. refl; turn = λ _. refl; ending = λ op e. (op, e);
-            })
-            (save (Some s))
-            (put_here p.inside me (Some s),
-              at_test s s (λ b. (cond b stop' (p.stop s)).standing me ≡ to) (λ _. put_here (p.stop s).standing me to) (λ ne. absurd (ne refl)),
-              at_test s s (λ b. turn_of (cond b stop' (p.stop s)).raising me ≡ Rests) (λ _. quiet called o) (λ ne. absurd (ne refl)),
-              at_test s s (λ b. (cond b stop' (p.stop s)).work ≡ (p.stop s).work) (λ _. refl) (λ _. refl))
-            (at_home stop' (Some s) (λ j i. absurd (let bad : None ≡ Some j = sym st ∙ h.homes j me i in cc)) (λ _. refl))
-            (h.irq me ∙ ap irq_of is)
-            (λ on i. h.read me on (h.irq me ∙ ap irq_of is))
-            (subst IsNoPatch (sym is) tt)
-            (λ op kind. h.works s op kind)
+        (slot_put u.cpus p.stop at s Roll n stop' h.slots (enters_slot u.cpus (p.stop s) w (h.slots s) me n found clears others)) refl
+        (λ c ne. record {
+          on = λ _. put_else (p.stop s).standing me to c ne;
+          back = λ i. subst (λ x. is_inside x ≡ true) (put_else (p.stop s).standing me to c ne) i;
+          work = λ _. refl;
+          turn = λ _. refl;
+          ending = λ op e. (op, e);
+        })
+        (save (Some s)) (
+          put_here p.inside me (Some s),
+          at_test s s (λ b. (cond b stop' (p.stop s)).standing me ≡ to) (λ _. put_here (p.stop s).standing me to) (λ ne. absurd (ne refl)),
+          at_test s s (λ b. turn_of (cond b stop' (p.stop s)).raising me ≡ Rests) (λ _. quiet called o) (λ ne. absurd (ne refl)),
+          at_test s s (λ b. (cond b stop' (p.stop s)).work ≡ (p.stop s).work) (λ _. refl) (λ _. refl),
+        )
+        (at_home stop' (Some s) (λ j i. absurd (let bad : None ≡ Some j = sym st ∙ h.homes j me i in cc)) (λ _. refl))
+        (h.irq me ∙ ap irq_of is)
+        (λ on i. h.read me on (h.irq me ∙ ap irq_of is))
+        (subst IsNoPatch (sym is) tt)
+        (λ op kind. h.works s op kind)
       where
         turns : (r : Raising) → IsNot me r → turn_of r me ≡ Rests
         turns Nobody ne = refl
@@ -191,7 +194,7 @@ module _ (u : Setup) (p : Present) (at : Word → ℕ) (seat : ℕ → Seat) (h 
     pub step_completes : (a v : ℕ) → p.inside me ≡ Some s → IsAnswer ((p.stop s).standing me) a v → turn_of (p.stop s).raising me ≡ Rests → IsThrough (p.stop s) me a →
         irq_of (seat me) ≡ true → IsNoPatch (seat me) →
         PresentShows u (moved p s (completed (p.stop s) me a v (at (Slot s Todo))) (put p.inside me None) p.irq p.readings)
-            (put_word at (Slot s Todo) (at (Slot s Todo) - 1)) (put seat me (cond (at (Slot s Todo) == 1) (Closes s) Free))
+        (put_word at (Slot s Todo) (at (Slot s Todo) - 1)) (put seat me (cond (at (Slot s Todo) == 1) (Closes s) Free))
     step_completes a v in_ is turn through on mine =
         let found = at (Slot s Todo) in
         let stop' = completed (p.stop s) me a v found in
@@ -199,21 +202,22 @@ module _ (u : Setup) (p : Present) (at : Word → ℕ) (seat : ℕ → Seat) (h 
         let open_ = is_open_inside u.cpus (p.stop s) w (h.slots s) me ((p.stop s).standing me) refl of in
         let o = (h.slots s).shows open_ in
         moves u p at (put_word at (Slot s Todo) (found - 1)) seat s me stop' (put p.inside me None) p.irq p.readings (cond (found == 1) (Closes s) Free) h
-            (slot_put u.cpus p.stop at s Todo (found - 1) stop' h.slots (completes_slot u.cpus (p.stop s) w (h.slots s) me a v is through)) refl
-            (λ c ne. record {
-              on = λ _. put_else (p.stop s).standing me (Completed a v) c ne;
-              back = λ i. subst (λ x. is_inside x ≡ true) (put_else (p.stop s).standing me (Completed a v) c ne) i;
-              work = λ _. refl; turn = λ _. refl;
-              ending = λ op e. absurd (not_last c (in_machine u.cpus (p.stop s).phase me ((p.stop s).standing me) of ((h.slots s).keeps me)) (subst (λ e. DoneShows u.cpus (p.stop s).standing e (at (Slot s Done))) e o.done));
-            })
-            (save None)
-            (now (found == 1) open_)
-            (at_home stop' None (λ j i. let e : Some s ≡ Some j = sym in_ ∙ h.homes j me i in let f : j ≡ s = cc in f)
-                (λ i. absurd (apart (subst (λ x. is_inside x ≡ true) (put_here (p.stop s).standing me (Completed a v)) i))))
-            (h.irq me ∙ (on ∙ sym (irq_after (found == 1))))
-            (λ o i. h.read me o (h.irq me ∙ on))
-            mine
-            (λ op kind. h.works s op kind)
+        (slot_put u.cpus p.stop at s Todo (found - 1) stop' h.slots (completes_slot u.cpus (p.stop s) w (h.slots s) me a v is through)) refl
+        (λ c ne. record {
+          on = λ _. put_else (p.stop s).standing me (Completed a v) c ne;
+          back = λ i. subst (λ x. is_inside x ≡ true) (put_else (p.stop s).standing me (Completed a v) c ne) i;
+          work = λ _. refl;
+          turn = λ _. refl;
+          ending = λ op e. absurd (not_last c (in_machine u.cpus (p.stop s).phase me ((p.stop s).standing me) of ((h.slots s).keeps me)) (subst (λ e. DoneShows u.cpus (p.stop s).standing e (at (Slot s Done))) e o.done));
+        })
+        (save None)
+        (now (found == 1) open_)
+        (at_home stop' None (λ j i. let e : Some s ≡ Some j = sym in_ ∙ h.homes j me i in let f : j ≡ s = cc in f)
+        (λ i. absurd (apart (subst (λ x. is_inside x ≡ true) (put_here (p.stop s).standing me (Completed a v)) i))))
+        (h.irq me ∙ (on ∙ sym (irq_after (found == 1))))
+        (λ o i. h.read me o (h.irq me ∙ on))
+        mine
+        (λ op kind. h.works s op kind)
       where
         apart : false ≡ true → ⊥
         apart e = cc
@@ -229,9 +233,11 @@ module _ (u : Setup) (p : Present) (at : Word → ℕ) (seat : ℕ → Seat) (h 
 
         now : (b : Bool) → (p.stop s).is_open ≡ true →
             Stands (moved p s (record (p.stop s) { standing = put (p.stop s).standing me (Completed a v); ending = cond b (Last me) (p.stop s).ending }) (put p.inside me None) p.irq p.readings) me (cond b (Closes s) Free)
-        now true op = (put_here p.inside me None,
-            at_test s s (λ b. (cond b (record (p.stop s) { standing = put (p.stop s).standing me (Completed a v); ending = Last me }) (p.stop s)).is_open ≡ true) (λ _. op) (λ _. op),
-            at_test s s (λ b. (cond b (record (p.stop s) { standing = put (p.stop s).standing me (Completed a v); ending = Last me }) (p.stop s)).ending ≡ Last me) (λ _. refl) (λ ne. absurd (ne refl)))
+        now true op = (
+          put_here p.inside me None,
+          at_test s s (λ b. (cond b (record (p.stop s) { standing = put (p.stop s).standing me (Completed a v); ending = Last me }) (p.stop s)).is_open ≡ true) (λ _. op) (λ _. op),
+          at_test s s (λ b. (cond b (record (p.stop s) { standing = put (p.stop s).standing me (Completed a v); ending = Last me }) (p.stop s)).ending ≡ Last me) (λ _. refl) (λ ne. absurd (ne refl)),
+        )
         now false op = put_here p.inside me None
 
     -- store of done by the last
@@ -240,19 +246,22 @@ module _ (u : Setup) (p : Present) (at : Word → ℕ) (seat : ℕ → Seat) (h 
     step_finishes is =
         let st : Stands p me (Closes s) = subst (Stands p me) is (h.stands me) in
         moves u p at (put_word at (Slot s Done) 1) seat s me (ended (p.stop s)) p.inside p.irq p.readings Free h
-            (slot_put u.cpus p.stop at s Done 1 (ended (p.stop s)) h.slots (finishes_slot u.cpus (p.stop s) w (h.slots s) me st.2)) refl
-            (λ c ne. record {
-              on = λ _. refl; back = λ i. i; work = λ _. refl; turn = λ _. refl;
-              ending = λ op e. absurd (let same : Last me ≡ Last c = sym st.2 ∙ e in let f : me ≡ c = cc in ne (sym f));
-            })
-            record { inside = λ c ne. refl; irq = λ c ne. refl; readings = λ c ne. refl }
-            st.0
-            (λ j. at_test j s (λ b. is_inside ((cond b (ended (p.stop s)) (p.stop j)).standing me) ≡ true → p.inside me ≡ Some j)
-                (λ e i. h.homes j me (subst (λ k. is_inside ((p.stop k).standing me) ≡ true) (sym e) i)) (λ ne. h.homes j me))
-            (h.irq me ∙ ap irq_of is)
-            (λ on i. h.read me on (h.irq me ∙ ap irq_of is))
-            (subst IsNoPatch (sym is) tt)
-            (λ op kind. h.works s op kind)
+        (slot_put u.cpus p.stop at s Done 1 (ended (p.stop s)) h.slots (finishes_slot u.cpus (p.stop s) w (h.slots s) me st.2)) refl
+        (λ c ne. record {
+          on = λ _. refl;
+          back = λ i. i;
+          work = λ _. refl;
+          turn = λ _. refl;
+          ending = λ op e. absurd (let same : Last me ≡ Last c = sym st.2 ∙ e in let f : me ≡ c = cc in ne (sym f));
+        })
+        record { inside = λ c ne. refl; irq = λ c ne. refl; readings = λ c ne. refl }
+        st.0
+        (λ j. at_test j s (λ b. is_inside ((cond b (ended (p.stop s)) (p.stop j)).standing me) ≡ true → p.inside me ≡ Some j)
+        (λ e i. h.homes j me (subst (λ k. is_inside ((p.stop k).standing me) ≡ true) (sym e) i)) (λ ne. h.homes j me))
+        (h.irq me ∙ ap irq_of is)
+        (λ on i. h.read me on (h.irq me ∙ ap irq_of is))
+        (subst IsNoPatch (sym is) tt)
+        (λ op kind. h.works s op kind)
 
     -- store of an answer that is not 0
     pub step_answers : (job : Work) (a l v : ℕ) → seat me ≡ In s job a l Rests → v ≢ 0 → (a ≡ 4) ⊎ ((p.stop s).phase ≡ 0) → IsNot me (p.stop s).raising → irq_of (seat me) ≡ true →
@@ -262,19 +271,23 @@ module _ (u : Setup) (p : Present) (at : Word → ℕ) (seat : ℕ → Seat) (h 
         let stop' = stands (p.stop s) me to in
         let st : Stands p me (In s job a l Rests) = subst (Stands p me) is (h.stands me) in
         moves u p at (put_word at (Slot s Result) v) seat s me stop' p.inside p.irq p.readings (Gives s job a v) h
-            (slot_put u.cpus p.stop at s Result v stop' h.slots (answers_slot u.cpus (p.stop s) w (h.slots s) me a l v st.1 some (through, quiet))) refl
-            (λ c ne. record {
-              on = λ _. put_else (p.stop s).standing me to c ne;
-              back = λ i. subst (λ x. is_inside x ≡ true) (put_else (p.stop s).standing me to c ne) i;
-              work = λ _. refl; turn = λ _. refl; ending = λ op e. (op, e);
-            })
-            record { inside = λ c ne. refl; irq = λ c ne. refl; readings = λ c ne. refl }
-            (st.0, at_test s s (λ b. (cond b stop' (p.stop s)).standing me ≡ to) (λ _. put_here (p.stop s).standing me to) (λ ne. absurd (ne refl)),
-              at_test s s (λ b. turn_of (cond b stop' (p.stop s)).raising me ≡ Rests) (λ _. st.2) (λ ne. absurd (ne refl)),
-              at_test s s (λ b. (cond b stop' (p.stop s)).work ≡ job) (λ _. st.3) (λ ne. absurd (ne refl)))
-            (λ j. at_test j s (λ b. is_inside ((cond b stop' (p.stop j)).standing me) ≡ true → p.inside me ≡ Some j)
-                (λ e i. st.0 ∙ ap Some (sym e)) (λ ne. h.homes j me))
-            (h.irq me ∙ on)
-            (λ o i. h.read me o (h.irq me ∙ on))
-            (subst IsNoPatch (sym is) tt)
-            (λ op kind. h.works s op kind)
+        (slot_put u.cpus p.stop at s Result v stop' h.slots (answers_slot u.cpus (p.stop s) w (h.slots s) me a l v st.1 some (through, quiet))) refl
+        (λ c ne. record {
+          on = λ _. put_else (p.stop s).standing me to c ne;
+          back = λ i. subst (λ x. is_inside x ≡ true) (put_else (p.stop s).standing me to c ne) i;
+          work = λ _. refl;
+          turn = λ _. refl;
+          ending = λ op e. (op, e);
+        })
+        record { inside = λ c ne. refl; irq = λ c ne. refl; readings = λ c ne. refl } (
+          st.0,
+          at_test s s (λ b. (cond b stop' (p.stop s)).standing me ≡ to) (λ _. put_here (p.stop s).standing me to) (λ ne. absurd (ne refl)),
+          at_test s s (λ b. turn_of (cond b stop' (p.stop s)).raising me ≡ Rests) (λ _. st.2) (λ ne. absurd (ne refl)),
+          at_test s s (λ b. (cond b stop' (p.stop s)).work ≡ job) (λ _. st.3) (λ ne. absurd (ne refl)),
+        )
+        (λ j. at_test j s (λ b. is_inside ((cond b stop' (p.stop j)).standing me) ≡ true → p.inside me ≡ Some j)
+        (λ e i. st.0 ∙ ap Some (sym e)) (λ ne. h.homes j me))
+        (h.irq me ∙ on)
+        (λ o i. h.read me o (h.irq me ∙ on))
+        (subst IsNoPatch (sym is) tt)
+        (λ op kind. h.works s op kind)

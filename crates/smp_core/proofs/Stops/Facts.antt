@@ -1,5 +1,5 @@
 -- What a CPU inside a stop finds, and the state at first.
-use Rattle.std.proofs.Common.{◌≡◌, ◌≢◌, ℕ, ◌+◌, ◌-◌, ◌<◌, ◌≤◌, Bool, true, false, nat_lt, eq-eqb, ne_eqb, eqb-true, ◌==◌, ◌&&◌, ◌||◌, cond, sym, subst, refl, ap, ◌∙◌, ◌⊎◌, inl, inr, arith, ⊎_elim, zero, suc, Option, Some, None, List, [], ◌∷◌, ◌++◌}
+use Rattle.std.proofs.Common.{◌≡◌, ◌≢◌, ℕ, ◌+◌, ◌<◌, ◌≤◌, Bool, true, false, ◌==◌, cond, sym, subst, refl, ap, ◌∙◌, ◌⊎◌, inl, inr, arith, ⊎_elim, zero, suc, List, []}
 use Rattle.std.proofs.lemmas.Nat.Bits.{bit_at-zero}
 use Rattle.smp_core.proofs.Stops.Counts.{sum_zero}
 use Rattle.smp_core.proofs.Stops.Phases.{is_open_inside, keeps_inside, none_raises}
@@ -11,7 +11,7 @@ use Rattle.smp_core.specs.Stops.Shows.{StopShows}
 use Rattle.smp_core.specs.Stops.Slots.{AckShows, IsWritten, Keeps, OpenShows}
 use Rattle.smp_core.specs.Stops.Sources.{Shut, Source}
 use Rattle.smp_core.specs.Stops.State.{IsSetup, Setup, StopState, no_stops}
-use Rattle.smp_core.specs.Stops.Stop.{Answering, Called, Completed, Inside, Outside, Standing, stands}
+use Rattle.smp_core.specs.Stops.Stop.{Answering, Called, Completed, Inside, Outside, Standing}
 use Rattle.smp_core.specs.declared.stop.field.Field.TheVariants.{Ack, Roll, State, Todo}
 use Rattle.smp_core.specs.declared.stop.work.Work.{Work}
 use Rattle.smp_core.specs.declared.word.Word.TheVariants.{Gate, Slot}

@@ -1,5 +1,5 @@
 -- What a step on an open stop leaves to the sources, to the past and to the keys that sources know.
-use Rattle.std.proofs.Common.{◌≡◌, ◌≢◌, ℕ, ◌+◌, ◌<◌, ◌≤◌, Bool, true, false, ◌==◌, ◌&&◌, cond, sym, subst, refl, ap, ◌∙◌, arith, Option, Some, None, List, [], ◌∷◌, ◌++◌}
+use Rattle.std.proofs.Common.{◌≡◌, ◌≢◌, ℕ, ◌≤◌, Bool, true, false, ◌==◌, cond, sym, subst, refl, ap, ◌∙◌, Option, List, [], ◌∷◌, ◌++◌}
 use Rattle.smp_core.proofs.Puts.{at_test, put_all}
 use Rattle.smp_core.proofs.Stops.Moves.{field_false}
 use Rattle.smp_core.specs.Put.{put, put_word, same_field}
@@ -11,14 +11,12 @@ use Rattle.smp_core.specs.Stops.Shows.{StopShows}
 use Rattle.smp_core.specs.Stops.Sources.{Collects, Drafts, Owns, Shut, Source, SourceShows}
 use Rattle.smp_core.specs.Stops.State.{Present, Setup, StopCall, StopState}
 use Rattle.smp_core.specs.Stops.Stop.{Ended, Standing, Stop, acked, is_inside}
-use Rattle.smp_core.specs.Stops.Tells.{looks, told}
 use Rattle.smp_core.specs.declared.stop.field.Field.{Field}
 use Rattle.smp_core.specs.declared.stop.work.Kind.TheVariants.{Patch}
 use Rattle.smp_core.specs.declared.stop.work.Work.{Work}
 use Rattle.smp_core.specs.declared.word.Word.TheVariants.{Gate, Key, Slot}
 use Rattle.smp_core.specs.declared.word.Word.{Word}
 use Rattle.smp_labels.specs.Keys.{is_on}
-use Rattle.smp_labels.specs.Plans.{stored}
 
 module _ (u : Setup) (gate : Option ℕ) (s : ℕ) where
   -- a source whose slot is as it was
@@ -39,12 +37,15 @@ module _ (u : Setup) (gate : Option ℕ) (s : ℕ) where
 -- the past, where nothing begins, is answered or collected
 pub past_same : (stop stop' : Stop) (begun : List Work) (collected : List ℕ) (answers : ℕ → List ℕ) → stop'.is_open ≡ stop.is_open → (stop.is_open ≡ true → stop'.work ≡ stop.work) →
     ((c : ℕ) → answer_now (stop'.standing c) ≡ answer_now (stop.standing c)) → HasPast stop begun collected answers → HasPast stop' begun collected answers
-past_same stop stop' begun collected answers op work given h = (h.0, record {
-  each = h.1.each;
-  begun_are = h.1.begun_are ∙ ap (λ l. works_of h.0 ++ l) (now stop.is_open refl);
-  collected_are = h.1.collected_are;
-  answers_are = λ c. h.1.answers_are c ∙ ap (λ l. answers_of c h.0 ++ l) (sym (given c));
-})
+past_same stop stop' begun collected answers op work given h = (
+  h.0,
+  record {
+    each = h.1.each;
+    begun_are = h.1.begun_are ∙ ap (λ l. works_of h.0 ++ l) (now stop.is_open refl);
+    collected_are = h.1.collected_are;
+    answers_are = λ c. h.1.answers_are c ∙ ap (λ l. answers_of c h.0 ++ l) (sym (given c));
+  },
+)
   where
     now : (b : Bool) → stop.is_open ≡ b → cond stop.is_open (stop.work ∷ []) [] ≡ cond stop'.is_open (stop'.work ∷ []) []
     now true e = ap (λ b. cond b (stop.work ∷ []) []) e ∙ (ap (λ w. w ∷ []) (sym (work e)) ∙ ap (λ b. cond b (stop'.work ∷ []) []) (sym (op ∙ e)))
@@ -71,11 +72,11 @@ pub owns_kept : (first : ℕ) (n : Present) (key : ℕ → ℕ) (s : ℕ) (stop'
     StaysOpen (n.stop s) stop' → IsEarly first s (n.stop s) stop' → ((j : ℕ) → OwnsKey first n key j) → (j : ℕ) → OwnsKey first (after n s stop' inside' irq' readings' patching') key j
 owns_kept first n key s stop' inside' irq' readings' patching' stays early own j =
     at_test j s (λ b. let x = cond b stop' (n.stop j) in x.is_open ≡ true → x.work.kind ≡ Patch → is_inside (x.standing j) ≡ true → 3 ≤ acked (x.standing first) → is_on (key x.work.func) ≡ is_on x.work.arg)
-        (λ e op kind in_ late.
-            let i = early.inside (subst (λ k. is_inside (stop'.standing k) ≡ true) e in_) in
-            let o = own s stays.was (ap (λ (w : Work). w.kind) (sym stays.work) ∙ kind) i (early.late late) in
-            ap (λ (w : Work). is_on (key w.func)) stays.work ∙ (o ∙ ap (λ (w : Work). is_on w.arg) (sym stays.work)))
-        (λ ne op kind in_ late. own j op kind in_ late)
+    (λ e op kind in_ late.
+    let i = early.inside (subst (λ k. is_inside (stop'.standing k) ≡ true) e in_) in
+    let o = own s stays.was (ap (λ (w : Work). w.kind) (sym stays.work) ∙ kind) i (early.late late) in
+    ap (λ (w : Work). is_on (key w.func)) stays.work ∙ (o ∙ ap (λ (w : Work). is_on w.arg) (sym stays.work)))
+    (λ ne op kind in_ late. own j op kind in_ late)
 
 -- the past, by the answers of each CPU
 pub past_answers : (stop : Stop) (begun : List Work) (collected : List ℕ) (answers answers' : ℕ → List ℕ) → ((c : ℕ) → answers' c ≡ answers c) → HasPast stop begun collected answers → HasPast stop begun collected answers'
@@ -97,7 +98,7 @@ module _ (u : Setup) (p : StopState) (at : Word → ℕ) (seat : ℕ → Seat) (
     gate = gate ∙ h.gate;
     sources = λ j. at_test j s (λ b. SourceShows u p.gate (cond b stop' (p.now.stop j)) (λ f. at' (Slot j f)) j (source j))
         (λ e. let P : ℕ → Type 0 = λ k. SourceShows u p.gate stop' (λ f. at' (Slot k f)) k (source k) in
-            subst P (sym e) (source_open u p.gate s (p.now.stop s) stop' (λ f. at (Slot s f)) (λ f. at' (Slot s f)) was now work end (source s) (h.sources s)))
+        subst P (sym e) (source_open u p.gate s (p.now.stop s) stop' (λ f. at (Slot s f)) (λ f. at' (Slot s f)) was now work end (source s) (h.sources s)))
         (λ ne. source_same u p.gate j (p.now.stop j) (λ f. at (Slot j f)) (λ f. at' (Slot j f)) (slots j ne) (source j) (h.sources j));
     past = past;
     owns = own;
@@ -111,9 +112,9 @@ module _ (u : Setup) (p : StopState) (at : Word → ℕ) (seat : ℕ → Seat) (
       StopShows u (record p { now = after p.now s stop' inside' irq' readings' patching'; looks = looks'; calls = calls' }) at' seat' source
   open_step looks' calls' stays gate slots own present = open_step_with looks' calls' p.answers stays.was stays.now stays.work stays.end gate slots
       (λ j. at_test j s (λ b. HasPast (cond b stop' (p.now.stop j)) (p.begun j) (p.collected j) (λ c. p.answers c j))
-          (λ e. let P : ℕ → Type 0 = λ k. HasPast stop' (p.begun k) (p.collected k) (λ c. p.answers c k) in
-              subst P (sym e) (past_same (p.now.stop s) stop' (p.begun s) (p.collected s) (λ c. p.answers c s) (stays.now ∙ sym stays.was) (λ _. stays.work) stays.given (h.past s)))
-          (λ ne. h.past j)) own present
+      (λ e. let P : ℕ → Type 0 = λ k. HasPast stop' (p.begun k) (p.collected k) (λ c. p.answers c k) in
+      subst P (sym e) (past_same (p.now.stop s) stop' (p.begun s) (p.collected s) (λ c. p.answers c s) (stays.now ∙ sym stays.was) (λ _. stays.work) stays.given (h.past s)))
+      (λ ne. h.past j)) own present
 
 -- the words of other slots, where one field of one slot was changed
 pub other_slots : (at : Word → ℕ) (s : ℕ) (g : Field) (n : ℕ) (j : ℕ) → j ≢ s → (f : Field) → put_word at (Slot s g) n (Slot j f) ≡ at (Slot j f)

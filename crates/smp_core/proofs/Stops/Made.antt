@@ -1,19 +1,13 @@
 -- What the code of a step makes of the stop half of a machine.
-use Rattle.std.proofs.Common.{◌≡◌, ℕ, Some, Option, List, length, sym, subst, refl, ap, ◌∙◌}
+use Rattle.std.proofs.Common.{◌≡◌, ℕ, Some, List, length, sym, subst, refl, ap, ◌∙◌}
 use Rattle.std.proofs.lemmas.List.{length-set}
-use Rattle.std.specs.Prelude.{slice_set, IfSome}
-use Rattle.smp_labels.specs.Labels.{Labels}
-use Rattle.smp_core.specs.Size.{cpus}
-use Rattle.smp_core.specs.Access.{word_of, seen_of}
 use Rattle.smp_core.specs.Stops.State.{StopState}
 use Rattle.smp_core.specs.Stops.Tells.{tells}
-use Rattle.smp_core.specs.Stops.Stages.{StopControlValue, FitsStop, FitsAccess, stop_access, stop_outcome, answer_at}
-use Rattle.smp_core.specs.Stops.Table.{StopWords, stop_number, stop_words_after}
-use Rattle.smp_core.specs.Stops.Value.{StopsValue, StopShown, StopsShow, IsStopTable, setup_of, stop_control_of}
-use Rattle.smp_core.specs.Stops.Machine.{AreSoundStops, StopTold, stop_access_at, stop_found_at, stop_seen_at, stop_stepped}
-use Rattle.smp_core.proofs.Stops.Values.{stop_value_shown, stop_table_shown, stop_found_fits, stop_access_fits}
-use Rattle.smp_core.specs.declared.access.Access.{Access}
-use Rattle.smp_core.specs.declared.seen.Note.{Note}
+use Rattle.smp_core.specs.Stops.Stages.{StopControlValue, stop_outcome, answer_at}
+use Rattle.smp_core.specs.Stops.Table.{StopWords}
+use Rattle.smp_core.specs.Stops.Value.{StopsValue, StopsShow, IsStopTable, setup_of, stop_control_of}
+use Rattle.smp_core.specs.Stops.Machine.{AreSoundStops, stop_found_at, stop_seen_at, stop_stepped}
+use Rattle.smp_core.proofs.Stops.Values.{stop_value_shown, stop_table_shown}
 use Rattle.smp_core.specs.declared.seen.Seen.{Seen}
 use Rattle.smp_core.specs.declared.stop.stage.StopStage.{StopStage}
 
@@ -27,9 +21,9 @@ module _ (v : StopsValue) (sound : AreSoundStops v.online v.labels v.table v.con
   pub made_told : (p : StopState) → StopsShow (setup_of v.online v.labels) p v.table v.controls → StopsShow (setup_of v.online v.labels) (tells (setup_of v.online v.labels) p (stop_seen_at v cpu stage) (answer_at stage)) table' controls'
   made_told p shown =
       let now : StopsShow (setup_of v.online v.labels) (tells (setup_of v.online v.labels) p (stop_seen_at v cpu stage) (answer_at stage)) (stop_stepped v cpu stage).table (stop_stepped v cpu stage).controls =
-          stop_value_shown (setup_of v.online v.labels) refl p v.table v.controls shown sound.sized sound.table_is cpu stage m.at_stage in
+      stop_value_shown (setup_of v.online v.labels) refl p v.table v.controls shown sound.sized sound.table_is cpu stage m.at_stage in
       subst (λ (t : StopWords). StopsShow (setup_of v.online v.labels) (tells (setup_of v.online v.labels) p (stop_seen_at v cpu stage) (answer_at stage)) t controls') (sym m.is_table)
-          (subst (λ (c : List StopControlValue). StopsShow (setup_of v.online v.labels) (tells (setup_of v.online v.labels) p (stop_seen_at v cpu stage) (answer_at stage)) (stop_stepped v cpu stage).table c) (sym m.is_controls) now)
+      (subst (λ (c : List StopControlValue). StopsShow (setup_of v.online v.labels) (tells (setup_of v.online v.labels) p (stop_seen_at v cpu stage) (answer_at stage)) (stop_stepped v cpu stage).table c) (sym m.is_controls) now)
 
   pub made_sound : AreSoundStops v.online v.labels table' controls'
   made_sound = record {

@@ -1,5 +1,5 @@
 -- A step on one slot, among all slots and CPUs.
-use Rattle.std.proofs.Common.{◌≡◌, ◌≢◌, ℕ, ◌+◌, ◌-◌, ◌<◌, ◌≤◌, Bool, true, false, not, ◌==◌, ◌&&◌, ◌||◌, cond, sym, subst, refl, ap, ◌∙◌, ◌⊎◌, inl, inr, arith, ⊎_elim, ne_eqb, eq-eqb, Option, Some, None, List, [], ◌∷◌, ◌++◌}
+use Rattle.std.proofs.Common.{◌≡◌, ◌≢◌, ℕ, Bool, true, false, ◌==◌, cond, sym, subst, refl, ap, ◌∙◌, Option, Some, List}
 use Rattle.smp_core.proofs.Puts.{at_test, put_all}
 use Rattle.smp_core.proofs.Stops.Counts.{put_else}
 use Rattle.smp_core.specs.Put.{place_of, put, put_word, same_field}
@@ -9,7 +9,7 @@ use Rattle.smp_core.specs.Stops.Seats.{Alters, Closes, Free, Gives, In, Rests, S
 use Rattle.smp_core.specs.Stops.Slots.{SlotShows, put_field}
 use Rattle.smp_core.specs.Stops.Sources.{IsPatchWork}
 use Rattle.smp_core.specs.Stops.State.{Present, Setup}
-use Rattle.smp_core.specs.Stops.Stop.{Answering, Inside, Last, Standing, Stop, is_inside, stands}
+use Rattle.smp_core.specs.Stops.Stop.{Answering, Inside, Last, Standing, Stop, is_inside}
 use Rattle.smp_core.specs.Stops.Tells.{leaves}
 use Rattle.smp_core.specs.declared.stop.field.Field.{Field}
 use Rattle.smp_core.specs.declared.stop.work.Kind.TheVariants.{Patch}
@@ -49,8 +49,8 @@ pub slot_put : (cpus : ℕ) (stop : ℕ → Stop) (at : Word → ℕ) (s : ℕ) 
     (j : ℕ) → SlotShows cpus (put stop s stop' j) (λ f. put_word at (Slot s g) n (Slot j f))
 slot_put cpus stop at s g n stop' old new j =
     at_test j s (λ b. SlotShows cpus (cond b stop' (stop j)) (λ f. cond (same_field f g b) n (at (Slot j f))))
-        (λ e. let P : ℕ → Type 0 = λ k. SlotShows cpus stop' (put_field (λ f. at (Slot k f)) g n) in subst P (sym e) new)
-        (λ ne. subst (SlotShows cpus (stop j)) (λ t f. cond (sym (field_false f g) t) n (at (Slot j f))) (old j))
+    (λ e. let P : ℕ → Type 0 = λ k. SlotShows cpus stop' (put_field (λ f. at (Slot k f)) g n) in subst P (sym e) new)
+    (λ ne. subst (SlotShows cpus (stop j)) (λ t f. cond (sym (field_false f g) t) n (at (Slot j f))) (old j))
 
 pub slot_same : (cpus : ℕ) (stop : ℕ → Stop) (at : Word → ℕ) (s : ℕ) (stop' : Stop) →
     ((j : ℕ) → SlotShows cpus (stop j) (λ f. at (Slot j f))) → SlotShows cpus stop' (λ f. at (Slot s f)) →

@@ -1,8 +1,7 @@
 -- The word of each access of the stop half is in its table, and no step takes the gate from its holder.
-use Rattle.std.proofs.Common.{◌≡◌, ◌≢◌, ℕ, zero, suc, ◌+◌, ◌-◌, ◌<◌, ◌≤◌, Bool, true, false, ◌==◌, ◌&&◌, cond, sym, subst, refl, ap, ◌∙◌, ◌⊎◌, inl, inr, arith, ⊎_elim, eq-eqb, ne_eqb, Option, Some, None, List, [], ◌∷◌, ◌++◌, length}
+use Rattle.std.proofs.Common.{◌≡◌, ◌≢◌, ℕ, zero, suc, ◌+◌, ◌<◌, ◌≤◌, Bool, true, false, ◌==◌, cond, sym, subst, refl, ap, ◌∙◌, inl, inr, arith, ⊎_elim, ne_eqb, Option, Some, None, List, [], ◌∷◌, ◌++◌, length}
 use Rattle.std.proofs.lemmas.Bool.{cases_lt}
 use Rattle.std.proofs.lemmas.List.{append-nil}
-use Rattle.smp_core.proofs.Stops.Kept.{after}
 use Rattle.smp_core.proofs.Stops.Phases.{is_open_inside}
 use Rattle.smp_core.proofs.Stops.RoundSteps.{change_here}
 use Rattle.smp_core.proofs.Stops.Tables.{IsStopWord}
@@ -47,7 +46,6 @@ IsNamedChange change = IsStopWord (label_word change.0)
 
 module _ (u : Setup) (p : StopState) (at : Word → ℕ) (seat : ℕ → Seat) (source : ℕ → Source) (h : StopShows u p at seat source) (few : u.cpus ≡ cpus)
     (shut : (cpu : ℕ) → u.cpus ≤ cpu → source cpu ≡ Shut) where
-
   -- an open stop is of a CPU that there can be
   open_below : (s : ℕ) → (p.now.stop s).is_open ≡ true → s < cpus
   open_below s op = elim (cases_lt s cpus) [
@@ -149,7 +147,7 @@ module _ (u : Setup) (p : StopState) (at : Word → ℕ) (seat : ℕ → Seat) (
               let all : AllByRecursion IsNamedChange (patch_of work.func work.arg u.entries) = plan_named work key in
               let here : change_at c.changes made ≡ change = ap (λ l. change_at l made) are ∙ (ap (λ n. change_at (before ++ change ∷ rest) n) (sym long) ∙ change_here before change rest) in
               subst (λ (x : Change). IsStopWord (word_of (store_of x))) (sym here)
-                  (named_store change (at_split before change rest (subst (AllByRecursion IsNamedChange) (sym plan ∙ are) all)))
+              (named_store change (at_split before change rest (subst (AllByRecursion IsNamedChange) (sym plan ∙ are) all)))
             where
               named_key : (work : Work) → work.func < MOST_KEYS → IsNamedChange (place.Key work.func, work.arg)
               named_key work key = key

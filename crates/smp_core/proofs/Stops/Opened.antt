@@ -1,26 +1,23 @@
 -- A stop half as it is made shows that nothing was begun.
-use Rattle.std.proofs.Common.{◌≡◌, ◌≢◌, ℕ, zero, suc, ◌+◌, ◌-◌, ◌*◌, ◌<◌, ◌≤◌, Bool, true, false, ◌==◌, cond, Option, Some, None, List, [], ◌∷◌, ◌++◌, length, map, get_or, replicate, sym, subst, refl, ap, ◌∙◌, arith, inl, inr, ◌⊎◌, eqb-true, eq-eqb, ne_eqb}
-use Rattle.std.proofs.lemmas.Bool.{cases_lt, cases_eq}
+use Rattle.std.proofs.Common.{◌≡◌, ◌≢◌, ℕ, zero, suc, ◌-◌, ◌<◌, Bool, true, false, ◌==◌, cond, List, [], ◌∷◌, ◌++◌, length, map, get_or, replicate, sym, subst, refl, ◌∙◌, arith, inl, inr, ◌⊎◌, eq-eqb, ne_eqb}
+use Rattle.std.proofs.lemmas.Bool.{cases_eq}
 use Rattle.std.proofs.lemmas.List.{length-map}
-use Rattle.std.specs.Prelude.{slice_index}
 use Rattle.smp_mask.specs.Mask.{has}
 use Rattle.smp_labels.specs.Entries.{entry_word}
 use Rattle.smp_labels.specs.Labels.{Labels, AreLabels}
-use Rattle.smp_labels.specs.Law.{Table, IsLawful}
+use Rattle.smp_labels.specs.Law.{IsLawful}
 use Rattle.smp_labels.specs.declared.entries.Entry.{Entry}
-use Rattle.smp_labels.specs.declared.words.TheConstants.{MOST_KEYS, MOST_SITES}
+use Rattle.smp_labels.specs.declared.words.TheConstants.{MOST_SITES}
 use Rattle.smp_core.specs.Size.{cpus}
 use Rattle.smp_core.specs.Stops.Labels.{labels_in}
-use Rattle.smp_core.specs.Stops.State.{IsSetup, no_stops}
+use Rattle.smp_core.specs.Stops.State.{no_stops}
 use Rattle.smp_core.specs.Stops.Seats.{Free}
 use Rattle.smp_core.specs.Stops.Sources.{Shut}
 use Rattle.smp_core.specs.Stops.Stages.{StopControlValue, stop_outside}
-use Rattle.smp_core.specs.Stops.Sits.{Sits}
 use Rattle.smp_core.specs.Stops.Table.{StopWords, stop_number, slot_cell}
-use Rattle.smp_core.specs.Stops.Value.{StopsShow, IsStopTable, setup_of, stop_control_of, first_below}
+use Rattle.smp_core.specs.Stops.Value.{StopsShow, setup_of, first_below}
 use Rattle.smp_core.specs.declared.size.TheConstants.{SLOT_WORDS}
 use Rattle.smp_core.specs.declared.stop.field.Field.TheVariants as field
-use Rattle.smp_core.specs.declared.word.Word.TheVariants.{Gate}
 use Rattle.smp_core.proofs.Starts.{get_or-same, zero_at}
 use Rattle.smp_core.proofs.Stops.Facts.{no_stops_shown}
 
@@ -33,7 +30,7 @@ first_is mask (suc k) = let i = first_is mask k in go (cases_eq (first_below mas
     go : (first_below mask k ≡ k) ⊎ (first_below mask k ≢ k) → (first_below mask k ≡ k → (c : ℕ) → c < k → has mask c ≡ false) → (first_below mask k ≢ k → (first_below mask k < k) × (has mask (first_below mask k) ≡ true)) →
         (cond (first_below mask k == k) (cond (has mask k) k (suc k)) (first_below mask k) ≡ suc k → (c : ℕ) → c < suc k → has mask c ≡ false) ×
         (cond (first_below mask k == k) (cond (has mask k) k (suc k)) (first_below mask k) ≢ suc k →
-            (cond (first_below mask k == k) (cond (has mask k) k (suc k)) (first_below mask k) < suc k) × (has mask (cond (first_below mask k == k) (cond (has mask k) k (suc k)) (first_below mask k)) ≡ true))
+        (cond (first_below mask k == k) (cond (has mask k) k (suc k)) (first_below mask k) < suc k) × (has mask (cond (first_below mask k == k) (cond (has mask k) k (suc k)) (first_below mask k)) ≡ true))
     go (inl e) none some = subst (λ b. (cond b (cond (has mask k) k (suc k)) (first_below mask k) ≡ suc k → (c : ℕ) → c < suc k → has mask c ≡ false) ×
         (cond b (cond (has mask k) k (suc k)) (first_below mask k) ≢ suc k → (cond b (cond (has mask k) k (suc k)) (first_below mask k) < suc k) × (has mask (cond b (cond (has mask k) k (suc k)) (first_below mask k)) ≡ true)))
         (sym (eq-eqb (first_below mask k) k e)) (here (has mask k) refl)

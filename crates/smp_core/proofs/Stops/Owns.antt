@@ -1,5 +1,5 @@
 -- A source's own key, until it has left its Patch stop.
-use Rattle.std.proofs.Common.{◌≡◌, ◌≢◌, ℕ, ◌+◌, ◌-◌, ◌<◌, ◌≤◌, Bool, true, false, ◌==◌, ◌&&◌, cond, sym, subst, refl, ap, ◌∙◌, ◌⊎◌, inl, inr, arith, ⊎_elim, Option, Some, None, List, [], ◌∷◌}
+use Rattle.std.proofs.Common.{◌≡◌, ℕ, ◌+◌, ◌≤◌, true, ◌&&◌, sym, subst, refl, ap, ◌∙◌, ◌⊎◌, arith, ⊎_elim, Some, List}
 use Rattle.smp_core.proofs.Stops.Ends.{function_law}
 use Rattle.smp_core.proofs.Stops.Phases.{is_open_inside}
 use Rattle.smp_core.proofs.Stops.Raises.{level_of}

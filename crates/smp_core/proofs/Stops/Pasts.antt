@@ -1,5 +1,5 @@
 -- The lists of the past, over opening, completing and collecting.
-use Rattle.std.proofs.Common.{◌≡◌, ◌≢◌, ℕ, ◌+◌, ◌≤◌, ◌<◌, Bool, true, false, ◌==◌, ◌&&◌, cond, sym, subst, refl, ap, ◌∙◌, ◌⊎◌, inl, inr, arith, Option, Some, None, List, [], ◌∷◌, ◌++◌, append_assoc}
+use Rattle.std.proofs.Common.{◌≡◌, ℕ, Bool, true, false, cond, sym, refl, ap, ◌∙◌, List, [], ◌∷◌, ◌++◌}
 use Rattle.std.proofs.lemmas.List.{append-nil}
 use Rattle.smp_core.proofs.Puts.{at_test}
 use Rattle.smp_core.specs.Put.{put}
@@ -48,7 +48,9 @@ module _ (past : List Past) (stop : Stop) (begun : List Work) (collected : List 
   -- complete: the answers of this CPU grow by its answer
   pub past_completes : (me a v found : ℕ) → answer_now (stop.standing me) ≡ [] → PastShows past (completed stop me a v found) begun collected (put answers me (answers me ++ v ∷ []))
   past_completes me a v found none_ = record {
-    each = h.each; begun_are = h.begun_are; collected_are = h.collected_are;
+    each = h.each;
+    begun_are = h.begun_are;
+    collected_are = h.collected_are;
     answers_are = λ c. at_test c me (λ b. cond b (answers me ++ v ∷ []) (answers c) ≡ answers_of c past ++ answer_now (cond b (Completed a v) (stop.standing c)))
         (λ e. ap (λ l. l ++ v ∷ []) (h.answers_are me ∙ (ap (λ l. answers_of me past ++ l) none_ ∙ append-nil (answers_of me past))) ∙ ap (λ c. answers_of c past ++ v ∷ []) (sym e))
         (λ ne. h.answers_are c);
@@ -60,8 +62,8 @@ module _ (past : List Past) (stop : Stop) (begun : List Work) (collected : List 
       PastShows (past ++ record { work = stop.work; answer = λ c. answer_of (stop.standing c); result = result } ∷ []) (closed stop) begun (collected ++ result ∷ []) answers
   past_collects result open_ is all =
       let y : Past = record { work = stop.work; answer = λ c. answer_of (stop.standing c); result = result } in record {
-    each = all_push y past h.each is;
-    begun_are = h.begun_are ∙ (ap (λ b. works_of past ++ cond b (stop.work ∷ []) []) open_ ∙ (sym (works_push y past) ∙ sym (append-nil (works_of (past ++ y ∷ [])))));
-    collected_are = ap (λ l. l ++ result ∷ []) h.collected_are ∙ sym (results_push y past);
-    answers_are = λ c. h.answers_are c ∙ (ap (λ l. answers_of c past ++ l) (all c) ∙ (sym (answers_push y c past) ∙ sym (append-nil (answers_of c (past ++ y ∷ [])))));
-  }
+        each = all_push y past h.each is;
+        begun_are = h.begun_are ∙ (ap (λ b. works_of past ++ cond b (stop.work ∷ []) []) open_ ∙ (sym (works_push y past) ∙ sym (append-nil (works_of (past ++ y ∷ [])))));
+        collected_are = ap (λ l. l ++ result ∷ []) h.collected_are ∙ sym (results_push y past);
+        answers_are = λ c. h.answers_are c ∙ (ap (λ l. answers_of c past ++ l) (all c) ∙ (sym (answers_push y c past) ∙ sym (append-nil (answers_of c (past ++ y ∷ [])))));
+      }

@@ -1,5 +1,5 @@
 -- The label law: patching, and reading.
-use Rattle.std.proofs.Common.{◌≡◌, ◌≢◌, ℕ, ◌+◌, ◌-◌, ◌<◌, ◌≤◌, Bool, true, false, not, nat_lt, ◌==◌, ◌&&◌, ◌||◌, cond, sym, subst, refl, ap, ◌∙◌, ◌⊎◌, inl, inr, arith, le-ltb, eqb-true, ⊎_elim, ne_eqb, eq-eqb, Option, Some, None, List, [], ◌∷◌, ◌++◌}
+use Rattle.std.proofs.Common.{◌≡◌, ◌≢◌, ℕ, ◌+◌, ◌≤◌, true, false, nat_lt, ◌==◌, ◌&&◌, ◌||◌, sym, subst, refl, ap, ◌∙◌, ◌⊎◌, arith, le-ltb, eqb-true, ⊎_elim, ne_eqb, Some, None, List, [], ◌∷◌, ◌++◌}
 use Rattle.smp_core.proofs.Puts.{put_all}
 use Rattle.smp_core.proofs.Stops.Counts.{put_here}
 use Rattle.smp_core.proofs.Stops.Ends.{function_law}
@@ -10,7 +10,7 @@ use Rattle.smp_core.specs.Stops.Present.{PresentShows, RunnerShows}
 use Rattle.smp_core.specs.Stops.Seats.{Alters, Closes, Fills, Free, Gives, In, Rests, Seat, Sets, Stands, Turn, irq_of}
 use Rattle.smp_core.specs.Stops.Slots.{Keeps, SlotShows}
 use Rattle.smp_core.specs.Stops.State.{Present, Setup}
-use Rattle.smp_core.specs.Stops.Stop.{Answering, Called, Completed, Inside, Outside, Standing, acked, is_inside, is_of, stands}
+use Rattle.smp_core.specs.Stops.Stop.{Answering, Called, Completed, Inside, Outside, Standing, acked, is_inside, is_of}
 use Rattle.smp_core.specs.declared.stop.field.Field.{Field}
 use Rattle.smp_core.specs.declared.stop.work.Kind.TheVariants.{Patch}
 use Rattle.smp_core.specs.declared.stop.work.Work.{Work}
@@ -152,19 +152,21 @@ module _ (u : Setup) (p : Present) (at : Word → ℕ) (seat : ℕ → Seat) (h 
   patch_ends job made is =
       let st : Stands p me (Alters s job made []) = subst (Stands p me) is (h.stands me) in
       let l : LabelsShow (Patches me job made []) (labels_in at) = subst (λ x. LabelsShow x (labels_in at)) st.5 h.labels in
-      let next = In s job 2 3 Rests in
-      (record {
-        slots = h.slots;
-        stands = put_all (λ c y. Stands (patches Whole) c y) seat me next (st.0, st.1, st.2, st.3)
-            (λ c ne. alters_other Whole c ne (λ w made' rest e. let same : Patches me job made [] ≡ Patches c w made' rest = sym st.5 ∙ e in let f : me ≡ c = cc in ne (sym f)) (seat c) (h.stands c));
-        homes = h.homes;
-        irq = put_all (λ c y. p.irq c ≡ irq_of y) seat me next (h.irq me ∙ ap irq_of is) (λ c ne. h.irq c);
-        works = h.works;
-        runner = tt;
-        entries = h.entries;
-        labels = l.3.lawful;
-        read = h.read;
-      }, l.3.set)
+      let next = In s job 2 3 Rests in (
+        record {
+          slots = h.slots;
+          stands = put_all (λ c y. Stands (patches Whole) c y) seat me next (st.0, st.1, st.2, st.3)
+              (λ c ne. alters_other Whole c ne (λ w made' rest e. let same : Patches me job made [] ≡ Patches c w made' rest = sym st.5 ∙ e in let f : me ≡ c = cc in ne (sym f)) (seat c) (h.stands c));
+          homes = h.homes;
+          irq = put_all (λ c y. p.irq c ≡ irq_of y) seat me next (h.irq me ∙ ap irq_of is) (λ c ne. h.irq c);
+          works = h.works;
+          runner = tt;
+          entries = h.entries;
+          labels = l.3.lawful;
+          read = h.read;
+        },
+        l.3.set,
+      )
 
 module _ (u : Setup) (p : Present) (at : Word → ℕ) (seat : ℕ → Seat) (h : PresentShows u p at seat) (me : ℕ) where
   -- where a CPU has its interrupts on, nobody patches
@@ -186,7 +188,14 @@ module _ (u : Setup) (p : Present) (at : Word → ℕ) (seat : ℕ → Seat) (h 
   -- one more reading, which agrees
   pub reads_label : (r : Reading) → Agrees (labels_in at) r → PresentShows u (record p { readings = put p.readings me (p.readings me ++ r ∷ []) }) at seat
   reads_label r agrees = record {
-    slots = h.slots; stands = λ c. still c (seat c) (h.stands c); homes = h.homes; irq = h.irq; works = h.works; runner = h.runner; entries = h.entries; labels = h.labels;
+    slots = h.slots;
+    stands = λ c. still c (seat c) (h.stands c);
+    homes = h.homes;
+    irq = h.irq;
+    works = h.works;
+    runner = h.runner;
+    entries = h.entries;
+    labels = h.labels;
     read = put_all (λ c x. u.online c ≡ true → p.irq c ≡ true → AllByRecursion (Agrees (labels_in at)) x) p.readings me (p.readings me ++ r ∷ [])
         (λ o i. one_more (p.readings me) (h.read me o i)) (λ c ne. h.read c);
   }

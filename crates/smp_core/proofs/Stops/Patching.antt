@@ -1,5 +1,5 @@
 -- The kinds of step on labels: readings, and the loads and stores of a patch.
-use Rattle.std.proofs.Common.{◌≡◌, ◌≢◌, ℕ, ◌+◌, ◌-◌, ◌<◌, ◌≤◌, Bool, true, false, nat_lt, eq-eqb, ne_eqb, eqb-true, ◌==◌, ◌&&◌, ◌||◌, cond, sym, subst, refl, ap, ◌∙◌, ◌⊎◌, inl, inr, arith, ⊎_elim, Option, Some, None, List, [], ◌∷◌, ◌++◌}
+use Rattle.std.proofs.Common.{◌≡◌, ℕ, Bool, true, false, eqb-true, ◌==◌, ◌&&◌, cond, sym, subst, refl, ap, ◌∙◌, arith, Option, Some, None, List, [], ◌∷◌, ◌++◌}
 use Rattle.smp_core.proofs.Puts.{at_test}
 use Rattle.smp_core.proofs.Stops.Kept.{source_same}
 use Rattle.smp_core.proofs.Stops.Owns.{owns_stores}
@@ -100,11 +100,11 @@ module _ (u : Setup) (p : StopState) (at : Word → ℕ) (seat : ℕ → Seat) (
         let open_ = is_open_inside u.cpus (p.now.stop s) (λ f. at (Slot s f)) (h.present.slots s) me (Inside 2 3) st.1 refl in
         let word : IsKeyWord job.arg = subst (λ (w : Work). IsKeyWord w.arg) st.3 (h.present.works s open_ (ap (λ (w : Work). w.kind) st.3 ∙ kind)).word in
         let shown = label_step p.now.readings (Patches me job [] plan) at seat' refl (λ j f. refl) h.owns
-            (patch_starts u p.now at seat h.present s me job plan is kind active (leads found refl word)) in
+        (patch_starts u p.now at seat h.present s me job plan is kind active (leads found refl word)) in
         subst (λ x. StopShows u (record p { now = key_loaded u p.now me job.func found x }) at seat' source) (sym st.0)
-            (subst (λ x. StopShows u (record p { now = cond (is_at_run x && is_patch (p.now.stop s).work.kind) (record (p.now) { patching = patch_begun u me (p.now.stop s).work found }) (reads p.now me (ReadKey job.func (is_on found))) }) at seat' source) (sym st.1)
-                (subst (λ (x : Work). StopShows u (record p { now = cond (is_patch x.kind) (record (p.now) { patching = patch_begun u me x found }) (reads p.now me (ReadKey job.func (is_on found))) }) at seat' source) (sym st.3)
-                    (subst (λ k. StopShows u (record p { now = cond (is_patch k) (record (p.now) { patching = patch_begun u me job found }) (reads p.now me (ReadKey job.func (is_on found))) }) at seat' source) (sym kind) shown)))
+        (subst (λ x. StopShows u (record p { now = cond (is_at_run x && is_patch (p.now.stop s).work.kind) (record (p.now) { patching = patch_begun u me (p.now.stop s).work found }) (reads p.now me (ReadKey job.func (is_on found))) }) at seat' source) (sym st.1)
+        (subst (λ (x : Work). StopShows u (record p { now = cond (is_patch x.kind) (record (p.now) { patching = patch_begun u me x found }) (reads p.now me (ReadKey job.func (is_on found))) }) at seat' source) (sym st.3)
+        (subst (λ k. StopShows u (record p { now = cond (is_patch k) (record (p.now) { patching = patch_begun u me job found }) (reads p.now me (ReadKey job.func (is_on found))) }) at seat' source) (sym kind) shown)))
       where
         leads : (found : ℕ) → found ≡ at (Key job.func) → IsKeyWord job.arg → IsLawful (labels_in at) →
             SetsKey job.func (is_on job.arg) (labels_in at) (applied (cond (found == job.arg) [] (patch_of job.func job.arg u.entries)) (labels_in at))
@@ -123,9 +123,9 @@ module _ (u : Setup) (p : StopState) (at : Word → ℕ) (seat : ℕ → Seat) (
         let made' = made ++ (place.Key k, n) ∷ [] in
         let at' = put_word at (Key k) n in
         subst (λ x. StopShows u (record p { now = record (p.now) { patching = patched_more x } }) at' (put seat me (Alters s job made' rest)) source) (sym st.5)
-            (label_step p.now.readings (Patches me job made' rest) at' (put seat me (Alters s job made' rest)) refl (λ j f. refl)
-                (λ j. owns_stores u p.now at seat h.present j me s k n job made ((place.Key k, n) ∷ rest) is (h.owns j))
-                (patch_stores u p.now at seat h.present s me job made rest (place.Key k, n) at' is refl h.present.slots (entries_same at' (λ i. refl))))
+        (label_step p.now.readings (Patches me job made' rest) at' (put seat me (Alters s job made' rest)) refl (λ j f. refl)
+        (λ j. owns_stores u p.now at seat h.present j me s k n job made ((place.Key k, n) ∷ rest) is (h.owns j))
+        (patch_stores u p.now at seat h.present s me job made rest (place.Key k, n) at' is refl h.present.slots (entries_same at' (λ i. refl))))
 
     -- store of a site by a patch
     pub site_stored : (made rest : List Change) (i n answer : ℕ) → seat me ≡ Alters s job made ((place.Site i, n) ∷ rest) →
@@ -135,5 +135,5 @@ module _ (u : Setup) (p : StopState) (at : Word → ℕ) (seat : ℕ → Seat) (
         let made' = made ++ (place.Site i, n) ∷ [] in
         let at' = put_word at (Site i) n in
         subst (λ x. StopShows u (record p { now = record (p.now) { patching = patched_more x } }) at' (put seat me (Alters s job made' rest)) source) (sym st.5)
-            (label_step p.now.readings (Patches me job made' rest) at' (put seat me (Alters s job made' rest)) refl (λ j f. refl) h.owns
-                (patch_stores u p.now at seat h.present s me job made rest (place.Site i, n) at' is refl h.present.slots (entries_same at' (λ i. refl))))
+        (label_step p.now.readings (Patches me job made' rest) at' (put seat me (Alters s job made' rest)) refl (λ j f. refl) h.owns
+        (patch_stores u p.now at seat h.present s me job made rest (place.Site i, n) at' is refl h.present.slots (entries_same at' (λ i. refl))))

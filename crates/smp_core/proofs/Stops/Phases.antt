@@ -1,5 +1,5 @@
 -- Acknowledging, refilling and raising keep what the words of a slot show.
-use Rattle.std.proofs.Common.{◌≡◌, ◌≢◌, ℕ, ◌+◌, ◌-◌, ◌<◌, ◌≤◌, Bool, true, false, ◌==◌, ◌&&◌, cond, sym, subst, refl, ap, ◌∙◌, ◌⊎◌, inl, inr, arith, ⊎_elim, ne_eqb, eq-eqb}
+use Rattle.std.proofs.Common.{◌≡◌, ◌≢◌, ℕ, ◌+◌, ◌-◌, ◌<◌, Bool, true, false, ◌==◌, ◌&&◌, cond, sym, subst, refl, ap, ◌∙◌, inl, inr, arith, ⊎_elim, ne_eqb, eq-eqb}
 use Rattle.smp_core.proofs.Puts.{at_test, put_all}
 use Rattle.smp_core.proofs.Stops.Counts.{put_else, put_here, sum_put, sum_same, sum_zero}
 use Rattle.smp_core.specs.Put.{put}
@@ -37,7 +37,7 @@ pub one_fewer : (cpus p : ℕ) (standing : ℕ → Standing) (me a l : ℕ) → 
     count_behind cpus p (put standing me (Inside p p)) + 1 ≡ count_behind cpus p standing
 one_fewer cpus p standing me a l is small ne =
     let s = sum_put (λ c. behind p (standing c)) (λ c. behind p (put standing me (Inside p p) c)) me cpus small
-        (λ j other. ap (behind p) (put_else standing me (Inside p p) j other)) in
+    (λ j other. ap (behind p) (put_else standing me (Inside p p) j other)) in
     let was : behind p (standing me) ≡ 1 = ap (behind p) is ∙ behind_one p a l ne in
     let now : behind p (put standing me (Inside p p) me) ≡ 0 = ap (behind p) (put_here standing me (Inside p p)) ∙ behind_zero p p in
     omega arith
@@ -106,7 +106,8 @@ module _ (cpus : ℕ) (stop : Stop) (word : Field → ℕ) (g : SlotShows cpus s
           bound = o.bound;
           ack = λ ne. subst (λ p. AckShows cpus stop.phase (put stop.standing me (Inside p p)) (cond (word Ack == 1) (Refills me) stop.raising) (word Ack - 1)) at
               (acked_more cpus stop.phase stop.standing me a (a + 1) (word Ack) stop.raising is k.0 (omega arith) (o.ack ne));
-          calm = λ z. absurd (omega arith); kinds = o.kinds;
+          calm = λ z. absurd (omega arith);
+          kinds = o.kinds;
           todo = o.todo ∙ sym (unfinished_inside cpus stop.standing me a (a + 1) (a + 1) (a + 1) is);
           done = done_inside cpus stop.standing me a (a + 1) (a + 1) (a + 1) is stop.ending (word Done) o.done;
           result = result_inside cpus stop.standing me a (a + 1) (a + 1) (a + 1) is (word Result) o.result;
@@ -120,13 +121,19 @@ module _ (cpus : ℕ) (stop : Stop) (word : Field → ℕ) (g : SlotShows cpus s
       let o = g.shows open_ in
       let h : AckShows cpus stop.phase stop.standing (Refills me) (word Ack) = subst (λ r. AckShows cpus stop.phase stop.standing r (word Ack)) is (o.ack ne) in
       record {
-        members = g.members; roll = g.roll; keeps = g.keeps;
+        members = g.members;
+        roll = g.roll;
+        keeps = g.keeps;
         shows = λ _. record {
           written = record { kind = o.written.kind; mask = o.written.mask; active = o.written.active; func = o.written.func; arg = o.written.arg };
-          state = o.state; bound = o.bound;
+          state = o.state;
+          bound = o.bound;
           ack = λ _. (refl, h.1, h.2);
-          calm = λ z. absurd (ne z); kinds = o.kinds;
-          todo = o.todo; done = o.done; result = o.result;
+          calm = λ z. absurd (ne z);
+          kinds = o.kinds;
+          todo = o.todo;
+          done = o.done;
+          result = o.result;
         };
       }
 

@@ -1,5 +1,5 @@
 -- Raising the phase, and the phase law.
-use Rattle.std.proofs.Common.{◌≡◌, ◌≢◌, ℕ, ◌+◌, ◌-◌, ◌<◌, ◌≤◌, Bool, true, false, ◌==◌, ◌&&◌, cond, sym, subst, refl, ap, ◌∙◌, ◌⊎◌, inl, inr, arith, ⊎_elim, ne_eqb, eq-eqb}
+use Rattle.std.proofs.Common.{◌≡◌, ◌≢◌, ℕ, ◌+◌, ◌<◌, ◌≤◌, true, cond, sym, subst, refl, ap, ◌∙◌, ◌⊎◌, inl, inr, arith, ⊎_elim, ne_eqb}
 use Rattle.smp_core.proofs.Stops.Counts.{sum_same, sum_zero}
 use Rattle.smp_core.proofs.Stops.Phases.{has_acknowledged}
 use Rattle.smp_core.specs.Stops.Counts.{behind, count_behind, one, weight}
@@ -71,14 +71,19 @@ module _ (cpus : ℕ) (stop : Stop) (word : Field → ℕ) (g : SlotShows cpus s
       let k : Keeps cpus stop.phase me (Inside stop.phase stop.phase) = subst (Keeps cpus stop.phase me) h.2 (g.keeps me) in
       let most : stop.phase ≤ 4 = k.4 in
       record {
-        members = g.members; roll = g.roll;
+        members = g.members;
+        roll = g.roll;
         keeps = λ c. keeps_on cpus stop.phase c (stop.standing c) ne (all c) (g.keeps c);
         shows = λ _. record {
           written = record { kind = o.written.kind; mask = o.written.mask; active = o.written.active; func = o.written.func; arg = o.written.arg };
-          state = refl; bound = omega arith;
+          state = refl;
+          bound = omega arith;
           ack = λ _. h.0 ∙ sym (sum_same (λ c. one (stop.standing c)) (λ c. behind (stop.phase + 1) (stop.standing c)) cpus (λ c _. behind_next stop.phase (stop.standing c) (all c)));
-          calm = λ z. refl; kinds = raised_kind stop.work.kind stop.phase ne o.kinds;
-          todo = o.todo; done = o.done; result = o.result;
+          calm = λ z. refl;
+          kinds = raised_kind stop.work.kind stop.phase ne o.kinds;
+          todo = o.todo;
+          done = o.done;
+          result = o.result;
         };
       }
 

@@ -1,10 +1,9 @@
 -- The steps of a turn of `multi_cpu_stop`, by a CPU's stage.
-use Rattle.std.proofs.Common.{◌≡◌, ◌≢◌, ℕ, zero, suc, ◌+◌, ◌-◌, ◌%◌, ◌^◌, ◌<◌, ◌≤◌, Bool, true, false, not, nat_lt, le-ltb, eq-eqb, ne_eqb, eqb-true, ◌==◌, ◌&&◌, ◌||◌, cond, sym, subst, refl, ap, ◌∙◌, ◌⊎◌, inl, inr, arith, ⊎_elim, Option, Some, None, List, [], ◌∷◌, ◌++◌, length, take, slice_index, get_or, length-append, length-take-le, take_all, append_assoc}
-use Rattle.std.proofs.lemmas.Bool.{cases_eq, cases_lt}
+use Rattle.std.proofs.Common.{◌≡◌, ◌≢◌, ℕ, suc, ◌+◌, ◌-◌, ◌^◌, ◌<◌, ◌≤◌, Bool, true, false, nat_lt, eq-eqb, ne_eqb, eqb-true, ◌==◌, ◌&&◌, ◌||◌, cond, sym, subst, refl, ap, ◌∙◌, inl, inr, arith, ⊎_elim, Option, Some, None, List, [], ◌∷◌, ◌++◌, length, take, get_or, length-append, length-take-le, take_all, append_assoc}
+use Rattle.std.proofs.lemmas.Bool.{cases_lt}
 use Rattle.std.proofs.lemmas.List.{take_more, get_or_past, append-nil}
 use Rattle.smp_core.proofs.Puts.{at_test}
 use Rattle.smp_core.proofs.Stops.Facts.{inside_keeps, state_near, work_words}
-use Rattle.smp_core.proofs.Stops.Kept.{after}
 use Rattle.smp_core.proofs.Stops.Patching.{key_loaded_first, key_stored, site_stored}
 use Rattle.smp_core.proofs.Stops.Rounds.{look_irq, state_loaded}
 use Rattle.smp_core.proofs.Stops.StageSteps.{put_same_fn}
@@ -34,7 +33,7 @@ use Rattle.smp_core.specs.declared.word.Word.TheVariants.{Entry, Gate, Key, Slot
 use Rattle.smp_core.specs.declared.word.Word.{Word}
 use Rattle.smp_labels.specs.Entries.{entry_at}
 use Rattle.smp_labels.specs.Keys.{is_on}
-use Rattle.smp_labels.specs.Plans.{patch_of, site_change, site_changes, stored}
+use Rattle.smp_labels.specs.Plans.{patch_of, site_change, site_changes}
 use Rattle.smp_labels.specs.declared.patch.Place.TheVariants as place
 use Rattle.smp_labels.specs.declared.words.TheConstants.{MOST_SITES}
 use Rattle.smp_mask.specs.Mask.{has}
@@ -61,7 +60,6 @@ changes-push key on i (y ∷ xs) x =
 
 module _ (u : Setup) (p : StopState) (at : Word → ℕ) (seat : ℕ → Seat) (source : ℕ → Source) (h : StopShows u p at seat source) (c : StopControlValue) (me : ℕ)
     (s : Sits u me (at Gate) c (seat me) (source me)) (v : Visit) where
-
   -- the CPU is in a round, and its source is as it was
   in_round : (stage : RoundStage) → c.stage ≡ Some (Advance v stage) → (c.visit ≡ Some v) × SitsInRound u me c.changes v stage (seat me)
   in_round stage e = subst (λ (st : Option StopStage). SitsAt u me c st (seat me)) e s.seat
@@ -84,7 +82,8 @@ module _ (u : Setup) (p : StopState) (at : Word → ℕ) (seat : ℕ → Seat) (
       let is : seat me ≡ In v.slot work v.acked v.acked Rests = r.1.2.2 in
       let found = at (Slot v.slot State) in
       record {
-        seat_after = In v.slot work v.acked found Rests; source_after = source me;
+        seat_after = In v.slot work v.acked found Rests;
+        source_after = source me;
         shows = moved_seat (state_after u p at c me (Advance v (round.Look answer))) at (In v.slot work v.acked found Rests) (state_loaded u p at seat source h v.slot me work v.acked v.acked 0 is r.1.1);
         sits = go work is r.0 r.1.2.1 r.1.1 y (found == v.acked) refl (found == 3 && has v.active me) refl;
       }
@@ -111,11 +110,11 @@ module _ (u : Setup) (p : StopState) (at : Word → ℕ) (seat : ℕ → Seat) (
       go : (work : Work) → seat me ≡ In v.slot work v.acked v.acked Rests → c.visit ≡ Some v → IsLoaded v work → v.acked ≢ 4 → OwnsIf c.is_open (source me) → (b : Bool) → (at (Slot v.slot State) == v.acked) ≡ b →
           (d : Bool) → (at (Slot v.slot State) == 3 && has v.active me) ≡ d →
           Sits u me (at Gate) (cond b (stop_ends c note.Same) (stop_goes (record c { interrupts = cond (at (Slot v.slot State) == 2) false c.interrupts }) (Advance v (cond d (round.LoadFunc answer) (round.Acknowledge answer false))))).control
-              (In v.slot work v.acked (at (Slot v.slot State)) Rests) (source me)
+          (In v.slot work v.acked (at (Slot v.slot State)) Rests) (source me)
       go work is visit loaded more y true same d f =
           let e2 = eqb-true (at (Slot v.slot State)) v.acked same in
           subst (λ n. Sits u me (at Gate) (stop_ends c note.Same).control (In v.slot work v.acked n Rests) (source me)) (sym e2)
-              record { below = s.below; irq = s.irq ∙ ap irq_of is; seat = subst (λ x. SitsAtRest x (In v.slot work v.acked v.acked Rests)) (sym visit) (work, loaded, refl); source = y; gate_held = tt }
+          record { below = s.below; irq = s.irq ∙ ap irq_of is; seat = subst (λ x. SitsAtRest x (In v.slot work v.acked v.acked Rests)) (sym visit) (work, loaded, refl); source = y; gate_held = tt }
       go work is visit loaded more y false other true f =
           let up = next work is (λ z. let bad : true ≡ false = sym (eq-eqb (at (Slot v.slot State)) v.acked z) ∙ other in cc) in
           let t = is_three (at (Slot v.slot State) == 3) (has v.active me) f in
@@ -125,16 +124,21 @@ module _ (u : Setup) (p : StopState) (at : Word → ℕ) (seat : ℕ → Seat) (
           record { below = s.below; irq = off work is more up; seat = (visit, ((in_round (round.Look answer) e).1.0, (work, (loaded, two, t.1, x)))); source = y; gate_held = tt }
       go work is visit loaded more y false other false f =
           let up = next work is (λ z. let bad : true ≡ false = sym (eq-eqb (at (Slot v.slot State)) v.acked z) ∙ other in cc) in
-          record { below = s.below; irq = off work is more up;
+          record {
+            below = s.below;
+            irq = off work is more up;
             seat = (visit, (work, loaded, below work is more, inl (ap (λ n. In v.slot work v.acked n Rests) up, λ two _. not_three (at (Slot v.slot State)) (has v.active me) (omega arith) f)));
-            source = y; gate_held = tt }
+            source = y;
+            gate_held = tt;
+          }
 
   pub load_func : (answer : ℕ) → c.stage ≡ Some (Advance v (round.LoadFunc answer)) → StopStep u p at seat source c me (Advance v (round.LoadFunc answer))
   load_func answer e =
       let r = in_round (round.LoadFunc answer) e in
       let run = r.1.1.1 in
       record {
-        seat_after = seat me; source_after = source me;
+        seat_after = seat me;
+        source_after = source me;
         shows = still p at h;
         sits = record { below = s.below; irq = s.irq; seat = (r.0, (r.1.0, (r.1.1.0, run, (work_words u p at seat source h v.slot me r.1.1.0 2 3 Rests run.3).func))); source = at_source (round.LoadFunc answer) e; gate_held = tt };
       }
@@ -144,7 +148,8 @@ module _ (u : Setup) (p : StopState) (at : Word → ℕ) (seat : ℕ → Seat) (
       let r = in_round (round.LoadArg answer func) e in
       let run = r.1.1.1 in
       record {
-        seat_after = seat me; source_after = source me;
+        seat_after = seat me;
+        source_after = source me;
         shows = still p at h;
         sits = go r.0 r.1.0 r.1.1.0 run r.1.1.2 (at_source (round.LoadArg answer func) e) v.kind refl;
       }
@@ -153,9 +158,13 @@ module _ (u : Setup) (p : StopState) (at : Word → ℕ) (seat : ℕ → Seat) (
           Sits u me (at Gate) (cond (is_multi k) (record { control = record c { stage = Some (Advance v (round.Acknowledge answer true)) }; note = Some (note.Run func (at (Slot v.slot Arg))) }) (stop_goes c (Advance v (round.LoadKey func (at (Slot v.slot Arg)))))).control (seat me) (source me)
       go visit some work run same y One k = absurd (some k)
       go visit some work run same y Multi k =
-          record { below = s.below; irq = s.irq;
+          record {
+            below = s.below;
+            irq = s.irq;
             seat = (visit, (work, run.0, (let two = run.1 in omega arith), inl (run.3 ∙ (ap (λ n. In v.slot work n 3 Rests) (sym run.1) ∙ ap (λ n. In v.slot work v.acked n Rests) (let two = run.1 in omega arith)), λ _ patch. absurd (let bad : Multi ≡ Patch = sym k ∙ patch in cc))));
-            source = y; gate_held = tt }
+            source = y;
+            gate_held = tt;
+          }
       go visit some work run same y Patch k =
           record { below = s.below; irq = s.irq; seat = (visit, (k, (work, run, same, (work_words u p at seat source h v.slot me work 2 3 Rests run.3).arg))); source = y; gate_held = tt }
 
@@ -171,7 +180,8 @@ module _ (u : Setup) (p : StopState) (at : Word → ℕ) (seat : ℕ → Seat) (
       let active : has work.active me ≡ true = ap (λ m. has m me) (sym run.0.active) ∙ run.2 in
       let next = Alters v.slot work [] (cond (at (Key work.func) == work.arg) [] (patch_of work.func work.arg u.entries)) in
       record {
-        seat_after = next; source_after = source me;
+        seat_after = next;
+        source_after = source me;
         shows = moved_seat (state_after u p at c me (Advance v (round.LoadKey key word))) at next
             (subst (λ k. StopShows u (told u p me act.Load (Key k) (Some (at (Key k))) None 0) at (put seat me next) source) (sym same) (key_loaded_first u p at seat source h me v.slot work 0 run.3 kind active));
         sits = subst (λ k. Sits u me (at Gate) (round_outcome me c v (round.LoadKey k word) (at (Key k))).control next (source me)) (sym same)
@@ -181,11 +191,21 @@ module _ (u : Setup) (p : StopState) (at : Word → ℕ) (seat : ℕ → Seat) (
     where
       go : c.visit ≡ Some v → (work : Work) → SitsAtRun me v work (seat me) → OwnsIf c.is_open (source me) → (b : Bool) →
           Sits u me (at Gate) (cond b (stop_goes (record c { changes = [] }) (Advance v (round.Acknowledge 0 true))) (stop_goes (record c { changes = (place.Key work.func, work.arg) ∷ [] }) (Advance v (round.LoadEntry work.func work.arg 0)))).control
-              (Alters v.slot work [] (cond b [] (patch_of work.func work.arg u.entries))) (source me)
-      go visit work run y true = record { below = s.below; irq = s.irq ∙ ap irq_of run.3;
-        seat = (visit, (work, run.0, (let two = run.1 in omega arith), inr (run.1, ([], refl)))); source = y; gate_held = tt }
-      go visit work run y false = record { below = s.below; irq = s.irq ∙ ap irq_of run.3;
-        seat = (visit, (work, (run.0, run.1, refl), refl, refl, omega arith, omega arith, refl)); source = y; gate_held = tt }
+          (Alters v.slot work [] (cond b [] (patch_of work.func work.arg u.entries))) (source me)
+      go visit work run y true = record {
+        below = s.below;
+        irq = s.irq ∙ ap irq_of run.3;
+        seat = (visit, (work, run.0, (let two = run.1 in omega arith), inr (run.1, ([], refl))));
+        source = y;
+        gate_held = tt;
+      }
+      go visit work run y false = record {
+        below = s.below;
+        irq = s.irq ∙ ap irq_of run.3;
+        seat = (visit, (work, (run.0, run.1, refl), refl, refl, omega arith, omega arith, refl));
+        source = y;
+        gate_held = tt;
+      }
 
   -- load of an entry
   pub load_entry : (key word site : ℕ) → c.stage ≡ Some (Advance v (round.LoadEntry key word site)) → StopStep u p at seat source c me (Advance v (round.LoadEntry key word site))
@@ -194,7 +214,8 @@ module _ (u : Setup) (p : StopState) (at : Word → ℕ) (seat : ℕ → Seat) (
       let work = r.1.0 in
       let patch = r.1.1 in
       record {
-        seat_after = seat me; source_after = source me;
+        seat_after = seat me;
+        source_after = source me;
         shows = still p at h;
         sits = subst (λ k. Sits u me (at Gate) (entry_on c v k word site (at (Entry site))).control (seat me) (source me)) (sym r.1.2)
             (subst (λ w. Sits u me (at Gate) (entry_on c v work.func w site (at (Entry site))).control (seat me) (source me)) (sym r.1.3)
@@ -204,9 +225,13 @@ module _ (u : Setup) (p : StopState) (at : Word → ℕ) (seat : ℕ → Seat) (
       -- all is loaded
       whole : c.visit ≡ Some v → (work : Work) → SitsAtPatch u v work [] (seat me) → OwnsIf c.is_open (source me) → (changes : List Change) → changes ≡ patch_of work.func work.arg u.entries →
           Sits u me (at Gate) (stop_goes (record c { changes = changes }) (Advance v (round.StoreChange 0))).control (seat me) (source me)
-      whole visit work patch y changes is = record { below = s.below; irq = s.irq;
+      whole visit work patch y changes is = record {
+        below = s.below;
+        irq = s.irq;
         seat = (visit, (work, patch.0, patch.1, subst (λ (l : List Change). 0 < length l) (sym is) (omega arith), is, ([], changes, refl, refl, patch.2 ∙ ap (λ l. Alters v.slot work [] l) (sym is))));
-        source = y; gate_held = tt }
+        source = y;
+        gate_held = tt;
+      }
 
       loads : c.visit ≡ Some v → (work : Work) → SitsAtPatch u v work [] (seat me) → site ≤ length u.entries → site < MOST_SITES → c.changes ≡ changes_of u work site → OwnsIf c.is_open (source me) →
           Sits u me (at Gate) (entry_on c v work.func work.arg site (at (Entry site))).control (seat me) (source me)
@@ -215,7 +240,7 @@ module _ (u : Setup) (p : StopState) (at : Word → ℕ) (seat : ℕ → Seat) (
         | inr past ↦
             let none : at (Entry site) ≡ 0 = h.present.entries.read site low ∙ get_or_past u.entries site 0 past in
             subst (λ n. Sits u me (at Gate) (entry_on c v work.func work.arg site n).control (seat me) (source me)) (sym none)
-                (whole visit work patch y (c.changes ++ []) (append-nil c.changes ∙ (are ∙ ap (λ l. (place.Key work.func, work.arg) ∷ site_changes work.func (is_on work.arg) 0 l) (take_all site u.entries past))))
+            (whole visit work patch y (c.changes ++ []) (append-nil c.changes ∙ (are ∙ ap (λ l. (place.Key work.func, work.arg) ∷ site_changes work.func (is_on work.arg) 0 l) (take_all site u.entries past))))
       ]
         where
           here : at (Entry site) ≡ get_or u.entries site 0
@@ -229,24 +254,24 @@ module _ (u : Setup) (p : StopState) (at : Word → ℕ) (seat : ℕ → Seat) (
               let pushed = changes-push work.func (is_on work.arg) 0 (take site u.entries) (get_or u.entries site 0) in
               ap (λ l. l ++ site_change work.func (is_on work.arg) site (entry_at (at (Entry site)))) are
               ∙ ap (λ l. (place.Key work.func, work.arg) ∷ l)
-                  (ap (λ n. site_changes work.func (is_on work.arg) 0 (take site u.entries) ++ site_change work.func (is_on work.arg) site (entry_at n)) here
-                  ∙ (ap (λ n. site_changes work.func (is_on work.arg) 0 (take site u.entries) ++ site_change work.func (is_on work.arg) n (entry_at (get_or u.entries site 0))) (sym long)
-                  ∙ (sym pushed ∙ ap (λ l. site_changes work.func (is_on work.arg) 0 l) (sym (take_more u.entries site 0 more)))))
+              (ap (λ n. site_changes work.func (is_on work.arg) 0 (take site u.entries) ++ site_change work.func (is_on work.arg) site (entry_at n)) here
+              ∙ (ap (λ n. site_changes work.func (is_on work.arg) 0 (take site u.entries) ++ site_change work.func (is_on work.arg) n (entry_at (get_or u.entries site 0))) (sym long)
+              ∙ (sym pushed ∙ ap (λ l. site_changes work.func (is_on work.arg) 0 l) (sym (take_more u.entries site 0 more)))))
 
           go : (b : Bool) → (site + 1 == MOST_SITES) ≡ b → site < length u.entries → Sits u me (at Gate) (entry_on c v work.func work.arg site (at (Entry site))).control (seat me) (source me)
           go b last more =
               let some : (at (Entry site) == 0) ≡ false = ne_eqb (at (Entry site)) 0 (λ z. h.setup.named site more (sym here ∙ z)) in
               let changes' = c.changes ++ site_change work.func (is_on work.arg) site (entry_at (at (Entry site))) in
               subst (λ d. Sits u me (at Gate) (stop_goes (record c { changes = changes' }) (Advance v (cond (d || site + 1 == MOST_SITES) (round.StoreChange 0) (round.LoadEntry work.func work.arg (site + 1))))).control (seat me) (source me)) (sym some)
-                  (subst (λ d. Sits u me (at Gate) (stop_goes (record c { changes = changes' }) (Advance v (cond d (round.StoreChange 0) (round.LoadEntry work.func work.arg (site + 1))))).control (seat me) (source me)) (sym last) (either b last more))
+              (subst (λ d. Sits u me (at Gate) (stop_goes (record c { changes = changes' }) (Advance v (cond d (round.StoreChange 0) (round.LoadEntry work.func work.arg (site + 1))))).control (seat me) (source me)) (sym last) (either b last more))
             where
               either : (b : Bool) → (site + 1 == MOST_SITES) ≡ b → site < length u.entries →
                   Sits u me (at Gate) (stop_goes (record c { changes = c.changes ++ site_change work.func (is_on work.arg) site (entry_at (at (Entry site))) })
-                      (Advance v (cond b (round.StoreChange 0) (round.LoadEntry work.func work.arg (site + 1))))).control (seat me) (source me)
+                  (Advance v (cond b (round.StoreChange 0) (round.LoadEntry work.func work.arg (site + 1))))).control (seat me) (source me)
               either true last more =
                   let end : site + 1 ≡ MOST_SITES = eqb-true (site + 1) MOST_SITES last in
                   whole visit work patch y (c.changes ++ site_change work.func (is_on work.arg) site (entry_at (at (Entry site))))
-                      (grown more ∙ ap (λ l. (place.Key work.func, work.arg) ∷ site_changes work.func (is_on work.arg) 0 l) (take_all (site + 1) u.entries (let few = h.present.entries.few in omega arith)))
+                  (grown more ∙ ap (λ l. (place.Key work.func, work.arg) ∷ site_changes work.func (is_on work.arg) 0 l) (take_all (site + 1) u.entries (let few = h.present.entries.few in omega arith)))
               either false last more =
                   let on : site + 1 ≢ MOST_SITES = λ z. let bad : true ≡ false = sym (eq-eqb (site + 1) MOST_SITES z) ∙ last in cc in
                   record { below = s.below; irq = s.irq; seat = (visit, (work, patch, refl, refl, omega arith, omega arith, grown more)); source = y; gate_held = tt }
@@ -266,7 +291,8 @@ module _ (u : Setup) (p : StopState) (at : Word → ℕ) (seat : ℕ → Seat) (
           let next = Alters v.slot work (before ++ change ∷ []) rest in
           let stored = shown change before rest work is in
           record {
-            seat_after = next; source_after = source me;
+            seat_after = next;
+            source_after = source me;
             shows = subst (λ (x : Change). StopShows u (tells u p (seen_of me (store_of x) (at (word_of (store_of x))) None) 0) (at_after at (store_of x)) (put seat me next) (put source me (source me))) (sym here)
                 (moved_seat (tells u p (seen_of me (store_of change) (at (word_of (store_of change))) None) 0) (at_after at (store_of change)) next stored);
             sits = subst (λ (x : Change). Sits u me (at_after at (store_of x) Gate) (stop_goes c (Advance v (cond (made + 1 == length c.changes) (round.Acknowledge 0 true) (round.StoreChange (made + 1))))).control next (source me)) (sym here)
@@ -289,9 +315,13 @@ module _ (u : Setup) (p : StopState) (at : Word → ℕ) (seat : ℕ → Seat) (
               record { below = s.below; irq = s.irq ∙ ap irq_of is; seat = (visit, (work, loaded, (let t = two in omega arith), inr (two, (before ++ change ∷ [], refl)))); source = y; gate_held = tt }
           ends visit work loaded two low plan before change (x ∷ rest) are long is y true last =
               absurd (let all : made + 1 ≡ length c.changes = eqb-true (made + 1) (length c.changes) last in
-                  let sized : length c.changes ≡ length before + length (change ∷ x ∷ rest) = ap length are ∙ length-append before (change ∷ x ∷ rest) in omega arith)
+              let sized : length c.changes ≡ length before + length (change ∷ x ∷ rest) = ap length are ∙ length-append before (change ∷ x ∷ rest) in omega arith)
           ends visit work loaded two low plan before change rest are long is y false last =
               let on : made + 1 ≢ length c.changes = λ z. let bad : true ≡ false = sym (eq-eqb (made + 1) (length c.changes) z) ∙ last in cc in
-              record { below = s.below; irq = s.irq ∙ ap irq_of is;
+              record {
+                below = s.below;
+                irq = s.irq ∙ ap irq_of is;
                 seat = (visit, (work, loaded, two, omega arith, plan, (before ++ change ∷ [], rest, are ∙ sym (append_assoc before (change ∷ []) rest), length-append before (change ∷ []) ∙ (let z = long in omega arith), refl)));
-                source = y; gate_held = tt }
+                source = y;
+                gate_held = tt;
+              }

@@ -1,8 +1,6 @@
 -- The kinds of step of a round: a CPU looks at the phase, acknowledges it, refills the count, and stores the next phase.
-use Rattle.std.proofs.Common.{◌≡◌, ◌≢◌, ℕ, ◌+◌, ◌-◌, ◌<◌, ◌≤◌, Bool, true, false, not, nat_lt, lt-ltb, le-ltb, ltb-true, eqb-true, eq-eqb, ne_eqb, ◌==◌, ◌&&◌, ◌||◌, cond, sym, subst, refl, ap, ◌∙◌, ◌⊎◌, inl, inr, arith, ⊎_elim, Option, Some, None, List, [], ◌∷◌, ◌++◌}
+use Rattle.std.proofs.Common.{◌≡◌, ◌≢◌, ℕ, ◌+◌, ◌-◌, ◌<◌, ◌≤◌, Bool, true, false, not, nat_lt, lt-ltb, le-ltb, eqb-true, eq-eqb, ne_eqb, ◌==◌, ◌&&◌, ◌||◌, cond, sym, subst, refl, ap, ◌∙◌, ◌⊎◌, inl, inr, arith, ⊎_elim, Some, None, List, [], ◌∷◌, ◌++◌}
 use Rattle.std.proofs.lemmas.Bool.{cases_lt, cases_eq}
-use mathlib.Core.Logic.{dite}
-use native.Mathlib.Decide.{ℕ_discrete}
 use Rattle.smp_core.proofs.Puts.{at_test, put_all}
 use Rattle.smp_core.proofs.Stops.Counts.{put_else, put_here}
 use Rattle.smp_core.proofs.Stops.Kept.{MovesInside, StaysOpen, after, moves_early, moves_given, open_step, other_slots, owns_kept, put_twice}
@@ -23,7 +21,7 @@ use Rattle.smp_core.specs.Stops.Slots.{AckShows, IsLevel, Keeps, OpenShows}
 use Rattle.smp_core.specs.Stops.Sources.{Source}
 use Rattle.smp_core.specs.Stops.State.{Present, Setup, StopCall, StopState}
 use Rattle.smp_core.specs.Stops.Stop.{Answering, Called, Completed, Inside, Nobody, Outside, Raises, Raising, Refills, Standing, Stop, acked, acknowledged, is_inside, raised, refilled, stands}
-use Rattle.smp_core.specs.Stops.Tells.{acknowledges, calls_at_run, calls_more, first_readings, is_patch, leaves, looked_by, looks, stored_open, stored_shut, told, unpatched, with_stop}
+use Rattle.smp_core.specs.Stops.Tells.{acknowledges, calls_at_run, calls_more, first_readings, is_patch, leaves, looked_by, stored_open, stored_shut, told, unpatched, with_stop}
 use Rattle.smp_core.specs.declared.seen.Act.TheVariants as act
 use Rattle.smp_core.specs.declared.stop.field.Field.TheVariants.{Ack, State}
 use Rattle.smp_core.specs.declared.stop.work.Kind.TheVariants.{Multi, One, Patch}
@@ -98,16 +96,16 @@ module _ (u : Setup) (p : StopState) (at : Word → ℕ) (seat : ℕ → Seat) (
       let next = In s job a found Rests in
       let inside : MovesInside ((p.now.stop s).standing me) to = record { inside = λ _. ap is_inside st.1; late = λ x. subst (λ (y : Standing). 3 ≤ acked y) (sym st.1) x; given = sym (ap answer_now st.1) } in
       subst (λ (x : Standing). StopShows u (record p { now = after p.now s (stands (p.now.stop s) me (looked_by x found)) p.now.inside irq' p.now.readings p.now.patching; looks = looks' }) at (put seat me next) source)
-          (sym st.1)
-          (open_step u p at seat source h s stop' p.now.inside irq' p.now.readings p.now.patching at (put seat me next) looks' p.calls
-              record { was = is_open job a l Rests is; now = is_open job a l Rests is; work = refl; end = λ e. e; given = moves_given u.first s me (p.now.stop s) to inside }
-              refl (λ j ne f. refl)
-              (owns_kept u.first p.now (λ k. at (Key k)) s stop' p.now.inside irq' p.now.readings p.now.patching
-                  record { was = is_open job a l Rests is; now = is_open job a l Rests is; work = refl; end = λ e. e; given = moves_given u.first s me (p.now.stop s) to inside }
-                  (moves_early u.first s me (p.now.stop s) to inside stop' refl) h.owns)
-              (step_looks u p.now at seat h.present s me irq' p.now.readings (save found) job a l is more
-                  (turned found refl (o.state ∙ refl) k (h.present.irq me ∙ ap irq_of is))
-                  (λ on i. h.present.read me on (before found (sym (turned found refl (o.state ∙ refl) k (h.present.irq me ∙ ap irq_of is)) ∙ refl) i))))
+      (sym st.1)
+      (open_step u p at seat source h s stop' p.now.inside irq' p.now.readings p.now.patching at (put seat me next) looks' p.calls
+      record { was = is_open job a l Rests is; now = is_open job a l Rests is; work = refl; end = λ e. e; given = moves_given u.first s me (p.now.stop s) to inside }
+      refl (λ j ne f. refl)
+      (owns_kept u.first p.now (λ k. at (Key k)) s stop' p.now.inside irq' p.now.readings p.now.patching
+      record { was = is_open job a l Rests is; now = is_open job a l Rests is; work = refl; end = λ e. e; given = moves_given u.first s me (p.now.stop s) to inside }
+      (moves_early u.first s me (p.now.stop s) to inside stop' refl) h.owns)
+      (step_looks u p.now at seat h.present s me irq' p.now.readings (save found) job a l is more
+      (turned found refl (o.state ∙ refl) k (h.present.irq me ∙ ap irq_of is))
+      (λ on i. h.present.read me on (before found (sym (turned found refl (o.state ∙ refl) k (h.present.irq me ∙ ap irq_of is)) ∙ refl) i))))
     where
       other_irq : (b : Bool) (c : ℕ) → c ≢ me → cond b (put p.now.irq me false) p.now.irq c ≡ p.now.irq c
       other_irq true c ne = put_else p.now.irq me false c ne
@@ -171,15 +169,15 @@ module _ (u : Setup) (p : StopState) (at : Word → ℕ) (seat : ℕ → Seat) (
         (j : ℕ) → OwnsKey u.first (after p.now s acked_stop p.now.inside irq' readings' x) (λ k. at (Key k)) j
     owns_acked x irq' readings' st known j =
         at_test j s (λ b. let y = cond b acked_stop (p.now.stop j) in y.is_open ≡ true → y.work.kind ≡ Patch → is_inside (y.standing j) ≡ true → 3 ≤ acked (y.standing u.first) → is_on (at (Key y.work.func)) ≡ is_on y.work.arg)
-            (λ e op kind in_ late.
-                let i = put_all (λ c y. is_inside y ≡ true → is_inside ((p.now.stop s).standing c) ≡ true) (p.now.stop s).standing me (Inside (a + 1) (a + 1)) (λ _. ap is_inside st) (λ c ne i. i) s (subst (λ k. is_inside (acked_stop.standing k) ≡ true) e in_) in
-                at_test u.first me (λ b. 3 ≤ acked (cond b (Inside (a + 1) (a + 1)) ((p.now.stop s).standing u.first)) → is_on (at (Key (p.now.stop s).work.func)) ≡ is_on (p.now.stop s).work.arg)
-                    (λ f late. elim (cases_eq a 2) [
-                      | inl two ↦ known kind (sym f) two
-                      | inr ne ↦ h.owns s op kind i (subst (λ c. 3 ≤ acked ((p.now.stop s).standing c)) (sym f) (subst (λ (y : Standing). 3 ≤ acked y) (sym st) (let z : 3 ≤ a = omega arith in z)))
-                    ])
-                    (λ ne late. h.owns s op kind i late) late)
-            (λ ne op kind in_ late. h.owns j op kind in_ late)
+        (λ e op kind in_ late.
+        let i = put_all (λ c y. is_inside y ≡ true → is_inside ((p.now.stop s).standing c) ≡ true) (p.now.stop s).standing me (Inside (a + 1) (a + 1)) (λ _. ap is_inside st) (λ c ne i. i) s (subst (λ k. is_inside (acked_stop.standing k) ≡ true) e in_) in
+        at_test u.first me (λ b. 3 ≤ acked (cond b (Inside (a + 1) (a + 1)) ((p.now.stop s).standing u.first)) → is_on (at (Key (p.now.stop s).work.func)) ≡ is_on (p.now.stop s).work.arg)
+        (λ f late. elim (cases_eq a 2) [
+          | inl two ↦ known kind (sym f) two
+          | inr ne ↦ h.owns s op kind i (subst (λ c. 3 ≤ acked ((p.now.stop s).standing c)) (sym f) (subst (λ (y : Standing). 3 ≤ acked y) (sym st) (let z : 3 ≤ a = omega arith in z)))
+        ])
+        (λ ne late. h.owns s op kind i late) late)
+        (λ ne op kind in_ late. h.owns j op kind in_ late)
 
     leaves_irq : (b : Bool) → irq_of (In s job (a + 1) (a + 1) (cond b Fills Rests)) ≡ cond (a + 1 == 4 && not b) true (nat_lt (a + 1) 2)
     leaves_irq true = at_test (a + 1) 4 (λ c. nat_lt (a + 1) 2 ≡ cond (c && false) true (nat_lt (a + 1) 2)) (λ _. refl) (λ _. refl)
@@ -206,27 +204,27 @@ module _ (u : Setup) (p : StopState) (at : Word → ℕ) (seat : ℕ → Seat) (
         let at' = put_word at (Slot s Ack) (found - 1) in
         let to = Inside (a + 1) (a + 1) in
         subst (λ (y : ℕ → Seat). StopShows u (record p { now = leaves (acked_now x) me s (p.now.stop s).work; calls = calls' }) at' y source) same
-            (open_step u p at seat source h s acked_stop p.now.inside irq' readings' x at' (put seat0 me next) p.looks calls'
-                record { was = op; now = op; work = refl; end = λ e. e; given = put_all (λ c y. answer_now y ≡ answer_now ((p.now.stop s).standing c)) (p.now.stop s).standing me to (sym (ap answer_now st)) (λ c ne. refl) }
-                refl (other_slots at s Ack (found - 1))
-                (owns_acked x irq' readings' st known)
-                (step_acknowledges u (record (p.now) { patching = x }) at seat0 present s me irq' readings'
-                    record { inside = λ c ne. refl; irq = λ c ne. put_else p.now.irq me true c ne; readings = λ c ne. put_else p.now.readings me (first_readings me s (p.now.stop s).work) c ne }
-                    job a is
-                    (put_here p.now.irq me true ∙ sym (leaves_irq (found == 1) ∙ ap (λ b. cond b true (nat_lt (a + 1) 2)) e))
-                    (λ _ _. subst (AllByRecursion (Agrees (labels_in at))) (sym (put_here p.now.readings me (first_readings me s (p.now.stop s).work))) (agrees (eqb-true (a + 1) 4 (both_true (a + 1 == 4) (not (found == 1)) e).0)))))
+        (open_step u p at seat source h s acked_stop p.now.inside irq' readings' x at' (put seat0 me next) p.looks calls'
+        record { was = op; now = op; work = refl; end = λ e. e; given = put_all (λ c y. answer_now y ≡ answer_now ((p.now.stop s).standing c)) (p.now.stop s).standing me to (sym (ap answer_now st)) (λ c ne. refl) }
+        refl (other_slots at s Ack (found - 1))
+        (owns_acked x irq' readings' st known)
+        (step_acknowledges u (record (p.now) { patching = x }) at seat0 present s me irq' readings'
+        record { inside = λ c ne. refl; irq = λ c ne. put_else p.now.irq me true c ne; readings = λ c ne. put_else p.now.readings me (first_readings me s (p.now.stop s).work) c ne }
+        job a is
+        (put_here p.now.irq me true ∙ sym (leaves_irq (found == 1) ∙ ap (λ b. cond b true (nat_lt (a + 1) 2)) e))
+        (λ _ _. subst (AllByRecursion (Agrees (labels_in at))) (sym (put_here p.now.readings me (first_readings me s (p.now.stop s).work))) (agrees (eqb-true (a + 1) 4 (both_true (a + 1 == 4) (not (found == 1)) e).0)))))
     ack_shown x seat0 calls' present is off same st op known agrees false e =
         let at' = put_word at (Slot s Ack) (found - 1) in
         let to = Inside (a + 1) (a + 1) in
         let turned : p.now.irq me ≡ irq_of next = off ∙ sym (leaves_irq (found == 1) ∙ ap (λ b. cond b true (nat_lt (a + 1) 2)) e) in
         subst (λ (y : ℕ → Seat). StopShows u (record p { now = acked_now x; calls = calls' }) at' y source) same
-            (open_step u p at seat source h s acked_stop p.now.inside p.now.irq p.now.readings x at' (put seat0 me next) p.looks calls'
-                record { was = op; now = op; work = refl; end = λ e. e; given = put_all (λ c y. answer_now y ≡ answer_now ((p.now.stop s).standing c)) (p.now.stop s).standing me to (sym (ap answer_now st)) (λ c ne. refl) }
-                refl (other_slots at s Ack (found - 1))
-                (owns_acked x p.now.irq p.now.readings st known)
-                (step_acknowledges u (record (p.now) { patching = x }) at seat0 present s me p.now.irq p.now.readings
-                    record { inside = λ c ne. refl; irq = λ c ne. refl; readings = λ c ne. refl }
-                    job a is turned (λ on i. h.present.read me on (turned ∙ i))))
+        (open_step u p at seat source h s acked_stop p.now.inside p.now.irq p.now.readings x at' (put seat0 me next) p.looks calls'
+        record { was = op; now = op; work = refl; end = λ e. e; given = put_all (λ c y. answer_now y ≡ answer_now ((p.now.stop s).standing c)) (p.now.stop s).standing me to (sym (ap answer_now st)) (λ c ne. refl) }
+        refl (other_slots at s Ack (found - 1))
+        (owns_acked x p.now.irq p.now.readings st known)
+        (step_acknowledges u (record (p.now) { patching = x }) at seat0 present s me p.now.irq p.now.readings
+        record { inside = λ c ne. refl; irq = λ c ne. refl; readings = λ c ne. refl }
+        job a is turned (λ on i. h.present.read me on (turned ∙ i))))
 
     abbrev pub calls_then : ℕ → List StopCall
     calls_then = cond (a + 1 == 3 && calls_at_run me (p.now.stop s).work) (calls_more p.calls me (p.now.stop s).work answer) p.calls
@@ -241,12 +239,12 @@ module _ (u : Setup) (p : StopState) (at : Word → ℕ) (seat : ℕ → Seat) (
         let phase : (p.now.stop s).phase ≡ a + 1 = ⊎_elim (λ (e : a + 1 ≡ a). absurd (omega arith)) (λ (e : (a + 1 ≡ a + 1) × ((p.now.stop s).phase ≡ a + 1)). e.1) k.2 in
         let off : p.now.irq me ≡ nat_lt (a + 1) 2 = h.present.irq me ∙ (ap irq_of is ∙ or_false (nat_lt (a + 1) 2) (a == 4) (ne_eqb a 4 (λ e. let m = k.3 in omega arith))) in
         subst (λ (x : Standing). StopShows u (acknowledges p me s x found answer) (put_word at (Slot s Ack) (found - 1)) (put seat me next) source) (sym st.1)
-            (subst (λ (x : Patching). StopShows u (record p { now = cond (a + 1 == 4 && not (found == 1)) (leaves (acked_now x) me s (p.now.stop s).work) (acked_now x); calls = calls_then }) (put_word at (Slot s Ack) (found - 1)) (put seat me next) source)
-                (sym (still (a + 1 == 3) idle))
-                (ack_shown p.now.patching seat calls_then h.present is off refl st.1 (is_open job a (a + 1) Rests is)
-                    (λ kind mine two. absurd (active kind mine two st.3))
-                    (λ four. subst (λ (w : Work). AllByRecursion (Agrees (labels_in at)) (first_readings me s w)) (sym st.3) (leave_agrees job a (a + 1) Rests is (omega arith)))
-                    (a + 1 == 4 && not (found == 1)) refl))
+        (subst (λ (x : Patching). StopShows u (record p { now = cond (a + 1 == 4 && not (found == 1)) (leaves (acked_now x) me s (p.now.stop s).work) (acked_now x); calls = calls_then }) (put_word at (Slot s Ack) (found - 1)) (put seat me next) source)
+        (sym (still (a + 1 == 3) idle))
+        (ack_shown p.now.patching seat calls_then h.present is off refl st.1 (is_open job a (a + 1) Rests is)
+        (λ kind mine two. absurd (active kind mine two st.3))
+        (λ four. subst (λ (w : Work). AllByRecursion (Agrees (labels_in at)) (first_readings me s w)) (sym st.3) (leave_agrees job a (a + 1) Rests is (omega arith)))
+        (a + 1 == 4 && not (found == 1)) refl))
       where
         still : (b : Bool) → IsNoPatch (seat me) → cond b (unpatched me p.now.patching) p.now.patching ≡ p.now.patching
         still true idle = not_patching p.now.patching idle h.present.runner
@@ -271,13 +269,13 @@ module _ (u : Setup) (p : StopState) (at : Word → ℕ) (seat : ℕ → Seat) (
       let next = In s job 3 3 (cond (found == 1) Fills Rests) in
       let open_ = is_open_inside u.cpus (p.now.stop s) (λ f. at (Slot s f)) (h.present.slots s) me (Inside 2 3) st.1 refl in
       subst (λ (x : Standing). StopShows u (acknowledges p me s x found answer) (put_word at (Slot s Ack) (found - 1)) (put seat me next) source) (sym st.1)
-          (subst (λ (x : Patching). StopShows u (record p { now = acked_now job 2 answer (unpatched me x); calls = calls_then job 2 answer }) (put_word at (Slot s Ack) (found - 1)) (put seat me next) source)
-              (sym st.5)
-              (subst (λ b. StopShows u (record p { now = acked_now job 2 answer (cond b Whole (Patches me job made [])); calls = calls_then job 2 answer }) (put_word at (Slot s Ack) (found - 1)) (put seat me next) source)
-                  (sym (eq-eqb me me refl))
-                  (ack_shown job 2 answer Whole seat0 (calls_then job 2 answer) ends.0 (put_here seat me (In s job 2 3 Rests)) (h.present.irq me ∙ ap irq_of is) (put_twice seat me (In s job 2 3 Rests) next) st.1 open_
-                      (λ kind mine two. subst (λ (w : Work). is_on (at (Key w.func)) ≡ is_on w.arg) (sym st.3) ends.1)
-                      (λ four. absurd (let z : ⊥ = omega (arith, four) in z)) false refl)))
+      (subst (λ (x : Patching). StopShows u (record p { now = acked_now job 2 answer (unpatched me x); calls = calls_then job 2 answer }) (put_word at (Slot s Ack) (found - 1)) (put seat me next) source)
+      (sym st.5)
+      (subst (λ b. StopShows u (record p { now = acked_now job 2 answer (cond b Whole (Patches me job made [])); calls = calls_then job 2 answer }) (put_word at (Slot s Ack) (found - 1)) (put seat me next) source)
+      (sym (eq-eqb me me refl))
+      (ack_shown job 2 answer Whole seat0 (calls_then job 2 answer) ends.0 (put_here seat me (In s job 2 3 Rests)) (h.present.irq me ∙ ap irq_of is) (put_twice seat me (In s job 2 3 Rests) next) st.1 open_
+      (λ kind mine two. subst (λ (w : Work). is_on (at (Key w.func)) ≡ is_on w.arg) (sym st.3) ends.1)
+      (λ four. absurd (let z : ⊥ = omega (arith, four) in z)) false refl)))
 
   -- store of the count by the one that emptied it: the weight of the mask
   pub ack_stored : (job : Work) (a l answer : ℕ) → seat me ≡ In s job a l Fills →
@@ -293,12 +291,12 @@ module _ (u : Setup) (p : StopState) (at : Word → ℕ) (seat : ℕ → Seat) (
       let whole : weight u.cpus (p.now.stop s).standing ≡ v = weight_of_mask u.cpus (p.now.stop s) (λ f. at (Slot s f)) (h.present.slots s) open_ ∙ ap (λ (w : Work). mask_weight u.cpus w.mask) st.3 in
       let stays : StaysOpen (p.now.stop s) stop' = record { was = open_; now = open_; work = refl; end = λ e. e; given = λ c. refl } in
       subst (λ b. StopShows u (cond b (stored_open p me s Ack v) (stored_shut p s Ack v)) (put_word at (Slot s Ack) v) (put seat me next) source) (sym open_)
-          (open_step u p at seat source h s stop' p.now.inside p.now.irq p.now.readings p.now.patching (put_word at (Slot s Ack) v) (put seat me next) p.looks p.calls stays
-              refl (other_slots at s Ack v)
-              (owns_kept u.first p.now (λ k. at (Key k)) s stop' p.now.inside p.now.irq p.now.readings p.now.patching stays record { inside = λ i. i; late = λ i. i } h.owns)
-              (subst (λ n. PresentShows u (after p.now s stop' p.now.inside p.now.irq p.now.readings p.now.patching) (put_word at (Slot s Ack) n) (put seat me next)) whole
-                  (step_refills u p.now at seat h.present s me p.now.irq p.now.readings record { inside = λ c ne. refl; irq = λ c ne. refl; readings = λ c ne. refl }
-                      job a l is (λ z. one (p.now.stop s).raising st.2 (o.calm z)) (h.present.irq me ∙ ap irq_of is) (λ on i. h.present.read me on (h.present.irq me ∙ (ap irq_of is ∙ i))))))
+      (open_step u p at seat source h s stop' p.now.inside p.now.irq p.now.readings p.now.patching (put_word at (Slot s Ack) v) (put seat me next) p.looks p.calls stays
+      refl (other_slots at s Ack v)
+      (owns_kept u.first p.now (λ k. at (Key k)) s stop' p.now.inside p.now.irq p.now.readings p.now.patching stays record { inside = λ i. i; late = λ i. i } h.owns)
+      (subst (λ n. PresentShows u (after p.now s stop' p.now.inside p.now.irq p.now.readings p.now.patching) (put_word at (Slot s Ack) n) (put seat me next)) whole
+      (step_refills u p.now at seat h.present s me p.now.irq p.now.readings record { inside = λ c ne. refl; irq = λ c ne. refl; readings = λ c ne. refl }
+      job a l is (λ z. one (p.now.stop s).raising st.2 (o.calm z)) (h.present.irq me ∙ ap irq_of is) (λ on i. h.present.read me on (h.present.irq me ∙ (ap irq_of is ∙ i))))))
     where
       one : (r : Raising) → turn_of r me ≡ Fills → r ≡ Nobody → ⊥
       one Nobody e z = cc
@@ -323,9 +321,9 @@ module _ (u : Setup) (p : StopState) (at : Word → ℕ) (seat : ℕ → Seat) (
       let looked : (p.now.stop s).phase ≡ l = cc in
       let stays : StaysOpen (p.now.stop s) stop' = record { was = open_; now = open_; work = refl; end = λ e. e; given = λ c. refl } in
       let own = λ (irq' : ℕ → Bool) (readings' : ℕ → List Reading).
-          owns_kept u.first p.now (λ k. at (Key k)) s stop' p.now.inside irq' readings' p.now.patching stays record { inside = λ i. i; late = λ i. i } h.owns in
+      owns_kept u.first p.now (λ k. at (Key k)) s stop' p.now.inside irq' readings' p.now.patching stays record { inside = λ i. i; late = λ i. i } h.owns in
       subst (λ b. StopShows u (cond b (stored_open p me s State (a + 1)) (stored_shut p s State (a + 1))) at' (put seat me next) source) (sym open_)
-          (go (a + 1 == 5) refl st phase looked busy stays own)
+      (go (a + 1 == 5) refl st phase looked busy stays own)
     where
       one : (r : Raising) → turn_of r me ≡ Sets → r ≡ Nobody → ⊥
       one Nobody e z = cc
@@ -346,13 +344,13 @@ module _ (u : Setup) (p : StopState) (at : Word → ℕ) (seat : ℕ → Seat) (
           let readings' = put p.now.readings me first in
           let five : a ≡ 4 = let x = eqb-true (a + 1) 5 e in omega arith in
           open_step u p at seat source h s (raised (p.now.stop s) (a + 1)) p.now.inside irq' readings' p.now.patching (put_word at (Slot s State) (a + 1)) (put seat me (In s job a l Rests)) p.looks p.calls stays refl (other_slots at s State (a + 1)) (own irq' readings')
-              (subst (λ n. PresentShows u (after p.now s (raised (p.now.stop s) (n + 1)) p.now.inside irq' readings' p.now.patching) (put_word at (Slot s State) (n + 1)) (put seat me (In s job a l Rests))) phase
-                  (step_raises u p.now at seat h.present s me irq' readings'
-                      record { inside = λ c ne. refl; irq = λ c ne. put_else p.now.irq me true c ne; readings = λ c ne. put_else p.now.readings me first c ne }
-                      job a l is busy
-                      (put_here p.now.irq me true ∙ sym (ap (λ n. nat_lt l 2 || n == 4) five ∙ yes (nat_lt l 2)))
-                      (λ _ _. subst (AllByRecursion (Agrees (labels_in at))) (sym (put_here p.now.readings me first))
-                          (subst (λ (w : Work). AllByRecursion (Agrees (labels_in at)) (first_readings me s w)) (sym st.3) (leave_agrees job a l Sets is (omega arith))))))
+          (subst (λ n. PresentShows u (after p.now s (raised (p.now.stop s) (n + 1)) p.now.inside irq' readings' p.now.patching) (put_word at (Slot s State) (n + 1)) (put seat me (In s job a l Rests))) phase
+          (step_raises u p.now at seat h.present s me irq' readings'
+          record { inside = λ c ne. refl; irq = λ c ne. put_else p.now.irq me true c ne; readings = λ c ne. put_else p.now.readings me first c ne }
+          job a l is busy
+          (put_here p.now.irq me true ∙ sym (ap (λ n. nat_lt l 2 || n == 4) five ∙ yes (nat_lt l 2)))
+          (λ _ _. subst (AllByRecursion (Agrees (labels_in at))) (sym (put_here p.now.readings me first))
+          (subst (λ (w : Work). AllByRecursion (Agrees (labels_in at)) (first_readings me s w)) (sym st.3) (leave_agrees job a l Sets is (omega arith))))))
         where
           yes : (b : Bool) → b || true ≡ true
           yes true = refl
@@ -361,6 +359,6 @@ module _ (u : Setup) (p : StopState) (at : Word → ℕ) (seat : ℕ → Seat) (
           let not_five : a == 4 ≡ false = ne_eqb a 4 (λ x. let y : true ≡ false = sym (eq-eqb (a + 1) 5 (omega arith)) ∙ e in cc) in
           let off : p.now.irq me ≡ nat_lt l 2 || a == 4 = h.present.irq me ∙ (ap irq_of is ∙ sym (or_false (nat_lt l 2) (a == 4) not_five)) in
           open_step u p at seat source h s (raised (p.now.stop s) (a + 1)) p.now.inside p.now.irq p.now.readings p.now.patching (put_word at (Slot s State) (a + 1)) (put seat me (In s job a l Rests)) p.looks p.calls stays refl (other_slots at s State (a + 1)) (own p.now.irq p.now.readings)
-              (subst (λ n. PresentShows u (after p.now s (raised (p.now.stop s) (n + 1)) p.now.inside p.now.irq p.now.readings p.now.patching) (put_word at (Slot s State) (n + 1)) (put seat me (In s job a l Rests))) phase
-                  (step_raises u p.now at seat h.present s me p.now.irq p.now.readings record { inside = λ c ne. refl; irq = λ c ne. refl; readings = λ c ne. refl }
-                      job a l is busy off (λ on i. h.present.read me on (off ∙ i))))
+          (subst (λ n. PresentShows u (after p.now s (raised (p.now.stop s) (n + 1)) p.now.inside p.now.irq p.now.readings p.now.patching) (put_word at (Slot s State) (n + 1)) (put seat me (In s job a l Rests))) phase
+          (step_raises u p.now at seat h.present s me p.now.irq p.now.readings record { inside = λ c ne. refl; irq = λ c ne. refl; readings = λ c ne. refl }
+          job a l is busy off (λ on i. h.present.read me on (off ∙ i))))

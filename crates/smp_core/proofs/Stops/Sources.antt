@@ -1,5 +1,5 @@
 -- The kinds of step of a source: the gate, the stores of begin, and the looks for the result.
-use Rattle.std.proofs.Common.{◌≡◌, ◌≢◌, ℕ, ◌+◌, ◌-◌, ◌<◌, ◌≤◌, Bool, true, false, nat_lt, eq-eqb, ne_eqb, ◌==◌, ◌&&◌, ◌||◌, cond, sym, subst, refl, ap, ◌∙◌, ◌⊎◌, inl, inr, arith, ⊎_elim, Option, Some, None, List, [], ◌∷◌, ◌++◌}
+use Rattle.std.proofs.Common.{◌≡◌, ◌≢◌, ℕ, ◌+◌, ◌<◌, ◌≤◌, Bool, true, false, eq-eqb, ◌==◌, cond, sym, subst, refl, ap, ◌∙◌, arith, Option, Some, None, List, [], ◌∷◌, ◌++◌}
 use Rattle.smp_core.proofs.Puts.{at_test, put_all, put_both}
 use Rattle.smp_core.proofs.SameWords.{one_place}
 use Rattle.smp_core.proofs.Stops.Counts.{put_else, put_here, sum_zero}
@@ -10,7 +10,7 @@ use Rattle.smp_core.proofs.Stops.Owns.{mask_is}
 use Rattle.smp_core.proofs.Stops.Pasts.{past_collects, past_opens}
 use Rattle.smp_core.proofs.Stops.Raises.{in_machine}
 use Rattle.smp_core.specs.Put.{place_of, put, put_word, same_field}
-use Rattle.smp_core.specs.Stops.Counts.{one, unfinished}
+use Rattle.smp_core.specs.Stops.Counts.{unfinished}
 use Rattle.smp_core.specs.Stops.Past.{HasPast, answer_now}
 use Rattle.smp_core.specs.Stops.Present.{PresentShows}
 use Rattle.smp_core.specs.Stops.Seats.{Seat}
@@ -18,7 +18,7 @@ use Rattle.smp_core.specs.Stops.Shows.{StopShows, gate_word}
 use Rattle.smp_core.specs.Stops.Slots.{DoneShows, IsStored, begun_value, kind_at, kind_word, order}
 use Rattle.smp_core.specs.Stops.Sources.{Collects, DraftShows, Drafts, IsDrafted, OwnerShows, Owns, Shut, Source, SourceShows}
 use Rattle.smp_core.specs.Stops.State.{Setup, StopState}
-use Rattle.smp_core.specs.Stops.Stop.{Answering, Called, Completed, Ended, Ending, Inside, Last, Outside, Running, Standing, Stop, acked, answer_of, closed, is_inside, is_of, opened, stands}
+use Rattle.smp_core.specs.Stops.Stop.{Answering, Called, Completed, Ended, Ending, Inside, Last, Outside, Running, Standing, Stop, acked, answer_of, closed, is_inside, is_of, opened}
 use Rattle.smp_core.specs.Stops.Tells.{drafted, drafts, stored_open, stored_shut, told, with_stop}
 use Rattle.smp_core.specs.declared.seen.Act.TheVariants as act
 use Rattle.smp_core.specs.declared.stop.field.Field.TheVariants.{Ack, Active, Arg, Done, Func, Kind, Mask, Result, Roll, State, Todo}
@@ -29,7 +29,6 @@ use Rattle.smp_core.specs.declared.stop.work.Work.{Work}
 use Rattle.smp_core.specs.declared.word.Word.TheVariants.{Gate, Key, Slot}
 use Rattle.smp_core.specs.declared.word.Word.{Word}
 use Rattle.smp_labels.specs.Keys.{is_on}
-use Rattle.smp_labels.specs.Plans.{stored}
 use Rattle.smp_mask.specs.Mask.{has}
 
 pub kind_back : (k : KindOf) → kind_at (kind_word k) ≡ k
@@ -108,8 +107,8 @@ stored_more : (cpus : ℕ) (at : Word → ℕ) (s : ℕ) (work : Work) (k : ℕ)
     IsStored cpus (λ f. put_word at (Slot s g) (begun_value cpus work g) (Slot s f)) work (k + 1)
 stored_more cpus at s work k g is h f l = at_test (order f) (order g) (λ _. put_word at (Slot s g) (begun_value cpus work g) (Slot s f) ≡ begun_value cpus work f)
     (λ e. let same = one_order f g e in
-        subst (λ x. put_word at (Slot s g) (begun_value cpus work g) (Slot s x) ≡ begun_value cpus work x) (sym same)
-            (ap (λ b. cond b (begun_value cpus work g) (at (Slot s g))) (field_itself g (s == s) ∙ eq-eqb s s refl)))
+    subst (λ x. put_word at (Slot s g) (begun_value cpus work g) (Slot s x) ≡ begun_value cpus work x) (sym same)
+    (ap (λ b. cond b (begun_value cpus work g) (at (Slot s g))) (field_itself g (s == s) ∙ eq-eqb s s refl)))
     (λ ne. other f (λ e. ne (ap order e)) ∙ h f (omega arith))
   where
     other : (f : Field) → f ≢ g → put_word at (Slot s g) (begun_value cpus work g) (Slot s f) ≡ at (Slot s f)
@@ -139,7 +138,7 @@ module _ (u : Setup) (p : StopState) (at : Word → ℕ) (seat : ℕ → Seat) (
     past = λ j. at_test j me (λ b. HasPast (cond b stop' (p.now.stop j)) (begun' j) (collected' j) (λ c. p.answers c j))
         (λ e. let P : ℕ → Type 0 = λ k. HasPast stop' (begun' k) (collected' k) (λ c. p.answers c k) in subst P (sym e) past)
         (λ ne. let P : List Work → List ℕ → Type 0 = λ x y. HasPast (p.now.stop j) x y (λ c. p.answers c j) in
-            subst (λ x. P x (collected' j)) (sym (begun j ne)) (subst (λ y. P (p.begun j) y) (sym (collected j ne)) (h.past j)));
+        subst (λ x. P x (collected' j)) (sym (begun j ne)) (subst (λ y. P (p.begun j) y) (sym (collected j ne)) (h.past j)));
     owns = λ j. at_test j me (λ b. let y = cond b stop' (p.now.stop j) in
         y.is_open ≡ true → y.work.kind ≡ Patch → is_inside (y.standing j) ≡ true → 3 ≤ acked (y.standing u.first) → is_on (at' (Key y.work.func)) ≡ is_on y.work.arg)
         (λ e op kind in_ late. absurd (nobody j in_))
@@ -166,12 +165,12 @@ module _ (u : Setup) (p : StopState) (at : Word → ℕ) (seat : ℕ → Seat) (
       let stop' : Stop = record (p.now.stop me) { work = work' } in
       let out = all_outside u.cpus (p.now.stop me) w (h.present.slots me) d.shut in
       subst (λ b. StopShows u (cond b (stored_open p me me f v) (stored_shut p me f v)) at' seat (put source me (Drafts work (k + 1)))) (sym d.shut)
-          (subst (λ q. StopShows u q at' seat (put source me (Drafts work (k + 1)))) (sym (shut_told p me f v fresh))
-              (source_step stop' p.begun p.collected at' (Drafts work (k + 1)) refl (other_slots at me f v) (λ k. refl)
-                  record { shut = d.shut; holds = d.holds; is_work = d.is_work; stored = stored_more u.cpus at me work k f place d.stored; told = drafted_more u.cpus f k (p.now.stop me).work work place d.told }
-                  (past_same (p.now.stop me) stop' (p.begun me) (p.collected me) (λ c. p.answers c me) refl (λ op. absurd (apart (sym op ∙ d.shut))) (λ c. refl) (h.past me))
-                  (λ j ne. refl) (λ j ne. refl) (λ c. outside_not ((p.now.stop me).standing c) (out c))
-                  (step_drafts u p.now at seat h.present me f v work' d.shut (not_roll f fresh))))
+      (subst (λ q. StopShows u q at' seat (put source me (Drafts work (k + 1)))) (sym (shut_told p me f v fresh))
+      (source_step stop' p.begun p.collected at' (Drafts work (k + 1)) refl (other_slots at me f v) (λ k. refl)
+      record { shut = d.shut; holds = d.holds; is_work = d.is_work; stored = stored_more u.cpus at me work k f place d.stored; told = drafted_more u.cpus f k (p.now.stop me).work work place d.told }
+      (past_same (p.now.stop me) stop' (p.begun me) (p.collected me) (λ c. p.answers c me) refl (λ op. absurd (apart (sym op ∙ d.shut))) (λ c. refl) (h.past me))
+      (λ j ne. refl) (λ j ne. refl) (λ c. outside_not ((p.now.stop me).standing c) (out c))
+      (step_drafts u p.now at seat h.present me f v work' d.shut (not_roll f fresh))))
     where
       apart : true ≡ false → ⊥
       apart e = cc
@@ -186,13 +185,13 @@ module _ (u : Setup) (p : StopState) (at : Word → ℕ) (seat : ℕ → Seat) (
       let stop' = opened (p.now.stop me) work in
       let out = all_outside u.cpus (p.now.stop me) w (h.present.slots me) d.shut in
       subst (λ b. StopShows u (cond b (stored_open p me me Roll work.mask) (stored_shut p me Roll work.mask)) at' seat (put source me (Owns work))) (sym d.shut)
-          (subst (λ (x : Work). StopShows u (record p { now = with_stop p.now me (opened (p.now.stop me) x); begun = put p.begun me (p.begun me ++ x ∷ []) }) at' seat (put source me (Owns work))) (sym same)
-              (source_step stop' (put p.begun me (p.begun me ++ work ∷ [])) p.collected at' (Owns work) refl (other_slots at me Roll work.mask) (λ k. refl)
-                  record { is_open = refl; work_is = refl; is_work = d.is_work }
-                  (subst (λ l. HasPast stop' l (p.collected me) (λ c. p.answers c me)) (sym (put_here p.begun me (p.begun me ++ work ∷ [])))
-                      ((h.past me).0, past_opens (h.past me).0 (p.now.stop me) (p.begun me) (p.collected me) (λ c. p.answers c me) (h.past me).1 work d.shut out))
-                  (λ j ne. put_else p.begun me (p.begun me ++ work ∷ []) j ne) (λ j ne. refl) (λ c. called_not (has work.mask c))
-                  (step_opens u p.now at seat h.present me work d.shut d.is_work d.stored)))
+      (subst (λ (x : Work). StopShows u (record p { now = with_stop p.now me (opened (p.now.stop me) x); begun = put p.begun me (p.begun me ++ x ∷ []) }) at' seat (put source me (Owns work))) (sym same)
+      (source_step stop' (put p.begun me (p.begun me ++ work ∷ [])) p.collected at' (Owns work) refl (other_slots at me Roll work.mask) (λ k. refl)
+      record { is_open = refl; work_is = refl; is_work = d.is_work }
+      (subst (λ l. HasPast stop' l (p.collected me) (λ c. p.answers c me)) (sym (put_here p.begun me (p.begun me ++ work ∷ [])))
+      ((h.past me).0, past_opens (h.past me).0 (p.now.stop me) (p.begun me) (p.collected me) (λ c. p.answers c me) (h.past me).1 work d.shut out))
+      (λ j ne. put_else p.begun me (p.begun me ++ work ∷ []) j ne) (λ j ne. refl) (λ c. called_not (has work.mask c))
+      (step_opens u p.now at seat h.present me work d.shut d.is_work d.stored)))
     where
       called_not : (b : Bool) → is_inside (cond b Called Outside) ≡ true → ⊥
       called_not true e = cc
@@ -204,7 +203,11 @@ module _ (u : Setup) (p : StopState) (at : Word → ℕ) (seat : ℕ → Seat) (
   -- load of done, that found it set
   pub done_loaded : (work : Work) → source me ≡ Owns work → at (Slot me Done) ≡ 1 → StopShows u p at seat (put source me (Collects work))
   done_loaded work is found = record {
-    setup = h.setup; present = h.present; gate = h.gate; past = h.past; owns = h.owns;
+    setup = h.setup;
+    present = h.present;
+    gate = h.gate;
+    past = h.past;
+    owns = h.owns;
     sources = put_all (λ j x. SourceShows u p.gate (p.now.stop j) (λ f. at (Slot j f)) j x) source me (Collects work)
         (owner work is, ends (p.now.stop me).ending refl ((h.present.slots me).shows (owner work is).is_open).done) (λ j ne. h.sources j);
   }
@@ -224,13 +227,15 @@ module _ (u : Setup) (p : StopState) (at : Word → ℕ) (seat : ℕ → Seat) (
       let result = at (Slot me Result) in
       let stop' = closed (p.now.stop me) in
       source_step stop' p.begun (put p.collected me (p.collected me ++ result ∷ [])) at Shut refl (λ j ne f. refl) (λ k. refl) refl
-          (subst (λ l. HasPast stop' (p.begun me) l (λ c. p.answers c me)) (sym (put_here p.collected me (p.collected me ++ result ∷ [])))
-              (_, past_collects (h.past me).0 (p.now.stop me) (p.begun me) (p.collected me) (λ c. p.answers c me) (h.past me).1 result o.0.is_open
-                  (collects_slot u.cpus (p.now.stop me) w (h.present.slots me) o.0.is_open d.0).0
-                  (λ c. all ((p.now.stop me).standing c) (mask_is u p.now at seat h.present me c o.0.is_open)
-                      (λ of. sum_zero (λ c. unfinished ((p.now.stop me).standing c)) u.cpus d.1 c (in_machine u.cpus (p.now.stop me).phase c ((p.now.stop me).standing c) of ((h.present.slots me).keeps c))))))
-          (λ j ne. refl) (λ j ne. put_else p.collected me (p.collected me ++ result ∷ []) j ne) (λ c e. cc)
-          (step_collects u p.now at seat h.present me o.0.is_open d.0)
+      (subst (λ l. HasPast stop' (p.begun me) l (λ c. p.answers c me)) (sym (put_here p.collected me (p.collected me ++ result ∷ []))) (
+        _,
+        past_collects (h.past me).0 (p.now.stop me) (p.begun me) (p.collected me) (λ c. p.answers c me) (h.past me).1 result o.0.is_open
+            (collects_slot u.cpus (p.now.stop me) w (h.present.slots me) o.0.is_open d.0).0
+            (λ c. all ((p.now.stop me).standing c) (mask_is u p.now at seat h.present me c o.0.is_open)
+            (λ of. sum_zero (λ c. unfinished ((p.now.stop me).standing c)) u.cpus d.1 c (in_machine u.cpus (p.now.stop me).phase c ((p.now.stop me).standing c) of ((h.present.slots me).keeps c)))),
+      ))
+      (λ j ne. refl) (λ j ne. put_else p.collected me (p.collected me ++ result ∷ []) j ne) (λ c e. cc)
+      (step_collects u p.now at seat h.present me o.0.is_open d.0)
     where
       all : {b : Bool} (x : Standing) → is_of x ≡ b → (is_of x ≡ true → unfinished x ≡ 0) → answer_now x ≡ cond b (answer_of x ∷ []) []
       all {b} Outside e z = ap (λ c. cond c (0 ∷ []) []) e
@@ -255,8 +260,17 @@ module _ (u : Setup) (p : StopState) (at : Word → ℕ) (seat : ℕ → Seat) (
       none_is (Some c) e = absurd (omega arith)
 
       other_gate : (n : ℕ) → PresentShows u p.now (put_word at Gate n) seat
-      other_gate n = record { slots = h.present.slots; stands = h.present.stands; homes = h.present.homes; irq = h.present.irq; works = h.present.works; runner = h.present.runner;
-        entries = h.present.entries; labels = h.present.labels; read = h.present.read }
+      other_gate n = record {
+        slots = h.present.slots;
+        stands = h.present.stands;
+        homes = h.present.homes;
+        irq = h.present.irq;
+        works = h.present.works;
+        runner = h.present.runner;
+        entries = h.present.entries;
+        labels = h.present.labels;
+        read = h.present.read;
+      }
 
       another : (j : ℕ) (x : Source) → SourceShows u p.gate (p.now.stop j) (λ f. at (Slot j f)) j x → SourceShows u (Some me) (p.now.stop j) (λ f. at (Slot j f)) j x
       another j Shut s = s
@@ -269,8 +283,17 @@ module _ (u : Setup) (p : StopState) (at : Word → ℕ) (seat : ℕ → Seat) (
       StopShows u (told u p me act.Store Gate None (Some 0) answer) (put_word at Gate 0) seat source
   gate_opened answer holds idle = record {
     setup = h.setup;
-    present = record { slots = h.present.slots; stands = h.present.stands; homes = h.present.homes; irq = h.present.irq; works = h.present.works; runner = h.present.runner;
-        entries = h.present.entries; labels = h.present.labels; read = h.present.read };
+    present = record {
+      slots = h.present.slots;
+      stands = h.present.stands;
+      homes = h.present.homes;
+      irq = h.present.irq;
+      works = h.present.works;
+      runner = h.present.runner;
+      entries = h.present.entries;
+      labels = h.present.labels;
+      read = h.present.read;
+    };
     gate = refl;
     sources = λ j. another j (source j) refl (h.sources j);
     past = h.past;

@@ -1,6 +1,5 @@
 -- Each step of a CPU's command keeps what the words show of the stops, and what was seen of it tells the stops after it.
-use Rattle.std.proofs.Common.{◌≡◌, ◌≢◌, ℕ, zero, suc, ◌+◌, ◌-◌, ◌%◌, ◌^◌, ◌<◌, ◌≤◌, Bool, true, false, not, nat_lt, le-ltb, eq-eqb, ne_eqb, eqb-true, ◌==◌, ◌&&◌, ◌||◌, cond, sym, subst, refl, ap, ◌∙◌, ◌⊎◌, inl, inr, arith, ⊎_elim, Option, Some, None, List, [], ◌∷◌, ◌++◌, length, take}
-use Rattle.std.proofs.lemmas.Bool.{cases_eq}
+use Rattle.std.proofs.Common.{◌≡◌, ◌≢◌, ℕ, ◌+◌, ◌-◌, ◌^◌, ◌<◌, Bool, true, false, eq-eqb, eqb-true, ◌==◌, cond, sym, subst, refl, ap, ◌∙◌, arith, Option, Some, None, length}
 use Rattle.smp_core.proofs.Puts.{at_test}
 use Rattle.smp_core.proofs.Stops.Facts.{work_words}
 use Rattle.smp_core.proofs.Stops.Patching.{key_read, site_read}
@@ -40,7 +39,6 @@ less_one n some small = omega arith
 
 module _ (u : Setup) (p : StopState) (at : Word → ℕ) (seat : ℕ → Seat) (source : ℕ → Source) (h : StopShows u p at seat source) (c : StopControlValue) (me : ℕ)
     (s : Sits u me (at Gate) c (seat me) (source me)) where
-
   -- a step that moves neither the CPU nor its source
   still : (p' : StopState) (at' : Word → ℕ) → StopShows u p' at' seat source → StopShows u p' at' (put seat me (seat me)) (put source me (source me))
   still p' at' shows = subst (λ x. StopShows u p' at' x (put source me (source me))) (sym (put_same_fn seat me)) (subst (λ y. StopShows u p' at' seat y) (sym (put_same_fn source me)) shows)
@@ -79,7 +77,8 @@ module _ (u : Setup) (p : StopState) (at : Word → ℕ) (seat : ℕ → Seat) (
       let x : AtRest = subst (λ (st : Option StopStage). SitsAt u me c st (seat me)) e s.seat in
       let y : OwnsIf c.is_open (source me) = subst (λ (st : Option StopStage). SourceSits c.is_open st (source me)) e s.source in
       record {
-        seat_after = seat me; source_after = source me;
+        seat_after = seat me;
+        source_after = source me;
         shows = still (state_after u p at c me TakeGate) (at_then u at c me TakeGate) (gate_is_taken (at Gate == 0) refl);
         sits = record { below = s.below; irq = s.irq; seat = x; source = y; gate_held = tt };
       }
@@ -90,7 +89,8 @@ module _ (u : Setup) (p : StopState) (at : Word → ℕ) (seat : ℕ → Seat) (
       let y : OwnsIf c.is_open (source me) = subst (λ (st : Option StopStage). SourceSits c.is_open st (source me)) e s.source in
       let g : at Gate ≡ me + 1 = subst (HoldsGate me (at Gate)) e s.gate_held in
       record {
-        seat_after = seat me; source_after = source me;
+        seat_after = seat me;
+        source_after = source me;
         shows = still (state_after u p at c me OpenGate) (at_then u at c me OpenGate) (gate_opened u p at seat source h me 0 (holder p.gate (sym h.gate ∙ g)) (not_drafting y));
         sits = record { below = s.below; irq = s.irq; seat = x; source = y; gate_held = tt };
       }
@@ -109,10 +109,11 @@ module _ (u : Setup) (p : StopState) (at : Word → ℕ) (seat : ℕ → Seat) (
   drafts_step work f g e low next =
       let y = begins_source work f e in
       let p' = told u p me act.Store (Slot me f) None (Some (begun_value u.cpus work f)) 0 in
-      let at' = put_word at (Slot me f) (begun_value u.cpus work f) in
-      (moved_source p' at' (Drafts work (order g))
-          (subst (λ k. StopShows u p' at' seat (put source me (Drafts work k))) (sym next) (field_stored u p at seat source h me work (order f) f 0 y.1 refl low)),
-        record { below = s.below; irq = s.irq; seat = begins_seat work f e; source = (y.0, refl); gate_held = tt })
+      let at' = put_word at (Slot me f) (begun_value u.cpus work f) in (
+        moved_source p' at' (Drafts work (order g))
+            (subst (λ k. StopShows u p' at' seat (put source me (Drafts work k))) (sym next) (field_stored u p at seat source h me work (order f) f 0 y.1 refl low)),
+        record { below = s.below; irq = s.irq; seat = begins_seat work f e; source = (y.0, refl); gate_held = tt },
+      )
 
   pub begin_step : (work : Work) (f : Field) → c.stage ≡ Some (Begin work f) → StopStep u p at seat source c me (Begin work f)
   begin_step work Kind e = let d = drafts_step work Kind Mask e (omega arith) refl in record { seat_after = seat me; source_after = Drafts work 1; shows = d.0; sits = d.1 }
@@ -128,7 +129,8 @@ module _ (u : Setup) (p : StopState) (at : Word → ℕ) (seat : ℕ → Seat) (
   begin_step work Roll e =
       let y = begins_source work Roll e in
       record {
-        seat_after = seat me; source_after = Owns work;
+        seat_after = seat me;
+        source_after = Owns work;
         shows = moved_source (state_after u p at c me (Begin work Roll)) (at_then u at c me (Begin work Roll)) (Owns work) (roll_stored u p at seat source h me work 0 y.1);
         sits = record { below = s.below; irq = s.irq; seat = begins_seat work Roll e; source = (work, refl); gate_held = tt };
       }
@@ -144,7 +146,8 @@ module _ (u : Setup) (p : StopState) (at : Word → ℕ) (seat : ℕ → Seat) (
       let y : OwnsIf c.is_open (source me) = subst (λ (st : Option StopStage). SourceSits c.is_open st (source me)) e s.source in
       let w = work_words u p at seat source h slot me x.0 0 0 Rests x.1 in
       record {
-        seat_after = seat me; source_after = source me;
+        seat_after = seat me;
+        source_after = source me;
         shows = still (state_after u p at c me (EnterKind slot)) at h;
         sits = record { below = s.below; irq = s.irq; seat = (x.0, x.1, ap kind_at w.kind ∙ kind_back x.0.kind); source = y; gate_held = tt };
       }
@@ -155,7 +158,8 @@ module _ (u : Setup) (p : StopState) (at : Word → ℕ) (seat : ℕ → Seat) (
       let y : OwnsIf c.is_open (source me) = subst (λ (st : Option StopStage). SourceSits c.is_open st (source me)) e s.source in
       let w = work_words u p at seat source h slot me x.0 0 0 Rests x.1 in
       record {
-        seat_after = seat me; source_after = source me;
+        seat_after = seat me;
+        source_after = source me;
         shows = still (state_after u p at c me (EnterMask slot kind)) at h;
         sits = record { below = s.below; irq = s.irq; seat = (x.0, x.1, x.2, w.mask); source = y; gate_held = tt };
       }
@@ -166,7 +170,8 @@ module _ (u : Setup) (p : StopState) (at : Word → ℕ) (seat : ℕ → Seat) (
       let y : OwnsIf c.is_open (source me) = subst (λ (st : Option StopStage). SourceSits c.is_open st (source me)) e s.source in
       let w = work_words u p at seat source h slot me x.0 0 0 Rests x.1 in
       record {
-        seat_after = seat me; source_after = source me;
+        seat_after = seat me;
+        source_after = source me;
         shows = still (state_after u p at c me (EnterActive slot kind mask)) at h;
         sits = record { below = s.below; irq = s.irq; seat = (x.0, record { kind = x.2; mask = x.3; active = w.active }, x.1); source = y; gate_held = tt };
       }
@@ -176,7 +181,8 @@ module _ (u : Setup) (p : StopState) (at : Word → ℕ) (seat : ℕ → Seat) (
       let x : (c.interrupts ≡ true) × (k < u.keys) × AtRest = subst (λ (st : Option StopStage). SitsAt u me c st (seat me)) e s.seat in
       let y : OwnsIf c.is_open (source me) = subst (λ (st : Option StopStage). SourceSits c.is_open st (source me)) e s.source in
       record {
-        seat_after = seat me; source_after = source me;
+        seat_after = seat me;
+        source_after = source me;
         shows = still (state_after u p at c me (ReadKey k)) at (key_read u p at seat source h me k 0 (h.present.irq me ∙ (sym s.irq ∙ x.0)));
         sits = record { below = s.below; irq = s.irq; seat = x.2; source = y; gate_held = tt };
       }
@@ -186,7 +192,8 @@ module _ (u : Setup) (p : StopState) (at : Word → ℕ) (seat : ℕ → Seat) (
       let x : (c.interrupts ≡ true) × (i < length u.entries) × AtRest = subst (λ (st : Option StopStage). SitsAt u me c st (seat me)) e s.seat in
       let y : OwnsIf c.is_open (source me) = subst (λ (st : Option StopStage). SourceSits c.is_open st (source me)) e s.source in
       record {
-        seat_after = seat me; source_after = source me;
+        seat_after = seat me;
+        source_after = source me;
         shows = still (state_after u p at c me (ReadSite i)) at (site_read u p at seat source h me i 0);
         sits = record { below = s.below; irq = s.irq; seat = x.2; source = y; gate_held = tt };
       }
@@ -224,7 +231,8 @@ module _ (u : Setup) (p : StopState) (at : Word → ℕ) (seat : ℕ → Seat) (
       let x : AtRest = subst (λ (st : Option StopStage). SitsAt u me c st (seat me)) e s.seat in
       let y : (c.is_open ≡ true) × ((work : Work) × (source me ≡ Collects work)) = subst (λ (st : Option StopStage). SourceSits c.is_open st (source me)) e s.source in
       record {
-        seat_after = seat me; source_after = Shut;
+        seat_after = seat me;
+        source_after = Shut;
         shows = moved_source (state_after u p at c me LoadResult) at Shut (result_loaded u p at seat source h me y.1.0 0 y.1.1);
         sits = record { below = s.below; irq = s.irq; seat = x; source = refl; gate_held = tt };
       }

@@ -1,5 +1,5 @@
 -- Acknowledging, refilling, raising and looking, among all slots and CPUs.
-use Rattle.std.proofs.Common.{◌≡◌, ◌≢◌, ℕ, ◌+◌, ◌-◌, ◌<◌, ◌≤◌, Bool, true, false, not, ◌==◌, ◌&&◌, ◌||◌, cond, sym, subst, refl, ap, ◌∙◌, ◌⊎◌, inl, inr, arith, ⊎_elim, ne_eqb, eq-eqb, Option, Some, None, List, [], ◌∷◌, ◌++◌}
+use Rattle.std.proofs.Common.{◌≡◌, ◌≢◌, ℕ, ◌+◌, ◌-◌, ◌<◌, Bool, true, false, ◌==◌, cond, sym, subst, refl, ap, ◌∙◌, arith, ⊎_elim, ne_eqb, eq-eqb, Some, List}
 use Rattle.smp_core.proofs.Puts.{at_test}
 use Rattle.smp_core.proofs.Stops.Counts.{put_else, put_here}
 use Rattle.smp_core.proofs.Stops.Moves.{IsNoPatch, SaveMe, moved, moves, slot_put, slot_same}
@@ -31,7 +31,6 @@ nobody_raises cpus stop ack me a l (Raises r) is small ne h = absurd (none_raise
 
 module _ (u : Setup) (p : Present) (at : Word → ℕ) (seat : ℕ → Seat) (h : PresentShows u p at seat)
     (s me : ℕ) (irq' : ℕ → Bool) (readings' : ℕ → List Reading) (save : SaveMe p me p.inside irq' readings') where
-
   turn_here : (stop' : Stop) (t : Turn) → turn_of stop'.raising me ≡ t → turn_of (put p.stop s stop' s).raising me ≡ t
   turn_here stop' t e = at_test s s (λ b. turn_of (cond b stop' (p.stop s)).raising me ≡ t) (λ _. e) (λ ne. absurd (ne refl))
 
@@ -76,20 +75,22 @@ module _ (u : Setup) (p : Present) (at : Word → ℕ) (seat : ℕ → Seat) (h 
       let at_ : (p.stop s).phase ≡ a + 1 = ⊎_elim (λ (e : a + 1 ≡ a). absurd (omega arith)) (λ (e : (a + 1 ≡ a + 1) × ((p.stop s).phase ≡ a + 1)). e.1) k.2 in
       let no : (p.stop s).raising ≡ Nobody = nobody_raises u.cpus (p.stop s) found me a (a + 1) (p.stop s).raising st.1 k.0 (omega arith) (o.ack (omega arith)) in
       moves u p at (put_word at (Slot s Ack) (found - 1)) seat s me stop' p.inside irq' readings' (In s job (a + 1) (a + 1) (cond (found == 1) Fills Rests)) h
-          (slot_put u.cpus p.stop at s Ack (found - 1) stop' h.slots (acknowledges_slot u.cpus (p.stop s) w (h.slots s) me a st.1)) refl
-          (λ c ne. record {
-            on = λ _. put_else (p.stop s).standing me (Inside (a + 1) (a + 1)) c ne;
-            back = λ i. subst (λ x. is_inside x ≡ true) (put_else (p.stop s).standing me (Inside (a + 1) (a + 1)) c ne) i;
-            work = λ _. refl;
-            turn = λ _. rw no (other_turn c ne (found == 1));
-            ending = λ op e. (op, e);
-          })
-          save
-          (st.0, at_test s s (λ b. (cond b stop' (p.stop s)).standing me ≡ Inside (a + 1) (a + 1)) (λ _. put_here (p.stop s).standing me (Inside (a + 1) (a + 1))) (λ ne. absurd (ne refl)),
-            at_test s s (λ b. turn_of (cond b stop' (p.stop s)).raising me ≡ cond (found == 1) Fills Rests) (λ _. rw no (own_turn (found == 1))) (λ ne. absurd (ne refl)),
-            work_here stop' job st.3)
-          (home_stays stop' a (a + 1) st.1 st.0) off read
-          (subst IsNoPatch (sym is) tt) (λ op kind. h.works s op kind)
+      (slot_put u.cpus p.stop at s Ack (found - 1) stop' h.slots (acknowledges_slot u.cpus (p.stop s) w (h.slots s) me a st.1)) refl
+      (λ c ne. record {
+        on = λ _. put_else (p.stop s).standing me (Inside (a + 1) (a + 1)) c ne;
+        back = λ i. subst (λ x. is_inside x ≡ true) (put_else (p.stop s).standing me (Inside (a + 1) (a + 1)) c ne) i;
+        work = λ _. refl;
+        turn = λ _. rw no (other_turn c ne (found == 1));
+        ending = λ op e. (op, e);
+      })
+      save (
+        st.0,
+        at_test s s (λ b. (cond b stop' (p.stop s)).standing me ≡ Inside (a + 1) (a + 1)) (λ _. put_here (p.stop s).standing me (Inside (a + 1) (a + 1))) (λ ne. absurd (ne refl)),
+        at_test s s (λ b. turn_of (cond b stop' (p.stop s)).raising me ≡ cond (found == 1) Fills Rests) (λ _. rw no (own_turn (found == 1))) (λ ne. absurd (ne refl)),
+        work_here stop' job st.3,
+      )
+      (home_stays stop' a (a + 1) st.1 st.0) off read
+      (subst IsNoPatch (sym is) tt) (λ op kind. h.works s op kind)
     where
       other_turn : (c : ℕ) → c ≢ me → (b : Bool) → turn_of (cond b (Refills me) Nobody) c ≡ Rests
       other_turn c ne true = ap (λ b. cond b Fills Rests) (ne_eqb c me ne)
@@ -109,16 +110,18 @@ module _ (u : Setup) (p : Present) (at : Word → ℕ) (seat : ℕ → Seat) (h 
       let open_ = is_open_inside u.cpus (p.stop s) w (h.slots s) me (Inside a l) st.1 refl in
       let mine = fills_me (p.stop s).raising st.2 in
       moves u p at (put_word at (Slot s Ack) (weight u.cpus (p.stop s).standing)) seat s me (refilled (p.stop s) me) p.inside irq' readings' (In s job a l Sets) h
-          (slot_put u.cpus p.stop at s Ack (weight u.cpus (p.stop s).standing) (refilled (p.stop s) me) h.slots (refills_slot u.cpus (p.stop s) w (h.slots s) me mine open_ phase)) refl
-          (λ c ne. record {
-            on = λ _. refl; back = λ i. i; work = λ _. refl;
-            turn = λ _. rw mine (ap (λ b. cond b Sets Rests) (ne_eqb c me ne) ∙ sym (ap (λ b. cond b Fills Rests) (ne_eqb c me ne)));
-            ending = λ op e. (op, e);
-          })
-          save
-          (st.0, standing_here (refilled (p.stop s) me) (Inside a l) st.1, turn_here (refilled (p.stop s) me) Sets (ap (λ b. cond b Sets Rests) (eq-eqb me me refl)), work_here (refilled (p.stop s) me) job st.3)
-          (home_stays (refilled (p.stop s) me) a l st.1 st.0) off read
-          (subst IsNoPatch (sym is) tt) (λ op kind. h.works s op kind)
+      (slot_put u.cpus p.stop at s Ack (weight u.cpus (p.stop s).standing) (refilled (p.stop s) me) h.slots (refills_slot u.cpus (p.stop s) w (h.slots s) me mine open_ phase)) refl
+      (λ c ne. record {
+        on = λ _. refl;
+        back = λ i. i;
+        work = λ _. refl;
+        turn = λ _. rw mine (ap (λ b. cond b Sets Rests) (ne_eqb c me ne) ∙ sym (ap (λ b. cond b Fills Rests) (ne_eqb c me ne)));
+        ending = λ op e. (op, e);
+      })
+      save
+      (st.0, standing_here (refilled (p.stop s) me) (Inside a l) st.1, turn_here (refilled (p.stop s) me) Sets (ap (λ b. cond b Sets Rests) (eq-eqb me me refl)), work_here (refilled (p.stop s) me) job st.3)
+      (home_stays (refilled (p.stop s) me) a l st.1 st.0) off read
+      (subst IsNoPatch (sym is) tt) (λ op kind. h.works s op kind)
 
   -- store of the state
   pub step_raises : (job : Work) (a l : ℕ) → seat me ≡ In s job a l Sets → (p.stop s).phase ≢ 0 →
@@ -131,16 +134,18 @@ module _ (u : Setup) (p : Present) (at : Word → ℕ) (seat : ℕ → Seat) (h 
       let open_ = is_open_inside u.cpus (p.stop s) w (h.slots s) me (Inside a l) st.1 refl in
       let mine = sets_me (p.stop s).raising st.2 in
       moves u p at (put_word at (Slot s State) n) seat s me (raised (p.stop s) n) p.inside irq' readings' (In s job a l Rests) h
-          (slot_put u.cpus p.stop at s State n (raised (p.stop s) n) h.slots (raises_slot u.cpus (p.stop s) w (h.slots s) me mine open_ phase)) refl
-          (λ c ne. record {
-            on = λ _. refl; back = λ i. i; work = λ _. refl;
-            turn = λ _. rw mine (sym (ap (λ b. cond b Sets Rests) (ne_eqb c me ne)));
-            ending = λ op e. (op, e);
-          })
-          save
-          (st.0, standing_here (raised (p.stop s) n) (Inside a l) st.1, turn_here (raised (p.stop s) n) Rests refl, work_here (raised (p.stop s) n) job st.3)
-          (home_stays (raised (p.stop s) n) a l st.1 st.0) off read
-          (subst IsNoPatch (sym is) tt) (λ op kind. h.works s op kind)
+      (slot_put u.cpus p.stop at s State n (raised (p.stop s) n) h.slots (raises_slot u.cpus (p.stop s) w (h.slots s) me mine open_ phase)) refl
+      (λ c ne. record {
+        on = λ _. refl;
+        back = λ i. i;
+        work = λ _. refl;
+        turn = λ _. rw mine (sym (ap (λ b. cond b Sets Rests) (ne_eqb c me ne)));
+        ending = λ op e. (op, e);
+      })
+      save
+      (st.0, standing_here (raised (p.stop s) n) (Inside a l) st.1, turn_here (raised (p.stop s) n) Rests refl, work_here (raised (p.stop s) n) job st.3)
+      (home_stays (raised (p.stop s) n) a l st.1 st.0) off read
+      (subst IsNoPatch (sym is) tt) (λ op kind. h.works s op kind)
 
   -- load of the state
   pub step_looks : (job : Work) (a l : ℕ) → seat me ≡ In s job a l Rests → a ≢ 4 →
@@ -153,13 +158,15 @@ module _ (u : Setup) (p : Present) (at : Word → ℕ) (seat : ℕ → Seat) (h 
       let stop' = stands (p.stop s) me to in
       let st : Stands p me (In s job a l Rests) = subst (Stands p me) is (h.stands me) in
       moves u p at at seat s me stop' p.inside irq' readings' (In s job a (at (Slot s State)) Rests) h
-          (slot_same u.cpus p.stop at s stop' h.slots (looks_slot u.cpus (p.stop s) w (h.slots s) me a l st.1 more (rests_me (p.stop s).raising st.2))) refl
-          (λ c ne. record {
-            on = λ _. put_else (p.stop s).standing me to c ne;
-            back = λ i. subst (λ x. is_inside x ≡ true) (put_else (p.stop s).standing me to c ne) i;
-            work = λ _. refl; turn = λ _. refl; ending = λ op e. (op, e);
-          })
-          save
-          (st.0, standing_here stop' to (put_here (p.stop s).standing me to), turn_here stop' Rests st.2, work_here stop' job st.3)
-          (home_stays stop' a l st.1 st.0) off read
-          (subst IsNoPatch (sym is) tt) (λ op kind. h.works s op kind)
+      (slot_same u.cpus p.stop at s stop' h.slots (looks_slot u.cpus (p.stop s) w (h.slots s) me a l st.1 more (rests_me (p.stop s).raising st.2))) refl
+      (λ c ne. record {
+        on = λ _. put_else (p.stop s).standing me to c ne;
+        back = λ i. subst (λ x. is_inside x ≡ true) (put_else (p.stop s).standing me to c ne) i;
+        work = λ _. refl;
+        turn = λ _. refl;
+        ending = λ op e. (op, e);
+      })
+      save
+      (st.0, standing_here stop' to (put_here (p.stop s).standing me to), turn_here stop' Rests st.2, work_here stop' job st.3)
+      (home_stays stop' a l st.1 st.0) off read
+      (subst IsNoPatch (sym is) tt) (λ op kind. h.works s op kind)

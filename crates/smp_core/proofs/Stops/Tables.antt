@@ -1,11 +1,11 @@
 -- The words of a stop table as a function from names: a store in the table is a put at the name.
-use Rattle.std.proofs.Common.{◌≡◌, ◌≢◌, ℕ, ◌+◌, ◌*◌, ◌-◌, ◌<◌, ◌≤◌, Bool, true, false, ◌==◌, nat_lt, cond, Option, Some, None, List, length, sym, subst, refl, ap, ◌∙◌, arith, lt-ltb, le-ltb, ne_eqb, inl, inr}
-use Rattle.std.proofs.lemmas.Bool.{eqb-true, eq-eqb, cases_lt, cases_eq}
+use Rattle.std.proofs.Common.{◌≡◌, ◌≢◌, ℕ, ◌+◌, ◌*◌, ◌<◌, ◌≤◌, Bool, true, false, ◌==◌, cond, Option, Some, None, List, length, sym, subst, refl, ap, ◌∙◌, arith, lt-ltb, le-ltb, ne_eqb, inl, inr}
+use Rattle.std.proofs.lemmas.Bool.{eq-eqb, cases_lt, cases_eq}
 use Rattle.std.proofs.lemmas.List.{get_or-set_same, get_or-set_other, length-set}
 use Rattle.std.specs.Int.Bits.{bit_and}
 use Rattle.std.specs.Prelude.{slice_set, slice_index}
 use Rattle.smp_labels.specs.declared.words.TheConstants.{MOST_KEYS, MOST_SITES}
-use Rattle.smp_core.specs.Put.{put_word, same_word, same_field, place_of}
+use Rattle.smp_core.specs.Put.{put_word, same_word, place_of}
 use Rattle.smp_core.specs.Access.{word_of, one_less, at_after}
 use Rattle.smp_core.specs.Layout.{number_at, put_at}
 use Rattle.smp_core.specs.Size.{cpus}
@@ -18,7 +18,7 @@ use Rattle.smp_core.specs.declared.size.TheConstants.{NR_CPUS, FIELDS, SLOT_WORD
 use Rattle.smp_core.specs.declared.stop.field.Field.{Field}
 use Rattle.smp_core.specs.declared.stop.field.Field.TheVariants as field
 use Rattle.smp_core.specs.declared.word.Word.{Word}
-use Rattle.smp_core.specs.declared.word.Word.TheVariants.{Head, Gate, Slot, Key, Entry, Site}
+use Rattle.smp_core.specs.declared.word.Word.TheVariants.{Gate, Slot, Key, Entry, Site}
 
 -- the words that are in the table
 abbrev pub IsStopWord : Word → Type 0
@@ -66,9 +66,9 @@ slot_put_other xs s t f g n low long other = elim (cases_lt t NR_CPUS) [
       let p = place_below f in
       let q = place_below g in
       subst (λ c. number_at (put_at xs c n) (slot_cell t g) ≡ number_at xs (slot_cell t g)) (sym (cell_is s f low))
-          (subst (λ c. number_at (slice_set xs (FIELDS * s + place_of f) n) c ≡ number_at xs c) (sym (cell_is t g within))
-              (get_or-set_other xs (FIELDS * s + place_of f) (FIELDS * t + place_of g) n 0
-                  (λ e. let same : t ≡ s = omega arith in other same (one_place g f (omega arith)))))
+      (subst (λ c. number_at (slice_set xs (FIELDS * s + place_of f) n) c ≡ number_at xs c) (sym (cell_is t g within))
+      (get_or-set_other xs (FIELDS * s + place_of f) (FIELDS * t + place_of g) n 0
+      (λ e. let same : t ≡ s = omega arith in other same (one_place g f (omega arith)))))
   | inr past ↦ subst (λ c. number_at (put_at xs (slot_cell s f) n) c ≡ number_at xs c) (sym (cell_none t g past)) refl
 ]
 

@@ -1,7 +1,7 @@
 -- A step, over a stop table and a list of controls.
-use Rattle.std.proofs.Common.{◌≡◌, ◌≢◌, ℕ, zero, suc, ◌+◌, ◌-◌, ◌<◌, ◌≤◌, Bool, true, false, ◌==◌, ◌&&◌, nat_lt, cond, sym, subst, refl, ap, ◌∙◌, ◌⊎◌, inl, inr, arith, ⊎_elim, eq-eqb, ne_eqb, Option, Some, None, List, [], ◌∷◌, ◌++◌, length, length-append, length-take-le, take, ◌^◌, lt-ltb, le-ltb}
-use Rattle.std.proofs.lemmas.List.{get_or-set_same, get_or-set_other, get_or_past, length-set}
-use Rattle.std.proofs.lemmas.Bool.{cases_lt, cases_eq}
+use Rattle.std.proofs.Common.{◌≡◌, ◌≢◌, ℕ, ◌+◌, ◌<◌, ◌≤◌, Bool, true, false, ◌==◌, cond, sym, subst, ap, ◌∙◌, inl, inr, arith, Option, Some, None, List, [], ◌∷◌, length, length-append, length-take-le, take, ◌^◌}
+use Rattle.std.proofs.lemmas.List.{get_or-set_same, get_or-set_other, get_or_past}
+use Rattle.std.proofs.lemmas.Bool.{cases_lt}
 use Rattle.std.specs.Prelude.{slice_set}
 use Rattle.smp_core.proofs.Puts.{at_test}
 use Rattle.smp_core.proofs.Stops.CompletionSteps.{stop_step_shown}
@@ -11,7 +11,6 @@ use Rattle.smp_core.proofs.Stops.Tables.{IsStopWord, stop_words_by_name, table_a
 use Rattle.smp_core.specs.Access.{word_of}
 use Rattle.smp_core.specs.Put.{put}
 use Rattle.smp_core.specs.Size.{cpus}
-use Rattle.smp_core.specs.Stops.Counts.{one}
 use Rattle.smp_core.specs.Stops.Labels.{Change, LabelsShow, Patches, Patching, Whole, labels_in}
 use Rattle.smp_core.specs.Stops.Seats.{Rests}
 use Rattle.smp_core.specs.Stops.Shows.{StopShows}
@@ -80,7 +79,6 @@ changes_long key on i (x ∷ xs) =
 
 module _ (u : Setup) (few : u.cpus ≡ cpus) (p : StopState) (t : StopWords) (controls : List StopControlValue) (v : StopsShow u p t controls) (sized : length controls ≡ cpus) (is : IsStopTable t)
     (me : ℕ) (stage : StopStage) (e : (stop_control_of controls me).stage ≡ Some stage) where
-
   abbrev c : StopControlValue
   c = stop_control_of controls me
 
@@ -105,10 +103,10 @@ module _ (u : Setup) (few : u.cpus ≡ cpus) (p : StopState) (t : StopWords) (co
         shows = subst (λ (x : Word → ℕ). StopShows u (state_after u p at c me stage) x (put v.seat me one.seat_after) (put v.source me one.source_after)) (sym names) one.shows;
         sits = λ cpu low. subst (λ (x : Word → ℕ). Sits u cpu (x Gate) (stop_control_of (slice_set controls me (control_then u at c me stage)) cpu) (put v.seat me one.seat_after cpu) (put v.source me one.source_after cpu)) (sym names)
             (subst (λ k. Sits u cpu (at_then u at c me stage Gate) k (put v.seat me one.seat_after cpu) (put v.source me one.source_after cpu))
-                (sym (stop_controls_by_cpu controls me cpu (control_then u at c me stage) (stop_inside_below controls me stage e)))
-                (at_test cpu me (λ b. Sits u cpu (at_then u at c me stage Gate) (cond b (control_then u at c me stage) (stop_control_of controls cpu)) (cond b one.seat_after (v.seat cpu)) (cond b one.source_after (v.source cpu)))
-                    (λ same. subst (λ k. Sits u k (at_then u at c me stage Gate) (control_then u at c me stage) one.seat_after one.source_after) (sym same) one.sits)
-                    (λ ne. others cpu ne (v.sits cpu low))));
+            (sym (stop_controls_by_cpu controls me cpu (control_then u at c me stage) (stop_inside_below controls me stage e)))
+            (at_test cpu me (λ b. Sits u cpu (at_then u at c me stage Gate) (cond b (control_then u at c me stage) (stop_control_of controls cpu)) (cond b one.seat_after (v.seat cpu)) (cond b one.source_after (v.source cpu)))
+            (λ same. subst (λ k. Sits u k (at_then u at c me stage Gate) (control_then u at c me stage) one.seat_after one.source_after) (sym same) one.sits)
+            (λ ne. others cpu ne (v.sits cpu low))));
         shut = λ cpu high. at_test cpu me (λ b. cond b one.source_after (v.source cpu) ≡ Shut) (λ same. absurd (let b = below in omega arith)) (λ _. v.shut cpu high);
       }
     where

@@ -1,5 +1,5 @@
 -- Opening, entering, looking, answering, completing and collecting keep what the words of a slot show.
-use Rattle.std.proofs.Common.{◌≡◌, ◌≢◌, ℕ, ◌+◌, ◌-◌, ◌<◌, ◌≤◌, Bool, true, false, not, ◌==◌, ◌&&◌, cond, sym, subst, refl, ap, ◌∙◌, ◌⊎◌, inl, inr, arith, ⊎_elim, ne_eqb, eq-eqb}
+use Rattle.std.proofs.Common.{◌≡◌, ◌≢◌, ℕ, ◌+◌, ◌≤◌, true, false, ◌&&◌, sym, subst, refl, ap, ◌∙◌, ◌⊎◌, inl, inr, arith, ⊎_elim}
 use Rattle.smp_core.proofs.Puts.{put_all}
 use Rattle.smp_core.proofs.Stops.Counts.{put_else, put_here, sum_same}
 use Rattle.smp_core.proofs.Stops.Phases.{is_open_inside, keeps_inside}
@@ -77,10 +77,12 @@ module _ (cpus : ℕ) (stop : Stop) (word : Field → ℕ) (g : SlotShows cpus s
         keeps = put_all (λ c s. Keeps cpus stop.phase c s) stop.standing me to (k.0, k.1, inl refl, omega arith, omega arith) (λ c ne. g.keeps c);
         shows = λ _. record {
           written = record { kind = o.written.kind; mask = o.written.mask; active = o.written.active; func = o.written.func; arg = o.written.arg };
-          state = o.state; bound = o.bound;
+          state = o.state;
+          bound = o.bound;
           ack = λ ne. ack_kept cpus stop.standing me stop.phase to (sym (ap (behind stop.phase) is)) (sym (ap is_of is)) stop.raising (word Ack)
               (not_raising cpus stop.phase stop.standing me (word Ack) stop.raising (λ (e : stop.standing me ≡ Inside stop.phase stop.phase). let z : Called ≡ Inside stop.phase stop.phase = sym is ∙ e in cc) (o.ack ne)) (o.ack ne);
-          calm = o.calm; kinds = o.kinds;
+          calm = o.calm;
+          kinds = o.kinds;
           todo = o.todo ∙ sym (unfinished_kept cpus stop.standing me to (sym (ap unfinished is)));
           done = done_kept cpus stop.standing me to (sym (ap unfinished is)) stop.ending (word Done) o.done;
           result = result_kept stop.standing me to (word Result) (λ w a. absurd a) (λ w a. absurd (subst (λ s. HasGiven s w) is a)) o.result;
@@ -96,15 +98,18 @@ module _ (cpus : ℕ) (stop : Stop) (word : Field → ℕ) (g : SlotShows cpus s
       let k = keeps_inside cpus stop word g me (Inside a l) is in
       let e = o.state in
       let near : (word State ≡ a) ⊎ ((word State ≡ a + 1) × (stop.phase ≡ word State)) =
-          ⊎_elim (λ (t : a ≡ stop.phase). inl (e ∙ sym t)) (λ (t : a + 1 ≡ stop.phase). inr (e ∙ sym t, sym e)) k.1 in
+      ⊎_elim (λ (t : a ≡ stop.phase). inl (e ∙ sym t)) (λ (t : a + 1 ≡ stop.phase). inr (e ∙ sym t, sym e)) k.1 in
       record {
         members = put_all (λ c s. is_of s ≡ (stop.is_open && has stop.work.mask c)) stop.standing me to (sym (ap is_of is) ∙ g.members me) (λ c ne. g.members c);
         roll = put_all (λ c s. has (word Roll) c ≡ is_called s) stop.standing me to (g.roll me ∙ ap is_called is) (λ c ne. g.roll c);
         keeps = put_all (λ c s. Keeps cpus stop.phase c s) stop.standing me to (k.0, k.1, near, small a (word State) near more k.4, k.4) (λ c ne. g.keeps c);
         shows = λ _. record {
-          written = o.written; state = o.state; bound = o.bound;
+          written = o.written;
+          state = o.state;
+          bound = o.bound;
           ack = λ ne. ack_kept cpus stop.standing me stop.phase to (sym (ap (behind stop.phase) is)) (sym (ap is_of is)) stop.raising (word Ack) calm_ (o.ack ne);
-          calm = o.calm; kinds = o.kinds;
+          calm = o.calm;
+          kinds = o.kinds;
           todo = o.todo ∙ sym (unfinished_kept cpus stop.standing me to (sym (ap unfinished is)));
           done = done_kept cpus stop.standing me to (sym (ap unfinished is)) stop.ending (word Done) o.done;
           result = result_kept stop.standing me to (word Result) (λ w a. absurd a) (λ w a. absurd (subst (λ s. HasGiven s w) is a)) o.result;
@@ -127,9 +132,11 @@ module _ (cpus : ℕ) (stop : Stop) (word : Field → ℕ) (g : SlotShows cpus s
         keeps = put_all (λ c s. Keeps cpus stop.phase c s) stop.standing me to (k.0, k.1, through.0, k.4) (λ c ne. g.keeps c);
         shows = λ _. record {
           written = record { kind = o.written.kind; mask = o.written.mask; active = o.written.active; func = o.written.func; arg = o.written.arg };
-          state = o.state; bound = o.bound;
+          state = o.state;
+          bound = o.bound;
           ack = λ ne. ack_kept cpus stop.standing me stop.phase to (sym (ap (behind stop.phase) is)) (sym (ap is_of is)) stop.raising (word Ack) through.1 (o.ack ne);
-          calm = o.calm; kinds = o.kinds;
+          calm = o.calm;
+          kinds = o.kinds;
           todo = o.todo ∙ sym (unfinished_kept cpus stop.standing me to (sym (ap unfinished is)));
           done = done_kept cpus stop.standing me to (sym (ap unfinished is)) stop.ending (word Done) o.done;
           result = inr (some, (me, subst (λ s. HasGiven s v) (sym (put_here stop.standing me to)) refl));

@@ -1,5 +1,5 @@
 -- The label words, and a patch in progress.
-use Rattle.std.specs.Prelude.{◌≡◌, ℕ, Bool, List, [], ◌∷◌}
+use Rattle.std.specs.Prelude.{◌≡◌, ℕ, Bool, List}
 use Rattle.smp_labels.specs.Keys.{is_on}
 use Rattle.smp_labels.specs.Law.{Table, IsLawful}
 use Rattle.smp_labels.specs.Plans.{applied, SetsKey}

@@ -1,5 +1,5 @@
 -- What a stop promises: the phase law, the function law, and the results of stops.
-use Rattle.std.specs.Prelude.{◌≡◌, ◌≢◌, ◌⊎◌, ℕ, ◌+◌, true}
+use Rattle.std.specs.Prelude.{◌≡◌, ◌≢◌, ◌⊎◌, ℕ, true}
 use Rattle.smp_mask.specs.Mask.{has}
 use Rattle.smp_core.specs.Stops.Stop.{Standing, Inside, Answering, Raising, Nobody, Refills, Raises, Stop, acked, is_of}
 use Rattle.smp_core.specs.Stops.Counts.{count_behind, weight}

@@ -1,6 +1,5 @@
 -- One step of the stop half of a machine, and what every such half keeps.
-use Rattle.std.specs.Prelude.{◌≡◌, ℕ, ◌<◌, true, Option, Some, None, List, length, slice_set, replicate}
-use Rattle.smp_mask.specs.Mask.{has}
+use Rattle.std.specs.Prelude.{◌≡◌, ℕ, List, length, slice_set}
 use Rattle.smp_labels.specs.Labels.{Labels}
 use Rattle.smp_core.specs.Size.{cpus}
 use Rattle.smp_core.specs.Access.{word_of, seen_of}

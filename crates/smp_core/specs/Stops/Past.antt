@@ -1,7 +1,7 @@
 -- What was begun, answered and collected: the results of stops.
 use Rattle.std.specs.Prelude.{◌≡◌, ℕ, cond, List, [], ◌∷◌, ◌++◌}
 use Rattle.smp_mask.specs.Mask.{has}
-use Rattle.smp_core.specs.Stops.Stop.{Standing, Outside, Called, Inside, Answering, Completed, Stop}
+use Rattle.smp_core.specs.Stops.Stop.{Standing, Completed, Stop}
 use Rattle.smp_core.specs.Stops.Laws.{IsResult}
 use Rattle.smp_core.specs.declared.stop.work.Work.{Work}
 

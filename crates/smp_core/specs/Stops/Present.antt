@@ -1,5 +1,5 @@
 -- What holds between what is now, the words, and where each CPU is.
-use Rattle.std.specs.Prelude.{◌≡◌, ℕ, ◌≤◌, Bool, true, Some, List}
+use Rattle.std.specs.Prelude.{◌≡◌, ℕ, ◌≤◌, true, Some}
 use Rattle.std.specs.List.{AllByRecursion}
 use Rattle.smp_labels.specs.Keys.{is_on}
 use Rattle.smp_labels.specs.Plans.{AreEntriesOf}
@@ -11,7 +11,7 @@ use Rattle.smp_core.specs.Stops.Seats.{Seat, Alters, Stands, irq_of}
 use Rattle.smp_core.specs.Stops.Sources.{IsPatchWork}
 use Rattle.smp_core.specs.declared.stop.work.Kind.TheVariants.{Patch}
 use Rattle.smp_core.specs.declared.word.Word.{Word}
-use Rattle.smp_core.specs.declared.word.Word.TheVariants.{Slot, Key}
+use Rattle.smp_core.specs.declared.word.Word.TheVariants.{Slot}
 
 -- who patches is the first online CPU, inside the function of a patch
 abbrev pub RunnerShows : ℕ → Patching → (ℕ → Seat) → Type 0

@@ -1,5 +1,5 @@
 -- The laws of the stop half, of any number of CPUs and of any words that show stops.
-use Rattle.std.specs.Prelude.{◌≡◌, ◌≢◌, ℕ, true, false, Some, List}
+use Rattle.std.specs.Prelude.{◌≡◌, ◌≢◌, ℕ, true, false, Some}
 use Rattle.std.specs.List.{AllByRecursion}
 use Rattle.smp_mask.specs.Mask.{has}
 use Rattle.smp_labels.specs.Law.{IsLawful}

@@ -1,5 +1,5 @@
 -- Where a CPU is with the stops.
-use Rattle.std.specs.Prelude.{◌≡◌, ℕ, Bool, true, false, ◌==◌, ◌||◌, nat_lt, cond, Option, Some, None, List}
+use Rattle.std.specs.Prelude.{◌≡◌, ℕ, Bool, true, false, ◌==◌, ◌||◌, nat_lt, cond, Some, None, List}
 use Rattle.smp_core.specs.Stops.Stop.{Inside, Answering, Raising, Nobody, Refills, Raises, Last}
 use Rattle.smp_core.specs.Stops.Labels.{Change, Patches}
 use Rattle.smp_core.specs.Stops.State.{Present}

@@ -11,15 +11,14 @@ use Rattle.smp_core.specs.Stops.State.{Setup}
 use Rattle.smp_core.specs.Stops.Seats.{Seat, Free, In, Gives, Alters, Closes, Turn, Rests, Fills, Sets, irq_of}
 use Rattle.smp_core.specs.Stops.Sources.{Source, Shut, Drafts, Owns, Collects}
 use Rattle.smp_core.specs.Stops.Stages.{StopControlValue}
-use Rattle.smp_core.specs.declared.stop.field.Field.TheVariants as field
 use Rattle.smp_core.specs.declared.stop.stage.CompletionStage.{CompletionStage}
 use Rattle.smp_core.specs.declared.stop.stage.CompletionStage.TheVariants as completion
 use Rattle.smp_core.specs.declared.stop.stage.RoundStage.{RoundStage}
 use Rattle.smp_core.specs.declared.stop.stage.RoundStage.TheVariants as round
 use Rattle.smp_core.specs.declared.stop.stage.StopStage.{StopStage}
-use Rattle.smp_core.specs.declared.stop.stage.StopStage.TheVariants.{TakeGate, OpenGate, Begin, Enter, EnterKind, EnterMask, EnterActive, Advance, Complete, Close, LoadDone, LoadResult, ReadKey, ReadSite}
+use Rattle.smp_core.specs.declared.stop.stage.StopStage.TheVariants.{OpenGate, Begin, Enter, EnterKind, EnterMask, EnterActive, Advance, Complete, Close, LoadDone, LoadResult, ReadKey, ReadSite}
 use Rattle.smp_core.specs.declared.stop.stage.Visit.{Visit}
-use Rattle.smp_core.specs.declared.stop.work.Kind.TheVariants.{One, Multi, Patch}
+use Rattle.smp_core.specs.declared.stop.work.Kind.TheVariants.{One, Patch}
 use Rattle.smp_core.specs.declared.stop.work.Work.{Work}
 
 -- what a visit has loaded of its work
@@ -64,7 +63,7 @@ SitsInRound u me changes v (round.StoreChange made) x =
 SitsInRound u me changes v (round.Acknowledge answer ran) x =
     (work : Work) × IsLoaded v work × (v.acked ≤ 3) ×
     (((x ≡ In v.slot work v.acked (v.acked + 1) Rests) × (v.acked ≡ 2 → v.kind ≡ Patch → has v.active me ≡ false)) ⊎
-        ((v.acked ≡ 2) × ((made : List Change) × (x ≡ Alters v.slot work made []))))
+    ((v.acked ≡ 2) × ((made : List Change) × (x ≡ Alters v.slot work made []))))
 SitsInRound u me changes v (round.Refill ran) x = SitsIn v v.acked Fills x
 SitsInRound u me changes v (round.Raise ran) x = SitsIn v v.acked Sets x
 

@@ -1,5 +1,5 @@
 -- What the words of one slot show of its stop.
-use Rattle.std.specs.Prelude.{◌≡◌, ◌≢◌, ◌⊎◌, ℕ, ◌+◌, ◌<◌, ◌≤◌, Bool, true, false, ◌==◌, ◌&&◌, cond}
+use Rattle.std.specs.Prelude.{◌≡◌, ◌≢◌, ◌⊎◌, ℕ, ◌+◌, ◌<◌, ◌≤◌, true, ◌==◌, ◌&&◌, cond}
 use Rattle.smp_mask.specs.Mask.{has}
 use Rattle.smp_core.specs.Put.{same_field}
 use Rattle.smp_core.specs.Stops.Stop.{Standing, Outside, Called, Inside, Answering, Completed, Raising, Nobody, Refills, Raises, Ending, Running, Last, Ended, Stop, is_of, is_called, first_phase}

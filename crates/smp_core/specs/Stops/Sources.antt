@@ -1,5 +1,5 @@
 -- Where a source is with its own stop.
-use Rattle.std.specs.Prelude.{◌≡◌, ◌≢◌, ℕ, ◌<◌, ◌^◌, true, false, ◌==◌, Option, Some, None}
+use Rattle.std.specs.Prelude.{◌≡◌, ◌≢◌, ℕ, ◌<◌, ◌^◌, true, false, ◌==◌, Option, Some}
 use Rattle.smp_mask.specs.Mask.{has}
 use Rattle.smp_labels.specs.Keys.{IsKeyWord}
 use Rattle.smp_core.specs.Stops.Stop.{Stop, Ended}

@@ -1,5 +1,5 @@
 -- What is to be proved of each step of a command of the stop half.
-use Rattle.std.specs.Prelude.{◌≡◌, ℕ, Some}
+use Rattle.std.specs.Prelude.{ℕ}
 use Rattle.smp_core.specs.Put.{put}
 use Rattle.smp_core.specs.Access.{word_of, at_after, seen_of}
 use Rattle.smp_core.specs.Stops.State.{Setup, StopState}

@@ -2,7 +2,7 @@
 use Rattle.std.specs.Int.Bits.{bit_and}
 use Rattle.std.specs.Prelude.{ℕ, ◌+◌, ◌*◌, ◌==◌, nat_lt, if◌then◌else◌, Option, Some, None, List, slice_index, slice_set}
 use Rattle.smp_core.specs.Put.{place_of}
-use Rattle.smp_core.specs.Layout.{number_at, put_at, number_if}
+use Rattle.smp_core.specs.Layout.{number_at, put_at}
 use Rattle.smp_core.specs.Access.{one_less}
 use Rattle.smp_core.specs.declared.access.Access.{Access}
 use Rattle.smp_core.specs.declared.access.Access.TheVariants.{Load, Store, Swap, Exchange, Sub, And}

@@ -1,13 +1,13 @@
 -- The state after a step, from what the step shows alone; the answer is that of the function which the CPU has called
 -- last, and no step shows it.
-use Rattle.std.specs.Prelude.{ℕ, ◌+◌, Bool, true, false, ◌==◌, ◌&&◌, not, cond, Option, Some, None, List, [], ◌∷◌, ◌++◌}
+use Rattle.std.specs.Prelude.{ℕ, Bool, true, false, ◌==◌, ◌&&◌, not, cond, Option, Some, None, List, [], ◌∷◌, ◌++◌}
 use Rattle.smp_mask.specs.Mask.{has}
 use Rattle.smp_labels.specs.Keys.{is_on}
 use Rattle.smp_labels.specs.Plans.{patch_of}
 use Rattle.smp_core.specs.Put.{put}
-use Rattle.smp_core.specs.Stops.Stop.{Standing, Outside, Called, Inside, Answering, Completed, Stop, stands, acknowledged, refilled, raised, completed, ended, opened, closed}
+use Rattle.smp_core.specs.Stops.Stop.{Standing, Inside, Answering, Stop, stands, acknowledged, refilled, raised, completed, ended, opened, closed}
 use Rattle.smp_core.specs.Stops.Slots.{kind_at}
-use Rattle.smp_core.specs.Stops.Labels.{Patching, Whole, Patches, Change, Reading, ReadKey, ReadSite}
+use Rattle.smp_core.specs.Stops.Labels.{Patching, Whole, Patches, Reading, ReadKey, ReadSite}
 use Rattle.smp_core.specs.Stops.State.{Setup, Present, StopState, StopCall}
 use Rattle.smp_core.specs.declared.seen.Act.{Act}
 use Rattle.smp_core.specs.declared.seen.Act.TheVariants as act

@@ -50,9 +50,7 @@ fn round_access(visit: Visit, stage: RoundStage, control: &StopControl) -> Acces
     match stage {
         RoundStage::Look { answer: _ } => Access::Load(Word::Slot(slot, Field::State)),
         RoundStage::LoadFunc { answer: _ } => Access::Load(Word::Slot(slot, Field::Func)),
-        RoundStage::LoadArg { answer: _, func: _ } => {
-            Access::Load(Word::Slot(slot, Field::Arg))
-        }
+        RoundStage::LoadArg { answer: _, func: _ } => { Access::Load(Word::Slot(slot, Field::Arg)) }
         RoundStage::LoadKey { key, word: _ } => Access::Load(Word::Key(u32::from(key))),
         RoundStage::LoadEntry {
             key: _,
@@ -81,7 +79,10 @@ fn completion_access(visit: Visit, stage: CompletionStage) -> Access
         CompletionStage::LoadArg { answer: _, func: _ } => {
             Access::Load(Word::Slot(slot, Field::Arg))
         }
-        CompletionStage::StoreAnswer => Access::Store(Word::Slot(slot, Field::Result), visit.answer),
+        CompletionStage::StoreAnswer => Access::Store(
+            Word::Slot(slot, Field::Result),
+            visit.answer,
+        ),
         CompletionStage::CountDown => Access::Sub(Word::Slot(slot, Field::Todo)),
     }
 }

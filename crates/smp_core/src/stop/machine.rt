@@ -53,7 +53,6 @@ fn advance(controls: &mut [StopControl], cpu: u32, found: u64) -> Option<Note>
 ghost use Rattle.std.specs.Prelude.{◌<◌, length, slice_set, IfSome};
 ghost use Rattle.smp_core.specs.Stops.Stages.{FitsStop, stop_outcome};
 ghost use Rattle.smp_core.specs.Stops.Value.{stop_control_of};
-
 ghost use Rattle.std.specs.Prelude.{IfOk, replicate};
 ghost use Rattle.smp_core.specs.Size.{cpus};
 ghost use Rattle.smp_core.specs.Stops.Stages.{stop_outside};
@@ -76,7 +75,6 @@ impl<A: Allocator> Stops<A> {
     ghost use Rattle.smp_core.specs.Stops.State.{StopState};
     ghost use Rattle.smp_core.specs.Stops.Table.{stop_number};
     ghost use Rattle.smp_core.specs.Stops.Value.{StopShown};
-
     ghost use Rattle.std.specs.Prelude.{ℕ, true};
     ghost use Rattle.smp_mask.specs.Mask.{has};
     ghost use Rattle.smp_core.specs.Stops.State.{no_stops};

@@ -1,5 +1,4 @@
-use Rattle.std.proofs.Common.{◌≡◌, ◌∙◌, ◌<◌, ◌==◌, Bool, true, false, cond, refl, ap, sym, subst, arith}
-use Rattle.smp_queue.proofs.Entering.{enter_ready, entered, entered_known, accept_ready, accepted_then}
+use Rattle.smp_queue.proofs.Entering.{enter_ready, accept_ready}
 use Rattle.smp_queue.proofs.handle.enter.Goals as goal
 
 pub store-requires : goal.store-requires

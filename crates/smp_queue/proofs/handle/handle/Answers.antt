@@ -1,5 +1,4 @@
-use Rattle.std.proofs.Common.{◌≡◌, ◌∙◌, true, refl, ap, sym, subst}
-use Rattle.smp_queue.specs.Desk.{InHandle}
+use Rattle.std.proofs.Common.{◌∙◌}
 use Rattle.smp_queue.proofs.Entering.{has_handled}
 use Rattle.smp_queue.proofs.handle.handle.Goals as goal
 

@@ -1,5 +1,4 @@
-use Rattle.std.proofs.Common.{◌≡◌, ◌∙◌, ◌<◌, refl, ap, sym, subst, arith}
-use Rattle.smp_queue.proofs.Entering.{leave_ready, leave_known}
+use Rattle.smp_queue.proofs.Entering.{leave_ready}
 use Rattle.smp_queue.proofs.handle.leave.Goals as goal
 
 pub store-requires : goal.store-requires

@@ -1,4 +1,4 @@
-use Rattle.std.proofs.Common.{◌≡◌, ◌∙◌, ◌<◌, ℕ, refl, ap, sym, subst, arith}
+use Rattle.std.proofs.Common.{ℕ, ap}
 use Rattle.smp_core.specs.declared.access.Access.TheVariants.{Swap}
 use Rattle.smp_core.specs.declared.word.Word.TheVariants.{Head}
 use Rattle.smp_core.specs.declared.handle.HandleStage.TheVariants as handle

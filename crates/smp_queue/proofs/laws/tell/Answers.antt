@@ -1,4 +1,4 @@
-use Rattle.std.proofs.Common.{arith, refl, ap, sym, ◌∙◌, ◌≡◌, ◌<◌}
+use Rattle.std.proofs.Common.{arith, ap, ◌∙◌}
 use Rattle.smp_core.specs.declared.access.Access.TheVariants.{Store}
 use Rattle.smp_queue.proofs.Cells.{cell_below}
 use Rattle.smp_queue.proofs.Below.{store_below}

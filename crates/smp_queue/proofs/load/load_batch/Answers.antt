@@ -1,9 +1,9 @@
-use Rattle.std.proofs.Common.{◌≡◌, ◌∙◌, length, ◌+◌, ◌-◌, ◌<◌, refl, ap, sym, subst, arith}
+use Rattle.std.proofs.Common.{◌∙◌, length, ◌+◌, refl, ap, sym, subst, arith}
 use Rattle.smp_core.specs.declared.known.Known.{Known}
 use Rattle.smp_core.specs.Drains.{DrainValue}
 use Rattle.smp_core.proofs.Handling.{length-with_loaded}
 use Rattle.smp_queue.specs.Desk.{InHandle}
-use Rattle.smp_queue.proofs.Loads.{Loading, loading_at, loading_record, loading_room, loading_more, loading_next, loading_over, loading_loaded, loading_counts}
+use Rattle.smp_queue.proofs.Loads.{loading_at, loading_record, loading_room, loading_more, loading_next, loading_over, loading_loaded, loading_counts}
 use Rattle.smp_queue.proofs.load.load_batch.Goals as goal
 
 pub loop-link-init : goal.loop-link-init

@@ -1,4 +1,4 @@
-use Rattle.std.proofs.Common.{ℕ, ◌+◌, ◌-◌, length}
+use Rattle.std.proofs.Common.{◌+◌, ◌-◌, length}
 use Rattle.smp_queue.proofs.Loads.{Loading}
 use Rattle.smp_queue.proofs.load.load_batch.Given as goal
 

@@ -1,12 +1,10 @@
-use Rattle.std.proofs.Common.{◌≡◌, ◌∙◌, ◌^◌, ◌<◌, Bool, true, false, refl, ap, sym, subst, arith}
-use Rattle.smp_core.specs.Known.{Lives, known_told, Moment}
-use Rattle.smp_core.specs.Flags.{class_of}
+use Rattle.std.proofs.Common.{◌∙◌, ◌^◌, ◌<◌, refl, ap, sym}
 use Rattle.smp_core.specs.Handling.{loaded_known}
 use Rattle.smp_core.specs.declared.call.Class.{Class}
 use Rattle.smp_core.specs.declared.access.Access.TheVariants as access
 use Rattle.smp_core.specs.declared.word.Word.TheVariants as word
 use Rattle.smp_queue.proofs.Handles.{in_handle_ready}
-use Rattle.smp_queue.proofs.Loads.{LoadsAt, HasLoad, loads_first, loads_func, loads_fits, loads_info, loads_next, loads_room, loads_all, loads_over}
+use Rattle.smp_queue.proofs.Loads.{HasLoad, loads_first, loads_func, loads_fits, loads_info, loads_next, loads_room, loads_all}
 use Rattle.smp_queue.proofs.load.load_call.Goals as goal
 
 pub load-flags-requires : goal.load-flags-requires

@@ -1,5 +1,5 @@
-use Rattle.std.proofs.Common.{◌≡◌, ◌==◌, ℕ, sym, refl, ap, ◌∙◌}
-use Rattle.smp_queue.proofs.Appends.{Tries, tries_mine, tries_stage, tries_tallied, tries_won, tries_left}
+use Rattle.std.proofs.Common.{◌==◌, ◌∙◌}
+use Rattle.smp_queue.proofs.Appends.{tries_mine, tries_stage, tries_won}
 use Rattle.smp_queue.proofs.post.append_at_last.Goals as goal
 
 pub loop-init : goal.loop-init

@@ -1,4 +1,4 @@
-use Rattle.std.proofs.Common.{◌≡◌, ◌+◌, ◌%◌, ◌^◌, sym, refl, ap, ◌∙◌, Some, None}
+use Rattle.std.proofs.Common.{◌+◌, ◌%◌, ◌^◌, sym, refl, ap}
 use Rattle.smp_core.proofs.Posted.{stands_as, count_known, head_known, count_access}
 use Rattle.smp_queue.specs.Desk.{uncounted, counted}
 use Rattle.smp_queue.proofs.Ready.{ready_post, mine_moved}

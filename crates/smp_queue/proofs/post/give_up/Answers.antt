@@ -1,4 +1,4 @@
-use Rattle.std.proofs.Common.{◌≡◌, sym, refl, ap, ◌∙◌, Some, None}
+use Rattle.std.proofs.Common.{sym, refl, ap}
 use Rattle.smp_core.proofs.Posted.{stands_as, uncount_known, released_known, uncount_access}
 use Rattle.smp_queue.specs.Desk.{counted}
 use Rattle.smp_queue.proofs.Ready.{ready_post, mine_moved}

@@ -1,4 +1,4 @@
-use Rattle.std.proofs.Common.{◌≡◌, ◌%◌, ◌==◌, Bool, true, false, sym, refl, ap, ◌∙◌, true≢false}
+use Rattle.std.proofs.Common.{sym, ◌∙◌, true≢false}
 use Rattle.smp_core.proofs.Restages.{confirmed_unlocked}
 use Rattle.smp_core.proofs.Posted.{loaded_known}
 use Rattle.smp_queue.proofs.Ready.{ready_done}

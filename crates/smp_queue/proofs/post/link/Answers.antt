@@ -1,4 +1,4 @@
-use Rattle.std.proofs.Common.{◌≡◌, ◌==◌, ◌+◌, sym, refl, ap, ◌∙◌, eq-eqb, ne_eqb, Some, None, true}
+use Rattle.std.proofs.Common.{◌==◌, ◌+◌, sym, refl, ap, ◌∙◌, eq-eqb, ne_eqb, Some, true}
 use Rattle.smp_core.specs.Stands.{holding}
 use Rattle.smp_core.specs.Known.{appended_known}
 use Rattle.smp_core.proofs.Posted.{stands_as, next_known, won_known, lost_known}

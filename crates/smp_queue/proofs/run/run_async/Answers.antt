@@ -1,8 +1,7 @@
-use Rattle.std.proofs.Common.{◌≡◌, ◌∙◌, ◌+◌, ◌%◌, ◌^◌, ◌<◌, ℕ, length, get_or, set, refl, ap, sym, subst, arith}
+use Rattle.std.proofs.Common.{◌≡◌, ◌∙◌, ◌+◌, ◌%◌, ◌^◌, ◌<◌, ℕ, get_or, set, ap, sym, subst, arith}
 use Rattle.smp_core.specs.Size.{cpus, owner}
 use Rattle.smp_core.specs.Drains.{DrainValue, run_next}
 use Rattle.smp_core.specs.Histories.{counted_call}
-use Rattle.smp_core.specs.Known.{ran_tally}
 use Rattle.smp_core.specs.Handling.{ended_call}
 use Rattle.smp_core.proofs.Sizes.{owner-below}
 use Rattle.smp_core.proofs.Handling.{lives_stands, lives_front}

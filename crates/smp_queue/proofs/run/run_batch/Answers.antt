@@ -1,9 +1,6 @@
-use Rattle.std.proofs.Common.{rules, ◌≡◌, ◌∙◌, ◌<◌, length, [], refl, ap, sym, subst, append-nil, arith}
-use Rattle.smp_core.specs.declared.handle.HandleStage.TheVariants as handle
+use Rattle.std.proofs.Common.{◌∙◌, [], refl, ap, sym, append-nil}
 use Rattle.smp_queue.specs.Cpu.{CpuValue, cpu_of}
-use Rattle.smp_queue.specs.Desk.{InHandle}
-use Rattle.smp_queue.specs.Handling.{HasRunAll, AreRan, Grows}
-use Rattle.smp_queue.proofs.Running.{RunsOn, runs_on}
+use Rattle.smp_queue.proofs.Running.{runs_on}
 use Rattle.smp_queue.proofs.run.run_batch.Goals as goal
 
 pub loop-drain-init : goal.loop-drain-init

@@ -1,4 +1,4 @@
-use Rattle.std.proofs.Common.{ℕ, length}
+use Rattle.std.proofs.Common.{length}
 use Rattle.smp_queue.proofs.Running.{RunsOn}
 use Rattle.smp_queue.proofs.run.run_batch.Given as goal
 

@@ -1,4 +1,4 @@
-use Rattle.std.proofs.Common.{◌≡◌, ◌+◌, ◌*◌, ◌%◌, ◌^◌, ◌<◌, ◌∙◌, sym, ap, arith}
+use Rattle.std.proofs.Common.{◌+◌, ◌*◌, ◌%◌, ◌^◌, ◌∙◌, sym, ap, arith}
 use Rattle.smp_core.proofs.Stops.Weights.{low_in, low_out}
 use Rattle.smp_core.proofs.stop.mask.mask_word.Goals as goal
 use Rattle.smp_core.proofs.stop.mask.mask_word.Goals.{then-contains, else-contains}

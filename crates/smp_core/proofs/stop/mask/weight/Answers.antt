@@ -1,4 +1,4 @@
-use Rattle.std.proofs.Common.{◌≡◌, ◌+◌, ◌<◌, ◌∙◌, sym, ap, arith}
+use Rattle.std.proofs.Common.{◌≡◌, ◌+◌, ◌∙◌, sym, ap, arith}
 use Rattle.smp_core.specs.Size.{cpus}
 use Rattle.smp_core.specs.Stops.Counts.{mask_weight}
 use Rattle.smp_core.proofs.Stops.Weights.{weight_in, weight_out, weight_none, weight_most}

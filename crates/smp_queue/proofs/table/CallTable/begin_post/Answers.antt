@@ -1,4 +1,4 @@
-use Rattle.std.proofs.Common.{◌≡◌, ◌<◌, sym, refl, ap, ◌∙◌, arith}
+use Rattle.std.proofs.Common.{sym, ap, ◌∙◌}
 use Rattle.smp_queue.proofs.Own.{at_own, allowed_record}
 use Rattle.smp_queue.proofs.table.CallTable.begin_post.Goals as goal
 

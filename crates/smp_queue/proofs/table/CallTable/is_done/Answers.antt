@@ -1,5 +1,4 @@
-use Rattle.std.proofs.Common.{◌≡◌, ◌<◌, sym, refl, ap, ◌∙◌, arith}
-use Rattle.smp_core.proofs.Sizes.{owner-of_record, record_of-below}
+use Rattle.std.proofs.Common.{sym, ap, ◌∙◌}
 use Rattle.smp_queue.proofs.Own.{at_own}
 use Rattle.smp_queue.proofs.Showing.{is_shown}
 use Rattle.smp_queue.proofs.table.CallTable.is_done.Goals as goal

@@ -1,4 +1,4 @@
-use Rattle.std.proofs.Common.{◌≡◌, ℕ, ◌+◌, ◌%◌, ◌^◌, ◌<◌, Some, true, not, set, get_or, sym, refl, ap, ◌∙◌, subst, arith}
+use Rattle.std.proofs.Common.{◌≡◌, ℕ, ◌+◌, ◌%◌, ◌^◌, ◌<◌, true, not, set, get_or, sym, refl, ap, ◌∙◌, subst}
 use Rattle.smp_mask.specs.Mask.{has}
 use Rattle.smp_core.specs.Size.{cpus}
 use Rattle.smp_core.specs.Start.{fits_record}

@@ -1,4 +1,4 @@
-use Rattle.std.proofs.Common.{◌≡◌, ◌<◌, sym, refl, ap, ◌∙◌, arith}
+use Rattle.std.proofs.Common.{◌<◌, sym, refl, ap, ◌∙◌, arith}
 use Rattle.smp_core.specs.Size.{cpus}
 use Rattle.smp_core.proofs.Starts.{online_below}
 use Rattle.smp_core.specs.declared.word.Word.TheVariants.{Intr}

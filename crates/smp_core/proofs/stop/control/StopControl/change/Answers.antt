@@ -1,4 +1,4 @@
-use Rattle.std.proofs.Common.{◌≡◌, ◌∙◌, ap, List}
+use Rattle.std.proofs.Common.{◌∙◌, ap, List}
 use Rattle.smp_core.specs.Stops.Labels.{Change}
 use Rattle.smp_core.specs.Stops.Stages.{StopControlValue, change_at}
 use Rattle.smp_core.proofs.Stops.Changes.{read_change}

@@ -1,7 +1,6 @@
-use Rattle.std.proofs.Common.{◌≡◌, None, List, length, sym, ◌∙◌, ap, subst, arith}
+use Rattle.std.proofs.Common.{◌≡◌, None, List, sym, ◌∙◌, ap, subst, arith}
 use Rattle.std.proofs.lemmas.List.{get_or_read, length-set}
 use Rattle.std.specs.Prelude.{slice_set}
-use Rattle.smp_core.specs.Size.{cpus}
 use Rattle.smp_core.specs.Stops.State.{StopState}
 use Rattle.smp_core.specs.Stops.Stages.{StopControlValue, stop_goes, stop_outside}
 use Rattle.smp_core.specs.Stops.Begins.{MayBeginAt}
@@ -27,7 +26,7 @@ shown_after g c p shown =
     let kept : items ≡ c.args.self.now.controls = ap (λ (v : StopsValue). v.controls) c.self.view_is in
     let outside : (stop_control_of items c.args.cpu).stage ≡ None = ap (λ (x : List StopControlValue). (stop_control_of x c.args.cpu).stage) kept ∙ c.requires.outside in
     let may : MayBeginAt record { online = c.self.inside.online; labels = c.self.inside.labels; table = c.self.inside.table; controls = items } c.args.cpu c.args.stage =
-        subst (λ (v : StopsValue). MayBeginAt v c.args.cpu c.args.stage) (sym c.self.view_is) c.requires.may in
+    subst (λ (v : StopsValue). MayBeginAt v c.args.cpu c.args.stage) (sym c.self.view_is) c.requires.may in
     rw (here g c) (begun_value_shown (setup_of c.self.inside.online c.self.inside.labels) p c.self.inside.table items shown c.args.cpu c.requires.cpu (omega (arith, c.requires.cpu)) c.args.stage outside may)
 
 pub invariant_of-self : goal.invariant_of-self
