@@ -41,8 +41,8 @@ impl CallCpu {
         CallCpu {
             chair,
             number,
-            queued: [0; 8],
-            ran: [0; 8],
+            queued: [0; NR_CPUS as usize],
+            ran: [0; NR_CPUS as usize],
         }
     }
 
