@@ -11,26 +11,30 @@ use Rattle.smp_labels.specs.Labels.{AreLabels}
 use Rattle.smp_labels.specs.Law.{site_word, IsLawful}
 use Rattle.smp_labels.proofs.Lawful.{entry_at-word, site_word_at}
 
+-- one word for each of these entries, of n sites
+abbrev pub words_of : (Entry → ℕ) → ℕ → List Entry → List ℕ
+words_of word n entries = map word entries ++ replicate (n - length entries) 0
+
 -- the entry words of these entries, of n sites
 abbrev pub entry_words : ℕ → List Entry → List ℕ
-entry_words n entries = map entry_word entries ++ replicate (n - length entries) 0
+entry_words = words_of entry_word
 
 -- one more entry
-entry_words-set : (n : ℕ) (entries : List Entry) (e : Entry) → length entries < n →
-    set (entry_words n entries) (length entries) (entry_word e) ≡ entry_words n (entries ++ e ∷ [])
-entry_words-set n entries e fits =
+words_of-set : (word : Entry → ℕ) (n : ℕ) (entries : List Entry) (e : Entry) → length entries < n →
+    set (words_of word n entries) (length entries) (word e) ≡ words_of word n (entries ++ e ∷ [])
+words_of-set word n entries e fits =
     let more : n - length entries ≡ suc (n - (length entries + 1)) = omega arith in
     let rest : List ℕ = replicate (n - (length entries + 1)) 0 in
-    rw (more, set_at (map entry_word entries) 0 rest (entry_word e) (length entries) (length-map entries entry_word), length_push entries e, map-append entry_word entries (e ∷ [])) (sym (append_assoc (map entry_word entries) (entry_word e ∷ []) rest))
+    rw (more, set_at (map word entries) 0 rest (word e) (length entries) (length-map entries word), length_push entries e, map-append word entries (e ∷ [])) (sym (append_assoc (map word entries) (word e ∷ []) rest))
 
 -- one more of these entries
-pub entry_words-more : (n i : ℕ) (entries : List Entry) (d : Entry) → i < length entries → length entries ≤ n →
-    set (entry_words n (take i entries)) i (entry_word (get_or entries i d)) ≡ entry_words n (take (i + 1) entries)
-entry_words-more n i entries d within fits =
+pub words_of-more : (word : Entry → ℕ) (n i : ℕ) (entries : List Entry) (d : Entry) → i < length entries → length entries ≤ n →
+    set (words_of word n (take i entries)) i (word (get_or entries i d)) ≡ words_of word n (take (i + 1) entries)
+words_of-more word n i entries d within fits =
     let e = get_or entries i d in
     let long : length (take i entries) ≡ i = length-take-le i entries (omega arith) in
     rw (take_more entries i d within)
-    (subst (λ k. set (entry_words n (take i entries)) k (entry_word e) ≡ entry_words n (take i entries ++ e ∷ [])) long (entry_words-set n (take i entries) e (omega arith)))
+    (subst (λ k. set (words_of word n (take i entries)) k (word e) ≡ words_of word n (take i entries ++ e ∷ [])) long (words_of-set word n (take i entries) e (omega arith)))
 
 all_zero : (n i : ℕ) → let z : ℕ = 0 in get_or (replicate n z) i 0 ≡ z
 all_zero zero i = refl

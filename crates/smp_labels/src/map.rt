@@ -1,8 +1,8 @@
 //! The keys and the sites that a machine is made with.
 
-ghost use Rattle.std.specs.Prelude.{◌≡◌, ◌≤◌, ◌-◌, ◌++◌, ◌↔◌, length, map, replicate, IsOk, IfOk, OnErr, IsErrOf};
+ghost use Rattle.std.specs.Prelude.{[], ◌≡◌, ◌≤◌, ◌-◌, ◌++◌, ◌↔◌, length, map, replicate, IsOk, IfOk, OnErr, IsErrOf};
 ghost use Rattle.smp_labels.specs.Entries.{entry_word};
-ghost use Rattle.smp_labels.specs.Labels.{AreLabels};
+ghost use Rattle.smp_labels.specs.Labels.{AreLabels, first_site};
 ghost use Rattle.smp_labels.specs.Law.{IsLawful};
 ghost use Rattle.smp_labels.specs.Words.{table_of};
 
@@ -52,6 +52,16 @@ impl LabelMap {
         Ok(LabelMap { entries, keys })
     }
 
+    /// The map of no keys and no sites.
+    pub fn empty() -> LabelMap
+        ensures { result ≡ record { keys = 0; entries = [] } }
+    {
+        LabelMap {
+            entries: ArrayVec::new(),
+            keys: 0,
+        }
+    }
+
     /// The words of a table with these entries and all keys off, as keys that are defined by
     /// `DEFINE_STATIC_KEY_FALSE` (`include/linux/jump_label.h`). They are lawful.
     pub fn words(&self) -> LabelWords
@@ -59,6 +69,8 @@ impl LabelMap {
         ensures off { result.keys ≡ replicate MOST_KEYS 0 }
         ensures entries { result.entries
             ≡ map entry_word self.now.entries ++ replicate (MOST_SITES - length self.now.entries) 0 }
+        ensures sites { result.sites
+            ≡ map first_site self.now.entries ++ replicate (MOST_SITES - length self.now.entries) 0 }
         ensures known { AreLabels self.now.keys self.now.entries }
     {
         let mut words = LabelWords {
@@ -71,6 +83,20 @@ impl LabelMap {
             words.sites[site] = kind_of(is_on(key_word(false)), entry.branch).word();
         }
         words
+    }
+
+    /// The same map once more.
+    pub fn copy(&self) -> LabelMap
+        ensures { result ≡ self.now }
+    {
+        let mut entries = ArrayVec::new();
+        for entry in self.entries.iter() {
+            entries.push(*entry);
+        }
+        LabelMap {
+            entries,
+            keys: self.keys,
+        }
     }
 
     /// The number of keys that it was made with.
