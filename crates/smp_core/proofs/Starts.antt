@@ -11,7 +11,9 @@ use Rattle.smp_core.specs.Calls.{CallState, no_calls}
 use Rattle.smp_core.specs.Drains.{DrainValue}
 use Rattle.smp_core.specs.Stages.{ControlValue}
 use Rattle.smp_core.specs.Limits.{AreLimits}
-use Rattle.smp_core.specs.Start.{refusal_of, command_refusal, busy_or, first_stage, fits_record, control_at, FitsCommand}
+use Rattle.smp_core.specs.Start.{refusal_of, command_refusal, own_refusal, or_else, busy_or, first_stage, fits_record, control_at, FitsCommand}
+use Rattle.smp_core.specs.Stops.Starts.{stop_refusal}
+use Rattle.smp_core.specs.Stops.Value.{stop_control_of}
 use Rattle.smp_core.specs.Stands.{Share, share_of, Rests, Stands, StandsAt, held_of, HandIs}
 use Rattle.smp_core.specs.Value.{CoreValue, ValuesShow, control_of, outside}
 use Rattle.smp_core.specs.Words.{hands_in}
@@ -42,9 +44,13 @@ not_false : (x : Bool) → not x ≡ false → x ≡ true
 not_false true e = refl
 not_false false e = cc
 
-not_busy : (stage : Option Stage) (r : Option SmpError) → busy_or stage r ≡ None → (stage ≡ None) × (r ≡ None)
+not_busy : {A : Type 0} (stage : Option A) (r : Option SmpError) → busy_or stage r ≡ None → (stage ≡ None) × (r ≡ None)
 not_busy None r e = (refl, e)
 not_busy (Some stage) r e = cc
+
+neither : (x y : Option SmpError) → or_else x y ≡ None → (x ≡ None) × (y ≡ None)
+neither None y e = (refl, e)
+neither (Some x) y e = cc
 
 -- a CPU that is online is one that there can be
 pub online_below : (nr online cpu : ℕ) → AreLimits nr online → has online cpu ≡ true → cpu < cpus
@@ -55,31 +61,37 @@ pub record MayStart (core : CoreValue) (cpu : ℕ) (c : Command) : Type 0 where
   pub is_online : has core.online cpu ≡ true
   pub is_outside : (control_of core.controls cpu).stage ≡ None
   pub is_allowed : command_refusal core.online cpu c ≡ None
+  pub is_stop_outside : (stop_control_of core.stops.controls cpu).stage ≡ None
+  pub is_stop_allowed : stop_refusal core.stops cpu c ≡ None
 
 pub may_start : (core : CoreValue) (cpu : ℕ) (c : Command) → refusal_of core cpu c ≡ None → MayStart core cpu c
 may_start core cpu c e =
     let o = else_none (has core.online cpu) _ _ e in
-    let b = not_busy (control_of core.controls cpu).stage (command_refusal core.online cpu c) o.1 in
-    record { is_online = o.0; is_outside = b.0; is_allowed = b.1 }
+    let b = not_busy (control_of core.controls cpu).stage _ o.1 in
+    let d = not_busy (stop_control_of core.stops.controls cpu).stage (own_refusal core cpu c) b.1 in
+    let n = neither (command_refusal core.online cpu c) (stop_refusal core.stops cpu c) d.1 in
+    record { is_online = o.0; is_outside = b.0; is_allowed = n.0; is_stop_outside = d.0; is_stop_allowed = n.1 }
 
 -- a CPU on which a command may start is one that there can be
 pub start_below : (core : CoreValue) (cpu : ℕ) (c : Command) → AreLimits core.nr core.online → refusal_of core cpu c ≡ None → cpu < cpus
 start_below core cpu c limits e = let m = may_start core cpu c e in online_below core.nr core.online cpu limits m.is_online
 
-begins_empty : (online cpu : ℕ) (c : Command) → held_of (Some (first_stage online cpu c)) ≡ None
+begins_empty : (online cpu : ℕ) (c : Command) → held_of (first_stage online cpu c) ≡ None
 begins_empty online cpu (command.Post k to class func info tries) = refl
 begins_empty online cpu (command.Send to) = refl
 begins_empty online cpu (command.Done k) = refl
 begins_empty online cpu command.Handle = refl
+begins_empty online cpu _ = refl
 
-begins_outside : (online cpu : ℕ) (c : Command) (hand : ℕ) → hand ≡ 0 → HandIs (Some (first_stage online cpu c)) hand
+begins_outside : (online cpu : ℕ) (c : Command) (hand : ℕ) → hand ≡ 0 → HandIs (first_stage online cpu c) hand
 begins_outside online cpu (command.Post k to class func info tries) hand e = e
 begins_outside online cpu (command.Send to) hand e = e
 begins_outside online cpu (command.Done k) hand e = e
 begins_outside online cpu command.Handle hand e = e
+begins_outside online cpu _ hand e = e
 
 begins : (nr online : ℕ) (places : ℕ → RecPlace) (at : Word → ℕ) (s : Share) (d : DrainValue) (cpu : ℕ) (c : Command) → AreLimits nr online → cpu < cpus → command_refusal online cpu c ≡ None → FitsCommand c →
-    StandsAt places at s d cpu None → StandsAt places at s d cpu (Some (first_stage online cpu c))
+    StandsAt places at s d cpu None → StandsAt places at s d cpu (first_stage online cpu c)
 begins nr online places at s d cpu (command.Post k to class func info tries) limits l e f h =
     let one = not (nat_lt k records_of_one) in
     let bad = ((one || tries == 0) || to == cpu) || not (fits_record k to class) in
@@ -101,6 +113,7 @@ begins nr online places at s d cpu (command.Done k) limits l e f h =
     let small = ltb-true k records_of_one (else_none (nat_lt k records_of_one) None _ e).0 in
     (h.0, h.1, h.2, owner-of_record cpu k small, record_of-below cpu k l small)
 begins nr online places at s d cpu command.Handle limits l e f h = (l, (h.0, h.1, h.2))
+begins nr online places at s d cpu _ limits l e f h = h
 
 module _ (nr online : ℕ) (a : CallState) (at : Word → ℕ) (control : ℕ → ControlValue) (cpu : ℕ) (c : Command) (shows : Shows a at control) (outside_now : (control cpu).stage ≡ None) where
   begun_stands : AreLimits nr online → cpu < cpus → command_refusal online cpu c ≡ None → FitsCommand c → Stands a.place at (share_of a cpu) cpu (control_at (control cpu) (first_stage online cpu c))

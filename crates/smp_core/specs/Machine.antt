@@ -1,9 +1,18 @@
 -- One step of a core: what it does to the words, what is seen of it, and where the CPU stands after it.
-use Rattle.std.specs.Prelude.{ℕ, slice_set}
+use Rattle.std.specs.Prelude.{◌≡◌, ℕ, Option, Some, None, slice_set}
 use Rattle.smp_core.specs.Layout.{number_in}
 use Rattle.smp_core.specs.Access.{word_of, words_after, seen_of}
 use Rattle.smp_core.specs.Stages.{access_of, outcome_of, control_after}
 use Rattle.smp_core.specs.Value.{CoreValue, control_of}
+use Rattle.smp_core.specs.Calls.{CallState}
+use Rattle.smp_core.specs.Calls as calls
+use Rattle.smp_core.specs.Value.{Shown}
+use Rattle.smp_core.specs.Stops.Machine.{stop_seen_at, stop_stepped}
+use Rattle.smp_core.specs.Stops.Stages.{answer_at}
+use Rattle.smp_core.specs.Stops.State.{Setup, StopState}
+use Rattle.smp_core.specs.Stops.Tells as stops
+use Rattle.smp_core.specs.Stops.Value.{StopShown, setup_of, stop_control_of}
+use Rattle.smp_core.specs.declared.stop.stage.StopStage.{StopStage}
 use Rattle.smp_core.specs.declared.seen.Seen.{Seen}
 use Rattle.smp_core.specs.declared.stage.Stage.{Stage}
 
@@ -23,3 +32,40 @@ stepped core cpu stage = record core {
   words = words_after core.words (access_of (number_in core.words) cpu stage);
   controls = slice_set core.controls cpu (control_after (control_of core.controls cpu) stage (found_at core cpu stage));
 }
+
+-- the same for a stage of the stop half
+abbrev pub stops_stepped : CoreValue → ℕ → StopStage → CoreValue
+stops_stepped core cpu stage = record core { stops = stop_stepped core.stops cpu stage }
+
+-- a CPU's step: what is seen of it, the core after it, and what the CPU's function has answered, where the step
+-- acknowledges phase 3 with it
+pub record Stepped : Type 0 where
+  pub seen : Seen
+  pub core : CoreValue
+  pub answer : ℕ
+
+abbrev pub call_step : CoreValue → ℕ → Stage → Stepped
+call_step core cpu stage = record { seen = seen_at core cpu stage; core = stepped core cpu stage; answer = 0 }
+
+abbrev pub stop_step : CoreValue → ℕ → StopStage → Stepped
+stop_step core cpu stage = record { seen = stop_seen_at core.stops cpu stage; core = stops_stepped core cpu stage; answer = answer_at stage }
+
+-- of a CPU that stands so: none outside a command
+abbrev pub step_at : CoreValue → ℕ → Option Stage → Option StopStage → Option Stepped
+step_at core cpu (Some stage) _ = Some (call_step core cpu stage)
+step_at core cpu None (Some stage) = Some (stop_step core cpu stage)
+step_at core cpu None None = None
+
+abbrev pub step_of : CoreValue → ℕ → Option Stepped
+step_of core cpu = step_at core cpu (control_of core.controls cpu).stage (stop_control_of core.stops.controls cpu).stage
+
+-- what the stop half of a core is made with
+abbrev pub setup_in : CoreValue → Setup
+setup_in core = setup_of core.stops.online core.stops.labels
+
+-- whatever calls and stops the old core showed, the new one shows those that the step tells
+abbrev pub CallsTold : CoreValue → Seen → CoreValue → Type 0
+CallsTold old seen new = (a : CallState) → Shown a old → Shown (calls.tells a seen) new
+
+abbrev pub StopsTold : CoreValue → Seen → ℕ → CoreValue → Type 0
+StopsTold old seen answer new = (p : StopState) → StopShown p old.stops → StopShown (stops.tells (setup_in old) p seen answer) new.stops

@@ -5,6 +5,7 @@ use Rattle.smp_core.specs.Stages.{ControlValue}
 use Rattle.smp_core.specs.Value.{ValuesShow}
 use Rattle.smp_core.specs.Limits.{AreLimits}
 use Rattle.smp_core.specs.Calls.{CallState}
+use Rattle.smp_core.specs.Stops.Value.{StopsValue}
 
 -- the table is whole, each CPU has a control, and they show some calls
 pub record IsTable (words : List ℕ) (controls : List ControlValue) : Type 0 where
@@ -13,7 +14,8 @@ pub record IsTable (words : List ℕ) (controls : List ControlValue) : Type 0 wh
   pub calls : CallState
   pub shown : ValuesShow calls words controls
 
--- the same, with some CPUs online, all of which there are
-pub record IsSound (nr online : ℕ) (words : List ℕ) (controls : List ControlValue) : Type 0 where
+-- the same, with some CPUs online, all of which there are, and the same in both halves
+pub record IsSound (nr online : ℕ) (words : List ℕ) (controls : List ControlValue) (stops : StopsValue) : Type 0 where
   pub limits : AreLimits nr online
   pub table : IsTable words controls
+  pub stops_online : stops.online ≡ online

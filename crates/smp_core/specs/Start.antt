@@ -6,6 +6,8 @@ use Rattle.smp_mask.specs.declared.error.SmpError.TheVariants as error
 use Rattle.smp_core.specs.Size.{records_of_one, record_of}
 use Rattle.smp_core.specs.Stages.{ControlValue}
 use Rattle.smp_core.specs.Value.{CoreValue, control_of}
+use Rattle.smp_core.specs.Stops.Starts.{stop_refusal, stop_started}
+use Rattle.smp_core.specs.Stops.Value.{stop_control_of}
 use Rattle.smp_core.specs.declared.call.Class.{Class}
 use Rattle.smp_core.specs.declared.call.Class.TheVariants.{Sync, Async}
 use Rattle.smp_core.specs.declared.command.Command.{Command}
@@ -26,42 +28,56 @@ fits_record k to class =
     else if (k == 1 || k + 2 == records_of_one) || k + 1 == records_of_one then not (is_sync class)
     else k == to + 2
 
--- a command's own refusals
+-- the own refusals of a command of the call half
 abbrev pub command_refusal : ℕ → ℕ → Command → Option SmpError
 command_refusal online cpu (command.Post k to class func info tries) =
     if ((not (nat_lt k records_of_one) || tries == 0) || to == cpu) || not (fits_record k to class) then Some error.BadArgument else None
 command_refusal online cpu (command.Send to) = if has online to then None else Some error.NoCpu
 command_refusal online cpu (command.Done k) = if nat_lt k records_of_one then None else Some error.BadArgument
-command_refusal online cpu command.Handle = None
+command_refusal online cpu _ = None
 
 -- the answer to a CPU that is inside a command, else this one
-abbrev pub busy_or : Option Stage → Option SmpError → Option SmpError
+abbrev pub busy_or : {A : Type 0} → Option A → Option SmpError → Option SmpError
 busy_or (Some stage) refusal = Some error.Busy
 busy_or None refusal = refusal
+
+-- the first refusal, else the second
+abbrev pub or_else : Option SmpError → Option SmpError → Option SmpError
+or_else (Some refused) second = Some refused
+or_else None second = second
+
+-- the own refusals of a command of either half
+abbrev pub own_refusal : CoreValue → ℕ → Command → Option SmpError
+own_refusal core cpu c = or_else (command_refusal core.online cpu c) (stop_refusal core.stops cpu c)
 
 -- why a command may not start; none where it may
 abbrev pub refusal_of : CoreValue → ℕ → Command → Option SmpError
 refusal_of core cpu c =
-    if has core.online cpu then busy_or (control_of core.controls cpu).stage (command_refusal core.online cpu c)
+    if has core.online cpu then busy_or (control_of core.controls cpu).stage (busy_or (stop_control_of core.stops.controls cpu).stage (own_refusal core cpu c))
     else Some error.NoCpu
 
--- where a command begins
-abbrev pub first_stage : ℕ → ℕ → Command → Stage
+-- where a command begins in the call half; none for one of the stop half
+abbrev pub first_stage : ℕ → ℕ → Command → Option Stage
 first_stage online cpu (command.Post k to class func info tries) =
-    Post (record { id = record_of cpu k; to = to; is_online = has online to; class = class; func = func; info = info; tries = tries }) post.LoadFlags
-first_stage online cpu (command.Send to) = Send to
-first_stage online cpu (command.Done k) = Done (record_of cpu k)
-first_stage online cpu command.Handle = Handle handle.Enter
+    Some (Post (record { id = record_of cpu k; to = to; is_online = has online to; class = class; func = func; info = info; tries = tries }) post.LoadFlags)
+first_stage online cpu (command.Send to) = Some (Send to)
+first_stage online cpu (command.Done k) = Some (Done (record_of cpu k))
+first_stage online cpu command.Handle = Some (Handle handle.Enter)
+first_stage online cpu _ = None
 
 -- numbers of a command's types
 abbrev pub FitsCommand : Command → Type 0
 FitsCommand (command.Post k to class func info tries) = (func < 2 ^ 16) × (info < 2 ^ 64)
+FitsCommand (command.Begin work) = work.func < 2 ^ 16
 FitsCommand _ = Unit {0}
 
--- a control at this stage, with the drain that it has
-abbrev pub control_at : ControlValue → Stage → ControlValue
-control_at c stage = record c { stage = Some stage }
+-- a control at this stage, or outside a command, with the drain that it has
+abbrev pub control_at : ControlValue → Option Stage → ControlValue
+control_at c stage = record c { stage = stage }
 
 -- the core with the CPU at the beginning of a command
 abbrev pub started : CoreValue → ℕ → Command → CoreValue
-started core cpu c = record core { controls = slice_set core.controls cpu (control_at (control_of core.controls cpu) (first_stage core.online cpu c)) }
+started core cpu c = record core {
+  controls = slice_set core.controls cpu (control_at (control_of core.controls cpu) (first_stage core.online cpu c));
+  stops = stop_started core.stops cpu c;
+}

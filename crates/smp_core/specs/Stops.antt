@@ -24,4 +24,6 @@ pub mod Promises
 pub mod Table
 pub mod Value
 pub mod Machine
+pub mod New
 pub mod Begins
+pub mod Starts

@@ -1,6 +1,7 @@
 //! What a CPU may be told to do.
 
 use crate::call::Class;
+use crate::stop::work::Work;
 
 /// A command of one CPU. `Core::start` says when it is refused.
 #[derive(Clone, Copy, Debug, PartialEq, Eq)]
@@ -14,6 +15,27 @@ pub enum Command {
     Done(u32),
     /// Take the own interrupt and, where there was one, run the own queue (`__flush_smp_call_function_queue`).
     Handle,
+    /// Take the gate that orders all stops, where nobody holds it (`stop_cpus_mutex`).
+    Gate,
+    /// Give the gate up.
+    Ungate,
+    /// Open the stop of the own slot (`queue_stop_cpus_work`).
+    Begin(Work),
+    /// Enter the stop of this source's slot (`cpu_stopper_thread`).
+    Enter(u32),
+    /// Make one turn of the loop of a stop of several CPUs; a function that it calls answers this number
+    /// (`multi_cpu_stop`).
+    Advance(i32),
+    /// Run the function of a stop of one CPU, which answers this number, and complete.
+    RunOne(i32),
+    /// Complete with the answer of the own function, 0 where it ran none (`cpu_stop_signal_done`).
+    Finish,
+    /// Ask whether the own stop is complete and, where it is, collect its result.
+    Poll,
+    /// Read a label key (`static_key_enabled`).
+    Key(u32),
+    /// Read a label site.
+    Site(u32),
 }
 
 /// One event of a replay.

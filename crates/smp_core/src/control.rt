@@ -45,11 +45,11 @@ impl Control {
         self.stage
     }
 
-    /// Begins at a stage.
-    pub fn begin(&mut self, stage: Stage)
+    /// Begins at a stage, or stays outside where none is given.
+    pub fn begin(&mut self, stage: Option<Stage>)
         ensures { self.new ≡ control_at self.old stage }
     {
-        self.stage = Some(stage);
+        self.stage = stage;
     }
 
     /// Goes on after the step of this stage, by the number that it found, and tells what that means.

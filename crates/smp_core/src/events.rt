@@ -4,7 +4,11 @@ ghost use Rattle.std.specs.Prelude.{◌≡◌, ◌++◌, IfOk, IfErr, OnOk, OnEr
 ghost use Rattle.smp_core.specs.Calls.{CallState, tells_all};
 ghost use Rattle.smp_core.specs.Value.{Shown};
 ghost use Rattle.smp_core.specs.Runs.{IsReplay};
-ghost use Rattle.smp_core.specs.Replay.{seen_list};
+ghost use Rattle.smp_core.specs.Replay.{answers_from, seen_list};
+ghost use Rattle.smp_core.specs.Machine.{setup_in};
+ghost use Rattle.smp_core.specs.Stops.State.{StopState};
+ghost use Rattle.smp_core.specs.Stops.Tells.{tells_all as tells_stops};
+ghost use Rattle.smp_core.specs.Stops.Value.{StopShown};
 
 use crate::command::Event;
 use crate::machine::Core;
@@ -29,6 +33,7 @@ pub fn replay<A: Allocator>(
 ) -> Result<Replayed<A>, SmpError>
     ensures run { IfOk result (λ r. IsReplay core events.now r.core r.seen.items r.stopped) }
     ensures told { IfOk result (λ r. (calls : CallState) → Shown calls core → Shown (tells_all calls r.seen.items) r.core) }
+    ensures stops { IfOk result (λ r. (p : StopState) → StopShown p core.stops → StopShown (tells_stops (setup_in core) p r.seen.items (answers_from core events.now)) r.core.stops) }
     ensures err { IfErr result (λ e. e ≡ SmpError.NoMemory) }
 {
     let mut seen = Vec::new(alloc);

@@ -14,16 +14,16 @@ use crate::stage::Stage;
 use smp_mask::{CpuMask, SmpError};
 
 impl Command {
-    /// The command's own refusal; none where it may start on this CPU.
-    pub fn refusal(self, online: CpuMask, cpu: u32) -> Option<SmpError>
-        ensures { result ≡ command_refusal online cpu self }
+    /// The own refusal of a command of the call half; none where it may start on this CPU, and for a command of
+    /// the stop half.
+    pub fn refusal(&self, online: CpuMask, cpu: u32) -> Option<SmpError>
+        ensures { result ≡ command_refusal online cpu self.now }
     {
-        let is_good = match self {
+        let is_good = match *self {
             Command::Post(k, to, class, _, _, tries) => {
                 k < RECORDS_OF_ONE && tries != 0 && to != cpu && fits_record(k, to, class)
             }
             Command::Done(k) => k < RECORDS_OF_ONE,
-            Command::Handle => true,
             Command::Send(to) => {
                 return if online.contains(to) {
                     None
@@ -31,6 +31,7 @@ impl Command {
                     Some(SmpError::NoCpu)
                 };
             }
+            _ => true,
         };
         if is_good {
             None
@@ -39,14 +40,14 @@ impl Command {
         }
     }
 
-    /// Where a command begins that may start.
-    pub fn first_stage(self, online: CpuMask, cpu: u32) -> Stage
+    /// Where a command of the call half begins that may start; none for one of the stop half.
+    pub fn first_stage(&self, online: CpuMask, cpu: u32) -> Option<Stage>
         requires known { cpu < cpus }
-        requires allowed { command_refusal online cpu self ≡ None }
-        ensures stage { result ≡ stage_at_first online cpu self }
-        ensures fits { FitsCommand self }
+        requires allowed { command_refusal online cpu self.now ≡ None }
+        ensures stage { result ≡ stage_at_first online cpu self.now }
+        ensures fits { FitsCommand self.now }
     {
-        match self {
+        match *self {
             Command::Post(k, to, class, func, info, tries) => {
                 let posting = Posting {
                     id: record_of(cpu, k),
@@ -57,11 +58,12 @@ impl Command {
                     info,
                     tries,
                 };
-                Stage::Post(posting, PostStage::LoadFlags)
+                Some(Stage::Post(posting, PostStage::LoadFlags))
             }
-            Command::Send(to) => Stage::Send(to),
-            Command::Done(k) => Stage::Done(record_of(cpu, k)),
-            Command::Handle => Stage::Handle(HandleStage::Enter),
+            Command::Send(to) => Some(Stage::Send(to)),
+            Command::Done(k) => Some(Stage::Done(record_of(cpu, k))),
+            Command::Handle => Some(Stage::Handle(HandleStage::Enter)),
+            _ => None,
         }
     }
 }

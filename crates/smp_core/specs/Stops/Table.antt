@@ -2,7 +2,8 @@
 use Rattle.std.specs.Int.Bits.{bit_and}
 use Rattle.std.specs.Prelude.{ℕ, ◌+◌, ◌*◌, ◌==◌, nat_lt, if◌then◌else◌, Option, Some, None, List, slice_index, slice_set}
 use Rattle.smp_core.specs.Put.{place_of}
-use Rattle.smp_core.specs.Layout.{number_at, put_at}
+use Rattle.smp_labels.specs.declared.words.TheConstants.{MOST_KEYS, MOST_SITES}
+use Rattle.smp_core.specs.Layout.{number_at, number_if, put_at}
 use Rattle.smp_core.specs.Access.{one_less}
 use Rattle.smp_core.specs.declared.access.Access.{Access}
 use Rattle.smp_core.specs.declared.access.Access.TheVariants.{Load, Store, Swap, Exchange, Sub, And}
@@ -31,6 +32,19 @@ stop_number t (Key k) = slice_index t.keys k
 stop_number t (Entry i) = slice_index t.entries i
 stop_number t (Site i) = slice_index t.sites i
 stop_number t _ = 0
+
+-- the number at an index of a list of this many, where there is one
+abbrev pub number_below : ℕ → List ℕ → ℕ → Option ℕ
+number_below n words i = if nat_lt i n then Some (slice_index words i) else None
+
+-- the number in a word, where there is such a word
+abbrev pub stop_number_of : StopWords → Word → Option ℕ
+stop_number_of t Gate = Some t.gate
+stop_number_of t (Slot s f) = number_if t.slots (slot_cell s f)
+stop_number_of t (Key k) = number_below MOST_KEYS t.keys k
+stop_number_of t (Entry i) = number_below MOST_SITES t.entries i
+stop_number_of t (Site i) = number_below MOST_SITES t.sites i
+stop_number_of t _ = None
 
 -- the words after n was put in one of them
 abbrev pub stop_put : StopWords → Word → ℕ → StopWords

@@ -204,3 +204,13 @@ told u p me act _ found new answer = p
 -- the state after a step that was seen, where the CPU's function has answered so
 abbrev pub tells : Setup → StopState → Seen → ℕ → StopState
 tells u p seen answer = told u p seen.cpu seen.act seen.word seen.found seen.put answer
+
+-- the state after all of these, with an answer for each
+abbrev pub tells_all : Setup → StopState → List Seen → List ℕ → StopState
+tells_all u p (seen ∷ rest) (answer ∷ more) = tells_all u (tells u p seen answer) rest more
+tells_all u p _ _ = p
+
+-- the state after a step, where one was seen
+abbrev pub tells_if : Setup → StopState → Option Seen → ℕ → StopState
+tells_if u p None answer = p
+tells_if u p (Some seen) answer = tells u p seen answer

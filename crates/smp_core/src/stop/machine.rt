@@ -3,14 +3,16 @@
 ghost use Rattle.std.specs.Prelude.{◌≡◌, MatchOption};
 
 use crate::access::Access;
+use crate::command::Command;
 use crate::seen::{Note, Seen};
 use crate::size::NR_CPUS;
 use crate::stop::control::StopControl;
 use crate::stop::stage::StopStage;
+use crate::stop::start::Terms;
 use crate::stop::table::StopTable;
 use crate::word::Word;
 use smp_labels::LabelMap;
-use smp_mask::CpuMask;
+use smp_mask::{CpuMask, SmpError};
 use std::alloc::{AllocError, Allocator};
 use std::marker::Model;
 
@@ -77,6 +79,7 @@ impl<A: Allocator> Stops<A> {
     ghost use Rattle.smp_core.specs.Stops.Value.{StopShown};
     ghost use Rattle.std.specs.Prelude.{ℕ, true};
     ghost use Rattle.smp_mask.specs.Mask.{has};
+    ghost use Rattle.smp_core.specs.Stops.New.{new_stops};
     ghost use Rattle.smp_core.specs.Stops.State.{no_stops};
 
     /// A half in which nothing was begun, with these CPUs online and these labels.
@@ -85,9 +88,7 @@ impl<A: Allocator> Stops<A> {
         A: Copy,
         requires member { (cpu : ℕ) × (has online cpu ≡ true) }
         requires below { (cpu : ℕ) → has online cpu ≡ true → cpu < cpus }
-        ensures online { IfOk result (λ s. s.online ≡ online) }
-        ensures labels { IfOk result (λ s. s.labels ≡ labels) }
-        ensures outside { IfOk result (λ s. s.controls ≡ replicate cpus stop_outside) }
+        ensures made { IfOk result (λ s. s ≡ new_stops online labels) }
         ensures empty { IfOk result (StopShown no_stops) }
     {
         let controls = new_controls(alloc)?;
@@ -108,6 +109,48 @@ impl<A: Allocator> Stops<A> {
             self.controls[cpu as usize].stage()
         } else {
             None
+        }
+    }
+
+    ghost use Rattle.smp_core.specs.Stops.Starts.{terms_of, stop_refusal, stop_started};
+    ghost use Rattle.smp_core.specs.Stops.Table.{stop_number_of};
+    ghost use Rattle.smp_core.specs.Start.{FitsCommand};
+
+    /// What a refusal depends on beside where the CPU stands.
+    fn terms(&self, cpu: u32) -> Terms
+        ensures { result ≡ terms_of self.now cpu }
+    {
+        Terms {
+            online: self.online,
+            keys: self.labels.keys(),
+            sites: self.labels.sites(),
+            holds_gate: self.table.read(Word::Gate) == u64::from(cpu) + 1,
+        }
+    }
+
+    /// The own refusal of a command of this half, and of a handle while interrupts are off; none where it may start,
+    /// and for another command.
+    pub fn refusal(&self, cpu: u32, command: &Command) -> Option<SmpError>
+        requires { cpu < cpus }
+        ensures { result ≡ stop_refusal self.now cpu command.now }
+    {
+        self.terms(cpu).refusal(&self.controls[cpu as usize], command)
+    }
+
+    /// Puts a CPU that is outside a command at the first stage of one that may start, where that is a command of this
+    /// half. It makes no step.
+    pub fn start(&mut self, cpu: u32, command: &Command)
+        requires cpu { cpu < cpus }
+        requires online { has self.old.online cpu ≡ true }
+        requires below { (c : ℕ) → has self.old.online c ≡ true → c < cpus }
+        requires outside { (stop_control_of self.old.controls cpu).stage ≡ None }
+        requires allowed { stop_refusal self.old cpu command.now ≡ None }
+        requires fits { FitsCommand command.now }
+        ensures started { self.new ≡ stop_started self.old cpu command.now }
+        ensures told { (p : StopState) → StopShown p self.old → StopShown p self.new }
+    {
+        if let Some(stage) = self.controls[cpu as usize].first_stage(command) {
+            self.begin(cpu, stage);
         }
     }
 
@@ -143,6 +186,13 @@ impl<A: Allocator> Stops<A> {
         let found = self.table.perform(access);
         let note = advance(&mut self.controls, cpu, found);
         Some(access.seen(cpu, found, note))
+    }
+
+    /// The number in a word; none where there is no such word.
+    pub fn word(&self, word: Word) -> Option<u64>
+        ensures { result ≡ stop_number_of self.now.table word }
+    {
+        self.table.word(word)
     }
 
     /// The number in a word; 0 where there is no such word.

@@ -1,9 +1,10 @@
 //! Masks as the words of a slot have them: bit c for CPU c.
 
-ghost use Rattle.std.specs.Prelude.{◌≡◌, ◌<◌};
+ghost use Rattle.std.specs.Prelude.{◌≡◌, ◌<◌, ◌≤◌};
 ghost use Rattle.smp_mask.specs.Mask.{has};
 ghost use Rattle.smp_core.specs.Size.{cpus};
 ghost use Rattle.smp_core.specs.Stops.Counts.{mask_weight};
+ghost use Rattle.smp_core.specs.Stops.Value.{first_below};
 
 use crate::size::NR_CPUS;
 use smp_mask::CpuMask;
@@ -27,6 +28,20 @@ pub fn weight(mask: u64) -> u64
         }
     }
     count
+}
+
+/// The least CPU in a mask, or the number of CPUs where it has none.
+pub fn first_of(mask: CpuMask) -> u32
+    ensures least { result ≡ first_below mask cpus }
+    ensures within { result ≤ cpus }
+{
+    let mut first = 0;
+    for cpu in 0..NR_CPUS {
+        if first == cpu && !mask.contains(cpu) {
+            first += 1;
+        }
+    }
+    first
 }
 
 /// A mask as the word of a slot has it.

@@ -7,5 +7,6 @@ pub mod laws;
 pub mod machine;
 pub mod mask;
 pub mod stage;
+pub mod start;
 pub mod table;
 pub mod work;

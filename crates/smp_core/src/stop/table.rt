@@ -4,7 +4,7 @@ ghost use Rattle.std.specs.Prelude.{◌≡◌, IfOk, replicate};
 ghost use Rattle.smp_core.specs.Access.{word_of};
 ghost use Rattle.smp_core.specs.Put.{place_of};
 ghost use Rattle.smp_core.specs.Stops.Value.{IsStopTable};
-ghost use Rattle.smp_core.specs.Stops.Table.{slot_cell as cell_in, stop_number, stop_put, stop_words_after};
+ghost use Rattle.smp_core.specs.Stops.Table.{slot_cell as cell_in, stop_number, stop_number_of, stop_put, stop_words_after};
 
 use crate::access::Access;
 use crate::size::{FIELDS, NR_CPUS, SLOT_WORDS};
@@ -96,6 +96,20 @@ impl<A: Allocator> StopTable<A> {
             Word::Entry(site) => read_at(&self.labels.entries, site as usize),
             Word::Site(site) => read_at(&self.labels.sites, site as usize),
             _ => 0,
+        }
+    }
+
+    /// The number in a word; none where there is no such word.
+    pub fn word(&self, word: Word) -> Option<u64>
+        ensures { result ≡ stop_number_of self.now word }
+    {
+        match word {
+            Word::Gate => Some(self.gate),
+            Word::Slot(slot, field) => slot_cell(slot, field).map(|cell| self.slots[cell]),
+            Word::Key(key) => self.labels.keys.get(key as usize).copied(),
+            Word::Entry(site) => self.labels.entries.get(site as usize).copied(),
+            Word::Site(site) => self.labels.sites.get(site as usize).copied(),
+            _ => None,
         }
     }
 
