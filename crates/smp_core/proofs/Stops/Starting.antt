@@ -117,14 +117,17 @@ module _ (v : StopsValue) (cpu : ℕ) (low : cpu < cpus) (below : (k : ℕ) → 
       let x = if_passed (t.holds_gate && fits_work t work) _ _ e in
       let y = both t.holds_gate (fits_work t work) x.0 in
       let z = both (not (mask_weight cpus work.mask == 0)) (fits_kind t work work.kind) y.1 in
-      let all = within work.mask v.online (is_same (bit_and work.mask v.online) work.mask (passed (bit_and work.mask v.online == work.mask) _ x.1)) in
-      (is_same gate (cpu + 1) y.0, shut, record {
-        online = all;
-        below = λ k is. below k (all k is);
-        some = ne_false (mask_weight cpus work.mask) 0 (not_true (mask_weight cpus work.mask == 0) z.0);
-        kind = is_kind work work.kind z.1;
-        func = small;
-      })
+      let all = within work.mask v.online (is_same (bit_and work.mask v.online) work.mask (passed (bit_and work.mask v.online == work.mask) _ x.1)) in (
+        is_same gate (cpu + 1) y.0,
+        shut,
+        record {
+          online = all;
+          below = λ k is. below k (all k is);
+          some = ne_false (mask_weight cpus work.mask) 0 (not_true (mask_weight cpus work.mask == 0) z.0);
+          kind = is_kind work work.kind z.1;
+          func = small;
+        },
+      )
 
   enters : (slot : ℕ) (x : Option Visit) → c.visit ≡ x → (is_free x && nat_lt slot cpus) ≡ true → (c.visit ≡ None) × (slot < cpus)
   enters slot None is e = (is, ltb-true slot cpus e)
