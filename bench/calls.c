@@ -3,8 +3,7 @@
  * order, the same waiting, all atomics sequentially consistent. No proof covers this file, and it refuses less.
  *
  *   cc -O2 -pthread -o calls bench/calls.c     (with -DSPREAD head, interrupt and handling words have cache lines
- *                                               of their own; with -DLOOK a CPU looks at its interrupt word first;
-                                               with -DCLEAR each handling begins with cleared lists, as ours does)
+ *                                               of their own; with -DLOOK a CPU looks at its interrupt word first)
  *   ./calls time|count THREADS LIMIT [WORKLOAD]     as crates/smp_bench
  */
 #define _GNU_SOURCE
@@ -133,11 +132,6 @@ static uint32_t handle(struct cpu *me)
 		atomic_store(hand_of(me, me->number), 0);
 		return 0;
 	}
-#ifdef CLEAR
-	memset(sync, 0, sizeof sync);
-	memset(async, 0, sizeof async);
-	__asm__ volatile("" ::"r"(sync), "r"(async) : "memory");
-#endif
 	uint64_t link = atomic_exchange(head_of(me, me->number), 0);
 	while (link != 0) {
 		word *record = record_of(me, link - 1);
