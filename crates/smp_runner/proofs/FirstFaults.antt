@@ -183,7 +183,7 @@ labels_line_tells text table l ls e none no_events is ended (Ok labels) read =
     let right = read_right 3 l (λ m. events_in (fields_of l.text) ≡ 0) (whole_labels (fields_of l.text)) labels (labels_told (fields_of l.text) is) read in
     let more : events_to text 3 ≡ 0 = omega (arith, events_more text 2 l left.here, right.holding, no_events) in
     script_tells_from text table (Some labels, ls) 3 refl left.next (omega arith) (past_labels 3 ls (omega arith))
-      (line_right text 2 l left.here none (right_line 3 (events_to text 3) l (λ m. events_in (fields_of l.text) ≡ 0) labels (omega arith) ended right (omega (arith, more)))) more
+    (line_right text 2 l left.here none (right_line 3 (events_to text 3) l (λ m. events_in (fields_of l.text) ≡ 0) labels (omega arith) ended right (omega (arith, more)))) more
 
 third_tells : (text : List ℕ) (table : ℕ × ℕ) (ls : List Line) → drop 2 (lines_of text) ≡ ls → NoneBefore text 3 → events_to text 2 ≡ 0 → TellsText text (labels_at ls >>= after_labels table)
 third_tells text table [] e none no_events = script_tells_from text table (None, []) 2 refl e (omega arith) tt none no_events

@@ -1,5 +1,5 @@
 -- The labels line, as it is written.
-use Rattle.std.proofs.Common.{◌≡◌, ℕ, ◌+◌, ◌<◌, ◌≤◌, ◌^◌, Bool, true, false, not, nat_lt, ◌==◌, ◌&&◌, List, [], ◌∷◌, ◌++◌, map, length, All, Option, Some, None, Result, Ok, Err, codes, refl, sym, ap, ◌∙◌, inl, inr, arith, rules, subst}
+use Rattle.std.proofs.Common.{◌≡◌, ℕ, suc, ◌+◌, ◌<◌, ◌≤◌, ◌^◌, Bool, true, false, not, nat_lt, ◌==◌, ◌&&◌, List, [], ◌∷◌, ◌++◌, map, length, All, Option, Some, None, Result, Ok, Err, codes, refl, sym, ap, ◌∙◌, inl, inr, arith, rules, subst}
 use Rattle.std.specs.Fmt.{decimal}
 use Rattle.std.specs.List.{AllByRecursion, join_with_byte, list_all}
 use Rattle.std.specs.Str.{bytes_eq}
@@ -14,7 +14,7 @@ use Rattle.smp_runner.specs.Numbers.{is_decimal, is_digit, value_after}
 use Rattle.smp_runner.specs.Faults.{◌>>=◌, at_line}
 use Rattle.smp_runner.specs.Fields.{word32}
 use Rattle.smp_runner.specs.Commands.{are_whole}
-use Rattle.smp_runner.specs.Labels.{entry_of, has_number, is_below, is_item, is_labels, item_of, items_of, labels_in, whole_labels}
+use Rattle.smp_runner.specs.Labels.{Item, entry_of, has_number, is_below, is_item, is_labels, item_of, items_of, labels_in, whole_labels}
 use Rattle.smp_runner.specs.Script.{labels_at}
 use Rattle.smp_runner.specs.Spelling.{is_field, item_text, items_text, labels_before, lacks, line_before}
 use Rattle.smp_runner.proofs.Decimals.{decimal_lacks, is_decimal-decimal, is_field-decimal, number_in-decimal, value_of_decimal}
@@ -74,7 +74,7 @@ items_read : (es : List Entry) → AreSmall es → items_of (items_text es) ≡ 
 items_read [] small = refl
 items_read (e ∷ es) small = rw (no_dash e es small) (parts_join 44 (item_text e) (map item_text es) (items_lack 44 (e ∷ es) refl refl small))
 
-heads_same : {a b : List ℕ} {as bs : List (List ℕ)} → a ∷ as ≡ b ∷ bs → a ≡ b
+heads_same : {t u : List ℕ} {ts us : List (List ℕ)} → t ∷ ts ≡ u ∷ us → t ≡ u
 heads_same h = cc
 
 word_read : (n : ℕ) → n < 4 → word32 (decimal n) ≡ Ok n
@@ -117,7 +117,7 @@ smaller keys (e ∷ es) few h = (omega (arith, h.0), smaller keys es few h.1)
 
 pub by_recursion : (keys : ℕ) (es : List Entry) → All (λ e. e.key < keys) es → AllByRecursion (λ e. e.key < keys) es
 by_recursion keys [] h = tt
-by_recursion keys (e ∷ es) h = (search (h, rules), by_recursion keys es (search (h, rules)))
+by_recursion keys (e ∷ es) h = (h 0 e (omega arith), by_recursion keys es (λ k d l. h (suc k) d (omega arith)))
 
 labels_read : (labels : Labels) → AreLabels labels.keys labels.entries → labels_in (decimal labels.keys) (items_of (items_text labels.entries)) ≡ Ok labels
 unfolding labels_in
@@ -137,7 +137,7 @@ items_some (e ∷ es) small = elim (cases_Bool (length (items_text (e ∷ es)) =
       let nothing : items_text (e ∷ es) ≡ [] = nil_from_length (items_text (e ∷ es)) empty in
       let read : map item_text (e ∷ es) ≡ [] ∷ [] = sym (items_read (e ∷ es) small) ∙ ap items_of nothing in
       let first : item_text e ≡ [] = heads_same read in
-      let bad : None ≡ Some (decimal e.key, e.branch) = ap item_of (sym first) ∙ item_read e small.0 in
+      let bad : ◌≡◌ {A = Option Item} None (Some (decimal e.key, e.branch)) = ap item_of (sym first) ∙ item_read e small.0 in
       cc
 ]
 
@@ -151,5 +151,8 @@ labels_fields labels h =
 pub labels_line_read : (labels : Labels) (rest : List ℕ) → AreLabels labels.keys labels.entries → labels_at (lines_of (labels_before (Some labels) rest)) ≡ Ok (Some labels, lines_of rest)
 labels_line_read labels rest h =
     let fields = labels_fields labels h in
-    rw (lines_of-line (codes "labels" ∷ decimal labels.keys ∷ items_text labels.entries ∷ []) rest fields, fields_join (codes "labels") (decimal labels.keys ∷ items_text labels.entries ∷ []) fields)
-    (rw (whole_fields (codes "labels" ∷ decimal labels.keys ∷ items_text labels.entries ∷ []) fields, labels_read labels h) refl)
+    let back = fields_join (codes "labels") (decimal labels.keys ∷ items_text labels.entries ∷ []) fields in
+    let is : is_labels (fields_of (join_with_byte 32 (codes "labels" ∷ decimal labels.keys ∷ items_text labels.entries ∷ []))) ≡ true = ap is_labels back in
+    let here : whole_labels (codes "labels" ∷ decimal labels.keys ∷ items_text labels.entries ∷ []) ≡ Ok labels = rw (whole_fields (codes "labels" ∷ decimal labels.keys ∷ items_text labels.entries ∷ []) fields, labels_read labels h) refl in
+    let read : whole_labels (fields_of (join_with_byte 32 (codes "labels" ∷ decimal labels.keys ∷ items_text labels.entries ∷ []))) ≡ Ok labels = ap whole_labels back ∙ here in
+    rw (lines_of-line (codes "labels" ∷ decimal labels.keys ∷ items_text labels.entries ∷ []) rest fields, is, read) refl

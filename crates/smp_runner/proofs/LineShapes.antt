@@ -40,7 +40,7 @@ abbrev pub HasEvents : List (List ℕ) → Directive → Type 0
 HasEvents fields d = events_in fields ≡ events_of d
 
 -- two numbers, one after the other
-two_then : (command : ℕ → Command) (r s : Result ℕ Cause) → ((r >>= λ c. s >>= λ m. Ok (c, m)) >>= λ p. Ok (Start p.0 (command p.1))) ≡ (r >>= λ c. s >>= λ m. Ok (Start c (command m)))
+two_then : (command : ℕ → Command) (r s : Result ℕ Cause) → ◌>>=◌ {A = ℕ × ℕ} {B = Directive} {E = Cause} (r >>= λ c. s >>= λ m. Ok (c, m)) (λ p. Ok (Start p.0 (command p.1))) ≡ (r >>= λ c. s >>= λ m. Ok (Start c (command m)))
 two_then command (Err e) s = refl
 two_then command (Ok c) (Err e) = refl
 two_then command (Ok c) (Ok m) = refl

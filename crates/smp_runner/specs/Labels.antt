@@ -65,8 +65,8 @@ items_of text = if bytes_eq text (codes "-") then [] else parts_of 44 text
 abbrev pub entries_in : ℕ → List (List ℕ) → Result Labels Cause
 entries_in keys items =
     if list_all has_number items then
-      (if nat_lt MOST_SITES (length items) then Err Range
-      else (if list_all (is_below keys) items then Ok (record { keys = keys; entries = map entry_of items }) else Err Range))
+    (if nat_lt MOST_SITES (length items) then Err Range
+    else (if list_all (is_below keys) items then Ok (record { keys = keys; entries = map entry_of items }) else Err Range))
     else Err Number
 
 -- KEYS and the items: a wrong item is seen first

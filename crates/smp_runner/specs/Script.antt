@@ -76,7 +76,7 @@ abbrev pub labels_at : List Line → Result (Option Labels × List Line) Fault
 labels_at [] = Ok (None, [])
 labels_at (l ∷ ls) =
     if is_labels (fields_of l.text) then
-      (if l.ended then (at_line 3 (whole_labels (fields_of l.text)) >>= λ labels. Ok (Some labels, ls)) else Err (3, Cut))
+    (if l.ended then (at_line 3 (whole_labels (fields_of l.text)) >>= λ labels. Ok (Some labels, ls)) else Err (3, Cut))
     else Ok (None, l ∷ ls)
 
 -- the number of the first line that asks for something
