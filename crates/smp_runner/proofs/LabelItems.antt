@@ -1,17 +1,17 @@
 -- The items of a labels line.
-use Rattle.std.proofs.Common.{◌≡◌, ℕ, ◌<◌, ◌≤◌, Bool, true, false, nat_lt, nat_le, arith, rules, All, ◌&&◌, List, [], ◌∷◌, map, Option, Some, None, Ok, Err, length, codes, refl, sym, ap, ◌∙◌, cond}
+use Rattle.std.proofs.Common.{◌≡◌, ℕ, ◌<◌, ◌≤◌, Bool, true, false, nat_lt, nat_le, arith, rules, All, ◌&&◌, List, [], ◌∷◌, map, Option, Some, None, Ok, Err, length, codes, refl, sym, ap, ◌∙◌}
 use Rattle.std.specs.List.{join_with_byte, list_all}
 use Rattle.std.specs.Str.{bytes_eq}
 use Rattle.std.proofs.lemmas.List.{length-map}
 use Rattle.std.proofs.lemmas.Bool.{and_parts}
 use Rattle.std.proofs.lemmas.Bool.Decides.{nat_tests}
-use Rattle.smp_labels.specs.Labels.{AreLabels, Labels}
+use Rattle.smp_labels.specs.Labels.{AreLabels}
 use Rattle.smp_labels.specs.declared.words.TheConstants.{MOST_KEYS, MOST_SITES}
 use Rattle.smp_mask.specs.declared.error.Cause.TheVariants.{Range}
 use Rattle.smp_runner.specs.Lines.{parts_of}
 use Rattle.smp_runner.specs.Numbers.{is_decimal, value_after}
 use Rattle.smp_runner.specs.Labels.{Item, entries_in, entry_in, has_number, entry_of, is_among, is_below, item_in, item_of}
-use Rattle.smp_runner.proofs.Splits.{First, first_of, join_parts}
+use Rattle.smp_runner.proofs.Splits.{first_of, join_parts}
 
 pub all_map : {X Y : Type 0} (p : Y → Bool) (f : X → Y) (xs : List X) → list_all p (map f xs) ≡ list_all (λ x. p (f x)) xs
 all_map p f [] = refl

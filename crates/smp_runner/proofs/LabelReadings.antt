@@ -1,5 +1,5 @@
 -- What a labels line is that is read.
-use Rattle.std.proofs.Common.{◌≡◌, ℕ, ◌<◌, ◌≤◌, Bool, true, false, nat_lt, nat_le, ◌==◌, ◌&&◌, List, [], ◌∷◌, ◌++◌, map, length, Option, Some, None, Result, Ok, Err, cond, codes, refl, sym, ap, ◌∙◌, inl, inr, arith, subst}
+use Rattle.std.proofs.Common.{◌≡◌, ℕ, ◌<◌, ◌≤◌, true, false, nat_lt, nat_le, ◌&&◌, List, [], ◌∷◌, ◌++◌, map, length, Option, Some, None, Result, Ok, Err, cond, codes, refl, sym, ap, ◌∙◌, inl, inr, arith, subst}
 use Rattle.std.specs.Fmt.{decimal}
 use Rattle.std.specs.List.{join_with_byte, list_all}
 use Rattle.std.specs.Str.{bytes_eq}
@@ -14,14 +14,14 @@ use Rattle.smp_runner.specs.Lines.{Line, fields_of, lines_of, parts_of}
 use Rattle.smp_runner.specs.Numbers.{is_decimal, number_in, value_after}
 use Rattle.smp_runner.specs.Faults.{Fault, ◌>>=◌, at_line}
 use Rattle.smp_runner.specs.Commands.{are_whole}
-use Rattle.smp_runner.specs.Labels.{Item, entries_in, entry_in, entry_of, has_number, is_among, is_below, is_item, is_labels, item_in, item_of, items_of, labels_in, labels_of, whole_labels}
+use Rattle.smp_runner.specs.Labels.{entries_in, entry_in, entry_of, has_number, is_among, is_below, is_item, is_labels, item_in, items_of, labels_in, labels_of, whole_labels}
 use Rattle.smp_runner.specs.Fields.{word32}
 use Rattle.smp_runner.specs.Script.{labels_at}
 use Rattle.smp_runner.specs.Spelling.{LabelsFit, item_text, items_text, labels_before, line_before}
 use Rattle.smp_runner.proofs.Decimals.{number_in-ok}
 use Rattle.smp_runner.proofs.ReadParts.{both, guarded, placed_ok, same_word}
 use Rattle.smp_runner.proofs.LabelItems.{make_labels}
-use Rattle.smp_runner.proofs.Splits.{Begins, First, first_of, join_parts, line_back}
+use Rattle.smp_runner.proofs.Splits.{first_of, join_parts, line_back}
 
 -- a key that is below a number is its decimal
 key_back : (keys : ℕ) (key : List ℕ) → keys ≤ MOST_KEYS → (is_decimal key && nat_lt (value_after 0 key) keys) ≡ true → (word32 key ≡ Ok (value_after 0 key)) × (key ≡ decimal (value_after 0 key))

@@ -1,5 +1,5 @@
 -- The labels line, as it is written.
-use Rattle.std.proofs.Common.{◌≡◌, ℕ, suc, ◌+◌, ◌<◌, ◌≤◌, ◌^◌, Bool, true, false, not, nat_lt, ◌==◌, ◌&&◌, List, [], ◌∷◌, ◌++◌, map, length, All, Option, Some, None, Result, Ok, Err, codes, refl, sym, ap, ◌∙◌, inl, inr, arith, rules, subst}
+use Rattle.std.proofs.Common.{◌≡◌, ℕ, suc, ◌<◌, ◌≤◌, true, false, nat_lt, ◌==◌, List, [], ◌∷◌, map, length, All, Option, Some, None, Ok, codes, refl, sym, ap, ◌∙◌, inl, inr, arith}
 use Rattle.std.specs.Fmt.{decimal}
 use Rattle.std.specs.List.{AllByRecursion, join_with_byte, list_all}
 use Rattle.std.specs.Str.{bytes_eq}
@@ -9,14 +9,12 @@ use Rattle.std.proofs.lemmas.Bool.Decides.{nat_tests}
 use Rattle.smp_labels.specs.Labels.{AreLabels, Labels}
 use Rattle.smp_labels.specs.declared.entries.Entry.{Entry}
 use Rattle.smp_labels.specs.declared.words.TheConstants.{MOST_KEYS, MOST_SITES}
-use Rattle.smp_runner.specs.Lines.{fields_of, lines_of, parts_of}
-use Rattle.smp_runner.specs.Numbers.{is_decimal, is_digit, value_after}
-use Rattle.smp_runner.specs.Faults.{◌>>=◌, at_line}
+use Rattle.smp_runner.specs.Lines.{fields_of, lines_of}
+use Rattle.smp_runner.specs.Numbers.{is_digit, value_after}
 use Rattle.smp_runner.specs.Fields.{word32}
-use Rattle.smp_runner.specs.Commands.{are_whole}
 use Rattle.smp_runner.specs.Labels.{Item, entry_of, has_number, is_below, is_item, is_labels, item_of, items_of, labels_in, whole_labels}
 use Rattle.smp_runner.specs.Script.{labels_at}
-use Rattle.smp_runner.specs.Spelling.{is_field, item_text, items_text, labels_before, lacks, line_before}
+use Rattle.smp_runner.specs.Spelling.{is_field, item_text, items_text, labels_before, lacks}
 use Rattle.smp_runner.proofs.Decimals.{decimal_lacks, is_decimal-decimal, is_field-decimal, number_in-decimal, value_of_decimal}
 use Rattle.smp_runner.proofs.Joins.{fields_join, lacks-append, lines_of-line, parts_front, parts_join, whole_fields}
 use Rattle.smp_runner.proofs.ReadParts.{same_word}

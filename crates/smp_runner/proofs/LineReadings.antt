@@ -1,5 +1,5 @@
 -- What the fields of a line are that is read.
-use Rattle.std.proofs.Common.{◌≡◌, ℕ, zero, suc, ℤ, pos, negsuc, ◌<◌, ◌≤◌, ◌^◌, Bool, true, false, ◌==◌, List, [], ◌∷◌, length, Result, Ok, Err, codes, refl, sym, ap, ◌∙◌, inl, inr, arith, subst}
+use Rattle.std.proofs.Common.{◌≡◌, ℕ, zero, suc, ℤ, pos, negsuc, ◌<◌, ◌≤◌, ◌^◌, true, false, ◌==◌, List, [], ◌∷◌, length, Result, Ok, codes, refl, sym, ap, ◌∙◌, inl, inr, arith, subst}
 use Rattle.std.specs.Fmt.{decimal, signed_decimal}
 use Rattle.std.specs.List.{join_with_byte, list_all}
 use Rattle.std.specs.Str.{bytes_eq}
@@ -20,7 +20,7 @@ use Rattle.smp_runner.specs.Numbers.{minus, number_in, signed_of}
 use Rattle.smp_runner.specs.Faults.{◌>>=◌}
 use Rattle.smp_runner.specs.Fields.{class_of, kind_of, mask_of, word16, word32, word64}
 use Rattle.smp_runner.specs.Commands.{are_whole, bare_of, begins_of, directive_of, line_directive, posts_of, show_of, start_answer, start_answered, start_bare, start_begin, start_number, start_of, start_one, start_post, start_short, step_of, steps_of, two_numbers}
-use Rattle.smp_runner.specs.Spelling.{CommandFits, DirectiveFits, IsAnswer, IsMaskText, Masks, SpellLine, SpellMasks, class_text, command_words, directive_words, is_field, kind_text, lacks}
+use Rattle.smp_runner.specs.Spelling.{CommandFits, DirectiveFits, IsAnswer, Masks, SpellLine, SpellMasks, class_text, command_words, directive_words, is_field, kind_text, lacks}
 use Rattle.smp_runner.proofs.Decimals.{number_in-ok}
 use Rattle.smp_runner.proofs.ReadParts.{both, guarded, read32, same_word}
 use Rattle.smp_runner.proofs.Splits.{join_parts, parts_lack, parts_lack_marks}

@@ -4,7 +4,7 @@ use Rattle.std.specs.Fmt.{decimal}
 use Rattle.std.specs.Str.{bytes_eq}
 use Rattle.std.proofs.lemmas.Slice.Eq.{bytes_eq-Decides}
 use Rattle.smp_mask.specs.declared.error.Cause.{Cause}
-use Rattle.smp_runner.specs.Faults.{Fault, ◌>>=◌, at_line}
+use Rattle.smp_runner.specs.Faults.{◌>>=◌, at_line}
 use Rattle.smp_runner.specs.Fields.{word32}
 use Rattle.smp_runner.proofs.Decimals.{number_in-ok}
 

@@ -1,5 +1,5 @@
 -- What a text is that reads as a script.
-use Rattle.std.proofs.Common.{◌≡◌, ℕ, ◌+◌, ◌<◌, ◌≤◌, ◌&&◌, true, false, nat_lt, List, [], ◌∷◌, ◌++◌, map, length, sum_by, Option, Some, None, Result, Ok, Err, codes, cond, refl, sym, ap, ◌∙◌, inl, inr, arith, subst}
+use Rattle.std.proofs.Common.{◌≡◌, ℕ, ◌+◌, ◌≤◌, ◌&&◌, true, nat_lt, List, [], ◌∷◌, ◌++◌, map, length, sum_by, Option, Some, None, Result, Ok, Err, codes, cond, refl, sym, ap, ◌∙◌, inl, inr, arith, subst}
 use Rattle.std.specs.Fmt.{decimal}
 use Rattle.std.specs.List.{AllByRecursion, join_with_byte, list_all}
 use Rattle.std.specs.Str.{bytes_eq}
@@ -16,7 +16,7 @@ use Rattle.smp_runner.specs.Faults.{Fault, ◌>>=◌, at_line}
 use Rattle.smp_runner.specs.Fields.{mask_of}
 use Rattle.smp_runner.specs.Commands.{are_whole, line_directive}
 use Rattle.smp_runner.specs.Script.{Script, are_online, cpus_of, directives_of, events_of, first_line, labels_at, line_at, script_of, table_of, title_of, whole_cpus}
-use Rattle.smp_runner.specs.Spelling.{DirectiveFits, IsMaskText, IsSpelling, Masks, SpellLine, directive_words, is_field, labels_before, line_before, spelled_lines}
+use Rattle.smp_runner.specs.Spelling.{DirectiveFits, IsSpelling, Masks, SpellLine, directive_words, is_field, labels_before, line_before, spelled_lines}
 use Rattle.smp_runner.proofs.Decimals.{number_in-ok}
 use Rattle.smp_runner.proofs.ReadParts.{both, guarded, placed_ok, same_word}
 use Rattle.smp_runner.proofs.LineReadings.{line_fields, line_ok, one_word}

@@ -1,10 +1,9 @@
 -- Numbers that may have a minus sign, and what is wrong with their fields.
-use Rattle.std.proofs.Common.{◌≡◌, ℕ, zero, suc, ℤ, pos, negsuc, ◌<◌, ◌≤◌, true, false, not, ◌&&◌, ◌==◌, nat_lt, nat_le, List, [], ◌∷◌, Result, Ok, Err, refl, sym, ap, ◌∙◌, inl, inr, arith}
+use Rattle.std.proofs.Common.{◌≡◌, ℕ, zero, suc, pos, negsuc, true, false, ◌==◌, nat_lt, nat_le, List, [], ◌∷◌, Ok, Err, refl, sym, ◌∙◌, inl, inr, arith}
 use Rattle.std.proofs.lemmas.Bool.{cases_Bool}
 use Rattle.std.proofs.lemmas.Bool.Decides.{nat_tests}
 use Rattle.smp_mask.specs.declared.error.Cause.{Cause}
 use Rattle.smp_mask.specs.declared.error.Cause.TheVariants.{Number, Range}
-use Rattle.smp_runner.specs.Faults.{◌>>=◌}
 use Rattle.smp_runner.specs.Numbers.{is_decimal, minus, negative_of, number_in, signed_of}
 use Rattle.smp_runner.specs.FieldFaults.{SignedFault, is_far, is_signed, value_of}
 use Rattle.smp_runner.proofs.FieldFaults.{Judged, fine, faulty}

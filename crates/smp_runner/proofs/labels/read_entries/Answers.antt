@@ -1,4 +1,4 @@
-use Rattle.std.proofs.Common.{◌≡◌, ◌∙◌, sym, ap, map, take, Ok, true, false, arith, subst}
+use Rattle.std.proofs.Common.{◌≡◌, ◌∙◌, sym, ap, map, Ok, true, false, arith, subst}
 use Rattle.std.proofs.lemmas.List.{take_all}
 use Rattle.smp_labels.specs.Labels.{AreLabels}
 use Rattle.smp_runner.specs.Labels.{entry_of}
