@@ -1,5 +1,5 @@
 -- The canonical text of a script.
-use Rattle.std.proofs.Common.{◌≡◌, ℕ, ◌+◌, Bool, true, false, ◌==◌, nat_lt, cond, List, [], ◌∷◌, length, Option, Some, None, Result, Ok, codes, refl, sym, ap, ◌∙◌, inl, inr, arith}
+use Rattle.std.proofs.Common.{◌≡◌, ℕ, map, ◌<◌, ◌^◌, ◌+◌, Bool, true, false, ◌==◌, nat_lt, cond, List, [], ◌∷◌, length, Option, Some, None, Result, Ok, codes, refl, sym, ap, ◌∙◌, inl, inr, arith}
 use Rattle.std.specs.Str.{bytes_eq}
 use Rattle.std.proofs.lemmas.Bool.{cases_Bool}
 use Rattle.std.proofs.lemmas.Bool.Decides.{nat_tests}
@@ -12,7 +12,11 @@ use Rattle.smp_mask.specs.declared.error.SmpError.{SmpError}
 use Rattle.smp_mask.proofs.Canonical.{reads_back}
 use Rattle.smp_mask.proofs.Members.{none_below}
 use Rattle.smp_runner.specs.Script.{Script, are_online, script_of}
-use Rattle.smp_runner.specs.Spelling.{IsLawful, canonical_text, lacks}
+use Rattle.smp_runner.specs.Spelling.{IsLawful, IsMaskText, LineHasSets, SpellLine, canonical_lines, canonical_text, lacks, line_masks, mask_text}
+use Rattle.smp_runner.specs.declared.directive.Directive.{Directive}
+use Rattle.smp_runner.specs.declared.directive.Directive.TheVariants.{Start, Step, Show}
+use Rattle.smp_core.specs.declared.command.Command.TheVariants.{Post, Send, Done, Handle, Gate, Ungate, Begin, Enter, Advance, RunOne, Finish, Poll, Key, Site}
+use Rattle.std.specs.List.{AllByRecursion}
 use Rattle.smp_runner.proofs.Writing.{spelling_is_read}
 
 -- a byte that no CPU list has
@@ -74,23 +78,65 @@ some_online nr mask h z =
     let bad : nat_lt 0 (length {A = ℕ} []) ≡ true = ap (λ xs. nat_lt 0 (length xs)) (sym none) ∙ long in
     cc
 
+-- the canonical text of a mask is one of its texts
+list_is_text : (m : ℕ) → m < 2 ^ NR_CPUS → (m ≡ 0 → ⊥) → IsMaskText (list_text m) m
+list_is_text m set some =
+    let read : mask_of_text NR_CPUS (list_text m) ≡ Ok m = reads_back NR_CPUS (omega arith) m set in
+    let spaces : lacks 32 (list_text m) ≡ true = reads_lack NR_CPUS 32 (record { no_digit = refl; no_hyphen = refl; no_comma = refl }) _ 0 (list_text m) m read in
+    let feeds : lacks 10 (list_text m) ≡ true = reads_lack NR_CPUS 10 (record { no_digit = refl; no_hyphen = refl; no_comma = refl }) _ 0 (list_text m) m read in
+    let long : (length (list_text m) == 0) ≡ false = some_text (list_text m) m read some in
+    record { field = rw (long, spaces, feeds) refl; reads = rw (no_dash (list_text m) m read, read) refl }
+
+mask_is_text : (m : ℕ) → m < 2 ^ NR_CPUS → IsMaskText (mask_text m) m
+mask_is_text m set = elim (cases_Bool (m == 0)) [
+  | inl none ↦
+      let zero_ : m ≡ 0 = grind (arith, nat_tests, none) in
+      rw zero_ (record { field = refl; reads = refl })
+  | inr some ↦
+      let more : m ≡ 0 → ⊥ = grind (arith, nat_tests, some) in
+      rw some (list_is_text m set more)
+]
+
+line_is_spelled : (d : Directive) → LineHasSets d → SpellLine (line_masks d, d)
+line_is_spelled (Start cpu (Begin work)) h = (mask_is_text work.mask h.0, mask_is_text work.active h.1)
+line_is_spelled (Start cpu (Post number dst class func info tries)) h = tt
+line_is_spelled (Start cpu (Send dst)) h = tt
+line_is_spelled (Start cpu (Done number)) h = tt
+line_is_spelled (Start cpu Handle) h = tt
+line_is_spelled (Start cpu Gate) h = tt
+line_is_spelled (Start cpu Ungate) h = tt
+line_is_spelled (Start cpu (Enter slot)) h = tt
+line_is_spelled (Start cpu (Advance answer)) h = tt
+line_is_spelled (Start cpu (RunOne answer)) h = tt
+line_is_spelled (Start cpu Finish) h = tt
+line_is_spelled (Start cpu Poll) h = tt
+line_is_spelled (Start cpu (Key key)) h = tt
+line_is_spelled (Start cpu (Site site)) h = tt
+line_is_spelled (Step cpu count) h = tt
+line_is_spelled Show h = tt
+
+lines_are_spelled : (ds : List Directive) → AllByRecursion LineHasSets ds → AllByRecursion SpellLine (canonical_lines ds)
+lines_are_spelled [] h = tt
+lines_are_spelled (d ∷ ds) h = (line_is_spelled d h.0, lines_are_spelled ds h.1)
+
+lines_ask : (ds : List Directive) → map (λ l. l.1) (canonical_lines ds) ≡ ds
+lines_ask [] = refl
+lines_ask (d ∷ ds) = ap (λ xs. d ∷ xs) (lines_ask ds)
+
 -- the canonical text of a script is read as it
 pub canonical_is_read : (script : Script) → IsLawful script → script_of (canonical_text script) ≡ Ok script
 canonical_is_read script s =
-    let mask = list_text script.online in
-    let read : mask_of_text NR_CPUS (list_text script.online) ≡ Ok script.online = reads_back NR_CPUS (omega arith) script.online s.is_set in
-    let spaces : lacks 32 (list_text script.online) ≡ true = reads_lack NR_CPUS 32 (record { no_digit = refl; no_hyphen = refl; no_comma = refl }) _ 0 (list_text script.online) script.online read in
-    let feeds : lacks 10 (list_text script.online) ≡ true = reads_lack NR_CPUS 10 (record { no_digit = refl; no_hyphen = refl; no_comma = refl }) _ 0 (list_text script.online) script.online read in
-    let some : (length (list_text script.online) == 0) ≡ false = some_text (list_text script.online) script.online read (some_online script.nr script.online s.online) in
-    spelling_is_read (list_text script.online) script (canonical_text script) (record {
+    spelling_is_read (list_text script.online) (canonical_lines script.directives) script (canonical_text script) (record {
       text_is = refl;
-      mask_is = rw (no_dash (list_text script.online) script.online read, read) refl;
-      field = rw (some, spaces, feeds) refl;
+      mask_is = list_is_text script.online s.is_set (some_online script.nr script.online s.online);
+      lines_are = lines_ask script.directives;
+      masks_are = lines_are_spelled script.directives s.are_sets;
       some = s.some;
       within = s.within;
       online = s.online;
+      labels = s.labels;
       fit = s.fit;
       bytes = s.bytes;
-      lines = s.lines;
+      count = s.count;
       events = s.events;
     })

@@ -46,6 +46,9 @@ is_decimal-decimal n small = decimal_from (decimal n) (digits_decimal own n smal
   | inr none ↦ ap length (decimal_digit n (omega arith))
 ])
 
+pub value_of_decimal : (n : ℕ) → n < 2 ^ 64 → value_after 0 (decimal n) ≡ n
+value_of_decimal n small = digits_value-decimal own n small
+
 -- a number that is written is read
 pub number_in-decimal : (low high n : ℕ) → low ≤ n → n ≤ high → n < 2 ^ 64 → number_in low high (decimal n) ≡ Ok n
 number_in-decimal low high n above below small =
@@ -60,6 +63,10 @@ lacks_digits c (d ∷ ds) h a =
     let rest : AreDigits ds = grind (arith, a) in
     let other : (d == c) ≡ false = grind (arith, nat_tests, a, h) in
     rw (other, lacks_digits c ds h rest) refl
+
+-- it has no byte that is no digit
+pub decimal_lacks : (c n : ℕ) → is_digit c ≡ false → n < 2 ^ 64 → lacks c (decimal n) ≡ true
+decimal_lacks c n h small = lacks_digits c (decimal n) h (digits_decimal own n small)
 
 -- it is a field
 pub is_field-decimal : (n : ℕ) → n < 2 ^ 64 → is_field (decimal n) ≡ true

@@ -78,3 +78,20 @@ reads_number shape fields holds i low high then wants clean more = elim (number_
   | is_wrong cause e f ↦ rw e (record { place = i; form = number low high; wants = wants; wrong = f; before = clean })
   | is_read e right ↦ rw e (more (passes shape fields i (number low high) wants right clean))
 ]
+
+-- a field is read, or what is wrong with it
+pub data Judged {A : Type 0} (Wrong : Cause → Type 0) (read : Result A Cause) : Type 0 where
+  fine : (x : A) → read ≡ Ok x → ((cause : Cause) → Wrong cause → ⊥) → Judged Wrong read
+  faulty : (cause : Cause) → read ≡ Err cause → Wrong cause → Judged Wrong read
+
+-- a field of this form, and what is read after it
+pub reads_field : {A B : Type 0} (shape : List Form) (fields : List (List ℕ)) (holds : B → Type 0) (i : ℕ) (form : Form) (read : Result A Cause) (then : A → Result B Cause) → slice_get shape i ≡ Some form → Clean shape fields i
+    → Judged (FieldFault fields i form) read → ((x : A) → Clean shape fields (i + 1) → Tells shape fields holds (then x)) → Tells shape fields holds (read >>= then)
+reads_field shape fields holds i form read then wants clean (faulty cause e f) more = rw e (record { place = i; form = form; wants = wants; wrong = f; before = clean })
+reads_field shape fields holds i form read then wants clean (fine x e right) more = rw e (more x (passes shape fields i form wants right clean))
+
+-- the last field
+pub reads_last : {A : Type 0} (shape : List Form) (fields : List (List ℕ)) (holds : A → Type 0) (i : ℕ) (form : Form) (read : Result A Cause) → slice_get shape i ≡ Some form → Clean shape fields i → length shape ≡ i + 1
+    → ((x : A) → holds x) → Judged (FieldFault fields i form) read → Tells shape fields holds read
+reads_last shape fields holds i form read wants clean all hold (faulty cause e f) = rw e (record { place = i; form = form; wants = wants; wrong = f; before = clean })
+reads_last shape fields holds i form read wants clean all hold (fine x e right) = rw e (rw all (passes shape fields i form wants right clean), hold x)

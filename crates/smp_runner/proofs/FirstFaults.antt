@@ -1,5 +1,5 @@
 -- The first fault of a text, line by line.
-use Rattle.std.proofs.Common.{◌≡◌, ℕ, zero, suc, ◌+◌, ◌<◌, ◌≤◌, true, false, nat_lt, ◌==◌, List, [], ◌∷◌, length, drop, get_or, Some, Result, Ok, Err, cond, refl, ap, ◌∙◌, inl, inr, arith, subst, add-one}
+use Rattle.std.proofs.Common.{◌≡◌, ℕ, zero, suc, ◌+◌, ◌<◌, ◌≤◌, true, false, nat_lt, ◌==◌, List, [], ◌∷◌, length, drop, get_or, Option, Some, None, Result, Ok, Err, cond, refl, ap, ◌∙◌, inl, inr, arith, subst, add-one}
 use Rattle.std.specs.Prelude.{slice_get}
 use Rattle.std.proofs.lemmas.Bool.{cases_Bool, cases_lt}
 use Rattle.std.proofs.lemmas.Bool.Decides.{nat_tests}
@@ -11,13 +11,16 @@ use Rattle.smp_runner.specs.declared.directive.Directive.{Directive}
 use Rattle.smp_runner.specs.Lines.{Line, fields_of, lines_of}
 use Rattle.smp_runner.specs.Faults.{Fault, ◌>>=◌, at_line}
 use Rattle.smp_runner.specs.Commands.{line_directive}
-use Rattle.smp_runner.specs.Script.{directives_of, events_of, line_at, script_of, title_of, whole_cpus}
-use Rattle.smp_runner.specs.Shapes.{shapes_of}
+use Rattle.smp_runner.specs.Script.{directives_of, events_of, first_line, labels_at, line_at, script_of, title_of, whole_cpus}
+use Rattle.smp_labels.specs.Labels.{Labels}
+use Rattle.smp_runner.specs.Labels.{is_labels, whole_labels}
+use Rattle.smp_runner.specs.Shapes.{requests, shapes_of}
 use Rattle.smp_runner.specs.FirstFault.{IsFault, IsFirstFault, LineFault, past_bytes, no_line, in_line, events_in, events_to}
-use Rattle.smp_runner.proofs.LineShapes.{TellsLine, HasEvents, line_told, requests, title_told}
+use Rattle.smp_runner.proofs.LineShapes.{TellsLine, HasEvents, line_told, title_told}
+use Rattle.smp_runner.proofs.LabelFields.{labels_told, third_told}
 use Rattle.smp_runner.proofs.OnlineFaults.{cpus_told}
 use Rattle.smp_runner.proofs.LineFaults.{FirstOf, end_first, events_first, lines_first, read_first, read_right, right_line}
-use Rattle.smp_runner.proofs.Readings.{after_first, after_second, after_table, after_title}
+use Rattle.smp_runner.proofs.Readings.{after_first, after_labels, after_second, after_table, after_title}
 
 -- no line before line n has a fault
 abbrev NoneBefore : List ℕ → ℕ → Type 0
@@ -99,15 +102,30 @@ tells_then : {A B : Type 0} (text : List ℕ) (r : Result A Fault) (f : A → B)
 tells_then text (Ok x) f t = t
 tells_then text (Err e) f t = t
 
-later_shapes : (n : ℕ) → 2 ≤ n → shapes_of (n + 1) ≡ requests
+later_shapes : (n : ℕ) → 3 ≤ n → shapes_of (n + 1) ≡ requests
 later_shapes n h =
     let one : (n + 1 == 1) ≡ false = grind (arith, nat_tests) in
     let two : (n + 1 == 2) ≡ false = grind (arith, nat_tests) in
-    rw (one, two) refl
+    let three : (n + 1 == 3) ≡ false = grind (arith, nat_tests) in
+    rw (one, two, three) refl
 
-line_shapes : (n : ℕ) (line : Line) → 2 ≤ n → TellsLine (shapes_of (n + 1)) (fields_of line.text) (HasEvents (fields_of line.text)) (line_directive line.text)
+-- line 3 is no labels line
+abbrev NoLabels : ℕ → List Line → Type 0
+NoLabels n [] = Unit {0}
+NoLabels n (l ∷ ls) = n ≡ 2 → is_labels (fields_of l.text) ≡ false
+
+past_labels : (n : ℕ) (ls : List Line) → 3 ≤ n → NoLabels n ls
+past_labels n [] h = tt
+past_labels n (l ∷ ls) h = λ e. absurd (omega (arith, e))
+
+line_shapes : (n : ℕ) (line : Line) → 2 ≤ n → (n ≡ 2 → is_labels (fields_of line.text) ≡ false) → TellsLine (shapes_of (n + 1)) (fields_of line.text) (HasEvents (fields_of line.text)) (line_directive line.text)
 unfolding line_directive
-line_shapes n line h = rw (later_shapes n h) (line_told (fields_of line.text))
+line_shapes n line h unlabelled = elim (cases_lt 2 n) [
+  | inl later ↦ rw (later_shapes n (omega arith)) (line_told (fields_of line.text))
+  | inr third ↦
+      let here : n ≡ 2 = omega arith in
+      rw here (third_told (fields_of line.text) (unlabelled here))
+]
 
 -- what follows a line that is read
 abbrev after_line : ℕ → ℕ → List Line → Directive → Result (List Directive) Fault
@@ -115,12 +133,12 @@ after_line n events ls d =
     cond (nat_lt 100000 (events + events_of d)) (Err (n + 1, TooLong)) (directives_of (n + 1 + 1) (events + events_of d) ls >>= λ ds. Ok (d ∷ ds))
 
 -- one line from the third on, and then the rest
-line_tells : (text : List ℕ) (l : Line) (ls : List Line) (n : ℕ) → slice_get (lines_of text) n ≡ Some l → 2 ≤ n → NoneBefore text (n + 1) → n + 1 ≤ 2000 → l.ended ≡ true
+line_tells : (text : List ℕ) (l : Line) (ls : List Line) (n : ℕ) → slice_get (lines_of text) n ≡ Some l → 2 ≤ n → (n ≡ 2 → is_labels (fields_of l.text) ≡ false) → NoneBefore text (n + 1) → n + 1 ≤ 2000 → l.ended ≡ true
     → (NoneBefore text (n + 1 + 1) → TellsText text (directives_of (n + 1 + 1) (events_to text (n + 1)) ls)) → (r : Result Directive Cause) → line_directive l.text ≡ r → TellsText text (at_line (n + 1) r >>= after_line n (events_to text n) ls)
-line_tells text l ls n here h none few ended rest (Err cause) e =
-    line_first text n l cause here none (read_first (n + 1) (events_to text (n + 1)) l (HasEvents (fields_of l.text)) (line_directive l.text) cause few ended (line_shapes n l h) e)
-line_tells text l ls n here h none few ended rest (Ok d) e =
-    let right = read_right (n + 1) l (HasEvents (fields_of l.text)) (line_directive l.text) d (line_shapes n l h) e in
+line_tells text l ls n here h unlabelled none few ended rest (Err cause) e =
+    line_first text n l cause here none (read_first (n + 1) (events_to text (n + 1)) l (HasEvents (fields_of l.text)) (line_directive l.text) cause few ended (line_shapes n l h unlabelled) e)
+line_tells text l ls n here h unlabelled none few ended rest (Ok d) e =
+    let right = read_right (n + 1) l (HasEvents (fields_of l.text)) (line_directive l.text) d (line_shapes n l h unlabelled) e in
     let more : events_to text (n + 1) ≡ events_to text n + events_of d = events_more text n l here ∙ ap (λ k. events_to text n + k) right.holding in
     elim (cases_Bool (nat_lt 100000 (events_to text n + events_of d))) [
       | inl past ↦ rw past (line_first text n l TooLong here none (events_first (n + 1) (events_to text (n + 1)) l (HasEvents (fields_of l.text)) d few ended right (grind (arith, nat_tests, past, more))))
@@ -131,10 +149,10 @@ line_tells text l ls n here h none few ended rest (Ok d) e =
     ]
 
 -- the lines from the third on
-lines_tell : (text : List ℕ) (ls : List Line) (n : ℕ) → drop n (lines_of text) ≡ ls → 2 ≤ n → NoneBefore text (n + 1) → TellsText text (directives_of (n + 1) (events_to text n) ls)
+lines_tell : (text : List ℕ) (ls : List Line) (n : ℕ) → drop n (lines_of text) ≡ ls → 2 ≤ n → NoLabels n ls → NoneBefore text (n + 1) → TellsText text (directives_of (n + 1) (events_to text n) ls)
 unfolding directives_of
-lines_tell text [] n e h none = ends_right text n (none_left (lines_of text) n e) h none
-lines_tell text (l ∷ ls) n e h none =
+lines_tell text [] n e h unlabelled none = ends_right text n (none_left (lines_of text) n e) h none
+lines_tell text (l ∷ ls) n e h unlabelled none =
     let left = left_of (lines_of text) n l ls e in
     elim (cases_Bool (nat_lt 2000 (n + 1))) [
       | inl many ↦ rw many (line_first text n l TooLong left.here none (lines_first (n + 1) (events_to text (n + 1)) l (grind (arith, nat_tests, many))))
@@ -142,9 +160,40 @@ lines_tell text (l ∷ ls) n e h none =
           let few : n + 1 ≤ 2000 = grind (arith, nat_tests, fits) in
           elim (cases_Bool l.ended) [
             | inr open_end ↦ rw (fits, open_end) (line_first text n l Cut left.here none (end_first (n + 1) (events_to text (n + 1)) l few open_end))
-            | inl ended ↦ rw (fits, ended) (line_tells text l ls n left.here h none few ended (lines_tell text ls (n + 1) left.next (omega arith)) (line_directive l.text) refl)
+            | inl ended ↦ rw (fits, ended) (line_tells text l ls n left.here h unlabelled none few ended (lines_tell text ls (n + 1) left.next (omega arith) (past_labels (n + 1) ls (omega arith))) (line_directive l.text) refl)
           ]
     ]
+
+-- the lines after the labels, and the script that they make
+script_tells_from : (text : List ℕ) (table : ℕ × ℕ) (third : Option Labels × List Line) (n : ℕ) → first_line third.0 ≡ n + 1 → drop n (lines_of text) ≡ third.1 → 2 ≤ n → NoLabels n third.1 → NoneBefore text (n + 1) → events_to text n ≡ 0
+    → TellsText text (after_labels table third)
+script_tells_from text table third n first e h unlabelled none no_events =
+    let body = lines_tell text third.1 n e h unlabelled none in
+    let there : TellsText text (directives_of (first_line third.0) 0 third.1) = rw first (subst (λ k. TellsText text (directives_of (n + 1) k third.1)) no_events body) in
+    tells_then text (directives_of (first_line third.0) 0 third.1) (λ ds. record { nr = table.0; online = table.1; labels = third.0; directives = ds }) there
+
+-- the labels line, and then the rest
+labels_line_tells : (text : List ℕ) (table : ℕ × ℕ) (l : Line) (ls : List Line) → drop 2 (lines_of text) ≡ l ∷ ls → NoneBefore text 3 → events_to text 2 ≡ 0 → is_labels (fields_of l.text) ≡ true → l.ended ≡ true
+    → (r : Result Labels Cause) → whole_labels (fields_of l.text) ≡ r → TellsText text ((at_line 3 r >>= λ labels. Ok (Some labels, ls)) >>= after_labels table)
+labels_line_tells text table l ls e none no_events is ended (Err cause) read =
+    let left = left_of (lines_of text) 2 l ls e in
+    line_first text 2 l cause left.here none (read_first 3 (events_to text 3) l (λ m. events_in (fields_of l.text) ≡ 0) (whole_labels (fields_of l.text)) cause (omega arith) ended (labels_told (fields_of l.text) is) read)
+labels_line_tells text table l ls e none no_events is ended (Ok labels) read =
+    let left = left_of (lines_of text) 2 l ls e in
+    let right = read_right 3 l (λ m. events_in (fields_of l.text) ≡ 0) (whole_labels (fields_of l.text)) labels (labels_told (fields_of l.text) is) read in
+    let more : events_to text 3 ≡ 0 = omega (arith, events_more text 2 l left.here, right.holding, no_events) in
+    script_tells_from text table (Some labels, ls) 3 refl left.next (omega arith) (past_labels 3 ls (omega arith))
+    (line_right text 2 l left.here none (right_line 3 (events_to text 3) l (λ m. events_in (fields_of l.text) ≡ 0) labels (omega arith) ended right (omega (arith, more)))) more
+
+third_tells : (text : List ℕ) (table : ℕ × ℕ) (ls : List Line) → drop 2 (lines_of text) ≡ ls → NoneBefore text 3 → events_to text 2 ≡ 0 → TellsText text (labels_at ls >>= after_labels table)
+third_tells text table [] e none no_events = script_tells_from text table (None, []) 2 refl e (omega arith) tt none no_events
+third_tells text table (l ∷ ls) e none no_events = elim (cases_Bool (is_labels (fields_of l.text))) [
+  | inr other ↦ rw other (script_tells_from text table (None, l ∷ ls) 2 refl e (omega arith) (λ same. other) none no_events)
+  | inl is ↦ elim (cases_Bool l.ended) [
+    | inr open_end ↦ rw (is, open_end) (line_first text 2 l Cut (left_of (lines_of text) 2 l ls e).here none (end_first 3 (events_to text 3) l (omega arith) open_end))
+    | inl ended ↦ rw (is, ended) (labels_line_tells text table l ls e none no_events is ended (whole_labels (fields_of l.text)) refl)
+  ]
+]
 
 -- the second line, and then the rest
 table_tells : (text : List ℕ) (l : Line) (ls : List Line) → drop 1 (lines_of text) ≡ l ∷ ls → NoneBefore text 2 → events_to text 1 ≡ 0 → l.ended ≡ true → (r : Result (ℕ × ℕ) Cause) → whole_cpus (fields_of l.text) ≡ r
@@ -156,8 +205,7 @@ table_tells text l ls e none no_events ended (Ok table) read =
     let left = left_of (lines_of text) 1 l ls e in
     let right = read_right 2 l (λ t. events_in (fields_of l.text) ≡ 0) (whole_cpus (fields_of l.text)) table (cpus_told (fields_of l.text)) read in
     let more : events_to text 2 ≡ 0 = omega (arith, events_more text 1 l left.here, right.holding, no_events) in
-    let body = lines_tell text ls 2 left.next (omega arith) (line_right text 1 l left.here none (right_line 2 (events_to text 2) l (λ t. events_in (fields_of l.text) ≡ 0) table (omega arith) ended right (omega (arith, more)))) in
-    tells_then text (directives_of 3 0 ls) (λ ds. record { nr = table.0; online = table.1; directives = ds }) (subst (λ k. TellsText text (directives_of 3 k ls)) more body)
+    third_tells text table ls left.next (line_right text 1 l left.here none (right_line 2 (events_to text 2) l (λ t. events_in (fields_of l.text) ≡ 0) table (omega arith) ended right (omega (arith, more)))) more
 
 second_tells : (text : List ℕ) (ls : List Line) → drop 1 (lines_of text) ≡ ls → NoneBefore text 2 → events_to text 1 ≡ 0 → TellsText text (line_at 2 ls >>= after_second)
 second_tells text [] e none no_events = missing_first text 1 (none_left (lines_of text) 1 e) (omega arith) none

@@ -1,27 +1,27 @@
 -- Lines and fields, from the front.
 use Rattle.std.proofs.Common.{◌≡◌, ℕ, suc, zero, ◌<◌, true, false, ◌==◌, List, [], ◌∷◌, ◌++◌, length, take, drop, get_or, refl, arith, append_assoc}
 use Rattle.std.proofs.lemmas.Bool.Decides.{nat_tests}
-use Rattle.smp_runner.specs.Lines.{fields_of, lines_of}
+use Rattle.smp_runner.specs.Lines.{lines_of, parts_of}
 
--- a text with no space is one field
-pub fields_none : (bs : List ℕ) → ((i : ℕ) → i < length bs → get_or bs i 0 ≡ 32 → ⊥) → fields_of bs ≡ bs ∷ []
-fields_none [] none = refl
-fields_none (b ∷ bs) none =
-    let rest : fields_of bs ≡ bs ∷ [] = fields_none bs (λ i h e. none (suc i) (omega arith) e) in
-    let head : b ≡ 32 → ⊥ = none 0 (omega arith) in
-    let f : (b == 32) ≡ false = grind (arith, nat_tests, head) in
+-- a text with no such byte is one part
+pub parts_none : (mark : ℕ) (bs : List ℕ) → ((i : ℕ) → i < length bs → get_or bs i 0 ≡ mark → ⊥) → parts_of mark bs ≡ bs ∷ []
+parts_none mark [] none = refl
+parts_none mark (b ∷ bs) none =
+    let rest : parts_of mark bs ≡ bs ∷ [] = parts_none mark bs (λ i h e. none (suc i) (omega arith) e) in
+    let head : b ≡ mark → ⊥ = none 0 (omega arith) in
+    let f : (b == mark) ≡ false = grind (arith, nat_tests, head) in
     rw f (rw rest refl)
 
--- the first space ends the first field
-pub fields_some : (bs : List ℕ) (i : ℕ) → i < length bs → get_or bs i 0 ≡ 32 → ((k : ℕ) → k < i → get_or bs k 0 ≡ 32 → ⊥) → fields_of bs ≡ take i bs ∷ fields_of (drop (suc i) bs)
-fields_some [] i h e none = absurd (omega arith)
-fields_some (b ∷ bs) zero h e none =
-    let t : (b == 32) ≡ true = grind (arith, nat_tests, e) in
+-- the first one ends the first part
+pub parts_some : (mark : ℕ) (bs : List ℕ) (i : ℕ) → i < length bs → get_or bs i 0 ≡ mark → ((k : ℕ) → k < i → get_or bs k 0 ≡ mark → ⊥) → parts_of mark bs ≡ take i bs ∷ parts_of mark (drop (suc i) bs)
+parts_some mark [] i h e none = absurd (omega arith)
+parts_some mark (b ∷ bs) zero h e none =
+    let t : (b == mark) ≡ true = grind (arith, nat_tests, e) in
     rw t refl
-fields_some (b ∷ bs) (suc i) h e none =
-    let head : b ≡ 32 → ⊥ = none 0 (omega arith) in
-    let f : (b == 32) ≡ false = grind (arith, nat_tests, head) in
-    let rest = fields_some bs i (omega arith) e (λ k l. none (suc k) (omega arith)) in
+parts_some mark (b ∷ bs) (suc i) h e none =
+    let head : b ≡ mark → ⊥ = none 0 (omega arith) in
+    let f : (b == mark) ≡ false = grind (arith, nat_tests, head) in
+    let rest = parts_some mark bs i (omega arith) e (λ k l. none (suc k) (omega arith)) in
     rw f (rw rest refl)
 
 -- the fields so far and those of the rest are all

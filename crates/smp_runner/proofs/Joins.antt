@@ -1,35 +1,50 @@
 -- Fields and lines, as they are written.
 use Rattle.std.proofs.Common.{◌≡◌, ℕ, true, false, ◌&&◌, ◌==◌, List, [], ◌∷◌, ◌++◌, length, refl, ap, ◌∙◌, arith}
 use Rattle.std.specs.List.{join_with_byte, list_all}
-use Rattle.smp_runner.specs.Lines.{fields_of, lines_of}
+use Rattle.std.proofs.lemmas.Bool.Decides.{nat_tests}
+use Rattle.smp_runner.specs.Lines.{fields_of, lines_of, parts_of}
 use Rattle.smp_runner.specs.Commands.{are_whole}
 use Rattle.smp_runner.specs.Spelling.{lacks, is_field, line_before}
 
--- a text with no space is one field
-fields_plain : (t : List ℕ) → lacks 32 t ≡ true → fields_of t ≡ t ∷ []
-fields_plain [] h = refl
-fields_plain (b ∷ bs) h =
-    let here : (b == 32) ≡ false = grind (arith, h) in
-    let rest : lacks 32 bs ≡ true = grind (arith, h) in
-    rw (here, fields_plain bs rest) refl
+-- a text with no such byte is one part
+pub parts_plain : (mark : ℕ) (t : List ℕ) → lacks mark t ≡ true → parts_of mark t ≡ t ∷ []
+parts_plain mark [] h = refl
+parts_plain mark (b ∷ bs) h =
+    let here : (b == mark) ≡ false = grind (arith, h) in
+    let rest : lacks mark bs ≡ true = grind (arith, h) in
+    rw (here, parts_plain mark bs rest) refl
 
--- a space ends the first field
-fields_front : (t rest : List ℕ) → lacks 32 t ≡ true → fields_of (t ++ 32 ∷ rest) ≡ t ∷ fields_of rest
-fields_front [] rest h = refl
-fields_front (b ∷ bs) rest h =
-    let here : (b == 32) ≡ false = grind (arith, h) in
-    let more : lacks 32 bs ≡ true = grind (arith, h) in
-    rw (here, fields_front bs rest more) refl
+-- such a byte ends the first part
+pub parts_front : (mark : ℕ) (t rest : List ℕ) → lacks mark t ≡ true → parts_of mark (t ++ mark ∷ rest) ≡ t ∷ parts_of mark rest
+parts_front mark [] rest h =
+    let here : (mark == mark) ≡ true = grind (arith, nat_tests) in
+    rw here refl
+parts_front mark (b ∷ bs) rest h =
+    let here : (b == mark) ≡ false = grind (arith, h) in
+    let more : lacks mark bs ≡ true = grind (arith, h) in
+    rw (here, parts_front mark bs rest more) refl
+
+-- parts that are joined are read
+pub parts_join : (mark : ℕ) (t : List ℕ) (ts : List (List ℕ)) → list_all (lacks mark) (t ∷ ts) ≡ true → parts_of mark (join_with_byte mark (t ∷ ts)) ≡ t ∷ ts
+parts_join mark t [] h =
+    let here : lacks mark t ≡ true = grind (arith, h) in
+    parts_plain mark t here
+parts_join mark t (u ∷ us) h =
+    let here : lacks mark t ≡ true = grind (arith, h) in
+    let rest : list_all (lacks mark) (u ∷ us) ≡ true = grind (arith, h) in
+    parts_front mark t (join_with_byte mark (u ∷ us)) here ∙ ap (λ fs. t ∷ fs) (parts_join mark u us rest)
+
+-- fields have no space
+lack_spaces : (ts : List (List ℕ)) → list_all is_field ts ≡ true → list_all (lacks 32) ts ≡ true
+lack_spaces [] h = refl
+lack_spaces (t ∷ ts) h =
+    let here : lacks 32 t ≡ true = grind (arith, h) in
+    let rest : list_all is_field ts ≡ true = grind (arith, h) in
+    rw (here, lack_spaces ts rest) refl
 
 -- fields that are joined are read
 pub fields_join : (t : List ℕ) (ts : List (List ℕ)) → list_all is_field (t ∷ ts) ≡ true → fields_of (join_with_byte 32 (t ∷ ts)) ≡ t ∷ ts
-fields_join t [] h =
-    let here : lacks 32 t ≡ true = grind (arith, h) in
-    fields_plain t here
-fields_join t (u ∷ us) h =
-    let here : lacks 32 t ≡ true = grind (arith, h) in
-    let rest : list_all is_field (u ∷ us) ≡ true = grind (arith, h) in
-    fields_front t (join_with_byte 32 (u ∷ us)) here ∙ ap (λ fs. t ∷ fs) (fields_join u us rest)
+fields_join t ts h = parts_join 32 t ts (lack_spaces (t ∷ ts) h)
 
 -- fields are not empty
 pub whole_fields : (ts : List (List ℕ)) → list_all is_field ts ≡ true → are_whole ts ≡ true

@@ -1,21 +1,31 @@
 -- Which shape the fields of a line have, and what reading them by that shape tells.
-use Rattle.std.proofs.Common.{◌≡◌, ℕ, ◌+◌, Bool, true, false, not, ◌&&◌, ◌==◌, List, [], ◌∷◌, length, drop, Some, None, Result, Ok, Err, codes, refl, sym, ◌∙◌, inl, inr, arith, subst}
+use Rattle.std.proofs.Common.{◌≡◌, ℕ, ℤ, ◌+◌, Bool, true, false, not, ◌&&◌, ◌==◌, List, [], ◌∷◌, length, drop, Some, None, Result, Ok, Err, codes, refl, sym, ◌∙◌, inl, inr, arith, subst}
 use Rattle.std.specs.Prelude.{find, slice_get}
 use Rattle.std.specs.Str.{bytes_eq}
-use Rattle.std.proofs.lemmas.Bool.{cases_Bool, and_parts, and_right}
+use Rattle.std.proofs.lemmas.Bool.{cases_Bool, and_parts, and_right, or_cases}
+use Rattle.std.proofs.lemmas.Bool.Decides.{nat_tests}
+use Rattle.std.specs.List.{list_all}
 use Rattle.smp_mask.specs.declared.error.Cause.{Cause}
 use Rattle.smp_mask.specs.declared.error.Cause.TheVariants.{Word}
 use Rattle.smp_core.specs.declared.call.Class.{Class}
 use Rattle.smp_core.specs.declared.call.Class.TheVariants.{Sync, Async}
+use Rattle.smp_core.specs.declared.stop.work.Kind.{Kind}
+use Rattle.smp_core.specs.declared.stop.work.Kind.TheVariants.{One, Multi, Patch}
+use Rattle.smp_core.specs.declared.command.Command.{Command}
+use Rattle.smp_core.specs.declared.command.Command.TheVariants.{Send, Done, Handle, Gate, Ungate, Enter, Advance, RunOne, Finish, Poll, Key, Site}
 use Rattle.smp_runner.specs.declared.directive.Directive.{Directive}
-use Rattle.smp_runner.specs.declared.directive.Directive.TheVariants.{Show}
-use Rattle.smp_runner.specs.Fields.{class_of}
-use Rattle.smp_runner.specs.Commands.{are_whole, directive_of, start_done, start_handle, start_of, start_post, start_send, step_of, whole_directive, whole_step}
+use Rattle.smp_runner.specs.declared.directive.Directive.TheVariants.{Start, Show}
+use Rattle.smp_runner.specs.Fields.{class_of, kind_of, mask_of, word32}
+use Rattle.smp_runner.specs.Faults.{◌>>=◌}
+use Rattle.smp_runner.specs.Numbers.{signed_of}
+use Rattle.smp_runner.specs.Commands.{are_whole, begins_of, directive_of, posts_of, show_of, start_answer, start_answered, start_bare, start_begin, start_number, start_of, start_one, start_post, start_short, step_of, steps_of, whole_directive}
 use Rattle.smp_runner.specs.Script.{events_of, title_of}
-use Rattle.smp_runner.specs.Shapes.{Form, word, class, number, online, title, post, send, done, handle, step, show, bits, has_shape, has_word}
+use Rattle.smp_runner.specs.Shapes.{Form, word, words, number, signed, cpu_list, online, items, class, kind, title, post, begin, numbered, answered, bare, with_number, with_answer, with_none, step, show, requests, bits, has_shape, has_word, is_one_of}
 use Rattle.smp_runner.specs.FirstFault.{events_in}
-use Rattle.smp_runner.proofs.Readings.{same_word}
-use Rattle.smp_runner.proofs.FieldFaults.{Clean, Tells, none_yet, passes, reads_number}
+use Rattle.smp_runner.proofs.ReadParts.{same_word}
+use Rattle.smp_runner.proofs.FieldFaults.{Clean, Tells, none_yet, passes, reads_field, reads_number}
+use Rattle.smp_runner.proofs.SignedFields.{signed_judged}
+use Rattle.smp_runner.proofs.MaskFields.{mask_judged}
 
 -- what reading the fields of a line tells: they have no shape, or one by which they are read
 pub data TellsLine {B : Type 0} (shapes : List (List Form)) (fields : List (List ℕ)) (holds : B → Type 0) (read : Result B Cause) : Type 0 where
@@ -29,22 +39,29 @@ passes_word shape fields i w wants clean = passes shape fields i (word w) wants 
 abbrev pub HasEvents : List (List ℕ) → Directive → Type 0
 HasEvents fields d = events_in fields ≡ events_of d
 
-handle_told : (cpu : List ℕ) → Tells handle (codes "start" ∷ cpu ∷ codes "handle" ∷ []) (HasEvents (codes "start" ∷ cpu ∷ codes "handle" ∷ [])) (start_handle cpu)
-handle_told cpu =
-    let fields = codes "start" ∷ cpu ∷ codes "handle" ∷ [] in
-    reads_number handle fields (HasEvents fields) 1 0 4294967295 _ refl (passes_word handle fields 0 _ refl (none_yet handle fields)) (λ two. (passes_word handle fields 2 _ refl two, refl))
+-- two numbers, one after the other
+two_then : (command : ℕ → Command) (r s : Result ℕ Cause) → ◌>>=◌ {A = ℕ × ℕ} {B = Directive} {E = Cause} (r >>= λ c. s >>= λ m. Ok (c, m)) (λ p. Ok (Start p.0 (command p.1))) ≡ (r >>= λ c. s >>= λ m. Ok (Start c (command m)))
+two_then command (Err e) s = refl
+two_then command (Ok c) (Err e) = refl
+two_then command (Ok c) (Ok m) = refl
 
-send_told : (cpu dst : List ℕ) → Tells send (codes "start" ∷ cpu ∷ codes "send" ∷ dst ∷ []) (HasEvents (codes "start" ∷ cpu ∷ codes "send" ∷ dst ∷ [])) (start_send cpu dst)
-send_told cpu dst =
-    let fields = codes "start" ∷ cpu ∷ codes "send" ∷ dst ∷ [] in
-    reads_number send fields (HasEvents fields) 1 0 4294967295 _ refl (passes_word send fields 0 _ refl (none_yet send fields)) (λ two.
-    reads_number send fields (HasEvents fields) 3 0 4294967295 _ refl (passes_word send fields 2 _ refl two) (λ four. (four, refl)))
+bare_told : (command : Command) (cpu name : List ℕ) → Tells bare (codes "start" ∷ cpu ∷ name ∷ []) (HasEvents (codes "start" ∷ cpu ∷ name ∷ [])) (word32 cpu >>= λ c. Ok (Start c command))
+bare_told command cpu name =
+    let fields = codes "start" ∷ cpu ∷ name ∷ [] in
+    reads_number bare fields (HasEvents fields) 1 0 4294967295 _ refl (passes_word bare fields 0 _ refl (none_yet bare fields)) (λ two. (passes bare fields 2 (words with_none) refl (λ cause f. f) two, refl))
 
-done_told : (cpu k : List ℕ) → Tells done (codes "start" ∷ cpu ∷ codes "done" ∷ k ∷ []) (HasEvents (codes "start" ∷ cpu ∷ codes "done" ∷ k ∷ [])) (start_done cpu k)
-done_told cpu k =
-    let fields = codes "start" ∷ cpu ∷ codes "done" ∷ k ∷ [] in
-    reads_number done fields (HasEvents fields) 1 0 4294967295 _ refl (passes_word done fields 0 _ refl (none_yet done fields)) (λ two.
-    reads_number done fields (HasEvents fields) 3 0 4294967295 _ refl (passes_word done fields 2 _ refl two) (λ four. (four, refl)))
+number_told : (command : ℕ → Command) (cpu name n : List ℕ) → Tells numbered (codes "start" ∷ cpu ∷ name ∷ n ∷ []) (HasEvents (codes "start" ∷ cpu ∷ name ∷ n ∷ [])) (start_number command cpu n)
+number_told command cpu name n =
+    let fields = codes "start" ∷ cpu ∷ name ∷ n ∷ [] in
+    let same : start_number command cpu n ≡ (word32 cpu >>= λ c. word32 n >>= λ m. Ok (Start c (command m))) = two_then command (word32 cpu) (word32 n) in
+    rw same (reads_number numbered fields (HasEvents fields) 1 0 4294967295 _ refl (passes_word numbered fields 0 _ refl (none_yet numbered fields)) (λ two.
+    reads_number numbered fields (HasEvents fields) 3 0 4294967295 _ refl (passes numbered fields 2 (words with_number) refl (λ cause f. f) two) (λ four. (four, refl))))
+
+answer_told : (command : ℤ → Command) (cpu name answer : List ℕ) → Tells answered (codes "start" ∷ cpu ∷ name ∷ answer ∷ []) (HasEvents (codes "start" ∷ cpu ∷ name ∷ answer ∷ [])) (start_answer command cpu answer)
+answer_told command cpu name answer =
+    let fields = codes "start" ∷ cpu ∷ name ∷ answer ∷ [] in
+    reads_number answered fields (HasEvents fields) 1 0 4294967295 _ refl (passes_word answered fields 0 _ refl (none_yet answered fields)) (λ two.
+    reads_field answered fields (HasEvents fields) 3 signed (signed_of answer) _ refl (passes answered fields 2 (words with_answer) refl (λ cause f. f) two) (signed_judged answer) (λ r four. (four, refl)))
 
 step_told : (cpu count : List ℕ) → Tells step (codes "step" ∷ cpu ∷ count ∷ []) (HasEvents (codes "step" ∷ cpu ∷ count ∷ [])) (step_of cpu count)
 step_told cpu count =
@@ -55,13 +72,13 @@ step_told cpu count =
 is_class : (text : List ℕ) → has_word class text ≡ true → (c : Class) × (class_of text ≡ Ok c)
 is_class text h = elim (cases_Bool (bytes_eq text (codes "sync"))) [
   | inl sync ↦ (Sync, rw sync refl)
-  | inr other ↦ let async : bytes_eq text (codes "async") ≡ true = rw other at h in (Async, rw (other, async) refl)
+  | inr other ↦ let async : bytes_eq text (codes "async") ≡ true = grind (arith, other, h) in (Async, rw (other, async) refl)
 ]
 
 no_class : (text : List ℕ) → has_word class text ≡ false → class_of text ≡ Err Word
 no_class text h = elim (cases_Bool (bytes_eq text (codes "sync"))) [
   | inl sync ↦ let bad : true ≡ false = rw sync at h in cc
-  | inr other ↦ let neither : bytes_eq text (codes "async") ≡ false = rw other at h in rw (other, neither) refl
+  | inr other ↦ let neither : bytes_eq text (codes "async") ≡ false = grind (arith, other, h) in rw (other, neither) refl
 ]
 
 post_told : (cpu k dst c func info tries : List ℕ) → has_word class c ≡ true → Tells post (codes "start" ∷ cpu ∷ codes "post" ∷ k ∷ dst ∷ c ∷ func ∷ info ∷ tries ∷ []) (HasEvents (codes "start" ∷ cpu ∷ codes "post" ∷ k ∷ dst ∷ c ∷ func ∷ info ∷ tries ∷ [])) (start_post cpu k dst c func info tries)
@@ -77,59 +94,181 @@ post_told cpu k dst c func info tries h =
     reads_number post fields (HasEvents fields) 7 0 18446744073709551615 _ refl seven (λ eight.
     reads_number post fields (HasEvents fields) 8 0 4294967295 _ refl eight (λ nine. (nine, refl))))))))
 
-abbrev pub requests : List (List Form)
-requests = post ∷ send ∷ done ∷ handle ∷ step ∷ show ∷ []
+is_kind : (text : List ℕ) → has_word kind text ≡ true → (k : Kind) × (kind_of text ≡ Ok k)
+is_kind text h = elim (cases_Bool (bytes_eq text (codes "one"))) [
+  | inl one ↦ (One, rw one refl)
+  | inr no_one ↦ elim (cases_Bool (bytes_eq text (codes "multi"))) [
+    | inl multi ↦ (Multi, rw (no_one, multi) refl)
+    | inr no_multi ↦ elim (cases_Bool (bytes_eq text (codes "patch"))) [
+      | inl patch ↦ (Patch, rw (no_one, no_multi, patch) refl)
+      | inr none ↦ let bad : false ≡ true = rw (no_one, no_multi, none) at h in cc
+    ]
+  ]
+]
+
+no_kind : (text : List ℕ) → has_word kind text ≡ false → kind_of text ≡ Err Word
+no_kind text h = elim (cases_Bool (bytes_eq text (codes "one"))) [
+  | inl one ↦ let bad : true ≡ false = rw one at h in cc
+  | inr no_one ↦ elim (cases_Bool (bytes_eq text (codes "multi"))) [
+    | inl multi ↦ let bad : true ≡ false = rw (no_one, multi) at h in cc
+    | inr no_multi ↦ elim (cases_Bool (bytes_eq text (codes "patch"))) [
+      | inl patch ↦ let bad : true ≡ false = rw (no_one, no_multi, patch) at h in cc
+      | inr none ↦ rw (no_one, no_multi, none) refl
+    ]
+  ]
+]
+
+begin_told : (cpu k m a func arg : List ℕ) → has_word kind k ≡ true → Tells begin (codes "start" ∷ cpu ∷ codes "begin" ∷ k ∷ m ∷ a ∷ func ∷ arg ∷ []) (HasEvents (codes "start" ∷ cpu ∷ codes "begin" ∷ k ∷ m ∷ a ∷ func ∷ arg ∷ [])) (start_begin cpu k m a func arg)
+unfolding start_begin
+begin_told cpu k m a func arg h =
+    let fields = codes "start" ∷ cpu ∷ codes "begin" ∷ k ∷ m ∷ a ∷ func ∷ arg ∷ [] in
+    let as_kind = is_kind k h in
+    rw as_kind.1 (
+    reads_number begin fields (HasEvents fields) 1 0 4294967295 _ refl (passes_word begin fields 0 _ refl (none_yet begin fields)) (λ two.
+    reads_field begin fields (HasEvents fields) 4 cpu_list (mask_of m) _ refl (passes begin fields 3 kind refl (λ cause f. f) (passes_word begin fields 2 _ refl two)) (mask_judged m) (λ mask five.
+    reads_field begin fields (HasEvents fields) 5 cpu_list (mask_of a) _ refl five (mask_judged a) (λ active six.
+    reads_number begin fields (HasEvents fields) 6 0 65535 _ refl six (λ seven.
+    reads_number begin fields (HasEvents fields) 7 0 18446744073709551615 _ refl seven (λ eight. (eight, refl)))))))
 
 classless : (cpu k dst c func info tries : List ℕ) → has_word class c ≡ false → start_post cpu k dst c func info tries ≡ Err Word
 unfolding start_post
 classless cpu k dst c func info tries h = rw (no_class c h) refl
 
+kindless : (cpu k m a func arg : List ℕ) → has_word kind k ≡ false → start_begin cpu k m a func arg ≡ Err Word
+unfolding start_begin
+kindless cpu k m a func arg h = rw (no_kind k h) refl
+
 not_post : (cpu name k dst c func info tries : List ℕ) → bytes_eq name (codes "post") ≡ false → find (has_shape (codes "start" ∷ cpu ∷ name ∷ k ∷ dst ∷ c ∷ func ∷ info ∷ tries ∷ [])) requests ≡ None
 not_post cpu name k dst c func info tries h = rw h (rw (and_right (has_shape (k ∷ dst ∷ c ∷ func ∷ info ∷ tries ∷ []) (bits 32 ∷ bits 32 ∷ class ∷ bits 16 ∷ bits 64 ∷ bits 32 ∷ [])) false refl) refl)
 
--- the fields after `start`
-start_told : (cpu name : List ℕ) (arguments : List (List ℕ)) → are_whole (codes "start" ∷ cpu ∷ name ∷ arguments) ≡ true
-    → TellsLine requests (codes "start" ∷ cpu ∷ name ∷ arguments) (HasEvents (codes "start" ∷ cpu ∷ name ∷ arguments)) (start_of cpu name arguments)
-start_told cpu name [] whole =
-    let some_cpu : (length cpu == 0) ≡ false = grind (arith, whole) in
-    elim (cases_Bool (bytes_eq name (codes "handle"))) [
-      | inl yes_ ↦ rw (same_word name (codes "handle") yes_) (shaped handle (start_handle cpu) (rw some_cpu refl) refl (handle_told cpu))
-      | inr no_ ↦
-          let some_name : (length name == 0) ≡ false = grind (arith, whole) in
-          shapeless (rw (no_, some_cpu, some_name) refl) (rw no_ refl)
-    ]
-start_told cpu name (a ∷ []) whole =
-    let some_cpu : (length cpu == 0) ≡ false = grind (arith, whole) in
-    let some_a : (length a == 0) ≡ false = grind (arith, whole) in
-    elim (cases_Bool (bytes_eq name (codes "send"))) [
-      | inl yes_ ↦ rw (same_word name (codes "send") yes_) (shaped send (start_send cpu a) (rw (some_a, some_cpu) refl) refl (send_told cpu a))
-      | inr no_ ↦ elim (cases_Bool (bytes_eq name (codes "done"))) [
-        | inl yes_ ↦ rw (same_word name (codes "done") yes_) (shaped done (start_done cpu a) (rw (some_a, some_cpu) refl) refl (done_told cpu a))
-        | inr neither ↦ shapeless (rw (some_a, no_, neither) refl) (rw (no_, neither) refl)
+not_begin : (cpu name k m a func arg : List ℕ) → bytes_eq name (codes "begin") ≡ false → find (has_shape (codes "start" ∷ cpu ∷ name ∷ k ∷ m ∷ a ∷ func ∷ arg ∷ [])) requests ≡ None
+not_begin cpu name k m a func arg h = rw h (rw (and_right (has_shape (k ∷ m ∷ a ∷ func ∷ arg ∷ []) (kind ∷ cpu_list ∷ cpu_list ∷ bits 16 ∷ bits 64 ∷ [])) false refl) refl)
+
+-- the fields after `start CPU`, one or none of them after the name
+bare_shapes : (cpu name : List ℕ) → (length cpu == 0) ≡ false → (length name == 0) ≡ false → TellsLine requests (codes "start" ∷ cpu ∷ name ∷ []) (HasEvents (codes "start" ∷ cpu ∷ name ∷ [])) (start_bare cpu name)
+bare_shapes cpu name some_cpu some_name = elim (cases_Bool (bytes_eq name (codes "handle"))) [
+  | inl is_ ↦ rw (same_word name (codes "handle") is_) (shaped bare (word32 cpu >>= λ c. Ok (Start c Handle)) (rw some_cpu refl) refl (bare_told Handle cpu (codes "handle")))
+  | inr no_handle ↦ elim (cases_Bool (bytes_eq name (codes "gate"))) [
+    | inl is_ ↦ rw (same_word name (codes "gate") is_) (shaped bare (word32 cpu >>= λ c. Ok (Start c Gate)) (rw some_cpu refl) refl (bare_told Gate cpu (codes "gate")))
+    | inr no_gate ↦ elim (cases_Bool (bytes_eq name (codes "ungate"))) [
+      | inl is_ ↦ rw (same_word name (codes "ungate") is_) (shaped bare (word32 cpu >>= λ c. Ok (Start c Ungate)) (rw some_cpu refl) refl (bare_told Ungate cpu (codes "ungate")))
+      | inr no_ungate ↦ elim (cases_Bool (bytes_eq name (codes "finish"))) [
+        | inl is_ ↦ rw (same_word name (codes "finish") is_) (shaped bare (word32 cpu >>= λ c. Ok (Start c Finish)) (rw some_cpu refl) refl (bare_told Finish cpu (codes "finish")))
+        | inr no_finish ↦ elim (cases_Bool (bytes_eq name (codes "poll"))) [
+          | inl is_ ↦ rw (same_word name (codes "poll") is_) (shaped bare (word32 cpu >>= λ c. Ok (Start c Poll)) (rw some_cpu refl) refl (bare_told Poll cpu (codes "poll")))
+          | inr no_poll ↦ shapeless (rw (no_handle, no_gate, no_ungate, no_finish, no_poll, some_name, some_cpu) refl) (rw (no_handle, no_gate, no_ungate, no_finish, no_poll) refl)
+        ]
       ]
     ]
-start_told cpu name (k ∷ dst ∷ c ∷ func ∷ info ∷ tries ∷ []) whole =
+  ]
+]
+
+answered_shapes : (cpu name a : List ℕ) → (length cpu == 0) ≡ false → (length a == 0) ≡ false → is_one_of with_number name ≡ false
+    → TellsLine requests (codes "start" ∷ cpu ∷ name ∷ a ∷ []) (HasEvents (codes "start" ∷ cpu ∷ name ∷ a ∷ [])) (start_answered cpu name a)
+answered_shapes cpu name a some_cpu some_a no_number = elim (cases_Bool (bytes_eq name (codes "advance"))) [
+  | inl is_ ↦ rw (same_word name (codes "advance") is_) (shaped answered (start_answer Advance cpu a) (rw (some_a, some_cpu) refl) refl (answer_told Advance cpu (codes "advance") a))
+  | inr no_advance ↦ elim (cases_Bool (bytes_eq name (codes "runone"))) [
+    | inl is_ ↦ rw (same_word name (codes "runone") is_) (shaped answered (start_answer RunOne cpu a) (rw (some_a, some_cpu) refl) refl (answer_told RunOne cpu (codes "runone") a))
+    | inr no_runone ↦ shapeless (rw (some_a, no_number, no_advance, no_runone) refl) (rw (no_advance, no_runone) refl)
+  ]
+]
+
+one_shapes : (cpu name a : List ℕ) → (length cpu == 0) ≡ false → (length a == 0) ≡ false → TellsLine requests (codes "start" ∷ cpu ∷ name ∷ a ∷ []) (HasEvents (codes "start" ∷ cpu ∷ name ∷ a ∷ [])) (start_one cpu name a)
+one_shapes cpu name a some_cpu some_a = elim (cases_Bool (bytes_eq name (codes "send"))) [
+  | inl is_ ↦ rw (same_word name (codes "send") is_) (shaped numbered (start_number Send cpu a) (rw (some_a, some_cpu) refl) refl (number_told Send cpu (codes "send") a))
+  | inr no_send ↦ elim (cases_Bool (bytes_eq name (codes "done"))) [
+    | inl is_ ↦ rw (same_word name (codes "done") is_) (shaped numbered (start_number Done cpu a) (rw (some_a, some_cpu) refl) refl (number_told Done cpu (codes "done") a))
+    | inr no_done ↦ elim (cases_Bool (bytes_eq name (codes "enter"))) [
+      | inl is_ ↦ rw (same_word name (codes "enter") is_) (shaped numbered (start_number Enter cpu a) (rw (some_a, some_cpu) refl) refl (number_told Enter cpu (codes "enter") a))
+      | inr no_enter ↦ elim (cases_Bool (bytes_eq name (codes "key"))) [
+        | inl is_ ↦ rw (same_word name (codes "key") is_) (shaped numbered (start_number Key cpu a) (rw (some_a, some_cpu) refl) refl (number_told Key cpu (codes "key") a))
+        | inr no_key ↦ elim (cases_Bool (bytes_eq name (codes "site"))) [
+          | inl is_ ↦ rw (same_word name (codes "site") is_) (shaped numbered (start_number Site cpu a) (rw (some_a, some_cpu) refl) refl (number_told Site cpu (codes "site") a))
+          | inr no_site ↦ rw (no_send, no_done, no_enter, no_key, no_site) (answered_shapes cpu name a some_cpu some_a (rw (no_send, no_done, no_enter, no_key, no_site) refl))
+        ]
+      ]
+    ]
+  ]
+]
+
+short_shapes : (cpu name : List ℕ) (arguments : List (List ℕ)) → are_whole (codes "start" ∷ cpu ∷ name ∷ arguments) ≡ true → bytes_eq name (codes "post") ≡ false → bytes_eq name (codes "begin") ≡ false
+    → TellsLine requests (codes "start" ∷ cpu ∷ name ∷ arguments) (HasEvents (codes "start" ∷ cpu ∷ name ∷ arguments)) (start_short cpu name arguments)
+short_shapes cpu name [] whole no_post no_begin = bare_shapes cpu name (grind (arith, whole)) (grind (arith, whole))
+short_shapes cpu name (a ∷ []) whole no_post no_begin = one_shapes cpu name a (grind (arith, whole)) (grind (arith, whole))
+short_shapes cpu name (a ∷ b ∷ []) whole no_post no_begin = shapeless refl refl
+short_shapes cpu name (a ∷ b ∷ c ∷ []) whole no_post no_begin = shapeless refl refl
+short_shapes cpu name (a ∷ b ∷ c ∷ d ∷ []) whole no_post no_begin = shapeless refl refl
+short_shapes cpu name (a ∷ b ∷ c ∷ d ∷ e ∷ []) whole no_post no_begin = shapeless (not_begin cpu name a b c d e no_begin) refl
+short_shapes cpu name (a ∷ b ∷ c ∷ d ∷ e ∷ f ∷ []) whole no_post no_begin = shapeless (not_post cpu name a b c d e f no_post) refl
+short_shapes cpu name (a ∷ b ∷ c ∷ d ∷ e ∷ f ∷ g ∷ rest) whole no_post no_begin = shapeless refl refl
+
+post_shapes : (cpu : List ℕ) (arguments : List (List ℕ)) → are_whole (codes "start" ∷ cpu ∷ codes "post" ∷ arguments) ≡ true
+    → TellsLine requests (codes "start" ∷ cpu ∷ codes "post" ∷ arguments) (HasEvents (codes "start" ∷ cpu ∷ codes "post" ∷ arguments)) (posts_of cpu arguments)
+post_shapes cpu [] whole =
+    let some_cpu : (length cpu == 0) ≡ false = grind (arith, whole) in
+    shapeless (rw some_cpu refl) refl
+post_shapes cpu (a ∷ []) whole =
+    let some_a : (length a == 0) ≡ false = grind (arith, whole) in
+    shapeless (rw some_a refl) refl
+post_shapes cpu (a ∷ b ∷ []) whole = shapeless refl refl
+post_shapes cpu (a ∷ b ∷ c ∷ []) whole = shapeless refl refl
+post_shapes cpu (a ∷ b ∷ c ∷ d ∷ []) whole = shapeless refl refl
+post_shapes cpu (a ∷ b ∷ c ∷ d ∷ e ∷ []) whole = shapeless (not_begin cpu (codes "post") a b c d e refl) refl
+post_shapes cpu (k ∷ dst ∷ c ∷ func ∷ info ∷ tries ∷ []) whole =
     let some_cpu : (length cpu == 0) ≡ false = grind (arith, whole) in
     let some_k : (length k == 0) ≡ false = grind (arith, whole) in
     let some_dst : (length dst == 0) ≡ false = grind (arith, whole) in
     let some_func : (length func == 0) ≡ false = grind (arith, whole) in
     let some_info : (length info == 0) ≡ false = grind (arith, whole) in
     let some_tries : (length tries == 0) ≡ false = grind (arith, whole) in
-    elim (cases_Bool (bytes_eq name (codes "post"))) [
-      | inl yes_ ↦ rw (same_word name (codes "post") yes_) (elim (cases_Bool (has_word class c)) [
-        | inl good ↦ shaped post (start_post cpu k dst c func info tries) (rw (some_tries, some_info, some_func, good, some_dst, some_k, some_cpu) refl) refl (post_told cpu k dst c func info tries good)
-        | inr bad ↦ shapeless (rw (some_tries, some_info, some_func, bad) refl) (classless cpu k dst c func info tries bad)
-      ])
-      | inr no_ ↦ shapeless (not_post cpu name k dst c func info tries no_) (rw no_ refl)
+    elim (cases_Bool (has_word class c)) [
+      | inl good ↦ shaped post (start_post cpu k dst c func info tries) (rw (some_tries, some_info, some_func, good, some_dst, some_k, some_cpu) refl) refl (post_told cpu k dst c func info tries good)
+      | inr bad ↦ shapeless (rw (some_tries, some_info, some_func, bad) refl) (classless cpu k dst c func info tries bad)
     ]
-start_told cpu name (a ∷ b ∷ []) whole = shapeless refl refl
-start_told cpu name (a ∷ b ∷ c ∷ []) whole = shapeless refl refl
-start_told cpu name (a ∷ b ∷ c ∷ d ∷ []) whole = shapeless refl refl
-start_told cpu name (a ∷ b ∷ c ∷ d ∷ e ∷ []) whole = shapeless refl refl
-start_told cpu name (a ∷ b ∷ c ∷ d ∷ e ∷ f ∷ g ∷ rest) whole = shapeless refl refl
+post_shapes cpu (a ∷ b ∷ c ∷ d ∷ e ∷ f ∷ g ∷ rest) whole = shapeless refl refl
+
+begin_shapes : (cpu : List ℕ) (arguments : List (List ℕ)) → are_whole (codes "start" ∷ cpu ∷ codes "begin" ∷ arguments) ≡ true
+    → TellsLine requests (codes "start" ∷ cpu ∷ codes "begin" ∷ arguments) (HasEvents (codes "start" ∷ cpu ∷ codes "begin" ∷ arguments)) (begins_of cpu arguments)
+begin_shapes cpu [] whole =
+    let some_cpu : (length cpu == 0) ≡ false = grind (arith, whole) in
+    shapeless (rw some_cpu refl) refl
+begin_shapes cpu (a ∷ []) whole =
+    let some_a : (length a == 0) ≡ false = grind (arith, whole) in
+    shapeless (rw some_a refl) refl
+begin_shapes cpu (a ∷ b ∷ []) whole = shapeless refl refl
+begin_shapes cpu (a ∷ b ∷ c ∷ []) whole = shapeless refl refl
+begin_shapes cpu (a ∷ b ∷ c ∷ d ∷ []) whole = shapeless refl refl
+begin_shapes cpu (k ∷ m ∷ a ∷ func ∷ arg ∷ []) whole =
+    let some_cpu : (length cpu == 0) ≡ false = grind (arith, whole) in
+    let some_m : (length m == 0) ≡ false = grind (arith, whole) in
+    let some_a : (length a == 0) ≡ false = grind (arith, whole) in
+    let some_func : (length func == 0) ≡ false = grind (arith, whole) in
+    let some_arg : (length arg == 0) ≡ false = grind (arith, whole) in
+    elim (cases_Bool (has_word kind k)) [
+      | inl good ↦ shaped begin (start_begin cpu k m a func arg) (rw (some_arg, some_func, some_a, some_m, good, some_cpu) refl) refl (begin_told cpu k m a func arg good)
+      | inr bad ↦ shapeless (rw (some_arg, some_func, some_a, some_m, bad) refl) (kindless cpu k m a func arg bad)
+    ]
+begin_shapes cpu (a ∷ b ∷ c ∷ d ∷ e ∷ f ∷ []) whole = shapeless (not_post cpu (codes "begin") a b c d e f refl) refl
+begin_shapes cpu (a ∷ b ∷ c ∷ d ∷ e ∷ f ∷ g ∷ rest) whole = shapeless refl refl
+
+-- the fields after `start`
+start_told : (rest : List (List ℕ)) → are_whole (codes "start" ∷ rest) ≡ true → TellsLine requests (codes "start" ∷ rest) (HasEvents (codes "start" ∷ rest)) (start_of rest)
+start_told [] whole = shapeless refl refl
+start_told (cpu ∷ []) whole = shapeless refl refl
+start_told (cpu ∷ name ∷ arguments) whole = elim (cases_Bool (bytes_eq name (codes "post"))) [
+  | inl post_ ↦
+      let same = same_word name (codes "post") post_ in
+      rw same (post_shapes cpu arguments (subst (λ x. are_whole (codes "start" ∷ cpu ∷ x ∷ arguments) ≡ true) same whole))
+  | inr no_post ↦ elim (cases_Bool (bytes_eq name (codes "begin"))) [
+    | inl begin_ ↦
+        let same = same_word name (codes "begin") begin_ in
+        rw same (begin_shapes cpu arguments (subst (λ x. are_whole (codes "start" ∷ cpu ∷ x ∷ arguments) ≡ true) same whole))
+    | inr no_begin ↦ rw (no_post, no_begin) (short_shapes cpu name arguments whole no_post no_begin)
+  ]
+]
 
 -- a shape that the fields don't have
-skips : (fields : List (List ℕ)) (shape : List Form) (shapes : List (List Form)) → has_shape fields shape ≡ false → find (has_shape fields) (shape ∷ shapes) ≡ find (has_shape fields) shapes
+pub skips : (fields : List (List ℕ)) (shape : List Form) (shapes : List (List Form)) → has_shape fields shape ≡ false → find (has_shape fields) (shape ∷ shapes) ≡ find (has_shape fields) shapes
 skips fields shape shapes h = rw h refl
 
 -- or don't begin with
@@ -137,38 +276,44 @@ pub skips_word : (a : List ℕ) (fields : List (List ℕ)) (w : List ℕ) (forms
     → find (has_shape (a ∷ fields)) ((word w ∷ forms) ∷ shapes) ≡ find (has_shape (a ∷ fields)) shapes
 skips_word a fields w forms shapes h = skips (a ∷ fields) (word w ∷ forms) shapes (and_right (has_shape fields forms) (bytes_eq a w) h)
 
-no_start : (a : List ℕ) (fields : List (List ℕ)) → bytes_eq a (codes "start") ≡ false → find (has_shape (a ∷ fields)) requests ≡ find (has_shape (a ∷ fields)) (step ∷ show ∷ [])
+pub no_start : (a : List ℕ) (fields : List (List ℕ)) → bytes_eq a (codes "start") ≡ false → find (has_shape (a ∷ fields)) requests ≡ find (has_shape (a ∷ fields)) (step ∷ show ∷ [])
 no_start a fields h =
-    skips_word a fields (codes "start") (drop 1 post) (send ∷ done ∷ handle ∷ step ∷ show ∷ []) h
-    ∙ skips_word a fields (codes "start") (drop 1 send) (done ∷ handle ∷ step ∷ show ∷ []) h
-    ∙ skips_word a fields (codes "start") (drop 1 done) (handle ∷ step ∷ show ∷ []) h
-    ∙ skips_word a fields (codes "start") (drop 1 handle) (step ∷ show ∷ []) h
+    skips_word a fields (codes "start") (drop 1 post) (begin ∷ numbered ∷ answered ∷ bare ∷ step ∷ show ∷ []) h
+    ∙ skips_word a fields (codes "start") (drop 1 begin) (numbered ∷ answered ∷ bare ∷ step ∷ show ∷ []) h
+    ∙ skips_word a fields (codes "start") (drop 1 numbered) (answered ∷ bare ∷ step ∷ show ∷ []) h
+    ∙ skips_word a fields (codes "start") (drop 1 answered) (bare ∷ step ∷ show ∷ []) h
+    ∙ skips_word a fields (codes "start") (drop 1 bare) (step ∷ show ∷ []) h
 
-step_shapes : (cpu count : List ℕ) (rest : List (List ℕ)) → are_whole (codes "step" ∷ cpu ∷ count ∷ rest) ≡ true
-    → TellsLine requests (codes "step" ∷ cpu ∷ count ∷ rest) (HasEvents (codes "step" ∷ cpu ∷ count ∷ rest)) (whole_step cpu count rest)
-step_shapes cpu count [] whole =
+step_shapes : (rest : List (List ℕ)) → are_whole (codes "step" ∷ rest) ≡ true → TellsLine requests (codes "step" ∷ rest) (HasEvents (codes "step" ∷ rest)) (steps_of rest)
+step_shapes [] whole = shapeless refl refl
+step_shapes (cpu ∷ []) whole = shapeless refl refl
+step_shapes (cpu ∷ count ∷ []) whole =
     let some_cpu : (length cpu == 0) ≡ false = grind (arith, whole) in
     let some_count : (length count == 0) ≡ false = grind (arith, whole) in
     shaped step (step_of cpu count) (no_start (codes "step") (cpu ∷ count ∷ []) refl ∙ rw (some_count, some_cpu) refl) refl (step_told cpu count)
-step_shapes cpu count (a ∷ rest) whole = shapeless (no_start (codes "step") (cpu ∷ count ∷ a ∷ rest) refl) refl
+step_shapes (cpu ∷ count ∷ a ∷ rest) whole = shapeless (no_start (codes "step") (cpu ∷ count ∷ a ∷ rest) refl) refl
 
--- the fields of a line that is no title and no table
+show_shapes : (rest : List (List ℕ)) → TellsLine requests (codes "show" ∷ rest) (HasEvents (codes "show" ∷ rest)) (show_of rest)
+show_shapes [] = shaped show (Ok Show) refl refl (passes_word show (codes "show" ∷ []) 0 _ refl (none_yet show (codes "show" ∷ [])), refl)
+show_shapes (a ∷ rest) = shapeless (no_start (codes "show") (a ∷ rest) refl ∙ skips_word (codes "show") (a ∷ rest) (codes "step") (drop 1 step) (show ∷ []) refl) refl
+
+-- the fields of a line that is no title, no table and no labels
 request_told : (fields : List (List ℕ)) → are_whole fields ≡ true → TellsLine requests fields (HasEvents fields) (directive_of fields)
 request_told [] whole = shapeless refl refl
-request_told (a ∷ []) whole = elim (cases_Bool (bytes_eq a (codes "show"))) [
-  | inl yes_ ↦ rw (same_word a (codes "show") yes_) (shaped show (Ok Show) refl refl (passes_word show (codes "show" ∷ []) 0 _ refl (none_yet show (codes "show" ∷ [])), refl))
-  | inr no_ ↦ shapeless (rw no_ refl) (rw no_ refl)
-]
-request_told (a ∷ b ∷ []) whole = shapeless refl refl
-request_told (a ∷ cpu ∷ third ∷ rest) whole = elim (cases_Bool (bytes_eq a (codes "start"))) [
-  | inl start ↦
-      let same = same_word a (codes "start") start in
-      rw same (start_told cpu third rest (subst (λ x. are_whole (x ∷ cpu ∷ third ∷ rest) ≡ true) same whole))
-  | inr other ↦ elim (cases_Bool (bytes_eq a (codes "step"))) [
-    | inl stepped ↦
-        let same = same_word a (codes "step") stepped in
-        rw same (step_shapes cpu third rest (subst (λ x. are_whole (x ∷ cpu ∷ third ∷ rest) ≡ true) same whole))
-    | inr neither ↦ shapeless (no_start a (cpu ∷ third ∷ rest) other ∙ skips_word a (cpu ∷ third ∷ rest) (codes "step") (drop 1 step) (show ∷ []) neither) (rw (other, neither) refl)
+request_told (a ∷ rest) whole = elim (cases_Bool (bytes_eq a (codes "start"))) [
+  | inl start_ ↦
+      let same = same_word a (codes "start") start_ in
+      rw same (start_told rest (subst (λ x. are_whole (x ∷ rest) ≡ true) same whole))
+  | inr no_a_start ↦ elim (cases_Bool (bytes_eq a (codes "step"))) [
+    | inl step_ ↦
+        let same = same_word a (codes "step") step_ in
+        rw same (step_shapes rest (subst (λ x. are_whole (x ∷ rest) ≡ true) same whole))
+    | inr no_step ↦ elim (cases_Bool (bytes_eq a (codes "show"))) [
+      | inl show_ ↦ rw (same_word a (codes "show") show_) (show_shapes rest)
+      | inr no_show ↦
+          shapeless (no_start a rest no_a_start ∙ skips_word a rest (codes "step") (drop 1 step) (show ∷ []) no_step ∙ skips_word a rest (codes "show") [] [] no_show)
+          (rw (no_a_start, no_step, no_show) refl)
+    ]
   ]
 ]
 
@@ -176,23 +321,37 @@ request_told (a ∷ cpu ∷ third ∷ rest) whole = elim (cases_Bool (bytes_eq a
 abbrev has_texts : List Form → Bool
 has_texts [] = true
 has_texts (word w ∷ forms) = not (length w == 0) && has_texts forms
+has_texts (words ws ∷ forms) = list_all (λ w. not (length w == 0)) ws && has_texts forms
 has_texts (_ ∷ forms) = has_texts forms
+
+one_of_texts : (ws : List (List ℕ)) (field : List ℕ) → list_all (λ w. not (length w == 0)) ws ≡ true → is_one_of ws field ≡ true → not (length field == 0) ≡ true
+one_of_texts [] field h e = cc
+one_of_texts (w ∷ ws) field h e =
+    let parts = and_parts (not (length w == 0)) (list_all (λ x. not (length x == 0)) ws) h in
+    elim (or_cases (bytes_eq field w) (is_one_of ws field) e) [
+      | inl here ↦ rw (same_word field w here) parts.0
+      | inr more ↦ one_of_texts ws field parts.1 more
+    ]
 
 -- a field that may stand in a shape is not empty
 never_empty : (form : Form) (forms : List Form) (field : List ℕ) → has_texts (form ∷ forms) ≡ true → has_word form field ≡ true → not (length field == 0) ≡ true
 never_empty (word w) forms field h e = rw (same_word field w e) (grind (arith, h))
-never_empty class forms field h e = elim (cases_Bool (bytes_eq field (codes "sync"))) [
-  | inl sync ↦ rw (same_word field (codes "sync") sync) refl
-  | inr other ↦ let async : bytes_eq field (codes "async") ≡ true = rw other at e in rw (same_word field (codes "async") async) refl
-]
+never_empty (words ws) forms field h e = one_of_texts ws field (and_parts (list_all (λ w. not (length w == 0)) ws) (has_texts forms) h).0 e
 never_empty (number low high) forms field h e = e
+never_empty signed forms field h e = e
+never_empty cpu_list forms field h e = e
 never_empty online forms field h e = e
+never_empty items forms [] h e = cc
+never_empty items forms (b ∷ bs) h e = grind (arith, nat_tests)
 
 texts_after : (form : Form) (forms : List Form) → has_texts (form ∷ forms) ≡ true → has_texts forms ≡ true
 texts_after (word w) forms h = grind (arith, h)
-texts_after class forms h = h
+texts_after (words ws) forms h = (and_parts (list_all (λ w. not (length w == 0)) ws) (has_texts forms) h).1
 texts_after (number low high) forms h = h
+texts_after signed forms h = h
+texts_after cpu_list forms h = h
 texts_after online forms h = h
+texts_after items forms h = h
 
 whole_shape : (fields : List (List ℕ)) (shape : List Form) → has_texts shape ≡ true → has_shape fields shape ≡ true → are_whole fields ≡ true
 whole_shape [] [] h e = refl
@@ -208,11 +367,11 @@ no_whole fields shape h e = elim (cases_Bool (has_shape fields shape)) [
   | inl yes_ ↦ let bad : true ≡ false = sym (whole_shape fields shape h yes_) ∙ e in cc
 ]
 
--- what reading a line from the third on tells
+-- what reading a line tells that is no title, no table and no labels
 pub line_told : (fields : List (List ℕ)) → TellsLine requests fields (HasEvents fields) (whole_directive fields)
 line_told fields = elim (cases_Bool (are_whole fields)) [
   | inl whole ↦ rw whole (request_told fields whole)
-  | inr empty ↦ shapeless (rw (no_whole fields post refl empty, no_whole fields send refl empty, no_whole fields done refl empty, no_whole fields handle refl empty, no_whole fields step refl empty, no_whole fields show refl empty) refl) (rw empty refl)
+  | inr empty ↦ shapeless (rw (no_whole fields post refl empty, no_whole fields begin refl empty, no_whole fields numbered refl empty, no_whole fields answered refl empty, no_whole fields bare refl empty, no_whole fields step refl empty, no_whole fields show refl empty) refl) (rw empty refl)
 ]
 
 -- what reading the first tells

@@ -9,8 +9,10 @@ use Rattle.smp_runner.specs.Lines.{Line, fields_of, lines_of}
 use Rattle.smp_runner.specs.Numbers.{is_decimal}
 use Rattle.smp_runner.specs.Faults.{Fault}
 use Rattle.smp_runner.specs.Script.{Script, script_of}
-use Rattle.smp_runner.specs.Shapes.{Form, word, class, number, online}
-use Rattle.smp_runner.specs.FieldFaults.{field_at, value_of, FieldFault, NumberFault, OnlineFault}
+use Rattle.smp_runner.specs.Shapes.{Form, word, words, number, signed, cpu_list, online, items}
+use Rattle.smp_runner.specs.FieldFaults.{field_at, value_of, FieldFault, ItemsFault, MaskFault, NumberFault, OnlineFault, SignedFault, is_signed}
+use Rattle.smp_runner.specs.Labels.{has_number, items_of}
+use Rattle.std.specs.List.{list_all}
 use Rattle.smp_runner.specs.FirstFault.{LineFault, past_lines, unended, no_shape, wrong_field, past_events, IsFault, IsFirstFault, past_bytes, no_line, in_line, events_to}
 use Rattle.smp_runner.proofs.LineFaults.{place_within}
 use Rattle.smp_runner.proofs.FirstFaults.{TellsText, script_tells}
@@ -51,10 +53,57 @@ online_cause nr text c d f g = elim (is_online_fault nr text c f) [
   ]
 ]
 
+-- a signed number's of its form or of its range
+is_signed_fault : (text : List ℕ) (c : Cause) → SignedFault text c → ((c ≡ Number) × (is_signed text ≡ false)) ⊎ ((c ≡ Range) × (is_signed text ≡ true))
+is_signed_fault text Number f = inl (refl, f)
+is_signed_fault text Range f = inr (refl, f.0)
+is_signed_fault text _ f = absurd f
+
+signed_cause : (text : List ℕ) (c d : Cause) → SignedFault text c → SignedFault text d → c ≡ d
+signed_cause text c d f g = elim (is_signed_fault text c f) [
+  | inl a ↦ elim (is_signed_fault text d g) [
+    | inl b ↦ a.0 ∙ sym b.0
+    | inr b ↦ let bad : false ≡ true = sym a.1 ∙ b.1 in cc
+  ]
+  | inr a ↦ elim (is_signed_fault text d g) [
+    | inl b ↦ let bad : false ≡ true = sym b.1 ∙ a.1 in cc
+    | inr b ↦ a.0 ∙ sym b.0
+  ]
+]
+
+-- a mask has one kind of fault
+is_mask_fault : (text : List ℕ) (c : Cause) → MaskFault text c → c ≡ Mask
+is_mask_fault text Mask f = refl
+is_mask_fault text _ f = absurd f
+
+mask_cause : (text : List ℕ) (c d : Cause) → MaskFault text c → MaskFault text d → c ≡ d
+mask_cause text c d f g = is_mask_fault text c f ∙ sym (is_mask_fault text d g)
+
+-- the items' faults are of their form or of their range
+is_items_fault : (keys : ℕ) (text : List ℕ) (c : Cause) → ItemsFault keys text c → ((c ≡ Number) × (list_all has_number (items_of text) ≡ false)) ⊎ ((c ≡ Range) × (list_all has_number (items_of text) ≡ true))
+is_items_fault keys text Number f = inl (refl, f)
+is_items_fault keys text Range f = inr (refl, f.0)
+is_items_fault keys text _ f = absurd f
+
+items_cause : (keys : ℕ) (text : List ℕ) (c d : Cause) → ItemsFault keys text c → ItemsFault keys text d → c ≡ d
+items_cause keys text c d f g = elim (is_items_fault keys text c f) [
+  | inl a ↦ elim (is_items_fault keys text d g) [
+    | inl b ↦ a.0 ∙ sym b.0
+    | inr b ↦ let bad : false ≡ true = sym a.1 ∙ b.1 in cc
+  ]
+  | inr a ↦ elim (is_items_fault keys text d g) [
+    | inl b ↦ let bad : false ≡ true = sym b.1 ∙ a.1 in cc
+    | inr b ↦ a.0 ∙ sym b.0
+  ]
+]
+
 field_cause : (fields : List (List ℕ)) (i : ℕ) (form : Form) (c d : Cause) → FieldFault fields i form c → FieldFault fields i form d → c ≡ d
 field_cause fields i (word w) c d f g = absurd f
-field_cause fields i class c d f g = absurd f
+field_cause fields i (words ws) c d f g = absurd f
 field_cause fields i (number low high) c d f g = number_cause low high (field_at fields i) c d f g
+field_cause fields i signed c d f g = signed_cause (field_at fields i) c d f g
+field_cause fields i cpu_list c d f g = mask_cause (field_at fields i) c d f g
+field_cause fields i items c d f g = items_cause (value_of (field_at fields 1)) (field_at fields i) c d f g
 field_cause fields i online c d f g = online_cause (value_of (field_at fields 1)) (field_at fields i) c d f g
 
 -- two faults of one rank in a line have one cause

@@ -1,5 +1,5 @@
 -- The mask of the CPUs online, and what is wrong with its field.
-use Rattle.std.proofs.Common.{◌≡◌, ℕ, suc, ◌<◌, Bool, true, false, ◌==◌, nat_lt, nat_le, List, [], ◌∷◌, length, drop, get_or, Result, Ok, Err, codes, refl, sym, ap, ◌∙◌, inl, inr, arith, subst}
+use Rattle.std.proofs.Common.{◌≡◌, ℕ, suc, ◌<◌, Bool, true, false, ◌==◌, nat_lt, nat_le, List, [], ◌∷◌, length, drop, get_or, Result, Ok, Err, codes, refl, sym, ◌∙◌, inl, inr, arith, subst}
 use Rattle.std.specs.List.{list_all}
 use Rattle.std.specs.Str.{bytes_eq}
 use Rattle.std.proofs.lemmas.Bool.{cases_Bool, cases_lt, and_parts, or_cases}
@@ -23,7 +23,8 @@ use Rattle.smp_runner.specs.FirstFault.{events_in}
 use Rattle.smp_runner.proofs.FieldFaults.{Tells, none_yet, passes, reads_number}
 use Rattle.smp_runner.proofs.LineShapes.{TellsLine, shapeless, shaped, no_whole, passes_word, skips_word}
 use Rattle.smp_runner.proofs.Online.{one_above}
-use Rattle.smp_runner.proofs.Readings.{same_word}
+use Rattle.smp_runner.proofs.MaskFields.{no_word}
+use Rattle.smp_runner.proofs.ReadParts.{same_word}
 
 -- a list names only CPUs below the width
 names_below : (w : ℕ) (items : _) → AreItems w items → (cpu : ℕ) → names items cpu ≡ true → cpu < w
@@ -83,9 +84,6 @@ data MaskRead (nr : ℕ) (text : List ℕ) : Type 0 where
   is_read : (m : ℕ) → mask_of text ≡ Ok m → are_online nr m ≡ true → ((cause : Cause) → OnlineFault nr text cause → ⊥) → MaskRead nr text
   no_mask : mask_of text ≡ Err Mask → OnlineFault nr text Mask → MaskRead nr text
   outside : (m : ℕ) → mask_of text ≡ Ok m → are_online nr m ≡ false → OnlineFault nr text Range → MaskRead nr text
-
-no_word : (text : List ℕ) → bytes_eq text (codes "-") ≡ false → text ≡ codes "-" → ⊥
-no_word text h e = let bad : true ≡ false = sym (ap (λ t. bytes_eq t (codes "-")) e) ∙ h in cc
 
 right_mask : (nr m : ℕ) (text : List ℕ) → bytes_eq text (codes "-") ≡ false → IsMaskOf NR_CPUS text m → are_online nr m ≡ true → (cause : Cause) → OnlineFault nr text cause → ⊥
 right_mask nr m text h is on Mask f = f m (inr is)

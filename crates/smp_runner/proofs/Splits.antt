@@ -3,65 +3,65 @@ use Rattle.std.proofs.Common.{◌≡◌, ℕ, true, false, ◌==◌, List, [], �
 use Rattle.std.specs.List.{join_with_byte, list_all}
 use Rattle.std.proofs.lemmas.Bool.{cases_Bool}
 use Rattle.std.proofs.lemmas.Bool.Decides.{nat_tests}
-use Rattle.smp_runner.specs.Lines.{Line, fields_of, lines_of, onto_line}
+use Rattle.smp_runner.specs.Lines.{Line, lines_of, onto_line, parts_of}
 use Rattle.smp_runner.specs.Spelling.{lacks}
 
--- the fields of a text, from the first
-record First (bs : List ℕ) : Type 0 where
-  field : List ℕ
-  others : List (List ℕ)
-  are : fields_of bs ≡ field ∷ others
+-- the parts of a text, from the first
+pub record First (mark : ℕ) (bs : List ℕ) : Type 0 where
+  pub part : List ℕ
+  pub others : List (List ℕ)
+  pub are : parts_of mark bs ≡ part ∷ others
 
-first_of : (bs : List ℕ) → First bs
-first_of [] = record { field = []; others = []; are = refl }
-first_of (b ∷ bs) =
-    let rest = first_of bs in
-    elim (cases_Bool (b == 32)) [
-      | inl space ↦ record { field = []; others = fields_of bs; are = rw space refl }
-      | inr other ↦ record { field = b ∷ rest.field; others = rest.others; are = rw (other, rest.are) refl }
+pub first_of : (mark : ℕ) (bs : List ℕ) → First mark bs
+first_of mark [] = record { part = []; others = []; are = refl }
+first_of mark (b ∷ bs) =
+    let rest = first_of mark bs in
+    elim (cases_Bool (b == mark)) [
+      | inl here ↦ record { part = []; others = parts_of mark bs; are = rw here refl }
+      | inr other ↦ record { part = b ∷ rest.part; others = rest.others; are = rw (other, rest.are) refl }
     ]
 
-join_space : (t : List ℕ) (ts : List (List ℕ)) → join_with_byte 32 ([] ∷ t ∷ ts) ≡ 32 ∷ join_with_byte 32 (t ∷ ts)
-join_space t ts = refl
+join_mark : (mark : ℕ) (t : List ℕ) (ts : List (List ℕ)) → join_with_byte mark ([] ∷ t ∷ ts) ≡ mark ∷ join_with_byte mark (t ∷ ts)
+join_mark mark t ts = refl
 
-join_byte : (b : ℕ) (t : List ℕ) (ts : List (List ℕ)) → join_with_byte 32 ((b ∷ t) ∷ ts) ≡ b ∷ join_with_byte 32 (t ∷ ts)
-join_byte b t [] = refl
-join_byte b t (u ∷ us) = refl
+join_byte : (mark b : ℕ) (t : List ℕ) (ts : List (List ℕ)) → join_with_byte mark ((b ∷ t) ∷ ts) ≡ b ∷ join_with_byte mark (t ∷ ts)
+join_byte mark b t [] = refl
+join_byte mark b t (u ∷ us) = refl
 
--- the fields, joined, are the text
-pub join_fields : (bs : List ℕ) → join_with_byte 32 (fields_of bs) ≡ bs
-join_fields [] = refl
-join_fields (b ∷ bs) =
-    let rest = first_of bs in
-    let back : join_with_byte 32 (rest.field ∷ rest.others) ≡ bs = ap (join_with_byte 32) (sym rest.are) ∙ join_fields bs in
-    elim (cases_Bool (b == 32)) [
-      | inl space ↦
-          let here : b ≡ 32 = grind (arith, nat_tests, space) in
-          rw (space, rest.are) (join_space rest.field rest.others ∙ ap (λ t. 32 ∷ t) back ∙ ap (λ x. x ∷ bs) (sym here))
-      | inr other ↦ rw (other, rest.are) (join_byte b rest.field rest.others ∙ ap (λ t. b ∷ t) back)
+-- the parts, joined, are the text
+pub join_parts : (mark : ℕ) (bs : List ℕ) → join_with_byte mark (parts_of mark bs) ≡ bs
+join_parts mark [] = refl
+join_parts mark (b ∷ bs) =
+    let rest = first_of mark bs in
+    let back : join_with_byte mark (rest.part ∷ rest.others) ≡ bs = ap (join_with_byte mark) (sym rest.are) ∙ join_parts mark bs in
+    elim (cases_Bool (b == mark)) [
+      | inl same ↦
+          let here : b ≡ mark = grind (arith, nat_tests, same) in
+          rw (same, rest.are) (join_mark mark rest.part rest.others ∙ ap (λ t. mark ∷ t) back ∙ ap (λ x. x ∷ bs) (sym here))
+      | inr other ↦ rw (other, rest.are) (join_byte mark b rest.part rest.others ∙ ap (λ t. b ∷ t) back)
     ]
 
--- no field has a space
-pub fields_lack_spaces : (bs : List ℕ) → list_all (lacks 32) (fields_of bs) ≡ true
-fields_lack_spaces [] = refl
-fields_lack_spaces (b ∷ bs) =
-    let rest = first_of bs in
-    let others : list_all (lacks 32) (rest.field ∷ rest.others) ≡ true = ap (list_all (lacks 32)) (sym rest.are) ∙ fields_lack_spaces bs in
-    elim (cases_Bool (b == 32)) [
-      | inl space ↦ rw space (fields_lack_spaces bs)
+-- no part has such a byte
+pub parts_lack_marks : (mark : ℕ) (bs : List ℕ) → list_all (lacks mark) (parts_of mark bs) ≡ true
+parts_lack_marks mark [] = refl
+parts_lack_marks mark (b ∷ bs) =
+    let rest = first_of mark bs in
+    let others : list_all (lacks mark) (rest.part ∷ rest.others) ≡ true = ap (list_all (lacks mark)) (sym rest.are) ∙ parts_lack_marks mark bs in
+    elim (cases_Bool (b == mark)) [
+      | inl same ↦ rw same (parts_lack_marks mark bs)
       | inr other ↦ rw (other, rest.are) (rw other others)
     ]
 
 -- nor a byte that the text lacks
-pub fields_lack : (c : ℕ) (bs : List ℕ) → lacks c bs ≡ true → list_all (lacks c) (fields_of bs) ≡ true
-fields_lack c [] h = refl
-fields_lack c (b ∷ bs) h =
+pub parts_lack : (mark c : ℕ) (bs : List ℕ) → lacks c bs ≡ true → list_all (lacks c) (parts_of mark bs) ≡ true
+parts_lack mark c [] h = refl
+parts_lack mark c (b ∷ bs) h =
     let here : (b == c) ≡ false = grind (arith, h) in
     let more : lacks c bs ≡ true = grind (arith, h) in
-    let rest = first_of bs in
-    let others : list_all (lacks c) (rest.field ∷ rest.others) ≡ true = ap (list_all (lacks c)) (sym rest.are) ∙ fields_lack c bs more in
-    elim (cases_Bool (b == 32)) [
-      | inl space ↦ rw space (fields_lack c bs more)
+    let rest = first_of mark bs in
+    let others : list_all (lacks c) (rest.part ∷ rest.others) ≡ true = ap (list_all (lacks c)) (sym rest.are) ∙ parts_lack mark c bs more in
+    elim (cases_Bool (b == mark)) [
+      | inl same ↦ rw same (parts_lack mark c bs more)
       | inr other ↦ rw (other, rest.are) (rw here others)
     ]
 

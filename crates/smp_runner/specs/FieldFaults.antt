@@ -1,12 +1,15 @@
 -- What is wrong with one field of a line.
-use Rattle.std.specs.Prelude.{◌≡◌, ℕ, ◌<◌, ◌≤◌, true, false, ◌⊎◌, List, [], slice_index_or, codes}
+use Rattle.std.specs.Prelude.{◌≡◌, ℕ, ◌<◌, ◌≤◌, Bool, true, false, not, ◌&&◌, ◌==◌, nat_lt, if◌then◌else◌, ◌⊎◌, List, [], ◌∷◌, length, slice_index_or, codes}
+use Rattle.std.specs.List.{list_all}
 use Rattle.smp_mask.specs.CpuList.{IsMaskOf}
 use Rattle.smp_mask.specs.Mask.{has}
 use Rattle.smp_mask.specs.declared.error.Cause.{Cause}
 use Rattle.smp_mask.specs.declared.error.Cause.TheVariants.{Number, Range, Mask}
 use Rattle.smp_mask.specs.declared.mask.TheConstants.{NR_CPUS}
+use Rattle.smp_labels.specs.declared.words.TheConstants.{MOST_SITES}
 use Rattle.smp_runner.specs.Numbers.{is_decimal, value_after}
-use Rattle.smp_runner.specs.Shapes.{Form, number, online}
+use Rattle.smp_runner.specs.Labels.{has_number, is_below, items_of}
+use Rattle.smp_runner.specs.Shapes.{Form, number, signed, cpu_list, online, items}
 
 -- the number that digits are
 abbrev pub value_of : List ℕ → ℕ
@@ -26,6 +29,33 @@ NumberFault low high field _ = ⊥
 abbrev pub IsMask : List ℕ → ℕ → Type 0
 IsMask field mask = ((field ≡ codes "-") × (mask ≡ 0)) ⊎ IsMaskOf NR_CPUS field mask
 
+-- what is wrong with a field that has to be a mask
+abbrev pub MaskFault : List ℕ → Cause → Type 0
+MaskFault field Mask = (mask : ℕ) → IsMask field mask → ⊥
+MaskFault field _ = ⊥
+
+-- the field is a number in decimal, or a minus sign and a number that is not 0
+abbrev pub is_signed : List ℕ → Bool
+is_signed [] = false
+is_signed (b ∷ bs) = if b == 45 then is_decimal bs && not (value_of bs == 0) else is_decimal (b ∷ bs)
+
+-- it is too far from 0 for 32 bits
+abbrev pub is_far : List ℕ → Bool
+is_far [] = false
+is_far (b ∷ bs) = if b == 45 then nat_lt 2147483648 (value_of bs) else nat_lt 2147483647 (value_of (b ∷ bs))
+
+-- what is wrong with a field that has to be a number of 32 bits and may have a minus sign
+abbrev pub SignedFault : List ℕ → Cause → Type 0
+SignedFault field Number = is_signed field ≡ false
+SignedFault field Range = (is_signed field ≡ true) × (is_far field ≡ true)
+SignedFault field _ = ⊥
+
+-- what is wrong with a field that has to be the items of a labels line, of so many keys
+abbrev pub ItemsFault : ℕ → List ℕ → Cause → Type 0
+ItemsFault keys field Number = list_all has_number (items_of field) ≡ false
+ItemsFault keys field Range = (list_all has_number (items_of field) ≡ true) × ((MOST_SITES < length (items_of field)) ⊎ (list_all (is_below keys) (items_of field) ≡ false))
+ItemsFault keys field _ = ⊥
+
 -- the mask has no CPU, or one that is not below nr
 abbrev pub IsOutside : ℕ → ℕ → Type 0
 IsOutside nr mask = ((cpu : ℕ) → has mask cpu ≡ false) ⊎ ((cpu : ℕ) × (has mask cpu ≡ true) × (nr ≤ cpu))
@@ -36,8 +66,12 @@ OnlineFault nr field Mask = (mask : ℕ) → IsMask field mask → ⊥
 OnlineFault nr field Range = (mask : ℕ) × IsMask field mask × IsOutside nr mask
 OnlineFault nr field _ = ⊥
 
--- what is wrong with field i, which has to have this form; where it is a mask, NR is field 1
+-- what is wrong with field i, which has to have this form; where it is the mask of the CPUs online, NR is field 1, and where
+-- it is the items, KEYS is
 abbrev pub FieldFault : List (List ℕ) → ℕ → Form → Cause → Type 0
 FieldFault fields i (number low high) cause = NumberFault low high (field_at fields i) cause
+FieldFault fields i signed cause = SignedFault (field_at fields i) cause
+FieldFault fields i cpu_list cause = MaskFault (field_at fields i) cause
 FieldFault fields i online cause = OnlineFault (value_of (field_at fields 1)) (field_at fields i) cause
+FieldFault fields i items cause = ItemsFault (value_of (field_at fields 1)) (field_at fields i) cause
 FieldFault fields i _ cause = ⊥

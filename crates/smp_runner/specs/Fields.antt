@@ -8,6 +8,8 @@ use Rattle.smp_mask.specs.declared.mask.TheConstants.{NR_CPUS}
 use Rattle.smp_mask.specs.Reading.{mask_of_text}
 use Rattle.smp_core.specs.declared.call.Class.{Class}
 use Rattle.smp_core.specs.declared.call.Class.TheVariants.{Sync, Async}
+use Rattle.smp_core.specs.declared.stop.work.Kind.{Kind}
+use Rattle.smp_core.specs.declared.stop.work.Kind.TheVariants.{One, Multi, Patch}
 use Rattle.smp_runner.specs.Numbers.{number_in}
 
 -- the numbers of 16, 32 and 64 bits
@@ -23,6 +25,12 @@ word64 text = number_in 0 18446744073709551615 text
 -- `sync` or `async`
 abbrev pub class_of : List ℕ → Result Class Cause
 class_of text = if bytes_eq text (codes "sync") then Ok Sync else (if bytes_eq text (codes "async") then Ok Async else Err Word)
+
+-- `one`, `multi` or `patch`
+abbrev pub kind_of : List ℕ → Result Kind Cause
+kind_of text =
+    if bytes_eq text (codes "one") then Ok One
+    else (if bytes_eq text (codes "multi") then Ok Multi else (if bytes_eq text (codes "patch") then Ok Patch else Err Word))
 
 abbrev pub or_mask : Result ℕ SmpError → Result ℕ Cause
 or_mask (Ok mask) = Ok mask

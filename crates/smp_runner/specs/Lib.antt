@@ -6,6 +6,7 @@ pub mod Numbers
 pub mod Faults
 pub mod Fields
 pub mod Commands
+pub mod Labels
 pub mod Script
 pub mod MeaningOf
 -- devices

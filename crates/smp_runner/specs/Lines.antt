@@ -7,10 +7,14 @@ abbrev pub onto_first : ℕ → List (List ℕ) → List (List ℕ)
 onto_first b [] = (b ∷ []) ∷ []
 onto_first b (t ∷ ts) = (b ∷ t) ∷ ts
 
--- the texts between the spaces, one at least
+-- the texts between these bytes, one at least
+abbrev pub parts_of : ℕ → List ℕ → List (List ℕ)
+parts_of mark [] = [] ∷ []
+parts_of mark (b ∷ bs) = if b == mark then [] ∷ parts_of mark bs else onto_first b (parts_of mark bs)
+
+-- the texts between the spaces
 abbrev pub fields_of : List ℕ → List (List ℕ)
-fields_of [] = [] ∷ []
-fields_of (b ∷ bs) = if b == 32 then [] ∷ fields_of bs else onto_first b (fields_of bs)
+fields_of text = parts_of 32 text
 
 -- a line, and whether a line feed ends it
 pub record Line : Type 0 where

@@ -2,7 +2,8 @@
 use Rattle.std.specs.Prelude.{ℕ, zero, suc, ◌+◌, Bool, true, false, if◌then◌else◌, List, [], ◌∷◌, ◌++◌, Option, Some, None, Result, Ok, Err}
 use Rattle.smp_mask.specs.declared.error.SmpError.{SmpError}
 use Rattle.smp_core.specs.Value.{CoreValue}
-use Rattle.smp_core.specs.Limits.{new_core}
+use Rattle.smp_labels.specs.Labels.{Labels}
+use Rattle.smp_core.specs.Limits.{new_core, no_labels}
 use Rattle.smp_core.specs.Replay.{turn_of}
 use Rattle.smp_core.specs.declared.seen.Seen.{Seen}
 use Rattle.smp_core.specs.declared.command.Event.{Event}
@@ -53,10 +54,15 @@ unfoldable pub replay_after : Progress → List Directive → Progress
 replay_after p [] = p
 replay_after p (d ∷ ds) = replay_after (directive_after p d) ds
 
--- before the first line
-abbrev pub new_progress : ℕ → ℕ → Progress
-new_progress nr online = record { core = new_core nr online; position = 0; text = []; stopped = false }
+-- no keys and no sites where there is no labels line
+abbrev pub labels_or_none : Option Labels → Labels
+labels_or_none None = no_labels
+labels_or_none (Some labels) = labels
 
--- the replay of a script, from a table with no calls
+-- before the first line
+abbrev pub new_progress : ℕ → ℕ → Labels → Progress
+new_progress nr online labels = record { core = new_core nr online labels; position = 0; text = []; stopped = false }
+
+-- the replay of a script, from a table with no calls and no stops, all keys off
 abbrev pub replay_of : Script → Progress
-replay_of script = replay_after (new_progress script.nr script.online) script.directives
+replay_of script = replay_after (new_progress script.nr script.online (labels_or_none script.labels)) script.directives

@@ -1,5 +1,5 @@
 -- What a script means, or its first fault.
-use Rattle.std.specs.Prelude.{ℕ, ◌+◌, Bool, ◌&&◌, nat_lt, if◌then◌else◌, List, [], ◌∷◌, length, Result, Ok, Err, codes}
+use Rattle.std.specs.Prelude.{ℕ, ◌+◌, Bool, ◌&&◌, nat_lt, if◌then◌else◌, List, [], ◌∷◌, length, Option, Some, None, Result, Ok, Err, codes}
 use Rattle.std.specs.List.{list_all}
 use Rattle.std.specs.Str.{bytes_eq}
 use Rattle.smp_mask.specs.Mask.{members}
@@ -13,11 +13,14 @@ use Rattle.smp_runner.specs.Numbers.{number_in}
 use Rattle.smp_runner.specs.Faults.{◌>>=◌, Fault, at_line}
 use Rattle.smp_runner.specs.Fields.{mask_of}
 use Rattle.smp_runner.specs.Commands.{are_whole, line_directive}
+use Rattle.smp_labels.specs.Labels.{Labels}
+use Rattle.smp_runner.specs.Labels.{is_labels, whole_labels}
 
--- how many CPUs there are, which are online, and what the lines ask for
+-- how many CPUs there are, which are online, the labels line where there is one, and what the lines ask for
 pub record Script : Type 0 where
   pub nr : ℕ
   pub online : ℕ
+  pub labels : Option Labels
   pub directives : List Directive
 
 -- how many events a line makes
@@ -68,6 +71,19 @@ cpus_of _ = Err Word
 abbrev pub whole_cpus : List (List ℕ) → Result (ℕ × ℕ) Cause
 whole_cpus fields = if are_whole fields then cpus_of fields else Err Word
 
+-- the labels line, where line 3 is one, and the lines after it
+abbrev pub labels_at : List Line → Result (Option Labels × List Line) Fault
+labels_at [] = Ok (None, [])
+labels_at (l ∷ ls) =
+    if is_labels (fields_of l.text) then
+    (if l.ended then (at_line 3 (whole_labels (fields_of l.text)) >>= λ labels. Ok (Some labels, ls)) else Err (3, Cut))
+    else Ok (None, l ∷ ls)
+
+-- the number of the first line that asks for something
+abbrev pub first_line : Option Labels → ℕ
+first_line None = 3
+first_line (Some labels) = 4
+
 -- what a script asks for, or its first fault
 unfoldable pub script_of : List ℕ → Result Script Fault
 script_of text =
@@ -77,5 +93,6 @@ script_of text =
       _ ← at_line 1 (title_of (fields_of first.0))
       second ← line_at 2 first.1
       table ← at_line 2 (whole_cpus (fields_of second.0))
-      directives ← directives_of 3 0 second.1
-      Ok (record { nr = table.0; online = table.1; directives = directives }))
+      third ← labels_at second.1
+      directives ← directives_of (first_line third.0) 0 third.1
+      Ok (record { nr = table.0; online = table.1; labels = third.0; directives = directives }))

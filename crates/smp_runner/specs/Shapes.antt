@@ -1,14 +1,21 @@
 -- The shapes that a line may have, field by field. Its words and the number of its fields tell which one it has.
 use Rattle.std.specs.Prelude.{ℕ, ◌-◌, ◌^◌, Bool, true, false, not, ◌&&◌, ◌||◌, ◌==◌, if◌then◌else◌, List, [], ◌∷◌, length, find, Option, codes}
 use Rattle.std.specs.Str.{bytes_eq}
+use Rattle.std.specs.List.{list_all}
 use Rattle.smp_mask.specs.declared.mask.TheConstants.{NR_CPUS}
+use Rattle.smp_labels.specs.declared.words.TheConstants.{MOST_KEYS}
+use Rattle.smp_runner.specs.Labels.{is_item, items_of}
 
--- what a field has to be: that word, a class, a number from one to another, or the mask of the CPUs online
+-- what a field has to be: that word, one of these words, a number from one to another, a number of 32 bits that may have a
+-- minus sign, a CPU list or `-`, the mask of the CPUs online, or the items of the labels
 pub data Form : Type 0 where
   word : List ℕ → Form
-  class : Form
+  words : List (List ℕ) → Form
   number : ℕ → ℕ → Form
+  signed : Form
+  cpu_list : Form
   online : Form
+  items : Form
 
 -- a number of so many bits
 abbrev pub bits : ℕ → Form
@@ -22,21 +29,49 @@ title = word (codes "smp") ∷ word (codes "1") ∷ word (codes "replay") ∷ []
 abbrev pub cpus : List Form
 cpus = word (codes "cpus") ∷ number 1 NR_CPUS ∷ online ∷ []
 
+-- `labels KEYS ITEMS`
+abbrev pub labels : List Form
+labels = word (codes "labels") ∷ number 0 MOST_KEYS ∷ items ∷ []
+
+-- `sync` or `async`
+abbrev pub class : Form
+class = words (codes "sync" ∷ codes "async" ∷ [])
+
+-- `one`, `multi` or `patch`
+abbrev pub kind : Form
+kind = words (codes "one" ∷ codes "multi" ∷ codes "patch" ∷ [])
+
 -- `start CPU post K DST CLASS FUNC INFO TRIES`
 abbrev pub post : List Form
 post = word (codes "start") ∷ bits 32 ∷ word (codes "post") ∷ bits 32 ∷ bits 32 ∷ class ∷ bits 16 ∷ bits 64 ∷ bits 32 ∷ []
 
--- `start CPU send DST`
-abbrev pub send : List Form
-send = word (codes "start") ∷ bits 32 ∷ word (codes "send") ∷ bits 32 ∷ []
+-- `start CPU begin KIND MASK ACTIVE FUNC ARG`
+abbrev pub begin : List Form
+begin = word (codes "start") ∷ bits 32 ∷ word (codes "begin") ∷ kind ∷ cpu_list ∷ cpu_list ∷ bits 16 ∷ bits 64 ∷ []
 
--- `start CPU done K`
-abbrev pub done : List Form
-done = word (codes "start") ∷ bits 32 ∷ word (codes "done") ∷ bits 32 ∷ []
+-- the commands with a number
+abbrev pub with_number : List (List ℕ)
+with_number = codes "send" ∷ codes "done" ∷ codes "enter" ∷ codes "key" ∷ codes "site" ∷ []
 
--- `start CPU handle`
-abbrev pub handle : List Form
-handle = word (codes "start") ∷ bits 32 ∷ word (codes "handle") ∷ []
+-- `start CPU NAME N`
+abbrev pub numbered : List Form
+numbered = word (codes "start") ∷ bits 32 ∷ words with_number ∷ bits 32 ∷ []
+
+-- the commands with an answer
+abbrev pub with_answer : List (List ℕ)
+with_answer = codes "advance" ∷ codes "runone" ∷ []
+
+-- `start CPU NAME RET`
+abbrev pub answered : List Form
+answered = word (codes "start") ∷ bits 32 ∷ words with_answer ∷ signed ∷ []
+
+-- the commands with no argument
+abbrev pub with_none : List (List ℕ)
+with_none = codes "handle" ∷ codes "gate" ∷ codes "ungate" ∷ codes "finish" ∷ codes "poll" ∷ []
+
+-- `start CPU NAME`
+abbrev pub bare : List Form
+bare = word (codes "start") ∷ bits 32 ∷ words with_none ∷ []
 
 -- `step CPU N`
 abbrev pub step : List Form
@@ -46,16 +81,27 @@ step = word (codes "step") ∷ bits 32 ∷ number 1 10000 ∷ []
 abbrev pub show : List Form
 show = word (codes "show") ∷ []
 
+-- what a line may ask for
+abbrev pub requests : List (List Form)
+requests = post ∷ begin ∷ numbered ∷ answered ∷ bare ∷ step ∷ show ∷ []
+
 -- the shapes of line n
 abbrev pub shapes_of : ℕ → List (List Form)
 shapes_of n =
     if n == 1 then title ∷ []
-    else (if n == 2 then cpus ∷ [] else post ∷ send ∷ done ∷ handle ∷ step ∷ show ∷ [])
+    else (if n == 2 then cpus ∷ [] else (if n == 3 then labels ∷ requests else requests))
 
--- the field is the word or the class that it has to be, and not empty where it has to be something else
+-- the field is one of these words
+abbrev pub is_one_of : List (List ℕ) → List ℕ → Bool
+is_one_of [] field = false
+is_one_of (w ∷ ws) field = bytes_eq field w || is_one_of ws field
+
+-- the words of the field are right: it is the word or one of those that it has to be, or each of the items; else it is not
+-- empty
 abbrev pub has_word : Form → List ℕ → Bool
 has_word (word w) field = bytes_eq field w
-has_word class field = bytes_eq field (codes "sync") || bytes_eq field (codes "async")
+has_word (words ws) field = is_one_of ws field
+has_word items field = list_all is_item (items_of field)
 has_word _ field = not (length field == 0)
 
 -- as many fields as the shape has, and the words right

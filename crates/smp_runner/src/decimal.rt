@@ -1,7 +1,7 @@
 //! Decimal numbers.
 
 ghost use Rattle.std.specs.Prelude.{◌≡◌, ◌≤◌, IfOk};
-ghost use Rattle.smp_runner.specs.Numbers.{number_in};
+ghost use Rattle.smp_runner.specs.Numbers.{is_decimal, number_in, negative_of, signed_of};
 ghost use Rattle.smp_runner.specs.Fields.{word16, word32, word64};
 
 use smp_mask::Cause;
@@ -56,4 +56,35 @@ pub fn read_u64(text: &[u8]) -> Result<u64, Cause>
     ensures { result ≡ word64 text.now }
 {
     number(text, 0, u64::MAX)
+}
+
+/// Whether a text is a number in decimal, with no leading zero, of whatever size.
+pub fn is_number(text: &[u8]) -> bool
+    ensures { result ≡ is_decimal text.now }
+{
+    number(text, 0, u64::MAX) != Err(Cause::Number)
+}
+
+// What follows a minus sign: a number that is not 0.
+fn read_negative(digits: &[u8]) -> Result<i32, Cause>
+    ensures { result ≡ negative_of digits.now }
+{
+    let n = number(digits, 0, 1 << 31)?;
+    if n == 0 {
+        return Err(Cause::Number);
+    }
+    Ok((-(n as i64)) as i32)
+}
+
+/// A number of 32 bits that may have a minus sign, but not before 0.
+pub fn read_i32(text: &[u8]) -> Result<i32, Cause>
+    ensures { result ≡ signed_of text.now }
+{
+    match text {
+        [b'-', digits @ ..] => read_negative(digits),
+        _ => {
+            let n = number(text, 0, i32::MAX as u64)?;
+            Ok(n as i32)
+        }
+    }
 }

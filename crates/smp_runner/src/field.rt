@@ -1,10 +1,10 @@
 //! Fields that are no numbers.
 
 ghost use Rattle.std.specs.Prelude.{◌≡◌, ◌<◌, ◌^◌, length};
-ghost use Rattle.smp_runner.specs.Fields.{class_of, mask_of};
+ghost use Rattle.smp_runner.specs.Fields.{class_of, kind_of, mask_of};
 
 use crate::line::is_word;
-use smp_core::Class;
+use smp_core::{Class, Kind};
 use smp_mask::{Cause, CpuMask};
 
 /// `sync` or `async`.
@@ -16,6 +16,22 @@ pub fn read_class(text: &[u8]) -> Result<Class, Cause>
     }
     if is_word(text, b"async") {
         return Ok(Class::Async);
+    }
+    Err(Cause::Word)
+}
+
+/// `one`, `multi` or `patch`.
+pub fn read_kind(text: &[u8]) -> Result<Kind, Cause>
+    ensures { result ≡ kind_of text.now }
+{
+    if is_word(text, b"one") {
+        return Ok(Kind::One);
+    }
+    if is_word(text, b"multi") {
+        return Ok(Kind::Multi);
+    }
+    if is_word(text, b"patch") {
+        return Ok(Kind::Patch);
     }
     Err(Cause::Word)
 }

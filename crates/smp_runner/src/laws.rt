@@ -2,15 +2,16 @@
 
 ghost use Rattle.std.specs.Prelude.{◌≡◌, ◌↔◌, ℕ, List, Ok, Err, IsOk};
 ghost use Rattle.smp_mask.specs.declared.error.Cause.{Cause};
+ghost use Rattle.smp_runner.specs.declared.directive.Directive.{Directive};
 ghost use Rattle.smp_runner.specs.FirstFault.{IsFaultless, IsFirstFault};
 ghost use Rattle.smp_runner.specs.Script.{Script, script_of};
-ghost use Rattle.smp_runner.specs.Spelling.{IsLawful, IsSpelling, canonical_text};
+ghost use Rattle.smp_runner.specs.Spelling.{IsLawful, IsSpelling, Masks, canonical_text};
 
 /// The canonical text of each script within the limits reads back as that script. And a text reads as a script
-/// exactly where it spells that script, with some CPU list of its mask in place of the canonical one.
+/// exactly where it spells that script, with some CPU list of each mask in place of the canonical one.
 pub fn scripts_are_spellings()
     ensures canonical { (script : Script) → IsLawful script → script_of (canonical_text script) ≡ Ok script }
-    ensures only { (text : List ℕ) → (script : Script) → (script_of text ≡ Ok script) ↔ ((mask : List ℕ) × IsSpelling mask script text) }
+    ensures only { (text : List ℕ) → (script : Script) → (script_of text ≡ Ok script) ↔ ((mask : List ℕ) × (lines : List (Masks × Directive)) × IsSpelling mask lines script text) }
 {}
 
 /// A text is refused with a line and a cause exactly where these are its first fault: no line before has a fault,

@@ -2,7 +2,7 @@
 
 ghost use Rattle.std.specs.Prelude.{◌≡◌, ◌<◌, ◌≤◌, [], ◌∷◌, MatchOption, IfSome, IfOk, map, length};
 ghost use Rattle.std.specs.Str.{bytes_eq};
-ghost use Rattle.smp_runner.specs.Lines.{fields_of, lines_of};
+ghost use Rattle.smp_runner.specs.Lines.{fields_of, lines_of, parts_of};
 ghost use Rattle.smp_runner.specs.LineOf.{line_of};
 
 use std::alloc::{AllocError, Allocator};
@@ -40,31 +40,38 @@ pub fn next_line(text: &[u8]) -> Option<Line<'_>>
     })
 }
 
-// The field at the front and what follows its space, or nothing where no space does.
-fn split_field(rest: &[u8]) -> Option<(&[u8], &[u8])>
-    ensures fields { MatchOption result (fields_of rest.now ≡ rest.now ∷ []) (λ p. fields_of rest.now ≡ p.0.now ∷ fields_of p.1.now) }
-    ensures shorter { IfSome result (λ p. length p.1.now < length rest.now) }
+/// The text up to the first of these bytes and what follows it, or nothing where there is none.
+pub fn split_part(text: &[u8], mark: u8) -> Option<(&[u8], &[u8])>
+    ensures parts { MatchOption result (parts_of mark text.now ≡ text.now ∷ []) (λ p. parts_of mark text.now ≡ p.0.now ∷ parts_of mark p.1.now) }
+    ensures shorter { IfSome result (λ p. length p.1.now < length text.now) }
 {
-    for (i, byte) in rest.iter().enumerate() {
-        if *byte == b' ' {
-            return Some((&rest[..i], &rest[i + 1..]));
+    for (i, byte) in text.iter().enumerate() {
+        if *byte == mark {
+            return Some((&text[..i], &text[i + 1..]));
         }
     }
     None
 }
 
-/// The fields of a line, each between two spaces or an end.
-pub fn fields<A: Allocator>(alloc: A, line: &[u8]) -> Result<Vec<&[u8], A>, AllocError>
-    ensures { IfOk result (λ v. map (λ s. s.now) v.items ≡ fields_of line.now) }
+/// The parts of a text, each between two of these bytes or an end.
+pub fn parts<A: Allocator>(alloc: A, text: &[u8], mark: u8) -> Result<Vec<&[u8], A>, AllocError>
+    ensures { IfOk result (λ v. map (λ s. s.now) v.items ≡ parts_of mark text.now) }
 {
     let mut found = Vec::new(alloc);
-    let mut rest = line;
-    while let Some((field, after)) = split_field(rest) {
-        found.push(field)?;
+    let mut rest = text;
+    while let Some((part, after)) = split_part(rest, mark) {
+        found.push(part)?;
         rest = after;
     }
     found.push(rest)?;
     Ok(found)
+}
+
+/// The fields of a line, between its spaces.
+pub fn fields<A: Allocator>(alloc: A, line: &[u8]) -> Result<Vec<&[u8], A>, AllocError>
+    ensures { IfOk result (λ v. map (λ s. s.now) v.items ≡ fields_of line.now) }
+{
+    parts(alloc, line, b' ')
 }
 
 /// Whether a field is that word.

@@ -1,10 +1,10 @@
 //! Runs what a script asks for, and keeps what it prints.
 
 ghost use Rattle.std.specs.Prelude.{◌≡◌, ◌+◌, ◌++◌, ◌<◌, ◌≤◌, ◌^◌, false, IfOk, IfErr, OnOk, sum_by, string_bytes};
-ghost use Rattle.smp_core.specs.Limits.{AreLimits};
+ghost use Rattle.smp_core.specs.Limits.{AreLimits, new_core};
 ghost use Rattle.smp_runner.specs.Script.{events_of};
 ghost use Rattle.smp_runner.specs.MeaningOf.{meaning_of};
-ghost use Rattle.smp_runner.specs.Output.{directive_after, event_after, event_text, replay_after, replay_of, show_after, steps_after};
+ghost use Rattle.smp_runner.specs.Output.{directive_after, event_after, event_text, labels_or_none, replay_after, replay_of, show_after, steps_after};
 ghost use Rattle.smp_runner.specs.ProgressOf.{progress_of};
 
 use crate::directive::Directive;
@@ -12,7 +12,8 @@ use crate::script::Script;
 use crate::show::write_show;
 use crate::text::{write_seen, write_stopped};
 use smp_core::{Core, Event, Seen};
-use smp_mask::SmpError;
+use smp_labels::LabelMap;
+use smp_mask::{CpuMask, SmpError};
 use std::alloc::{AllocError, Allocator};
 
 // A step prints its line, and a start none.
@@ -106,7 +107,24 @@ pub struct Printed<A: Allocator> {
     pub stopped: bool,
 }
 
-/// Runs a script on a table with no calls.
+// A core with no calls and no stops, and with these labels.
+fn new_core<A: Allocator + Copy>(
+    alloc: A,
+    nr: u32,
+    online: CpuMask,
+    labels: &Option<LabelMap>,
+) -> Result<Core<A>, SmpError>
+    requires { AreLimits nr online }
+    ensures core { IfOk result (λ core. core ≡ new_core nr online (labels_or_none labels.now)) }
+    ensures err { IfErr result (λ e. e ≡ SmpError.NoMemory) }
+{
+    match labels {
+        Some(labels) => Core::with_labels(alloc, nr, online, labels),
+        None => Core::new(alloc, nr, online),
+    }
+}
+
+/// Runs a script on a table with no calls and no stops.
 pub fn play_script<A: Allocator + Copy>(
     alloc: A,
     script: &Script<A>,
@@ -117,7 +135,7 @@ pub fn play_script<A: Allocator + Copy>(
     ensures stopped { IfOk result (λ o. o.stopped ≡ (replay_of (meaning_of script.now)).stopped) }
     ensures err { IfErr result (λ e. e ≡ SmpError.NoMemory) }
 {
-    let core = Core::new(alloc, script.nr, script.online)?;
+    let core = new_core(alloc, script.nr, script.online, &script.labels)?;
     let mut playback = Playback {
         core,
         position: 0,

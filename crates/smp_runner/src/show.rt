@@ -3,13 +3,13 @@
 ghost use Rattle.std.specs.Prelude.{◌≡◌, ◌++◌, OnOk, string_bytes};
 ghost use Rattle.std.specs.List.{flat_map};
 ghost use Rattle.smp_mask.specs.Mask.{members};
-ghost use Rattle.smp_core.specs.Size.{records};
+ghost use Rattle.smp_core.specs.Size.{cpus, records};
 ghost use Rattle.smp_runner.specs.Text.{list_text};
-ghost use Rattle.smp_runner.specs.Showing.{if_locked, is_locked, locked_below, queue_text, show_text};
+ghost use Rattle.smp_runner.specs.Showing.{if_locked, is_locked, locked_below, phase_text, phases_below, queue_text, show_text};
 
 use crate::text::write_list;
-use smp_core::size::RECORDS;
-use smp_core::{Core, Word};
+use smp_core::size::{NR_CPUS, RECORDS};
+use smp_core::{Core, Field, Word};
 use std::alloc::{AllocError, Allocator};
 
 // The line of a queue: its CPU and its records, oldest first.
@@ -76,7 +76,34 @@ fn write_locked<A: Allocator, B: Allocator>(
     Ok(())
 }
 
-/// The queues of the CPUs online, the locked records, and the phases: no slot has one yet.
+// A slot whose state is not 0, and its state.
+fn write_if_begun<A: Allocator, B: Allocator>(
+    out: &mut String<A>,
+    core: &Core<B>,
+    slot: u32,
+) -> Result<(), AllocError>
+    ensures { OnOk result (string_bytes out.new ≡ string_bytes out.old ++ phase_text core.now slot) }
+{
+    match core.word(Word::Slot(slot, Field::State)) {
+        Some(state) if state != 0 => write!(out, " {slot}={state}"),
+        _ => write!(out, ""),
+    }
+}
+
+// The slots whose state is not 0, ascending.
+fn write_phases<A: Allocator, B: Allocator>(
+    out: &mut String<A>,
+    core: &Core<B>,
+) -> Result<(), AllocError>
+    ensures { OnOk result (string_bytes out.new ≡ string_bytes out.old ++ phases_below core.now cpus) }
+{
+    for slot in 0..NR_CPUS {
+        write_if_begun(out, core, slot)?;
+    }
+    Ok(())
+}
+
+/// The queues of the CPUs online, the locked records, and the phases of the slots that are not in phase 0.
 pub fn write_show<A: Allocator, B: Allocator>(
     out: &mut String<A>,
     core: &Core<B>,
@@ -86,5 +113,7 @@ pub fn write_show<A: Allocator, B: Allocator>(
     write_queues(out, core)?;
     write!(out, "locked:")?;
     write_locked(out, core)?;
-    write!(out, "\nphase:\n")
+    write!(out, "\nphase:")?;
+    write_phases(out, core)?;
+    writeln!(out, "")
 }

@@ -45,6 +45,110 @@ locked:
 phase:
 ";
 
+/// A stop of one CPU, from the gate to its result.
+const ONE_STOP: &[u8] = b"smp 1 replay
+cpus 1 0
+start 0 gate
+step 0 1
+start 0 begin multi 0 0 9 5
+step 0 11
+start 0 ungate
+step 0 1
+start 0 enter 0
+step 0 4
+start 0 advance 7
+step 0 4
+start 0 advance 7
+step 0 4
+start 0 advance 7
+step 0 6
+start 0 advance 7
+step 0 4
+start 0 finish
+step 0 3
+start 0 poll
+step 0 2
+show
+";
+
+const ITS_STEPS: &[u8] = b"0 cas gate 0 > 1 ; gate
+0 store slot.0.kind 1
+0 store slot.0.mask 1
+0 store slot.0.active 1
+0 store slot.0.func 9
+0 store slot.0.arg 5
+0 store slot.0.result 0
+0 store slot.0.todo 1
+0 store slot.0.done 0
+0 store slot.0.ack 1
+0 store slot.0.state 1
+0 store slot.0.roll 1 ; begun
+0 store gate 0 ; open
+0 and slot.0.roll 1
+0 load slot.0.kind 1
+0 load slot.0.mask 1
+0 load slot.0.active 1 ; entered
+0 load slot.0.state 1
+0 sub slot.0.ack 1
+0 store slot.0.ack 1
+0 store slot.0.state 2 ; moved 1
+0 load slot.0.state 2
+0 sub slot.0.ack 1
+0 store slot.0.ack 1
+0 store slot.0.state 3 ; moved 2
+0 load slot.0.state 3
+0 load slot.0.func 9
+0 load slot.0.arg 5 ; run 9 5
+0 sub slot.0.ack 1
+0 store slot.0.ack 1
+0 store slot.0.state 4 ; ran
+0 load slot.0.state 4
+0 sub slot.0.ack 1
+0 store slot.0.ack 1
+0 store slot.0.state 5 ; left
+0 store slot.0.result 7
+0 sub slot.0.todo 1
+0 store slot.0.done 1 ; finished
+0 load slot.0.done 1
+0 load slot.0.result 7 ; result 7
+queue 0:
+locked:
+phase: 0=5
+";
+
+/// A patch of one key with two sites.
+const ONE_PATCH: &[u8] = b"smp 1 replay
+cpus 1 0
+labels 1 0:0,0:1
+start 0 gate
+step 0 1
+start 0 begin patch 0 0 0 1
+step 0 11
+start 0 enter 0
+step 0 4
+start 0 advance 0
+step 0 4
+start 0 advance 0
+step 0 4
+start 0 advance 0
+step 0 13
+";
+
+const ITS_LAST_STEPS: &[u8] = b"0 load slot.0.state 3
+0 load slot.0.func 0
+0 load slot.0.arg 1
+0 load key.0 0
+0 load entry.0 1
+0 load entry.1 2
+0 load entry.2 0
+0 store key.0 1
+0 store site.0 1
+0 store site.1 0
+0 sub slot.0.ack 1
+0 store slot.0.ack 1
+0 store slot.0.state 4 ; ran
+";
+
 /// Gives one byte a read, and fails at read `fails_at`, counted from 0.
 #[derive(Drop)]
 struct Slow<'a> {
@@ -109,6 +213,84 @@ fn one_call(rt: HostRuntime) {
     let (answer, written) = replayed(&rt, ONE_CALL);
     assert_eq!(rt; answer, Ok(Outcome::Done));
     assert_eq!(rt; written.as_slice(), ITS_OUTPUT);
+}
+
+#[test]
+fn one_stop(rt: HostRuntime) {
+    let (answer, written) = replayed(&rt, ONE_STOP);
+    assert_eq!(rt; answer, Ok(Outcome::Done));
+    assert_eq!(rt; written.as_slice(), ITS_STEPS);
+}
+
+#[test]
+fn one_patch(rt: HostRuntime) {
+    let (answer, written) = replayed(&rt, ONE_PATCH);
+    assert_eq!(rt; answer, Ok(Outcome::Done));
+    assert!(rt; written.as_slice().ends_with(ITS_LAST_STEPS));
+}
+
+#[test]
+fn stale_and_refused_stops(rt: HostRuntime) {
+    let gate =
+        b"smp 1 replay\ncpus 2 0-1\nstart 0 gate\nstep 0 1\nstart 0 begin multi 0 0 1 0\nstep 0 11\n";
+    let cases: [(&[u8], &[u8], Outcome); 3] = [
+        (
+            b"start 1 enter 0\nstep 1 1\n",
+            b"1 and slot.0.roll 1 ; E7\n",
+            Outcome::Done,
+        ),
+        (
+            b"start 0 begin multi 0 0 1 0\nshow\n",
+            b"stopped 14 E8\n",
+            Outcome::Stopped,
+        ),
+        (
+            b"start 0 enter 0\nstep 0 4\nstart 0 enter 0\n",
+            b" ; entered\nstopped 19 E7\n",
+            Outcome::Stopped,
+        ),
+    ];
+    for (more, end, outcome) in cases {
+        let mut script = Vec::new(rt.alloc());
+        assert!(rt; script.extend_from_slice(gate).is_ok());
+        assert!(rt; script.extend_from_slice(more).is_ok());
+        let (answer, written) = replayed(&rt, script.as_slice());
+        assert_eq!(rt; answer, Ok(outcome));
+        assert!(rt; written.as_slice().ends_with(end));
+    }
+}
+
+#[test]
+fn faults_of_labels_and_stops(rt: HostRuntime) {
+    let cases: [(&[u8], Cause); 12] = [
+        (b"labels 5 0:2\n", Cause::Word),
+        (b"labels 1 0:0,\n", Cause::Word),
+        (b"labels 01 0\n", Cause::Word),
+        (b"labels 1 0:00\n", Cause::Word),
+        (b"labels 5 x:0\n", Cause::Range),
+        (b"labels 1 :0\n", Cause::Number),
+        (b"labels 1 1:0\n", Cause::Range),
+        (
+            b"labels 1 0:0,0:0,0:0,0:0,0:0,0:0,0:0,0:0,0:0,0:0,0:0,0:0,0:0,0:0,0:0,0:0,0:0\n",
+            Cause::Range,
+        ),
+        (b"start 0 begin fun 0- 0 9 5\n", Cause::Word),
+        (b"start 0 begin one 0- 0 9 5\n", Cause::Mask),
+        (b"start 0 advance -0\n", Cause::Number),
+        (b"start 0 runone -2147483649\n", Cause::Range),
+    ];
+    for (line_3, cause) in cases {
+        let mut script = Vec::new(rt.alloc());
+        assert!(rt;
+            script
+                .extend_from_slice(b"smp 1 replay\ncpus 2 0-1\n")
+                .is_ok()
+        );
+        assert!(rt; script.extend_from_slice(line_3).is_ok());
+        let (answer, written) = replayed(&rt, script.as_slice());
+        assert_eq!(rt; answer, Err(SmpError::BadScript { line: 3, cause }));
+        assert!(rt; written.is_empty());
+    }
 }
 
 #[test]
