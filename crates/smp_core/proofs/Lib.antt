@@ -12,6 +12,7 @@ pub mod Drained
 pub mod Every
 pub mod Fits
 pub mod Frames
+pub mod Halves
 pub mod Handles
 pub mod Handling
 pub mod Links

@@ -1,17 +1,34 @@
 -- One more event of a replay.
-use Rattle.std.proofs.Common.{◌≡◌, ℕ, ◌+◌, ◌<◌, List, [], ◌∷◌, ◌++◌, Option, Some, None, Result, Ok, length, get_or, drop, sym, ◌∙◌, ap, refl, append_assoc}
-use Rattle.std.proofs.lemmas.List.{drop_more}
+use Rattle.std.proofs.Common.{◌≡◌, ℕ, ◌+◌, ◌<◌, ◌≤◌, List, [], ◌∷◌, ◌++◌, Option, Some, None, Result, Ok, Err, length, length-append, get_or, drop, sym, subst, ◌∙◌, ap, refl, append_assoc, append-nil, arith}
+use Rattle.std.proofs.lemmas.List.{drop_more, drop_all}
 use Rattle.smp_core.specs.Calls.{CallState, tells, tells_all, tells_if}
-use Rattle.smp_core.specs.Value.{CoreValue, Shown}
-use Rattle.smp_core.specs.Replay.{Replay, replay_from, replay_on, after_seen, seen_list, turn_of}
+use Rattle.smp_core.specs.Value.{CoreValue, Shown, control_of}
+use Rattle.smp_core.specs.Machine.{setup_in, step_at}
+use Rattle.smp_core.specs.Replay.{Replay, answers_from, answers_on, replay_from, replay_on, after_seen, seen_list, start_turn, step_turn, turn_of}
+use Rattle.smp_core.specs.Start.{refusal_of, started}
+use Rattle.smp_core.specs.Stops.Starts.{stop_begun_if, stop_first}
+use Rattle.smp_core.specs.Stops.State.{Setup, StopState}
+use Rattle.smp_core.specs.Stops.Tells as stops
+use Rattle.smp_core.specs.Stops.Tells.{tells_all as tells_stops, tells_if as stops_if}
+use Rattle.smp_core.specs.Stops.Value.{StopsValue, StopShown, setup_of, stop_control_of}
 use Rattle.smp_core.specs.declared.seen.Seen.{Seen}
+use Rattle.smp_core.specs.declared.command.Command.{Command}
 use Rattle.smp_core.specs.declared.command.Event.{Event}
+use Rattle.smp_core.specs.declared.command.Event.TheVariants as event
+use Rattle.smp_core.specs.declared.stage.Stage.{Stage}
+use Rattle.smp_core.specs.declared.stop.stage.StopStage.{StopStage}
 use Rattle.smp_mask.specs.declared.error.SmpError.{SmpError}
 
 -- the replay so far, and then that of the rest, is the replay of all
 pub record GoesOn (first core : CoreValue) (events : List Event) (at : ℕ) (seen : List Seen) : Type 0 where
   pub run : after_seen seen (replay_from at core (drop at events)) ≡ replay_from 0 first events
   pub told : (calls : CallState) → Shown calls first → Shown (tells_all calls seen) core
+  -- the answers of the functions so far, and then those of the rest, are the answers of all
+  pub answers : List ℕ
+  pub answered : answers ++ answers_from core (drop at events) ≡ answers_from first events
+  pub paired : length answers ≡ length seen
+  pub setup : setup_in core ≡ setup_in first
+  pub stops : (p : StopState) → StopShown p first.stops → StopShown (tells_stops (setup_in first) p seen answers) core.stops
 
 pub tells_all-append : (a : CallState) (xs : List Seen) (s : Option Seen) → tells_all a (xs ++ seen_list s) ≡ tells_if (tells_all a xs) s
 tells_all-append a [] None = refl
@@ -26,14 +43,104 @@ replay_more : (at : ℕ) (core : CoreValue) (event : Event) (rest : List Event) 
 replay_more at core event rest s e = let e2 : (turn_of core event).answer ≡ Ok s = sym e in
     ap (λ (x : Result (Option Seen) SmpError). replay_on at (turn_of core event).core x (replay_from (at + 1) (turn_of core event).core rest)) e2
 
+answer_list : Option Seen → ℕ → List ℕ
+answer_list None answer = []
+answer_list (Some seen) answer = answer ∷ []
+
+answers_more : (s : Option Seen) (answer : ℕ) (rest : List ℕ) → answer_list s answer ++ rest ≡ answers_on (Ok s) answer rest
+unfolding answer_list
+answers_more None answer rest = refl
+answers_more (Some seen) answer rest = refl
+
+answers_once : (s : Option Seen) (answer : ℕ) → length (answer_list s answer) ≡ length (seen_list s)
+unfolding answer_list
+answers_once None answer = refl
+answers_once (Some seen) answer = refl
+
+tells_stops-append : (u : Setup) (p : StopState) (xs : List Seen) (answers : List ℕ) (s : Option Seen) (answer : ℕ) → length answers ≡ length xs →
+    tells_stops u p (xs ++ seen_list s) (answers ++ answer_list s answer) ≡ stops_if u (tells_stops u p xs answers) s answer
+unfolding answer_list
+tells_stops-append u p [] [] None answer l = refl
+tells_stops-append u p [] [] (Some s) answer l = refl
+tells_stops-append u p [] (a ∷ answers) s answer l = absurd (omega (arith, l))
+tells_stops-append u p (x ∷ xs) [] s answer l = absurd (omega (arith, l))
+tells_stops-append u p (x ∷ xs) (a ∷ answers) s answer l = tells_stops-append u (stops.tells u p x a) xs answers s answer (omega (arith, l))
+
+begun_setup : (v : StopsValue) (cpu : ℕ) (stage : Option StopStage) → setup_of (stop_begun_if v cpu stage).online (stop_begun_if v cpu stage).labels ≡ setup_of v.online v.labels
+begun_setup v cpu None = refl
+begun_setup v cpu (Some stage) = refl
+
+start_setup : (core : CoreValue) (cpu : ℕ) (c : Command) (refused : Option SmpError) → setup_in (start_turn core (started core cpu c) refused).core ≡ setup_in core
+start_setup core cpu c (Some e) = refl
+start_setup core cpu c None = begun_setup core.stops cpu (stop_first (stop_control_of core.stops.controls cpu) c)
+
+step_setup : (core : CoreValue) (cpu : ℕ) (x : Option Stage) (y : Option StopStage) → setup_in (step_turn core (step_at core cpu x y)).core ≡ setup_in core
+step_setup core cpu (Some stage) y = refl
+step_setup core cpu None (Some stage) = refl
+step_setup core cpu None None = refl
+
+-- an event keeps the CPUs online and the labels
+turn_setup : (core : CoreValue) (event : Event) → setup_in (turn_of core event).core ≡ setup_in core
+turn_setup core (event.Start cpu c) = start_setup core cpu c (refusal_of core cpu c)
+turn_setup core (event.Step cpu) = step_setup core cpu (control_of core.controls cpu).stage (stop_control_of core.stops.controls cpu).stage
+
+answers_next : (core : CoreValue) (events : List Event) (at : ℕ) (d : Event) → at < length events →
+    answers_from core (drop at events) ≡ answers_on (turn_of core (get_or events at d)).answer (turn_of core (get_or events at d)).answered (answers_from (turn_of core (get_or events at d)).core (drop (at + 1) events))
+answers_next core events at d l = ap (answers_from core) (drop_more events at d l)
+
 -- `d` is what the check takes where the list would have no such element
-pub GoesOn-more : (first core core' : CoreValue) (events : List Event) (at : ℕ) (d : Event) (seen seen' : List Seen) (s : Option Seen) → at < length events →
+GoesOn-more : (first core core' : CoreValue) (events : List Event) (at : ℕ) (d : Event) (seen seen' : List Seen) (s : Option Seen) → at < length events →
     Ok s ≡ (turn_of core (get_or events at d)).answer → core' ≡ (turn_of core (get_or events at d)).core → seen' ≡ seen ++ seen_list s →
-    ((calls : CallState) → Shown calls core → Shown (tells_if calls s) core') → GoesOn first core events at seen → GoesOn first core' events (at + 1) seen'
-GoesOn-more first core core' events at d seen seen' s l answer is_core is_seen told g =
+    ((calls : CallState) → Shown calls core → Shown (tells_if calls s) core') →
+    ((p : StopState) → StopShown p core.stops → StopShown (stops_if (setup_in core) p s (turn_of core (get_or events at d)).answered) core'.stops) →
+    GoesOn first core events at seen → GoesOn first core' events (at + 1) seen'
+unfolding answer_list
+GoesOn-more first core core' events at d seen seen' s l answer is_core is_seen told stops g =
     let event = get_or events at d in
+    let answered = (turn_of core event).answered in
+    let answers = g.answers in
+    let next : answers_from core (drop at events) ≡ answer_list s answered ++ answers_from core' (drop (at + 1) events) =
+    answers_next core events at d l ∙ (rw (← answer, ← is_core) (sym (answers_more s answered (answers_from core' (drop (at + 1) events))))) in
     record {
+      answers = answers ++ answer_list s answered;
+      answered = append_assoc answers (answer_list s answered) (answers_from core' (drop (at + 1) events)) ∙ (ap (λ (x : List ℕ). answers ++ x) (sym next) ∙ g.answered);
+      paired = length-append answers (answer_list s answered) ∙ (let once = answers_once s answered in let so_far = g.paired in let both = length-append seen (seen_list s) in rw (is_seen, both) (omega (arith, once, so_far)));
+      setup = rw is_core (turn_setup core event) ∙ g.setup;
+      stops = λ p shown. rw (is_seen, tells_stops-append (setup_in first) p seen answers s answered g.paired, ← g.setup) (stops (tells_stops (setup_in core) p seen answers) (rw (← g.setup) at (g.stops p shown)));
       run = rw (is_seen, is_core) (after_after seen (seen_list s) (replay_from (at + 1) (turn_of core event).core (drop (at + 1) events)) ∙
           (ap (after_seen seen) (sym (replay_more at core event (drop (at + 1) events) s answer) ∙ ap (replay_from at core) (sym (drop_more events at d l))) ∙ g.run));
       told = λ calls shown. rw (is_seen, tells_all-append calls seen s) (told (tells_all calls seen) (g.told calls shown));
     }
+
+-- where the next event is refused, the answers so far are those of all
+GoesOn-refused : (first core core' : CoreValue) (events : List Event) (at : ℕ) (d : Event) (seen : List Seen) (e : SmpError) → at < length events →
+    Err e ≡ (turn_of core (get_or events at d)).answer → core' ≡ core → GoesOn first core events at seen →
+    (p : StopState) → StopShown p first.stops → StopShown (tells_stops (setup_in first) p seen (answers_from first events)) core'.stops
+GoesOn-refused first core core' events at d seen e l answer same g p shown =
+    let none : answers_from core (drop at events) ≡ [] = answers_next core events at d l ∙ rw (← answer) refl in
+    let whole : g.answers ≡ answers_from first events = sym (append-nil g.answers) ∙ (ap (λ (x : List ℕ). g.answers ++ x) (sym none) ∙ g.answered) in
+    rw (same, ← whole) (g.stops p shown)
+
+-- and so they are at the end
+pub GoesOn-all : (first core : CoreValue) (events : List Event) (at : ℕ) (seen : List Seen) → length events ≤ at → GoesOn first core events at seen →
+    (p : StopState) → StopShown p first.stops → StopShown (tells_stops (setup_in first) p seen (answers_from first events)) core.stops
+GoesOn-all first core events at seen l g p shown =
+    let none : answers_from core (drop at events) ≡ [] = ap (answers_from core) (drop_all at events l) in
+    let whole : g.answers ≡ answers_from first events = sym (append-nil g.answers) ∙ (ap (λ (x : List ℕ). g.answers ++ x) (sym none) ∙ g.answered) in
+    rw (← whole) (g.stops p shown)
+
+-- the same of the event that was read there
+pub goes_on : (first core core' : CoreValue) (events : List Event) (at : ℕ) (event : Event) (seen seen' : List Seen) (s : Option Seen) → at < length events → event ≡ get_or events at event →
+    Ok s ≡ (turn_of core event).answer → core' ≡ (turn_of core event).core → seen' ≡ seen ++ seen_list s →
+    ((calls : CallState) → Shown calls core → Shown (tells_if calls s) core') →
+    ((p : StopState) → StopShown p core.stops → StopShown (stops_if (setup_in core) p s (turn_of core event).answered) core'.stops) →
+    GoesOn first core events at seen → GoesOn first core' events (at + 1) seen'
+goes_on first core core' events at event seen seen' s l e answer is_core is_seen told stops g =
+    GoesOn-more first core core' events at event seen seen' s l (subst (λ (x : Event). Ok s ≡ (turn_of core x).answer) e answer) (subst (λ (x : Event). core' ≡ (turn_of core x).core) e is_core) is_seen told
+    (subst (λ (x : Event). (p : StopState) → StopShown p core.stops → StopShown (stops_if (setup_in core) p s (turn_of core x).answered) core'.stops) e stops) g
+
+pub ends_refused : (first core core' : CoreValue) (events : List Event) (at : ℕ) (event : Event) (seen : List Seen) (refused : SmpError) → at < length events → event ≡ get_or events at event →
+    Err refused ≡ (turn_of core event).answer → core' ≡ core → GoesOn first core events at seen →
+    (p : StopState) → StopShown p first.stops → StopShown (tells_stops (setup_in first) p seen (answers_from first events)) core'.stops
+ends_refused first core core' events at event seen refused l e answer same g =
+    GoesOn-refused first core core' events at event seen refused l (subst (λ (x : Event). Err refused ≡ (turn_of core x).answer) e answer) same g

@@ -12,8 +12,9 @@ use Rattle.smp_core.specs.Drains.{DrainValue}
 use Rattle.smp_core.specs.Stages.{ControlValue}
 use Rattle.smp_core.specs.Limits.{AreLimits}
 use Rattle.smp_core.specs.Start.{refusal_of, command_refusal, own_refusal, or_else, busy_or, first_stage, fits_record, control_at, FitsCommand}
-use Rattle.smp_core.specs.Stops.Starts.{stop_refusal}
-use Rattle.smp_core.specs.Stops.Value.{stop_control_of}
+use Rattle.smp_core.specs.Stops.Starts.{stop_refusal, stop_started, stop_begun_if, stop_first}
+use Rattle.smp_core.specs.Stops.Value.{StopsValue, stop_control_of}
+use Rattle.smp_core.specs.declared.stop.stage.StopStage.{StopStage}
 use Rattle.smp_core.specs.Stands.{Share, share_of, Rests, Stands, StandsAt, held_of, HandIs}
 use Rattle.smp_core.specs.Value.{CoreValue, ValuesShow, control_of, outside}
 use Rattle.smp_core.specs.Words.{hands_in}
@@ -26,7 +27,6 @@ use Rattle.smp_core.specs.declared.command.Command.TheVariants as command
 use Rattle.smp_core.specs.declared.place.RecPlace.{RecPlace}
 use Rattle.smp_core.specs.declared.word.Word.{Word}
 use Rattle.smp_core.specs.declared.word.Word.TheVariants.{Head, Intr, Hand, Queued, Ran, Flags}
-use Rattle.smp_core.specs.declared.stage.Stage.{Stage}
 
 else_none : (b : Bool) (x : Option SmpError) (y : SmpError) → cond b x (Some y) ≡ None → (b ≡ true) × (x ≡ None)
 else_none true x y e = (refl, e)
@@ -186,3 +186,11 @@ zeros_shown at control z n = record {
 pub new_shown : (words : List ℕ) (controls : List ControlValue) → words ≡ replicate table_size 0 → controls ≡ replicate cpus outside → ValuesShow no_calls words controls
 new_shown words controls e f =
     zeros_shown (number_in words) (control_of controls) (λ w. rw e (zero_at table_size (index_of w))) (λ cpu. rw f (get_or-same outside cpus cpu))
+
+begun_online : (v : StopsValue) (cpu : ℕ) (stage : Option StopStage) → (stop_begun_if v cpu stage).online ≡ v.online
+begun_online v cpu None = refl
+begun_online v cpu (Some stage) = refl
+
+-- a start keeps the CPUs online
+pub started_online : (v : StopsValue) (cpu : ℕ) (c : Command) → (stop_started v cpu c).online ≡ v.online
+started_online v cpu c = begun_online v cpu (stop_first (stop_control_of v.controls cpu) c)

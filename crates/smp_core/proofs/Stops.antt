@@ -33,3 +33,4 @@ pub mod Values
 pub mod Made
 pub mod Opened
 pub mod Begun
+pub mod Starting

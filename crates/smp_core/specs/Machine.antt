@@ -1,5 +1,5 @@
 -- One step of a core: what it does to the words, what is seen of it, and where the CPU stands after it.
-use Rattle.std.specs.Prelude.{◌≡◌, ℕ, Option, Some, None, slice_set}
+use Rattle.std.specs.Prelude.{ℕ, Option, Some, None, slice_set}
 use Rattle.smp_core.specs.Layout.{number_in}
 use Rattle.smp_core.specs.Access.{word_of, words_after, seen_of}
 use Rattle.smp_core.specs.Stages.{access_of, outcome_of, control_after}

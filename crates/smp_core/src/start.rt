@@ -44,8 +44,7 @@ impl Command {
     pub fn first_stage(&self, online: CpuMask, cpu: u32) -> Option<Stage>
         requires known { cpu < cpus }
         requires allowed { command_refusal online cpu self.now ≡ None }
-        ensures stage { result ≡ stage_at_first online cpu self.now }
-        ensures fits { FitsCommand self.now }
+        ensures { result ≡ stage_at_first online cpu self.now }
     {
         match *self {
             Command::Post(k, to, class, func, info, tries) => {

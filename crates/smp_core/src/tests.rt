@@ -1,3 +1,5 @@
+mod stops;
+
 use super::events::replay;
 use super::*;
 use smp_mask::{CpuMask, SmpError};
@@ -272,13 +274,17 @@ fn sync_calls_run_first(rt: HostRuntime) -> Result<(), Fail> {
     Ok(())
 }
 
+// CPU 0's post by its first user record.
+fn user_post() -> Command {
+    Command::Post(10, 1, Class::Async, 1, 1, 1)
+}
+
 #[test]
 fn a_busy_record(rt: HostRuntime) -> Result<(), Fail> {
     let mut trace = Trace::new(rt.alloc(), 2)?;
-    let post = Command::Post(10, 1, Class::Async, 1, 1, 1);
-    trace.run(0, post, 8)?;
+    trace.run(0, user_post(), 8)?;
     assert_eq!(rt; trace.note(), Some(Note::Owed));
-    trace.run(0, post, 1)?;
+    trace.run(0, user_post(), 1)?;
     assert_eq!(rt;
         trace.last(),
         Some(noted(load(0, Word::Flags(10), 1), Note::Busy))
@@ -290,7 +296,7 @@ fn a_busy_record(rt: HostRuntime) -> Result<(), Fail> {
         trace.last(),
         Some(noted(load(0, Word::Flags(10), 0), Note::Done))
     );
-    trace.run(0, post, 8)?;
+    trace.run(0, user_post(), 8)?;
     assert!(rt; trace.seen.contains(&store(0, Word::Queued(0, 1), 2)));
     assert_eq!(rt; trace.note(), Some(Note::Owed));
     Ok(())

@@ -5,7 +5,7 @@ use Rattle.atomic_table.specs.Seated.{TableId}
 use Rattle.smp_core.specs.Size.{cpus}
 use Rattle.smp_core.specs.Order.{order, sync_calls, async_calls}
 use Rattle.smp_core.specs.declared.known.Running.TheVariants.{Nothing}
-use Rattle.smp_core.specs.Drains.{DrainValue, no_drain, load_or_run, loaded_or_run}
+use Rattle.smp_core.specs.Drains.{DrainValue, load_or_run, loaded_or_run}
 use Rattle.smp_core.specs.Histories.{orders, running_call}
 use Rattle.smp_core.specs.Known.{known_told, known_taking, Moment, Lives, outside_known}
 use Rattle.smp_core.specs.Handling.{handling, accepted_known, taken_known, IsLeaving}
@@ -87,15 +87,15 @@ accepted_then t d d' v number n q h m is known =
     let one : (n == 1) ≡ cond (n == 0) false true = subst (λ (k : ℕ). (k == 1) ≡ cond (k == 0) false true) (sym m.number_is) (lives_intr d.known (lives_then d.known (Intr number) n m) number) in
     known ∙ (accepted_is q d.known number n h.stage_is one ∙ ap (accepted_known (cond (n == 0) false true)) is)
 
--- what is to be loaded, for a drain that has loaded nothing
-pub to_load : (t : TableId) (d d' : Desk) (queue : List Call) (newest : ℕ) → InHandle t d handle.Take → d'.known ≡ taken_known queue newest d.known → InHandle t d' (load_or_run d.known.drain newest) →
-    (InHandle t d' (load_or_run no_drain newest)) × HasLoaded no_drain newest d'.known.drain
-to_load t d d' queue newest h known at =
+-- what is to be loaded, for a drain that has no calls
+pub to_load : (t : TableId) (d d' : Desk) (drain : DrainValue) (queue : List Call) (newest : ℕ) → drain.sync ≡ [] → drain.async ≡ [] → InHandle t d handle.Take → d'.known ≡ taken_known queue newest d.known → InHandle t d' (load_or_run d.known.drain newest) →
+    (InHandle t d' (load_or_run drain newest)) × HasLoaded drain newest d'.known.drain
+to_load t d d' drain queue newest sync async h known at =
     let k = lives_stands d.known h.lives handle.Take h.stage_is in
-    let same : SameCalls no_drain d.known.drain = (sym k.3, sym k.4) in
-    let run = same_run no_drain d.known.drain (newest == 0) same in
+    let same : SameCalls drain d.known.drain = (sync ∙ sym k.3, async ∙ sym k.4) in
+    let run = same_run drain d.known.drain (newest == 0) same in
     let here : d'.known.drain ≡ loaded_or_run d.known.drain newest = ap (λ (u : Known). u.drain) known in (
-      subst (λ (stage : HandleStage). InHandle t d' stage) (sym (same_stage no_drain d.known.drain newest same)) at,
+      subst (λ (stage : HandleStage). InHandle t d' stage) (sym (same_stage drain d.known.drain newest same)) at,
       (run.0 ∙ sym (ap (λ (e : DrainValue). e.sync) here), run.1 ∙ sym (ap (λ (e : DrainValue). e.async) here)),
     )
 

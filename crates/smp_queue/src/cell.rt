@@ -6,7 +6,8 @@ ghost use Rattle.smp_queue.specs.Cells.{HasCell, cell_of};
 
 use smp_core::{Word, call_index};
 
-/// The cell of a word.
+/// The cell of a word. Where the kind of word is known, as at each access, this is a sum.
+#[inline(always)]
 pub(crate) fn cell(word: Word) -> usize
     requires { HasCell word }
     ensures { cell_of word ≡ Some result }

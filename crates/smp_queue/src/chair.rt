@@ -78,6 +78,7 @@ pub(crate) fn leave(chair: Chair) -> Place
 }
 
 /// Loads a word.
+#[inline(always)]
 pub(crate) fn load(words: &Words, chair: &mut Chair, word: Word) -> u64
     requires { Ready words.now.table_id chair.old (access.Load word) }
     ensures table { chair.new.table ≡ words.now.table_id }
@@ -89,6 +90,7 @@ pub(crate) fn load(words: &Words, chair: &mut Chair, word: Word) -> u64
 }
 
 /// Stores a number in a word.
+#[inline(always)]
 pub(crate) fn store(words: &Words, chair: &mut Chair, word: Word, number: u64)
     requires { Ready words.now.table_id chair.old (access.Store word number) }
     ensures table { chair.new.table ≡ words.now.table_id }
@@ -99,6 +101,7 @@ pub(crate) fn store(words: &Words, chair: &mut Chair, word: Word, number: u64)
 }
 
 /// Puts a number in a word where another is found, and answers what was found.
+#[inline(always)]
 pub(crate) fn exchange(
     words: &Words,
     chair: &mut Chair,
@@ -115,6 +118,7 @@ pub(crate) fn exchange(
 }
 
 /// Puts a number in a word, and answers what was found. A swap of the own head takes the queue of that moment.
+#[inline(always)]
 pub(crate) fn swap(words: &Words, chair: &mut Chair, word: Word, number: u64) -> u64
     requires { Ready words.now.table_id chair.old (access.Swap word number) }
     ensures table { chair.new.table ≡ words.now.table_id }

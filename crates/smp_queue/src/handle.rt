@@ -17,13 +17,13 @@ ghost use Rattle.smp_queue.specs.Desk.{InHandle, IsOutside};
 ghost use Rattle.smp_queue.specs.Cpu.{cpu_of};
 ghost use Rattle.smp_queue.specs.Handling.{AreRan, Grows, asks, drains};
 
+use crate::buffer::Buffer;
 use crate::chair::{Chair, store, swap};
 use crate::handler::Handler;
 use crate::load::load_batch;
 use crate::rule::Words;
 use crate::run::run_batch;
 use smp_core::Word;
-use smp_core::drain::Drain;
 
 /// What `handle` has done.
 #[derive(Clone, Copy, Debug, PartialEq, Eq)]
@@ -71,6 +71,7 @@ pub(crate) fn handle<H: Handler>(
     chair: &mut Chair,
     number: u32,
     counts: &mut [u64],
+    buffer: &mut Buffer,
     handler: &mut H,
 ) -> Handled
     requires outside { IsOutside words.now.table_id chair.old number }
@@ -89,10 +90,10 @@ pub(crate) fn handle<H: Handler>(
         };
     }
     let newest = take(words, chair, number);
-    let mut drain = Drain::new();
-    let first = load_batch(words, chair, &mut drain, newest);
+    let drain = &mut buffer.drain;
+    let first = load_batch(words, chair, drain, newest);
     let ran = drain.calls();
-    run_batch(words, chair, number, counts, &mut drain, first, handler);
+    run_batch(words, chair, number, counts, drain, first, handler);
     leave(words, chair, number);
     Handled {
         ran,

@@ -35,6 +35,7 @@ pub struct Begun<H> {
     before: Snapshot<H>,
 }
 
+#[inline(always)]
 fn tell(words: &Words, chair: &mut Chair, word: Word, number: u64)
     requires { IsStepOfCall words.now.table_id chair.old word number }
     ensures table { chair.new.table ≡ words.now.table_id }

@@ -13,6 +13,7 @@
 
 mod audit;
 mod boot;
+mod buffer;
 mod cell;
 mod chair;
 mod closing;

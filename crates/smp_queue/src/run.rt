@@ -109,6 +109,7 @@ pub(crate) fn run_batch<H: Handler>(
     requires counts { AreRan counts.old chair.old.known }
     ensures at { InHandle words.now.table_id chair.new handle.Leave }
     ensures ran { HasRunAll H.leads chair.old chair.new counts.new handler.old handler.new }
+    ensures over { (drain.new.sync ≡ []) × (drain.new.async ≡ []) }
 {
     let mut stage = first;
     while run_call(words, chair, number, counts, stage, handler) {

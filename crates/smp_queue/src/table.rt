@@ -285,7 +285,14 @@ impl<A: Allocator> CallTable<A> {
         ensures laws { IsShown me.new }
     {
         let words = &self.owner.shared;
-        handle(words, &mut me.chair, me.number, &mut me.ran, handler)
+        handle(
+            words,
+            &mut me.chair,
+            me.number,
+            &mut me.ran,
+            &mut me.buffer,
+            handler,
+        )
     }
 
     /// Gives up the table and one of its CPUs. Drained where all queues are empty, all records unlocked and all

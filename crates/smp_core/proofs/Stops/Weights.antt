@@ -1,5 +1,5 @@
 -- Loops over the CPUs of a mask.
-use Rattle.std.proofs.Common.{◌≡◌, ℕ, zero, suc, ◌+◌, ◌*◌, ◌%◌, ◌^◌, ◌<◌, ◌≤◌, Bool, true, false, ap, ◌∙◌, refl, eqb-true, arith}
+use Rattle.std.proofs.Common.{◌≡◌, ℕ, zero, suc, ◌+◌, ◌*◌, ◌%◌, ◌^◌, ◌<◌, ◌≤◌, Bool, true, false, ◌≢◌, ◌==◌, cond, ap, ◌∙◌, refl, eqb-true, eq-eqb, ne_eqb, arith}
 use Rattle.std.proofs.Math.Pow.{pow-lt}
 use Rattle.std.proofs.lemmas.Bool.Decides.{nat_tests}
 use Rattle.std.proofs.lemmas.Nat.{mod-pow-add}
@@ -7,6 +7,7 @@ use Rattle.std.proofs.lemmas.Nat.Bits.{bit_at-lt}
 use Rattle.std.specs.Int.{bit_at}
 use Rattle.smp_mask.specs.Mask.{has}
 use Rattle.smp_core.specs.Stops.Counts.{sum_below, bit, mask_weight}
+use Rattle.smp_core.specs.Stops.Value.{first_below}
 
 -- one CPU more
 pub weight_in : (mask k : ℕ) → has mask k ≡ true → mask_weight (k + 1) mask ≡ mask_weight k mask + 1
@@ -47,3 +48,21 @@ low_out mask k e =
   where
     bit_none : (n k : ℕ) → has n k ≡ false → bit_at n k ≡ 0
     bit_none n k e = grind (arith, nat_tests, bit_at-lt n k)
+
+-- the least CPU of a mask, with one CPU more
+next_first : (mask k : ℕ) → first_below mask (k + 1) ≡ cond (first_below mask k == k) (cond (has mask k) k (k + 1)) (first_below mask k)
+unfolding first_below
+next_first mask k = let g : k + 1 ≡ suc k = omega arith in rw g refl
+
+pub first_found : (mask k : ℕ) → first_below mask k ≡ k → has mask k ≡ true → first_below mask (k + 1) ≡ k
+first_found mask k same is = let t : (first_below mask k == k) ≡ true = eq-eqb (first_below mask k) k same in next_first mask k ∙ rw (t, is) refl
+
+pub first_missing : (mask k : ℕ) → first_below mask k ≡ k → has mask k ≡ false → first_below mask (k + 1) ≡ k + 1
+first_missing mask k same is = let t : (first_below mask k == k) ≡ true = eq-eqb (first_below mask k) k same in next_first mask k ∙ rw (t, is) refl
+
+pub first_kept : (mask k : ℕ) → first_below mask k ≢ k → first_below mask (k + 1) ≡ first_below mask k
+first_kept mask k other = let t : (first_below mask k == k) ≡ false = ne_eqb (first_below mask k) k other in next_first mask k ∙ rw t refl
+
+pub first_none : (mask : ℕ) → first_below mask 0 ≡ 0
+unfolding first_below
+first_none mask = refl

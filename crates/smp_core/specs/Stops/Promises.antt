@@ -52,3 +52,9 @@ pub record ReadsLawful (p : StopState) (at : Word → ℕ) (me : ℕ) : Type 0 w
 abbrev pub KeepTheLabelLaw : Type 0
 KeepTheLabelLaw = (u : Setup) (p : StopState) (at : Word → ℕ) (seat : ℕ → Seat) (source : ℕ → Source) → StopShows u p at seat source →
     (me : ℕ) → u.online me ≡ true → p.now.irq me ≡ true → ReadsLawful p at me
+
+-- all three, of these stops and these words
+pub record KeepsStopLaws (u : Setup) (p : StopState) (at : Word → ℕ) : Type 0 where
+  pub phases : (s : ℕ) → (p.now.stop s).is_open ≡ true → (p.now.stop s).phase ≢ 0 → PhaseLaw u.cpus (p.now.stop s) (at (Slot s field.Ack))
+  pub functions : (s me : ℕ) → (p.now.stop s).standing me ≡ Inside 2 3 → RunsAlone p s me
+  pub labels : (me : ℕ) → u.online me ≡ true → p.now.irq me ≡ true → ReadsLawful p at me

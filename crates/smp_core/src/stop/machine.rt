@@ -134,7 +134,8 @@ impl<A: Allocator> Stops<A> {
         requires { cpu < cpus }
         ensures { result ≡ stop_refusal self.now cpu command.now }
     {
-        self.terms(cpu).refusal(&self.controls[cpu as usize], command)
+        self.terms(cpu)
+            .refusal(&self.controls[cpu as usize], command)
     }
 
     /// Puts a CPU that is outside a command at the first stage of one that may start, where that is a command of this

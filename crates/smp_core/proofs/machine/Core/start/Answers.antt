@@ -1,40 +1,38 @@
-use Rattle.std.proofs.Common.{◌≡◌, None, length, sym, ◌∙◌, arith}
+use Rattle.std.proofs.Common.{rules, ◌≡◌, None, length, sym, ◌∙◌, arith}
 use Rattle.std.proofs.lemmas.List.{get_or_read, length-set}
 use Rattle.std.specs.Prelude.{slice_set}
 use Rattle.smp_core.specs.Size.{cpus}
 use Rattle.smp_core.specs.Calls.{CallState}
-use Rattle.smp_core.specs.Start.{refusal_of, first_stage, control_at}
+use Rattle.smp_core.specs.Start.{FitsCommand, refusal_of, first_stage, control_at}
 use Rattle.smp_core.specs.Value.{CoreValue, ValuesShow, control_of, outside}
-use Rattle.smp_core.proofs.Starts.{started_shown, start_below}
+use Rattle.smp_core.proofs.Starts.{may_start, started_shown, started_online, start_below}
 use Rattle.smp_core.proofs.machine.Core.start.Goals as goal
 use Rattle.smp_core.proofs.machine.Core.start.Given as given
 
-pub first_stage-stage-requires-clause-known : goal.first_stage-stage-requires-clause-known
-first_stage-stage-requires-clause-known g c =
-    let value : CoreValue = record { nr = c.self.inside.nr; online = c.self.inside.online; words = c.self.inside.words.items; controls = c.self.inside.controls.items } in
-    let allowed : refusal_of value c.args.cpu c.args.command ≡ None = rw (← c.self.view_is) at (sym c.refusal.ensures ∙ c.in_default.is) in
-    start_below value c.args.cpu c.args.command c.self.invariant.limits allowed
+-- the core before, over its fields
+abbrev before : (g : given.Over) (c : goal.After-command-3-1 g) → CoreValue
+before g c = record { nr = c.self.inside.nr; online = c.self.inside.online; words = c.self.inside.words.items; controls = c.self.inside.controls.items; stops = c.self.inside.stops }
 
-pub index_mut-requires : goal.index_mut-requires
-index_mut-requires g c =
-    let value : CoreValue = record { nr = c.self.inside.nr; online = c.self.inside.online; words = c.self.inside.words.items; controls = c.self.inside.controls.items } in
-    let allowed : refusal_of value c.args.cpu c.args.command ≡ None = rw (← c.self.view_is) at (sym c.refusal.ensures ∙ c.in_default.is) in
-    let below = start_below value c.args.cpu c.args.command c.self.invariant.limits allowed in
-    omega (arith, c.self.inside.controls.ok.0)
+allowed : (g : given.Over) (c : goal.After-command-3-1 g) → refusal_of (before g c) c.args.cpu c.args.command ≡ None
+allowed g c = rw (← c.self.view_is) at (sym c.refusal.ensures ∙ c.in_default.is)
+
+pub start-requires-clause-allowed : goal.start-requires-clause-allowed
+start-requires-clause-allowed g c = (may_start (before g c) c.args.cpu c.args.command (allowed g c)).is_stop_allowed
+
+fits : (g : given.Over) (c : goal.After-command-3-1 g) → FitsCommand c.args.command
+fits g c = search rules
 
 -- the core shows the calls that it showed
-shown_after : (g : given.Over) (c : goal.After-self-1 g) (calls : CallState) → ValuesShow calls c.self.inside.words.items c.self.inside.controls.items →
+shown_after : (g : given.Over) (c : goal.After-command-3-1 g) (calls : CallState) → ValuesShow calls c.self.inside.words.items c.self.inside.controls.items →
     ValuesShow calls c.self.inside.words.items (slice_set c.self.inside.controls.items c.args.cpu c.begin.new.self)
 shown_after g c calls shown =
     let controls = c.self.inside.controls.items in
-    let value : CoreValue = record { nr = c.self.inside.nr; online = c.self.inside.online; words = c.self.inside.words.items; controls = c.self.inside.controls.items } in
-    let allowed : refusal_of value c.args.cpu c.args.command ≡ None = rw (← c.self.view_is) at (sym c.refusal.ensures ∙ c.in_default.is) in
-    let below = start_below value c.args.cpu c.args.command c.self.invariant.limits allowed in
+    let below = start_below (before g c) c.args.cpu c.args.command c.self.invariant.limits (allowed g c) in
     let sized : length controls ≡ cpus = c.self.invariant.table.controls_sized in
     let here : c.index_mut.result.now ≡ control_of controls c.args.cpu = get_or_read controls c.args.cpu c.index_mut.result.now (omega arith) c.index_mut.ensures.value outside in
     let begun : c.begin.new.self ≡ control_at (control_of controls c.args.cpu) (first_stage c.self.inside.online c.args.cpu c.args.command) =
-    rw (← here, ← c.first_stage-stage.ensures.stage) c.begin.ensures in
-    rw begun (started_shown calls value c.args.cpu c.args.command c.self.invariant.limits sized allowed c.first_stage-stage.ensures.fits shown)
+    rw (← here, ← c.first_stage-stage.ensures) c.begin.ensures in
+    rw begun (started_shown calls (before g c) c.args.cpu c.args.command c.self.invariant.limits sized (allowed g c) (fits g c) shown)
 
 pub invariant_of-self : goal.invariant_of-self
 invariant_of-self g c =
@@ -44,9 +42,10 @@ invariant_of-self g c =
         words_sized = c.self.invariant.table.words_sized;
         controls_sized = length-set c.self.inside.controls.items c.args.cpu c.begin.new.self ∙ c.self.invariant.table.controls_sized;
         calls = c.self.invariant.table.calls;
-        shown = shown_after g c c.self.invariant.table.calls c.self.invariant.table.shown;
+        shown = shown_after g c.before c.self.invariant.table.calls c.self.invariant.table.shown;
       };
+      stops_online = rw c.start.ensures.started (started_online c.self.inside.stops c.args.cpu c.args.command ∙ c.self.invariant.stops_online);
     }
 
 pub returns-clause-told : goal.returns-clause-told
-returns-clause-told g c calls shown = shown_after g c calls (rw (← c.self.view_is) at shown)
+returns-clause-told g c calls shown = shown_after g c.before calls (rw (← c.self.view_is) at shown)

@@ -1,0 +1,383 @@
+/*
+ * The steps of cross-processor calls in plain C, to compare times with: the same words, the same steps in the same
+ * order, the same waiting, all atomics sequentially consistent. No proof covers this file, and it refuses less.
+ *
+ *   cc -O2 -pthread -o calls bench/calls.c     (with -DSPREAD head, interrupt and handling words have cache lines
+ *                                               of their own; with -DLOOK a CPU looks at its interrupt word first)
+ *   ./calls time|count THREADS LIMIT [WORKLOAD]     as crates/smp_bench
+ */
+#define _GNU_SOURCE
+#include <pthread.h>
+#include <sched.h>
+#include <stdatomic.h>
+#include <stdbool.h>
+#include <stdint.h>
+#include <stdio.h>
+#include <stdlib.h>
+#include <string.h>
+#include <time.h>
+
+enum { CPUS = 8, RECORDS_OF_ONE = 12, RECORDS = CPUS * RECORDS_OF_ONE };
+enum { LOCK = 1, ASYNC = 0, SYNC = 16 };
+enum { FUNC = 7, INFO = 42 };
+enum { SYNC_RECORD = 0, ASYNC_RECORD = 1, MANY_RECORD = 2, USER_RECORD = 10 };
+
+#ifdef SPREAD
+enum { APART = 8 };
+#else
+enum { APART = 1 };
+#endif
+
+/* Where the words lie. */
+enum {
+	HEAD = 0,
+	INTR = HEAD + CPUS * APART,
+	HAND = INTR + CPUS * APART,
+	QUEUED = HAND + CPUS * APART,
+	RAN = QUEUED + CPUS * CPUS,
+	RECORD = RAN + CPUS * CPUS,
+	WORDS = RECORD + 4 * RECORDS
+};
+
+typedef _Atomic uint64_t word;
+
+struct cpu {
+	word *words;
+	uint32_t number;
+	uint64_t queued[CPUS];
+	uint64_t ran[CPUS];
+	uint64_t heard;
+};
+
+static word *head_of(struct cpu *me, uint32_t c) { return &me->words[HEAD + APART * c]; }
+static word *intr_of(struct cpu *me, uint32_t c) { return &me->words[INTR + APART * c]; }
+static word *hand_of(struct cpu *me, uint32_t c) { return &me->words[HAND + APART * c]; }
+static word *record_of(struct cpu *me, uint32_t r) { return &me->words[RECORD + 4 * r]; }
+
+/* What crossbeam's Backoff does: spins 1, 2, .. 64 times, then yields. */
+static void snooze(uint32_t *step)
+{
+	if (*step <= 6) {
+		for (uint32_t i = 0; i < 1u << *step; i++)
+			__builtin_ia32_pause();
+		*step += 1;
+	} else {
+		sched_yield();
+	}
+}
+
+/* The function of all calls. */
+static void call(struct cpu *me) { me->heard += 1; }
+
+/* done k */
+static bool is_done(struct cpu *me, uint32_t k)
+{
+	return !(atomic_load(&record_of(me, RECORDS_OF_ONE * me->number + k)[0]) & LOCK);
+}
+
+/* post k dst class func info: 1 where an interrupt is owed, 0 where not, -1 where the record is locked or the tries
+ * are used up */
+static int post(struct cpu *me, uint32_t k, uint32_t dst, uint64_t class, uint32_t tries)
+{
+	uint32_t id = RECORDS_OF_ONE * me->number + k, step = 0;
+	word *record = record_of(me, id), *queued = &me->words[QUEUED + CPUS * me->number + dst];
+	if (atomic_load(&record[0]) & LOCK)
+		return -1;
+	atomic_store(&record[0], LOCK + class);
+	atomic_store(&record[1], FUNC);
+	atomic_store(&record[2], INFO);
+	atomic_store(queued, me->queued[dst] + 1);
+	uint64_t head = atomic_load(head_of(me, dst));
+	for (uint32_t i = 0; i < tries; i++) {
+		uint64_t found = head;
+		atomic_store(&record[3], head);
+		if (atomic_compare_exchange_strong(head_of(me, dst), &found, id + 1)) {
+			me->queued[dst] += 1;
+			return head == 0;
+		}
+		head = found;
+		snooze(&step);
+	}
+	atomic_store(queued, me->queued[dst]);
+	atomic_store(&record[0], 0);
+	return -1;
+}
+
+/* send dst */
+static void send(struct cpu *me, uint32_t dst) { atomic_store(intr_of(me, dst), 1); }
+
+struct loaded {
+	uint32_t id;
+	uint16_t func;
+	uint64_t info;
+};
+
+static void count_one(struct cpu *me, uint32_t source)
+{
+	me->ran[source] += 1;
+	atomic_store(&me->words[RAN + CPUS * me->number + source], me->ran[source]);
+}
+
+/* handle: how many calls ran */
+static uint32_t handle(struct cpu *me)
+{
+	struct loaded sync[RECORDS], async[RECORDS];
+	uint32_t syncs = 0, asyncs = 0;
+#ifdef LOOK
+	if (atomic_load(intr_of(me, me->number)) == 0)
+		return 0;
+#endif
+	atomic_store(hand_of(me, me->number), 1);
+	if (atomic_exchange(intr_of(me, me->number), 0) == 0) {
+		atomic_store(hand_of(me, me->number), 0);
+		return 0;
+	}
+	uint64_t link = atomic_exchange(head_of(me, me->number), 0);
+	while (link != 0) {
+		word *record = record_of(me, link - 1);
+		struct loaded one = { .id = link - 1 };
+		uint64_t flags = atomic_load(&record[0]);
+		one.func = atomic_load(&record[1]);
+		one.info = atomic_load(&record[2]);
+		link = atomic_load(&record[3]);
+		if (flags & SYNC)
+			sync[syncs++] = one;
+		else
+			async[asyncs++] = one;
+	}
+	uint32_t all = syncs + asyncs;
+	while (syncs > 0) {
+		struct loaded *one = &sync[--syncs];
+		atomic_store(hand_of(me, me->number), one->id + 2);
+		call(me);
+		count_one(me, one->id / RECORDS_OF_ONE);
+		atomic_store(&record_of(me, one->id)[0], 0);
+	}
+	while (asyncs > 0) {
+		struct loaded *one = &async[--asyncs];
+		atomic_store(&record_of(me, one->id)[0], 0);
+		call(me);
+		count_one(me, one->id / RECORDS_OF_ONE);
+	}
+	atomic_store(hand_of(me, me->number), 0);
+	return all;
+}
+
+/* Waits for a record, and handles the own interrupts meanwhile. */
+static void wait_for(struct cpu *me, uint32_t k)
+{
+	uint32_t step = 0;
+	while (!is_done(me, k)) {
+		handle(me);
+		snooze(&step);
+	}
+}
+
+static void call_single(struct cpu *me, uint32_t dst, bool wait)
+{
+	uint32_t k = wait ? SYNC_RECORD : ASYNC_RECORD;
+	wait_for(me, k);
+	if (post(me, k, dst, wait ? SYNC : ASYNC, UINT32_MAX) == 1)
+		send(me, dst);
+	if (wait)
+		wait_for(me, k);
+}
+
+static void call_many(struct cpu *me, uint32_t mask)
+{
+	uint32_t owed = 0;
+	for (uint32_t c = 0; c < CPUS; c++) {
+		if (!(mask >> c & 1))
+			continue;
+		wait_for(me, MANY_RECORD + c);
+		if (post(me, MANY_RECORD + c, c, SYNC, UINT32_MAX) == 1)
+			owed |= 1u << c;
+	}
+	for (uint32_t c = 0; c < CPUS; c++)
+		if (owed >> c & 1)
+			send(me, c);
+	for (uint32_t c = 0; c < CPUS; c++)
+		if (mask >> c & 1)
+			wait_for(me, MANY_RECORD + c);
+}
+
+/* The meter: times of batches in tenths of a nanosecond for one operation. */
+static struct {
+	bool counts;
+	uint64_t limit, operations, began, last;
+	uint64_t *samples;
+	size_t length, room;
+} meter;
+
+static uint64_t now(void)
+{
+	struct timespec t;
+	clock_gettime(CLOCK_MONOTONIC, &t);
+	return (uint64_t)t.tv_sec * 1000000000u + t.tv_nsec;
+}
+
+static bool lap(uint32_t operations)
+{
+	uint64_t time = now();
+	if (operations > 0) {
+		if (meter.length == meter.room) {
+			meter.room = meter.room ? 2 * meter.room : 1024;
+			meter.samples = realloc(meter.samples, meter.room * sizeof *meter.samples);
+			if (!meter.samples)
+				exit(1);
+		}
+		meter.samples[meter.length++] = (time - meter.last) * 10 / operations;
+	}
+	meter.last = time;
+	meter.operations += operations;
+	return meter.counts ? meter.operations < meter.limit : (time - meter.began) / 1000000 < meter.limit;
+}
+
+/* The workloads. */
+enum { ROUNDS = 100, BATCH = 100, BEGIN = 1, STOP = 2 };
+enum { POST_1, POST_8, TRIP, ASYNCS, MANY, WORKLOADS };
+static const char *const names[WORKLOADS] = { "post-1", "post-8", "trip", "async", "many" };
+static _Atomic uint64_t sign, done;
+static struct cpu cpus[CPUS];
+static int workload;
+static uint64_t times;
+
+static void alone(uint32_t sources, uint32_t records)
+{
+	uint32_t handled;
+	do {
+		handled = 0;
+		for (int i = 0; i < ROUNDS; i++) {
+			for (uint32_t s = 1; s <= sources; s++)
+				for (uint32_t k = USER_RECORD; k < USER_RECORD + records; k++)
+					if (post(&cpus[s], k, 0, ASYNC, 1) == 1)
+						send(&cpus[s], 0);
+			handled += handle(&cpus[0]);
+		}
+	} while (lap(handled));
+}
+
+static void *help(void *given)
+{
+	struct cpu *me = given;
+	uint32_t step = 0;
+	if (workload == ASYNCS) {
+		while (atomic_load(&sign) == 0)
+			snooze(&step);
+		for (uint64_t i = 0; i < times && atomic_load(&sign) != STOP; i++)
+			call_single(me, 0, false);
+		atomic_fetch_add(&done, 1);
+		return NULL;
+	}
+	while (atomic_load(&sign) != STOP) {
+		if (handle(me) > 0)
+			step = 0;
+		else
+			snooze(&step);
+	}
+	return NULL;
+}
+
+static void handle_all(uint64_t sources)
+{
+	uint32_t since = 0, step = 0;
+	for (;;) {
+		bool over = atomic_load(&done) >= sources;
+		uint32_t ran = handle(&cpus[0]);
+		since += ran;
+		if (since >= BATCH || over) {
+			if (!lap(since))
+				atomic_store(&sign, STOP);
+			since = 0;
+		}
+		if (over)
+			return;
+		if (ran > 0)
+			step = 0;
+		else
+			snooze(&step);
+	}
+}
+
+static void call_and_wait(uint32_t mask)
+{
+	do {
+		for (int i = 0; i < BATCH; i++) {
+			if (mask)
+				call_many(&cpus[0], mask);
+			else
+				call_single(&cpus[0], 1, true);
+		}
+	} while (lap(BATCH));
+	atomic_store(&sign, STOP);
+}
+
+static void run_threads(uint32_t threads)
+{
+	pthread_t helpers[CPUS];
+	times = meter.counts ? meter.limit / (threads - 1) : UINT64_MAX;
+	for (uint32_t i = 1; i < threads; i++)
+		if (pthread_create(&helpers[i], NULL, help, &cpus[i]))
+			exit(1);
+	atomic_store(&sign, BEGIN);
+	if (workload == ASYNCS)
+		handle_all(threads - 1);
+	else
+		call_and_wait(workload == MANY ? (1u << threads) - 2 : 0);
+	for (uint32_t i = 1; i < threads; i++)
+		pthread_join(helpers[i], NULL);
+}
+
+static int compare(const void *a, const void *b)
+{
+	uint64_t x = *(const uint64_t *)a, y = *(const uint64_t *)b;
+	return (x > y) - (x < y);
+}
+
+static void report(uint32_t asked)
+{
+	static _Alignas(64) word words[WORDS];
+	uint32_t threads = workload <= POST_8 ? 1 : workload == TRIP ? 2 : asked;
+	uint64_t calls = 0;
+	memset(words, 0, sizeof words);
+	memset(cpus, 0, sizeof cpus);
+	for (uint32_t c = 0; c < CPUS; c++) {
+		cpus[c].words = words;
+		cpus[c].number = c;
+	}
+	sign = done = 0;
+	meter.operations = meter.length = 0;
+	meter.began = meter.last = now();
+	if (workload == POST_1)
+		alone(1, 1);
+	else if (workload == POST_8)
+		alone(4, 2);
+	else
+		run_threads(threads);
+	for (uint32_t c = 0; c < CPUS; c++)
+		calls += cpus[c].heard;
+	printf("%s %u %lu ", names[workload], threads, (unsigned long)meter.operations);
+	if (meter.counts) {
+		printf("%lu\n", (unsigned long)calls);
+		return;
+	}
+	qsort(meter.samples, meter.length, sizeof *meter.samples, compare);
+	uint64_t median = meter.samples[meter.length / 2], low = meter.samples[meter.length / 10];
+	printf("%lu.%lu %lu.%lu\n", (unsigned long)(median / 10), (unsigned long)(median % 10),
+	       (unsigned long)(low / 10), (unsigned long)(low % 10));
+}
+
+int main(int argc, char **argv)
+{
+	uint32_t threads = argc > 2 ? (uint32_t)atoi(argv[2]) : 0;
+	if (argc < 4 || threads < 2 || threads > 4) {
+		fprintf(stderr, "usage: calls time|count THREADS LIMIT [WORKLOAD]\n");
+		return 2;
+	}
+	meter.counts = strcmp(argv[1], "count") == 0;
+	meter.limit = strtoul(argv[3], NULL, 10);
+	for (workload = 0; workload < WORKLOADS; workload++)
+		if (argc < 5 || strcmp(argv[4], names[workload]) == 0)
+			report(threads);
+	return 0;
+}

@@ -1,0 +1,2 @@
+-- how many threads a workload may have
+pub mod Threads

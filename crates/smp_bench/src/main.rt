@@ -1,0 +1,109 @@
+//! Measures cross-processor calls: `smp_bench time|count THREADS LIMIT [WORKLOAD]`.
+//!
+//! `time` goes on for LIMIT milliseconds and prints for each workload its name, its threads, its operations and the
+//! nanoseconds of one operation: the median over batches, and what a tenth of the batches stays below. `count` makes
+//! LIMIT operations and prints the calls that have run in place of the times, so that it prints the same each time.
+#![tactic(auto)]
+
+ghost use Rattle.smp_bench.specs.Threads.{IsLawful};
+
+mod alone;
+mod error;
+mod meter;
+mod request;
+mod samples;
+mod seat;
+mod threads;
+mod workload;
+
+use crate::error::BenchError;
+use crate::meter::{Measured, Meter};
+use crate::request::{Limit, Request, USAGE, read_words};
+use crate::workload::Workload;
+use std::alloc::{AllocError, Global};
+use std::process::ExitCode;
+use std::sync::Wait;
+use std::thread::Threads;
+use std::time::Clock;
+use std::{env, io};
+
+/// Runs a workload on a new table: what was measured, and how many calls have run.
+fn run<R: Wait + Threads + Clock + Eprint + Sync>(
+    rt: &R,
+    alloc: Global,
+    workload: Workload,
+    threads: u32,
+    limit: Limit,
+) -> Result<(Measured, u64), BenchError>
+    requires { IsLawful threads }
+{
+    let meter = Meter::new(rt, alloc, workload.name(), limit)?;
+    match workload {
+        Workload::PostOne => alone::run(alloc, 1, &[10], meter),
+        Workload::PostEight => alone::run(alloc, 4, &[10, 11], meter),
+        Workload::RoundTrip => threads::run(rt, alloc, workload, 2, meter),
+        Workload::Async | Workload::Many => threads::run(rt, alloc, workload, threads, meter),
+    }
+}
+
+/// Runs a workload and prints its line.
+fn report<R: Wait + Threads + Clock + Print + Eprint + Sync>(
+    rt: &R,
+    alloc: Global,
+    workload: Workload,
+    request: &Request,
+) -> Result<(), BenchError> {
+    let (measured, calls) = run(rt, alloc, workload, request.threads, request.limit)?;
+    let threads = workload.threads(request.threads);
+    let name = workload.name();
+    let operations = measured.operations;
+    match request.limit {
+        Limit::Operations(_) => println!(rt; "{name} {threads} {operations} {calls}")?,
+        Limit::Milliseconds(_) => {
+            let (median, low) = (measured.times.median, measured.times.lowest_tenth);
+            println!(rt;
+                "{name} {threads} {operations} {}.{} {}.{}",
+                median / 10,
+                median % 10,
+                low / 10,
+                low % 10
+            )?;
+        }
+    }
+    Ok(())
+}
+
+fn run_all<R: Wait + Threads + Clock + Print + Eprint + Sync>(
+    rt: &R,
+    alloc: Global,
+    request: &Request,
+) -> Result<(), BenchError> {
+    for workload in Workload::ALL {
+        if request.asks(workload) {
+            report(rt, alloc, workload, request)?;
+        }
+    }
+    Ok(())
+}
+
+fn main(rt: HostRuntime) -> io::Result<ExitCode> {
+    let words: Result<Vec<String>, AllocError> = env::args(&rt)?.collect(rt.alloc());
+    let words = words?;
+    let texts: Result<Vec<&str>, AllocError> = words
+        .iter()
+        .skip(1)
+        .map(|w| w.as_str())
+        .collect(rt.alloc());
+    let texts = texts?;
+    let Some(request) = read_words(texts.as_slice()) else {
+        eprintln!(rt; "{USAGE}")?;
+        return Ok(ExitCode::from(2));
+    };
+    match run_all(&rt, rt.alloc(), &request) {
+        Ok(()) => Ok(ExitCode::SUCCESS),
+        Err(error) => {
+            eprintln!(rt; "smp_bench: {error}")?;
+            Ok(ExitCode::from(1))
+        }
+    }
+}

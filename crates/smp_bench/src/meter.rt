@@ -1,0 +1,127 @@
+//! Times the batches of a workload.
+
+use crate::error::BenchError;
+use crate::request::Limit;
+use crate::samples::{Times, tenths_of_one, times_of};
+use std::alloc::Global;
+use std::time::{Clock, Duration, Instant};
+
+/// What was measured: how many operations, and the times of their batches.
+#[derive(Clone, Copy, Debug, PartialEq, Eq)]
+pub struct Measured {
+    pub operations: u64,
+    pub times: Times,
+}
+
+/// Times the batches of a workload, and says when it is over.
+#[derive(Drop)]
+pub struct Meter<'a, R: Clock + Eprint> {
+    rt: &'a R,
+    name: &'static str,
+    limit: Limit,
+    /// Tenths of a nanosecond for one operation, of each batch.
+    samples: Vec<u64, Global>,
+    operations: u64,
+    began: Instant,
+    last: Instant,
+    /// The seconds of which standard error was told.
+    told: u64,
+    /// Whether a batch could not be noted.
+    failed: bool,
+}
+
+impl<'a, R: Clock + Eprint> Meter<'a, R> {
+    pub fn new(
+        rt: &'a R,
+        alloc: Global,
+        name: &'static str,
+        limit: Limit,
+    ) -> Result<Meter<'a, R>, BenchError> {
+        let now = Instant::now(rt)?;
+        Ok(Meter {
+            rt,
+            name,
+            limit,
+            samples: Vec::new(alloc),
+            operations: 0,
+            began: now,
+            last: now,
+            told: 0,
+            failed: false,
+        })
+    }
+
+    /// Begins the first batch now.
+    pub fn begin(&mut self) -> Result<(), BenchError> {
+        let now = Instant::now(self.rt)?;
+        self.began = now;
+        self.last = now;
+        Ok(())
+    }
+
+    /// How many operations there are to be in all, where they are counted.
+    pub fn quota(&self) -> u64 {
+        match self.limit {
+            Limit::Operations(most) => most as u64,
+            Limit::Milliseconds(_) => u64::MAX,
+        }
+    }
+
+    /// Tells standard error of each second that has passed.
+    fn tell(&mut self, passed: Duration) -> Result<(), BenchError> {
+        let seconds = passed.as_secs();
+        if seconds > self.told {
+            self.told = seconds;
+            eprintln!(self.rt;
+                "{}: {seconds} s, {} operations",
+                self.name, self.operations
+            )?;
+        }
+        Ok(())
+    }
+
+    /// Notes a batch of so many operations that ends now: whether the workload goes on.
+    fn note(&mut self, operations: u32) -> Result<bool, BenchError> {
+        let now = Instant::now(self.rt)?;
+        if operations > 0 {
+            let nanos = now.duration_since(self.last).as_nanos();
+            let nanos = u64::try_from(nanos).unwrap_or(u64::MAX);
+            self.samples.push(tenths_of_one(nanos, operations))?;
+        }
+        self.last = now;
+        self.operations = self.operations.wrapping_add(operations as u64);
+        let passed = now.duration_since(self.began);
+        self.tell(passed)?;
+        Ok(match self.limit {
+            Limit::Operations(most) => self.operations < most as u64,
+            Limit::Milliseconds(most) => passed.as_millis() < most as u128,
+        })
+    }
+
+    /// A batch of so many operations ends now: whether the workload goes on. Where the clock, memory or standard
+    /// error fails it does not, and `close` tells so.
+    pub fn lap(&mut self, operations: u32) -> bool {
+        match self.note(operations) {
+            Ok(goes_on) => goes_on,
+            Err(_) => {
+                self.failed = true;
+                false
+            }
+        }
+    }
+
+    /// What was measured.
+    pub fn close(self) -> Result<Measured, BenchError> {
+        if self.failed {
+            return Err(BenchError::System);
+        }
+        let mut samples = self.samples;
+        if samples.is_empty() {
+            return Err(BenchError::NoBatch);
+        }
+        Ok(Measured {
+            operations: self.operations,
+            times: times_of(samples.as_mut_slice()),
+        })
+    }
+}

@@ -1,0 +1,134 @@
+//! One CPU of a workload, and what a table says at its end.
+
+ghost use Rattle.std.specs.Option.{ForSome};
+ghost use Rattle.std.specs.Prelude.{ℕ, ◌≡◌, true, IfOk, IfSome};
+ghost use Rattle.smp_mask.specs.Mask.{has};
+ghost use Rattle.smp_queue.specs.Cpu.{left_at};
+
+use crate::error::BenchError;
+use smp_calls::{call_many, call_single};
+use smp_core::call::Class;
+use smp_mask::CpuMask;
+use smp_queue::{Audit, Boot, CallCpu, CallTable, Handler, Tally};
+use std::alloc::Global;
+use std::sync::Wait;
+
+/// The function that all calls name, and its info.
+const FUNC: u16 = 7;
+
+const INFO: u64 = 42;
+
+/// Counts the calls that it hears, modulo 2^64.
+#[derive(Drop)]
+pub struct Counter {
+    pub calls: u64,
+}
+
+impl Handler for Counter {
+    ghost use Rattle.std.specs.Prelude.{◌≡◌, ◌+◌, ◌%◌, ◌^◌};
+
+    ghost leads = { λ before _ after. after.calls ≡ (before.calls + 1) % 2 ^ 64 };
+
+    fn call(&mut self, _src: u32, _func: u16, _info: u64) {
+        self.calls = self.calls.wrapping_add(1);
+    }
+}
+
+/// A CPU at its table, with its handler.
+#[derive(Drop)]
+pub struct Seat<'a> {
+    table: &'a CallTable<Global>,
+    cpu: CallCpu,
+    counter: Counter,
+    ghost own: { cpu.table ≡ table.now.table },
+}
+
+impl<'a> Seat<'a> {
+    /// Posts a call by one of the user's records and sends the interrupt where it is owed: whether it was queued.
+    pub fn post(&mut self, k: u32, to: u32) -> bool {
+        let cpu = &mut self.cpu;
+        match self
+            .table
+            .post_within(cpu, k, to, Class::Async, FUNC, INFO, 1)
+        {
+            Ok(true) => self.table.send(cpu, to).is_ok(),
+            Ok(false) => true,
+            Err(_) => false,
+        }
+    }
+
+    /// Handles the CPU's interrupt, if one is pending: how many calls it ran.
+    pub fn poll(&mut self) -> u32 {
+        self.table.handle(&mut self.cpu, &mut self.counter).ran
+    }
+
+    pub fn single<R: Wait>(&mut self, rt: &R, dst: u32, wait: bool) -> bool {
+        let (cpu, counter) = (&mut self.cpu, &mut self.counter);
+        call_single(self.table, rt, cpu, counter, dst, FUNC, INFO, wait).is_ok()
+    }
+
+    /// Calls all other CPUs of the mask, and waits for them.
+    pub fn many<R: Wait>(&mut self, rt: &R, mask: CpuMask) {
+        let (cpu, counter) = (&mut self.cpu, &mut self.counter);
+        call_many(self.table, rt, cpu, counter, mask, FUNC, INFO, true);
+    }
+}
+
+/// The CPUs of a table that have no seat yet.
+#[derive(Drop)]
+pub struct Room<'a> {
+    table: &'a CallTable<Global>,
+    boot: Boot<Global>,
+    ghost whole: { (cpu : ℕ) → has boot.online cpu ≡ true → ForSome (left_at boot cpu) (λ c. c.table ≡ table.now.table) },
+}
+
+impl<'a> Room<'a> {
+    pub fn new(table: &'a CallTable<Global>, boot: Boot<Global>) -> Room<'a>
+        requires { (cpu : ℕ) → has boot.online cpu ≡ true → IfSome (left_at boot cpu) (λ c. c.table ≡ table.now.table) }
+    {
+        Room { table, boot }
+    }
+
+    /// The seat of this CPU. E1 where it is not online, E2 where it has one.
+    pub fn seat(&mut self, number: u32) -> Result<Seat<'a>, BenchError> {
+        let cpu = last_of(self.table, &mut self.boot, number)?;
+        let counter = Counter { calls: 0 };
+        Ok(Seat {
+            table: self.table,
+            cpu,
+            counter,
+        })
+    }
+}
+
+/// A CPU that keeps the table's last value. All CPUs that are left sit at that table.
+pub fn last_of(
+    table: &CallTable<Global>,
+    boot: &mut Boot<Global>,
+    number: u32,
+) -> Result<CallCpu, BenchError>
+    requires { (cpu : ℕ) → has boot.old.online cpu ≡ true → IfSome (left_at boot.old cpu) (λ c. c.table ≡ table.now.table) }
+    ensures last { IfOk result (λ c. c.table ≡ table.now.table) }
+    ensures left { (cpu : ℕ) → has boot.new.online cpu ≡ true → IfSome (left_at boot.new cpu) (λ c. c.table ≡ table.now.table) }
+{
+    Ok(boot.cpu(number)?)
+}
+
+/// All calls that have run, modulo 2^64.
+fn sum_of(tally: &Tally) -> u64 {
+    let mut sum = 0u64;
+    for row in &tally.ran {
+        for ran in row {
+            sum = sum.wrapping_add(*ran);
+        }
+    }
+    sum
+}
+
+/// How many calls have run, where all that were queued have.
+pub fn calls_run(audit: Audit) -> Result<u64, BenchError> {
+    match audit {
+        Audit::Drained(tally) => Ok(sum_of(&tally)),
+        Audit::Left(_) => Err(BenchError::NotDrained),
+    }
+}

@@ -1,0 +1,250 @@
+//! Calls between threads.
+
+ghost use Rattle.smp_bench.specs.Threads.{IsLawful};
+
+use crate::error::BenchError;
+use crate::meter::{Measured, Meter};
+use crate::seat::{Room, Seat, calls_run, last_of};
+use crate::workload::Workload;
+use crossbeam_utils::Backoff;
+use smp_mask::CpuMask;
+use smp_queue::CallTable;
+use std::alloc::Global;
+use std::sync::Wait;
+use std::sync::atomic::{AtomicU64, Ordering};
+use std::thread;
+use std::thread::Threads;
+use std::time::Clock;
+
+/// Operations of one thread that are timed together.
+const BATCH: u32 = 100;
+
+/// What the threads are told: to begin, and to stop.
+const BEGIN: u64 = 1;
+
+const STOP: u64 = 2;
+
+/// What the threads share beside the table.
+#[derive(Drop)]
+struct Progress {
+    sign: AtomicU64,
+    /// How many sources have made their last call.
+    done: AtomicU64,
+}
+
+impl Progress {
+    fn tell(&self, sign: u64) {
+        self.sign.store(sign, Ordering::SeqCst);
+    }
+
+    fn is_told(&self, sign: u64) -> bool {
+        self.sign.load(Ordering::SeqCst) == sign
+    }
+}
+
+/// Waits for the first sign.
+fn await_sign<R: Wait>(rt: &R, progress: &Progress) {
+    let backoff = Backoff::new();
+    for _ in rt.forever() {
+        if !progress.is_told(0) {
+            return;
+        }
+        backoff.snooze();
+    }
+    unreachable!()
+}
+
+/// Handles a CPU's own interrupts until it is told to stop.
+fn answer<R: Wait>(rt: &R, mut seat: Seat, progress: &Progress) {
+    let mut backoff = Backoff::new();
+    for _ in rt.forever() {
+        if progress.is_told(STOP) {
+            return;
+        }
+        if seat.poll() > 0 {
+            backoff = Backoff::new();
+        } else {
+            backoff.snooze();
+        }
+    }
+    unreachable!()
+}
+
+/// Calls CPU 0 without wait, so often or until it is told to stop.
+fn call_zero<R: Wait>(rt: &R, mut seat: Seat, progress: &Progress, times: u64) {
+    await_sign(rt, progress);
+    for _ in 0..times {
+        if progress.is_told(STOP) {
+            break;
+        }
+        seat.single(rt, 0, false);
+    }
+    progress.done.fetch_add(1, Ordering::SeqCst);
+}
+
+/// What a thread beside the first does.
+fn help<R: Wait>(rt: &R, seat: Seat, progress: &Progress, workload: Workload, times: u64) {
+    match workload {
+        Workload::Async => call_zero(rt, seat, progress, times),
+        _ => answer(rt, seat, progress),
+    }
+}
+
+/// Calls with wait until the meter says that it is enough, and then tells the others to stop.
+fn call_and_wait<R: Wait + Clock + Eprint>(
+    rt: &R,
+    seat: &mut Seat,
+    others: Option<CpuMask>,
+    progress: &Progress,
+    meter: &mut Meter<R>,
+) {
+    for _ in rt.forever() {
+        for _ in 0..BATCH {
+            match others {
+                Some(mask) => seat.many(rt, mask),
+                None => {
+                    seat.single(rt, 1, true);
+                }
+            }
+        }
+        if !meter.lap(BATCH) {
+            progress.tell(STOP);
+            return;
+        }
+    }
+    unreachable!()
+}
+
+/// Handles the calls of so many sources until all have made their last. Tells them to stop where the meter says
+/// that it is enough.
+fn handle_all<R: Wait + Clock + Eprint>(
+    rt: &R,
+    seat: &mut Seat,
+    sources: u64,
+    progress: &Progress,
+    meter: &mut Meter<R>,
+) {
+    let mut since = 0u32;
+    let mut backoff = Backoff::new();
+    for _ in rt.forever() {
+        let over = progress.done.load(Ordering::SeqCst) >= sources;
+        let ran = seat.poll();
+        since = since.wrapping_add(ran);
+        if since >= BATCH || over {
+            if !meter.lap(since) {
+                progress.tell(STOP);
+            }
+            since = 0;
+        }
+        if over {
+            return;
+        }
+        if ran > 0 {
+            backoff = Backoff::new();
+        } else {
+            backoff.snooze();
+        }
+    }
+    unreachable!()
+}
+
+/// What the first thread does, with all others started.
+fn lead<R: Wait + Clock + Eprint>(
+    rt: &R,
+    seat: &mut Seat,
+    workload: Workload,
+    sources: u64,
+    others: CpuMask,
+    progress: &Progress,
+    meter: &mut Meter<R>,
+) {
+    match workload {
+        Workload::Async => handle_all(rt, seat, sources, progress, meter),
+        Workload::Many => call_and_wait(rt, seat, Some(others), progress, meter),
+        _ => call_and_wait(rt, seat, None, progress, meter),
+    }
+}
+
+/// Starts the helpers, and leads where all were started: whether they were.
+fn run_threads<'a, R: Wait + Threads + Clock + Eprint + Sync>(
+    rt: &R,
+    mut first: Seat<'a>,
+    helpers: Vec<Seat<'a>, Global>,
+    workload: Workload,
+    others: CpuMask,
+    meter: &mut Meter<R>,
+) -> bool {
+    let shared = Progress {
+        sign: AtomicU64::new(0),
+        done: AtomicU64::new(0),
+    };
+    let progress = &shared;
+    let sources = helpers.len() as u64;
+    let times = if sources > 0 {
+        meter.quota() / sources
+    } else {
+        0
+    };
+    let mut started = true;
+    thread::scope(thread::scope_env(), rt, |scope| {
+        for helper in helpers {
+            let spawned = scope.spawn(move || help(rt, helper, progress, workload, times));
+            started = started && spawned.is_ok();
+        }
+        if started {
+            progress.tell(BEGIN);
+            lead(rt, &mut first, workload, sources, others, progress, meter);
+        } else {
+            progress.tell(STOP);
+        }
+    });
+    started
+}
+
+/// Seats one CPU for each thread, and runs the threads.
+fn measure<R: Wait + Threads + Clock + Eprint + Sync>(
+    room: &mut Room,
+    rt: &R,
+    alloc: Global,
+    workload: Workload,
+    threads: u32,
+    meter: &mut Meter<R>,
+) -> Result<(), BenchError> {
+    let first = room.seat(0)?;
+    let mut helpers = Vec::new(alloc);
+    let mut others = CpuMask::empty();
+    for number in 1..threads {
+        helpers.push(room.seat(number)?)?;
+        others = others.with(number)?;
+    }
+    meter.begin()?;
+    if run_threads(rt, first, helpers, workload, others, meter) {
+        Ok(())
+    } else {
+        Err(BenchError::NoThread)
+    }
+}
+
+/// Runs a workload of 2 to 4 threads, one for each CPU.
+pub fn run<R: Wait + Threads + Clock + Eprint + Sync>(
+    rt: &R,
+    alloc: Global,
+    workload: Workload,
+    threads: u32,
+    mut meter: Meter<R>,
+) -> Result<(Measured, u64), BenchError>
+    requires { IsLawful threads }
+{
+    // One CPU more keeps the table's last value.
+    let (table, mut boot) = CallTable::new(alloc, 5, "0-4".parse()?)?;
+    let last = last_of(&table, &mut boot, 4)?;
+    measure(
+        &mut Room::new(&table, boot),
+        rt,
+        alloc,
+        workload,
+        threads,
+        &mut meter,
+    )?;
+    Ok((meter.close()?, calls_run(table.audit(last))?))
+}

@@ -1,0 +1,45 @@
+//! What is measured.
+
+/// What is measured: one operation of it, and who takes part.
+#[derive(Clone, Copy, Debug, PartialEq, Eq)]
+pub enum Workload {
+    /// One thread posts one call, sends and handles it. An operation is one call.
+    PostOne,
+    /// The same with eight calls to one handling: four sources with two records each.
+    PostEight,
+    /// A call with wait between two threads that poll.
+    RoundTrip,
+    /// Calls without wait from all threads but one to that one. An operation is a call that has run.
+    Async,
+    /// A call to many with wait, from one thread to all others, which poll.
+    Many,
+}
+
+impl Workload {
+    pub const ALL: [Workload; 5] = [
+        Workload::PostOne,
+        Workload::PostEight,
+        Workload::RoundTrip,
+        Workload::Async,
+        Workload::Many,
+    ];
+
+    pub fn name(self) -> &'static str {
+        match self {
+            Workload::PostOne => "post-1",
+            Workload::PostEight => "post-8",
+            Workload::RoundTrip => "trip",
+            Workload::Async => "async",
+            Workload::Many => "many",
+        }
+    }
+
+    /// How many threads it has, where so many are asked for.
+    pub fn threads(self, asked: u32) -> u32 {
+        match self {
+            Workload::PostOne | Workload::PostEight => 1,
+            Workload::RoundTrip => 2,
+            Workload::Async | Workload::Many => asked,
+        }
+    }
+}

@@ -1,0 +1,159 @@
+-- A step of one half tells nothing of the other.
+use Rattle.std.proofs.Common.{◌≡◌, ℕ, Option, Some, None, Result, Ok, Err, List, refl, sym, subst, ◌∙◌}
+use Rattle.std.specs.Prelude.{IfSome, MatchOption}
+use Rattle.smp_labels.specs.declared.patch.Place.TheVariants as place
+use Rattle.smp_core.specs.Access.{seen_of}
+use Rattle.smp_core.specs.Calls.{CallState}
+use Rattle.smp_core.specs.Calls as calls
+use Rattle.smp_core.specs.Drains.{handle_access}
+use Rattle.smp_core.specs.Layout.{number_in}
+use Rattle.smp_core.specs.Machine.{Stepped, seen_at, stepped, step_of, stops_stepped, setup_in, CallsTold, StopsTold}
+use Rattle.smp_core.specs.Posts.{post_access}
+use Rattle.smp_core.specs.Stages.{access_of}
+use Rattle.smp_core.specs.Stops.Labels.{Change}
+use Rattle.smp_core.specs.Stops.Machine.{StopTold, stop_seen_at, stop_stepped}
+use Rattle.smp_core.specs.Stops.Stages.{completion_access, round_access, stop_access, store_of, change_at}
+use Rattle.smp_core.specs.Stops.State.{Setup, StopState}
+use Rattle.smp_core.specs.Stops.Tells as stops
+use Rattle.smp_core.specs.Stops.Value.{StopsValue, StopShown, stop_control_of}
+use Rattle.smp_core.specs.Replay.{step_turn, turn_of}
+use Rattle.smp_core.specs.Value.{CoreValue, Shown, control_of}
+use Rattle.smp_mask.specs.declared.error.SmpError.{SmpError}
+use Rattle.smp_mask.specs.declared.error.SmpError.TheVariants as error
+use Rattle.smp_core.specs.declared.command.Event.TheVariants as event
+use Rattle.smp_core.specs.declared.handle.HandleStage.{HandleStage}
+use Rattle.smp_core.specs.declared.handle.HandleStage.TheVariants as handle
+use Rattle.smp_core.specs.declared.post.PostStage.{PostStage}
+use Rattle.smp_core.specs.declared.post.PostStage.TheVariants as post
+use Rattle.smp_core.specs.declared.post.Posting.{Posting}
+use Rattle.smp_core.specs.declared.seen.Note.{Note}
+use Rattle.smp_core.specs.declared.seen.Seen.{Seen}
+use Rattle.smp_core.specs.declared.stage.Stage.{Stage}
+use Rattle.smp_core.specs.declared.stage.Stage.TheVariants.{Send, Done, Post, Handle}
+use Rattle.smp_core.specs.declared.stop.stage.CompletionStage.{CompletionStage}
+use Rattle.smp_core.specs.declared.stop.stage.CompletionStage.TheVariants as completion
+use Rattle.smp_core.specs.declared.stop.stage.RoundStage.{RoundStage}
+use Rattle.smp_core.specs.declared.stop.stage.RoundStage.TheVariants as round
+use Rattle.smp_core.specs.declared.stop.stage.StopStage.{StopStage}
+use Rattle.smp_core.specs.declared.stop.stage.StopStage.TheVariants.{TakeGate, OpenGate, Begin, Enter, EnterKind, EnterMask, EnterActive, Advance, Complete, Close, LoadDone, LoadResult, ReadKey, ReadSite}
+use Rattle.smp_core.specs.declared.stop.stage.Visit.{Visit}
+use Rattle.smp_core.specs.declared.word.Word.{Word}
+
+module _ (u : Setup) (p : StopState) (me answer found : ℕ) (note : Option Note) where
+  in_post : (x : Posting) (stage : PostStage) (queued : ℕ) → stops.tells u p (seen_of me (post_access x me stage queued) found note) answer ≡ p
+  in_post x post.LoadFlags queued = refl
+  in_post x post.Lock queued = refl
+  in_post x post.StoreFunc queued = refl
+  in_post x post.StoreInfo queued = refl
+  in_post x post.Count queued = refl
+  in_post x post.LoadHead queued = refl
+  in_post x (post.StoreNext link tries) queued = refl
+  in_post x (post.Exchange link tries) queued = refl
+  in_post x post.Uncount queued = refl
+  in_post x post.Release queued = refl
+
+  in_handle : (stage : HandleStage) (ran : ℕ) → stops.tells u p (seen_of me (handle_access me stage ran) found note) answer ≡ p
+  in_handle handle.Enter ran = refl
+  in_handle handle.Accept ran = refl
+  in_handle handle.LeaveIdle ran = refl
+  in_handle handle.Take ran = refl
+  in_handle (handle.LoadFlags id) ran = refl
+  in_handle (handle.LoadFunc id class) ran = refl
+  in_handle (handle.LoadInfo id class func) ran = refl
+  in_handle (handle.LoadNext call) ran = refl
+  in_handle (handle.BeginSync call) ran = refl
+  in_handle (handle.CountSync call) ran = refl
+  in_handle (handle.EndSync call) ran = refl
+  in_handle (handle.BeginAsync call) ran = refl
+  in_handle (handle.CountAsync call) ran = refl
+  in_handle handle.Leave ran = refl
+
+  call_step_apart : (at : Word → ℕ) (stage : Stage) → stops.tells u p (seen_of me (access_of at me stage) found note) answer ≡ p
+  call_step_apart at (Send to) = refl
+  call_step_apart at (Done id) = refl
+  call_step_apart at (Post x stage) = in_post x stage _
+  call_step_apart at (Handle stage) = in_handle stage _
+
+module _ (a : CallState) (me found : ℕ) (note : Option Note) where
+  in_patch : (change : Change) → calls.tells a (seen_of me (store_of change) found note) ≡ a
+  in_patch (place.Key k, n) = refl
+  in_patch (place.Site i, n) = refl
+
+  in_round : (n : ℕ) (changes : List Change) (v : Visit) (stage : RoundStage) → calls.tells a (seen_of me (round_access n changes v stage) found note) ≡ a
+  in_round n changes v (round.Look answer) = refl
+  in_round n changes v (round.LoadFunc answer) = refl
+  in_round n changes v (round.LoadArg answer func) = refl
+  in_round n changes v (round.LoadKey key word) = refl
+  in_round n changes v (round.LoadEntry key word site) = refl
+  in_round n changes v (round.StoreChange made) = in_patch (change_at changes made)
+  in_round n changes v (round.Acknowledge answer ran) = refl
+  in_round n changes v (round.Refill ran) = refl
+  in_round n changes v (round.Raise ran) = refl
+
+  in_completion : (v : Visit) (stage : CompletionStage) → calls.tells a (seen_of me (completion_access v stage) found note) ≡ a
+  in_completion v (completion.LoadFunc answer) = refl
+  in_completion v (completion.LoadArg answer func) = refl
+  in_completion v completion.StoreAnswer = refl
+  in_completion v completion.CountDown = refl
+
+  stop_step_apart : (n : ℕ) (changes : List Change) (stage : StopStage) → calls.tells a (seen_of me (stop_access n me changes stage) found note) ≡ a
+  stop_step_apart n changes TakeGate = refl
+  stop_step_apart n changes OpenGate = refl
+  stop_step_apart n changes (Begin work f) = refl
+  stop_step_apart n changes (Enter slot) = refl
+  stop_step_apart n changes (EnterKind slot) = refl
+  stop_step_apart n changes (EnterMask slot kind) = refl
+  stop_step_apart n changes (EnterActive slot kind mask) = refl
+  stop_step_apart n changes (Advance v stage) = in_round n changes v stage
+  stop_step_apart n changes (Complete v stage) = in_completion v stage
+  stop_step_apart n changes (Close slot) = refl
+  stop_step_apart n changes LoadDone = refl
+  stop_step_apart n changes LoadResult = refl
+  stop_step_apart n changes (ReadKey k) = refl
+  stop_step_apart n changes (ReadSite i) = refl
+
+-- a step of the call half keeps the stops that the core shows
+pub stops_kept : (core : CoreValue) (cpu : ℕ) (stage : Stage) → StopsTold core (seen_at core cpu stage) 0 (stepped core cpu stage)
+stops_kept core cpu stage p shown = subst (λ q. StopShown q core.stops) (sym (call_step_apart (setup_in core) p cpu 0 _ _ (number_in core.words) stage)) shown
+
+-- a step of the stop half keeps the calls that the core shows
+pub calls_kept : (core : CoreValue) (cpu : ℕ) (stage : StopStage) → CallsTold core (stop_seen_at core.stops cpu stage) (stops_stepped core cpu stage)
+calls_kept core cpu stage a shown = subst (λ b. Shown b core) (sym (stop_step_apart a cpu _ _ _ _ stage)) shown
+
+-- a step of a CPU that stands in the stop half: its stage, what is seen of it, and what it tells
+pub record IsStopStep (core : CoreValue) (cpu : ℕ) (seen : Seen) (new : StopsValue) : Type 0 where
+  pub stage : StopStage
+  pub at_stage : (stop_control_of core.stops.controls cpu).stage ≡ Some stage
+  pub seen_is : seen ≡ stop_seen_at core.stops cpu stage
+  pub told : StopTold core.stops cpu stage new
+
+pub is_stop_step : (core : CoreValue) (cpu : ℕ) (r : Option Seen) (seen : Seen) (new : StopsValue) → r ≡ Some seen →
+    MatchOption (stop_control_of core.stops.controls cpu).stage ((r ≡ None) × (new ≡ core.stops)) (λ stage. (r ≡ Some (stop_seen_at core.stops cpu stage)) × (new ≡ stop_stepped core.stops cpu stage)) →
+    MatchOption (stop_control_of core.stops.controls cpu).stage (new ≡ core.stops) (λ stage. StopTold core.stops cpu stage new) → IsStopStep core cpu seen new
+is_stop_step core cpu r seen new is step told = go (stop_control_of core.stops.controls cpu).stage refl step told
+  where
+    go : (x : Option StopStage) → (stop_control_of core.stops.controls cpu).stage ≡ x →
+        MatchOption x ((r ≡ None) × (new ≡ core.stops)) (λ stage. (r ≡ Some (stop_seen_at core.stops cpu stage)) × (new ≡ stop_stepped core.stops cpu stage)) →
+        MatchOption x (new ≡ core.stops) (λ stage. StopTold core.stops cpu stage new) → IsStopStep core cpu seen new
+    go None e s t = absurd (let bad : Some seen ≡ None = sym is ∙ s.0 in cc)
+    go (Some stage) e s t = record { stage = stage; at_stage = e; seen_is = let both : Some seen ≡ Some (stop_seen_at core.stops cpu stage) = sym is ∙ s.0 in cc; told = t }
+
+-- it keeps the calls that the core shows
+pub calls_told : (core : CoreValue) (cpu : ℕ) (seen : Seen) (new : StopsValue) → IsStopStep core cpu seen new → CallsTold core seen (record core { stops = new })
+calls_told core cpu seen new s a shown = rw s.seen_is (calls_kept core cpu s.stage a shown)
+
+-- and the new core shows the stops that it tells
+pub stops_told : (core : CoreValue) (cpu : ℕ) (seen : Seen) (new : StopsValue) → (control_of core.controls cpu).stage ≡ None → IsStopStep core cpu seen new →
+    IfSome (step_of core cpu) (λ s. StopsTold core seen s.answer (record core { stops = new }))
+stops_told core cpu seen new none s = rw (none, s.at_stage, s.seen_is) s.told
+
+-- the same of an event that is a step, of either half
+pub stops_turned : (core : CoreValue) (cpu : ℕ) (r : Result Seen SmpError) (seen : Seen) (new : CoreValue) → r ≡ Ok seen →
+    MatchOption (step_of core cpu) ((r ≡ Err error.IdleStep) × (new ≡ core)) (λ s. (r ≡ Ok s.seen) × (new ≡ s.core)) →
+    IfSome (step_of core cpu) (λ s. StopsTold core seen s.answer new) → StopsTold core seen (turn_of core (event.Step cpu)).answered new
+stops_turned core cpu r seen new is step told = go (step_of core cpu) step told
+  where
+    go : (x : Option Stepped) → MatchOption x ((r ≡ Err error.IdleStep) × (new ≡ core)) (λ s. (r ≡ Ok s.seen) × (new ≡ s.core)) →
+        IfSome x (λ s. StopsTold core seen s.answer new) → StopsTold core seen (step_turn core x).answered new
+    go None s t = absurd (let bad : Ok seen ≡ Err error.IdleStep = sym is ∙ s.0 in cc)
+    go (Some x) s t = t

@@ -1,0 +1,21 @@
+use Rattle.smp_core.specs.Size.{cpus}
+use Rattle.smp_core.specs.Stops.Table.{stop_number}
+use Rattle.smp_core.specs.declared.word.Word.TheVariants.{Slot}
+use Rattle.smp_core.proofs.Stops.Ends.{function_law}
+use Rattle.smp_core.proofs.Stops.Patched.{all_off, lawful_when_on}
+use Rattle.smp_core.proofs.Stops.Raises.{phase_law}
+use Rattle.smp_core.proofs.machine.Core.keeps_stop_laws.Goals as goal
+
+pub returns : goal.returns
+returns g c p shown =
+    let stops = c.args.self.now.stops in
+    let at = stop_number stops.table in
+    let h = shown.shows in
+    record {
+      phases = λ s op busy. phase_law cpus (p.now.stop s) (λ f. at (Slot s f)) (h.present.slots s) op busy;
+      functions = λ s me is. record {
+        law = function_law cpus (p.now.stop s) (λ f. at (Slot s f)) (h.present.slots s) me is;
+        all_off = all_off _ p.now at shown.seat h.present s me is;
+      };
+      labels = λ me online on. record { lawful = lawful_when_on _ p.now at shown.seat h.present me online on; agrees = h.present.read me online on };
+    }
