@@ -413,7 +413,8 @@ fn each_write_fails_in_turn(rt: HostRuntime) {
 
 #[test]
 fn each_heap_size(rt: HostRuntime) -> Result<(), Fail> {
-    for size in 0..100_000usize {
+    for blocks in 0..10_000usize {
+        let size = 16 * blocks;
         let heap = LocalHeap::new(rt.alloc(), size)?;
         let mut reader = Watched::new(ONE_CALL);
         let mut writer = Watched::new(Vec::new(rt.alloc()));
