@@ -193,6 +193,61 @@ fn patch_of_one_cpu(rt: HostRuntime) -> Result<(), Fail> {
     Ok(())
 }
 
+#[test]
+fn a_patch_to_the_same_word_stores_nothing(rt: HostRuntime) -> Result<(), Fail> {
+    let labels = two_sites()?;
+    let mut trace = Trace::labelled(rt.alloc(), 1, &labels)?;
+    let one = CpuMask::of(0)?;
+    assert!(rt;
+        trace.goes(&[
+            (0, Command::Gate, 1, Note::Gate),
+            (0, work(Kind::Patch, one, one, 0, 0), 11, Note::Begun),
+            (0, Command::Enter(0), 4, Note::Entered),
+            (0, Command::Advance(0), 4, Note::Moved(1)),
+            (0, Command::Advance(0), 4, Note::Moved(2)),
+        ])?
+    );
+    trace.run(0, Command::Advance(0), 7)?;
+    assert_eq!(rt;
+        trace.seen.as_slice(),
+        [
+            load(0, slot(Field::State), 3),
+            load(0, slot(Field::Func), 0),
+            load(0, slot(Field::Arg), 0),
+            load(0, Word::Key(0), 0),
+            sub(0, slot(Field::Ack), 1),
+            store(0, slot(Field::Ack), 1),
+            noted(store(0, slot(Field::State), 4), Note::Ran),
+        ]
+        .as_slice()
+    );
+    Ok(())
+}
+
+#[test]
+fn a_patch_of_all_sites_loads_each_entry_once(rt: HostRuntime) -> Result<(), Fail> {
+    let entry = Entry {
+        key: 0,
+        branch: false,
+    };
+    let labels = LabelMap::new(&[entry; 16], 1)?;
+    let mut trace = Trace::labelled(rt.alloc(), 1, &labels)?;
+    let one = CpuMask::of(0)?;
+    assert!(rt;
+        trace.goes(&[
+            (0, Command::Gate, 1, Note::Gate),
+            (0, work(Kind::Patch, one, one, 0, 1), 11, Note::Begun),
+            (0, Command::Enter(0), 4, Note::Entered),
+            (0, Command::Advance(0), 4, Note::Moved(1)),
+            (0, Command::Advance(0), 4, Note::Moved(2)),
+            (0, Command::Advance(0), 40, Note::Ran),
+            (0, Command::Advance(0), 4, Note::Left),
+            (0, Command::Site(15), 1, Note::Jmp),
+        ])?
+    );
+    Ok(())
+}
+
 // A patch of two CPUs, as far as one of them has its interrupts off.
 fn half_a_patch<A: Allocator>(trace: &mut Trace<A>) -> Result<bool, SmpError> {
     let patch = work(Kind::Patch, all_online(2)?, CpuMask::of(0)?, 0, 1);
