@@ -1,8 +1,10 @@
-//! The words of the call table, and a pure machine that makes one atomic step at a time.
+//! The words of both tables, and a pure machine that makes one atomic step at a time.
 //!
 //! The machine has the behaviour of Linux 6.1's `kernel/smp.c` and `lib/llist.c`: a CPU queues a call by
 //! appending its record to the target's lock-less list and, where that list was empty, sends an interrupt;
 //! the target takes the whole list at once and runs it, SYNC calls first.
+//! Its other half, `stop`, has that of `kernel/stop_machine.c` and of the sites of `kernel/jump_label.c`: CPUs
+//! meet in a rendezvous whose function runs only while all of them have their interrupts off.
 #![tactic(auto)]
 
 pub mod access;
