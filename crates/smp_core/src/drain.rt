@@ -15,18 +15,19 @@ use std::marker::Model;
 /// The calls that a drain has loaded and not begun yet, and how many it has loaded in all.
 #[derive(Drop)]
 pub struct Drain {
-    /// Oldest first, as the next.
+    /// Newest first, as the batch is loaded, and so is the next list: the oldest call is the last, which runs first.
     sync_calls: ArrayVec<Call, MOST_CALLS>,
     async_calls: ArrayVec<Call, MOST_CALLS>,
     calls: u32,
 }
 
 impl Model for Drain {
+    ghost use Rattle.std.specs.Prelude.{reverse};
     ghost use Rattle.smp_core.specs.Drains.{DrainValue};
 
     ghost Value = { DrainValue };
 
-    ghost view = { λ d. record { sync = d.sync_calls.items; async = d.async_calls.items; calls = d.calls } };
+    ghost view = { λ d. record { sync = reverse d.sync_calls.items; async = reverse d.async_calls.items; calls = d.calls } };
 }
 
 impl Drain {
@@ -107,8 +108,8 @@ impl Drain {
         ensures { self.new ≡ with_loaded call self.old }
     {
         match call.class {
-            Class::Sync => self.sync_calls.insert(0, call),
-            Class::Async => self.async_calls.insert(0, call),
+            Class::Sync => self.sync_calls.push(call),
+            Class::Async => self.async_calls.push(call),
         }
     }
 
@@ -141,14 +142,10 @@ impl Drain {
         ensures stage { result ≡ next_run self.old.sync self.old.async }
         ensures drain { self.new ≡ popped self.old }
     {
-        if !self.sync_calls.is_empty() {
-            HandleStage::BeginSync {
-                call: self.sync_calls.remove(0),
-            }
-        } else if !self.async_calls.is_empty() {
-            HandleStage::BeginAsync {
-                call: self.async_calls.remove(0),
-            }
+        if let Some(call) = self.sync_calls.pop() {
+            HandleStage::BeginSync { call }
+        } else if let Some(call) = self.async_calls.pop() {
+            HandleStage::BeginAsync { call }
         } else {
             HandleStage::Leave
         }
