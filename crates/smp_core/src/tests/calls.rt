@@ -10,10 +10,9 @@ fn synchronous(k: u32, to: u32, func: u16) -> Command {
     Command::Post(k, to, Class::Sync, func, 0, 1)
 }
 
-#[test]
-fn one_sync_call(rt: HostRuntime) -> Result<(), Fail> {
-    let mut core = core_of(rt.alloc(), 2)?;
-    let post = [
+// CPU 0 queues a call of CPU 1 and sends the interrupt.
+fn one_post() -> [Line; 12] {
+    [
         Begin(0, Command::Post(0, 1, Class::Sync, 7, 42, 1)),
         load(0, Word::Flags(0), 0),
         store(0, Word::Flags(0), 17),
@@ -26,8 +25,13 @@ fn one_sync_call(rt: HostRuntime) -> Result<(), Fail> {
         Stands(0, RecPlace::Queued(1)),
         Begin(0, Command::Send(1)),
         noted(store(0, Word::Intr(1), 1), Note::Sent),
-    ];
-    assert_eq!(rt; first_fault(&mut core, &post)?, None);
+    ]
+}
+
+#[test]
+fn one_sync_call(rt: HostRuntime) -> Result<(), Fail> {
+    let mut core = core_of(rt.alloc(), 2)?;
+    assert_eq!(rt; first_fault(&mut core, &one_post())?, None);
     assert_eq!(rt; core.queue(1).as_slice(), [0].as_slice());
     let handle = [
         Begin(1, Command::Handle),
