@@ -26,6 +26,7 @@ pub mod StageSteps
 pub mod RoundSteps
 pub mod AckSteps
 pub mod CompletionSteps
+pub mod StateWords
 -- a stop table, and the stops of a machine
 pub mod Tables
 pub mod Named

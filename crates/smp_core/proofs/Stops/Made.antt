@@ -4,10 +4,11 @@ use Rattle.std.proofs.lemmas.List.{length-set}
 use Rattle.smp_core.specs.Stops.State.{StopState}
 use Rattle.smp_core.specs.Stops.Tells.{tells}
 use Rattle.smp_core.specs.Stops.Stages.{StopControlValue, stop_outcome, answer_at}
-use Rattle.smp_core.specs.Stops.Table.{StopWords}
+use Rattle.smp_core.specs.Stops.Table.{StopWords, stop_number}
 use Rattle.smp_core.specs.Stops.Value.{StopsValue, StopsShow, IsStopTable, setup_of, stop_control_of}
 use Rattle.smp_core.specs.Stops.Machine.{AreSoundStops, stop_found_at, stop_seen_at, stop_stepped}
-use Rattle.smp_core.proofs.Stops.Values.{stop_value_shown, stop_table_shown}
+use Rattle.smp_core.proofs.Stops.StateWords.{ArePhases}
+use Rattle.smp_core.proofs.Stops.Values.{stop_value_shown, stop_table_shown, stop_phases_kept}
 use Rattle.smp_core.specs.declared.seen.Seen.{Seen}
 use Rattle.smp_core.specs.declared.stop.stage.StopStage.{StopStage}
 
@@ -29,6 +30,7 @@ module _ (v : StopsValue) (sound : AreSoundStops v.online v.labels v.table v.con
   made_sound = record {
     sized = ap length m.is_controls ∙ (length-set v.controls cpu (stop_outcome cpu (stop_control_of v.controls cpu) stage (stop_found_at v cpu stage)).control ∙ sound.sized);
     table_is = subst IsStopTable (sym m.is_table) (stop_table_shown (setup_of v.online v.labels) refl sound.stops v.table v.controls sound.shown sound.sized sound.table_is cpu stage m.at_stage);
+    phases = subst (λ (t : StopWords). ArePhases (stop_number t)) (sym m.is_table) (stop_phases_kept (setup_of v.online v.labels) refl sound.stops v.table v.controls sound.shown sound.sized sound.table_is cpu stage m.at_stage sound.phases);
     stops = tells (setup_of v.online v.labels) sound.stops (stop_seen_at v cpu stage) (answer_at stage);
     shown = made_told sound.stops sound.shown;
   }

@@ -7,6 +7,7 @@ use Rattle.smp_core.proofs.Puts.{at_test}
 use Rattle.smp_core.proofs.Stops.CompletionSteps.{stop_step_shown}
 use Rattle.smp_core.proofs.Stops.Facts.{work_words}
 use Rattle.smp_core.proofs.Stops.Named.{gate_stays, stage_named, work_in}
+use Rattle.smp_core.proofs.Stops.StateWords.{ArePhases, phases_after}
 use Rattle.smp_core.proofs.Stops.Tables.{IsStopWord, stop_words_by_name, table_after}
 use Rattle.smp_core.specs.Access.{word_of}
 use Rattle.smp_core.specs.Put.{put}
@@ -133,6 +134,12 @@ module _ (u : Setup) (few : u.cpus ≡ cpus) (p : StopState) (t : StopWords) (co
   -- the table stays one
   pub stop_table_shown : IsStopTable (stop_words_after t (stop_access u.cpus me c.changes stage))
   stop_table_shown = table_after t is (stop_access u.cpus me c.changes stage) stop_word_named
+
+  -- and no state word is more than 5
+  pub stop_phases_kept : ArePhases at → ArePhases (stop_number (stop_words_after t (stop_access u.cpus me c.changes stage)))
+  stop_phases_kept h =
+      subst ArePhases (sym (stop_words_by_name t is (stop_access u.cpus me c.changes stage) stop_word_named))
+      (phases_after u p at v.seat v.source v.shows h c me stage (subst (λ (x : Option StopStage). SitsAt u me c x (v.seat me)) e (v.sits me below).seat))
 
   -- the number found fits its type, and there is room for what it makes
   pub stop_found_fits : FitsStop c stage (at (word_of (stop_access u.cpus me c.changes stage)))

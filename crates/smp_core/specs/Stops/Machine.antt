@@ -1,5 +1,5 @@
 -- One step of the stop half of a machine, and what every such half keeps.
-use Rattle.std.specs.Prelude.{◌≡◌, ℕ, List, length, slice_set}
+use Rattle.std.specs.Prelude.{◌≡◌, ℕ, ◌≤◌, List, length, slice_set}
 use Rattle.smp_labels.specs.Labels.{Labels}
 use Rattle.smp_core.specs.Size.{cpus}
 use Rattle.smp_core.specs.Access.{word_of, seen_of}
@@ -10,7 +10,9 @@ use Rattle.smp_core.specs.Stops.Table.{StopWords, stop_number, stop_words_after}
 use Rattle.smp_core.specs.Stops.Value.{StopsValue, StopShown, StopsShow, IsStopTable, setup_of, stop_control_of}
 use Rattle.smp_core.specs.declared.access.Access.{Access}
 use Rattle.smp_core.specs.declared.seen.Seen.{Seen}
+use Rattle.smp_core.specs.declared.stop.field.Field.TheVariants as field
 use Rattle.smp_core.specs.declared.stop.stage.StopStage.{StopStage}
+use Rattle.smp_core.specs.declared.word.Word.TheVariants.{Slot}
 
 -- the access that a CPU makes at this stage, and what it finds
 abbrev pub stop_access_at : StopsValue → ℕ → StopStage → Access
@@ -36,9 +38,10 @@ stop_stepped v cpu stage = record v {
 abbrev pub StopTold : StopsValue → ℕ → StopStage → StopsValue → Type 0
 StopTold old cpu stage new = (p : StopState) → StopShown p old → StopShown (tells (setup_of old.online old.labels) p (stop_seen_at old cpu stage) (answer_at stage)) new
 
--- the table is whole, each CPU has a control, and they show some stops
+-- the table is whole, no state word is more than 5, each CPU has a control, and they show some stops
 pub record AreSoundStops (online : ℕ) (labels : Labels) (table : StopWords) (controls : List StopControlValue) : Type 0 where
   pub sized : length controls ≡ cpus
   pub table_is : IsStopTable table
+  pub phases : (s : ℕ) → stop_number table (Slot s field.State) ≤ 5
   pub stops : StopState
   pub shown : StopsShow (setup_of online labels) stops table controls

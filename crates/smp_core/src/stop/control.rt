@@ -362,15 +362,15 @@ impl StopControl {
             StopStage::Complete(visit, completion) => {
                 self.advance_completion(visit, completion, found)
             }
-            _ => self.advance_source(me, stage, found),
+            _ => self.advance_source(stage, found),
         }
     }
 
     /// What follows a step of the source, or a reading.
-    fn advance_source(&mut self, _me: u32, stage: StopStage, found: u64) -> Option<Note>
+    fn advance_source(&mut self, stage: StopStage, found: u64) -> Option<Note>
         requires { IsOfSource stage }
-        ensures note { result ≡ (stop_outcome _me self.old stage found).note }
-        ensures control { self.new ≡ (stop_outcome _me self.old stage found).control }
+        ensures note { (me : ℕ) → result ≡ (stop_outcome me self.old stage found).note }
+        ensures control { (me : ℕ) → self.new ≡ (stop_outcome me self.old stage found).control }
     {
         match stage {
             StopStage::LoadDone => {

@@ -1,12 +1,13 @@
 //! The stop half of a pure machine: its words, and where each CPU stands, one atomic step at a time.
 
-ghost use Rattle.std.specs.Prelude.{◌≡◌, MatchOption};
+ghost use Rattle.std.specs.Prelude.{◌≡◌, ◌≤◌, MatchOption};
 
 use crate::access::Access;
 use crate::command::Command;
 use crate::seen::{Note, Seen};
 use crate::size::NR_CPUS;
 use crate::stop::control::StopControl;
+use crate::stop::field::Field;
 use crate::stop::stage::StopStage;
 use crate::stop::start::Terms;
 use crate::stop::table::StopTable;
@@ -196,11 +197,15 @@ impl<A: Allocator> Stops<A> {
         self.table.word(word)
     }
 
-    /// The number in a word; 0 where there is no such word.
-    pub fn number(&self, word: Word) -> u64
-        ensures { result ≡ stop_number self.now.table word }
+    ghost use Rattle.smp_core.specs.declared.stop.field.Field.TheVariants.{State};
+    ghost use Rattle.smp_core.specs.declared.word.Word.TheVariants.{Slot};
+
+    /// The state word of a slot, 0 to 5; 0 where there is no such slot.
+    pub fn phase(&self, slot: u32) -> u32
+        ensures phase { result ≡ stop_number self.now.table (Slot slot State) }
+        ensures small { result ≤ 5 }
     {
-        self.table.read(word)
+        (self.table.read(Word::Slot(slot, Field::State)) % (1 << 32)) as u32
     }
 
     /// Every stop half shows a state of the stops that keeps all laws.

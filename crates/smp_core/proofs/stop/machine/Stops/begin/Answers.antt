@@ -33,6 +33,7 @@ pub invariant_of-self : goal.invariant_of-self
 invariant_of-self g c = record {
   sized = length-set c.self.inside.controls.items c.args.cpu c.begin.new.self ∙ c.self.invariant.sized;
   table_is = c.self.invariant.table_is;
+  phases = c.self.invariant.phases;
   stops = c.self.invariant.stops;
   shown = shown_after g c c.self.invariant.stops c.self.invariant.shown;
 }
