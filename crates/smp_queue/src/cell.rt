@@ -6,11 +6,13 @@
 //! words, the records of one source 48. The table's memory is aligned as words are and not as lines are, so that
 //! such a row may begin inside a line.
 
-ghost use Rattle.std.specs.Prelude.{◌≡◌, ◌<◌, Some};
-ghost use Rattle.smp_queue.specs.Cells.{HasCell, cell_of, spread as spread_in};
+ghost use Rattle.std.specs.Prelude.{◌≡◌, ◌≤◌, ◌+◌, ◌*◌, Some};
+ghost use Rattle.smp_queue.specs.Cells.{HasCell, cell_of};
 
-use smp_core::size::{QUEUED, WORDS};
-use smp_core::{Word, call_index};
+use smp_core::Word;
+use smp_core::size::{
+    FLAGS, FUNCS, HANDS, HEADS, INFOS, INTRS, NEXTS, NR_CPUS, QUEUED, RAN, WORDS, WORDS_OF_ONE,
+};
 
 /// The words of one cache line of 64 bytes.
 const LINE: usize = 8;
@@ -24,27 +26,47 @@ const GAPS: usize = (LINE - 1) * ALONE;
 /// The cells of the table.
 pub(crate) const CELLS: usize = WORDS + GAPS;
 
-/// The cell of a word. Where the kind of word is known, as at each access, this is a sum.
+/// The cell of a word, by its kind: no test of its CPU or record is made, since the caller has shown that there is
+/// a cell. Where the kind is known, as at each access, this is a sum.
 #[inline(always)]
 pub(crate) fn cell(word: Word) -> usize
     requires { HasCell word }
     ensures { cell_of word ≡ Some result }
 {
-    match call_index(word) {
-        Some(index) => spread(index),
-        None => 0,
+    match word {
+        Word::Head(cpu) => alone(HEADS, cpu),
+        Word::Intr(cpu) => alone(INTRS, cpu),
+        Word::Hand(cpu) => alone(HANDS, cpu),
+        Word::Queued(from, to) => of_pair(QUEUED, from, to),
+        Word::Ran(by, from) => of_pair(RAN, by, from),
+        Word::Flags(id) => of_record(FLAGS, id),
+        Word::Func(id) => of_record(FUNCS, id),
+        Word::Info(id) => of_record(INFOS, id),
+        Word::Next(id) => of_record(NEXTS, id),
+        Word::Gate | Word::Slot(_, _) | Word::Key(_) | Word::Entry(_) | Word::Site(_) => 0,
     }
 }
 
-/// The cell of the word of this number.
 #[inline(always)]
-fn spread(index: usize) -> usize
-    requires { index < WORDS }
-    ensures { result ≡ spread_in index }
+fn alone(base: usize, cpu: u32) -> usize
+    requires { base ≤ WORDS }
+    ensures { result ≡ LINE * (base + cpu) }
 {
-    if index < ALONE {
-        LINE * index
-    } else {
-        index + GAPS
-    }
+    LINE * (base + cpu as usize)
+}
+
+#[inline(always)]
+fn of_pair(base: usize, row: u32, column: u32) -> usize
+    requires { base ≤ WORDS }
+    ensures { result ≡ base + NR_CPUS * row + column + GAPS }
+{
+    base + NR_CPUS as usize * row as usize + column as usize + GAPS
+}
+
+#[inline(always)]
+fn of_record(base: usize, id: u32) -> usize
+    requires { base ≤ WORDS }
+    ensures { result ≡ base + WORDS_OF_ONE * id + GAPS }
+{
+    base + WORDS_OF_ONE * id as usize + GAPS
 }
