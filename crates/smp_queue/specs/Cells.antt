@@ -8,7 +8,7 @@ use Rattle.smp_queue.specs.declared.cell.TheConstants.{LINE, ALONE, GAPS, CELLS}
 abbrev pub cells : ℕ
 cells = CELLS
 
--- the cell of the word of this number: a line each for the first words, one cell each for all later ones
+-- the cell of the word of this number: the first words are a cache line apart, all later ones side by side
 abbrev pub spread : ℕ → ℕ
 spread index = if nat_lt index ALONE then LINE * index else index + GAPS
 

@@ -1,10 +1,11 @@
 //! Where each word lies in the table. Only this page and its proofs know.
 //!
-//! A cache line has eight words. The heads, the interrupt words and the handling words come first by their
-//! numbers, and each of them has eight cells, so that no two lie in one line: a CPU that polls its own takes no
-//! other CPU's line. All later words lie side by side as their numbers do: the tallies of one CPU are eight
-//! words, the records of one source 48. The table's memory is aligned as words are and not as lines are, so that
-//! such a row may begin inside a line.
+//! A cache line has eight words. The heads, the interrupt words and the handling words are first by their numbers,
+//! and each of them has eight cells, so that no two of them lie in one line, wherever the table begins: a CPU that
+//! polls its own words takes no line from another CPU that polls. All later words lie side by side, in the order
+//! of their numbers: a row of a CPU's tallies fills one line, and the records of one source six. That is so where
+//! the table begins at a line. Its memory is only aligned as a word is (`atomic_table`), so that such a row may
+//! have its ends in lines of its neighbours.
 
 ghost use Rattle.std.specs.Prelude.{◌≡◌, ◌≤◌, ◌+◌, ◌*◌, Some};
 ghost use Rattle.smp_queue.specs.Cells.{HasCell, cell_of};
@@ -17,10 +18,10 @@ use smp_core::size::{
 /// The words of one cache line of 64 bytes.
 const LINE: usize = 8;
 
-/// The words of a number below this have a line each: all that stand before the first tally.
+/// The words of numbers below this have a line each: all before the first tally.
 const ALONE: usize = QUEUED;
 
-/// The cells that are left empty so.
+/// The cells between them that stay empty.
 const GAPS: usize = (LINE - 1) * ALONE;
 
 /// The cells of the table.
@@ -34,9 +35,9 @@ pub(crate) fn cell(word: Word) -> usize
     ensures { cell_of word ≡ Some result }
 {
     match word {
-        Word::Head(cpu) => alone(HEADS, cpu),
-        Word::Intr(cpu) => alone(INTRS, cpu),
-        Word::Hand(cpu) => alone(HANDS, cpu),
+        Word::Head(cpu) => of_cpu(HEADS, cpu),
+        Word::Intr(cpu) => of_cpu(INTRS, cpu),
+        Word::Hand(cpu) => of_cpu(HANDS, cpu),
         Word::Queued(from, to) => of_pair(QUEUED, from, to),
         Word::Ran(by, from) => of_pair(RAN, by, from),
         Word::Flags(id) => of_record(FLAGS, id),
@@ -47,14 +48,16 @@ pub(crate) fn cell(word: Word) -> usize
     }
 }
 
+/// The cell of a word of a CPU, with a line of its own.
 #[inline(always)]
-fn alone(base: usize, cpu: u32) -> usize
+fn of_cpu(base: usize, cpu: u32) -> usize
     requires { base ≤ WORDS }
     ensures { result ≡ LINE * (base + cpu) }
 {
     LINE * (base + cpu as usize)
 }
 
+/// The cell of a word of two CPUs.
 #[inline(always)]
 fn of_pair(base: usize, row: u32, column: u32) -> usize
     requires { base ≤ WORDS }
@@ -63,6 +66,7 @@ fn of_pair(base: usize, row: u32, column: u32) -> usize
     base + NR_CPUS as usize * row as usize + column as usize + GAPS
 }
 
+/// The cell of a word of a record.
 #[inline(always)]
 fn of_record(base: usize, id: u32) -> usize
     requires { base ≤ WORDS }
