@@ -1,31 +1,69 @@
 -- Where words lie: a cell is of one word, and a store in a cell is a put at its word. Only this page knows.
-use Rattle.std.proofs.Common.{◌≡◌, ℕ, zero, suc, ◌<◌, ◌≤◌, Some, Option, List, [], ◌∷◌, length, get_or, set, sym, refl, ap, ◌∙◌}
+use Rattle.std.proofs.Common.{◌≡◌, ◌≢◌, ℕ, zero, suc, ◌+◌, ◌*◌, ◌<◌, ◌≤◌, Bool, true, false, nat_lt, cond, Some, None, Option, option_map, List, [], ◌∷◌, length, get_or, set, sym, refl, ap, subst, ◌∙◌, arith}
+use Rattle.std.proofs.lemmas.List.{get_or-set_same, get_or-set_other}
 use mathlib.Core.Option.{some, some-injective, some-ne-none}
 use lib.ListN.{get_elem?}
-use Rattle.std.proofs.lemmas.Bool.{le-ltb}
-use Rattle.smp_core.specs.Size.{cpus, records}
-use Rattle.smp_core.specs.Put.{put_word}
-use Rattle.smp_core.specs.Layout.{number_at, put_at}
-use Rattle.smp_core.proofs.Links.{one_word, index_below, number_in-put_in, IsInTable, in_table}
+use Rattle.std.proofs.lemmas.Bool.{ltb-true, ltb-false, le-ltb}
+use Rattle.smp_core.specs.Size.{cpus, records, table_size}
+use Rattle.smp_core.specs.Put.{put_word, same_word}
+use Rattle.smp_core.specs.Layout.{index_of, number_at}
+use Rattle.smp_core.proofs.Links.{one_word, index_below, HasIndex, IsInTable, in_table}
+use Rattle.smp_core.proofs.SameWords.{same_word-true, same_word-itself}
 use Rattle.smp_core.specs.declared.word.Word.{Word}
 use Rattle.smp_core.specs.declared.word.Word.TheVariants.{Hand, Flags}
-use Rattle.smp_queue.specs.Cells.{cells, cell_of, HasCell, number_in}
+use Rattle.smp_queue.specs.declared.cell.TheConstants.{LINE, ALONE, GAPS}
+use Rattle.smp_queue.specs.Cells.{cells, spread, cell_of, HasCell, number_in}
 
 got_or : (xs : List ℕ) (i n : ℕ) → get_elem? xs i ≡ some n → get_or xs i 0 ≡ n
 got_or [] i n e = absurd (some-ne-none n (sym e))
 got_or (x ∷ xs) zero n e = some-injective x n e
 got_or (x ∷ xs) (suc i) n e = got_or xs i n e
 
+-- no two numbers have one cell
+
+apart : (b d : Bool) (i j : ℕ) → nat_lt i ALONE ≡ b → nat_lt j ALONE ≡ d → cond b (LINE * i) (i + GAPS) ≡ cond d (LINE * j) (j + GAPS) → i ≡ j
+apart true true i j e f same = omega arith
+apart true false i j e f same = let l = ltb-true i ALONE e in let m = ltb-false j ALONE f in omega arith
+apart false true i j e f same = let l = ltb-false i ALONE e in let m = ltb-true j ALONE f in omega arith
+apart false false i j e f same = omega arith
+
+one_number : (i j : ℕ) → spread i ≡ spread j → i ≡ j
+one_number i j same = apart (nat_lt i ALONE) (nat_lt j ALONE) i j refl refl same
+
+near_or_far : (b : Bool) (i : ℕ) → nat_lt i ALONE ≡ b → i < table_size → cond b (LINE * i) (i + GAPS) < cells
+near_or_far true i e l = let m = ltb-true i ALONE e in omega arith
+near_or_far false i e l = omega arith
+
+spread_below : (i : ℕ) → i < table_size → spread i < cells
+spread_below i l = near_or_far (nat_lt i ALONE) i refl l
+
+-- the number of the word in a cell
+record HasNumber (o : Option ℕ) (cell : ℕ) : Type 0 where
+  number : ℕ
+  is_number : o ≡ Some number
+  is_cell : spread number ≡ cell
+
+has_number : (o : Option ℕ) (cell : ℕ) → option_map spread o ≡ Some cell → HasNumber o cell
+has_number None cell e = absurd (let f : None ≡ Some cell = e in cc)
+has_number (Some i) cell e = record { number = i; is_number = refl; is_cell = (let f : Some (spread i) ≡ Some cell = e in cc) }
+
 -- a cell is of one word
 pub one_cell : (u w : Word) (i : ℕ) → cell_of u ≡ Some i → cell_of w ≡ Some i → u ≡ w
-one_cell u w i e f = one_word u w i e f
+one_cell u w i e f =
+    let a = has_number (index_of u) i e in
+    let b = has_number (index_of w) i f in
+    one_word u w a.number a.is_number (b.is_number ∙ ap Some (one_number b.number a.number (b.is_cell ∙ sym a.is_cell)))
+
+-- a word that has a number has a cell
+pub has_cell_of : (w : Word) → HasIndex w → HasCell w
+has_cell_of w h = (spread h.index, ap (option_map spread) h.is_index)
 
 -- the words of the CPUs and records that there are have cells
 pub has_cell : (w : Word) → IsInTable w → HasCell w
-has_cell w l = let h = in_table w l in (h.index, h.is_index)
+has_cell w l = has_cell_of w (in_table w l)
 
 pub cell_below : (w : Word) (i : ℕ) → cell_of w ≡ Some i → i < cells
-cell_below w i e = index_below w i e
+cell_below w i e = let a = has_number (index_of w) i e in subst (λ c. c < cells) a.is_cell (spread_below a.number (index_below w a.number a.is_number))
 
 -- a word that has no cell is 0
 
@@ -39,9 +77,23 @@ no_flags words id l = rw (le-ltb id records l) refl
 pub number_here : (words : List ℕ) (w : Word) (i : ℕ) → cell_of w ≡ Some i → number_in words w ≡ get_or words i 0
 number_here words w i e = ap (number_at words) e
 
+number_kept : (words : List ℕ) (i n : ℕ) (u : Option ℕ) → u ≢ Some i → number_at (set words i n) u ≡ number_at words u
+number_kept words i n None ne = refl
+number_kept words i n (Some j) ne = get_or-set_other words i j n 0 (λ e. ne (ap Some e))
+
+other_cell : (u w : Word) (i : ℕ) → same_word u w ≡ false → cell_of w ≡ Some i → cell_of u ≢ Some i
+other_cell u w i s e f =
+    let same : same_word u w ≡ true = subst (λ (x : Word). same_word u x ≡ true) (one_cell u w i f e) (same_word-itself u) in
+    cc
+
+number_stored : (words : List ℕ) (w u : Word) (i n : ℕ) (b : Bool) → i < length words → cell_of w ≡ Some i → same_word u w ≡ b →
+    number_in (set words i n) u ≡ cond b n (number_in words u)
+number_stored words w u i n true l e s =
+    number_here (set words i n) u i (ap cell_of (same_word-true u w s) ∙ e) ∙ get_or-set_same words i n 0 l
+number_stored words w u i n false l e s = number_kept words i n (cell_of u) (other_cell u w i s e)
+
 pub stored_here : (words : List ℕ) (w : Word) (i n : ℕ) → length words ≡ cells → cell_of w ≡ Some i → number_in (set words i n) ≡ put_word (number_in words) w n
-stored_here words w i n l e =
-    ap (λ (o : Option ℕ). number_in (put_at words o n)) (sym e) ∙ number_in-put_in words w n l (record { index = i; below = cell_below w i e; is_index = e })
+stored_here words w i n l e = λ k u. number_stored words w u i n (same_word u w) (let b = cell_below w i e in omega arith) e refl k
 
 -- the number that is found at the cell of a word
 pub number_got : (words : List ℕ) (w : Word) (i n : ℕ) → cell_of w ≡ Some i → get_elem? words i ≡ some n → n ≡ number_in words w

@@ -3,7 +3,6 @@ use Rattle.std.proofs.Common.{◌≡◌, Some, ap, ◌∙◌, subst}
 use Rattle.atomic_table.specs.Seated.{TableId}
 use Rattle.smp_core.specs.Access.{word_of}
 use Rattle.smp_core.specs.Known.{known_access, Lives}
-use Rattle.smp_core.proofs.Links.{HasIndex}
 use Rattle.smp_core.proofs.Handling.{lives_aims, lives_in_table}
 use Rattle.smp_core.specs.declared.known.Known.{Known}
 use Rattle.smp_core.specs.declared.access.Access.{Access}
@@ -11,6 +10,7 @@ use Rattle.smp_core.specs.declared.handle.HandleStage.{HandleStage}
 use Rattle.smp_core.specs.declared.stage.Stage.TheVariants.{Handle}
 use Rattle.smp_queue.specs.Cells.{cells, HasCell}
 use Rattle.smp_queue.specs.Desk.{Desk, Can, Ready, InHandle, IsApartFromCalls}
+use Rattle.smp_queue.proofs.Cells.{has_cell_of}
 
 module _ (t : TableId) (d : Desk) (stage : HandleStage) (h : InHandle t d stage) where
   pub in_handle_can : (access : Access) → known_access d.known (Handle stage) ≡ access → Can d.known access
@@ -18,7 +18,7 @@ module _ (t : TableId) (d : Desk) (stage : HandleStage) (h : InHandle t d stage)
 
   pub in_handle_cell : (access : Access) → known_access d.known (Handle stage) ≡ access → HasCell (word_of access)
   in_handle_cell access is =
-      subst (λ (x : Access). HasCell (word_of x)) is (let k : HasIndex (word_of (known_access d.known (Handle stage))) = lives_in_table d.known h.lives stage h.stage_is in (k.index, k.is_index))
+      subst (λ (x : Access). HasCell (word_of x)) is (has_cell_of (word_of (known_access d.known (Handle stage))) (lives_in_table d.known h.lives stage h.stage_is))
 
   -- a step that begins, counts and ends no call
   pub in_handle_ready : (access : Access) → IsApartFromCalls (Handle stage) → known_access d.known (Handle stage) ≡ access → Ready t d access

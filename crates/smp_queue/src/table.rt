@@ -30,6 +30,7 @@ ghost use Rattle.smp_queue.specs.Audit.{Audited, IfDrained, AreEqual, HasRowsOf,
 
 use crate::audit::{Audit, answer};
 use crate::boot::Boot;
+use crate::cell::CELLS;
 use crate::chair::{seat_next, store};
 use crate::closing::Closing;
 use crate::cpu::CallCpu;
@@ -43,7 +44,7 @@ use smp_core::call::Class;
 use smp_core::command::Command;
 use smp_core::limits::are_limits;
 use smp_core::post::Posting;
-use smp_core::size::{RECORDS_OF_ONE, WORDS, record_of};
+use smp_core::size::{RECORDS_OF_ONE, record_of};
 use smp_mask::{CpuMask, SmpError};
 use std::alloc::{AllocError, Allocator};
 use std::marker::Model;
@@ -74,7 +75,7 @@ where
     A: Copy,
     ensures { IfOk result (λ t. (t.0.shared.table_id.words ≡ cells) × (t.0.shared.table_id.slots ≡ 0) × (t.0.shared.key ≡ nr) × (t.1.table_id ≡ t.0.shared.table_id) × (t.1.me.0 ≡ BootSeat 0)) }
 {
-    let words = Vec::from_elem(alloc, 0u64, WORDS)?;
+    let words = Vec::from_elem(alloc, 0u64, CELLS)?;
     let (table, seat) = Table::of_words(alloc, words.as_slice(), &nr)?;
     Ok((table, seat))
 }

@@ -110,8 +110,8 @@ fn each_growth_may_be_refused(rt: HostRuntime) -> Result<(), Fail> {
         let heap = LocalHeap::new(rt.alloc(), size)?;
         match CallTable::new(&heap, 8, online) {
             Ok(_) => {
-                // A table has 536 words of 8 bytes.
-                assert!(rt; size > 536 * 8, "{size} bytes");
+                // A table has 704 cells of 8 bytes.
+                assert!(rt; size > 704 * 8, "{size} bytes");
                 return Ok(());
             }
             Err(error) => assert_eq!(rt; error, SmpError::NoMemory, "{size} bytes"),

@@ -1,6 +1,6 @@
 use Rattle.std.proofs.Common.{rules, ◌≡◌, ◌≤◌, ◌+◌, ◌%◌, ◌==◌, not, refl, arith, sym, ap, ◌∙◌}
 use Rattle.smp_core.specs.Size.{cpus, records}
-use Rattle.smp_core.specs.declared.word.Word.TheVariants.{Hand, Flags}
+use Rattle.smp_core.specs.declared.word.Word.TheVariants.{Head, Hand, Flags}
 use Rattle.smp_queue.specs.Cells.{number_in}
 use Rattle.smp_queue.specs.Audit.{count_below, has_head, has_hand, has_lock}
 use Rattle.smp_queue.proofs.Auditing.{count_zero, counted_more, counted_small}
@@ -9,6 +9,9 @@ use Rattle.smp_queue.proofs.audit.count_left.Goals as goal
 
 pub loop-cpu-init : goal.loop-cpu-init
 loop-cpu-init g c = record { heads = sym (count_zero (has_head (number_in c.args.words.now))); handling = sym (count_zero (has_hand (number_in c.args.words.now))); locked = refl }
+
+pub number-requires : goal.number-requires
+number-requires g c = has_cell (Head c.loop-cpu.cpu) c.loop-cpu-test.true
 
 pub overflow_add-left : goal.overflow_add-left
 overflow_add-left g c =
