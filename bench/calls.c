@@ -2,8 +2,9 @@
  * The steps of cross-processor calls in plain C, to compare times with: the same words, the same steps in the same
  * order, the same waiting, all atomics sequentially consistent. No proof covers this file, and it refuses less.
  *
- *   cc -O2 -pthread -o calls bench/calls.c     (with -DSPREAD head, interrupt and handling words have cache lines
- *                                               of their own; with -DLOOK a CPU looks at its interrupt word first)
+ *   cc -O2 -pthread -o calls bench/calls.c     (with -DCLOSE head, interrupt and handling words lie side by side and
+ *                                               not on cache lines of their own; with -DLOOK a CPU looks at its
+ *                                               interrupt word first)
  *   ./calls time|count THREADS LIMIT [WORKLOAD]     as crates/smp_bench
  */
 #define _GNU_SOURCE
@@ -22,10 +23,10 @@ enum { LOCK = 1, ASYNC = 0, SYNC = 16 };
 enum { FUNC = 7, INFO = 42 };
 enum { SYNC_RECORD = 0, ASYNC_RECORD = 1, MANY_RECORD = 2, USER_RECORD = 10 };
 
-#ifdef SPREAD
-enum { APART = 8 };
-#else
+#ifdef CLOSE
 enum { APART = 1 };
+#else
+enum { APART = 8 };
 #endif
 
 /* Where the words lie. */
@@ -370,7 +371,7 @@ static void report(uint32_t asked)
 int main(int argc, char **argv)
 {
 	uint32_t threads = argc > 2 ? (uint32_t)atoi(argv[2]) : 0;
-	if (argc < 4 || threads < 2 || threads > 4) {
+	if (argc < 4 || threads < 2 || threads > 7) {
 		fprintf(stderr, "usage: calls time|count THREADS LIMIT [WORKLOAD]\n");
 		return 2;
 	}

@@ -10,7 +10,7 @@ pub const USAGE: &str = "usage: smp_bench time|count THREADS LIMIT [WORKLOAD]";
 /// Threads of one workload: a source and a target at least.
 const FEWEST_THREADS: u32 = 2;
 
-const MOST_THREADS: u32 = 4;
+const MOST_THREADS: u32 = 7;
 
 /// How long a workload goes on.
 #[derive(Clone, Copy, Debug, PartialEq, Eq)]

@@ -225,7 +225,7 @@ fn measure<R: Wait + Threads + Clock + Eprint + Sync>(
     }
 }
 
-/// Runs a workload of 2 to 4 threads, one for each CPU.
+/// Runs a workload of 2 to 7 threads, one for each CPU.
 pub fn run<R: Wait + Threads + Clock + Eprint + Sync>(
     rt: &R,
     alloc: Global,
@@ -236,8 +236,8 @@ pub fn run<R: Wait + Threads + Clock + Eprint + Sync>(
     requires { IsLawful threads }
 {
     // One CPU more keeps the table's last value.
-    let (table, mut boot) = CallTable::new(alloc, 5, "0-4".parse()?)?;
-    let last = last_of(&table, &mut boot, 4)?;
+    let (table, mut boot) = CallTable::new(alloc, 8, "0-7".parse()?)?;
+    let last = last_of(&table, &mut boot, 7)?;
     measure(
         &mut Room::new(&table, boot),
         rt,
