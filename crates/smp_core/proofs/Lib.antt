@@ -24,6 +24,7 @@ pub mod OneStep
 pub mod Own
 pub mod Parts
 pub mod Places
+pub mod Placing
 pub mod Posted
 pub mod Posting
 pub mod Puts

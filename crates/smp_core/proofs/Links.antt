@@ -1,12 +1,11 @@
 -- The list of words as a function from names: a store in the list is a put at the name. With Sizes, the only proofs
 -- that know the numbers of the words.
-use Rattle.std.proofs.Common.{◌≡◌, ◌≢◌, ℕ, ◌+◌, ◌*◌, ◌-◌, ◌/◌, ◌%◌, ◌<◌, ◌≤◌, Bool, true, false, ◌==◌, ◌&&◌, nat_lt, cond, Option, Some, None, List, length, sym, subst, refl, ap, ◌∙◌, arith}
-use Rattle.std.proofs.lemmas.List.{get_or-set_same, get_or-set_other}
+use Rattle.std.proofs.Common.{◌≡◌, ℕ, ◌+◌, ◌*◌, ◌-◌, ◌/◌, ◌%◌, ◌<◌, ◌≤◌, Bool, true, false, ◌==◌, ◌&&◌, nat_lt, cond, Option, Some, None, List, length, sym, refl, ap, ◌∙◌, arith}
 use Rattle.std.proofs.lemmas.Bool.{ltb-true, and_parts, lt-ltb, le-ltb}
 use Rattle.smp_core.specs.Size.{cpus, records, table_size}
-use Rattle.smp_core.specs.Put.{put_word, same_word}
-use Rattle.smp_core.specs.Layout.{index_of, number_in, number_at, put_in, put_at, cpu_word, pair_word, record_word}
-use Rattle.smp_core.proofs.SameWords.{same_word-true, same_word-itself}
+use Rattle.smp_core.specs.Put.{put_word}
+use Rattle.smp_core.specs.Layout.{index_of, number_in, put_in, put_at, cpu_word, pair_word, record_word}
+use Rattle.smp_core.proofs.Placing.{stored_at}
 use Rattle.smp_core.specs.declared.size.TheConstants.{NR_CPUS, RECORDS, WORDS_OF_ONE, HEADS, INTRS, HANDS, QUEUED, RAN, FLAGS, FUNCS, INFOS, NEXTS}
 use Rattle.smp_core.specs.declared.word.Word.{Word}
 use Rattle.smp_core.specs.declared.word.Word.TheVariants.{Head, Intr, Hand, Queued, Ran, Flags, Func, Info, Next}
@@ -141,20 +140,6 @@ word_at-index w i e = word_at-reads w i (index_reads w i e)
 pub one_word : (u w : Word) (i : ℕ) → index_of u ≡ Some i → index_of w ≡ Some i → u ≡ w
 one_word u w i e f = sym (word_at-index u i e) ∙ word_at-index w i f
 
-other_index : (u w : Word) (i : ℕ) → same_word u w ≡ false → index_of w ≡ Some i → index_of u ≢ Some i
-other_index u w i s e f =
-    let same : same_word u w ≡ true = subst (λ (x : Word). same_word u x ≡ true) (one_word u w i f e) (same_word-itself u) in
-    cc
-
-number_kept : (words : List ℕ) (i n : ℕ) (u : Option ℕ) → u ≢ Some i → number_at (put_at words (Some i) n) u ≡ number_at words u
-number_kept words i n None ne = refl
-number_kept words i n (Some j) ne = get_or-set_other words i j n 0 (λ e. ne (ap Some e))
-
-number_put : (words : List ℕ) (w u : Word) (i n : ℕ) (b : Bool) → i < length words → index_of w ≡ Some i → same_word u w ≡ b →
-    number_in (put_in words w n) u ≡ cond b n (number_in words u)
-number_put words w u i n true l e s = let f = same_word-true u w s in rw (f, e) (get_or-set_same words i n 0 l)
-number_put words w u i n false l e s = rw e (number_kept words i n (index_of u) (other_index u w i s e))
-
 -- the number of a word that there is
 pub record HasIndex (w : Word) : Type 0 where
   pub index : ℕ
@@ -163,7 +148,7 @@ pub record HasIndex (w : Word) : Type 0 where
 
 -- a store in a word that there is
 pub number_in-put_in : (words : List ℕ) (w : Word) (n : ℕ) → length words ≡ table_size → HasIndex w → number_in (put_in words w n) ≡ put_word (number_in words) w n
-number_in-put_in words w n l h = λ k u. number_put words w u h.index n (same_word u w) (let b = h.below in omega arith) h.is_index refl k
+number_in-put_in words w n l h = ap (λ (o : Option ℕ). number_in (put_at words o n)) h.is_index ∙ stored_at index_of one_word words w h.index n (let b = h.below in omega arith) h.is_index
 
 -- the words whose CPUs or record there are
 abbrev pub IsInTable : Word → Type 0

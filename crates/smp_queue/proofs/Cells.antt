@@ -1,14 +1,13 @@
 -- Where words lie: a cell is of one word, and a store in a cell is a put at its word. Only this page knows.
-use Rattle.std.proofs.Common.{◌≡◌, ◌≢◌, ℕ, zero, suc, ◌+◌, ◌*◌, ◌<◌, ◌≤◌, Bool, true, false, nat_lt, cond, Some, None, Option, option_map, List, [], ◌∷◌, length, get_or, set, sym, refl, ap, subst, ◌∙◌, arith}
-use Rattle.std.proofs.lemmas.List.{get_or-set_same, get_or-set_other}
+use Rattle.std.proofs.Common.{◌≡◌, ℕ, zero, suc, ◌+◌, ◌*◌, ◌<◌, ◌≤◌, Bool, true, false, nat_lt, cond, Some, None, Option, option_map, List, [], ◌∷◌, length, get_or, set, sym, refl, ap, subst, ◌∙◌, arith}
 use mathlib.Core.Option.{some, some-injective, some-ne-none}
 use lib.ListN.{get_elem?}
 use Rattle.std.proofs.lemmas.Bool.{ltb-true, ltb-false, le-ltb}
 use Rattle.smp_core.specs.Size.{cpus, records, table_size}
-use Rattle.smp_core.specs.Put.{put_word, same_word}
+use Rattle.smp_core.specs.Put.{put_word}
 use Rattle.smp_core.specs.Layout.{index_of, number_at}
 use Rattle.smp_core.proofs.Links.{one_word, index_below, HasIndex, IsInTable, in_table}
-use Rattle.smp_core.proofs.SameWords.{same_word-true, same_word-itself}
+use Rattle.smp_core.proofs.Placing.{stored_at}
 use Rattle.smp_core.specs.declared.word.Word.{Word}
 use Rattle.smp_core.specs.declared.word.Word.TheVariants.{Hand, Flags}
 use Rattle.smp_queue.specs.declared.cell.TheConstants.{LINE, ALONE, GAPS}
@@ -77,23 +76,8 @@ no_flags words id l = rw (le-ltb id records l) refl
 pub number_here : (words : List ℕ) (w : Word) (i : ℕ) → cell_of w ≡ Some i → number_in words w ≡ get_or words i 0
 number_here words w i e = ap (number_at words) e
 
-number_kept : (words : List ℕ) (i n : ℕ) (u : Option ℕ) → u ≢ Some i → number_at (set words i n) u ≡ number_at words u
-number_kept words i n None ne = refl
-number_kept words i n (Some j) ne = get_or-set_other words i j n 0 (λ e. ne (ap Some e))
-
-other_cell : (u w : Word) (i : ℕ) → same_word u w ≡ false → cell_of w ≡ Some i → cell_of u ≢ Some i
-other_cell u w i s e f =
-    let same : same_word u w ≡ true = subst (λ (x : Word). same_word u x ≡ true) (one_cell u w i f e) (same_word-itself u) in
-    cc
-
-number_stored : (words : List ℕ) (w u : Word) (i n : ℕ) (b : Bool) → i < length words → cell_of w ≡ Some i → same_word u w ≡ b →
-    number_in (set words i n) u ≡ cond b n (number_in words u)
-number_stored words w u i n true l e s =
-    number_here (set words i n) u i (ap cell_of (same_word-true u w s) ∙ e) ∙ get_or-set_same words i n 0 l
-number_stored words w u i n false l e s = number_kept words i n (cell_of u) (other_cell u w i s e)
-
 pub stored_here : (words : List ℕ) (w : Word) (i n : ℕ) → length words ≡ cells → cell_of w ≡ Some i → number_in (set words i n) ≡ put_word (number_in words) w n
-stored_here words w i n l e = λ k u. number_stored words w u i n (same_word u w) (let b = cell_below w i e in omega arith) e refl k
+stored_here words w i n l e = stored_at cell_of one_cell words w i n (let b = cell_below w i e in omega arith) e
 
 -- the number that is found at the cell of a word
 pub number_got : (words : List ℕ) (w : Word) (i n : ℕ) → cell_of w ≡ Some i → get_elem? words i ≡ some n → n ≡ number_in words w
