@@ -1,16 +1,19 @@
 -- The word of each access is in the table.
-use Rattle.std.proofs.Common.{◌≡◌, ℕ, ◌<◌, Some, List, [], ◌∷◌, ◌++◌, subst, refl, ap, ◌∙◌}
+use Rattle.std.proofs.Common.{◌≡◌, ℕ, ◌<◌, Some, List, [], ◌∷◌, ◌++◌, ◌+◌, subst, refl, ap, ◌∙◌}
 use Rattle.std.specs.List.{AllByRecursion}
 use Rattle.smp_core.specs.Size.{cpus, records}
 use Rattle.smp_core.specs.Access.{word_of}
-use Rattle.smp_core.specs.Calls.{CallState, Running, SyncCall, CountedCall}
-use Rattle.smp_core.specs.Drains.{DrainValue}
+use Rattle.smp_core.specs.Calls.{CallState, Running, Nothing, SyncCall, CountedCall}
+use Rattle.smp_core.specs.Drains.{DrainValue, link_to}
 use Rattle.smp_core.specs.Places.{IsPlaced, locked_by}
 use Rattle.smp_core.specs.Stages.{ControlValue, access_of}
-use Rattle.smp_core.specs.Stands.{Share, share_of, StandsAt, HandleStands, Loads, PostStands}
+use Rattle.smp_core.specs.Stands.{Share, share_of, StandsAt, HandleStands, Reverses, Walks, Ends, PostStands}
 use Rattle.smp_core.specs.Shows.{Shows}
 use Rattle.smp_core.specs.Words.{nexts_in}
-use Rattle.smp_core.proofs.Alls.{every_unloaded, every_last}
+use Rattle.smp_core.specs.declared.handle.Walk.{Walk}
+use Rattle.smp_core.specs.declared.word.Word.TheVariants.{Next}
+use Rattle.smp_core.proofs.Alls.{every_right}
+use Rattle.smp_core.proofs.Walks.{reverses_all, walks_rest, walks_last, ends_rest, same_record}
 use Rattle.smp_core.proofs.Links.{HasIndex, IsInTable, in_table}
 use Rattle.smp_core.proofs.Sizes.{owner-below}
 use Rattle.smp_core.specs.declared.call.Call.{Call}
@@ -39,14 +42,32 @@ post_in_table places at me p post.Release s = s.is_call.in_range
 
 module _ (places : ℕ → RecPlace) (at : Word → ℕ) (me : ℕ) (s : Share) (d : DrainValue)
     (batched : AllByRecursion (IsPlaced places (place.Batch me)) s.batch) (runs : AllByRecursion (IsPlaced places (place.Running me)) (locked_by s.running)) where
-  -- the call that is loaded is in the batch
-  pub loaded_placed : (call : Call) → Loads (nexts_in at) s d call → IsPlaced places (place.Batch me) call
-  loaded_placed call h =
-      every_last (IsPlaced places (place.Batch me)) h.older call
-      (every_unloaded (IsPlaced places (place.Batch me)) s.batch (h.older ++ call ∷ []) d.sync d.async h.in_order batched)
+  -- the calls of the batch are by records
 
-  loaded_in_range : (call : Call) (id : ℕ) → Loads (nexts_in at) s d call → call.id ≡ id → id < records
-  loaded_in_range call id h e = subst (λ (k : ℕ). k < records) e (loaded_placed call h).is_call.in_range
+  pub reversed_placed : (up down : ℕ) (call : Call) → Reverses (nexts_in at) s d up down call → IsPlaced places (place.Batch me) call
+  reversed_placed up down call h =
+      let all = every_right (IsPlaced places (place.Batch me)) h.older (call ∷ h.newer) (reverses_all (IsPlaced places (place.Batch me)) (nexts_in at) s d up down call h batched) in
+      all.0
+
+  reversed_in_range : (up down : ℕ) (call : Call) (id : ℕ) → Reverses (nexts_in at) s d up down call → call.id ≡ id → id < records
+  reversed_in_range up down call id h e = subst (λ (k : ℕ). k < records) e (reversed_placed up down call h).is_call.in_range
+
+  pub walked_placed : (walk : Walk) (id : ℕ) (call : Call) (rest : List Call) → Walks (nexts_in at) s d walk (id + 1) [] (call ∷ rest) Nothing → IsPlaced places (place.Batch me) call
+  walked_placed walk id call rest h = let all = walks_rest (IsPlaced places (place.Batch me)) (nexts_in at) s d walk (id + 1) [] (call ∷ rest) Nothing h batched in all.0
+
+  walked_in_range : (walk : Walk) (id : ℕ) (call : Call) (rest : List Call) → Walks (nexts_in at) s d walk (id + 1) [] (call ∷ rest) Nothing → id < records
+  walked_in_range walk id call rest h = subst (λ (k : ℕ). k < records) (same_record id call h.leads_on.0) (walked_placed walk id call rest h).is_call.in_range
+
+  last_in_range : (walk : Walk) (last here : ℕ) (rest : List Call) → Walks (nexts_in at) s d walk here [] rest Nothing → walk.last ≡ Some last → last < records
+  last_in_range walk last here rest h e =
+      let k = walks_last (IsPlaced places (place.Batch me)) (nexts_in at) s d walk last here rest h e batched in
+      subst (λ (n : ℕ). n < records) k.1 k.2.is_call.in_range
+
+  pub ended_placed : (id : ℕ) (call : Call) (rest : List Call) → Ends (nexts_in at) s d (id + 1) [] (call ∷ rest) Nothing → IsPlaced places (place.Batch me) call
+  ended_placed id call rest h = let all = ends_rest (IsPlaced places (place.Batch me)) (nexts_in at) s d (id + 1) [] (call ∷ rest) Nothing h batched in all.0
+
+  ended_in_range : (id : ℕ) (call : Call) (rest : List Call) → Ends (nexts_in at) s d (id + 1) [] (call ∷ rest) Nothing → id < records
+  ended_in_range id call rest h = subst (λ (k : ℕ). k < records) (same_record id call h.leads_on.0) (ended_placed id call rest h).is_call.in_range
 
   -- the call that runs, where its record is locked meanwhile
   running_in_range : (call : Call) (running : Running) → locked_by running ≡ call ∷ [] → s.running ≡ running → call.id < records
@@ -64,21 +85,27 @@ module _ (places : ℕ → RecPlace) (at : Word → ℕ) (me : ℕ) (s : Share) 
   handle_in_table handle.Accept l h = l
   handle_in_table handle.LeaveIdle l h = l
   handle_in_table handle.Take l h = l
-  handle_in_table (handle.LoadFlags id) l h = loaded_in_range h.0 id h.1 h.2
-  handle_in_table (handle.LoadFunc id class) l h = loaded_in_range h.0 id h.1 h.2
-  handle_in_table (handle.LoadInfo id class func) l h = loaded_in_range h.0 id h.1 h.2
-  handle_in_table (handle.LoadNext call) l h = loaded_in_range call call.id h refl
-  handle_in_table (handle.BeginSync call) l h = l
-  handle_in_table (handle.CountSync call) l h = (l, owner-below call.id (running_in_range call (SyncCall call) refl h.running_is))
-  handle_in_table (handle.EndSync call) l h = running_in_range call (CountedCall call) refl h.running_is
-  handle_in_table (handle.BeginAsync call) l h = begun_in_range call d.async h.0.batch
-  handle_in_table (handle.CountAsync call) l h = (l, owner-below call.id h.2.in_range)
+  handle_in_table (handle.ReverseLoad newer id) l h = reversed_in_range (link_to newer) (at (Next id)) h.0 id h.1 h.2
+  handle_in_table (handle.ReverseStore newer id older) l h = reversed_in_range (link_to newer) (link_to older) h.0 id h.1 h.2
+  handle_in_table (handle.LoadNext walk id) l h = walked_in_range walk id h.0 h.1 h.2
+  handle_in_table (handle.LoadFlags walk id next) l h = walked_in_range walk id h.0 h.1 h.2
+  handle_in_table (handle.LoadFunc walk id next) l h = walked_in_range walk id h.0 h.1 h.2
+  handle_in_table (handle.LoadInfo walk id next func) l h = walked_in_range walk id h.0 h.1 h.2
+  handle_in_table (handle.Unlink walk last call next) l h = last_in_range walk last (call.id + 1) (call ∷ h.0) h.1 h.4
+  handle_in_table (handle.BeginSync walk call next) l h = l
+  handle_in_table (handle.CountSync walk call next) l h = (l, owner-below call.id (running_in_range call (SyncCall call) refl h.1.running_is))
+  handle_in_table (handle.EndSync walk call next) l h = running_in_range call (CountedCall call) refl h.1.running_is
+  handle_in_table (handle.AsyncNext id) l h = ended_in_range id h.0 h.1 h.2
+  handle_in_table (handle.AsyncFunc id next) l h = ended_in_range id h.0 h.1 h.2
+  handle_in_table (handle.AsyncInfo id next func) l h = ended_in_range id h.0 h.1 h.2
+  handle_in_table (handle.BeginAsync call next) l h = begun_in_range call h.0 h.1.batch
+  handle_in_table (handle.CountAsync call next) l h = (l, owner-below call.id h.2.in_range)
   handle_in_table handle.Leave l h = l
 
   stage_in_table : (stage : Stage) → StandsAt places at s d me (Some stage) → IsInTable (word_of (access_of at me stage))
-  stage_in_table (Send to) h = h.3
-  stage_in_table (Done id) h = h.4
-  stage_in_table (Post p stage) h = post_in_table places at me p stage h.3
+  stage_in_table (Send to) h = h.1
+  stage_in_table (Done id) h = h.2
+  stage_in_table (Post p stage) h = post_in_table places at me p stage h.1
   stage_in_table (Handle stage) h = handle_in_table stage h.0 h.1
 
 -- the CPU of a stage, and the word of its access

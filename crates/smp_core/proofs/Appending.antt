@@ -8,7 +8,7 @@ use Rattle.smp_core.specs.Size.{owner}
 use Rattle.smp_core.specs.Calls.{CallState, Holding, Sending, appended, is_nil}
 use Rattle.smp_core.specs.Stages.{ControlValue}
 use Rattle.smp_core.specs.Places.{Placed, IsPlaced, IsCall, IsThere, Holds, HasRecord, IsApart, locked_by}
-use Rattle.smp_core.specs.Words.{Written, IsWritten, FlagsShow, Chained, Leads, Linked, LinkIs, last_batch, Noticed, IsNoticed, is_pending, is_accepted, is_owed, IsEmpty, flags_in, funcs_in, infos_in, nexts_in, heads_in, intrs_in, queued_in, ran_in}
+use Rattle.smp_core.specs.Words.{Written, IsWritten, FlagsShow, Chained, Leads, Linked, LinkIs, Noticed, IsNoticed, is_pending, is_accepted, is_owed, IsEmpty, flags_in, funcs_in, infos_in, nexts_in, heads_in, intrs_in, queued_in, ran_in}
 use Rattle.smp_core.specs.Histories.{Recorded, Tallied, Marked, mark, sent_to, marked_from, history_of, one_held}
 use Rattle.smp_core.specs.Stands.{Stands, share_of, held_of, HandIs}
 use Rattle.smp_core.specs.Shows.{Shows}
@@ -16,7 +16,7 @@ use Rattle.smp_core.proofs.Puts.{at_test, put_all}
 use Rattle.smp_core.proofs.Alls.{every, every_push}
 use Rattle.smp_core.proofs.Frames.{Touches, leaves_others, Stands-kept}
 use Rattle.smp_core.proofs.Lists.{sent_to-push, marked_from-push, history-push, one_if-same, one_if-other}
-use Rattle.smp_core.proofs.Own.{put_other, put_same, KeepsLinks-kept}
+use Rattle.smp_core.proofs.Own.{put_other, put_same}
 use Rattle.smp_core.specs.declared.call.Call.{Call}
 use Rattle.smp_core.specs.declared.place.RecPlace.{RecPlace}
 use Rattle.smp_core.specs.declared.place.RecPlace.TheVariants as place
@@ -198,11 +198,9 @@ module _ (a : CallState) (at : Word → ℕ) (control : ℕ → ControlValue) (m
         (λ _. Leads-push (nexts_in at) (at (Head to)) (a.queue to) 0 call link (s.chained.chain to)) (λ _. s.chained.chain cpu);
   }
 
-  links' : Linked (nexts_in at) (put a.place call.id (place.Queued to)) (put a.held me None) a.linked a.taken
+  links' : Linked (nexts_in at) (put a.held me None) a.linked
   links' = record {
     held_links = λ cpu. at_test cpu me (λ b. LinkIs (nexts_in at) (cond b None (a.held cpu)) (a.linked cpu)) (λ _. tt) (λ _. s.links.held_links cpu);
-    batch_links = λ cpu. KeepsLinks-kept (nexts_in at) (nexts_in at) a.place (put a.place call.id (place.Queued to)) cpu 0 (last_batch (a.taken cpu))
-        (λ u e. (at_test u call.id (λ b. cond b (place.Queued to) (a.place u) ≡ place.Batch cpu → a.place u ≡ place.Batch cpu) (λ _ f. let x = f in cc) (λ _ f. f) e, refl)) (s.links.batch_links cpu);
   }
 
   noticed' : Noticed (intrs_in at) (put a.queue to (a.queue to ++ call ∷ [])) a.pending a.accepted (cond (is_nil (a.queue to)) (put a.owes me (put (a.owes me) to true)) a.owes)

@@ -3,13 +3,11 @@ use Rattle.std.proofs.Common.{◌≡◌, ◌≢◌, ℕ, ◌+◌, List, [], ◌�
 use Rattle.std.specs.List.{AllByRecursion}
 use Rattle.smp_core.specs.Order.{if_sync, if_async, sync_calls, async_calls, order}
 use Rattle.smp_core.specs.Places.{IsAbsent, IsApart, HasRecord}
-use Rattle.smp_core.specs.Words.{Leads, KeepsLinks}
+use Rattle.smp_core.specs.Words.{Leads}
 use Rattle.smp_core.proofs.Alls.{every_both, every_append, every_sync, every_async}
 use Rattle.smp_core.specs.declared.call.Call.{Call}
 use Rattle.smp_core.specs.declared.call.Class.{Class}
 use Rattle.smp_core.specs.declared.call.Class.TheVariants.{Sync, Async}
-use Rattle.smp_core.specs.declared.place.RecPlace.{RecPlace}
-use Rattle.smp_core.specs.declared.place.RecPlace.TheVariants as place
 
 -- what holds of all of a batch holds of all of it in drain order
 pub every_order : (P : Call → Type 0) (calls : List Call) → AllByRecursion P calls → AllByRecursion P (order calls)
@@ -46,7 +44,7 @@ has_order id calls h = elim (has_class id calls h) [
   | inr k ↦ has_right id (sync_calls calls) (async_calls calls) k
 ]
 
-apart_append : (xs ys : List Call) → IsApart xs → IsApart ys → AllByRecursion (λ x. IsAbsent x.id ys) xs → IsApart (xs ++ ys)
+pub apart_append : (xs ys : List Call) → IsApart xs → IsApart ys → AllByRecursion (λ x. IsAbsent x.id ys) xs → IsApart (xs ++ ys)
 apart_append [] ys a b cross = b
 apart_append (x ∷ xs) ys a b cross = (every_append (λ call. call.id ≢ x.id) xs ys a.0 cross.0, apart_append xs ys a.1 b cross.1)
 
@@ -62,7 +60,7 @@ apart_sync : (calls : List Call) → IsApart calls → IsApart (sync_calls calls
 apart_sync [] a = tt
 apart_sync (call ∷ rest) a = apart_sync_one call.class call (sync_calls rest) (every_sync (λ c. c.id ≢ call.id) rest a.0) (apart_sync rest a.1)
 
-apart_async : (calls : List Call) → IsApart calls → IsApart (async_calls calls)
+pub apart_async : (calls : List Call) → IsApart calls → IsApart (async_calls calls)
 apart_async [] a = tt
 apart_async (call ∷ rest) a = apart_async_one call.class call (async_calls rest) (every_async (λ c. c.id ≢ call.id) rest a.0) (apart_async rest a.1)
 
@@ -124,14 +122,3 @@ newest_of nexts link x (y ∷ ys) below l =
 pub has_newest : (nexts : ℕ → ℕ) (link : ℕ) (calls : List Call) → link ≢ 0 → Leads nexts link calls 0 → HasNewest nexts link calls 0
 has_newest nexts link [] ne l = absurd (ne l)
 has_newest nexts link (x ∷ xs) ne l = newest_of nexts link x xs 0 l
-
--- a chain is one of links that are kept
-pub links_of_chain : (nexts : ℕ → ℕ) (places : ℕ → RecPlace) (cpu link below : ℕ) (calls : List Call) → Leads nexts link calls below → KeepsLinks nexts places cpu below calls
-links_of_chain nexts places cpu link below [] l = tt
-links_of_chain nexts places cpu link below (x ∷ xs) l = ((λ _. l.0), links_of_chain nexts places cpu link (x.id + 1) xs l.1)
-
--- where a record is in the batch now, it was
-pub links_kept : (nexts : ℕ → ℕ) (places places' : ℕ → RecPlace) (cpu : ℕ) → ((id : ℕ) → places' id ≡ place.Batch cpu → places id ≡ place.Batch cpu) → (below : ℕ) (calls : List Call) →
-    KeepsLinks nexts places cpu below calls → KeepsLinks nexts places' cpu below calls
-links_kept nexts places places' cpu was below [] k = tt
-links_kept nexts places places' cpu was below (x ∷ xs) k = ((λ e. k.0 (was x.id e)), links_kept nexts places places' cpu was (x.id + 1) xs k.1)

@@ -4,17 +4,18 @@ use Rattle.std.proofs.lemmas.Bool.{lt-ltb}
 use Rattle.std.specs.List.{AllByRecursion}
 use Rattle.smp_core.specs.Put.{put, put_word}
 use Rattle.smp_core.specs.Calls.{CallState, Holding, Running, Nothing, SyncCall, AsyncCall, begins_sync, begins_async, releases, unlocks}
+use Rattle.smp_core.specs.Order.{sync_calls, async_calls}
 use Rattle.smp_core.specs.Drains.{DrainValue}
 use Rattle.smp_core.specs.Stages.{ControlValue}
 use Rattle.smp_core.specs.Places.{IsApart, HasRecord, IsPlaced, IsThere, Placed, locked_by}
-use Rattle.smp_core.specs.Words.{FlagsShow, IsWritten, Written, Linked, flags_in, funcs_in, infos_in, nexts_in, queued_in, ran_in}
+use Rattle.smp_core.specs.Words.{FlagsShow, IsWritten, Written, last_batch, flags_in, funcs_in, infos_in, nexts_in, queued_in, ran_in}
 use Rattle.smp_core.specs.Histories.{orders, running_call, counted_call, Recorded, Tallied}
 use Rattle.smp_core.specs.Stands.{share_of, Stands, HandIs}
 use Rattle.smp_core.specs.Shows.{Shows}
 use Rattle.smp_core.proofs.Puts.{at_test}
 use Rattle.smp_core.proofs.Frames.{Minds, Touches, leaves_others}
 use Rattle.smp_core.proofs.Turns.{put_here, put_else, holds_nothing, stands_at, hand_at, held_after, stands_after, hands_after, hands_stored}
-use Rattle.smp_core.proofs.Moving.{Batch≢Batch, Running≢Batch, Queued≢Batch, Batch≢Free, Free≢Batch, all_placed_still, all_placed_apart, placed_moved, all_written_still, all_written_apart, written_moved, linked_moved}
+use Rattle.smp_core.proofs.Moving.{Batch≢Batch, Running≢Batch, Queued≢Batch, Batch≢Free, Free≢Batch, all_placed_still, all_placed_apart, placed_moved, all_written_still, all_written_apart, written_moved}
 use Rattle.smp_core.proofs.Tallies.{tallied_same}
 use Rattle.smp_core.proofs.StepShows.{StepShows}
 use Rattle.smp_core.specs.declared.call.Call.{Call}
@@ -22,6 +23,7 @@ use Rattle.smp_core.specs.declared.place.RecPlace.{RecPlace}
 use Rattle.smp_core.specs.declared.place.RecPlace.TheVariants as place
 use Rattle.smp_core.specs.declared.word.Word.{Word}
 use Rattle.smp_core.specs.declared.word.Word.TheVariants.{Hand, Flags}
+use Rattle.smp_core.specs.declared.handle.Walk.{Walk}
 use Rattle.smp_core.specs.declared.handle.HandleStage.TheVariants as handle
 use Rattle.smp_core.specs.declared.stage.Stage.TheVariants.{Handle}
 
@@ -51,7 +53,7 @@ module _ (a : CallState) (at : Word → ℕ) (control : ℕ → ControlValue) (m
     begun_stands : (at' : Word → ℕ) (c : ControlValue) → Touches call.id a.place (put a.place call.id to) at at' → Stands (put a.place call.id to) at' (share_of begun me) me c →
         (cpu : ℕ) → Stands (put a.place call.id to) at' (share_of begun cpu) cpu (put control me c cpu)
     begun_stands at' c t stands = stands_after a at control me s at' (put a.place call.id to) (share_of begun) c
-        (λ cpu ne. at_test cpu me (λ b. record { batch = cond b rest (a.batch cpu); running = cond b r (a.running cpu); accepted = a.accepted cpu } ≡ share_of a cpu) (λ f. absurd (ne f)) (λ _. refl))
+        (λ cpu ne. at_test cpu me (λ b. record { last = last_batch (a.taken cpu); batch = cond b rest (a.batch cpu); running = cond b r (a.running cpu); accepted = a.accepted cpu } ≡ share_of a cpu) (λ f. absurd (ne f)) (λ _. refl))
         (λ cpu ne. leaves_others me call.id a.place (put a.place call.id to) at at' (subst (Minds me call.id) (sym here) refl) t cpu ne)
         stands
 
@@ -83,9 +85,6 @@ module _ (a : CallState) (at : Word → ℕ) (control : ℕ → ControlValue) (m
         (λ _. runs)
         (λ _. all_written_still a.place call.id (place.Batch me) to here (flags_in at) flags' (funcs_in at) (infos_in at) same (place.Running cpu) (locked_by (a.running cpu)) (Running≢Batch cpu me) (s.placed.runs cpu) (s.written.runs cpu)))
 
-    begun_links : ((cpu : ℕ) → to ≢ place.Batch cpu) → Linked (nexts_in at) (put a.place call.id to) a.held a.linked a.taken
-    begun_links gone = linked_moved a.place call.id (place.Batch me) to here (nexts_in at) a.held a.linked a.taken gone s.links
-
     begun_recorded : running_call r ≡ call ∷ [] → Recorded a.sent a.taken a.queue a.ran (put a.running me r) (put a.batch me rest)
     begun_recorded runs = record {
       in_order = s.recorded.in_order;
@@ -106,10 +105,10 @@ module _ (a : CallState) (at : Word → ℕ) (control : ℕ → ControlValue) (m
         s.tallied
 
   -- the store of the record's number: a SYNC call begins
-  begun_sync : (call : Call) (rest : List Call) (c : ControlValue) → a.batch me ≡ call ∷ rest → a.running me ≡ Nothing → a.held me ≡ None → c.stage ≡ Some (Handle (handle.CountSync call)) →
+  begun_sync : (walk : Walk) (next : Option ℕ) (call : Call) (rest : List Call) (c : ControlValue) → a.batch me ≡ call ∷ rest → a.running me ≡ Nothing → a.held me ≡ None → c.stage ≡ Some (Handle (handle.CountSync walk call next)) →
       Stands (put a.place call.id (place.Running me)) (put_word at (Hand me) (call.id + 2)) (share_of (begins_sync a me (call ∷ rest)) me) me c →
       Shows (begins_sync a me (call ∷ rest)) (put_word at (Hand me) (call.id + 2)) (put control me c)
-  begun_sync call rest c front idle held stage stands =
+  begun_sync walk next call rest c front idle held stage stands =
       let to : RecPlace = place.Running me in
       let first = all_placed call rest front idle to (SyncCall call) in
       let words = all_written call rest front idle to (SyncCall call) in
@@ -122,32 +121,43 @@ module _ (a : CallState) (at : Word → ℕ) (control : ℕ → ControlValue) (m
             (subst (λ (x : Running). HasRecord call.id (locked_by x)) (sym (put_here me (SyncCall call) (a.running me))) (inl refl));
         written = begun_written call rest front idle to (SyncCall call) (flags_in at) (λ _ _. refl) (subst (λ (p : RecPlace). FlagsShow p (at (Flags call.id))) (here call rest front idle to (SyncCall call)) (s.written.locks call.id)) (words.0, tt);
         chained = s.chained;
-        links = begun_links call rest front idle to (SyncCall call) (λ cpu. Running≢Batch me cpu);
+        links = s.links;
         noticed = s.noticed;
         recorded = begun_recorded call rest front idle to (SyncCall call) refl;
         tallied = begun_tallied call rest front idle to (SyncCall call) refl;
       }
 
-  pub begin_sync_step : (call : Call) → (control me).stage ≡ Some (Handle (handle.BeginSync call)) → StepShows a at control me (Handle (handle.BeginSync call))
-  begin_sync_step call e =
-      let was = stands_at a at control me s (handle.BeginSync call) e in
-      let k = was.1.0 in
+  pub begin_sync_step : (walk : Walk) (call : Call) (next : Option ℕ) → (control me).stage ≡ Some (Handle (handle.BeginSync walk call next)) → StepShows a at control me (Handle (handle.BeginSync walk call next))
+  begin_sync_step walk call next e =
+      let was = stands_at a at control me s (handle.BeginSync walk call next) e in
+      let k = was.1.1 in
       let d : DrainValue = (control me).drain in
-      let rest : List Call = d.sync ++ d.async in
+      let left : List Call = sync_calls was.1.0 ++ async_calls (last_batch (a.taken me)) in
       let at' : Word → ℕ = put_word at (Hand me) (call.id + 2) in
-      let next : ControlValue = record { stage = Some (Handle (handle.CountSync call)); drain = d } in
+      let c : ControlValue = record { stage = Some (Handle (handle.CountSync walk call next)); drain = d } in
       let stored : nat_lt 1 (call.id + 2) ≡ true = lt-ltb 1 (call.id + 2) (omega arith) in
-      let shown : Shows (begins_sync a me (call ∷ rest)) at' (put control me next) =
-      begun_sync call rest next k.batch k.running_is (holds_nothing a at control me s (handle.BeginSync call) e) refl
-      (was.0, record { batch = put_here me rest (a.batch me); sorted = k.sorted; running_is = put_here me (SyncCall call) (a.running me); accepted = k.accepted }) in
-      subst (λ (b : Bool). Shows (if b then begins_sync a me (a.batch me) else a) at' (put control me next)) (sym stored)
-      (subst (λ (xs : List Call). Shows (begins_sync a me xs) at' (put control me next)) (sym k.batch) shown)
+      let shown : Shows (begins_sync a me (call ∷ left)) at' (put control me c) =
+      begun_sync walk next call left c k.batch k.running_is (holds_nothing a at control me s (handle.BeginSync walk call next) e) refl
+      (was.0, (was.1.0, record {
+        passed = k.passed;
+        whole = k.whole;
+        leads_here = k.leads_here;
+        ends_at = k.ends_at;
+        leads_on = k.leads_on;
+        apart = k.apart;
+        counted = k.counted;
+        batch = put_here me left (a.batch me);
+        running_is = put_here me (SyncCall call) (a.running me);
+        accepted = k.accepted;
+      })) in
+      subst (λ (b : Bool). Shows (if b then begins_sync a me (a.batch me) else a) at' (put control me c)) (sym stored)
+      (subst (λ (xs : List Call). Shows (begins_sync a me xs) at' (put control me c)) (sym k.batch) shown)
 
   -- the store of 0 to the flags: an ASYNC call begins
-  begun_async : (call : Call) (rest : List Call) (c : ControlValue) → a.batch me ≡ call ∷ rest → a.running me ≡ Nothing → a.held me ≡ None → HandIs c.stage (at (Hand me)) → c.stage ≡ Some (Handle (handle.CountAsync call)) →
+  begun_async : (next : Option ℕ) (call : Call) (rest : List Call) (c : ControlValue) → a.batch me ≡ call ∷ rest → a.running me ≡ Nothing → a.held me ≡ None → HandIs c.stage (at (Hand me)) → c.stage ≡ Some (Handle (handle.CountAsync call next)) →
       Stands (put a.place call.id place.Free) (put_word at (Flags call.id) 0) (share_of (begins_async a me (call ∷ rest)) me) me c →
       Shows (begins_async a me (call ∷ rest)) (put_word at (Flags call.id) 0) (put control me c)
-  begun_async call rest c front idle held hand stage stands =
+  begun_async next call rest c front idle held hand stage stands =
       let to : RecPlace = place.Free in
       record {
         held = held_after a at control me s c (rw stage held);
@@ -157,24 +167,25 @@ module _ (a : CallState) (at : Word → ℕ) (control : ℕ → ControlValue) (m
         placed = begun_placed call rest front idle to (AsyncCall call) tt tt;
         written = begun_written call rest front idle to (AsyncCall call) (put (flags_in at) call.id 0) (λ u ne. put_else u call.id 0 (at (Flags u)) ne) (put_here call.id 0 (at (Flags call.id))) tt;
         chained = s.chained;
-        links = begun_links call rest front idle to (AsyncCall call) Free≢Batch;
+        links = s.links;
         noticed = s.noticed;
         recorded = begun_recorded call rest front idle to (AsyncCall call) refl;
         tallied = begun_tallied call rest front idle to (AsyncCall call) refl;
       }
 
-  pub begin_async_step : (call : Call) → (control me).stage ≡ Some (Handle (handle.BeginAsync call)) → StepShows a at control me (Handle (handle.BeginAsync call))
-  begin_async_step call e =
-      let was = stands_at a at control me s (handle.BeginAsync call) e in
-      let k = was.1.0 in
+  pub begin_async_step : (call : Call) (next : Option ℕ) → (control me).stage ≡ Some (Handle (handle.BeginAsync call next)) → StepShows a at control me (Handle (handle.BeginAsync call next))
+  begin_async_step call next e =
+      let was = stands_at a at control me s (handle.BeginAsync call next) e in
+      let rest : List Call = was.1.0 in
+      let k = was.1.1 in
       let d : DrainValue = (control me).drain in
-      let held = holds_nothing a at control me s (handle.BeginAsync call) e in
+      let held = holds_nothing a at control me s (handle.BeginAsync call next) e in
       let at' : Word → ℕ = put_word at (Flags call.id) 0 in
-      let next : ControlValue = record { stage = Some (Handle (handle.CountAsync call)); drain = d } in
-      let front : AllByRecursion (IsPlaced a.place (place.Batch me)) (call ∷ d.async) = subst (λ (xs : List Call). AllByRecursion (IsPlaced a.place (place.Batch me)) xs) k.batch (s.placed.batched me) in
-      let shown : Shows (begins_async a me (call ∷ d.async)) at' (put control me next) =
-      begun_async call d.async next k.batch k.running_is held (hand_at a at control me s (handle.BeginAsync call) e) refl
-      (was.0, (record { batch = put_here me d.async (a.batch me); sorted = k.sorted; running_is = put_here me (AsyncCall call) (a.running me); accepted = k.accepted }, was.1.2, front.0.is_call)) in
-      subst (λ (h : Option Holding). Shows (releases a me call.id h) at' (put control me next)) (sym held)
-      (subst (λ (x : Running). Shows (unlocks a me x) at' (put control me next)) (sym k.running_is)
-      (subst (λ (xs : List Call). Shows (begins_async a me xs) at' (put control me next)) (sym k.batch) shown))
+      let c : ControlValue = record { stage = Some (Handle (handle.CountAsync call next)); drain = d } in
+      let front : AllByRecursion (IsPlaced a.place (place.Batch me)) (call ∷ rest) = subst (λ (xs : List Call). AllByRecursion (IsPlaced a.place (place.Batch me)) xs) k.batch (s.placed.batched me) in
+      let shown : Shows (begins_async a me (call ∷ rest)) at' (put control me c) =
+      begun_async next call rest c k.batch k.running_is held (hand_at a at control me s (handle.BeginAsync call next) e) refl
+      (was.0, (rest, record { leads_on = k.leads_on; asyncs = k.asyncs; counted = k.counted; batch = put_here me rest (a.batch me); running_is = put_here me (AsyncCall call) (a.running me); accepted = k.accepted }, front.0.is_call)) in
+      subst (λ (h : Option Holding). Shows (releases a me call.id h) at' (put control me c)) (sym held)
+      (subst (λ (x : Running). Shows (unlocks a me x) at' (put control me c)) (sym k.running_is)
+      (subst (λ (xs : List Call). Shows (begins_async a me xs) at' (put control me c)) (sym k.batch) shown))

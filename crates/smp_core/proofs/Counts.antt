@@ -87,7 +87,7 @@ stage_held : (places : ℕ → RecPlace) (at : Word → ℕ) (s : Share) (d : Dr
 stage_held places at s d me id None k h = absurd h
 stage_held places at s d me id (Some (Send to)) k h = absurd h
 stage_held places at s d me id (Some (Done r)) k h = absurd h
-stage_held places at s d me id (Some (Post p stage)) k h = post_held places at id p stage k.3.knows h
+stage_held places at s d me id (Some (Post p stage)) k h = post_held places at id p stage k.1.knows h
 stage_held places at s d me id (Some (Handle stage)) k h = absurd h
 
 -- a record that is free, or held

@@ -115,24 +115,30 @@ none_held None h = refl
 none_held (Some x) h = absurd (h x.call.id refl)
 
 rests_inside : (places : ℕ → RecPlace) (at : Word → ℕ) (s : Share) (d : DrainValue) (me hand : ℕ) (stage : HandleStage) → hand ≡ 0 → HandIs (Some (Handle stage)) hand → StandsAt places at s d me (Some (Handle stage)) → Rests s
-rests_inside places at s d me hand handle.Enter z h k = k.1.0
-rests_inside places at s d me hand (handle.CountSync call) z h k = absurd (let e : hand ≡ call.id + 2 = h in omega arith)
-rests_inside places at s d me hand (handle.EndSync call) z h k = absurd (let e : hand ≡ call.id + 2 = h in omega arith)
+rests_inside places at s d me hand handle.Enter z h k = k.1
 rests_inside places at s d me hand handle.Accept z h k = absurd (h z)
 rests_inside places at s d me hand handle.LeaveIdle z h k = absurd (h z)
 rests_inside places at s d me hand handle.Take z h k = absurd (h z)
-rests_inside places at s d me hand (handle.LoadFlags id) z h k = absurd (h z)
-rests_inside places at s d me hand (handle.LoadFunc id class) z h k = absurd (h z)
-rests_inside places at s d me hand (handle.LoadInfo id class func) z h k = absurd (h z)
-rests_inside places at s d me hand (handle.LoadNext call) z h k = absurd (h z)
-rests_inside places at s d me hand (handle.BeginSync call) z h k = absurd (h z)
-rests_inside places at s d me hand (handle.BeginAsync call) z h k = absurd (h z)
-rests_inside places at s d me hand (handle.CountAsync call) z h k = absurd (h z)
+rests_inside places at s d me hand (handle.ReverseLoad newer id) z h k = absurd (h z)
+rests_inside places at s d me hand (handle.ReverseStore newer id older) z h k = absurd (h z)
+rests_inside places at s d me hand (handle.LoadNext walk id) z h k = absurd (h z)
+rests_inside places at s d me hand (handle.LoadFlags walk id next) z h k = absurd (h z)
+rests_inside places at s d me hand (handle.LoadFunc walk id next) z h k = absurd (h z)
+rests_inside places at s d me hand (handle.LoadInfo walk id next func) z h k = absurd (h z)
+rests_inside places at s d me hand (handle.Unlink walk last call next) z h k = absurd (h z)
+rests_inside places at s d me hand (handle.BeginSync walk call next) z h k = absurd (h z)
+rests_inside places at s d me hand (handle.CountSync walk call next) z h k = absurd (let e : hand ≡ call.id + 2 = h in omega arith)
+rests_inside places at s d me hand (handle.EndSync walk call next) z h k = absurd (let e : hand ≡ call.id + 2 = h in omega arith)
+rests_inside places at s d me hand (handle.AsyncNext id) z h k = absurd (h z)
+rests_inside places at s d me hand (handle.AsyncFunc id next) z h k = absurd (h z)
+rests_inside places at s d me hand (handle.AsyncInfo id next func) z h k = absurd (h z)
+rests_inside places at s d me hand (handle.BeginAsync call next) z h k = absurd (h z)
+rests_inside places at s d me hand (handle.CountAsync call next) z h k = absurd (h z)
 rests_inside places at s d me hand handle.Leave z h k = absurd (h z)
 
 -- nothing is taken and nothing runs, where the handling word is 0
 rests_at : (places : ℕ → RecPlace) (at : Word → ℕ) (s : Share) (d : DrainValue) (me hand : ℕ) (stage : Option Stage) → hand ≡ 0 → HandIs stage hand → StandsAt places at s d me stage → Rests s
-rests_at places at s d me hand None z h k = k.0
+rests_at places at s d me hand None z h k = k
 rests_at places at s d me hand (Some (Send to)) z h k = k.0
 rests_at places at s d me hand (Some (Done id)) z h k = k.0
 rests_at places at s d me hand (Some (Post p stage)) z h k = k.0

@@ -5,18 +5,18 @@ use Rattle.std.specs.List.{AllByRecursion}
 use Rattle.smp_core.specs.Size.{owner}
 use Rattle.smp_core.specs.Put.{put, put_word}
 use Rattle.smp_core.specs.Calls.{CallState, Holding, Running, Nothing, CountedCall, counts, ends_sync, ends_async, releases, unlocks}
-use Rattle.smp_core.specs.Drains.{DrainValue, popped, run_next}
+use Rattle.smp_core.specs.Drains.{DrainValue, second_on, first_on}
 use Rattle.smp_core.specs.Stages.{ControlValue}
 use Rattle.smp_core.specs.Places.{HasRecord, IsPlaced, IsThere, Placed, locked_by}
-use Rattle.smp_core.specs.Words.{IsWritten, Written, flags_in, funcs_in, infos_in, nexts_in, queued_in, ran_in}
+use Rattle.smp_core.specs.Words.{IsWritten, Written, last_batch, flags_in, funcs_in, infos_in, nexts_in, queued_in, ran_in}
 use Rattle.smp_core.specs.Histories.{orders, running_call, counted_call, Recorded, Tallied}
 use Rattle.smp_core.specs.Stands.{Share, share_of, Stands, HandIs, held_of}
 use Rattle.smp_core.specs.Shows.{Shows}
 use Rattle.smp_core.proofs.Puts.{at_test}
 use Rattle.smp_core.proofs.Frames.{Minds, leaves_others, leaves_all}
 use Rattle.smp_core.proofs.Turns.{put_here, put_else, holds_nothing, stands_at, hand_at, held_after, stands_after, hands_after}
-use Rattle.smp_core.proofs.Moving.{Running≢Running, Batch≢Running, Queued≢Running, Running≢Free, Free≢Batch, all_placed_still, placed_moved, all_written_still, written_moved, linked_moved}
-use Rattle.smp_core.proofs.Loaded.{next_runs, hand_of_next}
+use Rattle.smp_core.proofs.Moving.{Running≢Running, Batch≢Running, Queued≢Running, Running≢Free, Free≢Batch, all_placed_still, placed_moved, all_written_still, written_moved}
+use Rattle.smp_core.proofs.Walks.{second_goes, first_goes, hand_of_second, hand_of_first}
 use Rattle.smp_core.proofs.Tallies.{tallied_more, tallied_same}
 use Rattle.smp_core.proofs.StepShows.{StepShows}
 use Rattle.smp_core.specs.declared.call.Call.{Call}
@@ -24,6 +24,7 @@ use Rattle.smp_core.specs.declared.place.RecPlace.{RecPlace}
 use Rattle.smp_core.specs.declared.place.RecPlace.TheVariants as place
 use Rattle.smp_core.specs.declared.word.Word.{Word}
 use Rattle.smp_core.specs.declared.word.Word.TheVariants.{Hand, Ran, Flags}
+use Rattle.smp_core.specs.declared.handle.Walk.{Walk}
 use Rattle.smp_core.specs.declared.handle.HandleStage.TheVariants as handle
 use Rattle.smp_core.specs.declared.stage.Stage.TheVariants.{Handle}
 
@@ -54,12 +55,12 @@ module _ (a : CallState) (at : Word → ℕ) (control : ℕ → ControlValue) (m
     same_locked : (cpu : ℕ) → locked_by (put a.running me r cpu) ≡ locked_by (a.running cpu)
     same_locked cpu = at_test cpu me (λ b. locked_by (cond b r (a.running cpu)) ≡ locked_by (a.running cpu)) (λ e. locked ∙ ap (λ (k : ℕ). locked_by (a.running k)) (sym e)) (λ _. refl)
 
-    count_shown : (c : ControlValue) → a.held me ≡ held_of c.stage → HandIs c.stage (at (Hand me)) → Stands a.place (stored call) (record { batch = a.batch me; running = put a.running me r me; accepted = a.accepted me }) me c →
+    count_shown : (c : ControlValue) → a.held me ≡ held_of c.stage → HandIs c.stage (at (Hand me)) → Stands a.place (stored call) (record { last = last_batch (a.taken me); batch = a.batch me; running = put a.running me r me; accepted = a.accepted me }) me c →
         Shows (record a { running = put a.running me r; ran = ran' }) (stored call) (put control me c)
     count_shown c held hand stands = record {
       held = held_after a at control me s c held;
       stands = stands_after a at control me s (stored call) a.place (share_of (record a { running = put a.running me r; ran = ran' })) c
-          (λ cpu ne. at_test cpu me (λ b. record { batch = a.batch cpu; running = cond b r (a.running cpu); accepted = a.accepted cpu } ≡ share_of a cpu) (λ f. absurd (ne f)) (λ _. refl))
+          (λ cpu ne. at_test cpu me (λ b. record { last = last_batch (a.taken cpu); batch = a.batch cpu; running = cond b r (a.running cpu); accepted = a.accepted cpu } ≡ share_of a cpu) (λ f. absurd (ne f)) (λ _. refl))
           (λ cpu _. leaves_all a.place at (stored call) (λ _. refl) (λ _. refl) (λ _. refl) (λ _. refl) cpu) stands;
       hands = hands_after a at control me s c hand;
       placed = record {
@@ -97,36 +98,48 @@ module _ (a : CallState) (at : Word → ℕ) (control : ℕ → ControlValue) (m
             ∙ (ap (λ (xs : List Call). xs ++ a.batch me) ended ∙ (append_assoc (a.ran me) (running_call (a.running me)) (a.batch me) ∙ s.recorded.drained me))
 
   -- the store of the number of calls that ran, for a SYNC call
-  pub count_sync_step : (call : Call) → (control me).stage ≡ Some (Handle (handle.CountSync call)) → StepShows a at control me (Handle (handle.CountSync call))
-  count_sync_step call e =
-      let was = stands_at a at control me s (handle.CountSync call) e in
-      let k = was.1 in
-      let d : DrainValue = (control me).drain in
-      let next : ControlValue = record { stage = Some (Handle (handle.EndSync call)); drain = d } in
+  pub count_sync_step : (walk : Walk) (call : Call) (next : Option ℕ) → (control me).stage ≡ Some (Handle (handle.CountSync walk call next)) → StepShows a at control me (Handle (handle.CountSync walk call next))
+  count_sync_step walk call next e =
+      let was = stands_at a at control me s (handle.CountSync walk call next) e in
+      let k = was.1.1 in
+      let c : ControlValue = record { stage = Some (Handle (handle.EndSync walk call next)); drain = (control me).drain } in
       let running_is = k.running_is in
-      subst (λ (x : Running). Shows (counts a me x) (stored call) (put control me next)) (sym running_is)
+      subst (λ (x : Running). Shows (counts a me x) (stored call) (put control me c)) (sym running_is)
       (count_shown call (CountedCall call) a.ran (λ _ _. refl) (rw running_is refl) (rw running_is refl)
       (rw (running_is, append-nil (a.ran me)) refl)
-      next (holds_nothing a at control me s (handle.CountSync call) e) (hand_at a at control me s (handle.CountSync call) e)
-      (was.0, record { batch = k.batch; sorted = k.sorted; running_is = put_here me (CountedCall call) (a.running me); accepted = k.accepted }))
+      c (holds_nothing a at control me s (handle.CountSync walk call next) e) (hand_at a at control me s (handle.CountSync walk call next) e)
+      (was.0, (was.1.0, record {
+        passed = k.passed;
+        whole = k.whole;
+        leads_here = k.leads_here;
+        ends_at = k.ends_at;
+        leads_on = k.leads_on;
+        apart = k.apart;
+        counted = k.counted;
+        batch = k.batch;
+        running_is = put_here me (CountedCall call) (a.running me);
+        accepted = k.accepted;
+      })))
 
-  pub count_async_step : (call : Call) → (control me).stage ≡ Some (Handle (handle.CountAsync call)) → StepShows a at control me (Handle (handle.CountAsync call))
-  count_async_step call e =
-      let was = stands_at a at control me s (handle.CountAsync call) e in
-      let k = was.1.0 in
+  pub count_async_step : (call : Call) (next : Option ℕ) → (control me).stage ≡ Some (Handle (handle.CountAsync call next)) → StepShows a at control me (Handle (handle.CountAsync call next))
+  count_async_step call next e =
+      let was = stands_at a at control me s (handle.CountAsync call next) e in
+      let rest : List Call = was.1.0 in
+      let k = was.1.1 in
       let d : DrainValue = (control me).drain in
-      let next : ControlValue = record { stage = Some (Handle (run_next d.sync d.async)); drain = popped d } in
+      let c : ControlValue = record { stage = Some (Handle (second_on next)); drain = (control me).drain } in
       let ran' : ℕ → List Call = put a.ran me (a.ran me ++ call ∷ []) in
       let after : Share = share_of (ends_async a me call) me in
       let running_is = k.running_is in
       let ran_here : ran' me ≡ a.ran me ++ call ∷ [] = put_here me (a.ran me ++ call ∷ []) (a.ran me) in
-      subst (λ (x : Running). Shows (counts a me x) (stored call) (put control me next)) (sym running_is)
+      subst (λ (x : Running). Shows (counts a me x) (stored call) (put control me c)) (sym running_is)
       (count_shown call Nothing ran' (λ cpu ne. put_else cpu me (a.ran me ++ call ∷ []) (a.ran cpu) ne) (rw running_is refl)
       (append-nil (ran' me) ∙ (ran_here ∙ ap (λ (x : Running). a.ran me ++ running_call x) (sym running_is)))
       (append-nil (ran' me) ∙ (ran_here ∙ ap (λ (xs : List Call). xs ++ call ∷ []) (sym (append-nil (a.ran me)) ∙ ap (λ (x : Running). a.ran me ++ counted_call x) (sym running_is))))
-      next (holds_nothing a at control me s (handle.CountAsync call) e)
-      (hand_of_next d.sync d.async (at (Hand me)) (hand_at a at control me s (handle.CountAsync call) e))
-      (was.0, next_runs (nexts_in at) after d.sync d.async d.calls (k.batch ∙ ap (λ (xs : List Call). xs ++ d.async) (sym was.1.1)) k.sorted.sync k.sorted.async (put_here me Nothing (a.running me)) k.accepted))
+      c (holds_nothing a at control me s (handle.CountAsync call next) e)
+      (hand_of_second next (at (Hand me)) (hand_at a at control me s (handle.CountAsync call next) e))
+      (was.0, second_goes (nexts_in at) after d next rest
+      (record { leads_on = k.leads_on; asyncs = k.asyncs; counted = k.counted; batch = k.batch; running_is = put_here me Nothing (a.running me); accepted = k.accepted })))
 
   -- the record of the SYNC call that ran is free
   module _ (call : Call) (running : a.running me ≡ CountedCall call) where
@@ -181,7 +194,7 @@ module _ (a : CallState) (at : Word → ℕ) (control : ℕ → ControlValue) (m
     end_shown c held hand stands = record {
       held = held_after a at control me s c held;
       stands = stands_after a at control me s (put_word at (Flags call.id) 0) (put a.place call.id place.Free) (share_of (ends_sync a me call)) c
-          (λ cpu ne. at_test cpu me (λ b. record { batch = a.batch cpu; running = cond b Nothing (a.running cpu); accepted = a.accepted cpu } ≡ share_of a cpu) (λ f. absurd (ne f)) (λ _. refl))
+          (λ cpu ne. at_test cpu me (λ b. record { last = last_batch (a.taken cpu); batch = a.batch cpu; running = cond b Nothing (a.running cpu); accepted = a.accepted cpu } ≡ share_of a cpu) (λ f. absurd (ne f)) (λ _. refl))
           (λ cpu ne. leaves_others me call.id a.place (put a.place call.id place.Free) at (put_word at (Flags call.id) 0) (subst (Minds me call.id) (sym here) refl)
           (record { place_stays = λ u n. put_else u call.id place.Free (a.place u) n; flags = λ u n. put_else u call.id 0 (at (Flags u)) n; func = λ _ _. refl; info = λ _ _. refl; next = λ _ _. refl }) cpu ne)
           stands;
@@ -189,24 +202,36 @@ module _ (a : CallState) (at : Word → ℕ) (control : ℕ → ControlValue) (m
       placed = end_placed;
       written = end_written;
       chained = s.chained;
-      links = linked_moved a.place call.id (place.Running me) place.Free here (nexts_in at) a.held a.linked a.taken Free≢Batch s.links;
+      links = s.links;
       noticed = s.noticed;
       recorded = end_recorded;
       tallied = end_tallied;
     }
 
   -- the store of 0 to the flags, where a call is counted: a SYNC call ends
-  pub end_sync_step : (call : Call) → (control me).stage ≡ Some (Handle (handle.EndSync call)) → StepShows a at control me (Handle (handle.EndSync call))
-  end_sync_step call e =
-      let was = stands_at a at control me s (handle.EndSync call) e in
-      let k = was.1 in
+  pub end_sync_step : (walk : Walk) (call : Call) (next : Option ℕ) → (control me).stage ≡ Some (Handle (handle.EndSync walk call next)) → StepShows a at control me (Handle (handle.EndSync walk call next))
+  end_sync_step walk call next e =
+      let was = stands_at a at control me s (handle.EndSync walk call next) e in
+      let rest : List Call = was.1.0 in
+      let k = was.1.1 in
       let d : DrainValue = (control me).drain in
-      let held = holds_nothing a at control me s (handle.EndSync call) e in
+      let held = holds_nothing a at control me s (handle.EndSync walk call next) e in
       let at' : Word → ℕ = put_word at (Flags call.id) 0 in
-      let next : ControlValue = record { stage = Some (Handle (run_next d.sync d.async)); drain = popped d } in
+      let c : ControlValue = record { stage = Some (Handle (first_on walk next)); drain = (control me).drain } in
       let after : Share = share_of (ends_sync a me call) me in
-      let shown : Shows (ends_sync a me call) at' (put control me next) =
-      end_shown call k.running_is next held (hand_of_next d.sync d.async (at (Hand me)) (more_than_zero (at (Hand me)) call.id (hand_at a at control me s (handle.EndSync call) e)))
-      (was.0, next_runs (nexts_in at) after d.sync d.async d.calls k.batch k.sorted.sync k.sorted.async (put_here me Nothing (a.running me)) k.accepted) in
-      subst (λ (h : Option Holding). Shows (releases a me call.id h) at' (put control me next)) (sym held)
-      (subst (λ (x : Running). Shows (unlocks a me x) at' (put control me next)) (sym k.running_is) shown)
+      let shown : Shows (ends_sync a me call) at' (put control me c) =
+      end_shown call k.running_is c held (hand_of_first walk next (at (Hand me)) (more_than_zero (at (Hand me)) call.id (hand_at a at control me s (handle.EndSync walk call next) e)))
+      (was.0, first_goes (nexts_in at) after d walk next rest (record {
+        passed = k.passed;
+        whole = k.whole;
+        leads_here = k.leads_here;
+        ends_at = k.ends_at;
+        leads_on = k.leads_on;
+        apart = k.apart;
+        counted = k.counted;
+        batch = k.batch;
+        running_is = put_here me Nothing (a.running me);
+        accepted = k.accepted;
+      })) in
+      subst (λ (h : Option Holding). Shows (releases a me call.id h) at' (put control me c)) (sym held)
+      (subst (λ (x : Running). Shows (unlocks a me x) at' (put control me c)) (sym k.running_is) shown)

@@ -7,6 +7,7 @@ use Rattle.smp_core.specs.Calls.{CallState, accepts}
 use Rattle.smp_core.specs.Drains.{handle_goes}
 use Rattle.smp_core.specs.Stages.{ControlValue}
 use Rattle.smp_core.specs.Words.{bit, IsNoticed, is_pending, is_accepted, is_owed, Noticed, nexts_in, intrs_in, hands_in}
+use Rattle.smp_core.specs.Words.{last_batch}
 use Rattle.smp_core.specs.Stands.{share_of, Stands, HandleStands, HandIs, held_of}
 use Rattle.smp_core.specs.Shows.{Shows}
 use Rattle.smp_core.proofs.Puts.{at_test}
@@ -65,7 +66,7 @@ module _ (a : CallState) (at : Word → ℕ) (control : ℕ → ControlValue) (m
   pub leave_step : (control me).stage ≡ Some (Handle handle.Leave) → StepShows a at control me (Handle handle.Leave)
   leave_step e =
       let was = stands_at a at control me s handle.Leave e in
-      stores_hand 0 (record { stage = None; drain = (control me).drain }) (holds_nothing a at control me s handle.Leave e) was.1 refl
+      stores_hand 0 (record { stage = None; drain = (control me).drain }) (holds_nothing a at control me s handle.Leave e) was.1.0 refl
 
   abbrev accepted' : ℕ → Bool
   accepted' = put a.accepted me (if a.pending me then true else a.accepted me)
@@ -92,11 +93,11 @@ module _ (a : CallState) (at : Word → ℕ) (control : ℕ → ControlValue) (m
   accept_stands : (b : Bool) → (b ≡ true → a.pending me ≡ false) → (b ≡ false → a.pending me ≡ true) → HandleStands (nexts_in at) (share_of a me) (control me).drain handle.Accept → me < cpus →
       Stands a.place at (share_of (accepts a me) me) me (record { stage = (if b then handle_goes handle.LeaveIdle else handle_goes handle.Take).next; drain = (control me).drain })
   accept_stands true none some was range =
-      let rests = was.0 in
-      (range, (record { batch = rests.batch; running = rests.running; accepted = accepted_after ∙ (ap (λ (x : Bool). if x then true else a.accepted me) (none refl) ∙ rests.accepted) }, was.1, was.2))
+      let rests = was in
+      (range, record { batch = rests.batch; running = rests.running; accepted = accepted_after ∙ (ap (λ (x : Bool). if x then true else a.accepted me) (none refl) ∙ rests.accepted) })
   accept_stands false none some was range =
-      let rests = was.0 in
-      (range, (rests.batch, rests.running, accepted_after ∙ ap (λ (x : Bool). if x then true else a.accepted me) (some refl), was.1, was.2))
+      let rests = was in
+      (range, (rests.batch, rests.running, accepted_after ∙ ap (λ (x : Bool). if x then true else a.accepted me) (some refl)))
 
   accept_hand : (b : Bool) → hands_in at me ≢ 0 → HandIs (if b then handle_goes handle.LeaveIdle else handle_goes handle.Take).next (hands_in at me)
   accept_hand true ne = ne
@@ -114,7 +115,7 @@ module _ (a : CallState) (at : Word → ℕ) (control : ℕ → ControlValue) (m
       record {
         held = held_after a at control me s c (accept_held idle (holds_nothing a at control me s handle.Accept e));
         stands = stands_after a at control me s (put_word at (Intr me) 0) a.place (share_of (accepts a me)) c
-            (λ cpu ne. at_test cpu me (λ b. record { batch = a.batch cpu; running = a.running cpu; accepted = cond b (if a.pending me then true else a.accepted me) (a.accepted cpu) } ≡ share_of a cpu) (λ f. absurd (ne f)) (λ _. refl))
+            (λ cpu ne. at_test cpu me (λ b. record { last = last_batch (a.taken cpu); batch = a.batch cpu; running = a.running cpu; accepted = cond b (if a.pending me then true else a.accepted me) (a.accepted cpu) } ≡ share_of a cpu) (λ f. absurd (ne f)) (λ _. refl))
             (λ cpu _. leaves_all a.place at (put_word at (Intr me) 0) (λ _. refl) (λ _. refl) (λ _. refl) (λ _. refl) cpu)
             (stands_stored idle (accept_stands idle
             (λ t. zero_bit (a.pending me) (sym (s.noticed.words me) ∙ eqb-true (at (Intr me)) 0 t))

@@ -1,21 +1,23 @@
 -- What a step finds fits the types of the machine, and there is room for what it loads.
-use Rattle.std.proofs.Common.{◌≡◌, ℕ, ◌+◌, ◌^◌, ◌<◌, ◌≤◌, Some, List, [], ◌∷◌, ◌++◌, length, length-append, sym, subst, refl, ap, ◌∙◌, arith}
+use Rattle.std.proofs.Common.{◌≡◌, ℕ, ◌+◌, ◌^◌, ◌<◌, ◌≤◌, Option, Some, List, [], ◌∷◌, ◌++◌, length, length-append, sym, subst, refl, ap, ◌∙◌, arith}
 use Rattle.std.specs.List.{AllByRecursion}
 use Rattle.smp_core.specs.Size.{records}
 use Rattle.smp_core.specs.Order.{if_sync, if_async, sync_calls, async_calls}
 use Rattle.smp_core.specs.Access.{word_of}
-use Rattle.smp_core.specs.Calls.{CallState}
-use Rattle.smp_core.specs.Drains.{DrainValue, HasRoom}
+use Rattle.smp_core.specs.Calls.{CallState, Nothing}
+use Rattle.smp_core.specs.Drains.{link_to}
 use Rattle.smp_core.specs.Stages.{ControlValue, FitsStage, access_of}
-use Rattle.smp_core.specs.Places.{IsPlaced}
-use Rattle.smp_core.specs.Words.{Leads, IsWritten, flags_in, funcs_in, infos_in, nexts_in}
-use Rattle.smp_core.specs.Stands.{Share, share_of, Loads}
+use Rattle.smp_core.specs.Places.{IsApart, IsPlaced}
+use Rattle.smp_core.specs.Words.{Leads, Path, funcs_in, nexts_in}
+use Rattle.smp_core.specs.Stands.{share_of}
 use Rattle.smp_core.specs.Shows.{Shows}
 use Rattle.smp_core.specs.declared.size.TheConstants.{MOST_CALLS}
-use Rattle.smp_core.proofs.Alls.{every, every_left, every_unloaded}
+use Rattle.smp_core.proofs.Alls.{every, every_left}
 use Rattle.smp_core.proofs.Short.{length-apart}
 use Rattle.smp_core.proofs.Turns.{stands_at}
-use Rattle.smp_core.proofs.Loading.{this_call}
+use Rattle.smp_core.proofs.Loading.{walked_words, ended_words}
+use Rattle.smp_core.proofs.Walks.{reverses_all, walks_rest, ends_rest, same_record}
+use Rattle.smp_core.specs.declared.handle.Walk.{Walk}
 use Rattle.smp_core.specs.declared.call.Call.{Call}
 use Rattle.smp_core.specs.declared.call.Class.{Class}
 use Rattle.smp_core.specs.declared.call.Class.TheVariants.{Sync, Async}
@@ -45,43 +47,9 @@ link_fits nexts link (x ∷ xs) below b h l = link_fits nexts link xs (x.id + 1)
 chain_fits : (nexts : ℕ → ℕ) (link : ℕ) (calls : List Call) → AllByRecursion IsRecord calls → Leads nexts link calls 0 → link ≤ 2 ^ 32
 chain_fits nexts link calls h l = link_fits nexts link calls 0 (omega arith) h l
 
-pub one_class : (class : Class) (call : Call) → length (if_sync class call) + length (if_async class call) ≡ 1
-one_class Sync call = refl
-one_class Async call = refl
-
-pub length-classes : (calls : List Call) → length (sync_calls calls) + length (async_calls calls) ≡ length calls
-length-classes [] = refl
-length-classes (x ∷ xs) =
-    let one = one_class x.class x in
-    let rest = length-classes xs in
-    let sync = length-append (if_sync x.class x) (sync_calls xs) in
-    let async = length-append (if_async x.class x) (async_calls xs) in
-    omega arith
-
--- this call is not loaded yet, so there is room for it
-has_room : (nexts : ℕ → ℕ) (s : Share) (d : DrainValue) (call : Call) → Loads nexts s d call → length s.batch ≤ records → HasRoom d
-has_room nexts s d call l short = record { sync = room_for_all (length d.sync) (omega (arith, all, lefts, rights, both, short)); async = room_for_all (length d.async) (omega (arith, all, lefts, rights, both, short)) }
-  where
-    xs : List Call
-    xs = l.older ++ call ∷ []
-
-    left : List Call
-    left = sync_calls xs ++ d.sync
-
-    right : List Call
-    right = async_calls xs ++ d.async
-
-    all : length s.batch ≡ length left + length right
-    all = ap length l.in_order ∙ length-append left right
-
-    lefts : length left ≡ length (sync_calls xs) + length d.sync
-    lefts = length-append (sync_calls xs) d.sync
-
-    rights : length right ≡ length (async_calls xs) + length d.async
-    rights = length-append (async_calls xs) d.async
-
-    both : length (sync_calls xs) + length (async_calls xs) ≡ length l.older + 1
-    both = length-classes xs ∙ length-append l.older (call ∷ [])
+path_fits : (nexts : ℕ → ℕ) (link : ℕ) (calls : List Call) → AllByRecursion IsRecord calls → Path nexts link calls 0 → link ≤ 2 ^ 32
+path_fits nexts link [] h l = omega (arith, l)
+path_fits nexts link (call ∷ rest) h l = subst (λ (k : ℕ). k ≤ 2 ^ 32) (sym l.0) (records_fit call.id h.0)
 
 module _ (a : CallState) (at : Word → ℕ) (control : ℕ → ControlValue) (me : ℕ) (s : Shows a at control) where
   queued_records : AllByRecursion IsRecord (a.queue me)
@@ -90,43 +58,76 @@ module _ (a : CallState) (at : Word → ℕ) (control : ℕ → ControlValue) (m
   batched_records : AllByRecursion IsRecord (a.batch me)
   batched_records = every (IsPlaced a.place (place.Batch me)) IsRecord (λ call h. h.is_call.in_range) (a.batch me) (s.placed.batched me)
 
-  func_fits : (id : ℕ) (class : Class) → (control me).stage ≡ Some (Handle (handle.LoadFunc id class)) → at (Func id) < 2 ^ 16
-  func_fits id class e =
-      let was = stands_at a at control me s (handle.LoadFunc id class) e in
+  func_fits : (walk : Walk) (id : ℕ) (next : Option ℕ) → (control me).stage ≡ Some (Handle (handle.LoadFunc walk id next)) → at (Func id) < 2 ^ 16
+  func_fits walk id next e =
+      let was = stands_at a at control me s (handle.LoadFunc walk id next) e in
       let k = was.1 in
-      let d : DrainValue = (control me).drain in
-      let w = this_call (IsWritten (flags_in at) (funcs_in at) (infos_in at)) (nexts_in at) (share_of a me) d k.0 k.1 (s.written.batched me) in
-      let p = this_call (IsPlaced a.place (place.Batch me)) (nexts_in at) (share_of a me) d k.0 k.1 (s.placed.batched me) in
-      let func : at (Func id) ≡ k.0.func = ap (funcs_in at) (sym k.2) ∙ w.func_is in
-      subst (λ (n : ℕ). n < 2 ^ 16) (sym func) p.is_call.func
+      let w = walked_words a at control me s walk id k.0 k.1 k.2 in
+      let p = walks_rest (IsPlaced a.place (place.Batch me)) (nexts_in at) (share_of a me) (control me).drain walk (id + 1) [] (k.0 ∷ k.1) Nothing k.2 (s.placed.batched me) in
+      let func : at (Func id) ≡ k.0.func = ap (funcs_in at) (sym (same_record id k.0 k.2.leads_on.0)) ∙ w.func_is in
+      subst (λ (n : ℕ). n < 2 ^ 16) (sym func) p.0.is_call.func
 
-  next_fits : (call : Call) → (control me).stage ≡ Some (Handle (handle.LoadNext call)) → at (Next call.id) ≤ 2 ^ 32
-  next_fits call e =
-      let was = stands_at a at control me s (handle.LoadNext call) e in
+  async_fits : (id : ℕ) (next : Option ℕ) → (control me).stage ≡ Some (Handle (handle.AsyncFunc id next)) → at (Func id) < 2 ^ 16
+  async_fits id next e =
+      let was = stands_at a at control me s (handle.AsyncFunc id next) e in
       let k = was.1 in
-      let d : DrainValue = (control me).drain in
-      let unloaded : AllByRecursion IsRecord (k.older ++ call ∷ []) = every_unloaded IsRecord (a.batch me) (k.older ++ call ∷ []) d.sync d.async k.in_order batched_records in
-      chain_fits (nexts_in at) (at (Next call.id)) k.older (every_left IsRecord k.older (call ∷ []) unloaded) k.leads
+      let w = ended_words a at control me s id k.0 k.1 k.2 in
+      let p = ends_rest (IsPlaced a.place (place.Batch me)) (nexts_in at) (share_of a me) (control me).drain (id + 1) [] (k.0 ∷ k.1) Nothing k.2 (s.placed.batched me) in
+      let func : at (Func id) ≡ k.0.func = ap (funcs_in at) (sym (same_record id k.0 k.2.leads_on.0)) ∙ w.func_is in
+      subst (λ (n : ℕ). n < 2 ^ 16) (sym func) p.0.is_call.func
 
-  room_fits : (call : Call) → (control me).stage ≡ Some (Handle (handle.LoadNext call)) → HasRoom (control me).drain
-  room_fits call e =
-      let was = stands_at a at control me s (handle.LoadNext call) e in
-      has_room (nexts_in at) (share_of a me) (control me).drain call was.1 (length-apart records (a.batch me) (s.placed.batch_apart me) batched_records)
+  down_fits : (newer : Option ℕ) (id : ℕ) → (control me).stage ≡ Some (Handle (handle.ReverseLoad newer id)) → at (Next id) ≤ 2 ^ 32
+  down_fits newer id e =
+      let was = stands_at a at control me s (handle.ReverseLoad newer id) e in
+      let h = was.1.1 in
+      let all = reverses_all IsRecord (nexts_in at) (share_of a me) (control me).drain (link_to newer) (at (Next id)) was.1.0 h batched_records in
+      chain_fits (nexts_in at) (at (Next id)) h.older (every_left IsRecord h.older (was.1.0 ∷ h.newer) all) h.leads_down
+
+  next_fits : (walk : Walk) (id : ℕ) → (control me).stage ≡ Some (Handle (handle.LoadNext walk id)) → at (Next id) ≤ 2 ^ 32
+  next_fits walk id e =
+      let was = stands_at a at control me s (handle.LoadNext walk id) e in
+      let k = was.1 in
+      let all = walks_rest IsRecord (nexts_in at) (share_of a me) (control me).drain walk (id + 1) [] (k.0 ∷ k.1) Nothing k.2 batched_records in
+      subst (λ (n : ℕ). at (Next n) ≤ 2 ^ 32) (same_record id k.0 k.2.leads_on.0) (path_fits (nexts_in at) (at (Next k.0.id)) k.1 all.1 k.2.leads_on.1)
+
+  async_next_fits : (id : ℕ) → (control me).stage ≡ Some (Handle (handle.AsyncNext id)) → at (Next id) ≤ 2 ^ 32
+  async_next_fits id e =
+      let was = stands_at a at control me s (handle.AsyncNext id) e in
+      let k = was.1 in
+      let all = ends_rest IsRecord (nexts_in at) (share_of a me) (control me).drain (id + 1) [] (k.0 ∷ k.1) Nothing k.2 batched_records in
+      subst (λ (n : ℕ). at (Next n) ≤ 2 ^ 32) (same_record id k.0 k.2.leads_on.0) (path_fits (nexts_in at) (at (Next k.0.id)) k.1 all.1 k.2.leads_on.1)
+
+  -- a batch has no more calls than there are records
+  room_fits : (newer : Option ℕ) (id : ℕ) (older : Option ℕ) → (control me).stage ≡ Some (Handle (handle.ReverseStore newer id older)) → (control me).drain.calls < MOST_CALLS
+  room_fits newer id older e =
+      let was = stands_at a at control me s (handle.ReverseStore newer id older) e in
+      let h = was.1.1 in
+      let all = reverses_all IsRecord (nexts_in at) (share_of a me) (control me).drain (link_to newer) (link_to older) was.1.0 h batched_records in
+      let short = length-apart records (h.older ++ was.1.0 ∷ h.newer) (subst IsApart h.whole h.apart) all in
+      let size = length-append h.older (was.1.0 ∷ h.newer) in
+      let k = h.counted in
+      room_for_all (control me).drain.calls (omega arith)
 
   handle_fits : (stage : HandleStage) → (control me).stage ≡ Some (Handle stage) → FitsStage (control me).drain (Handle stage) (at (word_of (access_of at me (Handle stage))))
-  handle_fits handle.Take e = (chain_fits (nexts_in at) (at (Head me)) (a.queue me) queued_records (s.chained.chain me), tt)
-  handle_fits (handle.LoadFunc id class) e = (func_fits id class e, tt)
-  handle_fits (handle.LoadNext call) e = (next_fits call e, room_fits call e)
   handle_fits handle.Enter e = (tt, tt)
   handle_fits handle.Accept e = (tt, tt)
   handle_fits handle.LeaveIdle e = (tt, tt)
-  handle_fits (handle.LoadFlags id) e = (tt, tt)
-  handle_fits (handle.LoadInfo id class func) e = (tt, tt)
-  handle_fits (handle.BeginSync call) e = (tt, tt)
-  handle_fits (handle.CountSync call) e = (tt, tt)
-  handle_fits (handle.EndSync call) e = (tt, tt)
-  handle_fits (handle.BeginAsync call) e = (tt, tt)
-  handle_fits (handle.CountAsync call) e = (tt, tt)
+  handle_fits handle.Take e = (chain_fits (nexts_in at) (at (Head me)) (a.queue me) queued_records (s.chained.chain me), tt)
+  handle_fits (handle.ReverseLoad newer id) e = (down_fits newer id e, tt)
+  handle_fits (handle.ReverseStore newer id older) e = (tt, room_fits newer id older e)
+  handle_fits (handle.LoadNext walk id) e = (next_fits walk id e, tt)
+  handle_fits (handle.LoadFlags walk id next) e = (tt, tt)
+  handle_fits (handle.LoadFunc walk id next) e = (func_fits walk id next e, tt)
+  handle_fits (handle.LoadInfo walk id next func) e = (tt, tt)
+  handle_fits (handle.Unlink walk last call next) e = (tt, tt)
+  handle_fits (handle.BeginSync walk call next) e = (tt, tt)
+  handle_fits (handle.CountSync walk call next) e = (tt, tt)
+  handle_fits (handle.EndSync walk call next) e = (tt, tt)
+  handle_fits (handle.AsyncNext id) e = (async_next_fits id e, tt)
+  handle_fits (handle.AsyncFunc id next) e = (async_fits id next e, tt)
+  handle_fits (handle.AsyncInfo id next func) e = (tt, tt)
+  handle_fits (handle.BeginAsync call next) e = (tt, tt)
+  handle_fits (handle.CountAsync call next) e = (tt, tt)
   handle_fits handle.Leave e = (tt, tt)
 
 -- the number that a step finds, and the room for it

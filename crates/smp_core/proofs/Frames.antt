@@ -2,12 +2,15 @@
 use Rattle.std.proofs.Common.{◌≡◌, ◌≢◌, ℕ, ◌+◌, Option, Some, None, List, [], ◌∷◌, ◌++◌, sym, subst, refl, ◌∙◌}
 use Rattle.std.specs.List.{AllByRecursion}
 use Rattle.smp_core.specs.Size.{owner}
-use Rattle.smp_core.specs.Drains.{DrainValue}
+use Rattle.smp_core.specs.Drains.{DrainValue, link_to}
+use Rattle.smp_core.specs.Order.{async_calls}
+use Rattle.smp_core.specs.Calls.{Running, Nothing, SyncCall, CountedCall, AsyncCall}
 use Rattle.smp_core.specs.Stages.{ControlValue}
 use Rattle.smp_core.specs.Places.{IsPlaced}
 use Rattle.smp_core.specs.Words.{Leads, IsWritten, flags_in, funcs_in, infos_in, nexts_in}
-use Rattle.smp_core.specs.Stands.{Share, Stands, StandsAt, HandleStands, Loads, PostKnows, posted}
-use Rattle.smp_core.proofs.Alls.{every_left, every_last, every_unloaded}
+use Rattle.smp_core.specs.Stands.{Share, Stands, StandsAt, HandleStands, Reverses, Walks, Ends, PostKnows, posted}
+use Rattle.smp_core.proofs.Alls.{every_left, every_right}
+use Rattle.smp_core.proofs.Walks.{Path-kept, reverses_all, walks_passed, walks_rest, ends_rest, same_record}
 use Rattle.smp_core.specs.declared.call.Call.{Call}
 use Rattle.smp_core.specs.declared.place.RecPlace.{RecPlace}
 use Rattle.smp_core.specs.declared.place.RecPlace.TheVariants as place
@@ -16,6 +19,7 @@ use Rattle.smp_core.specs.declared.word.Word.TheVariants.{Flags, Func, Info, Nex
 use Rattle.smp_core.specs.declared.post.Posting.{Posting}
 use Rattle.smp_core.specs.declared.post.PostStage.{PostStage}
 use Rattle.smp_core.specs.declared.post.PostStage.TheVariants as post
+use Rattle.smp_core.specs.declared.handle.Walk.{Walk}
 use Rattle.smp_core.specs.declared.handle.HandleStage.{HandleStage}
 use Rattle.smp_core.specs.declared.handle.HandleStage.TheVariants as handle
 use Rattle.smp_core.specs.declared.stage.Stage.{Stage}
@@ -102,34 +106,94 @@ module _ (cpu : ℕ) (places places' : ℕ → RecPlace) (at at' : Word → ℕ)
   PostKnows-kept p post.Uncount o k = let m = own_held p.id o k.0 in (l.place_stays p.id m ∙ k.0, written (posted p) m k.1)
   PostKnows-kept p post.Release o k = let m = own_held p.id o k.0 in (l.place_stays p.id m ∙ k.0, written (posted p) m k.1)
 
-  Loads-kept : (s : Share) (d : DrainValue) (call : Call) → AllByRecursion (IsPlaced places (place.Batch cpu)) s.batch → Loads (nexts_in at) s d call → Loads (nexts_in at') s d call
-  Loads-kept s d call b h =
-      let all : AllByRecursion (IsPlaced places (place.Batch cpu)) (h.older ++ call ∷ []) = every_unloaded (IsPlaced places (place.Batch cpu)) s.batch (h.older ++ call ∷ []) d.sync d.async h.in_order b in
-      let last : IsPlaced places (place.Batch cpu) call = every_last (IsPlaced places (place.Batch cpu)) h.older call all in
-      let here : at' (Next call.id) ≡ at (Next call.id) = l.next call.id (rw last.placed refl) in
+  same_next : (call : Call) → IsPlaced places (place.Batch cpu) call → at' (Next call.id) ≡ at (Next call.id)
+  same_next call q = l.next call.id (rw q.placed refl)
+
+  next_of : (id : ℕ) (call : Call) → call.id ≡ id → IsPlaced places (place.Batch cpu) call → at' (Next id) ≡ at (Next id)
+  next_of id call e q = subst (λ (k : ℕ). at' (Next k) ≡ at (Next k)) e (same_next call q)
+
+  Reverses-kept : (s : Share) (d : DrainValue) (up down : ℕ) (call : Call) → AllByRecursion (IsPlaced places (place.Batch cpu)) s.batch → Reverses (nexts_in at) s d up down call → Reverses (nexts_in at') s d up down call
+  Reverses-kept s d up down call b h =
+      let all = reverses_all (IsPlaced places (place.Batch cpu)) (nexts_in at) s d up down call h b in
+      let newer = every_right (IsPlaced places (place.Batch cpu)) h.older (call ∷ h.newer) all in
       record {
         older = h.older;
-        leads = rw here (Leads-kept (nexts_in at) (nexts_in at') (IsPlaced places (place.Batch cpu)) (λ x q. l.next x.id (rw q.placed refl)) (at (Next call.id)) h.older 0 (every_left (IsPlaced places (place.Batch cpu)) h.older (call ∷ []) all) h.leads);
-        in_order = h.in_order;
-        sorted = h.sorted;
+        newer = h.newer;
+        whole = h.whole;
+        leads_down = Leads-kept (nexts_in at) (nexts_in at') (IsPlaced places (place.Batch cpu)) same_next down h.older 0 (every_left (IsPlaced places (place.Batch cpu)) h.older (call ∷ h.newer) all) h.leads_down;
+        leads_up = Path-kept (nexts_in at) (nexts_in at') (IsPlaced places (place.Batch cpu)) same_next up h.newer 0 newer.1 h.leads_up;
+        apart = h.apart;
+        counted = h.counted;
+        batch = h.batch;
         running = h.running;
         accepted = h.accepted;
       }
 
+  reversed_next : (s : Share) (d : DrainValue) (up down : ℕ) (call : Call) (id : ℕ) → call.id ≡ id → AllByRecursion (IsPlaced places (place.Batch cpu)) s.batch → Reverses (nexts_in at) s d up down call → at' (Next id) ≡ at (Next id)
+  reversed_next s d up down call id e b h =
+      let all = reverses_all (IsPlaced places (place.Batch cpu)) (nexts_in at) s d up down call h b in
+      let newer = every_right (IsPlaced places (place.Batch cpu)) h.older (call ∷ h.newer) all in
+      next_of id call e newer.0
+
+  Walks-kept : (s : Share) (d : DrainValue) (walk : Walk) (here : ℕ) (front rest : List Call) (running : Running) → AllByRecursion (IsPlaced places (place.Batch cpu)) s.batch → Walks (nexts_in at) s d walk here front rest running → Walks (nexts_in at') s d walk here front rest running
+  Walks-kept s d walk here front rest running b h = record {
+    passed = h.passed;
+    whole = h.whole;
+    leads_here = Path-kept (nexts_in at) (nexts_in at') (IsPlaced places (place.Batch cpu)) same_next (link_to walk.first) (async_calls h.passed) here (walks_passed (IsPlaced places (place.Batch cpu)) (nexts_in at) s d walk here front rest running h b) h.leads_here;
+    ends_at = h.ends_at;
+    leads_on = Path-kept (nexts_in at) (nexts_in at') (IsPlaced places (place.Batch cpu)) same_next here rest 0 (walks_rest (IsPlaced places (place.Batch cpu)) (nexts_in at) s d walk here front rest running h b) h.leads_on;
+    apart = h.apart;
+    counted = h.counted;
+    batch = h.batch;
+    running_is = h.running_is;
+    accepted = h.accepted;
+  }
+
+  walked_next : (s : Share) (d : DrainValue) (walk : Walk) (id : ℕ) (call : Call) (rest : List Call) → AllByRecursion (IsPlaced places (place.Batch cpu)) s.batch → Walks (nexts_in at) s d walk (id + 1) [] (call ∷ rest) Nothing → at' (Next id) ≡ at (Next id)
+  walked_next s d walk id call rest b h =
+      let all = walks_rest (IsPlaced places (place.Batch cpu)) (nexts_in at) s d walk (id + 1) [] (call ∷ rest) Nothing h b in
+      next_of id call (same_record id call h.leads_on.0) all.0
+
+  Ends-kept : (s : Share) (d : DrainValue) (here : ℕ) (front rest : List Call) (running : Running) → AllByRecursion (IsPlaced places (place.Batch cpu)) s.batch → Ends (nexts_in at) s d here front rest running → Ends (nexts_in at') s d here front rest running
+  Ends-kept s d here front rest running b h = record {
+    leads_on = Path-kept (nexts_in at) (nexts_in at') (IsPlaced places (place.Batch cpu)) same_next here rest 0 (ends_rest (IsPlaced places (place.Batch cpu)) (nexts_in at) s d here front rest running h b) h.leads_on;
+    asyncs = h.asyncs;
+    counted = h.counted;
+    batch = h.batch;
+    running_is = h.running_is;
+    accepted = h.accepted;
+  }
+
+  ended_next : (s : Share) (d : DrainValue) (id : ℕ) (call : Call) (rest : List Call) → AllByRecursion (IsPlaced places (place.Batch cpu)) s.batch → Ends (nexts_in at) s d (id + 1) [] (call ∷ rest) Nothing → at' (Next id) ≡ at (Next id)
+  ended_next s d id call rest b h =
+      let all = ends_rest (IsPlaced places (place.Batch cpu)) (nexts_in at) s d (id + 1) [] (call ∷ rest) Nothing h b in
+      next_of id call (same_record id call h.leads_on.0) all.0
+
   HandleStands-kept : (s : Share) (d : DrainValue) (stage : HandleStage) → AllByRecursion (IsPlaced places (place.Batch cpu)) s.batch → HandleStands (nexts_in at) s d stage → HandleStands (nexts_in at') s d stage
-  HandleStands-kept s d (handle.LoadFlags id) b h = (h.0, Loads-kept s d h.0 b h.1, h.2)
-  HandleStands-kept s d (handle.LoadFunc id class) b h = (h.0, Loads-kept s d h.0 b h.1, h.2, h.3)
-  HandleStands-kept s d (handle.LoadInfo id class func) b h = (h.0, Loads-kept s d h.0 b h.1, h.2, h.3, h.4)
-  HandleStands-kept s d (handle.LoadNext call) b h = Loads-kept s d call b h
+  HandleStands-kept s d (handle.ReverseLoad newer id) b h =
+      (h.0, rw (reversed_next s d (link_to newer) (at (Next id)) h.0 id h.2 b h.1) (Reverses-kept s d (link_to newer) (at (Next id)) h.0 b h.1), h.2)
+  HandleStands-kept s d (handle.ReverseStore newer id older) b h = (h.0, Reverses-kept s d (link_to newer) (link_to older) h.0 b h.1, h.2)
+  HandleStands-kept s d (handle.LoadNext walk id) b h = (h.0, h.1, Walks-kept s d walk (id + 1) [] (h.0 ∷ h.1) Nothing b h.2)
+  HandleStands-kept s d (handle.LoadFlags walk id next) b h =
+      (h.0, h.1, Walks-kept s d walk (id + 1) [] (h.0 ∷ h.1) Nothing b h.2, walked_next s d walk id h.0 h.1 b h.2 ∙ h.3)
+  HandleStands-kept s d (handle.LoadFunc walk id next) b h =
+      (h.0, h.1, Walks-kept s d walk (id + 1) [] (h.0 ∷ h.1) Nothing b h.2, walked_next s d walk id h.0 h.1 b h.2 ∙ h.3, h.4)
+  HandleStands-kept s d (handle.LoadInfo walk id next func) b h =
+      (h.0, h.1, Walks-kept s d walk (id + 1) [] (h.0 ∷ h.1) Nothing b h.2, walked_next s d walk id h.0 h.1 b h.2 ∙ h.3, h.4, h.5)
+  HandleStands-kept s d (handle.Unlink walk last call next) b h =
+      (h.0, Walks-kept s d walk (call.id + 1) [] (call ∷ h.0) Nothing b h.1, walked_next s d walk call.id call h.0 b h.1 ∙ h.2, h.3, h.4)
+  HandleStands-kept s d (handle.BeginSync walk call next) b h = (h.0, Walks-kept s d walk (link_to next) (call ∷ []) h.0 Nothing b h.1)
+  HandleStands-kept s d (handle.CountSync walk call next) b h = (h.0, Walks-kept s d walk (link_to next) [] h.0 (SyncCall call) b h.1)
+  HandleStands-kept s d (handle.EndSync walk call next) b h = (h.0, Walks-kept s d walk (link_to next) [] h.0 (CountedCall call) b h.1)
+  HandleStands-kept s d (handle.AsyncNext id) b h = (h.0, h.1, Ends-kept s d (id + 1) [] (h.0 ∷ h.1) Nothing b h.2)
+  HandleStands-kept s d (handle.AsyncFunc id next) b h = (h.0, h.1, Ends-kept s d (id + 1) [] (h.0 ∷ h.1) Nothing b h.2, ended_next s d id h.0 h.1 b h.2 ∙ h.3)
+  HandleStands-kept s d (handle.AsyncInfo id next func) b h = (h.0, h.1, Ends-kept s d (id + 1) [] (h.0 ∷ h.1) Nothing b h.2, ended_next s d id h.0 h.1 b h.2 ∙ h.3, h.4)
+  HandleStands-kept s d (handle.BeginAsync call next) b h = (h.0, Ends-kept s d (link_to next) (call ∷ []) h.0 Nothing b h.1)
+  HandleStands-kept s d (handle.CountAsync call next) b h = (h.0, Ends-kept s d (link_to next) [] h.0 (AsyncCall call) b h.1, h.2)
   HandleStands-kept s d handle.Enter b h = h
   HandleStands-kept s d handle.Accept b h = h
   HandleStands-kept s d handle.LeaveIdle b h = h
   HandleStands-kept s d handle.Take b h = h
-  HandleStands-kept s d (handle.BeginSync call) b h = h
-  HandleStands-kept s d (handle.CountSync call) b h = h
-  HandleStands-kept s d (handle.EndSync call) b h = h
-  HandleStands-kept s d (handle.BeginAsync call) b h = h
-  HandleStands-kept s d (handle.CountAsync call) b h = h
   HandleStands-kept s d handle.Leave b h = h
 
   StandsAt-kept : (s : Share) (d : DrainValue) (stage : Option Stage) → AllByRecursion (IsPlaced places (place.Batch cpu)) s.batch → StandsAt places at s d cpu stage → StandsAt places' at' s d cpu stage
@@ -137,8 +201,8 @@ module _ (cpu : ℕ) (places places' : ℕ → RecPlace) (at at' : Word → ℕ)
   StandsAt-kept s d (Some (Send to)) b h = h
   StandsAt-kept s d (Some (Done id)) b h = h
   StandsAt-kept s d (Some (Post p stage)) b h =
-      let k = h.3 in
-      (h.0, h.1, h.2, record { owned = k.owned; is_call = k.is_call; me_in_range = k.me_in_range; goes = k.goes; knows = PostKnows-kept p stage k.owned k.knows })
+      let k = h.1 in
+      (h.0, record { owned = k.owned; is_call = k.is_call; me_in_range = k.me_in_range; goes = k.goes; knows = PostKnows-kept p stage k.owned k.knows })
   StandsAt-kept s d (Some (Handle stage)) b h = (h.0, HandleStands-kept s d stage b h.1)
 
   -- a CPU to which a step leaves its records stands where it stood

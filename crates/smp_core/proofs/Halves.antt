@@ -57,15 +57,21 @@ module _ (u : Setup) (p : StopState) (me answer found : ℕ) (note : Option Note
   in_handle handle.Accept ran = refl
   in_handle handle.LeaveIdle ran = refl
   in_handle handle.Take ran = refl
-  in_handle (handle.LoadFlags id) ran = refl
-  in_handle (handle.LoadFunc id class) ran = refl
-  in_handle (handle.LoadInfo id class func) ran = refl
-  in_handle (handle.LoadNext call) ran = refl
-  in_handle (handle.BeginSync call) ran = refl
-  in_handle (handle.CountSync call) ran = refl
-  in_handle (handle.EndSync call) ran = refl
-  in_handle (handle.BeginAsync call) ran = refl
-  in_handle (handle.CountAsync call) ran = refl
+  in_handle (handle.ReverseLoad newer id) ran = refl
+  in_handle (handle.ReverseStore newer id older) ran = refl
+  in_handle (handle.LoadNext walk id) ran = refl
+  in_handle (handle.LoadFlags walk id next) ran = refl
+  in_handle (handle.LoadFunc walk id next) ran = refl
+  in_handle (handle.LoadInfo walk id next func) ran = refl
+  in_handle (handle.Unlink walk last call next) ran = refl
+  in_handle (handle.BeginSync walk call next) ran = refl
+  in_handle (handle.CountSync walk call next) ran = refl
+  in_handle (handle.EndSync walk call next) ran = refl
+  in_handle (handle.AsyncNext id) ran = refl
+  in_handle (handle.AsyncFunc id next) ran = refl
+  in_handle (handle.AsyncInfo id next func) ran = refl
+  in_handle (handle.BeginAsync call next) ran = refl
+  in_handle (handle.CountAsync call next) ran = refl
   in_handle handle.Leave ran = refl
 
   call_step_apart : (at : Word → ℕ) (stage : Stage) → stops.tells u p (seen_of me (access_of at me stage) found note) answer ≡ p

@@ -8,17 +8,20 @@ use Rattle.smp_core.specs.Flags.{class_of}
 use Rattle.smp_core.specs.Order.{if_sync, if_async, sync_calls, async_calls}
 use Rattle.smp_core.specs.Access.{word_of}
 use Rattle.smp_core.specs.Calls.{CallState, Nothing, SyncCall, CountedCall, AsyncCall}
-use Rattle.smp_core.specs.Drains.{DrainValue, handle_goes, popped, with_loaded, rest_of, run_next, async_rest}
+use Rattle.smp_core.specs.Drains.{DrainValue, handle_goes, link_to, record_at, first_on, second_on, handle_outcome, drain_after}
 use Rattle.smp_core.specs.Places.{IsPlaced}
-use Rattle.smp_core.specs.Words.{FlagsShow, bit, nexts_in}
+use Rattle.smp_core.specs.Words.{FlagsShow, bit, nexts_in, last_batch}
 use Rattle.smp_core.specs.Histories.{orders, running_call}
 use Rattle.smp_core.specs.Stages.{ControlValue, access_of, FitsStage}
 use Rattle.smp_core.specs.Stands.{Share, share_of, StandsAt, HandleStands, held_of}
 use Rattle.smp_core.specs.Known.{told_stage, told_post, told_handle, part_in, part_told, known_of, known_told, known_taking, knowing, stage_after, drain_then, Aims, known_access, Moment, Lives, GoesOn, part_begun_sync, part_begun_async, part_unlocked, part_counted}
-use Rattle.smp_core.specs.Handling.{handling, accepted_known, taken_known, loaded_known, begun_sync, counted_sync, begun_async, ended_call}
+use Rattle.smp_core.specs.Handling.{rest_of, handling, goes_known, accepted_known, taken_known, begun_sync, counted_sync, begun_async, ended_call}
 use Rattle.smp_core.proofs.Links.{HasIndex}
-use Rattle.smp_core.proofs.Accesses.{access_in_table, loaded_placed}
-use Rattle.smp_core.proofs.Fits.{found_fits, length-classes, one_class}
+use Rattle.smp_core.proofs.Accesses.{access_in_table}
+use Rattle.smp_core.proofs.Alls.{every_right}
+use Rattle.smp_core.proofs.Walks.{reverses_all, walks_rest, same_record}
+use Rattle.smp_core.specs.declared.handle.Walk.{Walk}
+use Rattle.smp_core.proofs.Fits.{found_fits}
 use Rattle.smp_core.proofs.Restages.{access_known}
 use Rattle.smp_core.specs.declared.call.Call.{Call}
 use Rattle.smp_core.specs.declared.call.Class.{Class}
@@ -70,15 +73,21 @@ handle_tells handle.Enter h e = cc
 handle_tells handle.Accept h e = e
 handle_tells handle.LeaveIdle h e = e
 handle_tells handle.Take h e = e
-handle_tells (handle.LoadFlags id) h e = e
-handle_tells (handle.LoadFunc id class) h e = e
-handle_tells (handle.LoadInfo id class func) h e = e
-handle_tells (handle.LoadNext call) h e = e
-handle_tells (handle.BeginSync call) h e = e
-handle_tells (handle.CountSync call) h e = e
-handle_tells (handle.EndSync call) h e = e
-handle_tells (handle.BeginAsync call) h e = e
-handle_tells (handle.CountAsync call) h e = e
+handle_tells (handle.ReverseLoad newer id) h e = e
+handle_tells (handle.ReverseStore newer id older) h e = e
+handle_tells (handle.LoadNext walk id) h e = e
+handle_tells (handle.LoadFlags walk id next) h e = e
+handle_tells (handle.LoadFunc walk id next) h e = e
+handle_tells (handle.LoadInfo walk id next func) h e = e
+handle_tells (handle.Unlink walk last call next) h e = e
+handle_tells (handle.BeginSync walk call next) h e = e
+handle_tells (handle.CountSync walk call next) h e = e
+handle_tells (handle.EndSync walk call next) h e = e
+handle_tells (handle.AsyncNext id) h e = e
+handle_tells (handle.AsyncFunc id next) h e = e
+handle_tells (handle.AsyncInfo id next func) h e = e
+handle_tells (handle.BeginAsync call next) h e = e
+handle_tells (handle.CountAsync call next) h e = e
 handle_tells handle.Leave h e = e
 
 told_there : (s : Option Stage) (h : HandleStage) → told_stage s ≡ Some (Handle h) → s ≡ Some (Handle h)
@@ -90,7 +99,7 @@ told_there (Some (Handle g)) h e = handle_tells g h e
 
 -- what is a CPU's own of the drain, as it knows it
 abbrev pub share_in : Known → Share
-share_in v = record { batch = v.batch; running = v.running; accepted = v.accepted }
+share_in v = record { last = last_batch v.taken; batch = v.batch; running = v.running; accepted = v.accepted }
 
 module _ (v : Known) (l : Lives v) where
   same_share : share_of l.calls v.number ≡ share_in v
@@ -145,24 +154,25 @@ module _ (v : Known) (l : Lives v) where
     batched : AllByRecursion (IsPlaced l.calls.place (place.Batch v.number)) (share_in v).batch
     batched = subst (λ (s : Share). AllByRecursion (IsPlaced l.calls.place (place.Batch v.number)) s.batch) same_share (l.shown.placed.batched v.number)
 
-  -- the call whose flags are loaded next is in the batch
-  loading_placed : (id : ℕ) (e : v.stage ≡ Some (Handle (handle.LoadFlags id))) → (call : Call) × (call.id ≡ id) × IsPlaced l.calls.place (place.Batch v.number) call
-  loading_placed id e =
-      let k = lives_stands (handle.LoadFlags id) e in
-      let runs = l.shown.placed.runs v.number in
-      let batch : l.calls.batch v.number ≡ v.batch = ap (λ (s : Share). s.batch) same_share in
-      (k.0, k.2, loaded_placed l.calls.place l.at v.number (record (share_in v) { running = l.calls.running v.number }) v.drain (batched (handle.LoadFlags id) e) runs k.0 (record { older = k.1.older; leads = k.1.leads; in_order = k.1.in_order; sorted = k.1.sorted; running = ap (λ (s : Share). s.running) same_share ∙ k.1.running; accepted = k.1.accepted }))
+  -- a record of the batch that is loaded is locked
+  lives_placed : (id : ℕ) (call : Call) → call.id ≡ id → IsPlaced l.calls.place (place.Batch v.number) call → (id < records) × (l.at (Flags id) % 2 ≡ 1)
+  lives_placed id call e q = (
+    subst (λ (n : ℕ). n < records) e q.is_call.in_range,
+    subst (λ (p : RecPlace). FlagsShow p (l.at (Flags id))) (ap l.calls.place (sym e) ∙ q.placed) (l.shown.written.locks id),
+  )
 
-  -- it is a record
-  pub lives_record : (id : ℕ) → v.stage ≡ Some (Handle (handle.LoadFlags id)) → id < records
-  lives_record id e = let k = loading_placed id e in subst (λ (n : ℕ). n < records) k.1 k.2.is_call.in_range
+  pub lives_reversed : (newer : Option ℕ) (id : ℕ) → v.stage ≡ Some (Handle (handle.ReverseLoad newer id)) → id < records
+  lives_reversed newer id e =
+      let k = lives_stands (handle.ReverseLoad newer id) e in
+      let all = every_right (IsPlaced l.calls.place (place.Batch v.number)) k.1.older (k.0 ∷ k.1.newer)
+      (reverses_all (IsPlaced l.calls.place (place.Batch v.number)) (nexts_in l.at) (share_in v) v.drain (link_to newer) (l.at (Next id)) k.0 k.1 (batched (handle.ReverseLoad newer id) e)) in
+      (lives_placed id k.0 k.2 all.0).0
 
-  -- and locked
-  pub lives_locked : (id : ℕ) → v.stage ≡ Some (Handle (handle.LoadFlags id)) → l.at (Flags id) % 2 ≡ 1
-  lives_locked id e =
-      let k = loading_placed id e in
-      let placed : l.calls.place id ≡ place.Batch v.number = ap l.calls.place (sym k.1) ∙ k.2.placed in
-      subst (λ (p : RecPlace). FlagsShow p (l.at (Flags id))) placed (l.shown.written.locks id)
+  pub lives_locked : (walk : Walk) (id : ℕ) (next : Option ℕ) → v.stage ≡ Some (Handle (handle.LoadFlags walk id next)) → l.at (Flags id) % 2 ≡ 1
+  lives_locked walk id next e =
+      let k = lives_stands (handle.LoadFlags walk id next) e in
+      let all = walks_rest (IsPlaced l.calls.place (place.Batch v.number)) (nexts_in l.at) (share_in v) v.drain walk (id + 1) [] (k.0 ∷ k.1) Nothing k.2 (batched (handle.LoadFlags walk id next) e) in
+      (lives_placed id k.0 (same_record id k.0 k.2.leads_on.0) all.0).1
 
   -- the front of the batch is by a record
   pub lives_front : (call : Call) (rest : List Call) → v.batch ≡ call ∷ rest → call.id < records
@@ -178,25 +188,6 @@ module _ (v : Known) (l : Lives v) where
       bit_is : (b : Bool) → (bit b == 1) ≡ cond (bit b == 0) false true
       bit_is true = refl
       bit_is false = refl
-
-  -- the batch is more than what is loaded
-  pub lives_more : (id : ℕ) → v.stage ≡ Some (Handle (handle.LoadFlags id)) → length v.drain.sync + length v.drain.async < length v.batch
-  lives_more id e =
-      let k = lives_stands (handle.LoadFlags id) e in
-      let left : List Call = k.1.older ++ k.0 ∷ [] in
-      let classes = length-classes left in
-      let some = length-append k.1.older (k.0 ∷ []) in
-      let sync = length-append (sync_calls left) v.drain.sync in
-      let async = length-append (async_calls left) v.drain.async in
-      let all = length-append (sync_calls left ++ v.drain.sync) (async_calls left ++ v.drain.async) in
-      let batch : length v.batch ≡ length ((sync_calls left ++ v.drain.sync) ++ (async_calls left ++ v.drain.async)) = ap length k.1.in_order in
-      omega arith
-
-  -- all is loaded, and the first call is taken out
-  pub lives_loaded : (sync async : List Call) → v.stage ≡ Some (Handle (run_next sync async)) → v.drain.sync ≡ rest_of sync → v.drain.async ≡ async_rest sync async → v.batch ≡ sync ++ async
-  lives_loaded (call ∷ rest) async e s a = (lives_stands (handle.BeginSync call) e).0.batch ∙ (λ i. call ∷ (s i ++ a i))
-  lives_loaded [] (call ∷ rest) e s a = (lives_stands (handle.BeginAsync call) e).0.batch ∙ (λ i. call ∷ a i)
-  lives_loaded [] [] e s a = (lives_stands handle.Leave e).0.batch
 
 -- what a CPU that stands here knows after a step
 pub told_at : (queue : List Call) (v : Known) (s : Option Stage) (act : Act) (w : Word) (found put : Option ℕ) → v.stage ≡ s →
@@ -215,64 +206,65 @@ accepted_is queue v cpu n e one = told_at queue v (Some (Handle handle.Accept)) 
     by_test true c f = λ i. knowing v.number (Some (Handle handle.LeaveIdle)) v.drain (record (part_in v) { asked = v.asked ++ f i ∷ []; accepted = cond (f i) true v.accepted })
     by_test false c f = λ i. knowing v.number (Some (Handle handle.Take)) v.drain (record (part_in v) { asked = v.asked ++ f i ∷ []; accepted = cond (f i) true v.accepted })
 
-pub taken_is : (queue : List Call) (v : Known) (cpu n : ℕ) → v.stage ≡ Some (Handle handle.Take) → known_taking queue v act.Swap (Head cpu) (Some n) (Some 0) ≡ taken_known queue n v
+pub taken_is : (queue : List Call) (v : Known) (cpu n : ℕ) → v.stage ≡ Some (Handle handle.Take) → known_taking queue v act.Swap (Head cpu) (Some n) (Some 0) ≡ taken_known queue (record_at n) v
 taken_is queue v cpu n e = told_at queue v (Some (Handle handle.Take)) act.Swap (Head cpu) (Some n) (Some 0) e
 
 pub left_is : (v : Known) (cpu : ℕ) (h : HandleStage) → (stage_after (Some (Handle h)) v.drain act.Store (Hand cpu) None (Some 0) ≡ None) → v.stage ≡ Some (Handle h) → (drain_then (Some (Handle h)) v.drain None ≡ v.drain) →
     known_told v act.Store (Hand cpu) None (Some 0) ≡ record v { stage = None }
 left_is v cpu h out e d = told_at [] v (Some (Handle h)) act.Store (Hand cpu) None (Some 0) e ∙ (λ i. knowing v.number (out i) (d i) (part_in v))
 
-pub flags_loaded_is : (v : Known) (id n : ℕ) → v.stage ≡ Some (Handle (handle.LoadFlags id)) → n % 2 ≡ 1 → known_told v act.Load (Flags id) (Some n) None ≡ handling (handle.LoadFunc id (class_of n)) v.drain v
-flags_loaded_is v id n e odd = told_at [] v (Some (Handle (handle.LoadFlags id))) act.Load (Flags id) (Some n) None e ∙ by_test (n % 2 == 1) (eq-eqb (n % 2) 1 odd)
+-- steps that tell nothing
+
+pub next_found_is : (v : Known) (h : HandleStage) (id n : ℕ) → v.stage ≡ Some (Handle h) → known_told v act.Load (Next id) (Some n) None ≡ goes_known h n v
+next_found_is v h id n e = told_at [] v (Some (Handle h)) act.Load (Next id) (Some n) None e
+
+pub func_found_is : (v : Known) (h : HandleStage) (id n : ℕ) → v.stage ≡ Some (Handle h) → known_told v act.Load (Func id) (Some n) None ≡ goes_known h n v
+func_found_is v h id n e = told_at [] v (Some (Handle h)) act.Load (Func id) (Some n) None e
+
+pub info_found_is : (v : Known) (h : HandleStage) (id n : ℕ) → v.stage ≡ Some (Handle h) → known_told v act.Load (Info id) (Some n) None ≡ goes_known h n v
+info_found_is v h id n e = told_at [] v (Some (Handle h)) act.Load (Info id) (Some n) None e
+
+pub next_stored_is : (v : Known) (h : HandleStage) (id n : ℕ) → v.stage ≡ Some (Handle h) → known_told v act.Store (Next id) None (Some n) ≡ goes_known h 0 v
+next_stored_is v h id n e = told_at [] v (Some (Handle h)) act.Store (Next id) None (Some n) e
+
+pub flags_found_is : (v : Known) (h : HandleStage) (id n : ℕ) → v.stage ≡ Some (Handle h) → n % 2 ≡ 1 → known_told v act.Load (Flags id) (Some n) None ≡ goes_known h n v
+flags_found_is v h id n e odd = told_at [] v (Some (Handle h)) act.Load (Flags id) (Some n) None e ∙ by_test (n % 2 == 1) (eq-eqb (n % 2) 1 odd)
   where
     by_test : (b : Bool) → b ≡ true →
-        knowing v.number (Some (Handle (handle.LoadFunc id (class_of n)))) v.drain (cond b (part_in v) (record (part_in v) { confirmed = slice_set v.confirmed id true })) ≡ handling (handle.LoadFunc id (class_of n)) v.drain v
-    by_test b f = λ i. knowing v.number (Some (Handle (handle.LoadFunc id (class_of n)))) v.drain (cond (f i) (part_in v) (record (part_in v) { confirmed = slice_set v.confirmed id true }))
+        knowing v.number (stage_after (Some (Handle h)) v.drain act.Load (Flags id) (Some n) None) (drain_then (Some (Handle h)) v.drain (Some n)) (cond b (part_in v) (record (part_in v) { confirmed = slice_set v.confirmed id true })) ≡ goes_known h n v
+    by_test b f = λ i. knowing v.number (handle_outcome v.drain h n).next (drain_after v.drain h n) (cond (f i) (part_in v) (record (part_in v) { confirmed = slice_set v.confirmed id true }))
 
-pub func_loaded_is : (v : Known) (id n : ℕ) (class : Class) → v.stage ≡ Some (Handle (handle.LoadFunc id class)) → known_told v act.Load (Func id) (Some n) None ≡ handling (handle.LoadInfo id class n) v.drain v
-func_loaded_is v id n class e = told_at [] v (Some (Handle (handle.LoadFunc id class))) act.Load (Func id) (Some n) None e
+-- steps that begin, count and end a call
 
-pub info_loaded_is : (v : Known) (id n func : ℕ) (class : Class) → v.stage ≡ Some (Handle (handle.LoadInfo id class func)) →
-    known_told v act.Load (Info id) (Some n) None ≡ handling (handle.LoadNext (record { id = id; class = class; func = func; info = n })) v.drain v
-info_loaded_is v id n func class e = told_at [] v (Some (Handle (handle.LoadInfo id class func))) act.Load (Info id) (Some n) None e
+pub begun_sync_is : (v : Known) (cpu : ℕ) (walk : Walk) (call : Call) (next : Option ℕ) (rest : List Call) → v.stage ≡ Some (Handle (handle.BeginSync walk call next)) → v.batch ≡ call ∷ rest →
+    known_told v act.Store (Hand cpu) None (Some (call.id + 2)) ≡ begun_sync walk call next v
+begun_sync_is v cpu walk call next rest e b =
+    told_at [] v (Some (Handle (handle.BeginSync walk call next))) act.Store (Hand cpu) None (Some (call.id + 2)) e
+    ∙ ((λ i. knowing v.number (Some (Handle (handle.CountSync walk call next))) v.drain (cond (lt-ltb 1 (call.id + 2) (omega arith) i) (part_begun_sync (b i) (part_in v)) (part_in v)))
+    ∙ (λ i. knowing v.number (Some (Handle (handle.CountSync walk call next))) v.drain (record (part_in v) { batch = rest_of (sym b i); running = SyncCall call })))
 
-pub next_loaded_is : (v : Known) (call : Call) (n : ℕ) → v.stage ≡ Some (Handle (handle.LoadNext call)) → known_told v act.Load (Next call.id) (Some n) None ≡ loaded_known call n v
-next_loaded_is v call n e = told_at [] v (Some (Handle (handle.LoadNext call))) act.Load (Next call.id) (Some n) None e
+pub counted_sync_is : (v : Known) (cpu source n : ℕ) (walk : Walk) (call : Call) (next : Option ℕ) → v.stage ≡ Some (Handle (handle.CountSync walk call next)) → v.running ≡ SyncCall call →
+    known_told v act.Store (Ran cpu source) None (Some n) ≡ counted_sync walk call next v
+counted_sync_is v cpu source n walk call next e r =
+    told_at [] v (Some (Handle (handle.CountSync walk call next))) act.Store (Ran cpu source) None (Some n) e
+    ∙ (λ i. knowing v.number (Some (Handle (handle.EndSync walk call next))) v.drain (part_counted (r i) (part_in v)))
 
--- the steps of a call
+pub ended_sync_is : (v : Known) (walk : Walk) (call : Call) (next : Option ℕ) → v.stage ≡ Some (Handle (handle.EndSync walk call next)) → v.running ≡ CountedCall call →
+    known_told v act.Store (Flags call.id) None (Some 0) ≡ ended_call (first_on walk next) call v
+ended_sync_is v walk call next e r =
+    told_at [] v (Some (Handle (handle.EndSync walk call next))) act.Store (Flags call.id) None (Some 0) e
+    ∙ (λ i. knowing v.number (Some (Handle (first_on walk next))) v.drain (part_unlocked (r i) (part_in v)))
 
-pub begun_sync_is : (v : Known) (cpu : ℕ) (call : Call) (rest : List Call) → v.stage ≡ Some (Handle (handle.BeginSync call)) → v.batch ≡ call ∷ rest → known_told v act.Store (Hand cpu) None (Some (call.id + 2)) ≡ begun_sync call v
-begun_sync_is v cpu call rest e b =
-    told_at [] v (Some (Handle (handle.BeginSync call))) act.Store (Hand cpu) None (Some (call.id + 2)) e
-    ∙ ((λ i. knowing v.number (Some (Handle (handle.CountSync call))) v.drain (cond (lt-ltb 1 (call.id + 2) (omega arith) i) (part_begun_sync (b i) (part_in v)) (part_in v)))
-    ∙ (λ i. knowing v.number (Some (Handle (handle.CountSync call))) v.drain (record (part_in v) { batch = rest_of (sym b i); running = SyncCall call })))
+pub begun_async_is : (v : Known) (call : Call) (next : Option ℕ) (rest : List Call) → v.stage ≡ Some (Handle (handle.BeginAsync call next)) → v.batch ≡ call ∷ rest → v.running ≡ Nothing →
+    known_told v act.Store (Flags call.id) None (Some 0) ≡ begun_async call next v
+begun_async_is v call next rest e b r =
+    told_at [] v (Some (Handle (handle.BeginAsync call next))) act.Store (Flags call.id) None (Some 0) e
+    ∙ ((λ i. knowing v.number (Some (Handle (handle.CountAsync call next))) v.drain (part_unlocked (r i) (part_in v)))
+    ∙ ((λ i. knowing v.number (Some (Handle (handle.CountAsync call next))) v.drain (part_begun_async (b i) (part_in v)))
+    ∙ (λ i. knowing v.number (Some (Handle (handle.CountAsync call next))) v.drain (record (part_in v) { batch = rest_of (sym b i); running = AsyncCall call }))))
 
-pub counted_sync_is : (v : Known) (cpu source n : ℕ) (call : Call) → v.stage ≡ Some (Handle (handle.CountSync call)) → v.running ≡ SyncCall call → known_told v act.Store (Ran cpu source) None (Some n) ≡ counted_sync call v
-counted_sync_is v cpu source n call e r =
-    told_at [] v (Some (Handle (handle.CountSync call))) act.Store (Ran cpu source) None (Some n) e
-    ∙ (λ i. knowing v.number (Some (Handle (handle.EndSync call))) v.drain (part_counted (r i) (part_in v)))
-
-pub ended_sync_is : (v : Known) (call : Call) → v.stage ≡ Some (Handle (handle.EndSync call)) → v.running ≡ CountedCall call → known_told v act.Store (Flags call.id) None (Some 0) ≡ ended_call call v
-ended_sync_is v call e r =
-    told_at [] v (Some (Handle (handle.EndSync call))) act.Store (Flags call.id) None (Some 0) e
-    ∙ (λ i. knowing v.number (Some (Handle (run_next v.drain.sync v.drain.async))) (popped v.drain) (part_unlocked (r i) (part_in v)))
-
-pub begun_async_is : (v : Known) (call : Call) (rest : List Call) → v.stage ≡ Some (Handle (handle.BeginAsync call)) → v.batch ≡ call ∷ rest → v.running ≡ Nothing → known_told v act.Store (Flags call.id) None (Some 0) ≡ begun_async call v
-begun_async_is v call rest e b r =
-    told_at [] v (Some (Handle (handle.BeginAsync call))) act.Store (Flags call.id) None (Some 0) e
-    ∙ ((λ i. knowing v.number (Some (Handle (handle.CountAsync call))) v.drain (part_unlocked (r i) (part_in v)))
-    ∙ ((λ i. knowing v.number (Some (Handle (handle.CountAsync call))) v.drain (part_begun_async (b i) (part_in v)))
-    ∙ (λ i. knowing v.number (Some (Handle (handle.CountAsync call))) v.drain (record (part_in v) { batch = rest_of (sym b i); running = AsyncCall call }))))
-
-pub counted_async_is : (v : Known) (cpu source n : ℕ) (call : Call) → v.stage ≡ Some (Handle (handle.CountAsync call)) → v.running ≡ AsyncCall call → known_told v act.Store (Ran cpu source) None (Some n) ≡ ended_call call v
-counted_async_is v cpu source n call e r =
-    told_at [] v (Some (Handle (handle.CountAsync call))) act.Store (Ran cpu source) None (Some n) e
-    ∙ (λ i. knowing v.number (Some (Handle (run_next v.drain.sync v.drain.async))) (popped v.drain) (part_counted (r i) (part_in v)))
-
--- one call more is loaded
-pub length-with_loaded : (call : Call) (d : DrainValue) → length (with_loaded call d).sync + length (with_loaded call d).async ≡ length d.sync + length d.async + 1
-length-with_loaded call d =
-    let one = one_class call.class call in
-    let sync = length-append (if_sync call.class call) d.sync in
-    let async = length-append (if_async call.class call) d.async in
-    omega arith
+pub counted_async_is : (v : Known) (cpu source n : ℕ) (call : Call) (next : Option ℕ) → v.stage ≡ Some (Handle (handle.CountAsync call next)) → v.running ≡ AsyncCall call →
+    known_told v act.Store (Ran cpu source) None (Some n) ≡ ended_call (second_on next) call v
+counted_async_is v cpu source n call next e r =
+    told_at [] v (Some (Handle (handle.CountAsync call next))) act.Store (Ran cpu source) None (Some n) e
+    ∙ (λ i. knowing v.number (Some (Handle (second_on next))) v.drain (part_counted (r i) (part_in v)))

@@ -17,18 +17,19 @@ pub mod Handles
 pub mod Handling
 pub mod Links
 pub mod Lists
-pub mod Loaded
 pub mod Loading
 pub mod Moving
 pub mod OneStep
 pub mod Own
 pub mod Parts
+pub mod Passing
 pub mod Places
 pub mod Placing
 pub mod Posted
 pub mod Posting
 pub mod Puts
 pub mod QueueChains
+pub mod Relinking
 pub mod Replays
 pub mod Restages
 pub mod Rows
@@ -42,3 +43,4 @@ pub mod Stops
 pub mod Taking
 pub mod Tallies
 pub mod Turns
+pub mod Walks

@@ -1,26 +1,25 @@
--- The steps of handle that load a call of its batch.
-use Rattle.std.proofs.Common.{◌≡◌, ℕ, ◌%◌, ◌==◌, Bool, true, if◌then◌else◌, Option, Some, None, List, [], ◌∷◌, ◌++◌, sym, subst, refl, ap, ◌∙◌, append_assoc}
+-- The steps of handle that load a word of a record of its batch.
+use Rattle.std.proofs.Common.{◌≡◌, ℕ, ◌+◌, ◌%◌, ◌==◌, Bool, true, if◌then◌else◌, Option, Some, None, List, [], ◌∷◌, ◌++◌, sym, subst, refl, ap, ◌∙◌}
 use Rattle.std.specs.List.{AllByRecursion}
 use Rattle.smp_core.specs.Put.{put}
 use Rattle.smp_core.specs.Flags.{flags_of, class_of}
-use Rattle.smp_core.specs.Order.{if_sync, if_async, sync_calls, async_calls}
-use Rattle.smp_core.specs.Calls.{CallState, Holding, confirms, links}
-use Rattle.smp_core.specs.Drains.{DrainValue, with_loaded, load_or_run, loaded_or_run}
+use Rattle.smp_core.specs.Calls.{CallState, Holding, Nothing, confirms, links}
+use Rattle.smp_core.specs.Drains.{DrainValue, link_to, record_at, by_class, unlink_after}
 use Rattle.smp_core.specs.Stages.{ControlValue}
-use Rattle.smp_core.specs.Words.{IsWritten, flags_in, funcs_in, infos_in, nexts_in, hands_in}
-use Rattle.smp_core.specs.Stands.{Share, share_of, IsSync, IsAsync, Sorted, Loads, Stands, HandIs, held_of}
+use Rattle.smp_core.specs.Words.{Leads, Path, IsWritten, flags_in, funcs_in, infos_in, nexts_in, hands_in}
+use Rattle.smp_core.specs.Stands.{Share, share_of, Reverses, Walks, Ends, Stands, HandIs, held_of}
 use Rattle.smp_core.specs.Shows.{Shows}
-use Rattle.smp_core.proofs.Alls.{every_append, every_last, every_unloaded}
 use Rattle.smp_core.proofs.Frames.{leaves_all}
-use Rattle.smp_core.proofs.Batches.{sync_calls-push, async_calls-push}
 use Rattle.smp_core.proofs.Turns.{holds_nothing, stands_at, hand_at, held_after, stands_after, hands_after}
-use Rattle.smp_core.proofs.Loaded.{link_found, hand_of_loaded}
+use Rattle.smp_core.proofs.Walks.{link_back, same_record, walks_rest, ends_rest, hand_of_first}
+use Rattle.smp_core.proofs.Passing.{flags_lead, info_leads}
 use Rattle.smp_core.proofs.StepShows.{StepShows}
 use Rattle.smp_core.specs.declared.call.Call.{Call}
 use Rattle.smp_core.specs.declared.call.Class.{Class}
 use Rattle.smp_core.specs.declared.call.Class.TheVariants.{Sync, Async}
 use Rattle.smp_core.specs.declared.word.Word.{Word}
 use Rattle.smp_core.specs.declared.word.Word.TheVariants.{Hand, Flags, Func, Info, Next}
+use Rattle.smp_core.specs.declared.handle.Walk.{Walk}
 use Rattle.smp_core.specs.declared.handle.HandleStage.TheVariants as handle
 use Rattle.smp_core.specs.declared.stage.Stage.TheVariants.{Handle}
 
@@ -37,32 +36,13 @@ call_of_parts : (call : Call) (id : ℕ) (class : Class) (func info : ℕ) → c
     call ≡ record { id = id; class = class; func = func; info = info }
 call_of_parts call id class func info p q r t = λ i. record { id = p i; class = q i; func = r i; info = t i }
 
--- what holds of all of the batch holds of the call that is loaded now
-pub this_call : (P : Call → Type 0) (nexts : ℕ → ℕ) (s : Share) (d : DrainValue) (call : Call) → Loads nexts s d call → AllByRecursion P s.batch → P call
-this_call P nexts s d call l h = every_last P l.older call (every_unloaded P s.batch (l.older ++ call ∷ []) d.sync d.async l.in_order h)
+hand_of_class : (class : Class) (walk : Walk) (id : ℕ) (next : Option ℕ) (at : Word → ℕ) (me : ℕ) → (at (Hand me) ≡ 0 → ⊥) → HandIs (Some (Handle (by_class class walk id next))) (at (Hand me))
+hand_of_class Sync walk id next at me ne = ne
+hand_of_class Async walk id next at me ne = hand_of_first (record { first = walk.first; last = Some id }) next (at (Hand me)) ne
 
-one_sync : (class : Class) (call : Call) → call.class ≡ class → AllByRecursion IsSync (if_sync class call)
-one_sync Sync call e = (e, tt)
-one_sync Async call e = tt
-
-one_async : (class : Class) (call : Call) → call.class ≡ class → AllByRecursion IsAsync (if_async class call)
-one_async Sync call e = tt
-one_async Async call e = (e, tt)
-
-sorted_more : (call : Call) (d : DrainValue) → Sorted d → Sorted (with_loaded call d)
-sorted_more call d sorted = record {
-  sync = every_append IsSync (if_sync call.class call) d.sync (one_sync call.class call refl) sorted.sync;
-  async = every_append IsAsync (if_async call.class call) d.async (one_async call.class call refl) sorted.async;
-}
-
--- the batch, with one call more loaded
-batch_more : (older sync async : List Call) (call : Call) →
-    (sync_calls (older ++ call ∷ []) ++ sync) ++ (async_calls (older ++ call ∷ []) ++ async) ≡ (sync_calls older ++ (if_sync call.class call ++ sync)) ++ (async_calls older ++ (if_async call.class call ++ async))
-batch_more older sync async call =
-    ap (λ (xs : List Call). (xs ++ sync) ++ (async_calls (older ++ call ∷ []) ++ async)) (sync_calls-push older call)
-    ∙ (ap (λ (xs : List Call). ((sync_calls older ++ if_sync call.class call) ++ sync) ++ (xs ++ async)) (async_calls-push older call)
-    ∙ (ap (λ (xs : List Call). xs ++ ((async_calls older ++ if_async call.class call) ++ async)) (append_assoc (sync_calls older) (if_sync call.class call) sync)
-    ∙ ap (λ (xs : List Call). (sync_calls older ++ (if_sync call.class call ++ sync)) ++ xs) (append_assoc (async_calls older) (if_async call.class call) async)))
+hand_of_info : (last : Option ℕ) (walk : Walk) (call : Call) (next : Option ℕ) (at : Word → ℕ) (me : ℕ) → (at (Hand me) ≡ 0 → ⊥) → HandIs (Some (Handle (unlink_after last walk call next))) (at (Hand me))
+hand_of_info None walk call next at me ne = ne
+hand_of_info (Some last) walk call next at me ne = ne
 
 module _ (a : CallState) (at : Word → ℕ) (control : ℕ → ControlValue) (me : ℕ) (s : Shows a at control) where
   -- a step that stores nothing
@@ -81,49 +61,111 @@ module _ (a : CallState) (at : Word → ℕ) (control : ℕ → ControlValue) (m
   }
 
   -- the words of the call that is loaded now
-  its_words : (call : Call) → Loads (nexts_in at) (share_of a me) (control me).drain call → IsWritten (flags_in at) (funcs_in at) (infos_in at) call
-  its_words call l = this_call (IsWritten (flags_in at) (funcs_in at) (infos_in at)) (nexts_in at) (share_of a me) (control me).drain call l (s.written.batched me)
+  pub walked_words : (walk : Walk) (id : ℕ) (call : Call) (rest : List Call) → Walks (nexts_in at) (share_of a me) (control me).drain walk (id + 1) [] (call ∷ rest) Nothing → IsWritten (flags_in at) (funcs_in at) (infos_in at) call
+  walked_words walk id call rest h = let all = walks_rest (IsWritten (flags_in at) (funcs_in at) (infos_in at)) (nexts_in at) (share_of a me) (control me).drain walk (id + 1) [] (call ∷ rest) Nothing h (s.written.batched me) in all.0
 
-  pub load_flags_step : (id : ℕ) → (control me).stage ≡ Some (Handle (handle.LoadFlags id)) → StepShows a at control me (Handle (handle.LoadFlags id))
-  load_flags_step id e =
-      let was = stands_at a at control me s (handle.LoadFlags id) e in
-      let k = was.1 in
-      let w = its_words k.0 k.1 in
-      let flags : at (Flags id) ≡ flags_of k.0.class = ap (flags_in at) (sym k.2) ∙ w.flags_are in
-      let locked : (at (Flags id) % 2 == 1) ≡ true = ap (λ (n : ℕ). n % 2 == 1) flags ∙ flags_locked k.0.class in
-      let class : k.0.class ≡ class_of (at (Flags id)) = sym (class_of-flags_of k.0.class) ∙ ap class_of (sym flags) in
-      let next : ControlValue = record { stage = Some (Handle (handle.LoadFunc id (class_of (at (Flags id))))); drain = (control me).drain } in
-      subst (λ (b : Bool). Shows (if b then a else confirms a me id) at (put control me next)) (sym locked)
-      (goes_on next (holds_nothing a at control me s (handle.LoadFlags id) e) (was.0, (k.0, k.1, k.2, class)) (hand_at a at control me s (handle.LoadFlags id) e))
+  pub ended_words : (id : ℕ) (call : Call) (rest : List Call) → Ends (nexts_in at) (share_of a me) (control me).drain (id + 1) [] (call ∷ rest) Nothing → IsWritten (flags_in at) (funcs_in at) (infos_in at) call
+  ended_words id call rest h = let all = ends_rest (IsWritten (flags_in at) (funcs_in at) (infos_in at)) (nexts_in at) (share_of a me) (control me).drain (id + 1) [] (call ∷ rest) Nothing h (s.written.batched me) in all.0
 
-  pub load_func_step : (id : ℕ) (class : Class) → (control me).stage ≡ Some (Handle (handle.LoadFunc id class)) → StepShows a at control me (Handle (handle.LoadFunc id class))
-  load_func_step id class e =
-      let was = stands_at a at control me s (handle.LoadFunc id class) e in
-      let k = was.1 in
-      let w = its_words k.0 k.1 in
-      let func : k.0.func ≡ at (Func id) = sym w.func_is ∙ ap (funcs_in at) k.2 in
-      goes_on (record { stage = Some (Handle (handle.LoadInfo id class (at (Func id)))); drain = (control me).drain }) (holds_nothing a at control me s (handle.LoadFunc id class) e) (was.0, (k.0, k.1, k.2, k.3, func))
-      (hand_at a at control me s (handle.LoadFunc id class) e)
+  -- a load of a next word tells nothing
+  next_loaded : (c : ControlValue) → a.held me ≡ None → Shows a at (put control me c) → Shows (links a me (a.held me) None) at (put control me c)
+  next_loaded c held shown = subst (λ (h : Option Holding). Shows (links a me h None) at (put control me c)) (sym held) shown
 
-  pub load_info_step : (id : ℕ) (class : Class) (func : ℕ) → (control me).stage ≡ Some (Handle (handle.LoadInfo id class func)) → StepShows a at control me (Handle (handle.LoadInfo id class func))
-  load_info_step id class func e =
-      let was = stands_at a at control me s (handle.LoadInfo id class func) e in
+  pub reverse_load_step : (newer : Option ℕ) (id : ℕ) → (control me).stage ≡ Some (Handle (handle.ReverseLoad newer id)) → StepShows a at control me (Handle (handle.ReverseLoad newer id))
+  reverse_load_step newer id e =
+      let was = stands_at a at control me s (handle.ReverseLoad newer id) e in
       let k = was.1 in
-      let w = its_words k.0 k.1 in
-      let info : k.0.info ≡ at (Info id) = sym w.info_is ∙ ap (infos_in at) k.2 in
-      let same : k.0 ≡ record { id = id; class = class; func = func; info = at (Info id) } = call_of_parts k.0 id class func (at (Info id)) k.2 k.3 k.4 info in
-      goes_on (record { stage = Some (Handle (handle.LoadNext (record { id = id; class = class; func = func; info = at (Info id) }))); drain = (control me).drain }) (holds_nothing a at control me s (handle.LoadInfo id class func) e)
-      (was.0, subst (Loads (nexts_in at) (share_of a me) (control me).drain) same k.1) (hand_at a at control me s (handle.LoadInfo id class func) e)
+      let held = holds_nothing a at control me s (handle.ReverseLoad newer id) e in
+      let c : ControlValue = record { stage = Some (Handle (handle.ReverseStore newer id (record_at (at (Next id))))); drain = (control me).drain } in
+      next_loaded c held
+      (goes_on c held (was.0, (k.0, subst (λ (n : ℕ). Reverses (nexts_in at) (share_of a me) (control me).drain (link_to newer) n k.0) (sym (link_back (at (Next id)))) k.1, k.2))
+      (hand_at a at control me s (handle.ReverseLoad newer id) e))
 
-  pub load_next_step : (call : Call) → (control me).stage ≡ Some (Handle (handle.LoadNext call)) → StepShows a at control me (Handle (handle.LoadNext call))
-  load_next_step call e =
-      let was = stands_at a at control me s (handle.LoadNext call) e in
+  pub load_next_step : (walk : Walk) (id : ℕ) → (control me).stage ≡ Some (Handle (handle.LoadNext walk id)) → StepShows a at control me (Handle (handle.LoadNext walk id))
+  load_next_step walk id e =
+      let was = stands_at a at control me s (handle.LoadNext walk id) e in
       let k = was.1 in
-      let d : DrainValue = with_loaded call (control me).drain in
-      let link : ℕ = at (Next call.id) in
-      let held = holds_nothing a at control me s (handle.LoadNext call) e in
-      let next : ControlValue = record { stage = Some (Handle (load_or_run d link)); drain = loaded_or_run d link } in
-      subst (λ (h : Option Holding). Shows (links a me h None) at (put control me next)) (sym held)
-      (goes_on next held
-      (was.0, link_found (nexts_in at) (share_of a me) d k.older link k.leads (k.in_order ∙ batch_more k.older (control me).drain.sync (control me).drain.async call) (sorted_more call (control me).drain k.sorted) k.running k.accepted)
-      (hand_of_loaded d link (at (Hand me)) (hand_at a at control me s (handle.LoadNext call) e)))
+      let held = holds_nothing a at control me s (handle.LoadNext walk id) e in
+      let c : ControlValue = record { stage = Some (Handle (handle.LoadFlags walk id (record_at (at (Next id))))); drain = (control me).drain } in
+      next_loaded c held (goes_on c held (was.0, (k.0, k.1, k.2, sym (link_back (at (Next id))))) (hand_at a at control me s (handle.LoadNext walk id) e))
+
+  pub load_flags_step : (walk : Walk) (id : ℕ) (next : Option ℕ) → (control me).stage ≡ Some (Handle (handle.LoadFlags walk id next)) → StepShows a at control me (Handle (handle.LoadFlags walk id next))
+  load_flags_step walk id next e =
+      let was = stands_at a at control me s (handle.LoadFlags walk id next) e in
+      let k = was.1 in
+      let call : Call = k.0 in
+      let w = walked_words walk id call k.1 k.2 in
+      let flags : at (Flags id) ≡ flags_of call.class = ap (flags_in at) (sym (same_record id call k.2.leads_on.0)) ∙ w.flags_are in
+      let locked : (at (Flags id) % 2 == 1) ≡ true = ap (λ (n : ℕ). n % 2 == 1) flags ∙ flags_locked call.class in
+      let class : call.class ≡ class_of (at (Flags id)) = sym (class_of-flags_of call.class) ∙ ap class_of (sym flags) in
+      let c : ControlValue = record { stage = Some (Handle (by_class (class_of (at (Flags id))) walk id next)); drain = (control me).drain } in
+      subst (λ (b : Bool). Shows (if b then a else confirms a me id) at (put control me c)) (sym locked)
+      (goes_on c (holds_none (class_of (at (Flags id))) walk id next (holds_nothing a at control me s (handle.LoadFlags walk id next) e))
+      (was.0, flags_lead (nexts_in at) (share_of a me) (control me).drain walk id next call k.1 k.2 k.3 (class_of (at (Flags id))) class)
+      (hand_of_class (class_of (at (Flags id))) walk id next at me (hand_at a at control me s (handle.LoadFlags walk id next) e)))
+    where
+      holds_none : (class : Class) (walk : Walk) (id : ℕ) (next : Option ℕ) → a.held me ≡ None → a.held me ≡ held_of (Some (Handle (by_class class walk id next)))
+      holds_none class walk id next h = h
+
+  pub load_func_step : (walk : Walk) (id : ℕ) (next : Option ℕ) → (control me).stage ≡ Some (Handle (handle.LoadFunc walk id next)) → StepShows a at control me (Handle (handle.LoadFunc walk id next))
+  load_func_step walk id next e =
+      let was = stands_at a at control me s (handle.LoadFunc walk id next) e in
+      let k = was.1 in
+      let w = walked_words walk id k.0 k.1 k.2 in
+      let func : k.0.func ≡ at (Func id) = sym w.func_is ∙ ap (funcs_in at) (same_record id k.0 k.2.leads_on.0) in
+      goes_on (record { stage = Some (Handle (handle.LoadInfo walk id next (at (Func id)))); drain = (control me).drain }) (holds_nothing a at control me s (handle.LoadFunc walk id next) e)
+      (was.0, (k.0, k.1, k.2, k.3, k.4, func)) (hand_at a at control me s (handle.LoadFunc walk id next) e)
+
+  pub load_info_step : (walk : Walk) (id : ℕ) (next : Option ℕ) (func : ℕ) → (control me).stage ≡ Some (Handle (handle.LoadInfo walk id next func)) → StepShows a at control me (Handle (handle.LoadInfo walk id next func))
+  load_info_step walk id next func e =
+      let was = stands_at a at control me s (handle.LoadInfo walk id next func) e in
+      let k = was.1 in
+      let w = walked_words walk id k.0 k.1 k.2 in
+      let same = same_record id k.0 k.2.leads_on.0 in
+      let info : k.0.info ≡ at (Info id) = sym w.info_is ∙ ap (infos_in at) same in
+      let call : Call = record { id = id; class = Sync; func = func; info = at (Info id) } in
+      let is : k.0 ≡ record { id = id; class = Sync; func = func; info = at (Info id) } = call_of_parts k.0 id Sync func (at (Info id)) same k.4 k.5 info in
+      let c : ControlValue = record { stage = Some (Handle (unlink_after walk.last walk call next)); drain = (control me).drain } in
+      goes_on c (holds_nothing a at control me s (handle.LoadInfo walk id next func) e)
+      (was.0, info_leads (nexts_in at) (share_of a me) (control me).drain walk next call k.1
+      (subst (λ (x : Call). Walks (nexts_in at) (share_of a me) (control me).drain walk (id + 1) [] (x ∷ k.1) Nothing) is k.2) k.3 refl walk.last refl)
+      (hand_of_info walk.last walk call next at me (hand_at a at control me s (handle.LoadInfo walk id next func) e))
+
+  pub async_next_step : (id : ℕ) → (control me).stage ≡ Some (Handle (handle.AsyncNext id)) → StepShows a at control me (Handle (handle.AsyncNext id))
+  async_next_step id e =
+      let was = stands_at a at control me s (handle.AsyncNext id) e in
+      let k = was.1 in
+      let held = holds_nothing a at control me s (handle.AsyncNext id) e in
+      let c : ControlValue = record { stage = Some (Handle (handle.AsyncFunc id (record_at (at (Next id))))); drain = (control me).drain } in
+      next_loaded c held (goes_on c held (was.0, (k.0, k.1, k.2, sym (link_back (at (Next id))))) (hand_at a at control me s (handle.AsyncNext id) e))
+
+  pub async_func_step : (id : ℕ) (next : Option ℕ) → (control me).stage ≡ Some (Handle (handle.AsyncFunc id next)) → StepShows a at control me (Handle (handle.AsyncFunc id next))
+  async_func_step id next e =
+      let was = stands_at a at control me s (handle.AsyncFunc id next) e in
+      let k = was.1 in
+      let w = ended_words id k.0 k.1 k.2 in
+      let func : k.0.func ≡ at (Func id) = sym w.func_is ∙ ap (funcs_in at) (same_record id k.0 k.2.leads_on.0) in
+      goes_on (record { stage = Some (Handle (handle.AsyncInfo id next (at (Func id)))); drain = (control me).drain }) (holds_nothing a at control me s (handle.AsyncFunc id next) e)
+      (was.0, (k.0, k.1, k.2, k.3, func)) (hand_at a at control me s (handle.AsyncFunc id next) e)
+
+  pub async_info_step : (id : ℕ) (next : Option ℕ) (func : ℕ) → (control me).stage ≡ Some (Handle (handle.AsyncInfo id next func)) → StepShows a at control me (Handle (handle.AsyncInfo id next func))
+  async_info_step id next func e =
+      let was = stands_at a at control me s (handle.AsyncInfo id next func) e in
+      let k = was.1 in
+      let h = k.2 in
+      let w = ended_words id k.0 k.1 k.2 in
+      let same = same_record id k.0 h.leads_on.0 in
+      let info : k.0.info ≡ at (Info id) = sym w.info_is ∙ ap (infos_in at) same in
+      let call : Call = record { id = id; class = Async; func = func; info = at (Info id) } in
+      let is : k.0 ≡ record { id = id; class = Async; func = func; info = at (Info id) } = call_of_parts k.0 id Async func (at (Info id)) same h.asyncs.0 k.4 info in
+      let c : ControlValue = record { stage = Some (Handle (handle.BeginAsync call next)); drain = (control me).drain } in
+      goes_on c (holds_nothing a at control me s (handle.AsyncInfo id next func) e)
+      (was.0, (k.1, record {
+        leads_on = subst (λ (n : ℕ). Path (nexts_in at) n k.1 0) (ap (nexts_in at) same ∙ k.3) h.leads_on.1;
+        asyncs = h.asyncs.1;
+        counted = h.counted;
+        batch = h.batch ∙ ap (λ (x : Call). x ∷ k.1) is;
+        running_is = h.running_is;
+        accepted = h.accepted;
+      }))
+      (hand_at a at control me s (handle.AsyncInfo id next func) e)

@@ -4,11 +4,10 @@ use Rattle.std.specs.List.{AllByRecursion}
 use Rattle.smp_core.specs.Put.{put}
 use Rattle.smp_core.specs.Calls.{Holding, Running}
 use Rattle.smp_core.specs.Places.{IsAbsent, IsApart, HasRecord, IsPlaced, IsThere, Placed, locked_by}
-use Rattle.smp_core.specs.Words.{FlagsShow, IsWritten, Written, Linked, last_batch}
+use Rattle.smp_core.specs.Words.{FlagsShow, IsWritten, Written}
 use Rattle.smp_core.proofs.Puts.{at_test}
 use Rattle.smp_core.proofs.Alls.{every, every_both}
 use Rattle.smp_core.proofs.Turns.{put_else}
-use Rattle.smp_core.proofs.Batches.{links_kept}
 use Rattle.smp_core.specs.declared.call.Call.{Call}
 use Rattle.smp_core.specs.declared.place.RecPlace.{RecPlace}
 use Rattle.smp_core.specs.declared.place.RecPlace.TheVariants as place
@@ -124,13 +123,3 @@ module _ (places : ℕ → RecPlace) (id : ℕ) (from to : RecPlace) (here : pla
       batched = batched;
       runs = runs;
     }
-
-  -- the links after it
-  pub linked_moved : (nexts : ℕ → ℕ) (held : ℕ → Option Holding) (linked : ℕ → Option ℕ) (taken : ℕ → List (List Call)) → ((cpu : ℕ) → to ≢ place.Batch cpu) → Linked nexts places held linked taken → Linked nexts (put places id to) held linked taken
-  linked_moved nexts held linked taken gone l = record {
-    held_links = l.held_links;
-    batch_links = λ cpu. links_kept nexts places (put places id to) cpu (λ u. was cpu u) 0 (last_batch (taken cpu)) (l.batch_links cpu);
-  }
-    where
-      was : (cpu u : ℕ) → put places id to u ≡ place.Batch cpu → places u ≡ place.Batch cpu
-      was cpu u e = at_test u id (λ b. cond b to (places u) ≡ place.Batch cpu → places u ≡ place.Batch cpu) (λ _ f. absurd (gone cpu f)) (λ _ f. f) e

@@ -3,7 +3,9 @@ use Rattle.std.proofs.Common.{◌≡◌, ◌≢◌, ℕ, ◌+◌, ◌-◌, ◌%�
 use Rattle.smp_core.specs.Put.{put}
 use Rattle.smp_core.specs.Calls.{CallState, Holding}
 use Rattle.smp_core.specs.Posts.{ends, goes_to}
-use Rattle.smp_core.specs.Drains.{DrainValue, run_next, with_loaded, handle_goes}
+use Rattle.smp_core.specs.Drains.{DrainValue, handle_goes, record_at, second_on, first_on, reverse_on, by_class, unlink_after}
+use Rattle.smp_core.specs.Flags.{class_of}
+use Rattle.smp_core.specs.declared.handle.Walk.{Walk}
 use Rattle.smp_core.specs.Stages.{ControlValue, access_of, outcome_of, drain_of, control_after}
 use Rattle.smp_core.specs.Access.{word_of, at_after, seen_of}
 use Rattle.smp_core.specs.Stands.{held_of}
@@ -18,7 +20,7 @@ use Rattle.smp_core.specs.declared.call.Class.{Class}
 use Rattle.smp_core.specs.declared.call.Class.TheVariants.{Sync, Async}
 use Rattle.smp_core.specs.declared.known.Known.{Known}
 use Rattle.smp_core.specs.declared.word.Word.{Word}
-use Rattle.smp_core.specs.declared.word.Word.TheVariants.{Head, Intr, Flags, Next}
+use Rattle.smp_core.specs.declared.word.Word.TheVariants.{Head, Intr, Flags, Info, Next}
 use Rattle.smp_core.specs.declared.access.Access.{Access}
 use Rattle.smp_core.specs.declared.seen.Act.TheVariants as act
 use Rattle.smp_core.specs.declared.seen.Note.{Note}
@@ -61,14 +63,25 @@ exchange_follow p link tries n false true won me d found = refl
 exchange_follow p link tries n false false won me d found = refl
 
 -- what is told of the stages of handle that follow
-run_told : (sync async : List Call) → told_handle (run_next sync async) ≡ Some (Handle (run_next sync async))
-run_told (call ∷ rest) async = refl
-run_told [] (call ∷ rest) = refl
-run_told [] [] = refl
+second_told : (next : Option ℕ) → told_handle (second_on next) ≡ Some (Handle (second_on next))
+second_told None = refl
+second_told (Some id) = refl
 
-load_told : (d : DrainValue) (link : ℕ) (b : Bool) → told_handle (cond b (run_next d.sync d.async) (handle.LoadFlags (link - 1))) ≡ Some (Handle (cond b (run_next d.sync d.async) (handle.LoadFlags (link - 1))))
-load_told d link true = run_told d.sync d.async
-load_told d link false = refl
+first_told : (walk : Walk) (next : Option ℕ) → told_handle (first_on walk next) ≡ Some (Handle (first_on walk next))
+first_told walk None = second_told walk.first
+first_told walk (Some id) = refl
+
+reverse_told : (here next : Option ℕ) → told_handle (reverse_on here next) ≡ Some (Handle (reverse_on here next))
+reverse_told here None = first_told (record { first = here; last = None }) here
+reverse_told here (Some id) = refl
+
+class_told : (class : Class) (walk : Walk) (id : ℕ) (next : Option ℕ) → told_handle (by_class class walk id next) ≡ Some (Handle (by_class class walk id next))
+class_told Sync walk id next = refl
+class_told Async walk id next = first_told (record { first = walk.first; last = Some id }) next
+
+info_told : (last : Option ℕ) (walk : Walk) (call : Call) (next : Option ℕ) → told_handle (unlink_after last walk call next) ≡ Some (Handle (unlink_after last walk call next))
+info_told None walk call next = refl
+info_told (Some last) walk call next = refl
 
 accept_told : (b : Bool) → told_stage (cond {A = Outcome} b (handle_goes handle.LeaveIdle) (handle_goes handle.Take)).next ≡ (cond {A = Outcome} b (handle_goes handle.LeaveIdle) (handle_goes handle.Take)).next
 accept_told true = refl
@@ -90,16 +103,22 @@ follows at me d (Post p post.Release) = refl
 follows at me d (Handle handle.Enter) = refl
 follows at me d (Handle handle.Accept) = accept_told (at (Intr me) == 0)
 follows at me d (Handle handle.LeaveIdle) = refl
-follows at me d (Handle handle.Take) = load_told d (at (Head me)) (at (Head me) == 0)
-follows at me d (Handle (handle.LoadFlags id)) = refl
-follows at me d (Handle (handle.LoadFunc id class)) = refl
-follows at me d (Handle (handle.LoadInfo id class func)) = refl
-follows at me d (Handle (handle.LoadNext call)) = load_told (with_loaded call d) (at (Next call.id)) (at (Next call.id) == 0)
-follows at me d (Handle (handle.BeginSync call)) = refl
-follows at me d (Handle (handle.CountSync call)) = refl
-follows at me d (Handle (handle.EndSync call)) = run_told d.sync d.async
-follows at me d (Handle (handle.BeginAsync call)) = refl
-follows at me d (Handle (handle.CountAsync call)) = run_told d.sync d.async
+follows at me d (Handle handle.Take) = reverse_told None (record_at (at (Head me)))
+follows at me d (Handle (handle.ReverseLoad newer id)) = refl
+follows at me d (Handle (handle.ReverseStore newer id older)) = reverse_told (Some id) older
+follows at me d (Handle (handle.LoadNext walk id)) = refl
+follows at me d (Handle (handle.LoadFlags walk id next)) = class_told (class_of (at (Flags id))) walk id next
+follows at me d (Handle (handle.LoadFunc walk id next)) = refl
+follows at me d (Handle (handle.LoadInfo walk id next func)) = info_told walk.last walk (record { id = id; class = Sync; func = func; info = at (Info id) }) next
+follows at me d (Handle (handle.Unlink walk last call next)) = refl
+follows at me d (Handle (handle.BeginSync walk call next)) = refl
+follows at me d (Handle (handle.CountSync walk call next)) = refl
+follows at me d (Handle (handle.EndSync walk call next)) = first_told walk next
+follows at me d (Handle (handle.AsyncNext id)) = refl
+follows at me d (Handle (handle.AsyncFunc id next)) = refl
+follows at me d (Handle (handle.AsyncInfo id next func)) = refl
+follows at me d (Handle (handle.BeginAsync call next)) = refl
+follows at me d (Handle (handle.CountAsync call next)) = second_told next
 follows at me d (Handle handle.Leave) = refl
 
 leaves : (at : Word → ℕ) (me : ℕ) (d : DrainValue) (st : Stage) → Leaves at me d st
@@ -119,15 +138,21 @@ leaves at me d (Handle handle.Enter) = refl
 leaves at me d (Handle handle.Accept) = refl
 leaves at me d (Handle handle.LeaveIdle) = refl
 leaves at me d (Handle handle.Take) = refl
-leaves at me d (Handle (handle.LoadFlags id)) = refl
-leaves at me d (Handle (handle.LoadFunc id class)) = refl
-leaves at me d (Handle (handle.LoadInfo id class func)) = refl
-leaves at me d (Handle (handle.LoadNext call)) = refl
-leaves at me d (Handle (handle.BeginSync call)) = refl
-leaves at me d (Handle (handle.CountSync call)) = refl
-leaves at me d (Handle (handle.EndSync call)) = refl
-leaves at me d (Handle (handle.BeginAsync call)) = refl
-leaves at me d (Handle (handle.CountAsync call)) = refl
+leaves at me d (Handle (handle.ReverseLoad newer id)) = refl
+leaves at me d (Handle (handle.ReverseStore newer id older)) = refl
+leaves at me d (Handle (handle.LoadNext walk id)) = refl
+leaves at me d (Handle (handle.LoadFlags walk id next)) = refl
+leaves at me d (Handle (handle.LoadFunc walk id next)) = refl
+leaves at me d (Handle (handle.LoadInfo walk id next func)) = refl
+leaves at me d (Handle (handle.Unlink walk last call next)) = refl
+leaves at me d (Handle (handle.BeginSync walk call next)) = refl
+leaves at me d (Handle (handle.CountSync walk call next)) = refl
+leaves at me d (Handle (handle.EndSync walk call next)) = refl
+leaves at me d (Handle (handle.AsyncNext id)) = refl
+leaves at me d (Handle (handle.AsyncFunc id next)) = refl
+leaves at me d (Handle (handle.AsyncInfo id next func)) = refl
+leaves at me d (Handle (handle.BeginAsync call next)) = refl
+leaves at me d (Handle (handle.CountAsync call next)) = refl
 leaves at me d (Handle handle.Leave) = refl
 
 -- the CPU that knows this, and that may make the step of this stage, makes it

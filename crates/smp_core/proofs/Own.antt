@@ -7,7 +7,7 @@ use Rattle.smp_core.specs.Size.{owner}
 use Rattle.smp_core.specs.Calls.{CallState, Holding}
 use Rattle.smp_core.specs.Stages.{ControlValue}
 use Rattle.smp_core.specs.Places.{Placed, IsPlaced, IsThere, Holds, locked_by}
-use Rattle.smp_core.specs.Words.{Written, IsWritten, FlagsShow, Chained, Linked, LinkIs, KeepsLinks, last_batch, Noticed, flags_in, funcs_in, infos_in, nexts_in, heads_in, intrs_in, queued_in, ran_in}
+use Rattle.smp_core.specs.Words.{Written, IsWritten, FlagsShow, Chained, Linked, LinkIs, Noticed, flags_in, funcs_in, infos_in, nexts_in, heads_in, intrs_in, queued_in, ran_in}
 use Rattle.smp_core.specs.Histories.{Tallied}
 use Rattle.smp_core.specs.Stands.{Stands, StandsAt, share_of, held_of, held_of_post, HandIs}
 use Rattle.smp_core.specs.Shows.{Shows}
@@ -49,20 +49,14 @@ module _ (a : CallState) (at : Word → ℕ) (control : ℕ → ControlValue) (s
   stage_owns places cpu u None c h k = absurd k
   stage_owns places cpu u (Some (Send to)) c h k = absurd k
   stage_owns places cpu u (Some (Done id)) c h k = absurd k
-  stage_owns places cpu u (Some (Post p st)) c h k = let post = h.3 in ap owner (post_holds p st u k) ∙ post.owned
+  stage_owns places cpu u (Some (Post p st)) c h k = let post = h.1 in ap owner (post_holds p st u k) ∙ post.owned
   stage_owns places cpu u (Some (Handle st)) c h k = absurd k
 
   -- a held record is its holder's
   pub holder_owns : (cpu u : ℕ) → Holds (a.held cpu) u → owner u ≡ cpu
   holder_owns cpu u h = stage_owns a.place cpu u (control cpu).stage (control cpu) (s.stands cpu) (subst (λ (x : Option Holding). Holds x u) (s.held cpu) h)
 
-pub KeepsLinks-kept : (nexts nexts' : ℕ → ℕ) (places places' : ℕ → RecPlace) (cpu below : ℕ) (calls : List Call) →
-    ((u : ℕ) → places' u ≡ place.Batch cpu → (places u ≡ place.Batch cpu) × (nexts' u ≡ nexts u)) → KeepsLinks nexts places cpu below calls → KeepsLinks nexts' places' cpu below calls
-KeepsLinks-kept nexts nexts' places places' cpu below [] f h = tt
-KeepsLinks-kept nexts nexts' places places' cpu below (x ∷ rest) f h =
-    ((λ e. let k = f x.id e in k.1 ∙ h.0 k.0), KeepsLinks-kept nexts nexts' places places' cpu (x.id + 1) rest f h.1)
-
-LinkIs-kept : (nexts nexts' : ℕ → ℕ) (h : Option Holding) (l : Option ℕ) → ((u : ℕ) → Holds h u → nexts' u ≡ nexts u) → LinkIs nexts h l → LinkIs nexts' h l
+pub LinkIs-kept : (nexts nexts' : ℕ → ℕ) (h : Option Holding) (l : Option ℕ) → ((u : ℕ) → Holds h u → nexts' u ≡ nexts u) → LinkIs nexts h l → LinkIs nexts' h l
 LinkIs-kept nexts nexts' None l f k = k
 LinkIs-kept nexts nexts' (Some h) None f k = k
 LinkIs-kept nexts nexts' (Some h) (Some n) f k = f h.call.id refl ∙ k
@@ -190,14 +184,12 @@ module _ (a : CallState) (at at' : Word → ℕ) (control : ℕ → ControlValue
     chain = λ cpu. rw (o.keeps.head cpu) (Leads-kept (nexts_in at) (nexts_in at') (IsPlaced a.place (place.Queued cpu)) (λ call q. o.touches.next call.id (elsewhere call.id (place.Queued cpu) q.placed (away_queue cpu))) (at (Head cpu)) (a.queue cpu) 0 (s.placed.queued cpu) (s.chained.chain cpu));
   }
 
-  links' : Linked (nexts_in at') places' held' linked' a.taken
+  links' : Linked (nexts_in at') held' linked'
   links' = record {
     held_links = λ cpu. elim (cases_eq cpu me) [
       | inl e ↦ subst (λ (k : ℕ). LinkIs (nexts_in at') (held' k) (linked' k)) (sym e) o.my_link
       | inr ne ↦ rw (o.others_held cpu ne, o.others_linked cpu ne) (LinkIs-kept (nexts_in at) (nexts_in at') (a.held cpu) (a.linked cpu) (λ u h. o.touches.next u (λ e. ne (sym (holder_owns a at control s cpu u h) ∙ (ap owner e ∙ o.owned)))) (s.links.held_links cpu))
     ];
-    batch_links = λ cpu. KeepsLinks-kept (nexts_in at) (nexts_in at') a.place places' cpu 0 (last_batch (a.taken cpu))
-        (λ u e. let ne : u ≢ id = (λ f. home_batch (places' id) cpu home_after (sym (ap places' f) ∙ e)) in (sym (o.touches.place_stays u ne) ∙ e, o.touches.next u ne)) (s.links.batch_links cpu);
   }
 
   noticed' : Noticed (intrs_in at') a.queue a.pending a.accepted a.owes

@@ -102,24 +102,22 @@ module _ (a : CallState) (at : Word → ℕ) (control : ℕ → ControlValue) (m
   -- outside handle a CPU rests
   pub record IsResting : Type 0 where
     pub rests : Rests (share_of a me)
-    pub sync : (control me).drain.sync ≡ []
-    pub async : (control me).drain.async ≡ []
     pub hand : at (Hand me) ≡ 0
 
   post_rests : (p : Posting) (st : PostStage) → (control me).stage ≡ Some (Post p st) → IsResting
-  post_rests p st e = let h = stands_at (Post p st) e in record { rests = h.0; sync = h.1; async = h.2; hand = hand_at (Post p st) e }
+  post_rests p st e = let h = stands_at (Post p st) e in record { rests = h.0; hand = hand_at (Post p st) e }
 
   was_at : (p : Posting) (st : PostStage) → (control me).stage ≡ Some (Post p st) → PostStands a.place at me p st
-  was_at p st e = let h = stands_at (Post p st) e in h.3
+  was_at p st e = let h = stands_at (Post p st) e in h.1
 
   ends_here : (places' : ℕ → RecPlace) (at' : Word → ℕ) → IsResting → Stands places' at' (share_of a me) me (to_stage None)
-  ends_here places' at' r = (r.rests, r.sync, r.async)
+  ends_here places' at' r = r.rests
 
   goes_here : (places' : ℕ → RecPlace) (at' : Word → ℕ) (p : Posting) (st next : PostStage) → (control me).stage ≡ Some (Post p st) → PostGoes p next → PostKnows places' at' p next → Stands places' at' (share_of a me) me (to_stage (Some (Post p next)))
   goes_here places' at' p st next e goes knows =
       let r = post_rests p st e in
       let was = was_at p st e in
-      (r.rests, r.sync, r.async, record { owned = was.owned; is_call = was.is_call; me_in_range = was.me_in_range; goes = goes; knows = knows })
+      (r.rests, record { owned = was.owned; is_call = was.is_call; me_in_range = was.me_in_range; goes = goes; knows = knows })
 
   -- the load of the own flags
   load_flags : (p : Posting) → (control me).stage ≡ Some (Post p post.LoadFlags) → (b c : Bool) → (at (Flags p.id) % 2 == 1) ≡ b → p.is_online ≡ c →
@@ -139,12 +137,12 @@ module _ (a : CallState) (at : Word → ℕ) (control : ℕ → ControlValue) (m
   flags_step p e = load_flags p e (at (Flags p.id) % 2 == 1) p.is_online refl refl
 
   pub send_step : (to : ℕ) → (control me).stage ≡ Some (Send to) → StepShows a at control me (Send to)
-  send_step to e = let h = stands_at (Send to) e in send_kept a at control me to (to_stage None) s (holds_at (Send to) e) (h.0, h.1, h.2) (hand_at (Send to) e)
+  send_step to e = let h = stands_at (Send to) e in send_kept a at control me to (to_stage None) s (holds_at (Send to) e) h.0 (hand_at (Send to) e)
 
   pub done_step : (id : ℕ) → (control me).stage ≡ Some (Done id) → StepShows a at control me (Done id)
   done_step id e =
       let h = stands_at (Done id) e in
-      confirm_if a at (put control me (to_stage None)) me id (at (Flags id) % 2 == 1) refl (stands_on a at control me (to_stage None) s (holds_at (Done id) e) (h.0, h.1, h.2) (hand_at (Done id) e))
+      confirm_if a at (put control me (to_stage None)) me id (at (Flags id) % 2 == 1) refl (stands_on a at control me (to_stage None) s (holds_at (Done id) e) h.0 (hand_at (Done id) e))
 
   -- the tallies where no tally word changes and the same is held
   tallied_on : (held' : ℕ → Option Holding) → ((cpu : ℕ) → cpu ≢ me → held' cpu ≡ a.held cpu) → ((cpu : ℕ) → one_held (held' me) cpu ≡ one_held (a.held me) cpu) → Tallied (queued_in at) (ran_in at) a.sent held' a.ran a.running

@@ -44,15 +44,21 @@ held_told (Some (Handle handle.Enter)) = refl
 held_told (Some (Handle handle.Accept)) = refl
 held_told (Some (Handle handle.LeaveIdle)) = refl
 held_told (Some (Handle handle.Take)) = refl
-held_told (Some (Handle (handle.LoadFlags id))) = refl
-held_told (Some (Handle (handle.LoadFunc id class))) = refl
-held_told (Some (Handle (handle.LoadInfo id class func))) = refl
-held_told (Some (Handle (handle.LoadNext call))) = refl
-held_told (Some (Handle (handle.BeginSync call))) = refl
-held_told (Some (Handle (handle.CountSync call))) = refl
-held_told (Some (Handle (handle.EndSync call))) = refl
-held_told (Some (Handle (handle.BeginAsync call))) = refl
-held_told (Some (Handle (handle.CountAsync call))) = refl
+held_told (Some (Handle (handle.ReverseLoad newer id))) = refl
+held_told (Some (Handle (handle.ReverseStore newer id older))) = refl
+held_told (Some (Handle (handle.LoadNext walk id))) = refl
+held_told (Some (Handle (handle.LoadFlags walk id next))) = refl
+held_told (Some (Handle (handle.LoadFunc walk id next))) = refl
+held_told (Some (Handle (handle.LoadInfo walk id next func))) = refl
+held_told (Some (Handle (handle.Unlink walk last call next))) = refl
+held_told (Some (Handle (handle.BeginSync walk call next))) = refl
+held_told (Some (Handle (handle.CountSync walk call next))) = refl
+held_told (Some (Handle (handle.EndSync walk call next))) = refl
+held_told (Some (Handle (handle.AsyncNext id))) = refl
+held_told (Some (Handle (handle.AsyncFunc id next))) = refl
+held_told (Some (Handle (handle.AsyncInfo id next func))) = refl
+held_told (Some (Handle (handle.BeginAsync call next))) = refl
+held_told (Some (Handle (handle.CountAsync call next))) = refl
 held_told (Some (Handle handle.Leave)) = refl
 
 -- what a CPU knows of its record's words
@@ -77,15 +83,21 @@ knows_handle places at handle.Enter = tt
 knows_handle places at handle.Accept = tt
 knows_handle places at handle.LeaveIdle = tt
 knows_handle places at handle.Take = tt
-knows_handle places at (handle.LoadFlags id) = tt
-knows_handle places at (handle.LoadFunc id class) = tt
-knows_handle places at (handle.LoadInfo id class func) = tt
-knows_handle places at (handle.LoadNext call) = tt
-knows_handle places at (handle.BeginSync call) = tt
-knows_handle places at (handle.CountSync call) = tt
-knows_handle places at (handle.EndSync call) = tt
-knows_handle places at (handle.BeginAsync call) = tt
-knows_handle places at (handle.CountAsync call) = tt
+knows_handle places at (handle.ReverseLoad newer id) = tt
+knows_handle places at (handle.ReverseStore newer id older) = tt
+knows_handle places at (handle.LoadNext walk id) = tt
+knows_handle places at (handle.LoadFlags walk id next) = tt
+knows_handle places at (handle.LoadFunc walk id next) = tt
+knows_handle places at (handle.LoadInfo walk id next func) = tt
+knows_handle places at (handle.Unlink walk last call next) = tt
+knows_handle places at (handle.BeginSync walk call next) = tt
+knows_handle places at (handle.CountSync walk call next) = tt
+knows_handle places at (handle.EndSync walk call next) = tt
+knows_handle places at (handle.AsyncNext id) = tt
+knows_handle places at (handle.AsyncFunc id next) = tt
+knows_handle places at (handle.AsyncInfo id next func) = tt
+knows_handle places at (handle.BeginAsync call next) = tt
+knows_handle places at (handle.CountAsync call next) = tt
 knows_handle places at handle.Leave = tt
 
 abbrev IsFreeAt : (ℕ → RecPlace) → ℕ → PostStage → Type 0
@@ -107,8 +119,6 @@ told_knows places at p post.Release k f = (k.0, record { flags_are = k.1.flags_a
 -- a CPU that may stand outside, or at a step of a post: it has nothing taken and nothing loaded, and its handling word is 0
 pub record Idle (a : CallState) (at : Word → ℕ) (d : DrainValue) (me : ℕ) : Type 0 where
   pub rests : Rests (share_of a me)
-  pub sync : d.sync ≡ []
-  pub async : d.async ≡ []
   pub hand : at (Hand me) ≡ 0
 
 -- no stage of a post is told of handle, and none of handle of a post
@@ -130,34 +140,40 @@ post_no_handle p post.Release = tt
 
 module _ (a : CallState) (at : Word → ℕ) (me : ℕ) (d : DrainValue) where
   idle_handle : (h : HandleStage) → StandsAt a.place at (share_of a me) d me (Some (Handle h)) → HandIs (Some (Handle h)) (at (Hand me)) → IsNoHandle (told_handle h) → Idle a at d me
-  idle_handle handle.Enter k hand n = let e = k.1 in record { rests = e.0; sync = e.1; async = e.2; hand = hand }
+  idle_handle handle.Enter k hand n = record { rests = k.1; hand = hand }
   idle_handle handle.Accept k hand n = absurd n
   idle_handle handle.LeaveIdle k hand n = absurd n
   idle_handle handle.Take k hand n = absurd n
-  idle_handle (handle.LoadFlags id) k hand n = absurd n
-  idle_handle (handle.LoadFunc id class) k hand n = absurd n
-  idle_handle (handle.LoadInfo id class func) k hand n = absurd n
-  idle_handle (handle.LoadNext call) k hand n = absurd n
-  idle_handle (handle.BeginSync call) k hand n = absurd n
-  idle_handle (handle.CountSync call) k hand n = absurd n
-  idle_handle (handle.EndSync call) k hand n = absurd n
-  idle_handle (handle.BeginAsync call) k hand n = absurd n
-  idle_handle (handle.CountAsync call) k hand n = absurd n
+  idle_handle (handle.ReverseLoad newer id) k hand n = absurd n
+  idle_handle (handle.ReverseStore newer id older) k hand n = absurd n
+  idle_handle (handle.LoadNext walk id) k hand n = absurd n
+  idle_handle (handle.LoadFlags walk id next) k hand n = absurd n
+  idle_handle (handle.LoadFunc walk id next) k hand n = absurd n
+  idle_handle (handle.LoadInfo walk id next func) k hand n = absurd n
+  idle_handle (handle.Unlink walk last call next) k hand n = absurd n
+  idle_handle (handle.BeginSync walk call next) k hand n = absurd n
+  idle_handle (handle.CountSync walk call next) k hand n = absurd n
+  idle_handle (handle.EndSync walk call next) k hand n = absurd n
+  idle_handle (handle.AsyncNext id) k hand n = absurd n
+  idle_handle (handle.AsyncFunc id next) k hand n = absurd n
+  idle_handle (handle.AsyncInfo id next func) k hand n = absurd n
+  idle_handle (handle.BeginAsync call next) k hand n = absurd n
+  idle_handle (handle.CountAsync call next) k hand n = absurd n
   idle_handle handle.Leave k hand n = absurd n
 
   -- a CPU whose steps have told of no handle is idle
   idle_told : (stage : Option Stage) → StandsAt a.place at (share_of a me) d me stage → HandIs stage (at (Hand me)) → IsNoHandle (told_stage stage) → Idle a at d me
-  idle_told None k hand n = record { rests = k.0; sync = k.1; async = k.2; hand = hand }
-  idle_told (Some (Send to)) k hand n = record { rests = k.0; sync = k.1; async = k.2; hand = hand }
-  idle_told (Some (Done id)) k hand n = record { rests = k.0; sync = k.1; async = k.2; hand = hand }
-  idle_told (Some (Post p st)) k hand n = record { rests = k.0; sync = k.1; async = k.2; hand = hand }
+  idle_told None k hand n = record { rests = k; hand = hand }
+  idle_told (Some (Send to)) k hand n = record { rests = k.0; hand = hand }
+  idle_told (Some (Done id)) k hand n = record { rests = k.0; hand = hand }
+  idle_told (Some (Post p st)) k hand n = record { rests = k.0; hand = hand }
   idle_told (Some (Handle h)) k hand n = idle_handle h k hand n
 
   knows_told : (stage : Option Stage) → StandsAt a.place at (share_of a me) d me stage → Knows a.place at (told_stage stage)
   knows_told None k = tt
   knows_told (Some (Send to)) k = tt
   knows_told (Some (Done id)) k = tt
-  knows_told (Some (Post p st)) k = let post = k.3 in knows_post a.place at p st post.knows
+  knows_told (Some (Post p st)) k = let post = k.1 in knows_post a.place at p st post.knows
   knows_told (Some (Handle h)) k = knows_handle a.place at h
 
 -- of a stage of handle beyond the first, all is told
@@ -173,15 +189,21 @@ same_handle h handle.Enter e = absurd (let x = e in cc)
 same_handle h handle.Accept e = cc
 same_handle h handle.LeaveIdle e = cc
 same_handle h handle.Take e = cc
-same_handle h (handle.LoadFlags id) e = cc
-same_handle h (handle.LoadFunc id class) e = cc
-same_handle h (handle.LoadInfo id class func) e = cc
-same_handle h (handle.LoadNext call) e = cc
-same_handle h (handle.BeginSync call) e = cc
-same_handle h (handle.CountSync call) e = cc
-same_handle h (handle.EndSync call) e = cc
-same_handle h (handle.BeginAsync call) e = cc
-same_handle h (handle.CountAsync call) e = cc
+same_handle h (handle.ReverseLoad newer id) e = cc
+same_handle h (handle.ReverseStore newer id older) e = cc
+same_handle h (handle.LoadNext walk id) e = cc
+same_handle h (handle.LoadFlags walk id next) e = cc
+same_handle h (handle.LoadFunc walk id next) e = cc
+same_handle h (handle.LoadInfo walk id next func) e = cc
+same_handle h (handle.Unlink walk last call next) e = cc
+same_handle h (handle.BeginSync walk call next) e = cc
+same_handle h (handle.CountSync walk call next) e = cc
+same_handle h (handle.EndSync walk call next) e = cc
+same_handle h (handle.AsyncNext id) e = cc
+same_handle h (handle.AsyncFunc id next) e = cc
+same_handle h (handle.AsyncInfo id next func) e = cc
+same_handle h (handle.BeginAsync call next) e = cc
+same_handle h (handle.CountAsync call next) e = cc
 same_handle h handle.Leave e = cc
 
 stage_is : (h : HandleStage) (stage : Option Stage) → told_stage stage ≡ Some (Handle h) → stage ≡ Some (Handle h)
@@ -196,15 +218,21 @@ told_beyond handle.Enter b = absurd b
 told_beyond handle.Accept b = refl
 told_beyond handle.LeaveIdle b = refl
 told_beyond handle.Take b = refl
-told_beyond (handle.LoadFlags id) b = refl
-told_beyond (handle.LoadFunc id class) b = refl
-told_beyond (handle.LoadInfo id class func) b = refl
-told_beyond (handle.LoadNext call) b = refl
-told_beyond (handle.BeginSync call) b = refl
-told_beyond (handle.CountSync call) b = refl
-told_beyond (handle.EndSync call) b = refl
-told_beyond (handle.BeginAsync call) b = refl
-told_beyond (handle.CountAsync call) b = refl
+told_beyond (handle.ReverseLoad newer id) b = refl
+told_beyond (handle.ReverseStore newer id older) b = refl
+told_beyond (handle.LoadNext walk id) b = refl
+told_beyond (handle.LoadFlags walk id next) b = refl
+told_beyond (handle.LoadFunc walk id next) b = refl
+told_beyond (handle.LoadInfo walk id next func) b = refl
+told_beyond (handle.Unlink walk last call next) b = refl
+told_beyond (handle.BeginSync walk call next) b = refl
+told_beyond (handle.CountSync walk call next) b = refl
+told_beyond (handle.EndSync walk call next) b = refl
+told_beyond (handle.AsyncNext id) b = refl
+told_beyond (handle.AsyncFunc id next) b = refl
+told_beyond (handle.AsyncInfo id next func) b = refl
+told_beyond (handle.BeginAsync call next) b = refl
+told_beyond (handle.CountAsync call next) b = refl
 told_beyond handle.Leave b = refl
 
 enters : (h : HandleStage) → IsBeyond h ⊎ (h ≡ handle.Enter)
@@ -212,15 +240,21 @@ enters handle.Enter = inr refl
 enters handle.Accept = inl tt
 enters handle.LeaveIdle = inl tt
 enters handle.Take = inl tt
-enters (handle.LoadFlags id) = inl tt
-enters (handle.LoadFunc id class) = inl tt
-enters (handle.LoadInfo id class func) = inl tt
-enters (handle.LoadNext call) = inl tt
-enters (handle.BeginSync call) = inl tt
-enters (handle.CountSync call) = inl tt
-enters (handle.EndSync call) = inl tt
-enters (handle.BeginAsync call) = inl tt
-enters (handle.CountAsync call) = inl tt
+enters (handle.ReverseLoad newer id) = inl tt
+enters (handle.ReverseStore newer id older) = inl tt
+enters (handle.LoadNext walk id) = inl tt
+enters (handle.LoadFlags walk id next) = inl tt
+enters (handle.LoadFunc walk id next) = inl tt
+enters (handle.LoadInfo walk id next func) = inl tt
+enters (handle.Unlink walk last call next) = inl tt
+enters (handle.BeginSync walk call next) = inl tt
+enters (handle.CountSync walk call next) = inl tt
+enters (handle.EndSync walk call next) = inl tt
+enters (handle.AsyncNext id) = inl tt
+enters (handle.AsyncFunc id next) = inl tt
+enters (handle.AsyncInfo id next func) = inl tt
+enters (handle.BeginAsync call next) = inl tt
+enters (handle.CountAsync call next) = inl tt
 enters handle.Leave = inl tt
 
 module _ (a : CallState) (at : Word → ℕ) (control : ℕ → ControlValue) (me : ℕ) (s : Shows a at control) where
@@ -261,13 +295,11 @@ module _ (a : CallState) (at : Word → ℕ) (control : ℕ → ControlValue) (m
   handle_same h b e = stage_is h (control me).stage (e ∙ told_beyond h b)
 
   aims_stands : (st : Stage) → Aims (known_of a control me) st → StandsAt a.place at (share_of a me) (control me).drain me (Some st)
-  aims_stands (Send to) aims = let i = outside_idle aims.0 in (i.rests, i.sync, i.async, aims.1, aims.2)
-  aims_stands (Done id) aims = let i = outside_idle aims.0 in (i.rests, i.sync, i.async, aims.1, aims.2)
+  aims_stands (Send to) aims = let i = outside_idle aims.0 in (i.rests, aims.1, aims.2)
+  aims_stands (Done id) aims = let i = outside_idle aims.0 in (i.rests, aims.1, aims.2)
   aims_stands (Post p st) aims =
       let i = idle (subst IsNoHandle aims.told (post_no_handle p st)) in (
         i.rests,
-        i.sync,
-        i.async,
         record {
           owned = aims.owned;
           is_call = aims.is_call;
@@ -279,7 +311,7 @@ module _ (a : CallState) (at : Word → ℕ) (control : ℕ → ControlValue) (m
   aims_stands (Handle h) aims = elim (enters h) [
     | inl b ↦ subst (λ (x : Option Stage). StandsAt a.place at (share_of a me) (control me).drain me x) (handle_same h b aims.0) (s.stands me)
     | inr e ↦ subst (λ (x : HandleStage). StandsAt a.place at (share_of a me) (control me).drain me (Some (Handle x))) (sym e)
-        (let i = outside_idle (aims.0 ∙ ap told_handle e) in (aims.1, (i.rests, i.sync, i.async)))
+        (let i = outside_idle (aims.0 ∙ ap told_handle e) in (aims.1, i.rests))
   ]
 
   aims_hand : (st : Stage) → Aims (known_of a control me) st → HandIs (Some st) (at (Hand me))

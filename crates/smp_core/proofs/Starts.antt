@@ -97,9 +97,7 @@ begins nr online places at s d cpu (command.Post k to class func info tries) lim
     let bad = ((one || tries == 0) || to == cpu) || not (fits_record k to class) in
     let ok = or_false one (tries == 0) (or_false (one || tries == 0) (to == cpu) (or_false ((one || tries == 0) || to == cpu) (not (fits_record k to class)) (then_none bad _ e))) in
     let small = ltb-true k records_of_one (not_false (nat_lt k records_of_one) ok) in (
-      h.0,
-      h.1,
-      h.2,
+      h,
       record {
         owned = owner-of_record cpu k small;
         is_call = record { in_range = record_of-below cpu k l small; func = f.0; info = f.1 };
@@ -108,11 +106,11 @@ begins nr online places at s d cpu (command.Post k to class func info tries) lim
         knows = tt;
       },
     )
-begins nr online places at s d cpu (command.Send to) limits l e f h = (h.0, h.1, h.2, online_below nr online to limits (else_none (has online to) None _ e).0, l)
+begins nr online places at s d cpu (command.Send to) limits l e f h = (h, online_below nr online to limits (else_none (has online to) None _ e).0, l)
 begins nr online places at s d cpu (command.Done k) limits l e f h =
     let small = ltb-true k records_of_one (else_none (nat_lt k records_of_one) None _ e).0 in
-    (h.0, h.1, h.2, owner-of_record cpu k small, record_of-below cpu k l small)
-begins nr online places at s d cpu command.Handle limits l e f h = (l, (h.0, h.1, h.2))
+    (h, owner-of_record cpu k small, record_of-below cpu k l small)
+begins nr online places at s d cpu command.Handle limits l e f h = (l, h)
 begins nr online places at s d cpu _ limits l e f h = h
 
 module _ (nr online : ℕ) (a : CallState) (at : Word → ℕ) (control : ℕ → ControlValue) (cpu : ℕ) (c : Command) (shows : Shows a at control) (outside_now : (control cpu).stage ≡ None) where
@@ -163,7 +161,7 @@ rests = record { batch = refl; running = refl; accepted = refl }
 pub zeros_shown : (at : Word → ℕ) (control : ℕ → ControlValue) → ((w : Word) → at w ≡ 0) → ((cpu : ℕ) → control cpu ≡ outside) → Shows no_calls at control
 zeros_shown at control z n = record {
   held = λ cpu. rw (n cpu) refl;
-  stands = λ cpu. rw (n cpu) (rests, refl, refl);
+  stands = λ cpu. rw (n cpu) rests;
   hands = λ cpu. rw (n cpu) (z (Hand cpu));
   placed = record {
     queued = λ _. tt;
@@ -176,7 +174,7 @@ zeros_shown at control z n = record {
   };
   written = record { locks = λ id. z (Flags id); queued = λ _. tt; batched = λ _. tt; runs = λ _. tt };
   chained = record { chain = λ cpu. z (Head cpu) };
-  links = record { held_links = λ _. tt; batch_links = λ _. tt };
+  links = record { held_links = λ _. tt };
   noticed = record { words = λ cpu. z (Intr cpu); noticed = λ _. inl tt };
   recorded = record { in_order = λ _ _. refl; drained = λ _. refl };
   tallied = record { queued_are = λ source cpu. z (Queued source cpu); ran_are = λ cpu source. z (Ran cpu source) };

@@ -1,23 +1,23 @@
 -- The swap that takes a queue: the whole queue becomes a batch.
-use Rattle.std.proofs.Common.{◌≡◌, ◌≢◌, ℕ, ◌⊎◌, inl, inr, false, cond, Some, List, [], ◌∷◌, ◌++◌, sym, subst, refl, ap, ◌∙◌, append_assoc}
+use Rattle.std.proofs.Common.{◌≡◌, ◌≢◌, ℕ, ◌⊎◌, inl, inr, false, cond, Some, None, List, [], ◌∷◌, ◌++◌, sym, subst, refl, ap, ◌∙◌, append_assoc}
 use Rattle.std.proofs.lemmas.List.{append-nil}
 use Rattle.std.specs.List.{AllByRecursion}
 use Rattle.smp_core.specs.Put.{put, put_word}
 use Rattle.smp_core.specs.Order.{order, sync_calls, async_calls}
 use Rattle.smp_core.specs.Calls.{CallState, Running, Nothing, place_taken, takes}
-use Rattle.smp_core.specs.Drains.{DrainValue, loaded_or_run, load_or_run}
+use Rattle.smp_core.specs.Drains.{no_drain, record_at, reverse_on}
 use Rattle.smp_core.specs.Stages.{ControlValue}
 use Rattle.smp_core.specs.Places.{IsApart, HasRecord, IsPlaced, IsThere, Placed, locked_by}
-use Rattle.smp_core.specs.Words.{Leads, FlagsShow, IsWritten, Written, Chained, Linked, KeepsLinks, last_batch, IsEmpty, IsNoticed, is_pending, is_accepted, is_owed, Noticed, flags_in, funcs_in, infos_in, nexts_in, heads_in, intrs_in}
+use Rattle.smp_core.specs.Words.{Leads, FlagsShow, IsWritten, Written, Chained, last_batch, IsEmpty, IsNoticed, is_pending, is_accepted, is_owed, Noticed, flags_in, funcs_in, infos_in, nexts_in, heads_in, intrs_in}
 use Rattle.smp_core.specs.Histories.{marked, batches_marked, history_of, marked_from, sent_to, orders, running_call, Recorded}
 use Rattle.smp_core.specs.Stands.{Share, share_of}
 use Rattle.smp_core.specs.Shows.{Shows}
 use Rattle.smp_core.proofs.Puts.{at_test}
 use Rattle.smp_core.proofs.Alls.{every}
 use Rattle.smp_core.proofs.Frames.{Minds, LeavesTo}
-use Rattle.smp_core.proofs.Batches.{every_order, has_order, apart_order, links_of_chain, links_kept}
+use Rattle.smp_core.proofs.Batches.{every_order, has_order, apart_order}
 use Rattle.smp_core.proofs.Turns.{put_here, put_else, holds_nothing, stands_at, hand_at, held_after, stands_after, hands_after}
-use Rattle.smp_core.proofs.Loaded.{link_found, hand_of_loaded}
+use Rattle.smp_core.proofs.Walks.{link_back, reverse_goes, hand_of_reverse}
 use Rattle.smp_core.proofs.StepShows.{StepShows}
 use Rattle.smp_core.specs.declared.call.Call.{Call}
 use Rattle.smp_core.specs.declared.place.RecPlace.{RecPlace}
@@ -71,7 +71,7 @@ pub orders-push : (batches : List (List Call)) (batch : List Call) → orders (b
 orders-push [] batch = append-nil (order batch)
 orders-push (x ∷ xs) batch = ap (λ k. order x ++ k) (orders-push xs batch) ∙ sym (append_assoc (order x) (orders xs) (order batch))
 
-last_batch-push : (batches : List (List Call)) (batch : List Call) → last_batch (batches ++ batch ∷ []) ≡ batch
+pub last_batch-push : (batches : List (List Call)) (batch : List Call) → last_batch (batches ++ batch ∷ []) ≡ batch
 last_batch-push [] batch = refl
 last_batch-push (x ∷ []) batch = refl
 last_batch-push (x ∷ (y ∷ ys)) batch = last_batch-push (y ∷ ys) batch
@@ -135,14 +135,6 @@ module _ (a : CallState) (at : Word → ℕ) (me : ℕ) where
   abbrev taken' : ℕ → List (List Call)
   taken' = put a.taken me (a.taken me ++ a.queue me ∷ [])
 
-  linked_taken : Chained (heads_in at) (nexts_in at) a.queue → Linked (nexts_in at) a.place a.held a.linked a.taken → Linked (nexts_in at) place' a.held a.linked taken'
-  linked_taken c l = record {
-    held_links = l.held_links;
-    batch_links = λ cpu. at_test cpu me (λ b. KeepsLinks (nexts_in at) place' cpu 0 (last_batch (cond b (a.taken me ++ a.queue me ∷ []) (a.taken cpu))))
-        (λ _. subst (KeepsLinks (nexts_in at) place' cpu 0) (sym (last_batch-push (a.taken me) (a.queue me))) (links_of_chain (nexts_in at) place' cpu (at (Head me)) 0 (a.queue me) (c.chain me)))
-        (λ ne. links_kept (nexts_in at) a.place place' cpu (λ id. taken_batch me cpu (a.place id) ne) 0 (last_batch (a.taken cpu)) (l.batch_links cpu));
-  }
-
   noticed_still : (cpu : ℕ) → cpu ≢ me → IsNoticed a.pending a.accepted a.owes cpu → IsNoticed a.pending (put a.accepted me false) a.owes cpu
   noticed_still cpu ne (is_pending e) = is_pending e
   noticed_still cpu ne (is_accepted e) = is_accepted (put_else cpu me false (a.accepted cpu) ne ∙ e)
@@ -181,27 +173,25 @@ module _ (a : CallState) (at : Word → ℕ) (control : ℕ → ControlValue) (m
   take_step e =
       let was = stands_at a at control me s handle.Take e in
       let k = was.1 in
-      let d : DrainValue = (control me).drain in
       let link : ℕ = at (Head me) in
-      let c : ControlValue = record { stage = Some (Handle (load_or_run d link)); drain = loaded_or_run d link } in
+      let c : ControlValue = record { stage = Some (Handle (reverse_on None (record_at link))); drain = no_drain } in
       let after : Share = share_of (takes a me) me in
-      let batch : after.batch ≡ (sync_calls (a.queue me) ++ d.sync) ++ (async_calls (a.queue me) ++ d.async) =
-      put_here me (order (a.queue me)) (a.batch me) ∙ both_nil (sync_calls (a.queue me)) (async_calls (a.queue me)) d.sync d.async k.3 k.4 in
+      let whole : last_batch (put a.taken me (a.taken me ++ a.queue me ∷ []) me) ≡ a.queue me =
+      ap last_batch (put_here me (a.taken me ++ a.queue me ∷ []) (a.taken me)) ∙ last_batch-push (a.taken me) (a.queue me) in
       record {
         held = held_after a at control me s c (holds_nothing a at control me s handle.Take e);
         stands = stands_after a at control me s (put_word at (Head me) 0) (place' a at me) (share_of (takes a me)) c
-            (λ cpu ne. at_test cpu me (λ b. record { batch = cond b (order (a.queue me)) (a.batch cpu); running = a.running cpu; accepted = cond b false (a.accepted cpu) } ≡ share_of a cpu) (λ f. absurd (ne f)) (λ _. refl))
+            (λ cpu ne. at_test cpu me (λ b. record { last = last_batch (cond b (a.taken me ++ a.queue me ∷ []) (a.taken cpu)); batch = cond b (order (a.queue me)) (a.batch cpu); running = a.running cpu; accepted = cond b false (a.accepted cpu) } ≡ share_of a cpu) (λ f. absurd (ne f)) (λ _. refl))
             (λ cpu _. leaves_taken cpu)
-            (was.0, link_found (nexts_in at) after d (a.queue me) link (s.chained.chain me) batch (record { sync = rw k.3 tt; async = rw k.4 tt }) k.1 (put_here me false (a.accepted me)));
-        hands = hands_after a at control me s c (hand_of_loaded d link (at (Hand me)) (hand_at a at control me s handle.Take e));
+            (was.0, reverse_goes (nexts_in at) after no_drain None (record_at link) (a.queue me) [] (whole ∙ sym (append-nil (a.queue me)))
+            (subst (λ (n : ℕ). Leads (nexts_in at) n (a.queue me) 0) (sym (link_back link)) (s.chained.chain me)) refl (subst IsApart (sym whole) (s.placed.queue_apart me)) refl
+            (put_here me (order (a.queue me)) (a.batch me) ∙ ap order (sym whole)) k.1 (put_here me false (a.accepted me)));
+        hands = hands_after a at control me s c (hand_of_reverse None (record_at link) (at (Hand me)) (hand_at a at control me s handle.Take e));
         placed = placed_taken a at me k.0 s.placed;
         written = written_taken a at me s.written;
         chained = chained_taken a at me s.chained;
-        links = linked_taken a at me s.chained s.links;
+        links = s.links;
         noticed = noticed_taken a at me s.noticed;
         recorded = recorded_taken a at me k.0 k.1 s.recorded;
         tallied = s.tallied;
       }
-    where
-      both_nil : (xs ys sync async : List Call) → sync ≡ [] → async ≡ [] → xs ++ ys ≡ (xs ++ sync) ++ (ys ++ async)
-      both_nil xs ys sync async e f = rw (e, f, append-nil xs, append-nil ys) refl

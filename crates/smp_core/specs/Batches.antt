@@ -1,7 +1,7 @@
--- What is left of a batch, as the stage and the drain of its CPU have it.
-use Rattle.std.specs.Prelude.{ℕ, ◌+◌, Bool, ◌==◌, Option, Some, List, [], ◌∷◌, ◌++◌}
+-- What is left of a batch, as the stage of its CPU has it.
+use Rattle.std.specs.Prelude.{ℕ, ◌+◌, Bool, false, ◌==◌, Option, Some, None, List, [], ◌∷◌}
 use Rattle.std.specs.List.{list_any}
-use Rattle.smp_core.specs.Stages.{ControlValue}
+use Rattle.smp_core.specs.Drains.{link_to}
 use Rattle.smp_core.specs.declared.call.Call.{Call}
 use Rattle.smp_core.specs.declared.handle.HandleStage.{HandleStage}
 use Rattle.smp_core.specs.declared.handle.HandleStage.TheVariants as handle
@@ -12,40 +12,63 @@ use Rattle.smp_core.specs.declared.stage.Stage.TheVariants.{Handle}
 abbrev pub has_record : ℕ → List Call → Bool
 has_record id calls = list_any (λ call. call.id == id) calls
 
--- the link to the calls that are not loaded yet; 0 where all are
-abbrev pub unloaded_at : HandleStage → ℕ
-unloaded_at (handle.LoadFlags id) = id + 1
-unloaded_at (handle.LoadFunc id class) = id + 1
-unloaded_at (handle.LoadInfo id class func) = id + 1
-unloaded_at (handle.LoadNext call) = call.id + 1
-unloaded_at _ = 0
+-- the link to the records of the batch that are not reversed yet; 0 where all are
+abbrev pub down_at : HandleStage → ℕ
+down_at (handle.ReverseLoad newer id) = id + 1
+down_at (handle.ReverseStore newer id older) = link_to older
+down_at _ = 0
 
--- the call that begins next
-abbrev pub beginning_at : HandleStage → List Call
-beginning_at (handle.BeginSync call) = call ∷ []
-beginning_at (handle.BeginAsync call) = call ∷ []
-beginning_at _ = []
+-- the link to those that are, and are left in the chain
+abbrev pub up_at : HandleStage → ℕ
+up_at (handle.ReverseLoad newer id) = link_to newer
+up_at (handle.ReverseStore newer id older) = link_to newer
+up_at (handle.LoadNext walk id) = link_to walk.first
+up_at (handle.LoadFlags walk id next) = link_to walk.first
+up_at (handle.LoadFunc walk id next) = link_to walk.first
+up_at (handle.LoadInfo walk id next func) = link_to walk.first
+up_at (handle.Unlink walk last call next) = link_to walk.first
+up_at (handle.BeginSync walk call next) = link_to walk.first
+up_at (handle.CountSync walk call next) = link_to walk.first
+up_at (handle.EndSync walk call next) = link_to walk.first
+up_at (handle.AsyncNext id) = id + 1
+up_at (handle.AsyncFunc id next) = id + 1
+up_at (handle.AsyncInfo id next func) = id + 1
+up_at (handle.BeginAsync call next) = link_to next
+up_at (handle.CountAsync call next) = link_to next
+up_at _ = 0
+
+-- the record that is being reversed, or whose call begins next
+abbrev pub between_at : HandleStage → Option ℕ
+between_at (handle.ReverseStore newer id older) = Some id
+between_at (handle.BeginSync walk call next) = Some call.id
+between_at (handle.BeginAsync call next) = Some call.id
+between_at _ = None
+
+-- whether it is this record
+abbrev pub is_this : ℕ → Option ℕ → Bool
+is_this id None = false
+is_this id (Some between) = between == id
 
 -- the SYNC call that runs
 abbrev pub running_at : HandleStage → List Call
-running_at (handle.CountSync call) = call ∷ []
-running_at (handle.EndSync call) = call ∷ []
+running_at (handle.CountSync walk call next) = call ∷ []
+running_at (handle.EndSync walk call next) = call ∷ []
 running_at _ = []
 
 -- the same of where a CPU stands
 
-abbrev pub unloaded_link : Option Stage → ℕ
-unloaded_link (Some (Handle stage)) = unloaded_at stage
-unloaded_link _ = 0
+abbrev pub down_link : Option Stage → ℕ
+down_link (Some (Handle stage)) = down_at stage
+down_link _ = 0
 
-abbrev pub beginning_of : Option Stage → List Call
-beginning_of (Some (Handle stage)) = beginning_at stage
-beginning_of _ = []
+abbrev pub up_link : Option Stage → ℕ
+up_link (Some (Handle stage)) = up_at stage
+up_link _ = 0
+
+abbrev pub between_of : Option Stage → Option ℕ
+between_of (Some (Handle stage)) = between_at stage
+between_of _ = None
 
 abbrev pub running_of : Option Stage → List Call
 running_of (Some (Handle stage)) = running_at stage
 running_of _ = []
-
--- the calls that are loaded and have not begun
-abbrev pub loaded : ControlValue → List Call
-loaded c = beginning_of c.stage ++ (c.drain.sync ++ c.drain.async)

@@ -1,17 +1,27 @@
 -- What a CPU knows inside handle, after each of its steps.
-use Rattle.std.specs.Prelude.{ℕ, Bool, true, false, if◌then◌else◌, Some, List, [], ◌∷◌, ◌++◌}
+use Rattle.std.specs.Prelude.{ℕ, Bool, true, false, if◌then◌else◌, Option, Some, None, List, [], ◌∷◌, ◌++◌}
 use Rattle.smp_core.specs.Order.{order}
 use Rattle.smp_core.specs.Calls.{Nothing, SyncCall, CountedCall, AsyncCall}
-use Rattle.smp_core.specs.Drains.{DrainValue, run_next, rest_of, popped, load_or_run, loaded_or_run, with_loaded}
+use Rattle.smp_core.specs.Drains.{DrainValue, no_drain, reverse_on, handle_outcome, drain_after}
 use Rattle.smp_core.specs.declared.call.Call.{Call}
 use Rattle.smp_core.specs.declared.known.Known.{Known}
+use Rattle.smp_core.specs.declared.handle.Walk.{Walk}
 use Rattle.smp_core.specs.declared.handle.HandleStage.{HandleStage}
 use Rattle.smp_core.specs.declared.handle.HandleStage.TheVariants as handle
 use Rattle.smp_core.specs.declared.stage.Stage.TheVariants.{Handle}
 
+-- all but the first
+abbrev pub rest_of : List Call → List Call
+rest_of [] = []
+rest_of (call ∷ rest) = rest
+
 -- a CPU at this step of handle, which has loaded this
 abbrev pub handling : HandleStage → DrainValue → Known → Known
 handling stage d v = record v { stage = Some (Handle stage); drain = d }
+
+-- a CPU after a step at this stage, by the number found, that tells nothing of the calls
+abbrev pub goes_known : HandleStage → ℕ → Known → Known
+goes_known h found v = record v { stage = (handle_outcome v.drain h found).next; drain = drain_after v.drain h found }
 
 -- a CPU that has found an interrupt, or none
 abbrev pub accepted_known : Bool → Known → Known
@@ -21,47 +31,31 @@ accepted_known pending v = record v {
   accepted = if pending then true else v.accepted;
 }
 
--- a CPU that has taken this queue, by this link to its newest call
-abbrev pub taken_known : List Call → ℕ → Known → Known
-taken_known queue link v = record v {
-  stage = Some (Handle (load_or_run v.drain link));
-  drain = loaded_or_run v.drain link;
+-- a CPU that has taken this queue, whose newest record is this
+abbrev pub taken_known : List Call → Option ℕ → Known → Known
+taken_known queue newest v = record v {
+  stage = Some (Handle (reverse_on None newest));
+  drain = no_drain;
   taken = v.taken ++ queue ∷ [];
   batch = order queue;
   accepted = false;
 }
 
--- a CPU that has loaded this call, and found this link to the call before it
-abbrev pub loaded_known : Call → ℕ → Known → Known
-loaded_known call link v = handling (load_or_run (with_loaded call v.drain) link) (loaded_or_run (with_loaded call v.drain) link) v
-
 -- a CPU in whose SYNC call the function runs
-abbrev pub begun_sync : Call → Known → Known
-begun_sync call v = record v { stage = Some (Handle (handle.CountSync call)); batch = rest_of v.batch; running = SyncCall call }
+abbrev pub begun_sync : Walk → Call → Option ℕ → Known → Known
+begun_sync walk call next v = record v { stage = Some (Handle (handle.CountSync walk call next)); batch = rest_of v.batch; running = SyncCall call }
 
 -- a CPU that has counted a SYNC call
-abbrev pub counted_sync : Call → Known → Known
-counted_sync call v = record v { stage = Some (Handle (handle.EndSync call)); running = CountedCall call }
+abbrev pub counted_sync : Walk → Call → Option ℕ → Known → Known
+counted_sync walk call next v = record v { stage = Some (Handle (handle.EndSync walk call next)); running = CountedCall call }
 
 -- a CPU in whose ASYNC call the function runs
-abbrev pub begun_async : Call → Known → Known
-begun_async call v = record v { stage = Some (Handle (handle.CountAsync call)); batch = rest_of v.batch; running = AsyncCall call }
+abbrev pub begun_async : Call → Option ℕ → Known → Known
+begun_async call next v = record v { stage = Some (Handle (handle.CountAsync call next)); batch = rest_of v.batch; running = AsyncCall call }
 
--- a CPU whose call has ended
-abbrev pub ended_call : Call → Known → Known
-ended_call call v = record v {
-  stage = Some (Handle (run_next v.drain.sync v.drain.async));
-  drain = popped v.drain;
-  running = Nothing;
-  ran = v.ran ++ call ∷ [];
-}
-
--- where a CPU begins its next call, or leaves handle
-abbrev pub IsRunStage : HandleStage → Type 0
-IsRunStage (handle.BeginSync call) = Unit {0}
-IsRunStage (handle.BeginAsync call) = Unit {0}
-IsRunStage handle.Leave = Unit {0}
-IsRunStage _ = ⊥
+-- a CPU whose call has ended, and that stands there
+abbrev pub ended_call : HandleStage → Call → Known → Known
+ended_call stage call v = record v { stage = Some (Handle stage); running = Nothing; ran = v.ran ++ call ∷ [] }
 
 -- where a CPU has nothing more to do inside handle
 abbrev pub IsLeaving : HandleStage → Type 0

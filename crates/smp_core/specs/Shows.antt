@@ -18,7 +18,7 @@ pub record Shows (a : CallState) (at : Word → ℕ) (control : ℕ → ControlV
   -- the words
   pub written : Written (flags_in at) (funcs_in at) (infos_in at) a.place a.queue a.batch a.running
   pub chained : Chained (heads_in at) (nexts_in at) a.queue
-  pub links : Linked (nexts_in at) a.place a.held a.linked a.taken
+  pub links : Linked (nexts_in at) a.held a.linked
   -- the interrupt law
   pub noticed : Noticed (intrs_in at) a.queue a.pending a.accepted a.owes
   -- the queue history and the tally law

@@ -1,14 +1,14 @@
 -- What holds of a CPU at each stage.
-use Rattle.std.specs.Prelude.{◌≡◌, ◌≢◌, ℕ, ◌+◌, ◌<◌, Bool, true, false, Option, Some, None, List, [], ◌∷◌, ◌++◌}
+use Rattle.std.specs.Prelude.{◌≡◌, ◌≢◌, ℕ, ◌+◌, ◌<◌, Bool, true, false, Option, Some, None, List, [], ◌∷◌, ◌++◌, length}
 use Rattle.std.specs.List.{AllByRecursion}
 use Rattle.smp_core.specs.Size.{cpus, records, owner}
 use Rattle.smp_core.specs.Flags.{flags_of}
-use Rattle.smp_core.specs.Order.{sync_calls, async_calls}
+use Rattle.smp_core.specs.Order.{sync_calls, async_calls, order}
 use Rattle.smp_core.specs.Calls.{CallState, Holding, Running, Nothing, SyncCall, CountedCall, AsyncCall}
-use Rattle.smp_core.specs.Drains.{DrainValue}
+use Rattle.smp_core.specs.Drains.{DrainValue, link_to}
 use Rattle.smp_core.specs.Stages.{ControlValue}
-use Rattle.smp_core.specs.Words.{Leads, IsWritten, flags_in, funcs_in, infos_in, nexts_in}
-use Rattle.smp_core.specs.Places.{IsCall}
+use Rattle.smp_core.specs.Words.{Leads, Path, last_batch, IsWritten, flags_in, funcs_in, infos_in, nexts_in}
+use Rattle.smp_core.specs.Places.{IsApart, IsCall}
 use Rattle.smp_core.specs.declared.call.Call.{Call}
 use Rattle.smp_core.specs.declared.call.Class.TheVariants.{Sync, Async}
 use Rattle.smp_core.specs.declared.place.RecPlace.{RecPlace}
@@ -18,6 +18,7 @@ use Rattle.smp_core.specs.declared.word.Word.TheVariants.{Flags, Func, Next}
 use Rattle.smp_core.specs.declared.post.Posting.{Posting}
 use Rattle.smp_core.specs.declared.post.PostStage.{PostStage}
 use Rattle.smp_core.specs.declared.post.PostStage.TheVariants as post
+use Rattle.smp_core.specs.declared.handle.Walk.{Walk}
 use Rattle.smp_core.specs.declared.handle.HandleStage.{HandleStage}
 use Rattle.smp_core.specs.declared.handle.HandleStage.TheVariants as handle
 use Rattle.smp_core.specs.declared.stage.Stage.{Stage}
@@ -70,14 +71,15 @@ pub record PostStands (places : ℕ → RecPlace) (at : Word → ℕ) (me : ℕ)
   pub goes : PostGoes p stage
   pub knows : PostKnows places at p stage
 
--- what is a CPU's own of the drain: what is left of its batch, the call that it runs, whether it has accepted
+-- what is a CPU's own of the drain: the batch that it took last, what is left of it, the call that it runs, whether it has accepted
 pub record Share : Type 0 where
+  pub last : List Call
   pub batch : List Call
   pub running : Running
   pub accepted : Bool
 
 abbrev pub share_of : CallState → ℕ → Share
-share_of a cpu = record { batch = a.batch cpu; running = a.running cpu; accepted = a.accepted cpu }
+share_of a cpu = record { last = last_batch (a.taken cpu); batch = a.batch cpu; running = a.running cpu; accepted = a.accepted cpu }
 
 -- nothing is taken, and nothing runs
 pub record Rests (s : Share) : Type 0 where
@@ -85,56 +87,84 @@ pub record Rests (s : Share) : Type 0 where
   pub running : s.running ≡ Nothing
   pub accepted : s.accepted ≡ false
 
-abbrev pub IsSync : Call → Type 0
-IsSync call = call.class ≡ Sync
-
 abbrev pub IsAsync : Call → Type 0
 IsAsync call = call.class ≡ Async
 
--- what a drain has loaded is sorted by class
-pub record Sorted (d : DrainValue) : Type 0 where
-  pub sync : AllByRecursion IsSync d.sync
-  pub async : AllByRecursion IsAsync d.async
-
--- The batch is what is not loaded yet, the newest of it this call, and then what is loaded.
-pub record Loads (nexts : ℕ → ℕ) (s : Share) (d : DrainValue) (call : Call) : Type 0 where
+-- The chain of the batch is being reversed, and this call is next: the link to what is older leads down as it did in
+-- the queue, and the link to what is newer leads up, from the oldest of it to the newest.
+pub record Reverses (nexts : ℕ → ℕ) (s : Share) (d : DrainValue) (up down : ℕ) (call : Call) : Type 0 where
   pub older : List Call
-  pub leads : Leads nexts (nexts call.id) older 0
-  pub in_order : s.batch ≡ (sync_calls (older ++ call ∷ []) ++ d.sync) ++ (async_calls (older ++ call ∷ []) ++ d.async)
-  pub sorted : Sorted d
+  pub newer : List Call
+  pub whole : s.last ≡ older ++ call ∷ newer
+  pub leads_down : Leads nexts down older 0
+  pub leads_up : Path nexts up newer 0
+  pub apart : IsApart s.last
+  pub counted : d.calls ≡ length newer
+  pub batch : s.batch ≡ order s.last
   pub running : s.running ≡ Nothing
   pub accepted : s.accepted ≡ false
 
--- All is loaded, and this is left to run.
-pub record Runs (s : Share) (d : DrainValue) (left : List Call) (running : Running) : Type 0 where
-  pub batch : s.batch ≡ left
-  pub sorted : Sorted d
+-- these calls end with this record, and are none where there is none
+abbrev pub EndsAt : Option ℕ → List Call → Type 0
+EndsAt None calls = calls ≡ []
+EndsAt (Some id) calls = (front : List Call) × (newest : Call) × (calls ≡ front ++ newest ∷ []) × (newest.id ≡ id)
+
+-- The first pass: the rest of the batch is ahead, from this link on. Of what it has passed, the ASYNC calls are left in
+-- the chain, and they lead to what is ahead; the SYNC calls have left it, and have run but for the front ones.
+pub record Walks (nexts : ℕ → ℕ) (s : Share) (d : DrainValue) (walk : Walk) (here : ℕ) (front rest : List Call) (running : Running) : Type 0 where
+  pub passed : List Call
+  pub whole : s.last ≡ passed ++ rest
+  pub leads_here : Path nexts (link_to walk.first) (async_calls passed) here
+  pub ends_at : EndsAt walk.last (async_calls passed)
+  pub leads_on : Path nexts here rest 0
+  pub apart : IsApart s.last
+  pub counted : d.calls ≡ length s.last
+  pub batch : s.batch ≡ front ++ (sync_calls rest ++ async_calls s.last)
+  pub running_is : s.running ≡ running
+  pub accepted : s.accepted ≡ false
+
+-- The second pass: the ASYNC calls that are left are ahead, from this link on, but for the front ones.
+pub record Ends (nexts : ℕ → ℕ) (s : Share) (d : DrainValue) (here : ℕ) (front rest : List Call) (running : Running) : Type 0 where
+  pub leads_on : Path nexts here rest 0
+  pub asyncs : AllByRecursion IsAsync rest
+  pub counted : d.calls ≡ length s.last
+  pub batch : s.batch ≡ front ++ rest
   pub running_is : s.running ≡ running
   pub accepted : s.accepted ≡ false
 
 -- what holds inside handle
 abbrev pub HandleStands : (ℕ → ℕ) → Share → DrainValue → HandleStage → Type 0
-HandleStands nexts s d handle.Enter = Rests s × (d.sync ≡ []) × (d.async ≡ [])
-HandleStands nexts s d handle.Accept = Rests s × (d.sync ≡ []) × (d.async ≡ [])
-HandleStands nexts s d handle.LeaveIdle = Rests s × (d.sync ≡ []) × (d.async ≡ [])
-HandleStands nexts s d handle.Take = (s.batch ≡ []) × (s.running ≡ Nothing) × (s.accepted ≡ true) × (d.sync ≡ []) × (d.async ≡ [])
-HandleStands nexts s d (handle.LoadFlags id) = (call : Call) × (Loads nexts s d call) × (call.id ≡ id)
-HandleStands nexts s d (handle.LoadFunc id class) = (call : Call) × (Loads nexts s d call) × (call.id ≡ id) × (call.class ≡ class)
-HandleStands nexts s d (handle.LoadInfo id class func) = (call : Call) × (Loads nexts s d call) × (call.id ≡ id) × (call.class ≡ class) × (call.func ≡ func)
-HandleStands nexts s d (handle.LoadNext call) = Loads nexts s d call
-HandleStands nexts s d (handle.BeginSync call) = Runs s d (call ∷ (d.sync ++ d.async)) Nothing × IsSync call
-HandleStands nexts s d (handle.CountSync call) = Runs s d (d.sync ++ d.async) (SyncCall call)
-HandleStands nexts s d (handle.EndSync call) = Runs s d (d.sync ++ d.async) (CountedCall call)
-HandleStands nexts s d (handle.BeginAsync call) = Runs s d (call ∷ d.async) Nothing × IsAsync call × (d.sync ≡ [])
-HandleStands nexts s d (handle.CountAsync call) = Runs s d d.async (AsyncCall call) × (d.sync ≡ []) × IsCall call
-HandleStands nexts s d handle.Leave = Rests s × (d.sync ≡ []) × (d.async ≡ [])
+HandleStands nexts s d handle.Enter = Rests s
+HandleStands nexts s d handle.Accept = Rests s
+HandleStands nexts s d handle.LeaveIdle = Rests s
+HandleStands nexts s d handle.Take = (s.batch ≡ []) × (s.running ≡ Nothing) × (s.accepted ≡ true)
+HandleStands nexts s d (handle.ReverseLoad newer id) = (call : Call) × Reverses nexts s d (link_to newer) (nexts id) call × (call.id ≡ id)
+HandleStands nexts s d (handle.ReverseStore newer id older) = (call : Call) × Reverses nexts s d (link_to newer) (link_to older) call × (call.id ≡ id)
+HandleStands nexts s d (handle.LoadNext walk id) = (call : Call) × (rest : List Call) × Walks nexts s d walk (id + 1) [] (call ∷ rest) Nothing
+HandleStands nexts s d (handle.LoadFlags walk id next) = (call : Call) × (rest : List Call) × Walks nexts s d walk (id + 1) [] (call ∷ rest) Nothing × (nexts id ≡ link_to next)
+HandleStands nexts s d (handle.LoadFunc walk id next) =
+    (call : Call) × (rest : List Call) × Walks nexts s d walk (id + 1) [] (call ∷ rest) Nothing × (nexts id ≡ link_to next) × (call.class ≡ Sync)
+HandleStands nexts s d (handle.LoadInfo walk id next func) =
+    (call : Call) × (rest : List Call) × Walks nexts s d walk (id + 1) [] (call ∷ rest) Nothing × (nexts id ≡ link_to next) × (call.class ≡ Sync) × (call.func ≡ func)
+HandleStands nexts s d (handle.Unlink walk last call next) =
+    (rest : List Call) × Walks nexts s d walk (call.id + 1) [] (call ∷ rest) Nothing × (nexts call.id ≡ link_to next) × (call.class ≡ Sync) × (walk.last ≡ Some last)
+HandleStands nexts s d (handle.BeginSync walk call next) = (rest : List Call) × Walks nexts s d walk (link_to next) (call ∷ []) rest Nothing
+HandleStands nexts s d (handle.CountSync walk call next) = (rest : List Call) × Walks nexts s d walk (link_to next) [] rest (SyncCall call)
+HandleStands nexts s d (handle.EndSync walk call next) = (rest : List Call) × Walks nexts s d walk (link_to next) [] rest (CountedCall call)
+HandleStands nexts s d (handle.AsyncNext id) = (call : Call) × (rest : List Call) × Ends nexts s d (id + 1) [] (call ∷ rest) Nothing
+HandleStands nexts s d (handle.AsyncFunc id next) = (call : Call) × (rest : List Call) × Ends nexts s d (id + 1) [] (call ∷ rest) Nothing × (nexts id ≡ link_to next)
+HandleStands nexts s d (handle.AsyncInfo id next func) =
+    (call : Call) × (rest : List Call) × Ends nexts s d (id + 1) [] (call ∷ rest) Nothing × (nexts id ≡ link_to next) × (call.func ≡ func)
+HandleStands nexts s d (handle.BeginAsync call next) = (rest : List Call) × Ends nexts s d (link_to next) (call ∷ []) rest Nothing
+HandleStands nexts s d (handle.CountAsync call next) = (rest : List Call) × Ends nexts s d (link_to next) [] rest (AsyncCall call) × IsCall call
+HandleStands nexts s d handle.Leave = Rests s × (d.calls ≡ length s.last)
 
 -- what holds of a CPU at this stage, and outside
 abbrev pub StandsAt : (ℕ → RecPlace) → (Word → ℕ) → Share → DrainValue → ℕ → Option Stage → Type 0
-StandsAt places at s d me None = Rests s × (d.sync ≡ []) × (d.async ≡ [])
-StandsAt places at s d me (Some (Send to)) = Rests s × (d.sync ≡ []) × (d.async ≡ []) × (to < cpus) × (me < cpus)
-StandsAt places at s d me (Some (Done id)) = Rests s × (d.sync ≡ []) × (d.async ≡ []) × (owner id ≡ me) × (id < records)
-StandsAt places at s d me (Some (Post p stage)) = Rests s × (d.sync ≡ []) × (d.async ≡ []) × PostStands places at me p stage
+StandsAt places at s d me None = Rests s
+StandsAt places at s d me (Some (Send to)) = Rests s × (to < cpus) × (me < cpus)
+StandsAt places at s d me (Some (Done id)) = Rests s × (owner id ≡ me) × (id < records)
+StandsAt places at s d me (Some (Post p stage)) = Rests s × PostStands places at me p stage
 StandsAt places at s d me (Some (Handle stage)) = (me < cpus) × HandleStands (nexts_in at) s d stage
 
 abbrev pub Stands : (ℕ → RecPlace) → (Word → ℕ) → Share → ℕ → ControlValue → Type 0
@@ -143,7 +173,7 @@ Stands places at s me c = StandsAt places at s c.drain me c.stage
 -- the handling word: 0 exactly outside handle, and the record of a running SYNC call + 2
 abbrev pub HandIs : Option Stage → ℕ → Type 0
 HandIs (Some (Handle handle.Enter)) hand = hand ≡ 0
-HandIs (Some (Handle (handle.CountSync call))) hand = hand ≡ call.id + 2
-HandIs (Some (Handle (handle.EndSync call))) hand = hand ≡ call.id + 2
+HandIs (Some (Handle (handle.CountSync walk call next))) hand = hand ≡ call.id + 2
+HandIs (Some (Handle (handle.EndSync walk call next))) hand = hand ≡ call.id + 2
 HandIs (Some (Handle _)) hand = hand ≢ 0
 HandIs _ hand = hand ≡ 0

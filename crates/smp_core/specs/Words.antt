@@ -43,6 +43,11 @@ abbrev pub Leads : (ℕ → ℕ) → ℕ → List Call → ℕ → Type 0
 Leads nexts link [] below = link ≡ below
 Leads nexts link (oldest ∷ newer) below = (nexts oldest.id ≡ below) × Leads nexts link newer (oldest.id + 1)
 
+-- the next words lead from this link up through the calls, the oldest first, to the link after the newest
+abbrev pub Path : (ℕ → ℕ) → ℕ → List Call → ℕ → Type 0
+Path nexts link [] after = link ≡ after
+Path nexts link (oldest ∷ newer) after = (link ≡ oldest.id + 1) × Path nexts (nexts oldest.id) newer after
+
 -- 0 exactly where the record is free, else LOCK
 abbrev pub FlagsShow : RecPlace → ℕ → Type 0
 FlagsShow place.Free flags = flags ≡ 0
@@ -76,15 +81,9 @@ last_batch [] = []
 last_batch (batch ∷ []) = batch
 last_batch (batch ∷ (next ∷ rest)) = last_batch (next ∷ rest)
 
--- each record of a batch, while it is in it, has the link of the record before it, and the oldest this one
-abbrev pub KeepsLinks : (ℕ → ℕ) → (ℕ → RecPlace) → ℕ → ℕ → List Call → Type 0
-KeepsLinks nexts places cpu below [] = Unit {0}
-KeepsLinks nexts places cpu below (oldest ∷ newer) = (places oldest.id ≡ place.Batch cpu → nexts oldest.id ≡ below) × KeepsLinks nexts places cpu (oldest.id + 1) newer
-
--- the links of held records and of batches
-pub record Linked (nexts : ℕ → ℕ) (places : ℕ → RecPlace) (held : ℕ → Option Holding) (linked : ℕ → Option ℕ) (taken : ℕ → List (List Call)) : Type 0 where
+-- the links of held records
+pub record Linked (nexts : ℕ → ℕ) (held : ℕ → Option Holding) (linked : ℕ → Option ℕ) : Type 0 where
   pub held_links : (cpu : ℕ) → LinkIs nexts (held cpu) (linked cpu)
-  pub batch_links : (cpu : ℕ) → KeepsLinks nexts places cpu 0 (last_batch (taken cpu))
 
 abbrev pub bit : Bool → ℕ
 bit true = 1

@@ -1,10 +1,10 @@
-//! Where a CPU stands: its stage, and what it has loaded of a batch.
+//! Where a CPU stands: its stage, and how many calls it has found in its batch.
 
 ghost use Rattle.std.specs.Prelude.{◌≡◌};
 ghost use Rattle.smp_core.specs.Stages.{control_after, outcome_of, FitsStage};
 ghost use Rattle.smp_core.specs.Start.{control_at};
 ghost use Rattle.smp_core.specs.Value.{outside};
-ghost use Rattle.smp_core.specs.Batches.{has_record, unloaded_link, loaded, running_of};
+ghost use Rattle.smp_core.specs.Batches.{has_record, down_link, up_link, between_of, is_this, running_of};
 
 use crate::drain::Drain;
 use crate::seen::Note;
@@ -72,23 +72,33 @@ impl Control {
         outcome.note
     }
 
-    /// The link to the records of the batch that are not loaded yet; 0 where all are.
-    pub fn unloaded(&self) -> u64
-        ensures { result ≡ unloaded_link self.now.stage }
+    /// The link to the records of the batch that are not reversed yet; 0 where all are.
+    pub fn down(&self) -> u64
+        ensures { result ≡ down_link self.now.stage }
     {
         match self.stage {
-            Some(Stage::Handle(stage)) => stage.unloaded(),
+            Some(Stage::Handle(stage)) => stage.down(),
             _ => 0,
         }
     }
 
-    /// Whether a call by this record is loaded and has not begun.
-    pub fn has_loaded(&self, id: u32) -> bool
-        ensures { result ≡ has_record id (loaded self.now) }
+    /// The link to those that are, and are left in the chain.
+    pub fn up(&self) -> u64
+        ensures { result ≡ up_link self.now.stage }
     {
         match self.stage {
-            Some(Stage::Handle(stage)) => stage.begins(id) || self.drain.has(id),
-            _ => self.drain.has(id),
+            Some(Stage::Handle(stage)) => stage.up(),
+            _ => 0,
+        }
+    }
+
+    /// Whether this record is being reversed, or its call begins next.
+    pub fn is_between(&self, id: u32) -> bool
+        ensures { result ≡ is_this id (between_of self.now.stage) }
+    {
+        match self.stage {
+            Some(Stage::Handle(stage)) => stage.is_between(id),
+            _ => false,
         }
     }
 

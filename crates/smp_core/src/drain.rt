@@ -1,45 +1,35 @@
-//! What a drain has loaded of its batch.
+//! What follows each step of `handle`.
 
-ghost use Rattle.std.specs.Prelude.{◌≡◌, ◌≤◌, ◌^◌, ◌++◌};
-ghost use Rattle.smp_core.specs.Batches.{has_record as has_record_in};
-ghost use Rattle.smp_core.specs.Drains.{no_drain, handle_outcome, drain_after, handle_goes, calling, popped, first_run, run_next as next_run, with_loaded, load_or_run as load_or_next, loaded_or_run, HasRoom, FitsFound, RoomAt};
+ghost use Rattle.std.specs.Prelude.{◌≡◌, ◌≤◌, ◌^◌};
+ghost use Rattle.smp_core.specs.Drains.{no_drain, handle_outcome, drain_after, handle_goes, calling, record_at, second_on as second, first_on as first, reverse_on as reverse, by_class as of_class, unlink_after as unlinks, FitsFound, RoomAt};
 
 use crate::call::{Call, Class};
-use crate::handle::HandleStage;
+use crate::handle::{HandleStage, Walk};
 use crate::seen::Note;
-use crate::size::{MOST_CALLS, owner_of};
+use crate::size::owner_of;
 use crate::stage::{Outcome, Stage};
-use arrayvec::ArrayVec;
 use std::marker::Model;
 
-/// The calls that a drain has loaded and not begun yet, and how many it has loaded in all.
+/// How many calls a drain has found in its batch.
 #[derive(Drop)]
 pub struct Drain {
-    /// Newest first, as the batch is loaded, and so is the next list: the oldest call is the last, which runs first.
-    sync_calls: ArrayVec<Call, MOST_CALLS>,
-    async_calls: ArrayVec<Call, MOST_CALLS>,
     calls: u32,
 }
 
 impl Model for Drain {
-    ghost use Rattle.std.specs.Prelude.{reverse};
     ghost use Rattle.smp_core.specs.Drains.{DrainValue};
 
     ghost Value = { DrainValue };
 
-    ghost view = { λ d. record { sync = reverse d.sync_calls.items; async = reverse d.async_calls.items; calls = d.calls } };
+    ghost view = { λ d. record { calls = d.calls } };
 }
 
 impl Drain {
-    /// Nothing loaded.
+    /// Nothing found.
     pub fn new() -> Self
         ensures { result ≡ no_drain }
     {
-        Drain {
-            sync_calls: ArrayVec::new(),
-            async_calls: ArrayVec::new(),
-            calls: 0,
-        }
+        Drain { calls: 0 }
     }
 
     /// What follows when a step of `handle` found this number.
@@ -57,105 +47,165 @@ impl Drain {
                 HandleStage::Take
             }),
             HandleStage::LeaveIdle => Outcome::end(Note::Idle),
-            HandleStage::Take => go_on(self.load_or_run(found)),
-            HandleStage::LoadFlags { id } => go_on(HandleStage::LoadFunc {
+            HandleStage::Take => {
+                self.calls = 0;
+                go_on(reverse_on(None, record_of(found)))
+            }
+            HandleStage::ReverseLoad { newer, id } => go_on(HandleStage::ReverseStore {
+                newer,
                 id,
-                class: Class::of_flags(found),
+                older: record_of(found),
             }),
-            HandleStage::LoadFunc { id, class } => go_on(HandleStage::LoadInfo {
+            HandleStage::ReverseStore { newer: _, id, older } => {
+                self.calls += 1;
+                go_on(reverse_on(Some(id), older))
+            }
+            HandleStage::LoadNext { walk, id } => go_on(HandleStage::LoadFlags {
+                walk,
                 id,
-                class,
+                next: record_of(found),
+            }),
+            HandleStage::LoadFlags { walk, id, next } => {
+                go_on(by_class(Class::of_flags(found), walk, id, next))
+            }
+            HandleStage::LoadFunc { walk, id, next } => go_on(HandleStage::LoadInfo {
+                walk,
+                id,
+                next,
                 func: found as u16,
             }),
-            HandleStage::LoadInfo { id, class, func } => go_on(HandleStage::LoadNext {
-                call: Call {
+            HandleStage::LoadInfo { walk, id, next, func } => go_on(unlink_after(
+                walk.last,
+                walk,
+                Call {
                     id,
-                    class,
+                    class: Class::Sync,
                     func,
                     info: found,
                 },
+                next,
+            )),
+            HandleStage::Unlink { walk, last: _, call, next } => {
+                go_on(HandleStage::BeginSync { walk, call, next })
+            }
+            HandleStage::BeginSync { walk, call, next } => {
+                calls(HandleStage::CountSync { walk, call, next }, call)
+            }
+            HandleStage::CountSync { walk, call, next } => {
+                go_on(HandleStage::EndSync { walk, call, next })
+            }
+            HandleStage::EndSync { walk, call: _, next } => go_on(first_on(walk, next)),
+            HandleStage::AsyncNext { id } => go_on(HandleStage::AsyncFunc {
+                id,
+                next: record_of(found),
             }),
-            HandleStage::LoadNext { call } => {
-                self.load(call);
-                go_on(self.load_or_run(found))
+            HandleStage::AsyncFunc { id, next } => go_on(HandleStage::AsyncInfo {
+                id,
+                next,
+                func: found as u16,
+            }),
+            HandleStage::AsyncInfo { id, next, func } => go_on(HandleStage::BeginAsync {
+                call: Call {
+                    id,
+                    class: Class::Async,
+                    func,
+                    info: found,
+                },
+                next,
+            }),
+            HandleStage::BeginAsync { call, next } => {
+                calls(HandleStage::CountAsync { call, next }, call)
             }
-            HandleStage::BeginSync { call } => calls(HandleStage::CountSync { call }, call),
-            HandleStage::CountSync { call } => go_on(HandleStage::EndSync { call }),
-            HandleStage::EndSync { call: _ } => go_on(self.run_next()),
-            HandleStage::BeginAsync { call } => calls(HandleStage::CountAsync { call }, call),
-            HandleStage::CountAsync { call: _ } => go_on(self.run_next()),
+            HandleStage::CountAsync { call: _, next } => go_on(second_on(next)),
             HandleStage::Leave => Outcome::end(Note::Handled(self.calls)),
-        }
-    }
-
-    /// Whether a call by this record is loaded and has not begun.
-    pub fn has(&self, id: u32) -> bool
-        ensures { result ≡ has_record_in id (self.now.sync ++ self.now.async) }
-    {
-        has_record(&self.sync_calls, id) || has_record(&self.async_calls, id)
-    }
-
-    /// How many calls it has loaded, once all are.
-    pub fn calls(&self) -> u32
-        ensures { result ≡ self.now.calls }
-    {
-        self.calls
-    }
-
-    /// One call more, older than all so far.
-    pub fn load(&mut self, call: Call)
-        requires { HasRoom self.old }
-        ensures { self.new ≡ with_loaded call self.old }
-    {
-        match call.class {
-            Class::Sync => self.sync_calls.push(call),
-            Class::Async => self.async_calls.push(call),
-        }
-    }
-
-    /// The next record to load; where there is none, the first call to run.
-    fn load_or_run(&mut self, link: u64) -> HandleStage
-        requires { link ≤ 2 ^ 32 }
-        ensures stage { result ≡ load_or_next self.old link }
-        ensures drain { self.new ≡ loaded_or_run self.old link }
-    {
-        if link == 0 {
-            self.begin()
-        } else {
-            HandleStage::LoadFlags {
-                id: (link - 1) as u32,
-            }
-        }
-    }
-
-    /// All is loaded: takes out the call that runs first.
-    pub fn begin(&mut self) -> HandleStage
-        ensures stage { result ≡ next_run self.old.sync self.old.async }
-        ensures drain { self.new ≡ first_run self.old }
-    {
-        self.calls = (self.sync_calls.len() + self.async_calls.len()) as u32;
-        self.run_next()
-    }
-
-    /// Takes out the call that runs next: the oldest SYNC call, else the oldest ASYNC call.
-    pub fn run_next(&mut self) -> HandleStage
-        ensures stage { result ≡ next_run self.old.sync self.old.async }
-        ensures drain { self.new ≡ popped self.old }
-    {
-        if let Some(call) = self.sync_calls.pop() {
-            HandleStage::BeginSync { call }
-        } else if let Some(call) = self.async_calls.pop() {
-            HandleStage::BeginAsync { call }
-        } else {
-            HandleStage::Leave
         }
     }
 }
 
-fn has_record(calls: &[Call], id: u32) -> bool
-    ensures { result ≡ has_record_in id calls.now }
+/// The record to which a link leads; none where it is 0.
+pub fn record_of(link: u64) -> Option<u32>
+    requires { link ≤ 2 ^ 32 }
+    ensures { result ≡ record_at link }
 {
-    calls.iter().any(|call| call.id == id)
+    if link == 0 {
+        None
+    } else {
+        Some((link - 1) as u32)
+    }
+}
+
+/// The second pass goes on with this record, or all has run.
+pub fn second_on(next: Option<u32>) -> HandleStage
+    ensures { result ≡ second next }
+{
+    match next {
+        None => HandleStage::Leave,
+        Some(id) => HandleStage::AsyncNext { id },
+    }
+}
+
+/// The first pass goes on with this record, or the second begins.
+pub fn first_on(walk: Walk, next: Option<u32>) -> HandleStage
+    ensures { result ≡ first walk next }
+{
+    match next {
+        None => second_on(walk.first),
+        Some(id) => HandleStage::LoadNext { walk, id },
+    }
+}
+
+/// The reversal goes on with the record before this one, or the first pass begins here.
+pub fn reverse_on(here: Option<u32>, older: Option<u32>) -> HandleStage
+    ensures { result ≡ reverse here older }
+{
+    match older {
+        None => first_on(
+            Walk {
+                first: here,
+                last: None,
+            },
+            here,
+        ),
+        Some(id) => HandleStage::ReverseLoad { newer: here, id },
+    }
+}
+
+/// An ASYNC record stays in the chain.
+fn by_class(class: Class, walk: Walk, id: u32, next: Option<u32>) -> HandleStage
+    ensures { result ≡ of_class class walk id next }
+{
+    match class {
+        Class::Sync => HandleStage::LoadFunc { walk, id, next },
+        Class::Async => first_on(
+            Walk {
+                first: walk.first,
+                last: Some(id),
+            },
+            next,
+        ),
+    }
+}
+
+/// A SYNC record leaves the chain: at the last ASYNC record before it, or at the front.
+fn unlink_after(last: Option<u32>, walk: Walk, call: Call, next: Option<u32>) -> HandleStage
+    ensures { result ≡ unlinks last walk call next }
+{
+    match last {
+        None => HandleStage::BeginSync {
+            walk: Walk {
+                first: next,
+                last: None,
+            },
+            call,
+            next,
+        },
+        Some(last) => HandleStage::Unlink {
+            walk,
+            last,
+            call,
+            next,
+        },
+    }
 }
 
 fn go_on(stage: HandleStage) -> Outcome

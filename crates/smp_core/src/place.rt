@@ -64,7 +64,12 @@ fn is_in_batch(words: &[u64], controls: &[Control], cpu: u32, id: u32) -> bool
     ensures { (calls : CallState) → ValuesShow calls words.now controls.now → result ≡ true ↔ calls.place id ≡ RecPlace.Batch cpu }
 {
     let control = &controls[cpu as usize];
-    control.has_loaded(id) || chain(words, control.unloaded()).contains(&id)
+    if control.is_between(id) {
+        return true;
+    }
+    let down = chain(words, control.down()).contains(&id);
+    let up = chain(words, control.up()).contains(&id);
+    down || up
 }
 
 fn is_running(words: &[u64], controls: &[Control], cpu: u32, id: u32) -> bool

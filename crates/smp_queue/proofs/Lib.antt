@@ -1,3 +1,4 @@
+pub mod Ahead
 pub mod Appends
 pub mod Auditing
 pub mod Below
@@ -7,7 +8,7 @@ pub mod Entering
 pub mod Handles
 pub mod Keeps
 pub mod Kept
-pub mod Loads
+pub mod Going
 pub mod Own
 pub mod Ready
 pub mod Running

@@ -1,14 +1,13 @@
 -- A CPU that runs its batch: what it knows after each call.
-use Rattle.std.proofs.Common.{◌≡◌, ℕ, ◌+◌, ◌%◌, ◌^◌, ◌<◌, List, [], ◌∷◌, ◌++◌, length, length-set, get_or, set, append-nil, append_assoc, sym, refl, ap, ◌∙◌, subst, inl, inr, arith}
+use Rattle.std.proofs.Common.{◌≡◌, ℕ, ◌+◌, ◌%◌, ◌^◌, ◌<◌, Option, List, [], ◌∷◌, ◌++◌, length, length-set, get_or, set, append-nil, append_assoc, sym, refl, ap, ◌∙◌, subst, inl, inr, arith}
 use Rattle.std.proofs.lemmas.List.{get_or-set_same, get_or-set_other}
 use Rattle.std.proofs.lemmas.Bool.{cases_eq}
 use Rattle.std.proofs.lemmas.Fn.{FoldsTo-push}
 use Rattle.atomic_table.specs.Seated.{TableId}
 use Rattle.smp_core.specs.Size.{records, owner}
-use Rattle.smp_core.specs.Drains.{DrainValue, run_next, rest_of, async_rest, popped}
 use Rattle.smp_core.specs.Histories.{calls_from, counted_call}
 use Rattle.smp_core.specs.Known.{ran_tally}
-use Rattle.smp_core.specs.Handling.{begun_async, ended_call, IsRunStage}
+use Rattle.smp_core.specs.Handling.{begun_async, ended_call, rest_of}
 use Rattle.smp_core.proofs.Sizes.{owner-below}
 use Rattle.smp_core.proofs.Tallies.{count-same, count-other}
 use Rattle.smp_core.specs.declared.call.Call.{Call}
@@ -16,7 +15,7 @@ use Rattle.smp_core.specs.declared.known.Known.{Known}
 use Rattle.smp_core.specs.declared.handle.HandleStage.{HandleStage}
 use Rattle.smp_queue.specs.Cpu.{cpu_of}
 use Rattle.smp_queue.specs.Desk.{Desk, InHandle}
-use Rattle.smp_queue.specs.Handling.{heard_of, SameCalls, AreRan, runs, HasRun, HasRunAll}
+use Rattle.smp_queue.specs.Handling.{heard_of, AreRan, runs, HasRun, HasRunAll}
 use Rattle.smp_queue.specs.declared.handler.Heard.{Heard}
 
 -- a call that runs is not counted yet
@@ -42,10 +41,10 @@ more_ran counts counts' v w call a in_range ran is = rw is (record {
 })
 
 -- a call has begun and ended
-module _ {H : Type 0} (leads : H → Heard → H → Type 0) (t : TableId) (s s' : Desk) (call : Call) (rest : List Call) (counts counts' : List ℕ) (before after : H) where
-  pub has_run : s.table ≡ t → AreRan counts s.known → call.id < records → s.known.batch ≡ call ∷ rest → s'.known ≡ ended_call call (begun_async call s.known) →
-      InHandle t s' (run_next s.known.drain.sync s.known.drain.async) → counts' ≡ set counts (owner call.id) ((get_or counts (owner call.id) 0 + 1) % 2 ^ 64) → leads before (heard_of call) after →
-      HasRun leads t s s' call counts' before after
+module _ {H : Type 0} (leads : H → Heard → H → Type 0) (t : TableId) (s s' : Desk) (stage : HandleStage) (call : Call) (next : Option ℕ) (rest : List Call) (counts counts' : List ℕ) (before after : H) where
+  pub has_run : s.table ≡ t → AreRan counts s.known → call.id < records → s.known.batch ≡ call ∷ rest → s'.known ≡ ended_call stage call (begun_async call next s.known) →
+      InHandle t s' stage → counts' ≡ set counts (owner call.id) ((get_or counts (owner call.id) 0 + 1) % 2 ^ 64) → leads before (heard_of call) after →
+      HasRun leads t s s' stage call counts' before after
   has_run table a in_range batch known at is heard = record {
     at = at;
     drain = ap (λ (u : Known). u.drain) known;
@@ -55,34 +54,13 @@ module _ {H : Type 0} (leads : H → Heard → H → Type 0) (t : TableId) (s s'
     heard_it = heard;
   }
 
-pub next_is_run : (sync async : List Call) → IsRunStage (run_next sync async)
-next_is_run (call ∷ rest) async = tt
-next_is_run [] (call ∷ rest) = tt
-next_is_run [] [] = tt
-
--- a CPU that runs its batch, between two calls
-pub record RunsOn {H : Type 0} (leads : H → Heard → H → Type 0) (t : TableId) (before d : Desk) (drain : DrainValue) (stage : HandleStage) (counts : List ℕ) (first now : H) : Type 0 where
-  pub at : InHandle t d stage
-  pub is_run : IsRunStage stage
-  pub loaded : SameCalls drain d.known.drain
-  pub ran : HasRunAll leads before d counts first now
-
-module _ {H : Type 0} (leads : H → Heard → H → Type 0) (t : TableId) (before d d' : Desk) (drain drain' : DrainValue) (stage stage' : HandleStage) (counts counts' : List ℕ) (first now now' : H) (call : Call)
-    (r : RunsOn leads t before d drain stage counts first now) (h : HasRun leads t d d' call counts' now now') where
-  pub runs_on : stage' ≡ run_next drain.sync drain.async → drain' ≡ popped drain → RunsOn leads t before d' drain' stage' counts' first now'
-  runs_on e f =
-      let same : stage' ≡ run_next d.known.drain.sync d.known.drain.async = e ∙ (λ i. run_next (r.loaded.0 i) (r.loaded.1 i)) in
-      record {
-        at = subst (λ (x : HandleStage). InHandle t d' x) (sym same) h.at;
-        is_run = subst IsRunStage (sym e) (next_is_run drain.sync drain.async);
-        loaded = (
-          ap (λ (x : DrainValue). x.sync) f ∙ (ap rest_of r.loaded.0 ∙ sym (ap (λ (x : DrainValue). x.sync) h.drain)),
-          ap (λ (x : DrainValue). x.async) f ∙ ((λ i. async_rest (r.loaded.0 i) (r.loaded.1 i)) ∙ sym (ap (λ (x : DrainValue). x.async) h.drain)),
-        );
-        ran = record {
-          calls = r.ran.calls ++ call ∷ [];
-          cpu = h.cpu ∙ (ap (runs (call ∷ [])) r.ran.cpu ∙ (λ i. record (cpu_of before) { ran = append_assoc before.known.ran r.ran.calls (call ∷ []) i }));
-          counts_are = h.counts_are;
-          grows = FoldsTo-push (λ p x q. leads p (heard_of x) q) first r.ran.calls now call now' r.ran.grows h.heard_it;
-        };
-      }
+-- one call more after some
+pub more_run : {H : Type 0} (leads : H → Heard → H → Type 0) (t : TableId) (before d d' : Desk) (stage : HandleStage) (counts counts' : List ℕ) (first now now' : H) (call : Call) →
+    HasRunAll leads before d counts first now → HasRun leads t d d' stage call counts' now now' → HasRunAll leads before d' counts' first now'
+more_run {H} leads t before d d' stage counts counts' first now now' call r h = record {
+  calls = r.calls ++ call ∷ [];
+  drain = h.drain ∙ r.drain;
+  cpu = h.cpu ∙ (ap (runs (call ∷ [])) r.cpu ∙ (λ i. record (cpu_of before) { ran = append_assoc before.known.ran r.calls (call ∷ []) i }));
+  counts_are = h.counts_are;
+  grows = FoldsTo-push (λ p x q. leads p (heard_of x) q) first r.calls now call now' r.grows h.heard_it;
+}

@@ -39,11 +39,11 @@ pub record Can (v : Known) (access : Access) : Type 0 where
 
 -- a stage at which no call begins, is counted or ends
 abbrev pub IsApartFromCalls : Stage → Type 0
-IsApartFromCalls (Handle (handle.BeginSync call)) = ⊥
-IsApartFromCalls (Handle (handle.CountSync call)) = ⊥
-IsApartFromCalls (Handle (handle.EndSync call)) = ⊥
-IsApartFromCalls (Handle (handle.BeginAsync call)) = ⊥
-IsApartFromCalls (Handle (handle.CountAsync call)) = ⊥
+IsApartFromCalls (Handle (handle.BeginSync walk call next)) = ⊥
+IsApartFromCalls (Handle (handle.CountSync walk call next)) = ⊥
+IsApartFromCalls (Handle (handle.EndSync walk call next)) = ⊥
+IsApartFromCalls (Handle (handle.BeginAsync call next)) = ⊥
+IsApartFromCalls (Handle (handle.CountAsync call next)) = ⊥
 IsApartFromCalls _ = Unit {0}
 
 -- a CPU may make this access at this table, which begins, counts and ends no call

@@ -5,7 +5,7 @@ use Rattle.atomic_table.specs.Seated.{TableId}
 use Rattle.smp_core.specs.Size.{cpus, owner}
 use Rattle.smp_core.specs.Order.{order}
 use Rattle.smp_core.specs.Histories.{calls_from}
-use Rattle.smp_core.specs.Drains.{DrainValue, loaded_or_run, run_next, popped}
+use Rattle.smp_core.specs.declared.handle.HandleStage.{HandleStage}
 use Rattle.smp_core.specs.declared.call.Call.{Call}
 use Rattle.smp_core.specs.declared.known.Known.{Known}
 use Rattle.smp_queue.specs.Cpu.{CpuValue, cpu_of}
@@ -31,14 +31,6 @@ asks pending c = record c { asked = c.asked ++ pending ∷ [] }
 abbrev pub drains : List Call → CpuValue → CpuValue
 drains batch c = record c { taken = c.taken ++ batch ∷ []; ran = c.ran ++ order batch }
 
--- the calls that two drains have loaded and not begun are the same
-abbrev pub SameCalls : DrainValue → DrainValue → Type 0
-SameCalls d e = (d.sync ≡ e.sync) × (d.async ≡ e.async)
-
--- a CPU's drain, that has loaded what d has, and found this link
-abbrev pub HasLoaded : DrainValue → ℕ → DrainValue → Type 0
-HasLoaded d link e = SameCalls (loaded_or_run d link) e
-
 -- these are the numbers of the calls that a CPU has run, by their source
 pub record AreRan (counts : List ℕ) (v : Known) : Type 0 where
   pub sized : length counts ≡ cpus
@@ -49,9 +41,9 @@ abbrev pub runs : List Call → CpuValue → CpuValue
 runs calls c = record c { ran = c.ran ++ calls }
 
 -- a CPU inside handle has run this call, and its handler has heard it
-pub record HasRun {H : Type 0} (leads : H → Heard → H → Type 0) (table : TableId) (old new : Desk) (call : Call) (counts : List ℕ) (before after : H) : Type 0 where
-  pub at : InHandle table new (run_next old.known.drain.sync old.known.drain.async)
-  pub drain : new.known.drain ≡ popped old.known.drain
+pub record HasRun {H : Type 0} (leads : H → Heard → H → Type 0) (table : TableId) (old new : Desk) (stage : HandleStage) (call : Call) (counts : List ℕ) (before after : H) : Type 0 where
+  pub at : InHandle table new stage
+  pub drain : new.known.drain ≡ old.known.drain
   pub batch : old.known.batch ≡ call ∷ new.known.batch
   pub cpu : cpu_of new ≡ runs (call ∷ []) (cpu_of old)
   pub counts_are : AreRan counts new.known
@@ -60,6 +52,7 @@ pub record HasRun {H : Type 0} (leads : H → Heard → H → Type 0) (table : T
 -- a CPU inside handle has run some calls, and its handler has heard them
 pub record HasRunAll {H : Type 0} (leads : H → Heard → H → Type 0) (old new : Desk) (counts : List ℕ) (before after : H) : Type 0 where
   pub calls : List Call
+  pub drain : new.known.drain ≡ old.known.drain
   pub cpu : cpu_of new ≡ runs calls (cpu_of old)
   pub counts_are : AreRan counts new.known
   pub grows : Grows leads before calls after

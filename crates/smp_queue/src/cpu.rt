@@ -5,7 +5,6 @@ ghost use Rattle.smp_core.specs.Size.{cpus, records};
 ghost use Rattle.smp_core.specs.Known.{fresh};
 ghost use Rattle.smp_queue.specs.Cpu.{cpu_of};
 
-use crate::buffer::Buffer;
 use crate::chair::Chair;
 use smp_core::size::NR_CPUS;
 use std::marker::Model;
@@ -21,7 +20,6 @@ pub struct CallCpu {
     pub(crate) queued: [u64; NR_CPUS as usize],
     /// How many calls from each CPU it has run, modulo 2^64.
     pub(crate) ran: [u64; NR_CPUS as usize],
-    pub(crate) buffer: Buffer,
 }
 
 impl Model for CallCpu {
@@ -45,7 +43,6 @@ impl CallCpu {
             number,
             queued: [0; NR_CPUS as usize],
             ran: [0; NR_CPUS as usize],
-            buffer: Buffer::new(),
         }
     }
 

@@ -7,7 +7,7 @@
 ghost use Rattle.std.specs.Prelude.{◌≡◌, ◌<◌, true, false, None, List, if◌then◌else◌, length};
 ghost use Rattle.smp_core.specs.Size.{cpus};
 ghost use Rattle.smp_core.specs.Order.{order};
-ghost use Rattle.smp_core.specs.Drains.{load_or_run};
+ghost use Rattle.smp_core.specs.Drains.{reverse_on};
 ghost use Rattle.smp_core.specs.Known.{outside_known, Lives};
 ghost use Rattle.smp_core.specs.Handling.{handling, accepted_known, taken_known, IsLeaving};
 ghost use Rattle.smp_core.specs.declared.call.Call.{Call};
@@ -17,13 +17,13 @@ ghost use Rattle.smp_queue.specs.Desk.{InHandle, IsOutside};
 ghost use Rattle.smp_queue.specs.Cpu.{cpu_of};
 ghost use Rattle.smp_queue.specs.Handling.{AreRan, Grows, asks, drains};
 
-use crate::buffer::Buffer;
 use crate::chair::{Chair, store, swap};
 use crate::handler::Handler;
-use crate::load::load_batch;
+use crate::reverse::reverse;
 use crate::rule::Words;
-use crate::run::run_batch;
+use crate::run::{run_async_calls, run_sync_calls};
 use smp_core::Word;
+use smp_core::drain::record_of;
 
 /// What `handle` has done.
 #[derive(Clone, Copy, Debug, PartialEq, Eq)]
@@ -44,14 +44,15 @@ fn enter(words: &Words, chair: &mut Chair, number: u32) -> bool
     swap(words, chair, Word::Intr(number), 0) != 0
 }
 
-/// Takes the whole queue: the link to its newest call, 0 where it is empty.
-fn take(words: &Words, chair: &mut Chair, number: u32) -> u64
+/// Takes the whole queue: the record of its newest call, none where it is empty.
+fn take(words: &Words, chair: &mut Chair, number: u32) -> Option<u32>
     requires me { chair.old.known.number ≡ number }
     requires at { InHandle words.now.table_id chair.old handle.Take }
-    ensures at { InHandle words.now.table_id chair.new (load_or_run chair.old.known.drain result) }
+    ensures at { InHandle words.now.table_id chair.new (reverse_on None result) }
     ensures known { (queue : List Call) × (chair.new.known ≡ taken_known queue result chair.old.known) }
 {
-    swap(words, chair, Word::Head(number), 0)
+    let link = swap(words, chair, Word::Head(number), 0);
+    record_of(link)
 }
 
 /// Has handled.
@@ -71,7 +72,6 @@ pub(crate) fn handle<H: Handler>(
     chair: &mut Chair,
     number: u32,
     counts: &mut [u64],
-    buffer: &mut Buffer,
     handler: &mut H,
 ) -> Handled
     requires outside { IsOutside words.now.table_id chair.old number }
@@ -90,10 +90,9 @@ pub(crate) fn handle<H: Handler>(
         };
     }
     let newest = take(words, chair, number);
-    let drain = &mut buffer.drain;
-    let first = load_batch(words, chair, drain, newest);
-    let ran = drain.calls();
-    run_batch(words, chair, number, counts, drain, first, handler);
+    let (oldest, ran) = reverse(words, chair, newest);
+    let left = run_sync_calls(words, chair, number, counts, oldest, handler);
+    run_async_calls(words, chair, number, counts, left, handler);
     leave(words, chair, number);
     Handled {
         ran,

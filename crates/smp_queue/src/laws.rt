@@ -4,7 +4,7 @@
 
 ghost use Rattle.std.specs.Prelude.{◌≡◌, ◌+◌, ◌%◌, ◌^◌, Some, None};
 ghost use Rattle.smp_core.specs.Size.{owner};
-ghost use Rattle.smp_core.specs.Drains.{run_next};
+ghost use Rattle.smp_core.specs.Drains.{first_on, second_on};
 ghost use Rattle.smp_core.specs.Known.{Lives, known_told, ran_tally};
 ghost use Rattle.smp_core.specs.Handling.{begun_sync, counted_sync, begun_async, ended_call};
 ghost use Rattle.smp_core.specs.declared.seen.Act.TheVariants as act;
@@ -19,6 +19,7 @@ use crate::handler::Handler;
 use crate::rule::Words;
 use crate::seated::Seated;
 use atomic_table::Play;
+use smp_core::handle::Walk;
 use smp_core::size::owner_of;
 use smp_core::{Call, Word};
 use std::snapshot::Snapshot;
@@ -50,13 +51,15 @@ pub fn begin_sync<H: Handler>(
     words: &Words,
     chair: &mut Chair,
     number: u32,
+    walk: Walk,
     call: Call,
+    next: Option<u32>,
     handler: &H,
 ) -> Begun<H>
     requires me { chair.old.known.number ≡ number }
-    requires at { InHandle words.now.table_id chair.old (handle.BeginSync call) }
-    ensures at { InHandle words.now.table_id chair.new (handle.CountSync call) }
-    ensures known { chair.new.known ≡ begun_sync call chair.old.known }
+    requires at { InHandle words.now.table_id chair.old (handle.BeginSync walk call next) }
+    ensures at { InHandle words.now.table_id chair.new (handle.CountSync walk call next) }
+    ensures known { chair.new.known ≡ begun_sync walk call next chair.old.known }
     ensures before { result.before.value ≡ handler.now }
 {
     tell(words, chair, Word::Hand(number), call.id as u64 + 2);
@@ -70,17 +73,19 @@ pub fn count_sync<H: Handler>(
     words: &Words,
     chair: &mut Chair,
     number: u32,
+    walk: Walk,
     call: Call,
+    next: Option<u32>,
     count: u64,
     handler: &H,
     begun: &Begun<H>,
 )
     requires me { chair.old.known.number ≡ number }
-    requires at { InHandle words.now.table_id chair.old (handle.CountSync call) }
+    requires at { InHandle words.now.table_id chair.old (handle.CountSync walk call next) }
     requires count { count ≡ (ran_tally chair.old.known (owner call.id) + 1) % 2 ^ 64 }
     requires heard { H.leads begun.now.before.value (heard_of call) handler.now }
-    ensures at { InHandle words.now.table_id chair.new (handle.EndSync call) }
-    ensures known { chair.new.known ≡ counted_sync call chair.old.known }
+    ensures at { InHandle words.now.table_id chair.new (handle.EndSync walk call next) }
+    ensures known { chair.new.known ≡ counted_sync walk call next chair.old.known }
 {
     let _ = handler;
     let _ = begun;
@@ -91,14 +96,16 @@ pub fn count_sync<H: Handler>(
 pub fn end_sync<H: Handler>(
     words: &Words,
     chair: &mut Chair,
+    walk: Walk,
     call: Call,
+    next: Option<u32>,
     handler: &H,
     begun: Begun<H>,
 )
-    requires at { InHandle words.now.table_id chair.old (handle.EndSync call) }
+    requires at { InHandle words.now.table_id chair.old (handle.EndSync walk call next) }
     requires heard { H.leads begun.before.value (heard_of call) handler.now }
-    ensures at { InHandle words.now.table_id chair.new (run_next chair.old.known.drain.sync chair.old.known.drain.async) }
-    ensures known { chair.new.known ≡ ended_call call chair.old.known }
+    ensures at { InHandle words.now.table_id chair.new (first_on walk next) }
+    ensures known { chair.new.known ≡ ended_call (first_on walk next) call chair.old.known }
 {
     let _ = handler;
     tell(words, chair, Word::Flags(call.id), 0);
@@ -109,11 +116,12 @@ pub fn begin_async<H: Handler>(
     words: &Words,
     chair: &mut Chair,
     call: Call,
+    next: Option<u32>,
     handler: &H,
 ) -> Begun<H>
-    requires at { InHandle words.now.table_id chair.old (handle.BeginAsync call) }
-    ensures at { InHandle words.now.table_id chair.new (handle.CountAsync call) }
-    ensures known { chair.new.known ≡ begun_async call chair.old.known }
+    requires at { InHandle words.now.table_id chair.old (handle.BeginAsync call next) }
+    ensures at { InHandle words.now.table_id chair.new (handle.CountAsync call next) }
+    ensures known { chair.new.known ≡ begun_async call next chair.old.known }
     ensures before { result.before.value ≡ handler.now }
 {
     tell(words, chair, Word::Flags(call.id), 0);
@@ -128,16 +136,17 @@ pub fn count_async<H: Handler>(
     chair: &mut Chair,
     number: u32,
     call: Call,
+    next: Option<u32>,
     count: u64,
     handler: &H,
     begun: Begun<H>,
 )
     requires me { chair.old.known.number ≡ number }
-    requires at { InHandle words.now.table_id chair.old (handle.CountAsync call) }
+    requires at { InHandle words.now.table_id chair.old (handle.CountAsync call next) }
     requires count { count ≡ (ran_tally chair.old.known (owner call.id) + 1) % 2 ^ 64 }
     requires heard { H.leads begun.before.value (heard_of call) handler.now }
-    ensures at { InHandle words.now.table_id chair.new (run_next chair.old.known.drain.sync chair.old.known.drain.async) }
-    ensures known { chair.new.known ≡ ended_call call chair.old.known }
+    ensures at { InHandle words.now.table_id chair.new (second_on next) }
+    ensures known { chair.new.known ≡ ended_call (second_on next) call chair.old.known }
 {
     let _ = handler;
     tell(words, chair, Word::Ran(number, owner_of(call.id)), count);

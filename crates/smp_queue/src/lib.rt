@@ -13,7 +13,6 @@
 
 mod audit;
 mod boot;
-mod buffer;
 mod cell;
 mod chair;
 mod closing;
@@ -21,8 +20,8 @@ mod cpu;
 mod handle;
 mod handler;
 pub mod laws;
-mod load;
 mod post;
+mod reverse;
 mod rule;
 mod run;
 mod seated;

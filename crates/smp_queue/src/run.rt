@@ -1,19 +1,21 @@
-//! How a CPU runs its batch: SYNC calls first, each function followed by the unlock of its record, then ASYNC
-//! calls, each unlocked first (`kernel/smp.c: __flush_smp_call_function_queue`).
+//! How a CPU runs its batch, along its chain: SYNC calls first, each function followed by the unlock of its record,
+//! then ASYNC calls, each unlocked first (`kernel/smp.c: __flush_smp_call_function_queue`).
 
-ghost use Rattle.std.specs.Prelude.{◌≡◌, ◌+◌, ◌%◌, ◌^◌, ◌<◌, true, false, [], ◌∷◌, length, slice_index_or, slice_set};
-ghost use Rattle.smp_core.specs.Handling.{IsRunStage};
+ghost use Rattle.std.specs.Prelude.{◌≡◌, ◌+◌, ◌%◌, ◌^◌, ◌<◌, Some, None, length, slice_index_or, slice_set};
+ghost use Rattle.smp_core.specs.Drains.{first_on, second_on};
 ghost use Rattle.smp_core.specs.declared.handle.HandleStage.TheVariants as handle;
 ghost use Rattle.smp_queue.specs.Desk.{InHandle};
-ghost use Rattle.smp_queue.specs.Handling.{AreRan, HasRun, HasRunAll, SameCalls};
+ghost use Rattle.smp_queue.specs.Handling.{AreRan, HasRun, HasRunAll};
 
-use crate::chair::Chair;
+use crate::chair::{Chair, load, store};
 use crate::handler::Handler;
 use crate::laws;
 use crate::rule::Words;
 use smp_core::Call;
-use smp_core::drain::Drain;
-use smp_core::handle::HandleStage;
+use smp_core::Word;
+use smp_core::call::Class;
+use smp_core::drain::record_of;
+use smp_core::handle::{Walk, link_of};
 use smp_core::size::owner_of;
 
 /// One call more from this source: how many there are.
@@ -27,25 +29,27 @@ fn count(counts: &mut [u64], source: u32) -> u64
     count
 }
 
-/// Runs a SYNC call.
+/// Runs a SYNC call whose record is out of the chain.
 fn run_sync<H: Handler>(
     words: &Words,
     chair: &mut Chair,
     number: u32,
     counts: &mut [u64],
+    walk: Walk,
     call: Call,
+    next: Option<u32>,
     handler: &mut H,
 )
     requires me { chair.old.known.number ≡ number }
-    requires at { InHandle words.now.table_id chair.old (handle.BeginSync call) }
+    requires at { InHandle words.now.table_id chair.old (handle.BeginSync walk call next) }
     requires counts { AreRan counts.old chair.old.known }
-    ensures { HasRun H.leads words.now.table_id chair.old chair.new call counts.new handler.old handler.new }
+    ensures { HasRun H.leads words.now.table_id chair.old chair.new (first_on walk next) call counts.new handler.old handler.new }
 {
-    let begun = laws::begin_sync(words, chair, number, call, handler);
+    let begun = laws::begin_sync(words, chair, number, walk, call, next, handler);
     handler.call(owner_of(call.id), call.func, call.info);
     let count = count(counts, owner_of(call.id));
-    laws::count_sync(words, chair, number, call, count, handler, &begun);
-    laws::end_sync(words, chair, call, handler, begun);
+    laws::count_sync(words, chair, number, walk, call, next, count, handler, &begun);
+    laws::end_sync(words, chair, walk, call, next, handler, begun);
 }
 
 /// Runs an ASYNC call.
@@ -55,64 +59,122 @@ fn run_async<H: Handler>(
     number: u32,
     counts: &mut [u64],
     call: Call,
+    next: Option<u32>,
     handler: &mut H,
 )
     requires me { chair.old.known.number ≡ number }
-    requires at { InHandle words.now.table_id chair.old (handle.BeginAsync call) }
+    requires at { InHandle words.now.table_id chair.old (handle.BeginAsync call next) }
     requires counts { AreRan counts.old chair.old.known }
-    ensures { HasRun H.leads words.now.table_id chair.old chair.new call counts.new handler.old handler.new }
+    ensures { HasRun H.leads words.now.table_id chair.old chair.new (second_on next) call counts.new handler.old handler.new }
 {
-    let begun = laws::begin_async(words, chair, call, handler);
+    let begun = laws::begin_async(words, chair, call, next, handler);
     handler.call(owner_of(call.id), call.func, call.info);
     let count = count(counts, owner_of(call.id));
-    laws::count_async(words, chair, number, call, count, handler, begun);
+    laws::count_async(words, chair, number, call, next, count, handler, begun);
 }
 
-/// Runs the call that begins at this stage; false where there is none.
-fn run_call<H: Handler>(
+/// Loads a SYNC call, and takes its record out of the chain.
+fn unlink(
     words: &Words,
     chair: &mut Chair,
-    number: u32,
-    counts: &mut [u64],
-    stage: HandleStage,
-    handler: &mut H,
-) -> bool
-    requires me { chair.old.known.number ≡ number }
-    requires at { InHandle words.now.table_id chair.old stage }
-    requires stage { IsRunStage stage }
-    requires counts { AreRan counts.old chair.old.known }
-    ensures ran { result ≡ true → (call : Call) × HasRun H.leads words.now.table_id chair.old chair.new call counts.new handler.old handler.new }
-    ensures over { result ≡ false → (stage ≡ handle.Leave) × (chair.new ≡ chair.old) × (counts.new ≡ counts.old) × (handler.new ≡ handler.old) }
+    walk: Walk,
+    id: u32,
+    next: Option<u32>,
+) -> (Walk, Call)
+    requires at { InHandle words.now.table_id chair.old (handle.LoadFunc walk id next) }
+    ensures at { InHandle words.now.table_id chair.new (handle.BeginSync result.0 result.1 next) }
+    ensures known { chair.new.known ≡ record (chair.old.known) { stage = chair.new.known.stage } }
 {
-    match stage {
-        HandleStage::BeginSync { call } => run_sync(words, chair, number, counts, call, handler),
-        HandleStage::BeginAsync { call } => run_async(words, chair, number, counts, call, handler),
-        _ => return false,
+    let func = load(words, chair, Word::Func(id));
+    let info = load(words, chair, Word::Info(id));
+    let call = Call {
+        id,
+        class: Class::Sync,
+        func: func as u16,
+        info,
+    };
+    match walk.last {
+        None => (
+            Walk {
+                first: next,
+                last: None,
+            },
+            call,
+        ),
+        Some(last) => {
+            store(words, chair, Word::Next(last), link_of(next));
+            (walk, call)
+        }
     }
-    true
 }
 
-/// Runs the batch that is loaded, from this stage on.
-pub(crate) fn run_batch<H: Handler>(
+/// Runs the SYNC calls from this record on: the first ASYNC record that is left.
+pub(crate) fn run_sync_calls<H: Handler>(
     words: &Words,
     chair: &mut Chair,
     number: u32,
     counts: &mut [u64],
-    drain: &mut Drain,
-    first: HandleStage,
+    first: Option<u32>,
+    handler: &mut H,
+) -> Option<u32>
+    requires me { chair.old.known.number ≡ number }
+    requires at { InHandle words.now.table_id chair.old (first_on (record { first = first; last = None }) first) }
+    requires counts { AreRan counts.old chair.old.known }
+    ensures at { InHandle words.now.table_id chair.new (second_on result) }
+    ensures ran { HasRunAll H.leads chair.old chair.new counts.new handler.old handler.new }
+{
+    let mut walk = Walk { first, last: None };
+    let mut here = first;
+    while let Some(id) = here {
+        let link = load(words, chair, Word::Next(id));
+        let next = record_of(link);
+        let flags = load(words, chair, Word::Flags(id));
+        match Class::of_flags(flags) {
+            Class::Sync => {
+                let (left, call) = unlink(words, chair, walk, id, next);
+                run_sync(words, chair, number, counts, left, call, next, handler);
+                walk = left;
+            }
+            Class::Async => {
+                walk = Walk {
+                    first: walk.first,
+                    last: Some(id),
+                };
+            }
+        }
+        here = next;
+    }
+    walk.first
+}
+
+/// Runs the ASYNC calls from this record on.
+pub(crate) fn run_async_calls<H: Handler>(
+    words: &Words,
+    chair: &mut Chair,
+    number: u32,
+    counts: &mut [u64],
+    first: Option<u32>,
     handler: &mut H,
 )
     requires me { chair.old.known.number ≡ number }
-    requires at { InHandle words.now.table_id chair.old first }
-    requires stage { IsRunStage first }
-    requires loaded { SameCalls drain.old chair.old.known.drain }
+    requires at { InHandle words.now.table_id chair.old (second_on first) }
     requires counts { AreRan counts.old chair.old.known }
     ensures at { InHandle words.now.table_id chair.new handle.Leave }
     ensures ran { HasRunAll H.leads chair.old chair.new counts.new handler.old handler.new }
-    ensures over { (drain.new.sync ≡ []) × (drain.new.async ≡ []) }
 {
-    let mut stage = first;
-    while run_call(words, chair, number, counts, stage, handler) {
-        stage = drain.run_next();
+    let mut here = first;
+    while let Some(id) = here {
+        let link = load(words, chair, Word::Next(id));
+        let next = record_of(link);
+        let func = load(words, chair, Word::Func(id));
+        let info = load(words, chair, Word::Info(id));
+        let call = Call {
+            id,
+            class: Class::Async,
+            func: func as u16,
+            info,
+        };
+        run_async(words, chair, number, counts, call, next, handler);
+        here = next;
     }
 }

@@ -291,7 +291,6 @@ impl<A: Allocator> CallTable<A> {
             &mut me.chair,
             me.number,
             &mut me.ran,
-            &mut me.buffer,
             handler,
         )
     }

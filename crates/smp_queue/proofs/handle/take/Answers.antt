@@ -2,8 +2,12 @@ use Rattle.std.proofs.Common.{ℕ, ap}
 use Rattle.smp_core.specs.declared.access.Access.TheVariants.{Swap}
 use Rattle.smp_core.specs.declared.word.Word.TheVariants.{Head}
 use Rattle.smp_core.specs.declared.handle.HandleStage.TheVariants as handle
+use Rattle.smp_queue.proofs.Going.{moment_fits}
 use Rattle.smp_queue.proofs.Handles.{in_handle_ready}
 use Rattle.smp_queue.proofs.handle.take.Goals as goal
 
-pub swap-requires : goal.swap-requires
-swap-requires c = in_handle_ready _ _ handle.Take c.requires.at (Swap (Head c.args.number) 0) tt (ap (λ (n : ℕ). Swap (Head n) 0) c.requires.me)
+pub swap-link-requires : goal.swap-link-requires
+swap-link-requires c = in_handle_ready _ _ handle.Take c.requires.at (Swap (Head c.args.number) 0) tt (ap (λ (n : ℕ). Swap (Head n) 0) c.requires.me)
+
+pub record_of-requires : goal.record_of-requires
+record_of-requires c = moment_fits _ _ handle.Take c.requires.at (Head c.args.number) c.swap-link.result c.swap-link.ensures.known.0 (ap (λ (n : ℕ). Head n) c.requires.me)

@@ -1,6 +1,6 @@
 use Rattle.std.proofs.Common.{◌≡◌, ◌∙◌, ◌+◌, ◌%◌, ◌^◌, ◌<◌, ℕ, get_or, set, ap, sym, subst, arith}
 use Rattle.smp_core.specs.Size.{cpus, owner}
-use Rattle.smp_core.specs.Drains.{DrainValue, run_next}
+use Rattle.smp_core.specs.Drains.{first_on}
 use Rattle.smp_core.specs.Histories.{counted_call}
 use Rattle.smp_core.specs.Handling.{counted_sync, ended_call}
 use Rattle.smp_core.proofs.Sizes.{owner-below}
@@ -15,7 +15,7 @@ use Rattle.smp_queue.proofs.run.run_sync.Goals as goal
 pub count-count-requires : goal.count-count-requires
 count-count-requires g c =
     let at = c.requires.at in
-    let batch = (lives_stands _ at.lives (handle.BeginSync c.args.call) at.stage_is).0.batch in
+    let batch = (lives_stands _ at.lives (handle.BeginSync c.args.walk c.args.call c.args.next) at.stage_is).1.batch in
     let below : owner c.args.call.id < cpus = owner-below c.args.call.id (lives_front _ at.lives c.args.call _ batch) in
     let is = c.owner_of-2.ensures in
     let sized = c.requires.counts.sized in
@@ -24,7 +24,7 @@ count-count-requires g c =
 pub count_sync-requires-clause-count : goal.count_sync-requires-clause-count
 count_sync-requires-clause-count g c =
     let at = c.requires.at in
-    let batch = (lives_stands _ at.lives (handle.BeginSync c.args.call) at.stage_is).0.batch in
+    let batch = (lives_stands _ at.lives (handle.BeginSync c.args.walk c.args.call c.args.next) at.stage_is).1.batch in
     let below : owner c.args.call.id < cpus = owner-below c.args.call.id (lives_front _ at.lives c.args.call _ batch) in
     let known = c.begin_sync-begun.ensures.known in
     let tally = tally_running c.args.chair.now.known c.begin_sync-begun.new.chair.known (owner c.args.call.id) (ap (λ (u : Known). u.ran) known) (ap (λ (u : Known). counted_call u.running) known) in
@@ -33,14 +33,13 @@ count_sync-requires-clause-count g c =
 pub returns : goal.returns
 returns g c =
     let at = c.requires.at in
-    let batch = (lives_stands _ at.lives (handle.BeginSync c.args.call) at.stage_is).0.batch in
-    let counted = c.count_sync.ensures.known ∙ ap (counted_sync c.args.call) c.begin_sync-begun.ensures.known in
-    let same : c.count_sync.new.chair.known.drain ≡ c.args.chair.now.known.drain = ap (λ (u : Known). u.drain) counted in
+    let batch = (lives_stands _ at.lives (handle.BeginSync c.args.walk c.args.call c.args.next) at.stage_is).1.batch in
+    let counted = c.count_sync.ensures.known ∙ ap (counted_sync c.args.walk c.args.call c.args.next) c.begin_sync-begun.ensures.known in
     let is : c.count-count.new.counts ≡ set c.args.counts.now (owner c.args.call.id) ((get_or c.args.counts.now (owner c.args.call.id) 0 + 1) % 2 ^ 64) =
     c.count-count.ensures.counts ∙ (ap (set c.args.counts.now c.owner_of-2.result) c.count-count.ensures.count ∙ ap (λ (n : ℕ). set c.args.counts.now n ((get_or c.args.counts.now n 0 + 1) % 2 ^ 64)) c.owner_of-2.ensures) in
-    has_run g.H.Handler.leads c.args.words.now.table_id c.args.chair.now c.end_sync.new.chair c.args.call _ c.args.counts.now c.count-count.new.counts c.args.handler.now c.call.new.self
+    has_run g.H.Handler.leads c.args.words.now.table_id c.args.chair.now c.end_sync.new.chair (first_on c.args.walk c.args.next) c.args.call c.args.next _ c.args.counts.now c.count-count.new.counts c.args.handler.now c.call.new.self
     at.table_is c.requires.counts (lives_front _ at.lives c.args.call _ batch) batch
-    (c.end_sync.ensures.known ∙ ap (ended_call c.args.call) counted)
-    (subst (λ (d : DrainValue). InHandle c.args.words.now.table_id c.end_sync.new.chair (run_next d.sync d.async)) same c.end_sync.ensures.at)
+    (c.end_sync.ensures.known ∙ ap (ended_call (first_on c.args.walk c.args.next) c.args.call) counted)
+    c.end_sync.ensures.at
     is
     (subst (λ (n : ℕ). g.H.Handler.leads c.args.handler.now (heard n c.args.call.func c.args.call.info) c.call.new.self) c.owner_of.ensures c.call.ensures)
