@@ -35,7 +35,7 @@ use Rattle.smp_core.specs.declared.stop.stage.CompletionStage.TheVariants as com
 use Rattle.smp_core.specs.declared.stop.stage.RoundStage.{RoundStage}
 use Rattle.smp_core.specs.declared.stop.stage.RoundStage.TheVariants as round
 use Rattle.smp_core.specs.declared.stop.stage.StopStage.{StopStage}
-use Rattle.smp_core.specs.declared.stop.stage.StopStage.TheVariants.{TakeGate, OpenGate, Begin, Enter, EnterKind, EnterMask, EnterActive, Advance, Complete, Close, LoadDone, LoadResult, ReadKey, ReadSite}
+use Rattle.smp_core.specs.declared.stop.stage.StopStage.TheVariants.{TakeGate, OpenGate, Begin, Enter, EnterKind, EnterMask, EnterActive, Advance, Complete, Close, LoadDone, LoadResult, ReadKey, ReadSite, NudgeKey, ExchangeKey}
 use Rattle.smp_core.specs.declared.stop.stage.Visit.{Visit}
 use Rattle.smp_core.specs.declared.word.Word.{Word}
 
@@ -89,7 +89,7 @@ module _ (a : CallState) (me found : ℕ) (note : Option Note) where
   in_round n changes v (round.Look answer) = refl
   in_round n changes v (round.LoadFunc answer) = refl
   in_round n changes v (round.LoadArg answer func) = refl
-  in_round n changes v (round.LoadKey key word) = refl
+  in_round n changes v (round.LoadKey key change) = refl
   in_round n changes v (round.LoadEntry key word site) = refl
   in_round n changes v (round.StoreChange made) = in_patch (change_at changes made)
   in_round n changes v (round.Acknowledge answer ran) = refl
@@ -117,6 +117,8 @@ module _ (a : CallState) (me found : ℕ) (note : Option Note) where
   stop_step_apart n changes LoadResult = refl
   stop_step_apart n changes (ReadKey k) = refl
   stop_step_apart n changes (ReadSite i) = refl
+  stop_step_apart n changes (NudgeKey k up) = refl
+  stop_step_apart n changes (ExchangeKey k expected new) = refl
 
 -- a step of the call half keeps the stops that the core shows
 pub stops_kept : (core : CoreValue) (cpu : ℕ) (stage : Stage) → StopsTold core (seen_at core cpu stage) 0 (stepped core cpu stage)

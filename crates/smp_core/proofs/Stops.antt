@@ -1,5 +1,6 @@
 -- one slot
 pub mod Counts
+pub mod KeyCounts
 pub mod Phases
 pub mod Raises
 pub mod Works

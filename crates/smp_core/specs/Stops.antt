@@ -8,6 +8,7 @@ pub mod Laws
 pub mod Labels
 -- the state of all stops, and what each step tells
 pub mod State
+pub mod KeyCounts
 pub mod Tells
 -- what the words show of it
 pub mod Seats

@@ -36,6 +36,9 @@ pub enum Command {
     Key(u32),
     /// Read a label site.
     Site(u32),
+    /// Move the count of a label key up or down by one, where the key stays on
+    /// (`static_key_fast_inc_not_disabled`).
+    Nudge(u32, bool),
 }
 
 /// One event of a replay.

@@ -30,7 +30,7 @@ pub enum Note {
     Contended,
     /// The interrupt is pending.
     Sent,
-    /// The record is unlocked.
+    /// The record is unlocked, or the key's count has changed.
     Done,
     /// The record is locked.
     Locked,
@@ -76,6 +76,12 @@ pub enum Note {
     Nop,
     /// The site jumps.
     Jmp,
+    /// The key's count stands at that end of its range.
+    KeyRange,
+    /// The key would go on or off, which takes a stop.
+    Stop,
+    /// The key's count was changed meanwhile.
+    Lost,
 }
 
 /// One atomic step: what CPU `cpu` did to `word`, what it found there and what it put. A store has no

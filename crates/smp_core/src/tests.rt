@@ -1,4 +1,5 @@
 mod calls;
+mod counts;
 mod line;
 mod patches;
 mod stops;

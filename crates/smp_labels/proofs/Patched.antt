@@ -1,5 +1,5 @@
 -- A plan leads from a lawful table to the lawful table with its key changed.
-use Rattle.std.proofs.Common.{◌≡◌, ◌≢◌, ℕ, zero, suc, ◌+◌, ◌<◌, ◌==◌, Bool, true, false, cond, Option, None, Some, List, [], ◌∷◌, ◌++◌, get_or, inl, inr, refl, sym, ap, subst, ◌∙◌, ne_eqb, eq-eqb, arith}
+use Rattle.std.proofs.Common.{◌≡◌, ◌≢◌, ℕ, zero, suc, ◌+◌, ◌-◌, ◌<◌, ◌==◌, nat_lt, eqb-true, ltb-true, Bool, true, false, cond, Option, None, Some, List, [], ◌∷◌, ◌++◌, get_or, inl, inr, refl, sym, ap, subst, ◌∙◌, ne_eqb, eq-eqb, arith}
 use Rattle.std.proofs.lemmas.Bool.{cases_eq, cases_lt}
 use Rattle.std.proofs.lemmas.List.{get_or_past}
 use Rattle.std.proofs.Math.Bool.{beq}
@@ -7,7 +7,10 @@ use Rattle.smp_labels.specs.declared.entries.Entry.{Entry}
 use Rattle.smp_labels.specs.declared.patch.Place.{Place}
 use Rattle.smp_labels.specs.declared.patch.Place.TheVariants.{Key, Site}
 use Rattle.smp_labels.specs.declared.words.TheConstants.{MOST_KEYS, MOST_SITES}
-use Rattle.smp_labels.specs.Keys.{is_on, key_word, IsKeyWord}
+use Rattle.smp_labels.specs.Keys.{is_on, count_or, count_left, IsKeyWord}
+use Rattle.smp_labels.specs.declared.keys.Change.{Change}
+use Rattle.smp_labels.specs.declared.keys.Change.TheVariants.{Off, On, Up, Down}
+use Rattle.smp_labels.specs.declared.keys.TheConstants.{MOST_COUNT}
 use Rattle.smp_labels.specs.Kinds.{xor, kind_of, kind_word}
 use Rattle.smp_labels.specs.Entries.{entry_at}
 use Rattle.smp_labels.specs.Law.{Table, site_word, IsLawful}
@@ -120,7 +123,7 @@ module _ (key word : ℕ) (entries : List ℕ) (t : Table) where
   ]
 
   -- a patch leads from a lawful table to the lawful table with the key at its new word
-  pub patch_leads : IsKeyWord word → IsLawful t → AreEntriesOf entries t → SetsKey key (is_on word) t (applied (patch_of key word entries) t)
+  pub patch_leads : IsKeyWord word → IsLawful t → AreEntriesOf entries t → SetsKey key word t (applied (patch_of key word entries) t)
   patch_leads in_form lawful are =
       let kept = entries_kept (patch_of key word entries) t in
       record {
@@ -130,77 +133,146 @@ module _ (key word : ℕ) (entries : List ℕ) (t : Table) where
           packed = λ i j before within ended. kept j ∙ lawful.packed i j before within (sym (kept i) ∙ ended);
           sites = λ i within. rw (kept i) (patched_site are i (entry_at (t.entry i)) within refl (lawful.sites i within));
         };
-        set = ap is_on (patched_key key ∙ put_same t.key key word);
+        set = patched_key key ∙ put_same t.key key word;
         keys = λ k other. patched_key k ∙ put_other t.key key word k other;
         entries = kept;
         sites = patched_other are;
       }
 
-xor_same : (a b : Bool) → xor a b ≡ false → a ≡ b
+pub xor_same : (a b : Bool) → xor a b ≡ false → a ≡ b
 xor_same true true same = refl
 xor_same true false same = cc
 xor_same false b same = sym same
 
+-- a count with which the key is on or off as before leaves the table lawful
+module _ (key new : ℕ) (t : Table) (in_form : IsKeyWord new) (same : is_on new ≡ is_on (t.key key)) (lawful : IsLawful t) where
+  counted_site : (e : Option Entry) → site_word (put t.key key new) e ≡ site_word t.key e
+  counted_site None = refl
+  counted_site (Some e) = elim (cases_eq e.key key) [
+    | inl of ↦ rw (of, put_same t.key key new, same) refl
+    | inr other ↦ rw (put_other t.key key new e.key other) refl
+  ]
+
+  pub count_lawful : IsLawful (stored (Key key) new t)
+  count_lawful = record {
+    keys = λ k within. elim (cases_eq k key) [
+      | inl here ↦ rw (here, put_same t.key key new) in_form
+      | inr other ↦ rw (put_other t.key key new k other) (lawful.keys k within)
+    ];
+    entries = lawful.entries;
+    packed = lawful.packed;
+    sites = λ i within. lawful.sites i within ∙ sym (counted_site (entry_at (t.entry i)));
+  }
+
 module _ (key new : ℕ) (entries : List ℕ) (t : Table) (in_form : IsKeyWord new) (lawful : IsLawful t) (are : AreEntriesOf entries t) where
-  -- so does a plan
-  pub plan_leads : SetsKey key (is_on new) t (applied (plan_of key (t.key key) new entries) t)
-  plan_leads = go (xor (is_on (t.key key)) (is_on new)) refl
+  -- a plan leads to the lawful table with the key at its new count
+  pub plan_leads : SetsKey key new t (applied (plan_of key (t.key key) new entries) t)
+  plan_leads = go (t.key key == new) refl (xor (is_on (t.key key)) (is_on new)) refl
     where
-      go : (b : Bool) → xor (is_on (t.key key)) (is_on new) ≡ b → SetsKey key (is_on new) t (applied (cond b (patch_of key new entries) []) t)
-      go true _ = patch_leads key new entries t in_form lawful are
-      go false same = record {
+      go : (a : Bool) → (t.key key == new) ≡ a → (b : Bool) → xor (is_on (t.key key)) (is_on new) ≡ b →
+          SetsKey key new t (applied (cond a [] (cond b (patch_of key new entries) ((Key key, new) ∷ []))) t)
+      go true e b x = record {
         lawful = lawful;
-        set = xor_same (is_on (t.key key)) (is_on new) same;
+        set = eqb-true (t.key key) new e;
         keys = λ k _. refl;
+        entries = λ i. refl;
+        sites = λ i _. refl;
+      }
+      go false e true x = patch_leads key new entries t in_form lawful are
+      go false e false x = record {
+        lawful = count_lawful key new t in_form (sym (xor_same (is_on (t.key key)) (is_on new) x)) lawful;
+        set = put_same t.key key new;
+        keys = λ k other. put_other t.key key new k other;
         entries = λ i. refl;
         sites = λ i _. refl;
       }
 
   plan_distinct : AreDistinct (plan_of key (t.key key) new entries)
-  plan_distinct = elim (xor (is_on (t.key key)) (is_on new)) as (λ b. AreDistinct (cond b (patch_of key new entries) [])) [ true ↦ patch_distinct key new entries | false ↦ tt ]
+  plan_distinct = elim (t.key key == new) as (λ a. AreDistinct (cond a [] (cond (xor (is_on (t.key key)) (is_on new)) (patch_of key new entries) ((Key key, new) ∷ [])))) [
+    | true ↦ tt
+    | false ↦ elim (xor (is_on (t.key key)) (is_on new)) as (λ b. AreDistinct (cond b (patch_of key new entries) ((Key key, new) ∷ []))) [ true ↦ patch_distinct key new entries | false ↦ (tt, tt) ]
+  ]
 
   -- and each part of it leaves the rest to do
-  pub plan_part_way : (front rest : List (Place × ℕ)) → plan_of key (t.key key) new entries ≡ front ++ rest → StandsPartWay key (is_on new) front rest t
+  pub plan_part_way : (front rest : List (Place × ℕ)) → plan_of key (t.key key) new entries ≡ front ++ rest → StandsPartWay key new front rest t
   plan_part_way front rest parts = record {
     made = all_made front t (distinct_front front rest (subst AreDistinct parts plan_distinct));
     kept = λ p out. place_kept front t p (leave_out_each p front out);
     entries = entries_kept front t;
-    leads = subst (λ u. SetsKey key (is_on new) t u) (ap (λ plan. applied plan t) parts ∙ applied-append front rest t) plan_leads;
+    leads = subst (λ u. SetsKey key new t u) (ap (λ plan. applied plan t) parts ∙ applied-append front rest t) plan_leads;
   }
 
-set_in_form : (on : Bool) → IsKeyWord (key_word on)
-set_in_form true = omega arith
-set_in_form false = omega arith
-
-is_on-key_word : (on : Bool) → is_on (key_word on) ≡ on
-is_on-key_word true = refl
-is_on-key_word false = refl
-
--- the plan, where the key is not as it is to be
-pub plan_changes : (key old : ℕ) (on : Bool) (entries : List ℕ) → beq (is_on old) on ≡ false → plan_of key old (key_word on) entries ≡ (Key key, key_word on) ∷ site_changes key on 0 entries
-plan_changes key old on entries other = go on (is_on old) refl other
+-- what a change leaves is a count
+pub left_in_form : (change : Change) (n : ℕ) → IsKeyWord n → IsKeyWord (count_left change n)
+left_in_form Off n fits = omega arith
+left_in_form On n fits = elim (n == 0) as (λ b. IsKeyWord (cond b 1 n)) [ true ↦ omega arith | false ↦ fits ]
+left_in_form Up n fits = go (nat_lt n MOST_COUNT) refl
   where
-    go : (new was : Bool) → is_on old ≡ was → beq was new ≡ false → plan_of key old (key_word new) entries ≡ (Key key, key_word new) ∷ site_changes key new 0 entries
-    go true true is other = cc
-    go true false is other = rw is refl
-    go false true is other = rw is refl
-    go false false is other = cc
+    go : (b : Bool) → nat_lt n MOST_COUNT ≡ b → IsKeyWord (count_or n (cond b (Some (n + 1)) None))
+    go true e = let low = ltb-true n MOST_COUNT e in omega arith
+    go false e = fits
+left_in_form Down n fits = elim (n == 0) as (λ b. IsKeyWord (count_or n (cond b None (Some (n - 1))))) [ true ↦ fits | false ↦ omega arith ]
 
--- the plan, where the key is so
-pub plan_same : (key old : ℕ) (on : Bool) (entries : List ℕ) → beq (is_on old) on ≡ true → plan_of key old (key_word on) entries ≡ []
-plan_same key old on entries same = go on (is_on old) refl same
+-- the key is stored first, and once
+in_middle : (made : List (Place × ℕ)) (k n : ℕ) (rest : List (Place × ℕ)) → LeaveOut (Key k) (made ++ (Key k, n) ∷ rest) → ⊥
+in_middle [] k n rest out = out.0 refl
+in_middle (change ∷ made) k n rest out = in_middle made k n rest out.1
+
+head_only : (key word : ℕ) (sites : List (Place × ℕ)) → ((k : ℕ) → LeaveOut (Key k) sites) → (made : List (Place × ℕ)) (k n : ℕ) (rest : List (Place × ℕ)) →
+    made ++ (Key k, n) ∷ rest ≡ (Key key, word) ∷ sites → (made ≡ []) × (k ≡ key) × (n ≡ word)
+head_only key word sites out [] k n rest e =
+    let pair : (Key k, n) ≡ (Key key, word) = cc in
+    let keys : Key k ≡ Key key = ap (λ (x : Place × ℕ). x.0) pair in
+    (refl, (let same : k ≡ key = cc in same), ap (λ (x : Place × ℕ). x.1) pair)
+head_only key word sites out (change ∷ made) k n rest e =
+    let tail : made ++ (Key k, n) ∷ rest ≡ sites = cc in
+    absurd (in_middle made k n rest (subst (LeaveOut (Key k)) (sym tail) (out k)))
+
+none_inside : (made : List (Place × ℕ)) (change : Place × ℕ) (rest : List (Place × ℕ)) → made ++ change ∷ rest ≡ [] → ⊥
+none_inside [] change rest e = cc
+none_inside (x ∷ made) change rest e = cc
+
+pub plan_key_first : (key old new : ℕ) (entries : List ℕ) (made : List (Place × ℕ)) (k n : ℕ) (rest : List (Place × ℕ)) →
+    plan_of key old new entries ≡ made ++ (Key k, n) ∷ rest → (made ≡ []) × (k ≡ key) × (n ≡ new)
+plan_key_first key old new entries made k n rest e = go (old == new) (xor (is_on old) (is_on new)) e
   where
-    go : (new was : Bool) → is_on old ≡ was → beq was new ≡ true → plan_of key old (key_word new) entries ≡ []
-    go true true is same = rw is refl
-    go true false is same = cc
-    go false true is same = cc
-    go false false is same = rw is refl
+    go : (a b : Bool) → cond a [] (cond b (patch_of key new entries) ((Key key, new) ∷ [])) ≡ made ++ (Key k, n) ∷ rest → (made ≡ []) × (k ≡ key) × (n ≡ new)
+    go true b e = absurd (none_inside made (Key k, n) rest (sym e))
+    go false true e = head_only key new (site_changes key (is_on new) 0 entries) (changes_leave_key key (is_on new) 0 entries) made k n rest (sym e)
+    go false false e = head_only key new [] (λ _. tt) made k n rest (sym e)
 
-module _ (key : ℕ) (on : Bool) (entries : List ℕ) (t : Table) (lawful : IsLawful t) (are : AreEntriesOf entries t) (plan : List (Place × ℕ)) (is : plan ≡ plan_of key (t.key key) (key_word on) entries) where
-  -- the plan that sets a key on or off
-  pub set_leads : SetsKey key on t (applied plan t)
-  set_leads = rw is (subst (λ b. SetsKey key b t (applied (plan_of key (t.key key) (key_word on) entries) t)) (is_on-key_word on) (plan_leads key (key_word on) entries t (set_in_form on) lawful are))
+module _ (key old new : ℕ) (entries : List ℕ) where
+  -- the plan, where the count stays
+  pub plan_same : (old == new) ≡ true → plan_of key old new entries ≡ []
+  plan_same e = ap (λ a. cond a [] (cond (xor (is_on old) (is_on new)) (patch_of key new entries) ((Key key, new) ∷ []))) e
 
-  pub set_part_way : (front rest : List (Place × ℕ)) → plan ≡ front ++ rest → StandsPartWay key on front rest t
-  set_part_way front rest parts =
-      subst (λ b. StandsPartWay key b front rest t) (is_on-key_word on) (plan_part_way key (key_word on) entries t (set_in_form on) lawful are front rest (sym is ∙ parts))
+  -- where the key stays on
+  pub plan_counts : (old == new) ≡ false → beq (is_on new) (is_on old) ≡ true → plan_of key old new entries ≡ (Key key, new) ∷ []
+  plan_counts e same =
+      ap (λ a. cond a [] (cond (xor (is_on old) (is_on new)) (patch_of key new entries) ((Key key, new) ∷ []))) e
+      ∙ ap (λ b. cond b (patch_of key new entries) ((Key key, new) ∷ [])) (go (is_on old) (is_on new) same)
+    where
+      go : (a b : Bool) → beq b a ≡ true → xor a b ≡ false
+      go true true e = refl
+      go true false e = cc
+      go false true e = cc
+      go false false e = refl
+
+  -- where it goes on or off
+  pub plan_patches : (old == new) ≡ false → beq (is_on new) (is_on old) ≡ false → plan_of key old new entries ≡ (Key key, new) ∷ site_changes key (is_on new) 0 entries
+  plan_patches e other =
+      ap (λ a. cond a [] (cond (xor (is_on old) (is_on new)) (patch_of key new entries) ((Key key, new) ∷ []))) e
+      ∙ ap (λ b. cond b (patch_of key new entries) ((Key key, new) ∷ [])) (go (is_on old) (is_on new) other)
+    where
+      go : (a b : Bool) → beq b a ≡ false → xor a b ≡ true
+      go true true e = cc
+      go true false e = refl
+      go false true e = refl
+      go false false e = cc
+
+-- the plan, by its two tests
+pub plan_tests : (key old new : ℕ) (entries : List ℕ) (a : Bool) → (old == new) ≡ a → (b : Bool) → xor (is_on old) (is_on new) ≡ b →
+    plan_of key old new entries ≡ cond a [] (cond b (patch_of key new entries) ((Key key, new) ∷ []))
+plan_tests key old new entries a e b x =
+    ap (λ a. cond a [] (cond (xor (is_on old) (is_on new)) (patch_of key new entries) ((Key key, new) ∷ []))) e
+    ∙ ap (λ b. cond a [] (cond b (patch_of key new entries) ((Key key, new) ∷ []))) x

@@ -47,26 +47,28 @@ site_changes key on i (word ∷ rest) = site_change key on i (entry_at word) ++ 
 abbrev pub patch_of : ℕ → ℕ → List ℕ → List (Place × ℕ)
 patch_of key word entries = (Key key, word) ∷ site_changes key (is_on word) 0 entries
 
--- the changes that take a key from the old word to the new one
+-- the changes that take a key from the old count to the new one: none where the count stays, its word alone where it
+-- stays on
 abbrev pub plan_of : ℕ → ℕ → ℕ → List ℕ → List (Place × ℕ)
-plan_of key old new entries = if xor (is_on old) (is_on new) then patch_of key new entries else []
+plan_of key old new entries =
+    if old == new then [] else if xor (is_on old) (is_on new) then patch_of key new entries else (Key key, new) ∷ []
 
 -- these entry words are the table's: those of its first sites, where no other site is in use
 pub record AreEntriesOf (entries : List ℕ) (t : Table) : Type 0 where
   pub few : length entries ≤ MOST_SITES
   pub read : (i : ℕ) → i < MOST_SITES → t.entry i ≡ slice_index entries i
 
--- the new table is the lawful one with this key on or off: all other keys, all entries and the sites of other keys stand as before
-pub record SetsKey (key : ℕ) (on : Bool) (old new : Table) : Type 0 where
+-- the new table is the lawful one with this key at this count: all other keys, all entries and the sites of other keys stand as before
+pub record SetsKey (key count : ℕ) (old new : Table) : Type 0 where
   pub lawful : IsLawful new
-  pub set : is_on (new.key key) ≡ on
+  pub set : new.key key ≡ count
   pub keys : (k : ℕ) → k ≢ key → new.key k ≡ old.key k
   pub entries : (i : ℕ) → new.entry i ≡ old.entry i
   pub sites : (i : ℕ) → is_of key (entry_at (old.entry i)) ≡ false → new.site i ≡ old.site i
 
 -- where some stores of a plan are made, just these have changed the table, and the rest leads to the lawful one
-pub record StandsPartWay (key : ℕ) (on : Bool) (front rest : List (Place × ℕ)) (t : Table) : Type 0 where
+pub record StandsPartWay (key count : ℕ) (front rest : List (Place × ℕ)) (t : Table) : Type 0 where
   pub made : All (λ change. word_at (applied front t) change.0 ≡ change.1) front
   pub kept : (p : Place) → All (λ change. change.0 ≢ p) front → word_at (applied front t) p ≡ word_at t p
   pub entries : (i : ℕ) → (applied front t).entry i ≡ t.entry i
-  pub leads : SetsKey key on t (applied rest (applied front t))
+  pub leads : SetsKey key count t (applied rest (applied front t))

@@ -14,7 +14,7 @@ mod patch;
 mod words;
 
 pub use entries::Entry;
-pub use keys::{is_on, key_word};
+pub use keys::{Change, MOST_COUNT, is_on};
 pub use kinds::{SiteKind, kind_of};
 pub use map::LabelMap;
 pub use patch::{MOST_CHANGES, Place, plan};

@@ -7,7 +7,6 @@ ghost use Rattle.smp_labels.specs.Law.{IsLawful};
 ghost use Rattle.smp_labels.specs.Words.{table_of};
 
 use crate::entries::Entry;
-use crate::keys::{is_on, key_word};
 use crate::kinds::kind_of;
 use crate::words::{LabelWords, MOST_KEYS, MOST_SITES};
 use arrayvec::ArrayVec;
@@ -74,13 +73,13 @@ impl LabelMap {
         ensures known { AreLabels self.now.keys self.now.entries }
     {
         let mut words = LabelWords {
-            keys: [key_word(false); MOST_KEYS],
+            keys: [0; MOST_KEYS],
             entries: [0; MOST_SITES],
             sites: [0; MOST_SITES],
         };
         for (site, entry) in self.entries.iter().enumerate() {
             words.entries[site] = entry.word();
-            words.sites[site] = kind_of(is_on(key_word(false)), entry.branch).word();
+            words.sites[site] = kind_of(false, entry.branch).word();
         }
         words
     }

@@ -1,5 +1,5 @@
 use super::*;
-use smp_mask::SmpError;
+use smp_mask::{Edge, SmpError};
 use std::test::Fail;
 
 const OFF: Entry = Entry {
@@ -26,11 +26,11 @@ fn one_key_with_two_sites(rt: HostRuntime) -> Result<(), Fail> {
     assert_eq!(rt; SiteKind::from_word(off.sites[0]), SiteKind::Nop);
     assert_eq!(rt; SiteKind::from_word(off.sites[1]), SiteKind::Jmp);
     assert_eq!(rt;
-        plan(&off, 0, true)?.as_slice(),
+        plan(&off, 0, Change::On)?.as_slice(),
         [(Place::Key(0), 1), (Place::Site(0), 1), (Place::Site(1), 0)].as_slice()
     );
-    assert_eq!(rt; plan(&off, 0, false)?.as_slice(), [].as_slice());
-    assert_eq!(rt; plan(&off, 4, true), Err(SmpError::BadArgument));
+    assert_eq!(rt; plan(&off, 0, Change::Off)?.as_slice(), [].as_slice());
+    assert_eq!(rt; plan(&off, 4, Change::On), Err(SmpError::BadArgument));
     Ok(())
 }
 
@@ -45,9 +45,9 @@ fn patched_word_by_word(rt: HostRuntime) -> Result<(), Fail> {
     assert!(rt; !is_lawful(&words));
     words.sites[1] = 0;
     assert!(rt; is_lawful(&words));
-    assert_eq!(rt; plan(&words, 0, true)?.as_slice(), [].as_slice());
+    assert_eq!(rt; plan(&words, 0, Change::On)?.as_slice(), [].as_slice());
     assert_eq!(rt;
-        plan(&words, 0, false)?.as_slice(),
+        plan(&words, 0, Change::Off)?.as_slice(),
         [(Place::Key(0), 0), (Place::Site(0), 0), (Place::Site(1), 1)].as_slice()
     );
     Ok(())
@@ -76,7 +76,7 @@ fn four_keys_with_sixteen_sites(rt: HostRuntime) -> Result<(), Fail> {
     );
     assert_eq!(rt; off.sites, [0, 0, 0, 0, 0, 0, 0, 0, 1, 1, 1, 1, 1, 1, 1, 1]);
     assert_eq!(rt;
-        plan(&off, 3, true)?.as_slice(),
+        plan(&off, 3, Change::On)?.as_slice(),
         [
             (Place::Key(3), 1),
             (Place::Site(3), 1),
@@ -112,12 +112,12 @@ fn refusals(rt: HostRuntime) -> Result<(), Fail> {
     Ok(())
 }
 
-// Words that no map has: a key word above 1, an entry after a gap, a key that no table has.
+// Words that no map has: a count above the highest, an entry after a gap, a key that no table has.
 #[test]
 fn words_out_of_form(rt: HostRuntime) -> Result<(), Fail> {
     let words = LabelMap::new(&[OFF], 1)?.words();
     let mut high = words;
-    high.keys[3] = 2;
+    high.keys[3] = 65_536;
     assert!(rt; !is_lawful(&high));
     let mut gap = words;
     gap.entries[2] = 1;
@@ -125,5 +125,33 @@ fn words_out_of_form(rt: HostRuntime) -> Result<(), Fail> {
     let mut stranger = words;
     stranger.entries[1] = 9;
     assert!(rt; !is_lawful(&stranger));
+    Ok(())
+}
+
+// A count that goes up and down: sites change from 0 and to 0 alone.
+#[test]
+fn a_key_is_counted(rt: HostRuntime) -> Result<(), Fail> {
+    let mut words = LabelMap::new(&[OFF, ON], 1)?.words();
+    assert_eq!(rt; plan(&words, 0, Change::Up)?, plan(&words, 0, Change::On)?);
+    let at_zero = SmpError::KeyRange(Edge::Zero);
+    assert_eq!(rt; plan(&words, 0, Change::Down), Err(at_zero));
+    words.keys[0] = 1;
+    words.sites[0] = 1;
+    words.sites[1] = 0;
+    assert_eq!(rt;
+        plan(&words, 0, Change::Up)?.as_slice(),
+        [(Place::Key(0), 2)].as_slice()
+    );
+    assert_eq!(rt; plan(&words, 0, Change::On)?.as_slice(), [].as_slice());
+    words.keys[0] = MOST_COUNT;
+    assert!(rt; is_lawful(&words));
+    let full = SmpError::KeyRange(Edge::Full);
+    assert_eq!(rt; plan(&words, 0, Change::Up), Err(full));
+    assert_eq!(rt; plan(&words, 4, Change::Up), Err(SmpError::BadArgument));
+    assert_eq!(rt;
+        plan(&words, 0, Change::Down)?.as_slice(),
+        [(Place::Key(0), 65_534)].as_slice()
+    );
+    assert_eq!(rt; plan(&words, 0, Change::Off)?.len(), 3);
     Ok(())
 }

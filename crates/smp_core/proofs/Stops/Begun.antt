@@ -16,7 +16,7 @@ use Rattle.smp_core.specs.Stops.Value.{StopsShow, stop_control_of}
 use Rattle.smp_core.specs.declared.stop.field.Field.TheVariants.{Kind}
 use Rattle.smp_core.specs.declared.stop.stage.CompletionStage.TheVariants as completion
 use Rattle.smp_core.specs.declared.stop.stage.RoundStage.TheVariants as round
-use Rattle.smp_core.specs.declared.stop.stage.StopStage.TheVariants.{Advance, Begin, Complete, Enter, LoadDone, OpenGate, ReadKey, ReadSite, TakeGate}
+use Rattle.smp_core.specs.declared.stop.stage.StopStage.TheVariants.{Advance, Begin, Complete, Enter, LoadDone, OpenGate, NudgeKey, ReadKey, ReadSite, TakeGate}
 use Rattle.smp_core.specs.declared.stop.stage.StopStage.{StopStage}
 use Rattle.smp_core.specs.declared.stop.stage.Visit.{Visit}
 use Rattle.smp_core.specs.declared.word.Word.TheVariants.{Gate, Slot}
@@ -55,6 +55,7 @@ module _ (u : Setup) (p : StopState) (at : Word → ℕ) (seat : ℕ → Seat) (
           gate = h.gate;
           past = h.past;
           owns = h.owns;
+          counts = h.counts;
           sources = put_all (λ j x. SourceShows u p.gate (p.now.stop j) (λ f. at (Slot j f)) j x) source me (Drafts work 0)
               record {
                 shut = shut;
@@ -107,6 +108,11 @@ module _ (u : Setup) (p : StopState) (at : Word → ℕ) (seat : ℕ → Seat) (
     source me,
     subst (λ x. StopShows u p at seat x) (sym (put_same_fn source me)) h,
     record { below = s.below; irq = s.irq; seat = (m.0, m.1, at_rest); source = owns_if; gate_held = tt },
+  )
+  begun_shown (NudgeKey k up) m = (
+    source me,
+    subst (λ x. StopShows u p at seat x) (sym (put_same_fn source me)) h,
+    record { below = s.below; irq = s.irq; seat = (m.0, m.1, m.2, at_rest); source = owns_if; gate_held = tt },
   )
   begun_shown _ m = absurd m
 

@@ -6,7 +6,7 @@ use Rattle.smp_core.proofs.Stops.Bits.{clear_none, clear_other, clear_same}
 use Rattle.smp_core.proofs.Stops.Completions.{done_stored, on_now, result_stored, roll_cleared, roll_stale, todo_subtracted, todo_subtracted_answered}
 use Rattle.smp_core.proofs.Stops.Facts.{todo_bounds, todo_bounds_answered}
 use Rattle.smp_core.proofs.Stops.RoundSteps.{ack_small, load_arg, load_entry, load_func, load_key, look, store_change}
-use Rattle.smp_core.proofs.Stops.StageSteps.{begin_step, enter_active, enter_kind, enter_mask, less_one, load_done, load_result, open_gate, put_same_fn, read_key, read_site, take_gate}
+use Rattle.smp_core.proofs.Stops.StageSteps.{begin_step, enter_active, enter_kind, enter_mask, less_one, load_done, load_result, open_gate, put_same_fn, read_key, read_site, take_gate, nudge_key, exchange_key}
 use Rattle.smp_core.specs.Put.{put, put_word, same_word}
 use Rattle.smp_core.specs.Stops.Counts.{one}
 use Rattle.smp_core.specs.Stops.Seats.{Closes, Free, Gives, In, Rests, Seat, irq_of}
@@ -22,7 +22,7 @@ use Rattle.smp_core.specs.declared.seen.Note.TheVariants as note
 use Rattle.smp_core.specs.declared.stop.field.Field.TheVariants.{Roll, Todo}
 use Rattle.smp_core.specs.declared.stop.stage.CompletionStage.TheVariants as completion
 use Rattle.smp_core.specs.declared.stop.stage.RoundStage.TheVariants as round
-use Rattle.smp_core.specs.declared.stop.stage.StopStage.TheVariants.{Advance, Begin, Close, Complete, Enter, EnterActive, EnterKind, EnterMask, LoadDone, LoadResult, OpenGate, ReadKey, ReadSite, TakeGate}
+use Rattle.smp_core.specs.declared.stop.stage.StopStage.TheVariants.{Advance, Begin, Close, Complete, Enter, EnterActive, EnterKind, EnterMask, LoadDone, LoadResult, OpenGate, ReadKey, ReadSite, TakeGate, NudgeKey, ExchangeKey}
 use Rattle.smp_core.specs.declared.stop.stage.StopStage.{StopStage}
 use Rattle.smp_core.specs.declared.stop.stage.Visit.{Visit}
 use Rattle.smp_core.specs.declared.stop.work.Kind.TheVariants.{One}
@@ -218,7 +218,7 @@ module _ (u : Setup) (p : StopState) (at : Word → ℕ) (seat : ℕ → Seat) (
   stop_step_shown (Advance v (round.Look answer)) e = look u p at seat source h c me s v answer e
   stop_step_shown (Advance v (round.LoadFunc answer)) e = load_func u p at seat source h c me s v answer e
   stop_step_shown (Advance v (round.LoadArg answer func)) e = load_arg u p at seat source h c me s v answer func e
-  stop_step_shown (Advance v (round.LoadKey key word)) e = load_key u p at seat source h c me s v key word e
+  stop_step_shown (Advance v (round.LoadKey key change)) e = load_key u p at seat source h c me s v key change e
   stop_step_shown (Advance v (round.LoadEntry key word site)) e = load_entry u p at seat source h c me s v key word site e
   stop_step_shown (Advance v (round.StoreChange made)) e = store_change u p at seat source h c me s v made e
   stop_step_shown (Advance v (round.Acknowledge answer ran)) e = acknowledge u p at seat source h c me s v answer ran e
@@ -233,3 +233,5 @@ module _ (u : Setup) (p : StopState) (at : Word → ℕ) (seat : ℕ → Seat) (
   stop_step_shown LoadResult e = load_result u p at seat source h c me s e
   stop_step_shown (ReadKey k) e = read_key u p at seat source h c me s k e
   stop_step_shown (ReadSite i) e = read_site u p at seat source h c me s i e
+  stop_step_shown (NudgeKey k up) e = nudge_key u p at seat source h c me s k up e
+  stop_step_shown (ExchangeKey k expected new) e = exchange_key u p at seat source h c me s k expected new e

@@ -1,4 +1,5 @@
 -- The kinds of step at the ends of a stop for one CPU: it enters, stores its answer, counts itself, and stores done.
+use Rattle.smp_core.specs.Stops.Labels.{StandsSet}
 use Rattle.std.proofs.Common.{◌≡◌, ◌≢◌, ℕ, ◌+◌, ◌-◌, ◌≤◌, Bool, true, false, nat_lt, eq-eqb, ◌==◌, ◌||◌, cond, sym, subst, refl, ap, ◌∙◌, ◌⊎◌, inl, inr, arith, ⊎_elim, Option, Some, None, List, [], ◌∷◌, ◌++◌}
 use Rattle.smp_core.proofs.Puts.{at_test, put_all}
 use Rattle.smp_core.proofs.Stops.Counts.{put_else, put_here, sum_zero}
@@ -31,7 +32,6 @@ use Rattle.smp_core.specs.declared.stop.work.Kind.{Kind as KindOf}
 use Rattle.smp_core.specs.declared.stop.work.Work.{Work}
 use Rattle.smp_core.specs.declared.word.Word.TheVariants.{Key, Slot}
 use Rattle.smp_core.specs.declared.word.Word.{Word}
-use Rattle.smp_labels.specs.Keys.{is_on}
 use Rattle.smp_mask.specs.Mask.{has}
 
 -- who has nothing to do for the next phase does not set it
@@ -73,7 +73,7 @@ module _ (u : Setup) (p : StopState) (at : Word → ℕ) (seat : ℕ → Seat) (
       let at' = put_word at (Slot s Roll) n in
       subst (λ b. StopShows u (cond b (record p { now = enters p.now me s }) p) at' (put seat me (In s (p.now.stop s).work 0 0 Rests)) source) (sym found)
       (open_step u p at seat source h s stop' inside' p.now.irq p.now.readings p.now.patching at' (put seat me (In s (p.now.stop s).work 0 0 Rests)) p.looks p.calls stays
-      refl (other_slots at s Roll n)
+      refl (λ k. refl) (other_slots at s Roll n)
       (own k.1)
       (step_enters u p.now at seat h.present s me n is found clears others))
     where
@@ -87,7 +87,7 @@ module _ (u : Setup) (p : StopState) (at : Word → ℕ) (seat : ℕ → Seat) (
       own : IsLevel (p.now.stop s).phase 0 → (j : ℕ) → OwnsKey u.first (after p.now s (stands (p.now.stop s) me (Inside 0 0)) (put p.now.inside me (Some s)) p.now.irq p.now.readings p.now.patching) (λ k. at (Key k)) j
       own level j =
           at_test j s (λ b. let y = cond b (stands (p.now.stop s) me (Inside 0 0)) (p.now.stop j) in
-          y.is_open ≡ true → y.work.kind ≡ Patch → is_inside (y.standing j) ≡ true → 3 ≤ acked (y.standing u.first) → is_on (at (Key y.work.func)) ≡ is_on y.work.arg)
+          y.is_open ≡ true → y.work.kind ≡ Patch → is_inside (y.standing j) ≡ true → 3 ≤ acked (y.standing u.first) → StandsSet y.work (at (Key y.work.func)))
           (λ e op kind in_ late. let m = early level u.first in absurd (omega arith)) (λ ne. h.owns j)
 
   -- fetch_and of the roll, that did not find it: E7
@@ -129,7 +129,7 @@ module _ (u : Setup) (p : StopState) (at : Word → ℕ) (seat : ℕ → Seat) (
         subst (λ b. StopShows u (cond b (stored_open p me s Result v) (stored_shut p s Result v)) at' (put seat me (Gives s job a v)) source) (sym open_)
         (subst (λ (x : Standing). StopShows u (record p { now = with_stop p.now s (stands (p.now.stop s) me (answered_by x v)) }) at' (put seat me (Gives s job a v)) source) (sym st.1)
         (open_step u p at seat source h s stop' p.now.inside p.now.irq p.now.readings p.now.patching at' (put seat me (Gives s job a v)) p.looks p.calls stays
-        refl (other_slots at s Result v)
+        refl (λ k. refl) (other_slots at s Result v)
         (owns_kept u.first p.now (λ k. at (Key k)) s stop' p.now.inside p.now.irq p.now.readings p.now.patching stays (moves_early u.first s me (p.now.stop s) to inside stop' refl) h.owns)
         (step_answers u p.now at seat h.present s me job a l v is some is_done (rests_not me (p.now.stop s).raising st.2) on_now)))
 
@@ -151,14 +151,14 @@ module _ (u : Setup) (p : StopState) (at : Word → ℕ) (seat : ℕ → Seat) (
       open_step_with u p at seat source h s stop' inside' p.now.irq p.now.readings p.now.patching (put_word at (Slot s Todo) (found - 1)) (put seat me (cond (found == 1) (Closes s) Free))
       p.looks calls' answers' open_ open_ refl
       (λ e. absurd (ended_not e (subst (λ x. DoneShows u.cpus (p.now.stop s).standing x (at (Slot s Done))) e o.done) of))
-      refl (other_slots at s Todo (found - 1))
+      refl (λ k. refl) (other_slots at s Todo (found - 1))
       (λ j. at_test j s (λ b. HasPast (cond b stop' (p.now.stop j)) (p.begun j) (p.collected j) (λ c. answers' c j))
       (λ e. let P : ℕ → Type 0 = λ k. HasPast stop' (p.begun k) (p.collected k) (λ c. answers' c k) in
       subst P (sym e) (past_answers stop' (p.begun s) (p.collected s) (put (λ c. p.answers c s) me (p.answers me s ++ v ∷ [])) (λ c. answers' c s) (here_more (p.answers me s ++ v ∷ []))
       ((h.past s).0, past_completes (h.past s).0 (p.now.stop s) (p.begun s) (p.collected s) (λ c. p.answers c s) (h.past s).1 me a v found none)))
       (λ ne. past_answers (p.now.stop j) (p.begun j) (p.collected j) (λ c. p.answers c j) (λ c. answers' c j) (there_same j ne (p.answers me s ++ v ∷ [])) (h.past j)))
       (λ j. at_test j s (λ b. let y = cond b stop' (p.now.stop j) in
-      y.is_open ≡ true → y.work.kind ≡ Patch → is_inside (y.standing j) ≡ true → 3 ≤ acked (y.standing u.first) → is_on (at (Key y.work.func)) ≡ is_on y.work.arg)
+      y.is_open ≡ true → y.work.kind ≡ Patch → is_inside (y.standing j) ≡ true → 3 ≤ acked (y.standing u.first) → StandsSet y.work (at (Key y.work.func)))
       (λ e op kind in_ late. h.owns s op kind
       (put_all (λ c y. is_inside y ≡ true → is_inside ((p.now.stop s).standing c) ≡ true) (p.now.stop s).standing me to (λ bad. cc) (λ c ne i. i) s (subst (λ k. is_inside (stop'.standing k) ≡ true) e in_))
       (put_all (λ c y. 3 ≤ acked y → 3 ≤ acked ((p.now.stop s).standing c)) (p.now.stop s).standing me to (λ x. subst (λ n. 3 ≤ n) (sym (acked_it ((p.now.stop s).standing me) is)) x) (λ c ne l. l) u.first late))
@@ -212,6 +212,6 @@ module _ (u : Setup) (p : StopState) (at : Word → ℕ) (seat : ℕ → Seat) (
       let stays : StaysOpen (p.now.stop s) stop' = record { was = now.1; now = now.1; work = refl; end = λ _. refl; given = λ c. refl } in
       subst (λ b. StopShows u (cond b (stored_open p me s Done 1) (stored_shut p s Done 1)) (put_word at (Slot s Done) 1) (put seat me Free) source) (sym now.1)
       (open_step u p at seat source h s stop' p.now.inside p.now.irq p.now.readings p.now.patching (put_word at (Slot s Done) 1) (put seat me Free) p.looks p.calls stays
-      refl (other_slots at s Done 1)
+      refl (λ k. refl) (other_slots at s Done 1)
       (owns_kept u.first p.now (λ k. at (Key k)) s stop' p.now.inside p.now.irq p.now.readings p.now.patching stays record { inside = λ i. i; late = λ i. i } h.owns)
       (step_finishes u p.now at seat h.present s me is))

@@ -1,4 +1,5 @@
 -- What a CPU inside a stop finds, and the state at first.
+use Rattle.smp_core.proofs.Stops.KeyCounts.{opened_count}
 use Rattle.std.proofs.Common.{◌≡◌, ◌≢◌, ℕ, ◌+◌, ◌<◌, ◌≤◌, Bool, true, false, ◌==◌, cond, sym, subst, refl, ap, ◌∙◌, ◌⊎◌, inl, inr, arith, ⊎_elim, zero, suc, List, []}
 use Rattle.std.proofs.lemmas.Nat.Bits.{bit_at-zero}
 use Rattle.smp_core.proofs.Stops.Counts.{sum_zero}
@@ -14,7 +15,7 @@ use Rattle.smp_core.specs.Stops.State.{IsSetup, Setup, StopState, no_stops}
 use Rattle.smp_core.specs.Stops.Stop.{Answering, Called, Completed, Inside, Outside, Standing}
 use Rattle.smp_core.specs.declared.stop.field.Field.TheVariants.{Ack, Roll, State, Todo}
 use Rattle.smp_core.specs.declared.stop.work.Work.{Work}
-use Rattle.smp_core.specs.declared.word.Word.TheVariants.{Gate, Slot}
+use Rattle.smp_core.specs.declared.word.Word.TheVariants.{Gate, Slot, Key}
 use Rattle.smp_core.specs.declared.word.Word.{Word}
 use Rattle.smp_labels.specs.Law.{IsLawful}
 use Rattle.smp_labels.specs.Plans.{AreEntriesOf}
@@ -106,8 +107,8 @@ module _ (u : Setup) (p : StopState) (at : Word → ℕ) (seat : ℕ → Seat) (
   pub ack_bounds : (job : Work) (a : ℕ) → seat me ≡ In s job a (a + 1) Rests → (0 < at (Slot s Ack)) × (at (Slot s Ack) ≤ u.cpus)
   ack_bounds job a is = ack_known a (st job a (a + 1) Rests is).1
 
-  pub ack_bounds_patched : (job : Work) (made : List Change) → seat me ≡ Alters s job made [] → (0 < at (Slot s Ack)) × (at (Slot s Ack) ≤ u.cpus)
-  ack_bounds_patched job made is = let now : Stands p.now me (Alters s job made []) = subst (Stands p.now me) is (h.present.stands me) in ack_known 2 now.1
+  pub ack_bounds_patched : (job : Work) (count : ℕ) (made : List Change) → seat me ≡ Alters s job count made [] → (0 < at (Slot s Ack)) × (at (Slot s Ack) ≤ u.cpus)
+  ack_bounds_patched job count made is = let now : Stands p.now me (Alters s job count made []) = subst (Stands p.now me) is (h.present.stands me) in ack_known 2 now.1
 
   -- the same of todo, for who has stored its answer
   pub todo_bounds_answered : (job : Work) (a v : ℕ) → seat me ≡ Gives s job a v → (0 < at (Slot s Todo)) × (at (Slot s Todo) ≤ u.cpus)
@@ -125,8 +126,8 @@ module _ (u : Setup) (p : StopState) (at : Word → ℕ) (seat : ℕ → Seat) (
 
 -- at first no stop is open
 pub no_stops_shown : (u : Setup) (at : Word → ℕ) → IsSetup u → at Gate ≡ 0 → ((s : ℕ) → at (Slot s Roll) ≡ 0) → AreEntriesOf u.entries (labels_in at) → IsLawful (labels_in at) →
-    StopShows u no_stops at (λ _. Free) (λ _. Shut)
-no_stops_shown u at setup gate rolls entries lawful = record {
+    ((k : ℕ) → at (Key k) ≡ 0) → StopShows u no_stops at (λ _. Free) (λ _. Shut)
+no_stops_shown u at setup gate rolls entries lawful off = record {
   setup = setup;
   present = record {
     slots = λ s. record {
@@ -148,6 +149,7 @@ no_stops_shown u at setup gate rolls entries lawful = record {
   sources = λ s. refl;
   past = λ s. ([], record { each = tt; begun_are = refl; collected_are = refl; answers_are = λ c. refl });
   owns = λ s bad kind in_ late. absurd (apart bad);
+  counts = λ k. opened_count u.cpus k (at (Key k)) (off k);
 }
   where
     apart : false ≡ true → ⊥

@@ -1,9 +1,10 @@
 -- What a step on an open stop leaves to the sources, to the past and to the keys that sources know.
+use Rattle.smp_core.specs.Stops.KeyCounts.{CountShows}
 use Rattle.std.proofs.Common.{◌≡◌, ◌≢◌, ℕ, ◌≤◌, Bool, true, false, ◌==◌, cond, sym, subst, refl, ap, ◌∙◌, Option, List, [], ◌∷◌, ◌++◌}
 use Rattle.smp_core.proofs.Puts.{at_test, put_all}
 use Rattle.smp_core.proofs.Stops.Moves.{field_false}
 use Rattle.smp_core.specs.Put.{put, put_word, same_field}
-use Rattle.smp_core.specs.Stops.Labels.{Patching, Reading}
+use Rattle.smp_core.specs.Stops.Labels.{Patching, Reading, StandsSet}
 use Rattle.smp_core.specs.Stops.Past.{HasPast, answer_now, answers_of, works_of}
 use Rattle.smp_core.specs.Stops.Present.{OwnsKey, PresentShows}
 use Rattle.smp_core.specs.Stops.Seats.{Seat}
@@ -16,7 +17,6 @@ use Rattle.smp_core.specs.declared.stop.work.Kind.TheVariants.{Patch}
 use Rattle.smp_core.specs.declared.stop.work.Work.{Work}
 use Rattle.smp_core.specs.declared.word.Word.TheVariants.{Gate, Key, Slot}
 use Rattle.smp_core.specs.declared.word.Word.{Word}
-use Rattle.smp_labels.specs.Keys.{is_on}
 
 module _ (u : Setup) (gate : Option ℕ) (s : ℕ) where
   -- a source whose slot is as it was
@@ -71,11 +71,11 @@ pub record IsEarly (first s : ℕ) (old new : Stop) : Type 0 where
 pub owns_kept : (first : ℕ) (n : Present) (key : ℕ → ℕ) (s : ℕ) (stop' : Stop) (inside' : ℕ → Option ℕ) (irq' : ℕ → Bool) (readings' : ℕ → List Reading) (patching' : Patching) →
     StaysOpen (n.stop s) stop' → IsEarly first s (n.stop s) stop' → ((j : ℕ) → OwnsKey first n key j) → (j : ℕ) → OwnsKey first (after n s stop' inside' irq' readings' patching') key j
 owns_kept first n key s stop' inside' irq' readings' patching' stays early own j =
-    at_test j s (λ b. let x = cond b stop' (n.stop j) in x.is_open ≡ true → x.work.kind ≡ Patch → is_inside (x.standing j) ≡ true → 3 ≤ acked (x.standing first) → is_on (key x.work.func) ≡ is_on x.work.arg)
+    at_test j s (λ b. let x = cond b stop' (n.stop j) in x.is_open ≡ true → x.work.kind ≡ Patch → is_inside (x.standing j) ≡ true → 3 ≤ acked (x.standing first) → StandsSet x.work (key x.work.func))
     (λ e op kind in_ late.
     let i = early.inside (subst (λ k. is_inside (stop'.standing k) ≡ true) e in_) in
     let o = own s stays.was (ap (λ (w : Work). w.kind) (sym stays.work) ∙ kind) i (early.late late) in
-    ap (λ (w : Work). is_on (key w.func)) stays.work ∙ (o ∙ ap (λ (w : Work). is_on w.arg) (sym stays.work)))
+    subst (λ (w : Work). StandsSet w (key w.func)) (sym stays.work) o)
     (λ ne op kind in_ late. own j op kind in_ late)
 
 -- the past, by the answers of each CPU
@@ -87,12 +87,12 @@ module _ (u : Setup) (p : StopState) (at : Word → ℕ) (seat : ℕ → Seat) (
   -- a step on an open stop that stays open
   pub open_step_with : (looks' : ℕ → List ℕ) (calls' : ℕ → List StopCall) (answers' : ℕ → ℕ → List ℕ) →
       (p.now.stop s).is_open ≡ true → stop'.is_open ≡ true → stop'.work ≡ (p.now.stop s).work → ((p.now.stop s).ending ≡ Ended → stop'.ending ≡ Ended) →
-      at' Gate ≡ at Gate → ((j : ℕ) → j ≢ s → (f : Field) → at' (Slot j f) ≡ at (Slot j f)) →
+      at' Gate ≡ at Gate → ((k : ℕ) → at' (Key k) ≡ at (Key k)) → ((j : ℕ) → j ≢ s → (f : Field) → at' (Slot j f) ≡ at (Slot j f)) →
       ((j : ℕ) → HasPast (put p.now.stop s stop' j) (p.begun j) (p.collected j) (λ c. answers' c j)) →
       ((j : ℕ) → OwnsKey u.first (after p.now s stop' inside' irq' readings' patching') (λ k. at' (Key k)) j) →
       PresentShows u (after p.now s stop' inside' irq' readings' patching') at' seat' →
       StopShows u (record p { now = after p.now s stop' inside' irq' readings' patching'; answers = answers'; looks = looks'; calls = calls' }) at' seat' source
-  open_step_with looks' calls' answers' was now work end gate slots past own present = record {
+  open_step_with looks' calls' answers' was now work end gate keys slots past own present = record {
     setup = h.setup;
     present = present;
     gate = gate ∙ h.gate;
@@ -102,15 +102,16 @@ module _ (u : Setup) (p : StopState) (at : Word → ℕ) (seat : ℕ → Seat) (
         (λ ne. source_same u p.gate j (p.now.stop j) (λ f. at (Slot j f)) (λ f. at' (Slot j f)) (slots j ne) (source j) (h.sources j));
     past = past;
     owns = own;
+    counts = λ k. subst (CountShows u.cpus p.nudged p.patched k) (sym (keys k)) (h.counts k);
   }
 
   -- a step on an open stop that begins, answers and collects nothing
   pub open_step : (looks' : ℕ → List ℕ) (calls' : ℕ → List StopCall) → StaysOpen (p.now.stop s) stop' →
-      at' Gate ≡ at Gate → ((j : ℕ) → j ≢ s → (f : Field) → at' (Slot j f) ≡ at (Slot j f)) →
+      at' Gate ≡ at Gate → ((k : ℕ) → at' (Key k) ≡ at (Key k)) → ((j : ℕ) → j ≢ s → (f : Field) → at' (Slot j f) ≡ at (Slot j f)) →
       ((j : ℕ) → OwnsKey u.first (after p.now s stop' inside' irq' readings' patching') (λ k. at' (Key k)) j) →
       PresentShows u (after p.now s stop' inside' irq' readings' patching') at' seat' →
       StopShows u (record p { now = after p.now s stop' inside' irq' readings' patching'; looks = looks'; calls = calls' }) at' seat' source
-  open_step looks' calls' stays gate slots own present = open_step_with looks' calls' p.answers stays.was stays.now stays.work stays.end gate slots
+  open_step looks' calls' stays gate keys slots own present = open_step_with looks' calls' p.answers stays.was stays.now stays.work stays.end gate keys slots
       (λ j. at_test j s (λ b. HasPast (cond b stop' (p.now.stop j)) (p.begun j) (p.collected j) (λ c. p.answers c j))
       (λ e. let P : ℕ → Type 0 = λ k. HasPast stop' (p.begun k) (p.collected k) (λ c. p.answers c k) in
       subst P (sym e) (past_same (p.now.stop s) stop' (p.begun s) (p.collected s) (λ c. p.answers c s) (stays.now ∙ sym stays.was) (λ _. stays.work) stays.given (h.past s)))

@@ -73,7 +73,7 @@ module _ (p : Present) (s me : ℕ) (stop' : Stop) (inside' : ℕ → Option ℕ
     stands_kept Free h = same ∙ h
     stands_kept (In j w a l t) h = (same ∙ h.0, standing_kept j (Inside a l) refl h.1, turn_kept j t (Inside a l) refl h.1 h.2, work_kept j (Inside a l) w refl h.1 h.3)
     stands_kept (Gives j w a v) h = (same ∙ h.0, standing_kept j (Answering a v) refl h.1, turn_kept j Rests (Answering a v) refl h.1 h.2, work_kept j (Answering a v) w refl h.1 h.3)
-    stands_kept (Alters j w made rest) h =
+    stands_kept (Alters j w count made rest) h =
         (same ∙ h.0, standing_kept j (Inside 2 3) refl h.1, turn_kept j Rests (Inside 2 3) refl h.1 h.2, work_kept j (Inside 2 3) w refl h.1 h.3, h.4, h.5)
     stands_kept (Closes j) h = let e = put_all (λ j x. (p.stop j).is_open ≡ true → (p.stop j).ending ≡ Last c → (x.is_open ≡ true) × (x.ending ≡ Last c)) p.stop s stop' (λ o e. leaves.ending o e) (λ j _ o e. (o, e)) j h.1 h.2 in
         (same ∙ h.0, e.0, e.1)
@@ -84,13 +84,13 @@ module _ (p : Present) (s me : ℕ) (stop' : Stop) (inside' : ℕ → Option ℕ
 
 -- the CPU is not inside the function of a patch
 abbrev pub IsNoPatch : Seat → Type 0
-IsNoPatch (Alters s w made rest) = ⊥
+IsNoPatch (Alters s w count made rest) = ⊥
 IsNoPatch _ = Unit {0}
 
 -- the one that patches is another
 pub runner_kept : (first : ℕ) (patching : Patching) (seat : ℕ → Seat) (me : ℕ) (next : Seat) → IsNoPatch (seat me) → RunnerShows first patching seat → RunnerShows first patching (put seat me next)
 runner_kept first Whole seat me next mine h = tt
-runner_kept first (Patches c w made rest) seat me next mine h =
+runner_kept first (Patches c w count made rest) seat me next mine h =
     (h.0, (h.1.0, put_else seat me next c (λ (e : c ≡ me). subst IsNoPatch (sym (ap seat e) ∙ h.1.1) mine) ∙ h.1.1))
 
 -- a step of one CPU on one slot; the words of the labels stay

@@ -1,4 +1,5 @@
 -- The word of each access of the stop half is in its table, and no step takes the gate from its holder.
+use Rattle.smp_core.specs.Stops.Tells.{plan_at}
 use Rattle.std.proofs.Common.{◌≡◌, ◌≢◌, ℕ, zero, suc, ◌+◌, ◌<◌, ◌≤◌, Bool, true, false, ◌==◌, cond, sym, subst, refl, ap, ◌∙◌, inl, inr, arith, ⊎_elim, ne_eqb, Option, Some, None, List, [], ◌∷◌, ◌++◌, length}
 use Rattle.std.proofs.lemmas.Bool.{cases_lt}
 use Rattle.std.proofs.lemmas.List.{append-nil}
@@ -8,7 +9,7 @@ use Rattle.smp_core.proofs.Stops.Tables.{IsStopWord}
 use Rattle.smp_core.specs.Access.{at_after, word_of}
 use Rattle.smp_core.specs.Put.{put_word}
 use Rattle.smp_core.specs.Size.{cpus}
-use Rattle.smp_core.specs.Stops.Labels.{Change}
+use Rattle.smp_core.specs.Stops.Labels.{Change, count_set}
 use Rattle.smp_core.specs.Stops.Seats.{Alters, Closes, Fills, Gives, In, Rests, Seat, Sets, Stands, Turn}
 use Rattle.smp_core.specs.Stops.Shows.{StopShows}
 use Rattle.smp_core.specs.Stops.Sits.{HoldsGate, IsLoaded, IsThroughAll, Sits, SitsAt, SitsInCompletion, SitsInRound}
@@ -21,16 +22,16 @@ use Rattle.smp_core.specs.declared.stop.stage.CompletionStage.TheVariants as com
 use Rattle.smp_core.specs.declared.stop.stage.CompletionStage.{CompletionStage}
 use Rattle.smp_core.specs.declared.stop.stage.RoundStage.TheVariants as round
 use Rattle.smp_core.specs.declared.stop.stage.RoundStage.{RoundStage}
-use Rattle.smp_core.specs.declared.stop.stage.StopStage.TheVariants.{Advance, Begin, Close, Complete, Enter, EnterActive, EnterKind, EnterMask, LoadDone, LoadResult, OpenGate, ReadKey, ReadSite, TakeGate}
+use Rattle.smp_core.specs.declared.stop.stage.StopStage.TheVariants.{Advance, Begin, Close, Complete, Enter, EnterActive, EnterKind, EnterMask, LoadDone, LoadResult, OpenGate, ReadKey, ReadSite, TakeGate, NudgeKey, ExchangeKey}
 use Rattle.smp_core.specs.declared.stop.stage.StopStage.{StopStage}
 use Rattle.smp_core.specs.declared.stop.stage.Visit.{Visit}
 use Rattle.smp_core.specs.declared.stop.work.Kind.TheVariants.{Patch}
 use Rattle.smp_core.specs.declared.stop.work.Work.{Work}
-use Rattle.smp_core.specs.declared.word.Word.TheVariants.{Gate, Slot}
+use Rattle.smp_core.specs.declared.word.Word.TheVariants.{Gate, Slot, Key}
 use Rattle.smp_core.specs.declared.word.Word.{Word}
 use Rattle.smp_labels.specs.Entries.{entry_at}
 use Rattle.smp_labels.specs.Keys.{is_on}
-use Rattle.smp_labels.specs.Kinds.{kind_of}
+use Rattle.smp_labels.specs.Kinds.{kind_of, xor}
 use Rattle.smp_labels.specs.Kinds.{kind_word as kind_word_site}
 use Rattle.smp_labels.specs.Plans.{patch_of, site_change, site_changes}
 use Rattle.smp_labels.specs.declared.entries.Entry.{Entry as SiteEntry}
@@ -74,9 +75,9 @@ module _ (u : Setup) (p : StopState) (at : Word → ℕ) (seat : ℕ → Seat) (
         let st : Stands p.now me (Gives s work a v) = subst (Stands p.now me) is (h.present.stands me) in
         is_open_inside u.cpus (p.now.stop s) (λ f. at (Slot s f)) (h.present.slots s) me (Answering a v) st.1 refl
 
-    open_alters : (s : ℕ) (work : Work) (made rest : List Change) → seat me ≡ Alters s work made rest → (p.now.stop s).is_open ≡ true
-    open_alters s work made rest is =
-        let st : Stands p.now me (Alters s work made rest) = subst (Stands p.now me) is (h.present.stands me) in
+    open_alters : (s : ℕ) (work : Work) (count : ℕ) (made rest : List Change) → seat me ≡ Alters s work count made rest → (p.now.stop s).is_open ≡ true
+    open_alters s work count made rest is =
+        let st : Stands p.now me (Alters s work count made rest) = subst (Stands p.now me) is (h.present.stands me) in
         is_open_inside u.cpus (p.now.stop s) (λ f. at (Slot s f)) (h.present.slots s) me (Inside 2 3) st.1 refl
 
     -- the slot that a CPU is in, and its work
@@ -86,8 +87,8 @@ module _ (u : Setup) (p : StopState) (at : Word → ℕ) (seat : ℕ → Seat) (
     below_gives : (s : ℕ) (work : Work) (a v : ℕ) → seat me ≡ Gives s work a v → s < cpus
     below_gives s work a v is = open_below s (open_gives s work a v is)
 
-    below_alters : (s : ℕ) (work : Work) (made rest : List Change) → seat me ≡ Alters s work made rest → s < cpus
-    below_alters s work made rest is = open_below s (open_alters s work made rest is)
+    below_alters : (s : ℕ) (work : Work) (count : ℕ) (made rest : List Change) → seat me ≡ Alters s work count made rest → s < cpus
+    below_alters s work count made rest is = open_below s (open_alters s work count made rest is)
 
     pub work_in : (s : ℕ) (work : Work) (a l : ℕ) (t : Turn) → seat me ≡ In s work a l t → IsWork u work
     work_in s work a l t is =
@@ -130,33 +131,32 @@ module _ (u : Setup) (p : StopState) (at : Word → ℕ) (seat : ℕ → Seat) (
       round_named v (round.Look answer) x = below_in v.slot x.2.0 v.acked v.acked Rests x.2.2
       round_named v (round.LoadFunc answer) x = below_in v.slot x.1.0 2 3 Rests x.1.1.3
       round_named v (round.LoadArg answer func) x = below_in v.slot x.1.0 2 3 Rests x.1.1.3
-      round_named v (round.LoadKey key word) x =
+      round_named v (round.LoadKey key change) x =
           let work = x.1.0 in
           let run = x.1.1 in
           let st : Stands p.now me (In v.slot work 2 3 Rests) = subst (Stands p.now me) run.3 (h.present.stands me) in
           subst (λ k. k < MOST_KEYS) (sym x.1.2) (key_below v.slot work (open_in v.slot work 2 3 Rests run.3) st.3 (sym run.0.kind ∙ x.0))
-      round_named v (round.LoadEntry key word site) x = x.5
-      round_named v (round.StoreChange made) x = go x.0 x.3 x.4 x.5.0 x.5.1 x.5.2 x.5.3 x.5.4
+      round_named v (round.LoadEntry key word site) x = x.3
+      round_named v (round.StoreChange made) x = go x.0 x.1 x.4 x.5 x.6.0 x.6.1 x.6.2 x.6.3 x.6.4
         where
-          go : (work : Work) → made < length c.changes → c.changes ≡ patch_of work.func work.arg u.entries → (before after : List Change) → c.changes ≡ before ++ after → length before ≡ made →
-              seat me ≡ Alters v.slot work before after → IsStopWord (word_of (store_of (change_at c.changes made)))
-          go work low plan before [] are long is = absurd (let same : length c.changes ≡ length before = ap length (are ∙ append-nil before) in omega arith)
-          go work low plan before (change ∷ rest) are long is =
-              let st : Stands p.now me (Alters v.slot work before (change ∷ rest)) = subst (Stands p.now me) is (h.present.stands me) in
-              let key = key_below v.slot work (open_alters v.slot work before (change ∷ rest) is) st.3 st.4 in
-              let all : AllByRecursion IsNamedChange (patch_of work.func work.arg u.entries) = plan_named work key in
+          go : (work : Work) (count : ℕ) → made < length c.changes → c.changes ≡ plan_at u work count → (before after : List Change) → c.changes ≡ before ++ after → length before ≡ made →
+              seat me ≡ Alters v.slot work count before after → IsStopWord (word_of (store_of (change_at c.changes made)))
+          go work count low plan before [] are long is = absurd (let same : length c.changes ≡ length before = ap length (are ∙ append-nil before) in omega arith)
+          go work count low plan before (change ∷ rest) are long is =
+              let st : Stands p.now me (Alters v.slot work count before (change ∷ rest)) = subst (Stands p.now me) is (h.present.stands me) in
+              let key = key_below v.slot work (open_alters v.slot work count before (change ∷ rest) is) st.3 st.4 in
+              let all : AllByRecursion IsNamedChange (plan_at u work count) = plan_named work key (count_set work count) (count == count_set work count) (xor (is_on count) (is_on (count_set work count))) in
               let here : change_at c.changes made ≡ change = ap (λ l. change_at l made) are ∙ (ap (λ n. change_at (before ++ change ∷ rest) n) (sym long) ∙ change_here before change rest) in
               subst (λ (x : Change). IsStopWord (word_of (store_of x))) (sym here)
               (named_store change (at_split before change rest (subst (AllByRecursion IsNamedChange) (sym plan ∙ are) all)))
             where
-              named_key : (work : Work) → work.func < MOST_KEYS → IsNamedChange (place.Key work.func, work.arg)
-              named_key work key = key
-
-              plan_named : (work : Work) → work.func < MOST_KEYS → AllByRecursion IsNamedChange (patch_of work.func work.arg u.entries)
-              plan_named work key = (named_key work key, sites_named work.func (is_on work.arg) 0 u.entries (let f = h.present.entries.few in omega arith))
+              plan_named : (work : Work) → work.func < MOST_KEYS → (word : ℕ) (a b : Bool) → AllByRecursion IsNamedChange (cond a [] (cond b (patch_of work.func word u.entries) ((place.Key work.func, word) ∷ [])))
+              plan_named work key word true b = tt
+              plan_named work key word false true = (key, sites_named work.func (is_on word) 0 u.entries (let f = h.present.entries.few in omega arith))
+              plan_named work key word false false = (key, tt)
       round_named v (round.Acknowledge answer ran) x = ⊎_elim
           (λ (y : (seat me ≡ In v.slot x.0 v.acked (v.acked + 1) Rests) × (v.acked ≡ 2 → v.kind ≡ Patch → has v.active me ≡ false)). below_in v.slot x.0 v.acked (v.acked + 1) Rests y.0)
-          (λ (y : (v.acked ≡ 2) × ((made : List Change) × (seat me ≡ Alters v.slot x.0 made []))). below_alters v.slot x.0 y.1.0 [] y.1.1) x.3
+          (λ (y : (v.acked ≡ 2) × ((count : ℕ) × (made : List Change) × (seat me ≡ Alters v.slot x.0 count made []))). below_alters v.slot x.0 y.1.0 y.1.1 [] y.1.2) x.3
       round_named v (round.Refill ran) x = below_in v.slot x.0 v.acked v.acked Fills x.2
       round_named v (round.Raise ran) x = below_in v.slot x.0 v.acked v.acked Sets x.2
 
@@ -186,6 +186,8 @@ module _ (u : Setup) (p : StopState) (at : Word → ℕ) (seat : ℕ → Seat) (
       stage_named LoadDone e = me_below
       stage_named LoadResult e = me_below
       stage_named (ReadKey k) e = let x = at_seat (ReadKey k) e in let low = x.1 in let m = h.setup.few_keys in omega arith
+      stage_named (NudgeKey k up) e = let x = at_seat (NudgeKey k up) e in let low = x.2 in let m = h.setup.few_keys in omega arith
+      stage_named (ExchangeKey k expected new) e = let x = at_seat (ExchangeKey k expected new) e in let low = x.2 in let m = h.setup.few_keys in omega arith
       stage_named (ReadSite i) e = let x = at_seat (ReadSite i) e in let low = x.1 in let f = h.present.entries.few in omega arith
 
       -- another CPU that holds the gate holds it after the step
@@ -209,7 +211,7 @@ module _ (u : Setup) (p : StopState) (at : Word → ℕ) (seat : ℕ → Seat) (
       gate_stays (Advance v (round.Look answer)) e cpu ne held = held
       gate_stays (Advance v (round.LoadFunc answer)) e cpu ne held = held
       gate_stays (Advance v (round.LoadArg answer func)) e cpu ne held = held
-      gate_stays (Advance v (round.LoadKey key word)) e cpu ne held = held
+      gate_stays (Advance v (round.LoadKey key change)) e cpu ne held = held
       gate_stays (Advance v (round.LoadEntry key word site)) e cpu ne held = held
       gate_stays (Advance v (round.StoreChange made)) e cpu ne held = other (change_at c.changes made)
         where
@@ -228,3 +230,5 @@ module _ (u : Setup) (p : StopState) (at : Word → ℕ) (seat : ℕ → Seat) (
       gate_stays LoadResult e cpu ne held = held
       gate_stays (ReadKey k) e cpu ne held = held
       gate_stays (ReadSite i) e cpu ne held = held
+      gate_stays (NudgeKey k up) e cpu ne held = held
+      gate_stays (ExchangeKey k expected new) e cpu ne held = elim (at (Key k) == expected) as (λ b. (cond b (put_word at (Key k) new) at) Gate ≡ cpu + 1) [ true ↦ held | false ↦ held ]

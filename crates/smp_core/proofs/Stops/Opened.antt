@@ -7,7 +7,7 @@ use Rattle.smp_labels.specs.Entries.{entry_word}
 use Rattle.smp_labels.specs.Labels.{Labels, AreLabels}
 use Rattle.smp_labels.specs.Law.{IsLawful}
 use Rattle.smp_labels.specs.declared.entries.Entry.{Entry}
-use Rattle.smp_labels.specs.declared.words.TheConstants.{MOST_SITES}
+use Rattle.smp_labels.specs.declared.words.TheConstants.{MOST_SITES, MOST_KEYS}
 use Rattle.smp_core.specs.Size.{cpus}
 use Rattle.smp_core.specs.Stops.Labels.{labels_in}
 use Rattle.smp_core.specs.Stops.State.{no_stops}
@@ -60,16 +60,16 @@ named_entry (e ∷ es) zero low = λ z. omega (arith, z)
 named_entry (e ∷ es) (suc i) low = named_entry es i (let z : i < length (map entry_word es) = omega (arith, low) in z)
 
 pub opened_shown : (online : ℕ) (labels : Labels) (t : StopWords) (controls : List StopControlValue) → ((c : ℕ) × (has online c ≡ true)) → ((c : ℕ) → has online c ≡ true → c < cpus) → AreLabels labels.keys labels.entries →
-    t.gate ≡ 0 → t.slots ≡ replicate SLOT_WORDS 0 → t.entries ≡ map entry_word labels.entries ++ replicate (MOST_SITES - length labels.entries) 0 → IsLawful (labels_in (stop_number t)) →
+    t.gate ≡ 0 → t.slots ≡ replicate SLOT_WORDS 0 → t.entries ≡ map entry_word labels.entries ++ replicate (MOST_SITES - length labels.entries) 0 → IsLawful (labels_in (stop_number t)) → t.keys ≡ replicate MOST_KEYS 0 →
     controls ≡ replicate cpus stop_outside → StopsShow (setup_of online labels) no_stops t controls
-opened_shown online labels t controls member below are gate slots entries lawful outside = record {
+opened_shown online labels t controls member below are gate slots entries lawful off outside = record {
   seat = λ _. Free;
   source = λ _. Shut;
   shows = no_stops_shown (setup_of online labels) (stop_number t)
       record { first = first_online online member below; below = below; few = omega arith; few_keys = are.few_keys; named = named_entry labels.entries }
       gate (λ s. rw slots (zero_at SLOT_WORDS (slot_cell s field.Roll)))
       record { few = let l = length-map labels.entries entry_word in let f = are.few_sites in omega arith; read = λ i low. rw entries (read_zeros (map entry_word labels.entries) (MOST_SITES - length labels.entries) i) }
-      lawful;
+      lawful (λ k. rw off (get_or-same 0 MOST_KEYS k));
   sits = λ cpu low. rw outside (rw (get_or-same stop_outside cpus cpu) record { below = low; irq = refl; seat = refl; source = refl; gate_held = tt });
   shut = λ cpu high. refl;
 }

@@ -4,7 +4,7 @@ use Rattle.smp_core.proofs.Stops.Ends.{function_law}
 use Rattle.smp_core.proofs.Stops.Phases.{is_open_inside}
 use Rattle.smp_core.proofs.Stops.Raises.{level_of}
 use Rattle.smp_core.specs.Put.{put_word}
-use Rattle.smp_core.specs.Stops.Labels.{Change, Patches, Patching}
+use Rattle.smp_core.specs.Stops.Labels.{Change, Patches, Patching, StandsSet}
 use Rattle.smp_core.specs.Stops.Present.{OwnsKey, PresentShows, RunnerShows}
 use Rattle.smp_core.specs.Stops.Seats.{Alters, Seat, Stands}
 use Rattle.smp_core.specs.Stops.Slots.{Keeps}
@@ -14,7 +14,6 @@ use Rattle.smp_core.specs.declared.stop.work.Kind.TheVariants.{Patch}
 use Rattle.smp_core.specs.declared.stop.work.Work.{Work}
 use Rattle.smp_core.specs.declared.word.Word.TheVariants.{Key, Slot}
 use Rattle.smp_core.specs.declared.word.Word.{Word}
-use Rattle.smp_labels.specs.Keys.{is_on}
 use Rattle.smp_mask.specs.Mask.{has}
 
 module _ (u : Setup) (p : Present) (at : Word → ℕ) (seat : ℕ → Seat) (h : PresentShows u p at seat) where
@@ -36,10 +35,10 @@ module _ (u : Setup) (p : Present) (at : Word → ℕ) (seat : ℕ → Seat) (h 
       go (Completed b v) of run a k = absurd (⊎_elim (λ (t : b ≡ 4). ⊎_elim (λ (u : b ≡ 2). omega arith) (λ (u : b ≡ 3). omega arith) a) (λ (t : (p.stop s).phase ≡ 0). omega arith) k.2)
 
   -- while a patch is under way, the source of no other one waits inside its own: a store is in no other's way
-  pub owns_stores : (s me t k n : ℕ) (job : Work) (made rest : List Change) → seat me ≡ Alters t job made rest → OwnsKey u.first p (λ j. at (Key j)) s →
+  pub owns_stores : (s me t k n : ℕ) (job : Work) (count : ℕ) (made rest : List Change) → seat me ≡ Alters t job count made rest → OwnsKey u.first p (λ j. at (Key j)) s →
       OwnsKey u.first p (λ j. put_word at (Key k) n (Key j)) s
-  owns_stores s me t k n job made rest is own open_ kind in_ done =
-      let st : Stands p me (Alters t job made rest) = subst (Stands p me) is (h.stands me) in
+  owns_stores s me t k n job count made rest is own open_ kind in_ done =
+      let st : Stands p me (Alters t job count made rest) = subst (Stands p me) is (h.stands me) in
       let open_t = is_open_inside u.cpus (p.stop t) (λ f. at (Slot t f)) (h.slots t) me (Inside 2 3) st.1 refl in
       let kind_t : (p.stop t).work.kind ≡ Patch = ap (λ (w : Work). w.kind) st.3 ∙ st.4 in
       let mine : me ≡ u.first = runner p.patching h.runner st.5 in
@@ -57,12 +56,12 @@ module _ (u : Setup) (p : Present) (at : Word → ℕ) (seat : ℕ → Seat) (h 
       inside_of (Answering a v) e = refl
       inside_of (Completed a v) e = cc
 
-      runner : (x : Patching) → RunnerShows u.first x seat → x ≡ Patches me job made rest → me ≡ u.first
+      runner : (x : Patching) → RunnerShows u.first x seat → x ≡ Patches me job count made rest → me ≡ u.first
       runner x r e = (subst (λ x. RunnerShows u.first x seat) e r).0
 
   -- at phase 4 the key stands so: with it the source's readings begin when it leaves
   pub owns_at_leave : (s : ℕ) → (p.stop s).is_open ≡ true → (p.stop s).work.kind ≡ Patch → is_inside ((p.stop s).standing s) ≡ true → 4 ≤ (p.stop s).phase → u.online u.first ≡ true →
-      OwnsKey u.first p (λ k. at (Key k)) s → is_on (at (Key (p.stop s).work.func)) ≡ is_on (p.stop s).work.arg
+      OwnsKey u.first p (λ k. at (Key k)) s → StandsSet (p.stop s).work (at (Key (p.stop s).work.func))
   owns_at_leave s open_ kind in_ late on own =
       let of = mask_is s u.first open_ ∙ ((h.works s open_ kind).all u.first ∙ on) in
       let l = level_of u.cpus (p.stop s).phase u.first ((p.stop s).standing u.first) of ((h.slots s).keeps u.first) in

@@ -1,5 +1,5 @@
 -- The kinds of step of a round: a CPU looks at the phase, acknowledges it, refills the count, and stores the next phase.
-use Rattle.std.proofs.Common.{◌≡◌, ◌≢◌, ℕ, ◌+◌, ◌-◌, ◌<◌, ◌≤◌, Bool, true, false, not, nat_lt, lt-ltb, le-ltb, eqb-true, eq-eqb, ne_eqb, ◌==◌, ◌&&◌, ◌||◌, cond, sym, subst, refl, ap, ◌∙◌, ◌⊎◌, inl, inr, arith, ⊎_elim, Some, None, List, [], ◌∷◌, ◌++◌}
+use Rattle.std.proofs.Common.{◌≡◌, ◌≢◌, ℕ, ◌+◌, ◌-◌, ◌<◌, ◌≤◌, Bool, true, false, not, nat_lt, lt-ltb, le-ltb, eqb-true, eq-eqb, ne_eqb, ◌==◌, ◌&&◌, ◌||◌, cond, sym, subst, refl, ap, ◌∙◌, ◌⊎◌, inl, inr, arith, ⊎_elim, Some, None, List, [], ◌∷◌, ◌++◌, Option, IfSome}
 use Rattle.std.proofs.lemmas.Bool.{cases_lt, cases_eq}
 use Rattle.smp_core.proofs.Puts.{at_test, put_all}
 use Rattle.smp_core.proofs.Stops.Counts.{put_else, put_here}
@@ -12,7 +12,7 @@ use Rattle.smp_core.proofs.Stops.Steps.{step_acknowledges, step_looks, step_rais
 use Rattle.smp_core.proofs.Stops.Works.{weight_of_mask}
 use Rattle.smp_core.specs.Put.{put, put_word}
 use Rattle.smp_core.specs.Stops.Counts.{mask_weight, weight}
-use Rattle.smp_core.specs.Stops.Labels.{Agrees, Change, Patches, Patching, ReadKey, Reading, Whole, labels_in}
+use Rattle.smp_core.specs.Stops.Labels.{Agrees, Change, Patches, Patching, Reading, Whole, labels_in, StandsSet, reading_of, state_left}
 use Rattle.smp_core.specs.Stops.Past.{answer_now}
 use Rattle.smp_core.specs.Stops.Present.{OwnsKey, PresentShows, RunnerShows}
 use Rattle.smp_core.specs.Stops.Seats.{Alters, Fills, In, Rests, Seat, Sets, Stands, Turn, irq_of, turn_of}
@@ -29,7 +29,7 @@ use Rattle.smp_core.specs.declared.stop.work.Kind.{Kind as KindOf}
 use Rattle.smp_core.specs.declared.stop.work.Work.{Work}
 use Rattle.smp_core.specs.declared.word.Word.TheVariants.{Key, Slot}
 use Rattle.smp_core.specs.declared.word.Word.{Word}
-use Rattle.smp_labels.specs.Keys.{is_on}
+use Rattle.smp_labels.specs.Keys.{is_on, change_of}
 use Rattle.smp_mask.specs.Mask.{has}
 use Rattle.std.specs.List.{AllByRecursion}
 
@@ -99,7 +99,7 @@ module _ (u : Setup) (p : StopState) (at : Word → ℕ) (seat : ℕ → Seat) (
       (sym st.1)
       (open_step u p at seat source h s stop' p.now.inside irq' p.now.readings p.now.patching at (put seat me next) looks' p.calls
       record { was = is_open job a l Rests is; now = is_open job a l Rests is; work = refl; end = λ e. e; given = moves_given u.first s me (p.now.stop s) to inside }
-      refl (λ j ne f. refl)
+      refl (λ k. refl) (λ j ne f. refl)
       (owns_kept u.first p.now (λ k. at (Key k)) s stop' p.now.inside irq' p.now.readings p.now.patching
       record { was = is_open job a l Rests is; now = is_open job a l Rests is; work = refl; end = λ e. e; given = moves_given u.first s me (p.now.stop s) to inside }
       (moves_early u.first s me (p.now.stop s) to inside stop' refl) h.owns)
@@ -127,7 +127,7 @@ module _ (u : Setup) (p : StopState) (at : Word → ℕ) (seat : ℕ → Seat) (
   -- who is not inside the function of a patch does not end one
   not_patching : (x : Patching) → IsNoPatch (seat me) → RunnerShows u.first x seat → unpatched me x ≡ x
   not_patching Whole idle r = refl
-  not_patching (Patches c w made rest) idle r = ap (λ b. cond b Whole (Patches c w made rest)) (ne_eqb c me (λ e. subst IsNoPatch (sym (ap seat e) ∙ r.1.1) idle))
+  not_patching (Patches c w count made rest) idle r = ap (λ b. cond b Whole (Patches c w count made rest)) (ne_eqb c me (λ e. subst IsNoPatch (sym (ap seat e) ∙ r.1.1) idle))
 
   -- with the key of its own patch a source's readings begin when it leaves
   leave_agrees : (job : Work) (a l : ℕ) (t : Turn) → seat me ≡ In s job a l t → 4 ≤ (p.now.stop s).phase → AllByRecursion (Agrees (labels_in at)) (first_readings me s job)
@@ -138,7 +138,11 @@ module _ (u : Setup) (p : StopState) (at : Word → ℕ) (seat : ℕ → Seat) (
       kind_patch Multi e = cc
       kind_patch Patch e = refl
 
-      go : (b : Bool) → is_patch job.kind ≡ b → (c : Bool) → (s == me) ≡ c → AllByRecursion (Agrees (labels_in at)) (cond (b && c) (ReadKey job.func (is_on job.arg) ∷ []) [])
+      reads : (n : ℕ) → n ≡ at (Key job.func) → (x : Option Bool) → IfSome x (λ on. is_on n ≡ on) → AllByRecursion (Agrees (labels_in at)) (reading_of job.func x)
+      reads n same None k = tt
+      reads n same (Some on) k = (ap is_on (sym same) ∙ k, tt)
+
+      go : (b : Bool) → is_patch job.kind ≡ b → (c : Bool) → (s == me) ≡ c → AllByRecursion (Agrees (labels_in at)) (cond (b && c) (reading_of job.func (state_left (change_of job.arg))) [])
       go false e c f = tt
       go true e false f = tt
       go true e true f =
@@ -147,7 +151,7 @@ module _ (u : Setup) (p : StopState) (at : Word → ℕ) (seat : ℕ → Seat) (
           let in_ : is_inside ((p.now.stop s).standing s) ≡ true = subst (λ k. is_inside ((p.now.stop s).standing k) ≡ true) (sym same) (ap is_inside st.1) in
           let kind : (p.now.stop s).work.kind ≡ Patch = ap (λ (w : Work). w.kind) st.3 ∙ kind_patch job.kind e in
           let k = owns_at_leave u p.now at seat h.present s (is_open job a l t is) kind in_ late h.setup.first (h.owns s) in
-          (subst (λ (w : Work). is_on (at (Key w.func)) ≡ is_on w.arg) st.3 k, tt)
+          reads (at (Key job.func)) refl (state_left (change_of job.arg)) (subst (λ (w : Work). StandsSet w (at (Key w.func))) st.3 k)
 
   module _ (job : Work) (a answer : ℕ) where
     abbrev pub found : ℕ
@@ -165,13 +169,13 @@ module _ (u : Setup) (p : StopState) (at : Word → ℕ) (seat : ℕ → Seat) (
 
     -- the keys that sources know
     owns_acked : (x : Patching) (irq' : ℕ → Bool) (readings' : ℕ → List Reading) → (p.now.stop s).standing me ≡ Inside a (a + 1) →
-        ((p.now.stop s).work.kind ≡ Patch → me ≡ u.first → a ≡ 2 → is_on (at (Key (p.now.stop s).work.func)) ≡ is_on (p.now.stop s).work.arg) →
+        ((p.now.stop s).work.kind ≡ Patch → me ≡ u.first → a ≡ 2 → StandsSet (p.now.stop s).work (at (Key (p.now.stop s).work.func))) →
         (j : ℕ) → OwnsKey u.first (after p.now s acked_stop p.now.inside irq' readings' x) (λ k. at (Key k)) j
     owns_acked x irq' readings' st known j =
-        at_test j s (λ b. let y = cond b acked_stop (p.now.stop j) in y.is_open ≡ true → y.work.kind ≡ Patch → is_inside (y.standing j) ≡ true → 3 ≤ acked (y.standing u.first) → is_on (at (Key y.work.func)) ≡ is_on y.work.arg)
+        at_test j s (λ b. let y = cond b acked_stop (p.now.stop j) in y.is_open ≡ true → y.work.kind ≡ Patch → is_inside (y.standing j) ≡ true → 3 ≤ acked (y.standing u.first) → StandsSet y.work (at (Key y.work.func)))
         (λ e op kind in_ late.
         let i = put_all (λ c y. is_inside y ≡ true → is_inside ((p.now.stop s).standing c) ≡ true) (p.now.stop s).standing me (Inside (a + 1) (a + 1)) (λ _. ap is_inside st) (λ c ne i. i) s (subst (λ k. is_inside (acked_stop.standing k) ≡ true) e in_) in
-        at_test u.first me (λ b. 3 ≤ acked (cond b (Inside (a + 1) (a + 1)) ((p.now.stop s).standing u.first)) → is_on (at (Key (p.now.stop s).work.func)) ≡ is_on (p.now.stop s).work.arg)
+        at_test u.first me (λ b. 3 ≤ acked (cond b (Inside (a + 1) (a + 1)) ((p.now.stop s).standing u.first)) → StandsSet (p.now.stop s).work (at (Key (p.now.stop s).work.func)))
         (λ f late. elim (cases_eq a 2) [
           | inl two ↦ known kind (sym f) two
           | inr ne ↦ h.owns s op kind i (subst (λ c. 3 ≤ acked ((p.now.stop s).standing c)) (sym f) (subst (λ (y : Standing). 3 ≤ acked y) (sym st) (let z : 3 ≤ a = omega arith in z)))
@@ -194,7 +198,7 @@ module _ (u : Setup) (p : StopState) (at : Word → ℕ) (seat : ℕ → Seat) (
     -- an acknowledgement, over a state in which nobody or another patches
     ack_shown : (x : Patching) (seat0 : ℕ → Seat) (calls' : ℕ → List StopCall) → PresentShows u (record (p.now) { patching = x }) at seat0 → seat0 me ≡ In s job a (a + 1) Rests →
         p.now.irq me ≡ nat_lt (a + 1) 2 → put seat0 me next ≡ put seat me next → (p.now.stop s).standing me ≡ Inside a (a + 1) → (p.now.stop s).is_open ≡ true →
-        ((p.now.stop s).work.kind ≡ Patch → me ≡ u.first → a ≡ 2 → is_on (at (Key (p.now.stop s).work.func)) ≡ is_on (p.now.stop s).work.arg) →
+        ((p.now.stop s).work.kind ≡ Patch → me ≡ u.first → a ≡ 2 → StandsSet (p.now.stop s).work (at (Key (p.now.stop s).work.func))) →
         (a + 1 ≡ 4 → AllByRecursion (Agrees (labels_in at)) (first_readings me s (p.now.stop s).work)) →
         (b : Bool) → (a + 1 == 4 && not (found == 1)) ≡ b →
         StopShows u (record p { now = cond b (leaves (acked_now x) me s (p.now.stop s).work) (acked_now x); calls = calls' }) (put_word at (Slot s Ack) (found - 1)) (put seat me next) source
@@ -206,7 +210,7 @@ module _ (u : Setup) (p : StopState) (at : Word → ℕ) (seat : ℕ → Seat) (
         subst (λ (y : ℕ → Seat). StopShows u (record p { now = leaves (acked_now x) me s (p.now.stop s).work; calls = calls' }) at' y source) same
         (open_step u p at seat source h s acked_stop p.now.inside irq' readings' x at' (put seat0 me next) p.looks calls'
         record { was = op; now = op; work = refl; end = λ e. e; given = put_all (λ c y. answer_now y ≡ answer_now ((p.now.stop s).standing c)) (p.now.stop s).standing me to (sym (ap answer_now st)) (λ c ne. refl) }
-        refl (other_slots at s Ack (found - 1))
+        refl (λ k. refl) (other_slots at s Ack (found - 1))
         (owns_acked x irq' readings' st known)
         (step_acknowledges u (record (p.now) { patching = x }) at seat0 present s me irq' readings'
         record { inside = λ c ne. refl; irq = λ c ne. put_else p.now.irq me true c ne; readings = λ c ne. put_else p.now.readings me (first_readings me s (p.now.stop s).work) c ne }
@@ -220,7 +224,7 @@ module _ (u : Setup) (p : StopState) (at : Word → ℕ) (seat : ℕ → Seat) (
         subst (λ (y : ℕ → Seat). StopShows u (record p { now = acked_now x; calls = calls' }) at' y source) same
         (open_step u p at seat source h s acked_stop p.now.inside p.now.irq p.now.readings x at' (put seat0 me next) p.looks calls'
         record { was = op; now = op; work = refl; end = λ e. e; given = put_all (λ c y. answer_now y ≡ answer_now ((p.now.stop s).standing c)) (p.now.stop s).standing me to (sym (ap answer_now st)) (λ c ne. refl) }
-        refl (other_slots at s Ack (found - 1))
+        refl (λ k. refl) (other_slots at s Ack (found - 1))
         (owns_acked x p.now.irq p.now.readings st known)
         (step_acknowledges u (record (p.now) { patching = x }) at seat0 present s me p.now.irq p.now.readings
         record { inside = λ c ne. refl; irq = λ c ne. refl; readings = λ c ne. refl }
@@ -258,23 +262,23 @@ module _ (u : Setup) (p : StopState) (at : Word → ℕ) (seat : ℕ → Seat) (
             let bad : true ≡ false = sym yes ∙ passive in cc
 
   -- the same at phase 3, by the CPU that has made all stores of its patch
-  pub ack_subtracted_patched : (job : Work) (made : List Change) (answer : ℕ) → seat me ≡ Alters s job made [] →
+  pub ack_subtracted_patched : (job : Work) (count : ℕ) (made : List Change) (answer : ℕ) → seat me ≡ Alters s job count made [] →
       let found = at (Slot s Ack) in
       StopShows u (told u p me act.Sub (Slot s Ack) (Some found) (Some (found - 1)) answer) (put_word at (Slot s Ack) (found - 1)) (put seat me (In s job 3 3 (cond (found == 1) Fills Rests))) source
-  ack_subtracted_patched job made answer is =
+  ack_subtracted_patched job count made answer is =
       let found = at (Slot s Ack) in
-      let st : Stands p.now me (Alters s job made []) = subst (Stands p.now me) is (h.present.stands me) in
-      let ends = patch_ends u p.now at seat h.present s me job made is in
+      let st : Stands p.now me (Alters s job count made []) = subst (Stands p.now me) is (h.present.stands me) in
+      let ends = patch_ends u p.now at seat h.present s me job count made is in
       let seat0 = put seat me (In s job 2 3 Rests) in
       let next = In s job 3 3 (cond (found == 1) Fills Rests) in
       let open_ = is_open_inside u.cpus (p.now.stop s) (λ f. at (Slot s f)) (h.present.slots s) me (Inside 2 3) st.1 refl in
       subst (λ (x : Standing). StopShows u (acknowledges p me s x found answer) (put_word at (Slot s Ack) (found - 1)) (put seat me next) source) (sym st.1)
       (subst (λ (x : Patching). StopShows u (record p { now = acked_now job 2 answer (unpatched me x); calls = calls_then job 2 answer }) (put_word at (Slot s Ack) (found - 1)) (put seat me next) source)
       (sym st.5)
-      (subst (λ b. StopShows u (record p { now = acked_now job 2 answer (cond b Whole (Patches me job made [])); calls = calls_then job 2 answer }) (put_word at (Slot s Ack) (found - 1)) (put seat me next) source)
+      (subst (λ b. StopShows u (record p { now = acked_now job 2 answer (cond b Whole (Patches me job count made [])); calls = calls_then job 2 answer }) (put_word at (Slot s Ack) (found - 1)) (put seat me next) source)
       (sym (eq-eqb me me refl))
       (ack_shown job 2 answer Whole seat0 (calls_then job 2 answer) ends.0 (put_here seat me (In s job 2 3 Rests)) (h.present.irq me ∙ ap irq_of is) (put_twice seat me (In s job 2 3 Rests) next) st.1 open_
-      (λ kind mine two. subst (λ (w : Work). is_on (at (Key w.func)) ≡ is_on w.arg) (sym st.3) ends.1)
+      (λ kind mine two. subst (λ (w : Work). StandsSet w (at (Key w.func))) (sym st.3) ends.1)
       (λ four. absurd (let z : ⊥ = omega (arith, four) in z)) false refl)))
 
   -- store of the count by the one that emptied it: the weight of the mask
@@ -292,7 +296,7 @@ module _ (u : Setup) (p : StopState) (at : Word → ℕ) (seat : ℕ → Seat) (
       let stays : StaysOpen (p.now.stop s) stop' = record { was = open_; now = open_; work = refl; end = λ e. e; given = λ c. refl } in
       subst (λ b. StopShows u (cond b (stored_open p me s Ack v) (stored_shut p s Ack v)) (put_word at (Slot s Ack) v) (put seat me next) source) (sym open_)
       (open_step u p at seat source h s stop' p.now.inside p.now.irq p.now.readings p.now.patching (put_word at (Slot s Ack) v) (put seat me next) p.looks p.calls stays
-      refl (other_slots at s Ack v)
+      refl (λ k. refl) (other_slots at s Ack v)
       (owns_kept u.first p.now (λ k. at (Key k)) s stop' p.now.inside p.now.irq p.now.readings p.now.patching stays record { inside = λ i. i; late = λ i. i } h.owns)
       (subst (λ n. PresentShows u (after p.now s stop' p.now.inside p.now.irq p.now.readings p.now.patching) (put_word at (Slot s Ack) n) (put seat me next)) whole
       (step_refills u p.now at seat h.present s me p.now.irq p.now.readings record { inside = λ c ne. refl; irq = λ c ne. refl; readings = λ c ne. refl }
@@ -343,7 +347,7 @@ module _ (u : Setup) (p : StopState) (at : Word → ℕ) (seat : ℕ → Seat) (
           let first = first_readings me s (p.now.stop s).work in
           let readings' = put p.now.readings me first in
           let five : a ≡ 4 = let x = eqb-true (a + 1) 5 e in omega arith in
-          open_step u p at seat source h s (raised (p.now.stop s) (a + 1)) p.now.inside irq' readings' p.now.patching (put_word at (Slot s State) (a + 1)) (put seat me (In s job a l Rests)) p.looks p.calls stays refl (other_slots at s State (a + 1)) (own irq' readings')
+          open_step u p at seat source h s (raised (p.now.stop s) (a + 1)) p.now.inside irq' readings' p.now.patching (put_word at (Slot s State) (a + 1)) (put seat me (In s job a l Rests)) p.looks p.calls stays refl (λ k. refl) (other_slots at s State (a + 1)) (own irq' readings')
           (subst (λ n. PresentShows u (after p.now s (raised (p.now.stop s) (n + 1)) p.now.inside irq' readings' p.now.patching) (put_word at (Slot s State) (n + 1)) (put seat me (In s job a l Rests))) phase
           (step_raises u p.now at seat h.present s me irq' readings'
           record { inside = λ c ne. refl; irq = λ c ne. put_else p.now.irq me true c ne; readings = λ c ne. put_else p.now.readings me first c ne }
@@ -358,7 +362,7 @@ module _ (u : Setup) (p : StopState) (at : Word → ℕ) (seat : ℕ → Seat) (
       go false e st phase looked busy stays own =
           let not_five : a == 4 ≡ false = ne_eqb a 4 (λ x. let y : true ≡ false = sym (eq-eqb (a + 1) 5 (omega arith)) ∙ e in cc) in
           let off : p.now.irq me ≡ nat_lt l 2 || a == 4 = h.present.irq me ∙ (ap irq_of is ∙ sym (or_false (nat_lt l 2) (a == 4) not_five)) in
-          open_step u p at seat source h s (raised (p.now.stop s) (a + 1)) p.now.inside p.now.irq p.now.readings p.now.patching (put_word at (Slot s State) (a + 1)) (put seat me (In s job a l Rests)) p.looks p.calls stays refl (other_slots at s State (a + 1)) (own p.now.irq p.now.readings)
+          open_step u p at seat source h s (raised (p.now.stop s) (a + 1)) p.now.inside p.now.irq p.now.readings p.now.patching (put_word at (Slot s State) (a + 1)) (put seat me (In s job a l Rests)) p.looks p.calls stays refl (λ k. refl) (other_slots at s State (a + 1)) (own p.now.irq p.now.readings)
           (subst (λ n. PresentShows u (after p.now s (raised (p.now.stop s) (n + 1)) p.now.inside p.now.irq p.now.readings p.now.patching) (put_word at (Slot s State) (n + 1)) (put seat me (In s job a l Rests))) phase
           (step_raises u p.now at seat h.present s me p.now.irq p.now.readings record { inside = λ c ne. refl; irq = λ c ne. refl; readings = λ c ne. refl }
           job a l is busy off (λ on i. h.present.read me on (off ∙ i))))

@@ -1,4 +1,6 @@
 -- The kinds of step of a source: the gate, the stores of begin, and the looks for the result.
+use Rattle.smp_core.specs.Stops.KeyCounts.{CountShows}
+use Rattle.smp_core.specs.Stops.Labels.{StandsSet}
 use Rattle.std.proofs.Common.{◌≡◌, ◌≢◌, ℕ, ◌+◌, ◌<◌, ◌≤◌, Bool, true, false, eq-eqb, ◌==◌, cond, sym, subst, refl, ap, ◌∙◌, arith, Option, Some, None, List, [], ◌∷◌, ◌++◌}
 use Rattle.smp_core.proofs.Puts.{at_test, put_all, put_both}
 use Rattle.smp_core.proofs.SameWords.{one_place}
@@ -28,7 +30,6 @@ use Rattle.smp_core.specs.declared.stop.work.Kind.{Kind as KindOf}
 use Rattle.smp_core.specs.declared.stop.work.Work.{Work}
 use Rattle.smp_core.specs.declared.word.Word.TheVariants.{Gate, Key, Slot}
 use Rattle.smp_core.specs.declared.word.Word.{Word}
-use Rattle.smp_labels.specs.Keys.{is_on}
 use Rattle.smp_mask.specs.Mask.{has}
 
 pub kind_back : (k : KindOf) → kind_at (kind_word k) ≡ k
@@ -140,9 +141,10 @@ module _ (u : Setup) (p : StopState) (at : Word → ℕ) (seat : ℕ → Seat) (
         (λ ne. let P : List Work → List ℕ → Type 0 = λ x y. HasPast (p.now.stop j) x y (λ c. p.answers c j) in
         subst (λ x. P x (collected' j)) (sym (begun j ne)) (subst (λ y. P (p.begun j) y) (sym (collected j ne)) (h.past j)));
     owns = λ j. at_test j me (λ b. let y = cond b stop' (p.now.stop j) in
-        y.is_open ≡ true → y.work.kind ≡ Patch → is_inside (y.standing j) ≡ true → 3 ≤ acked (y.standing u.first) → is_on (at' (Key y.work.func)) ≡ is_on y.work.arg)
+        y.is_open ≡ true → y.work.kind ≡ Patch → is_inside (y.standing j) ≡ true → 3 ≤ acked (y.standing u.first) → StandsSet y.work (at' (Key y.work.func)))
         (λ e op kind in_ late. absurd (nobody j in_))
-        (λ ne op kind in_ late. ap is_on (keys (p.now.stop j).work.func) ∙ h.owns j op kind in_ late);
+        (λ ne op kind in_ late. subst (StandsSet (p.now.stop j).work) (sym (keys (p.now.stop j).work.func)) (h.owns j op kind in_ late));
+    counts = λ k. subst (CountShows u.cpus p.nudged p.patched k) (sym (keys k)) (h.counts k);
   }
 
   -- no stop but this source's is its own
@@ -208,6 +210,7 @@ module _ (u : Setup) (p : StopState) (at : Word → ℕ) (seat : ℕ → Seat) (
     gate = h.gate;
     past = h.past;
     owns = h.owns;
+    counts = h.counts;
     sources = put_all (λ j x. SourceShows u p.gate (p.now.stop j) (λ f. at (Slot j f)) j x) source me (Collects work)
         (owner work is, ends (p.now.stop me).ending refl ((h.present.slots me).shows (owner work is).is_open).done) (λ j ne. h.sources j);
   }
@@ -253,6 +256,7 @@ module _ (u : Setup) (p : StopState) (at : Word → ℕ) (seat : ℕ → Seat) (
     sources = λ j. another j (source j) (h.sources j);
     past = h.past;
     owns = h.owns;
+    counts = h.counts;
   }
     where
       none_is : (g : Option ℕ) → gate_word g ≡ 0 → g ≡ None
@@ -298,6 +302,7 @@ module _ (u : Setup) (p : StopState) (at : Word → ℕ) (seat : ℕ → Seat) (
     sources = λ j. another j (source j) refl (h.sources j);
     past = h.past;
     owns = h.owns;
+    counts = h.counts;
   }
     where
       another : (j : ℕ) (x : Source) → source j ≡ x → SourceShows u p.gate (p.now.stop j) (λ f. at (Slot j f)) j x → SourceShows u None (p.now.stop j) (λ f. at (Slot j f)) j x

@@ -1,17 +1,21 @@
 -- Each step of a CPU's command keeps what the words show of the stops, and what was seen of it tells the stops after it.
+use Rattle.smp_core.proofs.Stops.Patched.{lawful_when_on}
+use Rattle.smp_labels.proofs.Patched.{left_in_form, xor_same}
+use Rattle.smp_labels.specs.Kinds.{xor}
+use Rattle.smp_labels.specs.Keys.{is_on, count_after, count_or, IsKeyWord}
 use Rattle.std.proofs.Common.{◌≡◌, ◌≢◌, ℕ, ◌+◌, ◌-◌, ◌^◌, ◌<◌, Bool, true, false, eq-eqb, eqb-true, ◌==◌, cond, sym, subst, refl, ap, ◌∙◌, arith, Option, Some, None, length}
 use Rattle.smp_core.proofs.Puts.{at_test}
 use Rattle.smp_core.proofs.Stops.Facts.{work_words}
-use Rattle.smp_core.proofs.Stops.Patching.{key_read, site_read}
+use Rattle.smp_core.proofs.Stops.Patching.{key_read, site_read, key_exchanged}
 use Rattle.smp_core.proofs.Stops.Sources.{done_loaded, field_stored, gate_opened, gate_taken, kind_back, result_loaded, roll_stored}
 use Rattle.smp_core.specs.Access.{one_less}
 use Rattle.smp_core.specs.Put.{put, put_word}
 use Rattle.smp_core.specs.Stops.Seats.{In, Rests, Seat}
 use Rattle.smp_core.specs.Stops.Shows.{StopShows, gate_word}
-use Rattle.smp_core.specs.Stops.Sits.{HoldsGate, OwnsIf, Sits, SitsAt, SitsAtRest, SourceSits}
+use Rattle.smp_core.specs.Stops.Sits.{HoldsGate, OwnsIf, Sits, SitsAt, SitsAtRest, SourceSits, IsNudge}
 use Rattle.smp_core.specs.Stops.Slots.{DoneShows, begun_value, kind_at, order}
 use Rattle.smp_core.specs.Stops.Sources.{Collects, Drafts, OwnerShows, Owns, Shut, Source, SourceShows}
-use Rattle.smp_core.specs.Stops.Stages.{StopControlValue, stop_ends, stop_goes}
+use Rattle.smp_core.specs.Stops.Stages.{StopControlValue, stop_ends, stop_goes, nudge_on, nudge_of}
 use Rattle.smp_core.specs.Stops.State.{Setup, StopState}
 use Rattle.smp_core.specs.Stops.Steps.{StopStep, at_then, state_after}
 use Rattle.smp_core.specs.Stops.Stop.{Ended, Ending, Last, Running}
@@ -20,11 +24,11 @@ use Rattle.smp_core.specs.declared.seen.Act.TheVariants as act
 use Rattle.smp_core.specs.declared.seen.Note.TheVariants as note
 use Rattle.smp_core.specs.declared.stop.field.Field.TheVariants.{Ack, Active, Arg, Done, Func, Kind, Mask, Result, Roll, State, Todo}
 use Rattle.smp_core.specs.declared.stop.field.Field.{Field}
-use Rattle.smp_core.specs.declared.stop.stage.StopStage.TheVariants.{Begin, EnterActive, EnterKind, EnterMask, LoadDone, LoadResult, OpenGate, ReadKey, ReadSite, TakeGate}
+use Rattle.smp_core.specs.declared.stop.stage.StopStage.TheVariants.{Begin, EnterActive, EnterKind, EnterMask, LoadDone, LoadResult, OpenGate, ReadKey, ReadSite, TakeGate, NudgeKey, ExchangeKey}
 use Rattle.smp_core.specs.declared.stop.stage.StopStage.{StopStage}
 use Rattle.smp_core.specs.declared.stop.work.Kind.{Kind as KindOf}
 use Rattle.smp_core.specs.declared.stop.work.Work.{Work}
-use Rattle.smp_core.specs.declared.word.Word.TheVariants.{Gate, Slot}
+use Rattle.smp_core.specs.declared.word.Word.TheVariants.{Gate, Slot, Key}
 use Rattle.smp_core.specs.declared.word.Word.{Word}
 
 -- a put of what is there
@@ -197,6 +201,57 @@ module _ (u : Setup) (p : StopState) (at : Word → ℕ) (seat : ℕ → Seat) (
         shows = still (state_after u p at c me (ReadSite i)) at (site_read u p at seat source h me i 0);
         sits = record { below = s.below; irq = s.irq; seat = x.2; source = y; gate_held = tt };
       }
+
+  -- the load of a nudge is a reading
+  pub nudge_key : (k : ℕ) (up : Bool) → c.stage ≡ Some (NudgeKey k up) → StopStep u p at seat source c me (NudgeKey k up)
+  nudge_key k up e =
+      let x : (c.interrupts ≡ true) × (u.online me ≡ true) × (k < u.keys) × AtRest = subst (λ (st : Option StopStage). SitsAt u me c st (seat me)) e s.seat in
+      let y : OwnsIf c.is_open (source me) = subst (λ (st : Option StopStage). SourceSits c.is_open st (source me)) e s.source in
+      let on : p.now.irq me ≡ true = h.present.irq me ∙ (sym s.irq ∙ x.0) in
+      let few = h.setup.few_keys in
+      let low = x.2 in
+      let fits = (lawful_when_on u p.now at seat h.present me x.1 on).keys k (omega arith) in
+      record {
+        seat_after = seat me;
+        source_after = source me;
+        shows = still (state_after u p at c me (NudgeKey k up)) at (key_read u p at seat source h me k 0 on);
+        sits = go x y fits (count_after (nudge_of up) (at (Key k))) refl;
+      }
+    where
+      go : (c.interrupts ≡ true) × (u.online me ≡ true) × (k < u.keys) × AtRest → OwnsIf c.is_open (source me) → IsKeyWord (at (Key k)) → (o : Option ℕ) → count_after (nudge_of up) (at (Key k)) ≡ o →
+          Sits u me (at Gate) (nudge_on c k (at (Key k)) o).control (seat me) (source me)
+      go x y fits None e = record { below = s.below; irq = s.irq; seat = x.3; source = y; gate_held = tt }
+      go x y fits (Some new) e = either (xor (is_on (at (Key k))) (is_on new)) refl
+        where
+          either : (b : Bool) → xor (is_on (at (Key k))) (is_on new) ≡ b → Sits u me (at Gate) (cond b (stop_ends c note.Stop) (stop_goes c (ExchangeKey k (at (Key k)) new))).control (seat me) (source me)
+          either true z = record { below = s.below; irq = s.irq; seat = x.3; source = y; gate_held = tt }
+          either false z = record {
+            below = s.below;
+            irq = s.irq;
+            seat = (x.0, x.1, x.2, record { same = sym (xor_same (is_on (at (Key k))) (is_on new) z); word = subst IsKeyWord (ap (count_or (at (Key k))) e) (left_in_form (nudge_of up) (at (Key k)) fits) }, x.3);
+            source = y;
+            gate_held = tt;
+          }
+
+  -- its compare-exchange
+  pub exchange_key : (k expected new : ℕ) → c.stage ≡ Some (ExchangeKey k expected new) → StopStep u p at seat source c me (ExchangeKey k expected new)
+  exchange_key k expected new e =
+      let x : (c.interrupts ≡ true) × (u.online me ≡ true) × (k < u.keys) × IsNudge expected new × AtRest = subst (λ (st : Option StopStage). SitsAt u me c st (seat me)) e s.seat in
+      let y : OwnsIf c.is_open (source me) = subst (λ (st : Option StopStage). SourceSits c.is_open st (source me)) e s.source in
+      let on : p.now.irq me ≡ true = h.present.irq me ∙ (sym s.irq ∙ x.0) in
+      record {
+        seat_after = seat me;
+        source_after = source me;
+        shows = still (state_after u p at c me (ExchangeKey k expected new)) (at_then u at c me (ExchangeKey k expected new)) (go x.1 on x.3 (at (Key k) == expected) refl);
+        sits = record { below = s.below; irq = s.irq; seat = x.4; source = y; gate_held = tt };
+      }
+    where
+      go : u.online me ≡ true → p.now.irq me ≡ true → IsNudge expected new → (b : Bool) → (at (Key k) == expected) ≡ b →
+          StopShows u (told u p me act.Cas (Key k) (Some (at (Key k))) (cond b (Some new) None) 0) (cond b (put_word at (Key k) new) at) seat source
+      go online on nudge true z =
+          let same = eqb-true (at (Key k)) expected z in
+          key_exchanged u p at seat source h me k (at (Key k)) new s.below online on refl record { same = nudge.same ∙ ap is_on (sym same); word = nudge.word } 0
+      go online on nudge false z = h
 
   -- the looks of a source
   pub load_done : c.stage ≡ Some LoadDone → StopStep u p at seat source c me LoadDone

@@ -80,7 +80,7 @@ abbrev MayBeginIf : Setup → ℕ → ℕ → StopControlValue → Option StopSt
 MayBeginIf u me gate c None = Unit {0}
 MayBeginIf u me gate c (Some stage) = MayBegin u me gate c stage
 
-module _ (v : StopsValue) (cpu : ℕ) (low : cpu < cpus) (below : (k : ℕ) → has v.online k ≡ true → k < cpus) (c : StopControlValue) where
+module _ (v : StopsValue) (cpu : ℕ) (low : cpu < cpus) (below : (k : ℕ) → has v.online k ≡ true → k < cpus) (online : has v.online cpu ≡ true) (c : StopControlValue) where
   abbrev u : Setup
   u = setup_of v.online v.labels
 
@@ -93,17 +93,17 @@ module _ (v : StopsValue) (cpu : ℕ) (low : cpu < cpus) (below : (k : ℕ) → 
   -- a work that fits is one that begin takes
   is_patch : (work : Work) → fits_patch t work ≡ true → IsPatchWork u work
   is_patch work e =
-      let x = both ((work.mask == v.online && work.active == 2 ^ first_below v.online cpus) && nat_lt work.func v.labels.keys) (nat_lt work.arg 2) e in
+      let x = both ((work.mask == v.online && work.active == 2 ^ first_below v.online cpus) && nat_lt work.func v.labels.keys) (nat_lt work.arg 4) e in
       let y = both (work.mask == v.online && work.active == 2 ^ first_below v.online cpus) (nat_lt work.func v.labels.keys) x.0 in
       let z = both (work.mask == v.online) (work.active == 2 ^ first_below v.online cpus) y.0 in
       let mask = is_same work.mask v.online z.0 in
       let active = is_same work.active (2 ^ first_below v.online cpus) z.1 in
-      let small = ltb-true work.arg 2 x.1 in
+      let small = ltb-true work.arg 4 x.1 in
       record {
         all = λ k. ap (λ m. has m k) mask;
         first = λ k. ap (λ m. has m k) active ∙ one_bit (first_below v.online cpus) k;
         key = ltb-true work.func v.labels.keys y.1;
-        word = omega arith;
+        change = omega arith;
       }
 
   is_kind : (work : Work) (k : Kind) → fits_kind t work k ≡ true → IsOfKind u work k
@@ -166,10 +166,11 @@ module _ (v : StopsValue) (cpu : ℕ) (low : cpu < cpus) (below : (k : ℕ) → 
       let r = reads i (length v.labels.entries) (passed (c.interrupts && nat_lt i (length v.labels.entries)) _ e) in
       let l = length-map v.labels.entries entry_word in
       (r.0, omega (arith, r.1, l))
+  may_begin_if (command.Nudge k up) f e = let r = reads k v.labels.keys (passed (c.interrupts && nat_lt k v.labels.keys) _ e) in (r.0, online, r.1)
   may_begin_if _ f e = tt
 
 -- a command that may start may begin at its first stage
-pub may_begin : (v : StopsValue) (cpu : ℕ) (x : Command) (stage : StopStage) → cpu < cpus → ((k : ℕ) → has v.online k ≡ true → k < cpus) → FitsCommand x → stop_refusal v cpu x ≡ None →
+pub may_begin : (v : StopsValue) (cpu : ℕ) (x : Command) (stage : StopStage) → cpu < cpus → ((k : ℕ) → has v.online k ≡ true → k < cpus) → has v.online cpu ≡ true → FitsCommand x → stop_refusal v cpu x ≡ None →
     stop_first (stop_control_of v.controls cpu) x ≡ Some stage → MayBeginAt v cpu stage
-may_begin v cpu x stage low below f e first =
-    subst (λ o. MayBeginIf (setup_of v.online v.labels) cpu (stop_number v.table Gate) (stop_control_of v.controls cpu) o) first (may_begin_if v cpu low below (stop_control_of v.controls cpu) x f e)
+may_begin v cpu x stage low below online f e first =
+    subst (λ o. MayBeginIf (setup_of v.online v.labels) cpu (stop_number v.table Gate) (stop_control_of v.controls cpu) o) first (may_begin_if v cpu low below online (stop_control_of v.controls cpu) x f e)

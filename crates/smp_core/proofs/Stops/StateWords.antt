@@ -17,13 +17,13 @@ use Rattle.smp_core.specs.declared.stop.stage.CompletionStage.TheVariants as com
 use Rattle.smp_core.specs.declared.stop.stage.CompletionStage.{CompletionStage}
 use Rattle.smp_core.specs.declared.stop.stage.RoundStage.TheVariants as round
 use Rattle.smp_core.specs.declared.stop.stage.RoundStage.{RoundStage}
-use Rattle.smp_core.specs.declared.stop.stage.StopStage.TheVariants.{Advance, Begin, Close, Complete, Enter, EnterActive, EnterKind, EnterMask, LoadDone, LoadResult, OpenGate, ReadKey, ReadSite, TakeGate}
+use Rattle.smp_core.specs.declared.stop.stage.StopStage.TheVariants.{Advance, Begin, Close, Complete, Enter, EnterActive, EnterKind, EnterMask, LoadDone, LoadResult, OpenGate, ReadKey, ReadSite, TakeGate, NudgeKey, ExchangeKey}
 use Rattle.smp_core.specs.declared.stop.stage.StopStage.{StopStage}
 use Rattle.smp_core.specs.declared.stop.stage.Visit.{Visit}
 use Rattle.smp_core.specs.declared.stop.work.Kind.TheVariants.{One, Multi, Patch}
 use Rattle.smp_core.specs.declared.stop.work.Kind.{Kind}
 use Rattle.smp_core.specs.declared.stop.work.Work.{Work}
-use Rattle.smp_core.specs.declared.word.Word.TheVariants.{Gate, Slot}
+use Rattle.smp_core.specs.declared.word.Word.TheVariants.{Gate, Slot, Key}
 use Rattle.smp_core.specs.declared.word.Word.{Word}
 use Rattle.smp_labels.specs.declared.patch.Place.TheVariants as place
 use Rattle.smp_labels.specs.declared.patch.Place.{Place}
@@ -86,7 +86,7 @@ module _ (u : Setup) (p : StopState) (at : Word → ℕ) (seat : ℕ → Seat) (
   round_after w (round.Look answer) x = h
   round_after w (round.LoadFunc answer) x = h
   round_after w (round.LoadArg answer func) x = h
-  round_after w (round.LoadKey key word) x = h
+  round_after w (round.LoadKey key change) x = h
   round_after w (round.LoadEntry key word site) x = h
   round_after w (round.StoreChange made) x = let change : Change = change_at c.changes made in label_after at h change.0 change.1
   round_after w (round.Acknowledge answer ran) x = λ s. h s
@@ -108,3 +108,5 @@ module _ (u : Setup) (p : StopState) (at : Word → ℕ) (seat : ℕ → Seat) (
   phases_after LoadResult x = h
   phases_after (ReadKey k) x = h
   phases_after (ReadSite i) x = h
+  phases_after (NudgeKey k up) x = h
+  phases_after (ExchangeKey k expected new) x = elim (at (Key k) == expected) as (λ b. ArePhases (cond b (put_word at (Key k) new) at)) [ true ↦ λ s. h s | false ↦ h ]

@@ -25,7 +25,7 @@ use Rattle.smp_core.specs.Stops.Value.{IsStopTable, StopsShow, stop_control_of}
 use Rattle.smp_core.specs.declared.stop.stage.CompletionStage.TheVariants as completion
 use Rattle.smp_core.specs.declared.stop.stage.RoundStage.TheVariants as round
 use Rattle.smp_core.specs.declared.stop.stage.RoundStage.{RoundStage}
-use Rattle.smp_core.specs.declared.stop.stage.StopStage.TheVariants.{Advance, Begin, Close, Complete, Enter, EnterActive, EnterKind, EnterMask, LoadDone, LoadResult, OpenGate, ReadKey, ReadSite, TakeGate}
+use Rattle.smp_core.specs.declared.stop.stage.StopStage.TheVariants.{Advance, Begin, Close, Complete, Enter, EnterActive, EnterKind, EnterMask, LoadDone, LoadResult, OpenGate, ReadKey, ReadSite, TakeGate, NudgeKey, ExchangeKey}
 use Rattle.smp_core.specs.declared.stop.stage.StopStage.{StopStage}
 use Rattle.smp_core.specs.declared.stop.stage.Visit.{Visit}
 use Rattle.smp_core.specs.declared.stop.work.Work.{Work}
@@ -127,6 +127,8 @@ module _ (u : Setup) (few : u.cpus ≡ cpus) (p : StopState) (t : StopWords) (co
       held cpu ne (Some LoadResult) h = tt
       held cpu ne (Some (ReadKey k)) h = tt
       held cpu ne (Some (ReadSite i)) h = tt
+      held cpu ne (Some (NudgeKey k up)) h = tt
+      held cpu ne (Some (ExchangeKey k expected new)) h = tt
 
       others : (cpu : ℕ) → cpu ≢ me → Sits u cpu (at Gate) (stop_control_of controls cpu) (v.seat cpu) (v.source cpu) → Sits u cpu (at_then u at c me stage Gate) (stop_control_of controls cpu) (v.seat cpu) (v.source cpu)
       others cpu ne s = record { below = s.below; irq = s.irq; seat = s.seat; source = s.source; gate_held = held cpu ne (stop_control_of controls cpu).stage s.gate_held }
@@ -155,19 +157,19 @@ module _ (u : Setup) (few : u.cpus ≡ cpus) (p : StopState) (t : StopWords) (co
           let same = (work_words u p at v.seat v.source v.shows w.slot me work 2 3 Rests x.1.1.3).func in
           let f = (work_in u p at v.seat v.source v.shows few v.shut me w.slot work 2 3 Rests x.1.1.3).func in subst (λ n. n < 2 ^ 16) (sym same) f
       round_fits w (round.LoadArg answer func) x = tt
-      round_fits w (round.LoadKey key word) x = tt
-      round_fits w (round.LoadEntry key word site) x = (entry_fits site x.5, x.5, long x.0 site x.4 x.6)
+      round_fits w (round.LoadKey key change) x = tt
+      round_fits w (round.LoadEntry key word site) x = (entry_fits site x.3, x.3, long x.0 word site x.2 x.4)
         where
           entry_fits : (site : ℕ) → site < MOST_SITES → IsEntryWord (at (Entry site))
           entry_fits site low = (lawful p.now.patching v.shows.present.labels).entries site low
             where
               lawful : (x : Patching) → LabelsShow x (labels_in at) → HasEntries (labels_in at)
               lawful Whole l = record { entries = l.entries }
-              lawful (Patches cpu work made rest) l = record { entries = λ i low. subst IsEntryWord (sym (ap (λ (t : Table). t.entry i) l.2 ∙ entries_kept made l.0 i)) (l.1.entries i low) }
+              lawful (Patches cpu work count made rest) l = record { entries = λ i low. subst IsEntryWord (sym (ap (λ (t : Table). t.entry i) l.2 ∙ entries_kept made l.0 i)) (l.1.entries i low) }
 
-          long : (work : Work) (site : ℕ) → site ≤ length u.entries → c.changes ≡ changes_of u work site → length c.changes ≤ site + 1
-          long work site within are = let l = changes_long work.func (is_on work.arg) 0 (take site u.entries) in let t = length-take-le site u.entries within in let e = ap length are in omega arith
-      round_fits w (round.StoreChange made) x = x.3
+          long : (work : Work) (word site : ℕ) → site ≤ length u.entries → c.changes ≡ changes_of u work word site → length c.changes ≤ site + 1
+          long work word site within are = let l = changes_long work.func (is_on word) 0 (take site u.entries) in let t = length-take-le site u.entries within in let e = ap length are in omega arith
+      round_fits w (round.StoreChange made) x = x.4
       round_fits w (round.Acknowledge answer ran) x = x.2
       round_fits w (round.Refill ran) x = tt
       round_fits w (round.Raise ran) x = tt
@@ -194,6 +196,8 @@ module _ (u : Setup) (few : u.cpus ≡ cpus) (p : StopState) (t : StopWords) (co
       go LoadResult e = tt
       go (ReadKey k) e = tt
       go (ReadSite i) e = tt
+      go (NudgeKey k up) e = tt
+      go (ExchangeKey k expected new) e = tt
 
   -- the store of a patch that is made next is one of its changes
   pub stop_access_fits : FitsAccess c stage
@@ -207,11 +211,11 @@ module _ (u : Setup) (few : u.cpus ≡ cpus) (p : StopState) (t : StopWords) (co
       go (EnterKind slot) e = tt
       go (EnterMask slot kind) e = tt
       go (EnterActive slot kind mask) e = tt
-      go (Advance w (round.StoreChange made)) e = let x : SitsAt u me c (Some (Advance w (round.StoreChange made))) (v.seat me) = subst (λ (y : Option StopStage). SitsAt u me c y (v.seat me)) e (v.sits me below).seat in x.1.3
+      go (Advance w (round.StoreChange made)) e = let x : SitsAt u me c (Some (Advance w (round.StoreChange made))) (v.seat me) = subst (λ (y : Option StopStage). SitsAt u me c y (v.seat me)) e (v.sits me below).seat in x.1.4
       go (Advance w (round.Look answer)) e = tt
       go (Advance w (round.LoadFunc answer)) e = tt
       go (Advance w (round.LoadArg answer func)) e = tt
-      go (Advance w (round.LoadKey key word)) e = tt
+      go (Advance w (round.LoadKey key change)) e = tt
       go (Advance w (round.LoadEntry key word site)) e = tt
       go (Advance w (round.Acknowledge answer ran)) e = tt
       go (Advance w (round.Refill ran)) e = tt
@@ -222,3 +226,5 @@ module _ (u : Setup) (few : u.cpus ≡ cpus) (p : StopState) (t : StopWords) (co
       go LoadResult e = tt
       go (ReadKey k) e = tt
       go (ReadSite i) e = tt
+      go (NudgeKey k up) e = tt
+      go (ExchangeKey k expected new) e = tt

@@ -9,7 +9,7 @@ use Rattle.smp_core.specs.declared.stop.field.Field.TheVariants as field
 use Rattle.smp_core.specs.declared.stop.stage.CompletionStage.TheVariants as completion
 use Rattle.smp_core.specs.declared.stop.stage.RoundStage.TheVariants as round
 use Rattle.smp_core.specs.declared.stop.stage.StopStage.{StopStage}
-use Rattle.smp_core.specs.declared.stop.stage.StopStage.TheVariants.{TakeGate, OpenGate, Begin, Enter, Advance, Complete, LoadDone, ReadKey, ReadSite}
+use Rattle.smp_core.specs.declared.stop.stage.StopStage.TheVariants.{TakeGate, OpenGate, Begin, Enter, Advance, Complete, LoadDone, ReadKey, ReadSite, NudgeKey}
 use Rattle.smp_core.specs.declared.stop.work.Kind.TheVariants.{One}
 use Rattle.smp_core.specs.declared.word.Word.TheVariants.{Gate}
 
@@ -26,6 +26,7 @@ MayBegin u me gate c (Complete v completion.CountDown) = (c.visit ≡ Some v) ×
 MayBegin u me gate c LoadDone = c.is_open ≡ true
 MayBegin u me gate c (ReadKey k) = (c.interrupts ≡ true) × (k < u.keys)
 MayBegin u me gate c (ReadSite i) = (c.interrupts ≡ true) × (i < length u.entries)
+MayBegin u me gate c (NudgeKey k up) = (c.interrupts ≡ true) × (u.online me ≡ true) × (k < u.keys)
 MayBegin u me gate c _ = ⊥
 
 -- the same, of a stop half

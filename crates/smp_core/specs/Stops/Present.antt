@@ -1,11 +1,10 @@
 -- What holds between what is now, the words, and where each CPU is.
 use Rattle.std.specs.Prelude.{◌≡◌, ℕ, ◌≤◌, true, Some}
 use Rattle.std.specs.List.{AllByRecursion}
-use Rattle.smp_labels.specs.Keys.{is_on}
 use Rattle.smp_labels.specs.Plans.{AreEntriesOf}
 use Rattle.smp_core.specs.Stops.Stop.{acked, is_inside}
 use Rattle.smp_core.specs.Stops.Slots.{SlotShows}
-use Rattle.smp_core.specs.Stops.Labels.{Patching, Whole, Patches, LabelsShow, labels_in, Agrees}
+use Rattle.smp_core.specs.Stops.Labels.{Patching, Whole, Patches, LabelsShow, labels_in, Agrees, StandsSet}
 use Rattle.smp_core.specs.Stops.State.{Setup, Present}
 use Rattle.smp_core.specs.Stops.Seats.{Seat, Alters, Stands, irq_of}
 use Rattle.smp_core.specs.Stops.Sources.{IsPatchWork}
@@ -16,7 +15,7 @@ use Rattle.smp_core.specs.declared.word.Word.TheVariants.{Slot}
 -- who patches is the first online CPU, inside the function of a patch
 abbrev pub RunnerShows : ℕ → Patching → (ℕ → Seat) → Type 0
 RunnerShows first Whole seat = Unit {0}
-RunnerShows first (Patches c w made rest) seat = (c ≡ first) × ((s : ℕ) × (seat c ≡ Alters s w made rest))
+RunnerShows first (Patches c w count made rest) seat = (c ≡ first) × ((s : ℕ) × (seat c ≡ Alters s w count made rest))
 
 pub record PresentShows (u : Setup) (n : Present) (at : Word → ℕ) (seat : ℕ → Seat) : Type 0 where
   -- each slot shows its stop
@@ -37,4 +36,4 @@ pub record PresentShows (u : Setup) (n : Present) (at : Word → ℕ) (seat : �
 abbrev pub OwnsKey : ℕ → Present → (ℕ → ℕ) → ℕ → Type 0
 OwnsKey first n key s =
     (n.stop s).is_open ≡ true → (n.stop s).work.kind ≡ Patch → is_inside ((n.stop s).standing s) ≡ true → 3 ≤ acked ((n.stop s).standing first) →
-    is_on (key (n.stop s).work.func) ≡ is_on (n.stop s).work.arg
+    StandsSet (n.stop s).work (key (n.stop s).work.func)

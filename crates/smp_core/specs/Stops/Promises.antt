@@ -1,12 +1,14 @@
 -- The laws of the stop half, of any number of CPUs and of any words that show stops.
-use Rattle.std.specs.Prelude.{◌≡◌, ◌≢◌, ℕ, true, false, Some}
+use Rattle.std.specs.Prelude.{◌≡◌, ◌≢◌, ℕ, true, false, Some, List}
 use Rattle.std.specs.List.{AllByRecursion}
 use Rattle.smp_mask.specs.Mask.{has}
 use Rattle.smp_labels.specs.Law.{IsLawful}
 use Rattle.smp_labels.specs.Plans.{AreEntriesOf}
 use Rattle.smp_core.specs.Stops.Stop.{Inside}
 use Rattle.smp_core.specs.Stops.Laws.{PhaseLaw, FunctionLaw}
-use Rattle.smp_core.specs.Stops.Labels.{labels_in, Agrees}
+use Rattle.smp_core.specs.Stops.KeyCounts.{CountShows}
+use Rattle.smp_core.specs.Stops.Labels.{labels_in, Agrees, Change, Patches}
+use Rattle.smp_core.specs.declared.stop.work.Work.{Work}
 use Rattle.smp_core.specs.Stops.State.{Setup, IsSetup, StopState, no_stops}
 use Rattle.smp_core.specs.Stops.Seats.{Seat, Free}
 use Rattle.smp_core.specs.Stops.Sources.{Source, Shut}
@@ -17,12 +19,12 @@ use Rattle.smp_core.specs.Stops.Steps.{StopStep}
 use Rattle.smp_core.specs.declared.stop.field.Field.TheVariants as field
 use Rattle.smp_core.specs.declared.stop.stage.StopStage.{StopStage}
 use Rattle.smp_core.specs.declared.word.Word.{Word}
-use Rattle.smp_core.specs.declared.word.Word.TheVariants.{Gate, Slot}
+use Rattle.smp_core.specs.declared.word.Word.TheVariants.{Gate, Slot, Key}
 
--- at first: words with all slots and the gate free and a lawful label table show that nothing was begun
+-- at first: words with all slots and the gate free and a lawful label table with all keys off show that nothing was begun
 abbrev pub NothingBegun : Type 0
 NothingBegun = (u : Setup) (at : Word → ℕ) → IsSetup u → at Gate ≡ 0 → ((s : ℕ) → at (Slot s field.Roll) ≡ 0) → AreEntriesOf u.entries (labels_in at) → IsLawful (labels_in at) →
-    StopShows u no_stops at (λ _. Free) (λ _. Shut)
+    ((k : ℕ) → at (Key k) ≡ 0) → StopShows u no_stops at (λ _. Free) (λ _. Shut)
 
 -- each step of a CPU at any stage keeps what the words show, and what is seen of it tells the stops after it
 abbrev pub StepsAreTold : Type 0
@@ -53,8 +55,19 @@ abbrev pub KeepTheLabelLaw : Type 0
 KeepTheLabelLaw = (u : Setup) (p : StopState) (at : Word → ℕ) (seat : ℕ → Seat) (source : ℕ → Source) → StopShows u p at seat source →
     (me : ℕ) → u.online me ≡ true → p.now.irq me ≡ true → ReadsLawful p at me
 
--- all three, of these stops and these words
+-- the count law: each key's word is what all CPUs together have moved it
+abbrev pub KeepTheCountLaw : Type 0
+KeepTheCountLaw = (u : Setup) (p : StopState) (at : Word → ℕ) (seat : ℕ → Seat) (source : ℕ → Source) → StopShows u p at seat source →
+    (k : ℕ) → CountShows u.cpus p.nudged p.patched k (at (Key k))
+
+-- no count moves, and no other CPU nudges, while a patch runs: who is online and is not its runner has interrupts off
+abbrev pub PatchesAlone : Type 0
+PatchesAlone = (u : Setup) (p : StopState) (at : Word → ℕ) (seat : ℕ → Seat) (source : ℕ → Source) → StopShows u p at seat source →
+    (c : ℕ) (work : Work) (count : ℕ) (made rest : List Change) → p.now.patching ≡ Patches c work count made rest → (me : ℕ) → u.online me ≡ true → p.now.irq me ≡ false
+
+-- all four, of these stops and these words
 pub record KeepsStopLaws (u : Setup) (p : StopState) (at : Word → ℕ) : Type 0 where
   pub phases : (s : ℕ) → (p.now.stop s).is_open ≡ true → (p.now.stop s).phase ≢ 0 → PhaseLaw u.cpus (p.now.stop s) (at (Slot s field.Ack))
   pub functions : (s me : ℕ) → (p.now.stop s).standing me ≡ Inside 2 3 → RunsAlone p s me
   pub labels : (me : ℕ) → u.online me ≡ true → p.now.irq me ≡ true → ReadsLawful p at me
+  pub counts : (k : ℕ) → CountShows u.cpus p.nudged p.patched k (at (Key k))

@@ -24,8 +24,8 @@ pub data Seat : Type 0 where
   In : (slot : ℕ) → (work : Work) → (acked looked : ℕ) → Turn → Seat
   -- its answer is in the result word, and it has not counted itself
   Gives : (slot : ℕ) → (work : Work) → (acked answer : ℕ) → Seat
-  -- inside the function of a patch, with the stores made and those to be made
-  Alters : (slot : ℕ) → (work : Work) → (made rest : List Change) → Seat
+  -- inside the function of a patch, with the count that it found, the stores made and those to be made
+  Alters : (slot : ℕ) → (work : Work) → (count : ℕ) → (made rest : List Change) → Seat
   -- it has completed as the last of all
   Closes : (slot : ℕ) → Seat
 
@@ -34,8 +34,8 @@ abbrev pub Stands : Present → ℕ → Seat → Type 0
 Stands n me Free = n.inside me ≡ None
 Stands n me (In s w a l t) = (n.inside me ≡ Some s) × ((n.stop s).standing me ≡ Inside a l) × (turn_of (n.stop s).raising me ≡ t) × ((n.stop s).work ≡ w)
 Stands n me (Gives s w a v) = (n.inside me ≡ Some s) × ((n.stop s).standing me ≡ Answering a v) × (turn_of (n.stop s).raising me ≡ Rests) × ((n.stop s).work ≡ w)
-Stands n me (Alters s w made rest) =
-    (n.inside me ≡ Some s) × ((n.stop s).standing me ≡ Inside 2 3) × (turn_of (n.stop s).raising me ≡ Rests) × ((n.stop s).work ≡ w) × (w.kind ≡ Patch) × (n.patching ≡ Patches me w made rest)
+Stands n me (Alters s w count made rest) =
+    (n.inside me ≡ Some s) × ((n.stop s).standing me ≡ Inside 2 3) × (turn_of (n.stop s).raising me ≡ Rests) × ((n.stop s).work ≡ w) × (w.kind ≡ Patch) × (n.patching ≡ Patches me w count made rest)
 Stands n me (Closes s) = (n.inside me ≡ None) × ((n.stop s).is_open ≡ true) × ((n.stop s).ending ≡ Last me)
 
 -- interrupts are off from the look at 2 until the CPU has left
@@ -44,5 +44,5 @@ irq_of Free = true
 irq_of (In s w a l Rests) = nat_lt l 2 || a == 4
 irq_of (In s w a l t) = nat_lt l 2
 irq_of (Gives s w a v) = true
-irq_of (Alters s w made rest) = false
+irq_of (Alters s w count made rest) = false
 irq_of (Closes s) = true

@@ -5,6 +5,7 @@ use Rattle.smp_core.specs.Stops.Seats.{Seat}
 use Rattle.smp_core.specs.Stops.Sources.{Source, SourceShows}
 use Rattle.smp_core.specs.Stops.Past.{HasPast}
 use Rattle.smp_core.specs.Stops.Present.{PresentShows, OwnsKey}
+use Rattle.smp_core.specs.Stops.KeyCounts.{CountShows}
 use Rattle.smp_core.specs.declared.word.Word.{Word}
 use Rattle.smp_core.specs.declared.word.Word.TheVariants.{Gate, Slot, Key}
 
@@ -23,3 +24,5 @@ pub record StopShows (u : Setup) (p : StopState) (at : Word → ℕ) (seat : ℕ
   pub past : (s : ℕ) → HasPast (p.now.stop s) (p.begun s) (p.collected s) (λ c. p.answers c s)
   -- a source that has patched a key knows it
   pub owns : (s : ℕ) → OwnsKey u.first p.now (λ k. at (Key k)) s
+  -- the count law
+  pub counts : (k : ℕ) → CountShows u.cpus p.nudged p.patched k (at (Key k))

@@ -1,11 +1,12 @@
 -- Which seat and which source a CPU's stage stands for.
 use Rattle.std.specs.Prelude.{◌≡◌, ◌≢◌, ◌⊎◌, ℕ, ◌+◌, ◌<◌, ◌≤◌, Bool, true, false, Option, Some, None, List, [], ◌∷◌, ◌++◌, length, take}
 use Rattle.smp_mask.specs.Mask.{has}
-use Rattle.smp_labels.specs.Keys.{is_on}
+use Rattle.smp_labels.specs.Keys.{is_on, change_of, IsKeyWord}
 use Rattle.smp_labels.specs.Plans.{patch_of, site_changes}
 use Rattle.smp_labels.specs.declared.patch.Place.TheVariants as place
 use Rattle.smp_labels.specs.declared.words.TheConstants.{MOST_SITES}
-use Rattle.smp_core.specs.Stops.Labels.{Change}
+use Rattle.smp_core.specs.Stops.Labels.{Change, count_set}
+use Rattle.smp_core.specs.Stops.Tells.{plan_at}
 use Rattle.smp_core.specs.Stops.Slots.{order}
 use Rattle.smp_core.specs.Stops.State.{Setup}
 use Rattle.smp_core.specs.Stops.Seats.{Seat, Free, In, Gives, Alters, Closes, Turn, Rests, Fills, Sets, irq_of}
@@ -16,7 +17,7 @@ use Rattle.smp_core.specs.declared.stop.stage.CompletionStage.TheVariants as com
 use Rattle.smp_core.specs.declared.stop.stage.RoundStage.{RoundStage}
 use Rattle.smp_core.specs.declared.stop.stage.RoundStage.TheVariants as round
 use Rattle.smp_core.specs.declared.stop.stage.StopStage.{StopStage}
-use Rattle.smp_core.specs.declared.stop.stage.StopStage.TheVariants.{OpenGate, Begin, Enter, EnterKind, EnterMask, EnterActive, Advance, Complete, Close, LoadDone, LoadResult, ReadKey, ReadSite}
+use Rattle.smp_core.specs.declared.stop.stage.StopStage.TheVariants.{OpenGate, Begin, Enter, EnterKind, EnterMask, EnterActive, Advance, Complete, Close, LoadDone, LoadResult, ReadKey, ReadSite, NudgeKey, ExchangeKey}
 use Rattle.smp_core.specs.declared.stop.stage.Visit.{Visit}
 use Rattle.smp_core.specs.declared.stop.work.Kind.TheVariants.{One, Patch}
 use Rattle.smp_core.specs.declared.stop.work.Work.{Work}
@@ -40,30 +41,41 @@ SitsAtRest (Some v) x = SitsIn v v.acked Rests x
 abbrev pub SitsAtRun : ℕ → Visit → Work → Seat → Type 0
 SitsAtRun me v work x = IsLoaded v work × (v.acked ≡ 2) × (has v.active me ≡ true) × (x ≡ In v.slot work 2 3 Rests)
 
--- it makes a patch, the changes of which are those of these entries
-abbrev pub SitsAtPatch : Setup → Visit → Work → List Change → Seat → Type 0
-SitsAtPatch u v work made x =
-    let plan = patch_of work.func work.arg u.entries in
-    IsLoaded v work × (v.acked ≡ 2) × (x ≡ Alters v.slot work made plan)
+-- it makes a patch of a key that it found at this count
+abbrev pub SitsAtPatch : Setup → Visit → Work → ℕ → List Change → Seat → Type 0
+SitsAtPatch u v work count made x = IsLoaded v work × (v.acked ≡ 2) × (x ≡ Alters v.slot work count made (plan_at u work count))
 
 -- with this many entries loaded
-abbrev pub changes_of : Setup → Work → ℕ → List Change
-changes_of u work site = (place.Key work.func, work.arg) ∷ site_changes work.func (is_on work.arg) 0 (take site u.entries)
+abbrev pub changes_of : Setup → Work → ℕ → ℕ → List Change
+changes_of u work word site = (place.Key work.func, word) ∷ site_changes work.func (is_on word) 0 (take site u.entries)
+
+-- a number that may be exchanged for a key's: the key is on or off as before
+pub record IsNudge (found new : ℕ) : Type 0 where
+  pub same : is_on new ≡ is_on found
+  pub word : IsKeyWord new
+
+-- it loads the entries of such a patch, which turns the key on or off
+pub record SitsAtEntry (u : Setup) (v : Visit) (work : Work) (key word : ℕ) (x : Seat) : Type 0 where
+  pub count : ℕ
+  pub patch : SitsAtPatch u v work count [] x
+  pub key_is : key ≡ work.func
+  pub word_is : word ≡ count_set work count
+  pub sites : plan_at u work count ≡ patch_of work.func word u.entries
 
 abbrev pub SitsInRound : Setup → ℕ → List Change → Visit → RoundStage → Seat → Type 0
 SitsInRound u me changes v (round.Look answer) x = (v.kind ≢ One) × (v.acked ≢ 4) × SitsIn v v.acked Rests x
 SitsInRound u me changes v (round.LoadFunc answer) x = (v.kind ≢ One) × ((work : Work) × SitsAtRun me v work x)
 SitsInRound u me changes v (round.LoadArg answer func) x = (v.kind ≢ One) × ((work : Work) × SitsAtRun me v work x × (func ≡ work.func))
-SitsInRound u me changes v (round.LoadKey key word) x = (v.kind ≡ Patch) × ((work : Work) × SitsAtRun me v work x × (key ≡ work.func) × (word ≡ work.arg))
+SitsInRound u me changes v (round.LoadKey key change) x = (v.kind ≡ Patch) × ((work : Work) × SitsAtRun me v work x × (key ≡ work.func) × (change ≡ change_of work.arg))
 SitsInRound u me changes v (round.LoadEntry key word site) x =
-    (work : Work) × SitsAtPatch u v work [] x × (key ≡ work.func) × (word ≡ work.arg) × (site ≤ length u.entries) × (site < MOST_SITES) × (changes ≡ changes_of u work site)
+    (work : Work) × SitsAtEntry u v work key word x × (site ≤ length u.entries) × (site < MOST_SITES) × (changes ≡ changes_of u work word site)
 SitsInRound u me changes v (round.StoreChange made) x =
-    (work : Work) × IsLoaded v work × (v.acked ≡ 2) × (made < length changes) × (changes ≡ patch_of work.func work.arg u.entries) ×
-    ((before after : List Change) × (changes ≡ before ++ after) × (length before ≡ made) × (x ≡ Alters v.slot work before after))
+    (work : Work) × (count : ℕ) × IsLoaded v work × (v.acked ≡ 2) × (made < length changes) × (changes ≡ plan_at u work count) ×
+    ((before after : List Change) × (changes ≡ before ++ after) × (length before ≡ made) × (x ≡ Alters v.slot work count before after))
 SitsInRound u me changes v (round.Acknowledge answer ran) x =
     (work : Work) × IsLoaded v work × (v.acked ≤ 3) ×
     (((x ≡ In v.slot work v.acked (v.acked + 1) Rests) × (v.acked ≡ 2 → v.kind ≡ Patch → has v.active me ≡ false)) ⊎
-    ((v.acked ≡ 2) × ((made : List Change) × (x ≡ Alters v.slot work made []))))
+    ((v.acked ≡ 2) × ((count : ℕ) × (made : List Change) × (x ≡ Alters v.slot work count made []))))
 SitsInRound u me changes v (round.Refill ran) x = SitsIn v v.acked Fills x
 SitsInRound u me changes v (round.Raise ran) x = SitsIn v v.acked Sets x
 
@@ -87,6 +99,8 @@ SitsAt u me c (Some (Complete v stage)) x = (c.visit ≡ Some v) × SitsInComple
 SitsAt u me c (Some (Close slot)) x = (c.visit ≡ None) × (x ≡ Closes slot)
 SitsAt u me c (Some (ReadKey k)) x = (c.interrupts ≡ true) × (k < u.keys) × SitsAtRest c.visit x
 SitsAt u me c (Some (ReadSite i)) x = (c.interrupts ≡ true) × (i < length u.entries) × SitsAtRest c.visit x
+SitsAt u me c (Some (NudgeKey k up)) x = (c.interrupts ≡ true) × (u.online me ≡ true) × (k < u.keys) × SitsAtRest c.visit x
+SitsAt u me c (Some (ExchangeKey k expected new)) x = (c.interrupts ≡ true) × (u.online me ≡ true) × (k < u.keys) × IsNudge expected new × SitsAtRest c.visit x
 SitsAt u me c _ x = SitsAtRest c.visit x
 
 -- a source whose stop is open or not

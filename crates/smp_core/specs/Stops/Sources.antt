@@ -1,7 +1,6 @@
 -- Where a source is with its own stop.
-use Rattle.std.specs.Prelude.{◌≡◌, ◌≢◌, ℕ, ◌<◌, ◌^◌, true, false, ◌==◌, Option, Some}
+use Rattle.std.specs.Prelude.{◌≡◌, ◌≢◌, ℕ, ◌<◌, ◌^◌, true, false, ◌==◌, Option, Some, ◌≤◌}
 use Rattle.smp_mask.specs.Mask.{has}
-use Rattle.smp_labels.specs.Keys.{IsKeyWord}
 use Rattle.smp_core.specs.Stops.Stop.{Stop, Ended}
 use Rattle.smp_core.specs.Stops.Counts.{mask_weight}
 use Rattle.smp_core.specs.Stops.Slots.{IsStored}
@@ -11,12 +10,12 @@ use Rattle.smp_core.specs.declared.stop.work.Kind.{Kind}
 use Rattle.smp_core.specs.declared.stop.work.Kind.TheVariants.{One, Multi, Patch}
 use Rattle.smp_core.specs.declared.stop.work.Work.{Work}
 
--- a patch is of all online CPUs, its function runs on the first of them, and it gives a key a word that a key can have
+-- a patch is of all online CPUs, its function runs on the first of them, and it makes one of the four changes to a key's count
 pub record IsPatchWork (u : Setup) (work : Work) : Type 0 where
   pub all : (c : ℕ) → has work.mask c ≡ u.online c
   pub first : (c : ℕ) → has work.active c ≡ (c == u.first)
   pub key : work.func < u.keys
-  pub word : IsKeyWord work.arg
+  pub change : work.arg ≤ 3
 
 -- a stop of kind One is of one CPU
 abbrev pub IsOfKind : Setup → Work → Kind → Type 0

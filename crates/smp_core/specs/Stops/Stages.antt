@@ -3,7 +3,10 @@ use Rattle.std.specs.Int.{w32, cast_signed}
 use Rattle.std.specs.Prelude.{ℕ, ◌+◌, ◌-◌, ◌*◌, ◌%◌, ◌^◌, ◌<◌, ◌≤◌, Bool, true, false, ◌==◌, ◌&&◌, ◌||◌, if◌then◌else◌, Option, Some, None, List, [], ◌∷◌, ◌++◌, length}
 use Rattle.smp_mask.specs.Mask.{has}
 use Rattle.smp_labels.specs.Entries.{entry_at, IsEntryWord}
-use Rattle.smp_labels.specs.Keys.{is_on}
+use Rattle.smp_labels.specs.Keys.{is_on, change_of, count_after}
+use Rattle.smp_labels.specs.Kinds.{xor}
+use Rattle.smp_labels.specs.declared.keys.Change.{Change as KeyChange}
+use Rattle.smp_labels.specs.declared.keys.Change.TheVariants.{Up, Down}
 use Rattle.smp_labels.specs.Plans.{site_change}
 use Rattle.smp_labels.specs.declared.patch.Place.{Place}
 use Rattle.smp_labels.specs.declared.patch.Place.TheVariants as place
@@ -23,7 +26,7 @@ use Rattle.smp_core.specs.declared.stop.stage.CompletionStage.TheVariants as com
 use Rattle.smp_core.specs.declared.stop.stage.RoundStage.{RoundStage}
 use Rattle.smp_core.specs.declared.stop.stage.RoundStage.TheVariants as round
 use Rattle.smp_core.specs.declared.stop.stage.StopStage.{StopStage}
-use Rattle.smp_core.specs.declared.stop.stage.StopStage.TheVariants.{TakeGate, OpenGate, Begin, Enter, EnterKind, EnterMask, EnterActive, Advance, Complete, Close, LoadDone, LoadResult, ReadKey, ReadSite}
+use Rattle.smp_core.specs.declared.stop.stage.StopStage.TheVariants.{TakeGate, OpenGate, Begin, Enter, EnterKind, EnterMask, EnterActive, Advance, Complete, Close, LoadDone, LoadResult, ReadKey, ReadSite, NudgeKey, ExchangeKey}
 use Rattle.smp_core.specs.declared.stop.stage.Visit.{Visit}
 use Rattle.smp_core.specs.declared.stop.work.Kind.{Kind}
 use Rattle.smp_core.specs.declared.stop.work.Work.{Work}
@@ -52,7 +55,7 @@ abbrev pub round_access : ℕ → List Change → Visit → RoundStage → Acces
 round_access n changes v (round.Look answer) = Load (Slot v.slot field.State)
 round_access n changes v (round.LoadFunc answer) = Load (Slot v.slot field.Func)
 round_access n changes v (round.LoadArg answer func) = Load (Slot v.slot field.Arg)
-round_access n changes v (round.LoadKey key word) = Load (Key key)
+round_access n changes v (round.LoadKey key change) = Load (Key key)
 round_access n changes v (round.LoadEntry key word site) = Load (Entry site)
 round_access n changes v (round.StoreChange made) = store_of (change_at changes made)
 round_access n changes v (round.Acknowledge answer ran) = Sub (Slot v.slot field.Ack)
@@ -82,6 +85,8 @@ stop_access n me changes LoadDone = Load (Slot me field.Done)
 stop_access n me changes LoadResult = Load (Slot me field.Result)
 stop_access n me changes (ReadKey k) = Load (Key k)
 stop_access n me changes (ReadSite i) = Load (Site i)
+stop_access n me changes (NudgeKey k up) = Load (Key k)
+stop_access n me changes (ExchangeKey k expected new) = Exchange (Key k) expected new
 
 -- where a CPU stands in the stop half: its stage, none outside such a command; the stop that it is in; the changes of
 -- its patch; whether its interrupts are on, and whether its own stop is open
@@ -150,15 +155,21 @@ entry_on c v key word site found =
     stop_goes (record c { changes = c.changes ++ site_change key (is_on word) site (entry_at found) })
     (Advance v (if found == 0 || site + 1 == MOST_SITES then round.StoreChange 0 else round.LoadEntry key word (site + 1)))
 
+-- the first load of a patch: at the end of its range nothing is stored, and the answer is 1; nothing where the count
+-- stays; the key alone where it is on or off as before; else the entries are loaded first
+abbrev pub key_on : StopControlValue → Visit → ℕ → ℕ → Option ℕ → StopOutcome
+key_on c v key found None = stop_goes (record c { changes = [] }) (Advance v (round.Acknowledge 1 true))
+key_on c v key found (Some new) =
+    if found == new then stop_goes (record c { changes = [] }) (Advance v (round.Acknowledge 0 true))
+    else stop_goes (record c { changes = (place.Key key, new) ∷ [] }) (Advance v (if xor (is_on found) (is_on new) then round.LoadEntry key new 0 else round.StoreChange 0))
+
 abbrev pub round_outcome : ℕ → StopControlValue → Visit → RoundStage → ℕ → StopOutcome
 round_outcome me c v (round.Look answer) found = if found == v.acked then stop_ends c note.Same else looked_on me c v answer found
 round_outcome me c v (round.LoadFunc answer) found = stop_goes c (Advance v (round.LoadArg answer found))
 round_outcome me c v (round.LoadArg answer func) found =
     if is_multi v.kind then record { control = record c { stage = Some (Advance v (round.Acknowledge answer true)) }; note = Some (note.Run func found) }
-    else stop_goes c (Advance v (round.LoadKey func found))
-round_outcome me c v (round.LoadKey key word) found =
-    if found == word then stop_goes (record c { changes = [] }) (Advance v (round.Acknowledge 0 true))
-    else stop_goes (record c { changes = (place.Key key, word) ∷ [] }) (Advance v (round.LoadEntry key word 0))
+    else stop_goes c (Advance v (round.LoadKey func (change_of found)))
+round_outcome me c v (round.LoadKey key change) found = key_on c v key found (count_after change found)
 round_outcome me c v (round.LoadEntry key word site) found = entry_on c v key word site found
 round_outcome me c v (round.StoreChange made) found =
     stop_goes c (Advance v (if made + 1 == length c.changes then round.Acknowledge 0 true else round.StoreChange (made + 1)))
@@ -183,6 +194,15 @@ completion_outcome c v completion.CountDown found =
 abbrev pub visit_of : ℕ → Kind → ℕ → ℕ → Visit
 visit_of slot kind mask active = record { slot = slot; kind = kind; mask = mask; active = active; acked = 0; answer = 0 }
 
+-- up or down by one
+abbrev pub nudge_of : Bool → KeyChange
+nudge_of up = if up then Up else Down
+
+-- the load of a nudge: it ends at the end of the range, and where the key would go on or off, which takes a stop
+abbrev pub nudge_on : StopControlValue → ℕ → ℕ → Option ℕ → StopOutcome
+nudge_on c k found None = stop_ends c note.KeyRange
+nudge_on c k found (Some new) = if xor (is_on found) (is_on new) then stop_ends c note.Stop else stop_goes c (ExchangeKey k found new)
+
 -- what follows, by the number that the access found
 abbrev pub stop_outcome : ℕ → StopControlValue → StopStage → ℕ → StopOutcome
 stop_outcome me c TakeGate found = stop_ends c (if found == 0 then note.Gate else note.Taken)
@@ -199,6 +219,8 @@ stop_outcome me c LoadDone found = if found == 0 then stop_ends c note.Pending e
 stop_outcome me c LoadResult found = stop_ends (record c { is_open = false }) (note.Result (cast_signed w32 (found % 2 ^ 32)))
 stop_outcome me c (ReadKey k) found = stop_ends c (if is_on found then note.On else note.Off)
 stop_outcome me c (ReadSite i) found = stop_ends c (if is_on found then note.Jmp else note.Nop)
+stop_outcome me c (NudgeKey k up) found = nudge_on c k found (count_after (nudge_of up) found)
+stop_outcome me c (ExchangeKey k expected new) found = stop_ends c (if found == expected then note.Done else note.Lost)
 
 -- what the CPU's function has answered, where the step acknowledges phase 3 with it
 abbrev pub answer_at : StopStage → ℕ
@@ -229,6 +251,8 @@ IsOfSource LoadDone = Unit {0}
 IsOfSource LoadResult = Unit {0}
 IsOfSource (ReadKey k) = Unit {0}
 IsOfSource (ReadSite i) = Unit {0}
+IsOfSource (NudgeKey k up) = Unit {0}
+IsOfSource (ExchangeKey k expected new) = Unit {0}
 IsOfSource _ = ⊥
 
 -- the store that a patch makes next is one of its changes

@@ -17,7 +17,7 @@ use Rattle.smp_core.specs.declared.stop.field.Field.TheVariants as field
 use Rattle.smp_core.specs.declared.stop.stage.CompletionStage.TheVariants as completion
 use Rattle.smp_core.specs.declared.stop.stage.RoundStage.TheVariants as round
 use Rattle.smp_core.specs.declared.stop.stage.StopStage.{StopStage}
-use Rattle.smp_core.specs.declared.stop.stage.StopStage.TheVariants.{TakeGate, OpenGate, Begin, Enter, Advance, Complete, LoadDone, ReadKey, ReadSite}
+use Rattle.smp_core.specs.declared.stop.stage.StopStage.TheVariants.{TakeGate, OpenGate, Begin, Enter, Advance, Complete, LoadDone, ReadKey, ReadSite, NudgeKey}
 use Rattle.smp_core.specs.declared.stop.stage.Visit.{Visit}
 use Rattle.smp_core.specs.declared.stop.start.Terms.{Terms}
 use Rattle.smp_core.specs.declared.stop.work.Kind.{Kind}
@@ -29,9 +29,9 @@ use Rattle.smp_core.specs.declared.word.Word.TheVariants.{Gate}
 abbrev pub terms_of : StopsValue → ℕ → Terms
 terms_of v cpu = record { online = v.online; keys = v.labels.keys; sites = length v.labels.entries; holds_gate = stop_number v.table Gate == cpu + 1 }
 
--- a patch is of all online CPUs, its function runs on the first of them, and it gives a key 0 or 1
+-- a patch is of all online CPUs, its function runs on the first of them, and it makes one of the four changes to a key's count
 abbrev pub fits_patch : Terms → Work → Bool
-fits_patch t work = ((work.mask == t.online && work.active == 2 ^ first_below t.online cpus) && nat_lt work.func t.keys) && nat_lt work.arg 2
+fits_patch t work = ((work.mask == t.online && work.active == 2 ^ first_below t.online cpus) && nat_lt work.func t.keys) && nat_lt work.arg 4
 
 -- a stop of kind One is of one CPU
 abbrev pub fits_kind : Terms → Work → Kind → Bool
@@ -85,6 +85,7 @@ refusal_on t c command.Finish = unless (may_finish c.visit) error.BadArgument
 refusal_on t c command.Poll = unless c.is_open error.BadArgument
 refusal_on t c (command.Key k) = unless (c.interrupts && nat_lt k t.keys) error.BadArgument
 refusal_on t c (command.Site i) = unless (c.interrupts && nat_lt i t.sites) error.BadArgument
+refusal_on t c (command.Nudge k up) = unless (c.interrupts && nat_lt k t.keys) error.BadArgument
 refusal_on t c _ = None
 
 abbrev pub stop_refusal : StopsValue → ℕ → Command → Option SmpError
@@ -111,6 +112,7 @@ stop_first c command.Finish = in_visit c.visit (λ v. Complete v (completes_from
 stop_first c command.Poll = Some LoadDone
 stop_first c (command.Key k) = Some (ReadKey k)
 stop_first c (command.Site i) = Some (ReadSite i)
+stop_first c (command.Nudge k up) = Some (NudgeKey k up)
 stop_first c _ = None
 
 -- the half with the CPU at the beginning of a command, where that is one of this half

@@ -42,6 +42,11 @@ pub record StopCall : Type 0 where
   pub arg : ℕ
   pub answer : ℕ
 
+-- by how much a CPU has moved the count of a key: up in all, and down in all
+pub record Moved : Type 0 where
+  pub up : ℕ
+  pub down : ℕ
+
 pub record StopState : Type 0 where
   pub now : Present
   -- who holds the gate
@@ -54,10 +59,16 @@ pub record StopState : Type 0 where
   -- the phases that each CPU has looked at, and the stop functions that it has called
   pub looks : ℕ → List ℕ
   pub calls : ℕ → List StopCall
+  -- by how much it has moved each key's count itself, outside any stop, and as the runner of patches
+  pub nudged : ℕ → ℕ → Moved
+  pub patched : ℕ → ℕ → Moved
 
 -- at first
 abbrev pub no_present : Present
 no_present = record { stop = λ _. no_stop; inside = λ _. None; irq = λ _. true; readings = λ _. []; patching = Whole }
+
+abbrev pub unmoved : Moved
+unmoved = record { up = 0; down = 0 }
 
 abbrev pub no_stops : StopState
 no_stops = record {
@@ -68,4 +79,6 @@ no_stops = record {
   answers = λ _ _. [];
   looks = λ _. [];
   calls = λ _. [];
+  nudged = λ _ _. unmoved;
+  patched = λ _ _. unmoved;
 }

@@ -3,12 +3,14 @@
 use Rattle.std.specs.Prelude.{ℕ, Bool, true, false, ◌==◌, ◌&&◌, not, cond, Option, Some, None, List, [], ◌∷◌, ◌++◌}
 use Rattle.smp_mask.specs.Mask.{has}
 use Rattle.smp_labels.specs.Keys.{is_on}
-use Rattle.smp_labels.specs.Plans.{patch_of}
+use Rattle.smp_labels.specs.Plans.{plan_of}
 use Rattle.smp_core.specs.Put.{put}
 use Rattle.smp_core.specs.Stops.Stop.{Standing, Inside, Answering, Stop, stands, acknowledged, refilled, raised, completed, ended, opened, closed}
 use Rattle.smp_core.specs.Stops.Slots.{kind_at}
-use Rattle.smp_core.specs.Stops.Labels.{Patching, Whole, Patches, Reading, ReadKey, ReadSite}
-use Rattle.smp_core.specs.Stops.State.{Setup, Present, StopState, StopCall}
+use Rattle.smp_labels.specs.Keys.{change_of}
+use Rattle.smp_core.specs.Stops.KeyCounts.{moved_by}
+use Rattle.smp_core.specs.Stops.Labels.{Change, Patching, Whole, Patches, Reading, ReadKey, ReadSite, count_set, state_left, reading_of}
+use Rattle.smp_core.specs.Stops.State.{Setup, Present, StopState, StopCall, Moved}
 use Rattle.smp_core.specs.declared.seen.Act.{Act}
 use Rattle.smp_core.specs.declared.seen.Act.TheVariants as act
 use Rattle.smp_core.specs.declared.seen.Seen.{Seen}
@@ -83,9 +85,9 @@ looks_now n me s found = record n {
 abbrev pub looks : StopState → ℕ → ℕ → ℕ → StopState
 looks p me s found = record p { now = looks_now p.now me s found; looks = put p.looks me (p.looks me ++ found ∷ []) }
 
--- leave: interrupts are on again, and a source of a patch knows its key
+-- leave: interrupts are on again, and a source of a patch knows its key, where the change tells whether that is on
 abbrev pub first_readings : ℕ → ℕ → Work → List Reading
-first_readings me s w = cond (is_patch w.kind && s == me) (ReadKey w.func (is_on w.arg) ∷ []) []
+first_readings me s w = cond (is_patch w.kind && s == me) (reading_of w.func (state_left (change_of w.arg))) []
 
 abbrev pub leaves : Present → ℕ → ℕ → Work → Present
 leaves n me s w = record n { irq = put n.irq me true; readings = put n.readings me (first_readings me s w) }
@@ -93,7 +95,7 @@ leaves n me s w = record n { irq = put n.irq me true; readings = put n.readings 
 -- a patch ends with its runner's acknowledgement
 abbrev pub unpatched : ℕ → Patching → Patching
 unpatched me Whole = Whole
-unpatched me (Patches c w made rest) = cond (c == me) Whole (Patches c w made rest)
+unpatched me (Patches c w count made rest) = cond (c == me) Whole (Patches c w count made rest)
 
 -- acknowledge the phase that was looked at; the last of all who acknowledge 4 does not leave yet
 abbrev pub acknowledges_now : Present → ℕ → ℕ → ℕ → ℕ → Present
@@ -168,9 +170,13 @@ abbrev pub is_at_run : Standing → Bool
 is_at_run (Inside a l) = a == 2 && l == 3
 is_at_run _ = false
 
--- the first load of a patch: nothing is to be stored where the key stands as it shall
+-- the stores of the patch of this work, where it finds this count
+abbrev pub plan_at : Setup → Work → ℕ → List Change
+plan_at u w count = plan_of w.func count (count_set w count) u.entries
+
+-- the first load of a patch: what it leads from is the count that is found now
 abbrev pub patch_begun : Setup → ℕ → Work → ℕ → Patching
-patch_begun u me w found = Patches me w [] (cond (found == w.arg) [] (patch_of w.func w.arg u.entries))
+patch_begun u me w found = Patches me w found [] (plan_at u w found)
 
 abbrev pub reads : Present → ℕ → Reading → Present
 reads n me r = record n { readings = put n.readings me (n.readings me ++ r ∷ []) }
@@ -184,21 +190,33 @@ key_loaded u n me k found (Some s) = cond (is_at_run ((n.stop s).standing me) &&
 
 -- a store of a patch
 abbrev pub patched_more : Patching → Patching
-patched_more (Patches c w made (change ∷ rest)) = Patches c w (made ++ change ∷ []) rest
+patched_more (Patches c w count made (change ∷ rest)) = Patches c w count (made ++ change ∷ []) rest
 patched_more x = x
 
-abbrev pub label_told : Setup → Present → ℕ → Act → Word → Option ℕ → Present
-label_told u n me act.Load (Key k) (Some found) = key_loaded u n me k found (n.inside me)
-label_told u n me act.Load (Site i) (Some found) = reads n me (ReadSite i (is_on found))
-label_told u n me act.Store (Key k) _ = record n { patching = patched_more n.patching }
-label_told u n me act.Store (Site i) _ = record n { patching = patched_more n.patching }
-label_told u n me _ _ _ = n
+-- the store of the key moves its count from what the patch has found
+abbrev pub key_patched : Patching → (ℕ → ℕ → Moved) → ℕ → ℕ → ℕ → ℕ → ℕ → Moved
+key_patched (Patches c w count made rest) f me k new = moved_by f me k count new
+key_patched Whole f me k new = f
+
+-- a step on a key: a load, a store of a patch, or a compare-exchange, which tells something where it won
+abbrev pub key_told : Setup → StopState → ℕ → ℕ → Act → Option ℕ → Option ℕ → StopState
+key_told u p me k act.Load (Some found) _ = record p { now = key_loaded u p.now me k found (p.now.inside me) }
+key_told u p me k act.Store _ (Some new) =
+    record p { now = record (p.now) { patching = patched_more p.now.patching }; patched = key_patched p.now.patching p.patched me k new }
+key_told u p me k act.Cas (Some found) (Some new) = record p { nudged = moved_by p.nudged me k found new }
+key_told u p me k _ _ _ = p
+
+-- a step on a site
+abbrev pub site_told : Present → ℕ → Act → ℕ → Option ℕ → Present
+site_told n me act.Load i (Some found) = reads n me (ReadSite i (is_on found))
+site_told n me act.Store i _ = record n { patching = patched_more n.patching }
+site_told n me _ _ _ = n
 
 abbrev pub told : Setup → StopState → ℕ → Act → Word → Option ℕ → Option ℕ → ℕ → StopState
 told u p me act Gate found new answer = gate_told p me act new
 told u p me act (Slot s f) found new answer = slot_told p me s act f found new answer
-told u p me act (Key k) found new answer = record p { now = label_told u p.now me act (Key k) found }
-told u p me act (Site i) found new answer = record p { now = label_told u p.now me act (Site i) found }
+told u p me act (Key k) found new answer = key_told u p me k act found new
+told u p me act (Site i) found new answer = record p { now = site_told p.now me act i found }
 told u p me act _ found new answer = p
 
 -- the state after a step that was seen, where the CPU's function has answered so

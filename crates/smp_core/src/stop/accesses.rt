@@ -38,6 +38,10 @@ impl StopStage {
             StopStage::LoadResult => Access::Load(Word::Slot(me, Field::Result)),
             StopStage::ReadKey(key) => Access::Load(Word::Key(key)),
             StopStage::ReadSite(site) => Access::Load(Word::Site(site)),
+            StopStage::NudgeKey(key, _) => Access::Load(Word::Key(key)),
+            StopStage::ExchangeKey(key, expected, new) => {
+                Access::Exchange(Word::Key(key), expected, new)
+            }
         }
     }
 }
@@ -51,7 +55,7 @@ fn round_access(visit: Visit, stage: RoundStage, control: &StopControl) -> Acces
         RoundStage::Look { answer: _ } => Access::Load(Word::Slot(slot, Field::State)),
         RoundStage::LoadFunc { answer: _ } => Access::Load(Word::Slot(slot, Field::Func)),
         RoundStage::LoadArg { answer: _, func: _ } => { Access::Load(Word::Slot(slot, Field::Arg)) }
-        RoundStage::LoadKey { key, word: _ } => Access::Load(Word::Key(u32::from(key))),
+        RoundStage::LoadKey { key, change: _ } => Access::Load(Word::Key(u32::from(key))),
         RoundStage::LoadEntry {
             key: _,
             word: _,

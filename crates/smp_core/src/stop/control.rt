@@ -4,7 +4,9 @@ ghost use Rattle.std.specs.Prelude.{◌≡◌, ◌<◌, ◌≤◌, ◌^◌, ℕ}
 ghost use Rattle.smp_core.specs.Stops.Stages.{acked_on, begun_next, completion_outcome, entry_on, looked_on, round_outcome, stop_ends, stop_goes, stop_outcome, stop_outside, turn_ends, FitsStop, FitsRound, FitsCompletion};
 ghost use Rattle.std.specs.Prelude.{length};
 ghost use Rattle.smp_core.specs.Stops.Stages.{change_at};
-ghost use Rattle.smp_core.specs.Stops.Stages.{IsOfSource};
+ghost use Rattle.smp_core.specs.Stops.Stages.{IsOfSource, key_on, nudge_of, nudge_on};
+ghost use Rattle.smp_labels.specs.Keys.{count_after};
+ghost use Rattle.std.specs.Prelude.{Some, None, []};
 ghost use Rattle.smp_core.specs.Stops.Slots.{kind_at};
 
 use crate::seen::Note;
@@ -13,7 +15,7 @@ use crate::stop::mask::has_bit;
 use crate::stop::stage::{CompletionStage, RoundStage, StopStage, Visit};
 use crate::stop::work::{Kind, Work};
 use arrayvec::ArrayVec;
-use smp_labels::{Entry, MOST_CHANGES, MOST_SITES, Place, is_on, kind_of};
+use smp_labels::{Change, Entry, MOST_CHANGES, MOST_SITES, Place, is_on, kind_of};
 use std::marker::Model;
 
 /// Where a CPU stands in the stop half.
@@ -193,22 +195,41 @@ impl StopControl {
         self.go_on(StopStage::Advance(visit, next))
     }
 
-    /// The first load of a patch: nothing is to be done where the key stands as it shall.
-    fn key_on(&mut self, visit: Visit, key: u16, word: u64, found: u64) -> Option<Note>
-        ensures note { result ≡ (round_outcome 0 self.old visit (RoundStage.LoadKey key word) found).note }
-        ensures control { self.new ≡ (round_outcome 0 self.old visit (RoundStage.LoadKey key word) found).control }
+    /// The first load of a patch. The answer is 1 where the count stands at that end of its range, and nothing is to be
+    /// done there or where it stays; entries are loaded where the key goes on or off.
+    fn key_on(&mut self, visit: Visit, key: u16, change: Change, found: u64) -> Option<Note>
+        ensures note { result ≡ (round_outcome 0 self.old visit (RoundStage.LoadKey key change) found).note }
+        ensures control { self.new ≡ (round_outcome 0 self.old visit (RoundStage.LoadKey key change) found).control }
     {
         self.changes.clear();
-        let next = if found == word {
-            RoundStage::Acknowledge {
-                answer: 0,
+        let next = match change.count_after(found) {
+            None => RoundStage::Acknowledge {
+                answer: 1,
                 ran: true,
-            }
-        } else {
-            self.changes.push((Place::Key(u32::from(key)), word));
-            RoundStage::LoadEntry { key, word, site: 0 }
+            },
+            Some(word) => self.count_on(key, word, found),
         };
         self.go_on(StopStage::Advance(visit, next))
+    }
+
+    /// The step of a patch after the load of its key's count, which is to be this word.
+    fn count_on(&mut self, key: u16, word: u64, found: u64) -> RoundStage
+        requires { self.old.changes ≡ [] }
+        ensures stage { (visit : Visit) → (stop_goes self.new (StopStage.Advance visit result)).control ≡ (key_on self.old visit key found (Some word)).control }
+        ensures same { (visit : Visit) → None ≡ (key_on self.old visit key found (Some word)).note }
+    {
+        if found == word {
+            return RoundStage::Acknowledge {
+                answer: 0,
+                ran: true,
+            };
+        }
+        self.changes.push((Place::Key(u32::from(key)), word));
+        if is_on(found) == is_on(word) {
+            RoundStage::StoreChange { made: 0 }
+        } else {
+            RoundStage::LoadEntry { key, word, site: 0 }
+        }
     }
 
     /// A store of the patch was made.
@@ -240,7 +261,7 @@ impl StopControl {
         }
         let next = RoundStage::LoadKey {
             key: func,
-            word: found,
+            change: Change::from_word(found),
         };
         self.go_on(StopStage::Advance(visit, next))
     }
@@ -271,7 +292,7 @@ impl StopControl {
                 self.go_on(StopStage::Advance(visit, RoundStage::LoadArg { answer, func }))
             }
             RoundStage::LoadArg { answer, func } => self.arg_on(visit, answer, func, found),
-            RoundStage::LoadKey { key, word } => self.key_on(visit, key, word, found),
+            RoundStage::LoadKey { key, change } => self.key_on(visit, key, change, found),
             RoundStage::LoadEntry { key, word, site } => {
                 self.entry_on(visit, key, word, site, found)
             }
@@ -366,7 +387,23 @@ impl StopControl {
         }
     }
 
-    /// What follows a step of the source, or a reading.
+    /// The load of a nudge: it goes on where the key stays on.
+    fn nudge(&mut self, key: u32, up: bool, found: u64) -> Option<Note>
+        ensures note { result ≡ (nudge_on self.old key found (count_after (nudge_of up) found)).note }
+        ensures control { self.new ≡ (nudge_on self.old key found (count_after (nudge_of up) found)).control }
+    {
+        let change = if up { Change::Up } else { Change::Down };
+        let Some(word) = change.count_after(found) else {
+            return self.end(Note::KeyRange);
+        };
+        if is_on(found) == is_on(word) {
+            self.go_on(StopStage::ExchangeKey(key, found, word))
+        } else {
+            self.end(Note::Stop)
+        }
+    }
+
+    /// What follows a step of the source, a reading or a nudge.
     fn advance_source(&mut self, stage: StopStage, found: u64) -> Option<Note>
         requires { IsOfSource stage }
         ensures note { (me : ℕ) → result ≡ (stop_outcome me self.old stage found).note }
@@ -386,6 +423,14 @@ impl StopControl {
             }
             StopStage::ReadKey(_) => self.end(if is_on(found) { Note::On } else { Note::Off }),
             StopStage::ReadSite(_) => self.end(if is_on(found) { Note::Jmp } else { Note::Nop }),
+            StopStage::NudgeKey(key, up) => self.nudge(key, up, found),
+            StopStage::ExchangeKey(_, expected, _) => {
+                self.end(if found == expected {
+                    Note::Done
+                } else {
+                    Note::Lost
+                })
+            }
             _ => self.end(Note::Finished),
         }
     }

@@ -3,9 +3,9 @@
 //! They speak of any number of CPUs and of any words that show stops, so that they hold of the pure machine and of
 //! words that threads share alike.
 
-ghost use Rattle.smp_core.specs.Stops.Promises.{NothingBegun, StepsAreTold, KeepThePhaseLaw, KeepTheFunctionLaw, KeepTheLabelLaw};
+ghost use Rattle.smp_core.specs.Stops.Promises.{NothingBegun, StepsAreTold, KeepThePhaseLaw, KeepTheCountLaw, KeepTheFunctionLaw, KeepTheLabelLaw, PatchesAlone};
 
-/// Words with a free gate, free slots and a lawful label table show that no stop was begun.
+/// Words with a free gate, free slots and a lawful label table with all keys off show that no stop was begun.
 pub fn nothing_is_begun()
     ensures { NothingBegun }
 {}
@@ -32,4 +32,14 @@ pub fn function_law()
 /// they went on.
 pub fn label_law()
     ensures { KeepTheLabelLaw }
+{}
+
+/// A key's word is what the nudges and the patches of all CPUs have moved it.
+pub fn count_law()
+    ensures { KeepTheCountLaw }
+{}
+
+/// While a patch runs, every online CPU has interrupts off, so that none nudges a count.
+pub fn patches_alone()
+    ensures { PatchesAlone }
 {}

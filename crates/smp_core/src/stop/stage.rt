@@ -5,6 +5,7 @@ ghost use Rattle.smp_core.specs.Stops.Stages.{completes_from, visit_acked};
 
 use crate::stop::field::Field;
 use crate::stop::work::{Kind, Work};
+use smp_labels::Change;
 
 /// What a CPU has loaded of the stop that it is in, and how far it is with it.
 #[derive(Clone, Copy)]
@@ -57,9 +58,9 @@ pub enum RoundStage {
     LoadFunc { answer: u64 },
     /// Load its argument; the function of a Multi stop runs after this step.
     LoadArg { answer: u64, func: u16 },
-    /// Load the key that a patch changes.
-    LoadKey { key: u16, word: u64 },
-    /// Load the entry of this site.
+    /// Load the count of the key that a patch changes.
+    LoadKey { key: u16, change: Change },
+    /// Load the entry of this site; `word` is the key's new count.
     LoadEntry { key: u16, word: u64, site: u32 },
     /// Make the next store of the patch: so many are made.
     StoreChange { made: u32 },
@@ -108,4 +109,8 @@ pub enum StopStage {
     LoadResult,
     ReadKey(u32),
     ReadSite(u32),
+    /// Load the count of a key that is to go up or down by one.
+    NudgeKey(u32, bool),
+    /// Put the second count in the key's word, where it is the first.
+    ExchangeKey(u32, u64, u64),
 }

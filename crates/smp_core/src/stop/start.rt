@@ -30,14 +30,15 @@ fn unless(test: bool, error: SmpError) -> Option<SmpError>
 }
 
 impl Terms {
-    /// Whether a patch is of all online CPUs, runs on the first of them, and gives a key of this table 0 or 1.
+    /// Whether a patch is of all online CPUs, runs on the first of them, and makes one of the four changes to a key of
+    /// this table.
     fn fits_patch(self, work: Work) -> bool
         ensures { result ≡ is_fit_patch self work }
     {
         mask_word(work.mask) == mask_word(self.online)
             && mask_word(work.active) == 1 << first_of(self.online)
             && u32::from(work.func) < self.keys
-            && work.arg < 2
+            && work.arg < 4
     }
 
     /// Whether a work has some CPUs, and as many as its kind may have.
@@ -84,7 +85,9 @@ impl Terms {
             Command::RunOne(_) => may_run(visit),
             Command::Finish => may_finish(visit),
             Command::Poll => control.is_open(),
-            Command::Key(key) => control.interrupts() && key < self.keys,
+            Command::Key(key) | Command::Nudge(key, _) => {
+                control.interrupts() && key < self.keys
+            }
             Command::Site(site) => control.interrupts() && site < self.sites,
             _ => true,
         };
@@ -145,6 +148,7 @@ impl StopControl {
             Command::Poll => Some(StopStage::LoadDone),
             Command::Key(key) => Some(StopStage::ReadKey(key)),
             Command::Site(site) => Some(StopStage::ReadSite(site)),
+            Command::Nudge(key, up) => Some(StopStage::NudgeKey(key, up)),
             _ => None,
         }
     }

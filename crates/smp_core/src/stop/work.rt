@@ -51,6 +51,6 @@ pub struct Work {
     pub active: CpuMask,
     /// The function, or of a patch the key.
     pub func: u16,
-    /// The function's argument, or of a patch the key's new word.
+    /// The function's argument, or of a patch the number of its change ([`smp_labels::Change`]).
     pub arg: u64,
 }

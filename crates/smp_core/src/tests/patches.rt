@@ -155,7 +155,7 @@ fn begin_refuses_patches_in_order(rt: HostRuntime) -> Result<(), Fail> {
         work(Kind::Patch, first.with(2)?, first, 0, 1),
         work(Kind::Patch, all, all, 0, 1),
         work(Kind::Patch, all, first, 1, 1),
-        work(Kind::Patch, all, first, 0, 2),
+        work(Kind::Patch, all, first, 0, 4),
     ] {
         assert_eq!(rt; core.start(0, bad), Err(SmpError::BadArgument));
     }

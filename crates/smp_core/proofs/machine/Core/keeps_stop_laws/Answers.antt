@@ -17,5 +17,6 @@ returns g c p shown =
         law = function_law cpus (p.now.stop s) (λ f. at (Slot s f)) (h.present.slots s) me is;
         all_off = all_off _ p.now at shown.seat h.present s me is;
       };
+      counts = h.counts;
       labels = λ me online on. record { lawful = lawful_when_on _ p.now at shown.seat h.present me online on; agrees = h.present.read me online on };
     }

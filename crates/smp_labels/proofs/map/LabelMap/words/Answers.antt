@@ -1,7 +1,6 @@
 use Rattle.std.proofs.Common.{◌≡◌, ◌<◌, ◌≤◌, false, length, length-set, get_or, ap, ◌∙◌, arith}
 use Rattle.std.proofs.lemmas.List.{take_all}
 use Rattle.smp_labels.specs.declared.words.TheConstants.{MOST_SITES}
-use Rattle.smp_labels.specs.Keys.{is_on}
 use Rattle.smp_labels.specs.Kinds.{kind_of, kind_word}
 use Rattle.smp_labels.specs.Entries.{entry_word}
 use Rattle.smp_labels.specs.Labels.{first_site}
@@ -17,7 +16,7 @@ loop-site-preserved c =
     let fits : length items ≤ MOST_SITES = omega (arith, ap length c.deref-entry-items.ensures.0, c.self.invariant.few_sites) in
     let in_items : i < length items = omega arith in
     let kind : c.word-in-loop-site.result ≡ kind_word (kind_of false e.branch) =
-    c.word-in-loop-site.ensures ∙ ap kind_word (c.kind_of.ensures ∙ ap (λ on. kind_of on e.branch) (c.is_on.ensures ∙ ap is_on c.key_word-in-loop-site.ensures.value)) in
+    c.word-in-loop-site.ensures ∙ ap kind_word c.kind_of.ensures in
     record {
       room = simp length-set before.room;
       off = before.off;

@@ -16,4 +16,4 @@ begin-requires-clause-may g c =
     let now : c.index.result.now ≡ stop_control_of c.args.self.now.controls c.args.cpu = here ∙ ap (λ (x : List StopControlValue). stop_control_of x c.args.cpu) kept in
     let first : stop_first (stop_control_of c.args.self.now.controls c.args.cpu) c.args.command.now ≡ Some c.in-Some.stage =
     rw (← now) (sym c.first_stage.ensures ∙ c.in-Some.is) in
-    may_begin c.args.self.now c.args.cpu c.args.command.now c.in-Some.stage c.requires.cpu c.requires.below c.requires.fits c.requires.allowed first
+    may_begin c.args.self.now c.args.cpu c.args.command.now c.in-Some.stage c.requires.cpu c.requires.below c.requires.online c.requires.fits c.requires.allowed first
