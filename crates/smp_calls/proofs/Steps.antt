@@ -2,9 +2,9 @@
 use Rattle.std.proofs.Common.{◌≡◌, ℕ, ◌<◌, ◌==◌, ◌||◌, Bool, true, false, Option, Some, None, List, [], ◌++◌, append_assoc, length, length-set, slice_index_or, slice_set, inl, inr, refl, sym, ap, ◌∙◌, subst, arith}
 use Rattle.std.proofs.lemmas.List.{append-nil, get_or-set_same, get_or-set_other}
 use Rattle.std.proofs.lemmas.Bool.{cases_eq, ne_eqb, eq-eqb}
-use Rattle.smp_core.specs.Size.{cpus, records_of_one, record_of, local}
+use Rattle.smp_core.specs.Size.{cpus, records_of_one, record_of}
 use Rattle.smp_core.specs.Order.{order}
-use Rattle.smp_core.proofs.Sizes.{record_of-below, local-of_record}
+use Rattle.smp_core.proofs.Sizes.{record_of-below, one_local}
 use Rattle.smp_core.specs.declared.call.Call.{Call}
 use Rattle.smp_core.specs.declared.known.Sending.{Sending}
 use Rattle.smp_queue.specs.Cpu.{CpuValue, confirmed_at, confirms}
@@ -29,7 +29,7 @@ set_else c i j b other = get_or-set_other c.confirmed i j b false other
 
 -- one CPU's records are as many as their local numbers
 pub same_local : (number j k : ℕ) → j < records_of_one → k < records_of_one → record_of number j ≡ record_of number k → j ≡ k
-same_local number j k b l e = sym (local-of_record number j b) ∙ (ap local e ∙ local-of_record number k l)
+same_local number j k b l e = one_local number j k b l e
 
 -- whether a record is confirmed once that of number k is
 pub confirms_at : (c : CpuValue) (k j : ℕ) → IsSized c → k < records_of_one → j < records_of_one → confirmed_at (confirms k c) j ≡ (j == k || confirmed_at c j)

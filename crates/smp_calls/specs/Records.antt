@@ -1,6 +1,7 @@
 -- Which of its records a CPU uses for a call.
-use Rattle.std.specs.Prelude.{ℕ, ◌+◌, ◌-◌, Bool, if◌then◌else◌}
-use Rattle.smp_core.specs.Size.{records_of_one, record_of}
+use Rattle.std.specs.Prelude.{ℕ, ◌+◌, nat_lt, Bool, if◌then◌else◌}
+use Rattle.smp_core.specs.Size.{record_of}
+use Rattle.smp_core.specs.declared.size.TheConstants.{FIRST_TARGETS, USER}
 use Rattle.smp_core.specs.declared.call.Call.{Call}
 use Rattle.smp_core.specs.declared.call.Class.{Class}
 use Rattle.smp_core.specs.declared.call.Class.TheVariants.{Sync, Async}
@@ -8,11 +9,11 @@ use Rattle.smp_calls.specs.declared.records.TheConstants.{SYNC_RECORD, ASYNC_REC
 
 -- the record for calls to many with this destination
 abbrev pub many_record : ℕ → ℕ
-many_record to = to + 2
+many_record to = if nat_lt to FIRST_TARGETS then to + 2 else to + 4
 
 -- the two records of the user
 abbrev pub user_record : ℕ → ℕ
-user_record u = (records_of_one - 2) + u
+user_record u = USER + u
 
 -- a call that is waited for keeps its record until it has run
 abbrev pub class_for : Bool → Class

@@ -5,7 +5,7 @@ ghost use Rattle.smp_core.specs.Size.{cpus, records_of_one};
 ghost use Rattle.smp_calls.specs.Records.{many_record as many_record_in, user_record as user_record_in, single_record as single_record_in, class_for as class_in};
 
 use smp_core::call::Class;
-use smp_core::size::RECORDS_OF_ONE;
+use smp_core::size::{FIRST_TARGETS, USER};
 
 /// The record for a call to one CPU that is waited for. It stands for the one on the caller's stack in
 /// `kernel/smp.c: smp_call_function_single`.
@@ -22,7 +22,7 @@ pub(crate) fn many_record(to: u32) -> u32
     requires { to < cpus }
     ensures { result ≡ many_record_in to }
 {
-    to + 2
+    if to < FIRST_TARGETS { to + 2 } else { to + 4 }
 }
 
 /// The record of the user with this number.
@@ -30,7 +30,7 @@ pub(crate) fn user_record(u: u32) -> u32
     requires { u < USER_RECORDS }
     ensures { result ≡ user_record_in u }
 {
-    RECORDS_OF_ONE - USER_RECORDS + u
+    USER + u
 }
 
 /// The record for a call to one CPU.

@@ -1,17 +1,18 @@
 -- A command that may start begins where it should, and changes no call.
-use Rattle.std.proofs.Common.{◌≡◌, ℕ, zero, suc, ◌<◌, Bool, true, false, ◌==◌, ◌||◌, not, nat_lt, cond, Option, Some, None, List, length, get_or, sym, refl, ap, ◌∙◌, arith, replicate, inl}
-use Rattle.std.proofs.lemmas.Bool.{ltb-true}
+use Rattle.std.proofs.Common.{◌≡◌, ℕ, zero, suc, ◌-◌, ◌<◌, ◌≤◌, Bool, true, false, ◌==◌, ◌||◌, ◌&&◌, not, nat_lt, cond, Option, Some, None, List, length, get_or, sym, refl, ap, ◌∙◌, arith, replicate, inl, inr}
+use Rattle.std.proofs.lemmas.Bool.{ltb-true, le-ltb, cases_lt, and_parts}
 use Rattle.std.specs.Prelude.{slice_set}
 use Rattle.smp_mask.specs.Mask.{has}
 use Rattle.smp_mask.specs.declared.error.SmpError.{SmpError}
 use Rattle.smp_core.specs.Size.{cpus, table_size, records_of_one}
+use Rattle.smp_core.specs.declared.size.TheConstants.{FIRST_OF_ONE}
 use Rattle.smp_core.specs.Put.{put}
 use Rattle.smp_core.specs.Layout.{index_of, number_in, number_at}
 use Rattle.smp_core.specs.Calls.{CallState, no_calls}
 use Rattle.smp_core.specs.Drains.{DrainValue}
 use Rattle.smp_core.specs.Stages.{ControlValue}
 use Rattle.smp_core.specs.Limits.{AreLimits}
-use Rattle.smp_core.specs.Start.{refusal_of, command_refusal, own_refusal, or_else, busy_or, first_stage, fits_record, control_at, FitsCommand}
+use Rattle.smp_core.specs.Start.{refusal_of, command_refusal, own_refusal, or_else, busy_or, first_stage, fits_record, has_record, control_at, FitsCommand, NamesRecord}
 use Rattle.smp_core.specs.Stops.Starts.{stop_refusal, stop_started, stop_begun_if, stop_first}
 use Rattle.smp_core.specs.Stops.Value.{StopsValue, stop_control_of}
 use Rattle.smp_core.specs.declared.stop.stage.StopStage.{StopStage}
@@ -60,7 +61,7 @@ online_below nr online cpu l e = let below = l.below cpu e in let within = l.wit
 pub record MayStart (core : CoreValue) (cpu : ℕ) (c : Command) : Type 0 where
   pub is_online : has core.online cpu ≡ true
   pub is_outside : (control_of core.controls cpu).stage ≡ None
-  pub is_allowed : command_refusal core.online cpu c ≡ None
+  pub is_allowed : command_refusal core.nr core.online cpu c ≡ None
   pub is_stop_outside : (stop_control_of core.stops.controls cpu).stage ≡ None
   pub is_stop_allowed : stop_refusal core.stops cpu c ≡ None
 
@@ -69,7 +70,7 @@ may_start core cpu c e =
     let o = else_none (has core.online cpu) _ _ e in
     let b = not_busy (control_of core.controls cpu).stage _ o.1 in
     let d = not_busy (stop_control_of core.stops.controls cpu).stage (own_refusal core cpu c) b.1 in
-    let n = neither (command_refusal core.online cpu c) (stop_refusal core.stops cpu c) d.1 in
+    let n = neither (command_refusal core.nr core.online cpu c) (stop_refusal core.stops cpu c) d.1 in
     record { is_online = o.0; is_outside = b.0; is_allowed = n.0; is_stop_outside = d.0; is_stop_allowed = n.1 }
 
 -- a CPU on which a command may start is one that there can be
@@ -90,16 +91,37 @@ begins_outside online cpu (command.Done k) hand e = e
 begins_outside online cpu command.Handle hand e = e
 begins_outside online cpu _ hand e = e
 
-begins : (nr online : ℕ) (places : ℕ → RecPlace) (at : Word → ℕ) (s : Share) (d : DrainValue) (cpu : ℕ) (c : Command) → AreLimits nr online → cpu < cpus → command_refusal online cpu c ≡ None → FitsCommand c →
+-- a record that a source has is one of its local numbers
+pub record_below : (nr k : ℕ) → has_record nr k ≡ true → k < records_of_one
+record_below nr k e = elim (cases_lt k FIRST_OF_ONE) [
+  | inl low ↦ omega arith
+  | inr high ↦
+      let far : (nat_lt k records_of_one && nat_lt (k - 4) nr) ≡ true = rw (← e, le-ltb k FIRST_OF_ONE high) refl in
+      ltb-true k records_of_one (and_parts (nat_lt k records_of_one) (nat_lt (k - 4) nr) far).0
+]
+
+-- a command that may start names a record that there is
+pub names_record : (nr online cpu : ℕ) (c : Command) → command_refusal nr online cpu c ≡ None → NamesRecord c
+names_record nr online cpu (command.Post k to class func info tries) e =
+    let one = not (nat_lt k records_of_one) in
+    let bad = ((one || tries == 0) || to == cpu) || not (fits_record nr k to class) in
+    let ok = or_false one (tries == 0) (or_false (one || tries == 0) (to == cpu) (or_false ((one || tries == 0) || to == cpu) (not (fits_record nr k to class)) (then_none bad _ e))) in
+    ltb-true k records_of_one (not_false (nat_lt k records_of_one) ok)
+names_record nr online cpu (command.Done k) e = record_below nr k (else_none (has_record nr k) None _ e).0
+names_record nr online cpu (command.Send to) e = tt
+names_record nr online cpu command.Handle e = tt
+names_record nr online cpu _ e = tt
+
+begins : (nr online : ℕ) (places : ℕ → RecPlace) (at : Word → ℕ) (s : Share) (d : DrainValue) (cpu : ℕ) (c : Command) → AreLimits nr online → cpu < cpus → command_refusal nr online cpu c ≡ None → FitsCommand c →
     StandsAt places at s d cpu None → StandsAt places at s d cpu (first_stage online cpu c)
 begins nr online places at s d cpu (command.Post k to class func info tries) limits l e f h =
     let one = not (nat_lt k records_of_one) in
-    let bad = ((one || tries == 0) || to == cpu) || not (fits_record k to class) in
-    let ok = or_false one (tries == 0) (or_false (one || tries == 0) (to == cpu) (or_false ((one || tries == 0) || to == cpu) (not (fits_record k to class)) (then_none bad _ e))) in
+    let bad = ((one || tries == 0) || to == cpu) || not (fits_record nr k to class) in
+    let ok = or_false one (tries == 0) (or_false (one || tries == 0) (to == cpu) (or_false ((one || tries == 0) || to == cpu) (not (fits_record nr k to class)) (then_none bad _ e))) in
     let small = ltb-true k records_of_one (not_false (nat_lt k records_of_one) ok) in (
       h,
       record {
-        owned = owner-of_record cpu k small;
+        owned = owner-of_record cpu k l small;
         is_call = record { in_range = record_of-below cpu k l small; func = f.0; info = f.1 };
         me_in_range = l;
         goes = λ o. online_below nr online to limits o;
@@ -108,18 +130,18 @@ begins nr online places at s d cpu (command.Post k to class func info tries) lim
     )
 begins nr online places at s d cpu (command.Send to) limits l e f h = (h, online_below nr online to limits (else_none (has online to) None _ e).0, l)
 begins nr online places at s d cpu (command.Done k) limits l e f h =
-    let small = ltb-true k records_of_one (else_none (nat_lt k records_of_one) None _ e).0 in
-    (h, owner-of_record cpu k small, record_of-below cpu k l small)
+    let small = record_below nr k (else_none (has_record nr k) None _ e).0 in
+    (h, owner-of_record cpu k l small, record_of-below cpu k l small)
 begins nr online places at s d cpu command.Handle limits l e f h = (l, h)
 begins nr online places at s d cpu _ limits l e f h = h
 
 module _ (nr online : ℕ) (a : CallState) (at : Word → ℕ) (control : ℕ → ControlValue) (cpu : ℕ) (c : Command) (shows : Shows a at control) (outside_now : (control cpu).stage ≡ None) where
-  begun_stands : AreLimits nr online → cpu < cpus → command_refusal online cpu c ≡ None → FitsCommand c → Stands a.place at (share_of a cpu) cpu (control_at (control cpu) (first_stage online cpu c))
+  begun_stands : AreLimits nr online → cpu < cpus → command_refusal nr online cpu c ≡ None → FitsCommand c → Stands a.place at (share_of a cpu) cpu (control_at (control cpu) (first_stage online cpu c))
   begun_stands limits l e f =
       let h : StandsAt a.place at (share_of a cpu) (control cpu).drain cpu None = rw outside_now at (shows.stands cpu) in
       begins nr online a.place at (share_of a cpu) (control cpu).drain cpu c limits l e f h
 
-  pub begun_shows : AreLimits nr online → cpu < cpus → command_refusal online cpu c ≡ None → FitsCommand c → Shows a at (put control cpu (control_at (control cpu) (first_stage online cpu c)))
+  pub begun_shows : AreLimits nr online → cpu < cpus → command_refusal nr online cpu c ≡ None → FitsCommand c → Shows a at (put control cpu (control_at (control cpu) (first_stage online cpu c)))
   begun_shows limits l e f =
       let next = control_at (control cpu) (first_stage online cpu c) in
       let hand : hands_in at cpu ≡ 0 = rw outside_now at (shows.hands cpu) in

@@ -1,6 +1,6 @@
 -- How many CPUs, records and words there are, and to whom a record belongs. No other file has these numbers.
-use Rattle.std.specs.Prelude.{ℕ, ◌+◌, ◌*◌, ◌/◌, ◌%◌}
-use Rattle.smp_core.specs.declared.size.TheConstants.{NR_CPUS, RECORDS_OF_ONE, RECORDS, WORDS}
+use Rattle.std.specs.Prelude.{ℕ, ◌+◌, ◌-◌, ◌*◌, ◌/◌, ◌%◌, nat_lt, if◌then◌else◌}
+use Rattle.smp_core.specs.declared.size.TheConstants.{NR_CPUS, FIRST_OF_ONE, MORE_OF_ONE, FIRST_RECORDS, RECORDS_OF_ONE, RECORDS, WORDS}
 
 -- the CPUs are the numbers below this
 abbrev pub cpus : ℕ
@@ -20,12 +20,12 @@ table_size = WORDS
 
 -- the source that a record belongs to
 unfoldable pub owner : ℕ → ℕ
-owner id = id / RECORDS_OF_ONE
+owner id = if nat_lt id FIRST_RECORDS then id / FIRST_OF_ONE else (id - FIRST_RECORDS) / MORE_OF_ONE
 
 -- the local number of a record
 unfoldable pub local : ℕ → ℕ
-local id = id % RECORDS_OF_ONE
+local id = if nat_lt id FIRST_RECORDS then id % FIRST_OF_ONE else FIRST_OF_ONE + (id - FIRST_RECORDS) % MORE_OF_ONE
 
 -- the record of this source with this local number
 unfoldable pub record_of : ℕ → ℕ → ℕ
-record_of source k = RECORDS_OF_ONE * source + k
+record_of source k = if nat_lt k FIRST_OF_ONE then FIRST_OF_ONE * source + k else FIRST_RECORDS + MORE_OF_ONE * source + (k - FIRST_OF_ONE)

@@ -1,9 +1,10 @@
 -- When a command may start, and where it begins.
-use Rattle.std.specs.Prelude.{ℕ, ◌+◌, ◌<◌, ◌^◌, Bool, true, false, ◌==◌, ◌||◌, not, nat_lt, if◌then◌else◌, Option, Some, None, slice_set}
+use Rattle.std.specs.Prelude.{ℕ, ◌+◌, ◌-◌, ◌<◌, ◌^◌, Bool, true, false, ◌==◌, ◌||◌, ◌&&◌, not, nat_lt, if◌then◌else◌, Option, Some, None, slice_set}
 use Rattle.smp_mask.specs.Mask.{has}
 use Rattle.smp_mask.specs.declared.error.SmpError.{SmpError}
 use Rattle.smp_mask.specs.declared.error.SmpError.TheVariants as error
 use Rattle.smp_core.specs.Size.{records_of_one, record_of}
+use Rattle.smp_core.specs.declared.size.TheConstants.{FIRST_OF_ONE, USER}
 use Rattle.smp_core.specs.Stages.{ControlValue}
 use Rattle.smp_core.specs.Value.{CoreValue, control_of}
 use Rattle.smp_core.specs.Stops.Starts.{stop_refusal, stop_started}
@@ -21,20 +22,31 @@ abbrev pub is_sync : Class → Bool
 is_sync Sync = true
 is_sync Async = false
 
--- record 0 carries SYNC calls, 1 and the two last ones ASYNC calls, the others those to one CPU each
-abbrev pub fits_record : ℕ → ℕ → Class → Bool
-fits_record k to class =
+-- record 0 carries SYNC calls, 1 and the user's two ASYNC calls, the others those to one CPU each that there is
+abbrev pub fits_record : ℕ → ℕ → ℕ → Class → Bool
+fits_record nr k to class =
     if k == 0 then is_sync class
-    else if (k == 1 || k + 2 == records_of_one) || k + 1 == records_of_one then not (is_sync class)
-    else k == to + 2
+    else if k == 1 || (not (nat_lt k USER) && nat_lt k FIRST_OF_ONE) then not (is_sync class)
+    else if nat_lt k USER then k == to + 2
+    else k == to + 4 && nat_lt to nr
+
+-- a source has this record: a further one is of a CPU that there is
+abbrev pub has_record : ℕ → ℕ → Bool
+has_record nr k = nat_lt k FIRST_OF_ONE || (nat_lt k records_of_one && nat_lt (k - 4) nr)
+
+-- the record that a command names has a local number
+abbrev pub NamesRecord : Command → Type 0
+NamesRecord (command.Post k to class func info tries) = k < records_of_one
+NamesRecord (command.Done k) = k < records_of_one
+NamesRecord _ = Unit {0}
 
 -- the own refusals of a command of the call half
-abbrev pub command_refusal : ℕ → ℕ → Command → Option SmpError
-command_refusal online cpu (command.Post k to class func info tries) =
-    if ((not (nat_lt k records_of_one) || tries == 0) || to == cpu) || not (fits_record k to class) then Some error.BadArgument else None
-command_refusal online cpu (command.Send to) = if has online to then None else Some error.NoCpu
-command_refusal online cpu (command.Done k) = if nat_lt k records_of_one then None else Some error.BadArgument
-command_refusal online cpu _ = None
+abbrev pub command_refusal : ℕ → ℕ → ℕ → Command → Option SmpError
+command_refusal nr online cpu (command.Post k to class func info tries) =
+    if ((not (nat_lt k records_of_one) || tries == 0) || to == cpu) || not (fits_record nr k to class) then Some error.BadArgument else None
+command_refusal nr online cpu (command.Send to) = if has online to then None else Some error.NoCpu
+command_refusal nr online cpu (command.Done k) = if has_record nr k then None else Some error.BadArgument
+command_refusal nr online cpu _ = None
 
 -- the answer to a CPU that is inside a command, else this one
 abbrev pub busy_or : {A : Type 0} → Option A → Option SmpError → Option SmpError
@@ -48,7 +60,7 @@ or_else None second = second
 
 -- the own refusals of a command of either half
 abbrev pub own_refusal : CoreValue → ℕ → Command → Option SmpError
-own_refusal core cpu c = or_else (command_refusal core.online cpu c) (stop_refusal core.stops cpu c)
+own_refusal core cpu c = or_else (command_refusal core.nr core.online cpu c) (stop_refusal core.stops cpu c)
 
 -- why a command may not start; none where it may
 abbrev pub refusal_of : CoreValue → ℕ → Command → Option SmpError

@@ -6,9 +6,24 @@ ghost use Rattle.smp_core.specs.Size.{owner as owner_in, record_of as record_in,
 /// The most CPUs that there are (`CONFIG_NR_CPUS`).
 pub const NR_CPUS: u32 = smp_mask::NR_CPUS;
 
-/// The records of each source CPU: the sync record, the async record, one for each destination of a call to
-/// many, and two for the user.
-pub const RECORDS_OF_ONE: u32 = NR_CPUS + 4;
+/// The destinations of a call to many whose records are among the first records of a source.
+pub const FIRST_TARGETS: u32 = 8;
+
+/// The first records of each source CPU: the sync record, the async record, one for each of the first
+/// destinations of a call to many, and two for the user.
+pub const FIRST_OF_ONE: u32 = FIRST_TARGETS + 4;
+
+/// The local number of the first of the user's records.
+pub const USER: u32 = FIRST_TARGETS + 2;
+
+/// The further records of each source: one for each further destination.
+pub const MORE_OF_ONE: u32 = NR_CPUS - FIRST_TARGETS;
+
+/// The records of each source.
+pub const RECORDS_OF_ONE: u32 = FIRST_OF_ONE + MORE_OF_ONE;
+
+/// The first records of all sources. They have the lowest numbers.
+pub const FIRST_RECORDS: u32 = NR_CPUS * FIRST_OF_ONE;
 
 /// All records.
 pub const RECORDS: u32 = NR_CPUS * RECORDS_OF_ONE;
@@ -53,12 +68,20 @@ pub fn record_of(source: u32, local: u32) -> u32
     requires local { local < records_of_one }
     ensures { result ≡ record_in source local }
 {
-    RECORDS_OF_ONE * source + local
+    if local < FIRST_OF_ONE {
+        FIRST_OF_ONE * source + local
+    } else {
+        FIRST_RECORDS + MORE_OF_ONE * source + (local - FIRST_OF_ONE)
+    }
 }
 
 /// The source that a record belongs to.
 pub fn owner_of(id: u32) -> u32
     ensures { result ≡ owner_in id }
 {
-    id / RECORDS_OF_ONE
+    if id < FIRST_RECORDS {
+        id / FIRST_OF_ONE
+    } else {
+        (id - FIRST_RECORDS) / MORE_OF_ONE
+    }
 }

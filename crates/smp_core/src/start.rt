@@ -3,27 +3,27 @@
 ghost use Rattle.std.specs.Prelude.{◌≡◌, ◌<◌, ◌-◌, ◌^◌};
 ghost use Rattle.smp_mask.specs.Mask.{has};
 ghost use Rattle.smp_core.specs.Size.{cpus};
-ghost use Rattle.smp_core.specs.Start.{command_refusal, first_stage as stage_at_first, fits_record as record_fits, FitsCommand};
+ghost use Rattle.smp_core.specs.Start.{command_refusal, first_stage as stage_at_first, fits_record as record_fits, has_record as has_record_in, FitsCommand, NamesRecord};
 
 use crate::call::Class;
 use crate::command::Command;
 use crate::handle::HandleStage;
 use crate::post::{PostStage, Posting};
-use crate::size::{RECORDS_OF_ONE, record_of};
+use crate::size::{FIRST_OF_ONE, RECORDS_OF_ONE, USER, record_of};
 use crate::stage::Stage;
 use smp_mask::{CpuMask, SmpError};
 
 impl Command {
-    /// The own refusal of a command of the call half; none where it may start on this CPU, and for a command of
-    /// the stop half.
-    pub fn refusal(&self, online: CpuMask, cpu: u32) -> Option<SmpError>
-        ensures { result ≡ command_refusal online cpu self.now }
+    /// The own refusal of a command of the call half where there are `nr` CPUs; none where it may start on this
+    /// CPU, and for a command of the stop half.
+    pub fn refusal(&self, nr: u32, online: CpuMask, cpu: u32) -> Option<SmpError>
+        ensures { result ≡ command_refusal nr online cpu self.now }
     {
         let is_good = match *self {
             Command::Post(k, to, class, _, _, tries) => {
-                k < RECORDS_OF_ONE && tries != 0 && to != cpu && fits_record(k, to, class)
+                k < RECORDS_OF_ONE && tries != 0 && to != cpu && fits_record(nr, k, to, class)
             }
-            Command::Done(k) => k < RECORDS_OF_ONE,
+            Command::Done(k) => has_record(nr, k),
             Command::Send(to) => {
                 return if online.contains(to) {
                     None
@@ -43,7 +43,7 @@ impl Command {
     /// Where a command of the call half begins that may start; none for one of the stop half.
     pub fn first_stage(&self, online: CpuMask, cpu: u32) -> Option<Stage>
         requires known { cpu < cpus }
-        requires allowed { command_refusal online cpu self.now ≡ None }
+        requires record { NamesRecord self.now }
         ensures { result ≡ stage_at_first online cpu self.now }
     {
         match *self {
@@ -68,16 +68,24 @@ impl Command {
 }
 
 /// Whether a source's record `k` may carry a call of this class to this CPU: record 0 carries SYNC calls, 1 and
-/// the two last ones ASYNC calls, the others calls of either class to one CPU each.
-pub fn fits_record(k: u32, to: u32, class: Class) -> bool
-    requires { k < 2 ^ 32 - 2 }
-    ensures { result ≡ record_fits k to class }
+/// the user's two ASYNC calls, the others calls of either class to one of the `nr` CPUs each.
+pub fn fits_record(nr: u32, k: u32, to: u32, class: Class) -> bool
+    ensures { result ≡ record_fits nr k to class }
 {
     if k == 0 {
         class == Class::Sync
-    } else if k == 1 || k + 2 == RECORDS_OF_ONE || k + 1 == RECORDS_OF_ONE {
+    } else if k == 1 || USER <= k && k < FIRST_OF_ONE {
         class == Class::Async
-    } else {
+    } else if k < USER {
         k - 2 == to
+    } else {
+        k - 4 == to && to < nr
     }
+}
+
+/// Whether a source has a record `k` where there are `nr` CPUs: a further record is of a CPU that there is.
+pub fn has_record(nr: u32, k: u32) -> bool
+    ensures { result ≡ has_record_in nr k }
+{
+    k < FIRST_OF_ONE || k < RECORDS_OF_ONE && k - 4 < nr
 }

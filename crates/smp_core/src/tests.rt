@@ -29,9 +29,9 @@ fn constructor_limits(rt: HostRuntime) -> Result<(), Fail> {
     let alloc = rt.alloc();
     let one = CpuMask::of(0)?;
     assert!(rt; Core::new(alloc, 1, one).is_ok());
-    assert!(rt; Core::new(alloc, 8, all_online(8)?).is_ok());
+    assert!(rt; Core::new(alloc, 32, all_online(32)?).is_ok());
     let none = CpuMask::empty();
-    for (nr, online) in [(0, one), (9, one), (2, none), (2, CpuMask::of(2)?)] {
+    for (nr, online) in [(0, one), (33, one), (2, none), (2, CpuMask::of(2)?)] {
         assert_eq!(rt;
             Core::new(alloc, nr, online).err(),
             Some(SmpError::BadArgument),

@@ -9,7 +9,7 @@ use crate::iter::MaskIter;
 use std::marker::Model;
 
 /// How many CPUs there can be: their numbers are 0 to `NR_CPUS - 1`.
-pub const NR_CPUS: u32 = 8;
+pub const NR_CPUS: u32 = 32;
 
 /// A set of CPU numbers below [`NR_CPUS`], as Linux's `cpumask_t` (`include/linux/cpumask.h`).
 ///

@@ -29,7 +29,7 @@ at_own table d number k id queued ran m is sized l e =
       table_is = is;
       sized = sized;
       me_in_range = omega arith;
-      owned = owner-of_record number k l ∙ sym n;
+      owned = owner-of_record number k b l ∙ sym n;
       in_range = record_of-below number k b l;
     })
 
@@ -49,8 +49,8 @@ small_record k to number tries fits e =
     let c = or_parts (not (nat_lt k records_of_one)) (tries == 0) b.0 in
     ltb-true k records_of_one (not_false (nat_lt k records_of_one) c.0)
 
-pub allowed_record : (online number k to func info tries : ℕ) (class : Class) → command_refusal online number (command.Post k to class func info tries) ≡ None → k < records_of_one
-allowed_record online number k to func info tries class e = small_record k to number tries _ (then_none _ _ e)
+pub allowed_record : (nr online number k to func info tries : ℕ) (class : Class) → command_refusal nr online number (command.Post k to class func info tries) ≡ None → k < records_of_one
+allowed_record nr online number k to func info tries class e = small_record k to number tries _ (then_none _ _ e)
 
 set_twice : {A : Type 0} (xs : List A) (i : ℕ) (x y : A) → set (set xs i x) i y ≡ set xs i y
 set_twice [] i x y = refl

@@ -96,25 +96,25 @@ posts k to class func info first c = record c {
 }
 
 -- arguments that a post refuses
-abbrev pub misused : CpuValue → ℕ → ℕ → Class → ℕ → Bool
-misused c k to class tries = ((not (nat_lt k records_of_one) || tries == 0) || to == c.number) || not (fits_record k to class)
+abbrev pub misused : ℕ → CpuValue → ℕ → ℕ → Class → ℕ → Bool
+misused nr c k to class tries = ((not (nat_lt k records_of_one) || tries == 0) || to == c.number) || not (fits_record nr k to class)
 
 -- the answer of a post, and what it leaves of its CPU. E4 comes first, then E2, E1 and E5
 abbrev pub PostAnswers : TableValue → CpuValue → CpuValue → ℕ → ℕ → Class → ℕ → ℕ → ℕ → Result Bool SmpError → Type 0
-PostAnswers t old new k to class func info tries (Ok first) = (misused old k to class tries ≡ false) × (has t.online to ≡ true) × (new ≡ posts k to class func info first old)
-PostAnswers t old new k to class func info tries (Err error.BadArgument) = (misused old k to class tries ≡ true) × (new ≡ old)
-PostAnswers t old new k to class func info tries (Err error.Busy) = (misused old k to class tries ≡ false) × (confirmed_at old k ≢ true) × (new ≡ old)
-PostAnswers t old new k to class func info tries (Err error.NoCpu) = (misused old k to class tries ≡ false) × (has t.online to ≡ false) × (new ≡ confirms k old)
-PostAnswers t old new k to class func info tries (Err error.Contended) = (misused old k to class tries ≡ false) × (has t.online to ≡ true) × (new ≡ confirms k old)
+PostAnswers t old new k to class func info tries (Ok first) = (misused t.nr old k to class tries ≡ false) × (has t.online to ≡ true) × (new ≡ posts k to class func info first old)
+PostAnswers t old new k to class func info tries (Err error.BadArgument) = (misused t.nr old k to class tries ≡ true) × (new ≡ old)
+PostAnswers t old new k to class func info tries (Err error.Busy) = (misused t.nr old k to class tries ≡ false) × (confirmed_at old k ≢ true) × (new ≡ old)
+PostAnswers t old new k to class func info tries (Err error.NoCpu) = (misused t.nr old k to class tries ≡ false) × (has t.online to ≡ false) × (new ≡ confirms k old)
+PostAnswers t old new k to class func info tries (Err error.Contended) = (misused t.nr old k to class tries ≡ false) × (has t.online to ≡ true) × (new ≡ confirms k old)
 PostAnswers t old new k to class func info tries (Err _) = ⊥
 
 -- the same of what comes before the record is written: at Ok its call
 abbrev pub BeginAnswers : TableValue → CpuValue → CpuValue → ℕ → ℕ → Class → ℕ → ℕ → ℕ → Result Posting SmpError → Type 0
 BeginAnswers t old new k to class func info tries (Ok p) =
-    (misused old k to class tries ≡ false) × (has t.online to ≡ true) × (new ≡ confirms k old) × (p ≡ posting_of (record_of old.number k) class func info to)
-BeginAnswers t old new k to class func info tries (Err error.BadArgument) = (misused old k to class tries ≡ true) × (new ≡ old)
-BeginAnswers t old new k to class func info tries (Err error.Busy) = (misused old k to class tries ≡ false) × (confirmed_at old k ≢ true) × (new ≡ old)
-BeginAnswers t old new k to class func info tries (Err error.NoCpu) = (misused old k to class tries ≡ false) × (has t.online to ≡ false) × (new ≡ confirms k old)
+    (misused t.nr old k to class tries ≡ false) × (has t.online to ≡ true) × (new ≡ confirms k old) × (p ≡ posting_of (record_of old.number k) class func info to)
+BeginAnswers t old new k to class func info tries (Err error.BadArgument) = (misused t.nr old k to class tries ≡ true) × (new ≡ old)
+BeginAnswers t old new k to class func info tries (Err error.Busy) = (misused t.nr old k to class tries ≡ false) × (confirmed_at old k ≢ true) × (new ≡ old)
+BeginAnswers t old new k to class func info tries (Err error.NoCpu) = (misused t.nr old k to class tries ≡ false) × (has t.online to ≡ false) × (new ≡ confirms k old)
 BeginAnswers t old new k to class func info tries (Err _) = ⊥
 
 -- the CPUs that were not given out, and those online

@@ -16,7 +16,7 @@
 
 ghost use Rattle.std.specs.Prelude.{◌≡◌, ◌≢◌, ◌⊎◌, ◌↔◌, ◌<◌, ◌≤◌, ◌%◌, ◌^◌, true, false, length, if◌then◌else◌, IfOk, IfErr, OnOk, IsErrOf, Ok, List};
 ghost use Rattle.smp_mask.specs.Mask.{has};
-ghost use Rattle.smp_core.specs.Size.{records_of_one};
+ghost use Rattle.smp_core.specs.Start.{has_record as has_record_in};
 ghost use Rattle.smp_core.specs.Limits.{AreLimits};
 ghost use Rattle.smp_core.specs.Histories.{sent_to, calls_from};
 ghost use Rattle.smp_queue.specs.declared.seated.Seated.TheVariants.{Boot as BootSeat};
@@ -44,7 +44,8 @@ use smp_core::call::Class;
 use smp_core::command::Command;
 use smp_core::limits::are_limits;
 use smp_core::post::Posting;
-use smp_core::size::{RECORDS_OF_ONE, record_of};
+use smp_core::size::record_of;
+use smp_core::start::has_record;
 use smp_mask::{CpuMask, SmpError};
 use std::alloc::{AllocError, Allocator};
 use std::marker::Model;
@@ -141,12 +142,12 @@ impl<A: Allocator> CallTable<A> {
     /// E4 where there is no such record.
     pub fn is_done(&self, me: &mut CallCpu, k: u32) -> Result<bool, SmpError>
         requires { me.old.table ≡ self.now.table }
-        ensures known { IfOk result (λ done. (k < records_of_one) × (me.new ≡ if done then confirms k me.old else me.old)) }
+        ensures known { IfOk result (λ done. (has_record_in self.now.nr k ≡ true) × (me.new ≡ if done then confirms k me.old else me.old)) }
         ensures locked { IfOk result (λ done. done ≡ false → confirmed_at me.old k ≢ true) }
         ensures laws { IfOk result (λ _. IsShown me.new) }
-        ensures err { IfErr result (λ e. (e ≡ SmpError.BadArgument) × (records_of_one ≤ k) × (me.new ≡ me.old)) }
+        ensures err { IfErr result (λ e. (e ≡ SmpError.BadArgument) × (has_record_in self.now.nr k ≡ false) × (me.new ≡ me.old)) }
     {
-        if k >= RECORDS_OF_ONE {
+        if !has_record(self.nr, k) {
             return Err(SmpError::BadArgument);
         }
         let id = record_of(me.number, k);
@@ -200,7 +201,7 @@ impl<A: Allocator> CallTable<A> {
         ensures { BeginAnswers self.now me.old me.new k to class func info tries result }
     {
         let command = Command::Post(k, to, class, func, info, tries);
-        if let Some(error) = command.refusal(self.online, me.number) {
+        if let Some(error) = command.refusal(self.nr, self.online, me.number) {
             return Err(error);
         }
         let id = record_of(me.number, k);

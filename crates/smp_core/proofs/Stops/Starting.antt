@@ -1,5 +1,5 @@
 -- A command of the stop half that may start may begin at its first stage.
-use Rattle.std.proofs.Common.{◌≡◌, ◌≢◌, ℕ, ◌+◌, ◌<◌, ◌^◌, Bool, true, false, ◌==◌, ◌&&◌, not, nat_lt, cond, sym, subst, refl, ap, ◌∙◌, inl, inr, arith, Option, Some, None, length, bit_and, eqb-true, eq-eqb, ne_eqb}
+use Rattle.std.proofs.Common.{◌≡◌, ◌≢◌, ℕ, ◌+◌, ◌<◌, ◌^◌, Bool, true, false, ◌==◌, ◌&&◌, ◌||◌, not, nat_lt, cond, sym, subst, refl, ap, ◌∙◌, inl, inr, arith, Option, Some, None, length, bit_and, eqb-true, eq-eqb, ne_eqb}
 use Rattle.std.proofs.lemmas.Bool.{ltb-true, cases_eq}
 use Rattle.std.proofs.lemmas.Bool.Decides.{nat_tests}
 use Rattle.std.proofs.lemmas.Nat.Bits.{bit_at-lt, bit_at_and, bit_at-pow_same, bit_at-pow_other}
@@ -8,12 +8,13 @@ use Rattle.smp_labels.specs.Entries.{entry_word}
 use Rattle.smp_mask.specs.Mask.{has}
 use Rattle.smp_mask.specs.declared.error.SmpError.{SmpError}
 use Rattle.smp_core.specs.Size.{cpus}
+use Rattle.smp_core.specs.declared.size.TheConstants.{FIRST_TARGETS}
 use Rattle.smp_core.specs.Start.{FitsCommand}
 use Rattle.smp_core.specs.Stops.Begins.{MayBegin, MayBeginAt}
 use Rattle.smp_core.specs.Stops.Counts.{mask_weight}
 use Rattle.smp_core.specs.Stops.Sources.{IsWork, IsOfKind, IsPatchWork}
 use Rattle.smp_core.specs.Stops.Stages.{StopControlValue, completes_from}
-use Rattle.smp_core.specs.Stops.Starts.{begin_refusal, fits_kind, fits_patch, fits_work, refusal_on, stop_first, stop_refusal, terms_of, unless, is_free, in_visit, may_advance, may_run, may_finish}
+use Rattle.smp_core.specs.Stops.Starts.{begin_refusal, fits_kind, fits_patch, fits_work, refusal_on, stop_first, stop_refusal, terms_of, unless, has_slot, is_free, in_visit, may_advance, may_run, may_finish}
 use Rattle.smp_core.specs.Stops.State.{Setup}
 use Rattle.smp_core.specs.Stops.Table.{stop_number}
 use Rattle.smp_core.specs.Stops.Tells.{is_one}
@@ -129,8 +130,8 @@ module _ (v : StopsValue) (cpu : ℕ) (low : cpu < cpus) (below : (k : ℕ) → 
         },
       )
 
-  enters : (slot : ℕ) (x : Option Visit) → c.visit ≡ x → (is_free x && nat_lt slot cpus) ≡ true → (c.visit ≡ None) × (slot < cpus)
-  enters slot None is e = (is, ltb-true slot cpus e)
+  enters : (slot : ℕ) (x : Option Visit) → c.visit ≡ x → (is_free x && has_slot v.nr slot) ≡ true → (c.visit ≡ None) × (slot < cpus)
+  enters slot None is e = (is, ltb-true slot cpus (both (nat_lt slot cpus) (nat_lt slot FIRST_TARGETS || nat_lt slot v.nr) e).0)
   enters slot (Some x) is e = cc
 
   advances : (answer : ℕ) (x : Option Visit) → c.visit ≡ x → may_advance x ≡ true → MayBeginIf u cpu gate c (in_visit x (λ w. Advance w (round.Look answer)))
@@ -156,7 +157,7 @@ module _ (v : StopsValue) (cpu : ℕ) (low : cpu < cpus) (below : (k : ℕ) → 
   may_begin_if command.Gate f e = tt
   may_begin_if command.Ungate f e = is_same gate (cpu + 1) (passed t.holds_gate _ e)
   may_begin_if (command.Begin work) f e = begins_work work c.is_open refl f e
-  may_begin_if (command.Enter slot) f e = enters slot c.visit refl (passed (is_free c.visit && nat_lt slot cpus) _ e)
+  may_begin_if (command.Enter slot) f e = enters slot c.visit refl (passed (is_free c.visit && has_slot v.nr slot) _ e)
   may_begin_if (command.Advance answer) f e = advances _ c.visit refl (passed (may_advance c.visit) _ e)
   may_begin_if (command.RunOne answer) f e = runs _ c.visit refl (passed (may_run c.visit) _ e)
   may_begin_if command.Finish f e = finishes c.visit refl (passed (may_finish c.visit) _ e)

@@ -22,5 +22,5 @@ new_stop_words labels =
     }
 
 -- a stop half in which nothing was begun
-abbrev pub new_stops : ℕ → Labels → StopsValue
-new_stops online labels = record { online = online; labels = labels; table = new_stop_words labels; controls = replicate cpus stop_outside }
+abbrev pub new_stops : ℕ → ℕ → Labels → StopsValue
+new_stops nr online labels = record { nr = nr; online = online; labels = labels; table = new_stop_words labels; controls = replicate cpus stop_outside }

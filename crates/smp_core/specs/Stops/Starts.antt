@@ -1,10 +1,11 @@
 -- When a command of the stop half may start, and where it begins.
 use Rattle.std.specs.Int.{cast_unsigned, w32}
 use Rattle.std.specs.Int.Bits.{bit_and}
-use Rattle.std.specs.Prelude.{ℕ, ℤ, ◌+◌, ◌^◌, Bool, true, false, ◌==◌, ◌&&◌, not, nat_lt, if◌then◌else◌, Option, Some, None, length}
+use Rattle.std.specs.Prelude.{ℕ, ℤ, ◌+◌, ◌^◌, Bool, true, false, ◌==◌, ◌&&◌, ◌||◌, not, nat_lt, if◌then◌else◌, Option, Some, None, length}
 use Rattle.smp_mask.specs.declared.error.SmpError.{SmpError}
 use Rattle.smp_mask.specs.declared.error.SmpError.TheVariants as error
 use Rattle.smp_core.specs.Size.{cpus}
+use Rattle.smp_core.specs.declared.size.TheConstants.{FIRST_TARGETS}
 use Rattle.smp_core.specs.Stops.Counts.{mask_weight}
 use Rattle.smp_core.specs.Stops.Stages.{StopControlValue, completes_from}
 use Rattle.smp_core.specs.Stops.Table.{stop_number}
@@ -27,7 +28,11 @@ use Rattle.smp_core.specs.declared.word.Word.TheVariants.{Gate}
 
 -- what the half of this value is asked for before a CPU starts a command
 abbrev pub terms_of : StopsValue → ℕ → Terms
-terms_of v cpu = record { online = v.online; keys = v.labels.keys; sites = length v.labels.entries; holds_gate = stop_number v.table Gate == cpu + 1 }
+terms_of v cpu = record { nr = v.nr; online = v.online; keys = v.labels.keys; sites = length v.labels.entries; holds_gate = stop_number v.table Gate == cpu + 1 }
+
+-- a slot may be entered that is one of the first, or that of a CPU
+abbrev pub has_slot : ℕ → ℕ → Bool
+has_slot nr slot = nat_lt slot cpus && (nat_lt slot FIRST_TARGETS || nat_lt slot nr)
 
 -- a patch is of all online CPUs, its function runs on the first of them, and it makes one of the four changes to a key's count
 abbrev pub fits_patch : Terms → Work → Bool
@@ -78,7 +83,7 @@ abbrev pub refusal_on : Terms → StopControlValue → Command → Option SmpErr
 refusal_on t c command.Handle = unless c.interrupts error.BadArgument
 refusal_on t c command.Ungate = unless t.holds_gate error.BadArgument
 refusal_on t c (command.Begin work) = begin_refusal t work c.is_open
-refusal_on t c (command.Enter slot) = unless (is_free c.visit && nat_lt slot cpus) error.Stale
+refusal_on t c (command.Enter slot) = unless (is_free c.visit && has_slot t.nr slot) error.Stale
 refusal_on t c (command.Advance answer) = unless (may_advance c.visit) error.BadArgument
 refusal_on t c (command.RunOne answer) = unless (may_run c.visit) error.BadArgument
 refusal_on t c command.Finish = unless (may_finish c.visit) error.BadArgument

@@ -22,8 +22,9 @@ first_below mask (suc k) =
     let first = first_below mask k in
     if first == k then (if has mask k then k else suc k) else first
 
--- the CPUs online, the labels, the words, and where each CPU stands
+-- how many CPUs there are and those online, the labels, the words, and where each CPU stands
 pub record StopsValue : Type 0 where
+  pub nr : ℕ
   pub online : ℕ
   pub labels : Labels
   pub table : StopWords

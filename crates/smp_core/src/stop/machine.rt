@@ -20,6 +20,7 @@ use std::marker::Model;
 /// The stop table as one thread sees it, with the place of each CPU inside its command.
 #[derive(Drop)]
 pub struct Stops<A: Allocator> {
+    nr: u32,
     online: CpuMask,
     labels: LabelMap,
     table: StopTable<A>,
@@ -33,7 +34,7 @@ impl<A: Allocator> Model for Stops<A> {
 
     ghost Value = { StopsValue };
 
-    ghost view = { λ s. record { online = s.online; labels = s.labels; table = s.table; controls = s.controls.items } };
+    ghost view = { λ s. record { nr = s.nr; online = s.online; labels = s.labels; table = s.table; controls = s.controls.items } };
 
     ghost invariant = { λ s. AreSoundStops s.online s.labels s.table s.controls.items };
 }
@@ -84,17 +85,18 @@ impl<A: Allocator> Stops<A> {
     ghost use Rattle.smp_core.specs.Stops.State.{no_stops};
 
     /// A half in which nothing was begun, with these CPUs online and these labels.
-    pub fn new(alloc: A, online: CpuMask, labels: LabelMap) -> Result<Self, AllocError>
+    pub fn new(alloc: A, nr: u32, online: CpuMask, labels: LabelMap) -> Result<Self, AllocError>
     where
         A: Copy,
         requires member { (cpu : ℕ) × (has online cpu ≡ true) }
         requires below { (cpu : ℕ) → has online cpu ≡ true → cpu < cpus }
-        ensures made { IfOk result (λ s. s ≡ new_stops online labels) }
+        ensures made { IfOk result (λ s. s ≡ new_stops nr online labels) }
         ensures empty { IfOk result (StopShown no_stops) }
     {
         let controls = new_controls(alloc)?;
         let table = StopTable::new(alloc, labels.words())?;
         Ok(Stops {
+            nr,
             online,
             labels,
             table,
@@ -122,6 +124,7 @@ impl<A: Allocator> Stops<A> {
         ensures { result ≡ terms_of self.now cpu }
     {
         Terms {
+            nr: self.nr,
             online: self.online,
             keys: self.labels.keys(),
             sites: self.labels.sites(),

@@ -1,10 +1,10 @@
 //! When a command of the stop half may start, and where it begins.
 
 ghost use Rattle.std.specs.Prelude.{◌≡◌};
-ghost use Rattle.smp_core.specs.Stops.Starts.{begin_refusal as refusal_of_begin, fits_patch as is_fit_patch, fits_work as is_fit_work, may_advance as can_advance, may_finish as can_finish, may_run as can_run, refusal_on, stop_first, unless as error_unless, answer_word as word_of_answer};
+ghost use Rattle.smp_core.specs.Stops.Starts.{begin_refusal as refusal_of_begin, fits_patch as is_fit_patch, fits_work as is_fit_work, may_advance as can_advance, may_finish as can_finish, may_run as can_run, refusal_on, stop_first, has_slot as has_slot_in, unless as error_unless, answer_word as word_of_answer};
 
 use crate::command::Command;
-use crate::size::NR_CPUS;
+use crate::size::{FIRST_TARGETS, NR_CPUS};
 use crate::stop::control::StopControl;
 use crate::stop::field::Field;
 use crate::stop::mask::{first_of, mask_word, weight};
@@ -16,6 +16,7 @@ use smp_mask::{CpuMask, SmpError};
 /// whether the CPU holds the gate.
 #[derive(Clone, Copy)]
 pub struct Terms {
+    pub nr: u32,
     pub online: CpuMask,
     pub keys: u32,
     pub sites: u32,
@@ -27,6 +28,13 @@ fn unless(test: bool, error: SmpError) -> Option<SmpError>
     ensures { result ≡ error_unless test error }
 {
     if test { None } else { Some(error) }
+}
+
+/// Whether a slot may be entered where there are `nr` CPUs: one of the first eight, or that of a CPU.
+fn has_slot(nr: u32, slot: u32) -> bool
+    ensures { result ≡ has_slot_in nr slot }
+{
+    slot < NR_CPUS && (slot < FIRST_TARGETS || slot < nr)
 }
 
 impl Terms {
@@ -77,7 +85,7 @@ impl Terms {
         let is_good = match *command {
             Command::Begin(work) => return self.begin_refusal(work, control.is_open()),
             Command::Enter(slot) => {
-                return unless(visit.is_none() && slot < NR_CPUS, SmpError::Stale);
+                return unless(visit.is_none() && has_slot(self.nr, slot), SmpError::Stale);
             }
             Command::Handle => control.interrupts(),
             Command::Ungate => self.holds_gate,

@@ -26,7 +26,7 @@ pub(super) fn seat(
 
 #[test]
 fn a_table_with_no_calls_is_drained(rt: HostRuntime) -> Result<(), Fail> {
-    for (nr, cpus) in [(1, "0"), (8, "0-7")] {
+    for (nr, cpus) in [(1, "0"), (32, "0-31")] {
         let (table, mut boot) = CallTable::new(rt.alloc(), nr, cpus.parse()?)?;
         let zero = seat(&table, &mut boot, 0)?;
         let nothing = Tally {

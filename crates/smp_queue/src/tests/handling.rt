@@ -119,8 +119,8 @@ fn a_table_is_drained_once_its_call_has_run(rt: HostRuntime) -> Result<(), Fail>
     assert_eq!(rt; table.handle(&mut one, &mut heard), IDLE);
     assert!(rt; heard.has_heard(&[(0, 7, 9)]));
     let mut tally = Tally {
-        queued: [[0; 8]; 8],
-        ran: [[0; 8]; 8],
+        queued: [[0; NR_CPUS as usize]; NR_CPUS as usize],
+        ran: [[0; NR_CPUS as usize]; NR_CPUS as usize],
     };
     tally.queued[0][1] = 1;
     tally.ran[1][0] = 1;

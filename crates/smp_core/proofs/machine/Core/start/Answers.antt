@@ -5,7 +5,7 @@ use Rattle.smp_core.specs.Size.{cpus}
 use Rattle.smp_core.specs.Calls.{CallState}
 use Rattle.smp_core.specs.Start.{FitsCommand, refusal_of, first_stage, control_at}
 use Rattle.smp_core.specs.Value.{CoreValue, ValuesShow, control_of, outside}
-use Rattle.smp_core.proofs.Starts.{may_start, started_shown, started_online, start_below}
+use Rattle.smp_core.proofs.Starts.{may_start, names_record, started_shown, started_online, start_below}
 use Rattle.smp_core.proofs.machine.Core.start.Goals as goal
 use Rattle.smp_core.proofs.machine.Core.start.Given as given
 
@@ -15,6 +15,18 @@ before g c = record { nr = c.self.inside.nr; online = c.self.inside.online; word
 
 allowed : (g : given.Over) (c : goal.After-command-3-1 g) → refusal_of (before g c) c.args.cpu c.args.command ≡ None
 allowed g c = rw (← c.self.view_is) at (sym c.refusal.ensures ∙ c.in_default.is)
+
+-- the same where the first stage is asked for
+abbrev first : (g : given.Over) (c : goal.After-first_stage-arg-1 g) → CoreValue
+first g c = record { nr = c.self.inside.nr; online = c.self.inside.online; words = c.self.inside.words.items; controls = c.self.inside.controls.items; stops = c.self.inside.stops }
+
+asked : (g : given.Over) (c : goal.After-first_stage-arg-1 g) → refusal_of (first g c) c.args.cpu c.args.command ≡ None
+asked g c = rw (← c.self.view_is) at (sym c.refusal.ensures ∙ c.in_default.is)
+
+pub first_stage-stage-requires-clause-record : goal.first_stage-stage-requires-clause-record
+first_stage-stage-requires-clause-record g c =
+    let core = first g c in
+    names_record core.nr core.online c.args.cpu c.args.command (may_start core c.args.cpu c.args.command (asked g c)).is_allowed
 
 pub start-requires-clause-allowed : goal.start-requires-clause-allowed
 start-requires-clause-allowed g c = (may_start (before g c) c.args.cpu c.args.command (allowed g c)).is_stop_allowed

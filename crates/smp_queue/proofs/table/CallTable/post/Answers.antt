@@ -1,7 +1,6 @@
-use Rattle.std.proofs.Common.{◌≡◌, ℕ, ◌+◌, ◌%◌, ◌^◌, ◌<◌, true, not, set, get_or, sym, refl, ap, ◌∙◌, subst}
+use Rattle.std.proofs.Common.{◌≡◌, ℕ, ◌+◌, ◌%◌, ◌^◌, ◌<◌, true, set, get_or, sym, refl, ap, ◌∙◌, subst}
 use Rattle.smp_mask.specs.Mask.{has}
 use Rattle.smp_core.specs.Size.{cpus}
-use Rattle.smp_core.specs.Start.{fits_record}
 use Rattle.smp_core.proofs.Starts.{online_below}
 use Rattle.smp_core.specs.declared.post.Posting.{Posting}
 use Rattle.smp_queue.specs.Cpu.{IsKept}
@@ -20,7 +19,7 @@ write_record-requires-clause-mine g c =
       confirmed = e.2;
       posting = e.3;
       table_is = c.requires ∙ sym (ap (λ t. t.table) c.self.view_is);
-      small = small_record c.args.k c.args.to c.args.me.now.number 1 (not (fits_record c.args.k c.args.to c.args.class)) e.0;
+      small = small_record c.args.k c.args.to c.args.me.now.number 1 _ e.0;
     } in
     let online : has c.self.inside.online c.args.to ≡ true = ap (λ t. has t.online c.args.to) c.self.view_is ∙ e.1 in
     begun_mine _ _ _ _ _ _ _ _ _ _ _ _ _ b c.self.inside.nr c.self.inside.online c.self.invariant.sized c.self.invariant.limits online c.ranges.func.fits c.ranges.info.fits
@@ -35,7 +34,7 @@ write_record-requires-clause-free g c =
       confirmed = e.2;
       posting = e.3;
       table_is = c.requires ∙ sym (ap (λ t. t.table) c.self.view_is);
-      small = small_record c.args.k c.args.to c.args.me.now.number 1 (not (fits_record c.args.k c.args.to c.args.class)) e.0;
+      small = small_record c.args.k c.args.to c.args.me.now.number 1 _ e.0;
     } in
     let online : has c.self.inside.online c.args.to ≡ true = ap (λ t. has t.online c.args.to) c.self.view_is ∙ e.1 in
     begun_confirmed _ _ _ _ _ _ _ _ _ _ _ _ _ b
@@ -50,7 +49,7 @@ append_at_last-first-requires-clause-mine g c =
       confirmed = e.2;
       posting = e.3;
       table_is = c.requires ∙ sym (ap (λ t. t.table) c.self.view_is);
-      small = small_record c.args.k c.args.to c.args.me.now.number 1 (not (fits_record c.args.k c.args.to c.args.class)) e.0;
+      small = small_record c.args.k c.args.to c.args.me.now.number 1 _ e.0;
     } in
     let online : has c.self.inside.online c.args.to ≡ true = ap (λ t. has t.online c.args.to) c.self.view_is ∙ e.1 in
     mine_moved _ c.me.inside.chair c.write_record.new.chair c.in_ok-posting.posting _ (begun_mine _ _ _ _ _ _ _ _ _ _ _ _ _ b c.self.inside.nr c.self.inside.online c.self.invariant.sized c.self.invariant.limits online c.ranges.func.fits c.ranges.info.fits) c.write_record.ensures.table c.write_record.ensures.known refl
@@ -65,7 +64,7 @@ invariant_of-me g c =
       confirmed = e.2;
       posting = e.3;
       table_is = c.requires ∙ sym (ap (λ t. t.table) c.self.view_is);
-      small = small_record c.args.k c.args.to c.args.me.now.number 1 (not (fits_record c.args.k c.args.to c.args.class)) e.0;
+      small = small_record c.args.k c.args.to c.args.me.now.number 1 _ e.0;
     } in
     let online : has c.self.inside.online c.args.to ≡ true = ap (λ t. has t.online c.args.to) c.self.view_is ∙ e.1 in
     let below : c.args.to < cpus = online_below c.self.inside.nr c.self.inside.online c.args.to c.self.invariant.limits online in
@@ -84,7 +83,7 @@ returns-clause-answers g c =
       confirmed = e.2;
       posting = e.3;
       table_is = c.requires ∙ sym (ap (λ t. t.table) c.self.view_is);
-      small = small_record c.args.k c.args.to c.args.me.now.number 1 (not (fits_record c.args.k c.args.to c.args.class)) e.0;
+      small = small_record c.args.k c.args.to c.args.me.now.number 1 _ e.0;
     } in
     let online : has c.self.inside.online c.args.to ≡ true = ap (λ t. has t.online c.args.to) c.self.view_is ∙ e.1 in
     (e.0, e.1, begun_posts _ _ _ _ _ _ _ _ _ _ _ _ _ b c.append_at_last-first.new.chair c.write_record.new.chair.known c.append_at_last-first.result c.append_at_last-first.ensures.table c.write_record.ensures.known c.append_at_last-first.ensures.sent)

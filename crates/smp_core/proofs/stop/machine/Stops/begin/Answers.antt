@@ -25,7 +25,7 @@ shown_after g c p shown =
     let sized = c.self.invariant.sized in
     let kept : items ≡ c.args.self.now.controls = ap (λ (v : StopsValue). v.controls) c.self.view_is in
     let outside : (stop_control_of items c.args.cpu).stage ≡ None = ap (λ (x : List StopControlValue). (stop_control_of x c.args.cpu).stage) kept ∙ c.requires.outside in
-    let may : MayBeginAt record { online = c.self.inside.online; labels = c.self.inside.labels; table = c.self.inside.table; controls = items } c.args.cpu c.args.stage =
+    let may : MayBeginAt record { nr = c.self.inside.nr; online = c.self.inside.online; labels = c.self.inside.labels; table = c.self.inside.table; controls = items } c.args.cpu c.args.stage =
     subst (λ (v : StopsValue). MayBeginAt v c.args.cpu c.args.stage) (sym c.self.view_is) c.requires.may in
     rw (here g c) (begun_value_shown (setup_of c.self.inside.online c.self.inside.labels) p c.self.inside.table items shown c.args.cpu c.requires.cpu (omega (arith, c.requires.cpu)) c.args.stage outside may)
 
