@@ -137,19 +137,24 @@ module _ (a : CallState) (at : Word → ℕ) (control : ℕ → ControlValue) (m
       let c : ControlValue = record { stage = Some (Handle (handle.CountSync walk call next)); drain = d } in
       let stored : nat_lt 1 (call.id + 2) ≡ true = lt-ltb 1 (call.id + 2) (omega arith) in
       let shown : Shows (begins_sync a me (call ∷ left)) at' (put control me c) =
-      begun_sync walk next call left c k.batch k.running_is (holds_nothing a at control me s (handle.BeginSync walk call next) e) refl
-      (was.0, (was.1.0, record {
-        passed = k.passed;
-        whole = k.whole;
-        leads_here = k.leads_here;
-        ends_at = k.ends_at;
-        leads_on = k.leads_on;
-        apart = k.apart;
-        counted = k.counted;
-        batch = put_here me left (a.batch me);
-        running_is = put_here me (SyncCall call) (a.running me);
-        accepted = k.accepted;
-      })) in
+      begun_sync walk next call left c k.batch k.running_is (holds_nothing a at control me s (handle.BeginSync walk call next) e) refl (
+        was.0,
+        (
+          was.1.0,
+          record {
+            passed = k.passed;
+            whole = k.whole;
+            leads_here = k.leads_here;
+            ends_at = k.ends_at;
+            leads_on = k.leads_on;
+            apart = k.apart;
+            counted = k.counted;
+            batch = put_here me left (a.batch me);
+            running_is = put_here me (SyncCall call) (a.running me);
+            accepted = k.accepted;
+          },
+        ),
+      ) in
       subst (λ (b : Bool). Shows (if b then begins_sync a me (a.batch me) else a) at' (put control me c)) (sym stored)
       (subst (λ (xs : List Call). Shows (begins_sync a me xs) at' (put control me c)) (sym k.batch) shown)
 

@@ -66,7 +66,9 @@ flags_lead nexts s d walk id next call rest h n Async e = first_goes nexts s d (
 pub info_leads : (nexts : ℕ → ℕ) (s : Share) (d : DrainValue) (walk : Walk) (next : Option ℕ) (call : Call) (rest : List Call) → Walks nexts s d walk (call.id + 1) [] (call ∷ rest) Nothing → nexts call.id ≡ link_to next → call.class ≡ Sync →
     (last : Option ℕ) → walk.last ≡ last → HandleStands nexts s d (unlink_after last walk call next)
 info_leads nexts s d walk next call rest h n e None l =
-    let none : async_calls h.passed ≡ [] = subst (λ (x : Option ℕ). EndsAt x (async_calls h.passed)) l h.ends_at in
-    (rest, passes_sync nexts nexts s d walk (record { first = next; last = None }) next call rest h e
-    (subst (λ (xs : List Call). Path nexts (link_to next) xs (link_to next)) (sym none) refl) none (subst (λ (k : ℕ). Path nexts k rest 0) n h.leads_on.1))
+    let none : async_calls h.passed ≡ [] = subst (λ (x : Option ℕ). EndsAt x (async_calls h.passed)) l h.ends_at in (
+      rest,
+      passes_sync nexts nexts s d walk (record { first = next; last = None }) next call rest h e
+          (subst (λ (xs : List Call). Path nexts (link_to next) xs (link_to next)) (sym none) refl) none (subst (λ (k : ℕ). Path nexts k rest 0) n h.leads_on.1),
+    )
 info_leads nexts s d walk next call rest h n e (Some last) l = (rest, h, n, e, l)

@@ -91,9 +91,11 @@ module _ (a : CallState) (at : Word → ℕ) (control : ℕ → ControlValue) (m
       (ap (λ (k : ℕ). k + 1) (sym same), subst (λ (k : ℕ). Path (put (nexts_in at) id n) k h.newer 0) (sym linked) (path_else (nexts_in at) id n (link_to newer) h.newer 0 after h.leads_up)) in
       let counted : (control me).drain.calls + 1 ≡ length (call ∷ h.newer) = (let k = h.counted in omega arith) in
       subst (λ (x : Option Holding). Shows (links a me x (Some n)) (put_word at (Next id) n) (put control me c)) (sym held)
-      (relinked id n here c held
-      (was.0, reverse_goes (put (nexts_in at) id n) (share_of a me) (record { calls = (control me).drain.calls + 1 }) (Some id) older h.older (call ∷ h.newer) h.whole
-      (leads_else (nexts_in at) id n (link_to older) h.older before h.leads_down) up h.apart counted h.batch h.running h.accepted)
+      (relinked id n here c held (
+        was.0,
+        reverse_goes (put (nexts_in at) id n) (share_of a me) (record { calls = (control me).drain.calls + 1 }) (Some id) older h.older (call ∷ h.newer) h.whole
+            (leads_else (nexts_in at) id n (link_to older) h.older before h.leads_down) up h.apart counted h.batch h.running h.accepted,
+      )
       (hand_of_reverse (Some id) older (at (Hand me)) (hand_at a at control me s (handle.ReverseStore newer id older) e)))
 
   -- the next word of the last ASYNC record that was passed

@@ -165,19 +165,22 @@ reverse_goes nexts s d here None older newer whole down up apart counted batch r
     })
 reverse_goes nexts s d here (Some id) older newer whole down up apart counted batch running accepted =
     let n : HasNewest nexts (id + 1) older 0 = has_newest nexts (id + 1) older (λ e. omega arith) down in
-    let same : n.newest.id ≡ id = same_record id n.newest n.link_is in
-    (n.newest, record {
-      older = n.older;
-      newer = newer;
-      whole = whole ∙ (ap (λ (xs : List Call). xs ++ newer) n.parts ∙ append_assoc n.older (n.newest ∷ []) newer);
-      leads_down = subst (λ (k : ℕ). Leads nexts (nexts k) n.older 0) same n.leads;
-      leads_up = up;
-      apart = apart;
-      counted = counted;
-      batch = batch;
-      running = running;
-      accepted = accepted;
-    }, same)
+    let same : n.newest.id ≡ id = same_record id n.newest n.link_is in (
+      n.newest,
+      record {
+        older = n.older;
+        newer = newer;
+        whole = whole ∙ (ap (λ (xs : List Call). xs ++ newer) n.parts ∙ append_assoc n.older (n.newest ∷ []) newer);
+        leads_down = subst (λ (k : ℕ). Leads nexts (nexts k) n.older 0) same n.leads;
+        leads_up = up;
+        apart = apart;
+        counted = counted;
+        batch = batch;
+        running = running;
+        accepted = accepted;
+      },
+      same,
+    )
 
 pub hand_of_second : (next : Option ℕ) (hand : ℕ) → hand ≢ 0 → HandIs (Some (Handle (second_on next))) hand
 hand_of_second None hand ne = ne
