@@ -113,7 +113,9 @@ module _ (a : CallState) (at : Word → ℕ) (control : ℕ → ControlValue) (m
           was.1.0,
           record {
             passed = k.passed;
+            begun = k.begun;
             whole = k.whole;
+            begun_are = k.begun_are;
             leads_here = k.leads_here;
             ends_at = k.ends_at;
             leads_on = k.leads_on;
@@ -145,7 +147,7 @@ module _ (a : CallState) (at : Word → ℕ) (control : ℕ → ControlValue) (m
       (hand_of_second next (at (Hand me)) (hand_at a at control me s (handle.CountAsync call next) e)) (
         was.0,
         second_goes (nexts_in at) after d next rest
-            (record { leads_on = k.leads_on; asyncs = k.asyncs; counted = k.counted; batch = k.batch; running_is = put_here me Nothing (a.running me); accepted = k.accepted }),
+            (record { begun = k.begun; whole = k.whole; apart = k.apart; leads_on = k.leads_on; asyncs = k.asyncs; counted = k.counted; batch = k.batch; running_is = put_here me Nothing (a.running me); accepted = k.accepted }),
       ))
 
   -- the record of the SYNC call that ran is free
@@ -231,7 +233,9 @@ module _ (a : CallState) (at : Word → ℕ) (control : ℕ → ControlValue) (m
         was.0,
         first_goes (nexts_in at) after d walk next rest (record {
           passed = k.passed;
+          begun = k.begun;
           whole = k.whole;
+          begun_are = k.begun_are;
           leads_here = k.leads_here;
           ends_at = k.ends_at;
           leads_on = k.leads_on;

@@ -78,7 +78,7 @@ module _ (a : CallState) (at : Word → ℕ) (control : ℕ → ControlValue) (m
       let held = holds_nothing a at control me s (handle.ReverseLoad newer id) e in
       let c : ControlValue = record { stage = Some (Handle (handle.ReverseStore newer id (record_at (at (Next id))))); drain = (control me).drain } in
       next_loaded c held
-      (goes_on c held (was.0, (k.0, subst (λ (n : ℕ). Reverses (nexts_in at) (share_of a me) (control me).drain (link_to newer) n k.0) (sym (link_back (at (Next id)))) k.1, k.2))
+      (goes_on c held (was.0, (k.0, subst (λ (n : ℕ). Reverses (nexts_in at) (share_of a me) (control me).drain (link_to newer) n k.0) (sym (link_back (at (Next id)))) k.1, k.2, sym (link_back (at (Next id)))))
       (hand_at a at control me s (handle.ReverseLoad newer id) e))
 
   pub load_next_step : (walk : Walk) (id : ℕ) → (control me).stage ≡ Some (Handle (handle.LoadNext walk id)) → StepShows a at control me (Handle (handle.LoadNext walk id))
@@ -166,6 +166,9 @@ module _ (a : CallState) (at : Word → ℕ) (control : ℕ → ControlValue) (m
         (
           k.1,
           record {
+            begun = h.begun;
+            whole = h.whole ∙ ap (λ (x : Call). h.begun ++ x ∷ k.1) is;
+            apart = h.apart;
             leads_on = subst (λ (n : ℕ). Path (nexts_in at) n k.1 0) (ap (nexts_in at) same ∙ k.3) h.leads_on.1;
             asyncs = h.asyncs.1;
             counted = h.counted;
@@ -173,6 +176,7 @@ module _ (a : CallState) (at : Word → ℕ) (control : ℕ → ControlValue) (m
             running_is = h.running_is;
             accepted = h.accepted;
           },
+          k.3,
         ),
       )
       (hand_at a at control me s (handle.AsyncInfo id next func) e)

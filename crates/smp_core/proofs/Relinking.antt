@@ -124,8 +124,10 @@ module _ (a : CallState) (at : Word → ℕ) (control : ℕ → ControlValue) (m
       subst (λ (xs : List Call). Path (put (nexts_in at) last n) (link_to walk.first) xs n) (sym parts)
       (subst (λ (k : ℕ). Path (put (nexts_in at) k n) (link_to walk.first) (front ++ newest ∷ []) n) same
       (path_to (nexts_in at) n (link_to walk.first) front newest (call.id + 1) (absent_before front newest [] asyncs) (subst (λ (xs : List Call). Path (nexts_in at) (link_to walk.first) xs (call.id + 1)) parts h.leads_here))) in
+      let linked : put (nexts_in at) last n call.id ≡ link_to next =
+      put_else call.id last n (at (Next call.id)) (subst (λ (k : ℕ). call.id ≢ k) same away.0) ∙ was.1.2 in
       let on : Path (put (nexts_in at) last n) (link_to next) rest 0 = path_else (nexts_in at) last n (link_to next) rest 0 gone (subst (λ (k : ℕ). Path (nexts_in at) k rest 0) was.1.2 h.leads_on.1) in
       subst (λ (x : Option Holding). Shows (links a me x (Some n)) (put_word at (Next last) n) (put control me c)) (sym held)
       (relinked last n here c held
-      (was.0, (rest, passes_sync (nexts_in at) (put (nexts_in at) last n) (share_of a me) (control me).drain walk walk next call rest h was.1.3 passed h.ends_at on))
+      (was.0, (rest, passes_sync (nexts_in at) (put (nexts_in at) last n) (share_of a me) (control me).drain walk walk next call rest h was.1.3 passed h.ends_at on, linked))
       (hand_at a at control me s (handle.Unlink walk last call next) e))

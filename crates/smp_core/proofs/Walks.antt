@@ -140,7 +140,7 @@ pub first_goes : (nexts : ℕ → ℕ) (s : Share) (d : DrainValue) (walk : Walk
 first_goes nexts s d walk None [] h =
     let all : s.last ≡ h.passed = h.whole ∙ append-nil h.passed in
     second_goes nexts s d walk.first (async_calls h.passed)
-    (record { leads_on = h.leads_here; asyncs = all_async h.passed; counted = h.counted; batch = h.batch ∙ ap async_calls all; running_is = h.running_is; accepted = h.accepted })
+    (record { begun = []; whole = ap async_calls all; apart = h.apart; leads_on = h.leads_here; asyncs = all_async h.passed; counted = h.counted; batch = h.batch ∙ ap async_calls all; running_is = h.running_is; accepted = h.accepted })
 first_goes nexts s d walk None (call ∷ rest) h = absurd (let e = h.leads_on.0 in omega arith)
 first_goes nexts s d walk (Some id) [] h = absurd (let e : id + 1 ≡ 0 = h.leads_on in omega arith)
 first_goes nexts s d walk (Some id) (call ∷ rest) h = (call, rest, h)
@@ -153,7 +153,9 @@ reverse_goes nexts s d here None older newer whole down up apart counted batch r
     let all : s.last ≡ newer = whole ∙ ap (λ (xs : List Call). xs ++ newer) none in
     first_goes nexts s d (record { first = here; last = None }) here newer (record {
       passed = [];
+      begun = [];
       whole = all;
+      begun_are = refl;
       leads_here = refl;
       ends_at = refl;
       leads_on = up;
