@@ -1,6 +1,7 @@
 -- The steps of handle that begin a call: the front of the batch runs, and its record stays locked or is free.
-use Rattle.std.proofs.Common.{◌≡◌, ◌≢◌, ℕ, ◌+◌, nat_lt, inl, inr, Bool, true, cond, if◌then◌else◌, Option, Some, None, List, [], ◌∷◌, ◌++◌, sym, subst, refl, ap, ◌∙◌, arith}
+use Rattle.std.proofs.Common.{◌≡◌, ◌≢◌, ℕ, ◌+◌, nat_lt, inl, inr, Bool, true, cond, if◌then◌else◌, Option, Some, None, List, [], ◌∷◌, ◌++◌, sym, subst, refl, ap, ◌∙◌, arith, append_assoc}
 use Rattle.std.proofs.lemmas.Bool.{lt-ltb}
+use Rattle.std.proofs.lemmas.List.{append-nil}
 use Rattle.std.specs.List.{AllByRecursion}
 use Rattle.smp_core.specs.Put.{put, put_word}
 use Rattle.smp_core.specs.Calls.{CallState, Holding, Running, Nothing, SyncCall, AsyncCall, begins_sync, begins_async, releases, unlocks}
@@ -137,19 +138,26 @@ module _ (a : CallState) (at : Word → ℕ) (control : ℕ → ControlValue) (m
       let c : ControlValue = record { stage = Some (Handle (handle.CountSync walk call next)); drain = d } in
       let stored : nat_lt 1 (call.id + 2) ≡ true = lt-ltb 1 (call.id + 2) (omega arith) in
       let shown : Shows (begins_sync a me (call ∷ left)) at' (put control me c) =
-      begun_sync walk next call left c k.batch k.running_is (holds_nothing a at control me s (handle.BeginSync walk call next) e) refl
-      (was.0, (was.1.0, record {
-        passed = k.passed;
-        whole = k.whole;
-        leads_here = k.leads_here;
-        ends_at = k.ends_at;
-        leads_on = k.leads_on;
-        apart = k.apart;
-        counted = k.counted;
-        batch = put_here me left (a.batch me);
-        running_is = put_here me (SyncCall call) (a.running me);
-        accepted = k.accepted;
-      })) in
+      begun_sync walk next call left c k.batch k.running_is (holds_nothing a at control me s (handle.BeginSync walk call next) e) refl (
+        was.0,
+        (
+          was.1.0,
+          record {
+            passed = k.passed;
+            begun = k.begun ++ call ∷ [];
+            whole = k.whole;
+            begun_are = k.begun_are ∙ sym (append-nil (k.begun ++ call ∷ []));
+            leads_here = k.leads_here;
+            ends_at = k.ends_at;
+            leads_on = k.leads_on;
+            apart = k.apart;
+            counted = k.counted;
+            batch = put_here me left (a.batch me);
+            running_is = put_here me (SyncCall call) (a.running me);
+            accepted = k.accepted;
+          },
+        ),
+      ) in
       subst (λ (b : Bool). Shows (if b then begins_sync a me (a.batch me) else a) at' (put control me c)) (sym stored)
       (subst (λ (xs : List Call). Shows (begins_sync a me xs) at' (put control me c)) (sym k.batch) shown)
 
@@ -184,8 +192,24 @@ module _ (a : CallState) (at : Word → ℕ) (control : ℕ → ControlValue) (m
       let c : ControlValue = record { stage = Some (Handle (handle.CountAsync call next)); drain = d } in
       let front : AllByRecursion (IsPlaced a.place (place.Batch me)) (call ∷ rest) = subst (λ (xs : List Call). AllByRecursion (IsPlaced a.place (place.Batch me)) xs) k.batch (s.placed.batched me) in
       let shown : Shows (begins_async a me (call ∷ rest)) at' (put control me c) =
-      begun_async next call rest c k.batch k.running_is held (hand_at a at control me s (handle.BeginAsync call next) e) refl
-      (was.0, (rest, record { leads_on = k.leads_on; asyncs = k.asyncs; counted = k.counted; batch = put_here me rest (a.batch me); running_is = put_here me (AsyncCall call) (a.running me); accepted = k.accepted }, front.0.is_call)) in
+      begun_async next call rest c k.batch k.running_is held (hand_at a at control me s (handle.BeginAsync call next) e) refl (
+        was.0,
+        (
+          rest,
+          record {
+            begun = k.begun ++ call ∷ [];
+            whole = k.whole ∙ sym (append_assoc k.begun (call ∷ []) rest);
+            apart = k.apart;
+            leads_on = k.leads_on;
+            asyncs = k.asyncs;
+            counted = k.counted;
+            batch = put_here me rest (a.batch me);
+            running_is = put_here me (AsyncCall call) (a.running me);
+            accepted = k.accepted;
+          },
+          front.0.is_call,
+        ),
+      ) in
       subst (λ (h : Option Holding). Shows (releases a me call.id h) at' (put control me c)) (sym held)
       (subst (λ (x : Running). Shows (unlocks a me x) at' (put control me c)) (sym k.running_is)
       (subst (λ (xs : List Call). Shows (begins_async a me xs) at' (put control me c)) (sym k.batch) shown))

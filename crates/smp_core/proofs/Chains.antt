@@ -1,7 +1,8 @@
 -- A chain is read from its newest call to its oldest.
-use Rattle.std.proofs.Common.{◌≡◌, ◌≢◌, ℕ, zero, suc, ◌+◌, ◌<◌, ◌≤◌, List, [], ◌∷◌, ◌++◌, length, sym, subst, refl, ap, ◌∙◌, arith, append_assoc, length-append}
-use Rattle.std.proofs.lemmas.List.{append-nil}
-use Rattle.std.specs.List.{AllByRecursion}
+use Rattle.std.proofs.Common.{◌≡◌, ◌≢◌, ℕ, zero, suc, ◌+◌, ◌-◌, ◌<◌, ◌≤◌, ◌==◌, Bool, true, false, ◌||◌, List, [], ◌∷◌, ◌++◌, length, sym, subst, refl, ap, ◌∙◌, arith, append_assoc, length-append, take, drop}
+use Rattle.std.proofs.lemmas.List.{append-nil, drop_all, take_all}
+use Rattle.std.proofs.lemmas.List.Folds.{list_any-append}
+use Rattle.std.specs.List.{AllByRecursion, list_any, refill}
 use Rattle.smp_core.specs.Size.{records}
 use Rattle.smp_core.specs.Words.{Leads}
 use Rattle.smp_core.specs.Queues.{HasChain, chain_in, ids}
@@ -103,3 +104,47 @@ ended_by_count nexts first (suc id) passed rounds n f =
     let r = p.room in
     let c = f.counted in
     absurd (omega arith)
+
+-- who looks for a record on a chain has not passed it
+pub record Seeks (nexts : ℕ → ℕ) (first link id rounds : ℕ) : Type 0 where
+  pub passed : List ℕ
+  pub follows : Follows nexts first link passed rounds
+  pub absent : list_any (λ r. r == id) passed ≡ false
+
+pub seeks_first : (nexts : ℕ → ℕ) (first id : ℕ) → HasChain nexts first → Seeks nexts first first id 0
+seeks_first nexts first id h = record { passed = []; follows = follows_all nexts first h; absent = refl }
+
+-- another record is passed
+pub seeks_on : (nexts : ℕ → ℕ) (first link id rounds here : ℕ) → link ≢ 0 → here + 1 ≡ link → (here == id) ≡ false → Seeks nexts first link id rounds → Seeks nexts first (nexts here) id (rounds + 1)
+seeks_on nexts first link id rounds here ne e other s =
+    let p = passes nexts first link s.passed rounds ne s.follows in
+    record { passed = here ∷ s.passed; follows = p.on here e; absent = rw other s.absent }
+
+-- this one is on the chain
+pub sought_here : (nexts : ℕ → ℕ) (first link id rounds here : ℕ) → link ≢ 0 → here + 1 ≡ link → (here == id) ≡ true → Seeks nexts first link id rounds → list_any (λ r. r == id) (chain_in nexts records first) ≡ true
+sought_here nexts first link id rounds here ne e this s =
+    let p = passes nexts first link s.passed rounds ne s.follows in
+    let f = p.on here e in
+    let short = f.short in
+    let whole : chain_in nexts (records - (rounds + 1)) (nexts here) ++ here ∷ s.passed ≡ chain_in nexts records first = f.whole (records - (rounds + 1)) (omega arith) in
+    let found : list_any (λ r. r == id) (here ∷ s.passed) ≡ true = rw this refl in
+    ap (list_any (λ r. r == id)) (sym whole) ∙ (list_any-append (λ r. r == id) (chain_in nexts (records - (rounds + 1)) (nexts here)) (here ∷ s.passed) ∙ (rw found (or_true (list_any (λ r. r == id) (chain_in nexts (records - (rounds + 1)) (nexts here))))))
+  where
+    or_true : (b : Bool) → (b || true) ≡ true
+    or_true true = refl
+    or_true false = refl
+
+-- at the end of the chain it is not
+pub not_sought : (nexts : ℕ → ℕ) (first id rounds : ℕ) → Seeks nexts first 0 id rounds → list_any (λ r. r == id) (chain_in nexts records first) ≡ false
+not_sought nexts first id rounds s =
+    let short = s.follows.short in
+    ap (list_any (λ r. r == id)) (sym (ended nexts first s.passed rounds (records - rounds) (omega arith) s.follows)) ∙ s.absent
+
+pub not_sought_by_count : (nexts : ℕ → ℕ) (first link id rounds : ℕ) → records ≤ rounds → Seeks nexts first link id rounds → list_any (λ r. r == id) (chain_in nexts records first) ≡ false
+not_sought_by_count nexts first link id rounds n s = ap (list_any (λ r. r == id)) (sym (ended_by_count nexts first link s.passed rounds n s.follows)) ∙ s.absent
+
+-- a list that is written back whole
+pub refilled : (xs ys : List ℕ) → length ys ≡ length xs → refill (length xs) xs ys ≡ ys
+refilled xs ys e =
+    let rest : drop (length ys) xs ≡ [] = drop_all (length ys) xs (omega arith) in
+    ap (λ (zs : List ℕ). take (length xs) (ys ++ zs)) rest ∙ (ap (take (length xs)) (append-nil ys) ∙ take_all (length xs) ys (omega arith))

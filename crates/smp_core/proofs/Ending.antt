@@ -107,19 +107,26 @@ module _ (a : CallState) (at : Word → ℕ) (control : ℕ → ControlValue) (m
       subst (λ (x : Running). Shows (counts a me x) (stored call) (put control me c)) (sym running_is)
       (count_shown call (CountedCall call) a.ran (λ _ _. refl) (rw running_is refl) (rw running_is refl)
       (rw (running_is, append-nil (a.ran me)) refl)
-      c (holds_nothing a at control me s (handle.CountSync walk call next) e) (hand_at a at control me s (handle.CountSync walk call next) e)
-      (was.0, (was.1.0, record {
-        passed = k.passed;
-        whole = k.whole;
-        leads_here = k.leads_here;
-        ends_at = k.ends_at;
-        leads_on = k.leads_on;
-        apart = k.apart;
-        counted = k.counted;
-        batch = k.batch;
-        running_is = put_here me (CountedCall call) (a.running me);
-        accepted = k.accepted;
-      })))
+      c (holds_nothing a at control me s (handle.CountSync walk call next) e) (hand_at a at control me s (handle.CountSync walk call next) e) (
+        was.0,
+        (
+          was.1.0,
+          record {
+            passed = k.passed;
+            begun = k.begun;
+            whole = k.whole;
+            begun_are = k.begun_are;
+            leads_here = k.leads_here;
+            ends_at = k.ends_at;
+            leads_on = k.leads_on;
+            apart = k.apart;
+            counted = k.counted;
+            batch = k.batch;
+            running_is = put_here me (CountedCall call) (a.running me);
+            accepted = k.accepted;
+          },
+        ),
+      ))
 
   pub count_async_step : (call : Call) (next : Option ℕ) → (control me).stage ≡ Some (Handle (handle.CountAsync call next)) → StepShows a at control me (Handle (handle.CountAsync call next))
   count_async_step call next e =
@@ -137,9 +144,11 @@ module _ (a : CallState) (at : Word → ℕ) (control : ℕ → ControlValue) (m
       (append-nil (ran' me) ∙ (ran_here ∙ ap (λ (x : Running). a.ran me ++ running_call x) (sym running_is)))
       (append-nil (ran' me) ∙ (ran_here ∙ ap (λ (xs : List Call). xs ++ call ∷ []) (sym (append-nil (a.ran me)) ∙ ap (λ (x : Running). a.ran me ++ counted_call x) (sym running_is))))
       c (holds_nothing a at control me s (handle.CountAsync call next) e)
-      (hand_of_second next (at (Hand me)) (hand_at a at control me s (handle.CountAsync call next) e))
-      (was.0, second_goes (nexts_in at) after d next rest
-      (record { leads_on = k.leads_on; asyncs = k.asyncs; counted = k.counted; batch = k.batch; running_is = put_here me Nothing (a.running me); accepted = k.accepted })))
+      (hand_of_second next (at (Hand me)) (hand_at a at control me s (handle.CountAsync call next) e)) (
+        was.0,
+        second_goes (nexts_in at) after d next rest
+            (record { begun = k.begun; whole = k.whole; apart = k.apart; leads_on = k.leads_on; asyncs = k.asyncs; counted = k.counted; batch = k.batch; running_is = put_here me Nothing (a.running me); accepted = k.accepted }),
+      ))
 
   -- the record of the SYNC call that ran is free
   module _ (call : Call) (running : a.running me ≡ CountedCall call) where
@@ -220,18 +229,22 @@ module _ (a : CallState) (at : Word → ℕ) (control : ℕ → ControlValue) (m
       let c : ControlValue = record { stage = Some (Handle (first_on walk next)); drain = (control me).drain } in
       let after : Share = share_of (ends_sync a me call) me in
       let shown : Shows (ends_sync a me call) at' (put control me c) =
-      end_shown call k.running_is c held (hand_of_first walk next (at (Hand me)) (more_than_zero (at (Hand me)) call.id (hand_at a at control me s (handle.EndSync walk call next) e)))
-      (was.0, first_goes (nexts_in at) after d walk next rest (record {
-        passed = k.passed;
-        whole = k.whole;
-        leads_here = k.leads_here;
-        ends_at = k.ends_at;
-        leads_on = k.leads_on;
-        apart = k.apart;
-        counted = k.counted;
-        batch = k.batch;
-        running_is = put_here me Nothing (a.running me);
-        accepted = k.accepted;
-      })) in
+      end_shown call k.running_is c held (hand_of_first walk next (at (Hand me)) (more_than_zero (at (Hand me)) call.id (hand_at a at control me s (handle.EndSync walk call next) e))) (
+        was.0,
+        first_goes (nexts_in at) after d walk next rest (record {
+          passed = k.passed;
+          begun = k.begun;
+          whole = k.whole;
+          begun_are = k.begun_are;
+          leads_here = k.leads_here;
+          ends_at = k.ends_at;
+          leads_on = k.leads_on;
+          apart = k.apart;
+          counted = k.counted;
+          batch = k.batch;
+          running_is = put_here me Nothing (a.running me);
+          accepted = k.accepted;
+        }),
+      ) in
       subst (λ (h : Option Holding). Shows (releases a me call.id h) at' (put control me c)) (sym held)
       (subst (λ (x : Running). Shows (unlocks a me x) at' (put control me c)) (sym k.running_is) shown)

@@ -10,7 +10,7 @@ use Rattle.smp_core.specs.Places.{IsPlaced}
 use Rattle.smp_core.specs.Words.{Leads, IsWritten, flags_in, funcs_in, infos_in, nexts_in}
 use Rattle.smp_core.specs.Stands.{Share, Stands, StandsAt, HandleStands, Reverses, Walks, Ends, PostKnows, posted}
 use Rattle.smp_core.proofs.Alls.{every_left, every_right}
-use Rattle.smp_core.proofs.Walks.{Path-kept, reverses_all, walks_passed, walks_rest, ends_rest, same_record}
+use Rattle.smp_core.proofs.Walks.{Path-kept, reverses_all, walks_front, walks_passed, walks_rest, ends_front, ends_rest, same_record}
 use Rattle.smp_core.specs.declared.call.Call.{Call}
 use Rattle.smp_core.specs.declared.place.RecPlace.{RecPlace}
 use Rattle.smp_core.specs.declared.place.RecPlace.TheVariants as place
@@ -138,7 +138,9 @@ module _ (cpu : ℕ) (places places' : ℕ → RecPlace) (at at' : Word → ℕ)
   Walks-kept : (s : Share) (d : DrainValue) (walk : Walk) (here : ℕ) (front rest : List Call) (running : Running) → AllByRecursion (IsPlaced places (place.Batch cpu)) s.batch → Walks (nexts_in at) s d walk here front rest running → Walks (nexts_in at') s d walk here front rest running
   Walks-kept s d walk here front rest running b h = record {
     passed = h.passed;
+    begun = h.begun;
     whole = h.whole;
+    begun_are = h.begun_are;
     leads_here = Path-kept (nexts_in at) (nexts_in at') (IsPlaced places (place.Batch cpu)) same_next (link_to walk.first) (async_calls h.passed) here (walks_passed (IsPlaced places (place.Batch cpu)) (nexts_in at) s d walk here front rest running h b) h.leads_here;
     ends_at = h.ends_at;
     leads_on = Path-kept (nexts_in at) (nexts_in at') (IsPlaced places (place.Batch cpu)) same_next here rest 0 (walks_rest (IsPlaced places (place.Batch cpu)) (nexts_in at) s d walk here front rest running h b) h.leads_on;
@@ -156,6 +158,9 @@ module _ (cpu : ℕ) (places places' : ℕ → RecPlace) (at at' : Word → ℕ)
 
   Ends-kept : (s : Share) (d : DrainValue) (here : ℕ) (front rest : List Call) (running : Running) → AllByRecursion (IsPlaced places (place.Batch cpu)) s.batch → Ends (nexts_in at) s d here front rest running → Ends (nexts_in at') s d here front rest running
   Ends-kept s d here front rest running b h = record {
+    begun = h.begun;
+    whole = h.whole;
+    apart = h.apart;
     leads_on = Path-kept (nexts_in at) (nexts_in at') (IsPlaced places (place.Batch cpu)) same_next here rest 0 (ends_rest (IsPlaced places (place.Batch cpu)) (nexts_in at) s d here front rest running h b) h.leads_on;
     asyncs = h.asyncs;
     counted = h.counted;
@@ -172,7 +177,8 @@ module _ (cpu : ℕ) (places places' : ℕ → RecPlace) (at at' : Word → ℕ)
   HandleStands-kept : (s : Share) (d : DrainValue) (stage : HandleStage) → AllByRecursion (IsPlaced places (place.Batch cpu)) s.batch → HandleStands (nexts_in at) s d stage → HandleStands (nexts_in at') s d stage
   HandleStands-kept s d (handle.ReverseLoad newer id) b h =
       (h.0, rw (reversed_next s d (link_to newer) (at (Next id)) h.0 id h.2 b h.1) (Reverses-kept s d (link_to newer) (at (Next id)) h.0 b h.1), h.2)
-  HandleStands-kept s d (handle.ReverseStore newer id older) b h = (h.0, Reverses-kept s d (link_to newer) (link_to older) h.0 b h.1, h.2)
+  HandleStands-kept s d (handle.ReverseStore newer id older) b h =
+      (h.0, Reverses-kept s d (link_to newer) (link_to older) h.0 b h.1, h.2, reversed_next s d (link_to newer) (link_to older) h.0 id h.2 b h.1 ∙ h.3)
   HandleStands-kept s d (handle.LoadNext walk id) b h = (h.0, h.1, Walks-kept s d walk (id + 1) [] (h.0 ∷ h.1) Nothing b h.2)
   HandleStands-kept s d (handle.LoadFlags walk id next) b h =
       (h.0, h.1, Walks-kept s d walk (id + 1) [] (h.0 ∷ h.1) Nothing b h.2, walked_next s d walk id h.0 h.1 b h.2 ∙ h.3)
@@ -182,13 +188,17 @@ module _ (cpu : ℕ) (places places' : ℕ → RecPlace) (at at' : Word → ℕ)
       (h.0, h.1, Walks-kept s d walk (id + 1) [] (h.0 ∷ h.1) Nothing b h.2, walked_next s d walk id h.0 h.1 b h.2 ∙ h.3, h.4, h.5)
   HandleStands-kept s d (handle.Unlink walk last call next) b h =
       (h.0, Walks-kept s d walk (call.id + 1) [] (call ∷ h.0) Nothing b h.1, walked_next s d walk call.id call h.0 b h.1 ∙ h.2, h.3, h.4)
-  HandleStands-kept s d (handle.BeginSync walk call next) b h = (h.0, Walks-kept s d walk (link_to next) (call ∷ []) h.0 Nothing b h.1)
+  HandleStands-kept s d (handle.BeginSync walk call next) b h =
+      let front = walks_front (IsPlaced places (place.Batch cpu)) (nexts_in at) s d walk (link_to next) (call ∷ []) h.0 Nothing h.1 b in
+      (h.0, Walks-kept s d walk (link_to next) (call ∷ []) h.0 Nothing b h.1, same_next call front.0 ∙ h.2)
   HandleStands-kept s d (handle.CountSync walk call next) b h = (h.0, Walks-kept s d walk (link_to next) [] h.0 (SyncCall call) b h.1)
   HandleStands-kept s d (handle.EndSync walk call next) b h = (h.0, Walks-kept s d walk (link_to next) [] h.0 (CountedCall call) b h.1)
   HandleStands-kept s d (handle.AsyncNext id) b h = (h.0, h.1, Ends-kept s d (id + 1) [] (h.0 ∷ h.1) Nothing b h.2)
   HandleStands-kept s d (handle.AsyncFunc id next) b h = (h.0, h.1, Ends-kept s d (id + 1) [] (h.0 ∷ h.1) Nothing b h.2, ended_next s d id h.0 h.1 b h.2 ∙ h.3)
   HandleStands-kept s d (handle.AsyncInfo id next func) b h = (h.0, h.1, Ends-kept s d (id + 1) [] (h.0 ∷ h.1) Nothing b h.2, ended_next s d id h.0 h.1 b h.2 ∙ h.3, h.4)
-  HandleStands-kept s d (handle.BeginAsync call next) b h = (h.0, Ends-kept s d (link_to next) (call ∷ []) h.0 Nothing b h.1)
+  HandleStands-kept s d (handle.BeginAsync call next) b h =
+      let front = ends_front (IsPlaced places (place.Batch cpu)) (nexts_in at) s d (link_to next) (call ∷ []) h.0 Nothing h.1 b in
+      (h.0, Ends-kept s d (link_to next) (call ∷ []) h.0 Nothing b h.1, same_next call front.0 ∙ h.2)
   HandleStands-kept s d (handle.CountAsync call next) b h = (h.0, Ends-kept s d (link_to next) [] h.0 (AsyncCall call) b h.1, h.2)
   HandleStands-kept s d handle.Enter b h = h
   HandleStands-kept s d handle.Accept b h = h

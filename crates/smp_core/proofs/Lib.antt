@@ -2,6 +2,7 @@ pub mod Accesses
 pub mod Alls
 pub mod Appending
 pub mod Batches
+pub mod BatchLinks
 pub mod Beginning
 pub mod Chains
 pub mod Cores

@@ -78,7 +78,7 @@ module _ (a : CallState) (at : Word → ℕ) (control : ℕ → ControlValue) (m
       let held = holds_nothing a at control me s (handle.ReverseLoad newer id) e in
       let c : ControlValue = record { stage = Some (Handle (handle.ReverseStore newer id (record_at (at (Next id))))); drain = (control me).drain } in
       next_loaded c held
-      (goes_on c held (was.0, (k.0, subst (λ (n : ℕ). Reverses (nexts_in at) (share_of a me) (control me).drain (link_to newer) n k.0) (sym (link_back (at (Next id)))) k.1, k.2))
+      (goes_on c held (was.0, (k.0, subst (λ (n : ℕ). Reverses (nexts_in at) (share_of a me) (control me).drain (link_to newer) n k.0) (sym (link_back (at (Next id)))) k.1, k.2, sym (link_back (at (Next id)))))
       (hand_at a at control me s (handle.ReverseLoad newer id) e))
 
   pub load_next_step : (walk : Walk) (id : ℕ) → (control me).stage ≡ Some (Handle (handle.LoadNext walk id)) → StepShows a at control me (Handle (handle.LoadNext walk id))
@@ -126,9 +126,11 @@ module _ (a : CallState) (at : Word → ℕ) (control : ℕ → ControlValue) (m
       let call : Call = record { id = id; class = Sync; func = func; info = at (Info id) } in
       let is : k.0 ≡ record { id = id; class = Sync; func = func; info = at (Info id) } = call_of_parts k.0 id Sync func (at (Info id)) same k.4 k.5 info in
       let c : ControlValue = record { stage = Some (Handle (unlink_after walk.last walk call next)); drain = (control me).drain } in
-      goes_on c (holds_nothing a at control me s (handle.LoadInfo walk id next func) e)
-      (was.0, info_leads (nexts_in at) (share_of a me) (control me).drain walk next call k.1
-      (subst (λ (x : Call). Walks (nexts_in at) (share_of a me) (control me).drain walk (id + 1) [] (x ∷ k.1) Nothing) is k.2) k.3 refl walk.last refl)
+      goes_on c (holds_nothing a at control me s (handle.LoadInfo walk id next func) e) (
+        was.0,
+        info_leads (nexts_in at) (share_of a me) (control me).drain walk next call k.1
+            (subst (λ (x : Call). Walks (nexts_in at) (share_of a me) (control me).drain walk (id + 1) [] (x ∷ k.1) Nothing) is k.2) k.3 refl walk.last refl,
+      )
       (hand_of_info walk.last walk call next at me (hand_at a at control me s (handle.LoadInfo walk id next func) e))
 
   pub async_next_step : (id : ℕ) → (control me).stage ≡ Some (Handle (handle.AsyncNext id)) → StepShows a at control me (Handle (handle.AsyncNext id))
@@ -159,13 +161,22 @@ module _ (a : CallState) (at : Word → ℕ) (control : ℕ → ControlValue) (m
       let call : Call = record { id = id; class = Async; func = func; info = at (Info id) } in
       let is : k.0 ≡ record { id = id; class = Async; func = func; info = at (Info id) } = call_of_parts k.0 id Async func (at (Info id)) same h.asyncs.0 k.4 info in
       let c : ControlValue = record { stage = Some (Handle (handle.BeginAsync call next)); drain = (control me).drain } in
-      goes_on c (holds_nothing a at control me s (handle.AsyncInfo id next func) e)
-      (was.0, (k.1, record {
-        leads_on = subst (λ (n : ℕ). Path (nexts_in at) n k.1 0) (ap (nexts_in at) same ∙ k.3) h.leads_on.1;
-        asyncs = h.asyncs.1;
-        counted = h.counted;
-        batch = h.batch ∙ ap (λ (x : Call). x ∷ k.1) is;
-        running_is = h.running_is;
-        accepted = h.accepted;
-      }))
+      goes_on c (holds_nothing a at control me s (handle.AsyncInfo id next func) e) (
+        was.0,
+        (
+          k.1,
+          record {
+            begun = h.begun;
+            whole = h.whole ∙ ap (λ (x : Call). h.begun ++ x ∷ k.1) is;
+            apart = h.apart;
+            leads_on = subst (λ (n : ℕ). Path (nexts_in at) n k.1 0) (ap (nexts_in at) same ∙ k.3) h.leads_on.1;
+            asyncs = h.asyncs.1;
+            counted = h.counted;
+            batch = h.batch ∙ ap (λ (x : Call). x ∷ k.1) is;
+            running_is = h.running_is;
+            accepted = h.accepted;
+          },
+          k.3,
+        ),
+      )
       (hand_at a at control me s (handle.AsyncInfo id next func) e)

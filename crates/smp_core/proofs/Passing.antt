@@ -6,7 +6,7 @@ use Rattle.smp_core.specs.Calls.{Nothing}
 use Rattle.smp_core.specs.Drains.{DrainValue, link_to, by_class, unlink_after}
 use Rattle.smp_core.specs.Words.{Path}
 use Rattle.smp_core.specs.Stands.{Share, EndsAt, Walks, HandleStands}
-use Rattle.smp_core.proofs.Batches.{async_calls-push}
+use Rattle.smp_core.proofs.Batches.{sync_calls-push, async_calls-push}
 use Rattle.smp_core.proofs.Walks.{Path-push, same_record, first_goes}
 use Rattle.smp_core.specs.declared.call.Call.{Call}
 use Rattle.smp_core.specs.declared.call.Class.{Class}
@@ -25,7 +25,9 @@ pub passes_sync : (nexts nexts' : ℕ → ℕ) (s : Share) (d : DrainValue) (wal
     Path nexts' (link_to walk'.first) (async_calls h.passed) (link_to next) → EndsAt walk'.last (async_calls h.passed) → Path nexts' (link_to next) rest 0 → Walks nexts' s d walk' (link_to next) (call ∷ []) rest Nothing
 passes_sync nexts nexts' s d walk walk' next call rest h e here ends on = record {
   passed = h.passed ++ call ∷ [];
+  begun = sync_calls h.passed;
   whole = h.whole ∙ sym (append_assoc h.passed (call ∷ []) rest);
+  begun_are = sync_calls-push h.passed call ∙ ap (λ (c : Class). sync_calls h.passed ++ if_sync c call) e;
   leads_here = subst (λ (xs : List Call). Path nexts' (link_to walk'.first) xs (link_to next)) (sym (passed_sync h.passed call e)) here;
   ends_at = subst (EndsAt walk'.last) (sym (passed_sync h.passed call e)) ends;
   leads_on = on;
@@ -44,7 +46,9 @@ passes_async nexts s d walk id next call rest h n e =
     let linked : nexts call.id ≡ link_to next = ap nexts same ∙ n in
     record {
       passed = h.passed ++ call ∷ [];
+      begun = sync_calls h.passed;
       whole = h.whole ∙ sym (append_assoc h.passed (call ∷ []) rest);
+      begun_are = sync_calls-push h.passed call ∙ ap (λ (c : Class). sync_calls h.passed ++ if_sync c call) e;
       leads_here = subst (λ (xs : List Call). Path nexts (link_to walk.first) xs (link_to next)) (sym (passed_async h.passed call e))
           (Path-push nexts (link_to walk.first) (async_calls h.passed) call (link_to next) (subst (λ (k : ℕ). Path nexts (link_to walk.first) (async_calls h.passed) k) h.leads_on.0 h.leads_here) linked);
       ends_at = (async_calls h.passed, call, passed_async h.passed call e, same);
@@ -66,7 +70,10 @@ flags_lead nexts s d walk id next call rest h n Async e = first_goes nexts s d (
 pub info_leads : (nexts : ℕ → ℕ) (s : Share) (d : DrainValue) (walk : Walk) (next : Option ℕ) (call : Call) (rest : List Call) → Walks nexts s d walk (call.id + 1) [] (call ∷ rest) Nothing → nexts call.id ≡ link_to next → call.class ≡ Sync →
     (last : Option ℕ) → walk.last ≡ last → HandleStands nexts s d (unlink_after last walk call next)
 info_leads nexts s d walk next call rest h n e None l =
-    let none : async_calls h.passed ≡ [] = subst (λ (x : Option ℕ). EndsAt x (async_calls h.passed)) l h.ends_at in
-    (rest, passes_sync nexts nexts s d walk (record { first = next; last = None }) next call rest h e
-    (subst (λ (xs : List Call). Path nexts (link_to next) xs (link_to next)) (sym none) refl) none (subst (λ (k : ℕ). Path nexts k rest 0) n h.leads_on.1))
+    let none : async_calls h.passed ≡ [] = subst (λ (x : Option ℕ). EndsAt x (async_calls h.passed)) l h.ends_at in (
+      rest,
+      passes_sync nexts nexts s d walk (record { first = next; last = None }) next call rest h e
+          (subst (λ (xs : List Call). Path nexts (link_to next) xs (link_to next)) (sym none) refl) none (subst (λ (k : ℕ). Path nexts k rest 0) n h.leads_on.1),
+      n,
+    )
 info_leads nexts s d walk next call rest h n e (Some last) l = (rest, h, n, e, l)

@@ -73,12 +73,6 @@ or_right : (x y : Bool) → y ≡ true → (x || y) ≡ true
 or_right true y e = refl
 or_right false y e = e
 
-pub or_first : (x y b : Bool) → b ≡ x → b ≡ true → b ≡ (x || y)
-or_first x y b e t = t ∙ sym (or_left x y (sym e ∙ t))
-
-pub or_second : (x y b : Bool) → x ≡ false → b ≡ y → b ≡ (x || y)
-or_second x y b f e = rw f e
-
 pub true-has_record : (id : ℕ) (calls : List Call) → HasRecord id calls → has_record id calls ≡ true
 true-has_record id [] h = absurd h
 true-has_record id (call ∷ rest) (inl e) = or_left (call.id == id) (has_record id rest) (eq-eqb call.id id e)
@@ -88,6 +82,10 @@ true-has_record id (call ∷ rest) (inr h) = or_right (call.id == id) (has_recor
 pub has_id : (id : ℕ) (calls : List Call) → list_any (λ y. y == id) (ids calls) ≡ has_record id calls
 has_id id [] = refl
 has_id id (call ∷ rest) = ap (λ (b : Bool). (call.id == id) || b) (has_id id rest)
+
+-- whether the chain from this link leads through the record
+abbrev pub is_on : (ℕ → ℕ) → ℕ → ℕ → Bool
+is_on nexts link id = list_any (λ y. y == id) (chain_in nexts records link)
 
 -- a call that is placed tells its record's place
 pub place_of : (places : ℕ → RecPlace) (p : RecPlace) (id : ℕ) (calls : List Call) → AllByRecursion (IsPlaced places p) calls → HasRecord id calls → places id ≡ p
@@ -330,17 +328,18 @@ module _ (a : CallState) (at : Word → ℕ) (control : ℕ → ControlValue) (s
   down_short = length-apart records splits.down splits.down_apart (placed_records splits.down splits.down_placed)
 
   -- the chain of what is not reversed yet
-  pub down_chain : HasChain (nexts_in at) (down_link (control cpu).stage)
-  down_chain = record { calls = splits.down; leads = splits.leads_down; records_are = placed_records splits.down splits.down_placed; short = down_short }
+  pub down_chain : (x : ControlValue) → x ≡ control cpu → HasChain (nexts_in at) (down_link x.stage)
+  down_chain x here = subst (λ (c : ControlValue). HasChain (nexts_in at) (down_link c.stage)) (sym here)
+      (record { calls = splits.down; leads = splits.leads_down; records_are = placed_records splits.down splits.down_placed; short = down_short })
 
   -- and of what is
-  pub up_chain : HasChain (nexts_in at) (up_link (control cpu).stage)
-  up_chain = record {
+  pub up_chain : (x : ControlValue) → x ≡ control cpu → HasChain (nexts_in at) (up_link x.stage)
+  up_chain x here = subst (λ (c : ControlValue). HasChain (nexts_in at) (up_link c.stage)) (sym here) (record {
     calls = turned splits.up;
     leads = path_leads (nexts_in at) (up_link (control cpu).stage) splits.up splits.leads_up;
     records_are = turned_all (λ call. call.id < records) splits.up (placed_records splits.up splits.up_placed);
     short = up_short;
-  }
+  })
 
   down_read : chain_in (nexts_in at) records (down_link (control cpu).stage) ≡ ids splits.down
   down_read = chain_read records (nexts_in at) (down_link (control cpu).stage) splits.down down_short splits.leads_down
@@ -366,16 +365,22 @@ module _ (a : CallState) (at : Word → ℕ) (control : ℕ → ControlValue) (s
       one id k call e (inr f) = absurd f
 
   -- the record between the chains is in the batch
-  pub in_between : (id : ℕ) → is_this id (between_of (control cpu).stage) ≡ true → a.place id ≡ place.Batch cpu
-  in_between id t = this_between id (between_of (control cpu).stage) splits.between splits.is_between splits.between_placed t
+  pub in_between : (x : ControlValue) → x ≡ control cpu → (id : ℕ) → is_this id (between_of x.stage) ≡ true → a.place id ≡ place.Batch cpu
+  in_between x here id t =
+      let between : is_this id (between_of (control cpu).stage) ≡ true = subst (λ (c : ControlValue). is_this id (between_of c.stage) ≡ true) here t in
+      this_between id (between_of (control cpu).stage) splits.between splits.is_between splits.between_placed between
 
-  -- the tests of both chains tell whether another record is
-  pub in_batch : (id : ℕ) (down up : List ℕ) (b : Bool) → is_this id (between_of (control cpu).stage) ≡ false → down ≡ chain_in (nexts_in at) records (down_link (control cpu).stage) → up ≡ chain_in (nexts_in at) records (up_link (control cpu).stage) →
-      b ≡ (list_any (λ y. y == id) down || list_any (λ y. y == id) up) → (b ≡ true → a.place id ≡ place.Batch cpu) × (a.place id ≡ place.Batch cpu → b ≡ true)
-  in_batch id down up b f d u e =
-      let x : list_any (λ y. y == id) down ≡ has_record id splits.down = ap (λ (xs : List ℕ). list_any (λ y. y == id) xs) (d ∙ down_read) ∙ has_id id splits.down in
-      let y : list_any (λ y. y == id) up ≡ has_record id (turned splits.up) = ap (λ (xs : List ℕ). list_any (λ y. y == id) xs) (u ∙ up_read) ∙ has_id id (turned splits.up) in
-      let is : b ≡ (has_record id splits.down || has_record id (turned splits.up)) = e ∙ (λ i. x i || y i) in (
+  -- the tests along both chains tell whether another record is
+  pub in_batch : (x : ControlValue) → x ≡ control cpu → (id : ℕ) (b : Bool) → is_this id (between_of x.stage) ≡ false →
+      b ≡ (is_on (nexts_in at) (down_link x.stage) id || is_on (nexts_in at) (up_link x.stage) id) →
+      (b ≡ true → a.place id ≡ place.Batch cpu) × (a.place id ≡ place.Batch cpu → b ≡ true)
+  in_batch x here id b f e =
+      let other : is_this id (between_of (control cpu).stage) ≡ false = subst (λ (c : ControlValue). is_this id (between_of c.stage) ≡ false) here f in
+      let tests : b ≡ (is_on (nexts_in at) (down_link (control cpu).stage) id || is_on (nexts_in at) (up_link (control cpu).stage) id) =
+      subst (λ (c : ControlValue). b ≡ (is_on (nexts_in at) (down_link c.stage) id || is_on (nexts_in at) (up_link c.stage) id)) here e in
+      let down = ap (list_any (λ y. y == id)) down_read ∙ has_id id splits.down in
+      let up = ap (list_any (λ y. y == id)) up_read ∙ has_id id (turned splits.up) in
+      let is : b ≡ (has_record id splits.down || has_record id (turned splits.up)) = tests ∙ (λ i. down i || up i) in (
         (λ t. elim (or_cases (has_record id splits.down) (has_record id (turned splits.up)) (sym is ∙ t)) [
           | inl k ↦ place_of a.place (place.Batch cpu) id splits.down splits.down_placed (has_record-true id splits.down k)
           | inr k ↦ place_of a.place (place.Batch cpu) id (turned splits.up) (turned_all (IsPlaced a.place (place.Batch cpu)) splits.up splits.up_placed) (has_record-true id (turned splits.up) k)

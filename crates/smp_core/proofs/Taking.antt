@@ -182,10 +182,12 @@ module _ (a : CallState) (at : Word → ℕ) (control : ℕ → ControlValue) (m
         held = held_after a at control me s c (holds_nothing a at control me s handle.Take e);
         stands = stands_after a at control me s (put_word at (Head me) 0) (place' a at me) (share_of (takes a me)) c
             (λ cpu ne. at_test cpu me (λ b. record { last = last_batch (cond b (a.taken me ++ a.queue me ∷ []) (a.taken cpu)); batch = cond b (order (a.queue me)) (a.batch cpu); running = a.running cpu; accepted = cond b false (a.accepted cpu) } ≡ share_of a cpu) (λ f. absurd (ne f)) (λ _. refl))
-            (λ cpu _. leaves_taken cpu)
-            (was.0, reverse_goes (nexts_in at) after no_drain None (record_at link) (a.queue me) [] (whole ∙ sym (append-nil (a.queue me)))
-            (subst (λ (n : ℕ). Leads (nexts_in at) n (a.queue me) 0) (sym (link_back link)) (s.chained.chain me)) refl (subst IsApart (sym whole) (s.placed.queue_apart me)) refl
-            (put_here me (order (a.queue me)) (a.batch me) ∙ ap order (sym whole)) k.1 (put_here me false (a.accepted me)));
+            (λ cpu _. leaves_taken cpu) (
+              was.0,
+              reverse_goes (nexts_in at) after no_drain None (record_at link) (a.queue me) [] (whole ∙ sym (append-nil (a.queue me)))
+                  (subst (λ (n : ℕ). Leads (nexts_in at) n (a.queue me) 0) (sym (link_back link)) (s.chained.chain me)) refl (subst IsApart (sym whole) (s.placed.queue_apart me)) refl
+                  (put_here me (order (a.queue me)) (a.batch me) ∙ ap order (sym whole)) k.1 (put_here me false (a.accepted me)),
+            );
         hands = hands_after a at control me s c (hand_of_reverse None (record_at link) (at (Hand me)) (hand_at a at control me s handle.Take e));
         placed = placed_taken a at me k.0 s.placed;
         written = written_taken a at me s.written;

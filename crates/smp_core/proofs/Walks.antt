@@ -140,7 +140,7 @@ pub first_goes : (nexts : ℕ → ℕ) (s : Share) (d : DrainValue) (walk : Walk
 first_goes nexts s d walk None [] h =
     let all : s.last ≡ h.passed = h.whole ∙ append-nil h.passed in
     second_goes nexts s d walk.first (async_calls h.passed)
-    (record { leads_on = h.leads_here; asyncs = all_async h.passed; counted = h.counted; batch = h.batch ∙ ap async_calls all; running_is = h.running_is; accepted = h.accepted })
+    (record { begun = []; whole = ap async_calls all; apart = h.apart; leads_on = h.leads_here; asyncs = all_async h.passed; counted = h.counted; batch = h.batch ∙ ap async_calls all; running_is = h.running_is; accepted = h.accepted })
 first_goes nexts s d walk None (call ∷ rest) h = absurd (let e = h.leads_on.0 in omega arith)
 first_goes nexts s d walk (Some id) [] h = absurd (let e : id + 1 ≡ 0 = h.leads_on in omega arith)
 first_goes nexts s d walk (Some id) (call ∷ rest) h = (call, rest, h)
@@ -153,7 +153,9 @@ reverse_goes nexts s d here None older newer whole down up apart counted batch r
     let all : s.last ≡ newer = whole ∙ ap (λ (xs : List Call). xs ++ newer) none in
     first_goes nexts s d (record { first = here; last = None }) here newer (record {
       passed = [];
+      begun = [];
       whole = all;
+      begun_are = refl;
       leads_here = refl;
       ends_at = refl;
       leads_on = up;
@@ -165,19 +167,22 @@ reverse_goes nexts s d here None older newer whole down up apart counted batch r
     })
 reverse_goes nexts s d here (Some id) older newer whole down up apart counted batch running accepted =
     let n : HasNewest nexts (id + 1) older 0 = has_newest nexts (id + 1) older (λ e. omega arith) down in
-    let same : n.newest.id ≡ id = same_record id n.newest n.link_is in
-    (n.newest, record {
-      older = n.older;
-      newer = newer;
-      whole = whole ∙ (ap (λ (xs : List Call). xs ++ newer) n.parts ∙ append_assoc n.older (n.newest ∷ []) newer);
-      leads_down = subst (λ (k : ℕ). Leads nexts (nexts k) n.older 0) same n.leads;
-      leads_up = up;
-      apart = apart;
-      counted = counted;
-      batch = batch;
-      running = running;
-      accepted = accepted;
-    }, same)
+    let same : n.newest.id ≡ id = same_record id n.newest n.link_is in (
+      n.newest,
+      record {
+        older = n.older;
+        newer = newer;
+        whole = whole ∙ (ap (λ (xs : List Call). xs ++ newer) n.parts ∙ append_assoc n.older (n.newest ∷ []) newer);
+        leads_down = subst (λ (k : ℕ). Leads nexts (nexts k) n.older 0) same n.leads;
+        leads_up = up;
+        apart = apart;
+        counted = counted;
+        batch = batch;
+        running = running;
+        accepted = accepted;
+      },
+      same,
+    )
 
 pub hand_of_second : (next : Option ℕ) (hand : ℕ) → hand ≢ 0 → HandIs (Some (Handle (second_on next))) hand
 hand_of_second None hand ne = ne

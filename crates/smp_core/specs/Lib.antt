@@ -25,6 +25,7 @@ pub mod Replay
 pub mod Runs
 pub mod Queues
 pub mod Batches
+pub mod BatchLinks
 pub mod Counts
 -- what a CPU knows
 pub mod Known

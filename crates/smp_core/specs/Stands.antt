@@ -110,10 +110,12 @@ EndsAt None calls = calls ≡ []
 EndsAt (Some id) calls = (front : List Call) × (newest : Call) × (calls ≡ front ++ newest ∷ []) × (newest.id ≡ id)
 
 -- The first pass: the rest of the batch is ahead, from this link on. Of what it has passed, the ASYNC calls are left in
--- the chain, and they lead to what is ahead; the SYNC calls have left it, and have run but for the front ones.
+-- the chain, and they lead to what is ahead; the SYNC calls have left it, and have begun but for the front ones.
 pub record Walks (nexts : ℕ → ℕ) (s : Share) (d : DrainValue) (walk : Walk) (here : ℕ) (front rest : List Call) (running : Running) : Type 0 where
   pub passed : List Call
+  pub begun : List Call
   pub whole : s.last ≡ passed ++ rest
+  pub begun_are : sync_calls passed ≡ begun ++ front
   pub leads_here : Path nexts (link_to walk.first) (async_calls passed) here
   pub ends_at : EndsAt walk.last (async_calls passed)
   pub leads_on : Path nexts here rest 0
@@ -123,9 +125,13 @@ pub record Walks (nexts : ℕ → ℕ) (s : Share) (d : DrainValue) (walk : Walk
   pub running_is : s.running ≡ running
   pub accepted : s.accepted ≡ false
 
--- The second pass: the ASYNC calls that are left are ahead, from this link on, but for the front ones.
+-- The second pass: the ASYNC calls of the batch have begun, but for the front ones and the rest, which is ahead, from
+-- this link on.
 pub record Ends (nexts : ℕ → ℕ) (s : Share) (d : DrainValue) (here : ℕ) (front rest : List Call) (running : Running) : Type 0 where
+  pub begun : List Call
+  pub whole : async_calls s.last ≡ begun ++ (front ++ rest)
   pub leads_on : Path nexts here rest 0
+  pub apart : IsApart s.last
   pub asyncs : AllByRecursion IsAsync rest
   pub counted : d.calls ≡ length s.last
   pub batch : s.batch ≡ front ++ rest
@@ -139,7 +145,8 @@ HandleStands nexts s d handle.Accept = Rests s
 HandleStands nexts s d handle.LeaveIdle = Rests s
 HandleStands nexts s d handle.Take = (s.batch ≡ []) × (s.running ≡ Nothing) × (s.accepted ≡ true)
 HandleStands nexts s d (handle.ReverseLoad newer id) = (call : Call) × Reverses nexts s d (link_to newer) (nexts id) call × (call.id ≡ id)
-HandleStands nexts s d (handle.ReverseStore newer id older) = (call : Call) × Reverses nexts s d (link_to newer) (link_to older) call × (call.id ≡ id)
+HandleStands nexts s d (handle.ReverseStore newer id older) =
+    (call : Call) × Reverses nexts s d (link_to newer) (link_to older) call × (call.id ≡ id) × (nexts id ≡ link_to older)
 HandleStands nexts s d (handle.LoadNext walk id) = (call : Call) × (rest : List Call) × Walks nexts s d walk (id + 1) [] (call ∷ rest) Nothing
 HandleStands nexts s d (handle.LoadFlags walk id next) = (call : Call) × (rest : List Call) × Walks nexts s d walk (id + 1) [] (call ∷ rest) Nothing × (nexts id ≡ link_to next)
 HandleStands nexts s d (handle.LoadFunc walk id next) =
@@ -148,14 +155,16 @@ HandleStands nexts s d (handle.LoadInfo walk id next func) =
     (call : Call) × (rest : List Call) × Walks nexts s d walk (id + 1) [] (call ∷ rest) Nothing × (nexts id ≡ link_to next) × (call.class ≡ Sync) × (call.func ≡ func)
 HandleStands nexts s d (handle.Unlink walk last call next) =
     (rest : List Call) × Walks nexts s d walk (call.id + 1) [] (call ∷ rest) Nothing × (nexts call.id ≡ link_to next) × (call.class ≡ Sync) × (walk.last ≡ Some last)
-HandleStands nexts s d (handle.BeginSync walk call next) = (rest : List Call) × Walks nexts s d walk (link_to next) (call ∷ []) rest Nothing
+HandleStands nexts s d (handle.BeginSync walk call next) =
+    (rest : List Call) × Walks nexts s d walk (link_to next) (call ∷ []) rest Nothing × (nexts call.id ≡ link_to next)
 HandleStands nexts s d (handle.CountSync walk call next) = (rest : List Call) × Walks nexts s d walk (link_to next) [] rest (SyncCall call)
 HandleStands nexts s d (handle.EndSync walk call next) = (rest : List Call) × Walks nexts s d walk (link_to next) [] rest (CountedCall call)
 HandleStands nexts s d (handle.AsyncNext id) = (call : Call) × (rest : List Call) × Ends nexts s d (id + 1) [] (call ∷ rest) Nothing
 HandleStands nexts s d (handle.AsyncFunc id next) = (call : Call) × (rest : List Call) × Ends nexts s d (id + 1) [] (call ∷ rest) Nothing × (nexts id ≡ link_to next)
 HandleStands nexts s d (handle.AsyncInfo id next func) =
     (call : Call) × (rest : List Call) × Ends nexts s d (id + 1) [] (call ∷ rest) Nothing × (nexts id ≡ link_to next) × (call.func ≡ func)
-HandleStands nexts s d (handle.BeginAsync call next) = (rest : List Call) × Ends nexts s d (link_to next) (call ∷ []) rest Nothing
+HandleStands nexts s d (handle.BeginAsync call next) =
+    (rest : List Call) × Ends nexts s d (link_to next) (call ∷ []) rest Nothing × (nexts call.id ≡ link_to next)
 HandleStands nexts s d (handle.CountAsync call next) = (rest : List Call) × Ends nexts s d (link_to next) [] rest (AsyncCall call) × IsCall call
 HandleStands nexts s d handle.Leave = Rests s × (d.calls ≡ length s.last)
 

@@ -56,7 +56,11 @@ impl Drain {
                 id,
                 older: record_of(found),
             }),
-            HandleStage::ReverseStore { newer: _, id, older } => {
+            HandleStage::ReverseStore {
+                newer: _,
+                id,
+                older,
+            } => {
                 self.calls += 1;
                 go_on(reverse_on(Some(id), older))
             }
@@ -74,7 +78,12 @@ impl Drain {
                 next,
                 func: found as u16,
             }),
-            HandleStage::LoadInfo { walk, id, next, func } => go_on(unlink_after(
+            HandleStage::LoadInfo {
+                walk,
+                id,
+                next,
+                func,
+            } => go_on(unlink_after(
                 walk.last,
                 walk,
                 Call {
@@ -85,16 +94,23 @@ impl Drain {
                 },
                 next,
             )),
-            HandleStage::Unlink { walk, last: _, call, next } => {
-                go_on(HandleStage::BeginSync { walk, call, next })
-            }
+            HandleStage::Unlink {
+                walk,
+                last: _,
+                call,
+                next,
+            } => { go_on(HandleStage::BeginSync { walk, call, next }) }
             HandleStage::BeginSync { walk, call, next } => {
                 calls(HandleStage::CountSync { walk, call, next }, call)
             }
             HandleStage::CountSync { walk, call, next } => {
                 go_on(HandleStage::EndSync { walk, call, next })
             }
-            HandleStage::EndSync { walk, call: _, next } => go_on(first_on(walk, next)),
+            HandleStage::EndSync {
+                walk,
+                call: _,
+                next,
+            } => go_on(first_on(walk, next)),
             HandleStage::AsyncNext { id } => go_on(HandleStage::AsyncFunc {
                 id,
                 next: record_of(found),

@@ -36,7 +36,10 @@ pub enum HandleStage {
     /// Swap the head with 0.
     Take,
     /// Load the link of the newest record that is not reversed yet.
-    ReverseLoad { newer: Option<u32>, id: u32 },
+    ReverseLoad {
+        newer: Option<u32>,
+        id: u32,
+    },
     /// Link it to the record after it.
     ReverseStore {
         newer: Option<u32>,
@@ -44,7 +47,10 @@ pub enum HandleStage {
         older: Option<u32>,
     },
     /// The first pass: load the link to the record after this one.
-    LoadNext { walk: Walk, id: u32 },
+    LoadNext {
+        walk: Walk,
+        id: u32,
+    },
     LoadFlags {
         walk: Walk,
         id: u32,
@@ -86,16 +92,27 @@ pub enum HandleStage {
         next: Option<u32>,
     },
     /// The second pass: load the link to the record after this one.
-    AsyncNext { id: u32 },
-    AsyncFunc { id: u32, next: Option<u32> },
+    AsyncNext {
+        id: u32,
+    },
+    AsyncFunc {
+        id: u32,
+        next: Option<u32>,
+    },
     AsyncInfo {
         id: u32,
         next: Option<u32>,
         func: u16,
     },
     /// Unlock the record of an ASYNC call; the function runs after this step.
-    BeginAsync { call: Call, next: Option<u32> },
-    CountAsync { call: Call, next: Option<u32> },
+    BeginAsync {
+        call: Call,
+        next: Option<u32>,
+    },
+    CountAsync {
+        call: Call,
+        next: Option<u32>,
+    },
     /// All has run: store 0 in the handling word.
     Leave,
 }

@@ -15,6 +15,7 @@ pub mod drain;
 pub mod events;
 pub mod handle;
 pub mod known;
+pub mod laws;
 pub mod limits;
 pub mod machine;
 pub mod place;

@@ -7,7 +7,7 @@ ghost use Rattle.smp_core.specs.Value.{ValuesShow};
 ghost use Rattle.smp_core.specs.Sound.{IsTable};
 
 use crate::control::Control;
-use crate::queue::chain;
+use crate::queue::is_on_chain;
 use crate::size::NR_CPUS;
 use crate::table::read;
 use crate::word::Word;
@@ -55,7 +55,7 @@ fn is_queued(words: &[u64], controls: &[Control], cpu: u32, id: u32) -> bool
     ensures { (calls : CallState) → ValuesShow calls words.now controls.now → result ≡ true ↔ calls.place id ≡ RecPlace.Queued cpu }
 {
     let _count = controls.len();
-    chain(words, read(words, Word::Head(cpu))).contains(&id)
+    is_on_chain(words, read(words, Word::Head(cpu)), id)
 }
 
 fn is_in_batch(words: &[u64], controls: &[Control], cpu: u32, id: u32) -> bool
@@ -67,9 +67,7 @@ fn is_in_batch(words: &[u64], controls: &[Control], cpu: u32, id: u32) -> bool
     if control.is_between(id) {
         return true;
     }
-    let down = chain(words, control.down()).contains(&id);
-    let up = chain(words, control.up()).contains(&id);
-    down || up
+    is_on_chain(words, control.down(), id) || is_on_chain(words, control.up(), id)
 }
 
 fn is_running(words: &[u64], controls: &[Control], cpu: u32, id: u32) -> bool

@@ -138,7 +138,7 @@ fn interrupts_are_off_in_a_rendezvous(rt: HostRuntime) -> Result<(), Fail> {
         Goes(1, Command::Send(0), 1, Note::Sent),
         Goes(1, Command::Done(1), 1, Note::Locked),
         Goes(1, Command::Gate, 1, Note::Taken),
-        Goes(0, Command::Handle, 10, Note::Handled(1)),
+        Goes(0, Command::Handle, 13, Note::Handled(1)),
     ];
     assert_eq!(rt; first_fault(&mut core, &lines)?, None);
     Ok(())

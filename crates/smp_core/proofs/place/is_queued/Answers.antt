@@ -1,4 +1,4 @@
-use Rattle.std.proofs.Common.{◌≡◌, ◌==◌, ℕ, List, ap, ◌∙◌}
+use Rattle.std.proofs.Common.{◌≡◌, ◌==◌, ℕ, List, sym, refl, ap, ◌∙◌}
 use Rattle.std.specs.List.{list_any}
 use Rattle.smp_core.specs.Layout.{number_in}
 use Rattle.smp_core.specs.Size.{records}
@@ -9,14 +9,12 @@ use Rattle.smp_core.proofs.Places.{in_queue}
 use Rattle.smp_core.proofs.QueueChains.{queue_chain, queue_read}
 use Rattle.smp_core.proofs.place.is_queued.Goals as goal
 
-pub chain-requires-clause-chained : goal.chain-requires-clause-chained
-chain-requires-clause-chained c = rw c.read.ensures (queue_chain c.requires.table.calls (number_in c.args.words.now) (control_of c.args.controls.now) c.args.cpu c.requires.table.shown)
+pub is_on_chain-requires-clause-chained : goal.is_on_chain-requires-clause-chained
+is_on_chain-requires-clause-chained c = rw c.read.ensures (queue_chain c.requires.table.calls (number_in c.args.words.now) (control_of c.args.controls.now) c.args.cpu c.requires.table.shown)
 
 pub returns : goal.returns
 returns c calls shown =
     let at = number_in c.args.words.now in
     let control = control_of c.args.controls.now in
-    let chain : c.chain.result.items ≡ chain_in (nexts_in at) records c.read.result = c.chain.ensures in
-    let whole = chain ∙ (ap (chain_in (nexts_in at) records) c.read.ensures ∙ queue_read calls at control c.args.cpu shown) in
-    in_queue calls at control shown c.args.cpu c.args.id c.chain.result.items c.contains.result whole
-    (c.contains.ensures.value ∙ ap (λ (xs : List ℕ). list_any (λ y. y == c.args.id) xs) c.deref.ensures.0)
+    let whole = ap (chain_in (nexts_in at) records) c.read.ensures ∙ queue_read calls at control c.args.cpu shown in
+    in_queue calls at control shown c.args.cpu c.args.id (chain_in (nexts_in at) records c.read.result) c.is_on_chain.result whole c.is_on_chain.ensures

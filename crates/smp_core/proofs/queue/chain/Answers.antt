@@ -1,33 +1,42 @@
-use Rattle.std.proofs.Common.{◌≡◌, ◌+◌, ◌-◌, ◌≤◌, arith, rules}
+use mathlib.Core.List.{reverse}
+use Rattle.std.proofs.Common.{◌≡◌, ℕ, ◌+◌, ◌-◌, ◌<◌, ◌≤◌, List, [], ◌∷◌, ◌++◌, length, sym, ap, ◌∙◌, arith, rules}
+use Rattle.std.proofs.lemmas.List.{reverse-append, length-reverse}
+use Rattle.std.specs.List.{refill}
 use Rattle.smp_core.specs.Layout.{number_in}
 use Rattle.smp_core.specs.Size.{records}
 use Rattle.smp_core.specs.Words.{nexts_in}
-use Rattle.smp_core.proofs.Chains.{Follows, follows_all, passes, ended, ended_by_count}
+use Rattle.smp_core.specs.Queues.{chain_in}
+use Rattle.smp_core.proofs.Chains.{Follows, follows_all, passes, ended, ended_by_count, refilled}
 use Rattle.smp_core.proofs.queue.chain.Goals as goal
+use Rattle.smp_core.proofs.queue.chain.Goals.{else-loop-round-test, then-loop-round-test+then-link-eq0}
 
 pub loop-round-init : goal.loop-round-init
-loop-round-init c = rw c.new-oldest_first.ensures (follows_all (nexts_in (number_in c.args.words.now)) c.args.first c.requires.chained)
+loop-round-init c = rw c.new-passed.ensures (follows_all (nexts_in (number_in c.args.words.now)) c.args.first c.requires.chained)
 
 pub overflow_cast-id : goal.overflow_cast-id
 overflow_cast-id c =
-    let p = passes (nexts_in (number_in c.args.words.now)) c.args.first c.loop-round.link c.loop-round.oldest_first.items c.loop-round._round c.if-link-eq0.false c.loop-round.invariant in
+    let p = passes (nexts_in (number_in c.args.words.now)) c.args.first c.loop-round.link (reverse c.loop-round.passed.items) c.loop-round._round c.if-link-eq0.false c.loop-round.invariant in
     let small : c.loop-round.link ≤ records = p.below in
     search (rules, small)
 
 pub loop-round-preserved : goal.loop-round-preserved
 loop-round-preserved c =
-    let p = passes (nexts_in (number_in c.args.words.now)) c.args.first c.loop-round.link c.loop-round.oldest_first.items c.loop-round._round c.if-link-eq0.false c.loop-round.invariant in
-    let items = c.insert.ensures.items in
+    let id : ℕ = c.loop-round.link - 1 in
+    let p = passes (nexts_in (number_in c.args.words.now)) c.args.first c.loop-round.link (reverse c.loop-round.passed.items) c.loop-round._round c.if-link-eq0.false c.loop-round.invariant in
+    let pushed : reverse c.push.new.self.items ≡ id ∷ reverse c.loop-round.passed.items = ap reverse c.push.ensures.items ∙ reverse-append c.loop-round.passed.items (id ∷ []) in
     let next = c.read-link.ensures in
-    let above : (c.loop-round.link - 1) + 1 ≡ c.loop-round.link = omega arith in
-    rw (next, items) (p.on (c.loop-round.link - 1) above)
+    rw (next, pushed) (p.on id (omega arith))
 
-pub returns-then-link-eq0 : goal.returns-then-link-eq0
-returns-then-link-eq0 c =
+pub returns : goal.returns
+returns c =
     let nexts = nexts_in (number_in c.args.words.now) in
-    let here : Follows nexts c.args.first 0 c.loop-round.oldest_first.items c.loop-round._round = rw c.if-link-eq0.true at c.loop-round.invariant in
-    ended nexts c.args.first c.loop-round.oldest_first.items c.loop-round._round (records - c.loop-round._round) (omega arith) here
-
-pub returns-after-loop-round : goal.returns-after-loop-round
-returns-after-loop-round c =
-    ended_by_count (nexts_in (number_in c.args.words.now)) c.args.first c.loop-round.link c.loop-round.oldest_first.items c.loop-round._round (omega arith) c.loop-round.invariant
+    let items : List ℕ = c.loop-round.passed.items in
+    let turned : c.reverse.new.self ≡ reverse items = c.reverse.ensures.after ∙ ap reverse c.as_mut_slice.ensures.value in
+    let same : length c.reverse.new.self ≡ length items = ap length turned ∙ length-reverse items in
+    let whole : reverse items ≡ chain_in nexts records c.args.first = elim c.loop-round-test.branch [
+      | else-loop-round-test w ↦ ended_by_count nexts c.args.first c.loop-round.link (reverse items) c.loop-round._round (let t = w.loop-round-test in omega arith) c.loop-round.invariant
+      | then-loop-round-test+then-link-eq0 w ↦
+        let here : Follows nexts c.args.first 0 (reverse items) c.loop-round._round = rw w.if-link-eq0.true at c.loop-round.invariant in
+        ended nexts c.args.first (reverse items) c.loop-round._round (records - c.loop-round._round) (let t = w.loop-round-test in omega arith) here
+    ] in
+    refilled items c.reverse.new.self same ∙ (turned ∙ whole)
