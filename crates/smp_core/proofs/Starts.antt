@@ -207,6 +207,14 @@ pub new_shown : (words : List ℕ) (controls : List ControlValue) → words ≡ 
 new_shown words controls e f =
     zeros_shown (number_in words) (control_of controls) (λ w. rw e (zero_at table_size (index_of w))) (λ cpu. rw f (get_or-same outside cpus cpu))
 
+begun_nr : (v : StopsValue) (cpu : ℕ) (stage : Option StopStage) → (stop_begun_if v cpu stage).nr ≡ v.nr
+begun_nr v cpu None = refl
+begun_nr v cpu (Some stage) = refl
+
+-- a start keeps the CPUs
+pub started_nr : (v : StopsValue) (cpu : ℕ) (c : Command) → (stop_started v cpu c).nr ≡ v.nr
+started_nr v cpu c = begun_nr v cpu (stop_first (stop_control_of v.controls cpu) c)
+
 begun_online : (v : StopsValue) (cpu : ℕ) (stage : Option StopStage) → (stop_begun_if v cpu stage).online ≡ v.online
 begun_online v cpu None = refl
 begun_online v cpu (Some stage) = refl

@@ -31,6 +31,7 @@ pub mod StateWords
 -- a stop table, and the stops of a machine
 pub mod Tables
 pub mod Named
+pub mod Nudging
 pub mod Values
 pub mod Made
 pub mod Opened

@@ -14,8 +14,9 @@ pub record IsTable (words : List ℕ) (controls : List ControlValue) : Type 0 wh
   pub calls : CallState
   pub shown : ValuesShow calls words controls
 
--- the same, with some CPUs online, all of which there are, and the same in both halves
+-- the same, with some CPUs online, all of which there are; both halves have the same CPUs, and the same of them online
 pub record IsSound (nr online : ℕ) (words : List ℕ) (controls : List ControlValue) (stops : StopsValue) : Type 0 where
   pub limits : AreLimits nr online
   pub table : IsTable words controls
+  pub stops_nr : stops.nr ≡ nr
   pub stops_online : stops.online ≡ online

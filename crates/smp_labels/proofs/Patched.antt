@@ -10,7 +10,6 @@ use Rattle.smp_labels.specs.declared.words.TheConstants.{MOST_KEYS, MOST_SITES}
 use Rattle.smp_labels.specs.Keys.{is_on, count_or, count_left, IsKeyWord}
 use Rattle.smp_labels.specs.declared.keys.Change.{Change}
 use Rattle.smp_labels.specs.declared.keys.Change.TheVariants.{Off, On, Up, Down}
-use Rattle.smp_labels.specs.declared.keys.TheConstants.{MOST_COUNT}
 use Rattle.smp_labels.specs.Kinds.{xor, kind_of, kind_word}
 use Rattle.smp_labels.specs.Entries.{entry_at}
 use Rattle.smp_labels.specs.Law.{Table, site_word, IsLawful}
@@ -206,10 +205,10 @@ module _ (key new : ℕ) (entries : List ℕ) (t : Table) (in_form : IsKeyWord n
 pub left_in_form : (change : Change) (n : ℕ) → IsKeyWord n → IsKeyWord (count_left change n)
 left_in_form Off n fits = omega arith
 left_in_form On n fits = elim (n == 0) as (λ b. IsKeyWord (cond b 1 n)) [ true ↦ omega arith | false ↦ fits ]
-left_in_form Up n fits = go (nat_lt n MOST_COUNT) refl
+left_in_form Up n fits = go (nat_lt n 65535) refl
   where
-    go : (b : Bool) → nat_lt n MOST_COUNT ≡ b → IsKeyWord (count_or n (cond b (Some (n + 1)) None))
-    go true e = let low = ltb-true n MOST_COUNT e in omega arith
+    go : (b : Bool) → nat_lt n 65535 ≡ b → IsKeyWord (count_or n (cond b (Some (n + 1)) None))
+    go true e = let low = ltb-true n 65535 e in omega arith
     go false e = fits
 left_in_form Down n fits = elim (n == 0) as (λ b. IsKeyWord (count_or n (cond b None (Some (n - 1))))) [ true ↦ fits | false ↦ omega arith ]
 

@@ -4,15 +4,14 @@ use Rattle.smp_mask.specs.declared.error.Edge.{Edge}
 use Rattle.smp_mask.specs.declared.error.Edge.TheVariants.{Full, Zero}
 use Rattle.smp_labels.specs.declared.keys.Change.{Change}
 use Rattle.smp_labels.specs.declared.keys.Change.TheVariants.{Off, On, Up, Down}
-use Rattle.smp_labels.specs.declared.keys.TheConstants.{MOST_COUNT}
 
 -- whether the key is on
 abbrev pub is_on : ℕ → Bool
 is_on word = nat_lt 0 word
 
--- a key can have this word
+-- a key can have this word: a count from 0 to 65535
 abbrev pub IsKeyWord : ℕ → Type 0
-IsKeyWord word = word ≤ MOST_COUNT
+IsKeyWord word = word ≤ 65535
 
 -- the change of this number
 abbrev pub change_of : ℕ → Change
@@ -29,7 +28,7 @@ change_word Down = 3
 abbrev pub count_after : Change → ℕ → Option ℕ
 count_after Off n = Some 0
 count_after On n = Some (if n == 0 then 1 else n)
-count_after Up n = if nat_lt n MOST_COUNT then Some (n + 1) else None
+count_after Up n = if nat_lt n 65535 then Some (n + 1) else None
 count_after Down n = if n == 0 then None else Some (n - 1)
 
 -- the count that a change leaves: the old one where there is no room for it

@@ -19,7 +19,7 @@ pub const MOST_SITES: usize = 16;
 /// (`include/linux/jump_label.h`) and in the code at the sites.
 #[derive(Clone, Copy, Debug, PartialEq, Eq)]
 pub struct LabelWords {
-    /// Of each key, [`crate::key_word`] of its state.
+    /// Of each key, its count: it is on where that is above 0.
     pub keys: [u64; MOST_KEYS],
     /// Of each site, [`Entry::word`], and 0 after the last.
     pub entries: [u64; MOST_SITES],

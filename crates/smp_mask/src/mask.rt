@@ -49,6 +49,13 @@ impl CpuMask {
         CpuMask::empty().with(cpu)
     }
 
+    /// The set as a number: bit `c` for CPU `c`, as Linux's `cpumask_bits` of a mask of one word.
+    pub fn bits(self) -> u32
+        ensures { result ≡ self }
+    {
+        self.bits
+    }
+
     /// The set with one more member, as Linux's `cpumask_set_cpu`. `BadArgument` where there is no such CPU.
     pub fn with(self, cpu: u32) -> Result<CpuMask, SmpError>
         ensures refused { IsErrOf result SmpError.BadArgument ↔ (NR_CPUS ≤ cpu) }

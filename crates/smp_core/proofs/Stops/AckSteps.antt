@@ -7,7 +7,7 @@ use Rattle.smp_core.proofs.Stops.Rounds.{ack_stored, ack_subtracted, ack_subtrac
 use Rattle.smp_core.proofs.Stops.StageSteps.{less_one, put_same_fn}
 use Rattle.smp_core.specs.Put.{put, put_word}
 use Rattle.smp_core.specs.Stops.Counts.{mask_weight}
-use Rattle.smp_core.specs.Stops.Labels.{Change}
+use Rattle.smp_core.specs.Stops.Labels.{patch_answer}
 use Rattle.smp_core.specs.Stops.Seats.{Alters, Fills, In, Rests, Seat, Sets, irq_of}
 use Rattle.smp_core.specs.Stops.Shows.{StopShows}
 use Rattle.smp_core.specs.Stops.Sits.{IsLoaded, OwnsIf, Sits, SitsAt, SitsAtRest, SitsInRound, SourceSits}
@@ -15,7 +15,7 @@ use Rattle.smp_core.specs.Stops.Sources.{Source}
 use Rattle.smp_core.specs.Stops.Stages.{StopControlValue, stop_goes, turn_ends, visit_acked}
 use Rattle.smp_core.specs.Stops.State.{Setup, StopState}
 use Rattle.smp_core.specs.Stops.Steps.{StopStep, at_then, state_after}
-use Rattle.smp_core.specs.Stops.Tells.{told}
+use Rattle.smp_core.specs.Stops.Tells.{told, plan_at}
 use Rattle.smp_core.specs.declared.seen.Act.TheVariants as act
 use Rattle.smp_core.specs.declared.stop.field.Field.TheVariants.{Ack}
 use Rattle.smp_core.specs.declared.stop.stage.RoundStage.TheVariants as round
@@ -70,7 +70,7 @@ module _ (u : Setup) (p : StopState) (at : Word → ℕ) (seat : ℕ → Seat) (
       found = at (Slot v.slot Ack)
 
       either : (work : Work) → IsLoaded v work → v.acked ≤ 3 →
-          ((seat me ≡ In v.slot work v.acked (v.acked + 1) Rests) × (v.acked ≡ 2 → v.kind ≡ Patch → has v.active me ≡ false)) ⊎ ((v.acked ≡ 2) × ((count : ℕ) × (made : List Change) × (seat me ≡ Alters v.slot work count made []))) →
+          ((seat me ≡ In v.slot work v.acked (v.acked + 1) Rests) × (v.acked ≡ 2 → v.kind ≡ Patch → has v.active me ≡ false)) ⊎ ((v.acked ≡ 2) × (ran ≡ true) × ((count : ℕ) × (answer ≡ patch_answer work count) × (seat me ≡ Alters v.slot work count (plan_at u work count) []))) →
           OwnsIf c.is_open (source me) → StopStep u p at seat source c me (Advance v (round.Acknowledge answer ran))
       either work loaded most (inl (is, calm)) y =
           let next = In v.slot work (v.acked + 1) (v.acked + 1) (cond (at (Slot v.slot Ack) == 1) Fills Rests) in
@@ -86,10 +86,10 @@ module _ (u : Setup) (p : StopState) (at : Word → ℕ) (seat : ℕ → Seat) (
             sits = acked_sits answer ran work loaded y
                 (s.irq ∙ (ap irq_of is ∙ (ap (λ b. nat_lt (v.acked + 1) 2 || b) (ne_eqb v.acked 4 (λ z. omega arith)) ∙ or_false (nat_lt (v.acked + 1) 2)))) (at (Slot v.slot Ack) == 1);
           }
-      either work loaded most (inr (two, (count, made, is))) y =
+      either work loaded most (inr (two, runs, (count, answers, is))) y =
           let next = In v.slot work (v.acked + 1) (v.acked + 1) (cond (at (Slot v.slot Ack) == 1) Fills Rests) in
           let three : In v.slot work 3 3 (cond (at (Slot v.slot Ack) == 1) Fills Rests) ≡ next = ap (λ n. In v.slot work n n (cond (at (Slot v.slot Ack) == 1) Fills Rests)) (let z : 3 ≡ v.acked + 1 = omega arith in z) in
-          let bounds = ack_bounds_patched u p at seat source h v.slot me work count made is in
+          let bounds = ack_bounds_patched u p at seat source h v.slot me work count (plan_at u work count) is in
           let less = less_one (at (Slot v.slot Ack)) bounds.0 (ack_small (at (Slot v.slot Ack)) u.cpus h.setup.few bounds.1) in
           record {
             seat_after = next;
@@ -97,7 +97,7 @@ module _ (u : Setup) (p : StopState) (at : Word → ℕ) (seat : ℕ → Seat) (
             shows = subst (λ n. StopShows u (state_after u p at c me (Advance v (round.Acknowledge answer ran))) (put_word at (Slot v.slot Ack) n) (put seat me next) (put source me (source me))) (sym less)
                 (moved_seat (state_after u p at c me (Advance v (round.Acknowledge answer ran))) (put_word at (Slot v.slot Ack) (at (Slot v.slot Ack) - 1)) next
                 (subst (λ x. StopShows u (state_after u p at c me (Advance v (round.Acknowledge answer ran))) (put_word at (Slot v.slot Ack) (at (Slot v.slot Ack) - 1)) (put seat me x) source) three
-                (ack_subtracted_patched u p at seat source h v.slot me work count made answer is)));
+                (ack_subtracted_patched u p at seat source h v.slot me work count (plan_at u work count) answer is)));
             sits = acked_sits answer ran work loaded y (s.irq ∙ (ap irq_of is ∙ sym (le-ltb (v.acked + 1) 2 (omega arith)))) (at (Slot v.slot Ack) == 1);
           }
 

@@ -9,7 +9,7 @@ use Rattle.smp_core.proofs.Stops.Tables.{IsStopWord}
 use Rattle.smp_core.specs.Access.{at_after, word_of}
 use Rattle.smp_core.specs.Put.{put_word}
 use Rattle.smp_core.specs.Size.{cpus}
-use Rattle.smp_core.specs.Stops.Labels.{Change, count_set}
+use Rattle.smp_core.specs.Stops.Labels.{Change, count_set, patch_answer}
 use Rattle.smp_core.specs.Stops.Seats.{Alters, Closes, Fills, Gives, In, Rests, Seat, Sets, Stands, Turn}
 use Rattle.smp_core.specs.Stops.Shows.{StopShows}
 use Rattle.smp_core.specs.Stops.Sits.{HoldsGate, IsLoaded, IsThroughAll, Sits, SitsAt, SitsInCompletion, SitsInRound}
@@ -156,7 +156,7 @@ module _ (u : Setup) (p : StopState) (at : Word → ℕ) (seat : ℕ → Seat) (
               plan_named work key word false false = (key, tt)
       round_named v (round.Acknowledge answer ran) x = ⊎_elim
           (λ (y : (seat me ≡ In v.slot x.0 v.acked (v.acked + 1) Rests) × (v.acked ≡ 2 → v.kind ≡ Patch → has v.active me ≡ false)). below_in v.slot x.0 v.acked (v.acked + 1) Rests y.0)
-          (λ (y : (v.acked ≡ 2) × ((count : ℕ) × (made : List Change) × (seat me ≡ Alters v.slot x.0 count made []))). below_alters v.slot x.0 y.1.0 y.1.1 [] y.1.2) x.3
+          (λ (y : (v.acked ≡ 2) × (ran ≡ true) × ((count : ℕ) × (answer ≡ patch_answer x.0 count) × (seat me ≡ Alters v.slot x.0 count (plan_at u x.0 count) []))). below_alters v.slot x.0 y.2.0 (plan_at u x.0 y.2.0) [] y.2.2) x.3
       round_named v (round.Refill ran) x = below_in v.slot x.0 v.acked v.acked Fills x.2
       round_named v (round.Raise ran) x = below_in v.slot x.0 v.acked v.acked Sets x.2
 

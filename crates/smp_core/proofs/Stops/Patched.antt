@@ -1,6 +1,5 @@
 -- The label law: patching, and reading.
 use Rattle.std.proofs.lemmas.Bool.{cases_lt}
-use Rattle.smp_labels.specs.declared.keys.TheConstants.{MOST_COUNT}
 use Rattle.smp_labels.specs.declared.keys.Change.TheVariants.{Off, On, Up, Down}
 use Rattle.smp_labels.specs.declared.keys.Change.{Change as KeyChange}
 use Rattle.std.proofs.Common.{◌≡◌, ◌≢◌, ℕ, ◌+◌, ◌≤◌, true, false, nat_lt, ◌==◌, ◌&&◌, ◌||◌, sym, subst, refl, ap, ◌∙◌, ◌⊎◌, arith, le-ltb, eqb-true, ⊎_elim, ne_eqb, Some, None, List, [], ◌∷◌, ◌++◌, lt-ltb, IfSome, cond, ◌<◌, Bool, inl, inr}
@@ -34,13 +33,13 @@ stands_left On n = at_test n 0 (λ b. is_on (cond b 1 n) ≡ true) (λ _. refl) 
   where
     above : (n : ℕ) → n ≢ 0 → is_on n ≡ true
     above n ne = lt-ltb 0 n (let z : 0 < n = omega arith in z)
-stands_left Up n = go (nat_lt n MOST_COUNT) refl
+stands_left Up n = go (nat_lt n 65535) refl
   where
-    go : (b : Bool) → nat_lt n MOST_COUNT ≡ b → is_on (count_or n (cond b (Some (n + 1)) None)) ≡ true
+    go : (b : Bool) → nat_lt n 65535 ≡ b → is_on (count_or n (cond b (Some (n + 1)) None)) ≡ true
     go true e = lt-ltb 0 (n + 1) (omega arith)
     go false e = elim (cases_lt 0 n) [
       | inl some ↦ lt-ltb 0 n some
-      | inr none ↦ absurd (let bad : true ≡ false = sym (lt-ltb n MOST_COUNT (omega arith)) ∙ e in cc)
+      | inr none ↦ absurd (let bad : true ≡ false = sym (lt-ltb n 65535 (omega arith)) ∙ e in cc)
     ]
 stands_left Down n = tt
 

@@ -63,7 +63,7 @@ module _ (u : Setup) (p : StopState) (at : Word → ℕ) (seat : ℕ → Seat) (
   run_is (Completed a v) e = cc
 
   -- where interrupts are on, the CPU is not at phase 3
-  not_run : (s : ℕ) → p.now.irq me ≡ true → p.now.inside me ≡ Some s → is_at_run ((p.now.stop s).standing me) ≡ false
+  pub not_run : (s : ℕ) → p.now.irq me ≡ true → p.now.inside me ≡ Some s → is_at_run ((p.now.stop s).standing me) ≡ false
   not_run s on in_ = go (is_at_run ((p.now.stop s).standing me)) refl
     where
       go : (b : Bool) → is_at_run ((p.now.stop s).standing me) ≡ b → b ≡ false

@@ -12,7 +12,7 @@ use Rattle.smp_core.proofs.Stops.Rounds.{look_irq, state_loaded}
 use Rattle.smp_core.proofs.Stops.StageSteps.{put_same_fn}
 use Rattle.smp_core.specs.Access.{at_after, seen_of, word_of}
 use Rattle.smp_core.specs.Put.{put}
-use Rattle.smp_core.specs.Stops.Labels.{Change, count_set}
+use Rattle.smp_core.specs.Stops.Labels.{Change, count_set, answer_for, patch_answer}
 use Rattle.smp_core.specs.Stops.Seats.{Alters, In, Rests, Seat, irq_of}
 use Rattle.smp_core.specs.Stops.Shows.{StopShows}
 use Rattle.smp_core.specs.Stops.Sits.{IsLoaded, OwnsIf, Sits, SitsAt, SitsAtRest, SitsAtRun, SitsInRound, SourceSits, changes_of, SitsAtEntry}
@@ -193,12 +193,19 @@ module _ (u : Setup) (p : StopState) (at : Word → ℕ) (seat : ℕ → Seat) (
             (go r.0 work run (at_source (round.LoadKey key change) e) found (count_after (change_of work.arg) found) refl));
       }
     where
+      -- where the plan is empty, all of it is made
+      nothing_made : (work : Work) (found : ℕ) (o : Option ℕ) → count_after (change_of work.arg) found ≡ o → plan_of work.func found (count_or found o) u.entries ≡ [] →
+          Alters v.slot work found [] (plan_of work.func found (count_or found o) u.entries) ≡ Alters v.slot work found (plan_at u work found) []
+      nothing_made work found o e none =
+          let whole : plan_at u work found ≡ [] = ap (λ x. plan_of work.func found (count_or found x) u.entries) e ∙ none in
+          ap (λ l. Alters v.slot work found [] l) none ∙ ap (λ l. Alters v.slot work found l []) (sym whole)
+
       go : c.visit ≡ Some v → (work : Work) → SitsAtRun me v work (seat me) → OwnsIf c.is_open (source me) → (found : ℕ) (o : Option ℕ) → count_after (change_of work.arg) found ≡ o →
           Sits u me (at Gate) (key_on c v work.func found o).control (Alters v.slot work found [] (plan_of work.func found (count_or found o) u.entries)) (source me)
       go visit work run y found None e = record {
         below = s.below;
         irq = s.irq ∙ ap irq_of run.3;
-        seat = (visit, (work, run.0, (let two = run.1 in omega arith), inr (run.1, (found, [], ap (λ l. Alters v.slot work found [] l) (plan_same work.func found found u.entries (eq-eqb found found refl))))));
+        seat = (visit, (work, run.0, (let two = run.1 in omega arith), inr (run.1, refl, (found, sym (ap answer_for e), nothing_made work found None e (plan_same work.func found found u.entries (eq-eqb found found refl))))));
         source = y;
         gate_held = tt;
       }
@@ -214,7 +221,7 @@ module _ (u : Setup) (p : StopState) (at : Word → ℕ) (seat : ℕ → Seat) (
           split true z b x = record {
             below = s.below;
             irq = s.irq ∙ ap irq_of run.3;
-            seat = (visit, (work, run.0, (let two = run.1 in omega arith), inr (run.1, (found, [], ap (λ l. Alters v.slot work found [] l) (plan_same work.func found new u.entries z)))));
+            seat = (visit, (work, run.0, (let two = run.1 in omega arith), inr (run.1, refl, (found, sym (ap answer_for e), nothing_made work found (Some new) e (plan_same work.func found new u.entries z)))));
             source = y;
             gate_held = tt;
           }
@@ -359,11 +366,23 @@ module _ (u : Setup) (p : StopState) (at : Word → ℕ) (seat : ℕ → Seat) (
           gate_kept (place.Key k, n) {c'} {x} sits = sits
           gate_kept (place.Site i, n) {c'} {x} sits = sits
 
+          no_change : (before : List Change) (change : Change) → before ++ change ∷ [] ≢ []
+          no_change [] change e = cc
+          no_change (x ∷ before) change e = cc
+
+          -- a patch that stores something did not find the end of the range
+          made_some : (work : Work) (count : ℕ) → plan_at u work count ≢ [] → 0 ≡ patch_answer work count
+          made_some work count some = found (count_after (change_of work.arg) count) refl
+            where
+              found : (o : Option ℕ) → count_after (change_of work.arg) count ≡ o → 0 ≡ answer_for (count_after (change_of work.arg) count)
+              found None e = absurd (some (ap (λ o. plan_of work.func count (count_or count o) u.entries) e ∙ plan_same work.func count count u.entries (eq-eqb count count refl)))
+              found (Some new) e = sym (ap answer_for e)
+
           ends : c.visit ≡ Some v → (work : Work) (count : ℕ) → IsLoaded v work → v.acked ≡ 2 → made < length c.changes → c.changes ≡ plan_at u work count → (before : List Change) (change : Change) (rest : List Change) → c.changes ≡ before ++ change ∷ rest → length before ≡ made →
               seat me ≡ Alters v.slot work count before (change ∷ rest) → OwnsIf c.is_open (source me) → (b : Bool) → (made + 1 == length c.changes) ≡ b →
               Sits u me (at Gate) (stop_goes c (Advance v (cond b (round.Acknowledge 0 true) (round.StoreChange (made + 1))))).control (Alters v.slot work count (before ++ change ∷ []) rest) (source me)
           ends visit work count loaded two low plan before change [] are long is y true last =
-              record { below = s.below; irq = s.irq ∙ ap irq_of is; seat = (visit, (work, loaded, (let t = two in omega arith), inr (two, (count, before ++ change ∷ [], refl)))); source = y; gate_held = tt }
+              record { below = s.below; irq = s.irq ∙ ap irq_of is; seat = (visit, (work, loaded, (let t = two in omega arith), inr (two, refl, (count, made_some work count (λ none. no_change before change (sym are ∙ (plan ∙ none))), ap (λ l. Alters v.slot work count l []) (sym are ∙ plan))))); source = y; gate_held = tt }
           ends visit work count loaded two low plan before change (x ∷ rest) are long is y true last =
               absurd (let all : made + 1 ≡ length c.changes = eqb-true (made + 1) (length c.changes) last in
               let sized : length c.changes ≡ length before + length (change ∷ x ∷ rest) = ap length are ∙ length-append before (change ∷ x ∷ rest) in omega arith)

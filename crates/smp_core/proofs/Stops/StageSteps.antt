@@ -3,7 +3,7 @@ use Rattle.smp_core.proofs.Stops.Patched.{lawful_when_on}
 use Rattle.smp_labels.proofs.Patched.{left_in_form, xor_same}
 use Rattle.smp_labels.specs.Kinds.{xor}
 use Rattle.smp_labels.specs.Keys.{is_on, count_after, count_or, IsKeyWord}
-use Rattle.std.proofs.Common.{◌≡◌, ◌≢◌, ℕ, ◌+◌, ◌-◌, ◌^◌, ◌<◌, Bool, true, false, eq-eqb, eqb-true, ◌==◌, cond, sym, subst, refl, ap, ◌∙◌, arith, Option, Some, None, length}
+use Rattle.std.proofs.Common.{◌≡◌, ◌≢◌, ℕ, ◌+◌, ◌-◌, ◌^◌, ◌<◌, Bool, true, false, eq-eqb, eqb-true, ◌==◌, cond, sym, subst, refl, ap, ◌∙◌, ◌⊎◌, inl, inr, arith, nat_lt, Option, Some, None, length}
 use Rattle.smp_core.proofs.Puts.{at_test}
 use Rattle.smp_core.proofs.Stops.Facts.{work_words}
 use Rattle.smp_core.proofs.Stops.Patching.{key_read, site_read, key_exchanged}
@@ -37,6 +37,22 @@ put_kept {A} f i j = at_test j i (λ b. cond b (f i) (f j) ≡ f j) (λ e. ap f 
 
 pub put_same_fn : {A : Type 0} (f : ℕ → A) (i : ℕ) → put f i (f i) ≡ f
 put_same_fn {A} f i = λ k j. put_kept f i j k
+
+-- a nudge moves a count by one
+one_apart : (up : Bool) (n new : ℕ) → count_after (nudge_of up) n ≡ Some new → (new ≡ n + 1) ⊎ (n ≡ new + 1)
+one_apart true n new e = go (nat_lt n 65535) e
+  where
+    go : (b : Bool) → cond b (Some (n + 1)) None ≡ Some new → (new ≡ n + 1) ⊎ (n ≡ new + 1)
+    go true e = let same : n + 1 ≡ new = cc in inl (sym same)
+    go false e = cc
+one_apart false n new e = go (n == 0) refl e
+  where
+    go : (b : Bool) → (n == 0) ≡ b → cond b None (Some (n - 1)) ≡ Some new → (new ≡ n + 1) ⊎ (n ≡ new + 1)
+    go true z e = cc
+    go false z e =
+        let same : n - 1 ≡ new = cc in
+        let some : n ≢ 0 = λ none. let bad : true ≡ false = sym (eq-eqb n 0 none) ∙ z in cc in
+        inr (omega arith)
 
 pub less_one : (n : ℕ) → 0 < n → n < 2 ^ 64 → one_less n ≡ n - 1
 less_one n some small = omega arith
@@ -228,7 +244,7 @@ module _ (u : Setup) (p : StopState) (at : Word → ℕ) (seat : ℕ → Seat) (
           either false z = record {
             below = s.below;
             irq = s.irq;
-            seat = (x.0, x.1, x.2, record { same = sym (xor_same (is_on (at (Key k))) (is_on new) z); word = subst IsKeyWord (ap (count_or (at (Key k))) e) (left_in_form (nudge_of up) (at (Key k)) fits) }, x.3);
+            seat = (x.0, x.1, x.2, record { one = one_apart up (at (Key k)) new e; same = sym (xor_same (is_on (at (Key k))) (is_on new) z); word = subst IsKeyWord (ap (count_or (at (Key k))) e) (left_in_form (nudge_of up) (at (Key k)) fits) }, x.3);
             source = y;
             gate_held = tt;
           }
@@ -250,7 +266,7 @@ module _ (u : Setup) (p : StopState) (at : Word → ℕ) (seat : ℕ → Seat) (
           StopShows u (told u p me act.Cas (Key k) (Some (at (Key k))) (cond b (Some new) None) 0) (cond b (put_word at (Key k) new) at) seat source
       go online on nudge true z =
           let same = eqb-true (at (Key k)) expected z in
-          key_exchanged u p at seat source h me k (at (Key k)) new s.below online on refl record { same = nudge.same ∙ ap is_on (sym same); word = nudge.word } 0
+          key_exchanged u p at seat source h me k (at (Key k)) new s.below online on refl record { one = subst (λ n. (new ≡ n + 1) ⊎ (n ≡ new + 1)) (sym same) nudge.one; same = nudge.same ∙ ap is_on (sym same); word = nudge.word } 0
       go online on nudge false z = h
 
   -- the looks of a source

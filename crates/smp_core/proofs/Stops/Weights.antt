@@ -1,68 +1,75 @@
--- Loops over the CPUs of a mask.
-use Rattle.std.proofs.Common.{◌≡◌, ℕ, zero, suc, ◌+◌, ◌*◌, ◌%◌, ◌^◌, ◌<◌, ◌≤◌, Bool, true, false, ◌≢◌, ◌==◌, cond, ap, ◌∙◌, refl, eqb-true, eq-eqb, ne_eqb, arith}
-use Rattle.std.proofs.Math.Pow.{pow-lt}
+-- The bits of a mask: how many of them are set, and the least.
+use Rattle.std.proofs.Common.{◌≡◌, ℕ, zero, suc, ◌+◌, ◌*◌, ◌%◌, ◌^◌, ◌<◌, ◌≤◌, Bool, true, false, ◌≢◌, ◌==◌, cond, ap, sym, ◌∙◌, refl, inl, inr, eq-eqb, ne_eqb, arith, Option, Some, None}
+use Rattle.std.proofs.lemmas.Bool.{cases_lt}
 use Rattle.std.proofs.lemmas.Bool.Decides.{nat_tests}
-use Rattle.std.proofs.lemmas.Nat.{mod-pow-add}
+use Rattle.std.proofs.lemmas.Nat.{mod-pow-add, ones-le, ones_cat, pow_pos}
 use Rattle.std.proofs.lemmas.Nat.Bits.{bit_at-lt}
 use Rattle.std.specs.Int.{bit_at}
-use Rattle.smp_mask.specs.Mask.{has}
+use Rattle.std.specs.Int.Count.{ones}
+use lib.Count.{ones_step}
+use Rattle.smp_mask.specs.Mask.{has, IsLeast, FindsLeast}
 use Rattle.smp_core.specs.Stops.Counts.{sum_below, bit, mask_weight}
 use Rattle.smp_core.specs.Stops.Value.{first_below}
 
--- one CPU more
-pub weight_in : (mask k : ℕ) → has mask k ≡ true → mask_weight (k + 1) mask ≡ mask_weight k mask + 1
-unfolding sum_below
-weight_in mask k e = let f : bit (has mask k) ≡ 1 = ap bit e in let g : k + 1 ≡ suc k = omega arith in ap (λ n. mask_weight n mask) g ∙ omega arith
-
-pub weight_out : (mask k : ℕ) → has mask k ≡ false → mask_weight (k + 1) mask ≡ mask_weight k mask
-unfolding sum_below
-weight_out mask k e = let f : bit (has mask k) ≡ 0 = ap bit e in let g : k + 1 ≡ suc k = omega arith in ap (λ n. mask_weight n mask) g ∙ omega arith
-
-pub weight_none : (mask : ℕ) → mask_weight 0 mask ≡ 0
-unfolding sum_below
-weight_none mask = refl
-
-pub weight_most : (mask k : ℕ) → mask_weight k mask ≤ k
-unfolding sum_below
-weight_most mask zero = omega arith
-weight_most mask (suc k) = let m = weight_most mask k in let one = small (has mask k) in omega arith
+bit_is : (mask k : ℕ) → bit (has mask k) ≡ ones (bit_at mask k)
+bit_is mask k = let low = bit_at-lt mask k in go (bit_at mask k) low
   where
-    small : (b : Bool) → bit b ≤ 1
-    small true = omega arith
-    small false = omega arith
+    go : (b : ℕ) → b < 2 → bit (b == 1) ≡ ones b
+    go zero h = let none = ones-le 0 0 (omega arith) in omega arith
+    go (suc zero) h = let step = ones_step 1 in let none = ones-le 0 0 (omega arith) in omega arith
+    go (suc (suc b)) h = absurd (omega arith)
 
--- the low bits of a mask, with one CPU more
-pub low_in : (mask k : ℕ) → k < 64 → has mask k ≡ true → mask % 2 ^ (k + 1) ≡ mask % 2 ^ k + 1 * 2 ^ k % 2 ^ 64
-low_in mask k low e =
-    let one : bit_at mask k ≡ 1 = eqb-true (bit_at mask k) 1 e in
-    let next : k + 1 ≡ 1 + k = omega arith in
-    let p : 2 ^ k < 2 ^ 64 = pow-lt low in
-    let m = mod-pow-add mask 1 k in
-    ap (λ n. mask % 2 ^ n) next ∙ (m ∙ (ap (λ b. b * 2 ^ k + mask % 2 ^ k) one ∙ omega arith))
-
-pub low_out : (mask k : ℕ) → has mask k ≡ false → mask % 2 ^ (k + 1) ≡ mask % 2 ^ k
-low_out mask k e =
-    let none : bit_at mask k ≡ 0 = bit_none mask k e in
-    let next : k + 1 ≡ 1 + k = omega arith in
-    ap (λ n. mask % 2 ^ n) next ∙ (mod-pow-add mask 1 k ∙ (ap (λ b. b * 2 ^ k + mask % 2 ^ k) none ∙ omega arith))
-  where
-    bit_none : (n k : ℕ) → has n k ≡ false → bit_at n k ≡ 0
-    bit_none n k e = grind (arith, nat_tests, bit_at-lt n k)
+-- the members of a mask below k are as many as the ones among its low k bits
+pub weight_ones : (k mask : ℕ) → mask_weight k mask ≡ ones (mask % 2 ^ k)
+unfolding sum_below
+weight_ones zero mask = let e : mask % 1 ≡ 0 = omega arith in let none = ones-le 0 0 (omega arith) in let z : ones (mask % 1) ≡ ones 0 = ap ones e in omega arith
+weight_ones (suc k) mask =
+    let next : suc k ≡ 1 + k = omega arith in
+    let low : mask % 2 ^ k < 2 ^ k = omega (arith, pow_pos k) in
+    let top : ones (mask % 2 ^ suc k) ≡ ones (bit_at mask k * 2 ^ k + mask % 2 ^ k) = ap (λ e. ones (mask % 2 ^ e)) next ∙ ap ones (mod-pow-add mask 1 k) in
+    let one = bit_is mask k in
+    let rest = weight_ones k mask in
+    let both = ones_cat k (bit_at mask k) (mask % 2 ^ k) low in
+    omega arith
 
 -- the least CPU of a mask, with one CPU more
-next_first : (mask k : ℕ) → first_below mask (k + 1) ≡ cond (first_below mask k == k) (cond (has mask k) k (k + 1)) (first_below mask k)
+first_missing : (mask k : ℕ) → first_below mask k ≡ k → has mask k ≡ false → first_below mask (suc k) ≡ suc k
 unfolding first_below
-next_first mask k = let g : k + 1 ≡ suc k = omega arith in rw g refl
+first_missing mask k same is = let t : (first_below mask k == k) ≡ true = eq-eqb (first_below mask k) k same in rw (t, is) refl
 
-pub first_found : (mask k : ℕ) → first_below mask k ≡ k → has mask k ≡ true → first_below mask (k + 1) ≡ k
-first_found mask k same is = let t : (first_below mask k == k) ≡ true = eq-eqb (first_below mask k) k same in next_first mask k ∙ rw (t, is) refl
+first_found : (mask k : ℕ) → first_below mask k ≡ k → has mask k ≡ true → first_below mask (suc k) ≡ k
+unfolding first_below
+first_found mask k same is = let t : (first_below mask k == k) ≡ true = eq-eqb (first_below mask k) k same in rw (t, is) refl
 
-pub first_missing : (mask k : ℕ) → first_below mask k ≡ k → has mask k ≡ false → first_below mask (k + 1) ≡ k + 1
-first_missing mask k same is = let t : (first_below mask k == k) ≡ true = eq-eqb (first_below mask k) k same in next_first mask k ∙ rw (t, is) refl
+first_kept : (mask k : ℕ) → first_below mask k ≢ k → first_below mask (suc k) ≡ first_below mask k
+unfolding first_below
+first_kept mask k other = let t : (first_below mask k == k) ≡ false = ne_eqb (first_below mask k) k other in rw t refl
 
-pub first_kept : (mask k : ℕ) → first_below mask k ≢ k → first_below mask (k + 1) ≡ first_below mask k
-first_kept mask k other = let t : (first_below mask k == k) ≡ false = ne_eqb (first_below mask k) k other in next_first mask k ∙ rw t refl
-
-pub first_none : (mask : ℕ) → first_below mask 0 ≡ 0
+first_none : (mask : ℕ) → first_below mask 0 ≡ 0
 unfolding first_below
 first_none mask = refl
+
+-- where none is below k
+pub first_past : (mask k : ℕ) → ((c : ℕ) → c < k → has mask c ≡ false) → first_below mask k ≡ k
+first_past mask zero none = first_none mask
+first_past mask (suc k) none = first_missing mask k (first_past mask k (λ c low. none c (omega arith))) (none k (omega arith))
+
+-- where one is
+pub first_at : (mask n k : ℕ) → IsLeast (λ c. has mask c) n → n < k → first_below mask k ≡ n
+first_at mask n zero least low = absurd (omega arith)
+first_at mask n (suc k) least low = elim (cases_lt n k) [
+  | inl before ↦
+      let e = first_at mask n k least before in
+      first_kept mask k (λ same. omega arith) ∙ e
+  | inr from ↦
+      let here : n ≡ k = omega arith in
+      let past : first_below mask k ≡ k = first_past mask k (λ c low. missing from c low) in
+      first_found mask k past (ap (λ i. has mask i) (sym here) ∙ least.passing) ∙ sym here
+]
+  where
+    missing : k ≤ n → (c : ℕ) → c < k → has mask c ≡ false
+    missing from c low = go (has mask c) refl
+      where
+        go : (b : Bool) → has mask c ≡ b → b ≡ false
+        go false e = refl
+        go true e = absurd (omega (arith, least.least c e))

@@ -1,6 +1,6 @@
 -- The label words, and a patch in progress.
 use Rattle.std.specs.Prelude.{◌≡◌, ℕ, Bool, true, false, Option, Some, None, IfSome, List, [], ◌∷◌}
-use Rattle.smp_labels.specs.Keys.{is_on, change_of, count_left}
+use Rattle.smp_labels.specs.Keys.{is_on, change_of, count_after, count_left}
 use Rattle.smp_labels.specs.declared.keys.Change.{Change as KeyChange}
 use Rattle.smp_labels.specs.declared.keys.Change.TheVariants.{Off, On, Up, Down}
 use Rattle.smp_labels.specs.Law.{Table, IsLawful}
@@ -27,6 +27,14 @@ pub data Patching : Type 0 where
 -- the count that the patch of this work leaves where it finds this one
 abbrev pub count_set : Work → ℕ → ℕ
 count_set work count = count_left (change_of work.arg) count
+
+-- what it answers: 1 where that count stands at the end of its range, so that nothing changes, else 0
+abbrev pub answer_for : Option ℕ → ℕ
+answer_for None = 1
+answer_for (Some new) = 0
+
+abbrev pub patch_answer : Work → ℕ → ℕ
+patch_answer work count = answer_for (count_after (change_of work.arg) count)
 
 -- whether a key is on after a change, where that follows from the change alone: a count that goes down may end as either
 abbrev pub state_left : KeyChange → Option Bool

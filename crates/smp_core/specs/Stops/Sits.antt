@@ -5,7 +5,7 @@ use Rattle.smp_labels.specs.Keys.{is_on, change_of, IsKeyWord}
 use Rattle.smp_labels.specs.Plans.{patch_of, site_changes}
 use Rattle.smp_labels.specs.declared.patch.Place.TheVariants as place
 use Rattle.smp_labels.specs.declared.words.TheConstants.{MOST_SITES}
-use Rattle.smp_core.specs.Stops.Labels.{Change, count_set}
+use Rattle.smp_core.specs.Stops.Labels.{Change, count_set, patch_answer}
 use Rattle.smp_core.specs.Stops.Tells.{plan_at}
 use Rattle.smp_core.specs.Stops.Slots.{order}
 use Rattle.smp_core.specs.Stops.State.{Setup}
@@ -49,8 +49,9 @@ SitsAtPatch u v work count made x = IsLoaded v work × (v.acked ≡ 2) × (x ≡
 abbrev pub changes_of : Setup → Work → ℕ → ℕ → List Change
 changes_of u work word site = (place.Key work.func, word) ∷ site_changes work.func (is_on word) 0 (take site u.entries)
 
--- a number that may be exchanged for a key's: the key is on or off as before
+-- a number that may be exchanged for a key's: one more or one less, with which the key is on or off as before
 pub record IsNudge (found new : ℕ) : Type 0 where
+  pub one : (new ≡ found + 1) ⊎ (found ≡ new + 1)
   pub same : is_on new ≡ is_on found
   pub word : IsKeyWord new
 
@@ -75,7 +76,7 @@ SitsInRound u me changes v (round.StoreChange made) x =
 SitsInRound u me changes v (round.Acknowledge answer ran) x =
     (work : Work) × IsLoaded v work × (v.acked ≤ 3) ×
     (((x ≡ In v.slot work v.acked (v.acked + 1) Rests) × (v.acked ≡ 2 → v.kind ≡ Patch → has v.active me ≡ false)) ⊎
-    ((v.acked ≡ 2) × ((count : ℕ) × (made : List Change) × (x ≡ Alters v.slot work count made []))))
+    ((v.acked ≡ 2) × (ran ≡ true) × ((count : ℕ) × (answer ≡ patch_answer work count) × (x ≡ Alters v.slot work count (plan_at u work count) []))))
 SitsInRound u me changes v (round.Refill ran) x = SitsIn v v.acked Fills x
 SitsInRound u me changes v (round.Raise ran) x = SitsIn v v.acked Sets x
 

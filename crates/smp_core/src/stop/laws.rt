@@ -3,7 +3,7 @@
 //! They speak of any number of CPUs and of any words that show stops, so that they hold of the pure machine and of
 //! words that threads share alike.
 
-ghost use Rattle.smp_core.specs.Stops.Promises.{NothingBegun, StepsAreTold, KeepThePhaseLaw, KeepTheCountLaw, KeepTheFunctionLaw, KeepTheLabelLaw, PatchesAlone};
+ghost use Rattle.smp_core.specs.Stops.Promises.{NothingBegun, StepsAreTold, KeepThePhaseLaw, KeepTheCountLaw, KeepTheFunctionLaw, KeepTheLabelLaw, PatchesAlone, KeysStandOutsidePatches, NudgesStand, EdgesAreRead, PatchesAnswer, OwnPatchesAreRead};
 
 /// Words with a free gate, free slots and a lawful label table with all keys off show that no stop was begun.
 pub fn nothing_is_begun()
@@ -42,4 +42,32 @@ pub fn count_law()
 /// While a patch runs, every online CPU has interrupts off, so that none nudges a count.
 pub fn patches_alone()
     ensures { PatchesAlone }
+{}
+
+/// While nobody patches, no step of any CPU turns a key on or off or changes a site: a nudge keeps both.
+pub fn keys_stand()
+    ensures { KeysStandOutsidePatches }
+{}
+
+/// A CPU that nudges is online and has its interrupts on, so that nobody patches; it moves a count that is above 0 up or
+/// down by one, to one that is above 0.
+pub fn nudges_stand()
+    ensures { NudgesStand }
+{}
+
+/// A nudge is refused at the end of the range only where its load has found the count there, which is a reading: up at
+/// 65,535, and the key is on; down at 0, and it is off.
+pub fn edges_are_read()
+    ensures { EdgesAreRead }
+{}
+
+/// A patch acknowledges when it has made all stores that lead from the count that it found. Its answer is 1 where that
+/// count stands at the end of its range, where it stores nothing, else 0.
+pub fn patches_answer()
+    ensures { PatchesAnswer }
+{}
+
+/// A CPU that leaves its own patch has read the key: off after change 0, on after 1 and 2, and nothing after 3.
+pub fn own_patches_are_read()
+    ensures { OwnPatchesAreRead }
 {}

@@ -21,13 +21,7 @@ pub fn has_bit(mask: u64, cpu: u32) -> bool
 pub fn weight(mask: u64) -> u64
     ensures { result ≡ mask_weight cpus mask }
 {
-    let mut count = 0;
-    for cpu in 0..NR_CPUS {
-        if has_bit(mask, cpu) {
-            count += 1;
-        }
-    }
-    count
+    u64::from((mask % (1 << NR_CPUS)).count_ones())
 }
 
 /// The least CPU in a mask, or the number of CPUs where it has none.
@@ -35,26 +29,15 @@ pub fn first_of(mask: CpuMask) -> u32
     ensures least { result ≡ first_below mask cpus }
     ensures within { result ≤ cpus }
 {
-    let mut first = 0;
-    for cpu in 0..NR_CPUS {
-        if first == cpu && !mask.contains(cpu) {
-            first += 1;
-        }
+    match mask.first() {
+        Some(cpu) => cpu,
+        None => NR_CPUS,
     }
-    first
 }
 
 /// A mask as the word of a slot has it.
 pub fn mask_word(mask: CpuMask) -> u64
     ensures { result ≡ mask }
 {
-    // that a mask has no more bits than there are CPUs
-    let _members = mask.weight();
-    let mut word = 0;
-    for cpu in 0..NR_CPUS {
-        if mask.contains(cpu) {
-            word += 1 << cpu;
-        }
-    }
-    word
+    u64::from(mask.bits())
 }

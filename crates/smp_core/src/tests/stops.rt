@@ -144,6 +144,32 @@ fn slots_are_entered_once_and_begun_once(rt: HostRuntime) -> Result<(), Fail> {
     Ok(())
 }
 
+// The first eight slots may be entered whatever CPUs there are, and the others where there is such a CPU.
+#[test]
+fn slots_are_those_of_the_cpus(rt: HostRuntime) -> Result<(), Fail> {
+    let alloc = rt.alloc();
+    let first = CpuMask::of(0)?;
+    let of_all = [
+        Goes(8, Command::Gate, 1, Note::Gate),
+        Goes(8, work(Kind::Multi, first, first, 1, 0), 11, Note::Begun),
+        Goes(0, Command::Enter(8), 4, Note::Entered),
+        Goes(1, Command::Enter(31), 1, Note::Stale),
+        Refused(1, Command::Enter(32), SmpError::Stale),
+    ];
+    assert_eq!(rt; first_fault(&mut core_of(alloc, 32)?, &of_all)?, None);
+    let of_nine = [
+        Goes(0, Command::Enter(8), 1, Note::Stale),
+        Refused(0, Command::Enter(9), SmpError::Stale),
+    ];
+    assert_eq!(rt; first_fault(&mut core_of(alloc, 9)?, &of_nine)?, None);
+    let of_two = [
+        Goes(0, Command::Enter(7), 1, Note::Stale),
+        Refused(0, Command::Enter(8), SmpError::Stale),
+    ];
+    assert_eq!(rt; first_fault(&mut core_of(alloc, 2)?, &of_two)?, None);
+    Ok(())
+}
+
 // Stops of one CPU each, by two CPUs for each other.
 fn two_single_stops() -> Result<[Line; 8], SmpError> {
     let none = CpuMask::empty();

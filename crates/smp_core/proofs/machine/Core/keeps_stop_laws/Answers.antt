@@ -2,7 +2,7 @@ use Rattle.smp_core.specs.Size.{cpus}
 use Rattle.smp_core.specs.Stops.Table.{stop_number}
 use Rattle.smp_core.specs.declared.word.Word.TheVariants.{Slot}
 use Rattle.smp_core.proofs.Stops.Ends.{function_law}
-use Rattle.smp_core.proofs.Stops.Patched.{all_off, lawful_when_on}
+use Rattle.smp_core.proofs.Stops.Patched.{all_off, lawful_when_on, off_while_patched}
 use Rattle.smp_core.proofs.Stops.Raises.{phase_law}
 use Rattle.smp_core.proofs.machine.Core.keeps_stop_laws.Goals as goal
 
@@ -17,6 +17,7 @@ returns g c p shown =
         law = function_law cpus (p.now.stop s) (λ f. at (Slot s f)) (h.present.slots s) me is;
         all_off = all_off _ p.now at shown.seat h.present s me is;
       };
+      patches = λ d work count made rest is me online. off_while_patched _ p.now at shown.seat h.present me online d work count made rest is;
       counts = h.counts;
       labels = λ me online on. record { lawful = lawful_when_on _ p.now at shown.seat h.present me online on; agrees = h.present.read me online on };
     }

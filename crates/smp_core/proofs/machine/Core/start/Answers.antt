@@ -5,7 +5,7 @@ use Rattle.smp_core.specs.Size.{cpus}
 use Rattle.smp_core.specs.Calls.{CallState}
 use Rattle.smp_core.specs.Start.{FitsCommand, refusal_of, first_stage, control_at}
 use Rattle.smp_core.specs.Value.{CoreValue, ValuesShow, control_of, outside}
-use Rattle.smp_core.proofs.Starts.{may_start, names_record, started_shown, started_online, start_below}
+use Rattle.smp_core.proofs.Starts.{may_start, names_record, started_shown, started_nr, started_online, start_below}
 use Rattle.smp_core.proofs.machine.Core.start.Goals as goal
 use Rattle.smp_core.proofs.machine.Core.start.Given as given
 
@@ -56,6 +56,7 @@ invariant_of-self g c =
         calls = c.self.invariant.table.calls;
         shown = shown_after g c.before c.self.invariant.table.calls c.self.invariant.table.shown;
       };
+      stops_nr = rw c.start.ensures.started (started_nr c.self.inside.stops c.args.cpu c.args.command ∙ c.self.invariant.stops_nr);
       stops_online = rw c.start.ensures.started (started_online c.self.inside.stops c.args.cpu c.args.command ∙ c.self.invariant.stops_online);
     }
 
