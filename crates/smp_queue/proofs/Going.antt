@@ -1,5 +1,5 @@
 -- A step of a CPU inside handle that tells nothing of the calls: where it stands then, and what it knows.
-use Rattle.std.proofs.Common.{◌≡◌, ℕ, ◌%◌, ◌^◌, ◌≤◌, ◌<◌, Option, Some, None, List, length, refl, ap, ◌∙◌, sym, subst}
+use Rattle.std.proofs.Common.{◌≡◌, ℕ, ◌%◌, ◌^◌, Option, Some, None, List, length, refl, ap, ◌∙◌, sym, subst}
 use Rattle.atomic_table.specs.Seated.{TableId}
 use Rattle.smp_core.specs.Access.{word_of}
 use Rattle.smp_core.specs.Drains.{record_at, unlink_after, handle_outcome, by_class, FitsFound, reverse_on, first_on, second_on}
@@ -8,11 +8,10 @@ use Rattle.smp_queue.specs.declared.handler.Heard.{Heard}
 use Rattle.smp_queue.specs.Handling.{HasRunAll}
 use Rattle.smp_core.specs.Known.{known_told, known_access, Moment, Lives}
 use Rattle.smp_core.specs.Handling.{goes_known}
-use Rattle.smp_core.proofs.Handling.{lives_then, lives_fits, next_found_is, func_found_is, info_found_is, next_stored_is, flags_found_is, lives_locked}
+use Rattle.smp_core.proofs.Handling.{lives_then, lives_fits, next_found_is, func_found_is, info_found_is, flags_found_is, lives_locked}
 use Rattle.smp_core.specs.declared.known.Known.{Known}
 use Rattle.smp_core.specs.declared.word.Word.{Word}
 use Rattle.smp_core.specs.declared.word.Word.TheVariants.{Flags, Func, Info, Next}
-use Rattle.smp_core.specs.declared.access.Access.TheVariants.{Load}
 use Rattle.smp_core.specs.declared.seen.Act.TheVariants as act
 use Rattle.smp_core.specs.declared.handle.Walk.{Walk}
 use Rattle.smp_core.specs.declared.call.Class.TheVariants.{Sync}

@@ -1,4 +1,4 @@
-use Rattle.std.proofs.Common.{◌≡◌, ℕ, Option, Some, List, refl, ap, ◌∙◌, sym, subst}
+use Rattle.std.proofs.Common.{ℕ, Option, Some, refl, ap, ◌∙◌, sym, subst}
 use Rattle.smp_core.specs.Drains.{record_at, first_on, by_class}
 use Rattle.smp_core.specs.declared.access.Access.TheVariants as access
 use Rattle.smp_core.specs.declared.call.Class.{Class}
