@@ -1,11 +1,21 @@
 -- How many calls of a batch are ahead of a CPU that goes along its chain.
-use Rattle.std.proofs.Common.{◌≡◌, ◌≢◌, ℕ, suc, ◌+◌, ◌==◌, cond, Option, Some, None, List, [], ◌∷◌, ◌++◌, length, sym, subst, refl, ap, ◌∙◌, arith, append_assoc}
-use Rattle.smp_core.specs.Drains.{link_to}
+use Rattle.std.proofs.Common.{◌≡◌, ◌≢◌, ℕ, suc, ◌+◌, ◌==◌, ◌<◌, cond, Option, Some, None, List, [], ◌∷◌, ◌++◌, length, sym, subst, refl, ap, ◌∙◌, arith, append_assoc}
+use Rattle.atomic_table.specs.Seated.{TableId}
+use Rattle.smp_core.specs.Drains.{DrainValue, link_to, record_at}
+use Rattle.smp_core.specs.Known.{Moment}
 use Rattle.smp_core.specs.Places.{IsApart}
-use Rattle.smp_core.specs.Words.{Path}
+use Rattle.smp_core.specs.Stands.{Share, Walks}
+use Rattle.smp_core.specs.Words.{Path, last_batch, nexts_in}
 use Rattle.smp_core.proofs.Alls.{every_right}
+use Rattle.smp_core.proofs.Handling.{lives_then, lives_stands}
 use Rattle.smp_core.proofs.Turns.{put_here, put_else}
+use Rattle.smp_core.proofs.Walks.{link_back, same_record}
 use Rattle.smp_core.specs.declared.call.Call.{Call}
+use Rattle.smp_core.specs.declared.handle.Walk.{Walk}
+use Rattle.smp_core.specs.declared.handle.HandleStage.TheVariants as handle
+use Rattle.smp_core.specs.declared.known.Running.TheVariants.{Nothing}
+use Rattle.smp_core.specs.declared.word.Word.TheVariants.{Next}
+use Rattle.smp_queue.specs.Desk.{Desk, InHandle}
 
 -- the calls from this record on
 abbrev pub left_from : Option ℕ → List Call → ℕ
@@ -26,3 +36,32 @@ left_next nexts (Some id) passed [] l a = absurd (let e : id + 1 ≡ 0 = l in om
 left_next nexts (Some id) passed (x ∷ xs) l a =
     let same : x.id ≡ id = (let e = l.0 in omega arith) in
     subst (λ (k : ℕ). left_from (Some k) (passed ++ x ∷ xs) ≡ length (x ∷ xs)) same (left_here passed x xs a)
+
+-- from one record to the record that it leads to, there is one call less
+walks_less : (nexts : ℕ → ℕ) (s : Share) (d : DrainValue) (walk : Walk) (id n : ℕ) (call : Call) (rest : List Call) → Walks nexts s d walk (id + 1) [] (call ∷ rest) Nothing → n ≡ nexts id →
+    left_from (record_at n) s.last < left_from (Some id) s.last
+walks_less nexts s d walk id n call rest w found =
+    let same : call.id ≡ id = same_record id call w.leads_on.0 in
+    let whole : s.last ≡ (w.passed ++ call ∷ []) ++ rest = w.whole ∙ sym (append_assoc w.passed (call ∷ []) rest) in
+    let leads : Path nexts (link_to (record_at n)) rest 0 = subst (λ (k : ℕ). Path nexts k rest 0) (ap nexts same ∙ (sym found ∙ sym (link_back n))) w.leads_on.1 in
+    let from_here : left_from (Some id) s.last ≡ suc (length rest) =
+    ap (left_from (Some id)) w.whole ∙ subst (λ (k : ℕ). left_from (Some k) (w.passed ++ call ∷ rest) ≡ suc (length rest)) same (left_here w.passed call rest (subst IsApart w.whole w.apart)) in
+    let from_next : left_from (record_at n) s.last ≡ length rest =
+    ap (left_from (record_at n)) whole ∙ left_next nexts (record_at n) (w.passed ++ call ∷ []) rest leads (subst IsApart whole w.apart) in
+    omega arith
+
+-- the same at the load of the link
+pub ahead_less : (t : TableId) (d : Desk) (walk : Walk) (id n : ℕ) → InHandle t d (handle.LoadNext walk id) → Moment d.known (Next id) n →
+    left_from (record_at n) (last_batch d.known.taken) < left_from (Some id) (last_batch d.known.taken)
+ahead_less t d walk id n at m =
+    let live = lives_then d.known (Next id) n m in
+    let k = lives_stands d.known live (handle.LoadNext walk id) at.stage_is in
+    walks_less (nexts_in m.at) (record { last = last_batch d.known.taken; batch = d.known.batch; running = d.known.running; accepted = d.known.accepted }) d.known.drain walk id n k.0 k.1 k.2 m.number_is
+
+-- and so it is when the CPU has run the call, for it has taken no queue since
+pub ahead_then : (taken taken' : List (List Call)) (here next : Option ℕ) (id n : ℕ) → here ≡ Some id → next ≡ record_at n → taken' ≡ taken → left_from (record_at n) (last_batch taken) < left_from (Some id) (last_batch taken) →
+    left_from next (last_batch taken') < left_from here (last_batch taken)
+ahead_then taken taken' here next id n e f t l =
+    subst (λ (x : Option ℕ). left_from next (last_batch taken') < left_from x (last_batch taken)) (sym e)
+    (subst (λ (x : Option ℕ). left_from x (last_batch taken') < left_from (Some id) (last_batch taken)) (sym f)
+    (subst (λ (x : List (List Call)). left_from (record_at n) (last_batch x) < left_from (Some id) (last_batch taken)) (sym t) l))

@@ -3,7 +3,7 @@ use Rattle.std.proofs.Common.{◌≡◌, ℕ, ◌<◌, ◌==◌, true, false, co
 use Rattle.std.proofs.lemmas.List.{append_cancel_left}
 use Rattle.atomic_table.specs.Seated.{TableId}
 use Rattle.smp_core.specs.Size.{cpus}
-use Rattle.smp_core.specs.Order.{order, sync_calls, async_calls}
+use Rattle.smp_core.specs.Order.{order}
 use Rattle.smp_core.specs.declared.known.Running.TheVariants.{Nothing}
 use Rattle.smp_core.specs.Words.{last_batch}
 use Rattle.std.specs.List.{FoldsTo}

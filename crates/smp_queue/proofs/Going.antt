@@ -1,17 +1,17 @@
 -- A step of a CPU inside handle that tells nothing of the calls: where it stands then, and what it knows.
-use Rattle.std.proofs.Common.{◌≡◌, ℕ, ◌^◌, ◌≤◌, ◌<◌, Option, Some, None, List, length, ◌%◌, refl, ap, ◌∙◌, sym, subst}
+use Rattle.std.proofs.Common.{◌≡◌, ℕ, ◌%◌, ◌^◌, Option, Some, None, List, length, refl, ap, ◌∙◌, sym, subst}
 use Rattle.atomic_table.specs.Seated.{TableId}
 use Rattle.smp_core.specs.Access.{word_of}
-use Rattle.smp_core.specs.Drains.{record_at, unlink_after, handle_outcome, FitsFound, reverse_on, second_on}
+use Rattle.smp_core.specs.Drains.{record_at, unlink_after, handle_outcome, by_class, FitsFound, reverse_on, first_on, second_on}
+use Rattle.smp_core.specs.Flags.{class_of}
 use Rattle.smp_queue.specs.declared.handler.Heard.{Heard}
 use Rattle.smp_queue.specs.Handling.{HasRunAll}
 use Rattle.smp_core.specs.Known.{known_told, known_access, Moment, Lives}
 use Rattle.smp_core.specs.Handling.{goes_known}
-use Rattle.smp_core.proofs.Handling.{lives_then, lives_fits, next_found_is, func_found_is, info_found_is, next_stored_is, flags_found_is}
+use Rattle.smp_core.proofs.Handling.{lives_then, lives_fits, next_found_is, func_found_is, info_found_is, flags_found_is, lives_locked}
 use Rattle.smp_core.specs.declared.known.Known.{Known}
 use Rattle.smp_core.specs.declared.word.Word.{Word}
 use Rattle.smp_core.specs.declared.word.Word.TheVariants.{Flags, Func, Info, Next}
-use Rattle.smp_core.specs.declared.access.Access.TheVariants.{Load}
 use Rattle.smp_core.specs.declared.seen.Act.TheVariants as act
 use Rattle.smp_core.specs.declared.handle.Walk.{Walk}
 use Rattle.smp_core.specs.declared.call.Class.TheVariants.{Sync}
@@ -99,3 +99,29 @@ module _ (t : TableId) (d d1 d2 : Desk) (walk : Walk) (id : ℕ) (next : Option 
 
     pub sync_goes : (h : HandleStage) → unlink_after walk.last walk (record { id = id; class = Sync; func = func; info = info }) next ≡ h → InHandle t d2 h
     sync_goes h e = in_handle_then t d2 h (goes_known (handle.LoadInfo walk id next func) info (goes_known (handle.LoadFunc walk id next) func d.known)) at.sized l2.table_is l2.lives sync_known (ap (λ (x : HandleStage). Some (Handle x)) e)
+
+-- a CPU in its first pass, between two records
+pub record Running1 {H : Type 0} (leads : H → Heard → H → Type 0) (t : TableId) (before d : Desk) (walk : Walk) (here : Option ℕ) (counts : List ℕ) (first now : H) : Type 0 where
+  pub at : InHandle t d (first_on walk here)
+  pub ran : HasRunAll leads before d counts first now
+
+-- two loads after one another, by which a CPU in its first pass learns the class of a record
+module _ (t : TableId) (d d1 d2 : Desk) (walk : Walk) (id n flags : ℕ) (at : InHandle t d (handle.LoadNext walk id)) (l1 : HasLoad t d d1 (Next id) n) where
+  pub sync_flags_at : InHandle t d1 (handle.LoadFlags walk id (record_at n))
+  sync_flags_at = next_goes t d d1 (handle.LoadNext walk id) at id n (handle.LoadFlags walk id (record_at n)) l1 refl
+
+  module _ (l2 : HasLoad t d1 d2 (Flags id) flags) where
+    found_lock : flags % 2 ≡ 1
+    found_lock = ap (λ (k : ℕ). k % 2) l2.moment.number_is ∙ lives_locked d1.known (lives_then d1.known (Flags id) flags l2.moment) walk id (record_at n) sync_flags_at.stage_is
+
+    class_known : d2.known ≡ goes_known (handle.LoadFlags walk id (record_at n)) flags (goes_known (handle.LoadNext walk id) n d.known)
+    class_known =
+        l2.known_is ∙ (flags_found_is d1.known (handle.LoadFlags walk id (record_at n)) id flags sync_flags_at.stage_is found_lock
+        ∙ ap (goes_known (handle.LoadFlags walk id (record_at n)) flags) (next_known t d d1 (handle.LoadNext walk id) at id n l1))
+
+    pub class_goes : (h : HandleStage) → by_class (class_of flags) walk id (record_at n) ≡ h → InHandle t d2 h
+    class_goes h e = in_handle_then t d2 h (goes_known (handle.LoadFlags walk id (record_at n)) flags (goes_known (handle.LoadNext walk id) n d.known)) at.sized l2.table_is l2.lives class_known
+        (ap (λ (x : HandleStage). Some (Handle x)) e)
+
+    pub class_kept : d2.known ≡ record (d.known) { stage = d2.known.stage }
+    class_kept = class_known ∙ ap (λ (x : Option Stage). record (d.known) { stage = x }) (sym (ap (λ (u : Known). u.stage) class_known))

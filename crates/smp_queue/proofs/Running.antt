@@ -1,5 +1,5 @@
 -- A CPU that runs its batch: what it knows after each call.
-use Rattle.std.proofs.Common.{◌≡◌, ℕ, ◌+◌, ◌%◌, ◌^◌, ◌<◌, Option, List, [], ◌∷◌, ◌++◌, length, length-set, get_or, set, append-nil, append_assoc, sym, refl, ap, ◌∙◌, subst, inl, inr, arith}
+use Rattle.std.proofs.Common.{◌≡◌, ℕ, ◌+◌, ◌%◌, ◌^◌, ◌<◌, Option, List, [], ◌∷◌, ◌++◌, length, length-set, get_or, set, append-nil, append_assoc, sym, refl, ap, ◌∙◌, inl, inr, arith}
 use Rattle.std.proofs.lemmas.List.{get_or-set_same, get_or-set_other}
 use Rattle.std.proofs.lemmas.Bool.{cases_eq}
 use Rattle.std.proofs.lemmas.Fn.{FoldsTo-push}

@@ -1,6 +1,4 @@
-use Rattle.std.proofs.Common.{◌≡◌, ◌+◌, refl, ap, ◌∙◌, sym, arith}
-use Rattle.smp_core.specs.declared.known.Known.{Known}
-use Rattle.smp_queue.proofs.Going.{Reversing}
+use Rattle.std.proofs.Common.{refl, sym}
 use Rattle.smp_queue.proofs.reverse.reverse.Goals as goal
 
 pub loop-next-init : goal.loop-next-init

@@ -1,5 +1,5 @@
-use Rattle.std.proofs.Common.{◌≡◌, ℕ, ◌+◌, ◌<◌, Option, Some, None, refl, ap, ◌∙◌, sym, subst}
-use Rattle.smp_core.specs.Drains.{DrainValue, link_to, record_at, reverse_on}
+use Rattle.std.proofs.Common.{ℕ, ◌+◌, ◌<◌, Option, Some, refl, ap, ◌∙◌, sym, subst}
+use Rattle.smp_core.specs.Drains.{record_at, reverse_on}
 use Rattle.smp_core.specs.Handling.{goes_known}
 use Rattle.smp_core.specs.declared.size.TheConstants.{MOST_CALLS}
 use Rattle.smp_core.proofs.Handling.{lives_fits, next_stored_is}

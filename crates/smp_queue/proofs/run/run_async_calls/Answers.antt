@@ -1,5 +1,5 @@
-use Rattle.std.proofs.Common.{◌≡◌, ℕ, Option, Some, refl, ap, ◌∙◌, sym, subst}
-use Rattle.smp_core.specs.Drains.{record_at, second_on}
+use Rattle.std.proofs.Common.{ℕ, Option, refl, ◌∙◌, sym, subst}
+use Rattle.smp_core.specs.Drains.{second_on}
 use Rattle.smp_core.specs.declared.access.Access.TheVariants as access
 use Rattle.smp_core.specs.declared.word.Word.TheVariants as word
 use Rattle.smp_core.specs.declared.handle.HandleStage.TheVariants as handle

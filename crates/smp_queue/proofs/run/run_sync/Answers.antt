@@ -7,7 +7,6 @@ use Rattle.smp_core.proofs.Sizes.{owner-below}
 use Rattle.smp_core.proofs.Handling.{lives_stands, lives_front}
 use Rattle.smp_core.specs.declared.known.Known.{Known}
 use Rattle.smp_core.specs.declared.handle.HandleStage.TheVariants as handle
-use Rattle.smp_queue.specs.Desk.{InHandle}
 use Rattle.smp_queue.specs.Handling.{heard}
 use Rattle.smp_queue.proofs.Running.{tally_running, has_run}
 use Rattle.smp_queue.proofs.run.run_sync.Goals as goal

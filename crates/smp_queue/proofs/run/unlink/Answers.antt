@@ -1,5 +1,5 @@
-use Rattle.std.proofs.Common.{◌≡◌, ℕ, Option, Some, None, refl, ap, ◌∙◌, sym, subst}
-use Rattle.smp_core.specs.Drains.{unlink_after, link_to}
+use Rattle.std.proofs.Common.{ℕ, Option, refl, ap, sym}
+use Rattle.smp_core.specs.Drains.{unlink_after}
 use Rattle.smp_core.specs.declared.call.Call.{Call}
 use Rattle.smp_core.specs.declared.call.Class.TheVariants.{Sync}
 use Rattle.smp_core.specs.declared.access.Access.TheVariants as access
