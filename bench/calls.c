@@ -2,10 +2,15 @@
  * The steps of cross-processor calls in plain C, to compare times with: the same words, the same steps in the same
  * order, the same waiting, all atomics sequentially consistent. No proof covers this file, and it refuses less.
  *
- *   cc -O2 -pthread -o calls bench/calls.c     (with -DCLOSE head, interrupt and handling words lie side by side and
- *                                               not on cache lines of their own; with -DLOOK a CPU looks at its
- *                                               interrupt word first)
+ *   cc -O2 -pthread -o calls bench/calls.c
  *   ./calls time|count THREADS LIMIT [WORKLOAD]     as crates/smp_bench
+ *
+ * Other layouts and steps, to see what they cost:
+ *   -DAPART=N    head, interrupt and handling words begin N words apart (1: side by side)
+ *   -DSTRIDE=N   records begin N words apart (4: side by side)
+ *   -DROWS=N     the tallies of two CPUs begin N words apart (64: side by side)
+ *   -DSHIFT=N    the words begin at the Nth word of a cache line
+ *   -DLOOK       a CPU looks at its interrupt word first
  */
 #define _GNU_SOURCE
 #include <pthread.h>
@@ -18,32 +23,41 @@
 #include <string.h>
 #include <time.h>
 
-enum { CPUS = 8, RECORDS_OF_ONE = 12, RECORDS = CPUS * RECORDS_OF_ONE };
+enum { CPUS = 32, FIRST_TARGETS = 8, FIRST_OF_ONE = 12, MORE_OF_ONE = CPUS - FIRST_TARGETS };
+enum { FIRST_RECORDS = CPUS * FIRST_OF_ONE, RECORDS = FIRST_RECORDS + CPUS * MORE_OF_ONE };
 enum { LOCK = 1, ASYNC = 0, SYNC = 16 };
 enum { FUNC = 7, INFO = 42 };
-enum { SYNC_RECORD = 0, ASYNC_RECORD = 1, MANY_RECORD = 2, USER_RECORD = 10 };
+enum { SYNC_RECORD = 0, ASYNC_RECORD = 1, USER_RECORD = 10 };
 
-#ifdef CLOSE
-enum { APART = 1 };
-#else
-enum { APART = 8 };
+#ifndef APART
+#define APART 8
+#endif
+#ifndef STRIDE
+#define STRIDE 16
+#endif
+#ifndef ROWS
+#define ROWS 72
+#endif
+#ifndef SHIFT
+#define SHIFT 0
 #endif
 
 /* Where the words lie. */
 enum {
+	LINE = 8,
 	HEAD = 0,
 	INTR = HEAD + CPUS * APART,
 	HAND = INTR + CPUS * APART,
 	QUEUED = HAND + CPUS * APART,
-	RAN = QUEUED + CPUS * CPUS,
-	RECORD = RAN + CPUS * CPUS,
-	WORDS = RECORD + 4 * RECORDS
+	RAN = QUEUED + CPUS,
+	RECORD = QUEUED + CPUS * ROWS,
+	WORDS = RECORD + STRIDE * RECORDS
 };
 
 typedef _Atomic uint64_t word;
 
 struct cpu {
-	word *words;
+	_Alignas(64) word *words;
 	uint32_t number;
 	uint64_t queued[CPUS];
 	uint64_t ran[CPUS];
@@ -53,7 +67,23 @@ struct cpu {
 static word *head_of(struct cpu *me, uint32_t c) { return &me->words[HEAD + APART * c]; }
 static word *intr_of(struct cpu *me, uint32_t c) { return &me->words[INTR + APART * c]; }
 static word *hand_of(struct cpu *me, uint32_t c) { return &me->words[HAND + APART * c]; }
-static word *record_of(struct cpu *me, uint32_t r) { return &me->words[RECORD + 4 * r]; }
+static word *queued_of(struct cpu *me, uint32_t d) { return &me->words[QUEUED + ROWS * me->number + d]; }
+static word *ran_of(struct cpu *me, uint32_t s) { return &me->words[RAN + ROWS * me->number + s]; }
+static word *record_of(struct cpu *me, uint32_t r) { return &me->words[RECORD + STRIDE * r]; }
+
+/* The record of this source with the local number k, and the source of a record. */
+static uint32_t id_of(uint32_t source, uint32_t k)
+{
+	return k < FIRST_OF_ONE ? FIRST_OF_ONE * source + k : FIRST_RECORDS + MORE_OF_ONE * source + (k - FIRST_OF_ONE);
+}
+
+static uint32_t owner_of(uint32_t id)
+{
+	return id < FIRST_RECORDS ? id / FIRST_OF_ONE : (id - FIRST_RECORDS) / MORE_OF_ONE;
+}
+
+/* The record for calls to many with this destination. */
+static uint32_t many_record(uint32_t to) { return to < FIRST_TARGETS ? to + 2 : to + 4; }
 
 /* What crossbeam's Backoff does: spins 1, 2, .. 64 times, then yields. */
 static void snooze(uint32_t *step)
@@ -68,20 +98,24 @@ static void snooze(uint32_t *step)
 }
 
 /* The function of all calls. */
-static void call(struct cpu *me) { me->heard += 1; }
+static void call(struct cpu *me, uint32_t source, uint16_t func, uint64_t info)
+{
+	(void)source, (void)func, (void)info;
+	me->heard += 1;
+}
 
 /* done k */
 static bool is_done(struct cpu *me, uint32_t k)
 {
-	return !(atomic_load(&record_of(me, RECORDS_OF_ONE * me->number + k)[0]) & LOCK);
+	return !(atomic_load(&record_of(me, id_of(me->number, k))[0]) & LOCK);
 }
 
 /* post k dst class func info: 1 where an interrupt is owed, 0 where not, -1 where the record is locked or the tries
  * are used up */
 static int post(struct cpu *me, uint32_t k, uint32_t dst, uint64_t class, uint32_t tries)
 {
-	uint32_t id = RECORDS_OF_ONE * me->number + k, step = 0;
-	word *record = record_of(me, id), *queued = &me->words[QUEUED + CPUS * me->number + dst];
+	uint32_t id = id_of(me->number, k), step = 0;
+	word *record = record_of(me, id), *queued = queued_of(me, dst);
 	if (atomic_load(&record[0]) & LOCK)
 		return -1;
 	atomic_store(&record[0], LOCK + class);
@@ -107,23 +141,71 @@ static int post(struct cpu *me, uint32_t k, uint32_t dst, uint64_t class, uint32
 /* send dst */
 static void send(struct cpu *me, uint32_t dst) { atomic_store(intr_of(me, dst), 1); }
 
-struct loaded {
-	uint32_t id;
-	uint16_t func;
-	uint64_t info;
-};
-
 static void count_one(struct cpu *me, uint32_t source)
 {
 	me->ran[source] += 1;
-	atomic_store(&me->words[RAN + CPUS * me->number + source], me->ran[source]);
+	atomic_store(ran_of(me, source), me->ran[source]);
+}
+
+/* Turns the chain of a batch: its oldest record, as a link, and how many it has. */
+static uint64_t reverse(struct cpu *me, uint64_t link, uint32_t *calls)
+{
+	uint64_t newer = 0;
+	while (link != 0) {
+		word *record = record_of(me, link - 1);
+		uint64_t older = atomic_load(&record[3]);
+		atomic_store(&record[3], newer);
+		newer = link;
+		link = older;
+		*calls += 1;
+	}
+	return newer;
+}
+
+/* First pass: runs the SYNC calls, and takes their records out of the chain: the first record that is left. */
+static uint64_t run_sync(struct cpu *me, uint64_t first)
+{
+	uint64_t last = 0, next;
+	for (uint64_t link = first; link != 0; link = next) {
+		word *record = record_of(me, link - 1);
+		next = atomic_load(&record[3]);
+		if (!(atomic_load(&record[0]) & SYNC)) {
+			last = link;
+			continue;
+		}
+		uint16_t func = atomic_load(&record[1]);
+		uint64_t info = atomic_load(&record[2]);
+		if (last == 0)
+			first = next;
+		else
+			atomic_store(&record_of(me, last - 1)[3], next);
+		atomic_store(hand_of(me, me->number), link + 1);
+		call(me, owner_of(link - 1), func, info);
+		count_one(me, owner_of(link - 1));
+		atomic_store(&record[0], 0);
+	}
+	return first;
+}
+
+/* Second pass: runs the ASYNC calls that are left. */
+static void run_async(struct cpu *me, uint64_t first)
+{
+	uint64_t next;
+	for (uint64_t link = first; link != 0; link = next) {
+		word *record = record_of(me, link - 1);
+		next = atomic_load(&record[3]);
+		uint16_t func = atomic_load(&record[1]);
+		uint64_t info = atomic_load(&record[2]);
+		atomic_store(&record[0], 0);
+		call(me, owner_of(link - 1), func, info);
+		count_one(me, owner_of(link - 1));
+	}
 }
 
 /* handle: how many calls ran */
 static uint32_t handle(struct cpu *me)
 {
-	struct loaded sync[RECORDS], async[RECORDS];
-	uint32_t syncs = 0, asyncs = 0;
+	uint32_t calls = 0;
 #ifdef LOOK
 	if (atomic_load(intr_of(me, me->number)) == 0)
 		return 0;
@@ -133,35 +215,10 @@ static uint32_t handle(struct cpu *me)
 		atomic_store(hand_of(me, me->number), 0);
 		return 0;
 	}
-	uint64_t link = atomic_exchange(head_of(me, me->number), 0);
-	while (link != 0) {
-		word *record = record_of(me, link - 1);
-		struct loaded one = { .id = link - 1 };
-		uint64_t flags = atomic_load(&record[0]);
-		one.func = atomic_load(&record[1]);
-		one.info = atomic_load(&record[2]);
-		link = atomic_load(&record[3]);
-		if (flags & SYNC)
-			sync[syncs++] = one;
-		else
-			async[asyncs++] = one;
-	}
-	uint32_t all = syncs + asyncs;
-	while (syncs > 0) {
-		struct loaded *one = &sync[--syncs];
-		atomic_store(hand_of(me, me->number), one->id + 2);
-		call(me);
-		count_one(me, one->id / RECORDS_OF_ONE);
-		atomic_store(&record_of(me, one->id)[0], 0);
-	}
-	while (asyncs > 0) {
-		struct loaded *one = &async[--asyncs];
-		atomic_store(&record_of(me, one->id)[0], 0);
-		call(me);
-		count_one(me, one->id / RECORDS_OF_ONE);
-	}
+	uint64_t oldest = reverse(me, atomic_exchange(head_of(me, me->number), 0), &calls);
+	run_async(me, run_sync(me, oldest));
 	atomic_store(hand_of(me, me->number), 0);
-	return all;
+	return calls;
 }
 
 /* Waits for a record, and handles the own interrupts meanwhile. */
@@ -187,23 +244,20 @@ static void call_single(struct cpu *me, uint32_t dst, bool wait)
 static void call_many(struct cpu *me, uint32_t mask)
 {
 	uint32_t owed = 0;
-	for (uint32_t c = 0; c < CPUS; c++) {
-		if (!(mask >> c & 1))
-			continue;
-		wait_for(me, MANY_RECORD + c);
-		if (post(me, MANY_RECORD + c, c, SYNC, UINT32_MAX) == 1)
+	for (uint32_t left = mask; left != 0; left &= left - 1) {
+		uint32_t c = __builtin_ctz(left);
+		wait_for(me, many_record(c));
+		if (post(me, many_record(c), c, SYNC, UINT32_MAX) == 1)
 			owed |= 1u << c;
 	}
-	for (uint32_t c = 0; c < CPUS; c++)
-		if (owed >> c & 1)
-			send(me, c);
-	for (uint32_t c = 0; c < CPUS; c++)
-		if (mask >> c & 1)
-			wait_for(me, MANY_RECORD + c);
+	for (; owed != 0; owed &= owed - 1)
+		send(me, __builtin_ctz(owed));
+	for (uint32_t left = mask; left != 0; left &= left - 1)
+		wait_for(me, many_record(__builtin_ctz(left)));
 }
 
 /* The meter: times of batches in tenths of a nanosecond for one operation. */
-static struct {
+static _Alignas(64) struct {
 	bool counts;
 	uint64_t limit, operations, began, last;
 	uint64_t *samples;
@@ -238,8 +292,9 @@ static bool lap(uint32_t operations)
 enum { ROUNDS = 100, BATCH = 100, BEGIN = 1, STOP = 2 };
 enum { POST_1, POST_8, TRIP, ASYNCS, MANY, WORKLOADS };
 static const char *const names[WORKLOADS] = { "post-1", "post-8", "trip", "async", "many" };
-static _Atomic uint64_t sign, done;
-static struct cpu cpus[CPUS];
+static _Alignas(64) _Atomic uint64_t sign;
+static _Atomic uint64_t done;
+static _Alignas(64) struct cpu cpus[CPUS];
 static int workload;
 static uint64_t times;
 
@@ -337,10 +392,11 @@ static int compare(const void *a, const void *b)
 
 static void report(uint32_t asked)
 {
-	static _Alignas(64) word words[WORDS];
+	static _Alignas(64) word table[WORDS + LINE];
+	word *words = &table[SHIFT];
 	uint32_t threads = workload <= POST_8 ? 1 : workload == TRIP ? 2 : asked;
 	uint64_t calls = 0;
-	memset(words, 0, sizeof words);
+	memset(table, 0, sizeof table);
 	memset(cpus, 0, sizeof cpus);
 	for (uint32_t c = 0; c < CPUS; c++) {
 		cpus[c].words = words;

@@ -25,7 +25,7 @@ word_at i =
     (record_word_at ((i - FLAGS) / WORDS_OF_ONE) ((i - FLAGS) % WORDS_OF_ONE))))))
 
 -- what a number says of its word
-abbrev Reads : Word → ℕ → Type 0
+abbrev pub Reads : Word → ℕ → Type 0
 Reads (Head c) i = (c < NR_CPUS) × (HEADS + c ≡ i)
 Reads (Intr c) i = (c < NR_CPUS) × (INTRS + c ≡ i)
 Reads (Hand c) i = (c < NR_CPUS) × (HANDS + c ≡ i)
@@ -56,7 +56,7 @@ pair_reads base x y i e =
 record_reads : (base r i : ℕ) → record_word base r ≡ Some i → (r < RECORDS) × (base + WORDS_OF_ONE * r ≡ i)
 record_reads base r i e = let p = cond_some (nat_lt r RECORDS) (base + WORDS_OF_ONE * r) i e in (ltb-true r RECORDS p.0, p.1)
 
-index_reads : (w : Word) (i : ℕ) → index_of w ≡ Some i → Reads w i
+pub index_reads : (w : Word) (i : ℕ) → index_of w ≡ Some i → Reads w i
 index_reads (Head c) i e = cpu_reads HEADS c i e
 index_reads (Intr c) i e = cpu_reads INTRS c i e
 index_reads (Hand c) i e = cpu_reads HANDS c i e

@@ -1,17 +1,18 @@
 -- Where words lie: a cell is of one word, and a store in a cell is a put at its word. Only this page knows.
-use Rattle.std.proofs.Common.{◌≡◌, ℕ, zero, suc, ◌+◌, ◌*◌, ◌<◌, ◌≤◌, Bool, true, false, nat_lt, cond, Some, None, Option, option_map, List, [], ◌∷◌, length, get_or, set, sym, refl, ap, subst, ◌∙◌, arith}
+use Rattle.std.proofs.Common.{◌≡◌, ℕ, zero, suc, ◌+◌, ◌*◌, ◌-◌, ◌/◌, ◌%◌, ◌<◌, ◌≤◌, nat_lt, cond, Some, None, Option, option_map, List, [], ◌∷◌, length, get_or, set, sym, refl, ap, subst, ◌∙◌, arith}
 use mathlib.Core.Option.{some, some-injective, some-ne-none}
 use lib.ListN.{get_elem?}
-use Rattle.std.proofs.lemmas.Bool.{ltb-true, ltb-false, le-ltb}
-use Rattle.smp_core.specs.Size.{cpus, records, table_size}
+use Rattle.std.proofs.lemmas.Bool.{lt-ltb, le-ltb}
+use Rattle.smp_core.specs.Size.{cpus, records}
 use Rattle.smp_core.specs.Put.{put_word}
 use Rattle.smp_core.specs.Layout.{index_of, number_at}
-use Rattle.smp_core.proofs.Links.{one_word, index_below, HasIndex, IsInTable, in_table}
+use Rattle.smp_core.proofs.Links.{one_word, HasIndex, IsInTable, in_table, Reads, index_reads}
 use Rattle.smp_core.proofs.Placing.{stored_at}
+use Rattle.smp_core.specs.declared.size.TheConstants.{NR_CPUS, WORDS_OF_ONE, HEADS, INTRS, HANDS, QUEUED, RAN, FLAGS, FUNCS, INFOS, NEXTS}
 use Rattle.smp_core.specs.declared.word.Word.{Word}
-use Rattle.smp_core.specs.declared.word.Word.TheVariants.{Hand, Flags}
-use Rattle.smp_queue.specs.declared.cell.TheConstants.{LINE, ALONE, GAPS}
-use Rattle.smp_queue.specs.Cells.{cells, spread, cell_of, HasCell, number_in}
+use Rattle.smp_core.specs.declared.word.Word.TheVariants.{Head, Intr, Hand, Queued, Ran, Flags, Func, Info, Next}
+use Rattle.smp_queue.specs.declared.cell.TheConstants.{LINE, TALLIES, ROW, TALLIES_APART, FIRST_RECORD, RECORDS_APART}
+use Rattle.smp_queue.specs.Cells.{cells, cpu_place, pair_place, record_place, place_of, cell_of, HasCell, number_in}
 
 got_or : (xs : List ℕ) (i n : ℕ) → get_elem? xs i ≡ some n → get_or xs i 0 ≡ n
 got_or [] i n e = absurd (some-ne-none n (sym e))
@@ -20,49 +21,99 @@ got_or (x ∷ xs) (suc i) n e = got_or xs i n e
 
 -- no two numbers have one cell
 
-apart : (b d : Bool) (i j : ℕ) → nat_lt i ALONE ≡ b → nat_lt j ALONE ≡ d → cond b (LINE * i) (i + GAPS) ≡ cond d (LINE * j) (j + GAPS) → i ≡ j
-apart true true i j e f same = omega arith
-apart true false i j e f same = let l = ltb-true i ALONE e in let m = ltb-false j ALONE f in omega arith
-apart false true i j e f same = let l = ltb-false i ALONE e in let m = ltb-true j ALONE f in omega arith
-apart false false i j e f same = omega arith
+-- the number of the tally in this row and column of all tallies
+abbrev tally_number : ℕ → ℕ → ℕ
+tally_number row column = cond (nat_lt column ROW) (QUEUED + NR_CPUS * row + column) (RAN + NR_CPUS * row + (column - ROW))
 
-one_number : (i j : ℕ) → spread i ≡ spread j → i ≡ j
-one_number i j same = apart (nat_lt i ALONE) (nat_lt j ALONE) i j refl refl same
+-- the number of the word in this cell
+abbrev number_of : ℕ → ℕ
+number_of c =
+    cond (nat_lt c TALLIES) (c / LINE) (
+    cond (nat_lt c FIRST_RECORD) (tally_number ((c - TALLIES) / TALLIES_APART) ((c - TALLIES) % TALLIES_APART))
+    (FLAGS + WORDS_OF_ONE * ((c - FIRST_RECORD) / RECORDS_APART) + (c - FIRST_RECORD) % RECORDS_APART))
 
-near_or_far : (b : Bool) (i : ℕ) → nat_lt i ALONE ≡ b → i < table_size → cond b (LINE * i) (i + GAPS) < cells
-near_or_far true i e l = let m = ltb-true i ALONE e in omega arith
-near_or_far false i e l = omega arith
+alone_numbered : (base cpu i : ℕ) → base + cpu ≡ i → i < QUEUED → number_of (cpu_place base cpu) ≡ i
+alone_numbered base cpu i e l =
+    let f : cpu_place base cpu / LINE ≡ i = omega arith in
+    rw (lt-ltb (cpu_place base cpu) TALLIES (omega arith), f) refl
 
-spread_below : (i : ℕ) → i < table_size → spread i < cells
-spread_below i l = near_or_far (nat_lt i ALONE) i refl l
+queued_numbered : (s d i : ℕ) → s < NR_CPUS → d < NR_CPUS → QUEUED + NR_CPUS * s + d ≡ i → number_of (pair_place 0 s d) ≡ i
+queued_numbered s d i l m e =
+    let c = pair_place 0 s d in
+    let row : (c - TALLIES) / TALLIES_APART ≡ s = omega arith in
+    let column : (c - TALLIES) % TALLIES_APART ≡ d = omega arith in
+    rw (le-ltb c TALLIES (omega arith), lt-ltb c FIRST_RECORD (omega arith), row, column, lt-ltb d ROW (omega arith)) e
+
+ran_numbered : (d s i : ℕ) → d < NR_CPUS → s < NR_CPUS → RAN + NR_CPUS * d + s ≡ i → number_of (pair_place ROW d s) ≡ i
+ran_numbered d s i l m e =
+    let c = pair_place ROW d s in
+    let row : (c - TALLIES) / TALLIES_APART ≡ d = omega arith in
+    let column : (c - TALLIES) % TALLIES_APART ≡ ROW + s = omega arith in
+    rw (le-ltb c TALLIES (omega arith), lt-ltb c FIRST_RECORD (omega arith), row, column, le-ltb (ROW + s) ROW (omega arith)) (omega arith)
+
+record_numbered : (base r i : ℕ) → FLAGS ≤ base → base ≤ NEXTS → base + WORDS_OF_ONE * r ≡ i → number_of (record_place base r) ≡ i
+record_numbered base r i l m e =
+    let c = record_place base r in
+    let one : (c - FIRST_RECORD) / RECORDS_APART ≡ r = omega arith in
+    let word : (c - FIRST_RECORD) % RECORDS_APART ≡ base - FLAGS = omega arith in
+    rw (le-ltb c TALLIES (omega arith), le-ltb c FIRST_RECORD (omega arith), one, word) (omega arith)
+
+numbered : (w : Word) (i : ℕ) → Reads w i → number_of (place_of w) ≡ i
+numbered (Head c) i p = alone_numbered HEADS c i p.1 (omega arith)
+numbered (Intr c) i p = alone_numbered INTRS c i p.1 (omega arith)
+numbered (Hand c) i p = alone_numbered HANDS c i p.1 (omega arith)
+numbered (Queued s d) i p = queued_numbered s d i p.0 p.1 p.2
+numbered (Ran d s) i p = ran_numbered d s i p.0 p.1 p.2
+numbered (Flags r) i p = record_numbered FLAGS r i (omega arith) (omega arith) p.1
+numbered (Func r) i p = record_numbered FUNCS r i (omega arith) (omega arith) p.1
+numbered (Info r) i p = record_numbered INFOS r i (omega arith) (omega arith) p.1
+numbered (Next r) i p = record_numbered NEXTS r i (omega arith) (omega arith) p.1
+numbered _ i p = absurd p
+
+place_below : (w : Word) (i : ℕ) → Reads w i → place_of w < cells
+place_below (Head c) i p = omega arith
+place_below (Intr c) i p = omega arith
+place_below (Hand c) i p = omega arith
+place_below (Queued s d) i p = omega arith
+place_below (Ran d s) i p = omega arith
+place_below (Flags r) i p = omega arith
+place_below (Func r) i p = omega arith
+place_below (Info r) i p = omega arith
+place_below (Next r) i p = omega arith
+place_below _ i p = absurd p
 
 -- the number of the word in a cell
-record HasNumber (o : Option ℕ) (cell : ℕ) : Type 0 where
+record HasNumber (o : Option ℕ) (place cell : ℕ) : Type 0 where
   number : ℕ
   is_number : o ≡ Some number
-  is_cell : spread number ≡ cell
+  is_cell : place ≡ cell
 
-has_number : (o : Option ℕ) (cell : ℕ) → option_map spread o ≡ Some cell → HasNumber o cell
-has_number None cell e = absurd (let f : None ≡ Some cell = e in cc)
-has_number (Some i) cell e = record { number = i; is_number = refl; is_cell = (let f : Some (spread i) ≡ Some cell = e in cc) }
+has_number : (o : Option ℕ) (place cell : ℕ) → option_map (λ _. place) o ≡ Some cell → HasNumber o place cell
+has_number None place cell e = absurd (let f : None ≡ Some cell = e in cc)
+has_number (Some i) place cell e = record { number = i; is_number = refl; is_cell = (let f : Some place ≡ Some cell = e in cc) }
+
+-- the number is told by the cell
+number_told : (w : Word) (i : ℕ) → cell_of w ≡ Some i → index_of w ≡ Some (number_of i)
+number_told w i e =
+    let a = has_number (index_of w) (place_of w) i e in
+    a.is_number ∙ ap Some (sym (numbered w a.number (index_reads w a.number a.is_number)) ∙ ap number_of a.is_cell)
 
 -- a cell is of one word
 pub one_cell : (u w : Word) (i : ℕ) → cell_of u ≡ Some i → cell_of w ≡ Some i → u ≡ w
-one_cell u w i e f =
-    let a = has_number (index_of u) i e in
-    let b = has_number (index_of w) i f in
-    one_word u w a.number a.is_number (b.is_number ∙ ap Some (one_number b.number a.number (b.is_cell ∙ sym a.is_cell)))
+one_cell u w i e f = one_word u w (number_of i) (number_told u i e) (number_told w i f)
 
 -- a word that has a number has a cell
 pub has_cell_of : (w : Word) → HasIndex w → HasCell w
-has_cell_of w h = (spread h.index, ap (option_map spread) h.is_index)
+has_cell_of w h = (place_of w, ap (option_map (λ _. place_of w)) h.is_index)
 
 -- the words of the CPUs and records that there are have cells
 pub has_cell : (w : Word) → IsInTable w → HasCell w
 has_cell w l = has_cell_of w (in_table w l)
 
 pub cell_below : (w : Word) (i : ℕ) → cell_of w ≡ Some i → i < cells
-cell_below w i e = let a = has_number (index_of w) i e in subst (λ c. c < cells) a.is_cell (spread_below a.number (index_below w a.number a.is_number))
+cell_below w i e =
+    let a = has_number (index_of w) (place_of w) i e in
+    subst (λ c. c < cells) a.is_cell (place_below w a.number (index_reads w a.number a.is_number))
 
 -- a word that has no cell is 0
 
