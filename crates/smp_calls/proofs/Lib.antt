@@ -4,6 +4,8 @@ pub mod Turns
 pub mod Steps
 -- a call by one record
 pub mod One
+-- the record for calls to many
+pub mod Lawful
 -- lists of the members of a mask
 pub mod Lists
 -- one more of many CPUs

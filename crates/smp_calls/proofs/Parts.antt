@@ -58,6 +58,15 @@ called_here this called result here made out = made this ∙ (ap (λ b. b || (he
 pub not_called : (mask online this others called : ℕ) → ((c : ℕ) → has others c ≡ is_target mask online this false c) → ((c : ℕ) → has called c ≡ true → has others c ≡ true) → has called this ≡ false
 not_called mask online this others called are among = none_true (has called this) (λ h. let e = sym (are this) ∙ among this h in let same = eq-eqb this this refl in grind (arith, nat_tests, e, same))
 
+second : (m o n : Bool) → (((m && o) && n) || false) ≡ true → o ≡ true
+second true true n e = refl
+second true false n e = e
+second false o n e = cc
+
+-- the others are online
+pub target_online : (mask online this c : ℕ) → is_target mask online this false c ≡ true → has online c ≡ true
+target_online mask online this c e = second (has mask c) (has online c) (not (c == this)) e
+
 -- of the others only those are in the mask and online
 others_targets : (mask online this c : ℕ) → (c == this) ≡ false → is_target mask online this false c ≡ is_target mask online this true c
 others_targets mask online this c n = ap (λ b. ((has mask c && has online c) && not b) || ((false && has mask c) && b)) n ∙ (ap (λ b. ((has mask c && has online c) && true) || b) (sym (and_false (has mask c))) ∙ sym (ap (λ b. ((has mask c && has online c) && not b) || ((true && has mask c) && b)) n))

@@ -4,6 +4,7 @@
 ghost use Rattle.std.specs.Prelude.{◌≡◌, ◌≢◌, ℕ, ◌<◌, ◌==◌, ◌&&◌, not, true, false, Bool, List, [], ◌∷◌, ◌++◌, None, if◌then◌else◌};
 ghost use Rattle.smp_mask.specs.Mask.{has, members};
 ghost use Rattle.smp_core.specs.Size.{cpus};
+ghost use Rattle.smp_core.specs.Limits.{AreLimits};
 ghost use Rattle.smp_calls.specs.Records.{many_call};
 ghost use Rattle.smp_calls.specs.Queued.{Queued, destinations, firsts};
 ghost use Rattle.smp_calls.specs.Families.{IsSized};
@@ -30,7 +31,7 @@ fn queue_if<A: Allocator, R: Wait, H: Handler>(
 ) -> bool
     requires table { me.old.table ≡ table.now.table }
     requires sized { IsSized me.old }
-    requires within { to < cpus }
+    requires limits { AreLimits table.now.nr table.now.online }
     requires online { has table.now.online to ≡ true }
     requires other { to ≢ me.old.number }
     ensures { (queued : List Queued) × (destinations queued ≡ only_if asked to) × (firsts queued ≡ only_if result to) × Queues H.leads me.old handler.old me.new handler.new (many_call me.old.number job.class job.func job.info) queued }
@@ -64,6 +65,7 @@ pub(crate) fn queue_each<A: Allocator, R: Wait, H: Handler, C: Fn(u32, u64) -> b
 ) -> (CpuMask, CpuMask)
     requires table { me.old.table ≡ table.now.table }
     requires sized { IsSized me.old }
+    requires limits { AreLimits table.now.nr table.now.online }
     requires online { (c : ℕ) → has others c ≡ true → (has table.now.online c ≡ true) × (c ≢ me.old.number) }
     requires condition { (c : ℕ) → c < cpus → C.pre cond.now c job.info }
     ensures { QueuesEach H.leads me.old handler.old me.new handler.new (λ c answer. C.post cond.now c job.info answer) (many_call me.old.number job.class job.func job.info) others result.0 result.1 }
@@ -90,7 +92,7 @@ pub(crate) fn send_each<A: Allocator>(table: &CallTable<A>, me: &mut CallCpu, ow
     }
 }
 
-/// Waits for the record for calls to many of each of these CPUs.
+/// Waits for the record for calls to many of each of these CPUs, which are online.
 pub(crate) fn wait_each<A: Allocator, R: Wait, H: Handler>(
     table: &CallTable<A>,
     rt: &R,
@@ -100,6 +102,8 @@ pub(crate) fn wait_each<A: Allocator, R: Wait, H: Handler>(
 )
     requires table { me.old.table ≡ table.now.table }
     requires sized { IsSized me.old }
+    requires limits { AreLimits table.now.nr table.now.online }
+    requires online { (c : ℕ) → has called c ≡ true → has table.now.online c ≡ true }
     ensures { WaitsFor H.leads me.old handler.old me.new handler.new (members called) true }
 {
     for cpu in called.iter() {

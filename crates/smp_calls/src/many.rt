@@ -3,6 +3,7 @@
 ghost use Rattle.std.specs.Prelude.{◌≡◌, ◌≢◌, ℕ, ◌<◌, ◌==◌, ◌&&◌, ◌||◌, true, false, List, None, Some, if◌then◌else◌};
 ghost use Rattle.smp_mask.specs.Mask.{has, members};
 ghost use Rattle.smp_core.specs.Size.{cpus};
+ghost use Rattle.smp_core.specs.Limits.{AreLimits};
 ghost use Rattle.smp_queue.specs.Handling.{heard};
 ghost use Rattle.smp_calls.specs.Records.{many_call, class_for as class_in};
 ghost use Rattle.smp_calls.specs.Targets.{is_target, remote};
@@ -31,6 +32,7 @@ fn queue_all<A: Allocator, R: Wait, H: Handler, C: Fn(u32, u64) -> bool>(
 ) -> CpuMask
     requires table { me.old.table ≡ table.now.table }
     requires sized { IsSized me.old }
+    requires limits { AreLimits table.now.nr table.now.online }
     requires online { (c : ℕ) → has others c ≡ true → (has table.now.online c ≡ true) × (c ≢ me.old.number) }
     requires condition { (c : ℕ) → c < cpus → C.pre cond.now c job.info }
     ensures picks { Picks (λ c answer. C.post cond.now c job.info answer) (has others) result }
@@ -41,7 +43,7 @@ fn queue_all<A: Allocator, R: Wait, H: Handler, C: Fn(u32, u64) -> bool>(
     called
 }
 
-/// Where the calls are to be waited for, waits for that to each of these CPUs.
+/// Where the calls are to be waited for, waits for that to each of these CPUs, which are online.
 fn wait_all<A: Allocator, R: Wait, H: Handler>(
     table: &CallTable<A>,
     rt: &R,
@@ -52,6 +54,8 @@ fn wait_all<A: Allocator, R: Wait, H: Handler>(
 )
     requires table { me.old.table ≡ table.now.table }
     requires sized { IsSized me.old }
+    requires limits { AreLimits table.now.nr table.now.online }
+    requires online { (c : ℕ) → has called c ≡ true → has table.now.online c ≡ true }
     ensures { WaitsFor H.leads me.old handler.old me.new handler.new (members called) wait }
 {
     if wait {

@@ -27,7 +27,7 @@ pub(crate) fn queue<A: Allocator, R: Wait>(
     job: Job,
 ) -> bool
     requires table { me.old.table ≡ table.now.table }
-    requires lawful { misused me.old k to job.class 1 ≡ false }
+    requires lawful { misused table.now.nr me.old k to job.class 1 ≡ false }
     requires online { has table.now.online to ≡ true }
     requires free { confirmed_at me.old k ≡ true }
     ensures { me.new ≡ posts k to job.class job.func job.info result me.old }
@@ -61,7 +61,7 @@ pub(crate) fn queue_and_send<A: Allocator, R: Wait>(
     job: Job,
 )
     requires table { me.old.table ≡ table.now.table }
-    requires lawful { misused me.old k to job.class 1 ≡ false }
+    requires lawful { misused table.now.nr me.old k to job.class 1 ≡ false }
     requires online { has table.now.online to ≡ true }
     requires free { confirmed_at me.old k ≡ true }
     ensures { (first : Bool) × (me.new ≡ let posted = posts k to job.class job.func job.info first me.old in if first then sends to posted else posted) }

@@ -3,6 +3,7 @@ ghost use Rattle.smp_mask.specs.Mask.{has};
 ghost use Rattle.smp_queue.specs.Cpu.{left_at};
 
 mod threads;
+mod wide;
 
 use super::*;
 use smp_core::size::NR_CPUS;
@@ -195,66 +196,76 @@ fn drive<'a>(
 
 #[test]
 fn the_only_cpu_calls_itself(rt: HostRuntime) -> Result<(), Fail> {
-    let (table, mut boot) = CallTable::new(rt.alloc(), 1, "0".parse()?)?;
-    let mut zero = seat(&table, &mut boot, 0)?;
-    let mut heard = Recorder::new(rt.alloc());
-    let answer = call_single(&table, &rt, &mut zero, &mut heard, 0, 5, 6, true);
-    assert_eq!(rt; (answer, table.tally(&mut zero, 0)), (Ok(()), (0, 0)));
-    let call = Heard {
-        src: 0,
-        func: 5,
-        info: 6,
-    };
-    assert!(rt; heard.calls.as_slice() == &[call][..]);
-    let nothing = Tally {
-        queued: [[0; NR_CPUS as usize]; NR_CPUS as usize],
-        ran: [[0; NR_CPUS as usize]; NR_CPUS as usize],
-    };
-    assert_eq!(rt; table.audit(zero), Audit::Drained(nothing));
+    for nr in [1, 8, 32] {
+        let (table, mut boot) = CallTable::new(rt.alloc(), nr, "0".parse()?)?;
+        let mut zero = seat(&table, &mut boot, 0)?;
+        let mut heard = Recorder::new(rt.alloc());
+        let answer = call_single(&table, &rt, &mut zero, &mut heard, 0, 5, 6, true);
+        assert_eq!(rt; (answer, table.tally(&mut zero, 0)), (Ok(()), (0, 0)));
+        let call = Heard {
+            src: 0,
+            func: 5,
+            info: 6,
+        };
+        assert!(rt; heard.calls.as_slice() == &[call][..]);
+        let nothing = Tally {
+            queued: [[0; NR_CPUS as usize]; NR_CPUS as usize],
+            ran: [[0; NR_CPUS as usize]; NR_CPUS as usize],
+        };
+        assert_eq!(rt; table.audit(zero), Audit::Drained(nothing), "{nr}");
+    }
     Ok(())
 }
 
 #[test]
 fn calls_to_one_cpu_are_refused_in_order(rt: HostRuntime) -> Result<(), Fail> {
-    let (table, mut boot) = CallTable::new(rt.alloc(), 4, "0-1,3".parse()?)?;
-    let mut zero = drive(&table, &mut boot, rt.alloc(), 0)?;
-    for dst in [7, 2] {
+    for nr in [4, 8, 32] {
+        let (table, mut boot) = CallTable::new(rt.alloc(), nr, "0-1,3".parse()?)?;
+        let mut zero = drive(&table, &mut boot, rt.alloc(), 0)?;
+        for dst in [7, 2, 31, 32] {
+            assert_eq!(rt;
+                zero.single(&rt, dst, 1, true),
+                Err(SmpError::NoCpu),
+                "{nr} {dst}"
+            );
+        }
+        assert_eq!(rt; zero.is_done(0), Ok(true));
         assert_eq!(rt;
-            zero.single(&rt, dst, 1, true),
-            Err(SmpError::NoCpu),
-            "{dst}"
+            (zero.single(&rt, 0, 1, true), zero.times(0, 1)),
+            (Ok(()), 1)
+        );
+        assert_eq!(rt; zero.by_user(&rt, 0, 7, 1), Err(SmpError::NoCpu));
+        assert_eq!(rt; zero.by_user(&rt, 0, 1, 1), Ok(()));
+        assert_eq!(rt; zero.by_user(&rt, 0, 7, 1), Err(SmpError::Busy));
+        assert_eq!(rt; zero.by_user(&rt, 2, 1, 1), Err(SmpError::BadArgument));
+        // CPU 1 runs the call, and the record is free again.
+        let mut one = drive(&table, &mut boot, rt.alloc(), 1)?;
+        one.poll();
+        assert_eq!(rt;
+            (one.times(0, 1), zero.by_user(&rt, 0, 7, 1)),
+            (1, Err(SmpError::NoCpu))
         );
     }
-    assert_eq!(rt; zero.is_done(0), Ok(true));
-    assert_eq!(rt;
-        (zero.single(&rt, 0, 1, true), zero.times(0, 1)),
-        (Ok(()), 1)
-    );
-    assert_eq!(rt; zero.by_user(&rt, 0, 7, 1), Err(SmpError::NoCpu));
-    assert_eq!(rt; zero.by_user(&rt, 0, 1, 1), Ok(()));
-    assert_eq!(rt; zero.by_user(&rt, 0, 7, 1), Err(SmpError::Busy));
-    assert_eq!(rt; zero.by_user(&rt, 2, 1, 1), Err(SmpError::BadArgument));
-    // CPU 1 runs the call, and the record is free again.
-    let mut one = drive(&table, &mut boot, rt.alloc(), 1)?;
-    one.poll();
-    assert_eq!(rt;
-        (one.times(0, 1), zero.by_user(&rt, 0, 7, 1)),
-        (1, Err(SmpError::NoCpu))
-    );
     Ok(())
 }
 
 #[test]
 fn any_is_the_own_cpu_else_the_lowest(rt: HostRuntime) -> Result<(), Fail> {
-    let (table, mut boot) = CallTable::new(rt.alloc(), 4, "0-1,3".parse()?)?;
-    let mut zero = drive(&table, &mut boot, rt.alloc(), 0)?;
-    for (mask, called) in [
-        ("0,3", Ok(0)),
-        ("2", Err(SmpError::NoCpu)),
-        ("", Err(SmpError::NoCpu)),
-        ("1,3", Ok(1)),
-    ] {
-        assert_eq!(rt; zero.any(&rt, mask.parse()?, 1, false), called, "{mask}");
+    for nr in [4, 8, 32] {
+        let (table, mut boot) = CallTable::new(rt.alloc(), nr, "0-1,3".parse()?)?;
+        let mut zero = drive(&table, &mut boot, rt.alloc(), 0)?;
+        for (mask, called) in [
+            ("0,3", Ok(0)),
+            ("2", Err(SmpError::NoCpu)),
+            ("", Err(SmpError::NoCpu)),
+            ("1,3", Ok(1)),
+        ] {
+            assert_eq!(rt;
+                zero.any(&rt, mask.parse()?, 1, false),
+                called,
+                "{nr} {mask}"
+            );
+        }
     }
     Ok(())
 }

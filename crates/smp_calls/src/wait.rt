@@ -1,7 +1,7 @@
 //! Waiting for a record: the CPU handles its own interrupts meanwhile.
 
 ghost use Rattle.std.specs.Prelude.{◌≡◌, ◌≢◌, ◌<◌, ◌==◌, ◌||◌, None, [], true, false, if◌then◌else◌};
-ghost use Rattle.smp_core.specs.Size.{records_of_one};
+ghost use Rattle.smp_core.specs.Start.{has_record};
 ghost use Rattle.smp_queue.specs.Cpu.{confirmed_at, confirms};
 ghost use Rattle.smp_calls.specs.Families.{IsSized, Leaves, owes_at};
 
@@ -13,7 +13,7 @@ use std::sync::Wait;
 /// Whether the record is unlocked; if so, it is confirmed.
 pub(crate) fn is_done<A: Allocator>(table: &CallTable<A>, me: &mut CallCpu, k: u32) -> bool
     requires table { me.old.table ≡ table.now.table }
-    requires within { k < records_of_one }
+    requires record { has_record table.now.nr k ≡ true }
     ensures known { me.new ≡ if result then confirms k me.old else me.old }
     ensures locked { result ≡ false → confirmed_at me.old k ≢ true }
 {
@@ -47,7 +47,7 @@ pub(crate) fn wait_for<A: Allocator, R: Wait, H: Handler>(
 )
     requires table { me.old.table ≡ table.now.table }
     requires sized { IsSized me.old }
-    requires within { k < records_of_one }
+    requires record { has_record table.now.nr k ≡ true }
     ensures { Leaves H.leads me.old handler.old me.new handler.new [] None (owes_at me.old) (λ j. j == k || confirmed_at me.old j) }
 {
     let backoff = Backoff::new();

@@ -132,7 +132,8 @@ impl<A: Allocator> CallTable<A> {
 
     /// The CPUs that are online.
     pub fn online(&self) -> CpuMask
-        ensures { result ≡ self.now.online }
+        ensures known { result ≡ self.now.online }
+        ensures limits { AreLimits self.now.nr result }
     {
         self.online
     }

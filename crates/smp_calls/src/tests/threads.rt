@@ -9,8 +9,8 @@ use std::thread::Threads;
 /// How often each CPU makes each call.
 const ROUNDS: usize = 50;
 
-/// How many CPUs there are, each with a thread.
-const CPUS: u32 = 3;
+/// How many CPUs make calls, each with a thread.
+const CALLERS: u64 = 4;
 
 /// The threads wait for this before they begin; or leave at once, where one of them could not be started.
 const BEGIN: u64 = 1;
@@ -50,6 +50,11 @@ fn may_begin<R: Wait>(rt: &R, sign: &AtomicU64) -> bool {
     unreachable!()
 }
 
+/// The CPU after this one, where the lowest comes after the highest.
+fn next_of(all: CpuMask, this: u32) -> u32 {
+    all.next_after(this).or(all.first()).unwrap_or(this)
+}
+
 /// Makes each call once, to all other CPUs or to the next one.
 fn call_all<R: Wait>(driver: &mut Driver, rt: &R, all: CpuMask) -> Result<(), SmpError> {
     let this = driver.cpu.number();
@@ -57,7 +62,7 @@ fn call_all<R: Wait>(driver: &mut Driver, rt: &R, all: CpuMask) -> Result<(), Sm
         driver.single(rt, other, 1, true)?;
         driver.single(rt, other, 2, false)?;
     }
-    let next = if this + 1 < CPUS { this + 1 } else { 0 };
+    let next = next_of(all, this);
     driver.any(rt, CpuMask::of(next)?, 3, true)?;
     driver.many(rt, all, 4, true);
     driver.each(rt, all, 5, &|cpu, _| cpu % 2 == 0, true);
@@ -66,12 +71,11 @@ fn call_all<R: Wait>(driver: &mut Driver, rt: &R, all: CpuMask) -> Result<(), Sm
 }
 
 /// Whether the CPU has heard each call as often as it was made.
-fn has_heard_all(driver: &Driver) -> bool {
+fn has_heard_all(driver: &Driver, all: CpuMask) -> bool {
     let this = driver.cpu.number();
-    let before = if this == 0 { CPUS - 1 } else { this - 1 };
-    (0..CPUS).all(|src| {
+    all.iter().all(|src| {
         let from_other = if src == this { 0 } else { ROUNDS };
-        let from_before = if src == before { ROUNDS } else { 0 };
+        let from_before = if next_of(all, src) == this { ROUNDS } else { 0 };
         let from_even = if this % 2 == 0 { ROUNDS } else { 0 };
         [
             (1, from_other),
@@ -98,38 +102,47 @@ fn run<R: Wait>(mut driver: Driver, rt: &R, all: CpuMask, progress: &Progress) {
     progress.done.fetch_add(1, Ordering::SeqCst);
     let backoff = Backoff::new();
     for _ in rt.forever() {
-        let last = progress.done.load(Ordering::SeqCst) >= CPUS as u64;
+        let last = progress.done.load(Ordering::SeqCst) >= CALLERS;
         driver.poll();
         if last {
             break;
         }
         backoff.snooze();
     }
-    if !refused && driver.heard.whole && has_heard_all(&driver) {
+    if !refused && driver.heard.whole && has_heard_all(&driver, all) {
         progress.right.fetch_add(1, Ordering::SeqCst);
     }
 }
 
-/// Runs each CPU on a thread of its own: how many heard what they should, and what is left.
-fn run_all<R: Wait + Threads + Sync>(rt: &R, alloc: Global) -> Result<(u64, Audit), Fail> {
-    let all: CpuMask = "0-2".parse()?;
-    // One CPU more keeps the table's last value.
-    let (table, mut boot) = CallTable::new(alloc, CPUS + 1, "0-3".parse()?)?;
+/// Runs each of four CPUs of a new table on a thread of its own: how many heard what they should, and what is
+/// left. One CPU more keeps the table's last value.
+fn run_all<R: Wait + Threads + Sync>(
+    rt: &R,
+    alloc: Global,
+    nr: u32,
+    callers: [u32; 4],
+    last: u32,
+) -> Result<(u64, Audit), Fail> {
+    let [a, b, c, d] = callers;
+    let all = CpuMask::of(a)?.with(b)?.with(c)?.with(d)?;
+    let (table, mut boot) = CallTable::new(alloc, nr, all.with(last)?)?;
     let shared = Progress {
         sign: AtomicU64::new(0),
         done: AtomicU64::new(0),
         right: AtomicU64::new(0),
     };
     let progress = &shared;
-    let zero = drive(&table, &mut boot, alloc, 0)?;
-    let one = drive(&table, &mut boot, alloc, 1)?;
-    let two = drive(&table, &mut boot, alloc, 2)?;
-    let last = seat(&table, &mut boot, 3)?;
+    let one = drive(&table, &mut boot, alloc, a)?;
+    let two = drive(&table, &mut boot, alloc, b)?;
+    let three = drive(&table, &mut boot, alloc, c)?;
+    let four = drive(&table, &mut boot, alloc, d)?;
+    let last = seat(&table, &mut boot, last)?;
     thread::scope(thread::scope_env(), rt, |scope| {
-        let first = scope.spawn(move || run(zero, rt, all, progress));
-        let second = scope.spawn(move || run(one, rt, all, progress));
-        let third = scope.spawn(move || run(two, rt, all, progress));
-        let started = first.is_ok() && second.is_ok() && third.is_ok();
+        let first = scope.spawn(move || run(one, rt, all, progress));
+        let second = scope.spawn(move || run(two, rt, all, progress));
+        let third = scope.spawn(move || run(three, rt, all, progress));
+        let fourth = scope.spawn(move || run(four, rt, all, progress));
+        let started = first.is_ok() && second.is_ok() && third.is_ok() && fourth.is_ok();
         progress
             .sign
             .store(if started { BEGIN } else { LEAVE }, Ordering::SeqCst);
@@ -137,24 +150,42 @@ fn run_all<R: Wait + Threads + Sync>(rt: &R, alloc: Global) -> Result<(u64, Audi
     Ok((progress.right.load(Ordering::SeqCst), table.audit(last)))
 }
 
+const DRAINED: Left = Left {
+    heads: 0,
+    locked: 0,
+    handling: 0,
+};
+
+// In each round a CPU makes three calls to each other one, two more to the next one, and one more to an even one.
+
 #[test]
 fn calls_between_threads_that_poll_all_run(rt: HostRuntime) -> Result<(), Fail> {
-    let (right, audit) = run_all(&rt, rt.alloc())?;
-    assert_eq!(rt; right, CPUS as u64);
-    // From CPU 0 to CPU 1: five of the six calls, that to the even CPUs not; to CPU 2: four, as it is not the next.
+    let (right, audit) = run_all(&rt, rt.alloc(), 8, [0, 2, 5, 7], 1)?;
+    assert_eq!(rt; right, CALLERS);
     match audit {
         Audit::Drained(tally) => {
-            assert_eq!(rt; (tally.queued[0][1], tally.ran[1][0]), (250, 250));
-            assert_eq!(rt; (tally.queued[0][2], tally.ran[2][0]), (200, 200));
+            assert_eq!(rt; (tally.queued[0][2], tally.ran[2][0]), (300, 300));
+            assert_eq!(rt; (tally.queued[0][5], tally.ran[5][0]), (150, 150));
+            assert_eq!(rt; (tally.queued[5][7], tally.ran[7][5]), (250, 250));
+            assert_eq!(rt; (tally.queued[5][2], tally.ran[2][5]), (200, 200));
         }
-        Audit::Left(left) => assert_eq!(rt;
-            left,
-            Left {
-                heads: 0,
-                locked: 0,
-                handling: 0
-            }
-        ),
+        Audit::Left(left) => assert_eq!(rt; left, DRAINED),
+    }
+    Ok(())
+}
+
+#[test]
+fn calls_between_threads_of_a_wide_table_all_run(rt: HostRuntime) -> Result<(), Fail> {
+    let (right, audit) = run_all(&rt, rt.alloc(), 32, [3, 7, 8, 31], 20)?;
+    assert_eq!(rt; right, CALLERS);
+    match audit {
+        Audit::Drained(tally) => {
+            assert_eq!(rt; (tally.queued[7][8], tally.ran[8][7]), (300, 300));
+            assert_eq!(rt; (tally.queued[3][31], tally.ran[31][3]), (150, 150));
+            assert_eq!(rt; (tally.queued[31][3], tally.ran[3][31]), (250, 250));
+            assert_eq!(rt; (tally.queued[31][8], tally.ran[8][31]), (200, 200));
+        }
+        Audit::Left(left) => assert_eq!(rt; left, DRAINED),
     }
     Ok(())
 }

@@ -1,11 +1,12 @@
 use Rattle.std.proofs.Common.{subst, None, []}
+use Rattle.smp_core.proofs.Starts.{record_below}
 use Rattle.smp_queue.specs.Cpu.{CpuValue, confirmed_at}
 use Rattle.smp_calls.specs.Families.{Leaves, owes_at}
 use Rattle.smp_calls.proofs.Steps.{leaves_as, leaves_then, leaves_ended}
 use Rattle.smp_calls.proofs.wait.wait_for.Goals as goal
 
 pub returns-then-is_done : goal.returns-then-is_done
-returns-then-is_done g c = leaves_ended g.H.Handler.leads c.args.me.now c.loop.me c.is_done.new.me c.args.handler.now c.loop.handler c.args.k c.requires.sized c.requires.within c.loop.invariant c.if-is_done.ensures.known
+returns-then-is_done g c = leaves_ended g.H.Handler.leads c.args.me.now c.loop.me c.is_done.new.me c.args.handler.now c.loop.handler c.args.k c.requires.sized (record_below c.args.table.now.nr c.args.k c.requires.record) c.loop.invariant c.if-is_done.ensures.known
 
 pub loop-preserved : goal.loop-preserved
 loop-preserved g c =
