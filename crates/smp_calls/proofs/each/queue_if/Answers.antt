@@ -1,5 +1,4 @@
 use Rattle.std.proofs.Common.{◌≡◌, ℕ, [], true, false, refl, ◌∙◌, sym, subst, rules}
-use Rattle.smp_core.proofs.Starts.{online_below}
 use Rattle.smp_core.specs.Start.{has_record}
 use Rattle.smp_queue.specs.Cpu.{misused}
 use Rattle.smp_calls.specs.Records.{many_call}
@@ -9,9 +8,6 @@ use Rattle.smp_calls.proofs.each.queue_if.Goals as goal
 
 pub returns-then-not-asked : goal.returns-then-not-asked
 returns-then-not-asked g c = ([], search rules, refl, queues_none g.H.Handler.leads c.args.me.now c.args.handler.now (many_call c.args.me.now.number c.args.job.class c.args.job.func c.args.job.info))
-
-pub many_record-k-requires : goal.many_record-k-requires
-many_record-k-requires g c = online_below c.args.table.now.nr c.args.table.now.online c.args.to c.requires.limits c.requires.online
 
 pub wait_for-requires-clause-record : goal.wait_for-requires-clause-record
 wait_for-requires-clause-record g c =

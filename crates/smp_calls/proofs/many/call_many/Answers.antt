@@ -1,17 +1,10 @@
 use Rattle.std.proofs.Common.{◌≡◌, ◌<◌, ℕ, List, true, None, sym, subst, ◌∙◌, rules}
 use Rattle.smp_mask.specs.Mask.{has, members}
 use Rattle.smp_mask.specs.declared.mask.TheConstants.{NR_CPUS}
-use Rattle.smp_core.specs.Limits.{AreLimits}
 use Rattle.smp_core.specs.declared.call.Class.{Class}
 use Rattle.smp_calls.specs.Families.{CallsMany}
 use Rattle.smp_calls.proofs.Parts.{target_online, all_called, calls_waited_for}
 use Rattle.smp_calls.proofs.many.call_many.Goals as goal
-
-pub queue_all-called-requires-clause-limits : goal.queue_all-called-requires-clause-limits
-queue_all-called-requires-clause-limits g c = subst (AreLimits c.args.table.now.nr) c.online.ensures.known c.online.ensures.limits
-
-pub wait_all-requires-clause-limits : goal.wait_all-requires-clause-limits
-wait_all-requires-clause-limits g c = subst (AreLimits c.args.table.now.nr) c.online.ensures.known c.online.ensures.limits
 
 pub wait_all-requires-clause-online : goal.wait_all-requires-clause-online
 wait_all-requires-clause-online g c x called =

@@ -1,6 +1,5 @@
 use Rattle.std.proofs.Common.{◌≡◌, ℕ, Bool, List, Option, true, false, cond, Some, None, sym, subst, ◌∙◌}
 use Rattle.smp_mask.specs.Mask.{has, members}
-use Rattle.smp_core.specs.Limits.{AreLimits}
 use Rattle.smp_core.specs.declared.call.Class.{Class}
 use Rattle.smp_queue.specs.Handling.{heard}
 use Rattle.smp_queue.specs.declared.handler.Heard.{Heard}
@@ -10,12 +9,6 @@ use Rattle.smp_calls.specs.Targets.{is_target, remote}
 use Rattle.smp_calls.specs.Records.{class_for}
 use Rattle.smp_calls.proofs.Parts.{target_online, not_called, picks_with, others_called, called_here, calls_then_here, calls_waited_for}
 use Rattle.smp_calls.proofs.many.each_cpu_cond.Goals as goal
-
-pub queue_all-called-requires-clause-limits : goal.queue_all-called-requires-clause-limits
-queue_all-called-requires-clause-limits g c = subst (AreLimits c.args.table.now.nr) c.online.ensures.known c.online.ensures.limits
-
-pub wait_all-requires-clause-limits : goal.wait_all-requires-clause-limits
-wait_all-requires-clause-limits g c = subst (AreLimits c.args.table.now.nr) c.online.ensures.known c.online.ensures.limits
 
 pub wait_all-requires-clause-online : goal.wait_all-requires-clause-online
 wait_all-requires-clause-online g c x called =
