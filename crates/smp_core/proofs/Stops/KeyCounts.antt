@@ -51,7 +51,8 @@ module _ (n : ℕ) (f : ℕ → ℕ → Moved) (me k old new : ℕ) (low : me < 
   down_stays j ne = sum_same (λ c. (f c j).down) (λ c. (f' c j).down) n (λ c l. ap (λ (m : Moved). m.down) (elsewhere j ne c))
 
 -- a step that puts a new count in a key's word, and whose CPU has moved it so
-module _ (n : ℕ) (nudged patched : ℕ → ℕ → Moved) (at : Word → ℕ) (me k old new : ℕ) (low : me < n) (was : at (Key k) ≡ old) (h : (j : ℕ) → CountShows n nudged patched j (at (Key j))) where
+module _ (n : ℕ) (nudged patched : ℕ → ℕ → Moved) (at : Word → ℕ) (me k old new : ℕ)
+    (low : me < n) (was : at (Key k) ≡ old) (h : (j : ℕ) → CountShows n nudged patched j (at (Key j))) where
   pub counts_nudged : (j : ℕ) → CountShows n (moved_by nudged me k old new) patched j (put_word at (Key k) new (Key j))
   counts_nudged j = at_test j k (λ b. CountShows n (moved_by nudged me k old new) patched j (cond b new (at (Key j))))
       (λ e. subst (λ j. CountShows n (moved_by nudged me k old new) patched j new) (sym e)

@@ -43,7 +43,8 @@ module _ (u : Setup) (p : StopState) (at : Word → ℕ) (seat : ℕ → Seat) (
   -- who nudges
   pub nudges : (k expected new : ℕ) → c.stage ≡ Some (ExchangeKey k expected new) → Nudges u p me expected new
   nudges k expected new e =
-      let x : (c.interrupts ≡ true) × (u.online me ≡ true) × (k < u.keys) × IsNudge expected new × SitsAtRest c.visit (seat me) = at_seat (ExchangeKey k expected new) e in
+      let x : (c.interrupts ≡ true) × (u.online me ≡ true) × (k < u.keys) × IsNudge expected new × SitsAtRest c.visit (seat me) =
+      at_seat (ExchangeKey k expected new) e in
       let on = on_now x.0 in
       record { online = x.1; irq = on; whole = nobody_patches u p.now at seat h.present me x.1 on; nudge = x.3; some = above x.3 }
     where
@@ -56,20 +57,28 @@ module _ (u : Setup) (p : StopState) (at : Word → ℕ) (seat : ℕ → Seat) (
           (λ (less : expected ≡ new + 1). ((let z : 0 < expected = omega arith in z), from_on new (nudge.same ∙ lt-ltb 0 expected (omega arith))))
           nudge.one
 
+  -- what is now says what was said, and that the key was read
+  abbrev Reads : ℕ → Present → Type 0
+  Reads k n = n.readings me ≡ p.now.readings me ++ ReadKey k (is_on (at (Key k))) ∷ []
+
   -- the load of a nudge is a reading
-  nudge_reads : (k : ℕ) (up : Bool) → p.now.irq me ≡ true → (state_after u p at c me (NudgeKey k up)).now.readings me ≡ p.now.readings me ++ ReadKey k (is_on (at (Key k))) ∷ []
+  nudge_reads : (k : ℕ) (up : Bool) → p.now.irq me ≡ true → Reads k (state_after u p at c me (NudgeKey k up)).now
   nudge_reads k up on = go (p.now.inside me) refl
     where
-      read : (reads p.now me (ReadKey k (is_on (at (Key k))))).readings me ≡ p.now.readings me ++ ReadKey k (is_on (at (Key k))) ∷ []
+      read : Reads k (reads p.now me (ReadKey k (is_on (at (Key k)))))
       read = put_here p.now.readings me (p.now.readings me ++ ReadKey k (is_on (at (Key k))) ∷ [])
 
-      go : (x : Option ℕ) → p.now.inside me ≡ x → (key_loaded u p.now me k (at (Key k)) x).readings me ≡ p.now.readings me ++ ReadKey k (is_on (at (Key k))) ∷ []
+      go : (x : Option ℕ) → p.now.inside me ≡ x → Reads k (key_loaded u p.now me k (at (Key k)) x)
       go None e = read
-      go (Some j) e = subst (λ b. (cond (b && is_patch (p.now.stop j).work.kind) (record (p.now) { patching = patch_begun u me (p.now.stop j).work (at (Key k)) }) (reads p.now me (ReadKey k (is_on (at (Key k)))))).readings me
-          ≡ p.now.readings me ++ ReadKey k (is_on (at (Key k))) ∷ []) (sym (not_run u p at seat source h me j on e)) read
+      go (Some j) e =
+          let begun = record (p.now) { patching = patch_begun u me (p.now.stop j).work (at (Key k)) } in
+          subst (λ b. Reads k (cond (b && is_patch (p.now.stop j).work.kind) begun (reads p.now me (ReadKey k (is_on (at (Key k))))))) (sym (not_run u p at seat source h me j on e)) read
 
-  -- a nudge that is refused at the end of the range
-  pub edge_is_read : (k : ℕ) (up : Bool) → c.stage ≡ Some (NudgeKey k up) → (nudge_on c k (at (Key k)) (count_after (cond up Up Down) (at (Key k)))).note ≡ Some note.KeyRange →
+  -- a nudge that is refused at the end of the range; after is the count that it would leave
+  abbrev Refuses : (k : ℕ) → (after : Option ℕ) → Type 0
+  Refuses k after = (nudge_on c k (at (Key k)) after).note ≡ Some note.KeyRange
+
+  pub edge_is_read : (k : ℕ) (up : Bool) → c.stage ≡ Some (NudgeKey k up) → Refuses k (count_after (cond up Up Down) (at (Key k))) →
       StandsAtEdge p (state_after u p at c me (NudgeKey k up)) at me k up
   edge_is_read k up e refused =
       let x : (c.interrupts ≡ true) × (u.online me ≡ true) × (k < u.keys) × SitsAtRest c.visit (seat me) = at_seat (NudgeKey k up) e in
@@ -81,17 +90,17 @@ module _ (u : Setup) (p : StopState) (at : Word → ℕ) (seat : ℕ → Seat) (
       record { edge = found; read = nudge_reads k up on ∙ ap (λ b. p.now.readings me ++ ReadKey k b ∷ []) (shows up found) }
     where
       -- a nudge that goes on has another note
-      goes : (n : ℕ) → (nudge_on c k (at (Key k)) (Some n)).note ≢ Some note.KeyRange
+      goes : (n : ℕ) → Refuses k (Some n) → ⊥
       goes n = go (xor (is_on (at (Key k))) (is_on n))
         where
           go : (b : Bool) → (cond b (stop_ends c note.Stop) (stop_goes c (ExchangeKey k (at (Key k)) n))).note ≢ Some note.KeyRange
           go true e = cc
           go false e = cc
 
-      stands : (up : Bool) → IsKeyWord (at (Key k)) → (nudge_on c k (at (Key k)) (count_after (cond up Up Down) (at (Key k)))).note ≡ Some note.KeyRange → at (Key k) ≡ cond up 65535 0
+      stands : (up : Bool) → IsKeyWord (at (Key k)) → Refuses k (count_after (cond up Up Down) (at (Key k))) → at (Key k) ≡ cond up 65535 0
       stands true fits refused = go (nat_lt (at (Key k)) 65535) refl refused
         where
-          go : (b : Bool) → nat_lt (at (Key k)) 65535 ≡ b → (nudge_on c k (at (Key k)) (cond b (Some (at (Key k) + 1)) None)).note ≡ Some note.KeyRange → at (Key k) ≡ 65535
+          go : (b : Bool) → nat_lt (at (Key k)) 65535 ≡ b → Refuses k (cond b (Some (at (Key k) + 1)) None) → at (Key k) ≡ 65535
           go true z refused = absurd (goes (at (Key k) + 1) refused)
           go false z refused = elim (cases_lt (at (Key k)) 65535) [
             | inl low ↦ absurd (let bad : true ≡ false = sym (lt-ltb (at (Key k)) 65535 low) ∙ z in cc)
@@ -99,7 +108,7 @@ module _ (u : Setup) (p : StopState) (at : Word → ℕ) (seat : ℕ → Seat) (
           ]
       stands false fits refused = go (at (Key k) == 0) refl refused
         where
-          go : (b : Bool) → (at (Key k) == 0) ≡ b → (nudge_on c k (at (Key k)) (cond b None (Some (at (Key k) - 1)))).note ≡ Some note.KeyRange → at (Key k) ≡ 0
+          go : (b : Bool) → (at (Key k) == 0) ≡ b → Refuses k (cond b None (Some (at (Key k) - 1))) → at (Key k) ≡ 0
           go true z refused = eqb-true (at (Key k)) 0 z
           go false z refused = absurd (goes (at (Key k) - 1) refused)
 
@@ -112,7 +121,10 @@ module _ (u : Setup) (p : StopState) (at : Word → ℕ) (seat : ℕ → Seat) (
   loaded = record { keys = λ k. refl; sites = λ i. refl }
 
   pub keys_stand : (stage : StopStage) → c.stage ≡ Some stage → p.now.patching ≡ Whole → KeysStand at (at_then u at c me stage)
-  keys_stand TakeGate e w = elim (at Gate == 0) as (λ b. KeysStand at (cond b (put_word at Gate (me + 1)) at)) [ true ↦ record { keys = λ k. refl; sites = λ i. refl } | false ↦ loaded ]
+  keys_stand TakeGate e w = elim (at Gate == 0) as (λ b. KeysStand at (cond b (put_word at Gate (me + 1)) at)) [
+    | true ↦ record { keys = λ k. refl; sites = λ i. refl }
+    | false ↦ loaded
+  ]
   keys_stand OpenGate e w = record { keys = λ k. refl; sites = λ i. refl }
   keys_stand (Begin work f) e w = record { keys = λ k. refl; sites = λ i. refl }
   keys_stand (Enter slot) e w = record { keys = λ k. refl; sites = λ i. refl }
@@ -152,14 +164,15 @@ module _ (u : Setup) (p : StopState) (at : Word → ℕ) (seat : ℕ → Seat) (
       go false z = loaded
 
   -- a patch that is to acknowledge
-  pub patch_answers : (v : Visit) (answer : ℕ) (ran : Bool) → c.stage ≡ Some (Advance v (round.Acknowledge answer ran)) → (work : Work) (count : ℕ) (made rest : List Change) → p.now.patching ≡ Patches me work count made rest →
-      IsPatched u work count made rest answer ran
+  pub patch_answers : (v : Visit) (answer : ℕ) (ran : Bool) → c.stage ≡ Some (Advance v (round.Acknowledge answer ran)) →
+      (work : Work) (count : ℕ) (made rest : List Change) → p.now.patching ≡ Patches me work count made rest → IsPatched u work count made rest answer ran
   patch_answers v answer ran e work count made rest is =
       let x = (at_seat (Advance v (round.Acknowledge answer ran)) e).1 in
       either x.0 x.3
     where
       either : (w : Work) → ((seat me ≡ In v.slot w v.acked (v.acked + 1) Rests) × (v.acked ≡ 2 → v.kind ≡ Patch → has v.active me ≡ false)) ⊎
-          ((v.acked ≡ 2) × (ran ≡ true) × ((n : ℕ) × (answer ≡ patch_answer w n) × (seat me ≡ Alters v.slot w n (plan_at u w n) []))) → IsPatched u work count made rest answer ran
+          ((v.acked ≡ 2) × (ran ≡ true) × ((n : ℕ) × (answer ≡ patch_answer w n) × (seat me ≡ Alters v.slot w n (plan_at u w n) []))) →
+          IsPatched u work count made rest answer ran
       either w (inl (sits, calm)) =
           let r : RunnerShows u.first (Patches me work count made rest) seat = subst (λ x. RunnerShows u.first x seat) is h.present.runner in
           let bad : In v.slot w v.acked (v.acked + 1) Rests ≡ Alters r.1.0 work count made rest = sym sits ∙ r.1.1 in cc
@@ -185,4 +198,5 @@ own_patch_is_read me work kind = record { off = by_number 0; on = by_number 1; u
     own = ap (λ k. is_patch k && me == me) kind ∙ eq-eqb me me refl
 
     by_number : (n : ℕ) → work.arg ≡ n → first_readings me me work ≡ reading_of work.func (state_left (change_of n))
-    by_number n e = ap (λ b. cond b (reading_of work.func (state_left (change_of work.arg))) []) own ∙ ap (λ a. reading_of work.func (state_left (change_of a))) e
+    by_number n e =
+        ap (λ b. cond b (reading_of work.func (state_left (change_of work.arg))) []) own ∙ ap (λ a. reading_of work.func (state_left (change_of a))) e

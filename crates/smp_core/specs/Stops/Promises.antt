@@ -30,13 +30,15 @@ use Rattle.smp_core.specs.declared.word.Word.TheVariants.{Gate, Slot, Key, Site}
 
 -- at first: words with all slots and the gate free and a lawful label table with all keys off show that nothing was begun
 abbrev pub NothingBegun : Type 0
-NothingBegun = (u : Setup) (at : Word → ℕ) → IsSetup u → at Gate ≡ 0 → ((s : ℕ) → at (Slot s field.Roll) ≡ 0) → AreEntriesOf u.entries (labels_in at) → IsLawful (labels_in at) →
+NothingBegun = (u : Setup) (at : Word → ℕ) → IsSetup u → at Gate ≡ 0 → ((s : ℕ) → at (Slot s field.Roll) ≡ 0) →
+    AreEntriesOf u.entries (labels_in at) → IsLawful (labels_in at) →
     ((k : ℕ) → at (Key k) ≡ 0) → StopShows u no_stops at (λ _. Free) (λ _. Shut)
 
 -- each step of a CPU at any stage keeps what the words show, and what is seen of it tells the stops after it
 abbrev pub StepsAreTold : Type 0
 StepsAreTold = (u : Setup) (p : StopState) (at : Word → ℕ) (seat : ℕ → Seat) (source : ℕ → Source) → StopShows u p at seat source →
-    (c : StopControlValue) (me : ℕ) → Sits u me (at Gate) c (seat me) (source me) → (stage : StopStage) → c.stage ≡ Some stage → StopStep u p at seat source c me stage
+    (c : StopControlValue) (me : ℕ) → Sits u me (at Gate) c (seat me) (source me) →
+    (stage : StopStage) → c.stage ≡ Some stage → StopStep u p at seat source c me stage
 
 -- the phase law, of each open stop of several CPUs
 abbrev pub KeepThePhaseLaw : Type 0
@@ -69,7 +71,8 @@ KeepTheCountLaw = (u : Setup) (p : StopState) (at : Word → ℕ) (seat : ℕ �
 
 -- while a patch runs, every CPU that is online has its interrupts off
 abbrev pub IsPatchedAlone : Setup → StopState → Type 0
-IsPatchedAlone u p = (c : ℕ) (work : Work) (count : ℕ) (made rest : List Change) → p.now.patching ≡ Patches c work count made rest → (me : ℕ) → u.online me ≡ true → p.now.irq me ≡ false
+IsPatchedAlone u p = (c : ℕ) (work : Work) (count : ℕ) (made rest : List Change) → p.now.patching ≡ Patches c work count made rest →
+    (me : ℕ) → u.online me ≡ true → p.now.irq me ≡ false
 
 abbrev pub PatchesAlone : Type 0
 PatchesAlone = (u : Setup) (p : StopState) (at : Word → ℕ) (seat : ℕ → Seat) (source : ℕ → Source) → StopShows u p at seat source → IsPatchedAlone u p
@@ -85,7 +88,8 @@ pub record KeysStand (at at' : Word → ℕ) : Type 0 where
   pub sites : (i : ℕ) → at' (Site i) ≡ at (Site i)
 
 abbrev pub KeysStandOutsidePatches : Type 0
-KeysStandOutsidePatches = OfEachCpu (λ u p at c me. (stage : StopStage) → c.stage ≡ Some stage → p.now.patching ≡ Whole → KeysStand at (at_then u at c me stage))
+KeysStandOutsidePatches = OfEachCpu (λ u p at c me.
+    (stage : StopStage) → c.stage ≡ Some stage → p.now.patching ≡ Whole → KeysStand at (at_then u at c me stage))
 
 -- a CPU that is to put one count for another: it is online with its interrupts on, so that nobody patches; the count goes
 -- up or down by one, and neither is 0
@@ -97,7 +101,8 @@ pub record Nudges (u : Setup) (p : StopState) (me expected new : ℕ) : Type 0 w
   pub some : (0 < expected) × (0 < new)
 
 abbrev pub NudgesStand : Type 0
-NudgesStand = OfEachCpu (λ u p at c me. (k expected new : ℕ) → c.stage ≡ Some (ExchangeKey k expected new) → Nudges u p me expected new)
+NudgesStand = OfEachCpu (λ u p at c me.
+    (k expected new : ℕ) → c.stage ≡ Some (ExchangeKey k expected new) → Nudges u p me expected new)
 
 -- a nudge that is refused at the end of the range: the count stands there, and the load has read the key
 pub record StandsAtEdge (old new : StopState) (at : Word → ℕ) (me k : ℕ) (up : Bool) : Type 0 where
@@ -105,7 +110,8 @@ pub record StandsAtEdge (old new : StopState) (at : Word → ℕ) (me k : ℕ) (
   pub read : new.now.readings me ≡ old.now.readings me ++ ReadKey k up ∷ []
 
 abbrev pub EdgesAreRead : Type 0
-EdgesAreRead = OfEachCpu (λ u p at c me. (k : ℕ) (up : Bool) → c.stage ≡ Some (NudgeKey k up) → (stop_outcome me c (NudgeKey k up) (at (Key k))).note ≡ Some KeyRange →
+EdgesAreRead = OfEachCpu (λ u p at c me.
+    (k : ℕ) (up : Bool) → c.stage ≡ Some (NudgeKey k up) → (stop_outcome me c (NudgeKey k up) (at (Key k))).note ≡ Some KeyRange →
     StandsAtEdge p (state_after u p at c me (NudgeKey k up)) at me k up)
 
 -- a patch that is to acknowledge: it has made all stores of its plan, none at the end of the range, where it answers 1
@@ -116,10 +122,11 @@ pub record IsPatched (u : Setup) (work : Work) (count : ℕ) (made rest : List C
   pub runs : ran ≡ true
 
 abbrev pub PatchesAnswer : Type 0
-PatchesAnswer = OfEachCpu (λ u p at c me. (v : Visit) (answer : ℕ) (ran : Bool) → c.stage ≡ Some (Advance v (Acknowledge answer ran)) →
+PatchesAnswer = OfEachCpu (λ u p at c me.
+    (v : Visit) (answer : ℕ) (ran : Bool) → c.stage ≡ Some (Advance v (Acknowledge answer ran)) →
     (work : Work) (count : ℕ) (made rest : List Change) → p.now.patching ≡ Patches me work count made rest → IsPatched u work count made rest answer ran)
 
--- what a CPU knows of the key as it leaves its own patch, by the number of the change: a count that went down may be 0
+-- what a CPU knows of the key as it leaves its own patch, by the number of the change: nothing where the count went down
 pub record ReadsOwnPatch (me : ℕ) (work : Work) : Type 0 where
   pub off : work.arg ≡ 0 → first_readings me me work ≡ ReadKey work.func false ∷ []
   pub on : work.arg ≡ 1 → first_readings me me work ≡ ReadKey work.func true ∷ []

@@ -33,9 +33,11 @@ pub data Seat : Type 0 where
 abbrev pub Stands : Present → ℕ → Seat → Type 0
 Stands n me Free = n.inside me ≡ None
 Stands n me (In s w a l t) = (n.inside me ≡ Some s) × ((n.stop s).standing me ≡ Inside a l) × (turn_of (n.stop s).raising me ≡ t) × ((n.stop s).work ≡ w)
-Stands n me (Gives s w a v) = (n.inside me ≡ Some s) × ((n.stop s).standing me ≡ Answering a v) × (turn_of (n.stop s).raising me ≡ Rests) × ((n.stop s).work ≡ w)
+Stands n me (Gives s w a v) =
+    (n.inside me ≡ Some s) × ((n.stop s).standing me ≡ Answering a v) × (turn_of (n.stop s).raising me ≡ Rests) × ((n.stop s).work ≡ w)
 Stands n me (Alters s w count made rest) =
-    (n.inside me ≡ Some s) × ((n.stop s).standing me ≡ Inside 2 3) × (turn_of (n.stop s).raising me ≡ Rests) × ((n.stop s).work ≡ w) × (w.kind ≡ Patch) × (n.patching ≡ Patches me w count made rest)
+    (n.inside me ≡ Some s) × ((n.stop s).standing me ≡ Inside 2 3) × (turn_of (n.stop s).raising me ≡ Rests) ×
+    ((n.stop s).work ≡ w) × (w.kind ≡ Patch) × (n.patching ≡ Patches me w count made rest)
 Stands n me (Closes s) = (n.inside me ≡ None) × ((n.stop s).is_open ≡ true) × ((n.stop s).ending ≡ Last me)
 
 -- interrupts are off from the look at 2 until the CPU has left

@@ -67,7 +67,8 @@ abbrev pub SitsInRound : Setup → ℕ → List Change → Visit → RoundStage 
 SitsInRound u me changes v (round.Look answer) x = (v.kind ≢ One) × (v.acked ≢ 4) × SitsIn v v.acked Rests x
 SitsInRound u me changes v (round.LoadFunc answer) x = (v.kind ≢ One) × ((work : Work) × SitsAtRun me v work x)
 SitsInRound u me changes v (round.LoadArg answer func) x = (v.kind ≢ One) × ((work : Work) × SitsAtRun me v work x × (func ≡ work.func))
-SitsInRound u me changes v (round.LoadKey key change) x = (v.kind ≡ Patch) × ((work : Work) × SitsAtRun me v work x × (key ≡ work.func) × (change ≡ change_of work.arg))
+SitsInRound u me changes v (round.LoadKey key change) x =
+    (v.kind ≡ Patch) × ((work : Work) × SitsAtRun me v work x × (key ≡ work.func) × (change ≡ change_of work.arg))
 SitsInRound u me changes v (round.LoadEntry key word site) x =
     (work : Work) × SitsAtEntry u v work key word x × (site ≤ length u.entries) × (site < MOST_SITES) × (changes ≡ changes_of u work word site)
 SitsInRound u me changes v (round.StoreChange made) x =
@@ -85,7 +86,9 @@ abbrev pub IsThroughAll : Visit → Type 0
 IsThroughAll v = (v.acked ≡ 4) ⊎ (v.kind ≡ One)
 
 abbrev pub SitsInCompletion : Visit → CompletionStage → Seat → Type 0
-SitsInCompletion v completion.CountDown x = (work : Work) × (((v.answer ≡ 0) × IsLoaded v work × IsThroughAll v × (x ≡ In v.slot work v.acked v.acked Rests)) ⊎ (x ≡ Gives v.slot work v.acked v.answer))
+SitsInCompletion v completion.CountDown x =
+    (work : Work) × (((v.answer ≡ 0) × IsLoaded v work × IsThroughAll v × (x ≡ In v.slot work v.acked v.acked Rests)) ⊎
+    (x ≡ Gives v.slot work v.acked v.answer))
 SitsInCompletion v completion.StoreAnswer x = (v.answer ≢ 0) × IsThroughAll v × SitsIn v v.acked Rests x
 SitsInCompletion v _ x = (v.kind ≡ One) × SitsIn v v.acked Rests x
 
@@ -101,7 +104,8 @@ SitsAt u me c (Some (Close slot)) x = (c.visit ≡ None) × (x ≡ Closes slot)
 SitsAt u me c (Some (ReadKey k)) x = (c.interrupts ≡ true) × (k < u.keys) × SitsAtRest c.visit x
 SitsAt u me c (Some (ReadSite i)) x = (c.interrupts ≡ true) × (i < length u.entries) × SitsAtRest c.visit x
 SitsAt u me c (Some (NudgeKey k up)) x = (c.interrupts ≡ true) × (u.online me ≡ true) × (k < u.keys) × SitsAtRest c.visit x
-SitsAt u me c (Some (ExchangeKey k expected new)) x = (c.interrupts ≡ true) × (u.online me ≡ true) × (k < u.keys) × IsNudge expected new × SitsAtRest c.visit x
+SitsAt u me c (Some (ExchangeKey k expected new)) x =
+    (c.interrupts ≡ true) × (u.online me ≡ true) × (k < u.keys) × IsNudge expected new × SitsAtRest c.visit x
 SitsAt u me c _ x = SitsAtRest c.visit x
 
 -- a source whose stop is open or not

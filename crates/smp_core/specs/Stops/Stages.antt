@@ -161,7 +161,8 @@ abbrev pub key_on : StopControlValue → Visit → ℕ → ℕ → Option ℕ �
 key_on c v key found None = stop_goes (record c { changes = [] }) (Advance v (round.Acknowledge 1 true))
 key_on c v key found (Some new) =
     if found == new then stop_goes (record c { changes = [] }) (Advance v (round.Acknowledge 0 true))
-    else stop_goes (record c { changes = (place.Key key, new) ∷ [] }) (Advance v (if xor (is_on found) (is_on new) then round.LoadEntry key new 0 else round.StoreChange 0))
+    else stop_goes (record c { changes = (place.Key key, new) ∷ [] })
+    (Advance v (if xor (is_on found) (is_on new) then round.LoadEntry key new 0 else round.StoreChange 0))
 
 abbrev pub round_outcome : ℕ → StopControlValue → Visit → RoundStage → ℕ → StopOutcome
 round_outcome me c v (round.Look answer) found = if found == v.acked then stop_ends c note.Same else looked_on me c v answer found
@@ -244,7 +245,7 @@ FitsStop c (Advance v stage) found = FitsRound c v stage found
 FitsStop c (Complete v stage) found = FitsCompletion stage found
 FitsStop c _ found = Unit {0}
 
--- a stage of the source, of who closes a slot, or of a reading
+-- a stage of the source, of who closes a slot, of a reading, or of a nudge
 abbrev pub IsOfSource : StopStage → Type 0
 IsOfSource (Close slot) = Unit {0}
 IsOfSource LoadDone = Unit {0}

@@ -28,7 +28,13 @@ use Rattle.smp_core.specs.declared.word.Word.TheVariants.{Gate}
 
 -- what the half of this value is asked for before a CPU starts a command
 abbrev pub terms_of : StopsValue → ℕ → Terms
-terms_of v cpu = record { nr = v.nr; online = v.online; keys = v.labels.keys; sites = length v.labels.entries; holds_gate = stop_number v.table Gate == cpu + 1 }
+terms_of v cpu = record {
+  nr = v.nr;
+  online = v.online;
+  keys = v.labels.keys;
+  sites = length v.labels.entries;
+  holds_gate = stop_number v.table Gate == cpu + 1;
+}
 
 -- a slot may be entered that is one of the first, or that of a CPU
 abbrev pub has_slot : ℕ → ℕ → Bool

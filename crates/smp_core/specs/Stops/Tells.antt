@@ -2,12 +2,11 @@
 -- last, and no step shows it.
 use Rattle.std.specs.Prelude.{ℕ, Bool, true, false, ◌==◌, ◌&&◌, not, cond, Option, Some, None, List, [], ◌∷◌, ◌++◌}
 use Rattle.smp_mask.specs.Mask.{has}
-use Rattle.smp_labels.specs.Keys.{is_on}
+use Rattle.smp_labels.specs.Keys.{is_on, change_of}
 use Rattle.smp_labels.specs.Plans.{plan_of}
 use Rattle.smp_core.specs.Put.{put}
 use Rattle.smp_core.specs.Stops.Stop.{Standing, Inside, Answering, Stop, stands, acknowledged, refilled, raised, completed, ended, opened, closed}
 use Rattle.smp_core.specs.Stops.Slots.{kind_at}
-use Rattle.smp_labels.specs.Keys.{change_of}
 use Rattle.smp_core.specs.Stops.KeyCounts.{moved_by}
 use Rattle.smp_core.specs.Stops.Labels.{Change, Patching, Whole, Patches, Reading, ReadKey, ReadSite, count_set, state_left, reading_of}
 use Rattle.smp_core.specs.Stops.State.{Setup, Present, StopState, StopCall, Moved}

@@ -1,13 +1,8 @@
 //! Where a CPU stands in the stop half: which step it makes next, and what it knows of the stop that it is in.
 
-ghost use Rattle.std.specs.Prelude.{◌≡◌, ◌<◌, ◌≤◌, ◌^◌, ℕ};
-ghost use Rattle.smp_core.specs.Stops.Stages.{acked_on, begun_next, completion_outcome, entry_on, looked_on, round_outcome, stop_ends, stop_goes, stop_outcome, stop_outside, turn_ends, FitsStop, FitsRound, FitsCompletion};
-ghost use Rattle.std.specs.Prelude.{length};
-ghost use Rattle.smp_core.specs.Stops.Stages.{change_at};
-ghost use Rattle.smp_core.specs.Stops.Stages.{IsOfSource, key_on, nudge_of, nudge_on};
+ghost use Rattle.std.specs.Prelude.{◌≡◌, ◌<◌, ℕ, Some, None, [], length};
 ghost use Rattle.smp_labels.specs.Keys.{count_after};
-ghost use Rattle.std.specs.Prelude.{Some, None, []};
-ghost use Rattle.smp_core.specs.Stops.Slots.{kind_at};
+ghost use Rattle.smp_core.specs.Stops.Stages.{acked_on, begun_next, change_at, completion_outcome, entry_on, key_on, looked_on, nudge_of, nudge_on, round_outcome, stop_ends, stop_goes, stop_outcome, stop_outside, turn_ends, FitsStop, FitsRound, FitsCompletion, IsOfSource};
 
 use crate::seen::Note;
 use crate::stop::field::Field;
@@ -195,8 +190,8 @@ impl StopControl {
         self.go_on(StopStage::Advance(visit, next))
     }
 
-    /// The first load of a patch. The answer is 1 where the count stands at that end of its range, and nothing is to be
-    /// done there or where it stays; entries are loaded where the key goes on or off.
+    /// The first load of a patch. Where the count stands at the end of its range nothing is stored, and the answer is 1;
+    /// else the count is stored where it changes, and the entries are loaded first where the key goes on or off.
     fn key_on(&mut self, visit: Visit, key: u16, change: Change, found: u64) -> Option<Note>
         ensures note { result ≡ (round_outcome 0 self.old visit (RoundStage.LoadKey key change) found).note }
         ensures control { self.new ≡ (round_outcome 0 self.old visit (RoundStage.LoadKey key change) found).control }

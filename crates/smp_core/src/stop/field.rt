@@ -11,7 +11,7 @@ pub enum Field {
     Active,
     /// The function, or of a patch the key.
     Func,
-    /// The argument, or of a patch the key's new word.
+    /// The argument, or of a patch the number of its change.
     Arg,
     /// The phase (`state`).
     State,

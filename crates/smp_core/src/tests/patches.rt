@@ -14,12 +14,12 @@ fn two_sites<A: Allocator + Copy>(alloc: A, nr: u32) -> Result<Core<A>, SmpError
     Core::with_labels(alloc, nr, all_online(nr)?, &labels)
 }
 
-// A patch by the only CPU, of key 0 to this word, as far as its function.
-fn lone_patch(to: u64) -> Result<[Line; 5], SmpError> {
+// A patch by the only CPU, which makes the change of this number to key 0, as far as its function.
+fn lone_patch(change: u64) -> Result<[Line; 5], SmpError> {
     let one = CpuMask::of(0)?;
     Ok([
         Goes(0, Command::Gate, 1, Note::Gate),
-        Goes(0, work(Kind::Patch, one, one, 0, to), 11, Note::Begun),
+        Goes(0, work(Kind::Patch, one, one, 0, change), 11, Note::Begun),
         Goes(0, Command::Enter(0), 4, Note::Entered),
         Goes(0, Command::Advance(0), 4, Note::Moved(1)),
         Goes(0, Command::Advance(0), 4, Note::Moved(2)),
@@ -51,7 +51,7 @@ fn patch_of_one_cpu(rt: HostRuntime) -> Result<(), Fail> {
 }
 
 #[test]
-fn a_patch_to_the_same_word_stores_nothing(rt: HostRuntime) -> Result<(), Fail> {
+fn a_patch_to_the_same_count_stores_nothing(rt: HostRuntime) -> Result<(), Fail> {
     let mut core = two_sites(rt.alloc(), 1)?;
     assert_eq!(rt; first_fault(&mut core, &lone_patch(0)?)?, None);
     let run = [
