@@ -3,9 +3,9 @@
 //! A cache line has eight words. The heads, the interrupt words and the handling words are first by their numbers,
 //! and each of them has eight cells, so that no two of them lie in one line, wherever the table begins: a CPU that
 //! polls its own words takes no line from another CPU that polls. All later words lie side by side, in the order
-//! of their numbers: a row of a CPU's tallies fills one line, and the records of one source six. That is so where
-//! the table begins at a line. Its memory is only aligned as a word is (`atomic_table`), so that such a row may
-//! have its ends in lines of its neighbours.
+//! of their numbers: a row of a CPU's tallies fills four lines, the first records of one source six, and its
+//! further ones twelve. That is so where the table begins at a line. Its memory is only aligned as a word is
+//! (`atomic_table`), so that such a row may have its ends in lines of its neighbours.
 
 ghost use Rattle.std.specs.Prelude.{◌≡◌, ◌≤◌, ◌+◌, ◌*◌, Some};
 ghost use Rattle.smp_queue.specs.Cells.{HasCell, cell_of};
