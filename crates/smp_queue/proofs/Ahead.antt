@@ -15,7 +15,10 @@ use Rattle.smp_core.specs.declared.handle.Walk.{Walk}
 use Rattle.smp_core.specs.declared.handle.HandleStage.TheVariants as handle
 use Rattle.smp_core.specs.declared.known.Running.TheVariants.{Nothing}
 use Rattle.smp_core.specs.declared.word.Word.TheVariants.{Next}
+use Rattle.smp_core.specs.declared.known.Known.{Known}
+use Rattle.smp_queue.specs.Cpu.{CpuValue, cpu_of}
 use Rattle.smp_queue.specs.Desk.{Desk, InHandle}
+use Rattle.smp_queue.specs.Handling.{runs}
 
 -- the calls from this record on
 abbrev pub left_from : Option ℕ → List Call → ℕ
@@ -65,3 +68,7 @@ ahead_then taken taken' here next id n e f t l =
     subst (λ (x : Option ℕ). left_from next (last_batch taken') < left_from x (last_batch taken)) (sym e)
     (subst (λ (x : Option ℕ). left_from x (last_batch taken') < left_from (Some id) (last_batch taken)) (sym f)
     (subst (λ (x : List (List Call)). left_from (record_at n) (last_batch x) < left_from (Some id) (last_batch taken)) (sym t) l))
+
+-- a CPU that has run calls, and no more, has taken no queue
+pub same_taken : (d d1 d2 : Desk) (calls : List Call) → d1.known ≡ record (d.known) { stage = d1.known.stage } → cpu_of d2 ≡ runs calls (cpu_of d1) → d2.known.taken ≡ d.known.taken
+same_taken d d1 d2 calls k ran = ap (λ (v : CpuValue). v.taken) ran ∙ ap (λ (u : Known). u.taken) k

@@ -100,6 +100,10 @@ module _ (t : TableId) (d d1 d2 : Desk) (walk : Walk) (id : ℕ) (next : Option 
     pub sync_goes : (h : HandleStage) → unlink_after walk.last walk (record { id = id; class = Sync; func = func; info = info }) next ≡ h → InHandle t d2 h
     sync_goes h e = in_handle_then t d2 h (goes_known (handle.LoadInfo walk id next func) info (goes_known (handle.LoadFunc walk id next) func d.known)) at.sized l2.table_is l2.lives sync_known (ap (λ (x : HandleStage). Some (Handle x)) e)
 
+-- steps that change what a CPU knows by its stage alone, after others that did
+pub kept_on : (v v1 v2 : Known) → v1 ≡ record v { stage = v1.stage } → v2 ≡ record v1 { stage = v2.stage } → v2 ≡ record v { stage = v2.stage }
+kept_on v v1 v2 k1 k2 = k2 ∙ ap (λ (u : Known). record u { stage = v2.stage }) k1
+
 -- a CPU in its first pass, between two records
 pub record Running1 {H : Type 0} (leads : H → Heard → H → Type 0) (t : TableId) (before d : Desk) (walk : Walk) (here : Option ℕ) (counts : List ℕ) (first now : H) : Type 0 where
   pub at : InHandle t d (first_on walk here)

@@ -28,11 +28,7 @@ fn reverse_one(words: &Words, chair: &mut Chair, newer: Option<u32>, id: u32) ->
 }
 
 /// Reverses the chain from this record down: its oldest record, and how many it has.
-pub(crate) fn reverse(
-    words: &Words,
-    chair: &mut Chair,
-    newest: Option<u32>,
-) -> (Option<u32>, u32)
+pub(crate) fn reverse(words: &Words, chair: &mut Chair, newest: Option<u32>) -> (Option<u32>, u32)
     requires at { InHandle words.now.table_id chair.old (reverse_on None newest) }
     requires none { chair.old.known.drain.calls ≡ 0 }
     ensures at { InHandle words.now.table_id chair.new (first_on (record { first = result.0; last = None }) result.0) }

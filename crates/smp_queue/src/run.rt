@@ -11,12 +11,11 @@ use crate::chair::{Chair, load, store};
 use crate::handler::Handler;
 use crate::laws;
 use crate::rule::Words;
-use smp_core::Call;
-use smp_core::Word;
 use smp_core::call::Class;
 use smp_core::drain::record_of;
 use smp_core::handle::{Walk, link_of};
 use smp_core::size::owner_of;
+use smp_core::{Call, Word};
 
 /// One call more from this source: how many there are.
 fn count(counts: &mut [u64], source: u32) -> u64
@@ -47,8 +46,8 @@ fn run_sync<H: Handler>(
 {
     let begun = laws::begin_sync(words, chair, number, walk, call, next, handler);
     handler.call(owner_of(call.id), call.func, call.info);
-    let count = count(counts, owner_of(call.id));
-    laws::count_sync(words, chair, number, walk, call, next, count, handler, &begun);
+    let ran = count(counts, owner_of(call.id));
+    laws::count_sync(words, chair, number, walk, call, next, ran, handler, &begun);
     laws::end_sync(words, chair, walk, call, next, handler, begun);
 }
 
@@ -69,18 +68,12 @@ fn run_async<H: Handler>(
 {
     let begun = laws::begin_async(words, chair, call, next, handler);
     handler.call(owner_of(call.id), call.func, call.info);
-    let count = count(counts, owner_of(call.id));
-    laws::count_async(words, chair, number, call, next, count, handler, begun);
+    let ran = count(counts, owner_of(call.id));
+    laws::count_async(words, chair, number, call, next, ran, handler, begun);
 }
 
 /// Loads a SYNC call, and takes its record out of the chain.
-fn unlink(
-    words: &Words,
-    chair: &mut Chair,
-    walk: Walk,
-    id: u32,
-    next: Option<u32>,
-) -> (Walk, Call)
+fn unlink(words: &Words, chair: &mut Chair, walk: Walk, id: u32, next: Option<u32>) -> (Walk, Call)
     requires at { InHandle words.now.table_id chair.old (handle.LoadFunc walk id next) }
     ensures at { InHandle words.now.table_id chair.new (handle.BeginSync result.0 result.1 next) }
     ensures known { chair.new.known ≡ record (chair.old.known) { stage = chair.new.known.stage } }

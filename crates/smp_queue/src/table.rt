@@ -12,7 +12,7 @@
 //! | `ran.d.s` | d | d | none | d alone |
 //! | `flags.r` | the source at any time, the target with the record in its batch | the source while LOCK is clear or its record is not queued; the target's last store of a call | none | LOCK: between the won exchange and the target's clearing store, the source only loads |
 //! | `func.r`, `info.r` | the target with the record in its batch | the source before the exchange that queues the record | none | that exchange, and the swap that takes the queue |
-//! | `next.r` | the target with the record in its batch | the source before each exchange | none | the same |
+//! | `next.r` | the target with the record in its batch | the source before each exchange; the target with the record in its batch | none | the same |
 
 ghost use Rattle.std.specs.Prelude.{◌≡◌, ◌≢◌, ◌⊎◌, ◌↔◌, ◌<◌, ◌≤◌, ◌%◌, ◌^◌, true, false, length, if◌then◌else◌, IfOk, IfErr, OnOk, IsErrOf, Ok, List};
 ghost use Rattle.smp_mask.specs.Mask.{has};
@@ -288,13 +288,7 @@ impl<A: Allocator> CallTable<A> {
         ensures laws { IsShown me.new }
     {
         let words = &self.owner.shared;
-        handle(
-            words,
-            &mut me.chair,
-            me.number,
-            &mut me.ran,
-            handler,
-        )
+        handle(words, &mut me.chair, me.number, &mut me.ran, handler)
     }
 
     /// Gives up the table and one of its CPUs. Drained where all queues are empty, all records unlocked and all

@@ -8,6 +8,7 @@ use super::*;
 use crossbeam_utils::Backoff;
 use linked_list_allocator::LocalHeap;
 use smp_core::call::Class;
+use smp_core::size::NR_CPUS;
 use smp_mask::{CpuMask, SmpError};
 use std::alloc::Global;
 use std::marker::Model;
@@ -105,13 +106,15 @@ fn a_table_has_lawful_limits(rt: HostRuntime) -> Result<(), Fail> {
 
 #[test]
 fn each_growth_may_be_refused(rt: HostRuntime) -> Result<(), Fail> {
-    let online: CpuMask = "0-7".parse()?;
-    for size in 0..100_000usize {
+    let online: CpuMask = "0-31".parse()?;
+    // No growth is smaller than 16 bytes, so that each is the first to be refused by some heap.
+    for steps in 0..100_000usize {
+        let size = steps * 16;
         let heap = LocalHeap::new(rt.alloc(), size)?;
-        match CallTable::new(&heap, 8, online) {
+        match CallTable::new(&heap, NR_CPUS, online) {
             Ok(_) => {
-                // A table has 704 cells of 8 bytes.
-                assert!(rt; size > 704 * 8, "{size} bytes");
+                // A table has 6,752 words of 8 bytes.
+                assert!(rt; size > 6_752 * 8, "{size} bytes");
                 return Ok(());
             }
             Err(error) => assert_eq!(rt; error, SmpError::NoMemory, "{size} bytes"),
@@ -154,6 +157,40 @@ fn misuse_is_refused(rt: HostRuntime) -> Result<(), Fail> {
             Err(SmpError::BadArgument),
             "{k} {to} {class:?} {tries}"
         );
+    }
+    Ok(())
+}
+
+#[test]
+fn each_cpu_that_there_is_has_a_record_of_its_own(rt: HostRuntime) -> Result<(), Fail> {
+    // By its number of CPUs, whether a table has these records, and they carry calls to these CPUs.
+    for (nr, cpus, k, to, is_there) in [
+        (32, "0-31", 12, 8, true),
+        (32, "0-31", 35, 31, true),
+        (32, "0-31", 36, 31, false),
+        (10, "0-9", 13, 9, true),
+        (10, "0-9", 14, 9, false),
+        (8, "0-7", 9, 7, true),
+        (8, "0-7", 12, 7, false),
+    ] {
+        let (table, mut boot) = CallTable::new(rt.alloc(), nr, cpus.parse()?)?;
+        let mut zero = drive(&table, &mut boot, 0)?;
+        let wanted = if is_there {
+            (Ok(true), Ok(true), Ok(false))
+        } else {
+            (
+                Err(SmpError::BadArgument),
+                Err(SmpError::BadArgument),
+                Err(SmpError::BadArgument),
+            )
+        };
+        assert_eq!(rt;
+            (zero.is_done(k), zero.post(k, to, 1), zero.is_done(k)),
+            wanted,
+            "{nr} {k}"
+        );
+        // It carries calls to no other CPU.
+        assert_eq!(rt; zero.post(k, 1, 1), Err(SmpError::BadArgument), "{nr} {k}");
     }
     Ok(())
 }

@@ -55,20 +55,41 @@ fn a_queued_call_is_left(rt: HostRuntime) -> Result<(), Fail> {
 
 #[test]
 fn each_queue_and_each_record_is_left(rt: HostRuntime) -> Result<(), Fail> {
-    let (table, mut boot) = CallTable::new(rt.alloc(), 8, "0-7".parse()?)?;
-    let mut zero = seat(&table, &mut boot, 0)?;
-    let mut last = seat(&table, &mut boot, 7)?;
+    for (nr, cpus, top) in [(8, "0-7", 7), (32, "0-31", 31)] {
+        let (table, mut boot) = CallTable::new(rt.alloc(), nr, cpus.parse()?)?;
+        let mut zero = seat(&table, &mut boot, 0)?;
+        let mut last = seat(&table, &mut boot, top)?;
+        let posted = (
+            table.post_within(&mut last, 10, top - 1, Class::Async, 1, 1, 1),
+            table.post_within(&mut last, 11, top - 1, Class::Async, 1, 1, 1),
+            table.post_within(&mut zero, 0, top, Class::Sync, 1, 1, 1),
+        );
+        assert_eq!(rt; posted, (Ok(true), Ok(false), Ok(true)), "{nr}");
+        let left = Left {
+            heads: 2,
+            locked: 3,
+            handling: 0,
+        };
+        assert_eq!(rt; table.audit(zero), Audit::Left(left), "{nr}");
+    }
+    Ok(())
+}
+
+#[test]
+fn the_last_records_of_the_last_cpus_are_left(rt: HostRuntime) -> Result<(), Fail> {
+    let (table, mut boot) = CallTable::new(rt.alloc(), 32, "0-31".parse()?)?;
+    let mut last = seat(&table, &mut boot, 31)?;
+    let mut before = seat(&table, &mut boot, 30)?;
     let posted = (
-        table.post_within(&mut last, 10, 6, Class::Async, 1, 1, 1),
-        table.post_within(&mut last, 11, 6, Class::Async, 1, 1, 1),
-        table.post_within(&mut zero, 0, 7, Class::Sync, 1, 1, 1),
+        table.post_within(&mut last, 34, 30, Class::Sync, 1, 1, 1),
+        table.post_within(&mut before, 35, 31, Class::Async, 1, 1, 1),
     );
-    assert_eq!(rt; posted, (Ok(true), Ok(false), Ok(true)));
+    assert_eq!(rt; posted, (Ok(true), Ok(true)));
     let left = Left {
         heads: 2,
-        locked: 3,
+        locked: 2,
         handling: 0,
     };
-    assert_eq!(rt; table.audit(zero), Audit::Left(left));
+    assert_eq!(rt; table.audit(last), Audit::Left(left));
     Ok(())
 }

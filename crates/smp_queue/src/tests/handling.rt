@@ -91,6 +91,75 @@ fn sync_calls_run_first(rt: HostRuntime) -> Result<(), Fail> {
     Ok(())
 }
 
+/// Posts a call by each of the records by which a CPU may call CPU 31; true where it queued all of them.
+fn post_five(cpu: &mut Driver, class: Class) -> bool {
+    cpu.call(1, 31, Class::Async, 1, 0).is_ok()
+        && cpu.call(0, 31, Class::Sync, 2, 0).is_ok()
+        && cpu.call(35, 31, class, 3, 0).is_ok()
+        && cpu.call(10, 31, Class::Async, 4, 0).is_ok()
+        && cpu.call(11, 31, Class::Async, 5, 0).is_ok()
+}
+
+/// Ten calls to CPU 31, five of each of two CPUs, of which two of the first and one of the second are SYNC; true
+/// where it runs these calls in this order.
+fn run_ten(
+    alloc: Global,
+    first: &mut Driver,
+    second: &mut Driver,
+    last: &mut Driver,
+    calls: &[(u32, u16, u64)],
+) -> bool {
+    let mut heard = Recorder::new(alloc);
+    post_five(first, Class::Sync)
+        && post_five(second, Class::Async)
+        && first.send(31).is_ok()
+        && last.handle(&mut heard) == handled(10)
+        && heard.has_heard(calls)
+}
+
+/// SYNC calls first, then ASYNC calls, both oldest first.
+fn in_order(first: u32, second: u32) -> [(u32, u16, u64); 10] {
+    [
+        (first, 2, 0),
+        (first, 3, 0),
+        (second, 2, 0),
+        (first, 1, 0),
+        (first, 4, 0),
+        (first, 5, 0),
+        (second, 1, 0),
+        (second, 3, 0),
+        (second, 4, 0),
+        (second, 5, 0),
+    ]
+}
+
+#[test]
+fn a_long_batch_runs_in_its_order(rt: HostRuntime) -> Result<(), Fail> {
+    let (table, mut boot) = CallTable::new(rt.alloc(), 32, "0-31".parse()?)?;
+    let mut zero = drive(&table, &mut boot, 0)?;
+    let mut eight = drive(&table, &mut boot, 8)?;
+    let mut last = drive(&table, &mut boot, 31)?;
+    let mut ran = run_ten(
+        rt.alloc(),
+        &mut zero,
+        &mut eight,
+        &mut last,
+        &in_order(0, 8),
+    );
+    assert!(rt; ran);
+    // The same records once more, in another order and of other classes.
+    ran = run_ten(
+        rt.alloc(),
+        &mut eight,
+        &mut zero,
+        &mut last,
+        &in_order(8, 0),
+    );
+    assert!(rt; ran);
+    assert_eq!(rt; (last.tally(0), last.tally(8)), ((0, 10), (0, 10)));
+    Ok(())
+}
+
 #[test]
 fn a_record_is_busy_until_its_call_has_run(rt: HostRuntime) -> Result<(), Fail> {
     let (table, mut boot) = CallTable::new(rt.alloc(), 2, "0-1".parse()?)?;
@@ -210,38 +279,72 @@ fn handle_until(cpu: &mut Driver, counter: &mut Counter, calls: u64) -> bool {
     false
 }
 
-/// Posts 100 calls to each other CPU of four while it handles the 300 that they post to it.
-fn post_to_all(mut cpu: Driver, number: u32, right: &AtomicU64) {
+/// The record for calls to many by which a CPU calls this one.
+fn record_for(to: u32) -> u32 {
+    match to {
+        0..8 => to + 2,
+        8..32 => to + 4,
+        _ => 0,
+    }
+}
+
+/// Posts so many calls to each other CPU of these while it handles those that they post to it.
+fn post_to_all(mut cpu: Driver, number: u32, cpus: &[u32], calls: u32, right: &AtomicU64) {
     let mut counter = Counter { calls: 0 };
     let mut whole = true;
-    for _ in 0..100u32 {
-        for to in 0..4u32 {
+    let mut due = 0u64;
+    for _ in 0..calls {
+        for &to in cpus {
             if to != number {
-                whole = post_at_last(&mut cpu, 2 + to, to, &mut counter) && whole;
+                whole = post_at_last(&mut cpu, record_for(to), to, &mut counter) && whole;
+                due = due.wrapping_add(1);
             }
         }
     }
-    if handle_until(&mut cpu, &mut counter, 300) && whole {
+    if handle_until(&mut cpu, &mut counter, due) && whole {
         right.fetch_add(1, Ordering::SeqCst);
     }
 }
 
-/// Lets four CPUs of a new table post to each other: how many of them saw what they should, and the audit with
-/// a fifth CPU.
-fn all_to_all<R: Wait + Threads>(rt: &R, alloc: Global) -> Result<(u64, Audit), Fail> {
-    let (table, mut boot) = CallTable::new(alloc, 5, "0-4".parse()?)?;
+/// The tally where each CPU of these has queued so many calls for each other of them, and all have run.
+fn all_pairs(cpus: &[u32], calls: u64) -> Tally {
+    let mut tally = Tally {
+        queued: [[0; NR_CPUS as usize]; NR_CPUS as usize],
+        ran: [[0; NR_CPUS as usize]; NR_CPUS as usize],
+    };
+    for one in 0..NR_CPUS {
+        for other in 0..NR_CPUS {
+            if one != other && cpus.contains(&one) && cpus.contains(&other) {
+                tally.queued[one as usize][other as usize] = calls;
+                tally.ran[one as usize][other as usize] = calls;
+            }
+        }
+    }
+    tally
+}
+
+/// Lets these four CPUs of a new table post to each other: how many of them saw what they should, and the audit
+/// with a fifth CPU, 4.
+fn all_to_all<R: Wait + Threads>(
+    rt: &R,
+    alloc: Global,
+    nr: u32,
+    online: CpuMask,
+    cpus: [u32; 4],
+) -> Result<(u64, Audit), Fail> {
+    let (table, mut boot) = CallTable::new(alloc, nr, online)?;
     let last = seat(&table, &mut boot, 4)?;
     let shared = AtomicU64::new(0);
     let right = &shared;
-    let zero = drive(&table, &mut boot, 0)?;
-    let one = drive(&table, &mut boot, 1)?;
-    let two = drive(&table, &mut boot, 2)?;
-    let three = drive(&table, &mut boot, 3)?;
+    let zero = drive(&table, &mut boot, cpus[0])?;
+    let one = drive(&table, &mut boot, cpus[1])?;
+    let two = drive(&table, &mut boot, cpus[2])?;
+    let three = drive(&table, &mut boot, cpus[3])?;
     thread::scope(thread::scope_env(), rt, |scope| {
-        let _ = scope.spawn(move || post_to_all(zero, 0, right));
-        let _ = scope.spawn(move || post_to_all(one, 1, right));
-        let _ = scope.spawn(move || post_to_all(two, 2, right));
-        post_to_all(three, 3, right);
+        let _ = scope.spawn(move || post_to_all(zero, cpus[0], &cpus, 100, right));
+        let _ = scope.spawn(move || post_to_all(one, cpus[1], &cpus, 100, right));
+        let _ = scope.spawn(move || post_to_all(two, cpus[2], &cpus, 100, right));
+        post_to_all(three, cpus[3], &cpus, 100, right);
     });
     let count = right.load(Ordering::SeqCst);
     Ok((count, table.audit(last)))
@@ -249,29 +352,15 @@ fn all_to_all<R: Wait + Threads>(rt: &R, alloc: Global) -> Result<(u64, Audit), 
 
 #[test]
 fn four_threads_post_to_each_other(rt: HostRuntime) -> Result<(), Fail> {
-    let (right, audit) = all_to_all(&rt, rt.alloc())?;
-    assert_eq!(rt; right, 4);
-    // Each of CPUs 0 to 3 has queued 100 calls for each other of them.
-    let row = |cpu: usize| {
-        let mut row = [100, 100, 100, 100, 0, 0, 0, 0];
-        row[cpu % 8] = 0;
-        row
-    };
-    let pairs = [
-        row(0),
-        row(1),
-        row(2),
-        row(3),
-        [0; 8],
-        [0; 8],
-        [0; 8],
-        [0; 8],
-    ];
-    let tally = Tally {
-        queued: pairs,
-        ran: pairs,
-    };
-    assert_eq!(rt; audit, Audit::Drained(tally));
+    for (nr, online, cpus) in [
+        (5, "0-4", [0, 1, 2, 3]),
+        (32, "0-31", [0, 8, 16, 31]),
+        (32, "0-31", [7, 15, 23, 30]),
+    ] {
+        let (right, audit) = all_to_all(&rt, rt.alloc(), nr, online.parse()?, cpus)?;
+        assert_eq!(rt; right, 4, "{nr}");
+        assert_eq!(rt; audit, Audit::Drained(all_pairs(&cpus, 100)), "{nr}");
+    }
     Ok(())
 }
 

@@ -5,12 +5,11 @@ use Rattle.smp_core.specs.declared.call.Class.{Class}
 use Rattle.smp_core.specs.declared.handle.HandleStage.TheVariants as handle
 use Rattle.smp_core.specs.declared.known.Known.{Known}
 use Rattle.smp_core.specs.declared.word.Word.TheVariants as word
-use Rattle.smp_queue.specs.Cpu.{CpuValue}
 use Rattle.smp_queue.specs.Desk.{InHandle}
-use Rattle.smp_queue.proofs.Ahead.{ahead_less, ahead_then}
+use Rattle.smp_queue.proofs.Ahead.{ahead_less, ahead_then, same_taken}
 use Rattle.smp_queue.proofs.Handles.{in_handle_ready}
 use Rattle.smp_queue.proofs.Running.{more_run}
-use Rattle.smp_queue.proofs.Going.{HasLoad, found_fits, sync_flags_at, class_goes, class_kept, run_kept}
+use Rattle.smp_queue.proofs.Going.{HasLoad, found_fits, sync_flags_at, class_goes, class_kept, kept_on, run_kept}
 use Rattle.smp_queue.proofs.run.run_sync_calls.Goals as goal
 
 pub load-link-requires : goal.load-link-requires
@@ -50,8 +49,8 @@ loop-here-smaller-in-Sync g c =
     let e2 = c.load-flags.ensures in
     let l2 : HasLoad c.args.words.now.table_id c.load-link.new.chair c.load-flags.new.chair (word.Flags c.in-Some.id) c.load-flags.result = record { moment = e2.then; table_is = e2.table; lives = e2.lives; known_is = e2.known } in
     let known = class_kept _ _ _ _ _ _ _ _ here l1 l2 in
-    let kept = c.unlink.ensures.known ∙ ap (λ (u : Known). record u { stage = c.unlink.new.chair.known.stage }) known in
-    let taken = ap (λ (v : CpuValue). v.taken) c.run_sync.ensures.cpu ∙ ap (λ (u : Known). u.taken) kept in
+    let kept = kept_on c.loop-here.chair.known c.load-flags.new.chair.known c.unlink.new.chair.known known c.unlink.ensures.known in
+    let taken = same_taken c.loop-here.chair c.unlink.new.chair c.run_sync.new.chair _ kept c.run_sync.ensures.cpu in
     ahead_then _ _ _ _ _ _ c.in-Some.is c.record_of-next.ensures taken (ahead_less _ _ _ _ _ here e1.then)
 
 pub loop-here-preserved-in-Sync : goal.loop-here-preserved-in-Sync
@@ -62,7 +61,7 @@ loop-here-preserved-in-Sync g c =
     let e2 = c.load-flags.ensures in
     let l2 : HasLoad c.args.words.now.table_id c.load-link.new.chair c.load-flags.new.chair (word.Flags c.in-Some.id) c.load-flags.result = record { moment = e2.then; table_is = e2.table; lives = e2.lives; known_is = e2.known } in
     let known = class_kept _ _ _ _ _ _ _ _ here l1 l2 in
-    let kept = c.unlink.ensures.known ∙ ap (λ (u : Known). record u { stage = c.unlink.new.chair.known.stage }) known in
+    let kept = kept_on c.loop-here.chair.known c.load-flags.new.chair.known c.unlink.new.chair.known known c.unlink.ensures.known in
     let ran = run_kept g.H.Handler.leads c.args.chair.now c.loop-here.chair c.unlink.new.chair _ _ _ c.loop-here.invariant.ran (c.unlink.ensures.at.table_is ∙ sym here.table_is) kept in
     record { at = c.run_sync.ensures.at; ran = more_run g.H.Handler.leads _ _ _ _ _ _ _ _ _ _ _ ran c.run_sync.ensures }
 
@@ -85,5 +84,5 @@ loop-here-preserved g c =
     let l2 : HasLoad c.args.words.now.table_id c.load-link.new.chair c.load-flags.new.chair (word.Flags c.in-Some.id) c.load-flags.result = record { moment = e2.then; table_is = e2.table; lives = e2.lives; known_is = e2.known } in
     let known = class_kept _ _ _ _ _ _ _ _ here l1 l2 in
     let at = class_goes _ _ _ _ _ _ _ _ here l1 l2 (first_on (record { first = c.loop-here.walk.first; last = Some c.in-Some.id }) c.record_of-next.result)
-        (ap (λ (k : Class). by_class k c.loop-here.walk c.in-Some.id (record_at c.load-link.result)) (sym c.of_flags.ensures ∙ c.in-Async.is) ∙ ap (first_on (record { first = c.loop-here.walk.first; last = Some c.in-Some.id })) (sym c.record_of-next.ensures)) in
+    (ap (λ (k : Class). by_class k c.loop-here.walk c.in-Some.id (record_at c.load-link.result)) (sym c.of_flags.ensures ∙ c.in-Async.is) ∙ ap (first_on (record { first = c.loop-here.walk.first; last = Some c.in-Some.id })) (sym c.record_of-next.ensures)) in
     record { at = at; ran = run_kept g.H.Handler.leads c.args.chair.now c.loop-here.chair c.load-flags.new.chair _ _ _ c.loop-here.invariant.ran (e2.table ∙ sym here.table_is) known }
