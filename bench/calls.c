@@ -9,7 +9,7 @@
  *   -DAPART=N    head, interrupt and handling words begin N words apart (1: side by side)
  *   -DSTRIDE=N   records begin N words apart (4: side by side)
  *   -DROWS=N     the tallies of two CPUs begin N words apart (64: side by side)
- *   -DSHIFT=N    the words begin at the Nth word of a cache line
+ *   -DSHIFT=N    the words begin N words after the beginning of a cache line
  *   -DLOOK       a CPU looks at its interrupt word first
  */
 #define _GNU_SOURCE
@@ -56,6 +56,7 @@ enum {
 
 typedef _Atomic uint64_t word;
 
+/* A CPU and what it alone writes, with cache lines of its own. */
 struct cpu {
 	_Alignas(64) word *words;
 	uint32_t number;

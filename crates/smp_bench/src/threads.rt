@@ -6,7 +6,7 @@ use crate::error::BenchError;
 use crate::meter::{Measured, Meter};
 use crate::seat::{Room, Seat, calls_run, last_of};
 use crate::workload::Workload;
-use crossbeam_utils::Backoff;
+use crossbeam_utils::{Backoff, CachePadded};
 use smp_mask::CpuMask;
 use smp_queue::CallTable;
 use std::alloc::Global;
@@ -174,11 +174,12 @@ fn run_threads<'a, R: Wait + Threads + Clock + Eprint + Sync>(
     others: CpuMask,
     meter: &mut Meter<R>,
 ) -> bool {
-    let shared = Progress {
+    // All threads look at it all the time, so that it must share no line with what one of them writes.
+    let shared = CachePadded::new(Progress {
         sign: AtomicU64::new(0),
         done: AtomicU64::new(0),
-    };
-    let progress = &shared;
+    });
+    let progress: &Progress = &shared;
     let sources = helpers.len() as u64;
     let times = if sources > 0 {
         meter.quota() / sources
