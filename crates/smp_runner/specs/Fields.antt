@@ -39,12 +39,12 @@ abbrev pub way_of : List ℕ → Result Bool Cause
 way_of text = if bytes_eq text (codes "up") then Ok true else (if bytes_eq text (codes "down") then Ok false else Err Word)
 
 -- all CPUs of the mask are below the limit
-abbrev pub is_within : ℕ → ℕ → Bool
-is_within limit mask = list_all (λ cpu. nat_lt cpu limit) (members mask)
+abbrev pub stays_below : ℕ → ℕ → Bool
+stays_below limit mask = list_all (λ cpu. nat_lt cpu limit) (members mask)
 
 -- a mask that was read, where all its CPUs are below the limit
 abbrev pub or_mask : ℕ → Result ℕ SmpError → Result ℕ Cause
-or_mask limit (Ok mask) = if is_within limit mask then Ok mask else Err Mask
+or_mask limit (Ok mask) = if stays_below limit mask then Ok mask else Err Mask
 or_mask limit (Err error) = Err Mask
 
 -- a CPU list of CPUs below the limit, where `-` is the empty mask

@@ -1,7 +1,7 @@
 //! Fields that are no numbers.
 
 ghost use Rattle.std.specs.Prelude.{◌≡◌, ◌<◌, ◌^◌, length};
-ghost use Rattle.smp_runner.specs.Fields.{class_of, is_within, kind_of, mask_of, way_of};
+ghost use Rattle.smp_runner.specs.Fields.{class_of, stays_below, kind_of, mask_of, way_of};
 
 use crate::line::is_word;
 use smp_core::{Class, Kind};
@@ -50,8 +50,8 @@ pub fn read_way(text: &[u8]) -> Result<bool, Cause>
 }
 
 /// Whether all CPUs of a mask are below `limit`.
-pub fn is_within(limit: u32, mask: CpuMask) -> bool
-    ensures { result ≡ is_within limit mask }
+pub fn stays_below(limit: u32, mask: CpuMask) -> bool
+    ensures { result ≡ stays_below limit mask }
 {
     mask.iter().all(|cpu| cpu < limit)
 }
@@ -65,7 +65,7 @@ pub fn read_mask(limit: u32, text: &[u8]) -> Result<CpuMask, Cause>
         return Ok(CpuMask::empty());
     }
     match CpuMask::parse(text) {
-        Ok(mask) if is_within(limit, mask) => Ok(mask),
+        Ok(mask) if stays_below(limit, mask) => Ok(mask),
         _ => Err(Cause::Mask),
     }
 }
