@@ -1,5 +1,5 @@
 -- The canonical text of a script.
-use Rattle.std.proofs.Common.{◌≡◌, ℕ, map, ◌<◌, ◌^◌, ◌+◌, Bool, true, false, ◌==◌, nat_lt, cond, List, [], ◌∷◌, length, Option, Some, None, Result, Ok, codes, refl, sym, ap, ◌∙◌, inl, inr, arith}
+use Rattle.std.proofs.Common.{◌≡◌, ℕ, map, ◌<◌, ◌≤◌, ◌^◌, ◌+◌, Bool, true, false, ◌==◌, nat_lt, cond, List, [], ◌∷◌, length, Option, Some, None, Result, Ok, codes, refl, sym, ap, ◌∙◌, inl, inr, arith}
 use Rattle.std.specs.Str.{bytes_eq}
 use Rattle.std.proofs.lemmas.Bool.{cases_Bool}
 use Rattle.std.proofs.lemmas.Bool.Decides.{nat_tests}
@@ -15,9 +15,15 @@ use Rattle.smp_runner.specs.Script.{Script, are_online, script_of}
 use Rattle.smp_runner.specs.Spelling.{IsLawful, IsMaskText, LineHasSets, SpellLine, canonical_lines, canonical_text, lacks, line_masks, mask_text}
 use Rattle.smp_runner.specs.declared.directive.Directive.{Directive}
 use Rattle.smp_runner.specs.declared.directive.Directive.TheVariants.{Start, Step, Show}
-use Rattle.smp_core.specs.declared.command.Command.TheVariants.{Post, Send, Done, Handle, Gate, Ungate, Begin, Enter, Advance, RunOne, Finish, Poll, Key, Site}
+use Rattle.smp_core.specs.declared.command.Command.TheVariants.{Post, Send, Done, Handle, Gate, Ungate, Begin, Enter, Advance, RunOne, Finish, Poll, Key, Site, Nudge}
 use Rattle.std.specs.List.{AllByRecursion}
 use Rattle.smp_runner.proofs.Writing.{spelling_is_read}
+use Rattle.std.proofs.Math.Nat.{pow-le-pow_right}
+use Rattle.smp_mask.proofs.Sets.{member_below as is_cpu}
+use Rattle.smp_runner.specs.Fields.{stays_below}
+use Rattle.smp_runner.specs.Versions.{limit_of}
+use Rattle.smp_runner.proofs.Versions.{limit_within}
+use Rattle.smp_runner.proofs.Widths.{all_stay}
 
 -- a byte that no CPU list has
 record NoList (c : ℕ) : Type 0 where
@@ -79,45 +85,49 @@ some_online nr mask h z =
     cc
 
 -- the canonical text of a mask is one of its texts
-list_is_text : (m : ℕ) → m < 2 ^ NR_CPUS → (m ≡ 0 → ⊥) → IsMaskText (list_text m) m
-list_is_text m set some =
+list_is_text : (limit m : ℕ) → limit ≤ NR_CPUS → m < 2 ^ limit → (m ≡ 0 → ⊥) → IsMaskText limit (list_text m) m
+list_is_text limit m few narrow some =
+    let room : 2 ^ limit ≤ 2 ^ NR_CPUS = pow-le-pow_right (omega arith) few in
+    let set : m < 2 ^ NR_CPUS = omega (arith, narrow, room) in
+    let stays : stays_below limit m ≡ true = all_stay limit m (λ cpu h. is_cpu limit m cpu narrow h) in
     let read : mask_of_text NR_CPUS (list_text m) ≡ Ok m = reads_back NR_CPUS (omega arith) m set in
     let spaces : lacks 32 (list_text m) ≡ true = reads_lack NR_CPUS 32 (record { no_digit = refl; no_hyphen = refl; no_comma = refl }) _ 0 (list_text m) m read in
     let feeds : lacks 10 (list_text m) ≡ true = reads_lack NR_CPUS 10 (record { no_digit = refl; no_hyphen = refl; no_comma = refl }) _ 0 (list_text m) m read in
     let long : (length (list_text m) == 0) ≡ false = some_text (list_text m) m read some in
-    record { field = rw (long, spaces, feeds) refl; reads = rw (no_dash (list_text m) m read, read) refl }
+    record { field = rw (long, spaces, feeds) refl; reads = rw (no_dash (list_text m) m read, read, stays) refl }
 
-mask_is_text : (m : ℕ) → m < 2 ^ NR_CPUS → IsMaskText (mask_text m) m
-mask_is_text m set = elim (cases_Bool (m == 0)) [
+mask_is_text : (limit m : ℕ) → limit ≤ NR_CPUS → m < 2 ^ limit → IsMaskText limit (mask_text m) m
+mask_is_text limit m few set = elim (cases_Bool (m == 0)) [
   | inl none ↦
       let zero_ : m ≡ 0 = grind (arith, nat_tests, none) in
       rw zero_ (record { field = refl; reads = refl })
   | inr some ↦
       let more : m ≡ 0 → ⊥ = grind (arith, nat_tests, some) in
-      rw some (list_is_text m set more)
+      rw some (list_is_text limit m few set more)
 ]
 
-line_is_spelled : (d : Directive) → LineHasSets d → SpellLine (line_masks d, d)
-line_is_spelled (Start cpu (Begin work)) h = (mask_is_text work.mask h.0, mask_is_text work.active h.1)
-line_is_spelled (Start cpu (Post number dst class func info tries)) h = tt
-line_is_spelled (Start cpu (Send dst)) h = tt
-line_is_spelled (Start cpu (Done number)) h = tt
-line_is_spelled (Start cpu Handle) h = tt
-line_is_spelled (Start cpu Gate) h = tt
-line_is_spelled (Start cpu Ungate) h = tt
-line_is_spelled (Start cpu (Enter slot)) h = tt
-line_is_spelled (Start cpu (Advance answer)) h = tt
-line_is_spelled (Start cpu (RunOne answer)) h = tt
-line_is_spelled (Start cpu Finish) h = tt
-line_is_spelled (Start cpu Poll) h = tt
-line_is_spelled (Start cpu (Key key)) h = tt
-line_is_spelled (Start cpu (Site site)) h = tt
-line_is_spelled (Step cpu count) h = tt
-line_is_spelled Show h = tt
+line_is_spelled : (limit : ℕ) (d : Directive) → limit ≤ NR_CPUS → LineHasSets limit d → SpellLine limit (line_masks d, d)
+line_is_spelled limit (Start cpu (Begin work)) few h = (mask_is_text limit work.mask few h.0, mask_is_text limit work.active few h.1)
+line_is_spelled limit (Start cpu (Post number dst class func info tries)) few h = tt
+line_is_spelled limit (Start cpu (Send dst)) few h = tt
+line_is_spelled limit (Start cpu (Done number)) few h = tt
+line_is_spelled limit (Start cpu Handle) few h = tt
+line_is_spelled limit (Start cpu Gate) few h = tt
+line_is_spelled limit (Start cpu Ungate) few h = tt
+line_is_spelled limit (Start cpu (Enter slot)) few h = tt
+line_is_spelled limit (Start cpu (Advance answer)) few h = tt
+line_is_spelled limit (Start cpu (RunOne answer)) few h = tt
+line_is_spelled limit (Start cpu Finish) few h = tt
+line_is_spelled limit (Start cpu Poll) few h = tt
+line_is_spelled limit (Start cpu (Key key)) few h = tt
+line_is_spelled limit (Start cpu (Site site)) few h = tt
+line_is_spelled limit (Start cpu (Nudge key up)) few h = tt
+line_is_spelled limit (Step cpu count) few h = tt
+line_is_spelled limit Show few h = tt
 
-lines_are_spelled : (ds : List Directive) → AllByRecursion LineHasSets ds → AllByRecursion SpellLine (canonical_lines ds)
-lines_are_spelled [] h = tt
-lines_are_spelled (d ∷ ds) h = (line_is_spelled d h.0, lines_are_spelled ds h.1)
+lines_are_spelled : (limit : ℕ) (ds : List Directive) → limit ≤ NR_CPUS → AllByRecursion (LineHasSets limit) ds → AllByRecursion (SpellLine limit) (canonical_lines ds)
+lines_are_spelled limit [] few h = tt
+lines_are_spelled limit (d ∷ ds) few h = (line_is_spelled limit d few h.0, lines_are_spelled limit ds few h.1)
 
 lines_ask : (ds : List Directive) → map (λ l. l.1) (canonical_lines ds) ≡ ds
 lines_ask [] = refl
@@ -128,9 +138,9 @@ pub canonical_is_read : (script : Script) → IsLawful script → script_of (can
 canonical_is_read script s =
     spelling_is_read (list_text script.online) (canonical_lines script.directives) script (canonical_text script) (record {
       text_is = refl;
-      mask_is = list_is_text script.online s.is_set (some_online script.nr script.online s.online);
+      mask_is = list_is_text (limit_of script.version) script.online (limit_within script.version) s.is_set (some_online script.nr script.online s.online);
       lines_are = lines_ask script.directives;
-      masks_are = lines_are_spelled script.directives s.are_sets;
+      masks_are = lines_are_spelled (limit_of script.version) script.directives (limit_within script.version) s.are_sets;
       some = s.some;
       within = s.within;
       online = s.online;

@@ -9,12 +9,13 @@ use Rattle.smp_mask.specs.declared.error.Cause.TheVariants.{Word, Number, Range}
 use Rattle.smp_labels.specs.declared.words.TheConstants.{MOST_KEYS, MOST_SITES}
 use Rattle.smp_runner.specs.Commands.{are_whole, whole_directive}
 use Rattle.smp_runner.specs.Labels.{entries_in, entry_of, has_number, is_below, is_item, is_labels, items_of, labels_in, labels_of, whole_labels}
-use Rattle.smp_runner.specs.Shapes.{items, labels, requests, post, begin, numbered, answered, bare, step, show, has_shape}
+use Rattle.smp_runner.specs.Shapes.{items, labels, requests, post, begin, nudge, numbered, answered, bare, step, show, has_shape}
 use Rattle.smp_runner.specs.FieldFaults.{ItemsFault, value_of}
 use Rattle.smp_runner.specs.FirstFault.{events_in}
 use Rattle.smp_runner.proofs.FieldFaults.{Judged, fine, faulty, Tells, none_yet, reads_last, reads_number}
 use Rattle.smp_runner.proofs.LineShapes.{HasEvents, TellsLine, shapeless, shaped, line_told, no_start, no_whole, passes_word, skips, skips_word}
 use Rattle.smp_runner.proofs.ReadParts.{same_word}
+use Rattle.smp_mask.specs.declared.mask.TheConstants.{NR_CPUS}
 
 right_items : (keys : ℕ) (field : List ℕ) → list_all has_number (items_of field) ≡ true → length (items_of field) ≤ MOST_SITES → list_all (is_below keys) (items_of field) ≡ true → (cause : Cause) → ItemsFault keys field cause → ⊥
 right_items keys field good few below Number f = let bad : true ≡ false = sym good ∙ f in cc
@@ -46,41 +47,41 @@ itemless : (keys : List ℕ) (texts : List (List ℕ)) → list_all is_item text
 unfolding labels_in
 itemless keys texts h = rw h refl
 
-labels_rest : (rest : List (List ℕ)) → are_whole (codes "labels" ∷ rest) ≡ true → TellsLine (labels ∷ requests) (codes "labels" ∷ rest) (λ m. events_in (codes "labels" ∷ rest) ≡ 0) (labels_of (codes "labels" ∷ rest))
-labels_rest [] whole = shapeless refl refl
-labels_rest (k ∷ []) whole = shapeless refl refl
-labels_rest (k ∷ i ∷ []) whole =
+labels_rest : (limit : ℕ) (rest : List (List ℕ)) → are_whole (codes "labels" ∷ rest) ≡ true → TellsLine (labels ∷ requests limit) (codes "labels" ∷ rest) (λ m. events_in (codes "labels" ∷ rest) ≡ 0) (labels_of (codes "labels" ∷ rest))
+labels_rest limit [] whole = shapeless refl refl
+labels_rest limit (k ∷ []) whole = shapeless refl refl
+labels_rest limit (k ∷ i ∷ []) whole =
     let some_k : (length k == 0) ≡ false = grind (arith, whole) in
     elim (cases_Bool (list_all is_item (items_of i))) [
       | inl good ↦ shaped labels (labels_in k (items_of i)) (rw (good, some_k) refl) refl (items_told k i good)
       | inr bad ↦ shapeless
-          (skips (codes "labels" ∷ k ∷ i ∷ []) labels requests (rw bad refl) ∙ no_start (codes "labels") (k ∷ i ∷ []) refl ∙ skips_word (codes "labels") (k ∷ i ∷ []) (codes "step") (drop 1 step) (show ∷ []) refl)
+          (skips (codes "labels" ∷ k ∷ i ∷ []) labels (requests limit) (rw bad refl) ∙ no_start limit (codes "labels") (k ∷ i ∷ []) refl ∙ skips_word (codes "labels") (k ∷ i ∷ []) (codes "step") (drop 1 step) (show ∷ []) refl)
           (itemless k (items_of i) bad)
     ]
-labels_rest (k ∷ i ∷ x ∷ rest) whole =
-    shapeless (no_start (codes "labels") (k ∷ i ∷ x ∷ rest) refl ∙ skips_word (codes "labels") (k ∷ i ∷ x ∷ rest) (codes "step") (drop 1 step) (show ∷ []) refl) refl
+labels_rest limit (k ∷ i ∷ x ∷ rest) whole =
+    shapeless (no_start limit (codes "labels") (k ∷ i ∷ x ∷ rest) refl ∙ skips_word (codes "labels") (k ∷ i ∷ x ∷ rest) (codes "step") (drop 1 step) (show ∷ []) refl) refl
 
-labels_whole : (fields : List (List ℕ)) → is_labels fields ≡ true → are_whole fields ≡ true → TellsLine (labels ∷ requests) fields (λ m. events_in fields ≡ 0) (labels_of fields)
-labels_whole [] h whole = cc
-labels_whole (a ∷ rest) h whole =
+labels_whole : (limit : ℕ) (fields : List (List ℕ)) → is_labels fields ≡ true → are_whole fields ≡ true → TellsLine (labels ∷ requests limit) fields (λ m. events_in fields ≡ 0) (labels_of fields)
+labels_whole limit [] h whole = cc
+labels_whole limit (a ∷ rest) h whole =
     let same = same_word a (codes "labels") h in
-    subst (λ x. TellsLine (labels ∷ requests) (x ∷ rest) (λ m. events_in (x ∷ rest) ≡ 0) (labels_of (x ∷ rest))) (sym same) (labels_rest rest (subst (λ x. are_whole (x ∷ rest) ≡ true) same whole))
+    subst (λ x. TellsLine (labels ∷ requests limit) (x ∷ rest) (λ m. events_in (x ∷ rest) ≡ 0) (labels_of (x ∷ rest))) (sym same) (labels_rest limit rest (subst (λ x. are_whole (x ∷ rest) ≡ true) same whole))
 
 -- what reading the labels line tells
-pub labels_told : (fields : List (List ℕ)) → is_labels fields ≡ true → TellsLine (labels ∷ requests) fields (λ m. events_in fields ≡ 0) (whole_labels fields)
-labels_told fields h = elim (cases_Bool (are_whole fields)) [
-  | inl whole ↦ rw whole (labels_whole fields h whole)
-  | inr empty ↦ shapeless (rw (no_whole fields labels refl empty, no_whole fields post refl empty, no_whole fields begin refl empty, no_whole fields numbered refl empty, no_whole fields answered refl empty, no_whole fields bare refl empty, no_whole fields step refl empty, no_whole fields show refl empty) refl) (rw empty refl)
+pub labels_told : (limit : ℕ) (fields : List (List ℕ)) → is_labels fields ≡ true → TellsLine (labels ∷ requests limit) fields (λ m. events_in fields ≡ 0) (whole_labels fields)
+labels_told limit fields h = elim (cases_Bool (are_whole fields)) [
+  | inl whole ↦ rw whole (labels_whole limit fields h whole)
+  | inr empty ↦ shapeless (rw (no_whole fields labels refl empty, no_whole fields post refl empty, no_whole fields (begin limit) refl empty, no_whole fields nudge refl empty, no_whole fields numbered refl empty, no_whole fields answered refl empty, no_whole fields bare refl empty, no_whole fields step refl empty, no_whole fields show refl empty) refl) (rw empty refl)
 ]
 
-skips_labels : (fields : List (List ℕ)) → is_labels fields ≡ false → find (has_shape fields) (labels ∷ requests) ≡ find (has_shape fields) requests
-skips_labels [] h = refl
-skips_labels (a ∷ rest) h = skips_word a rest (codes "labels") (drop 1 labels) requests h
+skips_labels : (limit : ℕ) (fields : List (List ℕ)) → is_labels fields ≡ false → find (has_shape fields) (labels ∷ requests limit) ≡ find (has_shape fields) (requests limit)
+skips_labels limit [] h = refl
+skips_labels limit (a ∷ rest) h = skips_word a rest (codes "labels") (drop 1 labels) (requests limit) h
 
-also_shaped : {B : Type 0} (fields : List (List ℕ)) (holds : B → Type 0) (read : Result B Cause) → is_labels fields ≡ false → TellsLine requests fields holds read → TellsLine (labels ∷ requests) fields holds read
-also_shaped fields holds read h (shapeless s is) = shapeless (skips_labels fields h ∙ s) is
-also_shaped fields holds read h (shaped shape by_shape s is told) = shaped shape by_shape (skips_labels fields h ∙ s) is told
+also_shaped : {B : Type 0} (limit : ℕ) (fields : List (List ℕ)) (holds : B → Type 0) (read : Result B Cause) → is_labels fields ≡ false → TellsLine (requests limit) fields holds read → TellsLine (labels ∷ requests limit) fields holds read
+also_shaped limit fields holds read h (shapeless s is) = shapeless (skips_labels limit fields h ∙ s) is
+also_shaped limit fields holds read h (shaped shape by_shape s is told) = shaped shape by_shape (skips_labels limit fields h ∙ s) is told
 
 -- what reading line 3 tells, where it is no labels line
-pub third_told : (fields : List (List ℕ)) → is_labels fields ≡ false → TellsLine (labels ∷ requests) fields (HasEvents fields) (whole_directive fields)
-third_told fields h = also_shaped fields (HasEvents fields) (whole_directive fields) h (line_told fields)
+pub third_told : (limit : ℕ) → limit ≤ NR_CPUS → (fields : List (List ℕ)) → is_labels fields ≡ false → TellsLine (labels ∷ requests limit) fields (HasEvents fields) (whole_directive limit fields)
+third_told limit few fields h = also_shaped limit fields (HasEvents fields) (whole_directive limit fields) h (line_told limit few fields)

@@ -4,6 +4,8 @@ pub mod Fronts
 pub mod FieldLists
 pub mod FieldCounts
 pub mod LabelItems
+pub mod Widths
+pub mod Versions
 pub mod Online
 pub mod Directives
 -- devices and output

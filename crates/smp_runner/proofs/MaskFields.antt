@@ -1,33 +1,54 @@
 -- Masks, and what is wrong with their fields.
-use Rattle.std.proofs.Common.{◌≡◌, ℕ, true, false, List, Result, Ok, Err, codes, refl, sym, ap, ◌∙◌, inl, inr, arith}
+use Rattle.std.proofs.Common.{◌≡◌, ℕ, ◌≤◌, true, false, List, Result, Ok, Err, codes, refl, sym, ap, ◌∙◌, inl, inr, arith}
 use Rattle.std.specs.Str.{bytes_eq}
 use Rattle.std.proofs.lemmas.Bool.{cases_Bool}
+use Rattle.smp_mask.specs.CpuList.{IsMaskOf}
 use Rattle.smp_mask.specs.Reading.{mask_of_text}
 use Rattle.smp_mask.specs.declared.error.Cause.{Cause}
 use Rattle.smp_mask.specs.declared.error.Cause.TheVariants.{Mask}
 use Rattle.smp_mask.specs.declared.error.SmpError.{SmpError}
 use Rattle.smp_mask.specs.declared.mask.TheConstants.{NR_CPUS}
 use Rattle.smp_mask.proofs.Walks.{accepted, refused}
-use Rattle.smp_runner.specs.Fields.{mask_of}
+use Rattle.smp_runner.specs.Fields.{mask_of, stays_below}
 use Rattle.smp_runner.specs.FieldFaults.{IsMask, MaskFault}
 use Rattle.smp_runner.proofs.FieldFaults.{Judged, fine, faulty}
 use Rattle.smp_runner.proofs.ReadParts.{same_word}
+use Rattle.smp_runner.proofs.Widths.{narrower, too_wide, wider}
 
 pub no_word : (text : List ℕ) → bytes_eq text (codes "-") ≡ false → text ≡ codes "-" → ⊥
 no_word text h e = let bad : true ≡ false = sym (ap (λ t. bytes_eq t (codes "-")) e) ∙ h in cc
 
-no_fault : (text : List ℕ) (m : ℕ) → IsMask text m → (cause : Cause) → MaskFault text cause → ⊥
-no_fault text m is Mask f = f m is
-no_fault text m is _ f = f
+-- the list that a field is, which is not `-`, or why it is none
+pub data ListRead (limit : ℕ) (text : List ℕ) : Type 0 where
+  a_list : (m : ℕ) → mask_of limit text ≡ Ok m → IsMaskOf limit text m → ListRead limit text
+  no_list : mask_of limit text ≡ Err Mask → ((m : ℕ) → IsMask limit text m → ⊥) → ListRead limit text
 
-list_judged : (text : List ℕ) → bytes_eq text (codes "-") ≡ false → (r : Result ℕ SmpError) → mask_of_text NR_CPUS text ≡ r → Judged (MaskFault text) (mask_of text)
-list_judged text h (Err e) read =
+read_list : (limit : ℕ) (text : List ℕ) → limit ≤ NR_CPUS → bytes_eq text (codes "-") ≡ false → (r : Result ℕ SmpError) → mask_of_text NR_CPUS text ≡ r → ListRead limit text
+read_list limit text few h (Err e) read =
     let bad = refused NR_CPUS (omega arith) (omega arith) text e read in
-    faulty Mask (rw (h, read) refl) (λ mask f. elim f [ inl dash ↦ no_word text h dash.0 | inr is ↦ bad.2.unlisted is.items is.is_list ])
-list_judged text h (Ok m) read = fine m (rw (h, read) refl) (no_fault text m (inr (accepted NR_CPUS (omega arith) text m read)))
+    no_list (rw (h, read) refl) (λ m f. elim f [
+      | inl dash ↦ no_word text h dash.0
+      | inr is ↦ let wide = wider limit text m few is in bad.2.unlisted wide.items wide.is_list
+    ])
+read_list limit text few h (Ok m) read =
+    let wide = accepted NR_CPUS (omega arith) text m read in
+    elim (cases_Bool (stays_below limit m)) [
+      | inl within ↦ a_list m (rw (h, read, within) refl) (narrower limit text m few within wide)
+      | inr far ↦ no_list (rw (h, read, far) refl) (λ n f. elim f [ inl dash ↦ no_word text h dash.0 | inr is ↦ too_wide limit text m n few far wide is ])
+    ]
 
-pub mask_judged : (text : List ℕ) → Judged (MaskFault text) (mask_of text)
-mask_judged text = elim (cases_Bool (bytes_eq text (codes "-"))) [
-  | inr other ↦ list_judged text other (mask_of_text NR_CPUS text) refl
-  | inl dash ↦ fine 0 (rw dash refl) (no_fault text 0 (inl (same_word text (codes "-") dash, refl)))
+pub list_read : (limit : ℕ) (text : List ℕ) → limit ≤ NR_CPUS → bytes_eq text (codes "-") ≡ false → ListRead limit text
+list_read limit text few h = read_list limit text few h (mask_of_text NR_CPUS text) refl
+
+no_fault : (limit : ℕ) (text : List ℕ) (m : ℕ) → IsMask limit text m → (cause : Cause) → MaskFault limit text cause → ⊥
+no_fault limit text m is Mask f = f m is
+no_fault limit text m is _ f = f
+
+pub mask_judged : (limit : ℕ) (text : List ℕ) → limit ≤ NR_CPUS → Judged (MaskFault limit text) (mask_of limit text)
+mask_judged limit text few = elim (cases_Bool (bytes_eq text (codes "-"))) [
+  | inl dash ↦ fine 0 (rw dash refl) (no_fault limit text 0 (inl (same_word text (codes "-") dash, refl)))
+  | inr other ↦ elim (list_read limit text few other) [
+    | a_list m read is ↦ fine m read (no_fault limit text m (inr is))
+    | no_list read none ↦ faulty Mask read none
+  ]
 ]

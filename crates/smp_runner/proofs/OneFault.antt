@@ -13,7 +13,7 @@ use Rattle.smp_runner.specs.Shapes.{Form, word, words, number, signed, cpu_list,
 use Rattle.smp_runner.specs.FieldFaults.{field_at, value_of, FieldFault, ItemsFault, MaskFault, NumberFault, OnlineFault, SignedFault, is_signed}
 use Rattle.smp_runner.specs.Labels.{has_number, items_of}
 use Rattle.std.specs.List.{list_all}
-use Rattle.smp_runner.specs.FirstFault.{LineFault, past_lines, unended, no_shape, wrong_field, past_events, IsFault, IsFirstFault, past_bytes, no_line, in_line, events_to}
+use Rattle.smp_runner.specs.FirstFault.{LineFault, past_lines, unended, no_shape, wrong_field, past_events, IsFault, IsFirstFault, past_bytes, no_line, in_line, events_to, limit_in}
 use Rattle.smp_runner.proofs.LineFaults.{place_within}
 use Rattle.smp_runner.proofs.FirstFaults.{TellsText, script_tells}
 
@@ -36,18 +36,18 @@ number_cause low high text c d f g = elim (is_number_fault low high text c f) [
 ]
 
 -- a mask's fault is of its form or of its CPUs
-is_online_fault : (nr : ℕ) (text : List ℕ) (c : Cause) → OnlineFault nr text c → ((c ≡ Mask) × OnlineFault nr text Mask) ⊎ ((c ≡ Range) × OnlineFault nr text Range)
-is_online_fault nr text Mask f = inl (refl, f)
-is_online_fault nr text Range f = inr (refl, f)
-is_online_fault nr text _ f = absurd f
+is_online_fault : (limit nr : ℕ) (text : List ℕ) (c : Cause) → OnlineFault limit nr text c → ((c ≡ Mask) × OnlineFault limit nr text Mask) ⊎ ((c ≡ Range) × OnlineFault limit nr text Range)
+is_online_fault limit nr text Mask f = inl (refl, f)
+is_online_fault limit nr text Range f = inr (refl, f)
+is_online_fault limit nr text _ f = absurd f
 
-online_cause : (nr : ℕ) (text : List ℕ) (c d : Cause) → OnlineFault nr text c → OnlineFault nr text d → c ≡ d
-online_cause nr text c d f g = elim (is_online_fault nr text c f) [
-  | inl a ↦ elim (is_online_fault nr text d g) [
+online_cause : (limit nr : ℕ) (text : List ℕ) (c d : Cause) → OnlineFault limit nr text c → OnlineFault limit nr text d → c ≡ d
+online_cause limit nr text c d f g = elim (is_online_fault limit nr text c f) [
+  | inl a ↦ elim (is_online_fault limit nr text d g) [
     | inl b ↦ a.0 ∙ sym b.0
     | inr b ↦ absurd (a.1 b.1.0 b.1.1)
   ]
-  | inr a ↦ elim (is_online_fault nr text d g) [
+  | inr a ↦ elim (is_online_fault limit nr text d g) [
     | inl b ↦ absurd (b.1 a.1.0 a.1.1)
     | inr b ↦ a.0 ∙ sym b.0
   ]
@@ -72,12 +72,12 @@ signed_cause text c d f g = elim (is_signed_fault text c f) [
 ]
 
 -- a mask has one kind of fault
-is_mask_fault : (text : List ℕ) (c : Cause) → MaskFault text c → c ≡ Mask
-is_mask_fault text Mask f = refl
-is_mask_fault text _ f = absurd f
+is_mask_fault : (limit : ℕ) (text : List ℕ) (c : Cause) → MaskFault limit text c → c ≡ Mask
+is_mask_fault limit text Mask f = refl
+is_mask_fault limit text _ f = absurd f
 
-mask_cause : (text : List ℕ) (c d : Cause) → MaskFault text c → MaskFault text d → c ≡ d
-mask_cause text c d f g = is_mask_fault text c f ∙ sym (is_mask_fault text d g)
+mask_cause : (limit : ℕ) (text : List ℕ) (c d : Cause) → MaskFault limit text c → MaskFault limit text d → c ≡ d
+mask_cause limit text c d f g = is_mask_fault limit text c f ∙ sym (is_mask_fault limit text d g)
 
 -- the items' faults are of their form or of their range
 is_items_fault : (keys : ℕ) (text : List ℕ) (c : Cause) → ItemsFault keys text c → ((c ≡ Number) × (list_all has_number (items_of text) ≡ false)) ⊎ ((c ≡ Range) × (list_all has_number (items_of text) ≡ true))
@@ -102,84 +102,84 @@ field_cause fields i (word w) c d f g = absurd f
 field_cause fields i (words ws) c d f g = absurd f
 field_cause fields i (number low high) c d f g = number_cause low high (field_at fields i) c d f g
 field_cause fields i signed c d f g = signed_cause (field_at fields i) c d f g
-field_cause fields i cpu_list c d f g = mask_cause (field_at fields i) c d f g
+field_cause fields i (cpu_list limit) c d f g = mask_cause limit (field_at fields i) c d f g
 field_cause fields i items c d f g = items_cause (value_of (field_at fields 1)) (field_at fields i) c d f g
-field_cause fields i online c d f g = online_cause (value_of (field_at fields 1)) (field_at fields i) c d f g
+field_cause fields i (online limit) c d f g = online_cause limit (value_of (field_at fields 1)) (field_at fields i) c d f g
 
 -- two faults of one rank in a line have one cause
-line_cause : (n events : ℕ) (line : Line) (k m : ℕ) (c d : Cause) → k ≡ m → LineFault n events line k c → LineFault n events line m d → c ≡ d
-line_cause n events line k m c d e (past_lines f) (past_lines g) = refl
-line_cause n events line k m c d e (past_lines f) _ = absurd (omega (arith, e))
-line_cause n events line k m c d e (unended f) (unended g) = refl
-line_cause n events line k m c d e (unended f) _ = absurd (omega (arith, e))
-line_cause n events line k m c d e (no_shape f) (no_shape g) = refl
-line_cause n events line k m c d e (no_shape f) _ = absurd (omega (arith, e))
-line_cause n events line k m c d e (wrong_field i {shape = a} {form = v} s w f) (wrong_field j {shape = b} {form = u} t x g) =
+line_cause : (limit n events : ℕ) (line : Line) (k m : ℕ) (c d : Cause) → k ≡ m → LineFault limit n events line k c → LineFault limit n events line m d → c ≡ d
+line_cause limit n events line k m c d e (past_lines f) (past_lines g) = refl
+line_cause limit n events line k m c d e (past_lines f) _ = absurd (omega (arith, e))
+line_cause limit n events line k m c d e (unended f) (unended g) = refl
+line_cause limit n events line k m c d e (unended f) _ = absurd (omega (arith, e))
+line_cause limit n events line k m c d e (no_shape f) (no_shape g) = refl
+line_cause limit n events line k m c d e (no_shape f) _ = absurd (omega (arith, e))
+line_cause limit n events line k m c d e (wrong_field i {shape = a} {form = v} s w f) (wrong_field j {shape = b} {form = u} t x g) =
     let place : j ≡ i = omega (arith, e) in
     let shape : b ≡ a = cc in
     let there : slice_get a i ≡ Some u = subst (λ k. slice_get a k ≡ Some u) place (subst (λ z. slice_get z j ≡ Some u) shape x) in
     let form : u ≡ v = cc in
     let wrong : FieldFault (fields_of line.text) i v d = subst (λ z. FieldFault (fields_of line.text) i z d) form (subst (λ k. FieldFault (fields_of line.text) k u d) place g) in
     field_cause (fields_of line.text) i v c d f wrong
-line_cause n events line k m c d e (wrong_field i {shape = a} {form = v} s w f) (past_events g) = absurd (omega (arith, e, place_within n (fields_of line.text) a i v s w))
-line_cause n events line k m c d e (wrong_field i s w f) _ = absurd (omega (arith, e))
-line_cause n events line k m c d e (past_events f) (past_events g) = refl
-line_cause n events line k m c d e (past_events f) (wrong_field j {shape = b} {form = u} t x g) = absurd (omega (arith, e, place_within n (fields_of line.text) b j u t x))
-line_cause n events line k m c d e (past_events f) _ = absurd (omega (arith, e))
+line_cause limit n events line k m c d e (wrong_field i {shape = a} {form = v} s w f) (past_events g) = absurd (omega (arith, e, place_within limit n (fields_of line.text) a i v s w))
+line_cause limit n events line k m c d e (wrong_field i s w f) _ = absurd (omega (arith, e))
+line_cause limit n events line k m c d e (past_events f) (past_events g) = refl
+line_cause limit n events line k m c d e (past_events f) (wrong_field j {shape = b} {form = u} t x g) = absurd (omega (arith, e, place_within limit n (fields_of line.text) b j u t x))
+line_cause limit n events line k m c d e (past_events f) _ = absurd (omega (arith, e))
 
 -- and in a text
-fault_cause : (text : List ℕ) (n k m l : ℕ) (c d : Cause) → n ≡ m → k ≡ l → IsFault text n k c → IsFault text m l d → c ≡ d
-fault_cause text n k m l c d e r (past_bytes f) (past_bytes g) = refl
-fault_cause text n k m l c d e r (past_bytes f) _ = absurd (omega (arith, r))
-fault_cause text n k m l c d e r (no_line f few) (no_line g less) = refl
-fault_cause text n k m l c d e r (no_line f few) (past_bytes g) = absurd (omega (arith, r))
-fault_cause text n k m l c d e r (no_line f few) (in_line j {line = b} there g) = absurd (omega (arith, e, slice_get_within (lines_of text) j b there))
-fault_cause text n k m l c d e r (in_line i {line = a} here f) (past_bytes g) = absurd (omega (arith, e))
-fault_cause text n k m l c d e r (in_line i {line = a} here f) (no_line g few) = absurd (omega (arith, e, slice_get_within (lines_of text) i a here))
-fault_cause text n k m l c d e r (in_line i {line = a} here f) (in_line j {line = b} there g) =
+fault_cause : (limit : ℕ) (text : List ℕ) (n k m l : ℕ) (c d : Cause) → n ≡ m → k ≡ l → IsFault limit text n k c → IsFault limit text m l d → c ≡ d
+fault_cause limit text n k m l c d e r (past_bytes f) (past_bytes g) = refl
+fault_cause limit text n k m l c d e r (past_bytes f) _ = absurd (omega (arith, r))
+fault_cause limit text n k m l c d e r (no_line f few) (no_line g less) = refl
+fault_cause limit text n k m l c d e r (no_line f few) (past_bytes g) = absurd (omega (arith, r))
+fault_cause limit text n k m l c d e r (no_line f few) (in_line j {line = b} there g) = absurd (omega (arith, e, slice_get_within (lines_of text) j b there))
+fault_cause limit text n k m l c d e r (in_line i {line = a} here f) (past_bytes g) = absurd (omega (arith, e))
+fault_cause limit text n k m l c d e r (in_line i {line = a} here f) (no_line g few) = absurd (omega (arith, e, slice_get_within (lines_of text) i a here))
+fault_cause limit text n k m l c d e r (in_line i {line = a} here f) (in_line j {line = b} there g) =
     let place : j ≡ i = omega (arith, e) in
     let found : slice_get (lines_of text) i ≡ Some b = subst (λ x. slice_get (lines_of text) x ≡ Some b) place there in
     let line : b ≡ a = cc in
-    line_cause (i + 1) (events_to text (i + 1)) a k l c d r f (subst (λ x. LineFault (i + 1) (events_to text (i + 1)) x l d) line (subst (λ x. LineFault (x + 1) (events_to text (x + 1)) b l d) place g))
+    line_cause limit (i + 1) (events_to text (i + 1)) a k l c d r f (subst (λ x. LineFault limit (i + 1) (events_to text (i + 1)) x l d) line (subst (λ x. LineFault limit (x + 1) (events_to text (x + 1)) b l d) place g))
 
 -- first faults are in one line
-one_line : (text : List ℕ) (n m : ℕ) (c d : Cause) → IsFirstFault text n c → IsFirstFault text m d → n ≡ m
-one_line text n m c d a b = elim (cases_order n m) [
+one_line : (limit : ℕ) (text : List ℕ) (n m : ℕ) (c d : Cause) → IsFirstFault limit text n c → IsFirstFault limit text m d → n ≡ m
+one_line limit text n m c d a b = elim (cases_order n m) [
   | inl same ↦ same
   | inr (inl less) ↦ absurd (b.before n a.rank c less a.fault)
   | inr (inr more) ↦ absurd (a.before m b.rank d more b.fault)
 ]
 
 -- and have one cause
-one_cause : (text : List ℕ) (n m : ℕ) (c d : Cause) → IsFirstFault text n c → IsFirstFault text m d → n ≡ m → c ≡ d
-one_cause text n m c d a b e = elim (cases_order a.rank b.rank) [
-  | inl same ↦ fault_cause text n a.rank m b.rank c d e same a.fault b.fault
-  | inr (inl less) ↦ absurd (b.least a.rank c less (subst (λ x. IsFault text x a.rank c) e a.fault))
-  | inr (inr more) ↦ absurd (a.least b.rank d more (subst (λ x. IsFault text x b.rank d) (sym e) b.fault))
+one_cause : (limit : ℕ) (text : List ℕ) (n m : ℕ) (c d : Cause) → IsFirstFault limit text n c → IsFirstFault limit text m d → n ≡ m → c ≡ d
+one_cause limit text n m c d a b e = elim (cases_order a.rank b.rank) [
+  | inl same ↦ fault_cause limit text n a.rank m b.rank c d e same a.fault b.fault
+  | inr (inl less) ↦ absurd (b.least a.rank c less (subst (λ x. IsFault limit text x a.rank c) e a.fault))
+  | inr (inr more) ↦ absurd (a.least b.rank d more (subst (λ x. IsFault limit text x b.rank d) (sym e) b.fault))
 ]
 
 -- a text with a first fault is refused with it
-refused_with : (text : List ℕ) (n : ℕ) (cause : Cause) → IsFirstFault text n cause → (r : Result Script Fault) → TellsText text r → r ≡ Err (n, cause)
-refused_with text n cause h (Ok script) tells = absurd (tells n h.rank cause h.fault)
-refused_with text n cause h (Err fault) tells =
-    let line = one_line text n fault.0 cause fault.1 h tells in
-    let why = one_cause text n fault.0 cause fault.1 h tells line in
+refused_with : (limit : ℕ) (text : List ℕ) (n : ℕ) (cause : Cause) → IsFirstFault limit text n cause → (r : Result Script Fault) → TellsText limit text r → r ≡ Err (n, cause)
+refused_with limit text n cause h (Ok script) tells = absurd (tells n h.rank cause h.fault)
+refused_with limit text n cause h (Err fault) tells =
+    let line = one_line limit text n fault.0 cause fault.1 h tells in
+    let why = one_cause limit text n fault.0 cause fault.1 h tells line in
     rw (line, why) refl
 
-pub is_refused : (text : List ℕ) (n : ℕ) (cause : Cause) → IsFirstFault text n cause → script_of text ≡ Err (n, cause)
-is_refused text n cause h = refused_with text n cause h (script_of text) (script_tells text)
+pub is_refused : (text : List ℕ) (n : ℕ) (cause : Cause) → IsFirstFault (limit_in text) text n cause → script_of text ≡ Err (n, cause)
+is_refused text n cause h = refused_with (limit_in text) text n cause h (script_of text) (script_tells text)
 
 -- a text without a fault is read
-read_then : (text : List ℕ) → ((n rank : ℕ) (cause : Cause) → IsFault text n rank cause → ⊥) → (r : Result Script Fault) → TellsText text r → is_ok r ≡ true
-read_then text none (Ok script) tells = refl
-read_then text none (Err fault) tells = absurd (none fault.0 tells.rank fault.1 tells.fault)
+read_then : (limit : ℕ) (text : List ℕ) → ((n rank : ℕ) (cause : Cause) → IsFault limit text n rank cause → ⊥) → (r : Result Script Fault) → TellsText limit text r → is_ok r ≡ true
+read_then limit text none (Ok script) tells = refl
+read_then limit text none (Err fault) tells = absurd (none fault.0 tells.rank fault.1 tells.fault)
 
-pub is_read : (text : List ℕ) → ((n rank : ℕ) (cause : Cause) → IsFault text n rank cause → ⊥) → is_ok (script_of text) ≡ true
-is_read text none = read_then text none (script_of text) (script_tells text)
+pub is_read : (text : List ℕ) → ((n rank : ℕ) (cause : Cause) → IsFault (limit_in text) text n rank cause → ⊥) → is_ok (script_of text) ≡ true
+is_read text none = read_then (limit_in text) text none (script_of text) (script_tells text)
 
-none_then : (text : List ℕ) (r : Result Script Fault) → TellsText text r → is_ok r ≡ true → (n rank : ℕ) (cause : Cause) → IsFault text n rank cause → ⊥
-none_then text (Ok script) tells h = tells
-none_then text (Err fault) tells h = cc
+none_then : (limit : ℕ) (text : List ℕ) (r : Result Script Fault) → TellsText limit text r → is_ok r ≡ true → (n rank : ℕ) (cause : Cause) → IsFault limit text n rank cause → ⊥
+none_then limit text (Ok script) tells h = tells
+none_then limit text (Err fault) tells h = cc
 
-pub has_none : (text : List ℕ) → is_ok (script_of text) ≡ true → (n rank : ℕ) (cause : Cause) → IsFault text n rank cause → ⊥
-has_none text h = none_then text (script_of text) (script_tells text) h
+pub has_none : (text : List ℕ) → is_ok (script_of text) ≡ true → (n rank : ℕ) (cause : Cause) → IsFault (limit_in text) text n rank cause → ⊥
+has_none text h = none_then (limit_in text) text (script_of text) (script_tells text) h

@@ -6,13 +6,13 @@ use Rattle.std.specs.Str.{bytes_eq}
 use Rattle.smp_mask.specs.declared.error.Cause.{Cause}
 use Rattle.smp_mask.specs.declared.error.Cause.TheVariants.{Word}
 use Rattle.smp_core.specs.declared.command.Command.{Command}
-use Rattle.smp_core.specs.declared.command.Command.TheVariants.{Post, Send, Done, Handle, Gate, Ungate, Begin, Enter, Advance, RunOne, Finish, Poll, Key, Site}
+use Rattle.smp_core.specs.declared.command.Command.TheVariants.{Post, Send, Done, Handle, Gate, Ungate, Begin, Enter, Advance, RunOne, Finish, Poll, Key, Site, Nudge}
 use Rattle.smp_runner.specs.declared.directive.Directive.{Directive}
 use Rattle.smp_runner.specs.declared.directive.Directive.TheVariants.{Start, Step, Show}
 use Rattle.smp_runner.specs.Lines.{fields_of}
 use Rattle.smp_runner.specs.Numbers.{number_in, signed_of}
 use Rattle.smp_runner.specs.Faults.{◌>>=◌}
-use Rattle.smp_runner.specs.Fields.{word16, word32, word64, class_of, kind_of, mask_of}
+use Rattle.smp_runner.specs.Fields.{word16, word32, word64, class_of, kind_of, mask_of, way_of}
 
 -- `start CPU post K DST CLASS FUNC INFO TRIES`
 unfoldable pub start_post : List ℕ → List ℕ → List ℕ → List ℕ → List ℕ → List ℕ → List ℕ → Result Directive Cause
@@ -31,21 +31,21 @@ abbrev pub posts_of : List ℕ → List (List ℕ) → Result Directive Cause
 posts_of cpu (k ∷ dst ∷ class ∷ func ∷ info ∷ tries ∷ []) = start_post cpu k dst class func info tries
 posts_of cpu _ = Err Word
 
--- `start CPU begin KIND MASK ACTIVE FUNC ARG`
-unfoldable pub start_begin : List ℕ → List ℕ → List ℕ → List ℕ → List ℕ → List ℕ → Result Directive Cause
-start_begin cpu kind mask active func arg = do
+-- `start CPU begin KIND MASK ACTIVE FUNC ARG`, where the CPUs of the masks are below the limit
+unfoldable pub start_begin : ℕ → List ℕ → List ℕ → List ℕ → List ℕ → List ℕ → List ℕ → Result Directive Cause
+start_begin limit cpu kind mask active func arg = do
   as_kind ← kind_of kind
   c ← word32 cpu
-  m ← mask_of mask
-  a ← mask_of active
+  m ← mask_of limit mask
+  a ← mask_of limit active
   f ← word16 func
   n ← word64 arg
   Ok (Start c (Begin (record { kind = as_kind; mask = m; active = a; func = f; arg = n })))
 
 -- a begin by its arguments
-abbrev pub begins_of : List ℕ → List (List ℕ) → Result Directive Cause
-begins_of cpu (kind ∷ mask ∷ active ∷ func ∷ arg ∷ []) = start_begin cpu kind mask active func arg
-begins_of cpu _ = Err Word
+abbrev pub begins_of : ℕ → List ℕ → List (List ℕ) → Result Directive Cause
+begins_of limit cpu (kind ∷ mask ∷ active ∷ func ∷ arg ∷ []) = start_begin limit cpu kind mask active func arg
+begins_of limit cpu _ = Err Word
 
 -- a command with no arguments, by its name
 abbrev pub bare_of : List ℕ → Result Command Cause
@@ -96,22 +96,34 @@ start_one cpu name argument =
     else (if bytes_eq name (codes "site") then start_number Site cpu argument
     else start_answered cpu name argument))))
 
--- a command with one argument or none
+-- `start CPU nudge K WAY`
+abbrev pub start_nudge : List ℕ → List ℕ → List ℕ → Result Directive Cause
+start_nudge cpu key way = do
+  up ← way_of way
+  p ← two_numbers cpu key
+  Ok (Start p.0 (Nudge p.1 up))
+
+-- a command with two arguments
+abbrev pub start_two : List ℕ → List ℕ → List ℕ → List ℕ → Result Directive Cause
+start_two cpu name first second = if bytes_eq name (codes "nudge") then start_nudge cpu first second else Err Word
+
+-- a command with two arguments at most
 abbrev pub start_short : List ℕ → List ℕ → List (List ℕ) → Result Directive Cause
 start_short cpu name [] = start_bare cpu name
 start_short cpu name (argument ∷ []) = start_one cpu name argument
+start_short cpu name (first ∷ second ∷ []) = start_two cpu name first second
 start_short cpu name _ = Err Word
 
 -- a command by its name and its arguments
-abbrev pub command_of : List ℕ → List ℕ → List (List ℕ) → Result Directive Cause
-command_of cpu name arguments =
+abbrev pub command_of : ℕ → List ℕ → List ℕ → List (List ℕ) → Result Directive Cause
+command_of limit cpu name arguments =
     if bytes_eq name (codes "post") then posts_of cpu arguments
-    else (if bytes_eq name (codes "begin") then begins_of cpu arguments else start_short cpu name arguments)
+    else (if bytes_eq name (codes "begin") then begins_of limit cpu arguments else start_short cpu name arguments)
 
 -- what stands after `start`
-abbrev pub start_of : List (List ℕ) → Result Directive Cause
-start_of (cpu ∷ name ∷ arguments) = command_of cpu name arguments
-start_of _ = Err Word
+abbrev pub start_of : ℕ → List (List ℕ) → Result Directive Cause
+start_of limit (cpu ∷ name ∷ arguments) = command_of limit cpu name arguments
+start_of limit _ = Err Word
 
 -- `step CPU N`
 abbrev pub step_of : List ℕ → List ℕ → Result Directive Cause
@@ -131,10 +143,10 @@ show_of [] = Ok Show
 show_of _ = Err Word
 
 -- `start ..`, `step ..` or `show`
-abbrev pub directive_of : List (List ℕ) → Result Directive Cause
-directive_of [] = Err Word
-directive_of (word ∷ rest) =
-    if bytes_eq word (codes "start") then start_of rest
+abbrev pub directive_of : ℕ → List (List ℕ) → Result Directive Cause
+directive_of limit [] = Err Word
+directive_of limit (word ∷ rest) =
+    if bytes_eq word (codes "start") then start_of limit rest
     else (if bytes_eq word (codes "step") then steps_of rest else (if bytes_eq word (codes "show") then show_of rest else Err Word))
 
 -- no field is empty
@@ -142,9 +154,9 @@ abbrev pub are_whole : List (List ℕ) → Bool
 are_whole fields = list_all (λ f. not (length f == 0)) fields
 
 -- the same where no field is empty
-abbrev pub whole_directive : List (List ℕ) → Result Directive Cause
-whole_directive fields = if are_whole fields then directive_of fields else Err Word
+abbrev pub whole_directive : ℕ → List (List ℕ) → Result Directive Cause
+whole_directive limit fields = if are_whole fields then directive_of limit fields else Err Word
 
--- what a line asks for
-unfoldable pub line_directive : List ℕ → Result Directive Cause
-line_directive text = whole_directive (fields_of text)
+-- what a line asks for, where the CPUs of masks have to be below the limit
+unfoldable pub line_directive : ℕ → List ℕ → Result Directive Cause
+line_directive limit text = whole_directive limit (fields_of text)

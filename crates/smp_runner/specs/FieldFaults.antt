@@ -5,7 +5,6 @@ use Rattle.smp_mask.specs.CpuList.{IsMaskOf}
 use Rattle.smp_mask.specs.Mask.{has}
 use Rattle.smp_mask.specs.declared.error.Cause.{Cause}
 use Rattle.smp_mask.specs.declared.error.Cause.TheVariants.{Number, Range, Mask}
-use Rattle.smp_mask.specs.declared.mask.TheConstants.{NR_CPUS}
 use Rattle.smp_labels.specs.declared.words.TheConstants.{MOST_SITES}
 use Rattle.smp_runner.specs.Numbers.{is_decimal, value_after}
 use Rattle.smp_runner.specs.Labels.{has_number, is_below, items_of}
@@ -25,14 +24,14 @@ NumberFault low high field Number = is_decimal field ≡ false
 NumberFault low high field Range = (is_decimal field ≡ true) × ((value_of field < low) ⊎ (high < value_of field))
 NumberFault low high field _ = ⊥
 
--- the field is a CPU list with the CPUs of this mask, or `-`, which has none
-abbrev pub IsMask : List ℕ → ℕ → Type 0
-IsMask field mask = ((field ≡ codes "-") × (mask ≡ 0)) ⊎ IsMaskOf NR_CPUS field mask
+-- the field is a list of CPUs below the limit, those of this mask, or `-`, which has none
+abbrev pub IsMask : ℕ → List ℕ → ℕ → Type 0
+IsMask limit field mask = ((field ≡ codes "-") × (mask ≡ 0)) ⊎ IsMaskOf limit field mask
 
--- what is wrong with a field that has to be a mask
-abbrev pub MaskFault : List ℕ → Cause → Type 0
-MaskFault field Mask = (mask : ℕ) → IsMask field mask → ⊥
-MaskFault field _ = ⊥
+-- what is wrong with a field that has to be a mask of CPUs below the limit
+abbrev pub MaskFault : ℕ → List ℕ → Cause → Type 0
+MaskFault limit field Mask = (mask : ℕ) → IsMask limit field mask → ⊥
+MaskFault limit field _ = ⊥
 
 -- the field is a number in decimal, or a minus sign and a number that is not 0
 abbrev pub is_signed : List ℕ → Bool
@@ -60,18 +59,18 @@ ItemsFault keys field _ = ⊥
 abbrev pub IsOutside : ℕ → ℕ → Type 0
 IsOutside nr mask = ((cpu : ℕ) → has mask cpu ≡ false) ⊎ ((cpu : ℕ) × (has mask cpu ≡ true) × (nr ≤ cpu))
 
--- what is wrong with a field that has to be the mask of the CPUs online, of nr in all
-abbrev pub OnlineFault : ℕ → List ℕ → Cause → Type 0
-OnlineFault nr field Mask = (mask : ℕ) → IsMask field mask → ⊥
-OnlineFault nr field Range = (mask : ℕ) × IsMask field mask × IsOutside nr mask
-OnlineFault nr field _ = ⊥
+-- what is wrong with a field that has to be the mask of the CPUs online, of nr in all and below the limit
+abbrev pub OnlineFault : ℕ → ℕ → List ℕ → Cause → Type 0
+OnlineFault limit nr field Mask = (mask : ℕ) → IsMask limit field mask → ⊥
+OnlineFault limit nr field Range = (mask : ℕ) × IsMask limit field mask × IsOutside nr mask
+OnlineFault limit nr field _ = ⊥
 
 -- what is wrong with field i, which has to have this form; where it is the mask of the CPUs online, NR is field 1, and where
 -- it is the items, KEYS is
 abbrev pub FieldFault : List (List ℕ) → ℕ → Form → Cause → Type 0
 FieldFault fields i (number low high) cause = NumberFault low high (field_at fields i) cause
 FieldFault fields i signed cause = SignedFault (field_at fields i) cause
-FieldFault fields i cpu_list cause = MaskFault (field_at fields i) cause
-FieldFault fields i online cause = OnlineFault (value_of (field_at fields 1)) (field_at fields i) cause
+FieldFault fields i (cpu_list limit) cause = MaskFault limit (field_at fields i) cause
+FieldFault fields i (online limit) cause = OnlineFault limit (value_of (field_at fields 1)) (field_at fields i) cause
 FieldFault fields i items cause = ItemsFault (value_of (field_at fields 1)) (field_at fields i) cause
 FieldFault fields i _ cause = ⊥

@@ -1,10 +1,12 @@
 -- What one field may be.
-use Rattle.std.specs.Prelude.{ℕ, if◌then◌else◌, List, codes, Result, Ok, Err}
+use Rattle.std.specs.Prelude.{ℕ, Bool, true, false, nat_lt, if◌then◌else◌, List, codes, Result, Ok, Err}
+use Rattle.std.specs.List.{list_all}
 use Rattle.std.specs.Str.{bytes_eq}
 use Rattle.smp_mask.specs.declared.error.Cause.{Cause}
 use Rattle.smp_mask.specs.declared.error.Cause.TheVariants.{Word, Mask}
 use Rattle.smp_mask.specs.declared.error.SmpError.{SmpError}
 use Rattle.smp_mask.specs.declared.mask.TheConstants.{NR_CPUS}
+use Rattle.smp_mask.specs.Mask.{members}
 use Rattle.smp_mask.specs.Reading.{mask_of_text}
 use Rattle.smp_core.specs.declared.call.Class.{Class}
 use Rattle.smp_core.specs.declared.call.Class.TheVariants.{Sync, Async}
@@ -32,10 +34,19 @@ kind_of text =
     if bytes_eq text (codes "one") then Ok One
     else (if bytes_eq text (codes "multi") then Ok Multi else (if bytes_eq text (codes "patch") then Ok Patch else Err Word))
 
-abbrev pub or_mask : Result ℕ SmpError → Result ℕ Cause
-or_mask (Ok mask) = Ok mask
-or_mask (Err error) = Err Mask
+-- `up` or `down`: whether it is `up`
+abbrev pub way_of : List ℕ → Result Bool Cause
+way_of text = if bytes_eq text (codes "up") then Ok true else (if bytes_eq text (codes "down") then Ok false else Err Word)
 
--- a CPU list, where `-` is the empty mask
-abbrev pub mask_of : List ℕ → Result ℕ Cause
-mask_of text = if bytes_eq text (codes "-") then Ok 0 else or_mask (mask_of_text NR_CPUS text)
+-- all CPUs of the mask are below the limit
+abbrev pub stays_below : ℕ → ℕ → Bool
+stays_below limit mask = list_all (λ cpu. nat_lt cpu limit) (members mask)
+
+-- a mask that was read, where all its CPUs are below the limit
+abbrev pub or_mask : ℕ → Result ℕ SmpError → Result ℕ Cause
+or_mask limit (Ok mask) = if stays_below limit mask then Ok mask else Err Mask
+or_mask limit (Err error) = Err Mask
+
+-- a CPU list of CPUs below the limit, where `-` is the empty mask
+abbrev pub mask_of : ℕ → List ℕ → Result ℕ Cause
+mask_of limit text = if bytes_eq text (codes "-") then Ok 0 else or_mask limit (mask_of_text NR_CPUS text)

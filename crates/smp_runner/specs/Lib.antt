@@ -4,6 +4,7 @@ pub mod LineOf
 pub mod Numbers
 -- scripts, and their first fault
 pub mod Faults
+pub mod Versions
 pub mod Fields
 pub mod Commands
 pub mod Labels

@@ -1,9 +1,7 @@
 -- What a script means, or its first fault.
 use Rattle.std.specs.Prelude.{ℕ, ◌+◌, Bool, ◌&&◌, nat_lt, if◌then◌else◌, List, [], ◌∷◌, length, Option, Some, None, Result, Ok, Err, codes}
-use Rattle.std.specs.List.{list_all}
 use Rattle.std.specs.Str.{bytes_eq}
 use Rattle.smp_mask.specs.Mask.{members}
-use Rattle.smp_mask.specs.declared.mask.TheConstants.{NR_CPUS}
 use Rattle.smp_mask.specs.declared.error.Cause.{Cause}
 use Rattle.smp_mask.specs.declared.error.Cause.TheVariants.{TooLong, Cut, Word, Range}
 use Rattle.smp_runner.specs.declared.directive.Directive.{Directive}
@@ -11,13 +9,16 @@ use Rattle.smp_runner.specs.declared.directive.Directive.TheVariants.{Start, Ste
 use Rattle.smp_runner.specs.Lines.{fields_of, Line, lines_of}
 use Rattle.smp_runner.specs.Numbers.{number_in}
 use Rattle.smp_runner.specs.Faults.{◌>>=◌, Fault, at_line}
-use Rattle.smp_runner.specs.Fields.{mask_of}
+use Rattle.smp_runner.specs.Versions.{limit_of, version_of}
+use Rattle.smp_runner.specs.declared.version.Version.{Version}
+use Rattle.smp_runner.specs.Fields.{stays_below, mask_of}
 use Rattle.smp_runner.specs.Commands.{are_whole, line_directive}
 use Rattle.smp_labels.specs.Labels.{Labels}
 use Rattle.smp_runner.specs.Labels.{is_labels, whole_labels}
 
--- how many CPUs there are, which are online, the labels line where there is one, and what the lines ask for
+-- its version, how many CPUs there are, which are online, the labels line where there is one, and what the lines ask for
 pub record Script : Type 0 where
+  pub version : Version
   pub nr : ℕ
   pub online : ℕ
   pub labels : Option Labels
@@ -29,14 +30,14 @@ events_of (Start cpu command) = 1
 events_of (Step cpu count) = count
 events_of Show = 0
 
--- what the lines from number n on ask for, after so many events
-unfoldable pub directives_of : ℕ → ℕ → List Line → Result (List Directive) Fault
-directives_of n events [] = Ok []
-directives_of n events (l ∷ ls) =
+-- what the lines from number n on ask for, after so many events, where the CPUs of masks have to be below the limit
+unfoldable pub directives_of : ℕ → ℕ → ℕ → List Line → Result (List Directive) Fault
+directives_of limit n events [] = Ok []
+directives_of limit n events (l ∷ ls) =
     if nat_lt 2000 n then Err (n, TooLong)
-    else (if l.ended then (at_line n (line_directive l.text) >>= λ d.
+    else (if l.ended then (at_line n (line_directive limit l.text) >>= λ d.
     if nat_lt 100000 (events + events_of d) then Err (n, TooLong)
-    else (directives_of (n + 1) (events + events_of d) ls >>= λ ds. Ok (d ∷ ds)))
+    else (directives_of limit (n + 1) (events + events_of d) ls >>= λ ds. Ok (d ∷ ds)))
     else Err (n, Cut))
 
 -- the line that has to stand at the front, as number n
@@ -44,32 +45,32 @@ abbrev pub line_at : ℕ → List Line → Result (List ℕ × List Line) Fault
 line_at n [] = Err (n, Cut)
 line_at n (l ∷ ls) = if l.ended then Ok (l.text, ls) else Err (n, Cut)
 
--- `smp 1 replay`
-abbrev pub title_of : List (List ℕ) → Result (Unit {0}) Cause
+-- `smp 1 replay` or `smp 2 replay`
+abbrev pub title_of : List (List ℕ) → Result Version Cause
 title_of (a ∷ b ∷ c ∷ []) =
-    if bytes_eq a (codes "smp") then (if bytes_eq b (codes "1") then (if bytes_eq c (codes "replay") then Ok tt else Err Word) else Err Word) else Err Word
+    if bytes_eq a (codes "smp") then (if bytes_eq c (codes "replay") then version_of b else Err Word) else Err Word
 title_of _ = Err Word
 
 -- some CPU is online, and none but these nr
 abbrev pub are_online : ℕ → ℕ → Bool
-are_online nr mask = nat_lt 0 (length (members mask)) && list_all (λ cpu. nat_lt cpu nr) (members mask)
+are_online nr mask = nat_lt 0 (length (members mask)) && stays_below nr mask
 
--- NR MASK
-abbrev pub table_of : List ℕ → List ℕ → Result (ℕ × ℕ) Cause
-table_of nr mask = do
-  n ← number_in 1 NR_CPUS nr
-  m ← mask_of mask
+-- NR MASK, with a limit for both
+abbrev pub table_of : ℕ → List ℕ → List ℕ → Result (ℕ × ℕ) Cause
+table_of limit nr mask = do
+  n ← number_in 1 limit nr
+  m ← mask_of limit mask
   if are_online n m then Ok (n, m) else Err Range
 
 -- `cpus NR MASK`
-abbrev pub cpus_of : List (List ℕ) → Result (ℕ × ℕ) Cause
-cpus_of (word ∷ nr ∷ mask ∷ []) =
-    if bytes_eq word (codes "cpus") then table_of nr mask else Err Word
-cpus_of _ = Err Word
+abbrev pub cpus_of : ℕ → List (List ℕ) → Result (ℕ × ℕ) Cause
+cpus_of limit (word ∷ nr ∷ mask ∷ []) =
+    if bytes_eq word (codes "cpus") then table_of limit nr mask else Err Word
+cpus_of limit _ = Err Word
 
 -- the same where no field is empty
-abbrev pub whole_cpus : List (List ℕ) → Result (ℕ × ℕ) Cause
-whole_cpus fields = if are_whole fields then cpus_of fields else Err Word
+abbrev pub whole_cpus : ℕ → List (List ℕ) → Result (ℕ × ℕ) Cause
+whole_cpus limit fields = if are_whole fields then cpus_of limit fields else Err Word
 
 -- the labels line, where line 3 is one, and the lines after it
 abbrev pub labels_at : List Line → Result (Option Labels × List Line) Fault
@@ -90,9 +91,9 @@ script_of text =
     if nat_lt 65536 (length text) then Err (0, TooLong)
     else (do
       first ← line_at 1 (lines_of text)
-      _ ← at_line 1 (title_of (fields_of first.0))
+      version ← at_line 1 (title_of (fields_of first.0))
       second ← line_at 2 first.1
-      table ← at_line 2 (whole_cpus (fields_of second.0))
+      table ← at_line 2 (whole_cpus (limit_of version) (fields_of second.0))
       third ← labels_at second.1
-      directives ← directives_of (first_line third.0) 0 third.1
-      Ok (record { nr = table.0; online = table.1; labels = third.0; directives = directives }))
+      directives ← directives_of (limit_of version) (first_line third.0) 0 third.1
+      Ok (record { version = version; nr = table.0; online = table.1; labels = third.0; directives = directives }))

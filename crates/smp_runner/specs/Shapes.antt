@@ -2,32 +2,37 @@
 use Rattle.std.specs.Prelude.{ℕ, ◌-◌, ◌^◌, Bool, true, false, not, ◌&&◌, ◌||◌, ◌==◌, if◌then◌else◌, List, [], ◌∷◌, length, find, Option, codes}
 use Rattle.std.specs.Str.{bytes_eq}
 use Rattle.std.specs.List.{list_all}
-use Rattle.smp_mask.specs.declared.mask.TheConstants.{NR_CPUS}
 use Rattle.smp_labels.specs.declared.words.TheConstants.{MOST_KEYS}
 use Rattle.smp_runner.specs.Labels.{is_item, items_of}
+use Rattle.smp_runner.specs.Versions.{version_text}
+use Rattle.smp_runner.specs.declared.version.Version.TheVariants.{One, Two}
 
 -- what a field has to be: that word, one of these words, a number from one to another, a number of 32 bits that may have a
--- minus sign, a CPU list or `-`, the mask of the CPUs online, or the items of the labels
+-- minus sign, a list of CPUs below a limit or `-`, the mask of the CPUs online, below a limit too, or the items of the labels
 pub data Form : Type 0 where
   word : List ℕ → Form
   words : List (List ℕ) → Form
   number : ℕ → ℕ → Form
   signed : Form
-  cpu_list : Form
-  online : Form
+  cpu_list : ℕ → Form
+  online : ℕ → Form
   items : Form
 
 -- a number of so many bits
 abbrev pub bits : ℕ → Form
 bits n = number 0 (2 ^ n - 1)
 
--- `smp 1 replay`
+-- `1` or `2`
+abbrev pub versions : Form
+versions = words (version_text One ∷ version_text Two ∷ [])
+
+-- `smp 1 replay` or `smp 2 replay`
 abbrev pub title : List Form
-title = word (codes "smp") ∷ word (codes "1") ∷ word (codes "replay") ∷ []
+title = word (codes "smp") ∷ versions ∷ word (codes "replay") ∷ []
 
 -- `cpus NR MASK`
-abbrev pub cpus : List Form
-cpus = word (codes "cpus") ∷ number 1 NR_CPUS ∷ online ∷ []
+abbrev pub cpus : ℕ → List Form
+cpus limit = word (codes "cpus") ∷ number 1 limit ∷ online limit ∷ []
 
 -- `labels KEYS ITEMS`
 abbrev pub labels : List Form
@@ -46,8 +51,16 @@ abbrev pub post : List Form
 post = word (codes "start") ∷ bits 32 ∷ word (codes "post") ∷ bits 32 ∷ bits 32 ∷ class ∷ bits 16 ∷ bits 64 ∷ bits 32 ∷ []
 
 -- `start CPU begin KIND MASK ACTIVE FUNC ARG`
-abbrev pub begin : List Form
-begin = word (codes "start") ∷ bits 32 ∷ word (codes "begin") ∷ kind ∷ cpu_list ∷ cpu_list ∷ bits 16 ∷ bits 64 ∷ []
+abbrev pub begin : ℕ → List Form
+begin limit = word (codes "start") ∷ bits 32 ∷ word (codes "begin") ∷ kind ∷ cpu_list limit ∷ cpu_list limit ∷ bits 16 ∷ bits 64 ∷ []
+
+-- `up` or `down`
+abbrev pub way : Form
+way = words (codes "up" ∷ codes "down" ∷ [])
+
+-- `start CPU nudge K WAY`
+abbrev pub nudge : List Form
+nudge = word (codes "start") ∷ bits 32 ∷ word (codes "nudge") ∷ bits 32 ∷ way ∷ []
 
 -- the commands with a number
 abbrev pub with_number : List (List ℕ)
@@ -81,15 +94,15 @@ step = word (codes "step") ∷ bits 32 ∷ number 1 10000 ∷ []
 abbrev pub show : List Form
 show = word (codes "show") ∷ []
 
--- what a line may ask for
-abbrev pub requests : List (List Form)
-requests = post ∷ begin ∷ numbered ∷ answered ∷ bare ∷ step ∷ show ∷ []
+-- what a line may ask for, where CPUs have to be below the limit
+abbrev pub requests : ℕ → List (List Form)
+requests limit = post ∷ begin limit ∷ nudge ∷ numbered ∷ answered ∷ bare ∷ step ∷ show ∷ []
 
 -- the shapes of line n
-abbrev pub shapes_of : ℕ → List (List Form)
-shapes_of n =
+abbrev pub shapes_of : ℕ → ℕ → List (List Form)
+shapes_of limit n =
     if n == 1 then title ∷ []
-    else (if n == 2 then cpus ∷ [] else (if n == 3 then labels ∷ requests else requests))
+    else (if n == 2 then cpus limit ∷ [] else (if n == 3 then labels ∷ requests limit else requests limit))
 
 -- the field is one of these words
 abbrev pub is_one_of : List (List ℕ) → List ℕ → Bool
@@ -110,6 +123,6 @@ has_shape [] [] = true
 has_shape (field ∷ fields) (form ∷ forms) = has_shape fields forms && has_word form field
 has_shape _ _ = false
 
--- the shape of line n with these fields
-abbrev pub shape_of : ℕ → List (List ℕ) → Option (List Form)
-shape_of n fields = find (has_shape fields) (shapes_of n)
+-- the shape of line n with these fields, where CPUs have to be below the limit
+abbrev pub shape_of : ℕ → ℕ → List (List ℕ) → Option (List Form)
+shape_of limit n fields = find (has_shape fields) (shapes_of limit n)

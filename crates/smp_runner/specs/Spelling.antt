@@ -3,17 +3,17 @@ use Rattle.std.specs.Prelude.{◌≡◌, ℕ, ℤ, pos, negsuc, ◌+◌, ◌<◌
 use Rattle.std.specs.Fmt.{decimal, signed_decimal}
 use Rattle.std.specs.List.{AllByRecursion, join_with_byte, list_all}
 use Rattle.smp_mask.specs.ListText.{list_text}
-use Rattle.smp_mask.specs.declared.mask.TheConstants.{NR_CPUS}
 use Rattle.smp_core.specs.declared.call.Class.{Class}
 use Rattle.smp_core.specs.declared.call.Class.TheVariants.{Sync, Async}
 use Rattle.smp_core.specs.declared.command.Command.{Command}
-use Rattle.smp_core.specs.declared.command.Command.TheVariants.{Post, Send, Done, Handle, Gate, Ungate, Begin, Enter, Advance, RunOne, Finish, Poll, Key, Site}
+use Rattle.smp_core.specs.declared.command.Command.TheVariants.{Post, Send, Done, Handle, Gate, Ungate, Begin, Enter, Advance, RunOne, Finish, Poll, Key, Site, Nudge}
 use Rattle.smp_core.specs.declared.stop.work.Kind.{Kind}
 use Rattle.smp_core.specs.declared.stop.work.Kind.TheVariants.{One, Multi, Patch}
 use Rattle.smp_labels.specs.Labels.{AreLabels, Labels}
 use Rattle.smp_labels.specs.declared.entries.Entry.{Entry}
 use Rattle.smp_runner.specs.declared.directive.Directive.{Directive}
 use Rattle.smp_runner.specs.declared.directive.Directive.TheVariants.{Start, Step, Show}
+use Rattle.smp_runner.specs.Versions.{limit_of, version_text}
 use Rattle.smp_runner.specs.Fields.{mask_of}
 use Rattle.smp_runner.specs.Script.{Script, are_online, events_of, first_line}
 
@@ -25,6 +25,9 @@ abbrev pub kind_text : Kind → List ℕ
 kind_text One = codes "one"
 kind_text Multi = codes "multi"
 kind_text Patch = codes "patch"
+
+abbrev pub way_text : Bool → List ℕ
+way_text up = if up then codes "up" else codes "down"
 
 -- a mask, as Display prints it, but `-` where it is empty
 abbrev pub mask_text : ℕ → List ℕ
@@ -58,6 +61,7 @@ command_words masks Finish = codes "finish" ∷ []
 command_words masks Poll = codes "poll" ∷ []
 command_words masks (Key key) = codes "key" ∷ decimal key ∷ []
 command_words masks (Site site) = codes "site" ∷ decimal site ∷ []
+command_words masks (Nudge key up) = codes "nudge" ∷ decimal key ∷ way_text up ∷ []
 
 -- the words of a line
 abbrev pub directive_words : Masks → Directive → List (List ℕ)
@@ -96,7 +100,7 @@ labels_before (Some labels) rest = line_before (codes "labels" ∷ decimal label
 -- a script, with this text for its mask, and these lines
 abbrev pub spelled : List ℕ → List (Masks × Directive) → Script → List ℕ
 spelled mask lines script =
-    line_before (codes "smp" ∷ codes "1" ∷ codes "replay" ∷ [])
+    line_before (codes "smp" ∷ version_text script.version ∷ codes "replay" ∷ [])
     (line_before (codes "cpus" ∷ decimal script.nr ∷ mask ∷ []) (labels_before script.labels (spelled_lines lines)))
 
 -- a number of 32 bits with a sign
@@ -115,6 +119,7 @@ CommandFits (Advance answer) = IsAnswer answer
 CommandFits (RunOne answer) = IsAnswer answer
 CommandFits (Key key) = key < 2 ^ 32
 CommandFits (Site site) = site < 2 ^ 32
+CommandFits (Nudge key up) = key < 2 ^ 32
 CommandFits _ = Unit {0}
 
 -- and those of a line
@@ -136,29 +141,29 @@ lacks c text = list_all (λ b. not (b == c)) text
 abbrev pub is_field : List ℕ → Bool
 is_field text = not (length text == 0) && (lacks 32 text && lacks 10 text)
 
--- this is a text of that mask, as a field
-pub record IsMaskText (text : List ℕ) (mask : ℕ) : Type 0 where
+-- this is a text of that mask, as a field, with CPUs below the limit
+pub record IsMaskText (limit : ℕ) (text : List ℕ) (mask : ℕ) : Type 0 where
   pub field : is_field text ≡ true
-  pub reads : mask_of text ≡ Ok mask
+  pub reads : mask_of limit text ≡ Ok mask
 
 -- these are texts of a command's masks, where it has some
-abbrev pub SpellMasks : Masks → Command → Type 0
-SpellMasks masks (Begin work) = IsMaskText masks.mask work.mask × IsMaskText masks.active work.active
-SpellMasks masks _ = Unit {0}
+abbrev pub SpellMasks : ℕ → Masks → Command → Type 0
+SpellMasks limit masks (Begin work) = IsMaskText limit masks.mask work.mask × IsMaskText limit masks.active work.active
+SpellMasks limit masks _ = Unit {0}
 
 -- and of a line's
-abbrev pub SpellLine : Masks × Directive → Type 0
-SpellLine (masks, Start cpu command) = SpellMasks masks command
-SpellLine _ = Unit {0}
+abbrev pub SpellLine : ℕ → Masks × Directive → Type 0
+SpellLine limit (masks, Start cpu command) = SpellMasks limit masks command
+SpellLine limit _ = Unit {0}
 
--- the text is that of the script, which is within the limits, with this text for its mask, and these lines
+-- the text is that of the script, which is within the limits of its version, with this text for its mask, and these lines
 pub record IsSpelling (mask : List ℕ) (lines : List (Masks × Directive)) (script : Script) (text : List ℕ) : Type 0 where
   pub text_is : text ≡ spelled mask lines script
-  pub mask_is : IsMaskText mask script.online
+  pub mask_is : IsMaskText (limit_of script.version) mask script.online
   pub lines_are : map (λ l. l.1) lines ≡ script.directives
-  pub masks_are : AllByRecursion SpellLine lines
+  pub masks_are : AllByRecursion (SpellLine (limit_of script.version)) lines
   pub some : 1 ≤ script.nr
-  pub within : script.nr ≤ NR_CPUS
+  pub within : script.nr ≤ limit_of script.version
   pub online : are_online script.nr script.online ≡ true
   pub labels : LabelsFit script.labels
   pub fit : AllByRecursion DirectiveFits script.directives
@@ -174,25 +179,25 @@ canonical_lines directives = map (λ d. (line_masks d, d)) directives
 abbrev pub canonical_text : Script → List ℕ
 canonical_text script = spelled (list_text script.online) (canonical_lines script.directives) script
 
--- the masks of a command are sets of CPUs
-abbrev pub HasSets : Command → Type 0
-HasSets (Begin work) = (work.mask < 2 ^ NR_CPUS) × (work.active < 2 ^ NR_CPUS)
-HasSets _ = Unit {0}
+-- the masks of a command are sets of CPUs below the limit
+abbrev pub HasSets : ℕ → Command → Type 0
+HasSets limit (Begin work) = (work.mask < 2 ^ limit) × (work.active < 2 ^ limit)
+HasSets limit _ = Unit {0}
 
 -- and those of a line
-abbrev pub LineHasSets : Directive → Type 0
-LineHasSets (Start cpu command) = HasSets command
-LineHasSets _ = Unit {0}
+abbrev pub LineHasSets : ℕ → Directive → Type 0
+LineHasSets limit (Start cpu command) = HasSets limit command
+LineHasSets limit _ = Unit {0}
 
--- a script within the limits
+-- a script within the limits of its version
 pub record IsLawful (script : Script) : Type 0 where
   pub some : 1 ≤ script.nr
-  pub within : script.nr ≤ NR_CPUS
-  pub is_set : script.online < 2 ^ NR_CPUS
+  pub within : script.nr ≤ limit_of script.version
+  pub is_set : script.online < 2 ^ limit_of script.version
   pub online : are_online script.nr script.online ≡ true
   pub labels : LabelsFit script.labels
   pub fit : AllByRecursion DirectiveFits script.directives
-  pub are_sets : AllByRecursion LineHasSets script.directives
+  pub are_sets : AllByRecursion (LineHasSets (limit_of script.version)) script.directives
   pub bytes : length (canonical_text script) ≤ 65536
   pub count : first_line script.labels + length script.directives ≤ 2001
   pub events : sum_by events_of script.directives ≤ 100000

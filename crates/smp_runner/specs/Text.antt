@@ -101,6 +101,9 @@ note_text notes.On = codes "on"
 note_text notes.Off = codes "off"
 note_text notes.Nop = codes "NOP"
 note_text notes.Jmp = codes "JMP"
+note_text notes.KeyRange = codes "E13"
+note_text notes.Stop = codes "stop"
+note_text notes.Lost = codes "lost"
 
 -- a note stands behind a semicolon
 abbrev pub after_step : Option Note → List ℕ

@@ -2,11 +2,11 @@
 
 ghost use Rattle.std.specs.Prelude.{◌≡◌, ◌<◌, ◌^◌, map, length};
 ghost use Rattle.smp_runner.specs.Lines.{AreShort};
-ghost use Rattle.smp_runner.specs.Commands.{bare_of, begins_of, posts_of, start_answered, start_bare, start_begin, start_of, start_one, start_post, start_short, two_numbers};
+ghost use Rattle.smp_runner.specs.Commands.{bare_of, begins_of, posts_of, start_answered, start_bare, start_begin, start_nudge, start_of, start_one, start_post, start_short, start_two, two_numbers};
 
 use crate::decimal::{read_i32, read_u16, read_u32, read_u64};
 use crate::directive::Directive;
-use crate::field::{read_class, read_kind, read_mask};
+use crate::field::{read_class, read_kind, read_mask, read_way};
 use crate::line::is_word;
 use smp_core::{Command, Work};
 use smp_mask::Cause;
@@ -49,6 +49,7 @@ fn read_posts(cpu: &[u8], arguments: &[&[u8]]) -> Result<Directive, Cause>
 // `start CPU begin KIND MASK ACTIVE FUNC ARG`
 #[tactic(auto, unfolding(crate::specs::Commands::start_begin))]
 fn read_begin(
+    limit: u32,
     cpu: &[u8],
     kind: &[u8],
     mask: &[u8],
@@ -58,14 +59,14 @@ fn read_begin(
 ) -> Result<Directive, Cause>
     requires mask { length mask.now < 2 ^ 32 }
     requires active { length active.now < 2 ^ 32 }
-    ensures { result ≡ start_begin cpu.now kind.now mask.now active.now func.now arg.now }
+    ensures { result ≡ start_begin limit cpu.now kind.now mask.now active.now func.now arg.now }
 {
     let kind = read_kind(kind)?;
     let cpu = read_u32(cpu)?;
     let work = Work {
         kind,
-        mask: read_mask(mask)?,
-        active: read_mask(active)?,
+        mask: read_mask(limit, mask)?,
+        active: read_mask(limit, active)?,
         func: read_u16(func)?,
         arg: read_u64(arg)?,
     };
@@ -74,14 +75,14 @@ fn read_begin(
 
 // The arguments of a begin.
 #[tactic(auto, using(crate::proofs::FieldCounts::not_five))]
-fn read_begins(cpu: &[u8], arguments: &[&[u8]]) -> Result<Directive, Cause>
+fn read_begins(limit: u32, cpu: &[u8], arguments: &[&[u8]]) -> Result<Directive, Cause>
     requires { AreShort (map (λ f. f.now) arguments.now) }
-    ensures { result ≡ begins_of cpu.now (map (λ f. f.now) arguments.now) }
+    ensures { result ≡ begins_of limit cpu.now (map (λ f. f.now) arguments.now) }
 {
     let [kind, mask, active, func, arg] = arguments else {
         return Err(Cause::Word);
     };
-    read_begin(cpu, kind, mask, active, func, arg)
+    read_begin(limit, cpu, kind, mask, active, func, arg)
 }
 
 // The command of this name that has no arguments.
@@ -168,21 +169,41 @@ fn read_one(cpu: &[u8], name: &[u8], argument: &[u8]) -> Result<Directive, Cause
     read_answered(cpu, name, argument)
 }
 
-// `start CPU NAME ARGUMENTS`, with one argument or none
+// `start CPU nudge K WAY`
+fn read_nudge(cpu: &[u8], key: &[u8], way: &[u8]) -> Result<Directive, Cause>
+    ensures { result ≡ start_nudge cpu.now key.now way.now }
+{
+    let up = read_way(way)?;
+    let (cpu, key) = read_two(cpu, key)?;
+    Ok(Directive::Start(cpu, Command::Nudge(key, up)))
+}
+
+// `start CPU NAME FIRST SECOND`
+fn read_pair(cpu: &[u8], name: &[u8], first: &[u8], second: &[u8]) -> Result<Directive, Cause>
+    ensures { result ≡ start_two cpu.now name.now first.now second.now }
+{
+    if is_word(name, b"nudge") {
+        return read_nudge(cpu, first, second);
+    }
+    Err(Cause::Word)
+}
+
+// `start CPU NAME ARGUMENTS`, with two arguments at most
 fn read_short(cpu: &[u8], name: &[u8], arguments: &[&[u8]]) -> Result<Directive, Cause>
     ensures { result ≡ start_short cpu.now name.now (map (λ f. f.now) arguments.now) }
 {
     match arguments {
         [] => read_bare(cpu, name),
         [argument] => read_one(cpu, name, argument),
+        [first, second] => read_pair(cpu, name, first, second),
         _ => Err(Cause::Word),
     }
 }
 
-/// What the fields after `start` ask for.
-pub fn read_start(fields: &[&[u8]]) -> Result<Directive, Cause>
+/// What the fields after `start` ask for, where the CPUs of masks have to be below `limit`.
+pub fn read_start(limit: u32, fields: &[&[u8]]) -> Result<Directive, Cause>
     requires { AreShort (map (λ f. f.now) fields.now) }
-    ensures { result ≡ start_of (map (λ f. f.now) fields.now) }
+    ensures { result ≡ start_of limit (map (λ f. f.now) fields.now) }
 {
     let [cpu, name, arguments @ ..] = fields else {
         return Err(Cause::Word);
@@ -191,7 +212,7 @@ pub fn read_start(fields: &[&[u8]]) -> Result<Directive, Cause>
         return read_posts(cpu, arguments);
     }
     if is_word(name, b"begin") {
-        return read_begins(cpu, arguments);
+        return read_begins(limit, cpu, arguments);
     }
     read_short(cpu, name, arguments)
 }

@@ -69,15 +69,15 @@ fn read_show(fields: &[&[u8]]) -> Result<Directive, Cause>
 }
 
 // `start ..`, `step ..` or `show`
-fn read_directive(fields: &[&[u8]]) -> Result<Directive, Cause>
+fn read_directive(limit: u32, fields: &[&[u8]]) -> Result<Directive, Cause>
     requires { AreShort (map (λ f. f.now) fields.now) }
-    ensures { result ≡ directive_of (map (λ f. f.now) fields.now) }
+    ensures { result ≡ directive_of limit (map (λ f. f.now) fields.now) }
 {
     let [word, rest @ ..] = fields else {
         return Err(Cause::Word);
     };
     if is_word(word, b"start") {
-        return read_start(rest);
+        return read_start(limit, rest);
     }
     if is_word(word, b"step") {
         return read_steps(rest);
@@ -95,14 +95,14 @@ pub fn are_all_whole(fields: &[&[u8]]) -> bool
     fields.iter().all(|f| !f.is_empty())
 }
 
-/// What the fields of a line ask for, none of which may be empty.
+/// What the fields of a line ask for, none of which may be empty, and where the CPUs of masks have to be below `limit`.
 #[tactic(auto, using(crate::proofs::FieldLists::are_whole_map))]
-pub fn read_whole(fields: &[&[u8]]) -> Result<Directive, Cause>
+pub fn read_whole(limit: u32, fields: &[&[u8]]) -> Result<Directive, Cause>
     requires { AreShort (map (λ f. f.now) fields.now) }
-    ensures { result ≡ whole_directive (map (λ f. f.now) fields.now) }
+    ensures { result ≡ whole_directive limit (map (λ f. f.now) fields.now) }
 {
     if !are_all_whole(fields) {
         return Err(Cause::Word);
     }
-    read_directive(fields)
+    read_directive(limit, fields)
 }

@@ -1,7 +1,7 @@
 //! Fields that are no numbers.
 
 ghost use Rattle.std.specs.Prelude.{◌≡◌, ◌<◌, ◌^◌, length};
-ghost use Rattle.smp_runner.specs.Fields.{class_of, kind_of, mask_of};
+ghost use Rattle.smp_runner.specs.Fields.{class_of, stays_below, kind_of, mask_of, way_of};
 
 use crate::line::is_word;
 use smp_core::{Class, Kind};
@@ -36,16 +36,36 @@ pub fn read_kind(text: &[u8]) -> Result<Kind, Cause>
     Err(Cause::Word)
 }
 
-/// A CPU list, where `-` is the empty mask.
-pub fn read_mask(text: &[u8]) -> Result<CpuMask, Cause>
+/// `up` or `down`: whether it is `up`.
+pub fn read_way(text: &[u8]) -> Result<bool, Cause>
+    ensures { result ≡ way_of text.now }
+{
+    if is_word(text, b"up") {
+        return Ok(true);
+    }
+    if is_word(text, b"down") {
+        return Ok(false);
+    }
+    Err(Cause::Word)
+}
+
+/// Whether all CPUs of a mask are below `limit`.
+pub fn stays_below(limit: u32, mask: CpuMask) -> bool
+    ensures { result ≡ stays_below limit mask }
+{
+    mask.iter().all(|cpu| cpu < limit)
+}
+
+/// A CPU list of CPUs below `limit`, where `-` is the empty mask.
+pub fn read_mask(limit: u32, text: &[u8]) -> Result<CpuMask, Cause>
     requires { length text.now < 2 ^ 32 }
-    ensures { result ≡ mask_of text.now }
+    ensures { result ≡ mask_of limit text.now }
 {
     if is_word(text, b"-") {
         return Ok(CpuMask::empty());
     }
     match CpuMask::parse(text) {
-        Ok(mask) => Ok(mask),
-        Err(_) => Err(Cause::Mask),
+        Ok(mask) if stays_below(limit, mask) => Ok(mask),
+        _ => Err(Cause::Mask),
     }
 }

@@ -69,8 +69,8 @@ fn stale_and_refused_stops(rt: HostRuntime) {
 }
 
 #[test]
-fn faults_of_labels_and_stops(rt: HostRuntime) {
-    let cases: [(&[u8], Cause); 12] = [
+fn faults_of_labels_stops_and_nudges(rt: HostRuntime) {
+    let cases: [(&[u8], Cause); 16] = [
         (b"labels 5 0:2\n", Cause::Word),
         (b"labels 1 0:0,\n", Cause::Word),
         (b"labels 01 0\n", Cause::Word),
@@ -86,6 +86,10 @@ fn faults_of_labels_and_stops(rt: HostRuntime) {
         (b"start 0 begin one 0- 0 9 5\n", Cause::Mask),
         (b"start 0 advance -0\n", Cause::Number),
         (b"start 0 runone -2147483649\n", Cause::Range),
+        (b"start 0 nudge 0\n", Cause::Word),
+        (b"start 0 nudge x left\n", Cause::Word),
+        (b"start 0 nudge x up\n", Cause::Number),
+        (b"start 0 nudge 4294967296 down\n", Cause::Range),
     ];
     for (line_3, cause) in cases {
         let mut script = Vec::new(rt.alloc());
@@ -97,6 +101,74 @@ fn faults_of_labels_and_stops(rt: HostRuntime) {
         assert!(rt; script.extend_from_slice(line_3).is_ok());
         let (answer, written) = replayed(&rt, script.as_slice());
         assert_eq!(rt; answer, Err(SmpError::BadScript { line: 3, cause }));
+        assert!(rt; written.is_empty());
+    }
+}
+
+#[test]
+fn records_of_two_sources(rt: HostRuntime) {
+    let (answer, written) = replayed(&rt, TWO_SOURCES);
+    assert_eq!(rt; answer, Ok(Outcome::Done));
+    assert!(rt; written.as_slice().ends_with(THEIR_LAST_STEPS));
+}
+
+#[test]
+fn records_of_far_calls(rt: HostRuntime) {
+    let cases: [(&[u8], &[u8]); 2] = [
+        (
+            b"smp 2 replay\ncpus 32 0-31\nstart 31 post 12 8 async 1 0 1\nstep 31 8\n",
+            b"\n31 cas head.8 0 > 1129 ; owed\n",
+        ),
+        (
+            b"smp 2 replay\ncpus 32 0-31\nstart 0 post 35 31 async 1 0 1\nstep 0 8\n",
+            b"\n0 cas head.31 0 > 408 ; owed\n",
+        ),
+    ];
+    for (script, end) in cases {
+        let (answer, written) = replayed(&rt, script);
+        assert_eq!(rt; answer, Ok(Outcome::Done));
+        assert!(rt; written.as_slice().ends_with(end));
+    }
+}
+
+#[test]
+fn nudges(rt: HostRuntime) {
+    let (answer, written) = replayed(&rt, NUDGES);
+    assert_eq!(rt; answer, Ok(Outcome::Done));
+    assert!(rt; written.as_slice().starts_with(FIRST_NUDGES));
+    assert!(rt; written.as_slice().ends_with(LAST_NUDGES));
+}
+
+#[test]
+fn faults_by_version(rt: HostRuntime) {
+    let cases: [(&[u8], u32, Cause); 11] = [
+        (b"smp 3 replay\ncpus 1 0\n", 1, Cause::Word),
+        (b"smp 02 replay\ncpus 1 0\n", 1, Cause::Word),
+        (b"smp 1 replay\ncpus 9 0\n", 2, Cause::Range),
+        (b"smp 2 replay\ncpus 33 0\n", 2, Cause::Range),
+        (b"smp 1 replay\ncpus 2 8\n", 2, Cause::Mask),
+        (b"smp 2 replay\ncpus 2 8\n", 2, Cause::Range),
+        (b"smp 1 replay\ncpus 2 0-10\n", 2, Cause::Mask),
+        (b"smp 2 replay\ncpus 2 32\n", 2, Cause::Mask),
+        (
+            b"smp 1 replay\ncpus 2 0\nstart 0 begin one 8 - 0 0\n",
+            3,
+            Cause::Mask,
+        ),
+        (
+            b"smp 1 replay\ncpus 2 0\nstart 0 begin one 7 8 0 0\n",
+            3,
+            Cause::Mask,
+        ),
+        (
+            b"smp 2 replay\ncpus 2 0\nstart 0 begin one 8 31-32 0 0\n",
+            3,
+            Cause::Mask,
+        ),
+    ];
+    for (script, line, cause) in cases {
+        let (answer, written) = replayed(&rt, script);
+        assert_eq!(rt; answer, Err(SmpError::BadScript { line, cause }));
         assert!(rt; written.is_empty());
     }
 }
@@ -219,23 +291,41 @@ fn each_write_fails_in_turn(rt: HostRuntime) {
     }
 }
 
-#[test]
-fn each_heap_size(rt: HostRuntime) -> Result<(), Fail> {
-    for blocks in 0..10_000usize {
-        let size = 16 * blocks;
-        let heap = LocalHeap::new(rt.alloc(), size)?;
-        let mut reader = Watched::new(ONE_CALL);
-        let mut writer = Watched::new(Vec::new(rt.alloc()));
-        let answer = replay_script(&heap, &mut reader, &mut writer);
-        let written = writer.into_inner();
-        if let Ok(outcome) = answer {
-            assert!(rt; outcome == Outcome::Done && written.as_slice() == ITS_OUTPUT);
-            assert!(rt; size > 0);
-            return Ok(());
-        }
-        assert_eq!(rt; answer, Err(SmpError::NoMemory));
-        assert!(rt; written.is_empty());
+// Whether a heap of so many blocks of 16 bytes is enough for a call. Where it is not, the answer says so, and
+// nothing is written.
+fn is_enough(rt: &HostRuntime, blocks: usize) -> Result<bool, Fail> {
+    let heap = LocalHeap::new(rt.alloc(), blocks.wrapping_mul(16))?;
+    let mut reader = Watched::new(ONE_CALL);
+    let mut writer = Watched::new(Vec::new(rt.alloc()));
+    let answer = replay_script(&heap, &mut reader, &mut writer);
+    let written = writer.into_inner();
+    if answer == Ok(Outcome::Done) {
+        assert!(rt; written.as_slice() == ITS_OUTPUT);
+        return Ok(true);
     }
-    assert!(rt; false, "no heap was enough");
+    assert_eq!(rt; answer, Err(SmpError::NoMemory));
+    assert!(rt; written.is_empty());
+    Ok(false)
+}
+
+// The growths of the script come first, then one for each of the table's parts, and then those of the output.
+#[test]
+fn each_growth_may_be_refused(rt: HostRuntime) -> Result<(), Fail> {
+    let mut few = 0usize;
+    let mut enough = 1usize << 17;
+    assert!(rt; is_enough(&rt, enough)?);
+    for _ in 0..20 {
+        let blocks = few / 2 + enough / 2;
+        if is_enough(&rt, blocks)? {
+            enough = blocks;
+        } else {
+            few = blocks;
+        }
+    }
+    for step in 0..200usize {
+        assert!(rt; !is_enough(&rt, step)?);
+        assert!(rt; !is_enough(&rt, few / 200 * step)?);
+        assert!(rt; !is_enough(&rt, few.saturating_sub(step))?);
+    }
     Ok(())
 }

@@ -130,6 +130,9 @@ fn write_note<A: Allocator>(out: &mut String<A>, note: Note) -> Result<(), Alloc
         Note::Off => write!(out, "off"),
         Note::Nop => write!(out, "NOP"),
         Note::Jmp => write!(out, "JMP"),
+        Note::KeyRange => write!(out, "E13"),
+        Note::Stop => write!(out, "stop"),
+        Note::Lost => write!(out, "lost"),
     }
 }
 

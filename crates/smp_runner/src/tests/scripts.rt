@@ -6,7 +6,7 @@ step 0 8
 start 0 send 1
 step 0 1
 start 1 handle
-step 1 11
+step 1 13
 start 0 done 0
 step 0 1
 show
@@ -24,10 +24,12 @@ pub const ITS_OUTPUT: &[u8] = b"0 load flags.0 0
 1 store hand.1 1
 1 swap intr.1 1
 1 swap head.1 1
+1 load next.0 0
+1 store next.0 0
+1 load next.0 0
 1 load flags.0 17
 1 load func.0 7
 1 load info.0 42
-1 load next.0 0
 1 store hand.1 2 ; call 0 7 42
 1 store ran.1.0 1
 1 store flags.0 0
@@ -141,4 +143,86 @@ pub const ITS_LAST_STEPS: &[u8] = b"0 load slot.0.state 3
 0 sub slot.0.ack 1
 0 store slot.0.ack 1
 0 store slot.0.state 4 ; ran
+";
+
+/// Asynchronous calls from two CPUs, one of which posts behind the other's back.
+pub const TWO_SOURCES: &[u8] = b"smp 1 replay
+cpus 3 0-2
+start 1 post 10 2 async 1 1 1
+step 1 8
+start 0 send 2
+step 0 1
+start 0 post 10 2 async 2 2 1
+step 0 7
+start 2 handle
+step 2 13
+start 1 post 10 2 async 3 3 1
+step 1 8
+step 0 1
+show
+";
+
+pub const THEIR_LAST_STEPS: &[u8] = b"1 cas head.2 0 > 23 ; owed
+0 cas head.2 23 > 11 ; queued
+queue 0:
+queue 1:
+queue 2: 22 10
+locked: 10 22
+phase:
+";
+
+/// Nudges before and after a patch that brings the count to 1, and one that comes too late.
+pub const NUDGES: &[u8] = b"smp 2 replay
+cpus 10 0,9
+labels 1 0:0
+start 0 nudge 0 up
+step 0 1
+start 0 nudge 0 down
+step 0 1
+start 0 gate
+step 0 1
+start 0 begin patch 0,9 0 0 2
+step 0 11
+start 0 enter 0
+step 0 4
+start 9 enter 0
+step 9 4
+start 0 advance 0
+step 0 2
+start 9 advance 0
+step 9 4
+start 0 advance 0
+step 0 2
+start 9 advance 0
+step 9 4
+start 9 advance 0
+step 9 2
+start 0 advance 0
+step 0 11
+start 0 advance 0
+step 0 2
+start 9 advance 0
+step 9 4
+start 0 nudge 0 up
+step 0 1
+start 9 nudge 0 up
+step 9 2
+step 0 1
+start 0 nudge 0 down
+step 0 2
+start 0 nudge 0 down
+step 0 1
+";
+
+pub const FIRST_NUDGES: &[u8] = b"0 load key.0 0 ; stop
+0 load key.0 0 ; E13
+";
+
+pub const LAST_NUDGES: &[u8] = b"0 load key.0 1
+9 load key.0 1
+9 cas key.0 1 > 2 ; done
+0 cas key.0 2 kept ; lost
+0 load key.0 2
+0 cas key.0 2 > 1 ; done
+0 load key.0 1 ; stop
 ";

@@ -6,7 +6,7 @@ use Rattle.smp_runner.proofs.script.read_directives.Given as goal
 
 abbrev pub invariant-loop-next : goal.invariant-loop-next
 invariant-loop-next g l = record {
-  stands : Stands l.line l.events l.found.items (lines_of l.rest) (directives_of l.fn.first 0 (lines_of l.fn.body));
+  stands : Stands l.fn.limit l.line l.events l.found.items (lines_of l.rest) (directives_of l.fn.limit l.fn.first 0 (lines_of l.fn.body));
   short : length l.rest < 2 ^ 32;
 }
 
