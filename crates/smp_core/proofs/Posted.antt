@@ -70,11 +70,6 @@ lost_known v v' w to link n found p false t e f = e ∙ ap (λ (u : Known). know
 pub released_known : (v v' w : Known) (id : ℕ) (p : Posting) → v' ≡ known_told w act.Store (Flags id) None (Some 0) → w ≡ standing p post.Release v → v' ≡ outside_known v
 released_known v v' w id p e f = e ∙ ap (λ (u : Known). known_told u act.Store (Flags id) None (Some 0)) f
 
-pub sends_known : (v v' : Known) (to n : ℕ) → v.stage ≡ None → v' ≡ known_told v act.Store (Intr to) None (Some n) → v' ≡ sent_known to v
-sends_known v v' to n o e =
-    let out : v ≡ outside_known v = outside_as v o in
-    e ∙ (ap (λ (u : Known). known_told u act.Store (Intr to) None (Some n)) out ∙ ap (sent_known to) (sym out))
-
 -- the numbers that a post stores in its tally word
 pub count_access : (v : Known) (p : Posting) (me count : ℕ) → v.number ≡ me → count ≡ length (sent_to p.to v.sent) % 2 ^ 64 → known_access v (Post p post.Count) ≡ Store (Queued me p.to) ((count + 1) % 2 ^ 64)
 count_access v p me count n e = let same : (length (sent_to p.to v.sent) + 0) % 2 ^ 64 ≡ count = omega arith in λ i. Store (Queued (n i) p.to) ((same i + 1) % 2 ^ 64)

@@ -36,7 +36,7 @@ returns c =
     let whole : reverse items ≡ chain_in nexts records c.args.first = elim c.loop-round-test.branch [
       | else-loop-round-test w ↦ ended_by_count nexts c.args.first c.loop-round.link (reverse items) c.loop-round._round (let t = w.loop-round-test in omega arith) c.loop-round.invariant
       | then-loop-round-test+then-link-eq0 w ↦
-        let here : Follows nexts c.args.first 0 (reverse items) c.loop-round._round = rw w.if-link-eq0.true at c.loop-round.invariant in
-        ended nexts c.args.first (reverse items) c.loop-round._round (records - c.loop-round._round) (let t = w.loop-round-test in omega arith) here
+          let here : Follows nexts c.args.first 0 (reverse items) c.loop-round._round = rw w.if-link-eq0.true at c.loop-round.invariant in
+          ended nexts c.args.first (reverse items) c.loop-round._round (records - c.loop-round._round) (let t = w.loop-round-test in omega arith) here
     ] in
     refilled items c.reverse.new.self same ∙ (turned ∙ whole)
