@@ -1,5 +1,5 @@
 -- Facts of all elements of a list.
-use Rattle.std.proofs.Common.{◌≡◌, List, [], ◌∷◌, ◌++◌, subst}
+use Rattle.std.proofs.Common.{List, [], ◌∷◌, ◌++◌}
 use Rattle.std.specs.List.{AllByRecursion}
 use Rattle.smp_core.specs.Order.{if_sync, if_async, sync_calls, async_calls}
 use Rattle.smp_core.specs.declared.call.Call.{Call}

@@ -3,11 +3,11 @@ use Rattle.std.proofs.Common.{◌≡◌, ℕ, ◌+◌, ◌-◌, ◌%◌, ◌^◌
 use Rattle.smp_core.specs.Flags.{flags_of}
 use Rattle.smp_core.specs.Histories.{sent_to, one_held}
 use Rattle.smp_core.specs.Stands.{held_of_post, holding}
-use Rattle.smp_core.specs.Known.{known_told, known_access, posting_of, standing, outside_known, confirmed_known, appended_known, sent_known}
+use Rattle.smp_core.specs.Known.{known_told, known_access, posting_of, standing, outside_known, confirmed_known, appended_known}
 use Rattle.smp_core.specs.declared.call.Class.{Class}
 use Rattle.smp_core.specs.declared.call.Class.TheVariants.{Sync, Async}
 use Rattle.smp_core.specs.declared.known.Known.{Known}
-use Rattle.smp_core.specs.declared.word.Word.TheVariants.{Head, Intr, Queued, Flags, Func, Info, Next}
+use Rattle.smp_core.specs.declared.word.Word.TheVariants.{Head, Queued, Flags, Func, Info, Next}
 use Rattle.smp_core.specs.declared.access.Access.TheVariants.{Store}
 use Rattle.smp_core.specs.declared.seen.Act.TheVariants as act
 use Rattle.smp_core.specs.declared.post.Posting.{Posting}

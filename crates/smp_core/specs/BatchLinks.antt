@@ -1,5 +1,5 @@
 -- The links of a batch, which its CPU reverses in place and from which it then unlinks the SYNC calls.
-use Rattle.std.specs.Prelude.{◌≡◌, ℕ, Bool, ◌&&◌, not, Option, Some, None, List, [], ◌++◌}
+use Rattle.std.specs.Prelude.{◌≡◌, ℕ, Bool, ◌&&◌, not, Option, Some, List, [], ◌++◌}
 use Rattle.std.specs.List.{filter}
 use Rattle.smp_core.specs.Order.{order}
 use Rattle.smp_core.specs.Calls.{CallState}

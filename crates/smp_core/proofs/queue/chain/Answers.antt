@@ -1,7 +1,6 @@
 use mathlib.Core.List.{reverse}
-use Rattle.std.proofs.Common.{◌≡◌, ℕ, ◌+◌, ◌-◌, ◌<◌, ◌≤◌, List, [], ◌∷◌, ◌++◌, length, sym, ap, ◌∙◌, arith, rules}
+use Rattle.std.proofs.Common.{◌≡◌, ℕ, ◌-◌, ◌≤◌, List, [], ◌∷◌, length, ap, ◌∙◌, arith, rules}
 use Rattle.std.proofs.lemmas.List.{reverse-append, length-reverse}
-use Rattle.std.specs.List.{refill}
 use Rattle.smp_core.specs.Layout.{number_in}
 use Rattle.smp_core.specs.Size.{records}
 use Rattle.smp_core.specs.Words.{nexts_in}
