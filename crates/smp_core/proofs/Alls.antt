@@ -1,5 +1,5 @@
 -- Facts of all elements of a list.
-use Rattle.std.proofs.Common.{◌≡◌, List, [], ◌∷◌, ◌++◌, subst}
+use Rattle.std.proofs.Common.{List, [], ◌∷◌, ◌++◌}
 use Rattle.std.specs.List.{AllByRecursion}
 use Rattle.smp_core.specs.Order.{if_sync, if_async, sync_calls, async_calls}
 use Rattle.smp_core.specs.declared.call.Call.{Call}
@@ -61,11 +61,3 @@ every_sync P (call ∷ rest) h = every_append P (if_sync call.class call) (sync_
 pub every_async : (P : Call → Type 0) (calls : List Call) → AllByRecursion P calls → AllByRecursion P (async_calls calls)
 every_async P [] h = tt
 every_async P (call ∷ rest) h = every_append P (if_async call.class call) (async_calls rest) (one_async P call.class call h.0) (every_async P rest h.1)
-
--- what holds of all of a batch that is partly loaded holds of what is not loaded
-pub every_unloaded : (P : Call → Type 0) (batch calls sync async : List Call) → batch ≡ (sync_calls calls ++ sync) ++ (async_calls calls ++ async) → AllByRecursion P batch → AllByRecursion P calls
-every_unloaded P batch calls sync async e h =
-    let k : AllByRecursion P ((sync_calls calls ++ sync) ++ (async_calls calls ++ async)) = subst (λ (xs : List Call). AllByRecursion P xs) e h in
-    every_class P calls
-    (every_left P (sync_calls calls) sync (every_left P (sync_calls calls ++ sync) (async_calls calls ++ async) k))
-    (every_left P (async_calls calls) async (every_right P (sync_calls calls ++ sync) (async_calls calls ++ async) k))

@@ -41,10 +41,6 @@ pub HasRecord-right : (id : ℕ) (calls more : List Call) → HasRecord id more 
 HasRecord-right id [] more h = h
 HasRecord-right id (call ∷ rest) more h = inr (HasRecord-right id rest more h)
 
-nothing_empty : (xs : List Call) (y : Call) → IsEmpty (xs ++ y ∷ []) → ⊥
-nothing_empty [] y h = h
-nothing_empty (x ∷ xs) y h = h
-
 true≢false : true ≢ false
 true≢false e = cc
 

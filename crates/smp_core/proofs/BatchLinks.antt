@@ -1,5 +1,5 @@
 -- The links of a batch, by where its CPU stands.
-use Rattle.std.proofs.Common.{◌≡◌, ◌≢◌, ℕ, ◌+◌, ◌==◌, Bool, true, false, ◌&&◌, not, Option, Some, None, List, [], ◌∷◌, ◌++◌, inl, inr, sym, subst, refl, ap, ◌∙◌, append_assoc}
+use Rattle.std.proofs.Common.{◌≡◌, ◌≢◌, ℕ, ◌+◌, Bool, true, false, ◌&&◌, not, Option, Some, None, List, [], ◌∷◌, ◌++◌, inl, inr, sym, subst, refl, ap, ◌∙◌, append_assoc}
 use Rattle.std.proofs.lemmas.Bool.{eq-eqb, ne_eqb}
 use Rattle.std.proofs.lemmas.List.{append-nil}
 use Rattle.std.proofs.lemmas.List.Elements.{filter-append}
@@ -7,7 +7,7 @@ use Rattle.std.specs.List.{AllByRecursion, filter}
 use Rattle.smp_core.specs.Order.{if_sync, if_async, sync_calls, async_calls, order}
 use Rattle.smp_core.specs.Calls.{Running, Nothing, SyncCall, CountedCall, AsyncCall}
 use Rattle.smp_core.specs.Drains.{DrainValue, link_to}
-use Rattle.smp_core.specs.Words.{Leads, Path, nexts_in}
+use Rattle.smp_core.specs.Words.{Leads, nexts_in}
 use Rattle.smp_core.specs.Places.{IsAbsent, IsApart, HasRecord}
 use Rattle.smp_core.specs.Batches.{has_record, is_this, down_link, up_link, between_of}
 use Rattle.smp_core.specs.BatchLinks.{is_linked, BegunAt, LoadedAt, BatchLinks, KeepBatchLinks}

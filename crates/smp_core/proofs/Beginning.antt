@@ -9,14 +9,14 @@ use Rattle.smp_core.specs.Order.{sync_calls, async_calls}
 use Rattle.smp_core.specs.Drains.{DrainValue}
 use Rattle.smp_core.specs.Stages.{ControlValue}
 use Rattle.smp_core.specs.Places.{IsApart, HasRecord, IsPlaced, IsThere, Placed, locked_by}
-use Rattle.smp_core.specs.Words.{FlagsShow, IsWritten, Written, last_batch, flags_in, funcs_in, infos_in, nexts_in, queued_in, ran_in}
+use Rattle.smp_core.specs.Words.{FlagsShow, IsWritten, Written, last_batch, flags_in, funcs_in, infos_in, queued_in, ran_in}
 use Rattle.smp_core.specs.Histories.{orders, running_call, counted_call, Recorded, Tallied}
 use Rattle.smp_core.specs.Stands.{share_of, Stands, HandIs}
 use Rattle.smp_core.specs.Shows.{Shows}
 use Rattle.smp_core.proofs.Puts.{at_test}
 use Rattle.smp_core.proofs.Frames.{Minds, Touches, leaves_others}
 use Rattle.smp_core.proofs.Turns.{put_here, put_else, holds_nothing, stands_at, hand_at, held_after, stands_after, hands_after, hands_stored}
-use Rattle.smp_core.proofs.Moving.{Batch≢Batch, Running≢Batch, Queued≢Batch, Batch≢Free, Free≢Batch, all_placed_still, all_placed_apart, placed_moved, all_written_still, all_written_apart, written_moved}
+use Rattle.smp_core.proofs.Moving.{Batch≢Batch, Running≢Batch, Queued≢Batch, Batch≢Free, all_placed_still, all_placed_apart, placed_moved, all_written_still, all_written_apart, written_moved}
 use Rattle.smp_core.proofs.Tallies.{tallied_same}
 use Rattle.smp_core.proofs.StepShows.{StepShows}
 use Rattle.smp_core.specs.declared.call.Call.{Call}

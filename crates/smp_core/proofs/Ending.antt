@@ -15,7 +15,7 @@ use Rattle.smp_core.specs.Shows.{Shows}
 use Rattle.smp_core.proofs.Puts.{at_test}
 use Rattle.smp_core.proofs.Frames.{Minds, leaves_others, leaves_all}
 use Rattle.smp_core.proofs.Turns.{put_here, put_else, holds_nothing, stands_at, hand_at, held_after, stands_after, hands_after}
-use Rattle.smp_core.proofs.Moving.{Running≢Running, Batch≢Running, Queued≢Running, Running≢Free, Free≢Batch, all_placed_still, placed_moved, all_written_still, written_moved}
+use Rattle.smp_core.proofs.Moving.{Running≢Running, Batch≢Running, Queued≢Running, Running≢Free, all_placed_still, placed_moved, all_written_still, written_moved}
 use Rattle.smp_core.proofs.Walks.{second_goes, first_goes, hand_of_second, hand_of_first}
 use Rattle.smp_core.proofs.Tallies.{tallied_more, tallied_same}
 use Rattle.smp_core.proofs.StepShows.{StepShows}

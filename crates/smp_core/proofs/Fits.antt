@@ -1,8 +1,7 @@
 -- What a step finds fits the types of the machine, and there is room for what it loads.
-use Rattle.std.proofs.Common.{◌≡◌, ℕ, ◌+◌, ◌^◌, ◌<◌, ◌≤◌, Option, Some, List, [], ◌∷◌, ◌++◌, length, length-append, sym, subst, refl, ap, ◌∙◌, arith}
+use Rattle.std.proofs.Common.{◌≡◌, ℕ, ◌+◌, ◌^◌, ◌<◌, ◌≤◌, Option, Some, List, [], ◌∷◌, ◌++◌, length-append, sym, subst, ap, ◌∙◌, arith}
 use Rattle.std.specs.List.{AllByRecursion}
 use Rattle.smp_core.specs.Size.{records}
-use Rattle.smp_core.specs.Order.{if_sync, if_async, sync_calls, async_calls}
 use Rattle.smp_core.specs.Access.{word_of}
 use Rattle.smp_core.specs.Calls.{CallState, Nothing}
 use Rattle.smp_core.specs.Drains.{link_to}
@@ -19,8 +18,6 @@ use Rattle.smp_core.proofs.Loading.{walked_words, ended_words}
 use Rattle.smp_core.proofs.Walks.{reverses_all, walks_rest, ends_rest, same_record}
 use Rattle.smp_core.specs.declared.handle.Walk.{Walk}
 use Rattle.smp_core.specs.declared.call.Call.{Call}
-use Rattle.smp_core.specs.declared.call.Class.{Class}
-use Rattle.smp_core.specs.declared.call.Class.TheVariants.{Sync, Async}
 use Rattle.smp_core.specs.declared.place.RecPlace.TheVariants as place
 use Rattle.smp_core.specs.declared.word.Word.{Word}
 use Rattle.smp_core.specs.declared.word.Word.TheVariants.{Head, Func, Next}

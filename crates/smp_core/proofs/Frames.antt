@@ -1,5 +1,5 @@
 -- What a step leaves to another CPU: a CPU stands where it stood.
-use Rattle.std.proofs.Common.{◌≡◌, ◌≢◌, ℕ, ◌+◌, Option, Some, None, List, [], ◌∷◌, ◌++◌, sym, subst, refl, ◌∙◌}
+use Rattle.std.proofs.Common.{◌≡◌, ◌≢◌, ℕ, ◌+◌, Option, Some, None, List, [], ◌∷◌, sym, subst, refl, ◌∙◌}
 use Rattle.std.specs.List.{AllByRecursion}
 use Rattle.smp_core.specs.Size.{owner}
 use Rattle.smp_core.specs.Drains.{DrainValue, link_to}

@@ -1,11 +1,9 @@
 -- A CPU inside handle: what holds of it by the laws, and what it knows after each of its steps.
-use Rattle.std.proofs.Common.{◌≡◌, ◌≢◌, ℕ, ◌+◌, ◌%◌, ◌<◌, ◌==◌, Bool, true, false, cond, Option, Some, None, List, [], ◌∷◌, ◌++◌, length, length-append, sym, subst, refl, ap, ◌∙◌, arith}
+use Rattle.std.proofs.Common.{◌≡◌, ◌≢◌, ℕ, ◌+◌, ◌%◌, ◌<◌, ◌==◌, Bool, true, false, cond, Option, Some, None, List, [], ◌∷◌, ◌++◌, sym, subst, refl, ap, ◌∙◌, arith}
 use Rattle.std.proofs.lemmas.Bool.{lt-ltb, eq-eqb}
 use Rattle.std.specs.Prelude.{slice_set}
 use Rattle.std.specs.List.{AllByRecursion}
 use Rattle.smp_core.specs.Size.{cpus, records}
-use Rattle.smp_core.specs.Flags.{class_of}
-use Rattle.smp_core.specs.Order.{if_sync, if_async, sync_calls, async_calls}
 use Rattle.smp_core.specs.Access.{word_of}
 use Rattle.smp_core.specs.Calls.{CallState, Nothing, SyncCall, CountedCall, AsyncCall}
 use Rattle.smp_core.specs.Drains.{DrainValue, handle_goes, link_to, record_at, first_on, second_on, handle_outcome, drain_after}
@@ -24,7 +22,6 @@ use Rattle.smp_core.specs.declared.handle.Walk.{Walk}
 use Rattle.smp_core.proofs.Fits.{found_fits}
 use Rattle.smp_core.proofs.Restages.{access_known}
 use Rattle.smp_core.specs.declared.call.Call.{Call}
-use Rattle.smp_core.specs.declared.call.Class.{Class}
 use Rattle.smp_core.specs.declared.known.Known.{Known}
 use Rattle.smp_core.specs.declared.place.RecPlace.{RecPlace}
 use Rattle.smp_core.specs.declared.place.RecPlace.TheVariants as place

@@ -1,13 +1,12 @@
 -- The steps of handle that load a word of a record of its batch.
 use Rattle.std.proofs.Common.{◌≡◌, ℕ, ◌+◌, ◌%◌, ◌==◌, Bool, true, if◌then◌else◌, Option, Some, None, List, [], ◌∷◌, ◌++◌, sym, subst, refl, ap, ◌∙◌}
-use Rattle.std.specs.List.{AllByRecursion}
 use Rattle.smp_core.specs.Put.{put}
 use Rattle.smp_core.specs.Flags.{flags_of, class_of}
 use Rattle.smp_core.specs.Calls.{CallState, Holding, Nothing, confirms, links}
-use Rattle.smp_core.specs.Drains.{DrainValue, link_to, record_at, by_class, unlink_after}
+use Rattle.smp_core.specs.Drains.{link_to, record_at, by_class, unlink_after}
 use Rattle.smp_core.specs.Stages.{ControlValue}
-use Rattle.smp_core.specs.Words.{Leads, Path, IsWritten, flags_in, funcs_in, infos_in, nexts_in, hands_in}
-use Rattle.smp_core.specs.Stands.{Share, share_of, Reverses, Walks, Ends, Stands, HandIs, held_of}
+use Rattle.smp_core.specs.Words.{Path, IsWritten, flags_in, funcs_in, infos_in, nexts_in, hands_in}
+use Rattle.smp_core.specs.Stands.{share_of, Reverses, Walks, Ends, Stands, HandIs, held_of}
 use Rattle.smp_core.specs.Shows.{Shows}
 use Rattle.smp_core.proofs.Frames.{leaves_all}
 use Rattle.smp_core.proofs.Turns.{holds_nothing, stands_at, hand_at, held_after, stands_after, hands_after}

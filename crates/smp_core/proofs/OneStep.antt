@@ -1,5 +1,5 @@
 -- One step of a CPU that knows v: what holds after it, and what each CPU knows then.
-use Rattle.std.proofs.Common.{◌≡◌, ◌≢◌, ℕ, ◌+◌, ◌-◌, ◌%◌, nat_lt, Bool, true, false, ◌==◌, cond, Option, Some, None, List, [], ◌∷◌, sym, subst, refl, ap, ◌∙◌}
+use Rattle.std.proofs.Common.{◌≡◌, ◌≢◌, ℕ, ◌+◌, ◌-◌, ◌%◌, nat_lt, Bool, true, false, ◌==◌, cond, Option, Some, None, sym, subst, refl, ap, ◌∙◌}
 use Rattle.smp_core.specs.Put.{put}
 use Rattle.smp_core.specs.Calls.{CallState, Holding}
 use Rattle.smp_core.specs.Posts.{ends, goes_to}
@@ -20,7 +20,7 @@ use Rattle.smp_core.specs.declared.call.Class.{Class}
 use Rattle.smp_core.specs.declared.call.Class.TheVariants.{Sync, Async}
 use Rattle.smp_core.specs.declared.known.Known.{Known}
 use Rattle.smp_core.specs.declared.word.Word.{Word}
-use Rattle.smp_core.specs.declared.word.Word.TheVariants.{Head, Intr, Flags, Info, Next}
+use Rattle.smp_core.specs.declared.word.Word.TheVariants.{Head, Intr, Flags, Info}
 use Rattle.smp_core.specs.declared.access.Access.{Access}
 use Rattle.smp_core.specs.declared.seen.Act.TheVariants as act
 use Rattle.smp_core.specs.declared.seen.Note.{Note}

@@ -1,5 +1,5 @@
 -- A step of a CPU on a record of its own that is in no queue and no batch.
-use Rattle.std.proofs.Common.{◌≡◌, ◌≢◌, ℕ, ◌+◌, cond, Option, Some, None, List, [], ◌∷◌, sym, subst, refl, ap, ◌∙◌, ◌⊎◌, inl, inr}
+use Rattle.std.proofs.Common.{◌≡◌, ◌≢◌, ℕ, cond, Option, Some, None, List, [], ◌∷◌, sym, subst, refl, ap, ◌∙◌, ◌⊎◌, inl, inr}
 use Rattle.std.proofs.lemmas.Bool.{cases_eq}
 use Rattle.std.specs.List.{AllByRecursion}
 use Rattle.smp_core.specs.Put.{put}
@@ -106,9 +106,6 @@ pub record OwnStep (a : CallState) (at at' : Word → ℕ) (control : ℕ → Co
 
 module _ (a : CallState) (at at' : Word → ℕ) (control : ℕ → ControlValue) (me id : ℕ) (next : ControlValue) (places' : ℕ → RecPlace) (held' : ℕ → Option Holding) (linked' : ℕ → Option ℕ)
     (s : Shows a at control) (o : OwnStep a at at' control me id next places' held' linked') where
-  home_after : IsHome (places' id)
-  home_after = elim o.after [ inl e ↦ inl e | inr e ↦ inr e.0 ]
-
   -- a record at a place that is no home is another one
   elsewhere : (u : ℕ) (p : RecPlace) → a.place u ≡ p → (IsHome p → ⊥) → u ≢ id
   elsewhere u p e away f = away (subst IsHome (sym (ap a.place f) ∙ e) o.before)

@@ -12,7 +12,6 @@ use Rattle.smp_core.specs.declared.call.Call.{Call}
 use Rattle.smp_core.specs.declared.call.Class.{Class}
 use Rattle.smp_core.specs.declared.call.Class.TheVariants.{Sync, Async}
 use Rattle.smp_core.specs.declared.handle.Walk.{Walk}
-use Rattle.smp_core.specs.declared.handle.HandleStage.TheVariants as handle
 
 passed_sync : (passed : List Call) (call : Call) → call.class ≡ Sync → async_calls (passed ++ call ∷ []) ≡ async_calls passed
 passed_sync passed call e = async_calls-push passed call ∙ (ap (λ (c : Class). async_calls passed ++ if_async c call) e ∙ append-nil (async_calls passed))

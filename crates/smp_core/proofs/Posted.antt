@@ -3,11 +3,11 @@ use Rattle.std.proofs.Common.{◌≡◌, ℕ, ◌+◌, ◌-◌, ◌%◌, ◌^◌
 use Rattle.smp_core.specs.Flags.{flags_of}
 use Rattle.smp_core.specs.Histories.{sent_to, one_held}
 use Rattle.smp_core.specs.Stands.{held_of_post, holding}
-use Rattle.smp_core.specs.Known.{known_told, known_access, posting_of, standing, outside_known, confirmed_known, appended_known, sent_known}
+use Rattle.smp_core.specs.Known.{known_told, known_access, posting_of, standing, outside_known, confirmed_known, appended_known}
 use Rattle.smp_core.specs.declared.call.Class.{Class}
 use Rattle.smp_core.specs.declared.call.Class.TheVariants.{Sync, Async}
 use Rattle.smp_core.specs.declared.known.Known.{Known}
-use Rattle.smp_core.specs.declared.word.Word.TheVariants.{Head, Intr, Queued, Flags, Func, Info, Next}
+use Rattle.smp_core.specs.declared.word.Word.TheVariants.{Head, Queued, Flags, Func, Info, Next}
 use Rattle.smp_core.specs.declared.access.Access.TheVariants.{Store}
 use Rattle.smp_core.specs.declared.seen.Act.TheVariants as act
 use Rattle.smp_core.specs.declared.post.Posting.{Posting}
@@ -69,11 +69,6 @@ lost_known v v' w to link n found p false t e f = e ∙ ap (λ (u : Known). know
 
 pub released_known : (v v' w : Known) (id : ℕ) (p : Posting) → v' ≡ known_told w act.Store (Flags id) None (Some 0) → w ≡ standing p post.Release v → v' ≡ outside_known v
 released_known v v' w id p e f = e ∙ ap (λ (u : Known). known_told u act.Store (Flags id) None (Some 0)) f
-
-pub sends_known : (v v' : Known) (to n : ℕ) → v.stage ≡ None → v' ≡ known_told v act.Store (Intr to) None (Some n) → v' ≡ sent_known to v
-sends_known v v' to n o e =
-    let out : v ≡ outside_known v = outside_as v o in
-    e ∙ (ap (λ (u : Known). known_told u act.Store (Intr to) None (Some n)) out ∙ ap (sent_known to) (sym out))
 
 -- the numbers that a post stores in its tally word
 pub count_access : (v : Known) (p : Posting) (me count : ℕ) → v.number ≡ me → count ≡ length (sent_to p.to v.sent) % 2 ^ 64 → known_access v (Post p post.Count) ≡ Store (Queued me p.to) ((count + 1) % 2 ^ 64)

@@ -1,18 +1,18 @@
 -- The steps of handle that store a next word: a record is reversed, or another is unlinked after it.
-use Rattle.std.proofs.Common.{◌≡◌, ◌≢◌, ℕ, ◌+◌, Option, Some, None, List, [], ◌∷◌, ◌++◌, length, sym, subst, refl, ap, ◌∙◌, arith}
+use Rattle.std.proofs.Common.{◌≡◌, ◌≢◌, ℕ, ◌+◌, Option, Some, List, [], ◌∷◌, ◌++◌, length, sym, subst, refl, ap, ◌∙◌, arith}
 use Rattle.std.specs.List.{AllByRecursion}
 use Rattle.smp_core.specs.Put.{put, put_word}
 use Rattle.smp_core.specs.Order.{async_calls}
 use Rattle.smp_core.specs.Calls.{CallState, Holding, Nothing, links}
-use Rattle.smp_core.specs.Drains.{DrainValue, link_to, reverse_on}
+use Rattle.smp_core.specs.Drains.{link_to, reverse_on}
 use Rattle.smp_core.specs.Stages.{ControlValue}
 use Rattle.smp_core.specs.Places.{IsAbsent, IsApart, Holds, IsPlaced}
 use Rattle.smp_core.specs.Words.{Leads, Path, nexts_in, hands_in}
-use Rattle.smp_core.specs.Stands.{Share, share_of, EndsAt, Walks, Stands, HandIs, held_of}
+use Rattle.smp_core.specs.Stands.{share_of, EndsAt, Stands, HandIs, held_of}
 use Rattle.smp_core.specs.Shows.{Shows}
 use Rattle.smp_core.proofs.Alls.{every_right, every_async, every_last}
 use Rattle.smp_core.proofs.Counts.{held_place}
-use Rattle.smp_core.proofs.Frames.{Minds, Touches, leaves_others, Leads-kept}
+use Rattle.smp_core.proofs.Frames.{Minds, leaves_others, Leads-kept}
 use Rattle.smp_core.proofs.Moving.{Queued≢Batch, else_by_place}
 use Rattle.smp_core.proofs.Own.{LinkIs-kept}
 use Rattle.smp_core.proofs.Passing.{passes_sync}
@@ -21,7 +21,6 @@ use Rattle.smp_core.proofs.Turns.{put_here, put_else, holds_nothing, stands_at, 
 use Rattle.smp_core.proofs.Walks.{Path-kept, Path-push, Path-cut, absent_before, absent_after, apart_left, apart_across, reverses_all, walks_passed, reverse_goes, hand_of_reverse}
 use Rattle.smp_core.proofs.Batches.{apart_async}
 use Rattle.smp_core.specs.declared.call.Call.{Call}
-use Rattle.smp_core.specs.declared.call.Class.TheVariants.{Sync}
 use Rattle.smp_core.specs.declared.place.RecPlace.TheVariants as place
 use Rattle.smp_core.specs.declared.word.Word.{Word}
 use Rattle.smp_core.specs.declared.word.Word.TheVariants.{Head, Hand, Next}

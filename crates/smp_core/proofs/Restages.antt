@@ -1,5 +1,5 @@
 -- A CPU may stand at any stage that its steps so far leave open.
-use Rattle.std.proofs.Common.{◌≡◌, ℕ, ◌%◌, ◌<◌, true, false, ◌==◌, Option, Some, None, [], get_or, sym, subst, refl, ap, ◌∙◌, ◌⊎◌, inl, inr}
+use Rattle.std.proofs.Common.{◌≡◌, ℕ, ◌%◌, ◌<◌, true, false, ◌==◌, Option, Some, None, get_or, sym, subst, refl, ap, ◌∙◌, ◌⊎◌, inl, inr}
 use Rattle.smp_core.specs.Put.{put}
 use Rattle.smp_core.specs.Size.{records, owner}
 use Rattle.smp_core.specs.Calls.{CallState}

@@ -1,5 +1,5 @@
 -- A command that may start begins where it should, and changes no call.
-use Rattle.std.proofs.Common.{◌≡◌, ℕ, zero, suc, ◌-◌, ◌<◌, ◌≤◌, Bool, true, false, ◌==◌, ◌||◌, ◌&&◌, not, nat_lt, cond, Option, Some, None, List, length, get_or, sym, refl, ap, ◌∙◌, arith, replicate, inl, inr}
+use Rattle.std.proofs.Common.{◌≡◌, ℕ, zero, suc, ◌-◌, ◌<◌, Bool, true, false, ◌==◌, ◌||◌, ◌&&◌, not, nat_lt, cond, Option, Some, None, List, length, get_or, sym, refl, ap, ◌∙◌, arith, replicate, inl, inr}
 use Rattle.std.proofs.lemmas.Bool.{ltb-true, le-ltb, cases_lt, and_parts}
 use Rattle.std.specs.Prelude.{slice_set}
 use Rattle.smp_mask.specs.Mask.{has}

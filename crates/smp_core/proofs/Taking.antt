@@ -3,7 +3,7 @@ use Rattle.std.proofs.Common.{◌≡◌, ◌≢◌, ℕ, ◌⊎◌, inl, inr, fa
 use Rattle.std.proofs.lemmas.List.{append-nil}
 use Rattle.std.specs.List.{AllByRecursion}
 use Rattle.smp_core.specs.Put.{put, put_word}
-use Rattle.smp_core.specs.Order.{order, sync_calls, async_calls}
+use Rattle.smp_core.specs.Order.{order}
 use Rattle.smp_core.specs.Calls.{CallState, Running, Nothing, place_taken, takes}
 use Rattle.smp_core.specs.Drains.{no_drain, record_at, reverse_on}
 use Rattle.smp_core.specs.Stages.{ControlValue}

@@ -1,23 +1,20 @@
 -- A chain that leads from the oldest call to the newest, and where a CPU stands that goes along it.
-use Rattle.std.proofs.Common.{◌≡◌, ◌≢◌, ℕ, ◌+◌, ◌-◌, ◌==◌, false, cond, Option, Some, None, List, [], ◌∷◌, ◌++◌, length, sym, subst, refl, ap, ◌∙◌, arith, append_assoc}
+use Rattle.std.proofs.Common.{◌≡◌, ◌≢◌, ℕ, ◌+◌, ◌-◌, false, cond, Option, Some, None, List, [], ◌∷◌, ◌++◌, length, sym, subst, refl, ap, ◌∙◌, arith, append_assoc}
 use Rattle.std.proofs.lemmas.List.{append-nil}
 use Rattle.std.specs.List.{AllByRecursion}
-use Rattle.smp_core.specs.Put.{put}
-use Rattle.smp_core.specs.Order.{if_sync, if_async, sync_calls, async_calls, order}
+use Rattle.smp_core.specs.Order.{if_async, sync_calls, async_calls, order}
 use Rattle.smp_core.specs.Calls.{Running, Nothing}
 use Rattle.smp_core.specs.Drains.{DrainValue, link_to, record_at, second_on, first_on, reverse_on}
 use Rattle.smp_core.specs.Places.{IsAbsent, IsApart}
 use Rattle.smp_core.specs.Words.{Leads, Path}
 use Rattle.smp_core.specs.Stands.{Share, IsAsync, Reverses, EndsAt, Walks, Ends, HandleStands, HandIs}
 use Rattle.smp_core.proofs.Puts.{at_test}
-use Rattle.smp_core.proofs.Alls.{every_left, every_right, every_append, every_class, every_async, every_last}
-use Rattle.smp_core.proofs.Batches.{HasNewest, has_newest, no_chain, apart_async}
+use Rattle.smp_core.proofs.Alls.{every_left, every_right, every_append, every_class, every_last}
+use Rattle.smp_core.proofs.Batches.{HasNewest, has_newest, no_chain}
 use Rattle.smp_core.specs.declared.call.Call.{Call}
 use Rattle.smp_core.specs.declared.call.Class.{Class}
 use Rattle.smp_core.specs.declared.call.Class.TheVariants.{Sync, Async}
 use Rattle.smp_core.specs.declared.handle.Walk.{Walk}
-use Rattle.smp_core.specs.declared.handle.HandleStage.{HandleStage}
-use Rattle.smp_core.specs.declared.handle.HandleStage.TheVariants as handle
 use Rattle.smp_core.specs.declared.stage.Stage.TheVariants.{Handle}
 
 -- the record to which a link leads is linked by it

@@ -21,4 +21,5 @@ async_call _ = []
 -- Where a source has seen the last call of its record confirmed, each CPU has run as many calls by that record as
 -- were ever queued for it; the last of them may run still, as an ASYNC call.
 abbrev pub ConfirmedCallsRan : CallState → Type 0
-ConfirmedCallsRan a = (id cpu : ℕ) → a.confirmed (owner id) id ≡ true → calls_by id (batches (a.taken cpu) ++ a.queue cpu) ≡ calls_by id (a.ran cpu ++ async_call (a.running cpu))
+ConfirmedCallsRan a = (id cpu : ℕ) → a.confirmed (owner id) id ≡ true →
+    calls_by id (batches (a.taken cpu) ++ a.queue cpu) ≡ calls_by id (a.ran cpu ++ async_call (a.running cpu))

@@ -17,11 +17,11 @@ use Rattle.smp_core.specs.declared.handle.HandleStage.TheVariants as handle
 use Rattle.smp_core.specs.declared.stage.Stage.TheVariants.{Handle}
 use Rattle.smp_core.specs.declared.stage.Outcome.{Outcome}
 
--- how many calls a drain has found in its batch
+-- how many calls a drain has reversed of its batch
 pub record DrainValue : Type 0 where
   pub calls : ℕ
 
--- a drain that has found nothing
+-- a drain that has reversed none
 abbrev pub no_drain : DrainValue
 no_drain = record { calls = 0 }
 
@@ -57,12 +57,13 @@ handle_access me (handle.BeginAsync call next) ran = Store (Flags call.id) 0
 handle_access me (handle.CountAsync call next) ran = Store (Ran me (owner call.id)) ((ran + 1) % 2 ^ 64)
 handle_access me handle.Leave ran = Store (Hand me) 0
 
--- the source of the call that a stage of handle counts
+-- the source of the call that a stage of handle counts, 0 where it counts none
 abbrev pub source_at : HandleStage → ℕ
 source_at (handle.CountSync walk call next) = owner call.id
 source_at (handle.CountAsync call next) = owner call.id
 source_at _ = 0
 
+-- handle goes on with this stage, and the step has no note
 abbrev pub handle_goes : HandleStage → Outcome
 handle_goes stage = go_on (Handle stage)
 
@@ -106,7 +107,8 @@ handle_outcome d (handle.ReverseStore newer id older) found = handle_goes (rever
 handle_outcome d (handle.LoadNext walk id) found = handle_goes (handle.LoadFlags walk id (record_at found))
 handle_outcome d (handle.LoadFlags walk id next) found = handle_goes (by_class (class_of found) walk id next)
 handle_outcome d (handle.LoadFunc walk id next) found = handle_goes (handle.LoadInfo walk id next found)
-handle_outcome d (handle.LoadInfo walk id next func) found = handle_goes (unlink_after walk.last walk (record { id = id; class = Sync; func = func; info = found }) next)
+handle_outcome d (handle.LoadInfo walk id next func) found =
+    handle_goes (unlink_after walk.last walk (record { id = id; class = Sync; func = func; info = found }) next)
 handle_outcome d (handle.Unlink walk last call next) found = handle_goes (handle.BeginSync walk call next)
 handle_outcome d (handle.BeginSync walk call next) found = calling (handle.CountSync walk call next) call
 handle_outcome d (handle.CountSync walk call next) found = handle_goes (handle.EndSync walk call next)
@@ -124,7 +126,7 @@ drain_after d handle.Take found = no_drain
 drain_after d (handle.ReverseStore newer id older) found = record { calls = d.calls + 1 }
 drain_after d _ found = d
 
--- a number that a 32-bit record and a 16-bit function can take
+-- what a step has found is a link to a 32-bit record, or a 16-bit function, where it loads one
 abbrev pub FitsFound : HandleStage → ℕ → Type 0
 FitsFound handle.Take found = found ≤ 2 ^ 32
 FitsFound (handle.ReverseLoad newer id) found = found ≤ 2 ^ 32

@@ -267,7 +267,8 @@ part_in v = record {
 
 -- what a CPU knows after a step of its own; a swap of the head takes this queue
 abbrev pub known_taking : List Call → Known → Act → Word → Option ℕ → Option ℕ → Known
-known_taking queue v act w found put = knowing v.number (stage_after v.stage v.drain act w found put) (drain_then v.stage v.drain found) (part_told queue (held_of v.stage) act w found put (part_in v))
+known_taking queue v act w found put =
+    knowing v.number (stage_after v.stage v.drain act w found put) (drain_then v.stage v.drain found) (part_told queue (held_of v.stage) act w found put (part_in v))
 
 -- the same of a step that takes no queue
 abbrev pub known_told : Known → Act → Word → Option ℕ → Option ℕ → Known

@@ -19,4 +19,10 @@ no_labels = record { keys = 0; entries = [] }
 
 -- a core with no calls and no stops
 abbrev pub new_core : ℕ → ℕ → Labels → CoreValue
-new_core nr online labels = record { nr = nr; online = online; words = replicate table_size 0; controls = replicate cpus outside; stops = new_stops nr online labels }
+new_core nr online labels = record {
+  nr = nr;
+  online = online;
+  words = replicate table_size 0;
+  controls = replicate cpus outside;
+  stops = new_stops nr online labels;
+}

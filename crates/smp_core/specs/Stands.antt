@@ -148,19 +148,23 @@ HandleStands nexts s d (handle.ReverseLoad newer id) = (call : Call) × Reverses
 HandleStands nexts s d (handle.ReverseStore newer id older) =
     (call : Call) × Reverses nexts s d (link_to newer) (link_to older) call × (call.id ≡ id) × (nexts id ≡ link_to older)
 HandleStands nexts s d (handle.LoadNext walk id) = (call : Call) × (rest : List Call) × Walks nexts s d walk (id + 1) [] (call ∷ rest) Nothing
-HandleStands nexts s d (handle.LoadFlags walk id next) = (call : Call) × (rest : List Call) × Walks nexts s d walk (id + 1) [] (call ∷ rest) Nothing × (nexts id ≡ link_to next)
+HandleStands nexts s d (handle.LoadFlags walk id next) =
+    (call : Call) × (rest : List Call) × Walks nexts s d walk (id + 1) [] (call ∷ rest) Nothing × (nexts id ≡ link_to next)
 HandleStands nexts s d (handle.LoadFunc walk id next) =
     (call : Call) × (rest : List Call) × Walks nexts s d walk (id + 1) [] (call ∷ rest) Nothing × (nexts id ≡ link_to next) × (call.class ≡ Sync)
 HandleStands nexts s d (handle.LoadInfo walk id next func) =
-    (call : Call) × (rest : List Call) × Walks nexts s d walk (id + 1) [] (call ∷ rest) Nothing × (nexts id ≡ link_to next) × (call.class ≡ Sync) × (call.func ≡ func)
+    (call : Call) × (rest : List Call) × Walks nexts s d walk (id + 1) [] (call ∷ rest) Nothing ×
+    (nexts id ≡ link_to next) × (call.class ≡ Sync) × (call.func ≡ func)
 HandleStands nexts s d (handle.Unlink walk last call next) =
-    (rest : List Call) × Walks nexts s d walk (call.id + 1) [] (call ∷ rest) Nothing × (nexts call.id ≡ link_to next) × (call.class ≡ Sync) × (walk.last ≡ Some last)
+    (rest : List Call) × Walks nexts s d walk (call.id + 1) [] (call ∷ rest) Nothing ×
+    (nexts call.id ≡ link_to next) × (call.class ≡ Sync) × (walk.last ≡ Some last)
 HandleStands nexts s d (handle.BeginSync walk call next) =
     (rest : List Call) × Walks nexts s d walk (link_to next) (call ∷ []) rest Nothing × (nexts call.id ≡ link_to next)
 HandleStands nexts s d (handle.CountSync walk call next) = (rest : List Call) × Walks nexts s d walk (link_to next) [] rest (SyncCall call)
 HandleStands nexts s d (handle.EndSync walk call next) = (rest : List Call) × Walks nexts s d walk (link_to next) [] rest (CountedCall call)
 HandleStands nexts s d (handle.AsyncNext id) = (call : Call) × (rest : List Call) × Ends nexts s d (id + 1) [] (call ∷ rest) Nothing
-HandleStands nexts s d (handle.AsyncFunc id next) = (call : Call) × (rest : List Call) × Ends nexts s d (id + 1) [] (call ∷ rest) Nothing × (nexts id ≡ link_to next)
+HandleStands nexts s d (handle.AsyncFunc id next) =
+    (call : Call) × (rest : List Call) × Ends nexts s d (id + 1) [] (call ∷ rest) Nothing × (nexts id ≡ link_to next)
 HandleStands nexts s d (handle.AsyncInfo id next func) =
     (call : Call) × (rest : List Call) × Ends nexts s d (id + 1) [] (call ∷ rest) Nothing × (nexts id ≡ link_to next) × (call.func ≡ func)
 HandleStands nexts s d (handle.BeginAsync call next) =

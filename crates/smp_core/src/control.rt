@@ -1,4 +1,4 @@
-//! Where a CPU stands: its stage, and how many calls it has found in its batch.
+//! Where a CPU stands: its stage, and how many calls it has reversed of its batch.
 
 ghost use Rattle.std.specs.Prelude.{◌≡◌};
 ghost use Rattle.smp_core.specs.Stages.{control_after, outcome_of, FitsStage};

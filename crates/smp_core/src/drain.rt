@@ -10,7 +10,7 @@ use crate::size::owner_of;
 use crate::stage::{Outcome, Stage};
 use std::marker::Model;
 
-/// How many calls a drain has found in its batch.
+/// How many calls a drain has reversed of its batch.
 #[derive(Drop)]
 pub struct Drain {
     calls: u32,
@@ -25,7 +25,7 @@ impl Model for Drain {
 }
 
 impl Drain {
-    /// Nothing found.
+    /// None reversed.
     pub fn new() -> Self
         ensures { result ≡ no_drain }
     {

@@ -5,8 +5,8 @@
 
 ghost use Rattle.smp_core.specs.BatchLinks.{KeepBatchLinks};
 
-/// At any time the next words link all that is left of a batch: the records that are not reversed yet to the one before
-/// them, the others to the one after them that is left; and what a CPU has loaded from the record in hand is there.
+/// At any time the next words link all that is left of a batch: a record that is not reversed yet to the one before it,
+/// another to the one after it that is left; and a link that a CPU has loaded and not yet used is still there.
 pub fn batch_links()
     ensures { KeepBatchLinks }
 {}

@@ -1,5 +1,4 @@
-use Rattle.std.proofs.Common.{◌≡◌, ◌==◌, ℕ, List, sym, refl, ap, ◌∙◌}
-use Rattle.std.specs.List.{list_any}
+use Rattle.std.proofs.Common.{ap, ◌∙◌}
 use Rattle.smp_core.specs.Layout.{number_in}
 use Rattle.smp_core.specs.Size.{records}
 use Rattle.smp_core.specs.Words.{nexts_in}

@@ -1,7 +1,6 @@
 use mathlib.Core.List.{reverse}
-use Rattle.std.proofs.Common.{◌≡◌, ℕ, ◌+◌, ◌-◌, ◌<◌, ◌≤◌, List, [], ◌∷◌, ◌++◌, length, sym, ap, ◌∙◌, arith, rules}
+use Rattle.std.proofs.Common.{◌≡◌, ℕ, ◌-◌, ◌≤◌, List, [], ◌∷◌, length, ap, ◌∙◌, arith, rules}
 use Rattle.std.proofs.lemmas.List.{reverse-append, length-reverse}
-use Rattle.std.specs.List.{refill}
 use Rattle.smp_core.specs.Layout.{number_in}
 use Rattle.smp_core.specs.Size.{records}
 use Rattle.smp_core.specs.Words.{nexts_in}
@@ -36,7 +35,7 @@ returns c =
     let whole : reverse items ≡ chain_in nexts records c.args.first = elim c.loop-round-test.branch [
       | else-loop-round-test w ↦ ended_by_count nexts c.args.first c.loop-round.link (reverse items) c.loop-round._round (let t = w.loop-round-test in omega arith) c.loop-round.invariant
       | then-loop-round-test+then-link-eq0 w ↦
-        let here : Follows nexts c.args.first 0 (reverse items) c.loop-round._round = rw w.if-link-eq0.true at c.loop-round.invariant in
-        ended nexts c.args.first (reverse items) c.loop-round._round (records - c.loop-round._round) (let t = w.loop-round-test in omega arith) here
+          let here : Follows nexts c.args.first 0 (reverse items) c.loop-round._round = rw w.if-link-eq0.true at c.loop-round.invariant in
+          ended nexts c.args.first (reverse items) c.loop-round._round (records - c.loop-round._round) (let t = w.loop-round-test in omega arith) here
     ] in
     refilled items c.reverse.new.self same ∙ (turned ∙ whole)

@@ -1,4 +1,4 @@
-use Rattle.std.proofs.Common.{◌≡◌, ◌+◌, ◌-◌, ◌≤◌, sym, arith, rules}
+use Rattle.std.proofs.Common.{◌-◌, ◌≤◌, sym, arith, rules}
 use Rattle.std.proofs.lemmas.Bool.{eq-eqb, ne_eqb}
 use Rattle.smp_core.specs.Layout.{number_in}
 use Rattle.smp_core.specs.Size.{records}
