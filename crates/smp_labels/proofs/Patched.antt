@@ -1,5 +1,5 @@
 -- A plan leads from a lawful table to the lawful table with its key changed.
-use Rattle.std.proofs.Common.{◌≡◌, ◌≢◌, ℕ, zero, suc, ◌+◌, ◌-◌, ◌<◌, ◌==◌, nat_lt, eqb-true, ltb-true, Bool, true, false, cond, Option, None, Some, List, [], ◌∷◌, ◌++◌, get_or, inl, inr, refl, sym, ap, subst, ◌∙◌, ne_eqb, eq-eqb, arith}
+use Rattle.std.proofs.Common.{◌≡◌, ◌≢◌, ℕ, zero, suc, ◌+◌, ◌-◌, ◌<◌, ◌==◌, nat_lt, eqb-true, ltb-true, Bool, true, false, not, cond, Option, None, Some, List, [], ◌∷◌, ◌++◌, get_or, inl, inr, refl, sym, ap, subst, ◌∙◌, ne_eqb, eq-eqb, arith}
 use Rattle.std.proofs.lemmas.Bool.{cases_eq, cases_lt}
 use Rattle.std.proofs.lemmas.List.{get_or_past}
 use Rattle.std.proofs.Math.Bool.{beq}
@@ -240,38 +240,28 @@ plan_key_first key old new entries made k n rest e = go (old == new) (xor (is_on
     go false true e = head_only key new (site_changes key (is_on new) 0 entries) (changes_leave_key key (is_on new) 0 entries) made k n rest (sym e)
     go false false e = head_only key new [] (λ _. tt) made k n rest (sym e)
 
-module _ (key old new : ℕ) (entries : List ℕ) where
-  -- the plan, where the count stays
-  pub plan_same : (old == new) ≡ true → plan_of key old new entries ≡ []
-  plan_same e = ap (λ a. cond a [] (cond (xor (is_on old) (is_on new)) (patch_of key new entries) ((Key key, new) ∷ []))) e
-
-  -- where the key stays on
-  pub plan_counts : (old == new) ≡ false → beq (is_on new) (is_on old) ≡ true → plan_of key old new entries ≡ (Key key, new) ∷ []
-  plan_counts e same =
-      ap (λ a. cond a [] (cond (xor (is_on old) (is_on new)) (patch_of key new entries) ((Key key, new) ∷ []))) e
-      ∙ ap (λ b. cond b (patch_of key new entries) ((Key key, new) ∷ [])) (go (is_on old) (is_on new) same)
-    where
-      go : (a b : Bool) → beq b a ≡ true → xor a b ≡ false
-      go true true e = refl
-      go true false e = cc
-      go false true e = cc
-      go false false e = refl
-
-  -- where it goes on or off
-  pub plan_patches : (old == new) ≡ false → beq (is_on new) (is_on old) ≡ false → plan_of key old new entries ≡ (Key key, new) ∷ site_changes key (is_on new) 0 entries
-  plan_patches e other =
-      ap (λ a. cond a [] (cond (xor (is_on old) (is_on new)) (patch_of key new entries) ((Key key, new) ∷ []))) e
-      ∙ ap (λ b. cond b (patch_of key new entries) ((Key key, new) ∷ [])) (go (is_on old) (is_on new) other)
-    where
-      go : (a b : Bool) → beq b a ≡ false → xor a b ≡ true
-      go true true e = cc
-      go true false e = refl
-      go false true e = refl
-      go false false e = cc
-
 -- the plan, by its two tests
 pub plan_tests : (key old new : ℕ) (entries : List ℕ) (a : Bool) → (old == new) ≡ a → (b : Bool) → xor (is_on old) (is_on new) ≡ b →
     plan_of key old new entries ≡ cond a [] (cond b (patch_of key new entries) ((Key key, new) ∷ []))
 plan_tests key old new entries a e b x =
     ap (λ a. cond a [] (cond (xor (is_on old) (is_on new)) (patch_of key new entries) ((Key key, new) ∷ []))) e
     ∙ ap (λ b. cond a [] (cond b (patch_of key new entries) ((Key key, new) ∷ []))) x
+
+xor_beq : (a b c : Bool) → beq b a ≡ c → xor a b ≡ not c
+xor_beq true true c e = ap not e
+xor_beq true false c e = ap not e
+xor_beq false true c e = ap not e
+xor_beq false false c e = ap not e
+
+module _ (key old new : ℕ) (entries : List ℕ) where
+  -- where the count stays
+  pub plan_same : (old == new) ≡ true → plan_of key old new entries ≡ []
+  plan_same e = plan_tests key old new entries true e (xor (is_on old) (is_on new)) refl
+
+  -- where the key stays on
+  pub plan_counts : (old == new) ≡ false → beq (is_on new) (is_on old) ≡ true → plan_of key old new entries ≡ (Key key, new) ∷ []
+  plan_counts e same = plan_tests key old new entries false e false (xor_beq (is_on old) (is_on new) true same)
+
+  -- where it goes on or off
+  pub plan_patches : (old == new) ≡ false → beq (is_on new) (is_on old) ≡ false → plan_of key old new entries ≡ patch_of key new entries
+  plan_patches e other = plan_tests key old new entries false e true (xor_beq (is_on old) (is_on new) false other)

@@ -1,10 +1,9 @@
-use Rattle.std.proofs.Common.{◌≡◌, ℕ, ◌==◌, [], ◌∷◌, ◌++◌, List, Option, Some, sym, ◌∙◌, ap, subst, slice_index, refl, ne_eqb, eq-eqb, arith}
+use Rattle.std.proofs.Common.{◌≡◌, ℕ, [], ◌∷◌, ◌++◌, List, Option, Some, sym, ◌∙◌, ap, subst, slice_index, refl, ne_eqb, eq-eqb, arith}
 use Rattle.std.proofs.lemmas.List.{drop_all, append-nil}
 use Rattle.smp_labels.specs.declared.keys.Change.{Change}
 use Rattle.smp_labels.specs.declared.patch.Place.{Place}
 use Rattle.smp_labels.specs.declared.patch.Place.TheVariants.{Key}
 use Rattle.smp_labels.specs.declared.words.LabelWords.{LabelWords}
-use Rattle.smp_labels.specs.declared.words.TheConstants.{MOST_KEYS, MOST_SITES}
 use Rattle.smp_labels.specs.Keys.{is_on, IsKeyWord, count_or, count_after, count_left}
 use Rattle.smp_labels.specs.Law.{IsLawful}
 use Rattle.smp_labels.specs.Words.{table_of}
