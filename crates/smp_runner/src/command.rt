@@ -201,6 +201,7 @@ fn read_short(cpu: &[u8], name: &[u8], arguments: &[&[u8]]) -> Result<Directive,
 }
 
 /// What the fields after `start` ask for, where the CPUs of masks have to be below `limit`.
+#[tactic(auto, using(crate::proofs::FieldCounts::not_two))]
 pub fn read_start(limit: u32, fields: &[&[u8]]) -> Result<Directive, Cause>
     requires { AreShort (map (λ f. f.now) fields.now) }
     ensures { result ≡ start_of limit (map (λ f. f.now) fields.now) }
