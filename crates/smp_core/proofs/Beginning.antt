@@ -15,6 +15,7 @@ use Rattle.smp_core.specs.Stands.{share_of, Stands, HandIs}
 use Rattle.smp_core.specs.Shows.{Shows}
 use Rattle.smp_core.proofs.Puts.{at_test}
 use Rattle.smp_core.proofs.Frames.{Minds, Touches, leaves_others}
+use Rattle.smp_core.proofs.Walks.{walks_stay, ends_stay}
 use Rattle.smp_core.proofs.Turns.{put_here, put_else, holds_nothing, stands_at, hand_at, held_after, stands_after, hands_after, hands_stored}
 use Rattle.smp_core.proofs.Moving.{Batch≢Batch, Running≢Batch, Queued≢Batch, Batch≢Free, all_placed_still, all_placed_apart, placed_moved, all_written_still, all_written_apart, written_moved}
 use Rattle.smp_core.proofs.Tallies.{tallied_same}
@@ -142,20 +143,8 @@ module _ (a : CallState) (at : Word → ℕ) (control : ℕ → ControlValue) (m
         was.0,
         (
           was.1.0,
-          record {
-            passed = k.passed;
-            begun = k.begun ++ call ∷ [];
-            whole = k.whole;
-            begun_are = k.begun_are ∙ sym (append-nil (k.begun ++ call ∷ []));
-            leads_here = k.leads_here;
-            ends_at = k.ends_at;
-            leads_on = k.leads_on;
-            apart = k.apart;
-            counted = k.counted;
-            batch = put_here me left (a.batch me);
-            running_is = put_here me (SyncCall call) (a.running me);
-            accepted = k.accepted;
-          },
+          walks_stay k (k.begun ++ call ∷ []) (put a.batch me left me) (put a.running me (SyncCall call) me)
+              (k.begun_are ∙ sym (append-nil (k.begun ++ call ∷ []))) (put_here me left (a.batch me)) (put_here me (SyncCall call) (a.running me)),
         ),
       ) in
       subst (λ (b : Bool). Shows (if b then begins_sync a me (a.batch me) else a) at' (put control me c)) (sym stored)
@@ -196,17 +185,8 @@ module _ (a : CallState) (at : Word → ℕ) (control : ℕ → ControlValue) (m
         was.0,
         (
           rest,
-          record {
-            begun = k.begun ++ call ∷ [];
-            whole = k.whole ∙ sym (append_assoc k.begun (call ∷ []) rest);
-            apart = k.apart;
-            leads_on = k.leads_on;
-            asyncs = k.asyncs;
-            counted = k.counted;
-            batch = put_here me rest (a.batch me);
-            running_is = put_here me (AsyncCall call) (a.running me);
-            accepted = k.accepted;
-          },
+          ends_stay k (k.begun ++ call ∷ []) (put a.batch me rest me) (put a.running me (AsyncCall call) me)
+              (k.whole ∙ sym (append_assoc k.begun (call ∷ []) rest)) (put_here me rest (a.batch me)) (put_here me (AsyncCall call) (a.running me)),
           front.0.is_call,
         ),
       ) in

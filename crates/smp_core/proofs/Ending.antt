@@ -16,7 +16,7 @@ use Rattle.smp_core.proofs.Puts.{at_test}
 use Rattle.smp_core.proofs.Frames.{Minds, leaves_others, leaves_all}
 use Rattle.smp_core.proofs.Turns.{put_here, put_else, holds_nothing, stands_at, hand_at, held_after, stands_after, hands_after}
 use Rattle.smp_core.proofs.Moving.{Running≢Running, Batch≢Running, Queued≢Running, Running≢Free, all_placed_still, placed_moved, all_written_still, written_moved}
-use Rattle.smp_core.proofs.Walks.{second_goes, first_goes, hand_of_second, hand_of_first}
+use Rattle.smp_core.proofs.Walks.{walks_stay, ends_stay, second_goes, first_goes, hand_of_second, hand_of_first}
 use Rattle.smp_core.proofs.Tallies.{tallied_more, tallied_same}
 use Rattle.smp_core.proofs.StepShows.{StepShows}
 use Rattle.smp_core.specs.declared.call.Call.{Call}
@@ -111,20 +111,7 @@ module _ (a : CallState) (at : Word → ℕ) (control : ℕ → ControlValue) (m
         was.0,
         (
           was.1.0,
-          record {
-            passed = k.passed;
-            begun = k.begun;
-            whole = k.whole;
-            begun_are = k.begun_are;
-            leads_here = k.leads_here;
-            ends_at = k.ends_at;
-            leads_on = k.leads_on;
-            apart = k.apart;
-            counted = k.counted;
-            batch = k.batch;
-            running_is = put_here me (CountedCall call) (a.running me);
-            accepted = k.accepted;
-          },
+          walks_stay k k.begun (a.batch me) (put a.running me (CountedCall call) me) k.begun_are k.batch (put_here me (CountedCall call) (a.running me)),
         ),
       ))
 
@@ -147,7 +134,7 @@ module _ (a : CallState) (at : Word → ℕ) (control : ℕ → ControlValue) (m
       (hand_of_second next (at (Hand me)) (hand_at a at control me s (handle.CountAsync call next) e)) (
         was.0,
         second_goes (nexts_in at) after d next rest
-            (record { begun = k.begun; whole = k.whole; apart = k.apart; leads_on = k.leads_on; asyncs = k.asyncs; counted = k.counted; batch = k.batch; running_is = put_here me Nothing (a.running me); accepted = k.accepted }),
+            (ends_stay k k.begun (a.batch me) (put a.running me Nothing me) k.whole k.batch (put_here me Nothing (a.running me))),
       ))
 
   -- the record of the SYNC call that ran is free
@@ -231,20 +218,8 @@ module _ (a : CallState) (at : Word → ℕ) (control : ℕ → ControlValue) (m
       let shown : Shows (ends_sync a me call) at' (put control me c) =
       end_shown call k.running_is c held (hand_of_first walk next (at (Hand me)) (more_than_zero (at (Hand me)) call.id (hand_at a at control me s (handle.EndSync walk call next) e))) (
         was.0,
-        first_goes (nexts_in at) after d walk next rest (record {
-          passed = k.passed;
-          begun = k.begun;
-          whole = k.whole;
-          begun_are = k.begun_are;
-          leads_here = k.leads_here;
-          ends_at = k.ends_at;
-          leads_on = k.leads_on;
-          apart = k.apart;
-          counted = k.counted;
-          batch = k.batch;
-          running_is = put_here me Nothing (a.running me);
-          accepted = k.accepted;
-        }),
+        first_goes (nexts_in at) after d walk next rest
+            (walks_stay k k.begun (a.batch me) (put a.running me Nothing me) k.begun_are k.batch (put_here me Nothing (a.running me))),
       ) in
       subst (λ (h : Option Holding). Shows (releases a me call.id h) at' (put control me c)) (sym held)
       (subst (λ (x : Running). Shows (unlocks a me x) at' (put control me c)) (sym k.running_is) shown)

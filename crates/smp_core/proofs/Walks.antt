@@ -115,6 +115,41 @@ module _ (P : Call → Type 0) (nexts : ℕ → ℕ) (s : Share) (d : DrainValue
   pub ends_rest : AllByRecursion P rest
   ends_rest = every_right P front rest ends_batch
 
+-- the chain stays where a call of it begins, is counted or ends
+
+pub walks_stay : {nexts : ℕ → ℕ} {s : Share} {d : DrainValue} {walk : Walk} {here : ℕ} {front front' rest : List Call} {running running' : Running} (h : Walks nexts s d walk here front rest running)
+    (begun batch : List Call) (now : Running) → sync_calls h.passed ≡ begun ++ front' → batch ≡ front' ++ (sync_calls rest ++ async_calls s.last) → now ≡ running' →
+    Walks nexts (record s { batch = batch; running = now }) d walk here front' rest running'
+walks_stay h begun batch now begun_are batch_is running_is = record {
+  passed = h.passed;
+  begun = begun;
+  whole = h.whole;
+  begun_are = begun_are;
+  leads_here = h.leads_here;
+  ends_at = h.ends_at;
+  leads_on = h.leads_on;
+  apart = h.apart;
+  counted = h.counted;
+  batch = batch_is;
+  running_is = running_is;
+  accepted = h.accepted;
+}
+
+pub ends_stay : {nexts : ℕ → ℕ} {s : Share} {d : DrainValue} {here : ℕ} {front front' rest : List Call} {running running' : Running} (h : Ends nexts s d here front rest running)
+    (begun batch : List Call) (now : Running) → async_calls s.last ≡ begun ++ (front' ++ rest) → batch ≡ front' ++ rest → now ≡ running' →
+    Ends nexts (record s { batch = batch; running = now }) d here front' rest running'
+ends_stay h begun batch now whole batch_is running_is = record {
+  begun = begun;
+  whole = whole;
+  leads_on = h.leads_on;
+  apart = h.apart;
+  asyncs = h.asyncs;
+  counted = h.counted;
+  batch = batch_is;
+  running_is = running_is;
+  accepted = h.accepted;
+}
+
 -- the last ASYNC call that was passed
 pub walks_last : (P : Call → Type 0) (nexts : ℕ → ℕ) (s : Share) (d : DrainValue) (walk : Walk) (last here : ℕ) (rest : List Call) → (w : Walks nexts s d walk here [] rest Nothing) → walk.last ≡ Some last → AllByRecursion P s.batch → (call : Call) × (call.id ≡ last) × P call
 walks_last P nexts s d walk last here rest w e all =
