@@ -1,5 +1,5 @@
 -- Laws of nudges and patches, by where a CPU stands.
-use Rattle.std.proofs.Common.{◌≡◌, ◌≢◌, ℕ, ◌+◌, ◌-◌, ◌<◌, ◌≤◌, Bool, true, false, nat_lt, ltb-true, le-ltb, lt-ltb, eq-eqb, eqb-true, ◌==◌, ◌&&◌, cond, sym, subst, refl, ap, ◌∙◌, ◌⊎◌, inl, inr, ⊎_elim, arith, Option, Some, None, List, [], ◌∷◌, ◌++◌}
+use Rattle.std.proofs.Common.{◌≡◌, ◌≢◌, ℕ, ◌+◌, ◌-◌, ◌<◌, Bool, true, false, nat_lt, ltb-true, lt-ltb, eq-eqb, eqb-true, ◌==◌, ◌&&◌, cond, sym, subst, refl, ap, ◌∙◌, ◌⊎◌, inl, inr, ⊎_elim, arith, Option, Some, None, List, [], ◌∷◌, ◌++◌}
 use Rattle.std.proofs.lemmas.Bool.{cases_lt}
 use Rattle.smp_labels.specs.Keys.{is_on, change_of, count_after, IsKeyWord}
 use Rattle.smp_labels.specs.Kinds.{xor}
@@ -8,13 +8,13 @@ use Rattle.smp_core.proofs.Puts.{at_test}
 use Rattle.smp_core.proofs.Stops.Counts.{put_here}
 use Rattle.smp_core.proofs.Stops.Patched.{lawful_when_on, nobody_patches}
 use Rattle.smp_core.proofs.Stops.Patching.{not_run}
-use Rattle.smp_core.specs.Put.{put, put_word}
-use Rattle.smp_core.specs.Stops.Labels.{Change, Patches, Patching, ReadKey, Reading, Whole, patch_answer, reading_of, state_left}
+use Rattle.smp_core.specs.Put.{put_word}
+use Rattle.smp_core.specs.Stops.Labels.{Change, Patches, ReadKey, Whole, patch_answer, reading_of, state_left}
 use Rattle.smp_core.specs.Stops.Present.{RunnerShows}
 use Rattle.smp_core.specs.Stops.Promises.{IsPatched, KeysStand, Nudges, ReadsOwnPatch, StandsAtEdge}
 use Rattle.smp_core.specs.Stops.Seats.{Alters, In, Rests, Seat, Stands}
 use Rattle.smp_core.specs.Stops.Shows.{StopShows}
-use Rattle.smp_core.specs.Stops.Sits.{IsLoaded, IsNudge, Sits, SitsAt, SitsAtRest, SitsInRound}
+use Rattle.smp_core.specs.Stops.Sits.{IsNudge, Sits, SitsAt, SitsAtRest}
 use Rattle.smp_core.specs.Stops.Sources.{Source}
 use Rattle.smp_core.specs.Stops.Stages.{StopControlValue, nudge_on, stop_ends, stop_goes}
 use Rattle.smp_core.specs.Stops.State.{Present, Setup, StopState}
@@ -29,7 +29,7 @@ use Rattle.smp_core.specs.declared.stop.stage.Visit.{Visit}
 use Rattle.smp_core.specs.declared.stop.work.Kind.TheVariants.{Patch}
 use Rattle.smp_core.specs.declared.stop.work.Work.{Work}
 use Rattle.smp_core.specs.declared.word.Word.{Word}
-use Rattle.smp_core.specs.declared.word.Word.TheVariants.{Gate, Key, Site}
+use Rattle.smp_core.specs.declared.word.Word.TheVariants.{Gate, Key}
 use Rattle.smp_mask.specs.Mask.{has}
 
 module _ (u : Setup) (p : StopState) (at : Word → ℕ) (seat : ℕ → Seat) (source : ℕ → Source) (h : StopShows u p at seat source) (c : StopControlValue) (me : ℕ)

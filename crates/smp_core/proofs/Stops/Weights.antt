@@ -1,13 +1,12 @@
 -- The bits of a mask: how many of them are set, and the least.
-use Rattle.std.proofs.Common.{◌≡◌, ℕ, zero, suc, ◌+◌, ◌*◌, ◌%◌, ◌^◌, ◌<◌, ◌≤◌, Bool, true, false, ◌≢◌, ◌==◌, cond, ap, sym, ◌∙◌, refl, inl, inr, eq-eqb, ne_eqb, arith, Option, Some, None}
+use Rattle.std.proofs.Common.{◌≡◌, ℕ, zero, suc, ◌+◌, ◌*◌, ◌%◌, ◌^◌, ◌<◌, ◌≤◌, Bool, true, false, ◌≢◌, ◌==◌, ap, sym, ◌∙◌, refl, inl, inr, eq-eqb, ne_eqb, arith}
 use Rattle.std.proofs.lemmas.Bool.{cases_lt}
-use Rattle.std.proofs.lemmas.Bool.Decides.{nat_tests}
 use Rattle.std.proofs.lemmas.Nat.{mod-pow-add, ones-le, ones_cat, pow_pos}
 use Rattle.std.proofs.lemmas.Nat.Bits.{bit_at-lt}
 use Rattle.std.specs.Int.{bit_at}
 use Rattle.std.specs.Int.Count.{ones}
 use lib.Count.{ones_step}
-use Rattle.smp_mask.specs.Mask.{has, IsLeast, FindsLeast}
+use Rattle.smp_mask.specs.Mask.{has, IsLeast}
 use Rattle.smp_core.specs.Stops.Counts.{sum_below, bit, mask_weight}
 use Rattle.smp_core.specs.Stops.Value.{first_below}
 

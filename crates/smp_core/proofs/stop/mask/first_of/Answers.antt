@@ -1,5 +1,4 @@
-use Rattle.std.proofs.Common.{◌≡◌, ◌<◌, sym, subst, ap, arith}
-use Rattle.smp_mask.specs.Mask.{has, FindsLeast}
+use Rattle.std.proofs.Common.{sym}
 use Rattle.smp_core.specs.Size.{cpus}
 use Rattle.smp_core.proofs.Stops.Weights.{first_at, first_past}
 use Rattle.smp_core.proofs.stop.mask.first_of.Goals as goal
