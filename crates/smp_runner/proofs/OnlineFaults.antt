@@ -1,8 +1,7 @@
 -- The mask of the CPUs online, and what is wrong with its field.
-use Rattle.std.proofs.Common.{◌≡◌, ℕ, suc, ◌<◌, ◌≤◌, Bool, true, false, ◌==◌, nat_lt, nat_le, List, [], ◌∷◌, length, drop, get_or, Result, Ok, Err, codes, refl, sym, ◌∙◌, inl, inr, arith, subst}
-use Rattle.std.specs.List.{list_all}
+use Rattle.std.proofs.Common.{◌≡◌, ℕ, ◌≤◌, true, false, ◌==◌, nat_lt, List, [], ◌∷◌, length, drop, get_or, Ok, Err, codes, refl, sym, ◌∙◌, inl, inr, arith, subst}
 use Rattle.std.specs.Str.{bytes_eq}
-use Rattle.std.proofs.lemmas.Bool.{cases_Bool, cases_lt, and_parts, or_cases}
+use Rattle.std.proofs.lemmas.Bool.{cases_Bool, cases_lt, and_parts}
 use Rattle.std.proofs.lemmas.Bool.Decides.{nat_tests}
 use Rattle.smp_mask.specs.CpuList.{IsMaskOf}
 use Rattle.smp_mask.specs.Mask.{has, members}
@@ -20,7 +19,7 @@ use Rattle.smp_runner.specs.FirstFault.{events_in}
 use Rattle.smp_runner.proofs.FieldFaults.{Tells, none_yet, passes, reads_number}
 use Rattle.smp_runner.proofs.LineShapes.{TellsLine, shapeless, shaped, no_whole, passes_word, skips_word}
 use Rattle.smp_runner.proofs.Widths.{AreCpus, mask_below, one_above, one_mask, some_fails, wider}
-use Rattle.smp_runner.proofs.MaskFields.{ListRead, a_list, no_list, list_read, no_word}
+use Rattle.smp_runner.proofs.MaskFields.{a_list, no_list, list_read, no_word}
 use Rattle.smp_runner.proofs.ReadParts.{same_word}
 
 -- no member

@@ -291,21 +291,19 @@ fn each_write_fails_in_turn(rt: HostRuntime) {
     }
 }
 
-// Whether a heap of so many blocks of 16 bytes is enough for a call. Where it is not, the answer says so, and
-// nothing is written.
-fn is_enough(rt: &HostRuntime, blocks: usize) -> Result<bool, Fail> {
+// Whether a heap of so many blocks of 16 bytes is enough for a call; `None` where it answers anything but its
+// output, or the want of memory with nothing written.
+fn is_enough(rt: &HostRuntime, blocks: usize) -> Result<Option<bool>, Fail> {
     let heap = LocalHeap::new(rt.alloc(), blocks.wrapping_mul(16))?;
     let mut reader = Watched::new(ONE_CALL);
     let mut writer = Watched::new(Vec::new(rt.alloc()));
     let answer = replay_script(&heap, &mut reader, &mut writer);
     let written = writer.into_inner();
-    if answer == Ok(Outcome::Done) {
-        assert!(rt; written.as_slice() == ITS_OUTPUT);
-        return Ok(true);
-    }
-    assert_eq!(rt; answer, Err(SmpError::NoMemory));
-    assert!(rt; written.is_empty());
-    Ok(false)
+    Ok(match answer {
+        Ok(Outcome::Done) if written.as_slice() == ITS_OUTPUT => Some(true),
+        Err(SmpError::NoMemory) if written.is_empty() => Some(false),
+        _ => None,
+    })
 }
 
 // The growths of the script come first, then one for each of the table's parts, and then those of the output.
@@ -313,19 +311,21 @@ fn is_enough(rt: &HostRuntime, blocks: usize) -> Result<bool, Fail> {
 fn each_growth_may_be_refused(rt: HostRuntime) -> Result<(), Fail> {
     let mut few = 0usize;
     let mut enough = 1usize << 17;
-    assert!(rt; is_enough(&rt, enough)?);
+    assert_eq!(rt; is_enough(&rt, enough)?, Some(true));
     for _ in 0..20 {
         let blocks = few / 2 + enough / 2;
-        if is_enough(&rt, blocks)? {
+        let found = is_enough(&rt, blocks)?;
+        assert!(rt; found.is_some());
+        if found == Some(true) {
             enough = blocks;
         } else {
             few = blocks;
         }
     }
     for step in 0..200usize {
-        assert!(rt; !is_enough(&rt, step)?);
-        assert!(rt; !is_enough(&rt, few / 200 * step)?);
-        assert!(rt; !is_enough(&rt, few.saturating_sub(step))?);
+        assert_eq!(rt; is_enough(&rt, step)?, Some(false));
+        assert_eq!(rt; is_enough(&rt, few / 200 * step)?, Some(false));
+        assert_eq!(rt; is_enough(&rt, few.saturating_sub(step))?, Some(false));
     }
     Ok(())
 }
