@@ -7,9 +7,9 @@ ghost use Rattle.smp_queue.specs.Cpu.{left_at};
 
 use crate::error::BenchError;
 use smp_calls::{call_many, call_single};
-use smp_core::call::Class;
 use smp_mask::CpuMask;
 use smp_queue::{Audit, Boot, CallCpu, CallTable, Handler, Tally};
+use smp_words::call::Class;
 use std::alloc::Global;
 use std::sync::Wait;
 

@@ -2,11 +2,11 @@
 use Rattle.std.proofs.Common.{◌≡◌, ℕ, ◌+◌, ◌-◌, ◌<◌, ◌≤◌, true, false, inl, inr, refl, arith}
 use Rattle.std.proofs.lemmas.Bool.{cases_lt, lt-ltb, le-ltb, ne_eqb, eq-eqb}
 use Rattle.smp_mask.specs.Mask.{has}
-use Rattle.smp_core.specs.Size.{cpus, records_of_one}
-use Rattle.smp_core.specs.Start.{has_record, fits_record}
-use Rattle.smp_core.specs.Limits.{AreLimits}
-use Rattle.smp_core.specs.declared.size.TheConstants.{FIRST_TARGETS, FIRST_OF_ONE, USER}
-use Rattle.smp_core.specs.declared.call.Class.{Class}
+use Rattle.smp_words.specs.Size.{cpus, records_of_one}
+use Rattle.smp_call_steps.specs.Start.{has_record, fits_record}
+use Rattle.smp_words.specs.Limits.{AreLimits}
+use Rattle.smp_words.specs.declared.size.TheConstants.{FIRST_TARGETS, FIRST_OF_ONE, USER}
+use Rattle.smp_words.specs.declared.call.Class.{Class}
 use Rattle.smp_queue.specs.Cpu.{CpuValue, misused}
 use Rattle.smp_calls.specs.Records.{many_record}
 

@@ -2,10 +2,10 @@
 use Rattle.std.proofs.Common.{◌≡◌, length, ℕ, ◌<◌, ◌==◌, ◌||◌, Bool, true, false, cond, None, List, [], ◌∷◌, ◌++◌, length-set, set, get_or, inl, inr, refl, sym, ap, ◌∙◌, subst}
 use Rattle.std.proofs.lemmas.Bool.{cases_eq, cases_Bool, eq-eqb, eqb-true, or_parts}
 use Rattle.std.proofs.lemmas.List.{get_or-set_same, get_or-set_other}
-use Rattle.smp_core.specs.Size.{records_of_one, record_of}
-use Rattle.smp_core.specs.declared.call.Call.{Call}
-use Rattle.smp_core.specs.declared.call.Class.{Class}
-use Rattle.smp_core.specs.declared.known.Sending.{Sending}
+use Rattle.smp_words.specs.Size.{records_of_one, record_of}
+use Rattle.smp_words.specs.declared.call.Call.{Call}
+use Rattle.smp_words.specs.declared.call.Class.{Class}
+use Rattle.smp_call_steps.specs.declared.known.Sending.{Sending}
 use Rattle.smp_queue.specs.Cpu.{CpuValue, confirmed_at, posts}
 use Rattle.smp_queue.specs.declared.handler.Heard.{Heard}
 use Rattle.smp_calls.specs.Families.{IsSized, Leaves, owes_at}

@@ -2,11 +2,11 @@
 use Rattle.std.proofs.Common.{◌≡◌, ℕ, ◌<◌, ◌==◌, ◌||◌, Bool, true, false, Option, Some, None, List, [], ◌++◌, append_assoc, length, length-set, slice_index_or, slice_set, inl, inr, refl, sym, ap, ◌∙◌, subst, arith}
 use Rattle.std.proofs.lemmas.List.{append-nil, get_or-set_same, get_or-set_other}
 use Rattle.std.proofs.lemmas.Bool.{cases_eq, ne_eqb, eq-eqb}
-use Rattle.smp_core.specs.Size.{cpus, records_of_one, record_of}
-use Rattle.smp_core.specs.Order.{order}
-use Rattle.smp_core.proofs.Sizes.{record_of-below, one_local}
-use Rattle.smp_core.specs.declared.call.Call.{Call}
-use Rattle.smp_core.specs.declared.known.Sending.{Sending}
+use Rattle.smp_words.specs.Size.{cpus, records_of_one, record_of}
+use Rattle.smp_call_steps.specs.Order.{order}
+use Rattle.smp_words.proofs.Sizes.{record_of-below, one_local}
+use Rattle.smp_words.specs.declared.call.Call.{Call}
+use Rattle.smp_call_steps.specs.declared.known.Sending.{Sending}
 use Rattle.smp_queue.specs.Cpu.{CpuValue, confirmed_at, confirms}
 use Rattle.smp_queue.specs.Handling.{Grows, asks, drains}
 use Rattle.smp_queue.specs.declared.handler.Heard.{Heard}

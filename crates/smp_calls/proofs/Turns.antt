@@ -2,9 +2,9 @@
 use Rattle.std.proofs.Common.{◌≡◌, Bool, true, false, Option, Some, None, List, [], ◌∷◌, ◌++◌, append_assoc, refl, sym, ap, ◌∙◌, subst}
 use Rattle.std.specs.List.{FoldsTo}
 use Rattle.std.proofs.lemmas.List.{append-nil}
-use Rattle.smp_core.specs.Order.{order}
-use Rattle.smp_core.specs.Histories.{orders}
-use Rattle.smp_core.specs.declared.call.Call.{Call}
+use Rattle.smp_call_steps.specs.Order.{order}
+use Rattle.smp_call_steps.specs.Histories.{orders}
+use Rattle.smp_words.specs.declared.call.Call.{Call}
 use Rattle.smp_queue.specs.Cpu.{CpuValue}
 use Rattle.smp_queue.specs.Handling.{Grows, asks, drains}
 use Rattle.smp_queue.specs.declared.handler.Heard.{Heard}

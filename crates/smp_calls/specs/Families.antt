@@ -3,10 +3,10 @@ use Rattle.std.specs.Prelude.{◌≡◌, ◌≢◌, ℕ, ◌<◌, ◌≤◌, Boo
 use Rattle.smp_mask.specs.Mask.{has}
 use Rattle.smp_mask.specs.declared.error.SmpError.{SmpError}
 use Rattle.smp_mask.specs.declared.error.SmpError.TheVariants as error
-use Rattle.smp_core.specs.Size.{cpus, records, records_of_one, record_of}
-use Rattle.smp_core.specs.declared.known.Sending.{Sending}
-use Rattle.smp_core.specs.declared.call.Call.{Call}
-use Rattle.smp_core.specs.declared.call.Class.{Class}
+use Rattle.smp_words.specs.Size.{cpus, records, records_of_one, record_of}
+use Rattle.smp_call_steps.specs.declared.known.Sending.{Sending}
+use Rattle.smp_words.specs.declared.call.Call.{Call}
+use Rattle.smp_words.specs.declared.call.Class.{Class}
 use Rattle.smp_queue.specs.Cpu.{CpuValue, confirmed_at, confirms}
 use Rattle.smp_queue.specs.Handling.{heard}
 use Rattle.smp_queue.specs.declared.handler.Heard.{Heard}

@@ -1,7 +1,7 @@
 -- What a CPU does while it waits: it takes its interrupts, and runs what was queued for it.
 use Rattle.std.specs.Prelude.{◌≡◌, Bool, true, false, Option, Some, None, List, [], ◌∷◌, ◌++◌}
-use Rattle.smp_core.specs.Histories.{orders}
-use Rattle.smp_core.specs.declared.call.Call.{Call}
+use Rattle.smp_call_steps.specs.Histories.{orders}
+use Rattle.smp_words.specs.declared.call.Call.{Call}
 use Rattle.smp_queue.specs.Cpu.{CpuValue}
 use Rattle.smp_queue.specs.Handling.{Grows}
 use Rattle.smp_queue.specs.declared.handler.Heard.{Heard}

@@ -1,7 +1,7 @@
 -- The calls that a family queues.
 use Rattle.std.specs.Prelude.{ℕ, Bool, false, ◌||◌, ◌==◌, if◌then◌else◌, List, [], ◌∷◌}
-use Rattle.smp_core.specs.declared.known.Sending.{Sending}
-use Rattle.smp_core.specs.declared.call.Call.{Call}
+use Rattle.smp_call_steps.specs.declared.known.Sending.{Sending}
+use Rattle.smp_words.specs.declared.call.Call.{Call}
 
 -- a call that was queued: for which CPU, and whether that CPU's queue was empty
 pub record Queued : Type 0 where

@@ -1,10 +1,10 @@
 -- Which of its records a CPU uses for a call.
 use Rattle.std.specs.Prelude.{ℕ, ◌+◌, nat_lt, Bool, if◌then◌else◌}
-use Rattle.smp_core.specs.Size.{record_of}
-use Rattle.smp_core.specs.declared.size.TheConstants.{FIRST_TARGETS, USER}
-use Rattle.smp_core.specs.declared.call.Call.{Call}
-use Rattle.smp_core.specs.declared.call.Class.{Class}
-use Rattle.smp_core.specs.declared.call.Class.TheVariants.{Sync, Async}
+use Rattle.smp_words.specs.Size.{record_of}
+use Rattle.smp_words.specs.declared.size.TheConstants.{FIRST_TARGETS, USER}
+use Rattle.smp_words.specs.declared.call.Call.{Call}
+use Rattle.smp_words.specs.declared.call.Class.{Class}
+use Rattle.smp_words.specs.declared.call.Class.TheVariants.{Sync, Async}
 use Rattle.smp_calls.specs.declared.records.TheConstants.{SYNC_RECORD, ASYNC_RECORD}
 
 -- the record for calls to many with this destination

@@ -1,8 +1,8 @@
 -- The parts of a call to many: queue each call, send each interrupt, wait for each record.
 use Rattle.std.specs.Prelude.{◌≡◌, length, ℕ, ◌<◌, Bool, true, false, not, ◌&&◌, ◌||◌, if◌then◌else◌, Option, Some, None, List, [], ◌∷◌}
 use Rattle.smp_mask.specs.Mask.{has, members}
-use Rattle.smp_core.specs.Size.{cpus, record_of}
-use Rattle.smp_core.specs.declared.call.Call.{Call}
+use Rattle.smp_words.specs.Size.{cpus, record_of}
+use Rattle.smp_words.specs.declared.call.Call.{Call}
 use Rattle.smp_queue.specs.Cpu.{CpuValue, confirmed_at}
 use Rattle.smp_queue.specs.declared.handler.Heard.{Heard}
 use Rattle.smp_calls.specs.Families.{Leaves, owes_at}

@@ -3,8 +3,8 @@
 
 ghost use Rattle.std.specs.Prelude.{◌≡◌, ◌≢◌, ℕ, ◌<◌, ◌==◌, ◌&&◌, not, true, false, Bool, List, [], ◌∷◌, ◌++◌, None, if◌then◌else◌};
 ghost use Rattle.smp_mask.specs.Mask.{has, members};
-ghost use Rattle.smp_core.specs.Size.{cpus};
-ghost use Rattle.smp_core.specs.Limits.{AreLimits};
+ghost use Rattle.smp_words.specs.Size.{cpus};
+ghost use Rattle.smp_words.specs.Limits.{AreLimits};
 ghost use Rattle.smp_calls.specs.Records.{many_call};
 ghost use Rattle.smp_calls.specs.Queued.{Queued, destinations, firsts};
 ghost use Rattle.smp_calls.specs.Families.{IsSized};

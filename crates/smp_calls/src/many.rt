@@ -2,8 +2,8 @@
 
 ghost use Rattle.std.specs.Prelude.{◌≡◌, ◌≢◌, ℕ, ◌<◌, ◌==◌, ◌&&◌, ◌||◌, true, false, List, None, Some, if◌then◌else◌};
 ghost use Rattle.smp_mask.specs.Mask.{has, members};
-ghost use Rattle.smp_core.specs.Size.{cpus};
-ghost use Rattle.smp_core.specs.Limits.{AreLimits};
+ghost use Rattle.smp_words.specs.Size.{cpus};
+ghost use Rattle.smp_words.specs.Limits.{AreLimits};
 ghost use Rattle.smp_queue.specs.Handling.{heard};
 ghost use Rattle.smp_calls.specs.Records.{many_call, class_for as class_in};
 ghost use Rattle.smp_calls.specs.Targets.{is_target, remote};

@@ -4,8 +4,8 @@ ghost use Rattle.std.specs.Prelude.{◌≡◌, true, false, Bool, if◌then◌el
 ghost use Rattle.smp_mask.specs.Mask.{has};
 ghost use Rattle.smp_queue.specs.Cpu.{confirmed_at, misused, posts, sends};
 
-use smp_core::call::Class;
 use smp_queue::{CallCpu, CallTable};
+use smp_words::call::Class;
 use std::alloc::Allocator;
 use std::sync::Wait;
 

@@ -1,11 +1,11 @@
 //! Which of its records a CPU uses for a call.
 
 ghost use Rattle.std.specs.Prelude.{◌≡◌, ◌<◌};
-ghost use Rattle.smp_core.specs.Size.{cpus, records_of_one};
+ghost use Rattle.smp_words.specs.Size.{cpus, records_of_one};
 ghost use Rattle.smp_calls.specs.Records.{many_record as many_record_in, user_record as user_record_in, single_record as single_record_in, class_for as class_in};
 
-use smp_core::call::Class;
-use smp_core::size::{FIRST_TARGETS, USER};
+use smp_words::call::Class;
+use smp_words::size::{FIRST_TARGETS, USER};
 
 /// The record for a call to one CPU that is waited for. It stands for the one on the caller's stack in
 /// `kernel/smp.c: smp_call_function_single`.

@@ -8,9 +8,9 @@ ghost use Rattle.smp_calls.specs.Families.{CallsBy, CallsUserHere, RefusesUser};
 use crate::queue::{Job, queue_and_send};
 use crate::records::{USER_RECORDS, user_record};
 use crate::wait::is_done;
-use smp_core::call::Class;
 use smp_mask::SmpError;
 use smp_queue::{CallCpu, CallTable, Handler};
+use smp_words::call::Class;
 use std::alloc::Allocator;
 use std::sync::Wait;
 

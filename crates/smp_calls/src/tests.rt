@@ -6,9 +6,9 @@ mod threads;
 mod wide;
 
 use super::*;
-use smp_core::size::NR_CPUS;
 use smp_mask::{CpuMask, SmpError};
 use smp_queue::{Audit, Boot, CallCpu, CallTable, Handler, Heard, Tally};
+use smp_words::size::NR_CPUS;
 use std::alloc::Global;
 use std::marker::Model;
 use std::sync::Wait;

@@ -1,7 +1,7 @@
 //! Waiting for a record: the CPU handles its own interrupts meanwhile.
 
 ghost use Rattle.std.specs.Prelude.{◌≡◌, ◌≢◌, ◌<◌, ◌==◌, ◌||◌, None, [], true, false, if◌then◌else◌};
-ghost use Rattle.smp_core.specs.Start.{has_record};
+ghost use Rattle.smp_call_steps.specs.Start.{has_record};
 ghost use Rattle.smp_queue.specs.Cpu.{confirmed_at, confirms};
 ghost use Rattle.smp_calls.specs.Families.{IsSized, Leaves, owes_at};
 

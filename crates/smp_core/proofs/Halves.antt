@@ -2,42 +2,43 @@
 use Rattle.std.proofs.Common.{◌≡◌, ℕ, Option, Some, None, Result, Ok, Err, List, refl, sym, subst, ◌∙◌}
 use Rattle.std.specs.Prelude.{IfSome, MatchOption}
 use Rattle.smp_labels.specs.declared.patch.Place.TheVariants as place
-use Rattle.smp_core.specs.Access.{seen_of}
-use Rattle.smp_core.specs.Calls.{CallState}
-use Rattle.smp_core.specs.Calls as calls
-use Rattle.smp_core.specs.Drains.{handle_access}
-use Rattle.smp_core.specs.Layout.{number_in}
+use Rattle.smp_words.specs.Access.{seen_of}
+use Rattle.smp_call_steps.specs.Calls.{CallState}
+use Rattle.smp_call_steps.specs.Calls as calls
+use Rattle.smp_call_steps.specs.Drains.{handle_access}
+use Rattle.smp_words.specs.Layout.{number_in}
 use Rattle.smp_core.specs.Machine.{Stepped, seen_at, stepped, step_of, stops_stepped, setup_in, CallsTold, StopsTold}
-use Rattle.smp_core.specs.Posts.{post_access}
-use Rattle.smp_core.specs.Stages.{access_of}
-use Rattle.smp_core.specs.Stops.Labels.{Change}
-use Rattle.smp_core.specs.Stops.Machine.{StopTold, stop_seen_at, stop_stepped}
-use Rattle.smp_core.specs.Stops.Stages.{completion_access, round_access, stop_access, store_of, change_at}
-use Rattle.smp_core.specs.Stops.State.{Setup, StopState}
-use Rattle.smp_core.specs.Stops.Tells as stops
-use Rattle.smp_core.specs.Stops.Value.{StopsValue, StopShown, stop_control_of}
+use Rattle.smp_call_steps.specs.Posts.{post_access}
+use Rattle.smp_call_steps.specs.Stages.{access_of}
+use Rattle.smp_stop_steps.specs.Labels.{Change}
+use Rattle.smp_stop_steps.specs.Machine.{StopTold, stop_seen_at, stop_stepped}
+use Rattle.smp_stop_steps.specs.Stages.{completion_access, round_access, stop_access, store_of, change_at}
+use Rattle.smp_stop_steps.specs.State.{Setup, StopState}
+use Rattle.smp_stop_steps.specs.Tells as stops
+use Rattle.smp_stop_steps.specs.Value.{StopsValue, StopShown, stop_control_of}
 use Rattle.smp_core.specs.Replay.{step_turn, turn_of}
-use Rattle.smp_core.specs.Value.{CoreValue, Shown, control_of}
+use Rattle.smp_core.specs.Value.{CoreValue, Shown}
+use Rattle.smp_call_steps.specs.Value.{control_of}
 use Rattle.smp_mask.specs.declared.error.SmpError.{SmpError}
 use Rattle.smp_mask.specs.declared.error.SmpError.TheVariants as error
-use Rattle.smp_core.specs.declared.command.Event.TheVariants as event
-use Rattle.smp_core.specs.declared.handle.HandleStage.{HandleStage}
-use Rattle.smp_core.specs.declared.handle.HandleStage.TheVariants as handle
-use Rattle.smp_core.specs.declared.post.PostStage.{PostStage}
-use Rattle.smp_core.specs.declared.post.PostStage.TheVariants as post
-use Rattle.smp_core.specs.declared.post.Posting.{Posting}
-use Rattle.smp_core.specs.declared.seen.Note.{Note}
-use Rattle.smp_core.specs.declared.seen.Seen.{Seen}
-use Rattle.smp_core.specs.declared.stage.Stage.{Stage}
-use Rattle.smp_core.specs.declared.stage.Stage.TheVariants.{Send, Done, Post, Handle}
-use Rattle.smp_core.specs.declared.stop.stage.CompletionStage.{CompletionStage}
-use Rattle.smp_core.specs.declared.stop.stage.CompletionStage.TheVariants as completion
-use Rattle.smp_core.specs.declared.stop.stage.RoundStage.{RoundStage}
-use Rattle.smp_core.specs.declared.stop.stage.RoundStage.TheVariants as round
-use Rattle.smp_core.specs.declared.stop.stage.StopStage.{StopStage}
-use Rattle.smp_core.specs.declared.stop.stage.StopStage.TheVariants.{TakeGate, OpenGate, Begin, Enter, EnterKind, EnterMask, EnterActive, Advance, Complete, Close, LoadDone, LoadResult, ReadKey, ReadSite, NudgeKey, ExchangeKey}
-use Rattle.smp_core.specs.declared.stop.stage.Visit.{Visit}
-use Rattle.smp_core.specs.declared.word.Word.{Word}
+use Rattle.smp_words.specs.declared.command.Event.TheVariants as event
+use Rattle.smp_call_steps.specs.declared.handle.HandleStage.{HandleStage}
+use Rattle.smp_call_steps.specs.declared.handle.HandleStage.TheVariants as handle
+use Rattle.smp_call_steps.specs.declared.post.PostStage.{PostStage}
+use Rattle.smp_call_steps.specs.declared.post.PostStage.TheVariants as post
+use Rattle.smp_call_steps.specs.declared.post.Posting.{Posting}
+use Rattle.smp_words.specs.declared.seen.Note.{Note}
+use Rattle.smp_words.specs.declared.seen.Seen.{Seen}
+use Rattle.smp_call_steps.specs.declared.stage.Stage.{Stage}
+use Rattle.smp_call_steps.specs.declared.stage.Stage.TheVariants.{Send, Done, Post, Handle}
+use Rattle.smp_stop_steps.specs.declared.stage.CompletionStage.{CompletionStage}
+use Rattle.smp_stop_steps.specs.declared.stage.CompletionStage.TheVariants as completion
+use Rattle.smp_stop_steps.specs.declared.stage.RoundStage.{RoundStage}
+use Rattle.smp_stop_steps.specs.declared.stage.RoundStage.TheVariants as round
+use Rattle.smp_stop_steps.specs.declared.stage.StopStage.{StopStage}
+use Rattle.smp_stop_steps.specs.declared.stage.StopStage.TheVariants.{TakeGate, OpenGate, Begin, Enter, EnterKind, EnterMask, EnterActive, Advance, Complete, Close, LoadDone, LoadResult, ReadKey, ReadSite, NudgeKey, ExchangeKey}
+use Rattle.smp_stop_steps.specs.declared.stage.Visit.{Visit}
+use Rattle.smp_words.specs.declared.word.Word.{Word}
 
 module _ (u : Setup) (p : StopState) (me answer found : ℕ) (note : Option Note) where
   in_post : (x : Posting) (stage : PostStage) (queued : ℕ) → stops.tells u p (seen_of me (post_access x me stage queued) found note) answer ≡ p

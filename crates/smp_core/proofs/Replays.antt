@@ -1,22 +1,23 @@
 -- One more event of a replay.
 use Rattle.std.proofs.Common.{◌≡◌, ℕ, ◌+◌, ◌<◌, ◌≤◌, List, [], ◌∷◌, ◌++◌, Option, Some, None, Result, Ok, Err, length, length-append, get_or, drop, sym, subst, ◌∙◌, ap, refl, append_assoc, append-nil, arith}
 use Rattle.std.proofs.lemmas.List.{drop_more, drop_all}
-use Rattle.smp_core.specs.Calls.{CallState, tells, tells_all, tells_if}
-use Rattle.smp_core.specs.Value.{CoreValue, Shown, control_of}
+use Rattle.smp_call_steps.specs.Calls.{CallState, tells, tells_all, tells_if}
+use Rattle.smp_core.specs.Value.{CoreValue, Shown}
+use Rattle.smp_call_steps.specs.Value.{control_of}
 use Rattle.smp_core.specs.Machine.{setup_in, step_at}
 use Rattle.smp_core.specs.Replay.{Replay, answers_from, answers_on, replay_from, replay_on, after_seen, seen_list, start_turn, step_turn, turn_of}
 use Rattle.smp_core.specs.Start.{refusal_of, started}
-use Rattle.smp_core.specs.Stops.Starts.{stop_begun_if, stop_first}
-use Rattle.smp_core.specs.Stops.State.{Setup, StopState}
-use Rattle.smp_core.specs.Stops.Tells as stops
-use Rattle.smp_core.specs.Stops.Tells.{tells_all as tells_stops, tells_if as stops_if}
-use Rattle.smp_core.specs.Stops.Value.{StopsValue, StopShown, setup_of, stop_control_of}
-use Rattle.smp_core.specs.declared.seen.Seen.{Seen}
-use Rattle.smp_core.specs.declared.command.Command.{Command}
-use Rattle.smp_core.specs.declared.command.Event.{Event}
-use Rattle.smp_core.specs.declared.command.Event.TheVariants as event
-use Rattle.smp_core.specs.declared.stage.Stage.{Stage}
-use Rattle.smp_core.specs.declared.stop.stage.StopStage.{StopStage}
+use Rattle.smp_stop_steps.specs.Starts.{stop_begun_if, stop_first}
+use Rattle.smp_stop_steps.specs.State.{Setup, StopState}
+use Rattle.smp_stop_steps.specs.Tells as stops
+use Rattle.smp_stop_steps.specs.Tells.{tells_all as tells_stops, tells_if as stops_if}
+use Rattle.smp_stop_steps.specs.Value.{StopsValue, StopShown, setup_of, stop_control_of}
+use Rattle.smp_words.specs.declared.seen.Seen.{Seen}
+use Rattle.smp_words.specs.declared.command.Command.{Command}
+use Rattle.smp_words.specs.declared.command.Event.{Event}
+use Rattle.smp_words.specs.declared.command.Event.TheVariants as event
+use Rattle.smp_call_steps.specs.declared.stage.Stage.{Stage}
+use Rattle.smp_stop_steps.specs.declared.stage.StopStage.{StopStage}
 use Rattle.smp_mask.specs.declared.error.SmpError.{SmpError}
 
 -- the replay so far, and then that of the rest, is the replay of all

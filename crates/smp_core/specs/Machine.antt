@@ -1,20 +1,21 @@
 -- One step of a core: what it does to the words, what is seen of it, and where the CPU stands after it.
 use Rattle.std.specs.Prelude.{ℕ, Option, Some, None, slice_set}
-use Rattle.smp_core.specs.Layout.{number_in}
-use Rattle.smp_core.specs.Access.{word_of, words_after, seen_of}
-use Rattle.smp_core.specs.Stages.{access_of, outcome_of, control_after}
-use Rattle.smp_core.specs.Value.{CoreValue, control_of}
-use Rattle.smp_core.specs.Calls.{CallState}
-use Rattle.smp_core.specs.Calls as calls
+use Rattle.smp_words.specs.Layout.{number_in}
+use Rattle.smp_words.specs.Access.{word_of, words_after, seen_of}
+use Rattle.smp_call_steps.specs.Stages.{access_of, outcome_of, control_after}
+use Rattle.smp_core.specs.Value.{CoreValue}
+use Rattle.smp_call_steps.specs.Value.{control_of}
+use Rattle.smp_call_steps.specs.Calls.{CallState}
+use Rattle.smp_call_steps.specs.Calls as calls
 use Rattle.smp_core.specs.Value.{Shown}
-use Rattle.smp_core.specs.Stops.Machine.{stop_seen_at, stop_stepped}
-use Rattle.smp_core.specs.Stops.Stages.{answer_at}
-use Rattle.smp_core.specs.Stops.State.{Setup, StopState}
-use Rattle.smp_core.specs.Stops.Tells as stops
-use Rattle.smp_core.specs.Stops.Value.{StopShown, setup_of, stop_control_of}
-use Rattle.smp_core.specs.declared.stop.stage.StopStage.{StopStage}
-use Rattle.smp_core.specs.declared.seen.Seen.{Seen}
-use Rattle.smp_core.specs.declared.stage.Stage.{Stage}
+use Rattle.smp_stop_steps.specs.Machine.{stop_seen_at, stop_stepped}
+use Rattle.smp_stop_steps.specs.Stages.{answer_at}
+use Rattle.smp_stop_steps.specs.State.{Setup, StopState}
+use Rattle.smp_stop_steps.specs.Tells as stops
+use Rattle.smp_stop_steps.specs.Value.{StopShown, setup_of, stop_control_of}
+use Rattle.smp_stop_steps.specs.declared.stage.StopStage.{StopStage}
+use Rattle.smp_words.specs.declared.seen.Seen.{Seen}
+use Rattle.smp_call_steps.specs.declared.stage.Stage.{Stage}
 
 -- what the CPU's step at this stage finds
 abbrev pub found_at : CoreValue → ℕ → Stage → ℕ

@@ -5,9 +5,9 @@ use Rattle.smp_mask.specs.declared.error.SmpError.TheVariants as error
 use Rattle.smp_core.specs.Value.{CoreValue}
 use Rattle.smp_core.specs.Machine.{Stepped, step_of}
 use Rattle.smp_core.specs.Start.{refusal_of, started}
-use Rattle.smp_core.specs.declared.seen.Seen.{Seen}
-use Rattle.smp_core.specs.declared.command.Event.{Event}
-use Rattle.smp_core.specs.declared.command.Event.TheVariants as event
+use Rattle.smp_words.specs.declared.seen.Seen.{Seen}
+use Rattle.smp_words.specs.declared.command.Event.{Event}
+use Rattle.smp_words.specs.declared.command.Event.TheVariants as event
 
 -- the answer to one event, the core after it, and what the CPU's function has answered, where the event is a step that
 -- acknowledges phase 3 with it

@@ -3,8 +3,8 @@ use Rattle.std.specs.Prelude.{◌≡◌, ℕ, Option, List}
 use Rattle.smp_mask.specs.declared.error.SmpError.{SmpError}
 use Rattle.smp_core.specs.Value.{CoreValue}
 use Rattle.smp_core.specs.Replay.{Replay, replay_from}
-use Rattle.smp_core.specs.declared.seen.Seen.{Seen}
-use Rattle.smp_core.specs.declared.command.Event.{Event}
+use Rattle.smp_words.specs.declared.seen.Seen.{Seen}
+use Rattle.smp_words.specs.declared.command.Event.{Event}
 
 abbrev pub replay_made : CoreValue → List Seen → Option (ℕ × SmpError) → Replay
 replay_made core seen stopped = record { core = core; seen = seen; stopped = stopped }

@@ -1,13 +1,12 @@
 -- What contracts see of a core.
-use Rattle.std.specs.Prelude.{ℕ, Option, Some, None, List, slice_index_or}
-use Rattle.smp_core.specs.Drains.{no_drain}
-use Rattle.smp_core.specs.Stages.{ControlValue}
-use Rattle.smp_core.specs.Layout.{number_in, number_of}
-use Rattle.smp_core.specs.Calls.{CallState}
-use Rattle.smp_core.specs.Shows.{Shows}
-use Rattle.smp_core.specs.Stops.Table.{stop_number_of}
-use Rattle.smp_core.specs.Stops.Value.{StopsValue}
-use Rattle.smp_core.specs.declared.word.Word.{Word}
+use Rattle.std.specs.Prelude.{ℕ, Option, Some, None, List}
+use Rattle.smp_call_steps.specs.Stages.{ControlValue}
+use Rattle.smp_words.specs.Layout.{number_of}
+use Rattle.smp_call_steps.specs.Calls.{CallState}
+use Rattle.smp_stop_steps.specs.Table.{stop_number_of}
+use Rattle.smp_stop_steps.specs.Value.{StopsValue}
+use Rattle.smp_words.specs.declared.word.Word.{Word}
+use Rattle.smp_call_steps.specs.Value.{ValuesShow}
 
 -- the number of CPUs, those online, the words, where each CPU stands, and the stop half
 pub record CoreValue : Type 0 where
@@ -16,18 +15,6 @@ pub record CoreValue : Type 0 where
   pub words : List ℕ
   pub controls : List ControlValue
   pub stops : StopsValue
-
--- a CPU outside a command
-abbrev pub outside : ControlValue
-outside = record { stage = None; drain = no_drain }
-
--- where a CPU stands; outside where there is no such CPU
-abbrev pub control_of : List ControlValue → ℕ → ControlValue
-control_of controls cpu = slice_index_or controls cpu outside
-
--- these words and controls show these calls
-abbrev pub ValuesShow : CallState → List ℕ → List ControlValue → Type 0
-ValuesShow a words controls = Shows a (number_in words) (control_of controls)
 
 -- the core shows these calls
 abbrev pub Shown : CallState → CoreValue → Type 0

@@ -1,19 +1,19 @@
 //! A list of events, one after the other.
 
 ghost use Rattle.std.specs.Prelude.{◌≡◌, ◌++◌, IfOk, IfErr, OnOk, OnErr};
-ghost use Rattle.smp_core.specs.Calls.{CallState, tells_all};
+ghost use Rattle.smp_call_steps.specs.Calls.{CallState, tells_all};
 ghost use Rattle.smp_core.specs.Value.{Shown};
 ghost use Rattle.smp_core.specs.Runs.{IsReplay};
 ghost use Rattle.smp_core.specs.Replay.{answers_from, seen_list};
 ghost use Rattle.smp_core.specs.Machine.{setup_in};
-ghost use Rattle.smp_core.specs.Stops.State.{StopState};
-ghost use Rattle.smp_core.specs.Stops.Tells.{tells_all as tells_stops};
-ghost use Rattle.smp_core.specs.Stops.Value.{StopShown};
+ghost use Rattle.smp_stop_steps.specs.State.{StopState};
+ghost use Rattle.smp_stop_steps.specs.Tells.{tells_all as tells_stops};
+ghost use Rattle.smp_stop_steps.specs.Value.{StopShown};
 
-use crate::command::Event;
 use crate::machine::Core;
-use crate::seen::Seen;
 use smp_mask::SmpError;
+use smp_words::command::Event;
+use smp_words::seen::Seen;
 use std::alloc::Allocator;
 
 /// What a replay leaves: the core, the steps that were made, and where an event was refused its position, from

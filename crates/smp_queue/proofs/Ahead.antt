@@ -1,21 +1,21 @@
 -- How many calls of a batch are ahead of a CPU that goes along its chain.
 use Rattle.std.proofs.Common.{◌≡◌, ◌≢◌, ℕ, suc, ◌+◌, ◌==◌, ◌<◌, cond, Option, Some, None, List, [], ◌∷◌, ◌++◌, length, sym, subst, refl, ap, ◌∙◌, arith, append_assoc}
 use Rattle.atomic_table.specs.Seated.{TableId}
-use Rattle.smp_core.specs.Drains.{DrainValue, link_to, record_at}
-use Rattle.smp_core.specs.Known.{Moment}
-use Rattle.smp_core.specs.Places.{IsApart}
-use Rattle.smp_core.specs.Stands.{Share, Walks}
-use Rattle.smp_core.specs.Words.{Path, last_batch, nexts_in}
-use Rattle.smp_core.proofs.Alls.{every_right}
-use Rattle.smp_core.proofs.Handling.{lives_then, lives_stands}
-use Rattle.smp_core.proofs.Turns.{put_here, put_else}
-use Rattle.smp_core.proofs.Walks.{link_back, same_record}
-use Rattle.smp_core.specs.declared.call.Call.{Call}
-use Rattle.smp_core.specs.declared.handle.Walk.{Walk}
-use Rattle.smp_core.specs.declared.handle.HandleStage.TheVariants as handle
-use Rattle.smp_core.specs.declared.known.Running.TheVariants.{Nothing}
-use Rattle.smp_core.specs.declared.word.Word.TheVariants.{Next}
-use Rattle.smp_core.specs.declared.known.Known.{Known}
+use Rattle.smp_call_steps.specs.Drains.{DrainValue, link_to, record_at}
+use Rattle.smp_call_steps.specs.Known.{Moment}
+use Rattle.smp_call_steps.specs.Places.{IsApart}
+use Rattle.smp_call_steps.specs.Stands.{Share, Walks}
+use Rattle.smp_call_steps.specs.Words.{Path, last_batch, nexts_in}
+use Rattle.smp_call_steps.proofs.Alls.{every_right}
+use Rattle.smp_call_steps.proofs.Handling.{lives_then, lives_stands}
+use Rattle.smp_call_steps.proofs.Turns.{put_here, put_else}
+use Rattle.smp_call_steps.proofs.Walks.{link_back, same_record}
+use Rattle.smp_words.specs.declared.call.Call.{Call}
+use Rattle.smp_call_steps.specs.declared.handle.Walk.{Walk}
+use Rattle.smp_call_steps.specs.declared.handle.HandleStage.TheVariants as handle
+use Rattle.smp_call_steps.specs.declared.known.Running.TheVariants.{Nothing}
+use Rattle.smp_words.specs.declared.word.Word.TheVariants.{Next}
+use Rattle.smp_call_steps.specs.declared.known.Known.{Known}
 use Rattle.smp_queue.specs.Cpu.{CpuValue, cpu_of}
 use Rattle.smp_queue.specs.Desk.{Desk, InHandle}
 use Rattle.smp_queue.specs.Handling.{runs}

@@ -1,13 +1,13 @@
 -- A CPU that tries to append a call: what it knows between two tries.
 use Rattle.std.proofs.Common.{◌≡◌, ℕ, Bool, true, Some, length, ◌%◌, ◌^◌, sym, refl, ap, ◌∙◌}
 use Rattle.atomic_table.specs.Seated.{TableId}
-use Rattle.smp_core.specs.Histories.{sent_to}
-use Rattle.smp_core.specs.Stands.{holding}
-use Rattle.smp_core.specs.Known.{standing, appended_known, outside_known}
-use Rattle.smp_core.specs.declared.known.Known.{Known}
-use Rattle.smp_core.specs.declared.post.Posting.{Posting}
-use Rattle.smp_core.specs.declared.post.PostStage.TheVariants as post
-use Rattle.smp_core.specs.declared.stage.Stage.TheVariants.{Post}
+use Rattle.smp_call_steps.specs.Histories.{sent_to}
+use Rattle.smp_call_steps.specs.Stands.{holding}
+use Rattle.smp_call_steps.specs.Known.{standing, appended_known, outside_known}
+use Rattle.smp_call_steps.specs.declared.known.Known.{Known}
+use Rattle.smp_call_steps.specs.declared.post.Posting.{Posting}
+use Rattle.smp_call_steps.specs.declared.post.PostStage.TheVariants as post
+use Rattle.smp_call_steps.specs.declared.stage.Stage.TheVariants.{Post}
 use Rattle.smp_queue.specs.Desk.{Desk, IsMine, IsCounting, IsTallied, counted}
 use Rattle.smp_queue.proofs.Ready.{mine_moved}
 

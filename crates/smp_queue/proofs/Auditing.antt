@@ -3,9 +3,9 @@ use Rattle.std.proofs.Common.{◌≡◌, ℕ, zero, suc, ◌+◌, ◌<◌, ◌�
 use Rattle.std.proofs.lemmas.Bool.{cases_eq}
 use Rattle.std.proofs.lemmas.List.{get_or-set_same, get_or-set_other}
 use Rattle.std.specs.Int.{from_bool}
-use Rattle.smp_core.specs.Size.{cpus}
-use Rattle.smp_core.specs.declared.word.Word.{Word}
-use Rattle.smp_core.specs.declared.word.Word.TheVariants.{Queued, Ran}
+use Rattle.smp_words.specs.Size.{cpus}
+use Rattle.smp_words.specs.declared.word.Word.{Word}
+use Rattle.smp_words.specs.declared.word.Word.TheVariants.{Queued, Ran}
 use Rattle.smp_queue.specs.Audit.{count_below, has_head, has_lock, has_hand, tally_at, IsRow}
 use Rattle.smp_queue.specs.declared.audit.Left.{Left}
 use Rattle.smp_queue.specs.declared.audit.Tally.{Tally}

@@ -4,11 +4,11 @@ use mathlib.Core.Option.{some}
 use lib.ListN.{get_elem?}
 use Rattle.std.proofs.lemmas.Bool.{eqb-true, eq-eqb, ltb-true, ltb-false}
 use Rattle.atomic_table.specs.Table.{State}
-use Rattle.smp_core.specs.Size.{cpus, records}
-use Rattle.smp_core.specs.Histories.{sent_to, calls_from}
-use Rattle.smp_core.proofs.Drained.{Still, still_queued, still_ran, equal_tallies, all_ran, all_sent}
-use Rattle.smp_core.specs.declared.known.Known.{Known}
-use Rattle.smp_core.specs.declared.word.Word.TheVariants.{Hand, Queued, Ran, Flags}
+use Rattle.smp_words.specs.Size.{cpus, records}
+use Rattle.smp_call_steps.specs.Histories.{sent_to, calls_from}
+use Rattle.smp_call_steps.proofs.Drained.{Still, still_queued, still_ran, equal_tallies, all_ran, all_sent}
+use Rattle.smp_call_steps.specs.declared.known.Known.{Known}
+use Rattle.smp_words.specs.declared.word.Word.TheVariants.{Hand, Queued, Ran, Flags}
 use Rattle.smp_queue.specs.Audit.{Closes, Audited, AuditAnswers, HaveRun, IfDrained, AreEqual, HasRowsOf, HasZerosFrom, has_lock, has_hand, left_in, nothing_left}
 use Rattle.smp_queue.specs.Cells.{number_in}
 use Rattle.smp_queue.specs.Cpu.{TableValue, cpu_of}

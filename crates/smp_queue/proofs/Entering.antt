@@ -2,24 +2,24 @@
 use Rattle.std.proofs.Common.{◌≡◌, ℕ, ◌<◌, ◌==◌, true, false, cond, Option, Some, None, List, [], ◌∷◌, ◌++◌, length, append-nil, append_assoc, sym, refl, ap, ◌∙◌, subst}
 use Rattle.std.proofs.lemmas.List.{append_cancel_left}
 use Rattle.atomic_table.specs.Seated.{TableId}
-use Rattle.smp_core.specs.Size.{cpus}
-use Rattle.smp_core.specs.Order.{order}
-use Rattle.smp_core.specs.declared.known.Running.TheVariants.{Nothing}
-use Rattle.smp_core.specs.Words.{last_batch}
+use Rattle.smp_words.specs.Size.{cpus}
+use Rattle.smp_call_steps.specs.Order.{order}
+use Rattle.smp_call_steps.specs.declared.known.Running.TheVariants.{Nothing}
+use Rattle.smp_call_steps.specs.Words.{last_batch}
 use Rattle.std.specs.List.{FoldsTo}
-use Rattle.smp_core.specs.Histories.{orders, running_call}
-use Rattle.smp_core.specs.Known.{known_told, known_taking, Moment, Lives, outside_known}
-use Rattle.smp_core.specs.Handling.{handling, accepted_known, taken_known, IsLeaving}
-use Rattle.smp_core.proofs.Handling.{lives_then, lives_stands, lives_drained, lives_intr, entered_is, accepted_is, left_is}
-use Rattle.smp_core.proofs.Taking.{orders-push, last_batch-push}
-use Rattle.smp_core.specs.declared.call.Call.{Call}
-use Rattle.smp_core.specs.declared.known.Known.{Known}
-use Rattle.smp_core.specs.declared.word.Word.TheVariants.{Intr, Hand}
-use Rattle.smp_core.specs.declared.access.Access.TheVariants.{Store, Swap}
-use Rattle.smp_core.specs.declared.seen.Act.TheVariants as act
-use Rattle.smp_core.specs.declared.handle.HandleStage.{HandleStage}
-use Rattle.smp_core.specs.declared.handle.HandleStage.TheVariants as handle
-use Rattle.smp_core.specs.declared.stage.Stage.TheVariants.{Handle}
+use Rattle.smp_call_steps.specs.Histories.{orders, running_call}
+use Rattle.smp_call_steps.specs.Known.{known_told, known_taking, Moment, Lives, outside_known}
+use Rattle.smp_call_steps.specs.Handling.{handling, accepted_known, taken_known, IsLeaving}
+use Rattle.smp_call_steps.proofs.Handling.{lives_then, lives_stands, lives_drained, lives_intr, entered_is, accepted_is, left_is}
+use Rattle.smp_call_steps.proofs.Taking.{orders-push, last_batch-push}
+use Rattle.smp_words.specs.declared.call.Call.{Call}
+use Rattle.smp_call_steps.specs.declared.known.Known.{Known}
+use Rattle.smp_words.specs.declared.word.Word.TheVariants.{Intr, Hand}
+use Rattle.smp_words.specs.declared.access.Access.TheVariants.{Store, Swap}
+use Rattle.smp_words.specs.declared.seen.Act.TheVariants as act
+use Rattle.smp_call_steps.specs.declared.handle.HandleStage.{HandleStage}
+use Rattle.smp_call_steps.specs.declared.handle.HandleStage.TheVariants as handle
+use Rattle.smp_call_steps.specs.declared.stage.Stage.TheVariants.{Handle}
 use Rattle.smp_queue.specs.Cpu.{CpuValue, cpu_of}
 use Rattle.smp_queue.specs.Desk.{Desk, Ready, InHandle, IsOutside}
 use Rattle.smp_queue.specs.Handling.{Grows, HasRunAll, runs, asks, drains, heard_of}

@@ -6,23 +6,24 @@ use lib.Seq.{set-get_or}
 use prog.Atomic.{either}
 use Rattle.atomic_table.specs.Table.{State, Me, step, keeps, stepped, Allows, Splits, opening}
 use Rattle.atomic_table.proofs.Lists.{at_set}
-use Rattle.smp_core.specs.Put.{put, put_word}
-use Rattle.smp_core.specs.Calls.{CallState, no_calls}
-use Rattle.smp_core.specs.Stages.{ControlValue}
-use Rattle.smp_core.specs.Value.{outside}
-use Rattle.smp_core.specs.Shows.{Shows}
-use Rattle.smp_core.specs.Known.{known_of, fresh, known_told, known_taking, GoesOn, Lives}
-use Rattle.smp_core.proofs.Own.{put_same, put_other}
-use Rattle.smp_core.proofs.OneStep.{known_step}
-use Rattle.smp_core.proofs.Handling.{lives_on}
-use Rattle.smp_core.proofs.Starts.{zeros_shown, zero_at}
-use Rattle.smp_core.specs.declared.call.Call.{Call}
-use Rattle.smp_core.specs.declared.known.Known.{Known}
-use Rattle.smp_core.specs.declared.word.Word.{Word}
-use Rattle.smp_core.specs.declared.word.Word.TheVariants.{Head, Intr, Hand, Queued, Ran, Flags, Func, Info, Next}
-use Rattle.smp_core.specs.declared.access.Access.{Access}
-use Rattle.smp_core.specs.declared.access.Access.TheVariants.{Load, Store, Swap, Exchange}
-use Rattle.smp_core.specs.declared.seen.Act.TheVariants as act
+use Rattle.smp_words.specs.Put.{put, put_word}
+use Rattle.smp_call_steps.specs.Calls.{CallState, no_calls}
+use Rattle.smp_call_steps.specs.Stages.{ControlValue}
+use Rattle.smp_call_steps.specs.Value.{outside}
+use Rattle.smp_call_steps.specs.Shows.{Shows}
+use Rattle.smp_call_steps.specs.Known.{known_of, fresh, known_told, known_taking, GoesOn, Lives}
+use Rattle.smp_call_steps.proofs.Own.{put_same, put_other}
+use Rattle.smp_call_steps.proofs.OneStep.{known_step}
+use Rattle.smp_call_steps.proofs.Handling.{lives_on}
+use Rattle.smp_call_steps.proofs.Starts.{zeros_shown}
+use Rattle.smp_words.proofs.Zeros.{zero_at}
+use Rattle.smp_words.specs.declared.call.Call.{Call}
+use Rattle.smp_call_steps.specs.declared.known.Known.{Known}
+use Rattle.smp_words.specs.declared.word.Word.{Word}
+use Rattle.smp_words.specs.declared.word.Word.TheVariants.{Head, Intr, Hand, Queued, Ran, Flags, Func, Info, Next}
+use Rattle.smp_words.specs.declared.access.Access.{Access}
+use Rattle.smp_words.specs.declared.access.Access.TheVariants.{Load, Store, Swap, Exchange}
+use Rattle.smp_words.specs.declared.seen.Act.TheVariants as act
 use Rattle.smp_queue.specs.declared.seated.Seated.{Seated}
 use Rattle.smp_queue.specs.declared.seated.Seated.TheVariants.{Boot, Of}
 use Rattle.smp_queue.specs.Cells.{cells, cell_of, number_in}

@@ -2,17 +2,17 @@
 use Rattle.std.proofs.Common.{◌≡◌, ℕ, ◌+◌, ◌%◌, ◌^◌, ◌<◌, Bool, true, false, cond, Some, List, [], ◌∷◌, ◌++◌, length, get_or, set, replicate, length-set, length-append, sym, refl, ap, ◌∙◌, subst, inl, inr, arith}
 use Rattle.std.proofs.lemmas.List.{append-nil, get_or-set_same, get_or-set_other, length-replicate}
 use Rattle.std.proofs.lemmas.Bool.{cases_eq}
-use Rattle.smp_core.specs.Size.{cpus, records}
-use Rattle.smp_core.specs.Stands.{holding, posted}
-use Rattle.smp_core.specs.Histories.{Marked, mark, sent_to, calls_from}
-use Rattle.smp_core.specs.Known.{fresh, confirmed_known, sent_known, appended_known, outside_known, standing}
-use Rattle.smp_core.proofs.Lists.{sent_to-push, one_if-same, one_if-other}
-use Rattle.smp_core.proofs.Rows.{length-row}
-use Rattle.smp_core.proofs.Starts.{get_or-same}
-use Rattle.smp_core.specs.declared.call.Call.{Call}
-use Rattle.smp_core.specs.declared.known.Known.{Known}
-use Rattle.smp_core.specs.declared.post.Posting.{Posting}
-use Rattle.smp_core.specs.declared.post.PostStage.TheVariants as post
+use Rattle.smp_words.specs.Size.{cpus, records}
+use Rattle.smp_call_steps.specs.Stands.{holding, posted}
+use Rattle.smp_call_steps.specs.Histories.{Marked, mark, sent_to, calls_from}
+use Rattle.smp_call_steps.specs.Known.{fresh, confirmed_known, sent_known, appended_known, outside_known, standing}
+use Rattle.smp_call_steps.proofs.Lists.{sent_to-push, one_if-same, one_if-other}
+use Rattle.smp_call_steps.proofs.Rows.{length-row}
+use Rattle.smp_words.proofs.Zeros.{get_or-same}
+use Rattle.smp_words.specs.declared.call.Call.{Call}
+use Rattle.smp_call_steps.specs.declared.known.Known.{Known}
+use Rattle.smp_call_steps.specs.declared.post.Posting.{Posting}
+use Rattle.smp_call_steps.specs.declared.post.PostStage.TheVariants as post
 use Rattle.smp_queue.specs.Desk.{IsCounting, uncounted, counted}
 use Rattle.smp_queue.specs.Cpu.{IsKept}
 

@@ -4,18 +4,18 @@ use Rattle.std.proofs.lemmas.Bool.{or_parts, ltb-true}
 use Rattle.std.proofs.lemmas.List.{get_or-set_same}
 use Rattle.atomic_table.specs.Seated.{TableId}
 use Rattle.smp_mask.specs.Mask.{has}
-use Rattle.smp_core.specs.Size.{cpus, records, records_of_one, record_of}
-use Rattle.smp_core.specs.Limits.{AreLimits}
-use Rattle.smp_core.specs.Start.{command_refusal}
-use Rattle.smp_core.specs.Stands.{holding}
-use Rattle.smp_core.specs.Known.{posting_of, standing, appended_known, is_confirmed}
-use Rattle.smp_core.proofs.Sizes.{owner-of_record, record_of-below}
-use Rattle.smp_core.proofs.Starts.{online_below}
-use Rattle.smp_core.specs.declared.call.Class.{Class}
-use Rattle.smp_core.specs.declared.command.Command.TheVariants as command
-use Rattle.smp_core.specs.declared.known.Known.{Known}
-use Rattle.smp_core.specs.declared.post.Posting.{Posting}
-use Rattle.smp_core.specs.declared.post.PostStage.TheVariants as post
+use Rattle.smp_words.specs.Size.{cpus, records, records_of_one, record_of}
+use Rattle.smp_words.specs.Limits.{AreLimits}
+use Rattle.smp_call_steps.specs.Start.{command_refusal}
+use Rattle.smp_call_steps.specs.Stands.{holding}
+use Rattle.smp_call_steps.specs.Known.{posting_of, standing, appended_known, is_confirmed}
+use Rattle.smp_words.proofs.Sizes.{owner-of_record, record_of-below}
+use Rattle.smp_call_steps.proofs.Starts.{online_below}
+use Rattle.smp_words.specs.declared.call.Class.{Class}
+use Rattle.smp_words.specs.declared.command.Command.TheVariants as command
+use Rattle.smp_call_steps.specs.declared.known.Known.{Known}
+use Rattle.smp_call_steps.specs.declared.post.Posting.{Posting}
+use Rattle.smp_call_steps.specs.declared.post.PostStage.TheVariants as post
 use Rattle.smp_mask.specs.declared.error.SmpError.{SmpError}
 use Rattle.smp_queue.specs.Cells.{cells}
 use Rattle.smp_queue.specs.Desk.{Desk, At, IsMine, uncounted, counted}

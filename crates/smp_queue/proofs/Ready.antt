@@ -1,19 +1,19 @@
 -- When a CPU may make the steps of a post, of a send and of a question for a record.
 use Rattle.std.proofs.Common.{◌≡◌, ℕ, ◌<◌, None, sym, refl, ap, ◌∙◌, subst, arith}
 use Rattle.atomic_table.specs.Seated.{TableId}
-use Rattle.smp_core.specs.Size.{cpus}
-use Rattle.smp_core.specs.Access.{word_of}
-use Rattle.smp_core.specs.Stands.{PostGoes}
-use Rattle.smp_core.specs.Known.{IsReady, told_post, known_access, posting_of}
-use Rattle.smp_core.proofs.Links.{IsInTable}
-use Rattle.smp_core.specs.declared.known.Known.{Known}
-use Rattle.smp_core.specs.declared.word.Word.TheVariants.{Flags}
-use Rattle.smp_core.specs.declared.access.Access.{Access}
-use Rattle.smp_core.specs.declared.access.Access.TheVariants.{Load}
-use Rattle.smp_core.specs.declared.post.Posting.{Posting}
-use Rattle.smp_core.specs.declared.post.PostStage.{PostStage}
-use Rattle.smp_core.specs.declared.post.PostStage.TheVariants as post
-use Rattle.smp_core.specs.declared.stage.Stage.TheVariants.{Done, Post}
+use Rattle.smp_words.specs.Size.{cpus}
+use Rattle.smp_words.specs.Access.{word_of}
+use Rattle.smp_call_steps.specs.Stands.{PostGoes}
+use Rattle.smp_call_steps.specs.Known.{IsReady, told_post, known_access, posting_of}
+use Rattle.smp_words.proofs.Links.{IsInTable}
+use Rattle.smp_call_steps.specs.declared.known.Known.{Known}
+use Rattle.smp_words.specs.declared.word.Word.TheVariants.{Flags}
+use Rattle.smp_words.specs.declared.access.Access.{Access}
+use Rattle.smp_words.specs.declared.access.Access.TheVariants.{Load}
+use Rattle.smp_call_steps.specs.declared.post.Posting.{Posting}
+use Rattle.smp_call_steps.specs.declared.post.PostStage.{PostStage}
+use Rattle.smp_call_steps.specs.declared.post.PostStage.TheVariants as post
+use Rattle.smp_call_steps.specs.declared.stage.Stage.TheVariants.{Done, Post}
 use Rattle.smp_queue.specs.Desk.{Desk, Ready, At, IsMine, counted}
 use Rattle.smp_queue.specs.Cells.{HasCell}
 use Rattle.smp_queue.proofs.Cells.{has_cell}

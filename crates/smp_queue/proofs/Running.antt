@@ -4,15 +4,15 @@ use Rattle.std.proofs.lemmas.List.{get_or-set_same, get_or-set_other}
 use Rattle.std.proofs.lemmas.Bool.{cases_eq}
 use Rattle.std.proofs.lemmas.Fn.{FoldsTo-push}
 use Rattle.atomic_table.specs.Seated.{TableId}
-use Rattle.smp_core.specs.Size.{records, owner}
-use Rattle.smp_core.specs.Histories.{calls_from, counted_call}
-use Rattle.smp_core.specs.Known.{ran_tally}
-use Rattle.smp_core.specs.Handling.{begun_async, ended_call, rest_of}
-use Rattle.smp_core.proofs.Sizes.{owner-below}
-use Rattle.smp_core.proofs.Tallies.{count-same, count-other}
-use Rattle.smp_core.specs.declared.call.Call.{Call}
-use Rattle.smp_core.specs.declared.known.Known.{Known}
-use Rattle.smp_core.specs.declared.handle.HandleStage.{HandleStage}
+use Rattle.smp_words.specs.Size.{records, owner}
+use Rattle.smp_call_steps.specs.Histories.{calls_from, counted_call}
+use Rattle.smp_call_steps.specs.Known.{ran_tally}
+use Rattle.smp_call_steps.specs.Handling.{begun_async, ended_call, rest_of}
+use Rattle.smp_words.proofs.Sizes.{owner-below}
+use Rattle.smp_call_steps.proofs.Tallies.{count-same, count-other}
+use Rattle.smp_words.specs.declared.call.Call.{Call}
+use Rattle.smp_call_steps.specs.declared.known.Known.{Known}
+use Rattle.smp_call_steps.specs.declared.handle.HandleStage.{HandleStage}
 use Rattle.smp_queue.specs.Cpu.{cpu_of}
 use Rattle.smp_queue.specs.Desk.{Desk, InHandle}
 use Rattle.smp_queue.specs.Handling.{heard_of, AreRan, runs, HasRun, HasRunAll}

@@ -4,7 +4,7 @@ use Rattle.std.proofs.lemmas.List.{get_or_push, get_or_append_left}
 use Rattle.std.proofs.lemmas.Bool.{cases_eq}
 use Rattle.atomic_table.specs.Seated.{TableId}
 use Rattle.smp_mask.specs.Mask.{has}
-use Rattle.smp_core.specs.Limits.{AreLimits}
+use Rattle.smp_words.specs.Limits.{AreLimits}
 use Rattle.smp_queue.specs.Cells.{cells}
 use Rattle.smp_queue.specs.Cpu.{CpuValue, fresh_cpu, IsFull}
 use Rattle.smp_queue.specs.declared.seated.Seated.{Seated}

@@ -1,6 +1,6 @@
 -- What a CPU knows is its part of calls that keep all laws.
-use Rattle.smp_core.specs.Known.{Lives}
-use Rattle.smp_core.proofs.Counts.{confirmed_calls_ran}
+use Rattle.smp_call_steps.specs.Known.{Lives}
+use Rattle.smp_call_steps.proofs.Counts.{confirmed_calls_ran}
 use Rattle.smp_queue.specs.Cpu.{cpu_of}
 use Rattle.smp_queue.specs.Desk.{Desk}
 use Rattle.smp_queue.specs.Laws.{IsShown}

@@ -1,14 +1,14 @@
 -- What an audit answers, by the words of a table that no thread shares any more.
 use Rattle.std.specs.Prelude.{◌≡◌, ◌≢◌, ℕ, zero, suc, ◌+◌, ◌%◌, ◌^◌, ◌<◌, ◌≤◌, ◌⊎◌, Bool, not, ◌==◌, if◌then◌else◌, List, [], length, slice_index_or}
-use Rattle.smp_core.specs.Size.{cpus, records}
-use Rattle.smp_core.specs.Calls.{CallState}
-use Rattle.smp_core.specs.Histories.{sent_to, calls_from, marked_from, batches_marked, orders}
-use Rattle.smp_core.specs.Known.{known_of, fresh}
-use Rattle.smp_core.specs.Shows.{Shows}
-use Rattle.smp_core.specs.Stages.{ControlValue}
-use Rattle.smp_core.specs.declared.known.Known.{Known}
-use Rattle.smp_core.specs.declared.word.Word.{Word}
-use Rattle.smp_core.specs.declared.word.Word.TheVariants.{Head, Hand, Queued, Ran, Flags}
+use Rattle.smp_words.specs.Size.{cpus, records}
+use Rattle.smp_call_steps.specs.Calls.{CallState}
+use Rattle.smp_call_steps.specs.Histories.{sent_to, calls_from, marked_from, batches_marked, orders}
+use Rattle.smp_call_steps.specs.Known.{known_of, fresh}
+use Rattle.smp_call_steps.specs.Shows.{Shows}
+use Rattle.smp_call_steps.specs.Stages.{ControlValue}
+use Rattle.smp_call_steps.specs.declared.known.Known.{Known}
+use Rattle.smp_words.specs.declared.word.Word.{Word}
+use Rattle.smp_words.specs.declared.word.Word.TheVariants.{Head, Hand, Queued, Ran, Flags}
 use Rattle.smp_queue.specs.Cells.{number_in}
 use Rattle.smp_queue.specs.Cpu.{TableValue, CpuValue, cpu_of, fresh_cpu}
 use Rattle.smp_queue.specs.declared.audit.Left.{Left}

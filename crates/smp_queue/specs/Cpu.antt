@@ -4,15 +4,15 @@ use Rattle.atomic_table.specs.Seated.{TableId}
 use Rattle.smp_mask.specs.Mask.{has}
 use Rattle.smp_mask.specs.declared.error.SmpError.{SmpError}
 use Rattle.smp_mask.specs.declared.error.SmpError.TheVariants as error
-use Rattle.smp_core.specs.Size.{cpus, records, records_of_one, record_of}
-use Rattle.smp_core.specs.declared.known.Sending.{Sending}
-use Rattle.smp_core.specs.Start.{fits_record}
-use Rattle.smp_core.specs.Histories.{sent_to, calls_from}
-use Rattle.smp_core.specs.Known.{row, posting_of}
-use Rattle.smp_core.specs.declared.known.Known.{Known}
-use Rattle.smp_core.specs.declared.call.Call.{Call}
-use Rattle.smp_core.specs.declared.call.Class.{Class}
-use Rattle.smp_core.specs.declared.post.Posting.{Posting}
+use Rattle.smp_words.specs.Size.{cpus, records, records_of_one, record_of}
+use Rattle.smp_call_steps.specs.declared.known.Sending.{Sending}
+use Rattle.smp_call_steps.specs.Start.{fits_record}
+use Rattle.smp_call_steps.specs.Histories.{sent_to, calls_from}
+use Rattle.smp_call_steps.specs.Known.{row, posting_of}
+use Rattle.smp_call_steps.specs.declared.known.Known.{Known}
+use Rattle.smp_words.specs.declared.call.Call.{Call}
+use Rattle.smp_words.specs.declared.call.Class.{Class}
+use Rattle.smp_call_steps.specs.declared.post.Posting.{Posting}
 use Rattle.smp_queue.specs.Desk.{Desk}
 
 -- a table: its name, how many CPUs it has, and those online

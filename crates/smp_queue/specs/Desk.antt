@@ -1,22 +1,22 @@
 -- A CPU at the table: its table and what it knows, and which accesses it may make.
 use Rattle.std.specs.Prelude.{◌≡◌, ℕ, ◌%◌, ◌^◌, ◌<◌, Some, None, length}
 use Rattle.atomic_table.specs.Seated.{TableId}
-use Rattle.smp_core.specs.Access.{word_of}
-use Rattle.smp_core.specs.Size.{cpus, records, owner}
-use Rattle.smp_core.specs.Places.{IsCall}
-use Rattle.smp_core.specs.Histories.{sent_to}
-use Rattle.smp_core.specs.Stands.{posted}
-use Rattle.smp_core.specs.Known.{Aims, known_access, fresh, posting_of, Lives}
-use Rattle.smp_core.specs.declared.known.Known.{Known}
-use Rattle.smp_core.specs.declared.word.Word.{Word}
-use Rattle.smp_core.specs.declared.access.Access.{Access}
-use Rattle.smp_core.specs.declared.access.Access.TheVariants.{Store}
-use Rattle.smp_core.specs.declared.post.Posting.{Posting}
-use Rattle.smp_core.specs.declared.post.PostStage.TheVariants as post
-use Rattle.smp_core.specs.declared.handle.HandleStage.{HandleStage}
-use Rattle.smp_core.specs.declared.handle.HandleStage.TheVariants as handle
-use Rattle.smp_core.specs.declared.stage.Stage.{Stage}
-use Rattle.smp_core.specs.declared.stage.Stage.TheVariants.{Post, Handle}
+use Rattle.smp_words.specs.Access.{word_of}
+use Rattle.smp_words.specs.Size.{cpus, records, owner}
+use Rattle.smp_call_steps.specs.Places.{IsCall}
+use Rattle.smp_call_steps.specs.Histories.{sent_to}
+use Rattle.smp_call_steps.specs.Stands.{posted}
+use Rattle.smp_call_steps.specs.Known.{Aims, known_access, fresh, posting_of, Lives}
+use Rattle.smp_call_steps.specs.declared.known.Known.{Known}
+use Rattle.smp_words.specs.declared.word.Word.{Word}
+use Rattle.smp_words.specs.declared.access.Access.{Access}
+use Rattle.smp_words.specs.declared.access.Access.TheVariants.{Store}
+use Rattle.smp_call_steps.specs.declared.post.Posting.{Posting}
+use Rattle.smp_call_steps.specs.declared.post.PostStage.TheVariants as post
+use Rattle.smp_call_steps.specs.declared.handle.HandleStage.{HandleStage}
+use Rattle.smp_call_steps.specs.declared.handle.HandleStage.TheVariants as handle
+use Rattle.smp_call_steps.specs.declared.stage.Stage.{Stage}
+use Rattle.smp_call_steps.specs.declared.stage.Stage.TheVariants.{Post, Handle}
 use Rattle.smp_queue.specs.Cells.{cells, HasCell}
 use Rattle.smp_queue.specs.declared.seated.Seated.{Seated}
 use Rattle.smp_queue.specs.declared.seated.Seated.TheVariants.{Of}

@@ -2,12 +2,12 @@
 use Rattle.std.specs.Prelude.{◌≡◌, ℕ, ◌%◌, ◌^◌, ◌<◌, Bool, List, [], ◌∷◌, ◌++◌, length, slice_index_or}
 use Rattle.std.specs.List.{FoldsTo}
 use Rattle.atomic_table.specs.Seated.{TableId}
-use Rattle.smp_core.specs.Size.{cpus, owner}
-use Rattle.smp_core.specs.Order.{order}
-use Rattle.smp_core.specs.Histories.{calls_from}
-use Rattle.smp_core.specs.declared.handle.HandleStage.{HandleStage}
-use Rattle.smp_core.specs.declared.call.Call.{Call}
-use Rattle.smp_core.specs.declared.known.Known.{Known}
+use Rattle.smp_words.specs.Size.{cpus, owner}
+use Rattle.smp_call_steps.specs.Order.{order}
+use Rattle.smp_call_steps.specs.Histories.{calls_from}
+use Rattle.smp_call_steps.specs.declared.handle.HandleStage.{HandleStage}
+use Rattle.smp_words.specs.declared.call.Call.{Call}
+use Rattle.smp_call_steps.specs.declared.known.Known.{Known}
 use Rattle.smp_queue.specs.Cpu.{CpuValue, cpu_of}
 use Rattle.smp_queue.specs.Desk.{Desk, InHandle}
 use Rattle.smp_queue.specs.declared.handler.Heard.{Heard}

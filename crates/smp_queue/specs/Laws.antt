@@ -1,11 +1,11 @@
 -- What a CPU's value says of running threads.
 use Rattle.std.specs.Prelude.{◌≡◌, ℕ}
-use Rattle.smp_core.specs.Calls.{CallState}
-use Rattle.smp_core.specs.Counts.{ConfirmedCallsRan}
-use Rattle.smp_core.specs.Known.{known_of}
-use Rattle.smp_core.specs.Shows.{Shows}
-use Rattle.smp_core.specs.Stages.{ControlValue}
-use Rattle.smp_core.specs.declared.word.Word.{Word}
+use Rattle.smp_call_steps.specs.Calls.{CallState}
+use Rattle.smp_call_steps.specs.Counts.{ConfirmedCallsRan}
+use Rattle.smp_call_steps.specs.Known.{known_of}
+use Rattle.smp_call_steps.specs.Shows.{Shows}
+use Rattle.smp_call_steps.specs.Stages.{ControlValue}
+use Rattle.smp_words.specs.declared.word.Word.{Word}
 use Rattle.smp_queue.specs.Cpu.{CpuValue, cpu_of}
 
 -- some words of the table show calls that keep all laws, of which this value is one CPU's part; calls by confirmed records have run

@@ -1,9 +1,9 @@
 -- What each kind of access tells: what the CPU knows after it, which is its part of some calls that some words show.
 use Rattle.std.specs.Prelude.{◌≡◌, ℕ, ◌==◌, if◌then◌else◌, Some, None}
 use Rattle.atomic_table.specs.Table.{Me, Step}
-use Rattle.smp_core.specs.Known.{known_told, known_taking, Moment, Lives}
-use Rattle.smp_core.specs.declared.word.Word.{Word}
-use Rattle.smp_core.specs.declared.seen.Act.TheVariants as act
+use Rattle.smp_call_steps.specs.Known.{known_told, known_taking, Moment, Lives}
+use Rattle.smp_words.specs.declared.word.Word.{Word}
+use Rattle.smp_words.specs.declared.seen.Act.TheVariants as act
 use Rattle.smp_queue.specs.Cells.{cell_of}
 use Rattle.smp_queue.specs.declared.seated.Seated.{Seated}
 use Rattle.smp_queue.specs.declared.seated.Seated.TheVariants.{Of}

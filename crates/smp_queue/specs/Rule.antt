@@ -3,11 +3,11 @@ use Rattle.std.specs.Prelude.{◌≡◌, ℕ, ◌+◌, ◌<◌, ◌≤◌, lengt
 use mathlib.Core.Option.{some}
 use lib.ListN.{get_elem?}
 use Rattle.atomic_table.specs.Table.{State}
-use Rattle.smp_core.specs.Calls.{CallState}
-use Rattle.smp_core.specs.Stages.{ControlValue}
-use Rattle.smp_core.specs.Shows.{Shows}
-use Rattle.smp_core.specs.Known.{known_of, fresh}
-use Rattle.smp_core.specs.declared.known.Known.{Known}
+use Rattle.smp_call_steps.specs.Calls.{CallState}
+use Rattle.smp_call_steps.specs.Stages.{ControlValue}
+use Rattle.smp_call_steps.specs.Shows.{Shows}
+use Rattle.smp_call_steps.specs.Known.{known_of, fresh}
+use Rattle.smp_call_steps.specs.declared.known.Known.{Known}
 use Rattle.smp_queue.specs.Cells.{cells, number_in}
 use Rattle.smp_queue.specs.declared.seated.Seated.{Seated}
 use Rattle.smp_queue.specs.declared.seated.Seated.TheVariants.{Boot, Of}

@@ -1,7 +1,7 @@
 -- What every call table keeps.
 use Rattle.std.specs.Prelude.{◌≡◌, ℕ}
 use Rattle.atomic_table.specs.Seated.{TableId}
-use Rattle.smp_core.specs.Limits.{AreLimits}
+use Rattle.smp_words.specs.Limits.{AreLimits}
 use Rattle.smp_queue.specs.Cells.{cells}
 
 -- it has a cell for each word and no slots, its rule is that of nr CPUs, and its CPUs are such as may be

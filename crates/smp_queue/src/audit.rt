@@ -1,14 +1,14 @@
 //! What is left in a table that is given up, or how many calls were queued and run in it.
 
 ghost use Rattle.std.specs.Prelude.{◌≡◌, ◌<◌};
-ghost use Rattle.smp_core.specs.Size.{cpus};
-ghost use Rattle.smp_core.specs.declared.word.Word.TheVariants.{Queued, Ran};
+ghost use Rattle.smp_words.specs.Size.{cpus};
+ghost use Rattle.smp_words.specs.declared.word.Word.TheVariants.{Queued, Ran};
 ghost use Rattle.smp_queue.specs.Cells.{number_in};
 ghost use Rattle.smp_queue.specs.Audit.{left_in, IsRow, IsTally, AuditAnswers};
 
 use crate::closing::Closing;
-use smp_core::Word;
-use smp_core::size::{NR_CPUS, RECORDS};
+use smp_words::Word;
+use smp_words::size::{NR_CPUS, RECORDS};
 use std::alloc::Allocator;
 
 /// The words of a table that are not as they are when all its calls have run.

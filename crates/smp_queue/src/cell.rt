@@ -21,8 +21,8 @@
 ghost use Rattle.std.specs.Prelude.{◌≡◌, ◌≤◌, ◌-◌, ◌+◌, ◌*◌, Some};
 ghost use Rattle.smp_queue.specs.Cells.{HasCell, cell_of};
 
-use smp_core::Word;
-use smp_core::size::{
+use smp_words::Word;
+use smp_words::size::{
     FLAGS, FUNCS, HANDS, HEADS, INFOS, INTRS, NEXTS, NR_CPUS, QUEUED, RECORDS, WORDS, WORDS_OF_ONE,
 };
 

@@ -1,9 +1,9 @@
 //! A CPU's seat, and the accesses that it makes. Nothing above this page names a seat or a cell.
 
 ghost use Rattle.std.specs.Prelude.{◌≡◌, ◌+◌, ◌<◌, ◌==◌, if◌then◌else◌, Some, None};
-ghost use Rattle.smp_core.specs.Known.{known_told, known_taking, fresh, Moment, Lives};
-ghost use Rattle.smp_core.specs.declared.access.Access.TheVariants as access;
-ghost use Rattle.smp_core.specs.declared.seen.Act.TheVariants as act;
+ghost use Rattle.smp_call_steps.specs.Known.{known_told, known_taking, fresh, Moment, Lives};
+ghost use Rattle.smp_words.specs.declared.access.Access.TheVariants as access;
+ghost use Rattle.smp_words.specs.declared.seen.Act.TheVariants as act;
 ghost use Rattle.smp_queue.specs.declared.seated.Seated.TheVariants.{Boot, Of};
 ghost use Rattle.smp_queue.specs.Cells.{cells};
 ghost use Rattle.smp_queue.specs.Desk.{Desk, Ready};
@@ -13,7 +13,7 @@ use crate::cell::cell;
 use crate::rule::{Place, Seats, Words};
 use crate::seated::Seated;
 use atomic_table::Play;
-use smp_core::Word;
+use smp_words::Word;
 use std::marker::Model;
 
 /// The seat of one CPU, seen as its table and what the CPU knows.

@@ -8,7 +8,7 @@ use crate::cell::cell;
 use crate::chair::{Chair, leave};
 use crate::rule::Owner;
 use atomic_table::Closed;
-use smp_core::Word;
+use smp_words::Word;
 use std::alloc::Allocator;
 use std::marker::Model;
 

@@ -1,12 +1,12 @@
 //! One CPU at the table.
 
 ghost use Rattle.std.specs.Prelude.{◌≡◌, ◌<◌, length};
-ghost use Rattle.smp_core.specs.Size.{cpus, records};
-ghost use Rattle.smp_core.specs.Known.{fresh};
+ghost use Rattle.smp_words.specs.Size.{cpus, records};
+ghost use Rattle.smp_call_steps.specs.Known.{fresh};
 ghost use Rattle.smp_queue.specs.Cpu.{cpu_of};
 
 use crate::chair::Chair;
-use smp_core::size::NR_CPUS;
+use smp_words::size::NR_CPUS;
 use std::marker::Model;
 
 /// One CPU between two calls, seen as its table, its number and its own part of the calls: what it has sent and

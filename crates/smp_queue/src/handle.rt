@@ -5,14 +5,14 @@
 //! an interrupt word that may be set again.
 
 ghost use Rattle.std.specs.Prelude.{◌≡◌, ◌<◌, true, false, None, List, if◌then◌else◌, length};
-ghost use Rattle.smp_core.specs.Size.{cpus};
-ghost use Rattle.smp_core.specs.Order.{order};
-ghost use Rattle.smp_core.specs.Drains.{reverse_on};
-ghost use Rattle.smp_core.specs.Known.{outside_known, Lives};
-ghost use Rattle.smp_core.specs.Handling.{handling, accepted_known, taken_known, IsLeaving};
-ghost use Rattle.smp_core.specs.declared.call.Call.{Call};
-ghost use Rattle.smp_core.specs.declared.handle.HandleStage.{HandleStage};
-ghost use Rattle.smp_core.specs.declared.handle.HandleStage.TheVariants as handle;
+ghost use Rattle.smp_words.specs.Size.{cpus};
+ghost use Rattle.smp_call_steps.specs.Order.{order};
+ghost use Rattle.smp_call_steps.specs.Drains.{reverse_on};
+ghost use Rattle.smp_call_steps.specs.Known.{outside_known, Lives};
+ghost use Rattle.smp_call_steps.specs.Handling.{handling, accepted_known, taken_known, IsLeaving};
+ghost use Rattle.smp_words.specs.declared.call.Call.{Call};
+ghost use Rattle.smp_call_steps.specs.declared.handle.HandleStage.{HandleStage};
+ghost use Rattle.smp_call_steps.specs.declared.handle.HandleStage.TheVariants as handle;
 ghost use Rattle.smp_queue.specs.Desk.{InHandle, IsOutside};
 ghost use Rattle.smp_queue.specs.Cpu.{cpu_of};
 ghost use Rattle.smp_queue.specs.Handling.{AreRan, Grows, asks, drains};
@@ -22,8 +22,8 @@ use crate::handler::Handler;
 use crate::reverse::reverse;
 use crate::rule::Words;
 use crate::run::{run_async_calls, run_sync_calls};
-use smp_core::Word;
-use smp_core::drain::record_of;
+use smp_call_steps::drain::record_of;
+use smp_words::Word;
 
 /// What `handle` has done.
 #[derive(Clone, Copy, Debug, PartialEq, Eq)]

@@ -3,12 +3,12 @@
 //! no SYNC record unlocked, before its function has run. No other page can make these steps.
 
 ghost use Rattle.std.specs.Prelude.{◌≡◌, ◌+◌, ◌%◌, ◌^◌, Some, None};
-ghost use Rattle.smp_core.specs.Size.{owner};
-ghost use Rattle.smp_core.specs.Drains.{first_on, second_on};
-ghost use Rattle.smp_core.specs.Known.{Lives, known_told, ran_tally};
-ghost use Rattle.smp_core.specs.Handling.{begun_sync, counted_sync, begun_async, ended_call};
-ghost use Rattle.smp_core.specs.declared.seen.Act.TheVariants as act;
-ghost use Rattle.smp_core.specs.declared.handle.HandleStage.TheVariants as handle;
+ghost use Rattle.smp_words.specs.Size.{owner};
+ghost use Rattle.smp_call_steps.specs.Drains.{first_on, second_on};
+ghost use Rattle.smp_call_steps.specs.Known.{Lives, known_told, ran_tally};
+ghost use Rattle.smp_call_steps.specs.Handling.{begun_sync, counted_sync, begun_async, ended_call};
+ghost use Rattle.smp_words.specs.declared.seen.Act.TheVariants as act;
+ghost use Rattle.smp_call_steps.specs.declared.handle.HandleStage.TheVariants as handle;
 ghost use Rattle.smp_queue.specs.Desk.{InHandle, IsStepOfCall};
 ghost use Rattle.smp_queue.specs.Plays.{stored};
 ghost use Rattle.smp_queue.specs.Handling.{heard_of};
@@ -19,9 +19,9 @@ use crate::handler::Handler;
 use crate::rule::Words;
 use crate::seated::Seated;
 use atomic_table::Play;
-use smp_core::handle::Walk;
-use smp_core::size::owner_of;
-use smp_core::{Call, Word};
+use smp_call_steps::handle::Walk;
+use smp_words::size::owner_of;
+use smp_words::{Call, Word};
 use std::snapshot::Snapshot;
 
 struct Told;

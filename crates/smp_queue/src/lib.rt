@@ -1,6 +1,6 @@
 //! The call table: words that the CPUs' threads change in single steps.
 //!
-//! The machine is that of `smp_core`: the same stages, the same steps, the same laws, between any two steps of
+//! The machine is that of `smp_call_steps`: the same stages, the same steps, the same laws, between any two steps of
 //! any threads. Each CPU is driven through one value, `CallCpu`.
 //!
 //! | Call | By | May run together with | Ordered by |

@@ -4,18 +4,18 @@
 //! queue finds every record in it complete.
 
 ghost use Rattle.std.specs.Prelude.{◌≡◌, ◌≢◌, ◌+◌, ◌*◌, ◌<◌, ◌%◌, ◌^◌, ◌==◌, true, length, if◌then◌else◌, IfSome, IfNone, Some, None};
-ghost use Rattle.smp_core.specs.Size.{records};
-ghost use Rattle.smp_core.specs.Stands.{holding};
-ghost use Rattle.smp_core.specs.Known.{confirmed_known, appended_known, outside_known, is_confirmed, standing, Lives};
-ghost use Rattle.smp_core.specs.declared.post.PostStage.TheVariants as post;
-ghost use Rattle.smp_core.specs.declared.stage.Stage.TheVariants.{Post};
+ghost use Rattle.smp_words.specs.Size.{records};
+ghost use Rattle.smp_call_steps.specs.Stands.{holding};
+ghost use Rattle.smp_call_steps.specs.Known.{confirmed_known, appended_known, outside_known, is_confirmed, standing, Lives};
+ghost use Rattle.smp_call_steps.specs.declared.post.PostStage.TheVariants as post;
+ghost use Rattle.smp_call_steps.specs.declared.stage.Stage.TheVariants.{Post};
 ghost use Rattle.smp_queue.specs.Desk.{At, IsMine, IsCounting, IsTallied, uncounted, counted};
 
 use crate::chair::{Chair, exchange, load, store};
 use crate::rule::Words;
 use crossbeam_utils::Backoff;
-use smp_core::Word;
-use smp_core::post::Posting;
+use smp_call_steps::post::Posting;
+use smp_words::Word;
 use std::sync::Wait;
 
 /// Whether the record is locked. It makes one step; a record that is not locked is confirmed.

@@ -2,17 +2,17 @@
 //! (`lib/llist.c: llist_reverse_order`).
 
 ghost use Rattle.std.specs.Prelude.{◌≡◌, ◌+◌, ◌<◌, Some, None};
-ghost use Rattle.smp_core.specs.Drains.{first_on, reverse_on};
-ghost use Rattle.smp_core.specs.declared.size.TheConstants.{MOST_CALLS};
-ghost use Rattle.smp_core.specs.declared.handle.HandleStage.TheVariants as handle;
-ghost use Rattle.smp_core.specs.declared.stage.Stage.TheVariants.{Handle};
+ghost use Rattle.smp_call_steps.specs.Drains.{first_on, reverse_on};
+ghost use Rattle.smp_words.specs.declared.size.TheConstants.{MOST_CALLS};
+ghost use Rattle.smp_call_steps.specs.declared.handle.HandleStage.TheVariants as handle;
+ghost use Rattle.smp_call_steps.specs.declared.stage.Stage.TheVariants.{Handle};
 ghost use Rattle.smp_queue.specs.Desk.{InHandle};
 
 use crate::chair::{Chair, load, store};
 use crate::rule::Words;
-use smp_core::Word;
-use smp_core::drain::record_of;
-use smp_core::handle::link_of;
+use smp_call_steps::drain::record_of;
+use smp_call_steps::handle::link_of;
+use smp_words::Word;
 
 /// Links a record to the one after it, and answers the one before.
 fn reverse_one(words: &Words, chair: &mut Chair, newer: Option<u32>, id: u32) -> Option<u32>

@@ -2,8 +2,8 @@
 //! then ASYNC calls, each unlocked first (`kernel/smp.c: __flush_smp_call_function_queue`).
 
 ghost use Rattle.std.specs.Prelude.{◌≡◌, ◌+◌, ◌%◌, ◌^◌, ◌<◌, Some, None, length, slice_index_or, slice_set};
-ghost use Rattle.smp_core.specs.Drains.{first_on, second_on};
-ghost use Rattle.smp_core.specs.declared.handle.HandleStage.TheVariants as handle;
+ghost use Rattle.smp_call_steps.specs.Drains.{first_on, second_on};
+ghost use Rattle.smp_call_steps.specs.declared.handle.HandleStage.TheVariants as handle;
 ghost use Rattle.smp_queue.specs.Desk.{InHandle};
 ghost use Rattle.smp_queue.specs.Handling.{AreRan, HasRun, HasRunAll};
 
@@ -11,11 +11,11 @@ use crate::chair::{Chair, load, store};
 use crate::handler::Handler;
 use crate::laws;
 use crate::rule::Words;
-use smp_core::call::Class;
-use smp_core::drain::record_of;
-use smp_core::handle::{Walk, link_of};
-use smp_core::size::owner_of;
-use smp_core::{Call, Word};
+use smp_call_steps::drain::record_of;
+use smp_call_steps::handle::{Walk, link_of};
+use smp_words::call::Class;
+use smp_words::size::owner_of;
+use smp_words::{Call, Word};
 
 /// One call more from this source: how many there are.
 fn count(counts: &mut [u64], source: u32) -> u64

@@ -1,6 +1,6 @@
 //! What a seat at the table knows.
 
-use smp_core::known::Known;
+use smp_call_steps::known::Known;
 
 /// What a seat knows: the first seat how many CPUs have one, each other its CPU's part of the calls.
 pub enum Seated {

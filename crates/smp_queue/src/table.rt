@@ -16,12 +16,12 @@
 
 ghost use Rattle.std.specs.Prelude.{◌≡◌, ◌≢◌, ◌⊎◌, ◌↔◌, ◌<◌, ◌≤◌, ◌%◌, ◌^◌, true, false, length, if◌then◌else◌, IfOk, IfErr, OnOk, IsErrOf, Ok, List};
 ghost use Rattle.smp_mask.specs.Mask.{has};
-ghost use Rattle.smp_core.specs.Start.{has_record as has_record_in};
-ghost use Rattle.smp_core.specs.Limits.{AreLimits};
-ghost use Rattle.smp_core.specs.Histories.{sent_to, calls_from};
+ghost use Rattle.smp_call_steps.specs.Start.{has_record as has_record_in};
+ghost use Rattle.smp_words.specs.Limits.{AreLimits};
+ghost use Rattle.smp_call_steps.specs.Histories.{sent_to, calls_from};
 ghost use Rattle.smp_queue.specs.declared.seated.Seated.TheVariants.{Boot as BootSeat};
-ghost use Rattle.smp_core.specs.Order.{order};
-ghost use Rattle.smp_core.specs.declared.call.Call.{Call};
+ghost use Rattle.smp_call_steps.specs.Order.{order};
+ghost use Rattle.smp_words.specs.declared.call.Call.{Call};
 ghost use Rattle.smp_queue.specs.Cells.{cells};
 ghost use Rattle.smp_queue.specs.Handling.{Grows, asks, drains};
 ghost use Rattle.smp_queue.specs.Laws.{IsShown};
@@ -39,14 +39,14 @@ use crate::handler::Handler;
 use crate::post::{append, append_at_last, is_locked, write_record};
 use crate::rule::{Owner, Place};
 use atomic_table::Table;
-use smp_core::Word;
-use smp_core::call::Class;
-use smp_core::command::Command;
-use smp_core::limits::are_limits;
-use smp_core::post::Posting;
-use smp_core::size::record_of;
-use smp_core::start::has_record;
+use smp_call_steps::post::Posting;
+use smp_call_steps::start::{has_record, refusal};
 use smp_mask::{CpuMask, SmpError};
+use smp_words::Word;
+use smp_words::call::Class;
+use smp_words::command::Command;
+use smp_words::limits::are_limits;
+use smp_words::size::record_of;
 use std::alloc::{AllocError, Allocator};
 use std::marker::Model;
 use std::sync::Wait;
@@ -202,7 +202,7 @@ impl<A: Allocator> CallTable<A> {
         ensures { BeginAnswers self.now me.old me.new k to class func info tries result }
     {
         let command = Command::Post(k, to, class, func, info, tries);
-        if let Some(error) = command.refusal(self.nr, self.online, me.number) {
+        if let Some(error) = refusal(&command, self.nr, self.online, me.number) {
             return Err(error);
         }
         let id = record_of(me.number, k);

@@ -15,7 +15,7 @@ use Rattle.smp_runner.specs.Script.{Script, are_online, script_of}
 use Rattle.smp_runner.specs.Spelling.{IsLawful, IsMaskText, LineHasSets, SpellLine, canonical_lines, canonical_text, lacks, line_masks, mask_text}
 use Rattle.smp_runner.specs.declared.directive.Directive.{Directive}
 use Rattle.smp_runner.specs.declared.directive.Directive.TheVariants.{Start, Step, Show}
-use Rattle.smp_core.specs.declared.command.Command.TheVariants.{Post, Send, Done, Handle, Gate, Ungate, Begin, Enter, Advance, RunOne, Finish, Poll, Key, Site, Nudge}
+use Rattle.smp_words.specs.declared.command.Command.TheVariants.{Post, Send, Done, Handle, Gate, Ungate, Begin, Enter, Advance, RunOne, Finish, Poll, Key, Site, Nudge}
 use Rattle.std.specs.List.{AllByRecursion}
 use Rattle.smp_runner.proofs.Writing.{spelling_is_read}
 use Rattle.std.proofs.Math.Nat.{pow-le-pow_right}

@@ -7,12 +7,12 @@ use Rattle.std.proofs.lemmas.Bool.Decides.{nat_tests}
 use Rattle.std.specs.List.{list_all}
 use Rattle.smp_mask.specs.declared.error.Cause.{Cause}
 use Rattle.smp_mask.specs.declared.error.Cause.TheVariants.{Word}
-use Rattle.smp_core.specs.declared.call.Class.{Class}
-use Rattle.smp_core.specs.declared.call.Class.TheVariants.{Sync, Async}
-use Rattle.smp_core.specs.declared.stop.work.Kind.{Kind}
-use Rattle.smp_core.specs.declared.stop.work.Kind.TheVariants.{One as OneKind, Multi, Patch}
-use Rattle.smp_core.specs.declared.command.Command.{Command}
-use Rattle.smp_core.specs.declared.command.Command.TheVariants.{Send, Done, Handle, Gate, Ungate, Enter, Advance, RunOne, Finish, Poll, Key, Site, Nudge}
+use Rattle.smp_words.specs.declared.call.Class.{Class}
+use Rattle.smp_words.specs.declared.call.Class.TheVariants.{Sync, Async}
+use Rattle.smp_words.specs.declared.work.Kind.{Kind}
+use Rattle.smp_words.specs.declared.work.Kind.TheVariants.{One as OneKind, Multi, Patch}
+use Rattle.smp_words.specs.declared.command.Command.{Command}
+use Rattle.smp_words.specs.declared.command.Command.TheVariants.{Send, Done, Handle, Gate, Ungate, Enter, Advance, RunOne, Finish, Poll, Key, Site, Nudge}
 use Rattle.smp_runner.specs.declared.directive.Directive.{Directive}
 use Rattle.smp_runner.specs.declared.directive.Directive.TheVariants.{Start, Show}
 use Rattle.smp_runner.specs.Fields.{class_of, kind_of, mask_of, way_of, word32}

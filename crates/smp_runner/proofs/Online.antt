@@ -4,7 +4,7 @@ use Rattle.smp_mask.specs.Mask.{members}
 use Rattle.smp_mask.specs.declared.mask.TheConstants.{NR_CPUS}
 use Rattle.smp_mask.proofs.Members.{item_member}
 use Rattle.smp_mask.proofs.Sets.{member_below as is_cpu}
-use Rattle.smp_core.specs.Limits.{AreLimits}
+use Rattle.smp_words.specs.Limits.{AreLimits}
 use Rattle.smp_runner.specs.Fields.{stays_below}
 use Rattle.smp_runner.proofs.Widths.{member_below}
 

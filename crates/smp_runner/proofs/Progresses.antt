@@ -6,9 +6,9 @@ use Rattle.std.proofs.lemmas.List.Sums.{sum_by-append}
 use Rattle.smp_mask.specs.declared.error.SmpError.{SmpError}
 use Rattle.smp_core.specs.Value.{CoreValue}
 use Rattle.smp_core.specs.Replay.{turn_of}
-use Rattle.smp_core.specs.declared.seen.Seen.{Seen}
-use Rattle.smp_core.specs.declared.command.Event.{Event}
-use Rattle.smp_core.specs.declared.command.Event.TheVariants as event
+use Rattle.smp_words.specs.declared.seen.Seen.{Seen}
+use Rattle.smp_words.specs.declared.command.Event.{Event}
+use Rattle.smp_words.specs.declared.command.Event.TheVariants as event
 use Rattle.smp_runner.specs.declared.directive.Directive.{Directive}
 use Rattle.smp_runner.specs.declared.directive.Directive.TheVariants.{Start, Step, Show}
 use Rattle.smp_runner.specs.Script.{events_of}

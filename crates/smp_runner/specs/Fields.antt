@@ -8,10 +8,10 @@ use Rattle.smp_mask.specs.declared.error.SmpError.{SmpError}
 use Rattle.smp_mask.specs.declared.mask.TheConstants.{NR_CPUS}
 use Rattle.smp_mask.specs.Mask.{members}
 use Rattle.smp_mask.specs.Reading.{mask_of_text}
-use Rattle.smp_core.specs.declared.call.Class.{Class}
-use Rattle.smp_core.specs.declared.call.Class.TheVariants.{Sync, Async}
-use Rattle.smp_core.specs.declared.stop.work.Kind.{Kind}
-use Rattle.smp_core.specs.declared.stop.work.Kind.TheVariants.{One, Multi, Patch}
+use Rattle.smp_words.specs.declared.call.Class.{Class}
+use Rattle.smp_words.specs.declared.call.Class.TheVariants.{Sync, Async}
+use Rattle.smp_words.specs.declared.work.Kind.{Kind}
+use Rattle.smp_words.specs.declared.work.Kind.TheVariants.{One, Multi, Patch}
 use Rattle.smp_runner.specs.Numbers.{number_in}
 
 -- the numbers of 16, 32 and 64 bits

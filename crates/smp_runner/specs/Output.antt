@@ -3,11 +3,11 @@ use Rattle.std.specs.Prelude.{ℕ, zero, suc, ◌+◌, Bool, true, false, if◌t
 use Rattle.smp_mask.specs.declared.error.SmpError.{SmpError}
 use Rattle.smp_core.specs.Value.{CoreValue}
 use Rattle.smp_labels.specs.Labels.{Labels}
-use Rattle.smp_core.specs.Limits.{new_core, no_labels}
+use Rattle.smp_core.specs.New.{new_core, no_labels}
 use Rattle.smp_core.specs.Replay.{turn_of}
-use Rattle.smp_core.specs.declared.seen.Seen.{Seen}
-use Rattle.smp_core.specs.declared.command.Event.{Event}
-use Rattle.smp_core.specs.declared.command.Event.TheVariants as event
+use Rattle.smp_words.specs.declared.seen.Seen.{Seen}
+use Rattle.smp_words.specs.declared.command.Event.{Event}
+use Rattle.smp_words.specs.declared.command.Event.TheVariants as event
 use Rattle.smp_runner.specs.declared.directive.Directive.{Directive}
 use Rattle.smp_runner.specs.declared.directive.Directive.TheVariants.{Start, Step, Show}
 use Rattle.smp_runner.specs.Text.{seen_text, stopped_text}

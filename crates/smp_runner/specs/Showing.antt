@@ -3,11 +3,11 @@ use Rattle.std.specs.Prelude.{ℕ, zero, suc, ◌%◌, Bool, false, ◌==◌, if
 use Rattle.std.specs.Fmt.{decimal}
 use Rattle.std.specs.List.{flat_map}
 use Rattle.smp_mask.specs.Mask.{members}
-use Rattle.smp_core.specs.Size.{cpus, records}
+use Rattle.smp_words.specs.Size.{cpus, records}
 use Rattle.smp_core.specs.Value.{CoreValue, word_in}
 use Rattle.smp_core.specs.Queues.{queue_in}
-use Rattle.smp_core.specs.declared.word.Word.TheVariants.{Flags, Slot}
-use Rattle.smp_core.specs.declared.stop.field.Field.TheVariants.{State}
+use Rattle.smp_words.specs.declared.word.Word.TheVariants.{Flags, Slot}
+use Rattle.smp_words.specs.declared.field.Field.TheVariants.{State}
 use Rattle.smp_runner.specs.Text.{list_text}
 
 -- the line of a queue: its CPU and its records, oldest first

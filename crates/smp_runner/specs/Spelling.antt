@@ -3,12 +3,12 @@ use Rattle.std.specs.Prelude.{◌≡◌, ℕ, ℤ, pos, negsuc, ◌+◌, ◌<◌
 use Rattle.std.specs.Fmt.{decimal, signed_decimal}
 use Rattle.std.specs.List.{AllByRecursion, join_with_byte, list_all}
 use Rattle.smp_mask.specs.ListText.{list_text}
-use Rattle.smp_core.specs.declared.call.Class.{Class}
-use Rattle.smp_core.specs.declared.call.Class.TheVariants.{Sync, Async}
-use Rattle.smp_core.specs.declared.command.Command.{Command}
-use Rattle.smp_core.specs.declared.command.Command.TheVariants.{Post, Send, Done, Handle, Gate, Ungate, Begin, Enter, Advance, RunOne, Finish, Poll, Key, Site, Nudge}
-use Rattle.smp_core.specs.declared.stop.work.Kind.{Kind}
-use Rattle.smp_core.specs.declared.stop.work.Kind.TheVariants.{One, Multi, Patch}
+use Rattle.smp_words.specs.declared.call.Class.{Class}
+use Rattle.smp_words.specs.declared.call.Class.TheVariants.{Sync, Async}
+use Rattle.smp_words.specs.declared.command.Command.{Command}
+use Rattle.smp_words.specs.declared.command.Command.TheVariants.{Post, Send, Done, Handle, Gate, Ungate, Begin, Enter, Advance, RunOne, Finish, Poll, Key, Site, Nudge}
+use Rattle.smp_words.specs.declared.work.Kind.{Kind}
+use Rattle.smp_words.specs.declared.work.Kind.TheVariants.{One, Multi, Patch}
 use Rattle.smp_labels.specs.Labels.{AreLabels, Labels}
 use Rattle.smp_labels.specs.declared.entries.Entry.{Entry}
 use Rattle.smp_runner.specs.declared.directive.Directive.{Directive}

@@ -4,15 +4,15 @@ use Rattle.std.specs.Fmt.{decimal, signed_decimal}
 use Rattle.std.specs.List.{flat_map}
 use Rattle.smp_mask.specs.declared.error.SmpError.{SmpError}
 use Rattle.smp_mask.specs.declared.error.SmpError.TheVariants as errors
-use Rattle.smp_core.specs.declared.stop.field.Field.{Field}
-use Rattle.smp_core.specs.declared.stop.field.Field.TheVariants as fields
-use Rattle.smp_core.specs.declared.word.Word.{Word}
-use Rattle.smp_core.specs.declared.word.Word.TheVariants as words
-use Rattle.smp_core.specs.declared.seen.Act.{Act}
-use Rattle.smp_core.specs.declared.seen.Act.TheVariants as acts
-use Rattle.smp_core.specs.declared.seen.Note.{Note}
-use Rattle.smp_core.specs.declared.seen.Note.TheVariants as notes
-use Rattle.smp_core.specs.declared.seen.Seen.{Seen}
+use Rattle.smp_words.specs.declared.field.Field.{Field}
+use Rattle.smp_words.specs.declared.field.Field.TheVariants as fields
+use Rattle.smp_words.specs.declared.word.Word.{Word}
+use Rattle.smp_words.specs.declared.word.Word.TheVariants as words
+use Rattle.smp_words.specs.declared.seen.Act.{Act}
+use Rattle.smp_words.specs.declared.seen.Act.TheVariants as acts
+use Rattle.smp_words.specs.declared.seen.Note.{Note}
+use Rattle.smp_words.specs.declared.seen.Note.TheVariants as notes
+use Rattle.smp_words.specs.declared.seen.Seen.{Seen}
 
 -- a name with one number, and with two
 abbrev pub named : List ℕ → ℕ → List ℕ

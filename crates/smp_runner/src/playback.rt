@@ -1,7 +1,8 @@
 //! Runs what a script asks for, and keeps what it prints.
 
 ghost use Rattle.std.specs.Prelude.{◌≡◌, ◌+◌, ◌++◌, ◌<◌, ◌≤◌, ◌^◌, false, IfOk, IfErr, OnOk, sum_by, string_bytes};
-ghost use Rattle.smp_core.specs.Limits.{AreLimits, new_core};
+ghost use Rattle.smp_words.specs.Limits.{AreLimits};
+ghost use Rattle.smp_core.specs.New.{new_core};
 ghost use Rattle.smp_runner.specs.Script.{events_of};
 ghost use Rattle.smp_runner.specs.MeaningOf.{meaning_of};
 ghost use Rattle.smp_runner.specs.Output.{directive_after, event_after, event_text, labels_or_none, replay_after, replay_of, show_after, steps_after};

@@ -3,13 +3,13 @@
 ghost use Rattle.std.specs.Prelude.{◌≡◌, ◌++◌, OnOk, string_bytes};
 ghost use Rattle.std.specs.List.{flat_map};
 ghost use Rattle.smp_mask.specs.Mask.{members};
-ghost use Rattle.smp_core.specs.Size.{cpus, records};
+ghost use Rattle.smp_words.specs.Size.{cpus, records};
 ghost use Rattle.smp_runner.specs.Text.{list_text};
 ghost use Rattle.smp_runner.specs.Showing.{if_locked, is_locked, locked_below, phase_text, phases_below, queue_text, show_text};
 
 use crate::text::write_list;
-use smp_core::size::{NR_CPUS, RECORDS};
 use smp_core::{Core, Field, Word};
+use smp_words::size::{NR_CPUS, RECORDS};
 use std::alloc::{AllocError, Allocator};
 
 // The line of a queue: its CPU and its records, oldest first.

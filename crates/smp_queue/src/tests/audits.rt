@@ -5,9 +5,9 @@ ghost use Rattle.smp_mask.specs.Mask.{has};
 ghost use Rattle.smp_queue.specs.Cpu.{left_at};
 
 use crate::{Audit, Boot, CallCpu, CallTable, Left, Tally};
-use smp_core::call::Class;
-use smp_core::size::NR_CPUS;
 use smp_mask::SmpError;
+use smp_words::call::Class;
+use smp_words::size::NR_CPUS;
 use std::alloc::Global;
 use std::test::*;
 

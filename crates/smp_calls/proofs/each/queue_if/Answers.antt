@@ -1,5 +1,5 @@
 use Rattle.std.proofs.Common.{◌≡◌, ℕ, [], true, false, refl, ◌∙◌, sym, subst, rules}
-use Rattle.smp_core.specs.Start.{has_record}
+use Rattle.smp_call_steps.specs.Start.{has_record}
 use Rattle.smp_queue.specs.Cpu.{misused}
 use Rattle.smp_calls.specs.Records.{many_call}
 use Rattle.smp_calls.proofs.Lawful.{has_online, lawful_online}

@@ -1,5 +1,5 @@
 use Rattle.std.proofs.Common.{◌≡◌, ℕ, true, [], ◌++◌, ◌∷◌, List, ◌∙◌, sym, subst, rules}
-use Rattle.smp_core.specs.Start.{has_record}
+use Rattle.smp_call_steps.specs.Start.{has_record}
 use Rattle.smp_calls.specs.Rounds.{WaitsFor}
 use Rattle.smp_calls.proofs.Lawful.{has_online}
 use Rattle.smp_calls.proofs.Steps.{sized_moved}

@@ -1,7 +1,7 @@
 use Rattle.std.proofs.Common.{◌≡◌, ◌<◌, ℕ, List, true, None, sym, subst, ◌∙◌, rules}
 use Rattle.smp_mask.specs.Mask.{has, members}
 use Rattle.smp_mask.specs.declared.mask.TheConstants.{NR_CPUS}
-use Rattle.smp_core.specs.declared.call.Class.{Class}
+use Rattle.smp_words.specs.declared.call.Class.{Class}
 use Rattle.smp_calls.specs.Families.{CallsMany}
 use Rattle.smp_calls.proofs.Parts.{target_online, all_called, calls_waited_for}
 use Rattle.smp_calls.proofs.many.call_many.Goals as goal

@@ -1,6 +1,6 @@
 use Rattle.std.proofs.Common.{◌≡◌, ℕ, Bool, List, Option, true, false, cond, Some, None, sym, subst, ◌∙◌}
 use Rattle.smp_mask.specs.Mask.{has, members}
-use Rattle.smp_core.specs.declared.call.Class.{Class}
+use Rattle.smp_words.specs.declared.call.Class.{Class}
 use Rattle.smp_queue.specs.Handling.{heard}
 use Rattle.smp_queue.specs.declared.handler.Heard.{Heard}
 use Rattle.smp_calls.specs.Families.{CallsMany}

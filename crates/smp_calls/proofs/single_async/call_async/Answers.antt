@@ -1,6 +1,6 @@
 use Rattle.std.proofs.Common.{◌<◌, ◌==◌, ◌||◌, ℕ, true, false, rules, subst, ap, ◌∙◌}
-use Rattle.smp_core.specs.Size.{records_of_one}
-use Rattle.smp_core.specs.declared.call.Class.TheVariants.{Async}
+use Rattle.smp_words.specs.Size.{records_of_one}
+use Rattle.smp_words.specs.declared.call.Class.TheVariants.{Async}
 use Rattle.smp_queue.specs.Cpu.{CpuValue, confirmed_at}
 use Rattle.smp_queue.specs.Handling.{heard}
 use Rattle.smp_calls.specs.Families.{IsSized, CallsBy}

@@ -1,5 +1,5 @@
 use Rattle.std.proofs.Common.{ap, ◌∙◌}
-use Rattle.smp_core.specs.Drains.{DrainValue}
+use Rattle.smp_call_steps.specs.Drains.{DrainValue}
 use Rattle.smp_queue.proofs.Entering.{has_handled}
 use Rattle.smp_queue.proofs.handle.handle.Goals as goal
 

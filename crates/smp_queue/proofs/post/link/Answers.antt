@@ -1,10 +1,10 @@
 use Rattle.std.proofs.Common.{◌==◌, ◌+◌, sym, refl, ap, ◌∙◌, eq-eqb, ne_eqb, Some, true}
-use Rattle.smp_core.specs.Stands.{holding}
-use Rattle.smp_core.specs.Known.{appended_known}
-use Rattle.smp_core.proofs.Posted.{stands_as, next_known, won_known, lost_known}
+use Rattle.smp_call_steps.specs.Stands.{holding}
+use Rattle.smp_call_steps.specs.Known.{appended_known}
+use Rattle.smp_call_steps.proofs.Posted.{stands_as, next_known, won_known, lost_known}
 use Rattle.smp_queue.specs.Desk.{counted}
 use Rattle.smp_queue.proofs.Ready.{ready_post, mine_moved}
-use Rattle.smp_core.specs.declared.post.PostStage.TheVariants as post
+use Rattle.smp_call_steps.specs.declared.post.PostStage.TheVariants as post
 use Rattle.smp_queue.proofs.post.link.Goals as goal
 
 pub store-requires : goal.store-requires

@@ -1,5 +1,5 @@
 use Rattle.std.proofs.Common.{◌-◌}
-use Rattle.smp_core.specs.declared.size.TheConstants.{MOST_CALLS}
+use Rattle.smp_words.specs.declared.size.TheConstants.{MOST_CALLS}
 use Rattle.smp_queue.proofs.Going.{Reversing}
 use Rattle.smp_queue.proofs.reverse.reverse.Given as goal
 

@@ -1,13 +1,13 @@
 use Rattle.std.proofs.Common.{ℕ, ◌+◌, ◌<◌, Option, Some, refl, ap, ◌∙◌, sym, subst}
-use Rattle.smp_core.specs.Drains.{record_at, reverse_on}
-use Rattle.smp_core.specs.Handling.{goes_known}
-use Rattle.smp_core.specs.declared.size.TheConstants.{MOST_CALLS}
-use Rattle.smp_core.proofs.Handling.{lives_fits, next_stored_is}
-use Rattle.smp_core.specs.declared.access.Access.TheVariants as access
-use Rattle.smp_core.specs.declared.known.Known.{Known}
-use Rattle.smp_core.specs.declared.word.Word.TheVariants as word
-use Rattle.smp_core.specs.declared.handle.HandleStage.TheVariants as handle
-use Rattle.smp_core.specs.declared.stage.Stage.TheVariants.{Handle}
+use Rattle.smp_call_steps.specs.Drains.{record_at, reverse_on}
+use Rattle.smp_call_steps.specs.Handling.{goes_known}
+use Rattle.smp_words.specs.declared.size.TheConstants.{MOST_CALLS}
+use Rattle.smp_call_steps.proofs.Handling.{lives_fits, next_stored_is}
+use Rattle.smp_words.specs.declared.access.Access.TheVariants as access
+use Rattle.smp_call_steps.specs.declared.known.Known.{Known}
+use Rattle.smp_words.specs.declared.word.Word.TheVariants as word
+use Rattle.smp_call_steps.specs.declared.handle.HandleStage.TheVariants as handle
+use Rattle.smp_call_steps.specs.declared.stage.Stage.TheVariants.{Handle}
 use Rattle.smp_queue.proofs.Handles.{in_handle_ready, in_handle_then}
 use Rattle.smp_queue.proofs.Going.{HasLoad, next_known, next_goes, found_fits}
 use Rattle.smp_queue.proofs.reverse.reverse_one.Goals as goal

@@ -1,8 +1,8 @@
 use Rattle.std.proofs.Common.{ℕ, Option, refl, ◌∙◌, sym, subst}
-use Rattle.smp_core.specs.Drains.{second_on}
-use Rattle.smp_core.specs.declared.access.Access.TheVariants as access
-use Rattle.smp_core.specs.declared.word.Word.TheVariants as word
-use Rattle.smp_core.specs.declared.handle.HandleStage.TheVariants as handle
+use Rattle.smp_call_steps.specs.Drains.{second_on}
+use Rattle.smp_words.specs.declared.access.Access.TheVariants as access
+use Rattle.smp_words.specs.declared.word.Word.TheVariants as word
+use Rattle.smp_call_steps.specs.declared.handle.HandleStage.TheVariants as handle
 use Rattle.smp_queue.specs.Desk.{InHandle}
 use Rattle.smp_queue.proofs.Handles.{in_handle_ready}
 use Rattle.smp_queue.proofs.Running.{more_run}

@@ -1,10 +1,10 @@
 use Rattle.std.proofs.Common.{ℕ, Option, Some, refl, ap, ◌∙◌, sym, subst}
-use Rattle.smp_core.specs.Drains.{record_at, first_on, by_class}
-use Rattle.smp_core.specs.declared.access.Access.TheVariants as access
-use Rattle.smp_core.specs.declared.call.Class.{Class}
-use Rattle.smp_core.specs.declared.handle.HandleStage.TheVariants as handle
-use Rattle.smp_core.specs.declared.known.Known.{Known}
-use Rattle.smp_core.specs.declared.word.Word.TheVariants as word
+use Rattle.smp_call_steps.specs.Drains.{record_at, first_on, by_class}
+use Rattle.smp_words.specs.declared.access.Access.TheVariants as access
+use Rattle.smp_words.specs.declared.call.Class.{Class}
+use Rattle.smp_call_steps.specs.declared.handle.HandleStage.TheVariants as handle
+use Rattle.smp_call_steps.specs.declared.known.Known.{Known}
+use Rattle.smp_words.specs.declared.word.Word.TheVariants as word
 use Rattle.smp_queue.specs.Desk.{InHandle}
 use Rattle.smp_queue.proofs.Ahead.{ahead_less, ahead_then, same_taken}
 use Rattle.smp_queue.proofs.Handles.{in_handle_ready}

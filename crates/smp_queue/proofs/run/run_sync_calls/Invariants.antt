@@ -1,4 +1,4 @@
-use Rattle.smp_core.specs.Words.{last_batch}
+use Rattle.smp_call_steps.specs.Words.{last_batch}
 use Rattle.smp_queue.proofs.Ahead.{left_from}
 use Rattle.smp_queue.proofs.Going.{Running1}
 use Rattle.smp_queue.proofs.run.run_sync_calls.Given as goal

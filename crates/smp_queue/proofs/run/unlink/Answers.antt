@@ -1,10 +1,10 @@
 use Rattle.std.proofs.Common.{ℕ, Option, refl, ap, sym}
-use Rattle.smp_core.specs.Drains.{unlink_after}
-use Rattle.smp_core.specs.declared.call.Call.{Call}
-use Rattle.smp_core.specs.declared.call.Class.TheVariants.{Sync}
-use Rattle.smp_core.specs.declared.access.Access.TheVariants as access
-use Rattle.smp_core.specs.declared.word.Word.TheVariants as word
-use Rattle.smp_core.specs.declared.handle.HandleStage.TheVariants as handle
+use Rattle.smp_call_steps.specs.Drains.{unlink_after}
+use Rattle.smp_words.specs.declared.call.Call.{Call}
+use Rattle.smp_words.specs.declared.call.Class.TheVariants.{Sync}
+use Rattle.smp_words.specs.declared.access.Access.TheVariants as access
+use Rattle.smp_words.specs.declared.word.Word.TheVariants as word
+use Rattle.smp_call_steps.specs.declared.handle.HandleStage.TheVariants as handle
 use Rattle.smp_queue.proofs.Handles.{in_handle_ready}
 use Rattle.smp_queue.proofs.Going.{HasLoad, sync_info_at, sync_goes}
 use Rattle.smp_queue.proofs.run.unlink.Goals as goal

@@ -1,9 +1,9 @@
-use Rattle.smp_core.specs.Size.{cpus}
-use Rattle.smp_core.specs.Stops.Table.{stop_number}
-use Rattle.smp_core.specs.declared.word.Word.TheVariants.{Slot}
-use Rattle.smp_core.proofs.Stops.Ends.{function_law}
-use Rattle.smp_core.proofs.Stops.Patched.{all_off, lawful_when_on, off_while_patched}
-use Rattle.smp_core.proofs.Stops.Raises.{phase_law}
+use Rattle.smp_words.specs.Size.{cpus}
+use Rattle.smp_stop_steps.specs.Table.{stop_number}
+use Rattle.smp_words.specs.declared.word.Word.TheVariants.{Slot}
+use Rattle.smp_stop_steps.proofs.Ends.{function_law}
+use Rattle.smp_stop_steps.proofs.Patched.{all_off, lawful_when_on, off_while_patched}
+use Rattle.smp_stop_steps.proofs.Raises.{phase_law}
 use Rattle.smp_core.proofs.machine.Core.keeps_stop_laws.Goals as goal
 
 pub returns : goal.returns

@@ -1,11 +1,11 @@
 use Rattle.std.proofs.Common.{◌∙◌}
-use Rattle.smp_core.specs.Layout.{number_in}
-use Rattle.smp_core.specs.Words.{nexts_in}
-use Rattle.smp_core.specs.Value.{ValuesShow, control_of}
-use Rattle.smp_core.specs.Queues.{HasChain}
-use Rattle.smp_core.proofs.QueueChains.{queue_chain, queue_read}
+use Rattle.smp_words.specs.Layout.{number_in}
+use Rattle.smp_call_steps.specs.Words.{nexts_in}
+use Rattle.smp_call_steps.specs.Value.{ValuesShow, control_of}
+use Rattle.smp_call_steps.specs.Queues.{HasChain}
+use Rattle.smp_call_steps.proofs.QueueChains.{queue_chain, queue_read}
 use Rattle.smp_core.proofs.machine.Core.queue.Goals as goal
-use Rattle.smp_core.specs.declared.word.Word.TheVariants.{Head}
+use Rattle.smp_words.specs.declared.word.Word.TheVariants.{Head}
 
 pub chain-requires-clause-chained : goal.chain-requires-clause-chained
 chain-requires-clause-chained g c =

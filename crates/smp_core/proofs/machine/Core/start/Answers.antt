@@ -1,11 +1,15 @@
 use Rattle.std.proofs.Common.{rules, ◌≡◌, None, length, sym, ◌∙◌, arith}
 use Rattle.std.proofs.lemmas.List.{get_or_read, length-set}
 use Rattle.std.specs.Prelude.{slice_set}
-use Rattle.smp_core.specs.Size.{cpus}
-use Rattle.smp_core.specs.Calls.{CallState}
-use Rattle.smp_core.specs.Start.{FitsCommand, refusal_of, first_stage, control_at}
-use Rattle.smp_core.specs.Value.{CoreValue, ValuesShow, control_of, outside}
-use Rattle.smp_core.proofs.Starts.{may_start, names_record, started_shown, started_nr, started_online, start_below}
+use Rattle.smp_words.specs.Size.{cpus}
+use Rattle.smp_call_steps.specs.Calls.{CallState}
+use Rattle.smp_words.specs.Commands.{FitsCommand}
+use Rattle.smp_core.specs.Start.{refusal_of}
+use Rattle.smp_call_steps.specs.Start.{first_stage, control_at}
+use Rattle.smp_core.specs.Value.{CoreValue}
+use Rattle.smp_call_steps.specs.Value.{ValuesShow, control_of, outside}
+use Rattle.smp_core.proofs.Starts.{may_start, started_shown, started_nr, started_online, start_below}
+use Rattle.smp_call_steps.proofs.Starts.{names_record}
 use Rattle.smp_core.proofs.machine.Core.start.Goals as goal
 use Rattle.smp_core.proofs.machine.Core.start.Given as given
 

@@ -1,0 +1,267 @@
+-- A CPU inside handle: what holds of it by the laws, and what it knows after each of its steps.
+use Rattle.std.proofs.Common.{◌≡◌, ◌≢◌, ℕ, ◌+◌, ◌%◌, ◌<◌, ◌==◌, Bool, true, false, cond, Option, Some, None, List, [], ◌∷◌, ◌++◌, sym, subst, refl, ap, ◌∙◌, arith}
+use Rattle.std.proofs.lemmas.Bool.{lt-ltb, eq-eqb}
+use Rattle.std.specs.Prelude.{slice_set}
+use Rattle.std.specs.List.{AllByRecursion}
+use Rattle.smp_words.specs.Size.{cpus, records}
+use Rattle.smp_words.specs.Access.{word_of}
+use Rattle.smp_call_steps.specs.Calls.{CallState, Nothing, SyncCall, CountedCall, AsyncCall}
+use Rattle.smp_call_steps.specs.Drains.{DrainValue, handle_goes, link_to, record_at, first_on, second_on, handle_outcome, drain_after}
+use Rattle.smp_call_steps.specs.Places.{IsPlaced}
+use Rattle.smp_call_steps.specs.Words.{FlagsShow, bit, nexts_in, last_batch}
+use Rattle.smp_call_steps.specs.Histories.{orders, running_call}
+use Rattle.smp_call_steps.specs.Stages.{ControlValue, access_of, FitsStage}
+use Rattle.smp_call_steps.specs.Stands.{Share, share_of, StandsAt, HandleStands, held_of}
+use Rattle.smp_call_steps.specs.Known.{told_stage, told_post, told_handle, part_in, part_told, known_of, known_told, known_taking, knowing, stage_after, drain_then, Aims, known_access, Moment, Lives, GoesOn, part_begun_sync, part_begun_async, part_unlocked, part_counted}
+use Rattle.smp_call_steps.specs.Handling.{rest_of, handling, goes_known, accepted_known, taken_known, begun_sync, counted_sync, begun_async, ended_call}
+use Rattle.smp_words.proofs.Links.{HasIndex}
+use Rattle.smp_call_steps.proofs.Accesses.{access_in_table}
+use Rattle.smp_call_steps.proofs.Alls.{every_right}
+use Rattle.smp_call_steps.proofs.Walks.{reverses_all, walks_rest, same_record}
+use Rattle.smp_call_steps.specs.declared.handle.Walk.{Walk}
+use Rattle.smp_call_steps.proofs.Fits.{found_fits}
+use Rattle.smp_call_steps.proofs.Restages.{access_known}
+use Rattle.smp_words.specs.declared.call.Call.{Call}
+use Rattle.smp_call_steps.specs.declared.known.Known.{Known}
+use Rattle.smp_call_steps.specs.declared.place.RecPlace.{RecPlace}
+use Rattle.smp_call_steps.specs.declared.place.RecPlace.TheVariants as place
+use Rattle.smp_words.specs.declared.word.Word.{Word}
+use Rattle.smp_words.specs.declared.word.Word.TheVariants.{Head, Intr, Hand, Ran, Flags, Func, Info, Next}
+use Rattle.smp_words.specs.declared.access.Access.{Access}
+use Rattle.smp_words.specs.declared.seen.Act.{Act}
+use Rattle.smp_words.specs.declared.seen.Act.TheVariants as act
+use Rattle.smp_call_steps.specs.declared.post.Posting.{Posting}
+use Rattle.smp_call_steps.specs.declared.post.PostStage.{PostStage}
+use Rattle.smp_call_steps.specs.declared.post.PostStage.TheVariants as post
+use Rattle.smp_call_steps.specs.declared.handle.HandleStage.{HandleStage}
+use Rattle.smp_call_steps.specs.declared.handle.HandleStage.TheVariants as handle
+use Rattle.smp_call_steps.specs.declared.stage.Outcome.{Outcome}
+use Rattle.smp_call_steps.specs.declared.stage.Stage.{Stage}
+use Rattle.smp_call_steps.specs.declared.stage.Stage.TheVariants.{Send, Done, Post, Handle}
+
+-- a step of a CPU goes on to calls of which it knows its part
+pub lives_on : (a : CallState) (control : ℕ → ControlValue) (me : ℕ) (at : Word → ℕ) (w : Known) → GoesOn a control me at w → Lives w
+lives_on a control me at w g = record {
+  calls = g.calls;
+  at = at;
+  control = g.controls;
+  shown = g.shown;
+  view = subst (λ (n : ℕ). w ≡ known_of g.calls g.controls n) (ap (λ (u : Known). u.number) g.mine) (sym g.mine);
+}
+
+abbrev pub lives_then : (v : Known) (word : Word) (n : ℕ) → Moment v word n → Lives v
+lives_then v word n t = record { calls = t.calls; at = t.at; control = t.control; shown = t.shown; view = t.view }
+
+-- who is told to be at a step of handle is there
+post_tells : (p : Posting) (st : PostStage) (h : HandleStage) → told_post p st ≢ Some (Handle h)
+post_tells p post.LoadFlags h e = cc
+post_tells p post.Lock h e = cc
+post_tells p post.StoreFunc h e = cc
+post_tells p post.StoreInfo h e = cc
+post_tells p post.Count h e = cc
+post_tells p post.LoadHead h e = cc
+post_tells p (post.StoreNext link tries) h e = cc
+post_tells p (post.Exchange link tries) h e = cc
+post_tells p post.Uncount h e = cc
+post_tells p post.Release h e = cc
+
+handle_tells : (g h : HandleStage) → told_handle g ≡ Some (Handle h) → Some (Handle g) ≡ Some (Handle h)
+handle_tells handle.Enter h e = cc
+handle_tells handle.Accept h e = e
+handle_tells handle.LeaveIdle h e = e
+handle_tells handle.Take h e = e
+handle_tells (handle.ReverseLoad newer id) h e = e
+handle_tells (handle.ReverseStore newer id older) h e = e
+handle_tells (handle.LoadNext walk id) h e = e
+handle_tells (handle.LoadFlags walk id next) h e = e
+handle_tells (handle.LoadFunc walk id next) h e = e
+handle_tells (handle.LoadInfo walk id next func) h e = e
+handle_tells (handle.Unlink walk last call next) h e = e
+handle_tells (handle.BeginSync walk call next) h e = e
+handle_tells (handle.CountSync walk call next) h e = e
+handle_tells (handle.EndSync walk call next) h e = e
+handle_tells (handle.AsyncNext id) h e = e
+handle_tells (handle.AsyncFunc id next) h e = e
+handle_tells (handle.AsyncInfo id next func) h e = e
+handle_tells (handle.BeginAsync call next) h e = e
+handle_tells (handle.CountAsync call next) h e = e
+handle_tells handle.Leave h e = e
+
+told_there : (s : Option Stage) (h : HandleStage) → told_stage s ≡ Some (Handle h) → s ≡ Some (Handle h)
+told_there None h e = cc
+told_there (Some (Send to)) h e = cc
+told_there (Some (Done id)) h e = cc
+told_there (Some (Post p st)) h e = absurd (post_tells p st h e)
+told_there (Some (Handle g)) h e = handle_tells g h e
+
+-- what is a CPU's own of the drain, as it knows it
+abbrev pub share_in : Known → Share
+share_in v = record { last = last_batch v.taken; batch = v.batch; running = v.running; accepted = v.accepted }
+
+module _ (v : Known) (l : Lives v) where
+  same_share : share_of l.calls v.number ≡ share_in v
+  same_share = sym (ap share_in l.view)
+
+  same_drain : (l.control v.number).drain ≡ v.drain
+  same_drain = sym (ap (λ (u : Known). u.drain) l.view)
+
+  -- what ran, runs and is left is the drain order of the batches
+  pub lives_drained : v.ran ++ (running_call v.running ++ v.batch) ≡ orders v.taken
+  lives_drained = subst (λ (u : Known). u.ran ++ (running_call u.running ++ u.batch) ≡ orders u.taken) (sym l.view) (l.shown.recorded.drained v.number)
+
+  module _ (h : HandleStage) (e : v.stage ≡ Some (Handle h)) where
+    told : told_stage (l.control v.number).stage ≡ Some (Handle h)
+    told = sym (ap (λ (u : Known). u.stage) l.view) ∙ e
+
+    at_stage : (l.control v.number).stage ≡ Some (Handle h)
+    at_stage = told_there (l.control v.number).stage h told
+
+    stands_there : (v.number < cpus) × HandleStands (nexts_in l.at) (share_in v) v.drain h
+    stands_there =
+        let k : StandsAt l.calls.place l.at (share_of l.calls v.number) (l.control v.number).drain v.number (Some (Handle h)) = rw at_stage at (l.shown.stands v.number) in
+        subst (λ (d : DrainValue). (v.number < cpus) × HandleStands (nexts_in l.at) (share_in v) d h) same_drain
+        (subst (λ (s : Share). (v.number < cpus) × HandleStands (nexts_in l.at) s (l.control v.number).drain h) same_share k)
+
+    pub lives_below : v.number < cpus
+    lives_below = stands_there.0
+
+    pub lives_stands : HandleStands (nexts_in l.at) (share_in v) v.drain h
+    lives_stands = stands_there.1
+
+    pub lives_told : v.stage ≡ told_handle h
+    lives_told = e ∙ (sym told ∙ ap told_stage at_stage)
+
+    pub lives_aims : Aims v (Handle h)
+    lives_aims = (lives_told, lives_below)
+
+    same_access : access_of l.at v.number (Handle h) ≡ known_access v (Handle h)
+    same_access =
+        access_known l.calls l.at l.control v.number l.shown (Handle h) (subst (λ (u : Known). Aims u (Handle h)) l.view lives_aims)
+        ∙ ap (λ (u : Known). known_access u (Handle h)) (sym l.view)
+
+    -- the word of its next access is in the table
+    pub lives_in_table : HasIndex (word_of (known_access v (Handle h)))
+    lives_in_table = subst (λ (x : Access). HasIndex (word_of x)) same_access (access_in_table l.calls l.at l.control v.number l.shown (Handle h) at_stage)
+
+    -- what that access finds fits, and there is room for it
+    pub lives_fits : FitsStage v.drain (Handle h) (l.at (word_of (known_access v (Handle h))))
+    lives_fits = subst (λ (d : DrainValue). FitsStage d (Handle h) (l.at (word_of (known_access v (Handle h))))) same_drain
+        (subst (λ (x : Access). FitsStage (l.control v.number).drain (Handle h) (l.at (word_of x))) same_access (found_fits l.calls l.at l.control v.number l.shown (Handle h) at_stage))
+
+    batched : AllByRecursion (IsPlaced l.calls.place (place.Batch v.number)) (share_in v).batch
+    batched = subst (λ (s : Share). AllByRecursion (IsPlaced l.calls.place (place.Batch v.number)) s.batch) same_share (l.shown.placed.batched v.number)
+
+  -- a record of the batch that is loaded is locked
+  lives_placed : (id : ℕ) (call : Call) → call.id ≡ id → IsPlaced l.calls.place (place.Batch v.number) call → (id < records) × (l.at (Flags id) % 2 ≡ 1)
+  lives_placed id call e q = (
+    subst (λ (n : ℕ). n < records) e q.is_call.in_range,
+    subst (λ (p : RecPlace). FlagsShow p (l.at (Flags id))) (ap l.calls.place (sym e) ∙ q.placed) (l.shown.written.locks id),
+  )
+
+  pub lives_reversed : (newer : Option ℕ) (id : ℕ) → v.stage ≡ Some (Handle (handle.ReverseLoad newer id)) → id < records
+  lives_reversed newer id e =
+      let k = lives_stands (handle.ReverseLoad newer id) e in
+      let all = every_right (IsPlaced l.calls.place (place.Batch v.number)) k.1.older (k.0 ∷ k.1.newer)
+      (reverses_all (IsPlaced l.calls.place (place.Batch v.number)) (nexts_in l.at) (share_in v) v.drain (link_to newer) (l.at (Next id)) k.0 k.1 (batched (handle.ReverseLoad newer id) e)) in
+      (lives_placed id k.0 k.2 all.0).0
+
+  pub lives_locked : (walk : Walk) (id : ℕ) (next : Option ℕ) → v.stage ≡ Some (Handle (handle.LoadFlags walk id next)) → l.at (Flags id) % 2 ≡ 1
+  lives_locked walk id next e =
+      let k = lives_stands (handle.LoadFlags walk id next) e in
+      let all = walks_rest (IsPlaced l.calls.place (place.Batch v.number)) (nexts_in l.at) (share_in v) v.drain walk (id + 1) [] (k.0 ∷ k.1) Nothing k.2 (batched (handle.LoadFlags walk id next) e) in
+      (lives_placed id k.0 (same_record id k.0 k.2.leads_on.0) all.0).1
+
+  -- the front of the batch is by a record
+  pub lives_front : (call : Call) (rest : List Call) → v.batch ≡ call ∷ rest → call.id < records
+  lives_front call rest e =
+      let all : AllByRecursion (IsPlaced l.calls.place (place.Batch v.number)) (call ∷ rest) = subst (λ (calls : List Call). AllByRecursion (IsPlaced l.calls.place (place.Batch v.number)) calls) e
+      (subst (λ (s : Share). AllByRecursion (IsPlaced l.calls.place (place.Batch v.number)) s.batch) same_share (l.shown.placed.batched v.number)) in
+      all.0.is_call.in_range
+
+  -- an interrupt word is 0 or 1
+  pub lives_intr : (cpu : ℕ) → (l.at (Intr cpu) == 1) ≡ cond (l.at (Intr cpu) == 0) false true
+  lives_intr cpu = subst (λ (n : ℕ). (n == 1) ≡ cond (n == 0) false true) (sym (l.shown.noticed.words cpu)) (bit_is (l.calls.pending cpu))
+    where
+      bit_is : (b : Bool) → (bit b == 1) ≡ cond (bit b == 0) false true
+      bit_is true = refl
+      bit_is false = refl
+
+-- what a CPU that stands here knows after a step
+pub told_at : (queue : List Call) (v : Known) (s : Option Stage) (act : Act) (w : Word) (found put : Option ℕ) → v.stage ≡ s →
+    known_taking queue v act w found put ≡ knowing v.number (stage_after s v.drain act w found put) (drain_then s v.drain found) (part_told queue (held_of s) act w found put (part_in v))
+told_at queue v s act w found put e = λ i. knowing v.number (stage_after (e i) v.drain act w found put) (drain_then (e i) v.drain found) (part_told queue (held_of (e i)) act w found put (part_in v))
+
+pub entered_is : (v : Known) (cpu : ℕ) → v.stage ≡ None → known_told v act.Store (Hand cpu) None (Some 1) ≡ handling handle.Accept v.drain v
+entered_is v cpu e = told_at [] v None act.Store (Hand cpu) None (Some 1) e
+
+pub accepted_is : (queue : List Call) (v : Known) (cpu n : ℕ) → v.stage ≡ Some (Handle handle.Accept) → (n == 1) ≡ cond (n == 0) false true →
+    known_taking queue v act.Swap (Intr cpu) (Some n) (Some 0) ≡ accepted_known (cond (n == 0) false true) v
+accepted_is queue v cpu n e one = told_at queue v (Some (Handle handle.Accept)) act.Swap (Intr cpu) (Some n) (Some 0) e ∙ by_test (n == 0) (n == 1) one
+  where
+    by_test : (b c : Bool) → c ≡ cond b false true →
+        knowing v.number (cond {A = Outcome} b (handle_goes handle.LeaveIdle) (handle_goes handle.Take)).next v.drain (record (part_in v) { asked = v.asked ++ c ∷ []; accepted = cond c true v.accepted }) ≡ accepted_known (cond b false true) v
+    by_test true c f = λ i. knowing v.number (Some (Handle handle.LeaveIdle)) v.drain (record (part_in v) { asked = v.asked ++ f i ∷ []; accepted = cond (f i) true v.accepted })
+    by_test false c f = λ i. knowing v.number (Some (Handle handle.Take)) v.drain (record (part_in v) { asked = v.asked ++ f i ∷ []; accepted = cond (f i) true v.accepted })
+
+pub taken_is : (queue : List Call) (v : Known) (cpu n : ℕ) → v.stage ≡ Some (Handle handle.Take) → known_taking queue v act.Swap (Head cpu) (Some n) (Some 0) ≡ taken_known queue (record_at n) v
+taken_is queue v cpu n e = told_at queue v (Some (Handle handle.Take)) act.Swap (Head cpu) (Some n) (Some 0) e
+
+pub left_is : (v : Known) (cpu : ℕ) (h : HandleStage) → (stage_after (Some (Handle h)) v.drain act.Store (Hand cpu) None (Some 0) ≡ None) → v.stage ≡ Some (Handle h) → (drain_then (Some (Handle h)) v.drain None ≡ v.drain) →
+    known_told v act.Store (Hand cpu) None (Some 0) ≡ record v { stage = None }
+left_is v cpu h out e d = told_at [] v (Some (Handle h)) act.Store (Hand cpu) None (Some 0) e ∙ (λ i. knowing v.number (out i) (d i) (part_in v))
+
+-- steps that tell nothing
+
+pub next_found_is : (v : Known) (h : HandleStage) (id n : ℕ) → v.stage ≡ Some (Handle h) → known_told v act.Load (Next id) (Some n) None ≡ goes_known h n v
+next_found_is v h id n e = told_at [] v (Some (Handle h)) act.Load (Next id) (Some n) None e
+
+pub func_found_is : (v : Known) (h : HandleStage) (id n : ℕ) → v.stage ≡ Some (Handle h) → known_told v act.Load (Func id) (Some n) None ≡ goes_known h n v
+func_found_is v h id n e = told_at [] v (Some (Handle h)) act.Load (Func id) (Some n) None e
+
+pub info_found_is : (v : Known) (h : HandleStage) (id n : ℕ) → v.stage ≡ Some (Handle h) → known_told v act.Load (Info id) (Some n) None ≡ goes_known h n v
+info_found_is v h id n e = told_at [] v (Some (Handle h)) act.Load (Info id) (Some n) None e
+
+pub next_stored_is : (v : Known) (h : HandleStage) (id n : ℕ) → v.stage ≡ Some (Handle h) → known_told v act.Store (Next id) None (Some n) ≡ goes_known h 0 v
+next_stored_is v h id n e = told_at [] v (Some (Handle h)) act.Store (Next id) None (Some n) e
+
+pub flags_found_is : (v : Known) (h : HandleStage) (id n : ℕ) → v.stage ≡ Some (Handle h) → n % 2 ≡ 1 → known_told v act.Load (Flags id) (Some n) None ≡ goes_known h n v
+flags_found_is v h id n e odd = told_at [] v (Some (Handle h)) act.Load (Flags id) (Some n) None e ∙ by_test (n % 2 == 1) (eq-eqb (n % 2) 1 odd)
+  where
+    by_test : (b : Bool) → b ≡ true →
+        knowing v.number (stage_after (Some (Handle h)) v.drain act.Load (Flags id) (Some n) None) (drain_then (Some (Handle h)) v.drain (Some n)) (cond b (part_in v) (record (part_in v) { confirmed = slice_set v.confirmed id true })) ≡ goes_known h n v
+    by_test b f = λ i. knowing v.number (handle_outcome v.drain h n).next (drain_after v.drain h n) (cond (f i) (part_in v) (record (part_in v) { confirmed = slice_set v.confirmed id true }))
+
+-- steps that begin, count and end a call
+
+pub begun_sync_is : (v : Known) (cpu : ℕ) (walk : Walk) (call : Call) (next : Option ℕ) (rest : List Call) → v.stage ≡ Some (Handle (handle.BeginSync walk call next)) → v.batch ≡ call ∷ rest →
+    known_told v act.Store (Hand cpu) None (Some (call.id + 2)) ≡ begun_sync walk call next v
+begun_sync_is v cpu walk call next rest e b =
+    told_at [] v (Some (Handle (handle.BeginSync walk call next))) act.Store (Hand cpu) None (Some (call.id + 2)) e
+    ∙ ((λ i. knowing v.number (Some (Handle (handle.CountSync walk call next))) v.drain (cond (lt-ltb 1 (call.id + 2) (omega arith) i) (part_begun_sync (b i) (part_in v)) (part_in v)))
+    ∙ (λ i. knowing v.number (Some (Handle (handle.CountSync walk call next))) v.drain (record (part_in v) { batch = rest_of (sym b i); running = SyncCall call })))
+
+pub counted_sync_is : (v : Known) (cpu source n : ℕ) (walk : Walk) (call : Call) (next : Option ℕ) → v.stage ≡ Some (Handle (handle.CountSync walk call next)) → v.running ≡ SyncCall call →
+    known_told v act.Store (Ran cpu source) None (Some n) ≡ counted_sync walk call next v
+counted_sync_is v cpu source n walk call next e r =
+    told_at [] v (Some (Handle (handle.CountSync walk call next))) act.Store (Ran cpu source) None (Some n) e
+    ∙ (λ i. knowing v.number (Some (Handle (handle.EndSync walk call next))) v.drain (part_counted (r i) (part_in v)))
+
+pub ended_sync_is : (v : Known) (walk : Walk) (call : Call) (next : Option ℕ) → v.stage ≡ Some (Handle (handle.EndSync walk call next)) → v.running ≡ CountedCall call →
+    known_told v act.Store (Flags call.id) None (Some 0) ≡ ended_call (first_on walk next) call v
+ended_sync_is v walk call next e r =
+    told_at [] v (Some (Handle (handle.EndSync walk call next))) act.Store (Flags call.id) None (Some 0) e
+    ∙ (λ i. knowing v.number (Some (Handle (first_on walk next))) v.drain (part_unlocked (r i) (part_in v)))
+
+pub begun_async_is : (v : Known) (call : Call) (next : Option ℕ) (rest : List Call) → v.stage ≡ Some (Handle (handle.BeginAsync call next)) → v.batch ≡ call ∷ rest → v.running ≡ Nothing →
+    known_told v act.Store (Flags call.id) None (Some 0) ≡ begun_async call next v
+begun_async_is v call next rest e b r =
+    told_at [] v (Some (Handle (handle.BeginAsync call next))) act.Store (Flags call.id) None (Some 0) e
+    ∙ ((λ i. knowing v.number (Some (Handle (handle.CountAsync call next))) v.drain (part_unlocked (r i) (part_in v)))
+    ∙ ((λ i. knowing v.number (Some (Handle (handle.CountAsync call next))) v.drain (part_begun_async (b i) (part_in v)))
+    ∙ (λ i. knowing v.number (Some (Handle (handle.CountAsync call next))) v.drain (record (part_in v) { batch = rest_of (sym b i); running = AsyncCall call }))))
+
+pub counted_async_is : (v : Known) (cpu source n : ℕ) (call : Call) (next : Option ℕ) → v.stage ≡ Some (Handle (handle.CountAsync call next)) → v.running ≡ AsyncCall call →
+    known_told v act.Store (Ran cpu source) None (Some n) ≡ ended_call (second_on next) call v
+counted_async_is v cpu source n call next e r =
+    told_at [] v (Some (Handle (handle.CountAsync call next))) act.Store (Ran cpu source) None (Some n) e
+    ∙ (λ i. knowing v.number (Some (Handle (second_on next))) v.drain (part_counted (r i) (part_in v)))

@@ -1,0 +1,231 @@
+-- One step of a CPU that knows v: what holds after it, and what each CPU knows then.
+use Rattle.std.proofs.Common.{◌≡◌, ◌≢◌, ℕ, ◌+◌, ◌-◌, ◌%◌, nat_lt, Bool, true, false, ◌==◌, cond, Option, Some, None, sym, subst, refl, ap, ◌∙◌}
+use Rattle.smp_words.specs.Put.{put}
+use Rattle.smp_call_steps.specs.Calls.{CallState, Holding}
+use Rattle.smp_call_steps.specs.Posts.{ends, goes_to}
+use Rattle.smp_call_steps.specs.Drains.{DrainValue, handle_goes, record_at, second_on, first_on, reverse_on, by_class, unlink_after}
+use Rattle.smp_words.specs.Flags.{class_of}
+use Rattle.smp_call_steps.specs.declared.handle.Walk.{Walk}
+use Rattle.smp_call_steps.specs.Stages.{ControlValue, access_of, outcome_of, drain_of, control_after}
+use Rattle.smp_words.specs.Access.{word_of, at_after, seen_of}
+use Rattle.smp_call_steps.specs.Stands.{held_of}
+use Rattle.smp_call_steps.specs.Shows.{Shows}
+use Rattle.smp_call_steps.specs.Known.{told_post, told_handle, told_stage, knowing, part_of, part_told, known_of, known_tells, stage_after, drain_then, Aims, known_access, GoesOn}
+use Rattle.smp_call_steps.proofs.Own.{put_same, put_other}
+use Rattle.smp_call_steps.proofs.Every.{step_shown}
+use Rattle.smp_call_steps.proofs.Restages.{held_told, restages, access_known, aims_told}
+use Rattle.smp_call_steps.proofs.Parts.{Told, part_mine, part_else}
+use Rattle.smp_words.specs.declared.call.Call.{Call}
+use Rattle.smp_words.specs.declared.call.Class.{Class}
+use Rattle.smp_words.specs.declared.call.Class.TheVariants.{Sync, Async}
+use Rattle.smp_call_steps.specs.declared.known.Known.{Known}
+use Rattle.smp_words.specs.declared.word.Word.{Word}
+use Rattle.smp_words.specs.declared.word.Word.TheVariants.{Head, Intr, Flags, Info}
+use Rattle.smp_words.specs.declared.access.Access.{Access}
+use Rattle.smp_words.specs.declared.seen.Act.TheVariants as act
+use Rattle.smp_words.specs.declared.seen.Note.{Note}
+use Rattle.smp_words.specs.declared.seen.Note.TheVariants as note
+use Rattle.smp_words.specs.declared.seen.Seen.{Seen}
+use Rattle.smp_call_steps.specs.declared.post.Posting.{Posting}
+use Rattle.smp_call_steps.specs.declared.post.PostStage.TheVariants as post
+use Rattle.smp_call_steps.specs.declared.handle.HandleStage.TheVariants as handle
+use Rattle.smp_call_steps.specs.declared.stage.Outcome.{Outcome}
+use Rattle.smp_call_steps.specs.declared.stage.Stage.{Stage}
+use Rattle.smp_call_steps.specs.declared.stage.Stage.TheVariants.{Send, Done, Post, Handle}
+
+-- the stage that follows, as the step tells it
+abbrev Follows : (Word → ℕ) → ℕ → DrainValue → Stage → Type 0
+Follows at me d st =
+    let access = access_of at me st in
+    let seen = seen_of me access (at (word_of access)) None in
+    told_stage (outcome_of d st (at (word_of access))).next ≡ stage_after (told_stage (Some st)) d seen.act seen.word seen.found seen.put
+
+-- what has been loaded then
+abbrev Leaves : (Word → ℕ) → ℕ → DrainValue → Stage → Type 0
+Leaves at me d st =
+    let access = access_of at me st in
+    let seen = seen_of me access (at (word_of access)) None in
+    drain_of d st (at (word_of access)) ≡ drain_then (told_stage (Some st)) d seen.found
+
+flags_follow : (b c : Bool) (p : Posting) → told_stage (cond b (ends note.Busy) (cond c (goes_to p post.Lock) (ends note.NoCpu))).next ≡ None
+flags_follow true c p = refl
+flags_follow false true p = refl
+flags_follow false false p = refl
+
+lock_follow : (c : Class) (p : Posting) (at : Word → ℕ) (me : ℕ) (d : DrainValue) → Follows at me d (Post (record p { class = c }) post.Lock)
+lock_follow Sync p at me d = refl
+lock_follow Async p at me d = refl
+
+exchange_follow : (p : Posting) (link tries n : ℕ) (b c : Bool) (won : Note) (me : ℕ) (d : DrainValue) (found : ℕ) →
+    told_stage (cond b (ends won) (cond c (goes_to p (post.StoreNext found (tries - 1))) (goes_to p post.Uncount))).next ≡ stage_after (told_post p (post.Exchange link tries)) d act.Cas (Head p.to) (Some found) (cond b (Some n) None)
+exchange_follow p link tries n true c won me d found = refl
+exchange_follow p link tries n false true won me d found = refl
+exchange_follow p link tries n false false won me d found = refl
+
+-- what is told of the stages of handle that follow
+second_told : (next : Option ℕ) → told_handle (second_on next) ≡ Some (Handle (second_on next))
+second_told None = refl
+second_told (Some id) = refl
+
+first_told : (walk : Walk) (next : Option ℕ) → told_handle (first_on walk next) ≡ Some (Handle (first_on walk next))
+first_told walk None = second_told walk.first
+first_told walk (Some id) = refl
+
+reverse_told : (here next : Option ℕ) → told_handle (reverse_on here next) ≡ Some (Handle (reverse_on here next))
+reverse_told here None = first_told (record { first = here; last = None }) here
+reverse_told here (Some id) = refl
+
+class_told : (class : Class) (walk : Walk) (id : ℕ) (next : Option ℕ) → told_handle (by_class class walk id next) ≡ Some (Handle (by_class class walk id next))
+class_told Sync walk id next = refl
+class_told Async walk id next = first_told (record { first = walk.first; last = Some id }) next
+
+info_told : (last : Option ℕ) (walk : Walk) (call : Call) (next : Option ℕ) → told_handle (unlink_after last walk call next) ≡ Some (Handle (unlink_after last walk call next))
+info_told None walk call next = refl
+info_told (Some last) walk call next = refl
+
+accept_told : (b : Bool) → told_stage (cond {A = Outcome} b (handle_goes handle.LeaveIdle) (handle_goes handle.Take)).next ≡ (cond {A = Outcome} b (handle_goes handle.LeaveIdle) (handle_goes handle.Take)).next
+accept_told true = refl
+accept_told false = refl
+
+follows : (at : Word → ℕ) (me : ℕ) (d : DrainValue) (st : Stage) → Follows at me d st
+follows at me d (Send to) = refl
+follows at me d (Done id) = refl
+follows at me d (Post p post.LoadFlags) = flags_follow (at (Flags p.id) % 2 == 1) p.is_online p
+follows at me d (Post p post.Lock) = lock_follow p.class p at me d
+follows at me d (Post p post.StoreFunc) = refl
+follows at me d (Post p post.StoreInfo) = refl
+follows at me d (Post p post.Count) = refl
+follows at me d (Post p post.LoadHead) = refl
+follows at me d (Post p (post.StoreNext link tries)) = refl
+follows at me d (Post p (post.Exchange link tries)) = exchange_follow p link tries (p.id + 1) (at (Head p.to) == link) (nat_lt 1 tries) (cond (link == 0) note.Owed note.Queued) me d (at (Head p.to))
+follows at me d (Post p post.Uncount) = refl
+follows at me d (Post p post.Release) = refl
+follows at me d (Handle handle.Enter) = refl
+follows at me d (Handle handle.Accept) = accept_told (at (Intr me) == 0)
+follows at me d (Handle handle.LeaveIdle) = refl
+follows at me d (Handle handle.Take) = reverse_told None (record_at (at (Head me)))
+follows at me d (Handle (handle.ReverseLoad newer id)) = refl
+follows at me d (Handle (handle.ReverseStore newer id older)) = reverse_told (Some id) older
+follows at me d (Handle (handle.LoadNext walk id)) = refl
+follows at me d (Handle (handle.LoadFlags walk id next)) = class_told (class_of (at (Flags id))) walk id next
+follows at me d (Handle (handle.LoadFunc walk id next)) = refl
+follows at me d (Handle (handle.LoadInfo walk id next func)) = info_told walk.last walk (record { id = id; class = Sync; func = func; info = at (Info id) }) next
+follows at me d (Handle (handle.Unlink walk last call next)) = refl
+follows at me d (Handle (handle.BeginSync walk call next)) = refl
+follows at me d (Handle (handle.CountSync walk call next)) = refl
+follows at me d (Handle (handle.EndSync walk call next)) = first_told walk next
+follows at me d (Handle (handle.AsyncNext id)) = refl
+follows at me d (Handle (handle.AsyncFunc id next)) = refl
+follows at me d (Handle (handle.AsyncInfo id next func)) = refl
+follows at me d (Handle (handle.BeginAsync call next)) = refl
+follows at me d (Handle (handle.CountAsync call next)) = second_told next
+follows at me d (Handle handle.Leave) = refl
+
+leaves : (at : Word → ℕ) (me : ℕ) (d : DrainValue) (st : Stage) → Leaves at me d st
+leaves at me d (Send to) = refl
+leaves at me d (Done id) = refl
+leaves at me d (Post p post.LoadFlags) = refl
+leaves at me d (Post p post.Lock) = refl
+leaves at me d (Post p post.StoreFunc) = refl
+leaves at me d (Post p post.StoreInfo) = refl
+leaves at me d (Post p post.Count) = refl
+leaves at me d (Post p post.LoadHead) = refl
+leaves at me d (Post p (post.StoreNext link tries)) = refl
+leaves at me d (Post p (post.Exchange link tries)) = refl
+leaves at me d (Post p post.Uncount) = refl
+leaves at me d (Post p post.Release) = refl
+leaves at me d (Handle handle.Enter) = refl
+leaves at me d (Handle handle.Accept) = refl
+leaves at me d (Handle handle.LeaveIdle) = refl
+leaves at me d (Handle handle.Take) = refl
+leaves at me d (Handle (handle.ReverseLoad newer id)) = refl
+leaves at me d (Handle (handle.ReverseStore newer id older)) = refl
+leaves at me d (Handle (handle.LoadNext walk id)) = refl
+leaves at me d (Handle (handle.LoadFlags walk id next)) = refl
+leaves at me d (Handle (handle.LoadFunc walk id next)) = refl
+leaves at me d (Handle (handle.LoadInfo walk id next func)) = refl
+leaves at me d (Handle (handle.Unlink walk last call next)) = refl
+leaves at me d (Handle (handle.BeginSync walk call next)) = refl
+leaves at me d (Handle (handle.CountSync walk call next)) = refl
+leaves at me d (Handle (handle.EndSync walk call next)) = refl
+leaves at me d (Handle (handle.AsyncNext id)) = refl
+leaves at me d (Handle (handle.AsyncFunc id next)) = refl
+leaves at me d (Handle (handle.AsyncInfo id next func)) = refl
+leaves at me d (Handle (handle.BeginAsync call next)) = refl
+leaves at me d (Handle (handle.CountAsync call next)) = refl
+leaves at me d (Handle handle.Leave) = refl
+
+-- the CPU that knows this, and that may make the step of this stage, makes it
+module _ (a : CallState) (at : Word → ℕ) (control : ℕ → ControlValue) (me : ℕ) (s : Shows a at control) (st : Stage) (aims : Aims (known_of a control me) st) where
+  abbrev d : DrainValue
+  d = (control me).drain
+
+  abbrev standing : ControlValue
+  standing = record { stage = Some st; drain = (control me).drain }
+
+  abbrev after : ControlValue
+  after = control_after (record { stage = Some st; drain = (control me).drain }) st (at (word_of (access_of at me st)))
+
+  controls1 : ℕ → ControlValue
+  controls1 = put control me (record { stage = Some st; drain = (control me).drain })
+
+  here1 : put control me (record { stage = Some st; drain = (control me).drain }) me ≡ record { stage = Some st; drain = (control me).drain }
+  here1 = put_same control me (record { stage = Some st; drain = (control me).drain })
+
+  shown1 : Shows a at (put control me (record { stage = Some st; drain = (control me).drain }))
+  shown1 = restages a at control me s st aims
+
+  -- the step, as this CPU sees it
+  abbrev pub seen : Seen
+  seen = seen_of me (access_of at me st) (at (word_of (access_of at me st))) None
+
+  abbrev controls2 : ℕ → ControlValue
+  controls2 = put (put control me (record { stage = Some st; drain = (control me).drain })) me (control_after (record { stage = Some st; drain = (control me).drain }) st (at (word_of (access_of at me st))))
+
+  shown2 : Shows (Told a at me (control me).drain st) (at_after at (access_of at me st)) (put (put control me (record { stage = Some st; drain = (control me).drain })) me (control_after (record { stage = Some st; drain = (control me).drain }) st (at (word_of (access_of at me st)))))
+  shown2 = rw here1 at (step_shown a at (put control me (record { stage = Some st; drain = (control me).drain })) me shown1 st (ap (λ (c : ControlValue). c.stage) here1))
+
+  at_me : controls2 me ≡ after
+  at_me = put_same (put control me (record { stage = Some st; drain = (control me).drain })) me after
+
+  told_here : told_stage (Some st) ≡ told_stage (control me).stage
+  told_here = aims_told a at control me s st aims
+
+  stage2 : told_stage (controls2 me).stage ≡ stage_after (told_stage (control me).stage) (control me).drain seen.act seen.word seen.found seen.put
+  stage2 = ap (λ (c : ControlValue). told_stage c.stage) at_me ∙ (follows at me (control me).drain st ∙ ap (λ (x : Option Stage). stage_after x (control me).drain seen.act seen.word seen.found seen.put) told_here)
+
+  drain2 : (controls2 me).drain ≡ drain_then (told_stage (control me).stage) (control me).drain seen.found
+  drain2 = ap (λ (c : ControlValue). c.drain) at_me ∙ (leaves at me (control me).drain st ∙ ap (λ (x : Option Stage). drain_then x (control me).drain seen.found) told_here)
+
+  part2 : part_of (Told a at me (control me).drain st) me ≡ part_told (a.queue me) (held_of (told_stage (control me).stage)) seen.act seen.word seen.found seen.put (part_of a me)
+  part2 = part_mine a at control me (control me).drain s st ∙ ap (λ (h : Option Holding). part_told (a.queue me) h seen.act seen.word seen.found seen.put (part_of a me)) (s.held me ∙ sym (held_told (control me).stage))
+
+  mine2 : known_of (Told a at me (control me).drain st) controls2 me ≡ known_tells (a.queue me) (known_of a control me) seen
+  mine2 = λ i. knowing me (stage2 i) (drain2 i) (part2 i)
+
+  else2 : (c : ℕ) → c ≢ me → known_of (Told a at me (control me).drain st) controls2 c ≡ known_of a control c
+  else2 c ne =
+      let there : controls2 c ≡ control c = put_other (put control me (record { stage = Some st; drain = (control me).drain })) me after c ne ∙ put_other control me (record { stage = Some st; drain = (control me).drain }) c ne in
+      let part : part_of (Told a at me (control me).drain st) c ≡ part_of a c = part_else a at control me (control me).drain s st c ne in
+      λ i. knowing c (told_stage (there i).stage) (there i).drain (part i)
+
+  pub one_step : GoesOn a control me (at_after at (access_of at me st)) (known_tells (a.queue me) (known_of a control me) seen)
+  one_step = record {
+    seen = seen_of me (access_of at me st) (at (word_of (access_of at me st))) (outcome_of (control me).drain st (at (word_of (access_of at me st)))).note;
+    calls = Told a at me (control me).drain st;
+    told = refl;
+    controls = controls2;
+    shown = shown2;
+    mine = mine2;
+    others = else2;
+  }
+
+-- the same, by what the CPU knows of its access
+pub known_step : (a : CallState) (at : Word → ℕ) (control : ℕ → ControlValue) (v : Known) (st : Stage) (access : Access) → Shows a at control → v ≡ known_of a control v.number → Aims v st → known_access v st ≡ access →
+    GoesOn a control v.number (at_after at access) (known_tells (a.queue v.number) v (seen_of v.number access (at (word_of access)) None))
+known_step a at control v st access s view aims is =
+    let me = v.number in
+    let aims' : Aims (known_of a control me) st = subst (λ (u : Known). Aims u st) view aims in
+    let same : access_of at me st ≡ access = access_known a at control me s st aims' ∙ (ap (λ (u : Known). known_access u st) (sym view) ∙ is) in
+    subst (λ (u : Known). GoesOn a control me (at_after at access) (known_tells (a.queue v.number) u (seen_of me access (at (word_of access)) None))) (sym view)
+    (subst (λ (x : Access). GoesOn a control me (at_after at x) (known_tells (a.queue v.number) (known_of a control me) (seen_of me x (at (word_of x)) None))) same (one_step a at control me s st aims'))

@@ -1,0 +1,347 @@
+-- A CPU may stand at any stage that its steps so far leave open.
+use Rattle.std.proofs.Common.{◌≡◌, ℕ, ◌%◌, ◌<◌, true, false, ◌==◌, Option, Some, None, get_or, sym, subst, refl, ap, ◌∙◌, ◌⊎◌, inl, inr}
+use Rattle.smp_words.specs.Put.{put}
+use Rattle.smp_words.specs.Size.{records, owner}
+use Rattle.smp_call_steps.specs.Calls.{CallState}
+use Rattle.smp_call_steps.specs.Posts.{post_access}
+use Rattle.smp_call_steps.specs.Drains.{DrainValue, handle_access, source_at}
+use Rattle.smp_call_steps.specs.Stages.{ControlValue, access_of}
+use Rattle.smp_call_steps.specs.Places.{Holds}
+use Rattle.smp_call_steps.specs.Stands.{Rests, StandsAt, PostKnows, share_of, held_of, held_of_post, HandIs}
+use Rattle.smp_call_steps.specs.Shows.{Shows}
+use Rattle.smp_call_steps.specs.Known.{told_post, told_handle, told_stage, known_of, Aims, PostAims, Moment, known_access, queued_tally}
+use Rattle.smp_call_steps.proofs.Rows.{row-at}
+use Rattle.smp_call_steps.proofs.Sending.{stands_on}
+use Rattle.smp_call_steps.specs.declared.known.Known.{Known}
+use Rattle.smp_call_steps.specs.declared.place.RecPlace.{RecPlace}
+use Rattle.smp_call_steps.specs.declared.place.RecPlace.TheVariants as place
+use Rattle.smp_words.specs.declared.word.Word.{Word}
+use Rattle.smp_words.specs.declared.word.Word.TheVariants.{Hand, Flags}
+use Rattle.smp_call_steps.specs.declared.post.Posting.{Posting}
+use Rattle.smp_call_steps.specs.declared.post.PostStage.{PostStage}
+use Rattle.smp_call_steps.specs.declared.post.PostStage.TheVariants as post
+use Rattle.smp_call_steps.specs.declared.handle.HandleStage.{HandleStage}
+use Rattle.smp_call_steps.specs.declared.handle.HandleStage.TheVariants as handle
+use Rattle.smp_call_steps.specs.declared.stage.Stage.{Stage}
+use Rattle.smp_call_steps.specs.declared.stage.Stage.TheVariants.{Send, Done, Post, Handle}
+
+-- what is held was told
+pub held_told : (s : Option Stage) → held_of (told_stage s) ≡ held_of s
+held_told None = refl
+held_told (Some (Send to)) = refl
+held_told (Some (Done id)) = refl
+held_told (Some (Post p post.LoadFlags)) = refl
+held_told (Some (Post p post.Lock)) = refl
+held_told (Some (Post p post.StoreFunc)) = refl
+held_told (Some (Post p post.StoreInfo)) = refl
+held_told (Some (Post p post.Count)) = refl
+held_told (Some (Post p post.LoadHead)) = refl
+held_told (Some (Post p (post.StoreNext link tries))) = refl
+held_told (Some (Post p (post.Exchange link tries))) = refl
+held_told (Some (Post p post.Uncount)) = refl
+held_told (Some (Post p post.Release)) = refl
+held_told (Some (Handle handle.Enter)) = refl
+held_told (Some (Handle handle.Accept)) = refl
+held_told (Some (Handle handle.LeaveIdle)) = refl
+held_told (Some (Handle handle.Take)) = refl
+held_told (Some (Handle (handle.ReverseLoad newer id))) = refl
+held_told (Some (Handle (handle.ReverseStore newer id older))) = refl
+held_told (Some (Handle (handle.LoadNext walk id))) = refl
+held_told (Some (Handle (handle.LoadFlags walk id next))) = refl
+held_told (Some (Handle (handle.LoadFunc walk id next))) = refl
+held_told (Some (Handle (handle.LoadInfo walk id next func))) = refl
+held_told (Some (Handle (handle.Unlink walk last call next))) = refl
+held_told (Some (Handle (handle.BeginSync walk call next))) = refl
+held_told (Some (Handle (handle.CountSync walk call next))) = refl
+held_told (Some (Handle (handle.EndSync walk call next))) = refl
+held_told (Some (Handle (handle.AsyncNext id))) = refl
+held_told (Some (Handle (handle.AsyncFunc id next))) = refl
+held_told (Some (Handle (handle.AsyncInfo id next func))) = refl
+held_told (Some (Handle (handle.BeginAsync call next))) = refl
+held_told (Some (Handle (handle.CountAsync call next))) = refl
+held_told (Some (Handle handle.Leave)) = refl
+
+-- what a CPU knows of its record's words
+abbrev Knows : (ℕ → RecPlace) → (Word → ℕ) → Option Stage → Type 0
+Knows places at (Some (Post p stage)) = PostKnows places at p stage
+Knows places at _ = Unit {0}
+
+knows_post : (places : ℕ → RecPlace) (at : Word → ℕ) (p : Posting) (stage : PostStage) → PostKnows places at p stage → Knows places at (told_post p stage)
+knows_post places at p post.LoadFlags k = tt
+knows_post places at p post.Lock k = tt
+knows_post places at p post.StoreFunc k = k
+knows_post places at p post.StoreInfo k = k
+knows_post places at p post.Count k = (k.0, record { flags_are = k.1.flags_are; func_is = k.1.func_is; info_is = k.1.info_is })
+knows_post places at p post.LoadHead k = (k.0, record { flags_are = k.1.flags_are; func_is = k.1.func_is; info_is = k.1.info_is })
+knows_post places at p (post.StoreNext link tries) k = (k.0, record { flags_are = k.1.flags_are; func_is = k.1.func_is; info_is = k.1.info_is })
+knows_post places at p (post.Exchange link tries) k = (k.0, record { flags_are = k.1.flags_are; func_is = k.1.func_is; info_is = k.1.info_is }, k.2)
+knows_post places at p post.Uncount k = (k.0, record { flags_are = k.1.flags_are; func_is = k.1.func_is; info_is = k.1.info_is })
+knows_post places at p post.Release k = (k.0, record { flags_are = k.1.flags_are; func_is = k.1.func_is; info_is = k.1.info_is })
+
+knows_handle : (places : ℕ → RecPlace) (at : Word → ℕ) (h : HandleStage) → Knows places at (told_handle h)
+knows_handle places at handle.Enter = tt
+knows_handle places at handle.Accept = tt
+knows_handle places at handle.LeaveIdle = tt
+knows_handle places at handle.Take = tt
+knows_handle places at (handle.ReverseLoad newer id) = tt
+knows_handle places at (handle.ReverseStore newer id older) = tt
+knows_handle places at (handle.LoadNext walk id) = tt
+knows_handle places at (handle.LoadFlags walk id next) = tt
+knows_handle places at (handle.LoadFunc walk id next) = tt
+knows_handle places at (handle.LoadInfo walk id next func) = tt
+knows_handle places at (handle.Unlink walk last call next) = tt
+knows_handle places at (handle.BeginSync walk call next) = tt
+knows_handle places at (handle.CountSync walk call next) = tt
+knows_handle places at (handle.EndSync walk call next) = tt
+knows_handle places at (handle.AsyncNext id) = tt
+knows_handle places at (handle.AsyncFunc id next) = tt
+knows_handle places at (handle.AsyncInfo id next func) = tt
+knows_handle places at (handle.BeginAsync call next) = tt
+knows_handle places at (handle.CountAsync call next) = tt
+knows_handle places at handle.Leave = tt
+
+abbrev IsFreeAt : (ℕ → RecPlace) → ℕ → PostStage → Type 0
+IsFreeAt places id post.Lock = places id ≡ place.Free
+IsFreeAt places id _ = Unit {0}
+
+told_knows : (places : ℕ → RecPlace) (at : Word → ℕ) (p : Posting) (stage : PostStage) → Knows places at (told_post p stage) → IsFreeAt places p.id stage → PostKnows places at p stage
+told_knows places at p post.LoadFlags k f = tt
+told_knows places at p post.Lock k f = f
+told_knows places at p post.StoreFunc k f = k
+told_knows places at p post.StoreInfo k f = k
+told_knows places at p post.Count k f = (k.0, record { flags_are = k.1.flags_are; func_is = k.1.func_is; info_is = k.1.info_is })
+told_knows places at p post.LoadHead k f = (k.0, record { flags_are = k.1.flags_are; func_is = k.1.func_is; info_is = k.1.info_is })
+told_knows places at p (post.StoreNext link tries) k f = (k.0, record { flags_are = k.1.flags_are; func_is = k.1.func_is; info_is = k.1.info_is })
+told_knows places at p (post.Exchange link tries) k f = (k.0, record { flags_are = k.1.flags_are; func_is = k.1.func_is; info_is = k.1.info_is }, k.2)
+told_knows places at p post.Uncount k f = (k.0, record { flags_are = k.1.flags_are; func_is = k.1.func_is; info_is = k.1.info_is })
+told_knows places at p post.Release k f = (k.0, record { flags_are = k.1.flags_are; func_is = k.1.func_is; info_is = k.1.info_is })
+
+-- a CPU that may stand outside, or at a step of a post: it has nothing taken and nothing loaded, and its handling word is 0
+pub record Idle (a : CallState) (at : Word → ℕ) (d : DrainValue) (me : ℕ) : Type 0 where
+  pub rests : Rests (share_of a me)
+  pub hand : at (Hand me) ≡ 0
+
+-- no stage of a post is told of handle, and none of handle of a post
+abbrev IsNoHandle : Option Stage → Type 0
+IsNoHandle (Some (Handle stage)) = ⊥
+IsNoHandle _ = Unit {0}
+
+post_no_handle : (p : Posting) (st : PostStage) → IsNoHandle (told_post p st)
+post_no_handle p post.LoadFlags = tt
+post_no_handle p post.Lock = tt
+post_no_handle p post.StoreFunc = tt
+post_no_handle p post.StoreInfo = tt
+post_no_handle p post.Count = tt
+post_no_handle p post.LoadHead = tt
+post_no_handle p (post.StoreNext link tries) = tt
+post_no_handle p (post.Exchange link tries) = tt
+post_no_handle p post.Uncount = tt
+post_no_handle p post.Release = tt
+
+module _ (a : CallState) (at : Word → ℕ) (me : ℕ) (d : DrainValue) where
+  idle_handle : (h : HandleStage) → StandsAt a.place at (share_of a me) d me (Some (Handle h)) → HandIs (Some (Handle h)) (at (Hand me)) → IsNoHandle (told_handle h) → Idle a at d me
+  idle_handle handle.Enter k hand n = record { rests = k.1; hand = hand }
+  idle_handle handle.Accept k hand n = absurd n
+  idle_handle handle.LeaveIdle k hand n = absurd n
+  idle_handle handle.Take k hand n = absurd n
+  idle_handle (handle.ReverseLoad newer id) k hand n = absurd n
+  idle_handle (handle.ReverseStore newer id older) k hand n = absurd n
+  idle_handle (handle.LoadNext walk id) k hand n = absurd n
+  idle_handle (handle.LoadFlags walk id next) k hand n = absurd n
+  idle_handle (handle.LoadFunc walk id next) k hand n = absurd n
+  idle_handle (handle.LoadInfo walk id next func) k hand n = absurd n
+  idle_handle (handle.Unlink walk last call next) k hand n = absurd n
+  idle_handle (handle.BeginSync walk call next) k hand n = absurd n
+  idle_handle (handle.CountSync walk call next) k hand n = absurd n
+  idle_handle (handle.EndSync walk call next) k hand n = absurd n
+  idle_handle (handle.AsyncNext id) k hand n = absurd n
+  idle_handle (handle.AsyncFunc id next) k hand n = absurd n
+  idle_handle (handle.AsyncInfo id next func) k hand n = absurd n
+  idle_handle (handle.BeginAsync call next) k hand n = absurd n
+  idle_handle (handle.CountAsync call next) k hand n = absurd n
+  idle_handle handle.Leave k hand n = absurd n
+
+  -- a CPU whose steps have told of no handle is idle
+  idle_told : (stage : Option Stage) → StandsAt a.place at (share_of a me) d me stage → HandIs stage (at (Hand me)) → IsNoHandle (told_stage stage) → Idle a at d me
+  idle_told None k hand n = record { rests = k; hand = hand }
+  idle_told (Some (Send to)) k hand n = record { rests = k.0; hand = hand }
+  idle_told (Some (Done id)) k hand n = record { rests = k.0; hand = hand }
+  idle_told (Some (Post p st)) k hand n = record { rests = k.0; hand = hand }
+  idle_told (Some (Handle h)) k hand n = idle_handle h k hand n
+
+  knows_told : (stage : Option Stage) → StandsAt a.place at (share_of a me) d me stage → Knows a.place at (told_stage stage)
+  knows_told None k = tt
+  knows_told (Some (Send to)) k = tt
+  knows_told (Some (Done id)) k = tt
+  knows_told (Some (Post p st)) k = let post = k.1 in knows_post a.place at p st post.knows
+  knows_told (Some (Handle h)) k = knows_handle a.place at h
+
+-- of a stage of handle beyond the first, all is told
+abbrev IsBeyond : HandleStage → Type 0
+IsBeyond handle.Enter = ⊥
+IsBeyond _ = Unit {0}
+
+no_post : (p : Posting) (st : PostStage) (h : HandleStage) → told_post p st ≡ Some (Handle h) → ⊥
+no_post p st h e = subst IsNoHandle e (post_no_handle p st)
+
+same_handle : (h h' : HandleStage) → told_handle h' ≡ Some (Handle h) → h' ≡ h
+same_handle h handle.Enter e = absurd (let x = e in cc)
+same_handle h handle.Accept e = cc
+same_handle h handle.LeaveIdle e = cc
+same_handle h handle.Take e = cc
+same_handle h (handle.ReverseLoad newer id) e = cc
+same_handle h (handle.ReverseStore newer id older) e = cc
+same_handle h (handle.LoadNext walk id) e = cc
+same_handle h (handle.LoadFlags walk id next) e = cc
+same_handle h (handle.LoadFunc walk id next) e = cc
+same_handle h (handle.LoadInfo walk id next func) e = cc
+same_handle h (handle.Unlink walk last call next) e = cc
+same_handle h (handle.BeginSync walk call next) e = cc
+same_handle h (handle.CountSync walk call next) e = cc
+same_handle h (handle.EndSync walk call next) e = cc
+same_handle h (handle.AsyncNext id) e = cc
+same_handle h (handle.AsyncFunc id next) e = cc
+same_handle h (handle.AsyncInfo id next func) e = cc
+same_handle h (handle.BeginAsync call next) e = cc
+same_handle h (handle.CountAsync call next) e = cc
+same_handle h handle.Leave e = cc
+
+stage_is : (h : HandleStage) (stage : Option Stage) → told_stage stage ≡ Some (Handle h) → stage ≡ Some (Handle h)
+stage_is h None e = cc
+stage_is h (Some (Send to)) e = cc
+stage_is h (Some (Done id)) e = cc
+stage_is h (Some (Post p st)) e = absurd (no_post p st h e)
+stage_is h (Some (Handle h')) e = ap (λ (x : HandleStage). Some (Handle x)) (same_handle h h' e)
+
+told_beyond : (h : HandleStage) → IsBeyond h → told_handle h ≡ Some (Handle h)
+told_beyond handle.Enter b = absurd b
+told_beyond handle.Accept b = refl
+told_beyond handle.LeaveIdle b = refl
+told_beyond handle.Take b = refl
+told_beyond (handle.ReverseLoad newer id) b = refl
+told_beyond (handle.ReverseStore newer id older) b = refl
+told_beyond (handle.LoadNext walk id) b = refl
+told_beyond (handle.LoadFlags walk id next) b = refl
+told_beyond (handle.LoadFunc walk id next) b = refl
+told_beyond (handle.LoadInfo walk id next func) b = refl
+told_beyond (handle.Unlink walk last call next) b = refl
+told_beyond (handle.BeginSync walk call next) b = refl
+told_beyond (handle.CountSync walk call next) b = refl
+told_beyond (handle.EndSync walk call next) b = refl
+told_beyond (handle.AsyncNext id) b = refl
+told_beyond (handle.AsyncFunc id next) b = refl
+told_beyond (handle.AsyncInfo id next func) b = refl
+told_beyond (handle.BeginAsync call next) b = refl
+told_beyond (handle.CountAsync call next) b = refl
+told_beyond handle.Leave b = refl
+
+enters : (h : HandleStage) → IsBeyond h ⊎ (h ≡ handle.Enter)
+enters handle.Enter = inr refl
+enters handle.Accept = inl tt
+enters handle.LeaveIdle = inl tt
+enters handle.Take = inl tt
+enters (handle.ReverseLoad newer id) = inl tt
+enters (handle.ReverseStore newer id older) = inl tt
+enters (handle.LoadNext walk id) = inl tt
+enters (handle.LoadFlags walk id next) = inl tt
+enters (handle.LoadFunc walk id next) = inl tt
+enters (handle.LoadInfo walk id next func) = inl tt
+enters (handle.Unlink walk last call next) = inl tt
+enters (handle.BeginSync walk call next) = inl tt
+enters (handle.CountSync walk call next) = inl tt
+enters (handle.EndSync walk call next) = inl tt
+enters (handle.AsyncNext id) = inl tt
+enters (handle.AsyncFunc id next) = inl tt
+enters (handle.AsyncInfo id next func) = inl tt
+enters (handle.BeginAsync call next) = inl tt
+enters (handle.CountAsync call next) = inl tt
+enters handle.Leave = inl tt
+
+module _ (a : CallState) (at : Word → ℕ) (control : ℕ → ControlValue) (me : ℕ) (s : Shows a at control) where
+  -- a confirmed record is free, where its source is outside
+  pub free_outside : (id : ℕ) → owner id ≡ me → id < records → told_stage (control me).stage ≡ None → get_or (known_of a control me).confirmed id false ≡ true → a.place id ≡ place.Free
+  free_outside id own small out conf =
+      let none : a.held me ≡ None = s.held me ∙ (sym (held_told (control me).stage) ∙ ap held_of out) in
+      elim (s.placed.settled me id own (sym (row-at records id (a.confirmed me) false small) ∙ conf)) [ inl free ↦ free | inr hold ↦ absurd (let h : Holds None id = rw none at hold in h) ]
+
+  pub aims_told : (st : Stage) → Aims (known_of a control me) st → told_stage (Some st) ≡ told_stage (control me).stage
+  aims_told (Send to) aims = sym aims.0
+  aims_told (Done id) aims = sym aims.0
+  aims_told (Post p st) aims = aims.told
+  aims_told (Handle h) aims = sym aims.0
+
+  idle : IsNoHandle (told_stage (control me).stage) → Idle a at (control me).drain me
+  idle n = idle_told a at me (control me).drain (control me).stage (s.stands me) (s.hands me) n
+
+  outside_idle : told_stage (control me).stage ≡ None → Idle a at (control me).drain me
+  outside_idle e = idle (subst IsNoHandle (sym e) tt)
+
+  free_at : (p : Posting) (st : PostStage) → PostAims (known_of a control me) p st → IsFreeAt a.place p.id st
+  free_at p post.LoadFlags aims = tt
+  free_at p post.Lock aims = let call = aims.is_call in free_outside p.id aims.owned call.in_range (sym aims.told) aims.ready
+  free_at p post.StoreFunc aims = tt
+  free_at p post.StoreInfo aims = tt
+  free_at p post.Count aims = tt
+  free_at p post.LoadHead aims = tt
+  free_at p (post.StoreNext link tries) aims = tt
+  free_at p (post.Exchange link tries) aims = tt
+  free_at p post.Uncount aims = tt
+  free_at p post.Release aims = tt
+
+  abbrev here : Option Stage → ControlValue
+  here stage = record { stage = stage; drain = (control me).drain }
+
+  handle_same : (h : HandleStage) → IsBeyond h → told_stage (control me).stage ≡ told_handle h → (control me).stage ≡ Some (Handle h)
+  handle_same h b e = stage_is h (control me).stage (e ∙ told_beyond h b)
+
+  aims_stands : (st : Stage) → Aims (known_of a control me) st → StandsAt a.place at (share_of a me) (control me).drain me (Some st)
+  aims_stands (Send to) aims = let i = outside_idle aims.0 in (i.rests, aims.1, aims.2)
+  aims_stands (Done id) aims = let i = outside_idle aims.0 in (i.rests, aims.1, aims.2)
+  aims_stands (Post p st) aims =
+      let i = idle (subst IsNoHandle aims.told (post_no_handle p st)) in (
+        i.rests,
+        record {
+          owned = aims.owned;
+          is_call = aims.is_call;
+          me_in_range = aims.me_in_range;
+          goes = aims.goes;
+          knows = told_knows a.place at p st (subst (Knows a.place at) (sym aims.told) (knows_told a at me (control me).drain (control me).stage (s.stands me))) (free_at p st aims);
+        },
+      )
+  aims_stands (Handle h) aims = elim (enters h) [
+    | inl b ↦ subst (λ (x : Option Stage). StandsAt a.place at (share_of a me) (control me).drain me x) (handle_same h b aims.0) (s.stands me)
+    | inr e ↦ subst (λ (x : HandleStage). StandsAt a.place at (share_of a me) (control me).drain me (Some (Handle x))) (sym e)
+        (let i = outside_idle (aims.0 ∙ ap told_handle e) in (aims.1, i.rests))
+  ]
+
+  aims_hand : (st : Stage) → Aims (known_of a control me) st → HandIs (Some st) (at (Hand me))
+  aims_hand (Send to) aims = let i = outside_idle aims.0 in i.hand
+  aims_hand (Done id) aims = let i = outside_idle aims.0 in i.hand
+  aims_hand (Post p st) aims = let i = idle (subst IsNoHandle aims.told (post_no_handle p st)) in i.hand
+  aims_hand (Handle h) aims = elim (enters h) [
+    | inl b ↦ subst (λ (x : Option Stage). HandIs x (at (Hand me))) (handle_same h b aims.0) (s.hands me)
+    | inr e ↦ subst (λ (x : HandleStage). HandIs (Some (Handle x)) (at (Hand me))) (sym e) (let i = outside_idle (aims.0 ∙ ap told_handle e) in i.hand)
+  ]
+
+  pub aims_held : (st : Stage) → Aims (known_of a control me) st → a.held me ≡ held_of (Some st)
+  aims_held st aims = s.held me ∙ (sym (held_told (control me).stage) ∙ (ap held_of (sym (aims_told st aims)) ∙ held_told (Some st)))
+
+  -- the CPU may stand there, and it knows what it knew
+  pub restages : (st : Stage) → Aims (known_of a control me) st → Shows a at (put control me (record { stage = Some st; drain = (control me).drain }))
+  restages st aims = stands_on a at control me (record { stage = Some st; drain = (control me).drain }) s (aims_held st aims) (aims_stands st aims) (aims_hand st aims)
+
+  -- the access is the one that the CPU knows
+  pub access_known : (st : Stage) → Aims (known_of a control me) st → access_of at me st ≡ known_access (known_of a control me) st
+  access_known (Send to) aims = refl
+  access_known (Done id) aims = refl
+  access_known (Post p st) aims =
+      let held : a.held me ≡ held_of_post p st = aims_held (Post p st) aims in
+      ap (post_access p me st) (s.tallied.queued_are me p.to ∙ ap (λ h. queued_tally (known_of a control me) h p.to) held)
+  access_known (Handle h) aims = ap (handle_access me h) (s.tallied.ran_are me (source_at h))
+
+-- where a CPU stands outside, its confirmed records are unlocked
+pub confirmed_unlocked : (v : Known) (id n : ℕ) → Moment v (Flags id) n → v.stage ≡ None → owner id ≡ v.number → id < records → get_or v.confirmed id false ≡ true → (n % 2 == 1) ≡ false
+confirmed_unlocked v id n m out own small conf =
+    let free : m.calls.place id ≡ place.Free = free_outside m.calls m.at m.control v.number m.shown id own small (sym (ap (λ (u : Known). u.stage) m.view) ∙ out) (sym (ap (λ (u : Known). get_or u.confirmed id false) m.view) ∙ conf) in
+    let zero_there : m.at (Flags id) ≡ 0 = rw free at (m.shown.written.locks id) in
+    rw (m.number_is, zero_there) refl

@@ -1,0 +1,24 @@
+-- the step that a CPU makes at each stage
+pub mod Posts
+pub mod Order
+pub mod Drains
+pub mod Stages
+pub mod Batches
+pub mod Start
+-- the call state, and what each step tells
+pub mod Calls
+-- facts of the state: what holds between the calls, the words and the stages
+pub mod Places
+pub mod Words
+pub mod Histories
+pub mod Stands
+pub mod Shows
+pub mod Counts
+pub mod BatchLinks
+-- what a CPU knows
+pub mod Known
+pub mod Handling
+-- the machine: a list of words, and a list of controls
+pub mod Value
+pub mod Sound
+pub mod Queues

@@ -1,0 +1,105 @@
+-- What the words show of the calls: flags, functions, infos, chains, interrupts and handling words.
+use Rattle.std.specs.Prelude.{◌≡◌, ℕ, ◌+◌, ◌%◌, ◌⊎◌, Bool, true, false, Option, Some, List, [], ◌∷◌}
+use Rattle.std.specs.List.{AllByRecursion}
+use Rattle.smp_words.specs.Flags.{flags_of}
+use Rattle.smp_call_steps.specs.Places.{locked_by}
+use Rattle.smp_call_steps.specs.Calls.{Holding, Running}
+use Rattle.smp_words.specs.declared.call.Call.{Call}
+use Rattle.smp_call_steps.specs.declared.place.RecPlace.{RecPlace}
+use Rattle.smp_call_steps.specs.declared.place.RecPlace.TheVariants as place
+use Rattle.smp_words.specs.declared.word.Word.{Word}
+use Rattle.smp_words.specs.declared.word.Word.TheVariants.{Head, Intr, Hand, Queued, Ran, Flags, Func, Info, Next}
+
+-- the words of one kind, by record, by CPU or by pair
+abbrev pub flags_in : (Word → ℕ) → ℕ → ℕ
+flags_in at id = at (Flags id)
+
+abbrev pub funcs_in : (Word → ℕ) → ℕ → ℕ
+funcs_in at id = at (Func id)
+
+abbrev pub infos_in : (Word → ℕ) → ℕ → ℕ
+infos_in at id = at (Info id)
+
+abbrev pub nexts_in : (Word → ℕ) → ℕ → ℕ
+nexts_in at id = at (Next id)
+
+abbrev pub heads_in : (Word → ℕ) → ℕ → ℕ
+heads_in at cpu = at (Head cpu)
+
+abbrev pub intrs_in : (Word → ℕ) → ℕ → ℕ
+intrs_in at cpu = at (Intr cpu)
+
+abbrev pub hands_in : (Word → ℕ) → ℕ → ℕ
+hands_in at cpu = at (Hand cpu)
+
+abbrev pub queued_in : (Word → ℕ) → ℕ → ℕ → ℕ
+queued_in at source cpu = at (Queued source cpu)
+
+abbrev pub ran_in : (Word → ℕ) → ℕ → ℕ → ℕ
+ran_in at cpu source = at (Ran cpu source)
+
+-- the next words lead from this link down through the calls, the newest first, to the link below the oldest
+abbrev pub Leads : (ℕ → ℕ) → ℕ → List Call → ℕ → Type 0
+Leads nexts link [] below = link ≡ below
+Leads nexts link (oldest ∷ newer) below = (nexts oldest.id ≡ below) × Leads nexts link newer (oldest.id + 1)
+
+-- the next words lead from this link up through the calls, the oldest first, to the link after the newest
+abbrev pub Path : (ℕ → ℕ) → ℕ → List Call → ℕ → Type 0
+Path nexts link [] after = link ≡ after
+Path nexts link (oldest ∷ newer) after = (link ≡ oldest.id + 1) × Path nexts (nexts oldest.id) newer after
+
+-- 0 exactly where the record is free, else LOCK
+abbrev pub FlagsShow : RecPlace → ℕ → Type 0
+FlagsShow place.Free flags = flags ≡ 0
+FlagsShow _ flags = flags % 2 ≡ 1
+
+-- the words of a locked record are those of its call
+pub record IsWritten (flags funcs infos : ℕ → ℕ) (call : Call) : Type 0 where
+  pub flags_are : flags call.id ≡ flags_of call.class
+  pub func_is : funcs call.id ≡ call.func
+  pub info_is : infos call.id ≡ call.info
+
+-- flags are 0 exactly on the free records, and the records of all queues, batches and running SYNC calls are written
+pub record Written (flags funcs infos : ℕ → ℕ) (places : ℕ → RecPlace) (queue batch : ℕ → List Call) (running : ℕ → Running) : Type 0 where
+  pub locks : (id : ℕ) → FlagsShow (places id) (flags id)
+  pub queued : (cpu : ℕ) → AllByRecursion (IsWritten flags funcs infos) (queue cpu)
+  pub batched : (cpu : ℕ) → AllByRecursion (IsWritten flags funcs infos) (batch cpu)
+  pub runs : (cpu : ℕ) → AllByRecursion (IsWritten flags funcs infos) (locked_by (running cpu))
+
+-- the chain of each queue
+pub record Chained (heads nexts : ℕ → ℕ) (queue : ℕ → List Call) : Type 0 where
+  pub chain : (cpu : ℕ) → Leads nexts (heads cpu) (queue cpu) 0
+
+-- the link of a held record is what its source last stored there
+abbrev pub LinkIs : (ℕ → ℕ) → Option Holding → Option ℕ → Type 0
+LinkIs nexts (Some h) (Some n) = nexts h.call.id ≡ n
+LinkIs nexts _ _ = Unit {0}
+
+-- the batch that was taken last
+abbrev pub last_batch : List (List Call) → List Call
+last_batch [] = []
+last_batch (batch ∷ []) = batch
+last_batch (batch ∷ (next ∷ rest)) = last_batch (next ∷ rest)
+
+-- the links of held records
+pub record Linked (nexts : ℕ → ℕ) (held : ℕ → Option Holding) (linked : ℕ → Option ℕ) : Type 0 where
+  pub held_links : (cpu : ℕ) → LinkIs nexts (held cpu) (linked cpu)
+
+abbrev pub bit : Bool → ℕ
+bit true = 1
+bit false = 0
+
+abbrev pub IsEmpty : List Call → Type 0
+IsEmpty [] = Unit {0}
+IsEmpty (call ∷ rest) = ⊥
+
+-- somebody sees to it that this CPU drains its queue
+pub data IsNoticed (pending accepted : ℕ → Bool) (owes : ℕ → ℕ → Bool) (cpu : ℕ) : Type 0 where
+  is_pending : pending cpu ≡ true → IsNoticed pending accepted owes cpu
+  is_accepted : accepted cpu ≡ true → IsNoticed pending accepted owes cpu
+  is_owed : (source : ℕ) → owes source cpu ≡ true → IsNoticed pending accepted owes cpu
+
+-- the interrupt words are those pending, and the interrupt law: where a queue is not empty, its CPU is noticed
+pub record Noticed (intrs : ℕ → ℕ) (queue : ℕ → List Call) (pending accepted : ℕ → Bool) (owes : ℕ → ℕ → Bool) : Type 0 where
+  pub words : (cpu : ℕ) → intrs cpu ≡ bit (pending cpu)
+  pub noticed : (cpu : ℕ) → IsEmpty (queue cpu) ⊎ IsNoticed pending accepted owes cpu

@@ -1,0 +1,113 @@
+//! Posting: a CPU queues one call by a record of its own (`kernel/smp.c: generic_exec_single`,
+//! `lib/llist.c: llist_add_batch`).
+//!
+//! The record is locked and written before it is linked, and linked by one compare-exchange of the head: so
+//! whoever takes the queue finds every record in it complete.
+
+ghost use Rattle.std.specs.Prelude.{◌≡◌};
+ghost use Rattle.smp_call_steps.specs.Posts.{post_access, post_outcome, goes_to};
+
+use crate::stage::{Outcome, Stage};
+use smp_words::access::Access;
+use smp_words::call::Class;
+use smp_words::seen::Note;
+use smp_words::word::Word;
+
+/// The call that a `post` is queueing.
+#[derive(Clone, Copy)]
+pub struct Posting {
+    /// The record.
+    pub id: u32,
+    pub to: u32,
+    pub is_online: bool,
+    pub class: Class,
+    pub func: u16,
+    pub info: u64,
+    /// How many compare-exchanges may be tried.
+    pub tries: u32,
+}
+
+/// The next step of a `post`. `link` is what was found in the head last, `tries` how many
+/// compare-exchanges are left.
+#[derive(Clone, Copy)]
+pub enum PostStage {
+    LoadFlags,
+    Lock,
+    StoreFunc,
+    StoreInfo,
+    Count,
+    LoadHead,
+    StoreNext { link: u64, tries: u32 },
+    Exchange { link: u64, tries: u32 },
+    Uncount,
+    Release,
+}
+
+impl Posting {
+    /// The next access; `queued` is the number in the word that counts the calls to this destination.
+    pub fn access(&self, me: u32, stage: PostStage, queued: u64) -> Access
+        ensures { result ≡ post_access self.now me stage queued }
+    {
+        let id = self.id;
+        match stage {
+            PostStage::LoadFlags => Access::Load(Word::Flags(id)),
+            PostStage::Lock => Access::Store(Word::Flags(id), self.class.flags()),
+            PostStage::StoreFunc => Access::Store(Word::Func(id), self.func as u64),
+            PostStage::StoreInfo => Access::Store(Word::Info(id), self.info),
+            PostStage::Count => Access::Store(Word::Queued(me, self.to), queued.wrapping_add(1)),
+            PostStage::LoadHead => Access::Load(Word::Head(self.to)),
+            PostStage::StoreNext { link, tries: _ } => Access::Store(Word::Next(id), link),
+            PostStage::Exchange { link, tries: _ } => {
+                Access::Exchange(Word::Head(self.to), link, id as u64 + 1)
+            }
+            PostStage::Uncount => Access::Store(Word::Queued(me, self.to), queued.wrapping_sub(1)),
+            PostStage::Release => Access::Store(Word::Flags(id), 0),
+        }
+    }
+
+    /// What follows when a step at this stage found this number.
+    pub fn outcome(self, stage: PostStage, found: u64) -> Outcome
+        ensures { result ≡ post_outcome self stage found }
+    {
+        match stage {
+            PostStage::LoadFlags => {
+                if found % 2 == 1 {
+                    Outcome::end(Note::Busy)
+                } else if !self.is_online {
+                    Outcome::end(Note::NoCpu)
+                } else {
+                    self.at(PostStage::Lock)
+                }
+            }
+            PostStage::Lock => self.at(PostStage::StoreFunc),
+            PostStage::StoreFunc => self.at(PostStage::StoreInfo),
+            PostStage::StoreInfo => self.at(PostStage::Count),
+            PostStage::Count => self.at(PostStage::LoadHead),
+            PostStage::LoadHead => self.at(PostStage::StoreNext {
+                link: found,
+                tries: self.tries,
+            }),
+            PostStage::StoreNext { link, tries } => self.at(PostStage::Exchange { link, tries }),
+            PostStage::Exchange { link, tries } => {
+                if found == link {
+                    Outcome::end(if link == 0 { Note::Owed } else { Note::Queued })
+                } else if tries > 1 {
+                    self.at(PostStage::StoreNext {
+                        link: found,
+                        tries: tries - 1,
+                    })
+                } else {
+                    self.at(PostStage::Uncount)
+                }
+            }
+            PostStage::Uncount => self.at(PostStage::Release),
+            PostStage::Release => Outcome::end(Note::Contended),
+        }
+    }
+
+    fn at(self, stage: PostStage) -> Outcome
+        ensures { result ≡ goes_to self stage }
+    {
+        Outcome::go_on(Stage::Post(self, stage))
+    }
+}

@@ -1,5 +1,0 @@
-use Rattle.smp_core.proofs.BatchLinks.{batch_links}
-use Rattle.smp_core.proofs.laws.batch_links.Goals as goal
-
-pub returns : goal.returns
-returns c a at control s cpu = batch_links a at control s cpu

@@ -1,7 +1,0 @@
-use Rattle.smp_core.specs.Layout.{number_in}
-use Rattle.smp_core.specs.Words.{nexts_in}
-use Rattle.smp_core.proofs.Chains.{Seeks}
-use Rattle.smp_core.proofs.queue.is_on_chain.Given as goal
-
-abbrev pub invariant-loop-round : goal.invariant-loop-round
-invariant-loop-round l = Seeks (nexts_in (number_in l.words)) l.first l.link l.id l._round

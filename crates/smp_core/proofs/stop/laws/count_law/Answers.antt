@@ -1,4 +1,0 @@
-use Rattle.smp_core.proofs.stop.laws.count_law.Goals as goal
-
-pub returns : goal.returns
-returns c u p at seat source h k = h.counts k

@@ -1,5 +1,0 @@
-use Rattle.smp_core.proofs.Stops.Nudging.{edge_is_read}
-use Rattle.smp_core.proofs.stop.laws.edges_are_read.Goals as goal
-
-pub returns : goal.returns
-returns c u p at seat source h control me s k up e refused = edge_is_read u p at seat source h control me s k up e refused

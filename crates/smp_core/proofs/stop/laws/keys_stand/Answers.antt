@@ -1,5 +1,0 @@
-use Rattle.smp_core.proofs.Stops.Nudging.{keys_stand}
-use Rattle.smp_core.proofs.stop.laws.keys_stand.Goals as goal
-
-pub returns : goal.returns
-returns c u p at seat source h control me s stage e whole = keys_stand u p at seat source h control me s stage e whole

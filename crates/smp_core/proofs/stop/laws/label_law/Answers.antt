@@ -1,5 +1,0 @@
-use Rattle.smp_core.proofs.Stops.Patched.{lawful_when_on}
-use Rattle.smp_core.proofs.stop.laws.label_law.Goals as goal
-
-pub returns : goal.returns
-returns c u p at seat source h me online on = record { lawful = lawful_when_on u p.now at seat h.present me online on; agrees = h.present.read me online on }

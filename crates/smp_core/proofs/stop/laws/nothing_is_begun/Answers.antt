@@ -1,5 +1,0 @@
-use Rattle.smp_core.proofs.Stops.Facts.{no_stops_shown}
-use Rattle.smp_core.proofs.stop.laws.nothing_is_begun.Goals as goal
-
-pub returns : goal.returns
-returns c u at setup gate rolls entries lawful off = no_stops_shown u at setup gate rolls entries lawful off

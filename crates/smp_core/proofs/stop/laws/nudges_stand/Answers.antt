@@ -1,5 +1,0 @@
-use Rattle.smp_core.proofs.Stops.Nudging.{nudges}
-use Rattle.smp_core.proofs.stop.laws.nudges_stand.Goals as goal
-
-pub returns : goal.returns
-returns c u p at seat source h control me s k expected new e = nudges u p at seat source h control me s k expected new e

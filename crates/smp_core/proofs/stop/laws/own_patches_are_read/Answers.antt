@@ -1,5 +1,0 @@
-use Rattle.smp_core.proofs.Stops.Nudging.{own_patch_is_read}
-use Rattle.smp_core.proofs.stop.laws.own_patches_are_read.Goals as goal
-
-pub returns : goal.returns
-returns c me work kind = own_patch_is_read me work kind

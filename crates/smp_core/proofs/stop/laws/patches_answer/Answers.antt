@@ -1,5 +1,0 @@
-use Rattle.smp_core.proofs.Stops.Nudging.{patch_answers}
-use Rattle.smp_core.proofs.stop.laws.patches_answer.Goals as goal
-
-pub returns : goal.returns
-returns c u p at seat source h control me s v answer ran e work count made rest is = patch_answers u p at seat source h control me s v answer ran e work count made rest is

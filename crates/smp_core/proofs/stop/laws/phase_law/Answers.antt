@@ -1,6 +1,0 @@
-use Rattle.smp_core.proofs.Stops.Raises.{phase_law}
-use Rattle.smp_core.specs.declared.word.Word.TheVariants.{Slot}
-use Rattle.smp_core.proofs.stop.laws.phase_law.Goals as goal
-
-pub returns : goal.returns
-returns c u p at seat source h s op busy = phase_law u.cpus (p.now.stop s) (λ f. at (Slot s f)) (h.present.slots s) op busy

@@ -1,5 +1,0 @@
-use Rattle.smp_core.proofs.Stops.CompletionSteps.{stop_step_shown}
-use Rattle.smp_core.proofs.stop.laws.steps_are_told.Goals as goal
-
-pub returns : goal.returns
-returns c u p at seat source h k me s stage e = stop_step_shown u p at seat source h k me s stage e

@@ -1,6 +1,0 @@
-use Rattle.std.proofs.Common.{◌≡◌, arith}
-use Rattle.smp_core.specs.Size.{cpus}
-use Rattle.smp_core.proofs.stop.machine.new_controls.Goals as goal
-
-pub returns : goal.returns
-returns g c = let e : c.loop-cpu._cpu ≡ cpus = omega arith in rw e at c.loop-cpu.invariant

@@ -1,0 +1,19 @@
+use Rattle.std.proofs.Common.{◌≡◌, List, Some, length, sym, ◌∙◌, ap, arith}
+use Rattle.std.proofs.lemmas.List.{get_or_read}
+use Rattle.smp_words.specs.Size.{cpus}
+use Rattle.smp_stop_steps.specs.Stages.{StopControlValue, stop_outside}
+use Rattle.smp_stop_steps.specs.Starts.{stop_first}
+use Rattle.smp_stop_steps.specs.Value.{StopsValue, stop_control_of}
+use Rattle.smp_stop_steps.proofs.Starting.{may_begin}
+use Rattle.smp_stop_steps.proofs.machine.Stops.start.Goals as goal
+
+pub begin-requires-clause-may : goal.begin-requires-clause-may
+begin-requires-clause-may g c =
+    let items = c.self.inside.controls.items in
+    let sized : length items ≡ cpus = c.self.invariant.sized in
+    let kept : items ≡ c.args.self.now.controls = ap (λ (v : StopsValue). v.controls) c.self.view_is in
+    let here : c.index.result.now ≡ stop_control_of items c.args.cpu = get_or_read items c.args.cpu c.index.result.now (omega (arith, c.requires.cpu)) c.index.ensures stop_outside in
+    let now : c.index.result.now ≡ stop_control_of c.args.self.now.controls c.args.cpu = here ∙ ap (λ (x : List StopControlValue). stop_control_of x c.args.cpu) kept in
+    let first : stop_first (stop_control_of c.args.self.now.controls c.args.cpu) c.args.command.now ≡ Some c.in-Some.stage =
+    rw (← now) (sym c.first_stage.ensures ∙ c.in-Some.is) in
+    may_begin c.args.self.now c.args.cpu c.args.command.now c.in-Some.stage c.requires.cpu c.requires.below c.requires.online c.requires.fits c.requires.allowed first

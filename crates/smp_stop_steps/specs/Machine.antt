@@ -1,0 +1,47 @@
+-- One step of the stop half of a machine, and what every such half keeps.
+use Rattle.std.specs.Prelude.{◌≡◌, ℕ, ◌≤◌, List, length, slice_set}
+use Rattle.smp_labels.specs.Labels.{Labels}
+use Rattle.smp_words.specs.Size.{cpus}
+use Rattle.smp_words.specs.Access.{word_of, seen_of}
+use Rattle.smp_stop_steps.specs.State.{StopState}
+use Rattle.smp_stop_steps.specs.Tells.{tells}
+use Rattle.smp_stop_steps.specs.Stages.{StopControlValue, stop_access, stop_outcome, answer_at}
+use Rattle.smp_stop_steps.specs.Table.{StopWords, stop_number, stop_words_after}
+use Rattle.smp_stop_steps.specs.Value.{StopsValue, StopShown, StopsShow, IsStopTable, setup_of, stop_control_of}
+use Rattle.smp_words.specs.declared.access.Access.{Access}
+use Rattle.smp_words.specs.declared.seen.Seen.{Seen}
+use Rattle.smp_words.specs.declared.field.Field.TheVariants as field
+use Rattle.smp_stop_steps.specs.declared.stage.StopStage.{StopStage}
+use Rattle.smp_words.specs.declared.word.Word.TheVariants.{Slot}
+
+-- the access that a CPU makes at this stage, and what it finds
+abbrev pub stop_access_at : StopsValue → ℕ → StopStage → Access
+stop_access_at v cpu stage = stop_access cpus cpu (stop_control_of v.controls cpu).changes stage
+
+abbrev pub stop_found_at : StopsValue → ℕ → StopStage → ℕ
+stop_found_at v cpu stage = stop_number v.table (word_of (stop_access_at v cpu stage))
+
+-- what is seen of the step
+abbrev pub stop_seen_at : StopsValue → ℕ → StopStage → Seen
+stop_seen_at v cpu stage =
+    let found = stop_found_at v cpu stage in
+    seen_of cpu (stop_access_at v cpu stage) found (stop_outcome cpu (stop_control_of v.controls cpu) stage found).note
+
+-- the half after it
+abbrev pub stop_stepped : StopsValue → ℕ → StopStage → StopsValue
+stop_stepped v cpu stage = record v {
+  table = stop_words_after v.table (stop_access_at v cpu stage);
+  controls = slice_set v.controls cpu (stop_outcome cpu (stop_control_of v.controls cpu) stage (stop_found_at v cpu stage)).control;
+}
+
+-- whatever stops the half showed, it now shows those that the step tells
+abbrev pub StopTold : StopsValue → ℕ → StopStage → StopsValue → Type 0
+StopTold old cpu stage new = (p : StopState) → StopShown p old → StopShown (tells (setup_of old.online old.labels) p (stop_seen_at old cpu stage) (answer_at stage)) new
+
+-- the table is whole, no state word is more than 5, each CPU has a control, and they show some stops
+pub record AreSoundStops (online : ℕ) (labels : Labels) (table : StopWords) (controls : List StopControlValue) : Type 0 where
+  pub sized : length controls ≡ cpus
+  pub table_is : IsStopTable table
+  pub phases : (s : ℕ) → stop_number table (Slot s field.State) ≤ 5
+  pub stops : StopState
+  pub shown : StopsShow (setup_of online labels) stops table controls

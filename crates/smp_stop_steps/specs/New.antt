@@ -1,0 +1,26 @@
+-- A stop half as it is made.
+use Rattle.std.specs.Prelude.{ℕ, ◌-◌, List, ◌++◌, length, map, replicate}
+use Rattle.smp_labels.specs.Entries.{entry_word}
+use Rattle.smp_labels.specs.Labels.{Labels, first_site}
+use Rattle.smp_labels.specs.declared.words.TheConstants.{MOST_KEYS, MOST_SITES}
+use Rattle.smp_words.specs.Size.{cpus}
+use Rattle.smp_stop_steps.specs.Stages.{stop_outside}
+use Rattle.smp_stop_steps.specs.Table.{StopWords}
+use Rattle.smp_stop_steps.specs.Value.{StopsValue}
+use Rattle.smp_words.specs.declared.size.TheConstants.{SLOT_WORDS}
+
+-- the words of a stop table with a free gate, free slots, and all keys off
+abbrev pub new_stop_words : Labels → StopWords
+new_stop_words labels =
+    let unused : List ℕ = replicate (MOST_SITES - length labels.entries) 0 in
+    record {
+      gate = 0;
+      slots = replicate SLOT_WORDS 0;
+      keys = replicate MOST_KEYS 0;
+      entries = map entry_word labels.entries ++ unused;
+      sites = map first_site labels.entries ++ unused;
+    }
+
+-- a stop half in which nothing was begun
+abbrev pub new_stops : ℕ → ℕ → Labels → StopsValue
+new_stops nr online labels = record { nr = nr; online = online; labels = labels; table = new_stop_words labels; controls = replicate cpus stop_outside }

@@ -1,0 +1,49 @@
+-- What was begun, answered and collected: the results of stops.
+use Rattle.std.specs.Prelude.{◌≡◌, ℕ, cond, List, [], ◌∷◌, ◌++◌}
+use Rattle.smp_mask.specs.Mask.{has}
+use Rattle.smp_stop_steps.specs.Stop.{Standing, Completed, Stop}
+use Rattle.smp_stop_steps.specs.Laws.{IsResult}
+use Rattle.smp_words.specs.declared.work.Work.{Work}
+
+-- a stop that was collected: its work, what each CPU of its mask answered, and its result
+pub record Past : Type 0 where
+  pub work : Work
+  pub answer : ℕ → ℕ
+  pub result : ℕ
+
+-- the result of each is one of its answers
+abbrev pub AllPast : List Past → Type 0
+AllPast [] = Unit {0}
+AllPast (x ∷ rest) = IsResult x.work.mask x.answer x.result × AllPast rest
+
+abbrev pub works_of : List Past → List Work
+works_of [] = []
+works_of (x ∷ rest) = x.work ∷ works_of rest
+
+abbrev pub results_of : List Past → List ℕ
+results_of [] = []
+results_of (x ∷ rest) = x.result ∷ results_of rest
+
+-- what a CPU answered, in the stops whose mask has it
+abbrev pub answers_of : ℕ → List Past → List ℕ
+answers_of c [] = []
+answers_of c (x ∷ rest) = cond (has x.work.mask c) (x.answer c ∷ answers_of c rest) (answers_of c rest)
+
+-- and in the stop that is open, once it has completed
+abbrev pub answer_now : Standing → List ℕ
+answer_now (Completed a v) = v ∷ []
+answer_now _ = []
+
+abbrev pub work_now : Stop → List Work
+work_now stop = cond stop.is_open (stop.work ∷ []) []
+
+-- the results of stops, of one source: the works begun are those collected and the open one, each result is one of the
+-- answers of its own work, and each CPU of its mask gave it exactly one
+pub record PastShows (past : List Past) (stop : Stop) (begun : List Work) (collected : List ℕ) (answers : ℕ → List ℕ) : Type 0 where
+  pub each : AllPast past
+  pub begun_are : begun ≡ works_of past ++ work_now stop
+  pub collected_are : collected ≡ results_of past
+  pub answers_are : (c : ℕ) → answers c ≡ answers_of c past ++ answer_now (stop.standing c)
+
+abbrev pub HasPast : Stop → List Work → List ℕ → (ℕ → List ℕ) → Type 0
+HasPast stop begun collected answers = (past : List Past) × PastShows past stop begun collected answers

@@ -1,0 +1,50 @@
+-- Where a CPU is with the stops.
+use Rattle.std.specs.Prelude.{◌≡◌, ℕ, Bool, true, false, ◌==◌, ◌||◌, nat_lt, cond, Some, None, List}
+use Rattle.smp_stop_steps.specs.Stop.{Inside, Answering, Raising, Nobody, Refills, Raises, Last}
+use Rattle.smp_stop_steps.specs.Labels.{Change, Patches}
+use Rattle.smp_stop_steps.specs.State.{Present}
+use Rattle.smp_words.specs.declared.work.Kind.TheVariants.{Patch}
+use Rattle.smp_words.specs.declared.work.Work.{Work}
+
+-- what a CPU is to do for the next phase
+pub data Turn : Type 0 where
+  Rests : Turn
+  Fills : Turn
+  Sets : Turn
+
+abbrev pub turn_of : Raising → ℕ → Turn
+turn_of Nobody c = Rests
+turn_of (Refills r) c = cond (c == r) Fills Rests
+turn_of (Raises r) c = cond (c == r) Sets Rests
+
+pub data Seat : Type 0 where
+  -- in no stop
+  Free : Seat
+  -- in this source's stop, with the last phase that it acknowledged and the last that it looked at
+  In : (slot : ℕ) → (work : Work) → (acked looked : ℕ) → Turn → Seat
+  -- its answer is in the result word, and it has not counted itself
+  Gives : (slot : ℕ) → (work : Work) → (acked answer : ℕ) → Seat
+  -- inside the function of a patch, with the count that it found, the stores made and those to be made
+  Alters : (slot : ℕ) → (work : Work) → (count : ℕ) → (made rest : List Change) → Seat
+  -- it has completed as the last of all
+  Closes : (slot : ℕ) → Seat
+
+-- the CPU is there
+abbrev pub Stands : Present → ℕ → Seat → Type 0
+Stands n me Free = n.inside me ≡ None
+Stands n me (In s w a l t) = (n.inside me ≡ Some s) × ((n.stop s).standing me ≡ Inside a l) × (turn_of (n.stop s).raising me ≡ t) × ((n.stop s).work ≡ w)
+Stands n me (Gives s w a v) =
+    (n.inside me ≡ Some s) × ((n.stop s).standing me ≡ Answering a v) × (turn_of (n.stop s).raising me ≡ Rests) × ((n.stop s).work ≡ w)
+Stands n me (Alters s w count made rest) =
+    (n.inside me ≡ Some s) × ((n.stop s).standing me ≡ Inside 2 3) × (turn_of (n.stop s).raising me ≡ Rests) ×
+    ((n.stop s).work ≡ w) × (w.kind ≡ Patch) × (n.patching ≡ Patches me w count made rest)
+Stands n me (Closes s) = (n.inside me ≡ None) × ((n.stop s).is_open ≡ true) × ((n.stop s).ending ≡ Last me)
+
+-- interrupts are off from the look at 2 until the CPU has left
+abbrev pub irq_of : Seat → Bool
+irq_of Free = true
+irq_of (In s w a l Rests) = nat_lt l 2 || a == 4
+irq_of (In s w a l t) = nat_lt l 2
+irq_of (Gives s w a v) = true
+irq_of (Alters s w count made rest) = false
+irq_of (Closes s) = true

@@ -1,0 +1,28 @@
+-- What holds between the stops, the words of the stop table, and where each CPU is, between any two steps.
+use Rattle.std.specs.Prelude.{◌≡◌, ℕ, ◌+◌, Option, Some, None}
+use Rattle.smp_stop_steps.specs.State.{Setup, IsSetup, StopState}
+use Rattle.smp_stop_steps.specs.Seats.{Seat}
+use Rattle.smp_stop_steps.specs.Sources.{Source, SourceShows}
+use Rattle.smp_stop_steps.specs.Past.{HasPast}
+use Rattle.smp_stop_steps.specs.Present.{PresentShows, OwnsKey}
+use Rattle.smp_stop_steps.specs.KeyCounts.{CountShows}
+use Rattle.smp_words.specs.declared.word.Word.{Word}
+use Rattle.smp_words.specs.declared.word.Word.TheVariants.{Gate, Slot, Key}
+
+-- the holder of the gate + 1, or 0
+abbrev pub gate_word : Option ℕ → ℕ
+gate_word None = 0
+gate_word (Some c) = c + 1
+
+pub record StopShows (u : Setup) (p : StopState) (at : Word → ℕ) (seat : ℕ → Seat) (source : ℕ → Source) : Type 0 where
+  pub setup : IsSetup u
+  -- the words show the stops, the phase law and the label law
+  pub present : PresentShows u p.now at seat
+  pub gate : at Gate ≡ gate_word p.gate
+  pub sources : (s : ℕ) → SourceShows u p.gate (p.now.stop s) (λ f. at (Slot s f)) s (source s)
+  -- the results of stops
+  pub past : (s : ℕ) → HasPast (p.now.stop s) (p.begun s) (p.collected s) (λ c. p.answers c s)
+  -- a source that has patched a key knows it
+  pub owns : (s : ℕ) → OwnsKey u.first p.now (λ k. at (Key k)) s
+  -- the count law
+  pub counts : (k : ℕ) → CountShows u.cpus p.nudged p.patched k (at (Key k))

@@ -1,0 +1,263 @@
+-- The steps of the commands of the stop half, one after another.
+use Rattle.std.specs.Int.{w32, cast_signed}
+use Rattle.std.specs.Prelude.{ℕ, ◌+◌, ◌-◌, ◌*◌, ◌%◌, ◌^◌, ◌<◌, ◌≤◌, Bool, true, false, ◌==◌, ◌&&◌, ◌||◌, if◌then◌else◌, Option, Some, None, List, [], ◌∷◌, ◌++◌, length}
+use Rattle.smp_mask.specs.Mask.{has}
+use Rattle.smp_labels.specs.Entries.{entry_at, IsEntryWord}
+use Rattle.smp_labels.specs.Keys.{is_on, change_of, count_after}
+use Rattle.smp_labels.specs.Kinds.{xor}
+use Rattle.smp_labels.specs.declared.keys.Change.{Change as KeyChange}
+use Rattle.smp_labels.specs.declared.keys.Change.TheVariants.{Up, Down}
+use Rattle.smp_labels.specs.Plans.{site_change}
+use Rattle.smp_labels.specs.declared.patch.Place.{Place}
+use Rattle.smp_labels.specs.declared.patch.Place.TheVariants as place
+use Rattle.smp_labels.specs.declared.words.TheConstants.{MOST_SITES}
+use Rattle.smp_stop_steps.specs.Counts.{mask_weight}
+use Rattle.smp_words.specs.Kinds.{kind_at}
+use Rattle.smp_stop_steps.specs.Slots.{begun_value}
+use Rattle.smp_stop_steps.specs.Labels.{Change}
+use Rattle.smp_stop_steps.specs.Tells.{is_multi}
+use Rattle.smp_words.specs.declared.access.Access.{Access}
+use Rattle.smp_words.specs.declared.access.Access.TheVariants.{Load, Store, Exchange, Sub, And}
+use Rattle.smp_words.specs.declared.seen.Note.{Note}
+use Rattle.smp_words.specs.declared.seen.Note.TheVariants as note
+use Rattle.smp_words.specs.declared.field.Field.{Field}
+use Rattle.smp_words.specs.declared.field.Field.TheVariants as field
+use Rattle.smp_stop_steps.specs.declared.stage.CompletionStage.{CompletionStage}
+use Rattle.smp_stop_steps.specs.declared.stage.CompletionStage.TheVariants as completion
+use Rattle.smp_stop_steps.specs.declared.stage.RoundStage.{RoundStage}
+use Rattle.smp_stop_steps.specs.declared.stage.RoundStage.TheVariants as round
+use Rattle.smp_stop_steps.specs.declared.stage.StopStage.{StopStage}
+use Rattle.smp_stop_steps.specs.declared.stage.StopStage.TheVariants.{TakeGate, OpenGate, Begin, Enter, EnterKind, EnterMask, EnterActive, Advance, Complete, Close, LoadDone, LoadResult, ReadKey, ReadSite, NudgeKey, ExchangeKey}
+use Rattle.smp_stop_steps.specs.declared.stage.Visit.{Visit}
+use Rattle.smp_words.specs.declared.work.Kind.{Kind}
+use Rattle.smp_words.specs.declared.work.Work.{Work}
+use Rattle.smp_words.specs.declared.word.Word.{Word}
+use Rattle.smp_words.specs.declared.word.Word.TheVariants.{Gate, Slot, Key, Entry, Site}
+
+-- all bits but one
+abbrev pub all_but : ℕ → ℕ
+all_but cpu = 2 ^ 64 - 1 - 1 * 2 ^ cpu % 2 ^ 64
+
+-- the word of a place
+abbrev pub label_word : Place → Word
+label_word (place.Key k) = Key k
+label_word (place.Site i) = Site i
+
+-- the store at this place among those of a patch; past the end one that is never made
+abbrev pub change_at : List Change → ℕ → Change
+change_at [] i = (place.Key 0, 0)
+change_at (change ∷ rest) i = if i == 0 then change else change_at rest (i - 1)
+
+abbrev pub store_of : Change → Access
+store_of change = Store (label_word change.0) change.1
+
+-- what a turn does next, where there are n CPUs
+abbrev pub round_access : ℕ → List Change → Visit → RoundStage → Access
+round_access n changes v (round.Look answer) = Load (Slot v.slot field.State)
+round_access n changes v (round.LoadFunc answer) = Load (Slot v.slot field.Func)
+round_access n changes v (round.LoadArg answer func) = Load (Slot v.slot field.Arg)
+round_access n changes v (round.LoadKey key change) = Load (Key key)
+round_access n changes v (round.LoadEntry key word site) = Load (Entry site)
+round_access n changes v (round.StoreChange made) = store_of (change_at changes made)
+round_access n changes v (round.Acknowledge answer ran) = Sub (Slot v.slot field.Ack)
+round_access n changes v (round.Refill ran) = Store (Slot v.slot field.Ack) (mask_weight n v.mask)
+round_access n changes v (round.Raise ran) = Store (Slot v.slot field.State) (v.acked + 1)
+
+-- what a completion does next
+abbrev pub completion_access : Visit → CompletionStage → Access
+completion_access v (completion.LoadFunc answer) = Load (Slot v.slot field.Func)
+completion_access v (completion.LoadArg answer func) = Load (Slot v.slot field.Arg)
+completion_access v completion.StoreAnswer = Store (Slot v.slot field.Result) v.answer
+completion_access v completion.CountDown = Sub (Slot v.slot field.Todo)
+
+-- the access that a CPU makes next, where there are n CPUs; the changes are those of the patch that it makes
+abbrev pub stop_access : ℕ → ℕ → List Change → StopStage → Access
+stop_access n me changes TakeGate = Exchange Gate 0 (me + 1)
+stop_access n me changes OpenGate = Store Gate 0
+stop_access n me changes (Begin work f) = Store (Slot me f) (begun_value n work f)
+stop_access n me changes (Enter slot) = And (Slot slot field.Roll) (all_but me)
+stop_access n me changes (EnterKind slot) = Load (Slot slot field.Kind)
+stop_access n me changes (EnterMask slot kind) = Load (Slot slot field.Mask)
+stop_access n me changes (EnterActive slot kind mask) = Load (Slot slot field.Active)
+stop_access n me changes (Advance v stage) = round_access n changes v stage
+stop_access n me changes (Complete v stage) = completion_access v stage
+stop_access n me changes (Close slot) = Store (Slot slot field.Done) 1
+stop_access n me changes LoadDone = Load (Slot me field.Done)
+stop_access n me changes LoadResult = Load (Slot me field.Result)
+stop_access n me changes (ReadKey k) = Load (Key k)
+stop_access n me changes (ReadSite i) = Load (Site i)
+stop_access n me changes (NudgeKey k up) = Load (Key k)
+stop_access n me changes (ExchangeKey k expected new) = Exchange (Key k) expected new
+
+-- where a CPU stands in the stop half: its stage, none outside such a command; the stop that it is in; the changes of
+-- its patch; whether its interrupts are on, and whether its own stop is open
+pub record StopControlValue : Type 0 where
+  pub stage : Option StopStage
+  pub visit : Option Visit
+  pub changes : List Change
+  pub interrupts : Bool
+  pub is_open : Bool
+
+-- a CPU in no stop, outside a command
+abbrev pub stop_outside : StopControlValue
+stop_outside = record { stage = None; visit = None; changes = []; interrupts = true; is_open = false }
+
+-- where it stands after a step, and the note of that step
+pub record StopOutcome : Type 0 where
+  pub control : StopControlValue
+  pub note : Option Note
+
+abbrev pub stop_goes : StopControlValue → StopStage → StopOutcome
+stop_goes c stage = record { control = record c { stage = Some stage }; note = None }
+
+abbrev pub stop_ends : StopControlValue → Note → StopOutcome
+stop_ends c n = record { control = record c { stage = None }; note = Some n }
+
+-- begin stores the fields of a slot in this order, and the roll opens the stop
+abbrev pub begun_next : StopControlValue → Work → Field → StopOutcome
+begun_next c work field.Kind = stop_goes c (Begin work field.Mask)
+begun_next c work field.Mask = stop_goes c (Begin work field.Active)
+begun_next c work field.Active = stop_goes c (Begin work field.Func)
+begun_next c work field.Func = stop_goes c (Begin work field.Arg)
+begun_next c work field.Arg = stop_goes c (Begin work field.Result)
+begun_next c work field.Result = stop_goes c (Begin work field.Todo)
+begun_next c work field.Todo = stop_goes c (Begin work field.Done)
+begun_next c work field.Done = stop_goes c (Begin work field.Ack)
+begun_next c work field.Ack = stop_goes c (Begin work field.State)
+begun_next c work field.State = stop_goes c (Begin work field.Roll)
+begun_next c work field.Roll = stop_ends (record c { is_open = true }) note.Begun
+
+-- the note of a turn that has acknowledged this phase
+abbrev pub turn_note : ℕ → Bool → Note
+turn_note p ran = if p == 4 then note.Left else if ran then note.Ran else note.Moved p
+
+-- a turn ends; with phase 4 the CPU has left, and its interrupts are on
+abbrev pub turn_ends : StopControlValue → ℕ → Bool → StopOutcome
+turn_ends c p ran = stop_ends (record c { interrupts = if p == 4 then true else c.interrupts }) (turn_note p ran)
+
+-- a new phase: at 2 interrupts go off, at 3 an active CPU runs its function
+abbrev pub looked_on : ℕ → StopControlValue → Visit → ℕ → ℕ → StopOutcome
+looked_on me c v answer p =
+    stop_goes (record c { interrupts = if p == 2 then false else c.interrupts })
+    (Advance v (if p == 3 && has v.active me then round.LoadFunc answer else round.Acknowledge answer false))
+
+-- the visit once the phase is acknowledged
+abbrev pub visit_acked : Visit → ℕ → Bool → Visit
+visit_acked v answer ran = record v { acked = v.acked + 1; answer = if ran then answer else v.answer }
+
+abbrev pub acked_on : StopControlValue → Visit → Bool → ℕ → StopOutcome
+acked_on c v ran found =
+    if found == 1 then stop_goes (record c { visit = Some v }) (Advance v (round.Refill ran))
+    else turn_ends (record c { visit = Some v }) v.acked ran
+
+-- a patch with this loaded entry, and the next one, or its stores
+abbrev pub entry_on : StopControlValue → Visit → ℕ → ℕ → ℕ → ℕ → StopOutcome
+entry_on c v key word site found =
+    stop_goes (record c { changes = c.changes ++ site_change key (is_on word) site (entry_at found) })
+    (Advance v (if found == 0 || site + 1 == MOST_SITES then round.StoreChange 0 else round.LoadEntry key word (site + 1)))
+
+-- the first load of a patch: at the end of its range nothing is stored, and the answer is 1; nothing where the count
+-- stays; the key alone where it is on or off as before; else the entries are loaded first
+abbrev pub key_on : StopControlValue → Visit → ℕ → ℕ → Option ℕ → StopOutcome
+key_on c v key found None = stop_goes (record c { changes = [] }) (Advance v (round.Acknowledge 1 true))
+key_on c v key found (Some new) =
+    if found == new then stop_goes (record c { changes = [] }) (Advance v (round.Acknowledge 0 true))
+    else stop_goes (record c { changes = (place.Key key, new) ∷ [] })
+    (Advance v (if xor (is_on found) (is_on new) then round.LoadEntry key new 0 else round.StoreChange 0))
+
+abbrev pub round_outcome : ℕ → StopControlValue → Visit → RoundStage → ℕ → StopOutcome
+round_outcome me c v (round.Look answer) found = if found == v.acked then stop_ends c note.Same else looked_on me c v answer found
+round_outcome me c v (round.LoadFunc answer) found = stop_goes c (Advance v (round.LoadArg answer found))
+round_outcome me c v (round.LoadArg answer func) found =
+    if is_multi v.kind then record { control = record c { stage = Some (Advance v (round.Acknowledge answer true)) }; note = Some (note.Run func found) }
+    else stop_goes c (Advance v (round.LoadKey func (change_of found)))
+round_outcome me c v (round.LoadKey key change) found = key_on c v key found (count_after change found)
+round_outcome me c v (round.LoadEntry key word site) found = entry_on c v key word site found
+round_outcome me c v (round.StoreChange made) found =
+    stop_goes c (Advance v (if made + 1 == length c.changes then round.Acknowledge 0 true else round.StoreChange (made + 1)))
+round_outcome me c v (round.Acknowledge answer ran) found = acked_on c (visit_acked v answer ran) ran found
+round_outcome me c v (round.Refill ran) found = stop_goes c (Advance v (round.Raise ran))
+round_outcome me c v (round.Raise ran) found = turn_ends c v.acked ran
+
+-- the first step of a completion with this answer
+abbrev pub completes_from : Visit → CompletionStage
+completes_from v = if v.answer == 0 then completion.CountDown else completion.StoreAnswer
+
+abbrev pub completion_outcome : StopControlValue → Visit → CompletionStage → ℕ → StopOutcome
+completion_outcome c v (completion.LoadFunc answer) found = stop_goes c (Complete v (completion.LoadArg answer found))
+completion_outcome c v (completion.LoadArg answer func) found =
+    let w = record v { answer = answer } in
+    record { control = record c { stage = Some (Complete w (completes_from w)); visit = Some w }; note = Some (note.Run func found) }
+completion_outcome c v completion.StoreAnswer found = stop_goes c (Complete v completion.CountDown)
+completion_outcome c v completion.CountDown found =
+    if found == 1 then stop_goes (record c { visit = None }) (Close v.slot) else stop_ends (record c { visit = None }) note.Finished
+
+-- a CPU has entered, and has loaded what it is to know of the stop
+abbrev pub visit_of : ℕ → Kind → ℕ → ℕ → Visit
+visit_of slot kind mask active = record { slot = slot; kind = kind; mask = mask; active = active; acked = 0; answer = 0 }
+
+-- up or down by one
+abbrev pub nudge_of : Bool → KeyChange
+nudge_of up = if up then Up else Down
+
+-- the load of a nudge: it ends at the end of the range, and where the key would go on or off, which takes a stop
+abbrev pub nudge_on : StopControlValue → ℕ → ℕ → Option ℕ → StopOutcome
+nudge_on c k found None = stop_ends c note.KeyRange
+nudge_on c k found (Some new) = if xor (is_on found) (is_on new) then stop_ends c note.Stop else stop_goes c (ExchangeKey k found new)
+
+-- what follows, by the number that the access found
+abbrev pub stop_outcome : ℕ → StopControlValue → StopStage → ℕ → StopOutcome
+stop_outcome me c TakeGate found = stop_ends c (if found == 0 then note.Gate else note.Taken)
+stop_outcome me c OpenGate found = stop_ends c note.Open
+stop_outcome me c (Begin work f) found = begun_next c work f
+stop_outcome me c (Enter slot) found = if has found me then stop_goes c (EnterKind slot) else stop_ends c note.Stale
+stop_outcome me c (EnterKind slot) found = stop_goes c (EnterMask slot (kind_at found))
+stop_outcome me c (EnterMask slot kind) found = stop_goes c (EnterActive slot kind found)
+stop_outcome me c (EnterActive slot kind mask) found = stop_ends (record c { visit = Some (visit_of slot kind mask found) }) note.Entered
+stop_outcome me c (Advance v stage) found = round_outcome me c v stage found
+stop_outcome me c (Complete v stage) found = completion_outcome c v stage found
+stop_outcome me c (Close slot) found = stop_ends c note.Finished
+stop_outcome me c LoadDone found = if found == 0 then stop_ends c note.Pending else stop_goes c LoadResult
+stop_outcome me c LoadResult found = stop_ends (record c { is_open = false }) (note.Result (cast_signed w32 (found % 2 ^ 32)))
+stop_outcome me c (ReadKey k) found = stop_ends c (if is_on found then note.On else note.Off)
+stop_outcome me c (ReadSite i) found = stop_ends c (if is_on found then note.Jmp else note.Nop)
+stop_outcome me c (NudgeKey k up) found = nudge_on c k found (count_after (nudge_of up) found)
+stop_outcome me c (ExchangeKey k expected new) found = stop_ends c (if found == expected then note.Done else note.Lost)
+
+-- what the CPU's function has answered, where the step acknowledges phase 3 with it
+abbrev pub answer_at : StopStage → ℕ
+answer_at (Advance v (round.Acknowledge answer ran)) = answer
+answer_at _ = 0
+
+-- the number found fits, and there is room for what it makes
+abbrev pub FitsRound : StopControlValue → Visit → RoundStage → ℕ → Type 0
+FitsRound c v (round.LoadFunc answer) found = found < 2 ^ 16
+FitsRound c v (round.LoadEntry key word site) found = IsEntryWord found × (site < MOST_SITES) × (length c.changes ≤ site + 1)
+FitsRound c v (round.StoreChange made) found = made < length c.changes
+FitsRound c v (round.Acknowledge answer ran) found = v.acked ≤ 3
+FitsRound c v _ found = Unit {0}
+
+abbrev pub FitsCompletion : CompletionStage → ℕ → Type 0
+FitsCompletion (completion.LoadFunc answer) found = found < 2 ^ 16
+FitsCompletion _ found = Unit {0}
+
+abbrev pub FitsStop : StopControlValue → StopStage → ℕ → Type 0
+FitsStop c (Advance v stage) found = FitsRound c v stage found
+FitsStop c (Complete v stage) found = FitsCompletion stage found
+FitsStop c _ found = Unit {0}
+
+-- a stage of the source, of who closes a slot, of a reading, or of a nudge
+abbrev pub IsOfSource : StopStage → Type 0
+IsOfSource (Close slot) = Unit {0}
+IsOfSource LoadDone = Unit {0}
+IsOfSource LoadResult = Unit {0}
+IsOfSource (ReadKey k) = Unit {0}
+IsOfSource (ReadSite i) = Unit {0}
+IsOfSource (NudgeKey k up) = Unit {0}
+IsOfSource (ExchangeKey k expected new) = Unit {0}
+IsOfSource _ = ⊥
+
+-- the store that a patch makes next is one of its changes
+abbrev pub FitsAccess : StopControlValue → StopStage → Type 0
+FitsAccess c (Advance v (round.StoreChange made)) = made < length c.changes
+FitsAccess c _ = Unit {0}

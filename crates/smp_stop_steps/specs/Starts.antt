@@ -1,0 +1,136 @@
+-- When a command of the stop half may start, and where it begins.
+use Rattle.std.specs.Int.{cast_unsigned, w32}
+use Rattle.std.specs.Int.Bits.{bit_and}
+use Rattle.std.specs.Prelude.{ℕ, ℤ, ◌+◌, ◌^◌, Bool, true, false, ◌==◌, ◌&&◌, ◌||◌, not, nat_lt, if◌then◌else◌, Option, Some, None, length}
+use Rattle.smp_mask.specs.declared.error.SmpError.{SmpError}
+use Rattle.smp_mask.specs.declared.error.SmpError.TheVariants as error
+use Rattle.smp_words.specs.Size.{cpus}
+use Rattle.smp_words.specs.declared.size.TheConstants.{FIRST_TARGETS}
+use Rattle.smp_stop_steps.specs.Counts.{mask_weight}
+use Rattle.smp_stop_steps.specs.Stages.{StopControlValue, completes_from}
+use Rattle.smp_stop_steps.specs.Table.{stop_number}
+use Rattle.smp_stop_steps.specs.Tells.{is_one}
+use Rattle.smp_stop_steps.specs.Value.{StopsValue, first_below, stop_control_of}
+use Rattle.smp_stop_steps.specs.Begins.{stop_begun}
+use Rattle.smp_words.specs.declared.command.Command.{Command}
+use Rattle.smp_words.specs.declared.command.Command.TheVariants as command
+use Rattle.smp_words.specs.declared.field.Field.TheVariants as field
+use Rattle.smp_stop_steps.specs.declared.stage.CompletionStage.TheVariants as completion
+use Rattle.smp_stop_steps.specs.declared.stage.RoundStage.TheVariants as round
+use Rattle.smp_stop_steps.specs.declared.stage.StopStage.{StopStage}
+use Rattle.smp_stop_steps.specs.declared.stage.StopStage.TheVariants.{TakeGate, OpenGate, Begin, Enter, Advance, Complete, LoadDone, ReadKey, ReadSite}
+use Rattle.smp_stop_steps.specs.declared.stage.StopStage.TheVariants.{NudgeKey}
+use Rattle.smp_stop_steps.specs.declared.stage.Visit.{Visit}
+use Rattle.smp_stop_steps.specs.declared.start.Terms.{Terms}
+use Rattle.smp_words.specs.declared.work.Kind.{Kind}
+use Rattle.smp_words.specs.declared.work.Kind.TheVariants.{One, Multi, Patch}
+use Rattle.smp_words.specs.declared.work.Work.{Work}
+use Rattle.smp_words.specs.declared.word.Word.TheVariants.{Gate}
+
+-- what the half of this value is asked for before a CPU starts a command
+abbrev pub terms_of : StopsValue → ℕ → Terms
+terms_of v cpu = record {
+  nr = v.nr;
+  online = v.online;
+  keys = v.labels.keys;
+  sites = length v.labels.entries;
+  holds_gate = stop_number v.table Gate == cpu + 1;
+}
+
+-- a slot may be entered that is one of the first, or that of a CPU
+abbrev pub has_slot : ℕ → ℕ → Bool
+has_slot nr slot = nat_lt slot cpus && (nat_lt slot FIRST_TARGETS || nat_lt slot nr)
+
+-- a patch is of all online CPUs, its function runs on the first of them, and it makes one of the four changes to a key's count
+abbrev pub fits_patch : Terms → Work → Bool
+fits_patch t work = ((work.mask == t.online && work.active == 2 ^ first_below t.online cpus) && nat_lt work.func t.keys) && nat_lt work.arg 4
+
+-- a stop of kind One is of one CPU
+abbrev pub fits_kind : Terms → Work → Kind → Bool
+fits_kind t work One = mask_weight cpus work.mask == 1
+fits_kind t work Multi = true
+fits_kind t work Patch = fits_patch t work
+
+-- a work has some CPUs
+abbrev pub fits_work : Terms → Work → Bool
+fits_work t work = not (mask_weight cpus work.mask == 0) && fits_kind t work work.kind
+
+-- none where the test passed
+abbrev pub unless : Bool → SmpError → Option SmpError
+unless test refused = if test then None else Some refused
+
+-- the refusals of begin: the own stop is open; the gate is not held, or the work is none; a CPU of it is not online
+abbrev pub begin_refusal : Terms → Work → Bool → Option SmpError
+begin_refusal t work true = Some error.SlotBusy
+begin_refusal t work false =
+    if t.holds_gate && fits_work t work then unless (bit_and work.mask t.online == work.mask) error.NoStopper else Some error.BadArgument
+
+-- the CPU is in no stop
+abbrev pub is_free : Option Visit → Bool
+is_free None = true
+is_free (Some v) = false
+
+-- it is in a stop of several CPUs, and has not left it
+abbrev pub may_advance : Option Visit → Bool
+may_advance None = false
+may_advance (Some v) = not (is_one v.kind) && not (v.acked == 4)
+
+-- it is in a stop of one CPU
+abbrev pub may_run : Option Visit → Bool
+may_run None = false
+may_run (Some v) = is_one v.kind
+
+-- it has left a stop of several CPUs, and has not completed
+abbrev pub may_finish : Option Visit → Bool
+may_finish None = false
+may_finish (Some v) = v.acked == 4
+
+-- the refusals of a CPU that stands so; none for a command of the other half but a handle with interrupts off
+abbrev pub refusal_on : Terms → StopControlValue → Command → Option SmpError
+refusal_on t c command.Handle = unless c.interrupts error.BadArgument
+refusal_on t c command.Ungate = unless t.holds_gate error.BadArgument
+refusal_on t c (command.Begin work) = begin_refusal t work c.is_open
+refusal_on t c (command.Enter slot) = unless (is_free c.visit && has_slot t.nr slot) error.Stale
+refusal_on t c (command.Advance answer) = unless (may_advance c.visit) error.BadArgument
+refusal_on t c (command.RunOne answer) = unless (may_run c.visit) error.BadArgument
+refusal_on t c command.Finish = unless (may_finish c.visit) error.BadArgument
+refusal_on t c command.Poll = unless c.is_open error.BadArgument
+refusal_on t c (command.Key k) = unless (c.interrupts && nat_lt k t.keys) error.BadArgument
+refusal_on t c (command.Site i) = unless (c.interrupts && nat_lt i t.sites) error.BadArgument
+refusal_on t c (command.Nudge k up) = unless (c.interrupts && nat_lt k t.keys) error.BadArgument
+refusal_on t c _ = None
+
+abbrev pub stop_refusal : StopsValue → ℕ → Command → Option SmpError
+stop_refusal v cpu c = refusal_on (terms_of v cpu) (stop_control_of v.controls cpu) c
+
+-- an answer as a word has it
+abbrev pub answer_word : ℤ → ℕ
+answer_word answer = cast_unsigned w32 answer
+
+-- the stage of who is in a stop
+abbrev pub in_visit : Option Visit → (Visit → StopStage) → Option StopStage
+in_visit None stage = None
+in_visit (Some v) stage = Some (stage v)
+
+-- where a command begins; none for one of the other half
+abbrev pub stop_first : StopControlValue → Command → Option StopStage
+stop_first c command.Gate = Some TakeGate
+stop_first c command.Ungate = Some OpenGate
+stop_first c (command.Begin work) = Some (Begin work field.Kind)
+stop_first c (command.Enter slot) = Some (Enter slot)
+stop_first c (command.Advance answer) = in_visit c.visit (λ v. Advance v (round.Look (answer_word answer)))
+stop_first c (command.RunOne answer) = in_visit c.visit (λ v. Complete v (completion.LoadFunc (answer_word answer)))
+stop_first c command.Finish = in_visit c.visit (λ v. Complete v (completes_from v))
+stop_first c command.Poll = Some LoadDone
+stop_first c (command.Key k) = Some (ReadKey k)
+stop_first c (command.Site i) = Some (ReadSite i)
+stop_first c (command.Nudge k up) = Some (NudgeKey k up)
+stop_first c _ = None
+
+-- the half with the CPU at the beginning of a command, where that is one of this half
+abbrev pub stop_begun_if : StopsValue → ℕ → Option StopStage → StopsValue
+stop_begun_if v cpu None = v
+stop_begun_if v cpu (Some stage) = stop_begun v cpu stage
+
+abbrev pub stop_started : StopsValue → ℕ → Command → StopsValue
+stop_started v cpu c = stop_begun_if v cpu (stop_first (stop_control_of v.controls cpu) c)

@@ -1,0 +1,80 @@
+//! The laws of the stop half, each as a function that does nothing and whose contract is the law.
+//!
+//! They speak of any number of CPUs and of any words that show stops, so that they hold of the pure machine and of
+//! words that threads share alike.
+
+ghost use Rattle.smp_stop_steps.specs.Promises.{NothingBegun, StepsAreTold, KeepThePhaseLaw, KeepTheCountLaw, KeepTheFunctionLaw, KeepTheLabelLaw, PatchesAlone, KeysStandOutsidePatches, NudgesStand, EdgesAreRead, PatchesAnswer, OwnPatchesAreRead};
+
+/// Words with a free gate, free slots and a lawful label table with all keys off show that no stop was begun.
+pub fn nothing_is_begun()
+    ensures { NothingBegun }
+{}
+
+/// Each step of a CPU, at any stage of any command, is the step of the state of all stops that it tells, and keeps
+/// all laws: the words show the stops, the phase law, the label law and the results of stops.
+pub fn steps_are_told()
+    ensures { StepsAreTold }
+{}
+
+/// In an open stop of several CPUs each CPU of the mask has acknowledged the phase or the one before it, and the
+/// count of acknowledgements says how many have not (`kernel/stop_machine.c: multi_cpu_stop`).
+pub fn phase_law()
+    ensures { KeepThePhaseLaw }
+{}
+
+/// The function of such a stop runs only while every CPU of the mask has acknowledged disabled interrupts, and has
+/// them off.
+pub fn function_law()
+    ensures { KeepTheFunctionLaw }
+{}
+
+/// A CPU that is online and has its interrupts on finds a lawful label table, which says all that it has read since
+/// they went on.
+pub fn label_law()
+    ensures { KeepTheLabelLaw }
+{}
+
+/// A key's word is what the nudges and the patches of all CPUs have moved it.
+pub fn count_law()
+    ensures { KeepTheCountLaw }
+{}
+
+/// While a patch runs, every online CPU has interrupts off, so that none nudges a count.
+pub fn patches_alone()
+    ensures { PatchesAlone }
+{}
+
+/// While nobody patches, no step of any CPU turns a key on or off or changes a site: a nudge keeps both.
+pub fn keys_stand()
+    ensures { KeysStandOutsidePatches }
+{}
+
+/// A CPU that nudges is online and has its interrupts on, so that nobody patches; it moves a count that is above 0 up or
+/// down by one, to one that is above 0.
+pub fn nudges_stand()
+    ensures { NudgesStand }
+{}
+
+/// A nudge is refused at the end of the range only where its load has found the count there, which is a reading: up at
+/// 65,535, and the key is on; down at 0, and it is off.
+pub fn edges_are_read()
+    ensures { EdgesAreRead }
+{}
+
+/// A patch acknowledges when it has made all stores that lead from the count that it found. Its answer is 1 where that
+/// count stands at the end of its range, where it stores nothing, else 0.
+pub fn patches_answer()
+    ensures { PatchesAnswer }
+{}
+
+/// A CPU that leaves its own patch has read the key: off after change 0, on after 1 and 2, and nothing after 3.
+pub fn own_patches_are_read()
+    ensures { OwnPatchesAreRead }
+{}
+
+ghost use Rattle.smp_stop_steps.specs.Numbers.{WordsHaveNumbers};
+
+/// A stop table has just the words that have a number in it ([`smp_words::stop_index`]).
+pub fn words_have_numbers()
+    ensures { WordsHaveNumbers }
+{}

@@ -1,0 +1,220 @@
+//! The stop half of a pure machine: its words, and where each CPU stands, one atomic step at a time.
+
+ghost use Rattle.std.specs.Prelude.{◌≡◌, ◌≤◌, MatchOption};
+
+use crate::control::StopControl;
+use crate::stage::StopStage;
+use crate::start::Terms;
+use crate::table::StopTable;
+use smp_labels::LabelMap;
+use smp_mask::{CpuMask, SmpError};
+use smp_words::access::Access;
+use smp_words::command::Command;
+use smp_words::field::Field;
+use smp_words::seen::{Note, Seen};
+use smp_words::size::NR_CPUS;
+use smp_words::word::Word;
+use std::alloc::{AllocError, Allocator};
+use std::marker::Model;
+
+/// The stop table as one thread sees it, with the place of each CPU inside its command.
+#[derive(Drop)]
+pub struct Stops<A: Allocator> {
+    nr: u32,
+    online: CpuMask,
+    labels: LabelMap,
+    table: StopTable<A>,
+    /// One for each CPU that there can be.
+    controls: Vec<StopControl, A>,
+}
+
+impl<A: Allocator> Model for Stops<A> {
+    ghost use Rattle.smp_stop_steps.specs.Value.{StopsValue};
+    ghost use Rattle.smp_stop_steps.specs.Machine.{AreSoundStops};
+
+    ghost Value = { StopsValue };
+
+    ghost view = { λ s. record { nr = s.nr; online = s.online; labels = s.labels; table = s.table; controls = s.controls.items } };
+
+    ghost invariant = { λ s. AreSoundStops s.online s.labels s.table s.controls.items };
+}
+
+/// Moves the control of one CPU, which is inside a command, on.
+fn advance(controls: &mut [StopControl], cpu: u32, found: u64) -> Option<Note>
+    requires cpu { cpu < length controls.old }
+    requires small { cpu < 64 }
+    requires fits { IfSome (stop_control_of controls.old cpu).stage (λ stage. FitsStop (stop_control_of controls.old cpu) stage found) }
+    ensures note { IfSome (stop_control_of controls.old cpu).stage (λ stage. result ≡ (stop_outcome cpu (stop_control_of controls.old cpu) stage found).note) }
+    ensures controls { IfSome (stop_control_of controls.old cpu).stage (λ stage. controls.new ≡ slice_set controls.old cpu (stop_outcome cpu (stop_control_of controls.old cpu) stage found).control) }
+{
+    let control = &mut controls[cpu as usize];
+    let Some(stage) = control.stage() else {
+        return None;
+    };
+    control.advance(cpu, stage, found)
+}
+
+ghost use Rattle.std.specs.Prelude.{◌<◌, length, slice_set, IfSome};
+ghost use Rattle.smp_stop_steps.specs.Stages.{FitsStop, stop_outcome};
+ghost use Rattle.smp_stop_steps.specs.Value.{stop_control_of};
+ghost use Rattle.std.specs.Prelude.{IfOk, replicate};
+ghost use Rattle.smp_words.specs.Size.{cpus};
+ghost use Rattle.smp_stop_steps.specs.Stages.{stop_outside};
+
+/// All CPUs in no stop, outside a command.
+fn new_controls<A: Allocator>(alloc: A) -> Result<Vec<StopControl, A>, AllocError>
+    ensures { IfOk result (λ controls. controls.items ≡ replicate cpus stop_outside) }
+{
+    let mut controls = Vec::new(alloc);
+    for _cpu in 0..NR_CPUS {
+        controls.push(StopControl::new())?;
+    }
+    Ok(controls)
+}
+
+impl<A: Allocator> Stops<A> {
+    ghost use Rattle.smp_stop_steps.specs.Machine.{StopTold, stop_access_at, stop_seen_at, stop_stepped};
+    ghost use Rattle.smp_stop_steps.specs.Begins.{MayBeginAt, stop_begun};
+    ghost use Rattle.smp_stop_steps.specs.Stages.{FitsAccess};
+    ghost use Rattle.smp_stop_steps.specs.State.{StopState};
+    ghost use Rattle.smp_stop_steps.specs.Table.{stop_number};
+    ghost use Rattle.smp_stop_steps.specs.Value.{StopShown};
+    ghost use Rattle.std.specs.Prelude.{ℕ, true};
+    ghost use Rattle.smp_mask.specs.Mask.{has};
+    ghost use Rattle.smp_stop_steps.specs.New.{new_stops};
+    ghost use Rattle.smp_stop_steps.specs.State.{no_stops};
+
+    /// A half in which nothing was begun, with these CPUs online and these labels.
+    pub fn new(alloc: A, nr: u32, online: CpuMask, labels: LabelMap) -> Result<Self, AllocError>
+    where
+        A: Copy,
+        requires member { (cpu : ℕ) × (has online cpu ≡ true) }
+        requires below { (cpu : ℕ) → has online cpu ≡ true → cpu < cpus }
+        ensures made { IfOk result (λ s. s ≡ new_stops nr online labels) }
+        ensures empty { IfOk result (StopShown no_stops) }
+    {
+        let controls = new_controls(alloc)?;
+        let table = StopTable::new(alloc, labels.words())?;
+        Ok(Stops {
+            nr,
+            online,
+            labels,
+            table,
+            controls,
+        })
+    }
+
+    /// Where this CPU stands; none outside a command of the stop half, or where there is no such CPU.
+    pub fn stage(&self, cpu: u32) -> Option<StopStage>
+        ensures { result ≡ (stop_control_of self.now.controls cpu).stage }
+    {
+        if cpu < NR_CPUS {
+            self.controls[cpu as usize].stage()
+        } else {
+            None
+        }
+    }
+
+    ghost use Rattle.smp_stop_steps.specs.Starts.{terms_of, stop_refusal, stop_started};
+    ghost use Rattle.smp_stop_steps.specs.Table.{stop_number_of};
+    ghost use Rattle.smp_words.specs.Commands.{FitsCommand};
+
+    /// What a refusal depends on beside where the CPU stands.
+    fn terms(&self, cpu: u32) -> Terms
+        ensures { result ≡ terms_of self.now cpu }
+    {
+        Terms {
+            nr: self.nr,
+            online: self.online,
+            keys: self.labels.keys(),
+            sites: self.labels.sites(),
+            holds_gate: self.table.read(Word::Gate) == u64::from(cpu) + 1,
+        }
+    }
+
+    /// The own refusal of a command of this half, and of a handle while interrupts are off; none where it may start,
+    /// and for another command.
+    pub fn refusal(&self, cpu: u32, command: &Command) -> Option<SmpError>
+        requires { cpu < cpus }
+        ensures { result ≡ stop_refusal self.now cpu command.now }
+    {
+        self.terms(cpu)
+            .refusal(&self.controls[cpu as usize], command)
+    }
+
+    /// Puts a CPU that is outside a command at the first stage of one that may start, where that is a command of this
+    /// half. It makes no step.
+    pub fn start(&mut self, cpu: u32, command: &Command)
+        requires cpu { cpu < cpus }
+        requires online { has self.old.online cpu ≡ true }
+        requires below { (c : ℕ) → has self.old.online c ≡ true → c < cpus }
+        requires outside { (stop_control_of self.old.controls cpu).stage ≡ None }
+        requires allowed { stop_refusal self.old cpu command.now ≡ None }
+        requires fits { FitsCommand command.now }
+        ensures started { self.new ≡ stop_started self.old cpu command.now }
+        ensures told { (p : StopState) → StopShown p self.old → StopShown p self.new }
+    {
+        if let Some(stage) = self.controls[cpu as usize].first_stage(command) {
+            self.begin(cpu, stage);
+        }
+    }
+
+    /// Puts a CPU that is outside a command at the first stage of one that may begin. It makes no step.
+    pub fn begin(&mut self, cpu: u32, stage: StopStage)
+        requires cpu { cpu < cpus }
+        requires outside { (stop_control_of self.old.controls cpu).stage ≡ None }
+        requires may { MayBeginAt self.old cpu stage }
+        ensures begun { self.new ≡ stop_begun self.old cpu stage }
+        ensures told { (p : StopState) → StopShown p self.old → StopShown p self.new }
+    {
+        self.controls[cpu as usize].begin(stage);
+    }
+
+    /// The access that this CPU makes at this stage.
+    fn access(&self, cpu: u32, stage: StopStage) -> Access
+        requires cpu { cpu < cpus }
+        requires fits { FitsAccess (stop_control_of self.now.controls cpu) stage }
+        ensures { result ≡ stop_access_at self.now cpu stage }
+    {
+        stage.access(cpu, &self.controls[cpu as usize])
+    }
+
+    /// Makes one atomic step of the CPU's command; none where it has none.
+    pub fn step(&mut self, cpu: u32) -> Option<Seen>
+        ensures step { MatchOption (stop_control_of self.old.controls cpu).stage ((result ≡ None) × (self.new ≡ self.old)) (λ stage. (result ≡ Some (stop_seen_at self.old cpu stage)) × (self.new ≡ stop_stepped self.old cpu stage)) }
+        ensures told { MatchOption (stop_control_of self.old.controls cpu).stage (self.new ≡ self.old) (λ stage. StopTold self.old cpu stage self.new) }
+    {
+        let Some(stage) = self.stage(cpu) else {
+            return None;
+        };
+        let access = self.access(cpu, stage);
+        let found = self.table.perform(access);
+        let note = advance(&mut self.controls, cpu, found);
+        Some(access.seen(cpu, found, note))
+    }
+
+    /// The number in a word; none where there is no such word.
+    pub fn word(&self, word: Word) -> Option<u64>
+        ensures { result ≡ stop_number_of self.now.table word }
+    {
+        self.table.word(word)
+    }
+
+    ghost use Rattle.smp_words.specs.declared.field.Field.TheVariants.{State};
+    ghost use Rattle.smp_words.specs.declared.word.Word.TheVariants.{Slot};
+
+    /// The state word of a slot, 0 to 5; 0 where there is no such slot.
+    pub fn phase(&self, slot: u32) -> u32
+        ensures phase { result ≡ stop_number self.now.table (Slot slot State) }
+        ensures small { result ≤ 5 }
+    {
+        (self.table.read(Word::Slot(slot, Field::State)) % (1 << 32)) as u32
+    }
+
+    /// Every stop half shows a state of the stops that keeps all laws.
+    pub fn shows_stops(&self)
+        ensures { (p : StopState) × StopShown p self.now }
+    {
+        let _online = self.online;
+    }
+}

@@ -1,0 +1,9 @@
+-- lists
+pub mod Zeros
+-- words by name
+pub mod Puts
+pub mod SameWords
+-- words by number
+pub mod Sizes
+pub mod Placing
+pub mod Links

@@ -1,0 +1,20 @@
+-- What holds of a function with one value put in another's place.
+use Rattle.std.proofs.Common.{◌≡◌, ◌≢◌, ℕ, Bool, true, false, ◌==◌, cond, sym, subst, refl}
+use Rattle.std.proofs.lemmas.Bool.{eqb-true, eqb-false}
+use Rattle.smp_words.specs.Put.{put}
+
+pub test_cases : (j i : ℕ) (P : Bool → Type 0) (b : Bool) → (j == i) ≡ b → (j ≡ i → P true) → (j ≢ i → P false) → P b
+test_cases j i P true e here there = here (eqb-true j i e)
+test_cases j i P false e here there = there (eqb-false j i e)
+
+-- a fact on the test whether j is i
+pub at_test : (j i : ℕ) (P : Bool → Type 0) → (j ≡ i → P true) → (j ≢ i → P false) → P (j == i)
+at_test j i P here there = test_cases j i P (j == i) refl here there
+
+pub put_all : {A : Type 0} (R : ℕ → A → Type 0) (f : ℕ → A) (i : ℕ) (v : A) → R i v → ((j : ℕ) → j ≢ i → R j (f j)) → (j : ℕ) → R j (put f i v j)
+put_all {A} R f i v here others j =
+    at_test j i (λ b. R j (cond b v (f j))) (λ e. let P : ℕ → Type 0 = λ k. R k v in subst P (sym e) here) (λ ne. others j ne)
+
+pub put_both : {A B : Type 0} (R : ℕ → A → B → Type 0) (f : ℕ → A) (g : ℕ → B) (i : ℕ) (v : A) (w : B) → R i v w → ((j : ℕ) → j ≢ i → R j (f j) (g j)) → (j : ℕ) → R j (put f i v j) (put g i w j)
+put_both {A} {B} R f g i v w here others j =
+    at_test j i (λ b. R j (cond b v (f j)) (cond b w (g j))) (λ e. let P : ℕ → Type 0 = λ k. R k v w in subst P (sym e) here) (λ ne. others j ne)

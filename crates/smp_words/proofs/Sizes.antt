@@ -1,0 +1,85 @@
+-- To whom a record belongs. The only proofs that know how records are numbered.
+use Rattle.std.proofs.Common.{◌≡◌, ℕ, ◌+◌, ◌-◌, ◌*◌, ◌/◌, ◌%◌, ◌^◌, ◌<◌, ◌≤◌, refl, inl, inr, arith}
+use Rattle.std.proofs.lemmas.Bool.{cases_lt, lt-ltb, le-ltb}
+use Rattle.smp_words.specs.Size.{cpus, records, records_of_one, owner, local, record_of}
+use Rattle.smp_words.specs.declared.size.TheConstants.{FIRST_OF_ONE, MORE_OF_ONE, FIRST_RECORDS}
+
+-- the number of a first record of a source, and of a further one
+pub near : (source k : ℕ) → k < FIRST_OF_ONE → record_of source k ≡ FIRST_OF_ONE * source + k
+unfolding record_of
+near source k l = rw (lt-ltb k FIRST_OF_ONE l) refl
+
+pub far : (source k : ℕ) → FIRST_OF_ONE ≤ k → record_of source k ≡ FIRST_RECORDS + MORE_OF_ONE * source + (k - FIRST_OF_ONE)
+unfolding record_of
+far source k l = rw (le-ltb k FIRST_OF_ONE l) refl
+
+pub owner_near : (id : ℕ) → id < FIRST_RECORDS → owner id ≡ id / FIRST_OF_ONE
+unfolding owner
+owner_near id l = rw (lt-ltb id FIRST_RECORDS l) refl
+
+pub owner_far : (id : ℕ) → FIRST_RECORDS ≤ id → owner id ≡ (id - FIRST_RECORDS) / MORE_OF_ONE
+unfolding owner
+owner_far id l = rw (le-ltb id FIRST_RECORDS l) refl
+
+local_near : (id : ℕ) → id < FIRST_RECORDS → local id ≡ id % FIRST_OF_ONE
+unfolding local
+local_near id l = rw (lt-ltb id FIRST_RECORDS l) refl
+
+local_far : (id : ℕ) → FIRST_RECORDS ≤ id → local id ≡ FIRST_OF_ONE + (id - FIRST_RECORDS) % MORE_OF_ONE
+unfolding local
+local_far id l = rw (le-ltb id FIRST_RECORDS l) refl
+
+pub owner-of_record : (source k : ℕ) → source < cpus → k < records_of_one → owner (record_of source k) ≡ source
+owner-of_record source k s l = elim (cases_lt k FIRST_OF_ONE) [
+  | inl low ↦ let n = near source k low in let o = owner_near (record_of source k) (omega arith) in omega arith
+  | inr high ↦ let n = far source k high in let o = owner_far (record_of source k) (omega arith) in omega arith
+]
+
+pub local-of_record : (source k : ℕ) → source < cpus → k < records_of_one → local (record_of source k) ≡ k
+local-of_record source k s l = elim (cases_lt k FIRST_OF_ONE) [
+  | inl low ↦ let n = near source k low in let o = local_near (record_of source k) (omega arith) in omega arith
+  | inr high ↦ let n = far source k high in let o = local_far (record_of source k) (omega arith) in omega arith
+]
+
+-- one source's records are as many as their local numbers
+pub one_local : (source j k : ℕ) → j < records_of_one → k < records_of_one → record_of source j ≡ record_of source k → j ≡ k
+one_local source j k b l e = elim (cases_lt j FIRST_OF_ONE) [
+  | inl low ↦ let n = near source j low in elim (cases_lt k FIRST_OF_ONE) [
+    | inl low_too ↦ let m = near source k low_too in omega arith
+    | inr high ↦ let m = far source k high in omega arith
+  ]
+  | inr high ↦ let n = far source j high in elim (cases_lt k FIRST_OF_ONE) [
+    | inl low ↦ let m = near source k low in omega arith
+    | inr high_too ↦ let m = far source k high_too in omega arith
+  ]
+]
+
+pub record_of-parts : (id : ℕ) → record_of (owner id) (local id) ≡ id
+record_of-parts id = elim (cases_lt id FIRST_RECORDS) [
+  | inl low ↦
+      let o = owner_near id low in
+      let p = local_near id low in
+      let n = near (owner id) (local id) (omega arith) in
+      omega arith
+  | inr high ↦
+      let o = owner_far id high in
+      let p = local_far id high in
+      let n = far (owner id) (local id) (omega arith) in
+      omega arith
+]
+
+pub record_of-below : (source k : ℕ) → source < cpus → k < records_of_one → record_of source k < records
+record_of-below source k s l = elim (cases_lt k FIRST_OF_ONE) [
+  | inl low ↦ let n = near source k low in omega arith
+  | inr high ↦ let n = far source k high in omega arith
+]
+
+pub owner-below : (id : ℕ) → id < records → owner id < cpus
+owner-below id l = elim (cases_lt id FIRST_RECORDS) [
+  | inl low ↦ let o = owner_near id low in omega arith
+  | inr high ↦ let o = owner_far id high in omega arith
+]
+
+-- a record has a number of 32 bits
+pub record_of-fits : (source k : ℕ) → source < cpus → k < records_of_one → record_of source k < 2 ^ 32
+record_of-fits source k s l = let b = record_of-below source k s l in omega arith
