@@ -12,6 +12,7 @@ pub mod BatchLinks
 pub mod Places
 pub mod Tallies
 pub mod Counts
+pub mod QueueOrder
 pub mod Drained
 -- what a step leaves as it was
 pub mod Frames

@@ -2,7 +2,7 @@
 use Rattle.std.proofs.Common.{◌≡◌, ◌≢◌, ℕ, ◌+◌, ◌-◌, false, cond, Option, Some, None, List, [], ◌∷◌, ◌++◌, length, sym, subst, refl, ap, ◌∙◌, arith, append_assoc}
 use Rattle.std.proofs.lemmas.List.{append-nil}
 use Rattle.std.specs.List.{AllByRecursion}
-use Rattle.smp_call_steps.specs.Order.{if_async, sync_calls, async_calls, order}
+use Rattle.smp_call_steps.specs.Order.{if_sync, if_async, sync_calls, async_calls, order}
 use Rattle.smp_call_steps.specs.Calls.{Running, Nothing}
 use Rattle.smp_call_steps.specs.Drains.{DrainValue, link_to, record_at, second_on, first_on, reverse_on}
 use Rattle.smp_call_steps.specs.Places.{IsAbsent, IsApart}
@@ -79,6 +79,19 @@ async_one Async call e = (e, tt)
 pub all_async : (calls : List Call) → AllByRecursion IsAsync (async_calls calls)
 all_async [] = tt
 all_async (call ∷ rest) = every_append IsAsync (if_async call.class call) (async_calls rest) (async_one call.class call refl) (all_async rest)
+
+-- the SYNC calls of a list
+
+abbrev pub IsSync : Call → Type 0
+IsSync call = call.class ≡ Sync
+
+sync_one : (class : Class) (call : Call) → call.class ≡ class → AllByRecursion IsSync (if_sync class call)
+sync_one Sync call e = (e, tt)
+sync_one Async call e = tt
+
+pub all_sync : (calls : List Call) → AllByRecursion IsSync (sync_calls calls)
+all_sync [] = tt
+all_sync (call ∷ rest) = every_append IsSync (if_sync call.class call) (sync_calls rest) (sync_one call.class call refl) (all_sync rest)
 
 -- what holds of all that is left of a batch
 

@@ -15,6 +15,7 @@ pub mod Stands
 pub mod Shows
 pub mod Counts
 pub mod BatchLinks
+pub mod QueueOrder
 -- what a CPU knows
 pub mod Known
 pub mod Handling

@@ -3,10 +3,25 @@
 //! They speak of any words that show calls, so that they hold of the pure machine and of words that threads share
 //! alike. The laws that are fields of `Shows` need no function.
 
+ghost use Rattle.std.specs.Prelude.{List};
 ghost use Rattle.smp_call_steps.specs.BatchLinks.{KeepBatchLinks};
+ghost use Rattle.smp_call_steps.specs.QueueOrder.{KeepsClasses, AsyncsLast, RunInQueueOrder};
+ghost use Rattle.smp_words.specs.declared.call.Call.{Call};
 
 /// At any time the next words link all that is left of a batch: a record that is not reversed yet to the one before it,
 /// another to the one after it that is left; and a link that a CPU has loaded and not yet used is still there.
 pub fn batch_links()
     ensures { KeepBatchLinks }
+{}
+
+/// In the drain order of a batch the calls of each class keep the order of the batch, and after an ASYNC call come only
+/// ASYNC calls.
+pub fn drain_order()
+    ensures classes { (batch : List Call) → KeepsClasses batch }
+    ensures asyncs_last { (batch : List Call) → AsyncsLast batch }
+{}
+
+/// Of each class, the calls that have ended at a CPU are the first of those that were ever queued for it, in that order.
+pub fn runs_in_queue_order()
+    ensures { RunInQueueOrder }
 {}

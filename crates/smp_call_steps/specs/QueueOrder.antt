@@ -1,0 +1,45 @@
+-- In which order calls run: a batch by class, and of each class as they were queued.
+use Rattle.std.specs.Prelude.{◌≡◌, ℕ, List, [], ◌∷◌, ◌++◌}
+use Rattle.std.specs.List.{AllByRecursion}
+use Rattle.smp_call_steps.specs.Order.{order}
+use Rattle.smp_call_steps.specs.Calls.{CallState}
+use Rattle.smp_call_steps.specs.Counts.{batches}
+use Rattle.smp_call_steps.specs.Shows.{Shows}
+use Rattle.smp_call_steps.specs.Stages.{ControlValue}
+use Rattle.smp_words.specs.declared.call.Call.{Call}
+use Rattle.smp_words.specs.declared.call.Class.{Class}
+use Rattle.smp_words.specs.declared.call.Class.TheVariants.{Sync, Async}
+use Rattle.smp_words.specs.declared.word.Word.{Word}
+
+-- the call where its class is this one
+abbrev pub if_class : Class → Class → Call → List Call
+if_class Sync Sync call = call ∷ []
+if_class Sync Async call = []
+if_class Async Sync call = []
+if_class Async Async call = call ∷ []
+
+-- the calls of this class, in the order of the list
+abbrev pub of_class : Class → List Call → List Call
+of_class class [] = []
+of_class class (call ∷ rest) = if_class class call.class call ++ of_class class rest
+
+-- the list begins with these calls
+abbrev pub IsPrefix : List Call → List Call → Type 0
+IsPrefix front calls = (rest : List Call) × (calls ≡ front ++ rest)
+
+-- in the drain order of a batch the calls of each class keep the order of the batch
+abbrev pub KeepsClasses : List Call → Type 0
+KeepsClasses batch = (class : Class) → of_class class (order batch) ≡ of_class class batch
+
+-- and after an ASYNC call come only ASYNC calls
+abbrev pub AsyncsLast : List Call → Type 0
+AsyncsLast batch = (before : List Call) (call : Call) (after : List Call) →
+    order batch ≡ before ++ call ∷ after → call.class ≡ Async → AllByRecursion (λ other. other.class ≡ Async) after
+
+-- of each class, the calls that have ended at a CPU are the first of those that were ever queued for it
+abbrev pub InQueueOrder : CallState → Type 0
+InQueueOrder a = (cpu : ℕ) (class : Class) → IsPrefix (of_class class (a.ran cpu)) (of_class class (batches (a.taken cpu) ++ a.queue cpu))
+
+-- whatever words show calls
+abbrev pub RunInQueueOrder : Type 0
+RunInQueueOrder = (a : CallState) (at : Word → ℕ) (control : ℕ → ControlValue) → Shows a at control → InQueueOrder a
