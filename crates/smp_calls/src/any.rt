@@ -25,6 +25,9 @@ fn any_of(mask: CpuMask, online: CpuMask, this: u32) -> Option<u32>
 /// Calls a function on one CPU of the mask (`kernel/smp.c: smp_call_function_any`): on this CPU where the mask
 /// has it, else on the lowest one that is online. It then does as [`call_single`], and answers that CPU.
 ///
+/// A call to another CPU is queued at the compare-exchange that wins in its post. It may wait as [`call_single`] does;
+/// the targets of the calls that it waits for must poll.
+///
 /// E1 where there is no such CPU; then nothing is waited for.
 pub fn call_any<A: Allocator, R: Wait, H: Handler>(
     table: &CallTable<A>,

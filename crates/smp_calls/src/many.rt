@@ -98,6 +98,9 @@ fn with_if(mask: CpuMask, this: u32, here: bool) -> CpuMask
 /// calls are queued, ascending, before the first interrupt is sent. With `wait` the call returns once they have
 /// run. Each call uses the record for its destination, for whose last call it first waits. While it waits, the
 /// CPU handles its own interrupts. Answers the CPUs called.
+///
+/// Each call is queued at the compare-exchange that wins in its post: they are as many steps, not one. It may wait, for
+/// the records and with `wait` for its calls; its targets must poll.
 pub fn call_many<A: Allocator, R: Wait, H: Handler>(
     table: &CallTable<A>,
     rt: &R,
@@ -124,6 +127,9 @@ pub fn call_many<A: Allocator, R: Wait, H: Handler>(
 /// (`kernel/smp.c: on_each_cpu_cond_mask`). The condition is asked of the other CPUs ascending, each just before
 /// its call is queued, and of this CPU after all interrupts are sent; the function then runs here at once. The
 /// rest is as in [`call_many`]. Answers the CPUs called.
+///
+/// Each call is queued at the compare-exchange that wins in its post: they are as many steps, not one. It may wait, for
+/// the records and with `wait` for its calls; its targets must poll.
 pub fn each_cpu_cond<A: Allocator, R: Wait, H: Handler, C: Fn(u32, u64) -> bool>(
     table: &CallTable<A>,
     rt: &R,

@@ -79,6 +79,9 @@ fn call_there<A: Allocator, R: Wait, H: Handler>(
 /// there. Without, it uses the async record, for whose last call it first waits, whatever `dst` is. On this CPU
 /// it runs at once, and nothing is queued. While it waits, the CPU handles its own interrupts.
 ///
+/// A call to another CPU is queued at the compare-exchange that wins in its post. It may wait, for the record's last
+/// call and with `wait` for its own; the targets of the calls that it waits for must poll.
+///
 /// E1 where `dst` is another CPU that is not online.
 pub fn call_single<A: Allocator, R: Wait, H: Handler>(
     table: &CallTable<A>,

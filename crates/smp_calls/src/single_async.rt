@@ -17,6 +17,9 @@ use std::sync::Wait;
 /// Calls a function on one CPU by the user's record `u`, 0 or 1, and does not wait for it
 /// (`kernel/smp.c: smp_call_function_single_async`). On this CPU it runs at once, and nothing is queued.
 ///
+/// A call to another CPU is queued at the compare-exchange that wins in its post. It waits for no call, but its post
+/// may wait while others change the same head, and `dst` must poll for the call to run.
+///
 /// E4 where there is no such record; then E2 where the record's last call is not done; then E1 where `dst` is
 /// another CPU that is not online.
 pub fn call_async<A: Allocator, R: Wait, H: Handler>(

@@ -29,7 +29,8 @@ impl<A: Allocator> Model for Boot<A> {
 }
 
 impl<A: Allocator> Boot<A> {
-    /// This CPU's value. E1 where it is not online, then E2 where it was given out.
+    /// This CPU's value. E1 where it is not online, then E2 where it was given out. It makes no step of the table, and
+    /// does not wait.
     pub fn cpu(&mut self, cpu: u32) -> Result<CallCpu, SmpError>
         ensures ok { IfOk result (λ c. (has self.old.online cpu ≡ true) × (left_at self.old cpu ≡ Some c) × (self.new ≡ given cpu self.old)) }
         ensures err { IfErr result (λ e. ((e ≡ SmpError.NoCpu) × (has self.old.online cpu ≡ false)) ⊎ ((e ≡ SmpError.Busy) × (has self.old.online cpu ≡ true) × (left_at self.old cpu ≡ None))) }

@@ -3,12 +3,25 @@
 //! The machine is that of `smp_call_steps`: the same stages, the same steps, the same laws, between any two steps of
 //! any threads. Each CPU is driven through one value, `CallCpu`.
 //!
-//! | Call | By | May run together with | Ordered by |
-//! |---|---|---|---|
-//! | `post_within`, `post` | the source | all calls of other CPUs | the compare-exchange of the target's head |
-//! | `send` | any CPU | all calls of other CPUs | the store of the target's interrupt word |
-//! | `is_done`, `tally` | the source | all calls of other CPUs | the load of the record's flags |
-//! | `audit` | whoever owns the table | no other call: it takes the table | the end of all calls |
+//! Which calls of one table may run together, in the form of `include/linux/llist.h`; `post` is also `post_within`:
+//!
+//! | | `post` | `send` | `is_done` | `tally` | `handle` | `Boot::cpu` | `new` | `audit` |
+//! |---|---|---|---|---|---|---|---|---|
+//! | `post` | - | - | - | - | - | - | x | x |
+//! | `send` | | - | - | - | - | - | x | x |
+//! | `is_done` | | | - | - | - | - | x | x |
+//! | `tally` | | | | - | - | - | x | x |
+//! | `handle` | | | | | - | - | x | x |
+//! | `Boot::cpu` | | | | | | x | x | - |
+//! | `new` | | | | | | | x | x |
+//! | `audit` | | | | | | | | x |
+//!
+//! Where the row's call may run together with the column's, on two threads: `-` where no lock is needed, `x` where the
+//! types refuse it, since `new` makes the table, `audit` takes it, and `Boot::cpu` takes the one `Boot` by `&mut`. The
+//! first five take the `CallCpu` of who calls by `&mut`, so that `-` is of two CPUs: one makes a single call at a time.
+//!
+//! At which step a call takes effect, whether it may wait and who must poll stands at each call. A CPU polls where it
+//! calls `handle` time and again.
 #![tactic(auto)]
 
 mod audit;

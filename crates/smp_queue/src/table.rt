@@ -112,7 +112,7 @@ fn kept_if(keep: bool, cpu: CallCpu) -> Option<CallCpu>
 impl<A: Allocator> CallTable<A> {
     /// A table of `nr` CPUs with no calls, and those of its CPUs that are online, each to be handed out once.
     /// E4 where `nr` is not 1 to `NR_CPUS`, no CPU is online, or one that is online is not below `nr`; E6 where
-    /// a growth is refused.
+    /// a growth is refused. It takes effect at no step, since no thread shares the table yet, and does not wait.
     pub fn new(alloc: A, nr: u32, online: CpuMask) -> Result<(CallTable<A>, Boot<A>), SmpError>
     where
         A: Copy,
@@ -141,6 +141,9 @@ impl<A: Allocator> CallTable<A> {
     /// Whether the record of this local number is unlocked, as it is when its last call was run or given up, or
     /// it was never used (one turn of `kernel/smp.c: csd_lock_wait`). A record that is unlocked is confirmed.
     /// E4 where there is no such record.
+    ///
+    /// It takes effect at its one step, the load of the record's flags, and does not wait; a record that is queued is
+    /// unlocked only if the target of its call polls.
     pub fn is_done(&self, me: &mut CallCpu, k: u32) -> Result<bool, SmpError>
         requires { me.old.table ≡ self.now.table }
         ensures known { IfOk result (λ done. (has_record_in self.now.nr k ≡ true) × (me.new ≡ if done then confirms k me.old else me.old)) }
@@ -158,6 +161,8 @@ impl<A: Allocator> CallTable<A> {
 
     /// How many calls this CPU has queued for `other`, and how many calls from `other` it has run, modulo 2^64;
     /// zeros where there is no such CPU.
+    ///
+    /// It makes no step, since it reads only the CPU's own value; it does not wait, and nobody must poll.
     pub fn tally(&self, me: &mut CallCpu, other: u32) -> (u64, u64)
         requires { me.old.table ≡ self.now.table }
         ensures counts { other < self.now.nr → result ≡ (length (sent_to other me.old.sent) % 2 ^ 64, length (calls_from other me.old.ran) % 2 ^ 64) }
@@ -173,6 +178,9 @@ impl<A: Allocator> CallTable<A> {
 
     /// Sends an interrupt to a CPU, which then takes its queue (`arch_send_call_function_single_ipi`). One that
     /// is not owed does no harm. E1 where the CPU is not online.
+    ///
+    /// The interrupt is pending at its one step, the store of the interrupt word; it does not wait, and the CPU that is
+    /// sent to must poll to take it.
     pub fn send(&self, me: &mut CallCpu, to: u32) -> Result<(), SmpError>
         requires { me.old.table ≡ self.now.table }
         ensures ok { IfOk result (λ _. (has self.now.online to ≡ true) × (me.new ≡ sends to me.old)) }
@@ -228,6 +236,9 @@ impl<A: Allocator> CallTable<A> {
     /// compare-exchanges. E4 where `k` is no record, `tries` is 0, `to` is the own CPU or the record may not
     /// carry such a call; then E2 where the record is locked; then E1 where `to` is not online; then E5 where
     /// the tries are used up: then nothing is queued, and the record is free again.
+    ///
+    /// The call is queued at the compare-exchange that wins; it makes no more than `tries` of these and does not wait,
+    /// and `to` must poll for the call to run.
     pub fn post_within(
         &self,
         me: &mut CallCpu,
@@ -255,6 +266,9 @@ impl<A: Allocator> CallTable<A> {
     }
 
     /// As `post_within`, but tries until its call is queued: it never answers E5. It pauses between two tries.
+    ///
+    /// The call is queued at the compare-exchange that wins; it may wait, but only while other CPUs change the same head
+    /// before each of its tries, for which nobody must poll, and `to` must poll for the call to run.
     pub fn post<R: Wait>(
         &self,
         rt: &R,
@@ -281,6 +295,9 @@ impl<A: Allocator> CallTable<A> {
     /// Takes the CPU's interrupt and, where one was pending, its whole queue, and runs that batch: SYNC calls
     /// first, each record unlocked after its function, then ASYNC calls, each record unlocked before its function,
     /// both oldest first (`kernel/smp.c: __flush_smp_call_function_queue`). Where none was pending, nothing runs.
+    ///
+    /// The interrupt is taken at the swap of the interrupt word, and the batch at the swap of the head that follows; it
+    /// waits for no other CPU, and to call it is to poll.
     pub fn handle<H: Handler>(&self, me: &mut CallCpu, handler: &mut H) -> Handled
         requires { me.old.table ≡ self.now.table }
         ensures asked { result.interrupted ≡ true → (batch : List Call) × (me.new ≡ drains batch (asks true me.old)) × (Grows H.leads handler.old (order batch) handler.new) × (result.ran ≡ length batch) }
@@ -294,6 +311,8 @@ impl<A: Allocator> CallTable<A> {
     /// Gives up the table and one of its CPUs. Drained where all queues are empty, all records unlocked and all
     /// CPUs outside `handle`: then each call that was queued has run. Else what is left. Other CPUs of the table
     /// are useless afterwards.
+    ///
+    /// It takes effect at no step, since it owns the table; it does not wait, and nobody must poll any more.
     pub fn audit(self, last: CallCpu) -> Audit
         requires { last.table ≡ self.table }
         ensures audited { Audited self last result }
