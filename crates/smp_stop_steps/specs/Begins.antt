@@ -13,6 +13,7 @@ use Rattle.smp_stop_steps.specs.declared.stage.StopStage.TheVariants.{TakeGate, 
 use Rattle.smp_stop_steps.specs.declared.stage.StopStage.TheVariants.{NudgeKey}
 use Rattle.smp_words.specs.declared.work.Kind.TheVariants.{One}
 use Rattle.smp_words.specs.declared.word.Word.TheVariants.{Gate}
+use Rattle.smp_stop_steps.specs.declared.phase.TheConstants.{EXIT}
 
 -- a CPU outside a command may begin one at this stage; gate is the number in its word
 abbrev pub MayBegin : Setup → ℕ → ℕ → StopControlValue → StopStage → Type 0
@@ -20,10 +21,10 @@ MayBegin u me gate c TakeGate = Unit {0}
 MayBegin u me gate c OpenGate = gate ≡ me + 1
 MayBegin u me gate c (Begin work field.Kind) = (gate ≡ me + 1) × (c.is_open ≡ false) × IsWork u work
 MayBegin u me gate c (Enter slot) = (c.visit ≡ None) × (slot < u.cpus)
-MayBegin u me gate c (Advance v (round.Look answer)) = (c.visit ≡ Some v) × (v.kind ≢ One) × (v.acked ≢ 4)
+MayBegin u me gate c (Advance v (round.Look answer)) = (c.visit ≡ Some v) × (v.kind ≢ One) × (v.acked ≢ EXIT)
 MayBegin u me gate c (Complete v (completion.LoadFunc answer)) = (c.visit ≡ Some v) × (v.kind ≡ One)
-MayBegin u me gate c (Complete v completion.StoreAnswer) = (c.visit ≡ Some v) × (v.acked ≡ 4) × (v.answer ≢ 0)
-MayBegin u me gate c (Complete v completion.CountDown) = (c.visit ≡ Some v) × (v.acked ≡ 4) × (v.answer ≡ 0)
+MayBegin u me gate c (Complete v completion.StoreAnswer) = (c.visit ≡ Some v) × (v.acked ≡ EXIT) × (v.answer ≢ 0)
+MayBegin u me gate c (Complete v completion.CountDown) = (c.visit ≡ Some v) × (v.acked ≡ EXIT) × (v.answer ≡ 0)
 MayBegin u me gate c LoadDone = c.is_open ≡ true
 MayBegin u me gate c (ReadKey k) = (c.interrupts ≡ true) × (k < u.keys)
 MayBegin u me gate c (ReadSite i) = (c.interrupts ≡ true) × (i < length u.entries)

@@ -4,23 +4,24 @@ use Rattle.smp_mask.specs.Mask.{has}
 use Rattle.smp_stop_steps.specs.Stop.{Standing, Inside, Answering, Raising, Nobody, Refills, Raises, Stop, acked, is_of}
 use Rattle.smp_stop_steps.specs.Counts.{count_behind, weight}
 use Rattle.smp_stop_steps.specs.Slots.{IsLevel, IsDone}
+use Rattle.smp_stop_steps.specs.declared.phase.TheConstants.{DISABLE_IRQ, RUN, EXIT, OVER}
 
 -- the phase law, of an open stop of several CPUs: each CPU of the mask has acknowledged the phase or the one before
--- it, at 5 the one before; the count is the number of those that have not acknowledged it, but from the refill until
--- the phase is stored, and at 5, the weight of the mask
+-- it, at OVER the one before; the count is the number of those that have not acknowledged it, but from the refill until
+-- the phase is stored, and at OVER, the weight of the mask
 pub record PhaseLaw (cpus : ℕ) (stop : Stop) (ack : ℕ) : Type 0 where
   pub level : (c : ℕ) → is_of (stop.standing c) ≡ true → IsLevel stop.phase (acked (stop.standing c))
-  pub at_the_end : (c : ℕ) → stop.phase ≡ 5 → is_of (stop.standing c) ≡ true → acked (stop.standing c) ≡ 4
+  pub at_the_end : (c : ℕ) → stop.phase ≡ OVER → is_of (stop.standing c) ≡ true → acked (stop.standing c) ≡ EXIT
   pub counted : (ack ≡ count_behind cpus stop.phase stop.standing) ⊎ ((r : ℕ) × (stop.raising ≡ Raises r) × (ack ≡ weight cpus stop.standing))
-  pub whole : stop.phase ≡ 5 → ack ≡ weight cpus stop.standing
+  pub whole : stop.phase ≡ OVER → ack ≡ weight cpus stop.standing
 
--- the function law, of a CPU that has looked at phase 3 and not acknowledged it: it is of the mask, the phase is 3, and
--- every CPU of the mask has acknowledged 2, in which interrupts are turned off
+-- the function law, of a CPU that has looked at RUN and not acknowledged it: it is of the mask, the phase is RUN, and
+-- every CPU of the mask has acknowledged DISABLE_IRQ, in which interrupts are turned off
 pub record FunctionLaw (stop : Stop) (me : ℕ) : Type 0 where
   pub of_it : has stop.work.mask me ≡ true
-  pub at_run : stop.phase ≡ 3
-  pub all_disabled : (c : ℕ) → has stop.work.mask c ≡ true → (acked (stop.standing c) ≡ 2) ⊎ (acked (stop.standing c) ≡ 3)
-  pub not_acknowledged : acked (stop.standing me) ≡ 2
+  pub at_run : stop.phase ≡ RUN
+  pub all_disabled : (c : ℕ) → has stop.work.mask c ≡ true → (acked (stop.standing c) ≡ DISABLE_IRQ) ⊎ (acked (stop.standing c) ≡ RUN)
+  pub not_acknowledged : acked (stop.standing me) ≡ DISABLE_IRQ
 
 -- the result of these answers of a mask: 0 where all are 0, else one of those that are not
 abbrev pub IsResult : ℕ → (ℕ → ℕ) → ℕ → Type 0

@@ -13,6 +13,7 @@ use Rattle.smp_words.specs.declared.seen.Seen.{Seen}
 use Rattle.smp_words.specs.declared.field.Field.TheVariants as field
 use Rattle.smp_stop_steps.specs.declared.stage.StopStage.{StopStage}
 use Rattle.smp_words.specs.declared.word.Word.TheVariants.{Slot}
+use Rattle.smp_stop_steps.specs.declared.phase.TheConstants.{OVER}
 
 -- the access that a CPU makes at this stage, and what it finds
 abbrev pub stop_access_at : StopsValue → ℕ → StopStage → Access
@@ -38,10 +39,10 @@ stop_stepped v cpu stage = record v {
 abbrev pub StopTold : StopsValue → ℕ → StopStage → StopsValue → Type 0
 StopTold old cpu stage new = (p : StopState) → StopShown p old → StopShown (tells (setup_of old.online old.labels) p (stop_seen_at old cpu stage) (answer_at stage)) new
 
--- the table is whole, no state word is more than 5, each CPU has a control, and they show some stops
+-- the table is whole, no state word is more than OVER, each CPU has a control, and they show some stops
 pub record AreSoundStops (online : ℕ) (labels : Labels) (table : StopWords) (controls : List StopControlValue) : Type 0 where
   pub sized : length controls ≡ cpus
   pub table_is : IsStopTable table
-  pub phases : (s : ℕ) → stop_number table (Slot s field.State) ≤ 5
+  pub phases : (s : ℕ) → stop_number table (Slot s field.State) ≤ OVER
   pub stops : StopState
   pub shown : StopsShow (setup_of online labels) stops table controls

@@ -11,6 +11,7 @@ use Rattle.smp_stop_steps.specs.Sources.{IsPatchWork}
 use Rattle.smp_words.specs.declared.work.Kind.TheVariants.{Patch}
 use Rattle.smp_words.specs.declared.word.Word.{Word}
 use Rattle.smp_words.specs.declared.word.Word.TheVariants.{Slot}
+use Rattle.smp_stop_steps.specs.declared.phase.TheConstants.{RUN}
 
 -- who patches is the first online CPU, inside the function of a patch
 abbrev pub RunnerShows : ℕ → Patching → (ℕ → Seat) → Type 0
@@ -32,8 +33,8 @@ pub record PresentShows (u : Setup) (n : Present) (at : Word → ℕ) (seat : �
   pub labels : LabelsShow n.patching (labels_in at)
   pub read : (c : ℕ) → u.online c ≡ true → n.irq c ≡ true → AllByRecursion (Agrees (labels_in at)) (n.readings c)
 
--- from the runner's acknowledgement of 3 until the source has left its own patch, the key stands as it was set
+-- from the runner's acknowledgement of RUN until the source has left its own patch, the key stands as it was set
 abbrev pub OwnsKey : ℕ → Present → (ℕ → ℕ) → ℕ → Type 0
 OwnsKey first n key s =
-    (n.stop s).is_open ≡ true → (n.stop s).work.kind ≡ Patch → is_inside ((n.stop s).standing s) ≡ true → 3 ≤ acked ((n.stop s).standing first) →
+    (n.stop s).is_open ≡ true → (n.stop s).work.kind ≡ Patch → is_inside ((n.stop s).standing s) ≡ true → RUN ≤ acked ((n.stop s).standing first) →
     StandsSet (n.stop s).work (key (n.stop s).work.func)

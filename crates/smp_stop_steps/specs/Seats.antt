@@ -5,6 +5,7 @@ use Rattle.smp_stop_steps.specs.Labels.{Change, Patches}
 use Rattle.smp_stop_steps.specs.State.{Present}
 use Rattle.smp_words.specs.declared.work.Kind.TheVariants.{Patch}
 use Rattle.smp_words.specs.declared.work.Work.{Work}
+use Rattle.smp_stop_steps.specs.declared.phase.TheConstants.{DISABLE_IRQ, RUN, EXIT}
 
 -- what a CPU is to do for the next phase
 pub data Turn : Type 0 where
@@ -36,15 +37,15 @@ Stands n me (In s w a l t) = (n.inside me ≡ Some s) × ((n.stop s).standing me
 Stands n me (Gives s w a v) =
     (n.inside me ≡ Some s) × ((n.stop s).standing me ≡ Answering a v) × (turn_of (n.stop s).raising me ≡ Rests) × ((n.stop s).work ≡ w)
 Stands n me (Alters s w count made rest) =
-    (n.inside me ≡ Some s) × ((n.stop s).standing me ≡ Inside 2 3) × (turn_of (n.stop s).raising me ≡ Rests) ×
+    (n.inside me ≡ Some s) × ((n.stop s).standing me ≡ Inside DISABLE_IRQ RUN) × (turn_of (n.stop s).raising me ≡ Rests) ×
     ((n.stop s).work ≡ w) × (w.kind ≡ Patch) × (n.patching ≡ Patches me w count made rest)
 Stands n me (Closes s) = (n.inside me ≡ None) × ((n.stop s).is_open ≡ true) × ((n.stop s).ending ≡ Last me)
 
--- interrupts are off from the look at 2 until the CPU has left
+-- interrupts are off from the look at DISABLE_IRQ until the CPU has left
 abbrev pub irq_of : Seat → Bool
 irq_of Free = true
-irq_of (In s w a l Rests) = nat_lt l 2 || a == 4
-irq_of (In s w a l t) = nat_lt l 2
+irq_of (In s w a l Rests) = nat_lt l DISABLE_IRQ || a == EXIT
+irq_of (In s w a l t) = nat_lt l DISABLE_IRQ
 irq_of (Gives s w a v) = true
 irq_of (Alters s w count made rest) = false
 irq_of (Closes s) = true

@@ -21,6 +21,7 @@ use Rattle.smp_stop_steps.specs.declared.stage.StopStage.TheVariants.{OpenGate, 
 use Rattle.smp_stop_steps.specs.declared.stage.Visit.{Visit}
 use Rattle.smp_words.specs.declared.work.Kind.TheVariants.{One, Patch}
 use Rattle.smp_words.specs.declared.work.Work.{Work}
+use Rattle.smp_stop_steps.specs.declared.phase.TheConstants.{DISABLE_IRQ, RUN, EXIT}
 
 -- what a visit has loaded of its work
 pub record IsLoaded (v : Visit) (work : Work) : Type 0 where
@@ -37,13 +38,13 @@ abbrev pub SitsAtRest : Option Visit → Seat → Type 0
 SitsAtRest None x = x ≡ Free
 SitsAtRest (Some v) x = SitsIn v v.acked Rests x
 
--- it has looked at phase 3 and is to call a function
+-- it has looked at RUN and is to call a function
 abbrev pub SitsAtRun : ℕ → Visit → Work → Seat → Type 0
-SitsAtRun me v work x = IsLoaded v work × (v.acked ≡ 2) × (has v.active me ≡ true) × (x ≡ In v.slot work 2 3 Rests)
+SitsAtRun me v work x = IsLoaded v work × (v.acked ≡ DISABLE_IRQ) × (has v.active me ≡ true) × (x ≡ In v.slot work DISABLE_IRQ RUN Rests)
 
 -- it makes a patch of a key that it found at this count
 abbrev pub SitsAtPatch : Setup → Visit → Work → ℕ → List Change → Seat → Type 0
-SitsAtPatch u v work count made x = IsLoaded v work × (v.acked ≡ 2) × (x ≡ Alters v.slot work count made (plan_at u work count))
+SitsAtPatch u v work count made x = IsLoaded v work × (v.acked ≡ DISABLE_IRQ) × (x ≡ Alters v.slot work count made (plan_at u work count))
 
 -- with this many entries loaded
 abbrev pub changes_of : Setup → Work → ℕ → ℕ → List Change
@@ -64,7 +65,7 @@ pub record SitsAtEntry (u : Setup) (v : Visit) (work : Work) (key word : ℕ) (x
   pub sites : plan_at u work count ≡ patch_of work.func word u.entries
 
 abbrev pub SitsInRound : Setup → ℕ → List Change → Visit → RoundStage → Seat → Type 0
-SitsInRound u me changes v (round.Look answer) x = (v.kind ≢ One) × (v.acked ≢ 4) × SitsIn v v.acked Rests x
+SitsInRound u me changes v (round.Look answer) x = (v.kind ≢ One) × (v.acked ≢ EXIT) × SitsIn v v.acked Rests x
 SitsInRound u me changes v (round.LoadFunc answer) x = (v.kind ≢ One) × ((work : Work) × SitsAtRun me v work x)
 SitsInRound u me changes v (round.LoadArg answer func) x = (v.kind ≢ One) × ((work : Work) × SitsAtRun me v work x × (func ≡ work.func))
 SitsInRound u me changes v (round.LoadKey key change) x =
@@ -72,18 +73,18 @@ SitsInRound u me changes v (round.LoadKey key change) x =
 SitsInRound u me changes v (round.LoadEntry key word site) x =
     (work : Work) × SitsAtEntry u v work key word x × (site ≤ length u.entries) × (site < MOST_SITES) × (changes ≡ changes_of u work word site)
 SitsInRound u me changes v (round.StoreChange made) x =
-    (work : Work) × (count : ℕ) × IsLoaded v work × (v.acked ≡ 2) × (made < length changes) × (changes ≡ plan_at u work count) ×
+    (work : Work) × (count : ℕ) × IsLoaded v work × (v.acked ≡ DISABLE_IRQ) × (made < length changes) × (changes ≡ plan_at u work count) ×
     ((before after : List Change) × (changes ≡ before ++ after) × (length before ≡ made) × (x ≡ Alters v.slot work count before after))
 SitsInRound u me changes v (round.Acknowledge answer ran) x =
-    (work : Work) × IsLoaded v work × (v.acked ≤ 3) ×
-    (((x ≡ In v.slot work v.acked (v.acked + 1) Rests) × (v.acked ≡ 2 → v.kind ≡ Patch → has v.active me ≡ false)) ⊎
-    ((v.acked ≡ 2) × (ran ≡ true) × ((count : ℕ) × (answer ≡ patch_answer work count) × (x ≡ Alters v.slot work count (plan_at u work count) []))))
+    (work : Work) × IsLoaded v work × (v.acked ≤ RUN) ×
+    (((x ≡ In v.slot work v.acked (v.acked + 1) Rests) × (v.acked ≡ DISABLE_IRQ → v.kind ≡ Patch → has v.active me ≡ false)) ⊎
+    ((v.acked ≡ DISABLE_IRQ) × (ran ≡ true) × ((count : ℕ) × (answer ≡ patch_answer work count) × (x ≡ Alters v.slot work count (plan_at u work count) []))))
 SitsInRound u me changes v (round.Refill ran) x = SitsIn v v.acked Fills x
 SitsInRound u me changes v (round.Raise ran) x = SitsIn v v.acked Sets x
 
 -- it is through all phases, or in a stop of kind One
 abbrev pub IsThroughAll : Visit → Type 0
-IsThroughAll v = (v.acked ≡ 4) ⊎ (v.kind ≡ One)
+IsThroughAll v = (v.acked ≡ EXIT) ⊎ (v.kind ≡ One)
 
 abbrev pub SitsInCompletion : Visit → CompletionStage → Seat → Type 0
 SitsInCompletion v completion.CountDown x =

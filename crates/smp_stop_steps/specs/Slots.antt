@@ -10,6 +10,7 @@ use Rattle.smp_words.specs.declared.work.Kind.{Kind}
 use Rattle.smp_words.specs.declared.work.Kind.TheVariants.{One, Multi, Patch}
 use Rattle.smp_words.specs.declared.work.Work.{Work}
 use Rattle.smp_words.specs.Kinds.{kind_word}
+use Rattle.smp_stop_steps.specs.declared.phase.TheConstants.{EXIT, OVER}
 
 -- the words of a slot, with one changed
 abbrev pub put_field : (Field → ℕ) → Field → ℕ → Field → ℕ
@@ -29,15 +30,15 @@ IsLevel p a = (a ≡ p) ⊎ (a + 1 ≡ p)
 
 -- it has seen what it was to see: the last phase, or it is of a stop of kind One
 abbrev pub IsDone : ℕ → ℕ → Type 0
-IsDone p a = (a ≡ 4) ⊎ (p ≡ 0)
+IsDone p a = (a ≡ EXIT) ⊎ (p ≡ 0)
 
--- a CPU is of the machine, its phases are near the stop's, and it leaves at 4
+-- a CPU is of the machine, its phases are near the stop's, and it leaves at EXIT
 abbrev pub Keeps : ℕ → ℕ → ℕ → Standing → Type 0
 Keeps cpus p c Outside = Unit {0}
 Keeps cpus p c Called = (c < cpus) × IsLevel p 0
-Keeps cpus p c (Inside a l) = (c < cpus) × IsLevel p a × ((l ≡ a) ⊎ ((l ≡ a + 1) × (p ≡ l))) × (l ≤ 4) × (a ≤ 4)
-Keeps cpus p c (Answering a v) = (c < cpus) × IsLevel p a × IsDone p a × (a ≤ 4)
-Keeps cpus p c (Completed a v) = (c < cpus) × IsLevel p a × IsDone p a × (a ≤ 4)
+Keeps cpus p c (Inside a l) = (c < cpus) × IsLevel p a × ((l ≡ a) ⊎ ((l ≡ a + 1) × (p ≡ l))) × (l ≤ EXIT) × (a ≤ EXIT)
+Keeps cpus p c (Answering a v) = (c < cpus) × IsLevel p a × IsDone p a × (a ≤ EXIT)
+Keeps cpus p c (Completed a v) = (c < cpus) × IsLevel p a × IsDone p a × (a ≤ EXIT)
 
 -- the count of acknowledgements, by who sets the next phase
 abbrev pub AckShows : ℕ → ℕ → (ℕ → Standing) → Raising → ℕ → Type 0
@@ -71,7 +72,7 @@ IsPhaseOf Patch p = p ≢ 0
 pub record OpenShows (cpus : ℕ) (stop : Stop) (word : Field → ℕ) : Type 0 where
   pub written : IsWritten word stop.work
   pub state : word field.State ≡ stop.phase
-  pub bound : stop.phase ≤ 5
+  pub bound : stop.phase ≤ OVER
   pub kinds : IsPhaseOf stop.work.kind stop.phase
   pub ack : stop.phase ≢ 0 → AckShows cpus stop.phase stop.standing stop.raising (word field.Ack)
   pub calm : stop.phase ≡ 0 → stop.raising ≡ Nobody

@@ -33,6 +33,7 @@ use Rattle.smp_words.specs.declared.work.Kind.{Kind}
 use Rattle.smp_words.specs.declared.work.Work.{Work}
 use Rattle.smp_words.specs.declared.word.Word.{Word}
 use Rattle.smp_words.specs.declared.word.Word.TheVariants.{Gate, Slot, Key, Entry, Site}
+use Rattle.smp_stop_steps.specs.declared.phase.TheConstants.{DISABLE_IRQ, RUN, EXIT}
 
 -- all bits but one
 abbrev pub all_but : ℕ → ℕ
@@ -129,17 +130,17 @@ begun_next c work field.Roll = stop_ends (record c { is_open = true }) note.Begu
 
 -- the note of a turn that has acknowledged this phase
 abbrev pub turn_note : ℕ → Bool → Note
-turn_note p ran = if p == 4 then note.Left else if ran then note.Ran else note.Moved p
+turn_note p ran = if p == EXIT then note.Left else if ran then note.Ran else note.Moved p
 
--- a turn ends; with phase 4 the CPU has left, and its interrupts are on
+-- a turn ends; with EXIT the CPU has left, and its interrupts are on
 abbrev pub turn_ends : StopControlValue → ℕ → Bool → StopOutcome
-turn_ends c p ran = stop_ends (record c { interrupts = if p == 4 then true else c.interrupts }) (turn_note p ran)
+turn_ends c p ran = stop_ends (record c { interrupts = if p == EXIT then true else c.interrupts }) (turn_note p ran)
 
--- a new phase: at 2 interrupts go off, at 3 an active CPU runs its function
+-- a new phase: at DISABLE_IRQ interrupts go off, at RUN an active CPU runs its function
 abbrev pub looked_on : ℕ → StopControlValue → Visit → ℕ → ℕ → StopOutcome
 looked_on me c v answer p =
-    stop_goes (record c { interrupts = if p == 2 then false else c.interrupts })
-    (Advance v (if p == 3 && has v.active me then round.LoadFunc answer else round.Acknowledge answer false))
+    stop_goes (record c { interrupts = if p == DISABLE_IRQ then false else c.interrupts })
+    (Advance v (if p == RUN && has v.active me then round.LoadFunc answer else round.Acknowledge answer false))
 
 -- the visit once the phase is acknowledged
 abbrev pub visit_acked : Visit → ℕ → Bool → Visit
@@ -224,7 +225,7 @@ stop_outcome me c (ReadSite i) found = stop_ends c (if is_on found then note.Jmp
 stop_outcome me c (NudgeKey k up) found = nudge_on c k found (count_after (nudge_of up) found)
 stop_outcome me c (ExchangeKey k expected new) found = stop_ends c (if found == expected then note.Done else note.Lost)
 
--- what the CPU's function has answered, where the step acknowledges phase 3 with it
+-- what the CPU's function has answered, where the step acknowledges RUN with it
 abbrev pub answer_at : StopStage → ℕ
 answer_at (Advance v (round.Acknowledge answer ran)) = answer
 answer_at _ = 0
@@ -234,7 +235,7 @@ abbrev pub FitsRound : StopControlValue → Visit → RoundStage → ℕ → Typ
 FitsRound c v (round.LoadFunc answer) found = found < 2 ^ 16
 FitsRound c v (round.LoadEntry key word site) found = IsEntryWord found × (site < MOST_SITES) × (length c.changes ≤ site + 1)
 FitsRound c v (round.StoreChange made) found = made < length c.changes
-FitsRound c v (round.Acknowledge answer ran) found = v.acked ≤ 3
+FitsRound c v (round.Acknowledge answer ran) found = v.acked ≤ RUN
 FitsRound c v _ found = Unit {0}
 
 abbrev pub FitsCompletion : CompletionStage → ℕ → Type 0

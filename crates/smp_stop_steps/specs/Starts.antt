@@ -26,6 +26,7 @@ use Rattle.smp_words.specs.declared.work.Kind.{Kind}
 use Rattle.smp_words.specs.declared.work.Kind.TheVariants.{One, Multi, Patch}
 use Rattle.smp_words.specs.declared.work.Work.{Work}
 use Rattle.smp_words.specs.declared.word.Word.TheVariants.{Gate}
+use Rattle.smp_stop_steps.specs.declared.phase.TheConstants.{EXIT}
 
 -- what the half of this value is asked for before a CPU starts a command
 abbrev pub terms_of : StopsValue → ℕ → Terms
@@ -73,7 +74,7 @@ is_free (Some v) = false
 -- it is in a stop of several CPUs, and has not left it
 abbrev pub may_advance : Option Visit → Bool
 may_advance None = false
-may_advance (Some v) = not (is_one v.kind) && not (v.acked == 4)
+may_advance (Some v) = not (is_one v.kind) && not (v.acked == EXIT)
 
 -- it is in a stop of one CPU
 abbrev pub may_run : Option Visit → Bool
@@ -83,7 +84,7 @@ may_run (Some v) = is_one v.kind
 -- it has left a stop of several CPUs, and has not completed
 abbrev pub may_finish : Option Visit → Bool
 may_finish None = false
-may_finish (Some v) = v.acked == 4
+may_finish (Some v) = v.acked == EXIT
 
 -- the refusals of a CPU that stands so; none for a command of the other half but a handle with interrupts off
 abbrev pub refusal_on : Terms → StopControlValue → Command → Option SmpError

@@ -5,6 +5,7 @@ use Rattle.smp_words.specs.Put.{put}
 use Rattle.smp_words.specs.declared.work.Kind.{Kind}
 use Rattle.smp_words.specs.declared.work.Kind.TheVariants.{One, Multi, Patch}
 use Rattle.smp_words.specs.declared.work.Work.{Work}
+use Rattle.smp_stop_steps.specs.declared.phase.TheConstants.{PREPARE}
 
 -- where a CPU is with one stop
 pub data Standing : Type 0 where
@@ -38,7 +39,7 @@ pub data Ending : Type 0 where
 pub record Stop : Type 0 where
   pub is_open : Bool
   pub work : Work
-  -- 0 in a stop of kind One, else 1 to 5
+  -- 0 in a stop of kind One, else PREPARE to OVER
   pub phase : ℕ
   pub standing : ℕ → Standing
   pub raising : Raising
@@ -88,8 +89,8 @@ answer_of _ = 0
 -- the phase in which a stop of this kind opens
 abbrev pub first_phase : Kind → ℕ
 first_phase One = 0
-first_phase Multi = 1
-first_phase Patch = 1
+first_phase Multi = PREPARE
+first_phase Patch = PREPARE
 
 -- the steps of a stop
 

@@ -20,6 +20,7 @@ use Rattle.smp_words.specs.declared.work.Kind.TheVariants.{One, Multi, Patch}
 use Rattle.smp_words.specs.declared.work.Work.{Work}
 use Rattle.smp_words.specs.declared.word.Word.{Word}
 use Rattle.smp_words.specs.declared.word.Word.TheVariants.{Gate, Slot, Key, Site}
+use Rattle.smp_stop_steps.specs.declared.phase.TheConstants.{DISABLE_IRQ, RUN, EXIT, OVER}
 
 abbrev pub is_one : Kind → Bool
 is_one One = true
@@ -33,7 +34,7 @@ abbrev pub is_patch : Kind → Bool
 is_patch Patch = true
 is_patch _ = false
 
--- the CPU calls the function of this work at phase 3
+-- the CPU calls the function of this work at RUN
 abbrev pub calls_at_run : ℕ → Work → Bool
 calls_at_run me w = has w.active me && is_multi w.kind
 
@@ -70,7 +71,7 @@ opens p s = record p {
 abbrev pub enters : Present → ℕ → ℕ → Present
 enters n me s = record n { stop = put n.stop s (stands (n.stop s) me (Inside 0 0)); inside = put n.inside me (Some s) }
 
--- look: at phase 2 the CPU turns its interrupts off
+-- look: at DISABLE_IRQ the CPU turns its interrupts off
 abbrev pub looked_by : Standing → ℕ → Standing
 looked_by (Inside a l) n = Inside a n
 looked_by x n = x
@@ -78,7 +79,7 @@ looked_by x n = x
 abbrev pub looks_now : Present → ℕ → ℕ → ℕ → Present
 looks_now n me s found = record n {
   stop = put n.stop s (stands (n.stop s) me (looked_by ((n.stop s).standing me) found));
-  irq = cond (found == 2) (put n.irq me false) n.irq;
+  irq = cond (found == DISABLE_IRQ) (put n.irq me false) n.irq;
 }
 
 abbrev pub looks : StopState → ℕ → ℕ → ℕ → StopState
@@ -96,11 +97,11 @@ abbrev pub unpatched : ℕ → Patching → Patching
 unpatched me Whole = Whole
 unpatched me (Patches c w count made rest) = cond (c == me) Whole (Patches c w count made rest)
 
--- acknowledge the phase that was looked at; the last of all who acknowledge 4 does not leave yet
+-- acknowledge the phase that was looked at; the last of all who acknowledge EXIT does not leave yet
 abbrev pub acknowledges_now : Present → ℕ → ℕ → ℕ → ℕ → Present
 acknowledges_now n me s p found =
-    let acked = record n { stop = put n.stop s (acknowledged (n.stop s) me p found); patching = cond (p == 3) (unpatched me n.patching) n.patching } in
-    cond (p == 4 && not (found == 1)) (leaves acked me s (n.stop s).work) acked
+    let acked = record n { stop = put n.stop s (acknowledged (n.stop s) me p found); patching = cond (p == RUN) (unpatched me n.patching) n.patching } in
+    cond (p == EXIT && not (found == 1)) (leaves acked me s (n.stop s).work) acked
 
 -- the call of a stop function grows the CPU's list
 abbrev pub calls_more : (ℕ → List StopCall) → ℕ → Work → ℕ → ℕ → List StopCall
@@ -109,13 +110,13 @@ calls_more calls me w answer = put calls me (calls me ++ record { func = w.func;
 abbrev pub acknowledges : StopState → ℕ → ℕ → Standing → ℕ → ℕ → StopState
 acknowledges p me s (Inside a l) found answer = record p {
   now = acknowledges_now p.now me s l found;
-  calls = cond (l == 3 && calls_at_run me (p.now.stop s).work) (calls_more p.calls me (p.now.stop s).work answer) p.calls;
+  calls = cond (l == RUN && calls_at_run me (p.now.stop s).work) (calls_more p.calls me (p.now.stop s).work answer) p.calls;
 }
 acknowledges p me s _ found answer = p
 
--- raise; who raises from 4 to 5 leaves with it
+-- raise; who raises from EXIT to OVER leaves with it
 abbrev pub raises : Present → ℕ → ℕ → ℕ → Present
-raises n me s p = cond (p == 5) (leaves (with_stop n s (raised (n.stop s) p)) me s (n.stop s).work) (with_stop n s (raised (n.stop s) p))
+raises n me s p = cond (p == OVER) (leaves (with_stop n s (raised (n.stop s) p)) me s (n.stop s).work) (with_stop n s (raised (n.stop s) p))
 
 -- an answer that is not 0 goes into the result word
 abbrev pub answered_by : Standing → ℕ → Standing
@@ -164,9 +165,9 @@ slot_told p me s act.Sub field.Ack (Some found) _ answer = acknowledges p me s (
 slot_told p me s act.Sub field.Todo (Some found) _ answer = completes p me s ((p.now.stop s).standing me) found
 slot_told p me s _ _ _ _ answer = p
 
--- the CPU is at phase 3, which it has not acknowledged
+-- the CPU is at RUN, which it has not acknowledged
 abbrev pub is_at_run : Standing → Bool
-is_at_run (Inside a l) = a == 2 && l == 3
+is_at_run (Inside a l) = a == DISABLE_IRQ && l == RUN
 is_at_run _ = false
 
 -- the stores of the patch of this work, where it finds this count
@@ -180,7 +181,7 @@ patch_begun u me w found = Patches me w found [] (plan_at u w found)
 abbrev pub reads : Present → ℕ → Reading → Present
 reads n me r = record n { readings = put n.readings me (n.readings me ++ r ∷ []) }
 
--- a load of a key: the first of a patch by who is inside one at phase 3, else a reading
+-- a load of a key: the first of a patch by who is inside one at RUN, else a reading
 abbrev pub key_loaded : Setup → Present → ℕ → ℕ → ℕ → Option ℕ → Present
 key_loaded u n me k found None = reads n me (ReadKey k (is_on found))
 key_loaded u n me k found (Some s) = cond (is_at_run ((n.stop s).standing me) && is_patch (n.stop s).work.kind)

@@ -5,6 +5,7 @@ ghost use Rattle.smp_labels.specs.Keys.{count_after};
 ghost use Rattle.smp_stop_steps.specs.Stages.{acked_on, begun_next, change_at, completion_outcome, entry_on, key_on, looked_on, nudge_of, nudge_on, round_outcome, stop_ends, stop_goes, stop_outcome, stop_outside, turn_ends, FitsStop, FitsRound, FitsCompletion, IsOfSource};
 
 use crate::mask::has_bit;
+use crate::phase::{DISABLE_IRQ, EXIT, RUN};
 use crate::stage::{CompletionStage, RoundStage, StopStage, Visit};
 use arrayvec::ArrayVec;
 use smp_labels::{Change, Entry, MOST_CHANGES, MOST_SITES, Place, is_on, kind_of};
@@ -129,7 +130,7 @@ impl StopControl {
         ensures note { result ≡ (turn_ends self.old phase ran).note }
         ensures control { self.new ≡ (turn_ends self.old phase ran).control }
     {
-        if phase == 4 {
+        if phase == EXIT {
             self.interrupts = true;
             return self.end(Note::Left);
         }
@@ -142,10 +143,10 @@ impl StopControl {
         ensures note { result ≡ (looked_on me self.old visit answer phase).note }
         ensures control { self.new ≡ (looked_on me self.old visit answer phase).control }
     {
-        if phase == 2 {
+        if phase == u64::from(DISABLE_IRQ) {
             self.interrupts = false;
         }
-        let next = if phase == 3 && has_bit(visit.active, me) {
+        let next = if phase == u64::from(RUN) && has_bit(visit.active, me) {
             RoundStage::LoadFunc { answer }
         } else {
             RoundStage::Acknowledge { answer, ran: false }

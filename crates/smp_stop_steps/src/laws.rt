@@ -3,6 +3,8 @@
 //! They speak of any number of CPUs and of any words that show stops, so that they hold of the pure machine and of
 //! words that threads share alike.
 
+ghost use Rattle.std.specs.Prelude.{◌≡◌};
+ghost use Rattle.smp_stop_steps.specs.declared.phase.TheConstants.{PREPARE, DISABLE_IRQ, RUN, EXIT, OVER};
 ghost use Rattle.smp_stop_steps.specs.Promises.{NothingBegun, StepsAreTold, KeepThePhaseLaw, KeepTheCountLaw, KeepTheFunctionLaw, KeepTheLabelLaw, PatchesAlone, KeysStandOutsidePatches, NudgesStand, EdgesAreRead, PatchesAnswer, OwnPatchesAreRead};
 
 /// Words with a free gate, free slots and a lawful label table with all keys off show that no stop was begun.
@@ -14,6 +16,11 @@ pub fn nothing_is_begun()
 /// all laws: the words show the stops, the phase law, the label law and the results of stops.
 pub fn steps_are_told()
     ensures { StepsAreTold }
+{}
+
+/// The phases have these numbers, in the state word of a slot and in what is seen of a turn.
+pub fn phases_have_numbers()
+    ensures { (PREPARE ≡ 1) × (DISABLE_IRQ ≡ 2) × (RUN ≡ 3) × (EXIT ≡ 4) × (OVER ≡ 5) }
 {}
 
 /// In an open stop of several CPUs each CPU of the mask has acknowledged the phase or the one before it, and the

@@ -201,12 +201,13 @@ impl<A: Allocator> Stops<A> {
     }
 
     ghost use Rattle.smp_words.specs.declared.field.Field.TheVariants.{State};
+    ghost use Rattle.smp_stop_steps.specs.declared.phase.TheConstants.{OVER};
     ghost use Rattle.smp_words.specs.declared.word.Word.TheVariants.{Slot};
 
-    /// The state word of a slot, 0 to 5; 0 where there is no such slot.
+    /// The state word of a slot, 0 to `OVER`; 0 where there is no such slot.
     pub fn phase(&self, slot: u32) -> u32
         ensures phase { result ≡ stop_number self.now.table (Slot slot State) }
-        ensures small { result ≤ 5 }
+        ensures small { result ≤ OVER }
     {
         (self.table.read(Word::Slot(slot, Field::State)) % (1 << 32)) as u32
     }

@@ -3,6 +3,7 @@
 ghost use Rattle.std.specs.Prelude.{◌≡◌, ◌≤◌};
 ghost use Rattle.smp_stop_steps.specs.Stages.{completes_from, visit_acked};
 
+use crate::phase::RUN;
 use smp_labels::Change;
 use smp_words::field::Field;
 use smp_words::work::{Kind, Work};
@@ -26,7 +27,7 @@ pub struct Visit {
 impl Visit {
     /// The visit once the next phase is acknowledged, with the function's answer where it has run.
     pub fn acknowledged(self, answer: u64, ran: bool) -> Visit
-        requires { self.acked ≤ 3 }
+        requires { self.acked ≤ RUN }
         ensures { result ≡ visit_acked self answer ran }
     {
         Visit {
@@ -54,7 +55,7 @@ impl Visit {
 pub enum RoundStage {
     /// Load the phase.
     Look { answer: u64 },
-    /// At phase 3 an active CPU loads its function.
+    /// At `RUN` an active CPU loads its function.
     LoadFunc { answer: u64 },
     /// Load its argument; the function of a Multi stop runs after this step.
     LoadArg { answer: u64, func: u16 },

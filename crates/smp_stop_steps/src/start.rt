@@ -5,6 +5,7 @@ ghost use Rattle.smp_stop_steps.specs.Starts.{begin_refusal as refusal_of_begin,
 
 use crate::control::StopControl;
 use crate::mask::{first_of, mask_word, weight};
+use crate::phase::EXIT;
 use crate::stage::{CompletionStage, RoundStage, StopStage, Visit};
 use smp_mask::{CpuMask, SmpError};
 use smp_words::command::Command;
@@ -108,7 +109,7 @@ fn may_advance(visit: Option<Visit>) -> bool
     ensures { result ≡ can_advance visit }
 {
     match visit {
-        Some(visit) => visit.kind != Kind::One && visit.acked != 4,
+        Some(visit) => visit.kind != Kind::One && visit.acked != EXIT,
         None => false,
     }
 }
@@ -128,7 +129,7 @@ fn may_finish(visit: Option<Visit>) -> bool
     ensures { result ≡ can_finish visit }
 {
     match visit {
-        Some(visit) => visit.acked == 4,
+        Some(visit) => visit.acked == EXIT,
         None => false,
     }
 }
