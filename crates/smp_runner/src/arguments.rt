@@ -1,7 +1,9 @@
 //! What the words of the command line ask for.
 
+use crate::status::Refusal;
 use clap::error::ErrorKind;
 use clap::{Arg, Command};
+use smp_mask::SmpError;
 use std::alloc::{AllocError, Global};
 
 /// What to run.
@@ -11,32 +13,25 @@ pub enum Request<'a> {
     Replay(Option<&'a str>),
 }
 
-/// Why the words ask for nothing.
-#[derive(Clone, Copy, Debug, PartialEq, Eq)]
-pub enum WordsError {
-    NoMemory,
-    Usage,
-}
-
 fn grammar<'a>(alloc: Global) -> Result<Command<'a>, AllocError> {
     let replay = Command::new(alloc, "replay").arg(Arg::new(alloc, "FILE"))?;
     Command::new(alloc, "smp_runner").subcommand(replay)
 }
 
-/// What the words ask for: `NoMemory` where a growth was refused, and `Usage` where they are no command line, or
+/// What the words ask for: `Failed(NoMemory)` where a growth was refused, and `Usage` where they are no command line, or
 /// ask for help.
-pub fn read_words<'a>(alloc: Global, words: &'a [&'a str]) -> Result<Request<'a>, WordsError> {
+pub fn read_words<'a>(alloc: Global, words: &'a [&'a str]) -> Result<Request<'a>, Refusal> {
     let Ok(grammar) = grammar(alloc) else {
-        return Err(WordsError::NoMemory);
+        return Err(Refusal::Failed(SmpError::NoMemory));
     };
     match grammar.try_get_matches_from(words) {
         Ok(matches) => match matches.subcommand() {
             Some((_, found)) => Ok(Request::Replay(found.get_str("FILE"))),
-            None => Err(WordsError::Usage),
+            None => Err(Refusal::Usage),
         },
         Err(e) => match e.kind() {
-            ErrorKind::OutOfMemory => Err(WordsError::NoMemory),
-            _ => Err(WordsError::Usage),
+            ErrorKind::OutOfMemory => Err(Refusal::Failed(SmpError::NoMemory)),
+            _ => Err(Refusal::Usage),
         },
     }
 }

@@ -1,0 +1,3 @@
+pub mod Showings
+pub mod Progresses
+pub mod Endings

@@ -1,7 +1,0 @@
-use Rattle.std.proofs.Common.{◌≡◌, ◌^◌, take, min, true}
-use Rattle.std.specs.List.{list_all}
-use Rattle.smp_runner.specs.Numbers.{value_after, is_digit}
-use Rattle.smp_runner.proofs.decimal.number.Given as goal
-
-abbrev pub invariant-loop-byte : goal.invariant-loop-byte
-invariant-loop-byte l = (list_all is_digit (take l.byte-index l.text) ≡ true) × (l.value ≡ min (value_after 0 (take l.byte-index l.text)) (2 ^ 64))

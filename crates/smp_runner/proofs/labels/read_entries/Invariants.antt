@@ -1,6 +1,0 @@
-use Rattle.std.proofs.Common.{◌≡◌, map, take}
-use Rattle.smp_runner.specs.Labels.{entry_of}
-use Rattle.smp_runner.proofs.labels.read_entries.Given as goal
-
-abbrev pub invariant-loop-item : goal.invariant-loop-item
-invariant-loop-item l = l.entries.items ≡ map entry_of (map (λ i. i.now) (take l.item-index l.items))

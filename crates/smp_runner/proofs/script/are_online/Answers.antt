@@ -1,9 +1,0 @@
-use Rattle.std.proofs.Common.{◌<◌, ◌∙◌, length, sym, arith}
-use Rattle.smp_mask.specs.Mask.{members}
-use Rattle.smp_runner.proofs.Online.{limits_are}
-use Rattle.smp_runner.proofs.script.are_online.Goals as goal
-
-pub returns-then-weight-gt0-clause-limits : goal.returns-then-weight-gt0-clause-limits
-returns-then-weight-gt0-clause-limits c = λ h.
-    let long : 0 < length (members c.args.mask) = omega (arith, c.weight.ensures.count, c.if-weight-gt0.true) in
-    limits_are c.args.nr c.args.mask c.requires.some c.requires.within c.weight.ensures.width long (sym c.stays_below.ensures ∙ h)

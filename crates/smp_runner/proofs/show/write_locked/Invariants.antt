@@ -1,7 +1,0 @@
-use Rattle.std.proofs.Common.{◌≡◌, ◌++◌, string_bytes}
-use Rattle.smp_runner.specs.Text.{list_text}
-use Rattle.smp_runner.specs.Showing.{locked_below}
-use Rattle.smp_runner.proofs.show.write_locked.Given as goal
-
-abbrev pub invariant-loop-id : goal.invariant-loop-id
-invariant-loop-id g l = string_bytes l.out ≡ string_bytes l.initial.out ++ list_text (locked_below l.core l.id)

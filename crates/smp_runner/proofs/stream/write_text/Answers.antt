@@ -1,8 +1,0 @@
-use Rattle.std.proofs.lemmas.List.{take_rest}
-use Rattle.std.proofs.Math.Seq.{take-add}
-use Rattle.smp_runner.proofs.Streams.{appends_both}
-use Rattle.smp_runner.proofs.stream.write_text.Goals as goal
-
-pub pieces-preserved : goal.pieces-preserved
-pieces-preserved g c =
-    rw (take-add c.pieces.at c.in-Ok.n c.args.text.now) (appends_both _ _ _ _ _ c.pieces.invariant (rw (take_rest c.args.text.now c.pieces.at) at c.in-Ok.ensures.bytes))

@@ -1,0 +1,97 @@
+-- Fields, read from left to right up to the first at fault.
+use Rattle.std.proofs.Common.{◌≡◌, ℕ, ◌+◌, ◌<◌, ◌≤◌, true, false, nat_le, List, length, Some, Result, Ok, Err, refl, sym, ◌∙◌, inl, inr, arith, subst}
+use Rattle.std.specs.Prelude.{slice_get}
+use Rattle.std.proofs.lemmas.Bool.{cases_lt, cases_Bool}
+use Rattle.std.proofs.lemmas.Bool.Decides.{nat_tests}
+use Rattle.smp_mask.specs.declared.error.Cause.{Cause}
+use Rattle.smp_mask.specs.declared.error.Cause.TheVariants.{Number, Range}
+use Rattle.smp_script.specs.Faults.{◌>>=◌}
+use Rattle.smp_script.specs.Numbers.{is_decimal, number_in}
+use Rattle.smp_script.specs.Shapes.{Form, number}
+use Rattle.smp_script.specs.FieldFaults.{FieldFault, NumberFault, field_at, value_of}
+
+-- nothing is wrong with the first n fields
+abbrev pub Clean : List Form → List (List ℕ) → ℕ → Type 0
+Clean shape fields n = (i : ℕ) (form : Form) (cause : Cause) → i < n → slice_get shape i ≡ Some form → FieldFault fields i form cause → ⊥
+
+-- the first field at fault
+pub record FirstWrong (shape : List Form) (fields : List (List ℕ)) (cause : Cause) : Type 0 where
+  pub place : ℕ
+  pub form : Form
+  pub wants : slice_get shape place ≡ Some form
+  pub wrong : FieldFault fields place form cause
+  pub before : Clean shape fields place
+
+-- what reading the fields of a shape tells of their faults, and of what was read
+abbrev pub Tells : {B : Type 0} → List Form → List (List ℕ) → (B → Type 0) → Result B Cause → Type 0
+Tells shape fields holds (Ok b) = Clean shape fields (length shape) × holds b
+Tells shape fields holds (Err cause) = FirstWrong shape fields cause
+
+pub none_yet : (shape : List Form) (fields : List (List ℕ)) → Clean shape fields 0
+none_yet shape fields i form cause h e f = absurd (omega arith)
+
+-- a field with nothing wrong
+pub passes : (shape : List Form) (fields : List (List ℕ)) (i : ℕ) (form : Form) → slice_get shape i ≡ Some form → ((cause : Cause) → FieldFault fields i form cause → ⊥) → Clean shape fields i → Clean shape fields (i + 1)
+passes shape fields i form wants right clean j other cause h e f = elim (cases_lt j i) [
+  | inl below ↦ clean j other cause below e f
+  | inr at ↦
+      let same : j ≡ i = omega arith in
+      let e' : slice_get shape i ≡ Some other = subst (λ k. slice_get shape k ≡ Some other) same e in
+      let one : other ≡ form = cc in
+      right cause (subst (λ x. FieldFault fields i x cause) one (subst (λ k. FieldFault fields k other cause) same f))
+]
+
+-- a number is read, or what is wrong with it
+data NumberRead (low high : ℕ) (text : List ℕ) : Type 0 where
+  is_read : number_in low high text ≡ Ok (value_of text) → ((cause : Cause) → NumberFault low high text cause → ⊥) → NumberRead low high text
+  is_wrong : (cause : Cause) → number_in low high text ≡ Err cause → NumberFault low high text cause → NumberRead low high text
+
+right_number : (low high : ℕ) (text : List ℕ) → is_decimal text ≡ true → low ≤ value_of text → value_of text ≤ high → (cause : Cause) → NumberFault low high text cause → ⊥
+right_number low high text good above below Number f = let bad : true ≡ false = sym good ∙ f in cc
+right_number low high text good above below Range f = elim f.1 [ inl under ↦ omega arith | inr over ↦ omega arith ]
+right_number low high text good above below _ f = f
+
+number_read : (low high : ℕ) (text : List ℕ) → NumberRead low high text
+number_read low high text = elim (cases_Bool (is_decimal text)) [
+  | inr bad ↦ is_wrong Number (rw bad refl) bad
+  | inl good ↦ elim (cases_lt (value_of text) low) [
+    | inl under ↦
+        let test : nat_le low (value_of text) ≡ false = grind (arith, nat_tests) in
+        is_wrong Range (rw (good, test) refl) (good, inl under)
+    | inr above ↦ elim (cases_lt high (value_of text)) [
+      | inl over ↦
+          let test : nat_le low (value_of text) ≡ true = grind (arith, nat_tests) in
+          let past : nat_le (value_of text) high ≡ false = grind (arith, nat_tests) in
+          is_wrong Range (rw (good, test, past) refl) (good, inr over)
+      | inr below ↦
+          let test : nat_le low (value_of text) ≡ true = grind (arith, nat_tests) in
+          let within : nat_le (value_of text) high ≡ true = grind (arith, nat_tests) in
+          is_read (rw (good, test, within) refl) (right_number low high text good above below)
+    ]
+  ]
+]
+
+-- a field that has to be a number, and what is read after it
+pub reads_number : {B : Type 0} (shape : List Form) (fields : List (List ℕ)) (holds : B → Type 0) (i low high : ℕ) (then : ℕ → Result B Cause) → slice_get shape i ≡ Some (number low high) → Clean shape fields i
+    → (Clean shape fields (i + 1) → Tells shape fields holds (then (value_of (field_at fields i)))) → Tells shape fields holds (number_in low high (field_at fields i) >>= then)
+reads_number shape fields holds i low high then wants clean more = elim (number_read low high (field_at fields i)) [
+  | is_wrong cause e f ↦ rw e (record { place = i; form = number low high; wants = wants; wrong = f; before = clean })
+  | is_read e right ↦ rw e (more (passes shape fields i (number low high) wants right clean))
+]
+
+-- a field is read, or what is wrong with it
+pub data Judged {A : Type 0} (Wrong : Cause → Type 0) (read : Result A Cause) : Type 0 where
+  fine : (x : A) → read ≡ Ok x → ((cause : Cause) → Wrong cause → ⊥) → Judged Wrong read
+  faulty : (cause : Cause) → read ≡ Err cause → Wrong cause → Judged Wrong read
+
+-- a field of this form, and what is read after it
+pub reads_field : {A B : Type 0} (shape : List Form) (fields : List (List ℕ)) (holds : B → Type 0) (i : ℕ) (form : Form) (read : Result A Cause) (then : A → Result B Cause) → slice_get shape i ≡ Some form → Clean shape fields i
+    → Judged (FieldFault fields i form) read → ((x : A) → Clean shape fields (i + 1) → Tells shape fields holds (then x)) → Tells shape fields holds (read >>= then)
+reads_field shape fields holds i form read then wants clean (faulty cause e f) more = rw e (record { place = i; form = form; wants = wants; wrong = f; before = clean })
+reads_field shape fields holds i form read then wants clean (fine x e right) more = rw e (more x (passes shape fields i form wants right clean))
+
+-- the last field
+pub reads_last : {A : Type 0} (shape : List Form) (fields : List (List ℕ)) (holds : A → Type 0) (i : ℕ) (form : Form) (read : Result A Cause) → slice_get shape i ≡ Some form → Clean shape fields i → length shape ≡ i + 1
+    → ((x : A) → holds x) → Judged (FieldFault fields i form) read → Tells shape fields holds read
+reads_last shape fields holds i form read wants clean all hold (faulty cause e f) = rw e (record { place = i; form = form; wants = wants; wrong = f; before = clean })
+reads_last shape fields holds i form read wants clean all hold (fine x e right) = rw e (rw all (passes shape fields i form wants right clean), hold x)

@@ -1,0 +1,54 @@
+-- Masks, and what is wrong with their fields.
+use Rattle.std.proofs.Common.{◌≡◌, ℕ, ◌≤◌, true, false, List, Result, Ok, Err, codes, refl, sym, ap, ◌∙◌, inl, inr, arith}
+use Rattle.std.specs.Str.{bytes_eq}
+use Rattle.std.proofs.lemmas.Bool.{cases_Bool}
+use Rattle.smp_mask.specs.CpuList.{IsMaskOf}
+use Rattle.smp_mask.specs.Reading.{mask_of_text}
+use Rattle.smp_mask.specs.declared.error.Cause.{Cause}
+use Rattle.smp_mask.specs.declared.error.Cause.TheVariants.{Mask}
+use Rattle.smp_mask.specs.declared.error.SmpError.{SmpError}
+use Rattle.smp_mask.specs.declared.mask.TheConstants.{NR_CPUS}
+use Rattle.smp_mask.proofs.Walks.{accepted, refused}
+use Rattle.smp_script.specs.Fields.{mask_of, stays_below}
+use Rattle.smp_script.specs.FieldFaults.{IsMask, MaskFault}
+use Rattle.smp_script.proofs.Faults.FieldFaults.{Judged, fine, faulty}
+use Rattle.smp_script.proofs.Spelled.ReadParts.{same_word}
+use Rattle.smp_script.proofs.Reader.Widths.{narrower, too_wide, wider}
+
+pub no_word : (text : List ℕ) → bytes_eq text (codes "-") ≡ false → text ≡ codes "-" → ⊥
+no_word text h e = let bad : true ≡ false = sym (ap (λ t. bytes_eq t (codes "-")) e) ∙ h in cc
+
+-- the list that a field is, which is not `-`, or why it is none
+pub data ListRead (limit : ℕ) (text : List ℕ) : Type 0 where
+  a_list : (m : ℕ) → mask_of limit text ≡ Ok m → IsMaskOf limit text m → ListRead limit text
+  no_list : mask_of limit text ≡ Err Mask → ((m : ℕ) → IsMask limit text m → ⊥) → ListRead limit text
+
+read_list : (limit : ℕ) (text : List ℕ) → limit ≤ NR_CPUS → bytes_eq text (codes "-") ≡ false → (r : Result ℕ SmpError) → mask_of_text NR_CPUS text ≡ r → ListRead limit text
+read_list limit text few h (Err e) read =
+    let bad = refused NR_CPUS (omega arith) (omega arith) text e read in
+    no_list (rw (h, read) refl) (λ m f. elim f [
+      | inl dash ↦ no_word text h dash.0
+      | inr is ↦ let wide = wider limit text m few is in bad.2.unlisted wide.items wide.is_list
+    ])
+read_list limit text few h (Ok m) read =
+    let wide = accepted NR_CPUS (omega arith) text m read in
+    elim (cases_Bool (stays_below limit m)) [
+      | inl within ↦ a_list m (rw (h, read, within) refl) (narrower limit text m few within wide)
+      | inr far ↦ no_list (rw (h, read, far) refl) (λ n f. elim f [ inl dash ↦ no_word text h dash.0 | inr is ↦ too_wide limit text m n few far wide is ])
+    ]
+
+pub list_read : (limit : ℕ) (text : List ℕ) → limit ≤ NR_CPUS → bytes_eq text (codes "-") ≡ false → ListRead limit text
+list_read limit text few h = read_list limit text few h (mask_of_text NR_CPUS text) refl
+
+no_fault : (limit : ℕ) (text : List ℕ) (m : ℕ) → IsMask limit text m → (cause : Cause) → MaskFault limit text cause → ⊥
+no_fault limit text m is Mask f = f m is
+no_fault limit text m is _ f = f
+
+pub mask_judged : (limit : ℕ) (text : List ℕ) → limit ≤ NR_CPUS → Judged (MaskFault limit text) (mask_of limit text)
+mask_judged limit text few = elim (cases_Bool (bytes_eq text (codes "-"))) [
+  | inl dash ↦ fine 0 (rw dash refl) (no_fault limit text 0 (inl (same_word text (codes "-") dash, refl)))
+  | inr other ↦ elim (list_read limit text few other) [
+    | a_list m read is ↦ fine m read (no_fault limit text m (inr is))
+    | no_list read none ↦ faulty Mask read none
+  ]
+]

@@ -1,0 +1,185 @@
+-- A text has one first fault at most.
+use Rattle.std.proofs.Common.{◌≡◌, ℕ, ◌+◌, true, false, List, Some, Result, Ok, Err, ◌⊎◌, refl, sym, ◌∙◌, inl, inr, arith, subst}
+use Rattle.std.specs.Prelude.{is_ok, slice_get}
+use Rattle.std.proofs.lemmas.Bool.{cases_order}
+use Rattle.std.proofs.lemmas.Option.{slice_get_within}
+use Rattle.smp_mask.specs.declared.error.Cause.{Cause}
+use Rattle.smp_mask.specs.declared.error.Cause.TheVariants.{Number, Range, Mask}
+use Rattle.smp_script.specs.Lines.{Line, fields_of, lines_of}
+use Rattle.smp_script.specs.Numbers.{is_decimal}
+use Rattle.smp_script.specs.Faults.{Fault}
+use Rattle.smp_script.specs.Script.{Script, script_of}
+use Rattle.smp_script.specs.Shapes.{Form, word, words, number, signed, cpu_list, online, items}
+use Rattle.smp_script.specs.FieldFaults.{field_at, value_of, FieldFault, ItemsFault, MaskFault, NumberFault, OnlineFault, SignedFault, is_signed}
+use Rattle.smp_script.specs.Labels.{has_number, items_of}
+use Rattle.std.specs.List.{list_all}
+use Rattle.smp_script.specs.FirstFault.{LineFault, past_lines, unended, no_shape, wrong_field, past_events, IsFault, IsFirstFault, past_bytes, no_line, in_line, events_to, limit_in}
+use Rattle.smp_script.proofs.Faults.LineFaults.{place_within}
+use Rattle.smp_script.proofs.Faults.FirstFaults.{TellsText, script_tells}
+
+-- a number's fault is of its form or of its range
+is_number_fault : (low high : ℕ) (text : List ℕ) (c : Cause) → NumberFault low high text c → ((c ≡ Number) × (is_decimal text ≡ false)) ⊎ ((c ≡ Range) × (is_decimal text ≡ true))
+is_number_fault low high text Number f = inl (refl, f)
+is_number_fault low high text Range f = inr (refl, f.0)
+is_number_fault low high text _ f = absurd f
+
+number_cause : (low high : ℕ) (text : List ℕ) (c d : Cause) → NumberFault low high text c → NumberFault low high text d → c ≡ d
+number_cause low high text c d f g = elim (is_number_fault low high text c f) [
+  | inl a ↦ elim (is_number_fault low high text d g) [
+    | inl b ↦ a.0 ∙ sym b.0
+    | inr b ↦ let bad : false ≡ true = sym a.1 ∙ b.1 in cc
+  ]
+  | inr a ↦ elim (is_number_fault low high text d g) [
+    | inl b ↦ let bad : false ≡ true = sym b.1 ∙ a.1 in cc
+    | inr b ↦ a.0 ∙ sym b.0
+  ]
+]
+
+-- a mask's fault is of its form or of its CPUs
+is_online_fault : (limit nr : ℕ) (text : List ℕ) (c : Cause) → OnlineFault limit nr text c → ((c ≡ Mask) × OnlineFault limit nr text Mask) ⊎ ((c ≡ Range) × OnlineFault limit nr text Range)
+is_online_fault limit nr text Mask f = inl (refl, f)
+is_online_fault limit nr text Range f = inr (refl, f)
+is_online_fault limit nr text _ f = absurd f
+
+online_cause : (limit nr : ℕ) (text : List ℕ) (c d : Cause) → OnlineFault limit nr text c → OnlineFault limit nr text d → c ≡ d
+online_cause limit nr text c d f g = elim (is_online_fault limit nr text c f) [
+  | inl a ↦ elim (is_online_fault limit nr text d g) [
+    | inl b ↦ a.0 ∙ sym b.0
+    | inr b ↦ absurd (a.1 b.1.0 b.1.1)
+  ]
+  | inr a ↦ elim (is_online_fault limit nr text d g) [
+    | inl b ↦ absurd (b.1 a.1.0 a.1.1)
+    | inr b ↦ a.0 ∙ sym b.0
+  ]
+]
+
+-- a signed number's of its form or of its range
+is_signed_fault : (text : List ℕ) (c : Cause) → SignedFault text c → ((c ≡ Number) × (is_signed text ≡ false)) ⊎ ((c ≡ Range) × (is_signed text ≡ true))
+is_signed_fault text Number f = inl (refl, f)
+is_signed_fault text Range f = inr (refl, f.0)
+is_signed_fault text _ f = absurd f
+
+signed_cause : (text : List ℕ) (c d : Cause) → SignedFault text c → SignedFault text d → c ≡ d
+signed_cause text c d f g = elim (is_signed_fault text c f) [
+  | inl a ↦ elim (is_signed_fault text d g) [
+    | inl b ↦ a.0 ∙ sym b.0
+    | inr b ↦ let bad : false ≡ true = sym a.1 ∙ b.1 in cc
+  ]
+  | inr a ↦ elim (is_signed_fault text d g) [
+    | inl b ↦ let bad : false ≡ true = sym b.1 ∙ a.1 in cc
+    | inr b ↦ a.0 ∙ sym b.0
+  ]
+]
+
+-- a mask has one kind of fault
+is_mask_fault : (limit : ℕ) (text : List ℕ) (c : Cause) → MaskFault limit text c → c ≡ Mask
+is_mask_fault limit text Mask f = refl
+is_mask_fault limit text _ f = absurd f
+
+mask_cause : (limit : ℕ) (text : List ℕ) (c d : Cause) → MaskFault limit text c → MaskFault limit text d → c ≡ d
+mask_cause limit text c d f g = is_mask_fault limit text c f ∙ sym (is_mask_fault limit text d g)
+
+-- the items' faults are of their form or of their range
+is_items_fault : (keys : ℕ) (text : List ℕ) (c : Cause) → ItemsFault keys text c → ((c ≡ Number) × (list_all has_number (items_of text) ≡ false)) ⊎ ((c ≡ Range) × (list_all has_number (items_of text) ≡ true))
+is_items_fault keys text Number f = inl (refl, f)
+is_items_fault keys text Range f = inr (refl, f.0)
+is_items_fault keys text _ f = absurd f
+
+items_cause : (keys : ℕ) (text : List ℕ) (c d : Cause) → ItemsFault keys text c → ItemsFault keys text d → c ≡ d
+items_cause keys text c d f g = elim (is_items_fault keys text c f) [
+  | inl a ↦ elim (is_items_fault keys text d g) [
+    | inl b ↦ a.0 ∙ sym b.0
+    | inr b ↦ let bad : false ≡ true = sym a.1 ∙ b.1 in cc
+  ]
+  | inr a ↦ elim (is_items_fault keys text d g) [
+    | inl b ↦ let bad : false ≡ true = sym b.1 ∙ a.1 in cc
+    | inr b ↦ a.0 ∙ sym b.0
+  ]
+]
+
+field_cause : (fields : List (List ℕ)) (i : ℕ) (form : Form) (c d : Cause) → FieldFault fields i form c → FieldFault fields i form d → c ≡ d
+field_cause fields i (word w) c d f g = absurd f
+field_cause fields i (words ws) c d f g = absurd f
+field_cause fields i (number low high) c d f g = number_cause low high (field_at fields i) c d f g
+field_cause fields i signed c d f g = signed_cause (field_at fields i) c d f g
+field_cause fields i (cpu_list limit) c d f g = mask_cause limit (field_at fields i) c d f g
+field_cause fields i items c d f g = items_cause (value_of (field_at fields 1)) (field_at fields i) c d f g
+field_cause fields i (online limit) c d f g = online_cause limit (value_of (field_at fields 1)) (field_at fields i) c d f g
+
+-- two faults of one rank in a line have one cause
+line_cause : (limit n events : ℕ) (line : Line) (k m : ℕ) (c d : Cause) → k ≡ m → LineFault limit n events line k c → LineFault limit n events line m d → c ≡ d
+line_cause limit n events line k m c d e (past_lines f) (past_lines g) = refl
+line_cause limit n events line k m c d e (past_lines f) _ = absurd (omega (arith, e))
+line_cause limit n events line k m c d e (unended f) (unended g) = refl
+line_cause limit n events line k m c d e (unended f) _ = absurd (omega (arith, e))
+line_cause limit n events line k m c d e (no_shape f) (no_shape g) = refl
+line_cause limit n events line k m c d e (no_shape f) _ = absurd (omega (arith, e))
+line_cause limit n events line k m c d e (wrong_field i {shape = a} {form = v} s w f) (wrong_field j {shape = b} {form = u} t x g) =
+    let place : j ≡ i = omega (arith, e) in
+    let shape : b ≡ a = cc in
+    let there : slice_get a i ≡ Some u = subst (λ k. slice_get a k ≡ Some u) place (subst (λ z. slice_get z j ≡ Some u) shape x) in
+    let form : u ≡ v = cc in
+    let wrong : FieldFault (fields_of line.text) i v d = subst (λ z. FieldFault (fields_of line.text) i z d) form (subst (λ k. FieldFault (fields_of line.text) k u d) place g) in
+    field_cause (fields_of line.text) i v c d f wrong
+line_cause limit n events line k m c d e (wrong_field i {shape = a} {form = v} s w f) (past_events g) = absurd (omega (arith, e, place_within limit n (fields_of line.text) a i v s w))
+line_cause limit n events line k m c d e (wrong_field i s w f) _ = absurd (omega (arith, e))
+line_cause limit n events line k m c d e (past_events f) (past_events g) = refl
+line_cause limit n events line k m c d e (past_events f) (wrong_field j {shape = b} {form = u} t x g) = absurd (omega (arith, e, place_within limit n (fields_of line.text) b j u t x))
+line_cause limit n events line k m c d e (past_events f) _ = absurd (omega (arith, e))
+
+-- and in a text
+fault_cause : (limit : ℕ) (text : List ℕ) (n k m l : ℕ) (c d : Cause) → n ≡ m → k ≡ l → IsFault limit text n k c → IsFault limit text m l d → c ≡ d
+fault_cause limit text n k m l c d e r (past_bytes f) (past_bytes g) = refl
+fault_cause limit text n k m l c d e r (past_bytes f) _ = absurd (omega (arith, r))
+fault_cause limit text n k m l c d e r (no_line f few) (no_line g less) = refl
+fault_cause limit text n k m l c d e r (no_line f few) (past_bytes g) = absurd (omega (arith, r))
+fault_cause limit text n k m l c d e r (no_line f few) (in_line j {line = b} there g) = absurd (omega (arith, e, slice_get_within (lines_of text) j b there))
+fault_cause limit text n k m l c d e r (in_line i {line = a} here f) (past_bytes g) = absurd (omega (arith, e))
+fault_cause limit text n k m l c d e r (in_line i {line = a} here f) (no_line g few) = absurd (omega (arith, e, slice_get_within (lines_of text) i a here))
+fault_cause limit text n k m l c d e r (in_line i {line = a} here f) (in_line j {line = b} there g) =
+    let place : j ≡ i = omega (arith, e) in
+    let found : slice_get (lines_of text) i ≡ Some b = subst (λ x. slice_get (lines_of text) x ≡ Some b) place there in
+    let line : b ≡ a = cc in
+    line_cause limit (i + 1) (events_to text (i + 1)) a k l c d r f (subst (λ x. LineFault limit (i + 1) (events_to text (i + 1)) x l d) line (subst (λ x. LineFault limit (x + 1) (events_to text (x + 1)) b l d) place g))
+
+-- first faults are in one line
+one_line : (limit : ℕ) (text : List ℕ) (n m : ℕ) (c d : Cause) → IsFirstFault limit text n c → IsFirstFault limit text m d → n ≡ m
+one_line limit text n m c d a b = elim (cases_order n m) [
+  | inl same ↦ same
+  | inr (inl less) ↦ absurd (b.before n a.rank c less a.fault)
+  | inr (inr more) ↦ absurd (a.before m b.rank d more b.fault)
+]
+
+-- and have one cause
+one_cause : (limit : ℕ) (text : List ℕ) (n m : ℕ) (c d : Cause) → IsFirstFault limit text n c → IsFirstFault limit text m d → n ≡ m → c ≡ d
+one_cause limit text n m c d a b e = elim (cases_order a.rank b.rank) [
+  | inl same ↦ fault_cause limit text n a.rank m b.rank c d e same a.fault b.fault
+  | inr (inl less) ↦ absurd (b.least a.rank c less (subst (λ x. IsFault limit text x a.rank c) e a.fault))
+  | inr (inr more) ↦ absurd (a.least b.rank d more (subst (λ x. IsFault limit text x b.rank d) (sym e) b.fault))
+]
+
+-- a text with a first fault is refused with it
+refused_with : (limit : ℕ) (text : List ℕ) (n : ℕ) (cause : Cause) → IsFirstFault limit text n cause → (r : Result Script Fault) → TellsText limit text r → r ≡ Err (n, cause)
+refused_with limit text n cause h (Ok script) tells = absurd (tells n h.rank cause h.fault)
+refused_with limit text n cause h (Err fault) tells =
+    let line = one_line limit text n fault.0 cause fault.1 h tells in
+    let why = one_cause limit text n fault.0 cause fault.1 h tells line in
+    rw (line, why) refl
+
+pub is_refused : (text : List ℕ) (n : ℕ) (cause : Cause) → IsFirstFault (limit_in text) text n cause → script_of text ≡ Err (n, cause)
+is_refused text n cause h = refused_with (limit_in text) text n cause h (script_of text) (script_tells text)
+
+-- a text without a fault is read
+read_then : (limit : ℕ) (text : List ℕ) → ((n rank : ℕ) (cause : Cause) → IsFault limit text n rank cause → ⊥) → (r : Result Script Fault) → TellsText limit text r → is_ok r ≡ true
+read_then limit text none (Ok script) tells = refl
+read_then limit text none (Err fault) tells = absurd (none fault.0 tells.rank fault.1 tells.fault)
+
+pub is_read : (text : List ℕ) → ((n rank : ℕ) (cause : Cause) → IsFault (limit_in text) text n rank cause → ⊥) → is_ok (script_of text) ≡ true
+is_read text none = read_then (limit_in text) text none (script_of text) (script_tells text)
+
+none_then : (limit : ℕ) (text : List ℕ) (r : Result Script Fault) → TellsText limit text r → is_ok r ≡ true → (n rank : ℕ) (cause : Cause) → IsFault limit text n rank cause → ⊥
+none_then limit text (Ok script) tells h = tells
+none_then limit text (Err fault) tells h = cc
+
+pub has_none : (text : List ℕ) → is_ok (script_of text) ≡ true → (n rank : ℕ) (cause : Cause) → IsFault (limit_in text) text n rank cause → ⊥
+has_none text h = none_then (limit_in text) text (script_of text) (script_tells text) h

@@ -1,0 +1,10 @@
+-- lines, fields and decimal numbers: taken apart, and put together
+pub mod Texts
+-- what the functions that read rest on
+pub mod Reader
+-- a script as it is written reads back
+pub mod Written
+-- a text that reads as a script is one as it is written
+pub mod Spelled
+-- the first fault of any other text
+pub mod Faults

@@ -1,0 +1,11 @@
+-- fields
+pub mod FieldLists
+pub mod FieldCounts
+pub mod LabelItems
+pub mod Widths
+-- lines
+pub mod Versions
+pub mod Online
+pub mod Directives
+-- devices
+pub mod Streams

@@ -1,0 +1,31 @@
+-- Lists of arguments that are too short or too long.
+use Rattle.std.proofs.Common.{◌≡◌, ◌<◌, ◌⊎◌, List, [], ◌∷◌, map, length, Err, refl, arith, ℕ, inl, inr}
+use Rattle.smp_mask.specs.declared.error.Cause.TheVariants.{Word}
+use Rattle.smp_script.specs.Commands.{begins_of, posts_of, start_of}
+
+-- a post has six
+pub not_six : {X : Type 0} (f : X → List ℕ) (cpu : List ℕ) (xs : List X) → (length xs < 6) ⊎ (6 < length xs) → Err Word ≡ posts_of cpu (map f xs)
+not_six f cpu [] h = refl
+not_six f cpu (a ∷ []) h = refl
+not_six f cpu (a ∷ b ∷ []) h = refl
+not_six f cpu (a ∷ b ∷ c ∷ []) h = refl
+not_six f cpu (a ∷ b ∷ c ∷ d ∷ []) h = refl
+not_six f cpu (a ∷ b ∷ c ∷ d ∷ i ∷ []) h = refl
+not_six f cpu (a ∷ b ∷ c ∷ d ∷ i ∷ j ∷ []) h = elim h [ inl few ↦ absurd (omega arith) | inr many ↦ absurd (omega arith) ]
+not_six f cpu (a ∷ b ∷ c ∷ d ∷ i ∷ j ∷ k ∷ xs) h = refl
+
+-- a begin five
+pub not_five : {X : Type 0} (f : X → List ℕ) (limit : ℕ) (cpu : List ℕ) (xs : List X) → (length xs < 5) ⊎ (5 < length xs) → Err Word ≡ begins_of limit cpu (map f xs)
+not_five f limit cpu [] h = refl
+not_five f limit cpu (a ∷ []) h = refl
+not_five f limit cpu (a ∷ b ∷ []) h = refl
+not_five f limit cpu (a ∷ b ∷ c ∷ []) h = refl
+not_five f limit cpu (a ∷ b ∷ c ∷ d ∷ []) h = refl
+not_five f limit cpu (a ∷ b ∷ c ∷ d ∷ i ∷ []) h = elim h [ inl few ↦ absurd (omega arith) | inr many ↦ absurd (omega arith) ]
+not_five f limit cpu (a ∷ b ∷ c ∷ d ∷ i ∷ j ∷ xs) h = refl
+
+-- a start two at least
+pub not_two : {X : Type 0} (f : X → List ℕ) (limit : ℕ) (xs : List X) → length xs < 2 → Err Word ≡ start_of limit (map f xs)
+not_two f limit [] h = refl
+not_two f limit (a ∷ []) h = refl
+not_two f limit (a ∷ b ∷ xs) h = absurd (omega arith)

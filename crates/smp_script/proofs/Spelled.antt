@@ -1,0 +1,4 @@
+pub mod ReadParts
+pub mod LineReadings
+pub mod LabelReadings
+pub mod Readings

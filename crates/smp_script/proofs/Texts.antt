@@ -1,0 +1,8 @@
+-- from the front
+pub mod Digits
+pub mod Fronts
+-- as they are written
+pub mod Decimals
+pub mod Joins
+-- put together again
+pub mod Splits

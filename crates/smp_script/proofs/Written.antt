@@ -1,0 +1,3 @@
+pub mod LabelWriting
+pub mod Writing
+pub mod CanonicalTexts

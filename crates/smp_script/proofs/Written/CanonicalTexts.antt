@@ -1,0 +1,152 @@
+-- The canonical text of a script.
+use Rattle.std.proofs.Common.{◌≡◌, ℕ, map, ◌<◌, ◌≤◌, ◌^◌, ◌+◌, Bool, true, false, ◌==◌, nat_lt, cond, List, [], ◌∷◌, length, Option, Some, None, Result, Ok, codes, refl, sym, ap, ◌∙◌, inl, inr, arith}
+use Rattle.std.specs.Str.{bytes_eq}
+use Rattle.std.proofs.lemmas.Bool.{cases_Bool}
+use Rattle.std.proofs.lemmas.Bool.Decides.{nat_tests}
+use Rattle.std.proofs.lemmas.Slice.Eq.{bytes_eq-Decides}
+use Rattle.smp_mask.specs.Mask.{members}
+use Rattle.smp_mask.specs.ListText.{list_text}
+use Rattle.smp_mask.specs.Reading.{after, digit, longer, mask_of_text, or_refused, read_from, step}
+use Rattle.smp_mask.specs.declared.mask.TheConstants.{NR_CPUS}
+use Rattle.smp_mask.specs.declared.error.SmpError.{SmpError}
+use Rattle.smp_mask.proofs.Canonical.{reads_back}
+use Rattle.smp_mask.proofs.Members.{none_below}
+use Rattle.smp_script.specs.Script.{Script, are_online, script_of}
+use Rattle.smp_script.specs.Spelling.{IsLawful, IsMaskText, LineHasSets, SpellLine, canonical_lines, canonical_text, lacks, line_masks, mask_text}
+use Rattle.smp_script.specs.declared.directive.Directive.{Directive}
+use Rattle.smp_script.specs.declared.directive.Directive.TheVariants.{Start, Step, Show}
+use Rattle.smp_words.specs.declared.command.Command.TheVariants.{Post, Send, Done, Handle, Gate, Ungate, Begin, Enter, Advance, RunOne, Finish, Poll, Key, Site, Nudge}
+use Rattle.std.specs.List.{AllByRecursion}
+use Rattle.smp_script.proofs.Written.Writing.{spelling_is_read}
+use Rattle.std.proofs.Math.Nat.{pow-le-pow_right}
+use Rattle.smp_mask.proofs.Sets.{member_below as is_cpu}
+use Rattle.smp_script.specs.Fields.{stays_below}
+use Rattle.smp_script.specs.Versions.{limit_of}
+use Rattle.smp_script.proofs.Reader.Versions.{limit_within}
+use Rattle.smp_script.proofs.Reader.Widths.{all_stay}
+
+-- a byte that no CPU list has
+record NoList (c : ℕ) : Type 0 where
+  no_digit : digit c ≡ None
+  no_hyphen : (c == 45) ≡ false
+  no_comma : (c == 44) ≡ false
+
+none_either : (b : Bool) → ◌≡◌ {A = Option ℕ} (cond b None None) None
+none_either true = refl
+none_either false = refl
+
+none_longer : (n c : ℕ) → NoList c → longer n c ≡ None
+none_longer n c o = rw o.no_digit (none_either (n == 0))
+
+none_after : (p : _) (c : ℕ) → NoList c → after p c ≡ None
+none_after p c o = let n = none_longer in grind (arith, nat_tests, o.no_digit, o.no_hyphen)
+
+none_step : (w : ℕ) (r : _) (c : ℕ) → NoList c → step w r c ≡ None
+none_step w r c o = rw (o.no_comma, none_after r.place c o) refl
+
+goes_on : {R : Type 0} (c : ℕ) (at : ℕ) (bs : List ℕ) (m : ℕ) (go : R → Result ℕ SmpError) (o : Option R) → ((q : R) → go q ≡ Ok m → lacks c bs ≡ true) → or_refused at go o ≡ Ok m → lacks c bs ≡ true
+goes_on c at bs m go None rest e = cc
+goes_on c at bs m go (Some q) rest e = rest q e
+
+-- a text that reads as a mask lacks it
+reads_lack : (w c : ℕ) → NoList c → (r : _) (at : ℕ) (text : List ℕ) (m : ℕ) → read_from w r at text ≡ Ok m → lacks c text ≡ true
+unfolding read_from
+reads_lack w c o r at [] m e = refl
+reads_lack w c o r at (b ∷ bs) m e = elim (cases_Bool (b == c)) [
+  | inl here ↦
+      let same : b ≡ c = grind (arith, nat_tests, here) in
+      let none : step w r b ≡ None = ap (step w r) same ∙ none_step w r c o in
+      let bad : or_refused at (λ q. read_from w q (at + 1) bs) None ≡ Ok m = ap (or_refused at (λ q. read_from w q (at + 1) bs)) (sym none) ∙ e in
+      cc
+  | inr other ↦ rw other (goes_on c at bs m (λ q. read_from w q (at + 1) bs) (step w r b) (λ q f. reads_lack w c o q (at + 1) bs m f) e)
+]
+
+some_text : (text : List ℕ) (m : ℕ) → mask_of_text NR_CPUS text ≡ Ok m → (m ≡ 0 → ⊥) → (length text == 0) ≡ false
+unfolding read_from
+some_text [] m e some = absurd (some (let z : 0 ≡ m = cc in sym z))
+some_text (b ∷ bs) m e some = grind (arith, nat_tests)
+
+no_dash : (text : List ℕ) (m : ℕ) → mask_of_text NR_CPUS text ≡ Ok m → bytes_eq text (codes "-") ≡ false
+unfolding read_from
+no_dash text m e = elim (cases_Bool (bytes_eq text (codes "-"))) [
+  | inl dash ↦
+      let same : text ≡ codes "-" = (bytes_eq-Decides text (codes "-")).0 dash in
+      let bad : mask_of_text NR_CPUS (codes "-") ≡ Ok m = ap (mask_of_text NR_CPUS) (sym same) ∙ e in
+      cc
+  | inr other ↦ other
+]
+
+-- some CPU online is some member
+some_online : (nr mask : ℕ) → are_online nr mask ≡ true → mask ≡ 0 → ⊥
+some_online nr mask h z =
+    let long : nat_lt 0 (length (members mask)) ≡ true = grind (arith, h) in
+    let none : members mask ≡ [] = none_below mask NR_CPUS (λ c l. rw z (grind (arith, nat_tests))) in
+    let bad : nat_lt 0 (length {A = ℕ} []) ≡ true = ap (λ xs. nat_lt 0 (length xs)) (sym none) ∙ long in
+    cc
+
+-- the canonical text of a mask is one of its texts
+list_is_text : (limit m : ℕ) → limit ≤ NR_CPUS → m < 2 ^ limit → (m ≡ 0 → ⊥) → IsMaskText limit (list_text m) m
+list_is_text limit m few narrow some =
+    let room : 2 ^ limit ≤ 2 ^ NR_CPUS = pow-le-pow_right (omega arith) few in
+    let set : m < 2 ^ NR_CPUS = omega (arith, narrow, room) in
+    let stays : stays_below limit m ≡ true = all_stay limit m (λ cpu h. is_cpu limit m cpu narrow h) in
+    let read : mask_of_text NR_CPUS (list_text m) ≡ Ok m = reads_back NR_CPUS (omega arith) m set in
+    let spaces : lacks 32 (list_text m) ≡ true = reads_lack NR_CPUS 32 (record { no_digit = refl; no_hyphen = refl; no_comma = refl }) _ 0 (list_text m) m read in
+    let feeds : lacks 10 (list_text m) ≡ true = reads_lack NR_CPUS 10 (record { no_digit = refl; no_hyphen = refl; no_comma = refl }) _ 0 (list_text m) m read in
+    let long : (length (list_text m) == 0) ≡ false = some_text (list_text m) m read some in
+    record { field = rw (long, spaces, feeds) refl; reads = rw (no_dash (list_text m) m read, read, stays) refl }
+
+mask_is_text : (limit m : ℕ) → limit ≤ NR_CPUS → m < 2 ^ limit → IsMaskText limit (mask_text m) m
+mask_is_text limit m few set = elim (cases_Bool (m == 0)) [
+  | inl none ↦
+      let zero_ : m ≡ 0 = grind (arith, nat_tests, none) in
+      rw zero_ (record { field = refl; reads = refl })
+  | inr some ↦
+      let more : m ≡ 0 → ⊥ = grind (arith, nat_tests, some) in
+      rw some (list_is_text limit m few set more)
+]
+
+line_is_spelled : (limit : ℕ) (d : Directive) → limit ≤ NR_CPUS → LineHasSets limit d → SpellLine limit (line_masks d, d)
+line_is_spelled limit (Start cpu (Begin work)) few h = (mask_is_text limit work.mask few h.0, mask_is_text limit work.active few h.1)
+line_is_spelled limit (Start cpu (Post number dst class func info tries)) few h = tt
+line_is_spelled limit (Start cpu (Send dst)) few h = tt
+line_is_spelled limit (Start cpu (Done number)) few h = tt
+line_is_spelled limit (Start cpu Handle) few h = tt
+line_is_spelled limit (Start cpu Gate) few h = tt
+line_is_spelled limit (Start cpu Ungate) few h = tt
+line_is_spelled limit (Start cpu (Enter slot)) few h = tt
+line_is_spelled limit (Start cpu (Advance answer)) few h = tt
+line_is_spelled limit (Start cpu (RunOne answer)) few h = tt
+line_is_spelled limit (Start cpu Finish) few h = tt
+line_is_spelled limit (Start cpu Poll) few h = tt
+line_is_spelled limit (Start cpu (Key key)) few h = tt
+line_is_spelled limit (Start cpu (Site site)) few h = tt
+line_is_spelled limit (Start cpu (Nudge key up)) few h = tt
+line_is_spelled limit (Step cpu count) few h = tt
+line_is_spelled limit Show few h = tt
+
+lines_are_spelled : (limit : ℕ) (ds : List Directive) → limit ≤ NR_CPUS → AllByRecursion (LineHasSets limit) ds → AllByRecursion (SpellLine limit) (canonical_lines ds)
+lines_are_spelled limit [] few h = tt
+lines_are_spelled limit (d ∷ ds) few h = (line_is_spelled limit d few h.0, lines_are_spelled limit ds few h.1)
+
+lines_ask : (ds : List Directive) → map (λ l. l.1) (canonical_lines ds) ≡ ds
+lines_ask [] = refl
+lines_ask (d ∷ ds) = ap (λ xs. d ∷ xs) (lines_ask ds)
+
+-- the canonical text of a script is read as it
+pub canonical_is_read : (script : Script) → IsLawful script → script_of (canonical_text script) ≡ Ok script
+canonical_is_read script s =
+    spelling_is_read (list_text script.online) (canonical_lines script.directives) script (canonical_text script) (record {
+      text_is = refl;
+      mask_is = list_is_text (limit_of script.version) script.online (limit_within script.version) s.is_set (some_online script.nr script.online s.online);
+      lines_are = lines_ask script.directives;
+      masks_are = lines_are_spelled (limit_of script.version) script.directives (limit_within script.version) s.are_sets;
+      some = s.some;
+      within = s.within;
+      online = s.online;
+      labels = s.labels;
+      fit = s.fit;
+      bytes = s.bytes;
+      count = s.count;
+      events = s.events;
+    })

@@ -1,0 +1,156 @@
+-- The labels line, as it is written.
+use Rattle.std.proofs.Common.{◌≡◌, ℕ, suc, ◌<◌, ◌≤◌, true, false, nat_lt, ◌==◌, List, [], ◌∷◌, map, length, All, Option, Some, None, Ok, codes, refl, sym, ap, ◌∙◌, inl, inr, arith}
+use Rattle.std.specs.Fmt.{decimal}
+use Rattle.std.specs.List.{AllByRecursion, join_with_byte, list_all}
+use Rattle.std.specs.Str.{bytes_eq}
+use Rattle.std.proofs.lemmas.List.{length-map, nil_from_length}
+use Rattle.std.proofs.lemmas.Bool.{cases_Bool, and_parts}
+use Rattle.std.proofs.lemmas.Bool.Decides.{nat_tests}
+use Rattle.smp_labels.specs.Labels.{AreLabels, Labels}
+use Rattle.smp_labels.specs.declared.entries.Entry.{Entry}
+use Rattle.smp_labels.specs.declared.words.TheConstants.{MOST_KEYS, MOST_SITES}
+use Rattle.smp_script.specs.Lines.{fields_of, lines_of}
+use Rattle.smp_script.specs.Numbers.{is_digit, value_after}
+use Rattle.smp_script.specs.Fields.{word32}
+use Rattle.smp_script.specs.Labels.{Item, entry_of, has_number, is_below, is_item, is_labels, item_of, items_of, labels_in, whole_labels}
+use Rattle.smp_script.specs.Script.{labels_at}
+use Rattle.smp_script.specs.Spelling.{is_field, item_text, items_text, labels_before, lacks}
+use Rattle.smp_script.proofs.Texts.Decimals.{decimal_lacks, is_decimal-decimal, is_field-decimal, number_in-decimal, value_of_decimal}
+use Rattle.smp_script.proofs.Texts.Joins.{fields_join, lacks-append, lines_of-line, parts_front, parts_join, whole_fields}
+use Rattle.smp_script.proofs.Spelled.ReadParts.{same_word}
+
+-- keys that a field has room for
+abbrev AreSmall : List Entry → Type 0
+AreSmall entries = AllByRecursion (λ e. e.key < 4) entries
+
+-- an item is read
+item_read : (e : Entry) → e.key < 4 → item_of (item_text e) ≡ Some (decimal e.key, e.branch)
+item_read e small =
+    let plain : lacks 58 (decimal e.key) ≡ true = decimal_lacks 58 e.key refl (omega arith) in
+    elim (cases_Bool e.branch) [
+      | inl on ↦ rw on (rw (parts_front 58 (decimal e.key) (codes "1") plain) refl)
+      | inr off ↦ rw off (rw (parts_front 58 (decimal e.key) (codes "0") plain) refl)
+    ]
+
+-- and has no byte of another kind
+item_lacks : (c : ℕ) (e : Entry) → is_digit c ≡ false → (58 == c) ≡ false → e.key < 4 → lacks c (item_text e) ≡ true
+item_lacks c e digit colon small =
+    let front : lacks c (decimal e.key) ≡ true = decimal_lacks c e.key digit (omega arith) in
+    let zero_ : (48 == c) ≡ false = grind (arith, nat_tests, digit) in
+    let one_ : (49 == c) ≡ false = grind (arith, nat_tests, digit) in
+    elim (cases_Bool e.branch) [
+      | inl on ↦ rw (on, lacks-append c (decimal e.key) (58 ∷ codes "1"), front, colon, one_) refl
+      | inr off ↦ rw (off, lacks-append c (decimal e.key) (58 ∷ codes "0"), front, colon, zero_) refl
+    ]
+
+items_lack : (c : ℕ) (es : List Entry) → is_digit c ≡ false → (58 == c) ≡ false → AreSmall es → list_all (lacks c) (map item_text es) ≡ true
+items_lack c [] digit colon small = refl
+items_lack c (e ∷ es) digit colon small = rw (item_lacks c e digit colon small.0, items_lack c es digit colon small.1) refl
+
+join_lacks : (c mark : ℕ) (ts : List (List ℕ)) → (mark == c) ≡ false → list_all (lacks c) ts ≡ true → lacks c (join_with_byte mark ts) ≡ true
+join_lacks c mark [] other h = refl
+join_lacks c mark (t ∷ []) other h = (and_parts (lacks c t) true h).0
+join_lacks c mark (t ∷ u ∷ us) other h =
+    let p = and_parts (lacks c t) (list_all (lacks c) (u ∷ us)) h in
+    rw (lacks-append c t (mark ∷ join_with_byte mark (u ∷ us)), p.0, other, join_lacks c mark (u ∷ us) other p.1) refl
+
+-- the field of the items
+text_lacks : (c : ℕ) (es : List Entry) → is_digit c ≡ false → (58 == c) ≡ false → (44 == c) ≡ false → (45 == c) ≡ false → AreSmall es → lacks c (items_text es) ≡ true
+text_lacks c [] digit colon comma hyphen small = rw hyphen refl
+text_lacks c (e ∷ es) digit colon comma hyphen small = join_lacks c 44 (map item_text (e ∷ es)) comma (items_lack c (e ∷ es) digit colon small)
+
+no_dash : (e : Entry) (es : List Entry) → AreSmall (e ∷ es) → bytes_eq (items_text (e ∷ es)) (codes "-") ≡ false
+no_dash e es small = elim (cases_Bool (bytes_eq (items_text (e ∷ es)) (codes "-"))) [
+  | inr other ↦ other
+  | inl dash ↦
+      let plain : lacks 45 (items_text (e ∷ es)) ≡ true = join_lacks 45 44 (map item_text (e ∷ es)) refl (items_lack 45 (e ∷ es) refl refl small) in
+      let bad : false ≡ true = ap (lacks 45) (sym (same_word (items_text (e ∷ es)) (codes "-") dash)) ∙ plain in cc
+]
+
+-- the items are read
+items_read : (es : List Entry) → AreSmall es → items_of (items_text es) ≡ map item_text es
+items_read [] small = refl
+items_read (e ∷ es) small = rw (no_dash e es small) (parts_join 44 (item_text e) (map item_text es) (items_lack 44 (e ∷ es) refl refl small))
+
+heads_same : {t u : List ℕ} {ts us : List (List ℕ)} → t ∷ ts ≡ u ∷ us → t ≡ u
+heads_same h = cc
+
+word_read : (n : ℕ) → n < 4 → word32 (decimal n) ≡ Ok n
+word_read n small = number_in-decimal 0 4294967295 n (omega arith) (omega arith) (omega arith)
+
+is_item_read : (e : Entry) → e.key < 4 → is_item (item_text e) ≡ true
+is_item_read e small = rw (item_read e small) refl
+
+has_number_read : (e : Entry) → e.key < 4 → has_number (item_text e) ≡ true
+has_number_read e small = rw (item_read e small) (is_decimal-decimal e.key (omega arith))
+
+below_read : (keys : ℕ) (e : Entry) → e.key < 4 → e.key < keys → is_below keys (item_text e) ≡ true
+below_read keys e small under =
+    let value : value_after 0 (decimal e.key) ≡ e.key = value_of_decimal e.key (omega arith) in
+    let test : nat_lt e.key keys ≡ true = grind (arith, nat_tests) in
+    rw (item_read e small) (rw (is_decimal-decimal e.key (omega arith), value, test) refl)
+
+entry_read : (e : Entry) → e.key < 4 → entry_of (item_text e) ≡ e
+entry_read e small = rw (item_read e small) (rw (word_read e.key small) refl)
+
+all_items : (es : List Entry) → AreSmall es → list_all is_item (map item_text es) ≡ true
+all_items [] small = refl
+all_items (e ∷ es) small = rw (is_item_read e small.0, all_items es small.1) refl
+
+all_numbers : (es : List Entry) → AreSmall es → list_all has_number (map item_text es) ≡ true
+all_numbers [] small = refl
+all_numbers (e ∷ es) small = rw (has_number_read e small.0, all_numbers es small.1) refl
+
+all_below : (keys : ℕ) (es : List Entry) → AreSmall es → AllByRecursion (λ e. e.key < keys) es → list_all (is_below keys) (map item_text es) ≡ true
+all_below keys [] small under = refl
+all_below keys (e ∷ es) small under = rw (below_read keys e small.0 under.0, all_below keys es small.1 under.1) refl
+
+all_entries : (es : List Entry) → AreSmall es → map entry_of (map item_text es) ≡ es
+all_entries [] small = refl
+all_entries (e ∷ es) small = rw (entry_read e small.0, all_entries es small.1) refl
+
+smaller : (keys : ℕ) (es : List Entry) → keys ≤ 4 → AllByRecursion (λ e. e.key < keys) es → AreSmall es
+smaller keys [] few h = tt
+smaller keys (e ∷ es) few h = (omega (arith, h.0), smaller keys es few h.1)
+
+pub by_recursion : (keys : ℕ) (es : List Entry) → All (λ e. e.key < keys) es → AllByRecursion (λ e. e.key < keys) es
+by_recursion keys [] h = tt
+by_recursion keys (e ∷ es) h = (h 0 e (omega arith), by_recursion keys es (λ k d l. h (suc k) d (omega arith)))
+
+labels_read : (labels : Labels) → AreLabels labels.keys labels.entries → labels_in (decimal labels.keys) (items_of (items_text labels.entries)) ≡ Ok labels
+unfolding labels_in
+labels_read labels h =
+    let under = by_recursion labels.keys labels.entries h.known in
+    let small = smaller labels.keys labels.entries h.few_keys under in
+    let few : nat_lt MOST_SITES (length (map item_text labels.entries)) ≡ false = grind (arith, nat_tests, length-map labels.entries item_text, h.few_sites) in
+    rw (items_read labels.entries small, all_items labels.entries small, number_in-decimal 0 MOST_KEYS labels.keys (omega arith) h.few_keys (omega (arith, h.few_keys)))
+    (rw (all_numbers labels.entries small, few, all_below labels.keys labels.entries small under, all_entries labels.entries small) refl)
+
+items_some : (es : List Entry) → AreSmall es → (length (items_text es) == 0) ≡ false
+items_some [] small = refl
+items_some (e ∷ es) small = elim (cases_Bool (length (items_text (e ∷ es)) == 0)) [
+  | inr some ↦ some
+  | inl none ↦
+      let empty : length (items_text (e ∷ es)) ≡ 0 = grind (arith, nat_tests, none) in
+      let nothing : items_text (e ∷ es) ≡ [] = nil_from_length (items_text (e ∷ es)) empty in
+      let read : map item_text (e ∷ es) ≡ [] ∷ [] = sym (items_read (e ∷ es) small) ∙ ap items_of nothing in
+      let first : item_text e ≡ [] = heads_same read in
+      let bad : ◌≡◌ {A = Option Item} None (Some (decimal e.key, e.branch)) = ap item_of (sym first) ∙ item_read e small.0 in
+      cc
+]
+
+-- the words of the line are fields
+pub labels_fields : (labels : Labels) → AreLabels labels.keys labels.entries → list_all is_field (codes "labels" ∷ decimal labels.keys ∷ items_text labels.entries ∷ []) ≡ true
+labels_fields labels h =
+    let small = smaller labels.keys labels.entries h.few_keys (by_recursion labels.keys labels.entries h.known) in
+    rw (is_field-decimal labels.keys (omega (arith, h.few_keys)), items_some labels.entries small, text_lacks 32 labels.entries refl refl refl refl small, text_lacks 10 labels.entries refl refl refl refl small) refl
+
+-- and are read as it
+pub labels_line_read : (labels : Labels) (rest : List ℕ) → AreLabels labels.keys labels.entries → labels_at (lines_of (labels_before (Some labels) rest)) ≡ Ok (Some labels, lines_of rest)
+labels_line_read labels rest h =
+    let fields = labels_fields labels h in
+    let back = fields_join (codes "labels") (decimal labels.keys ∷ items_text labels.entries ∷ []) fields in
+    let is : is_labels (fields_of (join_with_byte 32 (codes "labels" ∷ decimal labels.keys ∷ items_text labels.entries ∷ []))) ≡ true = ap is_labels back in
+    let here : whole_labels (codes "labels" ∷ decimal labels.keys ∷ items_text labels.entries ∷ []) ≡ Ok labels = rw (whole_fields (codes "labels" ∷ decimal labels.keys ∷ items_text labels.entries ∷ []) fields, labels_read labels h) refl in
+    let read : whole_labels (fields_of (join_with_byte 32 (codes "labels" ∷ decimal labels.keys ∷ items_text labels.entries ∷ []))) ≡ Ok labels = ap whole_labels back ∙ here in
+    rw (lines_of-line (codes "labels" ∷ decimal labels.keys ∷ items_text labels.entries ∷ []) rest fields, is, read) refl

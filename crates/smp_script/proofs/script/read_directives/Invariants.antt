@@ -1,0 +1,14 @@
+use Rattle.std.proofs.Common.{◌<◌, ◌^◌, length}
+use Rattle.smp_script.specs.Lines.{lines_of}
+use Rattle.smp_script.specs.Script.{directives_of}
+use Rattle.smp_script.proofs.Reader.Directives.{Stands}
+use Rattle.smp_script.proofs.script.read_directives.Given as goal
+
+abbrev pub invariant-loop-next : goal.invariant-loop-next
+invariant-loop-next g l = record {
+  stands : Stands l.fn.limit l.line l.events l.found.items (lines_of l.rest) (directives_of l.fn.limit l.fn.first 0 (lines_of l.fn.body));
+  short : length l.rest < 2 ^ 32;
+}
+
+abbrev pub decreases-loop-next : goal.decreases-loop-next
+decreases-loop-next g l = length l.rest

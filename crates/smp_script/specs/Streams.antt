@@ -1,0 +1,22 @@
+-- What a reader gave, and what an error says of its device.
+use Rattle.std.specs.Prelude.{◌≡◌, ℕ, ◌<◌, ◌⊎◌, Bool, true, List, length, Option}
+use Rattle.std.specs.Io.KnownBytes.{Consumes, IsAtEnd}
+use Rattle.smp_mask.specs.declared.error.SmpError.{SmpError}
+use Rattle.smp_mask.specs.declared.error.SmpError.TheVariants as errors
+use Rattle.smp_mask.specs.declared.error.Side.TheVariants as sides
+
+-- The reader gave this text, and then its end, or the text is longer than a script may be.
+pub record Gave (before after : Option (List ℕ)) (text : List ℕ) : Type 0 where
+  pub bytes : Consumes before after text
+  pub last : IsAtEnd after ⊎ (65536 < length text)
+
+-- want of memory, or E12 where the reader has failed
+abbrev pub IsReadError : Bool → SmpError → Type 0
+IsReadError failed errors.NoMemory = Unit {0}
+IsReadError failed (errors.StreamFailed sides.Read) = failed ≡ true
+IsReadError failed _ = ⊥
+
+-- E12 where the writer has failed
+abbrev pub IsWriteError : Bool → SmpError → Type 0
+IsWriteError failed (errors.StreamFailed sides.Write) = failed ≡ true
+IsWriteError failed _ = ⊥

@@ -1,0 +1,28 @@
+//! Scripts: what a text asks for, or its first fault, and the devices that it comes from and goes to.
+//!
+//! - `script`: Scripts, and the first fault of one that is not lawful.
+//! - `directive`: What a line of a script asks for.
+//! - `version`: Versions of scripts.
+//! - `laws`: How each script is written, and what the first fault of any other text is.
+//! - `watched`: A reader or a writer that remembers whether it ever failed.
+//! - `stream`: The bytes of a reader, and bytes to a writer.
+//! - `outcome`: How a script ended.
+//! - `errors`: The numbers of errors.
+#![tactic(auto)]
+
+mod command;
+mod decimal;
+pub mod directive;
+pub mod errors;
+mod field;
+mod labels;
+pub mod laws;
+mod line;
+pub mod outcome;
+pub mod script;
+pub mod stream;
+pub mod version;
+pub mod watched;
+
+pub use outcome::Outcome;
+pub use watched::Watched;

@@ -1,0 +1,59 @@
+//! The bytes of a reader, and bytes to a writer.
+
+ghost use Rattle.std.specs.Prelude.{◌≡◌, ◌≤◌, true, false, Err, IfOk, IfErr, OnOk, length};
+ghost use Rattle.std.specs.Io.KnownBytes.{Appends};
+ghost use Rattle.smp_mask.specs.declared.error.Side.TheVariants.{Read as ReadSide};
+ghost use Rattle.smp_script.specs.Watched.{inner_of, failed_of};
+ghost use Rattle.smp_script.specs.Streams.{Gave, IsReadError, IsWriteError};
+
+use crate::script::MAX_BYTES;
+use crate::watched::Watched;
+use smp_mask::{Side, SmpError};
+use std::alloc::Allocator;
+use std::io::{Read, Write};
+
+/// What the reader gives, up to one byte more than a script may have. An interrupted read is a failure.
+pub fn read_text<A: Allocator, R: Read>(
+    alloc: A,
+    reader: &mut Watched<R>,
+) -> Result<Vec<u8, A>, SmpError>
+    requires { failed_of reader.old ≡ false }
+    ensures seen { failed_of reader.new ≡ true → result ≡ Err (SmpError.StreamFailed ReadSide) }
+    ensures limit { IfOk result (λ text. length text.items ≤ 65537) }
+    ensures ok { IfOk result (λ text. Gave (R.remaining (inner_of reader.old)) (R.remaining (inner_of reader.new)) text.items) }
+    ensures err { IfErr result (IsReadError (failed_of reader.new)) }
+{
+    let mut text = Vec::new(alloc);
+    let mut piece = [0u8; 4096];
+    'pieces: while text.len() <= MAX_BYTES {
+        let room = (MAX_BYTES + 1 - text.len()).min(piece.len());
+        match reader.read(&mut piece[..room]) {
+            Ok(0) => return Ok(text),
+            Ok(n) => {
+                let Ok(()) = text.extend_from_slice(&piece[..n]) else {
+                    return Err(SmpError::NoMemory);
+                };
+            }
+            Err(_) => return Err(SmpError::StreamFailed(Side::Read)),
+        }
+    }
+    Ok(text)
+}
+
+/// Writes all of a text. An interrupted write, and one that takes nothing, is a failure.
+pub fn write_text<W: Write>(writer: &mut Watched<W>, text: &[u8]) -> Result<(), SmpError>
+    ensures ok { OnOk result (Appends (W.contents (inner_of writer.old)) (W.contents (inner_of writer.new)) text.now) }
+    ensures err { IfErr result (IsWriteError (failed_of writer.new)) }
+{
+    let mut at = 0;
+    'pieces: while at < text.len() {
+        match writer.write(&text[at..]) {
+            Ok(n) if n > 0 => at += n,
+            _ => return Err(SmpError::StreamFailed(Side::Write)),
+        }
+    }
+    match writer.flush() {
+        Ok(()) => Ok(()),
+        Err(_) => Err(SmpError::StreamFailed(Side::Write)),
+    }
+}
