@@ -7,7 +7,8 @@ use Rattle.smp_script.specs.Streams.{IsWriteError}
 use Rattle.smp_replay.specs.Replays.{Lawful, Replayed, Replays, outcome_of}
 
 -- where the writer failed, the script was lawful
-pub write_failed : (before after held holds : Option (List ℕ)) (same : Type 0) (reader writer : Bool) (e : SmpError) → IsWriteError writer e → Lawful before after → Replays before after held holds same reader writer (Err e)
+pub write_failed : (before after held holds : Option (List ℕ)) (same : Type 0) (reader writer : Bool) (e : SmpError) → IsWriteError writer e
+    → Lawful before after → Replays before after held holds same reader writer (Err e)
 write_failed before after held holds same reader writer (errors.StreamFailed sides.Read) f l = absurd f
 write_failed before after held holds same reader writer (errors.StreamFailed sides.Write) f l = (l, f)
 write_failed before after held holds same reader writer errors.NoMemory f l = absurd f
@@ -24,6 +25,7 @@ write_failed before after held holds same reader writer (errors.BadMask k) f l =
 write_failed before after held holds same reader writer (errors.KeyRange k) f l = absurd f
 
 -- a script that was replayed ended so
-pub replayed : (before after held holds : Option (List ℕ)) (same : Type 0) (reader writer stopped : Bool) → Replayed before after held holds stopped → Replays before after held holds same reader writer (Ok (outcome_of stopped))
+pub replayed : (before after held holds : Option (List ℕ)) (same : Type 0) (reader writer stopped : Bool) → Replayed before after held holds stopped
+    → Replays before after held holds same reader writer (Ok (outcome_of stopped))
 replayed before after held holds same reader writer true r = r
 replayed before after held holds same reader writer false r = r

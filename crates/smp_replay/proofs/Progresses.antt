@@ -1,5 +1,6 @@
 -- How a replay goes on.
-use Rattle.std.proofs.Common.{◌≡◌, ℕ, zero, suc, ◌+◌, ◌<◌, ◌≤◌, List, [], ◌∷◌, ◌++◌, take, drop, length, get_or, true, false, Result, Option, refl, sym, ap, ◌∙◌, inl, inr, arith, add-one, sum_by}
+use Rattle.std.proofs.Common.{◌≡◌, ℕ, zero, suc, ◌+◌, ◌<◌, ◌≤◌, List, [], ◌∷◌, ◌++◌, take, drop, length, get_or, true, false, Result, Option, refl, sym, ap}
+use Rattle.std.proofs.Common.{◌∙◌, inl, inr, arith, add-one, sum_by}
 use Rattle.std.proofs.lemmas.Bool.{cases_lt}
 use Rattle.std.proofs.lemmas.List.{take_more, take-append-drop}
 use Rattle.std.proofs.lemmas.List.Sums.{sum_by-append}
@@ -15,7 +16,8 @@ use Rattle.smp_script.specs.Script.{events_of}
 use Rattle.smp_replay.specs.Output.{Progress, after_answer, event_after, steps_after, directive_after, replay_after}
 
 -- an event by its answer
-pub after_event : (core next : CoreValue) (position : ℕ) (text : List ℕ) (e : Event) (answer : Result (Option Seen) SmpError) → answer ≡ (turn_of core e).answer → next ≡ (turn_of core e).core
+pub after_event : (core next : CoreValue) (position : ℕ) (text : List ℕ) (e : Event) (answer : Result (Option Seen) SmpError) → answer ≡ (turn_of core e).answer
+    → next ≡ (turn_of core e).core
     → after_answer next position text answer ≡ event_after (record { core = core; position = position; text = text; stopped = false }) e
 unfolding event_after
 after_event core next position text e answer a c = rw (a, c) refl
@@ -80,20 +82,25 @@ unfolding replay_after
 replay_one p d = refl
 
 -- one line more
-pub replay_more : (p q r : Progress) (ds : List Directive) (i : ℕ) (d : Directive) → i < length ds → q ≡ replay_after p (take i ds) → r ≡ directive_after q (get_or ds i d) → r ≡ replay_after p (take (i + 1) ds)
+pub replay_more : (p q r : Progress) (ds : List Directive) (i : ℕ) (d : Directive) → i < length ds → q ≡ replay_after p (take i ds)
+    → r ≡ directive_after q (get_or ds i d) → r ≡ replay_after p (take (i + 1) ds)
 replay_more p q r ds i d h e f =
-    f ∙ ap (λ x. directive_after x (get_or ds i d)) e ∙ sym (replay_one (replay_after p (take i ds)) (get_or ds i d)) ∙ sym (replay-append p (take i ds) (get_or ds i d ∷ [])) ∙ ap (λ xs. replay_after p xs) (sym (take_more ds i d h))
+    f ∙ ap (λ x. directive_after x (get_or ds i d)) e ∙ sym (replay_one (replay_after p (take i ds)) (get_or ds i d))
+    ∙ sym (replay-append p (take i ds) (get_or ds i d ∷ [])) ∙ ap (λ xs. replay_after p xs) (sym (take_more ds i d h))
 
 -- a replay that ended after i lines is as it is after all
 pub replay_end : (p r : Progress) (ds : List Directive) (i : ℕ) → r ≡ replay_after p (take i ds) → r.stopped ≡ true → r ≡ replay_after p ds
 replay_end p r ds i e h =
     let ended : (replay_after p (take i ds)).stopped ≡ true = rw (← e) h in
-    e ∙ sym (replay_stays (replay_after p (take i ds)) (drop i ds) ended) ∙ sym (replay-append p (take i ds) (drop i ds)) ∙ ap (λ xs. replay_after p xs) (take-append-drop i ds)
+    e ∙ sym (replay_stays (replay_after p (take i ds)) (drop i ds) ended) ∙ sym (replay-append p (take i ds) (drop i ds))
+    ∙ ap (λ xs. replay_after p xs) (take-append-drop i ds)
 
 -- one line more, and no more events than it has
-pub goes_on : (p q r : Progress) (ds : List Directive) (i : ℕ) (d : Directive) → i < length ds → q ≡ replay_after p (take i ds) → r ≡ directive_after q (get_or ds i d)
+pub goes_on : (p q r : Progress) (ds : List Directive) (i : ℕ) (d : Directive) → i < length ds → q ≡ replay_after p (take i ds)
+    → r ≡ directive_after q (get_or ds i d)
     → q.position ≤ p.position + sum_by events_of (take i ds) → r.position ≤ q.position + events_of (get_or ds i d)
     → (r ≡ replay_after p (take (i + 1) ds)) × (r.position ≤ p.position + sum_by events_of (take (i + 1) ds))
 goes_on p q r ds i d h e f before more =
-    let total : sum_by events_of (take (i + 1) ds) ≡ sum_by events_of (take i ds) + events_of (get_or ds i d) = rw (take_more ds i d h) (omega (arith, sum_by-append events_of (take i ds) (get_or ds i d ∷ []))) in
+    let total : sum_by events_of (take (i + 1) ds) ≡ sum_by events_of (take i ds) + events_of (get_or ds i d) =
+    rw (take_more ds i d h) (omega (arith, sum_by-append events_of (take i ds) (get_or ds i d ∷ []))) in
     (replay_more p q r ds i d h e f, omega arith)

@@ -8,7 +8,8 @@ use Rattle.smp_replay.specs.Text.{list_text, spaced}
 use Rattle.smp_replay.specs.Showing.{if_locked, locked_below, phase_text, phases_below}
 
 -- one record more
-pub locked_more : (core : CoreValue) (id : ℕ) (out next first : List ℕ) → out ≡ first ++ list_text (locked_below core id) → next ≡ out ++ list_text (if_locked core id) → next ≡ first ++ list_text (locked_below core (id + 1))
+pub locked_more : (core : CoreValue) (id : ℕ) (out next first : List ℕ) → out ≡ first ++ list_text (locked_below core id)
+    → next ≡ out ++ list_text (if_locked core id) → next ≡ first ++ list_text (locked_below core (id + 1))
 unfolding locked_below
 locked_more core id out next first e f =
     rw (add-one, f, e, append_assoc, ← flat_map-append spaced (locked_below core id) (if_locked core id)) refl
@@ -22,7 +23,8 @@ pub all_yielded : (f : ℕ → List ℕ) (xs all out first : List ℕ) → map (
 all_yielded f xs all out first e h = h ∙ ap (λ ys. first ++ flat_map f ys) (sym (map-id xs) ∙ e)
 
 -- one slot more
-pub phases_more : (core : CoreValue) (slot : ℕ) (out next first : List ℕ) → out ≡ first ++ phases_below core slot → next ≡ out ++ phase_text core slot → next ≡ first ++ phases_below core (slot + 1)
+pub phases_more : (core : CoreValue) (slot : ℕ) (out next first : List ℕ) → out ≡ first ++ phases_below core slot → next ≡ out ++ phase_text core slot
+    → next ≡ first ++ phases_below core (slot + 1)
 unfolding phases_below
 phases_more core slot out next first e f = rw (add-one, f, e, append_assoc) refl
 

@@ -46,4 +46,5 @@ phases_below core (suc n) = phases_below core n ++ phase_text core n
 -- a line for each CPU online, the locked records, and the phases
 abbrev pub show_text : CoreValue → List ℕ
 show_text core =
-    flat_map (queue_text core) (members core.online) ++ codes "locked:" ++ list_text (locked_below core records) ++ codes "\nphase:" ++ phases_below core cpus ++ 10 ∷ []
+    flat_map (queue_text core) (members core.online) ++ codes "locked:" ++ list_text (locked_below core records) ++ codes "\nphase:" ++ phases_below core cpus
+    ++ 10 ∷ []

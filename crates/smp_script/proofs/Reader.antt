@@ -1,7 +1,7 @@
 -- fields
 pub mod FieldLists
 pub mod FieldCounts
-pub mod LabelItems
+pub mod Items
 pub mod Widths
 -- lines
 pub mod Versions

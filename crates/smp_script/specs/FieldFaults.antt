@@ -52,7 +52,8 @@ SignedFault field _ = ⊥
 -- what is wrong with a field that has to be the items of a labels line, of so many keys
 abbrev pub ItemsFault : ℕ → List ℕ → Cause → Type 0
 ItemsFault keys field Number = list_all has_number (items_of field) ≡ false
-ItemsFault keys field Range = (list_all has_number (items_of field) ≡ true) × ((MOST_SITES < length (items_of field)) ⊎ (list_all (is_below keys) (items_of field) ≡ false))
+ItemsFault keys field Range = (list_all has_number (items_of field) ≡ true)
+    × ((MOST_SITES < length (items_of field)) ⊎ (list_all (is_below keys) (items_of field) ≡ false))
 ItemsFault keys field _ = ⊥
 
 -- the mask has no CPU, or one that is not below nr

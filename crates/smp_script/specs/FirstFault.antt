@@ -33,7 +33,8 @@ events_to text n = sum_by (λ l. events_in (fields_of l.text)) (take n (lines_of
 pub data IsFault (limit : ℕ) (text : List ℕ) : ℕ → ℕ → Cause → Type 0 where
   past_bytes : 65536 < length text → IsFault limit text 0 0 TooLong
   no_line : {n : ℕ} → length (lines_of text) < n → n ≤ 2 → IsFault limit text n 1 Cut
-  in_line : (n : ℕ) {rank : ℕ} {line : Line} {cause : Cause} → slice_get (lines_of text) n ≡ Some line → LineFault limit (n + 1) (events_to text (n + 1)) line rank cause
+  in_line : (n : ℕ) {rank : ℕ} {line : Line} {cause : Cause} → slice_get (lines_of text) n ≡ Some line
+      → LineFault limit (n + 1) (events_to text (n + 1)) line rank cause
       → IsFault limit text (n + 1) rank cause
 
 -- the first fault of a text: no line before has one, and line n has none of a lower rank

@@ -2,14 +2,15 @@
 
 ghost use Rattle.std.specs.Prelude.{◌≡◌, ◌<◌, ◌^◌, map, length};
 ghost use Rattle.smp_script.specs.Lines.{AreShort};
-ghost use Rattle.smp_script.specs.Commands.{bare_of, begins_of, posts_of, start_answered, start_bare, start_begin, start_nudge, start_of, start_one, start_post, start_short, start_two, two_numbers};
+ghost use Rattle.smp_script.specs.Commands.{bare_of, begins_of, posts_of, start_answered, start_bare, start_begin, start_nudge, start_of};
+ghost use Rattle.smp_script.specs.Commands.{start_one, start_post, start_short, start_two, two_numbers};
 
 use crate::decimal::{read_i32, read_u16, read_u32, read_u64};
 use crate::directive::Directive;
 use crate::field::{read_class, read_kind, read_mask, read_way};
 use crate::line::is_word;
-use smp_words::{Command, Work};
 use smp_mask::Cause;
+use smp_words::{Command, Work};
 
 // `start CPU post K DST CLASS FUNC INFO TRIES`
 #[tactic(auto, unfolding(crate::specs::Commands::start_post))]

@@ -9,8 +9,8 @@ ghost use Rattle.smp_script.specs.Commands.{directive_of, show_of, step_of, step
 use crate::command::read_start;
 use crate::decimal::{read_from_to, read_u32};
 use crate::line::is_word;
-use smp_words::Command;
 use smp_mask::Cause;
+use smp_words::Command;
 
 /// The most steps that one line may ask for.
 const MAX_STEPS: u32 = 10_000;

@@ -4,8 +4,8 @@ ghost use Rattle.std.specs.Prelude.{◌≡◌, ◌<◌, ◌^◌, length};
 ghost use Rattle.smp_script.specs.Fields.{class_of, stays_below, kind_of, mask_of, way_of};
 
 use crate::line::is_word;
-use smp_words::{Class, Kind};
 use smp_mask::{Cause, CpuMask};
+use smp_words::{Class, Kind};
 
 /// `sync` or `async`.
 pub fn read_class(text: &[u8]) -> Result<Class, Cause>

@@ -89,7 +89,7 @@ fn entry(item: &[u8]) -> Entry
 }
 
 // The map of these items over the keys below `keys`.
-#[tactic(auto, using(crate::proofs::Reader::LabelItems::all_map, crate::proofs::Reader::LabelItems::entries_below, crate::proofs::Reader::LabelItems::many_items))]
+#[tactic(auto, using(crate::proofs::Reader::Items::all_map, crate::proofs::Reader::Items::entries_below, crate::proofs::Reader::Items::many_items))]
 fn read_entries(keys: u32, items: &[&[u8]]) -> Result<LabelMap, Cause>
     requires { keys ≤ MOST_KEYS }
     ensures { result ≡ entries_in keys (map (λ i. i.now) items.now) }
@@ -125,7 +125,7 @@ pub fn split_items<A: Allocator>(alloc: A, text: &[u8]) -> Result<Vec<&[u8], A>,
 
 /// The labels of so many keys and these items. A wrong item is told before all else, then what is wrong with
 /// the number of keys, and then of any item first a key that is no number.
-#[tactic(auto, using(crate::proofs::Reader::LabelItems::all_map), unfolding(crate::specs::Labels::labels_in))]
+#[tactic(auto, using(crate::proofs::Reader::Items::all_map), unfolding(crate::specs::Labels::labels_in))]
 pub fn read_labels(keys: &[u8], items: &[&[u8]]) -> Result<LabelMap, Cause>
     ensures { result ≡ labels_in keys.now (map (λ i. i.now) items.now) }
 {

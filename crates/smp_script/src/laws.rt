@@ -11,7 +11,8 @@ ghost use Rattle.smp_script.specs.Spelling.{IsLawful, IsSpelling, Masks, canonic
 /// exactly where it spells that script, with some CPU list of each mask in place of the canonical one.
 pub fn scripts_are_spellings()
     ensures canonical { (script : Script) → IsLawful script → script_of (canonical_text script) ≡ Ok script }
-    ensures only { (text : List ℕ) → (script : Script) → (script_of text ≡ Ok script) ↔ ((mask : List ℕ) × (lines : List (Masks × Directive)) × IsSpelling mask lines script text) }
+    ensures only { (text : List ℕ) → (script : Script) → (script_of text ≡ Ok script)
+        ↔ ((mask : List ℕ) × (lines : List (Masks × Directive)) × IsSpelling mask lines script text) }
 {}
 
 /// A text is refused with a line and a cause exactly where these are its first fault: no line before has a fault,

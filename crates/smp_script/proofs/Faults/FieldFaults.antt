@@ -31,7 +31,8 @@ pub none_yet : (shape : List Form) (fields : List (List ℕ)) → Clean shape fi
 none_yet shape fields i form cause h e f = absurd (omega arith)
 
 -- a field with nothing wrong
-pub passes : (shape : List Form) (fields : List (List ℕ)) (i : ℕ) (form : Form) → slice_get shape i ≡ Some form → ((cause : Cause) → FieldFault fields i form cause → ⊥) → Clean shape fields i → Clean shape fields (i + 1)
+pub passes : (shape : List Form) (fields : List (List ℕ)) (i : ℕ) (form : Form) → slice_get shape i ≡ Some form
+    → ((cause : Cause) → FieldFault fields i form cause → ⊥) → Clean shape fields i → Clean shape fields (i + 1)
 passes shape fields i form wants right clean j other cause h e f = elim (cases_lt j i) [
   | inl below ↦ clean j other cause below e f
   | inr at ↦
@@ -46,7 +47,8 @@ data NumberRead (low high : ℕ) (text : List ℕ) : Type 0 where
   is_read : number_in low high text ≡ Ok (value_of text) → ((cause : Cause) → NumberFault low high text cause → ⊥) → NumberRead low high text
   is_wrong : (cause : Cause) → number_in low high text ≡ Err cause → NumberFault low high text cause → NumberRead low high text
 
-right_number : (low high : ℕ) (text : List ℕ) → is_decimal text ≡ true → low ≤ value_of text → value_of text ≤ high → (cause : Cause) → NumberFault low high text cause → ⊥
+right_number : (low high : ℕ) (text : List ℕ) → is_decimal text ≡ true → low ≤ value_of text → value_of text ≤ high → (cause : Cause)
+    → NumberFault low high text cause → ⊥
 right_number low high text good above below Number f = let bad : true ≡ false = sym good ∙ f in cc
 right_number low high text good above below Range f = elim f.1 [ inl under ↦ omega arith | inr over ↦ omega arith ]
 right_number low high text good above below _ f = f
@@ -72,8 +74,10 @@ number_read low high text = elim (cases_Bool (is_decimal text)) [
 ]
 
 -- a field that has to be a number, and what is read after it
-pub reads_number : {B : Type 0} (shape : List Form) (fields : List (List ℕ)) (holds : B → Type 0) (i low high : ℕ) (then : ℕ → Result B Cause) → slice_get shape i ≡ Some (number low high) → Clean shape fields i
-    → (Clean shape fields (i + 1) → Tells shape fields holds (then (value_of (field_at fields i)))) → Tells shape fields holds (number_in low high (field_at fields i) >>= then)
+pub reads_number : {B : Type 0} (shape : List Form) (fields : List (List ℕ)) (holds : B → Type 0) (i low high : ℕ) (then : ℕ → Result B Cause)
+    → slice_get shape i ≡ Some (number low high) → Clean shape fields i
+    → (Clean shape fields (i + 1) → Tells shape fields holds (then (value_of (field_at fields i))))
+    → Tells shape fields holds (number_in low high (field_at fields i) >>= then)
 reads_number shape fields holds i low high then wants clean more = elim (number_read low high (field_at fields i)) [
   | is_wrong cause e f ↦ rw e (record { place = i; form = number low high; wants = wants; wrong = f; before = clean })
   | is_read e right ↦ rw e (more (passes shape fields i (number low high) wants right clean))
@@ -85,13 +89,18 @@ pub data Judged {A : Type 0} (Wrong : Cause → Type 0) (read : Result A Cause) 
   faulty : (cause : Cause) → read ≡ Err cause → Wrong cause → Judged Wrong read
 
 -- a field of this form, and what is read after it
-pub reads_field : {A B : Type 0} (shape : List Form) (fields : List (List ℕ)) (holds : B → Type 0) (i : ℕ) (form : Form) (read : Result A Cause) (then : A → Result B Cause) → slice_get shape i ≡ Some form → Clean shape fields i
-    → Judged (FieldFault fields i form) read → ((x : A) → Clean shape fields (i + 1) → Tells shape fields holds (then x)) → Tells shape fields holds (read >>= then)
-reads_field shape fields holds i form read then wants clean (faulty cause e f) more = rw e (record { place = i; form = form; wants = wants; wrong = f; before = clean })
+pub reads_field : {A B : Type 0} (shape : List Form) (fields : List (List ℕ)) (holds : B → Type 0) (i : ℕ) (form : Form) (read : Result A Cause)
+    (then : A → Result B Cause) → slice_get shape i ≡ Some form → Clean shape fields i
+    → Judged (FieldFault fields i form) read → ((x : A) → Clean shape fields (i + 1) → Tells shape fields holds (then x))
+    → Tells shape fields holds (read >>= then)
+reads_field shape fields holds i form read then wants clean (faulty cause e f) more =
+    rw e (record { place = i; form = form; wants = wants; wrong = f; before = clean })
 reads_field shape fields holds i form read then wants clean (fine x e right) more = rw e (more x (passes shape fields i form wants right clean))
 
 -- the last field
-pub reads_last : {A : Type 0} (shape : List Form) (fields : List (List ℕ)) (holds : A → Type 0) (i : ℕ) (form : Form) (read : Result A Cause) → slice_get shape i ≡ Some form → Clean shape fields i → length shape ≡ i + 1
+pub reads_last : {A : Type 0} (shape : List Form) (fields : List (List ℕ)) (holds : A → Type 0) (i : ℕ) (form : Form) (read : Result A Cause)
+    → slice_get shape i ≡ Some form → Clean shape fields i → length shape ≡ i + 1
     → ((x : A) → holds x) → Judged (FieldFault fields i form) read → Tells shape fields holds read
-reads_last shape fields holds i form read wants clean all hold (faulty cause e f) = rw e (record { place = i; form = form; wants = wants; wrong = f; before = clean })
+reads_last shape fields holds i form read wants clean all hold (faulty cause e f) =
+    rw e (record { place = i; form = form; wants = wants; wrong = f; before = clean })
 reads_last shape fields holds i form read wants clean all hold (fine x e right) = rw e (rw all (passes shape fields i form wants right clean), hold x)

@@ -28,7 +28,8 @@ same_length (field ∷ fields) (form ∷ forms) h = omega (arith, same_length fi
 shape_length : (limit n : ℕ) (fields : List (List ℕ)) (shape : List Form) → shape_of limit n fields ≡ Some shape → length shape ≡ length fields
 shape_length limit n fields shape s = same_length fields shape (find_passes (has_shape fields) (shapes_of limit n) shape s)
 
-pub place_within : (limit n : ℕ) (fields : List (List ℕ)) (shape : List Form) (i : ℕ) (form : Form) → shape_of limit n fields ≡ Some shape → slice_get shape i ≡ Some form → i < length fields
+pub place_within : (limit n : ℕ) (fields : List (List ℕ)) (shape : List Form) (i : ℕ) (form : Form) → shape_of limit n fields ≡ Some shape
+    → slice_get shape i ≡ Some form → i < length fields
 place_within limit n fields shape i form s w = omega (arith, shape_length limit n fields shape s, slice_get_within shape i form w)
 
 -- a line has no fault of a lower rank
@@ -62,7 +63,8 @@ only_ends limit n events line h e k cause below (wrong_field i g w f) = omega ar
 only_ends limit n events line h e k cause below (past_events f) = omega arith
 
 -- a line of this shape whose first fields are right
-clean_to : (limit n events : ℕ) (line : Line) (shape : List Form) (i : ℕ) → n ≤ 2000 → line.ended ≡ true → shape_of limit n (fields_of line.text) ≡ Some shape → i ≤ length (fields_of line.text) → Clean shape (fields_of line.text) i
+clean_to : (limit n events : ℕ) (line : Line) (shape : List Form) (i : ℕ) → n ≤ 2000 → line.ended ≡ true → shape_of limit n (fields_of line.text) ≡ Some shape
+    → i ≤ length (fields_of line.text) → Clean shape (fields_of line.text) i
     → NoneBelow limit n events line (3 + i)
 clean_to limit n events line shape i h e s within clean k cause below (past_lines f) = omega arith
 clean_to limit n events line shape i h e s within clean k cause below (unended f) = let bad : true ≡ false = sym e ∙ f in cc
@@ -73,7 +75,8 @@ clean_to limit n events line shape i h e s within clean k cause below (wrong_fie
 clean_to limit n events line shape i h e s within clean k cause below (past_events f) = omega arith
 
 -- a line with nothing wrong
-all_clean : (limit n events : ℕ) (line : Line) (shape : List Form) → n ≤ 2000 → line.ended ≡ true → shape_of limit n (fields_of line.text) ≡ Some shape → Clean shape (fields_of line.text) (length shape) → events ≤ 100000
+all_clean : (limit n events : ℕ) (line : Line) (shape : List Form) → n ≤ 2000 → line.ended ≡ true → shape_of limit n (fields_of line.text) ≡ Some shape
+    → Clean shape (fields_of line.text) (length shape) → events ≤ 100000
     → (k : ℕ) (cause : Cause) → LineFault limit n events line k cause → ⊥
 all_clean limit n events line shape h e s clean under k cause (past_lines f) = omega arith
 all_clean limit n events line shape h e s clean under k cause (unended f) = let bad : true ≡ false = sym e ∙ f in cc
@@ -85,13 +88,19 @@ all_clean limit n events line shape h e s clean under k cause (wrong_field j {sh
 all_clean limit n events line shape h e s clean under k cause (past_events f) = omega arith
 
 -- the first fault of a line that is not read
-shape_first : (limit n events : ℕ) (line : Line) (shape : List Form) (cause : Cause) → n ≤ 2000 → line.ended ≡ true → shape_of limit n (fields_of line.text) ≡ Some shape → FirstWrong shape (fields_of line.text) cause
+shape_first : (limit n events : ℕ) (line : Line) (shape : List Form) (cause : Cause) → n ≤ 2000 → line.ended ≡ true
+    → shape_of limit n (fields_of line.text) ≡ Some shape → FirstWrong shape (fields_of line.text) cause
     → FirstOf limit n events line cause
 shape_first limit n events line shape cause h e s w =
     let within = place_within limit n (fields_of line.text) shape w.place w.form s w.wants in
-    record { rank = 3 + w.place; fault = wrong_field w.place s w.wants w.wrong; least = clean_to limit n events line shape w.place h e s (omega arith) w.before }
+    record {
+      rank = 3 + w.place;
+      fault = wrong_field w.place s w.wants w.wrong;
+      least = clean_to limit n events line shape w.place h e s (omega arith) w.before;
+    }
 
-pub read_first : {B : Type 0} (limit n events : ℕ) (line : Line) (holds : B → Type 0) (read : Result B Cause) (cause : Cause) → n ≤ 2000 → line.ended ≡ true → TellsLine (shapes_of limit n) (fields_of line.text) holds read → read ≡ Err cause
+pub read_first : {B : Type 0} (limit n events : ℕ) (line : Line) (holds : B → Type 0) (read : Result B Cause) (cause : Cause) → n ≤ 2000 → line.ended ≡ true
+    → TellsLine (shapes_of limit n) (fields_of line.text) holds read → read ≡ Err cause
     → FirstOf limit n events line cause
 read_first {B} limit n events line holds read cause h e (shapeless s is) bad =
     let same : Word ≡ cause = let t : ◌≡◌ {A = Result B Cause} (Err Word) (Err cause) = sym is ∙ bad in cc in
@@ -107,21 +116,25 @@ pub record RightLine {B : Type 0} (limit n : ℕ) (line : Line) (holds : B → T
   pub clean : Clean shape (fields_of line.text) (length shape)
   pub holding : holds b
 
-pub read_right : {B : Type 0} (limit n : ℕ) (line : Line) (holds : B → Type 0) (read : Result B Cause) (b : B) → TellsLine (shapes_of limit n) (fields_of line.text) holds read → read ≡ Ok b → RightLine limit n line holds b
+pub read_right : {B : Type 0} (limit n : ℕ) (line : Line) (holds : B → Type 0) (read : Result B Cause) (b : B)
+    → TellsLine (shapes_of limit n) (fields_of line.text) holds read → read ≡ Ok b → RightLine limit n line holds b
 read_right {B} limit n line holds read b (shapeless s is) good = let t : ◌≡◌ {A = Result B Cause} (Err Word) (Ok b) = sym is ∙ good in cc
 read_right limit n line holds read b (shaped shape by_shape s is told) good =
     let at_ok : Tells shape (fields_of line.text) holds (Ok b) = subst (λ r. Tells shape (fields_of line.text) holds r) (sym is ∙ good) told in
     record { shape = shape; has = s; clean = at_ok.0; holding = at_ok.1 }
 
 -- it has no fault, unless it makes too many events
-pub right_line : {B : Type 0} (limit n events : ℕ) (line : Line) (holds : B → Type 0) (b : B) → n ≤ 2000 → line.ended ≡ true → RightLine limit n line holds b → events ≤ 100000 → (k : ℕ) (cause : Cause) → LineFault limit n events line k cause → ⊥
+pub right_line : {B : Type 0} (limit n events : ℕ) (line : Line) (holds : B → Type 0) (b : B) → n ≤ 2000 → line.ended ≡ true → RightLine limit n line holds b
+    → events ≤ 100000 → (k : ℕ) (cause : Cause) → LineFault limit n events line k cause → ⊥
 right_line limit n events line holds b h e r under = all_clean limit n events line r.shape h e r.has r.clean under
 
-pub events_first : {B : Type 0} (limit n events : ℕ) (line : Line) (holds : B → Type 0) (b : B) → n ≤ 2000 → line.ended ≡ true → RightLine limit n line holds b → 100000 < events → FirstOf limit n events line TooLong
+pub events_first : {B : Type 0} (limit n events : ℕ) (line : Line) (holds : B → Type 0) (b : B) → n ≤ 2000 → line.ended ≡ true → RightLine limit n line holds b
+    → 100000 < events → FirstOf limit n events line TooLong
 events_first limit n events line holds b h e r over =
     let size = shape_length limit n (fields_of line.text) r.shape r.has in
     record {
       rank = 3 + length (fields_of line.text);
       fault = past_events over;
-      least = clean_to limit n events line r.shape (length (fields_of line.text)) h e r.has (omega arith) (subst (λ i. Clean r.shape (fields_of line.text) i) size r.clean);
+      least = clean_to limit n events line r.shape (length (fields_of line.text)) h e r.has (omega arith)
+          (subst (λ i. Clean r.shape (fields_of line.text) i) size r.clean);
     }

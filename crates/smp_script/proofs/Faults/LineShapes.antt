@@ -1,5 +1,6 @@
 -- Which shape the fields of a line have, and what reading them by that shape tells.
-use Rattle.std.proofs.Common.{◌≡◌, ℕ, ℤ, ◌+◌, ◌≤◌, Bool, true, false, not, ◌&&◌, ◌==◌, List, [], ◌∷◌, length, drop, Some, None, Result, Ok, Err, codes, refl, sym, ◌∙◌, inl, inr, arith, subst}
+use Rattle.std.proofs.Common.{◌≡◌, ℕ, ℤ, ◌+◌, ◌≤◌, Bool, true, false, not, ◌&&◌, ◌==◌, List, [], ◌∷◌, length, drop, Some, None, Result, Ok, Err, codes, refl}
+use Rattle.std.proofs.Common.{sym, ◌∙◌, inl, inr, arith, subst}
 use Rattle.std.specs.Prelude.{find, slice_get}
 use Rattle.std.specs.Str.{bytes_eq}
 use Rattle.std.proofs.lemmas.Bool.{cases_Bool, and_parts, and_right, or_cases}
@@ -18,9 +19,11 @@ use Rattle.smp_script.specs.declared.directive.Directive.TheVariants.{Start, Sho
 use Rattle.smp_script.specs.Fields.{class_of, kind_of, mask_of, way_of, word32}
 use Rattle.smp_script.specs.Faults.{◌>>=◌}
 use Rattle.smp_script.specs.Numbers.{signed_of}
-use Rattle.smp_script.specs.Commands.{are_whole, begins_of, directive_of, posts_of, show_of, start_answer, start_answered, start_bare, start_begin, start_nudge, start_number, start_of, start_one, start_post, start_short, start_two, step_of, steps_of, whole_directive}
+use Rattle.smp_script.specs.Commands.{are_whole, begins_of, directive_of, posts_of, show_of, start_answer, start_answered, start_bare, start_begin, start_nudge}
+use Rattle.smp_script.specs.Commands.{start_number, start_of, start_one, start_post, start_short, start_two, step_of, steps_of, whole_directive}
 use Rattle.smp_script.specs.Script.{events_of, title_of}
-use Rattle.smp_script.specs.Shapes.{Form, word, words, number, signed, cpu_list, online, items, class, kind, title, versions, post, begin, way, nudge, numbered, answered, bare, with_number, with_answer, with_none, step, show, requests, bits, has_shape, has_word, is_one_of}
+use Rattle.smp_script.specs.Shapes.{Form, word, words, number, signed, cpu_list, online, items, class, kind, title, versions, post, begin, way, nudge, numbered}
+use Rattle.smp_script.specs.Shapes.{answered, bare, with_number, with_answer, with_none, step, show, requests, bits, has_shape, has_word, is_one_of}
 use Rattle.smp_script.specs.FirstFault.{events_in}
 use Rattle.smp_script.specs.Versions.{version_text}
 use Rattle.smp_script.specs.declared.version.Version.{Version}
@@ -34,38 +37,48 @@ use Rattle.smp_script.proofs.Faults.MaskFields.{mask_judged}
 -- what reading the fields of a line tells: they have no shape, or one by which they are read
 pub data TellsLine {B : Type 0} (shapes : List (List Form)) (fields : List (List ℕ)) (holds : B → Type 0) (read : Result B Cause) : Type 0 where
   shapeless : find (has_shape fields) shapes ≡ None → read ≡ Err Word → TellsLine shapes fields holds read
-  shaped : (shape : List Form) (by_shape : Result B Cause) → find (has_shape fields) shapes ≡ Some shape → read ≡ by_shape → Tells shape fields holds by_shape → TellsLine shapes fields holds read
+  shaped : (shape : List Form) (by_shape : Result B Cause) → find (has_shape fields) shapes ≡ Some shape → read ≡ by_shape → Tells shape fields holds by_shape
+      → TellsLine shapes fields holds read
 
 -- a field that is a word has nothing else wrong
-pub passes_word : (shape : List Form) (fields : List (List ℕ)) (i : ℕ) (w : List ℕ) → slice_get shape i ≡ Some (word w) → Clean shape fields i → Clean shape fields (i + 1)
+pub passes_word : (shape : List Form) (fields : List (List ℕ)) (i : ℕ) (w : List ℕ) → slice_get shape i ≡ Some (word w) → Clean shape fields i
+    → Clean shape fields (i + 1)
 passes_word shape fields i w wants clean = passes shape fields i (word w) wants (λ cause f. f) clean
 
 abbrev pub HasEvents : List (List ℕ) → Directive → Type 0
 HasEvents fields d = events_in fields ≡ events_of d
 
 -- two numbers, one after the other
-two_then : (command : ℕ → Command) (r s : Result ℕ Cause) → ◌>>=◌ {A = ℕ × ℕ} {B = Directive} {E = Cause} (r >>= λ c. s >>= λ m. Ok (c, m)) (λ p. Ok (Start p.0 (command p.1))) ≡ (r >>= λ c. s >>= λ m. Ok (Start c (command m)))
+two_then : (command : ℕ → Command) (r s : Result ℕ Cause)
+    → ◌>>=◌ {A = ℕ × ℕ} {B = Directive} {E = Cause} (r >>= λ c. s >>= λ m. Ok (c, m)) (λ p. Ok (Start p.0 (command p.1)))
+    ≡ (r >>= λ c. s >>= λ m. Ok (Start c (command m)))
 two_then command (Err e) s = refl
 two_then command (Ok c) (Err e) = refl
 two_then command (Ok c) (Ok m) = refl
 
-bare_told : (command : Command) (cpu name : List ℕ) → Tells bare (codes "start" ∷ cpu ∷ name ∷ []) (HasEvents (codes "start" ∷ cpu ∷ name ∷ [])) (word32 cpu >>= λ c. Ok (Start c command))
+bare_told : (command : Command) (cpu name : List ℕ)
+    → Tells bare (codes "start" ∷ cpu ∷ name ∷ []) (HasEvents (codes "start" ∷ cpu ∷ name ∷ [])) (word32 cpu >>= λ c. Ok (Start c command))
 bare_told command cpu name =
     let fields = codes "start" ∷ cpu ∷ name ∷ [] in
-    reads_number bare fields (HasEvents fields) 1 0 4294967295 _ refl (passes_word bare fields 0 _ refl (none_yet bare fields)) (λ two. (passes bare fields 2 (words with_none) refl (λ cause f. f) two, refl))
+    reads_number bare fields (HasEvents fields) 1 0 4294967295 _ refl (passes_word bare fields 0 _ refl (none_yet bare fields))
+    (λ two. (passes bare fields 2 (words with_none) refl (λ cause f. f) two, refl))
 
-number_told : (command : ℕ → Command) (cpu name n : List ℕ) → Tells numbered (codes "start" ∷ cpu ∷ name ∷ n ∷ []) (HasEvents (codes "start" ∷ cpu ∷ name ∷ n ∷ [])) (start_number command cpu n)
+number_told : (command : ℕ → Command) (cpu name n : List ℕ)
+    → Tells numbered (codes "start" ∷ cpu ∷ name ∷ n ∷ []) (HasEvents (codes "start" ∷ cpu ∷ name ∷ n ∷ [])) (start_number command cpu n)
 number_told command cpu name n =
     let fields = codes "start" ∷ cpu ∷ name ∷ n ∷ [] in
     let same : start_number command cpu n ≡ (word32 cpu >>= λ c. word32 n >>= λ m. Ok (Start c (command m))) = two_then command (word32 cpu) (word32 n) in
     rw same (reads_number numbered fields (HasEvents fields) 1 0 4294967295 _ refl (passes_word numbered fields 0 _ refl (none_yet numbered fields)) (λ two.
-    reads_number numbered fields (HasEvents fields) 3 0 4294967295 _ refl (passes numbered fields 2 (words with_number) refl (λ cause f. f) two) (λ four. (four, refl))))
+    reads_number numbered fields (HasEvents fields) 3 0 4294967295 _ refl (passes numbered fields 2 (words with_number) refl (λ cause f. f) two)
+    (λ four. (four, refl))))
 
-answer_told : (command : ℤ → Command) (cpu name answer : List ℕ) → Tells answered (codes "start" ∷ cpu ∷ name ∷ answer ∷ []) (HasEvents (codes "start" ∷ cpu ∷ name ∷ answer ∷ [])) (start_answer command cpu answer)
+answer_told : (command : ℤ → Command) (cpu name answer : List ℕ)
+    → Tells answered (codes "start" ∷ cpu ∷ name ∷ answer ∷ []) (HasEvents (codes "start" ∷ cpu ∷ name ∷ answer ∷ [])) (start_answer command cpu answer)
 answer_told command cpu name answer =
     let fields = codes "start" ∷ cpu ∷ name ∷ answer ∷ [] in
     reads_number answered fields (HasEvents fields) 1 0 4294967295 _ refl (passes_word answered fields 0 _ refl (none_yet answered fields)) (λ two.
-    reads_field answered fields (HasEvents fields) 3 signed (signed_of answer) _ refl (passes answered fields 2 (words with_answer) refl (λ cause f. f) two) (signed_judged answer) (λ r four. (four, refl)))
+    reads_field answered fields (HasEvents fields) 3 signed (signed_of answer) _ refl (passes answered fields 2 (words with_answer) refl (λ cause f. f) two)
+    (signed_judged answer) (λ r four. (four, refl)))
 
 step_told : (cpu count : List ℕ) → Tells step (codes "step" ∷ cpu ∷ count ∷ []) (HasEvents (codes "step" ∷ cpu ∷ count ∷ [])) (step_of cpu count)
 step_told cpu count =
@@ -85,7 +98,9 @@ no_class text h = elim (cases_Bool (bytes_eq text (codes "sync"))) [
   | inr other ↦ let neither : bytes_eq text (codes "async") ≡ false = grind (arith, other, h) in rw (other, neither) refl
 ]
 
-post_told : (cpu k dst c func info tries : List ℕ) → has_word class c ≡ true → Tells post (codes "start" ∷ cpu ∷ codes "post" ∷ k ∷ dst ∷ c ∷ func ∷ info ∷ tries ∷ []) (HasEvents (codes "start" ∷ cpu ∷ codes "post" ∷ k ∷ dst ∷ c ∷ func ∷ info ∷ tries ∷ [])) (start_post cpu k dst c func info tries)
+post_told : (cpu k dst c func info tries : List ℕ) → has_word class c ≡ true
+    → Tells post (codes "start" ∷ cpu ∷ codes "post" ∷ k ∷ dst ∷ c ∷ func ∷ info ∷ tries ∷ [])
+    (HasEvents (codes "start" ∷ cpu ∷ codes "post" ∷ k ∷ dst ∷ c ∷ func ∷ info ∷ tries ∷ [])) (start_post cpu k dst c func info tries)
 unfolding start_post
 post_told cpu k dst c func info tries h =
     let fields = codes "start" ∷ cpu ∷ codes "post" ∷ k ∷ dst ∷ c ∷ func ∷ info ∷ tries ∷ [] in
@@ -122,14 +137,18 @@ no_kind text h = elim (cases_Bool (bytes_eq text (codes "one"))) [
   ]
 ]
 
-begin_told : (limit : ℕ) → limit ≤ NR_CPUS → (cpu k m a func arg : List ℕ) → has_word kind k ≡ true → Tells (begin limit) (codes "start" ∷ cpu ∷ codes "begin" ∷ k ∷ m ∷ a ∷ func ∷ arg ∷ []) (HasEvents (codes "start" ∷ cpu ∷ codes "begin" ∷ k ∷ m ∷ a ∷ func ∷ arg ∷ [])) (start_begin limit cpu k m a func arg)
+begin_told : (limit : ℕ) → limit ≤ NR_CPUS → (cpu k m a func arg : List ℕ) → has_word kind k ≡ true
+    → Tells (begin limit) (codes "start" ∷ cpu ∷ codes "begin" ∷ k ∷ m ∷ a ∷ func ∷ arg ∷ [])
+    (HasEvents (codes "start" ∷ cpu ∷ codes "begin" ∷ k ∷ m ∷ a ∷ func ∷ arg ∷ [])) (start_begin limit cpu k m a func arg)
 unfolding start_begin
 begin_told limit few cpu k m a func arg h =
     let fields = codes "start" ∷ cpu ∷ codes "begin" ∷ k ∷ m ∷ a ∷ func ∷ arg ∷ [] in
     let as_kind = is_kind k h in
     rw as_kind.1 (
-    reads_number (begin limit) fields (HasEvents fields) 1 0 4294967295 _ refl (passes_word (begin limit) fields 0 _ refl (none_yet (begin limit) fields)) (λ two.
-    reads_field (begin limit) fields (HasEvents fields) 4 (cpu_list limit) (mask_of limit m) _ refl (passes (begin limit) fields 3 kind refl (λ cause f. f) (passes_word (begin limit) fields 2 _ refl two)) (mask_judged limit m few) (λ mask five.
+    reads_number (begin limit) fields (HasEvents fields) 1 0 4294967295 _ refl (passes_word (begin limit) fields 0 _ refl (none_yet (begin limit) fields))
+    (λ two.
+    reads_field (begin limit) fields (HasEvents fields) 4 (cpu_list limit) (mask_of limit m) _ refl
+    (passes (begin limit) fields 3 kind refl (λ cause f. f) (passes_word (begin limit) fields 2 _ refl two)) (mask_judged limit m few) (λ mask five.
     reads_field (begin limit) fields (HasEvents fields) 5 (cpu_list limit) (mask_of limit a) _ refl five (mask_judged limit a few) (λ active six.
     reads_number (begin limit) fields (HasEvents fields) 6 0 65535 _ refl six (λ seven.
     reads_number (begin limit) fields (HasEvents fields) 7 0 18446744073709551615 _ refl seven (λ eight. (eight, refl)))))))
@@ -146,7 +165,8 @@ no_way text h = elim (cases_Bool (bytes_eq text (codes "up"))) [
   | inr other ↦ let neither : bytes_eq text (codes "down") ≡ false = grind (arith, other, h) in rw (other, neither) refl
 ]
 
-nudge_told : (cpu k w : List ℕ) → has_word way w ≡ true → Tells nudge (codes "start" ∷ cpu ∷ codes "nudge" ∷ k ∷ w ∷ []) (HasEvents (codes "start" ∷ cpu ∷ codes "nudge" ∷ k ∷ w ∷ [])) (start_nudge cpu k w)
+nudge_told : (cpu k w : List ℕ) → has_word way w ≡ true
+    → Tells nudge (codes "start" ∷ cpu ∷ codes "nudge" ∷ k ∷ w ∷ []) (HasEvents (codes "start" ∷ cpu ∷ codes "nudge" ∷ k ∷ w ∷ [])) (start_nudge cpu k w)
 nudge_told cpu k w h =
     let fields = codes "start" ∷ cpu ∷ codes "nudge" ∷ k ∷ w ∷ [] in
     let as_way = is_way w h in
@@ -166,28 +186,44 @@ kindless : (limit : ℕ) (cpu k m a func arg : List ℕ) → has_word kind k ≡
 unfolding start_begin
 kindless limit cpu k m a func arg h = rw (no_kind k h) refl
 
-not_post : (limit : ℕ) (cpu name k dst c func info tries : List ℕ) → bytes_eq name (codes "post") ≡ false → find (has_shape (codes "start" ∷ cpu ∷ name ∷ k ∷ dst ∷ c ∷ func ∷ info ∷ tries ∷ [])) (requests limit) ≡ None
-not_post limit cpu name k dst c func info tries h = rw h (rw (and_right (has_shape (k ∷ dst ∷ c ∷ func ∷ info ∷ tries ∷ []) (bits 32 ∷ bits 32 ∷ class ∷ bits 16 ∷ bits 64 ∷ bits 32 ∷ [])) false refl) refl)
+not_post : (limit : ℕ) (cpu name k dst c func info tries : List ℕ) → bytes_eq name (codes "post") ≡ false
+    → find (has_shape (codes "start" ∷ cpu ∷ name ∷ k ∷ dst ∷ c ∷ func ∷ info ∷ tries ∷ [])) (requests limit) ≡ None
+not_post limit cpu name k dst c func info tries h =
+    rw h (rw (and_right (has_shape (k ∷ dst ∷ c ∷ func ∷ info ∷ tries ∷ []) (bits 32 ∷ bits 32 ∷ class ∷ bits 16 ∷ bits 64 ∷ bits 32 ∷ [])) false refl) refl)
 
-not_begin : (limit : ℕ) (cpu name k m a func arg : List ℕ) → bytes_eq name (codes "begin") ≡ false → find (has_shape (codes "start" ∷ cpu ∷ name ∷ k ∷ m ∷ a ∷ func ∷ arg ∷ [])) (requests limit) ≡ None
-not_begin limit cpu name k m a func arg h = rw h (rw (and_right (has_shape (k ∷ m ∷ a ∷ func ∷ arg ∷ []) (kind ∷ cpu_list limit ∷ cpu_list limit ∷ bits 16 ∷ bits 64 ∷ [])) false refl) refl)
+not_begin : (limit : ℕ) (cpu name k m a func arg : List ℕ) → bytes_eq name (codes "begin") ≡ false
+    → find (has_shape (codes "start" ∷ cpu ∷ name ∷ k ∷ m ∷ a ∷ func ∷ arg ∷ [])) (requests limit) ≡ None
+not_begin limit cpu name k m a func arg h =
+    rw h (rw (and_right (has_shape (k ∷ m ∷ a ∷ func ∷ arg ∷ []) (kind ∷ cpu_list limit ∷ cpu_list limit ∷ bits 16 ∷ bits 64 ∷ [])) false refl) refl)
 
-not_nudge : (limit : ℕ) (cpu name k w : List ℕ) → bytes_eq name (codes "nudge") ≡ false → find (has_shape (codes "start" ∷ cpu ∷ name ∷ k ∷ w ∷ [])) (requests limit) ≡ None
+not_nudge : (limit : ℕ) (cpu name k w : List ℕ) → bytes_eq name (codes "nudge") ≡ false
+    → find (has_shape (codes "start" ∷ cpu ∷ name ∷ k ∷ w ∷ [])) (requests limit) ≡ None
 not_nudge limit cpu name k w h = rw h (rw (and_right (has_shape (k ∷ w ∷ []) (bits 32 ∷ way ∷ [])) false refl) refl)
 
 -- the fields after `start CPU`, two of them at most after the name
-bare_shapes : (limit : ℕ) (cpu name : List ℕ) → (length cpu == 0) ≡ false → (length name == 0) ≡ false → TellsLine (requests limit) (codes "start" ∷ cpu ∷ name ∷ []) (HasEvents (codes "start" ∷ cpu ∷ name ∷ [])) (start_bare cpu name)
+bare_shapes : (limit : ℕ) (cpu name : List ℕ) → (length cpu == 0) ≡ false → (length name == 0) ≡ false
+    → TellsLine (requests limit) (codes "start" ∷ cpu ∷ name ∷ []) (HasEvents (codes "start" ∷ cpu ∷ name ∷ [])) (start_bare cpu name)
 bare_shapes limit cpu name some_cpu some_name = elim (cases_Bool (bytes_eq name (codes "handle"))) [
-  | inl is_ ↦ rw (same_word name (codes "handle") is_) (shaped bare (word32 cpu >>= λ c. Ok (Start c Handle)) (rw some_cpu refl) refl (bare_told Handle cpu (codes "handle")))
+  | inl is_ ↦
+      rw (same_word name (codes "handle") is_)
+      (shaped bare (word32 cpu >>= λ c. Ok (Start c Handle)) (rw some_cpu refl) refl (bare_told Handle cpu (codes "handle")))
   | inr no_handle ↦ elim (cases_Bool (bytes_eq name (codes "gate"))) [
-    | inl is_ ↦ rw (same_word name (codes "gate") is_) (shaped bare (word32 cpu >>= λ c. Ok (Start c Gate)) (rw some_cpu refl) refl (bare_told Gate cpu (codes "gate")))
+    | inl is_ ↦
+        rw (same_word name (codes "gate") is_) (shaped bare (word32 cpu >>= λ c. Ok (Start c Gate)) (rw some_cpu refl) refl (bare_told Gate cpu (codes "gate")))
     | inr no_gate ↦ elim (cases_Bool (bytes_eq name (codes "ungate"))) [
-      | inl is_ ↦ rw (same_word name (codes "ungate") is_) (shaped bare (word32 cpu >>= λ c. Ok (Start c Ungate)) (rw some_cpu refl) refl (bare_told Ungate cpu (codes "ungate")))
+      | inl is_ ↦
+          rw (same_word name (codes "ungate") is_)
+          (shaped bare (word32 cpu >>= λ c. Ok (Start c Ungate)) (rw some_cpu refl) refl (bare_told Ungate cpu (codes "ungate")))
       | inr no_ungate ↦ elim (cases_Bool (bytes_eq name (codes "finish"))) [
-        | inl is_ ↦ rw (same_word name (codes "finish") is_) (shaped bare (word32 cpu >>= λ c. Ok (Start c Finish)) (rw some_cpu refl) refl (bare_told Finish cpu (codes "finish")))
+        | inl is_ ↦
+            rw (same_word name (codes "finish") is_)
+            (shaped bare (word32 cpu >>= λ c. Ok (Start c Finish)) (rw some_cpu refl) refl (bare_told Finish cpu (codes "finish")))
         | inr no_finish ↦ elim (cases_Bool (bytes_eq name (codes "poll"))) [
-          | inl is_ ↦ rw (same_word name (codes "poll") is_) (shaped bare (word32 cpu >>= λ c. Ok (Start c Poll)) (rw some_cpu refl) refl (bare_told Poll cpu (codes "poll")))
-          | inr no_poll ↦ shapeless (rw (no_handle, no_gate, no_ungate, no_finish, no_poll, some_name, some_cpu) refl) (rw (no_handle, no_gate, no_ungate, no_finish, no_poll) refl)
+          | inl is_ ↦
+              rw (same_word name (codes "poll") is_)
+              (shaped bare (word32 cpu >>= λ c. Ok (Start c Poll)) (rw some_cpu refl) refl (bare_told Poll cpu (codes "poll")))
+          | inr no_poll ↦ shapeless (rw (no_handle, no_gate, no_ungate, no_finish, no_poll, some_name, some_cpu) refl)
+              (rw (no_handle, no_gate, no_ungate, no_finish, no_poll) refl)
         ]
       ]
     ]
@@ -197,25 +233,41 @@ bare_shapes limit cpu name some_cpu some_name = elim (cases_Bool (bytes_eq name 
 answered_shapes : (limit : ℕ) (cpu name a : List ℕ) → (length cpu == 0) ≡ false → (length a == 0) ≡ false → is_one_of with_number name ≡ false
     → TellsLine (requests limit) (codes "start" ∷ cpu ∷ name ∷ a ∷ []) (HasEvents (codes "start" ∷ cpu ∷ name ∷ a ∷ [])) (start_answered cpu name a)
 answered_shapes limit cpu name a some_cpu some_a no_number = elim (cases_Bool (bytes_eq name (codes "advance"))) [
-  | inl is_ ↦ rw (same_word name (codes "advance") is_) (shaped answered (start_answer Advance cpu a) (rw (some_a, some_cpu) refl) refl (answer_told Advance cpu (codes "advance") a))
+  | inl is_ ↦
+      rw (same_word name (codes "advance") is_)
+      (shaped answered (start_answer Advance cpu a) (rw (some_a, some_cpu) refl) refl (answer_told Advance cpu (codes "advance") a))
   | inr no_advance ↦ elim (cases_Bool (bytes_eq name (codes "runone"))) [
-    | inl is_ ↦ rw (same_word name (codes "runone") is_) (shaped answered (start_answer RunOne cpu a) (rw (some_a, some_cpu) refl) refl (answer_told RunOne cpu (codes "runone") a))
+    | inl is_ ↦
+        rw (same_word name (codes "runone") is_)
+        (shaped answered (start_answer RunOne cpu a) (rw (some_a, some_cpu) refl) refl (answer_told RunOne cpu (codes "runone") a))
     | inr no_runone ↦ shapeless (rw (some_a, no_number, no_advance, no_runone) refl) (rw (no_advance, no_runone) refl)
   ]
 ]
 
-one_shapes : (limit : ℕ) (cpu name a : List ℕ) → (length cpu == 0) ≡ false → (length a == 0) ≡ false → TellsLine (requests limit) (codes "start" ∷ cpu ∷ name ∷ a ∷ []) (HasEvents (codes "start" ∷ cpu ∷ name ∷ a ∷ [])) (start_one cpu name a)
+one_shapes : (limit : ℕ) (cpu name a : List ℕ) → (length cpu == 0) ≡ false → (length a == 0) ≡ false
+    → TellsLine (requests limit) (codes "start" ∷ cpu ∷ name ∷ a ∷ []) (HasEvents (codes "start" ∷ cpu ∷ name ∷ a ∷ [])) (start_one cpu name a)
 one_shapes limit cpu name a some_cpu some_a = elim (cases_Bool (bytes_eq name (codes "send"))) [
-  | inl is_ ↦ rw (same_word name (codes "send") is_) (shaped numbered (start_number Send cpu a) (rw (some_a, some_cpu) refl) refl (number_told Send cpu (codes "send") a))
+  | inl is_ ↦
+      rw (same_word name (codes "send") is_)
+      (shaped numbered (start_number Send cpu a) (rw (some_a, some_cpu) refl) refl (number_told Send cpu (codes "send") a))
   | inr no_send ↦ elim (cases_Bool (bytes_eq name (codes "done"))) [
-    | inl is_ ↦ rw (same_word name (codes "done") is_) (shaped numbered (start_number Done cpu a) (rw (some_a, some_cpu) refl) refl (number_told Done cpu (codes "done") a))
+    | inl is_ ↦
+        rw (same_word name (codes "done") is_)
+        (shaped numbered (start_number Done cpu a) (rw (some_a, some_cpu) refl) refl (number_told Done cpu (codes "done") a))
     | inr no_done ↦ elim (cases_Bool (bytes_eq name (codes "enter"))) [
-      | inl is_ ↦ rw (same_word name (codes "enter") is_) (shaped numbered (start_number Enter cpu a) (rw (some_a, some_cpu) refl) refl (number_told Enter cpu (codes "enter") a))
+      | inl is_ ↦
+          rw (same_word name (codes "enter") is_)
+          (shaped numbered (start_number Enter cpu a) (rw (some_a, some_cpu) refl) refl (number_told Enter cpu (codes "enter") a))
       | inr no_enter ↦ elim (cases_Bool (bytes_eq name (codes "key"))) [
-        | inl is_ ↦ rw (same_word name (codes "key") is_) (shaped numbered (start_number Key cpu a) (rw (some_a, some_cpu) refl) refl (number_told Key cpu (codes "key") a))
+        | inl is_ ↦
+            rw (same_word name (codes "key") is_)
+            (shaped numbered (start_number Key cpu a) (rw (some_a, some_cpu) refl) refl (number_told Key cpu (codes "key") a))
         | inr no_key ↦ elim (cases_Bool (bytes_eq name (codes "site"))) [
-          | inl is_ ↦ rw (same_word name (codes "site") is_) (shaped numbered (start_number Site cpu a) (rw (some_a, some_cpu) refl) refl (number_told Site cpu (codes "site") a))
-          | inr no_site ↦ rw (no_send, no_done, no_enter, no_key, no_site) (answered_shapes limit cpu name a some_cpu some_a (rw (no_send, no_done, no_enter, no_key, no_site) refl))
+          | inl is_ ↦
+              rw (same_word name (codes "site") is_)
+              (shaped numbered (start_number Site cpu a) (rw (some_a, some_cpu) refl) refl (number_told Site cpu (codes "site") a))
+          | inr no_site ↦ rw (no_send, no_done, no_enter, no_key, no_site)
+              (answered_shapes limit cpu name a some_cpu some_a (rw (no_send, no_done, no_enter, no_key, no_site) refl))
         ]
       ]
     ]
@@ -232,7 +284,8 @@ pair_shapes limit cpu name k w some_cpu some_k = elim (cases_Bool (bytes_eq name
   ])
 ]
 
-short_shapes : (limit : ℕ) (cpu name : List ℕ) (arguments : List (List ℕ)) → are_whole (codes "start" ∷ cpu ∷ name ∷ arguments) ≡ true → bytes_eq name (codes "post") ≡ false → bytes_eq name (codes "begin") ≡ false
+short_shapes : (limit : ℕ) (cpu name : List ℕ) (arguments : List (List ℕ)) → are_whole (codes "start" ∷ cpu ∷ name ∷ arguments) ≡ true
+    → bytes_eq name (codes "post") ≡ false → bytes_eq name (codes "begin") ≡ false
     → TellsLine (requests limit) (codes "start" ∷ cpu ∷ name ∷ arguments) (HasEvents (codes "start" ∷ cpu ∷ name ∷ arguments)) (start_short cpu name arguments)
 short_shapes limit cpu name [] whole no_post no_begin = bare_shapes limit cpu name (grind (arith, whole)) (grind (arith, whole))
 short_shapes limit cpu name (a ∷ []) whole no_post no_begin = one_shapes limit cpu name a (grind (arith, whole)) (grind (arith, whole))
@@ -244,7 +297,8 @@ short_shapes limit cpu name (a ∷ b ∷ c ∷ d ∷ e ∷ f ∷ []) whole no_po
 short_shapes limit cpu name (a ∷ b ∷ c ∷ d ∷ e ∷ f ∷ g ∷ rest) whole no_post no_begin = shapeless refl refl
 
 post_shapes : (limit : ℕ) (cpu : List ℕ) (arguments : List (List ℕ)) → are_whole (codes "start" ∷ cpu ∷ codes "post" ∷ arguments) ≡ true
-    → TellsLine (requests limit) (codes "start" ∷ cpu ∷ codes "post" ∷ arguments) (HasEvents (codes "start" ∷ cpu ∷ codes "post" ∷ arguments)) (posts_of cpu arguments)
+    → TellsLine (requests limit) (codes "start" ∷ cpu ∷ codes "post" ∷ arguments) (HasEvents (codes "start" ∷ cpu ∷ codes "post" ∷ arguments))
+    (posts_of cpu arguments)
 post_shapes limit cpu [] whole =
     let some_cpu : (length cpu == 0) ≡ false = grind (arith, whole) in
     shapeless (rw some_cpu refl) refl
@@ -263,13 +317,15 @@ post_shapes limit cpu (k ∷ dst ∷ c ∷ func ∷ info ∷ tries ∷ []) whole
     let some_info : (length info == 0) ≡ false = grind (arith, whole) in
     let some_tries : (length tries == 0) ≡ false = grind (arith, whole) in
     elim (cases_Bool (has_word class c)) [
-      | inl good ↦ shaped post (start_post cpu k dst c func info tries) (rw (some_tries, some_info, some_func, good, some_dst, some_k, some_cpu) refl) refl (post_told cpu k dst c func info tries good)
+      | inl good ↦ shaped post (start_post cpu k dst c func info tries) (rw (some_tries, some_info, some_func, good, some_dst, some_k, some_cpu) refl) refl
+          (post_told cpu k dst c func info tries good)
       | inr bad ↦ shapeless (rw (some_tries, some_info, some_func, bad) refl) (classless cpu k dst c func info tries bad)
     ]
 post_shapes limit cpu (a ∷ b ∷ c ∷ d ∷ e ∷ f ∷ g ∷ rest) whole = shapeless refl refl
 
 begin_shapes : (limit : ℕ) → limit ≤ NR_CPUS → (cpu : List ℕ) (arguments : List (List ℕ)) → are_whole (codes "start" ∷ cpu ∷ codes "begin" ∷ arguments) ≡ true
-    → TellsLine (requests limit) (codes "start" ∷ cpu ∷ codes "begin" ∷ arguments) (HasEvents (codes "start" ∷ cpu ∷ codes "begin" ∷ arguments)) (begins_of limit cpu arguments)
+    → TellsLine (requests limit) (codes "start" ∷ cpu ∷ codes "begin" ∷ arguments) (HasEvents (codes "start" ∷ cpu ∷ codes "begin" ∷ arguments))
+    (begins_of limit cpu arguments)
 begin_shapes limit few cpu [] whole =
     let some_cpu : (length cpu == 0) ≡ false = grind (arith, whole) in
     shapeless (rw some_cpu refl) refl
@@ -286,14 +342,16 @@ begin_shapes limit few cpu (k ∷ m ∷ a ∷ func ∷ arg ∷ []) whole =
     let some_func : (length func == 0) ≡ false = grind (arith, whole) in
     let some_arg : (length arg == 0) ≡ false = grind (arith, whole) in
     elim (cases_Bool (has_word kind k)) [
-      | inl good ↦ shaped (begin limit) (start_begin limit cpu k m a func arg) (rw (some_arg, some_func, some_a, some_m, good, some_cpu) refl) refl (begin_told limit few cpu k m a func arg good)
+      | inl good ↦ shaped (begin limit) (start_begin limit cpu k m a func arg) (rw (some_arg, some_func, some_a, some_m, good, some_cpu) refl) refl
+          (begin_told limit few cpu k m a func arg good)
       | inr bad ↦ shapeless (rw (some_arg, some_func, some_a, some_m, bad) refl) (kindless limit cpu k m a func arg bad)
     ]
 begin_shapes limit few cpu (a ∷ b ∷ c ∷ d ∷ e ∷ f ∷ []) whole = shapeless (not_post limit cpu (codes "begin") a b c d e f refl) refl
 begin_shapes limit few cpu (a ∷ b ∷ c ∷ d ∷ e ∷ f ∷ g ∷ rest) whole = shapeless refl refl
 
 -- the fields after `start`
-start_told : (limit : ℕ) → limit ≤ NR_CPUS → (rest : List (List ℕ)) → are_whole (codes "start" ∷ rest) ≡ true → TellsLine (requests limit) (codes "start" ∷ rest) (HasEvents (codes "start" ∷ rest)) (start_of limit rest)
+start_told : (limit : ℕ) → limit ≤ NR_CPUS → (rest : List (List ℕ)) → are_whole (codes "start" ∷ rest) ≡ true
+    → TellsLine (requests limit) (codes "start" ∷ rest) (HasEvents (codes "start" ∷ rest)) (start_of limit rest)
 start_told limit few [] whole = shapeless refl refl
 start_told limit few (cpu ∷ []) whole = shapeless refl refl
 start_told limit few (cpu ∷ name ∷ arguments) whole = elim (cases_Bool (bytes_eq name (codes "post"))) [
@@ -309,7 +367,8 @@ start_told limit few (cpu ∷ name ∷ arguments) whole = elim (cases_Bool (byte
 ]
 
 -- a shape that the fields don't have
-pub skips : (fields : List (List ℕ)) (shape : List Form) (shapes : List (List Form)) → has_shape fields shape ≡ false → find (has_shape fields) (shape ∷ shapes) ≡ find (has_shape fields) shapes
+pub skips : (fields : List (List ℕ)) (shape : List Form) (shapes : List (List Form)) → has_shape fields shape ≡ false
+    → find (has_shape fields) (shape ∷ shapes) ≡ find (has_shape fields) shapes
 skips fields shape shapes h = rw h refl
 
 -- or don't begin with
@@ -317,7 +376,8 @@ pub skips_word : (a : List ℕ) (fields : List (List ℕ)) (w : List ℕ) (forms
     → find (has_shape (a ∷ fields)) ((word w ∷ forms) ∷ shapes) ≡ find (has_shape (a ∷ fields)) shapes
 skips_word a fields w forms shapes h = skips (a ∷ fields) (word w ∷ forms) shapes (and_right (has_shape fields forms) (bytes_eq a w) h)
 
-pub no_start : (limit : ℕ) (a : List ℕ) (fields : List (List ℕ)) → bytes_eq a (codes "start") ≡ false → find (has_shape (a ∷ fields)) (requests limit) ≡ find (has_shape (a ∷ fields)) (step ∷ show ∷ [])
+pub no_start : (limit : ℕ) (a : List ℕ) (fields : List (List ℕ)) → bytes_eq a (codes "start") ≡ false
+    → find (has_shape (a ∷ fields)) (requests limit) ≡ find (has_shape (a ∷ fields)) (step ∷ show ∷ [])
 no_start limit a fields h =
     skips_word a fields (codes "start") (drop 1 post) (begin limit ∷ nudge ∷ numbered ∷ answered ∷ bare ∷ step ∷ show ∷ []) h
     ∙ skips_word a fields (codes "start") (drop 1 (begin limit)) (nudge ∷ numbered ∷ answered ∷ bare ∷ step ∷ show ∷ []) h
@@ -326,7 +386,8 @@ no_start limit a fields h =
     ∙ skips_word a fields (codes "start") (drop 1 answered) (bare ∷ step ∷ show ∷ []) h
     ∙ skips_word a fields (codes "start") (drop 1 bare) (step ∷ show ∷ []) h
 
-step_shapes : (limit : ℕ) (rest : List (List ℕ)) → are_whole (codes "step" ∷ rest) ≡ true → TellsLine (requests limit) (codes "step" ∷ rest) (HasEvents (codes "step" ∷ rest)) (steps_of rest)
+step_shapes : (limit : ℕ) (rest : List (List ℕ)) → are_whole (codes "step" ∷ rest) ≡ true
+    → TellsLine (requests limit) (codes "step" ∷ rest) (HasEvents (codes "step" ∷ rest)) (steps_of rest)
 step_shapes limit [] whole = shapeless refl refl
 step_shapes limit (cpu ∷ []) whole = shapeless refl refl
 step_shapes limit (cpu ∷ count ∷ []) whole =
@@ -337,10 +398,12 @@ step_shapes limit (cpu ∷ count ∷ a ∷ rest) whole = shapeless (no_start lim
 
 show_shapes : (limit : ℕ) (rest : List (List ℕ)) → TellsLine (requests limit) (codes "show" ∷ rest) (HasEvents (codes "show" ∷ rest)) (show_of rest)
 show_shapes limit [] = shaped show (Ok Show) refl refl (passes_word show (codes "show" ∷ []) 0 _ refl (none_yet show (codes "show" ∷ [])), refl)
-show_shapes limit (a ∷ rest) = shapeless (no_start limit (codes "show") (a ∷ rest) refl ∙ skips_word (codes "show") (a ∷ rest) (codes "step") (drop 1 step) (show ∷ []) refl) refl
+show_shapes limit (a ∷ rest) =
+    shapeless (no_start limit (codes "show") (a ∷ rest) refl ∙ skips_word (codes "show") (a ∷ rest) (codes "step") (drop 1 step) (show ∷ []) refl) refl
 
 -- the fields of a line that is no title, no table and no labels
-request_told : (limit : ℕ) → limit ≤ NR_CPUS → (fields : List (List ℕ)) → are_whole fields ≡ true → TellsLine (requests limit) fields (HasEvents fields) (directive_of limit fields)
+request_told : (limit : ℕ) → limit ≤ NR_CPUS → (fields : List (List ℕ)) → are_whole fields ≡ true
+    → TellsLine (requests limit) fields (HasEvents fields) (directive_of limit fields)
 request_told limit few [] whole = shapeless refl refl
 request_told limit few (a ∷ rest) whole = elim (cases_Bool (bytes_eq a (codes "start"))) [
   | inl start_ ↦
@@ -353,7 +416,8 @@ request_told limit few (a ∷ rest) whole = elim (cases_Bool (bytes_eq a (codes 
     | inr no_step ↦ elim (cases_Bool (bytes_eq a (codes "show"))) [
       | inl show_ ↦ rw (same_word a (codes "show") show_) (show_shapes limit rest)
       | inr no_show ↦
-          shapeless (no_start limit a rest no_a_start ∙ skips_word a rest (codes "step") (drop 1 step) (show ∷ []) no_step ∙ skips_word a rest (codes "show") [] [] no_show)
+          shapeless (no_start limit a rest no_a_start ∙ skips_word a rest (codes "step") (drop 1 step) (show ∷ []) no_step
+          ∙ skips_word a rest (codes "show") [] [] no_show)
           (rw (no_a_start, no_step, no_show) refl)
     ]
   ]
@@ -366,7 +430,8 @@ has_texts (word w ∷ forms) = not (length w == 0) && has_texts forms
 has_texts (words ws ∷ forms) = list_all (λ w. not (length w == 0)) ws && has_texts forms
 has_texts (_ ∷ forms) = has_texts forms
 
-one_of_texts : (ws : List (List ℕ)) (field : List ℕ) → list_all (λ w. not (length w == 0)) ws ≡ true → is_one_of ws field ≡ true → not (length field == 0) ≡ true
+one_of_texts : (ws : List (List ℕ)) (field : List ℕ) → list_all (λ w. not (length w == 0)) ws ≡ true → is_one_of ws field ≡ true
+    → not (length field == 0) ≡ true
 one_of_texts [] field h e = cc
 one_of_texts (w ∷ ws) field h e =
     let parts = and_parts (not (length w == 0)) (list_all (λ x. not (length x == 0)) ws) h in
@@ -413,10 +478,21 @@ no_whole fields shape h e = elim (cases_Bool (has_shape fields shape)) [
 pub line_told : (limit : ℕ) → limit ≤ NR_CPUS → (fields : List (List ℕ)) → TellsLine (requests limit) fields (HasEvents fields) (whole_directive limit fields)
 line_told limit few fields = elim (cases_Bool (are_whole fields)) [
   | inl whole ↦ rw whole (request_told limit few fields whole)
-  | inr empty ↦ shapeless (rw (no_whole fields post refl empty, no_whole fields (begin limit) refl empty, no_whole fields nudge refl empty, no_whole fields numbered refl empty, no_whole fields answered refl empty, no_whole fields bare refl empty, no_whole fields step refl empty, no_whole fields show refl empty) refl) (rw empty refl)
+  | inr empty ↦
+      shapeless (rw (
+        no_whole fields post refl empty,
+        no_whole fields (begin limit) refl empty,
+        no_whole fields nudge refl empty,
+        no_whole fields numbered refl empty,
+        no_whole fields answered refl empty,
+        no_whole fields bare refl empty,
+        no_whole fields step refl empty,
+        no_whole fields show refl empty,
+      ) refl) (rw empty refl)
 ]
 
-title_right : (version : Version) → Tells title (codes "smp" ∷ version_text version ∷ codes "replay" ∷ []) (λ v. events_in (codes "smp" ∷ version_text version ∷ codes "replay" ∷ []) ≡ 0) (Ok version)
+title_right : (version : Version) → Tells title (codes "smp" ∷ version_text version ∷ codes "replay" ∷ [])
+    (λ v. events_in (codes "smp" ∷ version_text version ∷ codes "replay" ∷ []) ≡ 0) (Ok version)
 title_right version =
     let fields = codes "smp" ∷ version_text version ∷ codes "replay" ∷ [] in
     (passes_word title fields 2 _ refl (passes title fields 1 versions refl (λ cause f. f) (passes_word title fields 0 _ refl (none_yet title fields))), refl)
@@ -431,9 +507,11 @@ title_told (a ∷ b ∷ c ∷ []) = elim (cases_Bool (bytes_eq a (codes "smp")))
   | inl is_a ↦ elim (cases_Bool (bytes_eq c (codes "replay"))) [
     | inr no_c ↦ shapeless (rw no_c refl) (rw (is_a, no_c) refl)
     | inl is_c ↦ elim (cases_Bool (bytes_eq b (version_text One))) [
-      | inl is_b ↦ rw (same_word a (codes "smp") is_a, same_word b (version_text One) is_b, same_word c (codes "replay") is_c) (shaped title (Ok One) refl refl (title_right One))
+      | inl is_b ↦ rw (same_word a (codes "smp") is_a, same_word b (version_text One) is_b, same_word c (codes "replay") is_c)
+          (shaped title (Ok One) refl refl (title_right One))
       | inr no_one ↦ elim (cases_Bool (bytes_eq b (version_text Two))) [
-        | inl is_b ↦ rw (same_word a (codes "smp") is_a, same_word b (version_text Two) is_b, same_word c (codes "replay") is_c) (shaped title (Ok Two) refl refl (title_right Two))
+        | inl is_b ↦ rw (same_word a (codes "smp") is_a, same_word b (version_text Two) is_b, same_word c (codes "replay") is_c)
+            (shaped title (Ok Two) refl refl (title_right Two))
         | inr no_two ↦ shapeless (rw (is_c, no_one, no_two) refl) (rw (is_a, is_c, no_one, no_two) refl)
       ]
     ]

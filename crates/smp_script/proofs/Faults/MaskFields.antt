@@ -23,7 +23,8 @@ pub data ListRead (limit : ℕ) (text : List ℕ) : Type 0 where
   a_list : (m : ℕ) → mask_of limit text ≡ Ok m → IsMaskOf limit text m → ListRead limit text
   no_list : mask_of limit text ≡ Err Mask → ((m : ℕ) → IsMask limit text m → ⊥) → ListRead limit text
 
-read_list : (limit : ℕ) (text : List ℕ) → limit ≤ NR_CPUS → bytes_eq text (codes "-") ≡ false → (r : Result ℕ SmpError) → mask_of_text NR_CPUS text ≡ r → ListRead limit text
+read_list : (limit : ℕ) (text : List ℕ) → limit ≤ NR_CPUS → bytes_eq text (codes "-") ≡ false → (r : Result ℕ SmpError) → mask_of_text NR_CPUS text ≡ r
+    → ListRead limit text
 read_list limit text few h (Err e) read =
     let bad = refused NR_CPUS (omega arith) (omega arith) text e read in
     no_list (rw (h, read) refl) (λ m f. elim f [

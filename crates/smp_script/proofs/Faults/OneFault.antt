@@ -13,12 +13,14 @@ use Rattle.smp_script.specs.Shapes.{Form, word, words, number, signed, cpu_list,
 use Rattle.smp_script.specs.FieldFaults.{field_at, value_of, FieldFault, ItemsFault, MaskFault, NumberFault, OnlineFault, SignedFault, is_signed}
 use Rattle.smp_script.specs.Labels.{has_number, items_of}
 use Rattle.std.specs.List.{list_all}
-use Rattle.smp_script.specs.FirstFault.{LineFault, past_lines, unended, no_shape, wrong_field, past_events, IsFault, IsFirstFault, past_bytes, no_line, in_line, events_to, limit_in}
+use Rattle.smp_script.specs.FirstFault.{LineFault, past_lines, unended, no_shape, wrong_field, past_events, IsFault, IsFirstFault, past_bytes, no_line, in_line}
+use Rattle.smp_script.specs.FirstFault.{events_to, limit_in}
 use Rattle.smp_script.proofs.Faults.LineFaults.{place_within}
 use Rattle.smp_script.proofs.Faults.FirstFaults.{TellsText, script_tells}
 
 -- a number's fault is of its form or of its range
-is_number_fault : (low high : ℕ) (text : List ℕ) (c : Cause) → NumberFault low high text c → ((c ≡ Number) × (is_decimal text ≡ false)) ⊎ ((c ≡ Range) × (is_decimal text ≡ true))
+is_number_fault : (low high : ℕ) (text : List ℕ) (c : Cause) → NumberFault low high text c
+    → ((c ≡ Number) × (is_decimal text ≡ false)) ⊎ ((c ≡ Range) × (is_decimal text ≡ true))
 is_number_fault low high text Number f = inl (refl, f)
 is_number_fault low high text Range f = inr (refl, f.0)
 is_number_fault low high text _ f = absurd f
@@ -36,7 +38,8 @@ number_cause low high text c d f g = elim (is_number_fault low high text c f) [
 ]
 
 -- a mask's fault is of its form or of its CPUs
-is_online_fault : (limit nr : ℕ) (text : List ℕ) (c : Cause) → OnlineFault limit nr text c → ((c ≡ Mask) × OnlineFault limit nr text Mask) ⊎ ((c ≡ Range) × OnlineFault limit nr text Range)
+is_online_fault : (limit nr : ℕ) (text : List ℕ) (c : Cause) → OnlineFault limit nr text c
+    → ((c ≡ Mask) × OnlineFault limit nr text Mask) ⊎ ((c ≡ Range) × OnlineFault limit nr text Range)
 is_online_fault limit nr text Mask f = inl (refl, f)
 is_online_fault limit nr text Range f = inr (refl, f)
 is_online_fault limit nr text _ f = absurd f
@@ -80,7 +83,8 @@ mask_cause : (limit : ℕ) (text : List ℕ) (c d : Cause) → MaskFault limit t
 mask_cause limit text c d f g = is_mask_fault limit text c f ∙ sym (is_mask_fault limit text d g)
 
 -- the items' faults are of their form or of their range
-is_items_fault : (keys : ℕ) (text : List ℕ) (c : Cause) → ItemsFault keys text c → ((c ≡ Number) × (list_all has_number (items_of text) ≡ false)) ⊎ ((c ≡ Range) × (list_all has_number (items_of text) ≡ true))
+is_items_fault : (keys : ℕ) (text : List ℕ) (c : Cause) → ItemsFault keys text c
+    → ((c ≡ Number) × (list_all has_number (items_of text) ≡ false)) ⊎ ((c ≡ Range) × (list_all has_number (items_of text) ≡ true))
 is_items_fault keys text Number f = inl (refl, f)
 is_items_fault keys text Range f = inr (refl, f.0)
 is_items_fault keys text _ f = absurd f
@@ -119,12 +123,15 @@ line_cause limit n events line k m c d e (wrong_field i {shape = a} {form = v} s
     let shape : b ≡ a = cc in
     let there : slice_get a i ≡ Some u = subst (λ k. slice_get a k ≡ Some u) place (subst (λ z. slice_get z j ≡ Some u) shape x) in
     let form : u ≡ v = cc in
-    let wrong : FieldFault (fields_of line.text) i v d = subst (λ z. FieldFault (fields_of line.text) i z d) form (subst (λ k. FieldFault (fields_of line.text) k u d) place g) in
+    let wrong : FieldFault (fields_of line.text) i v d =
+    subst (λ z. FieldFault (fields_of line.text) i z d) form (subst (λ k. FieldFault (fields_of line.text) k u d) place g) in
     field_cause (fields_of line.text) i v c d f wrong
-line_cause limit n events line k m c d e (wrong_field i {shape = a} {form = v} s w f) (past_events g) = absurd (omega (arith, e, place_within limit n (fields_of line.text) a i v s w))
+line_cause limit n events line k m c d e (wrong_field i {shape = a} {form = v} s w f) (past_events g) =
+    absurd (omega (arith, e, place_within limit n (fields_of line.text) a i v s w))
 line_cause limit n events line k m c d e (wrong_field i s w f) _ = absurd (omega (arith, e))
 line_cause limit n events line k m c d e (past_events f) (past_events g) = refl
-line_cause limit n events line k m c d e (past_events f) (wrong_field j {shape = b} {form = u} t x g) = absurd (omega (arith, e, place_within limit n (fields_of line.text) b j u t x))
+line_cause limit n events line k m c d e (past_events f) (wrong_field j {shape = b} {form = u} t x g) =
+    absurd (omega (arith, e, place_within limit n (fields_of line.text) b j u t x))
 line_cause limit n events line k m c d e (past_events f) _ = absurd (omega (arith, e))
 
 -- and in a text
@@ -140,7 +147,8 @@ fault_cause limit text n k m l c d e r (in_line i {line = a} here f) (in_line j 
     let place : j ≡ i = omega (arith, e) in
     let found : slice_get (lines_of text) i ≡ Some b = subst (λ x. slice_get (lines_of text) x ≡ Some b) place there in
     let line : b ≡ a = cc in
-    line_cause limit (i + 1) (events_to text (i + 1)) a k l c d r f (subst (λ x. LineFault limit (i + 1) (events_to text (i + 1)) x l d) line (subst (λ x. LineFault limit (x + 1) (events_to text (x + 1)) b l d) place g))
+    line_cause limit (i + 1) (events_to text (i + 1)) a k l c d r f
+    (subst (λ x. LineFault limit (i + 1) (events_to text (i + 1)) x l d) line (subst (λ x. LineFault limit (x + 1) (events_to text (x + 1)) b l d) place g))
 
 -- first faults are in one line
 one_line : (limit : ℕ) (text : List ℕ) (n m : ℕ) (c d : Cause) → IsFirstFault limit text n c → IsFirstFault limit text m d → n ≡ m
@@ -159,7 +167,8 @@ one_cause limit text n m c d a b e = elim (cases_order a.rank b.rank) [
 ]
 
 -- a text with a first fault is refused with it
-refused_with : (limit : ℕ) (text : List ℕ) (n : ℕ) (cause : Cause) → IsFirstFault limit text n cause → (r : Result Script Fault) → TellsText limit text r → r ≡ Err (n, cause)
+refused_with : (limit : ℕ) (text : List ℕ) (n : ℕ) (cause : Cause) → IsFirstFault limit text n cause → (r : Result Script Fault) → TellsText limit text r
+    → r ≡ Err (n, cause)
 refused_with limit text n cause h (Ok script) tells = absurd (tells n h.rank cause h.fault)
 refused_with limit text n cause h (Err fault) tells =
     let line = one_line limit text n fault.0 cause fault.1 h tells in
@@ -170,14 +179,16 @@ pub is_refused : (text : List ℕ) (n : ℕ) (cause : Cause) → IsFirstFault (l
 is_refused text n cause h = refused_with (limit_in text) text n cause h (script_of text) (script_tells text)
 
 -- a text without a fault is read
-read_then : (limit : ℕ) (text : List ℕ) → ((n rank : ℕ) (cause : Cause) → IsFault limit text n rank cause → ⊥) → (r : Result Script Fault) → TellsText limit text r → is_ok r ≡ true
+read_then : (limit : ℕ) (text : List ℕ) → ((n rank : ℕ) (cause : Cause) → IsFault limit text n rank cause → ⊥) → (r : Result Script Fault)
+    → TellsText limit text r → is_ok r ≡ true
 read_then limit text none (Ok script) tells = refl
 read_then limit text none (Err fault) tells = absurd (none fault.0 tells.rank fault.1 tells.fault)
 
 pub is_read : (text : List ℕ) → ((n rank : ℕ) (cause : Cause) → IsFault (limit_in text) text n rank cause → ⊥) → is_ok (script_of text) ≡ true
 is_read text none = read_then (limit_in text) text none (script_of text) (script_tells text)
 
-none_then : (limit : ℕ) (text : List ℕ) (r : Result Script Fault) → TellsText limit text r → is_ok r ≡ true → (n rank : ℕ) (cause : Cause) → IsFault limit text n rank cause → ⊥
+none_then : (limit : ℕ) (text : List ℕ) (r : Result Script Fault) → TellsText limit text r → is_ok r ≡ true → (n rank : ℕ) (cause : Cause)
+    → IsFault limit text n rank cause → ⊥
 none_then limit text (Ok script) tells h = tells
 none_then limit text (Err fault) tells h = cc
 

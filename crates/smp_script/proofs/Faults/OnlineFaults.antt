@@ -1,5 +1,6 @@
 -- The mask of the CPUs online, and what is wrong with its field.
-use Rattle.std.proofs.Common.{◌≡◌, ℕ, ◌≤◌, true, false, ◌==◌, nat_lt, List, [], ◌∷◌, length, drop, get_or, Ok, Err, codes, refl, sym, ◌∙◌, inl, inr, arith, subst}
+use Rattle.std.proofs.Common.{◌≡◌, ℕ, ◌≤◌, true, false, ◌==◌, nat_lt, List, [], ◌∷◌, length, drop, get_or, Ok, Err, codes, refl, sym, ◌∙◌, inl, inr, arith}
+use Rattle.std.proofs.Common.{subst}
 use Rattle.std.specs.Str.{bytes_eq}
 use Rattle.std.proofs.lemmas.Bool.{cases_Bool, cases_lt, and_parts}
 use Rattle.std.proofs.lemmas.Bool.Decides.{nat_tests}
@@ -59,10 +60,12 @@ data MaskRead (limit nr : ℕ) (text : List ℕ) : Type 0 where
   no_mask : mask_of limit text ≡ Err Mask → OnlineFault limit nr text Mask → MaskRead limit nr text
   outside : (m : ℕ) → mask_of limit text ≡ Ok m → are_online nr m ≡ false → OnlineFault limit nr text Range → MaskRead limit nr text
 
-right_mask : (limit nr m : ℕ) (text : List ℕ) → limit ≤ NR_CPUS → bytes_eq text (codes "-") ≡ false → IsMaskOf limit text m → are_online nr m ≡ true → (cause : Cause) → OnlineFault limit nr text cause → ⊥
+right_mask : (limit nr m : ℕ) (text : List ℕ) → limit ≤ NR_CPUS → bytes_eq text (codes "-") ≡ false → IsMaskOf limit text m → are_online nr m ≡ true
+    → (cause : Cause) → OnlineFault limit nr text cause → ⊥
 right_mask limit nr m text few h is on Mask f = f m (inr is)
 right_mask limit nr m text few h is on Range (other, inl dash, out) = no_word text h dash.0
-right_mask limit nr m text few h is on Range (other, inr same, out) = not_outside nr m (are_cpus limit text m few is) on (subst (IsOutside nr) (one_mask limit text other m same is) out)
+right_mask limit nr m text few h is on Range (other, inr same, out) =
+    not_outside nr m (are_cpus limit text m few is) on (subst (IsOutside nr) (one_mask limit text other m same is) out)
 right_mask limit nr m text few h is on _ f = f
 
 online_read : (limit nr : ℕ) (text : List ℕ) → limit ≤ NR_CPUS → bytes_eq text (codes "-") ≡ false → MaskRead limit nr text
@@ -82,10 +85,12 @@ mask_read limit nr text few = elim (cases_Bool (bytes_eq text (codes "-"))) [
       outside 0 (rw dash refl) (rw empty refl) (0, inl (same_word text (codes "-") dash, refl), inl has_none)
 ]
 
-table_told : (limit : ℕ) (nr mask : List ℕ) → limit ≤ NR_CPUS → Tells (cpus limit) (codes "cpus" ∷ nr ∷ mask ∷ []) (λ t. events_in (codes "cpus" ∷ nr ∷ mask ∷ []) ≡ 0) (table_of limit nr mask)
+table_told : (limit : ℕ) (nr mask : List ℕ) → limit ≤ NR_CPUS
+    → Tells (cpus limit) (codes "cpus" ∷ nr ∷ mask ∷ []) (λ t. events_in (codes "cpus" ∷ nr ∷ mask ∷ []) ≡ 0) (table_of limit nr mask)
 table_told limit nr mask few =
     let fields = codes "cpus" ∷ nr ∷ mask ∷ [] in
-    reads_number (cpus limit) fields (λ t. events_in fields ≡ 0) 1 1 limit _ refl (passes_word (cpus limit) fields 0 _ refl (none_yet (cpus limit) fields)) (λ two. elim (mask_read limit (value_of nr) mask few) [
+    reads_number (cpus limit) fields (λ t. events_in fields ≡ 0) 1 1 limit _ refl (passes_word (cpus limit) fields 0 _ refl (none_yet (cpus limit) fields))
+    (λ two. elim (mask_read limit (value_of nr) mask few) [
       | is_read m read on right ↦ rw (read, on) (passes (cpus limit) fields 2 (online limit) refl right two, refl)
       | no_mask read wrong ↦ rw read (record { place = 2; form = online limit; wants = refl; wrong = wrong; before = two })
       | outside m read off wrong ↦ rw (read, off) (record { place = 2; form = online limit; wants = refl; wrong = wrong; before = two })
@@ -95,7 +100,8 @@ table_told limit nr mask few =
 no_cpus : (limit : ℕ) (fields : List (List ℕ)) → are_whole fields ≡ false → has_shape fields (cpus limit) ≡ false
 no_cpus limit fields empty = no_whole fields (cpus limit) refl empty
 
-cpus_shapes : (limit : ℕ) (fields : List (List ℕ)) → limit ≤ NR_CPUS → are_whole fields ≡ true → TellsLine (cpus limit ∷ []) fields (λ t. events_in fields ≡ 0) (cpus_of limit fields)
+cpus_shapes : (limit : ℕ) (fields : List (List ℕ)) → limit ≤ NR_CPUS → are_whole fields ≡ true
+    → TellsLine (cpus limit ∷ []) fields (λ t. events_in fields ≡ 0) (cpus_of limit fields)
 cpus_shapes limit [] few whole = shapeless refl refl
 cpus_shapes limit (a ∷ []) few whole = shapeless refl refl
 cpus_shapes limit (a ∷ b ∷ []) few whole = shapeless refl refl
@@ -109,7 +115,8 @@ cpus_shapes limit (a ∷ nr ∷ mask ∷ []) few whole = elim (cases_Bool (bytes
 cpus_shapes limit (a ∷ b ∷ c ∷ d ∷ rest) few whole = shapeless refl refl
 
 -- what reading the second line tells
-pub cpus_told : (limit : ℕ) (fields : List (List ℕ)) → limit ≤ NR_CPUS → TellsLine (cpus limit ∷ []) fields (λ t. events_in fields ≡ 0) (whole_cpus limit fields)
+pub cpus_told : (limit : ℕ) (fields : List (List ℕ)) → limit ≤ NR_CPUS
+    → TellsLine (cpus limit ∷ []) fields (λ t. events_in fields ≡ 0) (whole_cpus limit fields)
 cpus_told limit fields few = elim (cases_Bool (are_whole fields)) [
   | inl whole ↦ rw whole (cpus_shapes limit fields few whole)
   | inr empty ↦ shapeless (rw (no_cpus limit fields empty) refl) (rw empty refl)

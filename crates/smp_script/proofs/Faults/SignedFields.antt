@@ -34,12 +34,14 @@ plain_judged b bs plain = elim (cases_Bool (is_decimal (b ∷ bs))) [
       faulty Number (rw (plain, read) refl) (rw (plain, bad) refl)
   | inl good ↦ elim (cases_Bool (nat_lt 2147483647 (value_of (b ∷ bs)))) [
     | inl far ↦ faulty Range (rw (plain, number_far 2147483647 (b ∷ bs) good far) refl) (rw (plain, good) refl, rw (plain, far) refl)
-    | inr near ↦ fine (pos (value_of (b ∷ bs))) (rw (plain, number_near 2147483647 (b ∷ bs) good near) refl) (right_signed (b ∷ bs) (rw (plain, good) refl) (rw (plain, near) refl))
+    | inr near ↦ fine (pos (value_of (b ∷ bs))) (rw (plain, number_near 2147483647 (b ∷ bs) good near) refl)
+        (right_signed (b ∷ bs) (rw (plain, good) refl) (rw (plain, near) refl))
   ]
 ]
 
 -- what stands after the sign
-negated : (b : ℕ) (bs : List ℕ) (n : ℕ) → (b == 45) ≡ true → is_decimal bs ≡ true → nat_lt 2147483648 (value_of bs) ≡ false → value_of bs ≡ n → Judged (SignedFault (b ∷ bs)) (minus n)
+negated : (b : ℕ) (bs : List ℕ) (n : ℕ) → (b == 45) ≡ true → is_decimal bs ≡ true → nat_lt 2147483648 (value_of bs) ≡ false → value_of bs ≡ n
+    → Judged (SignedFault (b ∷ bs)) (minus n)
 negated b bs zero sign good near e =
     let none : (value_of bs == 0) ≡ true = grind (arith, nat_tests, e) in
     faulty Number refl (rw (sign, good, none) refl)

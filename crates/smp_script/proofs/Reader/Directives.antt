@@ -1,5 +1,6 @@
 -- The lines of a script, one by one.
-use Rattle.std.proofs.Common.{◌≡◌, ℕ, ◌+◌, ◌≤◌, ◌<◌, List, [], ◌∷◌, ◌++◌, Result, Ok, Err, true, false, nat_lt, refl, sym, ap, ◌∙◌, arith, append_assoc, append-nil, sum_by}
+use Rattle.std.proofs.Common.{◌≡◌, ℕ, ◌+◌, ◌≤◌, ◌<◌, List, [], ◌∷◌, ◌++◌, Result, Ok, Err, true, false, nat_lt, refl, sym, ap, ◌∙◌, arith, append_assoc}
+use Rattle.std.proofs.Common.{append-nil, sum_by}
 use Rattle.std.proofs.lemmas.List.Sums.{sum_by-append}
 use Rattle.std.proofs.lemmas.Bool.Decides.{nat_tests}
 use Rattle.smp_mask.specs.declared.error.Cause.TheVariants.{TooLong, Cut}
@@ -40,7 +41,8 @@ is_cut {limit} {n} {events} {front} l ls s e h ended =
 
 -- a line that is no directive's
 pub is_bad : {limit n events : ℕ} {front : List Directive} {lines : List Line} {all : Result (List Directive) Fault} (l : Line) (ls : List Line)
-    → Stands limit n events front lines all → lines ≡ l ∷ ls → n ≤ 2000 → l.ended ≡ true → (d : SmpError) → Fails d (at_line n (line_directive limit l.text)) → Fails d all
+    → Stands limit n events front lines all → lines ≡ l ∷ ls → n ≤ 2000 → l.ended ≡ true → (d : SmpError) → Fails d (at_line n (line_directive limit l.text))
+    → Fails d all
 unfolding directives_of
 is_bad l ls s e h ended errors.NoMemory f = tt
 is_bad {limit} {n} {events} {front} l ls s e h ended (errors.BadScript k cause) f =
@@ -61,7 +63,8 @@ is_bad l ls s e h ended (errors.KeyRange k) f = absurd f
 
 -- the line that passes the limit of events
 pub is_past : {limit n events : ℕ} {front : List Directive} {lines : List Line} {all : Result (List Directive) Fault} (l : Line) (ls : List Line)
-    → Stands limit n events front lines all → lines ≡ l ∷ ls → n ≤ 2000 → l.ended ≡ true → (directive : Directive) → at_line n (line_directive limit l.text) ≡ Ok directive → 100000 < events + events_of directive → all ≡ Err (n, TooLong)
+    → Stands limit n events front lines all → lines ≡ l ∷ ls → n ≤ 2000 → l.ended ≡ true → (directive : Directive)
+    → at_line n (line_directive limit l.text) ≡ Ok directive → 100000 < events + events_of directive → all ≡ Err (n, TooLong)
 unfolding directives_of
 is_past {limit} {n} {events} {front} l ls s e h ended directive f past =
     let t : nat_lt 2000 n ≡ false = grind (arith, nat_tests) in
@@ -69,26 +72,31 @@ is_past {limit} {n} {events} {front} l ls s e h ended directive f past =
     let r : with_front front (directives_of limit n events (l ∷ ls)) ≡ Err (n, TooLong) = rw (t, ended, f) (rw u refl) in
     sym s.told ∙ ap (λ x. with_front front (directives_of limit n events x)) e ∙ r
 
-front_push : (front : List Directive) (directive : Directive) (read : Result (List Directive) Fault) → with_front front (read >>= λ ds. Ok (directive ∷ ds)) ≡ with_front (front ++ directive ∷ []) read
+front_push : (front : List Directive) (directive : Directive) (read : Result (List Directive) Fault)
+    → with_front front (read >>= λ ds. Ok (directive ∷ ds)) ≡ with_front (front ++ directive ∷ []) read
 front_push front directive (Ok directives) = ap Ok (sym (append_assoc front (directive ∷ []) directives))
 front_push front directive (Err e) = refl
 
 -- one directive more
 pub goes_on : {limit n events : ℕ} {front : List Directive} {lines : List Line} {all : Result (List Directive) Fault} (l : Line) (ls : List Line)
-    → Stands limit n events front lines all → lines ≡ l ∷ ls → n ≤ 2000 → l.ended ≡ true → (directive : Directive) → at_line n (line_directive limit l.text) ≡ Ok directive → events + events_of directive ≤ 100000
+    → Stands limit n events front lines all → lines ≡ l ∷ ls → n ≤ 2000 → l.ended ≡ true → (directive : Directive)
+    → at_line n (line_directive limit l.text) ≡ Ok directive → events + events_of directive ≤ 100000
     → Stands limit (n + 1) (events + events_of directive) (front ++ directive ∷ []) ls all
 unfolding directives_of
 goes_on {limit} {n} {events} {front} l ls s e h ended directive f fits =
     let t : nat_lt 2000 n ≡ false = grind (arith, nat_tests) in
     let u : nat_lt 100000 (events + events_of directive) ≡ false = grind (arith, nat_tests) in
-    let r : with_front front (directives_of limit n events (l ∷ ls)) ≡ with_front front (directives_of limit (n + 1) (events + events_of directive) ls >>= λ ds. Ok (directive ∷ ds)) = rw (t, ended, f) (rw u refl) in
+    let r : with_front front (directives_of limit n events (l ∷ ls)) ≡ with_front front
+    (directives_of limit (n + 1) (events + events_of directive) ls >>= λ ds. Ok (directive ∷ ds)) = rw (t, ended, f) (rw u refl) in
     record {
-      told = sym (front_push front directive (directives_of limit (n + 1) (events + events_of directive) ls)) ∙ sym r ∙ ap (λ x. with_front front (directives_of limit n events x)) (sym e) ∙ s.told;
+      told = sym (front_push front directive (directives_of limit (n + 1) (events + events_of directive) ls)) ∙ sym r
+          ∙ ap (λ x. with_front front (directives_of limit n events x)) (sym e) ∙ s.told;
       line = omega arith;
       events = fits;
       total = grind (arith, s.total, sum_by-append events_of front (directive ∷ []));
     }
 
-pub ends : {limit n events : ℕ} {front : List Directive} {lines : List Line} {all : Result (List Directive) Fault} → Stands limit n events front lines all → lines ≡ [] → all ≡ Ok front
+pub ends : {limit n events : ℕ} {front : List Directive} {lines : List Line} {all : Result (List Directive) Fault} → Stands limit n events front lines all
+    → lines ≡ [] → all ≡ Ok front
 unfolding directives_of
 ends {limit} {n} {events} {front} s e = sym s.told ∙ ap (λ x. with_front front (directives_of limit n events x)) e ∙ ap Ok (append-nil front)

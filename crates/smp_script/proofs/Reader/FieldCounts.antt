@@ -15,7 +15,8 @@ not_six f cpu (a ∷ b ∷ c ∷ d ∷ i ∷ j ∷ []) h = elim h [ inl few ↦ 
 not_six f cpu (a ∷ b ∷ c ∷ d ∷ i ∷ j ∷ k ∷ xs) h = refl
 
 -- a begin five
-pub not_five : {X : Type 0} (f : X → List ℕ) (limit : ℕ) (cpu : List ℕ) (xs : List X) → (length xs < 5) ⊎ (5 < length xs) → Err Word ≡ begins_of limit cpu (map f xs)
+pub not_five : {X : Type 0} (f : X → List ℕ) (limit : ℕ) (cpu : List ℕ) (xs : List X) → (length xs < 5) ⊎ (5 < length xs)
+    → Err Word ≡ begins_of limit cpu (map f xs)
 not_five f limit cpu [] h = refl
 not_five f limit cpu (a ∷ []) h = refl
 not_five f limit cpu (a ∷ b ∷ []) h = refl

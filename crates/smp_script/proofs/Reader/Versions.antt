@@ -13,6 +13,7 @@ limit_within One = omega arith
 limit_within Two = omega arith
 
 -- the first line tells it
-pub limit_told : (text : List ℕ) (l : Line) (ls : List Line) (version : Version) → lines_of text ≡ l ∷ ls → fields_of l.text ≡ codes "smp" ∷ version_text version ∷ codes "replay" ∷ [] → limit_in text ≡ limit_of version
+pub limit_told : (text : List ℕ) (l : Line) (ls : List Line) (version : Version) → lines_of text ≡ l ∷ ls
+    → fields_of l.text ≡ codes "smp" ∷ version_text version ∷ codes "replay" ∷ [] → limit_in text ≡ limit_of version
 limit_told text l ls One e f = rw (e, f) refl
 limit_told text l ls Two e f = rw (e, f) refl

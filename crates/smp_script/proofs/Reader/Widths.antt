@@ -1,5 +1,6 @@
 -- CPU lists by how wide they are: a list of CPUs below a limit is a wider list whose mask stays below it.
-use Rattle.std.proofs.Common.{◌≡◌, ℕ, zero, suc, ◌<◌, ◌≤◌, Bool, true, false, ◌&&◌, nat_lt, nat_le, List, [], ◌∷◌, ◌++◌, length, get_or, Ok, refl, sym, ap, ◌∙◌, inl, inr, arith, subst}
+use Rattle.std.proofs.Common.{◌≡◌, ℕ, zero, suc, ◌<◌, ◌≤◌, Bool, true, false, ◌&&◌, nat_lt, nat_le, List, [], ◌∷◌, ◌++◌, length, get_or, Ok, refl, sym, ap, ◌∙◌}
+use Rattle.std.proofs.Common.{inl, inr, arith, subst}
 use Rattle.std.specs.List.{list_all}
 use Rattle.std.proofs.lemmas.Bool.{cases_Bool, cases_lt, and_parts, or_cases, or_right}
 use Rattle.std.proofs.lemmas.Bool.Decides.{nat_tests}
@@ -100,13 +101,15 @@ named_later i is cpu h = or_right (is_within cpu i) (names is cpu) h
 
 items_narrower : (limit : ℕ) (items : _) → AreItems NR_CPUS items → ((cpu : ℕ) → names items cpu ≡ true → cpu < limit) → AreItems limit items
 items_narrower limit [] h below = tt
-items_narrower limit (i ∷ is) h below = ((h.0.0, below (highest i) (named_first i is h.0.0)), items_narrower limit is h.1 (λ cpu e. below cpu (named_later i is cpu e)))
+items_narrower limit (i ∷ is) h below =
+    ((h.0.0, below (highest i) (named_first i is h.0.0)), items_narrower limit is h.1 (λ cpu e. below cpu (named_later i is cpu e)))
 
 -- a list of CPUs below the limit is a wider one, of the same mask
 pub wider : (limit : ℕ) (text : List ℕ) (m : ℕ) → limit ≤ NR_CPUS → IsMaskOf limit text m → IsMaskOf NR_CPUS text m
 wider limit text m few h =
     let is_list : IsListOf NR_CPUS text h.items = record { items_are = items_wider limit h.items few h.is_list.items_are; text_is = h.is_list.text_is } in
-    let read : mask_of_text NR_CPUS text ≡ Ok (with_items 0 h.items) = ap (mask_of_text NR_CPUS) h.is_list.text_is ∙ reads_list NR_CPUS (omega arith) h.items is_list.items_are in
+    let read : mask_of_text NR_CPUS text ≡ Ok (with_items 0 h.items) = ap (mask_of_text NR_CPUS) h.is_list.text_is
+    ∙ reads_list NR_CPUS (omega arith) h.items is_list.items_are in
     let all = accepted NR_CPUS (omega arith) text (with_items 0 h.items) read in
     let same = same_members (with_items 0 h.items) m (λ c. all.members h.items is_list c ∙ sym (h.members h.items h.is_list c)) in
     subst (λ n. IsMaskOf NR_CPUS text n) same all

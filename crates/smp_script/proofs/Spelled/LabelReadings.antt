@@ -1,5 +1,6 @@
 -- What a labels line is that is read.
-use Rattle.std.proofs.Common.{◌≡◌, ℕ, ◌<◌, ◌≤◌, true, false, nat_lt, nat_le, ◌&&◌, List, [], ◌∷◌, ◌++◌, map, length, Option, Some, None, Result, Ok, Err, cond, codes, refl, sym, ap, ◌∙◌, inl, inr, arith, subst}
+use Rattle.std.proofs.Common.{◌≡◌, ℕ, ◌<◌, ◌≤◌, true, false, nat_lt, nat_le, ◌&&◌, List, [], ◌∷◌, ◌++◌, map, length, Option, Some, None, Result, Ok, Err, cond}
+use Rattle.std.proofs.Common.{codes, refl, sym, ap, ◌∙◌, inl, inr, arith, subst}
 use Rattle.std.specs.Fmt.{decimal}
 use Rattle.std.specs.List.{join_with_byte, list_all}
 use Rattle.std.specs.Str.{bytes_eq}
@@ -14,17 +15,19 @@ use Rattle.smp_script.specs.Lines.{Line, fields_of, lines_of, parts_of}
 use Rattle.smp_script.specs.Numbers.{is_decimal, number_in, value_after}
 use Rattle.smp_script.specs.Faults.{Fault, ◌>>=◌, at_line}
 use Rattle.smp_script.specs.Commands.{are_whole}
-use Rattle.smp_script.specs.Labels.{entries_in, entry_in, entry_of, has_number, is_among, is_below, is_item, is_labels, item_in, items_of, labels_in, labels_of, whole_labels}
+use Rattle.smp_script.specs.Labels.{entries_in, entry_in, entry_of, has_number, is_among, is_below, is_item, is_labels, item_in, items_of, labels_in, labels_of}
+use Rattle.smp_script.specs.Labels.{whole_labels}
 use Rattle.smp_script.specs.Fields.{word32}
 use Rattle.smp_script.specs.Script.{labels_at}
 use Rattle.smp_script.specs.Spelling.{LabelsFit, item_text, items_text, labels_before, line_before}
 use Rattle.smp_script.proofs.Texts.Decimals.{number_in-ok}
 use Rattle.smp_script.proofs.Spelled.ReadParts.{both, guarded, placed_ok, same_word}
-use Rattle.smp_script.proofs.Reader.LabelItems.{make_labels}
+use Rattle.smp_script.proofs.Reader.Items.{make_labels}
 use Rattle.smp_script.proofs.Texts.Splits.{first_of, join_parts, line_back}
 
 -- a key that is below a number is its decimal
-key_back : (keys : ℕ) (key : List ℕ) → keys ≤ MOST_KEYS → (is_decimal key && nat_lt (value_after 0 key) keys) ≡ true → (word32 key ≡ Ok (value_after 0 key)) × (key ≡ decimal (value_after 0 key))
+key_back : (keys : ℕ) (key : List ℕ) → keys ≤ MOST_KEYS → (is_decimal key && nat_lt (value_after 0 key) keys) ≡ true
+    → (word32 key ≡ Ok (value_after 0 key)) × (key ≡ decimal (value_after 0 key))
 key_back keys key few h =
     let parts = and_parts (is_decimal key) (nat_lt (value_after 0 key) keys) h in
     let small : value_after 0 key < keys = grind (arith, nat_tests, parts.1) in
@@ -34,7 +37,8 @@ key_back keys key few h =
     (read, (number_in-ok 0 4294967295 key (value_after 0 key) (omega arith) read).0)
 
 -- an item is its entry's text
-parts_back : (keys : ℕ) (text : List ℕ) (ps : List (List ℕ)) → keys ≤ MOST_KEYS → parts_of 58 text ≡ ps → is_among keys (item_in ps) ≡ true → item_text (entry_in (item_in ps)) ≡ text
+parts_back : (keys : ℕ) (text : List ℕ) (ps : List (List ℕ)) → keys ≤ MOST_KEYS → parts_of 58 text ≡ ps → is_among keys (item_in ps) ≡ true
+    → item_text (entry_in (item_in ps)) ≡ text
 parts_back keys text [] few e h = cc
 parts_back keys text (key ∷ []) few e h = cc
 parts_back keys text (key ∷ branch ∷ []) few e h =
@@ -61,18 +65,24 @@ items_back keys (t ∷ ts) few h =
     ap (λ x. x ∷ map item_text (map entry_of ts)) (parts_back keys t (parts_of 58 t) few refl p.0) ∙ ap (λ xs. t ∷ xs) (items_back keys ts few p.1)
 
 -- and the field of all of them theirs
-field_back : (keys : ℕ) (field : List ℕ) → keys ≤ MOST_KEYS → list_all (is_below keys) (items_of field) ≡ true → items_text (map entry_of (items_of field)) ≡ field
+field_back : (keys : ℕ) (field : List ℕ) → keys ≤ MOST_KEYS → list_all (is_below keys) (items_of field) ≡ true
+    → items_text (map entry_of (items_of field)) ≡ field
 field_back keys field few h = elim (cases_Bool (bytes_eq field (codes "-"))) [
   | inl dash ↦ rw dash (sym (same_word field (codes "-") dash))
   | inr other ↦
       let first = first_of 44 field in
       let below : list_all (is_below keys) (first.part ∷ first.others) ≡ true = ap (list_all (is_below keys)) (sym first.are) ∙ (rw other at h) in
-      rw (other, first.are) (ap (join_with_byte 44) (items_back keys (first.part ∷ first.others) few below) ∙ ap (join_with_byte 44) (sym first.are) ∙ join_parts 44 field)
+      rw (other, first.are) (ap (join_with_byte 44) (items_back keys (first.part ∷ first.others) few below) ∙ ap (join_with_byte 44) (sym first.are)
+      ∙ join_parts 44 field)
 ]
 
-entries_ok : (keys : ℕ) (items : List (List ℕ)) (m : Labels) → entries_in keys items ≡ Ok m → (length items ≤ MOST_SITES) × (list_all (is_below keys) items ≡ true) × (record { keys = keys; entries = map entry_of items } ≡ m)
+entries_ok : (keys : ℕ) (items : List (List ℕ)) (m : Labels) → entries_in keys items ≡ Ok m
+    → (length items ≤ MOST_SITES) × (list_all (is_below keys) items ≡ true) × (record { keys = keys; entries = map entry_of items } ≡ m)
 entries_ok keys items m h =
-    let g = guarded (list_all has_number items) (cond (nat_lt MOST_SITES (length items)) (Err Range) (cond (list_all (is_below keys) items) (Ok (record { keys = keys; entries = map entry_of items })) (Err Range))) Number m h in
+    let g =
+    guarded (list_all has_number items)
+    (cond (nat_lt MOST_SITES (length items)) (Err Range)
+    (cond (list_all (is_below keys) items) (Ok (record { keys = keys; entries = map entry_of items })) (Err Range))) Number m h in
     elim (cases_Bool (nat_lt MOST_SITES (length items))) [
       | inl many ↦ let bad : ◌≡◌ {A = Result Labels Cause} (Err Range) (Ok m) = rw many at g.1 in cc
       | inr few ↦
@@ -102,7 +112,8 @@ labels_in_ok keys field m h =
       fit = rw map-id at fit;
     })
 
-labels_words : (fields : List (List ℕ)) (m : Labels) → is_labels fields ≡ true → labels_of fields ≡ Ok m → (fields ≡ codes "labels" ∷ decimal m.keys ∷ items_text m.entries ∷ []) × AreLabels m.keys m.entries
+labels_words : (fields : List (List ℕ)) (m : Labels) → is_labels fields ≡ true → labels_of fields ≡ Ok m
+    → (fields ≡ codes "labels" ∷ decimal m.keys ∷ items_text m.entries ∷ []) × AreLabels m.keys m.entries
 labels_words [] m is h = cc
 labels_words (word ∷ []) m is h = cc
 labels_words (word ∷ keys ∷ []) m is h = cc
@@ -132,9 +143,12 @@ labels_ok bs (l ∷ ls) third e h = elim (cases_Bool (is_labels (fields_of l.tex
       let g = guarded l.ended (at_line 3 (whole_labels (fields_of l.text)) >>= λ labels. Ok (Some labels, ls)) (3, Cut) third (rw is at h) in
       let a = both (at_line 3 (whole_labels (fields_of l.text))) (λ labels. Ok (Some labels, ls)) third g.1 in
       let same : ◌≡◌ {A = Option Labels × List Line} (Some a.value, ls) third = let t = a.then in cc in
-      let whole = guarded (are_whole (fields_of l.text)) (labels_of (fields_of l.text)) Word a.value (placed_ok 3 (whole_labels (fields_of l.text)) a.value a.first) in
+      let whole = guarded (are_whole (fields_of l.text)) (labels_of (fields_of l.text)) Word a.value
+      (placed_ok 3 (whole_labels (fields_of l.text)) a.value a.first) in
       let words = labels_words (fields_of l.text) a.value is whole.1 in
       let begins = line_back bs l ls e g.0 in
-      let text_is : l.text ≡ join_with_byte 32 (codes "labels" ∷ decimal a.value.keys ∷ items_text a.value.entries ∷ []) = sym (join_parts 32 l.text) ∙ ap (join_with_byte 32) words.0 in
-      subst (λ x. BeginsLabels bs x) same (record { rest = begins.rest; text_is = begins.text_is ∙ ap (λ t. t ++ 10 ∷ begins.rest) text_is; others_are = begins.others_are; fit = words.1 })
+      let text_is : l.text ≡ join_with_byte 32 (codes "labels" ∷ decimal a.value.keys ∷ items_text a.value.entries ∷ []) =
+      sym (join_parts 32 l.text) ∙ ap (join_with_byte 32) words.0 in
+      subst (λ x. BeginsLabels bs x) same
+      (record { rest = begins.rest; text_is = begins.text_is ∙ ap (λ t. t ++ 10 ∷ begins.rest) text_is; others_are = begins.others_are; fit = words.1 })
 ]

@@ -1,5 +1,6 @@
 -- What a text is that reads as a script.
-use Rattle.std.proofs.Common.{◌≡◌, ℕ, ◌+◌, ◌≤◌, ◌&&◌, true, nat_lt, List, [], ◌∷◌, ◌++◌, map, length, sum_by, Option, Some, None, Result, Ok, Err, codes, cond, refl, sym, ap, ◌∙◌, inl, inr, arith, subst}
+use Rattle.std.proofs.Common.{◌≡◌, ℕ, ◌+◌, ◌≤◌, ◌&&◌, true, nat_lt, List, [], ◌∷◌, ◌++◌, map, length, sum_by, Option, Some, None, Result, Ok, Err, codes, cond}
+use Rattle.std.proofs.Common.{refl, sym, ap, ◌∙◌, inl, inr, arith, subst}
 use Rattle.std.specs.Fmt.{decimal}
 use Rattle.std.specs.List.{AllByRecursion, join_with_byte, list_all}
 use Rattle.std.specs.Str.{bytes_eq}
@@ -15,7 +16,8 @@ use Rattle.smp_script.specs.Numbers.{number_in}
 use Rattle.smp_script.specs.Faults.{Fault, ◌>>=◌, at_line}
 use Rattle.smp_script.specs.Fields.{mask_of}
 use Rattle.smp_script.specs.Commands.{are_whole, line_directive}
-use Rattle.smp_script.specs.Script.{Script, are_online, cpus_of, directives_of, events_of, first_line, labels_at, line_at, script_of, table_of, title_of, whole_cpus}
+use Rattle.smp_script.specs.Script.{Script, are_online, cpus_of, directives_of, events_of, first_line, labels_at, line_at, script_of, table_of, title_of}
+use Rattle.smp_script.specs.Script.{whole_cpus}
 use Rattle.smp_script.specs.Spelling.{DirectiveFits, IsSpelling, Masks, SpellLine, directive_words, is_field, labels_before, line_before, spelled_lines}
 use Rattle.smp_script.proofs.Texts.Decimals.{number_in-ok}
 use Rattle.smp_script.proofs.Spelled.ReadParts.{both, guarded, placed_ok, same_word}
@@ -38,16 +40,23 @@ record AreLines (limit n events : ℕ) (bs : List ℕ) (ds : List Directive) : T
   count : n + length ds ≤ 2001
   total : events + sum_by events_of ds ≤ 100000
 
-lines_ok : (limit n events : ℕ) (ls : List Line) (bs : List ℕ) (ds : List Directive) → lines_of bs ≡ ls → n ≤ 2001 → events ≤ 100000 → directives_of limit n events ls ≡ Ok ds → AreLines limit n events bs ds
+lines_ok : (limit n events : ℕ) (ls : List Line) (bs : List ℕ) (ds : List Directive) → lines_of bs ≡ ls → n ≤ 2001 → events ≤ 100000
+    → directives_of limit n events ls ≡ Ok ds → AreLines limit n events bs ds
 unfolding directives_of spelled_lines line_before
 lines_ok limit n events [] bs ds e few under h =
     let none : [] ≡ ds = cc in
-    subst (λ x. AreLines limit n events bs x) none (record { lines = []; lines_are = refl; spell = tt; text = no_line bs e; fit = tt; count = omega arith; total = omega arith })
+    subst (λ x. AreLines limit n events bs x) none
+    (record { lines = []; lines_are = refl; spell = tt; text = no_line bs e; fit = tt; count = omega arith; total = omega arith })
 lines_ok limit n events (l ∷ ls) bs ds e few under h = elim (cases_Bool (nat_lt 2000 n)) [
   | inl many ↦ let bad : ◌≡◌ {A = Result (List Directive) Fault} (Err (n, TooLong)) (Ok ds) = rw many at h in cc
   | inr fits ↦
-      let g = guarded l.ended (at_line n (line_directive limit l.text) >>= λ d. cond (nat_lt 100000 (events + events_of d)) (Err (n, TooLong)) (directives_of limit (n + 1) (events + events_of d) ls >>= λ rest. Ok (d ∷ rest))) (n, Cut) ds (rw fits at h) in
-      let a = both (at_line n (line_directive limit l.text)) (λ d. cond (nat_lt 100000 (events + events_of d)) (Err (n, TooLong)) (directives_of limit (n + 1) (events + events_of d) ls >>= λ rest. Ok (d ∷ rest))) ds g.1 in
+      let g =
+      guarded l.ended (at_line n (line_directive limit l.text) >>= λ d. cond (nat_lt 100000 (events + events_of d)) (Err (n, TooLong))
+      (directives_of limit (n + 1) (events + events_of d) ls >>= λ rest. Ok (d ∷ rest))) (n, Cut) ds (rw fits at h) in
+      let a =
+      both (at_line n (line_directive limit l.text))
+      (λ d. cond (nat_lt 100000 (events + events_of d)) (Err (n, TooLong))
+      (directives_of limit (n + 1) (events + events_of d) ls >>= λ rest. Ok (d ∷ rest))) ds g.1 in
       let d = a.value in
       let begins = line_back bs l ls e g.0 in
       let here = line_ok limit l.text d begins.on_line (placed_ok n (line_directive limit l.text) d a.first) in
@@ -55,13 +64,15 @@ lines_ok limit n events (l ∷ ls) bs ds e few under h = elim (cases_Bool (nat_l
         | inl past ↦ let bad : ◌≡◌ {A = Result (List Directive) Fault} (Err (n, TooLong)) (Ok ds) = rw past at a.then in cc
         | inr within ↦
             let b = both (directives_of limit (n + 1) (events + events_of d) ls) (λ rest. Ok (d ∷ rest)) ds (rw within at a.then) in
-            let rest = lines_ok limit (n + 1) (events + events_of d) ls begins.rest b.value (sym begins.others_are) (grind (arith, nat_tests, fits)) (grind (arith, nat_tests, within)) b.first in
+            let rest = lines_ok limit (n + 1) (events + events_of d) ls begins.rest b.value (sym begins.others_are) (grind (arith, nat_tests, fits))
+            (grind (arith, nat_tests, within)) b.first in
             let same : d ∷ b.value ≡ ds = let t = b.then in cc in
             subst (λ x. AreLines limit n events bs x) same (record {
               lines = (here.masks, d) ∷ rest.lines;
               lines_are = ap (λ xs. d ∷ xs) rest.lines_are;
               spell = (here.spell, rest.spell);
-              text = begins.text_is ∙ ap (λ t. t ++ 10 ∷ begins.rest) here.text_is ∙ ap (λ t. join_with_byte 32 (directive_words here.masks d) ++ 10 ∷ t) rest.text;
+              text = begins.text_is ∙ ap (λ t. t ++ 10 ∷ begins.rest) here.text_is
+                  ∙ ap (λ t. join_with_byte 32 (directive_words here.masks d) ++ 10 ∷ t) rest.text;
               fit = (here.fit, rest.fit);
               count = omega (arith, rest.count);
               total = omega (arith, rest.total, sum_by-cons events_of d b.value);
@@ -74,7 +85,8 @@ ok_same x y h = cc
 
 -- how a script goes on after each of its parts
 abbrev pub after_labels : Version → ℕ × ℕ → Option Labels × List Line → Result Script Fault
-after_labels version table third = directives_of (limit_of version) (first_line third.0) 0 third.1 >>= λ ds. Ok (record { version = version; nr = table.0; online = table.1; labels = third.0; directives = ds })
+after_labels version table third = directives_of (limit_of version) (first_line third.0) 0 third.1
+    >>= λ ds. Ok (record { version = version; nr = table.0; online = table.1; labels = third.0; directives = ds })
 
 abbrev pub after_table : Version → List Line → ℕ × ℕ → Result Script Fault
 after_table version body table = labels_at body >>= after_labels version table
@@ -124,14 +136,16 @@ record AreCpus (limit : ℕ) (fields : List (List ℕ)) (table : ℕ × ℕ) : T
   within : table.0 ≤ limit
   online : are_online table.0 table.1 ≡ true
 
-table_ok : (limit : ℕ) (nr mask : List ℕ) (table : ℕ × ℕ) → limit ≤ NR_CPUS → table_of limit nr mask ≡ Ok table → AreCpus limit (codes "cpus" ∷ nr ∷ mask ∷ []) table
+table_ok : (limit : ℕ) (nr mask : List ℕ) (table : ℕ × ℕ) → limit ≤ NR_CPUS → table_of limit nr mask ≡ Ok table
+    → AreCpus limit (codes "cpus" ∷ nr ∷ mask ∷ []) table
 table_ok limit nr mask table few h =
     let a = both (number_in 1 limit nr) (λ n. mask_of limit mask >>= λ m. cond (are_online n m) (Ok (n, m)) (Err Range)) table h in
     let b = both (mask_of limit mask) (λ m. cond (are_online a.value m) (Ok (a.value, m)) (Err Range)) table a.then in
     let g = guarded (are_online a.value b.value) (Ok (a.value, b.value)) Range table b.then in
     let same : (a.value, b.value) ≡ table = let t = g.1 in cc in
     let n = number_in-ok 1 limit nr a.value (omega (arith, few)) a.first in
-    subst (λ t. AreCpus limit (codes "cpus" ∷ nr ∷ mask ∷ []) t) same (record { mask = mask; words = one_word _ _ (λ t. codes "cpus" ∷ t ∷ mask ∷ []) n.0; mask_is = b.first; some = n.1; within = n.2; online = g.0 })
+    subst (λ t. AreCpus limit (codes "cpus" ∷ nr ∷ mask ∷ []) t) same
+    (record { mask = mask; words = one_word _ _ (λ t. codes "cpus" ∷ t ∷ mask ∷ []) n.0; mask_is = b.first; some = n.1; within = n.2; online = g.0 })
 
 cpus_ok : (limit : ℕ) (fields : List (List ℕ)) (table : ℕ × ℕ) → limit ≤ NR_CPUS → cpus_of limit fields ≡ Ok table → AreCpus limit fields table
 cpus_ok limit (word ∷ nr ∷ mask ∷ []) table few h =
@@ -147,14 +161,17 @@ few_lines None = omega arith
 few_lines (Some labels) = omega arith
 
 -- the text of a script's parts
-text_of : (version : Version) (text first second : List ℕ) (rest after : List ℕ) (nr : ℕ) (mask : List ℕ) (labels : Option Labels) (body : List ℕ) → text ≡ first ++ 10 ∷ rest → first ≡ join_with_byte 32 (codes "smp" ∷ version_text version ∷ codes "replay" ∷ [])
+text_of : (version : Version) (text first second : List ℕ) (rest after : List ℕ) (nr : ℕ) (mask : List ℕ) (labels : Option Labels) (body : List ℕ)
+    → text ≡ first ++ 10 ∷ rest → first ≡ join_with_byte 32 (codes "smp" ∷ version_text version ∷ codes "replay" ∷ [])
     → rest ≡ second ++ 10 ∷ after → second ≡ join_with_byte 32 (codes "cpus" ∷ decimal nr ∷ mask ∷ []) → after ≡ labels_before labels body
-    → text ≡ line_before (codes "smp" ∷ version_text version ∷ codes "replay" ∷ []) (line_before (codes "cpus" ∷ decimal nr ∷ mask ∷ []) (labels_before labels body))
+    → text ≡ line_before (codes "smp" ∷ version_text version ∷ codes "replay" ∷ [])
+    (line_before (codes "cpus" ∷ decimal nr ∷ mask ∷ []) (labels_before labels body))
 unfolding line_before
 text_of version text first second rest after nr mask labels body a b c d e = rw (a, b, c, d, e) refl
 
 -- a text that reads as a script is a spelling of it
-pub script_is_spelled : (text : List ℕ) (script : Script) → script_of text ≡ Ok script → (mask : List ℕ) × (lines : List (Masks × Directive)) × IsSpelling mask lines script text
+pub script_is_spelled : (text : List ℕ) (script : Script) → script_of text ≡ Ok script
+    → (mask : List ℕ) × (lines : List (Masks × Directive)) × IsSpelling mask lines script text
 unfolding script_of
 script_is_spelled text script h = elim (cases_Bool (nat_lt 65536 (length text))) [
   | inl long ↦ let bad : ◌≡◌ {A = Result Script Fault} (Err (0, TooLong)) (Ok script) = rw long at h in cc
@@ -164,24 +181,34 @@ script_is_spelled text script h = elim (cases_Bool (nat_lt 65536 (length text)))
       let c = both (line_at 2 a.value.1) (after_second b.value) script b.then in
       let d = both (at_line 2 (whole_cpus (limit_of b.value) (fields_of c.value.0))) (after_table b.value c.value.1) script c.then in
       let m = both (labels_at c.value.1) (after_labels b.value d.value) script d.then in
-      let e = both (directives_of (limit_of b.value) (first_line m.value.0) 0 m.value.1) (λ ds. Ok (record { version = b.value; nr = d.value.0; online = d.value.1; labels = m.value.0; directives = ds })) script m.then in
+      let e = both (directives_of (limit_of b.value) (first_line m.value.0) 0 m.value.1)
+      (λ ds. Ok (record { version = b.value; nr = d.value.0; online = d.value.1; labels = m.value.0; directives = ds })) script m.then in
       let same : record { version = b.value; nr = d.value.0; online = d.value.1; labels = m.value.0; directives = e.value } ≡ script = ok_same _ _ e.then in
       let one = front_ok 1 text (lines_of text) a.value refl a.first in
       let two = front_ok 2 one.rest a.value.1 c.value (sym one.others_are) c.first in
       let three = labels_ok two.rest c.value.1 m.value (sym two.others_are) m.first in
       let title = title_ok (fields_of a.value.0) b.value (placed_ok 1 _ b.value b.first) in
-      let whole = guarded (are_whole (fields_of c.value.0)) (cpus_of (limit_of b.value) (fields_of c.value.0)) Word d.value (placed_ok 2 (whole_cpus (limit_of b.value) (fields_of c.value.0)) d.value d.first) in
+      let whole = guarded (are_whole (fields_of c.value.0)) (cpus_of (limit_of b.value) (fields_of c.value.0)) Word d.value
+      (placed_ok 2 (whole_cpus (limit_of b.value) (fields_of c.value.0)) d.value d.first) in
       let cpus = cpus_ok (limit_of b.value) (fields_of c.value.0) d.value (limit_within b.value) whole.1 in
-      let body = lines_ok (limit_of b.value) (first_line m.value.0) 0 m.value.1 three.rest e.value (sym three.others_are) (few_lines m.value.0) (omega arith) e.first in
-      let first_is : a.value.0 ≡ join_with_byte 32 (codes "smp" ∷ version_text b.value ∷ codes "replay" ∷ []) = sym (join_parts 32 a.value.0) ∙ ap (join_with_byte 32) title in
-      let second_is : c.value.0 ≡ join_with_byte 32 (codes "cpus" ∷ decimal d.value.0 ∷ cpus.mask ∷ []) = sym (join_parts 32 c.value.0) ∙ ap (join_with_byte 32) cpus.words in
+      let body = lines_ok (limit_of b.value) (first_line m.value.0) 0 m.value.1 three.rest e.value (sym three.others_are) (few_lines m.value.0)
+      (omega arith) e.first in
+      let first_is : a.value.0 ≡ join_with_byte 32 (codes "smp" ∷ version_text b.value ∷ codes "replay" ∷ []) =
+      sym (join_parts 32 a.value.0) ∙ ap (join_with_byte 32) title in
+      let second_is : c.value.0 ≡ join_with_byte 32 (codes "cpus" ∷ decimal d.value.0 ∷ cpus.mask ∷ []) =
+      sym (join_parts 32 c.value.0) ∙ ap (join_with_byte 32) cpus.words in
       let after_is : two.rest ≡ labels_before m.value.0 (spelled_lines body.lines) = three.text_is ∙ ap (labels_before m.value.0) body.text in
       subst (λ x. (mask : List ℕ) × (lines : List (Masks × Directive)) × IsSpelling mask lines x text) same (
         cpus.mask,
         body.lines,
         record {
-          text_is = text_of b.value text a.value.0 c.value.0 one.rest two.rest d.value.0 cpus.mask m.value.0 (spelled_lines body.lines) one.text_is first_is two.text_is second_is after_is;
-          mask_is = record { field = mask_field (decimal d.value.0) cpus.mask (ap (list_all is_field) (sym cpus.words) ∙ line_fields c.value.0 two.on_line whole.0); reads = cpus.mask_is };
+          text_is = text_of b.value text a.value.0 c.value.0 one.rest two.rest d.value.0 cpus.mask m.value.0
+              (spelled_lines body.lines) one.text_is first_is two.text_is second_is after_is;
+          mask_is =
+              record {
+                field = mask_field (decimal d.value.0) cpus.mask (ap (list_all is_field) (sym cpus.words) ∙ line_fields c.value.0 two.on_line whole.0);
+                reads = cpus.mask_is;
+              };
           lines_are = body.lines_are;
           masks_are = body.spell;
           some = cpus.some;

@@ -1,5 +1,5 @@
 -- Lines and fields, from the front.
-use Rattle.std.proofs.Common.{◌≡◌, ℕ, suc, zero, ◌<◌, true, false, ◌==◌, List, [], ◌∷◌, ◌++◌, length, take, drop, get_or, refl, arith, append_assoc}
+use Rattle.std.proofs.Common.{◌≡◌, ℕ, suc, zero, ◌<◌, true, false, ◌==◌, List, [], ◌∷◌, length, take, drop, get_or, refl, arith}
 use Rattle.std.proofs.lemmas.Bool.Decides.{nat_tests}
 use Rattle.smp_script.specs.Lines.{lines_of, parts_of}
 
@@ -13,7 +13,8 @@ parts_none mark (b ∷ bs) none =
     rw f (rw rest refl)
 
 -- the first one ends the first part
-pub parts_some : (mark : ℕ) (bs : List ℕ) (i : ℕ) → i < length bs → get_or bs i 0 ≡ mark → ((k : ℕ) → k < i → get_or bs k 0 ≡ mark → ⊥) → parts_of mark bs ≡ take i bs ∷ parts_of mark (drop (suc i) bs)
+pub parts_some : (mark : ℕ) (bs : List ℕ) (i : ℕ) → i < length bs → get_or bs i 0 ≡ mark → ((k : ℕ) → k < i → get_or bs k 0 ≡ mark → ⊥)
+    → parts_of mark bs ≡ take i bs ∷ parts_of mark (drop (suc i) bs)
 parts_some mark [] i h e none = absurd (omega arith)
 parts_some mark (b ∷ bs) zero h e none =
     let t : (b == mark) ≡ true = grind (arith, nat_tests, e) in
@@ -24,12 +25,9 @@ parts_some mark (b ∷ bs) (suc i) h e none =
     let rest = parts_some mark bs i (omega arith) e (λ k l. none (suc k) (omega arith)) in
     rw f (rw rest refl)
 
--- the fields so far and those of the rest are all
-pub fields_push : (found : List (List ℕ)) (field : List ℕ) (rest after all : List (List ℕ)) → found ++ rest ≡ all → rest ≡ field ∷ after → (found ++ field ∷ []) ++ after ≡ all
-fields_push found field rest after all e f = simp append_assoc (rw (← f) e)
-
 -- a line feed ends the first line
-pub lines_some : (bs : List ℕ) (i : ℕ) → i < length bs → get_or bs i 0 ≡ 10 → ((k : ℕ) → k < i → get_or bs k 0 ≡ 10 → ⊥) → lines_of bs ≡ record { text = take i bs; ended = true } ∷ lines_of (drop (suc i) bs)
+pub lines_some : (bs : List ℕ) (i : ℕ) → i < length bs → get_or bs i 0 ≡ 10 → ((k : ℕ) → k < i → get_or bs k 0 ≡ 10 → ⊥)
+    → lines_of bs ≡ record { text = take i bs; ended = true } ∷ lines_of (drop (suc i) bs)
 lines_some [] i h e none = absurd (omega arith)
 lines_some (b ∷ bs) zero h e none =
     let t : (b == 10) ≡ true = grind (arith, nat_tests, e) in

@@ -75,6 +75,7 @@ lines_front (b ∷ bs) rest h =
     rw (here, lines_front bs rest more) refl
 
 -- a line that is written is the first
-pub lines_of-line : (ts : List (List ℕ)) (rest : List ℕ) → list_all is_field ts ≡ true → lines_of (line_before ts rest) ≡ record { text = join_with_byte 32 ts; ended = true } ∷ lines_of rest
+pub lines_of-line : (ts : List (List ℕ)) (rest : List ℕ) → list_all is_field ts ≡ true
+    → lines_of (line_before ts rest) ≡ record { text = join_with_byte 32 ts; ended = true } ∷ lines_of rest
 unfolding line_before
 lines_of-line ts rest h = lines_front (join_with_byte 32 ts) rest (lacks-join ts h)

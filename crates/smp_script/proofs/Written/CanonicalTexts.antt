@@ -1,5 +1,6 @@
 -- The canonical text of a script.
-use Rattle.std.proofs.Common.{◌≡◌, ℕ, map, ◌<◌, ◌≤◌, ◌^◌, ◌+◌, Bool, true, false, ◌==◌, nat_lt, cond, List, [], ◌∷◌, length, Option, Some, None, Result, Ok, codes, refl, sym, ap, ◌∙◌, inl, inr, arith}
+use Rattle.std.proofs.Common.{◌≡◌, ℕ, map, ◌<◌, ◌≤◌, ◌^◌, ◌+◌, Bool, true, false, ◌==◌, nat_lt, cond, List, [], ◌∷◌, length, Option, Some, None, Result, Ok}
+use Rattle.std.proofs.Common.{codes, refl, sym, ap, ◌∙◌, inl, inr, arith}
 use Rattle.std.specs.Str.{bytes_eq}
 use Rattle.std.proofs.lemmas.Bool.{cases_Bool}
 use Rattle.std.proofs.lemmas.Bool.Decides.{nat_tests}
@@ -15,7 +16,8 @@ use Rattle.smp_script.specs.Script.{Script, are_online, script_of}
 use Rattle.smp_script.specs.Spelling.{IsLawful, IsMaskText, LineHasSets, SpellLine, canonical_lines, canonical_text, lacks, line_masks, mask_text}
 use Rattle.smp_script.specs.declared.directive.Directive.{Directive}
 use Rattle.smp_script.specs.declared.directive.Directive.TheVariants.{Start, Step, Show}
-use Rattle.smp_words.specs.declared.command.Command.TheVariants.{Post, Send, Done, Handle, Gate, Ungate, Begin, Enter, Advance, RunOne, Finish, Poll, Key, Site, Nudge}
+use Rattle.smp_words.specs.declared.command.Command.TheVariants.{Post, Send, Done, Handle, Gate, Ungate, Begin, Enter, Advance, RunOne, Finish, Poll, Key, Site}
+use Rattle.smp_words.specs.declared.command.Command.TheVariants.{Nudge}
 use Rattle.std.specs.List.{AllByRecursion}
 use Rattle.smp_script.proofs.Written.Writing.{spelling_is_read}
 use Rattle.std.proofs.Math.Nat.{pow-le-pow_right}
@@ -44,7 +46,8 @@ none_after p c o = let n = none_longer in grind (arith, nat_tests, o.no_digit, o
 none_step : (w : ℕ) (r : _) (c : ℕ) → NoList c → step w r c ≡ None
 none_step w r c o = rw (o.no_comma, none_after r.place c o) refl
 
-goes_on : {R : Type 0} (c : ℕ) (at : ℕ) (bs : List ℕ) (m : ℕ) (go : R → Result ℕ SmpError) (o : Option R) → ((q : R) → go q ≡ Ok m → lacks c bs ≡ true) → or_refused at go o ≡ Ok m → lacks c bs ≡ true
+goes_on : {R : Type 0} (c : ℕ) (at : ℕ) (bs : List ℕ) (m : ℕ) (go : R → Result ℕ SmpError) (o : Option R) → ((q : R) → go q ≡ Ok m → lacks c bs ≡ true)
+    → or_refused at go o ≡ Ok m → lacks c bs ≡ true
 goes_on c at bs m go None rest e = cc
 goes_on c at bs m go (Some q) rest e = rest q e
 
@@ -91,8 +94,10 @@ list_is_text limit m few narrow some =
     let set : m < 2 ^ NR_CPUS = omega (arith, narrow, room) in
     let stays : stays_below limit m ≡ true = all_stay limit m (λ cpu h. is_cpu limit m cpu narrow h) in
     let read : mask_of_text NR_CPUS (list_text m) ≡ Ok m = reads_back NR_CPUS (omega arith) m set in
-    let spaces : lacks 32 (list_text m) ≡ true = reads_lack NR_CPUS 32 (record { no_digit = refl; no_hyphen = refl; no_comma = refl }) _ 0 (list_text m) m read in
-    let feeds : lacks 10 (list_text m) ≡ true = reads_lack NR_CPUS 10 (record { no_digit = refl; no_hyphen = refl; no_comma = refl }) _ 0 (list_text m) m read in
+    let spaces : lacks 32 (list_text m) ≡ true =
+    reads_lack NR_CPUS 32 (record { no_digit = refl; no_hyphen = refl; no_comma = refl }) _ 0 (list_text m) m read in
+    let feeds : lacks 10 (list_text m) ≡ true =
+    reads_lack NR_CPUS 10 (record { no_digit = refl; no_hyphen = refl; no_comma = refl }) _ 0 (list_text m) m read in
     let long : (length (list_text m) == 0) ≡ false = some_text (list_text m) m read some in
     record { field = rw (long, spaces, feeds) refl; reads = rw (no_dash (list_text m) m read, read, stays) refl }
 
@@ -125,7 +130,8 @@ line_is_spelled limit (Start cpu (Nudge key up)) few h = tt
 line_is_spelled limit (Step cpu count) few h = tt
 line_is_spelled limit Show few h = tt
 
-lines_are_spelled : (limit : ℕ) (ds : List Directive) → limit ≤ NR_CPUS → AllByRecursion (LineHasSets limit) ds → AllByRecursion (SpellLine limit) (canonical_lines ds)
+lines_are_spelled : (limit : ℕ) (ds : List Directive) → limit ≤ NR_CPUS → AllByRecursion (LineHasSets limit) ds
+    → AllByRecursion (SpellLine limit) (canonical_lines ds)
 lines_are_spelled limit [] few h = tt
 lines_are_spelled limit (d ∷ ds) few h = (line_is_spelled limit d few h.0, lines_are_spelled limit ds few h.1)
 

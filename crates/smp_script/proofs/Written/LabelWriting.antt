@@ -1,5 +1,6 @@
 -- The labels line, as it is written.
-use Rattle.std.proofs.Common.{◌≡◌, ℕ, suc, ◌<◌, ◌≤◌, true, false, nat_lt, ◌==◌, List, [], ◌∷◌, map, length, All, Option, Some, None, Ok, codes, refl, sym, ap, ◌∙◌, inl, inr, arith}
+use Rattle.std.proofs.Common.{◌≡◌, ℕ, suc, ◌<◌, ◌≤◌, true, false, nat_lt, ◌==◌, List, [], ◌∷◌, map, length, All, Option, Some, None, Ok, codes, refl, sym, ap}
+use Rattle.std.proofs.Common.{◌∙◌, inl, inr, arith}
 use Rattle.std.specs.Fmt.{decimal}
 use Rattle.std.specs.List.{AllByRecursion, join_with_byte, list_all}
 use Rattle.std.specs.Str.{bytes_eq}
@@ -55,7 +56,8 @@ join_lacks c mark (t ∷ u ∷ us) other h =
     rw (lacks-append c t (mark ∷ join_with_byte mark (u ∷ us)), p.0, other, join_lacks c mark (u ∷ us) other p.1) refl
 
 -- the field of the items
-text_lacks : (c : ℕ) (es : List Entry) → is_digit c ≡ false → (58 == c) ≡ false → (44 == c) ≡ false → (45 == c) ≡ false → AreSmall es → lacks c (items_text es) ≡ true
+text_lacks : (c : ℕ) (es : List Entry) → is_digit c ≡ false → (58 == c) ≡ false → (44 == c) ≡ false → (45 == c) ≡ false → AreSmall es
+    → lacks c (items_text es) ≡ true
 text_lacks c [] digit colon comma hyphen small = rw hyphen refl
 text_lacks c (e ∷ es) digit colon comma hyphen small = join_lacks c 44 (map item_text (e ∷ es)) comma (items_lack c (e ∷ es) digit colon small)
 
@@ -123,7 +125,11 @@ labels_read labels h =
     let under = by_recursion labels.keys labels.entries h.known in
     let small = smaller labels.keys labels.entries h.few_keys under in
     let few : nat_lt MOST_SITES (length (map item_text labels.entries)) ≡ false = grind (arith, nat_tests, length-map labels.entries item_text, h.few_sites) in
-    rw (items_read labels.entries small, all_items labels.entries small, number_in-decimal 0 MOST_KEYS labels.keys (omega arith) h.few_keys (omega (arith, h.few_keys)))
+    rw (
+      items_read labels.entries small,
+      all_items labels.entries small,
+      number_in-decimal 0 MOST_KEYS labels.keys (omega arith) h.few_keys (omega (arith, h.few_keys)),
+    )
     (rw (all_numbers labels.entries small, few, all_below labels.keys labels.entries small under, all_entries labels.entries small) refl)
 
 items_some : (es : List Entry) → AreSmall es → (length (items_text es) == 0) ≡ false
@@ -140,17 +146,26 @@ items_some (e ∷ es) small = elim (cases_Bool (length (items_text (e ∷ es)) =
 ]
 
 -- the words of the line are fields
-pub labels_fields : (labels : Labels) → AreLabels labels.keys labels.entries → list_all is_field (codes "labels" ∷ decimal labels.keys ∷ items_text labels.entries ∷ []) ≡ true
+pub labels_fields : (labels : Labels) → AreLabels labels.keys labels.entries
+    → list_all is_field (codes "labels" ∷ decimal labels.keys ∷ items_text labels.entries ∷ []) ≡ true
 labels_fields labels h =
     let small = smaller labels.keys labels.entries h.few_keys (by_recursion labels.keys labels.entries h.known) in
-    rw (is_field-decimal labels.keys (omega (arith, h.few_keys)), items_some labels.entries small, text_lacks 32 labels.entries refl refl refl refl small, text_lacks 10 labels.entries refl refl refl refl small) refl
+    rw (
+      is_field-decimal labels.keys (omega (arith, h.few_keys)),
+      items_some labels.entries small,
+      text_lacks 32 labels.entries refl refl refl refl small,
+      text_lacks 10 labels.entries refl refl refl refl small,
+    ) refl
 
 -- and are read as it
-pub labels_line_read : (labels : Labels) (rest : List ℕ) → AreLabels labels.keys labels.entries → labels_at (lines_of (labels_before (Some labels) rest)) ≡ Ok (Some labels, lines_of rest)
+pub labels_line_read : (labels : Labels) (rest : List ℕ) → AreLabels labels.keys labels.entries
+    → labels_at (lines_of (labels_before (Some labels) rest)) ≡ Ok (Some labels, lines_of rest)
 labels_line_read labels rest h =
     let fields = labels_fields labels h in
     let back = fields_join (codes "labels") (decimal labels.keys ∷ items_text labels.entries ∷ []) fields in
     let is : is_labels (fields_of (join_with_byte 32 (codes "labels" ∷ decimal labels.keys ∷ items_text labels.entries ∷ []))) ≡ true = ap is_labels back in
-    let here : whole_labels (codes "labels" ∷ decimal labels.keys ∷ items_text labels.entries ∷ []) ≡ Ok labels = rw (whole_fields (codes "labels" ∷ decimal labels.keys ∷ items_text labels.entries ∷ []) fields, labels_read labels h) refl in
-    let read : whole_labels (fields_of (join_with_byte 32 (codes "labels" ∷ decimal labels.keys ∷ items_text labels.entries ∷ []))) ≡ Ok labels = ap whole_labels back ∙ here in
+    let here : whole_labels (codes "labels" ∷ decimal labels.keys ∷ items_text labels.entries ∷ []) ≡ Ok labels =
+    rw (whole_fields (codes "labels" ∷ decimal labels.keys ∷ items_text labels.entries ∷ []) fields, labels_read labels h) refl in
+    let read : whole_labels (fields_of (join_with_byte 32 (codes "labels" ∷ decimal labels.keys ∷ items_text labels.entries ∷ []))) ≡ Ok labels =
+    ap whole_labels back ∙ here in
     rw (lines_of-line (codes "labels" ∷ decimal labels.keys ∷ items_text labels.entries ∷ []) rest fields, is, read) refl

@@ -1,5 +1,6 @@
 -- The lines of a script, as they are written.
-use Rattle.std.proofs.Common.{◌≡◌, ℕ, suc, ℤ, pos, negsuc, ◌+◌, ◌<◌, ◌≤◌, ◌^◌, ◌==◌, ◌&&◌, Bool, not, true, false, nat_lt, List, [], ◌∷◌, map, length, sum_by, Option, Some, None, Ok, codes, refl, sym, ap, ◌∙◌, arith, subst}
+use Rattle.std.proofs.Common.{◌≡◌, ℕ, suc, ℤ, pos, negsuc, ◌+◌, ◌<◌, ◌≤◌, ◌^◌, ◌==◌, ◌&&◌, Bool, not, true, false, nat_lt, List, [], ◌∷◌, map, length, sum_by}
+use Rattle.std.proofs.Common.{Option, Some, None, Ok, codes, refl, sym, ap, ◌∙◌, arith, subst}
 use Rattle.std.specs.Fmt.{decimal, signed_decimal}
 use Rattle.std.specs.List.{AllByRecursion, join_with_byte, list_all}
 use Rattle.std.proofs.lemmas.Bool.Decides.{nat_tests}
@@ -7,7 +8,8 @@ use Rattle.std.proofs.lemmas.List.Sums.{sum_by-cons}
 use Rattle.smp_mask.specs.declared.mask.TheConstants.{NR_CPUS}
 use Rattle.smp_words.specs.declared.call.Class.{Class}
 use Rattle.smp_words.specs.declared.call.Class.TheVariants.{Sync, Async}
-use Rattle.smp_words.specs.declared.command.Command.TheVariants.{Post, Send, Done, Handle, Gate, Ungate, Begin, Enter, Advance, RunOne, Finish, Poll, Key, Site, Nudge}
+use Rattle.smp_words.specs.declared.command.Command.TheVariants.{Post, Send, Done, Handle, Gate, Ungate, Begin, Enter, Advance, RunOne, Finish, Poll, Key, Site}
+use Rattle.smp_words.specs.declared.command.Command.TheVariants.{Nudge}
 use Rattle.smp_words.specs.declared.work.Kind.{Kind}
 use Rattle.smp_words.specs.declared.work.Kind.TheVariants.{One as OneKind, Multi, Patch}
 use Rattle.smp_labels.specs.Labels.{Labels}
@@ -19,7 +21,8 @@ use Rattle.smp_script.specs.Labels.{is_labels}
 use Rattle.smp_script.specs.Numbers.{number_in, signed_of}
 use Rattle.smp_script.specs.Commands.{directive_of, line_directive, start_begin, start_post}
 use Rattle.smp_script.specs.Script.{Script, are_online, directives_of, events_of, first_line, labels_at, script_of, title_of, whole_cpus}
-use Rattle.smp_script.specs.Spelling.{DirectiveFits, IsAnswer, IsSpelling, LabelsFit, Masks, SpellLine, class_text, directive_words, is_field, kind_text, labels_before, lacks, line_before, spelled_lines, way_text}
+use Rattle.smp_script.specs.Spelling.{DirectiveFits, IsAnswer, IsSpelling, LabelsFit, Masks, SpellLine, class_text, directive_words, is_field, kind_text}
+use Rattle.smp_script.specs.Spelling.{labels_before, lacks, line_before, spelled_lines, way_text}
 use Rattle.smp_script.proofs.Texts.Decimals.{decimal_lacks, is_field-decimal, number_in-decimal}
 use Rattle.smp_script.proofs.Written.LabelWriting.{labels_line_read}
 use Rattle.std.proofs.lemmas.Bool.{and_parts}
@@ -79,15 +82,25 @@ plain_read (b ∷ bs) n h e =
     rw (other, e) refl
 
 signed_read : (z : ℤ) → IsAnswer z → signed_of (signed_decimal z) ≡ Ok z
-signed_read (pos n) h = plain_read (decimal n) n (decimal_lacks 45 n refl (omega (arith, h))) (number_in-decimal 0 2147483647 n (omega arith) (omega (arith, h)) (omega (arith, h)))
+signed_read (pos n) h = plain_read (decimal n) n (decimal_lacks 45 n refl (omega (arith, h)))
+    (number_in-decimal 0 2147483647 n (omega arith) (omega (arith, h)) (omega (arith, h)))
 signed_read (negsuc n) h =
     let read = number_in-decimal 0 2147483648 (suc n) (omega arith) (omega (arith, h)) (omega (arith, h)) in
     rw read refl
 
 -- the words of a line are fields
-pub words_are_fields : (limit : ℕ) (masks : Masks) (d : Directive) → DirectiveFits d → SpellLine limit (masks, d) → list_all is_field (directive_words masks d) ≡ true
+pub words_are_fields : (limit : ℕ) (masks : Masks) (d : Directive) → DirectiveFits d → SpellLine limit (masks, d)
+    → list_all is_field (directive_words masks d) ≡ true
 words_are_fields limit masks (Start cpu (Post number dst class func info tries)) f s =
-    rw (wide cpu f.0, wide number f.1.0, wide dst f.1.1, class_field class, is_field-decimal func (omega (arith, f.1.2)), is_field-decimal info f.1.3, wide tries f.1.4) refl
+    rw (
+      wide cpu f.0,
+      wide number f.1.0,
+      wide dst f.1.1,
+      class_field class,
+      is_field-decimal func (omega (arith, f.1.2)),
+      is_field-decimal info f.1.3,
+      wide tries f.1.4,
+    ) refl
 words_are_fields limit masks (Start cpu (Send dst)) f s = rw (wide cpu f.0, wide dst f.1) refl
 words_are_fields limit masks (Start cpu (Done number)) f s = rw (wide cpu f.0, wide number f.1) refl
 words_are_fields limit masks (Start cpu Handle) f s = rw (wide cpu f.0) refl
@@ -107,17 +120,34 @@ words_are_fields limit masks (Step cpu count) f s = rw (wide cpu f.0, wide count
 words_are_fields limit masks Show f s = refl
 
 -- and are read as the line
-pub words_are_read : (limit : ℕ) (masks : Masks) (d : Directive) → DirectiveFits d → SpellLine limit (masks, d) → directive_of limit (directive_words masks d) ≡ Ok d
+pub words_are_read : (limit : ℕ) (masks : Masks) (d : Directive) → DirectiveFits d → SpellLine limit (masks, d)
+    → directive_of limit (directive_words masks d) ≡ Ok d
 unfolding start_post start_begin
 words_are_read limit masks (Start cpu (Post number dst class func info tries)) f s =
-    rw (class_read class, read32 cpu f.0, read32 number f.1.0, read32 dst f.1.1, number_in-decimal 0 65535 func (omega arith) (omega (arith, f.1.2)) (omega (arith, f.1.2)), number_in-decimal 0 18446744073709551615 info (omega arith) (omega (arith, f.1.3)) f.1.3, read32 tries f.1.4) refl
+    rw (
+      class_read class,
+      read32 cpu f.0,
+      read32 number f.1.0,
+      read32 dst f.1.1,
+      number_in-decimal 0 65535 func (omega arith) (omega (arith, f.1.2)) (omega (arith, f.1.2)),
+      number_in-decimal 0 18446744073709551615 info (omega arith) (omega (arith, f.1.3)) f.1.3,
+      read32 tries f.1.4,
+    ) refl
 words_are_read limit masks (Start cpu (Send dst)) f s = rw (read32 cpu f.0, read32 dst f.1) refl
 words_are_read limit masks (Start cpu (Done number)) f s = rw (read32 cpu f.0, read32 number f.1) refl
 words_are_read limit masks (Start cpu Handle) f s = rw (read32 cpu f.0) refl
 words_are_read limit masks (Start cpu Gate) f s = rw (read32 cpu f.0) refl
 words_are_read limit masks (Start cpu Ungate) f s = rw (read32 cpu f.0) refl
 words_are_read limit masks (Start cpu (Begin work)) f s =
-    rw (kind_read work.kind, read32 cpu f.0, s.0.reads, s.1.reads, number_in-decimal 0 65535 work.func (omega arith) (omega (arith, f.1.0)) (omega (arith, f.1.0)), number_in-decimal 0 18446744073709551615 work.arg (omega arith) (omega (arith, f.1.1)) f.1.1) refl
+    rw (
+      kind_read work.kind,
+      read32 cpu f.0,
+      s.0.reads,
+      s.1.reads,
+      number_in-decimal 0 65535 work.func (omega arith) (omega (arith, f.1.0))
+          (omega (arith, f.1.0)),
+      number_in-decimal 0 18446744073709551615 work.arg (omega arith) (omega (arith, f.1.1)) f.1.1,
+    ) refl
 words_are_read limit masks (Start cpu (Enter slot)) f s = rw (read32 cpu f.0, read32 slot f.1) refl
 words_are_read limit masks (Start cpu (Advance answer)) f s = rw (read32 cpu f.0, signed_read answer f.1) refl
 words_are_read limit masks (Start cpu (RunOne answer)) f s = rw (read32 cpu f.0, signed_read answer f.1) refl
@@ -138,7 +168,8 @@ some_words masks (Start cpu command) = omega arith
 some_words masks (Step cpu count) = omega arith
 some_words masks Show = omega arith
 
-line_read : (limit : ℕ) (masks : Masks) (d : Directive) → DirectiveFits d → SpellLine limit (masks, d) → line_directive limit (join_with_byte 32 (directive_words masks d)) ≡ Ok d
+line_read : (limit : ℕ) (masks : Masks) (d : Directive) → DirectiveFits d → SpellLine limit (masks, d)
+    → line_directive limit (join_with_byte 32 (directive_words masks d)) ≡ Ok d
 unfolding line_directive
 line_read limit masks d f s =
     let fields = words_are_fields limit masks d f s in
@@ -148,7 +179,8 @@ abbrev asked : List (Masks × Directive) → List Directive
 asked lines = map (λ l. l.1) lines
 
 -- the lines of a script are read
-pub lines_are_read : (limit : ℕ) (n events : ℕ) (lines : List (Masks × Directive)) → AllByRecursion DirectiveFits (asked lines) → AllByRecursion (SpellLine limit) lines → n + length (asked lines) ≤ 2001 → events + sum_by events_of (asked lines) ≤ 100000
+pub lines_are_read : (limit : ℕ) (n events : ℕ) (lines : List (Masks × Directive)) → AllByRecursion DirectiveFits (asked lines)
+    → AllByRecursion (SpellLine limit) lines → n + length (asked lines) ≤ 2001 → events + sum_by events_of (asked lines) ≤ 100000
     → directives_of limit n events (lines_of (spelled_lines lines)) ≡ Ok (asked lines)
 unfolding directives_of spelled_lines
 lines_are_read limit n events [] f s count total = refl
@@ -156,10 +188,18 @@ lines_are_read limit n events ((masks, d) ∷ lines) f s count total =
     let sum : sum_by events_of (d ∷ asked lines) ≡ events_of d + sum_by events_of (asked lines) = sum_by-cons events_of d (asked lines) in
     let few : nat_lt 2000 n ≡ false = grind (arith, nat_tests) in
     let fits : nat_lt 100000 (events + events_of d) ≡ false = grind (arith, nat_tests) in
-    let rest : directives_of limit (n + 1) (events + events_of d) (lines_of (spelled_lines lines)) ≡ Ok (asked lines) = lines_are_read limit (n + 1) (events + events_of d) lines f.1 s.1 (omega arith) (omega arith) in
-    rw (lines_of-line (directive_words masks d) (spelled_lines lines) (words_are_fields limit masks d f.0 s.0), few, line_read limit masks d f.0 s.0, fits, rest) refl
+    let rest : directives_of limit (n + 1) (events + events_of d) (lines_of (spelled_lines lines)) ≡ Ok (asked lines) =
+    lines_are_read limit (n + 1) (events + events_of d) lines f.1 s.1 (omega arith) (omega arith) in
+    rw (
+      lines_of-line (directive_words masks d) (spelled_lines lines) (words_are_fields limit masks d f.0 s.0),
+      few,
+      line_read limit masks d f.0 s.0,
+      fits,
+      rest,
+    ) refl
 
-cpus_are_read : (limit : ℕ) (nr online : ℕ) (mask : List ℕ) → 1 ≤ nr → nr ≤ limit → limit ≤ NR_CPUS → is_field mask ≡ true → mask_of limit mask ≡ Ok online → are_online nr online ≡ true
+cpus_are_read : (limit : ℕ) (nr online : ℕ) (mask : List ℕ) → 1 ≤ nr → nr ≤ limit → limit ≤ NR_CPUS → is_field mask ≡ true → mask_of limit mask ≡ Ok online
+    → are_online nr online ≡ true
     → whole_cpus limit (codes "cpus" ∷ decimal nr ∷ mask ∷ []) ≡ Ok (nr, online)
 cpus_are_read limit nr online mask some within few field is_mask are =
     let words : list_all is_field (codes "cpus" ∷ decimal nr ∷ mask ∷ []) ≡ true = rw (is_field-decimal nr (omega arith), field) refl in
@@ -175,14 +215,17 @@ not_labels masks (Step cpu count) = refl
 not_labels masks Show = refl
 
 -- lines of a script are no labels line
-no_labels_line : (limit : ℕ) (lines : List (Masks × Directive)) → AllByRecursion DirectiveFits (asked lines) → AllByRecursion (SpellLine limit) lines → labels_at (lines_of (spelled_lines lines)) ≡ Ok (None, lines_of (spelled_lines lines))
+no_labels_line : (limit : ℕ) (lines : List (Masks × Directive)) → AllByRecursion DirectiveFits (asked lines) → AllByRecursion (SpellLine limit) lines
+    → labels_at (lines_of (spelled_lines lines)) ≡ Ok (None, lines_of (spelled_lines lines))
 unfolding spelled_lines
 no_labels_line limit [] f s = refl
 no_labels_line limit ((masks, d) ∷ lines) f s =
     let fields = words_are_fields limit masks d f.0 s.0 in
-    rw (lines_of-line (directive_words masks d) (spelled_lines lines) fields) (rw (fields_back (directive_words masks d) (some_words masks d) fields, not_labels masks d) refl)
+    rw (lines_of-line (directive_words masks d) (spelled_lines lines) fields)
+    (rw (fields_back (directive_words masks d) (some_words masks d) fields, not_labels masks d) refl)
 
-third_read : (limit : ℕ) (labels : Option Labels) (lines : List (Masks × Directive)) → LabelsFit labels → AllByRecursion DirectiveFits (asked lines) → AllByRecursion (SpellLine limit) lines
+third_read : (limit : ℕ) (labels : Option Labels) (lines : List (Masks × Directive)) → LabelsFit labels → AllByRecursion DirectiveFits (asked lines)
+    → AllByRecursion (SpellLine limit) lines
     → labels_at (lines_of (labels_before labels (spelled_lines lines))) ≡ Ok (labels, lines_of (spelled_lines lines))
 third_read limit None lines h f s = no_labels_line limit lines f s
 third_read limit (Some labels) lines h f s = labels_line_read labels (spelled_lines lines) h
@@ -196,7 +239,8 @@ title_read One = refl
 title_read Two = refl
 
 -- a spelling of a script is read as it
-pub spelling_is_read : (mask : List ℕ) (lines : List (Masks × Directive)) (script : Script) (text : List ℕ) → IsSpelling mask lines script text → script_of text ≡ Ok script
+pub spelling_is_read : (mask : List ℕ) (lines : List (Masks × Directive)) (script : Script) (text : List ℕ) → IsSpelling mask lines script text
+    → script_of text ≡ Ok script
 unfolding script_of
 spelling_is_read mask lines script text s =
     let limit = limit_of script.version in
@@ -205,10 +249,14 @@ spelling_is_read mask lines script text s =
     let short : nat_lt 65536 (length text) ≡ false = longer (length text) s.bytes in
     let words : list_all is_field (codes "cpus" ∷ decimal script.nr ∷ mask ∷ []) ≡ true = rw (nr_field, s.mask_is.field) refl in
     let rest = labels_before script.labels (spelled_lines lines) in
-    let first = lines_of-line (codes "smp" ∷ version_text script.version ∷ codes "replay" ∷ []) (line_before (codes "cpus" ∷ decimal script.nr ∷ mask ∷ []) (labels_before script.labels (spelled_lines lines))) (title_fields script.version) in
-    let title : title_of (fields_of (join_with_byte 32 (codes "smp" ∷ version_text script.version ∷ codes "replay" ∷ []))) ≡ Ok script.version = title_read script.version in
+    let first = lines_of-line (codes "smp" ∷ version_text script.version ∷ codes "replay" ∷ [])
+    (line_before (codes "cpus" ∷ decimal script.nr ∷ mask ∷ []) (labels_before script.labels (spelled_lines lines))) (title_fields script.version) in
+    let title : title_of (fields_of (join_with_byte 32 (codes "smp" ∷ version_text script.version ∷ codes "replay" ∷ []))) ≡ Ok script.version =
+    title_read script.version in
     let second = lines_of-line (codes "cpus" ∷ decimal script.nr ∷ mask ∷ []) (labels_before script.labels (spelled_lines lines)) words in
-    let table : whole_cpus limit (fields_of (join_with_byte 32 (codes "cpus" ∷ decimal script.nr ∷ mask ∷ []))) ≡ Ok (script.nr, script.online) = ap (whole_cpus limit) (fields_join (codes "cpus") (decimal script.nr ∷ mask ∷ []) words) ∙ cpus_are_read limit script.nr script.online mask s.some s.within few s.mask_is.field s.mask_is.reads s.online in
+    let table : whole_cpus limit (fields_of (join_with_byte 32 (codes "cpus" ∷ decimal script.nr ∷ mask ∷ []))) ≡ Ok (script.nr, script.online) =
+    ap (whole_cpus limit) (fields_join (codes "cpus") (decimal script.nr ∷ mask ∷ []) words)
+    ∙ cpus_are_read limit script.nr script.online mask s.some s.within few s.mask_is.field s.mask_is.reads s.online in
     let fit : AllByRecursion DirectiveFits (asked lines) = subst (λ ds. AllByRecursion DirectiveFits ds) (sym s.lines_are) s.fit in
     let count : first_line script.labels + length (asked lines) ≤ 2001 = subst (λ ds. first_line script.labels + length ds ≤ 2001) (sym s.lines_are) s.count in
     let events : sum_by events_of (asked lines) ≤ 100000 = subst (λ ds. sum_by events_of ds ≤ 100000) (sym s.lines_are) s.events in

@@ -2,12 +2,13 @@ use Rattle.std.proofs.Common.{◌≡◌, ◌∙◌, sym, ap, map, Ok, true, fals
 use Rattle.std.proofs.lemmas.List.{take_all}
 use Rattle.smp_labels.specs.Labels.{AreLabels}
 use Rattle.smp_script.specs.Labels.{entry_of}
-use Rattle.smp_script.proofs.Reader.LabelItems.{good_items, make_labels}
+use Rattle.smp_script.proofs.Reader.Items.{good_items, make_labels}
 use Rattle.smp_script.proofs.labels.read_entries.Goals as goal
 
 pub returns-in-Ok : goal.returns-in-Ok
 returns-in-Ok c =
-    let good = good_items (λ i. i.now) c.args.keys c.args.items.now (sym c.have_numbers.ensures ∙ c.if-not-have_numbers.false) (omega arith) (sym c.are_below.ensures ∙ c.if-not-are_below.false) in
+    let good = good_items (λ i. i.now) c.args.keys c.args.items.now (sym c.have_numbers.ensures ∙ c.if-not-have_numbers.false) (omega arith)
+    (sym c.are_below.ensures ∙ c.if-not-are_below.false) in
     let all = c.loop-item.invariant ∙ ap (λ xs. map entry_of (map (λ i. i.now) xs)) (take_all c.loop-item.item-index c.args.items.now c.loop-item-test.false) in
     rw good (ap Ok (c.in-Ok.ensures.made ∙ ap (λ es. record { keys = c.args.keys; entries = es }) (c.as_slice.ensures.value ∙ all)))
 

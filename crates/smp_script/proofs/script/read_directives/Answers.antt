@@ -12,14 +12,18 @@ returns-then-not-next-clause-value g c = is_cut _ _ c.loop-next.invariant.stands
 pub returns-in_err-directive-clause-value : goal.returns-in_err-directive-clause-value
 returns-in_err-directive-clause-value g c =
     let p = err_from_is_err_and c.from_residual.result c.from_residual.ensures.1 in
-    rw (p.1, p.2) (is_bad _ _ c.loop-next.invariant.stands c.in-Some.ensures.lines c.if-line-gt-MAX_LINES.false c.if-not-next.false _ c.in_err-directive.ensures)
+    rw (p.1, p.2) (is_bad _ _ c.loop-next.invariant.stands c.in-Some.ensures.lines c.if-line-gt-MAX_LINES.false c.if-not-next.false _
+    c.in_err-directive.ensures)
 
 pub returns-then-more-events-clause-value : goal.returns-then-more-events-clause-value
-returns-then-more-events-clause-value g c = is_past _ _ c.loop-next.invariant.stands c.in-Some.ensures.lines c.if-line-gt-MAX_LINES.false c.if-not-next.false _ c.in_ok-directive.ensures (omega (arith, c.events-more.ensures))
+returns-then-more-events-clause-value g c =
+    is_past _ _ c.loop-next.invariant.stands c.in-Some.ensures.lines c.if-line-gt-MAX_LINES.false c.if-not-next.false _ c.in_ok-directive.ensures
+    (omega (arith, c.events-more.ensures))
 
 pub loop-next-preserved : goal.loop-next-preserved
 loop-next-preserved g c =
-    let s = goes_on _ _ c.loop-next.invariant.stands c.in-Some.ensures.lines c.if-line-gt-MAX_LINES.false c.if-not-next.false _ c.in_ok-directive.ensures (omega (arith, c.events-more.ensures)) in
+    let s = goes_on _ _ c.loop-next.invariant.stands c.in-Some.ensures.lines c.if-line-gt-MAX_LINES.false c.if-not-next.false _ c.in_ok-directive.ensures
+    (omega (arith, c.events-more.ensures)) in
     record { stands = rw (c.events-more.ensures, c.in-Ok.ensures.items) s; short = omega (arith, c.in-Some.ensures.shorter, c.loop-next.invariant.short) }
 
 pub returns-clause-value : goal.returns-clause-value

@@ -5,4 +5,5 @@ use Rattle.smp_script.proofs.stream.write_text.Goals as goal
 
 pub pieces-preserved : goal.pieces-preserved
 pieces-preserved g c =
-    rw (take-add c.pieces.at c.in-Ok.n c.args.text.now) (appends_both _ _ _ _ _ c.pieces.invariant (rw (take_rest c.args.text.now c.pieces.at) at c.in-Ok.ensures.bytes))
+    rw (take-add c.pieces.at c.in-Ok.n c.args.text.now)
+    (appends_both _ _ _ _ _ c.pieces.invariant (rw (take_rest c.args.text.now c.pieces.at) at c.in-Ok.ensures.bytes))

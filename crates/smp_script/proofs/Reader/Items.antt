@@ -1,5 +1,6 @@
 -- The items of a labels line.
-use Rattle.std.proofs.Common.{◌≡◌, ℕ, ◌<◌, ◌≤◌, Bool, true, false, nat_lt, nat_le, arith, rules, All, ◌&&◌, List, [], ◌∷◌, map, Option, Some, None, Ok, Err, length, codes, refl, sym, ap, ◌∙◌}
+use Rattle.std.proofs.Common.{◌≡◌, ℕ, ◌<◌, ◌≤◌, Bool, true, false, nat_lt, nat_le, arith, rules, All, ◌&&◌, List, [], ◌∷◌, map, Option, Some, None, Ok, Err}
+use Rattle.std.proofs.Common.{length, codes, refl, sym, ap, ◌∙◌}
 use Rattle.std.specs.List.{join_with_byte, list_all}
 use Rattle.std.specs.Str.{bytes_eq}
 use Rattle.std.proofs.lemmas.List.{length-map}
@@ -18,7 +19,8 @@ all_map p f [] = refl
 all_map p f (x ∷ xs) = ap (λ b. p (f x) && b) (all_map p f xs)
 
 -- more parts than two are no item, and a branch is 0 or 1
-parts_no_branch : (key rest part : List ℕ) (others : List (List ℕ)) → bytes_eq rest (codes "0") ≡ false → bytes_eq rest (codes "1") ≡ false → parts_of 58 rest ≡ part ∷ others → item_in (key ∷ part ∷ others) ≡ None
+parts_no_branch : (key rest part : List ℕ) (others : List (List ℕ)) → bytes_eq rest (codes "0") ≡ false → bytes_eq rest (codes "1") ≡ false
+    → parts_of 58 rest ≡ part ∷ others → item_in (key ∷ part ∷ others) ≡ None
 parts_no_branch key rest part [] h0 h1 e =
     let same : rest ≡ part = sym (join_parts 58 rest) ∙ ap (λ ps. join_with_byte 58 ps) e in
     rw (ap (λ t. bytes_eq t (codes "0")) (sym same) ∙ h0, ap (λ t. bytes_eq t (codes "1")) (sym same) ∙ h1) refl
@@ -48,7 +50,8 @@ entries_below keys (i ∷ is) few h =
     search rules
 
 -- more items than a table has sites
-pub many_items : {X : Type 0} (f : X → List ℕ) (keys : ℕ) (xs : List X) → list_all (λ x. has_number (f x)) xs ≡ true → MOST_SITES < length xs → Err Range ≡ entries_in keys (map f xs)
+pub many_items : {X : Type 0} (f : X → List ℕ) (keys : ℕ) (xs : List X) → list_all (λ x. has_number (f x)) xs ≡ true → MOST_SITES < length xs
+    → Err Range ≡ entries_in keys (map f xs)
 many_items f keys xs numbers many =
     let all : list_all has_number (map f xs) ≡ true = all_map has_number f xs ∙ numbers in
     let long : length (map f xs) ≡ length xs = length-map xs f in
@@ -56,7 +59,8 @@ many_items f keys xs numbers many =
     rw (all, test) refl
 
 -- the items of a lawful map
-pub good_items : {X : Type 0} (f : X → List ℕ) (keys : ℕ) (xs : List X) → list_all (λ x. has_number (f x)) xs ≡ true → length xs ≤ MOST_SITES → list_all (λ x. is_below keys (f x)) xs ≡ true
+pub good_items : {X : Type 0} (f : X → List ℕ) (keys : ℕ) (xs : List X) → list_all (λ x. has_number (f x)) xs ≡ true → length xs ≤ MOST_SITES
+    → list_all (λ x. is_below keys (f x)) xs ≡ true
     → entries_in keys (map f xs) ≡ Ok (record { keys = keys; entries = map entry_of (map f xs) })
 good_items f keys xs numbers few below =
     let all : list_all has_number (map f xs) ≡ true = all_map has_number f xs ∙ numbers in
@@ -66,7 +70,8 @@ good_items f keys xs numbers few below =
     rw (all, test, under) refl
 
 -- they make a map
-pub make_labels : {X : Type 0} (f : X → List ℕ) (keys : ℕ) (xs : List X) → keys ≤ MOST_KEYS → length xs ≤ MOST_SITES → list_all (λ x. is_below keys (f x)) xs ≡ true → AreLabels keys (map entry_of (map f xs))
+pub make_labels : {X : Type 0} (f : X → List ℕ) (keys : ℕ) (xs : List X) → keys ≤ MOST_KEYS → length xs ≤ MOST_SITES
+    → list_all (λ x. is_below keys (f x)) xs ≡ true → AreLabels keys (map entry_of (map f xs))
 make_labels f keys xs few_keys few below =
     let under : list_all (is_below keys) (map f xs) ≡ true = all_map (is_below keys) f xs ∙ below in
     record {
