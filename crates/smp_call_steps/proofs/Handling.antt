@@ -12,7 +12,8 @@ use Rattle.smp_call_steps.specs.Words.{FlagsShow, bit, nexts_in, last_batch}
 use Rattle.smp_call_steps.specs.Histories.{orders, running_call}
 use Rattle.smp_call_steps.specs.Stages.{ControlValue, access_of, FitsStage}
 use Rattle.smp_call_steps.specs.Stands.{Share, share_of, StandsAt, HandleStands, held_of}
-use Rattle.smp_call_steps.specs.Known.{told_stage, told_post, told_handle, part_in, part_told, known_of, known_told, known_taking, knowing, stage_after, drain_then, Aims, known_access, Moment, Lives, GoesOn, part_begun_sync, part_begun_async, part_unlocked, part_counted}
+use Rattle.smp_call_steps.specs.Parts.{Part, part_confirmed, part_accepted, part_begun, part_unlocked, part_counted, part_after}
+use Rattle.smp_call_steps.specs.Known.{told_stage, told_post, told_handle, known_told, known_taking, stage_after, drain_then, Aims, known_access, Moment, Lives, GoesOn}
 use Rattle.smp_call_steps.specs.Handling.{rest_of, handling, goes_known, accepted_known, taken_known, begun_sync, counted_sync, begun_async, ended_call}
 use Rattle.smp_words.proofs.Links.{HasIndex}
 use Rattle.smp_call_steps.proofs.Accesses.{access_in_table}
@@ -41,16 +42,10 @@ use Rattle.smp_call_steps.specs.declared.stage.Stage.TheVariants.{Send, Done, Po
 
 -- a step of a CPU goes on to calls of which it knows its part
 pub lives_on : (a : CallState) (control : ℕ → ControlValue) (me : ℕ) (at : Word → ℕ) (w : Known) → GoesOn a control me at w → Lives w
-lives_on a control me at w g = record {
-  calls = g.calls;
-  at = at;
-  control = g.controls;
-  shown = g.shown;
-  view = subst (λ (n : ℕ). w ≡ known_of g.calls g.controls n) (ap (λ (u : Known). u.number) g.mine) (sym g.mine);
-}
+lives_on a control me at w g = record { calls = g.calls; at = at; control = g.controls; shown = g.shown; sees = g.mine }
 
 abbrev pub lives_then : (v : Known) (word : Word) (n : ℕ) → Moment v word n → Lives v
-lives_then v word n t = record { calls = t.calls; at = t.at; control = t.control; shown = t.shown; view = t.view }
+lives_then v word n t = record { calls = t.calls; at = t.at; control = t.control; shown = t.shown; sees = t.sees }
 
 -- who is told to be at a step of handle is there
 post_tells : (p : Posting) (st : PostStage) (h : HandleStage) → told_post p st ≢ Some (Handle h)
@@ -95,37 +90,34 @@ told_there (Some (Post p st)) h e = absurd (post_tells p st h e)
 told_there (Some (Handle g)) h e = handle_tells g h e
 
 -- what is a CPU's own of the drain, as it knows it
-abbrev pub share_in : Known → Share
-share_in v = record { last = last_batch v.taken; batch = v.batch; running = v.running; accepted = v.accepted }
+abbrev pub share_in : Part → Share
+share_in p = record { last = last_batch p.taken; batch = p.batch; running = p.running; accepted = p.accepted }
 
 module _ (v : Known) (l : Lives v) where
-  same_share : share_of l.calls v.number ≡ share_in v
-  same_share = sym (ap share_in l.view)
-
-  same_drain : (l.control v.number).drain ≡ v.drain
-  same_drain = sym (ap (λ (u : Known). u.drain) l.view)
+  same_share : share_of l.calls v.number ≡ share_in v.part
+  same_share = ap share_in l.sees.part
 
   -- what ran, runs and is left is the drain order of the batches
-  pub lives_drained : v.ran ++ (running_call v.running ++ v.batch) ≡ orders v.taken
-  lives_drained = subst (λ (u : Known). u.ran ++ (running_call u.running ++ u.batch) ≡ orders u.taken) (sym l.view) (l.shown.recorded.drained v.number)
+  pub lives_drained : v.part.ran ++ (running_call v.part.running ++ v.part.batch) ≡ orders v.part.taken
+  lives_drained = subst (λ (p : Part). p.ran ++ (running_call p.running ++ p.batch) ≡ orders p.taken) l.sees.part (l.shown.recorded.drained v.number)
 
   module _ (h : HandleStage) (e : v.stage ≡ Some (Handle h)) where
     told : told_stage (l.control v.number).stage ≡ Some (Handle h)
-    told = sym (ap (λ (u : Known). u.stage) l.view) ∙ e
+    told = l.sees.stage ∙ e
 
     at_stage : (l.control v.number).stage ≡ Some (Handle h)
     at_stage = told_there (l.control v.number).stage h told
 
-    stands_there : (v.number < cpus) × HandleStands (nexts_in l.at) (share_in v) v.drain h
+    stands_there : (v.number < cpus) × HandleStands (nexts_in l.at) (share_in v.part) v.drain h
     stands_there =
         let k : StandsAt l.calls.place l.at (share_of l.calls v.number) (l.control v.number).drain v.number (Some (Handle h)) = rw at_stage at (l.shown.stands v.number) in
-        subst (λ (d : DrainValue). (v.number < cpus) × HandleStands (nexts_in l.at) (share_in v) d h) same_drain
+        subst (λ (d : DrainValue). (v.number < cpus) × HandleStands (nexts_in l.at) (share_in v.part) d h) l.sees.drain
         (subst (λ (s : Share). (v.number < cpus) × HandleStands (nexts_in l.at) s (l.control v.number).drain h) same_share k)
 
     pub lives_below : v.number < cpus
     lives_below = stands_there.0
 
-    pub lives_stands : HandleStands (nexts_in l.at) (share_in v) v.drain h
+    pub lives_stands : HandleStands (nexts_in l.at) (share_in v.part) v.drain h
     lives_stands = stands_there.1
 
     pub lives_told : v.stage ≡ told_handle h
@@ -135,9 +127,7 @@ module _ (v : Known) (l : Lives v) where
     lives_aims = (lives_told, lives_below)
 
     same_access : access_of l.at v.number (Handle h) ≡ known_access v (Handle h)
-    same_access =
-        access_known l.calls l.at l.control v.number l.shown (Handle h) (subst (λ (u : Known). Aims u (Handle h)) l.view lives_aims)
-        ∙ ap (λ (u : Known). known_access u (Handle h)) (sym l.view)
+    same_access = access_known l.calls l.at l.control v l.shown l.sees (Handle h) lives_aims
 
     -- the word of its next access is in the table
     pub lives_in_table : HasIndex (word_of (known_access v (Handle h)))
@@ -145,10 +135,10 @@ module _ (v : Known) (l : Lives v) where
 
     -- what that access finds fits, and there is room for it
     pub lives_fits : FitsStage v.drain (Handle h) (l.at (word_of (known_access v (Handle h))))
-    lives_fits = subst (λ (d : DrainValue). FitsStage d (Handle h) (l.at (word_of (known_access v (Handle h))))) same_drain
+    lives_fits = subst (λ (d : DrainValue). FitsStage d (Handle h) (l.at (word_of (known_access v (Handle h))))) l.sees.drain
         (subst (λ (x : Access). FitsStage (l.control v.number).drain (Handle h) (l.at (word_of x))) same_access (found_fits l.calls l.at l.control v.number l.shown (Handle h) at_stage))
 
-    batched : AllByRecursion (IsPlaced l.calls.place (place.Batch v.number)) (share_in v).batch
+    batched : AllByRecursion (IsPlaced l.calls.place (place.Batch v.number)) (share_in v.part).batch
     batched = subst (λ (s : Share). AllByRecursion (IsPlaced l.calls.place (place.Batch v.number)) s.batch) same_share (l.shown.placed.batched v.number)
 
   -- a record of the batch that is loaded is locked
@@ -162,17 +152,17 @@ module _ (v : Known) (l : Lives v) where
   lives_reversed newer id e =
       let k = lives_stands (handle.ReverseLoad newer id) e in
       let all = every_right (IsPlaced l.calls.place (place.Batch v.number)) k.1.older (k.0 ∷ k.1.newer)
-      (reverses_all (IsPlaced l.calls.place (place.Batch v.number)) (nexts_in l.at) (share_in v) v.drain (link_to newer) (l.at (Next id)) k.0 k.1 (batched (handle.ReverseLoad newer id) e)) in
+      (reverses_all (IsPlaced l.calls.place (place.Batch v.number)) (nexts_in l.at) (share_in v.part) v.drain (link_to newer) (l.at (Next id)) k.0 k.1 (batched (handle.ReverseLoad newer id) e)) in
       (lives_placed id k.0 k.2 all.0).0
 
   pub lives_locked : (walk : Walk) (id : ℕ) (next : Option ℕ) → v.stage ≡ Some (Handle (handle.LoadFlags walk id next)) → l.at (Flags id) % 2 ≡ 1
   lives_locked walk id next e =
       let k = lives_stands (handle.LoadFlags walk id next) e in
-      let all = walks_rest (IsPlaced l.calls.place (place.Batch v.number)) (nexts_in l.at) (share_in v) v.drain walk (id + 1) [] (k.0 ∷ k.1) Nothing k.2 (batched (handle.LoadFlags walk id next) e) in
+      let all = walks_rest (IsPlaced l.calls.place (place.Batch v.number)) (nexts_in l.at) (share_in v.part) v.drain walk (id + 1) [] (k.0 ∷ k.1) Nothing k.2 (batched (handle.LoadFlags walk id next) e) in
       (lives_placed id k.0 (same_record id k.0 k.2.leads_on.0) all.0).1
 
   -- the front of the batch is by a record
-  pub lives_front : (call : Call) (rest : List Call) → v.batch ≡ call ∷ rest → call.id < records
+  pub lives_front : (call : Call) (rest : List Call) → v.part.batch ≡ call ∷ rest → call.id < records
   lives_front call rest e =
       let all : AllByRecursion (IsPlaced l.calls.place (place.Batch v.number)) (call ∷ rest) = subst (λ (calls : List Call). AllByRecursion (IsPlaced l.calls.place (place.Batch v.number)) calls) e
       (subst (λ (s : Share). AllByRecursion (IsPlaced l.calls.place (place.Batch v.number)) s.batch) same_share (l.shown.placed.batched v.number)) in
@@ -188,8 +178,8 @@ module _ (v : Known) (l : Lives v) where
 
 -- what a CPU that stands here knows after a step
 pub told_at : (queue : List Call) (v : Known) (s : Option Stage) (act : Act) (w : Word) (found put : Option ℕ) → v.stage ≡ s →
-    known_taking queue v act w found put ≡ knowing v.number (stage_after s v.drain act w found put) (drain_then s v.drain found) (part_told queue (held_of s) act w found put (part_in v))
-told_at queue v s act w found put e = λ i. knowing v.number (stage_after (e i) v.drain act w found put) (drain_then (e i) v.drain found) (part_told queue (held_of (e i)) act w found put (part_in v))
+    known_taking queue v act w found put ≡ record v { stage = stage_after s v.drain act w found put; drain = drain_then s v.drain found; part = part_after queue (held_of s) act w found put v.part }
+told_at queue v s act w found put e = λ i. record v { stage = stage_after (e i) v.drain act w found put; drain = drain_then (e i) v.drain found; part = part_after queue (held_of (e i)) act w found put v.part }
 
 pub entered_is : (v : Known) (cpu : ℕ) → v.stage ≡ None → known_told v act.Store (Hand cpu) None (Some 1) ≡ handling handle.Accept v.drain v
 entered_is v cpu e = told_at [] v None act.Store (Hand cpu) None (Some 1) e
@@ -199,16 +189,16 @@ pub accepted_is : (queue : List Call) (v : Known) (cpu n : ℕ) → v.stage ≡ 
 accepted_is queue v cpu n e one = told_at queue v (Some (Handle handle.Accept)) act.Swap (Intr cpu) (Some n) (Some 0) e ∙ by_test (n == 0) (n == 1) one
   where
     by_test : (b c : Bool) → c ≡ cond b false true →
-        knowing v.number (cond {A = Outcome} b (handle_goes handle.LeaveIdle) (handle_goes handle.Take)).next v.drain (record (part_in v) { asked = v.asked ++ c ∷ []; accepted = cond c true v.accepted }) ≡ accepted_known (cond b false true) v
-    by_test true c f = λ i. knowing v.number (Some (Handle handle.LeaveIdle)) v.drain (record (part_in v) { asked = v.asked ++ f i ∷ []; accepted = cond (f i) true v.accepted })
-    by_test false c f = λ i. knowing v.number (Some (Handle handle.Take)) v.drain (record (part_in v) { asked = v.asked ++ f i ∷ []; accepted = cond (f i) true v.accepted })
+        record v { stage = (cond {A = Outcome} b (handle_goes handle.LeaveIdle) (handle_goes handle.Take)).next; part = part_accepted c v.part } ≡ accepted_known (cond b false true) v
+    by_test true c f = λ i. record v { stage = Some (Handle handle.LeaveIdle); part = part_accepted (f i) v.part }
+    by_test false c f = λ i. record v { stage = Some (Handle handle.Take); part = part_accepted (f i) v.part }
 
 pub taken_is : (queue : List Call) (v : Known) (cpu n : ℕ) → v.stage ≡ Some (Handle handle.Take) → known_taking queue v act.Swap (Head cpu) (Some n) (Some 0) ≡ taken_known queue (record_at n) v
 taken_is queue v cpu n e = told_at queue v (Some (Handle handle.Take)) act.Swap (Head cpu) (Some n) (Some 0) e
 
 pub left_is : (v : Known) (cpu : ℕ) (h : HandleStage) → (stage_after (Some (Handle h)) v.drain act.Store (Hand cpu) None (Some 0) ≡ None) → v.stage ≡ Some (Handle h) → (drain_then (Some (Handle h)) v.drain None ≡ v.drain) →
     known_told v act.Store (Hand cpu) None (Some 0) ≡ record v { stage = None }
-left_is v cpu h out e d = told_at [] v (Some (Handle h)) act.Store (Hand cpu) None (Some 0) e ∙ (λ i. knowing v.number (out i) (d i) (part_in v))
+left_is v cpu h out e d = told_at [] v (Some (Handle h)) act.Store (Hand cpu) None (Some 0) e ∙ (λ i. record v { stage = out i; drain = d i })
 
 -- steps that tell nothing
 
@@ -228,40 +218,40 @@ pub flags_found_is : (v : Known) (h : HandleStage) (id n : ℕ) → v.stage ≡ 
 flags_found_is v h id n e odd = told_at [] v (Some (Handle h)) act.Load (Flags id) (Some n) None e ∙ by_test (n % 2 == 1) (eq-eqb (n % 2) 1 odd)
   where
     by_test : (b : Bool) → b ≡ true →
-        knowing v.number (stage_after (Some (Handle h)) v.drain act.Load (Flags id) (Some n) None) (drain_then (Some (Handle h)) v.drain (Some n)) (cond b (part_in v) (record (part_in v) { confirmed = slice_set v.confirmed id true })) ≡ goes_known h n v
-    by_test b f = λ i. knowing v.number (handle_outcome v.drain h n).next (drain_after v.drain h n) (cond (f i) (part_in v) (record (part_in v) { confirmed = slice_set v.confirmed id true }))
+        record v { stage = (handle_outcome v.drain h n).next; drain = drain_after v.drain h n; part = cond b v.part (part_confirmed id v.part) } ≡ goes_known h n v
+    by_test b f = λ i. record v { stage = (handle_outcome v.drain h n).next; drain = drain_after v.drain h n; part = cond (f i) v.part (part_confirmed id v.part) }
 
 -- steps that begin, count and end a call
 
-pub begun_sync_is : (v : Known) (cpu : ℕ) (walk : Walk) (call : Call) (next : Option ℕ) (rest : List Call) → v.stage ≡ Some (Handle (handle.BeginSync walk call next)) → v.batch ≡ call ∷ rest →
+pub begun_sync_is : (v : Known) (cpu : ℕ) (walk : Walk) (call : Call) (next : Option ℕ) (rest : List Call) → v.stage ≡ Some (Handle (handle.BeginSync walk call next)) → v.part.batch ≡ call ∷ rest →
     known_told v act.Store (Hand cpu) None (Some (call.id + 2)) ≡ begun_sync walk call next v
 begun_sync_is v cpu walk call next rest e b =
     told_at [] v (Some (Handle (handle.BeginSync walk call next))) act.Store (Hand cpu) None (Some (call.id + 2)) e
-    ∙ ((λ i. knowing v.number (Some (Handle (handle.CountSync walk call next))) v.drain (cond (lt-ltb 1 (call.id + 2) (omega arith) i) (part_begun_sync (b i) (part_in v)) (part_in v)))
-    ∙ (λ i. knowing v.number (Some (Handle (handle.CountSync walk call next))) v.drain (record (part_in v) { batch = rest_of (sym b i); running = SyncCall call })))
+    ∙ ((λ i. record v { stage = Some (Handle (handle.CountSync walk call next)); part = cond (lt-ltb 1 (call.id + 2) (omega arith) i) (part_begun SyncCall (b i) v.part) v.part })
+    ∙ (λ i. record v { stage = Some (Handle (handle.CountSync walk call next)); part = record (v.part) { batch = rest_of (sym b i); running = SyncCall call } }))
 
-pub counted_sync_is : (v : Known) (cpu source n : ℕ) (walk : Walk) (call : Call) (next : Option ℕ) → v.stage ≡ Some (Handle (handle.CountSync walk call next)) → v.running ≡ SyncCall call →
+pub counted_sync_is : (v : Known) (cpu source n : ℕ) (walk : Walk) (call : Call) (next : Option ℕ) → v.stage ≡ Some (Handle (handle.CountSync walk call next)) → v.part.running ≡ SyncCall call →
     known_told v act.Store (Ran cpu source) None (Some n) ≡ counted_sync walk call next v
 counted_sync_is v cpu source n walk call next e r =
     told_at [] v (Some (Handle (handle.CountSync walk call next))) act.Store (Ran cpu source) None (Some n) e
-    ∙ (λ i. knowing v.number (Some (Handle (handle.EndSync walk call next))) v.drain (part_counted (r i) (part_in v)))
+    ∙ (λ i. record v { stage = Some (Handle (handle.EndSync walk call next)); part = part_counted (r i) v.part })
 
-pub ended_sync_is : (v : Known) (walk : Walk) (call : Call) (next : Option ℕ) → v.stage ≡ Some (Handle (handle.EndSync walk call next)) → v.running ≡ CountedCall call →
+pub ended_sync_is : (v : Known) (walk : Walk) (call : Call) (next : Option ℕ) → v.stage ≡ Some (Handle (handle.EndSync walk call next)) → v.part.running ≡ CountedCall call →
     known_told v act.Store (Flags call.id) None (Some 0) ≡ ended_call (first_on walk next) call v
 ended_sync_is v walk call next e r =
     told_at [] v (Some (Handle (handle.EndSync walk call next))) act.Store (Flags call.id) None (Some 0) e
-    ∙ (λ i. knowing v.number (Some (Handle (first_on walk next))) v.drain (part_unlocked (r i) (part_in v)))
+    ∙ (λ i. record v { stage = Some (Handle (first_on walk next)); part = part_unlocked (r i) v.part })
 
-pub begun_async_is : (v : Known) (call : Call) (next : Option ℕ) (rest : List Call) → v.stage ≡ Some (Handle (handle.BeginAsync call next)) → v.batch ≡ call ∷ rest → v.running ≡ Nothing →
+pub begun_async_is : (v : Known) (call : Call) (next : Option ℕ) (rest : List Call) → v.stage ≡ Some (Handle (handle.BeginAsync call next)) → v.part.batch ≡ call ∷ rest → v.part.running ≡ Nothing →
     known_told v act.Store (Flags call.id) None (Some 0) ≡ begun_async call next v
 begun_async_is v call next rest e b r =
     told_at [] v (Some (Handle (handle.BeginAsync call next))) act.Store (Flags call.id) None (Some 0) e
-    ∙ ((λ i. knowing v.number (Some (Handle (handle.CountAsync call next))) v.drain (part_unlocked (r i) (part_in v)))
-    ∙ ((λ i. knowing v.number (Some (Handle (handle.CountAsync call next))) v.drain (part_begun_async (b i) (part_in v)))
-    ∙ (λ i. knowing v.number (Some (Handle (handle.CountAsync call next))) v.drain (record (part_in v) { batch = rest_of (sym b i); running = AsyncCall call }))))
+    ∙ ((λ i. record v { stage = Some (Handle (handle.CountAsync call next)); part = part_unlocked (r i) v.part })
+    ∙ ((λ i. record v { stage = Some (Handle (handle.CountAsync call next)); part = part_begun AsyncCall (b i) v.part })
+    ∙ (λ i. record v { stage = Some (Handle (handle.CountAsync call next)); part = record (v.part) { batch = rest_of (sym b i); running = AsyncCall call } })))
 
-pub counted_async_is : (v : Known) (cpu source n : ℕ) (call : Call) (next : Option ℕ) → v.stage ≡ Some (Handle (handle.CountAsync call next)) → v.running ≡ AsyncCall call →
+pub counted_async_is : (v : Known) (cpu source n : ℕ) (call : Call) (next : Option ℕ) → v.stage ≡ Some (Handle (handle.CountAsync call next)) → v.part.running ≡ AsyncCall call →
     known_told v act.Store (Ran cpu source) None (Some n) ≡ ended_call (second_on next) call v
 counted_async_is v cpu source n call next e r =
     told_at [] v (Some (Handle (handle.CountAsync call next))) act.Store (Ran cpu source) None (Some n) e
-    ∙ (λ i. knowing v.number (Some (Handle (second_on next))) v.drain (part_counted (r i) (part_in v)))
+    ∙ (λ i. record v { stage = Some (Handle (second_on next)); part = part_counted (r i) v.part })

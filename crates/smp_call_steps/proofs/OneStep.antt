@@ -1,5 +1,5 @@
 -- One step of a CPU that knows v: what holds after it, and what each CPU knows then.
-use Rattle.std.proofs.Common.{◌≡◌, ◌≢◌, ℕ, ◌+◌, ◌-◌, ◌%◌, nat_lt, Bool, true, false, ◌==◌, cond, Option, Some, None, sym, subst, refl, ap, ◌∙◌}
+use Rattle.std.proofs.Common.{◌≡◌, ◌≢◌, ℕ, ◌+◌, ◌-◌, ◌%◌, nat_lt, Bool, true, false, ◌==◌, cond, Option, Some, None, subst, refl, ap, ◌∙◌}
 use Rattle.smp_words.specs.Put.{put}
 use Rattle.smp_call_steps.specs.Calls.{CallState, Holding}
 use Rattle.smp_call_steps.specs.Posts.{ends, goes_to}
@@ -10,10 +10,11 @@ use Rattle.smp_call_steps.specs.Stages.{ControlValue, access_of, outcome_of, dra
 use Rattle.smp_words.specs.Access.{word_of, at_after, seen_of}
 use Rattle.smp_call_steps.specs.Stands.{held_of}
 use Rattle.smp_call_steps.specs.Shows.{Shows}
-use Rattle.smp_call_steps.specs.Known.{told_post, told_handle, told_stage, knowing, part_of, part_told, known_of, known_tells, stage_after, drain_then, Aims, known_access, GoesOn}
+use Rattle.smp_call_steps.specs.Parts.{part_after}
+use Rattle.smp_call_steps.specs.Known.{told_post, told_handle, told_stage, Sees, known_tells, stage_after, drain_then, Aims, known_access, GoesOn}
 use Rattle.smp_call_steps.proofs.Own.{put_same, put_other}
 use Rattle.smp_call_steps.proofs.Every.{step_shown}
-use Rattle.smp_call_steps.proofs.Restages.{held_told, restages, access_known, aims_told}
+use Rattle.smp_call_steps.proofs.Restages.{known_held, restages, access_known, aims_told}
 use Rattle.smp_call_steps.proofs.Parts.{Told, part_mine, part_else}
 use Rattle.smp_words.specs.declared.call.Call.{Call}
 use Rattle.smp_words.specs.declared.call.Class.{Class}
@@ -156,76 +157,67 @@ leaves at me d (Handle (handle.CountAsync call next)) = refl
 leaves at me d (Handle handle.Leave) = refl
 
 -- the CPU that knows this, and that may make the step of this stage, makes it
-module _ (a : CallState) (at : Word → ℕ) (control : ℕ → ControlValue) (me : ℕ) (s : Shows a at control) (st : Stage) (aims : Aims (known_of a control me) st) where
-  abbrev d : DrainValue
-  d = (control me).drain
+module _ (a : CallState) (at : Word → ℕ) (control : ℕ → ControlValue) (v : Known) (s : Shows a at control) (sees : Sees a control v) (st : Stage) (aims : Aims v st) where
+  abbrev me : ℕ
+  me = v.number
 
-  abbrev standing : ControlValue
-  standing = record { stage = Some st; drain = (control me).drain }
-
-  abbrev after : ControlValue
-  after = control_after (record { stage = Some st; drain = (control me).drain }) st (at (word_of (access_of at me st)))
-
-  controls1 : ℕ → ControlValue
-  controls1 = put control me (record { stage = Some st; drain = (control me).drain })
-
-  here1 : put control me (record { stage = Some st; drain = (control me).drain }) me ≡ record { stage = Some st; drain = (control me).drain }
-  here1 = put_same control me (record { stage = Some st; drain = (control me).drain })
-
-  shown1 : Shows a at (put control me (record { stage = Some st; drain = (control me).drain }))
-  shown1 = restages a at control me s st aims
+  abbrev found : ℕ
+  found = at (word_of (access_of at me st))
 
   -- the step, as this CPU sees it
-  abbrev pub seen : Seen
-  seen = seen_of me (access_of at me st) (at (word_of (access_of at me st))) None
+  abbrev seen : Seen
+  seen = seen_of me (access_of at me st) found None
 
-  abbrev controls2 : ℕ → ControlValue
-  controls2 = put (put control me (record { stage = Some st; drain = (control me).drain })) me (control_after (record { stage = Some st; drain = (control me).drain }) st (at (word_of (access_of at me st))))
+  abbrev standing : ControlValue
+  standing = record { stage = Some st; drain = v.drain }
 
-  shown2 : Shows (Told a at me (control me).drain st) (at_after at (access_of at me st)) (put (put control me (record { stage = Some st; drain = (control me).drain })) me (control_after (record { stage = Some st; drain = (control me).drain }) st (at (word_of (access_of at me st)))))
-  shown2 = rw here1 at (step_shown a at (put control me (record { stage = Some st; drain = (control me).drain })) me shown1 st (ap (λ (c : ControlValue). c.stage) here1))
+  abbrev controls : ℕ → ControlValue
+  controls = put control me standing
 
-  at_me : controls2 me ≡ after
-  at_me = put_same (put control me (record { stage = Some st; drain = (control me).drain })) me after
+  abbrev after : ControlValue
+  after = control_after standing st found
 
-  told_here : told_stage (Some st) ≡ told_stage (control me).stage
-  told_here = aims_told a at control me s st aims
+  here : controls me ≡ standing
+  here = put_same control me standing
 
-  stage2 : told_stage (controls2 me).stage ≡ stage_after (told_stage (control me).stage) (control me).drain seen.act seen.word seen.found seen.put
-  stage2 = ap (λ (c : ControlValue). told_stage c.stage) at_me ∙ (follows at me (control me).drain st ∙ ap (λ (x : Option Stage). stage_after x (control me).drain seen.act seen.word seen.found seen.put) told_here)
+  shown : Shows (Told a at me v.drain st) (at_after at (access_of at me st)) (put controls me after)
+  shown = rw here at (step_shown a at controls me (restages a at control v s sees st aims) st (ap (λ (c : ControlValue). c.stage) here))
 
-  drain2 : (controls2 me).drain ≡ drain_then (told_stage (control me).stage) (control me).drain seen.found
-  drain2 = ap (λ (c : ControlValue). c.drain) at_me ∙ (leaves at me (control me).drain st ∙ ap (λ (x : Option Stage). drain_then x (control me).drain seen.found) told_here)
+  there : put controls me after me ≡ after
+  there = put_same controls me after
 
-  part2 : part_of (Told a at me (control me).drain st) me ≡ part_told (a.queue me) (held_of (told_stage (control me).stage)) seen.act seen.word seen.found seen.put (part_of a me)
-  part2 = part_mine a at control me (control me).drain s st ∙ ap (λ (h : Option Holding). part_told (a.queue me) h seen.act seen.word seen.found seen.put (part_of a me)) (s.held me ∙ sym (held_told (control me).stage))
+  told_here : told_stage (Some st) ≡ v.stage
+  told_here = aims_told a at control v s sees st aims
 
-  mine2 : known_of (Told a at me (control me).drain st) controls2 me ≡ known_tells (a.queue me) (known_of a control me) seen
-  mine2 = λ i. knowing me (stage2 i) (drain2 i) (part2 i)
-
-  else2 : (c : ℕ) → c ≢ me → known_of (Told a at me (control me).drain st) controls2 c ≡ known_of a control c
-  else2 c ne =
-      let there : controls2 c ≡ control c = put_other (put control me (record { stage = Some st; drain = (control me).drain })) me after c ne ∙ put_other control me (record { stage = Some st; drain = (control me).drain }) c ne in
-      let part : part_of (Told a at me (control me).drain st) c ≡ part_of a c = part_else a at control me (control me).drain s st c ne in
-      λ i. knowing c (told_stage (there i).stage) (there i).drain (part i)
-
-  pub one_step : GoesOn a control me (at_after at (access_of at me st)) (known_tells (a.queue me) (known_of a control me) seen)
-  one_step = record {
-    seen = seen_of me (access_of at me st) (at (word_of (access_of at me st))) (outcome_of (control me).drain st (at (word_of (access_of at me st)))).note;
-    calls = Told a at me (control me).drain st;
-    told = refl;
-    controls = controls2;
-    shown = shown2;
-    mine = mine2;
-    others = else2;
+  mine : Sees (Told a at me v.drain st) (put controls me after) (known_tells (a.queue me) v seen)
+  mine = record {
+    stage = ap (λ (c : ControlValue). told_stage c.stage) there ∙ (follows at me v.drain st ∙ ap (λ (x : Option Stage). stage_after x v.drain seen.act seen.word seen.found seen.put) told_here);
+    drain = ap (λ (c : ControlValue). c.drain) there ∙ (leaves at me v.drain st ∙ ap (λ (x : Option Stage). drain_then x v.drain seen.found) told_here);
+    part = part_mine a at control me v.drain s st ∙ (λ i. part_after (a.queue me) (known_held a at control v s sees i) seen.act seen.word seen.found seen.put (sees.part i));
   }
 
--- the same, by what the CPU knows of its access
-pub known_step : (a : CallState) (at : Word → ℕ) (control : ℕ → ControlValue) (v : Known) (st : Stage) (access : Access) → Shows a at control → v ≡ known_of a control v.number → Aims v st → known_access v st ≡ access →
-    GoesOn a control v.number (at_after at access) (known_tells (a.queue v.number) v (seen_of v.number access (at (word_of access)) None))
-known_step a at control v st access s view aims is =
-    let me = v.number in
-    let aims' : Aims (known_of a control me) st = subst (λ (u : Known). Aims u st) view aims in
-    let same : access_of at me st ≡ access = access_known a at control me s st aims' ∙ (ap (λ (u : Known). known_access u st) (sym view) ∙ is) in
-    subst (λ (u : Known). GoesOn a control me (at_after at access) (known_tells (a.queue v.number) u (seen_of me access (at (word_of access)) None))) (sym view)
-    (subst (λ (x : Access). GoesOn a control me (at_after at x) (known_tells (a.queue v.number) (known_of a control me) (seen_of me x (at (word_of x)) None))) same (one_step a at control me s st aims'))
+  others : (o : Known) → o.number ≢ me → Sees a control o → Sees (Told a at me v.drain st) (put controls me after) o
+  others o ne k =
+      let there : put controls me after o.number ≡ control o.number = put_other controls me after o.number ne ∙ put_other control me standing o.number ne in
+      record {
+        stage = ap (λ (c : ControlValue). told_stage c.stage) there ∙ k.stage;
+        drain = ap (λ (c : ControlValue). c.drain) there ∙ k.drain;
+        part = part_else a at control me v.drain s st o.number ne ∙ k.part;
+      }
+
+  one_step : GoesOn a control me (at_after at (access_of at me st)) (known_tells (a.queue me) v seen)
+  one_step = record {
+    seen = seen_of me (access_of at me st) found (outcome_of v.drain st found).note;
+    calls = Told a at me v.drain st;
+    told = refl;
+    controls = put controls me after;
+    shown = shown;
+    mine = mine;
+    number_is = refl;
+    others = others;
+  }
+
+  -- the same, by what the CPU knows of its access
+  pub known_step : (access : Access) → known_access v st ≡ access → GoesOn a control me (at_after at access) (known_tells (a.queue me) v (seen_of me access (at (word_of access)) None))
+  known_step access is =
+      subst (λ (x : Access). GoesOn a control me (at_after at x) (known_tells (a.queue me) v (seen_of me x (at (word_of x)) None))) (access_known a at control v s sees st aims ∙ is) one_step

@@ -2,8 +2,9 @@
 use Rattle.std.proofs.Common.{◌≡◌, ℕ, ◌+◌, ◌-◌, ◌%◌, ◌^◌, Bool, true, false, ◌==◌, cond, Some, None, length, sym, refl, ap, ◌∙◌, arith, true≢false, eq-eqb}
 use Rattle.smp_words.specs.Flags.{flags_of}
 use Rattle.smp_call_steps.specs.Histories.{sent_to, one_held}
-use Rattle.smp_call_steps.specs.Stands.{held_of_post, holding}
-use Rattle.smp_call_steps.specs.Known.{known_told, known_access, posting_of, standing, outside_known, confirmed_known, appended_known}
+use Rattle.smp_call_steps.specs.Stands.{held_of_post, posted}
+use Rattle.smp_call_steps.specs.Parts.{part_confirmed, part_queued}
+use Rattle.smp_call_steps.specs.Known.{known_told, known_access, posting_of, standing, outside_known, confirmed_known, queued_known}
 use Rattle.smp_words.specs.declared.call.Class.{Class}
 use Rattle.smp_words.specs.declared.call.Class.TheVariants.{Sync, Async}
 use Rattle.smp_call_steps.specs.declared.known.Known.{Known}
@@ -59,7 +60,7 @@ pub next_known : (v v' w : Known) (id n : ℕ) (p : Posting) → v' ≡ known_to
 next_known v v' w id n p e f = e ∙ ap (λ (u : Known). known_told u act.Store (Next id) None (Some n)) f
 
 pub won_known : (v v' w : Known) (to link n found : ℕ) (p : Posting) (b : Bool) → b ≡ true → v' ≡ known_told w act.Cas (Head to) (Some found) (cond b (Some n) None) → w ≡ standing p (post.Exchange link 0) v →
-    v' ≡ appended_known to (found == 0) (Some (holding p p.func p.info p.to true)) v
+    v' ≡ queued_known (posted p) to (found == 0) v
 won_known v v' w to link n found p true t e f = e ∙ ap (λ (u : Known). known_told u act.Cas (Head to) (Some found) (Some n)) f
 won_known v v' w to link n found p false t e f = absurd (true≢false (sym t))
 
@@ -71,13 +72,13 @@ pub released_known : (v v' w : Known) (id : ℕ) (p : Posting) → v' ≡ known_
 released_known v v' w id p e f = e ∙ ap (λ (u : Known). known_told u act.Store (Flags id) None (Some 0)) f
 
 -- the numbers that a post stores in its tally word
-pub count_access : (v : Known) (p : Posting) (me count : ℕ) → v.number ≡ me → count ≡ length (sent_to p.to v.sent) % 2 ^ 64 → known_access v (Post p post.Count) ≡ Store (Queued me p.to) ((count + 1) % 2 ^ 64)
-count_access v p me count n e = let same : (length (sent_to p.to v.sent) + 0) % 2 ^ 64 ≡ count = omega arith in λ i. Store (Queued (n i) p.to) ((same i + 1) % 2 ^ 64)
+pub count_access : (v : Known) (p : Posting) (me count : ℕ) → v.number ≡ me → count ≡ length (sent_to p.to v.part.sent) % 2 ^ 64 → known_access v (Post p post.Count) ≡ Store (Queued me p.to) ((count + 1) % 2 ^ 64)
+count_access v p me count n e = let same : (length (sent_to p.to v.part.sent) + 0) % 2 ^ 64 ≡ count = omega arith in λ i. Store (Queued (n i) p.to) ((same i + 1) % 2 ^ 64)
 
 uncounted : (x count : ℕ) → count ≡ x % 2 ^ 64 → ((x + 1) % 2 ^ 64 + (2 ^ 64 - 1)) % 2 ^ 64 ≡ count
 uncounted x count e = omega arith
 
-pub uncount_access : (v : Known) (p : Posting) (me count : ℕ) → v.number ≡ me → count ≡ length (sent_to p.to v.sent) % 2 ^ 64 → known_access v (Post p post.Uncount) ≡ Store (Queued me p.to) count
+pub uncount_access : (v : Known) (p : Posting) (me count : ℕ) → v.number ≡ me → count ≡ length (sent_to p.to v.part.sent) % 2 ^ 64 → known_access v (Post p post.Uncount) ≡ Store (Queued me p.to) count
 uncount_access v p me count n e =
     let one : one_held (held_of_post p post.Uncount) p.to ≡ 1 = rw (eq-eqb p.to p.to refl) refl in
-    (λ i. Store (Queued (n i) p.to) (((length (sent_to p.to v.sent) + one i) % 2 ^ 64 + (2 ^ 64 - 1)) % 2 ^ 64)) ∙ ap (Store (Queued me p.to)) (uncounted (length (sent_to p.to v.sent)) count e)
+    (λ i. Store (Queued (n i) p.to) (((length (sent_to p.to v.part.sent) + one i) % 2 ^ 64 + (2 ^ 64 - 1)) % 2 ^ 64)) ∙ ap (Store (Queued me p.to)) (uncounted (length (sent_to p.to v.part.sent)) count e)

@@ -9,7 +9,8 @@ use Rattle.smp_call_steps.specs.Stages.{ControlValue, access_of}
 use Rattle.smp_call_steps.specs.Places.{Holds}
 use Rattle.smp_call_steps.specs.Stands.{Rests, StandsAt, PostKnows, share_of, held_of, held_of_post, HandIs}
 use Rattle.smp_call_steps.specs.Shows.{Shows}
-use Rattle.smp_call_steps.specs.Known.{told_post, told_handle, told_stage, known_of, Aims, PostAims, Moment, known_access, queued_tally}
+use Rattle.smp_call_steps.specs.Parts.{Part, row}
+use Rattle.smp_call_steps.specs.Known.{told_post, told_handle, told_stage, Sees, Aims, PostAims, Moment, known_access, queued_tally, ran_tally, is_confirmed}
 use Rattle.smp_call_steps.proofs.Rows.{row-at}
 use Rattle.smp_call_steps.proofs.Sending.{stands_on}
 use Rattle.smp_call_steps.specs.declared.known.Known.{Known}
@@ -257,26 +258,34 @@ enters (handle.BeginAsync call next) = inl tt
 enters (handle.CountAsync call next) = inl tt
 enters handle.Leave = inl tt
 
-module _ (a : CallState) (at : Word → ℕ) (control : ℕ → ControlValue) (me : ℕ) (s : Shows a at control) where
-  -- a confirmed record is free, where its source is outside
-  pub free_outside : (id : ℕ) → owner id ≡ me → id < records → told_stage (control me).stage ≡ None → get_or (known_of a control me).confirmed id false ≡ true → a.place id ≡ place.Free
-  free_outside id own small out conf =
-      let none : a.held me ≡ None = s.held me ∙ (sym (held_told (control me).stage) ∙ ap held_of out) in
-      elim (s.placed.settled me id own (sym (row-at records id (a.confirmed me) false small) ∙ conf)) [ inl free ↦ free | inr hold ↦ absurd (let h : Holds None id = rw none at hold in h) ]
+module _ (a : CallState) (at : Word → ℕ) (control : ℕ → ControlValue) (v : Known) (s : Shows a at control) (sees : Sees a control v) where
+  abbrev me : ℕ
+  me = v.number
 
-  pub aims_told : (st : Stage) → Aims (known_of a control me) st → told_stage (Some st) ≡ told_stage (control me).stage
+  -- it holds what its stage says, as far as it knows that
+  pub known_held : a.held me ≡ held_of v.stage
+  known_held = s.held me ∙ (sym (held_told (control me).stage) ∙ ap held_of sees.stage)
+
+  -- a confirmed record is free, where its source is outside
+  pub free_outside : (id : ℕ) → owner id ≡ me → id < records → v.stage ≡ None → is_confirmed v id ≡ true → a.place id ≡ place.Free
+  free_outside id own small out conf =
+      let none : a.held me ≡ None = known_held ∙ ap held_of out in
+      let seen : get_or (row records (a.confirmed me)) id false ≡ true = ap (λ (p : Part). get_or p.confirmed id false) sees.part ∙ conf in
+      elim (s.placed.settled me id own (sym (row-at records id (a.confirmed me) false small) ∙ seen)) [ inl free ↦ free | inr hold ↦ absurd (let h : Holds None id = rw none at hold in h) ]
+
+  pub aims_told : (st : Stage) → Aims v st → told_stage (Some st) ≡ v.stage
   aims_told (Send to) aims = sym aims.0
   aims_told (Done id) aims = sym aims.0
   aims_told (Post p st) aims = aims.told
   aims_told (Handle h) aims = sym aims.0
 
-  idle : IsNoHandle (told_stage (control me).stage) → Idle a at (control me).drain me
-  idle n = idle_told a at me (control me).drain (control me).stage (s.stands me) (s.hands me) n
+  idle : IsNoHandle v.stage → Idle a at (control me).drain me
+  idle n = idle_told a at me (control me).drain (control me).stage (s.stands me) (s.hands me) (subst IsNoHandle (sym sees.stage) n)
 
-  outside_idle : told_stage (control me).stage ≡ None → Idle a at (control me).drain me
+  outside_idle : v.stage ≡ None → Idle a at (control me).drain me
   outside_idle e = idle (subst IsNoHandle (sym e) tt)
 
-  free_at : (p : Posting) (st : PostStage) → PostAims (known_of a control me) p st → IsFreeAt a.place p.id st
+  free_at : (p : Posting) (st : PostStage) → PostAims v p st → IsFreeAt a.place p.id st
   free_at p post.LoadFlags aims = tt
   free_at p post.Lock aims = let call = aims.is_call in free_outside p.id aims.owned call.in_range (sym aims.told) aims.ready
   free_at p post.StoreFunc aims = tt
@@ -291,10 +300,10 @@ module _ (a : CallState) (at : Word → ℕ) (control : ℕ → ControlValue) (m
   abbrev here : Option Stage → ControlValue
   here stage = record { stage = stage; drain = (control me).drain }
 
-  handle_same : (h : HandleStage) → IsBeyond h → told_stage (control me).stage ≡ told_handle h → (control me).stage ≡ Some (Handle h)
-  handle_same h b e = stage_is h (control me).stage (e ∙ told_beyond h b)
+  handle_same : (h : HandleStage) → IsBeyond h → v.stage ≡ told_handle h → (control me).stage ≡ Some (Handle h)
+  handle_same h b e = stage_is h (control me).stage (sees.stage ∙ (e ∙ told_beyond h b))
 
-  aims_stands : (st : Stage) → Aims (known_of a control me) st → StandsAt a.place at (share_of a me) (control me).drain me (Some st)
+  aims_stands : (st : Stage) → Aims v st → StandsAt a.place at (share_of a me) (control me).drain me (Some st)
   aims_stands (Send to) aims = let i = outside_idle aims.0 in (i.rests, aims.1, aims.2)
   aims_stands (Done id) aims = let i = outside_idle aims.0 in (i.rests, aims.1, aims.2)
   aims_stands (Post p st) aims =
@@ -305,7 +314,7 @@ module _ (a : CallState) (at : Word → ℕ) (control : ℕ → ControlValue) (m
           is_call = aims.is_call;
           me_in_range = aims.me_in_range;
           goes = aims.goes;
-          knows = told_knows a.place at p st (subst (Knows a.place at) (sym aims.told) (knows_told a at me (control me).drain (control me).stage (s.stands me))) (free_at p st aims);
+          knows = told_knows a.place at p st (subst (Knows a.place at) (sees.stage ∙ sym aims.told) (knows_told a at me (control me).drain (control me).stage (s.stands me))) (free_at p st aims);
         },
       )
   aims_stands (Handle h) aims = elim (enters h) [
@@ -314,7 +323,7 @@ module _ (a : CallState) (at : Word → ℕ) (control : ℕ → ControlValue) (m
         (let i = outside_idle (aims.0 ∙ ap told_handle e) in (aims.1, i.rests))
   ]
 
-  aims_hand : (st : Stage) → Aims (known_of a control me) st → HandIs (Some st) (at (Hand me))
+  aims_hand : (st : Stage) → Aims v st → HandIs (Some st) (at (Hand me))
   aims_hand (Send to) aims = let i = outside_idle aims.0 in i.hand
   aims_hand (Done id) aims = let i = outside_idle aims.0 in i.hand
   aims_hand (Post p st) aims = let i = idle (subst IsNoHandle aims.told (post_no_handle p st)) in i.hand
@@ -323,25 +332,27 @@ module _ (a : CallState) (at : Word → ℕ) (control : ℕ → ControlValue) (m
     | inr e ↦ subst (λ (x : HandleStage). HandIs (Some (Handle x)) (at (Hand me))) (sym e) (let i = outside_idle (aims.0 ∙ ap told_handle e) in i.hand)
   ]
 
-  pub aims_held : (st : Stage) → Aims (known_of a control me) st → a.held me ≡ held_of (Some st)
-  aims_held st aims = s.held me ∙ (sym (held_told (control me).stage) ∙ (ap held_of (sym (aims_told st aims)) ∙ held_told (Some st)))
+  pub aims_held : (st : Stage) → Aims v st → a.held me ≡ held_of (Some st)
+  aims_held st aims = known_held ∙ (ap held_of (sym (aims_told st aims)) ∙ held_told (Some st))
 
   -- the CPU may stand there, and it knows what it knew
-  pub restages : (st : Stage) → Aims (known_of a control me) st → Shows a at (put control me (record { stage = Some st; drain = (control me).drain }))
-  restages st aims = stands_on a at control me (record { stage = Some st; drain = (control me).drain }) s (aims_held st aims) (aims_stands st aims) (aims_hand st aims)
+  pub restages : (st : Stage) → Aims v st → Shows a at (put control me (record { stage = Some st; drain = v.drain }))
+  restages st aims =
+      subst (λ (d : DrainValue). Shows a at (put control me (record { stage = Some st; drain = d }))) sees.drain
+      (stands_on a at control me (record { stage = Some st; drain = (control me).drain }) s (aims_held st aims) (aims_stands st aims) (aims_hand st aims))
 
   -- the access is the one that the CPU knows
-  pub access_known : (st : Stage) → Aims (known_of a control me) st → access_of at me st ≡ known_access (known_of a control me) st
+  pub access_known : (st : Stage) → Aims v st → access_of at me st ≡ known_access v st
   access_known (Send to) aims = refl
   access_known (Done id) aims = refl
   access_known (Post p st) aims =
       let held : a.held me ≡ held_of_post p st = aims_held (Post p st) aims in
-      ap (post_access p me st) (s.tallied.queued_are me p.to ∙ ap (λ h. queued_tally (known_of a control me) h p.to) held)
-  access_known (Handle h) aims = ap (handle_access me h) (s.tallied.ran_are me (source_at h))
+      ap (post_access p me st) (s.tallied.queued_are me p.to ∙ (λ i. queued_tally (sees.part i) (held i) p.to))
+  access_known (Handle h) aims = ap (handle_access me h) (s.tallied.ran_are me (source_at h) ∙ (λ i. ran_tally (sees.part i) (source_at h)))
 
 -- where a CPU stands outside, its confirmed records are unlocked
-pub confirmed_unlocked : (v : Known) (id n : ℕ) → Moment v (Flags id) n → v.stage ≡ None → owner id ≡ v.number → id < records → get_or v.confirmed id false ≡ true → (n % 2 == 1) ≡ false
+pub confirmed_unlocked : (v : Known) (id n : ℕ) → Moment v (Flags id) n → v.stage ≡ None → owner id ≡ v.number → id < records → is_confirmed v id ≡ true → (n % 2 == 1) ≡ false
 confirmed_unlocked v id n m out own small conf =
-    let free : m.calls.place id ≡ place.Free = free_outside m.calls m.at m.control v.number m.shown id own small (sym (ap (λ (u : Known). u.stage) m.view) ∙ out) (sym (ap (λ (u : Known). get_or u.confirmed id false) m.view) ∙ conf) in
+    let free : m.calls.place id ≡ place.Free = free_outside m.calls m.at m.control v m.shown m.sees id own small out conf in
     let zero_there : m.at (Flags id) ≡ 0 = rw free at (m.shown.written.locks id) in
     rw (m.number_is, zero_there) refl

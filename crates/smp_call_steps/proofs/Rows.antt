@@ -1,7 +1,7 @@
 -- Rows: the first values of a function, as a list.
 use Rattle.std.proofs.Common.{◌≡◌, ℕ, zero, suc, ◌<◌, cond, ◌∷◌, length, get_or, set, refl, ap, ◌∙◌, arith}
 use Rattle.smp_words.specs.Put.{put}
-use Rattle.smp_call_steps.specs.Known.{row}
+use Rattle.smp_call_steps.specs.Parts.{row}
 use Rattle.smp_words.proofs.Puts.{at_test}
 use Rattle.smp_call_steps.proofs.Own.{put_same, put_other}
 

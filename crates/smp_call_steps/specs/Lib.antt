@@ -17,6 +17,7 @@ pub mod Counts
 pub mod BatchLinks
 pub mod QueueOrder
 -- what a CPU knows
+pub mod Parts
 pub mod Known
 pub mod Handling
 -- the machine: a list of words, and a list of controls
