@@ -13,7 +13,7 @@ use Rattle.smp_call_steps.specs.Histories.{orders, running_call}
 use Rattle.smp_call_steps.specs.Stages.{ControlValue, access_of, FitsStage}
 use Rattle.smp_call_steps.specs.Stands.{Share, share_of, StandsAt, HandleStands, held_of}
 use Rattle.smp_call_steps.specs.Parts.{Part, part_confirmed, part_accepted, part_begun, part_unlocked, part_counted, part_after}
-use Rattle.smp_call_steps.specs.Known.{told_stage, told_post, told_handle, known_told, known_taking, stage_after, drain_then, Aims, known_access, Moment, Lives, GoesOn}
+use Rattle.smp_call_steps.specs.Known.{told_stage, told_post, told_handle, known_told, known_taking, stage_after, drain_then, Aims, known_access, Lives, GoesOn}
 use Rattle.smp_call_steps.specs.Handling.{rest_of, handling, goes_known, accepted_known, taken_known, begun_sync, counted_sync, begun_async, ended_call}
 use Rattle.smp_words.proofs.Links.{HasIndex}
 use Rattle.smp_call_steps.proofs.Accesses.{access_in_table}
@@ -42,10 +42,7 @@ use Rattle.smp_call_steps.specs.declared.stage.Stage.TheVariants.{Send, Done, Po
 
 -- a step of a CPU goes on to calls of which it knows its part
 pub lives_on : (a : CallState) (control : ℕ → ControlValue) (me : ℕ) (at : Word → ℕ) (w : Known) → GoesOn a control me at w → Lives w
-lives_on a control me at w g = record { calls = g.calls; at = at; control = g.controls; shown = g.shown; sees = g.mine }
-
-abbrev pub lives_then : (v : Known) (word : Word) (n : ℕ) → Moment v word n → Lives v
-lives_then v word n t = record { calls = t.calls; at = t.at; control = t.control; shown = t.shown; sees = t.sees }
+lives_on a control me at w g = record { calls = g.calls; at = at; controls = g.controls; shown = g.shown; sees = g.mine }
 
 -- who is told to be at a step of handle is there
 post_tells : (p : Posting) (st : PostStage) (h : HandleStage) → told_post p st ≢ Some (Handle h)
@@ -102,17 +99,17 @@ module _ (v : Known) (l : Lives v) where
   lives_drained = subst (λ (p : Part). p.ran ++ (running_call p.running ++ p.batch) ≡ orders p.taken) l.sees.part (l.shown.recorded.drained v.number)
 
   module _ (h : HandleStage) (e : v.stage ≡ Some (Handle h)) where
-    told : told_stage (l.control v.number).stage ≡ Some (Handle h)
+    told : told_stage (l.controls v.number).stage ≡ Some (Handle h)
     told = l.sees.stage ∙ e
 
-    at_stage : (l.control v.number).stage ≡ Some (Handle h)
-    at_stage = told_there (l.control v.number).stage h told
+    at_stage : (l.controls v.number).stage ≡ Some (Handle h)
+    at_stage = told_there (l.controls v.number).stage h told
 
     stands_there : (v.number < cpus) × HandleStands (nexts_in l.at) (share_in v.part) v.drain h
     stands_there =
-        let k : StandsAt l.calls.place l.at (share_of l.calls v.number) (l.control v.number).drain v.number (Some (Handle h)) = rw at_stage at (l.shown.stands v.number) in
+        let k : StandsAt l.calls.place l.at (share_of l.calls v.number) (l.controls v.number).drain v.number (Some (Handle h)) = rw at_stage at (l.shown.stands v.number) in
         subst (λ (d : DrainValue). (v.number < cpus) × HandleStands (nexts_in l.at) (share_in v.part) d h) l.sees.drain
-        (subst (λ (s : Share). (v.number < cpus) × HandleStands (nexts_in l.at) s (l.control v.number).drain h) same_share k)
+        (subst (λ (s : Share). (v.number < cpus) × HandleStands (nexts_in l.at) s (l.controls v.number).drain h) same_share k)
 
     pub lives_below : v.number < cpus
     lives_below = stands_there.0
@@ -127,16 +124,16 @@ module _ (v : Known) (l : Lives v) where
     lives_aims = (lives_told, lives_below)
 
     same_access : access_of l.at v.number (Handle h) ≡ known_access v (Handle h)
-    same_access = access_known l.calls l.at l.control v l.shown l.sees (Handle h) lives_aims
+    same_access = access_known l.calls l.at l.controls v l.shown l.sees (Handle h) lives_aims
 
     -- the word of its next access is in the table
     pub lives_in_table : HasIndex (word_of (known_access v (Handle h)))
-    lives_in_table = subst (λ (x : Access). HasIndex (word_of x)) same_access (access_in_table l.calls l.at l.control v.number l.shown (Handle h) at_stage)
+    lives_in_table = subst (λ (x : Access). HasIndex (word_of x)) same_access (access_in_table l.calls l.at l.controls v.number l.shown (Handle h) at_stage)
 
     -- what that access finds fits, and there is room for it
     pub lives_fits : FitsStage v.drain (Handle h) (l.at (word_of (known_access v (Handle h))))
     lives_fits = subst (λ (d : DrainValue). FitsStage d (Handle h) (l.at (word_of (known_access v (Handle h))))) l.sees.drain
-        (subst (λ (x : Access). FitsStage (l.control v.number).drain (Handle h) (l.at (word_of x))) same_access (found_fits l.calls l.at l.control v.number l.shown (Handle h) at_stage))
+        (subst (λ (x : Access). FitsStage (l.controls v.number).drain (Handle h) (l.at (word_of x))) same_access (found_fits l.calls l.at l.controls v.number l.shown (Handle h) at_stage))
 
     batched : AllByRecursion (IsPlaced l.calls.place (place.Batch v.number)) (share_in v.part).batch
     batched = subst (λ (s : Share). AllByRecursion (IsPlaced l.calls.place (place.Batch v.number)) s.batch) same_share (l.shown.placed.batched v.number)

@@ -353,6 +353,7 @@ module _ (a : CallState) (at : Word → ℕ) (control : ℕ → ControlValue) (v
 -- where a CPU stands outside, its confirmed records are unlocked
 pub confirmed_unlocked : (v : Known) (id n : ℕ) → Moment v (Flags id) n → v.stage ≡ None → owner id ≡ v.number → id < records → is_confirmed v id ≡ true → (n % 2 == 1) ≡ false
 confirmed_unlocked v id n m out own small conf =
-    let free : m.calls.place id ≡ place.Free = free_outside m.calls m.at m.control v m.shown m.sees id own small out conf in
-    let zero_there : m.at (Flags id) ≡ 0 = rw free at (m.shown.written.locks id) in
+    let l = m.lives in
+    let free : l.calls.place id ≡ place.Free = free_outside l.calls l.at l.controls v l.shown l.sees id own small out conf in
+    let zero_there : l.at (Flags id) ≡ 0 = rw free at (l.shown.written.locks id) in
     rw (m.number_is, zero_there) refl

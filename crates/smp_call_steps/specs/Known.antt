@@ -173,22 +173,18 @@ known_access v (Done id) = Load (Flags id)
 known_access v (Post p stage) = post_access p v.number stage (queued_tally v.part (held_of_post p stage) p.to)
 known_access v (Handle stage) = handle_access v.number stage (ran_tally v.part (source_at stage))
 
--- the table at some time: this CPU knows v, and this number is in the word
-pub record Moment (v : Known) (word : Word) (number : ℕ) : Type 0 where
-  pub calls : CallState
-  pub at : Word → ℕ
-  pub control : ℕ → ControlValue
-  pub shown : Shows calls at control
-  pub sees : Sees calls control v
-  pub number_is : number ≡ at word
-
 -- some words show some calls, of which a CPU that knows v knows its part
 pub record Lives (v : Known) : Type 0 where
   pub calls : CallState
   pub at : Word → ℕ
-  pub control : ℕ → ControlValue
-  pub shown : Shows calls at control
-  pub sees : Sees calls control v
+  pub controls : ℕ → ControlValue
+  pub shown : Shows calls at controls
+  pub sees : Sees calls controls v
+
+-- the table at some time: this CPU knows v, and this number is in the word
+pub record Moment (v : Known) (word : Word) (number : ℕ) : Type 0 where
+  pub lives : Lives v
+  pub number_is : number ≡ lives.at word
 
 -- the table goes on by a step of this CPU, after which it knows w
 pub record GoesOn (a : CallState) (control : ℕ → ControlValue) (me : ℕ) (at : Word → ℕ) (w : Known) : Type 0 where

@@ -7,7 +7,7 @@ use Rattle.smp_call_steps.specs.Places.{IsApart}
 use Rattle.smp_call_steps.specs.Stands.{Share, Walks}
 use Rattle.smp_call_steps.specs.Words.{Path, last_batch, nexts_in}
 use Rattle.smp_call_steps.proofs.Alls.{every_right}
-use Rattle.smp_call_steps.proofs.Handling.{lives_then, lives_stands}
+use Rattle.smp_call_steps.proofs.Handling.{lives_stands, share_in}
 use Rattle.smp_call_steps.proofs.Turns.{put_here, put_else}
 use Rattle.smp_call_steps.proofs.Walks.{link_back, same_record}
 use Rattle.smp_words.specs.declared.call.Call.{Call}
@@ -55,11 +55,10 @@ walks_less nexts s d walk id n call rest w found =
 
 -- the same at the load of the link
 pub ahead_less : (t : TableId) (d : Desk) (walk : Walk) (id n : ℕ) → InHandle t d (handle.LoadNext walk id) → Moment d.known (Next id) n →
-    left_from (record_at n) (last_batch d.known.taken) < left_from (Some id) (last_batch d.known.taken)
+    left_from (record_at n) (last_batch d.known.part.taken) < left_from (Some id) (last_batch d.known.part.taken)
 ahead_less t d walk id n at m =
-    let live = lives_then d.known (Next id) n m in
-    let k = lives_stands d.known live (handle.LoadNext walk id) at.stage_is in
-    walks_less (nexts_in m.at) (record { last = last_batch d.known.taken; batch = d.known.batch; running = d.known.running; accepted = d.known.accepted }) d.known.drain walk id n k.0 k.1 k.2 m.number_is
+    let k = lives_stands d.known m.lives (handle.LoadNext walk id) at.stage_is in
+    walks_less (nexts_in m.lives.at) (share_in d.known.part) d.known.drain walk id n k.0 k.1 k.2 m.number_is
 
 -- and so it is when the CPU has run the call, for it has taken no queue since
 pub ahead_then : (taken taken' : List (List Call)) (here next : Option ℕ) (id n : ℕ) → here ≡ Some id → next ≡ record_at n → taken' ≡ taken → left_from (record_at n) (last_batch taken) < left_from (Some id) (last_batch taken) →
@@ -70,5 +69,5 @@ ahead_then taken taken' here next id n e f t l =
     (subst (λ (x : List (List Call)). left_from (record_at n) (last_batch x) < left_from (Some id) (last_batch taken)) (sym t) l))
 
 -- a CPU that has run calls, and no more, has taken no queue
-pub same_taken : (d d1 d2 : Desk) (calls : List Call) → d1.known ≡ record (d.known) { stage = d1.known.stage } → cpu_of d2 ≡ runs calls (cpu_of d1) → d2.known.taken ≡ d.known.taken
-same_taken d d1 d2 calls k ran = ap (λ (v : CpuValue). v.taken) ran ∙ ap (λ (u : Known). u.taken) k
+pub same_taken : (d d1 d2 : Desk) (calls : List Call) → d1.known ≡ record (d.known) { stage = d1.known.stage } → cpu_of d2 ≡ runs calls d2.known.part (cpu_of d1) → d2.known.part.taken ≡ d.known.part.taken
+same_taken d d1 d2 calls k ran = ap (λ (v : CpuValue). v.part.taken) ran ∙ ap (λ (u : Known). u.part.taken) k

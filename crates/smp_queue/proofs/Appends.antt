@@ -2,8 +2,8 @@
 use Rattle.std.proofs.Common.{◌≡◌, ℕ, Bool, true, Some, length, ◌%◌, ◌^◌, sym, refl, ap, ◌∙◌}
 use Rattle.atomic_table.specs.Seated.{TableId}
 use Rattle.smp_call_steps.specs.Histories.{sent_to}
-use Rattle.smp_call_steps.specs.Stands.{holding}
-use Rattle.smp_call_steps.specs.Known.{standing, appended_known, outside_known}
+use Rattle.smp_call_steps.specs.Stands.{posted}
+use Rattle.smp_call_steps.specs.Known.{standing, queued_known, outside_known}
 use Rattle.smp_call_steps.specs.declared.known.Known.{Known}
 use Rattle.smp_call_steps.specs.declared.post.Posting.{Posting}
 use Rattle.smp_call_steps.specs.declared.post.PostStage.TheVariants as post
@@ -26,12 +26,12 @@ module _ (table : TableId) (before desk : Desk) (p : Posting) (t : Tries table b
   pub tries_tallied : (number count : ℕ) → IsCounting before.known p number count → IsTallied desk.known p number count
   tries_tallied number count k = record {
     number_is = ap (λ (u : Known). u.number) t.known_is ∙ k.number_is;
-    count_is = k.count_is ∙ ap (λ (u : Known). length (sent_to p.to u.sent) % 2 ^ 64) (sym t.known_is);
+    count_is = k.count_is ∙ ap (λ (u : Known). length (sent_to p.to u.part.sent) % 2 ^ 64) (sym t.known_is);
   }
 
   -- the call is queued
-  pub tries_won : (v : Known) (first : Bool) → v ≡ appended_known p.to first (Some (holding (counted p) p.func p.info p.to true)) desk.known → v ≡ appended_known p.to first (Some (holding (counted p) p.func p.info p.to true)) before.known
-  tries_won v first e = e ∙ ap (appended_known p.to first (Some (holding (counted p) p.func p.info p.to true))) t.known_is
+  pub tries_won : (v : Known) (first : Bool) → v ≡ queued_known (posted p) p.to first desk.known → v ≡ queued_known (posted p) p.to first before.known
+  tries_won v first e = e ∙ ap (queued_known (posted p) p.to first) t.known_is
 
   -- it has given up
   pub tries_left : (v : Known) → v ≡ outside_known desk.known → v ≡ outside_known before.known

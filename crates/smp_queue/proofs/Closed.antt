@@ -5,7 +5,10 @@ use lib.ListN.{get_elem?}
 use Rattle.std.proofs.lemmas.Bool.{eqb-true, eq-eqb, ltb-true, ltb-false}
 use Rattle.atomic_table.specs.Table.{State}
 use Rattle.smp_words.specs.Size.{cpus, records}
+use Rattle.smp_call_steps.specs.Calls.{no_calls}
 use Rattle.smp_call_steps.specs.Histories.{sent_to, calls_from}
+use Rattle.smp_call_steps.specs.Parts.{part_of}
+use Rattle.smp_call_steps.specs.declared.known.Part.{Part}
 use Rattle.smp_call_steps.proofs.Drained.{Still, still_queued, still_ran, equal_tallies, all_ran, all_sent}
 use Rattle.smp_call_steps.specs.declared.known.Known.{Known}
 use Rattle.smp_words.specs.declared.word.Word.TheVariants.{Hand, Queued, Ran, Flags}
@@ -29,7 +32,7 @@ closes nr s r id v at =
     let number = sits.0 in
     let few = r.1.few in
     let next = (r.0.each_seat 0 (Boot r.1.next) r.1.counts).0 in
-    record { calls = r.0.calls; controls = r.0.controls; shown = r.0.shown; view = sits.2; below = omega arith; absent = λ cpu l. r.0.absent cpu (omega arith) }
+    record { calls = r.0.calls; controls = r.0.controls; shown = r.0.shown; sees = sits.2; below = omega arith; absent = λ cpu l. r.0.absent cpu (omega arith) }
 
 no_lock : (n : ℕ) → (n % 2 == 1) ≡ false → n % 2 ≢ 1
 no_lock n e f = true≢false (sym (eq-eqb (n % 2) 1 f) ∙ e)
@@ -66,8 +69,8 @@ drained_rows nr d words (audit.Drained t) within c a = λ other below.
     let l : me < cpus = omega arith in
     let at = number_in words in
     let s = still words a.0 in (
-      a.1.queued_are me other l below ∙ (still_queued c.calls at c.controls c.shown s me other ∙ ap (λ (v : Known). length (sent_to other v.sent) % 2 ^ 64) (sym c.view)),
-      a.1.ran_are me other l below ∙ (still_ran c.calls at c.controls c.shown s me other ∙ ap (λ (v : Known). length (calls_from other v.ran) % 2 ^ 64) (sym c.view)),
+      a.1.queued_are me other l below ∙ (still_queued c.calls at c.controls c.shown s me other ∙ ap (λ (p : Part). length (sent_to other p.sent) % 2 ^ 64) c.sees.part),
+      a.1.ran_are me other l below ∙ (still_ran c.calls at c.controls c.shown s me other ∙ ap (λ (p : Part). length (calls_from other p.ran) % 2 ^ 64) c.sees.part),
     )
 drained_rows nr d words (audit.Left left) within c a = tt
 
@@ -81,11 +84,14 @@ drained_zeros nr v words (audit.Drained t) c a = λ cpu other l m past. (
     equal : (source cpu : ℕ) → number_in words (Queued source cpu) ≡ number_in words (Ran cpu source)
     equal = equal_tallies c.calls (number_in words) c.controls c.shown (still words a.0)
 
+    none : (cpu : ℕ) → nr ≤ cpu → part_of c.calls cpu ≡ part_of no_calls cpu
+    none cpu p = let sees = c.absent cpu p in sees.part
+
     none_queued : (source cpu : ℕ) → nr ≤ source → number_in words (Queued source cpu) ≡ 0
-    none_queued source cpu p = still_queued c.calls (number_in words) c.controls c.shown (still words a.0) source cpu ∙ ap (λ (u : Known). length (sent_to cpu u.sent) % 2 ^ 64) (c.absent source p)
+    none_queued source cpu p = still_queued c.calls (number_in words) c.controls c.shown (still words a.0) source cpu ∙ ap (λ (q : Part). length (sent_to cpu q.sent) % 2 ^ 64) (none source p)
 
     none_ran : (cpu source : ℕ) → nr ≤ cpu → number_in words (Ran cpu source) ≡ 0
-    none_ran cpu source p = still_ran c.calls (number_in words) c.controls c.shown (still words a.0) cpu source ∙ ap (λ (u : Known). length (calls_from source u.ran) % 2 ^ 64) (c.absent cpu p)
+    none_ran cpu source p = still_ran c.calls (number_in words) c.controls c.shown (still words a.0) cpu source ∙ ap (λ (q : Part). length (calls_from source q.ran) % 2 ^ 64) (none cpu p)
 drained_zeros nr v words (audit.Left left) c a = tt
 
 -- all its calls have run
@@ -103,9 +109,9 @@ audited t d words answer e c a = record {
   at = number_in words;
   controls = c.controls;
   shown = c.shown;
-  view = λ i. cpu_of (record { table = e i; known = c.view i });
+  view = λ i. record { table = e i; number = d.known.number; part = sym c.sees.part i };
   below = c.below;
-  absent = λ cpu l. λ i. cpu_of (record { table = t.table; known = c.absent cpu l i });
+  absent = λ cpu l. let sees = c.absent cpu l in λ i. record { table = t.table; number = cpu; part = sees.part i };
   answers = a;
   drained = drained_run t.nr d.known words answer c a;
 }

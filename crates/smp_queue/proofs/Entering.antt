@@ -8,9 +8,10 @@ use Rattle.smp_call_steps.specs.declared.known.Running.TheVariants.{Nothing}
 use Rattle.smp_call_steps.specs.Words.{last_batch}
 use Rattle.std.specs.List.{FoldsTo}
 use Rattle.smp_call_steps.specs.Histories.{orders, running_call}
+use Rattle.smp_call_steps.specs.Parts.{part_taken}
 use Rattle.smp_call_steps.specs.Known.{known_told, known_taking, Moment, Lives, outside_known}
 use Rattle.smp_call_steps.specs.Handling.{handling, accepted_known, taken_known, IsLeaving}
-use Rattle.smp_call_steps.proofs.Handling.{lives_then, lives_stands, lives_drained, lives_intr, entered_is, accepted_is, left_is}
+use Rattle.smp_call_steps.proofs.Handling.{lives_stands, lives_drained, lives_intr, entered_is, accepted_is, left_is}
 use Rattle.smp_call_steps.proofs.Taking.{orders-push, last_batch-push}
 use Rattle.smp_words.specs.declared.call.Call.{Call}
 use Rattle.smp_call_steps.specs.declared.known.Known.{Known}
@@ -26,6 +27,7 @@ use Rattle.smp_queue.specs.Handling.{Grows, HasRunAll, runs, asks, drains, heard
 use Rattle.smp_queue.specs.declared.handler.Heard.{Heard}
 use Rattle.smp_queue.proofs.Cells.{has_cell}
 use Rattle.smp_queue.proofs.Handles.{in_handle_ready, in_handle_then}
+use Rattle.smp_queue.proofs.Running.{more_calls}
 
 module _ (t : TableId) (d d' : Desk) (number : ℕ) where
   pub enter_ready : IsOutside t d number → Ready t d (Store (Hand number) 1)
@@ -95,18 +97,19 @@ module _ (t : TableId) (d d' : Desk) (number : ℕ) where
 pub accepted_then : (t : TableId) (d d' : Desk) (v : Known) (number n : ℕ) (q : List Call) → InHandle t d handle.Accept → Moment d.known (Intr number) n → d.known ≡ handling handle.Accept v.drain v →
     d'.known ≡ known_taking q d.known act.Swap (Intr number) (Some n) (Some 0) → d'.known ≡ accepted_known (cond (n == 0) false true) (handling handle.Accept v.drain v)
 accepted_then t d d' v number n q h m is known =
-    let one : (n == 1) ≡ cond (n == 0) false true = subst (λ (k : ℕ). (k == 1) ≡ cond (k == 0) false true) (sym m.number_is) (lives_intr d.known (lives_then d.known (Intr number) n m) number) in
+    let one : (n == 1) ≡ cond (n == 0) false true = subst (λ (k : ℕ). (k == 1) ≡ cond (k == 0) false true) (sym m.number_is) (lives_intr d.known m.lives number) in
     known ∙ (accepted_is q d.known number n h.stage_is one ∙ ap (accepted_known (cond (n == 0) false true)) is)
 
--- outside a call, what ran is the drain order of the batches
-ran_orders : (v : Known) → Lives v → v.batch ≡ [] → v.running ≡ Nothing → v.ran ≡ orders v.taken
-ran_orders v l b r = sym (append-nil v.ran) ∙ ((λ i. v.ran ++ (running_call (sym r i) ++ sym b i)) ∙ lives_drained v l)
+-- where no call runs and none is left, what ran is the drain order of the batches
+ran_orders : (v : Known) → Lives v → v.part.batch ≡ [] → v.part.running ≡ Nothing → v.part.ran ≡ orders v.part.taken
+ran_orders v l b r = sym (append-nil v.part.ran) ∙ ((λ i. v.part.ran ++ (running_call (sym r i) ++ sym b i)) ∙ lives_drained v l)
 
 -- the calls that ran since a queue was taken are that queue in drain order
-pub ran_order : (v w : Known) (queue calls : List Call) → Lives v → v.batch ≡ [] → v.running ≡ Nothing → Lives w → w.batch ≡ [] → w.running ≡ Nothing → w.taken ≡ v.taken ++ queue ∷ [] → w.ran ≡ v.ran ++ calls → calls ≡ order queue
+pub ran_order : (v w : Known) (queue calls : List Call) → Lives v → v.part.batch ≡ [] → v.part.running ≡ Nothing → Lives w → w.part.batch ≡ [] → w.part.running ≡ Nothing →
+    w.part.taken ≡ v.part.taken ++ queue ∷ [] → w.part.ran ≡ v.part.ran ++ calls → calls ≡ order queue
 ran_order v w queue calls lv bv rv lw bw rw' taken ran =
-    append_cancel_left v.ran calls (order queue)
-    (sym ran ∙ (ran_orders w lw bw rw' ∙ (ap orders taken ∙ (orders-push v.taken queue ∙ ap (λ (xs : List Call). xs ++ order queue) (sym (ran_orders v lv bv rv))))))
+    append_cancel_left v.part.ran calls (order queue)
+    (sym ran ∙ (ran_orders w lw bw rw' ∙ (ap orders taken ∙ (orders-push v.part.taken queue ∙ ap (λ (xs : List Call). xs ++ order queue) (sym (ran_orders v lv bv rv))))))
 
 pub FoldsTo-append : {A B : Type 0} (R : A → B → A → Type 0) (p : A) (xs : List B) (q : A) (ys : List B) (r : A) → FoldsTo R p xs q → FoldsTo R q ys r → FoldsTo R p (xs ++ ys) r
 FoldsTo-append {A} {B} R p [] q ys r h k = subst (λ (x : A). FoldsTo R x ys r) (sym h) k
@@ -119,20 +122,18 @@ module _ {H : Type 0} (leads : H → Heard → H → Type 0) (t : TableId) (s0 s
       s5.known.drain.calls ≡ s3.known.drain.calls → (batch : List Call) × (cpu_of s6 ≡ drains batch (asks true (cpu_of s0))) × (Grows leads before (order batch) after) × (s3.known.drain.calls ≡ length batch)
   has_handled t0 h1 k1 t2 k2 t3 k3 ran h5 ran' t6 k6 same_calls =
       let c1 : cpu_of s1 ≡ asks true (cpu_of s0) = λ i. cpu_of (record { table = (h1.table_is ∙ sym t0) i; known = k1 i }) in
-      let c2 : cpu_of s2 ≡ record (cpu_of s1) { taken = s1.known.taken ++ queue ∷ [] } = λ i. cpu_of (record { table = (t2 ∙ sym h1.table_is) i; known = k2 i }) in
+      let c2 : cpu_of s2 ≡ record (cpu_of s1) { part = part_taken queue s1.known.part } = λ i. cpu_of (record { table = (t2 ∙ sym h1.table_is) i; known = k2 i }) in
       let c3 : cpu_of s3 ≡ cpu_of s2 = λ i. cpu_of (record { table = (t3 ∙ sym t2) i; known = k3 i }) in
       let c6 : cpu_of s6 ≡ cpu_of s5 = λ i. cpu_of (record { table = (t6 ∙ sym h5.table_is) i; known = k6 i }) in
-      let all : List Call = ran.calls ++ ran'.calls in
-      let c4 : cpu_of s4 ≡ runs ran.calls (record (cpu_of s1) { taken = s1.known.taken ++ queue ∷ [] }) = ran.cpu ∙ ap (runs ran.calls) (c3 ∙ c2) in
-      let c5 : cpu_of s5 ≡ runs (ran.calls ++ ran'.calls) (record (cpu_of s1) { taken = s1.known.taken ++ queue ∷ [] }) =
-      ran'.cpu ∙ (ap (runs ran'.calls) c4 ∙ (λ i. record (cpu_of s1) { taken = s1.known.taken ++ queue ∷ []; ran = append_assoc s1.known.ran ran.calls ran'.calls i })) in
+      let c5 : cpu_of s5 ≡ runs (ran.calls ++ ran'.calls) s5.known.part (record (cpu_of s1) { part = part_taken queue s1.known.part }) =
+      ran'.cpu ∙ (ap (runs ran'.calls s5.known.part) (ran.cpu ∙ ap (runs ran.calls s4.known.part) (c3 ∙ c2)) ∙ more_calls ran.calls ran'.calls s5.known.part (record (cpu_of s1) { part = part_taken queue s1.known.part })) in
       let taking = lives_stands s1.known h1.lives handle.Take h1.stage_is in
       let leaves = lives_stands s5.known h5.lives handle.Leave h5.stage_is in
       let leaving = leaves.0 in
-      let taken : s5.known.taken ≡ s1.known.taken ++ queue ∷ [] = ap (λ (v : CpuValue). v.taken) c5 in
-      let same : ran.calls ++ ran'.calls ≡ order queue = ran_order s1.known s5.known queue (ran.calls ++ ran'.calls) h1.lives taking.0 taking.1 h5.lives leaving.batch leaving.running taken (ap (λ (v : CpuValue). v.ran) c5) in (
+      let taken : s5.known.part.taken ≡ s1.known.part.taken ++ queue ∷ [] = ap (λ (v : CpuValue). v.part.taken) c5 in
+      let same : ran.calls ++ ran'.calls ≡ order queue = ran_order s1.known s5.known queue (ran.calls ++ ran'.calls) h1.lives taking.0 taking.1 h5.lives leaving.batch leaving.running taken (ap (λ (v : CpuValue). v.part.ran) c5) in (
         queue,
-        c6 ∙ (c5 ∙ ((λ i. runs (same i) (record (c1 i) { taken = (c1 i).taken ++ queue ∷ [] })))),
+        c6 ∙ (c5 ∙ (λ i. record (c1 i) { part = record (part_taken queue (c1 i).part) { batch = leaving.batch i; running = leaving.running i; ran = (c1 i).part.ran ++ same i } })),
         subst (λ (calls : List Call). Grows leads before calls after) same (FoldsTo-append (λ p x q. leads p (heard_of x) q) before ran.calls between ran'.calls after ran.grows ran'.grows),
-        sym same_calls ∙ (leaves.1 ∙ ap length (ap last_batch taken ∙ last_batch-push s1.known.taken queue)),
+        sym same_calls ∙ (leaves.1 ∙ ap length (ap last_batch taken ∙ last_batch-push s1.known.part.taken queue)),
       )

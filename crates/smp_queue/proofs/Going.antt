@@ -5,10 +5,10 @@ use Rattle.smp_words.specs.Access.{word_of}
 use Rattle.smp_call_steps.specs.Drains.{record_at, unlink_after, handle_outcome, by_class, FitsFound, reverse_on, first_on, second_on}
 use Rattle.smp_words.specs.Flags.{class_of}
 use Rattle.smp_queue.specs.declared.handler.Heard.{Heard}
-use Rattle.smp_queue.specs.Handling.{HasRunAll}
+use Rattle.smp_queue.specs.Handling.{HasRunAll, runs}
 use Rattle.smp_call_steps.specs.Known.{known_told, known_access, Moment, Lives}
 use Rattle.smp_call_steps.specs.Handling.{goes_known}
-use Rattle.smp_call_steps.proofs.Handling.{lives_then, lives_fits, next_found_is, func_found_is, info_found_is, flags_found_is, lives_locked}
+use Rattle.smp_call_steps.proofs.Handling.{lives_fits, next_found_is, func_found_is, info_found_is, flags_found_is, lives_locked}
 use Rattle.smp_call_steps.specs.declared.known.Known.{Known}
 use Rattle.smp_words.specs.declared.word.Word.{Word}
 use Rattle.smp_words.specs.declared.word.Word.TheVariants.{Flags, Func, Info, Next}
@@ -41,8 +41,8 @@ module _ (t : TableId) (d d' : Desk) (h : HandleStage) (at : InHandle t d h) (id
 -- what is found fits
 pub found_fits : (t : TableId) (d d' : Desk) (h : HandleStage) → InHandle t d h → (w : Word) (n : ℕ) → HasLoad t d d' w n → word_of (known_access d.known (Handle h)) ≡ w → FitsFound h n
 found_fits t d d' h at w n l e =
-    let live = lives_then d.known w n l.moment in
-    subst (FitsFound h) (ap l.moment.at e ∙ sym l.moment.number_is) (lives_fits d.known live h at.stage_is).0
+    let m = l.moment in
+    subst (FitsFound h) (ap m.lives.at e ∙ sym m.number_is) (lives_fits d.known m.lives h at.stage_is).0
 
 -- a CPU that reverses its chain, between two records
 pub record Reversing (t : TableId) (before d : Desk) (here next : Option ℕ) (calls : ℕ) : Type 0 where
@@ -53,8 +53,7 @@ pub record Reversing (t : TableId) (before d : Desk) (here next : Option ℕ) (c
 -- what is found at some time fits
 pub moment_fits : (t : TableId) (d : Desk) (h : HandleStage) → InHandle t d h → (w : Word) (n : ℕ) → Moment d.known w n → word_of (known_access d.known (Handle h)) ≡ w → FitsFound h n
 moment_fits t d h at w n m e =
-    let live = lives_then d.known w n m in
-    subst (FitsFound h) (ap m.at e ∙ sym m.number_is) (lives_fits d.known live h at.stage_is).0
+    subst (FitsFound h) (ap m.lives.at e ∙ sym m.number_is) (lives_fits d.known m.lives h at.stage_is).0
 
 -- a CPU in its second pass, between two calls
 pub record Running2 {H : Type 0} (leads : H → Heard → H → Type 0) (t : TableId) (before d : Desk) (here : Option ℕ) (counts : List ℕ) (first now : H) : Type 0 where
@@ -83,8 +82,8 @@ pub run_kept : {H : Type 0} (leads : H → Heard → H → Type 0) (before d d' 
 run_kept {H} leads before d d' counts p q r table k = record {
   calls = r.calls;
   drain = ap (λ (u : Known). u.drain) k ∙ r.drain;
-  cpu = (λ i. cpu_of (record { table = table i; known = k i })) ∙ r.cpu;
-  counts_are = record { sized = r.counts_are.sized; are = λ source l. r.counts_are.are source l ∙ ap (λ (u : Known). length (calls_from source u.ran) % 2 ^ 64) (sym k) };
+  cpu = (λ i. cpu_of (record { table = table i; known = k i })) ∙ (r.cpu ∙ (λ i. runs r.calls (sym k i).part (cpu_of before)));
+  counts_are = record { sized = r.counts_are.sized; are = λ source l. r.counts_are.are source l ∙ ap (λ (u : Known). length (calls_from source u.part.ran) % 2 ^ 64) (sym k) };
   grows = r.grows;
 }
 
@@ -116,7 +115,7 @@ module _ (t : TableId) (d d1 d2 : Desk) (walk : Walk) (id n flags : ℕ) (at : I
 
   module _ (l2 : HasLoad t d1 d2 (Flags id) flags) where
     found_lock : flags % 2 ≡ 1
-    found_lock = ap (λ (k : ℕ). k % 2) l2.moment.number_is ∙ lives_locked d1.known (lives_then d1.known (Flags id) flags l2.moment) walk id (record_at n) sync_flags_at.stage_is
+    found_lock = ap (λ (k : ℕ). k % 2) l2.moment.number_is ∙ lives_locked d1.known l2.moment.lives walk id (record_at n) sync_flags_at.stage_is
 
     class_known : d2.known ≡ goes_known (handle.LoadFlags walk id (record_at n)) flags (goes_known (handle.LoadNext walk id) n d.known)
     class_known =

@@ -11,7 +11,7 @@ use Rattle.smp_call_steps.specs.Calls.{CallState, no_calls}
 use Rattle.smp_call_steps.specs.Stages.{ControlValue}
 use Rattle.smp_call_steps.specs.Value.{outside}
 use Rattle.smp_call_steps.specs.Shows.{Shows}
-use Rattle.smp_call_steps.specs.Known.{known_of, fresh, known_told, known_taking, GoesOn, Lives}
+use Rattle.smp_call_steps.specs.Known.{Sees, fresh, known_told, known_taking, GoesOn, Lives}
 use Rattle.smp_call_steps.proofs.Own.{put_same, put_other}
 use Rattle.smp_call_steps.proofs.OneStep.{known_step}
 use Rattle.smp_call_steps.proofs.Handling.{lives_on}
@@ -76,15 +76,15 @@ exchange_else queue v (Info r) n o = refl
 exchange_else queue v (Next r) n o = refl
 exchange_else queue v _ n o = refl
 
-load_step : (a : CallState) (at : Word → ℕ) (control : ℕ → ControlValue) (v : Known) (w : Word) → Can v (Load w) → Shows a at control → v ≡ known_of a control v.number → GoesOn a control v.number at (known_told v act.Load w (Some (at w)) None)
-load_step a at control v w can shown view = subst (GoesOn a control v.number at) (load_else (a.queue v.number) v w (at w)) (known_step a at control v can.stage (Load w) shown view can.aims can.is_access)
+load_step : (a : CallState) (at : Word → ℕ) (control : ℕ → ControlValue) (v : Known) (w : Word) → Can v (Load w) → Shows a at control → Sees a control v → GoesOn a control v.number at (known_told v act.Load w (Some (at w)) None)
+load_step a at control v w can shown sees = subst (GoesOn a control v.number at) (load_else (a.queue v.number) v w (at w)) (known_step a at control v shown sees can.stage can.aims (Load w) can.is_access)
 
-store_step : (a : CallState) (at : Word → ℕ) (control : ℕ → ControlValue) (v : Known) (w : Word) (x : ℕ) → Can v (Store w x) → Shows a at control → v ≡ known_of a control v.number → GoesOn a control v.number (put_word at w x) (known_told v act.Store w None (Some x))
-store_step a at control v w x can shown view = subst (GoesOn a control v.number (put_word at w x)) (store_else (a.queue v.number) v w x) (known_step a at control v can.stage (Store w x) shown view can.aims can.is_access)
+store_step : (a : CallState) (at : Word → ℕ) (control : ℕ → ControlValue) (v : Known) (w : Word) (x : ℕ) → Can v (Store w x) → Shows a at control → Sees a control v → GoesOn a control v.number (put_word at w x) (known_told v act.Store w None (Some x))
+store_step a at control v w x can shown sees = subst (GoesOn a control v.number (put_word at w x)) (store_else (a.queue v.number) v w x) (known_step a at control v shown sees can.stage can.aims (Store w x) can.is_access)
 
-exchange_step : (a : CallState) (at : Word → ℕ) (control : ℕ → ControlValue) (v : Known) (w : Word) (old new : ℕ) → Can v (Exchange w old new) → Shows a at control → v ≡ known_of a control v.number →
+exchange_step : (a : CallState) (at : Word → ℕ) (control : ℕ → ControlValue) (v : Known) (w : Word) (old new : ℕ) → Can v (Exchange w old new) → Shows a at control → Sees a control v →
     GoesOn a control v.number (cond (at w == old) (put_word at w new) at) (known_told v act.Cas w (Some (at w)) (cond (at w == old) (Some new) None))
-exchange_step a at control v w old new can shown view = subst (GoesOn a control v.number (cond (at w == old) (put_word at w new) at)) (exchange_else (a.queue v.number) v w (at w) (cond (at w == old) (Some new) None)) (known_step a at control v can.stage (Exchange w old new) shown view can.aims can.is_access)
+exchange_step a at control v w old new can shown sees = subst (GoesOn a control v.number (cond (at w == old) (put_word at w new) at)) (exchange_else (a.queue v.number) v w (at w) (cond (at w == old) (Some new) None)) (known_step a at control v shown sees can.stage can.aims (Exchange w old new) can.is_access)
 
 module _ {S : Type 0} where
   pub starts : Ruled {S = S} (opening (replicate cells 0) [] (Boot 0))
@@ -96,7 +96,7 @@ module _ {S : Type 0} where
     wide = length-replicate {A = ℕ} cells 0;
     shown = zeros_shown (number_in (replicate cells 0)) (λ _. outside) (λ w. zero_at cells (cell_of w)) (λ _. refl);
     each_seat = each;
-    absent = λ _ _. refl;
+    absent = λ _ _. record { stage = refl; drain = refl; part = refl };
   }
     where
       each : (id : ℕ) (v : Seated) → get_elem? (Boot 0 ∷ []) id ≡ some v → Sits no_calls (λ _. outside) (λ _. 0) 0 id v
@@ -132,7 +132,7 @@ module _ {S : Type 0} where
             (λ (t : (j ≡ id) × (Boot (n + 1) ≡ u)). subst (Sits r.calls r.controls (put r.seat n (length (set s.views id (Boot (n + 1))))) (n + 1) j) t.1 (refl, t.0 ∙ mine.1))
             (λ (t : (j ≢ id) × (get_elem? s.views j ≡ some u)). old j u t.0 t.1 (r.each_seat j u t.1)) (at_set s.views id j (Boot (n + 1)) u t))
             (λ (t : (j ≡ length (set s.views id (Boot (n + 1)))) × (Of (fresh n) ≡ u)). subst (Sits r.calls r.controls (put r.seat n (length (set s.views id (Boot (n + 1))))) (n + 1) j) t.1
-            (omega arith, put_same r.seat n (length (set s.views id (Boot (n + 1)))) ∙ sym t.0, sym (r.absent n (let a = mine.0 in omega arith))))
+            (omega arith, put_same r.seat n (length (set s.views id (Boot (n + 1)))) ∙ sym t.0, r.absent n (let a = mine.0 in omega arith)))
             (at_snoc (set s.views id (Boot (n + 1))) (Of (fresh n)) u j e);
         absent = λ c l. r.absent c (let a = mine.0 in omega arith);
       }
@@ -148,27 +148,24 @@ module _ {S : Type 0} where
     wide = length-set s.words i n ∙ r.wide;
     shown = g.shown;
     each_seat = λ j u e. ⊎_elim
-        (λ (t : (j ≡ id) × (Of w ≡ u)). subst (Sits g.calls g.controls r.seat r.next j) t.1 (subst (λ k. k < r.next) (sym same) mine.0, ap r.seat same ∙ (mine.1 ∙ sym t.0), sym g.mine ∙ ap (known_of g.calls g.controls) (sym same)))
+        (λ (t : (j ≡ id) × (Of w ≡ u)). subst (Sits g.calls g.controls r.seat r.next j) t.1 (subst (λ k. k < r.next) (sym g.number_is) mine.0, ap r.seat g.number_is ∙ (mine.1 ∙ sym t.0), g.mine))
         (λ (t : (j ≢ id) × (get_elem? s.views j ≡ some u)). other j u t.0 (r.each_seat j u t.1)) (at_set s.views id j (Of w) u e);
-    absent = λ c l. g.others c (λ e. let a = mine.0 in let b = e in omega arith) ∙ r.absent c l;
+    absent = λ c l. g.others (fresh c) (λ e. let a = mine.0 in let b = e in omega arith) (r.absent c l);
   }
     where
       mine : Sits r.calls r.controls r.seat r.next id (Of v)
       mine = r.each_seat id (Of v) at
 
-      same : w.number ≡ v.number
-      same = sym (ap (λ (u : Known). u.number) g.mine)
-
       other : (j : ℕ) (u : Seated) → j ≢ id → Sits r.calls r.controls r.seat r.next j u → Sits g.calls g.controls r.seat r.next j u
       other j (Boot k) n h = h
-      other j (Of u) n h = (h.0, h.1, h.2 ∙ sym (g.others u.number (λ e. n (sym h.1 ∙ (ap r.seat e ∙ mine.1)))))
+      other j (Of u) n h = (h.0, h.1, g.others u (λ e. n (sym h.1 ∙ (ap r.seat e ∙ mine.1))) h.2)
 
   module _ (slots id : ℕ) (me : Me S Seated) (is : IsOf me.0) where
     abbrev v : Known
     v = known me.0
 
     steps : (i : ℕ) (f : ℕ → ℕ) (then : ℕ → Me S Seated → Type 0) →
-        ((a : CallState) (control : ℕ → ControlValue) (words : List ℕ) → Shows a (number_in words) control → length words ≡ cells → known me.0 ≡ known_of a control (known me.0).number →
+        ((a : CallState) (control : ℕ → ControlValue) (words : List ℕ) → Shows a (number_in words) control → length words ≡ cells → Sees a control (known me.0) →
         (w : Known) × GoesOn a control (known me.0).number (number_in (set words i (f (get_or words i 0)))) w × then (get_or words i 0) (Of w, me.1)) →
         Allows Ruled slots id me i f (λ n m. Lives (known m.0) × then n m)
     steps i f then go s r sized at fits =
@@ -179,21 +176,21 @@ module _ {S : Type 0} where
         (Of t.0, keeps, tt, lifts s r id i (f (get_or s.words i 0)) v t.0 me.1 at' t.1, (lives, t.2))
 
     pub load_allowed : (w : Word) (i : ℕ) → cell_of w ≡ Some i → Can (known me.0) (Load w) → Allows Ruled slots id me i (λ n. n) (loaded (step slots i 0 0 none) me)
-    load_allowed w i e can = steps i (λ n. n) (LoadTells (step slots i 0 0 none) me) (λ a control words shown wide view.
+    load_allowed w i e can = steps i (λ n. n) (LoadTells (step slots i 0 0 none) me) (λ a control words shown wide sees.
         let here : number_in words w ≡ get_or words i 0 = number_here words w i e in (
           known_told v act.Load w (Some (get_or words i 0)) None,
           subst (λ (x : List ℕ). GoesOn a control v.number (number_in x) (known_told v act.Load w (Some (get_or words i 0)) None)) (sym (set-get_or words i 0))
-              (subst (λ n. GoesOn a control v.number (number_in words) (known_told v act.Load w (Some n) None)) here (load_step a (number_in words) control v w can shown view)),
+              (subst (λ n. GoesOn a control v.number (number_in words) (known_told v act.Load w (Some n) None)) here (load_step a (number_in words) control v w can shown sees)),
           λ u f. (
-            record { calls = a; at = number_in words; control = control; shown = shown; view = view; number_is = sym (number_here words u i f) },
+            record { lives = record { calls = a; at = number_in words; controls = control; shown = shown; sees = sees }; number_is = sym (number_here words u i f) },
             ap (λ (x : Word). Of (known_told v act.Load x (Some (get_or words i 0)) None)) (one_cell w u i e f),
           ),
         ))
 
     pub store_allowed : (w : Word) (i x : ℕ) → cell_of w ≡ Some i → Can (known me.0) (Store w x) → Allows Ruled slots id me i (λ _. x) (λ _. stored (step slots i x 0 none) me x)
-    store_allowed w i x e can = steps i (λ _. x) (λ _. StoreTells (step slots i x 0 none) me x) (λ a control words shown wide view. (
+    store_allowed w i x e can = steps i (λ _. x) (λ _. StoreTells (step slots i x 0 none) me x) (λ a control words shown wide sees. (
       known_told v act.Store w None (Some x),
-      subst (λ (at : Word → ℕ). GoesOn a control v.number at (known_told v act.Store w None (Some x))) (sym (stored_here words w i x wide e)) (store_step a (number_in words) control v w x can shown view),
+      subst (λ (at : Word → ℕ). GoesOn a control v.number at (known_told v act.Store w None (Some x))) (sym (stored_here words w i x wide e)) (store_step a (number_in words) control v w x can shown sees),
       λ u f. ap (λ (y : Word). Of (known_told v act.Store y None (Some x))) (one_cell w u i e f),
     ))
 
@@ -203,7 +200,7 @@ module _ {S : Type 0} where
 
     pub exchange_allowed : (w : Word) (i old new : ℕ) → cell_of w ≡ Some i → Can (known me.0) (Exchange w old new) →
         Allows Ruled slots id me i (λ n. either (n == old) new n) (exchanged (step slots i old new none) me)
-    exchange_allowed w i old new e can = steps i (λ n. either (n == old) new n) (ExchangeTells (step slots i old new none) me) (λ a control words shown wide view.
+    exchange_allowed w i old new e can = steps i (λ n. either (n == old) new n) (ExchangeTells (step slots i old new none) me) (λ a control words shown wide sees.
         let n = get_or words i 0 in
         let here : number_in words w ≡ n = number_here words w i e in
         let same : (cond (number_in words w == old) (put_word (number_in words) w new) (number_in words)) ≡ number_in (set words i (either (n == old) new n)) =
@@ -211,19 +208,19 @@ module _ {S : Type 0} where
           known_told v act.Cas w (Some n) (cond (n == old) (Some new) None),
           subst (λ (at : Word → ℕ). GoesOn a control v.number at (known_told v act.Cas w (Some n) (cond (n == old) (Some new) None))) same
               (subst (λ k. GoesOn a control v.number (cond (number_in words w == old) (put_word (number_in words) w new) (number_in words)) (known_told v act.Cas w (Some k) (cond (k == old) (Some new) None))) here
-              (exchange_step a (number_in words) control v w old new can shown view)),
+              (exchange_step a (number_in words) control v w old new can shown sees)),
           λ u f. ap (λ (x : Word). Of (known_told v act.Cas x (Some n) (cond (n == old) (Some new) None))) (one_cell w u i e f),
         ))
 
     pub swap_allowed : (w : Word) (i x : ℕ) → cell_of w ≡ Some i → Can (known me.0) (Swap w x) → Allows Ruled slots id me i (λ _. x) (swapped (step slots i x 0 none) me)
-    swap_allowed w i x e can = steps i (λ _. x) (SwapTells (step slots i x 0 none) me) (λ a control words shown wide view.
+    swap_allowed w i x e can = steps i (λ _. x) (SwapTells (step slots i x 0 none) me) (λ a control words shown wide sees.
         let here : number_in words w ≡ get_or words i 0 = number_here words w i e in
         let q = a.queue v.number in (
           known_taking q v act.Swap w (Some (get_or words i 0)) (Some x),
           subst (λ (at : Word → ℕ). GoesOn a control v.number at (known_taking q v act.Swap w (Some (get_or words i 0)) (Some x))) (sym (stored_here words w i x wide e))
-              (subst (λ n. GoesOn a control v.number (put_word (number_in words) w x) (known_taking q v act.Swap w (Some n) (Some x))) here (known_step a (number_in words) control v can.stage (Swap w x) shown view can.aims can.is_access)),
+              (subst (λ n. GoesOn a control v.number (put_word (number_in words) w x) (known_taking q v act.Swap w (Some n) (Some x))) here (known_step a (number_in words) control v shown sees can.stage can.aims (Swap w x) can.is_access)),
           λ u f. (
-            record { calls = a; at = number_in words; control = control; shown = shown; view = view; number_is = sym (number_here words u i f) },
+            record { lives = record { calls = a; at = number_in words; controls = control; shown = shown; sees = sees }; number_is = sym (number_here words u i f) },
             ap (λ (y : Word). Of (known_taking q v act.Swap y (Some (get_or words i 0)) (Some x))) (one_cell w u i e f),
           ),
         ))

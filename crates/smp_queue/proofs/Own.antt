@@ -7,8 +7,9 @@ use Rattle.smp_mask.specs.Mask.{has}
 use Rattle.smp_words.specs.Size.{cpus, records, records_of_one, record_of}
 use Rattle.smp_words.specs.Limits.{AreLimits}
 use Rattle.smp_call_steps.specs.Start.{command_refusal}
-use Rattle.smp_call_steps.specs.Stands.{holding}
-use Rattle.smp_call_steps.specs.Known.{posting_of, standing, appended_known, is_confirmed}
+use Rattle.smp_call_steps.specs.Stands.{posted}
+use Rattle.smp_call_steps.specs.Parts.{part_queued}
+use Rattle.smp_call_steps.specs.Known.{posting_of, standing, queued_known, is_confirmed}
 use Rattle.smp_words.proofs.Sizes.{owner-of_record, record_of-below}
 use Rattle.smp_call_steps.proofs.Starts.{online_below}
 use Rattle.smp_words.specs.declared.call.Class.{Class}
@@ -59,11 +60,7 @@ set_twice (z ∷ zs) (suc i) x y = ap (λ (ws : List _). z ∷ ws) (set_twice zs
 
 -- a CPU that has queued the call of this post
 abbrev with_call : Posting → Bool → CpuValue → CpuValue
-with_call p first c = record c {
-  sent = c.sent ++ record { call = record { id = p.id; class = p.class; func = p.func; info = p.info }; to = p.to; is_first = first } ∷ [];
-  owes = cond first (set c.owes p.to true) c.owes;
-  confirmed = set c.confirmed p.id false;
-}
+with_call p first c = record c { part = part_queued (posted p) p.to first c.part }
 
 -- a CPU whose record k was just seen confirmed, and the call that it posts by it
 pub record Begun (table : TableId) (d : Desk) (number k to func info : ℕ) (class : Class) (queued ran : List ℕ) (old new : CpuValue) (p : Posting) : Type 0 where
@@ -99,20 +96,21 @@ module _ (table : TableId) (d : Desk) (number k to func info : ℕ) (class : Cla
 
   pub begun_confirmed : is_confirmed d.known p.id ≡ true
   begun_confirmed =
-      let same : d.known.confirmed ≡ set old.confirmed (record_of old.number k) true = ap (λ (c : CpuValue). c.confirmed) seen in
-      let sized : length old.confirmed ≡ records = sym (length-set old.confirmed (record_of old.number k) true) ∙ (sym (ap length same) ∙ b.kept.records_sized) in
+      let same : d.known.part.confirmed ≡ set old.part.confirmed (record_of old.number k) true = ap (λ (c : CpuValue). c.part.confirmed) seen in
+      let sized : length old.part.confirmed ≡ records = sym (length-set old.part.confirmed (record_of old.number k) true) ∙ (sym (ap length same) ∙ b.kept.records_sized) in
       let l : record_of number k < records = record_of-below number k b.kept.below b.small in
       let l2 : record_of old.number k < records = subst (λ (n : ℕ). record_of n k < records) (sym same_number) l in
       let id : p.id ≡ record_of old.number k = ap (λ (x : Posting). x.id) b.posting in
-      ap (λ (xs : List Bool). get_or xs p.id false) same ∙ (ap (λ (n : ℕ). get_or (set old.confirmed (record_of old.number k) true) n false) id ∙ get_or-set_same old.confirmed (record_of old.number k) true false (omega arith))
+      ap (λ (xs : List Bool). get_or xs p.id false) same ∙ (ap (λ (n : ℕ). get_or (set old.part.confirmed (record_of old.number k) true) n false) id ∙ get_or-set_same old.part.confirmed (record_of old.number k) true false (omega arith))
 
   -- its call is queued
   pub begun_posts : (d' : Desk) (w : Known) (first : Bool) → d'.table ≡ table → w ≡ standing (uncounted p) post.Count d.known →
-      d'.known ≡ appended_known p.to first (Some (holding (counted p) p.func p.info p.to true)) w → cpu_of d' ≡ posts k to class func info first old
+      d'.known ≡ queued_known (posted p) p.to first w → cpu_of d' ≡ posts k to class func info first old
   begun_posts d' w first is stands appended =
       let id = record_of old.number k in
-      let known : d'.known ≡ appended_known p.to first (Some (holding (counted p) p.func p.info p.to true)) d.known = appended ∙ ap (appended_known p.to first (Some (holding (counted p) p.func p.info p.to true))) stands in
+      let p' : Posting = posting_of id class func info to in
+      let known : d'.known ≡ queued_known (posted p) p.to first d.known = appended ∙ ap (queued_known (posted p) p.to first) stands in
       let same_table : d'.table ≡ d.table = is ∙ sym (ap (λ (c : CpuValue). c.table) seen ∙ b.table_is) in
       let desk : cpu_of d' ≡ with_call p first (cpu_of d) = λ i. cpu_of (record { table = same_table i; known = known i }) in
       desk ∙ (ap (with_call p first) seen ∙ (ap (λ (q : Posting). with_call q first (confirms k old)) b.posting ∙
-      (λ i. record (posts k to class func info first old) { confirmed = set_twice old.confirmed id true false i })))
+      (λ i. record old { part = record (part_queued (posted p') to first old.part) { confirmed = set_twice old.part.confirmed id true false i } })))

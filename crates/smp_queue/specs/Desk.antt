@@ -105,9 +105,9 @@ pub record IsMine (table : TableId) (desk : Desk) (p : Posting) : Type 0 where
 pub record IsCounting (v : Known) (p : Posting) (number count : ℕ) : Type 0 where
   pub stage : v.stage ≡ Some (Post (uncounted p) post.Count)
   pub number_is : v.number ≡ number
-  pub count_is : count ≡ length (sent_to p.to v.sent) % 2 ^ 64
+  pub count_is : count ≡ length (sent_to p.to v.part.sent) % 2 ^ 64
 
 -- so many calls that a CPU has queued for a call's destination
 pub record IsTallied (v : Known) (p : Posting) (number count : ℕ) : Type 0 where
   pub number_is : v.number ≡ number
-  pub count_is : count ≡ length (sent_to p.to v.sent) % 2 ^ 64
+  pub count_is : count ≡ length (sent_to p.to v.part.sent) % 2 ^ 64

@@ -21,7 +21,7 @@ module _ {S : Type 0} where
 
   -- the queue that a swap of the head takes is that of the calls at that moment
   abbrev pub SwapTells : Step S → Me S Seated → ℕ → Me S Seated → Type 0
-  SwapTells st m n m' = let v = known m.0 in (w : Word) → cell_of w ≡ Some st.word → (t : Moment v w n) × (m'.0 ≡ Of (known_taking (t.calls.queue v.number) v act.Swap w (Some n) (Some st.first)))
+  SwapTells st m n m' = let v = known m.0 in (w : Word) → cell_of w ≡ Some st.word → (t : Moment v w n) × (m'.0 ≡ Of (known_taking (t.lives.calls.queue v.number) v act.Swap w (Some n) (Some st.first)))
 
   abbrev pub loaded : Step S → Me S Seated → ℕ → Me S Seated → Type 0
   loaded st m n m' = Lives (known m'.0) × LoadTells st m n m'

@@ -6,7 +6,7 @@ use Rattle.atomic_table.specs.Table.{State}
 use Rattle.smp_call_steps.specs.Calls.{CallState}
 use Rattle.smp_call_steps.specs.Stages.{ControlValue}
 use Rattle.smp_call_steps.specs.Shows.{Shows}
-use Rattle.smp_call_steps.specs.Known.{known_of, fresh}
+use Rattle.smp_call_steps.specs.Known.{Sees, fresh}
 use Rattle.smp_call_steps.specs.declared.known.Known.{Known}
 use Rattle.smp_queue.specs.Cells.{cells, number_in}
 use Rattle.smp_queue.specs.declared.seated.Seated.{Seated}
@@ -30,7 +30,7 @@ seated (Of v) = Of v
 -- a seat knows its CPU's part of the calls, and no other seat is of that CPU
 abbrev pub Sits : CallState → (ℕ → ControlValue) → (ℕ → ℕ) → ℕ → ℕ → Seated → Type 0
 Sits a control seat next id (Boot n) = (n ≡ next) × (id ≡ 0)
-Sits a control seat next id (Of v) = (v.number < next) × (seat v.number ≡ id) × (v ≡ known_of a control v.number)
+Sits a control seat next id (Of v) = (v.number < next) × (seat v.number ≡ id) × Sees a control v
 
 -- the words show some calls; each seat knows its part; CPUs with no seat have done nothing
 pub record Ruled {S : Type 0} (s : State S Seated) : Type 0 where
@@ -41,7 +41,7 @@ pub record Ruled {S : Type 0} (s : State S Seated) : Type 0 where
   pub wide : length s.words ≡ cells
   pub shown : Shows calls (number_in s.words) controls
   pub each_seat : (id : ℕ) (v : Seated) → get_elem? s.views id ≡ some v → Sits calls controls seat next id v
-  pub absent : (cpu : ℕ) → next ≤ cpu → known_of calls controls cpu ≡ fresh cpu
+  pub absent : (cpu : ℕ) → next ≤ cpu → Sees calls controls (fresh cpu)
 
 -- only CPUs below nr have a seat: the first seat counts them
 pub record SeatsBelow {S : Type 0} (nr : ℕ) (s : State S Seated) : Type 0 where

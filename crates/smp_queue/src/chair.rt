@@ -123,7 +123,7 @@ pub(crate) fn swap(words: &Words, chair: &mut Chair, word: Word, number: u64) ->
     requires { Ready words.now.table_id chair.old (access.Swap word number) }
     ensures table { chair.new.table ≡ words.now.table_id }
     ensures lives { Lives chair.new.known }
-    ensures known { (t : Moment chair.old.known word result) × (chair.new.known ≡ known_taking (t.calls.queue chair.old.known.number) chair.old.known act.Swap word (Some result) (Some number)) }
+    ensures known { (t : Moment chair.old.known word result) × (chair.new.known ≡ known_taking (t.lives.calls.queue chair.old.known.number) chair.old.known act.Swap word (Some result) (Some number)) }
 {
     words.swap::<Swapped>(&mut chair.place, cell(word), number)
 }

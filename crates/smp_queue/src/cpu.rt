@@ -49,7 +49,7 @@ impl CallCpu {
     /// The CPU's number, which is below `NR_CPUS`. It has a confirmation of each record.
     pub fn number(&self) -> u32
         ensures number { result ≡ self.now.number }
-        ensures sized { (self.now.number < cpus) × (length self.now.confirmed ≡ records) }
+        ensures sized { (self.now.number < cpus) × (length self.now.part.confirmed ≡ records) }
     {
         self.number
     }

@@ -82,7 +82,7 @@ pub fn count_sync<H: Handler>(
 )
     requires me { chair.old.known.number ≡ number }
     requires at { InHandle words.now.table_id chair.old (handle.CountSync walk call next) }
-    requires count { count ≡ (ran_tally chair.old.known (owner call.id) + 1) % 2 ^ 64 }
+    requires count { count ≡ (ran_tally chair.old.known.part (owner call.id) + 1) % 2 ^ 64 }
     requires heard { H.leads begun.now.before.value (heard_of call) handler.now }
     ensures at { InHandle words.now.table_id chair.new (handle.EndSync walk call next) }
     ensures known { chair.new.known ≡ counted_sync walk call next chair.old.known }
@@ -143,7 +143,7 @@ pub fn count_async<H: Handler>(
 )
     requires me { chair.old.known.number ≡ number }
     requires at { InHandle words.now.table_id chair.old (handle.CountAsync call next) }
-    requires count { count ≡ (ran_tally chair.old.known (owner call.id) + 1) % 2 ^ 64 }
+    requires count { count ≡ (ran_tally chair.old.known.part (owner call.id) + 1) % 2 ^ 64 }
     requires heard { H.leads begun.before.value (heard_of call) handler.now }
     ensures at { InHandle words.now.table_id chair.new (second_on next) }
     ensures known { chair.new.known ≡ ended_call (second_on next) call chair.old.known }

@@ -5,8 +5,8 @@
 
 ghost use Rattle.std.specs.Prelude.{◌≡◌, ◌≢◌, ◌+◌, ◌*◌, ◌<◌, ◌%◌, ◌^◌, ◌==◌, true, length, if◌then◌else◌, IfSome, IfNone, Some, None};
 ghost use Rattle.smp_words.specs.Size.{records};
-ghost use Rattle.smp_call_steps.specs.Stands.{holding};
-ghost use Rattle.smp_call_steps.specs.Known.{confirmed_known, appended_known, outside_known, is_confirmed, standing, Lives};
+ghost use Rattle.smp_call_steps.specs.Stands.{posted};
+ghost use Rattle.smp_call_steps.specs.Known.{confirmed_known, queued_known, outside_known, is_confirmed, standing, Lives};
 ghost use Rattle.smp_call_steps.specs.declared.post.PostStage.TheVariants as post;
 ghost use Rattle.smp_call_steps.specs.declared.stage.Stage.TheVariants.{Post};
 ghost use Rattle.smp_queue.specs.Desk.{At, IsMine, IsCounting, IsTallied, uncounted, counted};
@@ -72,7 +72,7 @@ pub(crate) fn link(words: &Words, chair: &mut Chair, posting: &Posting, link: u6
     requires mine { IsMine words.now.table_id chair.old posting.now }
     requires stage { chair.old.known.stage ≡ Some (Post (counted posting.now) post.LoadHead) }
     ensures table { chair.new.table ≡ words.now.table_id }
-    ensures won { result ≡ link → chair.new.known ≡ appended_known posting.now.to (link == 0) (Some (holding (counted posting.now) posting.now.func posting.now.info posting.now.to true)) chair.old.known }
+    ensures won { result ≡ link → chair.new.known ≡ queued_known (posted posting.now) posting.now.to (link == 0) chair.old.known }
     ensures lost { result ≢ link → chair.new.known ≡ chair.old.known }
 {
     store(words, chair, Word::Next(posting.id), link);
@@ -110,7 +110,7 @@ pub(crate) fn append(
     requires mine { IsMine words.now.table_id chair.old posting.now }
     requires counting { IsCounting chair.old.known posting.now number queued }
     ensures table { chair.new.table ≡ words.now.table_id }
-    ensures sent { IfSome result (λ first. chair.new.known ≡ appended_known posting.now.to first (Some (holding (counted posting.now) posting.now.func posting.now.info posting.now.to true)) chair.old.known) }
+    ensures sent { IfSome result (λ first. chair.new.known ≡ queued_known (posted posting.now) posting.now.to first chair.old.known) }
     ensures lost { IfNone result (chair.new.known ≡ outside_known chair.old.known) }
 {
     let mut head = count(words, chair, posting, number, queued);
@@ -138,7 +138,7 @@ pub(crate) fn append_at_last<R: Wait>(
     requires mine { IsMine words.now.table_id chair.old posting.now }
     requires counting { IsCounting chair.old.known posting.now number queued }
     ensures table { chair.new.table ≡ words.now.table_id }
-    ensures sent { chair.new.known ≡ appended_known posting.now.to result (Some (holding (counted posting.now) posting.now.func posting.now.info posting.now.to true)) chair.old.known }
+    ensures sent { chair.new.known ≡ queued_known (posted posting.now) posting.now.to result chair.old.known }
 {
     let backoff = Backoff::new();
     let mut head = count(words, chair, posting, number, queued);

@@ -165,7 +165,7 @@ impl<A: Allocator> CallTable<A> {
     /// It makes no step, since it reads only the CPU's own value; it does not wait, and nobody must poll.
     pub fn tally(&self, me: &mut CallCpu, other: u32) -> (u64, u64)
         requires { me.old.table ≡ self.now.table }
-        ensures counts { other < self.now.nr → result ≡ (length (sent_to other me.old.sent) % 2 ^ 64, length (calls_from other me.old.ran) % 2 ^ 64) }
+        ensures counts { other < self.now.nr → result ≡ (length (sent_to other me.old.part.sent) % 2 ^ 64, length (calls_from other me.old.part.ran) % 2 ^ 64) }
         ensures zeros { self.now.nr ≤ other → result ≡ (0, 0) }
         ensures kept { me.new ≡ me.old }
     {

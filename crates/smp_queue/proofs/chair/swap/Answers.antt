@@ -15,5 +15,5 @@ swap-requires c = let r = c.requires in let low = cell_below c.args.word c.cell.
 -- the moment, of what the caller sees
 pub returns-clause-known : goal.returns-clause-known
 returns-clause-known c = let e = c.swap.ensures.2.1 c.args.word c.cell.ensures in
-    subst (λ (v : Known). (t : Moment v c.args.word c.swap.result) × (known c.swap.new.seat.me.0 ≡ known_taking (t.calls.queue v.number) v act.Swap c.args.word (Some c.swap.result) (Some c.args.number)))
+    subst (λ (v : Known). (t : Moment v c.args.word c.swap.result) × (known c.swap.new.seat.me.0 ≡ known_taking (t.lives.calls.queue v.number) v act.Swap c.args.word (Some c.swap.result) (Some c.args.number)))
     (ap (λ d. d.known) c.chair.view_is) (e.0, ap known e.1)

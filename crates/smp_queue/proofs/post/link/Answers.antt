@@ -1,6 +1,6 @@
 use Rattle.std.proofs.Common.{◌==◌, ◌+◌, sym, refl, ap, ◌∙◌, eq-eqb, ne_eqb, Some, true}
-use Rattle.smp_call_steps.specs.Stands.{holding}
-use Rattle.smp_call_steps.specs.Known.{appended_known}
+use Rattle.smp_call_steps.specs.Stands.{posted}
+use Rattle.smp_call_steps.specs.Known.{queued_known}
 use Rattle.smp_call_steps.proofs.Posted.{stands_as, next_known, won_known, lost_known}
 use Rattle.smp_queue.specs.Desk.{counted}
 use Rattle.smp_queue.proofs.Ready.{ready_post, mine_moved}
@@ -23,7 +23,7 @@ returns-clause-won c e =
     let v = c.args.chair.now.known in
     let known = next_known v c.store.new.chair.known v p.id c.args.link (counted p) c.store.ensures.known (stands_as v (counted p) post.LoadHead c.requires.stage) in
     won_known v c.exchange.new.chair.known c.store.new.chair.known p.to c.args.link (p.id + 1) c.exchange.result (counted p) (c.exchange.result == c.args.link) (eq-eqb c.exchange.result c.args.link e) c.exchange.ensures.known known
-    ∙ ap (λ n. appended_known p.to (n == 0) (Some (holding (counted p) p.func p.info p.to true)) v) e
+    ∙ ap (λ n. queued_known (posted p) p.to (n == 0) v) e
 
 pub returns-clause-lost : goal.returns-clause-lost
 returns-clause-lost c ne =

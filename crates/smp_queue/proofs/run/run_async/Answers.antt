@@ -26,7 +26,7 @@ count_async-requires-clause-count g c =
     let batch = (lives_stands _ at.lives (handle.BeginAsync c.args.call c.args.next) at.stage_is).1.batch in
     let below : owner c.args.call.id < cpus = owner-below c.args.call.id (lives_front _ at.lives c.args.call _ batch) in
     let known = c.begin_async-begun.ensures.known in
-    let tally = tally_running c.args.chair.now.known c.begin_async-begun.new.chair.known (owner c.args.call.id) (ap (λ (u : Known). u.ran) known) (ap (λ (u : Known). counted_call u.running) known) in
+    let tally = tally_running c.args.chair.now.known c.begin_async-begun.new.chair.known (owner c.args.call.id) (ap (λ (u : Known). u.part.ran) known) (ap (λ (u : Known). counted_call u.part.running) known) in
     c.count-ran.ensures.count ∙ ap (λ (n : ℕ). (n + 1) % 2 ^ 64) (ap (λ (n : ℕ). get_or c.args.counts.now n 0) c.owner_of-2.ensures ∙ (c.requires.counts.are (owner c.args.call.id) below ∙ sym tally))
 
 pub returns : goal.returns

@@ -6,4 +6,4 @@ abbrev pub invariant-loop-here : goal.invariant-loop-here
 invariant-loop-here g l = Running2 g.H.Handler.leads l.words.table_id l.fn.chair l.chair l.here l.counts l.fn.handler l.handler
 
 abbrev pub decreases-loop-here : goal.decreases-loop-here
-decreases-loop-here g l = length l.chair.known.batch
+decreases-loop-here g l = length l.chair.known.part.batch

@@ -73,7 +73,7 @@ loop-here-smaller g c =
     let e2 = c.load-flags.ensures in
     let l2 : HasLoad c.args.words.now.table_id c.load-link.new.chair c.load-flags.new.chair (word.Flags c.in-Some.id) c.load-flags.result = record { moment = e2.then; table_is = e2.table; lives = e2.lives; known_is = e2.known } in
     let known = class_kept _ _ _ _ _ _ _ _ here l1 l2 in
-    ahead_then _ _ _ _ _ _ c.in-Some.is c.record_of-next.ensures (ap (λ (u : Known). u.taken) known) (ahead_less _ _ _ _ _ here e1.then)
+    ahead_then _ _ _ _ _ _ c.in-Some.is c.record_of-next.ensures (ap (λ (u : Known). u.part.taken) known) (ahead_less _ _ _ _ _ here e1.then)
 
 pub loop-here-preserved : goal.loop-here-preserved
 loop-here-preserved g c =

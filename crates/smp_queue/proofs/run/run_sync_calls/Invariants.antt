@@ -7,4 +7,4 @@ abbrev pub invariant-loop-here : goal.invariant-loop-here
 invariant-loop-here g l = Running1 g.H.Handler.leads l.words.table_id l.fn.chair l.chair l.walk l.here l.counts l.fn.handler l.handler
 
 abbrev pub decreases-loop-here : goal.decreases-loop-here
-decreases-loop-here g l = left_from l.here (last_batch l.chair.known.taken)
+decreases-loop-here g l = left_from l.here (last_batch l.chair.known.part.taken)
