@@ -29,16 +29,11 @@ use Rattle.smp_call_steps.specs.declared.stage.Stage.{Stage}
 use Rattle.smp_call_steps.specs.declared.stage.Stage.TheVariants.{Send, Done, Post, Handle}
 
 post_in_table : (places : ℕ → RecPlace) (at : Word → ℕ) (me : ℕ) (p : Posting) (stage : PostStage) → PostStands places at me p stage → IsInTable (word_of (access_of at me (Post p stage)))
-post_in_table places at me p post.LoadFlags s = s.is_call.in_range
-post_in_table places at me p post.Lock s = s.is_call.in_range
-post_in_table places at me p post.StoreFunc s = s.is_call.in_range
-post_in_table places at me p post.StoreInfo s = s.is_call.in_range
 post_in_table places at me p post.Count s = (s.me_in_range, s.goes)
 post_in_table places at me p post.LoadHead s = s.goes
-post_in_table places at me p (post.StoreNext link tries) s = s.is_call.in_range
 post_in_table places at me p (post.Exchange link tries) s = s.goes
 post_in_table places at me p post.Uncount s = (s.me_in_range, s.goes)
-post_in_table places at me p post.Release s = s.is_call.in_range
+post_in_table places at me p _ s = s.is_call.in_range
 
 module _ (places : ℕ → RecPlace) (at : Word → ℕ) (me : ℕ) (s : Share) (d : DrainValue)
     (batched : AllByRecursion (IsPlaced places (place.Batch me)) s.batch) (runs : AllByRecursion (IsPlaced places (place.Running me)) (locked_by s.running)) where
@@ -81,10 +76,6 @@ module _ (places : ℕ → RecPlace) (at : Word → ℕ) (me : ℕ) (s : Share) 
       all.0.is_call.in_range
 
   handle_in_table : (stage : HandleStage) → me < cpus → HandleStands (nexts_in at) s d stage → IsInTable (word_of (access_of at me (Handle stage)))
-  handle_in_table handle.Enter l h = l
-  handle_in_table handle.Accept l h = l
-  handle_in_table handle.LeaveIdle l h = l
-  handle_in_table handle.Take l h = l
   handle_in_table (handle.ReverseLoad newer id) l h = reversed_in_range (link_to newer) (at (Next id)) h.0 id h.1 h.2
   handle_in_table (handle.ReverseStore newer id older) l h = reversed_in_range (link_to newer) (link_to older) h.0 id h.1 h.2
   handle_in_table (handle.LoadNext walk id) l h = walked_in_range walk id h.0 h.1 h.2
@@ -92,7 +83,6 @@ module _ (places : ℕ → RecPlace) (at : Word → ℕ) (me : ℕ) (s : Share) 
   handle_in_table (handle.LoadFunc walk id next) l h = walked_in_range walk id h.0 h.1 h.2
   handle_in_table (handle.LoadInfo walk id next func) l h = walked_in_range walk id h.0 h.1 h.2
   handle_in_table (handle.Unlink walk last call next) l h = last_in_range walk last (call.id + 1) (call ∷ h.0) h.1 h.4
-  handle_in_table (handle.BeginSync walk call next) l h = l
   handle_in_table (handle.CountSync walk call next) l h = (l, owner-below call.id (running_in_range call (SyncCall call) refl h.1.running_is))
   handle_in_table (handle.EndSync walk call next) l h = running_in_range call (CountedCall call) refl h.1.running_is
   handle_in_table (handle.AsyncNext id) l h = ended_in_range id h.0 h.1 h.2
@@ -100,7 +90,7 @@ module _ (places : ℕ → RecPlace) (at : Word → ℕ) (me : ℕ) (s : Share) 
   handle_in_table (handle.AsyncInfo id next func) l h = ended_in_range id h.0 h.1 h.2
   handle_in_table (handle.BeginAsync call next) l h = begun_in_range call h.0 h.1.batch
   handle_in_table (handle.CountAsync call next) l h = (l, owner-below call.id h.2.in_range)
-  handle_in_table handle.Leave l h = l
+  handle_in_table _ l h = l
 
   stage_in_table : (stage : Stage) → StandsAt places at s d me (Some stage) → IsInTable (word_of (access_of at me stage))
   stage_in_table (Send to) h = h.1

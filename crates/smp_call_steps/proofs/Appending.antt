@@ -146,12 +146,10 @@ module _ (a : CallState) (at : Word → ℕ) (control : ℕ → ControlValue) (m
   still p ne = every (IsPlaced a.place p) (IsPlaced (put a.place call.id (place.Queued to)) p) (λ c q. record { is_call = q.is_call; placed = put_other a.place call.id (place.Queued to) c.id (not_held p c.id q.placed ne) ∙ q.placed })
 
   there_else : (u : ℕ) (p : RecPlace) → u ≢ call.id → IsThere a.held a.queue a.batch a.running u p → IsThere (put a.held me None) (put a.queue to (a.queue to ++ call ∷ [])) a.batch a.running u p
-  there_else u place.Free ne h = h
   there_else u place.Held ne h = at_test (owner u) me (λ b. Holds (cond b None (a.held (owner u))) u)
       (λ e. absurd (ne (held_same (a.held (owner u)) call to u (ap a.held e ∙ holds) h))) (λ _. h)
   there_else u (place.Queued cpu) ne h = at_test cpu to (λ b. HasRecord u (cond b (a.queue to ++ call ∷ []) (a.queue cpu))) (λ e. HasRecord-left u (a.queue to) (call ∷ []) (rw e at h)) (λ _. h)
-  there_else u (place.Batch cpu) ne h = h
-  there_else u (place.Running cpu) ne h = h
+  there_else u _ ne h = h
 
   there_id : IsThere (put a.held me None) (put a.queue to (a.queue to ++ call ∷ [])) a.batch a.running call.id (place.Queued to)
   there_id = rw (put_same a.queue to (a.queue to ++ call ∷ [])) (HasRecord-right call.id (a.queue to) (call ∷ []) (inl refl))

@@ -65,30 +65,18 @@ none_by places p id (call ∷ rest) ne h =
 -- the calls that run, but for an ASYNC one, keep their record locked
 by-running : (id : ℕ) (running : Running) → calls_by id (running_call running) ≡ calls_by id (locked_by running) + calls_by id (async_call running)
 by-running id Nothing = refl
-by-running id (SyncCall call) = omega arith
-by-running id (CountedCall call) = omega arith
-by-running id (AsyncCall call) = omega arith
+by-running id _ = omega arith
 
 -- a record that its source holds is at that place
 
 post_held : (places : ℕ → RecPlace) (at : Word → ℕ) (id : ℕ) (p : Posting) (stage : PostStage) → PostKnows places at p stage → Holds (held_of_post p stage) id → places id ≡ place.Held
 post_held places at id p post.LoadFlags k h = absurd h
 post_held places at id p post.Lock k h = absurd h
-post_held places at id p post.StoreFunc k h = rw h at k.0
-post_held places at id p post.StoreInfo k h = rw h at k.0
-post_held places at id p post.Count k h = rw h at k.0
-post_held places at id p post.LoadHead k h = rw h at k.0
-post_held places at id p (post.StoreNext link tries) k h = rw h at k.0
-post_held places at id p (post.Exchange link tries) k h = rw h at k.0
-post_held places at id p post.Uncount k h = rw h at k.0
-post_held places at id p post.Release k h = rw h at k.0
+post_held places at id p _ k h = rw h at k.0
 
 stage_held : (places : ℕ → RecPlace) (at : Word → ℕ) (s : Share) (d : DrainValue) (me id : ℕ) (stage : Option Stage) → StandsAt places at s d me stage → Holds (held_of stage) id → places id ≡ place.Held
-stage_held places at s d me id None k h = absurd h
-stage_held places at s d me id (Some (Send to)) k h = absurd h
-stage_held places at s d me id (Some (Done r)) k h = absurd h
 stage_held places at s d me id (Some (Post p stage)) k h = post_held places at id p stage k.1.knows h
-stage_held places at s d me id (Some (Handle stage)) k h = absurd h
+stage_held places at s d me id _ k h = absurd h
 
 -- a record that is free, or held
 record IsOut (p : RecPlace) : Type 0 where

@@ -101,10 +101,7 @@ pub record Still (at : Word → ℕ) : Type 0 where
 
 unlocked_free : (p : RecPlace) (flags : ℕ) → FlagsShow p flags → flags % 2 ≢ 1 → p ≡ place.Free
 unlocked_free place.Free flags h ne = refl
-unlocked_free place.Held flags h ne = absurd (ne h)
-unlocked_free (place.Queued cpu) flags h ne = absurd (ne h)
-unlocked_free (place.Batch cpu) flags h ne = absurd (ne h)
-unlocked_free (place.Running cpu) flags h ne = absurd (ne h)
+unlocked_free _ flags h ne = absurd (ne h)
 
 none_placed : (places : ℕ → RecPlace) (p : RecPlace) (calls : List Call) → p ≢ place.Free → ((id : ℕ) → places id ≡ place.Free) → AllByRecursion (IsPlaced places p) calls → calls ≡ []
 none_placed places p [] ne free h = refl
@@ -116,33 +113,15 @@ none_held (Some x) h = absurd (h x.call.id refl)
 
 rests_inside : (places : ℕ → RecPlace) (at : Word → ℕ) (s : Share) (d : DrainValue) (me hand : ℕ) (stage : HandleStage) → hand ≡ 0 → HandIs (Some (Handle stage)) hand → StandsAt places at s d me (Some (Handle stage)) → Rests s
 rests_inside places at s d me hand handle.Enter z h k = k.1
-rests_inside places at s d me hand handle.Accept z h k = absurd (h z)
-rests_inside places at s d me hand handle.LeaveIdle z h k = absurd (h z)
-rests_inside places at s d me hand handle.Take z h k = absurd (h z)
-rests_inside places at s d me hand (handle.ReverseLoad newer id) z h k = absurd (h z)
-rests_inside places at s d me hand (handle.ReverseStore newer id older) z h k = absurd (h z)
-rests_inside places at s d me hand (handle.LoadNext walk id) z h k = absurd (h z)
-rests_inside places at s d me hand (handle.LoadFlags walk id next) z h k = absurd (h z)
-rests_inside places at s d me hand (handle.LoadFunc walk id next) z h k = absurd (h z)
-rests_inside places at s d me hand (handle.LoadInfo walk id next func) z h k = absurd (h z)
-rests_inside places at s d me hand (handle.Unlink walk last call next) z h k = absurd (h z)
-rests_inside places at s d me hand (handle.BeginSync walk call next) z h k = absurd (h z)
 rests_inside places at s d me hand (handle.CountSync walk call next) z h k = absurd (let e : hand ≡ call.id + 2 = h in omega arith)
 rests_inside places at s d me hand (handle.EndSync walk call next) z h k = absurd (let e : hand ≡ call.id + 2 = h in omega arith)
-rests_inside places at s d me hand (handle.AsyncNext id) z h k = absurd (h z)
-rests_inside places at s d me hand (handle.AsyncFunc id next) z h k = absurd (h z)
-rests_inside places at s d me hand (handle.AsyncInfo id next func) z h k = absurd (h z)
-rests_inside places at s d me hand (handle.BeginAsync call next) z h k = absurd (h z)
-rests_inside places at s d me hand (handle.CountAsync call next) z h k = absurd (h z)
-rests_inside places at s d me hand handle.Leave z h k = absurd (h z)
+rests_inside places at s d me hand _ z h k = absurd (h z)
 
 -- nothing is taken and nothing runs, where the handling word is 0
 rests_at : (places : ℕ → RecPlace) (at : Word → ℕ) (s : Share) (d : DrainValue) (me hand : ℕ) (stage : Option Stage) → hand ≡ 0 → HandIs stage hand → StandsAt places at s d me stage → Rests s
 rests_at places at s d me hand None z h k = k
-rests_at places at s d me hand (Some (Send to)) z h k = k.0
-rests_at places at s d me hand (Some (Done id)) z h k = k.0
-rests_at places at s d me hand (Some (Post p stage)) z h k = k.0
 rests_at places at s d me hand (Some (Handle stage)) z h k = rests_inside places at s d me hand stage z h k
+rests_at places at s d me hand _ z h k = k.0
 
 module _ (a : CallState) (at : Word → ℕ) (control : ℕ → ControlValue) (s : Shows a at control) (still : Still at) where
   free : (id : ℕ) → a.place id ≡ place.Free

@@ -39,10 +39,8 @@ has_one u call ne (inr h) = h
 there_running : (held : ℕ → Option Holding) (queue batch : ℕ → List Call) (running running' : ℕ → Running) → ((cpu : ℕ) → locked_by (running' cpu) ≡ locked_by (running cpu)) → (id : ℕ) (p : RecPlace) →
     IsThere held queue batch running id p → IsThere held queue batch running' id p
 there_running held queue batch running running' same id place.Free h = tt
-there_running held queue batch running running' same id place.Held h = h
-there_running held queue batch running running' same id (place.Queued cpu) h = h
-there_running held queue batch running running' same id (place.Batch cpu) h = h
 there_running held queue batch running running' same id (place.Running cpu) h = subst (HasRecord id) (sym (same cpu)) h
+there_running held queue batch running running' same id _ h = h
 
 module _ (a : CallState) (at : Word → ℕ) (control : ℕ → ControlValue) (me : ℕ) (s : Shows a at control) where
   -- the words after the store of the number of calls that ran from its source

@@ -106,31 +106,17 @@ module _ (a : CallState) (at : Word → ℕ) (control : ℕ → ControlValue) (m
       room_for_all (control me).drain.calls (omega arith)
 
   handle_fits : (stage : HandleStage) → (control me).stage ≡ Some (Handle stage) → FitsStage (control me).drain (Handle stage) (at (word_of (access_of at me (Handle stage))))
-  handle_fits handle.Enter e = (tt, tt)
-  handle_fits handle.Accept e = (tt, tt)
-  handle_fits handle.LeaveIdle e = (tt, tt)
   handle_fits handle.Take e = (chain_fits (nexts_in at) (at (Head me)) (a.queue me) queued_records (s.chained.chain me), tt)
   handle_fits (handle.ReverseLoad newer id) e = (down_fits newer id e, tt)
   handle_fits (handle.ReverseStore newer id older) e = (tt, room_fits newer id older e)
   handle_fits (handle.LoadNext walk id) e = (next_fits walk id e, tt)
-  handle_fits (handle.LoadFlags walk id next) e = (tt, tt)
   handle_fits (handle.LoadFunc walk id next) e = (func_fits walk id next e, tt)
-  handle_fits (handle.LoadInfo walk id next func) e = (tt, tt)
-  handle_fits (handle.Unlink walk last call next) e = (tt, tt)
-  handle_fits (handle.BeginSync walk call next) e = (tt, tt)
-  handle_fits (handle.CountSync walk call next) e = (tt, tt)
-  handle_fits (handle.EndSync walk call next) e = (tt, tt)
   handle_fits (handle.AsyncNext id) e = (async_next_fits id e, tt)
   handle_fits (handle.AsyncFunc id next) e = (async_fits id next e, tt)
-  handle_fits (handle.AsyncInfo id next func) e = (tt, tt)
-  handle_fits (handle.BeginAsync call next) e = (tt, tt)
-  handle_fits (handle.CountAsync call next) e = (tt, tt)
-  handle_fits handle.Leave e = (tt, tt)
+  handle_fits _ e = (tt, tt)
 
 -- the number that a step finds, and the room for it
 pub found_fits : (a : CallState) (at : Word → ℕ) (control : ℕ → ControlValue) (me : ℕ) → Shows a at control → (stage : Stage) → (control me).stage ≡ Some stage →
     FitsStage (control me).drain stage (at (word_of (access_of at me stage)))
-found_fits a at control me s (Send to) e = tt
-found_fits a at control me s (Done id) e = tt
-found_fits a at control me s (Post p stage) e = tt
 found_fits a at control me s (Handle stage) e = handle_fits a at control me s stage e
+found_fits a at control me s _ e = tt

@@ -35,11 +35,8 @@ Minds cpu id (place.Running c) = c ≡ cpu
 
 -- one CPU alone does
 pub one_minds : (me cpu id : ℕ) (p : RecPlace) → Minds me id p → Minds cpu id p → cpu ≡ me
-one_minds me cpu id place.Free h k = sym k ∙ h
-one_minds me cpu id place.Held h k = sym k ∙ h
 one_minds me cpu id (place.Queued c) h k = absurd h
-one_minds me cpu id (place.Batch c) h k = sym k ∙ h
-one_minds me cpu id (place.Running c) h k = sym k ∙ h
+one_minds me cpu id _ h k = sym k ∙ h
 
 -- the records that the CPU minds keep their place and words
 pub record LeavesTo (cpu : ℕ) (places places' : ℕ → RecPlace) (at at' : Word → ℕ) : Type 0 where
@@ -99,12 +96,8 @@ module _ (cpu : ℕ) (places places' : ℕ → RecPlace) (at at' : Word → ℕ)
   PostKnows-kept p post.Lock o k = l.place_stays p.id (own_free p.id o k) ∙ k
   PostKnows-kept p post.StoreFunc o k = let m = own_held p.id o k.0 in (l.place_stays p.id m ∙ k.0, l.flags p.id m ∙ k.1)
   PostKnows-kept p post.StoreInfo o k = let m = own_held p.id o k.0 in (l.place_stays p.id m ∙ k.0, l.flags p.id m ∙ k.1, l.func p.id m ∙ k.2)
-  PostKnows-kept p post.Count o k = let m = own_held p.id o k.0 in (l.place_stays p.id m ∙ k.0, written (posted p) m k.1)
-  PostKnows-kept p post.LoadHead o k = let m = own_held p.id o k.0 in (l.place_stays p.id m ∙ k.0, written (posted p) m k.1)
-  PostKnows-kept p (post.StoreNext link tries) o k = let m = own_held p.id o k.0 in (l.place_stays p.id m ∙ k.0, written (posted p) m k.1)
   PostKnows-kept p (post.Exchange link tries) o k = let m = own_held p.id o k.0 in (l.place_stays p.id m ∙ k.0, written (posted p) m k.1, l.next p.id m ∙ k.2)
-  PostKnows-kept p post.Uncount o k = let m = own_held p.id o k.0 in (l.place_stays p.id m ∙ k.0, written (posted p) m k.1)
-  PostKnows-kept p post.Release o k = let m = own_held p.id o k.0 in (l.place_stays p.id m ∙ k.0, written (posted p) m k.1)
+  PostKnows-kept p _ o k = let m = own_held p.id o k.0 in (l.place_stays p.id m ∙ k.0, written (posted p) m k.1)
 
   same_next : (call : Call) → IsPlaced places (place.Batch cpu) call → at' (Next call.id) ≡ at (Next call.id)
   same_next call q = l.next call.id (rw q.placed refl)
@@ -200,20 +193,14 @@ module _ (cpu : ℕ) (places places' : ℕ → RecPlace) (at at' : Word → ℕ)
       let front = ends_front (IsPlaced places (place.Batch cpu)) (nexts_in at) s d (link_to next) (call ∷ []) h.0 Nothing h.1 b in
       (h.0, Ends-kept s d (link_to next) (call ∷ []) h.0 Nothing b h.1, same_next call front.0 ∙ h.2)
   HandleStands-kept s d (handle.CountAsync call next) b h = (h.0, Ends-kept s d (link_to next) [] h.0 (AsyncCall call) b h.1, h.2)
-  HandleStands-kept s d handle.Enter b h = h
-  HandleStands-kept s d handle.Accept b h = h
-  HandleStands-kept s d handle.LeaveIdle b h = h
-  HandleStands-kept s d handle.Take b h = h
-  HandleStands-kept s d handle.Leave b h = h
+  HandleStands-kept s d _ b h = h
 
   StandsAt-kept : (s : Share) (d : DrainValue) (stage : Option Stage) → AllByRecursion (IsPlaced places (place.Batch cpu)) s.batch → StandsAt places at s d cpu stage → StandsAt places' at' s d cpu stage
-  StandsAt-kept s d None b h = h
-  StandsAt-kept s d (Some (Send to)) b h = h
-  StandsAt-kept s d (Some (Done id)) b h = h
   StandsAt-kept s d (Some (Post p stage)) b h =
       let k = h.1 in
       (h.0, record { owned = k.owned; is_call = k.is_call; me_in_range = k.me_in_range; goes = k.goes; knows = PostKnows-kept p stage k.owned k.knows })
   StandsAt-kept s d (Some (Handle stage)) b h = (h.0, HandleStands-kept s d stage b h.1)
+  StandsAt-kept s d _ b h = h
 
   -- a CPU to which a step leaves its records stands where it stood
   pub Stands-kept : (s : Share) (c : ControlValue) → AllByRecursion (IsPlaced places (place.Batch cpu)) s.batch → Stands places at s cpu c → Stands places' at' s cpu c

@@ -47,44 +47,16 @@ lives_on a control me at w g = record { calls = g.calls; at = at; controls = g.c
 -- who is told to be at a step of handle is there
 post_tells : (p : Posting) (st : PostStage) (h : HandleStage) → told_post p st ≢ Some (Handle h)
 post_tells p post.LoadFlags h e = cc
-post_tells p post.Lock h e = cc
-post_tells p post.StoreFunc h e = cc
-post_tells p post.StoreInfo h e = cc
-post_tells p post.Count h e = cc
-post_tells p post.LoadHead h e = cc
-post_tells p (post.StoreNext link tries) h e = cc
-post_tells p (post.Exchange link tries) h e = cc
-post_tells p post.Uncount h e = cc
-post_tells p post.Release h e = cc
+post_tells p _ h e = cc
 
 handle_tells : (g h : HandleStage) → told_handle g ≡ Some (Handle h) → Some (Handle g) ≡ Some (Handle h)
 handle_tells handle.Enter h e = cc
-handle_tells handle.Accept h e = e
-handle_tells handle.LeaveIdle h e = e
-handle_tells handle.Take h e = e
-handle_tells (handle.ReverseLoad newer id) h e = e
-handle_tells (handle.ReverseStore newer id older) h e = e
-handle_tells (handle.LoadNext walk id) h e = e
-handle_tells (handle.LoadFlags walk id next) h e = e
-handle_tells (handle.LoadFunc walk id next) h e = e
-handle_tells (handle.LoadInfo walk id next func) h e = e
-handle_tells (handle.Unlink walk last call next) h e = e
-handle_tells (handle.BeginSync walk call next) h e = e
-handle_tells (handle.CountSync walk call next) h e = e
-handle_tells (handle.EndSync walk call next) h e = e
-handle_tells (handle.AsyncNext id) h e = e
-handle_tells (handle.AsyncFunc id next) h e = e
-handle_tells (handle.AsyncInfo id next func) h e = e
-handle_tells (handle.BeginAsync call next) h e = e
-handle_tells (handle.CountAsync call next) h e = e
-handle_tells handle.Leave h e = e
+handle_tells _ h e = e
 
 told_there : (s : Option Stage) (h : HandleStage) → told_stage s ≡ Some (Handle h) → s ≡ Some (Handle h)
-told_there None h e = cc
-told_there (Some (Send to)) h e = cc
-told_there (Some (Done id)) h e = cc
 told_there (Some (Post p st)) h e = absurd (post_tells p st h e)
 told_there (Some (Handle g)) h e = handle_tells g h e
+told_there _ h e = cc
 
 -- what is a CPU's own of the drain, as it knows it
 abbrev pub share_in : Part → Share

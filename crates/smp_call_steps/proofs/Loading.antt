@@ -67,8 +67,6 @@ module _ (a : CallState) (at : Word → ℕ) (control : ℕ → ControlValue) (m
   ended_words id call rest h = let all = ends_rest (IsWritten (flags_in at) (funcs_in at) (infos_in at)) (nexts_in at) (share_of a me) (control me).drain (id + 1) [] (call ∷ rest) Nothing h (s.written.batched me) in all.0
 
   -- a load of a next word tells nothing
-  next_loaded : (c : ControlValue) → a.held me ≡ None → Shows a at (put control me c) → Shows (links a me (a.held me) None) at (put control me c)
-  next_loaded c held shown = subst (λ (h : Option Holding). Shows (links a me h None) at (put control me c)) (sym held) shown
 
   pub reverse_load_step : (newer : Option ℕ) (id : ℕ) → (control me).stage ≡ Some (Handle (handle.ReverseLoad newer id)) → StepShows a at control me (Handle (handle.ReverseLoad newer id))
   reverse_load_step newer id e =
@@ -76,9 +74,8 @@ module _ (a : CallState) (at : Word → ℕ) (control : ℕ → ControlValue) (m
       let k = was.1 in
       let held = holds_nothing a at control me s (handle.ReverseLoad newer id) e in
       let c : ControlValue = record { stage = Some (Handle (handle.ReverseStore newer id (record_at (at (Next id))))); drain = (control me).drain } in
-      next_loaded c held
-      (goes_on c held (was.0, (k.0, subst (λ (n : ℕ). Reverses (nexts_in at) (share_of a me) (control me).drain (link_to newer) n k.0) (sym (link_back (at (Next id)))) k.1, k.2, sym (link_back (at (Next id)))))
-      (hand_at a at control me s (handle.ReverseLoad newer id) e))
+      goes_on c held (was.0, (k.0, subst (λ (n : ℕ). Reverses (nexts_in at) (share_of a me) (control me).drain (link_to newer) n k.0) (sym (link_back (at (Next id)))) k.1, k.2, sym (link_back (at (Next id)))))
+      (hand_at a at control me s (handle.ReverseLoad newer id) e)
 
   pub load_next_step : (walk : Walk) (id : ℕ) → (control me).stage ≡ Some (Handle (handle.LoadNext walk id)) → StepShows a at control me (Handle (handle.LoadNext walk id))
   load_next_step walk id e =
@@ -86,7 +83,7 @@ module _ (a : CallState) (at : Word → ℕ) (control : ℕ → ControlValue) (m
       let k = was.1 in
       let held = holds_nothing a at control me s (handle.LoadNext walk id) e in
       let c : ControlValue = record { stage = Some (Handle (handle.LoadFlags walk id (record_at (at (Next id))))); drain = (control me).drain } in
-      next_loaded c held (goes_on c held (was.0, (k.0, k.1, k.2, sym (link_back (at (Next id))))) (hand_at a at control me s (handle.LoadNext walk id) e))
+      goes_on c held (was.0, (k.0, k.1, k.2, sym (link_back (at (Next id))))) (hand_at a at control me s (handle.LoadNext walk id) e)
 
   pub load_flags_step : (walk : Walk) (id : ℕ) (next : Option ℕ) → (control me).stage ≡ Some (Handle (handle.LoadFlags walk id next)) → StepShows a at control me (Handle (handle.LoadFlags walk id next))
   load_flags_step walk id next e =
@@ -138,7 +135,7 @@ module _ (a : CallState) (at : Word → ℕ) (control : ℕ → ControlValue) (m
       let k = was.1 in
       let held = holds_nothing a at control me s (handle.AsyncNext id) e in
       let c : ControlValue = record { stage = Some (Handle (handle.AsyncFunc id (record_at (at (Next id))))); drain = (control me).drain } in
-      next_loaded c held (goes_on c held (was.0, (k.0, k.1, k.2, sym (link_back (at (Next id))))) (hand_at a at control me s (handle.AsyncNext id) e))
+      goes_on c held (was.0, (k.0, k.1, k.2, sym (link_back (at (Next id))))) (hand_at a at control me s (handle.AsyncNext id) e)
 
   pub async_func_step : (id : ℕ) (next : Option ℕ) → (control me).stage ≡ Some (Handle (handle.AsyncFunc id next)) → StepShows a at control me (Handle (handle.AsyncFunc id next))
   async_func_step id next e =

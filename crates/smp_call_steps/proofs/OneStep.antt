@@ -89,72 +89,22 @@ accept_told true = refl
 accept_told false = refl
 
 follows : (at : Word → ℕ) (me : ℕ) (d : DrainValue) (st : Stage) → Follows at me d st
-follows at me d (Send to) = refl
-follows at me d (Done id) = refl
 follows at me d (Post p post.LoadFlags) = flags_follow (at (Flags p.id) % 2 == 1) p.is_online p
 follows at me d (Post p post.Lock) = lock_follow p.class p at me d
-follows at me d (Post p post.StoreFunc) = refl
-follows at me d (Post p post.StoreInfo) = refl
-follows at me d (Post p post.Count) = refl
-follows at me d (Post p post.LoadHead) = refl
-follows at me d (Post p (post.StoreNext link tries)) = refl
 follows at me d (Post p (post.Exchange link tries)) = exchange_follow p link tries (p.id + 1) (at (Head p.to) == link) (nat_lt 1 tries) (cond (link == 0) note.Owed note.Queued) me d (at (Head p.to))
-follows at me d (Post p post.Uncount) = refl
-follows at me d (Post p post.Release) = refl
-follows at me d (Handle handle.Enter) = refl
 follows at me d (Handle handle.Accept) = accept_told (at (Intr me) == 0)
-follows at me d (Handle handle.LeaveIdle) = refl
 follows at me d (Handle handle.Take) = reverse_told None (record_at (at (Head me)))
-follows at me d (Handle (handle.ReverseLoad newer id)) = refl
 follows at me d (Handle (handle.ReverseStore newer id older)) = reverse_told (Some id) older
-follows at me d (Handle (handle.LoadNext walk id)) = refl
 follows at me d (Handle (handle.LoadFlags walk id next)) = class_told (class_of (at (Flags id))) walk id next
-follows at me d (Handle (handle.LoadFunc walk id next)) = refl
 follows at me d (Handle (handle.LoadInfo walk id next func)) = info_told walk.last walk (record { id = id; class = Sync; func = func; info = at (Info id) }) next
-follows at me d (Handle (handle.Unlink walk last call next)) = refl
-follows at me d (Handle (handle.BeginSync walk call next)) = refl
-follows at me d (Handle (handle.CountSync walk call next)) = refl
 follows at me d (Handle (handle.EndSync walk call next)) = first_told walk next
-follows at me d (Handle (handle.AsyncNext id)) = refl
-follows at me d (Handle (handle.AsyncFunc id next)) = refl
-follows at me d (Handle (handle.AsyncInfo id next func)) = refl
-follows at me d (Handle (handle.BeginAsync call next)) = refl
 follows at me d (Handle (handle.CountAsync call next)) = second_told next
-follows at me d (Handle handle.Leave) = refl
+follows at me d _ = refl
 
 leaves : (at : Word → ℕ) (me : ℕ) (d : DrainValue) (st : Stage) → Leaves at me d st
-leaves at me d (Send to) = refl
-leaves at me d (Done id) = refl
 leaves at me d (Post p post.LoadFlags) = refl
-leaves at me d (Post p post.Lock) = refl
-leaves at me d (Post p post.StoreFunc) = refl
-leaves at me d (Post p post.StoreInfo) = refl
-leaves at me d (Post p post.Count) = refl
-leaves at me d (Post p post.LoadHead) = refl
-leaves at me d (Post p (post.StoreNext link tries)) = refl
-leaves at me d (Post p (post.Exchange link tries)) = refl
-leaves at me d (Post p post.Uncount) = refl
-leaves at me d (Post p post.Release) = refl
 leaves at me d (Handle handle.Enter) = refl
-leaves at me d (Handle handle.Accept) = refl
-leaves at me d (Handle handle.LeaveIdle) = refl
-leaves at me d (Handle handle.Take) = refl
-leaves at me d (Handle (handle.ReverseLoad newer id)) = refl
-leaves at me d (Handle (handle.ReverseStore newer id older)) = refl
-leaves at me d (Handle (handle.LoadNext walk id)) = refl
-leaves at me d (Handle (handle.LoadFlags walk id next)) = refl
-leaves at me d (Handle (handle.LoadFunc walk id next)) = refl
-leaves at me d (Handle (handle.LoadInfo walk id next func)) = refl
-leaves at me d (Handle (handle.Unlink walk last call next)) = refl
-leaves at me d (Handle (handle.BeginSync walk call next)) = refl
-leaves at me d (Handle (handle.CountSync walk call next)) = refl
-leaves at me d (Handle (handle.EndSync walk call next)) = refl
-leaves at me d (Handle (handle.AsyncNext id)) = refl
-leaves at me d (Handle (handle.AsyncFunc id next)) = refl
-leaves at me d (Handle (handle.AsyncInfo id next func)) = refl
-leaves at me d (Handle (handle.BeginAsync call next)) = refl
-leaves at me d (Handle (handle.CountAsync call next)) = refl
-leaves at me d (Handle handle.Leave) = refl
+leaves at me d _ = refl
 
 -- the CPU that knows this, and that may make the step of this stage, makes it
 module _ (a : CallState) (at : Word → ℕ) (control : ℕ → ControlValue) (v : Known) (s : Shows a at control) (sees : Sees a control v) (st : Stage) (aims : Aims v st) where

@@ -35,22 +35,12 @@ put_same f i v = at_test i i (λ b. cond b v (f i) ≡ v) (λ _. refl) (λ ne. a
 pub post_holds : (p : Posting) (st : PostStage) (u : ℕ) → Holds (held_of_post p st) u → u ≡ p.id
 post_holds p post.LoadFlags u h = absurd h
 post_holds p post.Lock u h = absurd h
-post_holds p post.StoreFunc u h = sym h
-post_holds p post.StoreInfo u h = sym h
-post_holds p post.Count u h = sym h
-post_holds p post.LoadHead u h = sym h
-post_holds p (post.StoreNext link tries) u h = sym h
-post_holds p (post.Exchange link tries) u h = sym h
-post_holds p post.Uncount u h = sym h
-post_holds p post.Release u h = sym h
+post_holds p _ u h = sym h
 
 module _ (a : CallState) (at : Word → ℕ) (control : ℕ → ControlValue) (s : Shows a at control) where
   stage_owns : (places : ℕ → RecPlace) (cpu u : ℕ) (stage : Option Stage) (c : ControlValue) → StandsAt places at (share_of a cpu) c.drain cpu stage → Holds (held_of stage) u → owner u ≡ cpu
-  stage_owns places cpu u None c h k = absurd k
-  stage_owns places cpu u (Some (Send to)) c h k = absurd k
-  stage_owns places cpu u (Some (Done id)) c h k = absurd k
   stage_owns places cpu u (Some (Post p st)) c h k = let post = h.1 in ap owner (post_holds p st u k) ∙ post.owned
-  stage_owns places cpu u (Some (Handle st)) c h k = absurd k
+  stage_owns places cpu u _ c h k = absurd k
 
   -- a held record is its holder's
   pub holder_owns : (cpu u : ℕ) → Holds (a.held cpu) u → owner u ≡ cpu
@@ -136,11 +126,8 @@ module _ (a : CallState) (at at' : Word → ℕ) (control : ℕ → ControlValue
   ]
 
   there_else : (u : ℕ) (p : RecPlace) → u ≢ id → IsThere a.held a.queue a.batch a.running u p → IsThere held' a.queue a.batch a.running u p
-  there_else u place.Free ne h = h
   there_else u place.Held ne h = holds_else (owner u) u ne h
-  there_else u (place.Queued cpu) ne h = h
-  there_else u (place.Batch cpu) ne h = h
-  there_else u (place.Running cpu) ne h = h
+  there_else u _ ne h = h
 
   there_id : IsThere held' a.queue a.batch a.running id (places' id)
   there_id = elim o.after [ inl e ↦ rw e tt | inr e ↦ rw (e.0, o.owned) e.1 ]

@@ -289,27 +289,19 @@ handle_runs nexts s d handle.LeaveIdle h = ap locked_by h.running
 handle_runs nexts s d handle.Take h = ap locked_by h.1
 handle_runs nexts s d (handle.ReverseLoad newer id) h = ap locked_by h.1.running
 handle_runs nexts s d (handle.ReverseStore newer id older) h = ap locked_by h.1.running
-handle_runs nexts s d (handle.LoadNext walk id) h = ap locked_by h.2.running_is
-handle_runs nexts s d (handle.LoadFlags walk id next) h = ap locked_by h.2.running_is
-handle_runs nexts s d (handle.LoadFunc walk id next) h = ap locked_by h.2.running_is
-handle_runs nexts s d (handle.LoadInfo walk id next func) h = ap locked_by h.2.running_is
 handle_runs nexts s d (handle.Unlink walk last call next) h = ap locked_by h.1.running_is
 handle_runs nexts s d (handle.BeginSync walk call next) h = ap locked_by h.1.running_is
 handle_runs nexts s d (handle.CountSync walk call next) h = ap locked_by h.1.running_is
 handle_runs nexts s d (handle.EndSync walk call next) h = ap locked_by h.1.running_is
-handle_runs nexts s d (handle.AsyncNext id) h = ap locked_by h.2.running_is
-handle_runs nexts s d (handle.AsyncFunc id next) h = ap locked_by h.2.running_is
-handle_runs nexts s d (handle.AsyncInfo id next func) h = ap locked_by h.2.running_is
 handle_runs nexts s d (handle.BeginAsync call next) h = ap locked_by h.1.running_is
 handle_runs nexts s d (handle.CountAsync call next) h = ap locked_by h.1.running_is
 handle_runs nexts s d handle.Leave h = ap locked_by h.0.running
+handle_runs nexts s d _ h = ap locked_by h.2.running_is
 
 stage_runs : (places : ℕ → RecPlace) (at : Word → ℕ) (s : Share) (d : DrainValue) (me : ℕ) (stage : Option Stage) → StandsAt places at s d me stage → locked_by s.running ≡ running_of stage
 stage_runs places at s d me None h = ap locked_by h.running
-stage_runs places at s d me (Some (Send to)) h = ap locked_by h.0.running
-stage_runs places at s d me (Some (Done id)) h = ap locked_by h.0.running
-stage_runs places at s d me (Some (Post p stage)) h = ap locked_by h.0.running
 stage_runs places at s d me (Some (Handle stage)) h = handle_runs (nexts_in at) s d stage h.1
+stage_runs places at s d me _ h = ap locked_by h.0.running
 
 module _ (a : CallState) (at : Word → ℕ) (control : ℕ → ControlValue) (s : Shows a at control) (cpu : ℕ) where
   splits : Splits a.place (nexts_in at) cpu (a.batch cpu) (control cpu).stage
@@ -425,10 +417,7 @@ pub record IsBare (at : Word → ℕ) (control : ℕ → ControlValue) : Type 0 
 module _ (a : CallState) (at : Word → ℕ) (control : ℕ → ControlValue) (s : Shows a at control) (id : ℕ) where
   free_if : (p : RecPlace) → FlagsShow p 0 → p ≡ place.Free
   free_if place.Free f = refl
-  free_if place.Held f = absurd (omega (arith, f))
-  free_if (place.Queued cpu) f = absurd (omega (arith, f))
-  free_if (place.Batch cpu) f = absurd (omega (arith, f))
-  free_if (place.Running cpu) f = absurd (omega (arith, f))
+  free_if _ f = absurd (omega (arith, f))
 
   -- a record whose flags are 0 is free
   pub is_free : at (Flags id) ≡ 0 → place.Free ≡ a.place id

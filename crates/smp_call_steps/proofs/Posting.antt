@@ -300,7 +300,7 @@ module _ (a : CallState) (at : Word → ℕ) (control : ℕ → ControlValue) (m
   head_step p e = let was = was_at p post.LoadHead e in goes_on p post.LoadHead (post.StoreNext (at (Head p.to)) p.tries) e refl was.goes was.knows
 
   link_here : (p : Posting) (link : ℕ) (st : PostStage) (h : Option Holding) → (control me).stage ≡ Some (Post p st) → h ≡ Some (holding p p.func p.info p.to true) → a.held me ≡ h → a.place p.id ≡ place.Held → IsWritten (flags_in at) (funcs_in at) (infos_in at) (posted p) → PostGoes p (post.Exchange link 0) →
-      (tries : ℕ) → Shows (links a me h (Some link)) (put_word at (Next p.id) link) (put control me (to_stage (Some (Post p (post.Exchange link tries)))))
+      (tries : ℕ) → Shows (links a me (Some link) h) (put_word at (Next p.id) link) (put control me (to_stage (Some (Post p (post.Exchange link tries)))))
   link_here p link st h e is held placed written goes tries =
       let r = post_rests p st e in
       let was = was_at p st e in
@@ -308,7 +308,7 @@ module _ (a : CallState) (at : Word → ℕ) (control : ℕ → ControlValue) (m
       let linked' : ℕ → Option ℕ = put a.linked me (Some link) in
       let locked : FlagsShow place.Held (at (Flags p.id)) = rw placed at (s.written.locks p.id) in
       let stored : put_word at (Next p.id) link (Next p.id) ≡ link = put_same (nexts_in at) p.id link in
-      subst (λ (x : Option Holding). Shows (links a me x (Some link)) (put_word at (Next p.id) link) (put control me (to_stage (Some (Post p (post.Exchange link tries)))))) (sym is)
+      subst (λ (x : Option Holding). Shows (links a me (Some link) x) (put_word at (Next p.id) link) (put control me (to_stage (Some (Post p (post.Exchange link tries)))))) (sym is)
       (own_step a at at' control me p.id (to_stage (Some (Post p (post.Exchange link tries)))) a.place a.held linked' s (record {
         touches = touches_next p.id link a.place at;
         keeps = record { head = λ _. refl; intr = λ _. refl; hand = λ _. refl };

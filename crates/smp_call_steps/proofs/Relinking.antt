@@ -89,7 +89,7 @@ module _ (a : CallState) (at : Word → ℕ) (control : ℕ → ControlValue) (m
       let up : Path (put (nexts_in at) id n) (id + 1) (call ∷ h.newer) 0 =
       (ap (λ (k : ℕ). k + 1) (sym same), subst (λ (k : ℕ). Path (put (nexts_in at) id n) k h.newer 0) (sym linked) (path_else (nexts_in at) id n (link_to newer) h.newer 0 after h.leads_up)) in
       let counted : (control me).drain.calls + 1 ≡ length (call ∷ h.newer) = (let k = h.counted in omega arith) in
-      subst (λ (x : Option Holding). Shows (links a me x (Some n)) (put_word at (Next id) n) (put control me c)) (sym held)
+      subst (λ (x : Option Holding). Shows (links a me (Some n) x) (put_word at (Next id) n) (put control me c)) (sym held)
       (relinked id n here c held (
         was.0,
         reverse_goes (put (nexts_in at) id n) (share_of a me) (record { calls = (control me).drain.calls + 1 }) (Some id) older h.older (call ∷ h.newer) h.whole
@@ -126,7 +126,7 @@ module _ (a : CallState) (at : Word → ℕ) (control : ℕ → ControlValue) (m
       let linked : put (nexts_in at) last n call.id ≡ link_to next =
       put_else call.id last n (at (Next call.id)) (subst (λ (k : ℕ). call.id ≢ k) same away.0) ∙ was.1.2 in
       let on : Path (put (nexts_in at) last n) (link_to next) rest 0 = path_else (nexts_in at) last n (link_to next) rest 0 gone (subst (λ (k : ℕ). Path (nexts_in at) k rest 0) was.1.2 h.leads_on.1) in
-      subst (λ (x : Option Holding). Shows (links a me x (Some n)) (put_word at (Next last) n) (put control me c)) (sym held)
+      subst (λ (x : Option Holding). Shows (links a me (Some n) x) (put_word at (Next last) n) (put control me c)) (sym held)
       (relinked last n here c held
       (was.0, (rest, passes_sync (nexts_in at) (put (nexts_in at) last n) (share_of a me) (control me).drain walk walk next call rest h was.1.3 passed h.ends_at on, linked))
       (hand_at a at control me s (handle.Unlink walk last call next) e))

@@ -28,39 +28,10 @@ use Rattle.smp_call_steps.specs.declared.stage.Stage.TheVariants.{Send, Done, Po
 
 -- what is held was told
 pub held_told : (s : Option Stage) → held_of (told_stage s) ≡ held_of s
-held_told None = refl
-held_told (Some (Send to)) = refl
-held_told (Some (Done id)) = refl
 held_told (Some (Post p post.LoadFlags)) = refl
-held_told (Some (Post p post.Lock)) = refl
-held_told (Some (Post p post.StoreFunc)) = refl
-held_told (Some (Post p post.StoreInfo)) = refl
-held_told (Some (Post p post.Count)) = refl
-held_told (Some (Post p post.LoadHead)) = refl
-held_told (Some (Post p (post.StoreNext link tries))) = refl
-held_told (Some (Post p (post.Exchange link tries))) = refl
-held_told (Some (Post p post.Uncount)) = refl
-held_told (Some (Post p post.Release)) = refl
+held_told (Some (Post p _)) = refl
 held_told (Some (Handle handle.Enter)) = refl
-held_told (Some (Handle handle.Accept)) = refl
-held_told (Some (Handle handle.LeaveIdle)) = refl
-held_told (Some (Handle handle.Take)) = refl
-held_told (Some (Handle (handle.ReverseLoad newer id))) = refl
-held_told (Some (Handle (handle.ReverseStore newer id older))) = refl
-held_told (Some (Handle (handle.LoadNext walk id))) = refl
-held_told (Some (Handle (handle.LoadFlags walk id next))) = refl
-held_told (Some (Handle (handle.LoadFunc walk id next))) = refl
-held_told (Some (Handle (handle.LoadInfo walk id next func))) = refl
-held_told (Some (Handle (handle.Unlink walk last call next))) = refl
-held_told (Some (Handle (handle.BeginSync walk call next))) = refl
-held_told (Some (Handle (handle.CountSync walk call next))) = refl
-held_told (Some (Handle (handle.EndSync walk call next))) = refl
-held_told (Some (Handle (handle.AsyncNext id))) = refl
-held_told (Some (Handle (handle.AsyncFunc id next))) = refl
-held_told (Some (Handle (handle.AsyncInfo id next func))) = refl
-held_told (Some (Handle (handle.BeginAsync call next))) = refl
-held_told (Some (Handle (handle.CountAsync call next))) = refl
-held_told (Some (Handle handle.Leave)) = refl
+held_told _ = refl
 
 -- what a CPU knows of its record's words
 abbrev Knows : (ℕ → RecPlace) → (Word → ℕ) → Option Stage → Type 0
@@ -72,34 +43,12 @@ knows_post places at p post.LoadFlags k = tt
 knows_post places at p post.Lock k = tt
 knows_post places at p post.StoreFunc k = k
 knows_post places at p post.StoreInfo k = k
-knows_post places at p post.Count k = (k.0, record { flags_are = k.1.flags_are; func_is = k.1.func_is; info_is = k.1.info_is })
-knows_post places at p post.LoadHead k = (k.0, record { flags_are = k.1.flags_are; func_is = k.1.func_is; info_is = k.1.info_is })
-knows_post places at p (post.StoreNext link tries) k = (k.0, record { flags_are = k.1.flags_are; func_is = k.1.func_is; info_is = k.1.info_is })
 knows_post places at p (post.Exchange link tries) k = (k.0, record { flags_are = k.1.flags_are; func_is = k.1.func_is; info_is = k.1.info_is }, k.2)
-knows_post places at p post.Uncount k = (k.0, record { flags_are = k.1.flags_are; func_is = k.1.func_is; info_is = k.1.info_is })
-knows_post places at p post.Release k = (k.0, record { flags_are = k.1.flags_are; func_is = k.1.func_is; info_is = k.1.info_is })
+knows_post places at p _ k = (k.0, record { flags_are = k.1.flags_are; func_is = k.1.func_is; info_is = k.1.info_is })
 
 knows_handle : (places : ℕ → RecPlace) (at : Word → ℕ) (h : HandleStage) → Knows places at (told_handle h)
 knows_handle places at handle.Enter = tt
-knows_handle places at handle.Accept = tt
-knows_handle places at handle.LeaveIdle = tt
-knows_handle places at handle.Take = tt
-knows_handle places at (handle.ReverseLoad newer id) = tt
-knows_handle places at (handle.ReverseStore newer id older) = tt
-knows_handle places at (handle.LoadNext walk id) = tt
-knows_handle places at (handle.LoadFlags walk id next) = tt
-knows_handle places at (handle.LoadFunc walk id next) = tt
-knows_handle places at (handle.LoadInfo walk id next func) = tt
-knows_handle places at (handle.Unlink walk last call next) = tt
-knows_handle places at (handle.BeginSync walk call next) = tt
-knows_handle places at (handle.CountSync walk call next) = tt
-knows_handle places at (handle.EndSync walk call next) = tt
-knows_handle places at (handle.AsyncNext id) = tt
-knows_handle places at (handle.AsyncFunc id next) = tt
-knows_handle places at (handle.AsyncInfo id next func) = tt
-knows_handle places at (handle.BeginAsync call next) = tt
-knows_handle places at (handle.CountAsync call next) = tt
-knows_handle places at handle.Leave = tt
+knows_handle places at _ = tt
 
 abbrev IsFreeAt : (ℕ → RecPlace) → ℕ → PostStage → Type 0
 IsFreeAt places id post.Lock = places id ≡ place.Free
@@ -110,12 +59,8 @@ told_knows places at p post.LoadFlags k f = tt
 told_knows places at p post.Lock k f = f
 told_knows places at p post.StoreFunc k f = k
 told_knows places at p post.StoreInfo k f = k
-told_knows places at p post.Count k f = (k.0, record { flags_are = k.1.flags_are; func_is = k.1.func_is; info_is = k.1.info_is })
-told_knows places at p post.LoadHead k f = (k.0, record { flags_are = k.1.flags_are; func_is = k.1.func_is; info_is = k.1.info_is })
-told_knows places at p (post.StoreNext link tries) k f = (k.0, record { flags_are = k.1.flags_are; func_is = k.1.func_is; info_is = k.1.info_is })
 told_knows places at p (post.Exchange link tries) k f = (k.0, record { flags_are = k.1.flags_are; func_is = k.1.func_is; info_is = k.1.info_is }, k.2)
-told_knows places at p post.Uncount k f = (k.0, record { flags_are = k.1.flags_are; func_is = k.1.func_is; info_is = k.1.info_is })
-told_knows places at p post.Release k f = (k.0, record { flags_are = k.1.flags_are; func_is = k.1.func_is; info_is = k.1.info_is })
+told_knows places at p _ k f = (k.0, record { flags_are = k.1.flags_are; func_is = k.1.func_is; info_is = k.1.info_is })
 
 -- a CPU that may stand outside, or at a step of a post: it has nothing taken and nothing loaded, and its handling word is 0
 pub record Idle (a : CallState) (at : Word → ℕ) (d : DrainValue) (me : ℕ) : Type 0 where
@@ -129,53 +74,23 @@ IsNoHandle _ = Unit {0}
 
 post_no_handle : (p : Posting) (st : PostStage) → IsNoHandle (told_post p st)
 post_no_handle p post.LoadFlags = tt
-post_no_handle p post.Lock = tt
-post_no_handle p post.StoreFunc = tt
-post_no_handle p post.StoreInfo = tt
-post_no_handle p post.Count = tt
-post_no_handle p post.LoadHead = tt
-post_no_handle p (post.StoreNext link tries) = tt
-post_no_handle p (post.Exchange link tries) = tt
-post_no_handle p post.Uncount = tt
-post_no_handle p post.Release = tt
+post_no_handle p _ = tt
 
 module _ (a : CallState) (at : Word → ℕ) (me : ℕ) (d : DrainValue) where
   idle_handle : (h : HandleStage) → StandsAt a.place at (share_of a me) d me (Some (Handle h)) → HandIs (Some (Handle h)) (at (Hand me)) → IsNoHandle (told_handle h) → Idle a at d me
   idle_handle handle.Enter k hand n = record { rests = k.1; hand = hand }
-  idle_handle handle.Accept k hand n = absurd n
-  idle_handle handle.LeaveIdle k hand n = absurd n
-  idle_handle handle.Take k hand n = absurd n
-  idle_handle (handle.ReverseLoad newer id) k hand n = absurd n
-  idle_handle (handle.ReverseStore newer id older) k hand n = absurd n
-  idle_handle (handle.LoadNext walk id) k hand n = absurd n
-  idle_handle (handle.LoadFlags walk id next) k hand n = absurd n
-  idle_handle (handle.LoadFunc walk id next) k hand n = absurd n
-  idle_handle (handle.LoadInfo walk id next func) k hand n = absurd n
-  idle_handle (handle.Unlink walk last call next) k hand n = absurd n
-  idle_handle (handle.BeginSync walk call next) k hand n = absurd n
-  idle_handle (handle.CountSync walk call next) k hand n = absurd n
-  idle_handle (handle.EndSync walk call next) k hand n = absurd n
-  idle_handle (handle.AsyncNext id) k hand n = absurd n
-  idle_handle (handle.AsyncFunc id next) k hand n = absurd n
-  idle_handle (handle.AsyncInfo id next func) k hand n = absurd n
-  idle_handle (handle.BeginAsync call next) k hand n = absurd n
-  idle_handle (handle.CountAsync call next) k hand n = absurd n
-  idle_handle handle.Leave k hand n = absurd n
+  idle_handle _ k hand n = absurd n
 
   -- a CPU whose steps have told of no handle is idle
   idle_told : (stage : Option Stage) → StandsAt a.place at (share_of a me) d me stage → HandIs stage (at (Hand me)) → IsNoHandle (told_stage stage) → Idle a at d me
   idle_told None k hand n = record { rests = k; hand = hand }
-  idle_told (Some (Send to)) k hand n = record { rests = k.0; hand = hand }
-  idle_told (Some (Done id)) k hand n = record { rests = k.0; hand = hand }
-  idle_told (Some (Post p st)) k hand n = record { rests = k.0; hand = hand }
   idle_told (Some (Handle h)) k hand n = idle_handle h k hand n
+  idle_told _ k hand n = record { rests = k.0; hand = hand }
 
   knows_told : (stage : Option Stage) → StandsAt a.place at (share_of a me) d me stage → Knows a.place at (told_stage stage)
-  knows_told None k = tt
-  knows_told (Some (Send to)) k = tt
-  knows_told (Some (Done id)) k = tt
   knows_told (Some (Post p st)) k = let post = k.1 in knows_post a.place at p st post.knows
   knows_told (Some (Handle h)) k = knows_handle a.place at h
+  knows_told _ k = tt
 
 -- of a stage of handle beyond the first, all is told
 abbrev IsBeyond : HandleStage → Type 0
@@ -187,76 +102,20 @@ no_post p st h e = subst IsNoHandle e (post_no_handle p st)
 
 same_handle : (h h' : HandleStage) → told_handle h' ≡ Some (Handle h) → h' ≡ h
 same_handle h handle.Enter e = absurd (let x = e in cc)
-same_handle h handle.Accept e = cc
-same_handle h handle.LeaveIdle e = cc
-same_handle h handle.Take e = cc
-same_handle h (handle.ReverseLoad newer id) e = cc
-same_handle h (handle.ReverseStore newer id older) e = cc
-same_handle h (handle.LoadNext walk id) e = cc
-same_handle h (handle.LoadFlags walk id next) e = cc
-same_handle h (handle.LoadFunc walk id next) e = cc
-same_handle h (handle.LoadInfo walk id next func) e = cc
-same_handle h (handle.Unlink walk last call next) e = cc
-same_handle h (handle.BeginSync walk call next) e = cc
-same_handle h (handle.CountSync walk call next) e = cc
-same_handle h (handle.EndSync walk call next) e = cc
-same_handle h (handle.AsyncNext id) e = cc
-same_handle h (handle.AsyncFunc id next) e = cc
-same_handle h (handle.AsyncInfo id next func) e = cc
-same_handle h (handle.BeginAsync call next) e = cc
-same_handle h (handle.CountAsync call next) e = cc
-same_handle h handle.Leave e = cc
+same_handle h _ e = cc
 
 stage_is : (h : HandleStage) (stage : Option Stage) → told_stage stage ≡ Some (Handle h) → stage ≡ Some (Handle h)
-stage_is h None e = cc
-stage_is h (Some (Send to)) e = cc
-stage_is h (Some (Done id)) e = cc
 stage_is h (Some (Post p st)) e = absurd (no_post p st h e)
 stage_is h (Some (Handle h')) e = ap (λ (x : HandleStage). Some (Handle x)) (same_handle h h' e)
+stage_is h _ e = cc
 
 told_beyond : (h : HandleStage) → IsBeyond h → told_handle h ≡ Some (Handle h)
 told_beyond handle.Enter b = absurd b
-told_beyond handle.Accept b = refl
-told_beyond handle.LeaveIdle b = refl
-told_beyond handle.Take b = refl
-told_beyond (handle.ReverseLoad newer id) b = refl
-told_beyond (handle.ReverseStore newer id older) b = refl
-told_beyond (handle.LoadNext walk id) b = refl
-told_beyond (handle.LoadFlags walk id next) b = refl
-told_beyond (handle.LoadFunc walk id next) b = refl
-told_beyond (handle.LoadInfo walk id next func) b = refl
-told_beyond (handle.Unlink walk last call next) b = refl
-told_beyond (handle.BeginSync walk call next) b = refl
-told_beyond (handle.CountSync walk call next) b = refl
-told_beyond (handle.EndSync walk call next) b = refl
-told_beyond (handle.AsyncNext id) b = refl
-told_beyond (handle.AsyncFunc id next) b = refl
-told_beyond (handle.AsyncInfo id next func) b = refl
-told_beyond (handle.BeginAsync call next) b = refl
-told_beyond (handle.CountAsync call next) b = refl
-told_beyond handle.Leave b = refl
+told_beyond _ b = refl
 
 enters : (h : HandleStage) → IsBeyond h ⊎ (h ≡ handle.Enter)
 enters handle.Enter = inr refl
-enters handle.Accept = inl tt
-enters handle.LeaveIdle = inl tt
-enters handle.Take = inl tt
-enters (handle.ReverseLoad newer id) = inl tt
-enters (handle.ReverseStore newer id older) = inl tt
-enters (handle.LoadNext walk id) = inl tt
-enters (handle.LoadFlags walk id next) = inl tt
-enters (handle.LoadFunc walk id next) = inl tt
-enters (handle.LoadInfo walk id next func) = inl tt
-enters (handle.Unlink walk last call next) = inl tt
-enters (handle.BeginSync walk call next) = inl tt
-enters (handle.CountSync walk call next) = inl tt
-enters (handle.EndSync walk call next) = inl tt
-enters (handle.AsyncNext id) = inl tt
-enters (handle.AsyncFunc id next) = inl tt
-enters (handle.AsyncInfo id next func) = inl tt
-enters (handle.BeginAsync call next) = inl tt
-enters (handle.CountAsync call next) = inl tt
-enters handle.Leave = inl tt
+enters _ = inl tt
 
 module _ (a : CallState) (at : Word → ℕ) (control : ℕ → ControlValue) (v : Known) (s : Shows a at control) (sees : Sees a control v) where
   abbrev me : ℕ
@@ -274,10 +133,8 @@ module _ (a : CallState) (at : Word → ℕ) (control : ℕ → ControlValue) (v
       elim (s.placed.settled me id own (sym (row-at records id (a.confirmed me) false small) ∙ seen)) [ inl free ↦ free | inr hold ↦ absurd (let h : Holds None id = rw none at hold in h) ]
 
   pub aims_told : (st : Stage) → Aims v st → told_stage (Some st) ≡ v.stage
-  aims_told (Send to) aims = sym aims.0
-  aims_told (Done id) aims = sym aims.0
   aims_told (Post p st) aims = aims.told
-  aims_told (Handle h) aims = sym aims.0
+  aims_told _ aims = sym aims.0
 
   idle : IsNoHandle v.stage → Idle a at (control me).drain me
   idle n = idle_told a at me (control me).drain (control me).stage (s.stands me) (s.hands me) (subst IsNoHandle (sym sees.stage) n)
@@ -286,16 +143,8 @@ module _ (a : CallState) (at : Word → ℕ) (control : ℕ → ControlValue) (v
   outside_idle e = idle (subst IsNoHandle (sym e) tt)
 
   free_at : (p : Posting) (st : PostStage) → PostAims v p st → IsFreeAt a.place p.id st
-  free_at p post.LoadFlags aims = tt
   free_at p post.Lock aims = let call = aims.is_call in free_outside p.id aims.owned call.in_range (sym aims.told) aims.ready
-  free_at p post.StoreFunc aims = tt
-  free_at p post.StoreInfo aims = tt
-  free_at p post.Count aims = tt
-  free_at p post.LoadHead aims = tt
-  free_at p (post.StoreNext link tries) aims = tt
-  free_at p (post.Exchange link tries) aims = tt
-  free_at p post.Uncount aims = tt
-  free_at p post.Release aims = tt
+  free_at p _ aims = tt
 
   abbrev here : Option Stage → ControlValue
   here stage = record { stage = stage; drain = (control me).drain }

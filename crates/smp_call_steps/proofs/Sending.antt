@@ -34,10 +34,7 @@ stands_on a at control me next s held stands hand = record {
 -- a record whose flags have no LOCK is free
 pub unlocked_free : (p : RecPlace) (flags : ℕ) → FlagsShow p flags → (flags % 2 == 1) ≡ false → p ≡ place.Free
 unlocked_free place.Free flags f e = refl
-unlocked_free place.Held flags f e = absurd (eqb-false (flags % 2) 1 e f)
-unlocked_free (place.Queued c) flags f e = absurd (eqb-false (flags % 2) 1 e f)
-unlocked_free (place.Batch c) flags f e = absurd (eqb-false (flags % 2) 1 e f)
-unlocked_free (place.Running c) flags f e = absurd (eqb-false (flags % 2) 1 e f)
+unlocked_free _ flags f e = absurd (eqb-false (flags % 2) 1 e f)
 
 -- confirm: the source has seen its record free
 pub confirms_kept : (a : CallState) (at : Word → ℕ) (control : ℕ → ControlValue) (me id : ℕ) → a.place id ≡ place.Free → Shows a at control → Shows (confirms a me id) at control

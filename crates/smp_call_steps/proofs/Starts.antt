@@ -48,16 +48,10 @@ online_below nr online cpu l e = let below = l.below cpu e in let within = l.wit
 
 begins_empty : (online cpu : ℕ) (c : Command) → held_of (first_stage online cpu c) ≡ None
 begins_empty online cpu (command.Post k to class func info tries) = refl
-begins_empty online cpu (command.Send to) = refl
-begins_empty online cpu (command.Done k) = refl
-begins_empty online cpu command.Handle = refl
 begins_empty online cpu _ = refl
 
 begins_outside : (online cpu : ℕ) (c : Command) (hand : ℕ) → hand ≡ 0 → HandIs (first_stage online cpu c) hand
 begins_outside online cpu (command.Post k to class func info tries) hand e = e
-begins_outside online cpu (command.Send to) hand e = e
-begins_outside online cpu (command.Done k) hand e = e
-begins_outside online cpu command.Handle hand e = e
 begins_outside online cpu _ hand e = e
 
 -- a record that a source has is one of its local numbers

@@ -36,11 +36,8 @@ taken_else : (me cpu : ℕ) → cpu ≢ me → place_taken me (place.Queued cpu)
 taken_else me cpu ne = put_else cpu me (place.Batch me) (place.Queued cpu) ne
 
 taken_minded : (me cpu id : ℕ) (p : RecPlace) → Minds cpu id p → place_taken me p ≡ p
-taken_minded me cpu id place.Free m = refl
-taken_minded me cpu id place.Held m = refl
 taken_minded me cpu id (place.Queued c) m = absurd m
-taken_minded me cpu id (place.Batch c) m = refl
-taken_minded me cpu id (place.Running c) m = refl
+taken_minded me cpu id _ m = refl
 
 -- a record in another CPU's batch was there before
 taken_batch : (me cpu : ℕ) (p : RecPlace) → cpu ≢ me → place_taken me p ≡ place.Batch cpu → p ≡ place.Batch cpu
@@ -55,11 +52,8 @@ taken_batch me cpu (place.Queued c) ne e =
     same_cpu x y f = cc
 
 FlagsShow-taken : (me flags : ℕ) (p : RecPlace) → FlagsShow p flags → FlagsShow (place_taken me p) flags
-FlagsShow-taken me flags place.Free f = f
-FlagsShow-taken me flags place.Held f = f
 FlagsShow-taken me flags (place.Queued c) f = at_test c me (λ b. FlagsShow (cond b (place.Batch me) (place.Queued c)) flags) (λ _. f) (λ _. f)
-FlagsShow-taken me flags (place.Batch c) f = f
-FlagsShow-taken me flags (place.Running c) f = f
+FlagsShow-taken me flags _ f = f
 
 -- the histories with one batch more
 

@@ -107,8 +107,8 @@ holding_with f None = None
 holding_with f (Some h) = Some (f h)
 
 -- the holder links its record
-abbrev pub links : CallState → ℕ → Option Holding → Option ℕ → CallState
-links a me (Some h) (Some n) = record a { linked = put a.linked me (Some n) }
+abbrev pub links : CallState → ℕ → Option ℕ → Option Holding → CallState
+links a me (Some n) (Some h) = record a { linked = put a.linked me (Some n) }
 links a me _ _ = a
 
 abbrev pub holds_with : CallState → ℕ → (Holding → Holding) → CallState
@@ -236,7 +236,7 @@ told a me act (Head to) found put = head_told a me to act put
 told a me act (Intr to) found put = intr_told a me to act
 told a me act (Hand cpu) found put = hand_told a me put
 told a me act (Ran by from) found put = counts a me (a.running me)
-told a me act (Next id) found put = links a me (a.held me) put
+told a me act (Next id) found put = links a me put (a.held me)
 told a me act _ found put = a
 
 -- the calls after a step that was seen
