@@ -72,15 +72,7 @@ numbered _ i p = absurd p
 
 place_below : (w : Word) (i : ℕ) → Reads w i → place_of w < cells
 place_below (Head c) i p = omega arith
-place_below (Intr c) i p = omega arith
-place_below (Hand c) i p = omega arith
-place_below (Queued s d) i p = omega arith
-place_below (Ran d s) i p = omega arith
-place_below (Flags r) i p = omega arith
-place_below (Func r) i p = omega arith
-place_below (Info r) i p = omega arith
-place_below (Next r) i p = omega arith
-place_below _ i p = absurd p
+place_below _ i p = omega arith
 
 -- the number of the word in a cell
 record HasNumber (o : Option ℕ) (place cell : ℕ) : Type 0 where

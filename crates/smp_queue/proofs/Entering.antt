@@ -52,46 +52,12 @@ module _ (t : TableId) (d d' : Desk) (number : ℕ) where
   pub leave_ready : (stage : HandleStage) → InHandle t d stage → IsLeaving stage → d.known.number ≡ number → Ready t d (Store (Hand number) 0)
   leave_ready handle.LeaveIdle h l e = in_handle_ready t d handle.LeaveIdle h (Store (Hand number) 0) tt (ap (λ (n : ℕ). Store (Hand n) 0) e)
   leave_ready handle.Leave h l e = in_handle_ready t d handle.Leave h (Store (Hand number) 0) tt (ap (λ (n : ℕ). Store (Hand n) 0) e)
-  leave_ready handle.Enter h l e = absurd l
-  leave_ready handle.Accept h l e = absurd l
-  leave_ready handle.Take h l e = absurd l
-  leave_ready (handle.ReverseLoad newer id) h l e = absurd l
-  leave_ready (handle.ReverseStore newer id older) h l e = absurd l
-  leave_ready (handle.LoadNext walk id) h l e = absurd l
-  leave_ready (handle.LoadFlags walk id next) h l e = absurd l
-  leave_ready (handle.LoadFunc walk id next) h l e = absurd l
-  leave_ready (handle.LoadInfo walk id next func) h l e = absurd l
-  leave_ready (handle.Unlink walk last call next) h l e = absurd l
-  leave_ready (handle.BeginSync walk call next) h l e = absurd l
-  leave_ready (handle.CountSync walk call next) h l e = absurd l
-  leave_ready (handle.EndSync walk call next) h l e = absurd l
-  leave_ready (handle.AsyncNext id) h l e = absurd l
-  leave_ready (handle.AsyncFunc id next) h l e = absurd l
-  leave_ready (handle.AsyncInfo id next func) h l e = absurd l
-  leave_ready (handle.BeginAsync call next) h l e = absurd l
-  leave_ready (handle.CountAsync call next) h l e = absurd l
+  leave_ready _ h l e = absurd l
 
   pub leave_known : (stage : HandleStage) → InHandle t d stage → IsLeaving stage → known_told d.known act.Store (Hand number) None (Some 0) ≡ outside_known d.known
   leave_known handle.LeaveIdle h l = left_is d.known number handle.LeaveIdle refl h.stage_is refl
   leave_known handle.Leave h l = left_is d.known number handle.Leave refl h.stage_is refl
-  leave_known handle.Enter h l = absurd l
-  leave_known handle.Accept h l = absurd l
-  leave_known handle.Take h l = absurd l
-  leave_known (handle.ReverseLoad newer id) h l = absurd l
-  leave_known (handle.ReverseStore newer id older) h l = absurd l
-  leave_known (handle.LoadNext walk id) h l = absurd l
-  leave_known (handle.LoadFlags walk id next) h l = absurd l
-  leave_known (handle.LoadFunc walk id next) h l = absurd l
-  leave_known (handle.LoadInfo walk id next func) h l = absurd l
-  leave_known (handle.Unlink walk last call next) h l = absurd l
-  leave_known (handle.BeginSync walk call next) h l = absurd l
-  leave_known (handle.CountSync walk call next) h l = absurd l
-  leave_known (handle.EndSync walk call next) h l = absurd l
-  leave_known (handle.AsyncNext id) h l = absurd l
-  leave_known (handle.AsyncFunc id next) h l = absurd l
-  leave_known (handle.AsyncInfo id next func) h l = absurd l
-  leave_known (handle.BeginAsync call next) h l = absurd l
-  leave_known (handle.CountAsync call next) h l = absurd l
+  leave_known _ h l = absurd l
 
 -- the interrupt that was found
 pub accepted_then : (t : TableId) (d d' : Desk) (v : Known) (number n : ℕ) (q : List Call) → InHandle t d handle.Accept → Moment d.known (Intr number) n → d.known ≡ handling handle.Accept v.drain v →

@@ -41,39 +41,15 @@ at_snoc (x ∷ xs) a b (suc j) e = ⊎_elim (λ (t : get_elem? xs j ≡ some b).
 -- what is taken matters at a swap alone
 load_else : (queue : List Call) (v : Known) (w : Word) (n : ℕ) → known_taking queue v act.Load w (Some n) None ≡ known_told v act.Load w (Some n) None
 load_else queue v (Head to) n = refl
-load_else queue v (Intr to) n = refl
-load_else queue v (Hand to) n = refl
-load_else queue v (Queued s d) n = refl
-load_else queue v (Ran s d) n = refl
-load_else queue v (Flags r) n = refl
-load_else queue v (Func r) n = refl
-load_else queue v (Info r) n = refl
-load_else queue v (Next r) n = refl
 load_else queue v _ n = refl
 
 store_else : (queue : List Call) (v : Known) (w : Word) (x : ℕ) → known_taking queue v act.Store w None (Some x) ≡ known_told v act.Store w None (Some x)
 store_else queue v (Head to) x = refl
-store_else queue v (Intr to) x = refl
-store_else queue v (Hand to) x = refl
-store_else queue v (Queued s d) x = refl
-store_else queue v (Ran s d) x = refl
-store_else queue v (Flags r) x = refl
-store_else queue v (Func r) x = refl
-store_else queue v (Info r) x = refl
-store_else queue v (Next r) x = refl
 store_else queue v _ x = refl
 
 exchange_else : (queue : List Call) (v : Known) (w : Word) (n : ℕ) (o : Option ℕ) → known_taking queue v act.Cas w (Some n) o ≡ known_told v act.Cas w (Some n) o
 exchange_else queue v (Head to) n None = refl
 exchange_else queue v (Head to) n (Some x) = refl
-exchange_else queue v (Intr to) n o = refl
-exchange_else queue v (Hand to) n o = refl
-exchange_else queue v (Queued s d) n o = refl
-exchange_else queue v (Ran s d) n o = refl
-exchange_else queue v (Flags r) n o = refl
-exchange_else queue v (Func r) n o = refl
-exchange_else queue v (Info r) n o = refl
-exchange_else queue v (Next r) n o = refl
 exchange_else queue v _ n o = refl
 
 load_step : (a : CallState) (at : Word → ℕ) (control : ℕ → ControlValue) (v : Known) (w : Word) → Can v (Load w) → Shows a at control → Sees a control v → GoesOn a control v.number at (known_told v act.Load w (Some (at w)) None)

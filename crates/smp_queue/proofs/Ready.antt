@@ -38,28 +38,15 @@ ready_done t d id a out = record {
 
 -- the word of each step of a post is in the table
 post_in_table : (t : TableId) (d : Desk) (p : Posting) (st : PostStage) → IsMine t d p → IsInTable (word_of (known_access d.known (Post (posting_of p.id p.class p.func p.info p.to) st)))
-post_in_table t d p post.LoadFlags m = m.at.in_range
-post_in_table t d p post.Lock m = m.at.in_range
-post_in_table t d p post.StoreFunc m = m.at.in_range
-post_in_table t d p post.StoreInfo m = m.at.in_range
 post_in_table t d p post.Count m = (m.at.me_in_range, m.to_in_range)
 post_in_table t d p post.LoadHead m = m.to_in_range
-post_in_table t d p (post.StoreNext link tries) m = m.at.in_range
 post_in_table t d p (post.Exchange link tries) m = m.to_in_range
 post_in_table t d p post.Uncount m = (m.at.me_in_range, m.to_in_range)
-post_in_table t d p post.Release m = m.at.in_range
+post_in_table t d p _ m = m.at.in_range
 
 goes : (p : Posting) (st : PostStage) → p.to < cpus → PostGoes (counted p) st
 goes p post.LoadFlags l = λ _. l
-goes p post.Lock l = l
-goes p post.StoreFunc l = l
-goes p post.StoreInfo l = l
-goes p post.Count l = l
-goes p post.LoadHead l = l
-goes p (post.StoreNext link tries) l = l
-goes p (post.Exchange link tries) l = l
-goes p post.Uncount l = l
-goes p post.Release l = l
+goes p _ l = l
 
 -- a step of a post, of the call as it will be once all is told of it
 pub ready_post : (t : TableId) (d : Desk) (p : Posting) (st : PostStage) (access : Access) → IsMine t d p → told_post (counted p) st ≡ d.known.stage → IsReady d.known p.id st → known_access d.known (Post (counted p) st) ≡ access → Ready t d access
