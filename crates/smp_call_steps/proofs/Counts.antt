@@ -1,10 +1,10 @@
 -- The calls by a confirmed record have all run, or run now.
-use Rattle.std.proofs.Common.{◌≡◌, ◌≢◌, ℕ, ◌+◌, ◌==◌, true, cond, Option, Some, None, List, [], ◌∷◌, ◌++◌, inl, inr, refl, ap, ◌∙◌, arith}
+use Rattle.std.proofs.Common.{◌≡◌, ◌≢◌, ℕ, ◌+◌, ◌==◌, true, cond, Option, Some, List, [], ◌∷◌, ◌++◌, inl, inr, refl, ap, ◌∙◌, arith}
 use Rattle.std.proofs.lemmas.Bool.{ne_eqb}
 use Rattle.std.proofs.lemmas.List.Sums.{sum_by-append}
 use Rattle.std.specs.List.{AllByRecursion}
 use Rattle.smp_words.specs.Size.{owner}
-use Rattle.smp_call_steps.specs.Calls.{CallState, Running, Nothing, SyncCall, CountedCall, AsyncCall}
+use Rattle.smp_call_steps.specs.Calls.{CallState, Running, Nothing}
 use Rattle.smp_call_steps.specs.Counts.{calls_by, batches, async_call, ConfirmedCallsRan}
 use Rattle.smp_call_steps.specs.Histories.{orders, running_call}
 use Rattle.smp_call_steps.specs.Order.{if_sync, if_async, sync_calls, async_calls, order}
@@ -23,7 +23,7 @@ use Rattle.smp_call_steps.specs.declared.post.Posting.{Posting}
 use Rattle.smp_call_steps.specs.declared.post.PostStage.{PostStage}
 use Rattle.smp_call_steps.specs.declared.post.PostStage.TheVariants as post
 use Rattle.smp_call_steps.specs.declared.stage.Stage.{Stage}
-use Rattle.smp_call_steps.specs.declared.stage.Stage.TheVariants.{Send, Done, Post, Handle}
+use Rattle.smp_call_steps.specs.declared.stage.Stage.TheVariants.{Post}
 
 by-append : (id : ℕ) (xs ys : List Call) → calls_by id (xs ++ ys) ≡ calls_by id xs + calls_by id ys
 by-append id xs ys = sum_by-append (λ call. cond (call.id == id) 1 0) xs ys

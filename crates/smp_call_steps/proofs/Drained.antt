@@ -23,7 +23,7 @@ use Rattle.smp_words.specs.declared.word.Word.TheVariants.{Hand, Queued, Ran, Fl
 use Rattle.smp_call_steps.specs.declared.handle.HandleStage.{HandleStage}
 use Rattle.smp_call_steps.specs.declared.handle.HandleStage.TheVariants as handle
 use Rattle.smp_call_steps.specs.declared.stage.Stage.{Stage}
-use Rattle.smp_call_steps.specs.declared.stage.Stage.TheVariants.{Send, Done, Post, Handle}
+use Rattle.smp_call_steps.specs.declared.stage.Stage.TheVariants.{Handle}
 
 -- how many calls of a source a list has
 

@@ -24,7 +24,7 @@ use Rattle.smp_words.specs.declared.word.Word.TheVariants.{Head, Func, Next}
 use Rattle.smp_call_steps.specs.declared.handle.HandleStage.{HandleStage}
 use Rattle.smp_call_steps.specs.declared.handle.HandleStage.TheVariants as handle
 use Rattle.smp_call_steps.specs.declared.stage.Stage.{Stage}
-use Rattle.smp_call_steps.specs.declared.stage.Stage.TheVariants.{Send, Done, Post, Handle}
+use Rattle.smp_call_steps.specs.declared.stage.Stage.TheVariants.{Handle}
 
 abbrev IsRecord : Call → Type 0
 IsRecord call = call.id < records

@@ -1,5 +1,5 @@
 -- What a step leaves to another CPU: a CPU stands where it stood.
-use Rattle.std.proofs.Common.{◌≡◌, ◌≢◌, ℕ, ◌+◌, Option, Some, None, List, [], ◌∷◌, sym, subst, refl, ◌∙◌}
+use Rattle.std.proofs.Common.{◌≡◌, ◌≢◌, ℕ, ◌+◌, Option, Some, List, [], ◌∷◌, sym, subst, refl, ◌∙◌}
 use Rattle.std.specs.List.{AllByRecursion}
 use Rattle.smp_words.specs.Size.{owner}
 use Rattle.smp_call_steps.specs.Drains.{DrainValue, link_to}
@@ -23,7 +23,7 @@ use Rattle.smp_call_steps.specs.declared.handle.Walk.{Walk}
 use Rattle.smp_call_steps.specs.declared.handle.HandleStage.{HandleStage}
 use Rattle.smp_call_steps.specs.declared.handle.HandleStage.TheVariants as handle
 use Rattle.smp_call_steps.specs.declared.stage.Stage.{Stage}
-use Rattle.smp_call_steps.specs.declared.stage.Stage.TheVariants.{Send, Done, Post, Handle}
+use Rattle.smp_call_steps.specs.declared.stage.Stage.TheVariants.{Post, Handle}
 
 -- the CPU that alone changes a record at this place
 abbrev pub Minds : ℕ → ℕ → RecPlace → Type 0

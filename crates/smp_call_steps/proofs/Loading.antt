@@ -2,7 +2,7 @@
 use Rattle.std.proofs.Common.{◌≡◌, ℕ, ◌+◌, ◌%◌, ◌==◌, Bool, true, if◌then◌else◌, Option, Some, None, List, [], ◌∷◌, ◌++◌, sym, subst, refl, ap, ◌∙◌}
 use Rattle.smp_words.specs.Put.{put}
 use Rattle.smp_words.specs.Flags.{flags_of, class_of}
-use Rattle.smp_call_steps.specs.Calls.{CallState, Holding, Nothing, confirms, links}
+use Rattle.smp_call_steps.specs.Calls.{CallState, Nothing, confirms}
 use Rattle.smp_call_steps.specs.Drains.{link_to, record_at, by_class, unlink_after}
 use Rattle.smp_call_steps.specs.Stages.{ControlValue}
 use Rattle.smp_call_steps.specs.Words.{Path, IsWritten, flags_in, funcs_in, infos_in, nexts_in, hands_in}

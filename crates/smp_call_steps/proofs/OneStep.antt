@@ -1,14 +1,13 @@
 -- One step of a CPU that knows v: what holds after it, and what each CPU knows then.
 use Rattle.std.proofs.Common.{◌≡◌, ◌≢◌, ℕ, ◌+◌, ◌-◌, ◌%◌, nat_lt, Bool, true, false, ◌==◌, cond, Option, Some, None, subst, refl, ap, ◌∙◌}
 use Rattle.smp_words.specs.Put.{put}
-use Rattle.smp_call_steps.specs.Calls.{CallState, Holding}
+use Rattle.smp_call_steps.specs.Calls.{CallState}
 use Rattle.smp_call_steps.specs.Posts.{ends, goes_to}
 use Rattle.smp_call_steps.specs.Drains.{DrainValue, handle_goes, record_at, second_on, first_on, reverse_on, by_class, unlink_after}
 use Rattle.smp_words.specs.Flags.{class_of}
 use Rattle.smp_call_steps.specs.declared.handle.Walk.{Walk}
 use Rattle.smp_call_steps.specs.Stages.{ControlValue, access_of, outcome_of, drain_of, control_after}
 use Rattle.smp_words.specs.Access.{word_of, at_after, seen_of}
-use Rattle.smp_call_steps.specs.Stands.{held_of}
 use Rattle.smp_call_steps.specs.Shows.{Shows}
 use Rattle.smp_call_steps.specs.Parts.{part_after}
 use Rattle.smp_call_steps.specs.Known.{told_post, told_handle, told_stage, Sees, known_tells, stage_after, drain_then, Aims, known_access, GoesOn}
@@ -32,7 +31,7 @@ use Rattle.smp_call_steps.specs.declared.post.PostStage.TheVariants as post
 use Rattle.smp_call_steps.specs.declared.handle.HandleStage.TheVariants as handle
 use Rattle.smp_call_steps.specs.declared.stage.Outcome.{Outcome}
 use Rattle.smp_call_steps.specs.declared.stage.Stage.{Stage}
-use Rattle.smp_call_steps.specs.declared.stage.Stage.TheVariants.{Send, Done, Post, Handle}
+use Rattle.smp_call_steps.specs.declared.stage.Stage.TheVariants.{Post, Handle}
 
 -- the stage that follows, as the step tells it
 abbrev Follows : (Word → ℕ) → ℕ → DrainValue → Stage → Type 0

@@ -23,7 +23,7 @@ use Rattle.smp_call_steps.specs.declared.post.Posting.{Posting}
 use Rattle.smp_call_steps.specs.declared.post.PostStage.{PostStage}
 use Rattle.smp_call_steps.specs.declared.post.PostStage.TheVariants as post
 use Rattle.smp_call_steps.specs.declared.stage.Stage.{Stage}
-use Rattle.smp_call_steps.specs.declared.stage.Stage.TheVariants.{Send, Done, Post, Handle}
+use Rattle.smp_call_steps.specs.declared.stage.Stage.TheVariants.{Post}
 
 pub put_other : {A : Type 0} (f : ℕ → A) (i : ℕ) (v : A) (j : ℕ) → j ≢ i → put f i v j ≡ f j
 put_other f i v j ne = at_test j i (λ b. cond b v (f j) ≡ f j) (λ e. absurd (ne e)) (λ _. refl)

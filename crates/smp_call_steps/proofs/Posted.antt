@@ -3,7 +3,6 @@ use Rattle.std.proofs.Common.{◌≡◌, ℕ, ◌+◌, ◌-◌, ◌%◌, ◌^◌
 use Rattle.smp_words.specs.Flags.{flags_of}
 use Rattle.smp_call_steps.specs.Histories.{sent_to, one_held}
 use Rattle.smp_call_steps.specs.Stands.{held_of_post, posted}
-use Rattle.smp_call_steps.specs.Parts.{part_confirmed, part_queued}
 use Rattle.smp_call_steps.specs.Known.{known_told, known_access, posting_of, standing, outside_known, confirmed_known, queued_known}
 use Rattle.smp_words.specs.declared.call.Class.{Class}
 use Rattle.smp_words.specs.declared.call.Class.TheVariants.{Sync, Async}

@@ -15,7 +15,7 @@ use Rattle.smp_words.specs.declared.call.Call.{Call}
 use Rattle.smp_words.specs.declared.call.Class.{Class}
 use Rattle.smp_call_steps.specs.declared.known.Known.{Known}
 use Rattle.smp_words.specs.declared.word.Word.{Word}
-use Rattle.smp_words.specs.declared.word.Word.TheVariants.{Head, Intr, Hand, Queued, Ran, Flags, Func, Info, Next}
+use Rattle.smp_words.specs.declared.word.Word.TheVariants.{Intr, Hand, Queued, Flags, Func, Info, Next}
 use Rattle.smp_words.specs.declared.access.Access.{Access}
 use Rattle.smp_words.specs.declared.access.Access.TheVariants.{Load, Store}
 use Rattle.smp_words.specs.declared.seen.Act.{Act}

@@ -1,8 +1,8 @@
 -- A CPU's part of the calls, and what each event makes of it.
-use Rattle.std.specs.Prelude.{ℕ, zero, suc, ◌+◌, ◌%◌, Bool, true, false, ◌==◌, nat_lt, if◌then◌else◌, Option, Some, None, List, [], ◌∷◌, ◌++◌, slice_set}
+use Rattle.std.specs.Prelude.{ℕ, zero, suc, ◌%◌, Bool, true, false, ◌==◌, nat_lt, if◌then◌else◌, Option, Some, None, List, [], ◌∷◌, ◌++◌, slice_set}
 use Rattle.smp_words.specs.Size.{cpus, records}
 use Rattle.smp_call_steps.specs.Order.{order}
-use Rattle.smp_call_steps.specs.Calls.{CallState, Holding, Running, Nothing, SyncCall, CountedCall, AsyncCall, Sending}
+use Rattle.smp_call_steps.specs.Calls.{CallState, Holding, Running, Nothing, SyncCall, CountedCall, AsyncCall}
 use Rattle.smp_words.specs.declared.call.Call.{Call}
 pub use Rattle.smp_call_steps.specs.declared.known.Part.{Part}
 use Rattle.smp_words.specs.declared.word.Word.{Word}
