@@ -10,23 +10,14 @@ use Rattle.smp_call_steps.specs.Stages.{ControlValue, access_of}
 use Rattle.smp_call_steps.specs.Stands.{Share, share_of, StandsAt, HandleStands, Reverses, Walks, Ends, PostStands}
 use Rattle.smp_call_steps.specs.Shows.{Shows}
 use Rattle.smp_call_steps.specs.Words.{nexts_in}
-use Rattle.smp_call_steps.specs.declared.handle.Walk.{Walk}
-use Rattle.smp_words.specs.declared.word.Word.TheVariants.{Next}
+use Rattle.smp_call_steps.specs.Names.{Call, Word, Next, RecPlace, Posting, PostStage, Walk, HandleStage, Stage, Send, Done, Post, Handle}
+use Rattle.smp_call_steps.specs.Names.place
+use Rattle.smp_call_steps.specs.Names.post
+use Rattle.smp_call_steps.specs.Names.handle
 use Rattle.smp_call_steps.proofs.Alls.{every_right}
 use Rattle.smp_call_steps.proofs.Walks.{reverses_all, walks_rest, walks_last, ends_rest, same_record}
 use Rattle.smp_words.proofs.Links.{HasIndex, IsInTable, in_table}
 use Rattle.smp_words.proofs.Sizes.{owner-below}
-use Rattle.smp_words.specs.declared.call.Call.{Call}
-use Rattle.smp_call_steps.specs.declared.place.RecPlace.{RecPlace}
-use Rattle.smp_call_steps.specs.declared.place.RecPlace.TheVariants as place
-use Rattle.smp_words.specs.declared.word.Word.{Word}
-use Rattle.smp_call_steps.specs.declared.post.Posting.{Posting}
-use Rattle.smp_call_steps.specs.declared.post.PostStage.{PostStage}
-use Rattle.smp_call_steps.specs.declared.post.PostStage.TheVariants as post
-use Rattle.smp_call_steps.specs.declared.handle.HandleStage.{HandleStage}
-use Rattle.smp_call_steps.specs.declared.handle.HandleStage.TheVariants as handle
-use Rattle.smp_call_steps.specs.declared.stage.Stage.{Stage}
-use Rattle.smp_call_steps.specs.declared.stage.Stage.TheVariants.{Send, Done, Post, Handle}
 
 post_in_table : (places : ℕ → RecPlace) (at : Word → ℕ) (me : ℕ) (p : Posting) (stage : PostStage) → PostStands places at me p stage → IsInTable (word_of (access_of at me (Post p stage)))
 post_in_table places at me p post.Count s = (s.me_in_range, s.goes)

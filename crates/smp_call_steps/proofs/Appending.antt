@@ -17,11 +17,8 @@ use Rattle.smp_call_steps.proofs.Alls.{every, every_push}
 use Rattle.smp_call_steps.proofs.Frames.{Touches, leaves_others, Stands-kept}
 use Rattle.smp_call_steps.proofs.Lists.{sent_to-push, marked_from-push, history-push, one_if-same, one_if-other}
 use Rattle.smp_call_steps.proofs.Own.{put_other, put_same}
-use Rattle.smp_words.specs.declared.call.Call.{Call}
-use Rattle.smp_call_steps.specs.declared.place.RecPlace.{RecPlace}
-use Rattle.smp_call_steps.specs.declared.place.RecPlace.TheVariants as place
-use Rattle.smp_words.specs.declared.word.Word.{Word}
-use Rattle.smp_words.specs.declared.word.Word.TheVariants.{Head, Hand, Queued, Flags, Next}
+use Rattle.smp_call_steps.specs.Names.{Call, Word, Head, Hand, Queued, Flags, Next, RecPlace}
+use Rattle.smp_call_steps.specs.Names.place
 
 -- one more, above what the head was
 pub Leads-push : (nexts : ℕ → ℕ) (link : ℕ) (calls : List Call) (below : ℕ) (new : Call) → nexts new.id ≡ link → Leads nexts link calls below → Leads nexts (new.id + 1) (calls ++ new ∷ []) below

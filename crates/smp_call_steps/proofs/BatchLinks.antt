@@ -17,16 +17,8 @@ use Rattle.smp_call_steps.proofs.Appending.{Leads-push}
 use Rattle.smp_call_steps.proofs.Batches.{has_right, apart_order}
 use Rattle.smp_call_steps.proofs.Places.{IsBetween, true-has_record}
 use Rattle.smp_call_steps.proofs.Walks.{Path-append, apart_right, apart_across, absent_before, absent_after, async_calls-append}
-use Rattle.smp_words.specs.declared.call.Call.{Call}
-use Rattle.smp_words.specs.declared.call.Class.{Class}
-use Rattle.smp_words.specs.declared.call.Class.TheVariants.{Sync, Async}
-use Rattle.smp_call_steps.specs.declared.place.RecPlace.{RecPlace}
-use Rattle.smp_words.specs.declared.word.Word.{Word}
-use Rattle.smp_call_steps.specs.declared.handle.Walk.{Walk}
-use Rattle.smp_call_steps.specs.declared.handle.HandleStage.{HandleStage}
-use Rattle.smp_call_steps.specs.declared.handle.HandleStage.TheVariants as handle
-use Rattle.smp_call_steps.specs.declared.stage.Stage.{Stage}
-use Rattle.smp_call_steps.specs.declared.stage.Stage.TheVariants.{Send, Done, Post, Handle}
+use Rattle.smp_call_steps.specs.Names.{Call, Class, Sync, Async, Word, RecPlace, Walk, HandleStage, Stage, Send, Done, Post, Handle}
+use Rattle.smp_call_steps.specs.Names.handle
 
 -- what a test keeps of a list
 

@@ -5,9 +5,7 @@ use Rattle.smp_call_steps.specs.Order.{if_sync, if_async, sync_calls, async_call
 use Rattle.smp_call_steps.specs.Places.{IsAbsent, IsApart, HasRecord}
 use Rattle.smp_call_steps.specs.Words.{Leads}
 use Rattle.smp_call_steps.proofs.Alls.{every_both, every_append, every_sync, every_async}
-use Rattle.smp_words.specs.declared.call.Call.{Call}
-use Rattle.smp_words.specs.declared.call.Class.{Class}
-use Rattle.smp_words.specs.declared.call.Class.TheVariants.{Sync, Async}
+use Rattle.smp_call_steps.specs.Names.{Call, Class, Sync, Async}
 
 -- what holds of all of a batch holds of all of it in drain order
 pub every_order : (P : Call → Type 0) (calls : List Call) → AllByRecursion P calls → AllByRecursion P (order calls)

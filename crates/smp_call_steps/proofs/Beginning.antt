@@ -20,14 +20,9 @@ use Rattle.smp_call_steps.proofs.Turns.{put_here, put_else, holds_nothing, stand
 use Rattle.smp_call_steps.proofs.Moving.{Batch≢Batch, Running≢Batch, Queued≢Batch, Batch≢Free, all_placed_still, all_placed_apart, placed_moved, all_written_still, all_written_apart, written_moved}
 use Rattle.smp_call_steps.proofs.Tallies.{tallied_same}
 use Rattle.smp_call_steps.proofs.StepShows.{StepShows}
-use Rattle.smp_words.specs.declared.call.Call.{Call}
-use Rattle.smp_call_steps.specs.declared.place.RecPlace.{RecPlace}
-use Rattle.smp_call_steps.specs.declared.place.RecPlace.TheVariants as place
-use Rattle.smp_words.specs.declared.word.Word.{Word}
-use Rattle.smp_words.specs.declared.word.Word.TheVariants.{Hand, Flags}
-use Rattle.smp_call_steps.specs.declared.handle.Walk.{Walk}
-use Rattle.smp_call_steps.specs.declared.handle.HandleStage.TheVariants as handle
-use Rattle.smp_call_steps.specs.declared.stage.Stage.TheVariants.{Handle}
+use Rattle.smp_call_steps.specs.Names.{Call, Word, Hand, Flags, RecPlace, Walk, Handle}
+use Rattle.smp_call_steps.specs.Names.place
+use Rattle.smp_call_steps.specs.Names.handle
 
 -- of a batch, the records but the front one
 has_rest : (u : ℕ) (call : Call) (rest : List Call) → u ≢ call.id → HasRecord u (call ∷ rest) → HasRecord u rest

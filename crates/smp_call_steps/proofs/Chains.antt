@@ -8,7 +8,7 @@ use Rattle.smp_call_steps.specs.Words.{Leads}
 use Rattle.smp_call_steps.specs.Queues.{HasChain, chain_in, ids}
 use Rattle.smp_call_steps.proofs.Alls.{every_left, every_last}
 use Rattle.smp_call_steps.proofs.Batches.{no_chain, has_newest}
-use Rattle.smp_words.specs.declared.call.Call.{Call}
+use Rattle.smp_call_steps.specs.Names.{Call}
 
 pub ids-append : (xs ys : List Call) → ids (xs ++ ys) ≡ ids xs ++ ids ys
 ids-append [] ys = refl

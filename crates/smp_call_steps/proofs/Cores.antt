@@ -15,11 +15,7 @@ use Rattle.smp_call_steps.proofs.Accesses.{access_in_table}
 use Rattle.smp_call_steps.proofs.Every.{step_shown}
 use Rattle.smp_words.proofs.Links.{HasIndex, number_in-put_in}
 use Rattle.smp_words.proofs.Puts.{at_test}
-use Rattle.smp_words.specs.declared.word.Word.{Word}
-use Rattle.smp_words.specs.declared.access.Access.{Access}
-use Rattle.smp_words.specs.declared.access.Access.TheVariants.{Load, Store, Swap, Exchange, Sub, And}
-use Rattle.smp_words.specs.declared.seen.Seen.{Seen}
-use Rattle.smp_call_steps.specs.declared.stage.Stage.{Stage}
+use Rattle.smp_call_steps.specs.Names.{Word, Access, Load, Store, Swap, Exchange, Sub, And, Seen, Stage}
 
 words_if : (words : List ℕ) (w : Word) (n : ℕ) (b : Bool) → length words ≡ table_size → HasIndex w →
     number_in (cond b (put_in words w n) words) ≡ cond b (put_word (number_in words) w n) (number_in words)

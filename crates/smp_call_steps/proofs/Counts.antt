@@ -13,17 +13,9 @@ use Rattle.smp_call_steps.specs.Shows.{Shows}
 use Rattle.smp_call_steps.specs.Stages.{ControlValue}
 use Rattle.smp_call_steps.specs.Stands.{share_of, Share, StandsAt, PostKnows, held_of, held_of_post}
 use Rattle.smp_call_steps.specs.Drains.{DrainValue}
-use Rattle.smp_words.specs.declared.call.Call.{Call}
-use Rattle.smp_words.specs.declared.call.Class.{Class}
-use Rattle.smp_words.specs.declared.call.Class.TheVariants.{Sync, Async}
-use Rattle.smp_call_steps.specs.declared.place.RecPlace.{RecPlace}
-use Rattle.smp_call_steps.specs.declared.place.RecPlace.TheVariants as place
-use Rattle.smp_words.specs.declared.word.Word.{Word}
-use Rattle.smp_call_steps.specs.declared.post.Posting.{Posting}
-use Rattle.smp_call_steps.specs.declared.post.PostStage.{PostStage}
-use Rattle.smp_call_steps.specs.declared.post.PostStage.TheVariants as post
-use Rattle.smp_call_steps.specs.declared.stage.Stage.{Stage}
-use Rattle.smp_call_steps.specs.declared.stage.Stage.TheVariants.{Post}
+use Rattle.smp_call_steps.specs.Names.{Call, Class, Sync, Async, Word, RecPlace, Posting, PostStage, Stage, Post}
+use Rattle.smp_call_steps.specs.Names.place
+use Rattle.smp_call_steps.specs.Names.post
 
 by-append : (id : ℕ) (xs ys : List Call) → calls_by id (xs ++ ys) ≡ calls_by id xs + calls_by id ys
 by-append id xs ys = sum_by-append (λ call. cond (call.id == id) 1 0) xs ys

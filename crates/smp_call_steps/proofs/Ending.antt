@@ -19,14 +19,9 @@ use Rattle.smp_call_steps.proofs.Moving.{Running≢Running, Batch≢Running, Que
 use Rattle.smp_call_steps.proofs.Walks.{walks_stay, ends_stay, second_goes, first_goes, hand_of_second, hand_of_first}
 use Rattle.smp_call_steps.proofs.Tallies.{tallied_more, tallied_same}
 use Rattle.smp_call_steps.proofs.StepShows.{StepShows}
-use Rattle.smp_words.specs.declared.call.Call.{Call}
-use Rattle.smp_call_steps.specs.declared.place.RecPlace.{RecPlace}
-use Rattle.smp_call_steps.specs.declared.place.RecPlace.TheVariants as place
-use Rattle.smp_words.specs.declared.word.Word.{Word}
-use Rattle.smp_words.specs.declared.word.Word.TheVariants.{Hand, Ran, Flags}
-use Rattle.smp_call_steps.specs.declared.handle.Walk.{Walk}
-use Rattle.smp_call_steps.specs.declared.handle.HandleStage.TheVariants as handle
-use Rattle.smp_call_steps.specs.declared.stage.Stage.TheVariants.{Handle}
+use Rattle.smp_call_steps.specs.Names.{Call, Word, Hand, Ran, Flags, RecPlace, Walk, Handle}
+use Rattle.smp_call_steps.specs.Names.place
+use Rattle.smp_call_steps.specs.Names.handle
 
 more_than_zero : (hand id : ℕ) → hand ≡ id + 2 → hand ≢ 0
 more_than_zero hand id e f = omega arith

@@ -14,10 +14,8 @@ use Rattle.smp_words.proofs.Puts.{at_test}
 use Rattle.smp_call_steps.proofs.Frames.{leaves_all}
 use Rattle.smp_call_steps.proofs.Turns.{put_here, put_else, holds_nothing, stands_at, hand_at, held_after, stands_after, hands_after, hands_stored}
 use Rattle.smp_call_steps.proofs.StepShows.{StepShows}
-use Rattle.smp_words.specs.declared.word.Word.{Word}
-use Rattle.smp_words.specs.declared.word.Word.TheVariants.{Intr, Hand}
-use Rattle.smp_call_steps.specs.declared.handle.HandleStage.TheVariants as handle
-use Rattle.smp_call_steps.specs.declared.stage.Stage.TheVariants.{Handle}
+use Rattle.smp_call_steps.specs.Names.{Word, Intr, Hand, Handle}
+use Rattle.smp_call_steps.specs.Names.handle
 
 one≢zero : ◌≢◌ {A = ℕ} 1 0
 one≢zero e = omega arith

@@ -6,9 +6,7 @@ use Rattle.smp_call_steps.specs.Shows.{Shows}
 use Rattle.smp_call_steps.proofs.StepShows.{StepShows}
 use Rattle.smp_call_steps.proofs.Posting.{post_step, send_step, done_step}
 use Rattle.smp_call_steps.proofs.Handles.{handle_step}
-use Rattle.smp_words.specs.declared.word.Word.{Word}
-use Rattle.smp_call_steps.specs.declared.stage.Stage.{Stage}
-use Rattle.smp_call_steps.specs.declared.stage.Stage.TheVariants.{Send, Done, Post, Handle}
+use Rattle.smp_call_steps.specs.Names.{Word, Stage, Send, Done, Post, Handle}
 
 -- any step of any CPU
 pub step_shown : (a : CallState) (at : Word → ℕ) (control : ℕ → ControlValue) (me : ℕ) → Shows a at control → (st : Stage) → (control me).stage ≡ Some st → StepShows a at control me st

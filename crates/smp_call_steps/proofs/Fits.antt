@@ -16,15 +16,9 @@ use Rattle.smp_call_steps.proofs.Short.{length-apart}
 use Rattle.smp_call_steps.proofs.Turns.{stands_at}
 use Rattle.smp_call_steps.proofs.Loading.{walked_words, ended_words}
 use Rattle.smp_call_steps.proofs.Walks.{reverses_all, walks_rest, ends_rest, same_record}
-use Rattle.smp_call_steps.specs.declared.handle.Walk.{Walk}
-use Rattle.smp_words.specs.declared.call.Call.{Call}
-use Rattle.smp_call_steps.specs.declared.place.RecPlace.TheVariants as place
-use Rattle.smp_words.specs.declared.word.Word.{Word}
-use Rattle.smp_words.specs.declared.word.Word.TheVariants.{Head, Func, Next}
-use Rattle.smp_call_steps.specs.declared.handle.HandleStage.{HandleStage}
-use Rattle.smp_call_steps.specs.declared.handle.HandleStage.TheVariants as handle
-use Rattle.smp_call_steps.specs.declared.stage.Stage.{Stage}
-use Rattle.smp_call_steps.specs.declared.stage.Stage.TheVariants.{Handle}
+use Rattle.smp_call_steps.specs.Names.{Call, Word, Head, Func, Next, Walk, HandleStage, Stage, Handle}
+use Rattle.smp_call_steps.specs.Names.place
+use Rattle.smp_call_steps.specs.Names.handle
 
 abbrev IsRecord : Call → Type 0
 IsRecord call = call.id < records

@@ -11,19 +11,10 @@ use Rattle.smp_call_steps.specs.Words.{Leads, IsWritten, flags_in, funcs_in, inf
 use Rattle.smp_call_steps.specs.Stands.{Share, Stands, StandsAt, HandleStands, Reverses, Walks, Ends, PostKnows, posted}
 use Rattle.smp_call_steps.proofs.Alls.{every_left, every_right}
 use Rattle.smp_call_steps.proofs.Walks.{Path-kept, reverses_all, walks_front, walks_passed, walks_rest, ends_front, ends_rest, same_record}
-use Rattle.smp_words.specs.declared.call.Call.{Call}
-use Rattle.smp_call_steps.specs.declared.place.RecPlace.{RecPlace}
-use Rattle.smp_call_steps.specs.declared.place.RecPlace.TheVariants as place
-use Rattle.smp_words.specs.declared.word.Word.{Word}
-use Rattle.smp_words.specs.declared.word.Word.TheVariants.{Flags, Func, Info, Next}
-use Rattle.smp_call_steps.specs.declared.post.Posting.{Posting}
-use Rattle.smp_call_steps.specs.declared.post.PostStage.{PostStage}
-use Rattle.smp_call_steps.specs.declared.post.PostStage.TheVariants as post
-use Rattle.smp_call_steps.specs.declared.handle.Walk.{Walk}
-use Rattle.smp_call_steps.specs.declared.handle.HandleStage.{HandleStage}
-use Rattle.smp_call_steps.specs.declared.handle.HandleStage.TheVariants as handle
-use Rattle.smp_call_steps.specs.declared.stage.Stage.{Stage}
-use Rattle.smp_call_steps.specs.declared.stage.Stage.TheVariants.{Post, Handle}
+use Rattle.smp_call_steps.specs.Names.{Call, Word, Flags, Func, Info, Next, RecPlace, Posting, PostStage, Walk, HandleStage, Stage, Post, Handle}
+use Rattle.smp_call_steps.specs.Names.place
+use Rattle.smp_call_steps.specs.Names.post
+use Rattle.smp_call_steps.specs.Names.handle
 
 -- the CPU that alone changes a record at this place
 abbrev pub Minds : ℕ → ℕ → RecPlace → Type 0

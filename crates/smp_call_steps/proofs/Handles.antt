@@ -10,10 +10,8 @@ use Rattle.smp_call_steps.proofs.Relinking.{reverse_store_step, unlink_step}
 use Rattle.smp_call_steps.proofs.Loading.{reverse_load_step, load_next_step, load_flags_step, load_func_step, load_info_step, async_next_step, async_func_step, async_info_step}
 use Rattle.smp_call_steps.proofs.Beginning.{begin_sync_step, begin_async_step}
 use Rattle.smp_call_steps.proofs.Ending.{count_sync_step, end_sync_step, count_async_step}
-use Rattle.smp_words.specs.declared.word.Word.{Word}
-use Rattle.smp_call_steps.specs.declared.handle.HandleStage.{HandleStage}
-use Rattle.smp_call_steps.specs.declared.handle.HandleStage.TheVariants as handle
-use Rattle.smp_call_steps.specs.declared.stage.Stage.TheVariants.{Handle}
+use Rattle.smp_call_steps.specs.Names.{Word, HandleStage, Handle}
+use Rattle.smp_call_steps.specs.Names.handle
 
 pub handle_step : (a : CallState) (at : Word → ℕ) (control : ℕ → ControlValue) (me : ℕ) → Shows a at control → (stage : HandleStage) → (control me).stage ≡ Some (Handle stage) → StepShows a at control me (Handle stage)
 handle_step a at control me s handle.Enter e = enter_step a at control me s e

@@ -18,26 +18,15 @@ use Rattle.smp_words.proofs.Links.{HasIndex}
 use Rattle.smp_call_steps.proofs.Accesses.{access_in_table}
 use Rattle.smp_call_steps.proofs.Alls.{every_right}
 use Rattle.smp_call_steps.proofs.Walks.{reverses_all, walks_rest, same_record}
-use Rattle.smp_call_steps.specs.declared.handle.Walk.{Walk}
+use Rattle.smp_call_steps.specs.Names.{Call, Word, Head, Intr, Hand, Ran, Flags, Func, Info, Next, Access, Act, RecPlace, Posting, PostStage, Walk}
+use Rattle.smp_call_steps.specs.Names.{HandleStage, Outcome, Stage, Post, Handle}
+use Rattle.smp_call_steps.specs.Names.place
+use Rattle.smp_call_steps.specs.Names.act
+use Rattle.smp_call_steps.specs.Names.post
+use Rattle.smp_call_steps.specs.Names.handle
 use Rattle.smp_call_steps.proofs.Fits.{found_fits}
 use Rattle.smp_call_steps.proofs.Restages.{access_known}
-use Rattle.smp_words.specs.declared.call.Call.{Call}
 use Rattle.smp_call_steps.specs.declared.known.Known.{Known}
-use Rattle.smp_call_steps.specs.declared.place.RecPlace.{RecPlace}
-use Rattle.smp_call_steps.specs.declared.place.RecPlace.TheVariants as place
-use Rattle.smp_words.specs.declared.word.Word.{Word}
-use Rattle.smp_words.specs.declared.word.Word.TheVariants.{Head, Intr, Hand, Ran, Flags, Func, Info, Next}
-use Rattle.smp_words.specs.declared.access.Access.{Access}
-use Rattle.smp_words.specs.declared.seen.Act.{Act}
-use Rattle.smp_words.specs.declared.seen.Act.TheVariants as act
-use Rattle.smp_call_steps.specs.declared.post.Posting.{Posting}
-use Rattle.smp_call_steps.specs.declared.post.PostStage.{PostStage}
-use Rattle.smp_call_steps.specs.declared.post.PostStage.TheVariants as post
-use Rattle.smp_call_steps.specs.declared.handle.HandleStage.{HandleStage}
-use Rattle.smp_call_steps.specs.declared.handle.HandleStage.TheVariants as handle
-use Rattle.smp_call_steps.specs.declared.stage.Outcome.{Outcome}
-use Rattle.smp_call_steps.specs.declared.stage.Stage.{Stage}
-use Rattle.smp_call_steps.specs.declared.stage.Stage.TheVariants.{Post, Handle}
 
 -- a step of a CPU goes on to calls of which it knows its part
 pub lives_on : (a : CallState) (control : ℕ → ControlValue) (me : ℕ) (at : Word → ℕ) (w : Known) → GoesOn a control me at w → Lives w

@@ -4,7 +4,7 @@ use Rattle.std.proofs.lemmas.Bool.{eq-eqb, ne_eqb}
 use Rattle.smp_words.specs.Size.{owner}
 use Rattle.smp_call_steps.specs.Calls.{Sending, is_nil}
 use Rattle.smp_call_steps.specs.Histories.{Marked, mark, marked, others_marked, batches_marked, history_of, sent_to, marked_from, calls_from}
-use Rattle.smp_words.specs.declared.call.Call.{Call}
+use Rattle.smp_call_steps.specs.Names.{Call}
 
 abbrev pub one_if : {A : Type 0} → Bool → A → List A
 one_if b x = cond b (x ∷ []) []

@@ -13,14 +13,8 @@ use Rattle.smp_call_steps.proofs.Turns.{holds_nothing, stands_at, hand_at, held_
 use Rattle.smp_call_steps.proofs.Walks.{link_back, same_record, walks_rest, ends_rest, hand_of_first}
 use Rattle.smp_call_steps.proofs.Passing.{flags_lead, info_leads}
 use Rattle.smp_call_steps.proofs.StepShows.{StepShows}
-use Rattle.smp_words.specs.declared.call.Call.{Call}
-use Rattle.smp_words.specs.declared.call.Class.{Class}
-use Rattle.smp_words.specs.declared.call.Class.TheVariants.{Sync, Async}
-use Rattle.smp_words.specs.declared.word.Word.{Word}
-use Rattle.smp_words.specs.declared.word.Word.TheVariants.{Hand, Flags, Func, Info, Next}
-use Rattle.smp_call_steps.specs.declared.handle.Walk.{Walk}
-use Rattle.smp_call_steps.specs.declared.handle.HandleStage.TheVariants as handle
-use Rattle.smp_call_steps.specs.declared.stage.Stage.TheVariants.{Handle}
+use Rattle.smp_call_steps.specs.Names.{Call, Class, Sync, Async, Word, Hand, Flags, Func, Info, Next, Walk, Handle}
+use Rattle.smp_call_steps.specs.Names.handle
 
 class_of-flags_of : (class : Class) → class_of (flags_of class) ≡ class
 class_of-flags_of Sync = refl

@@ -8,9 +8,8 @@ use Rattle.smp_call_steps.specs.Words.{FlagsShow, IsWritten, Written}
 use Rattle.smp_words.proofs.Puts.{at_test}
 use Rattle.smp_call_steps.proofs.Alls.{every, every_both}
 use Rattle.smp_call_steps.proofs.Turns.{put_else}
-use Rattle.smp_words.specs.declared.call.Call.{Call}
-use Rattle.smp_call_steps.specs.declared.place.RecPlace.{RecPlace}
-use Rattle.smp_call_steps.specs.declared.place.RecPlace.TheVariants as place
+use Rattle.smp_call_steps.specs.Names.{Call, RecPlace}
+use Rattle.smp_call_steps.specs.Names.place
 
 -- places that are not one
 

@@ -5,7 +5,12 @@ use Rattle.smp_call_steps.specs.Calls.{CallState}
 use Rattle.smp_call_steps.specs.Posts.{ends, goes_to}
 use Rattle.smp_call_steps.specs.Drains.{DrainValue, handle_goes, record_at, second_on, first_on, reverse_on, by_class, unlink_after}
 use Rattle.smp_words.specs.Flags.{class_of}
-use Rattle.smp_call_steps.specs.declared.handle.Walk.{Walk}
+use Rattle.smp_call_steps.specs.Names.{Call, Class, Sync, Async, Word, Head, Intr, Flags, Info, Access, Seen, Note, Posting, Walk, Outcome, Stage, Post}
+use Rattle.smp_call_steps.specs.Names.{Handle}
+use Rattle.smp_call_steps.specs.Names.act
+use Rattle.smp_call_steps.specs.Names.note
+use Rattle.smp_call_steps.specs.Names.post
+use Rattle.smp_call_steps.specs.Names.handle
 use Rattle.smp_call_steps.specs.Stages.{ControlValue, access_of, outcome_of, drain_of, control_after}
 use Rattle.smp_words.specs.Access.{word_of, at_after, seen_of}
 use Rattle.smp_call_steps.specs.Shows.{Shows}
@@ -15,23 +20,7 @@ use Rattle.smp_call_steps.proofs.Own.{put_same, put_other}
 use Rattle.smp_call_steps.proofs.Every.{step_shown}
 use Rattle.smp_call_steps.proofs.Restages.{known_held, restages, access_known, aims_told}
 use Rattle.smp_call_steps.proofs.Parts.{Told, part_mine, part_else}
-use Rattle.smp_words.specs.declared.call.Call.{Call}
-use Rattle.smp_words.specs.declared.call.Class.{Class}
-use Rattle.smp_words.specs.declared.call.Class.TheVariants.{Sync, Async}
 use Rattle.smp_call_steps.specs.declared.known.Known.{Known}
-use Rattle.smp_words.specs.declared.word.Word.{Word}
-use Rattle.smp_words.specs.declared.word.Word.TheVariants.{Head, Intr, Flags, Info}
-use Rattle.smp_words.specs.declared.access.Access.{Access}
-use Rattle.smp_words.specs.declared.seen.Act.TheVariants as act
-use Rattle.smp_words.specs.declared.seen.Note.{Note}
-use Rattle.smp_words.specs.declared.seen.Note.TheVariants as note
-use Rattle.smp_words.specs.declared.seen.Seen.{Seen}
-use Rattle.smp_call_steps.specs.declared.post.Posting.{Posting}
-use Rattle.smp_call_steps.specs.declared.post.PostStage.TheVariants as post
-use Rattle.smp_call_steps.specs.declared.handle.HandleStage.TheVariants as handle
-use Rattle.smp_call_steps.specs.declared.stage.Outcome.{Outcome}
-use Rattle.smp_call_steps.specs.declared.stage.Stage.{Stage}
-use Rattle.smp_call_steps.specs.declared.stage.Stage.TheVariants.{Post, Handle}
 
 -- the stage that follows, as the step tells it
 abbrev Follows : (Word → ℕ) → ℕ → DrainValue → Stage → Type 0

@@ -14,16 +14,9 @@ use Rattle.smp_call_steps.specs.Shows.{Shows}
 use Rattle.smp_words.proofs.Puts.{at_test, put_all}
 use Rattle.smp_call_steps.proofs.Alls.{every}
 use Rattle.smp_call_steps.proofs.Frames.{Touches, Minds, Leads-kept, leaves_others, Stands-kept}
-use Rattle.smp_words.specs.declared.call.Call.{Call}
-use Rattle.smp_call_steps.specs.declared.place.RecPlace.{RecPlace}
-use Rattle.smp_call_steps.specs.declared.place.RecPlace.TheVariants as place
-use Rattle.smp_words.specs.declared.word.Word.{Word}
-use Rattle.smp_words.specs.declared.word.Word.TheVariants.{Head, Intr, Hand, Flags}
-use Rattle.smp_call_steps.specs.declared.post.Posting.{Posting}
-use Rattle.smp_call_steps.specs.declared.post.PostStage.{PostStage}
-use Rattle.smp_call_steps.specs.declared.post.PostStage.TheVariants as post
-use Rattle.smp_call_steps.specs.declared.stage.Stage.{Stage}
-use Rattle.smp_call_steps.specs.declared.stage.Stage.TheVariants.{Post}
+use Rattle.smp_call_steps.specs.Names.{Call, Word, Head, Intr, Hand, Flags, RecPlace, Posting, PostStage, Stage, Post}
+use Rattle.smp_call_steps.specs.Names.place
+use Rattle.smp_call_steps.specs.Names.post
 
 pub put_other : {A : Type 0} (f : ℕ → A) (i : ℕ) (v : A) (j : ℕ) → j ≢ i → put f i v j ≡ f j
 put_other f i v j ne = at_test j i (λ b. cond b v (f j) ≡ f j) (λ e. absurd (ne e)) (λ _. refl)

@@ -8,10 +8,7 @@ use Rattle.smp_call_steps.specs.Words.{Path}
 use Rattle.smp_call_steps.specs.Stands.{Share, EndsAt, Walks, HandleStands}
 use Rattle.smp_call_steps.proofs.Batches.{sync_calls-push, async_calls-push}
 use Rattle.smp_call_steps.proofs.Walks.{Path-push, same_record, first_goes}
-use Rattle.smp_words.specs.declared.call.Call.{Call}
-use Rattle.smp_words.specs.declared.call.Class.{Class}
-use Rattle.smp_words.specs.declared.call.Class.TheVariants.{Sync, Async}
-use Rattle.smp_call_steps.specs.declared.handle.Walk.{Walk}
+use Rattle.smp_call_steps.specs.Names.{Call, Class, Sync, Async, Walk}
 
 passed_sync : (passed : List Call) (call : Call) → call.class ≡ Sync → async_calls (passed ++ call ∷ []) ≡ async_calls passed
 passed_sync passed call e = async_calls-push passed call ∙ (ap (λ (c : Class). async_calls passed ++ if_async c call) e ∙ append-nil (async_calls passed))

@@ -20,21 +20,12 @@ use Rattle.smp_call_steps.proofs.Alls.{every, every_append, every_left, every_ri
 use Rattle.smp_call_steps.proofs.Appending.{Leads-push}
 use Rattle.smp_call_steps.proofs.Batches.{no_chain, has_left, has_right, apart_append, apart_async}
 use Rattle.smp_call_steps.proofs.Walks.{Path-append, apart_left, apart_right, apart_across, async_calls-append, reverses_all, walks_front, walks_passed, walks_rest, ends_front, ends_rest}
-use Rattle.smp_call_steps.specs.declared.handle.Walk.{Walk}
+use Rattle.smp_call_steps.specs.Names.{Call, Class, Sync, Async, Word, Head, Flags, RecPlace, Walk, HandleStage, Stage, Send, Done, Post, Handle}
+use Rattle.smp_call_steps.specs.Names.place
+use Rattle.smp_call_steps.specs.Names.handle
 use Rattle.smp_call_steps.proofs.Chains.{chain_read}
 use Rattle.smp_words.proofs.Links.{no_head}
 use Rattle.smp_call_steps.proofs.Short.{length-apart}
-use Rattle.smp_words.specs.declared.call.Call.{Call}
-use Rattle.smp_words.specs.declared.call.Class.{Class}
-use Rattle.smp_words.specs.declared.call.Class.TheVariants.{Sync, Async}
-use Rattle.smp_call_steps.specs.declared.place.RecPlace.{RecPlace}
-use Rattle.smp_call_steps.specs.declared.place.RecPlace.TheVariants as place
-use Rattle.smp_words.specs.declared.word.Word.{Word}
-use Rattle.smp_words.specs.declared.word.Word.TheVariants.{Head, Flags}
-use Rattle.smp_call_steps.specs.declared.handle.HandleStage.{HandleStage}
-use Rattle.smp_call_steps.specs.declared.handle.HandleStage.TheVariants as handle
-use Rattle.smp_call_steps.specs.declared.stage.Stage.{Stage}
-use Rattle.smp_call_steps.specs.declared.stage.Stage.TheVariants.{Send, Done, Post, Handle}
 
 -- lists that have a call by a record
 

@@ -4,16 +4,10 @@ use Rattle.smp_words.specs.Flags.{flags_of}
 use Rattle.smp_call_steps.specs.Histories.{sent_to, one_held}
 use Rattle.smp_call_steps.specs.Stands.{held_of_post, posted}
 use Rattle.smp_call_steps.specs.Known.{known_told, known_access, posting_of, standing, outside_known, confirmed_known, queued_known}
-use Rattle.smp_words.specs.declared.call.Class.{Class}
-use Rattle.smp_words.specs.declared.call.Class.TheVariants.{Sync, Async}
+use Rattle.smp_call_steps.specs.Names.{Class, Sync, Async, Head, Queued, Flags, Func, Info, Next, Store, Posting, PostStage, Post}
+use Rattle.smp_call_steps.specs.Names.act
+use Rattle.smp_call_steps.specs.Names.post
 use Rattle.smp_call_steps.specs.declared.known.Known.{Known}
-use Rattle.smp_words.specs.declared.word.Word.TheVariants.{Head, Queued, Flags, Func, Info, Next}
-use Rattle.smp_words.specs.declared.access.Access.TheVariants.{Store}
-use Rattle.smp_words.specs.declared.seen.Act.TheVariants as act
-use Rattle.smp_call_steps.specs.declared.post.Posting.{Posting}
-use Rattle.smp_call_steps.specs.declared.post.PostStage.{PostStage}
-use Rattle.smp_call_steps.specs.declared.post.PostStage.TheVariants as post
-use Rattle.smp_call_steps.specs.declared.stage.Stage.TheVariants.{Post}
 
 -- a CPU outside a command
 pub outside_as : (v : Known) → v.stage ≡ None → v ≡ outside_known v

@@ -18,20 +18,12 @@ use Rattle.smp_call_steps.proofs.Own.{put_other, put_same, post_holds, own_step,
 use Rattle.smp_call_steps.proofs.Sending.{stands_on, unlocked_free, confirms_kept, confirm_if, send_kept}
 use Rattle.smp_call_steps.proofs.Appending.{append_kept}
 use Rattle.smp_call_steps.proofs.StepShows.{StepShows}
-use Rattle.smp_words.specs.declared.call.Class.{Class}
-use Rattle.smp_words.specs.declared.call.Class.TheVariants.{Sync, Async}
-use Rattle.smp_call_steps.specs.declared.place.RecPlace.{RecPlace}
-use Rattle.smp_call_steps.specs.declared.place.RecPlace.TheVariants as place
-use Rattle.smp_words.specs.declared.word.Word.{Word}
-use Rattle.smp_words.specs.declared.word.Word.TheVariants.{Head, Hand, Queued, Flags, Func, Info, Next}
-use Rattle.smp_words.specs.declared.seen.Act.TheVariants as act
-use Rattle.smp_words.specs.declared.seen.Note.{Note}
-use Rattle.smp_words.specs.declared.seen.Note.TheVariants as note
-use Rattle.smp_call_steps.specs.declared.post.Posting.{Posting}
-use Rattle.smp_call_steps.specs.declared.post.PostStage.{PostStage}
-use Rattle.smp_call_steps.specs.declared.post.PostStage.TheVariants as post
-use Rattle.smp_call_steps.specs.declared.stage.Stage.{Stage}
-use Rattle.smp_call_steps.specs.declared.stage.Stage.TheVariants.{Send, Done, Post}
+use Rattle.smp_call_steps.specs.Names.{Class, Sync, Async, Word, Head, Hand, Queued, Flags, Func, Info, Next, Note, RecPlace, Posting, PostStage, Stage, Send}
+use Rattle.smp_call_steps.specs.Names.{Done, Post}
+use Rattle.smp_call_steps.specs.Names.place
+use Rattle.smp_call_steps.specs.Names.act
+use Rattle.smp_call_steps.specs.Names.note
+use Rattle.smp_call_steps.specs.Names.post
 
 class_of-flags_of : (c : Class) → class_of (flags_of c) ≡ c
 class_of-flags_of Sync = refl

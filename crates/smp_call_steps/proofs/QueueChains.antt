@@ -11,9 +11,8 @@ use Rattle.smp_call_steps.specs.Words.{nexts_in}
 use Rattle.smp_call_steps.proofs.Alls.{every}
 use Rattle.smp_call_steps.proofs.Chains.{chain_read}
 use Rattle.smp_call_steps.proofs.Short.{length-apart}
-use Rattle.smp_call_steps.specs.declared.place.RecPlace.TheVariants as place
-use Rattle.smp_words.specs.declared.word.Word.{Word}
-use Rattle.smp_words.specs.declared.word.Word.TheVariants.{Head}
+use Rattle.smp_call_steps.specs.Names.{Word, Head}
+use Rattle.smp_call_steps.specs.Names.place
 
 queue_records : (a : CallState) (at : Word → ℕ) (control : ℕ → ControlValue) (cpu : ℕ) → Shows a at control → AllByRecursion (λ call. call.id < records) (a.queue cpu)
 queue_records a at control cpu s = every (IsPlaced a.place (place.Queued cpu)) (λ call. call.id < records) (λ call q. q.is_call.in_range) (a.queue cpu) (s.placed.queued cpu)

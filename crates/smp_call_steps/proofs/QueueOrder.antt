@@ -13,10 +13,7 @@ use Rattle.smp_call_steps.specs.Stages.{ControlValue}
 use Rattle.smp_call_steps.specs.Stands.{IsAsync}
 use Rattle.smp_call_steps.proofs.Alls.{every_right}
 use Rattle.smp_call_steps.proofs.Walks.{IsSync, all_sync, all_async}
-use Rattle.smp_words.specs.declared.call.Call.{Call}
-use Rattle.smp_words.specs.declared.call.Class.{Class}
-use Rattle.smp_words.specs.declared.call.Class.TheVariants.{Sync, Async}
-use Rattle.smp_words.specs.declared.word.Word.{Word}
+use Rattle.smp_call_steps.specs.Names.{Call, Class, Sync, Async, Word}
 
 of_class-append : (class : Class) (xs ys : List Call) → of_class class (xs ++ ys) ≡ of_class class xs ++ of_class class ys
 of_class-append class [] ys = refl

@@ -20,13 +20,9 @@ use Rattle.smp_call_steps.proofs.StepShows.{StepShows}
 use Rattle.smp_call_steps.proofs.Turns.{put_here, put_else, holds_nothing, stands_at, hand_at, held_after, stands_after, hands_after}
 use Rattle.smp_call_steps.proofs.Walks.{Path-kept, Path-push, Path-cut, absent_before, absent_after, apart_left, apart_across, reverses_all, walks_passed, reverse_goes, hand_of_reverse}
 use Rattle.smp_call_steps.proofs.Batches.{apart_async}
-use Rattle.smp_words.specs.declared.call.Call.{Call}
-use Rattle.smp_call_steps.specs.declared.place.RecPlace.TheVariants as place
-use Rattle.smp_words.specs.declared.word.Word.{Word}
-use Rattle.smp_words.specs.declared.word.Word.TheVariants.{Head, Hand, Next}
-use Rattle.smp_call_steps.specs.declared.handle.Walk.{Walk}
-use Rattle.smp_call_steps.specs.declared.handle.HandleStage.TheVariants as handle
-use Rattle.smp_call_steps.specs.declared.stage.Stage.TheVariants.{Handle}
+use Rattle.smp_call_steps.specs.Names.{Call, Word, Head, Hand, Next, Walk, Handle}
+use Rattle.smp_call_steps.specs.Names.place
+use Rattle.smp_call_steps.specs.Names.handle
 
 -- a list without a record, where a next word is stored
 leads_else : (nexts : ℕ → ℕ) (id n link : ℕ) (calls : List Call) → IsAbsent id calls → Leads nexts link calls 0 → Leads (put nexts id n) link calls 0

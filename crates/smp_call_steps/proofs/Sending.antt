@@ -10,10 +10,8 @@ use Rattle.smp_call_steps.specs.Stands.{Stands, share_of, held_of, HandIs}
 use Rattle.smp_call_steps.specs.Shows.{Shows}
 use Rattle.smp_words.proofs.Puts.{at_test, put_all}
 use Rattle.smp_call_steps.proofs.Frames.{leaves_all, Stands-kept}
-use Rattle.smp_call_steps.specs.declared.place.RecPlace.{RecPlace}
-use Rattle.smp_call_steps.specs.declared.place.RecPlace.TheVariants as place
-use Rattle.smp_words.specs.declared.word.Word.{Word}
-use Rattle.smp_words.specs.declared.word.Word.TheVariants.{Intr, Hand, Flags}
+use Rattle.smp_call_steps.specs.Names.{Word, Intr, Hand, Flags, RecPlace}
+use Rattle.smp_call_steps.specs.Names.place
 
 -- a step that changes no word and no call
 pub stands_on : (a : CallState) (at : Word → ℕ) (control : ℕ → ControlValue) (me : ℕ) (next : ControlValue) → Shows a at control →

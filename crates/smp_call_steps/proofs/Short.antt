@@ -6,7 +6,7 @@ use Rattle.std.proofs.lemmas.Map.Keys.{IsDistinct-cons}
 use Rattle.std.specs.List.{AllByRecursion, IsDistinct, list_any}
 use Rattle.smp_call_steps.specs.Places.{IsAbsent, IsApart}
 use Rattle.smp_call_steps.specs.Queues.{ids}
-use Rattle.smp_words.specs.declared.call.Call.{Call}
+use Rattle.smp_call_steps.specs.Names.{Call}
 
 absent_ids : (id : ℕ) (calls : List Call) → IsAbsent id calls → AllByRecursion (λ y. eqb id y ≡ false) (ids calls)
 absent_ids id [] h = tt

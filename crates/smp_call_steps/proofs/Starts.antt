@@ -21,9 +21,7 @@ use Rattle.smp_words.proofs.Puts.{put_all}
 use Rattle.smp_words.proofs.Sizes.{owner-of_record, record_of-below}
 use Rattle.smp_words.specs.declared.command.Command.{Command}
 use Rattle.smp_words.specs.declared.command.Command.TheVariants as command
-use Rattle.smp_call_steps.specs.declared.place.RecPlace.{RecPlace}
-use Rattle.smp_words.specs.declared.word.Word.{Word}
-use Rattle.smp_words.specs.declared.word.Word.TheVariants.{Head, Intr, Hand, Queued, Ran, Flags}
+use Rattle.smp_call_steps.specs.Names.{Word, Head, Intr, Hand, Queued, Ran, Flags, RecPlace}
 use Rattle.smp_words.proofs.Zeros.{get_or-same, zero_at}
 
 pub else_none : (b : Bool) (x : Option SmpError) (y : SmpError) → cond b x (Some y) ≡ None → (b ≡ true) × (x ≡ None)

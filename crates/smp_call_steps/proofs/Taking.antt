@@ -19,13 +19,9 @@ use Rattle.smp_call_steps.proofs.Batches.{every_order, has_order, apart_order}
 use Rattle.smp_call_steps.proofs.Turns.{put_here, put_else, holds_nothing, stands_at, hand_at, held_after, stands_after, hands_after}
 use Rattle.smp_call_steps.proofs.Walks.{link_back, reverse_goes, hand_of_reverse}
 use Rattle.smp_call_steps.proofs.StepShows.{StepShows}
-use Rattle.smp_words.specs.declared.call.Call.{Call}
-use Rattle.smp_call_steps.specs.declared.place.RecPlace.{RecPlace}
-use Rattle.smp_call_steps.specs.declared.place.RecPlace.TheVariants as place
-use Rattle.smp_words.specs.declared.word.Word.{Word}
-use Rattle.smp_words.specs.declared.word.Word.TheVariants.{Head, Hand, Flags}
-use Rattle.smp_call_steps.specs.declared.handle.HandleStage.TheVariants as handle
-use Rattle.smp_call_steps.specs.declared.stage.Stage.TheVariants.{Handle}
+use Rattle.smp_call_steps.specs.Names.{Call, Word, Head, Hand, Flags, RecPlace, Handle}
+use Rattle.smp_call_steps.specs.Names.place
+use Rattle.smp_call_steps.specs.Names.handle
 
 -- what a place becomes when this CPU takes its queue
 

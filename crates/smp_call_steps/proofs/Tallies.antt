@@ -5,7 +5,7 @@ use Rattle.smp_words.specs.Size.{owner}
 use Rattle.smp_call_steps.specs.Calls.{Holding, Running, Sending}
 use Rattle.smp_call_steps.specs.Histories.{calls_from, counted_call, Tallied}
 use Rattle.smp_words.proofs.Puts.{at_test}
-use Rattle.smp_words.specs.declared.call.Call.{Call}
+use Rattle.smp_call_steps.specs.Names.{Call}
 
 push_one : (b : Bool) (x : Call) (rest ys : List Call) → (if b then x ∷ (rest ++ ys) else rest ++ ys) ≡ (if b then x ∷ rest else rest) ++ ys
 push_one true x rest ys = refl

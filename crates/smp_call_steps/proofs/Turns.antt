@@ -9,11 +9,7 @@ use Rattle.smp_call_steps.specs.Stands.{Share, share_of, Stands, StandsAt, Handl
 use Rattle.smp_call_steps.specs.Shows.{Shows}
 use Rattle.smp_words.proofs.Puts.{at_test, put_all, put_both}
 use Rattle.smp_call_steps.proofs.Frames.{LeavesTo, Stands-kept}
-use Rattle.smp_call_steps.specs.declared.place.RecPlace.{RecPlace}
-use Rattle.smp_words.specs.declared.word.Word.{Word}
-use Rattle.smp_call_steps.specs.declared.handle.HandleStage.{HandleStage}
-use Rattle.smp_call_steps.specs.declared.stage.Stage.{Stage}
-use Rattle.smp_call_steps.specs.declared.stage.Stage.TheVariants.{Handle}
+use Rattle.smp_call_steps.specs.Names.{Word, RecPlace, HandleStage, Stage, Handle}
 
 pub put_here : {A : Type 0} (i : ℕ) (v x : A) → cond (i == i) v x ≡ v
 put_here {A} i v x = at_test i i (λ b. cond b v x ≡ v) (λ _. refl) (λ ne. absurd (ne refl))

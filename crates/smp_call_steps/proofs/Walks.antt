@@ -11,11 +11,7 @@ use Rattle.smp_call_steps.specs.Stands.{Share, IsAsync, Reverses, EndsAt, Walks,
 use Rattle.smp_words.proofs.Puts.{at_test}
 use Rattle.smp_call_steps.proofs.Alls.{every_left, every_right, every_append, every_class, every_last}
 use Rattle.smp_call_steps.proofs.Batches.{HasNewest, has_newest, no_chain}
-use Rattle.smp_words.specs.declared.call.Call.{Call}
-use Rattle.smp_words.specs.declared.call.Class.{Class}
-use Rattle.smp_words.specs.declared.call.Class.TheVariants.{Sync, Async}
-use Rattle.smp_call_steps.specs.declared.handle.Walk.{Walk}
-use Rattle.smp_call_steps.specs.declared.stage.Stage.TheVariants.{Handle}
+use Rattle.smp_call_steps.specs.Names.{Call, Class, Sync, Async, Walk, Handle}
 
 -- the record to which a link leads is linked by it
 pub link_back : (n : ℕ) → link_to (record_at n) ≡ n

@@ -4,17 +4,12 @@ use Rattle.std.specs.Prelude.{ℕ, ◌%◌, Bool, true, false, ◌==◌, not, na
 use Rattle.smp_words.specs.Put.{put}
 use Rattle.smp_words.specs.Flags.{class_of}
 use Rattle.smp_call_steps.specs.Order.{order}
-use Rattle.smp_words.specs.declared.call.Call.{Call}
+use Rattle.smp_call_steps.specs.Names.{Call, Word, Head, Intr, Hand, Queued, Ran, Flags, Func, Info, Next, Seen, Act, RecPlace}
+use Rattle.smp_call_steps.specs.Names.place
+use Rattle.smp_call_steps.specs.Names.act
 pub use Rattle.smp_call_steps.specs.declared.known.Sending.{Sending}
 pub use Rattle.smp_call_steps.specs.declared.known.Running.{Running}
 pub use Rattle.smp_call_steps.specs.declared.known.Running.TheVariants.{Nothing, SyncCall, CountedCall, AsyncCall}
-use Rattle.smp_call_steps.specs.declared.place.RecPlace.{RecPlace}
-use Rattle.smp_call_steps.specs.declared.place.RecPlace.TheVariants as place
-use Rattle.smp_words.specs.declared.word.Word.{Word}
-use Rattle.smp_words.specs.declared.word.Word.TheVariants.{Head, Intr, Hand, Queued, Ran, Flags, Func, Info, Next}
-use Rattle.smp_words.specs.declared.seen.Act.{Act}
-use Rattle.smp_words.specs.declared.seen.Act.TheVariants as act
-use Rattle.smp_words.specs.declared.seen.Seen.{Seen}
 
 -- the call that a CPU holds, where it goes once that was counted
 pub record Holding : Type 0 where

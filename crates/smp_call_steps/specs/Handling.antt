@@ -3,12 +3,9 @@ use Rattle.std.specs.Prelude.{ℕ, Bool, if◌then◌else◌, Option, Some, None
 use Rattle.smp_call_steps.specs.Calls.{Running, SyncCall, AsyncCall}
 use Rattle.smp_call_steps.specs.Parts.{Part, part_accepted, part_taken, part_counted, part_ended}
 use Rattle.smp_call_steps.specs.Drains.{DrainValue, no_drain, reverse_on, handle_outcome, drain_after}
-use Rattle.smp_words.specs.declared.call.Call.{Call}
+use Rattle.smp_call_steps.specs.Names.{Call, Walk, HandleStage, Handle}
+use Rattle.smp_call_steps.specs.Names.handle
 use Rattle.smp_call_steps.specs.declared.known.Known.{Known}
-use Rattle.smp_call_steps.specs.declared.handle.Walk.{Walk}
-use Rattle.smp_call_steps.specs.declared.handle.HandleStage.{HandleStage}
-use Rattle.smp_call_steps.specs.declared.handle.HandleStage.TheVariants as handle
-use Rattle.smp_call_steps.specs.declared.stage.Stage.TheVariants.{Handle}
 
 -- all but the first
 abbrev pub rest_of : List Call → List Call

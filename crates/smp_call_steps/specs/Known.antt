@@ -11,23 +11,12 @@ use Rattle.smp_call_steps.specs.Places.{IsCall}
 use Rattle.smp_call_steps.specs.Histories.{sent_to, calls_from, one_held, counted_call}
 use Rattle.smp_call_steps.specs.Stands.{held_of, held_of_post, posted, PostGoes}
 use Rattle.smp_call_steps.specs.Shows.{Shows}
-use Rattle.smp_words.specs.declared.call.Call.{Call}
-use Rattle.smp_words.specs.declared.call.Class.{Class}
+use Rattle.smp_call_steps.specs.Names.{Call, Class, Word, Intr, Hand, Queued, Flags, Func, Info, Next, Access, Load, Store, Seen, Act, Posting, PostStage}
+use Rattle.smp_call_steps.specs.Names.{HandleStage, Stage, Send, Done, Post, Handle}
+use Rattle.smp_call_steps.specs.Names.act
+use Rattle.smp_call_steps.specs.Names.post
+use Rattle.smp_call_steps.specs.Names.handle
 use Rattle.smp_call_steps.specs.declared.known.Known.{Known}
-use Rattle.smp_words.specs.declared.word.Word.{Word}
-use Rattle.smp_words.specs.declared.word.Word.TheVariants.{Intr, Hand, Queued, Flags, Func, Info, Next}
-use Rattle.smp_words.specs.declared.access.Access.{Access}
-use Rattle.smp_words.specs.declared.access.Access.TheVariants.{Load, Store}
-use Rattle.smp_words.specs.declared.seen.Act.{Act}
-use Rattle.smp_words.specs.declared.seen.Act.TheVariants as act
-use Rattle.smp_words.specs.declared.seen.Seen.{Seen}
-use Rattle.smp_call_steps.specs.declared.post.Posting.{Posting}
-use Rattle.smp_call_steps.specs.declared.post.PostStage.{PostStage}
-use Rattle.smp_call_steps.specs.declared.post.PostStage.TheVariants as post
-use Rattle.smp_call_steps.specs.declared.handle.HandleStage.{HandleStage}
-use Rattle.smp_call_steps.specs.declared.handle.HandleStage.TheVariants as handle
-use Rattle.smp_call_steps.specs.declared.stage.Stage.{Stage}
-use Rattle.smp_call_steps.specs.declared.stage.Stage.TheVariants.{Send, Done, Post, Handle}
 
 -- what the steps so far have told of a post: the rest is put as zero
 abbrev pub told_so : Posting → ℕ → ℕ → ℕ → Posting

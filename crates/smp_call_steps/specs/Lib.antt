@@ -1,3 +1,4 @@
+pub mod Names
 -- the step that a CPU makes at each stage
 pub mod Posts
 pub mod Order

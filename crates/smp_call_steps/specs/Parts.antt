@@ -3,12 +3,9 @@ use Rattle.std.specs.Prelude.{ℕ, zero, suc, ◌%◌, Bool, true, false, ◌==�
 use Rattle.smp_words.specs.Size.{cpus, records}
 use Rattle.smp_call_steps.specs.Order.{order}
 use Rattle.smp_call_steps.specs.Calls.{CallState, Holding, Running, Nothing, SyncCall, CountedCall, AsyncCall}
-use Rattle.smp_words.specs.declared.call.Call.{Call}
+use Rattle.smp_call_steps.specs.Names.{Call, Word, Head, Intr, Hand, Ran, Flags, Act}
+use Rattle.smp_call_steps.specs.Names.act
 pub use Rattle.smp_call_steps.specs.declared.known.Part.{Part}
-use Rattle.smp_words.specs.declared.word.Word.{Word}
-use Rattle.smp_words.specs.declared.word.Word.TheVariants.{Head, Intr, Hand, Ran, Flags}
-use Rattle.smp_words.specs.declared.seen.Act.{Act}
-use Rattle.smp_words.specs.declared.seen.Act.TheVariants as act
 
 -- the first n values of f
 unfoldable pub row : {A : Type 0} → ℕ → (ℕ → A) → List A
