@@ -1,3 +1,4 @@
+-- types by their names
 pub mod Names
 -- the step that a CPU makes at each stage
 pub mod Posts

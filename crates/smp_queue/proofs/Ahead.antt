@@ -10,12 +10,8 @@ use Rattle.smp_call_steps.proofs.Alls.{every_right}
 use Rattle.smp_call_steps.proofs.Handling.{lives_stands, share_in}
 use Rattle.smp_call_steps.proofs.Turns.{put_here, put_else}
 use Rattle.smp_call_steps.proofs.Walks.{link_back, same_record}
-use Rattle.smp_words.specs.declared.call.Call.{Call}
-use Rattle.smp_call_steps.specs.declared.handle.Walk.{Walk}
-use Rattle.smp_call_steps.specs.declared.handle.HandleStage.TheVariants as handle
-use Rattle.smp_call_steps.specs.declared.known.Running.TheVariants.{Nothing}
-use Rattle.smp_words.specs.declared.word.Word.TheVariants.{Next}
-use Rattle.smp_call_steps.specs.declared.known.Known.{Known}
+use Rattle.smp_queue.specs.Names.{Call, Next, Known, Nothing, Walk}
+use Rattle.smp_queue.specs.Names.handle
 use Rattle.smp_queue.specs.Cpu.{CpuValue, cpu_of}
 use Rattle.smp_queue.specs.Desk.{Desk, InHandle}
 use Rattle.smp_queue.specs.Handling.{runs}

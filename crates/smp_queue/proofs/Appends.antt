@@ -4,10 +4,8 @@ use Rattle.atomic_table.specs.Seated.{TableId}
 use Rattle.smp_call_steps.specs.Histories.{sent_to}
 use Rattle.smp_call_steps.specs.Stands.{posted}
 use Rattle.smp_call_steps.specs.Known.{standing, queued_known, outside_known}
-use Rattle.smp_call_steps.specs.declared.known.Known.{Known}
-use Rattle.smp_call_steps.specs.declared.post.Posting.{Posting}
-use Rattle.smp_call_steps.specs.declared.post.PostStage.TheVariants as post
-use Rattle.smp_call_steps.specs.declared.stage.Stage.TheVariants.{Post}
+use Rattle.smp_queue.specs.Names.{Known, Posting, Post}
+use Rattle.smp_queue.specs.Names.post
 use Rattle.smp_queue.specs.Desk.{Desk, IsMine, IsCounting, IsTallied, counted}
 use Rattle.smp_queue.proofs.Ready.{mine_moved}
 

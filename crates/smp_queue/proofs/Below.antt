@@ -9,11 +9,8 @@ use Rattle.smp_queue.specs.Cells.{cells, cell_of}
 use Rattle.smp_queue.specs.Desk.{IsOf, Can}
 use Rattle.smp_queue.specs.Rule.{Ruled, RuledFor, Sits, known, after, seated}
 use Rattle.smp_queue.specs.Plays.{loaded, stored, exchanged, swapped}
-use Rattle.smp_words.specs.declared.word.Word.{Word}
-use Rattle.smp_words.specs.declared.access.Access.TheVariants.{Load, Store, Swap, Exchange}
+use Rattle.smp_queue.specs.Names.{Word, Load, Store, Swap, Exchange, Seated, Boot}
 use Rattle.smp_queue.proofs.Keeps.{starts, splits, load_allowed, store_allowed, exchange_allowed, swap_allowed}
-use Rattle.smp_queue.specs.declared.seated.Seated.{Seated}
-use Rattle.smp_queue.specs.declared.seated.Seated.TheVariants.{Boot}
 
 first_set : (views : List Seated) (u w : Seated) → get_elem? views 0 ≡ some u → get_elem? (set views 0 w) 0 ≡ some w
 first_set [] u w e = absurd (some-ne-none u (sym e))

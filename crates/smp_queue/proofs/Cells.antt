@@ -9,8 +9,7 @@ use Rattle.smp_words.specs.Layout.{index_of, number_at}
 use Rattle.smp_words.proofs.Links.{one_word, HasIndex, IsInTable, in_table, Reads, index_reads}
 use Rattle.smp_words.proofs.Placing.{stored_at}
 use Rattle.smp_words.specs.declared.size.TheConstants.{NR_CPUS, WORDS_OF_ONE, HEADS, INTRS, HANDS, QUEUED, RAN, FLAGS, FUNCS, INFOS, NEXTS}
-use Rattle.smp_words.specs.declared.word.Word.{Word}
-use Rattle.smp_words.specs.declared.word.Word.TheVariants.{Head, Intr, Hand, Queued, Ran, Flags, Func, Info, Next}
+use Rattle.smp_queue.specs.Names.{Word, Head, Intr, Hand, Queued, Ran, Flags, Func, Info, Next}
 use Rattle.smp_queue.specs.declared.cell.TheConstants.{LINE, TALLIES, ROW, TALLIES_APART, FIRST_RECORD, RECORDS_APART}
 use Rattle.smp_queue.specs.Cells.{cells, cpu_place, pair_place, record_place, place_of, cell_of, HasCell, number_in}
 

@@ -8,10 +8,9 @@ use Rattle.smp_words.specs.Size.{cpus, records}
 use Rattle.smp_call_steps.specs.Calls.{no_calls}
 use Rattle.smp_call_steps.specs.Histories.{sent_to, calls_from}
 use Rattle.smp_call_steps.specs.Parts.{part_of}
-use Rattle.smp_call_steps.specs.declared.known.Part.{Part}
+use Rattle.smp_queue.specs.Names.{Hand, Queued, Ran, Flags, Known, Part, Seated, Boot, Of, Left, Audit}
+use Rattle.smp_queue.specs.Names.audit
 use Rattle.smp_call_steps.proofs.Drained.{Still, still_queued, still_ran, equal_tallies, all_ran, all_sent}
-use Rattle.smp_call_steps.specs.declared.known.Known.{Known}
-use Rattle.smp_words.specs.declared.word.Word.TheVariants.{Hand, Queued, Ran, Flags}
 use Rattle.smp_queue.specs.Audit.{Closes, Audited, AuditAnswers, HaveRun, IfDrained, AreEqual, HasRowsOf, HasZerosFrom, has_lock, has_hand, left_in, nothing_left}
 use Rattle.smp_queue.specs.Cells.{number_in}
 use Rattle.smp_queue.specs.Cpu.{TableValue, cpu_of}
@@ -19,11 +18,6 @@ use Rattle.smp_queue.specs.Desk.{Desk}
 use Rattle.smp_queue.specs.Rule.{RuledFor}
 use Rattle.smp_queue.proofs.Auditing.{count_none}
 use Rattle.smp_queue.proofs.Cells.{no_hand, no_flags}
-use Rattle.smp_queue.specs.declared.audit.Audit.{Audit}
-use Rattle.smp_queue.specs.declared.audit.Audit.TheVariants as audit
-use Rattle.smp_queue.specs.declared.audit.Left.{Left}
-use Rattle.smp_queue.specs.declared.seated.Seated.{Seated}
-use Rattle.smp_queue.specs.declared.seated.Seated.TheVariants.{Boot, Of}
 
 -- its words show some calls, of which the seat knows its part
 pub closes : {S : Type 0} (nr : ℕ) (s : State S Seated) (r : RuledFor nr s) (id : ℕ) (v : Known) → get_elem? s.views id ≡ some (Of v) → Closes nr v s.words

@@ -4,7 +4,9 @@ use Rattle.std.proofs.lemmas.List.{append_cancel_left}
 use Rattle.atomic_table.specs.Seated.{TableId}
 use Rattle.smp_words.specs.Size.{cpus}
 use Rattle.smp_call_steps.specs.Order.{order}
-use Rattle.smp_call_steps.specs.declared.known.Running.TheVariants.{Nothing}
+use Rattle.smp_queue.specs.Names.{Call, Intr, Hand, Store, Swap, Known, Nothing, HandleStage, Handle, Heard}
+use Rattle.smp_queue.specs.Names.act
+use Rattle.smp_queue.specs.Names.handle
 use Rattle.smp_call_steps.specs.Words.{last_batch}
 use Rattle.std.specs.List.{FoldsTo}
 use Rattle.smp_call_steps.specs.Histories.{orders, running_call}
@@ -13,18 +15,9 @@ use Rattle.smp_call_steps.specs.Known.{known_told, known_taking, Moment, Lives, 
 use Rattle.smp_call_steps.specs.Handling.{handling, accepted_known, taken_known, IsLeaving}
 use Rattle.smp_call_steps.proofs.Handling.{lives_stands, lives_drained, lives_intr, entered_is, accepted_is, left_is}
 use Rattle.smp_call_steps.proofs.Taking.{orders-push, last_batch-push}
-use Rattle.smp_words.specs.declared.call.Call.{Call}
-use Rattle.smp_call_steps.specs.declared.known.Known.{Known}
-use Rattle.smp_words.specs.declared.word.Word.TheVariants.{Intr, Hand}
-use Rattle.smp_words.specs.declared.access.Access.TheVariants.{Store, Swap}
-use Rattle.smp_words.specs.declared.seen.Act.TheVariants as act
-use Rattle.smp_call_steps.specs.declared.handle.HandleStage.{HandleStage}
-use Rattle.smp_call_steps.specs.declared.handle.HandleStage.TheVariants as handle
-use Rattle.smp_call_steps.specs.declared.stage.Stage.TheVariants.{Handle}
 use Rattle.smp_queue.specs.Cpu.{CpuValue, cpu_of}
 use Rattle.smp_queue.specs.Desk.{Desk, Ready, InHandle, IsOutside}
 use Rattle.smp_queue.specs.Handling.{Grows, HasRunAll, runs, asks, drains, heard_of}
-use Rattle.smp_queue.specs.declared.handler.Heard.{Heard}
 use Rattle.smp_queue.proofs.Cells.{has_cell}
 use Rattle.smp_queue.proofs.Handles.{in_handle_ready, in_handle_then}
 use Rattle.smp_queue.proofs.Running.{more_calls}

@@ -4,23 +4,15 @@ use Rattle.atomic_table.specs.Seated.{TableId}
 use Rattle.smp_words.specs.Access.{word_of}
 use Rattle.smp_call_steps.specs.Drains.{record_at, unlink_after, handle_outcome, by_class, FitsFound, reverse_on, first_on, second_on}
 use Rattle.smp_words.specs.Flags.{class_of}
-use Rattle.smp_queue.specs.declared.handler.Heard.{Heard}
+use Rattle.smp_queue.specs.Names.{Sync, Word, Flags, Func, Info, Next, Known, Walk, HandleStage, Stage, Handle, Heard}
+use Rattle.smp_queue.specs.Names.act
+use Rattle.smp_queue.specs.Names.handle
 use Rattle.smp_queue.specs.Handling.{HasRunAll, runs}
 use Rattle.smp_call_steps.specs.Known.{known_told, known_access, Moment, Lives}
 use Rattle.smp_call_steps.specs.Handling.{goes_known}
 use Rattle.smp_call_steps.proofs.Handling.{lives_fits, next_found_is, func_found_is, info_found_is, flags_found_is, lives_locked}
-use Rattle.smp_call_steps.specs.declared.known.Known.{Known}
-use Rattle.smp_words.specs.declared.word.Word.{Word}
-use Rattle.smp_words.specs.declared.word.Word.TheVariants.{Flags, Func, Info, Next}
-use Rattle.smp_words.specs.declared.seen.Act.TheVariants as act
-use Rattle.smp_call_steps.specs.declared.handle.Walk.{Walk}
-use Rattle.smp_words.specs.declared.call.Class.TheVariants.{Sync}
-use Rattle.smp_call_steps.specs.declared.handle.HandleStage.{HandleStage}
-use Rattle.smp_call_steps.specs.declared.handle.HandleStage.TheVariants as handle
-use Rattle.smp_call_steps.specs.declared.stage.Stage.{Stage}
 use Rattle.smp_call_steps.specs.Histories.{calls_from}
 use Rattle.smp_queue.specs.Cpu.{cpu_of}
-use Rattle.smp_call_steps.specs.declared.stage.Stage.TheVariants.{Handle}
 use Rattle.smp_queue.specs.Desk.{Desk, InHandle}
 use Rattle.smp_queue.proofs.Handles.{in_handle_then}
 

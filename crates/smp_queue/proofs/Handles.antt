@@ -4,10 +4,7 @@ use Rattle.atomic_table.specs.Seated.{TableId}
 use Rattle.smp_words.specs.Access.{word_of}
 use Rattle.smp_call_steps.specs.Known.{known_access, Lives}
 use Rattle.smp_call_steps.proofs.Handling.{lives_aims, lives_in_table}
-use Rattle.smp_call_steps.specs.declared.known.Known.{Known}
-use Rattle.smp_words.specs.declared.access.Access.{Access}
-use Rattle.smp_call_steps.specs.declared.handle.HandleStage.{HandleStage}
-use Rattle.smp_call_steps.specs.declared.stage.Stage.TheVariants.{Handle}
+use Rattle.smp_queue.specs.Names.{Access, Known, HandleStage, Handle}
 use Rattle.smp_queue.specs.Cells.{cells, HasCell}
 use Rattle.smp_queue.specs.Desk.{Desk, Can, Ready, InHandle, IsApartFromCalls}
 use Rattle.smp_queue.proofs.Cells.{has_cell_of}

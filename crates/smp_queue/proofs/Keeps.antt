@@ -17,15 +17,9 @@ use Rattle.smp_call_steps.proofs.OneStep.{known_step}
 use Rattle.smp_call_steps.proofs.Handling.{lives_on}
 use Rattle.smp_call_steps.proofs.Starts.{zeros_shown}
 use Rattle.smp_words.proofs.Zeros.{zero_at}
-use Rattle.smp_words.specs.declared.call.Call.{Call}
-use Rattle.smp_call_steps.specs.declared.known.Known.{Known}
-use Rattle.smp_words.specs.declared.word.Word.{Word}
-use Rattle.smp_words.specs.declared.word.Word.TheVariants.{Head, Intr, Hand, Queued, Ran, Flags, Func, Info, Next}
-use Rattle.smp_words.specs.declared.access.Access.{Access}
-use Rattle.smp_words.specs.declared.access.Access.TheVariants.{Load, Store, Swap, Exchange}
-use Rattle.smp_words.specs.declared.seen.Act.TheVariants as act
-use Rattle.smp_queue.specs.declared.seated.Seated.{Seated}
-use Rattle.smp_queue.specs.declared.seated.Seated.TheVariants.{Boot, Of}
+use Rattle.smp_queue.specs.Names.{Call, Word, Head, Intr, Hand, Queued, Ran, Flags, Func, Info, Next, Access, Load, Store, Swap, Exchange, Known, Seated}
+use Rattle.smp_queue.specs.Names.{Boot, Of}
+use Rattle.smp_queue.specs.Names.act
 use Rattle.smp_queue.specs.Cells.{cells, cell_of, number_in}
 use Rattle.smp_queue.specs.Rule.{Ruled, Sits, known, after, seated}
 use Rattle.smp_queue.specs.Plays.{LoadTells, StoreTells, ExchangeTells, SwapTells, loaded, stored, exchanged, swapped}

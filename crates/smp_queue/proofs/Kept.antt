@@ -10,10 +10,8 @@ use Rattle.smp_call_steps.specs.Known.{fresh, confirmed_known, queued_known, out
 use Rattle.smp_call_steps.proofs.Lists.{sent_to-push, one_if-same, one_if-other}
 use Rattle.smp_call_steps.proofs.Rows.{length-row}
 use Rattle.smp_words.proofs.Zeros.{get_or-same}
-use Rattle.smp_words.specs.declared.call.Call.{Call}
-use Rattle.smp_call_steps.specs.declared.known.Known.{Known}
-use Rattle.smp_call_steps.specs.declared.post.Posting.{Posting}
-use Rattle.smp_call_steps.specs.declared.post.PostStage.TheVariants as post
+use Rattle.smp_queue.specs.Names.{Call, Known, Posting}
+use Rattle.smp_queue.specs.Names.post
 use Rattle.smp_queue.specs.Desk.{IsCounting, uncounted, counted}
 use Rattle.smp_queue.specs.Cpu.{IsKept}
 

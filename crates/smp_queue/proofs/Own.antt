@@ -12,11 +12,9 @@ use Rattle.smp_call_steps.specs.Parts.{part_queued}
 use Rattle.smp_call_steps.specs.Known.{posting_of, standing, queued_known, is_confirmed}
 use Rattle.smp_words.proofs.Sizes.{owner-of_record, record_of-below}
 use Rattle.smp_call_steps.proofs.Starts.{online_below}
-use Rattle.smp_words.specs.declared.call.Class.{Class}
+use Rattle.smp_queue.specs.Names.{Class, Known, Posting}
+use Rattle.smp_queue.specs.Names.post
 use Rattle.smp_words.specs.declared.command.Command.TheVariants as command
-use Rattle.smp_call_steps.specs.declared.known.Known.{Known}
-use Rattle.smp_call_steps.specs.declared.post.Posting.{Posting}
-use Rattle.smp_call_steps.specs.declared.post.PostStage.TheVariants as post
 use Rattle.smp_mask.specs.declared.error.SmpError.{SmpError}
 use Rattle.smp_queue.specs.Cells.{cells}
 use Rattle.smp_queue.specs.Desk.{Desk, At, IsMine, uncounted, counted}

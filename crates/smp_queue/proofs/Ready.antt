@@ -6,14 +6,8 @@ use Rattle.smp_words.specs.Access.{word_of}
 use Rattle.smp_call_steps.specs.Stands.{PostGoes}
 use Rattle.smp_call_steps.specs.Known.{IsReady, told_post, known_access, posting_of}
 use Rattle.smp_words.proofs.Links.{IsInTable}
-use Rattle.smp_call_steps.specs.declared.known.Known.{Known}
-use Rattle.smp_words.specs.declared.word.Word.TheVariants.{Flags}
-use Rattle.smp_words.specs.declared.access.Access.{Access}
-use Rattle.smp_words.specs.declared.access.Access.TheVariants.{Load}
-use Rattle.smp_call_steps.specs.declared.post.Posting.{Posting}
-use Rattle.smp_call_steps.specs.declared.post.PostStage.{PostStage}
-use Rattle.smp_call_steps.specs.declared.post.PostStage.TheVariants as post
-use Rattle.smp_call_steps.specs.declared.stage.Stage.TheVariants.{Done, Post}
+use Rattle.smp_queue.specs.Names.{Flags, Access, Load, Known, Posting, PostStage, Done, Post}
+use Rattle.smp_queue.specs.Names.post
 use Rattle.smp_queue.specs.Desk.{Desk, Ready, At, IsMine, counted}
 use Rattle.smp_queue.specs.Cells.{HasCell}
 use Rattle.smp_queue.proofs.Cells.{has_cell}

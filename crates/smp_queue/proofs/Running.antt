@@ -6,18 +6,14 @@ use Rattle.std.proofs.lemmas.Fn.{FoldsTo-push}
 use Rattle.atomic_table.specs.Seated.{TableId}
 use Rattle.smp_words.specs.Size.{records, owner}
 use Rattle.smp_call_steps.specs.Histories.{calls_from, counted_call}
-use Rattle.smp_call_steps.specs.declared.known.Part.{Part}
+use Rattle.smp_queue.specs.Names.{Call, Known, Part, HandleStage, Heard}
 use Rattle.smp_call_steps.specs.Known.{ran_tally}
 use Rattle.smp_call_steps.specs.Handling.{begun_async, ended_call, rest_of}
 use Rattle.smp_words.proofs.Sizes.{owner-below}
 use Rattle.smp_call_steps.proofs.Tallies.{count-same, count-other}
-use Rattle.smp_words.specs.declared.call.Call.{Call}
-use Rattle.smp_call_steps.specs.declared.known.Known.{Known}
-use Rattle.smp_call_steps.specs.declared.handle.HandleStage.{HandleStage}
 use Rattle.smp_queue.specs.Cpu.{CpuValue, cpu_of}
 use Rattle.smp_queue.specs.Desk.{Desk, InHandle}
 use Rattle.smp_queue.specs.Handling.{heard_of, AreRan, runs, HasRun, HasRunAll}
-use Rattle.smp_queue.specs.declared.handler.Heard.{Heard}
 
 -- a call that runs is not counted yet
 pub tally_running : (v w : Known) (source : ℕ) → w.part.ran ≡ v.part.ran → counted_call w.part.running ≡ [] → ran_tally w.part source ≡ length (calls_from source v.part.ran) % 2 ^ 64

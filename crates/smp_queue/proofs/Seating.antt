@@ -7,8 +7,7 @@ use Rattle.smp_mask.specs.Mask.{has}
 use Rattle.smp_words.specs.Limits.{AreLimits}
 use Rattle.smp_queue.specs.Cells.{cells}
 use Rattle.smp_queue.specs.Cpu.{CpuValue, fresh_cpu, IsFull}
-use Rattle.smp_queue.specs.declared.seated.Seated.{Seated}
-use Rattle.smp_queue.specs.declared.seated.Seated.TheVariants.{Boot}
+use Rattle.smp_queue.specs.Names.{Seated, Boot}
 
 -- the CPUs below n have a seat, and of these the ones online are kept
 pub record Seats (table boot_table : TableId) (boot : Seated) (online n : ℕ) (waiting : List (Option CpuValue)) : Type 0 where

@@ -6,15 +6,10 @@ use Rattle.smp_call_steps.specs.Histories.{sent_to, calls_from, marked_from, bat
 use Rattle.smp_call_steps.specs.Known.{Sees, fresh}
 use Rattle.smp_call_steps.specs.Shows.{Shows}
 use Rattle.smp_call_steps.specs.Stages.{ControlValue}
-use Rattle.smp_call_steps.specs.declared.known.Known.{Known}
-use Rattle.smp_words.specs.declared.word.Word.{Word}
-use Rattle.smp_words.specs.declared.word.Word.TheVariants.{Head, Hand, Queued, Ran, Flags}
+use Rattle.smp_queue.specs.Names.{Word, Head, Hand, Queued, Ran, Flags, Known, Left, Tally, Audit}
+use Rattle.smp_queue.specs.Names.audit
 use Rattle.smp_queue.specs.Cells.{number_in}
 use Rattle.smp_queue.specs.Cpu.{TableValue, CpuValue, cpu_in, fresh_cpu}
-use Rattle.smp_queue.specs.declared.audit.Left.{Left}
-use Rattle.smp_queue.specs.declared.audit.Tally.{Tally}
-use Rattle.smp_queue.specs.declared.audit.Audit.{Audit}
-use Rattle.smp_queue.specs.declared.audit.Audit.TheVariants as audit
 
 -- how many numbers below n pass a test
 unfoldable pub count_below : (ℕ → Bool) → ℕ → ℕ

@@ -9,11 +9,8 @@ use Rattle.smp_call_steps.specs.Start.{fits_record}
 use Rattle.smp_call_steps.specs.Histories.{sent_to, calls_from}
 use Rattle.smp_call_steps.specs.Calls.{CallState, no_calls}
 use Rattle.smp_call_steps.specs.Parts.{part_of, part_confirmed, part_sent, part_queued}
-use Rattle.smp_call_steps.specs.declared.known.Part.{Part}
+use Rattle.smp_queue.specs.Names.{Class, Known, Part, Posting}
 use Rattle.smp_call_steps.specs.Known.{posting_of}
-use Rattle.smp_call_steps.specs.declared.known.Known.{Known}
-use Rattle.smp_words.specs.declared.call.Class.{Class}
-use Rattle.smp_call_steps.specs.declared.post.Posting.{Posting}
 use Rattle.smp_queue.specs.Desk.{Desk}
 
 -- a table: its name, how many CPUs it has, and those online

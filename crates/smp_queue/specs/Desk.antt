@@ -7,19 +7,10 @@ use Rattle.smp_call_steps.specs.Places.{IsCall}
 use Rattle.smp_call_steps.specs.Histories.{sent_to}
 use Rattle.smp_call_steps.specs.Stands.{posted}
 use Rattle.smp_call_steps.specs.Known.{Aims, known_access, fresh, posting_of, Lives}
-use Rattle.smp_call_steps.specs.declared.known.Known.{Known}
-use Rattle.smp_words.specs.declared.word.Word.{Word}
-use Rattle.smp_words.specs.declared.access.Access.{Access}
-use Rattle.smp_words.specs.declared.access.Access.TheVariants.{Store}
-use Rattle.smp_call_steps.specs.declared.post.Posting.{Posting}
-use Rattle.smp_call_steps.specs.declared.post.PostStage.TheVariants as post
-use Rattle.smp_call_steps.specs.declared.handle.HandleStage.{HandleStage}
-use Rattle.smp_call_steps.specs.declared.handle.HandleStage.TheVariants as handle
-use Rattle.smp_call_steps.specs.declared.stage.Stage.{Stage}
-use Rattle.smp_call_steps.specs.declared.stage.Stage.TheVariants.{Post, Handle}
+use Rattle.smp_queue.specs.Names.{Word, Access, Store, Known, Posting, HandleStage, Stage, Post, Handle, Seated, Of}
+use Rattle.smp_queue.specs.Names.post
+use Rattle.smp_queue.specs.Names.handle
 use Rattle.smp_queue.specs.Cells.{cells, HasCell}
-use Rattle.smp_queue.specs.declared.seated.Seated.{Seated}
-use Rattle.smp_queue.specs.declared.seated.Seated.TheVariants.{Of}
 use Rattle.smp_queue.specs.Rule.{known}
 
 -- the table that a CPU sits at, and what it knows

@@ -4,16 +4,11 @@ use Rattle.std.specs.List.{FoldsTo}
 use Rattle.atomic_table.specs.Seated.{TableId}
 use Rattle.smp_words.specs.Size.{cpus, owner}
 use Rattle.smp_call_steps.specs.Order.{order}
-use Rattle.smp_call_steps.specs.declared.known.Running.TheVariants.{Nothing}
+use Rattle.smp_queue.specs.Names.{Call, Known, Part, Nothing, HandleStage, Heard}
 use Rattle.smp_call_steps.specs.Histories.{calls_from}
 use Rattle.smp_call_steps.specs.Parts.{part_accepted, part_taken}
-use Rattle.smp_call_steps.specs.declared.known.Part.{Part}
-use Rattle.smp_call_steps.specs.declared.handle.HandleStage.{HandleStage}
-use Rattle.smp_words.specs.declared.call.Call.{Call}
-use Rattle.smp_call_steps.specs.declared.known.Known.{Known}
 use Rattle.smp_queue.specs.Cpu.{CpuValue, cpu_of}
 use Rattle.smp_queue.specs.Desk.{Desk, InHandle}
-use Rattle.smp_queue.specs.declared.handler.Heard.{Heard}
 
 abbrev pub heard : ℕ → ℕ → ℕ → Heard
 heard src func info = record { src = src; func = func; info = info }

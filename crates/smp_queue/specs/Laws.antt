@@ -4,7 +4,7 @@ use Rattle.smp_call_steps.specs.Calls.{CallState}
 use Rattle.smp_call_steps.specs.Counts.{ConfirmedCallsRan}
 use Rattle.smp_call_steps.specs.Shows.{Shows}
 use Rattle.smp_call_steps.specs.Stages.{ControlValue}
-use Rattle.smp_words.specs.declared.word.Word.{Word}
+use Rattle.smp_queue.specs.Names.{Word}
 use Rattle.smp_queue.specs.Cpu.{CpuValue, cpu_in}
 
 -- some words of the table show calls that keep all laws, of which this value is one CPU's part; calls by confirmed records have run

@@ -1,3 +1,5 @@
+-- types by their names
+pub mod Names
 -- where words lie
 pub mod Cells
 -- the rule, and what each kind of access tells

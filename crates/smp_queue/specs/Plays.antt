@@ -2,11 +2,9 @@
 use Rattle.std.specs.Prelude.{◌≡◌, ℕ, ◌==◌, if◌then◌else◌, Some, None}
 use Rattle.atomic_table.specs.Table.{Me, Step}
 use Rattle.smp_call_steps.specs.Known.{known_told, known_taking, Moment, Lives}
-use Rattle.smp_words.specs.declared.word.Word.{Word}
-use Rattle.smp_words.specs.declared.seen.Act.TheVariants as act
+use Rattle.smp_queue.specs.Names.{Word, Seated, Of}
+use Rattle.smp_queue.specs.Names.act
 use Rattle.smp_queue.specs.Cells.{cell_of}
-use Rattle.smp_queue.specs.declared.seated.Seated.{Seated}
-use Rattle.smp_queue.specs.declared.seated.Seated.TheVariants.{Of}
 use Rattle.smp_queue.specs.Rule.{known}
 
 module _ {S : Type 0} where

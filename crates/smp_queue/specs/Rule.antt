@@ -7,10 +7,8 @@ use Rattle.smp_call_steps.specs.Calls.{CallState}
 use Rattle.smp_call_steps.specs.Stages.{ControlValue}
 use Rattle.smp_call_steps.specs.Shows.{Shows}
 use Rattle.smp_call_steps.specs.Known.{Sees, fresh}
-use Rattle.smp_call_steps.specs.declared.known.Known.{Known}
+use Rattle.smp_queue.specs.Names.{Known, Seated, Boot, Of}
 use Rattle.smp_queue.specs.Cells.{cells, number_in}
-use Rattle.smp_queue.specs.declared.seated.Seated.{Seated}
-use Rattle.smp_queue.specs.declared.seated.Seated.TheVariants.{Boot, Of}
 
 -- what a seat's CPU knows
 abbrev pub known : Seated → Known

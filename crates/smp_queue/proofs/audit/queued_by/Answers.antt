@@ -1,4 +1,4 @@
-use Rattle.smp_words.specs.declared.word.Word.TheVariants.{Queued}
+use Rattle.smp_queue.specs.Names.{Queued}
 use Rattle.smp_queue.proofs.Cells.{has_cell}
 use Rattle.smp_queue.proofs.audit.queued_by.Goals as goal
 

@@ -1,6 +1,6 @@
 use Rattle.std.proofs.Common.{arith, ap, subst, ◌∙◌}
 use Rattle.smp_call_steps.specs.Known.{Moment}
-use Rattle.smp_call_steps.specs.declared.known.Known.{Known}
+use Rattle.smp_queue.specs.Names.{Known}
 use Rattle.smp_queue.proofs.Below.{load_below}
 use Rattle.smp_queue.proofs.Cells.{cell_below}
 use Rattle.smp_queue.proofs.Keeps.{can_same}

@@ -1,7 +1,7 @@
 use Rattle.std.proofs.Common.{arith, ap, subst, ◌∙◌, ◌≡◌, Some}
 use Rattle.smp_call_steps.specs.Known.{Moment, known_taking}
-use Rattle.smp_call_steps.specs.declared.known.Known.{Known}
-use Rattle.smp_words.specs.declared.seen.Act.TheVariants as act
+use Rattle.smp_queue.specs.Names.{Known}
+use Rattle.smp_queue.specs.Names.act
 use Rattle.smp_queue.specs.Rule.{known}
 use Rattle.smp_queue.proofs.Below.{swap_below}
 use Rattle.smp_queue.proofs.Cells.{cell_below}

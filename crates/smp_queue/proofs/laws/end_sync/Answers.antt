@@ -1,6 +1,6 @@
 use Rattle.std.proofs.Common.{◌∙◌}
 use Rattle.smp_call_steps.proofs.Handling.{lives_stands, ended_sync_is}
-use Rattle.smp_call_steps.specs.declared.handle.HandleStage.TheVariants as handle
+use Rattle.smp_queue.specs.Names.handle
 use Rattle.smp_queue.proofs.laws.end_sync.Goals as goal
 
 pub returns-clause-known : goal.returns-clause-known

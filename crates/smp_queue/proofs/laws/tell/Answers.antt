@@ -1,5 +1,5 @@
 use Rattle.std.proofs.Common.{arith, ap, ◌∙◌}
-use Rattle.smp_words.specs.declared.access.Access.TheVariants.{Store}
+use Rattle.smp_queue.specs.Names.{Store}
 use Rattle.smp_queue.proofs.Cells.{cell_below}
 use Rattle.smp_queue.proofs.Below.{store_below}
 use Rattle.smp_queue.proofs.Keeps.{can_same}

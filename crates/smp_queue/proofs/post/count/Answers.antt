@@ -2,7 +2,7 @@ use Rattle.std.proofs.Common.{◌+◌, ◌%◌, ◌^◌, sym, refl, ap}
 use Rattle.smp_call_steps.proofs.Posted.{stands_as, count_known, head_known, count_access}
 use Rattle.smp_queue.specs.Desk.{uncounted, counted}
 use Rattle.smp_queue.proofs.Ready.{ready_post, mine_moved}
-use Rattle.smp_call_steps.specs.declared.post.PostStage.TheVariants as post
+use Rattle.smp_queue.specs.Names.post
 use Rattle.smp_queue.proofs.post.count.Goals as goal
 
 pub store-requires : goal.store-requires

@@ -4,7 +4,7 @@ use Rattle.smp_call_steps.specs.Known.{queued_known}
 use Rattle.smp_call_steps.proofs.Posted.{stands_as, next_known, won_known, lost_known}
 use Rattle.smp_queue.specs.Desk.{counted}
 use Rattle.smp_queue.proofs.Ready.{ready_post, mine_moved}
-use Rattle.smp_call_steps.specs.declared.post.PostStage.TheVariants as post
+use Rattle.smp_queue.specs.Names.post
 use Rattle.smp_queue.proofs.post.link.Goals as goal
 
 pub store-requires : goal.store-requires

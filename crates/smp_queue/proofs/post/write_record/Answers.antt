@@ -2,9 +2,8 @@ use Rattle.std.proofs.Common.{sym, refl, ap}
 use Rattle.smp_call_steps.specs.Known.{posting_of}
 use Rattle.smp_call_steps.proofs.Posted.{locked_known, func_known, info_known}
 use Rattle.smp_queue.proofs.Ready.{ready_post, mine_moved}
-use Rattle.smp_words.specs.declared.word.Word.TheVariants.{Flags}
-use Rattle.smp_words.specs.declared.access.Access.TheVariants.{Store}
-use Rattle.smp_call_steps.specs.declared.post.PostStage.TheVariants as post
+use Rattle.smp_queue.specs.Names.{Flags, Store}
+use Rattle.smp_queue.specs.Names.post
 use Rattle.smp_queue.proofs.post.write_record.Goals as goal
 
 pub store-requires : goal.store-requires

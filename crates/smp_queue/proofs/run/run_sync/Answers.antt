@@ -5,8 +5,8 @@ use Rattle.smp_call_steps.specs.Histories.{counted_call}
 use Rattle.smp_call_steps.specs.Handling.{counted_sync, ended_call}
 use Rattle.smp_words.proofs.Sizes.{owner-below}
 use Rattle.smp_call_steps.proofs.Handling.{lives_stands, lives_front}
-use Rattle.smp_call_steps.specs.declared.known.Known.{Known}
-use Rattle.smp_call_steps.specs.declared.handle.HandleStage.TheVariants as handle
+use Rattle.smp_queue.specs.Names.{Known}
+use Rattle.smp_queue.specs.Names.handle
 use Rattle.smp_queue.specs.Handling.{heard}
 use Rattle.smp_queue.proofs.Running.{tally_running, has_run}
 use Rattle.smp_queue.proofs.run.run_sync.Goals as goal

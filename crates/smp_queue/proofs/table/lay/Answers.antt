@@ -1,6 +1,6 @@
 use Rattle.std.proofs.Common.{◌≡◌, ◌∙◌, ℕ, [], List, replicate, sym, subst}
 use Rattle.atomic_table.specs.Table.{opening}
-use Rattle.smp_queue.specs.declared.seated.Seated.TheVariants.{Boot}
+use Rattle.smp_queue.specs.Names.{Boot}
 use Rattle.smp_queue.specs.Cells.{cells}
 use Rattle.smp_queue.specs.Rule.{RuledFor}
 use Rattle.smp_queue.proofs.Below.{starts_below}

@@ -2,7 +2,7 @@ use Rattle.std.proofs.Common.{◌≡◌, ℕ, ◌+◌, ◌%◌, ◌^◌, ◌<◌
 use Rattle.smp_mask.specs.Mask.{has}
 use Rattle.smp_words.specs.Size.{cpus}
 use Rattle.smp_call_steps.proofs.Starts.{online_below}
-use Rattle.smp_call_steps.specs.declared.post.Posting.{Posting}
+use Rattle.smp_queue.specs.Names.{Posting}
 use Rattle.smp_queue.specs.Cpu.{IsKept}
 use Rattle.smp_queue.proofs.Kept.{kept_posted}
 use Rattle.smp_queue.proofs.Ready.{mine_moved}
