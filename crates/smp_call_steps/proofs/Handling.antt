@@ -12,7 +12,7 @@ use Rattle.smp_call_steps.specs.Histories.{orders, running_call}
 use Rattle.smp_call_steps.specs.Stages.{ControlValue, access_of, FitsStage}
 use Rattle.smp_call_steps.specs.Stands.{Share, share_of, StandsAt, HandleStands, held_of}
 use Rattle.smp_call_steps.specs.Parts.{Part, part_confirmed, part_accepted, part_begun, part_unlocked, part_counted, part_after}
-use Rattle.smp_call_steps.specs.Known.{told_stage, told_post, told_handle, known_told, known_taking, stage_after, drain_then, Aims, known_access, Lives, GoesOn}
+use Rattle.smp_call_steps.specs.Known.{told_stage, told_post, told_handle, known_told, known_taking, stage_after, drain_then, MayStep, known_access, Lives, GoesOn}
 use Rattle.smp_call_steps.specs.Handling.{rest_of, handling, goes_known, accepted_known, taken_known, begun_sync, counted_sync, begun_async, ended_call}
 use Rattle.smp_words.proofs.Links.{HasIndex}
 use Rattle.smp_call_steps.proofs.Accesses.{access_in_table}
@@ -80,7 +80,7 @@ module _ (v : Known) (l : Lives v) where
     pub lives_told : v.stage ≡ told_handle h
     lives_told = e ∙ (sym told ∙ ap told_stage at_stage)
 
-    pub lives_aims : Aims v (Handle h)
+    pub lives_aims : MayStep v (Handle h)
     lives_aims = (lives_told, lives_below)
 
     same_access : access_of l.at v.number (Handle h) ≡ known_access v (Handle h)

@@ -15,7 +15,7 @@ use Rattle.smp_call_steps.specs.Stages.{ControlValue, access_of, outcome_of, dra
 use Rattle.smp_words.specs.Access.{word_of, at_after, seen_of}
 use Rattle.smp_call_steps.specs.Shows.{Shows}
 use Rattle.smp_call_steps.specs.Parts.{part_after}
-use Rattle.smp_call_steps.specs.Known.{told_post, told_handle, told_stage, Sees, known_tells, stage_after, drain_then, Aims, known_access, GoesOn}
+use Rattle.smp_call_steps.specs.Known.{told_post, told_handle, told_stage, Sees, known_tells, stage_after, drain_then, MayStep, known_access, GoesOn}
 use Rattle.smp_call_steps.proofs.Own.{put_same, put_other}
 use Rattle.smp_call_steps.proofs.Every.{step_shown}
 use Rattle.smp_call_steps.proofs.Restages.{known_held, restages, access_known, aims_told}
@@ -95,7 +95,7 @@ leaves at me d (Handle handle.Enter) = refl
 leaves at me d _ = refl
 
 -- the CPU that knows this, and that may make the step of this stage, makes it
-module _ (a : CallState) (at : Word → ℕ) (control : ℕ → ControlValue) (v : Known) (s : Shows a at control) (sees : Sees a control v) (st : Stage) (aims : Aims v st) where
+module _ (a : CallState) (at : Word → ℕ) (control : ℕ → ControlValue) (v : Known) (s : Shows a at control) (sees : Sees a control v) (st : Stage) (aims : MayStep v st) where
   abbrev me : ℕ
   me = v.number
 

@@ -10,7 +10,7 @@ use Rattle.smp_call_steps.specs.Places.{Holds}
 use Rattle.smp_call_steps.specs.Stands.{Rests, StandsAt, PostKnows, share_of, held_of, held_of_post, HandIs}
 use Rattle.smp_call_steps.specs.Shows.{Shows}
 use Rattle.smp_call_steps.specs.Parts.{Part, row}
-use Rattle.smp_call_steps.specs.Known.{told_post, told_handle, told_stage, Sees, Aims, PostAims, Moment, known_access, queued_tally, ran_tally, is_confirmed}
+use Rattle.smp_call_steps.specs.Known.{told_post, told_handle, told_stage, Sees, MayStep, MayPost, Moment, known_access, queued_tally, ran_tally, is_confirmed}
 use Rattle.smp_call_steps.proofs.Rows.{row-at}
 use Rattle.smp_call_steps.proofs.Sending.{stands_on}
 use Rattle.smp_call_steps.specs.declared.known.Known.{Known}
@@ -125,7 +125,7 @@ module _ (a : CallState) (at : Word → ℕ) (control : ℕ → ControlValue) (v
       let seen : get_or (row records (a.confirmed me)) id false ≡ true = ap (λ (p : Part). get_or p.confirmed id false) sees.part ∙ conf in
       elim (s.placed.settled me id own (sym (row-at records id (a.confirmed me) false small) ∙ seen)) [ inl free ↦ free | inr hold ↦ absurd (let h : Holds None id = rw none at hold in h) ]
 
-  pub aims_told : (st : Stage) → Aims v st → told_stage (Some st) ≡ v.stage
+  pub aims_told : (st : Stage) → MayStep v st → told_stage (Some st) ≡ v.stage
   aims_told (Post p st) aims = aims.told
   aims_told _ aims = sym aims.0
 
@@ -135,7 +135,7 @@ module _ (a : CallState) (at : Word → ℕ) (control : ℕ → ControlValue) (v
   outside_idle : v.stage ≡ None → Idle a at (control me).drain me
   outside_idle e = idle (subst IsNoHandle (sym e) tt)
 
-  free_at : (p : Posting) (st : PostStage) → PostAims v p st → IsFreeAt a.place p.id st
+  free_at : (p : Posting) (st : PostStage) → MayPost v p st → IsFreeAt a.place p.id st
   free_at p post.Lock aims = let call = aims.is_call in free_outside p.id aims.owned call.in_range (sym aims.told) aims.ready
   free_at p _ aims = tt
 
@@ -145,7 +145,7 @@ module _ (a : CallState) (at : Word → ℕ) (control : ℕ → ControlValue) (v
   handle_same : (h : HandleStage) → IsBeyond h → v.stage ≡ told_handle h → (control me).stage ≡ Some (Handle h)
   handle_same h b e = stage_is h (control me).stage (sees.stage ∙ (e ∙ told_beyond h b))
 
-  aims_stands : (st : Stage) → Aims v st → StandsAt a.place at (share_of a me) (control me).drain me (Some st)
+  aims_stands : (st : Stage) → MayStep v st → StandsAt a.place at (share_of a me) (control me).drain me (Some st)
   aims_stands (Send to) aims = let i = outside_idle aims.0 in (i.rests, aims.1, aims.2)
   aims_stands (Done id) aims = let i = outside_idle aims.0 in (i.rests, aims.1, aims.2)
   aims_stands (Post p st) aims =
@@ -165,7 +165,7 @@ module _ (a : CallState) (at : Word → ℕ) (control : ℕ → ControlValue) (v
         (let i = outside_idle (aims.0 ∙ ap told_handle e) in (aims.1, i.rests))
   ]
 
-  aims_hand : (st : Stage) → Aims v st → HandIs (Some st) (at (Hand me))
+  aims_hand : (st : Stage) → MayStep v st → HandIs (Some st) (at (Hand me))
   aims_hand (Send to) aims = let i = outside_idle aims.0 in i.hand
   aims_hand (Done id) aims = let i = outside_idle aims.0 in i.hand
   aims_hand (Post p st) aims = let i = idle (subst IsNoHandle aims.told (post_no_handle p st)) in i.hand
@@ -174,17 +174,17 @@ module _ (a : CallState) (at : Word → ℕ) (control : ℕ → ControlValue) (v
     | inr e ↦ subst (λ (x : HandleStage). HandIs (Some (Handle x)) (at (Hand me))) (sym e) (let i = outside_idle (aims.0 ∙ ap told_handle e) in i.hand)
   ]
 
-  pub aims_held : (st : Stage) → Aims v st → a.held me ≡ held_of (Some st)
+  pub aims_held : (st : Stage) → MayStep v st → a.held me ≡ held_of (Some st)
   aims_held st aims = known_held ∙ (ap held_of (sym (aims_told st aims)) ∙ held_told (Some st))
 
   -- the CPU may stand there, and it knows what it knew
-  pub restages : (st : Stage) → Aims v st → Shows a at (put control me (record { stage = Some st; drain = v.drain }))
+  pub restages : (st : Stage) → MayStep v st → Shows a at (put control me (record { stage = Some st; drain = v.drain }))
   restages st aims =
       subst (λ (d : DrainValue). Shows a at (put control me (record { stage = Some st; drain = d }))) sees.drain
       (stands_on a at control me (record { stage = Some st; drain = (control me).drain }) s (aims_held st aims) (aims_stands st aims) (aims_hand st aims))
 
   -- the access is the one that the CPU knows
-  pub access_known : (st : Stage) → Aims v st → access_of at me st ≡ known_access v st
+  pub access_known : (st : Stage) → MayStep v st → access_of at me st ≡ known_access v st
   access_known (Send to) aims = refl
   access_known (Done id) aims = refl
   access_known (Post p st) aims =

@@ -128,24 +128,24 @@ abbrev pub known_tells : List Call → Known → Seen → Known
 known_tells queue v seen = known_taking queue v seen.act seen.word seen.found seen.put
 
 -- to lock, a CPU has to know that the record is free
-abbrev pub IsReady : Known → ℕ → PostStage → Type 0
-IsReady v id post.Lock = slice_index_or v.part.confirmed id false ≡ true
-IsReady v id _ = Unit {0}
+abbrev pub IsLockable : Known → ℕ → PostStage → Type 0
+IsLockable v id post.Lock = slice_index_or v.part.confirmed id false ≡ true
+IsLockable v id _ = Unit {0}
 
 -- a CPU that knows v may make the step of this stage
-pub record PostAims (v : Known) (p : Posting) (stage : PostStage) : Type 0 where
+pub record MayPost (v : Known) (p : Posting) (stage : PostStage) : Type 0 where
   pub told : told_post p stage ≡ v.stage
   pub owned : owner p.id ≡ v.number
   pub is_call : IsCall (posted p)
   pub me_in_range : v.number < cpus
   pub goes : PostGoes p stage
-  pub ready : IsReady v p.id stage
+  pub ready : IsLockable v p.id stage
 
-abbrev pub Aims : Known → Stage → Type 0
-Aims v (Send to) = (v.stage ≡ None) × (to < cpus) × (v.number < cpus)
-Aims v (Done id) = (v.stage ≡ None) × (owner id ≡ v.number) × (id < records)
-Aims v (Post p stage) = PostAims v p stage
-Aims v (Handle stage) = (v.stage ≡ told_handle stage) × (v.number < cpus)
+abbrev pub MayStep : Known → Stage → Type 0
+MayStep v (Send to) = (v.stage ≡ None) × (to < cpus) × (v.number < cpus)
+MayStep v (Done id) = (v.stage ≡ None) × (owner id ≡ v.number) × (id < records)
+MayStep v (Post p stage) = MayPost v p stage
+MayStep v (Handle stage) = (v.stage ≡ told_handle stage) × (v.number < cpus)
 
 -- the number in a CPU's tally word of the calls queued for a destination
 abbrev pub queued_tally : Part → Option Holding → ℕ → ℕ

@@ -13,7 +13,7 @@ use Rattle.smp_call_steps.proofs.Walks.{link_back, same_record}
 use Rattle.smp_queue.specs.Names.{Call, Next, Known, Nothing, Walk}
 use Rattle.smp_queue.specs.Names.handle
 use Rattle.smp_queue.specs.Cpu.{CpuValue, cpu_of}
-use Rattle.smp_queue.specs.Desk.{Desk, InHandle}
+use Rattle.smp_queue.specs.Seat.{SeatValue, InHandle}
 use Rattle.smp_queue.specs.Handling.{runs}
 
 -- the calls from this record on
@@ -50,7 +50,7 @@ walks_less nexts s d walk id n call rest w found =
     omega arith
 
 -- the same at the load of the link
-pub ahead_less : (t : TableId) (d : Desk) (walk : Walk) (id n : ℕ) → InHandle t d (handle.LoadNext walk id) → Moment d.known (Next id) n →
+pub ahead_less : (t : TableId) (d : SeatValue) (walk : Walk) (id n : ℕ) → InHandle t d (handle.LoadNext walk id) → Moment d.known (Next id) n →
     left_from (record_at n) (last_batch d.known.part.taken) < left_from (Some id) (last_batch d.known.part.taken)
 ahead_less t d walk id n at m =
     let k = lives_stands d.known m.lives (handle.LoadNext walk id) at.stage_is in
@@ -65,5 +65,5 @@ ahead_then taken taken' here next id n e f t l =
     (subst (λ (x : List (List Call)). left_from (record_at n) (last_batch x) < left_from (Some id) (last_batch taken)) (sym t) l))
 
 -- a CPU that has run calls, and no more, has taken no queue
-pub same_taken : (d d1 d2 : Desk) (calls : List Call) → d1.known ≡ record (d.known) { stage = d1.known.stage } → cpu_of d2 ≡ runs calls d2.known.part (cpu_of d1) → d2.known.part.taken ≡ d.known.part.taken
+pub same_taken : (d d1 d2 : SeatValue) (calls : List Call) → d1.known ≡ record (d.known) { stage = d1.known.stage } → cpu_of d2 ≡ runs calls d2.known.part (cpu_of d1) → d2.known.part.taken ≡ d.known.part.taken
 same_taken d d1 d2 calls k ran = ap (λ (v : CpuValue). v.part.taken) ran ∙ ap (λ (u : Known). u.part.taken) k

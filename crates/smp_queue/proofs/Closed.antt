@@ -8,24 +8,24 @@ use Rattle.smp_words.specs.Size.{cpus, records}
 use Rattle.smp_call_steps.specs.Calls.{no_calls}
 use Rattle.smp_call_steps.specs.Histories.{sent_to, calls_from}
 use Rattle.smp_call_steps.specs.Parts.{part_of}
-use Rattle.smp_queue.specs.Names.{Hand, Queued, Ran, Flags, Known, Part, Seated, Boot, Of, Left, Audit}
+use Rattle.smp_queue.specs.Names.{Hand, Queued, Ran, Flags, Known, Part, SeatView, Maker, Cpu, Left, Audit}
 use Rattle.smp_queue.specs.Names.audit
 use Rattle.smp_call_steps.proofs.Drained.{Still, still_queued, still_ran, equal_tallies, all_ran, all_sent}
 use Rattle.smp_queue.specs.Audit.{Closes, Audited, AuditAnswers, HaveRun, IfDrained, AreEqual, HasRowsOf, HasZerosFrom, has_lock, has_hand, left_in, nothing_left}
 use Rattle.smp_queue.specs.Cells.{number_in}
 use Rattle.smp_queue.specs.Cpu.{TableValue, cpu_of}
-use Rattle.smp_queue.specs.Desk.{Desk}
+use Rattle.smp_queue.specs.Seat.{SeatValue}
 use Rattle.smp_queue.specs.Rule.{RuledFor}
 use Rattle.smp_queue.proofs.Auditing.{count_none}
 use Rattle.smp_queue.proofs.Cells.{no_hand, no_flags}
 
 -- its words show some calls, of which the seat knows its part
-pub closes : {S : Type 0} (nr : ℕ) (s : State S Seated) (r : RuledFor nr s) (id : ℕ) (v : Known) → get_elem? s.views id ≡ some (Of v) → Closes nr v s.words
+pub closes : {S : Type 0} (nr : ℕ) (s : State S SeatView) (r : RuledFor nr s) (id : ℕ) (v : Known) → get_elem? s.views id ≡ some (Cpu v) → Closes nr v s.words
 closes nr s r id v at =
-    let sits = r.0.each_seat id (Of v) at in
+    let sits = r.0.each_seat id (Cpu v) at in
     let number = sits.0 in
     let few = r.1.few in
-    let next = (r.0.each_seat 0 (Boot r.1.next) r.1.counts).0 in
+    let next = (r.0.each_seat 0 (Maker r.1.next) r.1.counts).0 in
     record { calls = r.0.calls; controls = r.0.controls; shown = r.0.shown; sees = sits.2; below = omega arith; absent = λ cpu l. r.0.absent cpu (omega arith) }
 
 no_lock : (n : ℕ) → (n % 2 == 1) ≡ false → n % 2 ≢ 1
@@ -56,7 +56,7 @@ drained_equal nr v words (audit.Drained t) c a = λ source to s d. a.1.queued_ar
 drained_equal nr v words (audit.Left left) c a = tt
 
 -- a CPU's rows are those of its part
-pub drained_rows : (nr : ℕ) (d : Desk) (words : List ℕ) (answer : Audit) → nr ≤ cpus → Closes nr d.known words → AuditAnswers (number_in words) answer → IfDrained answer (HasRowsOf (cpu_of d))
+pub drained_rows : (nr : ℕ) (d : SeatValue) (words : List ℕ) (answer : Audit) → nr ≤ cpus → Closes nr d.known words → AuditAnswers (number_in words) answer → IfDrained answer (HasRowsOf (cpu_of d))
 drained_rows nr d words (audit.Drained t) within c a = λ other below.
     let me = d.known.number in
     let b = c.below in
@@ -97,7 +97,7 @@ drained_run nr v words (audit.Drained t) c a =
 drained_run nr v words (audit.Left left) c a = tt
 
 -- what an audit tells of its table
-pub audited : (t : TableValue) (d : Desk) (words : List ℕ) (answer : Audit) → d.table ≡ t.table → Closes t.nr d.known words → AuditAnswers (number_in words) answer → Audited t (cpu_of d) answer
+pub audited : (t : TableValue) (d : SeatValue) (words : List ℕ) (answer : Audit) → d.table ≡ t.table → Closes t.nr d.known words → AuditAnswers (number_in words) answer → Audited t (cpu_of d) answer
 audited t d words answer e c a = record {
   calls = c.calls;
   at = number_in words;

@@ -16,13 +16,13 @@ use Rattle.smp_call_steps.specs.Handling.{handling, accepted_known, taken_known,
 use Rattle.smp_call_steps.proofs.Handling.{lives_stands, lives_drained, lives_intr, entered_is, accepted_is, left_is}
 use Rattle.smp_call_steps.proofs.Taking.{orders-push, last_batch-push}
 use Rattle.smp_queue.specs.Cpu.{CpuValue, cpu_of}
-use Rattle.smp_queue.specs.Desk.{Desk, Ready, InHandle, IsOutside}
+use Rattle.smp_queue.specs.Seat.{SeatValue, Ready, InHandle, IsOutside}
 use Rattle.smp_queue.specs.Handling.{Grows, HasRunAll, runs, asks, drains, heard_of}
 use Rattle.smp_queue.proofs.Cells.{has_cell}
 use Rattle.smp_queue.proofs.Handles.{in_handle_ready, in_handle_then}
 use Rattle.smp_queue.proofs.Running.{more_calls}
 
-module _ (t : TableId) (d d' : Desk) (number : ℕ) where
+module _ (t : TableId) (d d' : SeatValue) (number : ℕ) where
   pub enter_ready : IsOutside t d number → Ready t d (Store (Hand number) 1)
   enter_ready o = record {
     table_is = o.table_is;
@@ -53,7 +53,7 @@ module _ (t : TableId) (d d' : Desk) (number : ℕ) where
   leave_known _ h l = absurd l
 
 -- the interrupt that was found
-pub accepted_then : (t : TableId) (d d' : Desk) (v : Known) (number n : ℕ) (q : List Call) → InHandle t d handle.Accept → Moment d.known (Intr number) n → d.known ≡ handling handle.Accept v.drain v →
+pub accepted_then : (t : TableId) (d d' : SeatValue) (v : Known) (number n : ℕ) (q : List Call) → InHandle t d handle.Accept → Moment d.known (Intr number) n → d.known ≡ handling handle.Accept v.drain v →
     d'.known ≡ known_taking q d.known act.Swap (Intr number) (Some n) (Some 0) → d'.known ≡ accepted_known (cond (n == 0) false true) (handling handle.Accept v.drain v)
 accepted_then t d d' v number n q h m is known =
     let one : (n == 1) ≡ cond (n == 0) false true = subst (λ (k : ℕ). (k == 1) ≡ cond (k == 0) false true) (sym m.number_is) (lives_intr d.known m.lives number) in
@@ -75,7 +75,7 @@ FoldsTo-append {A} {B} R p [] q ys r h k = subst (λ (x : A). FoldsTo R x ys r) 
 FoldsTo-append {A} {B} R p (x ∷ xs) q ys r h k = (h.0, h.1, FoldsTo-append R h.0 xs q ys r h.2 k)
 
 -- a CPU has taken its queue, reversed it and run it in two passes
-module _ {H : Type 0} (leads : H → Heard → H → Type 0) (t : TableId) (s0 s1 s2 s3 s4 s5 s6 : Desk) (queue : List Call) (newest : Option ℕ) (counts counts' : List ℕ) (before between after : H) where
+module _ {H : Type 0} (leads : H → Heard → H → Type 0) (t : TableId) (s0 s1 s2 s3 s4 s5 s6 : SeatValue) (queue : List Call) (newest : Option ℕ) (counts counts' : List ℕ) (before between after : H) where
   pub has_handled : s0.table ≡ t → InHandle t s1 handle.Take → s1.known ≡ accepted_known true (handling handle.Accept s0.known.drain s0.known) → s2.table ≡ t → s2.known ≡ taken_known queue newest s1.known →
       s3.table ≡ t → s3.known ≡ record (s2.known) { stage = s3.known.stage; drain = s3.known.drain } → HasRunAll leads s3 s4 counts before between → InHandle t s5 handle.Leave → HasRunAll leads s4 s5 counts' between after → s6.table ≡ t → s6.known ≡ outside_known s5.known →
       s5.known.drain.calls ≡ s3.known.drain.calls → (batch : List Call) × (cpu_of s6 ≡ drains batch (asks true (cpu_of s0))) × (Grows leads before (order batch) after) × (s3.known.drain.calls ≡ length batch)

@@ -17,13 +17,13 @@ use Rattle.smp_call_steps.proofs.OneStep.{known_step}
 use Rattle.smp_call_steps.proofs.Handling.{lives_on}
 use Rattle.smp_call_steps.proofs.Starts.{zeros_shown}
 use Rattle.smp_words.proofs.Zeros.{zero_at}
-use Rattle.smp_queue.specs.Names.{Call, Word, Head, Intr, Hand, Queued, Ran, Flags, Func, Info, Next, Access, Load, Store, Swap, Exchange, Known, Seated}
-use Rattle.smp_queue.specs.Names.{Boot, Of}
+use Rattle.smp_queue.specs.Names.{Call, Word, Head, Intr, Hand, Queued, Ran, Flags, Func, Info, Next, Access, Load, Store, Swap, Exchange, Known, SeatView}
+use Rattle.smp_queue.specs.Names.{Maker, Cpu}
 use Rattle.smp_queue.specs.Names.act
 use Rattle.smp_queue.specs.Cells.{cells, cell_of, number_in}
-use Rattle.smp_queue.specs.Rule.{Ruled, Sits, known, after, seated}
-use Rattle.smp_queue.specs.Plays.{LoadTells, StoreTells, ExchangeTells, SwapTells, loaded, stored, exchanged, swapped}
-use Rattle.smp_queue.specs.Desk.{IsOf, Can}
+use Rattle.smp_queue.specs.Rule.{Ruled, SeatKnows, known, after, seat_made}
+use Rattle.smp_queue.specs.Plays.{AfterLoad, AfterStore, AfterExchange, AfterSwap, loaded, stored, exchanged, swapped}
+use Rattle.smp_queue.specs.Seat.{IsCpuSeat, MayAccess}
 use Rattle.smp_queue.proofs.Cells.{one_cell, number_here, stored_here}
 
 at_snoc : {A : Type 0} (l : List A) (a b : A) (j : ℕ) → get_elem? (l ++ a ∷ []) j ≡ some b → (get_elem? l j ≡ some b) ⊎ ((j ≡ length l) × (a ≡ b))
@@ -46,18 +46,18 @@ exchange_else queue v (Head to) n None = refl
 exchange_else queue v (Head to) n (Some x) = refl
 exchange_else queue v _ n o = refl
 
-load_step : (a : CallState) (at : Word → ℕ) (control : ℕ → ControlValue) (v : Known) (w : Word) → Can v (Load w) → Shows a at control → Sees a control v → GoesOn a control v.number at (known_told v act.Load w (Some (at w)) None)
+load_step : (a : CallState) (at : Word → ℕ) (control : ℕ → ControlValue) (v : Known) (w : Word) → MayAccess v (Load w) → Shows a at control → Sees a control v → GoesOn a control v.number at (known_told v act.Load w (Some (at w)) None)
 load_step a at control v w can shown sees = subst (GoesOn a control v.number at) (load_else (a.queue v.number) v w (at w)) (known_step a at control v shown sees can.stage can.aims (Load w) can.is_access)
 
-store_step : (a : CallState) (at : Word → ℕ) (control : ℕ → ControlValue) (v : Known) (w : Word) (x : ℕ) → Can v (Store w x) → Shows a at control → Sees a control v → GoesOn a control v.number (put_word at w x) (known_told v act.Store w None (Some x))
+store_step : (a : CallState) (at : Word → ℕ) (control : ℕ → ControlValue) (v : Known) (w : Word) (x : ℕ) → MayAccess v (Store w x) → Shows a at control → Sees a control v → GoesOn a control v.number (put_word at w x) (known_told v act.Store w None (Some x))
 store_step a at control v w x can shown sees = subst (GoesOn a control v.number (put_word at w x)) (store_else (a.queue v.number) v w x) (known_step a at control v shown sees can.stage can.aims (Store w x) can.is_access)
 
-exchange_step : (a : CallState) (at : Word → ℕ) (control : ℕ → ControlValue) (v : Known) (w : Word) (old new : ℕ) → Can v (Exchange w old new) → Shows a at control → Sees a control v →
+exchange_step : (a : CallState) (at : Word → ℕ) (control : ℕ → ControlValue) (v : Known) (w : Word) (old new : ℕ) → MayAccess v (Exchange w old new) → Shows a at control → Sees a control v →
     GoesOn a control v.number (cond (at w == old) (put_word at w new) at) (known_told v act.Cas w (Some (at w)) (cond (at w == old) (Some new) None))
 exchange_step a at control v w old new can shown sees = subst (GoesOn a control v.number (cond (at w == old) (put_word at w new) at)) (exchange_else (a.queue v.number) v w (at w) (cond (at w == old) (Some new) None)) (known_step a at control v shown sees can.stage can.aims (Exchange w old new) can.is_access)
 
 module _ {S : Type 0} where
-  pub starts : Ruled {S = S} (opening (replicate cells 0) [] (Boot 0))
+  pub starts : Ruled {S = S} (opening (replicate cells 0) [] (Maker 0))
   starts = record {
     calls = no_calls;
     controls = λ _. outside;
@@ -69,47 +69,47 @@ module _ {S : Type 0} where
     absent = λ _ _. record { stage = refl; drain = refl; part = refl };
   }
     where
-      each : (id : ℕ) (v : Seated) → get_elem? (Boot 0 ∷ []) id ≡ some v → Sits no_calls (λ _. outside) (λ _. 0) 0 id v
-      each zero v e = subst (Sits no_calls (λ _. outside) (λ _. 0) 0 0) (some-injective (Boot 0) v e) (refl, refl)
+      each : (id : ℕ) (v : SeatView) → get_elem? (Maker 0 ∷ []) id ≡ some v → SeatKnows no_calls (λ _. outside) (λ _. 0) 0 id v
+      each zero v e = subst (SeatKnows no_calls (λ _. outside) (λ _. 0) 0 0) (some-injective (Maker 0) v e) (refl, refl)
       each (suc id) v e = absurd (some-ne-none v (sym e))
 
-  pub splits : (id n : ℕ) (v : Seated) → v ≡ Boot n → Splits {S = S} Ruled id v (after v) (seated v)
-  splits id n v is s r at = subst (λ v. Ruled {S = S} record { words = s.words; homes = s.homes; views = set s.views id (after v) ++ seated v ∷ [] }) (sym is) made
+  pub splits : (id n : ℕ) (v : SeatView) → v ≡ Maker n → Splits {S = S} Ruled id v (after v) (seat_made v)
+  splits id n v is s r at = subst (λ v. Ruled {S = S} record { words = s.words; homes = s.homes; views = set s.views id (after v) ++ seat_made v ∷ [] }) (sym is) made
     where
       mine : (n ≡ r.next) × (id ≡ 0)
-      mine = subst (Sits r.calls r.controls r.seat r.next id) is (r.each_seat id v at)
+      mine = subst (SeatKnows r.calls r.controls r.seat r.next id) is (r.each_seat id v at)
 
       last : ℕ
-      last = length (set s.views id (Boot (n + 1)))
+      last = length (set s.views id (Maker (n + 1)))
 
       seat' : ℕ → ℕ
-      seat' = put r.seat n (length (set s.views id (Boot (n + 1))))
+      seat' = put r.seat n (length (set s.views id (Maker (n + 1))))
 
-      old : (j : ℕ) (u : Seated) → j ≢ id → get_elem? s.views j ≡ some u → Sits r.calls r.controls r.seat r.next j u → Sits r.calls r.controls (put r.seat n (length (set s.views id (Boot (n + 1))))) (n + 1) j u
-      old j (Boot k) other e h = absurd (other (h.1 ∙ sym mine.1))
-      old j (Of w) other e h = let a = h.0 in let b = mine.0 in (omega arith, put_other r.seat n (length (set s.views id (Boot (n + 1)))) w.number (λ same. let c = same in omega arith) ∙ h.1, h.2)
+      old : (j : ℕ) (u : SeatView) → j ≢ id → get_elem? s.views j ≡ some u → SeatKnows r.calls r.controls r.seat r.next j u → SeatKnows r.calls r.controls (put r.seat n (length (set s.views id (Maker (n + 1))))) (n + 1) j u
+      old j (Maker k) other e h = absurd (other (h.1 ∙ sym mine.1))
+      old j (Cpu w) other e h = let a = h.0 in let b = mine.0 in (omega arith, put_other r.seat n (length (set s.views id (Maker (n + 1)))) w.number (λ same. let c = same in omega arith) ∙ h.1, h.2)
 
-      made : Ruled {S = S} record { words = s.words; homes = s.homes; views = set s.views id (Boot (n + 1)) ++ Of (fresh n) ∷ [] }
+      made : Ruled {S = S} record { words = s.words; homes = s.homes; views = set s.views id (Maker (n + 1)) ++ Cpu (fresh n) ∷ [] }
       made = record {
         calls = r.calls;
         controls = r.controls;
-        seat = put r.seat n (length (set s.views id (Boot (n + 1))));
+        seat = put r.seat n (length (set s.views id (Maker (n + 1))));
         next = n + 1;
         wide = r.wide;
         shown = r.shown;
         each_seat = λ j u e. ⊎_elim
-            (λ (t : get_elem? (set s.views id (Boot (n + 1))) j ≡ some u). ⊎_elim
-            (λ (t : (j ≡ id) × (Boot (n + 1) ≡ u)). subst (Sits r.calls r.controls (put r.seat n (length (set s.views id (Boot (n + 1))))) (n + 1) j) t.1 (refl, t.0 ∙ mine.1))
-            (λ (t : (j ≢ id) × (get_elem? s.views j ≡ some u)). old j u t.0 t.1 (r.each_seat j u t.1)) (at_set s.views id j (Boot (n + 1)) u t))
-            (λ (t : (j ≡ length (set s.views id (Boot (n + 1)))) × (Of (fresh n) ≡ u)). subst (Sits r.calls r.controls (put r.seat n (length (set s.views id (Boot (n + 1))))) (n + 1) j) t.1
-            (omega arith, put_same r.seat n (length (set s.views id (Boot (n + 1)))) ∙ sym t.0, r.absent n (let a = mine.0 in omega arith)))
-            (at_snoc (set s.views id (Boot (n + 1))) (Of (fresh n)) u j e);
+            (λ (t : get_elem? (set s.views id (Maker (n + 1))) j ≡ some u). ⊎_elim
+            (λ (t : (j ≡ id) × (Maker (n + 1) ≡ u)). subst (SeatKnows r.calls r.controls (put r.seat n (length (set s.views id (Maker (n + 1))))) (n + 1) j) t.1 (refl, t.0 ∙ mine.1))
+            (λ (t : (j ≢ id) × (get_elem? s.views j ≡ some u)). old j u t.0 t.1 (r.each_seat j u t.1)) (at_set s.views id j (Maker (n + 1)) u t))
+            (λ (t : (j ≡ length (set s.views id (Maker (n + 1)))) × (Cpu (fresh n) ≡ u)). subst (SeatKnows r.calls r.controls (put r.seat n (length (set s.views id (Maker (n + 1))))) (n + 1) j) t.1
+            (omega arith, put_same r.seat n (length (set s.views id (Maker (n + 1)))) ∙ sym t.0, r.absent n (let a = mine.0 in omega arith)))
+            (at_snoc (set s.views id (Maker (n + 1))) (Cpu (fresh n)) u j e);
         absent = λ c l. r.absent c (let a = mine.0 in omega arith);
       }
 
   -- a seat's CPU makes a step of the machine
-  lifts : (s : State S Seated) (r : Ruled s) (id i n : ℕ) (v w : Known) (carried : List (ℕ × S)) → get_elem? s.views id ≡ some (Of v)
-      → GoesOn r.calls r.controls v.number (number_in (set s.words i n)) w → Ruled (stepped s i n id carried (Of w) keeps)
+  lifts : (s : State S SeatView) (r : Ruled s) (id i n : ℕ) (v w : Known) (carried : List (ℕ × S)) → get_elem? s.views id ≡ some (Cpu v)
+      → GoesOn r.calls r.controls v.number (number_in (set s.words i n)) w → Ruled (stepped s i n id carried (Cpu w) keeps)
   lifts s r id i n v w carried at g = record {
     calls = g.calls;
     controls = g.controls;
@@ -118,59 +118,59 @@ module _ {S : Type 0} where
     wide = length-set s.words i n ∙ r.wide;
     shown = g.shown;
     each_seat = λ j u e. ⊎_elim
-        (λ (t : (j ≡ id) × (Of w ≡ u)). subst (Sits g.calls g.controls r.seat r.next j) t.1 (subst (λ k. k < r.next) (sym g.number_is) mine.0, ap r.seat g.number_is ∙ (mine.1 ∙ sym t.0), g.mine))
-        (λ (t : (j ≢ id) × (get_elem? s.views j ≡ some u)). other j u t.0 (r.each_seat j u t.1)) (at_set s.views id j (Of w) u e);
+        (λ (t : (j ≡ id) × (Cpu w ≡ u)). subst (SeatKnows g.calls g.controls r.seat r.next j) t.1 (subst (λ k. k < r.next) (sym g.number_is) mine.0, ap r.seat g.number_is ∙ (mine.1 ∙ sym t.0), g.mine))
+        (λ (t : (j ≢ id) × (get_elem? s.views j ≡ some u)). other j u t.0 (r.each_seat j u t.1)) (at_set s.views id j (Cpu w) u e);
     absent = λ c l. g.others (fresh c) (λ e. let a = mine.0 in let b = e in omega arith) (r.absent c l);
   }
     where
-      mine : Sits r.calls r.controls r.seat r.next id (Of v)
-      mine = r.each_seat id (Of v) at
+      mine : SeatKnows r.calls r.controls r.seat r.next id (Cpu v)
+      mine = r.each_seat id (Cpu v) at
 
-      other : (j : ℕ) (u : Seated) → j ≢ id → Sits r.calls r.controls r.seat r.next j u → Sits g.calls g.controls r.seat r.next j u
-      other j (Boot k) n h = h
-      other j (Of u) n h = (h.0, h.1, g.others u (λ e. n (sym h.1 ∙ (ap r.seat e ∙ mine.1))) h.2)
+      other : (j : ℕ) (u : SeatView) → j ≢ id → SeatKnows r.calls r.controls r.seat r.next j u → SeatKnows g.calls g.controls r.seat r.next j u
+      other j (Maker k) n h = h
+      other j (Cpu u) n h = (h.0, h.1, g.others u (λ e. n (sym h.1 ∙ (ap r.seat e ∙ mine.1))) h.2)
 
-  module _ (slots id : ℕ) (me : Me S Seated) (is : IsOf me.0) where
+  module _ (slots id : ℕ) (me : Me S SeatView) (is : IsCpuSeat me.0) where
     abbrev v : Known
     v = known me.0
 
-    steps : (i : ℕ) (f : ℕ → ℕ) (then : ℕ → Me S Seated → Type 0) →
+    steps : (i : ℕ) (f : ℕ → ℕ) (then : ℕ → Me S SeatView → Type 0) →
         ((a : CallState) (control : ℕ → ControlValue) (words : List ℕ) → Shows a (number_in words) control → length words ≡ cells → Sees a control (known me.0) →
-        (w : Known) × GoesOn a control (known me.0).number (number_in (set words i (f (get_or words i 0)))) w × then (get_or words i 0) (Of w, me.1)) →
+        (w : Known) × GoesOn a control (known me.0).number (number_in (set words i (f (get_or words i 0)))) w × then (get_or words i 0) (Cpu w, me.1)) →
         Allows Ruled slots id me i f (λ n m. Lives (known m.0) × then n m)
     steps i f then go s r sized at fits =
-        let at' : get_elem? s.views id ≡ some (Of v) = at ∙ ap some is in
-        let mine : Sits r.calls r.controls r.seat r.next id (Of v) = r.each_seat id (Of v) at' in
+        let at' : get_elem? s.views id ≡ some (Cpu v) = at ∙ ap some is in
+        let mine : SeatKnows r.calls r.controls r.seat r.next id (Cpu v) = r.each_seat id (Cpu v) at' in
         let t = go r.calls r.controls s.words r.shown r.wide mine.2 in
         let lives : Lives t.0 = lives_on r.calls r.controls v.number (number_in (set s.words i (f (get_or s.words i 0)))) t.0 t.1 in
-        (Of t.0, keeps, tt, lifts s r id i (f (get_or s.words i 0)) v t.0 me.1 at' t.1, (lives, t.2))
+        (Cpu t.0, keeps, tt, lifts s r id i (f (get_or s.words i 0)) v t.0 me.1 at' t.1, (lives, t.2))
 
-    pub load_allowed : (w : Word) (i : ℕ) → cell_of w ≡ Some i → Can (known me.0) (Load w) → Allows Ruled slots id me i (λ n. n) (loaded (step slots i 0 0 none) me)
-    load_allowed w i e can = steps i (λ n. n) (LoadTells (step slots i 0 0 none) me) (λ a control words shown wide sees.
+    pub load_allowed : (w : Word) (i : ℕ) → cell_of w ≡ Some i → MayAccess (known me.0) (Load w) → Allows Ruled slots id me i (λ n. n) (loaded (step slots i 0 0 none) me)
+    load_allowed w i e can = steps i (λ n. n) (AfterLoad (step slots i 0 0 none) me) (λ a control words shown wide sees.
         let here : number_in words w ≡ get_or words i 0 = number_here words w i e in (
           known_told v act.Load w (Some (get_or words i 0)) None,
           subst (λ (x : List ℕ). GoesOn a control v.number (number_in x) (known_told v act.Load w (Some (get_or words i 0)) None)) (sym (set-get_or words i 0))
               (subst (λ n. GoesOn a control v.number (number_in words) (known_told v act.Load w (Some n) None)) here (load_step a (number_in words) control v w can shown sees)),
           λ u f. (
             record { lives = record { calls = a; at = number_in words; controls = control; shown = shown; sees = sees }; number_is = sym (number_here words u i f) },
-            ap (λ (x : Word). Of (known_told v act.Load x (Some (get_or words i 0)) None)) (one_cell w u i e f),
+            ap (λ (x : Word). Cpu (known_told v act.Load x (Some (get_or words i 0)) None)) (one_cell w u i e f),
           ),
         ))
 
-    pub store_allowed : (w : Word) (i x : ℕ) → cell_of w ≡ Some i → Can (known me.0) (Store w x) → Allows Ruled slots id me i (λ _. x) (λ _. stored (step slots i x 0 none) me x)
-    store_allowed w i x e can = steps i (λ _. x) (λ _. StoreTells (step slots i x 0 none) me x) (λ a control words shown wide sees. (
+    pub store_allowed : (w : Word) (i x : ℕ) → cell_of w ≡ Some i → MayAccess (known me.0) (Store w x) → Allows Ruled slots id me i (λ _. x) (λ _. stored (step slots i x 0 none) me x)
+    store_allowed w i x e can = steps i (λ _. x) (λ _. AfterStore (step slots i x 0 none) me x) (λ a control words shown wide sees. (
       known_told v act.Store w None (Some x),
       subst (λ (at : Word → ℕ). GoesOn a control v.number at (known_told v act.Store w None (Some x))) (sym (stored_here words w i x wide e)) (store_step a (number_in words) control v w x can shown sees),
-      λ u f. ap (λ (y : Word). Of (known_told v act.Store y None (Some x))) (one_cell w u i e f),
+      λ u f. ap (λ (y : Word). Cpu (known_told v act.Store y None (Some x))) (one_cell w u i e f),
     ))
 
     exchanged_words : (words : List ℕ) (w : Word) (i n x : ℕ) (b : Bool) → length words ≡ cells → cell_of w ≡ Some i → n ≡ get_or words i 0 → number_in (set words i (either b x n)) ≡ cond b (put_word (number_in words) w x) (number_in words)
     exchanged_words words w i n x true l e is = stored_here words w i x l e
     exchanged_words words w i n x false l e is = ap number_in (ap (set words i) is ∙ set-get_or words i 0)
 
-    pub exchange_allowed : (w : Word) (i old new : ℕ) → cell_of w ≡ Some i → Can (known me.0) (Exchange w old new) →
+    pub exchange_allowed : (w : Word) (i old new : ℕ) → cell_of w ≡ Some i → MayAccess (known me.0) (Exchange w old new) →
         Allows Ruled slots id me i (λ n. either (n == old) new n) (exchanged (step slots i old new none) me)
-    exchange_allowed w i old new e can = steps i (λ n. either (n == old) new n) (ExchangeTells (step slots i old new none) me) (λ a control words shown wide sees.
+    exchange_allowed w i old new e can = steps i (λ n. either (n == old) new n) (AfterExchange (step slots i old new none) me) (λ a control words shown wide sees.
         let n = get_or words i 0 in
         let here : number_in words w ≡ n = number_here words w i e in
         let same : (cond (number_in words w == old) (put_word (number_in words) w new) (number_in words)) ≡ number_in (set words i (either (n == old) new n)) =
@@ -179,11 +179,11 @@ module _ {S : Type 0} where
           subst (λ (at : Word → ℕ). GoesOn a control v.number at (known_told v act.Cas w (Some n) (cond (n == old) (Some new) None))) same
               (subst (λ k. GoesOn a control v.number (cond (number_in words w == old) (put_word (number_in words) w new) (number_in words)) (known_told v act.Cas w (Some k) (cond (k == old) (Some new) None))) here
               (exchange_step a (number_in words) control v w old new can shown sees)),
-          λ u f. ap (λ (x : Word). Of (known_told v act.Cas x (Some n) (cond (n == old) (Some new) None))) (one_cell w u i e f),
+          λ u f. ap (λ (x : Word). Cpu (known_told v act.Cas x (Some n) (cond (n == old) (Some new) None))) (one_cell w u i e f),
         ))
 
-    pub swap_allowed : (w : Word) (i x : ℕ) → cell_of w ≡ Some i → Can (known me.0) (Swap w x) → Allows Ruled slots id me i (λ _. x) (swapped (step slots i x 0 none) me)
-    swap_allowed w i x e can = steps i (λ _. x) (SwapTells (step slots i x 0 none) me) (λ a control words shown wide sees.
+    pub swap_allowed : (w : Word) (i x : ℕ) → cell_of w ≡ Some i → MayAccess (known me.0) (Swap w x) → Allows Ruled slots id me i (λ _. x) (swapped (step slots i x 0 none) me)
+    swap_allowed w i x e can = steps i (λ _. x) (AfterSwap (step slots i x 0 none) me) (λ a control words shown wide sees.
         let here : number_in words w ≡ get_or words i 0 = number_here words w i e in
         let q = a.queue v.number in (
           known_taking q v act.Swap w (Some (get_or words i 0)) (Some x),
@@ -191,12 +191,12 @@ module _ {S : Type 0} where
               (subst (λ n. GoesOn a control v.number (put_word (number_in words) w x) (known_taking q v act.Swap w (Some n) (Some x))) here (known_step a (number_in words) control v shown sees can.stage can.aims (Swap w x) can.is_access)),
           λ u f. (
             record { lives = record { calls = a; at = number_in words; controls = control; shown = shown; sees = sees }; number_is = sym (number_here words u i f) },
-            ap (λ (y : Word). Of (known_taking q v act.Swap y (Some (get_or words i 0)) (Some x))) (one_cell w u i e f),
+            ap (λ (y : Word). Cpu (known_taking q v act.Swap y (Some (get_or words i 0)) (Some x))) (one_cell w u i e f),
           ),
         ))
 
-pub is_of : (m : Seated) (w : Known) → m ≡ Of w → IsOf m
-is_of m w e = e ∙ ap (λ (v : Known). Of v) (sym (ap known e))
+pub is_of : (m : SeatView) (w : Known) → m ≡ Cpu w → IsCpuSeat m
+is_of m w e = e ∙ ap (λ (v : Known). Cpu v) (sym (ap known e))
 
-pub can_same : (v u : Known) (access : Access) → v ≡ u → Can u access → Can v access
-can_same v u access e can = subst (λ (x : Known). Can x access) (sym e) can
+pub can_same : (v u : Known) (access : Access) → v ≡ u → MayAccess u access → MayAccess v access
+can_same v u access e can = subst (λ (x : Known). MayAccess x access) (sym e) can

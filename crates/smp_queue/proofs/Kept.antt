@@ -12,7 +12,7 @@ use Rattle.smp_call_steps.proofs.Rows.{length-row}
 use Rattle.smp_words.proofs.Zeros.{get_or-same}
 use Rattle.smp_queue.specs.Names.{Call, Known, Posting}
 use Rattle.smp_queue.specs.Names.post
-use Rattle.smp_queue.specs.Desk.{IsCounting, uncounted, counted}
+use Rattle.smp_queue.specs.Seat.{IsCounting, uncounted, counted}
 use Rattle.smp_queue.specs.Cpu.{IsKept}
 
 pub kept_fresh : (v : Known) (number : ℕ) → v ≡ fresh number → number < cpus → IsKept v number (replicate cpus 0) (replicate cpus 0)
@@ -64,9 +64,9 @@ module _ (v : Known) (number : ℕ) (queued ran : List ℕ) (k : IsKept v number
     ran_are = k.ran_are;
   }
 
-  pub kept_if : (b : Bool) (id : ℕ) → IsKept (cond b v (confirmed_known id v)) number queued ran
-  kept_if true id = k
-  kept_if false id = kept_confirmed id
+  pub kept_unless : (b : Bool) (id : ℕ) → IsKept (cond b v (confirmed_known id v)) number queued ran
+  kept_unless true id = k
+  kept_unless false id = kept_confirmed id
 
   one_more : (n len : ℕ) → n ≡ len % 2 ^ 64 → (n + 1) % 2 ^ 64 ≡ (len + 1) % 2 ^ 64
   one_more n len e = omega arith

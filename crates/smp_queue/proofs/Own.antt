@@ -17,10 +17,10 @@ use Rattle.smp_queue.specs.Names.post
 use Rattle.smp_words.specs.declared.command.Command.TheVariants as command
 use Rattle.smp_mask.specs.declared.error.SmpError.{SmpError}
 use Rattle.smp_queue.specs.Cells.{cells}
-use Rattle.smp_queue.specs.Desk.{Desk, At, IsMine, uncounted, counted}
+use Rattle.smp_queue.specs.Seat.{SeatValue, OwnsRecord, IsMine, uncounted, counted}
 use Rattle.smp_queue.specs.Cpu.{CpuValue, IsKept, cpu_of, confirms, posts}
 
-pub at_own : (table : TableId) (d : Desk) (number k id : ℕ) (queued ran : List ℕ) → IsKept d.known number queued ran → d.table ≡ table → table.words ≡ cells → k < records_of_one → id ≡ record_of number k → At table d id
+pub at_own : (table : TableId) (d : SeatValue) (number k id : ℕ) (queued ran : List ℕ) → IsKept d.known number queued ran → d.table ≡ table → table.words ≡ cells → k < records_of_one → id ≡ record_of number k → OwnsRecord table d id
 at_own table d number k id queued ran m is sized l e =
     let n = m.number_is in
     let b = m.below in
@@ -61,7 +61,7 @@ abbrev with_call : Posting → Bool → CpuValue → CpuValue
 with_call p first c = record c { part = part_queued (posted p) p.to first c.part }
 
 -- a CPU whose record k was just seen confirmed, and the call that it posts by it
-pub record Begun (table : TableId) (d : Desk) (number k to func info : ℕ) (class : Class) (queued ran : List ℕ) (old new : CpuValue) (p : Posting) : Type 0 where
+pub record Begun (table : TableId) (d : SeatValue) (number k to func info : ℕ) (class : Class) (queued ran : List ℕ) (old new : CpuValue) (p : Posting) : Type 0 where
   pub kept : IsKept d.known number queued ran
   pub view : cpu_of d ≡ new
   pub confirmed : new ≡ confirms k old
@@ -69,7 +69,7 @@ pub record Begun (table : TableId) (d : Desk) (number k to func info : ℕ) (cla
   pub table_is : old.table ≡ table
   pub small : k < records_of_one
 
-module _ (table : TableId) (d : Desk) (number k to func info : ℕ) (class : Class) (queued ran : List ℕ) (old new : CpuValue) (p : Posting) (b : Begun table d number k to func info class queued ran old new p) where
+module _ (table : TableId) (d : SeatValue) (number k to func info : ℕ) (class : Class) (queued ran : List ℕ) (old new : CpuValue) (p : Posting) (b : Begun table d number k to func info class queued ran old new p) where
   seen : cpu_of d ≡ confirms k old
   seen = b.view ∙ b.confirmed
 
@@ -79,7 +79,7 @@ module _ (table : TableId) (d : Desk) (number k to func info : ℕ) (class : Cla
   id_is : p.id ≡ record_of number k
   id_is = ap (λ (x : Posting). x.id) b.posting ∙ ap (λ (n : ℕ). record_of n k) same_number
 
-  pub begun_at : table.words ≡ cells → At table d p.id
+  pub begun_at : table.words ≡ cells → OwnsRecord table d p.id
   begun_at sized = at_own table d number k p.id queued ran b.kept (ap (λ (c : CpuValue). c.table) seen ∙ b.table_is) sized b.small id_is
 
   pub begun_mine : (nr online : ℕ) → table.words ≡ cells → AreLimits nr online → has online to ≡ true → func < 2 ^ 16 → info < 2 ^ 64 → IsMine table d p
@@ -102,13 +102,13 @@ module _ (table : TableId) (d : Desk) (number k to func info : ℕ) (class : Cla
       ap (λ (xs : List Bool). get_or xs p.id false) same ∙ (ap (λ (n : ℕ). get_or (set old.part.confirmed (record_of old.number k) true) n false) id ∙ get_or-set_same old.part.confirmed (record_of old.number k) true false (omega arith))
 
   -- its call is queued
-  pub begun_posts : (d' : Desk) (w : Known) (first : Bool) → d'.table ≡ table → w ≡ standing (uncounted p) post.Count d.known →
+  pub begun_posts : (d' : SeatValue) (w : Known) (first : Bool) → d'.table ≡ table → w ≡ standing (uncounted p) post.Count d.known →
       d'.known ≡ queued_known (posted p) p.to first w → cpu_of d' ≡ posts k to class func info first old
   begun_posts d' w first is stands appended =
       let id = record_of old.number k in
       let p' : Posting = posting_of id class func info to in
       let known : d'.known ≡ queued_known (posted p) p.to first d.known = appended ∙ ap (queued_known (posted p) p.to first) stands in
       let same_table : d'.table ≡ d.table = is ∙ sym (ap (λ (c : CpuValue). c.table) seen ∙ b.table_is) in
-      let desk : cpu_of d' ≡ with_call p first (cpu_of d) = λ i. cpu_of (record { table = same_table i; known = known i }) in
-      desk ∙ (ap (with_call p first) seen ∙ (ap (λ (q : Posting). with_call q first (confirms k old)) b.posting ∙
+      let seat : cpu_of d' ≡ with_call p first (cpu_of d) = λ i. cpu_of (record { table = same_table i; known = known i }) in
+      seat ∙ (ap (with_call p first) seen ∙ (ap (λ (q : Posting). with_call q first (confirms k old)) b.posting ∙
       (λ i. record old { part = record (part_queued (posted p') to first old.part) { confirmed = set_twice old.part.confirmed id true false i } })))

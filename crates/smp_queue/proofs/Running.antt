@@ -12,7 +12,7 @@ use Rattle.smp_call_steps.specs.Handling.{begun_async, ended_call, rest_of}
 use Rattle.smp_words.proofs.Sizes.{owner-below}
 use Rattle.smp_call_steps.proofs.Tallies.{count-same, count-other}
 use Rattle.smp_queue.specs.Cpu.{CpuValue, cpu_of}
-use Rattle.smp_queue.specs.Desk.{Desk, InHandle}
+use Rattle.smp_queue.specs.Seat.{SeatValue, InHandle}
 use Rattle.smp_queue.specs.Handling.{heard_of, AreRan, runs, HasRun, HasRunAll}
 
 -- a call that runs is not counted yet
@@ -38,7 +38,7 @@ more_ran counts counts' v w call a in_range ran is = rw is (record {
 })
 
 -- a call has begun and ended
-module _ {H : Type 0} (leads : H → Heard → H → Type 0) (t : TableId) (s s' : Desk) (stage : HandleStage) (call : Call) (next : Option ℕ) (rest : List Call) (counts counts' : List ℕ) (before after : H) where
+module _ {H : Type 0} (leads : H → Heard → H → Type 0) (t : TableId) (s s' : SeatValue) (stage : HandleStage) (call : Call) (next : Option ℕ) (rest : List Call) (counts counts' : List ℕ) (before after : H) where
   pub has_run : s.table ≡ t → AreRan counts s.known → call.id < records → s.known.part.batch ≡ call ∷ rest → s'.known ≡ ended_call stage call (begun_async call next s.known) →
       InHandle t s' stage → counts' ≡ set counts (owner call.id) ((get_or counts (owner call.id) 0 + 1) % 2 ^ 64) → leads before (heard_of call) after →
       HasRun leads t s s' stage call counts' before after
@@ -56,7 +56,7 @@ pub more_calls : (calls more : List Call) (now : Part) (c : CpuValue) → record
 more_calls calls more now c = λ i. record c { part = record (c.part) { batch = now.batch; running = now.running; ran = append_assoc c.part.ran calls more i } }
 
 -- one call more after some
-pub more_run : {H : Type 0} (leads : H → Heard → H → Type 0) (t : TableId) (before d d' : Desk) (stage : HandleStage) (counts counts' : List ℕ) (first now now' : H) (call : Call) →
+pub more_run : {H : Type 0} (leads : H → Heard → H → Type 0) (t : TableId) (before d d' : SeatValue) (stage : HandleStage) (counts counts' : List ℕ) (first now now' : H) (call : Call) →
     HasRunAll leads before d counts first now → HasRun leads t d d' stage call counts' now now' → HasRunAll leads before d' counts' first now'
 more_run {H} leads t before d d' stage counts counts' first now now' call r h = record {
   calls = r.calls ++ call ∷ [];

@@ -7,23 +7,23 @@ use Rattle.smp_mask.specs.Mask.{has}
 use Rattle.smp_words.specs.Limits.{AreLimits}
 use Rattle.smp_queue.specs.Cells.{cells}
 use Rattle.smp_queue.specs.Cpu.{CpuValue, fresh_cpu, IsFull}
-use Rattle.smp_queue.specs.Names.{Seated, Boot}
+use Rattle.smp_queue.specs.Names.{SeatView, Maker}
 
 -- the CPUs below n have a seat, and of these the ones online are kept
-pub record Seats (table boot_table : TableId) (boot : Seated) (online n : ℕ) (waiting : List (Option CpuValue)) : Type 0 where
+pub record AreSeated (table maker_table : TableId) (maker : SeatView) (online n : ℕ) (waiting : List (Option CpuValue)) : Type 0 where
   pub sized : table.words ≡ cells
-  pub boot_is : boot_table ≡ table
-  pub next : boot ≡ Boot n
+  pub maker_is : maker_table ≡ table
+  pub next : maker ≡ Maker n
   pub count : length waiting ≡ n
   pub each : (cpu : ℕ) → cpu < n → get_or waiting cpu None ≡ cond (has online cpu) (Some (fresh_cpu table cpu)) None
 
-pub seats_more : (table boot_table boot_table' : TableId) (boot boot' : Seated) (online n : ℕ) (waiting waiting' : List (Option CpuValue)) (x : Option CpuValue) → Seats table boot_table boot online n waiting →
-    boot_table' ≡ table → boot' ≡ Boot (n + 1) → waiting' ≡ waiting ++ x ∷ [] → x ≡ cond (has online n) (Some (fresh_cpu table n)) None → Seats table boot_table' boot' online (n + 1) waiting'
-seats_more table boot_table boot_table' boot boot' online n waiting waiting' x s is next pushed kept =
+pub seats_more : (table maker_table maker_table' : TableId) (maker maker' : SeatView) (online n : ℕ) (waiting waiting' : List (Option CpuValue)) (x : Option CpuValue) → AreSeated table maker_table maker online n waiting →
+    maker_table' ≡ table → maker' ≡ Maker (n + 1) → waiting' ≡ waiting ++ x ∷ [] → x ≡ cond (has online n) (Some (fresh_cpu table n)) None → AreSeated table maker_table' maker' online (n + 1) waiting'
+seats_more table maker_table maker_table' maker maker' online n waiting waiting' x s is next pushed kept =
     let count : length waiting ≡ n = s.count in
     rw pushed (record {
       sized = s.sized;
-      boot_is = is;
+      maker_is = is;
       next = next;
       count = length-append waiting (x ∷ []) ∙ omega arith;
       each = λ cpu l. elim (cases_eq cpu n) [
@@ -33,9 +33,9 @@ seats_more table boot_table boot_table' boot boot' online n waiting waiting' x s
     })
 
 -- once all are seated, all that are online are left
-pub seats_full : (table boot_table : TableId) (boot : Seated) (nr online n : ℕ) (waiting : List (Option CpuValue)) → AreLimits nr online → nr ≤ n → Seats table boot_table boot online n waiting →
+pub seats_full : (table maker_table : TableId) (maker : SeatView) (nr online n : ℕ) (waiting : List (Option CpuValue)) → AreLimits nr online → nr ≤ n → AreSeated table maker_table maker online n waiting →
     IsFull (record { online = online; cpus_left = waiting }) table online
-seats_full table boot_table boot nr online n waiting limits all s = record {
+seats_full table maker_table maker nr online n waiting limits all s = record {
   online_is = refl;
   fresh_are = λ cpu e. let below = limits.below cpu e in s.each cpu (omega arith) ∙ ap (λ (b : Bool). cond b (Some (fresh_cpu table cpu)) None) e;
 }

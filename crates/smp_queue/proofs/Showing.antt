@@ -3,10 +3,10 @@ use Rattle.std.proofs.Common.{sym}
 use Rattle.smp_call_steps.specs.Known.{Lives}
 use Rattle.smp_call_steps.proofs.Counts.{confirmed_calls_ran}
 use Rattle.smp_queue.specs.Cpu.{cpu_of}
-use Rattle.smp_queue.specs.Desk.{Desk}
+use Rattle.smp_queue.specs.Seat.{SeatValue}
 use Rattle.smp_queue.specs.Laws.{IsShown}
 
-pub is_shown : (d : Desk) → Lives d.known → IsShown (cpu_of d)
+pub is_shown : (d : SeatValue) → Lives d.known → IsShown (cpu_of d)
 is_shown d l = record {
   calls = l.calls;
   at = l.at;

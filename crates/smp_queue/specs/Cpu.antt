@@ -11,7 +11,7 @@ use Rattle.smp_call_steps.specs.Calls.{CallState, no_calls}
 use Rattle.smp_call_steps.specs.Parts.{part_of, part_confirmed, part_sent, part_queued}
 use Rattle.smp_queue.specs.Names.{Class, Known, Part, Posting}
 use Rattle.smp_call_steps.specs.Known.{posting_of}
-use Rattle.smp_queue.specs.Desk.{Desk}
+use Rattle.smp_queue.specs.Seat.{SeatValue}
 
 -- a table: its name, how many CPUs it has, and those online
 pub record TableValue : Type 0 where
@@ -26,7 +26,7 @@ pub record CpuValue : Type 0 where
   pub part : Part
 
 -- what a CPU knows, as contracts see it
-abbrev pub cpu_of : Desk → CpuValue
+abbrev pub cpu_of : SeatValue → CpuValue
 cpu_of d = record { table = d.table; number = d.known.number; part = d.known.part }
 
 -- a CPU of these calls

@@ -8,7 +8,7 @@ use Rattle.smp_queue.specs.Names.{Call, Known, Part, Nothing, HandleStage, Heard
 use Rattle.smp_call_steps.specs.Histories.{calls_from}
 use Rattle.smp_call_steps.specs.Parts.{part_accepted, part_taken}
 use Rattle.smp_queue.specs.Cpu.{CpuValue, cpu_of}
-use Rattle.smp_queue.specs.Desk.{Desk, InHandle}
+use Rattle.smp_queue.specs.Seat.{SeatValue, InHandle}
 
 abbrev pub heard : ℕ → ℕ → ℕ → Heard
 heard src func info = record { src = src; func = func; info = info }
@@ -39,7 +39,7 @@ abbrev pub runs : List Call → Part → CpuValue → CpuValue
 runs calls now c = record c { part = record (c.part) { batch = now.batch; running = now.running; ran = c.part.ran ++ calls } }
 
 -- a CPU inside handle has run this call, and its handler has heard it
-pub record HasRun {H : Type 0} (leads : H → Heard → H → Type 0) (table : TableId) (old new : Desk) (stage : HandleStage) (call : Call) (counts : List ℕ) (before after : H) : Type 0 where
+pub record HasRun {H : Type 0} (leads : H → Heard → H → Type 0) (table : TableId) (old new : SeatValue) (stage : HandleStage) (call : Call) (counts : List ℕ) (before after : H) : Type 0 where
   pub at : InHandle table new stage
   pub drain : new.known.drain ≡ old.known.drain
   pub batch : old.known.part.batch ≡ call ∷ new.known.part.batch
@@ -48,7 +48,7 @@ pub record HasRun {H : Type 0} (leads : H → Heard → H → Type 0) (table : T
   pub heard_it : leads before (heard_of call) after
 
 -- a CPU inside handle has run some calls, and its handler has heard them
-pub record HasRunAll {H : Type 0} (leads : H → Heard → H → Type 0) (old new : Desk) (counts : List ℕ) (before after : H) : Type 0 where
+pub record HasRunAll {H : Type 0} (leads : H → Heard → H → Type 0) (old new : SeatValue) (counts : List ℕ) (before after : H) : Type 0 where
   pub calls : List Call
   pub drain : new.known.drain ≡ old.known.drain
   pub cpu : cpu_of new ≡ runs calls new.known.part (cpu_of old)

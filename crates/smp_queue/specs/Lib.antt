@@ -6,7 +6,7 @@ pub mod Cells
 pub mod Rule
 pub mod Plays
 -- a CPU at the table
-pub mod Desk
+pub mod Seat
 pub mod Cpu
 pub mod Table
 -- what an audit answers

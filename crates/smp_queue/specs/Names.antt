@@ -19,8 +19,8 @@ pub use Rattle.smp_call_steps.specs.declared.handle.HandleStage.TheVariants as h
 pub use Rattle.smp_call_steps.specs.declared.stage.Stage.{Stage}
 pub use Rattle.smp_call_steps.specs.declared.stage.Stage.TheVariants.{Send, Done, Post, Handle}
 pub use Rattle.smp_queue.specs.declared.handler.Heard.{Heard}
-pub use Rattle.smp_queue.specs.declared.seated.Seated.{Seated}
-pub use Rattle.smp_queue.specs.declared.seated.Seated.TheVariants.{Boot, Of}
+pub use Rattle.smp_queue.specs.declared.seat_view.SeatView.{SeatView}
+pub use Rattle.smp_queue.specs.declared.seat_view.SeatView.TheVariants.{Maker, Cpu}
 pub use Rattle.smp_queue.specs.declared.audit.Left.{Left}
 pub use Rattle.smp_queue.specs.declared.audit.Tally.{Tally}
 pub use Rattle.smp_queue.specs.declared.audit.Audit.{Audit}

@@ -1,6 +1,6 @@
 use Rattle.std.proofs.Common.{◌≡◌, ◌∙◌, ℕ, [], List, replicate, sym, subst}
 use Rattle.atomic_table.specs.Table.{opening}
-use Rattle.smp_queue.specs.Names.{Boot}
+use Rattle.smp_queue.specs.Names.{Maker}
 use Rattle.smp_queue.specs.Cells.{cells}
 use Rattle.smp_queue.specs.Rule.{RuledFor}
 use Rattle.smp_queue.proofs.Below.{starts_below}
@@ -10,4 +10,4 @@ pub of_words-requires : goal.of_words-requires
 of_words-requires g c =
     let zeros = c.in_ok-words.ensures.items_if_clones_equal (λ y h. h) in
     let same : c.as_slice.result.now ≡ replicate cells 0 = c.as_slice.ensures.value ∙ zeros in
-    subst (λ (ws : List ℕ). RuledFor c.args.nr (opening ws [] (Boot 0))) (sym same) (starts_below c.args.nr)
+    subst (λ (ws : List ℕ). RuledFor c.args.nr (opening ws [] (Maker 0))) (sym same) (starts_below c.args.nr)

@@ -6,26 +6,26 @@ use Rattle.smp_words.specs.Size.{cpus, records, owner}
 use Rattle.smp_call_steps.specs.Places.{IsCall}
 use Rattle.smp_call_steps.specs.Histories.{sent_to}
 use Rattle.smp_call_steps.specs.Stands.{posted}
-use Rattle.smp_call_steps.specs.Known.{Aims, known_access, fresh, posting_of, Lives}
-use Rattle.smp_queue.specs.Names.{Word, Access, Store, Known, Posting, HandleStage, Stage, Post, Handle, Seated, Of}
+use Rattle.smp_call_steps.specs.Known.{MayStep, known_access, fresh, posting_of, Lives}
+use Rattle.smp_queue.specs.Names.{Word, Access, Store, Known, Posting, HandleStage, Stage, Post, Handle, SeatView, Cpu}
 use Rattle.smp_queue.specs.Names.post
 use Rattle.smp_queue.specs.Names.handle
 use Rattle.smp_queue.specs.Cells.{cells, HasCell}
 use Rattle.smp_queue.specs.Rule.{known}
 
 -- the table that a CPU sits at, and what it knows
-pub record Desk : Type 0 where
+pub record SeatValue : Type 0 where
   pub table : TableId
   pub known : Known
 
 -- the seat of a CPU
-abbrev pub IsOf : Seated → Type 0
-IsOf v = v ≡ Of (known v)
+abbrev pub IsCpuSeat : SeatView → Type 0
+IsCpuSeat v = v ≡ Cpu (known v)
 
 -- a CPU that knows this may make this access
-pub record Can (v : Known) (access : Access) : Type 0 where
+pub record MayAccess (v : Known) (access : Access) : Type 0 where
   pub stage : Stage
-  pub aims : Aims v stage
+  pub aims : MayStep v stage
   pub is_access : known_access v stage ≡ access
 
 -- a stage at which no call begins, is counted or ends
@@ -38,44 +38,44 @@ IsApartFromCalls (Handle (handle.CountAsync call next)) = ⊥
 IsApartFromCalls _ = Unit {0}
 
 -- a CPU may make this access at this table, which begins, counts and ends no call
-pub record Ready (table : TableId) (desk : Desk) (access : Access) : Type 0 where
-  pub table_is : desk.table ≡ table
+pub record Ready (table : TableId) (seat : SeatValue) (access : Access) : Type 0 where
+  pub table_is : seat.table ≡ table
   pub sized : table.words ≡ cells
-  pub can : Can desk.known access
+  pub can : MayAccess seat.known access
   pub apart : IsApartFromCalls can.stage
   pub cell : HasCell (word_of access)
 
 -- a CPU of this number outside a command
-pub record IsOutside (table : TableId) (desk : Desk) (number : ℕ) : Type 0 where
-  pub table_is : desk.table ≡ table
+pub record IsOutside (table : TableId) (seat : SeatValue) (number : ℕ) : Type 0 where
+  pub table_is : seat.table ≡ table
   pub sized : table.words ≡ cells
-  pub number_is : desk.known.number ≡ number
+  pub number_is : seat.known.number ≡ number
   pub below : number < cpus
-  pub stage_is : desk.known.stage ≡ None
+  pub stage_is : seat.known.stage ≡ None
 
 -- a CPU inside handle, at this step of it
-pub record InHandle (table : TableId) (desk : Desk) (stage : HandleStage) : Type 0 where
-  pub table_is : desk.table ≡ table
+pub record InHandle (table : TableId) (seat : SeatValue) (stage : HandleStage) : Type 0 where
+  pub table_is : seat.table ≡ table
   pub sized : table.words ≡ cells
-  pub stage_is : desk.known.stage ≡ Some (Handle stage)
-  pub lives : Lives desk.known
+  pub stage_is : seat.known.stage ≡ Some (Handle stage)
+  pub lives : Lives seat.known
 
 -- a step inside handle that stores this number in this word
-pub record IsStepOfCall (table : TableId) (desk : Desk) (word : Word) (number : ℕ) : Type 0 where
+pub record IsStepOfCall (table : TableId) (seat : SeatValue) (word : Word) (number : ℕ) : Type 0 where
   pub stage : HandleStage
-  pub at : InHandle table desk stage
-  pub is_access : known_access desk.known (Handle stage) ≡ Store word number
+  pub at : InHandle table seat stage
+  pub is_access : known_access seat.known (Handle stage) ≡ Store word number
 
 -- a CPU that has done nothing
-abbrev pub fresh_desk : TableId → ℕ → Desk
-fresh_desk table cpu = record { table = table; known = fresh cpu }
+abbrev pub fresh_seat : TableId → ℕ → SeatValue
+fresh_seat table cpu = record { table = table; known = fresh cpu }
 
 -- a seat at this table, whose CPU owns this record
-pub record At (table : TableId) (desk : Desk) (id : ℕ) : Type 0 where
-  pub table_is : desk.table ≡ table
+pub record OwnsRecord (table : TableId) (seat : SeatValue) (id : ℕ) : Type 0 where
+  pub table_is : seat.table ≡ table
   pub sized : table.words ≡ cells
-  pub me_in_range : desk.known.number < cpus
-  pub owned : owner id ≡ desk.known.number
+  pub me_in_range : seat.known.number < cpus
+  pub owned : owner id ≡ seat.known.number
   pub in_range : id < records
 
 -- the call that a post is queueing, not counted yet
@@ -87,8 +87,8 @@ abbrev pub counted : Posting → Posting
 counted p = posting_of p.id p.class p.func p.info p.to
 
 -- the record of a call is its CPU's own, and its numbers fit
-pub record IsMine (table : TableId) (desk : Desk) (p : Posting) : Type 0 where
-  pub at : At table desk p.id
+pub record IsMine (table : TableId) (seat : SeatValue) (p : Posting) : Type 0 where
+  pub at : OwnsRecord table seat p.id
   pub is_call : IsCall (posted p)
   pub to_in_range : p.to < cpus
 

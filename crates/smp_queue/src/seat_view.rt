@@ -3,8 +3,8 @@
 use smp_call_steps::known::Known;
 
 /// What a seat knows: the first seat how many CPUs have one, each other its CPU's part of the calls.
-pub enum Seated {
+pub enum SeatView {
     /// The CPUs below this number have a seat.
-    Boot(u32),
-    Of(Known),
+    Maker(u32),
+    Cpu(Known),
 }
