@@ -3,22 +3,19 @@ use Rattle.std.proofs.Common.{◌≡◌, ℕ, zero, suc, ◌^◌, ◌<◌, Bool,
 use Rattle.std.proofs.lemmas.Bool.{or_parts, ltb-true}
 use Rattle.std.proofs.lemmas.List.{get_or-set_same}
 use Rattle.atomic_table.specs.Seated.{TableId}
-use Rattle.smp_mask.specs.Mask.{has}
-use Rattle.smp_words.specs.Size.{cpus, records, records_of_one, record_of}
-use Rattle.smp_words.specs.Limits.{AreLimits}
+use Rattle.smp_words.specs.Size.{cpus, records, records_of_one, record_of, owner}
 use Rattle.smp_call_steps.specs.Start.{command_refusal}
 use Rattle.smp_call_steps.specs.Stands.{posted}
 use Rattle.smp_call_steps.specs.Parts.{part_queued}
-use Rattle.smp_call_steps.specs.Known.{posting_of, standing, queued_known, is_confirmed}
+use Rattle.smp_call_steps.specs.Known.{posting_of, standing, confirmed_known, queued_known}
 use Rattle.smp_words.proofs.Sizes.{owner-of_record, record_of-below}
-use Rattle.smp_call_steps.proofs.Starts.{online_below}
 use Rattle.smp_queue.specs.Names.{Class, Known, Posting}
 use Rattle.smp_queue.specs.Names.post
 use Rattle.smp_words.specs.declared.command.Command.TheVariants as command
 use Rattle.smp_mask.specs.declared.error.SmpError.{SmpError}
 use Rattle.smp_queue.specs.Cells.{cells}
-use Rattle.smp_queue.specs.Seat.{SeatValue, OwnsRecord, IsMine, uncounted, counted}
-use Rattle.smp_queue.specs.Cpu.{CpuValue, IsKept, cpu_of, confirms, posts}
+use Rattle.smp_queue.specs.Seat.{SeatValue, OwnsRecord, IsMine, uncounted}
+use Rattle.smp_queue.specs.Cpu.{CpuValue, IsKept, MayQueue, cpu_of, confirms, posts}
 
 pub at_own : (table : TableId) (d : SeatValue) (number k id : ℕ) (queued ran : List ℕ) → IsKept d.known number queued ran → d.table ≡ table → table.words ≡ cells → k < records_of_one → id ≡ record_of number k → OwnsRecord table d id
 at_own table d number k id queued ran m is sized l e =
@@ -51,64 +48,49 @@ small_record k to number tries fits e =
 pub allowed_record : (nr online number k to func info tries : ℕ) (class : Class) → command_refusal nr online number (command.Post k to class func info tries) ≡ None → k < records_of_one
 allowed_record nr online number k to func info tries class e = small_record k to number tries _ (then_none _ _ e)
 
+-- once a CPU's record k is seen confirmed, it may queue a call by it
+pub may_queue : (s s' : SeatValue) (number k id to func info : ℕ) (class : Class) (queued ran : List ℕ) → IsKept s.known number queued ran → k < records_of_one → id ≡ record_of number k →
+    to < cpus → func < 2 ^ 16 → info < 2 ^ 64 → s'.known ≡ confirmed_known id s.known → MayQueue (cpu_of s') (posting_of id class func info to)
+may_queue s s' number k id to func info class queued ran m l e below f i known =
+    let n : s'.known.number ≡ number = ap (λ (u : Known). u.number) known ∙ m.number_is in
+    let b = m.below in
+    let sized = m.records_sized in
+    let range = record_of-below number k b l in
+    let in_range : id < records = omega arith in
+    record {
+      below = omega arith;
+      owned = ap owner e ∙ (owner-of_record number k b l ∙ sym n);
+      is_call = record { in_range = in_range; func = f; info = i };
+      to_in_range = below;
+      confirmed = ap (λ (u : Known). get_or u.part.confirmed id false) known ∙ get_or-set_same s.known.part.confirmed id true false (omega arith);
+    }
+
+-- the record is the CPU's own, as its seat shows
+pub mine_of : (table : TableId) (s : SeatValue) (c : CpuValue) (p : Posting) → cpu_of s ≡ c → c.table ≡ table → table.words ≡ cells → MayQueue c p → IsMine table s p
+mine_of table s c p view is sized m =
+    let n : s.known.number ≡ c.number = ap (λ (x : CpuValue). x.number) view in
+    let below = m.below in
+    let call = m.is_call in
+    record {
+      at = record { table_is = ap (λ (x : CpuValue). x.table) view ∙ is; sized = sized; me_in_range = omega arith; owned = m.owned ∙ sym n; in_range = call.in_range };
+      is_call = call;
+      to_in_range = m.to_in_range;
+    }
+
 set_twice : {A : Type 0} (xs : List A) (i : ℕ) (x y : A) → set (set xs i x) i y ≡ set xs i y
 set_twice [] i x y = refl
 set_twice (z ∷ zs) zero x y = refl
 set_twice (z ∷ zs) (suc i) x y = ap (λ (ws : List _). z ∷ ws) (set_twice zs i x y)
 
--- a CPU that has queued the call of this post
-abbrev with_call : Posting → Bool → CpuValue → CpuValue
-with_call p first c = record c { part = part_queued (posted p) p.to first c.part }
-
--- a CPU whose record k was just seen confirmed, and the call that it posts by it
-pub record Begun (table : TableId) (d : SeatValue) (number k to func info : ℕ) (class : Class) (queued ran : List ℕ) (old new : CpuValue) (p : Posting) : Type 0 where
-  pub kept : IsKept d.known number queued ran
-  pub view : cpu_of d ≡ new
-  pub confirmed : new ≡ confirms k old
-  pub posting : p ≡ posting_of (record_of old.number k) class func info to
-  pub table_is : old.table ≡ table
-  pub small : k < records_of_one
-
-module _ (table : TableId) (d : SeatValue) (number k to func info : ℕ) (class : Class) (queued ran : List ℕ) (old new : CpuValue) (p : Posting) (b : Begun table d number k to func info class queued ran old new p) where
-  seen : cpu_of d ≡ confirms k old
-  seen = b.view ∙ b.confirmed
-
-  same_number : old.number ≡ number
-  same_number = sym (ap (λ (c : CpuValue). c.number) seen) ∙ b.kept.number_is
-
-  id_is : p.id ≡ record_of number k
-  id_is = ap (λ (x : Posting). x.id) b.posting ∙ ap (λ (n : ℕ). record_of n k) same_number
-
-  pub begun_at : table.words ≡ cells → OwnsRecord table d p.id
-  begun_at sized = at_own table d number k p.id queued ran b.kept (ap (λ (c : CpuValue). c.table) seen ∙ b.table_is) sized b.small id_is
-
-  pub begun_mine : (nr online : ℕ) → table.words ≡ cells → AreLimits nr online → has online to ≡ true → func < 2 ^ 16 → info < 2 ^ 64 → IsMine table d p
-  begun_mine nr online sized limits is_online f i =
-      let a = begun_at sized in
-      let below : to < cpus = online_below nr online to limits is_online in
-      record {
-        at = a;
-        is_call = record { in_range = a.in_range; func = subst (λ (n : ℕ). n < 2 ^ 16) (sym (ap (λ (x : Posting). x.func) b.posting)) f; info = subst (λ (n : ℕ). n < 2 ^ 64) (sym (ap (λ (x : Posting). x.info) b.posting)) i };
-        to_in_range = subst (λ (n : ℕ). n < cpus) (sym (ap (λ (x : Posting). x.to) b.posting)) below;
-      }
-
-  pub begun_confirmed : is_confirmed d.known p.id ≡ true
-  begun_confirmed =
-      let same : d.known.part.confirmed ≡ set old.part.confirmed (record_of old.number k) true = ap (λ (c : CpuValue). c.part.confirmed) seen in
-      let sized : length old.part.confirmed ≡ records = sym (length-set old.part.confirmed (record_of old.number k) true) ∙ (sym (ap length same) ∙ b.kept.records_sized) in
-      let l : record_of number k < records = record_of-below number k b.kept.below b.small in
-      let l2 : record_of old.number k < records = subst (λ (n : ℕ). record_of n k < records) (sym same_number) l in
-      let id : p.id ≡ record_of old.number k = ap (λ (x : Posting). x.id) b.posting in
-      ap (λ (xs : List Bool). get_or xs p.id false) same ∙ (ap (λ (n : ℕ). get_or (set old.part.confirmed (record_of old.number k) true) n false) id ∙ get_or-set_same old.part.confirmed (record_of old.number k) true false (omega arith))
-
-  -- its call is queued
-  pub begun_posts : (d' : SeatValue) (w : Known) (first : Bool) → d'.table ≡ table → w ≡ standing (uncounted p) post.Count d.known →
-      d'.known ≡ queued_known (posted p) p.to first w → cpu_of d' ≡ posts k to class func info first old
-  begun_posts d' w first is stands appended =
-      let id = record_of old.number k in
-      let p' : Posting = posting_of id class func info to in
-      let known : d'.known ≡ queued_known (posted p) p.to first d.known = appended ∙ ap (queued_known (posted p) p.to first) stands in
-      let same_table : d'.table ≡ d.table = is ∙ sym (ap (λ (c : CpuValue). c.table) seen ∙ b.table_is) in
-      let seat : cpu_of d' ≡ with_call p first (cpu_of d) = λ i. cpu_of (record { table = same_table i; known = known i }) in
-      seat ∙ (ap (with_call p first) seen ∙ (ap (λ (q : Posting). with_call q first (confirms k old)) b.posting ∙
-      (λ i. record old { part = record (part_queued (posted p') to first old.part) { confirmed = set_twice old.part.confirmed id true false i } })))
+-- what a CPU leaves that has queued the call of this post
+pub posts_then : (s s' : SeatValue) (w : Known) (old new : CpuValue) (k to func info : ℕ) (class : Class) (p : Posting) (first : Bool) → cpu_of s ≡ new → new ≡ confirms k old →
+    p ≡ posting_of (record_of old.number k) class func info to → s'.table ≡ old.table → w ≡ standing (uncounted p) post.Count s.known → s'.known ≡ queued_known (posted p) p.to first w →
+    cpu_of s' ≡ posts k to class func info first old
+posts_then s s' w old new k to func info class p first view confirmed posting table stands queued =
+    let id = record_of old.number k in
+    let call : Posting = posting_of id class func info to in
+    let seen : cpu_of s ≡ confirms k old = view ∙ confirmed in
+    let known : s'.known ≡ queued_known (posted p) p.to first s.known = queued ∙ ap (queued_known (posted p) p.to first) stands in
+    (λ i. cpu_of (record { table = table i; known = known i })) ∙
+    ((λ i. record { table = old.table; number = (seen i).number; part = part_queued (posted (posting i)) (posting i).to first (seen i).part }) ∙
+    (λ i. record old { part = record (part_queued (posted call) to first old.part) { confirmed = set_twice old.part.confirmed id true false i } }))
