@@ -2,12 +2,11 @@
 use Rattle.std.proofs.Common.{◌≡◌, ℕ, ◌<◌, ◌≤◌, Bool, true, false, ◌==◌, nat_lt, cond, Option, Some, None, List, length, refl, ap, arith}
 use Rattle.std.proofs.lemmas.List.{get_or-set_same, get_or-set_other, get_or_past, length-set}
 use Rattle.std.proofs.lemmas.Bool.{ltb-true, ltb-false}
-use Rattle.std.specs.Int.Bits.{bit_and}
 use Rattle.std.specs.Prelude.{slice_set}
 use Rattle.smp_words.specs.Size.{cpus, table_size}
 use Rattle.smp_words.specs.Put.{put, put_word}
 use Rattle.smp_words.specs.Layout.{index_of, number_in, put_in, put_at}
-use Rattle.smp_words.specs.Access.{word_of, one_less, at_after, words_after, seen_of}
+use Rattle.smp_words.specs.Access.{word_of, put_by, put_if, at_after, words_after, seen_of}
 use Rattle.smp_call_steps.specs.Calls.{CallState, tells}
 use Rattle.smp_call_steps.specs.Stages.{ControlValue, access_of, outcome_of, control_after}
 use Rattle.smp_call_steps.specs.Value.{ValuesShow, control_of, outside}
@@ -15,38 +14,27 @@ use Rattle.smp_call_steps.proofs.Accesses.{access_in_table}
 use Rattle.smp_call_steps.proofs.Every.{step_shown}
 use Rattle.smp_words.proofs.Links.{HasIndex, number_in-put_in}
 use Rattle.smp_words.proofs.Puts.{at_test}
-use Rattle.smp_call_steps.specs.Names.{Word, Access, Load, Store, Swap, Exchange, Sub, And, Seen, Stage}
+use Rattle.smp_call_steps.specs.Names.{Word, Access, Seen, Stage}
 
-words_if : (words : List ℕ) (w : Word) (n : ℕ) (b : Bool) → length words ≡ table_size → HasIndex w →
-    number_in (cond b (put_in words w n) words) ≡ cond b (put_word (number_in words) w n) (number_in words)
-words_if words w n true l h = number_in-put_in words w n l h
-words_if words w n false l h = refl
+words_if : (words : List ℕ) (w : Word) (put : Option ℕ) → length words ≡ table_size → HasIndex w → number_in (put_if put_in words w put) ≡ put_if put_word (number_in words) w put
+words_if words w (Some n) l h = number_in-put_in words w n l h
+words_if words w None l h = refl
 
 -- the words by name, after an access
 pub words_by_name : (words : List ℕ) (access : Access) → length words ≡ table_size → HasIndex (word_of access) → number_in (words_after words access) ≡ at_after (number_in words) access
-words_by_name words (Load w) l h = refl
-words_by_name words (Store w n) l h = number_in-put_in words w n l h
-words_by_name words (Swap w n) l h = number_in-put_in words w n l h
-words_by_name words (Exchange w expected n) l h = words_if words w n (number_in words w == expected) l h
-words_by_name words (Sub w) l h = number_in-put_in words w (one_less (number_in words w)) l h
-words_by_name words (And w n) l h = number_in-put_in words w (bit_and (number_in words w) n) l h
+words_by_name words access l h = words_if words (word_of access) (put_by access (number_in words (word_of access))) l h
 
 length-put_at : (words : List ℕ) (i : Option ℕ) (n : ℕ) → length (put_at words i n) ≡ length words
 length-put_at words None n = refl
 length-put_at words (Some i) n = length-set words i n
 
-length_if : (b : Bool) (w : Word) (n : ℕ) (words : List ℕ) → length (cond b (put_in words w n) words) ≡ length words
-length_if true w n words = length-put_at words (index_of w) n
-length_if false w n words = refl
+length_if : (words : List ℕ) (w : Word) (put : Option ℕ) → length (put_if put_in words w put) ≡ length words
+length_if words w (Some n) = length-put_at words (index_of w) n
+length_if words w None = refl
 
 -- a table keeps its length
 pub length-words_after : (words : List ℕ) (access : Access) → length (words_after words access) ≡ length words
-length-words_after words (Load w) = refl
-length-words_after words (Store w n) = length-put_at words (index_of w) n
-length-words_after words (Swap w n) = length-put_at words (index_of w) n
-length-words_after words (Exchange w expected n) = length_if (number_in words w == expected) w n words
-length-words_after words (Sub w) = length-put_at words (index_of w) (one_less (number_in words w))
-length-words_after words (And w n) = length-put_at words (index_of w) (bit_and (number_in words w) n)
+length-words_after words access = length_if words (word_of access) (put_by access (number_in words (word_of access)))
 
 set_control : (controls : List ControlValue) (me : ℕ) (x : ControlValue) → length controls ≡ cpus → me < cpus → (j : ℕ) → control_of (slice_set controls me x) j ≡ put (control_of controls) me x j
 set_control controls me x l m j = at_test j me (λ b. control_of (slice_set controls me x) j ≡ cond b x (control_of controls j))

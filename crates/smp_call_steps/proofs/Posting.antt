@@ -2,6 +2,7 @@
 use Rattle.std.proofs.Common.{◌≡◌, ◌≢◌, ℕ, ◌+◌, ◌-◌, ◌%◌, ◌^◌, Bool, true, false, ◌==◌, ◌&&◌, nat_lt, cond, Option, Some, None, length, sym, subst, refl, ap, ◌∙◌, inl, inr, arith}
 use Rattle.std.proofs.lemmas.Bool.{cases_eq, eq-eqb, ne_eqb, eqb-true}
 use Rattle.smp_words.specs.Put.{put, put_word}
+use Rattle.smp_words.specs.Access.{put_if}
 use Rattle.smp_words.specs.Flags.{flags_of, class_of}
 use Rattle.smp_call_steps.specs.Calls.{CallState, Holding, locked, given_up, releases, links, confirms, appended, holding_with, with_func, with_info, with_count, flags_told, head_told}
 use Rattle.smp_call_steps.specs.Posts.{ends, goes_to}
@@ -325,7 +326,7 @@ module _ (a : CallState) (at : Word → ℕ) (control : ℕ → ControlValue) (m
       link_here p link (post.StoreNext link tries) (a.held me) e (holds_at (Post p (post.StoreNext link tries)) e) refl k.0 k.1 was.goes tries
 
   exchange : (p : Posting) (link tries : ℕ) → (control me).stage ≡ Some (Post p (post.Exchange link tries)) → (b c : Bool) (won : Note) → (at (Head p.to) == link) ≡ b →
-      Shows (head_told a me p.to act.Cas (cond b (Some (p.id + 1)) None)) (cond b (put_word at (Head p.to) (p.id + 1)) at)
+      Shows (head_told a me p.to act.Cas (cond b (Some (p.id + 1)) None)) (put_if put_word at (Head p.to) (cond b (Some (p.id + 1)) None))
       (put control me (to_stage (cond b (ends won) (cond c (goes_to p (post.StoreNext (at (Head p.to)) (tries - 1))) (goes_to p post.Uncount))).next))
   exchange p link tries e true c won t =
       let was = was_at p (post.Exchange link tries) e in
