@@ -6,6 +6,7 @@ use lib.Seq.{set-get_or}
 use prog.Atomic.{either}
 use Rattle.atomic_table.specs.Table.{State, Me, step, keeps, stepped, Allows, Splits, opening}
 use Rattle.atomic_table.proofs.Lists.{at_set}
+use Rattle.smp_words.specs.Access.{put_if}
 use Rattle.smp_words.specs.Put.{put, put_word}
 use Rattle.smp_call_steps.specs.Calls.{CallState, no_calls}
 use Rattle.smp_call_steps.specs.Stages.{ControlValue}
@@ -53,8 +54,8 @@ store_step : (a : CallState) (at : Word → ℕ) (control : ℕ → ControlValue
 store_step a at control v w x can shown sees = subst (GoesOn a control v.number (put_word at w x)) (store_else (a.queue v.number) v w x) (known_step a at control v shown sees can.stage can.aims (Store w x) can.is_access)
 
 exchange_step : (a : CallState) (at : Word → ℕ) (control : ℕ → ControlValue) (v : Known) (w : Word) (old new : ℕ) → MayAccess v (Exchange w old new) → Shows a at control → Sees a control v →
-    GoesOn a control v.number (cond (at w == old) (put_word at w new) at) (known_told v act.Cas w (Some (at w)) (cond (at w == old) (Some new) None))
-exchange_step a at control v w old new can shown sees = subst (GoesOn a control v.number (cond (at w == old) (put_word at w new) at)) (exchange_else (a.queue v.number) v w (at w) (cond (at w == old) (Some new) None)) (known_step a at control v shown sees can.stage can.aims (Exchange w old new) can.is_access)
+    GoesOn a control v.number (put_if put_word at w (cond (at w == old) (Some new) None)) (known_told v act.Cas w (Some (at w)) (cond (at w == old) (Some new) None))
+exchange_step a at control v w old new can shown sees = subst (GoesOn a control v.number (put_if put_word at w (cond (at w == old) (Some new) None))) (exchange_else (a.queue v.number) v w (at w) (cond (at w == old) (Some new) None)) (known_step a at control v shown sees can.stage can.aims (Exchange w old new) can.is_access)
 
 module _ {S : Type 0} where
   pub starts : Ruled {S = S} (opening (replicate cells 0) [] (Maker 0))
@@ -164,7 +165,7 @@ module _ {S : Type 0} where
       λ u f. ap (λ (y : Word). Cpu (known_told v act.Store y None (Some x))) (one_cell w u i e f),
     ))
 
-    exchanged_words : (words : List ℕ) (w : Word) (i n x : ℕ) (b : Bool) → length words ≡ cells → cell_of w ≡ Some i → n ≡ get_or words i 0 → number_in (set words i (either b x n)) ≡ cond b (put_word (number_in words) w x) (number_in words)
+    exchanged_words : (words : List ℕ) (w : Word) (i n x : ℕ) (b : Bool) → length words ≡ cells → cell_of w ≡ Some i → n ≡ get_or words i 0 → number_in (set words i (either b x n)) ≡ put_if put_word (number_in words) w (cond b (Some x) None)
     exchanged_words words w i n x true l e is = stored_here words w i x l e
     exchanged_words words w i n x false l e is = ap number_in (ap (set words i) is ∙ set-get_or words i 0)
 
@@ -173,11 +174,11 @@ module _ {S : Type 0} where
     exchange_allowed w i old new e can = steps i (λ n. either (n == old) new n) (AfterExchange (step slots i old new none) me) (λ a control words shown wide sees.
         let n = get_or words i 0 in
         let here : number_in words w ≡ n = number_here words w i e in
-        let same : (cond (number_in words w == old) (put_word (number_in words) w new) (number_in words)) ≡ number_in (set words i (either (n == old) new n)) =
-        ap (λ k. cond (k == old) (put_word (number_in words) w new) (number_in words)) here ∙ sym (exchanged_words words w i n new (n == old) wide e refl) in (
+        let same : (put_if put_word (number_in words) w (cond (number_in words w == old) (Some new) None)) ≡ number_in (set words i (either (n == old) new n)) =
+        ap (λ k. put_if put_word (number_in words) w (cond (k == old) (Some new) None)) here ∙ sym (exchanged_words words w i n new (n == old) wide e refl) in (
           known_told v act.Cas w (Some n) (cond (n == old) (Some new) None),
           subst (λ (at : Word → ℕ). GoesOn a control v.number at (known_told v act.Cas w (Some n) (cond (n == old) (Some new) None))) same
-              (subst (λ k. GoesOn a control v.number (cond (number_in words w == old) (put_word (number_in words) w new) (number_in words)) (known_told v act.Cas w (Some k) (cond (k == old) (Some new) None))) here
+              (subst (λ k. GoesOn a control v.number (put_if put_word (number_in words) w (cond (number_in words w == old) (Some new) None)) (known_told v act.Cas w (Some k) (cond (k == old) (Some new) None))) here
               (exchange_step a (number_in words) control v w old new can shown sees)),
           λ u f. ap (λ (x : Word). Cpu (known_told v act.Cas x (Some n) (cond (n == old) (Some new) None))) (one_cell w u i e f),
         ))
