@@ -6,10 +6,10 @@ use Rattle.smp_call_steps.specs.Known.{Moment}
 use Rattle.smp_call_steps.specs.Places.{IsApart}
 use Rattle.smp_call_steps.specs.Stands.{Share, Walks}
 use Rattle.smp_call_steps.specs.Words.{Path, last_batch, nexts_in}
-use Rattle.smp_call_steps.proofs.Alls.{every_right}
-use Rattle.smp_call_steps.proofs.Handling.{lives_stands, share_in}
-use Rattle.smp_call_steps.proofs.Turns.{put_here, put_else}
-use Rattle.smp_call_steps.proofs.Walks.{link_back, same_record}
+use Rattle.smp_call_steps.proofs.Basics.Alls.{every_right}
+use Rattle.smp_call_steps.proofs.Knows.Handling.{lives_stands, share_in}
+use Rattle.smp_call_steps.proofs.Steps.Turns.{put_here, put_else}
+use Rattle.smp_call_steps.proofs.State.Walks.{link_back, same_record}
 use Rattle.smp_queue.specs.Names.{Call, Next, Known, Nothing, Walk}
 use Rattle.smp_queue.specs.Names.handle
 use Rattle.smp_queue.specs.Cpu.{CpuValue, cpu_of}

@@ -10,7 +10,7 @@ use Rattle.smp_call_steps.specs.Histories.{sent_to, calls_from}
 use Rattle.smp_call_steps.specs.Parts.{part_of}
 use Rattle.smp_queue.specs.Names.{Hand, Queued, Ran, Flags, Known, Part, SeatView, Maker, Cpu, Left, Audit}
 use Rattle.smp_queue.specs.Names.audit
-use Rattle.smp_call_steps.proofs.Drained.{Still, still_queued, still_ran, equal_tallies, all_ran, all_sent}
+use Rattle.smp_call_steps.proofs.State.Drained.{Still, still_queued, still_ran, equal_tallies, all_ran, all_sent}
 use Rattle.smp_queue.specs.Audit.{Closes, Audited, AuditAnswers, HaveRun, IfDrained, AreEqual, HasRowsOf, HasZerosFrom, has_lock, has_hand, left_in, nothing_left}
 use Rattle.smp_queue.specs.Cells.{number_in}
 use Rattle.smp_queue.specs.Cpu.{TableValue, cpu_of}

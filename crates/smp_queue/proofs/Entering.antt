@@ -13,8 +13,8 @@ use Rattle.smp_call_steps.specs.Histories.{orders, running_call}
 use Rattle.smp_call_steps.specs.Parts.{part_taken}
 use Rattle.smp_call_steps.specs.Known.{known_told, known_taking, Moment, Lives, outside_known}
 use Rattle.smp_call_steps.specs.Handling.{handling, accepted_known, taken_known, IsLeaving}
-use Rattle.smp_call_steps.proofs.Handling.{lives_stands, lives_drained, lives_intr, entered_is, accepted_is, left_is}
-use Rattle.smp_call_steps.proofs.Taking.{orders-push, last_batch-push}
+use Rattle.smp_call_steps.proofs.Knows.Handling.{lives_stands, lives_drained, lives_intr, entered_is, accepted_is, left_is}
+use Rattle.smp_call_steps.proofs.Steps.Taking.{orders-push, last_batch-push}
 use Rattle.smp_queue.specs.Cpu.{CpuValue, cpu_of}
 use Rattle.smp_queue.specs.Seat.{SeatValue, Ready, InHandle, IsOutside}
 use Rattle.smp_queue.specs.Handling.{Grows, HasRunAll, runs, asks, drains, heard_of}

@@ -10,7 +10,7 @@ use Rattle.smp_queue.specs.Names.handle
 use Rattle.smp_queue.specs.Handling.{HasRunAll, runs}
 use Rattle.smp_call_steps.specs.Known.{known_told, known_access, Moment, Lives}
 use Rattle.smp_call_steps.specs.Handling.{goes_known}
-use Rattle.smp_call_steps.proofs.Handling.{lives_fits, next_found_is, func_found_is, info_found_is, flags_found_is, lives_locked}
+use Rattle.smp_call_steps.proofs.Knows.Handling.{lives_fits, next_found_is, func_found_is, info_found_is, flags_found_is, lives_locked}
 use Rattle.smp_call_steps.specs.Histories.{calls_from}
 use Rattle.smp_queue.specs.Cpu.{cpu_of}
 use Rattle.smp_queue.specs.Seat.{SeatValue, InHandle}

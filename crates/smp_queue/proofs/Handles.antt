@@ -3,7 +3,7 @@ use Rattle.std.proofs.Common.{◌≡◌, Some, ap, ◌∙◌, subst}
 use Rattle.atomic_table.specs.Seated.{TableId}
 use Rattle.smp_words.specs.Access.{word_of}
 use Rattle.smp_call_steps.specs.Known.{known_access, Lives}
-use Rattle.smp_call_steps.proofs.Handling.{lives_aims, lives_in_table}
+use Rattle.smp_call_steps.proofs.Knows.Handling.{lives_aims, lives_in_table}
 use Rattle.smp_queue.specs.Names.{Access, Known, HandleStage, Handle}
 use Rattle.smp_queue.specs.Cells.{cells, HasCell}
 use Rattle.smp_queue.specs.Seat.{SeatValue, MayAccess, Ready, InHandle, IsApartFromCalls}

@@ -13,10 +13,10 @@ use Rattle.smp_call_steps.specs.Stages.{ControlValue}
 use Rattle.smp_call_steps.specs.Value.{outside}
 use Rattle.smp_call_steps.specs.Shows.{Shows}
 use Rattle.smp_call_steps.specs.Known.{Sees, fresh, known_told, known_taking, GoesOn, Lives}
-use Rattle.smp_call_steps.proofs.Own.{put_same, put_other}
-use Rattle.smp_call_steps.proofs.OneStep.{known_step}
-use Rattle.smp_call_steps.proofs.Handling.{lives_on}
-use Rattle.smp_call_steps.proofs.Starts.{zeros_shown}
+use Rattle.smp_call_steps.proofs.Steps.Own.{put_same, put_other}
+use Rattle.smp_call_steps.proofs.Knows.OneStep.{known_step}
+use Rattle.smp_call_steps.proofs.Knows.Handling.{lives_on}
+use Rattle.smp_call_steps.proofs.Machine.Starts.{zeros_shown}
 use Rattle.smp_words.proofs.Zeros.{zero_at}
 use Rattle.smp_queue.specs.Names.{Call, Word, Head, Intr, Hand, Queued, Ran, Flags, Func, Info, Next, Access, Load, Store, Swap, Exchange, Known, SeatView}
 use Rattle.smp_queue.specs.Names.{Maker, Cpu}

@@ -7,8 +7,8 @@ use Rattle.smp_call_steps.specs.Stands.{posted}
 use Rattle.smp_call_steps.specs.Histories.{Marked, mark, sent_to, calls_from}
 use Rattle.smp_call_steps.specs.Parts.{part_sent}
 use Rattle.smp_call_steps.specs.Known.{fresh, confirmed_known, queued_known, outside_known, standing}
-use Rattle.smp_call_steps.proofs.Lists.{sent_to-push, one_if-same, one_if-other}
-use Rattle.smp_call_steps.proofs.Rows.{length-row}
+use Rattle.smp_call_steps.proofs.Basics.Lists.{sent_to-push, one_if-same, one_if-other}
+use Rattle.smp_call_steps.proofs.Basics.Rows.{length-row}
 use Rattle.smp_words.proofs.Zeros.{get_or-same}
 use Rattle.smp_queue.specs.Names.{Call, Known, Posting}
 use Rattle.smp_queue.specs.Names.post

@@ -10,7 +10,7 @@ use Rattle.smp_queue.specs.Names.{Call, Known, Part, HandleStage, Heard}
 use Rattle.smp_call_steps.specs.Known.{ran_tally}
 use Rattle.smp_call_steps.specs.Handling.{begun_async, ended_call, rest_of}
 use Rattle.smp_words.proofs.Sizes.{owner-below}
-use Rattle.smp_call_steps.proofs.Tallies.{count-same, count-other}
+use Rattle.smp_call_steps.proofs.State.Tallies.{count-same, count-other}
 use Rattle.smp_queue.specs.Cpu.{CpuValue, cpu_of}
 use Rattle.smp_queue.specs.Seat.{SeatValue, InHandle}
 use Rattle.smp_queue.specs.Handling.{heard_of, AreRan, runs, HasRun, HasRunAll}

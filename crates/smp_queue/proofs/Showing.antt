@@ -1,7 +1,7 @@
 -- What a CPU knows is its part of calls that keep all laws.
 use Rattle.std.proofs.Common.{sym}
 use Rattle.smp_call_steps.specs.Known.{Lives}
-use Rattle.smp_call_steps.proofs.Counts.{confirmed_calls_ran}
+use Rattle.smp_call_steps.proofs.State.Counts.{confirmed_calls_ran}
 use Rattle.smp_queue.specs.Cpu.{cpu_of}
 use Rattle.smp_queue.specs.Seat.{SeatValue}
 use Rattle.smp_queue.specs.Laws.{IsShown}
