@@ -1,8 +1,8 @@
 use Rattle.std.proofs.Common.{◌≡◌, ℕ, ◌+◌, ◌%◌, ◌^◌, set, get_or, sym, ap, ◌∙◌, subst}
 use Rattle.smp_queue.specs.Names.{Posting}
 use Rattle.smp_queue.specs.Cpu.{CpuValue, IsKept}
-use Rattle.smp_queue.proofs.Kept.{kept_posted}
-use Rattle.smp_queue.proofs.Own.{mine_of, posts_then}
+use Rattle.smp_queue.proofs.Posts.Kept.{kept_posted}
+use Rattle.smp_queue.proofs.Posts.Own.{mine_of, posts_then}
 use Rattle.smp_queue.proofs.table.CallTable.post_within.Goals as goal
 
 pub write_record-requires-clause-mine : goal.write_record-requires-clause-mine

@@ -16,8 +16,8 @@ use Rattle.smp_queue.specs.Cells.{number_in}
 use Rattle.smp_queue.specs.Cpu.{TableValue, cpu_of}
 use Rattle.smp_queue.specs.Seat.{SeatValue}
 use Rattle.smp_queue.specs.Rule.{RuledFor}
-use Rattle.smp_queue.proofs.Auditing.{count_none}
-use Rattle.smp_queue.proofs.Cells.{no_hand, no_flags}
+use Rattle.smp_queue.proofs.Audits.Auditing.{count_none}
+use Rattle.smp_queue.proofs.TheRule.Cells.{no_hand, no_flags}
 
 -- its words show some calls, of which the seat knows its part
 pub closes : {S : Type 0} (nr : ℕ) (s : State S SeatView) (r : RuledFor nr s) (id : ℕ) (v : Known) → get_elem? s.views id ≡ some (Cpu v) → Closes nr v s.words

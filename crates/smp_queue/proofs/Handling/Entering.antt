@@ -18,9 +18,9 @@ use Rattle.smp_call_steps.proofs.Steps.Taking.{orders-push, last_batch-push}
 use Rattle.smp_queue.specs.Cpu.{CpuValue, cpu_of}
 use Rattle.smp_queue.specs.Seat.{SeatValue, Ready, InHandle, IsOutside}
 use Rattle.smp_queue.specs.Handling.{Grows, HasRunAll, runs, asks, drains, heard_of}
-use Rattle.smp_queue.proofs.Cells.{has_cell}
-use Rattle.smp_queue.proofs.Handles.{in_handle_ready, in_handle_then}
-use Rattle.smp_queue.proofs.Running.{more_calls}
+use Rattle.smp_queue.proofs.TheRule.Cells.{has_cell}
+use Rattle.smp_queue.proofs.Handling.Handles.{in_handle_ready, in_handle_then}
+use Rattle.smp_queue.proofs.Handling.Running.{more_calls}
 
 module _ (t : TableId) (d d' : SeatValue) (number : ℕ) where
   pub enter_ready : IsOutside t d number → Ready t d (Store (Hand number) 1)

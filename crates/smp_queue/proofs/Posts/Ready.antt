@@ -10,7 +10,7 @@ use Rattle.smp_queue.specs.Names.{Flags, Access, Load, Known, Posting, PostStage
 use Rattle.smp_queue.specs.Names.post
 use Rattle.smp_queue.specs.Seat.{SeatValue, Ready, OwnsRecord, IsMine, counted}
 use Rattle.smp_queue.specs.Cells.{HasCell}
-use Rattle.smp_queue.proofs.Cells.{has_cell}
+use Rattle.smp_queue.proofs.TheRule.Cells.{has_cell}
 
 -- a seat after a step of its CPU
 pub at_moved : (t : TableId) (d d' : SeatValue) (id : ℕ) (v : Known) → OwnsRecord t d id → d'.table ≡ t → d'.known ≡ v → v.number ≡ d.known.number → OwnsRecord t d' id

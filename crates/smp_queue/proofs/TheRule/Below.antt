@@ -10,7 +10,7 @@ use Rattle.smp_queue.specs.Seat.{IsCpuSeat, MayAccess}
 use Rattle.smp_queue.specs.Rule.{Ruled, RuledFor, SeatKnows, known, after, seat_made}
 use Rattle.smp_queue.specs.Plays.{loaded, stored, exchanged, swapped}
 use Rattle.smp_queue.specs.Names.{Word, Load, Store, Swap, Exchange, SeatView, Maker}
-use Rattle.smp_queue.proofs.Keeps.{starts, splits, load_allowed, store_allowed, exchange_allowed, swap_allowed}
+use Rattle.smp_queue.proofs.TheRule.Keeps.{starts, splits, load_allowed, store_allowed, exchange_allowed, swap_allowed}
 
 first_set : (views : List SeatView) (u w : SeatView) → get_elem? views 0 ≡ some u → get_elem? (set views 0 w) 0 ≡ some w
 first_set [] u w e = absurd (some-ne-none u (sym e))

@@ -25,7 +25,7 @@ use Rattle.smp_queue.specs.Cells.{cells, cell_of, number_in}
 use Rattle.smp_queue.specs.Rule.{Ruled, SeatKnows, known, after, seat_made}
 use Rattle.smp_queue.specs.Plays.{AfterLoad, AfterStore, AfterExchange, AfterSwap, loaded, stored, exchanged, swapped}
 use Rattle.smp_queue.specs.Seat.{IsCpuSeat, MayAccess}
-use Rattle.smp_queue.proofs.Cells.{one_cell, number_here, stored_here}
+use Rattle.smp_queue.proofs.TheRule.Cells.{one_cell, number_here, stored_here}
 
 at_snoc : {A : Type 0} (l : List A) (a b : A) (j : ℕ) → get_elem? (l ++ a ∷ []) j ≡ some b → (get_elem? l j ≡ some b) ⊎ ((j ≡ length l) × (a ≡ b))
 at_snoc [] a b zero e = inr (refl, some-injective a b e)

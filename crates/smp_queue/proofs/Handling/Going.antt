@@ -14,7 +14,7 @@ use Rattle.smp_call_steps.proofs.Knows.Handling.{lives_fits, next_found_is, func
 use Rattle.smp_call_steps.specs.Histories.{calls_from}
 use Rattle.smp_queue.specs.Cpu.{cpu_of}
 use Rattle.smp_queue.specs.Seat.{SeatValue, InHandle}
-use Rattle.smp_queue.proofs.Handles.{in_handle_then}
+use Rattle.smp_queue.proofs.Handling.Handles.{in_handle_then}
 
 -- after a load, by which it knows this
 pub record HasLoad (t : TableId) (d d' : SeatValue) (word : Word) (n : ℕ) : Type 0 where

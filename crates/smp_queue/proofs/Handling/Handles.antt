@@ -7,7 +7,7 @@ use Rattle.smp_call_steps.proofs.Knows.Handling.{lives_aims, lives_in_table}
 use Rattle.smp_queue.specs.Names.{Access, Known, HandleStage, Handle}
 use Rattle.smp_queue.specs.Cells.{cells, HasCell}
 use Rattle.smp_queue.specs.Seat.{SeatValue, MayAccess, Ready, InHandle, IsApartFromCalls}
-use Rattle.smp_queue.proofs.Cells.{has_cell_of}
+use Rattle.smp_queue.proofs.TheRule.Cells.{has_cell_of}
 
 module _ (t : TableId) (d : SeatValue) (stage : HandleStage) (h : InHandle t d stage) where
   pub in_handle_can : (access : Access) → known_access d.known (Handle stage) ≡ access → MayAccess d.known access

@@ -7,7 +7,7 @@ use Rattle.smp_call_steps.specs.Known.{standing, queued_known, outside_known}
 use Rattle.smp_queue.specs.Names.{Known, Posting, Post}
 use Rattle.smp_queue.specs.Names.post
 use Rattle.smp_queue.specs.Seat.{SeatValue, IsMine, IsCounting, IsTallied, counted}
-use Rattle.smp_queue.proofs.Ready.{mine_moved}
+use Rattle.smp_queue.proofs.Posts.Ready.{mine_moved}
 
 -- it stands before its next try, and knows what it knew
 pub record Tries (table : TableId) (before seat : SeatValue) (p : Posting) : Type 0 where
