@@ -8,11 +8,8 @@ use Rattle.smp_call_steps.specs.Drains.{link_to}
 use Rattle.smp_call_steps.specs.Words.{Leads, Path, last_batch, nexts_in}
 use Rattle.smp_call_steps.specs.Batches.{has_record, is_this, down_link, up_link, between_of}
 use Rattle.smp_call_steps.specs.Shows.{Shows}
-use Rattle.smp_words.specs.declared.call.Call.{Call}
-use Rattle.smp_words.specs.declared.word.Word.{Word}
-use Rattle.smp_call_steps.specs.declared.handle.HandleStage.TheVariants as handle
-use Rattle.smp_call_steps.specs.declared.stage.Stage.{Stage}
-use Rattle.smp_call_steps.specs.declared.stage.Stage.TheVariants.{Handle}
+use Rattle.smp_call_steps.specs.Names.{Call, Word, Stage, Handle}
+use Rattle.smp_call_steps.specs.Names.handle
 
 -- whether a call is in a chain: it is left to run, and its record is not the one between the chains
 abbrev pub is_linked : List Call → Option ℕ → Call → Bool

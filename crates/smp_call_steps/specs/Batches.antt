@@ -2,11 +2,8 @@
 use Rattle.std.specs.Prelude.{ℕ, ◌+◌, Bool, false, ◌==◌, Option, Some, None, List, [], ◌∷◌}
 use Rattle.std.specs.List.{list_any}
 use Rattle.smp_call_steps.specs.Drains.{link_to}
-use Rattle.smp_words.specs.declared.call.Call.{Call}
-use Rattle.smp_call_steps.specs.declared.handle.HandleStage.{HandleStage}
-use Rattle.smp_call_steps.specs.declared.handle.HandleStage.TheVariants as handle
-use Rattle.smp_call_steps.specs.declared.stage.Stage.{Stage}
-use Rattle.smp_call_steps.specs.declared.stage.Stage.TheVariants.{Handle}
+use Rattle.smp_call_steps.specs.Names.{Call, HandleStage, Stage, Handle}
+use Rattle.smp_call_steps.specs.Names.handle
 
 -- whether some call of the list is by this record
 abbrev pub has_record : ℕ → List Call → Bool

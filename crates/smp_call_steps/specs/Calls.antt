@@ -4,17 +4,12 @@ use Rattle.std.specs.Prelude.{ℕ, ◌%◌, Bool, true, false, ◌==◌, not, na
 use Rattle.smp_words.specs.Put.{put}
 use Rattle.smp_words.specs.Flags.{class_of}
 use Rattle.smp_call_steps.specs.Order.{order}
-use Rattle.smp_words.specs.declared.call.Call.{Call}
+use Rattle.smp_call_steps.specs.Names.{Call, Word, Head, Intr, Hand, Queued, Ran, Flags, Func, Info, Next, Seen, Act, RecPlace}
+use Rattle.smp_call_steps.specs.Names.place
+use Rattle.smp_call_steps.specs.Names.act
 pub use Rattle.smp_call_steps.specs.declared.known.Sending.{Sending}
 pub use Rattle.smp_call_steps.specs.declared.known.Running.{Running}
 pub use Rattle.smp_call_steps.specs.declared.known.Running.TheVariants.{Nothing, SyncCall, CountedCall, AsyncCall}
-use Rattle.smp_call_steps.specs.declared.place.RecPlace.{RecPlace}
-use Rattle.smp_call_steps.specs.declared.place.RecPlace.TheVariants as place
-use Rattle.smp_words.specs.declared.word.Word.{Word}
-use Rattle.smp_words.specs.declared.word.Word.TheVariants.{Head, Intr, Hand, Queued, Ran, Flags, Func, Info, Next}
-use Rattle.smp_words.specs.declared.seen.Act.{Act}
-use Rattle.smp_words.specs.declared.seen.Act.TheVariants as act
-use Rattle.smp_words.specs.declared.seen.Seen.{Seen}
 
 -- the call that a CPU holds, where it goes once that was counted
 pub record Holding : Type 0 where
@@ -107,8 +102,8 @@ holding_with f None = None
 holding_with f (Some h) = Some (f h)
 
 -- the holder links its record
-abbrev pub links : CallState → ℕ → Option Holding → Option ℕ → CallState
-links a me (Some h) (Some n) = record a { linked = put a.linked me (Some n) }
+abbrev pub links : CallState → ℕ → Option ℕ → Option Holding → CallState
+links a me (Some n) (Some h) = record a { linked = put a.linked me (Some n) }
 links a me _ _ = a
 
 abbrev pub holds_with : CallState → ℕ → (Holding → Holding) → CallState
@@ -236,7 +231,7 @@ told a me act (Head to) found put = head_told a me to act put
 told a me act (Intr to) found put = intr_told a me to act
 told a me act (Hand cpu) found put = hand_told a me put
 told a me act (Ran by from) found put = counts a me (a.running me)
-told a me act (Next id) found put = links a me (a.held me) put
+told a me act (Next id) found put = links a me put (a.held me)
 told a me act _ found put = a
 
 -- the calls after a step that was seen

@@ -4,18 +4,10 @@ use Rattle.smp_words.specs.Size.{owner}
 use Rattle.smp_words.specs.Flags.{class_of}
 use Rattle.smp_call_steps.specs.Posts.{go_on, ends}
 use Rattle.smp_words.specs.declared.size.TheConstants.{MOST_CALLS}
-use Rattle.smp_words.specs.declared.word.Word.TheVariants.{Head, Intr, Hand, Ran, Flags, Func, Info, Next}
-use Rattle.smp_words.specs.declared.access.Access.{Access}
-use Rattle.smp_words.specs.declared.access.Access.TheVariants.{Load, Store, Swap}
-use Rattle.smp_words.specs.declared.call.Call.{Call}
-use Rattle.smp_words.specs.declared.call.Class.{Class}
-use Rattle.smp_words.specs.declared.call.Class.TheVariants.{Sync, Async}
-use Rattle.smp_words.specs.declared.seen.Note.TheVariants as note
-use Rattle.smp_call_steps.specs.declared.handle.Walk.{Walk}
-use Rattle.smp_call_steps.specs.declared.handle.HandleStage.{HandleStage}
-use Rattle.smp_call_steps.specs.declared.handle.HandleStage.TheVariants as handle
-use Rattle.smp_call_steps.specs.declared.stage.Stage.TheVariants.{Handle}
-use Rattle.smp_call_steps.specs.declared.stage.Outcome.{Outcome}
+use Rattle.smp_call_steps.specs.Names.{Call, Class, Sync, Async, Head, Intr, Hand, Ran, Flags, Func, Info, Next, Access, Load, Store, Swap, Walk, HandleStage}
+use Rattle.smp_call_steps.specs.Names.{Outcome, Handle}
+use Rattle.smp_call_steps.specs.Names.note
+use Rattle.smp_call_steps.specs.Names.handle
 
 -- how many calls a drain has reversed of its batch
 pub record DrainValue : Type 0 where

@@ -1,14 +1,11 @@
 -- What a CPU knows inside handle, after each of its steps.
-use Rattle.std.specs.Prelude.{ℕ, Bool, true, false, if◌then◌else◌, Option, Some, None, List, [], ◌∷◌, ◌++◌}
-use Rattle.smp_call_steps.specs.Order.{order}
-use Rattle.smp_call_steps.specs.Calls.{Nothing, SyncCall, CountedCall, AsyncCall}
+use Rattle.std.specs.Prelude.{ℕ, Bool, if◌then◌else◌, Option, Some, None, List, [], ◌∷◌}
+use Rattle.smp_call_steps.specs.Calls.{Running, SyncCall, AsyncCall}
+use Rattle.smp_call_steps.specs.Parts.{Part, part_accepted, part_taken, part_counted, part_ended}
 use Rattle.smp_call_steps.specs.Drains.{DrainValue, no_drain, reverse_on, handle_outcome, drain_after}
-use Rattle.smp_words.specs.declared.call.Call.{Call}
+use Rattle.smp_call_steps.specs.Names.{Call, Walk, HandleStage, Handle}
+use Rattle.smp_call_steps.specs.Names.handle
 use Rattle.smp_call_steps.specs.declared.known.Known.{Known}
-use Rattle.smp_call_steps.specs.declared.handle.Walk.{Walk}
-use Rattle.smp_call_steps.specs.declared.handle.HandleStage.{HandleStage}
-use Rattle.smp_call_steps.specs.declared.handle.HandleStage.TheVariants as handle
-use Rattle.smp_call_steps.specs.declared.stage.Stage.TheVariants.{Handle}
 
 -- all but the first
 abbrev pub rest_of : List Call → List Call
@@ -27,35 +24,32 @@ goes_known h found v = record v { stage = (handle_outcome v.drain h found).next;
 abbrev pub accepted_known : Bool → Known → Known
 accepted_known pending v = record v {
   stage = Some (Handle (if pending then handle.Take else handle.LeaveIdle));
-  asked = v.asked ++ pending ∷ [];
-  accepted = if pending then true else v.accepted;
+  part = part_accepted pending v.part;
 }
 
 -- a CPU that has taken this queue, whose newest record is this
 abbrev pub taken_known : List Call → Option ℕ → Known → Known
-taken_known queue newest v = record v {
-  stage = Some (Handle (reverse_on None newest));
-  drain = no_drain;
-  taken = v.taken ++ queue ∷ [];
-  batch = order queue;
-  accepted = false;
-}
+taken_known queue newest v = record v { stage = Some (Handle (reverse_on None newest)); drain = no_drain; part = part_taken queue v.part }
+
+-- a CPU's part while this call runs, the front of its batch
+abbrev pub runs_next : Running → Part → Part
+runs_next running p = record p { batch = rest_of p.batch; running = running }
 
 -- a CPU in whose SYNC call the function runs
 abbrev pub begun_sync : Walk → Call → Option ℕ → Known → Known
-begun_sync walk call next v = record v { stage = Some (Handle (handle.CountSync walk call next)); batch = rest_of v.batch; running = SyncCall call }
+begun_sync walk call next v = record v { stage = Some (Handle (handle.CountSync walk call next)); part = runs_next (SyncCall call) v.part }
 
 -- a CPU that has counted a SYNC call
 abbrev pub counted_sync : Walk → Call → Option ℕ → Known → Known
-counted_sync walk call next v = record v { stage = Some (Handle (handle.EndSync walk call next)); running = CountedCall call }
+counted_sync walk call next v = record v { stage = Some (Handle (handle.EndSync walk call next)); part = part_counted (SyncCall call) v.part }
 
 -- a CPU in whose ASYNC call the function runs
 abbrev pub begun_async : Call → Option ℕ → Known → Known
-begun_async call next v = record v { stage = Some (Handle (handle.CountAsync call next)); batch = rest_of v.batch; running = AsyncCall call }
+begun_async call next v = record v { stage = Some (Handle (handle.CountAsync call next)); part = runs_next (AsyncCall call) v.part }
 
 -- a CPU whose call has ended, and that stands there
 abbrev pub ended_call : HandleStage → Call → Known → Known
-ended_call stage call v = record v { stage = Some (Handle stage); running = Nothing; ran = v.ran ++ call ∷ [] }
+ended_call stage call v = record v { stage = Some (Handle stage); part = part_ended call v.part }
 
 -- where a CPU has nothing more to do inside handle
 abbrev pub IsLeaving : HandleStage → Type 0

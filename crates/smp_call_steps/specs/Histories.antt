@@ -4,7 +4,7 @@ use Rattle.std.specs.Prelude.{◌≡◌, ℕ, ◌+◌, ◌%◌, ◌^◌, ◌==�
 use Rattle.smp_words.specs.Size.{owner}
 use Rattle.smp_call_steps.specs.Order.{order}
 use Rattle.smp_call_steps.specs.Calls.{Holding, Running, Nothing, SyncCall, CountedCall, AsyncCall, Sending}
-use Rattle.smp_words.specs.declared.call.Call.{Call}
+use Rattle.smp_call_steps.specs.Names.{Call}
 
 -- a call with its mark: whether it was queued into an empty queue
 pub record Marked : Type 0 where

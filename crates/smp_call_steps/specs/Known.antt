@@ -1,38 +1,22 @@
 -- What a CPU knows of the calls: where it stands, as far as its steps have told, and its own part of the call state.
-use Rattle.std.specs.Prelude.{◌≡◌, ℕ, zero, suc, ◌+◌, ◌%◌, ◌^◌, ◌<◌, Bool, true, false, ◌==◌, nat_lt, if◌then◌else◌, Option, Some, None, List, [], ◌∷◌, ◌++◌, length, slice_set, slice_index_or}
+use Rattle.std.specs.Prelude.{◌≡◌, ◌≢◌, ℕ, ◌+◌, ◌%◌, ◌^◌, ◌<◌, Bool, true, false, ◌==◌, if◌then◌else◌, Option, Some, None, List, [], ◌++◌, length, slice_index_or}
 use Rattle.smp_words.specs.Size.{cpus, records, owner}
 use Rattle.smp_words.specs.Flags.{class_of}
-use Rattle.smp_call_steps.specs.Order.{order}
 use Rattle.smp_call_steps.specs.Posts.{post_access}
 use Rattle.smp_call_steps.specs.Drains.{DrainValue, no_drain, handle_access, handle_outcome, drain_after, source_at}
 use Rattle.smp_call_steps.specs.Stages.{ControlValue}
-use Rattle.smp_call_steps.specs.Calls.{CallState, Holding, Running, Nothing, SyncCall, CountedCall, AsyncCall, Sending, tells}
+use Rattle.smp_call_steps.specs.Calls.{CallState, Holding, no_calls, tells}
+use Rattle.smp_call_steps.specs.Parts.{Part, part_of, part_confirmed, part_queued, part_after, number_or_zero}
 use Rattle.smp_call_steps.specs.Places.{IsCall}
 use Rattle.smp_call_steps.specs.Histories.{sent_to, calls_from, one_held, counted_call}
 use Rattle.smp_call_steps.specs.Stands.{held_of, held_of_post, posted, PostGoes}
 use Rattle.smp_call_steps.specs.Shows.{Shows}
-use Rattle.smp_words.specs.declared.call.Call.{Call}
-use Rattle.smp_words.specs.declared.call.Class.{Class}
+use Rattle.smp_call_steps.specs.Names.{Call, Class, Word, Intr, Hand, Queued, Flags, Func, Info, Next, Access, Load, Store, Seen, Act, Posting, PostStage}
+use Rattle.smp_call_steps.specs.Names.{HandleStage, Stage, Send, Done, Post, Handle}
+use Rattle.smp_call_steps.specs.Names.act
+use Rattle.smp_call_steps.specs.Names.post
+use Rattle.smp_call_steps.specs.Names.handle
 use Rattle.smp_call_steps.specs.declared.known.Known.{Known}
-use Rattle.smp_words.specs.declared.word.Word.{Word}
-use Rattle.smp_words.specs.declared.word.Word.TheVariants.{Head, Intr, Hand, Queued, Ran, Flags, Func, Info, Next}
-use Rattle.smp_words.specs.declared.access.Access.{Access}
-use Rattle.smp_words.specs.declared.access.Access.TheVariants.{Load, Store}
-use Rattle.smp_words.specs.declared.seen.Act.{Act}
-use Rattle.smp_words.specs.declared.seen.Act.TheVariants as act
-use Rattle.smp_words.specs.declared.seen.Seen.{Seen}
-use Rattle.smp_call_steps.specs.declared.post.Posting.{Posting}
-use Rattle.smp_call_steps.specs.declared.post.PostStage.{PostStage}
-use Rattle.smp_call_steps.specs.declared.post.PostStage.TheVariants as post
-use Rattle.smp_call_steps.specs.declared.handle.HandleStage.{HandleStage}
-use Rattle.smp_call_steps.specs.declared.handle.HandleStage.TheVariants as handle
-use Rattle.smp_call_steps.specs.declared.stage.Stage.{Stage}
-use Rattle.smp_call_steps.specs.declared.stage.Stage.TheVariants.{Send, Done, Post, Handle}
-
--- the first n values of f
-unfoldable pub row : {A : Type 0} → ℕ → (ℕ → A) → List A
-row zero f = []
-row (suc n) f = f zero ∷ row n (λ k. f (suc k))
 
 -- what the steps so far have told of a post: the rest is put as zero
 abbrev pub told_so : Posting → ℕ → ℕ → ℕ → Posting
@@ -62,68 +46,15 @@ told_stage (Some (Done id)) = None
 told_stage (Some (Post p stage)) = told_post p stage
 told_stage (Some (Handle stage)) = told_handle stage
 
--- a CPU's part of the calls
-pub record Part : Type 0 where
-  pub sent : List Sending
-  pub taken : List (List Call)
-  pub batch : List Call
-  pub running : Running
-  pub ran : List Call
-  pub owes : List Bool
-  pub accepted : Bool
-  pub asked : List Bool
-  pub confirmed : List Bool
-
-abbrev pub part_of : CallState → ℕ → Part
-part_of a me = record {
-  sent = a.sent me;
-  taken = a.taken me;
-  batch = a.batch me;
-  running = a.running me;
-  ran = a.ran me;
-  owes = row cpus (a.owes me);
-  accepted = a.accepted me;
-  asked = a.asked me;
-  confirmed = row records (a.confirmed me);
-}
-
--- what a CPU knows that stands so and has this part
-abbrev pub knowing : ℕ → Option Stage → DrainValue → Part → Known
-knowing me stage drain p = record {
-  number = me;
-  stage = stage;
-  drain = drain;
-  sent = p.sent;
-  taken = p.taken;
-  batch = p.batch;
-  running = p.running;
-  ran = p.ran;
-  owes = p.owes;
-  accepted = p.accepted;
-  asked = p.asked;
-  confirmed = p.confirmed;
-}
-
 -- what a CPU knows of these calls
-abbrev pub known_of : CallState → (ℕ → ControlValue) → ℕ → Known
-known_of a control me = knowing me (told_stage (control me).stage) (control me).drain (part_of a me)
+pub record Sees (a : CallState) (control : ℕ → ControlValue) (v : Known) : Type 0 where
+  pub stage : told_stage (control v.number).stage ≡ v.stage
+  pub drain : (control v.number).drain ≡ v.drain
+  pub part : part_of a v.number ≡ v.part
 
 -- a CPU that has done nothing yet
 abbrev pub fresh : ℕ → Known
-fresh me = record {
-  number = me;
-  stage = None;
-  drain = no_drain;
-  sent = [];
-  taken = [];
-  batch = [];
-  running = Nothing;
-  ran = [];
-  owes = row cpus (λ _. false);
-  accepted = false;
-  asked = [];
-  confirmed = row records (λ _. true);
-}
+fresh me = record { number = me; stage = None; drain = no_drain; part = part_of no_calls me }
 
 -- what follows a step of a post, as the step tells it
 
@@ -168,10 +99,6 @@ stage_outside act.Store w (Some n) s = stage_of_store w n s
 stage_outside act.Cas w put s = stage_of_exchange put s
 stage_outside _ w put s = s
 
-abbrev pub number_or_zero : Option ℕ → ℕ
-number_or_zero (Some n) = n
-number_or_zero None = 0
-
 -- where a CPU stands after a step of its own: inside handle by the step table, else by what the step told
 abbrev pub stage_after : Option Stage → DrainValue → Act → Word → Option ℕ → Option ℕ → Option Stage
 stage_after (Some (Handle stage)) d act w found put = (handle_outcome d stage (number_or_zero found)).next
@@ -185,90 +112,13 @@ abbrev pub drain_then : Option Stage → DrainValue → Option ℕ → DrainValu
 drain_then (Some (Handle stage)) d found = drain_after d stage (number_or_zero found)
 drain_then _ d found = d
 
--- the own part of what a step tells, by the queue that a swap of the head takes
-
-abbrev pub part_appended : ℕ → Bool → Option Holding → Part → Part
-part_appended to first None p = p
-part_appended to first (Some h) p = record p {
-  sent = p.sent ++ record { call = h.call; to = to; is_first = first } ∷ [];
-  owes = if first then slice_set p.owes to true else p.owes;
-  confirmed = slice_set p.confirmed h.call.id false;
-}
-
-abbrev pub part_taken : List Call → Part → Part
-part_taken queue p = record p { taken = p.taken ++ queue ∷ []; batch = order queue; accepted = false }
-
-abbrev pub part_accepted : Bool → Part → Part
-part_accepted pending p = record p { asked = p.asked ++ pending ∷ []; accepted = if pending then true else p.accepted }
-
-abbrev pub part_begun_sync : List Call → Part → Part
-part_begun_sync [] p = p
-part_begun_sync (call ∷ rest) p = record p { batch = rest; running = SyncCall call }
-
-abbrev pub part_begun_async : List Call → Part → Part
-part_begun_async [] p = p
-part_begun_async (call ∷ rest) p = record p { batch = rest; running = AsyncCall call }
-
-abbrev pub part_ended : Call → Part → Part
-part_ended call p = record p { running = Nothing; ran = p.ran ++ call ∷ [] }
-
-abbrev pub part_counted : Running → Part → Part
-part_counted (SyncCall call) p = record p { running = CountedCall call }
-part_counted (AsyncCall call) p = part_ended call p
-part_counted _ p = p
-
-abbrev pub part_unlocked : Running → Part → Part
-part_unlocked (CountedCall call) p = part_ended call p
-part_unlocked _ p = part_begun_async p.batch p
-
-abbrev pub part_released : Option Holding → Part → Part
-part_released (Some h) p = p
-part_released None p = part_unlocked p.running p
-
-abbrev pub part_flags : ℕ → Option Holding → Act → Option ℕ → Option ℕ → Part → Part
-part_flags id held act.Load (Some found) put p = if found % 2 == 1 then p else record p { confirmed = slice_set p.confirmed id true }
-part_flags id held act.Store found (Some n) p = if n == 0 then part_released held p else p
-part_flags id held _ found put p = p
-
-abbrev pub part_head : List Call → ℕ → Option Holding → Act → Option ℕ → Option ℕ → Part → Part
-part_head queue to held act.Cas (Some found) (Some n) p = part_appended to (found == 0) held p
-part_head queue to held act.Swap found put p = part_taken queue p
-part_head queue to held _ found put p = p
-
-abbrev pub part_intr : ℕ → Act → Option ℕ → Part → Part
-part_intr to act.Store found p = record p { owes = slice_set p.owes to false }
-part_intr to act.Swap found p = part_accepted (number_or_zero found == 1) p
-part_intr to _ found p = p
-
-abbrev pub part_hand : Option ℕ → Part → Part
-part_hand (Some n) p = if nat_lt 1 n then part_begun_sync p.batch p else p
-part_hand None p = p
-
-abbrev pub part_told : List Call → Option Holding → Act → Word → Option ℕ → Option ℕ → Part → Part
-part_told queue held act (Flags id) found put p = part_flags id held act found put p
-part_told queue held act (Head to) found put p = part_head queue to held act found put p
-part_told queue held act (Intr to) found put p = part_intr to act found p
-part_told queue held act (Hand cpu) found put p = part_hand put p
-part_told queue held act (Ran by from) found put p = part_counted p.running p
-part_told queue held act _ found put p = p
-
-abbrev pub part_in : Known → Part
-part_in v = record {
-  sent = v.sent;
-  taken = v.taken;
-  batch = v.batch;
-  running = v.running;
-  ran = v.ran;
-  owes = v.owes;
-  accepted = v.accepted;
-  asked = v.asked;
-  confirmed = v.confirmed;
-}
-
 -- what a CPU knows after a step of its own; a swap of the head takes this queue
 abbrev pub known_taking : List Call → Known → Act → Word → Option ℕ → Option ℕ → Known
-known_taking queue v act w found put =
-    knowing v.number (stage_after v.stage v.drain act w found put) (drain_then v.stage v.drain found) (part_told queue (held_of v.stage) act w found put (part_in v))
+known_taking queue v act w found put = record v {
+  stage = stage_after v.stage v.drain act w found put;
+  drain = drain_then v.stage v.drain found;
+  part = part_after queue (held_of v.stage) act w found put v.part;
+}
 
 -- the same of a step that takes no queue
 abbrev pub known_told : Known → Act → Word → Option ℕ → Option ℕ → Known
@@ -278,56 +128,52 @@ abbrev pub known_tells : List Call → Known → Seen → Known
 known_tells queue v seen = known_taking queue v seen.act seen.word seen.found seen.put
 
 -- to lock, a CPU has to know that the record is free
-abbrev pub IsReady : Known → ℕ → PostStage → Type 0
-IsReady v id post.Lock = slice_index_or v.confirmed id false ≡ true
-IsReady v id _ = Unit {0}
+abbrev pub IsLockable : Known → ℕ → PostStage → Type 0
+IsLockable v id post.Lock = slice_index_or v.part.confirmed id false ≡ true
+IsLockable v id _ = Unit {0}
 
 -- a CPU that knows v may make the step of this stage
-pub record PostAims (v : Known) (p : Posting) (stage : PostStage) : Type 0 where
+pub record MayPost (v : Known) (p : Posting) (stage : PostStage) : Type 0 where
   pub told : told_post p stage ≡ v.stage
   pub owned : owner p.id ≡ v.number
   pub is_call : IsCall (posted p)
   pub me_in_range : v.number < cpus
   pub goes : PostGoes p stage
-  pub ready : IsReady v p.id stage
+  pub ready : IsLockable v p.id stage
 
-abbrev pub Aims : Known → Stage → Type 0
-Aims v (Send to) = (v.stage ≡ None) × (to < cpus) × (v.number < cpus)
-Aims v (Done id) = (v.stage ≡ None) × (owner id ≡ v.number) × (id < records)
-Aims v (Post p stage) = PostAims v p stage
-Aims v (Handle stage) = (v.stage ≡ told_handle stage) × (v.number < cpus)
+abbrev pub MayStep : Known → Stage → Type 0
+MayStep v (Send to) = (v.stage ≡ None) × (to < cpus) × (v.number < cpus)
+MayStep v (Done id) = (v.stage ≡ None) × (owner id ≡ v.number) × (id < records)
+MayStep v (Post p stage) = MayPost v p stage
+MayStep v (Handle stage) = (v.stage ≡ told_handle stage) × (v.number < cpus)
 
 -- the number in a CPU's tally word of the calls queued for a destination
-abbrev pub queued_tally : Known → Option Holding → ℕ → ℕ
-queued_tally v held to = (length (sent_to to v.sent) + one_held held to) % 2 ^ 64
+abbrev pub queued_tally : Part → Option Holding → ℕ → ℕ
+queued_tally p held to = (length (sent_to to p.sent) + one_held held to) % 2 ^ 64
 
 -- the number in a CPU's tally word of the calls run from a source
-abbrev pub ran_tally : Known → ℕ → ℕ
-ran_tally v source = length (calls_from source (v.ran ++ counted_call v.running)) % 2 ^ 64
+abbrev pub ran_tally : Part → ℕ → ℕ
+ran_tally p source = length (calls_from source (p.ran ++ counted_call p.running)) % 2 ^ 64
 
 -- the access of this stage, by what the CPU knows
 abbrev pub known_access : Known → Stage → Access
 known_access v (Send to) = Store (Intr to) 1
 known_access v (Done id) = Load (Flags id)
-known_access v (Post p stage) = post_access p v.number stage (queued_tally v (held_of_post p stage) p.to)
-known_access v (Handle stage) = handle_access v.number stage (ran_tally v (source_at stage))
-
--- the table at some time: this CPU knows v, and this number is in the word
-pub record Moment (v : Known) (word : Word) (number : ℕ) : Type 0 where
-  pub calls : CallState
-  pub at : Word → ℕ
-  pub control : ℕ → ControlValue
-  pub shown : Shows calls at control
-  pub view : v ≡ known_of calls control v.number
-  pub number_is : number ≡ at word
+known_access v (Post p stage) = post_access p v.number stage (queued_tally v.part (held_of_post p stage) p.to)
+known_access v (Handle stage) = handle_access v.number stage (ran_tally v.part (source_at stage))
 
 -- some words show some calls, of which a CPU that knows v knows its part
 pub record Lives (v : Known) : Type 0 where
   pub calls : CallState
   pub at : Word → ℕ
-  pub control : ℕ → ControlValue
-  pub shown : Shows calls at control
-  pub view : v ≡ known_of calls control v.number
+  pub controls : ℕ → ControlValue
+  pub shown : Shows calls at controls
+  pub sees : Sees calls controls v
+
+-- the table at some time: this CPU knows v, and this number is in the word
+pub record Moment (v : Known) (word : Word) (number : ℕ) : Type 0 where
+  pub lives : Lives v
+  pub number_is : number ≡ lives.at word
 
 -- the table goes on by a step of this CPU, after which it knows w
 pub record GoesOn (a : CallState) (control : ℕ → ControlValue) (me : ℕ) (at : Word → ℕ) (w : Known) : Type 0 where
@@ -336,8 +182,9 @@ pub record GoesOn (a : CallState) (control : ℕ → ControlValue) (me : ℕ) (a
   pub told : calls ≡ tells a seen
   pub controls : ℕ → ControlValue
   pub shown : Shows calls at controls
-  pub mine : known_of calls controls me ≡ w
-  pub others : (cpu : ℕ) → ¬ (cpu ≡ me) → known_of calls controls cpu ≡ known_of a control cpu
+  pub mine : Sees calls controls w
+  pub number_is : w.number ≡ me
+  pub others : (o : Known) → o.number ≢ me → Sees a control o → Sees calls controls o
 
 -- the call that a post is queueing, once all is told of it
 abbrev pub posting_of : ℕ → Class → ℕ → ℕ → ℕ → Posting
@@ -353,16 +200,12 @@ outside_known v = record v { stage = None }
 
 -- a CPU that has seen its record confirmed
 abbrev pub confirmed_known : ℕ → Known → Known
-confirmed_known id v = record v { confirmed = slice_set v.confirmed id true }
+confirmed_known id v = record v { part = part_confirmed id v.part }
 
 -- a CPU that has queued this call
-abbrev pub appended_known : ℕ → Bool → Option Holding → Known → Known
-appended_known to first h v = knowing v.number None v.drain (part_appended to first h (part_in v))
-
--- a CPU that has sent an interrupt
-abbrev pub sent_known : ℕ → Known → Known
-sent_known to v = record v { owes = slice_set v.owes to false }
+abbrev pub queued_known : Call → ℕ → Bool → Known → Known
+queued_known call to first v = record v { stage = None; part = part_queued call to first v.part }
 
 -- whether it has seen its record confirmed
 abbrev pub is_confirmed : Known → ℕ → Bool
-is_confirmed v id = slice_index_or v.confirmed id false
+is_confirmed v id = slice_index_or v.part.confirmed id false

@@ -1,3 +1,5 @@
+-- types by their names
+pub mod Names
 -- the step that a CPU makes at each stage
 pub mod Posts
 pub mod Order
@@ -17,6 +19,7 @@ pub mod Counts
 pub mod BatchLinks
 pub mod QueueOrder
 -- what a CPU knows
+pub mod Parts
 pub mod Known
 pub mod Handling
 -- the machine: a list of words, and a list of controls

@@ -1,8 +1,6 @@
 -- The order in which a batch runs: its SYNC calls, then its ASYNC calls, each oldest first.
 use Rattle.std.specs.Prelude.{List, [], ◌∷◌, ◌++◌}
-use Rattle.smp_words.specs.declared.call.Call.{Call}
-use Rattle.smp_words.specs.declared.call.Class.{Class}
-use Rattle.smp_words.specs.declared.call.Class.TheVariants.{Sync, Async}
+use Rattle.smp_call_steps.specs.Names.{Call, Class, Sync, Async}
 
 -- the call where its class is SYNC
 abbrev pub if_sync : Class → Call → List Call

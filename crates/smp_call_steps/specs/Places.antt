@@ -3,9 +3,8 @@ use Rattle.std.specs.Prelude.{◌≡◌, ◌≢◌, ℕ, ◌^◌, ◌<◌, ◌�
 use Rattle.std.specs.List.{AllByRecursion}
 use Rattle.smp_words.specs.Size.{owner, records}
 use Rattle.smp_call_steps.specs.Calls.{Holding, Running, Nothing, SyncCall, CountedCall, AsyncCall}
-use Rattle.smp_words.specs.declared.call.Call.{Call}
-use Rattle.smp_call_steps.specs.declared.place.RecPlace.{RecPlace}
-use Rattle.smp_call_steps.specs.declared.place.RecPlace.TheVariants as place
+use Rattle.smp_call_steps.specs.Names.{Call, RecPlace}
+use Rattle.smp_call_steps.specs.Names.place
 
 -- no call of the list is by this record
 abbrev pub IsAbsent : ℕ → List Call → Type 0

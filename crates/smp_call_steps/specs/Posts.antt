@@ -1,17 +1,9 @@
 -- The steps of a post, one after another.
 use Rattle.std.specs.Prelude.{ℕ, ◌+◌, ◌-◌, ◌%◌, ◌^◌, ◌==◌, nat_lt, if◌then◌else◌, Some, None}
 use Rattle.smp_words.specs.Flags.{flags_of}
-use Rattle.smp_words.specs.declared.word.Word.TheVariants.{Head, Queued, Flags, Func, Info, Next}
-use Rattle.smp_words.specs.declared.access.Access.{Access}
-use Rattle.smp_words.specs.declared.access.Access.TheVariants.{Load, Store, Exchange}
-use Rattle.smp_words.specs.declared.seen.Note.{Note}
-use Rattle.smp_words.specs.declared.seen.Note.TheVariants as note
-use Rattle.smp_call_steps.specs.declared.post.Posting.{Posting}
-use Rattle.smp_call_steps.specs.declared.post.PostStage.{PostStage}
-use Rattle.smp_call_steps.specs.declared.post.PostStage.TheVariants as post
-use Rattle.smp_call_steps.specs.declared.stage.Stage.{Stage}
-use Rattle.smp_call_steps.specs.declared.stage.Stage.TheVariants.{Post}
-use Rattle.smp_call_steps.specs.declared.stage.Outcome.{Outcome}
+use Rattle.smp_call_steps.specs.Names.{Head, Queued, Flags, Func, Info, Next, Access, Load, Store, Exchange, Note, Posting, PostStage, Outcome, Stage, Post}
+use Rattle.smp_call_steps.specs.Names.note
+use Rattle.smp_call_steps.specs.Names.post
 
 abbrev pub go_on : Stage → Outcome
 go_on stage = record { next = Some stage; note = None }

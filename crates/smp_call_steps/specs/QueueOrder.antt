@@ -6,10 +6,7 @@ use Rattle.smp_call_steps.specs.Calls.{CallState}
 use Rattle.smp_call_steps.specs.Counts.{batches}
 use Rattle.smp_call_steps.specs.Shows.{Shows}
 use Rattle.smp_call_steps.specs.Stages.{ControlValue}
-use Rattle.smp_words.specs.declared.call.Call.{Call}
-use Rattle.smp_words.specs.declared.call.Class.{Class}
-use Rattle.smp_words.specs.declared.call.Class.TheVariants.{Sync, Async}
-use Rattle.smp_words.specs.declared.word.Word.{Word}
+use Rattle.smp_call_steps.specs.Names.{Call, Class, Sync, Async, Word}
 
 -- the call where its class is this one
 abbrev pub if_class : Class → Class → Call → List Call

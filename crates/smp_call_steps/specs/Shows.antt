@@ -7,7 +7,7 @@ use Rattle.smp_call_steps.specs.Words.{Written, Chained, Linked, Noticed, flags_
 use Rattle.smp_call_steps.specs.Words.{ran_in}
 use Rattle.smp_call_steps.specs.Histories.{Recorded, Tallied}
 use Rattle.smp_call_steps.specs.Stands.{Stands, share_of, held_of, HandIs}
-use Rattle.smp_words.specs.declared.word.Word.{Word}
+use Rattle.smp_call_steps.specs.Names.{Word}
 
 pub record Shows (a : CallState) (at : Word → ℕ) (control : ℕ → ControlValue) : Type 0 where
   -- each CPU holds what its stage says, and stands where it may

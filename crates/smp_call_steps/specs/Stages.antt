@@ -2,14 +2,8 @@
 use Rattle.std.specs.Prelude.{ℕ, ◌%◌, ◌==◌, if◌then◌else◌, Option}
 use Rattle.smp_call_steps.specs.Posts.{ends, post_access, post_outcome}
 use Rattle.smp_call_steps.specs.Drains.{DrainValue, source_at, handle_access, handle_outcome, drain_after, FitsFound, RoomAt}
-use Rattle.smp_words.specs.declared.word.Word.{Word}
-use Rattle.smp_words.specs.declared.word.Word.TheVariants.{Intr, Queued, Ran, Flags}
-use Rattle.smp_words.specs.declared.access.Access.{Access}
-use Rattle.smp_words.specs.declared.access.Access.TheVariants.{Load, Store}
-use Rattle.smp_words.specs.declared.seen.Note.TheVariants as note
-use Rattle.smp_call_steps.specs.declared.stage.Stage.{Stage}
-use Rattle.smp_call_steps.specs.declared.stage.Stage.TheVariants.{Send, Done, Post, Handle}
-use Rattle.smp_call_steps.specs.declared.stage.Outcome.{Outcome}
+use Rattle.smp_call_steps.specs.Names.{Word, Intr, Queued, Ran, Flags, Access, Load, Store, Outcome, Stage, Send, Done, Post, Handle}
+use Rattle.smp_call_steps.specs.Names.note
 
 -- where a CPU stands: its stage, none outside a command, and its drain
 pub record ControlValue : Type 0 where

@@ -9,20 +9,11 @@ use Rattle.smp_call_steps.specs.Drains.{DrainValue, link_to}
 use Rattle.smp_call_steps.specs.Stages.{ControlValue}
 use Rattle.smp_call_steps.specs.Words.{Leads, Path, last_batch, IsWritten, flags_in, funcs_in, infos_in, nexts_in}
 use Rattle.smp_call_steps.specs.Places.{IsApart, IsCall}
-use Rattle.smp_words.specs.declared.call.Call.{Call}
-use Rattle.smp_words.specs.declared.call.Class.TheVariants.{Sync, Async}
-use Rattle.smp_call_steps.specs.declared.place.RecPlace.{RecPlace}
-use Rattle.smp_call_steps.specs.declared.place.RecPlace.TheVariants as place
-use Rattle.smp_words.specs.declared.word.Word.{Word}
-use Rattle.smp_words.specs.declared.word.Word.TheVariants.{Flags, Func, Next}
-use Rattle.smp_call_steps.specs.declared.post.Posting.{Posting}
-use Rattle.smp_call_steps.specs.declared.post.PostStage.{PostStage}
-use Rattle.smp_call_steps.specs.declared.post.PostStage.TheVariants as post
-use Rattle.smp_call_steps.specs.declared.handle.Walk.{Walk}
-use Rattle.smp_call_steps.specs.declared.handle.HandleStage.{HandleStage}
-use Rattle.smp_call_steps.specs.declared.handle.HandleStage.TheVariants as handle
-use Rattle.smp_call_steps.specs.declared.stage.Stage.{Stage}
-use Rattle.smp_call_steps.specs.declared.stage.Stage.TheVariants.{Send, Done, Post, Handle}
+use Rattle.smp_call_steps.specs.Names.{Call, Sync, Async, Word, Flags, Func, Next, RecPlace, Posting, PostStage, Walk, HandleStage, Stage, Send, Done, Post}
+use Rattle.smp_call_steps.specs.Names.{Handle}
+use Rattle.smp_call_steps.specs.Names.place
+use Rattle.smp_call_steps.specs.Names.post
+use Rattle.smp_call_steps.specs.Names.handle
 
 -- what a post has stored of its call, and whether it is counted
 abbrev pub holding : Posting → ℕ → ℕ → ℕ → Bool → Holding

@@ -6,14 +6,11 @@ use Rattle.smp_mask.specs.declared.error.SmpError.TheVariants as error
 use Rattle.smp_words.specs.Size.{records_of_one, record_of}
 use Rattle.smp_words.specs.declared.size.TheConstants.{FIRST_OF_ONE, USER}
 use Rattle.smp_call_steps.specs.Stages.{ControlValue}
-use Rattle.smp_words.specs.declared.call.Class.{Class}
-use Rattle.smp_words.specs.declared.call.Class.TheVariants.{Sync, Async}
+use Rattle.smp_call_steps.specs.Names.{Class, Sync, Async, Stage, Send, Done, Post, Handle}
+use Rattle.smp_call_steps.specs.Names.post
+use Rattle.smp_call_steps.specs.Names.handle
 use Rattle.smp_words.specs.declared.command.Command.{Command}
 use Rattle.smp_words.specs.declared.command.Command.TheVariants as command
-use Rattle.smp_call_steps.specs.declared.post.PostStage.TheVariants as post
-use Rattle.smp_call_steps.specs.declared.handle.HandleStage.TheVariants as handle
-use Rattle.smp_call_steps.specs.declared.stage.Stage.{Stage}
-use Rattle.smp_call_steps.specs.declared.stage.Stage.TheVariants.{Send, Done, Post, Handle}
 
 abbrev pub is_sync : Class → Bool
 is_sync Sync = true

@@ -24,20 +24,31 @@ pub enum Running {
     AsyncCall(Call),
 }
 
+/// A CPU's own part of the calls.
+pub struct Part {
+    /// The calls that it has queued, each with its destination and whether the queue was empty.
+    pub sent: LinkedList<Sending>,
+    /// The batches that it has taken, each as it stood in the queue.
+    pub taken: LinkedList<LinkedList<Call>>,
+    /// What is left to run of the last batch.
+    pub batch: LinkedList<Call>,
+    pub running: Running,
+    /// The calls that it has run.
+    pub ran: LinkedList<Call>,
+    /// Of each CPU, whether it is owed an interrupt.
+    pub owes: LinkedList<bool>,
+    /// Whether it has accepted an interrupt and not yet taken its queue.
+    pub accepted: bool,
+    /// For each time that it took its interrupt word, whether an interrupt was pending.
+    pub asked: LinkedList<bool>,
+    /// Of each record, whether its last call is seen confirmed.
+    pub confirmed: LinkedList<bool>,
+}
+
 /// What a CPU knows: where it stands, as far as its steps have told, and its own part of the calls.
 pub struct Known {
     pub number: u32,
     pub stage: Option<Stage>,
     pub drain: Drain,
-    pub sent: LinkedList<Sending>,
-    pub taken: LinkedList<LinkedList<Call>>,
-    pub batch: LinkedList<Call>,
-    pub running: Running,
-    pub ran: LinkedList<Call>,
-    /// Of each CPU, whether it is owed an interrupt.
-    pub owes: LinkedList<bool>,
-    pub accepted: bool,
-    pub asked: LinkedList<bool>,
-    /// Of each record, whether its last call is seen confirmed.
-    pub confirmed: LinkedList<bool>,
+    pub part: Part,
 }

@@ -38,9 +38,9 @@ same_record number j k b l = elim (cases_eq j k) [
 ]
 
 -- whether a record is confirmed once another one is locked
-pub locks_at : (c : CpuValue) (k j : ℕ) → IsSized c → k < records_of_one → j < records_of_one → get_or (set c.confirmed (record_of c.number k) false) (record_of c.number j) false ≡ cond (record_of c.number j == record_of c.number k) false (confirmed_at c j)
+pub locks_at : (c : CpuValue) (k j : ℕ) → IsSized c → k < records_of_one → j < records_of_one → get_or (set c.part.confirmed (record_of c.number k) false) (record_of c.number j) false ≡ cond (record_of c.number j == record_of c.number k) false (confirmed_at c j)
 locks_at c k j s l b = elim (cases_eq j k) [
-  | inl e ↦ rw (eq-eqb (record_of c.number j) (record_of c.number k) (ap (record_of c.number) e)) (subst (λ (i : ℕ). get_or (set c.confirmed (record_of c.number k) false) (record_of c.number i) false ≡ false) (sym e) (set_here c k false s l))
+  | inl e ↦ rw (eq-eqb (record_of c.number j) (record_of c.number k) (ap (record_of c.number) e)) (subst (λ (i : ℕ). get_or (set c.part.confirmed (record_of c.number k) false) (record_of c.number i) false ≡ false) (sym e) (set_here c k false s l))
   | inr n ↦
       let apart = λ (e : record_of c.number j ≡ record_of c.number k). n (same_local c.number j k b l e) in
       rw (ne_eqb (record_of c.number j) (record_of c.number k) apart) (set_else c (record_of c.number k) (record_of c.number j) false apart)
@@ -63,7 +63,7 @@ abbrev pub one_queued : ℕ → Bool → List Queued
 one_queued to first = record { to = to; is_first = first } ∷ []
 
 -- the records of a CPU once one is locked
-locked : (c : CpuValue) (number k j : ℕ) → IsSized c → k < records_of_one → j < records_of_one → c.number ≡ number → get_or (set c.confirmed (record_of c.number k) false) (record_of c.number j) false ≡ cond (j == k) false (confirmed_at c j)
+locked : (c : CpuValue) (number k j : ℕ) → IsSized c → k < records_of_one → j < records_of_one → c.number ≡ number → get_or (set c.part.confirmed (record_of c.number k) false) (record_of c.number j) false ≡ cond (j == k) false (confirmed_at c j)
 locked c number k j s l b n = locks_at c k j s l b ∙ ap (λ x. cond x false (confirmed_at c j)) (same_record c.number j k b l)
 
 or_cond : (b x : Bool) → (b || cond b false x) ≡ cond b true x
@@ -80,17 +80,17 @@ module _ {H : Type 0} (leads : H → Heard → H → Type 0) where
   leaves_sent true c h k to class func info s l = record {
     table_is = refl;
     number_is = refl;
-    sized = length-set c.confirmed (record_of c.number k) false;
-    owes_sized = length-set (set c.owes to true) to false ∙ length-set c.owes to true;
+    sized = length-set c.part.confirmed (record_of c.number k) false;
+    owes_sized = length-set (set c.part.owes to true) to false ∙ length-set c.part.owes to true;
     sent_is = refl;
-    owes_are = λ x. owed_at c.owes to x;
+    owes_are = λ x. owed_at c.part.owes to x;
     confirmed_are = λ j b. locked c c.number k j s l b refl;
     handled = handles_same leads c (sent_one k to class func info true c) h refl refl refl;
   }
   leaves_sent false c h k to class func info s l = record {
     table_is = refl;
     number_is = refl;
-    sized = length-set c.confirmed (record_of c.number k) false;
+    sized = length-set c.part.confirmed (record_of c.number k) false;
     owes_sized = refl;
     sent_is = refl;
     owes_are = λ x. sym (and_true (owes_at c x));

@@ -109,12 +109,12 @@ module _ {H : Type 0} (leads : H → Heard → H → Type 0) where
       record {
         table_is = ap (λ (x : CpuValue). x.table) field;
         number_is = ap (λ (x : CpuValue). x.number) field;
-        sized = ap (λ (x : CpuValue). length x.confirmed) field;
+        sized = ap (λ (x : CpuValue). length x.part.confirmed) field;
         owes_sized = s.owes_sized;
-        sent_is = ap (λ (x : CpuValue). x.sent) field ∙ sym (append-nil c.sent);
+        sent_is = ap (λ (x : CpuValue). x.part.sent) field ∙ sym (append-nil c.part.sent);
         owes_are = s.owes_are;
         confirmed_are = λ k b. ap (λ (x : CpuValue). confirmed_at x k) field;
-        handled = handles_same leads c d h (ap (λ (x : CpuValue). x.asked) field) (ap (λ (x : CpuValue). x.taken) field) (ap (λ (x : CpuValue). x.ran) field);
+        handled = handles_same leads c d h (ap (λ (x : CpuValue). x.part.asked) field) (ap (λ (x : CpuValue). x.part.taken) field) (ap (λ (x : CpuValue). x.part.ran) field);
       }
 
   -- all calls are queued, and then all interrupts sent

@@ -57,13 +57,13 @@ owed_after owes cpu c o i e = elim (cases_eq c cpu) [
 
 pub sends_more : (old mid new : CpuValue) (cpu : ℕ) (xs : List ℕ) → Sends old mid xs → new ≡ sends cpu mid → Sends old new (xs ++ cpu ∷ [])
 sends_more old mid new cpu xs s e =
-    let owes : new.owes ≡ set mid.owes cpu false = ap (λ (x : CpuValue). x.owes) e in
+    let owes : new.part.owes ≡ set mid.part.owes cpu false = ap (λ (x : CpuValue). x.part.owes) e in
     record {
-      others_are = e ∙ (ap (λ (x : CpuValue). record x { owes = set mid.owes cpu false }) s.others_are ∙ ap (λ (o : List Bool). record old { owes = o }) (sym owes));
-      owes_sized = ap length owes ∙ (length-set mid.owes cpu false ∙ s.owes_sized);
+      others_are = e ∙ (ap (λ (x : CpuValue). record x { part = record (x.part) { owes = set mid.part.owes cpu false } }) s.others_are ∙ ap (λ (o : List Bool). record old { part = record (old.part) { owes = o } }) (sym owes));
+      owes_sized = ap length owes ∙ (length-set mid.part.owes cpu false ∙ s.owes_sized);
       owes_are = λ c.
           ap (λ (o : List Bool). get_or o c false) owes ∙
-          (owed_after mid.owes cpu c (owes_at old c) (is_in c xs) (s.owes_are c) ∙
+          (owed_after mid.part.owes cpu c (owes_at old c) (is_in c xs) (s.owes_are c) ∙
           ap (λ b. owes_at old c && not b) (sym (is_in-append c xs (cpu ∷ []))));
     }
 

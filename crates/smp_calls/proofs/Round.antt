@@ -93,15 +93,15 @@ module _ {H : Type 0} (leads : H → Heard → H → Type 0) where
     leaves = record {
       table_is = refl;
       number_is = refl;
-      sized = length-set c.confirmed (record_of c.number (many_record to)) false;
-      owes_sized = owes_length first c.owes to;
+      sized = length-set c.part.confirmed (record_of c.number (many_record to)) false;
+      owes_sized = owes_length first c.part.owes to;
       sent_is = refl;
       owes_are = λ x. refl;
       confirmed_are = λ j b. locks_at c (many_record to) j s l b ∙ ap (λ x. cond x false (confirmed_at c j)) (sym (or_false (record_of c.number j == record_of c.number (many_record to))));
       handled = handles_same leads c (posts (many_record to) to class func info first c) h refl refl refl;
     };
-    kept = λ x e. owed_else first c.owes to x e;
-    due = λ x e l. owed_then first c.owes to x e l;
+    kept = λ x e. owed_else first c.part.owes to x e;
+    due = λ x e l. owed_then first c.part.owes to x e l;
   }
 
   -- one queueing after the other

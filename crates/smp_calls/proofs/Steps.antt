@@ -14,18 +14,18 @@ use Rattle.smp_calls.specs.Families.{IsSized, Leaves, owes_at}
 use Rattle.smp_calls.proofs.Turns.{handles_none, handles_same, handles_nothing, handles_batch, handled_then, handled_later, handled_here}
 
 -- sized as before
-pub sized_moved : (c d : CpuValue) → d.number ≡ c.number → length d.confirmed ≡ length c.confirmed → IsSized c → IsSized d
+pub sized_moved : (c d : CpuValue) → d.number ≡ c.number → length d.part.confirmed ≡ length c.part.confirmed → IsSized c → IsSized d
 sized_moved c d n e s = record { number = subst (λ (m : ℕ). m < cpus) (sym n) s.number; records_are = e ∙ s.records_are }
 
 -- a record that is stored as confirmed or not, and the others
-pub set_here : (c : CpuValue) (k : ℕ) (b : Bool) → IsSized c → k < records_of_one → slice_index_or (slice_set c.confirmed (record_of c.number k) b) (record_of c.number k) false ≡ b
+pub set_here : (c : CpuValue) (k : ℕ) (b : Bool) → IsSized c → k < records_of_one → slice_index_or (slice_set c.part.confirmed (record_of c.number k) b) (record_of c.number k) false ≡ b
 set_here c k b s l =
     let e = s.records_are in
     let below = record_of-below c.number k s.number l in
-    get_or-set_same c.confirmed (record_of c.number k) b false (omega arith)
+    get_or-set_same c.part.confirmed (record_of c.number k) b false (omega arith)
 
-pub set_else : (c : CpuValue) (i j : ℕ) (b : Bool) → (j ≡ i → ⊥) → slice_index_or (slice_set c.confirmed i b) j false ≡ slice_index_or c.confirmed j false
-set_else c i j b other = get_or-set_other c.confirmed i j b false other
+pub set_else : (c : CpuValue) (i j : ℕ) (b : Bool) → (j ≡ i → ⊥) → slice_index_or (slice_set c.part.confirmed i b) j false ≡ slice_index_or c.part.confirmed j false
+set_else c i j b other = get_or-set_other c.part.confirmed i j b false other
 
 -- one CPU's records are as many as their local numbers
 pub same_local : (number j k : ℕ) → j < records_of_one → k < records_of_one → record_of number j ≡ record_of number k → j ≡ k
@@ -34,7 +34,7 @@ same_local number j k b l e = one_local number j k b l e
 -- whether a record is confirmed once that of number k is
 pub confirms_at : (c : CpuValue) (k j : ℕ) → IsSized c → k < records_of_one → j < records_of_one → confirmed_at (confirms k c) j ≡ (j == k || confirmed_at c j)
 confirms_at c k j s l b = elim (cases_eq j k) [
-  | inl e ↦ rw (eq-eqb j k e) (subst (λ (i : ℕ). slice_index_or (slice_set c.confirmed (record_of c.number k) true) (record_of c.number i) false ≡ true) (sym e) (set_here c k true s l))
+  | inl e ↦ rw (eq-eqb j k e) (subst (λ (i : ℕ). slice_index_or (slice_set c.part.confirmed (record_of c.number k) true) (record_of c.number i) false ≡ true) (sym e) (set_here c k true s l))
   | inr n ↦ rw (ne_eqb j k n) (set_else c (record_of c.number k) (record_of c.number j) true (λ e. n (same_local c.number j k b l e)))
 ]
 
@@ -45,7 +45,7 @@ module _ {H : Type 0} (leads : H → Heard → H → Type 0) where
     number_is = refl;
     sized = refl;
     owes_sized = refl;
-    sent_is = sym (append-nil c.sent);
+    sent_is = sym (append-nil c.part.sent);
     owes_are = λ x. refl;
     confirmed_are = λ k l. refl;
     handled = handles_none leads c h;
@@ -70,7 +70,7 @@ module _ {H : Type 0} (leads : H → Heard → H → Type 0) where
     number_is = l.number_is ∙ f.number_is;
     sized = l.sized ∙ f.sized;
     owes_sized = l.owes_sized ∙ f.owes_sized;
-    sent_is = l.sent_is ∙ (ap (λ (xs : List Sending). xs ++ t) f.sent_is ∙ append_assoc old.sent s t);
+    sent_is = l.sent_is ∙ (ap (λ (xs : List Sending). xs ++ t) f.sent_is ∙ append_assoc old.part.sent s t);
     owes_are = l.owes_are;
     confirmed_are = l.confirmed_are;
     handled = handled_then leads old mid new before m after here f.handled l.handled;
@@ -82,7 +82,7 @@ module _ {H : Type 0} (leads : H → Heard → H → Type 0) where
     number_is = l.number_is ∙ f.number_is;
     sized = l.sized ∙ f.sized;
     owes_sized = l.owes_sized ∙ f.owes_sized;
-    sent_is = l.sent_is ∙ (ap (λ (xs : List Sending). xs ++ t) f.sent_is ∙ append_assoc old.sent s t);
+    sent_is = l.sent_is ∙ (ap (λ (xs : List Sending). xs ++ t) f.sent_is ∙ append_assoc old.part.sent s t);
     owes_are = l.owes_are;
     confirmed_are = l.confirmed_are;
     handled = handled_later leads old mid new before m after here f.handled l.handled;
@@ -101,7 +101,7 @@ module _ {H : Type 0} (leads : H → Heard → H → Type 0) where
         number_is = refl;
         sized = refl;
         owes_sized = refl;
-        sent_is = sym (append-nil c.sent);
+        sent_is = sym (append-nil c.part.sent);
         owes_are = λ x. refl;
         confirmed_are = λ k l. refl;
         handled = handles_batch leads c t.0 h i t.2;
@@ -115,7 +115,7 @@ module _ {H : Type 0} (leads : H → Heard → H → Type 0) where
         number_is = refl;
         sized = refl;
         owes_sized = refl;
-        sent_is = sym (append-nil c.sent);
+        sent_is = sym (append-nil c.part.sent);
         owes_are = λ x. refl;
         confirmed_are = λ k l. refl;
         handled = handles_nothing leads c h;
@@ -126,9 +126,9 @@ module _ {H : Type 0} (leads : H → Heard → H → Type 0) where
   leaves_confirmed c d h k s l e = subst (λ (x : CpuValue). Leaves leads c h x h [] None (owes_at c) (λ j. j == k || confirmed_at c j)) (sym e) (record {
     table_is = refl;
     number_is = refl;
-    sized = length-set c.confirmed (record_of c.number k) true;
+    sized = length-set c.part.confirmed (record_of c.number k) true;
     owes_sized = refl;
-    sent_is = sym (append-nil c.sent);
+    sent_is = sym (append-nil c.part.sent);
     owes_are = λ x. refl;
     confirmed_are = λ j b. confirms_at c k j s l b;
     handled = handles_same leads c (confirms k c) h refl refl refl;
@@ -148,7 +148,7 @@ module _ {H : Type 0} (leads : H → Heard → H → Type 0) where
     number_is = refl;
     sized = refl;
     owes_sized = refl;
-    sent_is = sym (append-nil c.sent);
+    sent_is = sym (append-nil c.part.sent);
     owes_are = λ y. refl;
     confirmed_are = λ k l. refl;
     handled = handled_here leads c h i x call;

@@ -34,12 +34,12 @@ grown xs ys zs us vs e f = f ∙ (ap (λ (ws : List _). ws ++ vs) e ∙ append_a
 
 module _ {H : Type 0} (leads : H → Heard → H → Type 0) where
   -- no look at all, whatever else the CPU has done
-  pub handles_same : (c d : CpuValue) (h : H) → d.asked ≡ c.asked → d.taken ≡ c.taken → d.ran ≡ c.ran → Handles leads c h d h
+  pub handles_same : (c d : CpuValue) (h : H) → d.part.asked ≡ c.part.asked → d.part.taken ≡ c.part.taken → d.part.ran ≡ c.part.ran → Handles leads c h d h
   handles_same c d h asked taken ran = record {
     turns = [];
-    asked_is = asked ∙ sym (append-nil c.asked);
-    taken_is = taken ∙ sym (append-nil c.taken);
-    ran_is = ran ∙ sym (append-nil c.ran);
+    asked_is = asked ∙ sym (append-nil c.part.asked);
+    taken_is = taken ∙ sym (append-nil c.part.taken);
+    ran_is = ran ∙ sym (append-nil c.part.ran);
     grows = refl;
   }
 
@@ -51,9 +51,9 @@ module _ {H : Type 0} (leads : H → Heard → H → Type 0) where
       let split : orders (batches (f.turns ++ l.turns)) ≡ orders (batches f.turns) ++ orders (batches l.turns) = ap orders (batches-append f.turns l.turns) ∙ orders-append (batches f.turns) (batches l.turns) in
       record {
         turns = f.turns ++ l.turns;
-        asked_is = grown old.asked mid.asked new.asked (looks f.turns) (looks l.turns) f.asked_is l.asked_is ∙ ap (λ (xs : List _). old.asked ++ xs) (sym (looks-append f.turns l.turns));
-        taken_is = grown old.taken mid.taken new.taken (batches f.turns) (batches l.turns) f.taken_is l.taken_is ∙ ap (λ (xs : List (List Call)). old.taken ++ xs) (sym (batches-append f.turns l.turns));
-        ran_is = grown old.ran mid.ran new.ran (orders (batches f.turns)) (orders (batches l.turns)) f.ran_is l.ran_is ∙ ap (λ (xs : List Call). old.ran ++ xs) (sym split);
+        asked_is = grown old.part.asked mid.part.asked new.part.asked (looks f.turns) (looks l.turns) f.asked_is l.asked_is ∙ ap (λ (xs : List _). old.part.asked ++ xs) (sym (looks-append f.turns l.turns));
+        taken_is = grown old.part.taken mid.part.taken new.part.taken (batches f.turns) (batches l.turns) f.taken_is l.taken_is ∙ ap (λ (xs : List (List Call)). old.part.taken ++ xs) (sym (batches-append f.turns l.turns));
+        ran_is = grown old.part.ran mid.part.ran new.part.ran (orders (batches f.turns)) (orders (batches l.turns)) f.ran_is l.ran_is ∙ ap (λ (xs : List Call). old.part.ran ++ xs) (sym split);
         grows = subst (λ (xs : List Call). Grows leads before xs after) (sym split) (folds-append _ (orders (batches f.turns)) (orders (batches l.turns)) before m after f.grows l.grows);
       }
 
@@ -62,8 +62,8 @@ module _ {H : Type 0} (leads : H → Heard → H → Type 0) where
   handles_nothing c h = record {
     turns = None ∷ [];
     asked_is = refl;
-    taken_is = sym (append-nil c.taken);
-    ran_is = sym (append-nil c.ran);
+    taken_is = sym (append-nil c.part.taken);
+    ran_is = sym (append-nil c.part.ran);
     grows = refl;
   }
 
@@ -73,7 +73,7 @@ module _ {H : Type 0} (leads : H → Heard → H → Type 0) where
     turns = Some batch ∷ [];
     asked_is = refl;
     taken_is = refl;
-    ran_is = ap (λ (xs : List Call). c.ran ++ xs) (sym (append-nil (order batch)));
+    ran_is = ap (λ (xs : List Call). c.part.ran ++ xs) (sym (append-nil (order batch)));
     grows = subst (λ (xs : List Call). Grows leads h xs i) (sym (append-nil (order batch))) grown;
   }
 

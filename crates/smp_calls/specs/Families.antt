@@ -18,19 +18,19 @@ use Rattle.smp_calls.specs.Records.{call_by, class_for, single_record, user_reco
 -- a CPU's number is one, and it has all its records
 pub record IsSized (c : CpuValue) : Type 0 where
   pub number : c.number < cpus
-  pub records_are : length c.confirmed ≡ records
+  pub records_are : length c.part.confirmed ≡ records
 
 -- whether a CPU owes another one an interrupt
 abbrev pub owes_at : CpuValue → ℕ → Bool
-owes_at c other = slice_index_or c.owes other false
+owes_at c other = slice_index_or c.part.owes other false
 
 -- a CPU has sent these calls, now owes these interrupts and has seen these of its records confirmed; else it has only handled, and made this call directly
 pub record Leaves {H : Type 0} (leads : H → Heard → H → Type 0) (old : CpuValue) (before : H) (new : CpuValue) (after : H) (sent : List Sending) (here : Option Heard) (owes confirmed : ℕ → Bool) : Type 0 where
   pub table_is : new.table ≡ old.table
   pub number_is : new.number ≡ old.number
-  pub sized : length new.confirmed ≡ length old.confirmed
-  pub owes_sized : length new.owes ≡ length old.owes
-  pub sent_is : new.sent ≡ old.sent ++ sent
+  pub sized : length new.part.confirmed ≡ length old.part.confirmed
+  pub owes_sized : length new.part.owes ≡ length old.part.owes
+  pub sent_is : new.part.sent ≡ old.part.sent ++ sent
   pub owes_are : (c : ℕ) → owes_at new c ≡ owes c
   pub confirmed_are : (k : ℕ) → k < records_of_one → confirmed_at new k ≡ confirmed k
   pub handled : Handled leads old before new after here

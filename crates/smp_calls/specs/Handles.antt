@@ -21,9 +21,9 @@ batches (Some batch ∷ rest) = batch ∷ batches rest
 -- from one value to the other a CPU has looked for interrupts so often, has taken and run a batch wherever one was pending, and its handler has run just these calls
 pub record Handles {H : Type 0} (leads : H → Heard → H → Type 0) (old : CpuValue) (before : H) (new : CpuValue) (after : H) : Type 0 where
   pub turns : List (Option (List Call))
-  pub asked_is : new.asked ≡ old.asked ++ looks turns
-  pub taken_is : new.taken ≡ old.taken ++ batches turns
-  pub ran_is : new.ran ≡ old.ran ++ orders (batches turns)
+  pub asked_is : new.part.asked ≡ old.part.asked ++ looks turns
+  pub taken_is : new.part.taken ≡ old.part.taken ++ batches turns
+  pub ran_is : new.part.ran ≡ old.part.ran ++ orders (batches turns)
   pub grows : Grows leads before (orders (batches turns)) after
 
 -- the same, and at some point between two looks its handler has run one call directly

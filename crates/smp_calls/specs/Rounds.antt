@@ -17,12 +17,12 @@ only_if counts cpu = if counts then cpu ∷ [] else []
 pub record Queues {H : Type 0} (leads : H → Heard → H → Type 0) (old : CpuValue) (before : H) (new : CpuValue) (after : H) (call : ℕ → Call) (queued : List Queued) : Type 0 where
   pub leaves : Leaves leads old before new after (sendings call queued) None (owes_at new) (λ k. if is_used call (record_of old.number k) queued then false else confirmed_at old k)
   pub kept : (c : ℕ) → is_first_to c queued ≡ false → owes_at new c ≡ owes_at old c
-  pub due : (c : ℕ) → is_first_to c queued ≡ true → c < length old.owes → owes_at new c ≡ true
+  pub due : (c : ℕ) → is_first_to c queued ≡ true → c < length old.part.owes → owes_at new c ≡ true
 
 -- interrupts were sent to these CPUs, and nothing else was done
 pub record Sends (old new : CpuValue) (sent : List ℕ) : Type 0 where
-  pub others_are : new ≡ record old { owes = new.owes }
-  pub owes_sized : length new.owes ≡ length old.owes
+  pub others_are : new ≡ record old { part = record (old.part) { owes = new.part.owes } }
+  pub owes_sized : length new.part.owes ≡ length old.part.owes
   pub owes_are : (c : ℕ) → owes_at new c ≡ (owes_at old c && not (is_in c sent))
 
 -- whether this record of a CPU is the one for calls to many with one of these destinations

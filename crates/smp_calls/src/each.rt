@@ -44,8 +44,8 @@ fn queue_if<A: Allocator, R: Wait, H: Handler>(
     queue(table, rt, me, k, to, job)
 }
 
-/// The mask with the CPU, or without.
-fn kept_if(mask: CpuMask, cpu: u32, keep: bool) -> CpuMask
+/// The mask, without the CPU unless that is kept.
+fn without_unless(mask: CpuMask, cpu: u32, keep: bool) -> CpuMask
     ensures kept { keep ≡ true → result ≡ mask }
     ensures out { keep ≡ false → (c : ℕ) → has result c ≡ (has mask c && not (c == cpu)) }
 {
@@ -75,8 +75,8 @@ pub(crate) fn queue_each<A: Allocator, R: Wait, H: Handler, C: Fn(u32, u64) -> b
     for cpu in others.iter() {
         let asked = cond(cpu, job.info);
         let first = queue_if(table, rt, me, handler, cpu, job, asked);
-        called = kept_if(called, cpu, asked);
-        owed = kept_if(owed, cpu, first);
+        called = without_unless(called, cpu, asked);
+        owed = without_unless(owed, cpu, first);
     }
     (called, owed)
 }

@@ -3,18 +3,13 @@ use Rattle.std.specs.Prelude.{◌≡◌, ◌≢◌, ℕ, zero, suc, ◌+◌, ◌
 use Rattle.smp_words.specs.Size.{cpus, records}
 use Rattle.smp_call_steps.specs.Calls.{CallState}
 use Rattle.smp_call_steps.specs.Histories.{sent_to, calls_from, marked_from, batches_marked, orders}
-use Rattle.smp_call_steps.specs.Known.{known_of, fresh}
+use Rattle.smp_call_steps.specs.Known.{Sees, fresh}
 use Rattle.smp_call_steps.specs.Shows.{Shows}
 use Rattle.smp_call_steps.specs.Stages.{ControlValue}
-use Rattle.smp_call_steps.specs.declared.known.Known.{Known}
-use Rattle.smp_words.specs.declared.word.Word.{Word}
-use Rattle.smp_words.specs.declared.word.Word.TheVariants.{Head, Hand, Queued, Ran, Flags}
+use Rattle.smp_queue.specs.Names.{Word, Head, Hand, Queued, Ran, Flags, Known, Left, Tally, Audit}
+use Rattle.smp_queue.specs.Names.audit
 use Rattle.smp_queue.specs.Cells.{number_in}
-use Rattle.smp_queue.specs.Cpu.{TableValue, CpuValue, cpu_of, fresh_cpu}
-use Rattle.smp_queue.specs.declared.audit.Left.{Left}
-use Rattle.smp_queue.specs.declared.audit.Tally.{Tally}
-use Rattle.smp_queue.specs.declared.audit.Audit.{Audit}
-use Rattle.smp_queue.specs.declared.audit.Audit.TheVariants as audit
+use Rattle.smp_queue.specs.Cpu.{TableValue, CpuValue, cpu_in, fresh_cpu}
 
 -- how many numbers below n pass a test
 unfoldable pub count_below : (ℕ → Bool) → ℕ → ℕ
@@ -64,9 +59,9 @@ pub record Closes (nr : ℕ) (v : Known) (words : List ℕ) : Type 0 where
   pub calls : CallState
   pub controls : ℕ → ControlValue
   pub shown : Shows calls (number_in words) controls
-  pub view : v ≡ known_of calls controls v.number
+  pub sees : Sees calls controls v
   pub below : v.number < nr
-  pub absent : (cpu : ℕ) → nr ≤ cpu → known_of calls controls cpu ≡ fresh cpu
+  pub absent : (cpu : ℕ) → nr ≤ cpu → Sees calls controls (fresh cpu)
 
 -- all calls have run: what a source has sent to a CPU is what that has taken, in order, and it has run that in drain order
 pub record HaveRun (a : CallState) : Type 0 where
@@ -85,9 +80,9 @@ pub record Audited (t : TableValue) (last : CpuValue) (answer : Audit) : Type 0 
   pub at : Word → ℕ
   pub controls : ℕ → ControlValue
   pub shown : Shows calls at controls
-  pub view : last ≡ cpu_of (record { table = t.table; known = known_of calls controls last.number })
+  pub view : last ≡ cpu_in t.table calls last.number
   pub below : last.number < t.nr
-  pub absent : (cpu : ℕ) → t.nr ≤ cpu → cpu_of (record { table = t.table; known = known_of calls controls cpu }) ≡ fresh_cpu t.table cpu
+  pub absent : (cpu : ℕ) → t.nr ≤ cpu → cpu_in t.table calls cpu ≡ fresh_cpu t.table cpu
   pub answers : AuditAnswers at answer
   pub drained : IfDrained answer (λ t. HaveRun calls)
 
@@ -97,7 +92,7 @@ AreEqual t = (source to : ℕ) → source < cpus → to < cpus → tally_at t.qu
 
 -- a CPU's rows are its own tallies
 abbrev pub HasRowsOf : CpuValue → Tally → Type 0
-HasRowsOf c t = (other : ℕ) → other < cpus → (tally_at t.queued c.number other ≡ length (sent_to other c.sent) % 2 ^ 64) × (tally_at t.ran c.number other ≡ length (calls_from other c.ran) % 2 ^ 64)
+HasRowsOf c t = (other : ℕ) → other < cpus → (tally_at t.queued c.number other ≡ length (sent_to other c.part.sent) % 2 ^ 64) × (tally_at t.ran c.number other ≡ length (calls_from other c.part.ran) % 2 ^ 64)
 
 -- no calls to or from a CPU that the table does not have
 abbrev pub HasZerosFrom : ℕ → Tally → Type 0

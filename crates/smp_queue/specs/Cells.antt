@@ -2,8 +2,7 @@
 use Rattle.std.specs.Prelude.{◌≡◌, ℕ, ◌-◌, ◌+◌, ◌*◌, Option, Some, List, option_map}
 use Rattle.smp_words.specs.Layout.{index_of, number_at}
 use Rattle.smp_words.specs.declared.size.TheConstants.{HEADS, INTRS, HANDS, FLAGS, FUNCS, INFOS, NEXTS}
-use Rattle.smp_words.specs.declared.word.Word.{Word}
-use Rattle.smp_words.specs.declared.word.Word.TheVariants.{Head, Intr, Hand, Queued, Ran, Flags, Func, Info, Next}
+use Rattle.smp_queue.specs.Names.{Word, Head, Intr, Hand, Queued, Ran, Flags, Func, Info, Next}
 use Rattle.smp_queue.specs.declared.cell.TheConstants.{LINE, TALLIES, ROW, TALLIES_APART, FIRST_RECORD, RECORDS_APART, CELLS}
 
 -- how many cells the table has

@@ -1,19 +1,19 @@
 -- What contracts see of a table, of a CPU and of the CPUs that were not given out.
-use Rattle.std.specs.Prelude.{◌≡◌, ◌≢◌, ℕ, ◌<◌, ◌%◌, ◌^◌, Bool, true, false, not, ◌||◌, ◌==◌, nat_lt, if◌then◌else◌, Option, Some, None, Result, Ok, Err, List, [], ◌∷◌, ◌++◌, length, slice_index_or, slice_set}
+use Rattle.std.specs.Prelude.{◌≡◌, ◌≢◌, ℕ, ◌<◌, ◌%◌, ◌^◌, Bool, true, false, not, ◌||◌, ◌==◌, nat_lt, if◌then◌else◌, Option, Some, None, Result, Ok, Err, List, length, slice_index_or, slice_set}
 use Rattle.atomic_table.specs.Seated.{TableId}
 use Rattle.smp_mask.specs.Mask.{has}
 use Rattle.smp_mask.specs.declared.error.SmpError.{SmpError}
 use Rattle.smp_mask.specs.declared.error.SmpError.TheVariants as error
-use Rattle.smp_words.specs.Size.{cpus, records, records_of_one, record_of}
-use Rattle.smp_call_steps.specs.declared.known.Sending.{Sending}
+use Rattle.smp_words.specs.Size.{cpus, records, records_of_one, record_of, owner}
 use Rattle.smp_call_steps.specs.Start.{fits_record}
 use Rattle.smp_call_steps.specs.Histories.{sent_to, calls_from}
-use Rattle.smp_call_steps.specs.Known.{row, posting_of}
-use Rattle.smp_call_steps.specs.declared.known.Known.{Known}
-use Rattle.smp_words.specs.declared.call.Call.{Call}
-use Rattle.smp_words.specs.declared.call.Class.{Class}
-use Rattle.smp_call_steps.specs.declared.post.Posting.{Posting}
-use Rattle.smp_queue.specs.Desk.{Desk}
+use Rattle.smp_call_steps.specs.Places.{IsCall}
+use Rattle.smp_call_steps.specs.Stands.{posted}
+use Rattle.smp_call_steps.specs.Calls.{CallState, no_calls}
+use Rattle.smp_call_steps.specs.Parts.{part_of, part_confirmed, part_sent, part_queued}
+use Rattle.smp_queue.specs.Names.{Class, Known, Part, Posting}
+use Rattle.smp_call_steps.specs.Known.{posting_of}
+use Rattle.smp_queue.specs.Seat.{SeatValue}
 
 -- a table: its name, how many CPUs it has, and those online
 pub record TableValue : Type 0 where
@@ -25,75 +25,47 @@ pub record TableValue : Type 0 where
 pub record CpuValue : Type 0 where
   pub table : TableId
   pub number : ℕ
-  -- the calls that it has queued, each with its destination and whether the queue was empty
-  pub sent : List Sending
-  -- of each CPU, whether it owes it an interrupt
-  pub owes : List Bool
-  -- of each record, whether it has seen its last call confirmed
-  pub confirmed : List Bool
-  -- the batches that it has taken
-  pub taken : List (List Call)
-  -- the calls that it has run
-  pub ran : List Call
-  -- for each time that it took its interrupt word, whether an interrupt was pending
-  pub asked : List Bool
+  pub part : Part
 
 -- what a CPU knows, as contracts see it
-abbrev pub cpu_of : Desk → CpuValue
-cpu_of d = record {
-  table = d.table;
-  number = d.known.number;
-  sent = d.known.sent;
-  owes = d.known.owes;
-  confirmed = d.known.confirmed;
-  taken = d.known.taken;
-  ran = d.known.ran;
-  asked = d.known.asked;
-}
+abbrev pub cpu_of : SeatValue → CpuValue
+cpu_of d = record { table = d.table; number = d.known.number; part = d.known.part }
+
+-- a CPU of these calls
+abbrev pub cpu_in : TableId → CallState → ℕ → CpuValue
+cpu_in table calls cpu = record { table = table; number = cpu; part = part_of calls cpu }
 
 -- a CPU that has done nothing: all its records are confirmed
 abbrev pub fresh_cpu : TableId → ℕ → CpuValue
-fresh_cpu table cpu = record {
-  table = table;
-  number = cpu;
-  sent = [];
-  owes = row cpus (λ _. false);
-  confirmed = row records (λ _. true);
-  taken = [];
-  ran = [];
-  asked = [];
-}
+fresh_cpu table cpu = cpu_in table no_calls cpu
 
 -- what a CPU keeps between two calls: it is outside a command, and its counts are those of its calls
 pub record IsKept (v : Known) (number : ℕ) (queued ran : List ℕ) : Type 0 where
   pub number_is : v.number ≡ number
   pub below : number < cpus
   pub outside : v.stage ≡ None
-  pub records_sized : length v.confirmed ≡ records
+  pub records_sized : length v.part.confirmed ≡ records
   pub queued_sized : length queued ≡ cpus
   pub ran_sized : length ran ≡ cpus
-  pub queued_are : (to : ℕ) → to < cpus → slice_index_or queued to 0 ≡ length (sent_to to v.sent) % 2 ^ 64
-  pub ran_are : (source : ℕ) → source < cpus → slice_index_or ran source 0 ≡ length (calls_from source v.ran) % 2 ^ 64
+  pub queued_are : (to : ℕ) → to < cpus → slice_index_or queued to 0 ≡ length (sent_to to v.part.sent) % 2 ^ 64
+  pub ran_are : (source : ℕ) → source < cpus → slice_index_or ran source 0 ≡ length (calls_from source v.part.ran) % 2 ^ 64
 
 -- whether a CPU has seen the last call by its record k confirmed
 abbrev pub confirmed_at : CpuValue → ℕ → Bool
-confirmed_at c k = slice_index_or c.confirmed (record_of c.number k) false
+confirmed_at c k = slice_index_or c.part.confirmed (record_of c.number k) false
 
 -- a CPU that has seen the last call by its record k confirmed
 abbrev pub confirms : ℕ → CpuValue → CpuValue
-confirms k c = record c { confirmed = slice_set c.confirmed (record_of c.number k) true }
+confirms k c = record c { part = part_confirmed (record_of c.number k) c.part }
 
 -- a CPU that has sent an interrupt: it owes none
 abbrev pub sends : ℕ → CpuValue → CpuValue
-sends to c = record c { owes = slice_set c.owes to false }
+sends to c = record c { part = part_sent to c.part }
 
--- a CPU that has queued a call by its record k: it is sent, an interrupt is owed where the queue was empty, and the record is not confirmed
+-- a CPU that has queued a call by its record k, into a queue that was empty or not
 abbrev pub posts : ℕ → ℕ → Class → ℕ → ℕ → Bool → CpuValue → CpuValue
-posts k to class func info first c = record c {
-  sent = c.sent ++ record { call = record { id = record_of c.number k; class = class; func = func; info = info }; to = to; is_first = first } ∷ [];
-  owes = if first then slice_set c.owes to true else c.owes;
-  confirmed = slice_set c.confirmed (record_of c.number k) false;
-}
+posts k to class func info first c =
+    record c { part = part_queued (record { id = record_of c.number k; class = class; func = func; info = info }) to first c.part }
 
 -- arguments that a post refuses
 abbrev pub misused : ℕ → CpuValue → ℕ → ℕ → Class → ℕ → Bool
@@ -108,10 +80,19 @@ PostAnswers t old new k to class func info tries (Err error.NoCpu) = (misused t.
 PostAnswers t old new k to class func info tries (Err error.Contended) = (misused t.nr old k to class tries ≡ false) × (has t.online to ≡ true) × (new ≡ confirms k old)
 PostAnswers t old new k to class func info tries (Err _) = ⊥
 
+-- a CPU may queue this call: the record is its own and seen confirmed, and the numbers fit
+pub record MayQueue (c : CpuValue) (p : Posting) : Type 0 where
+  pub below : c.number < cpus
+  pub owned : owner p.id ≡ c.number
+  pub is_call : IsCall (posted p)
+  pub to_in_range : p.to < cpus
+  pub confirmed : slice_index_or c.part.confirmed p.id false ≡ true
+
 -- the same of what comes before the record is written: at Ok its call
 abbrev pub BeginAnswers : TableValue → CpuValue → CpuValue → ℕ → ℕ → Class → ℕ → ℕ → ℕ → Result Posting SmpError → Type 0
 BeginAnswers t old new k to class func info tries (Ok p) =
-    (misused t.nr old k to class tries ≡ false) × (has t.online to ≡ true) × (new ≡ confirms k old) × (p ≡ posting_of (record_of old.number k) class func info to)
+    (misused t.nr old k to class tries ≡ false) × (has t.online to ≡ true) × (new ≡ confirms k old) ×
+    (p ≡ posting_of (record_of old.number k) class func info to) × MayQueue new p
 BeginAnswers t old new k to class func info tries (Err error.BadArgument) = (misused t.nr old k to class tries ≡ true) × (new ≡ old)
 BeginAnswers t old new k to class func info tries (Err error.Busy) = (misused t.nr old k to class tries ≡ false) × (confirmed_at old k ≢ true) × (new ≡ old)
 BeginAnswers t old new k to class func info tries (Err error.NoCpu) = (misused t.nr old k to class tries ≡ false) × (has t.online to ≡ false) × (new ≡ confirms k old)

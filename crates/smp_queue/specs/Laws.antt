@@ -2,11 +2,10 @@
 use Rattle.std.specs.Prelude.{◌≡◌, ℕ}
 use Rattle.smp_call_steps.specs.Calls.{CallState}
 use Rattle.smp_call_steps.specs.Counts.{ConfirmedCallsRan}
-use Rattle.smp_call_steps.specs.Known.{known_of}
 use Rattle.smp_call_steps.specs.Shows.{Shows}
 use Rattle.smp_call_steps.specs.Stages.{ControlValue}
-use Rattle.smp_words.specs.declared.word.Word.{Word}
-use Rattle.smp_queue.specs.Cpu.{CpuValue, cpu_of}
+use Rattle.smp_queue.specs.Names.{Word}
+use Rattle.smp_queue.specs.Cpu.{CpuValue, cpu_in}
 
 -- some words of the table show calls that keep all laws, of which this value is one CPU's part; calls by confirmed records have run
 pub record IsShown (c : CpuValue) : Type 0 where
@@ -15,4 +14,4 @@ pub record IsShown (c : CpuValue) : Type 0 where
   pub controls : ℕ → ControlValue
   pub shown : Shows calls at controls
   pub confirmed_ran : ConfirmedCallsRan calls
-  pub view : c ≡ cpu_of (record { table = c.table; known = known_of calls controls c.number })
+  pub view : c ≡ cpu_in c.table calls c.number

@@ -1,10 +1,12 @@
+-- types by their names
+pub mod Names
 -- where words lie
 pub mod Cells
 -- the rule, and what each kind of access tells
 pub mod Rule
 pub mod Plays
 -- a CPU at the table
-pub mod Desk
+pub mod Seat
 pub mod Cpu
 pub mod Table
 -- what an audit answers

@@ -6,49 +6,47 @@ use Rattle.atomic_table.specs.Table.{State}
 use Rattle.smp_call_steps.specs.Calls.{CallState}
 use Rattle.smp_call_steps.specs.Stages.{ControlValue}
 use Rattle.smp_call_steps.specs.Shows.{Shows}
-use Rattle.smp_call_steps.specs.Known.{known_of, fresh}
-use Rattle.smp_call_steps.specs.declared.known.Known.{Known}
+use Rattle.smp_call_steps.specs.Known.{Sees, fresh}
+use Rattle.smp_queue.specs.Names.{Known, SeatView, Maker, Cpu}
 use Rattle.smp_queue.specs.Cells.{cells, number_in}
-use Rattle.smp_queue.specs.declared.seated.Seated.{Seated}
-use Rattle.smp_queue.specs.declared.seated.Seated.TheVariants.{Boot, Of}
 
 -- what a seat's CPU knows
-abbrev pub known : Seated → Known
-known (Boot n) = fresh n
-known (Of v) = v
+abbrev pub known : SeatView → Known
+known (Maker n) = fresh n
+known (Cpu v) = v
 
 -- the first seat after it has made one for the next CPU
-abbrev pub after : Seated → Seated
-after (Boot n) = Boot (n + 1)
-after (Of v) = Of v
+abbrev pub after : SeatView → SeatView
+after (Maker n) = Maker (n + 1)
+after (Cpu v) = Cpu v
 
 -- the seat that it makes
-abbrev pub seated : Seated → Seated
-seated (Boot n) = Of (fresh n)
-seated (Of v) = Of v
+abbrev pub seat_made : SeatView → SeatView
+seat_made (Maker n) = Cpu (fresh n)
+seat_made (Cpu v) = Cpu v
 
 -- a seat knows its CPU's part of the calls, and no other seat is of that CPU
-abbrev pub Sits : CallState → (ℕ → ControlValue) → (ℕ → ℕ) → ℕ → ℕ → Seated → Type 0
-Sits a control seat next id (Boot n) = (n ≡ next) × (id ≡ 0)
-Sits a control seat next id (Of v) = (v.number < next) × (seat v.number ≡ id) × (v ≡ known_of a control v.number)
+abbrev pub SeatKnows : CallState → (ℕ → ControlValue) → (ℕ → ℕ) → ℕ → ℕ → SeatView → Type 0
+SeatKnows a control seat next id (Maker n) = (n ≡ next) × (id ≡ 0)
+SeatKnows a control seat next id (Cpu v) = (v.number < next) × (seat v.number ≡ id) × Sees a control v
 
 -- the words show some calls; each seat knows its part; CPUs with no seat have done nothing
-pub record Ruled {S : Type 0} (s : State S Seated) : Type 0 where
+pub record Ruled {S : Type 0} (s : State S SeatView) : Type 0 where
   pub calls : CallState
   pub controls : ℕ → ControlValue
   pub seat : ℕ → ℕ
   pub next : ℕ
   pub wide : length s.words ≡ cells
   pub shown : Shows calls (number_in s.words) controls
-  pub each_seat : (id : ℕ) (v : Seated) → get_elem? s.views id ≡ some v → Sits calls controls seat next id v
-  pub absent : (cpu : ℕ) → next ≤ cpu → known_of calls controls cpu ≡ fresh cpu
+  pub each_seat : (id : ℕ) (v : SeatView) → get_elem? s.views id ≡ some v → SeatKnows calls controls seat next id v
+  pub absent : (cpu : ℕ) → next ≤ cpu → Sees calls controls (fresh cpu)
 
 -- only CPUs below nr have a seat: the first seat counts them
-pub record SeatsBelow {S : Type 0} (nr : ℕ) (s : State S Seated) : Type 0 where
+pub record SeatsBelow {S : Type 0} (nr : ℕ) (s : State S SeatView) : Type 0 where
   pub next : ℕ
   pub few : next ≤ nr
-  pub counts : get_elem? s.views 0 ≡ some (Boot next)
+  pub counts : get_elem? s.views 0 ≡ some (Maker next)
 
 -- the rule of a table of nr CPUs
-abbrev pub RuledFor : {S : Type 0} → ℕ → State S Seated → Type 0
+abbrev pub RuledFor : {S : Type 0} → ℕ → State S SeatView → Type 0
 RuledFor nr s = Ruled s × SeatsBelow nr s

@@ -5,7 +5,7 @@ ghost use Rattle.smp_queue.specs.Cells.{HasCell, cells, number_in};
 ghost use Rattle.smp_queue.specs.Audit.{Closes};
 
 use crate::cell::cell;
-use crate::chair::{Chair, leave};
+use crate::seat::{CpuSeat, leave};
 use crate::rule::Owner;
 use atomic_table::Closed;
 use smp_words::Word;
@@ -31,12 +31,12 @@ impl<A: Allocator> Model for Closing<A> {
 
 impl<A: Allocator> Closing<A> {
     /// The words of a table, which is given up with one of its seats.
-    pub fn of(owner: Owner<A>, chair: Chair) -> Closing<A>
-        requires table { chair.table ≡ owner.shared.table_id }
+    pub fn of(owner: Owner<A>, seat: CpuSeat) -> Closing<A>
+        requires table { seat.table ≡ owner.shared.table_id }
         requires sized { (owner.shared.table_id.words ≡ cells) × (owner.shared.table_id.slots ≡ 0) }
-        ensures { Closes owner.shared.key chair.known result }
+        ensures { Closes owner.shared.key seat.known result }
     {
-        let closed = owner.close_with(leave(chair));
+        let closed = owner.close_with(leave(seat));
         Closing { closed }
     }
 

@@ -5,7 +5,7 @@ ghost use Rattle.smp_words.specs.Size.{cpus, records};
 ghost use Rattle.smp_call_steps.specs.Known.{fresh};
 ghost use Rattle.smp_queue.specs.Cpu.{cpu_of};
 
-use crate::chair::Chair;
+use crate::seat::CpuSeat;
 use smp_words::size::NR_CPUS;
 use std::marker::Model;
 
@@ -14,7 +14,7 @@ use std::marker::Model;
 /// change that part. It may move to another thread.
 #[derive(Drop)]
 pub struct CallCpu {
-    pub(crate) chair: Chair,
+    pub(crate) seat: CpuSeat,
     pub(crate) number: u32,
     /// How many calls it has queued for each CPU, modulo 2^64.
     pub(crate) queued: [u64; NR_CPUS as usize],
@@ -27,19 +27,19 @@ impl Model for CallCpu {
 
     ghost Value = { CpuValue };
 
-    ghost view = { λ c. cpu_of c.chair };
+    ghost view = { λ c. cpu_of c.seat };
 
-    ghost invariant = { λ c. IsKept c.chair.known c.number c.queued c.ran };
+    ghost invariant = { λ c. IsKept c.seat.known c.number c.queued c.ran };
 }
 
 impl CallCpu {
     /// A CPU that has done nothing.
-    pub(crate) fn new(chair: Chair, number: u32) -> CallCpu
-        requires { (chair.known ≡ fresh number) × (number < cpus) }
-        ensures { result ≡ cpu_of chair }
+    pub(crate) fn new(seat: CpuSeat, number: u32) -> CallCpu
+        requires { (seat.known ≡ fresh number) × (number < cpus) }
+        ensures { result ≡ cpu_of seat }
     {
         CallCpu {
-            chair,
+            seat,
             number,
             queued: [0; NR_CPUS as usize],
             ran: [0; NR_CPUS as usize],
@@ -49,7 +49,7 @@ impl CallCpu {
     /// The CPU's number, which is below `NR_CPUS`. It has a confirmation of each record.
     pub fn number(&self) -> u32
         ensures number { result ≡ self.now.number }
-        ensures sized { (self.now.number < cpus) × (length self.now.confirmed ≡ records) }
+        ensures sized { (self.now.number < cpus) × (length self.now.part.confirmed ≡ records) }
     {
         self.number
     }

@@ -13,11 +13,11 @@ ghost use Rattle.smp_call_steps.specs.Handling.{handling, accepted_known, taken_
 ghost use Rattle.smp_words.specs.declared.call.Call.{Call};
 ghost use Rattle.smp_call_steps.specs.declared.handle.HandleStage.{HandleStage};
 ghost use Rattle.smp_call_steps.specs.declared.handle.HandleStage.TheVariants as handle;
-ghost use Rattle.smp_queue.specs.Desk.{InHandle, IsOutside};
+ghost use Rattle.smp_queue.specs.Seat.{InHandle, IsOutside};
 ghost use Rattle.smp_queue.specs.Cpu.{cpu_of};
 ghost use Rattle.smp_queue.specs.Handling.{AreRan, Grows, asks, drains};
 
-use crate::chair::{Chair, store, swap};
+use crate::seat::{CpuSeat, store, swap};
 use crate::handler::Handler;
 use crate::reverse::reverse;
 use crate::rule::Words;
@@ -35,65 +35,65 @@ pub struct Handled {
 }
 
 /// Begins to handle, and takes the interrupt: whether one was pending.
-fn enter(words: &Words, chair: &mut Chair, number: u32) -> bool
-    requires { IsOutside words.now.table_id chair.old number }
-    ensures at { InHandle words.now.table_id chair.new (if result then handle.Take else handle.LeaveIdle) }
-    ensures known { chair.new.known ≡ accepted_known result (handling handle.Accept chair.old.known.drain chair.old.known) }
+fn enter(words: &Words, seat: &mut CpuSeat, number: u32) -> bool
+    requires { IsOutside words.now.table_id seat.old number }
+    ensures at { InHandle words.now.table_id seat.new (if result then handle.Take else handle.LeaveIdle) }
+    ensures known { seat.new.known ≡ accepted_known result (handling handle.Accept seat.old.known.drain seat.old.known) }
 {
-    store(words, chair, Word::Hand(number), 1);
-    swap(words, chair, Word::Intr(number), 0) != 0
+    store(words, seat, Word::Hand(number), 1);
+    swap(words, seat, Word::Intr(number), 0) != 0
 }
 
 /// Takes the whole queue: the record of its newest call, none where it is empty.
-fn take(words: &Words, chair: &mut Chair, number: u32) -> Option<u32>
-    requires me { chair.old.known.number ≡ number }
-    requires at { InHandle words.now.table_id chair.old handle.Take }
-    ensures at { InHandle words.now.table_id chair.new (reverse_on None result) }
-    ensures known { (queue : List Call) × (chair.new.known ≡ taken_known queue result chair.old.known) }
+fn take(words: &Words, seat: &mut CpuSeat, number: u32) -> Option<u32>
+    requires me { seat.old.known.number ≡ number }
+    requires at { InHandle words.now.table_id seat.old handle.Take }
+    ensures at { InHandle words.now.table_id seat.new (reverse_on None result) }
+    ensures known { (queue : List Call) × (seat.new.known ≡ taken_known queue result seat.old.known) }
 {
-    let link = swap(words, chair, Word::Head(number), 0);
+    let link = swap(words, seat, Word::Head(number), 0);
     record_of(link)
 }
 
 /// Has handled.
-fn leave(words: &Words, chair: &mut Chair, number: u32)
-    requires me { chair.old.known.number ≡ number }
-    requires at { (stage : HandleStage) × InHandle words.now.table_id chair.old stage × IsLeaving stage }
-    ensures table { chair.new.table ≡ words.now.table_id }
-    ensures lives { Lives chair.new.known }
-    ensures known { chair.new.known ≡ outside_known chair.old.known }
+fn leave(words: &Words, seat: &mut CpuSeat, number: u32)
+    requires me { seat.old.known.number ≡ number }
+    requires at { (stage : HandleStage) × InHandle words.now.table_id seat.old stage × IsLeaving stage }
+    ensures table { seat.new.table ≡ words.now.table_id }
+    ensures lives { Lives seat.new.known }
+    ensures known { seat.new.known ≡ outside_known seat.old.known }
 {
-    store(words, chair, Word::Hand(number), 0);
+    store(words, seat, Word::Hand(number), 0);
 }
 
 /// Takes the interrupt and, where there was one, the queue, and runs that.
 pub(crate) fn handle<H: Handler>(
     words: &Words,
-    chair: &mut Chair,
+    seat: &mut CpuSeat,
     number: u32,
     counts: &mut [u64],
     handler: &mut H,
 ) -> Handled
-    requires outside { IsOutside words.now.table_id chair.old number }
-    requires counts { AreRan counts.old chair.old.known }
-    ensures outside { IsOutside words.now.table_id chair.new number }
-    ensures counts { AreRan counts.new chair.new.known }
-    ensures lives { Lives chair.new.known }
-    ensures asked { result.interrupted ≡ true → (batch : List Call) × (cpu_of chair.new ≡ drains batch (asks true (cpu_of chair.old))) × (Grows H.leads handler.old (order batch) handler.new) × (result.ran ≡ length batch) }
-    ensures idle { result.interrupted ≡ false → (cpu_of chair.new ≡ asks false (cpu_of chair.old)) × (handler.new ≡ handler.old) × (result.ran ≡ 0) }
+    requires outside { IsOutside words.now.table_id seat.old number }
+    requires counts { AreRan counts.old seat.old.known }
+    ensures outside { IsOutside words.now.table_id seat.new number }
+    ensures counts { AreRan counts.new seat.new.known }
+    ensures lives { Lives seat.new.known }
+    ensures asked { result.interrupted ≡ true → (batch : List Call) × (cpu_of seat.new ≡ drains batch (asks true (cpu_of seat.old))) × (Grows H.leads handler.old (order batch) handler.new) × (result.ran ≡ length batch) }
+    ensures idle { result.interrupted ≡ false → (cpu_of seat.new ≡ asks false (cpu_of seat.old)) × (handler.new ≡ handler.old) × (result.ran ≡ 0) }
 {
-    if !enter(words, chair, number) {
-        leave(words, chair, number);
+    if !enter(words, seat, number) {
+        leave(words, seat, number);
         return Handled {
             ran: 0,
             interrupted: false,
         };
     }
-    let newest = take(words, chair, number);
-    let (oldest, ran) = reverse(words, chair, newest);
-    let left = run_sync_calls(words, chair, number, counts, oldest, handler);
-    run_async_calls(words, chair, number, counts, left, handler);
-    leave(words, chair, number);
+    let newest = take(words, seat, number);
+    let (oldest, ran) = reverse(words, seat, newest);
+    let left = run_sync_calls(words, seat, number, counts, oldest, handler);
+    run_async_calls(words, seat, number, counts, left, handler);
+    leave(words, seat, number);
     Handled {
         ran,
         interrupted: true,

@@ -26,18 +26,18 @@
 
 mod audit;
 mod boot;
+pub mod call_steps;
 mod cell;
-mod chair;
 mod closing;
 mod cpu;
 mod handle;
 mod handler;
-pub mod laws;
 mod post;
 mod reverse;
 mod rule;
 mod run;
-mod seated;
+mod seat;
+mod seat_view;
 mod table;
 
 pub use audit::{Audit, Left, Tally};

@@ -5,13 +5,13 @@
 
 ghost use Rattle.std.specs.Prelude.{◌≡◌, ◌≢◌, ◌+◌, ◌*◌, ◌<◌, ◌%◌, ◌^◌, ◌==◌, true, length, if◌then◌else◌, IfSome, IfNone, Some, None};
 ghost use Rattle.smp_words.specs.Size.{records};
-ghost use Rattle.smp_call_steps.specs.Stands.{holding};
-ghost use Rattle.smp_call_steps.specs.Known.{confirmed_known, appended_known, outside_known, is_confirmed, standing, Lives};
+ghost use Rattle.smp_call_steps.specs.Stands.{posted};
+ghost use Rattle.smp_call_steps.specs.Known.{confirmed_known, queued_known, outside_known, is_confirmed, standing, Lives};
 ghost use Rattle.smp_call_steps.specs.declared.post.PostStage.TheVariants as post;
 ghost use Rattle.smp_call_steps.specs.declared.stage.Stage.TheVariants.{Post};
-ghost use Rattle.smp_queue.specs.Desk.{At, IsMine, IsCounting, IsTallied, uncounted, counted};
+ghost use Rattle.smp_queue.specs.Seat.{OwnsRecord, IsMine, IsCounting, IsTallied, uncounted, counted};
 
-use crate::chair::{Chair, exchange, load, store};
+use crate::seat::{CpuSeat, exchange, load, store};
 use crate::rule::Words;
 use crossbeam_utils::Backoff;
 use smp_call_steps::post::Posting;
@@ -19,66 +19,66 @@ use smp_words::Word;
 use std::sync::Wait;
 
 /// Whether the record is locked. It makes one step; a record that is not locked is confirmed.
-pub(crate) fn is_locked(words: &Words, chair: &mut Chair, id: u32) -> bool
-    requires at { At words.now.table_id chair.old id }
-    requires outside { chair.old.known.stage ≡ None }
-    ensures table { chair.new.table ≡ words.now.table_id }
-    ensures lives { Lives chair.new.known }
-    ensures known { chair.new.known ≡ if result then chair.old.known else confirmed_known id chair.old.known }
-    ensures locked { result ≡ true → is_confirmed chair.old.known id ≢ true }
+pub(crate) fn is_locked(words: &Words, seat: &mut CpuSeat, id: u32) -> bool
+    requires at { OwnsRecord words.now.table_id seat.old id }
+    requires outside { seat.old.known.stage ≡ None }
+    ensures table { seat.new.table ≡ words.now.table_id }
+    ensures lives { Lives seat.new.known }
+    ensures known { seat.new.known ≡ if result then seat.old.known else confirmed_known id seat.old.known }
+    ensures locked { result ≡ true → is_confirmed seat.old.known id ≢ true }
 {
-    load(words, chair, Word::Flags(id)) % 2 == 1
+    load(words, seat, Word::Flags(id)) % 2 == 1
 }
 
 /// Locks the record, and writes the call into it.
-pub(crate) fn write_record(words: &Words, chair: &mut Chair, posting: &Posting)
-    requires mine { IsMine words.now.table_id chair.old posting.now }
-    requires outside { chair.old.known.stage ≡ None }
-    requires free { is_confirmed chair.old.known posting.now.id ≡ true }
-    ensures table { chair.new.table ≡ words.now.table_id }
-    ensures known { chair.new.known ≡ standing (uncounted posting.now) post.Count chair.old.known }
+pub(crate) fn write_record(words: &Words, seat: &mut CpuSeat, posting: &Posting)
+    requires mine { IsMine words.now.table_id seat.old posting.now }
+    requires outside { seat.old.known.stage ≡ None }
+    requires free { is_confirmed seat.old.known posting.now.id ≡ true }
+    ensures table { seat.new.table ≡ words.now.table_id }
+    ensures known { seat.new.known ≡ standing (uncounted posting.now) post.Count seat.old.known }
 {
     let id = posting.id;
-    store(words, chair, Word::Flags(id), posting.class.flags());
-    store(words, chair, Word::Func(id), posting.func as u64);
-    store(words, chair, Word::Info(id), posting.info);
+    store(words, seat, Word::Flags(id), posting.class.flags());
+    store(words, seat, Word::Func(id), posting.func as u64);
+    store(words, seat, Word::Info(id), posting.info);
 }
 
 /// Counts the call, and finds the head of its destination.
-pub(crate) fn count(
+pub(crate) fn count_and_look(
     words: &Words,
-    chair: &mut Chair,
+    seat: &mut CpuSeat,
     posting: &Posting,
     number: u32,
     count: u64,
 ) -> u64
-    requires mine { IsMine words.now.table_id chair.old posting.now }
-    requires counting { IsCounting chair.old.known posting.now number count }
-    ensures table { chair.new.table ≡ words.now.table_id }
-    ensures known { chair.new.known ≡ standing (counted posting.now) post.LoadHead chair.old.known }
+    requires mine { IsMine words.now.table_id seat.old posting.now }
+    requires counting { IsCounting seat.old.known posting.now number count }
+    ensures table { seat.new.table ≡ words.now.table_id }
+    ensures known { seat.new.known ≡ standing (counted posting.now) post.LoadHead seat.old.known }
 {
     store(
         words,
-        chair,
+        seat,
         Word::Queued(number, posting.to),
         count.wrapping_add(1),
     );
-    load(words, chair, Word::Head(posting.to))
+    load(words, seat, Word::Head(posting.to))
 }
 
 /// Links the record to what was found last, and tries to put it into the head: what was found there. It is
 /// queued where that is the same.
-pub(crate) fn link(words: &Words, chair: &mut Chair, posting: &Posting, link: u64) -> u64
-    requires mine { IsMine words.now.table_id chair.old posting.now }
-    requires stage { chair.old.known.stage ≡ Some (Post (counted posting.now) post.LoadHead) }
-    ensures table { chair.new.table ≡ words.now.table_id }
-    ensures won { result ≡ link → chair.new.known ≡ appended_known posting.now.to (link == 0) (Some (holding (counted posting.now) posting.now.func posting.now.info posting.now.to true)) chair.old.known }
-    ensures lost { result ≢ link → chair.new.known ≡ chair.old.known }
+pub(crate) fn link(words: &Words, seat: &mut CpuSeat, posting: &Posting, link: u64) -> u64
+    requires mine { IsMine words.now.table_id seat.old posting.now }
+    requires stage { seat.old.known.stage ≡ Some (Post (counted posting.now) post.LoadHead) }
+    ensures table { seat.new.table ≡ words.now.table_id }
+    ensures won { result ≡ link → seat.new.known ≡ queued_known (posted posting.now) posting.now.to (link == 0) seat.old.known }
+    ensures lost { result ≢ link → seat.new.known ≡ seat.old.known }
 {
-    store(words, chair, Word::Next(posting.id), link);
+    store(words, seat, Word::Next(posting.id), link);
     exchange(
         words,
-        chair,
+        seat,
         Word::Head(posting.to),
         link,
         posting.id as u64 + 1,
@@ -86,64 +86,64 @@ pub(crate) fn link(words: &Words, chair: &mut Chair, posting: &Posting, link: u6
 }
 
 /// Takes the count back, and unlocks the record.
-pub(crate) fn give_up(words: &Words, chair: &mut Chair, posting: &Posting, number: u32, count: u64)
-    requires mine { IsMine words.now.table_id chair.old posting.now }
-    requires stage { chair.old.known.stage ≡ Some (Post (counted posting.now) post.LoadHead) }
-    requires counted { IsTallied chair.old.known posting.now number count }
-    ensures table { chair.new.table ≡ words.now.table_id }
-    ensures known { chair.new.known ≡ outside_known chair.old.known }
+pub(crate) fn give_up(words: &Words, seat: &mut CpuSeat, posting: &Posting, number: u32, count: u64)
+    requires mine { IsMine words.now.table_id seat.old posting.now }
+    requires stage { seat.old.known.stage ≡ Some (Post (counted posting.now) post.LoadHead) }
+    requires counted { IsTallied seat.old.known posting.now number count }
+    ensures table { seat.new.table ≡ words.now.table_id }
+    ensures known { seat.new.known ≡ outside_known seat.old.known }
 {
-    store(words, chair, Word::Queued(number, posting.to), count);
-    store(words, chair, Word::Flags(posting.id), 0);
+    store(words, seat, Word::Queued(number, posting.to), count);
+    store(words, seat, Word::Flags(posting.id), 0);
 }
 
 /// Appends the call to the queue of its destination: whether that was empty. None where the tries are used up,
 /// and the record is unlocked again.
 pub(crate) fn append(
     words: &Words,
-    chair: &mut Chair,
+    seat: &mut CpuSeat,
     posting: &Posting,
     number: u32,
     queued: u64,
     tries: u32,
 ) -> Option<bool>
-    requires mine { IsMine words.now.table_id chair.old posting.now }
-    requires counting { IsCounting chair.old.known posting.now number queued }
-    ensures table { chair.new.table ≡ words.now.table_id }
-    ensures sent { IfSome result (λ first. chair.new.known ≡ appended_known posting.now.to first (Some (holding (counted posting.now) posting.now.func posting.now.info posting.now.to true)) chair.old.known) }
-    ensures lost { IfNone result (chair.new.known ≡ outside_known chair.old.known) }
+    requires mine { IsMine words.now.table_id seat.old posting.now }
+    requires counting { IsCounting seat.old.known posting.now number queued }
+    ensures table { seat.new.table ≡ words.now.table_id }
+    ensures sent { IfSome result (λ first. seat.new.known ≡ queued_known (posted posting.now) posting.now.to first seat.old.known) }
+    ensures lost { IfNone result (seat.new.known ≡ outside_known seat.old.known) }
 {
-    let mut head = count(words, chair, posting, number, queued);
+    let mut head = count_and_look(words, seat, posting, number, queued);
     for _ in 0..tries {
-        let found = link(words, chair, posting, head);
+        let found = link(words, seat, posting, head);
         if found == head {
             return Some(head == 0);
         }
         head = found;
     }
-    give_up(words, chair, posting, number, queued);
+    give_up(words, seat, posting, number, queued);
     None
 }
 
 /// Appends the call to the queue of its destination: whether that was empty. It tries until it wins, and pauses
 /// between two tries.
-pub(crate) fn append_at_last<R: Wait>(
+pub(crate) fn append_until_won<R: Wait>(
     rt: &R,
     words: &Words,
-    chair: &mut Chair,
+    seat: &mut CpuSeat,
     posting: &Posting,
     number: u32,
     queued: u64,
 ) -> bool
-    requires mine { IsMine words.now.table_id chair.old posting.now }
-    requires counting { IsCounting chair.old.known posting.now number queued }
-    ensures table { chair.new.table ≡ words.now.table_id }
-    ensures sent { chair.new.known ≡ appended_known posting.now.to result (Some (holding (counted posting.now) posting.now.func posting.now.info posting.now.to true)) chair.old.known }
+    requires mine { IsMine words.now.table_id seat.old posting.now }
+    requires counting { IsCounting seat.old.known posting.now number queued }
+    ensures table { seat.new.table ≡ words.now.table_id }
+    ensures sent { seat.new.known ≡ queued_known (posted posting.now) posting.now.to result seat.old.known }
 {
     let backoff = Backoff::new();
-    let mut head = count(words, chair, posting, number, queued);
+    let mut head = count_and_look(words, seat, posting, number, queued);
     for _ in rt.forever() {
-        let found = link(words, chair, posting, head);
+        let found = link(words, seat, posting, head);
         if found == head {
             return head == 0;
         }

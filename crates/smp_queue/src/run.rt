@@ -4,12 +4,12 @@
 ghost use Rattle.std.specs.Prelude.{◌≡◌, ◌+◌, ◌%◌, ◌^◌, ◌<◌, Some, None, length, slice_index_or, slice_set};
 ghost use Rattle.smp_call_steps.specs.Drains.{first_on, second_on};
 ghost use Rattle.smp_call_steps.specs.declared.handle.HandleStage.TheVariants as handle;
-ghost use Rattle.smp_queue.specs.Desk.{InHandle};
+ghost use Rattle.smp_queue.specs.Seat.{InHandle};
 ghost use Rattle.smp_queue.specs.Handling.{AreRan, HasRun, HasRunAll};
 
-use crate::chair::{Chair, load, store};
+use crate::seat::{CpuSeat, load, store};
 use crate::handler::Handler;
-use crate::laws;
+use crate::call_steps;
 use crate::rule::Words;
 use smp_call_steps::drain::record_of;
 use smp_call_steps::handle::{Walk, link_of};
@@ -18,20 +18,20 @@ use smp_words::size::owner_of;
 use smp_words::{Call, Word};
 
 /// One call more from this source: how many there are.
-fn count(counts: &mut [u64], source: u32) -> u64
+fn one_more(counts: &mut [u64], source: u32) -> u64
     requires { source < length counts.old }
     ensures count { result ≡ (slice_index_or counts.old source 0 + 1) % 2 ^ 64 }
     ensures counts { counts.new ≡ slice_set counts.old source result }
 {
-    let count = counts[source as usize].wrapping_add(1);
-    counts[source as usize] = count;
-    count
+    let more = counts[source as usize].wrapping_add(1);
+    counts[source as usize] = more;
+    more
 }
 
 /// Runs a SYNC call whose record is out of the chain.
 fn run_sync<H: Handler>(
     words: &Words,
-    chair: &mut Chair,
+    seat: &mut CpuSeat,
     number: u32,
     counts: &mut [u64],
     walk: Walk,
@@ -39,47 +39,47 @@ fn run_sync<H: Handler>(
     next: Option<u32>,
     handler: &mut H,
 )
-    requires me { chair.old.known.number ≡ number }
-    requires at { InHandle words.now.table_id chair.old (handle.BeginSync walk call next) }
-    requires counts { AreRan counts.old chair.old.known }
-    ensures { HasRun H.leads words.now.table_id chair.old chair.new (first_on walk next) call counts.new handler.old handler.new }
+    requires me { seat.old.known.number ≡ number }
+    requires at { InHandle words.now.table_id seat.old (handle.BeginSync walk call next) }
+    requires counts { AreRan counts.old seat.old.known }
+    ensures { HasRun H.leads words.now.table_id seat.old seat.new (first_on walk next) call counts.new handler.old handler.new }
 {
-    let begun = laws::begin_sync(words, chair, number, walk, call, next, handler);
+    let begun = call_steps::begin_sync(words, seat, number, walk, call, next, handler);
     handler.call(owner_of(call.id), call.func, call.info);
-    let ran = count(counts, owner_of(call.id));
-    laws::count_sync(words, chair, number, walk, call, next, ran, handler, &begun);
-    laws::end_sync(words, chair, walk, call, next, handler, begun);
+    let ran = one_more(counts, owner_of(call.id));
+    call_steps::count_sync(words, seat, number, walk, call, next, ran, handler, &begun);
+    call_steps::end_sync(words, seat, walk, call, next, handler, begun);
 }
 
 /// Runs an ASYNC call.
 fn run_async<H: Handler>(
     words: &Words,
-    chair: &mut Chair,
+    seat: &mut CpuSeat,
     number: u32,
     counts: &mut [u64],
     call: Call,
     next: Option<u32>,
     handler: &mut H,
 )
-    requires me { chair.old.known.number ≡ number }
-    requires at { InHandle words.now.table_id chair.old (handle.BeginAsync call next) }
-    requires counts { AreRan counts.old chair.old.known }
-    ensures { HasRun H.leads words.now.table_id chair.old chair.new (second_on next) call counts.new handler.old handler.new }
+    requires me { seat.old.known.number ≡ number }
+    requires at { InHandle words.now.table_id seat.old (handle.BeginAsync call next) }
+    requires counts { AreRan counts.old seat.old.known }
+    ensures { HasRun H.leads words.now.table_id seat.old seat.new (second_on next) call counts.new handler.old handler.new }
 {
-    let begun = laws::begin_async(words, chair, call, next, handler);
+    let begun = call_steps::begin_async(words, seat, call, next, handler);
     handler.call(owner_of(call.id), call.func, call.info);
-    let ran = count(counts, owner_of(call.id));
-    laws::count_async(words, chair, number, call, next, ran, handler, begun);
+    let ran = one_more(counts, owner_of(call.id));
+    call_steps::count_async(words, seat, number, call, next, ran, handler, begun);
 }
 
 /// Loads a SYNC call, and takes its record out of the chain.
-fn unlink(words: &Words, chair: &mut Chair, walk: Walk, id: u32, next: Option<u32>) -> (Walk, Call)
-    requires at { InHandle words.now.table_id chair.old (handle.LoadFunc walk id next) }
-    ensures at { InHandle words.now.table_id chair.new (handle.BeginSync result.0 result.1 next) }
-    ensures known { chair.new.known ≡ record (chair.old.known) { stage = chair.new.known.stage } }
+fn unlink(words: &Words, seat: &mut CpuSeat, walk: Walk, id: u32, next: Option<u32>) -> (Walk, Call)
+    requires at { InHandle words.now.table_id seat.old (handle.LoadFunc walk id next) }
+    ensures at { InHandle words.now.table_id seat.new (handle.BeginSync result.0 result.1 next) }
+    ensures known { seat.new.known ≡ record (seat.old.known) { stage = seat.new.known.stage } }
 {
-    let func = load(words, chair, Word::Func(id));
-    let info = load(words, chair, Word::Info(id));
+    let func = load(words, seat, Word::Func(id));
+    let info = load(words, seat, Word::Info(id));
     let call = Call {
         id,
         class: Class::Sync,
@@ -95,7 +95,7 @@ fn unlink(words: &Words, chair: &mut Chair, walk: Walk, id: u32, next: Option<u3
             call,
         ),
         Some(last) => {
-            store(words, chair, Word::Next(last), link_of(next));
+            store(words, seat, Word::Next(last), link_of(next));
             (walk, call)
         }
     }
@@ -104,28 +104,28 @@ fn unlink(words: &Words, chair: &mut Chair, walk: Walk, id: u32, next: Option<u3
 /// Runs the SYNC calls from this record on: the first ASYNC record that is left.
 pub(crate) fn run_sync_calls<H: Handler>(
     words: &Words,
-    chair: &mut Chair,
+    seat: &mut CpuSeat,
     number: u32,
     counts: &mut [u64],
     first: Option<u32>,
     handler: &mut H,
 ) -> Option<u32>
-    requires me { chair.old.known.number ≡ number }
-    requires at { InHandle words.now.table_id chair.old (first_on (record { first = first; last = None }) first) }
-    requires counts { AreRan counts.old chair.old.known }
-    ensures at { InHandle words.now.table_id chair.new (second_on result) }
-    ensures ran { HasRunAll H.leads chair.old chair.new counts.new handler.old handler.new }
+    requires me { seat.old.known.number ≡ number }
+    requires at { InHandle words.now.table_id seat.old (first_on (record { first = first; last = None }) first) }
+    requires counts { AreRan counts.old seat.old.known }
+    ensures at { InHandle words.now.table_id seat.new (second_on result) }
+    ensures ran { HasRunAll H.leads seat.old seat.new counts.new handler.old handler.new }
 {
     let mut walk = Walk { first, last: None };
     let mut here = first;
     while let Some(id) = here {
-        let link = load(words, chair, Word::Next(id));
+        let link = load(words, seat, Word::Next(id));
         let next = record_of(link);
-        let flags = load(words, chair, Word::Flags(id));
+        let flags = load(words, seat, Word::Flags(id));
         match Class::of_flags(flags) {
             Class::Sync => {
-                let (left, call) = unlink(words, chair, walk, id, next);
-                run_sync(words, chair, number, counts, left, call, next, handler);
+                let (left, call) = unlink(words, seat, walk, id, next);
+                run_sync(words, seat, number, counts, left, call, next, handler);
                 walk = left;
             }
             Class::Async => {
@@ -143,31 +143,31 @@ pub(crate) fn run_sync_calls<H: Handler>(
 /// Runs the ASYNC calls from this record on.
 pub(crate) fn run_async_calls<H: Handler>(
     words: &Words,
-    chair: &mut Chair,
+    seat: &mut CpuSeat,
     number: u32,
     counts: &mut [u64],
     first: Option<u32>,
     handler: &mut H,
 )
-    requires me { chair.old.known.number ≡ number }
-    requires at { InHandle words.now.table_id chair.old (second_on first) }
-    requires counts { AreRan counts.old chair.old.known }
-    ensures at { InHandle words.now.table_id chair.new handle.Leave }
-    ensures ran { HasRunAll H.leads chair.old chair.new counts.new handler.old handler.new }
+    requires me { seat.old.known.number ≡ number }
+    requires at { InHandle words.now.table_id seat.old (second_on first) }
+    requires counts { AreRan counts.old seat.old.known }
+    ensures at { InHandle words.now.table_id seat.new handle.Leave }
+    ensures ran { HasRunAll H.leads seat.old seat.new counts.new handler.old handler.new }
 {
     let mut here = first;
     while let Some(id) = here {
-        let link = load(words, chair, Word::Next(id));
+        let link = load(words, seat, Word::Next(id));
         let next = record_of(link);
-        let func = load(words, chair, Word::Func(id));
-        let info = load(words, chair, Word::Info(id));
+        let func = load(words, seat, Word::Func(id));
+        let info = load(words, seat, Word::Info(id));
         let call = Call {
             id,
             class: Class::Async,
             func: func as u16,
             info,
         };
-        run_async(words, chair, number, counts, call, next, handler);
+        run_async(words, seat, number, counts, call, next, handler);
         here = next;
     }
 }

@@ -19,7 +19,7 @@ ghost use Rattle.smp_mask.specs.Mask.{has};
 ghost use Rattle.smp_call_steps.specs.Start.{has_record as has_record_in};
 ghost use Rattle.smp_words.specs.Limits.{AreLimits};
 ghost use Rattle.smp_call_steps.specs.Histories.{sent_to, calls_from};
-ghost use Rattle.smp_queue.specs.declared.seated.Seated.TheVariants.{Boot as BootSeat};
+ghost use Rattle.smp_queue.specs.declared.seat_view.SeatView.TheVariants.{Maker};
 ghost use Rattle.smp_call_steps.specs.Order.{order};
 ghost use Rattle.smp_words.specs.declared.call.Call.{Call};
 ghost use Rattle.smp_queue.specs.Cells.{cells};
@@ -31,13 +31,13 @@ ghost use Rattle.smp_queue.specs.Audit.{Audited, IfDrained, AreEqual, HasRowsOf,
 use crate::audit::{Audit, answer};
 use crate::boot::Boot;
 use crate::cell::CELLS;
-use crate::chair::{seat_next, store};
+use crate::seat::{next_seat, store};
 use crate::closing::Closing;
 use crate::cpu::CallCpu;
 use crate::handle::{Handled, handle};
 use crate::handler::Handler;
-use crate::post::{append, append_at_last, is_locked, write_record};
-use crate::rule::{Owner, Place};
+use crate::post::{append, append_until_won, is_locked, write_record};
+use crate::rule::{Owner, RawSeat};
 use atomic_table::Table;
 use smp_call_steps::post::Posting;
 use smp_call_steps::start::{has_record, refusal};
@@ -71,10 +71,10 @@ impl<A: Allocator> Model for CallTable<A> {
 }
 
 /// The words of a table of `nr` CPUs, all 0, and the first seat.
-fn lay<A: Allocator>(alloc: A, nr: u32) -> Result<(Owner<A>, Place), AllocError>
+fn lay<A: Allocator>(alloc: A, nr: u32) -> Result<(Owner<A>, RawSeat), AllocError>
 where
     A: Copy,
-    ensures { IfOk result (λ t. (t.0.shared.table_id.words ≡ cells) × (t.0.shared.table_id.slots ≡ 0) × (t.0.shared.key ≡ nr) × (t.1.table_id ≡ t.0.shared.table_id) × (t.1.me.0 ≡ BootSeat 0)) }
+    ensures { IfOk result (λ t. (t.0.shared.table_id.words ≡ cells) × (t.0.shared.table_id.slots ≡ 0) × (t.0.shared.key ≡ nr) × (t.1.table_id ≡ t.0.shared.table_id) × (t.1.me.0 ≡ Maker 0)) }
 {
     let words = Vec::from_elem(alloc, 0u64, CELLS)?;
     let (table, seat) = Table::of_words(alloc, words.as_slice(), &nr)?;
@@ -93,17 +93,17 @@ where
     ensures { IfOk result (λ t. (t.0.nr ≡ nr) × (t.0.online ≡ online) × IsFull t.1 t.0.table online) }
 {
     let mut waiting = Vec::with_capacity(alloc, nr as usize)?;
-    let (owner, mut boot) = lay(alloc, nr)?;
+    let (owner, mut maker) = lay(alloc, nr)?;
     for number in 0..nr {
-        let chair = seat_next(&owner.shared, &mut boot, number);
-        let cpu = CallCpu::new(chair, number);
-        waiting.push(kept_if(online.contains(number), cpu))?;
+        let seat = next_seat(&owner.shared, &mut maker, number);
+        let cpu = CallCpu::new(seat, number);
+        waiting.push(then_some(online.contains(number), cpu))?;
     }
     let table = CallTable { owner, nr, online };
     Ok((table, Boot { online, waiting }))
 }
 
-fn kept_if(keep: bool, cpu: CallCpu) -> Option<CallCpu>
+fn then_some(keep: bool, cpu: CallCpu) -> Option<CallCpu>
     ensures { result ≡ if keep then Some cpu else None }
 {
     if keep { Some(cpu) } else { None }
@@ -155,7 +155,7 @@ impl<A: Allocator> CallTable<A> {
             return Err(SmpError::BadArgument);
         }
         let id = record_of(me.number, k);
-        let locked = is_locked(&self.owner.shared, &mut me.chair, id);
+        let locked = is_locked(&self.owner.shared, &mut me.seat, id);
         Ok(!locked)
     }
 
@@ -165,7 +165,7 @@ impl<A: Allocator> CallTable<A> {
     /// It makes no step, since it reads only the CPU's own value; it does not wait, and nobody must poll.
     pub fn tally(&self, me: &mut CallCpu, other: u32) -> (u64, u64)
         requires { me.old.table ≡ self.now.table }
-        ensures counts { other < self.now.nr → result ≡ (length (sent_to other me.old.sent) % 2 ^ 64, length (calls_from other me.old.ran) % 2 ^ 64) }
+        ensures counts { other < self.now.nr → result ≡ (length (sent_to other me.old.part.sent) % 2 ^ 64, length (calls_from other me.old.part.ran) % 2 ^ 64) }
         ensures zeros { self.now.nr ≤ other → result ≡ (0, 0) }
         ensures kept { me.new ≡ me.old }
     {
@@ -190,7 +190,7 @@ impl<A: Allocator> CallTable<A> {
         if !self.online.contains(to) {
             return Err(SmpError::NoCpu);
         }
-        store(&self.owner.shared, &mut me.chair, Word::Intr(to), 1);
+        store(&self.owner.shared, &mut me.seat, Word::Intr(to), 1);
         Ok(())
     }
 
@@ -214,7 +214,7 @@ impl<A: Allocator> CallTable<A> {
             return Err(error);
         }
         let id = record_of(me.number, k);
-        if is_locked(&self.owner.shared, &mut me.chair, id) {
+        if is_locked(&self.owner.shared, &mut me.seat, id) {
             return Err(SmpError::Busy);
         }
         if !self.online.contains(to) {
@@ -253,10 +253,10 @@ impl<A: Allocator> CallTable<A> {
         ensures { PostAnswers self.now me.old me.new k to class func info tries result }
     {
         let posting = self.begin_post(me, k, to, class, func, info, tries)?;
-        write_record(&self.owner.shared, &mut me.chair, &posting);
+        write_record(&self.owner.shared, &mut me.seat, &posting);
         let queued = me.queued[to as usize];
         let words = &self.owner.shared;
-        match append(words, &mut me.chair, &posting, me.number, queued, tries) {
+        match append(words, &mut me.seat, &posting, me.number, queued, tries) {
             Some(first) => {
                 me.queued[to as usize] = queued.wrapping_add(1);
                 Ok(first)
@@ -284,10 +284,10 @@ impl<A: Allocator> CallTable<A> {
         ensures queued { IfErr result (λ e. e ≢ SmpError.Contended) }
     {
         let posting = self.begin_post(me, k, to, class, func, info, 1)?;
-        write_record(&self.owner.shared, &mut me.chair, &posting);
+        write_record(&self.owner.shared, &mut me.seat, &posting);
         let queued = me.queued[to as usize];
         let words = &self.owner.shared;
-        let first = append_at_last(rt, words, &mut me.chair, &posting, me.number, queued);
+        let first = append_until_won(rt, words, &mut me.seat, &posting, me.number, queued);
         me.queued[to as usize] = queued.wrapping_add(1);
         Ok(first)
     }
@@ -305,7 +305,7 @@ impl<A: Allocator> CallTable<A> {
         ensures laws { IsShown me.new }
     {
         let words = &self.owner.shared;
-        handle(words, &mut me.chair, me.number, &mut me.ran, handler)
+        handle(words, &mut me.seat, me.number, &mut me.ran, handler)
     }
 
     /// Gives up the table and one of its CPUs. Drained where all queues are empty, all records unlocked and all
@@ -320,7 +320,7 @@ impl<A: Allocator> CallTable<A> {
         ensures rows { IfDrained result (HasRowsOf last) }
         ensures zeros { IfDrained result (HasZerosFrom self.nr) }
     {
-        let words = Closing::of(self.owner, last.chair);
+        let words = Closing::of(self.owner, last.seat);
         let audit = answer(&words);
         words.free();
         audit

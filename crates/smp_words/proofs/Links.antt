@@ -191,15 +191,7 @@ no_head words cpu l = rw (le-ltb cpu cpus l) refl
 
 below_end : (w : Word) (i : ℕ) → Reads w i → i < table_size
 below_end (Head c) i p = omega arith
-below_end (Intr c) i p = omega arith
-below_end (Hand c) i p = omega arith
-below_end (Queued s d) i p = omega arith
-below_end (Ran d s) i p = omega arith
-below_end (Flags r) i p = omega arith
-below_end (Func r) i p = omega arith
-below_end (Info r) i p = omega arith
-below_end (Next r) i p = omega arith
-below_end _ i p = absurd p
+below_end _ i p = omega arith
 
 -- a word's number is in the table
 pub index_below : (w : Word) (i : ℕ) → index_of w ≡ Some i → i < table_size

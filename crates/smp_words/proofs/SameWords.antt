@@ -16,16 +16,7 @@ field_at n =
 field_at-place : (f : Field) → field_at (place_of f) ≡ f
 unfolding field_at
 field_at-place field.Kind = refl
-field_at-place field.Mask = refl
-field_at-place field.Active = refl
-field_at-place field.Func = refl
-field_at-place field.Arg = refl
-field_at-place field.State = refl
-field_at-place field.Ack = refl
-field_at-place field.Roll = refl
-field_at-place field.Todo = refl
-field_at-place field.Result = refl
-field_at-place field.Done = refl
+field_at-place _ = refl
 
 -- two fields at one place are one
 pub one_place : (f g : Field) → place_of f ≡ place_of g → f ≡ g

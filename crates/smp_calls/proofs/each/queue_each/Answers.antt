@@ -34,10 +34,10 @@ pub loop-cpu-preserved : goal.loop-cpu-preserved
 loop-cpu-preserved g c =
     let next = c.in-Some.ensures.steps in
     let a = c.loop-cpu.invariant in
-    asking_more g.H.Handler.leads (many_call c.args.me.now.number c.args.job.class c.args.job.func c.args.job.info) c.args.others c.loop-cpu.cpu-iterator c.next.new.self c.in-Some.cpu c.loop-cpu.called c.loop-cpu.owed c.kept_if-called.result c.kept_if-owed.result c.cond-asked.result c.queue_if-first.result
+    asking_more g.H.Handler.leads (many_call c.args.me.now.number c.args.job.class c.args.job.func c.args.job.info) c.args.others c.loop-cpu.cpu-iterator c.next.new.self c.in-Some.cpu c.loop-cpu.called c.loop-cpu.owed c.without_unless-called.result c.without_unless-owed.result c.cond-asked.result c.queue_if-first.result
     a next.0 next.1.0 next.1.1
     (subst (λ (n : ℕ). (queued : List Queued) × (destinations queued ≡ only_if c.cond-asked.result c.in-Some.cpu) × (firsts queued ≡ only_if c.queue_if-first.result c.in-Some.cpu) × Queues g.H.Handler.leads c.loop-cpu.me c.loop-cpu.handler c.queue_if-first.new.me c.queue_if-first.new.handler (many_call n c.args.job.class c.args.job.func c.args.job.info) queued) a.queues.leaves.number_is c.queue_if-first.ensures)
-    c.cond-asked.ensures c.kept_if-called.ensures.kept c.kept_if-called.ensures.out c.kept_if-owed.ensures.kept c.kept_if-owed.ensures.out
+    c.cond-asked.ensures c.without_unless-called.ensures.kept c.without_unless-called.ensures.out c.without_unless-owed.ensures.kept c.without_unless-owed.ensures.out
 
 pub returns : goal.returns
 returns g c = asking_end g.H.Handler.leads _ c.args.others c.loop-cpu.cpu-iterator c.loop-cpu.called c.loop-cpu.owed c.loop-cpu.invariant c.in-None.ensures.steps.0.0

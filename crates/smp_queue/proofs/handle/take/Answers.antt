@@ -1,9 +1,8 @@
 use Rattle.std.proofs.Common.{ℕ, ap}
-use Rattle.smp_words.specs.declared.access.Access.TheVariants.{Swap}
-use Rattle.smp_words.specs.declared.word.Word.TheVariants.{Head}
-use Rattle.smp_call_steps.specs.declared.handle.HandleStage.TheVariants as handle
-use Rattle.smp_queue.proofs.Going.{moment_fits}
-use Rattle.smp_queue.proofs.Handles.{in_handle_ready}
+use Rattle.smp_queue.specs.Names.{Head, Swap}
+use Rattle.smp_queue.specs.Names.handle
+use Rattle.smp_queue.proofs.Handling.Going.{moment_fits}
+use Rattle.smp_queue.proofs.Handling.Handles.{in_handle_ready}
 use Rattle.smp_queue.proofs.handle.take.Goals as goal
 
 pub swap-link-requires : goal.swap-link-requires

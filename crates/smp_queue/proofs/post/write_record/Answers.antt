@@ -1,10 +1,9 @@
 use Rattle.std.proofs.Common.{sym, refl, ap}
 use Rattle.smp_call_steps.specs.Known.{posting_of}
-use Rattle.smp_call_steps.proofs.Posted.{locked_known, func_known, info_known}
-use Rattle.smp_queue.proofs.Ready.{ready_post, mine_moved}
-use Rattle.smp_words.specs.declared.word.Word.TheVariants.{Flags}
-use Rattle.smp_words.specs.declared.access.Access.TheVariants.{Store}
-use Rattle.smp_call_steps.specs.declared.post.PostStage.TheVariants as post
+use Rattle.smp_call_steps.proofs.Knows.Posted.{locked_known, func_known, info_known}
+use Rattle.smp_queue.proofs.Posts.Ready.{ready_post, mine_moved}
+use Rattle.smp_queue.specs.Names.{Flags, Store}
+use Rattle.smp_queue.specs.Names.post
 use Rattle.smp_queue.proofs.post.write_record.Goals as goal
 
 pub store-requires : goal.store-requires
@@ -13,22 +12,22 @@ store-requires c = ready_post _ _ c.args.posting.now post.Lock _ c.requires.mine
 pub store-requires-2 : goal.store-requires-2
 store-requires-2 c =
     let p = c.args.posting.now in
-    let v = c.args.chair.now.known in
-    let known = locked_known v c.store.new.chair.known p.id c.flags.result p.class c.requires.outside c.store.ensures.known c.flags.ensures in
+    let v = c.args.seat.now.known in
+    let known = locked_known v c.store.new.seat.known p.id c.flags.result p.class c.requires.outside c.store.ensures.known c.flags.ensures in
     ready_post _ _ p post.StoreFunc _ (mine_moved _ _ _ _ _ c.requires.mine c.store.ensures.table known refl) (sym (ap (λ u. u.stage) known)) tt refl
 
 pub store-requires-3 : goal.store-requires-3
 store-requires-3 c =
     let p = c.args.posting.now in
-    let v = c.args.chair.now.known in
-    let known = locked_known v c.store.new.chair.known p.id c.flags.result p.class c.requires.outside c.store.ensures.known c.flags.ensures in
-    let known2 = func_known v c.store-2.new.chair.known c.store.new.chair.known p.id p.func (posting_of p.id p.class 0 0 0) c.store-2.ensures.known known in
+    let v = c.args.seat.now.known in
+    let known = locked_known v c.store.new.seat.known p.id c.flags.result p.class c.requires.outside c.store.ensures.known c.flags.ensures in
+    let known2 = func_known v c.store-2.new.seat.known c.store.new.seat.known p.id p.func (posting_of p.id p.class 0 0 0) c.store-2.ensures.known known in
     ready_post _ _ p post.StoreInfo _ (mine_moved _ _ _ _ _ c.requires.mine c.store-2.ensures.table known2 refl) (sym (ap (λ u. u.stage) known2)) tt refl
 
 pub returns-clause-known : goal.returns-clause-known
 returns-clause-known c =
     let p = c.args.posting.now in
-    let v = c.args.chair.now.known in
-    let known = locked_known v c.store.new.chair.known p.id c.flags.result p.class c.requires.outside c.store.ensures.known c.flags.ensures in
-    let known2 = func_known v c.store-2.new.chair.known c.store.new.chair.known p.id p.func (posting_of p.id p.class 0 0 0) c.store-2.ensures.known known in
-    info_known v c.store-3.new.chair.known c.store-2.new.chair.known p.id p.info (posting_of p.id p.class p.func 0 0) c.store-3.ensures.known known2
+    let v = c.args.seat.now.known in
+    let known = locked_known v c.store.new.seat.known p.id c.flags.result p.class c.requires.outside c.store.ensures.known c.flags.ensures in
+    let known2 = func_known v c.store-2.new.seat.known c.store.new.seat.known p.id p.func (posting_of p.id p.class 0 0 0) c.store-2.ensures.known known in
+    info_known v c.store-3.new.seat.known c.store-2.new.seat.known p.id p.info (posting_of p.id p.class p.func 0 0) c.store-3.ensures.known known2

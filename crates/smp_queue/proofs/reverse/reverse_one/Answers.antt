@@ -2,46 +2,43 @@ use Rattle.std.proofs.Common.{ℕ, ◌+◌, ◌<◌, Option, Some, refl, ap, ◌
 use Rattle.smp_call_steps.specs.Drains.{record_at, reverse_on}
 use Rattle.smp_call_steps.specs.Handling.{goes_known}
 use Rattle.smp_words.specs.declared.size.TheConstants.{MOST_CALLS}
-use Rattle.smp_call_steps.proofs.Handling.{lives_fits, next_stored_is}
-use Rattle.smp_words.specs.declared.access.Access.TheVariants as access
-use Rattle.smp_call_steps.specs.declared.known.Known.{Known}
-use Rattle.smp_words.specs.declared.word.Word.TheVariants as word
-use Rattle.smp_call_steps.specs.declared.handle.HandleStage.TheVariants as handle
-use Rattle.smp_call_steps.specs.declared.stage.Stage.TheVariants.{Handle}
-use Rattle.smp_queue.proofs.Handles.{in_handle_ready, in_handle_then}
-use Rattle.smp_queue.proofs.Going.{HasLoad, next_known, next_goes, found_fits}
+use Rattle.smp_call_steps.proofs.Knows.Handling.{lives_fits, next_stored_is}
+use Rattle.smp_queue.specs.Names.{Next, Load, Store, Known, Handle}
+use Rattle.smp_queue.specs.Names.handle
+use Rattle.smp_queue.proofs.Handling.Handles.{in_handle_ready, in_handle_then}
+use Rattle.smp_queue.proofs.Handling.Going.{HasLoad, next_known, next_goes, found_fits}
 use Rattle.smp_queue.proofs.reverse.reverse_one.Goals as goal
 
 pub load-link-requires : goal.load-link-requires
-load-link-requires c = in_handle_ready _ _ _ c.requires (access.Load (word.Next c.args.id)) tt refl
+load-link-requires c = in_handle_ready _ _ _ c.requires (Load (Next c.args.id)) tt refl
 
 pub record_of-older-requires : goal.record_of-older-requires
 record_of-older-requires c =
     let e = c.load-link.ensures in
-    let l : HasLoad c.args.words.now.table_id c.args.chair.now c.load-link.new.chair (word.Next c.args.id) c.load-link.result = record { moment = e.then; table_is = e.table; lives = e.lives; known_is = e.known } in
-    found_fits _ _ _ _ c.requires (word.Next c.args.id) c.load-link.result l refl
+    let l : HasLoad c.args.words.now.table_id c.args.seat.now c.load-link.new.seat (Next c.args.id) c.load-link.result = record { moment = e.then; table_is = e.table; lives = e.lives; known_is = e.known } in
+    found_fits _ _ _ _ c.requires (Next c.args.id) c.load-link.result l refl
 
 pub store-requires : goal.store-requires
 store-requires c =
     let e = c.load-link.ensures in
-    let l : HasLoad c.args.words.now.table_id c.args.chair.now c.load-link.new.chair (word.Next c.args.id) c.load-link.result = record { moment = e.then; table_is = e.table; lives = e.lives; known_is = e.known } in
+    let l : HasLoad c.args.words.now.table_id c.args.seat.now c.load-link.new.seat (Next c.args.id) c.load-link.result = record { moment = e.then; table_is = e.table; lives = e.lives; known_is = e.known } in
     let at = next_goes _ _ _ _ c.requires c.args.id c.load-link.result (handle.ReverseStore c.args.newer c.args.id (record_at c.load-link.result)) l refl in
-    in_handle_ready _ _ _ at (access.Store (word.Next c.args.id) c.link_of.result) tt (ap (λ (n : ℕ). access.Store (word.Next c.args.id) n) (sym c.link_of.ensures))
+    in_handle_ready _ _ _ at (Store (Next c.args.id) c.link_of.result) tt (ap (λ (n : ℕ). Store (Next c.args.id) n) (sym c.link_of.ensures))
 
 pub returns-clause-known : goal.returns-clause-known
 returns-clause-known c =
     let e = c.load-link.ensures in
-    let l : HasLoad c.args.words.now.table_id c.args.chair.now c.load-link.new.chair (word.Next c.args.id) c.load-link.result = record { moment = e.then; table_is = e.table; lives = e.lives; known_is = e.known } in
+    let l : HasLoad c.args.words.now.table_id c.args.seat.now c.load-link.new.seat (Next c.args.id) c.load-link.result = record { moment = e.then; table_is = e.table; lives = e.lives; known_is = e.known } in
     let at = next_goes _ _ _ _ c.requires c.args.id c.load-link.result (handle.ReverseStore c.args.newer c.args.id (record_at c.load-link.result)) l refl in
     let s = c.store.ensures in
     let k = s.known ∙ (next_stored_is _ (handle.ReverseStore c.args.newer c.args.id (record_at c.load-link.result)) c.args.id c.link_of.result at.stage_is
     ∙ ap (goes_known (handle.ReverseStore c.args.newer c.args.id (record_at c.load-link.result)) 0) (next_known _ _ _ _ c.requires c.args.id c.load-link.result l)) in
-    k ∙ ap (λ (x : Option ℕ). record (c.args.chair.now.known) { stage = Some (Handle (reverse_on (Some c.args.id) x)); drain = record { calls = c.args.chair.now.known.drain.calls + 1 } }) (sym c.record_of-older.ensures)
+    k ∙ ap (λ (x : Option ℕ). record (c.args.seat.now.known) { stage = Some (Handle (reverse_on (Some c.args.id) x)); drain = record { calls = c.args.seat.now.known.drain.calls + 1 } }) (sym c.record_of-older.ensures)
 
 pub returns-clause-at : goal.returns-clause-at
 returns-clause-at c =
     let e = c.load-link.ensures in
-    let l : HasLoad c.args.words.now.table_id c.args.chair.now c.load-link.new.chair (word.Next c.args.id) c.load-link.result = record { moment = e.then; table_is = e.table; lives = e.lives; known_is = e.known } in
+    let l : HasLoad c.args.words.now.table_id c.args.seat.now c.load-link.new.seat (Next c.args.id) c.load-link.result = record { moment = e.then; table_is = e.table; lives = e.lives; known_is = e.known } in
     let at = next_goes _ _ _ _ c.requires c.args.id c.load-link.result (handle.ReverseStore c.args.newer c.args.id (record_at c.load-link.result)) l refl in
     let s = c.store.ensures in
     let k = s.known ∙ next_stored_is _ (handle.ReverseStore c.args.newer c.args.id (record_at c.load-link.result)) c.args.id c.link_of.result at.stage_is in
@@ -50,7 +47,7 @@ returns-clause-at c =
 pub returns-clause-room : goal.returns-clause-room
 returns-clause-room c =
     let e = c.load-link.ensures in
-    let l : HasLoad c.args.words.now.table_id c.args.chair.now c.load-link.new.chair (word.Next c.args.id) c.load-link.result = record { moment = e.then; table_is = e.table; lives = e.lives; known_is = e.known } in
+    let l : HasLoad c.args.words.now.table_id c.args.seat.now c.load-link.new.seat (Next c.args.id) c.load-link.result = record { moment = e.then; table_is = e.table; lives = e.lives; known_is = e.known } in
     let at = next_goes _ _ _ _ c.requires c.args.id c.load-link.result (handle.ReverseStore c.args.newer c.args.id (record_at c.load-link.result)) l refl in
     let k = next_known _ _ _ _ c.requires c.args.id c.load-link.result l in
     let f = lives_fits _ at.lives (handle.ReverseStore c.args.newer c.args.id (record_at c.load-link.result)) at.stage_is in

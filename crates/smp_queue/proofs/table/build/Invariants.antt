@@ -1,5 +1,5 @@
-use Rattle.smp_queue.proofs.Seating.{Seats}
+use Rattle.smp_queue.proofs.TheRule.Seating.{AreSeated}
 use Rattle.smp_queue.proofs.table.build.Given as goal
 
 abbrev pub invariant-loop-number : goal.invariant-loop-number
-invariant-loop-number g l = Seats l.owner.shared.table_id l.boot.table_id l.boot.me.0 l.online l.number l.waiting.items
+invariant-loop-number g l = AreSeated l.owner.shared.table_id l.maker.table_id l.maker.me.0 l.online l.number l.waiting.items

@@ -1,0 +1,151 @@
+-- A command of the call half that may start begins where it should, and changes no call.
+use Rattle.std.proofs.Common.{◌≡◌, ℕ, ◌-◌, ◌<◌, Bool, true, false, ◌==◌, ◌||◌, ◌&&◌, not, nat_lt, cond, Option, Some, None, List, sym, refl, ap, ◌∙◌, arith, replicate, inl, inr}
+use Rattle.std.proofs.lemmas.Bool.{ltb-true, le-ltb, cases_lt, and_parts}
+use Rattle.smp_mask.specs.Mask.{has}
+use Rattle.smp_mask.specs.declared.error.SmpError.{SmpError}
+use Rattle.smp_words.specs.Size.{cpus, table_size, records_of_one}
+use Rattle.smp_words.specs.declared.size.TheConstants.{FIRST_OF_ONE}
+use Rattle.smp_words.specs.Put.{put}
+use Rattle.smp_words.specs.Layout.{index_of, number_in}
+use Rattle.smp_call_steps.specs.Calls.{CallState, no_calls}
+use Rattle.smp_call_steps.specs.Drains.{DrainValue}
+use Rattle.smp_call_steps.specs.Stages.{ControlValue}
+use Rattle.smp_words.specs.Limits.{AreLimits}
+use Rattle.smp_call_steps.specs.Start.{command_refusal, first_stage, fits_record, has_record, control_at, NamesRecord}
+use Rattle.smp_words.specs.Commands.{FitsCommand}
+use Rattle.smp_call_steps.specs.Stands.{Share, share_of, Rests, Stands, StandsAt, held_of, HandIs}
+use Rattle.smp_call_steps.specs.Value.{ValuesShow, control_of, outside}
+use Rattle.smp_call_steps.specs.Words.{hands_in}
+use Rattle.smp_call_steps.specs.Shows.{Shows}
+use Rattle.smp_words.proofs.Puts.{put_all}
+use Rattle.smp_words.proofs.Sizes.{owner-of_record, record_of-below}
+use Rattle.smp_words.specs.declared.command.Command.{Command}
+use Rattle.smp_words.specs.declared.command.Command.TheVariants as command
+use Rattle.smp_call_steps.specs.Names.{Word, Head, Intr, Hand, Queued, Ran, Flags, RecPlace}
+use Rattle.smp_words.proofs.Zeros.{get_or-same, zero_at}
+
+pub else_none : (b : Bool) (x : Option SmpError) (y : SmpError) → cond b x (Some y) ≡ None → (b ≡ true) × (x ≡ None)
+else_none true x y e = (refl, e)
+else_none false x y e = cc
+
+then_none : (b : Bool) (y : SmpError) → cond b (Some y) None ≡ None → b ≡ false
+then_none true y e = cc
+then_none false y e = refl
+
+or_false : (x y : Bool) → (x || y) ≡ false → x ≡ false
+or_false true y e = e
+or_false false y e = refl
+
+not_false : (x : Bool) → not x ≡ false → x ≡ true
+not_false true e = refl
+not_false false e = cc
+
+-- a CPU that is online is one that there can be
+pub online_below : (nr online cpu : ℕ) → AreLimits nr online → has online cpu ≡ true → cpu < cpus
+online_below nr online cpu l e = let below = l.below cpu e in let within = l.within in omega arith
+
+begins_empty : (online cpu : ℕ) (c : Command) → held_of (first_stage online cpu c) ≡ None
+begins_empty online cpu (command.Post k to class func info tries) = refl
+begins_empty online cpu _ = refl
+
+begins_outside : (online cpu : ℕ) (c : Command) (hand : ℕ) → hand ≡ 0 → HandIs (first_stage online cpu c) hand
+begins_outside online cpu (command.Post k to class func info tries) hand e = e
+begins_outside online cpu _ hand e = e
+
+-- a record that a source has is one of its local numbers
+pub record_below : (nr k : ℕ) → has_record nr k ≡ true → k < records_of_one
+record_below nr k e = elim (cases_lt k FIRST_OF_ONE) [
+  | inl low ↦ omega arith
+  | inr high ↦
+      let far : (nat_lt k records_of_one && nat_lt (k - 4) nr) ≡ true = rw (← e, le-ltb k FIRST_OF_ONE high) refl in
+      ltb-true k records_of_one (and_parts (nat_lt k records_of_one) (nat_lt (k - 4) nr) far).0
+]
+
+-- a command that may start names a record that there is
+pub names_record : (nr online cpu : ℕ) (c : Command) → command_refusal nr online cpu c ≡ None → NamesRecord c
+names_record nr online cpu (command.Post k to class func info tries) e =
+    let one = not (nat_lt k records_of_one) in
+    let bad = ((one || tries == 0) || to == cpu) || not (fits_record nr k to class) in
+    let ok = or_false one (tries == 0) (or_false (one || tries == 0) (to == cpu) (or_false ((one || tries == 0) || to == cpu) (not (fits_record nr k to class)) (then_none bad _ e))) in
+    ltb-true k records_of_one (not_false (nat_lt k records_of_one) ok)
+names_record nr online cpu (command.Done k) e = record_below nr k (else_none (has_record nr k) None _ e).0
+names_record nr online cpu (command.Send to) e = tt
+names_record nr online cpu command.Handle e = tt
+names_record nr online cpu _ e = tt
+
+begins : (nr online : ℕ) (places : ℕ → RecPlace) (at : Word → ℕ) (s : Share) (d : DrainValue) (cpu : ℕ) (c : Command) → AreLimits nr online → cpu < cpus → command_refusal nr online cpu c ≡ None → FitsCommand c →
+    StandsAt places at s d cpu None → StandsAt places at s d cpu (first_stage online cpu c)
+begins nr online places at s d cpu (command.Post k to class func info tries) limits l e f h =
+    let one = not (nat_lt k records_of_one) in
+    let bad = ((one || tries == 0) || to == cpu) || not (fits_record nr k to class) in
+    let ok = or_false one (tries == 0) (or_false (one || tries == 0) (to == cpu) (or_false ((one || tries == 0) || to == cpu) (not (fits_record nr k to class)) (then_none bad _ e))) in
+    let small = ltb-true k records_of_one (not_false (nat_lt k records_of_one) ok) in (
+      h,
+      record {
+        owned = owner-of_record cpu k l small;
+        is_call = record { in_range = record_of-below cpu k l small; func = f.0; info = f.1 };
+        me_in_range = l;
+        goes = λ o. online_below nr online to limits o;
+        knows = tt;
+      },
+    )
+begins nr online places at s d cpu (command.Send to) limits l e f h = (h, online_below nr online to limits (else_none (has online to) None _ e).0, l)
+begins nr online places at s d cpu (command.Done k) limits l e f h =
+    let small = record_below nr k (else_none (has_record nr k) None _ e).0 in
+    (h, owner-of_record cpu k l small, record_of-below cpu k l small)
+begins nr online places at s d cpu command.Handle limits l e f h = (l, h)
+begins nr online places at s d cpu _ limits l e f h = h
+
+module _ (nr online : ℕ) (a : CallState) (at : Word → ℕ) (control : ℕ → ControlValue) (cpu : ℕ) (c : Command) (shows : Shows a at control) (outside_now : (control cpu).stage ≡ None) where
+  begun_stands : AreLimits nr online → cpu < cpus → command_refusal nr online cpu c ≡ None → FitsCommand c → Stands a.place at (share_of a cpu) cpu (control_at (control cpu) (first_stage online cpu c))
+  begun_stands limits l e f =
+      let h : StandsAt a.place at (share_of a cpu) (control cpu).drain cpu None = rw outside_now at (shows.stands cpu) in
+      begins nr online a.place at (share_of a cpu) (control cpu).drain cpu c limits l e f h
+
+  pub begun_shows : AreLimits nr online → cpu < cpus → command_refusal nr online cpu c ≡ None → FitsCommand c → Shows a at (put control cpu (control_at (control cpu) (first_stage online cpu c)))
+  begun_shows limits l e f =
+      let next = control_at (control cpu) (first_stage online cpu c) in
+      let hand : hands_in at cpu ≡ 0 = rw outside_now at (shows.hands cpu) in
+      record {
+        held = put_all (λ (j : ℕ) (x : ControlValue). a.held j ≡ held_of x.stage) control cpu next (shows.held cpu ∙ (ap held_of outside_now ∙ sym (begins_empty online cpu c))) (λ j _. shows.held j);
+        stands = put_all (λ (j : ℕ) (x : ControlValue). Stands a.place at (share_of a j) j x) control cpu next (begun_stands limits l e f) (λ j _. shows.stands j);
+        hands = put_all (λ (j : ℕ) (x : ControlValue). HandIs x.stage (hands_in at j)) control cpu next (begins_outside online cpu c (hands_in at cpu) hand) (λ j _. shows.hands j);
+        placed = shows.placed;
+        written = shows.written;
+        chained = shows.chained;
+        links = shows.links;
+        noticed = shows.noticed;
+        recorded = shows.recorded;
+        tallied = shows.tallied;
+      }
+
+rests : Rests (share_of no_calls 0)
+rests = record { batch = refl; running = refl; accepted = refl }
+
+-- words that are all 0, with each CPU outside, show no calls
+pub zeros_shown : (at : Word → ℕ) (control : ℕ → ControlValue) → ((w : Word) → at w ≡ 0) → ((cpu : ℕ) → control cpu ≡ outside) → Shows no_calls at control
+zeros_shown at control z n = record {
+  held = λ cpu. rw (n cpu) refl;
+  stands = λ cpu. rw (n cpu) rests;
+  hands = λ cpu. rw (n cpu) (z (Hand cpu));
+  placed = record {
+    queued = λ _. tt;
+    batched = λ _. tt;
+    runs = λ _. tt;
+    queue_apart = λ _. tt;
+    batch_apart = λ _. tt;
+    is_there = λ _. tt;
+    settled = λ _ _ _ _. inl refl;
+  };
+  written = record { locks = λ id. z (Flags id); queued = λ _. tt; batched = λ _. tt; runs = λ _. tt };
+  chained = record { chain = λ cpu. z (Head cpu) };
+  links = record { held_links = λ _. tt };
+  noticed = record { words = λ cpu. z (Intr cpu); noticed = λ _. inl tt };
+  recorded = record { in_order = λ _ _. refl; drained = λ _. refl };
+  tallied = record { queued_are = λ source cpu. z (Queued source cpu); ran_are = λ cpu source. z (Ran cpu source) };
+}
+
+-- a table of zeros, with each CPU outside, shows no calls
+pub new_shown : (words : List ℕ) (controls : List ControlValue) → words ≡ replicate table_size 0 → controls ≡ replicate cpus outside → ValuesShow no_calls words controls
+new_shown words controls e f =
+    zeros_shown (number_in words) (control_of controls) (λ w. rw e (zero_at table_size (index_of w))) (λ cpu. rw f (get_or-same outside cpus cpu))

@@ -1,0 +1,107 @@
+-- The calls by a confirmed record have all run, or run now.
+use Rattle.std.proofs.Common.{◌≡◌, ◌≢◌, ℕ, ◌+◌, ◌==◌, true, cond, Option, Some, List, [], ◌∷◌, ◌++◌, inl, inr, refl, ap, ◌∙◌, arith}
+use Rattle.std.proofs.lemmas.Bool.{ne_eqb}
+use Rattle.std.proofs.lemmas.List.Sums.{sum_by-append}
+use Rattle.std.specs.List.{AllByRecursion}
+use Rattle.smp_words.specs.Size.{owner}
+use Rattle.smp_call_steps.specs.Calls.{CallState, Running, Nothing}
+use Rattle.smp_call_steps.specs.Counts.{calls_by, batches, async_call, ConfirmedCallsRan}
+use Rattle.smp_call_steps.specs.Histories.{orders, running_call}
+use Rattle.smp_call_steps.specs.Order.{if_sync, if_async, sync_calls, async_calls, order}
+use Rattle.smp_call_steps.specs.Places.{Holds, IsPlaced, locked_by}
+use Rattle.smp_call_steps.specs.Shows.{Shows}
+use Rattle.smp_call_steps.specs.Stages.{ControlValue}
+use Rattle.smp_call_steps.specs.Stands.{share_of, Share, StandsAt, PostKnows, held_of, held_of_post}
+use Rattle.smp_call_steps.specs.Drains.{DrainValue}
+use Rattle.smp_call_steps.specs.Names.{Call, Class, Sync, Async, Word, RecPlace, Posting, PostStage, Stage, Post}
+use Rattle.smp_call_steps.specs.Names.place
+use Rattle.smp_call_steps.specs.Names.post
+
+by-append : (id : ℕ) (xs ys : List Call) → calls_by id (xs ++ ys) ≡ calls_by id xs + calls_by id ys
+by-append id xs ys = sum_by-append (λ call. cond (call.id == id) 1 0) xs ys
+
+by-class : (id : ℕ) (class : Class) (call : Call) → calls_by id (if_sync class call) + calls_by id (if_async class call) ≡ calls_by id (call ∷ [])
+by-class id Sync call = omega arith
+by-class id Async call = omega arith
+
+by-parts : (id : ℕ) (calls : List Call) → calls_by id (sync_calls calls) + calls_by id (async_calls calls) ≡ calls_by id calls
+by-parts id [] = refl
+by-parts id (call ∷ rest) =
+    let one = by-class id call.class call in
+    let r = by-parts id rest in
+    let a : calls_by id (sync_calls (call ∷ rest)) ≡ calls_by id (if_sync call.class call) + calls_by id (sync_calls rest) = by-append id (if_sync call.class call) (sync_calls rest) in
+    let b : calls_by id (async_calls (call ∷ rest)) ≡ calls_by id (if_async call.class call) + calls_by id (async_calls rest) = by-append id (if_async call.class call) (async_calls rest) in
+    let w : calls_by id (call ∷ rest) ≡ calls_by id (call ∷ []) + calls_by id rest = by-append id (call ∷ []) rest in
+    omega arith
+
+-- the drain order has the calls of its batch
+by-order : (id : ℕ) (calls : List Call) → calls_by id (order calls) ≡ calls_by id calls
+by-order id calls = by-append id (sync_calls calls) (async_calls calls) ∙ by-parts id calls
+
+by-orders : (id : ℕ) (taken : List (List Call)) → calls_by id (orders taken) ≡ calls_by id (batches taken)
+by-orders id [] = refl
+by-orders id (batch ∷ rest) =
+    let o = by-order id batch in
+    let r = by-orders id rest in
+    let a : calls_by id (orders (batch ∷ rest)) ≡ calls_by id (order batch) + calls_by id (orders rest) = by-append id (order batch) (orders rest) in
+    let b : calls_by id (batches (batch ∷ rest)) ≡ calls_by id batch + calls_by id (batches rest) = by-append id batch (batches rest) in
+    omega arith
+
+-- a list of calls whose records are elsewhere has none by this record
+none_by : (places : ℕ → RecPlace) (p : RecPlace) (id : ℕ) (calls : List Call) → places id ≢ p → AllByRecursion (IsPlaced places p) calls → calls_by id calls ≡ 0
+none_by places p id [] ne h = refl
+none_by places p id (call ∷ rest) ne h =
+    let other : call.id ≢ id = λ e. ne (rw e at h.0.placed) in
+    rw (ne_eqb call.id id other) (none_by places p id rest ne h.1)
+
+-- the calls that run, but for an ASYNC one, keep their record locked
+by-running : (id : ℕ) (running : Running) → calls_by id (running_call running) ≡ calls_by id (locked_by running) + calls_by id (async_call running)
+by-running id Nothing = refl
+by-running id _ = omega arith
+
+-- a record that its source holds is at that place
+
+post_held : (places : ℕ → RecPlace) (at : Word → ℕ) (id : ℕ) (p : Posting) (stage : PostStage) → PostKnows places at p stage → Holds (held_of_post p stage) id → places id ≡ place.Held
+post_held places at id p post.LoadFlags k h = absurd h
+post_held places at id p post.Lock k h = absurd h
+post_held places at id p _ k h = rw h at k.0
+
+stage_held : (places : ℕ → RecPlace) (at : Word → ℕ) (s : Share) (d : DrainValue) (me id : ℕ) (stage : Option Stage) → StandsAt places at s d me stage → Holds (held_of stage) id → places id ≡ place.Held
+stage_held places at s d me id (Some (Post p stage)) k h = post_held places at id p stage k.1.knows h
+stage_held places at s d me id _ k h = absurd h
+
+-- a record that is free, or held
+record IsOut (p : RecPlace) : Type 0 where
+  queue : (cpu : ℕ) → p ≢ place.Queued cpu
+  batch : (cpu : ℕ) → p ≢ place.Batch cpu
+  running : (cpu : ℕ) → p ≢ place.Running cpu
+
+free_out : (p : RecPlace) → p ≡ place.Free → IsOut p
+free_out p e = record { queue = λ cpu f. cc; batch = λ cpu f. cc; running = λ cpu f. cc }
+
+held_out : (p : RecPlace) → p ≡ place.Held → IsOut p
+held_out p e = record { queue = λ cpu f. cc; batch = λ cpu f. cc; running = λ cpu f. cc }
+
+module _ (a : CallState) (at : Word → ℕ) (control : ℕ → ControlValue) (s : Shows a at control) where
+  pub held_place : (source id : ℕ) → Holds (a.held source) id → a.place id ≡ place.Held
+  held_place source id h =
+      let k : Holds (held_of (control source).stage) id = rw (s.held source) at h in
+      stage_held a.place at (share_of a source) (control source).drain source id (control source).stage (s.stands source) k
+
+  confirmed_out : (id : ℕ) → a.confirmed (owner id) id ≡ true → IsOut (a.place id)
+  confirmed_out id e = elim (s.placed.settled (owner id) id refl e) [ inl f ↦ free_out (a.place id) f | inr h ↦ held_out (a.place id) (held_place (owner id) id h) ]
+
+  pub confirmed_calls_ran : ConfirmedCallsRan a
+  confirmed_calls_ran id cpu e =
+      let out = confirmed_out id e in
+      let q = none_by a.place (place.Queued cpu) id (a.queue cpu) (out.queue cpu) (s.placed.queued cpu) in
+      let b = none_by a.place (place.Batch cpu) id (a.batch cpu) (out.batch cpu) (s.placed.batched cpu) in
+      let r = none_by a.place (place.Running cpu) id (locked_by (a.running cpu)) (out.running cpu) (s.placed.runs cpu) in
+      let runs = by-running id (a.running cpu) in
+      let all : calls_by id (a.ran cpu ++ (running_call (a.running cpu) ++ a.batch cpu)) ≡ calls_by id (orders (a.taken cpu)) = ap (calls_by id) (s.recorded.drained cpu) in
+      let same = by-orders id (a.taken cpu) in
+      let left = by-append id (a.ran cpu) (running_call (a.running cpu) ++ a.batch cpu) in
+      let right = by-append id (running_call (a.running cpu)) (a.batch cpu) in
+      let queued = by-append id (batches (a.taken cpu)) (a.queue cpu) in
+      let ended = by-append id (a.ran cpu) (async_call (a.running cpu)) in
+      omega arith

@@ -1,0 +1,24 @@
+-- The types that words and calls are made of, and their variants, by their names.
+pub use Rattle.smp_words.specs.declared.call.Call.{Call}
+pub use Rattle.smp_words.specs.declared.call.Class.{Class}
+pub use Rattle.smp_words.specs.declared.call.Class.TheVariants.{Sync, Async}
+pub use Rattle.smp_words.specs.declared.word.Word.{Word}
+pub use Rattle.smp_words.specs.declared.word.Word.TheVariants.{Head, Intr, Hand, Queued, Ran, Flags, Func, Info, Next}
+pub use Rattle.smp_words.specs.declared.access.Access.{Access}
+pub use Rattle.smp_words.specs.declared.access.Access.TheVariants.{Load, Store, Swap, Exchange, Sub, And}
+pub use Rattle.smp_words.specs.declared.seen.Seen.{Seen}
+pub use Rattle.smp_words.specs.declared.seen.Act.{Act}
+pub use Rattle.smp_words.specs.declared.seen.Act.TheVariants as act
+pub use Rattle.smp_words.specs.declared.seen.Note.{Note}
+pub use Rattle.smp_words.specs.declared.seen.Note.TheVariants as note
+pub use Rattle.smp_call_steps.specs.declared.place.RecPlace.{RecPlace}
+pub use Rattle.smp_call_steps.specs.declared.place.RecPlace.TheVariants as place
+pub use Rattle.smp_call_steps.specs.declared.post.Posting.{Posting}
+pub use Rattle.smp_call_steps.specs.declared.post.PostStage.{PostStage}
+pub use Rattle.smp_call_steps.specs.declared.post.PostStage.TheVariants as post
+pub use Rattle.smp_call_steps.specs.declared.handle.Walk.{Walk}
+pub use Rattle.smp_call_steps.specs.declared.handle.HandleStage.{HandleStage}
+pub use Rattle.smp_call_steps.specs.declared.handle.HandleStage.TheVariants as handle
+pub use Rattle.smp_call_steps.specs.declared.stage.Outcome.{Outcome}
+pub use Rattle.smp_call_steps.specs.declared.stage.Stage.{Stage}
+pub use Rattle.smp_call_steps.specs.declared.stage.Stage.TheVariants.{Send, Done, Post, Handle}

@@ -1,0 +1,10 @@
+use Rattle.std.proofs.Common.{◌∙◌}
+use Rattle.smp_call_steps.proofs.Knows.Handling.{lives_stands, ended_sync_is}
+use Rattle.smp_queue.specs.Names.handle
+use Rattle.smp_queue.proofs.call_steps.end_sync.Goals as goal
+
+pub returns-clause-known : goal.returns-clause-known
+returns-clause-known g c =
+    let at = c.requires.at in
+    let k = lives_stands _ at.lives (handle.EndSync c.args.walk c.args.call c.args.next) at.stage_is in
+    c.store_step.ensures.known ∙ ended_sync_is _ c.args.walk c.args.call c.args.next at.stage_is k.1.running_is

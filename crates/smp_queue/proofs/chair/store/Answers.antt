@@ -1,9 +1,0 @@
-use Rattle.std.proofs.Common.{arith, ap, ◌∙◌}
-use Rattle.smp_queue.proofs.Below.{store_below}
-use Rattle.smp_queue.proofs.Cells.{cell_below}
-use Rattle.smp_queue.proofs.Keeps.{can_same}
-use Rattle.smp_queue.proofs.chair.store.Goals as goal
-
-pub store-requires : goal.store-requires
-store-requires c = let r = c.requires in let low = cell_below c.args.word c.cell.result c.cell.ensures in let w = r.sized in
-    (ap (λ d. d.table) c.chair.view_is ∙ r.table_is, omega arith, store_below _ _ _ _ c.chair.invariant c.args.word c.cell.result c.args.number c.cell.ensures (can_same _ _ _ (ap (λ d. d.known) c.chair.view_is) r.can))

@@ -1,0 +1,104 @@
+-- A CPU at the table: its table and what it knows, and which accesses it may make.
+use Rattle.std.specs.Prelude.{◌≡◌, ℕ, ◌%◌, ◌^◌, ◌<◌, Some, None, length}
+use Rattle.atomic_table.specs.Seated.{TableId}
+use Rattle.smp_words.specs.Access.{word_of}
+use Rattle.smp_words.specs.Size.{cpus, records, owner}
+use Rattle.smp_call_steps.specs.Places.{IsCall}
+use Rattle.smp_call_steps.specs.Histories.{sent_to}
+use Rattle.smp_call_steps.specs.Stands.{posted}
+use Rattle.smp_call_steps.specs.Known.{MayStep, known_access, fresh, posting_of, Lives}
+use Rattle.smp_queue.specs.Names.{Word, Access, Store, Known, Posting, HandleStage, Stage, Post, Handle, SeatView, Cpu}
+use Rattle.smp_queue.specs.Names.post
+use Rattle.smp_queue.specs.Names.handle
+use Rattle.smp_queue.specs.Cells.{cells, HasCell}
+use Rattle.smp_queue.specs.Rule.{known}
+
+-- the table that a CPU sits at, and what it knows
+pub record SeatValue : Type 0 where
+  pub table : TableId
+  pub known : Known
+
+-- the seat of a CPU
+abbrev pub IsCpuSeat : SeatView → Type 0
+IsCpuSeat v = v ≡ Cpu (known v)
+
+-- a CPU that knows this may make this access
+pub record MayAccess (v : Known) (access : Access) : Type 0 where
+  pub stage : Stage
+  pub aims : MayStep v stage
+  pub is_access : known_access v stage ≡ access
+
+-- a stage at which no call begins, is counted or ends
+abbrev pub IsApartFromCalls : Stage → Type 0
+IsApartFromCalls (Handle (handle.BeginSync walk call next)) = ⊥
+IsApartFromCalls (Handle (handle.CountSync walk call next)) = ⊥
+IsApartFromCalls (Handle (handle.EndSync walk call next)) = ⊥
+IsApartFromCalls (Handle (handle.BeginAsync call next)) = ⊥
+IsApartFromCalls (Handle (handle.CountAsync call next)) = ⊥
+IsApartFromCalls _ = Unit {0}
+
+-- a CPU may make this access at this table, which begins, counts and ends no call
+pub record Ready (table : TableId) (seat : SeatValue) (access : Access) : Type 0 where
+  pub table_is : seat.table ≡ table
+  pub sized : table.words ≡ cells
+  pub can : MayAccess seat.known access
+  pub apart : IsApartFromCalls can.stage
+  pub cell : HasCell (word_of access)
+
+-- a CPU of this number outside a command
+pub record IsOutside (table : TableId) (seat : SeatValue) (number : ℕ) : Type 0 where
+  pub table_is : seat.table ≡ table
+  pub sized : table.words ≡ cells
+  pub number_is : seat.known.number ≡ number
+  pub below : number < cpus
+  pub stage_is : seat.known.stage ≡ None
+
+-- a CPU inside handle, at this step of it
+pub record InHandle (table : TableId) (seat : SeatValue) (stage : HandleStage) : Type 0 where
+  pub table_is : seat.table ≡ table
+  pub sized : table.words ≡ cells
+  pub stage_is : seat.known.stage ≡ Some (Handle stage)
+  pub lives : Lives seat.known
+
+-- a step inside handle that stores this number in this word
+pub record IsStepOfCall (table : TableId) (seat : SeatValue) (word : Word) (number : ℕ) : Type 0 where
+  pub stage : HandleStage
+  pub at : InHandle table seat stage
+  pub is_access : known_access seat.known (Handle stage) ≡ Store word number
+
+-- a CPU that has done nothing
+abbrev pub fresh_seat : TableId → ℕ → SeatValue
+fresh_seat table cpu = record { table = table; known = fresh cpu }
+
+-- a seat at this table, whose CPU owns this record
+pub record OwnsRecord (table : TableId) (seat : SeatValue) (id : ℕ) : Type 0 where
+  pub table_is : seat.table ≡ table
+  pub sized : table.words ≡ cells
+  pub me_in_range : seat.known.number < cpus
+  pub owned : owner id ≡ seat.known.number
+  pub in_range : id < records
+
+-- the call that a post is queueing, not counted yet
+abbrev pub uncounted : Posting → Posting
+uncounted p = posting_of p.id p.class p.func p.info 0
+
+-- the same, once it is counted
+abbrev pub counted : Posting → Posting
+counted p = posting_of p.id p.class p.func p.info p.to
+
+-- the record of a call is its CPU's own, and its numbers fit
+pub record IsMine (table : TableId) (seat : SeatValue) (p : Posting) : Type 0 where
+  pub at : OwnsRecord table seat p.id
+  pub is_call : IsCall (posted p)
+  pub to_in_range : p.to < cpus
+
+-- a CPU that is about to count a call, and so many that it has queued for the same CPU
+pub record IsCounting (v : Known) (p : Posting) (number count : ℕ) : Type 0 where
+  pub stage : v.stage ≡ Some (Post (uncounted p) post.Count)
+  pub number_is : v.number ≡ number
+  pub count_is : count ≡ length (sent_to p.to v.part.sent) % 2 ^ 64
+
+-- so many calls that a CPU has queued for a call's destination
+pub record IsTallied (v : Known) (p : Posting) (number count : ℕ) : Type 0 where
+  pub number_is : v.number ≡ number
+  pub count_is : count ≡ length (sent_to p.to v.part.sent) % 2 ^ 64

@@ -1,0 +1,153 @@
+//! The steps that begin, count and end a call. Each is lent the handler, and one that counts or ends a call asks
+//! that the call has led the handler from what it was at its beginning to what it is: so no call is counted, and
+//! no SYNC record unlocked, before its function has run. No other page can make these steps.
+
+ghost use Rattle.std.specs.Prelude.{◌≡◌, ◌+◌, ◌%◌, ◌^◌, Some, None};
+ghost use Rattle.smp_words.specs.Size.{owner};
+ghost use Rattle.smp_call_steps.specs.Drains.{first_on, second_on};
+ghost use Rattle.smp_call_steps.specs.Known.{Lives, known_told, ran_tally};
+ghost use Rattle.smp_call_steps.specs.Handling.{begun_sync, counted_sync, begun_async, ended_call};
+ghost use Rattle.smp_words.specs.declared.seen.Act.TheVariants as act;
+ghost use Rattle.smp_call_steps.specs.declared.handle.HandleStage.TheVariants as handle;
+ghost use Rattle.smp_queue.specs.Seat.{InHandle, IsStepOfCall};
+ghost use Rattle.smp_queue.specs.Plays.{stored};
+ghost use Rattle.smp_queue.specs.Handling.{heard_of};
+
+use crate::cell::cell;
+use crate::seat::CpuSeat;
+use crate::handler::Handler;
+use crate::rule::Words;
+use crate::seat_view::SeatView;
+use atomic_table::Play;
+use smp_call_steps::handle::Walk;
+use smp_words::size::owner_of;
+use smp_words::{Call, Word};
+use std::snapshot::Snapshot;
+
+struct CallStored;
+
+impl Play<(), SeatView> for CallStored {
+    ghost then = { stored };
+}
+
+/// A call that has begun, and the handler as it was then.
+#[derive(Drop)]
+pub struct Begun<H> {
+    before: Snapshot<H>,
+}
+
+#[inline(always)]
+fn store_step(words: &Words, seat: &mut CpuSeat, word: Word, number: u64)
+    requires { IsStepOfCall words.now.table_id seat.old word number }
+    ensures table { seat.new.table ≡ words.now.table_id }
+    ensures lives { Lives seat.new.known }
+    ensures known { seat.new.known ≡ known_told seat.old.known act.Store word None (Some number) }
+{
+    words.store::<CallStored>(&mut seat.raw, cell(word), number);
+}
+
+/// A SYNC call begins: the handling word names its record, which stays locked.
+pub fn begin_sync<H: Handler>(
+    words: &Words,
+    seat: &mut CpuSeat,
+    number: u32,
+    walk: Walk,
+    call: Call,
+    next: Option<u32>,
+    handler: &H,
+) -> Begun<H>
+    requires me { seat.old.known.number ≡ number }
+    requires at { InHandle words.now.table_id seat.old (handle.BeginSync walk call next) }
+    ensures at { InHandle words.now.table_id seat.new (handle.CountSync walk call next) }
+    ensures known { seat.new.known ≡ begun_sync walk call next seat.old.known }
+    ensures before { result.before.value ≡ handler.now }
+{
+    store_step(words, seat, Word::Hand(number), call.id as u64 + 2);
+    Begun {
+        before: Snapshot::of(handler),
+    }
+}
+
+/// A SYNC call whose function has run is counted, as the call of this count from its source.
+pub fn count_sync<H: Handler>(
+    words: &Words,
+    seat: &mut CpuSeat,
+    number: u32,
+    walk: Walk,
+    call: Call,
+    next: Option<u32>,
+    count: u64,
+    handler: &H,
+    begun: &Begun<H>,
+)
+    requires me { seat.old.known.number ≡ number }
+    requires at { InHandle words.now.table_id seat.old (handle.CountSync walk call next) }
+    requires count { count ≡ (ran_tally seat.old.known.part (owner call.id) + 1) % 2 ^ 64 }
+    requires heard { H.leads begun.now.before.value (heard_of call) handler.now }
+    ensures at { InHandle words.now.table_id seat.new (handle.EndSync walk call next) }
+    ensures known { seat.new.known ≡ counted_sync walk call next seat.old.known }
+{
+    let _ = handler;
+    let _ = begun;
+    store_step(words, seat, Word::Ran(number, owner_of(call.id)), count);
+}
+
+/// A SYNC call whose function has run ends: its record is unlocked.
+pub fn end_sync<H: Handler>(
+    words: &Words,
+    seat: &mut CpuSeat,
+    walk: Walk,
+    call: Call,
+    next: Option<u32>,
+    handler: &H,
+    begun: Begun<H>,
+)
+    requires at { InHandle words.now.table_id seat.old (handle.EndSync walk call next) }
+    requires heard { H.leads begun.before.value (heard_of call) handler.now }
+    ensures at { InHandle words.now.table_id seat.new (first_on walk next) }
+    ensures known { seat.new.known ≡ ended_call (first_on walk next) call seat.old.known }
+{
+    let _ = handler;
+    store_step(words, seat, Word::Flags(call.id), 0);
+}
+
+/// An ASYNC call begins: its record is unlocked.
+pub fn begin_async<H: Handler>(
+    words: &Words,
+    seat: &mut CpuSeat,
+    call: Call,
+    next: Option<u32>,
+    handler: &H,
+) -> Begun<H>
+    requires at { InHandle words.now.table_id seat.old (handle.BeginAsync call next) }
+    ensures at { InHandle words.now.table_id seat.new (handle.CountAsync call next) }
+    ensures known { seat.new.known ≡ begun_async call next seat.old.known }
+    ensures before { result.before.value ≡ handler.now }
+{
+    store_step(words, seat, Word::Flags(call.id), 0);
+    Begun {
+        before: Snapshot::of(handler),
+    }
+}
+
+/// An ASYNC call whose function has run is counted, as the call of this count from its source, and ends.
+pub fn count_async<H: Handler>(
+    words: &Words,
+    seat: &mut CpuSeat,
+    number: u32,
+    call: Call,
+    next: Option<u32>,
+    count: u64,
+    handler: &H,
+    begun: Begun<H>,
+)
+    requires me { seat.old.known.number ≡ number }
+    requires at { InHandle words.now.table_id seat.old (handle.CountAsync call next) }
+    requires count { count ≡ (ran_tally seat.old.known.part (owner call.id) + 1) % 2 ^ 64 }
+    requires heard { H.leads begun.before.value (heard_of call) handler.now }
+    ensures at { InHandle words.now.table_id seat.new (second_on next) }
+    ensures known { seat.new.known ≡ ended_call (second_on next) call seat.old.known }
+{
+    let _ = handler;
+    store_step(words, seat, Word::Ran(number, owner_of(call.id)), count);
+}

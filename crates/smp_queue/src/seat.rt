@@ -1,0 +1,129 @@
+//! A CPU's seat, and the accesses that it makes. Nothing above this page names a seat or a cell.
+
+ghost use Rattle.std.specs.Prelude.{◌≡◌, ◌+◌, ◌<◌, ◌==◌, if◌then◌else◌, Some, None};
+ghost use Rattle.smp_call_steps.specs.Known.{known_told, known_taking, fresh, Moment, Lives};
+ghost use Rattle.smp_words.specs.declared.access.Access.TheVariants as access;
+ghost use Rattle.smp_words.specs.declared.seen.Act.TheVariants as act;
+ghost use Rattle.smp_queue.specs.declared.seat_view.SeatView.TheVariants.{Maker, Cpu};
+ghost use Rattle.smp_queue.specs.Cells.{cells};
+ghost use Rattle.smp_queue.specs.Seat.{SeatValue, Ready};
+ghost use Rattle.smp_queue.specs.Plays.{loaded, stored, exchanged, swapped};
+
+use crate::cell::cell;
+use crate::rule::{RawSeat, NextSeat, Words};
+use crate::seat_view::SeatView;
+use atomic_table::Play;
+use smp_words::Word;
+use std::marker::Model;
+
+/// The seat of one CPU, seen as its table and what the CPU knows.
+#[derive(Drop)]
+pub struct CpuSeat {
+    pub(crate) raw: RawSeat,
+}
+
+impl Model for CpuSeat {
+    ghost use Rattle.std.specs.Prelude.{◌≡◌};
+    ghost use Rattle.smp_queue.specs.Seat.{SeatValue, IsCpuSeat};
+    ghost use Rattle.smp_queue.specs.Rule.{known};
+
+    ghost Value = { SeatValue };
+
+    ghost view = { λ c. record { table = c.raw.table_id; known = known c.raw.me.0 } };
+
+    ghost invariant = { λ c. IsCpuSeat c.raw.me.0 };
+}
+
+// What each kind of access tells. Only this page plays them.
+
+struct Loaded;
+
+impl Play<(), SeatView> for Loaded {
+    ghost then = { loaded };
+}
+
+struct Stored;
+
+impl Play<(), SeatView> for Stored {
+    ghost then = { stored };
+}
+
+struct Exchanged;
+
+impl Play<(), SeatView> for Exchanged {
+    ghost then = { exchanged };
+}
+
+struct Swapped;
+
+impl Play<(), SeatView> for Swapped {
+    ghost then = { swapped };
+}
+
+/// A seat for the next CPU.
+pub(crate) fn next_seat(words: &Words, maker: &mut RawSeat, n: u32) -> CpuSeat
+    requires { (maker.old.table_id ≡ words.now.table_id) × (words.now.table_id.words ≡ cells) × (maker.old.me.0 ≡ Maker n) × (n < words.now.key) }
+    ensures maker { (maker.new.table_id ≡ words.now.table_id) × (maker.new.me.0 ≡ Maker (n + 1)) }
+    ensures seat { (result.table ≡ words.now.table_id) × (result.known ≡ fresh n) }
+{
+    let raw = words.split_seat::<NextSeat>(maker);
+    CpuSeat { raw }
+}
+
+/// The seat of a CPU that makes no more steps.
+pub(crate) fn leave(seat: CpuSeat) -> RawSeat
+    ensures { (result.table_id ≡ seat.table) × (result.me.0 ≡ Cpu seat.known) }
+{
+    seat.raw
+}
+
+/// Loads a word.
+#[inline(always)]
+pub(crate) fn load(words: &Words, seat: &mut CpuSeat, word: Word) -> u64
+    requires { Ready words.now.table_id seat.old (access.Load word) }
+    ensures table { seat.new.table ≡ words.now.table_id }
+    ensures lives { Lives seat.new.known }
+    ensures known { seat.new.known ≡ known_told seat.old.known act.Load word (Some result) None }
+    ensures then { Moment seat.old.known word result }
+{
+    words.load::<Loaded>(&mut seat.raw, cell(word))
+}
+
+/// Stores a number in a word.
+#[inline(always)]
+pub(crate) fn store(words: &Words, seat: &mut CpuSeat, word: Word, number: u64)
+    requires { Ready words.now.table_id seat.old (access.Store word number) }
+    ensures table { seat.new.table ≡ words.now.table_id }
+    ensures lives { Lives seat.new.known }
+    ensures known { seat.new.known ≡ known_told seat.old.known act.Store word None (Some number) }
+{
+    words.store::<Stored>(&mut seat.raw, cell(word), number);
+}
+
+/// Puts a number in a word where another is found, and answers what was found.
+#[inline(always)]
+pub(crate) fn exchange(
+    words: &Words,
+    seat: &mut CpuSeat,
+    word: Word,
+    expected: u64,
+    number: u64,
+) -> u64
+    requires { Ready words.now.table_id seat.old (access.Exchange word expected number) }
+    ensures table { seat.new.table ≡ words.now.table_id }
+    ensures lives { Lives seat.new.known }
+    ensures known { seat.new.known ≡ known_told seat.old.known act.Cas word (Some result) (if result == expected then Some number else None) }
+{
+    words.compare_exchange::<Exchanged>(&mut seat.raw, cell(word), expected, number)
+}
+
+/// Puts a number in a word, and answers what was found. A swap of the own head takes the queue of that moment.
+#[inline(always)]
+pub(crate) fn swap(words: &Words, seat: &mut CpuSeat, word: Word, number: u64) -> u64
+    requires { Ready words.now.table_id seat.old (access.Swap word number) }
+    ensures table { seat.new.table ≡ words.now.table_id }
+    ensures lives { Lives seat.new.known }
+    ensures known { (t : Moment seat.old.known word result) × (seat.new.known ≡ known_taking (t.lives.calls.queue seat.old.known.number) seat.old.known act.Swap word (Some result) (Some number)) }
+{
+    words.swap::<Swapped>(&mut seat.raw, cell(word), number)
+}
