@@ -12,6 +12,7 @@ use smp_words::call::Class;
 use smp_words::size::NR_CPUS;
 use std::alloc::Global;
 use std::marker::Model;
+use std::process::Abort;
 use std::sync::Wait;
 use std::sync::atomic::{AtomicU64, Ordering};
 use std::test::*;
@@ -127,24 +128,36 @@ fn each_growth_may_be_refused(rt: HostRuntime) -> Result<(), Fail> {
 #[test]
 fn each_online_cpu_is_given_out_once(rt: HostRuntime) -> Result<(), Fail> {
     let (_table, mut boot) = CallTable::new(rt.alloc(), 4, "0-1,3".parse()?)?;
-    for number in [0, 1, 3] {
-        assert_eq!(rt; boot.cpu(number)?.number(), number);
-        assert_eq!(rt; boot.cpu(number).err(), Some(SmpError::Busy), "{number}");
-    }
-    for number in [2, 4, 31, 32] {
-        assert_eq!(rt; boot.cpu(number).err(), Some(SmpError::NoCpu), "{number}");
-    }
+    give_out(&rt, &mut boot);
     Ok(())
+}
+
+fn give_out(rt: &impl Abort, boot: &mut Boot<Global>) {
+    for (number, once, again) in [
+        (0, Ok(0), SmpError::Busy),
+        (1, Ok(1), SmpError::Busy),
+        (3, Ok(3), SmpError::Busy),
+        (2, Err(SmpError::NoCpu), SmpError::NoCpu),
+        (4, Err(SmpError::NoCpu), SmpError::NoCpu),
+        (31, Err(SmpError::NoCpu), SmpError::NoCpu),
+        (32, Err(SmpError::NoCpu), SmpError::NoCpu),
+    ] {
+        assert_eq!(rt; boot.cpu(number).map(|cpu| cpu.number()), once, "{number}");
+        assert_eq!(rt; boot.cpu(number).err(), Some(again), "{number}");
+    }
 }
 
 #[test]
 fn misuse_is_refused(rt: HostRuntime) -> Result<(), Fail> {
     let (table, mut boot) = CallTable::new(rt.alloc(), 2, "0-1".parse()?)?;
     let mut zero = drive(&table, &mut boot, 0)?;
-    assert_eq!(rt;
-        (zero.is_done(0), zero.is_done(12)),
-        (Ok(true), Err(SmpError::BadArgument))
-    );
+    refuses_misuse(&rt, &mut zero);
+    Ok(())
+}
+
+fn refuses_misuse(rt: &impl Abort, zero: &mut Driver) {
+    let done = (zero.is_done(0), zero.is_done(12));
+    assert_eq!(rt; done, (Ok(true), Err(SmpError::BadArgument)));
     for (k, to, class, tries) in [
         (12, 1, Class::Async, 1),
         (10, 1, Class::Async, 0),
@@ -152,13 +165,8 @@ fn misuse_is_refused(rt: HostRuntime) -> Result<(), Fail> {
         (0, 1, Class::Async, 1),
     ] {
         let answer = zero.post_as(k, to, class, tries);
-        assert_eq!(rt;
-            answer,
-            Err(SmpError::BadArgument),
-            "{k} {to} {class:?} {tries}"
-        );
+        assert_eq!(rt; answer, Err(SmpError::BadArgument), "{k} {to} {tries}");
     }
-    Ok(())
 }
 
 #[test]
@@ -175,24 +183,22 @@ fn each_cpu_that_there_is_has_a_record_of_its_own(rt: HostRuntime) -> Result<(),
     ] {
         let (table, mut boot) = CallTable::new(rt.alloc(), nr, cpus.parse()?)?;
         let mut zero = drive(&table, &mut boot, 0)?;
-        let wanted = if is_there {
-            (Ok(true), Ok(true), Ok(false))
-        } else {
-            (
-                Err(SmpError::BadArgument),
-                Err(SmpError::BadArgument),
-                Err(SmpError::BadArgument),
-            )
-        };
-        assert_eq!(rt;
-            (zero.is_done(k), zero.post(k, to, 1), zero.is_done(k)),
-            wanted,
-            "{nr} {k}"
-        );
-        // It carries calls to no other CPU.
-        assert_eq!(rt; zero.post(k, 1, 1), Err(SmpError::BadArgument), "{nr} {k}");
+        calls_by_record(&rt, &mut zero, k, to, is_there);
     }
     Ok(())
+}
+
+fn calls_by_record(rt: &impl Abort, zero: &mut Driver, k: u32, to: u32, is_there: bool) {
+    let bad = SmpError::BadArgument;
+    let wanted = if is_there {
+        (Ok(true), Ok(true), Ok(false))
+    } else {
+        (Err(bad), Err(bad), Err(bad))
+    };
+    let answers = (zero.is_done(k), zero.post(k, to, 1), zero.is_done(k));
+    assert_eq!(rt; answers, wanted, "{k} {to}");
+    // It carries calls to no other CPU.
+    assert_eq!(rt; zero.post(k, 1, 1), Err(bad), "{k} {to}");
 }
 
 #[test]
@@ -200,43 +206,42 @@ fn a_post_appends_one_call(rt: HostRuntime) -> Result<(), Fail> {
     let (table, mut boot) = CallTable::new(rt.alloc(), 4, "0-2".parse()?)?;
     let mut zero = drive(&table, &mut boot, 0)?;
     let mut one = drive(&table, &mut boot, 1)?;
-    assert_eq!(rt;
-        (zero.post(10, 2, 1), one.post(10, 2, 1)),
-        (Ok(true), Ok(false))
-    );
+    two_post_to_a_third(&rt, &mut zero, &mut one);
+    Ok(())
+}
+
+fn two_post_to_a_third<R: Wait + Abort>(rt: &R, zero: &mut Driver, one: &mut Driver) {
+    let posted = (zero.post(10, 2, 1), one.post(10, 2, 1));
+    assert_eq!(rt; posted, (Ok(true), Ok(false)));
     assert_eq!(rt; (zero.is_done(10), zero.is_done(11)), (Ok(false), Ok(true)));
     // The record is locked while its call is queued, which comes before that CPU 3 is not online.
-    assert_eq!(rt;
-        (zero.post(10, 2, 1), zero.post(10, 3, 1)),
-        (Err(SmpError::Busy), Err(SmpError::Busy))
-    );
+    let again = (zero.post(10, 2, 1), zero.post(10, 3, 1));
+    assert_eq!(rt; again, (Err(SmpError::Busy), Err(SmpError::Busy)));
     let first = zero
         .table
-        .post(&rt, &mut zero.cpu, 11, 1, Class::Async, 1, 1);
+        .post(rt, &mut zero.cpu, 11, 1, Class::Async, 1, 1);
     assert_eq!(rt; first, Ok(true));
-    assert_eq!(rt;
-        (zero.tally(2), zero.tally(1), zero.tally(3)),
-        ((1, 0), (1, 0), (0, 0))
-    );
+    let tallies = (zero.tally(2), zero.tally(1), zero.tally(3));
+    assert_eq!(rt; tallies, ((1, 0), (1, 0), (0, 0)));
     assert_eq!(rt; (one.tally(2), one.tally(0)), ((1, 0), (0, 0)));
-    Ok(())
 }
 
 #[test]
 fn an_offline_cpu_gets_no_call(rt: HostRuntime) -> Result<(), Fail> {
     let (table, mut boot) = CallTable::new(rt.alloc(), 4, "0-1,3".parse()?)?;
     let mut zero = drive(&table, &mut boot, 0)?;
+    calls_cpus_that_are_offline(&rt, &mut zero);
+    Ok(())
+}
+
+fn calls_cpus_that_are_offline(rt: &impl Abort, zero: &mut Driver) {
     for to in [2, 7] {
         assert_eq!(rt; zero.send(to), Err(SmpError::NoCpu), "{to}");
         assert_eq!(rt; zero.post(10, to, 1), Err(SmpError::NoCpu), "{to}");
-        assert_eq!(rt;
-            (zero.is_done(10), zero.tally(to)),
-            (Ok(true), (0, 0)),
-            "{to}"
-        );
+        let after = (zero.is_done(10), zero.tally(to));
+        assert_eq!(rt; after, (Ok(true), (0, 0)), "{to}");
     }
     assert_eq!(rt; (zero.send(3), zero.send(0)), (Ok(()), Ok(())));
-    Ok(())
 }
 
 /// Waits until another thread is here too, so that both go on at once; or for many turns, on a busy machine.

@@ -59,20 +59,30 @@ fn calls_of_two_cpus_run_in_their_order(rt: HostRuntime) -> Result<(), Fail> {
     let mut one = drive(&table, &mut boot, 1)?;
     let mut two = drive(&table, &mut boot, 2)?;
     let mut heard = Recorder::new(rt.alloc());
+    two_call_a_third(&rt, &mut zero, &mut one, &mut two, &mut heard);
+    Ok(())
+}
+
+fn two_call_a_third(
+    rt: &impl Abort,
+    zero: &mut Driver,
+    one: &mut Driver,
+    two: &mut Driver,
+    heard: &mut Recorder,
+) {
     assert_eq!(rt; zero.call(1, 2, Class::Async, 1, 0), Ok(true));
     assert_eq!(rt; one.call(1, 2, Class::Async, 2, 0), Ok(false));
     // No interrupt is pending yet, so that nothing runs.
-    assert_eq!(rt; two.handle(&mut heard), IDLE);
+    assert_eq!(rt; two.handle(heard), IDLE);
     // CPU 0 owes the interrupt, and any CPU may send it.
     assert_eq!(rt; one.send(2), Ok(()));
-    assert_eq!(rt; two.handle(&mut heard), handled(2));
+    assert_eq!(rt; two.handle(heard), handled(2));
     assert!(rt; heard.has_heard(&[(0, 1, 0), (1, 2, 0)]));
     assert_eq!(rt; (two.tally(0), two.tally(1)), ((0, 1), (0, 1)));
     // Its own interrupt comes late, and finds nothing to run.
     assert_eq!(rt; zero.send(2), Ok(()));
-    assert_eq!(rt; two.handle(&mut heard), handled(0));
-    assert_eq!(rt; two.handle(&mut heard), IDLE);
-    Ok(())
+    assert_eq!(rt; two.handle(heard), handled(0));
+    assert_eq!(rt; two.handle(heard), IDLE);
 }
 
 #[test]
@@ -81,14 +91,23 @@ fn sync_calls_run_first(rt: HostRuntime) -> Result<(), Fail> {
     let mut zero = drive(&table, &mut boot, 0)?;
     let mut one = drive(&table, &mut boot, 1)?;
     let mut heard = Recorder::new(rt.alloc());
+    one_calls_in_two_classes(&rt, &mut zero, &mut one, &mut heard);
+    Ok(())
+}
+
+fn one_calls_in_two_classes(
+    rt: &impl Abort,
+    zero: &mut Driver,
+    one: &mut Driver,
+    heard: &mut Recorder,
+) {
     assert_eq!(rt; zero.call(1, 1, Class::Async, 1, 0), Ok(true));
     assert_eq!(rt; zero.call(0, 1, Class::Sync, 2, 0), Ok(false));
     assert_eq!(rt; zero.call(10, 1, Class::Async, 3, 0), Ok(false));
     assert_eq!(rt; zero.call(3, 1, Class::Sync, 4, 0), Ok(false));
     assert_eq!(rt; zero.send(1), Ok(()));
-    assert_eq!(rt; one.handle(&mut heard), handled(4));
+    assert_eq!(rt; one.handle(heard), handled(4));
     assert!(rt; heard.has_heard(&[(0, 2, 0), (0, 4, 0), (0, 1, 0), (0, 3, 0)]));
-    Ok(())
 }
 
 /// Posts a call by each of the records by which a CPU may call CPU 31; true where it queued all of them.
@@ -139,25 +158,21 @@ fn a_long_batch_runs_in_its_order(rt: HostRuntime) -> Result<(), Fail> {
     let mut zero = drive(&table, &mut boot, 0)?;
     let mut eight = drive(&table, &mut boot, 8)?;
     let mut last = drive(&table, &mut boot, 31)?;
-    let mut ran = run_ten(
-        rt.alloc(),
-        &mut zero,
-        &mut eight,
-        &mut last,
-        &in_order(0, 8),
-    );
-    assert!(rt; ran);
-    // The same records once more, in another order and of other classes.
-    ran = run_ten(
-        rt.alloc(),
-        &mut eight,
-        &mut zero,
-        &mut last,
-        &in_order(8, 0),
-    );
-    assert!(rt; ran);
-    assert_eq!(rt; (last.tally(0), last.tally(8)), ((0, 10), (0, 10)));
+    run_ten_twice(&rt, rt.alloc(), &mut zero, &mut eight, &mut last);
     Ok(())
+}
+
+fn run_ten_twice(
+    rt: &impl Abort,
+    alloc: Global,
+    zero: &mut Driver,
+    eight: &mut Driver,
+    last: &mut Driver,
+) {
+    assert!(rt; run_ten(alloc, zero, eight, last, &in_order(0, 8)));
+    // The same records once more, in another order and of other classes.
+    assert!(rt; run_ten(alloc, eight, zero, last, &in_order(8, 0)));
+    assert_eq!(rt; (last.tally(0), last.tally(8)), ((0, 10), (0, 10)));
 }
 
 #[test]
@@ -166,14 +181,18 @@ fn a_record_is_busy_until_its_call_has_run(rt: HostRuntime) -> Result<(), Fail> 
     let mut zero = drive(&table, &mut boot, 0)?;
     let mut one = drive(&table, &mut boot, 1)?;
     let mut heard = Recorder::new(rt.alloc());
+    posts_twice(&rt, &mut zero, &mut one, &mut heard);
+    Ok(())
+}
+
+fn posts_twice(rt: &impl Abort, zero: &mut Driver, one: &mut Driver, heard: &mut Recorder) {
     assert_eq!(rt; zero.post(10, 1, 1), Ok(true));
     assert_eq!(rt; zero.post(10, 1, 1), Err(SmpError::Busy));
     assert_eq!(rt; zero.send(1), Ok(()));
-    assert_eq!(rt; one.handle(&mut heard), handled(1));
+    assert_eq!(rt; one.handle(heard), handled(1));
     assert_eq!(rt; zero.is_done(10), Ok(true));
     assert_eq!(rt; zero.post(10, 1, 1), Ok(true));
     assert_eq!(rt; (zero.tally(1), one.tally(0)), ((2, 0), (0, 1)));
-    Ok(())
 }
 
 #[test]
@@ -187,14 +206,19 @@ fn a_table_is_drained_once_its_call_has_run(rt: HostRuntime) -> Result<(), Fail>
     assert_eq!(rt; table.handle(&mut one, &mut heard), handled(1));
     assert_eq!(rt; table.handle(&mut one, &mut heard), IDLE);
     assert!(rt; heard.has_heard(&[(0, 7, 9)]));
+    assert_eq!(rt; table.audit(one), Audit::Drained(one_call_tally()));
+    Ok(())
+}
+
+/// The tally where CPU 0 has queued one call for CPU 1, and it has run.
+fn one_call_tally() -> Tally {
     let mut tally = Tally {
         queued: [[0; NR_CPUS as usize]; NR_CPUS as usize],
         ran: [[0; NR_CPUS as usize]; NR_CPUS as usize],
     };
     tally.queued[0][1] = 1;
     tally.ran[1][0] = 1;
-    assert_eq!(rt; table.audit(one), Audit::Drained(tally));
-    Ok(())
+    tally
 }
 
 /// Asks, whenever it hears a call, whether the record of that call is done.
@@ -220,18 +244,23 @@ impl<'a> Handler for Asker<'a> {
 #[test]
 fn a_sync_record_stays_locked_while_its_function_runs(rt: HostRuntime) -> Result<(), Fail> {
     let (table, mut boot) = CallTable::new(rt.alloc(), 2, "0-1".parse()?)?;
-    let mut zero = drive(&table, &mut boot, 0)?;
+    let zero = drive(&table, &mut boot, 0)?;
     let mut one = drive(&table, &mut boot, 1)?;
-    assert_eq!(rt; zero.call(0, 1, Class::Sync, 0, 0), Ok(true));
-    assert_eq!(rt; zero.call(1, 1, Class::Async, 1, 0), Ok(false));
-    assert_eq!(rt; zero.send(1), Ok(()));
     let mut asker = Asker {
         source: zero,
         answers: [None, None],
     };
-    assert_eq!(rt; one.handle(&mut asker), handled(2));
-    assert_eq!(rt; asker.answers, [Some(false), Some(true)]);
+    asks_of_its_calls(&rt, &mut asker, &mut one);
     Ok(())
+}
+
+fn asks_of_its_calls(rt: &impl Abort, asker: &mut Asker, one: &mut Driver) {
+    let zero = &mut asker.source;
+    assert_eq!(rt; zero.call(0, 1, Class::Sync, 0, 0), Ok(true));
+    assert_eq!(rt; zero.call(1, 1, Class::Async, 1, 0), Ok(false));
+    assert_eq!(rt; zero.send(1), Ok(()));
+    assert_eq!(rt; one.handle(asker), handled(2));
+    assert_eq!(rt; asker.answers, [Some(false), Some(true)]);
 }
 
 /// Counts the calls that it hears.
