@@ -1,5 +1,6 @@
 -- Lemmas on the label law.
-use Rattle.std.proofs.Common.{◌≡◌, ℕ, zero, suc, ◌+◌, ◌-◌, ◌*◌, ◌/◌, ◌%◌, ◌==◌, ◌<◌, Bool, true, false, Option, None, Some, cond, IfSome, inl, inr, refl, sym, ap, ◌∙◌, ne_eqb, add-one, arith}
+use Rattle.std.proofs.Common.{◌≡◌, ℕ, zero, suc, ◌+◌, ◌-◌, ◌*◌, ◌/◌, ◌%◌, ◌==◌, ◌<◌, Bool, true, false, Option, None, Some, cond, IfSome, inl, inr, refl, sym}
+use Rattle.std.proofs.Common.{ap, ◌∙◌, ne_eqb, add-one, arith}
 use Rattle.std.proofs.lemmas.Bool.{cases_lt}
 use Rattle.smp_labels.specs.declared.entries.Entry.{Entry}
 use Rattle.smp_labels.specs.declared.words.TheConstants.{MOST_KEYS, MOST_SITES}
@@ -51,7 +52,9 @@ lawful_alike a b alike lawful = record {
   keys = λ k within. rw (alike.keys k within) (lawful.keys k within);
   entries = λ i within. rw (alike.entries i within) (lawful.entries i within);
   packed = λ i j before within ended. alike.entries j within ∙ lawful.packed i j before within (sym (alike.entries i (omega arith)) ∙ ended);
-  sites = λ i within. alike.sites i within ∙ (lawful.sites i within ∙ (same (entry_at (a.entry i)) (lawful.entries i within) ∙ ap (λ word. site_word b.key (entry_at word)) (sym (alike.entries i within))));
+  sites = λ i within. alike.sites i within
+      ∙ (lawful.sites i within ∙ (same (entry_at (a.entry i)) (lawful.entries i within)
+      ∙ ap (λ word. site_word b.key (entry_at word)) (sym (alike.entries i within))));
 }
   where
     same : (e : Option Entry) → IfSome e (λ e. e.key < MOST_KEYS) → site_word a.key e ≡ site_word b.key e

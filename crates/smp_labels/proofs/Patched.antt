@@ -1,5 +1,6 @@
 -- A plan leads from a lawful table to the lawful table with its key changed.
-use Rattle.std.proofs.Common.{◌≡◌, ◌≢◌, ℕ, zero, suc, ◌+◌, ◌-◌, ◌<◌, ◌==◌, nat_lt, eqb-true, ltb-true, Bool, true, false, not, cond, Option, None, Some, List, [], ◌∷◌, ◌++◌, get_or, inl, inr, refl, sym, ap, subst, ◌∙◌, ne_eqb, eq-eqb, arith}
+use Rattle.std.proofs.Common.{◌≡◌, ◌≢◌, ℕ, zero, suc, ◌+◌, ◌-◌, ◌<◌, ◌==◌, nat_lt, eqb-true, ltb-true, Bool, true, false, not, cond, Option, None, Some, List}
+use Rattle.std.proofs.Common.{[], ◌∷◌, ◌++◌, get_or, inl, inr, refl, sym, ap, subst, ◌∙◌, ne_eqb, eq-eqb, arith}
 use Rattle.std.proofs.lemmas.Bool.{cases_eq, cases_lt}
 use Rattle.std.proofs.lemmas.List.{get_or_past}
 use Rattle.std.proofs.Math.Bool.{beq}
@@ -14,12 +15,14 @@ use Rattle.smp_labels.specs.Kinds.{xor, kind_of, kind_word}
 use Rattle.smp_labels.specs.Entries.{entry_at}
 use Rattle.smp_labels.specs.Law.{Table, site_word, IsLawful}
 use Rattle.smp_labels.specs.Plans.{put, stored, applied, is_of, site_change, site_changes, patch_of, plan_of, AreEntriesOf, SetsKey, StandsPartWay}
-use Rattle.smp_labels.proofs.Stores.{applied-append, put_same, put_other, entries_kept, LeaveOut, leave_out_each, leave_out-append, place_kept, AreDistinct, distinct_front, all_made}
+use Rattle.smp_labels.proofs.Stores.{applied-append, put_same, put_other, entries_kept, LeaveOut, leave_out_each, leave_out-append, place_kept, AreDistinct}
+use Rattle.smp_labels.proofs.Stores.{distinct_front, all_made}
 
 -- the change of a site is of no other place
 change_elsewhere : (p : Place) (key : ℕ) (on : Bool) (i : ℕ) (e : Option Entry) → Site i ≢ p → LeaveOut p (site_change key on i e)
 change_elsewhere p key on i None other = tt
-change_elsewhere p key on i (Some e) other = elim (e.key == key) as (λ b. LeaveOut p (cond b ((Site i, kind_word (kind_of on e.branch)) ∷ []) [])) [ true ↦ (other, tt) | false ↦ tt ]
+change_elsewhere p key on i (Some e) other =
+    elim (e.key == key) as (λ b. LeaveOut p (cond b ((Site i, kind_word (kind_of on e.branch)) ∷ []) [])) [ true ↦ (other, tt) | false ↦ tt ]
 
 change_none : (key : ℕ) (on : Bool) (i : ℕ) (e : Option Entry) → is_of key e ≡ false → site_change key on i e ≡ []
 change_none key on i None other = refl
@@ -42,7 +45,8 @@ changes_leave_before key on i (word ∷ rest) j before =
     (change_elsewhere (Site j) key on i (entry_at word) (λ e. let same : i ≡ j = cc in omega arith)) (changes_leave_before key on (i + 1) rest j (omega arith))
 
 -- they leave out the sites of other keys
-changes_leave_other : (key : ℕ) (on : Bool) (i : ℕ) (entries : List ℕ) (j : ℕ) → is_of key (entry_at (get_or entries j 0)) ≡ false → LeaveOut (Site (i + j)) (site_changes key on i entries)
+changes_leave_other : (key : ℕ) (on : Bool) (i : ℕ) (entries : List ℕ) (j : ℕ) → is_of key (entry_at (get_or entries j 0)) ≡ false
+    → LeaveOut (Site (i + j)) (site_changes key on i entries)
 changes_leave_other key on i [] j other = tt
 changes_leave_other key on i (word ∷ rest) zero other =
     let here : i + 0 ≡ i = omega arith in
@@ -53,9 +57,11 @@ changes_leave_other key on i (word ∷ rest) (suc j) other =
     (change_elsewhere (Site (i + suc j)) key on i (entry_at word) (λ e. let same : i ≡ i + suc j = cc in omega arith))
     (subst (λ n. LeaveOut (Site n) (site_changes key on (i + 1) rest)) (sym place) (changes_leave_other key on (i + 1) rest j other))
 
-distinct_one_more : (key : ℕ) (on : Bool) (i : ℕ) (e : Option Entry) (rest : List (Place × ℕ)) → LeaveOut (Site i) rest → AreDistinct rest → AreDistinct (site_change key on i e ++ rest)
+distinct_one_more : (key : ℕ) (on : Bool) (i : ℕ) (e : Option Entry) (rest : List (Place × ℕ)) → LeaveOut (Site i) rest → AreDistinct rest
+    → AreDistinct (site_change key on i e ++ rest)
 distinct_one_more key on i None rest out distinct = distinct
-distinct_one_more key on i (Some e) rest out distinct = elim (e.key == key) as (λ b. AreDistinct (cond b ((Site i, kind_word (kind_of on e.branch)) ∷ []) [] ++ rest)) [
+distinct_one_more key on i (Some e) rest out distinct =
+    elim (e.key == key) as (λ b. AreDistinct (cond b ((Site i, kind_word (kind_of on e.branch)) ∷ []) [] ++ rest)) [
   | true ↦ (out, distinct)
   | false ↦ distinct
 ]
@@ -64,7 +70,8 @@ distinct_one_more key on i (Some e) rest out distinct = elim (e.key == key) as (
 changes_distinct : (key : ℕ) (on : Bool) (i : ℕ) (entries : List ℕ) → AreDistinct (site_changes key on i entries)
 changes_distinct key on i [] = tt
 changes_distinct key on i (word ∷ rest) =
-    distinct_one_more key on i (entry_at word) (site_changes key on (i + 1) rest) (changes_leave_before key on (i + 1) rest i (omega arith)) (changes_distinct key on (i + 1) rest)
+    distinct_one_more key on i (entry_at word) (site_changes key on (i + 1) rest) (changes_leave_before key on (i + 1) rest i (omega arith))
+        (changes_distinct key on (i + 1) rest)
 
 -- they give each site of the key its new word
 changes_make : (key : ℕ) (on : Bool) (i : ℕ) (entries : List ℕ) (t : Table) (j : ℕ) (e : Entry) → entry_at (get_or entries j 0) ≡ Some e → e.key ≡ key →
@@ -73,7 +80,8 @@ changes_make key on i [] t j e is of = cc
 changes_make key on i (word ∷ rest) t zero e is of =
     let here : i + 0 ≡ i = omega arith in
     rw (here, is, change_one key on i e of)
-    (place_kept (site_changes key on (i + 1) rest) (stored (Site i) (kind_word (kind_of on e.branch)) t) (Site i) (changes_leave_before key on (i + 1) rest i (omega arith)) ∙ put_same t.site i (kind_word (kind_of on e.branch)))
+    (place_kept (site_changes key on (i + 1) rest) (stored (Site i) (kind_word (kind_of on e.branch)) t) (Site i)
+        (changes_leave_before key on (i + 1) rest i (omega arith)) ∙ put_same t.site i (kind_word (kind_of on e.branch)))
 changes_make key on i (word ∷ rest) t (suc j) e is of =
     let place : i + suc j ≡ i + 1 + j = omega arith in
     rw (applied-append (site_change key on i (entry_at word)) (site_changes key on (i + 1) rest) t, place)
@@ -187,9 +195,11 @@ module _ (key new : ℕ) (entries : List ℕ) (t : Table) (in_form : IsKeyWord n
       }
 
   plan_distinct : AreDistinct (plan_of key (t.key key) new entries)
-  plan_distinct = elim (t.key key == new) as (λ a. AreDistinct (cond a [] (cond (xor (is_on (t.key key)) (is_on new)) (patch_of key new entries) ((Key key, new) ∷ [])))) [
+  plan_distinct =
+      elim (t.key key == new) as (λ a. AreDistinct (cond a [] (cond (xor (is_on (t.key key)) (is_on new)) (patch_of key new entries) ((Key key, new) ∷ [])))) [
     | true ↦ tt
-    | false ↦ elim (xor (is_on (t.key key)) (is_on new)) as (λ b. AreDistinct (cond b (patch_of key new entries) ((Key key, new) ∷ []))) [ true ↦ patch_distinct key new entries | false ↦ (tt, tt) ]
+    | false ↦ elim (xor (is_on (t.key key)) (is_on new)) as (λ b. AreDistinct (cond b (patch_of key new entries) ((Key key, new) ∷ [])))
+        [ true ↦ patch_distinct key new entries | false ↦ (tt, tt) ]
   ]
 
   -- and each part of it leaves the rest to do

@@ -1,5 +1,6 @@
 -- The reader accepts every CPU list, and has its set.
-use Rattle.std.proofs.Common.{◌≡◌, ℕ, ◌+◌, ◌-◌, ◌*◌, ◌/◌, ◌%◌, ◌^◌, ◌<◌, ◌≤◌, true, false, nat_lt, nat_le, ◌==◌, ◌&&◌, ◌||◌, List, [], ◌∷◌, ◌++◌, length, length-append, append_assoc, append-nil, refl, sym, ap, ◌∙◌, Some, Ok, arith}
+use Rattle.std.proofs.Common.{◌≡◌, ℕ, ◌+◌, ◌-◌, ◌*◌, ◌/◌, ◌%◌, ◌^◌, ◌<◌, ◌≤◌, true, false, nat_lt, nat_le, ◌==◌, ◌&&◌, ◌||◌, List, [], ◌∷◌, ◌++◌, length}
+use Rattle.std.proofs.Common.{length-append, append_assoc, append-nil, refl, sym, ap, ◌∙◌, Some, Ok, arith}
 use Rattle.std.proofs.lemmas.Bool.Decides.{nat_tests}
 use Rattle.std.proofs.lemmas.Fmt.{decimal_by_steps}
 use Rattle.std.specs.Fmt.{decimal}
@@ -15,7 +16,8 @@ use Rattle.smp_mask.specs.declared.parse.Reader.{Reader}
 use Rattle.smp_mask.proofs.Reach.{reach_whole, reach_shorter}
 use Rattle.smp_mask.proofs.Sets.{has_run}
 
-pub step_other : (w : ℕ) (p q : Place) (mask b : ℕ) → (b == 44) ≡ false → after p b ≡ Some q → is_live w q ≡ true → step w (record { place = p; mask = mask }) b ≡ Some (record { place = q; mask = mask })
+pub step_other : (w : ℕ) (p q : Place) (mask b : ℕ) → (b == 44) ≡ false → after p b ≡ Some q → is_live w q ≡ true
+    → step w (record { place = p; mask = mask }) b ≡ Some (record { place = q; mask = mask })
 step_other w p q mask b other goes live = rw (other, goes) (rw live refl)
 
 read_step : (w at : ℕ) (r q : Reader) (b : ℕ) (bs : List ℕ) → step w r b ≡ Some q → read_from w r at (b ∷ bs) ≡ read_from w q (at + 1) bs
@@ -53,13 +55,20 @@ opening_high : (w low : ℕ) → Digits w (Dash low) (High low)
 opening_high w low = record { starts = λ b. refl; goes = λ n b other. refl; shorter = high_shorter w low }
 
 -- a number's digits lead to the place where it is whole
-reads_number : (w : ℕ) (p : Place) (place : ℕ → Place) → Digits w p place → (n : ℕ) → n < 2 ^ 64 → is_live w (place n) ≡ true → (at mask : ℕ) (rest : List ℕ) → read_from w (record { place = p; mask = mask }) at (decimal n ++ rest) ≡ read_from w (record { place = place n; mask = mask }) (at + length (decimal n)) rest
-reads_number w p place d = decimal_by_steps (λ n ds. is_live w (place n) ≡ true → (at mask : ℕ) (rest : List ℕ) → read_from w (record { place = p; mask = mask }) at (ds ++ rest) ≡ read_from w (record { place = place n; mask = mask }) (at + length ds) rest)
-    (λ n small live at mask rest. read_step w at _ _ (48 + n) rest (step_other w p (place n) mask (48 + n) (grind (arith, nat_tests)) (d.starts (48 + n) ∙ ap (option_map place) (digit_of n small)) live))
+reads_number : (w : ℕ) (p : Place) (place : ℕ → Place) → Digits w p place → (n : ℕ) → n < 2 ^ 64 → is_live w (place n) ≡ true → (at mask : ℕ) (rest : List ℕ)
+    → read_from w (record { place = p; mask = mask }) at (decimal n ++ rest) ≡ read_from w (record { place = place n; mask = mask })
+    (at + length (decimal n)) rest
+reads_number w p place d =
+    decimal_by_steps (λ n ds. is_live w (place n) ≡ true → (at mask : ℕ) (rest : List ℕ)
+    → read_from w (record { place = p; mask = mask }) at (ds ++ rest) ≡ read_from w (record { place = place n; mask = mask }) (at + length ds) rest)
+    (λ n small live at mask rest. read_step w at _ _ (48 + n) rest
+        (step_other w p (place n) mask (48 + n) (grind (arith, nat_tests)) (d.starts (48 + n) ∙ ap (option_map place) (digit_of n small)) live))
     (λ n ds long before live at mask rest.
     let last = 48 + n % 10 in
     let front = before (d.shorter n long live) at mask (last ∷ rest) in
-    let on : step w (record { place = place (n / 10); mask = mask }) last ≡ Some (record { place = place n; mask = mask }) = step_other w (place (n / 10)) (place n) mask last (grind (arith, nat_tests)) (d.goes (n / 10) last (grind (arith, nat_tests)) ∙ ap (option_map place) (longer_of n long)) live in
+    let on : step w (record { place = place (n / 10); mask = mask }) last ≡ Some (record { place = place n; mask = mask }) =
+        step_other w (place (n / 10)) (place n) mask last (grind (arith, nat_tests))
+        (d.goes (n / 10) last (grind (arith, nat_tests)) ∙ ap (option_map place) (longer_of n long)) live in
     let count : at + length (ds ++ last ∷ []) ≡ at + length ds + 1 = omega (arith, length-append ds (last ∷ [])) in
     rw (append_assoc ds (last ∷ []) rest, count) (front ∙ read_step w (at + length ds) _ _ last rest on))
 
@@ -76,15 +85,21 @@ whole_of w (Run low high) h = let up : nat_le low high ≡ true = grind (arith, 
 abbrev pub IsOpening : Place → Type 0
 IsOpening p = (b : ℕ) → after p b ≡ option_map Low (digit b)
 
-reads_item : (w : ℕ) (p : Place) → w < 2 ^ 64 → IsOpening p → (i : Item) → IsItem w i → (at mask : ℕ) (rest : List ℕ) → read_from w (record { place = p; mask = mask }) at (item_text i ++ rest) ≡ read_from w (record { place = place_of i; mask = mask }) (at + length (item_text i)) rest
-reads_item w p wide opens (One cpu) h at mask rest = reads_number w p Low (opening_low w p opens) cpu (omega (arith, h.1)) (grind (arith, nat_tests, h.1)) at mask rest
+reads_item : (w : ℕ) (p : Place) → w < 2 ^ 64 → IsOpening p → (i : Item) → IsItem w i → (at mask : ℕ) (rest : List ℕ)
+    → read_from w (record { place = p; mask = mask }) at (item_text i ++ rest) ≡ read_from w (record { place = place_of i; mask = mask })
+    (at + length (item_text i)) rest
+reads_item w p wide opens (One cpu) h at mask rest =
+    reads_number w p Low (opening_low w p opens) cpu (omega (arith, h.1)) (grind (arith, nat_tests, h.1)) at mask rest
 reads_item w p wide opens (Run low high) h at mask rest =
     let below : nat_lt low w ≡ true = grind (arith, nat_tests, h.0, h.1) in
     let first = reads_number w p Low (opening_low w p opens) low (omega (arith, h.0, h.1)) below at mask (45 ∷ (decimal high ++ rest)) in
-    let hyphen : read_from w (record { place = Low low; mask = mask }) (at + length (decimal low)) (45 ∷ (decimal high ++ rest)) ≡ read_from w (record { place = Dash low; mask = mask }) (at + length (decimal low) + 1) (decimal high ++ rest) = read_step w (at + length (decimal low)) _ _ 45 (decimal high ++ rest) (step_other w (Low low) (Dash low) mask 45 refl refl below) in
+    let hyphen : read_from w (record { place = Low low; mask = mask }) (at + length (decimal low)) (45 ∷ (decimal high ++ rest))
+        ≡ read_from w (record { place = Dash low; mask = mask }) (at + length (decimal low) + 1) (decimal high ++ rest) =
+        read_step w (at + length (decimal low)) _ _ 45 (decimal high ++ rest) (step_other w (Low low) (Dash low) mask 45 refl refl below) in
     let live : is_live w (High low high) ≡ true = grind (arith, below, reach_whole w low high h.0 h.1) in
     let second = reads_number w (Dash low) (High low) (opening_high w low) high (omega (arith, h.1)) live (at + length (decimal low) + 1) mask rest in
-    let count : at + length (decimal low ++ (45 ∷ decimal high)) ≡ at + length (decimal low) + 1 + length (decimal high) = omega (arith, length-append (decimal low) (45 ∷ decimal high)) in
+    let count : at + length (decimal low ++ (45 ∷ decimal high)) ≡ at + length (decimal low) + 1 + length (decimal high) =
+        omega (arith, length-append (decimal low) (45 ∷ decimal high)) in
     rw (append_assoc (decimal low) (45 ∷ decimal high) rest, count) (first ∙ (hyphen ∙ second))
 
 -- the mask with the CPUs of all items too
@@ -101,16 +116,19 @@ unfolding read_from
 item_ends w at mask (One cpu) h = refl
 item_ends w at mask (Run low high) h = rw (whole_of w (Run low high) h) refl
 
-comma_on : (w at mask : ℕ) (i : Item) (rest : List ℕ) → IsItem w i → read_from w (record { place = place_of i; mask = mask }) at (44 ∷ rest) ≡ read_from w (record { place = AtItem; mask = with_item mask i }) (at + 1) rest
+comma_on : (w at mask : ℕ) (i : Item) (rest : List ℕ) → IsItem w i
+    → read_from w (record { place = place_of i; mask = mask }) at (44 ∷ rest) ≡ read_from w (record { place = AtItem; mask = with_item mask i }) (at + 1) rest
 unfolding read_from
 comma_on w at mask i rest h = rw (whole_of w i h) refl
 
-reads_items : (w : ℕ) → w < 2 ^ 64 → (is : List Item) (i : Item) (p : Place) → IsOpening p → AreItems w (i ∷ is) → (at mask : ℕ) → read_from w (record { place = p; mask = mask }) at (joined (i ∷ is)) ≡ Ok (with_items mask (i ∷ is))
+reads_items : (w : ℕ) → w < 2 ^ 64 → (is : List Item) (i : Item) (p : Place) → IsOpening p → AreItems w (i ∷ is) → (at mask : ℕ)
+    → read_from w (record { place = p; mask = mask }) at (joined (i ∷ is)) ≡ Ok (with_items mask (i ∷ is))
 reads_items w wide [] i p opens h at mask =
     let all = reads_item w p wide opens i h.0 at mask [] in
     rw (sym (append-nil (item_text i))) (all ∙ item_ends w _ mask i h.0)
 reads_items w wide (j ∷ is) i p opens h at mask =
-    reads_item w p wide opens i h.0 at mask (44 ∷ joined (j ∷ is)) ∙ (comma_on w _ mask i (joined (j ∷ is)) h.0 ∙ reads_items w wide is j AtItem (λ b. refl) h.1 _ (with_item mask i))
+    reads_item w p wide opens i h.0 at mask (44 ∷ joined (j ∷ is))
+        ∙ (comma_on w _ mask i (joined (j ∷ is)) h.0 ∙ reads_items w wide is j AtItem (λ b. refl) h.1 _ (with_item mask i))
 
 -- what a CPU list reads as
 pub reads_list : (w : ℕ) → w < 2 ^ 64 → (items : List Item) → AreItems w items → mask_of_text w (joined items) ≡ Ok (with_items 0 items)

@@ -1,5 +1,6 @@
 -- The canonical CPU list of a mask, and that it reads back.
-use Rattle.std.proofs.Common.{◌≡◌, ℕ, zero, suc, ◌+◌, ◌^◌, ◌<◌, ◌≤◌, true, false, ◌&&◌, ◌||◌, ◌==◌, nat_lt, List, [], ◌∷◌, append-nil, refl, subst, sym, ap, ◌∙◌, Ok, inl, inr, arith}
+use Rattle.std.proofs.Common.{◌≡◌, ℕ, zero, suc, ◌+◌, ◌^◌, ◌<◌, ◌≤◌, true, false, ◌&&◌, ◌||◌, ◌==◌, nat_lt, List, [], ◌∷◌, append-nil, refl, subst, sym, ap}
+use Rattle.std.proofs.Common.{◌∙◌, Ok, inl, inr, arith}
 use Rattle.std.proofs.lemmas.Bool.{cases_Bool, cases_eq, cases_lt, or_cases, both_ways}
 use Rattle.std.proofs.lemmas.Bool.Decides.{nat_tests}
 use Rattle.std.proofs.lemmas.List.Folds.{list_any-append}
@@ -60,7 +61,8 @@ any_members : (m w c : ℕ) → list_any (λ x. c == x) (members_below m w) ≡ 
 unfolding members_below
 any_members m zero c = grind (arith, nat_tests)
 any_members m (suc w) c = elim (cases_Bool (has m w)) [
-  | inl member ↦ rw member (list_any-append (λ x. c == x) (members_below m w) (w ∷ []) ∙ (ap (λ z. z || (c == w || false)) (any_members m w c) ∙ member_too m w c member))
+  | inl member ↦
+      rw member (list_any-append (λ x. c == x) (members_below m w) (w ∷ []) ∙ (ap (λ z. z || (c == w || false)) (any_members m w c) ∙ member_too m w c member))
   | inr other ↦ rw (other, append-nil (members_below m w)) (any_members m w c ∙ other_too m w c other)
 ]
 
@@ -78,7 +80,8 @@ pub reads_back : (w : ℕ) → w < 2 ^ 64 → (m : ℕ) → m < 2 ^ w → mask_o
 reads_back w wide m fits =
     let list = canonical w m fits in
     let items = items_of (members_below m w) in
-    let same : with_items 0 items ≡ m = same_members (with_items 0 items) m (λ c. has_items w items list.items_are 0 c ∙ (ap (λ z. z || names items c) (has_none c) ∙ sym (list.members c))) in
+    let same : with_items 0 items ≡ m =
+        same_members (with_items 0 items) m (λ c. has_items w items list.items_are 0 c ∙ (ap (λ z. z || names items c) (has_none c) ∙ sym (list.members c))) in
     reads_list w wide items list.items_are ∙ ap (λ z. Ok z) same
 
 -- ---- no other list of a mask is canonical
@@ -109,10 +112,13 @@ same_item (Run l h) (One c) low high p q = absurd (omega (arith, low, high, p))
 same_item (Run l h) (Run k g) low high p q = ap (λ z. Run z h) low ∙ ap (λ z. Run k z) high
 
 -- the first CPU of one list is not before the other's, and its first item does not end before the other's
-not_before : (w b : ℕ) (i j : Item) (is js : List Item) → AreFrom w b (i ∷ is) → AreFrom w b (j ∷ js) → ((c : ℕ) → names (i ∷ is) c ≡ names (j ∷ js) c) → lowest j ≤ lowest i
-not_before w b i j is js g h same = names_from w (lowest j) (j ∷ js) (lowest i) (omega arith, h.1, h.2, h.3) (sym (same (lowest i)) ∙ names_first i is (lowest i) (omega arith) (g.2.0))
+not_before : (w b : ℕ) (i j : Item) (is js : List Item) → AreFrom w b (i ∷ is) → AreFrom w b (j ∷ js) → ((c : ℕ) → names (i ∷ is) c ≡ names (j ∷ js) c)
+    → lowest j ≤ lowest i
+not_before w b i j is js g h same = names_from w (lowest j) (j ∷ js) (lowest i) (omega arith, h.1, h.2, h.3)
+    (sym (same (lowest i)) ∙ names_first i is (lowest i) (omega arith) (g.2.0))
 
-not_shorter : (w b : ℕ) (i j : Item) (is js : List Item) → AreFrom w b (i ∷ is) → AreFrom w b (j ∷ js) → ((c : ℕ) → names (i ∷ is) c ≡ names (j ∷ js) c) → lowest i ≡ lowest j → highest j ≤ highest i
+not_shorter : (w b : ℕ) (i j : Item) (is js : List Item) → AreFrom w b (i ∷ is) → AreFrom w b (j ∷ js) → ((c : ℕ) → names (i ∷ is) c ≡ names (j ∷ js) c)
+    → lowest i ≡ lowest j → highest j ≤ highest i
 not_shorter w b i j is js g h same low = elim (cases_lt (highest i) (highest j)) [
   | inl shorter ↦
       let in_j : names (j ∷ js) (highest i + 1) ≡ true = names_first j js (highest i + 1) (omega (arith, low, g.2.0)) (omega arith) in
@@ -121,7 +127,8 @@ not_shorter w b i j is js g h same low = elim (cases_lt (highest i) (highest j))
   | inr longer ↦ longer
 ]
 
-same_rest : (w : ℕ) (i j : Item) (is js : List Item) → AreFrom w (highest i + 2) is → AreFrom w (highest i + 2) js → highest i ≡ highest j → ((c : ℕ) → names (i ∷ is) c ≡ names (j ∷ js) c) → (c : ℕ) → names is c ≡ names js c
+same_rest : (w : ℕ) (i j : Item) (is js : List Item) → AreFrom w (highest i + 2) is → AreFrom w (highest i + 2) js → highest i ≡ highest j
+    → ((c : ℕ) → names (i ∷ is) c ≡ names (j ∷ js) c) → (c : ℕ) → names is c ≡ names js c
 same_rest w i j is js g h high same c = elim (cases_lt (highest i) c) [
   | inl past ↦ sym (names_rest i is c past) ∙ (same c ∙ names_rest j js c (omega (arith, high)))
   | inr early ↦ unnamed w (highest i + 2) is c g (omega arith) ∙ sym (unnamed w (highest i + 2) js c h (omega arith))
@@ -150,4 +157,5 @@ canonical_from w (i ∷ is) items apart = starts_from w 0 i is items apart (omeg
 pub only_canonical : (w m : ℕ) → m < 2 ^ w → (others : List Item) → AreCanonical w m others → others ≡ items_of (members_below m w)
 only_canonical w m fits others h =
     let ours = canonical w m fits in
-    same_lists w 0 others (items_of (members_below m w)) (canonical_from w others h.items_are h.apart) (canonical_from w (items_of (members_below m w)) ours.items_are ours.apart) (λ c. sym (h.members c) ∙ ours.members c)
+    same_lists w 0 others (items_of (members_below m w)) (canonical_from w others h.items_are h.apart)
+        (canonical_from w (items_of (members_below m w)) ours.items_are ours.apart) (λ c. sym (h.members c) ∙ ours.members c)

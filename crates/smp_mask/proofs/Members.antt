@@ -1,5 +1,6 @@
 -- The list of a set's members, over the width k.
-use Rattle.std.proofs.Common.{◌≡◌, ℕ, length-append, get_or, subst, ◌<◌, ◌≤◌, true, false, not, ◌&&◌, ◌==◌, List, [], ◌∷◌, ◌++◌, length, zero, suc, refl, sym, ap, inl, inr, Option, Some, arith}
+use Rattle.std.proofs.Common.{◌≡◌, ℕ, length-append, get_or, subst, ◌<◌, ◌≤◌, true, false, not, ◌&&◌, ◌==◌, List, [], ◌∷◌, ◌++◌, length, zero, suc, refl, sym}
+use Rattle.std.proofs.Common.{ap, inl, inr, Option, Some, arith}
 use Rattle.std.proofs.lemmas.Bool.{cases_lt, cases_Bool}
 use Rattle.std.proofs.lemmas.Bool.Decides.{nat_tests}
 use Rattle.std.proofs.lemmas.List.{get_or_append_left, get_or_at}
@@ -15,7 +16,8 @@ none_below n zero h = refl
 none_below n (suc k) h = rw (none_below n k (λ c l. h c (omega arith)), h k (omega arith)) refl
 
 -- a set without its least member has the others
-pub least_off : (m n cpu k : ℕ) → IsLeast (λ c. has m c) cpu → ((c : ℕ) → has n c ≡ (has m c && not (c == cpu))) → cpu < k → members_below m k ≡ cpu ∷ members_below n k
+pub least_off : (m n cpu k : ℕ) → IsLeast (λ c. has m c) cpu → ((c : ℕ) → has n c ≡ (has m c && not (c == cpu))) → cpu < k
+    → members_below m k ≡ cpu ∷ members_below n k
 unfolding members_below
 least_off m n cpu zero least off h = absurd (omega arith)
 least_off m n cpu (suc k) least off h = elim (cases_lt cpu k) [
@@ -32,7 +34,8 @@ least_off m n cpu (suc k) least off h = elim (cases_lt cpu k) [
 ]
 
 -- an item off the front of a list brings the end nearer
-pub item_goes : {S A : Type 0} (rest : S → List A) (can : S → Type 0) (s t : S) (x : A) → can t → rest s ≡ x ∷ rest t → MakesProgress can (item_count rest) s (Some x) t
+pub item_goes : {S A : Type 0} (rest : S → List A) (can : S → Type 0) (s t : S) (x : A) → can t → rest s ≡ x ∷ rest t
+    → MakesProgress can (item_count rest) s (Some x) t
 item_goes rest can s t x c e = let shorter = ap length e in record { on = λ f. (c, tt, omega arith); keeps = c; rests = λ f. tt }
 
 pub members_fit : (n k : ℕ) → length (members_below n k) ≤ k
@@ -70,7 +73,8 @@ pub road : (m : ℕ) → YieldsList TakesLeast (λ cpu. cpu) m (members m)
 road m = YieldsList-from_shown TakesLeast (λ cpu. cpu) members (λ s t h. ap length h.0.0) (λ s x t h. h.0) m
 
 -- at one of its turns it has a member
-pub turn_member : (m : ℕ) (xs : List ℕ) (t : ℕ) → Yields TakesLeast m xs t → (r : Option ℕ) (u x : ℕ) → r ≡ Some x → TakesLeast t r u → (x < NR_CPUS) × (has m x ≡ true)
+pub turn_member : (m : ℕ) (xs : List ℕ) (t : ℕ) → Yields TakesLeast m xs t → (r : Option ℕ) (u x : ℕ) → r ≡ Some x → TakesLeast t r u
+    → (x < NR_CPUS) × (has m x ≡ true)
 turn_member m xs t y r u x is step =
     let at = YieldsList-turn (road m) xs t y r u x is step in
     let item = item_member m NR_CPUS (length xs) x at.0 in

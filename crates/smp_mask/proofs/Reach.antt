@@ -14,14 +14,16 @@ pub record Reaches (width low least past : ℕ) : Type 0 where
   pub above : low < past * 10 ^ j
 
 -- one round of the search
-pub reach_on : (k width low least past : ℕ) → past ≤ low → 0 < least → low < k + past → least < past → (n : ℕ) × (low < n + past * 10) × (reaches_within k width low least past ≡ reaches_within n width low (least * 10) (past * 10))
+pub reach_on : (k width low least past : ℕ) → past ≤ low → 0 < least → low < k + past → least < past
+    → (n : ℕ) × (low < n + past * 10) × (reaches_within k width low least past ≡ reaches_within n width low (least * 10) (past * 10))
 unfolding reaches_within
 reach_on zero width low least past on some fuel up = absurd (omega arith)
 reach_on (suc k) width low least past on some fuel up =
     let go : (nat_lt low past || least == 0) ≡ false = grind (arith, nat_tests) in
     (k, omega arith, rw go refl)
 
-pub reach_end : (k width low least past : ℕ) → (nat_lt low past || least == 0) ≡ true → reaches_within k width low least past ≡ (nat_lt low past && nat_lt least width)
+pub reach_end : (k width low least past : ℕ) → (nat_lt low past || least == 0) ≡ true
+    → reaches_within k width low least past ≡ (nat_lt low past && nat_lt least width)
 unfolding reaches_within
 reach_end zero width low least past h = refl
 reach_end (suc k) width low least past h = rw h refl
@@ -45,7 +47,8 @@ reach_sound (suc k) width low least past h = elim (cases_Bool (nat_lt low past |
       record { j = suc s.j; digits = inr (grind (arith, nat_tests, goes)); below = rw p (grind (arith, s.below)); above = rw p (grind (arith, s.above)) }
 ]
 
-pub reach_complete : (k width low least past j : ℕ) → ((j ≡ 0) ⊎ (0 < least)) → least * 10 ^ j < width → low < past * 10 ^ j → low < k + past → least < past → reaches_within k width low least past ≡ true
+pub reach_complete : (k width low least past j : ℕ) → ((j ≡ 0) ⊎ (0 < least)) → least * 10 ^ j < width → low < past * 10 ^ j → low < k + past → least < past
+    → reaches_within k width low least past ≡ true
 unfolding reaches_within
 reach_complete zero width low least past j digits below above fuel up =
     let p : 1 ≤ 10 ^ j = one-le-pow j 10 (omega arith) in
@@ -67,7 +70,8 @@ reach_complete (suc k) width low least past (suc j) digits below above fuel up =
           let go : (nat_lt low past || least == 0) ≡ false = grind (arith, nat_tests) in
           let wide : least * 10 * 10 ^ j ≡ least * 10 ^ suc j = rw p (omega arith) in
           let high : past * 10 * 10 ^ j ≡ past * 10 ^ suc j = rw p (omega arith) in
-          rw go (reach_complete k width low (least * 10) (past * 10) j (inr (omega arith)) (omega (arith, wide, below)) (omega (arith, high, above)) (omega arith) (omega arith))
+          rw go (reach_complete k width low (least * 10) (past * 10) j (inr (omega arith)) (omega (arith, wide, below)) (omega (arith, high, above))
+              (omega arith) (omega arith))
     ]
 
 -- what is reached is below the width already

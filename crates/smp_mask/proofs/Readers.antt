@@ -7,11 +7,13 @@ use Rattle.smp_mask.specs.declared.error.SmpError.TheVariants.{BadMask}
 use Rattle.smp_mask.specs.declared.parse.Reader.{Reader}
 
 -- one byte on
-pub read_on : (w : ℕ) (r q : Reader) (at : ℕ) (text : List ℕ) (d : ℕ) → at < length text → step w r (get_or text at d) ≡ Some q → read_from w r at (drop at text) ≡ read_from w q (at + 1) (drop (at + 1) text)
+pub read_on : (w : ℕ) (r q : Reader) (at : ℕ) (text : List ℕ) (d : ℕ) → at < length text → step w r (get_or text at d) ≡ Some q
+    → read_from w r at (drop at text) ≡ read_from w q (at + 1) (drop (at + 1) text)
 unfolding read_from
 read_on w r q at text d h e = rw (drop_more text at d h, e) refl
 
-pub read_stops : (w : ℕ) (r : Reader) (at : ℕ) (text : List ℕ) (d : ℕ) → at < length text → step w r (get_or text at d) ≡ None → read_from w r at (drop at text) ≡ Err (BadMask at)
+pub read_stops : (w : ℕ) (r : Reader) (at : ℕ) (text : List ℕ) (d : ℕ) → at < length text → step w r (get_or text at d) ≡ None
+    → read_from w r at (drop at text) ≡ Err (BadMask at)
 unfolding read_from
 read_stops w r at text d h e = rw (drop_more text at d h, e) refl
 
@@ -19,6 +21,7 @@ answered_or : (at : ℕ) (o : Option ℕ) → or_refused at (λ m. Ok m) o ≡ a
 answered_or at None = refl
 answered_or at (Some m) = refl
 
-pub read_ends : (w : ℕ) (r : Reader) (at : ℕ) (text : List ℕ) → length text ≡ at → read_from w r at (drop at text) ≡ answered (ok_or (finished r.place r.mask) at)
+pub read_ends : (w : ℕ) (r : Reader) (at : ℕ) (text : List ℕ) → length text ≡ at
+    → read_from w r at (drop at text) ≡ answered (ok_or (finished r.place r.mask) at)
 unfolding read_from
 read_ends w r at text h = rw (drop_all at text (omega arith)) (answered_or at (finished r.place r.mask))

@@ -1,5 +1,6 @@
 -- The items of a mask: one run of members after another.
-use Rattle.std.proofs.Common.{◌≡◌, ℕ, zero, suc, ◌+◌, ◌-◌, ◌<◌, ◌≤◌, true, false, ◌&&◌, ◌==◌, nat_lt, List, [], ◌∷◌, ◌++◌, append-nil, subst, refl, sym, ap, ◌∙◌, inl, inr, arith}
+use Rattle.std.proofs.Common.{◌≡◌, ℕ, zero, suc, ◌+◌, ◌-◌, ◌<◌, ◌≤◌, true, false, ◌&&◌, ◌==◌, nat_lt, List, [], ◌∷◌, ◌++◌, append-nil, subst, refl, sym, ap}
+use Rattle.std.proofs.Common.{◌∙◌, inl, inr, arith}
 use Rattle.std.proofs.lemmas.Bool.{cases_Bool, cases_eq, both_ways}
 use Rattle.std.proofs.lemmas.Bool.Decides.{nat_tests}
 use Rattle.std.specs.List.{flat_map}
@@ -92,7 +93,9 @@ after_gap low m n c gap above member =
     ]
 
 -- a run off the front: the members from the least one on, as far as they go, are the first item
-pub run_off : (w d low m n : ℕ) → IsLeast (λ c. has m c) low → ((c : ℕ) → low ≤ c → c ≤ low + d → has m c ≡ true) → has m (low + d + 1) ≡ false → ((c : ℕ) → has n c ≡ (nat_lt (low + d) c && has m c)) → low + d < w → items_of (members_below m w) ≡ item_between low (low + d) ∷ items_of (members_below n w)
+pub run_off : (w d low m n : ℕ) → IsLeast (λ c. has m c) low → ((c : ℕ) → low ≤ c → c ≤ low + d → has m c ≡ true) → has m (low + d + 1) ≡ false
+    → ((c : ℕ) → has n c ≡ (nat_lt (low + d) c && has m c)) → low + d < w
+    → items_of (members_below m w) ≡ item_between low (low + d) ∷ items_of (members_below n w)
 run_off w zero low m n least all last above within =
     let off : members_below m w ≡ low ∷ members_below n w = least_off m n low w least (λ c. grind (arith, nat_tests, above c, least.least c)) (omega arith) in
     let apart : (c : ℕ) → has n c ≡ true → low + 2 ≤ c = λ c member. after_gap low m n c last (above c) member in
@@ -100,17 +103,20 @@ run_off w zero low m n least all last above within =
     rw (off, same) (put_apart w low (items_of (members_below n w)) (items_from w (low + 2) (members_below n w) (members_ascend n w (low + 2) apart)))
 run_off w (suc d) low m n least all last above within =
     let m' = above_of m low in
-    let off : members_below m w ≡ low ∷ members_below m' w = least_off m m' low w least (λ c. grind (arith, nat_tests, has_above_of m low c, least.least c)) (omega arith) in
+    let off : members_below m w ≡ low ∷ members_below m' w =
+        least_off m m' low w least (λ c. grind (arith, nat_tests, has_above_of m low c, least.least c)) (omega arith) in
     let from : suc low + d ≡ low + suc d = omega arith in
     let rest = run_off w d (suc low) m' n
-    (record { passing = grind (arith, nat_tests, has_above_of m low (suc low), all (suc low) (omega arith) (omega arith)); least = λ c h. grind (arith, nat_tests, has_above_of m low c, h) })
+    (record { passing = grind (arith, nat_tests, has_above_of m low (suc low), all (suc low) (omega arith) (omega arith));
+        least = λ c h. grind (arith, nat_tests, has_above_of m low c, h) })
     (λ c low' high'. grind (arith, nat_tests, has_above_of m low c, all c (omega arith) (omega arith)))
     (grind (arith, nat_tests, has_above_of m low (suc low + d + 1), ap (λ z. has m (z + 1)) from, last))
     (λ c. grind (arith, nat_tests, from, above c, has_above_of m low c))
     (omega arith) in
     rw (off, rest, from) (put_next low (low + suc d) (items_of (members_below n w)) (omega arith))
 
-pub first_run : (w low high m n : ℕ) → low ≤ high → IsLeast (λ c. has m c) low → ((c : ℕ) → low ≤ c → c ≤ high → has m c ≡ true) → has m (high + 1) ≡ false → ((c : ℕ) → has n c ≡ (nat_lt high c && has m c)) → high < w → items_of (members_below m w) ≡ item_between low high ∷ items_of (members_below n w)
+pub first_run : (w low high m n : ℕ) → low ≤ high → IsLeast (λ c. has m c) low → ((c : ℕ) → low ≤ c → c ≤ high → has m c ≡ true) → has m (high + 1) ≡ false
+    → ((c : ℕ) → has n c ≡ (nat_lt high c && has m c)) → high < w → items_of (members_below m w) ≡ item_between low high ∷ items_of (members_below n w)
 first_run w low high m n up least all last above within =
     let e : low + (high - low) ≡ high = omega arith in
     subst (λ z. items_of (members_below m w) ≡ item_between low z ∷ items_of (members_below n w)) e

@@ -1,5 +1,6 @@
 -- What the bit operations of `CpuMask` do to the members. All is over the width w of the set, of at most 32 bits.
-use Rattle.std.proofs.Common.{◌≡◌, ℕ, ◌+◌, ◌-◌, ◌*◌, ◌%◌, ◌^◌, ◌<◌, ◌≤◌, true, false, not, cond, subst, inl, inr, refl, min, nat_le, ◌/◌, Option, Some, None, Bool, IsTrue, ◌&&◌, ◌||◌, ◌==◌, bit_and, bit_or, nat_lt, [], ◌∷◌, length, length-append, zero, suc, sym, ap, ◌∙◌, arith}
+use Rattle.std.proofs.Common.{◌≡◌, ℕ, ◌+◌, ◌-◌, ◌*◌, ◌%◌, ◌^◌, ◌<◌, ◌≤◌, true, false, not, cond, subst, inl, inr, refl, min, nat_le, ◌/◌, Option, Some, None}
+use Rattle.std.proofs.Common.{Bool, IsTrue, ◌&&◌, ◌||◌, ◌==◌, bit_and, bit_or, nat_lt, [], ◌∷◌, length, length-append, zero, suc, sym, ap, ◌∙◌, arith}
 use Rattle.std.specs.Int.{bit_at, w32, trailing_zeros}
 use Rattle.std.specs.Int.Count.{ones}
 use Rattle.std.proofs.Math.Nat.{pow-suc, pow-le-pow_right}
@@ -7,7 +8,9 @@ use Rattle.std.proofs.Math.Pow.{pow-lt}
 use Rattle.std.proofs.lemmas.Bool.{cases_lt}
 use Rattle.std.proofs.lemmas.Bool.Decides.{nat_tests}
 use Rattle.std.proofs.lemmas.Nat.{or_lt, and_le_l, ones-le, ones_cat, mod-pow-add, pow_pos, shr-shr}
-use Rattle.std.proofs.lemmas.Nat.Bits.{bit_at-lt, bit_at_and, bit_at_or, bit_at_above, bit_at_set_same, bit_at_set_other, bit_at_clear_same, bit_at_clear_other, bit_at-trailing_zeros, ones_shl, bit_at_mask_inside, bit_at_mask_below, bit_at_mask_above, bit_at_ones, bit_at_ones_above, ones_shr, bit_at-zero, bit_at_cat_low, bit_at_cat_high, same_from_bits}
+use Rattle.std.proofs.lemmas.Nat.Bits.{bit_at-lt, bit_at_and, bit_at_or, bit_at_above, bit_at_set_same, bit_at_set_other, bit_at_clear_same, bit_at_clear_other}
+use Rattle.std.proofs.lemmas.Nat.Bits.{bit_at-trailing_zeros, ones_shl, bit_at_mask_inside, bit_at_mask_below, bit_at_mask_above, bit_at_ones}
+use Rattle.std.proofs.lemmas.Nat.Bits.{bit_at_ones_above, ones_shr, bit_at-zero, bit_at_cat_low, bit_at_cat_high, same_from_bits}
 use lib.Count.{ones_step}
 use Rattle.smp_mask.specs.Mask.{has, members_below, IsLeast, FindsLeast}
 
@@ -32,7 +35,8 @@ with_below w n k within low h =
 pub has_without : (w n k c : ℕ) → w ≤ 32 → n < 2 ^ w → k < w → has (bit_and n (4294967295 - 1 * 2 ^ k % 4294967296)) c ≡ (has n c && not (c == k))
 has_without w n k c within low h =
     let k32 : k < 32 = omega arith in
-    grind (arith, nat_tests, bit_at_clear_same w32 n k k32, bit_at_clear_other w32 n k k32 c, bit_at_and n (4294967295 - 1 * 2 ^ k % 4294967296) c, bit_at_above n w c low)
+    grind (arith, nat_tests, bit_at_clear_same w32 n k k32, bit_at_clear_other w32 n k k32 c, bit_at_and n (4294967295 - 1 * 2 ^ k % 4294967296) c,
+        bit_at_above n w c low)
 
 pub has_without_none : (w n k c : ℕ) → n < 2 ^ w → w ≤ k → has n c ≡ (has n c && not (c == k))
 has_without_none w n k c low h = grind (arith, nat_tests, bit_at_above n w c low)
@@ -60,7 +64,8 @@ below_counts n (suc k) =
     let next : suc k ≡ 1 + k = omega arith in
     let low : n % 2 ^ k < 2 ^ k = omega (arith, pow_pos k) in
     let top : ones (n % 2 ^ suc k) ≡ ones (bit_at n k * 2 ^ k + n % 2 ^ k) = ap (λ e. ones (n % 2 ^ e)) next ∙ ap ones (mod-pow-add n 1 k) in
-    length-append (members_below n k) (cond (has n k) (k ∷ []) []) ∙ omega (arith, below_counts n k, bit_counts n k, top, ones_cat k (bit_at n k) (n % 2 ^ k) low, ones_bit (bit_at n k) (bit_at-lt n k))
+    length-append (members_below n k) (cond (has n k) (k ∷ []) [])
+        ∙ omega (arith, below_counts n k, bit_counts n k, top, ones_cat k (bit_at n k) (n % 2 ^ k) low, ones_bit (bit_at n k) (bit_at-lt n k))
 
 pub weight_is : (w n : ℕ) → n < 2 ^ w → ones n ≡ length (members_below n w)
 weight_is w n low = let e : n % 2 ^ w ≡ n = grind arith in sym (below_counts n w ∙ ap ones e)
@@ -77,7 +82,8 @@ has_after n k c low h =
     let top : 2 ^ suc k ≤ 2 ^ 32 = pow-le-pow_right (omega arith) step in
     let high : 4294967295 * 2 ^ k % 4294967296 ≡ 2 ^ 32 - 2 ^ k = ones_shl 32 k (omega arith) in
     let mask : 4294967295 * 2 ^ k % 4294967296 * 2 % 4294967296 ≡ 2 ^ 32 - 2 ^ suc k = rw high (grind (arith, p, top)) in
-    rw mask (grind (arith, nat_tests, bit_at_and n (2 ^ 32 - 2 ^ suc k) c, bit_at_mask_inside (suc k) 32 c, bit_at_mask_below (suc k) 32 c, bit_at-lt n c, bit_at_above n 32 c low))
+    rw mask (grind (arith, nat_tests, bit_at_and n (2 ^ 32 - 2 ^ suc k) c, bit_at_mask_inside (suc k) 32 c, bit_at_mask_below (suc k) 32 c, bit_at-lt n c,
+        bit_at_above n 32 c low))
 
 -- what passes the same tests has the same least
 pub least_like : (found : Option ℕ) (f g : ℕ → Bool) → FindsLeast found f → ((c : ℕ) → f c ≡ g c) → FindsLeast found g
@@ -100,7 +106,8 @@ run_bit : (low high i : ℕ) → low ≤ high → high < 32 → min (bit_at (2 ^
 run_bit low high i up within = elim (cases_lt i low) [
   | inl below ↦ rw (bit_at_mask_below low 32 i below, bit_at_mask_below low (suc high) i below) (omega (arith, bit_at-lt (2 ^ suc high - 1) i))
   | inr from_low ↦ elim (cases_lt i (suc high)) [
-    | inl inside ↦ rw (bit_at_mask_inside low 32 i from_low (omega arith), bit_at_mask_inside low (suc high) i from_low inside, bit_at_ones (suc high) i inside) refl
+    | inl inside ↦ rw (bit_at_mask_inside low 32 i from_low (omega arith), bit_at_mask_inside low (suc high) i from_low inside, bit_at_ones (suc high) i inside)
+        refl
     | inr past ↦ rw (bit_at_ones_above (suc high) i past, bit_at_mask_above low (suc high) i past) (omega (arith, bit_at-lt (2 ^ 32 - 2 ^ low) i))
   ]
 ]
@@ -114,7 +121,9 @@ run_bits low high up within =
     rw (from_low, to_high) (same_from_bits _ _ (λ i. bit_at_and (2 ^ 32 - 2 ^ low) (2 ^ suc high - 1) i ∙ run_bit low high i up within))
 
 pub has_run : (n low high c : ℕ) → low ≤ high → has (bit_or n (2 ^ suc high - 2 ^ low)) c ≡ (has n c || (nat_le low c && nat_le c high))
-has_run n low high c up = grind (arith, nat_tests, bit_at_or n (2 ^ suc high - 2 ^ low) c, bit_at-lt n c, bit_at_mask_below low (suc high) c, bit_at_mask_inside low (suc high) c, bit_at_mask_above low (suc high) c)
+has_run n low high c up =
+    grind (arith, nat_tests, bit_at_or n (2 ^ suc high - 2 ^ low) c, bit_at-lt n c, bit_at_mask_below low (suc high) c, bit_at_mask_inside low (suc high) c,
+    bit_at_mask_above low (suc high) c)
 
 pub run_below : (w n low high : ℕ) → n < 2 ^ w → high < w → bit_or n (2 ^ suc high - 2 ^ low) < 2 ^ w
 run_below w n low high below within =

@@ -1,5 +1,6 @@
 -- What comes of a text: the mask of its CPU list, or where it goes wrong.
-use Rattle.std.proofs.Common.{◌≡◌, ℕ, zero, suc, ◌+◌, ◌^◌, ◌<◌, ◌≤◌, List, [], ◌∷◌, ◌++◌, length, append_assoc, append-nil, take, refl, sym, ap, subst, ◌∙◌, Option, Some, None, Result, Ok, Err, IfOk, IfErr, ◌⊎◌, ◌||◌, inl, inr, arith}
+use Rattle.std.proofs.Common.{◌≡◌, ℕ, zero, suc, ◌+◌, ◌^◌, ◌<◌, ◌≤◌, List, [], ◌∷◌, ◌++◌, length, append_assoc, append-nil, take, refl, sym, ap, subst, ◌∙◌}
+use Rattle.std.proofs.Common.{Option, Some, None, Result, Ok, Err, IfOk, IfErr, ◌⊎◌, ◌||◌, inl, inr, arith}
 use Rattle.smp_mask.specs.Mask.{has}
 use Rattle.smp_mask.specs.CpuList.{IsListOf, IsFront, IsMaskOf, IsRefusedAt, names}
 use Rattle.smp_mask.specs.Reading.{step, finished, or_refused, read_from, mask_of_text, answered}
@@ -18,14 +19,16 @@ or_ok at go None m h = cc
 or_ok at go (Some x) m h = (x, refl, h)
 
 -- a text that reads to its end is a CPU list
-walk_ok : (w : ℕ) → w < 2 ^ 64 → (bs : List ℕ) (r : Reader) (text : List ℕ) (at m : ℕ) → At w r.place text → read_from w r at bs ≡ Ok m → (items : List Item) × IsListOf w (text ++ bs) items
+walk_ok : (w : ℕ) → w < 2 ^ 64 → (bs : List ℕ) (r : Reader) (text : List ℕ) (at m : ℕ) → At w r.place text → read_from w r at bs ≡ Ok m
+    → (items : List Item) × IsListOf w (text ++ bs) items
 unfolding read_from
 walk_ok w wide [] r text at m a h =
     let end = or_ok at (λ mask. Ok mask) (finished r.place r.mask) m h in
     subst (λ z. (items : List Item) × IsListOf w z items) (sym (append-nil text)) (at_end w r.place r.mask end.0 text a end.1)
 walk_ok w wide (b ∷ bs) r text at m a h =
     let on = or_ok at (λ q. read_from w q (at + 1) bs) (step w r b) m h in
-    subst (λ z. (items : List Item) × IsListOf w z items) (append_assoc text (b ∷ []) bs) (walk_ok w wide bs on.0 (text ++ b ∷ []) (at + 1) m (at_step w r on.0 b text wide a on.1) on.2)
+    subst (λ z. (items : List Item) × IsListOf w z items) (append_assoc text (b ∷ []) bs)
+        (walk_ok w wide bs on.0 (text ++ b ∷ []) (at + 1) m (at_step w r on.0 b text wide a on.1) on.2)
 
 -- where a text goes wrong: after q bytes more, and whatever comes then
 record Stops (w : ℕ) (r : Reader) (text : List ℕ) (at : ℕ) (bs : List ℕ) (e : SmpError) : Type 0 where
@@ -35,17 +38,21 @@ record Stops (w : ℕ) (r : Reader) (text : List ℕ) (at : ℕ) (bs : List ℕ)
   pub front : IsFront w (text ++ take q bs)
   pub after : (k : ℕ) (more : List ℕ) → q < k → k ≤ length bs → read_from w r at (take k bs ++ more) ≡ Err e
 
-or_err : {A : Type 0} (at : ℕ) (go : A → Result ℕ SmpError) (o : Option A) (e : SmpError) → or_refused at go o ≡ Err e → ((o ≡ None) × (e ≡ BadMask at)) ⊎ ((x : A) × (o ≡ Some x) × (go x ≡ Err e))
+or_err : {A : Type 0} (at : ℕ) (go : A → Result ℕ SmpError) (o : Option A) (e : SmpError) → or_refused at go o ≡ Err e
+    → ((o ≡ None) × (e ≡ BadMask at)) ⊎ ((x : A) × (o ≡ Some x) × (go x ≡ Err e))
 or_err at go None e h = inl (refl, cc)
 or_err at go (Some x) e h = inr (x, refl, h)
 
 -- the same step is made whatever the text goes on with
-after_none : (w : ℕ) (r : Reader) (at : ℕ) (b : ℕ) (bs : List ℕ) (e : SmpError) → step w r b ≡ None → e ≡ BadMask at → (k : ℕ) (more : List ℕ) → 0 < k → read_from w r at (take k (b ∷ bs) ++ more) ≡ Err e
+after_none : (w : ℕ) (r : Reader) (at : ℕ) (b : ℕ) (bs : List ℕ) (e : SmpError) → step w r b ≡ None → e ≡ BadMask at → (k : ℕ) (more : List ℕ) → 0 < k
+    → read_from w r at (take k (b ∷ bs) ++ more) ≡ Err e
 unfolding read_from
 after_none w r at b bs e none is zero more h = absurd (omega arith)
 after_none w r at b bs e none is (suc k) more h = rw (none, is) refl
 
-after_some : (w : ℕ) (r q : Reader) (at : ℕ) (b : ℕ) (bs : List ℕ) (e : SmpError) (n : ℕ) → step w r b ≡ Some q → ((k : ℕ) (more : List ℕ) → n < k → k ≤ length bs → read_from w q (at + 1) (take k bs ++ more) ≡ Err e) → (k : ℕ) (more : List ℕ) → suc n < k → k ≤ length (b ∷ bs) → read_from w r at (take k (b ∷ bs) ++ more) ≡ Err e
+after_some : (w : ℕ) (r q : Reader) (at : ℕ) (b : ℕ) (bs : List ℕ) (e : SmpError) (n : ℕ) → step w r b ≡ Some q
+    → ((k : ℕ) (more : List ℕ) → n < k → k ≤ length bs → read_from w q (at + 1) (take k bs ++ more) ≡ Err e) → (k : ℕ) (more : List ℕ) → suc n < k
+    → k ≤ length (b ∷ bs) → read_from w r at (take k (b ∷ bs) ++ more) ≡ Err e
 unfolding read_from
 after_some w r q at b bs e n some rest zero more low high = absurd (omega arith)
 after_some w r q at b bs e n some rest (suc k) more low high = rw some (rest k more (omega arith) (omega arith))
@@ -53,17 +60,23 @@ after_some w r q at b bs e n some rest (suc k) more low high = rw some (rest k m
 here : (w : ℕ) → 0 < w → w < 2 ^ 64 → (r : Reader) (text : List ℕ) → At w r.place text → IsFront w (text ++ [])
 here w some wide r text a = subst (λ z. IsFront w z) (sym (append-nil text)) (at_front w r.place text some wide a)
 
-walk_err : (w : ℕ) → 0 < w → w < 2 ^ 64 → (bs : List ℕ) (r : Reader) (text : List ℕ) (at : ℕ) (e : SmpError) → At w r.place text → read_from w r at bs ≡ Err e → Stops w r text at bs e
+walk_err : (w : ℕ) → 0 < w → w < 2 ^ 64 → (bs : List ℕ) (r : Reader) (text : List ℕ) (at : ℕ) (e : SmpError) → At w r.place text → read_from w r at bs ≡ Err e
+    → Stops w r text at bs e
 unfolding read_from
 walk_err w some wide [] r text at e a h = elim (or_err at (λ mask. Ok mask) (finished r.place r.mask) e h) [
-  | inl none ↦ record { q = 0; error = none.1 ∙ ap BadMask (omega arith); within = omega arith; front = here w some wide r text a; after = λ k more low high. absurd (omega arith) }
+  | inl none ↦
+      record { q = 0; error = none.1 ∙ ap BadMask (omega arith); within = omega arith; front = here w some wide r text a;
+      after = λ k more low high. absurd (omega arith) }
   | inr x ↦ let bad = x.2 in cc
 ]
 walk_err w some wide (b ∷ bs) r text at e a h = elim (or_err at (λ q. read_from w q (at + 1) bs) (step w r b) e h) [
-  | inl none ↦ record { q = 0; error = none.1 ∙ ap BadMask (omega arith); within = omega arith; front = here w some wide r text a; after = λ k more low high. after_none w r at b bs e none.0 none.1 k more low }
+  | inl none ↦
+      record { q = 0; error = none.1 ∙ ap BadMask (omega arith); within = omega arith; front = here w some wide r text a;
+      after = λ k more low high. after_none w r at b bs e none.0 none.1 k more low }
   | inr x ↦
       let s = walk_err w some wide bs x.0 (text ++ b ∷ []) (at + 1) e (at_step w r x.0 b text wide a x.1) x.2 in
-      record { q = suc s.q; error = s.error ∙ ap BadMask (omega arith); within = omega (arith, s.within); front = subst (λ z. IsFront w z) (append_assoc text (b ∷ []) (take s.q bs)) s.front; after = after_some w r x.0 at b bs e s.q x.1 s.after }
+      record { q = suc s.q; error = s.error ∙ ap BadMask (omega arith); within = omega (arith, s.within);
+          front = subst (λ z. IsFront w z) (append_assoc text (b ∷ []) (take s.q bs)) s.front; after = after_some w r x.0 at b bs e s.q x.1 s.after }
 ]
 
 -- ---- the text as a whole
@@ -72,7 +85,8 @@ walk_err w some wide (b ∷ bs) r text at e a h = elim (or_err at (λ q. read_fr
 reads_as : (w : ℕ) → w < 2 ^ 64 → (text : List ℕ) (items : List Item) → IsListOf w text items → mask_of_text w text ≡ Ok (with_items 0 items)
 reads_as w wide text items list = ap (mask_of_text w) list.text_is ∙ reads_list w wide items list.items_are
 
-set_of : (w : ℕ) → w < 2 ^ 64 → (text : List ℕ) (m : ℕ) → mask_of_text w text ≡ Ok m → (items : List Item) → IsListOf w text items → (cpu : ℕ) → has m cpu ≡ names items cpu
+set_of : (w : ℕ) → w < 2 ^ 64 → (text : List ℕ) (m : ℕ) → mask_of_text w text ≡ Ok m → (items : List Item) → IsListOf w text items → (cpu : ℕ)
+    → has m cpu ≡ names items cpu
 set_of w wide text m h items list cpu =
     let both : ◌≡◌ {A = Result ℕ SmpError} (Ok m) (Ok (with_items 0 items)) = sym h ∙ reads_as w wide text items list in
     let same : m ≡ with_items 0 items = cc in

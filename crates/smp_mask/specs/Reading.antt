@@ -1,5 +1,7 @@
--- Reading a CPU list byte by byte, as a function: for what computes with the mask of a text. That it reads the lists of `CpuList` is in the contract of `CpuMask.parse`.
-use Rattle.std.specs.Prelude.{ℕ, zero, suc, ◌+◌, ◌-◌, ◌*◌, ◌^◌, Bool, true, nat_lt, nat_le, ◌==◌, ◌&&◌, ◌||◌, cond, List, [], ◌∷◌, Option, Some, None, option_map, option_and_then, Result, Ok, Err}
+-- Reading a CPU list byte by byte, as a function: for what computes with the mask of a text. That it reads the lists of
+-- `CpuList` is in the contract of `CpuMask.parse`.
+use Rattle.std.specs.Prelude.{ℕ, zero, suc, ◌+◌, ◌-◌, ◌*◌, ◌^◌, Bool, true, nat_lt, nat_le, ◌==◌, ◌&&◌, ◌||◌, cond, List, [], ◌∷◌, Option, Some, None}
+use Rattle.std.specs.Prelude.{option_map, option_and_then, Result, Ok, Err}
 use Rattle.std.specs.Int.Bits.{bit_or}
 use Rattle.smp_mask.specs.CpuList.{lowest, highest}
 use Rattle.smp_mask.specs.declared.error.SmpError.{SmpError}
@@ -29,7 +31,8 @@ after (High low high) byte = option_map (High low) (longer high byte)
 -- whether more digits, or none, take the numbers from `least` up to below `past` to one that is not below `low`, and still below the width
 unfoldable pub reaches_within : ℕ → ℕ → ℕ → ℕ → ℕ → Bool
 reaches_within zero width low least past = nat_lt low past && nat_lt least width
-reaches_within (suc steps) width low least past = cond (nat_lt low past || least == 0) (nat_lt low past && nat_lt least width) (reaches_within steps width low (least * 10) (past * 10))
+reaches_within (suc steps) width low least past =
+    cond (nat_lt low past || least == 0) (nat_lt low past && nat_lt least width) (reaches_within steps width low (least * 10) (past * 10))
 
 -- whether a number from `low` on and below the width begins with the digits of `high`
 abbrev pub reaches : ℕ → ℕ → ℕ → Bool

@@ -7,5 +7,6 @@ use Rattle.smp_labels.proofs.patch.plan.Given as goal
 abbrev pub invariant-loop-site : goal.invariant-loop-site
 invariant-loop-site l = record {
   room : length l.plan.items ≤ l.site + 1;
-  left : l.plan.items ++ site_changes l.key (is_on l.new) l.site (drop l.site l.words.entries) ≡ (Key l.key, l.new) ∷ site_changes l.key (is_on l.new) 0 l.words.entries;
+  left : l.plan.items ++ site_changes l.key (is_on l.new) l.site (drop l.site l.words.entries)
+      ≡ (Key l.key, l.new) ∷ site_changes l.key (is_on l.new) 0 l.words.entries;
 }

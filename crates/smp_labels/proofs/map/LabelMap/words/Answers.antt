@@ -22,7 +22,9 @@ loop-site-preserved c =
       off = before.off;
       entries = rw (before.entries, c.word.ensures) (words_of-more entry_word MOST_SITES i items (record { key = 0; branch = false }) in_items fits);
       listed = rw (before.listed, kind) (words_of-more first_site MOST_SITES i items (record { key = 0; branch = false }) in_items fits);
-      sites = rw (kind, c.word.ensures) (sites-set c.loop-site.words.sites c.loop-site.words.entries i e (omega (arith, before.room)) (omega (arith, before.room)) before.sites);
+      sites =
+          rw (kind, c.word.ensures) (sites-set c.loop-site.words.sites c.loop-site.words.entries i e (omega (arith, before.room))
+          (omega (arith, before.room)) before.sites);
     }
 
 pub returns-clause-lawful : goal.returns-clause-lawful
@@ -36,4 +38,5 @@ returns-clause-lawful c =
 pub returns-clause-sites : goal.returns-clause-sites
 returns-clause-sites c =
     let items = c.deref-entry-items.result.now in
-    rw (← c.self.view_is) (c.loop-site.invariant.listed ∙ ap (words_of first_site MOST_SITES) (take_all c.loop-site.site items (omega arith) ∙ c.deref-entry-items.ensures.0))
+    rw (← c.self.view_is) (c.loop-site.invariant.listed
+        ∙ ap (words_of first_site MOST_SITES) (take_all c.loop-site.site items (omega arith) ∙ c.deref-entry-items.ensures.0))

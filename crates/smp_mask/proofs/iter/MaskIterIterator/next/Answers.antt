@@ -12,7 +12,9 @@ returns-in_err-cpu-clause-steps c =
 pub returns-clause-steps : goal.returns-clause-steps
 returns-clause-steps c =
     let found = c.in_ok-cpu.ensures.least in
-    rw (← c.self.view_is) (least_off _ _ _ NR_CPUS found c.without-self-inside.ensures c.in_ok-cpu.ensures.within, (c.in_ok-cpu.ensures.within, grind (arith, found.passing)))
+    rw (← c.self.view_is) (least_off _ _ _ NR_CPUS found c.without-self-inside.ensures c.in_ok-cpu.ensures.within,
+        (c.in_ok-cpu.ensures.within, grind (arith, found.passing)))
 
 pub returns-clause-goes : goal.returns-clause-goes
-returns-clause-goes c = rw (← c.self.view_is) (item_goes _ _ _ _ _ tt (least_off _ _ _ NR_CPUS c.in_ok-cpu.ensures.least c.without-self-inside.ensures c.in_ok-cpu.ensures.within))
+returns-clause-goes c =
+    rw (← c.self.view_is) (item_goes _ _ _ _ _ tt (least_off _ _ _ NR_CPUS c.in_ok-cpu.ensures.least c.without-self-inside.ensures c.in_ok-cpu.ensures.within))

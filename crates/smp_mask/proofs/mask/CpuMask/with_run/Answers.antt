@@ -4,7 +4,8 @@ use Rattle.smp_mask.proofs.Sets.{run_bits, run_below}
 use Rattle.smp_mask.proofs.mask.CpuMask.with_run.Goals as goal
 
 pub invariant_of-result : goal.invariant_of-result
-invariant_of-result c = rw (run_bits c.args.low c.args.high c.requires.run (omega (arith, c.requires.within))) (run_below NR_CPUS _ _ _ c.self.invariant c.requires.within)
+invariant_of-result c = rw (run_bits c.args.low c.args.high c.requires.run (omega (arith, c.requires.within)))
+    (run_below NR_CPUS _ _ _ c.self.invariant c.requires.within)
 
 pub returns : goal.returns
 returns c =
