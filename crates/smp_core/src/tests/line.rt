@@ -53,6 +53,7 @@ impl Line {
     }
 }
 
+// Whether the CPU's queue holds these records and no others.
 fn queue_is<A: Allocator>(
     core: &Core<A>,
     cpu: u32,
