@@ -2,6 +2,7 @@
 use Rattle.std.proofs.Common.{◌≡◌, ℕ, zero, suc, ◌<◌, ◌==◌, ◌||◌, ◌&&◌, not, Bool, true, false, cond, None, List, [], ◌∷◌, length-set, set, get_or, inl, inr, refl, sym, ap, ◌∙◌, subst}
 use Rattle.std.proofs.lemmas.Bool.{cases_eq, ne_eqb, eq-eqb}
 use Rattle.std.proofs.lemmas.List.{get_or-set_other}
+use Rattle.smp_words.proofs.Sizes.{one_local}
 use Rattle.smp_words.specs.Size.{records_of_one, record_of}
 use Rattle.smp_words.specs.declared.call.Class.{Class}
 use Rattle.smp_queue.specs.Cpu.{CpuValue, confirmed_at, posts, sends}
@@ -10,7 +11,7 @@ use Rattle.smp_calls.specs.Families.{IsSized, Leaves, Calls, CallsBy, CallsOne, 
 use Rattle.smp_calls.specs.Queued.{Queued, sendings, is_first_to}
 use Rattle.smp_calls.specs.Records.{call_by, single_record, class_for}
 use Rattle.smp_calls.proofs.Turns.{handles_same}
-use Rattle.smp_calls.proofs.Steps.{set_here, set_else, same_local, leaves_as, leaves_then, sized_moved}
+use Rattle.smp_calls.proofs.Steps.{set_here, set_else, leaves_as, leaves_then, sized_moved}
 
 pub and_true : (b : Bool) → (b && true) ≡ b
 and_true true = refl
@@ -34,7 +35,7 @@ set_false (x ∷ xs) (suc i) = set_false xs i
 pub same_record : (number j k : ℕ) → j < records_of_one → k < records_of_one → (record_of number j == record_of number k) ≡ (j == k)
 same_record number j k b l = elim (cases_eq j k) [
   | inl e ↦ rw (eq-eqb j k e) (eq-eqb (record_of number j) (record_of number k) (ap (record_of number) e))
-  | inr n ↦ rw (ne_eqb j k n) (ne_eqb (record_of number j) (record_of number k) (λ e. n (same_local number j k b l e)))
+  | inr n ↦ rw (ne_eqb j k n) (ne_eqb (record_of number j) (record_of number k) (λ e. n (one_local number j k b l e)))
 ]
 
 -- whether a record is confirmed once another one is locked
@@ -42,7 +43,7 @@ pub locks_at : (c : CpuValue) (k j : ℕ) → IsSized c → k < records_of_one �
 locks_at c k j s l b = elim (cases_eq j k) [
   | inl e ↦ rw (eq-eqb (record_of c.number j) (record_of c.number k) (ap (record_of c.number) e)) (subst (λ (i : ℕ). get_or (set c.part.confirmed (record_of c.number k) false) (record_of c.number i) false ≡ false) (sym e) (set_here c k false s l))
   | inr n ↦
-      let apart = λ (e : record_of c.number j ≡ record_of c.number k). n (same_local c.number j k b l e) in
+      let apart = λ (e : record_of c.number j ≡ record_of c.number k). n (one_local c.number j k b l e) in
       rw (ne_eqb (record_of c.number j) (record_of c.number k) apart) (set_else c (record_of c.number k) (record_of c.number j) false apart)
 ]
 

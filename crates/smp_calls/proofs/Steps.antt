@@ -27,15 +27,11 @@ set_here c k b s l =
 pub set_else : (c : CpuValue) (i j : ℕ) (b : Bool) → (j ≡ i → ⊥) → slice_index_or (slice_set c.part.confirmed i b) j false ≡ slice_index_or c.part.confirmed j false
 set_else c i j b other = get_or-set_other c.part.confirmed i j b false other
 
--- one CPU's records are as many as their local numbers
-pub same_local : (number j k : ℕ) → j < records_of_one → k < records_of_one → record_of number j ≡ record_of number k → j ≡ k
-same_local number j k b l e = one_local number j k b l e
-
 -- whether a record is confirmed once that of number k is
 pub confirms_at : (c : CpuValue) (k j : ℕ) → IsSized c → k < records_of_one → j < records_of_one → confirmed_at (confirms k c) j ≡ (j == k || confirmed_at c j)
 confirms_at c k j s l b = elim (cases_eq j k) [
   | inl e ↦ rw (eq-eqb j k e) (subst (λ (i : ℕ). slice_index_or (slice_set c.part.confirmed (record_of c.number k) true) (record_of c.number i) false ≡ true) (sym e) (set_here c k true s l))
-  | inr n ↦ rw (ne_eqb j k n) (set_else c (record_of c.number k) (record_of c.number j) true (λ e. n (same_local c.number j k b l e)))
+  | inr n ↦ rw (ne_eqb j k n) (set_else c (record_of c.number k) (record_of c.number j) true (λ e. n (one_local c.number j k b l e)))
 ]
 
 module _ {H : Type 0} (leads : H → Heard → H → Type 0) where

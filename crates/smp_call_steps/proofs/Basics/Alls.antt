@@ -1,5 +1,6 @@
 -- Facts of all elements of a list.
-use Rattle.std.proofs.Common.{List, [], ◌∷◌, ◌++◌}
+use Rattle.smp_words.specs.Flags.{class_of, flags_of}
+use Rattle.std.proofs.Common.{refl, ◌≡◌, List, [], ◌∷◌, ◌++◌}
 use Rattle.std.specs.List.{AllByRecursion}
 use Rattle.smp_call_steps.specs.Order.{if_sync, if_async, sync_calls, async_calls}
 use Rattle.smp_call_steps.specs.Names.{Call, Class, Sync, Async}
@@ -59,3 +60,8 @@ every_sync P (call ∷ rest) h = every_append P (if_sync call.class call) (sync_
 pub every_async : (P : Call → Type 0) (calls : List Call) → AllByRecursion P calls → AllByRecursion P (async_calls calls)
 every_async P [] h = tt
 every_async P (call ∷ rest) h = every_append P (if_async call.class call) (async_calls rest) (one_async P call.class call h.0) (every_async P rest h.1)
+
+-- the class of a record is in its flags
+pub class_of-flags_of : (class : Class) → class_of (flags_of class) ≡ class
+class_of-flags_of Sync = refl
+class_of-flags_of Async = refl

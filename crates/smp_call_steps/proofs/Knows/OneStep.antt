@@ -1,5 +1,6 @@
 -- One step of a CPU that knows v: what holds after it, and what each CPU knows then.
 use Rattle.std.proofs.Common.{◌≡◌, ◌≢◌, ℕ, ◌+◌, ◌-◌, ◌%◌, nat_lt, Bool, true, false, ◌==◌, cond, Option, Some, None, subst, refl, ap, ◌∙◌}
+use Rattle.smp_words.proofs.Puts.{put_same, put_other}
 use Rattle.smp_words.specs.Put.{put}
 use Rattle.smp_call_steps.specs.Calls.{CallState}
 use Rattle.smp_call_steps.specs.Posts.{ends, goes_to}
@@ -16,7 +17,6 @@ use Rattle.smp_words.specs.Access.{word_of, at_after, seen_of}
 use Rattle.smp_call_steps.specs.Shows.{Shows}
 use Rattle.smp_call_steps.specs.Parts.{part_after}
 use Rattle.smp_call_steps.specs.Known.{told_post, told_handle, told_stage, Sees, known_tells, stage_after, drain_then, MayStep, known_access, GoesOn}
-use Rattle.smp_call_steps.proofs.Steps.Own.{put_same, put_other}
 use Rattle.smp_call_steps.proofs.Steps.Every.{step_shown}
 use Rattle.smp_call_steps.proofs.Knows.Restages.{known_held, restages, access_known, aims_told}
 use Rattle.smp_call_steps.proofs.Knows.Parts.{Told, part_mine, part_else}

@@ -28,7 +28,7 @@ pub else_none : (b : Bool) (x : Option SmpError) (y : SmpError) → cond b x (So
 else_none true x y e = (refl, e)
 else_none false x y e = cc
 
-then_none : (b : Bool) (y : SmpError) → cond b (Some y) None ≡ None → b ≡ false
+pub then_none : (b : Bool) (y : SmpError) → cond b (Some y) None ≡ None → b ≡ false
 then_none true y e = cc
 then_none false y e = refl
 
@@ -36,7 +36,7 @@ or_false : (x y : Bool) → (x || y) ≡ false → x ≡ false
 or_false true y e = e
 or_false false y e = refl
 
-not_false : (x : Bool) → not x ≡ false → x ≡ true
+pub not_false : (x : Bool) → not x ≡ false → x ≡ true
 not_false true e = refl
 not_false false e = cc
 

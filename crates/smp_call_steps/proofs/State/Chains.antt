@@ -1,5 +1,6 @@
 -- A chain is read from its newest call to its oldest.
-use Rattle.std.proofs.Common.{◌≡◌, ◌≢◌, ℕ, zero, suc, ◌+◌, ◌-◌, ◌<◌, ◌≤◌, ◌==◌, Bool, true, false, ◌||◌, List, [], ◌∷◌, ◌++◌, length, sym, subst, refl, ap, ◌∙◌, arith, append_assoc, length-append, take, drop}
+use Rattle.std.proofs.Math.Bool.{or-true}
+use Rattle.std.proofs.Common.{◌≡◌, ◌≢◌, ℕ, zero, suc, ◌+◌, ◌-◌, ◌<◌, ◌≤◌, ◌==◌, true, false, List, [], ◌∷◌, ◌++◌, length, sym, subst, refl, ap, ◌∙◌, arith, append_assoc, length-append, take, drop}
 use Rattle.std.proofs.lemmas.List.{append-nil, drop_all, take_all}
 use Rattle.std.proofs.lemmas.List.Folds.{list_any-append}
 use Rattle.std.specs.List.{AllByRecursion, list_any, refill}
@@ -128,11 +129,7 @@ sought_here nexts first link id rounds here ne e this s =
     let short = f.short in
     let whole : chain_in nexts (records - (rounds + 1)) (nexts here) ++ here ∷ s.passed ≡ chain_in nexts records first = f.whole (records - (rounds + 1)) (omega arith) in
     let found : list_any (λ r. r == id) (here ∷ s.passed) ≡ true = rw this refl in
-    ap (list_any (λ r. r == id)) (sym whole) ∙ (list_any-append (λ r. r == id) (chain_in nexts (records - (rounds + 1)) (nexts here)) (here ∷ s.passed) ∙ (rw found (or_true (list_any (λ r. r == id) (chain_in nexts (records - (rounds + 1)) (nexts here))))))
-  where
-    or_true : (b : Bool) → (b || true) ≡ true
-    or_true true = refl
-    or_true false = refl
+    ap (list_any (λ r. r == id)) (sym whole) ∙ (list_any-append (λ r. r == id) (chain_in nexts (records - (rounds + 1)) (nexts here)) (here ∷ s.passed) ∙ (rw found (or-true (list_any (λ r. r == id) (chain_in nexts (records - (rounds + 1)) (nexts here))))))
 
 -- at the end of the chain it is not
 pub not_sought : (nexts : ℕ → ℕ) (first id rounds : ℕ) → Seeks nexts first 0 id rounds → list_any (λ r. r == id) (chain_in nexts records first) ≡ false

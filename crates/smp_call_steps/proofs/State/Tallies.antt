@@ -26,7 +26,7 @@ count-other source xs y ne =
     let sum : length (calls_from source xs ++ []) ≡ length (calls_from source xs) + length {A = Call} [] = length-append (calls_from source xs) [] in
     ap length (calls_from-push source xs y) ∙ (ap (λ (b : Bool). length (calls_from source xs ++ (if b then y ∷ [] else []))) (ne_eqb (owner y.id) source ne) ∙ omega arith)
 
-count_wraps : (n x y : ℕ) → n ≡ x % 2 ^ 64 → y ≡ x + 1 → (n + 1) % 2 ^ 64 ≡ y % 2 ^ 64
+pub count_wraps : (n x y : ℕ) → n ≡ x % 2 ^ 64 → y ≡ x + 1 → (n + 1) % 2 ^ 64 ≡ y % 2 ^ 64
 count_wraps n x y e f = omega arith
 
 -- the tally law after a call was counted, by what its CPU has counted

@@ -3,6 +3,7 @@ use Rattle.std.proofs.Common.{◌≡◌, ◌≢◌, ℕ, ◌+◌, ◌%◌, ◌^�
 use Rattle.std.proofs.lemmas.List.{append-nil}
 use Rattle.std.proofs.lemmas.Bool.{eq-eqb, ne_eqb, cases_eq}
 use Rattle.std.specs.List.{AllByRecursion}
+use Rattle.smp_call_steps.proofs.State.Batches.{has_left, has_right}
 use Rattle.smp_words.specs.Put.{put, put_word}
 use Rattle.smp_words.specs.Size.{owner}
 use Rattle.smp_call_steps.specs.Calls.{CallState, Holding, Sending, appended, is_nil}
@@ -12,11 +13,10 @@ use Rattle.smp_call_steps.specs.Words.{Written, IsWritten, FlagsShow, Chained, L
 use Rattle.smp_call_steps.specs.Histories.{Recorded, Tallied, Marked, mark, sent_to, marked_from, history_of, one_held}
 use Rattle.smp_call_steps.specs.Stands.{Stands, share_of, held_of, HandIs}
 use Rattle.smp_call_steps.specs.Shows.{Shows}
-use Rattle.smp_words.proofs.Puts.{at_test, put_all}
+use Rattle.smp_words.proofs.Puts.{at_test, put_all, put_other, put_same}
 use Rattle.smp_call_steps.proofs.Basics.Alls.{every, every_push}
 use Rattle.smp_call_steps.proofs.Steps.Frames.{Touches, leaves_others, Stands-kept}
 use Rattle.smp_call_steps.proofs.Basics.Lists.{sent_to-push, marked_from-push, history-push, one_if-same, one_if-other}
-use Rattle.smp_call_steps.proofs.Steps.Own.{put_other, put_same}
 use Rattle.smp_call_steps.specs.Names.{Call, Word, Head, Hand, Queued, Flags, Next, RecPlace}
 use Rattle.smp_call_steps.specs.Names.place
 
@@ -28,15 +28,6 @@ Leads-push nexts link (call ∷ rest) below new e l = (l.0, Leads-push nexts lin
 pub IsApart-push : (calls : List Call) (new : Call) → AllByRecursion (λ call. new.id ≢ call.id) calls → IsApart calls → IsApart (calls ++ new ∷ [])
 IsApart-push [] new h a = (tt, tt)
 IsApart-push (call ∷ rest) new h a = (every_push (λ c. c.id ≢ call.id) rest new a.0 h.0, IsApart-push rest new h.1 a.1)
-
-pub HasRecord-left : (id : ℕ) (calls more : List Call) → HasRecord id calls → HasRecord id (calls ++ more)
-HasRecord-left id [] more h = absurd h
-HasRecord-left id (call ∷ rest) more (inl e) = inl e
-HasRecord-left id (call ∷ rest) more (inr h) = inr (HasRecord-left id rest more h)
-
-pub HasRecord-right : (id : ℕ) (calls more : List Call) → HasRecord id more → HasRecord id (calls ++ more)
-HasRecord-right id [] more h = h
-HasRecord-right id (call ∷ rest) more h = inr (HasRecord-right id rest more h)
 
 true≢false : true ≢ false
 true≢false e = cc
@@ -145,11 +136,11 @@ module _ (a : CallState) (at : Word → ℕ) (control : ℕ → ControlValue) (m
   there_else : (u : ℕ) (p : RecPlace) → u ≢ call.id → IsThere a.held a.queue a.batch a.running u p → IsThere (put a.held me None) (put a.queue to (a.queue to ++ call ∷ [])) a.batch a.running u p
   there_else u place.Held ne h = at_test (owner u) me (λ b. Holds (cond b None (a.held (owner u))) u)
       (λ e. absurd (ne (held_same (a.held (owner u)) call to u (ap a.held e ∙ holds) h))) (λ _. h)
-  there_else u (place.Queued cpu) ne h = at_test cpu to (λ b. HasRecord u (cond b (a.queue to ++ call ∷ []) (a.queue cpu))) (λ e. HasRecord-left u (a.queue to) (call ∷ []) (rw e at h)) (λ _. h)
+  there_else u (place.Queued cpu) ne h = at_test cpu to (λ b. HasRecord u (cond b (a.queue to ++ call ∷ []) (a.queue cpu))) (λ e. has_left u (a.queue to) (call ∷ []) (rw e at h)) (λ _. h)
   there_else u _ ne h = h
 
   there_id : IsThere (put a.held me None) (put a.queue to (a.queue to ++ call ∷ [])) a.batch a.running call.id (place.Queued to)
-  there_id = rw (put_same a.queue to (a.queue to ++ call ∷ [])) (HasRecord-right call.id (a.queue to) (call ∷ []) (inl refl))
+  there_id = rw (put_same a.queue to (a.queue to ++ call ∷ [])) (has_right call.id (a.queue to) (call ∷ []) (inl refl))
 
   placed' : Placed (put a.place call.id (place.Queued to)) (put a.held me None) (put a.queue to (a.queue to ++ call ∷ [])) a.batch a.running (put a.confirmed me (put (a.confirmed me) call.id false))
   placed' = record {

@@ -13,10 +13,10 @@ use Rattle.smp_call_steps.specs.Words.{FlagsShow, IsWritten, Written, last_batch
 use Rattle.smp_call_steps.specs.Histories.{orders, running_call, counted_call, Recorded, Tallied}
 use Rattle.smp_call_steps.specs.Stands.{share_of, Stands, HandIs}
 use Rattle.smp_call_steps.specs.Shows.{Shows}
-use Rattle.smp_words.proofs.Puts.{at_test}
+use Rattle.smp_words.proofs.Puts.{at_test, test_here, test_else}
 use Rattle.smp_call_steps.proofs.Steps.Frames.{Minds, Touches, leaves_others}
 use Rattle.smp_call_steps.proofs.State.Walks.{walks_stay, ends_stay}
-use Rattle.smp_call_steps.proofs.Steps.Turns.{put_here, put_else, holds_nothing, stands_at, hand_at, held_after, stands_after, hands_after, hands_stored}
+use Rattle.smp_call_steps.proofs.Steps.Turns.{holds_nothing, stands_at, hand_at, held_after, stands_after, hands_after, hands_stored}
 use Rattle.smp_call_steps.proofs.Steps.Moving.{Batch≢Batch, Running≢Batch, Queued≢Batch, Batch≢Free, all_placed_still, all_placed_apart, placed_moved, all_written_still, all_written_apart, written_moved}
 use Rattle.smp_call_steps.proofs.State.Tallies.{tallied_same}
 use Rattle.smp_call_steps.proofs.Steps.StepShows.{StepShows}
@@ -112,10 +112,10 @@ module _ (a : CallState) (at : Word → ℕ) (control : ℕ → ControlValue) (m
       record {
         held = held_after a at control me s c (rw stage held);
         stands = begun_stands call rest front idle to (SyncCall call) (put_word at (Hand me) (call.id + 2)) c
-            (record { place_stays = λ u ne. put_else u call.id to (a.place u) ne; flags = λ _ _. refl; func = λ _ _. refl; info = λ _ _. refl; next = λ _ _. refl }) stands;
+            (record { place_stays = λ u ne. test_else u call.id to (a.place u) ne; flags = λ _ _. refl; func = λ _ _. refl; info = λ _ _. refl; next = λ _ _. refl }) stands;
         hands = hands_stored a at control me s c (call.id + 2) (rw stage refl);
-        placed = begun_placed call rest front idle to (SyncCall call) (record { is_call = first.0.is_call; placed = put_here call.id to (a.place call.id) }, tt)
-            (subst (λ (x : Running). HasRecord call.id (locked_by x)) (sym (put_here me (SyncCall call) (a.running me))) (inl refl));
+        placed = begun_placed call rest front idle to (SyncCall call) (record { is_call = first.0.is_call; placed = test_here call.id to (a.place call.id) }, tt)
+            (subst (λ (x : Running). HasRecord call.id (locked_by x)) (sym (test_here me (SyncCall call) (a.running me))) (inl refl));
         written = begun_written call rest front idle to (SyncCall call) (flags_in at) (λ _ _. refl) (subst (λ (p : RecPlace). FlagsShow p (at (Flags call.id))) (here call rest front idle to (SyncCall call)) (s.written.locks call.id)) (words.0, tt);
         chained = s.chained;
         links = s.links;
@@ -139,7 +139,7 @@ module _ (a : CallState) (at : Word → ℕ) (control : ℕ → ControlValue) (m
         (
           was.1.0,
           walks_stay k (k.begun ++ call ∷ []) (put a.batch me left me) (put a.running me (SyncCall call) me)
-              (k.begun_are ∙ sym (append-nil (k.begun ++ call ∷ []))) (put_here me left (a.batch me)) (put_here me (SyncCall call) (a.running me)),
+              (k.begun_are ∙ sym (append-nil (k.begun ++ call ∷ []))) (test_here me left (a.batch me)) (test_here me (SyncCall call) (a.running me)),
         ),
       ) in
       subst (λ (b : Bool). Shows (if b then begins_sync a me (a.batch me) else a) at' (put control me c)) (sym stored)
@@ -154,10 +154,10 @@ module _ (a : CallState) (at : Word → ℕ) (control : ℕ → ControlValue) (m
       record {
         held = held_after a at control me s c (rw stage held);
         stands = begun_stands call rest front idle to (AsyncCall call) (put_word at (Flags call.id) 0) c
-            (record { place_stays = λ u ne. put_else u call.id to (a.place u) ne; flags = λ u ne. put_else u call.id 0 (at (Flags u)) ne; func = λ _ _. refl; info = λ _ _. refl; next = λ _ _. refl }) stands;
+            (record { place_stays = λ u ne. test_else u call.id to (a.place u) ne; flags = λ u ne. test_else u call.id 0 (at (Flags u)) ne; func = λ _ _. refl; info = λ _ _. refl; next = λ _ _. refl }) stands;
         hands = hands_after a at control me s c hand;
         placed = begun_placed call rest front idle to (AsyncCall call) tt tt;
-        written = begun_written call rest front idle to (AsyncCall call) (put (flags_in at) call.id 0) (λ u ne. put_else u call.id 0 (at (Flags u)) ne) (put_here call.id 0 (at (Flags call.id))) tt;
+        written = begun_written call rest front idle to (AsyncCall call) (put (flags_in at) call.id 0) (λ u ne. test_else u call.id 0 (at (Flags u)) ne) (test_here call.id 0 (at (Flags call.id))) tt;
         chained = s.chained;
         links = s.links;
         noticed = s.noticed;
@@ -181,7 +181,7 @@ module _ (a : CallState) (at : Word → ℕ) (control : ℕ → ControlValue) (m
         (
           rest,
           ends_stay k (k.begun ++ call ∷ []) (put a.batch me rest me) (put a.running me (AsyncCall call) me)
-              (k.whole ∙ sym (append_assoc k.begun (call ∷ []) rest)) (put_here me rest (a.batch me)) (put_here me (AsyncCall call) (a.running me)),
+              (k.whole ∙ sym (append_assoc k.begun (call ∷ []) rest)) (test_here me rest (a.batch me)) (test_here me (AsyncCall call) (a.running me)),
           front.0.is_call,
         ),
       ) in

@@ -12,9 +12,9 @@ use Rattle.smp_call_steps.specs.Words.{IsWritten, Written, last_batch, flags_in,
 use Rattle.smp_call_steps.specs.Histories.{orders, running_call, counted_call, Recorded, Tallied}
 use Rattle.smp_call_steps.specs.Stands.{Share, share_of, Stands, HandIs, held_of}
 use Rattle.smp_call_steps.specs.Shows.{Shows}
-use Rattle.smp_words.proofs.Puts.{at_test}
+use Rattle.smp_words.proofs.Puts.{at_test, test_here, test_else}
 use Rattle.smp_call_steps.proofs.Steps.Frames.{Minds, leaves_others, leaves_all}
-use Rattle.smp_call_steps.proofs.Steps.Turns.{put_here, put_else, holds_nothing, stands_at, hand_at, held_after, stands_after, hands_after}
+use Rattle.smp_call_steps.proofs.Steps.Turns.{holds_nothing, stands_at, hand_at, held_after, stands_after, hands_after}
 use Rattle.smp_call_steps.proofs.Steps.Moving.{Running≢Running, Batch≢Running, Queued≢Running, Running≢Free, all_placed_still, placed_moved, all_written_still, written_moved}
 use Rattle.smp_call_steps.proofs.State.Walks.{walks_stay, ends_stay, second_goes, first_goes, hand_of_second, hand_of_first}
 use Rattle.smp_call_steps.proofs.State.Tallies.{tallied_more, tallied_same}
@@ -81,8 +81,8 @@ module _ (a : CallState) (at : Word → ℕ) (control : ℕ → ControlValue) (m
             (λ ne. ap (λ (xs : List Call). xs ++ (running_call (a.running cpu) ++ a.batch cpu)) (others cpu ne) ∙ s.recorded.drained cpu);
       };
       tallied = tallied_more (queued_in at) (ran_in at) a.sent a.held a.ran ran' a.running (put a.running me r) me call
-          (ap (λ (x : Running). ran' me ++ counted_call x) (put_here me r (a.running me)) ∙ counted)
-          (λ cpu ne. ap (λ (x : Running). ran' cpu ++ counted_call x) (put_else cpu me r (a.running cpu) ne) ∙ ap (λ (xs : List Call). xs ++ counted_call (a.running cpu)) (others cpu ne))
+          (ap (λ (x : Running). ran' me ++ counted_call x) (test_here me r (a.running me)) ∙ counted)
+          (λ cpu ne. ap (λ (x : Running). ran' cpu ++ counted_call x) (test_else cpu me r (a.running cpu) ne) ∙ ap (λ (xs : List Call). xs ++ counted_call (a.running cpu)) (others cpu ne))
           s.tallied;
     }
       where
@@ -104,7 +104,7 @@ module _ (a : CallState) (at : Word → ℕ) (control : ℕ → ControlValue) (m
         was.0,
         (
           was.1.0,
-          walks_stay k k.begun (a.batch me) (put a.running me (CountedCall call) me) k.begun_are k.batch (put_here me (CountedCall call) (a.running me)),
+          walks_stay k k.begun (a.batch me) (put a.running me (CountedCall call) me) k.begun_are k.batch (test_here me (CountedCall call) (a.running me)),
         ),
       ))
 
@@ -118,16 +118,16 @@ module _ (a : CallState) (at : Word → ℕ) (control : ℕ → ControlValue) (m
       let ran' : ℕ → List Call = put a.ran me (a.ran me ++ call ∷ []) in
       let after : Share = share_of (ends_async a me call) me in
       let running_is = k.running_is in
-      let ran_here : ran' me ≡ a.ran me ++ call ∷ [] = put_here me (a.ran me ++ call ∷ []) (a.ran me) in
+      let ran_here : ran' me ≡ a.ran me ++ call ∷ [] = test_here me (a.ran me ++ call ∷ []) (a.ran me) in
       subst (λ (x : Running). Shows (counts a me x) (stored call) (put control me c)) (sym running_is)
-      (count_shown call Nothing ran' (λ cpu ne. put_else cpu me (a.ran me ++ call ∷ []) (a.ran cpu) ne) (rw running_is refl)
+      (count_shown call Nothing ran' (λ cpu ne. test_else cpu me (a.ran me ++ call ∷ []) (a.ran cpu) ne) (rw running_is refl)
       (append-nil (ran' me) ∙ (ran_here ∙ ap (λ (x : Running). a.ran me ++ running_call x) (sym running_is)))
       (append-nil (ran' me) ∙ (ran_here ∙ ap (λ (xs : List Call). xs ++ call ∷ []) (sym (append-nil (a.ran me)) ∙ ap (λ (x : Running). a.ran me ++ counted_call x) (sym running_is))))
       c (holds_nothing a at control me s (handle.CountAsync call next) e)
       (hand_of_second next (at (Hand me)) (hand_at a at control me s (handle.CountAsync call next) e)) (
         was.0,
         second_goes (nexts_in at) after d next rest
-            (ends_stay k k.begun (a.batch me) (put a.running me Nothing me) k.whole k.batch (put_here me Nothing (a.running me))),
+            (ends_stay k k.begun (a.batch me) (put a.running me Nothing me) k.whole k.batch (test_here me Nothing (a.running me))),
       ))
 
   -- the record of the SYNC call that ran is free
@@ -153,14 +153,14 @@ module _ (a : CallState) (at : Word → ℕ) (control : ℕ → ControlValue) (m
 
     end_written : Written (put (flags_in at) call.id 0) (funcs_in at) (infos_in at) (put a.place call.id place.Free) a.queue a.batch (put a.running me Nothing)
     end_written = written_moved a.place call.id (place.Running me) place.Free here (flags_in at) (put (flags_in at) call.id 0) (funcs_in at) (infos_in at) same
-        a.held a.queue a.batch a.batch a.running (put a.running me Nothing) a.confirmed (λ cpu. Queued≢Running cpu me) s.placed s.written (put_here call.id 0 (at (Flags call.id)))
+        a.held a.queue a.batch a.batch a.running (put a.running me Nothing) a.confirmed (λ cpu. Queued≢Running cpu me) s.placed s.written (test_here call.id 0 (at (Flags call.id)))
         (λ cpu. all_written_still a.place call.id (place.Running me) place.Free here (flags_in at) (put (flags_in at) call.id 0) (funcs_in at) (infos_in at) same (place.Batch cpu) (a.batch cpu) (Batch≢Running cpu me) (s.placed.batched cpu) (s.written.batched cpu))
         (λ cpu. at_test cpu me (λ b. AllByRecursion (IsWritten (put (flags_in at) call.id 0) (funcs_in at) (infos_in at)) (locked_by (cond b Nothing (a.running cpu))))
         (λ _. tt)
         (λ ne. all_written_still a.place call.id (place.Running me) place.Free here (flags_in at) (put (flags_in at) call.id 0) (funcs_in at) (infos_in at) same (place.Running cpu) (locked_by (a.running cpu)) (Running≢Running cpu me ne) (s.placed.runs cpu) (s.written.runs cpu)))
       where
         same : (u : ℕ) → u ≢ call.id → put (flags_in at) call.id 0 u ≡ at (Flags u)
-        same u ne = put_else u call.id 0 (at (Flags u)) ne
+        same u ne = test_else u call.id 0 (at (Flags u)) ne
 
     end_recorded : Recorded a.sent a.taken a.queue (put a.ran me (a.ran me ++ call ∷ [])) (put a.running me Nothing) a.batch
     end_recorded = record {
@@ -185,7 +185,7 @@ module _ (a : CallState) (at : Word → ℕ) (control : ℕ → ControlValue) (m
       stands = stands_after a at control me s (put_word at (Flags call.id) 0) (put a.place call.id place.Free) (share_of (ends_sync a me call)) c
           (λ cpu ne. at_test cpu me (λ b. record { last = last_batch (a.taken cpu); batch = a.batch cpu; running = cond b Nothing (a.running cpu); accepted = a.accepted cpu } ≡ share_of a cpu) (λ f. absurd (ne f)) (λ _. refl))
           (λ cpu ne. leaves_others me call.id a.place (put a.place call.id place.Free) at (put_word at (Flags call.id) 0) (subst (Minds me call.id) (sym here) refl)
-          (record { place_stays = λ u n. put_else u call.id place.Free (a.place u) n; flags = λ u n. put_else u call.id 0 (at (Flags u)) n; func = λ _ _. refl; info = λ _ _. refl; next = λ _ _. refl }) cpu ne)
+          (record { place_stays = λ u n. test_else u call.id place.Free (a.place u) n; flags = λ u n. test_else u call.id 0 (at (Flags u)) n; func = λ _ _. refl; info = λ _ _. refl; next = λ _ _. refl }) cpu ne)
           stands;
       hands = hands_after a at control me s c hand;
       placed = end_placed;
@@ -212,7 +212,7 @@ module _ (a : CallState) (at : Word → ℕ) (control : ℕ → ControlValue) (m
       end_shown call k.running_is c held (hand_of_first walk next (at (Hand me)) (more_than_zero (at (Hand me)) call.id (hand_at a at control me s (handle.EndSync walk call next) e))) (
         was.0,
         first_goes (nexts_in at) after d walk next rest
-            (walks_stay k k.begun (a.batch me) (put a.running me Nothing me) k.begun_are k.batch (put_here me Nothing (a.running me))),
+            (walks_stay k k.begun (a.batch me) (put a.running me Nothing me) k.begun_are k.batch (test_here me Nothing (a.running me))),
       ) in
       subst (λ (h : Option Holding). Shows (releases a me call.id h) at' (put control me c)) (sym held)
       (subst (λ (x : Running). Shows (unlocks a me x) at' (put control me c)) (sym k.running_is) shown)

@@ -10,9 +10,9 @@ use Rattle.smp_call_steps.specs.Words.{bit, IsNoticed, is_pending, is_accepted, 
 use Rattle.smp_call_steps.specs.Words.{last_batch}
 use Rattle.smp_call_steps.specs.Stands.{share_of, Stands, HandleStands, HandIs, held_of}
 use Rattle.smp_call_steps.specs.Shows.{Shows}
-use Rattle.smp_words.proofs.Puts.{at_test}
+use Rattle.smp_words.proofs.Puts.{at_test, test_here, test_else}
 use Rattle.smp_call_steps.proofs.Steps.Frames.{leaves_all}
-use Rattle.smp_call_steps.proofs.Steps.Turns.{put_here, put_else, holds_nothing, stands_at, hand_at, held_after, stands_after, hands_after, hands_stored}
+use Rattle.smp_call_steps.proofs.Steps.Turns.{holds_nothing, stands_at, hand_at, held_after, stands_after, hands_after, hands_stored}
 use Rattle.smp_call_steps.proofs.Steps.StepShows.{StepShows}
 use Rattle.smp_call_steps.specs.Names.{Word, Intr, Hand, Handle}
 use Rattle.smp_call_steps.specs.Names.handle
@@ -72,8 +72,8 @@ module _ (a : CallState) (at : Word → ℕ) (control : ℕ → ControlValue) (m
   -- a CPU that was noticed is noticed still
   still_noticed : (cpu : ℕ) → IsNoticed a.pending a.accepted a.owes cpu → IsNoticed (put a.pending me false) accepted' a.owes cpu
   still_noticed cpu (is_pending e) = at_test cpu me (λ _. IsNoticed (put a.pending me false) accepted' a.owes cpu)
-      (λ f. is_accepted (subst (λ (k : ℕ). accepted' k ≡ true) (sym f) (put_here me (if a.pending me then true else a.accepted me) (a.accepted me) ∙ ap (λ (b : Bool). if b then true else a.accepted me) (subst (λ (k : ℕ). a.pending k ≡ true) f e))))
-      (λ ne. is_pending (put_else cpu me false (a.pending cpu) ne ∙ e))
+      (λ f. is_accepted (subst (λ (k : ℕ). accepted' k ≡ true) (sym f) (test_here me (if a.pending me then true else a.accepted me) (a.accepted me) ∙ ap (λ (b : Bool). if b then true else a.accepted me) (subst (λ (k : ℕ). a.pending k ≡ true) f e))))
+      (λ ne. is_pending (test_else cpu me false (a.pending cpu) ne ∙ e))
   still_noticed cpu (is_accepted e) = is_accepted (at_test cpu me (λ b. cond b (if a.pending me then true else a.accepted me) (a.accepted cpu) ≡ true)
       (λ f. accepted_now (a.pending me) (a.accepted me) (subst (λ (k : ℕ). a.accepted k ≡ true) f e)) (λ _. e))
   still_noticed cpu (is_owed source e) = is_owed source e
@@ -85,7 +85,7 @@ module _ (a : CallState) (at : Word → ℕ) (control : ℕ → ControlValue) (m
   }
 
   accepted_after : accepted' me ≡ (if a.pending me then true else a.accepted me)
-  accepted_after = put_here me (if a.pending me then true else a.accepted me) (a.accepted me)
+  accepted_after = test_here me (if a.pending me then true else a.accepted me) (a.accepted me)
 
   -- where it goes, by whether an interrupt was pending
   accept_stands : (b : Bool) → (b ≡ true → a.pending me ≡ false) → (b ≡ false → a.pending me ≡ true) → HandleStands (nexts_in at) (share_of a me) (control me).drain handle.Accept → me < cpus →

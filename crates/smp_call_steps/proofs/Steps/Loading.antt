@@ -1,5 +1,6 @@
 -- The steps of handle that load a word of a record of its batch.
 use Rattle.std.proofs.Common.{◌≡◌, ℕ, ◌+◌, ◌%◌, ◌==◌, Bool, true, if◌then◌else◌, Option, Some, None, List, [], ◌∷◌, ◌++◌, sym, subst, refl, ap, ◌∙◌}
+use Rattle.smp_call_steps.proofs.Basics.Alls.{class_of-flags_of}
 use Rattle.smp_words.specs.Put.{put}
 use Rattle.smp_words.specs.Flags.{flags_of, class_of}
 use Rattle.smp_call_steps.specs.Calls.{CallState, Nothing, confirms}
@@ -15,10 +16,6 @@ use Rattle.smp_call_steps.proofs.Steps.Passing.{flags_lead, info_leads}
 use Rattle.smp_call_steps.proofs.Steps.StepShows.{StepShows}
 use Rattle.smp_call_steps.specs.Names.{Call, Class, Sync, Async, Word, Hand, Flags, Func, Info, Next, Walk, Handle}
 use Rattle.smp_call_steps.specs.Names.handle
-
-class_of-flags_of : (class : Class) → class_of (flags_of class) ≡ class
-class_of-flags_of Sync = refl
-class_of-flags_of Async = refl
 
 -- the flags of a call have LOCK
 flags_locked : (class : Class) → (flags_of class % 2 == 1) ≡ true

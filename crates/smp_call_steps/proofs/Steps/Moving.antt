@@ -5,9 +5,8 @@ use Rattle.smp_words.specs.Put.{put}
 use Rattle.smp_call_steps.specs.Calls.{Holding, Running}
 use Rattle.smp_call_steps.specs.Places.{IsAbsent, IsApart, HasRecord, IsPlaced, IsThere, Placed, locked_by}
 use Rattle.smp_call_steps.specs.Words.{FlagsShow, IsWritten, Written}
-use Rattle.smp_words.proofs.Puts.{at_test}
+use Rattle.smp_words.proofs.Puts.{at_test, test_else}
 use Rattle.smp_call_steps.proofs.Basics.Alls.{every, every_both}
-use Rattle.smp_call_steps.proofs.Steps.Turns.{put_else}
 use Rattle.smp_call_steps.specs.Names.{Call, RecPlace}
 use Rattle.smp_call_steps.specs.Names.place
 
@@ -56,7 +55,7 @@ there_still held queue batch batch' running running' u (place.Running cpu) in_ba
 
 module _ (places : ℕ → RecPlace) (id : ℕ) (from to : RecPlace) (here : places id ≡ from) where
   pub place_else : (u : ℕ) → u ≢ id → put places id to u ≡ places u
-  place_else u ne = put_else u id to (places u) ne
+  place_else u ne = test_else u id to (places u) ne
 
   -- a call by another record is where it was
   pub placed_still : (p : RecPlace) (call : Call) → call.id ≢ id → IsPlaced places p call → IsPlaced (put places id to) p call

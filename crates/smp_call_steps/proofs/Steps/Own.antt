@@ -18,12 +18,6 @@ use Rattle.smp_call_steps.specs.Names.{Call, Word, Head, Intr, Hand, Flags, RecP
 use Rattle.smp_call_steps.specs.Names.place
 use Rattle.smp_call_steps.specs.Names.post
 
-pub put_other : {A : Type 0} (f : ℕ → A) (i : ℕ) (v : A) (j : ℕ) → j ≢ i → put f i v j ≡ f j
-put_other f i v j ne = at_test j i (λ b. cond b v (f j) ≡ f j) (λ e. absurd (ne e)) (λ _. refl)
-
-pub put_same : {A : Type 0} (f : ℕ → A) (i : ℕ) (v : A) → put f i v i ≡ v
-put_same f i v = at_test i i (λ b. cond b v (f i) ≡ v) (λ _. refl) (λ ne. absurd (ne refl))
-
 -- the record of a post that holds it
 pub post_holds : (p : Posting) (st : PostStage) (u : ℕ) → Holds (held_of_post p st) u → u ≡ p.id
 post_holds p post.LoadFlags u h = absurd h

@@ -1,6 +1,7 @@
 -- Each step of a post, of a send and of a question for a record keeps what the words show of the calls.
 use Rattle.std.proofs.Common.{◌≡◌, ◌≢◌, ℕ, ◌+◌, ◌-◌, ◌%◌, ◌^◌, Bool, true, false, ◌==◌, ◌&&◌, nat_lt, cond, Option, Some, None, length, sym, subst, refl, ap, ◌∙◌, inl, inr, arith}
 use Rattle.std.proofs.lemmas.Bool.{cases_eq, eq-eqb, ne_eqb, eqb-true}
+use Rattle.smp_call_steps.proofs.Basics.Alls.{class_of-flags_of}
 use Rattle.smp_words.specs.Put.{put, put_word}
 use Rattle.smp_words.specs.Access.{put_if}
 use Rattle.smp_words.specs.Flags.{flags_of, class_of}
@@ -13,9 +14,9 @@ use Rattle.smp_call_steps.specs.Words.{IsWritten, FlagsShow, LinkIs, flags_in, f
 use Rattle.smp_call_steps.specs.Histories.{Tallied, sent_to, one_held}
 use Rattle.smp_call_steps.specs.Stands.{Rests, Stands, StandsAt, PostStands, PostKnows, PostGoes, posted, share_of, held_of, held_of_post, holding, HandIs}
 use Rattle.smp_call_steps.specs.Shows.{Shows}
-use Rattle.smp_words.proofs.Puts.{at_test}
+use Rattle.smp_words.proofs.Puts.{at_test, put_other, put_same}
 use Rattle.smp_call_steps.proofs.Steps.Frames.{Touches}
-use Rattle.smp_call_steps.proofs.Steps.Own.{put_other, put_same, post_holds, own_step, KeepsCpus}
+use Rattle.smp_call_steps.proofs.Steps.Own.{post_holds, own_step, KeepsCpus}
 use Rattle.smp_call_steps.proofs.Steps.Sending.{stands_on, unlocked_free, confirms_kept, confirm_if, send_kept}
 use Rattle.smp_call_steps.proofs.Steps.Appending.{append_kept}
 use Rattle.smp_call_steps.proofs.Steps.StepShows.{StepShows}
@@ -25,10 +26,6 @@ use Rattle.smp_call_steps.specs.Names.place
 use Rattle.smp_call_steps.specs.Names.act
 use Rattle.smp_call_steps.specs.Names.note
 use Rattle.smp_call_steps.specs.Names.post
-
-class_of-flags_of : (c : Class) → class_of (flags_of c) ≡ c
-class_of-flags_of Sync = refl
-class_of-flags_of Async = refl
 
 flags_odd : (c : Class) → flags_of c % 2 ≡ 1
 flags_odd Sync = refl

@@ -12,11 +12,11 @@ use Rattle.smp_call_steps.specs.Words.{Leads, FlagsShow, IsWritten, Written, Cha
 use Rattle.smp_call_steps.specs.Histories.{marked, batches_marked, history_of, marked_from, sent_to, orders, running_call, Recorded}
 use Rattle.smp_call_steps.specs.Stands.{Share, share_of}
 use Rattle.smp_call_steps.specs.Shows.{Shows}
-use Rattle.smp_words.proofs.Puts.{at_test}
+use Rattle.smp_words.proofs.Puts.{at_test, test_here, test_else}
 use Rattle.smp_call_steps.proofs.Basics.Alls.{every}
 use Rattle.smp_call_steps.proofs.Steps.Frames.{Minds, LeavesTo}
 use Rattle.smp_call_steps.proofs.State.Batches.{every_order, has_order, apart_order}
-use Rattle.smp_call_steps.proofs.Steps.Turns.{put_here, put_else, holds_nothing, stands_at, hand_at, held_after, stands_after, hands_after}
+use Rattle.smp_call_steps.proofs.Steps.Turns.{holds_nothing, stands_at, hand_at, held_after, stands_after, hands_after}
 use Rattle.smp_call_steps.proofs.State.Walks.{link_back, reverse_goes, hand_of_reverse}
 use Rattle.smp_call_steps.proofs.Steps.StepShows.{StepShows}
 use Rattle.smp_call_steps.specs.Names.{Call, Word, Head, Hand, Flags, RecPlace, Handle}
@@ -26,10 +26,10 @@ use Rattle.smp_call_steps.specs.Names.handle
 -- what a place becomes when this CPU takes its queue
 
 taken_here : (me : ℕ) → place_taken me (place.Queued me) ≡ place.Batch me
-taken_here me = put_here me (place.Batch me) (place.Queued me)
+taken_here me = test_here me (place.Batch me) (place.Queued me)
 
 taken_else : (me cpu : ℕ) → cpu ≢ me → place_taken me (place.Queued cpu) ≡ place.Queued cpu
-taken_else me cpu ne = put_else cpu me (place.Batch me) (place.Queued cpu) ne
+taken_else me cpu ne = test_else cpu me (place.Batch me) (place.Queued cpu) ne
 
 taken_minded : (me cpu id : ℕ) (p : RecPlace) → Minds cpu id p → place_taken me p ≡ p
 taken_minded me cpu id (place.Queued c) m = absurd m
@@ -87,8 +87,8 @@ module _ (a : CallState) (at : Word → ℕ) (me : ℕ) where
   there id place.Free none h = tt
   there id place.Held none h = h
   there id (place.Queued c) none h = at_test c me (λ b. IsThere a.held queue' batch' a.running id (cond b (place.Batch me) (place.Queued c)))
-      (λ e. subst (HasRecord id) (sym (put_here me (order (a.queue me)) (a.batch me))) (has_order id (a.queue me) (subst (λ (k : ℕ). HasRecord id (a.queue k)) e h)))
-      (λ ne. subst (HasRecord id) (sym (put_else c me [] (a.queue c) ne)) h)
+      (λ e. subst (HasRecord id) (sym (test_here me (order (a.queue me)) (a.batch me))) (has_order id (a.queue me) (subst (λ (k : ℕ). HasRecord id (a.queue k)) e h)))
+      (λ ne. subst (HasRecord id) (sym (test_else c me [] (a.queue c) ne)) h)
   there id (place.Batch c) none h = at_test c me (λ b. HasRecord id (cond b (order (a.queue me)) (a.batch c)))
       (λ e. absurd (subst (HasRecord id) (ap a.batch e ∙ none) h))
       (λ _. h)
@@ -127,7 +127,7 @@ module _ (a : CallState) (at : Word → ℕ) (me : ℕ) where
 
   noticed_still : (cpu : ℕ) → cpu ≢ me → IsNoticed a.pending a.accepted a.owes cpu → IsNoticed a.pending (put a.accepted me false) a.owes cpu
   noticed_still cpu ne (is_pending e) = is_pending e
-  noticed_still cpu ne (is_accepted e) = is_accepted (put_else cpu me false (a.accepted cpu) ne ∙ e)
+  noticed_still cpu ne (is_accepted e) = is_accepted (test_else cpu me false (a.accepted cpu) ne ∙ e)
   noticed_still cpu ne (is_owed source e) = is_owed source e
 
   noticed_taken : Noticed (intrs_in at) a.queue a.pending a.accepted a.owes → Noticed (intrs_in at) queue' a.pending (put a.accepted me false) a.owes
@@ -167,7 +167,7 @@ module _ (a : CallState) (at : Word → ℕ) (control : ℕ → ControlValue) (m
       let c : ControlValue = record { stage = Some (Handle (reverse_on None (record_at link))); drain = no_drain } in
       let after : Share = share_of (takes a me) me in
       let whole : last_batch (put a.taken me (a.taken me ++ a.queue me ∷ []) me) ≡ a.queue me =
-      ap last_batch (put_here me (a.taken me ++ a.queue me ∷ []) (a.taken me)) ∙ last_batch-push (a.taken me) (a.queue me) in
+      ap last_batch (test_here me (a.taken me ++ a.queue me ∷ []) (a.taken me)) ∙ last_batch-push (a.taken me) (a.queue me) in
       record {
         held = held_after a at control me s c (holds_nothing a at control me s handle.Take e);
         stands = stands_after a at control me s (put_word at (Head me) 0) (place' a at me) (share_of (takes a me)) c
@@ -176,7 +176,7 @@ module _ (a : CallState) (at : Word → ℕ) (control : ℕ → ControlValue) (m
               was.0,
               reverse_goes (nexts_in at) after no_drain None (record_at link) (a.queue me) [] (whole ∙ sym (append-nil (a.queue me)))
                   (subst (λ (n : ℕ). Leads (nexts_in at) n (a.queue me) 0) (sym (link_back link)) (s.chained.chain me)) refl (subst IsApart (sym whole) (s.placed.queue_apart me)) refl
-                  (put_here me (order (a.queue me)) (a.batch me) ∙ ap order (sym whole)) k.1 (put_here me false (a.accepted me)),
+                  (test_here me (order (a.queue me)) (a.batch me) ∙ ap order (sym whole)) k.1 (test_here me false (a.accepted me)),
             );
         hands = hands_after a at control me s c (hand_of_reverse None (record_at link) (at (Hand me)) (hand_at a at control me s handle.Take e));
         placed = placed_taken a at me k.0 s.placed;

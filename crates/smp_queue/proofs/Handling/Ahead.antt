@@ -1,4 +1,5 @@
 -- How many calls of a batch are ahead of a CPU that goes along its chain.
+use Rattle.smp_words.proofs.Puts.{test_here, test_else}
 use Rattle.std.proofs.Common.{◌≡◌, ◌≢◌, ℕ, suc, ◌+◌, ◌==◌, ◌<◌, cond, Option, Some, None, List, [], ◌∷◌, ◌++◌, length, sym, subst, refl, ap, ◌∙◌, arith, append_assoc}
 use Rattle.atomic_table.specs.Seated.{TableId}
 use Rattle.smp_call_steps.specs.Drains.{DrainValue, link_to, record_at}
@@ -8,7 +9,6 @@ use Rattle.smp_call_steps.specs.Stands.{Share, Walks}
 use Rattle.smp_call_steps.specs.Words.{Path, last_batch, nexts_in}
 use Rattle.smp_call_steps.proofs.Basics.Alls.{every_right}
 use Rattle.smp_call_steps.proofs.Knows.Handling.{lives_stands, share_in}
-use Rattle.smp_call_steps.proofs.Steps.Turns.{put_here, put_else}
 use Rattle.smp_call_steps.proofs.State.Walks.{link_back, same_record}
 use Rattle.smp_queue.specs.Names.{Call, Next, Known, Nothing, Walk}
 use Rattle.smp_queue.specs.Names.handle
@@ -23,10 +23,10 @@ left_from (Some id) [] = 0
 left_from (Some id) (call ∷ rest) = cond (call.id == id) (suc (length rest)) (left_from (Some id) rest)
 
 pub left_here : (passed : List Call) (call : Call) (rest : List Call) → IsApart (passed ++ call ∷ rest) → left_from (Some call.id) (passed ++ call ∷ rest) ≡ suc (length rest)
-left_here [] call rest a = put_here call.id (suc (length rest)) (left_from (Some call.id) rest)
+left_here [] call rest a = test_here call.id (suc (length rest)) (left_from (Some call.id) rest)
 left_here (x ∷ xs) call rest a =
     let absent = every_right (λ c. c.id ≢ x.id) xs (call ∷ rest) a.0 in
-    put_else x.id call.id (suc (length (xs ++ call ∷ rest))) (left_from (Some call.id) (xs ++ call ∷ rest)) (λ e. absent.0 (sym e)) ∙ left_here xs call rest a.1
+    test_else x.id call.id (suc (length (xs ++ call ∷ rest))) (left_from (Some call.id) (xs ++ call ∷ rest)) (λ e. absent.0 (sym e)) ∙ left_here xs call rest a.1
 
 pub left_next : (nexts : ℕ → ℕ) (next : Option ℕ) (passed : List Call) (rest : List Call) → Path nexts (link_to next) rest 0 → IsApart (passed ++ rest) → left_from next (passed ++ rest) ≡ length rest
 left_next nexts None passed [] l a = refl

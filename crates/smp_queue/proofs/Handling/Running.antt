@@ -10,7 +10,7 @@ use Rattle.smp_queue.specs.Names.{Call, Known, Part, HandleStage, Heard}
 use Rattle.smp_call_steps.specs.Known.{ran_tally}
 use Rattle.smp_call_steps.specs.Handling.{begun_async, ended_call, rest_of}
 use Rattle.smp_words.proofs.Sizes.{owner-below}
-use Rattle.smp_call_steps.proofs.State.Tallies.{count-same, count-other}
+use Rattle.smp_call_steps.proofs.State.Tallies.{count-same, count-other, count_wraps}
 use Rattle.smp_queue.specs.Cpu.{CpuValue, cpu_of}
 use Rattle.smp_queue.specs.Seat.{SeatValue, InHandle}
 use Rattle.smp_queue.specs.Handling.{heard_of, AreRan, runs, HasRun, HasRunAll}
@@ -20,9 +20,6 @@ pub tally_running : (v w : Known) (source : ℕ) → w.part.ran ≡ v.part.ran �
 tally_running v w source r n =
     (λ i. length (calls_from source (r i ++ n i)) % 2 ^ 64) ∙ ap (λ (calls : List Call). length (calls_from source calls) % 2 ^ 64) (append-nil v.part.ran)
 
-one_more : (n len len' : ℕ) → n ≡ len % 2 ^ 64 → len' ≡ len + 1 → (n + 1) % 2 ^ 64 ≡ len' % 2 ^ 64
-one_more n len len' e f = omega arith
-
 -- one call more has run
 pub more_ran : (counts counts' : List ℕ) (v w : Known) (call : Call) → AreRan counts v → call.id < records → w.part.ran ≡ v.part.ran ++ call ∷ [] →
     counts' ≡ set counts (owner call.id) ((get_or counts (owner call.id) 0 + 1) % 2 ^ 64) → AreRan counts' w
@@ -30,7 +27,7 @@ more_ran counts counts' v w call a in_range ran is = rw is (record {
   sized = length-set counts (owner call.id) ((get_or counts (owner call.id) 0 + 1) % 2 ^ 64) ∙ a.sized;
   are = λ source l. elim (cases_eq source (owner call.id)) [
     | inl e ↦ rw e (get_or-set_same counts (owner call.id) ((get_or counts (owner call.id) 0 + 1) % 2 ^ 64) 0 (let s = a.sized in let b = owner-below call.id in_range in omega arith)
-        ∙ one_more (get_or counts (owner call.id) 0) (length (calls_from (owner call.id) v.part.ran)) (length (calls_from (owner call.id) w.part.ran)) (a.are (owner call.id) (owner-below call.id in_range))
+        ∙ count_wraps (get_or counts (owner call.id) 0) (length (calls_from (owner call.id) v.part.ran)) (length (calls_from (owner call.id) w.part.ran)) (a.are (owner call.id) (owner-below call.id in_range))
         (ap (λ (calls : List Call). length (calls_from (owner call.id) calls)) ran ∙ count-same (owner call.id) v.part.ran call refl))
     | inr ne ↦ get_or-set_other counts (owner call.id) source ((get_or counts (owner call.id) 0 + 1) % 2 ^ 64) 0 ne
         ∙ (a.are source l ∙ ap (λ (n : ℕ). n % 2 ^ 64) (sym (ap (λ (calls : List Call). length (calls_from source calls)) ran ∙ count-other source v.part.ran call (λ e. ne (sym e)))))

@@ -1,5 +1,5 @@
 -- What a CPU keeps between two calls stays over each of them.
-use Rattle.std.proofs.Common.{◌≡◌, ℕ, ◌+◌, ◌%◌, ◌^◌, ◌<◌, Bool, true, false, cond, Some, List, [], ◌∷◌, ◌++◌, length, get_or, set, replicate, length-set, length-append, sym, refl, ap, ◌∙◌, subst, inl, inr, arith}
+use Rattle.std.proofs.Common.{◌≡◌, ℕ, ◌+◌, ◌%◌, ◌^◌, ◌<◌, Bool, true, false, cond, List, [], ◌∷◌, ◌++◌, length, get_or, set, replicate, length-set, length-append, sym, refl, ap, ◌∙◌, subst, inl, inr, arith}
 use Rattle.std.proofs.lemmas.List.{append-nil, get_or-set_same, get_or-set_other, length-replicate}
 use Rattle.std.proofs.lemmas.Bool.{cases_eq}
 use Rattle.smp_words.specs.Size.{cpus, records}
@@ -12,7 +12,7 @@ use Rattle.smp_call_steps.proofs.Basics.Rows.{length-row}
 use Rattle.smp_words.proofs.Zeros.{get_or-same}
 use Rattle.smp_queue.specs.Names.{Call, Known, Posting}
 use Rattle.smp_queue.specs.Names.post
-use Rattle.smp_queue.specs.Seat.{IsCounting, uncounted, counted}
+use Rattle.smp_queue.specs.Seat.{IsCounting, uncounted}
 use Rattle.smp_queue.specs.Cpu.{IsKept}
 
 pub kept_fresh : (v : Known) (number : ℕ) → v ≡ fresh number → number < cpus → IsKept v number (replicate cpus 0) (replicate cpus 0)

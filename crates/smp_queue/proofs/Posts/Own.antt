@@ -1,8 +1,9 @@
 -- A CPU's own records, and what a post leaves of its CPU.
-use Rattle.std.proofs.Common.{◌≡◌, ℕ, zero, suc, ◌^◌, ◌<◌, Bool, true, false, not, ◌||◌, ◌==◌, nat_lt, cond, Some, None, List, [], ◌∷◌, ◌++◌, length, length-set, get_or, set, sym, refl, ap, ◌∙◌, subst, arith}
+use Rattle.std.proofs.Common.{◌≡◌, ℕ, zero, suc, ◌^◌, ◌<◌, Bool, true, false, not, ◌||◌, ◌==◌, nat_lt, None, List, [], ◌∷◌, get_or, set, sym, refl, ap, ◌∙◌, arith}
 use Rattle.std.proofs.lemmas.Bool.{or_parts, ltb-true}
 use Rattle.std.proofs.lemmas.List.{get_or-set_same}
 use Rattle.atomic_table.specs.Seated.{TableId}
+use Rattle.smp_call_steps.proofs.Machine.Starts.{then_none, not_false}
 use Rattle.smp_words.specs.Size.{cpus, records, records_of_one, record_of, owner}
 use Rattle.smp_call_steps.specs.Start.{command_refusal}
 use Rattle.smp_call_steps.specs.Stands.{posted}
@@ -12,7 +13,6 @@ use Rattle.smp_words.proofs.Sizes.{owner-of_record, record_of-below}
 use Rattle.smp_queue.specs.Names.{Class, Known, Posting}
 use Rattle.smp_queue.specs.Names.post
 use Rattle.smp_words.specs.declared.command.Command.TheVariants as command
-use Rattle.smp_mask.specs.declared.error.SmpError.{SmpError}
 use Rattle.smp_queue.specs.Cells.{cells}
 use Rattle.smp_queue.specs.Seat.{SeatValue, OwnsRecord, IsMine, uncounted}
 use Rattle.smp_queue.specs.Cpu.{CpuValue, IsKept, MayQueue, cpu_of, confirms, posts}
@@ -28,14 +28,6 @@ at_own table d number k id queued ran m is sized l e =
       owned = owner-of_record number k b l ∙ sym n;
       in_range = record_of-below number k b l;
     })
-
-then_none : (b : Bool) (e : SmpError) → cond b (Some e) None ≡ None → b ≡ false
-then_none true e h = cc
-then_none false e h = refl
-
-not_false : (b : Bool) → not b ≡ false → b ≡ true
-not_false true e = refl
-not_false false e = cc
 
 -- a post that is not misused is by a record of its CPU
 pub small_record : (k to number tries : ℕ) (fits : Bool) → ((((not (nat_lt k records_of_one) || tries == 0) || to == number)) || fits) ≡ false → k < records_of_one

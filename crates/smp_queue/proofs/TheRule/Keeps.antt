@@ -6,6 +6,7 @@ use lib.Seq.{set-get_or}
 use prog.Atomic.{either}
 use Rattle.atomic_table.specs.Table.{State, Me, step, keeps, stepped, Allows, Splits, opening}
 use Rattle.atomic_table.proofs.Lists.{at_set}
+use Rattle.smp_words.proofs.Puts.{put_same, put_other}
 use Rattle.smp_words.specs.Access.{put_if}
 use Rattle.smp_words.specs.Put.{put, put_word}
 use Rattle.smp_call_steps.specs.Calls.{CallState, no_calls}
@@ -13,12 +14,11 @@ use Rattle.smp_call_steps.specs.Stages.{ControlValue}
 use Rattle.smp_call_steps.specs.Value.{outside}
 use Rattle.smp_call_steps.specs.Shows.{Shows}
 use Rattle.smp_call_steps.specs.Known.{Sees, fresh, known_told, known_taking, GoesOn, Lives}
-use Rattle.smp_call_steps.proofs.Steps.Own.{put_same, put_other}
 use Rattle.smp_call_steps.proofs.Knows.OneStep.{known_step}
 use Rattle.smp_call_steps.proofs.Knows.Handling.{lives_on}
 use Rattle.smp_call_steps.proofs.Machine.Starts.{zeros_shown}
 use Rattle.smp_words.proofs.Zeros.{zero_at}
-use Rattle.smp_queue.specs.Names.{Call, Word, Head, Intr, Hand, Queued, Ran, Flags, Func, Info, Next, Access, Load, Store, Swap, Exchange, Known, SeatView}
+use Rattle.smp_queue.specs.Names.{Call, Word, Head, Access, Load, Store, Swap, Exchange, Known, SeatView}
 use Rattle.smp_queue.specs.Names.{Maker, Cpu}
 use Rattle.smp_queue.specs.Names.act
 use Rattle.smp_queue.specs.Cells.{cells, cell_of, number_in}

@@ -1,4 +1,4 @@
-use Rattle.std.proofs.Common.{◌≡◌, rules, sym, ap, ◌∙◌}
+use Rattle.std.proofs.Common.{rules, sym, ap, ◌∙◌}
 use Rattle.smp_call_steps.proofs.Machine.Starts.{online_below}
 use Rattle.smp_queue.proofs.Posts.Own.{at_own, allowed_record, may_queue}
 use Rattle.smp_queue.proofs.table.CallTable.begin_post.Goals as goal
