@@ -112,9 +112,6 @@ module _ (a : CallState) (at : Word → ℕ) (control : ℕ → ControlValue) (m
   queue' : ℕ → List Call
   queue' = put a.queue to (a.queue to ++ call ∷ [])
 
-  sent' : List Sending
-  sent' = a.sent me ++ record { call = call; to = to; is_first = is_nil (a.queue to) } ∷ []
-
   touches : Touches call.id a.place (put a.place call.id (place.Queued to)) at (put_word at (Head to) (call.id + 1))
   touches = record { place_stays = λ u ne. put_other a.place call.id (place.Queued to) u ne; flags = λ _ _. refl; func = λ _ _. refl; info = λ _ _. refl; next = λ _ _. refl }
 
