@@ -31,6 +31,10 @@ pub record IsPlaced (places : ℕ → RecPlace) (at : RecPlace) (call : Call) : 
   pub is_call : IsCall call
   pub placed : places call.id ≡ at
 
+-- these calls, each with its record at this place
+abbrev pub AllPlaced : (ℕ → RecPlace) → RecPlace → List Call → Type 0
+AllPlaced places at calls = AllByRecursion (IsPlaced places at) calls
+
 -- the call that runs, where its record is locked meanwhile
 abbrev pub locked_by : Running → List Call
 locked_by Nothing = []

@@ -6,7 +6,7 @@ use Rattle.smp_words.specs.Size.{cpus, records}
 use Rattle.smp_words.specs.Access.{word_of}
 use Rattle.smp_call_steps.specs.Calls.{CallState, Nothing, SyncCall, CountedCall, AsyncCall}
 use Rattle.smp_call_steps.specs.Drains.{DrainValue, handle_goes, link_to, record_at, first_on, second_on, handle_outcome, drain_after}
-use Rattle.smp_call_steps.specs.Places.{IsPlaced}
+use Rattle.smp_call_steps.specs.Places.{IsPlaced, AllPlaced}
 use Rattle.smp_call_steps.specs.Words.{FlagsShow, bit, nexts_in, last_batch}
 use Rattle.smp_call_steps.specs.Histories.{orders, running_call}
 use Rattle.smp_call_steps.specs.Stages.{ControlValue, access_of, FitsStage}
@@ -95,8 +95,8 @@ module _ (v : Known) (l : Lives v) where
     lives_fits = subst (λ (d : DrainValue). FitsStage d (Handle h) (l.at (word_of (known_access v (Handle h))))) l.sees.drain
         (subst (λ (x : Access). FitsStage (l.controls v.number).drain (Handle h) (l.at (word_of x))) same_access (found_fits l.calls l.at l.controls v.number l.shown (Handle h) at_stage))
 
-    batched : AllByRecursion (IsPlaced l.calls.place (place.Batch v.number)) (share_in v.part).batch
-    batched = subst (λ (s : Share). AllByRecursion (IsPlaced l.calls.place (place.Batch v.number)) s.batch) same_share (l.shown.placed.batched v.number)
+    batched : AllPlaced l.calls.place (place.Batch v.number) (share_in v.part).batch
+    batched = subst (λ (s : Share). AllPlaced l.calls.place (place.Batch v.number) s.batch) same_share (l.shown.placed.batched v.number)
 
   -- a record of the batch that is loaded is locked
   lives_placed : (id : ℕ) (call : Call) → call.id ≡ id → IsPlaced l.calls.place (place.Batch v.number) call → (id < records) × (l.at (Flags id) % 2 ≡ 1)
@@ -109,20 +109,20 @@ module _ (v : Known) (l : Lives v) where
   lives_reversed newer id e =
       let k = lives_stands (handle.ReverseLoad newer id) e in
       let all = every_right (IsPlaced l.calls.place (place.Batch v.number)) k.1.older (k.0 ∷ k.1.newer)
-      (reverses_all (IsPlaced l.calls.place (place.Batch v.number)) (nexts_in l.at) (share_in v.part) v.drain (link_to newer) (l.at (Next id)) k.0 k.1 (batched (handle.ReverseLoad newer id) e)) in
+      (reverses_all (IsPlaced l.calls.place (place.Batch v.number)) k.1 (batched (handle.ReverseLoad newer id) e)) in
       (lives_placed id k.0 k.2 all.0).0
 
   pub lives_locked : (walk : Walk) (id : ℕ) (next : Option ℕ) → v.stage ≡ Some (Handle (handle.LoadFlags walk id next)) → l.at (Flags id) % 2 ≡ 1
   lives_locked walk id next e =
       let k = lives_stands (handle.LoadFlags walk id next) e in
-      let all = walks_rest (IsPlaced l.calls.place (place.Batch v.number)) (nexts_in l.at) (share_in v.part) v.drain walk (id + 1) [] (k.0 ∷ k.1) Nothing k.2 (batched (handle.LoadFlags walk id next) e) in
+      let all = walks_rest (IsPlaced l.calls.place (place.Batch v.number)) k.2 (batched (handle.LoadFlags walk id next) e) in
       (lives_placed id k.0 (same_record id k.0 k.2.leads_on.0) all.0).1
 
   -- the front of the batch is by a record
   pub lives_front : (call : Call) (rest : List Call) → v.part.batch ≡ call ∷ rest → call.id < records
   lives_front call rest e =
-      let all : AllByRecursion (IsPlaced l.calls.place (place.Batch v.number)) (call ∷ rest) = subst (λ (calls : List Call). AllByRecursion (IsPlaced l.calls.place (place.Batch v.number)) calls) e
-      (subst (λ (s : Share). AllByRecursion (IsPlaced l.calls.place (place.Batch v.number)) s.batch) same_share (l.shown.placed.batched v.number)) in
+      let all : AllPlaced l.calls.place (place.Batch v.number) (call ∷ rest) = subst (λ (calls : List Call). AllPlaced l.calls.place (place.Batch v.number) calls) e
+      (subst (λ (s : Share). AllPlaced l.calls.place (place.Batch v.number) s.batch) same_share (l.shown.placed.batched v.number)) in
       all.0.is_call.in_range
 
   -- an interrupt word is 0 or 1

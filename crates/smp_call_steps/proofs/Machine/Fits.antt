@@ -54,7 +54,7 @@ module _ (a : CallState) (at : Word → ℕ) (control : ℕ → ControlValue) (m
       let was = stands_at a at control me s (handle.LoadFunc walk id next) e in
       let k = was.1 in
       let w = walked_words a at control me s walk id k.0 k.1 k.2 in
-      let p = walks_rest (IsPlaced a.place (place.Batch me)) (nexts_in at) (share_of a me) (control me).drain walk (id + 1) [] (k.0 ∷ k.1) Nothing k.2 (s.placed.batched me) in
+      let p = walks_rest (IsPlaced a.place (place.Batch me)) k.2 (s.placed.batched me) in
       let func : at (Func id) ≡ k.0.func = ap (funcs_in at) (sym (same_record id k.0 k.2.leads_on.0)) ∙ w.func_is in
       subst (λ (n : ℕ). n < 2 ^ 16) (sym func) p.0.is_call.func
 
@@ -63,7 +63,7 @@ module _ (a : CallState) (at : Word → ℕ) (control : ℕ → ControlValue) (m
       let was = stands_at a at control me s (handle.AsyncFunc id next) e in
       let k = was.1 in
       let w = ended_words a at control me s id k.0 k.1 k.2 in
-      let p = ends_rest (IsPlaced a.place (place.Batch me)) (nexts_in at) (share_of a me) (control me).drain (id + 1) [] (k.0 ∷ k.1) Nothing k.2 (s.placed.batched me) in
+      let p = ends_rest (IsPlaced a.place (place.Batch me)) k.2 (s.placed.batched me) in
       let func : at (Func id) ≡ k.0.func = ap (funcs_in at) (sym (same_record id k.0 k.2.leads_on.0)) ∙ w.func_is in
       subst (λ (n : ℕ). n < 2 ^ 16) (sym func) p.0.is_call.func
 
@@ -71,21 +71,21 @@ module _ (a : CallState) (at : Word → ℕ) (control : ℕ → ControlValue) (m
   down_fits newer id e =
       let was = stands_at a at control me s (handle.ReverseLoad newer id) e in
       let h = was.1.1 in
-      let all = reverses_all IsRecord (nexts_in at) (share_of a me) (control me).drain (link_to newer) (at (Next id)) was.1.0 h batched_records in
+      let all = reverses_all IsRecord h batched_records in
       chain_fits (nexts_in at) (at (Next id)) h.older (every_left IsRecord h.older (was.1.0 ∷ h.newer) all) h.leads_down
 
   next_fits : (walk : Walk) (id : ℕ) → (control me).stage ≡ Some (Handle (handle.LoadNext walk id)) → at (Next id) ≤ 2 ^ 32
   next_fits walk id e =
       let was = stands_at a at control me s (handle.LoadNext walk id) e in
       let k = was.1 in
-      let all = walks_rest IsRecord (nexts_in at) (share_of a me) (control me).drain walk (id + 1) [] (k.0 ∷ k.1) Nothing k.2 batched_records in
+      let all = walks_rest IsRecord k.2 batched_records in
       subst (λ (n : ℕ). at (Next n) ≤ 2 ^ 32) (same_record id k.0 k.2.leads_on.0) (path_fits (nexts_in at) (at (Next k.0.id)) k.1 all.1 k.2.leads_on.1)
 
   async_next_fits : (id : ℕ) → (control me).stage ≡ Some (Handle (handle.AsyncNext id)) → at (Next id) ≤ 2 ^ 32
   async_next_fits id e =
       let was = stands_at a at control me s (handle.AsyncNext id) e in
       let k = was.1 in
-      let all = ends_rest IsRecord (nexts_in at) (share_of a me) (control me).drain (id + 1) [] (k.0 ∷ k.1) Nothing k.2 batched_records in
+      let all = ends_rest IsRecord k.2 batched_records in
       subst (λ (n : ℕ). at (Next n) ≤ 2 ^ 32) (same_record id k.0 k.2.leads_on.0) (path_fits (nexts_in at) (at (Next k.0.id)) k.1 all.1 k.2.leads_on.1)
 
   -- a batch has no more calls than there are records
@@ -93,7 +93,7 @@ module _ (a : CallState) (at : Word → ℕ) (control : ℕ → ControlValue) (m
   room_fits newer id older e =
       let was = stands_at a at control me s (handle.ReverseStore newer id older) e in
       let h = was.1.1 in
-      let all = reverses_all IsRecord (nexts_in at) (share_of a me) (control me).drain (link_to newer) (link_to older) was.1.0 h batched_records in
+      let all = reverses_all IsRecord h batched_records in
       let short = length-apart records (h.older ++ was.1.0 ∷ h.newer) (subst IsApart h.whole h.apart) all in
       let size = length-append h.older (was.1.0 ∷ h.newer) in
       let k = h.counted in

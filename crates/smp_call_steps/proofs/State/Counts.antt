@@ -8,7 +8,7 @@ use Rattle.smp_call_steps.specs.Calls.{CallState, Running, Nothing}
 use Rattle.smp_call_steps.specs.Counts.{calls_by, batches, async_call, ConfirmedCallsRan}
 use Rattle.smp_call_steps.specs.Histories.{orders, running_call}
 use Rattle.smp_call_steps.specs.Order.{if_sync, if_async, sync_calls, async_calls, order}
-use Rattle.smp_call_steps.specs.Places.{Holds, IsPlaced, locked_by}
+use Rattle.smp_call_steps.specs.Places.{Holds, IsPlaced, locked_by, AllPlaced}
 use Rattle.smp_call_steps.specs.Shows.{Shows}
 use Rattle.smp_call_steps.specs.Stages.{ControlValue}
 use Rattle.smp_call_steps.specs.Stands.{share_of, Share, StandsAt, PostKnows, held_of, held_of_post}
@@ -48,7 +48,7 @@ by-orders id (batch ∷ rest) =
     omega arith
 
 -- a list of calls whose records are elsewhere has none by this record
-none_by : (places : ℕ → RecPlace) (p : RecPlace) (id : ℕ) (calls : List Call) → places id ≢ p → AllByRecursion (IsPlaced places p) calls → calls_by id calls ≡ 0
+none_by : (places : ℕ → RecPlace) (p : RecPlace) (id : ℕ) (calls : List Call) → places id ≢ p → AllPlaced places p calls → calls_by id calls ≡ 0
 none_by places p id [] ne h = refl
 none_by places p id (call ∷ rest) ne h =
     let other : call.id ≢ id = λ e. ne (rw e at h.0.placed) in

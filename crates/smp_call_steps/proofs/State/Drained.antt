@@ -6,7 +6,7 @@ use Rattle.smp_words.specs.Size.{owner}
 use Rattle.smp_call_steps.specs.Calls.{CallState, Holding, Running}
 use Rattle.smp_call_steps.specs.Histories.{Marked, mark, marked, others_marked, batches_marked, history_of, marked_from, sent_to, calls_from, orders, running_call, one_held, counted_call}
 use Rattle.smp_call_steps.specs.Order.{if_sync, if_async, sync_calls, async_calls, order}
-use Rattle.smp_call_steps.specs.Places.{Holds, IsPlaced}
+use Rattle.smp_call_steps.specs.Places.{Holds, IsPlaced, AllPlaced}
 use Rattle.smp_call_steps.specs.Words.{FlagsShow, hands_in}
 use Rattle.smp_call_steps.specs.Shows.{Shows}
 use Rattle.smp_call_steps.specs.Stages.{ControlValue}
@@ -95,7 +95,7 @@ unlocked_free : (p : RecPlace) (flags : ℕ) → FlagsShow p flags → flags % 2
 unlocked_free place.Free flags h ne = refl
 unlocked_free _ flags h ne = absurd (ne h)
 
-none_placed : (places : ℕ → RecPlace) (p : RecPlace) (calls : List Call) → p ≢ place.Free → ((id : ℕ) → places id ≡ place.Free) → AllByRecursion (IsPlaced places p) calls → calls ≡ []
+none_placed : (places : ℕ → RecPlace) (p : RecPlace) (calls : List Call) → p ≢ place.Free → ((id : ℕ) → places id ≡ place.Free) → AllPlaced places p calls → calls ≡ []
 none_placed places p [] ne free h = refl
 none_placed places p (call ∷ rest) ne free h = absurd (ne (sym h.0.placed ∙ free call.id))
 

@@ -9,7 +9,7 @@ use Rattle.smp_call_steps.specs.Calls.{CallState, Running, Nothing, SyncCall, Co
 use Rattle.smp_call_steps.specs.Drains.{DrainValue, link_to}
 use Rattle.smp_words.specs.Layout.{number_in}
 use Rattle.smp_call_steps.specs.Order.{if_sync, if_async, sync_calls, async_calls}
-use Rattle.smp_call_steps.specs.Places.{HasRecord, IsAbsent, IsApart, IsPlaced, IsThere, locked_by}
+use Rattle.smp_call_steps.specs.Places.{HasRecord, IsAbsent, IsApart, IsPlaced, IsThere, locked_by, AllPlaced}
 use Rattle.smp_call_steps.specs.Queues.{HasChain, chain_in, ids}
 use Rattle.smp_call_steps.specs.Shows.{Shows}
 use Rattle.smp_call_steps.specs.Stages.{ControlValue}
@@ -79,7 +79,7 @@ abbrev pub is_on : (ℕ → ℕ) → ℕ → ℕ → Bool
 is_on nexts link id = list_any (λ y. y == id) (chain_in nexts records link)
 
 -- a call that is placed tells its record's place
-pub place_of : (places : ℕ → RecPlace) (p : RecPlace) (id : ℕ) (calls : List Call) → AllByRecursion (IsPlaced places p) calls → HasRecord id calls → places id ≡ p
+pub place_of : (places : ℕ → RecPlace) (p : RecPlace) (id : ℕ) (calls : List Call) → AllPlaced places p calls → HasRecord id calls → places id ≡ p
 place_of places p id [] all h = absurd h
 place_of places p id (call ∷ rest) all (inl e) = rw e at all.0.placed
 place_of places p id (call ∷ rest) all (inr h) = place_of places p id rest all.1 h
@@ -119,14 +119,14 @@ pub record Splits (places : ℕ → RecPlace) (nexts : ℕ → ℕ) (cpu : ℕ) 
   pub leads_down : Leads nexts (down_link stage) down 0
   pub leads_up : Path nexts (up_link stage) up 0
   pub is_between : IsBetween (between_of stage) between
-  pub down_placed : AllByRecursion (IsPlaced places (place.Batch cpu)) down
-  pub up_placed : AllByRecursion (IsPlaced places (place.Batch cpu)) up
-  pub between_placed : AllByRecursion (IsPlaced places (place.Batch cpu)) between
+  pub down_placed : AllPlaced places (place.Batch cpu) down
+  pub up_placed : AllPlaced places (place.Batch cpu) up
+  pub between_placed : AllPlaced places (place.Batch cpu) between
   pub down_apart : IsApart down
   pub up_apart : IsApart up
   pub all : (id : ℕ) → HasRecord id batch → HasRecord id between ⊎ (HasRecord id down ⊎ HasRecord id up)
 
-module _ (places : ℕ → RecPlace) (nexts : ℕ → ℕ) (cpu : ℕ) (s : Share) (placed : AllByRecursion (IsPlaced places (place.Batch cpu)) s.batch) (apart : IsApart s.batch) where
+module _ (places : ℕ → RecPlace) (nexts : ℕ → ℕ) (cpu : ℕ) (s : Share) (placed : AllPlaced places (place.Batch cpu) s.batch) (apart : IsApart s.batch) where
   rests_split : (stage : Option Stage) → down_link stage ≡ 0 → up_link stage ≡ 0 → between_of stage ≡ None → s.batch ≡ [] → Splits places nexts cpu s.batch stage
   rests_split stage d u b e = record {
     down = [];
@@ -151,7 +151,7 @@ module _ (places : ℕ → RecPlace) (nexts : ℕ → ℕ) (cpu : ℕ) (s : Shar
 
   reversed_split : (d : DrainValue) (newer : Option ℕ) (id : ℕ) (older : Option ℕ) (call : Call) → Reverses nexts s d (link_to newer) (link_to older) call → call.id ≡ id → Splits places nexts cpu s.batch (Some (Handle (handle.ReverseStore newer id older)))
   reversed_split d newer id older call h e =
-      let all = reverses_all (IsPlaced places (place.Batch cpu)) nexts s d (link_to newer) (link_to older) call h placed in
+      let all = reverses_all (IsPlaced places (place.Batch cpu)) h placed in
       let right = every_right (IsPlaced places (place.Batch cpu)) h.older (call ∷ h.newer) all in
       let whole : IsApart (h.older ++ call ∷ h.newer) = subst IsApart h.whole h.apart in
       record {
@@ -175,7 +175,7 @@ module _ (places : ℕ → RecPlace) (nexts : ℕ → ℕ) (cpu : ℕ) (s : Shar
 
   reversing_split : (d : DrainValue) (newer : Option ℕ) (id : ℕ) (call : Call) → Reverses nexts s d (link_to newer) (nexts id) call → call.id ≡ id → Splits places nexts cpu s.batch (Some (Handle (handle.ReverseLoad newer id)))
   reversing_split d newer id call h e =
-      let all = reverses_all (IsPlaced places (place.Batch cpu)) nexts s d (link_to newer) (nexts id) call h placed in
+      let all = reverses_all (IsPlaced places (place.Batch cpu)) h placed in
       let left = every_left (IsPlaced places (place.Batch cpu)) h.older (call ∷ h.newer) all in
       let right = every_right (IsPlaced places (place.Batch cpu)) h.older (call ∷ h.newer) all in
       let whole : IsApart (h.older ++ call ∷ h.newer) = subst IsApart h.whole h.apart in
@@ -210,8 +210,8 @@ module _ (places : ℕ → RecPlace) (nexts : ℕ → ℕ) (cpu : ℕ) (s : Shar
         leads_up = rw up (Path-append nexts (link_to walk.first) (async_calls h.passed) rest here 0 h.leads_here h.leads_on);
         is_between = between;
         down_placed = tt;
-        up_placed = every_append (IsPlaced places (place.Batch cpu)) (async_calls h.passed) rest (walks_passed (IsPlaced places (place.Batch cpu)) nexts s d walk here front rest running h placed) (walks_rest (IsPlaced places (place.Batch cpu)) nexts s d walk here front rest running h placed);
-        between_placed = walks_front (IsPlaced places (place.Batch cpu)) nexts s d walk here front rest running h placed;
+        up_placed = every_append (IsPlaced places (place.Batch cpu)) (async_calls h.passed) rest (walks_passed (IsPlaced places (place.Batch cpu)) h placed) (walks_rest (IsPlaced places (place.Batch cpu)) h placed);
+        between_placed = walks_front (IsPlaced places (place.Batch cpu)) h placed;
         down_apart = tt;
         up_apart = apart_append (async_calls h.passed) rest (apart_async h.passed (apart_left h.passed rest whole)) (apart_right h.passed rest whole) (every_async (λ x. IsAbsent x.id rest) h.passed (apart_across h.passed rest whole));
         all = λ u k. elim (has-either u front (sync_calls rest ++ async_calls s.last) (subst (HasRecord u) h.batch k)) [
@@ -235,8 +235,8 @@ module _ (places : ℕ → RecPlace) (nexts : ℕ → ℕ) (cpu : ℕ) (s : Shar
     leads_up = rw up h.leads_on;
     is_between = between;
     down_placed = tt;
-    up_placed = ends_rest (IsPlaced places (place.Batch cpu)) nexts s d here front rest running h placed;
-    between_placed = ends_front (IsPlaced places (place.Batch cpu)) nexts s d here front rest running h placed;
+    up_placed = ends_rest (IsPlaced places (place.Batch cpu)) h placed;
+    between_placed = ends_front (IsPlaced places (place.Batch cpu)) h placed;
     down_apart = tt;
     up_apart = apart_right front rest (subst IsApart h.batch apart);
     all = λ u k. elim (has-either u front rest (subst (HasRecord u) h.batch k)) [ inl x ↦ inl x | inr x ↦ inr (inr x) ];
@@ -264,7 +264,7 @@ module _ (places : ℕ → RecPlace) (nexts : ℕ → ℕ) (cpu : ℕ) (s : Shar
   handle_split d (handle.CountAsync call next) h = ended_split d (link_to next) [] h.0 (AsyncCall call) (Some (Handle (handle.CountAsync call next))) h.1 refl refl refl
   handle_split d handle.Leave h = rests_split (Some (Handle handle.Leave)) refl refl refl h.0.batch
 
-stage_split : (places : ℕ → RecPlace) (at : Word → ℕ) (s : Share) (d : DrainValue) (me : ℕ) (stage : Option Stage) → AllByRecursion (IsPlaced places (place.Batch me)) s.batch → IsApart s.batch → StandsAt places at s d me stage → Splits places (nexts_in at) me s.batch stage
+stage_split : (places : ℕ → RecPlace) (at : Word → ℕ) (s : Share) (d : DrainValue) (me : ℕ) (stage : Option Stage) → AllPlaced places (place.Batch me) s.batch → IsApart s.batch → StandsAt places at s d me stage → Splits places (nexts_in at) me s.batch stage
 stage_split places at s d me None p a h = rests_split places (nexts_in at) me s p a None refl refl refl h.batch
 stage_split places at s d me (Some (Send to)) p a h = rests_split places (nexts_in at) me s p a (Some (Send to)) refl refl refl h.0.batch
 stage_split places at s d me (Some (Done id)) p a h = rests_split places (nexts_in at) me s p a (Some (Done id)) refl refl refl h.0.batch
@@ -298,7 +298,7 @@ module _ (a : CallState) (at : Word → ℕ) (control : ℕ → ControlValue) (s
   splits : Splits a.place (nexts_in at) cpu (a.batch cpu) (control cpu).stage
   splits = stage_split a.place at (share_of a cpu) (control cpu).drain cpu (control cpu).stage (s.placed.batched cpu) (s.placed.batch_apart cpu) (s.stands cpu)
 
-  placed_records : (calls : List Call) → AllByRecursion (IsPlaced a.place (place.Batch cpu)) calls → AllByRecursion (λ call. call.id < records) calls
+  placed_records : (calls : List Call) → AllPlaced a.place (place.Batch cpu) calls → AllByRecursion (λ call. call.id < records) calls
   placed_records calls all = every (IsPlaced a.place (place.Batch cpu)) (λ call. call.id < records) (λ call q. q.is_call.in_range) calls all
 
   up_short : length (turned splits.up) ≤ records
@@ -333,10 +333,10 @@ module _ (a : CallState) (at : Word → ℕ) (control : ℕ → ControlValue) (s
   there : (id : ℕ) (p : RecPlace) → a.place id ≡ p → IsThere a.held a.queue a.batch a.running id p
   there id p e = subst (λ (q : RecPlace). IsThere a.held a.queue a.batch a.running id q) e (s.placed.is_there id)
 
-  this_between : (id : ℕ) (between : Option ℕ) (calls : List Call) → IsBetween between calls → AllByRecursion (IsPlaced a.place (place.Batch cpu)) calls → is_this id between ≡ true → a.place id ≡ place.Batch cpu
+  this_between : (id : ℕ) (between : Option ℕ) (calls : List Call) → IsBetween between calls → AllPlaced a.place (place.Batch cpu) calls → is_this id between ≡ true → a.place id ≡ place.Batch cpu
   this_between id None calls b all t = cc
   this_between id (Some k) calls b all t =
-      let one : AllByRecursion (IsPlaced a.place (place.Batch cpu)) (b.0 ∷ []) = subst (λ (xs : List Call). AllByRecursion (IsPlaced a.place (place.Batch cpu)) xs) b.1 all in
+      let one : AllPlaced a.place (place.Batch cpu) (b.0 ∷ []) = subst (λ (xs : List Call). AllPlaced a.place (place.Batch cpu) xs) b.1 all in
       ap a.place (sym (eqb-true k id t) ∙ sym b.2) ∙ one.0.placed
 
   between_this : (id : ℕ) (between : Option ℕ) (calls : List Call) → IsBetween between calls → HasRecord id calls → is_this id between ≡ true

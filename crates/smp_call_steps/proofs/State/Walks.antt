@@ -91,12 +91,12 @@ all_sync (call ∷ rest) = every_append IsSync (if_sync call.class call) (sync_c
 
 -- what holds of all that is left of a batch
 
-pub reverses_all : (P : Call → Type 0) (nexts : ℕ → ℕ) (s : Share) (d : DrainValue) (up down : ℕ) (call : Call) → (h : Reverses nexts s d up down call) → AllByRecursion P s.batch → AllByRecursion P (h.older ++ call ∷ h.newer)
-reverses_all P nexts s d up down call h all =
+pub reverses_all : (P : Call → Type 0) {nexts : ℕ → ℕ} {s : Share} {d : DrainValue} {up down : ℕ} {call : Call} (h : Reverses nexts s d up down call) → AllByRecursion P s.batch → AllByRecursion P (h.older ++ call ∷ h.newer)
+reverses_all P {s = s} h all =
     let k : AllByRecursion P (sync_calls s.last ++ async_calls s.last) = subst (λ (xs : List Call). AllByRecursion P xs) h.batch all in
     subst (λ (xs : List Call). AllByRecursion P xs) h.whole (every_class P s.last (every_left P (sync_calls s.last) (async_calls s.last) k) (every_right P (sync_calls s.last) (async_calls s.last) k))
 
-module _ (P : Call → Type 0) (nexts : ℕ → ℕ) (s : Share) (d : DrainValue) (walk : Walk) (here : ℕ) (front rest : List Call) (running : Running) (w : Walks nexts s d walk here front rest running) (all : AllByRecursion P s.batch) where
+module _ (P : Call → Type 0) {nexts : ℕ → ℕ} {s : Share} {d : DrainValue} {walk : Walk} {here : ℕ} {front rest : List Call} {running : Running} (w : Walks nexts s d walk here front rest running) (all : AllByRecursion P s.batch) where
   walks_batch : AllByRecursion P (front ++ (sync_calls rest ++ async_calls s.last))
   walks_batch = subst (λ (xs : List Call). AllByRecursion P xs) w.batch all
 
@@ -114,7 +114,7 @@ module _ (P : Call → Type 0) (nexts : ℕ → ℕ) (s : Share) (d : DrainValue
   walks_rest = every_class P rest (every_left P (sync_calls rest) (async_calls s.last) (every_right P front (sync_calls rest ++ async_calls s.last) walks_batch))
       (every_right P (async_calls w.passed) (async_calls rest) walks_async)
 
-module _ (P : Call → Type 0) (nexts : ℕ → ℕ) (s : Share) (d : DrainValue) (here : ℕ) (front rest : List Call) (running : Running) (w : Ends nexts s d here front rest running) (all : AllByRecursion P s.batch) where
+module _ (P : Call → Type 0) {nexts : ℕ → ℕ} {s : Share} {d : DrainValue} {here : ℕ} {front rest : List Call} {running : Running} (w : Ends nexts s d here front rest running) (all : AllByRecursion P s.batch) where
   ends_batch : AllByRecursion P (front ++ rest)
   ends_batch = subst (λ (xs : List Call). AllByRecursion P xs) w.batch all
 
@@ -163,7 +163,7 @@ ends_stay h begun batch now whole batch_is running_is = record {
 pub walks_last : (P : Call → Type 0) (nexts : ℕ → ℕ) (s : Share) (d : DrainValue) (walk : Walk) (last here : ℕ) (rest : List Call) → (w : Walks nexts s d walk here [] rest Nothing) → walk.last ≡ Some last → AllByRecursion P s.batch → (call : Call) × (call.id ≡ last) × P call
 walks_last P nexts s d walk last here rest w e all =
     let end : EndsAt (Some last) (async_calls w.passed) = subst (λ (x : Option ℕ). EndsAt x (async_calls w.passed)) e w.ends_at in
-    (end.1, end.3, every_last P end.0 end.1 (subst (λ (xs : List Call). AllByRecursion P xs) end.2 (walks_passed P nexts s d walk here [] rest Nothing w all)))
+    (end.1, end.3, every_last P end.0 end.1 (subst (λ (xs : List Call). AllByRecursion P xs) end.2 (walks_passed P w all)))
 
 -- a link is to one record
 pub same_record : (id : ℕ) (call : Call) → id + 1 ≡ call.id + 1 → call.id ≡ id

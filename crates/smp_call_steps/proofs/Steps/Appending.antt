@@ -8,8 +8,8 @@ use Rattle.smp_words.specs.Put.{put, put_word}
 use Rattle.smp_words.specs.Size.{owner}
 use Rattle.smp_call_steps.specs.Calls.{CallState, Holding, Sending, appended, is_nil}
 use Rattle.smp_call_steps.specs.Stages.{ControlValue}
-use Rattle.smp_call_steps.specs.Places.{Placed, IsPlaced, IsCall, IsThere, Holds, HasRecord, IsApart, locked_by}
-use Rattle.smp_call_steps.specs.Words.{Written, IsWritten, FlagsShow, Chained, Leads, Linked, LinkIs, Noticed, IsNoticed, is_pending, is_accepted, is_owed, IsEmpty, flags_in, funcs_in, infos_in, nexts_in, heads_in, intrs_in, queued_in, ran_in}
+use Rattle.smp_call_steps.specs.Places.{Placed, IsPlaced, IsCall, IsThere, Holds, HasRecord, IsApart, locked_by, AllPlaced}
+use Rattle.smp_call_steps.specs.Words.{Written, IsWritten, FlagsShow, Chained, Leads, Linked, LinkIs, Noticed, IsNoticed, is_pending, is_accepted, is_owed, IsEmpty, flags_in, funcs_in, infos_in, nexts_in, heads_in, intrs_in, queued_in, ran_in, IsWrittenIn, WrittenIn}
 use Rattle.smp_call_steps.specs.Histories.{Recorded, Tallied, Marked, mark, sent_to, marked_from, history_of, one_held}
 use Rattle.smp_call_steps.specs.Stands.{Stands, share_of, held_of, HandIs}
 use Rattle.smp_call_steps.specs.Shows.{Shows}
@@ -99,7 +99,7 @@ held_same (Some x) call to u e h = let f : x ≡ record { call = call; to = to; 
 
 module _ (a : CallState) (at : Word → ℕ) (control : ℕ → ControlValue) (me to : ℕ) (call : Call) (next : ControlValue) (s : Shows a at control)
     (own : owner call.id ≡ me) (holds : a.held me ≡ counted_hold call to) (is_call : IsCall call) (placed : a.place call.id ≡ place.Held)
-    (written : IsWritten (flags_in at) (funcs_in at) (infos_in at) call) (link : at (Next call.id) ≡ at (Head to)) where
+    (written : IsWrittenIn at call) (link : at (Next call.id) ≡ at (Head to)) where
   places' : ℕ → RecPlace
   places' = put a.place call.id (place.Queued to)
 
@@ -127,7 +127,7 @@ module _ (a : CallState) (at : Word → ℕ) (control : ℕ → ControlValue) (m
   running_else : (cpu : ℕ) → place.Running cpu ≢ place.Held
   running_else cpu e = cc
 
-  still : (p : RecPlace) → p ≢ place.Held → (calls : List Call) → AllByRecursion (IsPlaced a.place p) calls → AllByRecursion (IsPlaced (put a.place call.id (place.Queued to)) p) calls
+  still : (p : RecPlace) → p ≢ place.Held → (calls : List Call) → AllPlaced a.place p calls → AllPlaced (put a.place call.id (place.Queued to)) p calls
   still p ne = every (IsPlaced a.place p) (IsPlaced (put a.place call.id (place.Queued to)) p) (λ c q. record { is_call = q.is_call; placed = put_other a.place call.id (place.Queued to) c.id (not_held p c.id q.placed ne) ∙ q.placed })
 
   there_else : (u : ℕ) (p : RecPlace) → u ≢ call.id → IsThere a.held a.queue a.batch a.running u p → IsThere (put a.held me None) (put a.queue to (a.queue to ++ call ∷ [])) a.batch a.running u p
@@ -141,7 +141,7 @@ module _ (a : CallState) (at : Word → ℕ) (control : ℕ → ControlValue) (m
 
   placed' : Placed (put a.place call.id (place.Queued to)) (put a.held me None) (put a.queue to (a.queue to ++ call ∷ [])) a.batch a.running (put a.confirmed me (put (a.confirmed me) call.id false))
   placed' = record {
-    queued = λ cpu. at_test cpu to (λ b. AllByRecursion (IsPlaced (put a.place call.id (place.Queued to)) (place.Queued cpu)) (cond b (a.queue to ++ call ∷ []) (a.queue cpu)))
+    queued = λ cpu. at_test cpu to (λ b. AllPlaced (put a.place call.id (place.Queued to)) (place.Queued cpu) (cond b (a.queue to ++ call ∷ []) (a.queue cpu)))
         (λ e. rw e (every_push (IsPlaced (put a.place call.id (place.Queued to)) (place.Queued to)) (a.queue to) call (still (place.Queued to) (queued_else to) (a.queue to) (s.placed.queued to)) (record { is_call = is_call; placed = put_same a.place call.id (place.Queued to) })))
         (λ _. still (place.Queued cpu) (queued_else cpu) (a.queue cpu) (s.placed.queued cpu));
     batched = λ cpu. still (place.Batch cpu) (batch_else cpu) (a.batch cpu) (s.placed.batched cpu);
@@ -161,12 +161,12 @@ module _ (a : CallState) (at : Word → ℕ) (control : ℕ → ControlValue) (m
         (λ ns e. elim (s.placed.settled source u o e) [ inl free ↦ inl (put_other a.place call.id (place.Queued to) u (λ eu. ns (sym o ∙ (ap owner eu ∙ own))) ∙ free) | inr hold ↦ inr hold ]);
   }
 
-  written' : Written (flags_in at) (funcs_in at) (infos_in at) (put a.place call.id (place.Queued to)) (put a.queue to (a.queue to ++ call ∷ [])) a.batch a.running
+  written' : WrittenIn at (put a.place call.id (place.Queued to)) (put a.queue to (a.queue to ++ call ∷ [])) a.batch a.running
   written' = record {
     locks = λ u. at_test u call.id (λ b. FlagsShow (cond b (place.Queued to) (a.place u)) (at (Flags u)))
         (λ e. rw e (let f : FlagsShow place.Held (at (Flags call.id)) = rw placed at (s.written.locks call.id) in f)) (λ _. s.written.locks u);
-    queued = λ cpu. at_test cpu to (λ b. AllByRecursion (IsWritten (flags_in at) (funcs_in at) (infos_in at)) (cond b (a.queue to ++ call ∷ []) (a.queue cpu)))
-        (λ _. every_push (IsWritten (flags_in at) (funcs_in at) (infos_in at)) (a.queue to) call (s.written.queued to) written) (λ _. s.written.queued cpu);
+    queued = λ cpu. at_test cpu to (λ b. AllByRecursion (IsWrittenIn at) (cond b (a.queue to ++ call ∷ []) (a.queue cpu)))
+        (λ _. every_push (IsWrittenIn at) (a.queue to) call (s.written.queued to) written) (λ _. s.written.queued cpu);
     batched = s.written.batched;
     runs = s.written.runs;
   }

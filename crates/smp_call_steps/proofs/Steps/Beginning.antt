@@ -8,8 +8,8 @@ use Rattle.smp_call_steps.specs.Calls.{CallState, Holding, Running, Nothing, Syn
 use Rattle.smp_call_steps.specs.Order.{sync_calls, async_calls}
 use Rattle.smp_call_steps.specs.Drains.{DrainValue}
 use Rattle.smp_call_steps.specs.Stages.{ControlValue}
-use Rattle.smp_call_steps.specs.Places.{IsApart, HasRecord, IsPlaced, IsThere, Placed, locked_by}
-use Rattle.smp_call_steps.specs.Words.{FlagsShow, IsWritten, Written, last_batch, flags_in, funcs_in, infos_in, queued_in, ran_in}
+use Rattle.smp_call_steps.specs.Places.{IsApart, HasRecord, IsPlaced, IsThere, Placed, locked_by, AllPlaced}
+use Rattle.smp_call_steps.specs.Words.{FlagsShow, IsWritten, Written, last_batch, flags_in, funcs_in, infos_in, queued_in, ran_in, IsWrittenIn}
 use Rattle.smp_call_steps.specs.Histories.{orders, running_call, counted_call, Recorded, Tallied}
 use Rattle.smp_call_steps.specs.Stands.{share_of, Stands, HandIs}
 use Rattle.smp_call_steps.specs.Shows.{Shows}
@@ -35,11 +35,11 @@ module _ (a : CallState) (at : Word → ℕ) (control : ℕ → ControlValue) (m
     abbrev begun : CallState
     begun = record a { place = put a.place call.id to; batch = put a.batch me rest; running = put a.running me r }
 
-    all_placed : AllByRecursion (IsPlaced a.place (place.Batch me)) (call ∷ rest)
-    all_placed = subst (λ (xs : List Call). AllByRecursion (IsPlaced a.place (place.Batch me)) xs) front (s.placed.batched me)
+    all_placed : AllPlaced a.place (place.Batch me) (call ∷ rest)
+    all_placed = subst (λ (xs : List Call). AllPlaced a.place (place.Batch me) xs) front (s.placed.batched me)
 
-    all_written : AllByRecursion (IsWritten (flags_in at) (funcs_in at) (infos_in at)) (call ∷ rest)
-    all_written = subst (λ (xs : List Call). AllByRecursion (IsWritten (flags_in at) (funcs_in at) (infos_in at)) xs) front (s.written.batched me)
+    all_written : AllByRecursion (IsWrittenIn at) (call ∷ rest)
+    all_written = subst (λ (xs : List Call). AllByRecursion (IsWrittenIn at) xs) front (s.written.batched me)
 
     apart : IsApart (call ∷ rest)
     apart = subst IsApart front (s.placed.batch_apart me)
@@ -54,15 +54,15 @@ module _ (a : CallState) (at : Word → ℕ) (control : ℕ → ControlValue) (m
         (λ cpu ne. leaves_others me call.id a.place (put a.place call.id to) at at' (subst (Minds me call.id) (sym here) refl) t cpu ne)
         stands
 
-    begun_placed : AllByRecursion (IsPlaced (put a.place call.id to) (place.Running me)) (locked_by r) → IsThere a.held a.queue begun.batch begun.running call.id to →
+    begun_placed : AllPlaced (put a.place call.id to) (place.Running me) (locked_by r) → IsThere a.held a.queue begun.batch begun.running call.id to →
         Placed (put a.place call.id to) a.held a.queue (put a.batch me rest) (put a.running me r) a.confirmed
     begun_placed runs there = placed_moved a.place call.id (place.Batch me) to here a.held a.queue a.batch (put a.batch me rest) a.running (put a.running me r) a.confirmed
         (Batch≢Free me) (λ cpu. Queued≢Batch cpu me) s.placed
-        (λ cpu. at_test cpu me (λ b. AllByRecursion (IsPlaced (put a.place call.id to) (place.Batch cpu)) (cond b rest (a.batch cpu)))
-        (λ e. subst (λ (k : ℕ). AllByRecursion (IsPlaced (put a.place call.id to) (place.Batch k)) rest) (sym e) (all_placed_apart a.place call.id (place.Batch me) to here (place.Batch me) rest apart.0 all_placed.1))
+        (λ cpu. at_test cpu me (λ b. AllPlaced (put a.place call.id to) (place.Batch cpu) (cond b rest (a.batch cpu)))
+        (λ e. subst (λ (k : ℕ). AllPlaced (put a.place call.id to) (place.Batch k) rest) (sym e) (all_placed_apart a.place call.id (place.Batch me) to here (place.Batch me) rest apart.0 all_placed.1))
         (λ ne. all_placed_still a.place call.id (place.Batch me) to here (place.Batch cpu) (a.batch cpu) (Batch≢Batch cpu me ne) (s.placed.batched cpu)))
-        (λ cpu. at_test cpu me (λ b. AllByRecursion (IsPlaced (put a.place call.id to) (place.Running cpu)) (locked_by (cond b r (a.running cpu))))
-        (λ e. subst (λ (k : ℕ). AllByRecursion (IsPlaced (put a.place call.id to) (place.Running k)) (locked_by r)) (sym e) runs)
+        (λ cpu. at_test cpu me (λ b. AllPlaced (put a.place call.id to) (place.Running cpu) (locked_by (cond b r (a.running cpu))))
+        (λ e. subst (λ (k : ℕ). AllPlaced (put a.place call.id to) (place.Running k) (locked_by r)) (sym e) runs)
         (λ _. all_placed_still a.place call.id (place.Batch me) to here (place.Running cpu) (locked_by (a.running cpu)) (Running≢Batch cpu me) (s.placed.runs cpu)))
         (λ cpu. at_test cpu me (λ b. IsApart (cond b rest (a.batch cpu))) (λ _. apart.1) (λ _. s.placed.batch_apart cpu))
         there
@@ -174,7 +174,7 @@ module _ (a : CallState) (at : Word → ℕ) (control : ℕ → ControlValue) (m
       let held = holds_nothing a at control me s (handle.BeginAsync call next) e in
       let at' : Word → ℕ = put_word at (Flags call.id) 0 in
       let c : ControlValue = record { stage = Some (Handle (handle.CountAsync call next)); drain = d } in
-      let front : AllByRecursion (IsPlaced a.place (place.Batch me)) (call ∷ rest) = subst (λ (xs : List Call). AllByRecursion (IsPlaced a.place (place.Batch me)) xs) k.batch (s.placed.batched me) in
+      let front : AllPlaced a.place (place.Batch me) (call ∷ rest) = subst (λ (xs : List Call). AllPlaced a.place (place.Batch me) xs) k.batch (s.placed.batched me) in
       let shown : Shows (begins_async a me (call ∷ rest)) at' (put control me c) =
       begun_async next call rest c k.batch k.running_is held (hand_at a at control me s (handle.BeginAsync call next) e) refl (
         was.0,

@@ -7,8 +7,8 @@ use Rattle.smp_words.specs.Put.{put, put_word}
 use Rattle.smp_call_steps.specs.Calls.{CallState, Holding, Running, Nothing, CountedCall, counts, ends_sync, ends_async, releases, unlocks}
 use Rattle.smp_call_steps.specs.Drains.{DrainValue, second_on, first_on}
 use Rattle.smp_call_steps.specs.Stages.{ControlValue}
-use Rattle.smp_call_steps.specs.Places.{HasRecord, IsPlaced, IsThere, Placed, locked_by}
-use Rattle.smp_call_steps.specs.Words.{IsWritten, Written, last_batch, flags_in, funcs_in, infos_in, nexts_in, queued_in, ran_in}
+use Rattle.smp_call_steps.specs.Places.{HasRecord, IsPlaced, IsThere, Placed, locked_by, AllPlaced}
+use Rattle.smp_call_steps.specs.Words.{IsWritten, Written, last_batch, flags_in, funcs_in, infos_in, nexts_in, queued_in, ran_in, IsWrittenIn}
 use Rattle.smp_call_steps.specs.Histories.{orders, running_call, counted_call, Recorded, Tallied}
 use Rattle.smp_call_steps.specs.Stands.{Share, share_of, Stands, HandIs, held_of}
 use Rattle.smp_call_steps.specs.Shows.{Shows}
@@ -59,7 +59,7 @@ module _ (a : CallState) (at : Word → ℕ) (control : ℕ → ControlValue) (m
       placed = record {
         queued = s.placed.queued;
         batched = s.placed.batched;
-        runs = λ cpu. subst (AllByRecursion (IsPlaced a.place (place.Running cpu))) (sym (same_locked cpu)) (s.placed.runs cpu);
+        runs = λ cpu. subst (AllPlaced a.place (place.Running cpu)) (sym (same_locked cpu)) (s.placed.runs cpu);
         queue_apart = s.placed.queue_apart;
         batch_apart = s.placed.batch_apart;
         is_there = λ id. there_running a.held a.queue a.batch a.running (put a.running me r) same_locked id (a.place id) (s.placed.is_there id);
@@ -69,7 +69,7 @@ module _ (a : CallState) (at : Word → ℕ) (control : ℕ → ControlValue) (m
         locks = s.written.locks;
         queued = s.written.queued;
         batched = s.written.batched;
-        runs = λ cpu. subst (AllByRecursion (IsWritten (flags_in at) (funcs_in at) (infos_in at))) (sym (same_locked cpu)) (s.written.runs cpu);
+        runs = λ cpu. subst (AllByRecursion (IsWrittenIn at)) (sym (same_locked cpu)) (s.written.runs cpu);
       };
       chained = s.chained;
       links = s.links;
@@ -132,8 +132,8 @@ module _ (a : CallState) (at : Word → ℕ) (control : ℕ → ControlValue) (m
 
   -- the record of the SYNC call that ran is free
   module _ (call : Call) (running : a.running me ≡ CountedCall call) where
-    here_call : AllByRecursion (IsPlaced a.place (place.Running me)) (call ∷ [])
-    here_call = subst (λ (x : Running). AllByRecursion (IsPlaced a.place (place.Running me)) (locked_by x)) running (s.placed.runs me)
+    here_call : AllPlaced a.place (place.Running me) (call ∷ [])
+    here_call = subst (λ (x : Running). AllPlaced a.place (place.Running me) (locked_by x)) running (s.placed.runs me)
 
     here : a.place call.id ≡ place.Running me
     here = here_call.0.placed
@@ -142,7 +142,7 @@ module _ (a : CallState) (at : Word → ℕ) (control : ℕ → ControlValue) (m
     end_placed = placed_moved a.place call.id (place.Running me) place.Free here a.held a.queue a.batch a.batch a.running (put a.running me Nothing) a.confirmed
         (Running≢Free me) (λ cpu. Queued≢Running cpu me) s.placed
         (λ cpu. all_placed_still a.place call.id (place.Running me) place.Free here (place.Batch cpu) (a.batch cpu) (Batch≢Running cpu me) (s.placed.batched cpu))
-        (λ cpu. at_test cpu me (λ b. AllByRecursion (IsPlaced (put a.place call.id place.Free) (place.Running cpu)) (locked_by (cond b Nothing (a.running cpu))))
+        (λ cpu. at_test cpu me (λ b. AllPlaced (put a.place call.id place.Free) (place.Running cpu) (locked_by (cond b Nothing (a.running cpu))))
         (λ _. tt)
         (λ ne. all_placed_still a.place call.id (place.Running me) place.Free here (place.Running cpu) (locked_by (a.running cpu)) (Running≢Running cpu me ne) (s.placed.runs cpu)))
         s.placed.batch_apart

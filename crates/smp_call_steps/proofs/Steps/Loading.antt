@@ -6,7 +6,7 @@ use Rattle.smp_words.specs.Flags.{flags_of, class_of}
 use Rattle.smp_call_steps.specs.Calls.{CallState, Nothing, confirms}
 use Rattle.smp_call_steps.specs.Drains.{link_to, record_at, by_class, unlink_after}
 use Rattle.smp_call_steps.specs.Stages.{ControlValue}
-use Rattle.smp_call_steps.specs.Words.{Path, IsWritten, flags_in, funcs_in, infos_in, nexts_in, hands_in}
+use Rattle.smp_call_steps.specs.Words.{Path, IsWritten, flags_in, funcs_in, infos_in, nexts_in, hands_in, IsWrittenIn}
 use Rattle.smp_call_steps.specs.Stands.{share_of, Reverses, Walks, Ends, Stands, HandIs, held_of}
 use Rattle.smp_call_steps.specs.Shows.{Shows}
 use Rattle.smp_call_steps.proofs.Steps.Frames.{leaves_all}
@@ -51,11 +51,11 @@ module _ (a : CallState) (at : Word → ℕ) (control : ℕ → ControlValue) (m
   }
 
   -- the words of the call that is loaded now
-  pub walked_words : (walk : Walk) (id : ℕ) (call : Call) (rest : List Call) → Walks (nexts_in at) (share_of a me) (control me).drain walk (id + 1) [] (call ∷ rest) Nothing → IsWritten (flags_in at) (funcs_in at) (infos_in at) call
-  walked_words walk id call rest h = let all = walks_rest (IsWritten (flags_in at) (funcs_in at) (infos_in at)) (nexts_in at) (share_of a me) (control me).drain walk (id + 1) [] (call ∷ rest) Nothing h (s.written.batched me) in all.0
+  pub walked_words : (walk : Walk) (id : ℕ) (call : Call) (rest : List Call) → Walks (nexts_in at) (share_of a me) (control me).drain walk (id + 1) [] (call ∷ rest) Nothing → IsWrittenIn at call
+  walked_words walk id call rest h = let all = walks_rest (IsWrittenIn at) h (s.written.batched me) in all.0
 
-  pub ended_words : (id : ℕ) (call : Call) (rest : List Call) → Ends (nexts_in at) (share_of a me) (control me).drain (id + 1) [] (call ∷ rest) Nothing → IsWritten (flags_in at) (funcs_in at) (infos_in at) call
-  ended_words id call rest h = let all = ends_rest (IsWritten (flags_in at) (funcs_in at) (infos_in at)) (nexts_in at) (share_of a me) (control me).drain (id + 1) [] (call ∷ rest) Nothing h (s.written.batched me) in all.0
+  pub ended_words : (id : ℕ) (call : Call) (rest : List Call) → Ends (nexts_in at) (share_of a me) (control me).drain (id + 1) [] (call ∷ rest) Nothing → IsWrittenIn at call
+  ended_words id call rest h = let all = ends_rest (IsWrittenIn at) h (s.written.batched me) in all.0
 
   -- a load of a next word tells nothing
 

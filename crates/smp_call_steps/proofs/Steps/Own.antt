@@ -6,8 +6,8 @@ use Rattle.smp_words.specs.Put.{put}
 use Rattle.smp_words.specs.Size.{owner}
 use Rattle.smp_call_steps.specs.Calls.{CallState, Holding}
 use Rattle.smp_call_steps.specs.Stages.{ControlValue}
-use Rattle.smp_call_steps.specs.Places.{Placed, IsPlaced, IsThere, Holds, locked_by}
-use Rattle.smp_call_steps.specs.Words.{Written, IsWritten, FlagsShow, Chained, Linked, LinkIs, Noticed, flags_in, funcs_in, infos_in, nexts_in, heads_in, intrs_in, queued_in, ran_in}
+use Rattle.smp_call_steps.specs.Places.{Placed, IsPlaced, IsThere, Holds, locked_by, AllPlaced}
+use Rattle.smp_call_steps.specs.Words.{Written, IsWritten, FlagsShow, Chained, Linked, LinkIs, Noticed, flags_in, funcs_in, infos_in, nexts_in, heads_in, intrs_in, queued_in, ran_in, IsWrittenIn, WrittenIn}
 use Rattle.smp_call_steps.specs.Histories.{Tallied}
 use Rattle.smp_call_steps.specs.Stands.{Stands, StandsAt, share_of, held_of, held_of_post, HandIs}
 use Rattle.smp_call_steps.specs.Shows.{Shows}
@@ -87,10 +87,10 @@ module _ (a : CallState) (at at' : Word → ℕ) (control : ℕ → ControlValue
   elsewhere : (u : ℕ) (p : RecPlace) → a.place u ≡ p → (IsHome p → ⊥) → u ≢ id
   elsewhere u p e away f = away (subst IsHome (sym (ap a.place f) ∙ e) o.before)
 
-  placed_else : (p : RecPlace) → (IsHome p → ⊥) → (calls : List Call) → AllByRecursion (IsPlaced a.place p) calls → AllByRecursion (IsPlaced places' p) calls
+  placed_else : (p : RecPlace) → (IsHome p → ⊥) → (calls : List Call) → AllPlaced a.place p calls → AllPlaced places' p calls
   placed_else p away = every (IsPlaced a.place p) (IsPlaced places' p) (λ call q. record { is_call = q.is_call; placed = o.touches.place_stays call.id (elsewhere call.id p q.placed away) ∙ q.placed })
 
-  written_else : (p : RecPlace) → (IsHome p → ⊥) → (calls : List Call) → AllByRecursion (IsPlaced a.place p) calls → AllByRecursion (IsWritten (flags_in at) (funcs_in at) (infos_in at)) calls → AllByRecursion (IsWritten (flags_in at') (funcs_in at') (infos_in at')) calls
+  written_else : (p : RecPlace) → (IsHome p → ⊥) → (calls : List Call) → AllPlaced a.place p calls → AllByRecursion (IsWrittenIn at) calls → AllByRecursion (IsWrittenIn at') calls
   written_else p away [] q w = tt
   written_else p away (call ∷ rest) q w =
       let placed = q.0 in let written = w.0 in
@@ -139,7 +139,7 @@ module _ (a : CallState) (at at' : Word → ℕ) (control : ℕ → ControlValue
     ];
   }
 
-  written' : Written (flags_in at') (funcs_in at') (infos_in at') places' a.queue a.batch a.running
+  written' : WrittenIn at' places' a.queue a.batch a.running
   written' = record {
     locks = λ u. elim (cases_eq u id) [
       | inl e ↦ subst (λ (k : ℕ). FlagsShow (places' k) (at' (Flags k))) (sym e) o.flags

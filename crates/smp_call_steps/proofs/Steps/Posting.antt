@@ -10,7 +10,7 @@ use Rattle.smp_call_steps.specs.Posts.{ends, goes_to}
 use Rattle.smp_call_steps.specs.Drains.{DrainValue}
 use Rattle.smp_call_steps.specs.Stages.{ControlValue}
 use Rattle.smp_call_steps.specs.Places.{Holds}
-use Rattle.smp_call_steps.specs.Words.{IsWritten, FlagsShow, LinkIs, flags_in, funcs_in, infos_in, nexts_in, queued_in, ran_in}
+use Rattle.smp_call_steps.specs.Words.{IsWritten, FlagsShow, LinkIs, flags_in, funcs_in, infos_in, nexts_in, queued_in, ran_in, IsWrittenIn}
 use Rattle.smp_call_steps.specs.Histories.{Tallied, sent_to, one_held}
 use Rattle.smp_call_steps.specs.Stands.{Rests, Stands, StandsAt, PostStands, PostKnows, PostGoes, posted, share_of, held_of, held_of_post, holding, HandIs}
 use Rattle.smp_call_steps.specs.Shows.{Shows}
@@ -289,7 +289,7 @@ module _ (a : CallState) (at : Word → ℕ) (control : ℕ → ControlValue) (m
   pub head_step : (p : Posting) → (control me).stage ≡ Some (Post p post.LoadHead) → StepShows a at control me (Post p post.LoadHead)
   head_step p e = let was = was_at p post.LoadHead e in goes_on p post.LoadHead (post.StoreNext (at (Head p.to)) p.tries) e refl was.goes was.knows
 
-  link_here : (p : Posting) (link : ℕ) (st : PostStage) (h : Option Holding) → (control me).stage ≡ Some (Post p st) → h ≡ Some (holding p p.func p.info p.to true) → a.held me ≡ h → a.place p.id ≡ place.Held → IsWritten (flags_in at) (funcs_in at) (infos_in at) (posted p) → PostGoes p (post.Exchange link 0) →
+  link_here : (p : Posting) (link : ℕ) (st : PostStage) (h : Option Holding) → (control me).stage ≡ Some (Post p st) → h ≡ Some (holding p p.func p.info p.to true) → a.held me ≡ h → a.place p.id ≡ place.Held → IsWrittenIn at (posted p) → PostGoes p (post.Exchange link 0) →
       (tries : ℕ) → Shows (links a me (Some link) h) (put_word at (Next p.id) link) (put control me (to_stage (Some (Post p (post.Exchange link tries)))))
   link_here p link st h e is held placed written goes tries =
       let r = post_rests p st e in

@@ -7,7 +7,7 @@ use Rattle.smp_call_steps.specs.Order.{async_calls}
 use Rattle.smp_call_steps.specs.Calls.{CallState, Holding, Nothing, links}
 use Rattle.smp_call_steps.specs.Drains.{link_to, reverse_on}
 use Rattle.smp_call_steps.specs.Stages.{ControlValue}
-use Rattle.smp_call_steps.specs.Places.{IsAbsent, IsApart, Holds, IsPlaced}
+use Rattle.smp_call_steps.specs.Places.{IsAbsent, IsApart, Holds, IsPlaced, AllPlaced}
 use Rattle.smp_call_steps.specs.Words.{Leads, Path, nexts_in, hands_in}
 use Rattle.smp_call_steps.specs.Stands.{share_of, EndsAt, Stands, HandIs, held_of}
 use Rattle.smp_call_steps.specs.Shows.{Shows}
@@ -76,7 +76,7 @@ module _ (a : CallState) (at : Word → ℕ) (control : ℕ → ControlValue) (m
       let held = holds_nothing a at control me s (handle.ReverseStore newer id older) e in
       let n : ℕ = link_to newer in
       let c : ControlValue = record { stage = Some (Handle (reverse_on (Some id) older)); drain = record { calls = (control me).drain.calls + 1 } } in
-      let all = reverses_all (IsPlaced a.place (place.Batch me)) (nexts_in at) (share_of a me) (control me).drain (link_to newer) (link_to older) call h (s.placed.batched me) in
+      let all = reverses_all (IsPlaced a.place (place.Batch me)) h (s.placed.batched me) in
       let mine = every_right (IsPlaced a.place (place.Batch me)) h.older (call ∷ h.newer) all in
       let here : a.place id ≡ place.Batch me = ap a.place (sym same) ∙ mine.0.placed in
       let apart : IsApart (h.older ++ call ∷ h.newer) = subst IsApart h.whole h.apart in
@@ -108,8 +108,8 @@ module _ (a : CallState) (at : Word → ℕ) (control : ℕ → ControlValue) (m
       let newest : Call = end.1 in
       let parts : async_calls h.passed ≡ front ++ newest ∷ [] = end.2 in
       let same : newest.id ≡ last = end.3 in
-      let all = walks_passed (IsPlaced a.place (place.Batch me)) (nexts_in at) (share_of a me) (control me).drain walk (call.id + 1) [] (call ∷ rest) Nothing h (s.placed.batched me) in
-      let mine : IsPlaced a.place (place.Batch me) newest = every_last (IsPlaced a.place (place.Batch me)) front newest (subst (λ (xs : List Call). AllByRecursion (IsPlaced a.place (place.Batch me)) xs) parts all) in
+      let all = walks_passed (IsPlaced a.place (place.Batch me)) h (s.placed.batched me) in
+      let mine : IsPlaced a.place (place.Batch me) newest = every_last (IsPlaced a.place (place.Batch me)) front newest (subst (λ (xs : List Call). AllPlaced a.place (place.Batch me) xs) parts all) in
       let here : a.place last ≡ place.Batch me = ap a.place (sym same) ∙ mine.placed in
       let apart : IsApart (h.passed ++ call ∷ rest) = subst IsApart h.whole h.apart in
       let asyncs : IsApart (front ++ newest ∷ []) = subst IsApart parts (apart_async h.passed (apart_left h.passed (call ∷ rest) apart)) in

@@ -7,8 +7,8 @@ use Rattle.smp_call_steps.specs.Order.{order}
 use Rattle.smp_call_steps.specs.Calls.{CallState, Running, Nothing, place_taken, takes}
 use Rattle.smp_call_steps.specs.Drains.{no_drain, record_at, reverse_on}
 use Rattle.smp_call_steps.specs.Stages.{ControlValue}
-use Rattle.smp_call_steps.specs.Places.{IsApart, HasRecord, IsPlaced, IsThere, Placed, locked_by}
-use Rattle.smp_call_steps.specs.Words.{Leads, FlagsShow, IsWritten, Written, Chained, last_batch, IsEmpty, IsNoticed, is_pending, is_accepted, is_owed, Noticed, flags_in, funcs_in, infos_in, nexts_in, heads_in, intrs_in}
+use Rattle.smp_call_steps.specs.Places.{IsApart, HasRecord, IsPlaced, IsThere, Placed, locked_by, AllPlaced}
+use Rattle.smp_call_steps.specs.Words.{Leads, FlagsShow, IsWritten, Written, Chained, last_batch, IsEmpty, IsNoticed, is_pending, is_accepted, is_owed, Noticed, flags_in, funcs_in, infos_in, nexts_in, heads_in, intrs_in, IsWrittenIn, WrittenIn}
 use Rattle.smp_call_steps.specs.Histories.{marked, batches_marked, history_of, marked_from, sent_to, orders, running_call, Recorded}
 use Rattle.smp_call_steps.specs.Stands.{Share, share_of}
 use Rattle.smp_call_steps.specs.Shows.{Shows}
@@ -96,10 +96,10 @@ module _ (a : CallState) (at : Word → ℕ) (me : ℕ) where
 
   placed_taken : a.batch me ≡ [] → Placed a.place a.held a.queue a.batch a.running a.confirmed → Placed place' a.held queue' batch' a.running a.confirmed
   placed_taken none p = record {
-    queued = λ cpu. at_test cpu me (λ b. AllByRecursion (IsPlaced place' (place.Queued cpu)) (cond b [] (a.queue cpu))) (λ _. tt)
+    queued = λ cpu. at_test cpu me (λ b. AllPlaced place' (place.Queued cpu) (cond b [] (a.queue cpu))) (λ _. tt)
         (λ ne. every (IsPlaced a.place (place.Queued cpu)) (IsPlaced place' (place.Queued cpu)) (λ call h. record { is_call = h.is_call; placed = ap (place_taken me) h.placed ∙ taken_else me cpu ne }) (a.queue cpu) (p.queued cpu));
-    batched = λ cpu. at_test cpu me (λ b. AllByRecursion (IsPlaced place' (place.Batch cpu)) (cond b (order (a.queue me)) (a.batch cpu)))
-        (λ e. subst (λ (k : ℕ). AllByRecursion (IsPlaced place' (place.Batch k)) (order (a.queue me))) (sym e)
+    batched = λ cpu. at_test cpu me (λ b. AllPlaced place' (place.Batch cpu) (cond b (order (a.queue me)) (a.batch cpu)))
+        (λ e. subst (λ (k : ℕ). AllPlaced place' (place.Batch k) (order (a.queue me))) (sym e)
         (every_order (IsPlaced place' (place.Batch me)) (a.queue me)
         (every (IsPlaced a.place (place.Queued me)) (IsPlaced place' (place.Batch me)) (λ call h. record { is_call = h.is_call; placed = ap (place_taken me) h.placed ∙ taken_here me }) (a.queue me) (p.queued me))))
         (λ _. every (IsPlaced a.place (place.Batch cpu)) (IsPlaced place' (place.Batch cpu)) (moved (place.Batch cpu)) (a.batch cpu) (p.batched cpu));
@@ -110,12 +110,12 @@ module _ (a : CallState) (at : Word → ℕ) (me : ℕ) where
     settled = λ source id o e. elim (p.settled source id o e) [ inl free ↦ inl (ap (place_taken me) free) | inr hold ↦ inr hold ];
   }
 
-  written_taken : Written (flags_in at) (funcs_in at) (infos_in at) a.place a.queue a.batch a.running → Written (flags_in at) (funcs_in at) (infos_in at) place' queue' batch' a.running
+  written_taken : WrittenIn at a.place a.queue a.batch a.running → WrittenIn at place' queue' batch' a.running
   written_taken w = record {
     locks = λ id. FlagsShow-taken me (at (Flags id)) (a.place id) (w.locks id);
-    queued = λ cpu. at_test cpu me (λ b. AllByRecursion (IsWritten (flags_in at) (funcs_in at) (infos_in at)) (cond b [] (a.queue cpu))) (λ _. tt) (λ _. w.queued cpu);
-    batched = λ cpu. at_test cpu me (λ b. AllByRecursion (IsWritten (flags_in at) (funcs_in at) (infos_in at)) (cond b (order (a.queue me)) (a.batch cpu)))
-        (λ _. every_order (IsWritten (flags_in at) (funcs_in at) (infos_in at)) (a.queue me) (w.queued me)) (λ _. w.batched cpu);
+    queued = λ cpu. at_test cpu me (λ b. AllByRecursion (IsWrittenIn at) (cond b [] (a.queue cpu))) (λ _. tt) (λ _. w.queued cpu);
+    batched = λ cpu. at_test cpu me (λ b. AllByRecursion (IsWrittenIn at) (cond b (order (a.queue me)) (a.batch cpu)))
+        (λ _. every_order (IsWrittenIn at) (a.queue me) (w.queued me)) (λ _. w.batched cpu);
     runs = w.runs;
   }
 
