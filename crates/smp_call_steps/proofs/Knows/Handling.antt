@@ -84,7 +84,7 @@ module _ (v : Known) (l : Lives v) where
     lives_aims = (lives_told, lives_below)
 
     same_access : access_of l.at v.number (Handle h) ≡ known_access v (Handle h)
-    same_access = access_known l.calls l.at l.controls v l.shown l.sees (Handle h) lives_aims
+    same_access = access_known v l.shown l.sees (Handle h) lives_aims
 
     -- the word of its next access is in the table
     pub lives_in_table : HasIndex (word_of (known_access v (Handle h)))

@@ -82,7 +82,7 @@ free_out p e = record { queue = λ cpu f. cc; batch = λ cpu f. cc; running = λ
 held_out : (p : RecPlace) → p ≡ place.Held → IsOut p
 held_out p e = record { queue = λ cpu f. cc; batch = λ cpu f. cc; running = λ cpu f. cc }
 
-module _ (a : CallState) (at : Word → ℕ) (control : ℕ → ControlValue) (s : Shows a at control) where
+module _ {a : CallState} {at : Word → ℕ} {control : ℕ → ControlValue} (s : Shows a at control) where
   pub held_place : (source id : ℕ) → Holds (a.held source) id → a.place id ≡ place.Held
   held_place source id h =
       let k : Holds (held_of (control source).stage) id = rw (s.held source) at h in

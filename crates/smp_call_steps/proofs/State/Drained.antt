@@ -115,12 +115,12 @@ rests_at places at s d me hand None z h k = k
 rests_at places at s d me hand (Some (Handle stage)) z h k = rests_inside places at s d me hand stage z h k
 rests_at places at s d me hand _ z h k = k.0
 
-module _ (a : CallState) (at : Word → ℕ) (control : ℕ → ControlValue) (s : Shows a at control) (still : Still at) where
+module _ {a : CallState} {at : Word → ℕ} {control : ℕ → ControlValue} (s : Shows a at control) (still : Still at) where
   free : (id : ℕ) → a.place id ≡ place.Free
   free id = unlocked_free (a.place id) (at (Flags id)) (s.written.locks id) (still.unlocked id)
 
   nothing_held : (cpu : ℕ) → a.held cpu ≡ None
-  nothing_held cpu = none_held (a.held cpu) (λ id h. let e = sym (held_place a at control s cpu id h) ∙ free id in cc)
+  nothing_held cpu = none_held (a.held cpu) (λ id h. let e = sym (held_place s cpu id h) ∙ free id in cc)
 
   nothing_queued : (cpu : ℕ) → a.queue cpu ≡ []
   nothing_queued cpu = none_placed a.place (place.Queued cpu) (a.queue cpu) (λ e. cc) free (s.placed.queued cpu)

@@ -294,7 +294,7 @@ stage_runs places at s d me None h = ap locked_by h.running
 stage_runs places at s d me (Some (Handle stage)) h = handle_runs (nexts_in at) s d stage h.1
 stage_runs places at s d me _ h = ap locked_by h.0.running
 
-module _ (a : CallState) (at : Word → ℕ) (control : ℕ → ControlValue) (s : Shows a at control) (cpu : ℕ) where
+module _ {a : CallState} {at : Word → ℕ} {control : ℕ → ControlValue} (s : Shows a at control) (cpu : ℕ) where
   splits : Splits a.place (nexts_in at) cpu (a.batch cpu) (control cpu).stage
   splits = stage_split a.place at (share_of a cpu) (control cpu).drain cpu (control cpu).stage (s.placed.batched cpu) (s.placed.batch_apart cpu) (s.stands cpu)
 
@@ -405,7 +405,7 @@ pub record IsBare (at : Word → ℕ) (control : ℕ → ControlValue) : Type 0 
   pub heads : (cpu : ℕ) → cpus ≤ cpu → at (Head cpu) ≡ 0
   pub controls : (cpu : ℕ) → cpus ≤ cpu → control cpu ≡ outside
 
-module _ (a : CallState) (at : Word → ℕ) (control : ℕ → ControlValue) (s : Shows a at control) (id : ℕ) where
+module _ {a : CallState} {at : Word → ℕ} {control : ℕ → ControlValue} (s : Shows a at control) (id : ℕ) where
   free_if : (p : RecPlace) → FlagsShow p 0 → p ≡ place.Free
   free_if place.Free f = refl
   free_if _ f = absurd (omega (arith, f))

@@ -29,7 +29,7 @@ has_rest : (u : ℕ) (call : Call) (rest : List Call) → u ≢ call.id → HasR
 has_rest u call rest ne (inl e) = absurd (ne (sym e))
 has_rest u call rest ne (inr h) = h
 
-module _ (a : CallState) (at : Word → ℕ) (control : ℕ → ControlValue) (me : ℕ) (s : Shows a at control) where
+module _ {a : CallState} {at : Word → ℕ} {control : ℕ → ControlValue} (me : ℕ) (s : Shows a at control) where
   -- the front of the batch goes to another place, and runs
   module _ (call : Call) (rest : List Call) (front : a.batch me ≡ call ∷ rest) (idle : a.running me ≡ Nothing) (to : RecPlace) (r : Running) where
     abbrev begun : CallState
@@ -49,7 +49,7 @@ module _ (a : CallState) (at : Word → ℕ) (control : ℕ → ControlValue) (m
 
     begun_stands : (at' : Word → ℕ) (c : ControlValue) → Touches call.id a.place (put a.place call.id to) at at' → Stands (put a.place call.id to) at' (share_of begun me) me c →
         (cpu : ℕ) → Stands (put a.place call.id to) at' (share_of begun cpu) cpu (put control me c cpu)
-    begun_stands at' c t stands = stands_after a at control me s at' (put a.place call.id to) (share_of begun) c
+    begun_stands at' c t stands = stands_after me s at' (put a.place call.id to) (share_of begun) c
         (λ cpu ne. at_test cpu me (λ b. record { last = last_batch (a.taken cpu); batch = cond b rest (a.batch cpu); running = cond b r (a.running cpu); accepted = a.accepted cpu } ≡ share_of a cpu) (λ f. absurd (ne f)) (λ _. refl))
         (λ cpu ne. leaves_others me call.id a.place (put a.place call.id to) at at' (subst (Minds me call.id) (sym here) refl) t cpu ne)
         stands
@@ -110,10 +110,10 @@ module _ (a : CallState) (at : Word → ℕ) (control : ℕ → ControlValue) (m
       let first = all_placed call rest front idle to (SyncCall call) in
       let words = all_written call rest front idle to (SyncCall call) in
       record {
-        held = held_after a at control me s c (rw stage held);
+        held = held_after me s c (rw stage held);
         stands = begun_stands call rest front idle to (SyncCall call) (put_word at (Hand me) (call.id + 2)) c
             (record { place_stays = λ u ne. test_else u call.id to (a.place u) ne; flags = λ _ _. refl; func = λ _ _. refl; info = λ _ _. refl; next = λ _ _. refl }) stands;
-        hands = hands_stored a at control me s c (call.id + 2) (rw stage refl);
+        hands = hands_stored me s c (call.id + 2) (rw stage refl);
         placed = begun_placed call rest front idle to (SyncCall call) (record { is_call = first.0.is_call; placed = test_here call.id to (a.place call.id) }, tt)
             (subst (λ (x : Running). HasRecord call.id (locked_by x)) (sym (test_here me (SyncCall call) (a.running me))) (inl refl));
         written = begun_written call rest front idle to (SyncCall call) (flags_in at) (λ _ _. refl) (subst (λ (p : RecPlace). FlagsShow p (at (Flags call.id))) (here call rest front idle to (SyncCall call)) (s.written.locks call.id)) (words.0, tt);
@@ -126,7 +126,7 @@ module _ (a : CallState) (at : Word → ℕ) (control : ℕ → ControlValue) (m
 
   pub begin_sync_step : (walk : Walk) (call : Call) (next : Option ℕ) → (control me).stage ≡ Some (Handle (handle.BeginSync walk call next)) → StepShows a at control me (Handle (handle.BeginSync walk call next))
   begin_sync_step walk call next e =
-      let was = stands_at a at control me s (handle.BeginSync walk call next) e in
+      let was = stands_at me s (handle.BeginSync walk call next) e in
       let k = was.1.1 in
       let d : DrainValue = (control me).drain in
       let left : List Call = sync_calls was.1.0 ++ async_calls (last_batch (a.taken me)) in
@@ -134,7 +134,7 @@ module _ (a : CallState) (at : Word → ℕ) (control : ℕ → ControlValue) (m
       let c : ControlValue = record { stage = Some (Handle (handle.CountSync walk call next)); drain = d } in
       let stored : nat_lt 1 (call.id + 2) ≡ true = lt-ltb 1 (call.id + 2) (omega arith) in
       let shown : Shows (begins_sync a me (call ∷ left)) at' (put control me c) =
-      begun_sync walk next call left c k.batch k.running_is (holds_nothing a at control me s (handle.BeginSync walk call next) e) refl (
+      begun_sync walk next call left c k.batch k.running_is (holds_nothing me s (handle.BeginSync walk call next) e) refl (
         was.0,
         (
           was.1.0,
@@ -152,10 +152,10 @@ module _ (a : CallState) (at : Word → ℕ) (control : ℕ → ControlValue) (m
   begun_async next call rest c front idle held hand stage stands =
       let to : RecPlace = place.Free in
       record {
-        held = held_after a at control me s c (rw stage held);
+        held = held_after me s c (rw stage held);
         stands = begun_stands call rest front idle to (AsyncCall call) (put_word at (Flags call.id) 0) c
             (record { place_stays = λ u ne. test_else u call.id to (a.place u) ne; flags = λ u ne. test_else u call.id 0 (at (Flags u)) ne; func = λ _ _. refl; info = λ _ _. refl; next = λ _ _. refl }) stands;
-        hands = hands_after a at control me s c hand;
+        hands = hands_after me s c hand;
         placed = begun_placed call rest front idle to (AsyncCall call) tt tt;
         written = begun_written call rest front idle to (AsyncCall call) (put (flags_in at) call.id 0) (λ u ne. test_else u call.id 0 (at (Flags u)) ne) (test_here call.id 0 (at (Flags call.id))) tt;
         chained = s.chained;
@@ -167,16 +167,16 @@ module _ (a : CallState) (at : Word → ℕ) (control : ℕ → ControlValue) (m
 
   pub begin_async_step : (call : Call) (next : Option ℕ) → (control me).stage ≡ Some (Handle (handle.BeginAsync call next)) → StepShows a at control me (Handle (handle.BeginAsync call next))
   begin_async_step call next e =
-      let was = stands_at a at control me s (handle.BeginAsync call next) e in
+      let was = stands_at me s (handle.BeginAsync call next) e in
       let rest : List Call = was.1.0 in
       let k = was.1.1 in
       let d : DrainValue = (control me).drain in
-      let held = holds_nothing a at control me s (handle.BeginAsync call next) e in
+      let held = holds_nothing me s (handle.BeginAsync call next) e in
       let at' : Word → ℕ = put_word at (Flags call.id) 0 in
       let c : ControlValue = record { stage = Some (Handle (handle.CountAsync call next)); drain = d } in
       let front : AllPlaced a.place (place.Batch me) (call ∷ rest) = subst (λ (xs : List Call). AllPlaced a.place (place.Batch me) xs) k.batch (s.placed.batched me) in
       let shown : Shows (begins_async a me (call ∷ rest)) at' (put control me c) =
-      begun_async next call rest c k.batch k.running_is held (hand_at a at control me s (handle.BeginAsync call next) e) refl (
+      begun_async next call rest c k.batch k.running_is held (hand_at me s (handle.BeginAsync call next) e) refl (
         was.0,
         (
           rest,

@@ -37,7 +37,7 @@ there_running held queue batch running running' same id place.Free h = tt
 there_running held queue batch running running' same id (place.Running cpu) h = subst (HasRecord id) (sym (same cpu)) h
 there_running held queue batch running running' same id _ h = h
 
-module _ (a : CallState) (at : Word → ℕ) (control : ℕ → ControlValue) (me : ℕ) (s : Shows a at control) where
+module _ {a : CallState} {at : Word → ℕ} {control : ℕ → ControlValue} (me : ℕ) (s : Shows a at control) where
   -- the words after the store of the number of calls that ran from its source
   abbrev stored : Call → Word → ℕ
   stored call = put_word at (Ran me (owner call.id)) ((at (Ran me (owner call.id)) + 1) % 2 ^ 64)
@@ -51,11 +51,11 @@ module _ (a : CallState) (at : Word → ℕ) (control : ℕ → ControlValue) (m
     count_shown : (c : ControlValue) → a.held me ≡ held_of c.stage → HandIs c.stage (at (Hand me)) → Stands a.place (stored call) (record { last = last_batch (a.taken me); batch = a.batch me; running = put a.running me r me; accepted = a.accepted me }) me c →
         Shows (record a { running = put a.running me r; ran = ran' }) (stored call) (put control me c)
     count_shown c held hand stands = record {
-      held = held_after a at control me s c held;
-      stands = stands_after a at control me s (stored call) a.place (share_of (record a { running = put a.running me r; ran = ran' })) c
+      held = held_after me s c held;
+      stands = stands_after me s (stored call) a.place (share_of (record a { running = put a.running me r; ran = ran' })) c
           (λ cpu ne. at_test cpu me (λ b. record { last = last_batch (a.taken cpu); batch = a.batch cpu; running = cond b r (a.running cpu); accepted = a.accepted cpu } ≡ share_of a cpu) (λ f. absurd (ne f)) (λ _. refl))
           (λ cpu _. leaves_all a.place at (stored call) (λ _. refl) (λ _. refl) (λ _. refl) (λ _. refl) cpu) stands;
-      hands = hands_after a at control me s c hand;
+      hands = hands_after me s c hand;
       placed = record {
         queued = s.placed.queued;
         batched = s.placed.batched;
@@ -93,14 +93,14 @@ module _ (a : CallState) (at : Word → ℕ) (control : ℕ → ControlValue) (m
   -- the store of the number of calls that ran, for a SYNC call
   pub count_sync_step : (walk : Walk) (call : Call) (next : Option ℕ) → (control me).stage ≡ Some (Handle (handle.CountSync walk call next)) → StepShows a at control me (Handle (handle.CountSync walk call next))
   count_sync_step walk call next e =
-      let was = stands_at a at control me s (handle.CountSync walk call next) e in
+      let was = stands_at me s (handle.CountSync walk call next) e in
       let k = was.1.1 in
       let c : ControlValue = record { stage = Some (Handle (handle.EndSync walk call next)); drain = (control me).drain } in
       let running_is = k.running_is in
       subst (λ (x : Running). Shows (counts a me x) (stored call) (put control me c)) (sym running_is)
       (count_shown call (CountedCall call) a.ran (λ _ _. refl) (rw running_is refl) (rw running_is refl)
       (rw (running_is, append-nil (a.ran me)) refl)
-      c (holds_nothing a at control me s (handle.CountSync walk call next) e) (hand_at a at control me s (handle.CountSync walk call next) e) (
+      c (holds_nothing me s (handle.CountSync walk call next) e) (hand_at me s (handle.CountSync walk call next) e) (
         was.0,
         (
           was.1.0,
@@ -110,7 +110,7 @@ module _ (a : CallState) (at : Word → ℕ) (control : ℕ → ControlValue) (m
 
   pub count_async_step : (call : Call) (next : Option ℕ) → (control me).stage ≡ Some (Handle (handle.CountAsync call next)) → StepShows a at control me (Handle (handle.CountAsync call next))
   count_async_step call next e =
-      let was = stands_at a at control me s (handle.CountAsync call next) e in
+      let was = stands_at me s (handle.CountAsync call next) e in
       let rest : List Call = was.1.0 in
       let k = was.1.1 in
       let d : DrainValue = (control me).drain in
@@ -123,8 +123,8 @@ module _ (a : CallState) (at : Word → ℕ) (control : ℕ → ControlValue) (m
       (count_shown call Nothing ran' (λ cpu ne. test_else cpu me (a.ran me ++ call ∷ []) (a.ran cpu) ne) (rw running_is refl)
       (append-nil (ran' me) ∙ (ran_here ∙ ap (λ (x : Running). a.ran me ++ running_call x) (sym running_is)))
       (append-nil (ran' me) ∙ (ran_here ∙ ap (λ (xs : List Call). xs ++ call ∷ []) (sym (append-nil (a.ran me)) ∙ ap (λ (x : Running). a.ran me ++ counted_call x) (sym running_is))))
-      c (holds_nothing a at control me s (handle.CountAsync call next) e)
-      (hand_of_second next (at (Hand me)) (hand_at a at control me s (handle.CountAsync call next) e)) (
+      c (holds_nothing me s (handle.CountAsync call next) e)
+      (hand_of_second next (at (Hand me)) (hand_at me s (handle.CountAsync call next) e)) (
         was.0,
         second_goes (nexts_in at) after d next rest
             (ends_stay k k.begun (a.batch me) (put a.running me Nothing me) k.whole k.batch (test_here me Nothing (a.running me))),
@@ -181,13 +181,13 @@ module _ (a : CallState) (at : Word → ℕ) (control : ℕ → ControlValue) (m
     end_shown : (c : ControlValue) → a.held me ≡ held_of c.stage → HandIs c.stage (at (Hand me)) → Stands (put a.place call.id place.Free) (put_word at (Flags call.id) 0) (share_of (ends_sync a me call) me) me c →
         Shows (ends_sync a me call) (put_word at (Flags call.id) 0) (put control me c)
     end_shown c held hand stands = record {
-      held = held_after a at control me s c held;
-      stands = stands_after a at control me s (put_word at (Flags call.id) 0) (put a.place call.id place.Free) (share_of (ends_sync a me call)) c
+      held = held_after me s c held;
+      stands = stands_after me s (put_word at (Flags call.id) 0) (put a.place call.id place.Free) (share_of (ends_sync a me call)) c
           (λ cpu ne. at_test cpu me (λ b. record { last = last_batch (a.taken cpu); batch = a.batch cpu; running = cond b Nothing (a.running cpu); accepted = a.accepted cpu } ≡ share_of a cpu) (λ f. absurd (ne f)) (λ _. refl))
           (λ cpu ne. leaves_others me call.id a.place (put a.place call.id place.Free) at (put_word at (Flags call.id) 0) (subst (Minds me call.id) (sym here) refl)
           (record { place_stays = λ u n. test_else u call.id place.Free (a.place u) n; flags = λ u n. test_else u call.id 0 (at (Flags u)) n; func = λ _ _. refl; info = λ _ _. refl; next = λ _ _. refl }) cpu ne)
           stands;
-      hands = hands_after a at control me s c hand;
+      hands = hands_after me s c hand;
       placed = end_placed;
       written = end_written;
       chained = s.chained;
@@ -200,16 +200,16 @@ module _ (a : CallState) (at : Word → ℕ) (control : ℕ → ControlValue) (m
   -- the store of 0 to the flags, where a call is counted: a SYNC call ends
   pub end_sync_step : (walk : Walk) (call : Call) (next : Option ℕ) → (control me).stage ≡ Some (Handle (handle.EndSync walk call next)) → StepShows a at control me (Handle (handle.EndSync walk call next))
   end_sync_step walk call next e =
-      let was = stands_at a at control me s (handle.EndSync walk call next) e in
+      let was = stands_at me s (handle.EndSync walk call next) e in
       let rest : List Call = was.1.0 in
       let k = was.1.1 in
       let d : DrainValue = (control me).drain in
-      let held = holds_nothing a at control me s (handle.EndSync walk call next) e in
+      let held = holds_nothing me s (handle.EndSync walk call next) e in
       let at' : Word → ℕ = put_word at (Flags call.id) 0 in
       let c : ControlValue = record { stage = Some (Handle (first_on walk next)); drain = (control me).drain } in
       let after : Share = share_of (ends_sync a me call) me in
       let shown : Shows (ends_sync a me call) at' (put control me c) =
-      end_shown call k.running_is c held (hand_of_first walk next (at (Hand me)) (more_than_zero (at (Hand me)) call.id (hand_at a at control me s (handle.EndSync walk call next) e))) (
+      end_shown call k.running_is c held (hand_of_first walk next (at (Hand me)) (more_than_zero (at (Hand me)) call.id (hand_at me s (handle.EndSync walk call next) e))) (
         was.0,
         first_goes (nexts_in at) after d walk next rest
             (walks_stay k k.begun (a.batch me) (put a.running me Nothing me) k.begun_are k.batch (test_here me Nothing (a.running me))),

@@ -24,7 +24,7 @@ post_holds p post.LoadFlags u h = absurd h
 post_holds p post.Lock u h = absurd h
 post_holds p _ u h = sym h
 
-module _ (a : CallState) (at : Word → ℕ) (control : ℕ → ControlValue) (s : Shows a at control) where
+module _ {a : CallState} {at : Word → ℕ} {control : ℕ → ControlValue} (s : Shows a at control) where
   stage_owns : (places : ℕ → RecPlace) (cpu u : ℕ) (stage : Option Stage) (c : ControlValue) → StandsAt places at (share_of a cpu) c.drain cpu stage → Holds (held_of stage) u → owner u ≡ cpu
   stage_owns places cpu u (Some (Post p st)) c h k = let post = h.1 in ap owner (post_holds p st u k) ∙ post.owned
   stage_owns places cpu u _ c h k = absurd k
@@ -159,7 +159,7 @@ module _ (a : CallState) (at at' : Word → ℕ) (control : ℕ → ControlValue
   links' = record {
     held_links = λ cpu. elim (cases_eq cpu me) [
       | inl e ↦ subst (λ (k : ℕ). LinkIs (nexts_in at') (held' k) (linked' k)) (sym e) o.my_link
-      | inr ne ↦ rw (o.others_held cpu ne, o.others_linked cpu ne) (LinkIs-kept (nexts_in at) (nexts_in at') (a.held cpu) (a.linked cpu) (λ u h. o.touches.next u (λ e. ne (sym (holder_owns a at control s cpu u h) ∙ (ap owner e ∙ o.owned)))) (s.links.held_links cpu))
+      | inr ne ↦ rw (o.others_held cpu ne, o.others_linked cpu ne) (LinkIs-kept (nexts_in at) (nexts_in at') (a.held cpu) (a.linked cpu) (λ u h. o.touches.next u (λ e. ne (sym (holder_owns s cpu u h) ∙ (ap owner e ∙ o.owned)))) (s.links.held_links cpu))
     ];
   }
 

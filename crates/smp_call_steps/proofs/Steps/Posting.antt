@@ -73,7 +73,7 @@ LinkIs-as nexts h (Some x) None f k = tt
 LinkIs-as nexts None (Some x) (Some n) f k = absurd (f x.call.id refl)
 LinkIs-as nexts (Some y) (Some x) (Some n) f k = sym (ap nexts (f x.call.id refl)) ∙ k
 
-module _ (a : CallState) (at : Word → ℕ) (control : ℕ → ControlValue) (me : ℕ) (s : Shows a at control) where
+module _ {a : CallState} {at : Word → ℕ} {control : ℕ → ControlValue} (me : ℕ) (s : Shows a at control) where
   abbrev d : DrainValue
   d = (control me).drain
 

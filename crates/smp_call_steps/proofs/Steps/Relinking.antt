@@ -37,17 +37,17 @@ path_to : (nexts : ℕ → ℕ) (n link : ℕ) (front : List Call) (newest : Cal
 path_to nexts n link front newest after absent l =
     Path-push (put nexts newest.id n) link front newest n (path_else nexts newest.id n link front (newest.id + 1) absent (Path-cut nexts link front newest after l)) (test_here newest.id n (nexts newest.id))
 
-module _ (a : CallState) (at : Word → ℕ) (control : ℕ → ControlValue) (me : ℕ) (s : Shows a at control) where
+module _ {a : CallState} {at : Word → ℕ} {control : ℕ → ControlValue} (me : ℕ) (s : Shows a at control) where
   -- the next word of a record of the own batch is stored
   relinked : (id n : ℕ) → a.place id ≡ place.Batch me → (c : ControlValue) → a.held me ≡ held_of c.stage → Stands a.place (put_word at (Next id) n) (share_of a me) me c → HandIs c.stage (hands_in at me) →
       Shows a (put_word at (Next id) n) (put control me c)
   relinked id n here c held stands hand = record {
-    held = held_after a at control me s c held;
-    stands = stands_after a at control me s (put_word at (Next id) n) a.place (share_of a) c (λ _ _. refl)
+    held = held_after me s c held;
+    stands = stands_after me s (put_word at (Next id) n) a.place (share_of a) c (λ _ _. refl)
         (λ cpu ne. leaves_others me id a.place a.place at (put_word at (Next id) n) (subst (Minds me id) (sym here) refl)
         (record { place_stays = λ _ _. refl; flags = λ _ _. refl; func = λ _ _. refl; info = λ _ _. refl; next = λ u f. test_else u id n (at (Next u)) f }) cpu ne)
         stands;
-    hands = hands_after a at control me s c hand;
+    hands = hands_after me s c hand;
     placed = s.placed;
     written = s.written;
     chained = record {
@@ -64,16 +64,16 @@ module _ (a : CallState) (at : Word → ℕ) (control : ℕ → ControlValue) (m
   }
     where
       held_else : (cpu u : ℕ) → Holds (a.held cpu) u → u ≢ id
-      held_else cpu u h = else_by_place a.place u id place.Held (place.Batch me) (held_place a at control s cpu u h) here (λ e. cc)
+      held_else cpu u h = else_by_place a.place u id place.Held (place.Batch me) (held_place s cpu u h) here (λ e. cc)
 
   -- the next word of the record that is reversed
   pub reverse_store_step : (newer : Option ℕ) (id : ℕ) (older : Option ℕ) → (control me).stage ≡ Some (Handle (handle.ReverseStore newer id older)) → StepShows a at control me (Handle (handle.ReverseStore newer id older))
   reverse_store_step newer id older e =
-      let was = stands_at a at control me s (handle.ReverseStore newer id older) e in
+      let was = stands_at me s (handle.ReverseStore newer id older) e in
       let call : Call = was.1.0 in
       let h = was.1.1 in
       let same : call.id ≡ id = was.1.2 in
-      let held = holds_nothing a at control me s (handle.ReverseStore newer id older) e in
+      let held = holds_nothing me s (handle.ReverseStore newer id older) e in
       let n : ℕ = link_to newer in
       let c : ControlValue = record { stage = Some (Handle (reverse_on (Some id) older)); drain = record { calls = (control me).drain.calls + 1 } } in
       let all = reverses_all (IsPlaced a.place (place.Batch me)) h (s.placed.batched me) in
@@ -92,15 +92,15 @@ module _ (a : CallState) (at : Word → ℕ) (control : ℕ → ControlValue) (m
         reverse_goes (put (nexts_in at) id n) (share_of a me) (record { calls = (control me).drain.calls + 1 }) (Some id) older h.older (call ∷ h.newer) h.whole
             (leads_else (nexts_in at) id n (link_to older) h.older before h.leads_down) up h.apart counted h.batch h.running h.accepted,
       )
-      (hand_of_reverse (Some id) older (at (Hand me)) (hand_at a at control me s (handle.ReverseStore newer id older) e)))
+      (hand_of_reverse (Some id) older (at (Hand me)) (hand_at me s (handle.ReverseStore newer id older) e)))
 
   -- the next word of the last ASYNC record that was passed
   pub unlink_step : (walk : Walk) (last : ℕ) (call : Call) (next : Option ℕ) → (control me).stage ≡ Some (Handle (handle.Unlink walk last call next)) → StepShows a at control me (Handle (handle.Unlink walk last call next))
   unlink_step walk last call next e =
-      let was = stands_at a at control me s (handle.Unlink walk last call next) e in
+      let was = stands_at me s (handle.Unlink walk last call next) e in
       let rest : List Call = was.1.0 in
       let h = was.1.1 in
-      let held = holds_nothing a at control me s (handle.Unlink walk last call next) e in
+      let held = holds_nothing me s (handle.Unlink walk last call next) e in
       let n : ℕ = link_to next in
       let c : ControlValue = record { stage = Some (Handle (handle.BeginSync walk call next)); drain = (control me).drain } in
       let end : EndsAt (Some last) (async_calls h.passed) = subst (λ (x : Option ℕ). EndsAt x (async_calls h.passed)) was.1.4 h.ends_at in
@@ -126,4 +126,4 @@ module _ (a : CallState) (at : Word → ℕ) (control : ℕ → ControlValue) (m
       subst (λ (x : Option Holding). Shows (links a me (Some n) x) (put_word at (Next last) n) (put control me c)) (sym held)
       (relinked last n here c held
       (was.0, (rest, passes_sync (nexts_in at) (put (nexts_in at) last n) (share_of a me) (control me).drain walk walk next call rest h was.1.3 passed h.ends_at on, linked))
-      (hand_at a at control me s (handle.Unlink walk last call next) e))
+      (hand_at me s (handle.Unlink walk last call next) e))

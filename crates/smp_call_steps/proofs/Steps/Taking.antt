@@ -154,14 +154,14 @@ module _ (a : CallState) (at : Word → ℕ) (me : ℕ) where
       drained_here : a.ran me ++ (running_call (a.running me) ++ order (a.queue me)) ≡ orders (a.taken me ++ a.queue me ∷ [])
       drained_here = ap (λ (x : Running). a.ran me ++ (running_call x ++ order (a.queue me))) idle ∙ (ap (λ (k : List Call). k ++ order (a.queue me)) before ∙ sym (orders-push (a.taken me) (a.queue me)))
 
-module _ (a : CallState) (at : Word → ℕ) (control : ℕ → ControlValue) (me : ℕ) (s : Shows a at control) where
+module _ {a : CallState} {at : Word → ℕ} {control : ℕ → ControlValue} (me : ℕ) (s : Shows a at control) where
   -- nobody minds a queued record
   leaves_taken : (cpu : ℕ) → LeavesTo cpu a.place (place' a at me) at (put_word at (Head me) 0)
   leaves_taken cpu = record { place_stays = λ id m. taken_minded me cpu id (a.place id) m; flags = λ _ _. refl; func = λ _ _. refl; info = λ _ _. refl; next = λ _ _. refl }
 
   pub take_step : (control me).stage ≡ Some (Handle handle.Take) → StepShows a at control me (Handle handle.Take)
   take_step e =
-      let was = stands_at a at control me s handle.Take e in
+      let was = stands_at me s handle.Take e in
       let k = was.1 in
       let link : ℕ = at (Head me) in
       let c : ControlValue = record { stage = Some (Handle (reverse_on None (record_at link))); drain = no_drain } in
@@ -169,8 +169,8 @@ module _ (a : CallState) (at : Word → ℕ) (control : ℕ → ControlValue) (m
       let whole : last_batch (put a.taken me (a.taken me ++ a.queue me ∷ []) me) ≡ a.queue me =
       ap last_batch (test_here me (a.taken me ++ a.queue me ∷ []) (a.taken me)) ∙ last_batch-push (a.taken me) (a.queue me) in
       record {
-        held = held_after a at control me s c (holds_nothing a at control me s handle.Take e);
-        stands = stands_after a at control me s (put_word at (Head me) 0) (place' a at me) (share_of (takes a me)) c
+        held = held_after me s c (holds_nothing me s handle.Take e);
+        stands = stands_after me s (put_word at (Head me) 0) (place' a at me) (share_of (takes a me)) c
             (λ cpu ne. at_test cpu me (λ b. record { last = last_batch (cond b (a.taken me ++ a.queue me ∷ []) (a.taken cpu)); batch = cond b (order (a.queue me)) (a.batch cpu); running = a.running cpu; accepted = cond b false (a.accepted cpu) } ≡ share_of a cpu) (λ f. absurd (ne f)) (λ _. refl))
             (λ cpu _. leaves_taken cpu) (
               was.0,
@@ -178,7 +178,7 @@ module _ (a : CallState) (at : Word → ℕ) (control : ℕ → ControlValue) (m
                   (subst (λ (n : ℕ). Leads (nexts_in at) n (a.queue me) 0) (sym (link_back link)) (s.chained.chain me)) refl (subst IsApart (sym whole) (s.placed.queue_apart me)) refl
                   (test_here me (order (a.queue me)) (a.batch me) ∙ ap order (sym whole)) k.1 (test_here me false (a.accepted me)),
             );
-        hands = hands_after a at control me s c (hand_of_reverse None (record_at link) (at (Hand me)) (hand_at a at control me s handle.Take e));
+        hands = hands_after me s c (hand_of_reverse None (record_at link) (at (Hand me)) (hand_at me s handle.Take e));
         placed = placed_taken a at me k.0 s.placed;
         written = written_taken a at me s.written;
         chained = chained_taken a at me s.chained;

@@ -11,7 +11,7 @@ use Rattle.smp_words.proofs.Puts.{put_all, put_both}
 use Rattle.smp_call_steps.proofs.Steps.Frames.{LeavesTo, Stands-kept}
 use Rattle.smp_call_steps.specs.Names.{Word, RecPlace, HandleStage, Stage, Handle}
 
-module _ (a : CallState) (at : Word → ℕ) (control : ℕ → ControlValue) (me : ℕ) (s : Shows a at control) where
+module _ {a : CallState} {at : Word → ℕ} {control : ℕ → ControlValue} (me : ℕ) (s : Shows a at control) where
   -- inside handle a CPU holds nothing
   pub holds_nothing : (stage : HandleStage) → (control me).stage ≡ Some (Handle stage) → a.held me ≡ None
   holds_nothing stage e = s.held me ∙ ap held_of e

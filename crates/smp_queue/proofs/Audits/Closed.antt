@@ -52,7 +52,7 @@ still words e = record {
 
 -- the tallies of a table that is drained are equal
 pub drained_equal : (nr : ℕ) (v : Known) (words : List ℕ) (answer : Audit) → Closes nr v words → AuditAnswers (number_in words) answer → IfDrained answer AreEqual
-drained_equal nr v words (audit.Drained t) c a = λ source to s d. a.1.queued_are source to s d ∙ (equal_tallies c.calls (number_in words) c.controls c.shown (still words a.0) source to ∙ sym (a.1.ran_are to source d s))
+drained_equal nr v words (audit.Drained t) c a = λ source to s d. a.1.queued_are source to s d ∙ (equal_tallies c.shown (still words a.0) source to ∙ sym (a.1.ran_are to source d s))
 drained_equal nr v words (audit.Left left) c a = tt
 
 -- a CPU's rows are those of its part
@@ -63,8 +63,8 @@ drained_rows nr d words (audit.Drained t) within c a = λ other below.
     let l : me < cpus = omega arith in
     let at = number_in words in
     let s = still words a.0 in (
-      a.1.queued_are me other l below ∙ (still_queued c.calls at c.controls c.shown s me other ∙ ap (λ (p : Part). length (sent_to other p.sent) % 2 ^ 64) c.sees.part),
-      a.1.ran_are me other l below ∙ (still_ran c.calls at c.controls c.shown s me other ∙ ap (λ (p : Part). length (calls_from other p.ran) % 2 ^ 64) c.sees.part),
+      a.1.queued_are me other l below ∙ (still_queued c.shown s me other ∙ ap (λ (p : Part). length (sent_to other p.sent) % 2 ^ 64) c.sees.part),
+      a.1.ran_are me other l below ∙ (still_ran c.shown s me other ∙ ap (λ (p : Part). length (calls_from other p.ran) % 2 ^ 64) c.sees.part),
     )
 drained_rows nr d words (audit.Left left) within c a = tt
 
@@ -76,16 +76,16 @@ drained_zeros nr v words (audit.Drained t) c a = λ cpu other l m past. (
 )
   where
     equal : (source cpu : ℕ) → number_in words (Queued source cpu) ≡ number_in words (Ran cpu source)
-    equal = equal_tallies c.calls (number_in words) c.controls c.shown (still words a.0)
+    equal = equal_tallies c.shown (still words a.0)
 
     none : (cpu : ℕ) → nr ≤ cpu → part_of c.calls cpu ≡ part_of no_calls cpu
     none cpu p = let sees = c.absent cpu p in sees.part
 
     none_queued : (source cpu : ℕ) → nr ≤ source → number_in words (Queued source cpu) ≡ 0
-    none_queued source cpu p = still_queued c.calls (number_in words) c.controls c.shown (still words a.0) source cpu ∙ ap (λ (q : Part). length (sent_to cpu q.sent) % 2 ^ 64) (none source p)
+    none_queued source cpu p = still_queued c.shown (still words a.0) source cpu ∙ ap (λ (q : Part). length (sent_to cpu q.sent) % 2 ^ 64) (none source p)
 
     none_ran : (cpu source : ℕ) → nr ≤ cpu → number_in words (Ran cpu source) ≡ 0
-    none_ran cpu source p = still_ran c.calls (number_in words) c.controls c.shown (still words a.0) cpu source ∙ ap (λ (q : Part). length (calls_from source q.ran) % 2 ^ 64) (none cpu p)
+    none_ran cpu source p = still_ran c.shown (still words a.0) cpu source ∙ ap (λ (q : Part). length (calls_from source q.ran) % 2 ^ 64) (none cpu p)
 drained_zeros nr v words (audit.Left left) c a = tt
 
 -- all its calls have run
@@ -93,7 +93,7 @@ drained_run : (nr : ℕ) (v : Known) (words : List ℕ) (answer : Audit) (c : Cl
 drained_run nr v words (audit.Drained t) c a =
     let at = number_in words in
     let s = still words a.0 in
-    record { taken = all_sent c.calls at c.controls c.shown s; ran = all_ran c.calls at c.controls c.shown s }
+    record { taken = all_sent c.shown s; ran = all_ran c.shown s }
 drained_run nr v words (audit.Left left) c a = tt
 
 -- what an audit tells of its table

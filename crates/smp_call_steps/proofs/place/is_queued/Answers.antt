@@ -16,4 +16,4 @@ returns c calls shown =
     let at = number_in c.args.words.now in
     let control = control_of c.args.controls.now in
     let whole = ap (chain_in (nexts_in at) records) c.read.ensures ∙ queue_read calls at control c.args.cpu shown in
-    in_queue calls at control shown c.args.cpu c.args.id (chain_in (nexts_in at) records c.read.result) c.is_on_chain.result whole c.is_on_chain.ensures
+    in_queue shown c.args.cpu c.args.id (chain_in (nexts_in at) records c.read.result) c.is_on_chain.result whole c.is_on_chain.ensures

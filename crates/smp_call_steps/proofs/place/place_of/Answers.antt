@@ -14,5 +14,5 @@ loop-cpu-preserved c =
 pub returns : goal.returns
 returns c calls shown =
     let locked : number_in c.args.words.now (Flags c.args.id) ≢ 0 = λ e. c.if-read-eq0.false (c.read.ensures ∙ e) in
-    is_held calls (number_in c.args.words.now) (control_of c.args.controls.now) shown c.args.id (bare c.args.words.now c.args.controls.now c.requires.table.controls_sized) locked
+    is_held shown c.args.id (bare c.args.words.now c.args.controls.now c.requires.table.controls_sized) locked
     (λ k l. c.loop-cpu.invariant k (omega arith) calls shown)
