@@ -50,7 +50,7 @@ told_there _ h e = cc
 abbrev pub share_in : Part → Share
 share_in p = record { last = last_batch p.taken; batch = p.batch; running = p.running; accepted = p.accepted }
 
-module _ (v : Known) (l : Lives v) where
+module _ {v : Known} (l : Lives v) where
   same_share : share_of l.calls v.number ≡ share_in v.part
   same_share = ap share_in l.sees.part
 
@@ -84,7 +84,7 @@ module _ (v : Known) (l : Lives v) where
     lives_aims = (lives_told, lives_below)
 
     same_access : access_of l.at v.number (Handle h) ≡ known_access v (Handle h)
-    same_access = access_known v l.shown l.sees (Handle h) lives_aims
+    same_access = access_known l.shown l.sees (Handle h) lives_aims
 
     -- the word of its next access is in the table
     pub lives_in_table : HasIndex (word_of (known_access v (Handle h)))

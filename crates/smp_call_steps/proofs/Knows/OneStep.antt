@@ -95,7 +95,7 @@ leaves at me d (Handle handle.Enter) = refl
 leaves at me d _ = refl
 
 -- the CPU that knows this, and that may make the step of this stage, makes it
-module _ {a : CallState} {at : Word → ℕ} {control : ℕ → ControlValue} (v : Known) (s : Shows a at control) (sees : Sees a control v) (st : Stage) (aims : MayStep v st) where
+module _ {a : CallState} {at : Word → ℕ} {control : ℕ → ControlValue} {v : Known} (s : Shows a at control) (sees : Sees a control v) (st : Stage) (aims : MayStep v st) where
   abbrev me : ℕ
   me = v.number
 
@@ -119,19 +119,19 @@ module _ {a : CallState} {at : Word → ℕ} {control : ℕ → ControlValue} (v
   here = put_same control me standing
 
   shown : Shows (Told a at me v.drain st) (at_after at (access_of at me st)) (put controls me after)
-  shown = rw here at (step_shown a at controls me (restages v s sees st aims) st (ap (λ (c : ControlValue). c.stage) here))
+  shown = rw here at (step_shown a at controls me (restages s sees st aims) st (ap (λ (c : ControlValue). c.stage) here))
 
   there : put controls me after me ≡ after
   there = put_same controls me after
 
   told_here : told_stage (Some st) ≡ v.stage
-  told_here = aims_told v s sees st aims
+  told_here = aims_told s sees st aims
 
   mine : Sees (Told a at me v.drain st) (put controls me after) (known_tells (a.queue me) v seen)
   mine = record {
     stage = ap (λ (c : ControlValue). told_stage c.stage) there ∙ (follows at me v.drain st ∙ ap (λ (x : Option Stage). stage_after x v.drain seen.act seen.word seen.found seen.put) told_here);
     drain = ap (λ (c : ControlValue). c.drain) there ∙ (leaves at me v.drain st ∙ ap (λ (x : Option Stage). drain_then x v.drain seen.found) told_here);
-    part = part_mine me v.drain s st ∙ (λ i. part_after (a.queue me) (known_held v s sees i) seen.act seen.word seen.found seen.put (sees.part i));
+    part = part_mine me v.drain s st ∙ (λ i. part_after (a.queue me) (known_held s sees i) seen.act seen.word seen.found seen.put (sees.part i));
   }
 
   others : (o : Known) → o.number ≢ me → Sees a control o → Sees (Told a at me v.drain st) (put controls me after) o
@@ -158,4 +158,4 @@ module _ {a : CallState} {at : Word → ℕ} {control : ℕ → ControlValue} (v
   -- the same, by what the CPU knows of its access
   pub known_step : (access : Access) → known_access v st ≡ access → GoesOn a control me (at_after at access) (known_tells (a.queue me) v (seen_of me access (at (word_of access)) None))
   known_step access is =
-      subst (λ (x : Access). GoesOn a control me (at_after at x) (known_tells (a.queue me) v (seen_of me x (at (word_of x)) None))) (access_known v s sees st aims ∙ is) one_step
+      subst (λ (x : Access). GoesOn a control me (at_after at x) (known_tells (a.queue me) v (seen_of me x (at (word_of x)) None))) (access_known s sees st aims ∙ is) one_step

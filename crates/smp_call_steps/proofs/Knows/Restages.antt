@@ -110,7 +110,7 @@ enters : (h : HandleStage) → IsBeyond h ⊎ (h ≡ handle.Enter)
 enters handle.Enter = inr refl
 enters _ = inl tt
 
-module _ {a : CallState} {at : Word → ℕ} {control : ℕ → ControlValue} (v : Known) (s : Shows a at control) (sees : Sees a control v) where
+module _ {a : CallState} {at : Word → ℕ} {control : ℕ → ControlValue} {v : Known} (s : Shows a at control) (sees : Sees a control v) where
   abbrev me : ℕ
   me = v.number
 
@@ -196,6 +196,6 @@ module _ {a : CallState} {at : Word → ℕ} {control : ℕ → ControlValue} (v
 pub confirmed_unlocked : (v : Known) (id n : ℕ) → Moment v (Flags id) n → v.stage ≡ None → owner id ≡ v.number → id < records → is_confirmed v id ≡ true → (n % 2 == 1) ≡ false
 confirmed_unlocked v id n m out own small conf =
     let l = m.lives in
-    let free : l.calls.place id ≡ place.Free = free_outside v l.shown l.sees id own small out conf in
+    let free : l.calls.place id ≡ place.Free = free_outside l.shown l.sees id own small out conf in
     let zero_there : l.at (Flags id) ≡ 0 = rw free at (l.shown.written.locks id) in
     rw (m.number_is, zero_there) refl

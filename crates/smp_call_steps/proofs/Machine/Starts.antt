@@ -96,7 +96,7 @@ begins nr online places at s d cpu (command.Done k) limits l e f h =
 begins nr online places at s d cpu command.Handle limits l e f h = (l, h)
 begins nr online places at s d cpu _ limits l e f h = h
 
-module _ (nr online : ℕ) (a : CallState) (at : Word → ℕ) (control : ℕ → ControlValue) (cpu : ℕ) (c : Command) (shows : Shows a at control) (outside_now : (control cpu).stage ≡ None) where
+module _ (nr online : ℕ) {a : CallState} {at : Word → ℕ} {control : ℕ → ControlValue} (cpu : ℕ) (c : Command) (shows : Shows a at control) (outside_now : (control cpu).stage ≡ None) where
   begun_stands : AreLimits nr online → cpu < cpus → command_refusal nr online cpu c ≡ None → FitsCommand c → Stands a.place at (share_of a cpu) cpu (control_at (control cpu) (first_stage online cpu c))
   begun_stands limits l e f =
       let h : StandsAt a.place at (share_of a cpu) (control cpu).drain cpu None = rw outside_now at (shows.stands cpu) in

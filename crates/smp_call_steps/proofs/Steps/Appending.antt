@@ -220,7 +220,7 @@ module _ (a : CallState) (at : Word → ℕ) (control : ℕ → ControlValue) (m
   append_kept none stands hand = record {
     held = λ cpu. at_test cpu me (λ b. cond b None (a.held cpu) ≡ held_of (cond b next (control cpu)).stage) (λ _. sym none) (λ _. s.held cpu);
     stands = put_all (λ cpu x. Stands (put a.place call.id (place.Queued to)) (put_word at (Head to) (call.id + 1)) (share_of a cpu) cpu x) control me next stands
-        (λ cpu ne. Stands-kept cpu a.place (put a.place call.id (place.Queued to)) at (put_word at (Head to) (call.id + 1)) (leaves_others me call.id a.place (put a.place call.id (place.Queued to)) at (put_word at (Head to) (call.id + 1)) (rw placed own) touches cpu ne) (share_of a cpu) (control cpu) (s.placed.batched cpu) (s.stands cpu));
+        (λ cpu ne. Stands-kept (leaves_others me call.id a.place (put a.place call.id (place.Queued to)) at (put_word at (Head to) (call.id + 1)) (rw placed own) touches cpu ne) (share_of a cpu) (control cpu) (s.placed.batched cpu) (s.stands cpu));
     hands = put_all (λ cpu (x : ControlValue). HandIs x.stage (at (Hand cpu))) control me next hand (λ cpu _. s.hands cpu);
     placed = placed';
     written = written';

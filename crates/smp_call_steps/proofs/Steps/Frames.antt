@@ -72,7 +72,7 @@ pub Leads-kept : (nexts nexts' : ℕ → ℕ) (P : Call → Type 0) → ((call :
 Leads-kept nexts nexts' P same link [] below h l = l
 Leads-kept nexts nexts' P same link (call ∷ rest) below h l = (same call h.0 ∙ l.0, Leads-kept nexts nexts' P same link rest (call.id + 1) h.1 l.1)
 
-module _ (cpu : ℕ) (places places' : ℕ → RecPlace) (at at' : Word → ℕ) (l : LeavesTo cpu places places' at at') where
+module _ {cpu : ℕ} {places places' : ℕ → RecPlace} {at at' : Word → ℕ} (l : LeavesTo cpu places places' at at') where
   written : (call : Call) → Minds cpu call.id (places call.id) → IsWrittenIn at call → IsWrittenIn at' call
   written call m w = record { flags_are = l.flags call.id m ∙ w.flags_are; func_is = l.func call.id m ∙ w.func_is; info_is = l.info call.id m ∙ w.info_is }
 

@@ -170,7 +170,7 @@ module _ (a : CallState) (at at' : Word → ℕ) (control : ℕ → ControlValue
   own_step = record {
     held = λ cpu. at_test cpu me (λ b. held' cpu ≡ held_of (cond b next (control cpu)).stage) (λ e. rw e o.my_held) (λ ne. o.others_held cpu ne ∙ s.held cpu);
     stands = put_all (λ cpu x. Stands places' at' (share_of a cpu) cpu x) control me next o.stands
-        (λ cpu ne. Stands-kept cpu a.place places' at at' (leaves_others me id a.place places' at at' (home_minds me id (a.place id) o.owned o.before) o.touches cpu ne) (share_of a cpu) (control cpu) (s.placed.batched cpu) (s.stands cpu));
+        (λ cpu ne. Stands-kept (leaves_others me id a.place places' at at' (home_minds me id (a.place id) o.owned o.before) o.touches cpu ne) (share_of a cpu) (control cpu) (s.placed.batched cpu) (s.stands cpu));
     hands = put_all (λ cpu (x : ControlValue). HandIs x.stage (at' (Hand cpu))) control me next o.hand (λ cpu _. rw (o.keeps.hand cpu) (s.hands cpu));
     placed = placed';
     written = written';

@@ -83,7 +83,7 @@ pub send_kept : (a : CallState) (at : Word → ℕ) (control : ℕ → ControlVa
 send_kept a at control me to next s held stands hand = record {
   held = put_all (λ cpu (x : ControlValue). a.held cpu ≡ held_of x.stage) control me next held (λ cpu _. s.held cpu);
   stands = put_all (λ cpu x. Stands a.place at' (share_of a cpu) cpu x) control me next stands
-      (λ cpu _. Stands-kept cpu a.place a.place at at' (leaves_all a.place at at' (λ _. refl) (λ _. refl) (λ _. refl) (λ _. refl) cpu) (share_of a cpu) (control cpu) (s.placed.batched cpu) (s.stands cpu));
+      (λ cpu _. Stands-kept (leaves_all a.place at at' (λ _. refl) (λ _. refl) (λ _. refl) (λ _. refl) cpu) (share_of a cpu) (control cpu) (s.placed.batched cpu) (s.stands cpu));
   hands = put_all (λ cpu (x : ControlValue). HandIs x.stage (at (Hand cpu))) control me next hand (λ cpu _. s.hands cpu);
   placed = s.placed;
   written = s.written;

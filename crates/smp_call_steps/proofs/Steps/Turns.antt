@@ -34,7 +34,7 @@ module _ {a : CallState} {at : Word → ℕ} {control : ℕ → ControlValue} (m
   stands_after at' place' share' c same leaves here =
       put_all (λ cpu x. Stands place' at' (share' cpu) cpu x) control me c here
       (λ cpu ne. subst (λ (x : Share). Stands place' at' x cpu (control cpu)) (sym (same cpu ne))
-      (Stands-kept cpu a.place place' at at' (leaves cpu ne) (share_of a cpu) (control cpu) (s.placed.batched cpu) (s.stands cpu)))
+      (Stands-kept (leaves cpu ne) (share_of a cpu) (control cpu) (s.placed.batched cpu) (s.stands cpu)))
 
   -- a step that stores no handling word
   pub hands_after : (c : ControlValue) → HandIs c.stage (hands_in at me) → (cpu : ℕ) → HandIs (put control me c cpu).stage (hands_in at cpu)

@@ -53,7 +53,7 @@ walks_less nexts s d walk id n call rest w found =
 pub ahead_less : (t : TableId) (d : SeatValue) (walk : Walk) (id n : ℕ) → InHandle t d (handle.LoadNext walk id) → Moment d.known (Next id) n →
     left_from (record_at n) (last_batch d.known.part.taken) < left_from (Some id) (last_batch d.known.part.taken)
 ahead_less t d walk id n at m =
-    let k = lives_stands d.known m.lives (handle.LoadNext walk id) at.stage_is in
+    let k = lives_stands m.lives (handle.LoadNext walk id) at.stage_is in
     walks_less (nexts_in m.lives.at) (share_in d.known.part) d.known.drain walk id n k.0 k.1 k.2 m.number_is
 
 -- and so it is when the CPU has run the call, for it has taken no queue since

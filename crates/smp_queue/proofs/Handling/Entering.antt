@@ -56,12 +56,12 @@ module _ (t : TableId) (d d' : SeatValue) (number : ℕ) where
 pub accepted_then : (t : TableId) (d d' : SeatValue) (v : Known) (number n : ℕ) (q : List Call) → InHandle t d handle.Accept → Moment d.known (Intr number) n → d.known ≡ handling handle.Accept v.drain v →
     d'.known ≡ known_taking q d.known act.Swap (Intr number) (Some n) (Some 0) → d'.known ≡ accepted_known (cond (n == 0) false true) (handling handle.Accept v.drain v)
 accepted_then t d d' v number n q h m is known =
-    let one : (n == 1) ≡ cond (n == 0) false true = subst (λ (k : ℕ). (k == 1) ≡ cond (k == 0) false true) (sym m.number_is) (lives_intr d.known m.lives number) in
+    let one : (n == 1) ≡ cond (n == 0) false true = subst (λ (k : ℕ). (k == 1) ≡ cond (k == 0) false true) (sym m.number_is) (lives_intr m.lives number) in
     known ∙ (accepted_is q d.known number n h.stage_is one ∙ ap (accepted_known (cond (n == 0) false true)) is)
 
 -- where no call runs and none is left, what ran is the drain order of the batches
 ran_orders : (v : Known) → Lives v → v.part.batch ≡ [] → v.part.running ≡ Nothing → v.part.ran ≡ orders v.part.taken
-ran_orders v l b r = sym (append-nil v.part.ran) ∙ ((λ i. v.part.ran ++ (running_call (sym r i) ++ sym b i)) ∙ lives_drained v l)
+ran_orders v l b r = sym (append-nil v.part.ran) ∙ ((λ i. v.part.ran ++ (running_call (sym r i) ++ sym b i)) ∙ lives_drained l)
 
 -- the calls that ran since a queue was taken are that queue in drain order
 pub ran_order : (v w : Known) (queue calls : List Call) → Lives v → v.part.batch ≡ [] → v.part.running ≡ Nothing → Lives w → w.part.batch ≡ [] → w.part.running ≡ Nothing →
@@ -86,8 +86,8 @@ module _ {H : Type 0} (leads : H → Heard → H → Type 0) (t : TableId) (s0 s
       let c6 : cpu_of s6 ≡ cpu_of s5 = λ i. cpu_of (record { table = (t6 ∙ sym h5.table_is) i; known = k6 i }) in
       let c5 : cpu_of s5 ≡ runs (ran.calls ++ ran'.calls) s5.known.part (record (cpu_of s1) { part = part_taken queue s1.known.part }) =
       ran'.cpu ∙ (ap (runs ran'.calls s5.known.part) (ran.cpu ∙ ap (runs ran.calls s4.known.part) (c3 ∙ c2)) ∙ more_calls ran.calls ran'.calls s5.known.part (record (cpu_of s1) { part = part_taken queue s1.known.part })) in
-      let taking = lives_stands s1.known h1.lives handle.Take h1.stage_is in
-      let leaves = lives_stands s5.known h5.lives handle.Leave h5.stage_is in
+      let taking = lives_stands h1.lives handle.Take h1.stage_is in
+      let leaves = lives_stands h5.lives handle.Leave h5.stage_is in
       let leaving = leaves.0 in
       let taken : s5.known.part.taken ≡ s1.known.part.taken ++ queue ∷ [] = ap (λ (v : CpuValue). v.part.taken) c5 in
       let same : ran.calls ++ ran'.calls ≡ order queue = ran_order s1.known s5.known queue (ran.calls ++ ran'.calls) h1.lives taking.0 taking.1 h5.lives leaving.batch leaving.running taken (ap (λ (v : CpuValue). v.part.ran) c5) in (

@@ -34,7 +34,7 @@ module _ (t : TableId) (d d' : SeatValue) (h : HandleStage) (at : InHandle t d h
 pub found_fits : (t : TableId) (d d' : SeatValue) (h : HandleStage) → InHandle t d h → (w : Word) (n : ℕ) → Loads t d d' w n → word_of (known_access d.known (Handle h)) ≡ w → FitsFound h n
 found_fits t d d' h at w n l e =
     let m = l.moment in
-    subst (FitsFound h) (ap m.lives.at e ∙ sym m.number_is) (lives_fits d.known m.lives h at.stage_is).0
+    subst (FitsFound h) (ap m.lives.at e ∙ sym m.number_is) (lives_fits m.lives h at.stage_is).0
 
 -- a CPU that reverses its chain, between two records
 pub record Reversing (t : TableId) (before d : SeatValue) (here next : Option ℕ) (calls : ℕ) : Type 0 where
@@ -45,7 +45,7 @@ pub record Reversing (t : TableId) (before d : SeatValue) (here next : Option �
 -- what is found at some time fits
 pub moment_fits : (t : TableId) (d : SeatValue) (h : HandleStage) → InHandle t d h → (w : Word) (n : ℕ) → Moment d.known w n → word_of (known_access d.known (Handle h)) ≡ w → FitsFound h n
 moment_fits t d h at w n m e =
-    subst (FitsFound h) (ap m.lives.at e ∙ sym m.number_is) (lives_fits d.known m.lives h at.stage_is).0
+    subst (FitsFound h) (ap m.lives.at e ∙ sym m.number_is) (lives_fits m.lives h at.stage_is).0
 
 -- a CPU in its second pass, between two calls
 pub record Running2 {H : Type 0} (leads : H → Heard → H → Type 0) (t : TableId) (before d : SeatValue) (here : Option ℕ) (counts : List ℕ) (first now : H) : Type 0 where
@@ -107,7 +107,7 @@ module _ (t : TableId) (d d1 d2 : SeatValue) (walk : Walk) (id n flags : ℕ) (a
 
   module _ (l2 : Loads t d1 d2 (Flags id) flags) where
     found_lock : flags % 2 ≡ 1
-    found_lock = ap (λ (k : ℕ). k % 2) l2.moment.number_is ∙ lives_locked d1.known l2.moment.lives walk id (record_at n) sync_flags_at.stage_is
+    found_lock = ap (λ (k : ℕ). k % 2) l2.moment.number_is ∙ lives_locked l2.moment.lives walk id (record_at n) sync_flags_at.stage_is
 
     class_known : d2.known ≡ goes_known (handle.LoadFlags walk id (record_at n)) flags (goes_known (handle.LoadNext walk id) n d.known)
     class_known =

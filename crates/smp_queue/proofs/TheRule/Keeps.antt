@@ -48,14 +48,14 @@ exchange_else queue v (Head to) n (Some x) = refl
 exchange_else queue v _ n o = refl
 
 load_step : (a : CallState) (at : Word → ℕ) (control : ℕ → ControlValue) (v : Known) (w : Word) → MayAccess v (Load w) → Shows a at control → Sees a control v → GoesOn a control v.number at (known_told v act.Load w (Some (at w)) None)
-load_step a at control v w can shown sees = subst (GoesOn a control v.number at) (load_else (a.queue v.number) v w (at w)) (known_step v shown sees can.stage can.aims (Load w) can.is_access)
+load_step a at control v w can shown sees = subst (GoesOn a control v.number at) (load_else (a.queue v.number) v w (at w)) (known_step shown sees can.stage can.aims (Load w) can.is_access)
 
 store_step : (a : CallState) (at : Word → ℕ) (control : ℕ → ControlValue) (v : Known) (w : Word) (x : ℕ) → MayAccess v (Store w x) → Shows a at control → Sees a control v → GoesOn a control v.number (put_word at w x) (known_told v act.Store w None (Some x))
-store_step a at control v w x can shown sees = subst (GoesOn a control v.number (put_word at w x)) (store_else (a.queue v.number) v w x) (known_step v shown sees can.stage can.aims (Store w x) can.is_access)
+store_step a at control v w x can shown sees = subst (GoesOn a control v.number (put_word at w x)) (store_else (a.queue v.number) v w x) (known_step shown sees can.stage can.aims (Store w x) can.is_access)
 
 exchange_step : (a : CallState) (at : Word → ℕ) (control : ℕ → ControlValue) (v : Known) (w : Word) (old new : ℕ) → MayAccess v (Exchange w old new) → Shows a at control → Sees a control v →
     GoesOn a control v.number (put_if put_word at w (cond (at w == old) (Some new) None)) (known_told v act.Cas w (Some (at w)) (cond (at w == old) (Some new) None))
-exchange_step a at control v w old new can shown sees = subst (GoesOn a control v.number (put_if put_word at w (cond (at w == old) (Some new) None))) (exchange_else (a.queue v.number) v w (at w) (cond (at w == old) (Some new) None)) (known_step v shown sees can.stage can.aims (Exchange w old new) can.is_access)
+exchange_step a at control v w old new can shown sees = subst (GoesOn a control v.number (put_if put_word at w (cond (at w == old) (Some new) None))) (exchange_else (a.queue v.number) v w (at w) (cond (at w == old) (Some new) None)) (known_step shown sees can.stage can.aims (Exchange w old new) can.is_access)
 
 module _ {S : Type 0} where
   pub starts : Ruled {S = S} (opening (replicate cells 0) [] (Maker 0))
@@ -189,7 +189,7 @@ module _ {S : Type 0} where
         let q = a.queue v.number in (
           known_taking q v act.Swap w (Some (get_or words i 0)) (Some x),
           subst (λ (at : Word → ℕ). GoesOn a control v.number at (known_taking q v act.Swap w (Some (get_or words i 0)) (Some x))) (sym (stored_here words w i x wide e))
-              (subst (λ n. GoesOn a control v.number (put_word (number_in words) w x) (known_taking q v act.Swap w (Some n) (Some x))) here (known_step v shown sees can.stage can.aims (Swap w x) can.is_access)),
+              (subst (λ n. GoesOn a control v.number (put_word (number_in words) w x) (known_taking q v act.Swap w (Some n) (Some x))) here (known_step shown sees can.stage can.aims (Swap w x) can.is_access)),
           λ u f. (
             record { lives = record { calls = a; at = number_in words; controls = control; shown = shown; sees = sees }; number_is = sym (number_here words u i f) },
             ap (λ (y : Word). Cpu (known_taking q v act.Swap y (Some (get_or words i 0)) (Some x))) (one_cell w u i e f),

@@ -45,5 +45,5 @@ returns-clause-room c =
     let l = c.load-link.ensures in
     let at = next_goes _ _ _ _ c.requires c.args.id c.load-link.result (handle.ReverseStore c.args.newer c.args.id (record_at c.load-link.result)) l refl in
     let k = next_known _ _ _ _ c.requires c.args.id c.load-link.result l in
-    let f = lives_fits _ at.lives (handle.ReverseStore c.args.newer c.args.id (record_at c.load-link.result)) at.stage_is in
+    let f = lives_fits at.lives (handle.ReverseStore c.args.newer c.args.id (record_at c.load-link.result)) at.stage_is in
     subst (λ (u : Known). u.drain.calls < MOST_CALLS) k f.1
