@@ -40,11 +40,11 @@ module _ (t : TableId) (d d' : SeatValue) (number : ℕ) where
     entered = in_handle_then t d' handle.Accept (handling handle.Accept d.known.drain d.known) o.sized table lives entered_known refl
 
     pub accept_ready : Ready t d' (Swap (Intr number) 0)
-    accept_ready = in_handle_ready t d' handle.Accept entered (Swap (Intr number) 0) tt (ap (λ (n : ℕ). Swap (Intr n) 0) (ap (λ (u : Known). u.number) entered_known ∙ o.number_is))
+    accept_ready = in_handle_ready entered (Swap (Intr number) 0) tt (ap (λ (n : ℕ). Swap (Intr n) 0) (ap (λ (u : Known). u.number) entered_known ∙ o.number_is))
 
   pub leave_ready : (stage : HandleStage) → InHandle t d stage → IsLeaving stage → d.known.number ≡ number → Ready t d (Store (Hand number) 0)
-  leave_ready handle.LeaveIdle h l e = in_handle_ready t d handle.LeaveIdle h (Store (Hand number) 0) tt (ap (λ (n : ℕ). Store (Hand n) 0) e)
-  leave_ready handle.Leave h l e = in_handle_ready t d handle.Leave h (Store (Hand number) 0) tt (ap (λ (n : ℕ). Store (Hand n) 0) e)
+  leave_ready handle.LeaveIdle h l e = in_handle_ready h (Store (Hand number) 0) tt (ap (λ (n : ℕ). Store (Hand n) 0) e)
+  leave_ready handle.Leave h l e = in_handle_ready h (Store (Hand number) 0) tt (ap (λ (n : ℕ). Store (Hand n) 0) e)
   leave_ready _ h l e = absurd l
 
   pub leave_known : (stage : HandleStage) → InHandle t d stage → IsLeaving stage → known_told d.known act.Store (Hand number) None (Some 0) ≡ outside_known d.known

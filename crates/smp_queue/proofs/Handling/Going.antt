@@ -23,7 +23,7 @@ first_at {t} {d} walk e h = subst (λ (x : Option ℕ). InHandle t d (first_on w
 pub second_at : {t : TableId} {d : SeatValue} {here : Option ℕ} {id : ℕ} → here ≡ Some id → InHandle t d (second_on here) → InHandle t d (handle.AsyncNext id)
 second_at {t} {d} e h = subst (λ (x : Option ℕ). InHandle t d (second_on x)) e h
 
-module _ (t : TableId) (d d' : SeatValue) (h : HandleStage) (at : InHandle t d h) (id n : ℕ) where
+module _ {t : TableId} {d : SeatValue} (d' : SeatValue) {h : HandleStage} (at : InHandle t d h) (id n : ℕ) where
   pub next_known : Loads t d d' (Next id) n → d'.known ≡ goes_known h n d.known
   next_known l = l.known ∙ next_found_is d.known h id n at.stage_is
 
@@ -53,9 +53,9 @@ pub record Running2 {H : Type 0} (leads : H → Heard → H → Type 0) (t : Tab
   pub ran : HasRunAll leads before d counts first now
 
 -- three loads after one another, of a record of the second pass
-module _ (t : TableId) (d d1 d2 d3 : SeatValue) (id n func info : ℕ) (at : InHandle t d (handle.AsyncNext id)) (l1 : Loads t d d1 (Next id) n) where
+module _ {t : TableId} {d d1 : SeatValue} (d2 d3 : SeatValue) (id : ℕ) {n : ℕ} (func info : ℕ) (at : InHandle t d (handle.AsyncNext id)) (l1 : Loads t d d1 (Next id) n) where
   pub async_func_at : InHandle t d1 (handle.AsyncFunc id (record_at n))
-  async_func_at = next_goes t d d1 (handle.AsyncNext id) at id n (handle.AsyncFunc id (record_at n)) l1 refl
+  async_func_at = next_goes d1 at id n (handle.AsyncFunc id (record_at n)) l1 refl
 
   module _ (l2 : Loads t d1 d2 (Func id) func) where
     pub async_info_at : InHandle t d2 (handle.AsyncInfo id (record_at n) func)
@@ -64,7 +64,7 @@ module _ (t : TableId) (d d1 d2 d3 : SeatValue) (id n func info : ℕ) (at : InH
     module _ (l3 : Loads t d2 d3 (Info id) info) where
       pub async_known : d3.known ≡ record (d.known) { stage = d3.known.stage }
       async_known =
-          let k1 = next_known t d d1 (handle.AsyncNext id) at id n l1 in
+          let k1 = next_known d1 at id n l1 in
           let k2 = l2.known ∙ (func_found_is d1.known (handle.AsyncFunc id (record_at n)) id func async_func_at.stage_is ∙ ap (goes_known (handle.AsyncFunc id (record_at n)) func) k1) in
           let k3 = l3.known ∙ (info_found_is d2.known (handle.AsyncInfo id (record_at n) func) id info async_info_at.stage_is ∙ ap (goes_known (handle.AsyncInfo id (record_at n) func) info) k2) in
           k3 ∙ ap (λ (x : Option Stage). record (d.known) { stage = x }) (sym (ap (λ (u : Known). u.stage) k3))
@@ -80,7 +80,7 @@ run_kept {H} leads before d d' counts p q r table k = record {
 }
 
 -- two loads after one another, of a SYNC record of the first pass
-module _ (t : TableId) (d d1 d2 : SeatValue) (walk : Walk) (id : ℕ) (next : Option ℕ) (func info : ℕ) (at : InHandle t d (handle.LoadFunc walk id next)) (l1 : Loads t d d1 (Func id) func) where
+module _ {t : TableId} {d d1 : SeatValue} (d2 : SeatValue) (walk : Walk) (id : ℕ) (next : Option ℕ) {func : ℕ} (info : ℕ) (at : InHandle t d (handle.LoadFunc walk id next)) (l1 : Loads t d d1 (Func id) func) where
   pub sync_info_at : InHandle t d1 (handle.LoadInfo walk id next func)
   sync_info_at = in_handle_then t d1 (handle.LoadInfo walk id next func) (goes_known (handle.LoadFunc walk id next) func d.known) at.sized l1.table l1.lives (l1.known ∙ func_found_is d.known (handle.LoadFunc walk id next) id func at.stage_is) refl
 
@@ -101,9 +101,9 @@ pub record Running1 {H : Type 0} (leads : H → Heard → H → Type 0) (t : Tab
   pub ran : HasRunAll leads before d counts first now
 
 -- two loads after one another, by which a CPU in its first pass learns the class of a record
-module _ (t : TableId) (d d1 d2 : SeatValue) (walk : Walk) (id n flags : ℕ) (at : InHandle t d (handle.LoadNext walk id)) (l1 : Loads t d d1 (Next id) n) where
+module _ {t : TableId} {d d1 : SeatValue} (d2 : SeatValue) (walk : Walk) (id : ℕ) {n : ℕ} (flags : ℕ) (at : InHandle t d (handle.LoadNext walk id)) (l1 : Loads t d d1 (Next id) n) where
   pub sync_flags_at : InHandle t d1 (handle.LoadFlags walk id (record_at n))
-  sync_flags_at = next_goes t d d1 (handle.LoadNext walk id) at id n (handle.LoadFlags walk id (record_at n)) l1 refl
+  sync_flags_at = next_goes d1 at id n (handle.LoadFlags walk id (record_at n)) l1 refl
 
   module _ (l2 : Loads t d1 d2 (Flags id) flags) where
     found_lock : flags % 2 ≡ 1
@@ -112,7 +112,7 @@ module _ (t : TableId) (d d1 d2 : SeatValue) (walk : Walk) (id n flags : ℕ) (a
     class_known : d2.known ≡ goes_known (handle.LoadFlags walk id (record_at n)) flags (goes_known (handle.LoadNext walk id) n d.known)
     class_known =
         l2.known ∙ (flags_found_is d1.known (handle.LoadFlags walk id (record_at n)) id flags sync_flags_at.stage_is found_lock
-        ∙ ap (goes_known (handle.LoadFlags walk id (record_at n)) flags) (next_known t d d1 (handle.LoadNext walk id) at id n l1))
+        ∙ ap (goes_known (handle.LoadFlags walk id (record_at n)) flags) (next_known d1 at id n l1))
 
     pub class_goes : (h : HandleStage) → by_class (class_of flags) walk id (record_at n) ≡ h → InHandle t d2 h
     class_goes h e = in_handle_then t d2 h (goes_known (handle.LoadFlags walk id (record_at n)) flags (goes_known (handle.LoadNext walk id) n d.known)) at.sized l2.table l2.lives class_known

@@ -9,7 +9,7 @@ use Rattle.smp_queue.specs.Cells.{cells, HasCell}
 use Rattle.smp_queue.specs.Seat.{SeatValue, MayAccess, Ready, InHandle, IsApartFromCalls}
 use Rattle.smp_queue.proofs.TheRule.Cells.{has_cell_of}
 
-module _ (t : TableId) (d : SeatValue) (stage : HandleStage) (h : InHandle t d stage) where
+module _ {t : TableId} {d : SeatValue} {stage : HandleStage} (h : InHandle t d stage) where
   pub in_handle_can : (access : Access) → known_access d.known (Handle stage) ≡ access → MayAccess d.known access
   in_handle_can access is = record { stage = Handle stage; aims = lives_aims h.lives stage h.stage_is; is_access = is }
 

@@ -27,7 +27,7 @@ kept_fresh v number e l = record {
   ran_are = λ source _. get_or-same 0 cpus source ∙ ap (λ (x : Known). length (calls_from source x.part.ran) % 2 ^ 64) (sym e);
 }
 
-module _ (v : Known) (number : ℕ) (queued ran : List ℕ) (k : IsKept v number queued ran) where
+module _ {v : Known} {number : ℕ} {queued ran : List ℕ} (k : IsKept v number queued ran) where
   pub kept_confirmed : (id : ℕ) → IsKept (confirmed_known id v) number queued ran
   kept_confirmed id = record {
     number_is = k.number_is;
@@ -96,7 +96,7 @@ pub kept_posted : (v w v' : Known) (number : ℕ) (queued ran : List ℕ) (p : P
     IsKept v' number (set queued p.to ((get_or queued p.to 0 + 1) % 2 ^ 64)) ran
 kept_posted v w v' number queued ran p first k l e f =
     let known : v' ≡ queued_known (posted p) p.to first v = f ∙ ap (queued_known (posted p) p.to first) e in
-    subst (λ (u : Known). IsKept u number (set queued p.to ((get_or queued p.to 0 + 1) % 2 ^ 64)) ran) (sym known) (kept_appended v number queued ran k p.to first (posted p) l)
+    subst (λ (u : Known). IsKept u number (set queued p.to ((get_or queued p.to 0 + 1) % 2 ^ 64)) ran) (sym known) (kept_appended k p.to first (posted p) l)
 
 -- the counts of a CPU that is about to count a call
 pub kept_counting : (v w : Known) (number to count : ℕ) (queued ran : List ℕ) (p : Posting) → IsKept v number queued ran → p.to ≡ to → to < cpus → count ≡ get_or queued to 0 →

@@ -11,7 +11,7 @@ use Rattle.smp_queue.proofs.run.run_async_calls.Goals as goal
 pub load-link-requires : goal.load-link-requires
 load-link-requires g c =
     let here = second_at c.in-Some.is c.loop-here.invariant.at in
-    in_handle_ready _ _ _ here (Load (Next c.in-Some.id)) tt refl
+    in_handle_ready here (Load (Next c.in-Some.id)) tt refl
 
 pub record_of-next-requires : goal.record_of-next-requires
 record_of-next-requires g c =
@@ -23,14 +23,14 @@ pub load-func-requires : goal.load-func-requires
 load-func-requires g c =
     let here = second_at c.in-Some.is c.loop-here.invariant.at in
     let l1 = c.load-link.ensures in
-    in_handle_ready _ _ _ (async_func_at _ _ _ c.loop-here.seat c.loop-here.seat _ _ 0 0 here l1) (Load (Func c.in-Some.id)) tt refl
+    in_handle_ready (async_func_at c.loop-here.seat c.loop-here.seat _ 0 0 here l1) (Load (Func c.in-Some.id)) tt refl
 
 pub load-info-requires : goal.load-info-requires
 load-info-requires g c =
     let here = second_at c.in-Some.is c.loop-here.invariant.at in
     let l1 = c.load-link.ensures in
     let l2 = c.load-func.ensures in
-    in_handle_ready _ _ _ (async_info_at _ _ _ _ c.loop-here.seat _ _ _ 0 here l1 l2) (Load (Info c.in-Some.id)) tt refl
+    in_handle_ready (async_info_at _ c.loop-here.seat _ _ 0 here l1 l2) (Load (Info c.in-Some.id)) tt refl
 
 pub loop-here-preserved : goal.loop-here-preserved
 loop-here-preserved g c =
@@ -38,6 +38,6 @@ loop-here-preserved g c =
     let l1 = c.load-link.ensures in
     let l2 = c.load-func.ensures in
     let l3 = c.load-info.ensures in
-    let known = async_known _ _ _ _ _ _ _ _ _ here l1 l2 l3 in
+    let known = async_known _ _ _ _ _ here l1 l2 l3 in
     let ran = run_kept g.H.Handler.leads c.args.seat.now c.loop-here.seat c.load-info.new.seat _ _ _ c.loop-here.invariant.ran (l3.table ∙ sym here.table_is) known in
     record { at = c.run_async.ensures.at; ran = more_run g.H.Handler.leads _ _ _ _ _ _ _ _ _ _ _ ran c.run_async.ensures }
