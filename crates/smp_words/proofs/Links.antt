@@ -1,6 +1,7 @@
 -- The list of words as a function from names: a store in the list is a put at the name. With Sizes, the only proofs
 -- that know the numbers of the words.
-use Rattle.std.proofs.Common.{◌≡◌, ℕ, ◌+◌, ◌*◌, ◌-◌, ◌/◌, ◌%◌, ◌<◌, ◌≤◌, Bool, true, false, ◌==◌, ◌&&◌, nat_lt, cond, Option, Some, None, List, length, sym, refl, ap, ◌∙◌, arith}
+use Rattle.std.proofs.Common.{◌≡◌, ℕ, ◌+◌, ◌*◌, ◌-◌, ◌/◌, ◌%◌, ◌<◌, ◌≤◌, Bool, true, false, ◌==◌, ◌&&◌, nat_lt, cond, Option, Some, None, List, length, sym}
+use Rattle.std.proofs.Common.{refl, ap, ◌∙◌, arith}
 use Rattle.std.proofs.lemmas.Bool.{ltb-true, and_parts, lt-ltb, le-ltb}
 use Rattle.smp_words.specs.Size.{cpus, records, table_size}
 use Rattle.smp_words.specs.Put.{put_word}
@@ -147,8 +148,10 @@ pub record HasIndex (w : Word) : Type 0 where
   pub is_index : index_of w ≡ Some index
 
 -- a store in a word that there is
-pub number_in-put_in : (words : List ℕ) (w : Word) (n : ℕ) → length words ≡ table_size → HasIndex w → number_in (put_in words w n) ≡ put_word (number_in words) w n
-number_in-put_in words w n l h = ap (λ (o : Option ℕ). number_in (put_at words o n)) h.is_index ∙ stored_at index_of one_word words w h.index n (let b = h.below in omega arith) h.is_index
+pub number_in-put_in : (words : List ℕ) (w : Word) (n : ℕ) → length words ≡ table_size → HasIndex w
+    → number_in (put_in words w n) ≡ put_word (number_in words) w n
+number_in-put_in words w n l h = ap (λ (o : Option ℕ). number_in (put_at words o n)) h.is_index
+    ∙ stored_at index_of one_word words w h.index n (let b = h.below in omega arith) h.is_index
 
 -- the words whose CPUs or record there are
 abbrev pub IsInTable : Word → Type 0

@@ -27,6 +27,7 @@ pub put_all : {A : Type 0} (R : ℕ → A → Type 0) (f : ℕ → A) (i : ℕ) 
 put_all {A} R f i v here others j =
     at_test j i (λ b. R j (cond b v (f j))) (λ e. let P : ℕ → Type 0 = λ k. R k v in subst P (sym e) here) (λ ne. others j ne)
 
-pub put_both : {A B : Type 0} (R : ℕ → A → B → Type 0) (f : ℕ → A) (g : ℕ → B) (i : ℕ) (v : A) (w : B) → R i v w → ((j : ℕ) → j ≢ i → R j (f j) (g j)) → (j : ℕ) → R j (put f i v j) (put g i w j)
+pub put_both : {A B : Type 0} (R : ℕ → A → B → Type 0) (f : ℕ → A) (g : ℕ → B) (i : ℕ) (v : A) (w : B) → R i v w → ((j : ℕ) → j ≢ i → R j (f j) (g j)) → (j : ℕ)
+    → R j (put f i v j) (put g i w j)
 put_both {A} {B} R f g i v w here others j =
     at_test j i (λ b. R j (cond b v (f j)) (cond b w (g j))) (λ e. let P : ℕ → Type 0 = λ k. R k v w in subst P (sym e) here) (λ ne. others j ne)

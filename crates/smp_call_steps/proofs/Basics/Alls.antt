@@ -10,7 +10,8 @@ every P Q f [] h = tt
 every P Q f (x ∷ xs) h = (f x h.0, every P Q f xs h.1)
 
 -- with two facts of each
-pub every_both : {A : Type 0} (P Q R : A → Type 0) → ((x : A) → P x → Q x → R x) → (xs : List A) → AllByRecursion P xs → AllByRecursion Q xs → AllByRecursion R xs
+pub every_both : {A : Type 0} (P Q R : A → Type 0) → ((x : A) → P x → Q x → R x) → (xs : List A) → AllByRecursion P xs → AllByRecursion Q xs
+    → AllByRecursion R xs
 every_both P Q R f [] h k = tt
 every_both P Q R f (x ∷ xs) h k = (f x h.0 k.0, every_both P Q R f xs h.1 k.1)
 

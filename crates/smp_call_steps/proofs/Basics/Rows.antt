@@ -21,8 +21,11 @@ put_suc f i x k = at_test k i (λ b. put f (suc i) x (suc k) ≡ cond b x (f (su
 pub row-put : {A : Type 0} (n i : ℕ) (f : ℕ → A) (x : A) → row n (put f i x) ≡ set (row n f) i x
 unfolding row
 row-put zero i f x = refl
-row-put {A} (suc n) zero f x = (λ j. put_same f zero x j ∷ row-same n (λ k. put f zero x (suc k)) (λ k. f (suc k)) (λ k. put_other f zero x (suc k) (omega arith)) j)
-row-put {A} (suc n) (suc i) f x = (λ j. put_other f (suc i) x zero (omega arith) j ∷ (row-same n (λ k. put f (suc i) x (suc k)) (put (λ k. f (suc k)) i x) (put_suc f i x) ∙ row-put n i (λ k. f (suc k)) x) j)
+row-put {A} (suc n) zero f x =
+    (λ j. put_same f zero x j ∷ row-same n (λ k. put f zero x (suc k)) (λ k. f (suc k)) (λ k. put_other f zero x (suc k) (omega arith)) j)
+row-put {A} (suc n) (suc i) f x =
+    (λ j. put_other f (suc i) x zero (omega arith) j ∷
+    (row-same n (λ k. put f (suc i) x (suc k)) (put (λ k. f (suc k)) i x) (put_suc f i x) ∙ row-put n i (λ k. f (suc k)) x) j)
 
 -- the row of one CPU, with one value put in it
 pub row_own : {A : Type 0} (n me i : ℕ) (f : ℕ → ℕ → A) (x : A) → row n (put f me (put (f me) i x) me) ≡ set (row n (f me)) i x

@@ -19,7 +19,8 @@ use Rattle.smp_call_steps.proofs.State.Walks.{reverses_all, walks_rest, walks_la
 use Rattle.smp_words.proofs.Links.{HasIndex, IsInTable, in_table}
 use Rattle.smp_words.proofs.Sizes.{owner-below}
 
-post_in_table : (places : ℕ → RecPlace) (at : Word → ℕ) (me : ℕ) (p : Posting) (stage : PostStage) → PostStands places at me p stage → IsInTable (word_of (access_of at me (Post p stage)))
+post_in_table : (places : ℕ → RecPlace) (at : Word → ℕ) (me : ℕ) (p : Posting) (stage : PostStage) → PostStands places at me p stage
+    → IsInTable (word_of (access_of at me (Post p stage)))
 post_in_table places at me p post.Count s = (s.me_in_range, s.goes)
 post_in_table places at me p post.LoadHead s = s.goes
 post_in_table places at me p (post.Exchange link tries) s = s.goes
@@ -38,7 +39,8 @@ module _ (places : ℕ → RecPlace) (at : Word → ℕ) (me : ℕ) (s : Share) 
   reversed_in_range : (up down : ℕ) (call : Call) (id : ℕ) → Reverses (nexts_in at) s d up down call → call.id ≡ id → id < records
   reversed_in_range up down call id h e = subst (λ (k : ℕ). k < records) e (reversed_placed up down call h).is_call.in_range
 
-  pub walked_placed : (walk : Walk) (id : ℕ) (call : Call) (rest : List Call) → Walks (nexts_in at) s d walk (id + 1) [] (call ∷ rest) Nothing → IsPlaced places (place.Batch me) call
+  pub walked_placed : (walk : Walk) (id : ℕ) (call : Call) (rest : List Call) → Walks (nexts_in at) s d walk (id + 1) [] (call ∷ rest) Nothing
+      → IsPlaced places (place.Batch me) call
   walked_placed walk id call rest h = let all = walks_rest (IsPlaced places (place.Batch me)) h batched in all.0
 
   walked_in_range : (walk : Walk) (id : ℕ) (call : Call) (rest : List Call) → Walks (nexts_in at) s d walk (id + 1) [] (call ∷ rest) Nothing → id < records
@@ -49,7 +51,8 @@ module _ (places : ℕ → RecPlace) (at : Word → ℕ) (me : ℕ) (s : Share) 
       let k = walks_last (IsPlaced places (place.Batch me)) (nexts_in at) s d walk last here rest h e batched in
       subst (λ (n : ℕ). n < records) k.1 k.2.is_call.in_range
 
-  pub ended_placed : (id : ℕ) (call : Call) (rest : List Call) → Ends (nexts_in at) s d (id + 1) [] (call ∷ rest) Nothing → IsPlaced places (place.Batch me) call
+  pub ended_placed : (id : ℕ) (call : Call) (rest : List Call) → Ends (nexts_in at) s d (id + 1) [] (call ∷ rest) Nothing
+      → IsPlaced places (place.Batch me) call
   ended_placed id call rest h = let all = ends_rest (IsPlaced places (place.Batch me)) h batched in all.0
 
   ended_in_range : (id : ℕ) (call : Call) (rest : List Call) → Ends (nexts_in at) s d (id + 1) [] (call ∷ rest) Nothing → id < records
@@ -90,7 +93,9 @@ module _ (places : ℕ → RecPlace) (at : Word → ℕ) (me : ℕ) (s : Share) 
   stage_in_table (Handle stage) h = handle_in_table stage h.0 h.1
 
 -- the CPU of a stage, and the word of its access
-pub access_in_table : (a : CallState) (at : Word → ℕ) (control : ℕ → ControlValue) (me : ℕ) → Shows a at control → (stage : Stage) → (control me).stage ≡ Some stage → HasIndex (word_of (access_of at me stage))
+pub access_in_table : (a : CallState) (at : Word → ℕ) (control : ℕ → ControlValue) (me : ℕ) → Shows a at control → (stage : Stage)
+    → (control me).stage ≡ Some stage → HasIndex (word_of (access_of at me stage))
 access_in_table a at control me s stage e =
     let stands : StandsAt a.place at (share_of a me) (control me).drain me (Some stage) = rw e at (s.stands me) in
-    in_table (word_of (access_of at me stage)) (stage_in_table a.place at me (share_of a me) (control me).drain (s.placed.batched me) (s.placed.runs me) stage stands)
+    in_table (word_of (access_of at me stage))
+        (stage_in_table a.place at me (share_of a me) (control me).drain (s.placed.batched me) (s.placed.runs me) stage stands)

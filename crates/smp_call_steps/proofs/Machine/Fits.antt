@@ -31,7 +31,8 @@ room_for_all : (n : ℕ) → n + 1 ≤ records → n < MOST_CALLS
 room_for_all n l = omega arith
 
 -- a link of a chain is a record and one, or none
-link_fits : (nexts : ℕ → ℕ) (link : ℕ) (calls : List Call) (below : ℕ) → below ≤ 2 ^ 32 → AllByRecursion IsRecord calls → Leads nexts link calls below → link ≤ 2 ^ 32
+link_fits : (nexts : ℕ → ℕ) (link : ℕ) (calls : List Call) (below : ℕ) → below ≤ 2 ^ 32 → AllByRecursion IsRecord calls → Leads nexts link calls below
+    → link ≤ 2 ^ 32
 link_fits nexts link [] below b h l = subst (λ (k : ℕ). k ≤ 2 ^ 32) (sym l) b
 link_fits nexts link (x ∷ xs) below b h l = link_fits nexts link xs (x.id + 1) (records_fit x.id h.0) h.1 l.1
 
@@ -89,7 +90,8 @@ module _ {a : CallState} {at : Word → ℕ} {control : ℕ → ControlValue} (m
       subst (λ (n : ℕ). at (Next n) ≤ 2 ^ 32) (same_record id k.0 k.2.leads_on.0) (path_fits (nexts_in at) (at (Next k.0.id)) k.1 all.1 k.2.leads_on.1)
 
   -- a batch has no more calls than there are records
-  room_fits : (newer : Option ℕ) (id : ℕ) (older : Option ℕ) → (control me).stage ≡ Some (Handle (handle.ReverseStore newer id older)) → (control me).drain.calls < MOST_CALLS
+  room_fits : (newer : Option ℕ) (id : ℕ) (older : Option ℕ) → (control me).stage ≡ Some (Handle (handle.ReverseStore newer id older))
+      → (control me).drain.calls < MOST_CALLS
   room_fits newer id older e =
       let was = stands_at me s (handle.ReverseStore newer id older) e in
       let h = was.1.1 in
@@ -99,7 +101,8 @@ module _ {a : CallState} {at : Word → ℕ} {control : ℕ → ControlValue} (m
       let k = h.counted in
       room_for_all (control me).drain.calls (omega arith)
 
-  handle_fits : (stage : HandleStage) → (control me).stage ≡ Some (Handle stage) → FitsStage (control me).drain (Handle stage) (at (word_of (access_of at me (Handle stage))))
+  handle_fits : (stage : HandleStage) → (control me).stage ≡ Some (Handle stage)
+      → FitsStage (control me).drain (Handle stage) (at (word_of (access_of at me (Handle stage))))
   handle_fits handle.Take e = (chain_fits (nexts_in at) (at (Head me)) (a.queue me) queued_records (s.chained.chain me), tt)
   handle_fits (handle.ReverseLoad newer id) e = (down_fits newer id e, tt)
   handle_fits (handle.ReverseStore newer id older) e = (tt, room_fits newer id older e)
@@ -110,7 +113,8 @@ module _ {a : CallState} {at : Word → ℕ} {control : ℕ → ControlValue} (m
   handle_fits _ e = (tt, tt)
 
 -- the number that a step finds, and the room for it
-pub found_fits : (a : CallState) (at : Word → ℕ) (control : ℕ → ControlValue) (me : ℕ) → Shows a at control → (stage : Stage) → (control me).stage ≡ Some stage →
+pub found_fits : (a : CallState) (at : Word → ℕ) (control : ℕ → ControlValue) (me : ℕ) → Shows a at control → (stage : Stage) → (control me).stage ≡ Some stage
+    →
     FitsStage (control me).drain stage (at (word_of (access_of at me stage)))
 found_fits a at control me s (Handle stage) e = handle_fits me s stage e
 found_fits a at control me s _ e = tt

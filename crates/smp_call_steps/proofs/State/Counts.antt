@@ -29,8 +29,10 @@ by-parts id [] = refl
 by-parts id (call ∷ rest) =
     let one = by-class id call.class call in
     let r = by-parts id rest in
-    let a : calls_by id (sync_calls (call ∷ rest)) ≡ calls_by id (if_sync call.class call) + calls_by id (sync_calls rest) = by-append id (if_sync call.class call) (sync_calls rest) in
-    let b : calls_by id (async_calls (call ∷ rest)) ≡ calls_by id (if_async call.class call) + calls_by id (async_calls rest) = by-append id (if_async call.class call) (async_calls rest) in
+    let a : calls_by id (sync_calls (call ∷ rest)) ≡ calls_by id (if_sync call.class call) + calls_by id (sync_calls rest) =
+        by-append id (if_sync call.class call) (sync_calls rest) in
+    let b : calls_by id (async_calls (call ∷ rest)) ≡ calls_by id (if_async call.class call) + calls_by id (async_calls rest) =
+        by-append id (if_async call.class call) (async_calls rest) in
     let w : calls_by id (call ∷ rest) ≡ calls_by id (call ∷ []) + calls_by id rest = by-append id (call ∷ []) rest in
     omega arith
 
@@ -61,12 +63,14 @@ by-running id _ = omega arith
 
 -- a record that its source holds is at that place
 
-post_held : (places : ℕ → RecPlace) (at : Word → ℕ) (id : ℕ) (p : Posting) (stage : PostStage) → PostKnows places at p stage → Holds (held_of_post p stage) id → places id ≡ place.Held
+post_held : (places : ℕ → RecPlace) (at : Word → ℕ) (id : ℕ) (p : Posting) (stage : PostStage) → PostKnows places at p stage → Holds (held_of_post p stage) id
+    → places id ≡ place.Held
 post_held places at id p post.LoadFlags k h = absurd h
 post_held places at id p post.Lock k h = absurd h
 post_held places at id p _ k h = rw h at k.0
 
-stage_held : (places : ℕ → RecPlace) (at : Word → ℕ) (s : Share) (d : DrainValue) (me id : ℕ) (stage : Option Stage) → StandsAt places at s d me stage → Holds (held_of stage) id → places id ≡ place.Held
+stage_held : (places : ℕ → RecPlace) (at : Word → ℕ) (s : Share) (d : DrainValue) (me id : ℕ) (stage : Option Stage) → StandsAt places at s d me stage
+    → Holds (held_of stage) id → places id ≡ place.Held
 stage_held places at s d me id (Some (Post p stage)) k h = post_held places at id p stage k.1.knows h
 stage_held places at s d me id _ k h = absurd h
 
@@ -89,7 +93,8 @@ module _ {a : CallState} {at : Word → ℕ} {control : ℕ → ControlValue} (s
       stage_held a.place at (share_of a source) (control source).drain source id (control source).stage (s.stands source) k
 
   confirmed_out : (id : ℕ) → a.confirmed (owner id) id ≡ true → IsOut (a.place id)
-  confirmed_out id e = elim (s.placed.settled (owner id) id refl e) [ inl f ↦ free_out (a.place id) f | inr h ↦ held_out (a.place id) (held_place (owner id) id h) ]
+  confirmed_out id e =
+      elim (s.placed.settled (owner id) id refl e) [ inl f ↦ free_out (a.place id) f | inr h ↦ held_out (a.place id) (held_place (owner id) id h) ]
 
   pub confirmed_calls_ran : ConfirmedCallsRan a
   confirmed_calls_ran id cpu e =
@@ -98,7 +103,8 @@ module _ {a : CallState} {at : Word → ℕ} {control : ℕ → ControlValue} (s
       let b = none_by a.place (place.Batch cpu) id (a.batch cpu) (out.batch cpu) (s.placed.batched cpu) in
       let r = none_by a.place (place.Running cpu) id (locked_by (a.running cpu)) (out.running cpu) (s.placed.runs cpu) in
       let runs = by-running id (a.running cpu) in
-      let all : calls_by id (a.ran cpu ++ (running_call (a.running cpu) ++ a.batch cpu)) ≡ calls_by id (orders (a.taken cpu)) = ap (calls_by id) (s.recorded.drained cpu) in
+      let all : calls_by id (a.ran cpu ++ (running_call (a.running cpu) ++ a.batch cpu)) ≡ calls_by id (orders (a.taken cpu)) =
+          ap (calls_by id) (s.recorded.drained cpu) in
       let same = by-orders id (a.taken cpu) in
       let left = by-append id (a.ran cpu) (running_call (a.running cpu) ++ a.batch cpu) in
       let right = by-append id (running_call (a.running cpu)) (a.batch cpu) in

@@ -52,7 +52,8 @@ else_minded me cpu id u places mine ne theirs e =
     ne (one_minds me cpu id (places id) mine there)
 
 -- a step on a record that I mind leaves the others alone
-pub leaves_others : (me id : ℕ) (places places' : ℕ → RecPlace) (at at' : Word → ℕ) → Minds me id (places id) → Touches id places places' at at' → (cpu : ℕ) → cpu ≢ me → LeavesTo cpu places places' at at'
+pub leaves_others : (me id : ℕ) (places places' : ℕ → RecPlace) (at at' : Word → ℕ) → Minds me id (places id) → Touches id places places' at at' → (cpu : ℕ)
+    → cpu ≢ me → LeavesTo cpu places places' at at'
 leaves_others me id places places' at at' mine t cpu ne = record {
   place_stays = λ u m. t.place_stays u (else_minded me cpu id u places mine ne m);
   flags = λ u m. t.flags u (else_minded me cpu id u places mine ne m);
@@ -62,9 +63,11 @@ leaves_others me id places places' at at' mine t cpu ne = record {
 }
 
 -- a step on words of CPUs alone
-pub leaves_all : (places : ℕ → RecPlace) (at at' : Word → ℕ) → ((id : ℕ) → at' (Flags id) ≡ at (Flags id)) → ((id : ℕ) → at' (Func id) ≡ at (Func id)) → ((id : ℕ) → at' (Info id) ≡ at (Info id)) → ((id : ℕ) → at' (Next id) ≡ at (Next id)) →
+pub leaves_all : (places : ℕ → RecPlace) (at at' : Word → ℕ) → ((id : ℕ) → at' (Flags id) ≡ at (Flags id)) → ((id : ℕ) → at' (Func id) ≡ at (Func id))
+    → ((id : ℕ) → at' (Info id) ≡ at (Info id)) → ((id : ℕ) → at' (Next id) ≡ at (Next id)) →
     (cpu : ℕ) → LeavesTo cpu places places at at'
-leaves_all places at at' flags func info next cpu = record { place_stays = λ _ _. refl; flags = λ u _. flags u; func = λ u _. func u; info = λ u _. info u; next = λ u _. next u }
+leaves_all places at at' flags func info next cpu =
+    record { place_stays = λ _ _. refl; flags = λ u _. flags u; func = λ u _. func u; info = λ u _. info u; next = λ u _. next u }
 
 -- where the next words of these calls stay, so does the chain
 pub Leads-kept : (nexts nexts' : ℕ → ℕ) (P : Call → Type 0) → ((call : Call) → P call → nexts' call.id ≡ nexts call.id) →
@@ -96,7 +99,8 @@ module _ {cpu : ℕ} {places places' : ℕ → RecPlace} {at at' : Word → ℕ}
   next_of : (id : ℕ) (call : Call) → call.id ≡ id → IsPlaced places (place.Batch cpu) call → at' (Next id) ≡ at (Next id)
   next_of id call e q = subst (λ (k : ℕ). at' (Next k) ≡ at (Next k)) e (same_next call q)
 
-  Reverses-kept : (s : Share) (d : DrainValue) (up down : ℕ) (call : Call) → AllPlaced places (place.Batch cpu) s.batch → Reverses (nexts_in at) s d up down call → Reverses (nexts_in at') s d up down call
+  Reverses-kept : (s : Share) (d : DrainValue) (up down : ℕ) (call : Call) → AllPlaced places (place.Batch cpu) s.batch
+      → Reverses (nexts_in at) s d up down call → Reverses (nexts_in at') s d up down call
   Reverses-kept s d up down call b h =
       let all = reverses_all (IsPlaced places (place.Batch cpu)) h b in
       let newer = every_right (IsPlaced places (place.Batch cpu)) h.older (call ∷ h.newer) all in
@@ -104,7 +108,8 @@ module _ {cpu : ℕ} {places places' : ℕ → RecPlace} {at at' : Word → ℕ}
         older = h.older;
         newer = h.newer;
         whole = h.whole;
-        leads_down = Leads-kept (nexts_in at) (nexts_in at') (IsPlaced places (place.Batch cpu)) same_next down h.older 0 (every_left (IsPlaced places (place.Batch cpu)) h.older (call ∷ h.newer) all) h.leads_down;
+        leads_down = Leads-kept (nexts_in at) (nexts_in at') (IsPlaced places (place.Batch cpu)) same_next down h.older 0
+            (every_left (IsPlaced places (place.Batch cpu)) h.older (call ∷ h.newer) all) h.leads_down;
         leads_up = Path-kept (nexts_in at) (nexts_in at') (IsPlaced places (place.Batch cpu)) same_next up h.newer 0 newer.1 h.leads_up;
         apart = h.apart;
         counted = h.counted;
@@ -113,21 +118,25 @@ module _ {cpu : ℕ} {places places' : ℕ → RecPlace} {at at' : Word → ℕ}
         accepted = h.accepted;
       }
 
-  reversed_next : (s : Share) (d : DrainValue) (up down : ℕ) (call : Call) (id : ℕ) → call.id ≡ id → AllPlaced places (place.Batch cpu) s.batch → Reverses (nexts_in at) s d up down call → at' (Next id) ≡ at (Next id)
+  reversed_next : (s : Share) (d : DrainValue) (up down : ℕ) (call : Call) (id : ℕ) → call.id ≡ id → AllPlaced places (place.Batch cpu) s.batch
+      → Reverses (nexts_in at) s d up down call → at' (Next id) ≡ at (Next id)
   reversed_next s d up down call id e b h =
       let all = reverses_all (IsPlaced places (place.Batch cpu)) h b in
       let newer = every_right (IsPlaced places (place.Batch cpu)) h.older (call ∷ h.newer) all in
       next_of id call e newer.0
 
-  Walks-kept : (s : Share) (d : DrainValue) (walk : Walk) (here : ℕ) (front rest : List Call) (running : Running) → AllPlaced places (place.Batch cpu) s.batch → Walks (nexts_in at) s d walk here front rest running → Walks (nexts_in at') s d walk here front rest running
+  Walks-kept : (s : Share) (d : DrainValue) (walk : Walk) (here : ℕ) (front rest : List Call) (running : Running) → AllPlaced places (place.Batch cpu) s.batch
+      → Walks (nexts_in at) s d walk here front rest running → Walks (nexts_in at') s d walk here front rest running
   Walks-kept s d walk here front rest running b h = record {
     passed = h.passed;
     begun = h.begun;
     whole = h.whole;
     begun_are = h.begun_are;
-    leads_here = Path-kept (nexts_in at) (nexts_in at') (IsPlaced places (place.Batch cpu)) same_next (link_to walk.first) (async_calls h.passed) here (walks_passed (IsPlaced places (place.Batch cpu)) h b) h.leads_here;
+    leads_here = Path-kept (nexts_in at) (nexts_in at') (IsPlaced places (place.Batch cpu)) same_next (link_to walk.first) (async_calls h.passed) here
+        (walks_passed (IsPlaced places (place.Batch cpu)) h b) h.leads_here;
     ends_at = h.ends_at;
-    leads_on = Path-kept (nexts_in at) (nexts_in at') (IsPlaced places (place.Batch cpu)) same_next here rest 0 (walks_rest (IsPlaced places (place.Batch cpu)) h b) h.leads_on;
+    leads_on = Path-kept (nexts_in at) (nexts_in at') (IsPlaced places (place.Batch cpu)) same_next here rest 0
+        (walks_rest (IsPlaced places (place.Batch cpu)) h b) h.leads_on;
     apart = h.apart;
     counted = h.counted;
     batch = h.batch;
@@ -135,17 +144,20 @@ module _ {cpu : ℕ} {places places' : ℕ → RecPlace} {at at' : Word → ℕ}
     accepted = h.accepted;
   }
 
-  walked_next : (s : Share) (d : DrainValue) (walk : Walk) (id : ℕ) (call : Call) (rest : List Call) → AllPlaced places (place.Batch cpu) s.batch → Walks (nexts_in at) s d walk (id + 1) [] (call ∷ rest) Nothing → at' (Next id) ≡ at (Next id)
+  walked_next : (s : Share) (d : DrainValue) (walk : Walk) (id : ℕ) (call : Call) (rest : List Call) → AllPlaced places (place.Batch cpu) s.batch
+      → Walks (nexts_in at) s d walk (id + 1) [] (call ∷ rest) Nothing → at' (Next id) ≡ at (Next id)
   walked_next s d walk id call rest b h =
       let all = walks_rest (IsPlaced places (place.Batch cpu)) h b in
       next_of id call (same_record id call h.leads_on.0) all.0
 
-  Ends-kept : (s : Share) (d : DrainValue) (here : ℕ) (front rest : List Call) (running : Running) → AllPlaced places (place.Batch cpu) s.batch → Ends (nexts_in at) s d here front rest running → Ends (nexts_in at') s d here front rest running
+  Ends-kept : (s : Share) (d : DrainValue) (here : ℕ) (front rest : List Call) (running : Running) → AllPlaced places (place.Batch cpu) s.batch
+      → Ends (nexts_in at) s d here front rest running → Ends (nexts_in at') s d here front rest running
   Ends-kept s d here front rest running b h = record {
     begun = h.begun;
     whole = h.whole;
     apart = h.apart;
-    leads_on = Path-kept (nexts_in at) (nexts_in at') (IsPlaced places (place.Batch cpu)) same_next here rest 0 (ends_rest (IsPlaced places (place.Batch cpu)) h b) h.leads_on;
+    leads_on = Path-kept (nexts_in at) (nexts_in at') (IsPlaced places (place.Batch cpu)) same_next here rest 0
+        (ends_rest (IsPlaced places (place.Batch cpu)) h b) h.leads_on;
     asyncs = h.asyncs;
     counted = h.counted;
     batch = h.batch;
@@ -153,12 +165,14 @@ module _ {cpu : ℕ} {places places' : ℕ → RecPlace} {at at' : Word → ℕ}
     accepted = h.accepted;
   }
 
-  ended_next : (s : Share) (d : DrainValue) (id : ℕ) (call : Call) (rest : List Call) → AllPlaced places (place.Batch cpu) s.batch → Ends (nexts_in at) s d (id + 1) [] (call ∷ rest) Nothing → at' (Next id) ≡ at (Next id)
+  ended_next : (s : Share) (d : DrainValue) (id : ℕ) (call : Call) (rest : List Call) → AllPlaced places (place.Batch cpu) s.batch
+      → Ends (nexts_in at) s d (id + 1) [] (call ∷ rest) Nothing → at' (Next id) ≡ at (Next id)
   ended_next s d id call rest b h =
       let all = ends_rest (IsPlaced places (place.Batch cpu)) h b in
       next_of id call (same_record id call h.leads_on.0) all.0
 
-  HandleStands-kept : (s : Share) (d : DrainValue) (stage : HandleStage) → AllPlaced places (place.Batch cpu) s.batch → HandleStands (nexts_in at) s d stage → HandleStands (nexts_in at') s d stage
+  HandleStands-kept : (s : Share) (d : DrainValue) (stage : HandleStage) → AllPlaced places (place.Batch cpu) s.batch → HandleStands (nexts_in at) s d stage
+      → HandleStands (nexts_in at') s d stage
   HandleStands-kept s d (handle.ReverseLoad newer id) b h =
       (h.0, rw (reversed_next s d (link_to newer) (at (Next id)) h.0 id h.2 b h.1) (Reverses-kept s d (link_to newer) (at (Next id)) h.0 b h.1), h.2)
   HandleStands-kept s d (handle.ReverseStore newer id older) b h =
@@ -179,14 +193,16 @@ module _ {cpu : ℕ} {places places' : ℕ → RecPlace} {at at' : Word → ℕ}
   HandleStands-kept s d (handle.EndSync walk call next) b h = (h.0, Walks-kept s d walk (link_to next) [] h.0 (CountedCall call) b h.1)
   HandleStands-kept s d (handle.AsyncNext id) b h = (h.0, h.1, Ends-kept s d (id + 1) [] (h.0 ∷ h.1) Nothing b h.2)
   HandleStands-kept s d (handle.AsyncFunc id next) b h = (h.0, h.1, Ends-kept s d (id + 1) [] (h.0 ∷ h.1) Nothing b h.2, ended_next s d id h.0 h.1 b h.2 ∙ h.3)
-  HandleStands-kept s d (handle.AsyncInfo id next func) b h = (h.0, h.1, Ends-kept s d (id + 1) [] (h.0 ∷ h.1) Nothing b h.2, ended_next s d id h.0 h.1 b h.2 ∙ h.3, h.4)
+  HandleStands-kept s d (handle.AsyncInfo id next func) b h =
+      (h.0, h.1, Ends-kept s d (id + 1) [] (h.0 ∷ h.1) Nothing b h.2, ended_next s d id h.0 h.1 b h.2 ∙ h.3, h.4)
   HandleStands-kept s d (handle.BeginAsync call next) b h =
       let front = ends_front (IsPlaced places (place.Batch cpu)) h.1 b in
       (h.0, Ends-kept s d (link_to next) (call ∷ []) h.0 Nothing b h.1, same_next call front.0 ∙ h.2)
   HandleStands-kept s d (handle.CountAsync call next) b h = (h.0, Ends-kept s d (link_to next) [] h.0 (AsyncCall call) b h.1, h.2)
   HandleStands-kept s d _ b h = h
 
-  StandsAt-kept : (s : Share) (d : DrainValue) (stage : Option Stage) → AllPlaced places (place.Batch cpu) s.batch → StandsAt places at s d cpu stage → StandsAt places' at' s d cpu stage
+  StandsAt-kept : (s : Share) (d : DrainValue) (stage : Option Stage) → AllPlaced places (place.Batch cpu) s.batch → StandsAt places at s d cpu stage
+      → StandsAt places' at' s d cpu stage
   StandsAt-kept s d (Some (Post p stage)) b h =
       let k = h.1 in
       (h.0, record { owned = k.owned; is_call = k.is_call; me_in_range = k.me_in_range; goes = k.goes; knows = PostKnows-kept p stage k.owned k.knows })

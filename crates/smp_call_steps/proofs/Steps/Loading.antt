@@ -26,20 +26,24 @@ call_of_parts : (call : Call) (id : ℕ) (class : Class) (func info : ℕ) → c
     call ≡ record { id = id; class = class; func = func; info = info }
 call_of_parts call id class func info p q r t = λ i. record { id = p i; class = q i; func = r i; info = t i }
 
-hand_of_class : (class : Class) (walk : Walk) (id : ℕ) (next : Option ℕ) (at : Word → ℕ) (me : ℕ) → (at (Hand me) ≡ 0 → ⊥) → HandIs (Some (Handle (by_class class walk id next))) (at (Hand me))
+hand_of_class : (class : Class) (walk : Walk) (id : ℕ) (next : Option ℕ) (at : Word → ℕ) (me : ℕ) → (at (Hand me) ≡ 0 → ⊥)
+    → HandIs (Some (Handle (by_class class walk id next))) (at (Hand me))
 hand_of_class Sync walk id next at me ne = ne
 hand_of_class Async walk id next at me ne = hand_of_first (record { first = walk.first; last = Some id }) next (at (Hand me)) ne
 
-hand_of_info : (last : Option ℕ) (walk : Walk) (call : Call) (next : Option ℕ) (at : Word → ℕ) (me : ℕ) → (at (Hand me) ≡ 0 → ⊥) → HandIs (Some (Handle (unlink_after last walk call next))) (at (Hand me))
+hand_of_info : (last : Option ℕ) (walk : Walk) (call : Call) (next : Option ℕ) (at : Word → ℕ) (me : ℕ) → (at (Hand me) ≡ 0 → ⊥)
+    → HandIs (Some (Handle (unlink_after last walk call next))) (at (Hand me))
 hand_of_info None walk call next at me ne = ne
 hand_of_info (Some last) walk call next at me ne = ne
 
 module _ {a : CallState} {at : Word → ℕ} {control : ℕ → ControlValue} (me : ℕ) (s : Shows a at control) where
   -- a step that stores nothing
-  goes_on : (c : ControlValue) → a.held me ≡ held_of c.stage → Stands a.place at (share_of a me) me c → HandIs c.stage (hands_in at me) → Shows a at (put control me c)
+  goes_on : (c : ControlValue) → a.held me ≡ held_of c.stage → Stands a.place at (share_of a me) me c → HandIs c.stage (hands_in at me)
+      → Shows a at (put control me c)
   goes_on c held stands hand = record {
     held = held_after me s c held;
-    stands = stands_after me s at a.place (share_of a) c (λ _ _. refl) (λ cpu _. leaves_all a.place at at (λ _. refl) (λ _. refl) (λ _. refl) (λ _. refl) cpu) stands;
+    stands = stands_after me s at a.place (share_of a) c (λ _ _. refl) (λ cpu _. leaves_all a.place at at (λ _. refl) (λ _. refl) (λ _. refl) (λ _. refl) cpu)
+        stands;
     hands = hands_after me s c hand;
     placed = s.placed;
     written = s.written;
@@ -51,24 +55,29 @@ module _ {a : CallState} {at : Word → ℕ} {control : ℕ → ControlValue} (m
   }
 
   -- the words of the call that is loaded now
-  pub walked_words : (walk : Walk) (id : ℕ) (call : Call) (rest : List Call) → Walks (nexts_in at) (share_of a me) (control me).drain walk (id + 1) [] (call ∷ rest) Nothing → IsWrittenIn at call
+  pub walked_words : (walk : Walk) (id : ℕ) (call : Call) (rest : List Call)
+      → Walks (nexts_in at) (share_of a me) (control me).drain walk (id + 1) [] (call ∷ rest) Nothing → IsWrittenIn at call
   walked_words walk id call rest h = let all = walks_rest (IsWrittenIn at) h (s.written.batched me) in all.0
 
-  pub ended_words : (id : ℕ) (call : Call) (rest : List Call) → Ends (nexts_in at) (share_of a me) (control me).drain (id + 1) [] (call ∷ rest) Nothing → IsWrittenIn at call
+  pub ended_words : (id : ℕ) (call : Call) (rest : List Call) → Ends (nexts_in at) (share_of a me) (control me).drain (id + 1) [] (call ∷ rest) Nothing
+      → IsWrittenIn at call
   ended_words id call rest h = let all = ends_rest (IsWrittenIn at) h (s.written.batched me) in all.0
 
   -- a load of a next word tells nothing
 
-  pub reverse_load_step : (newer : Option ℕ) (id : ℕ) → (control me).stage ≡ Some (Handle (handle.ReverseLoad newer id)) → StepShows a at control me (Handle (handle.ReverseLoad newer id))
+  pub reverse_load_step : (newer : Option ℕ) (id : ℕ) → (control me).stage ≡ Some (Handle (handle.ReverseLoad newer id))
+      → StepShows a at control me (Handle (handle.ReverseLoad newer id))
   reverse_load_step newer id e =
       let was = stands_at me s (handle.ReverseLoad newer id) e in
       let k = was.1 in
       let held = holds_nothing me s (handle.ReverseLoad newer id) e in
       let c : ControlValue = record { stage = Some (Handle (handle.ReverseStore newer id (record_at (at (Next id))))); drain = (control me).drain } in
-      goes_on c held (was.0, (k.0, subst (λ (n : ℕ). Reverses (nexts_in at) (share_of a me) (control me).drain (link_to newer) n k.0) (sym (link_back (at (Next id)))) k.1, k.2, sym (link_back (at (Next id)))))
+      goes_on c held (was.0, (k.0, subst (λ (n : ℕ). Reverses (nexts_in at) (share_of a me) (control me).drain (link_to newer) n k.0)
+          (sym (link_back (at (Next id)))) k.1, k.2, sym (link_back (at (Next id)))))
       (hand_at me s (handle.ReverseLoad newer id) e)
 
-  pub load_next_step : (walk : Walk) (id : ℕ) → (control me).stage ≡ Some (Handle (handle.LoadNext walk id)) → StepShows a at control me (Handle (handle.LoadNext walk id))
+  pub load_next_step : (walk : Walk) (id : ℕ) → (control me).stage ≡ Some (Handle (handle.LoadNext walk id))
+      → StepShows a at control me (Handle (handle.LoadNext walk id))
   load_next_step walk id e =
       let was = stands_at me s (handle.LoadNext walk id) e in
       let k = was.1 in
@@ -76,7 +85,8 @@ module _ {a : CallState} {at : Word → ℕ} {control : ℕ → ControlValue} (m
       let c : ControlValue = record { stage = Some (Handle (handle.LoadFlags walk id (record_at (at (Next id))))); drain = (control me).drain } in
       goes_on c held (was.0, (k.0, k.1, k.2, sym (link_back (at (Next id))))) (hand_at me s (handle.LoadNext walk id) e)
 
-  pub load_flags_step : (walk : Walk) (id : ℕ) (next : Option ℕ) → (control me).stage ≡ Some (Handle (handle.LoadFlags walk id next)) → StepShows a at control me (Handle (handle.LoadFlags walk id next))
+  pub load_flags_step : (walk : Walk) (id : ℕ) (next : Option ℕ) → (control me).stage ≡ Some (Handle (handle.LoadFlags walk id next))
+      → StepShows a at control me (Handle (handle.LoadFlags walk id next))
   load_flags_step walk id next e =
       let was = stands_at me s (handle.LoadFlags walk id next) e in
       let k = was.1 in
@@ -91,19 +101,23 @@ module _ {a : CallState} {at : Word → ℕ} {control : ℕ → ControlValue} (m
       (was.0, flags_lead (nexts_in at) (share_of a me) (control me).drain walk id next call k.1 k.2 k.3 (class_of (at (Flags id))) class)
       (hand_of_class (class_of (at (Flags id))) walk id next at me (hand_at me s (handle.LoadFlags walk id next) e)))
     where
-      holds_none : (class : Class) (walk : Walk) (id : ℕ) (next : Option ℕ) → a.held me ≡ None → a.held me ≡ held_of (Some (Handle (by_class class walk id next)))
+      holds_none : (class : Class) (walk : Walk) (id : ℕ) (next : Option ℕ) → a.held me ≡ None
+          → a.held me ≡ held_of (Some (Handle (by_class class walk id next)))
       holds_none class walk id next h = h
 
-  pub load_func_step : (walk : Walk) (id : ℕ) (next : Option ℕ) → (control me).stage ≡ Some (Handle (handle.LoadFunc walk id next)) → StepShows a at control me (Handle (handle.LoadFunc walk id next))
+  pub load_func_step : (walk : Walk) (id : ℕ) (next : Option ℕ) → (control me).stage ≡ Some (Handle (handle.LoadFunc walk id next))
+      → StepShows a at control me (Handle (handle.LoadFunc walk id next))
   load_func_step walk id next e =
       let was = stands_at me s (handle.LoadFunc walk id next) e in
       let k = was.1 in
       let w = walked_words walk id k.0 k.1 k.2 in
       let func : k.0.func ≡ at (Func id) = sym w.func_is ∙ ap (funcs_in at) (same_record id k.0 k.2.leads_on.0) in
-      goes_on (record { stage = Some (Handle (handle.LoadInfo walk id next (at (Func id)))); drain = (control me).drain }) (holds_nothing me s (handle.LoadFunc walk id next) e)
+      goes_on (record { stage = Some (Handle (handle.LoadInfo walk id next (at (Func id)))); drain = (control me).drain })
+          (holds_nothing me s (handle.LoadFunc walk id next) e)
       (was.0, (k.0, k.1, k.2, k.3, k.4, func)) (hand_at me s (handle.LoadFunc walk id next) e)
 
-  pub load_info_step : (walk : Walk) (id : ℕ) (next : Option ℕ) (func : ℕ) → (control me).stage ≡ Some (Handle (handle.LoadInfo walk id next func)) → StepShows a at control me (Handle (handle.LoadInfo walk id next func))
+  pub load_info_step : (walk : Walk) (id : ℕ) (next : Option ℕ) (func : ℕ) → (control me).stage ≡ Some (Handle (handle.LoadInfo walk id next func))
+      → StepShows a at control me (Handle (handle.LoadInfo walk id next func))
   load_info_step walk id next func e =
       let was = stands_at me s (handle.LoadInfo walk id next func) e in
       let k = was.1 in
@@ -128,16 +142,19 @@ module _ {a : CallState} {at : Word → ℕ} {control : ℕ → ControlValue} (m
       let c : ControlValue = record { stage = Some (Handle (handle.AsyncFunc id (record_at (at (Next id))))); drain = (control me).drain } in
       goes_on c held (was.0, (k.0, k.1, k.2, sym (link_back (at (Next id))))) (hand_at me s (handle.AsyncNext id) e)
 
-  pub async_func_step : (id : ℕ) (next : Option ℕ) → (control me).stage ≡ Some (Handle (handle.AsyncFunc id next)) → StepShows a at control me (Handle (handle.AsyncFunc id next))
+  pub async_func_step : (id : ℕ) (next : Option ℕ) → (control me).stage ≡ Some (Handle (handle.AsyncFunc id next))
+      → StepShows a at control me (Handle (handle.AsyncFunc id next))
   async_func_step id next e =
       let was = stands_at me s (handle.AsyncFunc id next) e in
       let k = was.1 in
       let w = ended_words id k.0 k.1 k.2 in
       let func : k.0.func ≡ at (Func id) = sym w.func_is ∙ ap (funcs_in at) (same_record id k.0 k.2.leads_on.0) in
-      goes_on (record { stage = Some (Handle (handle.AsyncInfo id next (at (Func id)))); drain = (control me).drain }) (holds_nothing me s (handle.AsyncFunc id next) e)
+      goes_on (record { stage = Some (Handle (handle.AsyncInfo id next (at (Func id)))); drain = (control me).drain })
+          (holds_nothing me s (handle.AsyncFunc id next) e)
       (was.0, (k.0, k.1, k.2, k.3, func)) (hand_at me s (handle.AsyncFunc id next) e)
 
-  pub async_info_step : (id : ℕ) (next : Option ℕ) (func : ℕ) → (control me).stage ≡ Some (Handle (handle.AsyncInfo id next func)) → StepShows a at control me (Handle (handle.AsyncInfo id next func))
+  pub async_info_step : (id : ℕ) (next : Option ℕ) (func : ℕ) → (control me).stage ≡ Some (Handle (handle.AsyncInfo id next func))
+      → StepShows a at control me (Handle (handle.AsyncInfo id next func))
   async_info_step id next func e =
       let was = stands_at me s (handle.AsyncInfo id next func) e in
       let k = was.1 in
@@ -146,7 +163,8 @@ module _ {a : CallState} {at : Word → ℕ} {control : ℕ → ControlValue} (m
       let same = same_record id k.0 h.leads_on.0 in
       let info : k.0.info ≡ at (Info id) = sym w.info_is ∙ ap (infos_in at) same in
       let call : Call = record { id = id; class = Async; func = func; info = at (Info id) } in
-      let is : k.0 ≡ record { id = id; class = Async; func = func; info = at (Info id) } = call_of_parts k.0 id Async func (at (Info id)) same h.asyncs.0 k.4 info in
+      let is : k.0 ≡ record { id = id; class = Async; func = func; info = at (Info id) } =
+          call_of_parts k.0 id Async func (at (Info id)) same h.asyncs.0 k.4 info in
       let c : ControlValue = record { stage = Some (Handle (handle.BeginAsync call next)); drain = (control me).drain } in
       goes_on c (holds_nothing me s (handle.AsyncInfo id next func) e) (
         was.0,

@@ -45,7 +45,8 @@ else_by_place places u id p q there here ne e = ne (sym there ∙ (ap places e �
 
 -- where a record is said to be, once another has moved
 there_still : (held : ℕ → Option Holding) (queue batch batch' : ℕ → List Call) (running running' : ℕ → Running) (u : ℕ) (p : RecPlace) →
-    ((cpu : ℕ) → HasRecord u (batch cpu) → HasRecord u (batch' cpu)) → ((cpu : ℕ) → HasRecord u (locked_by (running cpu)) → HasRecord u (locked_by (running' cpu))) →
+    ((cpu : ℕ) → HasRecord u (batch cpu) → HasRecord u (batch' cpu))
+        → ((cpu : ℕ) → HasRecord u (locked_by (running cpu)) → HasRecord u (locked_by (running' cpu))) →
     IsThere held queue batch running u p → IsThere held queue batch' running' u p
 there_still held queue batch batch' running running' u place.Free in_batch runs h = tt
 there_still held queue batch batch' running running' u place.Held in_batch runs h = h
@@ -63,11 +64,13 @@ module _ (places : ℕ → RecPlace) (id : ℕ) (from to : RecPlace) (here : pla
 
   -- calls at another place are where they were
   pub all_placed_still : (p : RecPlace) (calls : List Call) → p ≢ from → AllPlaced places p calls → AllPlaced (put places id to) p calls
-  all_placed_still p calls ne h = every (IsPlaced places p) (IsPlaced (put places id to) p) (λ call k. placed_still p call (else_by_place places call.id id p from k.placed here ne) k) calls h
+  all_placed_still p calls ne h = every (IsPlaced places p) (IsPlaced (put places id to) p)
+      (λ call k. placed_still p call (else_by_place places call.id id p from k.placed here ne) k) calls h
 
   -- and so are calls by other records
   pub all_placed_apart : (p : RecPlace) (calls : List Call) → IsAbsent id calls → AllPlaced places p calls → AllPlaced (put places id to) p calls
-  all_placed_apart p calls absent h = every_both (λ call. call.id ≢ id) (IsPlaced places p) (IsPlaced (put places id to) p) (λ call ne k. placed_still p call ne k) calls absent h
+  all_placed_apart p calls absent h = every_both (λ call. call.id ≢ id) (IsPlaced places p) (IsPlaced (put places id to) p)
+      (λ call ne k. placed_still p call ne k) calls absent h
 
   module _ (held : ℕ → Option Holding) (queue batch batch' : ℕ → List Call) (running running' : ℕ → Running) (confirmed : ℕ → ℕ → Bool) where
     -- the place law after a record has left a batch or the call that runs
@@ -99,16 +102,21 @@ module _ (places : ℕ → RecPlace) (id : ℕ) (from to : RecPlace) (here : pla
     written_still call ne w = record { flags_are = same call.id ne ∙ w.flags_are; func_is = w.func_is; info_is = w.info_is }
 
     -- the words of calls at another place are what they were
-    pub all_written_still : (p : RecPlace) (calls : List Call) → p ≢ from → AllPlaced places p calls → AllByRecursion (IsWritten flags funcs infos) calls → AllByRecursion (IsWritten flags' funcs infos) calls
+    pub all_written_still : (p : RecPlace) (calls : List Call) → p ≢ from → AllPlaced places p calls → AllByRecursion (IsWritten flags funcs infos) calls
+        → AllByRecursion (IsWritten flags' funcs infos) calls
     all_written_still p calls ne h k =
-        every_both (IsPlaced places p) (IsWritten flags funcs infos) (IsWritten flags' funcs infos) (λ call there w. written_still call (else_by_place places call.id id p from there.placed here ne) w) calls h k
+        every_both (IsPlaced places p) (IsWritten flags funcs infos) (IsWritten flags' funcs infos)
+            (λ call there w. written_still call (else_by_place places call.id id p from there.placed here ne) w) calls h k
 
     -- and so are those of calls by other records
-    pub all_written_apart : (calls : List Call) → IsAbsent id calls → AllByRecursion (IsWritten flags funcs infos) calls → AllByRecursion (IsWritten flags' funcs infos) calls
-    all_written_apart calls absent k = every_both (λ call. call.id ≢ id) (IsWritten flags funcs infos) (IsWritten flags' funcs infos) written_still calls absent k
+    pub all_written_apart : (calls : List Call) → IsAbsent id calls → AllByRecursion (IsWritten flags funcs infos) calls
+        → AllByRecursion (IsWritten flags' funcs infos) calls
+    all_written_apart calls absent k = every_both (λ call. call.id ≢ id) (IsWritten flags funcs infos)
+        (IsWritten flags' funcs infos) written_still calls absent k
 
     -- the words after it
-    pub written_moved : (held : ℕ → Option Holding) (queue batch batch' : ℕ → List Call) (running running' : ℕ → Running) (confirmed : ℕ → ℕ → Bool) → ((cpu : ℕ) → place.Queued cpu ≢ from) →
+    pub written_moved : (held : ℕ → Option Holding) (queue batch batch' : ℕ → List Call) (running running' : ℕ → Running) (confirmed : ℕ → ℕ → Bool)
+        → ((cpu : ℕ) → place.Queued cpu ≢ from) →
         Placed places held queue batch running confirmed → Written flags funcs infos places queue batch running → FlagsShow to (flags' id) →
         ((cpu : ℕ) → AllByRecursion (IsWritten flags' funcs infos) (batch' cpu)) →
         ((cpu : ℕ) → AllByRecursion (IsWritten flags' funcs infos) (locked_by (running' cpu))) →

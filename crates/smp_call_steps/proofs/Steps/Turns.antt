@@ -17,7 +17,8 @@ module _ {a : CallState} {at : Word → ℕ} {control : ℕ → ControlValue} (m
   holds_nothing stage e = s.held me ∙ ap held_of e
 
   -- what holds of a CPU at a stage of handle
-  pub stands_at : (stage : HandleStage) → (control me).stage ≡ Some (Handle stage) → (me < cpus) × HandleStands (nexts_in at) (share_of a me) (control me).drain stage
+  pub stands_at : (stage : HandleStage) → (control me).stage ≡ Some (Handle stage)
+      → (me < cpus) × HandleStands (nexts_in at) (share_of a me) (control me).drain stage
   stands_at stage e = subst (λ (x : Option Stage). StandsAt a.place at (share_of a me) (control me).drain me x) e (s.stands me)
 
   pub hand_at : (stage : HandleStage) → (control me).stage ≡ Some (Handle stage) → HandIs (Some (Handle stage)) (hands_in at me)

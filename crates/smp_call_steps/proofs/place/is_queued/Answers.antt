@@ -9,7 +9,8 @@ use Rattle.smp_call_steps.proofs.State.QueueChains.{queue_chain, queue_read}
 use Rattle.smp_call_steps.proofs.place.is_queued.Goals as goal
 
 pub is_on_chain-requires-clause-chained : goal.is_on_chain-requires-clause-chained
-is_on_chain-requires-clause-chained c = rw c.read.ensures (queue_chain c.requires.table.calls (number_in c.args.words.now) (control_of c.args.controls.now) c.args.cpu c.requires.table.shown)
+is_on_chain-requires-clause-chained c =
+    rw c.read.ensures (queue_chain c.requires.table.calls (number_in c.args.words.now) (control_of c.args.controls.now) c.args.cpu c.requires.table.shown)
 
 pub returns : goal.returns
 returns c calls shown =

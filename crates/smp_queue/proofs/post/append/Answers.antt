@@ -12,7 +12,8 @@ pub link-found-requires-clause-stage : goal.link-found-requires-clause-stage
 link-found-requires-clause-stage c = tries_stage c.loop.invariant
 
 pub returns-then-found-head-clause-sent : goal.returns-then-found-head-clause-sent
-returns-then-found-head-clause-sent c = tries_won c.loop.invariant c.link-found.new.seat.known (c.loop.head == 0) (c.link-found.ensures.won c.if-found-head.true)
+returns-then-found-head-clause-sent c = tries_won c.loop.invariant c.link-found.new.seat.known (c.loop.head == 0)
+    (c.link-found.ensures.won c.if-found-head.true)
 
 pub loop-preserved : goal.loop-preserved
 loop-preserved c = record { table_is = c.link-found.ensures.table; known_is = c.link-found.ensures.lost c.if-found-head.false ∙ c.loop.invariant.known_is }
