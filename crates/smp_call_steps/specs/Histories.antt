@@ -60,7 +60,8 @@ running_call (CountedCall call) = call ∷ []
 running_call (AsyncCall call) = call ∷ []
 
 -- the queue history
-pub record Recorded (sent : ℕ → List Sending) (taken : ℕ → List (List Call)) (queue : ℕ → List Call) (ran : ℕ → List Call) (running : ℕ → Running) (batch : ℕ → List Call) : Type 0 where
+pub record Recorded (sent : ℕ → List Sending) (taken : ℕ → List (List Call)) (queue : ℕ → List Call) (ran : ℕ → List Call) (running : ℕ → Running)
+    (batch : ℕ → List Call) : Type 0 where
   -- what a source has sent to a CPU is what was queued there from that source, with the same marks, in order
   pub in_order : (source cpu : ℕ) → sent_to cpu (sent source) ≡ marked_from source (history_of (taken cpu) (queue cpu))
   -- what ran, what runs and what is left is the drain order of the batches
@@ -79,6 +80,7 @@ counted_call (CountedCall call) = call ∷ []
 counted_call (AsyncCall call) = []
 
 -- the tally law
-pub record Tallied (queued ran_words : ℕ → ℕ → ℕ) (sent : ℕ → List Sending) (held : ℕ → Option Holding) (ran : ℕ → List Call) (running : ℕ → Running) : Type 0 where
+pub record Tallied (queued ran_words : ℕ → ℕ → ℕ) (sent : ℕ → List Sending) (held : ℕ → Option Holding) (ran : ℕ → List Call)
+    (running : ℕ → Running) : Type 0 where
   pub queued_are : (source cpu : ℕ) → queued source cpu ≡ (length (sent_to cpu (sent source)) + one_held (held source) cpu) % 2 ^ 64
   pub ran_are : (cpu source : ℕ) → ran_words cpu source ≡ length (calls_from source (ran cpu ++ counted_call (running cpu))) % 2 ^ 64

@@ -31,6 +31,10 @@ pub record IsPlaced (places : ℕ → RecPlace) (at : RecPlace) (call : Call) : 
   pub is_call : IsCall call
   pub placed : places call.id ≡ at
 
+-- these calls, each with its record at this place
+abbrev pub AllPlaced : (ℕ → RecPlace) → RecPlace → List Call → Type 0
+AllPlaced places at calls = AllByRecursion (IsPlaced places at) calls
+
 -- the call that runs, where its record is locked meanwhile
 abbrev pub locked_by : Running → List Call
 locked_by Nothing = []
@@ -52,7 +56,8 @@ IsThere held queue batch running id (place.Batch cpu) = HasRecord id (batch cpu)
 IsThere held queue batch running id (place.Running cpu) = HasRecord id (locked_by (running cpu))
 
 -- the place law
-pub record Placed (places : ℕ → RecPlace) (held : ℕ → Option Holding) (queue batch : ℕ → List Call) (running : ℕ → Running) (confirmed : ℕ → ℕ → Bool) : Type 0 where
+pub record Placed (places : ℕ → RecPlace) (held : ℕ → Option Holding) (queue batch : ℕ → List Call) (running : ℕ → Running)
+    (confirmed : ℕ → ℕ → Bool) : Type 0 where
   pub queued : (cpu : ℕ) → AllByRecursion (IsPlaced places (place.Queued cpu)) (queue cpu)
   pub batched : (cpu : ℕ) → AllByRecursion (IsPlaced places (place.Batch cpu)) (batch cpu)
   pub runs : (cpu : ℕ) → AllByRecursion (IsPlaced places (place.Running cpu)) (locked_by (running cpu))

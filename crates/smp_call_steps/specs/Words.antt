@@ -63,6 +63,13 @@ pub record Written (flags funcs infos : ℕ → ℕ) (places : ℕ → RecPlace)
   pub batched : (cpu : ℕ) → AllByRecursion (IsWritten flags funcs infos) (batch cpu)
   pub runs : (cpu : ℕ) → AllByRecursion (IsWritten flags funcs infos) (locked_by (running cpu))
 
+-- the same of these words
+abbrev pub IsWrittenIn : (Word → ℕ) → Call → Type 0
+IsWrittenIn at call = IsWritten (flags_in at) (funcs_in at) (infos_in at) call
+
+abbrev pub WrittenIn : (Word → ℕ) → (ℕ → RecPlace) → (ℕ → List Call) → (ℕ → List Call) → (ℕ → Running) → Type 0
+WrittenIn at places queue batch running = Written (flags_in at) (funcs_in at) (infos_in at) places queue batch running
+
 -- the chain of each queue
 pub record Chained (heads nexts : ℕ → ℕ) (queue : ℕ → List Call) : Type 0 where
   pub chain : (cpu : ℕ) → Leads nexts (heads cpu) (queue cpu) 0

@@ -14,14 +14,20 @@ use Rattle.smp_calls.specs.Records.{many_record}
 pub has_many : (nr to : ℕ) → nr ≤ cpus → to < nr → has_record nr (many_record to) ≡ true
 has_many nr to within below = elim (cases_lt to FIRST_TARGETS) [
   | inl low ↦ rw (lt-ltb to FIRST_TARGETS low, lt-ltb (to + 2) FIRST_OF_ONE (omega arith)) refl
-  | inr high ↦ rw (le-ltb to FIRST_TARGETS high, le-ltb (to + 4) FIRST_OF_ONE (omega arith), lt-ltb (to + 4) records_of_one (omega arith), lt-ltb ((to + 4) - 4) nr (omega arith)) refl
+  | inr high ↦
+      rw (le-ltb to FIRST_TARGETS high, le-ltb (to + 4) FIRST_OF_ONE (omega arith), lt-ltb (to + 4) records_of_one (omega arith),
+      lt-ltb ((to + 4) - 4) nr (omega arith)) refl
 ]
 
 -- it is for calls of either class to this CPU
 fits_many : (nr to : ℕ) (class : Class) → to < nr → fits_record nr (many_record to) to class ≡ true
 fits_many nr to class below = elim (cases_lt to FIRST_TARGETS) [
-  | inl low ↦ rw (lt-ltb to FIRST_TARGETS low, ne_eqb (to + 2) 0 (λ e. omega arith), ne_eqb (to + 2) 1 (λ e. omega arith), lt-ltb (to + 2) USER (omega arith), eq-eqb (to + 2) (to + 2) refl) refl
-  | inr high ↦ rw (le-ltb to FIRST_TARGETS high, ne_eqb (to + 4) 0 (λ e. omega arith), ne_eqb (to + 4) 1 (λ e. omega arith), le-ltb (to + 4) USER (omega arith), le-ltb (to + 4) FIRST_OF_ONE (omega arith), eq-eqb (to + 4) (to + 4) refl, lt-ltb to nr below) refl
+  | inl low ↦
+      rw (lt-ltb to FIRST_TARGETS low, ne_eqb (to + 2) 0 (λ e. omega arith), ne_eqb (to + 2) 1 (λ e. omega arith), lt-ltb (to + 2) USER (omega arith),
+      eq-eqb (to + 2) (to + 2) refl) refl
+  | inr high ↦
+      rw (le-ltb to FIRST_TARGETS high, ne_eqb (to + 4) 0 (λ e. omega arith), ne_eqb (to + 4) 1 (λ e. omega arith), le-ltb (to + 4) USER (omega arith),
+      le-ltb (to + 4) FIRST_OF_ONE (omega arith), eq-eqb (to + 4) (to + 4) refl, lt-ltb to nr below) refl
 ]
 
 small_many : (to : ℕ) → to < cpus → many_record to < records_of_one
@@ -31,7 +37,8 @@ small_many to below = elim (cases_lt to FIRST_TARGETS) [
 ]
 
 -- a post to another CPU by it is not refused for its arguments
-pub lawful_many : (nr : ℕ) (c : CpuValue) (to : ℕ) (class : Class) → nr ≤ cpus → to < nr → (to ≡ c.number → ⊥) → misused nr c (many_record to) to class 1 ≡ false
+pub lawful_many : (nr : ℕ) (c : CpuValue) (to : ℕ) (class : Class) → nr ≤ cpus → to < nr → (to ≡ c.number → ⊥)
+    → misused nr c (many_record to) to class 1 ≡ false
 lawful_many nr c to class within below other =
     rw (lt-ltb (many_record to) records_of_one (small_many to (omega arith)), ne_eqb to c.number other, fits_many nr to class below) refl
 
@@ -39,5 +46,6 @@ lawful_many nr c to class within below other =
 pub has_online : (nr online to : ℕ) → AreLimits nr online → has online to ≡ true → has_record nr (many_record to) ≡ true
 has_online nr online to limits e = has_many nr to limits.within (limits.below to e)
 
-pub lawful_online : (nr online : ℕ) (c : CpuValue) (to : ℕ) (class : Class) → AreLimits nr online → has online to ≡ true → (to ≡ c.number → ⊥) → misused nr c (many_record to) to class 1 ≡ false
+pub lawful_online : (nr online : ℕ) (c : CpuValue) (to : ℕ) (class : Class) → AreLimits nr online → has online to ≡ true → (to ≡ c.number → ⊥)
+    → misused nr c (many_record to) to class 1 ≡ false
 lawful_online nr online c to class limits e other = lawful_many nr c to class limits.within (limits.below to e) other

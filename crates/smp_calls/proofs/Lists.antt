@@ -1,5 +1,6 @@
 -- Lists of the members of a mask, and masks without one member.
-use Rattle.std.proofs.Common.{◌≡◌, ℕ, zero, suc, ◌+◌, ◌<◌, ◌≤◌, Bool, true, false, not, ◌&&◌, ◌==◌, nat_lt, cond, List, [], ◌∷◌, ◌++◌, append_assoc, inl, inr, refl, sym, ap, ◌∙◌, subst, arith}
+use Rattle.std.proofs.Common.{◌≡◌, ℕ, zero, suc, ◌+◌, ◌<◌, ◌≤◌, Bool, true, false, not, ◌&&◌, ◌==◌, nat_lt, cond, List, [], ◌∷◌, ◌++◌, append_assoc, inl, inr}
+use Rattle.std.proofs.Common.{refl, sym, ap, ◌∙◌, subst, arith}
 use Rattle.std.specs.List.{filter}
 use Rattle.std.proofs.lemmas.Bool.{cases_eq, cases_Bool, ne_eqb, eq-eqb, lt-ltb}
 use Rattle.std.proofs.lemmas.Bool.Decides.{nat_tests}
@@ -49,7 +50,8 @@ times_member m c (suc k) = elim (cases_Bool (has m k)) [
       ]
 ]
 
-last : (member kept passes : Bool) (k : ℕ) (p : ℕ → Bool) → p k ≡ passes → kept ≡ (member && passes) → filter p (cond member (k ∷ []) []) ≡ cond kept (k ∷ []) []
+last : (member kept passes : Bool) (k : ℕ) (p : ℕ → Bool) → p k ≡ passes → kept ≡ (member && passes)
+    → filter p (cond member (k ∷ []) []) ≡ cond kept (k ∷ []) []
 last true kept passes k p e same = rw (e, same) refl
 last false kept passes k p e same = rw same refl
 
@@ -108,7 +110,8 @@ without_one m n c xs ys e gone =
     (ap (filter (λ x. not (x == c))) e ∙
     (filter-append (λ x. not (x == c)) xs (c ∷ ys) ∙
     (ap (λ (zs : List ℕ). zs ++ filter (λ x. not (x == c)) (c ∷ ys)) (filter_without c xs before) ∙
-    ap (λ (zs : List ℕ). xs ++ zs) (ap (λ b. cond (not b) (c ∷ filter (λ x. not (x == c)) ys) (filter (λ x. not (x == c)) ys)) (eq-eqb c c refl) ∙ filter_without c ys after))))
+    ap (λ (zs : List ℕ). xs ++ zs)
+        (ap (λ b. cond (not b) (c ∷ filter (λ x. not (x == c)) ys) (filter (λ x. not (x == c)) ys)) (eq-eqb c c refl) ∙ filter_without c ys after))))
 
 -- a mask's members are those done and those left; it stays so where the next one is done, and where it is taken out
 pub goes_on : (keep : Bool) (xs : List ℕ) (left next cpu m n : ℕ) → xs ++ members left ≡ members m → members left ≡ cpu ∷ members next →
@@ -117,4 +120,5 @@ pub goes_on : (keep : Bool) (xs : List ℕ) (left next cpu m n : ℕ) → xs ++ 
 goes_on true xs left next cpu m n e step kept out =
     append_assoc xs (cpu ∷ []) (members next) ∙ (ap (λ (ys : List ℕ). xs ++ ys) (sym step) ∙ (e ∙ ap members (sym (kept refl))))
 goes_on false xs left next cpu m n e step kept out =
-    ap (λ (ys : List ℕ). ys ++ members next) (append-nil xs) ∙ sym (without_one m n cpu xs (members next) (sym e ∙ ap (λ (ys : List ℕ). xs ++ ys) step) (out refl))
+    ap (λ (ys : List ℕ). ys ++ members next) (append-nil xs)
+        ∙ sym (without_one m n cpu xs (members next) (sym e ∙ ap (λ (ys : List ℕ). xs ++ ys) step) (out refl))

@@ -14,7 +14,8 @@ use Rattle.smp_calls.proofs.Round.{destinations-append, firsts-append, queues_no
 use Rattle.smp_calls.proofs.Lists.{next_gone, none_left, goes_on}
 
 -- of `others`, all of whom were asked but those left: see `QueuesEach`; those left are in `called` and `owed`
-pub record Asking {H : Type 0} (leads : H → Heard → H → Type 0) (old : CpuValue) (before : H) (new : CpuValue) (after : H) (says : ℕ → Bool → Type 0) (call : ℕ → Call) (others left called owed : ℕ) : Type 0 where
+pub record Asking {H : Type 0} (leads : H → Heard → H → Type 0) (old : CpuValue) (before : H) (new : CpuValue) (after : H) (says : ℕ → Bool → Type 0)
+    (call : ℕ → Call) (others left called owed : ℕ) : Type 0 where
   pub queued : List Queued
   pub called_are : destinations queued ++ members left ≡ members called
   pub owed_are : firsts queued ++ members left ≡ members owed
@@ -33,22 +34,26 @@ not_true true e = cc
 not_true false e = refl
 
 -- what is in a mask that was kept, or taken out of, was in it before
-kept_among : (keep : Bool) (m n cpu c : ℕ) → (keep ≡ true → n ≡ m) → (keep ≡ false → (x : ℕ) → has n x ≡ (has m x && not (x == cpu))) → has n c ≡ true → has m c ≡ true
+kept_among : (keep : Bool) (m n cpu c : ℕ) → (keep ≡ true → n ≡ m) → (keep ≡ false → (x : ℕ) → has n x ≡ (has m x && not (x == cpu))) → has n c ≡ true
+    → has m c ≡ true
 kept_among true m n cpu c kept out h = ap (λ (x : ℕ). has x c) (sym (kept refl)) ∙ h
 kept_among false m n cpu c kept out h = (both_true (has m c) (not (c == cpu)) (sym (out refl c) ∙ h)).0
 
 -- another one stays as it was
-kept_else : (keep : Bool) (m n cpu c : ℕ) → (keep ≡ true → n ≡ m) → (keep ≡ false → (x : ℕ) → has n x ≡ (has m x && not (x == cpu))) → (c == cpu) ≡ false → has n c ≡ has m c
+kept_else : (keep : Bool) (m n cpu c : ℕ) → (keep ≡ true → n ≡ m) → (keep ≡ false → (x : ℕ) → has n x ≡ (has m x && not (x == cpu))) → (c == cpu) ≡ false
+    → has n c ≡ has m c
 kept_else true m n cpu c kept out h = ap (λ (x : ℕ). has x c) (kept refl)
 kept_else false m n cpu c kept out h = out refl c ∙ (ap (λ b. has m c && not b) h ∙ and_true (has m c))
 
 -- this one stays where it is to be kept
-kept_here : (keep : Bool) (m n cpu : ℕ) → (keep ≡ true → n ≡ m) → (keep ≡ false → (x : ℕ) → has n x ≡ (has m x && not (x == cpu))) → has m cpu ≡ true → has n cpu ≡ keep
+kept_here : (keep : Bool) (m n cpu : ℕ) → (keep ≡ true → n ≡ m) → (keep ≡ false → (x : ℕ) → has n x ≡ (has m x && not (x == cpu))) → has m cpu ≡ true
+    → has n cpu ≡ keep
 kept_here true m n cpu kept out h = ap (λ (x : ℕ). has x cpu) (kept refl) ∙ h
 kept_here false m n cpu kept out h = out refl cpu ∙ (ap (λ b. has m cpu && not b) (eq-eqb cpu cpu refl) ∙ and_false (has m cpu))
 
 module _ {H : Type 0} (leads : H → Heard → H → Type 0) where
-  pub asking_start : (c : CpuValue) (h : H) (says : ℕ → Bool → Type 0) (call : ℕ → Call) (others : ℕ) → Asking leads c h c h says call others others others others
+  pub asking_start : (c : CpuValue) (h : H) (says : ℕ → Bool → Type 0) (call : ℕ → Call) (others : ℕ)
+      → Asking leads c h c h says call others others others others
   asking_start c h says call others = record {
     queued = [];
     called_are = refl;
@@ -60,7 +65,8 @@ module _ {H : Type 0} (leads : H → Heard → H → Type 0) where
     answered = λ x l m n. absurd (let e = sym m ∙ n in cc);
   }
 
-  pub asking_more : {old mid new : CpuValue} {before m after : H} {says : ℕ → Bool → Type 0} (call : ℕ → Call) (others left next cpu called owed called' owed' : ℕ) (asked first : Bool) →
+  pub asking_more : {old mid new : CpuValue} {before m after : H} {says : ℕ → Bool → Type 0} (call : ℕ → Call)
+      (others left next cpu called owed called' owed' : ℕ) (asked first : Bool) →
       Asking leads old before mid m says call others left called owed →
       members left ≡ cpu ∷ members next → cpu < NR_CPUS → has left cpu ≡ true →
       (queued : List Queued) × (destinations queued ≡ only_if asked cpu) × (firsts queued ≡ only_if first cpu) × Queues leads mid m new after call queued →
@@ -68,10 +74,13 @@ module _ {H : Type 0} (leads : H → Heard → H → Type 0) where
       (asked ≡ true → called' ≡ called) → (asked ≡ false → (c : ℕ) → has called' c ≡ (has called c && not (c == cpu))) →
       (first ≡ true → owed' ≡ owed) → (first ≡ false → (c : ℕ) → has owed' c ≡ (has owed c && not (c == cpu))) →
       Asking leads old before new after says call others next called' owed'
-  asking_more {old} {mid} {new} {before} {m} {after} {says} call others left next cpu called owed called' owed' asked first a step below here q said kept out owed_kept owed_out = record {
+  asking_more {old} {mid} {new} {before} {m} {after}
+      {says} call others left next cpu called owed called' owed' asked first a step below here q said kept out owed_kept owed_out = record {
     queued = a.queued ++ q.0;
-    called_are = ap (λ (xs : List ℕ). xs ++ members next) (destinations-append a.queued q.0 ∙ ap (λ (ys : List ℕ). destinations a.queued ++ ys) q.1) ∙ goes_on asked (destinations a.queued) left next cpu called called' a.called_are step kept out;
-    owed_are = ap (λ (xs : List ℕ). xs ++ members next) (firsts-append a.queued q.0 ∙ ap (λ (ys : List ℕ). firsts a.queued ++ ys) q.2) ∙ goes_on first (firsts a.queued) left next cpu owed owed' a.owed_are step owed_kept owed_out;
+    called_are = ap (λ (xs : List ℕ). xs ++ members next) (destinations-append a.queued q.0 ∙ ap (λ (ys : List ℕ). destinations a.queued ++ ys) q.1)
+        ∙ goes_on asked (destinations a.queued) left next cpu called called' a.called_are step kept out;
+    owed_are = ap (λ (xs : List ℕ). xs ++ members next) (firsts-append a.queued q.0 ∙ ap (λ (ys : List ℕ). firsts a.queued ++ ys) q.2)
+        ∙ goes_on first (firsts a.queued) left next cpu owed owed' a.owed_are step owed_kept owed_out;
     queues = queues_then leads call a.queued q.0 a.queues q.3;
     among = λ c h. a.among c (kept_among asked called called' cpu c kept out h);
     owed_among = λ c h. a.owed_among c (kept_among first owed owed' cpu c owed_kept owed_out h);
@@ -79,15 +88,19 @@ module _ {H : Type 0} (leads : H → Heard → H → Type 0) where
         let parts = both_true (has left c) (not (c == cpu)) (sym (next_gone left next cpu c step l) ∙ h) in
         kept_else asked called called' cpu c kept out (not_true (c == cpu) parts.1) ∙ a.waiting c l parts.0;
     answered = λ c l o n. elim (cases_eq c cpu) [
-      | inl e ↦ subst (λ (x : ℕ). says x (has called' x)) (sym e) (subst (says cpu) (sym (kept_here asked called called' cpu kept out (a.waiting cpu below here))) said)
+      | inl e ↦ subst (λ (x : ℕ). says x (has called' x)) (sym e)
+          (subst (says cpu) (sym (kept_here asked called called' cpu kept out (a.waiting cpu below here))) said)
       | inr apart ↦
           let other = ne_eqb c cpu apart in
-          let was : has left c ≡ false = sym (and_true (has left c)) ∙ (ap (λ b. has left c && not b) (sym other) ∙ (sym (next_gone left next cpu c step l) ∙ n)) in
+          let was : has left c ≡ false = sym (and_true (has left c))
+              ∙ (ap (λ b. has left c && not b) (sym other) ∙ (sym (next_gone left next cpu c step l) ∙ n)) in
           subst (says c) (sym (kept_else asked called called' cpu c kept out other)) (a.answered c l o was)
     ];
   }
 
-  pub asking_end : {old new : CpuValue} {before after : H} {says : ℕ → Bool → Type 0} (call : ℕ → Call) (others left called owed : ℕ) → Asking leads old before new after says call others left called owed → members left ≡ [] → QueuesEach leads old before new after says call others called owed
+  pub asking_end : {old new : CpuValue} {before after : H} {says : ℕ → Bool → Type 0} (call : ℕ → Call) (others left called owed : ℕ)
+      → Asking leads old before new after says call others left called owed → members left ≡ []
+      → QueuesEach leads old before new after says call others called owed
   asking_end call others left called owed a none = record {
     queued = a.queued;
     called_are = sym (append-nil (destinations a.queued)) ∙ (ap (λ (xs : List ℕ). destinations a.queued ++ xs) (sym none) ∙ a.called_are);

@@ -1,7 +1,9 @@
 -- A call by one record: queued, and its interrupt sent.
-use Rattle.std.proofs.Common.{◌≡◌, ℕ, zero, suc, ◌<◌, ◌==◌, ◌||◌, ◌&&◌, not, Bool, true, false, cond, None, List, [], ◌∷◌, length-set, set, get_or, inl, inr, refl, sym, ap, ◌∙◌, subst}
+use Rattle.std.proofs.Common.{◌≡◌, ℕ, zero, suc, ◌<◌, ◌==◌, ◌||◌, ◌&&◌, not, Bool, true, false, cond, None, List, [], ◌∷◌, length-set, set, get_or, inl, inr}
+use Rattle.std.proofs.Common.{refl, sym, ap, ◌∙◌, subst}
 use Rattle.std.proofs.lemmas.Bool.{cases_eq, ne_eqb, eq-eqb}
 use Rattle.std.proofs.lemmas.List.{get_or-set_other}
+use Rattle.smp_words.proofs.Sizes.{one_local}
 use Rattle.smp_words.specs.Size.{records_of_one, record_of}
 use Rattle.smp_words.specs.declared.call.Class.{Class}
 use Rattle.smp_queue.specs.Cpu.{CpuValue, confirmed_at, posts, sends}
@@ -10,7 +12,7 @@ use Rattle.smp_calls.specs.Families.{IsSized, Leaves, Calls, CallsBy, CallsOne, 
 use Rattle.smp_calls.specs.Queued.{Queued, sendings, is_first_to}
 use Rattle.smp_calls.specs.Records.{call_by, single_record, class_for}
 use Rattle.smp_calls.proofs.Turns.{handles_same}
-use Rattle.smp_calls.proofs.Steps.{set_here, set_else, same_local, leaves_as, leaves_then, sized_moved}
+use Rattle.smp_calls.proofs.Steps.{set_here, set_else, leaves_as, leaves_then, sized_moved}
 
 pub and_true : (b : Bool) → (b && true) ≡ b
 and_true true = refl
@@ -34,25 +36,31 @@ set_false (x ∷ xs) (suc i) = set_false xs i
 pub same_record : (number j k : ℕ) → j < records_of_one → k < records_of_one → (record_of number j == record_of number k) ≡ (j == k)
 same_record number j k b l = elim (cases_eq j k) [
   | inl e ↦ rw (eq-eqb j k e) (eq-eqb (record_of number j) (record_of number k) (ap (record_of number) e))
-  | inr n ↦ rw (ne_eqb j k n) (ne_eqb (record_of number j) (record_of number k) (λ e. n (same_local number j k b l e)))
+  | inr n ↦ rw (ne_eqb j k n) (ne_eqb (record_of number j) (record_of number k) (λ e. n (one_local number j k b l e)))
 ]
 
 -- whether a record is confirmed once another one is locked
-pub locks_at : (c : CpuValue) (k j : ℕ) → IsSized c → k < records_of_one → j < records_of_one → get_or (set c.part.confirmed (record_of c.number k) false) (record_of c.number j) false ≡ cond (record_of c.number j == record_of c.number k) false (confirmed_at c j)
+pub locks_at : (c : CpuValue) (k j : ℕ) → IsSized c → k < records_of_one → j < records_of_one
+    → get_or (set c.part.confirmed (record_of c.number k) false) (record_of c.number j) false
+    ≡ cond (record_of c.number j == record_of c.number k) false (confirmed_at c j)
 locks_at c k j s l b = elim (cases_eq j k) [
-  | inl e ↦ rw (eq-eqb (record_of c.number j) (record_of c.number k) (ap (record_of c.number) e)) (subst (λ (i : ℕ). get_or (set c.part.confirmed (record_of c.number k) false) (record_of c.number i) false ≡ false) (sym e) (set_here c k false s l))
+  | inl e ↦ rw (eq-eqb (record_of c.number j) (record_of c.number k) (ap (record_of c.number) e))
+      (subst (λ (i : ℕ). get_or (set c.part.confirmed (record_of c.number k) false) (record_of c.number i) false ≡ false) (sym e) (set_here c k false s l))
   | inr n ↦
-      let apart = λ (e : record_of c.number j ≡ record_of c.number k). n (same_local c.number j k b l e) in
+      let apart = λ (e : record_of c.number j ≡ record_of c.number k). n (one_local c.number j k b l e) in
       rw (ne_eqb (record_of c.number j) (record_of c.number k) apart) (set_else c (record_of c.number k) (record_of c.number j) false apart)
 ]
 
 -- what is owed once a CPU was sent an interrupt, whether it was owed one or not
 owed_at : (owes : List Bool) (to x : ℕ) → get_or (set (set owes to true) to false) x false ≡ (get_or owes x false && not (to == x || false))
 owed_at owes to x = elim (cases_eq to x) [
-  | inl e ↦ rw (eq-eqb to x e) (subst (λ (y : ℕ). get_or (set (set owes to true) to false) y false ≡ (get_or owes y false && false)) e (set_false (set owes to true) to ∙ sym (and_false (get_or owes to false))))
+  | inl e ↦
+      rw (eq-eqb to x e) (subst (λ (y : ℕ). get_or (set (set owes to true) to false) y false ≡ (get_or owes y false && false)) e
+      (set_false (set owes to true) to ∙ sym (and_false (get_or owes to false))))
   | inr n ↦
       let apart = λ (e : x ≡ to). n (sym e) in
-      rw (ne_eqb to x n) (get_or-set_other (set owes to true) to x false false apart ∙ (get_or-set_other owes to x true false apart ∙ sym (and_true (get_or owes x false))))
+      rw (ne_eqb to x n) (get_or-set_other (set owes to true) to x false false apart
+          ∙ (get_or-set_other owes to x true false apart ∙ sym (and_true (get_or owes x false))))
 ]
 
 -- the CPU after one call was queued and its interrupt sent
@@ -63,7 +71,8 @@ abbrev pub one_queued : ℕ → Bool → List Queued
 one_queued to first = record { to = to; is_first = first } ∷ []
 
 -- the records of a CPU once one is locked
-locked : (c : CpuValue) (number k j : ℕ) → IsSized c → k < records_of_one → j < records_of_one → c.number ≡ number → get_or (set c.part.confirmed (record_of c.number k) false) (record_of c.number j) false ≡ cond (j == k) false (confirmed_at c j)
+locked : (c : CpuValue) (number k j : ℕ) → IsSized c → k < records_of_one → j < records_of_one → c.number ≡ number
+    → get_or (set c.part.confirmed (record_of c.number k) false) (record_of c.number j) false ≡ cond (j == k) false (confirmed_at c j)
 locked c number k j s l b n = locks_at c k j s l b ∙ ap (λ x. cond x false (confirmed_at c j)) (same_record c.number j k b l)
 
 or_cond : (b x : Bool) → (b || cond b false x) ≡ cond b true x
@@ -76,7 +85,8 @@ by_case false wait m o e = e refl
 
 module _ {H : Type 0} (leads : H → Heard → H → Type 0) where
   leaves_sent : (first : Bool) (c : CpuValue) (h : H) (k to : ℕ) (class : Class) (func info : ℕ) → IsSized c → k < records_of_one →
-      Leaves leads c h (sent_one k to class func info first c) h (sendings (λ _. call_by c.number k class func info) (one_queued to first)) None (λ x. owes_at c x && not (is_first_to x (one_queued to first))) (λ j. cond (j == k) false (confirmed_at c j))
+      Leaves leads c h (sent_one k to class func info first c) h (sendings (λ _. call_by c.number k class func info) (one_queued to first)) None
+          (λ x. owes_at c x && not (is_first_to x (one_queued to first))) (λ j. cond (j == k) false (confirmed_at c j))
   leaves_sent true c h k to class func info s l = record {
     table_is = refl;
     number_is = refl;
@@ -99,15 +109,20 @@ module _ {H : Type 0} (leads : H → Heard → H → Type 0) where
   }
 
   -- the same of a CPU with this number that has become another one
-  pub leaves_one : (c d : CpuValue) (h : H) (number k to : ℕ) (class : Class) (func info : ℕ) (first : Bool) → IsSized c → k < records_of_one → c.number ≡ number → d ≡ sent_one k to class func info first c →
-      Leaves leads c h d h (sendings (λ _. call_by number k class func info) (one_queued to first)) None (λ x. owes_at c x && not (is_first_to x (one_queued to first))) (λ j. cond (j == k) false (confirmed_at c j))
+  pub leaves_one : (c d : CpuValue) (h : H) (number k to : ℕ) (class : Class) (func info : ℕ) (first : Bool) → IsSized c → k < records_of_one
+      → c.number ≡ number → d ≡ sent_one k to class func info first c →
+      Leaves leads c h d h (sendings (λ _. call_by number k class func info) (one_queued to first)) None
+          (λ x. owes_at c x && not (is_first_to x (one_queued to first))) (λ j. cond (j == k) false (confirmed_at c j))
   leaves_one c d h number k to class func info first s l n e =
-      subst (λ (x : CpuValue). Leaves leads c h x h (sendings (λ _. call_by number k class func info) (one_queued to first)) None (λ x. owes_at c x && not (is_first_to x (one_queued to first))) (λ j. cond (j == k) false (confirmed_at c j))) (sym e)
-      (subst (λ (m : ℕ). Leaves leads c h (sent_one k to class func info first c) h (sendings (λ _. call_by m k class func info) (one_queued to first)) None (λ x. owes_at c x && not (is_first_to x (one_queued to first))) (λ j. cond (j == k) false (confirmed_at c j))) n
+      subst (λ (x : CpuValue). Leaves leads c h x h (sendings (λ _. call_by number k class func info) (one_queued to first)) None
+          (λ x. owes_at c x && not (is_first_to x (one_queued to first))) (λ j. cond (j == k) false (confirmed_at c j))) (sym e)
+      (subst (λ (m : ℕ). Leaves leads c h (sent_one k to class func info first c) h (sendings (λ _. call_by m k class func info) (one_queued to first)) None
+          (λ x. owes_at c x && not (is_first_to x (one_queued to first))) (λ j. cond (j == k) false (confirmed_at c j))) n
       (leaves_sent first c h k to class func info s l))
 
   -- the record and the class of a call are those that its waiting asks for
-  said : {old new : CpuValue} {before after : H} (k : ℕ) (class : Class) (func info : ℕ) (queued : List Queued) (wait b : Bool) → wait ≡ b → k ≡ single_record wait → class ≡ class_for wait →
+  said : {old new : CpuValue} {before after : H} (k : ℕ) (class : Class) (func info : ℕ) (queued : List Queued) (wait b : Bool) → wait ≡ b
+      → k ≡ single_record wait → class ≡ class_for wait →
       Calls leads old before new after (λ _. call_by old.number k class func info) queued None b →
       Calls leads old before new after (λ _. call_by old.number (single_record wait) (class_for wait) func info) queued None wait
   said {old} {new} {before} {after} k class func info queued wait b w is_k is_class made =
@@ -116,15 +131,18 @@ module _ {H : Type 0} (leads : H → Heard → H → Type 0) where
       (subst (λ (x : Bool). Calls leads old before new after (λ _. call_by old.number k class func info) queued None x) (sym w) made))
 
   -- a record is waited for, a call is queued by it, and where it is to be waited for, that too
-  pub calls_one : {old mid new : CpuValue} {before m after : H} (k to : ℕ) (class : Class) (func info : ℕ) (first wait : Bool) (was : ℕ → Bool) (done : ℕ → Bool) → k < records_of_one →
+  pub calls_one : {old mid new : CpuValue} {before m after : H} (k to : ℕ) (class : Class) (func info : ℕ) (first wait : Bool) (was : ℕ → Bool)
+      (done : ℕ → Bool) → k < records_of_one →
       Leaves leads old before mid m [] None (owes_at old) was →
       ((j : ℕ) → j < records_of_one → (j == k) ≡ false → was j ≡ confirmed_at old j) →
-      Leaves leads mid m new after (sendings (λ _. call_by old.number k class func info) (one_queued to first)) None (λ x. owes_at mid x && not (is_first_to x (one_queued to first))) done →
+      Leaves leads mid m new after (sendings (λ _. call_by old.number k class func info) (one_queued to first)) None
+          (λ x. owes_at mid x && not (is_first_to x (one_queued to first))) done →
       ((j : ℕ) → j < records_of_one → done j ≡ cond (j == k) wait (confirmed_at mid j)) →
       Calls leads old before new after (λ _. call_by old.number k class func info) (one_queued to first) None wait
   calls_one {old} {mid} k to class func info first wait was done l f kept g ends = leaves_as leads _ _ (leaves_then leads f g)
       (λ x. ap (λ b. b && not (is_first_to x (one_queued to first))) (f.owes_are x))
-      (λ j b. ends j b ∙ (by_case (j == k) wait (confirmed_at mid j) (confirmed_at old j) (λ e. f.confirmed_are j b ∙ kept j b e) ∙ ap (λ x. cond x wait (confirmed_at old j)) (sym (or_false (record_of old.number j == record_of old.number k) ∙ same_record old.number j k b l))))
+      (λ j b. ends j b ∙ (by_case (j == k) wait (confirmed_at mid j) (confirmed_at old j) (λ e. f.confirmed_are j b ∙ kept j b e)
+          ∙ ap (λ x. cond x wait (confirmed_at old j)) (sym (or_false (record_of old.number j == record_of old.number k) ∙ same_record old.number j k b l))))
 
   -- a call to one CPU by a record, not waited for
   pub calls_by : {old mid new : CpuValue} {before m : H} (k to : ℕ) (class : Class) (func info : ℕ) → k < records_of_one → IsSized old →
@@ -134,10 +152,12 @@ module _ {H : Type 0} (leads : H → Heard → H → Type 0) where
   calls_by {old} {mid} {new} {before} {m} k to class func info l s f q =
       let same = sized_moved old mid f.number_is f.sized s in
       let g = leaves_one mid new m old.number k to class func info q.0 same l f.number_is q.1 in
-      (one_queued to q.0, refl, calls_one k to class func info q.0 false (λ j. j == k || confirmed_at old j) (λ j. cond (j == k) false (confirmed_at mid j)) l f (λ j b n. ap (λ x. x || confirmed_at old j) n) g (λ j b. refl))
+      (one_queued to q.0, refl, calls_one k to class func info q.0 false (λ j. j == k || confirmed_at old j) (λ j. cond (j == k) false (confirmed_at mid j)) l f
+          (λ j b n. ap (λ x. x || confirmed_at old j) n) g (λ j b. refl))
 
   -- by the record that its waiting asks for
-  pub calls_left : {old mid new : CpuValue} {before m : H} (k to : ℕ) (class : Class) (func info : ℕ) (wait : Bool) → wait ≡ false → k ≡ single_record wait → class ≡ class_for wait → k < records_of_one → IsSized old →
+  pub calls_left : {old mid new : CpuValue} {before m : H} (k to : ℕ) (class : Class) (func info : ℕ) (wait : Bool) → wait ≡ false → k ≡ single_record wait
+      → class ≡ class_for wait → k < records_of_one → IsSized old →
       Leaves leads old before mid m [] None (owes_at old) (λ j. j == k || confirmed_at old j) →
       (first : Bool) × (new ≡ sent_one k to class func info first mid) →
       CallsOne leads old before new m to func info wait
@@ -146,7 +166,8 @@ module _ {H : Type 0} (leads : H → Heard → H → Type 0) where
       (made.0, made.1, said k class func info made.0 wait false w is_k is_class made.2)
 
   -- one that is
-  pub calls_waited : {old mid sent new : CpuValue} {before m after : H} (k to : ℕ) (class : Class) (func info : ℕ) (wait : Bool) → wait ≡ true → k ≡ single_record wait → class ≡ class_for wait → k < records_of_one → IsSized old →
+  pub calls_waited : {old mid sent new : CpuValue} {before m after : H} (k to : ℕ) (class : Class) (func info : ℕ) (wait : Bool) → wait ≡ true
+      → k ≡ single_record wait → class ≡ class_for wait → k < records_of_one → IsSized old →
       Leaves leads old before mid m [] None (owes_at old) (λ j. j == k || confirmed_at old j) →
       (first : Bool) × (sent ≡ sent_one k to class func info first mid) →
       Leaves leads sent m new after [] None (owes_at sent) (λ j. j == k || confirmed_at sent j) →
@@ -154,7 +175,9 @@ module _ {H : Type 0} (leads : H → Heard → H → Type 0) where
   calls_waited {old} {mid} {sent} {new} {before} {m} {after} k to class func info wait w is_k is_class l s f q h =
       let same = sized_moved old mid f.number_is f.sized s in
       let g = leaves_one mid sent m old.number k to class func info q.0 same l f.number_is q.1 in
-      let g' = leaves_as leads (λ x. owes_at mid x && not (is_first_to x (one_queued to q.0))) (λ j. j == k || confirmed_at sent j) (leaves_then leads g h) g.owes_are (λ j b. refl) in
+      let g' = leaves_as leads (λ x. owes_at mid x && not (is_first_to x (one_queued to q.0))) (λ j. j == k || confirmed_at sent j)
+          (leaves_then leads g h) g.owes_are (λ j b. refl) in
       let made : Calls leads old before new after (λ _. call_by old.number k class func info) (one_queued to q.0) None true =
-      calls_one k to class func info q.0 true (λ j. j == k || confirmed_at old j) (λ j. j == k || confirmed_at sent j) l f (λ j b n. ap (λ x. x || confirmed_at old j) n) g' (λ j b. ap (λ x. j == k || x) (g.confirmed_are j b) ∙ or_cond (j == k) (confirmed_at mid j)) in
+      calls_one k to class func info q.0 true (λ j. j == k || confirmed_at old j) (λ j. j == k || confirmed_at sent j) l f
+          (λ j b n. ap (λ x. x || confirmed_at old j) n) g' (λ j b. ap (λ x. j == k || x) (g.confirmed_are j b) ∙ or_cond (j == k) (confirmed_at mid j)) in
       (one_queued to q.0, refl, said k class func info (one_queued to q.0) wait true w is_k is_class made)

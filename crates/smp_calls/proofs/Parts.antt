@@ -1,5 +1,6 @@
 -- A call to many, out of its parts.
-use Rattle.std.proofs.Common.{◌≡◌, ℕ, ◌<◌, ◌==◌, ◌||◌, ◌&&◌, not, Bool, true, false, cond, Option, Some, None, List, [], length, inl, inr, refl, sym, ap, ◌∙◌, subst, arith}
+use Rattle.std.proofs.Common.{◌≡◌, ℕ, ◌<◌, ◌==◌, ◌||◌, ◌&&◌, not, Bool, true, false, cond, Option, Some, None, List, [], length, inl, inr, refl, sym, ap, ◌∙◌}
+use Rattle.std.proofs.Common.{subst, arith}
 use Rattle.std.proofs.lemmas.List.{append-nil}
 use Rattle.std.proofs.lemmas.Bool.{cases_eq, ne_eqb, eq-eqb}
 use Rattle.std.proofs.lemmas.Bool.Decides.{nat_tests}
@@ -40,23 +41,32 @@ same_test false true there back = back refl
 same_test false false there back = refl
 
 -- where all of these CPUs have said yes, all are called
-pub all_called : (others called : ℕ) → ((c : ℕ) → has called c ≡ true → has others c ≡ true) → ((c : ℕ) → c < NR_CPUS → has others c ≡ true → has called c ≡ true) → members called ≡ members others
+pub all_called : (others called : ℕ) → ((c : ℕ) → has called c ≡ true → has others c ≡ true)
+    → ((c : ℕ) → c < NR_CPUS → has others c ≡ true → has called c ≡ true) → members called ≡ members others
 all_called others called among every = agreeing called others NR_CPUS (λ c l. same_test (has called c) (has others c) (among c) (every c l))
 
 -- of the called ones all but this one are remote
-pub others_called : (this called result : ℕ) (here : Bool) → ((c : ℕ) → has result c ≡ (has called c || (here && c == this))) → has called this ≡ false → members called ≡ remote this result
+pub others_called : (this called result : ℕ) (here : Bool) → ((c : ℕ) → has result c ≡ (has called c || (here && c == this))) → has called this ≡ false
+    → members called ≡ remote this result
 others_called this called result here made out = sym (filter_members result called (λ c. not (c == this)) NR_CPUS (λ c. elim (cases_eq c this) [
   | inl e ↦ rw (eq-eqb c this e) (subst (λ (x : ℕ). has called x ≡ false) (sym e) out ∙ sym (and_false (has result c)))
-  | inr n ↦ sym (ap (λ b. has result c && not b) (ne_eqb c this n) ∙ (and_true (has result c) ∙ (made c ∙ (ap (λ b. has called c || (here && b)) (ne_eqb c this n) ∙ (ap (λ b. has called c || b) (and_false here) ∙ or_false (has called c))))))
+  | inr n ↦
+      sym (ap (λ b. has result c && not b) (ne_eqb c this n)
+      ∙ (and_true (has result c) ∙ (made c
+      ∙ (ap (λ b. has called c || (here && b)) (ne_eqb c this n) ∙ (ap (λ b. has called c || b) (and_false here) ∙ or_false (has called c))))))
 ]))
 
 -- this one is called exactly where its function runs here
-pub called_here : (this called result : ℕ) (here : Bool) → ((c : ℕ) → has result c ≡ (has called c || (here && c == this))) → has called this ≡ false → has result this ≡ here
-called_here this called result here made out = made this ∙ (ap (λ b. b || (here && this == this)) out ∙ (ap (λ b. here && b) (eq-eqb this this refl) ∙ and_true here))
+pub called_here : (this called result : ℕ) (here : Bool) → ((c : ℕ) → has result c ≡ (has called c || (here && c == this))) → has called this ≡ false
+    → has result this ≡ here
+called_here this called result here made out =
+    made this ∙ (ap (λ b. b || (here && this == this)) out ∙ (ap (λ b. here && b) (eq-eqb this this refl) ∙ and_true here))
 
 -- this CPU is not among the others
-pub not_called : (mask online this others called : ℕ) → ((c : ℕ) → has others c ≡ is_target mask online this false c) → ((c : ℕ) → has called c ≡ true → has others c ≡ true) → has called this ≡ false
-not_called mask online this others called are among = none_true (has called this) (λ h. let e = sym (are this) ∙ among this h in let same = eq-eqb this this refl in grind (arith, nat_tests, e, same))
+pub not_called : (mask online this others called : ℕ) → ((c : ℕ) → has others c ≡ is_target mask online this false c)
+    → ((c : ℕ) → has called c ≡ true → has others c ≡ true) → has called this ≡ false
+not_called mask online this others called are among =
+    none_true (has called this) (λ h. let e = sym (are this) ∙ among this h in let same = eq-eqb this this refl in grind (arith, nat_tests, e, same))
 
 second : (m o n : Bool) → (((m && o) && n) || false) ≡ true → o ≡ true
 second true true n e = refl
@@ -69,24 +79,32 @@ target_online mask online this c e = second (has mask c) (has online c) (not (c 
 
 -- of the others only those are in the mask and online
 others_targets : (mask online this c : ℕ) → (c == this) ≡ false → is_target mask online this false c ≡ is_target mask online this true c
-others_targets mask online this c n = ap (λ b. ((has mask c && has online c) && not b) || ((false && has mask c) && b)) n ∙ (ap (λ b. ((has mask c && has online c) && true) || b) (sym (and_false (has mask c))) ∙ sym (ap (λ b. ((has mask c && has online c) && not b) || ((true && has mask c) && b)) n))
+others_targets mask online this c n = ap (λ b. ((has mask c && has online c) && not b) || ((false && has mask c) && b)) n
+    ∙ (ap (λ b. ((has mask c && has online c) && true) || b) (sym (and_false (has mask c)))
+    ∙ sym (ap (λ b. ((has mask c && has online c) && not b) || ((true && has mask c) && b)) n))
 
 own_target : (mask online this c : ℕ) → (c == this) ≡ true → is_target mask online this true c ≡ has mask c
-own_target mask online this c e = ap (λ b. ((has mask c && has online c) && not b) || (has mask c && b)) e ∙ (ap (λ b. b || (has mask c && true)) (and_false (has mask c && has online c)) ∙ and_true (has mask c))
+own_target mask online this c e = ap (λ b. ((has mask c && has online c) && not b) || (has mask c && b)) e
+    ∙ (ap (λ b. b || (has mask c && true)) (and_false (has mask c && has online c)) ∙ and_true (has mask c))
 
-result_else : (this called result c : ℕ) (here : Bool) → ((x : ℕ) → has result x ≡ (has called x || (here && x == this))) → (c == this) ≡ false → has result c ≡ has called c
-result_else this called result c here made n = made c ∙ (ap (λ b. has called c || (here && b)) n ∙ (ap (λ b. has called c || b) (and_false here) ∙ or_false (has called c)))
+result_else : (this called result c : ℕ) (here : Bool) → ((x : ℕ) → has result x ≡ (has called x || (here && x == this))) → (c == this) ≡ false
+    → has result c ≡ has called c
+result_else this called result c here made n =
+    made c ∙ (ap (λ b. has called c || (here && b)) n ∙ (ap (λ b. has called c || b) (and_false here) ∙ or_false (has called c)))
 
 -- the others that said yes, with this one where it did
-pub picks_with : (says : ℕ → Bool → Type 0) (mask online this others called result : ℕ) (here : Bool) → ((c : ℕ) → has others c ≡ is_target mask online this false c) → Picks says (has others) called →
-    ((c : ℕ) → has result c ≡ (has called c || (here && c == this))) → (here ≡ true → (has mask this ≡ true) × (this < cpus)) → (has mask this ≡ true → this < cpus → says this here) →
+pub picks_with : (says : ℕ → Bool → Type 0) (mask online this others called result : ℕ) (here : Bool)
+    → ((c : ℕ) → has others c ≡ is_target mask online this false c) → Picks says (has others) called →
+    ((c : ℕ) → has result c ≡ (has called c || (here && c == this))) → (here ≡ true → (has mask this ≡ true) × (this < cpus))
+        → (has mask this ≡ true → this < cpus → says this here) →
     Picks says (is_target mask online this true) result
 picks_with says mask online this others called result here are picks made member answered =
     let out = not_called mask online this others called are picks.among in
     let is_here = called_here this called result here made out in
     record {
       among = λ c h. elim (cases_eq c this) [
-        | inl e ↦ own_target mask online this c (eq-eqb c this e) ∙ subst (λ (x : ℕ). has mask x ≡ true) (sym e) (member (sym is_here ∙ subst (λ (x : ℕ). has result x ≡ true) e h)).0
+        | inl e ↦ own_target mask online this c (eq-eqb c this e)
+            ∙ subst (λ (x : ℕ). has mask x ≡ true) (sym e) (member (sym is_here ∙ subst (λ (x : ℕ). has result x ≡ true) e h)).0
         | inr n ↦
             let other = ne_eqb c this n in
             sym (others_targets mask online this c other) ∙ (sym (are c) ∙ picks.among c (sym (result_else this called result c here made other) ∙ h))
@@ -114,7 +132,8 @@ module _ {H : Type 0} (leads : H → Heard → H → Type 0) where
         sent_is = ap (λ (x : CpuValue). x.part.sent) field ∙ sym (append-nil c.part.sent);
         owes_are = s.owes_are;
         confirmed_are = λ k b. ap (λ (x : CpuValue). confirmed_at x k) field;
-        handled = handles_same leads c d h (ap (λ (x : CpuValue). x.part.asked) field) (ap (λ (x : CpuValue). x.part.taken) field) (ap (λ (x : CpuValue). x.part.ran) field);
+        handled = handles_same leads c d h (ap (λ (x : CpuValue). x.part.asked) field) (ap (λ (x : CpuValue). x.part.taken) field)
+            (ap (λ (x : CpuValue). x.part.ran) field);
       }
 
   -- all calls are queued, and then all interrupts sent
@@ -124,11 +143,14 @@ module _ {H : Type 0} (leads : H → Heard → H → Type 0) where
   calls_all {old} {mid} {new} {before} {m} class func info others called owed q s =
       let call = many_call old.number class func info in
       let both = leaves_then leads q.queues.leaves (leaves_sends mid new m (members owed) s) in
-      let sent = subst (λ (xs : List Sending). Leaves leads old before new m xs None (λ x. owes_at mid x && not (is_in x (members owed))) (confirmed_at mid)) (append-nil (sendings call q.queued)) both in (
+      let sent = subst (λ (xs : List Sending). Leaves leads old before new m xs None (λ x. owes_at mid x && not (is_in x (members owed))) (confirmed_at mid))
+          (append-nil (sendings call q.queued)) both in (
         q.queued,
         q.called_are,
-        leaves_as leads (λ c. owes_at old c && not (is_first_to c q.queued)) (λ k. cond (is_used call (record_of old.number k) q.queued) false (confirmed_at old k)) sent
-            (λ c. ap (λ (xs : List ℕ). owes_at mid c && not (is_in c xs)) (sym q.owed_are) ∙ owed_by (is_first_to c q.queued) (owes_at mid c) (owes_at old c) (q.queues.kept c))
+        leaves_as leads (λ c. owes_at old c && not (is_first_to c q.queued))
+            (λ k. cond (is_used call (record_of old.number k) q.queued) false (confirmed_at old k)) sent
+            (λ c. ap (λ (xs : List ℕ). owes_at mid c && not (is_in c xs)) (sym q.owed_are)
+                ∙ owed_by (is_first_to c q.queued) (owes_at mid c) (owes_at old c) (q.queues.kept c))
             q.queues.leaves.confirmed_are,
       )
 
@@ -139,7 +161,9 @@ module _ {H : Type 0} (leads : H → Heard → H → Type 0) where
   calls_waited_for {old} {mid} {new} {before} {m} {after} class func info to here wait f w =
       let call = many_call old.number class func info in
       let both = leaves_later leads f.2 w in
-      let sent = subst (λ (xs : List Sending). Leaves leads old before new after xs here (owes_at mid) (λ k. (wait && is_many mid.number k to) || confirmed_at mid k)) (append-nil (sendings call f.0)) both in (
+      let sent =
+          subst (λ (xs : List Sending). Leaves leads old before new after xs here (owes_at mid) (λ k. (wait && is_many mid.number k to) || confirmed_at mid k))
+          (append-nil (sendings call f.0)) both in (
         f.0,
         f.1,
         leaves_as leads (λ c. owes_at old c && not (is_first_to c f.0)) (λ k. cond (is_used call (record_of old.number k) f.0) wait (confirmed_at old k)) sent
@@ -159,5 +183,7 @@ module _ {H : Type 0} (leads : H → Heard → H → Type 0) where
   calls_then_here {old} {mid} {before} {m} {after} class func info to (Some heard) f call =
       let made = many_call old.number class func info in
       let both = leaves_then leads f.2 (leaves_here leads mid m after heard call) in
-      let sent = subst (λ (xs : List Sending). Leaves leads old before mid after xs (Some heard) (owes_at mid) (confirmed_at mid)) (append-nil (sendings made f.0)) both in
-      (f.0, f.1, leaves_as leads (λ c. owes_at old c && not (is_first_to c f.0)) (λ k. cond (is_used made (record_of old.number k) f.0) false (confirmed_at old k)) sent f.2.owes_are f.2.confirmed_are)
+      let sent = subst (λ (xs : List Sending). Leaves leads old before mid after xs (Some heard) (owes_at mid) (confirmed_at mid))
+          (append-nil (sendings made f.0)) both in
+      (f.0, f.1, leaves_as leads (λ c. owes_at old c && not (is_first_to c f.0))
+          (λ k. cond (is_used made (record_of old.number k) f.0) false (confirmed_at old k)) sent f.2.owes_are f.2.confirmed_are)

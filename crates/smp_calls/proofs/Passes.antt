@@ -1,5 +1,6 @@
 -- The loops that send an interrupt to each of many CPUs, and that wait for the record of each.
-use Rattle.std.proofs.Common.{◌≡◌, length, length-set, ℕ, ◌<◌, ◌==◌, ◌||◌, ◌&&◌, not, Bool, true, false, None, List, [], ◌∷◌, ◌++◌, append_assoc, set, get_or, inl, inr, refl, sym, ap, ◌∙◌, subst}
+use Rattle.std.proofs.Common.{◌≡◌, length, length-set, ℕ, ◌<◌, ◌==◌, ◌||◌, ◌&&◌, not, Bool, true, false, None, List, [], ◌∷◌, ◌++◌, append_assoc, set, get_or}
+use Rattle.std.proofs.Common.{inl, inr, refl, sym, ap, ◌∙◌, subst}
 use Rattle.std.proofs.lemmas.Bool.{cases_eq, ne_eqb, eq-eqb}
 use Rattle.std.proofs.lemmas.List.{append-nil, get_or-set_other}
 use Rattle.smp_mask.specs.Mask.{has, members}
@@ -47,10 +48,12 @@ all_in true true = refl
 all_in true false = refl
 all_in false i = refl
 
-owed_after : (owes : List Bool) (cpu c : ℕ) (o i : Bool) → get_or owes c false ≡ (o && not i) → get_or (set owes cpu false) c false ≡ (o && not (i || (cpu == c || false)))
+owed_after : (owes : List Bool) (cpu c : ℕ) (o i : Bool) → get_or owes c false ≡ (o && not i)
+    → get_or (set owes cpu false) c false ≡ (o && not (i || (cpu == c || false)))
 owed_after owes cpu c o i e = elim (cases_eq c cpu) [
   | inl same ↦
-      rw (eq-eqb cpu c (sym same)) (subst (λ (x : ℕ). get_or (set owes cpu false) x false ≡ (o && not (i || true))) (sym same) (set_false owes cpu ∙ all_in o i))
+      rw (eq-eqb cpu c (sym same)) (subst (λ (x : ℕ). get_or (set owes cpu false) x false ≡ (o && not (i || true))) (sym same)
+          (set_false owes cpu ∙ all_in o i))
   | inr apart ↦
       rw (ne_eqb cpu c (λ h. apart (sym h))) (get_or-set_other owes cpu c false false apart ∙ (e ∙ ap (λ b. o && not b) (sym (or_false i))))
 ]
@@ -59,7 +62,9 @@ pub sends_more : (old mid new : CpuValue) (cpu : ℕ) (xs : List ℕ) → Sends 
 sends_more old mid new cpu xs s e =
     let owes : new.part.owes ≡ set mid.part.owes cpu false = ap (λ (x : CpuValue). x.part.owes) e in
     record {
-      others_are = e ∙ (ap (λ (x : CpuValue). record x { part = record (x.part) { owes = set mid.part.owes cpu false } }) s.others_are ∙ ap (λ (o : List Bool). record old { part = record (old.part) { owes = o } }) (sym owes));
+      others_are =
+          e ∙ (ap (λ (x : CpuValue). record x { part = record (x.part) { owes = set mid.part.owes cpu false } }) s.others_are
+          ∙ ap (λ (o : List Bool). record old { part = record (old.part) { owes = o } }) (sym owes));
       owes_sized = ap length owes ∙ (length-set mid.part.owes cpu false ∙ s.owes_sized);
       owes_are = λ c.
           ap (λ (o : List Bool). get_or o c false) owes ∙
@@ -87,5 +92,6 @@ module _ {H : Type 0} (leads : H → Heard → H → Type 0) where
       leaves_as leads (owes_at old) (λ j. is_many old.number j (xs ++ cpu ∷ []) || confirmed_at old j) (leaves_then leads f g) f.owes_are (λ j b.
       ap (λ x. j == k || x) (f.confirmed_are j b) ∙
       (turned (j == k) (is_many old.number j xs) (confirmed_at old j) ∙
-      (ap (λ x. (is_many old.number j xs || (x || false)) || confirmed_at old j) (sym (same_record old.number j k b small) ∙ ap (λ (i : ℕ). record_of old.number j == record_of old.number i) is_k) ∙
+      (ap (λ x. (is_many old.number j xs || (x || false)) || confirmed_at old j)
+          (sym (same_record old.number j k b small) ∙ ap (λ (i : ℕ). record_of old.number j == record_of old.number i) is_k) ∙
       ap (λ x. x || confirmed_at old j) (sym (is_by-append (λ x. record_of old.number (many_record x)) (record_of old.number j) xs (cpu ∷ []))))))

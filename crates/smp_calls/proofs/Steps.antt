@@ -1,5 +1,6 @@
 -- What one step of a call leaves, and one step after the other.
-use Rattle.std.proofs.Common.{◌≡◌, ℕ, ◌<◌, ◌==◌, ◌||◌, Bool, true, false, Option, Some, None, List, [], ◌++◌, append_assoc, length, length-set, slice_index_or, slice_set, inl, inr, refl, sym, ap, ◌∙◌, subst, arith}
+use Rattle.std.proofs.Common.{◌≡◌, ℕ, ◌<◌, ◌==◌, ◌||◌, Bool, true, false, Option, Some, None, List, [], ◌++◌, append_assoc, length, length-set, slice_index_or}
+use Rattle.std.proofs.Common.{slice_set, inl, inr, refl, sym, ap, ◌∙◌, subst, arith}
 use Rattle.std.proofs.lemmas.List.{append-nil, get_or-set_same, get_or-set_other}
 use Rattle.std.proofs.lemmas.Bool.{cases_eq, ne_eqb, eq-eqb}
 use Rattle.smp_words.specs.Size.{cpus, records_of_one, record_of}
@@ -18,24 +19,24 @@ pub sized_moved : (c d : CpuValue) → d.number ≡ c.number → length d.part.c
 sized_moved c d n e s = record { number = subst (λ (m : ℕ). m < cpus) (sym n) s.number; records_are = e ∙ s.records_are }
 
 -- a record that is stored as confirmed or not, and the others
-pub set_here : (c : CpuValue) (k : ℕ) (b : Bool) → IsSized c → k < records_of_one → slice_index_or (slice_set c.part.confirmed (record_of c.number k) b) (record_of c.number k) false ≡ b
+pub set_here : (c : CpuValue) (k : ℕ) (b : Bool) → IsSized c → k < records_of_one
+    → slice_index_or (slice_set c.part.confirmed (record_of c.number k) b) (record_of c.number k) false ≡ b
 set_here c k b s l =
     let e = s.records_are in
     let below = record_of-below c.number k s.number l in
     get_or-set_same c.part.confirmed (record_of c.number k) b false (omega arith)
 
-pub set_else : (c : CpuValue) (i j : ℕ) (b : Bool) → (j ≡ i → ⊥) → slice_index_or (slice_set c.part.confirmed i b) j false ≡ slice_index_or c.part.confirmed j false
+pub set_else : (c : CpuValue) (i j : ℕ) (b : Bool) → (j ≡ i → ⊥)
+    → slice_index_or (slice_set c.part.confirmed i b) j false ≡ slice_index_or c.part.confirmed j false
 set_else c i j b other = get_or-set_other c.part.confirmed i j b false other
-
--- one CPU's records are as many as their local numbers
-pub same_local : (number j k : ℕ) → j < records_of_one → k < records_of_one → record_of number j ≡ record_of number k → j ≡ k
-same_local number j k b l e = one_local number j k b l e
 
 -- whether a record is confirmed once that of number k is
 pub confirms_at : (c : CpuValue) (k j : ℕ) → IsSized c → k < records_of_one → j < records_of_one → confirmed_at (confirms k c) j ≡ (j == k || confirmed_at c j)
 confirms_at c k j s l b = elim (cases_eq j k) [
-  | inl e ↦ rw (eq-eqb j k e) (subst (λ (i : ℕ). slice_index_or (slice_set c.part.confirmed (record_of c.number k) true) (record_of c.number i) false ≡ true) (sym e) (set_here c k true s l))
-  | inr n ↦ rw (ne_eqb j k n) (set_else c (record_of c.number k) (record_of c.number j) true (λ e. n (same_local c.number j k b l e)))
+  | inl e ↦
+      rw (eq-eqb j k e) (subst (λ (i : ℕ). slice_index_or (slice_set c.part.confirmed (record_of c.number k) true) (record_of c.number i) false ≡ true) (sym e)
+      (set_here c k true s l))
+  | inr n ↦ rw (ne_eqb j k n) (set_else c (record_of c.number k) (record_of c.number j) true (λ e. n (one_local c.number j k b l e)))
 ]
 
 module _ {H : Type 0} (leads : H → Heard → H → Type 0) where
@@ -52,7 +53,9 @@ module _ {H : Type 0} (leads : H → Heard → H → Type 0) where
   }
 
   -- the same, with what it owes and has confirmed said in other words
-  pub leaves_as : {old new : CpuValue} {before after : H} {sent : List Sending} {here : Option Heard} {o d : ℕ → Bool} (p e : ℕ → Bool) → Leaves leads old before new after sent here o d → ((c : ℕ) → o c ≡ p c) → ((k : ℕ) → k < records_of_one → d k ≡ e k) → Leaves leads old before new after sent here p e
+  pub leaves_as : {old new : CpuValue} {before after : H} {sent : List Sending} {here : Option Heard} {o d : ℕ → Bool} (p e : ℕ → Bool)
+      → Leaves leads old before new after sent here o d → ((c : ℕ) → o c ≡ p c) → ((k : ℕ) → k < records_of_one → d k ≡ e k)
+      → Leaves leads old before new after sent here p e
   leaves_as p e l same alike = record {
     table_is = l.table_is;
     number_is = l.number_is;
@@ -64,7 +67,8 @@ module _ {H : Type 0} (leads : H → Heard → H → Type 0) where
     handled = l.handled;
   }
 
-  pub leaves_then : {old mid new : CpuValue} {before m after : H} {s t : List Sending} {here : Option Heard} {o d p e : ℕ → Bool} → Leaves leads old before mid m s None o d → Leaves leads mid m new after t here p e → Leaves leads old before new after (s ++ t) here p e
+  pub leaves_then : {old mid new : CpuValue} {before m after : H} {s t : List Sending} {here : Option Heard} {o d p e : ℕ → Bool}
+      → Leaves leads old before mid m s None o d → Leaves leads mid m new after t here p e → Leaves leads old before new after (s ++ t) here p e
   leaves_then {old} {mid} {new} {before} {m} {after} {s} {t} {here} f l = record {
     table_is = l.table_is ∙ f.table_is;
     number_is = l.number_is ∙ f.number_is;
@@ -76,7 +80,8 @@ module _ {H : Type 0} (leads : H → Heard → H → Type 0) where
     handled = handled_then leads old mid new before m after here f.handled l.handled;
   }
 
-  pub leaves_later : {old mid new : CpuValue} {before m after : H} {s t : List Sending} {here : Option Heard} {o d p e : ℕ → Bool} → Leaves leads old before mid m s here o d → Leaves leads mid m new after t None p e → Leaves leads old before new after (s ++ t) here p e
+  pub leaves_later : {old mid new : CpuValue} {before m after : H} {s t : List Sending} {here : Option Heard} {o d p e : ℕ → Bool}
+      → Leaves leads old before mid m s here o d → Leaves leads mid m new after t None p e → Leaves leads old before new after (s ++ t) here p e
   leaves_later {old} {mid} {new} {before} {m} {after} {s} {t} {here} f l = record {
     table_is = l.table_is ∙ f.table_is;
     number_is = l.number_is ∙ f.number_is;
@@ -122,7 +127,8 @@ module _ {H : Type 0} (leads : H → Heard → H → Type 0) where
       }))
 
   -- a record is seen confirmed
-  pub leaves_confirmed : (c d : CpuValue) (h : H) (k : ℕ) → IsSized c → k < records_of_one → d ≡ confirms k c → Leaves leads c h d h [] None (owes_at c) (λ j. j == k || confirmed_at c j)
+  pub leaves_confirmed : (c d : CpuValue) (h : H) (k : ℕ) → IsSized c → k < records_of_one → d ≡ confirms k c
+      → Leaves leads c h d h [] None (owes_at c) (λ j. j == k || confirmed_at c j)
   leaves_confirmed c d h k s l e = subst (λ (x : CpuValue). Leaves leads c h x h [] None (owes_at c) (λ j. j == k || confirmed_at c j)) (sym e) (record {
     table_is = refl;
     number_is = refl;
@@ -135,7 +141,8 @@ module _ {H : Type 0} (leads : H → Heard → H → Type 0) where
   })
 
   -- the same after some waiting
-  pub leaves_ended : (old mid new : CpuValue) (before m : H) (k : ℕ) → IsSized old → k < records_of_one → Leaves leads old before mid m [] None (owes_at old) (confirmed_at old) → new ≡ confirms k mid →
+  pub leaves_ended : (old mid new : CpuValue) (before m : H) (k : ℕ) → IsSized old → k < records_of_one
+      → Leaves leads old before mid m [] None (owes_at old) (confirmed_at old) → new ≡ confirms k mid →
       Leaves leads old before new m [] None (owes_at old) (λ j. j == k || confirmed_at old j)
   leaves_ended old mid new before m k s l f e =
       let g = leaves_confirmed mid new m k (sized_moved old mid f.number_is f.sized s) l e in

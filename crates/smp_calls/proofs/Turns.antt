@@ -46,15 +46,21 @@ module _ {H : Type 0} (leads : H → Heard → H → Type 0) where
   pub handles_none : (c : CpuValue) (h : H) → Handles leads c h c h
   handles_none c h = handles_same c c h refl refl refl
 
-  pub handles_then : (old mid new : CpuValue) (before m after : H) → Handles leads old before mid m → Handles leads mid m new after → Handles leads old before new after
+  pub handles_then : (old mid new : CpuValue) (before m after : H) → Handles leads old before mid m → Handles leads mid m new after
+      → Handles leads old before new after
   handles_then old mid new before m after f l =
-      let split : orders (batches (f.turns ++ l.turns)) ≡ orders (batches f.turns) ++ orders (batches l.turns) = ap orders (batches-append f.turns l.turns) ∙ orders-append (batches f.turns) (batches l.turns) in
+      let split : orders (batches (f.turns ++ l.turns)) ≡ orders (batches f.turns) ++ orders (batches l.turns) =
+          ap orders (batches-append f.turns l.turns) ∙ orders-append (batches f.turns) (batches l.turns) in
       record {
         turns = f.turns ++ l.turns;
-        asked_is = grown old.part.asked mid.part.asked new.part.asked (looks f.turns) (looks l.turns) f.asked_is l.asked_is ∙ ap (λ (xs : List _). old.part.asked ++ xs) (sym (looks-append f.turns l.turns));
-        taken_is = grown old.part.taken mid.part.taken new.part.taken (batches f.turns) (batches l.turns) f.taken_is l.taken_is ∙ ap (λ (xs : List (List Call)). old.part.taken ++ xs) (sym (batches-append f.turns l.turns));
-        ran_is = grown old.part.ran mid.part.ran new.part.ran (orders (batches f.turns)) (orders (batches l.turns)) f.ran_is l.ran_is ∙ ap (λ (xs : List Call). old.part.ran ++ xs) (sym split);
-        grows = subst (λ (xs : List Call). Grows leads before xs after) (sym split) (folds-append _ (orders (batches f.turns)) (orders (batches l.turns)) before m after f.grows l.grows);
+        asked_is = grown old.part.asked mid.part.asked new.part.asked (looks f.turns) (looks l.turns) f.asked_is l.asked_is
+            ∙ ap (λ (xs : List _). old.part.asked ++ xs) (sym (looks-append f.turns l.turns));
+        taken_is = grown old.part.taken mid.part.taken new.part.taken (batches f.turns) (batches l.turns) f.taken_is l.taken_is
+            ∙ ap (λ (xs : List (List Call)). old.part.taken ++ xs) (sym (batches-append f.turns l.turns));
+        ran_is = grown old.part.ran mid.part.ran new.part.ran (orders (batches f.turns)) (orders (batches l.turns)) f.ran_is l.ran_is
+            ∙ ap (λ (xs : List Call). old.part.ran ++ xs) (sym split);
+        grows = subst (λ (xs : List Call). Grows leads before xs after) (sym split)
+            (folds-append _ (orders (batches f.turns)) (orders (batches l.turns)) before m after f.grows l.grows);
       }
 
   -- one look that found nothing
@@ -78,7 +84,8 @@ module _ {H : Type 0} (leads : H → Heard → H → Type 0) where
   }
 
   -- handling before a call, and after it
-  pub handled_then : (old mid new : CpuValue) (before m after : H) (here : Option Heard) → Handles leads old before mid m → Handled leads mid m new after here → Handled leads old before new after here
+  pub handled_then : (old mid new : CpuValue) (before m after : H) (here : Option Heard) → Handles leads old before mid m → Handled leads mid m new after here
+      → Handled leads old before new after here
   handled_then old mid new before m after None f l = handles_then old mid new before m after f l
   handled_then old mid new before m after (Some x) f l = record {
     middle = l.middle;
@@ -89,7 +96,8 @@ module _ {H : Type 0} (leads : H → Heard → H → Type 0) where
     later = l.later;
   }
 
-  pub handled_later : (old mid new : CpuValue) (before m after : H) (here : Option Heard) → Handled leads old before mid m here → Handles leads mid m new after → Handled leads old before new after here
+  pub handled_later : (old mid new : CpuValue) (before m after : H) (here : Option Heard) → Handled leads old before mid m here → Handles leads mid m new after
+      → Handled leads old before new after here
   handled_later old mid new before m after None f l = handles_then old mid new before m after f l
   handled_later old mid new before m after (Some x) f l = record {
     middle = f.middle;

@@ -1,5 +1,6 @@
 -- What a family leaves of its CPU and its handler.
-use Rattle.std.specs.Prelude.{◌≡◌, ◌≢◌, ℕ, ◌<◌, ◌≤◌, Bool, true, false, not, ◌&&◌, ◌||◌, ◌==◌, if◌then◌else◌, Option, Some, None, List, [], ◌∷◌, ◌++◌, length, slice_index_or}
+use Rattle.std.specs.Prelude.{◌≡◌, ◌≢◌, ℕ, ◌<◌, ◌≤◌, Bool, true, false, not, ◌&&◌, ◌||◌, ◌==◌, if◌then◌else◌, Option, Some, None, List, [], ◌∷◌, ◌++◌, length}
+use Rattle.std.specs.Prelude.{slice_index_or}
 use Rattle.smp_mask.specs.Mask.{has}
 use Rattle.smp_mask.specs.declared.error.SmpError.{SmpError}
 use Rattle.smp_mask.specs.declared.error.SmpError.TheVariants as error
@@ -25,7 +26,8 @@ abbrev pub owes_at : CpuValue → ℕ → Bool
 owes_at c other = slice_index_or c.part.owes other false
 
 -- a CPU has sent these calls, now owes these interrupts and has seen these of its records confirmed; else it has only handled, and made this call directly
-pub record Leaves {H : Type 0} (leads : H → Heard → H → Type 0) (old : CpuValue) (before : H) (new : CpuValue) (after : H) (sent : List Sending) (here : Option Heard) (owes confirmed : ℕ → Bool) : Type 0 where
+pub record Leaves {H : Type 0} (leads : H → Heard → H → Type 0) (old : CpuValue) (before : H) (new : CpuValue) (after : H) (sent : List Sending)
+    (here : Option Heard) (owes confirmed : ℕ → Bool) : Type 0 where
   pub table_is : new.table ≡ old.table
   pub number_is : new.number ≡ old.number
   pub sized : length new.part.confirmed ≡ length old.part.confirmed

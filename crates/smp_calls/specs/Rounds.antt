@@ -14,8 +14,10 @@ abbrev pub only_if : Bool → ℕ → List ℕ
 only_if counts cpu = if counts then cpu ∷ [] else []
 
 -- calls were queued; where a call was the first in its queue, its CPU is owed an interrupt, and none is sent yet
-pub record Queues {H : Type 0} (leads : H → Heard → H → Type 0) (old : CpuValue) (before : H) (new : CpuValue) (after : H) (call : ℕ → Call) (queued : List Queued) : Type 0 where
-  pub leaves : Leaves leads old before new after (sendings call queued) None (owes_at new) (λ k. if is_used call (record_of old.number k) queued then false else confirmed_at old k)
+pub record Queues {H : Type 0} (leads : H → Heard → H → Type 0) (old : CpuValue) (before : H) (new : CpuValue) (after : H) (call : ℕ → Call)
+    (queued : List Queued) : Type 0 where
+  pub leaves : Leaves leads old before new after (sendings call queued) None (owes_at new)
+      (λ k. if is_used call (record_of old.number k) queued then false else confirmed_at old k)
   pub kept : (c : ℕ) → is_first_to c queued ≡ false → owes_at new c ≡ owes_at old c
   pub due : (c : ℕ) → is_first_to c queued ≡ true → c < length old.part.owes → owes_at new c ≡ true
 
@@ -31,7 +33,8 @@ is_many number k to = is_by (λ x. record_of number (many_record x)) (record_of 
 
 -- the records for calls to these CPUs are confirmed, where they are waited for
 abbrev pub WaitsFor : {H : Type 0} → (H → Heard → H → Type 0) → CpuValue → H → CpuValue → H → List ℕ → Bool → Type 0
-WaitsFor leads old before new after to wait = Leaves leads old before new after [] None (owes_at old) (λ k. (wait && is_many old.number k to) || confirmed_at old k)
+WaitsFor leads old before new after to wait =
+    Leaves leads old before new after [] None (owes_at old) (λ k. (wait && is_many old.number k to) || confirmed_at old k)
 
 -- of these CPUs the ones in `called` have said yes and the others no
 pub record Picks (says : ℕ → Bool → Type 0) (asked : ℕ → Bool) (called : ℕ) : Type 0 where
@@ -39,7 +42,8 @@ pub record Picks (says : ℕ → Bool → Type 0) (asked : ℕ → Bool) (called
   pub answered : (c : ℕ) → c < cpus → asked c ≡ true → says c (has called c)
 
 -- a call is queued for each of these CPUs that has said yes, the ones in `called`, and an interrupt is to come for the ones in `owed`
-pub record QueuesEach {H : Type 0} (leads : H → Heard → H → Type 0) (old : CpuValue) (before : H) (new : CpuValue) (after : H) (says : ℕ → Bool → Type 0) (call : ℕ → Call) (others called owed : ℕ) : Type 0 where
+pub record QueuesEach {H : Type 0} (leads : H → Heard → H → Type 0) (old : CpuValue) (before : H) (new : CpuValue) (after : H) (says : ℕ → Bool → Type 0)
+    (call : ℕ → Call) (others called owed : ℕ) : Type 0 where
   pub queued : List Queued
   pub called_are : destinations queued ≡ members called
   pub owed_are : firsts queued ≡ members owed

@@ -54,7 +54,7 @@ started_shown a core cpu c limits l e f s =
     let m = may_start core cpu c e in
     let below = online_below core.nr core.online cpu limits m.is_online in
     rw (controls_by_cpu core.controls cpu (control_at (control_of core.controls cpu) (first_stage core.online cpu c)) l below)
-    (begun_shows core.nr core.online a (number_in core.words) (control_of core.controls) cpu c s m.is_outside limits below m.is_allowed f)
+    (begun_shows core.nr core.online cpu c s m.is_outside limits below m.is_allowed f)
 
 begun_nr : (v : StopsValue) (cpu : ℕ) (stage : Option StopStage) → (stop_begun_if v cpu stage).nr ≡ v.nr
 begun_nr v cpu None = refl

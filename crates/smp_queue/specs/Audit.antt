@@ -92,7 +92,8 @@ AreEqual t = (source to : ℕ) → source < cpus → to < cpus → tally_at t.qu
 
 -- a CPU's rows are its own tallies
 abbrev pub HasRowsOf : CpuValue → Tally → Type 0
-HasRowsOf c t = (other : ℕ) → other < cpus → (tally_at t.queued c.number other ≡ length (sent_to other c.part.sent) % 2 ^ 64) × (tally_at t.ran c.number other ≡ length (calls_from other c.part.ran) % 2 ^ 64)
+HasRowsOf c t = (other : ℕ) → other < cpus → (tally_at t.queued c.number other ≡ length (sent_to other c.part.sent) % 2 ^ 64)
+    × (tally_at t.ran c.number other ≡ length (calls_from other c.part.ran) % 2 ^ 64)
 
 -- no calls to or from a CPU that the table does not have
 abbrev pub HasZerosFrom : ℕ → Tally → Type 0

@@ -1,5 +1,6 @@
 -- What contracts see of a table, of a CPU and of the CPUs that were not given out.
-use Rattle.std.specs.Prelude.{◌≡◌, ◌≢◌, ℕ, ◌<◌, ◌%◌, ◌^◌, Bool, true, false, not, ◌||◌, ◌==◌, nat_lt, if◌then◌else◌, Option, Some, None, Result, Ok, Err, List, length, slice_index_or, slice_set}
+use Rattle.std.specs.Prelude.{◌≡◌, ◌≢◌, ℕ, ◌<◌, ◌%◌, ◌^◌, Bool, true, false, not, ◌||◌, ◌==◌, nat_lt, Option, Some, None, Result, Ok, Err, List, length}
+use Rattle.std.specs.Prelude.{slice_index_or, slice_set}
 use Rattle.atomic_table.specs.Seated.{TableId}
 use Rattle.smp_mask.specs.Mask.{has}
 use Rattle.smp_mask.specs.declared.error.SmpError.{SmpError}
@@ -73,11 +74,14 @@ misused nr c k to class tries = ((not (nat_lt k records_of_one) || tries == 0) |
 
 -- the answer of a post, and what it leaves of its CPU. E4 comes first, then E2, E1 and E5
 abbrev pub PostAnswers : TableValue → CpuValue → CpuValue → ℕ → ℕ → Class → ℕ → ℕ → ℕ → Result Bool SmpError → Type 0
-PostAnswers t old new k to class func info tries (Ok first) = (misused t.nr old k to class tries ≡ false) × (has t.online to ≡ true) × (new ≡ posts k to class func info first old)
+PostAnswers t old new k to class func info tries (Ok first) = (misused t.nr old k to class tries ≡ false) × (has t.online to ≡ true)
+    × (new ≡ posts k to class func info first old)
 PostAnswers t old new k to class func info tries (Err error.BadArgument) = (misused t.nr old k to class tries ≡ true) × (new ≡ old)
 PostAnswers t old new k to class func info tries (Err error.Busy) = (misused t.nr old k to class tries ≡ false) × (confirmed_at old k ≢ true) × (new ≡ old)
-PostAnswers t old new k to class func info tries (Err error.NoCpu) = (misused t.nr old k to class tries ≡ false) × (has t.online to ≡ false) × (new ≡ confirms k old)
-PostAnswers t old new k to class func info tries (Err error.Contended) = (misused t.nr old k to class tries ≡ false) × (has t.online to ≡ true) × (new ≡ confirms k old)
+PostAnswers t old new k to class func info tries (Err error.NoCpu) = (misused t.nr old k to class tries ≡ false) × (has t.online to ≡ false)
+    × (new ≡ confirms k old)
+PostAnswers t old new k to class func info tries (Err error.Contended) = (misused t.nr old k to class tries ≡ false) × (has t.online to ≡ true)
+    × (new ≡ confirms k old)
 PostAnswers t old new k to class func info tries (Err _) = ⊥
 
 -- a CPU may queue this call: the record is its own and seen confirmed, and the numbers fit
@@ -95,7 +99,8 @@ BeginAnswers t old new k to class func info tries (Ok p) =
     (p ≡ posting_of (record_of old.number k) class func info to) × MayQueue new p
 BeginAnswers t old new k to class func info tries (Err error.BadArgument) = (misused t.nr old k to class tries ≡ true) × (new ≡ old)
 BeginAnswers t old new k to class func info tries (Err error.Busy) = (misused t.nr old k to class tries ≡ false) × (confirmed_at old k ≢ true) × (new ≡ old)
-BeginAnswers t old new k to class func info tries (Err error.NoCpu) = (misused t.nr old k to class tries ≡ false) × (has t.online to ≡ false) × (new ≡ confirms k old)
+BeginAnswers t old new k to class func info tries (Err error.NoCpu) = (misused t.nr old k to class tries ≡ false) × (has t.online to ≡ false)
+    × (new ≡ confirms k old)
 BeginAnswers t old new k to class func info tries (Err _) = ⊥
 
 -- the CPUs that were not given out, and those online

@@ -39,7 +39,8 @@ abbrev pub runs : List Call → Part → CpuValue → CpuValue
 runs calls now c = record c { part = record (c.part) { batch = now.batch; running = now.running; ran = c.part.ran ++ calls } }
 
 -- a CPU inside handle has run this call, and its handler has heard it
-pub record HasRun {H : Type 0} (leads : H → Heard → H → Type 0) (table : TableId) (old new : SeatValue) (stage : HandleStage) (call : Call) (counts : List ℕ) (before after : H) : Type 0 where
+pub record HasRun {H : Type 0} (leads : H → Heard → H → Type 0) (table : TableId) (old new : SeatValue) (stage : HandleStage) (call : Call) (counts : List ℕ)
+    (before after : H) : Type 0 where
   pub at : InHandle table new stage
   pub drain : new.known.drain ≡ old.known.drain
   pub batch : old.known.part.batch ≡ call ∷ new.known.part.batch

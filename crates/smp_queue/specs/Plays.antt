@@ -15,11 +15,13 @@ module _ {S : Type 0} where
   AfterStore st m n m' = let v = known m.0 in (w : Word) → cell_of w ≡ Some st.word → m'.0 ≡ Cpu (known_told v act.Store w None (Some st.first))
 
   abbrev pub AfterExchange : Step S → Me S SeatView → ℕ → Me S SeatView → Type 0
-  AfterExchange st m n m' = let v = known m.0 in (w : Word) → cell_of w ≡ Some st.word → m'.0 ≡ Cpu (known_told v act.Cas w (Some n) (if n == st.first then Some st.second else None))
+  AfterExchange st m n m' = let v = known m.0 in (w : Word) → cell_of w ≡ Some st.word
+      → m'.0 ≡ Cpu (known_told v act.Cas w (Some n) (if n == st.first then Some st.second else None))
 
   -- the queue that a swap of the head takes is that of the calls at that moment
   abbrev pub AfterSwap : Step S → Me S SeatView → ℕ → Me S SeatView → Type 0
-  AfterSwap st m n m' = let v = known m.0 in (w : Word) → cell_of w ≡ Some st.word → (t : Moment v w n) × (m'.0 ≡ Cpu (known_taking (t.lives.calls.queue v.number) v act.Swap w (Some n) (Some st.first)))
+  AfterSwap st m n m' = let v = known m.0 in (w : Word) → cell_of w ≡ Some st.word
+      → (t : Moment v w n) × (m'.0 ≡ Cpu (known_taking (t.lives.calls.queue v.number) v act.Swap w (Some n) (Some st.first)))
 
   abbrev pub loaded : Step S → Me S SeatView → ℕ → Me S SeatView → Type 0
   loaded st m n m' = Lives (known m'.0) × AfterLoad st m n m'

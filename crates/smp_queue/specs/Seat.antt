@@ -6,9 +6,10 @@ use Rattle.smp_words.specs.Size.{cpus, records, owner}
 use Rattle.smp_call_steps.specs.Places.{IsCall}
 use Rattle.smp_call_steps.specs.Histories.{sent_to}
 use Rattle.smp_call_steps.specs.Stands.{posted}
-use Rattle.smp_call_steps.specs.Known.{MayStep, known_access, fresh, posting_of, Lives}
+use Rattle.smp_call_steps.specs.Known.{MayStep, known_access, fresh, posting_of, known_told, Lives, Moment}
 use Rattle.smp_queue.specs.Names.{Word, Access, Store, Known, Posting, HandleStage, Stage, Post, Handle, SeatView, Cpu}
 use Rattle.smp_queue.specs.Names.post
+use Rattle.smp_queue.specs.Names.act
 use Rattle.smp_queue.specs.Names.handle
 use Rattle.smp_queue.specs.Cells.{cells, HasCell}
 use Rattle.smp_queue.specs.Rule.{known}
@@ -45,6 +46,13 @@ pub record Ready (table : TableId) (seat : SeatValue) (access : Access) : Type 0
   pub apart : IsApartFromCalls can.stage
   pub cell : HasCell (word_of access)
 
+-- a load of this word that found this number, at a moment of which the CPU knew: what it knows then
+pub record Loads (t : TableId) (old new : SeatValue) (word : Word) (number : ℕ) : Type 0 where
+  pub table : new.table ≡ t
+  pub lives : Lives new.known
+  pub known : new.known ≡ known_told old.known act.Load word (Some number) None
+  pub moment : Moment old.known word number
+
 -- a CPU of this number outside a command
 pub record IsOutside (table : TableId) (seat : SeatValue) (number : ℕ) : Type 0 where
   pub table_is : seat.table ≡ table
@@ -65,10 +73,6 @@ pub record IsStepOfCall (table : TableId) (seat : SeatValue) (word : Word) (numb
   pub stage : HandleStage
   pub at : InHandle table seat stage
   pub is_access : known_access seat.known (Handle stage) ≡ Store word number
-
--- a CPU that has done nothing
-abbrev pub fresh_seat : TableId → ℕ → SeatValue
-fresh_seat table cpu = record { table = table; known = fresh cpu }
 
 -- a seat at this table, whose CPU owns this record
 pub record OwnsRecord (table : TableId) (seat : SeatValue) (id : ℕ) : Type 0 where

@@ -6,7 +6,7 @@ ghost use Rattle.smp_words.specs.declared.access.Access.TheVariants as access;
 ghost use Rattle.smp_words.specs.declared.seen.Act.TheVariants as act;
 ghost use Rattle.smp_queue.specs.declared.seat_view.SeatView.TheVariants.{Maker, Cpu};
 ghost use Rattle.smp_queue.specs.Cells.{cells};
-ghost use Rattle.smp_queue.specs.Seat.{SeatValue, Ready};
+ghost use Rattle.smp_queue.specs.Seat.{SeatValue, Loads, Ready};
 ghost use Rattle.smp_queue.specs.Plays.{loaded, stored, exchanged, swapped};
 
 use crate::cell::cell;
@@ -81,10 +81,7 @@ pub(crate) fn leave(seat: CpuSeat) -> RawSeat
 #[inline(always)]
 pub(crate) fn load(words: &Words, seat: &mut CpuSeat, word: Word) -> u64
     requires { Ready words.now.table_id seat.old (access.Load word) }
-    ensures table { seat.new.table ≡ words.now.table_id }
-    ensures lives { Lives seat.new.known }
-    ensures known { seat.new.known ≡ known_told seat.old.known act.Load word (Some result) None }
-    ensures then { Moment seat.old.known word result }
+    ensures { Loads words.now.table_id seat.old seat.new word result }
 {
     words.load::<Loaded>(&mut seat.raw, cell(word))
 }

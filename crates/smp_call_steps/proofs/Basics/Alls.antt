@@ -1,5 +1,6 @@
 -- Facts of all elements of a list.
-use Rattle.std.proofs.Common.{List, [], ◌∷◌, ◌++◌}
+use Rattle.smp_words.specs.Flags.{class_of, flags_of}
+use Rattle.std.proofs.Common.{refl, ◌≡◌, List, [], ◌∷◌, ◌++◌}
 use Rattle.std.specs.List.{AllByRecursion}
 use Rattle.smp_call_steps.specs.Order.{if_sync, if_async, sync_calls, async_calls}
 use Rattle.smp_call_steps.specs.Names.{Call, Class, Sync, Async}
@@ -9,7 +10,8 @@ every P Q f [] h = tt
 every P Q f (x ∷ xs) h = (f x h.0, every P Q f xs h.1)
 
 -- with two facts of each
-pub every_both : {A : Type 0} (P Q R : A → Type 0) → ((x : A) → P x → Q x → R x) → (xs : List A) → AllByRecursion P xs → AllByRecursion Q xs → AllByRecursion R xs
+pub every_both : {A : Type 0} (P Q R : A → Type 0) → ((x : A) → P x → Q x → R x) → (xs : List A) → AllByRecursion P xs → AllByRecursion Q xs
+    → AllByRecursion R xs
 every_both P Q R f [] h k = tt
 every_both P Q R f (x ∷ xs) h k = (f x h.0 k.0, every_both P Q R f xs h.1 k.1)
 
@@ -59,3 +61,8 @@ every_sync P (call ∷ rest) h = every_append P (if_sync call.class call) (sync_
 pub every_async : (P : Call → Type 0) (calls : List Call) → AllByRecursion P calls → AllByRecursion P (async_calls calls)
 every_async P [] h = tt
 every_async P (call ∷ rest) h = every_append P (if_async call.class call) (async_calls rest) (one_async P call.class call h.0) (every_async P rest h.1)
+
+-- the class of a record is in its flags
+pub class_of-flags_of : (class : Class) → class_of (flags_of class) ≡ class
+class_of-flags_of Sync = refl
+class_of-flags_of Async = refl

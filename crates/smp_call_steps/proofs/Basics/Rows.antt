@@ -2,8 +2,7 @@
 use Rattle.std.proofs.Common.{◌≡◌, ℕ, zero, suc, ◌<◌, cond, ◌∷◌, length, get_or, set, refl, ap, ◌∙◌, arith}
 use Rattle.smp_words.specs.Put.{put}
 use Rattle.smp_call_steps.specs.Parts.{row}
-use Rattle.smp_words.proofs.Puts.{at_test}
-use Rattle.smp_call_steps.proofs.Steps.Own.{put_same, put_other}
+use Rattle.smp_words.proofs.Puts.{at_test, put_same, put_other}
 
 pub row-at : {A : Type 0} (n i : ℕ) (f : ℕ → A) (d : A) → i < n → get_or (row n f) i d ≡ f i
 unfolding row
@@ -22,8 +21,11 @@ put_suc f i x k = at_test k i (λ b. put f (suc i) x (suc k) ≡ cond b x (f (su
 pub row-put : {A : Type 0} (n i : ℕ) (f : ℕ → A) (x : A) → row n (put f i x) ≡ set (row n f) i x
 unfolding row
 row-put zero i f x = refl
-row-put {A} (suc n) zero f x = (λ j. put_same f zero x j ∷ row-same n (λ k. put f zero x (suc k)) (λ k. f (suc k)) (λ k. put_other f zero x (suc k) (omega arith)) j)
-row-put {A} (suc n) (suc i) f x = (λ j. put_other f (suc i) x zero (omega arith) j ∷ (row-same n (λ k. put f (suc i) x (suc k)) (put (λ k. f (suc k)) i x) (put_suc f i x) ∙ row-put n i (λ k. f (suc k)) x) j)
+row-put {A} (suc n) zero f x =
+    (λ j. put_same f zero x j ∷ row-same n (λ k. put f zero x (suc k)) (λ k. f (suc k)) (λ k. put_other f zero x (suc k) (omega arith)) j)
+row-put {A} (suc n) (suc i) f x =
+    (λ j. put_other f (suc i) x zero (omega arith) j ∷
+    (row-same n (λ k. put f (suc i) x (suc k)) (put (λ k. f (suc k)) i x) (put_suc f i x) ∙ row-put n i (λ k. f (suc k)) x) j)
 
 -- the row of one CPU, with one value put in it
 pub row_own : {A : Type 0} (n me i : ℕ) (f : ℕ → ℕ → A) (x : A) → row n (put f me (put (f me) i x) me) ≡ set (row n (f me)) i x

@@ -22,11 +22,13 @@ distinct_ids (call ∷ rest) h = IsDistinct-cons eqb call.id (ids rest) (absent_
 
 below : (n : ℕ) (calls : List Call) → AllByRecursion (λ call. call.id < n) calls → (q : ℕ) → list_any (eqb q) (ids calls) ≡ true → q < n
 below n [] h q e = cc
-below n (call ∷ rest) h q e = elim (or_cases (eqb q call.id) (list_any (eqb q) (ids rest)) e) [ inl f ↦ (let s = eqb-true q call.id f in let l = h.0 in omega arith) | inr f ↦ below n rest h.1 q f ]
+below n (call ∷ rest) h q e = elim (or_cases (eqb q call.id) (list_any (eqb q) (ids rest)) e)
+    [ inl f ↦ (let s = eqb-true q call.id f in let l = h.0 in omega arith) | inr f ↦ below n rest h.1 q f ]
 
 length-ids : (calls : List Call) → length (ids calls) ≡ length calls
 length-ids [] = refl
 length-ids (call ∷ rest) = let e = length-ids rest in omega arith
 
 pub length-apart : (n : ℕ) (calls : List Call) → IsApart calls → AllByRecursion (λ call. call.id < n) calls → length calls ≤ n
-length-apart n calls apart small = subst (λ (k : ℕ). k ≤ n) (length-ids calls) (length-le_from_distinct_below (ids calls) n (distinct_ids calls apart) (below n calls small))
+length-apart n calls apart small =
+    subst (λ (k : ℕ). k ≤ n) (length-ids calls) (length-le_from_distinct_below (ids calls) n (distinct_ids calls apart) (below n calls small))

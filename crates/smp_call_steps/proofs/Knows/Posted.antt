@@ -17,61 +17,80 @@ pub stands_as : (v : Known) (p : Posting) (st : PostStage) → v.stage ≡ Some 
 stands_as v p st e = λ i. record v { stage = e i }
 
 -- a load of the own flags, outside a command
-load_outside : (v : Known) (id found : ℕ) (b : Bool) → (found % 2 == 1) ≡ b → known_told (outside_known v) act.Load (Flags id) (Some found) None ≡ cond b (outside_known v) (confirmed_known id (outside_known v))
+load_outside : (v : Known) (id found : ℕ) (b : Bool) → (found % 2 == 1) ≡ b
+    → known_told (outside_known v) act.Load (Flags id) (Some found) None ≡ cond b (outside_known v) (confirmed_known id (outside_known v))
 load_outside v id found true e = rw e refl
 load_outside v id found false e = rw e refl
 
-pub loaded_known : (v : Known) (id found : ℕ) → v.stage ≡ None → known_told v act.Load (Flags id) (Some found) None ≡ cond (found % 2 == 1) v (confirmed_known id v)
+pub loaded_known : (v : Known) (id found : ℕ) → v.stage ≡ None
+    → known_told v act.Load (Flags id) (Some found) None ≡ cond (found % 2 == 1) v (confirmed_known id v)
 loaded_known v id found e =
     let o : v ≡ outside_known v = outside_as v e in
-    ap (λ (u : Known). known_told u act.Load (Flags id) (Some found) None) o ∙ (load_outside v id found (found % 2 == 1) refl ∙ ap (λ (u : Known). cond (found % 2 == 1) u (confirmed_known id u)) (sym o))
+    ap (λ (u : Known). known_told u act.Load (Flags id) (Some found) None) o
+        ∙ (load_outside v id found (found % 2 == 1) refl ∙ ap (λ (u : Known). cond (found % 2 == 1) u (confirmed_known id u)) (sym o))
 
-lock_outside : (v : Known) (id : ℕ) (c : Class) → known_told (outside_known v) act.Store (Flags id) None (Some (flags_of c)) ≡ standing (posting_of id c 0 0 0) post.StoreFunc v
+lock_outside : (v : Known) (id : ℕ) (c : Class) → known_told (outside_known v) act.Store (Flags id) None (Some (flags_of c))
+    ≡ standing (posting_of id c 0 0 0) post.StoreFunc v
 lock_outside v id Sync = refl
 lock_outside v id Async = refl
 
-pub locked_known : (v v' : Known) (id flags : ℕ) (c : Class) → v.stage ≡ None → v' ≡ known_told v act.Store (Flags id) None (Some flags) → flags ≡ flags_of c → v' ≡ standing (posting_of id c 0 0 0) post.StoreFunc v
+pub locked_known : (v v' : Known) (id flags : ℕ) (c : Class) → v.stage ≡ None → v' ≡ known_told v act.Store (Flags id) None (Some flags) → flags ≡ flags_of c
+    → v' ≡ standing (posting_of id c 0 0 0) post.StoreFunc v
 locked_known v v' id flags c o e f =
-    e ∙ (ap (λ (n : ℕ). known_told v act.Store (Flags id) None (Some n)) f ∙ (ap (λ (u : Known). known_told u act.Store (Flags id) None (Some (flags_of c))) (outside_as v o) ∙ lock_outside v id c))
+    e ∙ (ap (λ (n : ℕ). known_told v act.Store (Flags id) None (Some n)) f
+        ∙ (ap (λ (u : Known). known_told u act.Store (Flags id) None (Some (flags_of c))) (outside_as v o) ∙ lock_outside v id c))
 
-pub func_known : (v v' w : Known) (id n : ℕ) (p : Posting) → v' ≡ known_told w act.Store (Func id) None (Some n) → w ≡ standing p post.StoreFunc v → v' ≡ standing (record p { func = n }) post.StoreInfo v
+pub func_known : (v v' w : Known) (id n : ℕ) (p : Posting) → v' ≡ known_told w act.Store (Func id) None (Some n) → w ≡ standing p post.StoreFunc v
+    → v' ≡ standing (record p { func = n }) post.StoreInfo v
 func_known v v' w id n p e f = e ∙ ap (λ (u : Known). known_told u act.Store (Func id) None (Some n)) f
 
-pub info_known : (v v' w : Known) (id n : ℕ) (p : Posting) → v' ≡ known_told w act.Store (Info id) None (Some n) → w ≡ standing p post.StoreInfo v → v' ≡ standing (record p { info = n }) post.Count v
+pub info_known : (v v' w : Known) (id n : ℕ) (p : Posting) → v' ≡ known_told w act.Store (Info id) None (Some n) → w ≡ standing p post.StoreInfo v
+    → v' ≡ standing (record p { info = n }) post.Count v
 info_known v v' w id n p e f = e ∙ ap (λ (u : Known). known_told u act.Store (Info id) None (Some n)) f
 
-pub count_known : (v v' w : Known) (me to n : ℕ) (p : Posting) → v' ≡ known_told w act.Store (Queued me to) None (Some n) → w ≡ standing p post.Count v → v' ≡ standing (record p { to = to }) post.LoadHead v
+pub count_known : (v v' w : Known) (me to n : ℕ) (p : Posting) → v' ≡ known_told w act.Store (Queued me to) None (Some n) → w ≡ standing p post.Count v
+    → v' ≡ standing (record p { to = to }) post.LoadHead v
 count_known v v' w me to n p e f = e ∙ ap (λ (u : Known). known_told u act.Store (Queued me to) None (Some n)) f
 
-pub uncount_known : (v v' w : Known) (me to n : ℕ) (p : Posting) → v' ≡ known_told w act.Store (Queued me to) None (Some n) → w ≡ standing p post.LoadHead v → v' ≡ standing p post.Release v
+pub uncount_known : (v v' w : Known) (me to n : ℕ) (p : Posting) → v' ≡ known_told w act.Store (Queued me to) None (Some n) → w ≡ standing p post.LoadHead v
+    → v' ≡ standing p post.Release v
 uncount_known v v' w me to n p e f = e ∙ ap (λ (u : Known). known_told u act.Store (Queued me to) None (Some n)) f
 
-pub head_known : (v v' w : Known) (to found : ℕ) (p : Posting) → v' ≡ known_told w act.Load (Head to) (Some found) None → w ≡ standing p post.LoadHead v → v' ≡ standing p post.LoadHead v
+pub head_known : (v v' w : Known) (to found : ℕ) (p : Posting) → v' ≡ known_told w act.Load (Head to) (Some found) None → w ≡ standing p post.LoadHead v
+    → v' ≡ standing p post.LoadHead v
 head_known v v' w to found p e f = e ∙ ap (λ (u : Known). known_told u act.Load (Head to) (Some found) None) f
 
-pub next_known : (v v' w : Known) (id n : ℕ) (p : Posting) → v' ≡ known_told w act.Store (Next id) None (Some n) → w ≡ standing p post.LoadHead v → v' ≡ standing p (post.Exchange n 0) v
+pub next_known : (v v' w : Known) (id n : ℕ) (p : Posting) → v' ≡ known_told w act.Store (Next id) None (Some n) → w ≡ standing p post.LoadHead v
+    → v' ≡ standing p (post.Exchange n 0) v
 next_known v v' w id n p e f = e ∙ ap (λ (u : Known). known_told u act.Store (Next id) None (Some n)) f
 
-pub won_known : (v v' w : Known) (to link n found : ℕ) (p : Posting) (b : Bool) → b ≡ true → v' ≡ known_told w act.Cas (Head to) (Some found) (cond b (Some n) None) → w ≡ standing p (post.Exchange link 0) v →
+pub won_known : (v v' w : Known) (to link n found : ℕ) (p : Posting) (b : Bool) → b ≡ true
+    → v' ≡ known_told w act.Cas (Head to) (Some found) (cond b (Some n) None) → w ≡ standing p (post.Exchange link 0) v →
     v' ≡ queued_known (posted p) to (found == 0) v
 won_known v v' w to link n found p true t e f = e ∙ ap (λ (u : Known). known_told u act.Cas (Head to) (Some found) (Some n)) f
 won_known v v' w to link n found p false t e f = absurd (true≢false (sym t))
 
-pub lost_known : (v v' w : Known) (to link n found : ℕ) (p : Posting) (b : Bool) → b ≡ false → v' ≡ known_told w act.Cas (Head to) (Some found) (cond b (Some n) None) → w ≡ standing p (post.Exchange link 0) v → v' ≡ standing p post.LoadHead v
+pub lost_known : (v v' w : Known) (to link n found : ℕ) (p : Posting) (b : Bool) → b ≡ false
+    → v' ≡ known_told w act.Cas (Head to) (Some found) (cond b (Some n) None) → w ≡ standing p (post.Exchange link 0) v → v' ≡ standing p post.LoadHead v
 lost_known v v' w to link n found p true t e f = absurd (true≢false t)
 lost_known v v' w to link n found p false t e f = e ∙ ap (λ (u : Known). known_told u act.Cas (Head to) (Some found) None) f
 
-pub released_known : (v v' w : Known) (id : ℕ) (p : Posting) → v' ≡ known_told w act.Store (Flags id) None (Some 0) → w ≡ standing p post.Release v → v' ≡ outside_known v
+pub released_known : (v v' w : Known) (id : ℕ) (p : Posting) → v' ≡ known_told w act.Store (Flags id) None (Some 0) → w ≡ standing p post.Release v
+    → v' ≡ outside_known v
 released_known v v' w id p e f = e ∙ ap (λ (u : Known). known_told u act.Store (Flags id) None (Some 0)) f
 
 -- the numbers that a post stores in its tally word
-pub count_access : (v : Known) (p : Posting) (me count : ℕ) → v.number ≡ me → count ≡ length (sent_to p.to v.part.sent) % 2 ^ 64 → known_access v (Post p post.Count) ≡ Store (Queued me p.to) ((count + 1) % 2 ^ 64)
-count_access v p me count n e = let same : (length (sent_to p.to v.part.sent) + 0) % 2 ^ 64 ≡ count = omega arith in λ i. Store (Queued (n i) p.to) ((same i + 1) % 2 ^ 64)
+pub count_access : (v : Known) (p : Posting) (me count : ℕ) → v.number ≡ me → count ≡ length (sent_to p.to v.part.sent) % 2 ^ 64
+    → known_access v (Post p post.Count) ≡ Store (Queued me p.to) ((count + 1) % 2 ^ 64)
+count_access v p me count n e = let same : (length (sent_to p.to v.part.sent) + 0) % 2 ^ 64 ≡ count = omega arith in
+    λ i. Store (Queued (n i) p.to) ((same i + 1) % 2 ^ 64)
 
 uncounted : (x count : ℕ) → count ≡ x % 2 ^ 64 → ((x + 1) % 2 ^ 64 + (2 ^ 64 - 1)) % 2 ^ 64 ≡ count
 uncounted x count e = omega arith
 
-pub uncount_access : (v : Known) (p : Posting) (me count : ℕ) → v.number ≡ me → count ≡ length (sent_to p.to v.part.sent) % 2 ^ 64 → known_access v (Post p post.Uncount) ≡ Store (Queued me p.to) count
+pub uncount_access : (v : Known) (p : Posting) (me count : ℕ) → v.number ≡ me → count ≡ length (sent_to p.to v.part.sent) % 2 ^ 64
+    → known_access v (Post p post.Uncount) ≡ Store (Queued me p.to) count
 uncount_access v p me count n e =
     let one : one_held (held_of_post p post.Uncount) p.to ≡ 1 = rw (eq-eqb p.to p.to refl) refl in
-    (λ i. Store (Queued (n i) p.to) (((length (sent_to p.to v.part.sent) + one i) % 2 ^ 64 + (2 ^ 64 - 1)) % 2 ^ 64)) ∙ ap (Store (Queued me p.to)) (uncounted (length (sent_to p.to v.part.sent)) count e)
+    (λ i. Store (Queued (n i) p.to) (((length (sent_to p.to v.part.sent) + one i) % 2 ^ 64 + (2 ^ 64 - 1)) % 2 ^ 64))
+        ∙ ap (Store (Queued me p.to)) (uncounted (length (sent_to p.to v.part.sent)) count e)

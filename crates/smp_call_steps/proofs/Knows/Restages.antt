@@ -47,7 +47,8 @@ abbrev IsFreeAt : (ℕ → RecPlace) → ℕ → PostStage → Type 0
 IsFreeAt places id post.Lock = places id ≡ place.Free
 IsFreeAt places id _ = Unit {0}
 
-told_knows : (places : ℕ → RecPlace) (at : Word → ℕ) (p : Posting) (stage : PostStage) → Knows places at (told_post p stage) → IsFreeAt places p.id stage → PostKnows places at p stage
+told_knows : (places : ℕ → RecPlace) (at : Word → ℕ) (p : Posting) (stage : PostStage) → Knows places at (told_post p stage) → IsFreeAt places p.id stage
+    → PostKnows places at p stage
 told_knows places at p post.LoadFlags k f = tt
 told_knows places at p post.Lock k f = f
 told_knows places at p post.StoreFunc k f = k
@@ -70,12 +71,14 @@ post_no_handle p post.LoadFlags = tt
 post_no_handle p _ = tt
 
 module _ (a : CallState) (at : Word → ℕ) (me : ℕ) (d : DrainValue) where
-  idle_handle : (h : HandleStage) → StandsAt a.place at (share_of a me) d me (Some (Handle h)) → HandIs (Some (Handle h)) (at (Hand me)) → IsNoHandle (told_handle h) → Idle a at d me
+  idle_handle : (h : HandleStage) → StandsAt a.place at (share_of a me) d me (Some (Handle h)) → HandIs (Some (Handle h)) (at (Hand me))
+      → IsNoHandle (told_handle h) → Idle a at d me
   idle_handle handle.Enter k hand n = record { rests = k.1; hand = hand }
   idle_handle _ k hand n = absurd n
 
   -- a CPU whose steps have told of no handle is idle
-  idle_told : (stage : Option Stage) → StandsAt a.place at (share_of a me) d me stage → HandIs stage (at (Hand me)) → IsNoHandle (told_stage stage) → Idle a at d me
+  idle_told : (stage : Option Stage) → StandsAt a.place at (share_of a me) d me stage → HandIs stage (at (Hand me)) → IsNoHandle (told_stage stage)
+      → Idle a at d me
   idle_told None k hand n = record { rests = k; hand = hand }
   idle_told (Some (Handle h)) k hand n = idle_handle h k hand n
   idle_told _ k hand n = record { rests = k.0; hand = hand }
@@ -110,7 +113,7 @@ enters : (h : HandleStage) → IsBeyond h ⊎ (h ≡ handle.Enter)
 enters handle.Enter = inr refl
 enters _ = inl tt
 
-module _ (a : CallState) (at : Word → ℕ) (control : ℕ → ControlValue) (v : Known) (s : Shows a at control) (sees : Sees a control v) where
+module _ {a : CallState} {at : Word → ℕ} {control : ℕ → ControlValue} {v : Known} (s : Shows a at control) (sees : Sees a control v) where
   abbrev me : ℕ
   me = v.number
 
@@ -123,7 +126,8 @@ module _ (a : CallState) (at : Word → ℕ) (control : ℕ → ControlValue) (v
   free_outside id own small out conf =
       let none : a.held me ≡ None = known_held ∙ ap held_of out in
       let seen : get_or (row records (a.confirmed me)) id false ≡ true = ap (λ (p : Part). get_or p.confirmed id false) sees.part ∙ conf in
-      elim (s.placed.settled me id own (sym (row-at records id (a.confirmed me) false small) ∙ seen)) [ inl free ↦ free | inr hold ↦ absurd (let h : Holds None id = rw none at hold in h) ]
+      elim (s.placed.settled me id own (sym (row-at records id (a.confirmed me) false small) ∙ seen))
+          [ inl free ↦ free | inr hold ↦ absurd (let h : Holds None id = rw none at hold in h) ]
 
   pub aims_told : (st : Stage) → MayStep v st → told_stage (Some st) ≡ v.stage
   aims_told (Post p st) aims = aims.told
@@ -156,7 +160,9 @@ module _ (a : CallState) (at : Word → ℕ) (control : ℕ → ControlValue) (v
           is_call = aims.is_call;
           me_in_range = aims.me_in_range;
           goes = aims.goes;
-          knows = told_knows a.place at p st (subst (Knows a.place at) (sees.stage ∙ sym aims.told) (knows_told a at me (control me).drain (control me).stage (s.stands me))) (free_at p st aims);
+          knows =
+              told_knows a.place at p st (subst (Knows a.place at) (sees.stage ∙ sym aims.told)
+              (knows_told a at me (control me).drain (control me).stage (s.stands me))) (free_at p st aims);
         },
       )
   aims_stands (Handle h) aims = elim (enters h) [
@@ -193,9 +199,10 @@ module _ (a : CallState) (at : Word → ℕ) (control : ℕ → ControlValue) (v
   access_known (Handle h) aims = ap (handle_access me h) (s.tallied.ran_are me (source_at h) ∙ (λ i. ran_tally (sees.part i) (source_at h)))
 
 -- where a CPU stands outside, its confirmed records are unlocked
-pub confirmed_unlocked : (v : Known) (id n : ℕ) → Moment v (Flags id) n → v.stage ≡ None → owner id ≡ v.number → id < records → is_confirmed v id ≡ true → (n % 2 == 1) ≡ false
+pub confirmed_unlocked : (v : Known) (id n : ℕ) → Moment v (Flags id) n → v.stage ≡ None → owner id ≡ v.number → id < records → is_confirmed v id ≡ true
+    → (n % 2 == 1) ≡ false
 confirmed_unlocked v id n m out own small conf =
     let l = m.lives in
-    let free : l.calls.place id ≡ place.Free = free_outside l.calls l.at l.controls v l.shown l.sees id own small out conf in
+    let free : l.calls.place id ≡ place.Free = free_outside l.shown l.sees id own small out conf in
     let zero_there : l.at (Flags id) ≡ 0 = rw free at (l.shown.written.locks id) in
     rw (m.number_is, zero_there) refl

@@ -31,7 +31,8 @@ room_for_all : (n : ℕ) → n + 1 ≤ records → n < MOST_CALLS
 room_for_all n l = omega arith
 
 -- a link of a chain is a record and one, or none
-link_fits : (nexts : ℕ → ℕ) (link : ℕ) (calls : List Call) (below : ℕ) → below ≤ 2 ^ 32 → AllByRecursion IsRecord calls → Leads nexts link calls below → link ≤ 2 ^ 32
+link_fits : (nexts : ℕ → ℕ) (link : ℕ) (calls : List Call) (below : ℕ) → below ≤ 2 ^ 32 → AllByRecursion IsRecord calls → Leads nexts link calls below
+    → link ≤ 2 ^ 32
 link_fits nexts link [] below b h l = subst (λ (k : ℕ). k ≤ 2 ^ 32) (sym l) b
 link_fits nexts link (x ∷ xs) below b h l = link_fits nexts link xs (x.id + 1) (records_fit x.id h.0) h.1 l.1
 
@@ -42,7 +43,7 @@ path_fits : (nexts : ℕ → ℕ) (link : ℕ) (calls : List Call) → AllByRecu
 path_fits nexts link [] h l = omega (arith, l)
 path_fits nexts link (call ∷ rest) h l = subst (λ (k : ℕ). k ≤ 2 ^ 32) (sym l.0) (records_fit call.id h.0)
 
-module _ (a : CallState) (at : Word → ℕ) (control : ℕ → ControlValue) (me : ℕ) (s : Shows a at control) where
+module _ {a : CallState} {at : Word → ℕ} {control : ℕ → ControlValue} (me : ℕ) (s : Shows a at control) where
   queued_records : AllByRecursion IsRecord (a.queue me)
   queued_records = every (IsPlaced a.place (place.Queued me)) IsRecord (λ call h. h.is_call.in_range) (a.queue me) (s.placed.queued me)
 
@@ -51,55 +52,57 @@ module _ (a : CallState) (at : Word → ℕ) (control : ℕ → ControlValue) (m
 
   func_fits : (walk : Walk) (id : ℕ) (next : Option ℕ) → (control me).stage ≡ Some (Handle (handle.LoadFunc walk id next)) → at (Func id) < 2 ^ 16
   func_fits walk id next e =
-      let was = stands_at a at control me s (handle.LoadFunc walk id next) e in
+      let was = stands_at me s (handle.LoadFunc walk id next) e in
       let k = was.1 in
-      let w = walked_words a at control me s walk id k.0 k.1 k.2 in
-      let p = walks_rest (IsPlaced a.place (place.Batch me)) (nexts_in at) (share_of a me) (control me).drain walk (id + 1) [] (k.0 ∷ k.1) Nothing k.2 (s.placed.batched me) in
+      let w = walked_words me s walk id k.0 k.1 k.2 in
+      let p = walks_rest (IsPlaced a.place (place.Batch me)) k.2 (s.placed.batched me) in
       let func : at (Func id) ≡ k.0.func = ap (funcs_in at) (sym (same_record id k.0 k.2.leads_on.0)) ∙ w.func_is in
       subst (λ (n : ℕ). n < 2 ^ 16) (sym func) p.0.is_call.func
 
   async_fits : (id : ℕ) (next : Option ℕ) → (control me).stage ≡ Some (Handle (handle.AsyncFunc id next)) → at (Func id) < 2 ^ 16
   async_fits id next e =
-      let was = stands_at a at control me s (handle.AsyncFunc id next) e in
+      let was = stands_at me s (handle.AsyncFunc id next) e in
       let k = was.1 in
-      let w = ended_words a at control me s id k.0 k.1 k.2 in
-      let p = ends_rest (IsPlaced a.place (place.Batch me)) (nexts_in at) (share_of a me) (control me).drain (id + 1) [] (k.0 ∷ k.1) Nothing k.2 (s.placed.batched me) in
+      let w = ended_words me s id k.0 k.1 k.2 in
+      let p = ends_rest (IsPlaced a.place (place.Batch me)) k.2 (s.placed.batched me) in
       let func : at (Func id) ≡ k.0.func = ap (funcs_in at) (sym (same_record id k.0 k.2.leads_on.0)) ∙ w.func_is in
       subst (λ (n : ℕ). n < 2 ^ 16) (sym func) p.0.is_call.func
 
   down_fits : (newer : Option ℕ) (id : ℕ) → (control me).stage ≡ Some (Handle (handle.ReverseLoad newer id)) → at (Next id) ≤ 2 ^ 32
   down_fits newer id e =
-      let was = stands_at a at control me s (handle.ReverseLoad newer id) e in
+      let was = stands_at me s (handle.ReverseLoad newer id) e in
       let h = was.1.1 in
-      let all = reverses_all IsRecord (nexts_in at) (share_of a me) (control me).drain (link_to newer) (at (Next id)) was.1.0 h batched_records in
+      let all = reverses_all IsRecord h batched_records in
       chain_fits (nexts_in at) (at (Next id)) h.older (every_left IsRecord h.older (was.1.0 ∷ h.newer) all) h.leads_down
 
   next_fits : (walk : Walk) (id : ℕ) → (control me).stage ≡ Some (Handle (handle.LoadNext walk id)) → at (Next id) ≤ 2 ^ 32
   next_fits walk id e =
-      let was = stands_at a at control me s (handle.LoadNext walk id) e in
+      let was = stands_at me s (handle.LoadNext walk id) e in
       let k = was.1 in
-      let all = walks_rest IsRecord (nexts_in at) (share_of a me) (control me).drain walk (id + 1) [] (k.0 ∷ k.1) Nothing k.2 batched_records in
+      let all = walks_rest IsRecord k.2 batched_records in
       subst (λ (n : ℕ). at (Next n) ≤ 2 ^ 32) (same_record id k.0 k.2.leads_on.0) (path_fits (nexts_in at) (at (Next k.0.id)) k.1 all.1 k.2.leads_on.1)
 
   async_next_fits : (id : ℕ) → (control me).stage ≡ Some (Handle (handle.AsyncNext id)) → at (Next id) ≤ 2 ^ 32
   async_next_fits id e =
-      let was = stands_at a at control me s (handle.AsyncNext id) e in
+      let was = stands_at me s (handle.AsyncNext id) e in
       let k = was.1 in
-      let all = ends_rest IsRecord (nexts_in at) (share_of a me) (control me).drain (id + 1) [] (k.0 ∷ k.1) Nothing k.2 batched_records in
+      let all = ends_rest IsRecord k.2 batched_records in
       subst (λ (n : ℕ). at (Next n) ≤ 2 ^ 32) (same_record id k.0 k.2.leads_on.0) (path_fits (nexts_in at) (at (Next k.0.id)) k.1 all.1 k.2.leads_on.1)
 
   -- a batch has no more calls than there are records
-  room_fits : (newer : Option ℕ) (id : ℕ) (older : Option ℕ) → (control me).stage ≡ Some (Handle (handle.ReverseStore newer id older)) → (control me).drain.calls < MOST_CALLS
+  room_fits : (newer : Option ℕ) (id : ℕ) (older : Option ℕ) → (control me).stage ≡ Some (Handle (handle.ReverseStore newer id older))
+      → (control me).drain.calls < MOST_CALLS
   room_fits newer id older e =
-      let was = stands_at a at control me s (handle.ReverseStore newer id older) e in
+      let was = stands_at me s (handle.ReverseStore newer id older) e in
       let h = was.1.1 in
-      let all = reverses_all IsRecord (nexts_in at) (share_of a me) (control me).drain (link_to newer) (link_to older) was.1.0 h batched_records in
+      let all = reverses_all IsRecord h batched_records in
       let short = length-apart records (h.older ++ was.1.0 ∷ h.newer) (subst IsApart h.whole h.apart) all in
       let size = length-append h.older (was.1.0 ∷ h.newer) in
       let k = h.counted in
       room_for_all (control me).drain.calls (omega arith)
 
-  handle_fits : (stage : HandleStage) → (control me).stage ≡ Some (Handle stage) → FitsStage (control me).drain (Handle stage) (at (word_of (access_of at me (Handle stage))))
+  handle_fits : (stage : HandleStage) → (control me).stage ≡ Some (Handle stage)
+      → FitsStage (control me).drain (Handle stage) (at (word_of (access_of at me (Handle stage))))
   handle_fits handle.Take e = (chain_fits (nexts_in at) (at (Head me)) (a.queue me) queued_records (s.chained.chain me), tt)
   handle_fits (handle.ReverseLoad newer id) e = (down_fits newer id e, tt)
   handle_fits (handle.ReverseStore newer id older) e = (tt, room_fits newer id older e)
@@ -110,7 +113,8 @@ module _ (a : CallState) (at : Word → ℕ) (control : ℕ → ControlValue) (m
   handle_fits _ e = (tt, tt)
 
 -- the number that a step finds, and the room for it
-pub found_fits : (a : CallState) (at : Word → ℕ) (control : ℕ → ControlValue) (me : ℕ) → Shows a at control → (stage : Stage) → (control me).stage ≡ Some stage →
+pub found_fits : (a : CallState) (at : Word → ℕ) (control : ℕ → ControlValue) (me : ℕ) → Shows a at control → (stage : Stage) → (control me).stage ≡ Some stage
+    →
     FitsStage (control me).drain stage (at (word_of (access_of at me stage)))
-found_fits a at control me s (Handle stage) e = handle_fits a at control me s stage e
+found_fits a at control me s (Handle stage) e = handle_fits me s stage e
 found_fits a at control me s _ e = tt

@@ -1,5 +1,6 @@
 -- A command of the call half that may start begins where it should, and changes no call.
-use Rattle.std.proofs.Common.{◌≡◌, ℕ, ◌-◌, ◌<◌, Bool, true, false, ◌==◌, ◌||◌, ◌&&◌, not, nat_lt, cond, Option, Some, None, List, sym, refl, ap, ◌∙◌, arith, replicate, inl, inr}
+use Rattle.std.proofs.Common.{◌≡◌, ℕ, ◌-◌, ◌<◌, Bool, true, false, ◌==◌, ◌||◌, ◌&&◌, not, nat_lt, cond, Option, Some, None, List, sym, refl, ap, ◌∙◌, arith}
+use Rattle.std.proofs.Common.{replicate, inl, inr}
 use Rattle.std.proofs.lemmas.Bool.{ltb-true, le-ltb, cases_lt, and_parts}
 use Rattle.smp_mask.specs.Mask.{has}
 use Rattle.smp_mask.specs.declared.error.SmpError.{SmpError}
@@ -28,7 +29,7 @@ pub else_none : (b : Bool) (x : Option SmpError) (y : SmpError) → cond b x (So
 else_none true x y e = (refl, e)
 else_none false x y e = cc
 
-then_none : (b : Bool) (y : SmpError) → cond b (Some y) None ≡ None → b ≡ false
+pub then_none : (b : Bool) (y : SmpError) → cond b (Some y) None ≡ None → b ≡ false
 then_none true y e = cc
 then_none false y e = refl
 
@@ -36,7 +37,7 @@ or_false : (x y : Bool) → (x || y) ≡ false → x ≡ false
 or_false true y e = e
 or_false false y e = refl
 
-not_false : (x : Bool) → not x ≡ false → x ≡ true
+pub not_false : (x : Bool) → not x ≡ false → x ≡ true
 not_false true e = refl
 not_false false e = cc
 
@@ -66,19 +67,24 @@ pub names_record : (nr online cpu : ℕ) (c : Command) → command_refusal nr on
 names_record nr online cpu (command.Post k to class func info tries) e =
     let one = not (nat_lt k records_of_one) in
     let bad = ((one || tries == 0) || to == cpu) || not (fits_record nr k to class) in
-    let ok = or_false one (tries == 0) (or_false (one || tries == 0) (to == cpu) (or_false ((one || tries == 0) || to == cpu) (not (fits_record nr k to class)) (then_none bad _ e))) in
+    let ok =
+        or_false one (tries == 0) (or_false (one || tries == 0) (to == cpu)
+        (or_false ((one || tries == 0) || to == cpu) (not (fits_record nr k to class)) (then_none bad _ e))) in
     ltb-true k records_of_one (not_false (nat_lt k records_of_one) ok)
 names_record nr online cpu (command.Done k) e = record_below nr k (else_none (has_record nr k) None _ e).0
 names_record nr online cpu (command.Send to) e = tt
 names_record nr online cpu command.Handle e = tt
 names_record nr online cpu _ e = tt
 
-begins : (nr online : ℕ) (places : ℕ → RecPlace) (at : Word → ℕ) (s : Share) (d : DrainValue) (cpu : ℕ) (c : Command) → AreLimits nr online → cpu < cpus → command_refusal nr online cpu c ≡ None → FitsCommand c →
+begins : (nr online : ℕ) (places : ℕ → RecPlace) (at : Word → ℕ) (s : Share) (d : DrainValue) (cpu : ℕ) (c : Command) → AreLimits nr online → cpu < cpus
+    → command_refusal nr online cpu c ≡ None → FitsCommand c →
     StandsAt places at s d cpu None → StandsAt places at s d cpu (first_stage online cpu c)
 begins nr online places at s d cpu (command.Post k to class func info tries) limits l e f h =
     let one = not (nat_lt k records_of_one) in
     let bad = ((one || tries == 0) || to == cpu) || not (fits_record nr k to class) in
-    let ok = or_false one (tries == 0) (or_false (one || tries == 0) (to == cpu) (or_false ((one || tries == 0) || to == cpu) (not (fits_record nr k to class)) (then_none bad _ e))) in
+    let ok =
+        or_false one (tries == 0) (or_false (one || tries == 0) (to == cpu)
+        (or_false ((one || tries == 0) || to == cpu) (not (fits_record nr k to class)) (then_none bad _ e))) in
     let small = ltb-true k records_of_one (not_false (nat_lt k records_of_one) ok) in (
       h,
       record {
@@ -96,20 +102,26 @@ begins nr online places at s d cpu (command.Done k) limits l e f h =
 begins nr online places at s d cpu command.Handle limits l e f h = (l, h)
 begins nr online places at s d cpu _ limits l e f h = h
 
-module _ (nr online : ℕ) (a : CallState) (at : Word → ℕ) (control : ℕ → ControlValue) (cpu : ℕ) (c : Command) (shows : Shows a at control) (outside_now : (control cpu).stage ≡ None) where
-  begun_stands : AreLimits nr online → cpu < cpus → command_refusal nr online cpu c ≡ None → FitsCommand c → Stands a.place at (share_of a cpu) cpu (control_at (control cpu) (first_stage online cpu c))
+module _ (nr online : ℕ) {a : CallState} {at : Word → ℕ} {control : ℕ → ControlValue} (cpu : ℕ) (c : Command) (shows : Shows a at control)
+    (outside_now : (control cpu).stage ≡ None) where
+  begun_stands : AreLimits nr online → cpu < cpus → command_refusal nr online cpu c ≡ None → FitsCommand c
+      → Stands a.place at (share_of a cpu) cpu (control_at (control cpu) (first_stage online cpu c))
   begun_stands limits l e f =
       let h : StandsAt a.place at (share_of a cpu) (control cpu).drain cpu None = rw outside_now at (shows.stands cpu) in
       begins nr online a.place at (share_of a cpu) (control cpu).drain cpu c limits l e f h
 
-  pub begun_shows : AreLimits nr online → cpu < cpus → command_refusal nr online cpu c ≡ None → FitsCommand c → Shows a at (put control cpu (control_at (control cpu) (first_stage online cpu c)))
+  pub begun_shows : AreLimits nr online → cpu < cpus → command_refusal nr online cpu c ≡ None → FitsCommand c
+      → Shows a at (put control cpu (control_at (control cpu) (first_stage online cpu c)))
   begun_shows limits l e f =
       let next = control_at (control cpu) (first_stage online cpu c) in
       let hand : hands_in at cpu ≡ 0 = rw outside_now at (shows.hands cpu) in
       record {
-        held = put_all (λ (j : ℕ) (x : ControlValue). a.held j ≡ held_of x.stage) control cpu next (shows.held cpu ∙ (ap held_of outside_now ∙ sym (begins_empty online cpu c))) (λ j _. shows.held j);
-        stands = put_all (λ (j : ℕ) (x : ControlValue). Stands a.place at (share_of a j) j x) control cpu next (begun_stands limits l e f) (λ j _. shows.stands j);
-        hands = put_all (λ (j : ℕ) (x : ControlValue). HandIs x.stage (hands_in at j)) control cpu next (begins_outside online cpu c (hands_in at cpu) hand) (λ j _. shows.hands j);
+        held = put_all (λ (j : ℕ) (x : ControlValue). a.held j ≡ held_of x.stage) control cpu next
+            (shows.held cpu ∙ (ap held_of outside_now ∙ sym (begins_empty online cpu c))) (λ j _. shows.held j);
+        stands = put_all (λ (j : ℕ) (x : ControlValue). Stands a.place at (share_of a j) j x) control cpu next (begun_stands limits l e f)
+            (λ j _. shows.stands j);
+        hands = put_all (λ (j : ℕ) (x : ControlValue). HandIs x.stage (hands_in at j)) control cpu next (begins_outside online cpu c (hands_in at cpu) hand)
+            (λ j _. shows.hands j);
         placed = shows.placed;
         written = shows.written;
         chained = shows.chained;
@@ -146,6 +158,7 @@ zeros_shown at control z n = record {
 }
 
 -- a table of zeros, with each CPU outside, shows no calls
-pub new_shown : (words : List ℕ) (controls : List ControlValue) → words ≡ replicate table_size 0 → controls ≡ replicate cpus outside → ValuesShow no_calls words controls
+pub new_shown : (words : List ℕ) (controls : List ControlValue) → words ≡ replicate table_size 0 → controls ≡ replicate cpus outside
+    → ValuesShow no_calls words controls
 new_shown words controls e f =
     zeros_shown (number_in words) (control_of controls) (λ w. rw e (zero_at table_size (index_of w))) (λ cpu. rw f (get_or-same outside cpus cpu))

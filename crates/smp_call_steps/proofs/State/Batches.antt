@@ -62,7 +62,8 @@ pub apart_async : (calls : List Call) → IsApart calls → IsApart (async_calls
 apart_async [] a = tt
 apart_async (call ∷ rest) a = apart_async_one call.class call (async_calls rest) (every_async (λ c. c.id ≢ call.id) rest a.0) (apart_async rest a.1)
 
-apart_classes_one : (class : Class) (call : Call) (sync async : List Call) → IsAbsent call.id sync → IsAbsent call.id async → AllByRecursion (λ x. IsAbsent x.id async) sync →
+apart_classes_one : (class : Class) (call : Call) (sync async : List Call) → IsAbsent call.id sync → IsAbsent call.id async
+    → AllByRecursion (λ x. IsAbsent x.id async) sync →
     AllByRecursion (λ x. IsAbsent x.id (if_async class call ++ async)) (if_sync class call ++ sync)
 apart_classes_one Sync call sync async s a cross = (a, cross)
 apart_classes_one Async call sync async s a cross =
@@ -71,7 +72,8 @@ apart_classes_one Async call sync async s a cross =
 apart_classes : (calls : List Call) → IsApart calls → AllByRecursion (λ x. IsAbsent x.id (async_calls calls)) (sync_calls calls)
 apart_classes [] a = tt
 apart_classes (call ∷ rest) a =
-    apart_classes_one call.class call (sync_calls rest) (async_calls rest) (every_sync (λ c. c.id ≢ call.id) rest a.0) (every_async (λ c. c.id ≢ call.id) rest a.0) (apart_classes rest a.1)
+    apart_classes_one call.class call (sync_calls rest) (async_calls rest) (every_sync (λ c. c.id ≢ call.id) rest a.0)
+        (every_async (λ c. c.id ≢ call.id) rest a.0) (apart_classes rest a.1)
 
 -- the drain order has no record twice
 pub apart_order : (calls : List Call) → IsApart calls → IsApart (order calls)
@@ -83,7 +85,8 @@ sync_calls-push [] call = sync_nil call.class call
     sync_nil : (class : Class) (call : Call) → if_sync class call ++ [] ≡ if_sync class call
     sync_nil Sync call = refl
     sync_nil Async call = refl
-sync_calls-push (x ∷ xs) call = ap (λ k. if_sync x.class x ++ k) (sync_calls-push xs call) ∙ sym (append_assoc (if_sync x.class x) (sync_calls xs) (if_sync call.class call))
+sync_calls-push (x ∷ xs) call = ap (λ k. if_sync x.class x ++ k) (sync_calls-push xs call)
+    ∙ sym (append_assoc (if_sync x.class x) (sync_calls xs) (if_sync call.class call))
 
 pub async_calls-push : (calls : List Call) (call : Call) → async_calls (calls ++ call ∷ []) ≡ async_calls calls ++ if_async call.class call
 async_calls-push [] call = async_nil call.class call
@@ -91,7 +94,8 @@ async_calls-push [] call = async_nil call.class call
     async_nil : (class : Class) (call : Call) → if_async class call ++ [] ≡ if_async class call
     async_nil Sync call = refl
     async_nil Async call = refl
-async_calls-push (x ∷ xs) call = ap (λ k. if_async x.class x ++ k) (async_calls-push xs call) ∙ sym (append_assoc (if_async x.class x) (async_calls xs) (if_async call.class call))
+async_calls-push (x ∷ xs) call = ap (λ k. if_async x.class x ++ k) (async_calls-push xs call)
+    ∙ sym (append_assoc (if_async x.class x) (async_calls xs) (if_async call.class call))
 
 -- a chain that begins with no record has no call
 pub no_chain : (nexts : ℕ → ℕ) (link : ℕ) (calls : List Call) → link ≡ 0 → Leads nexts link calls 0 → calls ≡ []

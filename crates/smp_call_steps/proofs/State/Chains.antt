@@ -1,5 +1,7 @@
 -- A chain is read from its newest call to its oldest.
-use Rattle.std.proofs.Common.{◌≡◌, ◌≢◌, ℕ, zero, suc, ◌+◌, ◌-◌, ◌<◌, ◌≤◌, ◌==◌, Bool, true, false, ◌||◌, List, [], ◌∷◌, ◌++◌, length, sym, subst, refl, ap, ◌∙◌, arith, append_assoc, length-append, take, drop}
+use Rattle.std.proofs.Math.Bool.{or-true}
+use Rattle.std.proofs.Common.{◌≡◌, ◌≢◌, ℕ, zero, suc, ◌+◌, ◌-◌, ◌<◌, ◌≤◌, ◌==◌, true, false, List, [], ◌∷◌, ◌++◌, length, sym, subst, refl, ap, ◌∙◌, arith}
+use Rattle.std.proofs.Common.{append_assoc, length-append, take, drop}
 use Rattle.std.proofs.lemmas.List.{append-nil, drop_all, take_all}
 use Rattle.std.proofs.lemmas.List.Folds.{list_any-append}
 use Rattle.std.specs.List.{AllByRecursion, list_any, refill}
@@ -65,7 +67,8 @@ pub record Passes (nexts : ℕ → ℕ) (first link : ℕ) (passed : List ℕ) (
   pub room : length passed < records
   pub on : (id : ℕ) → id + 1 ≡ link → Follows nexts first (nexts id) (id ∷ passed) (rounds + 1)
 
-passes_call : (nexts : ℕ → ℕ) (first id : ℕ) (passed : List ℕ) (rounds : ℕ) (call : Call) (older : List Call) → call.id ≡ id → Leads nexts (nexts call.id) older 0 →
+passes_call : (nexts : ℕ → ℕ) (first id : ℕ) (passed : List ℕ) (rounds : ℕ) (call : Call) (older : List Call) → call.id ≡ id
+    → Leads nexts (nexts call.id) older 0 →
     AllByRecursion (λ call. call.id < records) (older ++ call ∷ []) → length (older ++ call ∷ []) + rounds ≤ records → length passed ≡ rounds →
     ((n : ℕ) → n + rounds ≡ records → chain_in nexts n (suc id) ++ passed ≡ chain_in nexts records first) → Passes nexts first (suc id) passed rounds
 passes_call nexts first id passed rounds call older e l r s n w =
@@ -80,24 +83,29 @@ passes_call nexts first id passed rounds call older e l r s n w =
         records_are = every_left (λ call. call.id < records) older (call ∷ []) r;
         short = omega arith;
         counted = omega arith;
-        whole = λ m f. sym (append_assoc (chain_in nexts m (nexts id)) (id ∷ []) passed) ∙ (ap (λ (xs : List ℕ). xs ++ passed) (sym (chain_in-more nexts m id)) ∙ w (suc m) (omega arith));
+        whole = λ m f. sym (append_assoc (chain_in nexts m (nexts id)) (id ∷ []) passed)
+            ∙ (ap (λ (xs : List ℕ). xs ++ passed) (sym (chain_in-more nexts m id)) ∙ w (suc m) (omega arith));
       });
     }
 
-pub passes : (nexts : ℕ → ℕ) (first link : ℕ) (passed : List ℕ) (rounds : ℕ) → link ≢ 0 → Follows nexts first link passed rounds → Passes nexts first link passed rounds
+pub passes : (nexts : ℕ → ℕ) (first link : ℕ) (passed : List ℕ) (rounds : ℕ) → link ≢ 0 → Follows nexts first link passed rounds
+    → Passes nexts first link passed rounds
 passes nexts first zero passed rounds ne f = absurd (ne refl)
 passes nexts first (suc id) passed rounds ne f =
     let m = has_newest nexts (suc id) f.rest ne f.leads in
     let link : suc id ≡ m.newest.id + 1 = m.link_is in
     passes_call nexts first id passed rounds m.newest m.older (omega arith) m.leads
-    (subst (λ (ys : List Call). AllByRecursion (λ call. call.id < records) ys) m.parts f.records_are) (subst (λ (ys : List Call). length ys + rounds ≤ records) m.parts f.short) f.counted f.whole
+    (subst (λ (ys : List Call). AllByRecursion (λ call. call.id < records) ys) m.parts f.records_are)
+        (subst (λ (ys : List Call). length ys + rounds ≤ records) m.parts f.short) f.counted f.whole
 
 -- at the end of a chain all of it was passed
-pub ended : (nexts : ℕ → ℕ) (first : ℕ) (passed : List ℕ) (rounds n : ℕ) → n + rounds ≡ records → Follows nexts first 0 passed rounds → passed ≡ chain_in nexts records first
+pub ended : (nexts : ℕ → ℕ) (first : ℕ) (passed : List ℕ) (rounds n : ℕ) → n + rounds ≡ records → Follows nexts first 0 passed rounds
+    → passed ≡ chain_in nexts records first
 ended nexts first passed rounds n e f = ap (λ (xs : List ℕ). xs ++ passed) (sym (chain_in-zero nexts n)) ∙ f.whole n e
 
 -- after as many rounds as there are records the chain has ended
-pub ended_by_count : (nexts : ℕ → ℕ) (first link : ℕ) (passed : List ℕ) (rounds : ℕ) → records ≤ rounds → Follows nexts first link passed rounds → passed ≡ chain_in nexts records first
+pub ended_by_count : (nexts : ℕ → ℕ) (first link : ℕ) (passed : List ℕ) (rounds : ℕ) → records ≤ rounds → Follows nexts first link passed rounds
+    → passed ≡ chain_in nexts records first
 ended_by_count nexts first zero passed rounds n f = let s = f.short in ended nexts first passed rounds 0 (omega arith) f
 ended_by_count nexts first (suc id) passed rounds n f =
     let p = passes nexts first (suc id) passed rounds (λ e. cc) f in
@@ -115,24 +123,25 @@ pub seeks_first : (nexts : ℕ → ℕ) (first id : ℕ) → HasChain nexts firs
 seeks_first nexts first id h = record { passed = []; follows = follows_all nexts first h; absent = refl }
 
 -- another record is passed
-pub seeks_on : (nexts : ℕ → ℕ) (first link id rounds here : ℕ) → link ≢ 0 → here + 1 ≡ link → (here == id) ≡ false → Seeks nexts first link id rounds → Seeks nexts first (nexts here) id (rounds + 1)
+pub seeks_on : (nexts : ℕ → ℕ) (first link id rounds here : ℕ) → link ≢ 0 → here + 1 ≡ link → (here == id) ≡ false → Seeks nexts first link id rounds
+    → Seeks nexts first (nexts here) id (rounds + 1)
 seeks_on nexts first link id rounds here ne e other s =
     let p = passes nexts first link s.passed rounds ne s.follows in
     record { passed = here ∷ s.passed; follows = p.on here e; absent = rw other s.absent }
 
 -- this one is on the chain
-pub sought_here : (nexts : ℕ → ℕ) (first link id rounds here : ℕ) → link ≢ 0 → here + 1 ≡ link → (here == id) ≡ true → Seeks nexts first link id rounds → list_any (λ r. r == id) (chain_in nexts records first) ≡ true
+pub sought_here : (nexts : ℕ → ℕ) (first link id rounds here : ℕ) → link ≢ 0 → here + 1 ≡ link → (here == id) ≡ true → Seeks nexts first link id rounds
+    → list_any (λ r. r == id) (chain_in nexts records first) ≡ true
 sought_here nexts first link id rounds here ne e this s =
     let p = passes nexts first link s.passed rounds ne s.follows in
     let f = p.on here e in
     let short = f.short in
-    let whole : chain_in nexts (records - (rounds + 1)) (nexts here) ++ here ∷ s.passed ≡ chain_in nexts records first = f.whole (records - (rounds + 1)) (omega arith) in
+    let whole : chain_in nexts (records - (rounds + 1)) (nexts here) ++ here ∷ s.passed ≡ chain_in nexts records first =
+        f.whole (records - (rounds + 1)) (omega arith) in
     let found : list_any (λ r. r == id) (here ∷ s.passed) ≡ true = rw this refl in
-    ap (list_any (λ r. r == id)) (sym whole) ∙ (list_any-append (λ r. r == id) (chain_in nexts (records - (rounds + 1)) (nexts here)) (here ∷ s.passed) ∙ (rw found (or_true (list_any (λ r. r == id) (chain_in nexts (records - (rounds + 1)) (nexts here))))))
-  where
-    or_true : (b : Bool) → (b || true) ≡ true
-    or_true true = refl
-    or_true false = refl
+    ap (list_any (λ r. r == id)) (sym whole)
+        ∙ (list_any-append (λ r. r == id) (chain_in nexts (records - (rounds + 1)) (nexts here)) (here ∷ s.passed)
+        ∙ (rw found (or-true (list_any (λ r. r == id) (chain_in nexts (records - (rounds + 1)) (nexts here))))))
 
 -- at the end of the chain it is not
 pub not_sought : (nexts : ℕ → ℕ) (first id rounds : ℕ) → Seeks nexts first 0 id rounds → list_any (λ r. r == id) (chain_in nexts records first) ≡ false
@@ -140,7 +149,8 @@ not_sought nexts first id rounds s =
     let short = s.follows.short in
     ap (list_any (λ r. r == id)) (sym (ended nexts first s.passed rounds (records - rounds) (omega arith) s.follows)) ∙ s.absent
 
-pub not_sought_by_count : (nexts : ℕ → ℕ) (first link id rounds : ℕ) → records ≤ rounds → Seeks nexts first link id rounds → list_any (λ r. r == id) (chain_in nexts records first) ≡ false
+pub not_sought_by_count : (nexts : ℕ → ℕ) (first link id rounds : ℕ) → records ≤ rounds → Seeks nexts first link id rounds
+    → list_any (λ r. r == id) (chain_in nexts records first) ≡ false
 not_sought_by_count nexts first link id rounds n s = ap (list_any (λ r. r == id)) (sym (ended_by_count nexts first link s.passed rounds n s.follows)) ∙ s.absent
 
 -- a list that is written back whole

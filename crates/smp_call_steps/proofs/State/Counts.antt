@@ -8,7 +8,7 @@ use Rattle.smp_call_steps.specs.Calls.{CallState, Running, Nothing}
 use Rattle.smp_call_steps.specs.Counts.{calls_by, batches, async_call, ConfirmedCallsRan}
 use Rattle.smp_call_steps.specs.Histories.{orders, running_call}
 use Rattle.smp_call_steps.specs.Order.{if_sync, if_async, sync_calls, async_calls, order}
-use Rattle.smp_call_steps.specs.Places.{Holds, IsPlaced, locked_by}
+use Rattle.smp_call_steps.specs.Places.{Holds, IsPlaced, locked_by, AllPlaced}
 use Rattle.smp_call_steps.specs.Shows.{Shows}
 use Rattle.smp_call_steps.specs.Stages.{ControlValue}
 use Rattle.smp_call_steps.specs.Stands.{share_of, Share, StandsAt, PostKnows, held_of, held_of_post}
@@ -29,8 +29,10 @@ by-parts id [] = refl
 by-parts id (call ∷ rest) =
     let one = by-class id call.class call in
     let r = by-parts id rest in
-    let a : calls_by id (sync_calls (call ∷ rest)) ≡ calls_by id (if_sync call.class call) + calls_by id (sync_calls rest) = by-append id (if_sync call.class call) (sync_calls rest) in
-    let b : calls_by id (async_calls (call ∷ rest)) ≡ calls_by id (if_async call.class call) + calls_by id (async_calls rest) = by-append id (if_async call.class call) (async_calls rest) in
+    let a : calls_by id (sync_calls (call ∷ rest)) ≡ calls_by id (if_sync call.class call) + calls_by id (sync_calls rest) =
+        by-append id (if_sync call.class call) (sync_calls rest) in
+    let b : calls_by id (async_calls (call ∷ rest)) ≡ calls_by id (if_async call.class call) + calls_by id (async_calls rest) =
+        by-append id (if_async call.class call) (async_calls rest) in
     let w : calls_by id (call ∷ rest) ≡ calls_by id (call ∷ []) + calls_by id rest = by-append id (call ∷ []) rest in
     omega arith
 
@@ -48,7 +50,7 @@ by-orders id (batch ∷ rest) =
     omega arith
 
 -- a list of calls whose records are elsewhere has none by this record
-none_by : (places : ℕ → RecPlace) (p : RecPlace) (id : ℕ) (calls : List Call) → places id ≢ p → AllByRecursion (IsPlaced places p) calls → calls_by id calls ≡ 0
+none_by : (places : ℕ → RecPlace) (p : RecPlace) (id : ℕ) (calls : List Call) → places id ≢ p → AllPlaced places p calls → calls_by id calls ≡ 0
 none_by places p id [] ne h = refl
 none_by places p id (call ∷ rest) ne h =
     let other : call.id ≢ id = λ e. ne (rw e at h.0.placed) in
@@ -61,12 +63,14 @@ by-running id _ = omega arith
 
 -- a record that its source holds is at that place
 
-post_held : (places : ℕ → RecPlace) (at : Word → ℕ) (id : ℕ) (p : Posting) (stage : PostStage) → PostKnows places at p stage → Holds (held_of_post p stage) id → places id ≡ place.Held
+post_held : (places : ℕ → RecPlace) (at : Word → ℕ) (id : ℕ) (p : Posting) (stage : PostStage) → PostKnows places at p stage → Holds (held_of_post p stage) id
+    → places id ≡ place.Held
 post_held places at id p post.LoadFlags k h = absurd h
 post_held places at id p post.Lock k h = absurd h
 post_held places at id p _ k h = rw h at k.0
 
-stage_held : (places : ℕ → RecPlace) (at : Word → ℕ) (s : Share) (d : DrainValue) (me id : ℕ) (stage : Option Stage) → StandsAt places at s d me stage → Holds (held_of stage) id → places id ≡ place.Held
+stage_held : (places : ℕ → RecPlace) (at : Word → ℕ) (s : Share) (d : DrainValue) (me id : ℕ) (stage : Option Stage) → StandsAt places at s d me stage
+    → Holds (held_of stage) id → places id ≡ place.Held
 stage_held places at s d me id (Some (Post p stage)) k h = post_held places at id p stage k.1.knows h
 stage_held places at s d me id _ k h = absurd h
 
@@ -82,14 +86,15 @@ free_out p e = record { queue = λ cpu f. cc; batch = λ cpu f. cc; running = λ
 held_out : (p : RecPlace) → p ≡ place.Held → IsOut p
 held_out p e = record { queue = λ cpu f. cc; batch = λ cpu f. cc; running = λ cpu f. cc }
 
-module _ (a : CallState) (at : Word → ℕ) (control : ℕ → ControlValue) (s : Shows a at control) where
+module _ {a : CallState} {at : Word → ℕ} {control : ℕ → ControlValue} (s : Shows a at control) where
   pub held_place : (source id : ℕ) → Holds (a.held source) id → a.place id ≡ place.Held
   held_place source id h =
       let k : Holds (held_of (control source).stage) id = rw (s.held source) at h in
       stage_held a.place at (share_of a source) (control source).drain source id (control source).stage (s.stands source) k
 
   confirmed_out : (id : ℕ) → a.confirmed (owner id) id ≡ true → IsOut (a.place id)
-  confirmed_out id e = elim (s.placed.settled (owner id) id refl e) [ inl f ↦ free_out (a.place id) f | inr h ↦ held_out (a.place id) (held_place (owner id) id h) ]
+  confirmed_out id e =
+      elim (s.placed.settled (owner id) id refl e) [ inl f ↦ free_out (a.place id) f | inr h ↦ held_out (a.place id) (held_place (owner id) id h) ]
 
   pub confirmed_calls_ran : ConfirmedCallsRan a
   confirmed_calls_ran id cpu e =
@@ -98,7 +103,8 @@ module _ (a : CallState) (at : Word → ℕ) (control : ℕ → ControlValue) (s
       let b = none_by a.place (place.Batch cpu) id (a.batch cpu) (out.batch cpu) (s.placed.batched cpu) in
       let r = none_by a.place (place.Running cpu) id (locked_by (a.running cpu)) (out.running cpu) (s.placed.runs cpu) in
       let runs = by-running id (a.running cpu) in
-      let all : calls_by id (a.ran cpu ++ (running_call (a.running cpu) ++ a.batch cpu)) ≡ calls_by id (orders (a.taken cpu)) = ap (calls_by id) (s.recorded.drained cpu) in
+      let all : calls_by id (a.ran cpu ++ (running_call (a.running cpu) ++ a.batch cpu)) ≡ calls_by id (orders (a.taken cpu)) =
+          ap (calls_by id) (s.recorded.drained cpu) in
       let same = by-orders id (a.taken cpu) in
       let left = by-append id (a.ran cpu) (running_call (a.running cpu) ++ a.batch cpu) in
       let right = by-append id (running_call (a.running cpu)) (a.batch cpu) in

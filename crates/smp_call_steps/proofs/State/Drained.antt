@@ -1,12 +1,14 @@
 -- Where no record is locked and nobody handles calls, each call that was queued has run, once.
-use Rattle.std.proofs.Common.{◌≡◌, ◌≢◌, ℕ, ◌+◌, ◌%◌, ◌^◌, ◌==◌, Bool, true, false, cond, Option, Some, None, List, [], ◌∷◌, ◌++◌, length, sym, refl, ap, ◌∙◌, arith}
+use Rattle.std.proofs.Common.{◌≡◌, ◌≢◌, ℕ, ◌+◌, ◌%◌, ◌^◌, ◌==◌, Bool, true, false, cond, Option, Some, None, List, [], ◌∷◌, ◌++◌, length, sym, refl, ap, ◌∙◌}
+use Rattle.std.proofs.Common.{arith}
 use Rattle.std.proofs.lemmas.List.{append-nil}
 use Rattle.std.specs.List.{AllByRecursion}
 use Rattle.smp_words.specs.Size.{owner}
 use Rattle.smp_call_steps.specs.Calls.{CallState, Holding, Running}
-use Rattle.smp_call_steps.specs.Histories.{Marked, mark, marked, others_marked, batches_marked, history_of, marked_from, sent_to, calls_from, orders, running_call, one_held, counted_call}
+use Rattle.smp_call_steps.specs.Histories.{Marked, mark, marked, others_marked, batches_marked, history_of, marked_from, sent_to, calls_from, orders}
+use Rattle.smp_call_steps.specs.Histories.{running_call, one_held, counted_call}
 use Rattle.smp_call_steps.specs.Order.{if_sync, if_async, sync_calls, async_calls, order}
-use Rattle.smp_call_steps.specs.Places.{Holds, IsPlaced}
+use Rattle.smp_call_steps.specs.Places.{Holds, IsPlaced, AllPlaced}
 use Rattle.smp_call_steps.specs.Words.{FlagsShow, hands_in}
 use Rattle.smp_call_steps.specs.Shows.{Shows}
 use Rattle.smp_call_steps.specs.Stages.{ControlValue}
@@ -31,7 +33,8 @@ calls_from-append source (x ∷ xs) ys =
     let rest = calls_from-append source xs ys in
     omega arith
 
-marked_from-append : (source : ℕ) (xs ys : List Marked) → length (marked_from source (xs ++ ys)) ≡ length (marked_from source xs) + length (marked_from source ys)
+marked_from-append : (source : ℕ) (xs ys : List Marked)
+    → length (marked_from source (xs ++ ys)) ≡ length (marked_from source xs) + length (marked_from source ys)
 marked_from-append source [] ys = omega arith
 marked_from-append source (x ∷ xs) ys =
     let whole = length-kept (owner x.call.id == source) x (marked_from source (xs ++ ys)) in
@@ -59,18 +62,21 @@ all_from source (call ∷ rest) =
 
 -- the drain order has the calls of its batch
 
-class_from : (source : ℕ) (class : Class) (call : Call) → length (calls_from source (if_sync class call)) + length (calls_from source (if_async class call)) ≡ length (calls_from source (call ∷ []))
+class_from : (source : ℕ) (class : Class) (call : Call)
+    → length (calls_from source (if_sync class call)) + length (calls_from source (if_async class call)) ≡ length (calls_from source (call ∷ []))
 class_from source Sync call = omega arith
 class_from source Async call = omega arith
 
-parts_from : (source : ℕ) (calls : List Call) → length (calls_from source (sync_calls calls)) + length (calls_from source (async_calls calls)) ≡ length (calls_from source calls)
+parts_from : (source : ℕ) (calls : List Call) → length (calls_from source (sync_calls calls)) + length (calls_from source (async_calls calls))
+    ≡ length (calls_from source calls)
 parts_from source [] = refl
 parts_from source (call ∷ rest) =
     let one = class_from source call.class call in
     let r = parts_from source rest in
     let a = calls_from-append source (if_sync call.class call) (sync_calls rest) in
     let b = calls_from-append source (if_async call.class call) (async_calls rest) in
-    let w : length (calls_from source (call ∷ rest)) ≡ length (calls_from source (call ∷ [])) + length (calls_from source rest) = calls_from-append source (call ∷ []) rest in
+    let w : length (calls_from source (call ∷ rest)) ≡ length (calls_from source (call ∷ [])) + length (calls_from source rest) =
+        calls_from-append source (call ∷ []) rest in
     omega arith
 
 order_from : (source : ℕ) (calls : List Call) → length (calls_from source (order calls)) ≡ length (calls_from source calls)
@@ -95,7 +101,8 @@ unlocked_free : (p : RecPlace) (flags : ℕ) → FlagsShow p flags → flags % 2
 unlocked_free place.Free flags h ne = refl
 unlocked_free _ flags h ne = absurd (ne h)
 
-none_placed : (places : ℕ → RecPlace) (p : RecPlace) (calls : List Call) → p ≢ place.Free → ((id : ℕ) → places id ≡ place.Free) → AllByRecursion (IsPlaced places p) calls → calls ≡ []
+none_placed : (places : ℕ → RecPlace) (p : RecPlace) (calls : List Call) → p ≢ place.Free → ((id : ℕ) → places id ≡ place.Free) → AllPlaced places p calls
+    → calls ≡ []
 none_placed places p [] ne free h = refl
 none_placed places p (call ∷ rest) ne free h = absurd (ne (sym h.0.placed ∙ free call.id))
 
@@ -103,30 +110,33 @@ none_held : (held : Option Holding) → ((id : ℕ) → Holds held id → ⊥) �
 none_held None h = refl
 none_held (Some x) h = absurd (h x.call.id refl)
 
-rests_inside : (places : ℕ → RecPlace) (at : Word → ℕ) (s : Share) (d : DrainValue) (me hand : ℕ) (stage : HandleStage) → hand ≡ 0 → HandIs (Some (Handle stage)) hand → StandsAt places at s d me (Some (Handle stage)) → Rests s
+rests_inside : (places : ℕ → RecPlace) (at : Word → ℕ) (s : Share) (d : DrainValue) (me hand : ℕ) (stage : HandleStage) → hand ≡ 0
+    → HandIs (Some (Handle stage)) hand → StandsAt places at s d me (Some (Handle stage)) → Rests s
 rests_inside places at s d me hand handle.Enter z h k = k.1
 rests_inside places at s d me hand (handle.CountSync walk call next) z h k = absurd (let e : hand ≡ call.id + 2 = h in omega arith)
 rests_inside places at s d me hand (handle.EndSync walk call next) z h k = absurd (let e : hand ≡ call.id + 2 = h in omega arith)
 rests_inside places at s d me hand _ z h k = absurd (h z)
 
 -- nothing is taken and nothing runs, where the handling word is 0
-rests_at : (places : ℕ → RecPlace) (at : Word → ℕ) (s : Share) (d : DrainValue) (me hand : ℕ) (stage : Option Stage) → hand ≡ 0 → HandIs stage hand → StandsAt places at s d me stage → Rests s
+rests_at : (places : ℕ → RecPlace) (at : Word → ℕ) (s : Share) (d : DrainValue) (me hand : ℕ) (stage : Option Stage) → hand ≡ 0 → HandIs stage hand
+    → StandsAt places at s d me stage → Rests s
 rests_at places at s d me hand None z h k = k
 rests_at places at s d me hand (Some (Handle stage)) z h k = rests_inside places at s d me hand stage z h k
 rests_at places at s d me hand _ z h k = k.0
 
-module _ (a : CallState) (at : Word → ℕ) (control : ℕ → ControlValue) (s : Shows a at control) (still : Still at) where
+module _ {a : CallState} {at : Word → ℕ} {control : ℕ → ControlValue} (s : Shows a at control) (still : Still at) where
   free : (id : ℕ) → a.place id ≡ place.Free
   free id = unlocked_free (a.place id) (at (Flags id)) (s.written.locks id) (still.unlocked id)
 
   nothing_held : (cpu : ℕ) → a.held cpu ≡ None
-  nothing_held cpu = none_held (a.held cpu) (λ id h. let e = sym (held_place a at control s cpu id h) ∙ free id in cc)
+  nothing_held cpu = none_held (a.held cpu) (λ id h. let e = sym (held_place s cpu id h) ∙ free id in cc)
 
   nothing_queued : (cpu : ℕ) → a.queue cpu ≡ []
   nothing_queued cpu = none_placed a.place (place.Queued cpu) (a.queue cpu) (λ e. cc) free (s.placed.queued cpu)
 
   rests : (cpu : ℕ) → Rests (share_of a cpu)
-  rests cpu = rests_at a.place at (share_of a cpu) (control cpu).drain cpu (hands_in at cpu) (control cpu).stage (still.outside cpu) (s.hands cpu) (s.stands cpu)
+  rests cpu = rests_at a.place at (share_of a cpu) (control cpu).drain cpu (hands_in at cpu) (control cpu).stage (still.outside cpu) (s.hands cpu)
+      (s.stands cpu)
 
   -- the tally words count the calls that were sent and those that ran
 

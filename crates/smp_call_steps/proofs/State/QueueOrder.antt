@@ -18,7 +18,8 @@ use Rattle.smp_call_steps.specs.Names.{Call, Class, Sync, Async, Word}
 of_class-append : (class : Class) (xs ys : List Call) → of_class class (xs ++ ys) ≡ of_class class xs ++ of_class class ys
 of_class-append class [] ys = refl
 of_class-append class (x ∷ xs) ys =
-    ap (λ (k : List Call). if_class class x.class x ++ k) (of_class-append class xs ys) ∙ sym (append_assoc (if_class class x.class x) (of_class class xs) (of_class class ys))
+    ap (λ (k : List Call). if_class class x.class x ++ k) (of_class-append class xs ys)
+        ∙ sym (append_assoc (if_class class x.class x) (of_class class xs) (of_class class ys))
 
 -- of the SYNC calls of a list, all are of class SYNC, and none is ASYNC
 
@@ -42,7 +43,8 @@ sync_of : (calls : List Call) → of_class Sync (sync_calls calls) ≡ of_class 
 sync_of [] = refl
 sync_of (call ∷ rest) =
     of_class-append Sync (if_sync call.class call) (sync_calls rest) ∙
-    (ap (λ (k : List Call). k ++ of_class Sync (sync_calls rest)) (one_sync call.class call refl) ∙ ap (λ (k : List Call). if_class Sync call.class call ++ k) (sync_of rest))
+    (ap (λ (k : List Call). k ++ of_class Sync (sync_calls rest)) (one_sync call.class call refl)
+        ∙ ap (λ (k : List Call). if_class Sync call.class call ++ k) (sync_of rest))
 
 not_sync_of : (calls : List Call) → of_class Sync (async_calls calls) ≡ []
 not_sync_of [] = refl
@@ -54,7 +56,8 @@ async_of : (calls : List Call) → of_class Async (async_calls calls) ≡ of_cla
 async_of [] = refl
 async_of (call ∷ rest) =
     of_class-append Async (if_async call.class call) (async_calls rest) ∙
-    (ap (λ (k : List Call). k ++ of_class Async (async_calls rest)) (one_async call.class call refl) ∙ ap (λ (k : List Call). if_class Async call.class call ++ k) (async_of rest))
+    (ap (λ (k : List Call). k ++ of_class Async (async_calls rest)) (one_async call.class call refl)
+        ∙ ap (λ (k : List Call). if_class Async call.class call ++ k) (async_of rest))
 
 not_async_of : (calls : List Call) → of_class Async (sync_calls calls) ≡ []
 not_async_of [] = refl
@@ -78,7 +81,8 @@ Sync≢Async : Sync ≢ Async
 Sync≢Async e = cc
 
 -- after an ASYNC call in SYNC calls that ASYNC calls follow come only ASYNC calls
-after_async : (syncs asyncs before : List Call) (call : Call) (after : List Call) → AllByRecursion IsSync syncs → AllByRecursion IsAsync asyncs → syncs ++ asyncs ≡ before ++ call ∷ after → call.class ≡ Async → AllByRecursion IsAsync after
+after_async : (syncs asyncs before : List Call) (call : Call) (after : List Call) → AllByRecursion IsSync syncs → AllByRecursion IsAsync asyncs
+    → syncs ++ asyncs ≡ before ++ call ∷ after → call.class ≡ Async → AllByRecursion IsAsync after
 after_async [] asyncs before call after h k e is = (every_right IsAsync before (call ∷ after) (subst (λ (xs : List Call). AllByRecursion IsAsync xs) e k)).1
 after_async (x ∷ syncs) asyncs [] call after h k e is = absurd (Sync≢Async (sym h.0 ∙ (ap first_class e ∙ is)))
 after_async (x ∷ syncs) asyncs (y ∷ before) call after h k e is = after_async syncs asyncs before call after h.1 k (ap rest_of e) is
@@ -100,5 +104,6 @@ run_in_queue_order a at control s cpu class =
     sym (orders_keep class (a.taken cpu)) ∙ (ap (of_class class) (sym (s.recorded.drained cpu)) ∙ of_class-append class (a.ran cpu) more) in (
       of_class class more ++ of_class class (a.queue cpu),
       of_class-append class (batches (a.taken cpu)) (a.queue cpu) ∙
-          (ap (λ (k : List Call). k ++ of_class class (a.queue cpu)) ended ∙ append_assoc (of_class class (a.ran cpu)) (of_class class more) (of_class class (a.queue cpu))),
+          (ap (λ (k : List Call). k ++ of_class class (a.queue cpu)) ended
+              ∙ append_assoc (of_class class (a.ran cpu)) (of_class class more) (of_class class (a.queue cpu))),
     )

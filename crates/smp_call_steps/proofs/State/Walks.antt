@@ -1,5 +1,6 @@
 -- A chain that leads from the oldest call to the newest, and where a CPU stands that goes along it.
-use Rattle.std.proofs.Common.{◌≡◌, ◌≢◌, ℕ, ◌+◌, ◌-◌, false, cond, Option, Some, None, List, [], ◌∷◌, ◌++◌, length, sym, subst, refl, ap, ◌∙◌, arith, append_assoc}
+use Rattle.std.proofs.Common.{◌≡◌, ◌≢◌, ℕ, ◌+◌, ◌-◌, false, cond, Option, Some, None, List, [], ◌∷◌, ◌++◌, length, sym, subst, refl, ap, ◌∙◌, arith}
+use Rattle.std.proofs.Common.{append_assoc}
 use Rattle.std.proofs.lemmas.List.{append-nil}
 use Rattle.std.specs.List.{AllByRecursion}
 use Rattle.smp_call_steps.specs.Order.{if_sync, if_async, sync_calls, async_calls, order}
@@ -24,15 +25,18 @@ Path-kept nexts nexts' P same link [] after h l = l
 Path-kept nexts nexts' P same link (call ∷ rest) after h l =
     (l.0, subst (λ (k : ℕ). Path nexts' k rest after) (sym (same call h.0)) (Path-kept nexts nexts' P same (nexts call.id) rest after h.1 l.1))
 
-pub Path-push : (nexts : ℕ → ℕ) (link : ℕ) (calls : List Call) (newest : Call) (after : ℕ) → Path nexts link calls (newest.id + 1) → nexts newest.id ≡ after → Path nexts link (calls ++ newest ∷ []) after
+pub Path-push : (nexts : ℕ → ℕ) (link : ℕ) (calls : List Call) (newest : Call) (after : ℕ) → Path nexts link calls (newest.id + 1) → nexts newest.id ≡ after
+    → Path nexts link (calls ++ newest ∷ []) after
 Path-push nexts link [] newest after l e = (l, e)
 Path-push nexts link (call ∷ rest) newest after l e = (l.0, Path-push nexts (nexts call.id) rest newest after l.1 e)
 
-pub Path-cut : (nexts : ℕ → ℕ) (link : ℕ) (calls : List Call) (newest : Call) (after : ℕ) → Path nexts link (calls ++ newest ∷ []) after → Path nexts link calls (newest.id + 1)
+pub Path-cut : (nexts : ℕ → ℕ) (link : ℕ) (calls : List Call) (newest : Call) (after : ℕ) → Path nexts link (calls ++ newest ∷ []) after
+    → Path nexts link calls (newest.id + 1)
 Path-cut nexts link [] newest after l = l.0
 Path-cut nexts link (call ∷ rest) newest after l = (l.0, Path-cut nexts (nexts call.id) rest newest after l.1)
 
-pub Path-append : (nexts : ℕ → ℕ) (link : ℕ) (xs ys : List Call) (middle after : ℕ) → Path nexts link xs middle → Path nexts middle ys after → Path nexts link (xs ++ ys) after
+pub Path-append : (nexts : ℕ → ℕ) (link : ℕ) (xs ys : List Call) (middle after : ℕ) → Path nexts link xs middle → Path nexts middle ys after
+    → Path nexts link (xs ++ ys) after
 Path-append nexts link [] ys middle after l k = subst (λ (n : ℕ). Path nexts n ys after) (sym l) k
 Path-append nexts link (x ∷ xs) ys middle after l k = (l.0, Path-append nexts (nexts x.id) xs ys middle after l.1 k)
 
@@ -66,7 +70,8 @@ absent_after (x ∷ xs) call ys a = absent_after xs call ys a.1
 
 pub async_calls-append : (xs ys : List Call) → async_calls (xs ++ ys) ≡ async_calls xs ++ async_calls ys
 async_calls-append [] ys = refl
-async_calls-append (x ∷ xs) ys = ap (λ (k : List Call). if_async x.class x ++ k) (async_calls-append xs ys) ∙ sym (append_assoc (if_async x.class x) (async_calls xs) (async_calls ys))
+async_calls-append (x ∷ xs) ys = ap (λ (k : List Call). if_async x.class x ++ k) (async_calls-append xs ys)
+    ∙ sym (append_assoc (if_async x.class x) (async_calls xs) (async_calls ys))
 
 async_one : (class : Class) (call : Call) → call.class ≡ class → AllByRecursion IsAsync (if_async class call)
 async_one Sync call e = tt
@@ -91,12 +96,15 @@ all_sync (call ∷ rest) = every_append IsSync (if_sync call.class call) (sync_c
 
 -- what holds of all that is left of a batch
 
-pub reverses_all : (P : Call → Type 0) (nexts : ℕ → ℕ) (s : Share) (d : DrainValue) (up down : ℕ) (call : Call) → (h : Reverses nexts s d up down call) → AllByRecursion P s.batch → AllByRecursion P (h.older ++ call ∷ h.newer)
-reverses_all P nexts s d up down call h all =
+pub reverses_all : (P : Call → Type 0) {nexts : ℕ → ℕ} {s : Share} {d : DrainValue} {up down : ℕ} {call : Call} (h : Reverses nexts s d up down call)
+    → AllByRecursion P s.batch → AllByRecursion P (h.older ++ call ∷ h.newer)
+reverses_all P {s = s} h all =
     let k : AllByRecursion P (sync_calls s.last ++ async_calls s.last) = subst (λ (xs : List Call). AllByRecursion P xs) h.batch all in
-    subst (λ (xs : List Call). AllByRecursion P xs) h.whole (every_class P s.last (every_left P (sync_calls s.last) (async_calls s.last) k) (every_right P (sync_calls s.last) (async_calls s.last) k))
+    subst (λ (xs : List Call). AllByRecursion P xs) h.whole
+        (every_class P s.last (every_left P (sync_calls s.last) (async_calls s.last) k) (every_right P (sync_calls s.last) (async_calls s.last) k))
 
-module _ (P : Call → Type 0) (nexts : ℕ → ℕ) (s : Share) (d : DrainValue) (walk : Walk) (here : ℕ) (front rest : List Call) (running : Running) (w : Walks nexts s d walk here front rest running) (all : AllByRecursion P s.batch) where
+module _ (P : Call → Type 0) {nexts : ℕ → ℕ} {s : Share} {d : DrainValue} {walk : Walk} {here : ℕ} {front rest : List Call} {running : Running}
+    (w : Walks nexts s d walk here front rest running) (all : AllByRecursion P s.batch) where
   walks_batch : AllByRecursion P (front ++ (sync_calls rest ++ async_calls s.last))
   walks_batch = subst (λ (xs : List Call). AllByRecursion P xs) w.batch all
 
@@ -111,10 +119,12 @@ module _ (P : Call → Type 0) (nexts : ℕ → ℕ) (s : Share) (d : DrainValue
   walks_passed = every_left P (async_calls w.passed) (async_calls rest) walks_async
 
   pub walks_rest : AllByRecursion P rest
-  walks_rest = every_class P rest (every_left P (sync_calls rest) (async_calls s.last) (every_right P front (sync_calls rest ++ async_calls s.last) walks_batch))
+  walks_rest =
+      every_class P rest (every_left P (sync_calls rest) (async_calls s.last) (every_right P front (sync_calls rest ++ async_calls s.last) walks_batch))
       (every_right P (async_calls w.passed) (async_calls rest) walks_async)
 
-module _ (P : Call → Type 0) (nexts : ℕ → ℕ) (s : Share) (d : DrainValue) (here : ℕ) (front rest : List Call) (running : Running) (w : Ends nexts s d here front rest running) (all : AllByRecursion P s.batch) where
+module _ (P : Call → Type 0) {nexts : ℕ → ℕ} {s : Share} {d : DrainValue} {here : ℕ} {front rest : List Call} {running : Running}
+    (w : Ends nexts s d here front rest running) (all : AllByRecursion P s.batch) where
   ends_batch : AllByRecursion P (front ++ rest)
   ends_batch = subst (λ (xs : List Call). AllByRecursion P xs) w.batch all
 
@@ -126,8 +136,10 @@ module _ (P : Call → Type 0) (nexts : ℕ → ℕ) (s : Share) (d : DrainValue
 
 -- the chain stays where a call of it begins, is counted or ends
 
-pub walks_stay : {nexts : ℕ → ℕ} {s : Share} {d : DrainValue} {walk : Walk} {here : ℕ} {front front' rest : List Call} {running running' : Running} (h : Walks nexts s d walk here front rest running)
-    (begun batch : List Call) (now : Running) → sync_calls h.passed ≡ begun ++ front' → batch ≡ front' ++ (sync_calls rest ++ async_calls s.last) → now ≡ running' →
+pub walks_stay : {nexts : ℕ → ℕ} {s : Share} {d : DrainValue} {walk : Walk} {here : ℕ} {front front' rest : List Call} {running running' : Running}
+    (h : Walks nexts s d walk here front rest running)
+    (begun batch : List Call) (now : Running) → sync_calls h.passed ≡ begun ++ front' → batch ≡ front' ++ (sync_calls rest ++ async_calls s.last)
+        → now ≡ running' →
     Walks nexts (record s { batch = batch; running = now }) d walk here front' rest running'
 walks_stay h begun batch now begun_are batch_is running_is = record {
   passed = h.passed;
@@ -144,7 +156,8 @@ walks_stay h begun batch now begun_are batch_is running_is = record {
   accepted = h.accepted;
 }
 
-pub ends_stay : {nexts : ℕ → ℕ} {s : Share} {d : DrainValue} {here : ℕ} {front front' rest : List Call} {running running' : Running} (h : Ends nexts s d here front rest running)
+pub ends_stay : {nexts : ℕ → ℕ} {s : Share} {d : DrainValue} {here : ℕ} {front front' rest : List Call} {running running' : Running}
+    (h : Ends nexts s d here front rest running)
     (begun batch : List Call) (now : Running) → async_calls s.last ≡ begun ++ (front' ++ rest) → batch ≡ front' ++ rest → now ≡ running' →
     Ends nexts (record s { batch = batch; running = now }) d here front' rest running'
 ends_stay h begun batch now whole batch_is running_is = record {
@@ -160,10 +173,11 @@ ends_stay h begun batch now whole batch_is running_is = record {
 }
 
 -- the last ASYNC call that was passed
-pub walks_last : (P : Call → Type 0) (nexts : ℕ → ℕ) (s : Share) (d : DrainValue) (walk : Walk) (last here : ℕ) (rest : List Call) → (w : Walks nexts s d walk here [] rest Nothing) → walk.last ≡ Some last → AllByRecursion P s.batch → (call : Call) × (call.id ≡ last) × P call
+pub walks_last : (P : Call → Type 0) (nexts : ℕ → ℕ) (s : Share) (d : DrainValue) (walk : Walk) (last here : ℕ) (rest : List Call)
+    → (w : Walks nexts s d walk here [] rest Nothing) → walk.last ≡ Some last → AllByRecursion P s.batch → (call : Call) × (call.id ≡ last) × P call
 walks_last P nexts s d walk last here rest w e all =
     let end : EndsAt (Some last) (async_calls w.passed) = subst (λ (x : Option ℕ). EndsAt x (async_calls w.passed)) e w.ends_at in
-    (end.1, end.3, every_last P end.0 end.1 (subst (λ (xs : List Call). AllByRecursion P xs) end.2 (walks_passed P nexts s d walk here [] rest Nothing w all)))
+    (end.1, end.3, every_last P end.0 end.1 (subst (λ (xs : List Call). AllByRecursion P xs) end.2 (walks_passed P w all)))
 
 -- a link is to one record
 pub same_record : (id : ℕ) (call : Call) → id + 1 ≡ call.id + 1 → call.id ≡ id
@@ -171,23 +185,27 @@ same_record id call e = omega arith
 
 -- where a CPU stands that goes on along the chain
 
-pub second_goes : (nexts : ℕ → ℕ) (s : Share) (d : DrainValue) (next : Option ℕ) (rest : List Call) → Ends nexts s d (link_to next) [] rest Nothing → HandleStands nexts s d (second_on next)
+pub second_goes : (nexts : ℕ → ℕ) (s : Share) (d : DrainValue) (next : Option ℕ) (rest : List Call) → Ends nexts s d (link_to next) [] rest Nothing
+    → HandleStands nexts s d (second_on next)
 second_goes nexts s d None [] h = (record { batch = h.batch; running = h.running_is; accepted = h.accepted }, h.counted)
 second_goes nexts s d None (call ∷ rest) h = absurd (let e = h.leads_on.0 in omega arith)
 second_goes nexts s d (Some id) [] h = absurd (let e : id + 1 ≡ 0 = h.leads_on in omega arith)
 second_goes nexts s d (Some id) (call ∷ rest) h = (call, rest, h)
 
-pub first_goes : (nexts : ℕ → ℕ) (s : Share) (d : DrainValue) (walk : Walk) (next : Option ℕ) (rest : List Call) → Walks nexts s d walk (link_to next) [] rest Nothing → HandleStands nexts s d (first_on walk next)
+pub first_goes : (nexts : ℕ → ℕ) (s : Share) (d : DrainValue) (walk : Walk) (next : Option ℕ) (rest : List Call)
+    → Walks nexts s d walk (link_to next) [] rest Nothing → HandleStands nexts s d (first_on walk next)
 first_goes nexts s d walk None [] h =
     let all : s.last ≡ h.passed = h.whole ∙ append-nil h.passed in
     second_goes nexts s d walk.first (async_calls h.passed)
-    (record { begun = []; whole = ap async_calls all; apart = h.apart; leads_on = h.leads_here; asyncs = all_async h.passed; counted = h.counted; batch = h.batch ∙ ap async_calls all; running_is = h.running_is; accepted = h.accepted })
+    (record { begun = []; whole = ap async_calls all; apart = h.apart; leads_on = h.leads_here; asyncs = all_async h.passed; counted = h.counted;
+        batch = h.batch ∙ ap async_calls all; running_is = h.running_is; accepted = h.accepted })
 first_goes nexts s d walk None (call ∷ rest) h = absurd (let e = h.leads_on.0 in omega arith)
 first_goes nexts s d walk (Some id) [] h = absurd (let e : id + 1 ≡ 0 = h.leads_on in omega arith)
 first_goes nexts s d walk (Some id) (call ∷ rest) h = (call, rest, h)
 
 -- the chain is reversed down to what is older
-pub reverse_goes : (nexts : ℕ → ℕ) (s : Share) (d : DrainValue) (here next : Option ℕ) (older newer : List Call) → s.last ≡ older ++ newer → Leads nexts (link_to next) older 0 → Path nexts (link_to here) newer 0 → IsApart s.last →
+pub reverse_goes : (nexts : ℕ → ℕ) (s : Share) (d : DrainValue) (here next : Option ℕ) (older newer : List Call) → s.last ≡ older ++ newer
+    → Leads nexts (link_to next) older 0 → Path nexts (link_to here) newer 0 → IsApart s.last →
     d.calls ≡ length newer → s.batch ≡ order s.last → s.running ≡ Nothing → s.accepted ≡ false → HandleStands nexts s d (reverse_on here next)
 reverse_goes nexts s d here None older newer whole down up apart counted batch running accepted =
     let none : older ≡ [] = no_chain nexts 0 older refl down in

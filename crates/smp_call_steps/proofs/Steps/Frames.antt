@@ -6,8 +6,8 @@ use Rattle.smp_call_steps.specs.Drains.{DrainValue, link_to}
 use Rattle.smp_call_steps.specs.Order.{async_calls}
 use Rattle.smp_call_steps.specs.Calls.{Running, Nothing, SyncCall, CountedCall, AsyncCall}
 use Rattle.smp_call_steps.specs.Stages.{ControlValue}
-use Rattle.smp_call_steps.specs.Places.{IsPlaced}
-use Rattle.smp_call_steps.specs.Words.{Leads, IsWritten, flags_in, funcs_in, infos_in, nexts_in}
+use Rattle.smp_call_steps.specs.Places.{IsPlaced, AllPlaced}
+use Rattle.smp_call_steps.specs.Words.{Leads, IsWritten, flags_in, funcs_in, infos_in, nexts_in, IsWrittenIn}
 use Rattle.smp_call_steps.specs.Stands.{Share, Stands, StandsAt, HandleStands, Reverses, Walks, Ends, PostKnows, posted}
 use Rattle.smp_call_steps.proofs.Basics.Alls.{every_left, every_right}
 use Rattle.smp_call_steps.proofs.State.Walks.{Path-kept, reverses_all, walks_front, walks_passed, walks_rest, ends_front, ends_rest, same_record}
@@ -52,7 +52,8 @@ else_minded me cpu id u places mine ne theirs e =
     ne (one_minds me cpu id (places id) mine there)
 
 -- a step on a record that I mind leaves the others alone
-pub leaves_others : (me id : ℕ) (places places' : ℕ → RecPlace) (at at' : Word → ℕ) → Minds me id (places id) → Touches id places places' at at' → (cpu : ℕ) → cpu ≢ me → LeavesTo cpu places places' at at'
+pub leaves_others : (me id : ℕ) (places places' : ℕ → RecPlace) (at at' : Word → ℕ) → Minds me id (places id) → Touches id places places' at at' → (cpu : ℕ)
+    → cpu ≢ me → LeavesTo cpu places places' at at'
 leaves_others me id places places' at at' mine t cpu ne = record {
   place_stays = λ u m. t.place_stays u (else_minded me cpu id u places mine ne m);
   flags = λ u m. t.flags u (else_minded me cpu id u places mine ne m);
@@ -62,9 +63,11 @@ leaves_others me id places places' at at' mine t cpu ne = record {
 }
 
 -- a step on words of CPUs alone
-pub leaves_all : (places : ℕ → RecPlace) (at at' : Word → ℕ) → ((id : ℕ) → at' (Flags id) ≡ at (Flags id)) → ((id : ℕ) → at' (Func id) ≡ at (Func id)) → ((id : ℕ) → at' (Info id) ≡ at (Info id)) → ((id : ℕ) → at' (Next id) ≡ at (Next id)) →
+pub leaves_all : (places : ℕ → RecPlace) (at at' : Word → ℕ) → ((id : ℕ) → at' (Flags id) ≡ at (Flags id)) → ((id : ℕ) → at' (Func id) ≡ at (Func id))
+    → ((id : ℕ) → at' (Info id) ≡ at (Info id)) → ((id : ℕ) → at' (Next id) ≡ at (Next id)) →
     (cpu : ℕ) → LeavesTo cpu places places at at'
-leaves_all places at at' flags func info next cpu = record { place_stays = λ _ _. refl; flags = λ u _. flags u; func = λ u _. func u; info = λ u _. info u; next = λ u _. next u }
+leaves_all places at at' flags func info next cpu =
+    record { place_stays = λ _ _. refl; flags = λ u _. flags u; func = λ u _. func u; info = λ u _. info u; next = λ u _. next u }
 
 -- where the next words of these calls stay, so does the chain
 pub Leads-kept : (nexts nexts' : ℕ → ℕ) (P : Call → Type 0) → ((call : Call) → P call → nexts' call.id ≡ nexts call.id) →
@@ -72,8 +75,8 @@ pub Leads-kept : (nexts nexts' : ℕ → ℕ) (P : Call → Type 0) → ((call :
 Leads-kept nexts nexts' P same link [] below h l = l
 Leads-kept nexts nexts' P same link (call ∷ rest) below h l = (same call h.0 ∙ l.0, Leads-kept nexts nexts' P same link rest (call.id + 1) h.1 l.1)
 
-module _ (cpu : ℕ) (places places' : ℕ → RecPlace) (at at' : Word → ℕ) (l : LeavesTo cpu places places' at at') where
-  written : (call : Call) → Minds cpu call.id (places call.id) → IsWritten (flags_in at) (funcs_in at) (infos_in at) call → IsWritten (flags_in at') (funcs_in at') (infos_in at') call
+module _ {cpu : ℕ} {places places' : ℕ → RecPlace} {at at' : Word → ℕ} (l : LeavesTo cpu places places' at at') where
+  written : (call : Call) → Minds cpu call.id (places call.id) → IsWrittenIn at call → IsWrittenIn at' call
   written call m w = record { flags_are = l.flags call.id m ∙ w.flags_are; func_is = l.func call.id m ∙ w.func_is; info_is = l.info call.id m ∙ w.info_is }
 
   own_held : (id : ℕ) → owner id ≡ cpu → places id ≡ place.Held → Minds cpu id (places id)
@@ -96,15 +99,17 @@ module _ (cpu : ℕ) (places places' : ℕ → RecPlace) (at at' : Word → ℕ)
   next_of : (id : ℕ) (call : Call) → call.id ≡ id → IsPlaced places (place.Batch cpu) call → at' (Next id) ≡ at (Next id)
   next_of id call e q = subst (λ (k : ℕ). at' (Next k) ≡ at (Next k)) e (same_next call q)
 
-  Reverses-kept : (s : Share) (d : DrainValue) (up down : ℕ) (call : Call) → AllByRecursion (IsPlaced places (place.Batch cpu)) s.batch → Reverses (nexts_in at) s d up down call → Reverses (nexts_in at') s d up down call
+  Reverses-kept : (s : Share) (d : DrainValue) (up down : ℕ) (call : Call) → AllPlaced places (place.Batch cpu) s.batch
+      → Reverses (nexts_in at) s d up down call → Reverses (nexts_in at') s d up down call
   Reverses-kept s d up down call b h =
-      let all = reverses_all (IsPlaced places (place.Batch cpu)) (nexts_in at) s d up down call h b in
+      let all = reverses_all (IsPlaced places (place.Batch cpu)) h b in
       let newer = every_right (IsPlaced places (place.Batch cpu)) h.older (call ∷ h.newer) all in
       record {
         older = h.older;
         newer = h.newer;
         whole = h.whole;
-        leads_down = Leads-kept (nexts_in at) (nexts_in at') (IsPlaced places (place.Batch cpu)) same_next down h.older 0 (every_left (IsPlaced places (place.Batch cpu)) h.older (call ∷ h.newer) all) h.leads_down;
+        leads_down = Leads-kept (nexts_in at) (nexts_in at') (IsPlaced places (place.Batch cpu)) same_next down h.older 0
+            (every_left (IsPlaced places (place.Batch cpu)) h.older (call ∷ h.newer) all) h.leads_down;
         leads_up = Path-kept (nexts_in at) (nexts_in at') (IsPlaced places (place.Batch cpu)) same_next up h.newer 0 newer.1 h.leads_up;
         apart = h.apart;
         counted = h.counted;
@@ -113,21 +118,25 @@ module _ (cpu : ℕ) (places places' : ℕ → RecPlace) (at at' : Word → ℕ)
         accepted = h.accepted;
       }
 
-  reversed_next : (s : Share) (d : DrainValue) (up down : ℕ) (call : Call) (id : ℕ) → call.id ≡ id → AllByRecursion (IsPlaced places (place.Batch cpu)) s.batch → Reverses (nexts_in at) s d up down call → at' (Next id) ≡ at (Next id)
+  reversed_next : (s : Share) (d : DrainValue) (up down : ℕ) (call : Call) (id : ℕ) → call.id ≡ id → AllPlaced places (place.Batch cpu) s.batch
+      → Reverses (nexts_in at) s d up down call → at' (Next id) ≡ at (Next id)
   reversed_next s d up down call id e b h =
-      let all = reverses_all (IsPlaced places (place.Batch cpu)) (nexts_in at) s d up down call h b in
+      let all = reverses_all (IsPlaced places (place.Batch cpu)) h b in
       let newer = every_right (IsPlaced places (place.Batch cpu)) h.older (call ∷ h.newer) all in
       next_of id call e newer.0
 
-  Walks-kept : (s : Share) (d : DrainValue) (walk : Walk) (here : ℕ) (front rest : List Call) (running : Running) → AllByRecursion (IsPlaced places (place.Batch cpu)) s.batch → Walks (nexts_in at) s d walk here front rest running → Walks (nexts_in at') s d walk here front rest running
+  Walks-kept : (s : Share) (d : DrainValue) (walk : Walk) (here : ℕ) (front rest : List Call) (running : Running) → AllPlaced places (place.Batch cpu) s.batch
+      → Walks (nexts_in at) s d walk here front rest running → Walks (nexts_in at') s d walk here front rest running
   Walks-kept s d walk here front rest running b h = record {
     passed = h.passed;
     begun = h.begun;
     whole = h.whole;
     begun_are = h.begun_are;
-    leads_here = Path-kept (nexts_in at) (nexts_in at') (IsPlaced places (place.Batch cpu)) same_next (link_to walk.first) (async_calls h.passed) here (walks_passed (IsPlaced places (place.Batch cpu)) (nexts_in at) s d walk here front rest running h b) h.leads_here;
+    leads_here = Path-kept (nexts_in at) (nexts_in at') (IsPlaced places (place.Batch cpu)) same_next (link_to walk.first) (async_calls h.passed) here
+        (walks_passed (IsPlaced places (place.Batch cpu)) h b) h.leads_here;
     ends_at = h.ends_at;
-    leads_on = Path-kept (nexts_in at) (nexts_in at') (IsPlaced places (place.Batch cpu)) same_next here rest 0 (walks_rest (IsPlaced places (place.Batch cpu)) (nexts_in at) s d walk here front rest running h b) h.leads_on;
+    leads_on = Path-kept (nexts_in at) (nexts_in at') (IsPlaced places (place.Batch cpu)) same_next here rest 0
+        (walks_rest (IsPlaced places (place.Batch cpu)) h b) h.leads_on;
     apart = h.apart;
     counted = h.counted;
     batch = h.batch;
@@ -135,17 +144,20 @@ module _ (cpu : ℕ) (places places' : ℕ → RecPlace) (at at' : Word → ℕ)
     accepted = h.accepted;
   }
 
-  walked_next : (s : Share) (d : DrainValue) (walk : Walk) (id : ℕ) (call : Call) (rest : List Call) → AllByRecursion (IsPlaced places (place.Batch cpu)) s.batch → Walks (nexts_in at) s d walk (id + 1) [] (call ∷ rest) Nothing → at' (Next id) ≡ at (Next id)
+  walked_next : (s : Share) (d : DrainValue) (walk : Walk) (id : ℕ) (call : Call) (rest : List Call) → AllPlaced places (place.Batch cpu) s.batch
+      → Walks (nexts_in at) s d walk (id + 1) [] (call ∷ rest) Nothing → at' (Next id) ≡ at (Next id)
   walked_next s d walk id call rest b h =
-      let all = walks_rest (IsPlaced places (place.Batch cpu)) (nexts_in at) s d walk (id + 1) [] (call ∷ rest) Nothing h b in
+      let all = walks_rest (IsPlaced places (place.Batch cpu)) h b in
       next_of id call (same_record id call h.leads_on.0) all.0
 
-  Ends-kept : (s : Share) (d : DrainValue) (here : ℕ) (front rest : List Call) (running : Running) → AllByRecursion (IsPlaced places (place.Batch cpu)) s.batch → Ends (nexts_in at) s d here front rest running → Ends (nexts_in at') s d here front rest running
+  Ends-kept : (s : Share) (d : DrainValue) (here : ℕ) (front rest : List Call) (running : Running) → AllPlaced places (place.Batch cpu) s.batch
+      → Ends (nexts_in at) s d here front rest running → Ends (nexts_in at') s d here front rest running
   Ends-kept s d here front rest running b h = record {
     begun = h.begun;
     whole = h.whole;
     apart = h.apart;
-    leads_on = Path-kept (nexts_in at) (nexts_in at') (IsPlaced places (place.Batch cpu)) same_next here rest 0 (ends_rest (IsPlaced places (place.Batch cpu)) (nexts_in at) s d here front rest running h b) h.leads_on;
+    leads_on = Path-kept (nexts_in at) (nexts_in at') (IsPlaced places (place.Batch cpu)) same_next here rest 0
+        (ends_rest (IsPlaced places (place.Batch cpu)) h b) h.leads_on;
     asyncs = h.asyncs;
     counted = h.counted;
     batch = h.batch;
@@ -153,12 +165,14 @@ module _ (cpu : ℕ) (places places' : ℕ → RecPlace) (at at' : Word → ℕ)
     accepted = h.accepted;
   }
 
-  ended_next : (s : Share) (d : DrainValue) (id : ℕ) (call : Call) (rest : List Call) → AllByRecursion (IsPlaced places (place.Batch cpu)) s.batch → Ends (nexts_in at) s d (id + 1) [] (call ∷ rest) Nothing → at' (Next id) ≡ at (Next id)
+  ended_next : (s : Share) (d : DrainValue) (id : ℕ) (call : Call) (rest : List Call) → AllPlaced places (place.Batch cpu) s.batch
+      → Ends (nexts_in at) s d (id + 1) [] (call ∷ rest) Nothing → at' (Next id) ≡ at (Next id)
   ended_next s d id call rest b h =
-      let all = ends_rest (IsPlaced places (place.Batch cpu)) (nexts_in at) s d (id + 1) [] (call ∷ rest) Nothing h b in
+      let all = ends_rest (IsPlaced places (place.Batch cpu)) h b in
       next_of id call (same_record id call h.leads_on.0) all.0
 
-  HandleStands-kept : (s : Share) (d : DrainValue) (stage : HandleStage) → AllByRecursion (IsPlaced places (place.Batch cpu)) s.batch → HandleStands (nexts_in at) s d stage → HandleStands (nexts_in at') s d stage
+  HandleStands-kept : (s : Share) (d : DrainValue) (stage : HandleStage) → AllPlaced places (place.Batch cpu) s.batch → HandleStands (nexts_in at) s d stage
+      → HandleStands (nexts_in at') s d stage
   HandleStands-kept s d (handle.ReverseLoad newer id) b h =
       (h.0, rw (reversed_next s d (link_to newer) (at (Next id)) h.0 id h.2 b h.1) (Reverses-kept s d (link_to newer) (at (Next id)) h.0 b h.1), h.2)
   HandleStands-kept s d (handle.ReverseStore newer id older) b h =
@@ -173,20 +187,22 @@ module _ (cpu : ℕ) (places places' : ℕ → RecPlace) (at at' : Word → ℕ)
   HandleStands-kept s d (handle.Unlink walk last call next) b h =
       (h.0, Walks-kept s d walk (call.id + 1) [] (call ∷ h.0) Nothing b h.1, walked_next s d walk call.id call h.0 b h.1 ∙ h.2, h.3, h.4)
   HandleStands-kept s d (handle.BeginSync walk call next) b h =
-      let front = walks_front (IsPlaced places (place.Batch cpu)) (nexts_in at) s d walk (link_to next) (call ∷ []) h.0 Nothing h.1 b in
+      let front = walks_front (IsPlaced places (place.Batch cpu)) h.1 b in
       (h.0, Walks-kept s d walk (link_to next) (call ∷ []) h.0 Nothing b h.1, same_next call front.0 ∙ h.2)
   HandleStands-kept s d (handle.CountSync walk call next) b h = (h.0, Walks-kept s d walk (link_to next) [] h.0 (SyncCall call) b h.1)
   HandleStands-kept s d (handle.EndSync walk call next) b h = (h.0, Walks-kept s d walk (link_to next) [] h.0 (CountedCall call) b h.1)
   HandleStands-kept s d (handle.AsyncNext id) b h = (h.0, h.1, Ends-kept s d (id + 1) [] (h.0 ∷ h.1) Nothing b h.2)
   HandleStands-kept s d (handle.AsyncFunc id next) b h = (h.0, h.1, Ends-kept s d (id + 1) [] (h.0 ∷ h.1) Nothing b h.2, ended_next s d id h.0 h.1 b h.2 ∙ h.3)
-  HandleStands-kept s d (handle.AsyncInfo id next func) b h = (h.0, h.1, Ends-kept s d (id + 1) [] (h.0 ∷ h.1) Nothing b h.2, ended_next s d id h.0 h.1 b h.2 ∙ h.3, h.4)
+  HandleStands-kept s d (handle.AsyncInfo id next func) b h =
+      (h.0, h.1, Ends-kept s d (id + 1) [] (h.0 ∷ h.1) Nothing b h.2, ended_next s d id h.0 h.1 b h.2 ∙ h.3, h.4)
   HandleStands-kept s d (handle.BeginAsync call next) b h =
-      let front = ends_front (IsPlaced places (place.Batch cpu)) (nexts_in at) s d (link_to next) (call ∷ []) h.0 Nothing h.1 b in
+      let front = ends_front (IsPlaced places (place.Batch cpu)) h.1 b in
       (h.0, Ends-kept s d (link_to next) (call ∷ []) h.0 Nothing b h.1, same_next call front.0 ∙ h.2)
   HandleStands-kept s d (handle.CountAsync call next) b h = (h.0, Ends-kept s d (link_to next) [] h.0 (AsyncCall call) b h.1, h.2)
   HandleStands-kept s d _ b h = h
 
-  StandsAt-kept : (s : Share) (d : DrainValue) (stage : Option Stage) → AllByRecursion (IsPlaced places (place.Batch cpu)) s.batch → StandsAt places at s d cpu stage → StandsAt places' at' s d cpu stage
+  StandsAt-kept : (s : Share) (d : DrainValue) (stage : Option Stage) → AllPlaced places (place.Batch cpu) s.batch → StandsAt places at s d cpu stage
+      → StandsAt places' at' s d cpu stage
   StandsAt-kept s d (Some (Post p stage)) b h =
       let k = h.1 in
       (h.0, record { owned = k.owned; is_call = k.is_call; me_in_range = k.me_in_range; goes = k.goes; knows = PostKnows-kept p stage k.owned k.knows })
@@ -194,5 +210,5 @@ module _ (cpu : ℕ) (places places' : ℕ → RecPlace) (at at' : Word → ℕ)
   StandsAt-kept s d _ b h = h
 
   -- a CPU to which a step leaves its records stands where it stood
-  pub Stands-kept : (s : Share) (c : ControlValue) → AllByRecursion (IsPlaced places (place.Batch cpu)) s.batch → Stands places at s cpu c → Stands places' at' s cpu c
+  pub Stands-kept : (s : Share) (c : ControlValue) → AllPlaced places (place.Batch cpu) s.batch → Stands places at s cpu c → Stands places' at' s cpu c
   Stands-kept s c b h = StandsAt-kept s c.drain c.stage b h

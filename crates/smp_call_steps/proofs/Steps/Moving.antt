@@ -3,11 +3,10 @@ use Rattle.std.proofs.Common.{◌≡◌, ◌≢◌, ℕ, inl, inr, Bool, cond, O
 use Rattle.std.specs.List.{AllByRecursion}
 use Rattle.smp_words.specs.Put.{put}
 use Rattle.smp_call_steps.specs.Calls.{Holding, Running}
-use Rattle.smp_call_steps.specs.Places.{IsAbsent, IsApart, HasRecord, IsPlaced, IsThere, Placed, locked_by}
+use Rattle.smp_call_steps.specs.Places.{IsAbsent, IsApart, HasRecord, IsPlaced, IsThere, Placed, locked_by, AllPlaced}
 use Rattle.smp_call_steps.specs.Words.{FlagsShow, IsWritten, Written}
-use Rattle.smp_words.proofs.Puts.{at_test}
+use Rattle.smp_words.proofs.Puts.{at_test, test_else}
 use Rattle.smp_call_steps.proofs.Basics.Alls.{every, every_both}
-use Rattle.smp_call_steps.proofs.Steps.Turns.{put_else}
 use Rattle.smp_call_steps.specs.Names.{Call, RecPlace}
 use Rattle.smp_call_steps.specs.Names.place
 
@@ -46,7 +45,8 @@ else_by_place places u id p q there here ne e = ne (sym there ∙ (ap places e �
 
 -- where a record is said to be, once another has moved
 there_still : (held : ℕ → Option Holding) (queue batch batch' : ℕ → List Call) (running running' : ℕ → Running) (u : ℕ) (p : RecPlace) →
-    ((cpu : ℕ) → HasRecord u (batch cpu) → HasRecord u (batch' cpu)) → ((cpu : ℕ) → HasRecord u (locked_by (running cpu)) → HasRecord u (locked_by (running' cpu))) →
+    ((cpu : ℕ) → HasRecord u (batch cpu) → HasRecord u (batch' cpu))
+        → ((cpu : ℕ) → HasRecord u (locked_by (running cpu)) → HasRecord u (locked_by (running' cpu))) →
     IsThere held queue batch running u p → IsThere held queue batch' running' u p
 there_still held queue batch batch' running running' u place.Free in_batch runs h = tt
 there_still held queue batch batch' running running' u place.Held in_batch runs h = h
@@ -56,25 +56,27 @@ there_still held queue batch batch' running running' u (place.Running cpu) in_ba
 
 module _ (places : ℕ → RecPlace) (id : ℕ) (from to : RecPlace) (here : places id ≡ from) where
   pub place_else : (u : ℕ) → u ≢ id → put places id to u ≡ places u
-  place_else u ne = put_else u id to (places u) ne
+  place_else u ne = test_else u id to (places u) ne
 
   -- a call by another record is where it was
   pub placed_still : (p : RecPlace) (call : Call) → call.id ≢ id → IsPlaced places p call → IsPlaced (put places id to) p call
   placed_still p call ne h = record { is_call = h.is_call; placed = place_else call.id ne ∙ h.placed }
 
   -- calls at another place are where they were
-  pub all_placed_still : (p : RecPlace) (calls : List Call) → p ≢ from → AllByRecursion (IsPlaced places p) calls → AllByRecursion (IsPlaced (put places id to) p) calls
-  all_placed_still p calls ne h = every (IsPlaced places p) (IsPlaced (put places id to) p) (λ call k. placed_still p call (else_by_place places call.id id p from k.placed here ne) k) calls h
+  pub all_placed_still : (p : RecPlace) (calls : List Call) → p ≢ from → AllPlaced places p calls → AllPlaced (put places id to) p calls
+  all_placed_still p calls ne h = every (IsPlaced places p) (IsPlaced (put places id to) p)
+      (λ call k. placed_still p call (else_by_place places call.id id p from k.placed here ne) k) calls h
 
   -- and so are calls by other records
-  pub all_placed_apart : (p : RecPlace) (calls : List Call) → IsAbsent id calls → AllByRecursion (IsPlaced places p) calls → AllByRecursion (IsPlaced (put places id to) p) calls
-  all_placed_apart p calls absent h = every_both (λ call. call.id ≢ id) (IsPlaced places p) (IsPlaced (put places id to) p) (λ call ne k. placed_still p call ne k) calls absent h
+  pub all_placed_apart : (p : RecPlace) (calls : List Call) → IsAbsent id calls → AllPlaced places p calls → AllPlaced (put places id to) p calls
+  all_placed_apart p calls absent h = every_both (λ call. call.id ≢ id) (IsPlaced places p) (IsPlaced (put places id to) p)
+      (λ call ne k. placed_still p call ne k) calls absent h
 
   module _ (held : ℕ → Option Holding) (queue batch batch' : ℕ → List Call) (running running' : ℕ → Running) (confirmed : ℕ → ℕ → Bool) where
     -- the place law after a record has left a batch or the call that runs
     pub placed_moved : from ≢ place.Free → ((cpu : ℕ) → place.Queued cpu ≢ from) → Placed places held queue batch running confirmed →
-        ((cpu : ℕ) → AllByRecursion (IsPlaced (put places id to) (place.Batch cpu)) (batch' cpu)) →
-        ((cpu : ℕ) → AllByRecursion (IsPlaced (put places id to) (place.Running cpu)) (locked_by (running' cpu))) →
+        ((cpu : ℕ) → AllPlaced (put places id to) (place.Batch cpu) (batch' cpu)) →
+        ((cpu : ℕ) → AllPlaced (put places id to) (place.Running cpu) (locked_by (running' cpu))) →
         ((cpu : ℕ) → IsApart (batch' cpu)) →
         IsThere held queue batch' running' id to →
         ((u cpu : ℕ) → u ≢ id → HasRecord u (batch cpu) → HasRecord u (batch' cpu)) →
@@ -100,16 +102,21 @@ module _ (places : ℕ → RecPlace) (id : ℕ) (from to : RecPlace) (here : pla
     written_still call ne w = record { flags_are = same call.id ne ∙ w.flags_are; func_is = w.func_is; info_is = w.info_is }
 
     -- the words of calls at another place are what they were
-    pub all_written_still : (p : RecPlace) (calls : List Call) → p ≢ from → AllByRecursion (IsPlaced places p) calls → AllByRecursion (IsWritten flags funcs infos) calls → AllByRecursion (IsWritten flags' funcs infos) calls
+    pub all_written_still : (p : RecPlace) (calls : List Call) → p ≢ from → AllPlaced places p calls → AllByRecursion (IsWritten flags funcs infos) calls
+        → AllByRecursion (IsWritten flags' funcs infos) calls
     all_written_still p calls ne h k =
-        every_both (IsPlaced places p) (IsWritten flags funcs infos) (IsWritten flags' funcs infos) (λ call there w. written_still call (else_by_place places call.id id p from there.placed here ne) w) calls h k
+        every_both (IsPlaced places p) (IsWritten flags funcs infos) (IsWritten flags' funcs infos)
+            (λ call there w. written_still call (else_by_place places call.id id p from there.placed here ne) w) calls h k
 
     -- and so are those of calls by other records
-    pub all_written_apart : (calls : List Call) → IsAbsent id calls → AllByRecursion (IsWritten flags funcs infos) calls → AllByRecursion (IsWritten flags' funcs infos) calls
-    all_written_apart calls absent k = every_both (λ call. call.id ≢ id) (IsWritten flags funcs infos) (IsWritten flags' funcs infos) written_still calls absent k
+    pub all_written_apart : (calls : List Call) → IsAbsent id calls → AllByRecursion (IsWritten flags funcs infos) calls
+        → AllByRecursion (IsWritten flags' funcs infos) calls
+    all_written_apart calls absent k = every_both (λ call. call.id ≢ id) (IsWritten flags funcs infos)
+        (IsWritten flags' funcs infos) written_still calls absent k
 
     -- the words after it
-    pub written_moved : (held : ℕ → Option Holding) (queue batch batch' : ℕ → List Call) (running running' : ℕ → Running) (confirmed : ℕ → ℕ → Bool) → ((cpu : ℕ) → place.Queued cpu ≢ from) →
+    pub written_moved : (held : ℕ → Option Holding) (queue batch batch' : ℕ → List Call) (running running' : ℕ → Running) (confirmed : ℕ → ℕ → Bool)
+        → ((cpu : ℕ) → place.Queued cpu ≢ from) →
         Placed places held queue batch running confirmed → Written flags funcs infos places queue batch running → FlagsShow to (flags' id) →
         ((cpu : ℕ) → AllByRecursion (IsWritten flags' funcs infos) (batch' cpu)) →
         ((cpu : ℕ) → AllByRecursion (IsWritten flags' funcs infos) (locked_by (running' cpu))) →

@@ -6,8 +6,9 @@ use Rattle.smp_words.specs.Put.{put}
 use Rattle.smp_words.specs.Size.{owner}
 use Rattle.smp_call_steps.specs.Calls.{CallState, Holding}
 use Rattle.smp_call_steps.specs.Stages.{ControlValue}
-use Rattle.smp_call_steps.specs.Places.{Placed, IsPlaced, IsThere, Holds, locked_by}
-use Rattle.smp_call_steps.specs.Words.{Written, IsWritten, FlagsShow, Chained, Linked, LinkIs, Noticed, flags_in, funcs_in, infos_in, nexts_in, heads_in, intrs_in, queued_in, ran_in}
+use Rattle.smp_call_steps.specs.Places.{Placed, IsPlaced, IsThere, Holds, locked_by, AllPlaced}
+use Rattle.smp_call_steps.specs.Words.{Written, IsWritten, FlagsShow, Chained, Linked, LinkIs, Noticed, flags_in, funcs_in, infos_in, nexts_in, heads_in}
+use Rattle.smp_call_steps.specs.Words.{intrs_in, queued_in, ran_in, IsWrittenIn, WrittenIn}
 use Rattle.smp_call_steps.specs.Histories.{Tallied}
 use Rattle.smp_call_steps.specs.Stands.{Stands, StandsAt, share_of, held_of, held_of_post, HandIs}
 use Rattle.smp_call_steps.specs.Shows.{Shows}
@@ -18,20 +19,15 @@ use Rattle.smp_call_steps.specs.Names.{Call, Word, Head, Intr, Hand, Flags, RecP
 use Rattle.smp_call_steps.specs.Names.place
 use Rattle.smp_call_steps.specs.Names.post
 
-pub put_other : {A : Type 0} (f : ℕ → A) (i : ℕ) (v : A) (j : ℕ) → j ≢ i → put f i v j ≡ f j
-put_other f i v j ne = at_test j i (λ b. cond b v (f j) ≡ f j) (λ e. absurd (ne e)) (λ _. refl)
-
-pub put_same : {A : Type 0} (f : ℕ → A) (i : ℕ) (v : A) → put f i v i ≡ v
-put_same f i v = at_test i i (λ b. cond b v (f i) ≡ v) (λ _. refl) (λ ne. absurd (ne refl))
-
 -- the record of a post that holds it
 pub post_holds : (p : Posting) (st : PostStage) (u : ℕ) → Holds (held_of_post p st) u → u ≡ p.id
 post_holds p post.LoadFlags u h = absurd h
 post_holds p post.Lock u h = absurd h
 post_holds p _ u h = sym h
 
-module _ (a : CallState) (at : Word → ℕ) (control : ℕ → ControlValue) (s : Shows a at control) where
-  stage_owns : (places : ℕ → RecPlace) (cpu u : ℕ) (stage : Option Stage) (c : ControlValue) → StandsAt places at (share_of a cpu) c.drain cpu stage → Holds (held_of stage) u → owner u ≡ cpu
+module _ {a : CallState} {at : Word → ℕ} {control : ℕ → ControlValue} (s : Shows a at control) where
+  stage_owns : (places : ℕ → RecPlace) (cpu u : ℕ) (stage : Option Stage) (c : ControlValue) → StandsAt places at (share_of a cpu) c.drain cpu stage
+      → Holds (held_of stage) u → owner u ≡ cpu
   stage_owns places cpu u (Some (Post p st)) c h k = let post = h.1 in ap owner (post_holds p st u k) ∙ post.owned
   stage_owns places cpu u _ c h k = absurd k
 
@@ -71,7 +67,8 @@ pub record KeepsCpus (at at' : Word → ℕ) : Type 0 where
   pub hand : (cpu : ℕ) → at' (Hand cpu) ≡ at (Hand cpu)
 
 -- what a step on an own record does
-pub record OwnStep (a : CallState) (at at' : Word → ℕ) (control : ℕ → ControlValue) (me id : ℕ) (next : ControlValue) (places' : ℕ → RecPlace) (held' : ℕ → Option Holding) (linked' : ℕ → Option ℕ) : Type 0 where
+pub record OwnStep (a : CallState) (at at' : Word → ℕ) (control : ℕ → ControlValue) (me id : ℕ) (next : ControlValue) (places' : ℕ → RecPlace)
+    (held' : ℕ → Option Holding) (linked' : ℕ → Option ℕ) : Type 0 where
   pub touches : Touches id a.place places' at at'
   pub keeps : KeepsCpus at at'
   pub owned : owner id ≡ me
@@ -87,21 +84,25 @@ pub record OwnStep (a : CallState) (at at' : Word → ℕ) (control : ℕ → Co
   pub stands : Stands places' at' (share_of a me) me next
   pub hand : HandIs next.stage (at' (Hand me))
 
-module _ (a : CallState) (at at' : Word → ℕ) (control : ℕ → ControlValue) (me id : ℕ) (next : ControlValue) (places' : ℕ → RecPlace) (held' : ℕ → Option Holding) (linked' : ℕ → Option ℕ)
+module _ (a : CallState) (at at' : Word → ℕ) (control : ℕ → ControlValue) (me id : ℕ) (next : ControlValue) (places' : ℕ → RecPlace)
+    (held' : ℕ → Option Holding) (linked' : ℕ → Option ℕ)
     (s : Shows a at control) (o : OwnStep a at at' control me id next places' held' linked') where
   -- a record at a place that is no home is another one
   elsewhere : (u : ℕ) (p : RecPlace) → a.place u ≡ p → (IsHome p → ⊥) → u ≢ id
   elsewhere u p e away f = away (subst IsHome (sym (ap a.place f) ∙ e) o.before)
 
-  placed_else : (p : RecPlace) → (IsHome p → ⊥) → (calls : List Call) → AllByRecursion (IsPlaced a.place p) calls → AllByRecursion (IsPlaced places' p) calls
-  placed_else p away = every (IsPlaced a.place p) (IsPlaced places' p) (λ call q. record { is_call = q.is_call; placed = o.touches.place_stays call.id (elsewhere call.id p q.placed away) ∙ q.placed })
+  placed_else : (p : RecPlace) → (IsHome p → ⊥) → (calls : List Call) → AllPlaced a.place p calls → AllPlaced places' p calls
+  placed_else p away = every (IsPlaced a.place p) (IsPlaced places' p)
+      (λ call q. record { is_call = q.is_call; placed = o.touches.place_stays call.id (elsewhere call.id p q.placed away) ∙ q.placed })
 
-  written_else : (p : RecPlace) → (IsHome p → ⊥) → (calls : List Call) → AllByRecursion (IsPlaced a.place p) calls → AllByRecursion (IsWritten (flags_in at) (funcs_in at) (infos_in at)) calls → AllByRecursion (IsWritten (flags_in at') (funcs_in at') (infos_in at')) calls
+  written_else : (p : RecPlace) → (IsHome p → ⊥) → (calls : List Call) → AllPlaced a.place p calls → AllByRecursion (IsWrittenIn at) calls
+      → AllByRecursion (IsWrittenIn at') calls
   written_else p away [] q w = tt
   written_else p away (call ∷ rest) q w =
       let placed = q.0 in let written = w.0 in
       let ne = elsewhere call.id p placed.placed away in
-      (record { flags_are = o.touches.flags call.id ne ∙ written.flags_are; func_is = o.touches.func call.id ne ∙ written.func_is; info_is = o.touches.info call.id ne ∙ written.info_is }, written_else p away rest q.1 w.1)
+      (record { flags_are = o.touches.flags call.id ne ∙ written.flags_are; func_is = o.touches.func call.id ne ∙ written.func_is;
+          info_is = o.touches.info call.id ne ∙ written.info_is }, written_else p away rest q.1 w.1)
 
   away_queue : (cpu : ℕ) → IsHome (place.Queued cpu) → ⊥
   away_queue cpu h = home_queue (place.Queued cpu) cpu h refl
@@ -145,7 +146,7 @@ module _ (a : CallState) (at at' : Word → ℕ) (control : ℕ → ControlValue
     ];
   }
 
-  written' : Written (flags_in at') (funcs_in at') (infos_in at') places' a.queue a.batch a.running
+  written' : WrittenIn at' places' a.queue a.batch a.running
   written' = record {
     locks = λ u. elim (cases_eq u id) [
       | inl e ↦ subst (λ (k : ℕ). FlagsShow (places' k) (at' (Flags k))) (sym e) o.flags
@@ -158,14 +159,19 @@ module _ (a : CallState) (at at' : Word → ℕ) (control : ℕ → ControlValue
 
   chained' : Chained (heads_in at') (nexts_in at') a.queue
   chained' = record {
-    chain = λ cpu. rw (o.keeps.head cpu) (Leads-kept (nexts_in at) (nexts_in at') (IsPlaced a.place (place.Queued cpu)) (λ call q. o.touches.next call.id (elsewhere call.id (place.Queued cpu) q.placed (away_queue cpu))) (at (Head cpu)) (a.queue cpu) 0 (s.placed.queued cpu) (s.chained.chain cpu));
+    chain =
+        λ cpu. rw (o.keeps.head cpu) (Leads-kept (nexts_in at) (nexts_in at') (IsPlaced a.place (place.Queued cpu))
+        (λ call q. o.touches.next call.id (elsewhere call.id (place.Queued cpu) q.placed (away_queue cpu))) (at (Head cpu)) (a.queue cpu) 0
+        (s.placed.queued cpu) (s.chained.chain cpu));
   }
 
   links' : Linked (nexts_in at') held' linked'
   links' = record {
     held_links = λ cpu. elim (cases_eq cpu me) [
       | inl e ↦ subst (λ (k : ℕ). LinkIs (nexts_in at') (held' k) (linked' k)) (sym e) o.my_link
-      | inr ne ↦ rw (o.others_held cpu ne, o.others_linked cpu ne) (LinkIs-kept (nexts_in at) (nexts_in at') (a.held cpu) (a.linked cpu) (λ u h. o.touches.next u (λ e. ne (sym (holder_owns a at control s cpu u h) ∙ (ap owner e ∙ o.owned)))) (s.links.held_links cpu))
+      | inr ne ↦ rw (o.others_held cpu ne, o.others_linked cpu ne)
+          (LinkIs-kept (nexts_in at) (nexts_in at') (a.held cpu) (a.linked cpu)
+          (λ u h. o.touches.next u (λ e. ne (sym (holder_owns s cpu u h) ∙ (ap owner e ∙ o.owned)))) (s.links.held_links cpu))
     ];
   }
 
@@ -176,7 +182,8 @@ module _ (a : CallState) (at at' : Word → ℕ) (control : ℕ → ControlValue
   own_step = record {
     held = λ cpu. at_test cpu me (λ b. held' cpu ≡ held_of (cond b next (control cpu)).stage) (λ e. rw e o.my_held) (λ ne. o.others_held cpu ne ∙ s.held cpu);
     stands = put_all (λ cpu x. Stands places' at' (share_of a cpu) cpu x) control me next o.stands
-        (λ cpu ne. Stands-kept cpu a.place places' at at' (leaves_others me id a.place places' at at' (home_minds me id (a.place id) o.owned o.before) o.touches cpu ne) (share_of a cpu) (control cpu) (s.placed.batched cpu) (s.stands cpu));
+        (λ cpu ne. Stands-kept (leaves_others me id a.place places' at at' (home_minds me id (a.place id) o.owned o.before) o.touches cpu ne) (share_of a cpu)
+            (control cpu) (s.placed.batched cpu) (s.stands cpu));
     hands = put_all (λ cpu (x : ControlValue). HandIs x.stage (at' (Hand cpu))) control me next o.hand (λ cpu _. rw (o.keeps.hand cpu) (s.hands cpu));
     placed = placed';
     written = written';

@@ -17,8 +17,10 @@ passed_async : (passed : List Call) (call : Call) → call.class ≡ Async → a
 passed_async passed call e = async_calls-push passed call ∙ ap (λ (c : Class). async_calls passed ++ if_async c call) e
 
 -- a SYNC record is out of the chain, and its call begins next
-pub passes_sync : (nexts nexts' : ℕ → ℕ) (s : Share) (d : DrainValue) (walk walk' : Walk) (next : Option ℕ) (call : Call) (rest : List Call) → (h : Walks nexts s d walk (call.id + 1) [] (call ∷ rest) Nothing) → call.class ≡ Sync →
-    Path nexts' (link_to walk'.first) (async_calls h.passed) (link_to next) → EndsAt walk'.last (async_calls h.passed) → Path nexts' (link_to next) rest 0 → Walks nexts' s d walk' (link_to next) (call ∷ []) rest Nothing
+pub passes_sync : (nexts nexts' : ℕ → ℕ) (s : Share) (d : DrainValue) (walk walk' : Walk) (next : Option ℕ) (call : Call) (rest : List Call)
+    → (h : Walks nexts s d walk (call.id + 1) [] (call ∷ rest) Nothing) → call.class ≡ Sync →
+    Path nexts' (link_to walk'.first) (async_calls h.passed) (link_to next) → EndsAt walk'.last (async_calls h.passed) → Path nexts' (link_to next) rest 0
+        → Walks nexts' s d walk' (link_to next) (call ∷ []) rest Nothing
 passes_sync nexts nexts' s d walk walk' next call rest h e here ends on = record {
   passed = h.passed ++ call ∷ [];
   begun = sync_calls h.passed;
@@ -35,7 +37,8 @@ passes_sync nexts nexts' s d walk walk' next call rest h e here ends on = record
 }
 
 -- an ASYNC record stays in it
-passes_async : (nexts : ℕ → ℕ) (s : Share) (d : DrainValue) (walk : Walk) (id : ℕ) (next : Option ℕ) (call : Call) (rest : List Call) → (h : Walks nexts s d walk (id + 1) [] (call ∷ rest) Nothing) → nexts id ≡ link_to next → call.class ≡ Async →
+passes_async : (nexts : ℕ → ℕ) (s : Share) (d : DrainValue) (walk : Walk) (id : ℕ) (next : Option ℕ) (call : Call) (rest : List Call)
+    → (h : Walks nexts s d walk (id + 1) [] (call ∷ rest) Nothing) → nexts id ≡ link_to next → call.class ≡ Async →
     Walks nexts s d (record { first = walk.first; last = Some id }) (link_to next) [] rest Nothing
 passes_async nexts s d walk id next call rest h n e =
     let same : call.id ≡ id = same_record id call h.leads_on.0 in
@@ -46,7 +49,8 @@ passes_async nexts s d walk id next call rest h n e =
       whole = h.whole ∙ sym (append_assoc h.passed (call ∷ []) rest);
       begun_are = sync_calls-push h.passed call ∙ ap (λ (c : Class). sync_calls h.passed ++ if_sync c call) e;
       leads_here = subst (λ (xs : List Call). Path nexts (link_to walk.first) xs (link_to next)) (sym (passed_async h.passed call e))
-          (Path-push nexts (link_to walk.first) (async_calls h.passed) call (link_to next) (subst (λ (k : ℕ). Path nexts (link_to walk.first) (async_calls h.passed) k) h.leads_on.0 h.leads_here) linked);
+          (Path-push nexts (link_to walk.first) (async_calls h.passed) call (link_to next)
+              (subst (λ (k : ℕ). Path nexts (link_to walk.first) (async_calls h.passed) k) h.leads_on.0 h.leads_here) linked);
       ends_at = (async_calls h.passed, call, passed_async h.passed call e, same);
       leads_on = subst (λ (k : ℕ). Path nexts k rest 0) linked h.leads_on.1;
       apart = h.apart;
@@ -57,19 +61,23 @@ passes_async nexts s d walk id next call rest h n e =
     }
 
 -- where the flags of a record lead
-pub flags_lead : (nexts : ℕ → ℕ) (s : Share) (d : DrainValue) (walk : Walk) (id : ℕ) (next : Option ℕ) (call : Call) (rest : List Call) → Walks nexts s d walk (id + 1) [] (call ∷ rest) Nothing → nexts id ≡ link_to next →
+pub flags_lead : (nexts : ℕ → ℕ) (s : Share) (d : DrainValue) (walk : Walk) (id : ℕ) (next : Option ℕ) (call : Call) (rest : List Call)
+    → Walks nexts s d walk (id + 1) [] (call ∷ rest) Nothing → nexts id ≡ link_to next →
     (class : Class) → call.class ≡ class → HandleStands nexts s d (by_class class walk id next)
 flags_lead nexts s d walk id next call rest h n Sync e = (call, rest, h, n, e)
-flags_lead nexts s d walk id next call rest h n Async e = first_goes nexts s d (record { first = walk.first; last = Some id }) next rest (passes_async nexts s d walk id next call rest h n e)
+flags_lead nexts s d walk id next call rest h n Async e =
+    first_goes nexts s d (record { first = walk.first; last = Some id }) next rest (passes_async nexts s d walk id next call rest h n e)
 
 -- where a SYNC call leads that is loaded
-pub info_leads : (nexts : ℕ → ℕ) (s : Share) (d : DrainValue) (walk : Walk) (next : Option ℕ) (call : Call) (rest : List Call) → Walks nexts s d walk (call.id + 1) [] (call ∷ rest) Nothing → nexts call.id ≡ link_to next → call.class ≡ Sync →
+pub info_leads : (nexts : ℕ → ℕ) (s : Share) (d : DrainValue) (walk : Walk) (next : Option ℕ) (call : Call) (rest : List Call)
+    → Walks nexts s d walk (call.id + 1) [] (call ∷ rest) Nothing → nexts call.id ≡ link_to next → call.class ≡ Sync →
     (last : Option ℕ) → walk.last ≡ last → HandleStands nexts s d (unlink_after last walk call next)
 info_leads nexts s d walk next call rest h n e None l =
     let none : async_calls h.passed ≡ [] = subst (λ (x : Option ℕ). EndsAt x (async_calls h.passed)) l h.ends_at in (
       rest,
       passes_sync nexts nexts s d walk (record { first = next; last = None }) next call rest h e
-          (subst (λ (xs : List Call). Path nexts (link_to next) xs (link_to next)) (sym none) refl) none (subst (λ (k : ℕ). Path nexts k rest 0) n h.leads_on.1),
+          (subst (λ (xs : List Call). Path nexts (link_to next) xs (link_to next)) (sym none) refl) none
+              (subst (λ (k : ℕ). Path nexts k rest 0) n h.leads_on.1),
       n,
     )
 info_leads nexts s d walk next call rest h n e (Some last) l = (rest, h, n, e, l)

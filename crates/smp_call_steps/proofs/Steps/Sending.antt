@@ -35,7 +35,8 @@ unlocked_free place.Free flags f e = refl
 unlocked_free _ flags f e = absurd (eqb-false (flags % 2) 1 e f)
 
 -- confirm: the source has seen its record free
-pub confirms_kept : (a : CallState) (at : Word → ℕ) (control : ℕ → ControlValue) (me id : ℕ) → a.place id ≡ place.Free → Shows a at control → Shows (confirms a me id) at control
+pub confirms_kept : (a : CallState) (at : Word → ℕ) (control : ℕ → ControlValue) (me id : ℕ) → a.place id ≡ place.Free → Shows a at control
+    → Shows (confirms a me id) at control
 confirms_kept a at control me id free s = record {
   held = s.held;
   stands = s.stands;
@@ -47,7 +48,9 @@ confirms_kept a at control me id free s = record {
     queue_apart = s.placed.queue_apart;
     batch_apart = s.placed.batch_apart;
     is_there = s.placed.is_there;
-    settled = λ source u o. at_test source me (λ b. cond b (put (a.confirmed me) id true) (a.confirmed source) u ≡ true → (a.place u ≡ place.Free) ⊎ Holds (a.held source) u)
+    settled =
+        λ source u o. at_test source me
+        (λ b. cond b (put (a.confirmed me) id true) (a.confirmed source) u ≡ true → (a.place u ≡ place.Free) ⊎ Holds (a.held source) u)
         (λ es. at_test u id (λ b. cond b true (a.confirmed me u) ≡ true → (a.place u ≡ place.Free) ⊎ Holds (a.held source) u)
         (λ eu _. inl (ap a.place eu ∙ free))
         (λ _ e. s.placed.settled source u o (ap (λ k. a.confirmed k u) es ∙ e)))
@@ -62,7 +65,8 @@ confirms_kept a at control me id free s = record {
 }
 
 -- the load of a flags word: where LOCK is clear, its source has it confirmed
-pub confirm_if : (a : CallState) (at : Word → ℕ) (control : ℕ → ControlValue) (me id : ℕ) (b : Bool) → (at (Flags id) % 2 == 1) ≡ b → Shows a at control → Shows (cond b a (confirms a me id)) at control
+pub confirm_if : (a : CallState) (at : Word → ℕ) (control : ℕ → ControlValue) (me id : ℕ) (b : Bool) → (at (Flags id) % 2 == 1) ≡ b → Shows a at control
+    → Shows (cond b a (confirms a me id)) at control
 confirm_if a at control me id true e s = s
 confirm_if a at control me id false e s = confirms_kept a at control me id (unlocked_free (a.place id) (at (Flags id)) (s.written.locks id) e) s
 
@@ -72,18 +76,22 @@ owed_else f me to source cpu ne o = at_test source me (λ b. cond b (put (f me) 
     (λ e. at_test cpu to (λ b. cond b false (f me cpu) ≡ true) (λ x. absurd (ne x)) (λ _. rw e at o))
     (λ _. o)
 
-noticed_still : (a : CallState) (me to cpu : ℕ) → cpu ≢ to → IsNoticed a.pending a.accepted a.owes cpu → IsNoticed (sends a me to).pending a.accepted (sends a me to).owes cpu
+noticed_still : (a : CallState) (me to cpu : ℕ) → cpu ≢ to → IsNoticed a.pending a.accepted a.owes cpu
+    → IsNoticed (sends a me to).pending a.accepted (sends a me to).owes cpu
 noticed_still a me to cpu ne (is_pending e) = is_pending (at_test cpu to (λ b. cond b true (a.pending cpu) ≡ true) (λ _. refl) (λ _. e))
 noticed_still a me to cpu ne (is_accepted e) = is_accepted e
 noticed_still a me to cpu ne (is_owed source o) = is_owed source (owed_else a.owes me to source cpu ne o)
 
 -- send: the store of an interrupt word
-pub send_kept : (a : CallState) (at : Word → ℕ) (control : ℕ → ControlValue) (me to : ℕ) (next : ControlValue) → Shows a at control → a.held me ≡ held_of next.stage →
-    Stands a.place (put_word at (Intr to) 1) (share_of a me) me next → HandIs next.stage (at (Hand me)) → Shows (sends a me to) (put_word at (Intr to) 1) (put control me next)
+pub send_kept : (a : CallState) (at : Word → ℕ) (control : ℕ → ControlValue) (me to : ℕ) (next : ControlValue) → Shows a at control
+    → a.held me ≡ held_of next.stage →
+    Stands a.place (put_word at (Intr to) 1) (share_of a me) me next → HandIs next.stage (at (Hand me))
+        → Shows (sends a me to) (put_word at (Intr to) 1) (put control me next)
 send_kept a at control me to next s held stands hand = record {
   held = put_all (λ cpu (x : ControlValue). a.held cpu ≡ held_of x.stage) control me next held (λ cpu _. s.held cpu);
   stands = put_all (λ cpu x. Stands a.place at' (share_of a cpu) cpu x) control me next stands
-      (λ cpu _. Stands-kept cpu a.place a.place at at' (leaves_all a.place at at' (λ _. refl) (λ _. refl) (λ _. refl) (λ _. refl) cpu) (share_of a cpu) (control cpu) (s.placed.batched cpu) (s.stands cpu));
+      (λ cpu _. Stands-kept (leaves_all a.place at at' (λ _. refl) (λ _. refl) (λ _. refl) (λ _. refl) cpu) (share_of a cpu) (control cpu)
+          (s.placed.batched cpu) (s.stands cpu));
   hands = put_all (λ cpu (x : ControlValue). HandIs x.stage (at (Hand cpu))) control me next hand (λ cpu _. s.hands cpu);
   placed = s.placed;
   written = s.written;

@@ -1,5 +1,5 @@
 -- What a step of one CPU leaves to all CPUs: what they hold, where they stand, and their handling words.
-use Rattle.std.proofs.Common.{◌≡◌, ◌≢◌, ℕ, ◌<◌, ◌==◌, cond, Option, Some, None, sym, subst, refl, ap, ◌∙◌}
+use Rattle.std.proofs.Common.{◌≡◌, ◌≢◌, ℕ, ◌<◌, Option, Some, None, sym, subst, ap, ◌∙◌}
 use Rattle.smp_words.specs.Size.{cpus}
 use Rattle.smp_words.specs.Put.{put}
 use Rattle.smp_call_steps.specs.Calls.{CallState}
@@ -7,23 +7,18 @@ use Rattle.smp_call_steps.specs.Stages.{ControlValue}
 use Rattle.smp_call_steps.specs.Words.{nexts_in, hands_in}
 use Rattle.smp_call_steps.specs.Stands.{Share, share_of, Stands, StandsAt, HandleStands, HandIs, held_of}
 use Rattle.smp_call_steps.specs.Shows.{Shows}
-use Rattle.smp_words.proofs.Puts.{at_test, put_all, put_both}
+use Rattle.smp_words.proofs.Puts.{put_all, put_both}
 use Rattle.smp_call_steps.proofs.Steps.Frames.{LeavesTo, Stands-kept}
 use Rattle.smp_call_steps.specs.Names.{Word, RecPlace, HandleStage, Stage, Handle}
 
-pub put_here : {A : Type 0} (i : ℕ) (v x : A) → cond (i == i) v x ≡ v
-put_here {A} i v x = at_test i i (λ b. cond b v x ≡ v) (λ _. refl) (λ ne. absurd (ne refl))
-
-pub put_else : {A : Type 0} (j i : ℕ) (v x : A) → j ≢ i → cond (j == i) v x ≡ x
-put_else {A} j i v x ne = at_test j i (λ b. cond b v x ≡ x) (λ e. absurd (ne e)) (λ _. refl)
-
-module _ (a : CallState) (at : Word → ℕ) (control : ℕ → ControlValue) (me : ℕ) (s : Shows a at control) where
+module _ {a : CallState} {at : Word → ℕ} {control : ℕ → ControlValue} (me : ℕ) (s : Shows a at control) where
   -- inside handle a CPU holds nothing
   pub holds_nothing : (stage : HandleStage) → (control me).stage ≡ Some (Handle stage) → a.held me ≡ None
   holds_nothing stage e = s.held me ∙ ap held_of e
 
   -- what holds of a CPU at a stage of handle
-  pub stands_at : (stage : HandleStage) → (control me).stage ≡ Some (Handle stage) → (me < cpus) × HandleStands (nexts_in at) (share_of a me) (control me).drain stage
+  pub stands_at : (stage : HandleStage) → (control me).stage ≡ Some (Handle stage)
+      → (me < cpus) × HandleStands (nexts_in at) (share_of a me) (control me).drain stage
   stands_at stage e = subst (λ (x : Option Stage). StandsAt a.place at (share_of a me) (control me).drain me x) e (s.stands me)
 
   pub hand_at : (stage : HandleStage) → (control me).stage ≡ Some (Handle stage) → HandIs (Some (Handle stage)) (hands_in at me)
@@ -40,7 +35,7 @@ module _ (a : CallState) (at : Word → ℕ) (control : ℕ → ControlValue) (m
   stands_after at' place' share' c same leaves here =
       put_all (λ cpu x. Stands place' at' (share' cpu) cpu x) control me c here
       (λ cpu ne. subst (λ (x : Share). Stands place' at' x cpu (control cpu)) (sym (same cpu ne))
-      (Stands-kept cpu a.place place' at at' (leaves cpu ne) (share_of a cpu) (control cpu) (s.placed.batched cpu) (s.stands cpu)))
+      (Stands-kept (leaves cpu ne) (share_of a cpu) (control cpu) (s.placed.batched cpu) (s.stands cpu)))
 
   -- a step that stores no handling word
   pub hands_after : (c : ControlValue) → HandIs c.stage (hands_in at me) → (cpu : ℕ) → HandIs (put control me c cpu).stage (hands_in at cpu)

@@ -1,5 +1,6 @@
 -- What is counted and read of the closing words, so far.
-use Rattle.std.proofs.Common.{◌≡◌, ℕ, zero, suc, ◌+◌, ◌<◌, ◌≤◌, Bool, true, false, cond, List, [], length, length-set, get_or, set, refl, ap, ◌∙◌, subst, inl, inr, arith}
+use Rattle.std.proofs.Common.{◌≡◌, ℕ, zero, suc, ◌+◌, ◌<◌, ◌≤◌, Bool, true, false, cond, List, [], length, length-set, get_or, set, refl, ap, ◌∙◌, subst, inl}
+use Rattle.std.proofs.Common.{inr, arith}
 use Rattle.std.proofs.lemmas.Bool.{cases_eq}
 use Rattle.std.proofs.lemmas.List.{get_or-set_same, get_or-set_other}
 use Rattle.std.specs.Int.{from_bool}
@@ -43,7 +44,8 @@ byte-cond true = refl
 byte-cond false = refl
 
 -- the same of a count that is kept
-pub counted_more : (test : ℕ → Bool) (n count more : ℕ) (b : Bool) → count ≡ count_below test n → more ≡ from_bool b → b ≡ test n → count + more ≡ count_below test (n + 1)
+pub counted_more : (test : ℕ → Bool) (n count more : ℕ) (b : Bool) → count ≡ count_below test n → more ≡ from_bool b → b ≡ test n
+    → count + more ≡ count_below test (n + 1)
 counted_more test n count more b e f g =
     let m : more ≡ cond (test n) 1 0 = f ∙ (byte-cond b ∙ ap (λ (t : Bool). cond {A = ℕ} t 1 0) g) in
     let c = count_more test n in
@@ -88,7 +90,8 @@ pub record ReadsRows (number : ℕ → ℕ → ℕ) (n : ℕ) (rows : List (List
   pub sized : length rows ≡ cpus
   pub each : (cpu other : ℕ) → cpu < n → other < cpus → tally_at rows cpu other ≡ number cpu other
 
-pub rows_more : (number : ℕ → ℕ → ℕ) (n : ℕ) (row : List ℕ) (rows : List (List ℕ)) → n < cpus → IsRow (number n) row → ReadsRows number n rows → ReadsRows number (n + 1) (set rows n row)
+pub rows_more : (number : ℕ → ℕ → ℕ) (n : ℕ) (row : List ℕ) (rows : List (List ℕ)) → n < cpus → IsRow (number n) row → ReadsRows number n rows
+    → ReadsRows number (n + 1) (set rows n row)
 rows_more number n row rows l e r = record {
   sized = length-set rows n row ∙ r.sized;
   each = λ cpu other below o. elim (cases_eq cpu n) [

@@ -1,5 +1,6 @@
 -- What a table that was closed with one of its seats shows.
-use Rattle.std.proofs.Common.{◌≡◌, ◌≢◌, ℕ, ◌%◌, ◌^◌, ◌<◌, ◌≤◌, ◌==◌, nat_lt, Bool, true, false, not, List, length, sym, refl, ap, ◌∙◌, arith, true≢false, inl, inr}
+use Rattle.std.proofs.Common.{◌≡◌, ◌≢◌, ℕ, ◌%◌, ◌^◌, ◌<◌, ◌≤◌, ◌==◌, nat_lt, Bool, true, false, not, List, length, sym, refl, ap, ◌∙◌, arith, true≢false, inl}
+use Rattle.std.proofs.Common.{inr}
 use mathlib.Core.Option.{some}
 use lib.ListN.{get_elem?}
 use Rattle.std.proofs.lemmas.Bool.{eqb-true, eq-eqb, ltb-true, ltb-false}
@@ -11,7 +12,8 @@ use Rattle.smp_call_steps.specs.Parts.{part_of}
 use Rattle.smp_queue.specs.Names.{Hand, Queued, Ran, Flags, Known, Part, SeatView, Maker, Cpu, Left, Audit}
 use Rattle.smp_queue.specs.Names.audit
 use Rattle.smp_call_steps.proofs.State.Drained.{Still, still_queued, still_ran, equal_tallies, all_ran, all_sent}
-use Rattle.smp_queue.specs.Audit.{Closes, Audited, AuditAnswers, HaveRun, IfDrained, AreEqual, HasRowsOf, HasZerosFrom, has_lock, has_hand, left_in, nothing_left}
+use Rattle.smp_queue.specs.Audit.{Closes, Audited, AuditAnswers, HaveRun, IfDrained, AreEqual, HasRowsOf, HasZerosFrom, has_lock, has_hand, left_in}
+use Rattle.smp_queue.specs.Audit.{nothing_left}
 use Rattle.smp_queue.specs.Cells.{number_in}
 use Rattle.smp_queue.specs.Cpu.{TableValue, cpu_of}
 use Rattle.smp_queue.specs.Seat.{SeatValue}
@@ -43,61 +45,69 @@ still words e = record {
 }
   where
     unlocked : (id : ℕ) (b : Bool) → nat_lt id records ≡ b → number_in words (Flags id) % 2 ≢ 1
-    unlocked id true t = no_lock (number_in words (Flags id)) (count_none (has_lock (number_in words)) records id (ap (λ (l : Left). l.locked) e) (ltb-true id records t))
+    unlocked id true t =
+        no_lock (number_in words (Flags id)) (count_none (has_lock (number_in words)) records id (ap (λ (l : Left). l.locked) e) (ltb-true id records t))
     unlocked id false t = let z = no_flags words id (ltb-false id records t) in λ f. (let g = f in omega arith)
 
     outside : (cpu : ℕ) (b : Bool) → nat_lt cpu cpus ≡ b → number_in words (Hand cpu) ≡ 0
-    outside cpu true t = no_number (number_in words (Hand cpu)) _ refl (count_none (has_hand (number_in words)) cpus cpu (ap (λ (l : Left). l.handling) e) (ltb-true cpu cpus t))
+    outside cpu true t =
+        no_number (number_in words (Hand cpu)) _ refl (count_none (has_hand (number_in words)) cpus cpu (ap (λ (l : Left). l.handling) e) (ltb-true cpu cpus t))
     outside cpu false t = no_hand words cpu (ltb-false cpu cpus t)
 
 -- the tallies of a table that is drained are equal
-pub drained_equal : (nr : ℕ) (v : Known) (words : List ℕ) (answer : Audit) → Closes nr v words → AuditAnswers (number_in words) answer → IfDrained answer AreEqual
-drained_equal nr v words (audit.Drained t) c a = λ source to s d. a.1.queued_are source to s d ∙ (equal_tallies c.calls (number_in words) c.controls c.shown (still words a.0) source to ∙ sym (a.1.ran_are to source d s))
+pub drained_equal : (nr : ℕ) (v : Known) (words : List ℕ) (answer : Audit) → Closes nr v words → AuditAnswers (number_in words) answer
+    → IfDrained answer AreEqual
+drained_equal nr v words (audit.Drained t) c a = λ source to s d. a.1.queued_are source to s d
+    ∙ (equal_tallies c.shown (still words a.0) source to ∙ sym (a.1.ran_are to source d s))
 drained_equal nr v words (audit.Left left) c a = tt
 
 -- a CPU's rows are those of its part
-pub drained_rows : (nr : ℕ) (d : SeatValue) (words : List ℕ) (answer : Audit) → nr ≤ cpus → Closes nr d.known words → AuditAnswers (number_in words) answer → IfDrained answer (HasRowsOf (cpu_of d))
+pub drained_rows : (nr : ℕ) (d : SeatValue) (words : List ℕ) (answer : Audit) → nr ≤ cpus → Closes nr d.known words → AuditAnswers (number_in words) answer
+    → IfDrained answer (HasRowsOf (cpu_of d))
 drained_rows nr d words (audit.Drained t) within c a = λ other below.
     let me = d.known.number in
     let b = c.below in
     let l : me < cpus = omega arith in
     let at = number_in words in
     let s = still words a.0 in (
-      a.1.queued_are me other l below ∙ (still_queued c.calls at c.controls c.shown s me other ∙ ap (λ (p : Part). length (sent_to other p.sent) % 2 ^ 64) c.sees.part),
-      a.1.ran_are me other l below ∙ (still_ran c.calls at c.controls c.shown s me other ∙ ap (λ (p : Part). length (calls_from other p.ran) % 2 ^ 64) c.sees.part),
+      a.1.queued_are me other l below ∙ (still_queued c.shown s me other ∙ ap (λ (p : Part). length (sent_to other p.sent) % 2 ^ 64) c.sees.part),
+      a.1.ran_are me other l below ∙ (still_ran c.shown s me other ∙ ap (λ (p : Part). length (calls_from other p.ran) % 2 ^ 64) c.sees.part),
     )
 drained_rows nr d words (audit.Left left) within c a = tt
 
 -- nothing was queued for or by a CPU that is not there
-pub drained_zeros : (nr : ℕ) (v : Known) (words : List ℕ) (answer : Audit) → Closes nr v words → AuditAnswers (number_in words) answer → IfDrained answer (HasZerosFrom nr)
+pub drained_zeros : (nr : ℕ) (v : Known) (words : List ℕ) (answer : Audit) → Closes nr v words → AuditAnswers (number_in words) answer
+    → IfDrained answer (HasZerosFrom nr)
 drained_zeros nr v words (audit.Drained t) c a = λ cpu other l m past. (
   a.1.queued_are cpu other l m ∙ elim past [ inl p ↦ none_queued cpu other p | inr p ↦ equal cpu other ∙ none_ran other cpu p ],
   a.1.ran_are cpu other l m ∙ elim past [ inl p ↦ none_ran cpu other p | inr p ↦ sym (equal other cpu) ∙ none_queued other cpu p ],
 )
   where
     equal : (source cpu : ℕ) → number_in words (Queued source cpu) ≡ number_in words (Ran cpu source)
-    equal = equal_tallies c.calls (number_in words) c.controls c.shown (still words a.0)
+    equal = equal_tallies c.shown (still words a.0)
 
     none : (cpu : ℕ) → nr ≤ cpu → part_of c.calls cpu ≡ part_of no_calls cpu
     none cpu p = let sees = c.absent cpu p in sees.part
 
     none_queued : (source cpu : ℕ) → nr ≤ source → number_in words (Queued source cpu) ≡ 0
-    none_queued source cpu p = still_queued c.calls (number_in words) c.controls c.shown (still words a.0) source cpu ∙ ap (λ (q : Part). length (sent_to cpu q.sent) % 2 ^ 64) (none source p)
+    none_queued source cpu p = still_queued c.shown (still words a.0) source cpu ∙ ap (λ (q : Part). length (sent_to cpu q.sent) % 2 ^ 64) (none source p)
 
     none_ran : (cpu source : ℕ) → nr ≤ cpu → number_in words (Ran cpu source) ≡ 0
-    none_ran cpu source p = still_ran c.calls (number_in words) c.controls c.shown (still words a.0) cpu source ∙ ap (λ (q : Part). length (calls_from source q.ran) % 2 ^ 64) (none cpu p)
+    none_ran cpu source p = still_ran c.shown (still words a.0) cpu source ∙ ap (λ (q : Part). length (calls_from source q.ran) % 2 ^ 64) (none cpu p)
 drained_zeros nr v words (audit.Left left) c a = tt
 
 -- all its calls have run
-drained_run : (nr : ℕ) (v : Known) (words : List ℕ) (answer : Audit) (c : Closes nr v words) → AuditAnswers (number_in words) answer → IfDrained answer (λ t. HaveRun c.calls)
+drained_run : (nr : ℕ) (v : Known) (words : List ℕ) (answer : Audit) (c : Closes nr v words) → AuditAnswers (number_in words) answer
+    → IfDrained answer (λ t. HaveRun c.calls)
 drained_run nr v words (audit.Drained t) c a =
     let at = number_in words in
     let s = still words a.0 in
-    record { taken = all_sent c.calls at c.controls c.shown s; ran = all_ran c.calls at c.controls c.shown s }
+    record { taken = all_sent c.shown s; ran = all_ran c.shown s }
 drained_run nr v words (audit.Left left) c a = tt
 
 -- what an audit tells of its table
-pub audited : (t : TableValue) (d : SeatValue) (words : List ℕ) (answer : Audit) → d.table ≡ t.table → Closes t.nr d.known words → AuditAnswers (number_in words) answer → Audited t (cpu_of d) answer
+pub audited : (t : TableValue) (d : SeatValue) (words : List ℕ) (answer : Audit) → d.table ≡ t.table → Closes t.nr d.known words
+    → AuditAnswers (number_in words) answer → Audited t (cpu_of d) answer
 audited t d words answer e c a = record {
   calls = c.calls;
   at = number_in words;

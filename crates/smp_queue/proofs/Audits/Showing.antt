@@ -12,6 +12,6 @@ is_shown d l = record {
   at = l.at;
   controls = l.controls;
   shown = l.shown;
-  confirmed_ran = confirmed_calls_ran l.calls l.at l.controls l.shown;
+  confirmed_ran = confirmed_calls_ran l.shown;
   view = λ i. record { table = d.table; number = d.known.number; part = sym l.sees.part i };
 }

@@ -1,5 +1,5 @@
 -- A CPU that tries to append a call: what it knows between two tries.
-use Rattle.std.proofs.Common.{◌≡◌, ℕ, Bool, true, Some, length, ◌%◌, ◌^◌, sym, refl, ap, ◌∙◌}
+use Rattle.std.proofs.Common.{◌≡◌, ℕ, Bool, Some, length, ◌%◌, ◌^◌, sym, refl, ap, ◌∙◌}
 use Rattle.atomic_table.specs.Seated.{TableId}
 use Rattle.smp_call_steps.specs.Histories.{sent_to}
 use Rattle.smp_call_steps.specs.Stands.{posted}
@@ -14,7 +14,7 @@ pub record Tries (table : TableId) (before seat : SeatValue) (p : Posting) : Typ
   pub table_is : seat.table ≡ table
   pub known_is : seat.known ≡ standing (counted p) post.LoadHead before.known
 
-module _ (table : TableId) (before seat : SeatValue) (p : Posting) (t : Tries table before seat p) where
+module _ {table : TableId} {before seat : SeatValue} {p : Posting} (t : Tries table before seat p) where
   pub tries_mine : IsMine table before p → IsMine table seat p
   tries_mine m = mine_moved table before seat p (standing (counted p) post.LoadHead before.known) m t.table_is t.known_is refl
 

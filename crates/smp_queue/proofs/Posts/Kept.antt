@@ -1,5 +1,6 @@
 -- What a CPU keeps between two calls stays over each of them.
-use Rattle.std.proofs.Common.{◌≡◌, ℕ, ◌+◌, ◌%◌, ◌^◌, ◌<◌, Bool, true, false, cond, Some, List, [], ◌∷◌, ◌++◌, length, get_or, set, replicate, length-set, length-append, sym, refl, ap, ◌∙◌, subst, inl, inr, arith}
+use Rattle.std.proofs.Common.{◌≡◌, ℕ, ◌+◌, ◌%◌, ◌^◌, ◌<◌, Bool, true, false, cond, List, [], ◌∷◌, ◌++◌, length, get_or, set, replicate, length-set}
+use Rattle.std.proofs.Common.{length-append, sym, refl, ap, ◌∙◌, subst, inl, inr, arith}
 use Rattle.std.proofs.lemmas.List.{append-nil, get_or-set_same, get_or-set_other, length-replicate}
 use Rattle.std.proofs.lemmas.Bool.{cases_eq}
 use Rattle.smp_words.specs.Size.{cpus, records}
@@ -12,7 +13,7 @@ use Rattle.smp_call_steps.proofs.Basics.Rows.{length-row}
 use Rattle.smp_words.proofs.Zeros.{get_or-same}
 use Rattle.smp_queue.specs.Names.{Call, Known, Posting}
 use Rattle.smp_queue.specs.Names.post
-use Rattle.smp_queue.specs.Seat.{IsCounting, uncounted, counted}
+use Rattle.smp_queue.specs.Seat.{IsCounting, uncounted}
 use Rattle.smp_queue.specs.Cpu.{IsKept}
 
 pub kept_fresh : (v : Known) (number : ℕ) → v ≡ fresh number → number < cpus → IsKept v number (replicate cpus 0) (replicate cpus 0)
@@ -27,7 +28,7 @@ kept_fresh v number e l = record {
   ran_are = λ source _. get_or-same 0 cpus source ∙ ap (λ (x : Known). length (calls_from source x.part.ran) % 2 ^ 64) (sym e);
 }
 
-module _ (v : Known) (number : ℕ) (queued ran : List ℕ) (k : IsKept v number queued ran) where
+module _ {v : Known} {number : ℕ} {queued ran : List ℕ} (k : IsKept v number queued ran) where
   pub kept_confirmed : (id : ℕ) → IsKept (confirmed_known id v) number queued ran
   kept_confirmed id = record {
     number_is = k.number_is;
@@ -82,10 +83,18 @@ module _ (v : Known) (number : ℕ) (queued ran : List ℕ) (k : IsKept v number
     queued_sized = length-set queued to ((get_or queued to 0 + 1) % 2 ^ 64) ∙ k.queued_sized;
     ran_sized = k.ran_sized;
     queued_are = λ cpu l. elim (cases_eq cpu to) [
-      | inl e ↦ rw e (get_or-set_same queued to ((get_or queued to 0 + 1) % 2 ^ 64) 0 (let q = k.queued_sized in omega arith) ∙ (one_more (get_or queued to 0) (length (sent_to to v.part.sent)) (k.queued_are to below) ∙
-          ap (λ n. n % 2 ^ 64) (sym (ap length (sent_to-push to v.part.sent (record { call = call; to = to; is_first = first }) ∙ ap (λ (ms : List Marked). sent_to to v.part.sent ++ ms) (one_if-same to to (mark first call) refl)) ∙ length-append (sent_to to v.part.sent) (mark first call ∷ [])))))
+      | inl e ↦
+          rw e (get_or-set_same queued to ((get_or queued to 0 + 1) % 2 ^ 64) 0 (let q = k.queued_sized in omega arith)
+          ∙ (one_more (get_or queued to 0) (length (sent_to to v.part.sent)) (k.queued_are to below) ∙
+          ap (λ n. n % 2 ^ 64) (sym (ap length
+              (sent_to-push to v.part.sent (record { call = call; to = to; is_first = first })
+              ∙ ap (λ (ms : List Marked). sent_to to v.part.sent ++ ms) (one_if-same to to (mark first call) refl))
+              ∙ length-append (sent_to to v.part.sent) (mark first call ∷ [])))))
       | inr ne ↦ get_or-set_other queued to cpu ((get_or queued to 0 + 1) % 2 ^ 64) 0 ne ∙ (k.queued_are cpu l ∙
-          ap (λ n. n % 2 ^ 64) (sym (ap length (sent_to-push cpu v.part.sent (record { call = call; to = to; is_first = first }) ∙ (ap (λ (ms : List Marked). sent_to cpu v.part.sent ++ ms) (one_if-other to cpu (mark first call) (λ e. ne (sym e))) ∙ append-nil (sent_to cpu v.part.sent))))))
+          ap (λ n. n % 2 ^ 64) (sym (ap length
+              (sent_to-push cpu v.part.sent (record { call = call; to = to; is_first = first })
+              ∙ (ap (λ (ms : List Marked). sent_to cpu v.part.sent ++ ms) (one_if-other to cpu (mark first call) (λ e. ne (sym e)))
+              ∙ append-nil (sent_to cpu v.part.sent))))))
     ];
     ran_are = k.ran_are;
   }
@@ -96,13 +105,16 @@ pub kept_posted : (v w v' : Known) (number : ℕ) (queued ran : List ℕ) (p : P
     IsKept v' number (set queued p.to ((get_or queued p.to 0 + 1) % 2 ^ 64)) ran
 kept_posted v w v' number queued ran p first k l e f =
     let known : v' ≡ queued_known (posted p) p.to first v = f ∙ ap (queued_known (posted p) p.to first) e in
-    subst (λ (u : Known). IsKept u number (set queued p.to ((get_or queued p.to 0 + 1) % 2 ^ 64)) ran) (sym known) (kept_appended v number queued ran k p.to first (posted p) l)
+    subst (λ (u : Known). IsKept u number (set queued p.to ((get_or queued p.to 0 + 1) % 2 ^ 64)) ran) (sym known) (kept_appended k p.to first (posted p) l)
 
 -- the counts of a CPU that is about to count a call
-pub kept_counting : (v w : Known) (number to count : ℕ) (queued ran : List ℕ) (p : Posting) → IsKept v number queued ran → p.to ≡ to → to < cpus → count ≡ get_or queued to 0 →
+pub kept_counting : (v w : Known) (number to count : ℕ) (queued ran : List ℕ) (p : Posting) → IsKept v number queued ran → p.to ≡ to → to < cpus
+    → count ≡ get_or queued to 0 →
     w ≡ standing (uncounted p) post.Count v → IsCounting w p number count
 kept_counting v w number to count queued ran p k e l is stands = record {
   stage = ap (λ (u : Known). u.stage) stands;
   number_is = ap (λ (u : Known). u.number) stands ∙ k.number_is;
-  count_is = is ∙ (k.queued_are to l ∙ (ap (λ (n : ℕ). length (sent_to n v.part.sent) % 2 ^ 64) (sym e) ∙ ap (λ (u : Known). length (sent_to p.to u.part.sent) % 2 ^ 64) (sym stands)));
+  count_is =
+      is ∙ (k.queued_are to l ∙ (ap (λ (n : ℕ). length (sent_to n v.part.sent) % 2 ^ 64) (sym e)
+      ∙ ap (λ (u : Known). length (sent_to p.to u.part.sent) % 2 ^ 64) (sym stands)));
 }

@@ -13,12 +13,14 @@ use Rattle.smp_queue.specs.Cells.{HasCell}
 use Rattle.smp_queue.proofs.TheRule.Cells.{has_cell}
 
 -- a seat after a step of its CPU
-pub at_moved : (t : TableId) (d d' : SeatValue) (id : ℕ) (v : Known) → OwnsRecord t d id → d'.table ≡ t → d'.known ≡ v → v.number ≡ d.known.number → OwnsRecord t d' id
+pub at_moved : (t : TableId) (d d' : SeatValue) (id : ℕ) (v : Known) → OwnsRecord t d id → d'.table ≡ t → d'.known ≡ v → v.number ≡ d.known.number
+    → OwnsRecord t d' id
 at_moved t d d' id v a table known same =
     let n : d'.known.number ≡ d.known.number = ap (λ (u : Known). u.number) known ∙ same in
     record { table_is = table; sized = a.sized; me_in_range = (let h = a.me_in_range in omega arith); owned = a.owned ∙ sym n; in_range = a.in_range }
 
-pub mine_moved : (t : TableId) (d d' : SeatValue) (p : Posting) (v : Known) → IsMine t d p → d'.table ≡ t → d'.known ≡ v → v.number ≡ d.known.number → IsMine t d' p
+pub mine_moved : (t : TableId) (d d' : SeatValue) (p : Posting) (v : Known) → IsMine t d p → d'.table ≡ t → d'.known ≡ v → v.number ≡ d.known.number
+    → IsMine t d' p
 mine_moved t d d' p v m table known same = record { at = at_moved t d d' p.id v m.at table known same; is_call = m.is_call; to_in_range = m.to_in_range }
 
 pub ready_done : (t : TableId) (d : SeatValue) (id : ℕ) → OwnsRecord t d id → d.known.stage ≡ None → Ready t d (Load (Flags id))
@@ -31,7 +33,8 @@ ready_done t d id a out = record {
 }
 
 -- the word of each step of a post is in the table
-post_in_table : (t : TableId) (d : SeatValue) (p : Posting) (st : PostStage) → IsMine t d p → IsInTable (word_of (known_access d.known (Post (posting_of p.id p.class p.func p.info p.to) st)))
+post_in_table : (t : TableId) (d : SeatValue) (p : Posting) (st : PostStage) → IsMine t d p
+    → IsInTable (word_of (known_access d.known (Post (posting_of p.id p.class p.func p.info p.to) st)))
 post_in_table t d p post.Count m = (m.at.me_in_range, m.to_in_range)
 post_in_table t d p post.LoadHead m = m.to_in_range
 post_in_table t d p (post.Exchange link tries) m = m.to_in_range
@@ -43,7 +46,8 @@ goes p post.LoadFlags l = λ _. l
 goes p _ l = l
 
 -- a step of a post, of the call as it will be once all is told of it
-pub ready_post : (t : TableId) (d : SeatValue) (p : Posting) (st : PostStage) (access : Access) → IsMine t d p → told_post (counted p) st ≡ d.known.stage → IsLockable d.known p.id st → known_access d.known (Post (counted p) st) ≡ access → Ready t d access
+pub ready_post : (t : TableId) (d : SeatValue) (p : Posting) (st : PostStage) (access : Access) → IsMine t d p → told_post (counted p) st ≡ d.known.stage
+    → IsLockable d.known p.id st → known_access d.known (Post (counted p) st) ≡ access → Ready t d access
 ready_post t d p st access m told ready same = record {
   table_is = m.at.table_is;
   sized = m.at.sized;

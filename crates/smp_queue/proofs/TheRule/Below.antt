@@ -17,7 +17,8 @@ first_set [] u w e = absurd (some-ne-none u (sym e))
 first_set (x ∷ xs) u w e = refl
 
 -- a step of a CPU's seat leaves the first seat
-first_else : (views : List SeatView) (id n : ℕ) (v w : SeatView) → IsCpuSeat v → get_elem? views id ≡ some v → get_elem? views 0 ≡ some (Maker n) → get_elem? (set views id w) 0 ≡ some (Maker n)
+first_else : (views : List SeatView) (id n : ℕ) (v w : SeatView) → IsCpuSeat v → get_elem? views id ≡ some v → get_elem? views 0 ≡ some (Maker n)
+    → get_elem? (set views id w) 0 ≡ some (Maker n)
 first_else views zero n v w is at first = absurd (let same : Maker n ≡ v = some-injective (Maker n) v (sym first ∙ at) in let clash = same ∙ is in cc)
 first_else views (suc id) n v w is at first = set_else views (suc id) 0 w (λ e. omega arith) ∙ first
 
@@ -25,7 +26,8 @@ module _ {S : Type 0} (nr : ℕ) where
   pub starts_below : RuledFor {S = S} nr (opening (replicate cells 0) [] (Maker 0))
   starts_below = (starts, record { next = 0; few = omega arith; counts = refl })
 
-  below : (slots id : ℕ) (me : Me S SeatView) → IsCpuSeat me.0 → (i : ℕ) (f : ℕ → ℕ) (then : ℕ → Me S SeatView → Type 0) → Allows Ruled slots id me i f then → Allows (RuledFor nr) slots id me i f then
+  below : (slots id : ℕ) (me : Me S SeatView) → IsCpuSeat me.0 → (i : ℕ) (f : ℕ → ℕ) (then : ℕ → Me S SeatView → Type 0) → Allows Ruled slots id me i f then
+      → Allows (RuledFor nr) slots id me i f then
   below slots id me is i f then allows s r sized at fits =
       let t = allows s r.0 sized at fits in
       let b = r.1 in
@@ -33,17 +35,22 @@ module _ {S : Type 0} (nr : ℕ) where
 
   -- each kind of access, as without that
 
-  pub load_below : (slots id : ℕ) (me : Me S SeatView) → IsCpuSeat me.0 → (w : Word) (i : ℕ) → cell_of w ≡ Some i → MayAccess (known me.0) (Load w) → Allows (RuledFor nr) slots id me i (λ n. n) (loaded (step slots i 0 0 none) me)
+  pub load_below : (slots id : ℕ) (me : Me S SeatView) → IsCpuSeat me.0 → (w : Word) (i : ℕ) → cell_of w ≡ Some i → MayAccess (known me.0) (Load w)
+      → Allows (RuledFor nr) slots id me i (λ n. n) (loaded (step slots i 0 0 none) me)
   load_below slots id me is w i e can = below slots id me is i (λ n. n) (loaded (step slots i 0 0 none) me) (load_allowed slots id me is w i e can)
 
-  pub store_below : (slots id : ℕ) (me : Me S SeatView) → IsCpuSeat me.0 → (w : Word) (i x : ℕ) → cell_of w ≡ Some i → MayAccess (known me.0) (Store w x) → Allows (RuledFor nr) slots id me i (λ _. x) (λ _. stored (step slots i x 0 none) me x)
+  pub store_below : (slots id : ℕ) (me : Me S SeatView) → IsCpuSeat me.0 → (w : Word) (i x : ℕ) → cell_of w ≡ Some i → MayAccess (known me.0) (Store w x)
+      → Allows (RuledFor nr) slots id me i (λ _. x) (λ _. stored (step slots i x 0 none) me x)
   store_below slots id me is w i x e can = below slots id me is i (λ _. x) (λ _. stored (step slots i x 0 none) me x) (store_allowed slots id me is w i x e can)
 
-  pub exchange_below : (slots id : ℕ) (me : Me S SeatView) → IsCpuSeat me.0 → (w : Word) (i old new : ℕ) → cell_of w ≡ Some i → MayAccess (known me.0) (Exchange w old new) →
+  pub exchange_below : (slots id : ℕ) (me : Me S SeatView) → IsCpuSeat me.0 → (w : Word) (i old new : ℕ) → cell_of w ≡ Some i
+      → MayAccess (known me.0) (Exchange w old new) →
       Allows (RuledFor nr) slots id me i (λ n. either (n == old) new n) (exchanged (step slots i old new none) me)
-  exchange_below slots id me is w i old new e can = below slots id me is i (λ n. either (n == old) new n) (exchanged (step slots i old new none) me) (exchange_allowed slots id me is w i old new e can)
+  exchange_below slots id me is w i old new e can =
+      below slots id me is i (λ n. either (n == old) new n) (exchanged (step slots i old new none) me) (exchange_allowed slots id me is w i old new e can)
 
-  pub swap_below : (slots id : ℕ) (me : Me S SeatView) → IsCpuSeat me.0 → (w : Word) (i x : ℕ) → cell_of w ≡ Some i → MayAccess (known me.0) (Swap w x) → Allows (RuledFor nr) slots id me i (λ _. x) (swapped (step slots i x 0 none) me)
+  pub swap_below : (slots id : ℕ) (me : Me S SeatView) → IsCpuSeat me.0 → (w : Word) (i x : ℕ) → cell_of w ≡ Some i → MayAccess (known me.0) (Swap w x)
+      → Allows (RuledFor nr) slots id me i (λ _. x) (swapped (step slots i x 0 none) me)
   swap_below slots id me is w i x e can = below slots id me is i (λ _. x) (swapped (step slots i x 0 none) me) (swap_allowed slots id me is w i x e can)
 
   pub splits_below : (id n : ℕ) (v : SeatView) → v ≡ Maker n → n < nr → Splits {S = S} (RuledFor nr) id v (after v) (seat_made v)

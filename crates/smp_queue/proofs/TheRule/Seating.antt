@@ -1,5 +1,6 @@
 -- The CPUs of a table, as they are seated one after the other.
-use Rattle.std.proofs.Common.{◌≡◌, ℕ, ◌+◌, ◌<◌, ◌≤◌, Bool, cond, Option, Some, None, List, [], ◌∷◌, ◌++◌, length, length-append, get_or, sym, refl, ap, ◌∙◌, inl, inr, arith}
+use Rattle.std.proofs.Common.{◌≡◌, ℕ, ◌+◌, ◌<◌, ◌≤◌, Bool, cond, Option, Some, None, List, [], ◌∷◌, ◌++◌, length, length-append, get_or, sym, refl, ap, ◌∙◌}
+use Rattle.std.proofs.Common.{inl, inr, arith}
 use Rattle.std.proofs.lemmas.List.{get_or_push, get_or_append_left}
 use Rattle.std.proofs.lemmas.Bool.{cases_eq}
 use Rattle.atomic_table.specs.Seated.{TableId}
@@ -17,8 +18,10 @@ pub record AreSeated (table maker_table : TableId) (maker : SeatView) (online n 
   pub count : length waiting ≡ n
   pub each : (cpu : ℕ) → cpu < n → get_or waiting cpu None ≡ cond (has online cpu) (Some (fresh_cpu table cpu)) None
 
-pub seats_more : (table maker_table maker_table' : TableId) (maker maker' : SeatView) (online n : ℕ) (waiting waiting' : List (Option CpuValue)) (x : Option CpuValue) → AreSeated table maker_table maker online n waiting →
-    maker_table' ≡ table → maker' ≡ Maker (n + 1) → waiting' ≡ waiting ++ x ∷ [] → x ≡ cond (has online n) (Some (fresh_cpu table n)) None → AreSeated table maker_table' maker' online (n + 1) waiting'
+pub seats_more : (table maker_table maker_table' : TableId) (maker maker' : SeatView) (online n : ℕ) (waiting waiting' : List (Option CpuValue))
+    (x : Option CpuValue) → AreSeated table maker_table maker online n waiting →
+    maker_table' ≡ table → maker' ≡ Maker (n + 1) → waiting' ≡ waiting ++ x ∷ [] → x ≡ cond (has online n) (Some (fresh_cpu table n)) None
+        → AreSeated table maker_table' maker' online (n + 1) waiting'
 seats_more table maker_table maker_table' maker maker' online n waiting waiting' x s is next pushed kept =
     let count : length waiting ≡ n = s.count in
     rw pushed (record {
@@ -33,7 +36,8 @@ seats_more table maker_table maker_table' maker maker' online n waiting waiting'
     })
 
 -- once all are seated, all that are online are left
-pub seats_full : (table maker_table : TableId) (maker : SeatView) (nr online n : ℕ) (waiting : List (Option CpuValue)) → AreLimits nr online → nr ≤ n → AreSeated table maker_table maker online n waiting →
+pub seats_full : (table maker_table : TableId) (maker : SeatView) (nr online n : ℕ) (waiting : List (Option CpuValue)) → AreLimits nr online → nr ≤ n
+    → AreSeated table maker_table maker online n waiting →
     IsFull (record { online = online; cpus_left = waiting }) table online
 seats_full table maker_table maker nr online n waiting limits all s = record {
   online_is = refl;

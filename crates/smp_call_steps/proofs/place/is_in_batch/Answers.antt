@@ -16,20 +16,23 @@ or_second x y b f e = rw f e
 pub is_on_chain-requires-clause-chained : goal.is_on_chain-requires-clause-chained
 is_on_chain-requires-clause-chained c =
     let controls = c.args.controls.now in
-    let here = get_or_read controls c.args.cpu c.index-controls-cpu.result (omega (arith, c.requires.known, c.requires.table.controls_sized)) c.index-controls-cpu.is outside in
-    rw c.down.ensures (down_chain c.requires.table.calls (number_in c.args.words.now) (control_of controls) c.requires.table.shown c.args.cpu c.index-controls-cpu.result here)
+    let here = get_or_read controls c.args.cpu c.index-controls-cpu.result (omega (arith, c.requires.known, c.requires.table.controls_sized))
+        c.index-controls-cpu.is outside in
+    rw c.down.ensures (down_chain c.requires.table.shown c.args.cpu c.index-controls-cpu.result here)
 
 pub is_on_chain-requires-else-is_on_chain-clause-chained : goal.is_on_chain-requires-else-is_on_chain-clause-chained
 is_on_chain-requires-else-is_on_chain-clause-chained c =
     let controls = c.args.controls.now in
-    let here = get_or_read controls c.args.cpu c.index-controls-cpu.result (omega (arith, c.requires.known, c.requires.table.controls_sized)) c.index-controls-cpu.is outside in
-    rw c.up.ensures (up_chain c.requires.table.calls (number_in c.args.words.now) (control_of controls) c.requires.table.shown c.args.cpu c.index-controls-cpu.result here)
+    let here = get_or_read controls c.args.cpu c.index-controls-cpu.result (omega (arith, c.requires.known, c.requires.table.controls_sized))
+        c.index-controls-cpu.is outside in
+    rw c.up.ensures (up_chain c.requires.table.shown c.args.cpu c.index-controls-cpu.result here)
 
 pub returns-then-is_between : goal.returns-then-is_between
 returns-then-is_between c calls shown =
     let controls = c.args.controls.now in
-    let here = get_or_read controls c.args.cpu c.index-controls-cpu.result (omega (arith, c.requires.known, c.requires.table.controls_sized)) c.index-controls-cpu.is outside in (
-      (λ _. in_between calls (number_in c.args.words.now) (control_of controls) shown c.args.cpu c.index-controls-cpu.result here c.args.id (sym c.is_between.ensures ∙ c.if-is_between.true)),
+    let here = get_or_read controls c.args.cpu c.index-controls-cpu.result (omega (arith, c.requires.known, c.requires.table.controls_sized))
+        c.index-controls-cpu.is outside in (
+      (λ _. in_between shown c.args.cpu c.index-controls-cpu.result here c.args.id (sym c.is_between.ensures ∙ c.if-is_between.true)),
       (λ _. refl),
     )
 
@@ -40,7 +43,7 @@ returns-then-is_on_chain c calls shown =
     let x = c.index-controls-cpu.result in
     let here = get_or_read controls c.args.cpu x (omega (arith, c.requires.known, c.requires.table.controls_sized)) c.index-controls-cpu.is outside in
     let down = c.is_on_chain.ensures ∙ ap (λ (link : ℕ). is_on (nexts_in at) link c.args.id) c.down.ensures in
-    in_batch calls at (control_of controls) shown c.args.cpu x here c.args.id _ (sym c.is_between.ensures ∙ c.if-is_between.false) (or_first _ _ _ down c.if-is_on_chain.true)
+    in_batch shown c.args.cpu x here c.args.id _ (sym c.is_between.ensures ∙ c.if-is_between.false) (or_first _ _ _ down c.if-is_on_chain.true)
 
 pub returns-else-is_on_chain : goal.returns-else-is_on_chain
 returns-else-is_on_chain c calls shown =
@@ -50,4 +53,4 @@ returns-else-is_on_chain c calls shown =
     let here = get_or_read controls c.args.cpu x (omega (arith, c.requires.known, c.requires.table.controls_sized)) c.index-controls-cpu.is outside in
     let down = c.is_on_chain.ensures ∙ ap (λ (link : ℕ). is_on (nexts_in at) link c.args.id) c.down.ensures in
     let up = c.is_on_chain-else-is_on_chain.ensures ∙ ap (λ (link : ℕ). is_on (nexts_in at) link c.args.id) c.up.ensures in
-    in_batch calls at (control_of controls) shown c.args.cpu x here c.args.id _ (sym c.is_between.ensures ∙ c.if-is_between.false) (or_second _ _ _ (sym down ∙ c.if-is_on_chain.false) up)
+    in_batch shown c.args.cpu x here c.args.id _ (sym c.is_between.ensures ∙ c.if-is_between.false) (or_second _ _ _ (sym down ∙ c.if-is_on_chain.false) up)

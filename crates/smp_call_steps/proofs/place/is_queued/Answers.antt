@@ -9,11 +9,12 @@ use Rattle.smp_call_steps.proofs.State.QueueChains.{queue_chain, queue_read}
 use Rattle.smp_call_steps.proofs.place.is_queued.Goals as goal
 
 pub is_on_chain-requires-clause-chained : goal.is_on_chain-requires-clause-chained
-is_on_chain-requires-clause-chained c = rw c.read.ensures (queue_chain c.requires.table.calls (number_in c.args.words.now) (control_of c.args.controls.now) c.args.cpu c.requires.table.shown)
+is_on_chain-requires-clause-chained c =
+    rw c.read.ensures (queue_chain c.requires.table.calls (number_in c.args.words.now) (control_of c.args.controls.now) c.args.cpu c.requires.table.shown)
 
 pub returns : goal.returns
 returns c calls shown =
     let at = number_in c.args.words.now in
     let control = control_of c.args.controls.now in
     let whole = ap (chain_in (nexts_in at) records) c.read.ensures ∙ queue_read calls at control c.args.cpu shown in
-    in_queue calls at control shown c.args.cpu c.args.id (chain_in (nexts_in at) records c.read.result) c.is_on_chain.result whole c.is_on_chain.ensures
+    in_queue shown c.args.cpu c.args.id (chain_in (nexts_in at) records c.read.result) c.is_on_chain.result whole c.is_on_chain.ensures

@@ -14,15 +14,18 @@ loop-round-init c = rw c.new-passed.ensures (follows_all (nexts_in (number_in c.
 
 pub overflow_cast-id : goal.overflow_cast-id
 overflow_cast-id c =
-    let p = passes (nexts_in (number_in c.args.words.now)) c.args.first c.loop-round.link (reverse c.loop-round.passed.items) c.loop-round._round c.if-link-eq0.false c.loop-round.invariant in
+    let p = passes (nexts_in (number_in c.args.words.now)) c.args.first c.loop-round.link
+        (reverse c.loop-round.passed.items) c.loop-round._round c.if-link-eq0.false c.loop-round.invariant in
     let small : c.loop-round.link ≤ records = p.below in
     search (rules, small)
 
 pub loop-round-preserved : goal.loop-round-preserved
 loop-round-preserved c =
     let id : ℕ = c.loop-round.link - 1 in
-    let p = passes (nexts_in (number_in c.args.words.now)) c.args.first c.loop-round.link (reverse c.loop-round.passed.items) c.loop-round._round c.if-link-eq0.false c.loop-round.invariant in
-    let pushed : reverse c.push.new.self.items ≡ id ∷ reverse c.loop-round.passed.items = ap reverse c.push.ensures.items ∙ reverse-append c.loop-round.passed.items (id ∷ []) in
+    let p = passes (nexts_in (number_in c.args.words.now)) c.args.first c.loop-round.link
+        (reverse c.loop-round.passed.items) c.loop-round._round c.if-link-eq0.false c.loop-round.invariant in
+    let pushed : reverse c.push.new.self.items ≡ id ∷ reverse c.loop-round.passed.items =
+        ap reverse c.push.ensures.items ∙ reverse-append c.loop-round.passed.items (id ∷ []) in
     let next = c.read-link.ensures in
     rw (next, pushed) (p.on id (omega arith))
 
@@ -33,7 +36,8 @@ returns c =
     let turned : c.reverse.new.self ≡ reverse items = c.reverse.ensures.after ∙ ap reverse c.as_mut_slice.ensures.value in
     let same : length c.reverse.new.self ≡ length items = ap length turned ∙ length-reverse items in
     let whole : reverse items ≡ chain_in nexts records c.args.first = elim c.loop-round-test.branch [
-      | else-loop-round-test w ↦ ended_by_count nexts c.args.first c.loop-round.link (reverse items) c.loop-round._round (let t = w.loop-round-test in omega arith) c.loop-round.invariant
+      | else-loop-round-test w ↦ ended_by_count nexts c.args.first c.loop-round.link (reverse items) c.loop-round._round
+          (let t = w.loop-round-test in omega arith) c.loop-round.invariant
       | then-loop-round-test+then-link-eq0 w ↦
           let here : Follows nexts c.args.first 0 (reverse items) c.loop-round._round = rw w.if-link-eq0.true at c.loop-round.invariant in
           ended nexts c.args.first (reverse items) c.loop-round._round (records - c.loop-round._round) (let t = w.loop-round-test in omega arith) here

@@ -6,10 +6,14 @@ use Rattle.smp_calls.proofs.Steps.{leaves_as, leaves_then, leaves_ended}
 use Rattle.smp_calls.proofs.wait.wait_for.Goals as goal
 
 pub returns-then-is_done : goal.returns-then-is_done
-returns-then-is_done g c = leaves_ended g.H.Handler.leads c.args.me.now c.loop.me c.is_done.new.me c.args.handler.now c.loop.handler c.args.k c.requires.sized (record_below c.args.table.now.nr c.args.k c.requires.record) c.loop.invariant c.if-is_done.ensures.known
+returns-then-is_done g c = leaves_ended g.H.Handler.leads c.args.me.now c.loop.me c.is_done.new.me c.args.handler.now c.loop.handler c.args.k c.requires.sized
+    (record_below c.args.table.now.nr c.args.k c.requires.record) c.loop.invariant c.if-is_done.ensures.known
 
 pub loop-preserved : goal.loop-preserved
 loop-preserved g c =
     let before = c.loop.invariant in
-    let handled = subst (λ (x : CpuValue). Leaves g.H.Handler.leads x c.loop.handler c.handle_own.new.me c.handle_own.new.handler [] None (owes_at x) (confirmed_at x)) c.if-is_done.ensures.known c.handle_own.ensures in
-    leaves_as g.H.Handler.leads (owes_at c.args.me.now) (confirmed_at c.args.me.now) (leaves_then g.H.Handler.leads before handled) before.owes_are before.confirmed_are
+    let handled =
+        subst (λ (x : CpuValue). Leaves g.H.Handler.leads x c.loop.handler c.handle_own.new.me c.handle_own.new.handler [] None (owes_at x) (confirmed_at x))
+        c.if-is_done.ensures.known c.handle_own.ensures in
+    leaves_as g.H.Handler.leads (owes_at c.args.me.now) (confirmed_at c.args.me.now)
+        (leaves_then g.H.Handler.leads before handled) before.owes_are before.confirmed_are

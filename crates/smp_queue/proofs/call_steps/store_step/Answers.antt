@@ -7,12 +7,12 @@ use Rattle.smp_queue.proofs.Handling.Handles.{in_handle_can, in_handle_cell}
 use Rattle.smp_queue.proofs.call_steps.store_step.Goals as goal
 
 pub cell-requires : goal.cell-requires
-cell-requires c = let r = c.requires in in_handle_cell _ _ r.stage r.at (Store c.args.word c.args.number) r.is_access
+cell-requires c = let r = c.requires in in_handle_cell r.at (Store c.args.word c.args.number) r.is_access
 
 pub store-requires : goal.store-requires
 store-requires c = let r = c.requires in let low = cell_below c.args.word c.cell.result c.cell.ensures in let w = r.at.sized in (
   ap (λ d. d.table) c.seat.view_is ∙ r.at.table_is,
   omega arith,
   store_below _ _ _ _ c.seat.invariant c.args.word c.cell.result c.args.number c.cell.ensures
-      (can_same _ _ _ (ap (λ d. d.known) c.seat.view_is) (in_handle_can _ _ r.stage r.at (Store c.args.word c.args.number) r.is_access)),
+      (can_same _ _ _ (ap (λ d. d.known) c.seat.view_is) (in_handle_can r.at (Store c.args.word c.args.number) r.is_access)),
 )

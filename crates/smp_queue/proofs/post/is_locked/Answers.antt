@@ -12,4 +12,4 @@ returns-clause-known c = c.load.ensures.known ∙ loaded_known c.args.seat.now.k
 
 pub returns-clause-locked : goal.returns-clause-locked
 returns-clause-locked c l conf = let a = c.requires.at in
-    true≢false (sym l ∙ confirmed_unlocked c.args.seat.now.known c.args.id c.load.result c.load.ensures.then c.requires.outside a.owned a.in_range conf)
+    true≢false (sym l ∙ confirmed_unlocked c.args.seat.now.known c.args.id c.load.result c.load.ensures.moment c.requires.outside a.owned a.in_range conf)

@@ -7,7 +7,8 @@ use Rattle.smp_queue.specs.Names.post
 use Rattle.smp_queue.proofs.post.write_record.Goals as goal
 
 pub store-requires : goal.store-requires
-store-requires c = ready_post _ _ c.args.posting.now post.Lock _ c.requires.mine (sym c.requires.outside) c.requires.free (ap (Store (Flags c.args.posting.now.id)) (sym c.flags.ensures))
+store-requires c = ready_post _ _ c.args.posting.now post.Lock _ c.requires.mine (sym c.requires.outside) c.requires.free
+    (ap (Store (Flags c.args.posting.now.id)) (sym c.flags.ensures))
 
 pub store-requires-2 : goal.store-requires-2
 store-requires-2 c =

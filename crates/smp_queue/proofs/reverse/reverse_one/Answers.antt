@@ -6,49 +6,46 @@ use Rattle.smp_call_steps.proofs.Knows.Handling.{lives_fits, next_stored_is}
 use Rattle.smp_queue.specs.Names.{Next, Load, Store, Known, Handle}
 use Rattle.smp_queue.specs.Names.handle
 use Rattle.smp_queue.proofs.Handling.Handles.{in_handle_ready, in_handle_then}
-use Rattle.smp_queue.proofs.Handling.Going.{HasLoad, next_known, next_goes, found_fits}
+use Rattle.smp_queue.proofs.Handling.Going.{next_known, next_goes, found_fits}
 use Rattle.smp_queue.proofs.reverse.reverse_one.Goals as goal
 
 pub load-link-requires : goal.load-link-requires
-load-link-requires c = in_handle_ready _ _ _ c.requires (Load (Next c.args.id)) tt refl
+load-link-requires c = in_handle_ready c.requires (Load (Next c.args.id)) tt refl
 
 pub record_of-older-requires : goal.record_of-older-requires
 record_of-older-requires c =
-    let e = c.load-link.ensures in
-    let l : HasLoad c.args.words.now.table_id c.args.seat.now c.load-link.new.seat (Next c.args.id) c.load-link.result = record { moment = e.then; table_is = e.table; lives = e.lives; known_is = e.known } in
+    let l = c.load-link.ensures in
     found_fits _ _ _ _ c.requires (Next c.args.id) c.load-link.result l refl
 
 pub store-requires : goal.store-requires
 store-requires c =
-    let e = c.load-link.ensures in
-    let l : HasLoad c.args.words.now.table_id c.args.seat.now c.load-link.new.seat (Next c.args.id) c.load-link.result = record { moment = e.then; table_is = e.table; lives = e.lives; known_is = e.known } in
-    let at = next_goes _ _ _ _ c.requires c.args.id c.load-link.result (handle.ReverseStore c.args.newer c.args.id (record_at c.load-link.result)) l refl in
-    in_handle_ready _ _ _ at (Store (Next c.args.id) c.link_of.result) tt (ap (λ (n : ℕ). Store (Next c.args.id) n) (sym c.link_of.ensures))
+    let l = c.load-link.ensures in
+    let at = next_goes _ c.requires c.args.id c.load-link.result (handle.ReverseStore c.args.newer c.args.id (record_at c.load-link.result)) l refl in
+    in_handle_ready at (Store (Next c.args.id) c.link_of.result) tt (ap (λ (n : ℕ). Store (Next c.args.id) n) (sym c.link_of.ensures))
 
 pub returns-clause-known : goal.returns-clause-known
 returns-clause-known c =
-    let e = c.load-link.ensures in
-    let l : HasLoad c.args.words.now.table_id c.args.seat.now c.load-link.new.seat (Next c.args.id) c.load-link.result = record { moment = e.then; table_is = e.table; lives = e.lives; known_is = e.known } in
-    let at = next_goes _ _ _ _ c.requires c.args.id c.load-link.result (handle.ReverseStore c.args.newer c.args.id (record_at c.load-link.result)) l refl in
+    let l = c.load-link.ensures in
+    let at = next_goes _ c.requires c.args.id c.load-link.result (handle.ReverseStore c.args.newer c.args.id (record_at c.load-link.result)) l refl in
     let s = c.store.ensures in
     let k = s.known ∙ (next_stored_is _ (handle.ReverseStore c.args.newer c.args.id (record_at c.load-link.result)) c.args.id c.link_of.result at.stage_is
-    ∙ ap (goes_known (handle.ReverseStore c.args.newer c.args.id (record_at c.load-link.result)) 0) (next_known _ _ _ _ c.requires c.args.id c.load-link.result l)) in
-    k ∙ ap (λ (x : Option ℕ). record (c.args.seat.now.known) { stage = Some (Handle (reverse_on (Some c.args.id) x)); drain = record { calls = c.args.seat.now.known.drain.calls + 1 } }) (sym c.record_of-older.ensures)
+    ∙ ap (goes_known (handle.ReverseStore c.args.newer c.args.id (record_at c.load-link.result)) 0) (next_known _ c.requires c.args.id c.load-link.result l)) in
+    k ∙ ap (λ (x : Option ℕ). record (c.args.seat.now.known)
+        { stage = Some (Handle (reverse_on (Some c.args.id) x)); drain = record { calls = c.args.seat.now.known.drain.calls + 1 } })
+        (sym c.record_of-older.ensures)
 
 pub returns-clause-at : goal.returns-clause-at
 returns-clause-at c =
-    let e = c.load-link.ensures in
-    let l : HasLoad c.args.words.now.table_id c.args.seat.now c.load-link.new.seat (Next c.args.id) c.load-link.result = record { moment = e.then; table_is = e.table; lives = e.lives; known_is = e.known } in
-    let at = next_goes _ _ _ _ c.requires c.args.id c.load-link.result (handle.ReverseStore c.args.newer c.args.id (record_at c.load-link.result)) l refl in
+    let l = c.load-link.ensures in
+    let at = next_goes _ c.requires c.args.id c.load-link.result (handle.ReverseStore c.args.newer c.args.id (record_at c.load-link.result)) l refl in
     let s = c.store.ensures in
     let k = s.known ∙ next_stored_is _ (handle.ReverseStore c.args.newer c.args.id (record_at c.load-link.result)) c.args.id c.link_of.result at.stage_is in
     in_handle_then _ _ _ _ at.sized s.table s.lives k (ap (λ (x : Option ℕ). Some (Handle (reverse_on (Some c.args.id) x))) (sym c.record_of-older.ensures))
 
 pub returns-clause-room : goal.returns-clause-room
 returns-clause-room c =
-    let e = c.load-link.ensures in
-    let l : HasLoad c.args.words.now.table_id c.args.seat.now c.load-link.new.seat (Next c.args.id) c.load-link.result = record { moment = e.then; table_is = e.table; lives = e.lives; known_is = e.known } in
-    let at = next_goes _ _ _ _ c.requires c.args.id c.load-link.result (handle.ReverseStore c.args.newer c.args.id (record_at c.load-link.result)) l refl in
-    let k = next_known _ _ _ _ c.requires c.args.id c.load-link.result l in
-    let f = lives_fits _ at.lives (handle.ReverseStore c.args.newer c.args.id (record_at c.load-link.result)) at.stage_is in
+    let l = c.load-link.ensures in
+    let at = next_goes _ c.requires c.args.id c.load-link.result (handle.ReverseStore c.args.newer c.args.id (record_at c.load-link.result)) l refl in
+    let k = next_known _ c.requires c.args.id c.load-link.result l in
+    let f = lives_fits at.lives (handle.ReverseStore c.args.newer c.args.id (record_at c.load-link.result)) at.stage_is in
     subst (λ (u : Known). u.drain.calls < MOST_CALLS) k f.1

@@ -1,4 +1,4 @@
-use Rattle.std.proofs.Common.{arith, ap, subst, ◌∙◌}
+use Rattle.std.proofs.Common.{rules, arith, ap, subst, ◌∙◌}
 use Rattle.smp_call_steps.specs.Known.{Moment}
 use Rattle.smp_queue.specs.Names.{Known}
 use Rattle.smp_queue.proofs.TheRule.Below.{load_below}
@@ -8,9 +8,16 @@ use Rattle.smp_queue.proofs.seat.load.Goals as goal
 
 pub load-requires : goal.load-requires
 load-requires c = let r = c.requires in let low = cell_below c.args.word c.cell.result c.cell.ensures in let w = r.sized in
-    (ap (λ d. d.table) c.seat.view_is ∙ r.table_is, omega arith, load_below _ _ _ _ c.seat.invariant c.args.word c.cell.result c.cell.ensures (can_same _ _ _ (ap (λ d. d.known) c.seat.view_is) r.can))
+    (ap (λ d. d.table) c.seat.view_is ∙ r.table_is, omega arith, load_below _ _ _ _ c.seat.invariant c.args.word c.cell.result c.cell.ensures
+        (can_same _ _ _ (ap (λ d. d.known) c.seat.view_is) r.can))
 
--- the moment, of what the caller sees
-pub returns-clause-then : goal.returns-clause-then
-returns-clause-then c = let e = c.load.ensures.2.1 c.args.word c.cell.ensures in
-    subst (λ (v : Known). Moment v c.args.word c.load.result) (ap (λ d. d.known) c.seat.view_is) e.0
+pub returns : goal.returns
+returns c =
+    let told = c.load.ensures.2.1 c.args.word c.cell.ensures in
+    record {
+      table = search rules;
+      lives = search rules;
+      known = search rules;
+      -- the moment, of what the caller sees
+      moment = subst (λ (v : Known). Moment v c.args.word c.load.result) (ap (λ d. d.known) c.seat.view_is) told.0;
+    }
