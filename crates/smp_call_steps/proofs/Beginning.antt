@@ -15,7 +15,7 @@ use Rattle.smp_call_steps.specs.Stands.{share_of, Stands, HandIs}
 use Rattle.smp_call_steps.specs.Shows.{Shows}
 use Rattle.smp_words.proofs.Puts.{at_test}
 use Rattle.smp_call_steps.proofs.Frames.{Minds, Touches, leaves_others}
-use Rattle.smp_call_steps.proofs.Walks.{walks_stay, ends_stay}
+use Rattle.smp_call_steps.proofs.Walks.{walks_stay, ends_stay, walks_sync, ends_async}
 use Rattle.smp_call_steps.proofs.Turns.{put_here, put_else, holds_nothing, stands_at, hand_at, held_after, stands_after, hands_after, hands_stored}
 use Rattle.smp_call_steps.proofs.Moving.{Batch≢Batch, Running≢Batch, Queued≢Batch, Batch≢Free, all_placed_still, all_placed_apart, placed_moved, all_written_still, all_written_apart, written_moved}
 use Rattle.smp_call_steps.proofs.Tallies.{tallied_same}
@@ -140,6 +140,7 @@ module _ (a : CallState) (at : Word → ℕ) (control : ℕ → ControlValue) (m
           was.1.0,
           walks_stay k (k.begun ++ call ∷ []) (put a.batch me left me) (put a.running me (SyncCall call) me)
               (k.begun_are ∙ sym (append-nil (k.begun ++ call ∷ []))) (put_here me left (a.batch me)) (put_here me (SyncCall call) (a.running me)),
+          walks_sync k,
         ),
       ) in
       subst (λ (b : Bool). Shows (if b then begins_sync a me (a.batch me) else a) at' (put control me c)) (sym stored)
@@ -183,6 +184,7 @@ module _ (a : CallState) (at : Word → ℕ) (control : ℕ → ControlValue) (m
           ends_stay k (k.begun ++ call ∷ []) (put a.batch me rest me) (put a.running me (AsyncCall call) me)
               (k.whole ∙ sym (append_assoc k.begun (call ∷ []) rest)) (put_here me rest (a.batch me)) (put_here me (AsyncCall call) (a.running me)),
           front.0.is_call,
+          ends_async k,
         ),
       ) in
       subst (λ (h : Option Holding). Shows (releases a me call.id h) at' (put control me c)) (sym held)

@@ -13,6 +13,8 @@ pub mod Places
 pub mod Tallies
 pub mod Counts
 pub mod QueueOrder
+pub mod Classes
+pub mod HaveRun
 pub mod Drained
 -- what a step leaves as it was
 pub mod Frames

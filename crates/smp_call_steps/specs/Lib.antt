@@ -18,6 +18,8 @@ pub mod Shows
 pub mod Counts
 pub mod BatchLinks
 pub mod QueueOrder
+pub mod Classes
+pub mod HaveRun
 -- what a CPU knows
 pub mod Parts
 pub mod Known

@@ -5,6 +5,8 @@
 
 ghost use Rattle.std.specs.Prelude.{List};
 ghost use Rattle.smp_call_steps.specs.BatchLinks.{KeepBatchLinks};
+ghost use Rattle.smp_call_steps.specs.Classes.{RunByClass};
+ghost use Rattle.smp_call_steps.specs.HaveRun.{ConfirmedRun, ConfirmedSyncEnd};
 ghost use Rattle.smp_call_steps.specs.QueueOrder.{KeepsClasses, AsyncsLast, RunInQueueOrder};
 ghost use Rattle.smp_words.specs.declared.call.Call.{Call};
 
@@ -24,4 +26,22 @@ pub fn drain_order()
 /// Of each class, the calls that have ended at a CPU are the first of those that were ever queued for it, in that order.
 pub fn runs_in_queue_order()
     ensures { RunInQueueOrder }
+{}
+
+/// What a class means for the call that runs: while the record of a SYNC call is locked, and while the record of an ASYNC
+/// call is free.
+pub fn runs_by_class()
+    ensures { RunByClass }
+{}
+
+/// The calls by a record whose last call its source has seen confirmed: of the SYNC calls among them, as many have ended
+/// at a CPU as were ever queued for it.
+pub fn confirmed_sync_calls_ended()
+    ensures { ConfirmedSyncEnd }
+{}
+
+/// Each call that a source has sent, by a record whose last call it has seen confirmed, is among the calls that have
+/// ended at its target; an ASYNC call may be the one that runs there.
+pub fn confirmed_calls_have_run()
+    ensures { ConfirmedRun }
 {}
