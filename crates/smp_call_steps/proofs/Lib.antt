@@ -41,6 +41,8 @@ pub mod Restages
 pub mod OneStep
 pub mod Posted
 pub mod Handling
+-- the laws
+pub mod Promises
 -- the machine: a list of words, and a list of controls
 pub mod Accesses
 pub mod Fits

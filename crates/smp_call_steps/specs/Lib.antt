@@ -24,6 +24,8 @@ pub mod HaveRun
 pub mod Parts
 pub mod Known
 pub mod Handling
+-- the laws
+pub mod Promises
 -- the machine: a list of words, and a list of controls
 pub mod Value
 pub mod Sound
