@@ -12,10 +12,10 @@ use Rattle.smp_call_steps.specs.Shows.{Shows}
 use Rattle.smp_call_steps.specs.Stages.{ControlValue}
 use Rattle.smp_call_steps.specs.Names.{Call, Class, Sync, Async, Word, RecPlace}
 use Rattle.smp_call_steps.specs.Names.place
-use Rattle.smp_call_steps.proofs.Counts.{held_place}
-use Rattle.smp_call_steps.proofs.OneStep.{known_step}
-use Rattle.smp_call_steps.proofs.QueueOrder.{run_in_queue_order}
-use Rattle.smp_call_steps.proofs.Starts.{zeros_shown}
+use Rattle.smp_call_steps.proofs.State.Counts.{held_place}
+use Rattle.smp_call_steps.proofs.Knows.OneStep.{known_step}
+use Rattle.smp_call_steps.proofs.State.QueueOrder.{run_in_queue_order}
+use Rattle.smp_call_steps.proofs.Machine.Starts.{zeros_shown}
 
 pub nothing_called : NothingCalled
 nothing_called at control zeros outside = zeros_shown at control zeros outside

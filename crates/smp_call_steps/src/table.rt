@@ -34,34 +34,10 @@ pub fn perform(words: &mut [u64], access: Access) -> u64
     ensures found { result ≡ number_in words.old (word_of access) }
     ensures words { words.new ≡ words_after words.old access }
 {
-    match access {
-        Access::Load(word) => read(words, word),
-        Access::Store(word, number) => {
-            let found = read(words, word);
-            write(words, word, number);
-            found
-        }
-        Access::Swap(word, number) => {
-            let found = read(words, word);
-            write(words, word, number);
-            found
-        }
-        Access::Exchange(word, expected, number) => {
-            let found = read(words, word);
-            if found == expected {
-                write(words, word, number);
-            }
-            found
-        }
-        Access::Sub(word) => {
-            let found = read(words, word);
-            write(words, word, found.wrapping_sub(1));
-            found
-        }
-        Access::And(word, number) => {
-            let found = read(words, word);
-            write(words, word, found & number);
-            found
-        }
+    let word = access.word();
+    let found = read(words, word);
+    if let Some(number) = access.puts(found) {
+        write(words, word, number);
     }
+    found
 }

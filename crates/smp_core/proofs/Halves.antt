@@ -123,11 +123,11 @@ module _ (a : CallState) (me found : ℕ) (note : Option Note) where
 
 -- a step of the call half keeps the stops that the core shows
 pub stops_kept : (core : CoreValue) (cpu : ℕ) (stage : Stage) → StopsTold core (seen_at core cpu stage) 0 (stepped core cpu stage)
-stops_kept core cpu stage p shown = subst (λ q. StopShown q core.stops) (sym (call_step_apart (setup_in core) p cpu 0 _ _ (number_in core.words) stage)) shown
+stops_kept core cpu stage p shown = subst (λ q. StopShown q core.stops) (sym (call_step_apart (setup_in core) p cpu 0 _ (seen_at core cpu stage).note (number_in core.words) stage)) shown
 
 -- a step of the stop half keeps the calls that the core shows
 pub calls_kept : (core : CoreValue) (cpu : ℕ) (stage : StopStage) → CallsTold core (stop_seen_at core.stops cpu stage) (stops_stepped core cpu stage)
-calls_kept core cpu stage a shown = subst (λ b. Shown b core) (sym (stop_step_apart a cpu _ _ _ _ stage)) shown
+calls_kept core cpu stage a shown = subst (λ b. Shown b core) (sym (stop_step_apart a cpu _ (stop_seen_at core.stops cpu stage).note _ _ stage)) shown
 
 -- a step of a CPU that stands in the stop half: its stage, what is seen of it, and what it tells
 pub record IsStopStep (core : CoreValue) (cpu : ℕ) (seen : Seen) (new : StopsValue) : Type 0 where

@@ -15,9 +15,9 @@ use Rattle.smp_stop_steps.specs.Value.{StopsValue, stop_control_of}
 use Rattle.smp_stop_steps.specs.declared.stage.StopStage.{StopStage}
 use Rattle.smp_core.specs.Value.{CoreValue}
 use Rattle.smp_call_steps.specs.Value.{ValuesShow, control_of}
-use Rattle.smp_call_steps.proofs.Cores.{controls_by_cpu}
+use Rattle.smp_call_steps.proofs.Machine.Cores.{controls_by_cpu}
 use Rattle.smp_words.specs.declared.command.Command.{Command}
-use Rattle.smp_call_steps.proofs.Starts.{else_none, online_below, begun_shows}
+use Rattle.smp_call_steps.proofs.Machine.Starts.{else_none, online_below, begun_shows}
 
 not_busy : {A : Type 0} (stage : Option A) (r : Option SmpError) → busy_or stage r ≡ None → (stage ≡ None) × (r ≡ None)
 not_busy None r e = (refl, e)

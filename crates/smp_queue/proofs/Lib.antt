@@ -1,16 +1,8 @@
-pub mod Ahead
-pub mod Appends
-pub mod Auditing
-pub mod Below
-pub mod Cells
-pub mod Closed
-pub mod Entering
-pub mod Handles
-pub mod Keeps
-pub mod Kept
-pub mod Going
-pub mod Own
-pub mod Ready
-pub mod Running
-pub mod Seating
-pub mod Showing
+-- the words, and the rule that each access keeps
+pub mod TheRule
+-- a CPU between two calls, and a post
+pub mod Posts
+-- a CPU inside handle
+pub mod Handling
+-- what an audit and the laws tell
+pub mod Audits

@@ -4,9 +4,11 @@ use Rattle.atomic_table.specs.Seated.{TableId}
 use Rattle.smp_mask.specs.Mask.{has}
 use Rattle.smp_mask.specs.declared.error.SmpError.{SmpError}
 use Rattle.smp_mask.specs.declared.error.SmpError.TheVariants as error
-use Rattle.smp_words.specs.Size.{cpus, records, records_of_one, record_of}
+use Rattle.smp_words.specs.Size.{cpus, records, records_of_one, record_of, owner}
 use Rattle.smp_call_steps.specs.Start.{fits_record}
 use Rattle.smp_call_steps.specs.Histories.{sent_to, calls_from}
+use Rattle.smp_call_steps.specs.Places.{IsCall}
+use Rattle.smp_call_steps.specs.Stands.{posted}
 use Rattle.smp_call_steps.specs.Calls.{CallState, no_calls}
 use Rattle.smp_call_steps.specs.Parts.{part_of, part_confirmed, part_sent, part_queued}
 use Rattle.smp_queue.specs.Names.{Class, Known, Part, Posting}
@@ -78,10 +80,19 @@ PostAnswers t old new k to class func info tries (Err error.NoCpu) = (misused t.
 PostAnswers t old new k to class func info tries (Err error.Contended) = (misused t.nr old k to class tries ≡ false) × (has t.online to ≡ true) × (new ≡ confirms k old)
 PostAnswers t old new k to class func info tries (Err _) = ⊥
 
+-- a CPU may queue this call: the record is its own and seen confirmed, and the numbers fit
+pub record MayQueue (c : CpuValue) (p : Posting) : Type 0 where
+  pub below : c.number < cpus
+  pub owned : owner p.id ≡ c.number
+  pub is_call : IsCall (posted p)
+  pub to_in_range : p.to < cpus
+  pub confirmed : slice_index_or c.part.confirmed p.id false ≡ true
+
 -- the same of what comes before the record is written: at Ok its call
 abbrev pub BeginAnswers : TableValue → CpuValue → CpuValue → ℕ → ℕ → Class → ℕ → ℕ → ℕ → Result Posting SmpError → Type 0
 BeginAnswers t old new k to class func info tries (Ok p) =
-    (misused t.nr old k to class tries ≡ false) × (has t.online to ≡ true) × (new ≡ confirms k old) × (p ≡ posting_of (record_of old.number k) class func info to)
+    (misused t.nr old k to class tries ≡ false) × (has t.online to ≡ true) × (new ≡ confirms k old) ×
+    (p ≡ posting_of (record_of old.number k) class func info to) × MayQueue new p
 BeginAnswers t old new k to class func info tries (Err error.BadArgument) = (misused t.nr old k to class tries ≡ true) × (new ≡ old)
 BeginAnswers t old new k to class func info tries (Err error.Busy) = (misused t.nr old k to class tries ≡ false) × (confirmed_at old k ≢ true) × (new ≡ old)
 BeginAnswers t old new k to class func info tries (Err error.NoCpu) = (misused t.nr old k to class tries ≡ false) × (has t.online to ≡ false) × (new ≡ confirms k old)

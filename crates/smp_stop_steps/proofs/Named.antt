@@ -6,7 +6,7 @@ use Rattle.std.proofs.lemmas.List.{append-nil}
 use Rattle.smp_stop_steps.proofs.Phases.{is_open_inside}
 use Rattle.smp_stop_steps.proofs.RoundSteps.{change_here}
 use Rattle.smp_stop_steps.proofs.Tables.{IsStopWord}
-use Rattle.smp_words.specs.Access.{at_after, word_of}
+use Rattle.smp_words.specs.Access.{at_after, word_of, put_if}
 use Rattle.smp_words.specs.Put.{put_word}
 use Rattle.smp_words.specs.Size.{cpus}
 use Rattle.smp_stop_steps.specs.Labels.{Change, count_set, patch_answer}
@@ -194,7 +194,7 @@ module _ (u : Setup) (p : StopState) (at : Word → ℕ) (seat : ℕ → Seat) (
       pub gate_stays : (stage : StopStage) → c.stage ≡ Some stage → (cpu : ℕ) → cpu ≢ me → at Gate ≡ cpu + 1 → at_then u at c me stage Gate ≡ cpu + 1
       gate_stays TakeGate e cpu ne held = go (at Gate == 0) refl
         where
-          go : (b : Bool) → (at Gate == 0) ≡ b → (cond b (put_word at Gate (me + 1)) at) Gate ≡ cpu + 1
+          go : (b : Bool) → (at Gate == 0) ≡ b → (put_if put_word at Gate (cond b (Some (me + 1)) None)) Gate ≡ cpu + 1
           go true z = let zero_ = eqb_zero (at Gate) z in absurd (omega arith)
             where
               eqb_zero : (n : ℕ) → (n == 0) ≡ true → n ≡ 0
@@ -231,4 +231,4 @@ module _ (u : Setup) (p : StopState) (at : Word → ℕ) (seat : ℕ → Seat) (
       gate_stays (ReadKey k) e cpu ne held = held
       gate_stays (ReadSite i) e cpu ne held = held
       gate_stays (NudgeKey k up) e cpu ne held = held
-      gate_stays (ExchangeKey k expected new) e cpu ne held = elim (at (Key k) == expected) as (λ b. (cond b (put_word at (Key k) new) at) Gate ≡ cpu + 1) [ true ↦ held | false ↦ held ]
+      gate_stays (ExchangeKey k expected new) e cpu ne held = elim (at (Key k) == expected) as (λ b. (put_if put_word at (Key k) (cond b (Some new) None)) Gate ≡ cpu + 1) [ true ↦ held | false ↦ held ]

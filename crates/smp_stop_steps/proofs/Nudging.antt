@@ -4,6 +4,7 @@ use Rattle.std.proofs.lemmas.Bool.{cases_lt}
 use Rattle.smp_labels.specs.Keys.{is_on, change_of, count_after, IsKeyWord}
 use Rattle.smp_labels.specs.Kinds.{xor}
 use Rattle.smp_labels.specs.declared.keys.Change.TheVariants.{Up, Down}
+use Rattle.smp_words.specs.Access.{put_if}
 use Rattle.smp_words.proofs.Puts.{at_test}
 use Rattle.smp_stop_steps.proofs.Counts.{put_here}
 use Rattle.smp_stop_steps.proofs.Patched.{lawful_when_on, nobody_patches}
@@ -121,7 +122,7 @@ module _ (u : Setup) (p : StopState) (at : Word → ℕ) (seat : ℕ → Seat) (
   loaded = record { keys = λ k. refl; sites = λ i. refl }
 
   pub keys_stand : (stage : StopStage) → c.stage ≡ Some stage → p.now.patching ≡ Whole → KeysStand at (at_then u at c me stage)
-  keys_stand TakeGate e w = elim (at Gate == 0) as (λ b. KeysStand at (cond b (put_word at Gate (me + 1)) at)) [
+  keys_stand TakeGate e w = elim (at Gate == 0) as (λ b. KeysStand at (put_if put_word at Gate (cond b (Some (me + 1)) None))) [
     | true ↦ record { keys = λ k. refl; sites = λ i. refl }
     | false ↦ loaded
   ]
@@ -155,7 +156,7 @@ module _ (u : Setup) (p : StopState) (at : Word → ℕ) (seat : ℕ → Seat) (
   keys_stand (NudgeKey k up) e w = loaded
   keys_stand (ExchangeKey k expected new) e w = go (at (Key k) == expected) refl
     where
-      go : (b : Bool) → (at (Key k) == expected) ≡ b → KeysStand at (cond b (put_word at (Key k) new) at)
+      go : (b : Bool) → (at (Key k) == expected) ≡ b → KeysStand at (put_if put_word at (Key k) (cond b (Some new) None))
       go true z = record {
         keys = λ j. at_test j k (λ b. is_on (cond b new (at (Key j))) ≡ is_on (at (Key j)))
             (λ same. (nudges k expected new e).nudge.same ∙ ap is_on (sym (eqb-true (at (Key k)) expected z) ∙ ap (λ i. at (Key i)) (sym same))) (λ _. refl);

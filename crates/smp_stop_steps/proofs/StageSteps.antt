@@ -8,7 +8,7 @@ use Rattle.smp_words.proofs.Puts.{at_test}
 use Rattle.smp_stop_steps.proofs.Facts.{work_words}
 use Rattle.smp_stop_steps.proofs.Patching.{key_read, site_read, key_exchanged}
 use Rattle.smp_stop_steps.proofs.Sources.{done_loaded, field_stored, gate_opened, gate_taken, kind_back, result_loaded, roll_stored}
-use Rattle.smp_words.specs.Access.{one_less}
+use Rattle.smp_words.specs.Access.{one_less, put_if}
 use Rattle.smp_words.specs.Put.{put, put_word}
 use Rattle.smp_stop_steps.specs.Seats.{In, Rests, Seat}
 use Rattle.smp_stop_steps.specs.Shows.{StopShows, gate_word}
@@ -82,7 +82,7 @@ module _ (u : Setup) (p : StopState) (at : Word → ℕ) (seat : ℕ → Seat) (
   holder (Some n) e = ap Some (let x : n ≡ me = omega arith in x)
 
   gate_is_taken : (b : Bool) → (at Gate == 0) ≡ b →
-      StopShows u (gate_told p me act.Cas (cond b (Some (me + 1)) None)) (cond b (put_word at Gate (me + 1)) at) seat source
+      StopShows u (gate_told p me act.Cas (cond b (Some (me + 1)) None)) (put_if put_word at Gate (cond b (Some (me + 1)) None)) seat source
   gate_is_taken true e = gate_taken u p at seat source h me 0 (eqb-true (at Gate) 0 e)
   gate_is_taken false e = h
 
@@ -264,7 +264,7 @@ module _ (u : Setup) (p : StopState) (at : Word → ℕ) (seat : ℕ → Seat) (
       }
     where
       go : u.online me ≡ true → p.now.irq me ≡ true → IsNudge expected new → (b : Bool) → (at (Key k) == expected) ≡ b →
-          StopShows u (told u p me act.Cas (Key k) (Some (at (Key k))) (cond b (Some new) None) 0) (cond b (put_word at (Key k) new) at) seat source
+          StopShows u (told u p me act.Cas (Key k) (Some (at (Key k))) (cond b (Some new) None) 0) (put_if put_word at (Key k) (cond b (Some new) None)) seat source
       go online on nudge true z =
           let same = eqb-true (at (Key k)) expected z in
           key_exchanged u p at seat source h me k (at (Key k)) new s.below online on refl record { one = subst (λ n. (new ≡ n + 1) ⊎ (n ≡ new + 1)) (sym same) nudge.one; same = nudge.same ∙ ap is_on (sym same); word = nudge.word } 0

@@ -1,6 +1,6 @@
 -- No state word is ever more than 5, whether a stop is open in its slot or not.
-use Rattle.std.proofs.Common.{ℕ, ◌+◌, ◌≤◌, Bool, true, false, ◌==◌, cond, Some, subst, arith}
-use Rattle.smp_words.specs.Access.{at_after}
+use Rattle.std.proofs.Common.{ℕ, ◌+◌, ◌≤◌, Bool, true, false, ◌==◌, cond, Some, subst, arith, None}
+use Rattle.smp_words.specs.Access.{at_after, put_if}
 use Rattle.smp_words.specs.Put.{put_word}
 use Rattle.smp_stop_steps.specs.Labels.{Change}
 use Rattle.smp_stop_steps.specs.Seats.{Seat, In, Sets, Stands}
@@ -44,7 +44,7 @@ first_small Patch = omega arith
 -- a store that is not to a state word
 
 module _ (at : Word → ℕ) (h : ArePhases at) where
-  gate_after : (b : Bool) (n : ℕ) → ArePhases (cond b (put_word at Gate n) at)
+  gate_after : (b : Bool) (n : ℕ) → ArePhases (put_if put_word at Gate (cond b (Some n) None))
   gate_after true n = λ s. h s
   gate_after false n = h
 
@@ -109,4 +109,4 @@ module _ (u : Setup) (p : StopState) (at : Word → ℕ) (seat : ℕ → Seat) (
   phases_after (ReadKey k) x = h
   phases_after (ReadSite i) x = h
   phases_after (NudgeKey k up) x = h
-  phases_after (ExchangeKey k expected new) x = elim (at (Key k) == expected) as (λ b. ArePhases (cond b (put_word at (Key k) new) at)) [ true ↦ λ s. h s | false ↦ h ]
+  phases_after (ExchangeKey k expected new) x = elim (at (Key k) == expected) as (λ b. ArePhases (put_if put_word at (Key k) (cond b (Some new) None))) [ true ↦ λ s. h s | false ↦ h ]

@@ -6,7 +6,7 @@ use Rattle.std.specs.Int.Bits.{bit_and}
 use Rattle.std.specs.Prelude.{slice_set, slice_index}
 use Rattle.smp_labels.specs.declared.words.TheConstants.{MOST_KEYS, MOST_SITES}
 use Rattle.smp_words.specs.Put.{put_word, same_word, place_of}
-use Rattle.smp_words.specs.Access.{word_of, one_less, at_after}
+use Rattle.smp_words.specs.Access.{word_of, one_less, at_after, put_if}
 use Rattle.smp_words.specs.Layout.{number_at, put_at}
 use Rattle.smp_words.specs.Size.{cpus}
 use Rattle.smp_stop_steps.specs.Table.{StopWords, slot_cell, stop_number, stop_put, stop_words_after}
@@ -125,7 +125,7 @@ stop_words_by_name t is (Store w n) h = put_by_name t is w n h
 stop_words_by_name t is (Swap w n) h = put_by_name t is w n h
 stop_words_by_name t is (Exchange w expected n) h = go (stop_number t w == expected)
   where
-    go : (b : Bool) → stop_number (cond b (stop_put t w n) t) ≡ cond b (put_word (stop_number t) w n) (stop_number t)
+    go : (b : Bool) → stop_number (put_if stop_put t w (cond b (Some n) None)) ≡ put_if put_word (stop_number t) w (cond b (Some n) None)
     go true = put_by_name t is w n h
     go false = refl
 stop_words_by_name t is (Sub w) h = put_by_name t is w (one_less (stop_number t w)) h
@@ -150,7 +150,7 @@ table_after t is (Store w n) h = table_put t is w n h
 table_after t is (Swap w n) h = table_put t is w n h
 table_after t is (Exchange w expected n) h = go (stop_number t w == expected)
   where
-    go : (b : Bool) → IsStopTable (cond b (stop_put t w n) t)
+    go : (b : Bool) → IsStopTable (put_if stop_put t w (cond b (Some n) None))
     go true = table_put t is w n h
     go false = is
 table_after t is (Sub w) h = table_put t is w (one_less (stop_number t w)) h

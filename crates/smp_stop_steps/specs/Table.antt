@@ -1,12 +1,10 @@
 -- The words of a stop table, and what an access does to them.
-use Rattle.std.specs.Int.Bits.{bit_and}
-use Rattle.std.specs.Prelude.{ℕ, ◌+◌, ◌*◌, ◌==◌, nat_lt, if◌then◌else◌, Option, Some, None, List, slice_index, slice_set}
+use Rattle.std.specs.Prelude.{ℕ, ◌+◌, ◌*◌, nat_lt, if◌then◌else◌, Option, Some, None, List, slice_index, slice_set}
 use Rattle.smp_words.specs.Put.{place_of}
 use Rattle.smp_labels.specs.declared.words.TheConstants.{MOST_KEYS, MOST_SITES}
 use Rattle.smp_words.specs.Layout.{number_at, number_if, put_at}
-use Rattle.smp_words.specs.Access.{one_less}
+use Rattle.smp_words.specs.Access.{word_of, put_by, put_if}
 use Rattle.smp_words.specs.declared.access.Access.{Access}
-use Rattle.smp_words.specs.declared.access.Access.TheVariants.{Load, Store, Swap, Exchange, Sub, And}
 use Rattle.smp_words.specs.declared.size.TheConstants.{NR_CPUS, FIELDS}
 use Rattle.smp_words.specs.declared.field.Field.{Field}
 use Rattle.smp_words.specs.declared.word.Word.{Word}
@@ -57,9 +55,4 @@ stop_put t _ n = t
 
 -- the words after an access
 abbrev pub stop_words_after : StopWords → Access → StopWords
-stop_words_after t (Load w) = t
-stop_words_after t (Store w n) = stop_put t w n
-stop_words_after t (Swap w n) = stop_put t w n
-stop_words_after t (Exchange w expected n) = if stop_number t w == expected then stop_put t w n else t
-stop_words_after t (Sub w) = stop_put t w (one_less (stop_number t w))
-stop_words_after t (And w n) = stop_put t w (bit_and (stop_number t w) n)
+stop_words_after t access = put_if stop_put t (word_of access) (put_by access (stop_number t (word_of access)))

@@ -127,18 +127,10 @@ impl<A: Allocator> StopTable<A> {
         ensures found { result ≡ stop_number self.old (word_of access) }
         ensures words { self.new ≡ stop_words_after self.old access }
     {
-        let found = self.read(access.word());
-        match access {
-            Access::Load(_) => {}
-            Access::Store(word, number) => self.write(word, number),
-            Access::Swap(word, number) => self.write(word, number),
-            Access::Exchange(word, expected, number) => {
-                if found == expected {
-                    self.write(word, number);
-                }
-            }
-            Access::Sub(word) => self.write(word, found.wrapping_sub(1)),
-            Access::And(word, number) => self.write(word, found & number),
+        let word = access.word();
+        let found = self.read(word);
+        if let Some(number) = access.puts(found) {
+            self.write(word, number);
         }
         found
     }

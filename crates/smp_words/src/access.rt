@@ -1,7 +1,7 @@
 //! What a step does to one word.
 
 ghost use Rattle.std.specs.Prelude.{◌≡◌};
-ghost use Rattle.smp_words.specs.Access.{seen_of, word_of};
+ghost use Rattle.smp_words.specs.Access.{act_of, put_by, seen_of, word_of};
 
 use crate::seen::{Act, Note, Seen};
 use crate::word::Word;
@@ -36,31 +36,46 @@ impl Access {
         }
     }
 
+    /// What it puts into its word, by the number that it finds there.
+    pub fn puts(self, found: u64) -> Option<u64>
+        ensures { result ≡ put_by self found }
+    {
+        match self {
+            Access::Load(_) => None,
+            Access::Store(_, number) => Some(number),
+            Access::Swap(_, number) => Some(number),
+            Access::Exchange(_, expected, number) => (found == expected).then_some(number),
+            Access::Sub(_) => Some(found.wrapping_sub(1)),
+            Access::And(_, number) => Some(found & number),
+        }
+    }
+
+    fn act(self) -> Act
+        ensures { result ≡ act_of self }
+    {
+        match self {
+            Access::Load(_) => Act::Load,
+            Access::Store(_, _) => Act::Store,
+            Access::Swap(_, _) => Act::Swap,
+            Access::Exchange(_, _, _) => Act::Cas,
+            Access::Sub(_) => Act::Sub,
+            Access::And(_, _) => Act::And,
+        }
+    }
+
     /// The step as it is seen, by what it found.
     pub fn seen(self, cpu: u32, found: u64, note: Option<Note>) -> Seen
         ensures { result ≡ seen_of cpu self found note }
     {
-        let (act, word, found, put) = match self {
-            Access::Load(word) => (Act::Load, word, Some(found), None),
-            Access::Store(word, number) => (Act::Store, word, None, Some(number)),
-            Access::Swap(word, number) => (Act::Swap, word, Some(found), Some(number)),
-            Access::Exchange(word, expected, number) => {
-                let put = if found == expected {
-                    Some(number)
-                } else {
-                    None
-                };
-                (Act::Cas, word, Some(found), put)
-            }
-            Access::Sub(word) => (Act::Sub, word, Some(found), Some(found.wrapping_sub(1))),
-            Access::And(word, number) => (Act::And, word, Some(found), Some(found & number)),
-        };
         Seen {
             cpu,
-            act,
-            word,
-            found,
-            put,
+            act: self.act(),
+            word: self.word(),
+            found: match self {
+                Access::Store(_, _) => None,
+                _ => Some(found),
+            },
+            put: self.puts(found),
             note,
         }
     }

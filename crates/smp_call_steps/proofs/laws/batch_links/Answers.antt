@@ -1,4 +1,4 @@
-use Rattle.smp_call_steps.proofs.BatchLinks.{batch_links}
+use Rattle.smp_call_steps.proofs.State.BatchLinks.{batch_links}
 use Rattle.smp_call_steps.proofs.laws.batch_links.Goals as goal
 
 pub returns : goal.returns

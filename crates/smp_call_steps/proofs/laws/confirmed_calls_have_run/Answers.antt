@@ -1,4 +1,4 @@
-use Rattle.smp_call_steps.proofs.HaveRun.{confirmed_calls_have_run}
+use Rattle.smp_call_steps.proofs.State.HaveRun.{confirmed_calls_have_run}
 use Rattle.smp_call_steps.proofs.laws.confirmed_calls_have_run.Goals as goal
 
 pub returns : goal.returns

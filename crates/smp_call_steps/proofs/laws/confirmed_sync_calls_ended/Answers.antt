@@ -1,4 +1,4 @@
-use Rattle.smp_call_steps.proofs.HaveRun.{confirmed_sync_calls_ended}
+use Rattle.smp_call_steps.proofs.State.HaveRun.{confirmed_sync_calls_ended}
 use Rattle.smp_call_steps.proofs.laws.confirmed_sync_calls_ended.Goals as goal
 
 pub returns : goal.returns

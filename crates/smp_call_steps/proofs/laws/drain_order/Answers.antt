@@ -1,4 +1,4 @@
-use Rattle.smp_call_steps.proofs.QueueOrder.{keeps_classes, asyncs_last}
+use Rattle.smp_call_steps.proofs.State.QueueOrder.{keeps_classes, asyncs_last}
 use Rattle.smp_call_steps.proofs.laws.drain_order.Goals as goal
 
 pub returns-clause-classes : goal.returns-clause-classes

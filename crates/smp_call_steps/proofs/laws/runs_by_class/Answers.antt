@@ -1,4 +1,4 @@
-use Rattle.smp_call_steps.proofs.Classes.{runs_by_class}
+use Rattle.smp_call_steps.proofs.State.Classes.{runs_by_class}
 use Rattle.smp_call_steps.proofs.laws.runs_by_class.Goals as goal
 
 pub returns : goal.returns

@@ -1,4 +1,4 @@
-use Rattle.smp_call_steps.proofs.QueueOrder.{run_in_queue_order}
+use Rattle.smp_call_steps.proofs.State.QueueOrder.{run_in_queue_order}
 use Rattle.smp_call_steps.proofs.laws.runs_in_queue_order.Goals as goal
 
 pub returns : goal.returns

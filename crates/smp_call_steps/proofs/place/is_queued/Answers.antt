@@ -4,8 +4,8 @@ use Rattle.smp_words.specs.Size.{records}
 use Rattle.smp_call_steps.specs.Words.{nexts_in}
 use Rattle.smp_call_steps.specs.Queues.{chain_in}
 use Rattle.smp_call_steps.specs.Value.{control_of}
-use Rattle.smp_call_steps.proofs.Places.{in_queue}
-use Rattle.smp_call_steps.proofs.QueueChains.{queue_chain, queue_read}
+use Rattle.smp_call_steps.proofs.State.Places.{in_queue}
+use Rattle.smp_call_steps.proofs.State.QueueChains.{queue_chain, queue_read}
 use Rattle.smp_call_steps.proofs.place.is_queued.Goals as goal
 
 pub is_on_chain-requires-clause-chained : goal.is_on_chain-requires-clause-chained

@@ -4,7 +4,7 @@ use Rattle.smp_call_steps.specs.Batches.{has_record, running_of}
 use Rattle.smp_words.specs.Layout.{number_in}
 use Rattle.smp_call_steps.specs.Stages.{ControlValue}
 use Rattle.smp_call_steps.specs.Value.{control_of, outside}
-use Rattle.smp_call_steps.proofs.Places.{in_running}
+use Rattle.smp_call_steps.proofs.State.Places.{in_running}
 use Rattle.smp_call_steps.proofs.place.is_running.Goals as goal
 
 pub returns : goal.returns

@@ -1,7 +1,7 @@
 use Rattle.std.proofs.Common.{ℕ, ◌<◌}
 use Rattle.smp_call_steps.specs.Calls.{CallState}
 use Rattle.smp_call_steps.specs.Value.{ValuesShow}
-use Rattle.smp_call_steps.proofs.Places.{IsNotOn}
+use Rattle.smp_call_steps.proofs.State.Places.{IsNotOn}
 use Rattle.smp_call_steps.proofs.place.place_of.Given as goal
 
 abbrev pub invariant-loop-cpu : goal.invariant-loop-cpu

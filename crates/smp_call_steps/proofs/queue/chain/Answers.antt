@@ -5,7 +5,7 @@ use Rattle.smp_words.specs.Layout.{number_in}
 use Rattle.smp_words.specs.Size.{records}
 use Rattle.smp_call_steps.specs.Words.{nexts_in}
 use Rattle.smp_call_steps.specs.Queues.{chain_in}
-use Rattle.smp_call_steps.proofs.Chains.{Follows, follows_all, passes, ended, ended_by_count, refilled}
+use Rattle.smp_call_steps.proofs.State.Chains.{Follows, follows_all, passes, ended, ended_by_count, refilled}
 use Rattle.smp_call_steps.proofs.queue.chain.Goals as goal
 use Rattle.smp_call_steps.proofs.queue.chain.Goals.{else-loop-round-test, then-loop-round-test+then-link-eq0}
 

@@ -1,6 +1,6 @@
 use Rattle.smp_words.specs.Layout.{number_in}
 use Rattle.smp_call_steps.specs.Words.{nexts_in}
-use Rattle.smp_call_steps.proofs.Chains.{Seeks}
+use Rattle.smp_call_steps.proofs.State.Chains.{Seeks}
 use Rattle.smp_call_steps.proofs.queue.is_on_chain.Given as goal
 
 abbrev pub invariant-loop-round : goal.invariant-loop-round

@@ -1,5 +1,5 @@
 use Rattle.std.proofs.Common.{subst, None, []}
-use Rattle.smp_call_steps.proofs.Starts.{record_below}
+use Rattle.smp_call_steps.proofs.Machine.Starts.{record_below}
 use Rattle.smp_queue.specs.Cpu.{CpuValue, confirmed_at}
 use Rattle.smp_calls.specs.Families.{Leaves, owes_at}
 use Rattle.smp_calls.proofs.Steps.{leaves_as, leaves_then, leaves_ended}

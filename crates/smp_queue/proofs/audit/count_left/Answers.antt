@@ -3,8 +3,8 @@ use Rattle.smp_words.specs.Size.{cpus, records}
 use Rattle.smp_queue.specs.Names.{Head, Hand, Flags}
 use Rattle.smp_queue.specs.Cells.{number_in}
 use Rattle.smp_queue.specs.Audit.{count_below, has_head, has_hand, has_lock}
-use Rattle.smp_queue.proofs.Auditing.{count_zero, counted_more, counted_small}
-use Rattle.smp_queue.proofs.Cells.{has_cell}
+use Rattle.smp_queue.proofs.Audits.Auditing.{count_zero, counted_more, counted_small}
+use Rattle.smp_queue.proofs.TheRule.Cells.{has_cell}
 use Rattle.smp_queue.proofs.audit.count_left.Goals as goal
 
 pub loop-cpu-init : goal.loop-cpu-init

@@ -1,5 +1,5 @@
 use Rattle.smp_queue.specs.Cells.{number_in}
-use Rattle.smp_queue.proofs.Auditing.{CountsCpus, CountsRecords}
+use Rattle.smp_queue.proofs.Audits.Auditing.{CountsCpus, CountsRecords}
 use Rattle.smp_queue.proofs.audit.count_left.Given as goal
 
 abbrev pub invariant-loop-cpu : goal.invariant-loop-cpu

@@ -1,5 +1,5 @@
 use Rattle.smp_queue.specs.Names.{Queued}
-use Rattle.smp_queue.proofs.Cells.{has_cell}
+use Rattle.smp_queue.proofs.TheRule.Cells.{has_cell}
 use Rattle.smp_queue.proofs.audit.queued_by.Goals as goal
 
 pub number-requires : goal.number-requires

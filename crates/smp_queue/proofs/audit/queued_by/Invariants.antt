@@ -1,6 +1,6 @@
 use Rattle.smp_queue.specs.Names.{Queued}
 use Rattle.smp_queue.specs.Cells.{number_in}
-use Rattle.smp_queue.proofs.Auditing.{Reads}
+use Rattle.smp_queue.proofs.Audits.Auditing.{Reads}
 use Rattle.smp_queue.proofs.audit.queued_by.Given as goal
 
 abbrev pub invariant-loop-to : goal.invariant-loop-to

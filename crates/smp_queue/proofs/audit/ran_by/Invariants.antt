@@ -1,6 +1,6 @@
 use Rattle.smp_queue.specs.Names.{Ran}
 use Rattle.smp_queue.specs.Cells.{number_in}
-use Rattle.smp_queue.proofs.Auditing.{Reads}
+use Rattle.smp_queue.proofs.Audits.Auditing.{Reads}
 use Rattle.smp_queue.proofs.audit.ran_by.Given as goal
 
 abbrev pub invariant-loop-source : goal.invariant-loop-source

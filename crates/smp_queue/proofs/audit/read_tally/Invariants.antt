@@ -1,5 +1,5 @@
 use Rattle.smp_queue.specs.Cells.{number_in}
-use Rattle.smp_queue.proofs.Auditing.{ReadsTally}
+use Rattle.smp_queue.proofs.Audits.Auditing.{ReadsTally}
 use Rattle.smp_queue.proofs.audit.read_tally.Given as goal
 
 abbrev pub invariant-loop-cpu : goal.invariant-loop-cpu

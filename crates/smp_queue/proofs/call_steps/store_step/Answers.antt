@@ -1,9 +1,9 @@
 use Rattle.std.proofs.Common.{arith, ap, ◌∙◌}
 use Rattle.smp_queue.specs.Names.{Store}
-use Rattle.smp_queue.proofs.Cells.{cell_below}
-use Rattle.smp_queue.proofs.Below.{store_below}
-use Rattle.smp_queue.proofs.Keeps.{can_same}
-use Rattle.smp_queue.proofs.Handles.{in_handle_can, in_handle_cell}
+use Rattle.smp_queue.proofs.TheRule.Cells.{cell_below}
+use Rattle.smp_queue.proofs.TheRule.Below.{store_below}
+use Rattle.smp_queue.proofs.TheRule.Keeps.{can_same}
+use Rattle.smp_queue.proofs.Handling.Handles.{in_handle_can, in_handle_cell}
 use Rattle.smp_queue.proofs.call_steps.store_step.Goals as goal
 
 pub cell-requires : goal.cell-requires

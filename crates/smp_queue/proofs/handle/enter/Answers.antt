@@ -1,4 +1,4 @@
-use Rattle.smp_queue.proofs.Entering.{enter_ready, accept_ready}
+use Rattle.smp_queue.proofs.Handling.Entering.{enter_ready, accept_ready}
 use Rattle.smp_queue.proofs.handle.enter.Goals as goal
 
 pub store-requires : goal.store-requires

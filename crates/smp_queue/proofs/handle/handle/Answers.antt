@@ -1,6 +1,6 @@
 use Rattle.std.proofs.Common.{ap, ◌∙◌}
 use Rattle.smp_call_steps.specs.Drains.{DrainValue}
-use Rattle.smp_queue.proofs.Entering.{has_handled}
+use Rattle.smp_queue.proofs.Handling.Entering.{has_handled}
 use Rattle.smp_queue.proofs.handle.handle.Goals as goal
 
 pub returns-clause-asked : goal.returns-clause-asked

@@ -1,4 +1,4 @@
-use Rattle.smp_queue.proofs.Entering.{leave_ready}
+use Rattle.smp_queue.proofs.Handling.Entering.{leave_ready}
 use Rattle.smp_queue.proofs.handle.leave.Goals as goal
 
 pub store-requires : goal.store-requires

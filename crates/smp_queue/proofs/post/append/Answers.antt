@@ -1,5 +1,5 @@
 use Rattle.std.proofs.Common.{◌==◌, ◌∙◌}
-use Rattle.smp_queue.proofs.Appends.{tries_mine, tries_stage, tries_tallied, tries_won, tries_left}
+use Rattle.smp_queue.proofs.Posts.Appends.{tries_mine, tries_stage, tries_tallied, tries_won, tries_left}
 use Rattle.smp_queue.proofs.post.append.Goals as goal
 
 pub loop-init : goal.loop-init

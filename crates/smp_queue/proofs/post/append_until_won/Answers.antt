@@ -1,5 +1,5 @@
 use Rattle.std.proofs.Common.{◌==◌, ◌∙◌}
-use Rattle.smp_queue.proofs.Appends.{tries_mine, tries_stage, tries_won}
+use Rattle.smp_queue.proofs.Posts.Appends.{tries_mine, tries_stage, tries_won}
 use Rattle.smp_queue.proofs.post.append_until_won.Goals as goal
 
 pub loop-init : goal.loop-init

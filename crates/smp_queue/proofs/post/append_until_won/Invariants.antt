@@ -1,4 +1,4 @@
-use Rattle.smp_queue.proofs.Appends.{Tries}
+use Rattle.smp_queue.proofs.Posts.Appends.{Tries}
 use Rattle.smp_queue.proofs.post.append_until_won.Given as goal
 
 abbrev pub invariant-loop : goal.invariant-loop

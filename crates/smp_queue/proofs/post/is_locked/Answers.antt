@@ -1,7 +1,7 @@
 use Rattle.std.proofs.Common.{sym, ◌∙◌, true≢false}
-use Rattle.smp_call_steps.proofs.Restages.{confirmed_unlocked}
-use Rattle.smp_call_steps.proofs.Posted.{loaded_known}
-use Rattle.smp_queue.proofs.Ready.{ready_done}
+use Rattle.smp_call_steps.proofs.Knows.Restages.{confirmed_unlocked}
+use Rattle.smp_call_steps.proofs.Knows.Posted.{loaded_known}
+use Rattle.smp_queue.proofs.Posts.Ready.{ready_done}
 use Rattle.smp_queue.proofs.post.is_locked.Goals as goal
 
 pub load-requires : goal.load-requires

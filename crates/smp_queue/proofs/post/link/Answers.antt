@@ -1,9 +1,9 @@
 use Rattle.std.proofs.Common.{◌==◌, ◌+◌, sym, refl, ap, ◌∙◌, eq-eqb, ne_eqb, Some, true}
 use Rattle.smp_call_steps.specs.Stands.{posted}
 use Rattle.smp_call_steps.specs.Known.{queued_known}
-use Rattle.smp_call_steps.proofs.Posted.{stands_as, next_known, won_known, lost_known}
+use Rattle.smp_call_steps.proofs.Knows.Posted.{stands_as, next_known, won_known, lost_known}
 use Rattle.smp_queue.specs.Seat.{counted}
-use Rattle.smp_queue.proofs.Ready.{ready_post, mine_moved}
+use Rattle.smp_queue.proofs.Posts.Ready.{ready_post, mine_moved}
 use Rattle.smp_queue.specs.Names.post
 use Rattle.smp_queue.proofs.post.link.Goals as goal
 

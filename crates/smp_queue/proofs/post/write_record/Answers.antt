@@ -1,7 +1,7 @@
 use Rattle.std.proofs.Common.{sym, refl, ap}
 use Rattle.smp_call_steps.specs.Known.{posting_of}
-use Rattle.smp_call_steps.proofs.Posted.{locked_known, func_known, info_known}
-use Rattle.smp_queue.proofs.Ready.{ready_post, mine_moved}
+use Rattle.smp_call_steps.proofs.Knows.Posted.{locked_known, func_known, info_known}
+use Rattle.smp_queue.proofs.Posts.Ready.{ready_post, mine_moved}
 use Rattle.smp_queue.specs.Names.{Flags, Store}
 use Rattle.smp_queue.specs.Names.post
 use Rattle.smp_queue.proofs.post.write_record.Goals as goal

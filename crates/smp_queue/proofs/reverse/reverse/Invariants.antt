@@ -1,6 +1,6 @@
 use Rattle.std.proofs.Common.{◌-◌}
 use Rattle.smp_words.specs.declared.size.TheConstants.{MOST_CALLS}
-use Rattle.smp_queue.proofs.Going.{Reversing}
+use Rattle.smp_queue.proofs.Handling.Going.{Reversing}
 use Rattle.smp_queue.proofs.reverse.reverse.Given as goal
 
 abbrev pub invariant-loop-next : goal.invariant-loop-next

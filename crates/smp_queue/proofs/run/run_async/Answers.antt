@@ -4,11 +4,11 @@ use Rattle.smp_call_steps.specs.Drains.{second_on}
 use Rattle.smp_call_steps.specs.Histories.{counted_call}
 use Rattle.smp_call_steps.specs.Handling.{ended_call}
 use Rattle.smp_words.proofs.Sizes.{owner-below}
-use Rattle.smp_call_steps.proofs.Handling.{lives_stands, lives_front}
+use Rattle.smp_call_steps.proofs.Knows.Handling.{lives_stands, lives_front}
 use Rattle.smp_queue.specs.Names.{Known}
 use Rattle.smp_queue.specs.Names.handle
 use Rattle.smp_queue.specs.Handling.{heard}
-use Rattle.smp_queue.proofs.Running.{tally_running, has_run}
+use Rattle.smp_queue.proofs.Handling.Running.{tally_running, has_run}
 use Rattle.smp_queue.proofs.run.run_async.Goals as goal
 
 pub one_more-ran-requires : goal.one_more-ran-requires

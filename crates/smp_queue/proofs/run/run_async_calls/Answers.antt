@@ -3,9 +3,9 @@ use Rattle.smp_call_steps.specs.Drains.{second_on}
 use Rattle.smp_queue.specs.Names.{Func, Info, Next, Load}
 use Rattle.smp_queue.specs.Names.handle
 use Rattle.smp_queue.specs.Seat.{InHandle}
-use Rattle.smp_queue.proofs.Handles.{in_handle_ready}
-use Rattle.smp_queue.proofs.Running.{more_run}
-use Rattle.smp_queue.proofs.Going.{HasLoad, found_fits, async_func_at, async_info_at, async_known, run_kept}
+use Rattle.smp_queue.proofs.Handling.Handles.{in_handle_ready}
+use Rattle.smp_queue.proofs.Handling.Running.{more_run}
+use Rattle.smp_queue.proofs.Handling.Going.{HasLoad, found_fits, async_func_at, async_info_at, async_known, run_kept}
 use Rattle.smp_queue.proofs.run.run_async_calls.Goals as goal
 
 pub load-link-requires : goal.load-link-requires

@@ -1,5 +1,5 @@
 use Rattle.std.proofs.Common.{length}
-use Rattle.smp_queue.proofs.Going.{Running2}
+use Rattle.smp_queue.proofs.Handling.Going.{Running2}
 use Rattle.smp_queue.proofs.run.run_async_calls.Given as goal
 
 abbrev pub invariant-loop-here : goal.invariant-loop-here

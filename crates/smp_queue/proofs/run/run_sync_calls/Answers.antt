@@ -3,10 +3,10 @@ use Rattle.smp_call_steps.specs.Drains.{record_at, first_on, by_class}
 use Rattle.smp_queue.specs.Names.{Class, Flags, Next, Load, Known}
 use Rattle.smp_queue.specs.Names.handle
 use Rattle.smp_queue.specs.Seat.{InHandle}
-use Rattle.smp_queue.proofs.Ahead.{ahead_less, ahead_then, same_taken}
-use Rattle.smp_queue.proofs.Handles.{in_handle_ready}
-use Rattle.smp_queue.proofs.Running.{more_run}
-use Rattle.smp_queue.proofs.Going.{HasLoad, found_fits, sync_flags_at, class_goes, class_kept, kept_on, run_kept}
+use Rattle.smp_queue.proofs.Handling.Ahead.{ahead_less, ahead_then, same_taken}
+use Rattle.smp_queue.proofs.Handling.Handles.{in_handle_ready}
+use Rattle.smp_queue.proofs.Handling.Running.{more_run}
+use Rattle.smp_queue.proofs.Handling.Going.{HasLoad, found_fits, sync_flags_at, class_goes, class_kept, kept_on, run_kept}
 use Rattle.smp_queue.proofs.run.run_sync_calls.Goals as goal
 
 pub load-link-requires : goal.load-link-requires

@@ -1,6 +1,6 @@
 use Rattle.smp_call_steps.specs.Words.{last_batch}
-use Rattle.smp_queue.proofs.Ahead.{left_from}
-use Rattle.smp_queue.proofs.Going.{Running1}
+use Rattle.smp_queue.proofs.Handling.Ahead.{left_from}
+use Rattle.smp_queue.proofs.Handling.Going.{Running1}
 use Rattle.smp_queue.proofs.run.run_sync_calls.Given as goal
 
 abbrev pub invariant-loop-here : goal.invariant-loop-here

@@ -1,9 +1,9 @@
 use Rattle.std.proofs.Common.{arith, ap, subst, ◌∙◌}
 use Rattle.smp_call_steps.specs.Known.{Moment}
 use Rattle.smp_queue.specs.Names.{Known}
-use Rattle.smp_queue.proofs.Below.{load_below}
-use Rattle.smp_queue.proofs.Cells.{cell_below}
-use Rattle.smp_queue.proofs.Keeps.{can_same}
+use Rattle.smp_queue.proofs.TheRule.Below.{load_below}
+use Rattle.smp_queue.proofs.TheRule.Cells.{cell_below}
+use Rattle.smp_queue.proofs.TheRule.Keeps.{can_same}
 use Rattle.smp_queue.proofs.seat.load.Goals as goal
 
 pub load-requires : goal.load-requires

@@ -1,5 +1,5 @@
 use Rattle.std.proofs.Common.{arith}
-use Rattle.smp_queue.proofs.Below.{splits_below}
+use Rattle.smp_queue.proofs.TheRule.Below.{splits_below}
 use Rattle.smp_queue.proofs.seat.next_seat.Goals as goal
 
 pub split_seat-raw-requires : goal.split_seat-raw-requires

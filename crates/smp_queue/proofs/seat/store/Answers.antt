@@ -1,7 +1,7 @@
 use Rattle.std.proofs.Common.{arith, ap, ◌∙◌}
-use Rattle.smp_queue.proofs.Below.{store_below}
-use Rattle.smp_queue.proofs.Cells.{cell_below}
-use Rattle.smp_queue.proofs.Keeps.{can_same}
+use Rattle.smp_queue.proofs.TheRule.Below.{store_below}
+use Rattle.smp_queue.proofs.TheRule.Cells.{cell_below}
+use Rattle.smp_queue.proofs.TheRule.Keeps.{can_same}
 use Rattle.smp_queue.proofs.seat.store.Goals as goal
 
 pub store-requires : goal.store-requires

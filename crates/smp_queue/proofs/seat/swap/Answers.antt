@@ -3,9 +3,9 @@ use Rattle.smp_call_steps.specs.Known.{Moment, known_taking}
 use Rattle.smp_queue.specs.Names.{Known}
 use Rattle.smp_queue.specs.Names.act
 use Rattle.smp_queue.specs.Rule.{known}
-use Rattle.smp_queue.proofs.Below.{swap_below}
-use Rattle.smp_queue.proofs.Cells.{cell_below}
-use Rattle.smp_queue.proofs.Keeps.{can_same}
+use Rattle.smp_queue.proofs.TheRule.Below.{swap_below}
+use Rattle.smp_queue.proofs.TheRule.Cells.{cell_below}
+use Rattle.smp_queue.proofs.TheRule.Keeps.{can_same}
 use Rattle.smp_queue.proofs.seat.swap.Goals as goal
 
 pub swap-requires : goal.swap-requires

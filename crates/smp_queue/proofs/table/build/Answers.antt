@@ -1,6 +1,6 @@
 use Rattle.std.proofs.Common.{◌≡◌, length, cond, Some, None, refl, ap, ◌∙◌, arith}
 use Rattle.smp_queue.specs.Cpu.{cpu_of, fresh_cpu}
-use Rattle.smp_queue.proofs.Seating.{seats_more, seats_full}
+use Rattle.smp_queue.proofs.TheRule.Seating.{seats_more, seats_full}
 use Rattle.smp_queue.proofs.table.build.Goals as goal
 
 pub loop-number-init : goal.loop-number-init

@@ -1,4 +1,4 @@
-use Rattle.smp_queue.proofs.Seating.{AreSeated}
+use Rattle.smp_queue.proofs.TheRule.Seating.{AreSeated}
 use Rattle.smp_queue.proofs.table.build.Given as goal
 
 abbrev pub invariant-loop-number : goal.invariant-loop-number

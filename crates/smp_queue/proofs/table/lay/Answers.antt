@@ -3,7 +3,7 @@ use Rattle.atomic_table.specs.Table.{opening}
 use Rattle.smp_queue.specs.Names.{Maker}
 use Rattle.smp_queue.specs.Cells.{cells}
 use Rattle.smp_queue.specs.Rule.{RuledFor}
-use Rattle.smp_queue.proofs.Below.{starts_below}
+use Rattle.smp_queue.proofs.TheRule.Below.{starts_below}
 use Rattle.smp_queue.proofs.table.lay.Goals as goal
 
 pub of_words-requires : goal.of_words-requires

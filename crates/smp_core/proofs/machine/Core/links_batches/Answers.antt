@@ -1,6 +1,6 @@
 use Rattle.smp_words.specs.Layout.{number_in}
 use Rattle.smp_call_steps.specs.Value.{control_of}
-use Rattle.smp_call_steps.proofs.BatchLinks.{batch_links}
+use Rattle.smp_call_steps.proofs.State.BatchLinks.{batch_links}
 use Rattle.smp_core.proofs.machine.Core.links_batches.Goals as goal
 
 pub returns : goal.returns

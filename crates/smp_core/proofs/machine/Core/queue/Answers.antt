@@ -3,7 +3,7 @@ use Rattle.smp_words.specs.Layout.{number_in}
 use Rattle.smp_call_steps.specs.Words.{nexts_in}
 use Rattle.smp_call_steps.specs.Value.{ValuesShow, control_of}
 use Rattle.smp_call_steps.specs.Queues.{HasChain}
-use Rattle.smp_call_steps.proofs.QueueChains.{queue_chain, queue_read}
+use Rattle.smp_call_steps.proofs.State.QueueChains.{queue_chain, queue_read}
 use Rattle.smp_core.proofs.machine.Core.queue.Goals as goal
 use Rattle.smp_words.specs.declared.word.Word.TheVariants.{Head}
 

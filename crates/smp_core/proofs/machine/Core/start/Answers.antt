@@ -9,7 +9,7 @@ use Rattle.smp_call_steps.specs.Start.{first_stage, control_at}
 use Rattle.smp_core.specs.Value.{CoreValue}
 use Rattle.smp_call_steps.specs.Value.{ValuesShow, control_of, outside}
 use Rattle.smp_core.proofs.Starts.{may_start, started_shown, started_nr, started_online, start_below}
-use Rattle.smp_call_steps.proofs.Starts.{names_record}
+use Rattle.smp_call_steps.proofs.Machine.Starts.{names_record}
 use Rattle.smp_core.proofs.machine.Core.start.Goals as goal
 use Rattle.smp_core.proofs.machine.Core.start.Given as given
 

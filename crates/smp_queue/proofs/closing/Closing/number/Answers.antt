@@ -1,6 +1,6 @@
 use Rattle.std.proofs.Common.{ap, ◌∙◌}
 use Rattle.smp_queue.specs.Cells.{number_in}
-use Rattle.smp_queue.proofs.Cells.{number_got}
+use Rattle.smp_queue.proofs.TheRule.Cells.{number_got}
 use Rattle.smp_queue.proofs.closing.Closing.number.Goals as goal
 
 pub returns : goal.returns

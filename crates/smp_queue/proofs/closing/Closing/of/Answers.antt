@@ -1,7 +1,7 @@
 use Rattle.std.proofs.Common.{List, ℕ, subst, ap, ◌∙◌}
 use mathlib.Core.Option.{some}
 use Rattle.smp_queue.specs.Audit.{Closes}
-use Rattle.smp_queue.proofs.Closed.{closes}
+use Rattle.smp_queue.proofs.Audits.Closed.{closes}
 use Rattle.smp_queue.proofs.closing.Closing.of.Goals as goal
 
 pub returns : goal.returns

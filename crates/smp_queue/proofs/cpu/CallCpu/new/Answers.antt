@@ -1,4 +1,4 @@
-use Rattle.smp_queue.proofs.Kept.{kept_fresh}
+use Rattle.smp_queue.proofs.Posts.Kept.{kept_fresh}
 use Rattle.smp_queue.proofs.cpu.CallCpu.new.Goals as goal
 
 pub invariant_of-result : goal.invariant_of-result

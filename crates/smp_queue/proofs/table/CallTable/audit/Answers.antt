@@ -1,6 +1,6 @@
 use Rattle.std.proofs.Common.{ℕ, subst, ap, ◌∙◌}
 use Rattle.smp_queue.specs.Audit.{Closes, Audited, IfDrained, HasRowsOf}
-use Rattle.smp_queue.proofs.Closed.{drained_equal, drained_rows, drained_zeros, audited}
+use Rattle.smp_queue.proofs.Audits.Closed.{drained_equal, drained_rows, drained_zeros, audited}
 use Rattle.smp_queue.proofs.table.CallTable.audit.Goals as goal
 
 pub returns-clause-audited : goal.returns-clause-audited

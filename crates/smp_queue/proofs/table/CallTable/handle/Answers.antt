@@ -1,4 +1,4 @@
-use Rattle.smp_queue.proofs.Showing.{is_shown}
+use Rattle.smp_queue.proofs.Audits.Showing.{is_shown}
 use Rattle.smp_queue.proofs.table.CallTable.handle.Goals as goal
 
 pub returns-clause-laws : goal.returns-clause-laws

@@ -1,9 +1,9 @@
 use Rattle.std.proofs.Common.{◌<◌, sym, refl, ap, ◌∙◌, arith}
 use Rattle.smp_words.specs.Size.{cpus}
-use Rattle.smp_call_steps.proofs.Starts.{online_below}
+use Rattle.smp_call_steps.proofs.Machine.Starts.{online_below}
 use Rattle.smp_queue.specs.Names.{Intr, Send}
-use Rattle.smp_queue.proofs.Cells.{has_cell}
-use Rattle.smp_queue.proofs.Showing.{is_shown}
+use Rattle.smp_queue.proofs.TheRule.Cells.{has_cell}
+use Rattle.smp_queue.proofs.Audits.Showing.{is_shown}
 use Rattle.smp_queue.proofs.table.CallTable.send.Goals as goal
 
 pub store-requires : goal.store-requires

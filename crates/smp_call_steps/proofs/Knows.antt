@@ -1,0 +1,6 @@
+-- What a CPU knows.
+pub mod Parts
+pub mod Restages
+pub mod OneStep
+pub mod Posted
+pub mod Handling

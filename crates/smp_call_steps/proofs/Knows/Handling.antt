@@ -1,0 +1,214 @@
+-- A CPU inside handle: what holds of it by the laws, and what it knows after each of its steps.
+use Rattle.std.proofs.Common.{◌≡◌, ◌≢◌, ℕ, ◌+◌, ◌%◌, ◌<◌, ◌==◌, Bool, true, false, cond, Option, Some, None, List, [], ◌∷◌, ◌++◌, sym, subst, refl, ap, ◌∙◌, arith}
+use Rattle.std.proofs.lemmas.Bool.{lt-ltb, eq-eqb}
+use Rattle.std.specs.List.{AllByRecursion}
+use Rattle.smp_words.specs.Size.{cpus, records}
+use Rattle.smp_words.specs.Access.{word_of}
+use Rattle.smp_call_steps.specs.Calls.{CallState, Nothing, SyncCall, CountedCall, AsyncCall}
+use Rattle.smp_call_steps.specs.Drains.{DrainValue, handle_goes, link_to, record_at, first_on, second_on, handle_outcome, drain_after}
+use Rattle.smp_call_steps.specs.Places.{IsPlaced}
+use Rattle.smp_call_steps.specs.Words.{FlagsShow, bit, nexts_in, last_batch}
+use Rattle.smp_call_steps.specs.Histories.{orders, running_call}
+use Rattle.smp_call_steps.specs.Stages.{ControlValue, access_of, FitsStage}
+use Rattle.smp_call_steps.specs.Stands.{Share, share_of, StandsAt, HandleStands, held_of}
+use Rattle.smp_call_steps.specs.Parts.{Part, part_confirmed, part_accepted, part_begun, part_unlocked, part_counted, part_after}
+use Rattle.smp_call_steps.specs.Known.{told_stage, told_post, told_handle, known_told, known_taking, stage_after, drain_then, MayStep, known_access, Lives, GoesOn}
+use Rattle.smp_call_steps.specs.Handling.{rest_of, handling, goes_known, accepted_known, taken_known, begun_sync, counted_sync, begun_async, ended_call}
+use Rattle.smp_words.proofs.Links.{HasIndex}
+use Rattle.smp_call_steps.proofs.Machine.Accesses.{access_in_table}
+use Rattle.smp_call_steps.proofs.Basics.Alls.{every_right}
+use Rattle.smp_call_steps.proofs.State.Walks.{reverses_all, walks_rest, same_record}
+use Rattle.smp_call_steps.specs.Names.{Call, Word, Head, Intr, Hand, Ran, Flags, Func, Info, Next, Access, Act, RecPlace, Posting, PostStage, Walk}
+use Rattle.smp_call_steps.specs.Names.{HandleStage, Outcome, Stage, Post, Handle}
+use Rattle.smp_call_steps.specs.Names.place
+use Rattle.smp_call_steps.specs.Names.act
+use Rattle.smp_call_steps.specs.Names.post
+use Rattle.smp_call_steps.specs.Names.handle
+use Rattle.smp_call_steps.proofs.Machine.Fits.{found_fits}
+use Rattle.smp_call_steps.proofs.Knows.Restages.{access_known}
+use Rattle.smp_call_steps.specs.declared.known.Known.{Known}
+
+-- a step of a CPU goes on to calls of which it knows its part
+pub lives_on : (a : CallState) (control : ℕ → ControlValue) (me : ℕ) (at : Word → ℕ) (w : Known) → GoesOn a control me at w → Lives w
+lives_on a control me at w g = record { calls = g.calls; at = at; controls = g.controls; shown = g.shown; sees = g.mine }
+
+-- who is told to be at a step of handle is there
+post_tells : (p : Posting) (st : PostStage) (h : HandleStage) → told_post p st ≢ Some (Handle h)
+post_tells p post.LoadFlags h e = cc
+post_tells p _ h e = cc
+
+handle_tells : (g h : HandleStage) → told_handle g ≡ Some (Handle h) → Some (Handle g) ≡ Some (Handle h)
+handle_tells handle.Enter h e = cc
+handle_tells _ h e = e
+
+told_there : (s : Option Stage) (h : HandleStage) → told_stage s ≡ Some (Handle h) → s ≡ Some (Handle h)
+told_there (Some (Post p st)) h e = absurd (post_tells p st h e)
+told_there (Some (Handle g)) h e = handle_tells g h e
+told_there _ h e = cc
+
+-- what is a CPU's own of the drain, as it knows it
+abbrev pub share_in : Part → Share
+share_in p = record { last = last_batch p.taken; batch = p.batch; running = p.running; accepted = p.accepted }
+
+module _ (v : Known) (l : Lives v) where
+  same_share : share_of l.calls v.number ≡ share_in v.part
+  same_share = ap share_in l.sees.part
+
+  -- what ran, runs and is left is the drain order of the batches
+  pub lives_drained : v.part.ran ++ (running_call v.part.running ++ v.part.batch) ≡ orders v.part.taken
+  lives_drained = subst (λ (p : Part). p.ran ++ (running_call p.running ++ p.batch) ≡ orders p.taken) l.sees.part (l.shown.recorded.drained v.number)
+
+  module _ (h : HandleStage) (e : v.stage ≡ Some (Handle h)) where
+    told : told_stage (l.controls v.number).stage ≡ Some (Handle h)
+    told = l.sees.stage ∙ e
+
+    at_stage : (l.controls v.number).stage ≡ Some (Handle h)
+    at_stage = told_there (l.controls v.number).stage h told
+
+    stands_there : (v.number < cpus) × HandleStands (nexts_in l.at) (share_in v.part) v.drain h
+    stands_there =
+        let k : StandsAt l.calls.place l.at (share_of l.calls v.number) (l.controls v.number).drain v.number (Some (Handle h)) = rw at_stage at (l.shown.stands v.number) in
+        subst (λ (d : DrainValue). (v.number < cpus) × HandleStands (nexts_in l.at) (share_in v.part) d h) l.sees.drain
+        (subst (λ (s : Share). (v.number < cpus) × HandleStands (nexts_in l.at) s (l.controls v.number).drain h) same_share k)
+
+    pub lives_below : v.number < cpus
+    lives_below = stands_there.0
+
+    pub lives_stands : HandleStands (nexts_in l.at) (share_in v.part) v.drain h
+    lives_stands = stands_there.1
+
+    pub lives_told : v.stage ≡ told_handle h
+    lives_told = e ∙ (sym told ∙ ap told_stage at_stage)
+
+    pub lives_aims : MayStep v (Handle h)
+    lives_aims = (lives_told, lives_below)
+
+    same_access : access_of l.at v.number (Handle h) ≡ known_access v (Handle h)
+    same_access = access_known l.calls l.at l.controls v l.shown l.sees (Handle h) lives_aims
+
+    -- the word of its next access is in the table
+    pub lives_in_table : HasIndex (word_of (known_access v (Handle h)))
+    lives_in_table = subst (λ (x : Access). HasIndex (word_of x)) same_access (access_in_table l.calls l.at l.controls v.number l.shown (Handle h) at_stage)
+
+    -- what that access finds fits, and there is room for it
+    pub lives_fits : FitsStage v.drain (Handle h) (l.at (word_of (known_access v (Handle h))))
+    lives_fits = subst (λ (d : DrainValue). FitsStage d (Handle h) (l.at (word_of (known_access v (Handle h))))) l.sees.drain
+        (subst (λ (x : Access). FitsStage (l.controls v.number).drain (Handle h) (l.at (word_of x))) same_access (found_fits l.calls l.at l.controls v.number l.shown (Handle h) at_stage))
+
+    batched : AllByRecursion (IsPlaced l.calls.place (place.Batch v.number)) (share_in v.part).batch
+    batched = subst (λ (s : Share). AllByRecursion (IsPlaced l.calls.place (place.Batch v.number)) s.batch) same_share (l.shown.placed.batched v.number)
+
+  -- a record of the batch that is loaded is locked
+  lives_placed : (id : ℕ) (call : Call) → call.id ≡ id → IsPlaced l.calls.place (place.Batch v.number) call → (id < records) × (l.at (Flags id) % 2 ≡ 1)
+  lives_placed id call e q = (
+    subst (λ (n : ℕ). n < records) e q.is_call.in_range,
+    subst (λ (p : RecPlace). FlagsShow p (l.at (Flags id))) (ap l.calls.place (sym e) ∙ q.placed) (l.shown.written.locks id),
+  )
+
+  pub lives_reversed : (newer : Option ℕ) (id : ℕ) → v.stage ≡ Some (Handle (handle.ReverseLoad newer id)) → id < records
+  lives_reversed newer id e =
+      let k = lives_stands (handle.ReverseLoad newer id) e in
+      let all = every_right (IsPlaced l.calls.place (place.Batch v.number)) k.1.older (k.0 ∷ k.1.newer)
+      (reverses_all (IsPlaced l.calls.place (place.Batch v.number)) (nexts_in l.at) (share_in v.part) v.drain (link_to newer) (l.at (Next id)) k.0 k.1 (batched (handle.ReverseLoad newer id) e)) in
+      (lives_placed id k.0 k.2 all.0).0
+
+  pub lives_locked : (walk : Walk) (id : ℕ) (next : Option ℕ) → v.stage ≡ Some (Handle (handle.LoadFlags walk id next)) → l.at (Flags id) % 2 ≡ 1
+  lives_locked walk id next e =
+      let k = lives_stands (handle.LoadFlags walk id next) e in
+      let all = walks_rest (IsPlaced l.calls.place (place.Batch v.number)) (nexts_in l.at) (share_in v.part) v.drain walk (id + 1) [] (k.0 ∷ k.1) Nothing k.2 (batched (handle.LoadFlags walk id next) e) in
+      (lives_placed id k.0 (same_record id k.0 k.2.leads_on.0) all.0).1
+
+  -- the front of the batch is by a record
+  pub lives_front : (call : Call) (rest : List Call) → v.part.batch ≡ call ∷ rest → call.id < records
+  lives_front call rest e =
+      let all : AllByRecursion (IsPlaced l.calls.place (place.Batch v.number)) (call ∷ rest) = subst (λ (calls : List Call). AllByRecursion (IsPlaced l.calls.place (place.Batch v.number)) calls) e
+      (subst (λ (s : Share). AllByRecursion (IsPlaced l.calls.place (place.Batch v.number)) s.batch) same_share (l.shown.placed.batched v.number)) in
+      all.0.is_call.in_range
+
+  -- an interrupt word is 0 or 1
+  pub lives_intr : (cpu : ℕ) → (l.at (Intr cpu) == 1) ≡ cond (l.at (Intr cpu) == 0) false true
+  lives_intr cpu = subst (λ (n : ℕ). (n == 1) ≡ cond (n == 0) false true) (sym (l.shown.noticed.words cpu)) (bit_is (l.calls.pending cpu))
+    where
+      bit_is : (b : Bool) → (bit b == 1) ≡ cond (bit b == 0) false true
+      bit_is true = refl
+      bit_is false = refl
+
+-- what a CPU that stands here knows after a step
+pub told_at : (queue : List Call) (v : Known) (s : Option Stage) (act : Act) (w : Word) (found put : Option ℕ) → v.stage ≡ s →
+    known_taking queue v act w found put ≡ record v { stage = stage_after s v.drain act w found put; drain = drain_then s v.drain found; part = part_after queue (held_of s) act w found put v.part }
+told_at queue v s act w found put e = λ i. record v { stage = stage_after (e i) v.drain act w found put; drain = drain_then (e i) v.drain found; part = part_after queue (held_of (e i)) act w found put v.part }
+
+pub entered_is : (v : Known) (cpu : ℕ) → v.stage ≡ None → known_told v act.Store (Hand cpu) None (Some 1) ≡ handling handle.Accept v.drain v
+entered_is v cpu e = told_at [] v None act.Store (Hand cpu) None (Some 1) e
+
+pub accepted_is : (queue : List Call) (v : Known) (cpu n : ℕ) → v.stage ≡ Some (Handle handle.Accept) → (n == 1) ≡ cond (n == 0) false true →
+    known_taking queue v act.Swap (Intr cpu) (Some n) (Some 0) ≡ accepted_known (cond (n == 0) false true) v
+accepted_is queue v cpu n e one = told_at queue v (Some (Handle handle.Accept)) act.Swap (Intr cpu) (Some n) (Some 0) e ∙ by_test (n == 0) (n == 1) one
+  where
+    by_test : (b c : Bool) → c ≡ cond b false true →
+        record v { stage = (cond {A = Outcome} b (handle_goes handle.LeaveIdle) (handle_goes handle.Take)).next; part = part_accepted c v.part } ≡ accepted_known (cond b false true) v
+    by_test true c f = λ i. record v { stage = Some (Handle handle.LeaveIdle); part = part_accepted (f i) v.part }
+    by_test false c f = λ i. record v { stage = Some (Handle handle.Take); part = part_accepted (f i) v.part }
+
+pub taken_is : (queue : List Call) (v : Known) (cpu n : ℕ) → v.stage ≡ Some (Handle handle.Take) → known_taking queue v act.Swap (Head cpu) (Some n) (Some 0) ≡ taken_known queue (record_at n) v
+taken_is queue v cpu n e = told_at queue v (Some (Handle handle.Take)) act.Swap (Head cpu) (Some n) (Some 0) e
+
+pub left_is : (v : Known) (cpu : ℕ) (h : HandleStage) → (stage_after (Some (Handle h)) v.drain act.Store (Hand cpu) None (Some 0) ≡ None) → v.stage ≡ Some (Handle h) → (drain_then (Some (Handle h)) v.drain None ≡ v.drain) →
+    known_told v act.Store (Hand cpu) None (Some 0) ≡ record v { stage = None }
+left_is v cpu h out e d = told_at [] v (Some (Handle h)) act.Store (Hand cpu) None (Some 0) e ∙ (λ i. record v { stage = out i; drain = d i })
+
+-- steps that tell nothing
+
+pub next_found_is : (v : Known) (h : HandleStage) (id n : ℕ) → v.stage ≡ Some (Handle h) → known_told v act.Load (Next id) (Some n) None ≡ goes_known h n v
+next_found_is v h id n e = told_at [] v (Some (Handle h)) act.Load (Next id) (Some n) None e
+
+pub func_found_is : (v : Known) (h : HandleStage) (id n : ℕ) → v.stage ≡ Some (Handle h) → known_told v act.Load (Func id) (Some n) None ≡ goes_known h n v
+func_found_is v h id n e = told_at [] v (Some (Handle h)) act.Load (Func id) (Some n) None e
+
+pub info_found_is : (v : Known) (h : HandleStage) (id n : ℕ) → v.stage ≡ Some (Handle h) → known_told v act.Load (Info id) (Some n) None ≡ goes_known h n v
+info_found_is v h id n e = told_at [] v (Some (Handle h)) act.Load (Info id) (Some n) None e
+
+pub next_stored_is : (v : Known) (h : HandleStage) (id n : ℕ) → v.stage ≡ Some (Handle h) → known_told v act.Store (Next id) None (Some n) ≡ goes_known h 0 v
+next_stored_is v h id n e = told_at [] v (Some (Handle h)) act.Store (Next id) None (Some n) e
+
+pub flags_found_is : (v : Known) (h : HandleStage) (id n : ℕ) → v.stage ≡ Some (Handle h) → n % 2 ≡ 1 → known_told v act.Load (Flags id) (Some n) None ≡ goes_known h n v
+flags_found_is v h id n e odd = told_at [] v (Some (Handle h)) act.Load (Flags id) (Some n) None e ∙ by_test (n % 2 == 1) (eq-eqb (n % 2) 1 odd)
+  where
+    by_test : (b : Bool) → b ≡ true →
+        record v { stage = (handle_outcome v.drain h n).next; drain = drain_after v.drain h n; part = cond b v.part (part_confirmed id v.part) } ≡ goes_known h n v
+    by_test b f = λ i. record v { stage = (handle_outcome v.drain h n).next; drain = drain_after v.drain h n; part = cond (f i) v.part (part_confirmed id v.part) }
+
+-- steps that begin, count and end a call
+
+pub begun_sync_is : (v : Known) (cpu : ℕ) (walk : Walk) (call : Call) (next : Option ℕ) (rest : List Call) → v.stage ≡ Some (Handle (handle.BeginSync walk call next)) → v.part.batch ≡ call ∷ rest →
+    known_told v act.Store (Hand cpu) None (Some (call.id + 2)) ≡ begun_sync walk call next v
+begun_sync_is v cpu walk call next rest e b =
+    told_at [] v (Some (Handle (handle.BeginSync walk call next))) act.Store (Hand cpu) None (Some (call.id + 2)) e
+    ∙ ((λ i. record v { stage = Some (Handle (handle.CountSync walk call next)); part = cond (lt-ltb 1 (call.id + 2) (omega arith) i) (part_begun SyncCall (b i) v.part) v.part })
+    ∙ (λ i. record v { stage = Some (Handle (handle.CountSync walk call next)); part = record (v.part) { batch = rest_of (sym b i); running = SyncCall call } }))
+
+pub counted_sync_is : (v : Known) (cpu source n : ℕ) (walk : Walk) (call : Call) (next : Option ℕ) → v.stage ≡ Some (Handle (handle.CountSync walk call next)) → v.part.running ≡ SyncCall call →
+    known_told v act.Store (Ran cpu source) None (Some n) ≡ counted_sync walk call next v
+counted_sync_is v cpu source n walk call next e r =
+    told_at [] v (Some (Handle (handle.CountSync walk call next))) act.Store (Ran cpu source) None (Some n) e
+    ∙ (λ i. record v { stage = Some (Handle (handle.EndSync walk call next)); part = part_counted (r i) v.part })
+
+pub ended_sync_is : (v : Known) (walk : Walk) (call : Call) (next : Option ℕ) → v.stage ≡ Some (Handle (handle.EndSync walk call next)) → v.part.running ≡ CountedCall call →
+    known_told v act.Store (Flags call.id) None (Some 0) ≡ ended_call (first_on walk next) call v
+ended_sync_is v walk call next e r =
+    told_at [] v (Some (Handle (handle.EndSync walk call next))) act.Store (Flags call.id) None (Some 0) e
+    ∙ (λ i. record v { stage = Some (Handle (first_on walk next)); part = part_unlocked (r i) v.part })
+
+pub begun_async_is : (v : Known) (call : Call) (next : Option ℕ) (rest : List Call) → v.stage ≡ Some (Handle (handle.BeginAsync call next)) → v.part.batch ≡ call ∷ rest → v.part.running ≡ Nothing →
+    known_told v act.Store (Flags call.id) None (Some 0) ≡ begun_async call next v
+begun_async_is v call next rest e b r =
+    told_at [] v (Some (Handle (handle.BeginAsync call next))) act.Store (Flags call.id) None (Some 0) e
+    ∙ ((λ i. record v { stage = Some (Handle (handle.CountAsync call next)); part = part_unlocked (r i) v.part })
+    ∙ ((λ i. record v { stage = Some (Handle (handle.CountAsync call next)); part = part_begun AsyncCall (b i) v.part })
+    ∙ (λ i. record v { stage = Some (Handle (handle.CountAsync call next)); part = record (v.part) { batch = rest_of (sym b i); running = AsyncCall call } })))
+
+pub counted_async_is : (v : Known) (cpu source n : ℕ) (call : Call) (next : Option ℕ) → v.stage ≡ Some (Handle (handle.CountAsync call next)) → v.part.running ≡ AsyncCall call →
+    known_told v act.Store (Ran cpu source) None (Some n) ≡ ended_call (second_on next) call v
+counted_async_is v cpu source n call next e r =
+    told_at [] v (Some (Handle (handle.CountAsync call next))) act.Store (Ran cpu source) None (Some n) e
+    ∙ (λ i. record v { stage = Some (Handle (second_on next)); part = part_counted (r i) v.part })

@@ -1,0 +1,161 @@
+-- One step of a CPU that knows v: what holds after it, and what each CPU knows then.
+use Rattle.std.proofs.Common.{◌≡◌, ◌≢◌, ℕ, ◌+◌, ◌-◌, ◌%◌, nat_lt, Bool, true, false, ◌==◌, cond, Option, Some, None, subst, refl, ap, ◌∙◌}
+use Rattle.smp_words.specs.Put.{put}
+use Rattle.smp_call_steps.specs.Calls.{CallState}
+use Rattle.smp_call_steps.specs.Posts.{ends, goes_to}
+use Rattle.smp_call_steps.specs.Drains.{DrainValue, handle_goes, record_at, second_on, first_on, reverse_on, by_class, unlink_after}
+use Rattle.smp_words.specs.Flags.{class_of}
+use Rattle.smp_call_steps.specs.Names.{Call, Class, Sync, Async, Word, Head, Intr, Flags, Info, Access, Seen, Note, Posting, Walk, Outcome, Stage, Post}
+use Rattle.smp_call_steps.specs.Names.{Handle}
+use Rattle.smp_call_steps.specs.Names.act
+use Rattle.smp_call_steps.specs.Names.note
+use Rattle.smp_call_steps.specs.Names.post
+use Rattle.smp_call_steps.specs.Names.handle
+use Rattle.smp_call_steps.specs.Stages.{ControlValue, access_of, outcome_of, drain_of, control_after}
+use Rattle.smp_words.specs.Access.{word_of, at_after, seen_of}
+use Rattle.smp_call_steps.specs.Shows.{Shows}
+use Rattle.smp_call_steps.specs.Parts.{part_after}
+use Rattle.smp_call_steps.specs.Known.{told_post, told_handle, told_stage, Sees, known_tells, stage_after, drain_then, MayStep, known_access, GoesOn}
+use Rattle.smp_call_steps.proofs.Steps.Own.{put_same, put_other}
+use Rattle.smp_call_steps.proofs.Steps.Every.{step_shown}
+use Rattle.smp_call_steps.proofs.Knows.Restages.{known_held, restages, access_known, aims_told}
+use Rattle.smp_call_steps.proofs.Knows.Parts.{Told, part_mine, part_else}
+use Rattle.smp_call_steps.specs.declared.known.Known.{Known}
+
+-- the stage that follows, as the step tells it
+abbrev Follows : (Word → ℕ) → ℕ → DrainValue → Stage → Type 0
+Follows at me d st =
+    let access = access_of at me st in
+    let seen = seen_of me access (at (word_of access)) None in
+    told_stage (outcome_of d st (at (word_of access))).next ≡ stage_after (told_stage (Some st)) d seen.act seen.word seen.found seen.put
+
+-- what has been loaded then
+abbrev Leaves : (Word → ℕ) → ℕ → DrainValue → Stage → Type 0
+Leaves at me d st =
+    let access = access_of at me st in
+    let seen = seen_of me access (at (word_of access)) None in
+    drain_of d st (at (word_of access)) ≡ drain_then (told_stage (Some st)) d seen.found
+
+flags_follow : (b c : Bool) (p : Posting) → told_stage (cond b (ends note.Busy) (cond c (goes_to p post.Lock) (ends note.NoCpu))).next ≡ None
+flags_follow true c p = refl
+flags_follow false true p = refl
+flags_follow false false p = refl
+
+lock_follow : (c : Class) (p : Posting) (at : Word → ℕ) (me : ℕ) (d : DrainValue) → Follows at me d (Post (record p { class = c }) post.Lock)
+lock_follow Sync p at me d = refl
+lock_follow Async p at me d = refl
+
+exchange_follow : (p : Posting) (link tries n : ℕ) (b c : Bool) (won : Note) (me : ℕ) (d : DrainValue) (found : ℕ) →
+    told_stage (cond b (ends won) (cond c (goes_to p (post.StoreNext found (tries - 1))) (goes_to p post.Uncount))).next ≡ stage_after (told_post p (post.Exchange link tries)) d act.Cas (Head p.to) (Some found) (cond b (Some n) None)
+exchange_follow p link tries n true c won me d found = refl
+exchange_follow p link tries n false true won me d found = refl
+exchange_follow p link tries n false false won me d found = refl
+
+-- what is told of the stages of handle that follow
+second_told : (next : Option ℕ) → told_handle (second_on next) ≡ Some (Handle (second_on next))
+second_told None = refl
+second_told (Some id) = refl
+
+first_told : (walk : Walk) (next : Option ℕ) → told_handle (first_on walk next) ≡ Some (Handle (first_on walk next))
+first_told walk None = second_told walk.first
+first_told walk (Some id) = refl
+
+reverse_told : (here next : Option ℕ) → told_handle (reverse_on here next) ≡ Some (Handle (reverse_on here next))
+reverse_told here None = first_told (record { first = here; last = None }) here
+reverse_told here (Some id) = refl
+
+class_told : (class : Class) (walk : Walk) (id : ℕ) (next : Option ℕ) → told_handle (by_class class walk id next) ≡ Some (Handle (by_class class walk id next))
+class_told Sync walk id next = refl
+class_told Async walk id next = first_told (record { first = walk.first; last = Some id }) next
+
+info_told : (last : Option ℕ) (walk : Walk) (call : Call) (next : Option ℕ) → told_handle (unlink_after last walk call next) ≡ Some (Handle (unlink_after last walk call next))
+info_told None walk call next = refl
+info_told (Some last) walk call next = refl
+
+accept_told : (b : Bool) → told_stage (cond {A = Outcome} b (handle_goes handle.LeaveIdle) (handle_goes handle.Take)).next ≡ (cond {A = Outcome} b (handle_goes handle.LeaveIdle) (handle_goes handle.Take)).next
+accept_told true = refl
+accept_told false = refl
+
+follows : (at : Word → ℕ) (me : ℕ) (d : DrainValue) (st : Stage) → Follows at me d st
+follows at me d (Post p post.LoadFlags) = flags_follow (at (Flags p.id) % 2 == 1) p.is_online p
+follows at me d (Post p post.Lock) = lock_follow p.class p at me d
+follows at me d (Post p (post.Exchange link tries)) = exchange_follow p link tries (p.id + 1) (at (Head p.to) == link) (nat_lt 1 tries) (cond (link == 0) note.Owed note.Queued) me d (at (Head p.to))
+follows at me d (Handle handle.Accept) = accept_told (at (Intr me) == 0)
+follows at me d (Handle handle.Take) = reverse_told None (record_at (at (Head me)))
+follows at me d (Handle (handle.ReverseStore newer id older)) = reverse_told (Some id) older
+follows at me d (Handle (handle.LoadFlags walk id next)) = class_told (class_of (at (Flags id))) walk id next
+follows at me d (Handle (handle.LoadInfo walk id next func)) = info_told walk.last walk (record { id = id; class = Sync; func = func; info = at (Info id) }) next
+follows at me d (Handle (handle.EndSync walk call next)) = first_told walk next
+follows at me d (Handle (handle.CountAsync call next)) = second_told next
+follows at me d _ = refl
+
+leaves : (at : Word → ℕ) (me : ℕ) (d : DrainValue) (st : Stage) → Leaves at me d st
+leaves at me d (Post p post.LoadFlags) = refl
+leaves at me d (Handle handle.Enter) = refl
+leaves at me d _ = refl
+
+-- the CPU that knows this, and that may make the step of this stage, makes it
+module _ (a : CallState) (at : Word → ℕ) (control : ℕ → ControlValue) (v : Known) (s : Shows a at control) (sees : Sees a control v) (st : Stage) (aims : MayStep v st) where
+  abbrev me : ℕ
+  me = v.number
+
+  abbrev found : ℕ
+  found = at (word_of (access_of at me st))
+
+  -- the step, as this CPU sees it
+  abbrev seen : Seen
+  seen = seen_of me (access_of at me st) found None
+
+  abbrev standing : ControlValue
+  standing = record { stage = Some st; drain = v.drain }
+
+  abbrev controls : ℕ → ControlValue
+  controls = put control me standing
+
+  abbrev after : ControlValue
+  after = control_after standing st found
+
+  here : controls me ≡ standing
+  here = put_same control me standing
+
+  shown : Shows (Told a at me v.drain st) (at_after at (access_of at me st)) (put controls me after)
+  shown = rw here at (step_shown a at controls me (restages a at control v s sees st aims) st (ap (λ (c : ControlValue). c.stage) here))
+
+  there : put controls me after me ≡ after
+  there = put_same controls me after
+
+  told_here : told_stage (Some st) ≡ v.stage
+  told_here = aims_told a at control v s sees st aims
+
+  mine : Sees (Told a at me v.drain st) (put controls me after) (known_tells (a.queue me) v seen)
+  mine = record {
+    stage = ap (λ (c : ControlValue). told_stage c.stage) there ∙ (follows at me v.drain st ∙ ap (λ (x : Option Stage). stage_after x v.drain seen.act seen.word seen.found seen.put) told_here);
+    drain = ap (λ (c : ControlValue). c.drain) there ∙ (leaves at me v.drain st ∙ ap (λ (x : Option Stage). drain_then x v.drain seen.found) told_here);
+    part = part_mine a at control me v.drain s st ∙ (λ i. part_after (a.queue me) (known_held a at control v s sees i) seen.act seen.word seen.found seen.put (sees.part i));
+  }
+
+  others : (o : Known) → o.number ≢ me → Sees a control o → Sees (Told a at me v.drain st) (put controls me after) o
+  others o ne k =
+      let there : put controls me after o.number ≡ control o.number = put_other controls me after o.number ne ∙ put_other control me standing o.number ne in
+      record {
+        stage = ap (λ (c : ControlValue). told_stage c.stage) there ∙ k.stage;
+        drain = ap (λ (c : ControlValue). c.drain) there ∙ k.drain;
+        part = part_else a at control me v.drain s st o.number ne ∙ k.part;
+      }
+
+  one_step : GoesOn a control me (at_after at (access_of at me st)) (known_tells (a.queue me) v seen)
+  one_step = record {
+    seen = seen_of me (access_of at me st) found (outcome_of v.drain st found).note;
+    calls = Told a at me v.drain st;
+    told = refl;
+    controls = put controls me after;
+    shown = shown;
+    mine = mine;
+    number_is = refl;
+    others = others;
+  }
+
+  -- the same, by what the CPU knows of its access
+  pub known_step : (access : Access) → known_access v st ≡ access → GoesOn a control me (at_after at access) (known_tells (a.queue me) v (seen_of me access (at (word_of access)) None))
+  known_step access is =
+      subst (λ (x : Access). GoesOn a control me (at_after at x) (known_tells (a.queue me) v (seen_of me x (at (word_of x)) None))) (access_known a at control v s sees st aims ∙ is) one_step

@@ -1,0 +1,201 @@
+-- A CPU may stand at any stage that its steps so far leave open.
+use Rattle.std.proofs.Common.{◌≡◌, ℕ, ◌%◌, ◌<◌, true, false, ◌==◌, Option, Some, None, get_or, sym, subst, refl, ap, ◌∙◌, ◌⊎◌, inl, inr}
+use Rattle.smp_words.specs.Put.{put}
+use Rattle.smp_words.specs.Size.{records, owner}
+use Rattle.smp_call_steps.specs.Calls.{CallState}
+use Rattle.smp_call_steps.specs.Posts.{post_access}
+use Rattle.smp_call_steps.specs.Drains.{DrainValue, handle_access, source_at}
+use Rattle.smp_call_steps.specs.Stages.{ControlValue, access_of}
+use Rattle.smp_call_steps.specs.Places.{Holds}
+use Rattle.smp_call_steps.specs.Stands.{Rests, StandsAt, PostKnows, share_of, held_of, held_of_post, HandIs}
+use Rattle.smp_call_steps.specs.Shows.{Shows}
+use Rattle.smp_call_steps.specs.Parts.{Part, row}
+use Rattle.smp_call_steps.specs.Known.{told_post, told_handle, told_stage, Sees, MayStep, MayPost, Moment, known_access, queued_tally, ran_tally, is_confirmed}
+use Rattle.smp_call_steps.proofs.Basics.Rows.{row-at}
+use Rattle.smp_call_steps.proofs.Steps.Sending.{stands_on}
+use Rattle.smp_call_steps.specs.declared.known.Known.{Known}
+use Rattle.smp_call_steps.specs.Names.{Word, Hand, Flags, RecPlace, Posting, PostStage, HandleStage, Stage, Send, Done, Post, Handle}
+use Rattle.smp_call_steps.specs.Names.place
+use Rattle.smp_call_steps.specs.Names.post
+use Rattle.smp_call_steps.specs.Names.handle
+
+-- what is held was told
+pub held_told : (s : Option Stage) → held_of (told_stage s) ≡ held_of s
+held_told (Some (Post p post.LoadFlags)) = refl
+held_told (Some (Post p _)) = refl
+held_told (Some (Handle handle.Enter)) = refl
+held_told _ = refl
+
+-- what a CPU knows of its record's words
+abbrev Knows : (ℕ → RecPlace) → (Word → ℕ) → Option Stage → Type 0
+Knows places at (Some (Post p stage)) = PostKnows places at p stage
+Knows places at _ = Unit {0}
+
+knows_post : (places : ℕ → RecPlace) (at : Word → ℕ) (p : Posting) (stage : PostStage) → PostKnows places at p stage → Knows places at (told_post p stage)
+knows_post places at p post.LoadFlags k = tt
+knows_post places at p post.Lock k = tt
+knows_post places at p post.StoreFunc k = k
+knows_post places at p post.StoreInfo k = k
+knows_post places at p (post.Exchange link tries) k = (k.0, record { flags_are = k.1.flags_are; func_is = k.1.func_is; info_is = k.1.info_is }, k.2)
+knows_post places at p _ k = (k.0, record { flags_are = k.1.flags_are; func_is = k.1.func_is; info_is = k.1.info_is })
+
+knows_handle : (places : ℕ → RecPlace) (at : Word → ℕ) (h : HandleStage) → Knows places at (told_handle h)
+knows_handle places at handle.Enter = tt
+knows_handle places at _ = tt
+
+abbrev IsFreeAt : (ℕ → RecPlace) → ℕ → PostStage → Type 0
+IsFreeAt places id post.Lock = places id ≡ place.Free
+IsFreeAt places id _ = Unit {0}
+
+told_knows : (places : ℕ → RecPlace) (at : Word → ℕ) (p : Posting) (stage : PostStage) → Knows places at (told_post p stage) → IsFreeAt places p.id stage → PostKnows places at p stage
+told_knows places at p post.LoadFlags k f = tt
+told_knows places at p post.Lock k f = f
+told_knows places at p post.StoreFunc k f = k
+told_knows places at p post.StoreInfo k f = k
+told_knows places at p (post.Exchange link tries) k f = (k.0, record { flags_are = k.1.flags_are; func_is = k.1.func_is; info_is = k.1.info_is }, k.2)
+told_knows places at p _ k f = (k.0, record { flags_are = k.1.flags_are; func_is = k.1.func_is; info_is = k.1.info_is })
+
+-- a CPU that may stand outside, or at a step of a post: it has nothing taken and nothing loaded, and its handling word is 0
+pub record Idle (a : CallState) (at : Word → ℕ) (d : DrainValue) (me : ℕ) : Type 0 where
+  pub rests : Rests (share_of a me)
+  pub hand : at (Hand me) ≡ 0
+
+-- no stage of a post is told of handle, and none of handle of a post
+abbrev IsNoHandle : Option Stage → Type 0
+IsNoHandle (Some (Handle stage)) = ⊥
+IsNoHandle _ = Unit {0}
+
+post_no_handle : (p : Posting) (st : PostStage) → IsNoHandle (told_post p st)
+post_no_handle p post.LoadFlags = tt
+post_no_handle p _ = tt
+
+module _ (a : CallState) (at : Word → ℕ) (me : ℕ) (d : DrainValue) where
+  idle_handle : (h : HandleStage) → StandsAt a.place at (share_of a me) d me (Some (Handle h)) → HandIs (Some (Handle h)) (at (Hand me)) → IsNoHandle (told_handle h) → Idle a at d me
+  idle_handle handle.Enter k hand n = record { rests = k.1; hand = hand }
+  idle_handle _ k hand n = absurd n
+
+  -- a CPU whose steps have told of no handle is idle
+  idle_told : (stage : Option Stage) → StandsAt a.place at (share_of a me) d me stage → HandIs stage (at (Hand me)) → IsNoHandle (told_stage stage) → Idle a at d me
+  idle_told None k hand n = record { rests = k; hand = hand }
+  idle_told (Some (Handle h)) k hand n = idle_handle h k hand n
+  idle_told _ k hand n = record { rests = k.0; hand = hand }
+
+  knows_told : (stage : Option Stage) → StandsAt a.place at (share_of a me) d me stage → Knows a.place at (told_stage stage)
+  knows_told (Some (Post p st)) k = let post = k.1 in knows_post a.place at p st post.knows
+  knows_told (Some (Handle h)) k = knows_handle a.place at h
+  knows_told _ k = tt
+
+-- of a stage of handle beyond the first, all is told
+abbrev IsBeyond : HandleStage → Type 0
+IsBeyond handle.Enter = ⊥
+IsBeyond _ = Unit {0}
+
+no_post : (p : Posting) (st : PostStage) (h : HandleStage) → told_post p st ≡ Some (Handle h) → ⊥
+no_post p st h e = subst IsNoHandle e (post_no_handle p st)
+
+same_handle : (h h' : HandleStage) → told_handle h' ≡ Some (Handle h) → h' ≡ h
+same_handle h handle.Enter e = absurd (let x = e in cc)
+same_handle h _ e = cc
+
+stage_is : (h : HandleStage) (stage : Option Stage) → told_stage stage ≡ Some (Handle h) → stage ≡ Some (Handle h)
+stage_is h (Some (Post p st)) e = absurd (no_post p st h e)
+stage_is h (Some (Handle h')) e = ap (λ (x : HandleStage). Some (Handle x)) (same_handle h h' e)
+stage_is h _ e = cc
+
+told_beyond : (h : HandleStage) → IsBeyond h → told_handle h ≡ Some (Handle h)
+told_beyond handle.Enter b = absurd b
+told_beyond _ b = refl
+
+enters : (h : HandleStage) → IsBeyond h ⊎ (h ≡ handle.Enter)
+enters handle.Enter = inr refl
+enters _ = inl tt
+
+module _ (a : CallState) (at : Word → ℕ) (control : ℕ → ControlValue) (v : Known) (s : Shows a at control) (sees : Sees a control v) where
+  abbrev me : ℕ
+  me = v.number
+
+  -- it holds what its stage says, as far as it knows that
+  pub known_held : a.held me ≡ held_of v.stage
+  known_held = s.held me ∙ (sym (held_told (control me).stage) ∙ ap held_of sees.stage)
+
+  -- a confirmed record is free, where its source is outside
+  pub free_outside : (id : ℕ) → owner id ≡ me → id < records → v.stage ≡ None → is_confirmed v id ≡ true → a.place id ≡ place.Free
+  free_outside id own small out conf =
+      let none : a.held me ≡ None = known_held ∙ ap held_of out in
+      let seen : get_or (row records (a.confirmed me)) id false ≡ true = ap (λ (p : Part). get_or p.confirmed id false) sees.part ∙ conf in
+      elim (s.placed.settled me id own (sym (row-at records id (a.confirmed me) false small) ∙ seen)) [ inl free ↦ free | inr hold ↦ absurd (let h : Holds None id = rw none at hold in h) ]
+
+  pub aims_told : (st : Stage) → MayStep v st → told_stage (Some st) ≡ v.stage
+  aims_told (Post p st) aims = aims.told
+  aims_told _ aims = sym aims.0
+
+  idle : IsNoHandle v.stage → Idle a at (control me).drain me
+  idle n = idle_told a at me (control me).drain (control me).stage (s.stands me) (s.hands me) (subst IsNoHandle (sym sees.stage) n)
+
+  outside_idle : v.stage ≡ None → Idle a at (control me).drain me
+  outside_idle e = idle (subst IsNoHandle (sym e) tt)
+
+  free_at : (p : Posting) (st : PostStage) → MayPost v p st → IsFreeAt a.place p.id st
+  free_at p post.Lock aims = let call = aims.is_call in free_outside p.id aims.owned call.in_range (sym aims.told) aims.ready
+  free_at p _ aims = tt
+
+  abbrev here : Option Stage → ControlValue
+  here stage = record { stage = stage; drain = (control me).drain }
+
+  handle_same : (h : HandleStage) → IsBeyond h → v.stage ≡ told_handle h → (control me).stage ≡ Some (Handle h)
+  handle_same h b e = stage_is h (control me).stage (sees.stage ∙ (e ∙ told_beyond h b))
+
+  aims_stands : (st : Stage) → MayStep v st → StandsAt a.place at (share_of a me) (control me).drain me (Some st)
+  aims_stands (Send to) aims = let i = outside_idle aims.0 in (i.rests, aims.1, aims.2)
+  aims_stands (Done id) aims = let i = outside_idle aims.0 in (i.rests, aims.1, aims.2)
+  aims_stands (Post p st) aims =
+      let i = idle (subst IsNoHandle aims.told (post_no_handle p st)) in (
+        i.rests,
+        record {
+          owned = aims.owned;
+          is_call = aims.is_call;
+          me_in_range = aims.me_in_range;
+          goes = aims.goes;
+          knows = told_knows a.place at p st (subst (Knows a.place at) (sees.stage ∙ sym aims.told) (knows_told a at me (control me).drain (control me).stage (s.stands me))) (free_at p st aims);
+        },
+      )
+  aims_stands (Handle h) aims = elim (enters h) [
+    | inl b ↦ subst (λ (x : Option Stage). StandsAt a.place at (share_of a me) (control me).drain me x) (handle_same h b aims.0) (s.stands me)
+    | inr e ↦ subst (λ (x : HandleStage). StandsAt a.place at (share_of a me) (control me).drain me (Some (Handle x))) (sym e)
+        (let i = outside_idle (aims.0 ∙ ap told_handle e) in (aims.1, i.rests))
+  ]
+
+  aims_hand : (st : Stage) → MayStep v st → HandIs (Some st) (at (Hand me))
+  aims_hand (Send to) aims = let i = outside_idle aims.0 in i.hand
+  aims_hand (Done id) aims = let i = outside_idle aims.0 in i.hand
+  aims_hand (Post p st) aims = let i = idle (subst IsNoHandle aims.told (post_no_handle p st)) in i.hand
+  aims_hand (Handle h) aims = elim (enters h) [
+    | inl b ↦ subst (λ (x : Option Stage). HandIs x (at (Hand me))) (handle_same h b aims.0) (s.hands me)
+    | inr e ↦ subst (λ (x : HandleStage). HandIs (Some (Handle x)) (at (Hand me))) (sym e) (let i = outside_idle (aims.0 ∙ ap told_handle e) in i.hand)
+  ]
+
+  pub aims_held : (st : Stage) → MayStep v st → a.held me ≡ held_of (Some st)
+  aims_held st aims = known_held ∙ (ap held_of (sym (aims_told st aims)) ∙ held_told (Some st))
+
+  -- the CPU may stand there, and it knows what it knew
+  pub restages : (st : Stage) → MayStep v st → Shows a at (put control me (record { stage = Some st; drain = v.drain }))
+  restages st aims =
+      subst (λ (d : DrainValue). Shows a at (put control me (record { stage = Some st; drain = d }))) sees.drain
+      (stands_on a at control me (record { stage = Some st; drain = (control me).drain }) s (aims_held st aims) (aims_stands st aims) (aims_hand st aims))
+
+  -- the access is the one that the CPU knows
+  pub access_known : (st : Stage) → MayStep v st → access_of at me st ≡ known_access v st
+  access_known (Send to) aims = refl
+  access_known (Done id) aims = refl
+  access_known (Post p st) aims =
+      let held : a.held me ≡ held_of_post p st = aims_held (Post p st) aims in
+      ap (post_access p me st) (s.tallied.queued_are me p.to ∙ (λ i. queued_tally (sees.part i) (held i) p.to))
+  access_known (Handle h) aims = ap (handle_access me h) (s.tallied.ran_are me (source_at h) ∙ (λ i. ran_tally (sees.part i) (source_at h)))
+
+-- where a CPU stands outside, its confirmed records are unlocked
+pub confirmed_unlocked : (v : Known) (id n : ℕ) → Moment v (Flags id) n → v.stage ≡ None → owner id ≡ v.number → id < records → is_confirmed v id ≡ true → (n % 2 == 1) ≡ false
+confirmed_unlocked v id n m out own small conf =
+    let l = m.lives in
+    let free : l.calls.place id ≡ place.Free = free_outside l.calls l.at l.controls v l.shown l.sees id own small out conf in
+    let zero_there : l.at (Flags id) ≡ 0 = rw free at (l.shown.written.locks id) in
+    rw (m.number_is, zero_there) refl

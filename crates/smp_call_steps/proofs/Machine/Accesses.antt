@@ -1,0 +1,96 @@
+-- The word of each access is in the table.
+use Rattle.std.proofs.Common.{◌≡◌, ℕ, ◌<◌, Some, List, [], ◌∷◌, ◌+◌, subst, refl, ap, ◌∙◌}
+use Rattle.std.specs.List.{AllByRecursion}
+use Rattle.smp_words.specs.Size.{cpus, records}
+use Rattle.smp_words.specs.Access.{word_of}
+use Rattle.smp_call_steps.specs.Calls.{CallState, Running, Nothing, SyncCall, CountedCall}
+use Rattle.smp_call_steps.specs.Drains.{DrainValue, link_to}
+use Rattle.smp_call_steps.specs.Places.{IsPlaced, locked_by}
+use Rattle.smp_call_steps.specs.Stages.{ControlValue, access_of}
+use Rattle.smp_call_steps.specs.Stands.{Share, share_of, StandsAt, HandleStands, Reverses, Walks, Ends, PostStands}
+use Rattle.smp_call_steps.specs.Shows.{Shows}
+use Rattle.smp_call_steps.specs.Words.{nexts_in}
+use Rattle.smp_call_steps.specs.Names.{Call, Word, Next, RecPlace, Posting, PostStage, Walk, HandleStage, Stage, Send, Done, Post, Handle}
+use Rattle.smp_call_steps.specs.Names.place
+use Rattle.smp_call_steps.specs.Names.post
+use Rattle.smp_call_steps.specs.Names.handle
+use Rattle.smp_call_steps.proofs.Basics.Alls.{every_right}
+use Rattle.smp_call_steps.proofs.State.Walks.{reverses_all, walks_rest, walks_last, ends_rest, same_record}
+use Rattle.smp_words.proofs.Links.{HasIndex, IsInTable, in_table}
+use Rattle.smp_words.proofs.Sizes.{owner-below}
+
+post_in_table : (places : ℕ → RecPlace) (at : Word → ℕ) (me : ℕ) (p : Posting) (stage : PostStage) → PostStands places at me p stage → IsInTable (word_of (access_of at me (Post p stage)))
+post_in_table places at me p post.Count s = (s.me_in_range, s.goes)
+post_in_table places at me p post.LoadHead s = s.goes
+post_in_table places at me p (post.Exchange link tries) s = s.goes
+post_in_table places at me p post.Uncount s = (s.me_in_range, s.goes)
+post_in_table places at me p _ s = s.is_call.in_range
+
+module _ (places : ℕ → RecPlace) (at : Word → ℕ) (me : ℕ) (s : Share) (d : DrainValue)
+    (batched : AllByRecursion (IsPlaced places (place.Batch me)) s.batch) (runs : AllByRecursion (IsPlaced places (place.Running me)) (locked_by s.running)) where
+  -- the calls of the batch are by records
+
+  pub reversed_placed : (up down : ℕ) (call : Call) → Reverses (nexts_in at) s d up down call → IsPlaced places (place.Batch me) call
+  reversed_placed up down call h =
+      let all = every_right (IsPlaced places (place.Batch me)) h.older (call ∷ h.newer) (reverses_all (IsPlaced places (place.Batch me)) (nexts_in at) s d up down call h batched) in
+      all.0
+
+  reversed_in_range : (up down : ℕ) (call : Call) (id : ℕ) → Reverses (nexts_in at) s d up down call → call.id ≡ id → id < records
+  reversed_in_range up down call id h e = subst (λ (k : ℕ). k < records) e (reversed_placed up down call h).is_call.in_range
+
+  pub walked_placed : (walk : Walk) (id : ℕ) (call : Call) (rest : List Call) → Walks (nexts_in at) s d walk (id + 1) [] (call ∷ rest) Nothing → IsPlaced places (place.Batch me) call
+  walked_placed walk id call rest h = let all = walks_rest (IsPlaced places (place.Batch me)) (nexts_in at) s d walk (id + 1) [] (call ∷ rest) Nothing h batched in all.0
+
+  walked_in_range : (walk : Walk) (id : ℕ) (call : Call) (rest : List Call) → Walks (nexts_in at) s d walk (id + 1) [] (call ∷ rest) Nothing → id < records
+  walked_in_range walk id call rest h = subst (λ (k : ℕ). k < records) (same_record id call h.leads_on.0) (walked_placed walk id call rest h).is_call.in_range
+
+  last_in_range : (walk : Walk) (last here : ℕ) (rest : List Call) → Walks (nexts_in at) s d walk here [] rest Nothing → walk.last ≡ Some last → last < records
+  last_in_range walk last here rest h e =
+      let k = walks_last (IsPlaced places (place.Batch me)) (nexts_in at) s d walk last here rest h e batched in
+      subst (λ (n : ℕ). n < records) k.1 k.2.is_call.in_range
+
+  pub ended_placed : (id : ℕ) (call : Call) (rest : List Call) → Ends (nexts_in at) s d (id + 1) [] (call ∷ rest) Nothing → IsPlaced places (place.Batch me) call
+  ended_placed id call rest h = let all = ends_rest (IsPlaced places (place.Batch me)) (nexts_in at) s d (id + 1) [] (call ∷ rest) Nothing h batched in all.0
+
+  ended_in_range : (id : ℕ) (call : Call) (rest : List Call) → Ends (nexts_in at) s d (id + 1) [] (call ∷ rest) Nothing → id < records
+  ended_in_range id call rest h = subst (λ (k : ℕ). k < records) (same_record id call h.leads_on.0) (ended_placed id call rest h).is_call.in_range
+
+  -- the call that runs, where its record is locked meanwhile
+  running_in_range : (call : Call) (running : Running) → locked_by running ≡ call ∷ [] → s.running ≡ running → call.id < records
+  running_in_range call running e r =
+      let all : AllByRecursion (IsPlaced places (place.Running me)) (call ∷ []) = subst (λ (x : List Call). AllByRecursion (IsPlaced places (place.Running me)) x) (ap locked_by r ∙ e) runs in
+      all.0.is_call.in_range
+
+  begun_in_range : (call : Call) (rest : List Call) → s.batch ≡ call ∷ rest → call.id < records
+  begun_in_range call rest e =
+      let all : AllByRecursion (IsPlaced places (place.Batch me)) (call ∷ rest) = subst (λ (x : List Call). AllByRecursion (IsPlaced places (place.Batch me)) x) e batched in
+      all.0.is_call.in_range
+
+  handle_in_table : (stage : HandleStage) → me < cpus → HandleStands (nexts_in at) s d stage → IsInTable (word_of (access_of at me (Handle stage)))
+  handle_in_table (handle.ReverseLoad newer id) l h = reversed_in_range (link_to newer) (at (Next id)) h.0 id h.1 h.2
+  handle_in_table (handle.ReverseStore newer id older) l h = reversed_in_range (link_to newer) (link_to older) h.0 id h.1 h.2
+  handle_in_table (handle.LoadNext walk id) l h = walked_in_range walk id h.0 h.1 h.2
+  handle_in_table (handle.LoadFlags walk id next) l h = walked_in_range walk id h.0 h.1 h.2
+  handle_in_table (handle.LoadFunc walk id next) l h = walked_in_range walk id h.0 h.1 h.2
+  handle_in_table (handle.LoadInfo walk id next func) l h = walked_in_range walk id h.0 h.1 h.2
+  handle_in_table (handle.Unlink walk last call next) l h = last_in_range walk last (call.id + 1) (call ∷ h.0) h.1 h.4
+  handle_in_table (handle.CountSync walk call next) l h = (l, owner-below call.id (running_in_range call (SyncCall call) refl h.1.running_is))
+  handle_in_table (handle.EndSync walk call next) l h = running_in_range call (CountedCall call) refl h.1.running_is
+  handle_in_table (handle.AsyncNext id) l h = ended_in_range id h.0 h.1 h.2
+  handle_in_table (handle.AsyncFunc id next) l h = ended_in_range id h.0 h.1 h.2
+  handle_in_table (handle.AsyncInfo id next func) l h = ended_in_range id h.0 h.1 h.2
+  handle_in_table (handle.BeginAsync call next) l h = begun_in_range call h.0 h.1.batch
+  handle_in_table (handle.CountAsync call next) l h = (l, owner-below call.id h.2.in_range)
+  handle_in_table _ l h = l
+
+  stage_in_table : (stage : Stage) → StandsAt places at s d me (Some stage) → IsInTable (word_of (access_of at me stage))
+  stage_in_table (Send to) h = h.1
+  stage_in_table (Done id) h = h.2
+  stage_in_table (Post p stage) h = post_in_table places at me p stage h.1
+  stage_in_table (Handle stage) h = handle_in_table stage h.0 h.1
+
+-- the CPU of a stage, and the word of its access
+pub access_in_table : (a : CallState) (at : Word → ℕ) (control : ℕ → ControlValue) (me : ℕ) → Shows a at control → (stage : Stage) → (control me).stage ≡ Some stage → HasIndex (word_of (access_of at me stage))
+access_in_table a at control me s stage e =
+    let stands : StandsAt a.place at (share_of a me) (control me).drain me (Some stage) = rw e at (s.stands me) in
+    in_table (word_of (access_of at me stage)) (stage_in_table a.place at me (share_of a me) (control me).drain (s.placed.batched me) (s.placed.runs me) stage stands)

@@ -1,0 +1,13 @@
+-- Facts of the state.
+pub mod Chains
+pub mod Walks
+pub mod QueueChains
+pub mod Batches
+pub mod BatchLinks
+pub mod Places
+pub mod Tallies
+pub mod Counts
+pub mod QueueOrder
+pub mod Classes
+pub mod HaveRun
+pub mod Drained

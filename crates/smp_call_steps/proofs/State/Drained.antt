@@ -1,0 +1,163 @@
+-- Where no record is locked and nobody handles calls, each call that was queued has run, once.
+use Rattle.std.proofs.Common.{◌≡◌, ◌≢◌, ℕ, ◌+◌, ◌%◌, ◌^◌, ◌==◌, Bool, true, false, cond, Option, Some, None, List, [], ◌∷◌, ◌++◌, length, sym, refl, ap, ◌∙◌, arith}
+use Rattle.std.proofs.lemmas.List.{append-nil}
+use Rattle.std.specs.List.{AllByRecursion}
+use Rattle.smp_words.specs.Size.{owner}
+use Rattle.smp_call_steps.specs.Calls.{CallState, Holding, Running}
+use Rattle.smp_call_steps.specs.Histories.{Marked, mark, marked, others_marked, batches_marked, history_of, marked_from, sent_to, calls_from, orders, running_call, one_held, counted_call}
+use Rattle.smp_call_steps.specs.Order.{if_sync, if_async, sync_calls, async_calls, order}
+use Rattle.smp_call_steps.specs.Places.{Holds, IsPlaced}
+use Rattle.smp_call_steps.specs.Words.{FlagsShow, hands_in}
+use Rattle.smp_call_steps.specs.Shows.{Shows}
+use Rattle.smp_call_steps.specs.Stages.{ControlValue}
+use Rattle.smp_call_steps.specs.Stands.{Share, share_of, Rests, StandsAt, HandIs}
+use Rattle.smp_call_steps.specs.Drains.{DrainValue}
+use Rattle.smp_call_steps.proofs.State.Counts.{held_place}
+use Rattle.smp_call_steps.specs.Names.{Call, Class, Sync, Async, Word, Hand, Queued, Ran, Flags, RecPlace, HandleStage, Stage, Handle}
+use Rattle.smp_call_steps.specs.Names.place
+use Rattle.smp_call_steps.specs.Names.handle
+
+-- how many calls of a source a list has
+
+length-kept : {A : Type 0} (b : Bool) (x : A) (rest : List A) → length (cond b (x ∷ rest) rest) ≡ cond b 1 0 + length rest
+length-kept true x rest = omega arith
+length-kept false x rest = omega arith
+
+calls_from-append : (source : ℕ) (xs ys : List Call) → length (calls_from source (xs ++ ys)) ≡ length (calls_from source xs) + length (calls_from source ys)
+calls_from-append source [] ys = omega arith
+calls_from-append source (x ∷ xs) ys =
+    let whole = length-kept (owner x.id == source) x (calls_from source (xs ++ ys)) in
+    let part = length-kept (owner x.id == source) x (calls_from source xs) in
+    let rest = calls_from-append source xs ys in
+    omega arith
+
+marked_from-append : (source : ℕ) (xs ys : List Marked) → length (marked_from source (xs ++ ys)) ≡ length (marked_from source xs) + length (marked_from source ys)
+marked_from-append source [] ys = omega arith
+marked_from-append source (x ∷ xs) ys =
+    let whole = length-kept (owner x.call.id == source) x (marked_from source (xs ++ ys)) in
+    let part = length-kept (owner x.call.id == source) x (marked_from source xs) in
+    let rest = marked_from-append source xs ys in
+    omega arith
+
+-- marks are no calls
+
+others_from : (source : ℕ) (calls : List Call) → length (marked_from source (others_marked calls)) ≡ length (calls_from source calls)
+others_from source [] = refl
+others_from source (call ∷ rest) =
+    let m = length-kept (owner call.id == source) (mark false call) (marked_from source (others_marked rest)) in
+    let c = length-kept (owner call.id == source) call (calls_from source rest) in
+    let r = others_from source rest in
+    omega arith
+
+all_from : (source : ℕ) (calls : List Call) → length (marked_from source (marked calls)) ≡ length (calls_from source calls)
+all_from source [] = refl
+all_from source (call ∷ rest) =
+    let m = length-kept (owner call.id == source) (mark true call) (marked_from source (others_marked rest)) in
+    let c = length-kept (owner call.id == source) call (calls_from source rest) in
+    let r = others_from source rest in
+    omega arith
+
+-- the drain order has the calls of its batch
+
+class_from : (source : ℕ) (class : Class) (call : Call) → length (calls_from source (if_sync class call)) + length (calls_from source (if_async class call)) ≡ length (calls_from source (call ∷ []))
+class_from source Sync call = omega arith
+class_from source Async call = omega arith
+
+parts_from : (source : ℕ) (calls : List Call) → length (calls_from source (sync_calls calls)) + length (calls_from source (async_calls calls)) ≡ length (calls_from source calls)
+parts_from source [] = refl
+parts_from source (call ∷ rest) =
+    let one = class_from source call.class call in
+    let r = parts_from source rest in
+    let a = calls_from-append source (if_sync call.class call) (sync_calls rest) in
+    let b = calls_from-append source (if_async call.class call) (async_calls rest) in
+    let w : length (calls_from source (call ∷ rest)) ≡ length (calls_from source (call ∷ [])) + length (calls_from source rest) = calls_from-append source (call ∷ []) rest in
+    omega arith
+
+order_from : (source : ℕ) (calls : List Call) → length (calls_from source (order calls)) ≡ length (calls_from source calls)
+order_from source calls = calls_from-append source (sync_calls calls) (async_calls calls) ∙ parts_from source calls
+
+batches_from : (source : ℕ) (taken : List (List Call)) → length (marked_from source (batches_marked taken)) ≡ length (calls_from source (orders taken))
+batches_from source [] = refl
+batches_from source (batch ∷ rest) =
+    let m = marked_from-append source (marked batch) (batches_marked rest) in
+    let c = calls_from-append source (order batch) (orders rest) in
+    let b = all_from source batch in
+    let o = order_from source batch in
+    let r = batches_from source rest in
+    omega arith
+
+-- no record is locked, and nobody is inside handle
+pub record Still (at : Word → ℕ) : Type 0 where
+  pub unlocked : (id : ℕ) → at (Flags id) % 2 ≢ 1
+  pub outside : (cpu : ℕ) → at (Hand cpu) ≡ 0
+
+unlocked_free : (p : RecPlace) (flags : ℕ) → FlagsShow p flags → flags % 2 ≢ 1 → p ≡ place.Free
+unlocked_free place.Free flags h ne = refl
+unlocked_free _ flags h ne = absurd (ne h)
+
+none_placed : (places : ℕ → RecPlace) (p : RecPlace) (calls : List Call) → p ≢ place.Free → ((id : ℕ) → places id ≡ place.Free) → AllByRecursion (IsPlaced places p) calls → calls ≡ []
+none_placed places p [] ne free h = refl
+none_placed places p (call ∷ rest) ne free h = absurd (ne (sym h.0.placed ∙ free call.id))
+
+none_held : (held : Option Holding) → ((id : ℕ) → Holds held id → ⊥) → held ≡ None
+none_held None h = refl
+none_held (Some x) h = absurd (h x.call.id refl)
+
+rests_inside : (places : ℕ → RecPlace) (at : Word → ℕ) (s : Share) (d : DrainValue) (me hand : ℕ) (stage : HandleStage) → hand ≡ 0 → HandIs (Some (Handle stage)) hand → StandsAt places at s d me (Some (Handle stage)) → Rests s
+rests_inside places at s d me hand handle.Enter z h k = k.1
+rests_inside places at s d me hand (handle.CountSync walk call next) z h k = absurd (let e : hand ≡ call.id + 2 = h in omega arith)
+rests_inside places at s d me hand (handle.EndSync walk call next) z h k = absurd (let e : hand ≡ call.id + 2 = h in omega arith)
+rests_inside places at s d me hand _ z h k = absurd (h z)
+
+-- nothing is taken and nothing runs, where the handling word is 0
+rests_at : (places : ℕ → RecPlace) (at : Word → ℕ) (s : Share) (d : DrainValue) (me hand : ℕ) (stage : Option Stage) → hand ≡ 0 → HandIs stage hand → StandsAt places at s d me stage → Rests s
+rests_at places at s d me hand None z h k = k
+rests_at places at s d me hand (Some (Handle stage)) z h k = rests_inside places at s d me hand stage z h k
+rests_at places at s d me hand _ z h k = k.0
+
+module _ (a : CallState) (at : Word → ℕ) (control : ℕ → ControlValue) (s : Shows a at control) (still : Still at) where
+  free : (id : ℕ) → a.place id ≡ place.Free
+  free id = unlocked_free (a.place id) (at (Flags id)) (s.written.locks id) (still.unlocked id)
+
+  nothing_held : (cpu : ℕ) → a.held cpu ≡ None
+  nothing_held cpu = none_held (a.held cpu) (λ id h. let e = sym (held_place a at control s cpu id h) ∙ free id in cc)
+
+  nothing_queued : (cpu : ℕ) → a.queue cpu ≡ []
+  nothing_queued cpu = none_placed a.place (place.Queued cpu) (a.queue cpu) (λ e. cc) free (s.placed.queued cpu)
+
+  rests : (cpu : ℕ) → Rests (share_of a cpu)
+  rests cpu = rests_at a.place at (share_of a cpu) (control cpu).drain cpu (hands_in at cpu) (control cpu).stage (still.outside cpu) (s.hands cpu) (s.stands cpu)
+
+  -- the tally words count the calls that were sent and those that ran
+
+  pub still_queued : (source cpu : ℕ) → at (Queued source cpu) ≡ length (sent_to cpu (a.sent source)) % 2 ^ 64
+  still_queued source cpu =
+      let none : one_held (a.held source) cpu ≡ 0 = ap (λ (h : Option Holding). one_held h cpu) (nothing_held source) in
+      s.tallied.queued_are source cpu ∙ ap (λ (n : ℕ). n % 2 ^ 64) (omega arith)
+
+  pub still_ran : (cpu source : ℕ) → at (Ran cpu source) ≡ length (calls_from source (a.ran cpu)) % 2 ^ 64
+  still_ran cpu source =
+      s.tallied.ran_are cpu source
+      ∙ ap (λ (r : Running). length (calls_from source (a.ran cpu ++ counted_call r)) % 2 ^ 64) (rests cpu).running
+      ∙ ap (λ (calls : List Call). length (calls_from source calls) % 2 ^ 64) (append-nil (a.ran cpu))
+
+  -- each CPU has run what it has taken, in drain order
+  pub all_ran : (cpu : ℕ) → a.ran cpu ≡ orders (a.taken cpu)
+  all_ran cpu =
+      let r = rests cpu in
+      sym (append-nil (a.ran cpu)) ∙ (λ i. a.ran cpu ++ (running_call (sym r.running i) ++ sym r.batch i)) ∙ s.recorded.drained cpu
+
+  -- and has taken what was sent to it
+  pub all_sent : (source cpu : ℕ) → sent_to cpu (a.sent source) ≡ marked_from source (batches_marked (a.taken cpu))
+  all_sent source cpu =
+      s.recorded.in_order source cpu
+      ∙ ap (λ (queue : List Call). marked_from source (history_of (a.taken cpu) queue)) (nothing_queued cpu)
+      ∙ ap (marked_from source) (append-nil (batches_marked (a.taken cpu)))
+
+  -- as many calls of each source as it has queued for a CPU have run there
+  pub as_many_ran : (source cpu : ℕ) → length (sent_to cpu (a.sent source)) ≡ length (calls_from source (a.ran cpu))
+  as_many_ran source cpu =
+      ap length (all_sent source cpu) ∙ batches_from source (a.taken cpu) ∙ ap (λ (calls : List Call). length (calls_from source calls)) (sym (all_ran cpu))
+
+  pub equal_tallies : (source cpu : ℕ) → at (Queued source cpu) ≡ at (Ran cpu source)
+  equal_tallies source cpu = still_queued source cpu ∙ ap (λ (n : ℕ). n % 2 ^ 64) (as_many_ran source cpu) ∙ sym (still_ran cpu source)

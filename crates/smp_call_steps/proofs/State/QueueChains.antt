@@ -1,0 +1,29 @@
+-- The chain of a queue, and what is read of it.
+use Rattle.std.proofs.Common.{◌≡◌, ℕ, ◌<◌}
+use Rattle.std.specs.List.{AllByRecursion}
+use Rattle.smp_words.specs.Size.{records}
+use Rattle.smp_call_steps.specs.Calls.{CallState}
+use Rattle.smp_call_steps.specs.Places.{IsPlaced}
+use Rattle.smp_call_steps.specs.Queues.{HasChain, chain_in, ids}
+use Rattle.smp_call_steps.specs.Shows.{Shows}
+use Rattle.smp_call_steps.specs.Stages.{ControlValue}
+use Rattle.smp_call_steps.specs.Words.{nexts_in}
+use Rattle.smp_call_steps.proofs.Basics.Alls.{every}
+use Rattle.smp_call_steps.proofs.State.Chains.{chain_read}
+use Rattle.smp_call_steps.proofs.Basics.Short.{length-apart}
+use Rattle.smp_call_steps.specs.Names.{Word, Head}
+use Rattle.smp_call_steps.specs.Names.place
+
+queue_records : (a : CallState) (at : Word → ℕ) (control : ℕ → ControlValue) (cpu : ℕ) → Shows a at control → AllByRecursion (λ call. call.id < records) (a.queue cpu)
+queue_records a at control cpu s = every (IsPlaced a.place (place.Queued cpu)) (λ call. call.id < records) (λ call q. q.is_call.in_range) (a.queue cpu) (s.placed.queued cpu)
+
+-- the chain of a queue
+pub queue_chain : (a : CallState) (at : Word → ℕ) (control : ℕ → ControlValue) (cpu : ℕ) → Shows a at control → HasChain (nexts_in at) (at (Head cpu))
+queue_chain a at control cpu s =
+    let r = queue_records a at control cpu s in
+    record { calls = a.queue cpu; leads = s.chained.chain cpu; records_are = r; short = length-apart records (a.queue cpu) (s.placed.queue_apart cpu) r }
+
+-- what is read of it is the queue
+pub queue_read : (a : CallState) (at : Word → ℕ) (control : ℕ → ControlValue) (cpu : ℕ) → Shows a at control → chain_in (nexts_in at) records (at (Head cpu)) ≡ ids (a.queue cpu)
+queue_read a at control cpu s =
+    chain_read records (nexts_in at) (at (Head cpu)) (a.queue cpu) (length-apart records (a.queue cpu) (s.placed.queue_apart cpu) (queue_records a at control cpu s)) (s.chained.chain cpu)

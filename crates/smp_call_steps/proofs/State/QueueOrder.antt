@@ -1,0 +1,104 @@
+-- In which order calls run.
+use Rattle.std.proofs.Common.{◌≡◌, ◌≢◌, ℕ, List, [], ◌∷◌, ◌++◌, sym, subst, refl, ap, ◌∙◌, append_assoc}
+use Rattle.std.proofs.lemmas.List.{append-nil}
+use Rattle.std.specs.List.{AllByRecursion}
+use Rattle.smp_call_steps.specs.Calls.{CallState}
+use Rattle.smp_call_steps.specs.Counts.{batches}
+use Rattle.smp_call_steps.specs.Handling.{rest_of}
+use Rattle.smp_call_steps.specs.Histories.{orders, running_call}
+use Rattle.smp_call_steps.specs.Order.{if_sync, if_async, sync_calls, async_calls, order}
+use Rattle.smp_call_steps.specs.QueueOrder.{if_class, of_class, KeepsClasses, AsyncsLast, InQueueOrder}
+use Rattle.smp_call_steps.specs.Shows.{Shows}
+use Rattle.smp_call_steps.specs.Stages.{ControlValue}
+use Rattle.smp_call_steps.specs.Stands.{IsAsync}
+use Rattle.smp_call_steps.proofs.Basics.Alls.{every_right}
+use Rattle.smp_call_steps.proofs.State.Walks.{IsSync, all_sync, all_async}
+use Rattle.smp_call_steps.specs.Names.{Call, Class, Sync, Async, Word}
+
+pub of_class-append : (class : Class) (xs ys : List Call) → of_class class (xs ++ ys) ≡ of_class class xs ++ of_class class ys
+of_class-append class [] ys = refl
+of_class-append class (x ∷ xs) ys =
+    ap (λ (k : List Call). if_class class x.class x ++ k) (of_class-append class xs ys) ∙ sym (append_assoc (if_class class x.class x) (of_class class xs) (of_class class ys))
+
+-- of the SYNC calls of a list, all are of class SYNC, and none is ASYNC
+
+one_sync : (class : Class) (call : Call) → call.class ≡ class → of_class Sync (if_sync class call) ≡ if_class Sync class call
+one_sync Sync call e = rw e refl
+one_sync Async call e = refl
+
+one_not_sync : (class : Class) (call : Call) → call.class ≡ class → of_class Sync (if_async class call) ≡ []
+one_not_sync Sync call e = refl
+one_not_sync Async call e = rw e refl
+
+one_async : (class : Class) (call : Call) → call.class ≡ class → of_class Async (if_async class call) ≡ if_class Async class call
+one_async Sync call e = refl
+one_async Async call e = rw e refl
+
+one_not_async : (class : Class) (call : Call) → call.class ≡ class → of_class Async (if_sync class call) ≡ []
+one_not_async Sync call e = rw e refl
+one_not_async Async call e = refl
+
+sync_of : (calls : List Call) → of_class Sync (sync_calls calls) ≡ of_class Sync calls
+sync_of [] = refl
+sync_of (call ∷ rest) =
+    of_class-append Sync (if_sync call.class call) (sync_calls rest) ∙
+    (ap (λ (k : List Call). k ++ of_class Sync (sync_calls rest)) (one_sync call.class call refl) ∙ ap (λ (k : List Call). if_class Sync call.class call ++ k) (sync_of rest))
+
+not_sync_of : (calls : List Call) → of_class Sync (async_calls calls) ≡ []
+not_sync_of [] = refl
+not_sync_of (call ∷ rest) =
+    of_class-append Sync (if_async call.class call) (async_calls rest) ∙
+    (ap (λ (k : List Call). k ++ of_class Sync (async_calls rest)) (one_not_sync call.class call refl) ∙ not_sync_of rest)
+
+async_of : (calls : List Call) → of_class Async (async_calls calls) ≡ of_class Async calls
+async_of [] = refl
+async_of (call ∷ rest) =
+    of_class-append Async (if_async call.class call) (async_calls rest) ∙
+    (ap (λ (k : List Call). k ++ of_class Async (async_calls rest)) (one_async call.class call refl) ∙ ap (λ (k : List Call). if_class Async call.class call ++ k) (async_of rest))
+
+not_async_of : (calls : List Call) → of_class Async (sync_calls calls) ≡ []
+not_async_of [] = refl
+not_async_of (call ∷ rest) =
+    of_class-append Async (if_sync call.class call) (sync_calls rest) ∙
+    (ap (λ (k : List Call). k ++ of_class Async (sync_calls rest)) (one_not_async call.class call refl) ∙ not_async_of rest)
+
+pub keeps_classes : (batch : List Call) → KeepsClasses batch
+keeps_classes batch Sync =
+    of_class-append Sync (sync_calls batch) (async_calls batch) ∙
+    (ap (λ (k : List Call). of_class Sync (sync_calls batch) ++ k) (not_sync_of batch) ∙ (append-nil (of_class Sync (sync_calls batch)) ∙ sync_of batch))
+keeps_classes batch Async =
+    of_class-append Async (sync_calls batch) (async_calls batch) ∙
+    (ap (λ (k : List Call). k ++ of_class Async (async_calls batch)) (not_async_of batch) ∙ async_of batch)
+
+abbrev first_class : List Call → Class
+first_class [] = Sync
+first_class (call ∷ rest) = call.class
+
+pub Sync≢Async : Sync ≢ Async
+Sync≢Async e = cc
+
+-- after an ASYNC call in SYNC calls that ASYNC calls follow come only ASYNC calls
+after_async : (syncs asyncs before : List Call) (call : Call) (after : List Call) → AllByRecursion IsSync syncs → AllByRecursion IsAsync asyncs → syncs ++ asyncs ≡ before ++ call ∷ after → call.class ≡ Async → AllByRecursion IsAsync after
+after_async [] asyncs before call after h k e is = (every_right IsAsync before (call ∷ after) (subst (λ (xs : List Call). AllByRecursion IsAsync xs) e k)).1
+after_async (x ∷ syncs) asyncs [] call after h k e is = absurd (Sync≢Async (sym h.0 ∙ (ap first_class e ∙ is)))
+after_async (x ∷ syncs) asyncs (y ∷ before) call after h k e is = after_async syncs asyncs before call after h.1 k (ap rest_of e) is
+
+pub asyncs_last : (batch : List Call) → AsyncsLast batch
+asyncs_last batch before call after e is = after_async (sync_calls batch) (async_calls batch) before call after (all_sync batch) (all_async batch) e is
+
+pub orders_keep : (class : Class) (taken : List (List Call)) → of_class class (orders taken) ≡ of_class class (batches taken)
+orders_keep class [] = refl
+orders_keep class (batch ∷ rest) =
+    of_class-append class (order batch) (orders rest) ∙
+    (ap (λ (k : List Call). k ++ of_class class (orders rest)) (keeps_classes batch class) ∙
+    (ap (λ (k : List Call). of_class class batch ++ k) (orders_keep class rest) ∙ sym (of_class-append class batch (batches rest))))
+
+pub run_in_queue_order : (a : CallState) (at : Word → ℕ) (control : ℕ → ControlValue) → Shows a at control → InQueueOrder a
+run_in_queue_order a at control s cpu class =
+    let more : List Call = running_call (a.running cpu) ++ a.batch cpu in
+    let ended : of_class class (batches (a.taken cpu)) ≡ of_class class (a.ran cpu) ++ of_class class more =
+    sym (orders_keep class (a.taken cpu)) ∙ (ap (of_class class) (sym (s.recorded.drained cpu)) ∙ of_class-append class (a.ran cpu) more) in (
+      of_class class more ++ of_class class (a.queue cpu),
+      of_class-append class (batches (a.taken cpu)) (a.queue cpu) ∙
+          (ap (λ (k : List Call). k ++ of_class class (a.queue cpu)) ended ∙ append_assoc (of_class class (a.ran cpu)) (of_class class more) (of_class class (a.queue cpu))),
+    )

@@ -1,0 +1,244 @@
+-- The compare-exchange that wins: the held call joins the queue.
+use Rattle.std.proofs.Common.{◌≡◌, ◌≢◌, ℕ, ◌+◌, ◌%◌, ◌^◌, Bool, true, false, cond, Option, Some, None, List, [], ◌∷◌, ◌++◌, length, sym, subst, refl, ap, ◌∙◌, ◌⊎◌, inl, inr, arith, length-append}
+use Rattle.std.proofs.lemmas.List.{append-nil}
+use Rattle.std.proofs.lemmas.Bool.{eq-eqb, ne_eqb, cases_eq}
+use Rattle.std.specs.List.{AllByRecursion}
+use Rattle.smp_words.specs.Put.{put, put_word}
+use Rattle.smp_words.specs.Size.{owner}
+use Rattle.smp_call_steps.specs.Calls.{CallState, Holding, Sending, appended, is_nil}
+use Rattle.smp_call_steps.specs.Stages.{ControlValue}
+use Rattle.smp_call_steps.specs.Places.{Placed, IsPlaced, IsCall, IsThere, Holds, HasRecord, IsApart, locked_by}
+use Rattle.smp_call_steps.specs.Words.{Written, IsWritten, FlagsShow, Chained, Leads, Linked, LinkIs, Noticed, IsNoticed, is_pending, is_accepted, is_owed, IsEmpty, flags_in, funcs_in, infos_in, nexts_in, heads_in, intrs_in, queued_in, ran_in}
+use Rattle.smp_call_steps.specs.Histories.{Recorded, Tallied, Marked, mark, sent_to, marked_from, history_of, one_held}
+use Rattle.smp_call_steps.specs.Stands.{Stands, share_of, held_of, HandIs}
+use Rattle.smp_call_steps.specs.Shows.{Shows}
+use Rattle.smp_words.proofs.Puts.{at_test, put_all}
+use Rattle.smp_call_steps.proofs.Basics.Alls.{every, every_push}
+use Rattle.smp_call_steps.proofs.Steps.Frames.{Touches, leaves_others, Stands-kept}
+use Rattle.smp_call_steps.proofs.Basics.Lists.{sent_to-push, marked_from-push, history-push, one_if-same, one_if-other}
+use Rattle.smp_call_steps.proofs.Steps.Own.{put_other, put_same}
+use Rattle.smp_call_steps.specs.Names.{Call, Word, Head, Hand, Queued, Flags, Next, RecPlace}
+use Rattle.smp_call_steps.specs.Names.place
+
+-- one more, above what the head was
+pub Leads-push : (nexts : ℕ → ℕ) (link : ℕ) (calls : List Call) (below : ℕ) (new : Call) → nexts new.id ≡ link → Leads nexts link calls below → Leads nexts (new.id + 1) (calls ++ new ∷ []) below
+Leads-push nexts link [] below new e l = (e ∙ l, refl)
+Leads-push nexts link (call ∷ rest) below new e l = (l.0, Leads-push nexts link rest (call.id + 1) new e l.1)
+
+pub IsApart-push : (calls : List Call) (new : Call) → AllByRecursion (λ call. new.id ≢ call.id) calls → IsApart calls → IsApart (calls ++ new ∷ [])
+IsApart-push [] new h a = (tt, tt)
+IsApart-push (call ∷ rest) new h a = (every_push (λ c. c.id ≢ call.id) rest new a.0 h.0, IsApart-push rest new h.1 a.1)
+
+pub HasRecord-left : (id : ℕ) (calls more : List Call) → HasRecord id calls → HasRecord id (calls ++ more)
+HasRecord-left id [] more h = absurd h
+HasRecord-left id (call ∷ rest) more (inl e) = inl e
+HasRecord-left id (call ∷ rest) more (inr h) = inr (HasRecord-left id rest more h)
+
+pub HasRecord-right : (id : ℕ) (calls more : List Call) → HasRecord id more → HasRecord id (calls ++ more)
+HasRecord-right id [] more h = h
+HasRecord-right id (call ∷ rest) more h = inr (HasRecord-right id rest more h)
+
+true≢false : true ≢ false
+true≢false e = cc
+
+-- owed by now, and owed before
+owes_more : (first : Bool) (f : ℕ → ℕ → Bool) (me to source cpu : ℕ) → f source cpu ≡ true → cond first (put f me (put (f me) to true)) f source cpu ≡ true
+owes_more false f me to source cpu e = e
+owes_more true f me to source cpu e =
+    at_test source me (λ b. cond b (put (f me) to true) (f source) cpu ≡ true)
+    (λ eq. at_test cpu to (λ b. cond b true (f me cpu) ≡ true) (λ _. refl) (λ _. rw eq at e))
+    (λ _. e)
+
+owes_new : (f : ℕ → ℕ → Bool) (me to : ℕ) → put f me (put (f me) to true) me to ≡ true
+owes_new f me to = ap (λ (g : ℕ → Bool). g to) (put_same f me (put (f me) to true)) ∙ put_same (f me) to true
+
+-- the CPU is noticed at the append: it was, where calls stood there, and else it is owed an interrupt now
+noticed_there : (a : CallState) (me to : ℕ) (calls : List Call) → IsEmpty calls ⊎ IsNoticed a.pending a.accepted a.owes to →
+    IsNoticed a.pending a.accepted (cond (is_nil calls) (put a.owes me (put (a.owes me) to true)) a.owes) to
+noticed_there a me to [] n = is_owed me (owes_new a.owes me to)
+noticed_there a me to (x ∷ xs) (inl e) = absurd e
+noticed_there a me to (x ∷ xs) (inr n) = n
+
+noticed_else : (a : CallState) (first : Bool) (me to cpu : ℕ) → IsNoticed a.pending a.accepted a.owes cpu → IsNoticed a.pending a.accepted (cond first (put a.owes me (put (a.owes me) to true)) a.owes) cpu
+noticed_else a first me to cpu (is_pending e) = is_pending e
+noticed_else a first me to cpu (is_accepted e) = is_accepted e
+noticed_else a first me to cpu (is_owed source o) = is_owed source (owes_more first a.owes me to source cpu o)
+
+sent_else : (cpu to : ℕ) (sent : List Sending) (call : Call) (first : Bool) → cpu ≢ to → sent_to cpu (sent ++ record { call = call; to = to; is_first = first } ∷ []) ≡ sent_to cpu sent
+sent_else cpu to sent call first ne =
+    sent_to-push cpu sent (record { call = call; to = to; is_first = first }) ∙ (rw (one_if-other to cpu (mark first call) (λ e. ne (sym e))) (append-nil (sent_to cpu sent)))
+
+sent_here : (to : ℕ) (sent : List Sending) (call : Call) (first : Bool) → sent_to to (sent ++ record { call = call; to = to; is_first = first } ∷ []) ≡ sent_to to sent ++ mark first call ∷ []
+sent_here to sent call first = sent_to-push to sent (record { call = call; to = to; is_first = first }) ∙ ap (λ (ms : List Marked). sent_to to sent ++ ms) (one_if-same to to (mark first call) refl)
+
+from_else : (source : ℕ) (taken : List (List Call)) (queue : List Call) (call : Call) → owner call.id ≢ source → marked_from source (history_of taken (queue ++ call ∷ [])) ≡ marked_from source (history_of taken queue)
+from_else source taken queue call ne =
+    rw (history-push taken queue call, marked_from-push source (history_of taken queue) (mark (is_nil queue) call), one_if-other (owner call.id) source (mark (is_nil queue) call) ne) (append-nil (marked_from source (history_of taken queue)))
+
+from_here : (source : ℕ) (taken : List (List Call)) (queue : List Call) (call : Call) → owner call.id ≡ source → marked_from source (history_of taken (queue ++ call ∷ [])) ≡ marked_from source (history_of taken queue) ++ mark (is_nil queue) call ∷ []
+from_here source taken queue call e =
+    rw (history-push taken queue call, marked_from-push source (history_of taken queue) (mark (is_nil queue) call), one_if-same (owner call.id) source (mark (is_nil queue) call) e) refl
+
+abbrev counted_hold : Call → ℕ → Option Holding
+counted_hold call to = Some (record { call = call; to = to; is_counted = true })
+
+one_held-here : (held : Option Holding) (call : Call) (to : ℕ) → held ≡ counted_hold call to → one_held held to ≡ 1
+one_held-here held call to e = rw (e, eq-eqb to to refl) refl
+
+one_held-else : (held : Option Holding) (call : Call) (to cpu : ℕ) → held ≡ counted_hold call to → cpu ≢ to → one_held held cpu ≡ 0
+one_held-else held call to cpu e ne = rw (e, ne_eqb to cpu (λ f. ne (sym f))) refl
+
+-- the count goes from the call that was held to the one that was sent
+tally_here : (n to : ℕ) (sent : List Sending) (call : Call) (first : Bool) (held : Option Holding) → held ≡ counted_hold call to →
+    n ≡ (length (sent_to to sent) + one_held held to) % 2 ^ 64 → n ≡ (length (sent_to to (sent ++ record { call = call; to = to; is_first = first } ∷ [])) + 0) % 2 ^ 64
+tally_here n to sent call first held e t =
+    let one = one_held-here held call to e in
+    let more : length (sent_to to (sent ++ record { call = call; to = to; is_first = first } ∷ [])) ≡ length (sent_to to sent) + 1 =
+    ap length (sent_here to sent call first) ∙ length-append (sent_to to sent) (mark first call ∷ []) in
+    let sum : length (sent_to to sent) + one_held held to ≡ length (sent_to to (sent ++ record { call = call; to = to; is_first = first } ∷ [])) + 0 = omega arith in
+    t ∙ ap (λ k. k % 2 ^ 64) sum
+
+tally_else : (n to cpu : ℕ) (sent : List Sending) (call : Call) (first : Bool) (held : Option Holding) → held ≡ counted_hold call to → cpu ≢ to →
+    n ≡ (length (sent_to cpu sent) + one_held held cpu) % 2 ^ 64 → n ≡ (length (sent_to cpu (sent ++ record { call = call; to = to; is_first = first } ∷ [])) + 0) % 2 ^ 64
+tally_else n to cpu sent call first held e ne t = rw (sent_else cpu to sent call first ne) (rw (one_held-else held call to cpu e ne) at t)
+
+held_same : (held : Option Holding) (call : Call) (to u : ℕ) → held ≡ counted_hold call to → Holds held u → u ≡ call.id
+held_same None call to u e h = absurd h
+held_same (Some x) call to u e h = let f : x ≡ record { call = call; to = to; is_counted = true } = cc in sym h ∙ ap (λ (y : Holding). y.call.id) f
+
+module _ (a : CallState) (at : Word → ℕ) (control : ℕ → ControlValue) (me to : ℕ) (call : Call) (next : ControlValue) (s : Shows a at control)
+    (own : owner call.id ≡ me) (holds : a.held me ≡ counted_hold call to) (is_call : IsCall call) (placed : a.place call.id ≡ place.Held)
+    (written : IsWritten (flags_in at) (funcs_in at) (infos_in at) call) (link : at (Next call.id) ≡ at (Head to)) where
+  places' : ℕ → RecPlace
+  places' = put a.place call.id (place.Queued to)
+
+  at' : Word → ℕ
+  at' = put_word at (Head to) (call.id + 1)
+
+  held' : ℕ → Option Holding
+  held' = put a.held me None
+
+  queue' : ℕ → List Call
+  queue' = put a.queue to (a.queue to ++ call ∷ [])
+
+  sent' : List Sending
+  sent' = a.sent me ++ record { call = call; to = to; is_first = is_nil (a.queue to) } ∷ []
+
+  touches : Touches call.id a.place (put a.place call.id (place.Queued to)) at (put_word at (Head to) (call.id + 1))
+  touches = record { place_stays = λ u ne. put_other a.place call.id (place.Queued to) u ne; flags = λ _ _. refl; func = λ _ _. refl; info = λ _ _. refl; next = λ _ _. refl }
+
+  not_held : (p : RecPlace) (u : ℕ) → a.place u ≡ p → p ≢ place.Held → u ≢ call.id
+  not_held p u e ne f = ne (sym e ∙ (ap a.place f ∙ placed))
+
+  queued_else : (cpu : ℕ) → place.Queued cpu ≢ place.Held
+  queued_else cpu e = cc
+
+  batch_else : (cpu : ℕ) → place.Batch cpu ≢ place.Held
+  batch_else cpu e = cc
+
+  running_else : (cpu : ℕ) → place.Running cpu ≢ place.Held
+  running_else cpu e = cc
+
+  still : (p : RecPlace) → p ≢ place.Held → (calls : List Call) → AllByRecursion (IsPlaced a.place p) calls → AllByRecursion (IsPlaced (put a.place call.id (place.Queued to)) p) calls
+  still p ne = every (IsPlaced a.place p) (IsPlaced (put a.place call.id (place.Queued to)) p) (λ c q. record { is_call = q.is_call; placed = put_other a.place call.id (place.Queued to) c.id (not_held p c.id q.placed ne) ∙ q.placed })
+
+  there_else : (u : ℕ) (p : RecPlace) → u ≢ call.id → IsThere a.held a.queue a.batch a.running u p → IsThere (put a.held me None) (put a.queue to (a.queue to ++ call ∷ [])) a.batch a.running u p
+  there_else u place.Held ne h = at_test (owner u) me (λ b. Holds (cond b None (a.held (owner u))) u)
+      (λ e. absurd (ne (held_same (a.held (owner u)) call to u (ap a.held e ∙ holds) h))) (λ _. h)
+  there_else u (place.Queued cpu) ne h = at_test cpu to (λ b. HasRecord u (cond b (a.queue to ++ call ∷ []) (a.queue cpu))) (λ e. HasRecord-left u (a.queue to) (call ∷ []) (rw e at h)) (λ _. h)
+  there_else u _ ne h = h
+
+  there_id : IsThere (put a.held me None) (put a.queue to (a.queue to ++ call ∷ [])) a.batch a.running call.id (place.Queued to)
+  there_id = rw (put_same a.queue to (a.queue to ++ call ∷ [])) (HasRecord-right call.id (a.queue to) (call ∷ []) (inl refl))
+
+  placed' : Placed (put a.place call.id (place.Queued to)) (put a.held me None) (put a.queue to (a.queue to ++ call ∷ [])) a.batch a.running (put a.confirmed me (put (a.confirmed me) call.id false))
+  placed' = record {
+    queued = λ cpu. at_test cpu to (λ b. AllByRecursion (IsPlaced (put a.place call.id (place.Queued to)) (place.Queued cpu)) (cond b (a.queue to ++ call ∷ []) (a.queue cpu)))
+        (λ e. rw e (every_push (IsPlaced (put a.place call.id (place.Queued to)) (place.Queued to)) (a.queue to) call (still (place.Queued to) (queued_else to) (a.queue to) (s.placed.queued to)) (record { is_call = is_call; placed = put_same a.place call.id (place.Queued to) })))
+        (λ _. still (place.Queued cpu) (queued_else cpu) (a.queue cpu) (s.placed.queued cpu));
+    batched = λ cpu. still (place.Batch cpu) (batch_else cpu) (a.batch cpu) (s.placed.batched cpu);
+    runs = λ cpu. still (place.Running cpu) (running_else cpu) (locked_by (a.running cpu)) (s.placed.runs cpu);
+    queue_apart = λ cpu. at_test cpu to (λ b. IsApart (cond b (a.queue to ++ call ∷ []) (a.queue cpu)))
+        (λ _. IsApart-push (a.queue to) call (every (IsPlaced a.place (place.Queued to)) (λ c. call.id ≢ c.id) (λ c q e. not_held (place.Queued to) c.id q.placed (queued_else to) (sym e)) (a.queue to) (s.placed.queued to)) (s.placed.queue_apart to))
+        (λ _. s.placed.queue_apart cpu);
+    batch_apart = s.placed.batch_apart;
+    is_there = λ u. elim (cases_eq u call.id) [
+      | inl e ↦ subst (λ (k : ℕ). IsThere (put a.held me None) (put a.queue to (a.queue to ++ call ∷ [])) a.batch a.running k (put a.place call.id (place.Queued to) k)) (sym e) (rw (put_same a.place call.id (place.Queued to)) there_id)
+      | inr ne ↦ rw (put_other a.place call.id (place.Queued to) u ne) (there_else u (a.place u) ne (s.placed.is_there u))
+    ];
+    settled = λ source u o. at_test source me (λ b. cond b (put (a.confirmed me) call.id false) (a.confirmed source) u ≡ true → (put a.place call.id (place.Queued to) u ≡ place.Free) ⊎ Holds (cond b None (a.held source)) u)
+        (λ es. at_test u call.id (λ b. cond b false (a.confirmed me u) ≡ true → (cond b (place.Queued to) (a.place u) ≡ place.Free) ⊎ ⊥)
+        (λ _ e. absurd (true≢false (sym e)))
+        (λ ne e. elim (s.placed.settled me u (o ∙ es) e) [ inl free ↦ inl free | inr hold ↦ absurd (ne (held_same (a.held me) call to u holds hold)) ]))
+        (λ ns e. elim (s.placed.settled source u o e) [ inl free ↦ inl (put_other a.place call.id (place.Queued to) u (λ eu. ns (sym o ∙ (ap owner eu ∙ own))) ∙ free) | inr hold ↦ inr hold ]);
+  }
+
+  written' : Written (flags_in at) (funcs_in at) (infos_in at) (put a.place call.id (place.Queued to)) (put a.queue to (a.queue to ++ call ∷ [])) a.batch a.running
+  written' = record {
+    locks = λ u. at_test u call.id (λ b. FlagsShow (cond b (place.Queued to) (a.place u)) (at (Flags u)))
+        (λ e. rw e (let f : FlagsShow place.Held (at (Flags call.id)) = rw placed at (s.written.locks call.id) in f)) (λ _. s.written.locks u);
+    queued = λ cpu. at_test cpu to (λ b. AllByRecursion (IsWritten (flags_in at) (funcs_in at) (infos_in at)) (cond b (a.queue to ++ call ∷ []) (a.queue cpu)))
+        (λ _. every_push (IsWritten (flags_in at) (funcs_in at) (infos_in at)) (a.queue to) call (s.written.queued to) written) (λ _. s.written.queued cpu);
+    batched = s.written.batched;
+    runs = s.written.runs;
+  }
+
+  chained' : Chained (heads_in (put_word at (Head to) (call.id + 1))) (nexts_in at) (put a.queue to (a.queue to ++ call ∷ []))
+  chained' = record {
+    chain = λ cpu. at_test cpu to (λ b. Leads (nexts_in at) (cond b (call.id + 1) (at (Head cpu))) (cond b (a.queue to ++ call ∷ []) (a.queue cpu)) 0)
+        (λ _. Leads-push (nexts_in at) (at (Head to)) (a.queue to) 0 call link (s.chained.chain to)) (λ _. s.chained.chain cpu);
+  }
+
+  links' : Linked (nexts_in at) (put a.held me None) a.linked
+  links' = record {
+    held_links = λ cpu. at_test cpu me (λ b. LinkIs (nexts_in at) (cond b None (a.held cpu)) (a.linked cpu)) (λ _. tt) (λ _. s.links.held_links cpu);
+  }
+
+  noticed' : Noticed (intrs_in at) (put a.queue to (a.queue to ++ call ∷ [])) a.pending a.accepted (cond (is_nil (a.queue to)) (put a.owes me (put (a.owes me) to true)) a.owes)
+  noticed' = record {
+    words = s.noticed.words;
+    noticed = λ cpu. elim (cases_eq cpu to) [
+      | inl e ↦ inr (rw e (noticed_there a me to (a.queue to) (s.noticed.noticed to)))
+      | inr ne ↦ rw (put_other a.queue to (a.queue to ++ call ∷ []) cpu ne) (elim (s.noticed.noticed cpu) [ inl empty ↦ inl empty | inr n ↦ inr (noticed_else a (is_nil (a.queue to)) me to cpu n) ])
+    ];
+  }
+
+  recorded' : Recorded (put a.sent me (a.sent me ++ record { call = call; to = to; is_first = is_nil (a.queue to) } ∷ [])) a.taken (put a.queue to (a.queue to ++ call ∷ [])) a.ran a.running a.batch
+  recorded' = record {
+    in_order = λ source cpu. at_test source me (λ b. sent_to cpu (cond b (a.sent me ++ record { call = call; to = to; is_first = is_nil (a.queue to) } ∷ []) (a.sent source)) ≡ marked_from source (history_of (a.taken cpu) (put a.queue to (a.queue to ++ call ∷ []) cpu)))
+        (λ e. at_test cpu to (λ b. sent_to cpu (a.sent me ++ record { call = call; to = to; is_first = is_nil (a.queue to) } ∷ []) ≡ marked_from source (history_of (a.taken cpu) (cond b (a.queue to ++ call ∷ []) (a.queue cpu))))
+        (λ f. rw (f, sent_here to (a.sent me) call (is_nil (a.queue to)), from_here source (a.taken to) (a.queue to) call (own ∙ sym e), e, s.recorded.in_order me to) refl)
+        (λ ne. sent_else cpu to (a.sent me) call (is_nil (a.queue to)) ne ∙ rw e (s.recorded.in_order me cpu)))
+        (λ ne. at_test cpu to (λ b. sent_to cpu (a.sent source) ≡ marked_from source (history_of (a.taken cpu) (cond b (a.queue to ++ call ∷ []) (a.queue cpu))))
+        (λ f. rw (f, from_else source (a.taken to) (a.queue to) call (λ e. ne (sym e ∙ own))) (s.recorded.in_order source to))
+        (λ _. s.recorded.in_order source cpu));
+    drained = s.recorded.drained;
+  }
+
+  tallied' : Tallied (queued_in at) (ran_in at) (put a.sent me (a.sent me ++ record { call = call; to = to; is_first = is_nil (a.queue to) } ∷ [])) (put a.held me None) a.ran a.running
+  tallied' = record {
+    queued_are = λ source cpu. at_test source me (λ b. at (Queued source cpu) ≡ (length (sent_to cpu (cond b (a.sent me ++ record { call = call; to = to; is_first = is_nil (a.queue to) } ∷ []) (a.sent source))) + one_held (cond b None (a.held source)) cpu) % 2 ^ 64)
+        (λ e. elim (cases_eq cpu to) [
+          | inl f ↦ rw (e, f) (tally_here (at (Queued me to)) to (a.sent me) call (is_nil (a.queue to)) (a.held me) holds (s.tallied.queued_are me to))
+          | inr ne ↦ rw e (tally_else (at (Queued me cpu)) to cpu (a.sent me) call (is_nil (a.queue to)) (a.held me) holds ne (s.tallied.queued_are me cpu))
+        ])
+        (λ _. s.tallied.queued_are source cpu);
+    ran_are = s.tallied.ran_are;
+  }
+
+  -- append: the held call is queued, and its holder holds none
+  pub append_kept : held_of next.stage ≡ None → Stands (put a.place call.id (place.Queued to)) (put_word at (Head to) (call.id + 1)) (share_of a me) me next → HandIs next.stage (at (Hand me)) →
+      Shows (appended a me to (counted_hold call to)) (put_word at (Head to) (call.id + 1)) (put control me next)
+  append_kept none stands hand = record {
+    held = λ cpu. at_test cpu me (λ b. cond b None (a.held cpu) ≡ held_of (cond b next (control cpu)).stage) (λ _. sym none) (λ _. s.held cpu);
+    stands = put_all (λ cpu x. Stands (put a.place call.id (place.Queued to)) (put_word at (Head to) (call.id + 1)) (share_of a cpu) cpu x) control me next stands
+        (λ cpu ne. Stands-kept cpu a.place (put a.place call.id (place.Queued to)) at (put_word at (Head to) (call.id + 1)) (leaves_others me call.id a.place (put a.place call.id (place.Queued to)) at (put_word at (Head to) (call.id + 1)) (rw placed own) touches cpu ne) (share_of a cpu) (control cpu) (s.placed.batched cpu) (s.stands cpu));
+    hands = put_all (λ cpu (x : ControlValue). HandIs x.stage (at (Hand cpu))) control me next hand (λ cpu _. s.hands cpu);
+    placed = placed';
+    written = written';
+    chained = chained';
+    links = links';
+    noticed = noticed';
+    recorded = recorded';
+    tallied = tallied';
+  }

@@ -1,0 +1,192 @@
+-- The steps of handle that begin a call: the front of the batch runs, and its record stays locked or is free.
+use Rattle.std.proofs.Common.{◌≡◌, ◌≢◌, ℕ, ◌+◌, nat_lt, inl, inr, Bool, true, cond, if◌then◌else◌, Option, Some, None, List, [], ◌∷◌, ◌++◌, sym, subst, refl, ap, ◌∙◌, arith, append_assoc}
+use Rattle.std.proofs.lemmas.Bool.{lt-ltb}
+use Rattle.std.proofs.lemmas.List.{append-nil}
+use Rattle.std.specs.List.{AllByRecursion}
+use Rattle.smp_words.specs.Put.{put, put_word}
+use Rattle.smp_call_steps.specs.Calls.{CallState, Holding, Running, Nothing, SyncCall, AsyncCall, begins_sync, begins_async, releases, unlocks}
+use Rattle.smp_call_steps.specs.Order.{sync_calls, async_calls}
+use Rattle.smp_call_steps.specs.Drains.{DrainValue}
+use Rattle.smp_call_steps.specs.Stages.{ControlValue}
+use Rattle.smp_call_steps.specs.Places.{IsApart, HasRecord, IsPlaced, IsThere, Placed, locked_by}
+use Rattle.smp_call_steps.specs.Words.{FlagsShow, IsWritten, Written, last_batch, flags_in, funcs_in, infos_in, queued_in, ran_in}
+use Rattle.smp_call_steps.specs.Histories.{orders, running_call, counted_call, Recorded, Tallied}
+use Rattle.smp_call_steps.specs.Stands.{share_of, Stands, HandIs}
+use Rattle.smp_call_steps.specs.Shows.{Shows}
+use Rattle.smp_words.proofs.Puts.{at_test}
+use Rattle.smp_call_steps.proofs.Steps.Frames.{Minds, Touches, leaves_others}
+use Rattle.smp_call_steps.proofs.State.Walks.{walks_stay, ends_stay, walks_sync, ends_async}
+use Rattle.smp_call_steps.proofs.Steps.Turns.{put_here, put_else, holds_nothing, stands_at, hand_at, held_after, stands_after, hands_after, hands_stored}
+use Rattle.smp_call_steps.proofs.Steps.Moving.{Batch≢Batch, Running≢Batch, Queued≢Batch, Batch≢Free, all_placed_still, all_placed_apart, placed_moved, all_written_still, all_written_apart, written_moved}
+use Rattle.smp_call_steps.proofs.State.Tallies.{tallied_same}
+use Rattle.smp_call_steps.proofs.Steps.StepShows.{StepShows}
+use Rattle.smp_call_steps.specs.Names.{Call, Word, Hand, Flags, RecPlace, Walk, Handle}
+use Rattle.smp_call_steps.specs.Names.place
+use Rattle.smp_call_steps.specs.Names.handle
+
+-- of a batch, the records but the front one
+has_rest : (u : ℕ) (call : Call) (rest : List Call) → u ≢ call.id → HasRecord u (call ∷ rest) → HasRecord u rest
+has_rest u call rest ne (inl e) = absurd (ne (sym e))
+has_rest u call rest ne (inr h) = h
+
+module _ (a : CallState) (at : Word → ℕ) (control : ℕ → ControlValue) (me : ℕ) (s : Shows a at control) where
+  -- the front of the batch goes to another place, and runs
+  module _ (call : Call) (rest : List Call) (front : a.batch me ≡ call ∷ rest) (idle : a.running me ≡ Nothing) (to : RecPlace) (r : Running) where
+    abbrev begun : CallState
+    begun = record a { place = put a.place call.id to; batch = put a.batch me rest; running = put a.running me r }
+
+    all_placed : AllByRecursion (IsPlaced a.place (place.Batch me)) (call ∷ rest)
+    all_placed = subst (λ (xs : List Call). AllByRecursion (IsPlaced a.place (place.Batch me)) xs) front (s.placed.batched me)
+
+    all_written : AllByRecursion (IsWritten (flags_in at) (funcs_in at) (infos_in at)) (call ∷ rest)
+    all_written = subst (λ (xs : List Call). AllByRecursion (IsWritten (flags_in at) (funcs_in at) (infos_in at)) xs) front (s.written.batched me)
+
+    apart : IsApart (call ∷ rest)
+    apart = subst IsApart front (s.placed.batch_apart me)
+
+    here : a.place call.id ≡ place.Batch me
+    here = all_placed.0.placed
+
+    begun_stands : (at' : Word → ℕ) (c : ControlValue) → Touches call.id a.place (put a.place call.id to) at at' → Stands (put a.place call.id to) at' (share_of begun me) me c →
+        (cpu : ℕ) → Stands (put a.place call.id to) at' (share_of begun cpu) cpu (put control me c cpu)
+    begun_stands at' c t stands = stands_after a at control me s at' (put a.place call.id to) (share_of begun) c
+        (λ cpu ne. at_test cpu me (λ b. record { last = last_batch (a.taken cpu); batch = cond b rest (a.batch cpu); running = cond b r (a.running cpu); accepted = a.accepted cpu } ≡ share_of a cpu) (λ f. absurd (ne f)) (λ _. refl))
+        (λ cpu ne. leaves_others me call.id a.place (put a.place call.id to) at at' (subst (Minds me call.id) (sym here) refl) t cpu ne)
+        stands
+
+    begun_placed : AllByRecursion (IsPlaced (put a.place call.id to) (place.Running me)) (locked_by r) → IsThere a.held a.queue begun.batch begun.running call.id to →
+        Placed (put a.place call.id to) a.held a.queue (put a.batch me rest) (put a.running me r) a.confirmed
+    begun_placed runs there = placed_moved a.place call.id (place.Batch me) to here a.held a.queue a.batch (put a.batch me rest) a.running (put a.running me r) a.confirmed
+        (Batch≢Free me) (λ cpu. Queued≢Batch cpu me) s.placed
+        (λ cpu. at_test cpu me (λ b. AllByRecursion (IsPlaced (put a.place call.id to) (place.Batch cpu)) (cond b rest (a.batch cpu)))
+        (λ e. subst (λ (k : ℕ). AllByRecursion (IsPlaced (put a.place call.id to) (place.Batch k)) rest) (sym e) (all_placed_apart a.place call.id (place.Batch me) to here (place.Batch me) rest apart.0 all_placed.1))
+        (λ ne. all_placed_still a.place call.id (place.Batch me) to here (place.Batch cpu) (a.batch cpu) (Batch≢Batch cpu me ne) (s.placed.batched cpu)))
+        (λ cpu. at_test cpu me (λ b. AllByRecursion (IsPlaced (put a.place call.id to) (place.Running cpu)) (locked_by (cond b r (a.running cpu))))
+        (λ e. subst (λ (k : ℕ). AllByRecursion (IsPlaced (put a.place call.id to) (place.Running k)) (locked_by r)) (sym e) runs)
+        (λ _. all_placed_still a.place call.id (place.Batch me) to here (place.Running cpu) (locked_by (a.running cpu)) (Running≢Batch cpu me) (s.placed.runs cpu)))
+        (λ cpu. at_test cpu me (λ b. IsApart (cond b rest (a.batch cpu))) (λ _. apart.1) (λ _. s.placed.batch_apart cpu))
+        there
+        (λ u cpu ne. at_test cpu me (λ b. HasRecord u (a.batch cpu) → HasRecord u (cond b rest (a.batch cpu)))
+        (λ e h. has_rest u call rest ne (subst (HasRecord u) (ap a.batch e ∙ front) h)) (λ _ h. h))
+        (λ u cpu ne. at_test cpu me (λ b. HasRecord u (locked_by (a.running cpu)) → HasRecord u (locked_by (cond b r (a.running cpu))))
+        (λ e h. absurd (subst (λ (x : Running). HasRecord u (locked_by x)) (ap a.running e ∙ idle) h)) (λ _ h. h))
+
+    begun_written : (flags' : ℕ → ℕ) → ((u : ℕ) → u ≢ call.id → flags' u ≡ at (Flags u)) → FlagsShow to (flags' call.id) → AllByRecursion (IsWritten flags' (funcs_in at) (infos_in at)) (locked_by r) →
+        Written flags' (funcs_in at) (infos_in at) (put a.place call.id to) a.queue (put a.batch me rest) (put a.running me r)
+    begun_written flags' same lock runs = written_moved a.place call.id (place.Batch me) to here (flags_in at) flags' (funcs_in at) (infos_in at) same
+        a.held a.queue a.batch (put a.batch me rest) a.running (put a.running me r) a.confirmed (λ cpu. Queued≢Batch cpu me) s.placed s.written lock
+        (λ cpu. at_test cpu me (λ b. AllByRecursion (IsWritten flags' (funcs_in at) (infos_in at)) (cond b rest (a.batch cpu)))
+        (λ _. all_written_apart a.place call.id (place.Batch me) to here (flags_in at) flags' (funcs_in at) (infos_in at) same rest apart.0 all_written.1)
+        (λ ne. all_written_still a.place call.id (place.Batch me) to here (flags_in at) flags' (funcs_in at) (infos_in at) same (place.Batch cpu) (a.batch cpu) (Batch≢Batch cpu me ne) (s.placed.batched cpu) (s.written.batched cpu)))
+        (λ cpu. at_test cpu me (λ b. AllByRecursion (IsWritten flags' (funcs_in at) (infos_in at)) (locked_by (cond b r (a.running cpu))))
+        (λ _. runs)
+        (λ _. all_written_still a.place call.id (place.Batch me) to here (flags_in at) flags' (funcs_in at) (infos_in at) same (place.Running cpu) (locked_by (a.running cpu)) (Running≢Batch cpu me) (s.placed.runs cpu) (s.written.runs cpu)))
+
+    begun_recorded : running_call r ≡ call ∷ [] → Recorded a.sent a.taken a.queue a.ran (put a.running me r) (put a.batch me rest)
+    begun_recorded runs = record {
+      in_order = s.recorded.in_order;
+      drained = λ cpu. at_test cpu me (λ b. a.ran cpu ++ (running_call (cond b r (a.running cpu)) ++ cond b rest (a.batch cpu)) ≡ orders (a.taken cpu))
+          (λ e. subst (λ (k : ℕ). a.ran k ++ (running_call r ++ rest) ≡ orders (a.taken k)) (sym e) mine) (λ _. s.recorded.drained cpu);
+    }
+      where
+        was : running_call (a.running me) ++ a.batch me ≡ call ∷ rest
+        was = ap (λ (x : Running). running_call x ++ a.batch me) idle ∙ front
+
+        mine : a.ran me ++ (running_call r ++ rest) ≡ orders (a.taken me)
+        mine = ap (λ (xs : List Call). a.ran me ++ (xs ++ rest)) runs ∙ (ap (λ (xs : List Call). a.ran me ++ xs) (sym was) ∙ s.recorded.drained me)
+
+    begun_tallied : counted_call r ≡ [] → Tallied (queued_in at) (ran_in at) a.sent a.held a.ran (put a.running me r)
+    begun_tallied uncounted = tallied_same (queued_in at) (ran_in at) a.sent a.held a.ran a.ran a.running (put a.running me r)
+        (λ cpu. at_test cpu me (λ b. a.ran cpu ++ counted_call (cond b r (a.running cpu)) ≡ a.ran cpu ++ counted_call (a.running cpu))
+        (λ e. ap (λ (xs : List Call). a.ran cpu ++ xs) (uncounted ∙ sym (ap counted_call (ap a.running e ∙ idle)))) (λ _. refl))
+        s.tallied
+
+  -- the store of the record's number: a SYNC call begins
+  begun_sync : (walk : Walk) (next : Option ℕ) (call : Call) (rest : List Call) (c : ControlValue) → a.batch me ≡ call ∷ rest → a.running me ≡ Nothing → a.held me ≡ None → c.stage ≡ Some (Handle (handle.CountSync walk call next)) →
+      Stands (put a.place call.id (place.Running me)) (put_word at (Hand me) (call.id + 2)) (share_of (begins_sync a me (call ∷ rest)) me) me c →
+      Shows (begins_sync a me (call ∷ rest)) (put_word at (Hand me) (call.id + 2)) (put control me c)
+  begun_sync walk next call rest c front idle held stage stands =
+      let to : RecPlace = place.Running me in
+      let first = all_placed call rest front idle to (SyncCall call) in
+      let words = all_written call rest front idle to (SyncCall call) in
+      record {
+        held = held_after a at control me s c (rw stage held);
+        stands = begun_stands call rest front idle to (SyncCall call) (put_word at (Hand me) (call.id + 2)) c
+            (record { place_stays = λ u ne. put_else u call.id to (a.place u) ne; flags = λ _ _. refl; func = λ _ _. refl; info = λ _ _. refl; next = λ _ _. refl }) stands;
+        hands = hands_stored a at control me s c (call.id + 2) (rw stage refl);
+        placed = begun_placed call rest front idle to (SyncCall call) (record { is_call = first.0.is_call; placed = put_here call.id to (a.place call.id) }, tt)
+            (subst (λ (x : Running). HasRecord call.id (locked_by x)) (sym (put_here me (SyncCall call) (a.running me))) (inl refl));
+        written = begun_written call rest front idle to (SyncCall call) (flags_in at) (λ _ _. refl) (subst (λ (p : RecPlace). FlagsShow p (at (Flags call.id))) (here call rest front idle to (SyncCall call)) (s.written.locks call.id)) (words.0, tt);
+        chained = s.chained;
+        links = s.links;
+        noticed = s.noticed;
+        recorded = begun_recorded call rest front idle to (SyncCall call) refl;
+        tallied = begun_tallied call rest front idle to (SyncCall call) refl;
+      }
+
+  pub begin_sync_step : (walk : Walk) (call : Call) (next : Option ℕ) → (control me).stage ≡ Some (Handle (handle.BeginSync walk call next)) → StepShows a at control me (Handle (handle.BeginSync walk call next))
+  begin_sync_step walk call next e =
+      let was = stands_at a at control me s (handle.BeginSync walk call next) e in
+      let k = was.1.1 in
+      let d : DrainValue = (control me).drain in
+      let left : List Call = sync_calls was.1.0 ++ async_calls (last_batch (a.taken me)) in
+      let at' : Word → ℕ = put_word at (Hand me) (call.id + 2) in
+      let c : ControlValue = record { stage = Some (Handle (handle.CountSync walk call next)); drain = d } in
+      let stored : nat_lt 1 (call.id + 2) ≡ true = lt-ltb 1 (call.id + 2) (omega arith) in
+      let shown : Shows (begins_sync a me (call ∷ left)) at' (put control me c) =
+      begun_sync walk next call left c k.batch k.running_is (holds_nothing a at control me s (handle.BeginSync walk call next) e) refl (
+        was.0,
+        (
+          was.1.0,
+          walks_stay k (k.begun ++ call ∷ []) (put a.batch me left me) (put a.running me (SyncCall call) me)
+              (k.begun_are ∙ sym (append-nil (k.begun ++ call ∷ []))) (put_here me left (a.batch me)) (put_here me (SyncCall call) (a.running me)),
+          walks_sync k,
+        ),
+      ) in
+      subst (λ (b : Bool). Shows (if b then begins_sync a me (a.batch me) else a) at' (put control me c)) (sym stored)
+      (subst (λ (xs : List Call). Shows (begins_sync a me xs) at' (put control me c)) (sym k.batch) shown)
+
+  -- the store of 0 to the flags: an ASYNC call begins
+  begun_async : (next : Option ℕ) (call : Call) (rest : List Call) (c : ControlValue) → a.batch me ≡ call ∷ rest → a.running me ≡ Nothing → a.held me ≡ None → HandIs c.stage (at (Hand me)) → c.stage ≡ Some (Handle (handle.CountAsync call next)) →
+      Stands (put a.place call.id place.Free) (put_word at (Flags call.id) 0) (share_of (begins_async a me (call ∷ rest)) me) me c →
+      Shows (begins_async a me (call ∷ rest)) (put_word at (Flags call.id) 0) (put control me c)
+  begun_async next call rest c front idle held hand stage stands =
+      let to : RecPlace = place.Free in
+      record {
+        held = held_after a at control me s c (rw stage held);
+        stands = begun_stands call rest front idle to (AsyncCall call) (put_word at (Flags call.id) 0) c
+            (record { place_stays = λ u ne. put_else u call.id to (a.place u) ne; flags = λ u ne. put_else u call.id 0 (at (Flags u)) ne; func = λ _ _. refl; info = λ _ _. refl; next = λ _ _. refl }) stands;
+        hands = hands_after a at control me s c hand;
+        placed = begun_placed call rest front idle to (AsyncCall call) tt tt;
+        written = begun_written call rest front idle to (AsyncCall call) (put (flags_in at) call.id 0) (λ u ne. put_else u call.id 0 (at (Flags u)) ne) (put_here call.id 0 (at (Flags call.id))) tt;
+        chained = s.chained;
+        links = s.links;
+        noticed = s.noticed;
+        recorded = begun_recorded call rest front idle to (AsyncCall call) refl;
+        tallied = begun_tallied call rest front idle to (AsyncCall call) refl;
+      }
+
+  pub begin_async_step : (call : Call) (next : Option ℕ) → (control me).stage ≡ Some (Handle (handle.BeginAsync call next)) → StepShows a at control me (Handle (handle.BeginAsync call next))
+  begin_async_step call next e =
+      let was = stands_at a at control me s (handle.BeginAsync call next) e in
+      let rest : List Call = was.1.0 in
+      let k = was.1.1 in
+      let d : DrainValue = (control me).drain in
+      let held = holds_nothing a at control me s (handle.BeginAsync call next) e in
+      let at' : Word → ℕ = put_word at (Flags call.id) 0 in
+      let c : ControlValue = record { stage = Some (Handle (handle.CountAsync call next)); drain = d } in
+      let front : AllByRecursion (IsPlaced a.place (place.Batch me)) (call ∷ rest) = subst (λ (xs : List Call). AllByRecursion (IsPlaced a.place (place.Batch me)) xs) k.batch (s.placed.batched me) in
+      let shown : Shows (begins_async a me (call ∷ rest)) at' (put control me c) =
+      begun_async next call rest c k.batch k.running_is held (hand_at a at control me s (handle.BeginAsync call next) e) refl (
+        was.0,
+        (
+          rest,
+          ends_stay k (k.begun ++ call ∷ []) (put a.batch me rest me) (put a.running me (AsyncCall call) me)
+              (k.whole ∙ sym (append_assoc k.begun (call ∷ []) rest)) (put_here me rest (a.batch me)) (put_here me (AsyncCall call) (a.running me)),
+          front.0.is_call,
+          ends_async k,
+        ),
+      ) in
+      subst (λ (h : Option Holding). Shows (releases a me call.id h) at' (put control me c)) (sym held)
+      (subst (λ (x : Running). Shows (unlocks a me x) at' (put control me c)) (sym k.running_is)
+      (subst (λ (xs : List Call). Shows (begins_async a me xs) at' (put control me c)) (sym k.batch) shown))

@@ -1,0 +1,135 @@
+-- The steps of handle before it takes a queue and after it has run it: enter, accept and leave.
+use Rattle.std.proofs.Common.{◌≡◌, ◌≢◌, ℕ, ◌<◌, inl, inr, Bool, true, false, ◌==◌, cond, if◌then◌else◌, Some, None, sym, subst, refl, ap, ◌∙◌, arith}
+use Rattle.std.proofs.lemmas.Bool.{eqb-true, eqb-false}
+use Rattle.smp_words.specs.Size.{cpus}
+use Rattle.smp_words.specs.Put.{put, put_word}
+use Rattle.smp_call_steps.specs.Calls.{CallState, accepts}
+use Rattle.smp_call_steps.specs.Drains.{handle_goes}
+use Rattle.smp_call_steps.specs.Stages.{ControlValue}
+use Rattle.smp_call_steps.specs.Words.{bit, IsNoticed, is_pending, is_accepted, is_owed, Noticed, nexts_in, intrs_in, hands_in}
+use Rattle.smp_call_steps.specs.Words.{last_batch}
+use Rattle.smp_call_steps.specs.Stands.{share_of, Stands, HandleStands, HandIs, held_of}
+use Rattle.smp_call_steps.specs.Shows.{Shows}
+use Rattle.smp_words.proofs.Puts.{at_test}
+use Rattle.smp_call_steps.proofs.Steps.Frames.{leaves_all}
+use Rattle.smp_call_steps.proofs.Steps.Turns.{put_here, put_else, holds_nothing, stands_at, hand_at, held_after, stands_after, hands_after, hands_stored}
+use Rattle.smp_call_steps.proofs.Steps.StepShows.{StepShows}
+use Rattle.smp_call_steps.specs.Names.{Word, Intr, Hand, Handle}
+use Rattle.smp_call_steps.specs.Names.handle
+
+one≢zero : ◌≢◌ {A = ℕ} 1 0
+one≢zero e = omega arith
+
+zero_bit : (b : Bool) → bit b ≡ 0 → b ≡ false
+zero_bit false e = refl
+zero_bit true e = absurd (one≢zero e)
+
+one_bit : (b : Bool) → bit b ≢ 0 → b ≡ true
+one_bit false ne = absurd (ne refl)
+one_bit true ne = refl
+
+-- an interrupt is accepted where one was pending or accepted
+accepted_now : (pending accepted : Bool) → accepted ≡ true → (if pending then true else accepted) ≡ true
+accepted_now true accepted e = refl
+accepted_now false accepted e = e
+
+module _ (a : CallState) (at : Word → ℕ) (control : ℕ → ControlValue) (me : ℕ) (s : Shows a at control) where
+  -- a step that stores the own handling word alone
+  stores_hand : (n : ℕ) (c : ControlValue) → a.held me ≡ held_of c.stage → Stands a.place (put_word at (Hand me) n) (share_of a me) me c → HandIs c.stage n →
+      Shows a (put_word at (Hand me) n) (put control me c)
+  stores_hand n c held stands hand = record {
+    held = held_after a at control me s c held;
+    stands = stands_after a at control me s (put_word at (Hand me) n) a.place (share_of a) c (λ _ _. refl)
+        (λ cpu _. leaves_all a.place at (put_word at (Hand me) n) (λ _. refl) (λ _. refl) (λ _. refl) (λ _. refl) cpu) stands;
+    hands = hands_stored a at control me s c n hand;
+    placed = s.placed;
+    written = s.written;
+    chained = s.chained;
+    links = s.links;
+    noticed = s.noticed;
+    recorded = s.recorded;
+    tallied = s.tallied;
+  }
+
+  pub enter_step : (control me).stage ≡ Some (Handle handle.Enter) → StepShows a at control me (Handle handle.Enter)
+  enter_step e =
+      let was = stands_at a at control me s handle.Enter e in
+      stores_hand 1 (record { stage = Some (Handle handle.Accept); drain = (control me).drain }) (holds_nothing a at control me s handle.Enter e) was one≢zero
+
+  pub leave_idle_step : (control me).stage ≡ Some (Handle handle.LeaveIdle) → StepShows a at control me (Handle handle.LeaveIdle)
+  leave_idle_step e =
+      let was = stands_at a at control me s handle.LeaveIdle e in
+      stores_hand 0 (record { stage = None; drain = (control me).drain }) (holds_nothing a at control me s handle.LeaveIdle e) was.1 refl
+
+  pub leave_step : (control me).stage ≡ Some (Handle handle.Leave) → StepShows a at control me (Handle handle.Leave)
+  leave_step e =
+      let was = stands_at a at control me s handle.Leave e in
+      stores_hand 0 (record { stage = None; drain = (control me).drain }) (holds_nothing a at control me s handle.Leave e) was.1.0 refl
+
+  abbrev accepted' : ℕ → Bool
+  accepted' = put a.accepted me (if a.pending me then true else a.accepted me)
+
+  -- a CPU that was noticed is noticed still
+  still_noticed : (cpu : ℕ) → IsNoticed a.pending a.accepted a.owes cpu → IsNoticed (put a.pending me false) accepted' a.owes cpu
+  still_noticed cpu (is_pending e) = at_test cpu me (λ _. IsNoticed (put a.pending me false) accepted' a.owes cpu)
+      (λ f. is_accepted (subst (λ (k : ℕ). accepted' k ≡ true) (sym f) (put_here me (if a.pending me then true else a.accepted me) (a.accepted me) ∙ ap (λ (b : Bool). if b then true else a.accepted me) (subst (λ (k : ℕ). a.pending k ≡ true) f e))))
+      (λ ne. is_pending (put_else cpu me false (a.pending cpu) ne ∙ e))
+  still_noticed cpu (is_accepted e) = is_accepted (at_test cpu me (λ b. cond b (if a.pending me then true else a.accepted me) (a.accepted cpu) ≡ true)
+      (λ f. accepted_now (a.pending me) (a.accepted me) (subst (λ (k : ℕ). a.accepted k ≡ true) f e)) (λ _. e))
+  still_noticed cpu (is_owed source e) = is_owed source e
+
+  noticed_accepted : Noticed (put (intrs_in at) me 0) a.queue (put a.pending me false) accepted' a.owes
+  noticed_accepted = record {
+    words = λ cpu. at_test cpu me (λ b. cond b 0 (at (Intr cpu)) ≡ bit (cond b false (a.pending cpu))) (λ _. refl) (λ _. s.noticed.words cpu);
+    noticed = λ cpu. elim (s.noticed.noticed cpu) [ inl empty ↦ inl empty | inr noticed ↦ inr (still_noticed cpu noticed) ];
+  }
+
+  accepted_after : accepted' me ≡ (if a.pending me then true else a.accepted me)
+  accepted_after = put_here me (if a.pending me then true else a.accepted me) (a.accepted me)
+
+  -- where it goes, by whether an interrupt was pending
+  accept_stands : (b : Bool) → (b ≡ true → a.pending me ≡ false) → (b ≡ false → a.pending me ≡ true) → HandleStands (nexts_in at) (share_of a me) (control me).drain handle.Accept → me < cpus →
+      Stands a.place at (share_of (accepts a me) me) me (record { stage = (if b then handle_goes handle.LeaveIdle else handle_goes handle.Take).next; drain = (control me).drain })
+  accept_stands true none some was range =
+      let rests = was in
+      (range, record { batch = rests.batch; running = rests.running; accepted = accepted_after ∙ (ap (λ (x : Bool). if x then true else a.accepted me) (none refl) ∙ rests.accepted) })
+  accept_stands false none some was range =
+      let rests = was in
+      (range, (rests.batch, rests.running, accepted_after ∙ ap (λ (x : Bool). if x then true else a.accepted me) (some refl)))
+
+  accept_hand : (b : Bool) → hands_in at me ≢ 0 → HandIs (if b then handle_goes handle.LeaveIdle else handle_goes handle.Take).next (hands_in at me)
+  accept_hand true ne = ne
+  accept_hand false ne = ne
+
+  accept_held : (b : Bool) → a.held me ≡ None → a.held me ≡ held_of (if b then handle_goes handle.LeaveIdle else handle_goes handle.Take).next
+  accept_held true e = e
+  accept_held false e = e
+
+  pub accept_step : (control me).stage ≡ Some (Handle handle.Accept) → StepShows a at control me (Handle handle.Accept)
+  accept_step e =
+      let was = stands_at a at control me s handle.Accept e in
+      let idle : Bool = at (Intr me) == 0 in
+      let c : ControlValue = record { stage = (if idle then handle_goes handle.LeaveIdle else handle_goes handle.Take).next; drain = (control me).drain } in
+      record {
+        held = held_after a at control me s c (accept_held idle (holds_nothing a at control me s handle.Accept e));
+        stands = stands_after a at control me s (put_word at (Intr me) 0) a.place (share_of (accepts a me)) c
+            (λ cpu ne. at_test cpu me (λ b. record { last = last_batch (a.taken cpu); batch = a.batch cpu; running = a.running cpu; accepted = cond b (if a.pending me then true else a.accepted me) (a.accepted cpu) } ≡ share_of a cpu) (λ f. absurd (ne f)) (λ _. refl))
+            (λ cpu _. leaves_all a.place at (put_word at (Intr me) 0) (λ _. refl) (λ _. refl) (λ _. refl) (λ _. refl) cpu)
+            (stands_stored idle (accept_stands idle
+            (λ t. zero_bit (a.pending me) (sym (s.noticed.words me) ∙ eqb-true (at (Intr me)) 0 t))
+            (λ t. one_bit (a.pending me) (λ z. eqb-false (at (Intr me)) 0 t (s.noticed.words me ∙ z)))
+            was.1 was.0));
+        hands = hands_after a at control me s c (accept_hand idle (hand_at a at control me s handle.Accept e));
+        placed = s.placed;
+        written = s.written;
+        chained = s.chained;
+        links = s.links;
+        noticed = noticed_accepted;
+        recorded = s.recorded;
+        tallied = s.tallied;
+      }
+    where
+      stands_stored : (b : Bool) → Stands a.place at (share_of (accepts a me) me) me (record { stage = (if b then handle_goes handle.LeaveIdle else handle_goes handle.Take).next; drain = (control me).drain }) →
+          Stands a.place (put_word at (Intr me) 0) (share_of (accepts a me) me) me (record { stage = (if b then handle_goes handle.LeaveIdle else handle_goes handle.Take).next; drain = (control me).drain })
+      stands_stored true h = h
+      stands_stored false h = h

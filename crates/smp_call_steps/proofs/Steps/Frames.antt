@@ -1,0 +1,198 @@
+-- What a step leaves to another CPU: a CPU stands where it stood.
+use Rattle.std.proofs.Common.{◌≡◌, ◌≢◌, ℕ, ◌+◌, Option, Some, List, [], ◌∷◌, sym, subst, refl, ◌∙◌}
+use Rattle.std.specs.List.{AllByRecursion}
+use Rattle.smp_words.specs.Size.{owner}
+use Rattle.smp_call_steps.specs.Drains.{DrainValue, link_to}
+use Rattle.smp_call_steps.specs.Order.{async_calls}
+use Rattle.smp_call_steps.specs.Calls.{Running, Nothing, SyncCall, CountedCall, AsyncCall}
+use Rattle.smp_call_steps.specs.Stages.{ControlValue}
+use Rattle.smp_call_steps.specs.Places.{IsPlaced}
+use Rattle.smp_call_steps.specs.Words.{Leads, IsWritten, flags_in, funcs_in, infos_in, nexts_in}
+use Rattle.smp_call_steps.specs.Stands.{Share, Stands, StandsAt, HandleStands, Reverses, Walks, Ends, PostKnows, posted}
+use Rattle.smp_call_steps.proofs.Basics.Alls.{every_left, every_right}
+use Rattle.smp_call_steps.proofs.State.Walks.{Path-kept, reverses_all, walks_front, walks_passed, walks_rest, ends_front, ends_rest, same_record}
+use Rattle.smp_call_steps.specs.Names.{Call, Word, Flags, Func, Info, Next, RecPlace, Posting, PostStage, Walk, HandleStage, Stage, Post, Handle}
+use Rattle.smp_call_steps.specs.Names.place
+use Rattle.smp_call_steps.specs.Names.post
+use Rattle.smp_call_steps.specs.Names.handle
+
+-- the CPU that alone changes a record at this place
+abbrev pub Minds : ℕ → ℕ → RecPlace → Type 0
+Minds cpu id place.Free = owner id ≡ cpu
+Minds cpu id place.Held = owner id ≡ cpu
+Minds cpu id (place.Queued c) = ⊥
+Minds cpu id (place.Batch c) = c ≡ cpu
+Minds cpu id (place.Running c) = c ≡ cpu
+
+-- one CPU alone does
+pub one_minds : (me cpu id : ℕ) (p : RecPlace) → Minds me id p → Minds cpu id p → cpu ≡ me
+one_minds me cpu id (place.Queued c) h k = absurd h
+one_minds me cpu id _ h k = sym k ∙ h
+
+-- the records that the CPU minds keep their place and words
+pub record LeavesTo (cpu : ℕ) (places places' : ℕ → RecPlace) (at at' : Word → ℕ) : Type 0 where
+  pub place_stays : (id : ℕ) → Minds cpu id (places id) → places' id ≡ places id
+  pub flags : (id : ℕ) → Minds cpu id (places id) → at' (Flags id) ≡ at (Flags id)
+  pub func : (id : ℕ) → Minds cpu id (places id) → at' (Func id) ≡ at (Func id)
+  pub info : (id : ℕ) → Minds cpu id (places id) → at' (Info id) ≡ at (Info id)
+  pub next : (id : ℕ) → Minds cpu id (places id) → at' (Next id) ≡ at (Next id)
+
+-- a step that touches no other record than this one, if any
+pub record Touches (id : ℕ) (places places' : ℕ → RecPlace) (at at' : Word → ℕ) : Type 0 where
+  pub place_stays : (u : ℕ) → u ≢ id → places' u ≡ places u
+  pub flags : (u : ℕ) → u ≢ id → at' (Flags u) ≡ at (Flags u)
+  pub func : (u : ℕ) → u ≢ id → at' (Func u) ≡ at (Func u)
+  pub info : (u : ℕ) → u ≢ id → at' (Info u) ≡ at (Info u)
+  pub next : (u : ℕ) → u ≢ id → at' (Next u) ≡ at (Next u)
+
+-- a record of another CPU is not the one that I mind
+pub else_minded : (me cpu id u : ℕ) (places : ℕ → RecPlace) → Minds me id (places id) → cpu ≢ me → Minds cpu u (places u) → u ≢ id
+else_minded me cpu id u places mine ne theirs e =
+    let there : Minds cpu id (places id) = subst (λ (k : ℕ). Minds cpu k (places k)) e theirs in
+    ne (one_minds me cpu id (places id) mine there)
+
+-- a step on a record that I mind leaves the others alone
+pub leaves_others : (me id : ℕ) (places places' : ℕ → RecPlace) (at at' : Word → ℕ) → Minds me id (places id) → Touches id places places' at at' → (cpu : ℕ) → cpu ≢ me → LeavesTo cpu places places' at at'
+leaves_others me id places places' at at' mine t cpu ne = record {
+  place_stays = λ u m. t.place_stays u (else_minded me cpu id u places mine ne m);
+  flags = λ u m. t.flags u (else_minded me cpu id u places mine ne m);
+  func = λ u m. t.func u (else_minded me cpu id u places mine ne m);
+  info = λ u m. t.info u (else_minded me cpu id u places mine ne m);
+  next = λ u m. t.next u (else_minded me cpu id u places mine ne m);
+}
+
+-- a step on words of CPUs alone
+pub leaves_all : (places : ℕ → RecPlace) (at at' : Word → ℕ) → ((id : ℕ) → at' (Flags id) ≡ at (Flags id)) → ((id : ℕ) → at' (Func id) ≡ at (Func id)) → ((id : ℕ) → at' (Info id) ≡ at (Info id)) → ((id : ℕ) → at' (Next id) ≡ at (Next id)) →
+    (cpu : ℕ) → LeavesTo cpu places places at at'
+leaves_all places at at' flags func info next cpu = record { place_stays = λ _ _. refl; flags = λ u _. flags u; func = λ u _. func u; info = λ u _. info u; next = λ u _. next u }
+
+-- where the next words of these calls stay, so does the chain
+pub Leads-kept : (nexts nexts' : ℕ → ℕ) (P : Call → Type 0) → ((call : Call) → P call → nexts' call.id ≡ nexts call.id) →
+    (link : ℕ) (calls : List Call) (below : ℕ) → AllByRecursion P calls → Leads nexts link calls below → Leads nexts' link calls below
+Leads-kept nexts nexts' P same link [] below h l = l
+Leads-kept nexts nexts' P same link (call ∷ rest) below h l = (same call h.0 ∙ l.0, Leads-kept nexts nexts' P same link rest (call.id + 1) h.1 l.1)
+
+module _ (cpu : ℕ) (places places' : ℕ → RecPlace) (at at' : Word → ℕ) (l : LeavesTo cpu places places' at at') where
+  written : (call : Call) → Minds cpu call.id (places call.id) → IsWritten (flags_in at) (funcs_in at) (infos_in at) call → IsWritten (flags_in at') (funcs_in at') (infos_in at') call
+  written call m w = record { flags_are = l.flags call.id m ∙ w.flags_are; func_is = l.func call.id m ∙ w.func_is; info_is = l.info call.id m ∙ w.info_is }
+
+  own_held : (id : ℕ) → owner id ≡ cpu → places id ≡ place.Held → Minds cpu id (places id)
+  own_held id o e = rw e o
+
+  own_free : (id : ℕ) → owner id ≡ cpu → places id ≡ place.Free → Minds cpu id (places id)
+  own_free id o e = rw e o
+
+  PostKnows-kept : (p : Posting) (stage : PostStage) → owner p.id ≡ cpu → PostKnows places at p stage → PostKnows places' at' p stage
+  PostKnows-kept p post.LoadFlags o k = tt
+  PostKnows-kept p post.Lock o k = l.place_stays p.id (own_free p.id o k) ∙ k
+  PostKnows-kept p post.StoreFunc o k = let m = own_held p.id o k.0 in (l.place_stays p.id m ∙ k.0, l.flags p.id m ∙ k.1)
+  PostKnows-kept p post.StoreInfo o k = let m = own_held p.id o k.0 in (l.place_stays p.id m ∙ k.0, l.flags p.id m ∙ k.1, l.func p.id m ∙ k.2)
+  PostKnows-kept p (post.Exchange link tries) o k = let m = own_held p.id o k.0 in (l.place_stays p.id m ∙ k.0, written (posted p) m k.1, l.next p.id m ∙ k.2)
+  PostKnows-kept p _ o k = let m = own_held p.id o k.0 in (l.place_stays p.id m ∙ k.0, written (posted p) m k.1)
+
+  same_next : (call : Call) → IsPlaced places (place.Batch cpu) call → at' (Next call.id) ≡ at (Next call.id)
+  same_next call q = l.next call.id (rw q.placed refl)
+
+  next_of : (id : ℕ) (call : Call) → call.id ≡ id → IsPlaced places (place.Batch cpu) call → at' (Next id) ≡ at (Next id)
+  next_of id call e q = subst (λ (k : ℕ). at' (Next k) ≡ at (Next k)) e (same_next call q)
+
+  Reverses-kept : (s : Share) (d : DrainValue) (up down : ℕ) (call : Call) → AllByRecursion (IsPlaced places (place.Batch cpu)) s.batch → Reverses (nexts_in at) s d up down call → Reverses (nexts_in at') s d up down call
+  Reverses-kept s d up down call b h =
+      let all = reverses_all (IsPlaced places (place.Batch cpu)) (nexts_in at) s d up down call h b in
+      let newer = every_right (IsPlaced places (place.Batch cpu)) h.older (call ∷ h.newer) all in
+      record {
+        older = h.older;
+        newer = h.newer;
+        whole = h.whole;
+        leads_down = Leads-kept (nexts_in at) (nexts_in at') (IsPlaced places (place.Batch cpu)) same_next down h.older 0 (every_left (IsPlaced places (place.Batch cpu)) h.older (call ∷ h.newer) all) h.leads_down;
+        leads_up = Path-kept (nexts_in at) (nexts_in at') (IsPlaced places (place.Batch cpu)) same_next up h.newer 0 newer.1 h.leads_up;
+        apart = h.apart;
+        counted = h.counted;
+        batch = h.batch;
+        running = h.running;
+        accepted = h.accepted;
+      }
+
+  reversed_next : (s : Share) (d : DrainValue) (up down : ℕ) (call : Call) (id : ℕ) → call.id ≡ id → AllByRecursion (IsPlaced places (place.Batch cpu)) s.batch → Reverses (nexts_in at) s d up down call → at' (Next id) ≡ at (Next id)
+  reversed_next s d up down call id e b h =
+      let all = reverses_all (IsPlaced places (place.Batch cpu)) (nexts_in at) s d up down call h b in
+      let newer = every_right (IsPlaced places (place.Batch cpu)) h.older (call ∷ h.newer) all in
+      next_of id call e newer.0
+
+  Walks-kept : (s : Share) (d : DrainValue) (walk : Walk) (here : ℕ) (front rest : List Call) (running : Running) → AllByRecursion (IsPlaced places (place.Batch cpu)) s.batch → Walks (nexts_in at) s d walk here front rest running → Walks (nexts_in at') s d walk here front rest running
+  Walks-kept s d walk here front rest running b h = record {
+    passed = h.passed;
+    begun = h.begun;
+    whole = h.whole;
+    begun_are = h.begun_are;
+    leads_here = Path-kept (nexts_in at) (nexts_in at') (IsPlaced places (place.Batch cpu)) same_next (link_to walk.first) (async_calls h.passed) here (walks_passed (IsPlaced places (place.Batch cpu)) (nexts_in at) s d walk here front rest running h b) h.leads_here;
+    ends_at = h.ends_at;
+    leads_on = Path-kept (nexts_in at) (nexts_in at') (IsPlaced places (place.Batch cpu)) same_next here rest 0 (walks_rest (IsPlaced places (place.Batch cpu)) (nexts_in at) s d walk here front rest running h b) h.leads_on;
+    apart = h.apart;
+    counted = h.counted;
+    batch = h.batch;
+    running_is = h.running_is;
+    accepted = h.accepted;
+  }
+
+  walked_next : (s : Share) (d : DrainValue) (walk : Walk) (id : ℕ) (call : Call) (rest : List Call) → AllByRecursion (IsPlaced places (place.Batch cpu)) s.batch → Walks (nexts_in at) s d walk (id + 1) [] (call ∷ rest) Nothing → at' (Next id) ≡ at (Next id)
+  walked_next s d walk id call rest b h =
+      let all = walks_rest (IsPlaced places (place.Batch cpu)) (nexts_in at) s d walk (id + 1) [] (call ∷ rest) Nothing h b in
+      next_of id call (same_record id call h.leads_on.0) all.0
+
+  Ends-kept : (s : Share) (d : DrainValue) (here : ℕ) (front rest : List Call) (running : Running) → AllByRecursion (IsPlaced places (place.Batch cpu)) s.batch → Ends (nexts_in at) s d here front rest running → Ends (nexts_in at') s d here front rest running
+  Ends-kept s d here front rest running b h = record {
+    begun = h.begun;
+    whole = h.whole;
+    apart = h.apart;
+    leads_on = Path-kept (nexts_in at) (nexts_in at') (IsPlaced places (place.Batch cpu)) same_next here rest 0 (ends_rest (IsPlaced places (place.Batch cpu)) (nexts_in at) s d here front rest running h b) h.leads_on;
+    asyncs = h.asyncs;
+    counted = h.counted;
+    batch = h.batch;
+    running_is = h.running_is;
+    accepted = h.accepted;
+  }
+
+  ended_next : (s : Share) (d : DrainValue) (id : ℕ) (call : Call) (rest : List Call) → AllByRecursion (IsPlaced places (place.Batch cpu)) s.batch → Ends (nexts_in at) s d (id + 1) [] (call ∷ rest) Nothing → at' (Next id) ≡ at (Next id)
+  ended_next s d id call rest b h =
+      let all = ends_rest (IsPlaced places (place.Batch cpu)) (nexts_in at) s d (id + 1) [] (call ∷ rest) Nothing h b in
+      next_of id call (same_record id call h.leads_on.0) all.0
+
+  HandleStands-kept : (s : Share) (d : DrainValue) (stage : HandleStage) → AllByRecursion (IsPlaced places (place.Batch cpu)) s.batch → HandleStands (nexts_in at) s d stage → HandleStands (nexts_in at') s d stage
+  HandleStands-kept s d (handle.ReverseLoad newer id) b h =
+      (h.0, rw (reversed_next s d (link_to newer) (at (Next id)) h.0 id h.2 b h.1) (Reverses-kept s d (link_to newer) (at (Next id)) h.0 b h.1), h.2)
+  HandleStands-kept s d (handle.ReverseStore newer id older) b h =
+      (h.0, Reverses-kept s d (link_to newer) (link_to older) h.0 b h.1, h.2, reversed_next s d (link_to newer) (link_to older) h.0 id h.2 b h.1 ∙ h.3)
+  HandleStands-kept s d (handle.LoadNext walk id) b h = (h.0, h.1, Walks-kept s d walk (id + 1) [] (h.0 ∷ h.1) Nothing b h.2)
+  HandleStands-kept s d (handle.LoadFlags walk id next) b h =
+      (h.0, h.1, Walks-kept s d walk (id + 1) [] (h.0 ∷ h.1) Nothing b h.2, walked_next s d walk id h.0 h.1 b h.2 ∙ h.3)
+  HandleStands-kept s d (handle.LoadFunc walk id next) b h =
+      (h.0, h.1, Walks-kept s d walk (id + 1) [] (h.0 ∷ h.1) Nothing b h.2, walked_next s d walk id h.0 h.1 b h.2 ∙ h.3, h.4)
+  HandleStands-kept s d (handle.LoadInfo walk id next func) b h =
+      (h.0, h.1, Walks-kept s d walk (id + 1) [] (h.0 ∷ h.1) Nothing b h.2, walked_next s d walk id h.0 h.1 b h.2 ∙ h.3, h.4, h.5)
+  HandleStands-kept s d (handle.Unlink walk last call next) b h =
+      (h.0, Walks-kept s d walk (call.id + 1) [] (call ∷ h.0) Nothing b h.1, walked_next s d walk call.id call h.0 b h.1 ∙ h.2, h.3, h.4)
+  HandleStands-kept s d (handle.BeginSync walk call next) b h =
+      let front = walks_front (IsPlaced places (place.Batch cpu)) (nexts_in at) s d walk (link_to next) (call ∷ []) h.0 Nothing h.1 b in
+      (h.0, Walks-kept s d walk (link_to next) (call ∷ []) h.0 Nothing b h.1, same_next call front.0 ∙ h.2)
+  HandleStands-kept s d (handle.CountSync walk call next) b h = (h.0, Walks-kept s d walk (link_to next) [] h.0 (SyncCall call) b h.1, h.2)
+  HandleStands-kept s d (handle.EndSync walk call next) b h = (h.0, Walks-kept s d walk (link_to next) [] h.0 (CountedCall call) b h.1, h.2)
+  HandleStands-kept s d (handle.AsyncNext id) b h = (h.0, h.1, Ends-kept s d (id + 1) [] (h.0 ∷ h.1) Nothing b h.2)
+  HandleStands-kept s d (handle.AsyncFunc id next) b h = (h.0, h.1, Ends-kept s d (id + 1) [] (h.0 ∷ h.1) Nothing b h.2, ended_next s d id h.0 h.1 b h.2 ∙ h.3)
+  HandleStands-kept s d (handle.AsyncInfo id next func) b h = (h.0, h.1, Ends-kept s d (id + 1) [] (h.0 ∷ h.1) Nothing b h.2, ended_next s d id h.0 h.1 b h.2 ∙ h.3, h.4)
+  HandleStands-kept s d (handle.BeginAsync call next) b h =
+      let front = ends_front (IsPlaced places (place.Batch cpu)) (nexts_in at) s d (link_to next) (call ∷ []) h.0 Nothing h.1 b in
+      (h.0, Ends-kept s d (link_to next) (call ∷ []) h.0 Nothing b h.1, same_next call front.0 ∙ h.2)
+  HandleStands-kept s d (handle.CountAsync call next) b h = (h.0, Ends-kept s d (link_to next) [] h.0 (AsyncCall call) b h.1, h.2, h.3)
+  HandleStands-kept s d _ b h = h
+
+  StandsAt-kept : (s : Share) (d : DrainValue) (stage : Option Stage) → AllByRecursion (IsPlaced places (place.Batch cpu)) s.batch → StandsAt places at s d cpu stage → StandsAt places' at' s d cpu stage
+  StandsAt-kept s d (Some (Post p stage)) b h =
+      let k = h.1 in
+      (h.0, record { owned = k.owned; is_call = k.is_call; me_in_range = k.me_in_range; goes = k.goes; knows = PostKnows-kept p stage k.owned k.knows })
+  StandsAt-kept s d (Some (Handle stage)) b h = (h.0, HandleStands-kept s d stage b h.1)
+  StandsAt-kept s d _ b h = h
+
+  -- a CPU to which a step leaves its records stands where it stood
+  pub Stands-kept : (s : Share) (c : ControlValue) → AllByRecursion (IsPlaced places (place.Batch cpu)) s.batch → Stands places at s cpu c → Stands places' at' s cpu c
+  Stands-kept s c b h = StandsAt-kept s c.drain c.stage b h

@@ -1,0 +1,188 @@
+-- A step of a CPU on a record of its own that is in no queue and no batch.
+use Rattle.std.proofs.Common.{◌≡◌, ◌≢◌, ℕ, cond, Option, Some, None, List, [], ◌∷◌, sym, subst, refl, ap, ◌∙◌, ◌⊎◌, inl, inr}
+use Rattle.std.proofs.lemmas.Bool.{cases_eq}
+use Rattle.std.specs.List.{AllByRecursion}
+use Rattle.smp_words.specs.Put.{put}
+use Rattle.smp_words.specs.Size.{owner}
+use Rattle.smp_call_steps.specs.Calls.{CallState, Holding}
+use Rattle.smp_call_steps.specs.Stages.{ControlValue}
+use Rattle.smp_call_steps.specs.Places.{Placed, IsPlaced, IsThere, Holds, locked_by}
+use Rattle.smp_call_steps.specs.Words.{Written, IsWritten, FlagsShow, Chained, Linked, LinkIs, Noticed, flags_in, funcs_in, infos_in, nexts_in, heads_in, intrs_in, queued_in, ran_in}
+use Rattle.smp_call_steps.specs.Histories.{Tallied}
+use Rattle.smp_call_steps.specs.Stands.{Stands, StandsAt, share_of, held_of, held_of_post, HandIs}
+use Rattle.smp_call_steps.specs.Shows.{Shows}
+use Rattle.smp_words.proofs.Puts.{at_test, put_all}
+use Rattle.smp_call_steps.proofs.Basics.Alls.{every}
+use Rattle.smp_call_steps.proofs.Steps.Frames.{Touches, Minds, Leads-kept, leaves_others, Stands-kept}
+use Rattle.smp_call_steps.specs.Names.{Call, Word, Head, Intr, Hand, Flags, RecPlace, Posting, PostStage, Stage, Post}
+use Rattle.smp_call_steps.specs.Names.place
+use Rattle.smp_call_steps.specs.Names.post
+
+pub put_other : {A : Type 0} (f : ℕ → A) (i : ℕ) (v : A) (j : ℕ) → j ≢ i → put f i v j ≡ f j
+put_other f i v j ne = at_test j i (λ b. cond b v (f j) ≡ f j) (λ e. absurd (ne e)) (λ _. refl)
+
+pub put_same : {A : Type 0} (f : ℕ → A) (i : ℕ) (v : A) → put f i v i ≡ v
+put_same f i v = at_test i i (λ b. cond b v (f i) ≡ v) (λ _. refl) (λ ne. absurd (ne refl))
+
+-- the record of a post that holds it
+pub post_holds : (p : Posting) (st : PostStage) (u : ℕ) → Holds (held_of_post p st) u → u ≡ p.id
+post_holds p post.LoadFlags u h = absurd h
+post_holds p post.Lock u h = absurd h
+post_holds p _ u h = sym h
+
+module _ (a : CallState) (at : Word → ℕ) (control : ℕ → ControlValue) (s : Shows a at control) where
+  stage_owns : (places : ℕ → RecPlace) (cpu u : ℕ) (stage : Option Stage) (c : ControlValue) → StandsAt places at (share_of a cpu) c.drain cpu stage → Holds (held_of stage) u → owner u ≡ cpu
+  stage_owns places cpu u (Some (Post p st)) c h k = let post = h.1 in ap owner (post_holds p st u k) ∙ post.owned
+  stage_owns places cpu u _ c h k = absurd k
+
+  -- a held record is its holder's
+  pub holder_owns : (cpu u : ℕ) → Holds (a.held cpu) u → owner u ≡ cpu
+  holder_owns cpu u h = stage_owns a.place cpu u (control cpu).stage (control cpu) (s.stands cpu) (subst (λ (x : Option Holding). Holds x u) (s.held cpu) h)
+
+pub LinkIs-kept : (nexts nexts' : ℕ → ℕ) (h : Option Holding) (l : Option ℕ) → ((u : ℕ) → Holds h u → nexts' u ≡ nexts u) → LinkIs nexts h l → LinkIs nexts' h l
+LinkIs-kept nexts nexts' None l f k = k
+LinkIs-kept nexts nexts' (Some h) None f k = k
+LinkIs-kept nexts nexts' (Some h) (Some n) f k = f h.call.id refl ∙ k
+
+-- at home: free, or held
+abbrev pub IsHome : RecPlace → Type 0
+IsHome p = (p ≡ place.Free) ⊎ (p ≡ place.Held)
+
+home_queue : (p : RecPlace) (cpu : ℕ) → IsHome p → p ≢ place.Queued cpu
+home_queue p cpu (inl e) f = let x = sym e ∙ f in cc
+home_queue p cpu (inr e) f = let x = sym e ∙ f in cc
+
+home_batch : (p : RecPlace) (cpu : ℕ) → IsHome p → p ≢ place.Batch cpu
+home_batch p cpu (inl e) f = let x = sym e ∙ f in cc
+home_batch p cpu (inr e) f = let x = sym e ∙ f in cc
+
+home_running : (p : RecPlace) (cpu : ℕ) → IsHome p → p ≢ place.Running cpu
+home_running p cpu (inl e) f = let x = sym e ∙ f in cc
+home_running p cpu (inr e) f = let x = sym e ∙ f in cc
+
+home_minds : (me id : ℕ) (p : RecPlace) → owner id ≡ me → IsHome p → Minds me id p
+home_minds me id p o (inl e) = rw e o
+home_minds me id p o (inr e) = rw e o
+
+-- the heads, interrupts and handling words stay
+pub record KeepsCpus (at at' : Word → ℕ) : Type 0 where
+  pub head : (cpu : ℕ) → at' (Head cpu) ≡ at (Head cpu)
+  pub intr : (cpu : ℕ) → at' (Intr cpu) ≡ at (Intr cpu)
+  pub hand : (cpu : ℕ) → at' (Hand cpu) ≡ at (Hand cpu)
+
+-- what a step on an own record does
+pub record OwnStep (a : CallState) (at at' : Word → ℕ) (control : ℕ → ControlValue) (me id : ℕ) (next : ControlValue) (places' : ℕ → RecPlace) (held' : ℕ → Option Holding) (linked' : ℕ → Option ℕ) : Type 0 where
+  pub touches : Touches id a.place places' at at'
+  pub keeps : KeepsCpus at at'
+  pub owned : owner id ≡ me
+  pub before : IsHome (a.place id)
+  pub after : (places' id ≡ place.Free) ⊎ ((places' id ≡ place.Held) × Holds (held' me) id)
+  pub flags : FlagsShow (places' id) (at' (Flags id))
+  pub mine_only : (u : ℕ) → Holds (a.held me) u → u ≡ id
+  pub my_held : held' me ≡ held_of next.stage
+  pub others_held : (cpu : ℕ) → cpu ≢ me → held' cpu ≡ a.held cpu
+  pub my_link : LinkIs (nexts_in at') (held' me) (linked' me)
+  pub others_linked : (cpu : ℕ) → cpu ≢ me → linked' cpu ≡ a.linked cpu
+  pub tallied : Tallied (queued_in at') (ran_in at') a.sent held' a.ran a.running
+  pub stands : Stands places' at' (share_of a me) me next
+  pub hand : HandIs next.stage (at' (Hand me))
+
+module _ (a : CallState) (at at' : Word → ℕ) (control : ℕ → ControlValue) (me id : ℕ) (next : ControlValue) (places' : ℕ → RecPlace) (held' : ℕ → Option Holding) (linked' : ℕ → Option ℕ)
+    (s : Shows a at control) (o : OwnStep a at at' control me id next places' held' linked') where
+  -- a record at a place that is no home is another one
+  elsewhere : (u : ℕ) (p : RecPlace) → a.place u ≡ p → (IsHome p → ⊥) → u ≢ id
+  elsewhere u p e away f = away (subst IsHome (sym (ap a.place f) ∙ e) o.before)
+
+  placed_else : (p : RecPlace) → (IsHome p → ⊥) → (calls : List Call) → AllByRecursion (IsPlaced a.place p) calls → AllByRecursion (IsPlaced places' p) calls
+  placed_else p away = every (IsPlaced a.place p) (IsPlaced places' p) (λ call q. record { is_call = q.is_call; placed = o.touches.place_stays call.id (elsewhere call.id p q.placed away) ∙ q.placed })
+
+  written_else : (p : RecPlace) → (IsHome p → ⊥) → (calls : List Call) → AllByRecursion (IsPlaced a.place p) calls → AllByRecursion (IsWritten (flags_in at) (funcs_in at) (infos_in at)) calls → AllByRecursion (IsWritten (flags_in at') (funcs_in at') (infos_in at')) calls
+  written_else p away [] q w = tt
+  written_else p away (call ∷ rest) q w =
+      let placed = q.0 in let written = w.0 in
+      let ne = elsewhere call.id p placed.placed away in
+      (record { flags_are = o.touches.flags call.id ne ∙ written.flags_are; func_is = o.touches.func call.id ne ∙ written.func_is; info_is = o.touches.info call.id ne ∙ written.info_is }, written_else p away rest q.1 w.1)
+
+  away_queue : (cpu : ℕ) → IsHome (place.Queued cpu) → ⊥
+  away_queue cpu h = home_queue (place.Queued cpu) cpu h refl
+
+  away_batch : (cpu : ℕ) → IsHome (place.Batch cpu) → ⊥
+  away_batch cpu h = home_batch (place.Batch cpu) cpu h refl
+
+  away_running : (cpu : ℕ) → IsHome (place.Running cpu) → ⊥
+  away_running cpu h = home_running (place.Running cpu) cpu h refl
+
+  holds_else : (source u : ℕ) → u ≢ id → Holds (a.held source) u → Holds (held' source) u
+  holds_else source u ne h = elim (cases_eq source me) [
+    | inl e ↦ absurd (ne (o.mine_only u (subst (λ (k : ℕ). Holds (a.held k) u) e h)))
+    | inr n ↦ subst (λ (x : Option Holding). Holds x u) (sym (o.others_held source n)) h
+  ]
+
+  there_else : (u : ℕ) (p : RecPlace) → u ≢ id → IsThere a.held a.queue a.batch a.running u p → IsThere held' a.queue a.batch a.running u p
+  there_else u place.Held ne h = holds_else (owner u) u ne h
+  there_else u _ ne h = h
+
+  there_id : IsThere held' a.queue a.batch a.running id (places' id)
+  there_id = elim o.after [ inl e ↦ rw e tt | inr e ↦ rw (e.0, o.owned) e.1 ]
+
+  placed' : Placed places' held' a.queue a.batch a.running a.confirmed
+  placed' = record {
+    queued = λ cpu. placed_else (place.Queued cpu) (away_queue cpu) (a.queue cpu) (s.placed.queued cpu);
+    batched = λ cpu. placed_else (place.Batch cpu) (away_batch cpu) (a.batch cpu) (s.placed.batched cpu);
+    runs = λ cpu. placed_else (place.Running cpu) (away_running cpu) (locked_by (a.running cpu)) (s.placed.runs cpu);
+    queue_apart = s.placed.queue_apart;
+    batch_apart = s.placed.batch_apart;
+    is_there = λ u. elim (cases_eq u id) [
+      | inl e ↦ subst (λ (k : ℕ). IsThere held' a.queue a.batch a.running k (places' k)) (sym e) there_id
+      | inr ne ↦ rw (o.touches.place_stays u ne) (there_else u (a.place u) ne (s.placed.is_there u))
+    ];
+    settled = λ source u own c. elim (cases_eq u id) [
+      | inl e ↦ elim o.after [
+        | inl free ↦ inl (ap places' e ∙ free)
+        | inr held ↦ inr (rw (e, sym own ∙ (ap owner e ∙ o.owned)) held.1)
+      ]
+      | inr ne ↦ elim (s.placed.settled source u own c) [ inl free ↦ inl (o.touches.place_stays u ne ∙ free) | inr hold ↦ inr (holds_else source u ne hold) ]
+    ];
+  }
+
+  written' : Written (flags_in at') (funcs_in at') (infos_in at') places' a.queue a.batch a.running
+  written' = record {
+    locks = λ u. elim (cases_eq u id) [
+      | inl e ↦ subst (λ (k : ℕ). FlagsShow (places' k) (at' (Flags k))) (sym e) o.flags
+      | inr ne ↦ rw (o.touches.place_stays u ne, o.touches.flags u ne) (s.written.locks u)
+    ];
+    queued = λ cpu. written_else (place.Queued cpu) (away_queue cpu) (a.queue cpu) (s.placed.queued cpu) (s.written.queued cpu);
+    batched = λ cpu. written_else (place.Batch cpu) (away_batch cpu) (a.batch cpu) (s.placed.batched cpu) (s.written.batched cpu);
+    runs = λ cpu. written_else (place.Running cpu) (away_running cpu) (locked_by (a.running cpu)) (s.placed.runs cpu) (s.written.runs cpu);
+  }
+
+  chained' : Chained (heads_in at') (nexts_in at') a.queue
+  chained' = record {
+    chain = λ cpu. rw (o.keeps.head cpu) (Leads-kept (nexts_in at) (nexts_in at') (IsPlaced a.place (place.Queued cpu)) (λ call q. o.touches.next call.id (elsewhere call.id (place.Queued cpu) q.placed (away_queue cpu))) (at (Head cpu)) (a.queue cpu) 0 (s.placed.queued cpu) (s.chained.chain cpu));
+  }
+
+  links' : Linked (nexts_in at') held' linked'
+  links' = record {
+    held_links = λ cpu. elim (cases_eq cpu me) [
+      | inl e ↦ subst (λ (k : ℕ). LinkIs (nexts_in at') (held' k) (linked' k)) (sym e) o.my_link
+      | inr ne ↦ rw (o.others_held cpu ne, o.others_linked cpu ne) (LinkIs-kept (nexts_in at) (nexts_in at') (a.held cpu) (a.linked cpu) (λ u h. o.touches.next u (λ e. ne (sym (holder_owns a at control s cpu u h) ∙ (ap owner e ∙ o.owned)))) (s.links.held_links cpu))
+    ];
+  }
+
+  noticed' : Noticed (intrs_in at') a.queue a.pending a.accepted a.owes
+  noticed' = record { words = λ cpu. o.keeps.intr cpu ∙ s.noticed.words cpu; noticed = s.noticed.noticed }
+
+  pub own_step : Shows (record a { place = places'; held = held'; linked = linked' }) at' (put control me next)
+  own_step = record {
+    held = λ cpu. at_test cpu me (λ b. held' cpu ≡ held_of (cond b next (control cpu)).stage) (λ e. rw e o.my_held) (λ ne. o.others_held cpu ne ∙ s.held cpu);
+    stands = put_all (λ cpu x. Stands places' at' (share_of a cpu) cpu x) control me next o.stands
+        (λ cpu ne. Stands-kept cpu a.place places' at at' (leaves_others me id a.place places' at at' (home_minds me id (a.place id) o.owned o.before) o.touches cpu ne) (share_of a cpu) (control cpu) (s.placed.batched cpu) (s.stands cpu));
+    hands = put_all (λ cpu (x : ControlValue). HandIs x.stage (at' (Hand cpu))) control me next o.hand (λ cpu _. rw (o.keeps.hand cpu) (s.hands cpu));
+    placed = placed';
+    written = written';
+    chained = chained';
+    links = links';
+    noticed = noticed';
+    recorded = s.recorded;
+    tallied = o.tallied;
+  }

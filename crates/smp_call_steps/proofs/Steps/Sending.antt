@@ -1,0 +1,104 @@
+-- Steps that touch no record: loads of the own flags, and the send of an interrupt.
+use Rattle.std.proofs.Common.{◌≡◌, ◌≢◌, ℕ, ◌%◌, Bool, true, false, ◌==◌, cond, refl, ap, ◌∙◌, ◌⊎◌, inl, inr}
+use Rattle.std.proofs.lemmas.Bool.{cases_eq, eqb-false}
+use Rattle.smp_words.specs.Put.{put, put_word}
+use Rattle.smp_call_steps.specs.Calls.{CallState, confirms, sends}
+use Rattle.smp_call_steps.specs.Stages.{ControlValue}
+use Rattle.smp_call_steps.specs.Places.{Holds}
+use Rattle.smp_call_steps.specs.Words.{FlagsShow, IsNoticed, is_pending, is_accepted, is_owed, bit}
+use Rattle.smp_call_steps.specs.Stands.{Stands, share_of, held_of, HandIs}
+use Rattle.smp_call_steps.specs.Shows.{Shows}
+use Rattle.smp_words.proofs.Puts.{at_test, put_all}
+use Rattle.smp_call_steps.proofs.Steps.Frames.{leaves_all, Stands-kept}
+use Rattle.smp_call_steps.specs.Names.{Word, Intr, Hand, Flags, RecPlace}
+use Rattle.smp_call_steps.specs.Names.place
+
+-- a step that changes no word and no call
+pub stands_on : (a : CallState) (at : Word → ℕ) (control : ℕ → ControlValue) (me : ℕ) (next : ControlValue) → Shows a at control →
+    a.held me ≡ held_of next.stage → Stands a.place at (share_of a me) me next → HandIs next.stage (at (Hand me)) → Shows a at (put control me next)
+stands_on a at control me next s held stands hand = record {
+  held = put_all (λ cpu (x : ControlValue). a.held cpu ≡ held_of x.stage) control me next held (λ cpu _. s.held cpu);
+  stands = put_all (λ cpu x. Stands a.place at (share_of a cpu) cpu x) control me next stands (λ cpu _. s.stands cpu);
+  hands = put_all (λ cpu (x : ControlValue). HandIs x.stage (at (Hand cpu))) control me next hand (λ cpu _. s.hands cpu);
+  placed = s.placed;
+  written = s.written;
+  chained = s.chained;
+  links = s.links;
+  noticed = s.noticed;
+  recorded = s.recorded;
+  tallied = s.tallied;
+}
+
+-- a record whose flags have no LOCK is free
+pub unlocked_free : (p : RecPlace) (flags : ℕ) → FlagsShow p flags → (flags % 2 == 1) ≡ false → p ≡ place.Free
+unlocked_free place.Free flags f e = refl
+unlocked_free _ flags f e = absurd (eqb-false (flags % 2) 1 e f)
+
+-- confirm: the source has seen its record free
+pub confirms_kept : (a : CallState) (at : Word → ℕ) (control : ℕ → ControlValue) (me id : ℕ) → a.place id ≡ place.Free → Shows a at control → Shows (confirms a me id) at control
+confirms_kept a at control me id free s = record {
+  held = s.held;
+  stands = s.stands;
+  hands = s.hands;
+  placed = record {
+    queued = s.placed.queued;
+    batched = s.placed.batched;
+    runs = s.placed.runs;
+    queue_apart = s.placed.queue_apart;
+    batch_apart = s.placed.batch_apart;
+    is_there = s.placed.is_there;
+    settled = λ source u o. at_test source me (λ b. cond b (put (a.confirmed me) id true) (a.confirmed source) u ≡ true → (a.place u ≡ place.Free) ⊎ Holds (a.held source) u)
+        (λ es. at_test u id (λ b. cond b true (a.confirmed me u) ≡ true → (a.place u ≡ place.Free) ⊎ Holds (a.held source) u)
+        (λ eu _. inl (ap a.place eu ∙ free))
+        (λ _ e. s.placed.settled source u o (ap (λ k. a.confirmed k u) es ∙ e)))
+        (λ _ e. s.placed.settled source u o e);
+  };
+  written = s.written;
+  chained = s.chained;
+  links = s.links;
+  noticed = s.noticed;
+  recorded = s.recorded;
+  tallied = s.tallied;
+}
+
+-- the load of a flags word: where LOCK is clear, its source has it confirmed
+pub confirm_if : (a : CallState) (at : Word → ℕ) (control : ℕ → ControlValue) (me id : ℕ) (b : Bool) → (at (Flags id) % 2 == 1) ≡ b → Shows a at control → Shows (cond b a (confirms a me id)) at control
+confirm_if a at control me id true e s = s
+confirm_if a at control me id false e s = confirms_kept a at control me id (unlocked_free (a.place id) (at (Flags id)) (s.written.locks id) e) s
+
+-- what is owed to another CPU stays owed
+owed_else : (f : ℕ → ℕ → Bool) (me to source cpu : ℕ) → cpu ≢ to → f source cpu ≡ true → put f me (put (f me) to false) source cpu ≡ true
+owed_else f me to source cpu ne o = at_test source me (λ b. cond b (put (f me) to false) (f source) cpu ≡ true)
+    (λ e. at_test cpu to (λ b. cond b false (f me cpu) ≡ true) (λ x. absurd (ne x)) (λ _. rw e at o))
+    (λ _. o)
+
+noticed_still : (a : CallState) (me to cpu : ℕ) → cpu ≢ to → IsNoticed a.pending a.accepted a.owes cpu → IsNoticed (sends a me to).pending a.accepted (sends a me to).owes cpu
+noticed_still a me to cpu ne (is_pending e) = is_pending (at_test cpu to (λ b. cond b true (a.pending cpu) ≡ true) (λ _. refl) (λ _. e))
+noticed_still a me to cpu ne (is_accepted e) = is_accepted e
+noticed_still a me to cpu ne (is_owed source o) = is_owed source (owed_else a.owes me to source cpu ne o)
+
+-- send: the store of an interrupt word
+pub send_kept : (a : CallState) (at : Word → ℕ) (control : ℕ → ControlValue) (me to : ℕ) (next : ControlValue) → Shows a at control → a.held me ≡ held_of next.stage →
+    Stands a.place (put_word at (Intr to) 1) (share_of a me) me next → HandIs next.stage (at (Hand me)) → Shows (sends a me to) (put_word at (Intr to) 1) (put control me next)
+send_kept a at control me to next s held stands hand = record {
+  held = put_all (λ cpu (x : ControlValue). a.held cpu ≡ held_of x.stage) control me next held (λ cpu _. s.held cpu);
+  stands = put_all (λ cpu x. Stands a.place at' (share_of a cpu) cpu x) control me next stands
+      (λ cpu _. Stands-kept cpu a.place a.place at at' (leaves_all a.place at at' (λ _. refl) (λ _. refl) (λ _. refl) (λ _. refl) cpu) (share_of a cpu) (control cpu) (s.placed.batched cpu) (s.stands cpu));
+  hands = put_all (λ cpu (x : ControlValue). HandIs x.stage (at (Hand cpu))) control me next hand (λ cpu _. s.hands cpu);
+  placed = s.placed;
+  written = s.written;
+  chained = s.chained;
+  links = s.links;
+  noticed = record {
+    words = λ cpu. at_test cpu to (λ b. cond b 1 (at (Intr cpu)) ≡ bit (cond b true (a.pending cpu))) (λ _. refl) (λ _. s.noticed.words cpu);
+    noticed = λ cpu. elim (cases_eq cpu to) [
+      | inl e ↦ inr (is_pending (at_test cpu to (λ b. cond b true (a.pending cpu) ≡ true) (λ _. refl) (λ ne. absurd (ne e))))
+      | inr ne ↦ elim (s.noticed.noticed cpu) [ inl empty ↦ inl empty | inr n ↦ inr (noticed_still a me to cpu ne n) ]
+    ];
+  };
+  recorded = s.recorded;
+  tallied = s.tallied;
+}
+  where
+    at' : Word → ℕ
+    at' = put_word at (Intr to) 1

@@ -1,0 +1,189 @@
+-- The swap that takes a queue: the whole queue becomes a batch.
+use Rattle.std.proofs.Common.{◌≡◌, ◌≢◌, ℕ, ◌⊎◌, inl, inr, false, cond, Some, None, List, [], ◌∷◌, ◌++◌, sym, subst, refl, ap, ◌∙◌, append_assoc}
+use Rattle.std.proofs.lemmas.List.{append-nil}
+use Rattle.std.specs.List.{AllByRecursion}
+use Rattle.smp_words.specs.Put.{put, put_word}
+use Rattle.smp_call_steps.specs.Order.{order}
+use Rattle.smp_call_steps.specs.Calls.{CallState, Running, Nothing, place_taken, takes}
+use Rattle.smp_call_steps.specs.Drains.{no_drain, record_at, reverse_on}
+use Rattle.smp_call_steps.specs.Stages.{ControlValue}
+use Rattle.smp_call_steps.specs.Places.{IsApart, HasRecord, IsPlaced, IsThere, Placed, locked_by}
+use Rattle.smp_call_steps.specs.Words.{Leads, FlagsShow, IsWritten, Written, Chained, last_batch, IsEmpty, IsNoticed, is_pending, is_accepted, is_owed, Noticed, flags_in, funcs_in, infos_in, nexts_in, heads_in, intrs_in}
+use Rattle.smp_call_steps.specs.Histories.{marked, batches_marked, history_of, marked_from, sent_to, orders, running_call, Recorded}
+use Rattle.smp_call_steps.specs.Stands.{Share, share_of}
+use Rattle.smp_call_steps.specs.Shows.{Shows}
+use Rattle.smp_words.proofs.Puts.{at_test}
+use Rattle.smp_call_steps.proofs.Basics.Alls.{every}
+use Rattle.smp_call_steps.proofs.Steps.Frames.{Minds, LeavesTo}
+use Rattle.smp_call_steps.proofs.State.Batches.{every_order, has_order, apart_order}
+use Rattle.smp_call_steps.proofs.Steps.Turns.{put_here, put_else, holds_nothing, stands_at, hand_at, held_after, stands_after, hands_after}
+use Rattle.smp_call_steps.proofs.State.Walks.{link_back, reverse_goes, hand_of_reverse}
+use Rattle.smp_call_steps.proofs.Steps.StepShows.{StepShows}
+use Rattle.smp_call_steps.specs.Names.{Call, Word, Head, Hand, Flags, RecPlace, Handle}
+use Rattle.smp_call_steps.specs.Names.place
+use Rattle.smp_call_steps.specs.Names.handle
+
+-- what a place becomes when this CPU takes its queue
+
+taken_here : (me : ℕ) → place_taken me (place.Queued me) ≡ place.Batch me
+taken_here me = put_here me (place.Batch me) (place.Queued me)
+
+taken_else : (me cpu : ℕ) → cpu ≢ me → place_taken me (place.Queued cpu) ≡ place.Queued cpu
+taken_else me cpu ne = put_else cpu me (place.Batch me) (place.Queued cpu) ne
+
+taken_minded : (me cpu id : ℕ) (p : RecPlace) → Minds cpu id p → place_taken me p ≡ p
+taken_minded me cpu id (place.Queued c) m = absurd m
+taken_minded me cpu id _ m = refl
+
+-- a record in another CPU's batch was there before
+taken_batch : (me cpu : ℕ) (p : RecPlace) → cpu ≢ me → place_taken me p ≡ place.Batch cpu → p ≡ place.Batch cpu
+taken_batch me cpu place.Free ne e = cc
+taken_batch me cpu place.Held ne e = cc
+taken_batch me cpu (place.Batch c) ne e = e
+taken_batch me cpu (place.Running c) ne e = cc
+taken_batch me cpu (place.Queued c) ne e =
+    at_test c me (λ b. cond b (place.Batch me) (place.Queued c) ≡ place.Batch cpu → place.Queued c ≡ place.Batch cpu) (λ _ f. absurd (ne (same_cpu cpu me (sym f)))) (λ _ f. f) e
+  where
+    same_cpu : (x y : ℕ) → place.Batch x ≡ place.Batch y → x ≡ y
+    same_cpu x y f = cc
+
+FlagsShow-taken : (me flags : ℕ) (p : RecPlace) → FlagsShow p flags → FlagsShow (place_taken me p) flags
+FlagsShow-taken me flags (place.Queued c) f = at_test c me (λ b. FlagsShow (cond b (place.Batch me) (place.Queued c)) flags) (λ _. f) (λ _. f)
+FlagsShow-taken me flags _ f = f
+
+-- the histories with one batch more
+
+batches_marked-push : (batches : List (List Call)) (batch : List Call) → batches_marked (batches ++ batch ∷ []) ≡ batches_marked batches ++ marked batch
+batches_marked-push [] batch = append-nil (marked batch)
+batches_marked-push (x ∷ xs) batch = ap (λ k. marked x ++ k) (batches_marked-push xs batch) ∙ sym (append_assoc (marked x) (batches_marked xs) (marked batch))
+
+pub orders-push : (batches : List (List Call)) (batch : List Call) → orders (batches ++ batch ∷ []) ≡ orders batches ++ order batch
+orders-push [] batch = append-nil (order batch)
+orders-push (x ∷ xs) batch = ap (λ k. order x ++ k) (orders-push xs batch) ∙ sym (append_assoc (order x) (orders xs) (order batch))
+
+pub last_batch-push : (batches : List (List Call)) (batch : List Call) → last_batch (batches ++ batch ∷ []) ≡ batch
+last_batch-push [] batch = refl
+last_batch-push (x ∷ []) batch = refl
+last_batch-push (x ∷ (y ∷ ys)) batch = last_batch-push (y ∷ ys) batch
+
+-- the same calls, in one batch more and an empty queue
+history-taken : (taken : List (List Call)) (queue : List Call) → history_of (taken ++ queue ∷ []) [] ≡ history_of taken queue
+history-taken taken queue = append-nil (batches_marked (taken ++ queue ∷ [])) ∙ batches_marked-push taken queue
+
+module _ (a : CallState) (at : Word → ℕ) (me : ℕ) where
+  abbrev place' : ℕ → RecPlace
+  place' = λ id. place_taken me (a.place id)
+
+  abbrev queue' : ℕ → List Call
+  queue' = put a.queue me []
+
+  abbrev batch' : ℕ → List Call
+  batch' = put a.batch me (order (a.queue me))
+
+  moved : (from : RecPlace) (call : Call) → IsPlaced a.place from call → IsPlaced place' (place_taken me from) call
+  moved from call p = record { is_call = p.is_call; placed = ap (place_taken me) p.placed }
+
+  there : (id : ℕ) (p : RecPlace) → a.batch me ≡ [] → IsThere a.held a.queue a.batch a.running id p → IsThere a.held queue' batch' a.running id (place_taken me p)
+  there id place.Free none h = tt
+  there id place.Held none h = h
+  there id (place.Queued c) none h = at_test c me (λ b. IsThere a.held queue' batch' a.running id (cond b (place.Batch me) (place.Queued c)))
+      (λ e. subst (HasRecord id) (sym (put_here me (order (a.queue me)) (a.batch me))) (has_order id (a.queue me) (subst (λ (k : ℕ). HasRecord id (a.queue k)) e h)))
+      (λ ne. subst (HasRecord id) (sym (put_else c me [] (a.queue c) ne)) h)
+  there id (place.Batch c) none h = at_test c me (λ b. HasRecord id (cond b (order (a.queue me)) (a.batch c)))
+      (λ e. absurd (subst (HasRecord id) (ap a.batch e ∙ none) h))
+      (λ _. h)
+  there id (place.Running c) none h = h
+
+  placed_taken : a.batch me ≡ [] → Placed a.place a.held a.queue a.batch a.running a.confirmed → Placed place' a.held queue' batch' a.running a.confirmed
+  placed_taken none p = record {
+    queued = λ cpu. at_test cpu me (λ b. AllByRecursion (IsPlaced place' (place.Queued cpu)) (cond b [] (a.queue cpu))) (λ _. tt)
+        (λ ne. every (IsPlaced a.place (place.Queued cpu)) (IsPlaced place' (place.Queued cpu)) (λ call h. record { is_call = h.is_call; placed = ap (place_taken me) h.placed ∙ taken_else me cpu ne }) (a.queue cpu) (p.queued cpu));
+    batched = λ cpu. at_test cpu me (λ b. AllByRecursion (IsPlaced place' (place.Batch cpu)) (cond b (order (a.queue me)) (a.batch cpu)))
+        (λ e. subst (λ (k : ℕ). AllByRecursion (IsPlaced place' (place.Batch k)) (order (a.queue me))) (sym e)
+        (every_order (IsPlaced place' (place.Batch me)) (a.queue me)
+        (every (IsPlaced a.place (place.Queued me)) (IsPlaced place' (place.Batch me)) (λ call h. record { is_call = h.is_call; placed = ap (place_taken me) h.placed ∙ taken_here me }) (a.queue me) (p.queued me))))
+        (λ _. every (IsPlaced a.place (place.Batch cpu)) (IsPlaced place' (place.Batch cpu)) (moved (place.Batch cpu)) (a.batch cpu) (p.batched cpu));
+    runs = λ cpu. every (IsPlaced a.place (place.Running cpu)) (IsPlaced place' (place.Running cpu)) (moved (place.Running cpu)) (locked_by (a.running cpu)) (p.runs cpu);
+    queue_apart = λ cpu. at_test cpu me (λ b. IsApart (cond b [] (a.queue cpu))) (λ _. tt) (λ _. p.queue_apart cpu);
+    batch_apart = λ cpu. at_test cpu me (λ b. IsApart (cond b (order (a.queue me)) (a.batch cpu))) (λ _. apart_order (a.queue me) (p.queue_apart me)) (λ _. p.batch_apart cpu);
+    is_there = λ id. there id (a.place id) none (p.is_there id);
+    settled = λ source id o e. elim (p.settled source id o e) [ inl free ↦ inl (ap (place_taken me) free) | inr hold ↦ inr hold ];
+  }
+
+  written_taken : Written (flags_in at) (funcs_in at) (infos_in at) a.place a.queue a.batch a.running → Written (flags_in at) (funcs_in at) (infos_in at) place' queue' batch' a.running
+  written_taken w = record {
+    locks = λ id. FlagsShow-taken me (at (Flags id)) (a.place id) (w.locks id);
+    queued = λ cpu. at_test cpu me (λ b. AllByRecursion (IsWritten (flags_in at) (funcs_in at) (infos_in at)) (cond b [] (a.queue cpu))) (λ _. tt) (λ _. w.queued cpu);
+    batched = λ cpu. at_test cpu me (λ b. AllByRecursion (IsWritten (flags_in at) (funcs_in at) (infos_in at)) (cond b (order (a.queue me)) (a.batch cpu)))
+        (λ _. every_order (IsWritten (flags_in at) (funcs_in at) (infos_in at)) (a.queue me) (w.queued me)) (λ _. w.batched cpu);
+    runs = w.runs;
+  }
+
+  chained_taken : Chained (heads_in at) (nexts_in at) a.queue → Chained (put (heads_in at) me 0) (nexts_in at) queue'
+  chained_taken c = record { chain = λ cpu. at_test cpu me (λ b. Leads (nexts_in at) (cond b 0 (at (Head cpu))) (cond b [] (a.queue cpu)) 0) (λ _. refl) (λ _. c.chain cpu) }
+
+  abbrev taken' : ℕ → List (List Call)
+  taken' = put a.taken me (a.taken me ++ a.queue me ∷ [])
+
+  noticed_still : (cpu : ℕ) → cpu ≢ me → IsNoticed a.pending a.accepted a.owes cpu → IsNoticed a.pending (put a.accepted me false) a.owes cpu
+  noticed_still cpu ne (is_pending e) = is_pending e
+  noticed_still cpu ne (is_accepted e) = is_accepted (put_else cpu me false (a.accepted cpu) ne ∙ e)
+  noticed_still cpu ne (is_owed source e) = is_owed source e
+
+  noticed_taken : Noticed (intrs_in at) a.queue a.pending a.accepted a.owes → Noticed (intrs_in at) queue' a.pending (put a.accepted me false) a.owes
+  noticed_taken n = record {
+    words = n.words;
+    noticed = λ cpu. at_test cpu me (λ b. IsEmpty (cond b [] (a.queue cpu)) ⊎ IsNoticed a.pending (put a.accepted me false) a.owes cpu) (λ _. inl tt)
+        (λ ne. elim (n.noticed cpu) [ inl empty ↦ inl empty | inr noticed ↦ inr (noticed_still cpu ne noticed) ]);
+  }
+
+  recorded_taken : a.batch me ≡ [] → a.running me ≡ Nothing → Recorded a.sent a.taken a.queue a.ran a.running a.batch → Recorded a.sent taken' queue' a.ran a.running batch'
+  recorded_taken none idle r = record {
+    in_order = λ source cpu. at_test cpu me (λ b. sent_to cpu (a.sent source) ≡ marked_from source (history_of (cond b (a.taken me ++ a.queue me ∷ []) (a.taken cpu)) (cond b [] (a.queue cpu))))
+        (λ e. subst (λ (k : ℕ). sent_to k (a.sent source) ≡ marked_from source (history_of (a.taken me ++ a.queue me ∷ []) [])) (sym e)
+        (r.in_order source me ∙ ap (marked_from source) (sym (history-taken (a.taken me) (a.queue me)))))
+        (λ _. r.in_order source cpu);
+    drained = λ cpu. at_test cpu me (λ b. a.ran cpu ++ (running_call (a.running cpu) ++ cond b (order (a.queue me)) (a.batch cpu)) ≡ orders (cond b (a.taken me ++ a.queue me ∷ []) (a.taken cpu)))
+        (λ e. subst (λ (k : ℕ). a.ran k ++ (running_call (a.running k) ++ order (a.queue me)) ≡ orders (a.taken me ++ a.queue me ∷ [])) (sym e) drained_here)
+        (λ _. r.drained cpu);
+  }
+    where
+      before : a.ran me ≡ orders (a.taken me)
+      before = sym (append-nil (a.ran me)) ∙ (ap (λ (k : List Call). a.ran me ++ k) (sym (ap (λ (x : Running). running_call x ++ a.batch me) idle ∙ none)) ∙ r.drained me)
+
+      drained_here : a.ran me ++ (running_call (a.running me) ++ order (a.queue me)) ≡ orders (a.taken me ++ a.queue me ∷ [])
+      drained_here = ap (λ (x : Running). a.ran me ++ (running_call x ++ order (a.queue me))) idle ∙ (ap (λ (k : List Call). k ++ order (a.queue me)) before ∙ sym (orders-push (a.taken me) (a.queue me)))
+
+module _ (a : CallState) (at : Word → ℕ) (control : ℕ → ControlValue) (me : ℕ) (s : Shows a at control) where
+  -- nobody minds a queued record
+  leaves_taken : (cpu : ℕ) → LeavesTo cpu a.place (place' a at me) at (put_word at (Head me) 0)
+  leaves_taken cpu = record { place_stays = λ id m. taken_minded me cpu id (a.place id) m; flags = λ _ _. refl; func = λ _ _. refl; info = λ _ _. refl; next = λ _ _. refl }
+
+  pub take_step : (control me).stage ≡ Some (Handle handle.Take) → StepShows a at control me (Handle handle.Take)
+  take_step e =
+      let was = stands_at a at control me s handle.Take e in
+      let k = was.1 in
+      let link : ℕ = at (Head me) in
+      let c : ControlValue = record { stage = Some (Handle (reverse_on None (record_at link))); drain = no_drain } in
+      let after : Share = share_of (takes a me) me in
+      let whole : last_batch (put a.taken me (a.taken me ++ a.queue me ∷ []) me) ≡ a.queue me =
+      ap last_batch (put_here me (a.taken me ++ a.queue me ∷ []) (a.taken me)) ∙ last_batch-push (a.taken me) (a.queue me) in
+      record {
+        held = held_after a at control me s c (holds_nothing a at control me s handle.Take e);
+        stands = stands_after a at control me s (put_word at (Head me) 0) (place' a at me) (share_of (takes a me)) c
+            (λ cpu ne. at_test cpu me (λ b. record { last = last_batch (cond b (a.taken me ++ a.queue me ∷ []) (a.taken cpu)); batch = cond b (order (a.queue me)) (a.batch cpu); running = a.running cpu; accepted = cond b false (a.accepted cpu) } ≡ share_of a cpu) (λ f. absurd (ne f)) (λ _. refl))
+            (λ cpu _. leaves_taken cpu) (
+              was.0,
+              reverse_goes (nexts_in at) after no_drain None (record_at link) (a.queue me) [] (whole ∙ sym (append-nil (a.queue me)))
+                  (subst (λ (n : ℕ). Leads (nexts_in at) n (a.queue me) 0) (sym (link_back link)) (s.chained.chain me)) refl (subst IsApart (sym whole) (s.placed.queue_apart me)) refl
+                  (put_here me (order (a.queue me)) (a.batch me) ∙ ap order (sym whole)) k.1 (put_here me false (a.accepted me)),
+            );
+        hands = hands_after a at control me s c (hand_of_reverse None (record_at link) (at (Hand me)) (hand_at a at control me s handle.Take e));
+        placed = placed_taken a at me k.0 s.placed;
+        written = written_taken a at me s.written;
+        chained = chained_taken a at me s.chained;
+        links = s.links;
+        noticed = noticed_taken a at me s.noticed;
+        recorded = recorded_taken a at me k.0 k.1 s.recorded;
+        tallied = s.tallied;
+      }

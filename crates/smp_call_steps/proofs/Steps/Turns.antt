@@ -1,0 +1,51 @@
+-- What a step of one CPU leaves to all CPUs: what they hold, where they stand, and their handling words.
+use Rattle.std.proofs.Common.{◌≡◌, ◌≢◌, ℕ, ◌<◌, ◌==◌, cond, Option, Some, None, sym, subst, refl, ap, ◌∙◌}
+use Rattle.smp_words.specs.Size.{cpus}
+use Rattle.smp_words.specs.Put.{put}
+use Rattle.smp_call_steps.specs.Calls.{CallState}
+use Rattle.smp_call_steps.specs.Stages.{ControlValue}
+use Rattle.smp_call_steps.specs.Words.{nexts_in, hands_in}
+use Rattle.smp_call_steps.specs.Stands.{Share, share_of, Stands, StandsAt, HandleStands, HandIs, held_of}
+use Rattle.smp_call_steps.specs.Shows.{Shows}
+use Rattle.smp_words.proofs.Puts.{at_test, put_all, put_both}
+use Rattle.smp_call_steps.proofs.Steps.Frames.{LeavesTo, Stands-kept}
+use Rattle.smp_call_steps.specs.Names.{Word, RecPlace, HandleStage, Stage, Handle}
+
+pub put_here : {A : Type 0} (i : ℕ) (v x : A) → cond (i == i) v x ≡ v
+put_here {A} i v x = at_test i i (λ b. cond b v x ≡ v) (λ _. refl) (λ ne. absurd (ne refl))
+
+pub put_else : {A : Type 0} (j i : ℕ) (v x : A) → j ≢ i → cond (j == i) v x ≡ x
+put_else {A} j i v x ne = at_test j i (λ b. cond b v x ≡ x) (λ e. absurd (ne e)) (λ _. refl)
+
+module _ (a : CallState) (at : Word → ℕ) (control : ℕ → ControlValue) (me : ℕ) (s : Shows a at control) where
+  -- inside handle a CPU holds nothing
+  pub holds_nothing : (stage : HandleStage) → (control me).stage ≡ Some (Handle stage) → a.held me ≡ None
+  holds_nothing stage e = s.held me ∙ ap held_of e
+
+  -- what holds of a CPU at a stage of handle
+  pub stands_at : (stage : HandleStage) → (control me).stage ≡ Some (Handle stage) → (me < cpus) × HandleStands (nexts_in at) (share_of a me) (control me).drain stage
+  stands_at stage e = subst (λ (x : Option Stage). StandsAt a.place at (share_of a me) (control me).drain me x) e (s.stands me)
+
+  pub hand_at : (stage : HandleStage) → (control me).stage ≡ Some (Handle stage) → HandIs (Some (Handle stage)) (hands_in at me)
+  hand_at stage e = subst (λ (x : Option Stage). HandIs x (hands_in at me)) e (s.hands me)
+
+  -- each CPU holds what it held
+  pub held_after : (c : ControlValue) → a.held me ≡ held_of c.stage → (cpu : ℕ) → a.held cpu ≡ held_of (put control me c cpu).stage
+  held_after c here = put_all (λ cpu x. a.held cpu ≡ held_of x.stage) control me c here (λ cpu _. s.held cpu)
+
+  -- the others stand where they stood
+  pub stands_after : (at' : Word → ℕ) (place' : ℕ → RecPlace) (share' : ℕ → Share) (c : ControlValue) →
+      ((cpu : ℕ) → cpu ≢ me → share' cpu ≡ share_of a cpu) → ((cpu : ℕ) → cpu ≢ me → LeavesTo cpu a.place place' at at') → Stands place' at' (share' me) me c →
+      (cpu : ℕ) → Stands place' at' (share' cpu) cpu (put control me c cpu)
+  stands_after at' place' share' c same leaves here =
+      put_all (λ cpu x. Stands place' at' (share' cpu) cpu x) control me c here
+      (λ cpu ne. subst (λ (x : Share). Stands place' at' x cpu (control cpu)) (sym (same cpu ne))
+      (Stands-kept cpu a.place place' at at' (leaves cpu ne) (share_of a cpu) (control cpu) (s.placed.batched cpu) (s.stands cpu)))
+
+  -- a step that stores no handling word
+  pub hands_after : (c : ControlValue) → HandIs c.stage (hands_in at me) → (cpu : ℕ) → HandIs (put control me c cpu).stage (hands_in at cpu)
+  hands_after c here = put_all (λ cpu x. HandIs x.stage (hands_in at cpu)) control me c here (λ cpu _. s.hands cpu)
+
+  -- a step that stores this CPU's own
+  pub hands_stored : (c : ControlValue) (n : ℕ) → HandIs c.stage n → (cpu : ℕ) → HandIs (put control me c cpu).stage (put (hands_in at) me n cpu)
+  hands_stored c n here = put_both (λ cpu x hand. HandIs x.stage hand) control (hands_in at) me c n here (λ cpu _. s.hands cpu)

@@ -1,0 +1,122 @@
+-- A step of a CPU inside handle that tells nothing of the calls: where it stands then, and what it knows.
+use Rattle.std.proofs.Common.{◌≡◌, ℕ, ◌%◌, ◌^◌, Option, Some, None, List, length, refl, ap, ◌∙◌, sym, subst}
+use Rattle.atomic_table.specs.Seated.{TableId}
+use Rattle.smp_words.specs.Access.{word_of}
+use Rattle.smp_call_steps.specs.Drains.{record_at, unlink_after, handle_outcome, by_class, FitsFound, reverse_on, first_on, second_on}
+use Rattle.smp_words.specs.Flags.{class_of}
+use Rattle.smp_queue.specs.Names.{Sync, Word, Flags, Func, Info, Next, Known, Walk, HandleStage, Stage, Handle, Heard}
+use Rattle.smp_queue.specs.Names.act
+use Rattle.smp_queue.specs.Names.handle
+use Rattle.smp_queue.specs.Handling.{HasRunAll, runs}
+use Rattle.smp_call_steps.specs.Known.{known_told, known_access, Moment, Lives}
+use Rattle.smp_call_steps.specs.Handling.{goes_known}
+use Rattle.smp_call_steps.proofs.Knows.Handling.{lives_fits, next_found_is, func_found_is, info_found_is, flags_found_is, lives_locked}
+use Rattle.smp_call_steps.specs.Histories.{calls_from}
+use Rattle.smp_queue.specs.Cpu.{cpu_of}
+use Rattle.smp_queue.specs.Seat.{SeatValue, InHandle}
+use Rattle.smp_queue.proofs.Handling.Handles.{in_handle_then}
+
+-- after a load, by which it knows this
+pub record HasLoad (t : TableId) (d d' : SeatValue) (word : Word) (n : ℕ) : Type 0 where
+  pub moment : Moment d.known word n
+  pub table_is : d'.table ≡ t
+  pub lives : Lives d'.known
+  pub known_is : d'.known ≡ known_told d.known act.Load word (Some n) None
+
+module _ (t : TableId) (d d' : SeatValue) (h : HandleStage) (at : InHandle t d h) (id n : ℕ) where
+  pub next_known : HasLoad t d d' (Next id) n → d'.known ≡ goes_known h n d.known
+  next_known l = l.known_is ∙ next_found_is d.known h id n at.stage_is
+
+  pub next_goes : (h' : HandleStage) → HasLoad t d d' (Next id) n → (handle_outcome d.known.drain h n).next ≡ Some (Handle h') → InHandle t d' h'
+  next_goes h' l e = in_handle_then t d' h' (goes_known h n d.known) at.sized l.table_is l.lives (next_known l) e
+
+-- what is found fits
+pub found_fits : (t : TableId) (d d' : SeatValue) (h : HandleStage) → InHandle t d h → (w : Word) (n : ℕ) → HasLoad t d d' w n → word_of (known_access d.known (Handle h)) ≡ w → FitsFound h n
+found_fits t d d' h at w n l e =
+    let m = l.moment in
+    subst (FitsFound h) (ap m.lives.at e ∙ sym m.number_is) (lives_fits d.known m.lives h at.stage_is).0
+
+-- a CPU that reverses its chain, between two records
+pub record Reversing (t : TableId) (before d : SeatValue) (here next : Option ℕ) (calls : ℕ) : Type 0 where
+  pub at : InHandle t d (reverse_on here next)
+  pub calls_are : calls ≡ d.known.drain.calls
+  pub known_is : d.known ≡ record (before.known) { stage = d.known.stage; drain = d.known.drain }
+
+-- what is found at some time fits
+pub moment_fits : (t : TableId) (d : SeatValue) (h : HandleStage) → InHandle t d h → (w : Word) (n : ℕ) → Moment d.known w n → word_of (known_access d.known (Handle h)) ≡ w → FitsFound h n
+moment_fits t d h at w n m e =
+    subst (FitsFound h) (ap m.lives.at e ∙ sym m.number_is) (lives_fits d.known m.lives h at.stage_is).0
+
+-- a CPU in its second pass, between two calls
+pub record Running2 {H : Type 0} (leads : H → Heard → H → Type 0) (t : TableId) (before d : SeatValue) (here : Option ℕ) (counts : List ℕ) (first now : H) : Type 0 where
+  pub at : InHandle t d (second_on here)
+  pub ran : HasRunAll leads before d counts first now
+
+-- three loads after one another, of a record of the second pass
+module _ (t : TableId) (d d1 d2 d3 : SeatValue) (id n func info : ℕ) (at : InHandle t d (handle.AsyncNext id)) (l1 : HasLoad t d d1 (Next id) n) where
+  pub async_func_at : InHandle t d1 (handle.AsyncFunc id (record_at n))
+  async_func_at = next_goes t d d1 (handle.AsyncNext id) at id n (handle.AsyncFunc id (record_at n)) l1 refl
+
+  module _ (l2 : HasLoad t d1 d2 (Func id) func) where
+    pub async_info_at : InHandle t d2 (handle.AsyncInfo id (record_at n) func)
+    async_info_at = in_handle_then t d2 (handle.AsyncInfo id (record_at n) func) (goes_known (handle.AsyncFunc id (record_at n)) func d1.known) at.sized l2.table_is l2.lives (l2.known_is ∙ func_found_is d1.known (handle.AsyncFunc id (record_at n)) id func async_func_at.stage_is) refl
+
+    module _ (l3 : HasLoad t d2 d3 (Info id) info) where
+      pub async_known : d3.known ≡ record (d.known) { stage = d3.known.stage }
+      async_known =
+          let k1 = next_known t d d1 (handle.AsyncNext id) at id n l1 in
+          let k2 = l2.known_is ∙ (func_found_is d1.known (handle.AsyncFunc id (record_at n)) id func async_func_at.stage_is ∙ ap (goes_known (handle.AsyncFunc id (record_at n)) func) k1) in
+          let k3 = l3.known_is ∙ (info_found_is d2.known (handle.AsyncInfo id (record_at n) func) id info async_info_at.stage_is ∙ ap (goes_known (handle.AsyncInfo id (record_at n) func) info) k2) in
+          k3 ∙ ap (λ (x : Option Stage). record (d.known) { stage = x }) (sym (ap (λ (u : Known). u.stage) k3))
+
+-- what has run has run still, after steps that tell nothing
+pub run_kept : {H : Type 0} (leads : H → Heard → H → Type 0) (before d d' : SeatValue) (counts : List ℕ) (p q : H) → HasRunAll leads before d counts p q → d'.table ≡ d.table → d'.known ≡ record (d.known) { stage = d'.known.stage } → HasRunAll leads before d' counts p q
+run_kept {H} leads before d d' counts p q r table k = record {
+  calls = r.calls;
+  drain = ap (λ (u : Known). u.drain) k ∙ r.drain;
+  cpu = (λ i. cpu_of (record { table = table i; known = k i })) ∙ (r.cpu ∙ (λ i. runs r.calls (sym k i).part (cpu_of before)));
+  counts_are = record { sized = r.counts_are.sized; are = λ source l. r.counts_are.are source l ∙ ap (λ (u : Known). length (calls_from source u.part.ran) % 2 ^ 64) (sym k) };
+  grows = r.grows;
+}
+
+-- two loads after one another, of a SYNC record of the first pass
+module _ (t : TableId) (d d1 d2 : SeatValue) (walk : Walk) (id : ℕ) (next : Option ℕ) (func info : ℕ) (at : InHandle t d (handle.LoadFunc walk id next)) (l1 : HasLoad t d d1 (Func id) func) where
+  pub sync_info_at : InHandle t d1 (handle.LoadInfo walk id next func)
+  sync_info_at = in_handle_then t d1 (handle.LoadInfo walk id next func) (goes_known (handle.LoadFunc walk id next) func d.known) at.sized l1.table_is l1.lives (l1.known_is ∙ func_found_is d.known (handle.LoadFunc walk id next) id func at.stage_is) refl
+
+  module _ (l2 : HasLoad t d1 d2 (Info id) info) where
+    pub sync_known : d2.known ≡ goes_known (handle.LoadInfo walk id next func) info (goes_known (handle.LoadFunc walk id next) func d.known)
+    sync_known = l2.known_is ∙ (info_found_is d1.known (handle.LoadInfo walk id next func) id info sync_info_at.stage_is ∙ ap (goes_known (handle.LoadInfo walk id next func) info) (l1.known_is ∙ func_found_is d.known (handle.LoadFunc walk id next) id func at.stage_is))
+
+    pub sync_goes : (h : HandleStage) → unlink_after walk.last walk (record { id = id; class = Sync; func = func; info = info }) next ≡ h → InHandle t d2 h
+    sync_goes h e = in_handle_then t d2 h (goes_known (handle.LoadInfo walk id next func) info (goes_known (handle.LoadFunc walk id next) func d.known)) at.sized l2.table_is l2.lives sync_known (ap (λ (x : HandleStage). Some (Handle x)) e)
+
+-- steps that change what a CPU knows by its stage alone, after others that did
+pub kept_on : (v v1 v2 : Known) → v1 ≡ record v { stage = v1.stage } → v2 ≡ record v1 { stage = v2.stage } → v2 ≡ record v { stage = v2.stage }
+kept_on v v1 v2 k1 k2 = k2 ∙ ap (λ (u : Known). record u { stage = v2.stage }) k1
+
+-- a CPU in its first pass, between two records
+pub record Running1 {H : Type 0} (leads : H → Heard → H → Type 0) (t : TableId) (before d : SeatValue) (walk : Walk) (here : Option ℕ) (counts : List ℕ) (first now : H) : Type 0 where
+  pub at : InHandle t d (first_on walk here)
+  pub ran : HasRunAll leads before d counts first now
+
+-- two loads after one another, by which a CPU in its first pass learns the class of a record
+module _ (t : TableId) (d d1 d2 : SeatValue) (walk : Walk) (id n flags : ℕ) (at : InHandle t d (handle.LoadNext walk id)) (l1 : HasLoad t d d1 (Next id) n) where
+  pub sync_flags_at : InHandle t d1 (handle.LoadFlags walk id (record_at n))
+  sync_flags_at = next_goes t d d1 (handle.LoadNext walk id) at id n (handle.LoadFlags walk id (record_at n)) l1 refl
+
+  module _ (l2 : HasLoad t d1 d2 (Flags id) flags) where
+    found_lock : flags % 2 ≡ 1
+    found_lock = ap (λ (k : ℕ). k % 2) l2.moment.number_is ∙ lives_locked d1.known l2.moment.lives walk id (record_at n) sync_flags_at.stage_is
+
+    class_known : d2.known ≡ goes_known (handle.LoadFlags walk id (record_at n)) flags (goes_known (handle.LoadNext walk id) n d.known)
+    class_known =
+        l2.known_is ∙ (flags_found_is d1.known (handle.LoadFlags walk id (record_at n)) id flags sync_flags_at.stage_is found_lock
+        ∙ ap (goes_known (handle.LoadFlags walk id (record_at n)) flags) (next_known t d d1 (handle.LoadNext walk id) at id n l1))
+
+    pub class_goes : (h : HandleStage) → by_class (class_of flags) walk id (record_at n) ≡ h → InHandle t d2 h
+    class_goes h e = in_handle_then t d2 h (goes_known (handle.LoadFlags walk id (record_at n)) flags (goes_known (handle.LoadNext walk id) n d.known)) at.sized l2.table_is l2.lives class_known
+        (ap (λ (x : HandleStage). Some (Handle x)) e)
+
+    pub class_kept : d2.known ≡ record (d.known) { stage = d2.known.stage }
+    class_kept = class_known ∙ ap (λ (x : Option Stage). record (d.known) { stage = x }) (sym (ap (λ (u : Known). u.stage) class_known))

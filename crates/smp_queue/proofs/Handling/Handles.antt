@@ -1,0 +1,26 @@
+-- A CPU inside handle: when it may make its next step, and where it stands after it.
+use Rattle.std.proofs.Common.{◌≡◌, Some, ap, ◌∙◌, subst}
+use Rattle.atomic_table.specs.Seated.{TableId}
+use Rattle.smp_words.specs.Access.{word_of}
+use Rattle.smp_call_steps.specs.Known.{known_access, Lives}
+use Rattle.smp_call_steps.proofs.Knows.Handling.{lives_aims, lives_in_table}
+use Rattle.smp_queue.specs.Names.{Access, Known, HandleStage, Handle}
+use Rattle.smp_queue.specs.Cells.{cells, HasCell}
+use Rattle.smp_queue.specs.Seat.{SeatValue, MayAccess, Ready, InHandle, IsApartFromCalls}
+use Rattle.smp_queue.proofs.TheRule.Cells.{has_cell_of}
+
+module _ (t : TableId) (d : SeatValue) (stage : HandleStage) (h : InHandle t d stage) where
+  pub in_handle_can : (access : Access) → known_access d.known (Handle stage) ≡ access → MayAccess d.known access
+  in_handle_can access is = record { stage = Handle stage; aims = lives_aims d.known h.lives stage h.stage_is; is_access = is }
+
+  pub in_handle_cell : (access : Access) → known_access d.known (Handle stage) ≡ access → HasCell (word_of access)
+  in_handle_cell access is =
+      subst (λ (x : Access). HasCell (word_of x)) is (has_cell_of (word_of (known_access d.known (Handle stage))) (lives_in_table d.known h.lives stage h.stage_is))
+
+  -- a step that begins, counts and ends no call
+  pub in_handle_ready : (access : Access) → IsApartFromCalls (Handle stage) → known_access d.known (Handle stage) ≡ access → Ready t d access
+  in_handle_ready access apart is = record { table_is = h.table_is; sized = h.sized; can = record { stage = Handle stage; aims = lives_aims d.known h.lives stage h.stage_is; is_access = is }; apart = apart; cell = in_handle_cell access is }
+
+-- after a step of its CPU
+pub in_handle_then : (t : TableId) (d' : SeatValue) (stage : HandleStage) (v : Known) → t.words ≡ cells → d'.table ≡ t → Lives d'.known → d'.known ≡ v → v.stage ≡ Some (Handle stage) → InHandle t d' stage
+in_handle_then t d' stage v sized table lives is at = record { table_is = table; sized = sized; stage_is = ap (λ (u : Known). u.stage) is ∙ at; lives = lives }

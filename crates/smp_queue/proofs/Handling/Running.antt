@@ -1,0 +1,67 @@
+-- A CPU that runs its batch: what it knows after each call.
+use Rattle.std.proofs.Common.{◌≡◌, ℕ, ◌+◌, ◌%◌, ◌^◌, ◌<◌, Option, List, [], ◌∷◌, ◌++◌, length, length-set, get_or, set, append-nil, append_assoc, sym, refl, ap, ◌∙◌, inl, inr, arith}
+use Rattle.std.proofs.lemmas.List.{get_or-set_same, get_or-set_other}
+use Rattle.std.proofs.lemmas.Bool.{cases_eq}
+use Rattle.std.proofs.lemmas.Fn.{FoldsTo-push}
+use Rattle.atomic_table.specs.Seated.{TableId}
+use Rattle.smp_words.specs.Size.{records, owner}
+use Rattle.smp_call_steps.specs.Histories.{calls_from, counted_call}
+use Rattle.smp_queue.specs.Names.{Call, Known, Part, HandleStage, Heard}
+use Rattle.smp_call_steps.specs.Known.{ran_tally}
+use Rattle.smp_call_steps.specs.Handling.{begun_async, ended_call, rest_of}
+use Rattle.smp_words.proofs.Sizes.{owner-below}
+use Rattle.smp_call_steps.proofs.State.Tallies.{count-same, count-other}
+use Rattle.smp_queue.specs.Cpu.{CpuValue, cpu_of}
+use Rattle.smp_queue.specs.Seat.{SeatValue, InHandle}
+use Rattle.smp_queue.specs.Handling.{heard_of, AreRan, runs, HasRun, HasRunAll}
+
+-- a call that runs is not counted yet
+pub tally_running : (v w : Known) (source : ℕ) → w.part.ran ≡ v.part.ran → counted_call w.part.running ≡ [] → ran_tally w.part source ≡ length (calls_from source v.part.ran) % 2 ^ 64
+tally_running v w source r n =
+    (λ i. length (calls_from source (r i ++ n i)) % 2 ^ 64) ∙ ap (λ (calls : List Call). length (calls_from source calls) % 2 ^ 64) (append-nil v.part.ran)
+
+one_more : (n len len' : ℕ) → n ≡ len % 2 ^ 64 → len' ≡ len + 1 → (n + 1) % 2 ^ 64 ≡ len' % 2 ^ 64
+one_more n len len' e f = omega arith
+
+-- one call more has run
+pub more_ran : (counts counts' : List ℕ) (v w : Known) (call : Call) → AreRan counts v → call.id < records → w.part.ran ≡ v.part.ran ++ call ∷ [] →
+    counts' ≡ set counts (owner call.id) ((get_or counts (owner call.id) 0 + 1) % 2 ^ 64) → AreRan counts' w
+more_ran counts counts' v w call a in_range ran is = rw is (record {
+  sized = length-set counts (owner call.id) ((get_or counts (owner call.id) 0 + 1) % 2 ^ 64) ∙ a.sized;
+  are = λ source l. elim (cases_eq source (owner call.id)) [
+    | inl e ↦ rw e (get_or-set_same counts (owner call.id) ((get_or counts (owner call.id) 0 + 1) % 2 ^ 64) 0 (let s = a.sized in let b = owner-below call.id in_range in omega arith)
+        ∙ one_more (get_or counts (owner call.id) 0) (length (calls_from (owner call.id) v.part.ran)) (length (calls_from (owner call.id) w.part.ran)) (a.are (owner call.id) (owner-below call.id in_range))
+        (ap (λ (calls : List Call). length (calls_from (owner call.id) calls)) ran ∙ count-same (owner call.id) v.part.ran call refl))
+    | inr ne ↦ get_or-set_other counts (owner call.id) source ((get_or counts (owner call.id) 0 + 1) % 2 ^ 64) 0 ne
+        ∙ (a.are source l ∙ ap (λ (n : ℕ). n % 2 ^ 64) (sym (ap (λ (calls : List Call). length (calls_from source calls)) ran ∙ count-other source v.part.ran call (λ e. ne (sym e)))))
+  ];
+})
+
+-- a call has begun and ended
+module _ {H : Type 0} (leads : H → Heard → H → Type 0) (t : TableId) (s s' : SeatValue) (stage : HandleStage) (call : Call) (next : Option ℕ) (rest : List Call) (counts counts' : List ℕ) (before after : H) where
+  pub has_run : s.table ≡ t → AreRan counts s.known → call.id < records → s.known.part.batch ≡ call ∷ rest → s'.known ≡ ended_call stage call (begun_async call next s.known) →
+      InHandle t s' stage → counts' ≡ set counts (owner call.id) ((get_or counts (owner call.id) 0 + 1) % 2 ^ 64) → leads before (heard_of call) after →
+      HasRun leads t s s' stage call counts' before after
+  has_run table a in_range batch known at is heard = record {
+    at = at;
+    drain = ap (λ (u : Known). u.drain) known;
+    batch = batch ∙ ap (λ (calls : List Call). call ∷ calls) (sym (ap (λ (u : Known). u.part.batch) known ∙ ap rest_of batch));
+    cpu = (λ i. cpu_of (record { table = (at.table_is ∙ sym table) i; known = known i })) ∙ (λ i. runs (call ∷ []) (sym known i).part (cpu_of s));
+    counts_are = more_ran counts counts' s.known s'.known call a in_range (ap (λ (u : Known). u.part.ran) known) is;
+    heard_it = heard;
+  }
+
+-- calls after calls
+pub more_calls : (calls more : List Call) (now : Part) (c : CpuValue) → record c { part = record (c.part) { batch = now.batch; running = now.running; ran = (c.part.ran ++ calls) ++ more } } ≡ runs (calls ++ more) now c
+more_calls calls more now c = λ i. record c { part = record (c.part) { batch = now.batch; running = now.running; ran = append_assoc c.part.ran calls more i } }
+
+-- one call more after some
+pub more_run : {H : Type 0} (leads : H → Heard → H → Type 0) (t : TableId) (before d d' : SeatValue) (stage : HandleStage) (counts counts' : List ℕ) (first now now' : H) (call : Call) →
+    HasRunAll leads before d counts first now → HasRun leads t d d' stage call counts' now now' → HasRunAll leads before d' counts' first now'
+more_run {H} leads t before d d' stage counts counts' first now now' call r h = record {
+  calls = r.calls ++ call ∷ [];
+  drain = h.drain ∙ r.drain;
+  cpu = h.cpu ∙ (ap (runs (call ∷ []) d'.known.part) r.cpu ∙ more_calls r.calls (call ∷ []) d'.known.part (cpu_of before));
+  counts_are = h.counts_are;
+  grows = FoldsTo-push (λ p x q. leads p (heard_of x) q) first r.calls now call now' r.grows h.heard_it;
+}

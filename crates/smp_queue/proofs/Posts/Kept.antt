@@ -1,0 +1,108 @@
+-- What a CPU keeps between two calls stays over each of them.
+use Rattle.std.proofs.Common.{◌≡◌, ℕ, ◌+◌, ◌%◌, ◌^◌, ◌<◌, Bool, true, false, cond, Some, List, [], ◌∷◌, ◌++◌, length, get_or, set, replicate, length-set, length-append, sym, refl, ap, ◌∙◌, subst, inl, inr, arith}
+use Rattle.std.proofs.lemmas.List.{append-nil, get_or-set_same, get_or-set_other, length-replicate}
+use Rattle.std.proofs.lemmas.Bool.{cases_eq}
+use Rattle.smp_words.specs.Size.{cpus, records}
+use Rattle.smp_call_steps.specs.Stands.{posted}
+use Rattle.smp_call_steps.specs.Histories.{Marked, mark, sent_to, calls_from}
+use Rattle.smp_call_steps.specs.Parts.{part_sent}
+use Rattle.smp_call_steps.specs.Known.{fresh, confirmed_known, queued_known, outside_known, standing}
+use Rattle.smp_call_steps.proofs.Basics.Lists.{sent_to-push, one_if-same, one_if-other}
+use Rattle.smp_call_steps.proofs.Basics.Rows.{length-row}
+use Rattle.smp_words.proofs.Zeros.{get_or-same}
+use Rattle.smp_queue.specs.Names.{Call, Known, Posting}
+use Rattle.smp_queue.specs.Names.post
+use Rattle.smp_queue.specs.Seat.{IsCounting, uncounted, counted}
+use Rattle.smp_queue.specs.Cpu.{IsKept}
+
+pub kept_fresh : (v : Known) (number : ℕ) → v ≡ fresh number → number < cpus → IsKept v number (replicate cpus 0) (replicate cpus 0)
+kept_fresh v number e l = record {
+  number_is = ap (λ (x : Known). x.number) e;
+  below = l;
+  outside = ap (λ (x : Known). x.stage) e;
+  records_sized = ap (λ (x : Known). length x.part.confirmed) e ∙ length-row records (λ _. true);
+  queued_sized = length-replicate {A = ℕ} cpus 0;
+  ran_sized = length-replicate {A = ℕ} cpus 0;
+  queued_are = λ to _. get_or-same 0 cpus to ∙ ap (λ (x : Known). length (sent_to to x.part.sent) % 2 ^ 64) (sym e);
+  ran_are = λ source _. get_or-same 0 cpus source ∙ ap (λ (x : Known). length (calls_from source x.part.ran) % 2 ^ 64) (sym e);
+}
+
+module _ (v : Known) (number : ℕ) (queued ran : List ℕ) (k : IsKept v number queued ran) where
+  pub kept_confirmed : (id : ℕ) → IsKept (confirmed_known id v) number queued ran
+  kept_confirmed id = record {
+    number_is = k.number_is;
+    below = k.below;
+    outside = k.outside;
+    records_sized = length-set v.part.confirmed id true ∙ k.records_sized;
+    queued_sized = k.queued_sized;
+    ran_sized = k.ran_sized;
+    queued_are = k.queued_are;
+    ran_are = k.ran_are;
+  }
+
+  pub kept_sent : (to : ℕ) → IsKept (record v { part = part_sent to v.part }) number queued ran
+  kept_sent to = record {
+    number_is = k.number_is;
+    below = k.below;
+    outside = k.outside;
+    records_sized = k.records_sized;
+    queued_sized = k.queued_sized;
+    ran_sized = k.ran_sized;
+    queued_are = k.queued_are;
+    ran_are = k.ran_are;
+  }
+
+  pub kept_outside : IsKept (outside_known v) number queued ran
+  kept_outside = record {
+    number_is = k.number_is;
+    below = k.below;
+    outside = refl;
+    records_sized = k.records_sized;
+    queued_sized = k.queued_sized;
+    ran_sized = k.ran_sized;
+    queued_are = k.queued_are;
+    ran_are = k.ran_are;
+  }
+
+  pub kept_unless : (b : Bool) (id : ℕ) → IsKept (cond b v (confirmed_known id v)) number queued ran
+  kept_unless true id = k
+  kept_unless false id = kept_confirmed id
+
+  one_more : (n len : ℕ) → n ≡ len % 2 ^ 64 → (n + 1) % 2 ^ 64 ≡ (len + 1) % 2 ^ 64
+  one_more n len e = omega arith
+
+  -- a call more that was queued is counted
+  pub kept_appended : (to : ℕ) (first : Bool) (call : Call) → to < cpus →
+      IsKept (queued_known call to first v) number (set queued to ((get_or queued to 0 + 1) % 2 ^ 64)) ran
+  kept_appended to first call below = record {
+    number_is = k.number_is;
+    below = k.below;
+    outside = refl;
+    records_sized = length-set v.part.confirmed call.id false ∙ k.records_sized;
+    queued_sized = length-set queued to ((get_or queued to 0 + 1) % 2 ^ 64) ∙ k.queued_sized;
+    ran_sized = k.ran_sized;
+    queued_are = λ cpu l. elim (cases_eq cpu to) [
+      | inl e ↦ rw e (get_or-set_same queued to ((get_or queued to 0 + 1) % 2 ^ 64) 0 (let q = k.queued_sized in omega arith) ∙ (one_more (get_or queued to 0) (length (sent_to to v.part.sent)) (k.queued_are to below) ∙
+          ap (λ n. n % 2 ^ 64) (sym (ap length (sent_to-push to v.part.sent (record { call = call; to = to; is_first = first }) ∙ ap (λ (ms : List Marked). sent_to to v.part.sent ++ ms) (one_if-same to to (mark first call) refl)) ∙ length-append (sent_to to v.part.sent) (mark first call ∷ [])))))
+      | inr ne ↦ get_or-set_other queued to cpu ((get_or queued to 0 + 1) % 2 ^ 64) 0 ne ∙ (k.queued_are cpu l ∙
+          ap (λ n. n % 2 ^ 64) (sym (ap length (sent_to-push cpu v.part.sent (record { call = call; to = to; is_first = first }) ∙ (ap (λ (ms : List Marked). sent_to cpu v.part.sent ++ ms) (one_if-other to cpu (mark first call) (λ e. ne (sym e))) ∙ append-nil (sent_to cpu v.part.sent))))))
+    ];
+    ran_are = k.ran_are;
+  }
+
+-- of a CPU that queued a call
+pub kept_posted : (v w v' : Known) (number : ℕ) (queued ran : List ℕ) (p : Posting) (first : Bool) → IsKept v number queued ran → p.to < cpus →
+    w ≡ standing (uncounted p) post.Count v → v' ≡ queued_known (posted p) p.to first w →
+    IsKept v' number (set queued p.to ((get_or queued p.to 0 + 1) % 2 ^ 64)) ran
+kept_posted v w v' number queued ran p first k l e f =
+    let known : v' ≡ queued_known (posted p) p.to first v = f ∙ ap (queued_known (posted p) p.to first) e in
+    subst (λ (u : Known). IsKept u number (set queued p.to ((get_or queued p.to 0 + 1) % 2 ^ 64)) ran) (sym known) (kept_appended v number queued ran k p.to first (posted p) l)
+
+-- the counts of a CPU that is about to count a call
+pub kept_counting : (v w : Known) (number to count : ℕ) (queued ran : List ℕ) (p : Posting) → IsKept v number queued ran → p.to ≡ to → to < cpus → count ≡ get_or queued to 0 →
+    w ≡ standing (uncounted p) post.Count v → IsCounting w p number count
+kept_counting v w number to count queued ran p k e l is stands = record {
+  stage = ap (λ (u : Known). u.stage) stands;
+  number_is = ap (λ (u : Known). u.number) stands ∙ k.number_is;
+  count_is = is ∙ (k.queued_are to l ∙ (ap (λ (n : ℕ). length (sent_to n v.part.sent) % 2 ^ 64) (sym e) ∙ ap (λ (u : Known). length (sent_to p.to u.part.sent) % 2 ^ 64) (sym stands)));
+}

@@ -1,0 +1,96 @@
+-- A CPU's own records, and what a post leaves of its CPU.
+use Rattle.std.proofs.Common.{◌≡◌, ℕ, zero, suc, ◌^◌, ◌<◌, Bool, true, false, not, ◌||◌, ◌==◌, nat_lt, cond, Some, None, List, [], ◌∷◌, ◌++◌, length, length-set, get_or, set, sym, refl, ap, ◌∙◌, subst, arith}
+use Rattle.std.proofs.lemmas.Bool.{or_parts, ltb-true}
+use Rattle.std.proofs.lemmas.List.{get_or-set_same}
+use Rattle.atomic_table.specs.Seated.{TableId}
+use Rattle.smp_words.specs.Size.{cpus, records, records_of_one, record_of, owner}
+use Rattle.smp_call_steps.specs.Start.{command_refusal}
+use Rattle.smp_call_steps.specs.Stands.{posted}
+use Rattle.smp_call_steps.specs.Parts.{part_queued}
+use Rattle.smp_call_steps.specs.Known.{posting_of, standing, confirmed_known, queued_known}
+use Rattle.smp_words.proofs.Sizes.{owner-of_record, record_of-below}
+use Rattle.smp_queue.specs.Names.{Class, Known, Posting}
+use Rattle.smp_queue.specs.Names.post
+use Rattle.smp_words.specs.declared.command.Command.TheVariants as command
+use Rattle.smp_mask.specs.declared.error.SmpError.{SmpError}
+use Rattle.smp_queue.specs.Cells.{cells}
+use Rattle.smp_queue.specs.Seat.{SeatValue, OwnsRecord, IsMine, uncounted}
+use Rattle.smp_queue.specs.Cpu.{CpuValue, IsKept, MayQueue, cpu_of, confirms, posts}
+
+pub at_own : (table : TableId) (d : SeatValue) (number k id : ℕ) (queued ran : List ℕ) → IsKept d.known number queued ran → d.table ≡ table → table.words ≡ cells → k < records_of_one → id ≡ record_of number k → OwnsRecord table d id
+at_own table d number k id queued ran m is sized l e =
+    let n = m.number_is in
+    let b = m.below in
+    rw e (record {
+      table_is = is;
+      sized = sized;
+      me_in_range = omega arith;
+      owned = owner-of_record number k b l ∙ sym n;
+      in_range = record_of-below number k b l;
+    })
+
+then_none : (b : Bool) (e : SmpError) → cond b (Some e) None ≡ None → b ≡ false
+then_none true e h = cc
+then_none false e h = refl
+
+not_false : (b : Bool) → not b ≡ false → b ≡ true
+not_false true e = refl
+not_false false e = cc
+
+-- a post that is not misused is by a record of its CPU
+pub small_record : (k to number tries : ℕ) (fits : Bool) → ((((not (nat_lt k records_of_one) || tries == 0) || to == number)) || fits) ≡ false → k < records_of_one
+small_record k to number tries fits e =
+    let a = or_parts ((not (nat_lt k records_of_one) || tries == 0) || to == number) fits e in
+    let b = or_parts (not (nat_lt k records_of_one) || tries == 0) (to == number) a.0 in
+    let c = or_parts (not (nat_lt k records_of_one)) (tries == 0) b.0 in
+    ltb-true k records_of_one (not_false (nat_lt k records_of_one) c.0)
+
+pub allowed_record : (nr online number k to func info tries : ℕ) (class : Class) → command_refusal nr online number (command.Post k to class func info tries) ≡ None → k < records_of_one
+allowed_record nr online number k to func info tries class e = small_record k to number tries _ (then_none _ _ e)
+
+-- once a CPU's record k is seen confirmed, it may queue a call by it
+pub may_queue : (s s' : SeatValue) (number k id to func info : ℕ) (class : Class) (queued ran : List ℕ) → IsKept s.known number queued ran → k < records_of_one → id ≡ record_of number k →
+    to < cpus → func < 2 ^ 16 → info < 2 ^ 64 → s'.known ≡ confirmed_known id s.known → MayQueue (cpu_of s') (posting_of id class func info to)
+may_queue s s' number k id to func info class queued ran m l e below f i known =
+    let n : s'.known.number ≡ number = ap (λ (u : Known). u.number) known ∙ m.number_is in
+    let b = m.below in
+    let sized = m.records_sized in
+    let range = record_of-below number k b l in
+    let in_range : id < records = omega arith in
+    record {
+      below = omega arith;
+      owned = ap owner e ∙ (owner-of_record number k b l ∙ sym n);
+      is_call = record { in_range = in_range; func = f; info = i };
+      to_in_range = below;
+      confirmed = ap (λ (u : Known). get_or u.part.confirmed id false) known ∙ get_or-set_same s.known.part.confirmed id true false (omega arith);
+    }
+
+-- the record is the CPU's own, as its seat shows
+pub mine_of : (table : TableId) (s : SeatValue) (c : CpuValue) (p : Posting) → cpu_of s ≡ c → c.table ≡ table → table.words ≡ cells → MayQueue c p → IsMine table s p
+mine_of table s c p view is sized m =
+    let n : s.known.number ≡ c.number = ap (λ (x : CpuValue). x.number) view in
+    let below = m.below in
+    let call = m.is_call in
+    record {
+      at = record { table_is = ap (λ (x : CpuValue). x.table) view ∙ is; sized = sized; me_in_range = omega arith; owned = m.owned ∙ sym n; in_range = call.in_range };
+      is_call = call;
+      to_in_range = m.to_in_range;
+    }
+
+set_twice : {A : Type 0} (xs : List A) (i : ℕ) (x y : A) → set (set xs i x) i y ≡ set xs i y
+set_twice [] i x y = refl
+set_twice (z ∷ zs) zero x y = refl
+set_twice (z ∷ zs) (suc i) x y = ap (λ (ws : List _). z ∷ ws) (set_twice zs i x y)
+
+-- what a CPU leaves that has queued the call of this post
+pub posts_then : (s s' : SeatValue) (w : Known) (old new : CpuValue) (k to func info : ℕ) (class : Class) (p : Posting) (first : Bool) → cpu_of s ≡ new → new ≡ confirms k old →
+    p ≡ posting_of (record_of old.number k) class func info to → s'.table ≡ old.table → w ≡ standing (uncounted p) post.Count s.known → s'.known ≡ queued_known (posted p) p.to first w →
+    cpu_of s' ≡ posts k to class func info first old
+posts_then s s' w old new k to func info class p first view confirmed posting table stands queued =
+    let id = record_of old.number k in
+    let call : Posting = posting_of id class func info to in
+    let seen : cpu_of s ≡ confirms k old = view ∙ confirmed in
+    let known : s'.known ≡ queued_known (posted p) p.to first s.known = queued ∙ ap (queued_known (posted p) p.to first) stands in
+    (λ i. cpu_of (record { table = table i; known = known i })) ∙
+    ((λ i. record { table = old.table; number = (seen i).number; part = part_queued (posted (posting i)) (posting i).to first (seen i).part }) ∙
+    (λ i. record old { part = record (part_queued (posted call) to first old.part) { confirmed = set_twice old.part.confirmed id true false i } }))
