@@ -8,3 +8,5 @@ pub mod Steps
 pub mod Knows
 -- the machine: a list of words, and a list of controls
 pub mod Machine
+-- the laws
+pub mod Promises

@@ -8,4 +8,6 @@ pub mod Places
 pub mod Tallies
 pub mod Counts
 pub mod QueueOrder
+pub mod Classes
+pub mod HaveRun
 pub mod Drained

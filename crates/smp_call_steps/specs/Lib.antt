@@ -18,10 +18,14 @@ pub mod Shows
 pub mod Counts
 pub mod BatchLinks
 pub mod QueueOrder
+pub mod Classes
+pub mod HaveRun
 -- what a CPU knows
 pub mod Parts
 pub mod Known
 pub mod Handling
+-- the laws
+pub mod Promises
 -- the machine: a list of words, and a list of controls
 pub mod Value
 pub mod Sound

@@ -30,7 +30,7 @@ fits_many nr to class below = elim (cases_lt to FIRST_TARGETS) [
       le-ltb (to + 4) FIRST_OF_ONE (omega arith), eq-eqb (to + 4) (to + 4) refl, lt-ltb to nr below) refl
 ]
 
-small_many : (to : ℕ) → to < cpus → many_record to < records_of_one
+pub small_many : (to : ℕ) → to < cpus → many_record to < records_of_one
 small_many to below = elim (cases_lt to FIRST_TARGETS) [
   | inl low ↦ rw (lt-ltb to FIRST_TARGETS low) (omega arith)
   | inr high ↦ rw (le-ltb to FIRST_TARGETS high) (omega arith)

@@ -16,3 +16,4 @@ pub mod Loops
 pub mod Passes
 -- a call to many, out of its parts
 pub mod Parts
+pub mod Ended

@@ -9,3 +9,5 @@ pub mod Handles
 pub mod Families
 -- what the parts of a call to many leave
 pub mod Rounds
+-- what a call that waits says of the calls that it made
+pub mod Ended

@@ -7,6 +7,7 @@ ghost use Rattle.smp_words.specs.Limits.{AreLimits};
 ghost use Rattle.smp_queue.specs.Handling.{heard};
 ghost use Rattle.smp_calls.specs.Records.{many_call, class_for as class_in};
 ghost use Rattle.smp_calls.specs.Targets.{is_target, remote};
+ghost use Rattle.smp_calls.specs.Ended.{HaveEnded};
 ghost use Rattle.smp_calls.specs.Families.{IsSized, CallsMany};
 ghost use Rattle.smp_calls.specs.Rounds.{WaitsFor, Picks, HearsIf};
 
@@ -16,6 +17,7 @@ use crate::records::class_for;
 use crate::target::targets;
 use smp_mask::CpuMask;
 use smp_queue::{CallCpu, CallTable, Handler};
+use smp_words::call::Class;
 use std::alloc::Allocator;
 use std::sync::Wait;
 
@@ -114,12 +116,14 @@ pub fn call_many<A: Allocator, R: Wait, H: Handler>(
     requires { me.old.table ≡ table.now.table }
     ensures targets { (c : ℕ) → has result c ≡ is_target mask table.now.online me.old.number false c }
     ensures calls { CallsMany H.leads me.old handler.old me.new handler.new (members result) (class_in wait) func info None wait }
+    ensures ended { wait ≡ true → HaveEnded me.new (many_call me.old.number Class.Sync func info) (members result) }
 {
     let others = targets(mask, table.online(), me.number(), false);
     let class = class_for(wait);
     let job = Job { class, func, info };
     let called = queue_all(table, rt, me, handler, others, job, &|_, _| true);
     wait_all(table, rt, me, handler, called, wait);
+    me.is_shown();
     others
 }
 
@@ -145,6 +149,7 @@ pub fn each_cpu_cond<A: Allocator, R: Wait, H: Handler, C: Fn(u32, u64) -> bool>
     requires condition { (c : ℕ) → c < cpus → C.pre cond.now c info }
     ensures picks { Picks (λ c answer. C.post cond.now c info answer) (is_target mask table.now.online me.old.number true) result }
     ensures calls { CallsMany H.leads me.old handler.old me.new handler.new (remote me.old.number result) (class_in wait) func info (if has result me.old.number then Some (heard me.old.number func info) else None) wait }
+    ensures ended { wait ≡ true → HaveEnded me.new (many_call me.old.number Class.Sync func info) (remote me.old.number result) }
 {
     let this = me.number();
     let others = targets(mask, table.online(), this, false);
@@ -154,5 +159,6 @@ pub fn each_cpu_cond<A: Allocator, R: Wait, H: Handler, C: Fn(u32, u64) -> bool>
     let here = runs_here(mask, this, info, cond);
     call_if(handler, this, func, info, here);
     wait_all(table, rt, me, handler, called, wait);
+    me.is_shown();
     with_if(called, this, here)
 }

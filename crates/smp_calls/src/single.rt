@@ -1,7 +1,9 @@
 //! A call to one CPU.
 
-ghost use Rattle.std.specs.Prelude.{◌≡◌, ◌≢◌, true, false, None, Some, IfOk, IfErr};
+ghost use Rattle.std.specs.Prelude.{◌≡◌, ◌≢◌, true, false, None, Some, [], ◌∷◌, IfOk, IfErr};
 ghost use Rattle.smp_mask.specs.Mask.{has};
+ghost use Rattle.smp_calls.specs.Records.{call_by, single_record as single_record_in};
+ghost use Rattle.smp_calls.specs.Ended.{HaveEnded};
 ghost use Rattle.smp_calls.specs.Families.{IsSized, CallsOne, CallsHere, QueuesNone};
 
 use crate::queue::{Job, queue_and_send};
@@ -9,6 +11,7 @@ use crate::records::{ASYNC_RECORD, class_for, single_record};
 use crate::wait::wait_for;
 use smp_mask::SmpError;
 use smp_queue::{CallCpu, CallTable, Handler};
+use smp_words::call::Class;
 use std::alloc::Allocator;
 use std::sync::Wait;
 
@@ -97,6 +100,7 @@ pub fn call_single<A: Allocator, R: Wait, H: Handler>(
     ensures queued { IfOk result (λ _. dst ≢ me.old.number → (has table.now.online dst ≡ true) × CallsOne H.leads me.old handler.old me.new handler.new dst func info wait) }
     ensures here { IfOk result (λ _. dst ≡ me.old.number → CallsHere H.leads me.old handler.old me.new handler.new func info wait) }
     ensures refused { IfErr result (λ e. (e ≡ SmpError.NoCpu) × (dst ≢ me.old.number) × (has table.now.online dst ≡ false) × QueuesNone H.leads me.old handler.old me.new handler.new None wait) }
+    ensures ended { IfOk result (λ _. wait ≡ true → dst ≢ me.old.number → HaveEnded me.new (λ _. call_by me.old.number (single_record_in true) Class.Sync func info) (dst ∷ [])) }
 {
     if dst == me.number() {
         call_here(table, rt, me, handler, func, info, wait);
@@ -107,5 +111,6 @@ pub fn call_single<A: Allocator, R: Wait, H: Handler>(
         return Err(SmpError::NoCpu);
     }
     call_there(table, rt, me, handler, dst, func, info, wait);
+    me.is_shown();
     Ok(())
 }

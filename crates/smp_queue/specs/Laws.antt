@@ -1,17 +1,36 @@
 -- What a CPU's value says of running threads.
-use Rattle.std.specs.Prelude.{◌≡◌, ℕ}
+use Rattle.std.specs.Prelude.{◌≡◌, ℕ, ◌<◌, true, false, None, slice_index_or}
+use Rattle.std.specs.List.{AllByRecursion}
+use Rattle.smp_words.specs.Size.{owner, records}
 use Rattle.smp_call_steps.specs.Calls.{CallState}
 use Rattle.smp_call_steps.specs.Counts.{ConfirmedCallsRan}
+use Rattle.smp_call_steps.specs.HaveRun.{ConfirmedSyncCallsEnded, HasRunAt}
+use Rattle.smp_call_steps.specs.Known.{told_stage}
 use Rattle.smp_call_steps.specs.Shows.{Shows}
 use Rattle.smp_call_steps.specs.Stages.{ControlValue}
+use Rattle.smp_call_steps.specs.declared.place.RecPlace.TheVariants as place
 use Rattle.smp_queue.specs.Names.{Word}
 use Rattle.smp_queue.specs.Cpu.{CpuValue, cpu_in}
 
--- some words of the table show calls that keep all laws, of which this value is one CPU's part; calls by confirmed records have run
+-- each call that this CPU has sent, by a record whose last call it has seen confirmed, has run at its target
+abbrev pub HaveRunFor : CallState → CpuValue → Type 0
+HaveRunFor a c = AllByRecursion
+    (λ sending. slice_index_or c.part.confirmed sending.call.id false ≡ true → HasRunAt a sending.to sending.call sending.call.class) c.part.sent
+
+-- each record of this CPU whose last call it has seen confirmed is free
+abbrev pub AreFreeFor : CallState → CpuValue → Type 0
+AreFreeFor a c = (id : ℕ) → owner id ≡ c.number → id < records → slice_index_or c.part.confirmed id false ≡ true → a.place id ≡ place.Free
+
+-- Some words of the table show calls that keep all laws, of which this value is one CPU's part, outside a command; calls
+-- by confirmed records have run, those of all CPUs and those of this one.
 pub record IsShown (c : CpuValue) : Type 0 where
   pub calls : CallState
   pub at : Word → ℕ
   pub controls : ℕ → ControlValue
   pub shown : Shows calls at controls
+  pub outside : told_stage (controls c.number).stage ≡ None
+  pub are_free : AreFreeFor calls c
   pub confirmed_ran : ConfirmedCallsRan calls
+  pub confirmed_ended : ConfirmedSyncCallsEnded calls
+  pub have_run : HaveRunFor calls c
   pub view : c ≡ cpu_in c.table calls c.number

@@ -20,6 +20,7 @@ use crate::rule::Words;
 use crate::seat_view::SeatView;
 use atomic_table::Play;
 use smp_call_steps::handle::Walk;
+use smp_words::call::Class;
 use smp_words::size::owner_of;
 use smp_words::{Call, Word};
 use std::snapshot::Snapshot;
@@ -58,6 +59,7 @@ pub fn begin_sync<H: Handler>(
 ) -> Begun<H>
     requires me { seat.old.known.number ≡ number }
     requires at { InHandle words.now.table_id seat.old (handle.BeginSync walk call next) }
+    requires class { call.class ≡ Class.Sync }
     ensures at { InHandle words.now.table_id seat.new (handle.CountSync walk call next) }
     ensures known { seat.new.known ≡ begun_sync walk call next seat.old.known }
     ensures before { result.before.value ≡ handler.now }
@@ -120,6 +122,7 @@ pub fn begin_async<H: Handler>(
     handler: &H,
 ) -> Begun<H>
     requires at { InHandle words.now.table_id seat.old (handle.BeginAsync call next) }
+    requires class { call.class ≡ Class.Async }
     ensures at { InHandle words.now.table_id seat.new (handle.CountAsync call next) }
     ensures known { seat.new.known ≡ begun_async call next seat.old.known }
     ensures before { result.before.value ≡ handler.now }

@@ -46,6 +46,17 @@ impl CallCpu {
         }
     }
 
+    ghost use Rattle.smp_queue.specs.Laws.{IsShown};
+
+    /// At any time, and whatever calls were made with it, a CPU's value is its part of calls that some words of the table
+    /// show and that keep all laws, and the CPU stands outside any command. So a record whose last call it has seen
+    /// confirmed is free, and each call that it has sent by it has run at its target. It makes no step.
+    pub fn is_shown(&self)
+        ensures { IsShown self.now }
+    {
+        self.seat.is_shown();
+    }
+
     /// The CPU's number, which is below `NR_CPUS`. It has a confirmation of each record.
     pub fn number(&self) -> u32
         ensures number { result ≡ self.now.number }

@@ -16,14 +16,14 @@ use atomic_table::Play;
 use smp_words::Word;
 use std::marker::Model;
 
-/// The seat of one CPU, seen as its table and what the CPU knows.
+/// The seat of one CPU, seen as its table and what the CPU knows: at any time its part of calls that some words show.
 #[derive(Drop)]
 pub struct CpuSeat {
     pub(crate) raw: RawSeat,
 }
 
 impl Model for CpuSeat {
-    ghost use Rattle.std.specs.Prelude.{◌≡◌};
+    ghost use Rattle.smp_call_steps.specs.Known.{Lives};
     ghost use Rattle.smp_queue.specs.Seat.{SeatValue, IsCpuSeat};
     ghost use Rattle.smp_queue.specs.Rule.{known};
 
@@ -31,7 +31,16 @@ impl Model for CpuSeat {
 
     ghost view = { λ c. record { table = c.raw.table_id; known = known c.raw.me.0 } };
 
-    ghost invariant = { λ c. IsCpuSeat c.raw.me.0 };
+    ghost invariant = { λ c. IsCpuSeat c.raw.me.0 × Lives (known c.raw.me.0) };
+}
+
+impl CpuSeat {
+    /// What the CPU knows is its part of calls that some words show.
+    pub(crate) fn is_shown(&self)
+        ensures { Lives self.now.known }
+    {
+        let _ = &self.raw;
+    }
 }
 
 // What each kind of access tells. Only this page plays them.

@@ -17,7 +17,7 @@ use Rattle.smp_call_steps.specs.Names.{Call, Class, Sync, Async, Word, RecPlace,
 use Rattle.smp_call_steps.specs.Names.place
 use Rattle.smp_call_steps.specs.Names.post
 
-by-append : (id : ℕ) (xs ys : List Call) → calls_by id (xs ++ ys) ≡ calls_by id xs + calls_by id ys
+pub by-append : (id : ℕ) (xs ys : List Call) → calls_by id (xs ++ ys) ≡ calls_by id xs + calls_by id ys
 by-append id xs ys = sum_by-append (λ call. cond (call.id == id) 1 0) xs ys
 
 by-class : (id : ℕ) (class : Class) (call : Call) → calls_by id (if_sync class call) + calls_by id (if_async class call) ≡ calls_by id (call ∷ [])
@@ -50,7 +50,7 @@ by-orders id (batch ∷ rest) =
     omega arith
 
 -- a list of calls whose records are elsewhere has none by this record
-none_by : (places : ℕ → RecPlace) (p : RecPlace) (id : ℕ) (calls : List Call) → places id ≢ p → AllPlaced places p calls → calls_by id calls ≡ 0
+pub none_by : (places : ℕ → RecPlace) (p : RecPlace) (id : ℕ) (calls : List Call) → places id ≢ p → AllPlaced places p calls → calls_by id calls ≡ 0
 none_by places p id [] ne h = refl
 none_by places p id (call ∷ rest) ne h =
     let other : call.id ≢ id = λ e. ne (rw e at h.0.placed) in
@@ -75,10 +75,10 @@ stage_held places at s d me id (Some (Post p stage)) k h = post_held places at i
 stage_held places at s d me id _ k h = absurd h
 
 -- a record that is free, or held
-record IsOut (p : RecPlace) : Type 0 where
-  queue : (cpu : ℕ) → p ≢ place.Queued cpu
-  batch : (cpu : ℕ) → p ≢ place.Batch cpu
-  running : (cpu : ℕ) → p ≢ place.Running cpu
+pub record IsOut (p : RecPlace) : Type 0 where
+  pub queue : (cpu : ℕ) → p ≢ place.Queued cpu
+  pub batch : (cpu : ℕ) → p ≢ place.Batch cpu
+  pub running : (cpu : ℕ) → p ≢ place.Running cpu
 
 free_out : (p : RecPlace) → p ≡ place.Free → IsOut p
 free_out p e = record { queue = λ cpu f. cc; batch = λ cpu f. cc; running = λ cpu f. cc }
@@ -92,7 +92,7 @@ module _ {a : CallState} {at : Word → ℕ} {control : ℕ → ControlValue} (s
       let k : Holds (held_of (control source).stage) id = rw (s.held source) at h in
       stage_held a.place at (share_of a source) (control source).drain source id (control source).stage (s.stands source) k
 
-  confirmed_out : (id : ℕ) → a.confirmed (owner id) id ≡ true → IsOut (a.place id)
+  pub confirmed_out : (id : ℕ) → a.confirmed (owner id) id ≡ true → IsOut (a.place id)
   confirmed_out id e =
       elim (s.placed.settled (owner id) id refl e) [ inl f ↦ free_out (a.place id) f | inr h ↦ held_out (a.place id) (held_place (owner id) id h) ]
 

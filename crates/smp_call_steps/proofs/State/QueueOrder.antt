@@ -15,7 +15,7 @@ use Rattle.smp_call_steps.proofs.Basics.Alls.{every_right}
 use Rattle.smp_call_steps.proofs.State.Walks.{IsSync, all_sync, all_async}
 use Rattle.smp_call_steps.specs.Names.{Call, Class, Sync, Async, Word}
 
-of_class-append : (class : Class) (xs ys : List Call) → of_class class (xs ++ ys) ≡ of_class class xs ++ of_class class ys
+pub of_class-append : (class : Class) (xs ys : List Call) → of_class class (xs ++ ys) ≡ of_class class xs ++ of_class class ys
 of_class-append class [] ys = refl
 of_class-append class (x ∷ xs) ys =
     ap (λ (k : List Call). if_class class x.class x ++ k) (of_class-append class xs ys)
@@ -77,7 +77,7 @@ abbrev first_class : List Call → Class
 first_class [] = Sync
 first_class (call ∷ rest) = call.class
 
-Sync≢Async : Sync ≢ Async
+pub Sync≢Async : Sync ≢ Async
 Sync≢Async e = cc
 
 -- after an ASYNC call in SYNC calls that ASYNC calls follow come only ASYNC calls
@@ -90,7 +90,7 @@ after_async (x ∷ syncs) asyncs (y ∷ before) call after h k e is = after_asyn
 pub asyncs_last : (batch : List Call) → AsyncsLast batch
 asyncs_last batch before call after e is = after_async (sync_calls batch) (async_calls batch) before call after (all_sync batch) (all_async batch) e is
 
-orders_keep : (class : Class) (taken : List (List Call)) → of_class class (orders taken) ≡ of_class class (batches taken)
+pub orders_keep : (class : Class) (taken : List (List Call)) → of_class class (orders taken) ≡ of_class class (batches taken)
 orders_keep class [] = refl
 orders_keep class (batch ∷ rest) =
     of_class-append class (order batch) (orders rest) ∙

@@ -134,6 +134,14 @@ module _ (P : Call → Type 0) {nexts : ℕ → ℕ} {s : Share} {d : DrainValue
   pub ends_rest : AllByRecursion P rest
   ends_rest = every_right P front rest ends_batch
 
+-- the call that the first pass begins next is SYNC, and that of the second is ASYNC
+
+pub walks_sync : {nexts : ℕ → ℕ} {s : Share} {d : DrainValue} {walk : Walk} {here : ℕ} {call : Call} {rest : List Call} {running : Running} → Walks nexts s d walk here (call ∷ []) rest running → call.class ≡ Sync
+walks_sync {call} w = every_last IsSync w.begun call (subst (λ (xs : List Call). AllByRecursion IsSync xs) w.begun_are (all_sync w.passed))
+
+pub ends_async : {nexts : ℕ → ℕ} {s : Share} {d : DrainValue} {here : ℕ} {call : Call} {rest : List Call} {running : Running} → Ends nexts s d here (call ∷ []) rest running → call.class ≡ Async
+ends_async {s} {call} {rest} w = (every_right IsAsync w.begun (call ∷ rest) (subst (λ (xs : List Call). AllByRecursion IsAsync xs) w.whole (all_async s.last))).0
+
 -- the chain stays where a call of it begins, is counted or ends
 
 pub walks_stay : {nexts : ℕ → ℕ} {s : Share} {d : DrainValue} {walk : Walk} {here : ℕ} {front front' rest : List Call} {running running' : Running}

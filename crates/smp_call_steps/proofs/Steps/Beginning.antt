@@ -16,7 +16,7 @@ use Rattle.smp_call_steps.specs.Stands.{share_of, Stands, HandIs}
 use Rattle.smp_call_steps.specs.Shows.{Shows}
 use Rattle.smp_words.proofs.Puts.{at_test, test_here, test_else}
 use Rattle.smp_call_steps.proofs.Steps.Frames.{Minds, Touches, leaves_others}
-use Rattle.smp_call_steps.proofs.State.Walks.{walks_stay, ends_stay}
+use Rattle.smp_call_steps.proofs.State.Walks.{walks_stay, ends_stay, walks_sync, ends_async}
 use Rattle.smp_call_steps.proofs.Steps.Turns.{holds_nothing, stands_at, hand_at, held_after, stands_after, hands_after, hands_stored}
 use Rattle.smp_call_steps.proofs.Steps.Moving.{Batch≢Batch, Running≢Batch, Queued≢Batch, Batch≢Free, all_placed_still, all_placed_apart, placed_moved}
 use Rattle.smp_call_steps.proofs.Steps.Moving.{all_written_still, all_written_apart, written_moved}
@@ -156,6 +156,7 @@ module _ {a : CallState} {at : Word → ℕ} {control : ℕ → ControlValue} (m
           was.1.0,
           walks_stay k (k.begun ++ call ∷ []) (put a.batch me left me) (put a.running me (SyncCall call) me)
               (k.begun_are ∙ sym (append-nil (k.begun ++ call ∷ []))) (test_here me left (a.batch me)) (test_here me (SyncCall call) (a.running me)),
+          walks_sync k,
         ),
       ) in
       subst (λ (b : Bool). Shows (if b then begins_sync a me (a.batch me) else a) at' (put control me c)) (sym stored)
@@ -204,6 +205,7 @@ module _ {a : CallState} {at : Word → ℕ} {control : ℕ → ControlValue} (m
           ends_stay k (k.begun ++ call ∷ []) (put a.batch me rest me) (put a.running me (AsyncCall call) me)
               (k.whole ∙ sym (append_assoc k.begun (call ∷ []) rest)) (test_here me rest (a.batch me)) (test_here me (AsyncCall call) (a.running me)),
           front.0.is_call,
+          ends_async k,
         ),
       ) in
       subst (λ (h : Option Holding). Shows (releases a me call.id h) at' (put control me c)) (sym held)

@@ -116,6 +116,7 @@ module _ {a : CallState} {at : Word → ℕ} {control : ℕ → ControlValue} (m
         (
           was.1.0,
           walks_stay k k.begun (a.batch me) (put a.running me (CountedCall call) me) k.begun_are k.batch (test_here me (CountedCall call) (a.running me)),
+          was.1.2,
         ),
       ))
 

@@ -189,8 +189,8 @@ module _ {cpu : ℕ} {places places' : ℕ → RecPlace} {at at' : Word → ℕ}
   HandleStands-kept s d (handle.BeginSync walk call next) b h =
       let front = walks_front (IsPlaced places (place.Batch cpu)) h.1 b in
       (h.0, Walks-kept s d walk (link_to next) (call ∷ []) h.0 Nothing b h.1, same_next call front.0 ∙ h.2)
-  HandleStands-kept s d (handle.CountSync walk call next) b h = (h.0, Walks-kept s d walk (link_to next) [] h.0 (SyncCall call) b h.1)
-  HandleStands-kept s d (handle.EndSync walk call next) b h = (h.0, Walks-kept s d walk (link_to next) [] h.0 (CountedCall call) b h.1)
+  HandleStands-kept s d (handle.CountSync walk call next) b h = (h.0, Walks-kept s d walk (link_to next) [] h.0 (SyncCall call) b h.1, h.2)
+  HandleStands-kept s d (handle.EndSync walk call next) b h = (h.0, Walks-kept s d walk (link_to next) [] h.0 (CountedCall call) b h.1, h.2)
   HandleStands-kept s d (handle.AsyncNext id) b h = (h.0, h.1, Ends-kept s d (id + 1) [] (h.0 ∷ h.1) Nothing b h.2)
   HandleStands-kept s d (handle.AsyncFunc id next) b h = (h.0, h.1, Ends-kept s d (id + 1) [] (h.0 ∷ h.1) Nothing b h.2, ended_next s d id h.0 h.1 b h.2 ∙ h.3)
   HandleStands-kept s d (handle.AsyncInfo id next func) b h =
@@ -198,7 +198,7 @@ module _ {cpu : ℕ} {places places' : ℕ → RecPlace} {at at' : Word → ℕ}
   HandleStands-kept s d (handle.BeginAsync call next) b h =
       let front = ends_front (IsPlaced places (place.Batch cpu)) h.1 b in
       (h.0, Ends-kept s d (link_to next) (call ∷ []) h.0 Nothing b h.1, same_next call front.0 ∙ h.2)
-  HandleStands-kept s d (handle.CountAsync call next) b h = (h.0, Ends-kept s d (link_to next) [] h.0 (AsyncCall call) b h.1, h.2)
+  HandleStands-kept s d (handle.CountAsync call next) b h = (h.0, Ends-kept s d (link_to next) [] h.0 (AsyncCall call) b h.1, h.2, h.3)
   HandleStands-kept s d _ b h = h
 
   StandsAt-kept : (s : Share) (d : DrainValue) (stage : Option Stage) → AllPlaced places (place.Batch cpu) s.batch → StandsAt places at s d cpu stage

@@ -1,17 +1,49 @@
 -- What a CPU knows is its part of calls that keep all laws.
-use Rattle.std.proofs.Common.{sym}
-use Rattle.smp_call_steps.specs.Known.{Lives}
+use Rattle.std.proofs.Common.{◌≡◌, ℕ, zero, suc, Bool, true, false, None, cond, get_or, sym, subst, refl, ◌∙◌}
+use Rattle.std.specs.List.{AllByRecursion}
+use Rattle.smp_words.specs.Size.{records}
+use Rattle.smp_call_steps.specs.HaveRun.{HasRunAt}
+use Rattle.smp_call_steps.specs.Known.{Lives, confirmed_known}
+use Rattle.smp_call_steps.specs.Parts.{row}
+use Rattle.smp_call_steps.proofs.Basics.Alls.{every}
+use Rattle.smp_call_steps.proofs.Knows.Restages.{free_outside}
 use Rattle.smp_call_steps.proofs.State.Counts.{confirmed_calls_ran}
+use Rattle.smp_call_steps.proofs.State.HaveRun.{confirmed_sync_calls_ended, confirmed_calls_have_run}
+use Rattle.smp_queue.specs.Names.{Known, Part}
 use Rattle.smp_queue.specs.Cpu.{cpu_of}
 use Rattle.smp_queue.specs.Seat.{SeatValue}
-use Rattle.smp_queue.specs.Laws.{IsShown}
+use Rattle.smp_queue.specs.Laws.{HaveRunFor, IsShown}
 
-pub is_shown : (d : SeatValue) → Lives d.known → IsShown (cpu_of d)
-is_shown d l = record {
+row-true : (n i : ℕ) (f : ℕ → Bool) → get_or (row n f) i false ≡ true → f i ≡ true
+unfolding row
+row-true zero i f e = cc
+row-true (suc n) zero f e = e
+row-true (suc n) (suc i) f e = row-true n i (λ k. f (suc k)) e
+
+have_run : (d : SeatValue) (l : Lives d.known) → HaveRunFor l.calls (cpu_of d)
+have_run d l =
+    subst (λ (p : Part). AllByRecursion (λ sending. get_or p.confirmed sending.call.id false ≡ true → HasRunAt l.calls sending.to sending.call sending.call.class) p.sent) l.sees.part
+    (every (λ sending. l.calls.confirmed d.known.number sending.call.id ≡ true → HasRunAt l.calls sending.to sending.call sending.call.class)
+    (λ sending. get_or (row records (l.calls.confirmed d.known.number)) sending.call.id false ≡ true → HasRunAt l.calls sending.to sending.call sending.call.class)
+    (λ sending h e. h (row-true records sending.call.id (l.calls.confirmed d.known.number) e))
+    (l.calls.sent d.known.number)
+    (confirmed_calls_have_run l.calls l.at l.controls l.shown d.known.number))
+
+pub is_shown : (d : SeatValue) → Lives d.known → d.known.stage ≡ None → IsShown (cpu_of d)
+is_shown d l e = record {
   calls = l.calls;
   at = l.at;
   controls = l.controls;
   shown = l.shown;
+  outside = l.sees.stage ∙ e;
+  are_free = λ id own small conf. free_outside l.calls l.at l.controls d.known l.shown l.sees id own small e conf;
   confirmed_ran = confirmed_calls_ran l.shown;
+  confirmed_ended = confirmed_sync_calls_ended l.calls l.at l.controls l.shown;
+  have_run = have_run d l;
   view = λ i. record { table = d.table; number = d.known.number; part = sym l.sees.part i };
 }
+
+-- where a CPU stands stays as a load confirms a record
+pub stage_kept : (locked : Bool) (id : ℕ) (v : Known) → (cond locked v (confirmed_known id v)).stage ≡ v.stage
+stage_kept true id v = refl
+stage_kept false id v = refl

@@ -232,3 +232,10 @@ is_of m w e = e ∙ ap (λ (v : Known). Cpu v) (sym (ap known e))
 
 pub can_same : (v u : Known) (access : Access) → v ≡ u → MayAccess u access → MayAccess v access
 can_same v u access e can = subst (λ (x : Known). MayAccess x access) (sym e) can
+
+-- a CPU that has done nothing has its part of no calls
+fresh_lives : (n : ℕ) → Lives (fresh n)
+fresh_lives n = record { calls = no_calls; at = λ _. 0; controls = λ _. outside; shown = zeros_shown (λ _. 0) (λ _. outside) (λ _. refl) (λ _. refl); sees = record { stage = refl; drain = refl; part = refl } }
+
+pub fresh_seat_is : (m : SeatView) (n : ℕ) → m ≡ Cpu (fresh n) → IsCpuSeat m × Lives (known m)
+fresh_seat_is m n e = (is_of m (fresh n) e, subst (λ (x : SeatView). Lives (known x)) (sym e) (fresh_lives n))

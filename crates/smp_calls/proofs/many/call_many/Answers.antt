@@ -1,8 +1,10 @@
-use Rattle.std.proofs.Common.{◌≡◌, ◌<◌, ℕ, List, true, None, sym, subst, ◌∙◌, rules}
+use Rattle.std.proofs.Common.{◌≡◌, ◌<◌, ℕ, Bool, List, true, None, sym, subst, ◌∙◌, rules}
 use Rattle.smp_mask.specs.Mask.{has, members}
 use Rattle.smp_mask.specs.declared.mask.TheConstants.{NR_CPUS}
 use Rattle.smp_words.specs.declared.call.Class.{Class}
 use Rattle.smp_calls.specs.Families.{CallsMany}
+use Rattle.smp_calls.specs.Records.{class_for}
+use Rattle.smp_calls.proofs.Ended.{many_ended}
 use Rattle.smp_calls.proofs.Parts.{target_online, all_called, calls_waited_for}
 use Rattle.smp_calls.proofs.many.call_many.Goals as goal
 
@@ -22,3 +24,9 @@ returns-clause-calls g c =
         c.args.func c.args.info None c.args.wait) (all_called c.targets-others.result c.queue_all-called.result picks.among every)
     (calls_waited_for g.H.Handler.leads c.class_for-class.result c.args.func c.args.info
         (members c.queue_all-called.result) None c.args.wait c.queue_all-called.ensures.calls c.wait_all.ensures))
+
+pub returns-clause-ended : goal.returns-clause-ended
+returns-clause-ended g c waited =
+    many_ended g.H.Handler.leads c.args.me.now c.args.handler.now c.wait_all.new.me c.wait_all.new.handler c.targets-others.result c.args.func c.args.info None
+    (subst (λ (b : Bool). CallsMany g.H.Handler.leads c.args.me.now c.args.handler.now c.wait_all.new.me c.wait_all.new.handler (members c.targets-others.result) (class_for b) c.args.func c.args.info None b) waited (returns-clause-calls g c))
+    c.is_shown.ensures

@@ -6,7 +6,10 @@ use Rattle.smp_queue.specs.declared.handler.Heard.{Heard}
 use Rattle.smp_calls.specs.Families.{CallsMany}
 use Rattle.smp_calls.specs.Rounds.{Picks}
 use Rattle.smp_calls.specs.Targets.{is_target, remote}
-use Rattle.smp_calls.specs.Records.{class_for}
+use Rattle.smp_calls.specs.Ended.{HaveEnded}
+use Rattle.smp_calls.specs.Records.{class_for, many_call}
+use Rattle.smp_words.specs.declared.call.Class.TheVariants.{Sync}
+use Rattle.smp_calls.proofs.Ended.{many_ended}
 use Rattle.smp_calls.proofs.Parts.{target_online, not_called, picks_with, others_called, called_here, calls_then_here, calls_waited_for}
 use Rattle.smp_calls.proofs.many.each_cpu_cond.Goals as goal
 
@@ -46,3 +49,18 @@ returns-clause-calls g c =
     (subst (λ (b : Bool). Made (remote this c.with_if.result) c.class_for-class.result (cond b (Some (heard this c.args.func c.args.info)) None))
         (sym (called_here this called c.with_if.result here c.with_if.ensures out))
     (subst (λ (to : List ℕ). Made to c.class_for-class.result direct) (others_called this called c.with_if.result here c.with_if.ensures out) made)))
+
+pub returns-clause-ended : goal.returns-clause-ended
+returns-clause-ended g c waited =
+    let this = c.number-this.result in
+    let called = c.queue_all-called.result in
+    let here = c.runs_here-here.result in
+    let out : has called this ≡ false = not_called c.args.mask c.online.result this c.targets-others.result called c.targets-others.ensures c.queue_all-called.ensures.picks.among in
+    let direct : Option Heard = cond here (Some (heard this c.args.func c.args.info)) None in
+    let Made = λ (class : Class) (wait : Bool). CallsMany g.H.Handler.leads c.args.me.now c.args.handler.now c.wait_all.new.me c.wait_all.new.handler (members called) class c.args.func c.args.info direct wait in
+    let made : Made c.class_for-class.result c.args.wait = calls_waited_for g.H.Handler.leads c.class_for-class.result c.args.func c.args.info (members called) direct c.args.wait
+    (calls_then_here g.H.Handler.leads c.class_for-class.result c.args.func c.args.info (members called) direct c.queue_all-called.ensures.calls c.call_if.ensures) c.wait_all.ensures in
+    let ended = many_ended g.H.Handler.leads c.args.me.now c.args.handler.now c.wait_all.new.me c.wait_all.new.handler called c.args.func c.args.info direct
+    (subst (λ (b : Bool). Made (class_for b) b) waited (subst (λ (class : Class). Made class c.args.wait) c.class_for-class.ensures made)) c.is_shown.ensures in
+    let Ended = λ (to : List ℕ). HaveEnded c.wait_all.new.me (many_call c.args.me.now.number Sync c.args.func c.args.info) to in
+    subst (λ (n : ℕ). Ended (remote n c.with_if.result)) c.number-this.ensures.number (subst Ended (others_called this called c.with_if.result here c.with_if.ensures out) ended)

@@ -13,6 +13,6 @@ pub store-requires : goal.store-requires
 store-requires c = let r = c.requires in let low = cell_below c.args.word c.cell.result c.cell.ensures in let w = r.at.sized in (
   ap (λ d. d.table) c.seat.view_is ∙ r.at.table_is,
   omega arith,
-  store_below _ _ _ _ c.seat.invariant c.args.word c.cell.result c.args.number c.cell.ensures
+  store_below _ _ _ _ c.seat.invariant.0 c.args.word c.cell.result c.args.number c.cell.ensures
       (can_same _ _ _ (ap (λ d. d.known) c.seat.view_is) (in_handle_can r.at (Store c.args.word c.args.number) r.is_access)),
 )

@@ -4,12 +4,16 @@ use Rattle.smp_call_steps.specs.Drains.{first_on}
 use Rattle.smp_call_steps.specs.Histories.{counted_call}
 use Rattle.smp_call_steps.specs.Handling.{counted_sync, ended_call}
 use Rattle.smp_words.proofs.Sizes.{owner-below}
+use Rattle.smp_call_steps.proofs.State.Walks.{walks_sync}
 use Rattle.smp_call_steps.proofs.Knows.Handling.{lives_stands, lives_front}
 use Rattle.smp_queue.specs.Names.{Known}
 use Rattle.smp_queue.specs.Names.handle
 use Rattle.smp_queue.specs.Handling.{heard}
 use Rattle.smp_queue.proofs.Handling.Running.{tally_running, has_run}
 use Rattle.smp_queue.proofs.run.run_sync.Goals as goal
+
+pub begin_sync-begun-requires-clause-class : goal.begin_sync-begun-requires-clause-class
+begin_sync-begun-requires-clause-class g c = walks_sync (lives_stands _ c.requires.at.lives (handle.BeginSync c.args.walk c.args.call c.args.next) c.requires.at.stage_is).1
 
 pub one_more-ran-requires : goal.one_more-ran-requires
 one_more-ran-requires g c =

@@ -10,7 +10,7 @@ use Rattle.smp_queue.proofs.seat.swap.Goals as goal
 
 pub swap-requires : goal.swap-requires
 swap-requires c = let r = c.requires in let low = cell_below c.args.word c.cell.result c.cell.ensures in let w = r.sized in
-    (ap (λ d. d.table) c.seat.view_is ∙ r.table_is, omega arith, swap_below _ _ _ _ c.seat.invariant c.args.word c.cell.result c.args.number c.cell.ensures
+    (ap (λ d. d.table) c.seat.view_is ∙ r.table_is, omega arith, swap_below _ _ _ _ c.seat.invariant.0 c.args.word c.cell.result c.args.number c.cell.ensures
         (can_same _ _ _ (ap (λ d. d.known) c.seat.view_is) r.can))
 
 -- the moment, of what the caller sees

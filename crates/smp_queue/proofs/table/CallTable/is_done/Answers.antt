@@ -1,7 +1,8 @@
 use Rattle.std.proofs.Common.{sym, ap, ◌∙◌}
 use Rattle.smp_call_steps.proofs.Machine.Starts.{record_below}
 use Rattle.smp_queue.proofs.Posts.Own.{at_own}
-use Rattle.smp_queue.proofs.Audits.Showing.{is_shown}
+use Rattle.smp_queue.specs.Names.{Known}
+use Rattle.smp_queue.proofs.Audits.Showing.{is_shown, stage_kept}
 use Rattle.smp_queue.proofs.table.CallTable.is_done.Goals as goal
 
 pub is_locked-locked-requires-clause-at : goal.is_locked-locked-requires-clause-at
@@ -12,3 +13,4 @@ is_locked-locked-requires-clause-at g c =
 
 pub returns-clause-laws : goal.returns-clause-laws
 returns-clause-laws g c = is_shown _ c.is_locked-locked.ensures.lives
+    (ap (λ (v : Known). v.stage) c.is_locked-locked.ensures.known ∙ (stage_kept c.is_locked-locked.result c.record_of-id.result c.me.inside.seat.known ∙ c.me.invariant.outside))

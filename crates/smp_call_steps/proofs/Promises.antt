@@ -1,0 +1,125 @@
+-- The laws of the call half.
+use Rattle.std.proofs.Common.{◌≡◌, ◌≢◌, ℕ, ◌==◌, Bool, true, false, cond, List, [], ◌∷◌, ◌++◌, inl, inr, sym, subst, refl, ap, ◌∙◌}
+use Rattle.std.specs.List.{AllByRecursion}
+use Rattle.smp_words.specs.Size.{owner}
+use Rattle.smp_call_steps.specs.Calls.{CallState, Sending}
+use Rattle.smp_call_steps.specs.Counts.{batches}
+use Rattle.smp_call_steps.specs.Histories.{Marked, mark, marked, others_marked, batches_marked, history_of, sent_to, marked_from, calls_from}
+use Rattle.smp_call_steps.specs.Places.{HasRecord, IsPlaced, IsThere, locked_by}
+use Rattle.smp_call_steps.specs.Promises.{NothingCalled, StepsAreTold, KeepThePlaceLaw, calls_to, RunAtMostOnce}
+use Rattle.smp_call_steps.specs.QueueOrder.{if_class, of_class, IsPrefix}
+use Rattle.smp_call_steps.specs.Shows.{Shows}
+use Rattle.smp_call_steps.specs.Stages.{ControlValue}
+use Rattle.smp_call_steps.specs.Names.{Call, Class, Sync, Async, Word, RecPlace}
+use Rattle.smp_call_steps.specs.Names.place
+use Rattle.smp_call_steps.proofs.State.Counts.{held_place}
+use Rattle.smp_call_steps.proofs.Knows.OneStep.{known_step}
+use Rattle.smp_call_steps.proofs.State.QueueOrder.{run_in_queue_order}
+use Rattle.smp_call_steps.proofs.Machine.Starts.{zeros_shown}
+
+pub nothing_called : NothingCalled
+nothing_called at control zeros outside = zeros_shown at control zeros outside
+
+pub steps_are_told : StepsAreTold
+steps_are_told a at control v shown sees stage may access is = known_step a at control v shown sees stage may access is
+
+-- the place of a record that a list has
+placed_there : (places : ℕ → RecPlace) (p : RecPlace) (id : ℕ) (calls : List Call) → AllByRecursion (IsPlaced places p) calls → HasRecord id calls → places id ≡ p
+placed_there places p id [] all h = absurd h
+placed_there places p id (call ∷ rest) all (inl e) = subst (λ (k : ℕ). places k ≡ p) e all.0.placed
+placed_there places p id (call ∷ rest) all (inr h) = placed_there places p id rest all.1 h
+
+module _ (a : CallState) (at : Word → ℕ) (control : ℕ → ControlValue) (s : Shows a at control) where
+  only_there : (id : ℕ) (p : RecPlace) → p ≢ place.Free → IsThere a.held a.queue a.batch a.running id p → a.place id ≡ p
+  only_there id place.Free ne h = absurd (ne refl)
+  only_there id place.Held ne h = held_place a at control s (owner id) id h
+  only_there id (place.Queued cpu) ne h = placed_there a.place (place.Queued cpu) id (a.queue cpu) (s.placed.queued cpu) h
+  only_there id (place.Batch cpu) ne h = placed_there a.place (place.Batch cpu) id (a.batch cpu) (s.placed.batched cpu) h
+  only_there id (place.Running cpu) ne h = placed_there a.place (place.Running cpu) id (locked_by (a.running cpu)) (s.placed.runs cpu) h
+
+pub keep_the_place_law : KeepThePlaceLaw
+keep_the_place_law a at control s = (
+  (λ id. record { is_there = s.placed.is_there id; only = only_there a at control s id; is_locked = s.written.locks id }),
+  (λ cpu. (s.placed.queue_apart cpu, s.placed.batch_apart cpu)),
+)
+
+-- of a class and of a source, one after the other
+
+keeps : (class : Class) (b : Bool) (call : Call) (rest left : List Call) → if_class class call.class call ≡ call ∷ [] → of_class class rest ≡ left → of_class class (cond b (call ∷ rest) rest) ≡ cond b (call ∷ left) left
+keeps class true call rest left e h = ap (λ (k : List Call). k ++ of_class class rest) e ∙ ap (λ (k : List Call). call ∷ k) h
+keeps class false call rest left e h = h
+
+drops : (class : Class) (b : Bool) (call : Call) (rest left : List Call) → if_class class call.class call ≡ [] → of_class class rest ≡ left → of_class class (cond b (call ∷ rest) rest) ≡ left
+drops class true call rest left e h = ap (λ (k : List Call). k ++ of_class class rest) e ∙ h
+drops class false call rest left e h = h
+
+module _ (source : ℕ) where
+  class_from : (class of : Class) (call : Call) (rest : List Call) → call.class ≡ of → of_class class (calls_from source rest) ≡ calls_from source (of_class class rest) →
+      of_class class (calls_from source (call ∷ rest)) ≡ calls_from source (if_class class of call ++ of_class class rest)
+  class_from Sync Sync call rest e h = keeps Sync (owner call.id == source) call (calls_from source rest) (calls_from source (of_class Sync rest)) (rw e refl) h
+  class_from Sync Async call rest e h = drops Sync (owner call.id == source) call (calls_from source rest) (calls_from source (of_class Sync rest)) (rw e refl) h
+  class_from Async Sync call rest e h = drops Async (owner call.id == source) call (calls_from source rest) (calls_from source (of_class Async rest)) (rw e refl) h
+  class_from Async Async call rest e h = keeps Async (owner call.id == source) call (calls_from source rest) (calls_from source (of_class Async rest)) (rw e refl) h
+
+  from_class : (class : Class) (calls : List Call) → of_class class (calls_from source calls) ≡ calls_from source (of_class class calls)
+  from_class class [] = refl
+  from_class class (call ∷ rest) = class_from class call.class call rest refl (from_class class rest)
+
+  from_one : (b : Bool) (x : Call) (xs ys : List Call) → calls_from source (xs ++ ys) ≡ calls_from source xs ++ calls_from source ys →
+      cond b (x ∷ calls_from source (xs ++ ys)) (calls_from source (xs ++ ys)) ≡ cond b (x ∷ calls_from source xs) (calls_from source xs) ++ calls_from source ys
+  from_one true x xs ys e = ap (λ (k : List Call). x ∷ k) e
+  from_one false x xs ys e = e
+
+  from-append : (xs ys : List Call) → calls_from source (xs ++ ys) ≡ calls_from source xs ++ calls_from source ys
+  from-append [] ys = refl
+  from-append (x ∷ xs) ys = from_one (owner x.id == source) x xs ys (from-append xs ys)
+
+-- calls without their marks
+
+abbrev unmarked : List Marked → List Call
+unmarked [] = []
+unmarked (m ∷ rest) = m.call ∷ unmarked rest
+
+unmarked-append : (xs ys : List Marked) → unmarked (xs ++ ys) ≡ unmarked xs ++ unmarked ys
+unmarked-append [] ys = refl
+unmarked-append (x ∷ xs) ys = ap (λ (k : List Call). x.call ∷ k) (unmarked-append xs ys)
+
+unmarked_if : (b : Bool) (m : Marked) (ms : List Marked) (calls : List Call) → unmarked ms ≡ calls → unmarked (cond b (m ∷ ms) ms) ≡ cond b (m.call ∷ calls) calls
+unmarked_if true m ms calls e = ap (λ (k : List Call). m.call ∷ k) e
+unmarked_if false m ms calls e = e
+
+unmarked_sent : (cpu : ℕ) (sent : List Sending) → unmarked (sent_to cpu sent) ≡ calls_to cpu sent
+unmarked_sent cpu [] = refl
+unmarked_sent cpu (s ∷ rest) = unmarked_if (s.to == cpu) (mark s.is_first s.call) (sent_to cpu rest) (calls_to cpu rest) (unmarked_sent cpu rest)
+
+unmarked_from : (source : ℕ) (ms : List Marked) → unmarked (marked_from source ms) ≡ calls_from source (unmarked ms)
+unmarked_from source [] = refl
+unmarked_from source (m ∷ rest) = unmarked_if (owner m.call.id == source) m (marked_from source rest) (calls_from source (unmarked rest)) (unmarked_from source rest)
+
+unmarked_others : (calls : List Call) → unmarked (others_marked calls) ≡ calls
+unmarked_others [] = refl
+unmarked_others (call ∷ rest) = ap (λ (k : List Call). call ∷ k) (unmarked_others rest)
+
+unmarked_all : (calls : List Call) → unmarked (marked calls) ≡ calls
+unmarked_all [] = refl
+unmarked_all (call ∷ rest) = ap (λ (k : List Call). call ∷ k) (unmarked_others rest)
+
+unmarked_batches : (taken : List (List Call)) → unmarked (batches_marked taken) ≡ batches taken
+unmarked_batches [] = refl
+unmarked_batches (batch ∷ rest) =
+    unmarked-append (marked batch) (batches_marked rest) ∙ (ap (λ (k : List Call). k ++ unmarked (batches_marked rest)) (unmarked_all batch) ∙ ap (λ (k : List Call). batch ++ k) (unmarked_batches rest))
+
+unmarked_history : (taken : List (List Call)) (queue : List Call) → unmarked (history_of taken queue) ≡ batches taken ++ queue
+unmarked_history taken queue =
+    unmarked-append (batches_marked taken) (marked queue) ∙ (ap (λ (k : List Call). k ++ unmarked (marked queue)) (unmarked_batches taken) ∙ ap (λ (k : List Call). batches taken ++ k) (unmarked_all queue))
+
+pub run_at_most_once : RunAtMostOnce
+run_at_most_once a at control s source cpu class =
+    let p : IsPrefix (of_class class (a.ran cpu)) (of_class class (batches (a.taken cpu) ++ a.queue cpu)) = run_in_queue_order a at control s cpu class in
+    let sent : calls_to cpu (a.sent source) ≡ calls_from source (batches (a.taken cpu) ++ a.queue cpu) =
+    sym (unmarked_sent cpu (a.sent source)) ∙ (ap unmarked (s.recorded.in_order source cpu) ∙
+    (unmarked_from source (history_of (a.taken cpu) (a.queue cpu)) ∙ ap (calls_from source) (unmarked_history (a.taken cpu) (a.queue cpu)))) in (
+      calls_from source p.0,
+      ap (of_class class) sent ∙ (from_class source class (batches (a.taken cpu) ++ a.queue cpu) ∙ (ap (calls_from source) p.1 ∙
+          (from-append source (of_class class (a.ran cpu)) p.0 ∙ ap (λ (k : List Call). k ++ calls_from source p.0) (sym (from_class source class (a.ran cpu)))))),
+    )
