@@ -3,6 +3,8 @@ use Rattle.std.specs.Prelude.{◌≡◌, ◌≢◌, ℕ, ◌<◌, ◌≤◌, Boo
 use Rattle.smp_stop_steps.specs.Stop.{Stop, no_stop}
 use Rattle.smp_stop_steps.specs.Labels.{Patching, Whole, Reading}
 use Rattle.smp_labels.specs.declared.words.TheConstants.{MOST_KEYS}
+pub use Rattle.smp_stop_steps.specs.declared.known.StopCall.{StopCall}
+pub use Rattle.smp_stop_steps.specs.declared.known.Moved.{Moved}
 use Rattle.smp_words.specs.declared.work.Work.{Work}
 
 -- what a table is made with: how many CPUs there are, which are online, the first of them, how many
@@ -35,17 +37,6 @@ pub record Present : Type 0 where
   pub readings : ℕ → List Reading
   -- who patches the labels
   pub patching : Patching
-
--- a call of a stop function, with its answer
-pub record StopCall : Type 0 where
-  pub func : ℕ
-  pub arg : ℕ
-  pub answer : ℕ
-
--- by how much a CPU has moved the count of a key: up in all, and down in all
-pub record Moved : Type 0 where
-  pub up : ℕ
-  pub down : ℕ
 
 pub record StopState : Type 0 where
   pub now : Present
