@@ -38,3 +38,7 @@ pub mod Made
 pub mod Opened
 pub mod Begun
 pub mod Starting
+-- what a CPU knows
+pub mod Parts
+pub mod KnownSources
+pub mod KnownRounds

@@ -116,7 +116,7 @@ stored_more cpus at s work k g is h f l = at_test (order f) (order g) (λ _. put
     other : (f : Field) → f ≢ g → put_word at (Slot s g) (begun_value cpus work g) (Slot s f) ≡ at (Slot s f)
     other f ne = at_test (place_of f) (place_of g) (λ b. cond (cond b (s == s) false) (begun_value cpus work g) (at (Slot s f)) ≡ at (Slot s f)) (λ e. absurd (ne (one_place f g e))) (λ _. refl)
 
-work_ext : (x y : Work) → x.kind ≡ y.kind → x.mask ≡ y.mask → x.active ≡ y.active → x.func ≡ y.func → x.arg ≡ y.arg → x ≡ y
+pub work_ext : (x y : Work) → x.kind ≡ y.kind → x.mask ≡ y.mask → x.active ≡ y.active → x.func ≡ y.func → x.arg ≡ y.arg → x ≡ y
 work_ext x y a b c d e = λ k. record { kind = a k; mask = b k; active = c k; func = d k; arg = e k }
 
 module _ (u : Setup) (p : StopState) (at : Word → ℕ) (seat : ℕ → Seat) (source : ℕ → Source) (h : StopShows u p at seat source) (me : ℕ) where

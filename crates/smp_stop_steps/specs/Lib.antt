@@ -30,3 +30,7 @@ pub mod Machine
 pub mod New
 pub mod Begins
 pub mod Starts
+-- what a CPU knows
+pub mod Known
+pub mod KnownAfter
+pub mod Moves
