@@ -15,7 +15,7 @@ use Rattle.smp_stop_steps.specs.Stages.{all_but}
 use Rattle.smp_stop_steps.specs.State.{Setup, StopState, Present, StopCall}
 use Rattle.smp_stop_steps.specs.Stop.{Standing, Inside, Answering, Called, Completed, Outside, is_called, acknowledged, raised}
 use Rattle.smp_stop_steps.specs.Tells.{told, enters, acknowledges, acknowledges_now, raises, stored_open, stored_shut, first_readings, with_stop, leaves, unpatched}
-use Rattle.smp_stop_steps.specs.Known.{Known, Part, Sees, GoesOn, Columns, columns_of, IsPart, setup_in}
+use Rattle.smp_stop_steps.specs.Known.{Known, Sees, GoesOn, columns_of, setup_in}
 use Rattle.smp_stop_steps.specs.KnownAfter.{is_drafting, drafted_known, slot_stored, member_stored, refilled_by, raised_by, looked_known, looked_to, acked_by, read_since}
 use Rattle.smp_words.specs.declared.seen.Act.TheVariants as act
 use Rattle.smp_words.specs.declared.field.Field.{Field}

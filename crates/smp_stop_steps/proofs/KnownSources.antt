@@ -1,18 +1,18 @@
 -- The steps of a source that knows v: the gate, begin, and the ends of its own stop.
-use Rattle.std.proofs.Common.{◌≡◌, ◌≢◌, ℕ, ◌+◌, ◌<◌, nat_lt, lt-ltb, eqb-true, eq-eqb, ne_eqb, Bool, true, false, ◌==◌, cond, Option, Some, None, List, [], ◌∷◌, ◌++◌, sym, subst, refl, ap, ◌∙◌, arith}
+use Rattle.std.proofs.Common.{◌≡◌, ◌≢◌, ℕ, ◌+◌, ◌<◌, nat_lt, lt-ltb, eqb-true, eq-eqb, ne_eqb, Bool, true, false, ◌==◌, cond, Option, Some, None, [], ◌∷◌, ◌++◌, sym, subst, refl, ap, ◌∙◌, arith}
 use Rattle.smp_words.specs.Put.{put, put_word}
 use Rattle.smp_words.specs.Size.{cpus}
 use Rattle.smp_words.proofs.Puts.{put_all}
 use Rattle.smp_stop_steps.specs.Counts.{mask_weight}
-use Rattle.smp_stop_steps.specs.Seats.{Seat, In, Turn, Stands}
+use Rattle.smp_stop_steps.specs.Seats.{Seat}
 use Rattle.smp_stop_steps.specs.Shows.{StopShows, gate_word}
 use Rattle.smp_stop_steps.specs.Slots.{DoneShows, begun_value, order}
 use Rattle.smp_stop_steps.specs.Sources.{Source, Shut, Drafts, Owns, Collects, SourceShows, DraftShows, OwnerShows, IsDrafted, IsWork}
-use Rattle.smp_stop_steps.specs.State.{Setup, StopState, Present, StopCall}
-use Rattle.smp_stop_steps.specs.Stop.{Standing, Inside, Ending, Running, Last, Ended}
+use Rattle.smp_stop_steps.specs.State.{Setup, StopState}
+use Rattle.smp_stop_steps.specs.Stop.{Standing, Ending, Running, Last, Ended}
 use Rattle.smp_stop_steps.specs.Tells.{told, drafted, drafts, opens, stored_open, stored_shut}
-use Rattle.smp_stop_steps.specs.Known.{Known, Part, Sees, GoesOn, IsBegun, Columns, columns_of, IsPart, told_source, told_work, holds_it, setup_in}
-use Rattle.smp_stop_steps.specs.KnownAfter.{no_work, is_drafting, drafts_more, drafted_known, draft_known, opened_by, slot_stored, member_stored, gate_known, done_by, collected_known}
+use Rattle.smp_stop_steps.specs.Known.{Known, Sees, GoesOn, IsBegun, columns_of, told_source, told_work, holds_it, setup_in}
+use Rattle.smp_stop_steps.specs.KnownAfter.{is_drafting, drafts_more, drafted_known, draft_known, opened_by, slot_stored, member_stored, gate_known, done_by, collected_known}
 use Rattle.smp_words.specs.declared.seen.Act.TheVariants as act
 use Rattle.smp_words.specs.declared.field.Field.{Field}
 use Rattle.smp_words.specs.declared.field.Field.TheVariants as field
@@ -23,7 +23,6 @@ use Rattle.smp_words.specs.declared.word.Word.{Word}
 use Rattle.smp_words.specs.declared.word.Word.TheVariants.{Gate, Slot}
 use Rattle.smp_stop_steps.proofs.Counts.{put_here, put_else}
 use Rattle.smp_stop_steps.proofs.Parts.{Leaves, goes, goes_source, goes_still}
-use Rattle.smp_stop_steps.proofs.Phases.{is_open_inside}
 use Rattle.smp_stop_steps.proofs.Sources.{gate_taken, gate_opened, field_stored, roll_stored, done_loaded, result_loaded, kind_back, work_ext}
 
 holder : (g : Option ℕ) (me : ℕ) → holds_it g me ≡ true → g ≡ Some me

@@ -42,3 +42,6 @@ pub mod Starting
 pub mod Parts
 pub mod KnownSources
 pub mod KnownRounds
+pub mod KnownEnds
+pub mod KnownLabels
+pub mod KnownMoves

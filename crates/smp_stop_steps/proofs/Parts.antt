@@ -1,15 +1,18 @@
 -- What a step of a CPU leaves to it and to all others.
-use Rattle.std.proofs.Common.{◌≡◌, ◌≢◌, ℕ, ◌<◌, cond, List, length, get_or, set, replicate, sym, subst, refl, ap, ◌∙◌}
-use Rattle.std.proofs.lemmas.List.{length-set, get_or-set_same, get_or-set_other}
+use Rattle.std.proofs.Common.{◌≡◌, ◌≢◌, ℕ, ◌<◌, cond, List, [], get_or, set, replicate, sym, subst, refl, ap, ◌∙◌}
+use Rattle.std.proofs.lemmas.List.{length-set, length-replicate, get_or-set_same, get_or-set_other}
 use Rattle.smp_words.proofs.Puts.{at_test}
+use Rattle.smp_words.proofs.Zeros.{get_or-same}
 use Rattle.smp_words.specs.Put.{put}
+use Rattle.smp_words.specs.Size.{cpus}
+use Rattle.smp_labels.specs.declared.words.TheConstants.{MOST_KEYS}
 use Rattle.smp_words.specs.declared.word.Word.{Word}
 use Rattle.smp_stop_steps.proofs.Counts.{put_here, put_else}
-use Rattle.smp_stop_steps.specs.Known.{Known, Part, Columns, columns_of, AreFirst, IsPart, Sees, GoesOn, IsBegun, told_source, setup_in}
-use Rattle.smp_stop_steps.specs.Seats.{Seat}
+use Rattle.smp_stop_steps.specs.Known.{Known, Part, Setting, fresh, Columns, columns_of, AreFirst, IsPart, Sees, GoesOn, IsBegun, told_source, setup_in}
+use Rattle.smp_stop_steps.specs.Seats.{Seat, Free}
 use Rattle.smp_stop_steps.specs.Shows.{StopShows}
-use Rattle.smp_stop_steps.specs.Sources.{Source}
-use Rattle.smp_stop_steps.specs.State.{StopState}
+use Rattle.smp_stop_steps.specs.Sources.{Source, Shut}
+use Rattle.smp_stop_steps.specs.State.{StopState, no_stops, unmoved}
 
 -- the list of a function's first values, with one changed
 pub first_put : {A : Type 0} (n : ℕ) (f : ℕ → A) (d : A) (list : List A) (i : ℕ) (x : A) → AreFirst n f d list → i < n → AreFirst n (put f i x) d (set list i x)
@@ -18,6 +21,28 @@ first_put {A} n f d list i x h l = record {
   each = λ j m. at_test j i (λ b. cond b x (f j) ≡ get_or (set list i x) j d)
       (λ e. sym (ap (λ k. get_or (set list i x) k d) e ∙ get_or-set_same list i x d (subst (λ k. i < k) (sym h.sized) l)))
       (λ ne. h.each j m ∙ sym (get_or-set_other list i j x d ne));
+}
+
+first_same : {A : Type 0} (n : ℕ) (x : A) → AreFirst n (λ _. x) x (replicate n x)
+first_same {A} n x = record { sized = length-replicate n x; each = λ i l. sym (get_or-same x n i) }
+
+-- a CPU that has done nothing knows its part of the stops at first
+pub fresh_sees : (k : Setting) (me : ℕ) → me < cpus → Sees no_stops (λ _. Free) (λ _. Shut) (fresh k me)
+fresh_sees k me low = record {
+  below = low;
+  seat_is = refl;
+  source_is = refl;
+  is_begun = tt;
+  part_is = record {
+    holds = refl;
+    begun = refl;
+    collected = refl;
+    answers = first_same cpus [];
+    looks = refl;
+    readings = refl;
+    nudged = first_same MOST_KEYS unmoved;
+    patched = first_same MOST_KEYS unmoved;
+  };
 }
 
 -- what a step leaves: this part to its CPU, and their columns to the others

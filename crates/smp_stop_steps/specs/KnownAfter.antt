@@ -1,5 +1,5 @@
 -- What a CPU knows after a step of its own, as the step tells it.
-use Rattle.std.specs.Prelude.{ℕ, ◌+◌, Bool, true, false, ◌==◌, ◌&&◌, ◌||◌, not, cond, Option, Some, None, List, [], ◌∷◌, ◌++◌, map, slice_index_or, slice_set}
+use Rattle.std.specs.Prelude.{ℕ, ◌+◌, Bool, true, false, ◌==◌, ◌&&◌, ◌||◌, not, cond, Option, Some, List, [], ◌∷◌, ◌++◌, slice_index_or, slice_set}
 use Rattle.smp_mask.specs.Mask.{has}
 use Rattle.smp_labels.specs.Keys.{is_on}
 use Rattle.smp_stop_steps.specs.KeyCounts.{moves}
@@ -7,7 +7,7 @@ use Rattle.smp_stop_steps.specs.Known.{Known, Part, setup_in}
 use Rattle.smp_stop_steps.specs.Labels.{Reading, ReadKey, ReadSite}
 use Rattle.smp_stop_steps.specs.Seats.{Seat, Free, In, Gives, Alters, Closes, Rests, Fills, Sets}
 use Rattle.smp_stop_steps.specs.Sources.{Source, Shut, Drafts, Owns, Collects}
-use Rattle.smp_stop_steps.specs.State.{Setup, Moved, unmoved}
+use Rattle.smp_stop_steps.specs.State.{Moved, unmoved}
 use Rattle.smp_stop_steps.specs.Tells.{drafted, first_readings, is_one, is_patch, calls_at_run, plan_at}
 use Rattle.smp_words.specs.declared.seen.Act.{Act}
 use Rattle.smp_words.specs.declared.seen.Act.TheVariants as act

@@ -1,18 +1,20 @@
 -- The kinds of step, by what a CPU knows: which it may make, and its access.
-use Rattle.std.specs.Prelude.{◌≡◌, ◌≢◌, ◌⊎◌, ℕ, ◌+◌, ◌<◌, true, false, List, [], ◌∷◌, ◌++◌}
+use Rattle.std.specs.Prelude.{◌≡◌, ◌≢◌, ◌⊎◌, ℕ, ◌+◌, ◌<◌, true, false, None, List, [], ◌∷◌, ◌++◌}
 use Rattle.smp_mask.specs.Mask.{has}
 use Rattle.smp_labels.specs.declared.words.TheConstants.{MOST_KEYS}
+use Rattle.smp_words.specs.Access.{word_of, at_after, seen_of}
 use Rattle.smp_words.specs.Size.{cpus}
 use Rattle.smp_stop_steps.specs.Counts.{mask_weight}
-use Rattle.smp_stop_steps.specs.Known.{Known, setup_in, told_work}
-use Rattle.smp_stop_steps.specs.KnownAfter.{is_drafting, no_work}
+use Rattle.smp_stop_steps.specs.Known.{Known, Setting, Sees, GoesOn, fresh, setup_in, told_work}
+use Rattle.smp_stop_steps.specs.KnownAfter.{is_drafting, known_entering, no_work}
 use Rattle.smp_stop_steps.specs.Labels.{Change}
-use Rattle.smp_stop_steps.specs.Seats.{Free, In, Gives, Alters, Closes, Rests, Fills, Sets, irq_of}
+use Rattle.smp_stop_steps.specs.Seats.{Seat, Free, In, Gives, Alters, Closes, Rests, Fills, Sets, irq_of}
+use Rattle.smp_stop_steps.specs.Shows.{StopShows}
 use Rattle.smp_stop_steps.specs.Sits.{IsNudge}
 use Rattle.smp_stop_steps.specs.Slots.{begun_value, order}
-use Rattle.smp_stop_steps.specs.Sources.{Shut, Drafts, Owns, Collects, IsWork}
+use Rattle.smp_stop_steps.specs.Sources.{Source, Shut, Drafts, Owns, Collects, IsWork}
 use Rattle.smp_stop_steps.specs.Stages.{all_but, store_of}
-use Rattle.smp_stop_steps.specs.State.{StopState}
+use Rattle.smp_stop_steps.specs.State.{StopState, no_stops}
 use Rattle.smp_stop_steps.specs.Tells.{plan_at}
 use Rattle.smp_words.specs.declared.access.Access.{Access}
 use Rattle.smp_words.specs.declared.access.Access.TheVariants.{Load, Store, Exchange, Sub, And}
@@ -130,3 +132,14 @@ pub record Can (v : Known) (access : Access) : Type 0 where
   pub move : Move
   pub may : May v move
   pub is_access : access_in v move ≡ access
+
+-- at first, and after each step that a CPU may make by what it knows, each CPU knows its part of stops that the words show
+abbrev pub NothingIsKnown : Type 0
+NothingIsKnown = (k : Setting) (me : ℕ) → me < cpus → Sees no_stops (λ _. Free) (λ _. Shut) (fresh k me)
+
+abbrev pub MovesAreKnown : Type 0
+MovesAreKnown = (p : StopState) (at : Word → ℕ) (seat : ℕ → Seat) (source : ℕ → Source) (v : Known) → StopShows (setup_in v.setting) p at seat source → Sees p seat source v →
+    (m : Move) → May v m →
+    let access = access_in v m in
+    let seen = seen_of v.number access (at (word_of access)) None in
+    GoesOn v.setting p seat source v.number (at_after at access) (known_entering (entering p (word_of access)) v seen.act seen.word seen.found seen.put)

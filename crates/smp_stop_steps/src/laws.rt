@@ -85,3 +85,16 @@ ghost use Rattle.smp_stop_steps.specs.Numbers.{WordsHaveNumbers};
 pub fn words_have_numbers()
     ensures { WordsHaveNumbers }
 {}
+
+ghost use Rattle.smp_stop_steps.specs.Moves.{NothingIsKnown, MovesAreKnown};
+
+/// A CPU that has done nothing knows its part of the state in which nothing was begun.
+pub fn nothing_is_known()
+    ensures { NothingIsKnown }
+{}
+
+/// Each kind of step that a CPU may make, by what it knows of the stops, goes on to stops that the words show, of which
+/// it knows its part as the step has told it, and every other CPU what it knew. For words that threads share.
+pub fn moves_are_known()
+    ensures { MovesAreKnown }
+{}
