@@ -38,6 +38,10 @@ pub mod Made
 pub mod Opened
 pub mod Begun
 pub mod Starting
+-- laws
+pub mod Interrupts
+pub mod Patchers
+pub mod StopLaws
 -- what a CPU knows
 pub mod Parts
 pub mod KnownSources

@@ -22,6 +22,9 @@ pub mod Sits
 pub mod Steps
 -- the laws, as they are promised
 pub mod Promises
+pub mod Interrupts
+pub mod Patchers
+pub mod StopLaws
 -- the machine: the words of a stop table, and a list of controls
 pub mod Table
 pub mod Numbers

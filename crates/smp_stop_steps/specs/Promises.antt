@@ -135,11 +135,3 @@ pub record ReadsOwnPatch (me : ℕ) (work : Work) : Type 0 where
 
 abbrev pub OwnPatchesAreRead : Type 0
 OwnPatchesAreRead = (me : ℕ) (work : Work) → work.kind ≡ Patch → ReadsOwnPatch me work
-
--- all of these, of these stops and these words
-pub record KeepsStopLaws (u : Setup) (p : StopState) (at : Word → ℕ) : Type 0 where
-  pub phases : (s : ℕ) → (p.now.stop s).is_open ≡ true → (p.now.stop s).phase ≢ 0 → PhaseLaw u.cpus (p.now.stop s) (at (Slot s field.Ack))
-  pub functions : (s me : ℕ) → (p.now.stop s).standing me ≡ Inside 2 3 → RunsAlone p s me
-  pub labels : (me : ℕ) → u.online me ≡ true → p.now.irq me ≡ true → ReadsLawful p at me
-  pub patches : IsPatchedAlone u p
-  pub counts : (k : ℕ) → CountShows u.cpus p.nudged p.patched k (at (Key k))

@@ -18,6 +18,13 @@ pub fn steps_are_told()
     ensures { StepsAreTold }
 {}
 
+ghost use Rattle.smp_stop_steps.specs.StopLaws.{KeepTheStopLaws};
+
+/// Words that show stops keep all laws that follow, between any two steps of any CPUs.
+pub fn stop_laws()
+    ensures { KeepTheStopLaws }
+{}
+
 /// The phases have these numbers, in the state word of a slot and in what is seen of a turn.
 pub fn phases_have_numbers()
     ensures { (PREPARE ≡ 1) × (DISABLE_IRQ ≡ 2) × (RUN ≡ 3) × (EXIT ≡ 4) × (OVER ≡ 5) }
@@ -33,6 +40,33 @@ pub fn phase_law()
 /// them off.
 pub fn function_law()
     ensures { KeepTheFunctionLaw }
+{}
+
+ghost use Rattle.smp_stop_steps.specs.Interrupts.{KeepTheInterruptLaw};
+
+/// A CPU that has acknowledged `DISABLE_IRQ` and has not left has its interrupts off, and from its look at it on; in no
+/// stop it has them on.
+pub fn interrupt_law()
+    ensures { KeepTheInterruptLaw }
+{}
+
+ghost use Rattle.smp_stop_steps.specs.Patchers.{TableIsLawful, PatchersRun, LabelStoresPatch};
+
+/// The label table is lawful whenever no patch is between its first and its last store, whatever CPUs have their
+/// interrupts on.
+pub fn table_is_lawful()
+    ensures { TableIsLawful }
+{}
+
+/// Whoever patches is the first online CPU, active in its patch stop, which is at `RUN`, and is alone: every CPU of the
+/// mask has acknowledged disabled interrupts.
+pub fn patchers_run()
+    ensures { PatchersRun }
+{}
+
+/// A CPU whose next step is a store to a key or a site patches, and that is the next store of its patch.
+pub fn label_stores_patch()
+    ensures { LabelStoresPatch }
 {}
 
 /// A CPU that is online and has its interrupts on finds a lawful label table, which says all that it has read since
