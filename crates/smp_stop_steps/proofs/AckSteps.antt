@@ -10,10 +10,10 @@ use Rattle.smp_stop_steps.specs.Counts.{mask_weight}
 use Rattle.smp_stop_steps.specs.Labels.{patch_answer}
 use Rattle.smp_stop_steps.specs.Seats.{Alters, Fills, In, Rests, Seat, Sets, irq_of}
 use Rattle.smp_stop_steps.specs.Shows.{StopShows}
-use Rattle.smp_stop_steps.specs.Sits.{IsLoaded, OwnsIf, Sits, SitsAt, SitsAtRest, SitsInRound, SourceSits}
+use Rattle.smp_stop_steps.specs.Sits.{RunsIf, IsLoaded, OwnsIf, Sits, SitsAt, SitsAtRest, SitsInRound, SourceSits}
 use Rattle.smp_stop_steps.specs.Sources.{Source}
 use Rattle.smp_stop_steps.specs.Stages.{StopControlValue, stop_goes, turn_ends, visit_acked}
-use Rattle.smp_stop_steps.specs.State.{Setup, StopState}
+use Rattle.smp_stop_steps.specs.State.{Setup, StopState, Calling, Calls, Carries, Idle}
 use Rattle.smp_stop_steps.specs.Steps.{StopStep, at_then, state_after}
 use Rattle.smp_stop_steps.specs.Tells.{told, plan_at}
 use Rattle.smp_words.specs.declared.seen.Act.TheVariants as act
@@ -23,11 +23,13 @@ use Rattle.smp_stop_steps.specs.declared.stage.RoundStage.{RoundStage}
 use Rattle.smp_stop_steps.specs.declared.stage.StopStage.TheVariants.{Advance}
 use Rattle.smp_stop_steps.specs.declared.stage.StopStage.{StopStage}
 use Rattle.smp_stop_steps.specs.declared.stage.Visit.{Visit}
-use Rattle.smp_words.specs.declared.work.Kind.TheVariants.{Patch}
+use Rattle.smp_words.specs.declared.work.Kind.TheVariants.{Patch, Multi}
 use Rattle.smp_words.specs.declared.work.Work.{Work}
 use Rattle.smp_words.specs.declared.word.Word.TheVariants.{Gate, Slot}
 use Rattle.smp_words.specs.declared.word.Word.{Word}
 use Rattle.smp_mask.specs.Mask.{has}
+use Rattle.smp_stop_steps.specs.Carries.{CarriesIn, CarriesAt, IsAcking}
+use Rattle.smp_stop_steps.specs.Callings.{HasCalled}
 
 or_false : (b : Bool) → b || false ≡ b
 or_false true = refl
@@ -61,16 +63,25 @@ module _ (u : Setup) (p : StopState) (at : Word → ℕ) (seat : ℕ → Seat) (
     gate_held = tt;
   }
 
-  pub acknowledge : (answer : ℕ) (ran : Bool) → c.stage ≡ Some (Advance v (round.Acknowledge answer ran)) → StopStep u p at seat source c me (Advance v (round.Acknowledge answer ran))
-  acknowledge answer ran e =
+  pub acknowledge : CarriesIn c (p.calling me) → (answer : ℕ) (ran : Bool) → c.stage ≡ Some (Advance v (round.Acknowledge answer ran)) → StopStep u p at seat source c me (Advance v (round.Acknowledge answer ran))
+  acknowledge k answer ran e =
       let r = in_round (round.Acknowledge answer ran) e in
       either r.1.0 r.1.1 r.1.2 r.1.3 (at_source (round.Acknowledge answer ran) e)
     where
       found : ℕ
       found = at (Slot v.slot Ack)
 
+      -- who acknowledges RUN has called its function, or is not to call one
+      has_called : (work : Work) → IsLoaded v work → (b : Bool) → RunsIf me v b → (f : Calling) → IsAcking v answer b f → v.acked ≡ 2 → HasCalled me work f
+      has_called work loaded true runs Idle is two = let bad : Multi ≡ Patch = sym runs.1 ∙ is in cc
+      has_called work loaded true runs (Calls call) is two = tt
+      has_called work loaded true runs (Carries x) is two = absurd is
+      has_called work loaded false runs Idle is two = ap (λ m. has m me) (sym loaded.active) ∙ runs two
+      has_called work loaded false runs (Calls call) is two = absurd is
+      has_called work loaded false runs (Carries x) is two = tt
+
       either : (work : Work) → IsLoaded v work → v.acked ≤ 3 →
-          ((seat me ≡ In v.slot work v.acked (v.acked + 1) Rests) × (v.acked ≡ 2 → v.kind ≡ Patch → has v.active me ≡ false)) ⊎ ((v.acked ≡ 2) × (ran ≡ true) × ((count : ℕ) × (answer ≡ patch_answer work count) × (seat me ≡ Alters v.slot work count (plan_at u work count) []))) →
+          ((seat me ≡ In v.slot work v.acked (v.acked + 1) Rests) × RunsIf me v ran) ⊎ ((v.acked ≡ 2) × (ran ≡ true) × ((count : ℕ) × (answer ≡ patch_answer work count) × (seat me ≡ Alters v.slot work count (plan_at u work count) []))) →
           OwnsIf c.is_open (source me) → StopStep u p at seat source c me (Advance v (round.Acknowledge answer ran))
       either work loaded most (inl (is, calm)) y =
           let next = In v.slot work (v.acked + 1) (v.acked + 1) (cond (at (Slot v.slot Ack) == 1) Fills Rests) in
@@ -82,7 +93,7 @@ module _ (u : Setup) (p : StopState) (at : Word → ℕ) (seat : ℕ → Seat) (
             shows = subst (λ n. StopShows u (state_after u p at c me (Advance v (round.Acknowledge answer ran))) (put_word at (Slot v.slot Ack) n) (put seat me next) (put source me (source me))) (sym less)
                 (moved_seat (state_after u p at c me (Advance v (round.Acknowledge answer ran))) (put_word at (Slot v.slot Ack) (at (Slot v.slot Ack) - 1)) next
                 (ack_subtracted u p at seat source h v.slot me work v.acked answer is
-                (λ two kind. ap (λ m. has m me) (sym loaded.active) ∙ calm two (loaded.kind ∙ kind))));
+                (λ two. has_called work loaded ran calm (p.calling me) (subst (λ (st : Option StopStage). CarriesAt c.visit st (p.calling me)) e k) two)));
             sits = acked_sits answer ran work loaded y
                 (s.irq ∙ (ap irq_of is ∙ (ap (λ b. nat_lt (v.acked + 1) 2 || b) (ne_eqb v.acked 4 (λ z. omega arith)) ∙ or_false (nat_lt (v.acked + 1) 2)))) (at (Slot v.slot Ack) == 1);
           }

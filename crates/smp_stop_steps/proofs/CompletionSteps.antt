@@ -1,4 +1,5 @@
 -- The steps at the ends of a stop for one CPU, by its stage; and all steps.
+use Rattle.smp_stop_steps.specs.Callings.{IsCalling, answer_in}
 use Rattle.std.proofs.Common.{◌≡◌, ℕ, ◌-◌, ◌<◌, ◌≤◌, Bool, true, false, eq-eqb, eqb-true, ◌==◌, cond, sym, subst, refl, ap, ◌∙◌, ◌⊎◌, inl, inr, arith, ⊎_elim, Option, Some, None, bit_and}
 use Rattle.smp_words.proofs.SameWords.{same_word-true}
 use Rattle.smp_stop_steps.proofs.AckSteps.{acknowledge, raise, refill}
@@ -15,7 +16,7 @@ use Rattle.smp_stop_steps.specs.Sits.{IsLoaded, IsThroughAll, OwnsIf, Sits, Sits
 use Rattle.smp_stop_steps.specs.Slots.{Keeps}
 use Rattle.smp_stop_steps.specs.Sources.{Source}
 use Rattle.smp_stop_steps.specs.Stages.{StopControlValue, all_but, stop_ends, stop_goes}
-use Rattle.smp_stop_steps.specs.State.{Setup, StopState}
+use Rattle.smp_stop_steps.specs.State.{Setup, StopState, Calling, Calls, Carries, Idle}
 use Rattle.smp_stop_steps.specs.Steps.{StopStep, at_then, state_after}
 use Rattle.smp_stop_steps.specs.Stop.{Answering, Called, Completed, Inside, Outside, Standing, is_called}
 use Rattle.smp_words.specs.declared.seen.Note.TheVariants as note
@@ -30,6 +31,9 @@ use Rattle.smp_words.specs.declared.work.Work.{Work}
 use Rattle.smp_words.specs.declared.word.Word.TheVariants.{Gate, Slot}
 use Rattle.smp_words.specs.declared.word.Word.{Word}
 use Rattle.smp_mask.specs.Mask.{has}
+use Rattle.smp_stop_steps.specs.Carries.{CarriesIn, CarriesAt, IsEnding}
+use Rattle.smp_stop_steps.proofs.Callings.{calling_given}
+use Rattle.smp_stop_steps.proofs.Facts.{arg_loaded}
 
 module _ (u : Setup) (p : StopState) (at : Word → ℕ) (seat : ℕ → Seat) (source : ℕ → Source) (h : StopShows u p at seat source) (c : StopControlValue) (me : ℕ)
     (s : Sits u me (at Gate) c (seat me) (source me)) where
@@ -122,7 +126,7 @@ module _ (u : Setup) (p : StopState) (at : Word → ℕ) (seat : ℕ → Seat) (
         record {
           seat_after = seat me;
           source_after = source me;
-          shows = still p at h;
+          shows = still (state_after u p at c me (Complete v (completion.LoadArg answer func))) at (arg_loaded u p at seat source h v.slot me x.1.1.0 v.acked v.acked Rests x.1.1.2 answer refl);
           sits = go x.1.0 x.1.1.0 x.1.1.1 x.1.1.2 (at_source (Complete v (completion.LoadArg answer func)) e) (answer == 0) refl;
         }
       where
@@ -146,8 +150,13 @@ module _ (u : Setup) (p : StopState) (at : Word → ℕ) (seat : ℕ → Seat) (
     through_of : (work : Work) → IsLoaded v work → IsThroughAll v → (v.acked ≡ 4) ⊎ (work.kind ≡ One)
     through_of work loaded t = ⊎_elim (λ (x : v.acked ≡ 4). inl x) (λ (x : v.kind ≡ One). inr (sym loaded.kind ∙ x)) t
 
-    store_answer : c.stage ≡ Some (Complete v completion.StoreAnswer) → StopStep u p at seat source c me (Complete v completion.StoreAnswer)
-    store_answer e =
+    ends : (f : Calling) → IsEnding v f → v.answer ≡ answer_in f
+    ends Idle is = is.1
+    ends (Calls call) is = is
+    ends (Carries x) is = is
+
+    store_answer : CarriesIn c (p.calling me) → c.stage ≡ Some (Complete v completion.StoreAnswer) → StopStep u p at seat source c me (Complete v completion.StoreAnswer)
+    store_answer k e =
         let x = at_seat (Complete v completion.StoreAnswer) e in
         let some = x.1.0 in
         let work = x.1.2.0 in
@@ -158,7 +167,8 @@ module _ (u : Setup) (p : StopState) (at : Word → ℕ) (seat : ℕ → Seat) (
           seat_after = next;
           source_after = source me;
           shows = moved_seat (state_after u p at c me (Complete v completion.StoreAnswer)) (at_then u at c me (Complete v completion.StoreAnswer)) next
-              (result_stored u p at seat source h v.slot me work v.acked v.acked is through v.answer 0 some);
+              (result_stored u p at seat source h v.slot me work v.acked v.acked is through v.answer 0 some
+              (calling_given me v.slot work v.acked v.acked v.answer (p.calling me) some through (ends (p.calling me) (subst (λ (st : Option StopStage). CarriesAt c.visit st (p.calling me)) e k)) (subst (λ x. IsCalling me x (p.calling me)) is (h.callings me))));
           sits = record {
             below = s.below;
             irq = s.irq ∙ on_now u p at seat source h v.slot me work v.acked v.acked is through;
@@ -207,31 +217,31 @@ module _ (u : Setup) (p : StopState) (at : Word → ℕ) (seat : ℕ → Seat) (
             }
 
   -- any step of any command
-  pub stop_step_shown : (stage : StopStage) → c.stage ≡ Some stage → StopStep u p at seat source c me stage
-  stop_step_shown TakeGate e = take_gate u p at seat source h c me s e
-  stop_step_shown OpenGate e = open_gate u p at seat source h c me s e
-  stop_step_shown (Begin work f) e = begin_step u p at seat source h c me s work f e
-  stop_step_shown (Enter slot) e = enter slot e
-  stop_step_shown (EnterKind slot) e = enter_kind u p at seat source h c me s slot e
-  stop_step_shown (EnterMask slot kind) e = enter_mask u p at seat source h c me s slot kind e
-  stop_step_shown (EnterActive slot kind mask) e = enter_active u p at seat source h c me s slot kind mask e
-  stop_step_shown (Advance v (round.Look answer)) e = look u p at seat source h c me s v answer e
-  stop_step_shown (Advance v (round.LoadFunc answer)) e = load_func u p at seat source h c me s v answer e
-  stop_step_shown (Advance v (round.LoadArg answer func)) e = load_arg u p at seat source h c me s v answer func e
-  stop_step_shown (Advance v (round.LoadKey key change)) e = load_key u p at seat source h c me s v key change e
-  stop_step_shown (Advance v (round.LoadEntry key word site)) e = load_entry u p at seat source h c me s v key word site e
-  stop_step_shown (Advance v (round.StoreChange made)) e = store_change u p at seat source h c me s v made e
-  stop_step_shown (Advance v (round.Acknowledge answer ran)) e = acknowledge u p at seat source h c me s v answer ran e
-  stop_step_shown (Advance v (round.Refill ran)) e = refill u p at seat source h c me s v ran e
-  stop_step_shown (Advance v (round.Raise ran)) e = raise u p at seat source h c me s v ran e
-  stop_step_shown (Complete v (completion.LoadFunc answer)) e = one_func v answer e
-  stop_step_shown (Complete v (completion.LoadArg answer func)) e = one_arg v answer func e
-  stop_step_shown (Complete v completion.StoreAnswer) e = store_answer v e
-  stop_step_shown (Complete v completion.CountDown) e = count_down v e
-  stop_step_shown (Close slot) e = close slot e
-  stop_step_shown LoadDone e = load_done u p at seat source h c me s e
-  stop_step_shown LoadResult e = load_result u p at seat source h c me s e
-  stop_step_shown (ReadKey k) e = read_key u p at seat source h c me s k e
-  stop_step_shown (ReadSite i) e = read_site u p at seat source h c me s i e
-  stop_step_shown (NudgeKey k up) e = nudge_key u p at seat source h c me s k up e
-  stop_step_shown (ExchangeKey k expected new) e = exchange_key u p at seat source h c me s k expected new e
+  pub stop_step_shown : CarriesIn c (p.calling me) → (stage : StopStage) → c.stage ≡ Some stage → StopStep u p at seat source c me stage
+  stop_step_shown carry TakeGate e = take_gate u p at seat source h c me s e
+  stop_step_shown carry OpenGate e = open_gate u p at seat source h c me s e
+  stop_step_shown carry (Begin work f) e = begin_step u p at seat source h c me s work f e
+  stop_step_shown carry (Enter slot) e = enter slot e
+  stop_step_shown carry (EnterKind slot) e = enter_kind u p at seat source h c me s slot e
+  stop_step_shown carry (EnterMask slot kind) e = enter_mask u p at seat source h c me s slot kind e
+  stop_step_shown carry (EnterActive slot kind mask) e = enter_active u p at seat source h c me s slot kind mask e
+  stop_step_shown carry (Advance v (round.Look answer)) e = look u p at seat source h c me s v answer e
+  stop_step_shown carry (Advance v (round.LoadFunc answer)) e = load_func u p at seat source h c me s v answer e
+  stop_step_shown carry (Advance v (round.LoadArg answer func)) e = load_arg u p at seat source h c me s v answer func e
+  stop_step_shown carry (Advance v (round.LoadKey key change)) e = load_key u p at seat source h c me s v key change e
+  stop_step_shown carry (Advance v (round.LoadEntry key word site)) e = load_entry u p at seat source h c me s v key word site e
+  stop_step_shown carry (Advance v (round.StoreChange made)) e = store_change u p at seat source h c me s v made e
+  stop_step_shown carry (Advance v (round.Acknowledge answer ran)) e = acknowledge u p at seat source h c me s v carry answer ran e
+  stop_step_shown carry (Advance v (round.Refill ran)) e = refill u p at seat source h c me s v ran e
+  stop_step_shown carry (Advance v (round.Raise ran)) e = raise u p at seat source h c me s v ran e
+  stop_step_shown carry (Complete v (completion.LoadFunc answer)) e = one_func v answer e
+  stop_step_shown carry (Complete v (completion.LoadArg answer func)) e = one_arg v answer func e
+  stop_step_shown carry (Complete v completion.StoreAnswer) e = store_answer v carry e
+  stop_step_shown carry (Complete v completion.CountDown) e = count_down v e
+  stop_step_shown carry (Close slot) e = close slot e
+  stop_step_shown carry LoadDone e = load_done u p at seat source h c me s e
+  stop_step_shown carry LoadResult e = load_result u p at seat source h c me s e
+  stop_step_shown carry (ReadKey k) e = read_key u p at seat source h c me s k e
+  stop_step_shown carry (ReadSite i) e = read_site u p at seat source h c me s i e
+  stop_step_shown carry (NudgeKey k up) e = nudge_key u p at seat source h c me s k up e
+  stop_step_shown carry (ExchangeKey k expected new) e = exchange_key u p at seat source h c me s k expected new e

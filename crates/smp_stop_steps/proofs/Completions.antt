@@ -1,4 +1,6 @@
 -- The kinds of step at the ends of a stop for one CPU: it enters, stores its answer, counts itself, and stores done.
+use Rattle.smp_stop_steps.specs.Callings.{IsCalling, AreClosing, HasCompleted}
+use Rattle.smp_stop_steps.proofs.Callings.{calling_same, IsNotClosing, idle_free, closing_kept, idle_closes, closing_seat, calling_next}
 use Rattle.smp_stop_steps.specs.Labels.{StandsSet}
 use Rattle.std.proofs.Common.{◌≡◌, ◌≢◌, ℕ, ◌+◌, ◌-◌, ◌≤◌, Bool, true, false, nat_lt, eq-eqb, ◌==◌, ◌||◌, cond, sym, subst, refl, ap, ◌∙◌, ◌⊎◌, inl, inr, arith, ⊎_elim, Option, Some, None, List, [], ◌∷◌, ◌++◌}
 use Rattle.smp_words.proofs.Puts.{at_test, put_all}
@@ -21,9 +23,9 @@ use Rattle.smp_stop_steps.specs.Seats.{Closes, Fills, Free, Gives, In, Rests, Se
 use Rattle.smp_stop_steps.specs.Shows.{StopShows}
 use Rattle.smp_stop_steps.specs.Slots.{DoneShows, IsDone, IsLevel, IsPhaseOf}
 use Rattle.smp_stop_steps.specs.Sources.{Source}
-use Rattle.smp_stop_steps.specs.State.{Setup, StopState}
-use Rattle.smp_stop_steps.specs.Stop.{Answering, Called, Completed, Ended, Inside, Nobody, Outside, Raises, Raising, Refills, Standing, acked, completed, ended, is_inside, is_of, stands}
-use Rattle.smp_stop_steps.specs.Tells.{answered_by, calls_more, completes, completes_with, enters, is_one, stored_open, stored_shut, told, with_stop}
+use Rattle.smp_stop_steps.specs.State.{Setup, StopState, Idle}
+use Rattle.smp_stop_steps.specs.Stop.{Answering, Called, Completed, Ended, Inside, Nobody, Outside, Raises, Raising, Refills, Standing, acked, completed, ended, is_inside, is_of, stands, Last, Stop}
+use Rattle.smp_stop_steps.specs.Tells.{answered_by, completes, completes_with, enters, is_one, stored_open, stored_shut, told, with_stop, called_more}
 use Rattle.smp_words.specs.declared.seen.Act.TheVariants as act
 use Rattle.smp_words.specs.declared.field.Field.TheVariants.{Done, Result, Roll, Todo}
 use Rattle.smp_words.specs.declared.field.Field.{Field}
@@ -72,10 +74,13 @@ module _ (u : Setup) (p : StopState) (at : Word → ℕ) (seat : ℕ → Seat) (
       } in
       let at' = put_word at (Slot s Roll) n in
       subst (λ b. StopShows u (cond b (record p { now = enters p.now me s }) p) at' (put seat me (In s (p.now.stop s).work 0 0 Rests)) source) (sym found)
-      (open_step u p at seat source h s stop' inside' p.now.irq p.now.readings p.now.patching at' (put seat me (In s (p.now.stop s).work 0 0 Rests)) p.looks p.calls stays
+      (open_step u p at seat source h s stop' inside' p.now.irq p.now.readings p.now.patching at' (put seat me (In s (p.now.stop s).work 0 0 Rests)) p.looks p.calls p.calling stays
       refl (λ k. refl) (other_slots at s Roll n)
       (own k.1)
-      (step_enters u p.now at seat h.present s me n is found clears others))
+      (step_enters u p.now at seat h.present s me n is found clears others)
+      (calling_same seat p.calling h.callings me (In s (p.now.stop s).work 0 0 Rests)
+      (subst (IsCalling me (In s (p.now.stop s).work 0 0 Rests)) (sym (idle_free me (p.calling me) (subst (λ x. IsCalling me x (p.calling me)) is (h.callings me)))) (λ l. absurd (let z : ⊥ = omega (arith, l) in z))))
+      (closing_kept p.now seat me (In s (p.now.stop s).work 0 0 Rests) h.closing (subst IsNotClosing (sym is) tt) s stop' (λ c ne. put_else (p.now.stop s).standing me to c ne) refl refl))
     where
       low : IsLevel (p.now.stop s).phase 0 → (c : ℕ) → acked ((p.now.stop s).standing c) ≤ 1
       low level c = let m = acked_most_phase u.cpus (p.now.stop s).phase c ((p.now.stop s).standing c) ((h.present.slots s).keeps c) in
@@ -118,9 +123,9 @@ module _ (u : Setup) (p : StopState) (at : Word → ℕ) (seat : ℕ → Seat) (
             ap (λ n. nat_lt n 2 || a == 4) zero_
 
     -- store of an answer that is not 0
-    pub result_stored : (v answer : ℕ) → v ≢ 0 →
+    pub result_stored : (v answer : ℕ) → v ≢ 0 → IsCalling me (Gives s job a v) (p.calling me) →
         StopShows u (told u p me act.Store (Slot s Result) None (Some v) answer) (put_word at (Slot s Result) v) (put seat me (Gives s job a v)) source
-    result_stored v answer some =
+    result_stored v answer some calls =
         let to = Answering a v in
         let stop' = stands (p.now.stop s) me to in
         let at' = put_word at (Slot s Result) v in
@@ -128,17 +133,19 @@ module _ (u : Setup) (p : StopState) (at : Word → ℕ) (seat : ℕ → Seat) (
         let stays : StaysOpen (p.now.stop s) stop' = record { was = open_; now = open_; work = refl; end = λ e. e; given = moves_given u.first s me (p.now.stop s) to inside } in
         subst (λ b. StopShows u (cond b (stored_open p me s Result v) (stored_shut p s Result v)) at' (put seat me (Gives s job a v)) source) (sym open_)
         (subst (λ (x : Standing). StopShows u (record p { now = with_stop p.now s (stands (p.now.stop s) me (answered_by x v)) }) at' (put seat me (Gives s job a v)) source) (sym st.1)
-        (open_step u p at seat source h s stop' p.now.inside p.now.irq p.now.readings p.now.patching at' (put seat me (Gives s job a v)) p.looks p.calls stays
+        (open_step u p at seat source h s stop' p.now.inside p.now.irq p.now.readings p.now.patching at' (put seat me (Gives s job a v)) p.looks p.calls p.calling stays
         refl (λ k. refl) (other_slots at s Result v)
         (owns_kept u.first p.now (λ k. at (Key k)) s stop' p.now.inside p.now.irq p.now.readings p.now.patching stays (moves_early u.first s me (p.now.stop s) to inside stop' refl) h.owns)
-        (step_answers u p.now at seat h.present s me job a l v is some is_done (rests_not me (p.now.stop s).raising st.2) on_now)))
+        (step_answers u p.now at seat h.present s me job a l v is some is_done (rests_not me (p.now.stop s).raising st.2) on_now)
+        (calling_same seat p.calling h.callings me (Gives s job a v) calls)
+        (closing_kept p.now seat me (Gives s job a v) h.closing (subst IsNotClosing (sym is) tt) s stop' (λ c ne. put_else (p.now.stop s).standing me to c ne) refl refl)))
 
   -- fetch_sub of todo, of whoever is ready to be counted
   completes_shown : (job : Work) (a v : ℕ) → p.now.inside me ≡ Some s → IsAnswer ((p.now.stop s).standing me) a v → turn_of (p.now.stop s).raising me ≡ Rests → IsDone (p.now.stop s).phase a →
-      irq_of (seat me) ≡ true → IsNoPatch (seat me) → answer_now ((p.now.stop s).standing me) ≡ [] →
+      irq_of (seat me) ≡ true → IsNoPatch (seat me) → IsNotClosing (seat me) → answer_now ((p.now.stop s).standing me) ≡ [] →
       let found = at (Slot s Todo) in
       StopShows u (completes_with p me s a v found) (put_word at (Slot s Todo) (found - 1)) (put seat me (cond (found == 1) (Closes s) Free)) source
-  completes_shown job a v in_ is turn done on idle none =
+  completes_shown job a v in_ is turn done on idle calm none =
       let found = at (Slot s Todo) in
       let to = Completed a v in
       let stop' = completed (p.now.stop s) me a v found in
@@ -147,9 +154,9 @@ module _ (u : Setup) (p : StopState) (at : Word → ℕ) (seat : ℕ → Seat) (
       let open_ = is_open_inside u.cpus (p.now.stop s) w (h.present.slots s) me ((p.now.stop s).standing me) refl of in
       let o = (h.present.slots s).shows open_ in
       let answers' = put p.answers me (put (p.answers me) s (p.answers me s ++ v ∷ [])) in
-      let calls' = cond (is_one (p.now.stop s).work.kind) (calls_more p.calls me (p.now.stop s).work v) p.calls in
+      let calls' = called_more p.calls me (p.calling me) in
       open_step_with u p at seat source h s stop' inside' p.now.irq p.now.readings p.now.patching (put_word at (Slot s Todo) (found - 1)) (put seat me (cond (found == 1) (Closes s) Free))
-      p.looks calls' answers' open_ open_ refl
+      p.looks calls' (put p.calling me Idle) answers' open_ open_ refl
       (λ e. absurd (ended_not e (subst (λ x. DoneShows u.cpus (p.now.stop s).standing x (at (Slot s Done))) e o.done) of))
       refl (λ k. refl) (other_slots at s Todo (found - 1))
       (λ j. at_test j s (λ b. HasPast (cond b stop' (p.now.stop j)) (p.begun j) (p.collected j) (λ c. answers' c j))
@@ -164,7 +171,31 @@ module _ (u : Setup) (p : StopState) (at : Word → ℕ) (seat : ℕ → Seat) (
       (put_all (λ c y. 3 ≤ acked y → 3 ≤ acked ((p.now.stop s).standing c)) (p.now.stop s).standing me to (λ x. subst (λ n. 3 ≤ n) (sym (acked_it ((p.now.stop s).standing me) is)) x) (λ c ne l. l) u.first late))
       (λ ne. h.owns j))
       (step_completes u p.now at seat h.present s me a v in_ is turn (done, rests_not me (p.now.stop s).raising turn) on idle)
+      (calling_next seat p.calling h.callings me (cond (found == 1) (Closes s) Free) Idle (ends (found == 1)))
+      (last found)
     where
+      ends : (b : Bool) → IsCalling me (cond b (Closes s) Free) Idle
+      ends true = tt
+      ends false = tt
+
+      -- the last of all is to store done
+      last : (found : ℕ) → AreClosing (record (p.now) { stop = put p.now.stop s (completed (p.now.stop s) me a v found); inside = put p.now.inside me None }) (put seat me (cond (found == 1) (Closes s) Free))
+      last found = go (found == 1)
+        where
+          kept : (b : Bool) (stop' : Stop) → stop'.is_open ≡ (p.now.stop s).is_open → stop'.standing ≡ put (p.now.stop s).standing me (Completed a v) → stop'.ending ≡ (p.now.stop s).ending →
+              AreClosing (record (p.now) { stop = put p.now.stop s stop' }) (put seat me (cond b (Closes s) Free))
+          kept b stop' op same end = closing_kept p.now seat me (cond b (Closes s) Free) h.closing calm s stop'
+              (λ c ne. ap (λ f. f c) same ∙ put_else (p.now.stop s).standing me (Completed a v) c ne) op end
+
+          go : (b : Bool) → AreClosing (record (p.now) { stop = put p.now.stop s (record (p.now.stop s) { standing = put (p.now.stop s).standing me (Completed a v); ending = cond b (Last me) (p.now.stop s).ending }) }) (put seat me (cond b (Closes s) Free))
+          go false j c = kept false (record (p.now.stop s) { standing = put (p.now.stop s).standing me (Completed a v) }) refl refl refl j c
+          go true j c = at_test j s (λ b. let y = cond b (record (p.now.stop s) { standing = put (p.now.stop s).standing me (Completed a v); ending = Last me }) (p.now.stop j) in
+              y.is_open ≡ true → y.ending ≡ Last c → (put seat me (Closes s) c ≡ Closes j) × HasCompleted (y.standing c))
+              (λ e o l. let same : me ≡ c = cc in
+              subst (λ k. (put seat me (Closes s) k ≡ Closes j) × HasCompleted (put (p.now.stop s).standing me (Completed a v) k)) same
+              (put_here seat me (Closes s) ∙ ap Closes (sym e), subst HasCompleted (sym (put_here (p.now.stop s).standing me (Completed a v))) tt))
+              (λ ne o l. closing_seat p.now seat me (Closes s) h.closing calm j c o l)
+
       acked_it : (x : Standing) → IsAnswer x a v → acked x ≡ a
       acked_it Outside e = absurd e
       acked_it Called e = absurd e
@@ -191,7 +222,7 @@ module _ (u : Setup) (p : StopState) (at : Word → ℕ) (seat : ℕ → Seat) (
       let found = at (Slot s Todo) in
       let now = st job a l is through in
       subst (λ (x : Standing). StopShows u (completes p me s x found) (put_word at (Slot s Todo) (found - 1)) (put seat me (cond (found == 1) (Closes s) Free)) source) (sym now.1)
-      (completes_shown job a 0 now.0 (subst (λ x. IsAnswer x a 0) (sym now.1) (refl, refl)) now.2 (is_done job a l is through) (on_now job a l is through) (subst IsNoPatch (sym is) tt) (ap answer_now now.1))
+      (completes_shown job a 0 now.0 (subst (λ x. IsAnswer x a 0) (sym now.1) (refl, refl)) now.2 (is_done job a l is through) (on_now job a l is through) (subst IsNoPatch (sym is) tt) (subst IsNotClosing (sym is) tt) (ap answer_now now.1))
 
   -- and by who has stored its answer
   pub todo_subtracted_answered : (job : Work) (a v answer : ℕ) → seat me ≡ Gives s job a v →
@@ -202,7 +233,7 @@ module _ (u : Setup) (p : StopState) (at : Word → ℕ) (seat : ℕ → Seat) (
       let now : Stands p.now me (Gives s job a v) = subst (Stands p.now me) is (h.present.stands me) in
       let k = keeps_inside u.cpus (p.now.stop s) w (h.present.slots s) me (Answering a v) now.1 in
       subst (λ (x : Standing). StopShows u (completes p me s x found) (put_word at (Slot s Todo) (found - 1)) (put seat me (cond (found == 1) (Closes s) Free)) source) (sym now.1)
-      (completes_shown job a v now.0 (subst (λ x. IsAnswer x a v) (sym now.1) (refl, refl)) now.2 k.2 (ap irq_of is) (subst IsNoPatch (sym is) tt) (ap answer_now now.1))
+      (completes_shown job a v now.0 (subst (λ x. IsAnswer x a v) (sym now.1) (refl, refl)) now.2 k.2 (ap irq_of is) (subst IsNoPatch (sym is) tt) (subst IsNotClosing (sym is) tt) (ap answer_now now.1))
 
   -- store of done by the last
   pub done_stored : (answer : ℕ) → seat me ≡ Closes s → StopShows u (told u p me act.Store (Slot s Done) None (Some 1) answer) (put_word at (Slot s Done) 1) (put seat me Free) source
@@ -211,7 +242,12 @@ module _ (u : Setup) (p : StopState) (at : Word → ℕ) (seat : ℕ → Seat) (
       let stop' = ended (p.now.stop s) in
       let stays : StaysOpen (p.now.stop s) stop' = record { was = now.1; now = now.1; work = refl; end = λ _. refl; given = λ c. refl } in
       subst (λ b. StopShows u (cond b (stored_open p me s Done 1) (stored_shut p s Done 1)) (put_word at (Slot s Done) 1) (put seat me Free) source) (sym now.1)
-      (open_step u p at seat source h s stop' p.now.inside p.now.irq p.now.readings p.now.patching (put_word at (Slot s Done) 1) (put seat me Free) p.looks p.calls stays
+      (open_step u p at seat source h s stop' p.now.inside p.now.irq p.now.readings p.now.patching (put_word at (Slot s Done) 1) (put seat me Free) p.looks p.calls p.calling stays
       refl (λ k. refl) (other_slots at s Done 1)
       (owns_kept u.first p.now (λ k. at (Key k)) s stop' p.now.inside p.now.irq p.now.readings p.now.patching stays record { inside = λ i. i; late = λ i. i } h.owns)
-      (step_finishes u p.now at seat h.present s me is))
+      (step_finishes u p.now at seat h.present s me is)
+      (calling_same seat p.calling h.callings me Free (subst (IsCalling me Free) (sym (idle_closes me s (p.calling me) (subst (λ x. IsCalling me x (p.calling me)) is (h.callings me)))) tt))
+      (λ j c. at_test j s (λ b. let y = cond b stop' (p.now.stop j) in y.is_open ≡ true → y.ending ≡ Last c → (put seat me Free c ≡ Closes j) × HasCompleted (y.standing c))
+      (λ e o l. let bad : Ended ≡ Last c = l in cc)
+      (λ ne o l. let k = h.closing j c o l in
+      (put_else seat me Free c (λ same. let two : Closes j ≡ Closes s = sym k.0 ∙ (ap seat same ∙ is) in let bad : j ≡ s = cc in ne bad) ∙ k.0, k.1))))

@@ -1,6 +1,10 @@
 -- What a CPU inside a stop finds, and the state at first.
+use Rattle.smp_words.proofs.Puts.{put_all}
+use Rattle.smp_stop_steps.proofs.Callings.{call_may}
+use Rattle.smp_stop_steps.specs.Callings.{IsCalling}
+use Rattle.smp_stop_steps.specs.Tells.{told, may_call, calls_now}
 use Rattle.smp_stop_steps.proofs.KeyCounts.{opened_count}
-use Rattle.std.proofs.Common.{◌≡◌, ◌≢◌, ℕ, ◌+◌, ◌<◌, ◌≤◌, Bool, true, false, ◌==◌, cond, sym, subst, refl, ap, ◌∙◌, ◌⊎◌, inl, inr, arith, ⊎_elim, zero, suc, List, []}
+use Rattle.std.proofs.Common.{◌≡◌, ◌≢◌, ℕ, ◌+◌, ◌<◌, ◌≤◌, Bool, true, false, ◌==◌, cond, sym, subst, refl, ap, ◌∙◌, ◌⊎◌, inl, inr, arith, ⊎_elim, zero, suc, List, [], Some, None}
 use Rattle.std.proofs.lemmas.Nat.Bits.{bit_at-zero}
 use Rattle.smp_stop_steps.proofs.Counts.{sum_zero}
 use Rattle.smp_stop_steps.proofs.Phases.{is_open_inside, keeps_inside, none_raises}
@@ -11,9 +15,10 @@ use Rattle.smp_stop_steps.specs.Seats.{Alters, Free, Gives, In, Rests, Seat, Sta
 use Rattle.smp_stop_steps.specs.Shows.{StopShows}
 use Rattle.smp_stop_steps.specs.Slots.{AckShows, IsWritten, Keeps, OpenShows}
 use Rattle.smp_stop_steps.specs.Sources.{Shut, Source}
-use Rattle.smp_stop_steps.specs.State.{IsSetup, Setup, StopState, no_stops}
+use Rattle.smp_stop_steps.specs.State.{IsSetup, Setup, StopState, no_stops, StopCall, Calls}
 use Rattle.smp_stop_steps.specs.Stop.{Answering, Called, Completed, Inside, Outside, Standing}
-use Rattle.smp_words.specs.declared.field.Field.TheVariants.{Ack, Roll, State, Todo}
+use Rattle.smp_words.specs.declared.field.Field.TheVariants.{Ack, Arg, Roll, State, Todo}
+use Rattle.smp_words.specs.declared.seen.Act.TheVariants as act
 use Rattle.smp_words.specs.declared.work.Work.{Work}
 use Rattle.smp_words.specs.declared.word.Word.TheVariants.{Gate, Slot, Key}
 use Rattle.smp_words.specs.declared.word.Word.{Word}
@@ -68,6 +73,29 @@ module _ (u : Setup) (p : StopState) (at : Word → ℕ) (seat : ℕ → Seat) (
     -- the words of the work are its numbers
     pub work_words : IsWritten (λ f. at (Slot s f)) job
     work_words = subst (IsWritten (λ f. at (Slot s f))) st.3 shown.written
+
+    -- with the load of the argument a CPU that may call the function calls it
+    pub arg_loaded : (answer : ℕ) → t ≡ Rests → StopShows u (told u p me act.Load (Slot s Arg) (Some (at (Slot s Arg))) None answer) at seat source
+    arg_loaded answer rests = go (may_call me (p.now.stop s).work ((p.now.stop s).standing me)) refl
+      where
+        called : StopCall
+        called = record { func = (p.now.stop s).work.func; arg = at (Slot s Arg); answer = answer }
+
+        go : (b : Bool) → may_call me (p.now.stop s).work ((p.now.stop s).standing me) ≡ b → StopShows u (cond b (calls_now p me (p.now.stop s).work (at (Slot s Arg)) answer) p) at seat source
+        go false e = h
+        go true e =
+            let may : may_call me job (Inside a l) ≡ true = sym (ap (λ (w : Work). may_call me w ((p.now.stop s).standing me)) st.3 ∙ ap (may_call me job) st.1) ∙ e in
+            let calls : IsCalling me (In s job a l Rests) (Calls called) = ((ap (λ (w : Work). w.func) st.3, work_words.arg), call_may me job a l may) in record {
+              setup = h.setup;
+              present = h.present;
+              gate = h.gate;
+              callings = put_all (λ c x. IsCalling c (seat c) x) p.calling me (Calls called) (subst (λ x. IsCalling me x (Calls called)) (sym (is ∙ ap (In s job a l) rests)) calls) (λ c ne. h.callings c);
+              closing = h.closing;
+              sources = h.sources;
+              past = h.past;
+              owns = h.owns;
+              counts = h.counts;
+            }
 
     -- the CPU is of the mask, and of the machine
     pub inside_keeps : Keeps u.cpus (p.now.stop s).phase me (Inside a l)
@@ -146,6 +174,8 @@ no_stops_shown u at setup gate rolls entries lawful off = record {
     read = λ c on i. tt;
   };
   gate = gate;
+  callings = λ c. tt;
+  closing = λ s c bad. absurd (apart bad);
   sources = λ s. refl;
   past = λ s. ([], record { each = tt; begun_are = refl; collected_are = refl; answers_are = λ c. refl });
   owns = λ s bad kind in_ late. absurd (apart bad);

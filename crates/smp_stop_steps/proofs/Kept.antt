@@ -10,7 +10,8 @@ use Rattle.smp_stop_steps.specs.Present.{OwnsKey, PresentShows}
 use Rattle.smp_stop_steps.specs.Seats.{Seat}
 use Rattle.smp_stop_steps.specs.Shows.{StopShows}
 use Rattle.smp_stop_steps.specs.Sources.{Collects, Drafts, Owns, Shut, Source, SourceShows}
-use Rattle.smp_stop_steps.specs.State.{Present, Setup, StopCall, StopState}
+use Rattle.smp_stop_steps.specs.Callings.{AreClosing, IsCalling}
+use Rattle.smp_stop_steps.specs.State.{Calling, Present, Setup, StopCall, StopState}
 use Rattle.smp_stop_steps.specs.Stop.{Ended, Standing, Stop, acked, is_inside}
 use Rattle.smp_words.specs.declared.field.Field.{Field}
 use Rattle.smp_words.specs.declared.work.Kind.TheVariants.{Patch}
@@ -85,17 +86,20 @@ past_answers stop begun collected answers answers' same h = (h.0, record { each 
 module _ (u : Setup) (p : StopState) (at : Word → ℕ) (seat : ℕ → Seat) (source : ℕ → Source) (h : StopShows u p at seat source) (s : ℕ) (stop' : Stop)
     (inside' : ℕ → Option ℕ) (irq' : ℕ → Bool) (readings' : ℕ → List Reading) (patching' : Patching) (at' : Word → ℕ) (seat' : ℕ → Seat) where
   -- a step on an open stop that stays open
-  pub open_step_with : (looks' : ℕ → List ℕ) (calls' : ℕ → List StopCall) (answers' : ℕ → ℕ → List ℕ) →
+  pub open_step_with : (looks' : ℕ → List ℕ) (calls' : ℕ → List StopCall) (calling' : ℕ → Calling) (answers' : ℕ → ℕ → List ℕ) →
       (p.now.stop s).is_open ≡ true → stop'.is_open ≡ true → stop'.work ≡ (p.now.stop s).work → ((p.now.stop s).ending ≡ Ended → stop'.ending ≡ Ended) →
       at' Gate ≡ at Gate → ((k : ℕ) → at' (Key k) ≡ at (Key k)) → ((j : ℕ) → j ≢ s → (f : Field) → at' (Slot j f) ≡ at (Slot j f)) →
       ((j : ℕ) → HasPast (put p.now.stop s stop' j) (p.begun j) (p.collected j) (λ c. answers' c j)) →
       ((j : ℕ) → OwnsKey u.first (after p.now s stop' inside' irq' readings' patching') (λ k. at' (Key k)) j) →
       PresentShows u (after p.now s stop' inside' irq' readings' patching') at' seat' →
-      StopShows u (record p { now = after p.now s stop' inside' irq' readings' patching'; answers = answers'; looks = looks'; calls = calls' }) at' seat' source
-  open_step_with looks' calls' answers' was now work end gate keys slots past own present = record {
+      ((c : ℕ) → IsCalling c (seat' c) (calling' c)) → AreClosing (after p.now s stop' inside' irq' readings' patching') seat' →
+      StopShows u (record p { now = after p.now s stop' inside' irq' readings' patching'; answers = answers'; looks = looks'; calls = calls'; calling = calling' }) at' seat' source
+  open_step_with looks' calls' calling' answers' was now work end gate keys slots past own present callings closing = record {
     setup = h.setup;
     present = present;
     gate = gate ∙ h.gate;
+    callings = callings;
+    closing = closing;
     sources = λ j. at_test j s (λ b. SourceShows u p.gate (cond b stop' (p.now.stop j)) (λ f. at' (Slot j f)) j (source j))
         (λ e. let P : ℕ → Type 0 = λ k. SourceShows u p.gate stop' (λ f. at' (Slot k f)) k (source k) in
         subst P (sym e) (source_open u p.gate s (p.now.stop s) stop' (λ f. at (Slot s f)) (λ f. at' (Slot s f)) was now work end (source s) (h.sources s)))
@@ -106,16 +110,17 @@ module _ (u : Setup) (p : StopState) (at : Word → ℕ) (seat : ℕ → Seat) (
   }
 
   -- a step on an open stop that begins, answers and collects nothing
-  pub open_step : (looks' : ℕ → List ℕ) (calls' : ℕ → List StopCall) → StaysOpen (p.now.stop s) stop' →
+  pub open_step : (looks' : ℕ → List ℕ) (calls' : ℕ → List StopCall) (calling' : ℕ → Calling) → StaysOpen (p.now.stop s) stop' →
       at' Gate ≡ at Gate → ((k : ℕ) → at' (Key k) ≡ at (Key k)) → ((j : ℕ) → j ≢ s → (f : Field) → at' (Slot j f) ≡ at (Slot j f)) →
       ((j : ℕ) → OwnsKey u.first (after p.now s stop' inside' irq' readings' patching') (λ k. at' (Key k)) j) →
       PresentShows u (after p.now s stop' inside' irq' readings' patching') at' seat' →
-      StopShows u (record p { now = after p.now s stop' inside' irq' readings' patching'; looks = looks'; calls = calls' }) at' seat' source
-  open_step looks' calls' stays gate keys slots own present = open_step_with looks' calls' p.answers stays.was stays.now stays.work stays.end gate keys slots
+      ((c : ℕ) → IsCalling c (seat' c) (calling' c)) → AreClosing (after p.now s stop' inside' irq' readings' patching') seat' →
+      StopShows u (record p { now = after p.now s stop' inside' irq' readings' patching'; looks = looks'; calls = calls'; calling = calling' }) at' seat' source
+  open_step looks' calls' calling' stays gate keys slots own present callings closing = open_step_with looks' calls' calling' p.answers stays.was stays.now stays.work stays.end gate keys slots
       (λ j. at_test j s (λ b. HasPast (cond b stop' (p.now.stop j)) (p.begun j) (p.collected j) (λ c. p.answers c j))
       (λ e. let P : ℕ → Type 0 = λ k. HasPast stop' (p.begun k) (p.collected k) (λ c. p.answers c k) in
       subst P (sym e) (past_same (p.now.stop s) stop' (p.begun s) (p.collected s) (λ c. p.answers c s) (stays.now ∙ sym stays.was) (λ _. stays.work) stays.given (h.past s)))
-      (λ ne. h.past j)) own present
+      (λ ne. h.past j)) own present callings closing
 
 -- the words of other slots, where one field of one slot was changed
 pub other_slots : (at : Word → ℕ) (s : ℕ) (g : Field) (n : ℕ) (j : ℕ) → j ≢ s → (f : Field) → put_word at (Slot s g) n (Slot j f) ≡ at (Slot j f)

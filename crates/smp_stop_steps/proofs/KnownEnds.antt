@@ -3,13 +3,15 @@ use Rattle.std.proofs.Common.{◌≡◌, ◌≢◌, ℕ, ◌-◌, ◌<◌, false
 use Rattle.smp_words.specs.Access.{one_less}
 use Rattle.smp_words.specs.Put.{put, put_word}
 use Rattle.smp_words.specs.Size.{cpus}
+use Rattle.smp_stop_steps.specs.Callings.{IsCalling, answer_in, with_answer}
+use Rattle.smp_stop_steps.proofs.Callings.{answer_replaced, calling_given}
 use Rattle.smp_stop_steps.specs.Seats.{Seat, Free, In, Gives, Closes, Rests}
 use Rattle.smp_stop_steps.specs.Shows.{StopShows}
 use Rattle.smp_stop_steps.specs.Sources.{Source}
-use Rattle.smp_stop_steps.specs.State.{Setup, StopState}
+use Rattle.smp_stop_steps.specs.State.{Setup, StopState, Calling, Idle, Calls, Carries}
 use Rattle.smp_stop_steps.specs.Stop.{Standing}
 use Rattle.smp_stop_steps.specs.Tells.{told, stored_open, stored_shut, completes, completes_with}
-use Rattle.smp_stop_steps.specs.Known.{Known, Sees, GoesOn, columns_of, AreFirst, setup_in}
+use Rattle.smp_stop_steps.specs.Known.{told_calling, Known, Sees, GoesOn, columns_of, AreFirst, setup_in}
 use Rattle.smp_stop_steps.specs.KnownAfter.{is_drafting, drafted_known, slot_stored, member_stored, given_by, completed_by, completed_with}
 use Rattle.smp_stop_steps.specs.Moves.{IsThrough}
 use Rattle.smp_words.specs.declared.seen.Act.TheVariants as act
@@ -20,9 +22,20 @@ use Rattle.smp_words.specs.declared.word.Word.TheVariants.{Slot}
 use Rattle.smp_stop_steps.proofs.Completions.{result_stored, todo_subtracted, todo_subtracted_answered, done_stored}
 use Rattle.smp_stop_steps.proofs.Counts.{put_here, put_else}
 use Rattle.smp_stop_steps.proofs.Facts.{todo_bounds, todo_bounds_answered}
-use Rattle.smp_stop_steps.proofs.KnownRounds.{stands, stored_plain, small}
+use Rattle.smp_stop_steps.proofs.KnownRounds.{open_at, stands, small}
 use Rattle.smp_stop_steps.proofs.Parts.{Leaves, first_put, goes_seat}
 use Rattle.smp_stop_steps.proofs.StageSteps.{less_one}
+
+-- another answer is told as the one before
+answers : (x : ℕ) (f : Calling) → f ≢ Idle → answer_in (with_answer x f) ≡ x
+answers x Idle ne = absurd (ne refl)
+answers x (Calls call) ne = refl
+answers x (Carries y) ne = refl
+
+told_same : (x : ℕ) (f : Calling) → told_calling (with_answer x f) ≡ told_calling f
+told_same x Idle = refl
+told_same x (Calls call) = refl
+told_same x (Carries y) = refl
 
 module _ (p : StopState) (at : Word → ℕ) (seat : ℕ → Seat) (source : ℕ → Source) (v : Known) (h : StopShows (setup_in v.setting) p at seat source) (sees : Sees p seat source v) where
   abbrev u : Setup
@@ -31,17 +44,48 @@ module _ (p : StopState) (at : Word → ℕ) (seat : ℕ → Seat) (source : ℕ
   abbrev Goes : (Word → ℕ) → Known → Type 0
   Goes at' w = GoesOn v.setting p seat source v.number at' w
 
-  pub give : (s : ℕ) (w : Work) (a l x : ℕ) → v.seat ≡ In s w a l Rests → IsThrough w a → x ≢ 0 → is_drafting v.source ≡ false →
+  -- until the completion tells it, any answer may be put for that of the function
+  abbrev answering : ℕ → StopState
+  answering x = record p { calling = put p.calling v.number (with_answer x (p.calling v.number)) }
+
+  pub answers_so : (s : ℕ) (w : Work) (a l x : ℕ) → seat v.number ≡ In s w a l Rests → StopShows u (answering x) at seat source
+  answers_so s w a l x here = answer_replaced u p at seat source h v.number s w a l Rests x here
+
+  pub give : (s : ℕ) (w : Work) (a l x : ℕ) → v.seat ≡ In s w a l Rests → IsThrough w a → x ≢ 0 → is_drafting v.source ≡ false → v.part.calling ≢ Idle →
       Goes (put_word at (Slot s field.Result) x) (slot_stored field.Result x v)
-  give s w a l x is through some idle =
+  give s w a l x is through some idle runs =
       let at' = put_word at (Slot s field.Result) x in
+      let here = sees.seat_is ∙ is in
+      let f = p.calling v.number in
+      let g = with_answer x f in
+      let p0 = answering x in
+      let h0 = answers_so s w a l x here in
+      let called : f ≢ Idle = λ none. runs (sym sees.part_is.calling ∙ ap told_calling none) in
+      let mine : p0.calling v.number ≡ g = put_here p.calling v.number g in
+      let calls : IsCalling v.number (Gives s w a x) (p0.calling v.number) = subst (IsCalling v.number (Gives s w a x)) (sym mine)
+      (calling_given v.number s w a l x g some through (sym (answers x f called)) (subst (λ y. IsCalling v.number y g) here (subst (IsCalling v.number (seat v.number)) mine (h0.callings v.number)))) in
       let known : slot_stored field.Result x v ≡ record v { seat = Gives s w a x } =
       ap (λ b. cond b (drafted_known field.Result x v) (member_stored field.Result x v)) idle ∙ ap (λ y. record v { seat = given_by x y }) is in
+      let k = sees.part_is in
       subst (λ q. Goes at' q) (sym known)
-      (goes_seat p seat source v sees (stored_open p v.number s field.Result x) at' (Gives s w a x) v.part
-      (subst (λ q. StopShows u q at' (put seat v.number (Gives s w a x)) source) (stored_plain p at seat source v h sees s field.Result x w a l Rests is)
-      (result_stored u p at seat source h s v.number w a l (sees.seat_is ∙ is) through x 0 some))
-      record { mine = sees.part_is; others = λ c ne. refl })
+      (goes_seat p seat source v sees (stored_open p0 v.number s field.Result x) at' (Gives s w a x) v.part
+      (subst (λ q. StopShows u q at' (put seat v.number (Gives s w a x)) source)
+      (ap (λ b. cond b (stored_open p0 v.number s field.Result x) (stored_shut p0 s field.Result x)) (open_at p at seat source v h sees s w a l Rests is))
+      (result_stored u p0 at seat source h0 s v.number w a l here through x 0 some calls))
+      record {
+        mine = record {
+          holds = k.holds;
+          begun = k.begun;
+          collected = k.collected;
+          answers = k.answers;
+          looks = k.looks;
+          calling = ap told_calling mine ∙ (told_same x f ∙ k.calling);
+          readings = k.readings;
+          nudged = k.nudged;
+          patched = k.patched;
+        };
+        others = λ c ne. ap (λ y. record (columns_of p c) { calling = told_calling y }) (put_else p.calling v.number g c ne);
+      })
 
   completed_leaves : (s : ℕ) (w : Work) (a x found : ℕ) → s < cpus → Leaves v.number p (completes_with p v.number s a x found) (completed_with found s w x v).part
   completed_leaves s w a x found low =
@@ -57,11 +101,13 @@ module _ (p : StopState) (at : Word → ℕ) (seat : ℕ → Seat) (source : ℕ
           answers = subst (λ f. AreFirst cpus f [] (set v.part.answers s (get_or v.part.answers s [] ++ x ∷ []))) (sym (put_here p.answers v.number mine))
               (subst (λ l. AreFirst cpus mine [] (set v.part.answers s (l ++ x ∷ []))) (k.answers.each s low) grown);
           looks = k.looks;
+          calling = ap told_calling (put_here p.calling v.number Idle);
           readings = k.readings;
           nudged = k.nudged;
           patched = k.patched;
         };
-        others = λ c ne. ap (λ y. record (columns_of p c) { answers = y }) (put_else p.answers v.number mine c ne);
+        others = λ c ne. ap (λ y. record (columns_of p c) { answers = y; calling = told_calling ((put p.calling v.number Idle) c) }) (put_else p.answers v.number mine c ne)
+            ∙ ap (λ y. record (columns_of p c) { calling = told_calling y }) (put_else p.calling v.number Idle c ne);
       }
 
   -- the seat of who has counted itself, and what it knows

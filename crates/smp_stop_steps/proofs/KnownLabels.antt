@@ -127,6 +127,7 @@ module _ (p : StopState) (at : Word → ℕ) (seat : ℕ → Seat) (source : ℕ
               collected = parts.collected;
               answers = parts.answers;
               looks = parts.looks;
+              calling = parts.calling;
               readings = parts.readings;
               nudged = counted_first p.nudged v.number k found new v.part.nudged parts.nudged low;
               patched = parts.patched;
@@ -164,6 +165,7 @@ module _ (p : StopState) (at : Word → ℕ) (seat : ℕ → Seat) (source : ℕ
       collected = parts.collected;
       answers = parts.answers;
       looks = parts.looks;
+      calling = parts.calling;
       readings = same v.number ∙ parts.readings;
       nudged = parts.nudged;
       patched = counted_first p.patched v.number k count n v.part.patched parts.patched low;

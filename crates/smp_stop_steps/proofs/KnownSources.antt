@@ -184,6 +184,7 @@ module _ (p : StopState) (at : Word → ℕ) (seat : ℕ → Seat) (source : ℕ
       collected = k.collected;
       answers = k.answers;
       looks = k.looks;
+      calling = k.calling;
       readings = k.readings;
       nudged = k.nudged;
       patched = k.patched;
@@ -221,6 +222,8 @@ module _ (p : StopState) (at : Word → ℕ) (seat : ℕ → Seat) (source : ℕ
     setup = h.setup;
     present = h.present;
     gate = h.gate;
+    callings = h.callings;
+    closing = h.closing;
     sources = put_all (λ j x. SourceShows u p.gate (p.now.stop j) (λ f. at (Slot j f)) j x) source v.number y it (λ j ne. h.sources j);
     past = h.past;
     owns = h.owns;
@@ -303,6 +306,7 @@ module _ (p : StopState) (at : Word → ℕ) (seat : ℕ → Seat) (source : ℕ
           collected = k.collected;
           answers = k.answers;
           looks = k.looks;
+          calling = k.calling;
           readings = k.readings;
           nudged = k.nudged;
           patched = k.patched;
@@ -341,6 +345,7 @@ module _ (p : StopState) (at : Word → ℕ) (seat : ℕ → Seat) (source : ℕ
           collected = put_here p.collected v.number more ∙ ap (λ l. l ++ found ∷ []) k.collected;
           answers = k.answers;
           looks = k.looks;
+          calling = k.calling;
           readings = k.readings;
           nudged = k.nudged;
           patched = k.patched;

@@ -18,6 +18,7 @@ pub mod Owns
 pub mod Pasts
 -- kinds of step
 pub mod Kept
+pub mod Callings
 pub mod Rounds
 pub mod Completions
 pub mod Sources
@@ -29,6 +30,7 @@ pub mod StageSteps
 pub mod RoundSteps
 pub mod AckSteps
 pub mod CompletionSteps
+pub mod CallSteps
 pub mod StateWords
 -- the machine: a stop table, and a list of controls
 pub mod Tables

@@ -12,7 +12,7 @@ use Rattle.smp_words.specs.Size.{cpus}
 use Rattle.smp_stop_steps.specs.Labels.{Change, count_set, patch_answer}
 use Rattle.smp_stop_steps.specs.Seats.{Alters, Closes, Fills, Gives, In, Rests, Seat, Sets, Stands, Turn}
 use Rattle.smp_stop_steps.specs.Shows.{StopShows}
-use Rattle.smp_stop_steps.specs.Sits.{HoldsGate, IsLoaded, IsThroughAll, Sits, SitsAt, SitsInCompletion, SitsInRound}
+use Rattle.smp_stop_steps.specs.Sits.{RunsIf, HoldsGate, IsLoaded, IsThroughAll, Sits, SitsAt, SitsInCompletion, SitsInRound}
 use Rattle.smp_stop_steps.specs.Sources.{Collects, Drafts, IsWork, Owns, Shut, Source, SourceShows}
 use Rattle.smp_stop_steps.specs.Stages.{StopControlValue, change_at, completion_access, label_word, round_access, stop_access, store_of}
 use Rattle.smp_stop_steps.specs.State.{Setup, StopState}
@@ -155,7 +155,7 @@ module _ (u : Setup) (p : StopState) (at : Word → ℕ) (seat : ℕ → Seat) (
               plan_named work key word false true = (key, sites_named work.func (is_on word) 0 u.entries (let f = h.present.entries.few in omega arith))
               plan_named work key word false false = (key, tt)
       round_named v (round.Acknowledge answer ran) x = ⊎_elim
-          (λ (y : (seat me ≡ In v.slot x.0 v.acked (v.acked + 1) Rests) × (v.acked ≡ 2 → v.kind ≡ Patch → has v.active me ≡ false)). below_in v.slot x.0 v.acked (v.acked + 1) Rests y.0)
+          (λ (y : (seat me ≡ In v.slot x.0 v.acked (v.acked + 1) Rests) × RunsIf me v ran). below_in v.slot x.0 v.acked (v.acked + 1) Rests y.0)
           (λ (y : (v.acked ≡ 2) × (ran ≡ true) × ((count : ℕ) × (answer ≡ patch_answer x.0 count) × (seat me ≡ Alters v.slot x.0 count (plan_at u x.0 count) []))). below_alters v.slot x.0 y.2.0 (plan_at u x.0 y.2.0) [] y.2.2) x.3
       round_named v (round.Refill ran) x = below_in v.slot x.0 v.acked v.acked Fills x.2
       round_named v (round.Raise ran) x = below_in v.slot x.0 v.acked v.acked Sets x.2

@@ -14,7 +14,7 @@ use Rattle.smp_stop_steps.specs.Present.{RunnerShows}
 use Rattle.smp_stop_steps.specs.Promises.{IsPatched, KeysStand, Nudges, ReadsOwnPatch, StandsAtEdge}
 use Rattle.smp_stop_steps.specs.Seats.{Alters, In, Rests, Seat, Stands}
 use Rattle.smp_stop_steps.specs.Shows.{StopShows}
-use Rattle.smp_stop_steps.specs.Sits.{IsNudge, Sits, SitsAt, SitsAtRest}
+use Rattle.smp_stop_steps.specs.Sits.{RunsIf, IsNudge, Sits, SitsAt, SitsAtRest}
 use Rattle.smp_stop_steps.specs.Sources.{Source}
 use Rattle.smp_stop_steps.specs.Stages.{StopControlValue, nudge_on, stop_ends, stop_goes}
 use Rattle.smp_stop_steps.specs.State.{Present, Setup, StopState}
@@ -170,7 +170,7 @@ module _ (u : Setup) (p : StopState) (at : Word → ℕ) (seat : ℕ → Seat) (
       let x = (at_seat (Advance v (round.Acknowledge answer ran)) e).1 in
       either x.0 x.3
     where
-      either : (w : Work) → ((seat me ≡ In v.slot w v.acked (v.acked + 1) Rests) × (v.acked ≡ 2 → v.kind ≡ Patch → has v.active me ≡ false)) ⊎
+      either : (w : Work) → ((seat me ≡ In v.slot w v.acked (v.acked + 1) Rests) × RunsIf me v ran) ⊎
           ((v.acked ≡ 2) × (ran ≡ true) × ((n : ℕ) × (answer ≡ patch_answer w n) × (seat me ≡ Alters v.slot w n (plan_at u w n) []))) →
           IsPatched u work count made rest answer ran
       either w (inl (sits, calm)) =

@@ -71,5 +71,6 @@ opened_shown online labels t controls member below are gate slots entries lawful
       record { few = let l = length-map labels.entries entry_word in let f = are.few_sites in omega arith; read = λ i low. rw entries (read_zeros (map entry_word labels.entries) (MOST_SITES - length labels.entries) i) }
       lawful (λ k. rw off (get_or-same 0 MOST_KEYS k));
   sits = λ cpu low. rw outside (rw (get_or-same stop_outside cpus cpu) record { below = low; irq = refl; seat = refl; source = refl; gate_held = tt });
+  carries = λ cpu low. rw outside (rw (get_or-same stop_outside cpus cpu) tt);
   shut = λ cpu high. refl;
 }

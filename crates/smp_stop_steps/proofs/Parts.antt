@@ -39,6 +39,7 @@ fresh_sees k me low = record {
     collected = refl;
     answers = first_same cpus [];
     looks = refl;
+    calling = refl;
     readings = refl;
     nudged = first_same MOST_KEYS unmoved;
     patched = first_same MOST_KEYS unmoved;

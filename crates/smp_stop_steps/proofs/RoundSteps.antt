@@ -6,7 +6,7 @@ use Rattle.std.proofs.Common.{◌≡◌, ◌≢◌, ℕ, suc, ◌+◌, ◌-◌, 
 use Rattle.std.proofs.lemmas.Bool.{cases_lt}
 use Rattle.std.proofs.lemmas.List.{take_more, get_or_past, append-nil}
 use Rattle.smp_words.proofs.Puts.{at_test}
-use Rattle.smp_stop_steps.proofs.Facts.{inside_keeps, state_near, work_words}
+use Rattle.smp_stop_steps.proofs.Facts.{arg_loaded, inside_keeps, state_near, work_words}
 use Rattle.smp_stop_steps.proofs.Patching.{key_loaded_first, key_stored, site_stored}
 use Rattle.smp_stop_steps.proofs.Rounds.{look_irq, state_loaded}
 use Rattle.smp_stop_steps.proofs.StageSteps.{put_same_fn}
@@ -130,7 +130,7 @@ module _ (u : Setup) (p : StopState) (at : Word → ℕ) (seat : ℕ → Seat) (
           record {
             below = s.below;
             irq = off work is more up;
-            seat = (visit, (work, loaded, below work is more, inl (ap (λ n. In v.slot work v.acked n Rests) up, λ two _. not_three (at (Slot v.slot State)) (has v.active me) (omega arith) f)));
+            seat = (visit, (work, loaded, below work is more, inl (ap (λ n. In v.slot work v.acked n Rests) up, λ two. not_three (at (Slot v.slot State)) (has v.active me) (omega arith) f)));
             source = y;
             gate_held = tt;
           }
@@ -153,7 +153,7 @@ module _ (u : Setup) (p : StopState) (at : Word → ℕ) (seat : ℕ → Seat) (
       record {
         seat_after = seat me;
         source_after = source me;
-        shows = still p at h;
+        shows = still (state_after u p at c me (Advance v (round.LoadArg answer func))) at (arg_loaded u p at seat source h v.slot me r.1.1.0 2 3 Rests run.3 answer refl);
         sits = go r.0 r.1.0 r.1.1.0 run r.1.1.2 (at_source (round.LoadArg answer func) e) v.kind refl;
       }
     where
@@ -164,7 +164,7 @@ module _ (u : Setup) (p : StopState) (at : Word → ℕ) (seat : ℕ → Seat) (
           record {
             below = s.below;
             irq = s.irq;
-            seat = (visit, (work, run.0, (let two = run.1 in omega arith), inl (run.3 ∙ (ap (λ n. In v.slot work n 3 Rests) (sym run.1) ∙ ap (λ n. In v.slot work v.acked n Rests) (let two = run.1 in omega arith)), λ _ patch. absurd (let bad : Multi ≡ Patch = sym k ∙ patch in cc))));
+            seat = (visit, (work, run.0, (let two = run.1 in omega arith), inl (run.3 ∙ (ap (λ n. In v.slot work n 3 Rests) (sym run.1) ∙ ap (λ n. In v.slot work v.acked n Rests) (let two = run.1 in omega arith)), (run.1, k, run.2))));
             source = y;
             gate_held = tt;
           }

@@ -1,4 +1,6 @@
 -- The kinds of step of a round: a CPU looks at the phase, acknowledges it, refills the count, and stores the next phase.
+use Rattle.smp_stop_steps.specs.Callings.{HasCalled, IsCalling, AreClosing}
+use Rattle.smp_stop_steps.proofs.Callings.{calling_same, calling_looked, IsNotClosing, calling_turned, closing_kept, calling_acked, idle_patch, carried_alone, calling_next, calling_ran}
 use Rattle.std.proofs.Common.{◌≡◌, ◌≢◌, ℕ, ◌+◌, ◌-◌, ◌<◌, ◌≤◌, Bool, true, false, not, nat_lt, lt-ltb, le-ltb, eqb-true, eq-eqb, ne_eqb, ◌==◌, ◌&&◌, ◌||◌, cond, sym, subst, refl, ap, ◌∙◌, ◌⊎◌, inl, inr, arith, ⊎_elim, Some, None, List, [], ◌∷◌, ◌++◌, Option, IfSome}
 use Rattle.std.proofs.lemmas.Bool.{cases_lt, cases_eq}
 use Rattle.smp_words.proofs.Puts.{at_test, put_all}
@@ -12,16 +14,16 @@ use Rattle.smp_stop_steps.proofs.Steps.{step_acknowledges, step_looks, step_rais
 use Rattle.smp_stop_steps.proofs.Works.{weight_of_mask}
 use Rattle.smp_words.specs.Put.{put, put_word}
 use Rattle.smp_stop_steps.specs.Counts.{mask_weight, weight}
-use Rattle.smp_stop_steps.specs.Labels.{Agrees, Change, Patches, Patching, Reading, Whole, labels_in, StandsSet, reading_of, state_left}
+use Rattle.smp_stop_steps.specs.Labels.{Agrees, Change, Patches, Patching, Reading, Whole, labels_in, StandsSet, reading_of, state_left, patch_answer}
 use Rattle.smp_stop_steps.specs.Past.{answer_now}
 use Rattle.smp_stop_steps.specs.Present.{OwnsKey, PresentShows, RunnerShows}
 use Rattle.smp_stop_steps.specs.Seats.{Alters, Fills, In, Rests, Seat, Sets, Stands, Turn, irq_of, turn_of}
 use Rattle.smp_stop_steps.specs.Shows.{StopShows}
-use Rattle.smp_stop_steps.specs.Slots.{AckShows, IsLevel, Keeps, OpenShows}
+use Rattle.smp_stop_steps.specs.Slots.{AckShows, IsLevel, Keeps, OpenShows, IsPhaseOf}
 use Rattle.smp_stop_steps.specs.Sources.{Source}
-use Rattle.smp_stop_steps.specs.State.{Present, Setup, StopCall, StopState}
+use Rattle.smp_stop_steps.specs.State.{Present, Setup, StopCall, StopState, Calling, Carries}
 use Rattle.smp_stop_steps.specs.Stop.{Answering, Called, Completed, Inside, Nobody, Outside, Raises, Raising, Refills, Standing, Stop, acked, acknowledged, is_inside, raised, refilled, stands}
-use Rattle.smp_stop_steps.specs.Tells.{acknowledges, calls_at_run, calls_more, first_readings, is_patch, leaves, looked_by, stored_open, stored_shut, told, unpatched, with_stop}
+use Rattle.smp_stop_steps.specs.Tells.{acknowledges, calls_at_run, first_readings, is_patch, leaves, looked_by, stored_open, stored_shut, told, unpatched, with_stop, called_more, carried, carried_call}
 use Rattle.smp_words.specs.declared.seen.Act.TheVariants as act
 use Rattle.smp_words.specs.declared.field.Field.TheVariants.{Ack, State}
 use Rattle.smp_words.specs.declared.work.Kind.TheVariants.{Multi, One, Patch}
@@ -97,7 +99,7 @@ module _ (u : Setup) (p : StopState) (at : Word → ℕ) (seat : ℕ → Seat) (
       let inside : MovesInside ((p.now.stop s).standing me) to = record { inside = λ _. ap is_inside st.1; late = λ x. subst (λ (y : Standing). 3 ≤ acked y) (sym st.1) x; given = sym (ap answer_now st.1) } in
       subst (λ (x : Standing). StopShows u (record p { now = after p.now s (stands (p.now.stop s) me (looked_by x found)) p.now.inside irq' p.now.readings p.now.patching; looks = looks' }) at (put seat me next) source)
       (sym st.1)
-      (open_step u p at seat source h s stop' p.now.inside irq' p.now.readings p.now.patching at (put seat me next) looks' p.calls
+      (open_step u p at seat source h s stop' p.now.inside irq' p.now.readings p.now.patching at (put seat me next) looks' p.calls p.calling
       record { was = is_open job a l Rests is; now = is_open job a l Rests is; work = refl; end = λ e. e; given = moves_given u.first s me (p.now.stop s) to inside }
       refl (λ k. refl) (λ j ne f. refl)
       (owns_kept u.first p.now (λ k. at (Key k)) s stop' p.now.inside irq' p.now.readings p.now.patching
@@ -105,8 +107,13 @@ module _ (u : Setup) (p : StopState) (at : Word → ℕ) (seat : ℕ → Seat) (
       (moves_early u.first s me (p.now.stop s) to inside stop' refl) h.owns)
       (step_looks u p.now at seat h.present s me irq' p.now.readings (save found) job a l is more
       (turned found refl (o.state ∙ refl) k (h.present.irq me ∙ ap irq_of is))
-      (λ on i. h.present.read me on (before found (sym (turned found refl (o.state ∙ refl) k (h.present.irq me ∙ ap irq_of is)) ∙ refl) i))))
+      (λ on i. h.present.read me on (before found (sym (turned found refl (o.state ∙ refl) k (h.present.irq me ∙ ap irq_of is)) ∙ refl) i)))
+      (calling_same seat p.calling h.callings me next (calling_looked me s job a l found (p.calling me) (λ two three. o.state ∙ near k.2 two three) (subst (λ x. IsCalling me x (p.calling me)) is (h.callings me))))
+      (closing_kept p.now seat me next h.closing (subst IsNotClosing (sym is) tt) s stop' (λ c ne. put_else (p.now.stop s).standing me to c ne) refl refl))
     where
+      near : (l ≡ a) ⊎ ((l ≡ a + 1) × ((p.now.stop s).phase ≡ l)) → a ≡ 2 → l ≡ 3 → (p.now.stop s).phase ≡ 3
+      near k two three = ⊎_elim (λ (e : l ≡ a). absurd (let z : ⊥ = omega (arith, two, three) in z)) (λ (e : (l ≡ a + 1) × ((p.now.stop s).phase ≡ l)). e.1 ∙ three) k
+
       other_irq : (b : Bool) (c : ℕ) → c ≢ me → cond b (put p.now.irq me false) p.now.irq c ≡ p.now.irq c
       other_irq true c ne = put_else p.now.irq me false c ne
       other_irq false c ne = refl
@@ -196,19 +203,20 @@ module _ (u : Setup) (p : StopState) (at : Word → ℕ) (seat : ℕ → Seat) (
         at_false false = refl
 
     -- an acknowledgement, over a state in which nobody or another patches
-    ack_shown : (x : Patching) (seat0 : ℕ → Seat) (calls' : ℕ → List StopCall) → PresentShows u (record (p.now) { patching = x }) at seat0 → seat0 me ≡ In s job a (a + 1) Rests →
+    ack_shown : (x : Patching) (seat0 : ℕ → Seat) (calls' : ℕ → List StopCall) (calling' : ℕ → Calling) → PresentShows u (record (p.now) { patching = x }) at seat0 → seat0 me ≡ In s job a (a + 1) Rests →
         p.now.irq me ≡ nat_lt (a + 1) 2 → put seat0 me next ≡ put seat me next → (p.now.stop s).standing me ≡ Inside a (a + 1) → (p.now.stop s).is_open ≡ true →
         ((p.now.stop s).work.kind ≡ Patch → me ≡ u.first → a ≡ 2 → StandsSet (p.now.stop s).work (at (Key (p.now.stop s).work.func))) →
         (a + 1 ≡ 4 → AllByRecursion (Agrees (labels_in at)) (first_readings me s (p.now.stop s).work)) →
+        ((c : ℕ) → IsCalling c (put seat me next c) (calling' c)) → IsNotClosing (seat me) →
         (b : Bool) → (a + 1 == 4 && not (found == 1)) ≡ b →
-        StopShows u (record p { now = cond b (leaves (acked_now x) me s (p.now.stop s).work) (acked_now x); calls = calls' }) (put_word at (Slot s Ack) (found - 1)) (put seat me next) source
-    ack_shown x seat0 calls' present is off same st op known agrees true e =
+        StopShows u (record p { now = cond b (leaves (acked_now x) me s (p.now.stop s).work) (acked_now x); calls = calls'; calling = calling' }) (put_word at (Slot s Ack) (found - 1)) (put seat me next) source
+    ack_shown x seat0 calls' calling' present is off same st op known agrees callings idle true e =
         let irq' = put p.now.irq me true in
         let readings' = put p.now.readings me (first_readings me s (p.now.stop s).work) in
         let at' = put_word at (Slot s Ack) (found - 1) in
         let to = Inside (a + 1) (a + 1) in
-        subst (λ (y : ℕ → Seat). StopShows u (record p { now = leaves (acked_now x) me s (p.now.stop s).work; calls = calls' }) at' y source) same
-        (open_step u p at seat source h s acked_stop p.now.inside irq' readings' x at' (put seat0 me next) p.looks calls'
+        subst (λ (y : ℕ → Seat). StopShows u (record p { now = leaves (acked_now x) me s (p.now.stop s).work; calls = calls'; calling = calling' }) at' y source) same
+        (open_step u p at seat source h s acked_stop p.now.inside irq' readings' x at' (put seat0 me next) p.looks calls' calling'
         record { was = op; now = op; work = refl; end = λ e. e; given = put_all (λ c y. answer_now y ≡ answer_now ((p.now.stop s).standing c)) (p.now.stop s).standing me to (sym (ap answer_now st)) (λ c ne. refl) }
         refl (λ k. refl) (other_slots at s Ack (found - 1))
         (owns_acked x irq' readings' st known)
@@ -216,40 +224,68 @@ module _ (u : Setup) (p : StopState) (at : Word → ℕ) (seat : ℕ → Seat) (
         record { inside = λ c ne. refl; irq = λ c ne. put_else p.now.irq me true c ne; readings = λ c ne. put_else p.now.readings me (first_readings me s (p.now.stop s).work) c ne }
         job a is
         (put_here p.now.irq me true ∙ sym (leaves_irq (found == 1) ∙ ap (λ b. cond b true (nat_lt (a + 1) 2)) e))
-        (λ _ _. subst (AllByRecursion (Agrees (labels_in at))) (sym (put_here p.now.readings me (first_readings me s (p.now.stop s).work))) (agrees (eqb-true (a + 1) 4 (both_true (a + 1 == 4) (not (found == 1)) e).0)))))
-    ack_shown x seat0 calls' present is off same st op known agrees false e =
+        (λ _ _. subst (AllByRecursion (Agrees (labels_in at))) (sym (put_here p.now.readings me (first_readings me s (p.now.stop s).work))) (agrees (eqb-true (a + 1) 4 (both_true (a + 1 == 4) (not (found == 1)) e).0))))
+        (subst (λ (y : ℕ → Seat). (c : ℕ) → IsCalling c (y c) (calling' c)) (sym same) callings)
+        (subst (AreClosing (record (acked_now x) { irq = irq'; readings = readings' })) (sym same) (closing_kept p.now seat me next h.closing idle s acked_stop (λ c ne. put_else (p.now.stop s).standing me to c ne) refl refl)))
+    ack_shown x seat0 calls' calling' present is off same st op known agrees callings idle false e =
         let at' = put_word at (Slot s Ack) (found - 1) in
         let to = Inside (a + 1) (a + 1) in
         let turned : p.now.irq me ≡ irq_of next = off ∙ sym (leaves_irq (found == 1) ∙ ap (λ b. cond b true (nat_lt (a + 1) 2)) e) in
-        subst (λ (y : ℕ → Seat). StopShows u (record p { now = acked_now x; calls = calls' }) at' y source) same
-        (open_step u p at seat source h s acked_stop p.now.inside p.now.irq p.now.readings x at' (put seat0 me next) p.looks calls'
+        subst (λ (y : ℕ → Seat). StopShows u (record p { now = acked_now x; calls = calls'; calling = calling' }) at' y source) same
+        (open_step u p at seat source h s acked_stop p.now.inside p.now.irq p.now.readings x at' (put seat0 me next) p.looks calls' calling'
         record { was = op; now = op; work = refl; end = λ e. e; given = put_all (λ c y. answer_now y ≡ answer_now ((p.now.stop s).standing c)) (p.now.stop s).standing me to (sym (ap answer_now st)) (λ c ne. refl) }
         refl (λ k. refl) (other_slots at s Ack (found - 1))
         (owns_acked x p.now.irq p.now.readings st known)
         (step_acknowledges u (record (p.now) { patching = x }) at seat0 present s me p.now.irq p.now.readings
         record { inside = λ c ne. refl; irq = λ c ne. refl; readings = λ c ne. refl }
-        job a is turned (λ on i. h.present.read me on (turned ∙ i))))
+        job a is turned (λ on i. h.present.read me on (turned ∙ i)))
+        (subst (λ (y : ℕ → Seat). (c : ℕ) → IsCalling c (y c) (calling' c)) (sym same) callings)
+        (subst (AreClosing (acked_now x)) (sym same) (closing_kept p.now seat me next h.closing idle s acked_stop (λ c ne. put_else (p.now.stop s).standing me to c ne) refl refl)))
 
     abbrev pub calls_then : ℕ → List StopCall
-    calls_then = cond (a + 1 == 3 && calls_at_run me (p.now.stop s).work) (calls_more p.calls me (p.now.stop s).work answer) p.calls
+    calls_then = cond (a + 1 == 3) (called_more p.calls me (p.calling me)) p.calls
+
+    abbrev pub calling_then : Patching → ℕ → Calling
+    calling_then x = cond (a + 1 == 3) (put p.calling me (carried me x (p.calling me))) p.calling
+
+    -- the function of a CPU that patches nothing, once the phase is acknowledged
+    acked_calling : (b : Bool) → (a + 1 == 3) ≡ b → seat me ≡ In s job a (a + 1) Rests → job.kind ≢ One → (a ≡ 2 → HasCalled me job (p.calling me)) →
+        (c : ℕ) → IsCalling c (put seat me next c) (cond b (put p.calling me (carried me p.now.patching (p.calling me))) p.calling c)
+    acked_calling false e is many ready =
+        calling_same seat p.calling h.callings me next
+        (calling_acked me s job a (cond (found == 1) Fills Rests) (p.calling me) (λ two. let bad : true ≡ false = sym (eq-eqb (a + 1) 3 (omega (arith, two))) ∙ e in cc) many (subst (λ x. IsCalling me x (p.calling me)) is (h.callings me)))
+    acked_calling true e is many ready =
+        let two : a ≡ 2 = let x = eqb-true (a + 1) 3 e in omega arith in
+        let t = cond (found == 1) Fills Rests in
+        let alone = carried_alone u.first p.now.patching seat me (p.calling me) (subst IsNoPatch (sym is) tt) h.present.runner in
+        let ran = calling_ran me s job t (p.calling me) many (ready two) (subst (λ n. IsCalling me (In s job n (n + 1) Rests) (p.calling me)) two (subst (λ x. IsCalling me x (p.calling me)) is (h.callings me))) in
+        calling_next seat p.calling h.callings me next (carried me p.now.patching (p.calling me))
+        (subst (IsCalling me next) (sym alone) (subst (λ n. IsCalling me (In s job (n + 1) (n + 1) t) (carried_call (p.calling me))) (sym two) ran))
 
     -- fetch_sub of the count, by a CPU that has looked at a new phase and runs no patch
-    pub ack_subtracted : seat me ≡ In s job a (a + 1) Rests → (a ≡ 2 → job.kind ≡ Patch → has job.active me ≡ false) →
+    pub ack_subtracted : seat me ≡ In s job a (a + 1) Rests → (a ≡ 2 → HasCalled me job (p.calling me)) →
         StopShows u (told u p me act.Sub (Slot s Ack) (Some found) (Some (found - 1)) answer) (put_word at (Slot s Ack) (found - 1)) (put seat me next) source
-    ack_subtracted is calm =
+    ack_subtracted is ready =
         let st = here job a (a + 1) Rests is in
         let k = keeps job a (a + 1) Rests is in
         let idle : IsNoPatch (seat me) = subst IsNoPatch (sym is) tt in
         let phase : (p.now.stop s).phase ≡ a + 1 = ⊎_elim (λ (e : a + 1 ≡ a). absurd (omega arith)) (λ (e : (a + 1 ≡ a + 1) × ((p.now.stop s).phase ≡ a + 1)). e.1) k.2 in
+        let many : job.kind ≢ One = λ one. several ((p.now.stop s).work.kind) (ap (λ (w : Work). w.kind) st.3 ∙ one) (shown job a (a + 1) Rests is).kinds phase in
         let off : p.now.irq me ≡ nat_lt (a + 1) 2 = h.present.irq me ∙ (ap irq_of is ∙ or_false (nat_lt (a + 1) 2) (a == 4) (ne_eqb a 4 (λ e. let m = k.3 in omega arith))) in
-        subst (λ (x : Standing). StopShows u (acknowledges p me s x found answer) (put_word at (Slot s Ack) (found - 1)) (put seat me next) source) (sym st.1)
-        (subst (λ (x : Patching). StopShows u (record p { now = cond (a + 1 == 4 && not (found == 1)) (leaves (acked_now x) me s (p.now.stop s).work) (acked_now x); calls = calls_then }) (put_word at (Slot s Ack) (found - 1)) (put seat me next) source)
+        subst (λ (x : Standing). StopShows u (acknowledges p me s x found) (put_word at (Slot s Ack) (found - 1)) (put seat me next) source) (sym st.1)
+        (subst (λ (x : Patching). StopShows u (record p { now = cond (a + 1 == 4 && not (found == 1)) (leaves (acked_now x) me s (p.now.stop s).work) (acked_now x); calls = calls_then; calling = calling_then p.now.patching }) (put_word at (Slot s Ack) (found - 1)) (put seat me next) source)
         (sym (still (a + 1 == 3) idle))
-        (ack_shown p.now.patching seat calls_then h.present is off refl st.1 (is_open job a (a + 1) Rests is)
+        (ack_shown p.now.patching seat calls_then (calling_then p.now.patching) h.present is off refl st.1 (is_open job a (a + 1) Rests is)
         (λ kind mine two. absurd (active kind mine two st.3))
         (λ four. subst (λ (w : Work). AllByRecursion (Agrees (labels_in at)) (first_readings me s w)) (sym st.3) (leave_agrees job a (a + 1) Rests is (omega arith)))
+        (acked_calling (a + 1 == 3) refl is many ready) (subst IsNotClosing (sym is) tt)
         (a + 1 == 4 && not (found == 1)) refl))
       where
+        several : (k : KindOf) → k ≡ One → IsPhaseOf k (p.now.stop s).phase → (p.now.stop s).phase ≡ a + 1 → ⊥
+        several One e z phase = omega arith
+        several Multi e z phase = cc
+        several Patch e z phase = cc
+
         still : (b : Bool) → IsNoPatch (seat me) → cond b (unpatched me p.now.patching) p.now.patching ≡ p.now.patching
         still true idle = not_patching p.now.patching idle h.present.runner
         still false idle = refl
@@ -258,7 +294,9 @@ module _ (u : Setup) (p : StopState) (at : Word → ℕ) (seat : ℕ → Seat) (
         active kind mine two same =
             let w = h.present.works s (is_open job a (a + 1) Rests is) kind in
             let yes : has (p.now.stop s).work.active me ≡ true = w.first me ∙ eq-eqb me u.first mine in
-            let passive : has (p.now.stop s).work.active me ≡ false = ap (λ (w : Work). has w.active me) same ∙ calm two (ap (λ (w : Work). w.kind) (sym same) ∙ kind) in
+            let here = subst (λ n. IsCalling me (In s job n (a + 1) Rests) (p.calling me)) two (subst (λ x. IsCalling me x (p.calling me)) is (h.callings me)) in
+            let idle = idle_patch me s job (a + 1) Rests (p.calling me) (ap (λ (w : Work). w.kind) (sym same) ∙ kind) here in
+            let passive : has (p.now.stop s).work.active me ≡ false = ap (λ (w : Work). has w.active me) same ∙ subst (HasCalled me job) idle (ready two) in
             let bad : true ≡ false = sym yes ∙ passive in cc
 
   -- the same at phase 3, by the CPU that has made all stores of its patch
@@ -272,14 +310,19 @@ module _ (u : Setup) (p : StopState) (at : Word → ℕ) (seat : ℕ → Seat) (
       let seat0 = put seat me (In s job 2 3 Rests) in
       let next = In s job 3 3 (cond (found == 1) Fills Rests) in
       let open_ = is_open_inside u.cpus (p.now.stop s) (λ f. at (Slot s f)) (h.present.slots s) me (Inside 2 3) st.1 refl in
-      subst (λ (x : Standing). StopShows u (acknowledges p me s x found answer) (put_word at (Slot s Ack) (found - 1)) (put seat me next) source) (sym st.1)
-      (subst (λ (x : Patching). StopShows u (record p { now = acked_now job 2 answer (unpatched me x); calls = calls_then job 2 answer }) (put_word at (Slot s Ack) (found - 1)) (put seat me next) source)
+      let runner : RunnerShows u.first (Patches me job count made []) seat = subst (λ x. RunnerShows u.first x seat) st.5 h.present.runner in
+      let works = h.present.works s open_ (ap (λ (w : Work). w.kind) st.3 ∙ st.4) in
+      let active : has job.active me ≡ true = ap (λ (w : Work). has w.active me) (sym st.3) ∙ (works.first me ∙ eq-eqb me u.first runner.0) in
+      subst (λ (x : Standing). StopShows u (acknowledges p me s x found) (put_word at (Slot s Ack) (found - 1)) (put seat me next) source) (sym st.1)
+      (subst (λ (x : Patching). StopShows u (record p { now = acked_now job 2 answer (unpatched me x); calls = calls_then job 2 answer; calling = calling_then job 2 answer x }) (put_word at (Slot s Ack) (found - 1)) (put seat me next) source)
       (sym st.5)
-      (subst (λ b. StopShows u (record p { now = acked_now job 2 answer (cond b Whole (Patches me job count made [])); calls = calls_then job 2 answer }) (put_word at (Slot s Ack) (found - 1)) (put seat me next) source)
+      (subst (λ b. StopShows u (record p { now = acked_now job 2 answer (cond b Whole (Patches me job count made [])); calls = calls_then job 2 answer; calling = put p.calling me (cond b (Carries (patch_answer job count)) (carried_call (p.calling me))) }) (put_word at (Slot s Ack) (found - 1)) (put seat me next) source)
       (sym (eq-eqb me me refl))
-      (ack_shown job 2 answer Whole seat0 (calls_then job 2 answer) ends.0 (put_here seat me (In s job 2 3 Rests)) (h.present.irq me ∙ ap irq_of is) (put_twice seat me (In s job 2 3 Rests) next) st.1 open_
+      (ack_shown job 2 answer Whole seat0 (calls_then job 2 answer) (put p.calling me (Carries (patch_answer job count))) ends.0 (put_here seat me (In s job 2 3 Rests)) (h.present.irq me ∙ ap irq_of is) (put_twice seat me (In s job 2 3 Rests) next) st.1 open_
       (λ kind mine two. subst (λ (w : Work). StandsSet w (at (Key w.func))) (sym st.3) ends.1)
-      (λ four. absurd (let z : ⊥ = omega (arith, four) in z)) false refl)))
+      (λ four. absurd (let z : ⊥ = omega (arith, four) in z))
+      (calling_next seat p.calling h.callings me next (Carries (patch_answer job count)) (omega arith, active)) (subst IsNotClosing (sym is) tt)
+      false refl)))
 
   -- store of the count by the one that emptied it: the weight of the mask
   pub ack_stored : (job : Work) (a l answer : ℕ) → seat me ≡ In s job a l Fills →
@@ -295,12 +338,14 @@ module _ (u : Setup) (p : StopState) (at : Word → ℕ) (seat : ℕ → Seat) (
       let whole : weight u.cpus (p.now.stop s).standing ≡ v = weight_of_mask u.cpus (p.now.stop s) (λ f. at (Slot s f)) (h.present.slots s) open_ ∙ ap (λ (w : Work). mask_weight u.cpus w.mask) st.3 in
       let stays : StaysOpen (p.now.stop s) stop' = record { was = open_; now = open_; work = refl; end = λ e. e; given = λ c. refl } in
       subst (λ b. StopShows u (cond b (stored_open p me s Ack v) (stored_shut p s Ack v)) (put_word at (Slot s Ack) v) (put seat me next) source) (sym open_)
-      (open_step u p at seat source h s stop' p.now.inside p.now.irq p.now.readings p.now.patching (put_word at (Slot s Ack) v) (put seat me next) p.looks p.calls stays
+      (open_step u p at seat source h s stop' p.now.inside p.now.irq p.now.readings p.now.patching (put_word at (Slot s Ack) v) (put seat me next) p.looks p.calls p.calling stays
       refl (λ k. refl) (other_slots at s Ack v)
       (owns_kept u.first p.now (λ k. at (Key k)) s stop' p.now.inside p.now.irq p.now.readings p.now.patching stays record { inside = λ i. i; late = λ i. i } h.owns)
       (subst (λ n. PresentShows u (after p.now s stop' p.now.inside p.now.irq p.now.readings p.now.patching) (put_word at (Slot s Ack) n) (put seat me next)) whole
       (step_refills u p.now at seat h.present s me p.now.irq p.now.readings record { inside = λ c ne. refl; irq = λ c ne. refl; readings = λ c ne. refl }
-      job a l is (λ z. one (p.now.stop s).raising st.2 (o.calm z)) (h.present.irq me ∙ ap irq_of is) (λ on i. h.present.read me on (h.present.irq me ∙ (ap irq_of is ∙ i))))))
+      job a l is (λ z. one (p.now.stop s).raising st.2 (o.calm z)) (h.present.irq me ∙ ap irq_of is) (λ on i. h.present.read me on (h.present.irq me ∙ (ap irq_of is ∙ i)))))
+      (calling_same seat p.calling h.callings me next (calling_turned me s job a l Fills Sets (p.calling me) (λ e. cc) (subst (λ x. IsCalling me x (p.calling me)) is (h.callings me))))
+      (closing_kept p.now seat me next h.closing (subst IsNotClosing (sym is) tt) s stop' (λ c ne. refl) refl refl))
     where
       one : (r : Raising) → turn_of r me ≡ Fills → r ≡ Nobody → ⊥
       one Nobody e z = cc
@@ -339,6 +384,12 @@ module _ (u : Setup) (p : StopState) (at : Word → ℕ) (seat : ℕ → Seat) (
       sets_me (Refills r) e = at_test me r (λ b. cond b Fills Rests ≡ Sets → Refills r ≡ Raises me) (λ same e. cc) (λ ne e. cc) e
       sets_me (Raises r) e = at_test me r (λ b. cond b Sets Rests ≡ Sets → Raises r ≡ Raises me) (λ same _. ap Raises (sym same)) (λ ne e. cc) e
 
+      callings : (c : ℕ) → IsCalling c (put seat me (In s job a l Rests) c) (p.calling c)
+      callings = calling_same seat p.calling h.callings me (In s job a l Rests) (calling_turned me s job a l Sets Rests (p.calling me) (λ e. cc) (subst (λ x. IsCalling me x (p.calling me)) is (h.callings me)))
+
+      closing : AreClosing (record (p.now) { stop = put p.now.stop s (raised (p.now.stop s) (a + 1)) }) (put seat me (In s job a l Rests))
+      closing = closing_kept p.now seat me (In s job a l Rests) h.closing (subst IsNotClosing (sym is) tt) s (raised (p.now.stop s) (a + 1)) (λ c ne. refl) refl refl
+
       go : (b : Bool) → (a + 1 == 5) ≡ b → Stands p.now me (In s job a l Sets) → (p.now.stop s).phase ≡ a → (p.now.stop s).phase ≡ l → (p.now.stop s).phase ≢ 0 → StaysOpen (p.now.stop s) (raised (p.now.stop s) (a + 1)) →
           ((irq' : ℕ → Bool) (readings' : ℕ → List Reading) (j : ℕ) → OwnsKey u.first (after p.now s (raised (p.now.stop s) (a + 1)) p.now.inside irq' readings' p.now.patching) (λ k. at (Key k)) j) →
           StopShows u (record p { now = cond b (leaves (with_stop p.now s (raised (p.now.stop s) (a + 1))) me s (p.now.stop s).work) (with_stop p.now s (raised (p.now.stop s) (a + 1))) }) (put_word at (Slot s State) (a + 1)) (put seat me (In s job a l Rests)) source
@@ -347,14 +398,14 @@ module _ (u : Setup) (p : StopState) (at : Word → ℕ) (seat : ℕ → Seat) (
           let first = first_readings me s (p.now.stop s).work in
           let readings' = put p.now.readings me first in
           let five : a ≡ 4 = let x = eqb-true (a + 1) 5 e in omega arith in
-          open_step u p at seat source h s (raised (p.now.stop s) (a + 1)) p.now.inside irq' readings' p.now.patching (put_word at (Slot s State) (a + 1)) (put seat me (In s job a l Rests)) p.looks p.calls stays refl (λ k. refl) (other_slots at s State (a + 1)) (own irq' readings')
+          open_step u p at seat source h s (raised (p.now.stop s) (a + 1)) p.now.inside irq' readings' p.now.patching (put_word at (Slot s State) (a + 1)) (put seat me (In s job a l Rests)) p.looks p.calls p.calling stays refl (λ k. refl) (other_slots at s State (a + 1)) (own irq' readings')
           (subst (λ n. PresentShows u (after p.now s (raised (p.now.stop s) (n + 1)) p.now.inside irq' readings' p.now.patching) (put_word at (Slot s State) (n + 1)) (put seat me (In s job a l Rests))) phase
           (step_raises u p.now at seat h.present s me irq' readings'
           record { inside = λ c ne. refl; irq = λ c ne. put_else p.now.irq me true c ne; readings = λ c ne. put_else p.now.readings me first c ne }
           job a l is busy
           (put_here p.now.irq me true ∙ sym (ap (λ n. nat_lt l 2 || n == 4) five ∙ yes (nat_lt l 2)))
           (λ _ _. subst (AllByRecursion (Agrees (labels_in at))) (sym (put_here p.now.readings me first))
-          (subst (λ (w : Work). AllByRecursion (Agrees (labels_in at)) (first_readings me s w)) (sym st.3) (leave_agrees job a l Sets is (omega arith))))))
+          (subst (λ (w : Work). AllByRecursion (Agrees (labels_in at)) (first_readings me s w)) (sym st.3) (leave_agrees job a l Sets is (omega arith)))))) callings closing
         where
           yes : (b : Bool) → b || true ≡ true
           yes true = refl
@@ -362,7 +413,7 @@ module _ (u : Setup) (p : StopState) (at : Word → ℕ) (seat : ℕ → Seat) (
       go false e st phase looked busy stays own =
           let not_five : a == 4 ≡ false = ne_eqb a 4 (λ x. let y : true ≡ false = sym (eq-eqb (a + 1) 5 (omega arith)) ∙ e in cc) in
           let off : p.now.irq me ≡ nat_lt l 2 || a == 4 = h.present.irq me ∙ (ap irq_of is ∙ sym (or_false (nat_lt l 2) (a == 4) not_five)) in
-          open_step u p at seat source h s (raised (p.now.stop s) (a + 1)) p.now.inside p.now.irq p.now.readings p.now.patching (put_word at (Slot s State) (a + 1)) (put seat me (In s job a l Rests)) p.looks p.calls stays refl (λ k. refl) (other_slots at s State (a + 1)) (own p.now.irq p.now.readings)
+          open_step u p at seat source h s (raised (p.now.stop s) (a + 1)) p.now.inside p.now.irq p.now.readings p.now.patching (put_word at (Slot s State) (a + 1)) (put seat me (In s job a l Rests)) p.looks p.calls p.calling stays refl (λ k. refl) (other_slots at s State (a + 1)) (own p.now.irq p.now.readings)
           (subst (λ n. PresentShows u (after p.now s (raised (p.now.stop s) (n + 1)) p.now.inside p.now.irq p.now.readings p.now.patching) (put_word at (Slot s State) (n + 1)) (put seat me (In s job a l Rests))) phase
           (step_raises u p.now at seat h.present s me p.now.irq p.now.readings record { inside = λ c ne. refl; irq = λ c ne. refl; readings = λ c ne. refl }
-          job a l is busy off (λ on i. h.present.read me on (off ∙ i))))
+          job a l is busy off (λ on i. h.present.read me on (off ∙ i)))) callings closing

@@ -1,4 +1,5 @@
 -- The kinds of step of a source: the gate, the stores of begin, and the looks for the result.
+use Rattle.smp_stop_steps.specs.Callings.{HasCompleted}
 use Rattle.smp_stop_steps.specs.KeyCounts.{CountShows}
 use Rattle.smp_stop_steps.specs.Labels.{StandsSet}
 use Rattle.std.proofs.Common.{◌≡◌, ◌≢◌, ℕ, ◌+◌, ◌<◌, ◌≤◌, Bool, true, false, eq-eqb, ◌==◌, cond, sym, subst, refl, ap, ◌∙◌, arith, Option, Some, None, List, [], ◌∷◌, ◌++◌}
@@ -15,7 +16,7 @@ use Rattle.smp_words.specs.Put.{place_of, put, put_word, same_field}
 use Rattle.smp_stop_steps.specs.Counts.{unfinished}
 use Rattle.smp_stop_steps.specs.Past.{HasPast, answer_now}
 use Rattle.smp_stop_steps.specs.Present.{PresentShows}
-use Rattle.smp_stop_steps.specs.Seats.{Seat}
+use Rattle.smp_stop_steps.specs.Seats.{Seat, Closes}
 use Rattle.smp_stop_steps.specs.Shows.{StopShows, gate_word}
 use Rattle.smp_stop_steps.specs.Slots.{DoneShows, IsStored, begun_value, order}
 use Rattle.smp_words.specs.Kinds.{kind_at, kind_word}
@@ -128,13 +129,16 @@ module _ (u : Setup) (p : StopState) (at : Word → ℕ) (seat : ℕ → Seat) (
       ((j : ℕ) → j ≢ me → (f : Field) → at' (Slot j f) ≡ at (Slot j f)) → ((k : ℕ) → at' (Key k) ≡ at (Key k)) →
       SourceShows u p.gate stop' (λ f. at' (Slot me f)) me next → HasPast stop' (begun' me) (collected' me) (λ c. p.answers c me) →
       ((j : ℕ) → j ≢ me → begun' j ≡ p.begun j) → ((j : ℕ) → j ≢ me → collected' j ≡ p.collected j) →
-      ((c : ℕ) → is_inside (stop'.standing c) ≡ true → ⊥) →
+      ((c : ℕ) → is_inside (stop'.standing c) ≡ true → ⊥) → ((c : ℕ) → stop'.is_open ≡ true → stop'.ending ≡ Last c → ⊥) →
       PresentShows u (after p.now me stop' p.now.inside p.now.irq p.now.readings p.now.patching) at' seat →
       StopShows u (record p { now = after p.now me stop' p.now.inside p.now.irq p.now.readings p.now.patching; begun = begun'; collected = collected' }) at' seat (put source me next)
-  source_step stop' begun' collected' at' next gate slots keys here past begun collected nobody present = record {
+  source_step stop' begun' collected' at' next gate slots keys here past begun collected nobody last present = record {
     setup = h.setup;
     present = present;
     gate = gate ∙ h.gate;
+    callings = h.callings;
+    closing = λ j c. at_test j me (λ b. let y = cond b stop' (p.now.stop j) in y.is_open ≡ true → y.ending ≡ Last c → (seat c ≡ Closes j) × HasCompleted (y.standing c))
+        (λ e op l. absurd (last c op l)) (λ ne. h.closing j c);
     sources = put_both (λ j x y. SourceShows u p.gate y (λ f. at' (Slot j f)) j x) source p.now.stop me next stop' here
         (λ j ne. source_same u p.gate j (p.now.stop j) (λ f. at (Slot j f)) (λ f. at' (Slot j f)) (slots j ne) (source j) (h.sources j));
     past = λ j. at_test j me (λ b. HasPast (cond b stop' (p.now.stop j)) (begun' j) (collected' j) (λ c. p.answers c j))
@@ -172,7 +176,7 @@ module _ (u : Setup) (p : StopState) (at : Word → ℕ) (seat : ℕ → Seat) (
       (source_step stop' p.begun p.collected at' (Drafts work (k + 1)) refl (other_slots at me f v) (λ k. refl)
       record { shut = d.shut; holds = d.holds; is_work = d.is_work; stored = stored_more u.cpus at me work k f place d.stored; told = drafted_more u.cpus f k (p.now.stop me).work work place d.told }
       (past_same (p.now.stop me) stop' (p.begun me) (p.collected me) (λ c. p.answers c me) refl (λ op. absurd (apart (sym op ∙ d.shut))) (λ c. refl) (h.past me))
-      (λ j ne. refl) (λ j ne. refl) (λ c. outside_not ((p.now.stop me).standing c) (out c))
+      (λ j ne. refl) (λ j ne. refl) (λ c. outside_not ((p.now.stop me).standing c) (out c)) (λ c op l. apart (sym op ∙ d.shut))
       (step_drafts u p.now at seat h.present me f v work' d.shut (not_roll f fresh))))
     where
       apart : true ≡ false → ⊥
@@ -193,7 +197,7 @@ module _ (u : Setup) (p : StopState) (at : Word → ℕ) (seat : ℕ → Seat) (
       record { is_open = refl; work_is = refl; is_work = d.is_work }
       (subst (λ l. HasPast stop' l (p.collected me) (λ c. p.answers c me)) (sym (put_here p.begun me (p.begun me ++ work ∷ [])))
       ((h.past me).0, past_opens (h.past me).0 (p.now.stop me) (p.begun me) (p.collected me) (λ c. p.answers c me) (h.past me).1 work d.shut out))
-      (λ j ne. put_else p.begun me (p.begun me ++ work ∷ []) j ne) (λ j ne. refl) (λ c. called_not (has work.mask c))
+      (λ j ne. put_else p.begun me (p.begun me ++ work ∷ []) j ne) (λ j ne. refl) (λ c. called_not (has work.mask c)) (λ c op l. cc)
       (step_opens u p.now at seat h.present me work d.shut d.is_work d.stored)))
     where
       called_not : (b : Bool) → is_inside (cond b Called Outside) ≡ true → ⊥
@@ -209,6 +213,8 @@ module _ (u : Setup) (p : StopState) (at : Word → ℕ) (seat : ℕ → Seat) (
     setup = h.setup;
     present = h.present;
     gate = h.gate;
+    callings = h.callings;
+    closing = h.closing;
     past = h.past;
     owns = h.owns;
     counts = h.counts;
@@ -238,7 +244,7 @@ module _ (u : Setup) (p : StopState) (at : Word → ℕ) (seat : ℕ → Seat) (
             (λ c. all ((p.now.stop me).standing c) (mask_is u p.now at seat h.present me c o.0.is_open)
             (λ of. sum_zero (λ c. unfinished ((p.now.stop me).standing c)) u.cpus d.1 c (in_machine u.cpus (p.now.stop me).phase c ((p.now.stop me).standing c) of ((h.present.slots me).keeps c)))),
       ))
-      (λ j ne. refl) (λ j ne. put_else p.collected me (p.collected me ++ result ∷ []) j ne) (λ c e. cc)
+      (λ j ne. refl) (λ j ne. put_else p.collected me (p.collected me ++ result ∷ []) j ne) (λ c e. cc) (λ c op l. cc)
       (step_collects u p.now at seat h.present me o.0.is_open d.0)
     where
       all : {b : Bool} (x : Standing) → is_of x ≡ b → (is_of x ≡ true → unfinished x ≡ 0) → answer_now x ≡ cond b (answer_of x ∷ []) []
@@ -254,6 +260,8 @@ module _ (u : Setup) (p : StopState) (at : Word → ℕ) (seat : ℕ → Seat) (
     setup = h.setup;
     present = other_gate (me + 1);
     gate = refl;
+    callings = h.callings;
+    closing = h.closing;
     sources = λ j. another j (source j) (h.sources j);
     past = h.past;
     owns = h.owns;
@@ -300,6 +308,8 @@ module _ (u : Setup) (p : StopState) (at : Word → ℕ) (seat : ℕ → Seat) (
       read = h.present.read;
     };
     gate = refl;
+    callings = h.callings;
+    closing = h.closing;
     sources = λ j. another j (source j) refl (h.sources j);
     past = h.past;
     owns = h.owns;

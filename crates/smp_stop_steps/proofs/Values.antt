@@ -1,4 +1,6 @@
 -- A step, over a stop table and a list of controls.
+use Rattle.smp_stop_steps.specs.Carries.{CarriesIn}
+use Rattle.smp_stop_steps.proofs.CallSteps.{call_step}
 use Rattle.std.proofs.Common.{◌≡◌, ◌≢◌, ℕ, ◌+◌, ◌<◌, ◌≤◌, Bool, true, false, ◌==◌, cond, sym, subst, ap, ◌∙◌, inl, inr, arith, Option, Some, None, List, [], ◌∷◌, length, length-append, length-take-le, take, ◌^◌}
 use Rattle.std.proofs.lemmas.List.{get_or-set_same, get_or-set_other, get_or_past}
 use Rattle.std.proofs.lemmas.Bool.{cases_lt}
@@ -95,7 +97,8 @@ module _ (u : Setup) (few : u.cpus ≡ cpus) (p : StopState) (t : StopWords) (co
   -- after the step the words show the stops that it tells
   pub stop_value_shown : StopsShow u (state_after u p at c me stage) (stop_words_after t (stop_access u.cpus me c.changes stage)) (slice_set controls me (control_then u at c me stage))
   stop_value_shown =
-      let one = stop_step_shown u p at v.seat v.source v.shows c me (v.sits me below) stage e in
+      let one = stop_step_shown u p at v.seat v.source v.shows c me (v.sits me below) (v.carries me below) stage e in
+      let calls = call_step u p at v.seat v.source v.shows c me (v.sits me below) (v.carries me below) stage e in
       let access = stop_access u.cpus me c.changes stage in
       let names = stop_words_by_name t is access stop_word_named in
       record {
@@ -108,6 +111,11 @@ module _ (u : Setup) (few : u.cpus ≡ cpus) (p : StopState) (t : StopWords) (co
             (at_test cpu me (λ b. Sits u cpu (at_then u at c me stage Gate) (cond b (control_then u at c me stage) (stop_control_of controls cpu)) (cond b one.seat_after (v.seat cpu)) (cond b one.source_after (v.source cpu)))
             (λ same. subst (λ k. Sits u k (at_then u at c me stage Gate) (control_then u at c me stage) one.seat_after one.source_after) (sym same) one.sits)
             (λ ne. others cpu ne (v.sits cpu low))));
+        carries = λ cpu low. subst (λ k. CarriesIn k ((state_after u p at c me stage).calling cpu))
+            (sym (stop_controls_by_cpu controls me cpu (control_then u at c me stage) (stop_inside_below controls me stage e)))
+            (at_test cpu me (λ b. CarriesIn (cond b (control_then u at c me stage) (stop_control_of controls cpu)) ((state_after u p at c me stage).calling cpu))
+            (λ same. subst (λ k. CarriesIn (control_then u at c me stage) ((state_after u p at c me stage).calling k)) (sym same) calls.mine)
+            (λ ne. subst (CarriesIn (stop_control_of controls cpu)) (sym (calls.others cpu ne)) (v.carries cpu low)));
         shut = λ cpu high. at_test cpu me (λ b. cond b one.source_after (v.source cpu) ≡ Shut) (λ same. absurd (let b = below in omega arith)) (λ _. v.shut cpu high);
       }
     where

@@ -6,7 +6,7 @@ use Rattle.smp_stop_steps.specs.Seats.{Seat, Free}
 use Rattle.smp_stop_steps.specs.Shows.{StopShows}
 use Rattle.smp_stop_steps.specs.Sources.{Source, Shut, Drafts, Owns, Collects}
 use Rattle.smp_stop_steps.specs.Labels.{Reading}
-use Rattle.smp_stop_steps.specs.State.{Setup, StopState, Moved, unmoved}
+use Rattle.smp_stop_steps.specs.State.{Calling, Idle, Calls, Carries, Setup, StopState, Moved, unmoved}
 use Rattle.smp_stop_steps.specs.Value.{setup_of}
 use Rattle.smp_words.specs.declared.work.Kind.TheVariants.{One}
 use Rattle.smp_words.specs.declared.work.Work.{Work}
@@ -44,13 +44,20 @@ abbrev pub holds_it : Option ℕ → ℕ → Bool
 holds_it None me = false
 holds_it (Some c) me = c == me
 
--- what the state of all stops has of one CPU
+-- how far a CPU is with its function, as its steps tell it: no step before its completion tells the answer
+abbrev pub told_calling : Calling → Calling
+told_calling Idle = Idle
+told_calling (Calls call) = Calls (record call { answer = 0 })
+told_calling (Carries answer) = Carries 0
+
+-- what the state of all stops has of one CPU, as far as it is told
 pub record Columns : Type 0 where
   pub holds : Bool
   pub begun : List Work
   pub collected : List ℕ
   pub answers : ℕ → List ℕ
   pub looks : List ℕ
+  pub calling : Calling
   pub readings : List Reading
   pub nudged : ℕ → Moved
   pub patched : ℕ → Moved
@@ -62,6 +69,7 @@ columns_of p c = record {
   collected = p.collected c;
   answers = p.answers c;
   looks = p.looks c;
+  calling = told_calling (p.calling c);
   readings = p.now.readings c;
   nudged = p.nudged c;
   patched = p.patched c;
@@ -79,6 +87,7 @@ pub record IsPart (c : Columns) (part : Part) : Type 0 where
   pub collected : c.collected ≡ part.collected
   pub answers : AreFirst cpus c.answers [] part.answers
   pub looks : c.looks ≡ part.looks
+  pub calling : c.calling ≡ part.calling
   pub readings : c.readings ≡ part.readings
   pub nudged : AreFirst MOST_KEYS c.nudged unmoved part.nudged
   pub patched : AreFirst MOST_KEYS c.patched unmoved part.patched
@@ -100,6 +109,7 @@ no_part = record {
   answers = replicate cpus [];
   looks = [];
   calls = [];
+  calling = Idle;
   readings = [];
   nudged = replicate MOST_KEYS unmoved;
   patched = replicate MOST_KEYS unmoved;

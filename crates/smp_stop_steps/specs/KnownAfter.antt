@@ -6,9 +6,10 @@ use Rattle.smp_stop_steps.specs.KeyCounts.{moves}
 use Rattle.smp_stop_steps.specs.Known.{Known, Part, setup_in}
 use Rattle.smp_stop_steps.specs.Labels.{Reading, ReadKey, ReadSite}
 use Rattle.smp_stop_steps.specs.Seats.{Seat, Free, In, Gives, Alters, Closes, Rests, Fills, Sets}
+use Rattle.smp_stop_steps.specs.Stop.{Inside}
 use Rattle.smp_stop_steps.specs.Sources.{Source, Shut, Drafts, Owns, Collects}
-use Rattle.smp_stop_steps.specs.State.{Moved, unmoved}
-use Rattle.smp_stop_steps.specs.Tells.{drafted, first_readings, is_one, is_patch, calls_at_run, plan_at}
+use Rattle.smp_stop_steps.specs.State.{Moved, unmoved, Carries, Calls, Idle}
+use Rattle.smp_stop_steps.specs.Tells.{carried_call, may_call, drafted, first_readings, is_one, is_patch, calls_at_run, plan_at}
 use Rattle.smp_words.specs.declared.seen.Act.{Act}
 use Rattle.smp_words.specs.declared.seen.Act.TheVariants as act
 use Rattle.smp_words.specs.declared.field.Field.{Field}
@@ -64,10 +65,16 @@ looked_known n v = record v { seat = looked_to n v.seat; part = record (v.part) 
 abbrev pub read_since : Bool → ℕ → Work → Known → Part
 read_since leaves s w v = record (v.part) { readings = cond leaves (first_readings v.number s w) v.part.readings }
 
+-- with the acknowledgement of RUN it carries the answer of its function, or of its patch
+abbrev pub ran_since : Bool → Part → Part
+ran_since at_run part = record part { calling = cond at_run (carried_call part.calling) part.calling }
+
 -- the runner of a patch leaves it with its acknowledgement
 abbrev pub acked_by : ℕ → Seat → Known → Known
-acked_by found (In s w a l t) v = record v { seat = In s w l l (cond (found == 1) Fills Rests); part = read_since (l == EXIT && not (found == 1)) s w v }
-acked_by found (Alters s w count made rest) v = record v { seat = In s w RUN RUN (cond (found == 1) Fills Rests) }
+acked_by found (In s w a l t) v =
+    record v { seat = In s w l l (cond (found == 1) Fills Rests); part = ran_since (l == RUN) (read_since (l == EXIT && not (found == 1)) s w v) }
+acked_by found (Alters s w count made rest) v =
+    record v { seat = In s w RUN RUN (cond (found == 1) Fills Rests); part = record (v.part) { calling = Carries 0 } }
 acked_by found x v = v
 
 abbrev pub refilled_by : Seat → Seat
@@ -82,6 +89,12 @@ abbrev pub given_by : ℕ → Seat → Seat
 given_by n (In s w a l t) = Gives s w a n
 given_by n x = x
 
+-- with the load of the argument it calls the function, where it may
+abbrev pub called_by : ℕ → Seat → Known → Known
+called_by found (In s w a l t) v =
+    cond (may_call v.number w (Inside a l)) (record v { part = record (v.part) { calling = Calls (record { func = w.func; arg = found; answer = 0 }) } }) v
+called_by found x v = v
+
 -- it has called the function of this work
 abbrev pub has_called : ℕ → Work → Bool
 has_called me w = is_one w.kind || calls_at_run me w
@@ -90,6 +103,7 @@ abbrev pub completed_with : ℕ → ℕ → Work → ℕ → Known → Known
 completed_with found s w x v = record v {
   seat = cond (found == 1) (Closes s) Free;
   part = record (v.part) {
+    calling = Idle;
     answers = slice_set v.part.answers s (slice_index_or v.part.answers s [] ++ x ∷ []);
     calls = cond (has_called v.number w) (v.part.calls ++ record { func = w.func; arg = w.arg; answer = x } ∷ []) v.part.calls;
   };
@@ -126,6 +140,7 @@ abbrev pub slot_known : Work → Known → ℕ → Act → Field → Option ℕ 
 slot_known w v s act.Store f found (Some n) = slot_stored f n v
 slot_known w v s act.And field.Roll (Some found) put = cond (has found v.number) (record v { seat = In s w 0 0 Rests }) v
 slot_known w v s act.Load field.State (Some found) put = looked_known found v
+slot_known w v s act.Load field.Arg (Some found) put = called_by found v.seat v
 slot_known w v s act.Load field.Done (Some found) put = record v { source = done_by found v.source }
 slot_known w v s act.Load field.Result (Some found) put = collected_known found v
 slot_known w v s act.Sub field.Ack (Some found) put = acked_by found v.seat v

@@ -12,6 +12,7 @@ pub mod KeyCounts
 pub mod Tells
 -- facts of the state: what holds between the stops, the words and the stages
 pub mod Seats
+pub mod Callings
 pub mod Sources
 pub mod Past
 pub mod Present
@@ -19,6 +20,7 @@ pub mod Shows
 -- the step that a CPU makes at each stage
 pub mod Stages
 pub mod Sits
+pub mod Carries
 pub mod Steps
 -- the laws, as they are promised
 pub mod Promises

@@ -7,6 +7,7 @@ use Rattle.smp_words.specs.Size.{cpus}
 use Rattle.smp_stop_steps.specs.Counts.{mask_weight}
 use Rattle.smp_stop_steps.specs.Known.{Known, Setting, Sees, GoesOn, fresh, setup_in, told_work}
 use Rattle.smp_stop_steps.specs.KnownAfter.{is_drafting, known_entering, no_work}
+use Rattle.smp_stop_steps.specs.Callings.{HasCalled}
 use Rattle.smp_stop_steps.specs.Labels.{Change}
 use Rattle.smp_stop_steps.specs.Seats.{Seat, Free, In, Gives, Alters, Closes, Rests, Fills, Sets, irq_of}
 use Rattle.smp_stop_steps.specs.Shows.{StopShows}
@@ -14,7 +15,7 @@ use Rattle.smp_stop_steps.specs.Sits.{IsNudge}
 use Rattle.smp_stop_steps.specs.Slots.{begun_value, order}
 use Rattle.smp_stop_steps.specs.Sources.{Source, Shut, Drafts, Owns, Collects, IsWork}
 use Rattle.smp_stop_steps.specs.Stages.{all_but, store_of}
-use Rattle.smp_stop_steps.specs.State.{StopState, no_stops}
+use Rattle.smp_stop_steps.specs.State.{Idle, StopState, no_stops}
 use Rattle.smp_stop_steps.specs.Tells.{plan_at}
 use Rattle.smp_words.specs.declared.access.Access.{Access}
 use Rattle.smp_words.specs.declared.access.Access.TheVariants.{Load, Store, Exchange, Sub, And}
@@ -51,6 +52,8 @@ pub data Move : Type 0 where
   Nudge : (key found new : ℕ) → Move
   BeginPatch : (slot : ℕ) → (work : Work) → Move
   Alter : (slot : ℕ) → (work : Work) → (count : ℕ) → (made : List Change) → (change : Change) → (rest : List Change) → Move
+  -- the load of the argument, by who is in the stop
+  LoadArg : (slot : ℕ) → (work : Work) → (acked looked : ℕ) → Move
   -- a load that tells nothing
   LoadField : (slot : ℕ) → (f : Field) → Move
   LoadEntry : (site : ℕ) → Move
@@ -61,7 +64,6 @@ IsPlain field.Kind = Unit {0}
 IsPlain field.Mask = Unit {0}
 IsPlain field.Active = Unit {0}
 IsPlain field.Func = Unit {0}
-IsPlain field.Arg = Unit {0}
 IsPlain _ = ⊥
 
 -- it is through all phases, or in a stop of kind One
@@ -77,12 +79,12 @@ May v (DraftMore w f) = (v.source ≡ Drafts (told_work (order f) w) (order f)) 
 May v (Open w) = (v.source ≡ Drafts (told_work (order field.Roll) w) (order field.Roll)) × IsWork (setup_in v.setting) w
 May v (Enter s) = v.seat ≡ Free
 May v (Look s w a l) = (v.seat ≡ In s w a l Rests) × (a ≢ EXIT)
-May v (Acknowledge s w a) = (v.seat ≡ In s w a (a + 1) Rests) × (a ≡ DISABLE_IRQ → w.kind ≡ Patch → has w.active v.number ≡ false)
+May v (Acknowledge s w a) = (v.seat ≡ In s w a (a + 1) Rests) × (a ≡ DISABLE_IRQ → HasCalled v.number w v.part.calling)
 May v (AcknowledgePatch s w count made) = v.seat ≡ Alters s w count made []
 May v (Refill s w a l) = (v.seat ≡ In s w a l Fills) × (is_drafting v.source ≡ false)
 May v (Raise s w a l) = (v.seat ≡ In s w a l Sets) × (is_drafting v.source ≡ false)
-May v (Give s w a l x) = (v.seat ≡ In s w a l Rests) × IsThrough w a × (x ≢ 0) × (is_drafting v.source ≡ false)
-May v (Count s w a l) = (v.seat ≡ In s w a l Rests) × IsThrough w a × (s < cpus)
+May v (Give s w a l x) = (v.seat ≡ In s w a l Rests) × IsThrough w a × (x ≢ 0) × (is_drafting v.source ≡ false) × (v.part.calling ≢ Idle)
+May v (Count s w a l) = (v.seat ≡ In s w a l Rests) × IsThrough w a × (s < cpus) × (w.kind ≡ One → v.part.calling ≢ Idle)
 May v (CountGiven s w a x) = (v.seat ≡ Gives s w a x) × (s < cpus)
 May v (Close s) = (v.seat ≡ Closes s) × (is_drafting v.source ≡ false)
 May v (LookDone w) = v.source ≡ Owns w
@@ -92,6 +94,7 @@ May v (ReadSite i) = irq_of v.seat ≡ true
 May v (Nudge k found new) = (irq_of v.seat ≡ true) × (has v.setting.online v.number ≡ true) × (k < MOST_KEYS) × IsNudge found new
 May v (BeginPatch s w) = (v.seat ≡ In s w DISABLE_IRQ RUN Rests) × (w.kind ≡ Patch) × (has w.active v.number ≡ true)
 May v (Alter s w count made change rest) = (v.seat ≡ Alters s w count made (change ∷ rest)) × (plan_at (setup_in v.setting) w count ≡ made ++ change ∷ rest) × (w.func < MOST_KEYS)
+May v (LoadArg s w a l) = v.seat ≡ In s w a l Rests
 May v (LoadField s f) = IsPlain f
 May v (LoadEntry i) = Unit {0}
 
@@ -119,6 +122,7 @@ access_in v (ReadSite i) = Load (Site i)
 access_in v (Nudge k found new) = Exchange (Key k) found new
 access_in v (BeginPatch s w) = Load (Key w.func)
 access_in v (Alter s w count made change rest) = store_of change
+access_in v (LoadArg s w a l) = Load (Slot s field.Arg)
 access_in v (LoadField s f) = Load (Slot s f)
 access_in v (LoadEntry i) = Load (Entry i)
 

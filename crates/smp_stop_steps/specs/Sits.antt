@@ -19,7 +19,7 @@ use Rattle.smp_stop_steps.specs.declared.stage.RoundStage.TheVariants as round
 use Rattle.smp_stop_steps.specs.declared.stage.StopStage.{StopStage}
 use Rattle.smp_stop_steps.specs.declared.stage.StopStage.TheVariants.{OpenGate, Begin, Enter, EnterKind, EnterMask, EnterActive, Advance, Complete, Close, LoadDone, LoadResult, ReadKey, ReadSite, NudgeKey, ExchangeKey}
 use Rattle.smp_stop_steps.specs.declared.stage.Visit.{Visit}
-use Rattle.smp_words.specs.declared.work.Kind.TheVariants.{One, Patch}
+use Rattle.smp_words.specs.declared.work.Kind.TheVariants.{One, Multi, Patch}
 use Rattle.smp_words.specs.declared.work.Work.{Work}
 use Rattle.smp_stop_steps.specs.declared.phase.TheConstants.{DISABLE_IRQ, RUN, EXIT}
 
@@ -64,6 +64,11 @@ pub record SitsAtEntry (u : Setup) (v : Visit) (work : Work) (key word : ℕ) (x
   pub word_is : word ≡ count_set work count
   pub sites : plan_at u work count ≡ patch_of work.func word u.entries
 
+-- it acknowledges: RUN with the function of its Multi stop called where it is active, else with none
+abbrev pub RunsIf : ℕ → Visit → Bool → Type 0
+RunsIf me v true = (v.acked ≡ DISABLE_IRQ) × (v.kind ≡ Multi) × (has v.active me ≡ true)
+RunsIf me v false = v.acked ≡ DISABLE_IRQ → has v.active me ≡ false
+
 abbrev pub SitsInRound : Setup → ℕ → List Change → Visit → RoundStage → Seat → Type 0
 SitsInRound u me changes v (round.Look answer) x = (v.kind ≢ One) × (v.acked ≢ EXIT) × SitsIn v v.acked Rests x
 SitsInRound u me changes v (round.LoadFunc answer) x = (v.kind ≢ One) × ((work : Work) × SitsAtRun me v work x)
@@ -77,7 +82,7 @@ SitsInRound u me changes v (round.StoreChange made) x =
     ((before after : List Change) × (changes ≡ before ++ after) × (length before ≡ made) × (x ≡ Alters v.slot work count before after))
 SitsInRound u me changes v (round.Acknowledge answer ran) x =
     (work : Work) × IsLoaded v work × (v.acked ≤ RUN) ×
-    (((x ≡ In v.slot work v.acked (v.acked + 1) Rests) × (v.acked ≡ DISABLE_IRQ → v.kind ≡ Patch → has v.active me ≡ false)) ⊎
+    (((x ≡ In v.slot work v.acked (v.acked + 1) Rests) × RunsIf me v ran) ⊎
     ((v.acked ≡ DISABLE_IRQ) × (ran ≡ true) × ((count : ℕ) × (answer ≡ patch_answer work count) × (x ≡ Alters v.slot work count (plan_at u work count) []))))
 SitsInRound u me changes v (round.Refill ran) x = SitsIn v v.acked Fills x
 SitsInRound u me changes v (round.Raise ran) x = SitsIn v v.acked Sets x

@@ -225,9 +225,10 @@ stop_outcome me c (ReadSite i) found = stop_ends c (if is_on found then note.Jmp
 stop_outcome me c (NudgeKey k up) found = nudge_on c k found (count_after (nudge_of up) found)
 stop_outcome me c (ExchangeKey k expected new) found = stop_ends c (if found == expected then note.Done else note.Lost)
 
--- what the CPU's function has answered, where the step acknowledges RUN with it
+-- the answer of the function that the step calls, and 0 at any other step
 abbrev pub answer_at : StopStage → ℕ
-answer_at (Advance v (round.Acknowledge answer ran)) = answer
+answer_at (Advance v (round.LoadArg answer func)) = answer
+answer_at (Complete v (completion.LoadArg answer func)) = answer
 answer_at _ = 0
 
 -- the number found fits, and there is room for what it makes

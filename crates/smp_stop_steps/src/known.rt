@@ -71,6 +71,16 @@ pub struct StopCall {
     pub answer: u64,
 }
 
+/// How far a CPU is with the function of the stop that it is in.
+pub enum Calling {
+    /// It calls none, or has not called it yet.
+    Idle,
+    /// It has loaded the function and its argument, and calls it: with the answer that the function gives.
+    Calls { call: StopCall },
+    /// It has acknowledged `RUN`, and is to complete with its function's answer.
+    Carries { answer: u64 },
+}
+
 /// By how much a CPU has moved the count of a key: up in all, and down in all.
 pub struct Moved {
     pub up: u64,
@@ -97,6 +107,8 @@ pub struct Part {
     pub looks: LinkedList<u64>,
     /// The stop functions that it has called, in the stops that it has completed.
     pub calls: LinkedList<StopCall>,
+    /// How far it is with the function of its stop. No step before the completion tells its answer, which is put as 0.
+    pub calling: Calling,
     /// What it has read since its interrupts last went on.
     pub readings: LinkedList<Reading>,
     /// By how much it has moved each key's count, outside any stop, and as the runner of patches.
