@@ -28,7 +28,7 @@ module _ (seat : ℕ → Seat) (calling : ℕ → Calling) (h : (c : ℕ) → Is
   pub calling_next : (f : Calling) → IsCalling me next f → (c : ℕ) → IsCalling c (put seat me next c) (put calling me f c)
   calling_next f it = put_both (λ c x y. IsCalling c x y) seat calling me next f it (λ c ne. h c)
 
-both_true : (b c : Bool) → (b && c) ≡ true → (b ≡ true) × (c ≡ true)
+pub both_true : (b c : Bool) → (b && c) ≡ true → (b ≡ true) × (c ≡ true)
 both_true true c e = (refl, e)
 both_true false c e = cc
 

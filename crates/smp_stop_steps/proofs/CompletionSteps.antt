@@ -33,7 +33,7 @@ use Rattle.smp_words.specs.declared.word.Word.{Word}
 use Rattle.smp_mask.specs.Mask.{has}
 use Rattle.smp_stop_steps.specs.Carries.{CarriesIn, CarriesAt, IsEnding}
 use Rattle.smp_stop_steps.proofs.Callings.{calling_given}
-use Rattle.smp_stop_steps.proofs.Facts.{arg_loaded}
+use Rattle.smp_stop_steps.proofs.Facts.{arg_loaded, work_words}
 
 module _ (u : Setup) (p : StopState) (at : Word → ℕ) (seat : ℕ → Seat) (source : ℕ → Source) (h : StopShows u p at seat source) (c : StopControlValue) (me : ℕ)
     (s : Sits u me (at Gate) c (seat me) (source me)) where
@@ -117,7 +117,13 @@ module _ (u : Setup) (p : StopState) (at : Word → ℕ) (seat : ℕ → Seat) (
           seat_after = seat me;
           source_after = source me;
           shows = still p at h;
-          sits = record { below = s.below; irq = s.irq; seat = x; source = at_source (Complete v (completion.LoadFunc answer)) e; gate_held = tt };
+          sits = record {
+            below = s.below;
+            irq = s.irq;
+            seat = (x.0, (x.1.0, (x.1.1.0, x.1.1.1, x.1.1.2, (work_words u p at seat source h v.slot me x.1.1.0 v.acked v.acked Rests x.1.1.2).func)));
+            source = at_source (Complete v (completion.LoadFunc answer)) e;
+            gate_held = tt;
+          };
         }
 
     one_arg : (answer func : ℕ) → c.stage ≡ Some (Complete v (completion.LoadArg answer func)) → StopStep u p at seat source c me (Complete v (completion.LoadArg answer func))

@@ -41,6 +41,7 @@ pub mod Opened
 pub mod Begun
 pub mod Starting
 -- laws
+pub mod Functions
 pub mod Interrupts
 pub mod Patchers
 pub mod StopLaws

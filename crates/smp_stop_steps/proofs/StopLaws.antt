@@ -10,23 +10,19 @@ use Rattle.smp_stop_steps.specs.StopLaws.{KeepsStopLaws}
 use Rattle.smp_words.specs.declared.word.Word.{Word}
 use Rattle.smp_words.specs.declared.word.Word.TheVariants.{Slot}
 use Rattle.smp_stop_steps.proofs.Ends.{function_law}
+use Rattle.smp_stop_steps.proofs.Functions.{has_functions, runs_alone}
 use Rattle.smp_stop_steps.proofs.Interrupts.{interrupt_law}
 use Rattle.smp_stop_steps.proofs.Patched.{all_off, lawful_when_on, off_while_patched}
 use Rattle.smp_stop_steps.proofs.Patchers.{is_lawful, has_patcher}
 use Rattle.smp_stop_steps.proofs.Raises.{phase_law}
 
 module _ (u : Setup) (p : StopState) (at : Word → ℕ) (seat : ℕ → Seat) (source : ℕ → Source) (h : StopShows u p at seat source) where
-  pub runs_alone : (s me : ℕ) → (p.now.stop s).standing me ≡ Inside 2 3 → RunsAlone p s me
-  runs_alone s me is = record {
-    law = function_law u.cpus (p.now.stop s) (λ f. at (Slot s f)) (h.present.slots s) me is;
-    all_off = all_off u p.now at seat h.present s me is;
-  }
-
   pub keeps_laws : KeepsStopLaws u p at
   keeps_laws = record {
     phases = λ s op busy. phase_law u.cpus (p.now.stop s) (λ f. at (Slot s f)) (h.present.slots s) op busy;
     interrupts = λ c. interrupt_law u p at seat source h c;
-    functions = runs_alone;
+    functions = runs_alone u p at seat source h;
+    calls = has_functions u p at seat source h;
     lawful = λ e. is_lawful u p at seat source h e;
     patchers = λ d work count made rest e. has_patcher u p at seat source h d work count made rest e;
     patches = λ d work count made rest is me online. off_while_patched u p.now at seat h.present me online d work count made rest is;

@@ -24,6 +24,8 @@ pub mod Carries
 pub mod Steps
 -- the laws, as they are promised
 pub mod Promises
+pub mod Functions
+pub mod Closings
 pub mod Interrupts
 pub mod Patchers
 pub mod StopLaws

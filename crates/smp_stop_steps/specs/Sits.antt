@@ -96,7 +96,9 @@ SitsInCompletion v completion.CountDown x =
     (work : Work) × (((v.answer ≡ 0) × IsLoaded v work × IsThroughAll v × (x ≡ In v.slot work v.acked v.acked Rests)) ⊎
     (x ≡ Gives v.slot work v.acked v.answer))
 SitsInCompletion v completion.StoreAnswer x = (v.answer ≢ 0) × IsThroughAll v × SitsIn v v.acked Rests x
-SitsInCompletion v _ x = (v.kind ≡ One) × SitsIn v v.acked Rests x
+SitsInCompletion v (completion.LoadFunc answer) x = (v.kind ≡ One) × SitsIn v v.acked Rests x
+SitsInCompletion v (completion.LoadArg answer func) x =
+    (v.kind ≡ One) × ((work : Work) × IsLoaded v work × (x ≡ In v.slot work v.acked v.acked Rests) × (func ≡ work.func))
 
 -- its seat at this stage
 abbrev pub SitsAt : Setup → ℕ → StopControlValue → Option StopStage → Seat → Type 0

@@ -1,5 +1,6 @@
 -- All laws of the stop half, of these stops and these words.
 use Rattle.std.specs.Prelude.{◌≡◌, ◌≢◌, ℕ, true}
+use Rattle.smp_stop_steps.specs.Functions.{HasFunctions}
 use Rattle.smp_stop_steps.specs.Interrupts.{InterruptLaw}
 use Rattle.smp_stop_steps.specs.KeyCounts.{CountShows}
 use Rattle.smp_stop_steps.specs.Laws.{PhaseLaw}
@@ -21,6 +22,7 @@ pub record KeepsStopLaws (u : Setup) (p : StopState) (at : Word → ℕ) : Type 
   pub interrupts : (c : ℕ) → InterruptLaw p c
   -- the function law: who has looked at RUN and not acknowledged it
   pub functions : (s me : ℕ) → (p.now.stop s).standing me ≡ Inside DISABLE_IRQ RUN → RunsAlone p s me
+  pub calls : HasFunctions p
   -- the label law: the table, who patches it, and what was read
   pub lawful : IsLawfulOutside p at
   pub patchers : HasPatcher u p

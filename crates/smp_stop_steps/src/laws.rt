@@ -42,6 +42,38 @@ pub fn function_law()
     ensures { KeepTheFunctionLaw }
 {}
 
+ghost use Rattle.smp_stop_steps.specs.Functions.{FunctionsRun, FunctionsRunOnce, AnswersMayBeReplaced};
+
+/// A stop function runs only on a CPU that is in a stop whose work has it and its argument: of a stop of kind One, or on an
+/// active CPU of a Multi stop, which has looked at `RUN` and not acknowledged it, while every CPU of the mask has
+/// acknowledged disabled interrupts. It runs from the step that says so to the acknowledgement, or the completion, that
+/// carries its answer.
+pub fn functions_run()
+    ensures { FunctionsRun }
+{}
+
+/// Each step of a CPU does one of these of its function. It calls it, and says `run F A`, where it had called none. It
+/// acknowledges `RUN`: an active CPU of a Multi stop has called it, the call is in its list, and it carries the answer.
+/// It completes: that answer, or 0 where it was not active, is added to its answers, and in a stop of kind One the call to
+/// its list. Or nothing.
+pub fn functions_run_once()
+    ensures { FunctionsRunOnce }
+{}
+
+/// Until a CPU completes, no word and no step tells what its function has answered: any answer may be put for it. For words
+/// that threads share, where no step of an acknowledgement can be told an answer.
+pub fn answers_may_be_replaced()
+    ensures { AnswersMayBeReplaced }
+{}
+
+ghost use Rattle.smp_stop_steps.specs.Closings.{LastStoresDone};
+
+/// Where a stop is open with nothing left to do and done still 0, exactly one CPU is before its store of done: the last to
+/// complete, and it has completed.
+pub fn last_stores_done()
+    ensures { LastStoresDone }
+{}
+
 ghost use Rattle.smp_stop_steps.specs.Interrupts.{KeepTheInterruptLaw};
 
 /// A CPU that has acknowledged `DISABLE_IRQ` and has not left has its interrupts off, and from its look at it on; in no
