@@ -37,7 +37,7 @@ use Rattle.smp_words.specs.declared.word.Word.{Word}
 use Rattle.smp_mask.specs.Mask.{has}
 
 -- who has nothing to do for the next phase does not set it
-rests_not : (me : ℕ) (r : Raising) → turn_of r me ≡ Rests → IsNot me r
+pub rests_not : (me : ℕ) (r : Raising) → turn_of r me ≡ Rests → IsNot me r
 rests_not me Nobody e = tt
 rests_not me (Refills r) e = λ same. at_test me r (λ b. cond b Fills Rests ≡ Rests → ⊥) (λ _ e. cc) (λ ne _. ne (sym same)) e
 rests_not me (Raises r) e = λ same. at_test me r (λ b. cond b Sets Rests ≡ Rests → ⊥) (λ _ e. cc) (λ ne _. ne (sym same)) e

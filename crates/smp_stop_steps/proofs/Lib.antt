@@ -42,6 +42,7 @@ pub mod Begun
 pub mod Starting
 -- laws
 pub mod Functions
+pub mod Premises
 pub mod Interrupts
 pub mod Patchers
 pub mod StopLaws

@@ -26,6 +26,7 @@ pub mod Steps
 pub mod Promises
 pub mod Functions
 pub mod Closings
+pub mod Premises
 pub mod Interrupts
 pub mod Patchers
 pub mod StopLaws

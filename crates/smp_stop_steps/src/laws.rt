@@ -74,6 +74,18 @@ pub fn last_stores_done()
     ensures { LastStoresDone }
 {}
 
+ghost use Rattle.smp_stop_steps.specs.Premises.{StepsArePremised};
+
+/// What holds before each step: a stop is opened by its source, with the gate, while none of its own is open; a CPU of the
+/// mask enters once, from no stop; it acknowledges a phase that it has looked at and that is new to it; the phase is raised
+/// by one, by the one that has refilled the count, once all have acknowledged it; a CPU completes when it is through all
+/// phases, the last stores done, and the source collects once all have completed. So the slot of an open stop is stored to
+/// by CPUs in it and by the last to complete alone, and that of a stop that is not open by its source; only the fetch_and
+/// of a roll may be any CPU's.
+pub fn steps_are_premised()
+    ensures { StepsArePremised }
+{}
+
 ghost use Rattle.smp_stop_steps.specs.Interrupts.{KeepTheInterruptLaw};
 
 /// A CPU that has acknowledged `DISABLE_IRQ` and has not left has its interrupts off, and from its look at it on; in no
