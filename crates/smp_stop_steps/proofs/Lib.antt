@@ -36,6 +36,7 @@ pub mod StateWords
 pub mod Tables
 pub mod Named
 pub mod Values
+pub mod StepLaws
 pub mod Made
 pub mod Opened
 pub mod Begun

@@ -17,6 +17,13 @@ pub record IsLast (p : StopState) (seat : ℕ → Seat) (s c : ℕ) : Type 0 whe
   pub closes : seat c ≡ Closes s
   pub alone : (d : ℕ) → seat d ≡ Closes s → d ≡ c
 
+-- the last to complete has completed, and has not stored done
+abbrev pub IsLastOf : StopState → ℕ → ℕ → Type 0
+IsLastOf p s c = ((p.now.stop s).ending ≡ Last c) × HasCompleted ((p.now.stop s).standing c)
+
+abbrev pub HasLast : StopState → (Word → ℕ) → Type 0
+HasLast p at = (s : ℕ) → (p.now.stop s).is_open ≡ true → at (Slot s field.Todo) ≡ 0 → at (Slot s field.Done) ≡ 0 → (c : ℕ) × IsLastOf p s c
+
 -- where a stop is open with nothing left to do and done still 0, there is one such CPU
 abbrev pub IsClosing : StopState → (Word → ℕ) → (ℕ → Seat) → Type 0
 IsClosing p at seat = (s : ℕ) → (p.now.stop s).is_open ≡ true → at (Slot s field.Todo) ≡ 0 → at (Slot s field.Done) ≡ 0 → (c : ℕ) × IsLast p seat s c

@@ -38,6 +38,7 @@ pub mod Machine
 pub mod New
 pub mod Begins
 pub mod Starts
+pub mod StepLaws
 -- what a CPU knows
 pub mod Known
 pub mod KnownAfter

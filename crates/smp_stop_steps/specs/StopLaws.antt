@@ -1,5 +1,6 @@
 -- All laws of the stop half, of these stops and these words.
 use Rattle.std.specs.Prelude.{◌≡◌, ◌≢◌, ℕ, true}
+use Rattle.smp_stop_steps.specs.Closings.{HasLast}
 use Rattle.smp_stop_steps.specs.Functions.{HasFunctions}
 use Rattle.smp_stop_steps.specs.Interrupts.{InterruptLaw}
 use Rattle.smp_stop_steps.specs.KeyCounts.{CountShows}
@@ -23,6 +24,8 @@ pub record KeepsStopLaws (u : Setup) (p : StopState) (at : Word → ℕ) : Type 
   -- the function law: who has looked at RUN and not acknowledged it
   pub functions : (s me : ℕ) → (p.now.stop s).standing me ≡ Inside DISABLE_IRQ RUN → RunsAlone p s me
   pub calls : HasFunctions p
+  -- where all have completed and done is not stored, the last to complete is to store it
+  pub closing : HasLast p at
   -- the label law: the table, who patches it, and what was read
   pub lawful : IsLawfulOutside p at
   pub patchers : HasPatcher u p
