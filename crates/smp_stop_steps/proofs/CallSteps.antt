@@ -1,7 +1,8 @@
 -- Each step of a CPU's command leaves its function where the next stage says, and the functions of all others.
 use Rattle.smp_stop_steps.proofs.Completions.{one_phase}
 use Rattle.smp_stop_steps.proofs.Phases.{is_open_inside, keeps_inside}
-use Rattle.std.proofs.Common.{◌≡◌, ◌≢◌, ℕ, ◌+◌, ◌-◌, ◌≤◌, Bool, true, false, eq-eqb, eqb-true, ne_eqb, ◌==◌, ◌&&◌, ◌||◌, cond, ◌⊎◌, inl, inr, Option, Some, None, List, [], ◌∷◌, length, sym, subst, refl, ap, ◌∙◌, arith, ⊎_elim, ◌++◌}
+use Rattle.std.proofs.Common.{◌≡◌, ◌≢◌, ℕ, ◌+◌, ◌-◌, ◌≤◌, Bool, true, false, eq-eqb, eqb-true, ne_eqb, ◌==◌, ◌&&◌, ◌||◌, cond, ◌⊎◌, inl, inr, Option}
+use Rattle.std.proofs.Common.{Some, None, List, [], ◌∷◌, length, sym, subst, refl, ap, ◌∙◌, arith, ⊎_elim, ◌++◌}
 use Rattle.smp_mask.specs.Mask.{has}
 use Rattle.smp_labels.specs.Keys.{change_of, count_after, is_on}
 use Rattle.smp_labels.specs.Kinds.{xor}
@@ -28,17 +29,21 @@ use Rattle.smp_stop_steps.specs.Seats.{Seat, Free, In, Gives, Alters, Rests, Sta
 use Rattle.smp_stop_steps.specs.Shows.{StopShows}
 use Rattle.smp_stop_steps.specs.Sits.{IsLoaded, RunsIf, Sits, SitsAt, SitsAtRun, SitsInRound, SitsInCompletion, IsThroughAll}
 use Rattle.smp_stop_steps.specs.Sources.{Source}
-use Rattle.smp_stop_steps.specs.Stages.{StopControlValue, StopOutcome, answer_at, turn_note, begun_next, change_at, visit_of, completes_from, completion_outcome, entry_on, key_on, looked_on, nudge_of, nudge_on, round_access, round_outcome, stop_access, stop_ends, stop_goes, stop_outcome, store_of, turn_ends, visit_acked}
+use Rattle.smp_stop_steps.specs.Stages.{StopControlValue, StopOutcome, answer_at, turn_note, begun_next, change_at, visit_of, completes_from}
+use Rattle.smp_stop_steps.specs.Stages.{completion_outcome, entry_on, key_on, looked_on, nudge_of, nudge_on, round_access, round_outcome, stop_access}
+use Rattle.smp_stop_steps.specs.Stages.{stop_ends, stop_goes, stop_outcome, store_of, turn_ends, visit_acked}
 use Rattle.smp_stop_steps.specs.State.{Setup, StopState, Calling, Idle, Calls, Carries, StopCall}
 use Rattle.smp_stop_steps.specs.Steps.{CallStep, control_then, state_after, told_of, is_run, note_then, Told}
 use Rattle.smp_stop_steps.specs.Stop.{Standing, Inside, Answering}
-use Rattle.smp_stop_steps.specs.Tells.{acknowledges, enters, called_more, calls_at_run, calls_now, carried, carried_call, completes, completes_with, gate_told, is_multi, is_one, key_told, may_call, plan_at, stored_open, stored_shut, tells, told}
+use Rattle.smp_stop_steps.specs.Tells.{acknowledges, enters, called_more, calls_at_run, calls_now, carried, carried_call, completes, completes_with}
+use Rattle.smp_stop_steps.specs.Tells.{gate_told, is_multi, is_one, key_told, may_call, plan_at, stored_open, stored_shut, tells, told}
 use Rattle.smp_stop_steps.specs.declared.stage.CompletionStage.{CompletionStage}
 use Rattle.smp_stop_steps.specs.declared.stage.CompletionStage.TheVariants as completion
 use Rattle.smp_stop_steps.specs.declared.stage.RoundStage.{RoundStage}
 use Rattle.smp_stop_steps.specs.declared.stage.RoundStage.TheVariants as round
 use Rattle.smp_stop_steps.specs.declared.stage.StopStage.{StopStage}
-use Rattle.smp_stop_steps.specs.declared.stage.StopStage.TheVariants.{TakeGate, OpenGate, Begin, Enter, EnterKind, EnterMask, EnterActive, Advance, Complete, Close, LoadDone, LoadResult, ReadKey, ReadSite, NudgeKey, ExchangeKey}
+use Rattle.smp_stop_steps.specs.declared.stage.StopStage.TheVariants.{TakeGate, OpenGate, Begin, Enter, EnterKind, EnterMask, EnterActive, Advance}
+use Rattle.smp_stop_steps.specs.declared.stage.StopStage.TheVariants.{Complete, Close, LoadDone, LoadResult, ReadKey, ReadSite, NudgeKey, ExchangeKey}
 use Rattle.smp_stop_steps.specs.declared.stage.Visit.{Visit}
 use Rattle.smp_stop_steps.proofs.Callings.{carried_alone, idle_alters, idle_patch}
 use Rattle.smp_stop_steps.proofs.Counts.{put_here, put_else}
@@ -87,7 +92,8 @@ nudge_calling : (u : Setup) (p : StopState) (me k found n : ℕ) (b : Bool) → 
 nudge_calling u p me k found n true = refl
 nudge_calling u p me k found n false = refl
 
-patch_calling : (u : Setup) (p : StopState) (at : Word → ℕ) (me : ℕ) (x : Change) → told_of (tells u p (seen_of me (store_of x) (at (word_of (store_of x))) None) 0) ≡ told_of p
+patch_calling : (u : Setup) (p : StopState) (at : Word → ℕ) (me : ℕ) (x : Change) →
+    told_of (tells u p (seen_of me (store_of x) (at (word_of (store_of x))) None) 0) ≡ told_of p
 patch_calling u p at me (place.Key k, n) = refl
 patch_calling u p at me (place.Site i, n) = refl
 
@@ -137,7 +143,8 @@ module _ (u : Setup) (p : StopState) (at : Word → ℕ) (seat : ℕ → Seat) (
   calling_at x e = subst (λ y. IsCalling me y f) e (h.callings me)
 
   -- a step that calls nothing
-  plain : (stage : StopStage) → told_of (state_after u p at c me stage) ≡ told_of p → is_run (note_then u at c me stage) ≡ false → CarriesIn (control_then u at c me stage) f → Now stage
+  plain : (stage : StopStage) → told_of (state_after u p at c me stage) ≡ told_of p → is_run (note_then u at c me stage) ≡ false →
+      CarriesIn (control_then u at c me stage) f → Now stage
   plain stage same says mine = record {
     mine = subst (λ (x : Told). CarriesIn (control_then u at c me stage) (x.calling me)) (sym same) mine;
     others = λ cpu ne. ap (λ (x : Told). x.calling cpu) same;
@@ -150,13 +157,15 @@ module _ (u : Setup) (p : StopState) (at : Word → ℕ) (seat : ℕ → Seat) (
 
     look : (answer : ℕ) → c.stage ≡ Some (Advance v (round.Look answer)) → Now (Advance v (round.Look answer))
     look answer e = plain (Advance v (round.Look answer)) refl (elim (at (Slot v.slot field.State) == v.acked) as
-        (λ b. is_run (cond b (stop_ends c note.Same) (looked_on me c v answer (at (Slot v.slot field.State)))).note ≡ false) [ true ↦ refl | false ↦ refl ]) (go (at (Slot v.slot field.State) == v.acked) (at (Slot v.slot field.State) == 3 && has v.active me))
+        (λ b. is_run (cond b (stop_ends c note.Same) (looked_on me c v answer (at (Slot v.slot field.State)))).note ≡ false) [ true ↦ refl | false ↦ refl ])
+            (go (at (Slot v.slot field.State) == v.acked) (at (Slot v.slot field.State) == 3 && has v.active me))
       where
         q : IsQuiet c.visit f
         q = at_stage (Advance v (round.Look answer)) e
 
         go : (b d : Bool) → CarriesIn (cond b (stop_ends c note.Same)
-            (stop_goes (record c { interrupts = cond (at (Slot v.slot field.State) == 2) false c.interrupts }) (Advance v (cond d (round.LoadFunc answer) (round.Acknowledge answer false))))).control f
+            (stop_goes (record c { interrupts = cond (at (Slot v.slot field.State) == 2) false c.interrupts })
+                (Advance v (cond d (round.LoadFunc answer) (round.Acknowledge answer false))))).control f
         go true d = q
         go false true = q
         go false false = quiet (seat_at (Advance v (round.Look answer)) e).0 q
@@ -168,17 +177,22 @@ module _ (u : Setup) (p : StopState) (at : Word → ℕ) (seat : ℕ → Seat) (
         p' ≡ calls_now p me (p.now.stop s).work found answer
     called s w a l answer is may =
         let st : Stands p.now me (In s w a l Rests) = subst (Stands p.now me) is (h.present.stands me) in
-        let true_ : may_call me (p.now.stop s).work ((p.now.stop s).standing me) ≡ true = ap (λ (x : Work). may_call me x ((p.now.stop s).standing me)) st.3 ∙ (ap (may_call me w) st.1 ∙ may) in
+        let true_ : may_call me (p.now.stop s).work ((p.now.stop s).standing me) ≡ true = ap (λ (x : Work). may_call me x ((p.now.stop s).standing me))
+            st.3 ∙ (ap (may_call me w) st.1 ∙ may) in
         ap (λ b. cond b (calls_now p me (p.now.stop s).work (at (Slot s field.Arg)) answer) p) true_
 
-    calls : (stage : StopStage) (s : ℕ) (w : Work) (a l answer : ℕ) → state_after u p at c me stage ≡ told u p me act.Load (Slot s field.Arg) (Some (at (Slot s field.Arg))) None answer →
-        seat me ≡ In s w a l Rests → may_call me w (Inside a l) ≡ true → f ≡ Idle → answer_at stage ≡ answer → note_then u at c me stage ≡ Some (note.Run w.func (at (Slot s field.Arg))) →
+    calls : (stage : StopStage) (s : ℕ) (w : Work) (a l answer : ℕ) → state_after u p at c me stage ≡ told u p me act.Load (Slot s field.Arg)
+        (Some (at (Slot s field.Arg))) None answer →
+        seat me ≡ In s w a l Rests → may_call me w (Inside a l) ≡ true → f ≡ Idle → answer_at stage ≡ answer → note_then u at c me stage ≡ Some
+            (note.Run w.func (at (Slot s field.Arg))) →
         ((call : StopCall) → call.answer ≡ answer → CarriesIn (control_then u at c me stage) (Calls call)) → Now stage
     calls stage s w a l answer is_told is may idle answered says mine =
         let st : Stands p.now me (In s w a l Rests) = subst (Stands p.now me) is (h.present.stands me) in
         let call : StopCall = record { func = (p.now.stop s).work.func; arg = at (Slot s field.Arg); answer = answer } in
-        let after : told_of (state_after u p at c me stage) ≡ record (told_of p) { calling = put p.calling me (Calls call) } = ap told_of (is_told ∙ called s w a l answer is may) in record {
-          mine = subst (λ (x : Told). CarriesIn (control_then u at c me stage) (x.calling me)) (sym after) (subst (CarriesIn (control_then u at c me stage)) (sym (put_here p.calling me (Calls call))) (mine call refl));
+        let after : told_of (state_after u p at c me stage) ≡ record (told_of p) { calling = put p.calling me (Calls call) } =
+            ap told_of (is_told ∙ called s w a l answer is may) in record {
+          mine = subst (λ (x : Told). CarriesIn (control_then u at c me stage) (x.calling me)) (sym after) (subst (CarriesIn (control_then u at c me stage))
+              (sym (put_here p.calling me (Calls call))) (mine call refl));
           others = λ cpu ne. ap (λ (x : Told). x.calling cpu) after ∙ put_else p.calling me (Calls call) cpu ne;
           goes = inr (inl record {
             call = call;
@@ -197,27 +211,39 @@ module _ (u : Setup) (p : StopState) (at : Word → ℕ) (seat : ℕ → Seat) (
         q : IsQuiet c.visit f
         q = at_stage (Advance v (round.LoadArg answer func)) e
 
-        go : c.visit ≡ Some v → v.kind ≢ One → (work : Work) → SitsAtRun me v work (seat me) → func ≡ work.func → (kind : KindOf) → v.kind ≡ kind → Now (Advance v (round.LoadArg answer func))
+        go : c.visit ≡ Some v → v.kind ≢ One → (work : Work) → SitsAtRun me v work (seat me) → func ≡ work.func → (kind : KindOf) → v.kind ≡ kind →
+            Now (Advance v (round.LoadArg answer func))
         go visit some work run same One is = absurd (some is)
         go visit some work run same Multi is =
             let multi : work.kind ≡ Multi = sym run.0.kind ∙ is in
             let active : has work.active me ≡ true = ap (λ m. has m me) (sym run.0.active) ∙ run.2 in
-            let may : may_call me work (Inside 2 3) ≡ true = ap (λ (y : KindOf). is_one y || (true && (has work.active me && is_multi y))) multi ∙ ap (λ b. b && true) active in
+            let may : may_call me work (Inside 2 3) ≡ true = ap (λ (y : KindOf). is_one y || (true && (has work.active me && is_multi y))) multi ∙ ap
+                (λ b. b && true) active in
             calls (Advance v (round.LoadArg answer func)) v.slot work 2 3 answer refl run.3 may
             (quiet_early me v.slot work 3 Rests v f (quiet visit q) run.1 (calling_at (In v.slot work 2 3 Rests) run.3)) refl
-            (ap (λ (y : KindOf). (cond (is_multi y) (record { control = record c { stage = Some (Advance v (round.Acknowledge answer true)) }; note = Some (note.Run func (at (Slot v.slot field.Arg))) }) (stop_goes c (Advance v (round.LoadKey func (change_of (at (Slot v.slot field.Arg))))))).note) is
+            (ap (λ (y : KindOf). (cond (is_multi y) (record { control = record c { stage = Some (Advance v (round.Acknowledge answer true)) }; note =
+                Some (note.Run func (at (Slot v.slot field.Arg))) })
+                (stop_goes c (Advance v (round.LoadKey func (change_of (at (Slot v.slot field.Arg))))))).note) is
             ∙ ap (λ n. Some (note.Run n (at (Slot v.slot field.Arg)))) same)
-            (λ call equal. subst (λ (y : KindOf). CarriesIn (cond (is_multi y) (record { control = record c { stage = Some (Advance v (round.Acknowledge answer true)) }; note = Some (note.Run func (at (Slot v.slot field.Arg))) }) (stop_goes c (Advance v (round.LoadKey func (change_of (at (Slot v.slot field.Arg))))))).control (Calls call)) (sym is) (sym equal))
+            (λ call equal. subst (λ (y : KindOf). CarriesIn (cond (is_multi y)
+                (record { control = record c { stage = Some (Advance v (round.Acknowledge answer true)) }; note =
+                Some (note.Run func (at (Slot v.slot field.Arg))) })
+                (stop_goes c (Advance v (round.LoadKey func (change_of (at (Slot v.slot field.Arg))))))).control (Calls call)) (sym is) (sym equal))
         go visit some work run same Patch is =
             let patch : work.kind ≡ Patch = sym run.0.kind ∙ is in
             let st : Stands p.now me (In v.slot work 2 3 Rests) = subst (Stands p.now me) run.3 (h.present.stands me) in
             let calm : may_call me (p.now.stop v.slot).work ((p.now.stop v.slot).standing me) ≡ false =
-            ap (λ (x : Work). may_call me x ((p.now.stop v.slot).standing me)) st.3 ∙ (ap (may_call me work) st.1 ∙ (ap (λ (y : KindOf). is_one y || (true && (has work.active me && is_multi y))) patch ∙ none (has work.active me))) in
+            ap (λ (x : Work). may_call me x ((p.now.stop v.slot).standing me)) st.3 ∙ (ap (may_call me work) st.1 ∙
+                (ap (λ (y : KindOf). is_one y || (true && (has work.active me && is_multi y))) patch ∙ none (has work.active me))) in
             let nothing : told_of (state_after u p at c me (Advance v (round.LoadArg answer func))) ≡ told_of p =
             ap (λ b. told_of (cond b (calls_now p me (p.now.stop v.slot).work (at (Slot v.slot field.Arg)) answer) p)) calm in
             plain (Advance v (round.LoadArg answer func)) nothing
-            (ap (λ (y : KindOf). is_run (cond (is_multi y) (record { control = record c { stage = Some (Advance v (round.Acknowledge answer true)) }; note = Some (note.Run func (at (Slot v.slot field.Arg))) }) (stop_goes c (Advance v (round.LoadKey func (change_of (at (Slot v.slot field.Arg))))))).note) is)
-            (subst (λ (y : KindOf). CarriesIn (cond (is_multi y) (record { control = record c { stage = Some (Advance v (round.Acknowledge answer true)) }; note = Some (note.Run func (at (Slot v.slot field.Arg))) }) (stop_goes c (Advance v (round.LoadKey func (change_of (at (Slot v.slot field.Arg))))))).control f) (sym is) q)
+            (ap (λ (y : KindOf). is_run (cond (is_multi y) (record { control = record c { stage = Some (Advance v (round.Acknowledge answer true)) }; note =
+                Some (note.Run func (at (Slot v.slot field.Arg))) })
+                (stop_goes c (Advance v (round.LoadKey func (change_of (at (Slot v.slot field.Arg))))))).note) is)
+            (subst (λ (y : KindOf). CarriesIn (cond (is_multi y) (record { control = record c { stage = Some (Advance v (round.Acknowledge answer true)) };
+                note = Some (note.Run func (at (Slot v.slot field.Arg))) })
+                (stop_goes c (Advance v (round.LoadKey func (change_of (at (Slot v.slot field.Arg))))))).control f) (sym is) q)
           where
             none : (b : Bool) → (b && false) ≡ false
             none true = refl
@@ -237,7 +263,8 @@ module _ (u : Setup) (p : StopState) (at : Word → ℕ) (seat : ℕ → Seat) (
         silent : (o : Option ℕ) → is_run (key_on c v key (at (Key key)) o).note ≡ false
         silent None = refl
         silent (Some new) = elim (at (Key key) == new) as (λ b. is_run (cond b (stop_goes (record c { changes = [] }) (Advance v (round.Acknowledge 0 true)))
-            (stop_goes (record c { changes = (place.Key key, new) ∷ [] }) (Advance v (cond (xor (is_on (at (Key key))) (is_on new)) (round.LoadEntry key new 0) (round.StoreChange 0))))).note ≡ false) [ true ↦ refl | false ↦ refl ]
+            (stop_goes (record c { changes = (place.Key key, new) ∷ [] }) (Advance v (cond (xor (is_on (at (Key key))) (is_on new))
+                (round.LoadEntry key new 0) (round.StoreChange 0))))).note ≡ false) [ true ↦ refl | false ↦ refl ]
 
         acking : (answer : ℕ) → v.kind ≡ Patch → f ≡ Idle → IsAcking v answer true f
         acking answer kind idle = subst (IsAcking v answer true) (sym idle) kind
@@ -255,7 +282,8 @@ module _ (u : Setup) (p : StopState) (at : Word → ℕ) (seat : ℕ → Seat) (
     load_entry : (key word site : ℕ) → c.stage ≡ Some (Advance v (round.LoadEntry key word site)) → Now (Advance v (round.LoadEntry key word site))
     load_entry key word site e =
         let q = at_stage (Advance v (round.LoadEntry key word site)) e in
-        plain (Advance v (round.LoadEntry key word site)) refl refl (elim (at (word_of (round_access u.cpus c.changes v (round.LoadEntry key word site))) == 0 || site + 1 == MOST_SITES) as
+        plain (Advance v (round.LoadEntry key word site)) refl refl (elim (at (word_of (round_access u.cpus c.changes v (round.LoadEntry key word site))) ==
+            0 || site + 1 == MOST_SITES) as
         (λ b. CarriesAt c.visit (Some (Advance v (cond b (round.StoreChange 0) (round.LoadEntry key word (site + 1))))) f) [ true ↦ q | false ↦ q ])
 
     store_change : (made : ℕ) → c.stage ≡ Some (Advance v (round.StoreChange made)) → Now (Advance v (round.StoreChange made))
@@ -293,7 +321,8 @@ module _ (u : Setup) (p : StopState) (at : Word → ℕ) (seat : ℕ → Seat) (
         after a st = ap (λ (x : Standing). told_of (acknowledges p me v.slot x found)) st
 
         silent : is_run (note_then u at c me stage) ≡ false
-        silent = elim (found == 1) as (λ b. is_run (cond b (stop_goes (record c { visit = Some (visit_acked v answer ran) }) (Advance (visit_acked v answer ran) (round.Refill ran)))
+        silent = elim (found == 1) as (λ b. is_run (cond b (stop_goes (record c { visit = Some (visit_acked v answer ran) })
+            (Advance (visit_acked v answer ran) (round.Refill ran)))
             (turn_ends (record c { visit = Some (visit_acked v answer ran) }) (v.acked + 1) ran)).note ≡ false) [
               | true ↦ refl
               | false ↦ elim (v.acked + 1 == 4) as (λ d. is_run (Some (cond d note.Left (cond ran note.Ran (note.Moved (v.acked + 1))))) ≡ false) [
@@ -302,11 +331,14 @@ module _ (u : Setup) (p : StopState) (at : Word → ℕ) (seat : ℕ → Seat) (
               ]
             ]
 
-        done : (b : Bool) (g : Calling) → told_of (state_after u p at c me stage) ≡ record (told_of p) { calling = cond b (put p.calling me g) p.calling; calls = cond b (called_more p.calls me f) p.calls } →
-            g ≡ carried me p.now.patching f → p.now.inside me ≡ Some v.slot → (b ≡ true → HasCalled me (p.now.stop v.slot).work f ⊎ ((p.now.stop v.slot).work.kind ≡ Patch)) →
+        done : (b : Bool) (g : Calling) → told_of (state_after u p at c me stage) ≡ record (told_of p) { calling = cond b (put p.calling me g) p.calling;
+            calls = cond b (called_more p.calls me f) p.calls } →
+            g ≡ carried me p.now.patching f → p.now.inside me ≡ Some v.slot → (b ≡ true → HasCalled me (p.now.stop v.slot).work f ⊎
+                ((p.now.stop v.slot).work.kind ≡ Patch)) →
             (b ≡ true → IsQuiet (Some (visit_acked v answer ran)) g) → (b ≡ false → IsQuiet (Some (visit_acked v answer ran)) f) → Now stage
         done true g same is in_ ready y n = record {
-          mine = subst (CarriesIn (control_then u at c me stage)) (sym (ap (λ (x : Told). x.calling me) same ∙ put_here p.calling me g)) (acked_control answer ran (found == 1) g (y refl));
+          mine = subst (CarriesIn (control_then u at c me stage)) (sym (ap (λ (x : Told). x.calling me) same ∙ put_here p.calling me g))
+              (acked_control answer ran (found == 1) g (y refl));
           others = λ cpu ne. ap (λ (x : Told). x.calling cpu) same ∙ put_else p.calling me g cpu ne;
           goes = inr (inr (inl record {
             slot = v.slot;
@@ -317,13 +349,15 @@ module _ (u : Setup) (p : StopState) (at : Word → ℕ) (seat : ℕ → Seat) (
           }));
         }
         done false g same is in_ ready y n = record {
-          mine = subst (CarriesIn (control_then u at c me stage)) (sym (ap (λ (x : Told). x.calling me) same)) (acked_control answer ran (found == 1) f (n refl));
+          mine = subst (CarriesIn (control_then u at c me stage)) (sym (ap (λ (x : Told). x.calling me) same)) (acked_control answer ran (found == 1) f
+              (n refl));
           others = λ cpu ne. ap (λ (x : Told). x.calling cpu) same;
           goes = inl record { same = same; says = silent };
         }
 
         -- who acknowledges RUN has called its function, or is not to call one
-        has_called : (w work : Work) → w ≡ work → IsLoaded v work → (b : Bool) → RunsIf me v b → (g : Calling) → IsAcking v answer b g → v.acked ≡ 2 → HasCalled me w g
+        has_called : (w work : Work) → w ≡ work → IsLoaded v work → (b : Bool) → RunsIf me v b → (g : Calling) → IsAcking v answer b g → v.acked ≡ 2 →
+            HasCalled me w g
         has_called w work same loaded true runs Idle is two = let bad : Multi ≡ Patch = sym runs.1 ∙ is in cc
         has_called w work same loaded true runs (Calls call) is two = tt
         has_called w work same loaded true runs (Carries x) is two = absurd is
@@ -336,14 +370,17 @@ module _ (u : Setup) (p : StopState) (at : Word → ℕ) (seat : ℕ → Seat) (
         ran_on true Idle r runs is = let bad : Multi ≡ Patch = sym runs.1 ∙ is in cc
         ran_on true (Calls call) r runs is = is
         ran_on true (Carries x) r runs is = absurd is
-        ran_on false g r runs is = subst (IsQuiet (Some (visit_acked v answer false))) (sym (quiet_carried v g is)) (quiet_visit v (visit_acked v answer false) g refl is)
+        ran_on false g r runs is = subst (IsQuiet (Some (visit_acked v answer false))) (sym (quiet_carried v g is))
+            (quiet_visit v (visit_acked v answer false) g refl is)
 
-        stays : (b : Bool) (g : Calling) → ran ≡ b → RunsIf me v b → IsAcking v answer b g → (v.acked + 1 == 3) ≡ false → IsQuiet (Some (visit_acked v answer b)) g
+        stays : (b : Bool) (g : Calling) → ran ≡ b → RunsIf me v b → IsAcking v answer b g → (v.acked + 1 == 3) ≡ false →
+            IsQuiet (Some (visit_acked v answer b)) g
         stays true g r runs is other = let bad : true ≡ false = sym (eq-eqb (v.acked + 1) 3 (let t = runs.0 in omega arith)) ∙ other in cc
         stays false g r runs is other = quiet_visit v (visit_acked v answer false) g refl is
 
         either : (work : Work) → IsLoaded v work →
-            (((seat me ≡ In v.slot work v.acked (v.acked + 1) Rests) × RunsIf me v ran) ⊎ ((v.acked ≡ 2) × (ran ≡ true) × ((count : ℕ) × (answer ≡ patch_answer work count) × (seat me ≡ Alters v.slot work count (plan_at u work count) [])))) → Now stage
+            (((seat me ≡ In v.slot work v.acked (v.acked + 1) Rests) × RunsIf me v ran) ⊎ ((v.acked ≡ 2) × (ran ≡ true) ×
+                ((count : ℕ) × (answer ≡ patch_answer work count) × (seat me ≡ Alters v.slot work count (plan_at u work count) [])))) → Now stage
         either work loaded (inl (is, runs)) =
             let st : Stands p.now me (In v.slot work v.acked (v.acked + 1) Rests) = subst (Stands p.now me) is (h.present.stands me) in
             let alone = carried_alone u.first p.now.patching seat me f (subst IsNoPatch (sym is) tt) h.present.runner in
@@ -364,20 +401,26 @@ module _ (u : Setup) (p : StopState) (at : Word → ℕ) (seat : ℕ → Seat) (
     none_acked work one is =
         let st : Stands p.now me (In v.slot work v.acked v.acked Rests) = subst (Stands p.now me) is (h.present.stands me) in
         let open_ = is_open_inside u.cpus (p.now.stop v.slot) (λ g. at (Slot v.slot g)) (h.present.slots v.slot) me (Inside v.acked v.acked) st.1 refl in
-        let phase = one_phase (p.now.stop v.slot).work.kind (p.now.stop v.slot).phase (ap (λ (x : Work). x.kind) st.3 ∙ one) ((h.present.slots v.slot).shows open_).kinds in
+        let phase = one_phase (p.now.stop v.slot).work.kind (p.now.stop v.slot).phase (ap (λ (x : Work). x.kind) st.3 ∙ one) ((h.present.slots v.slot).shows
+            open_).kinds in
         let near = (keeps_inside u.cpus (p.now.stop v.slot) (λ g. at (Slot v.slot g)) (h.present.slots v.slot) me (Inside v.acked v.acked) st.1).1 in
-        ⊎_elim (λ (e : v.acked ≡ (p.now.stop v.slot).phase). e ∙ phase) (λ (e : v.acked + 1 ≡ (p.now.stop v.slot).phase). absurd (let z : ⊥ = omega (arith, e, phase) in z)) near
+        ⊎_elim (λ (e : v.acked ≡ (p.now.stop v.slot).phase). e ∙ phase) (λ (e : v.acked + 1 ≡ (p.now.stop v.slot).phase). absurd (let z : ⊥ =
+            omega (arith, e, phase) in z)) near
 
     one_arg : (answer func : ℕ) → c.stage ≡ Some (Complete v (completion.LoadArg answer func)) → Now (Complete v (completion.LoadArg answer func))
     one_arg answer func e =
         let x = (seat_at (Complete v (completion.LoadArg answer func)) e).1 in
         let one : x.1.0.kind ≡ One = sym x.1.1.kind ∙ x.0 in
-        let may : may_call me x.1.0 (Inside v.acked v.acked) ≡ true = ap (λ (y : KindOf). is_one y || ((v.acked == 2 && v.acked == 3) && (has x.1.0.active me && is_multi y))) one in
+        let may : may_call me x.1.0 (Inside v.acked v.acked) ≡ true = ap (λ (y : KindOf). is_one y || ((v.acked == 2 && v.acked == 3) &&
+            (has x.1.0.active me && is_multi y))) one in
         let st : Stands p.now me (In v.slot x.1.0 v.acked v.acked Rests) = subst (Stands p.now me) x.1.2 (h.present.stands me) in
         calls (Complete v (completion.LoadArg answer func)) v.slot x.1.0 v.acked v.acked answer refl x.1.2 may
-        (quiet_one me v.slot x.1.0 v.acked v.acked Rests v f (quiet (seat_at (Complete v (completion.LoadArg answer func)) e).0 (at_stage (Complete v (completion.LoadArg answer func)) e))
-        (none_acked x.1.0 one x.1.2) (calling_at (In v.slot x.1.0 v.acked v.acked Rests) x.1.2)) refl (ap (λ n. Some (note.Run n (at (Slot v.slot field.Arg)))) x.1.3)
-        (λ call same. elim (answer == 0) as (λ b. CarriesAt (Some (record v { answer = answer })) (Some (Complete (record v { answer = answer }) (cond b completion.CountDown completion.StoreAnswer))) (Calls call))
+        (quiet_one me v.slot x.1.0 v.acked v.acked Rests v f (quiet (seat_at (Complete v (completion.LoadArg answer func)) e).0
+            (at_stage (Complete v (completion.LoadArg answer func)) e))
+        (none_acked x.1.0 one x.1.2) (calling_at (In v.slot x.1.0 v.acked v.acked Rests) x.1.2)) refl
+            (ap (λ n. Some (note.Run n (at (Slot v.slot field.Arg)))) x.1.3)
+        (λ call same. elim (answer == 0) as (λ b. CarriesAt (Some (record v { answer = answer }))
+            (Some (Complete (record v { answer = answer }) (cond b completion.CountDown completion.StoreAnswer))) (Calls call))
         [ true ↦ sym same | false ↦ sym same ])
 
     count_down : c.stage ≡ Some (Complete v completion.CountDown) → Now (Complete v completion.CountDown)
@@ -395,19 +438,24 @@ module _ (u : Setup) (p : StopState) (at : Word → ℕ) (seat : ℕ → Seat) (
         ending (Carries x) is = is
 
         silent : is_run (note_then u at c me (Complete v completion.CountDown)) ≡ false
-        silent = elim (found == 1) as (λ b. is_run (cond b (stop_goes (record c { visit = None }) (Close v.slot)) (stop_ends (record c { visit = None }) note.Finished)).note ≡ false) [ true ↦ refl | false ↦ refl ]
+        silent = elim (found == 1) as (λ b. is_run (cond b (stop_goes (record c { visit = None }) (Close v.slot)) (stop_ends (record c { visit = None })
+            note.Finished)).note ≡ false) [ true ↦ refl | false ↦ refl ]
 
-        done : (a x : ℕ) → told_of (state_after u p at c me (Complete v completion.CountDown)) ≡ told_of (completes_with p me v.slot a x found) → p.now.inside me ≡ Some v.slot → x ≡ v.answer →
+        done : (a x : ℕ) → told_of (state_after u p at c me (Complete v completion.CountDown)) ≡ told_of (completes_with p me v.slot a x found) →
+            p.now.inside me ≡ Some v.slot → x ≡ v.answer →
             ((p.now.stop v.slot).work.kind ≡ One → f ≢ Idle) → Now (Complete v completion.CountDown)
         done a x same in_ answers called = record {
-          mine = subst (CarriesIn (control_then u at c me (Complete v completion.CountDown))) (sym (ap (λ (y : Told). y.calling me) same ∙ put_here p.calling me Idle))
-              (elim (found == 1) as (λ b. CarriesIn (cond b (stop_goes (record c { visit = None }) (Close v.slot)) (stop_ends (record c { visit = None }) note.Finished)).control Idle) [ true ↦ tt | false ↦ tt ]);
+          mine = subst (CarriesIn (control_then u at c me (Complete v completion.CountDown))) (sym (ap (λ (y : Told). y.calling me) same ∙ put_here
+              p.calling me Idle))
+              (elim (found == 1) as (λ b. CarriesIn (cond b (stop_goes (record c { visit = None }) (Close v.slot)) (stop_ends (record c { visit = None })
+                  note.Finished)).control Idle) [ true ↦ tt | false ↦ tt ]);
           others = λ cpu ne. ap (λ (y : Told). y.calling cpu) same ∙ put_else p.calling me Idle cpu ne;
           goes = inr (inr (inr record {
             slot = v.slot;
             inside = in_;
             called = called;
-            completes = same ∙ ap (λ n. record { calling = put p.calling me Idle; calls = called_more p.calls me f; answers = put p.answers me (put (p.answers me) v.slot (p.answers me v.slot ++ n ∷ [])) }) (answers ∙ ending f q);
+            completes = same ∙ ap (λ n. record { calling = put p.calling me Idle; calls = called_more p.calls me f; answers = put p.answers me
+                (put (p.answers me) v.slot (p.answers me v.slot ++ n ∷ [])) }) (answers ∙ ending f q);
             says = silent;
           }));
         }
@@ -422,7 +470,8 @@ module _ (u : Setup) (p : StopState) (at : Word → ℕ) (seat : ℕ → Seat) (
         given_called work a x (Calls call) is = λ bad. cc
         given_called work a x (Carries y) is = λ bad. cc
 
-        either : (work : Work) → (((v.answer ≡ 0) × IsLoaded v work × IsThroughAll v × (seat me ≡ In v.slot work v.acked v.acked Rests)) ⊎ (seat me ≡ Gives v.slot work v.acked v.answer)) → Now (Complete v completion.CountDown)
+        either : (work : Work) → (((v.answer ≡ 0) × IsLoaded v work × IsThroughAll v × (seat me ≡ In v.slot work v.acked v.acked Rests)) ⊎
+            (seat me ≡ Gives v.slot work v.acked v.answer)) → Now (Complete v completion.CountDown)
         either work (inl (none, loaded, all, is)) =
             let st : Stands p.now me (In v.slot work v.acked v.acked Rests) = subst (Stands p.now me) is (h.present.stands me) in
             done v.acked 0 (ap (λ (x : Standing). told_of (completes p me v.slot x found)) st.1) st.0 (sym none)
@@ -440,7 +489,8 @@ module _ (u : Setup) (p : StopState) (at : Word → ℕ) (seat : ℕ → Seat) (
   ]
 
   pub call_step : (stage : StopStage) → c.stage ≡ Some stage → Now stage
-  call_step TakeGate e = plain TakeGate (gate_calling p me (me + 1) (at Gate == 0)) (elim (at Gate == 0) as (λ b. is_run (Some (cond b note.Gate note.Taken)) ≡ false) [ true ↦ refl | false ↦ refl ]) (at_stage TakeGate e)
+  call_step TakeGate e = plain TakeGate (gate_calling p me (me + 1) (at Gate == 0))
+      (elim (at Gate == 0) as (λ b. is_run (Some (cond b note.Gate note.Taken)) ≡ false) [ true ↦ refl | false ↦ refl ]) (at_stage TakeGate e)
   call_step OpenGate e = plain OpenGate refl refl (at_stage OpenGate e)
   call_step (Begin work g) e = plain (Begin work g) (store_calling p me me (begun_value u.cpus work g) g (p.now.stop me).is_open) (silent g) (next g)
     where
@@ -476,8 +526,10 @@ module _ (u : Setup) (p : StopState) (at : Word → ℕ) (seat : ℕ → Seat) (
       let x = seat_at (Enter slot) e in
       let q : IsQuiet c.visit f = at_stage (Enter slot) e in
       plain (Enter slot) (either_calling p (record p { now = enters p.now me slot }) (has (at (Slot slot field.Roll)) me) refl)
-      (elim (has (at (Slot slot field.Roll)) me) as (λ b. is_run (cond b (stop_goes c (EnterKind slot)) (stop_ends c note.Stale)).note ≡ false) [ true ↦ refl | false ↦ refl ]) (elim (has (at (Slot slot field.Roll)) me) as
-      (λ b. CarriesIn (cond b (stop_goes c (EnterKind slot)) (stop_ends c note.Stale)).control f) [ true ↦ quiet_none f (subst (λ y. IsQuiet y f) x.0 q) | false ↦ q ])
+      (elim (has (at (Slot slot field.Roll)) me) as (λ b. is_run (cond b (stop_goes c (EnterKind slot)) (stop_ends c note.Stale)).note ≡ false)
+          [ true ↦ refl | false ↦ refl ]) (elim (has (at (Slot slot field.Roll)) me) as
+      (λ b. CarriesIn (cond b (stop_goes c (EnterKind slot)) (stop_ends c note.Stale)).control f) [ true ↦ quiet_none f (subst (λ y. IsQuiet y f) x.0 q) |
+          false ↦ q ])
   call_step (EnterKind slot) e = plain (EnterKind slot) refl refl (at_stage (EnterKind slot) e)
   call_step (EnterMask slot kind) e = plain (EnterMask slot kind) refl refl (at_stage (EnterMask slot kind) e)
   call_step (EnterActive slot kind mask) e = plain (EnterActive slot kind mask) refl refl
@@ -489,17 +541,26 @@ module _ (u : Setup) (p : StopState) (at : Word → ℕ) (seat : ℕ → Seat) (
   call_step (Advance v (round.LoadEntry key word site)) e = load_entry v key word site e
   call_step (Advance v (round.StoreChange made)) e = store_change v made e
   call_step (Advance v (round.Acknowledge answer ran)) e = acknowledge v answer ran e
-  call_step (Advance v (round.Refill ran)) e = plain (Advance v (round.Refill ran)) (store_calling p me v.slot (mask_weight u.cpus v.mask) field.Ack (p.now.stop v.slot).is_open) refl (at_stage (Advance v (round.Refill ran)) e)
-  call_step (Advance v (round.Raise ran)) e = plain (Advance v (round.Raise ran)) (store_calling p me v.slot (v.acked + 1) field.State (p.now.stop v.slot).is_open) (turn_silent v.acked ran) (at_stage (Advance v (round.Raise ran)) e)
-  call_step (Complete v (completion.LoadFunc answer)) e = plain (Complete v (completion.LoadFunc answer)) refl refl (at_stage (Complete v (completion.LoadFunc answer)) e)
+  call_step (Advance v (round.Refill ran)) e = plain (Advance v (round.Refill ran)) (store_calling p me v.slot (mask_weight u.cpus v.mask) field.Ack
+      (p.now.stop v.slot).is_open) refl (at_stage (Advance v (round.Refill ran)) e)
+  call_step (Advance v (round.Raise ran)) e = plain (Advance v (round.Raise ran)) (store_calling p me v.slot (v.acked + 1) field.State
+      (p.now.stop v.slot).is_open) (turn_silent v.acked ran) (at_stage (Advance v (round.Raise ran)) e)
+  call_step (Complete v (completion.LoadFunc answer)) e = plain (Complete v (completion.LoadFunc answer)) refl refl
+      (at_stage (Complete v (completion.LoadFunc answer)) e)
   call_step (Complete v (completion.LoadArg answer func)) e = one_arg v answer func e
-  call_step (Complete v completion.StoreAnswer) e = plain (Complete v completion.StoreAnswer) (store_calling p me v.slot v.answer field.Result (p.now.stop v.slot).is_open) refl (at_stage (Complete v completion.StoreAnswer) e)
+  call_step (Complete v completion.StoreAnswer) e = plain (Complete v completion.StoreAnswer) (store_calling p me v.slot v.answer field.Result
+      (p.now.stop v.slot).is_open) refl (at_stage (Complete v completion.StoreAnswer) e)
   call_step (Complete v completion.CountDown) e = count_down v e
   call_step (Close slot) e = plain (Close slot) (store_calling p me slot 1 field.Done (p.now.stop slot).is_open) refl (at_stage (Close slot) e)
-  call_step LoadDone e = plain LoadDone refl (elim (at (Slot me field.Done) == 0) as (λ b. is_run (cond b (stop_ends c note.Pending) (stop_goes c LoadResult)).note ≡ false) [ true ↦ refl | false ↦ refl ]) (elim (at (Slot me field.Done) == 0) as (λ b. CarriesIn (cond b (stop_ends c note.Pending) (stop_goes c LoadResult)).control f) [ true ↦ at_stage LoadDone e | false ↦ at_stage LoadDone e ])
+  call_step LoadDone e = plain LoadDone refl (elim (at (Slot me field.Done) == 0) as
+      (λ b. is_run (cond b (stop_ends c note.Pending) (stop_goes c LoadResult)).note ≡ false) [ true ↦ refl | false ↦ refl ])
+      (elim (at (Slot me field.Done) == 0) as (λ b. CarriesIn (cond b (stop_ends c note.Pending) (stop_goes c LoadResult)).control f)
+      [ true ↦ at_stage LoadDone e | false ↦ at_stage LoadDone e ])
   call_step LoadResult e = plain LoadResult refl refl (at_stage LoadResult e)
-  call_step (ReadKey k) e = plain (ReadKey k) refl (elim (is_on (at (Key k))) as (λ b. is_run (Some (cond b note.On note.Off)) ≡ false) [ true ↦ refl | false ↦ refl ]) (at_stage (ReadKey k) e)
-  call_step (ReadSite i) e = plain (ReadSite i) refl (elim (is_on (at (Site i))) as (λ b. is_run (Some (cond b note.Jmp note.Nop)) ≡ false) [ true ↦ refl | false ↦ refl ]) (at_stage (ReadSite i) e)
+  call_step (ReadKey k) e = plain (ReadKey k) refl (elim (is_on (at (Key k))) as (λ b. is_run (Some (cond b note.On note.Off)) ≡ false)
+      [ true ↦ refl | false ↦ refl ]) (at_stage (ReadKey k) e)
+  call_step (ReadSite i) e = plain (ReadSite i) refl (elim (is_on (at (Site i))) as (λ b. is_run (Some (cond b note.Jmp note.Nop)) ≡ false)
+      [ true ↦ refl | false ↦ refl ]) (at_stage (ReadSite i) e)
   call_step (NudgeKey k up) e = plain (NudgeKey k up) refl (silent (count_after (nudge_of up) (at (Key k)))) (nudged (count_after (nudge_of up) (at (Key k))))
     where
       q : IsQuiet c.visit f
@@ -507,9 +568,13 @@ module _ (u : Setup) (p : StopState) (at : Word → ℕ) (seat : ℕ → Seat) (
 
       silent : (o : Option ℕ) → is_run (nudge_on c k (at (Key k)) o).note ≡ false
       silent None = refl
-      silent (Some new) = elim (xor (is_on (at (Key k))) (is_on new)) as (λ b. is_run (cond b (stop_ends c note.Stop) (stop_goes c (ExchangeKey k (at (Key k)) new))).note ≡ false) [ true ↦ refl | false ↦ refl ]
+      silent (Some new) = elim (xor (is_on (at (Key k))) (is_on new)) as
+          (λ b. is_run (cond b (stop_ends c note.Stop) (stop_goes c (ExchangeKey k (at (Key k)) new))).note ≡ false) [ true ↦ refl | false ↦ refl ]
 
       nudged : (o : Option ℕ) → CarriesIn (nudge_on c k (at (Key k)) o).control f
       nudged None = q
-      nudged (Some new) = elim (xor (is_on (at (Key k))) (is_on new)) as (λ b. CarriesIn (cond b (stop_ends c note.Stop) (stop_goes c (ExchangeKey k (at (Key k)) new))).control f) [ true ↦ q | false ↦ q ]
-  call_step (ExchangeKey k expected new) e = plain (ExchangeKey k expected new) (nudge_calling u p me k (at (Key k)) new (at (Key k) == expected)) (elim (at (Key k) == expected) as (λ b. is_run (Some (cond b note.Done note.Lost)) ≡ false) [ true ↦ refl | false ↦ refl ]) (at_stage (ExchangeKey k expected new) e)
+      nudged (Some new) = elim (xor (is_on (at (Key k))) (is_on new)) as
+          (λ b. CarriesIn (cond b (stop_ends c note.Stop) (stop_goes c (ExchangeKey k (at (Key k)) new))).control f) [ true ↦ q | false ↦ q ]
+  call_step (ExchangeKey k expected new) e = plain (ExchangeKey k expected new) (nudge_calling u p me k (at (Key k)) new (at (Key k) == expected))
+      (elim (at (Key k) == expected) as (λ b. is_run (Some (cond b note.Done note.Lost)) ≡ false) [ true ↦ refl | false ↦ refl ])
+      (at_stage (ExchangeKey k expected new) e)

@@ -22,7 +22,8 @@ module _ (u : Setup) (p : StopState) (at : Word → ℕ) (seat : ℕ → Seat) (
   low_off : (l : ℕ) → 2 ≤ l → nat_lt l 2 ≡ false
   low_off l m = le-ltb l 2 m
 
-  in_off : (x : Seat) → Stands p.now c x → (s a l : ℕ) → p.now.inside c ≡ Some s → (p.now.stop s).standing c ≡ Inside a l → 2 ≤ l → HasNotLeft (p.now.stop s) c a → irq_of x ≡ false
+  in_off : (x : Seat) → Stands p.now c x → (s a l : ℕ) → p.now.inside c ≡ Some s → (p.now.stop s).standing c ≡ Inside a l → 2 ≤ l →
+      HasNotLeft (p.now.stop s) c a → irq_of x ≡ false
   in_off Free st s a l in_ is m stays = let bad : None ≡ Some s = sym st ∙ in_ in cc
   in_off (In j w b k t) st s a l in_ is m stays =
       let one : Some j ≡ Some s = sym st.0 ∙ in_ in

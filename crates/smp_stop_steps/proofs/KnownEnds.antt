@@ -37,7 +37,8 @@ told_same x Idle = refl
 told_same x (Calls call) = refl
 told_same x (Carries y) = refl
 
-module _ (p : StopState) (at : Word → ℕ) (seat : ℕ → Seat) (source : ℕ → Source) (v : Known) (h : StopShows (setup_in v.setting) p at seat source) (sees : Sees p seat source v) where
+module _ (p : StopState) (at : Word → ℕ) (seat : ℕ → Seat) (source : ℕ → Source) (v : Known) (h : StopShows (setup_in v.setting) p at seat source)
+    (sees : Sees p seat source v) where
   abbrev u : Setup
   u = setup_in v.setting
 
@@ -63,7 +64,8 @@ module _ (p : StopState) (at : Word → ℕ) (seat : ℕ → Seat) (source : ℕ
       let called : f ≢ Idle = λ none. runs (sym sees.part_is.calling ∙ ap told_calling none) in
       let mine : p0.calling v.number ≡ g = put_here p.calling v.number g in
       let calls : IsCalling v.number (Gives s w a x) (p0.calling v.number) = subst (IsCalling v.number (Gives s w a x)) (sym mine)
-      (calling_given v.number s w a l x g some through (sym (answers x f called)) (subst (λ y. IsCalling v.number y g) here (subst (IsCalling v.number (seat v.number)) mine (h0.callings v.number)))) in
+      (calling_given v.number s w a l x g some through (sym (answers x f called)) (subst (λ y. IsCalling v.number y g) here
+          (subst (IsCalling v.number (seat v.number)) mine (h0.callings v.number)))) in
       let known : slot_stored field.Result x v ≡ record v { seat = Gives s w a x } =
       ap (λ b. cond b (drafted_known field.Result x v) (member_stored field.Result x v)) idle ∙ ap (λ y. record v { seat = given_by x y }) is in
       let k = sees.part_is in
@@ -87,7 +89,8 @@ module _ (p : StopState) (at : Word → ℕ) (seat : ℕ → Seat) (source : ℕ
         others = λ c ne. ap (λ y. record (columns_of p c) { calling = told_calling y }) (put_else p.calling v.number g c ne);
       })
 
-  completed_leaves : (s : ℕ) (w : Work) (a x found : ℕ) → s < cpus → Leaves v.number p (completes_with p v.number s a x found) (completed_with found s w x v).part
+  completed_leaves : (s : ℕ) (w : Work) (a x found : ℕ) → s < cpus → Leaves v.number p (completes_with p v.number s a x found) (completed_with found s w x
+      v).part
   completed_leaves s w a x found low =
       let k = sees.part_is in
       let more = p.answers v.number s ++ x ∷ [] in
@@ -106,7 +109,8 @@ module _ (p : StopState) (at : Word → ℕ) (seat : ℕ → Seat) (source : ℕ
           nudged = k.nudged;
           patched = k.patched;
         };
-        others = λ c ne. ap (λ y. record (columns_of p c) { answers = y; calling = told_calling ((put p.calling v.number Idle) c) }) (put_else p.answers v.number mine c ne)
+        others = λ c ne. ap (λ y. record (columns_of p c) { answers = y; calling = told_calling ((put p.calling v.number Idle) c) })
+            (put_else p.answers v.number mine c ne)
             ∙ ap (λ y. record (columns_of p c) { calling = told_calling y }) (put_else p.calling v.number Idle c ne);
       }
 
@@ -114,7 +118,8 @@ module _ (p : StopState) (at : Word → ℕ) (seat : ℕ → Seat) (source : ℕ
   counted_goes : (s : ℕ) (w : Work) (a x : ℕ) → s < cpus →
       let found = at (Slot s field.Todo) in
       let at' = put_word at (Slot s field.Todo) (found - 1) in
-      StopShows u (completes_with p v.number s a x found) at' (put seat v.number (cond (found == 1) (Closes s) Free)) source → Goes at' (completed_with found s w x v)
+      StopShows u (completes_with p v.number s a x found) at' (put seat v.number (cond (found == 1) (Closes s) Free)) source →
+          Goes at' (completed_with found s w x v)
   counted_goes s w a x low shown =
       let found = at (Slot s field.Todo) in
       goes_seat p seat source v sees (completes_with p v.number s a x found) (put_word at (Slot s field.Todo) (found - 1)) (cond (found == 1) (Closes s) Free)

@@ -34,12 +34,16 @@ use Rattle.smp_stop_steps.proofs.Patching.{key_read, site_read, key_loaded_first
 
 -- where interrupts are on, a CPU does not stand at the function
 not_at_run : (s : ℕ) (w : Work) (a l : ℕ) (t : Turn) → irq_of (In s w a l t) ≡ true → (a == 2 && l == 3) ≡ false
-not_at_run s w a l t on = at_test a 2 (λ b. (b && l == 3) ≡ false) (λ two. at_test l 3 (λ b. b ≡ false) (λ three. absurd (off t two three on)) (λ _. refl)) (λ _. refl)
+not_at_run s w a l t on = at_test a 2 (λ b. (b && l == 3) ≡ false) (λ two. at_test l 3 (λ b. b ≡ false) (λ three. absurd (off t two three on)) (λ _. refl))
+    (λ _. refl)
   where
     off : (t : Turn) → a ≡ 2 → l ≡ 3 → irq_of (In s w a l t) ≡ true → ⊥
-    off Rests two three on = let bad : irq_of (In s w 2 3 Rests) ≡ true = subst (λ x. irq_of (In s w x 3 Rests) ≡ true) two (subst (λ x. irq_of (In s w a x Rests) ≡ true) three on) in cc
-    off Fills two three on = let bad : irq_of (In s w 2 3 Fills) ≡ true = subst (λ x. irq_of (In s w x 3 Fills) ≡ true) two (subst (λ x. irq_of (In s w a x Fills) ≡ true) three on) in cc
-    off Sets two three on = let bad : irq_of (In s w 2 3 Sets) ≡ true = subst (λ x. irq_of (In s w x 3 Sets) ≡ true) two (subst (λ x. irq_of (In s w a x Sets) ≡ true) three on) in cc
+    off Rests two three on = let bad : irq_of (In s w 2 3 Rests) ≡ true = subst (λ x. irq_of (In s w x 3 Rests) ≡ true) two
+        (subst (λ x. irq_of (In s w a x Rests) ≡ true) three on) in cc
+    off Fills two three on = let bad : irq_of (In s w 2 3 Fills) ≡ true = subst (λ x. irq_of (In s w x 3 Fills) ≡ true) two
+        (subst (λ x. irq_of (In s w a x Fills) ≡ true) three on) in cc
+    off Sets two three on = let bad : irq_of (In s w 2 3 Sets) ≡ true = subst (λ x. irq_of (In s w x 3 Sets) ≡ true) two
+        (subst (λ x. irq_of (In s w a x Sets) ≡ true) three on) in cc
 
 -- the counts of one CPU, with one moved
 counted_first : (f : ℕ → ℕ → Moved) (me k old new : ℕ) (list : List Moved) → AreFirst MOST_KEYS (f me) unmoved list → k < MOST_KEYS →
@@ -50,7 +54,8 @@ counted_first f me k old new list h low =
     (subst (λ (m : Moved). AreFirst MOST_KEYS mine unmoved (set list k (moves m old new))) (h.each k low)
     (first_put MOST_KEYS (f me) unmoved list k (moves (f me k) old new) h low))
 
-module _ (p : StopState) (at : Word → ℕ) (seat : ℕ → Seat) (source : ℕ → Source) (v : Known) (h : StopShows (setup_in v.setting) p at seat source) (sees : Sees p seat source v) where
+module _ (p : StopState) (at : Word → ℕ) (seat : ℕ → Seat) (source : ℕ → Source) (v : Known) (h : StopShows (setup_in v.setting) p at seat source)
+    (sees : Sees p seat source v) where
   abbrev u : Setup
   u = setup_in v.setting
 
@@ -72,7 +77,8 @@ module _ (p : StopState) (at : Word → ℕ) (seat : ℕ → Seat) (source : ℕ
 
   -- where interrupts are on, a load of a key is a reading
   key_plain : (k found : ℕ) (x : Seat) → v.seat ≡ x → irq_of x ≡ true →
-      (key_loaded u p.now v.number k found (p.now.inside v.number) ≡ reads p.now v.number (ReadKey k (is_on found))) × (key_loaded_by k found x v ≡ reads_more (ReadKey k (is_on found)) v)
+      (key_loaded u p.now v.number k found (p.now.inside v.number) ≡ reads p.now v.number (ReadKey k (is_on found))) × (key_loaded_by k found x v ≡
+          reads_more (ReadKey k (is_on found)) v)
   key_plain k found Free e on = (ap (λ i. key_loaded u p.now v.number k found i) (stands p at seat source v h sees Free e), refl)
   key_plain k found (In s w a l t) e on =
       let st = stands p at seat source v h sees (In s w a l t) e in
@@ -80,7 +86,8 @@ module _ (p : StopState) (at : Word → ℕ) (seat : ℕ → Seat) (source : ℕ
       let patch = record (p.now) { patching = patch_begun u v.number (p.now.stop s).work found } in
       let plain = reads p.now v.number (ReadKey k (is_on found)) in (
         ap (λ i. key_loaded u p.now v.number k found i) st.0
-            ∙ (ap (λ y. cond (is_at_run y && is_patch (p.now.stop s).work.kind) patch plain) st.1 ∙ ap (λ b. cond (b && is_patch (p.now.stop s).work.kind) patch plain) calm),
+            ∙ (ap (λ y. cond (is_at_run y && is_patch (p.now.stop s).work.kind) patch plain) st.1 ∙ ap (λ b. cond (b && is_patch (p.now.stop s).work.kind)
+                patch plain) calm),
         ap (λ b. cond (b && is_patch w.kind) (record v { seat = Alters s w found [] (plan_at u w found) }) (reads_more (ReadKey k (is_on found)) v)) calm,
       )
   key_plain k found (Gives s w a x) e on =
@@ -111,7 +118,8 @@ module _ (p : StopState) (at : Word → ℕ) (seat : ℕ → Seat) (source : ℕ
       Goes (cond (at (Key k) == found) (put_word at (Key k) new) at) (key_known act.Cas k (Some (at (Key k))) (cond (at (Key k) == found) (Some new) None) v)
   nudge k found new on online low is = go (at (Key k) == found) refl
     where
-      go : (b : Bool) → (at (Key k) == found) ≡ b → Goes (cond b (put_word at (Key k) new) at) (key_known act.Cas k (Some (at (Key k))) (cond b (Some new) None) v)
+      go : (b : Bool) → (at (Key k) == found) ≡ b → Goes (cond b (put_word at (Key k) new) at) (key_known act.Cas k (Some (at (Key k)))
+          (cond b (Some new) None) v)
       go false e = still p at seat source v h sees
       go true e =
           let was : at (Key k) ≡ found = eqb-true (at (Key k)) found e in
@@ -132,12 +140,14 @@ module _ (p : StopState) (at : Word → ℕ) (seat : ℕ → Seat) (source : ℕ
               nudged = counted_first p.nudged v.number k found new v.part.nudged parts.nudged low;
               patched = parts.patched;
             };
-            others = λ c ne. ap (λ x. record (columns_of p c) { nudged = x }) (put_else p.nudged v.number (put (p.nudged v.number) k (moves (p.nudged v.number k) found new)) c ne);
+            others = λ c ne. ap (λ x. record (columns_of p c) { nudged = x }) (put_else p.nudged v.number (put (p.nudged v.number) k
+                (moves (p.nudged v.number k) found new)) c ne);
           })
 
   -- patches
 
-  pub begin_patch : (s : ℕ) (w : Work) → v.seat ≡ In s w 2 3 Rests → w.kind ≡ Patch → has w.active v.number ≡ true → Goes at (key_loaded_by w.func (at (Key w.func)) v.seat v)
+  pub begin_patch : (s : ℕ) (w : Work) → v.seat ≡ In s w 2 3 Rests → w.kind ≡ Patch → has w.active v.number ≡ true →
+      Goes at (key_loaded_by w.func (at (Key w.func)) v.seat v)
   begin_patch s w is kind active =
       let found = at (Key w.func) in
       let r = ReadKey w.func (is_on found) in
@@ -147,17 +157,20 @@ module _ (p : StopState) (at : Word → ℕ) (seat : ℕ → Seat) (source : ℕ
       let reading = reads p.now v.number r in
       let plain : key_loaded u p.now v.number w.func found (p.now.inside v.number) ≡ patch =
       ap (λ i. key_loaded u p.now v.number w.func found i) st.0
-      ∙ (ap (λ y. cond (is_at_run y && is_patch (p.now.stop s).work.kind) patch reading) st.1 ∙ ap (λ k. cond (is_patch k) patch reading) (ap (λ (z : Work). z.kind) st.3 ∙ kind)) in
+      ∙ (ap (λ y. cond (is_at_run y && is_patch (p.now.stop s).work.kind) patch reading) st.1 ∙ ap (λ k. cond (is_patch k) patch reading)
+          (ap (λ (z : Work). z.kind) st.3 ∙ kind)) in
       let known : key_loaded_by w.func found v.seat v ≡ record v { seat = next } =
       ap (λ x. key_loaded_by w.func found x v) is ∙ ap (λ k. cond (is_patch k) (record v { seat = next }) (reads_more r v)) kind in
       subst (λ q. Goes at q) (sym known)
       (goes_seat p seat source v sees (record p { now = patch }) at next v.part
-      (subst (λ n. StopShows u (record p { now = n }) at (put seat v.number next) source) plain (key_loaded_first u p at seat source h v.number s w 0 (sees.seat_is ∙ is) kind active))
+      (subst (λ n. StopShows u (record p { now = n }) at (put seat v.number next) source) plain (key_loaded_first u p at seat source h v.number s w 0
+          (sees.seat_is ∙ is) kind active))
       record { mine = sees.part_is; others = λ c ne. refl })
 
   -- the counts that this CPU has moved as a runner of patches
   patched_leaves : (k count n : ℕ) (now : Present) → k < MOST_KEYS → ((c : ℕ) → now.readings c ≡ p.now.readings c) →
-      Leaves v.number p (record p { now = now; patched = moved_by p.patched v.number k count n }) (record (v.part) { patched = counted v.part.patched k count n })
+      Leaves v.number p (record p { now = now; patched = moved_by p.patched v.number k count n }) (record (v.part) { patched = counted v.part.patched k
+          count n })
   patched_leaves k count n now low same = let parts = sees.part_is in record {
     mine = record {
       holds = parts.holds;
@@ -171,7 +184,8 @@ module _ (p : StopState) (at : Word → ℕ) (seat : ℕ → Seat) (source : ℕ
       patched = counted_first p.patched v.number k count n v.part.patched parts.patched low;
     };
     others = λ c ne.
-        ap (λ x. record (columns_of p c) { readings = now.readings c; patched = x }) (put_else p.patched v.number (put (p.patched v.number) k (moves (p.patched v.number k) count n)) c ne)
+        ap (λ x. record (columns_of p c) { readings = now.readings c; patched = x }) (put_else p.patched v.number (put (p.patched v.number) k
+            (moves (p.patched v.number k) count n)) c ne)
         ∙ ap (λ l. record (columns_of p c) { readings = l }) (same c);
   }
 
@@ -198,5 +212,6 @@ module _ (p : StopState) (at : Word → ℕ) (seat : ℕ → Seat) (source : ℕ
       let next = Alters s w count (made ++ (place.Site i, n) ∷ []) rest in
       let p' = told u p v.number act.Store (Site i) None (Some n) 0 in
       subst (λ y. Goes (put_word at (Site i) n) (record v { seat = altered_by y })) (sym is)
-      (goes_seat p seat source v sees p' (put_word at (Site i) n) next v.part (site_stored u p at seat source h v.number s w count made rest i n 0 (sees.seat_is ∙ is))
+      (goes_seat p seat source v sees p' (put_word at (Site i) n) next v.part (site_stored u p at seat source h v.number s w count made rest i n 0
+          (sees.seat_is ∙ is))
       record { mine = sees.part_is; others = λ c ne. refl })

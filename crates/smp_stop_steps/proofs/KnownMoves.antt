@@ -3,7 +3,8 @@ use Rattle.std.proofs.Common.{ℕ, Some, None}
 use Rattle.smp_words.specs.Access.{word_of, at_after, seen_of}
 use Rattle.smp_stop_steps.specs.Known.{Known, Sees, GoesOn, setup_in}
 use Rattle.smp_stop_steps.specs.KnownAfter.{slot_known, known_entering}
-use Rattle.smp_stop_steps.specs.Moves.{Move, TakeGate, OpenGate, Draft, DraftMore, Open, Enter, Look, Acknowledge, AcknowledgePatch, Refill, Raise, Give, Count, CountGiven, Close, LookDone, Collect}
+use Rattle.smp_stop_steps.specs.Moves.{Move, TakeGate, OpenGate, Draft, DraftMore, Open, Enter, Look, Acknowledge, AcknowledgePatch, Refill, Raise}
+use Rattle.smp_stop_steps.specs.Moves.{Give, Count, CountGiven, Close, LookDone, Collect}
 use Rattle.smp_stop_steps.specs.Moves.{ReadKey, ReadSite, Nudge, BeginPatch, Alter, LoadArg, LoadField, LoadEntry, May, access_in, entering, IsPlain}
 use Rattle.smp_stop_steps.specs.Seats.{Seat}
 use Rattle.smp_stop_steps.specs.Shows.{StopShows}
@@ -19,7 +20,8 @@ use Rattle.smp_stop_steps.proofs.KnownLabels.{read_key, read_site, nudge, begin_
 use Rattle.smp_stop_steps.proofs.KnownRounds.{enter, load_arg, look, acknowledge, acknowledge_patch, refill, raise}
 use Rattle.smp_stop_steps.proofs.KnownSources.{still, take_gate, open_gate, draft, draft_more, open_stop, look_done, collect}
 
-module _ (p : StopState) (at : Word → ℕ) (seat : ℕ → Seat) (source : ℕ → Source) (v : Known) (h : StopShows (setup_in v.setting) p at seat source) (sees : Sees p seat source v) where
+module _ (p : StopState) (at : Word → ℕ) (seat : ℕ → Seat) (source : ℕ → Source) (v : Known) (h : StopShows (setup_in v.setting) p at seat source)
+    (sees : Sees p seat source v) where
   abbrev Goes : (Word → ℕ) → Known → Type 0
   Goes at' w = GoesOn v.setting p seat source v.number at' w
 

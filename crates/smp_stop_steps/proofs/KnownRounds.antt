@@ -1,7 +1,8 @@
 -- The steps of a CPU that knows v: it enters a stop, and goes through its phases.
 use Rattle.smp_stop_steps.proofs.Callings.{carried_alone}
 use Rattle.smp_stop_steps.specs.Callings.{HasCalled}
-use Rattle.std.proofs.Common.{◌≡◌, ◌≢◌, ℕ, ◌+◌, ◌-◌, ◌<◌, ◌≤◌, ◌^◌, Bool, true, false, ◌==◌, ◌&&◌, not, cond, Some, None, List, [], ◌∷◌, ◌++◌, sym, subst, refl, ap, ◌∙◌, arith, bit_and, eq-eqb}
+use Rattle.std.proofs.Common.{◌≡◌, ◌≢◌, ℕ, ◌+◌, ◌-◌, ◌<◌, ◌≤◌, ◌^◌, Bool, true, false, ◌==◌, ◌&&◌, not, cond, Some, None, List, [], ◌∷◌, ◌++◌, sym}
+use Rattle.std.proofs.Common.{subst, refl, ap, ◌∙◌, arith, bit_and, eq-eqb}
 use Rattle.smp_mask.specs.Mask.{has}
 use Rattle.smp_words.specs.Access.{one_less}
 use Rattle.smp_words.specs.Put.{put, put_word, same_word}
@@ -16,9 +17,11 @@ use Rattle.smp_stop_steps.specs.Sources.{Source}
 use Rattle.smp_stop_steps.specs.Stages.{all_but}
 use Rattle.smp_stop_steps.specs.State.{Setup, StopState, Present, StopCall, Calling, Calls, Carries, Idle}
 use Rattle.smp_stop_steps.specs.Stop.{Standing, Inside, Answering, Called, Completed, Outside, is_called, acknowledged, raised}
-use Rattle.smp_stop_steps.specs.Tells.{told, enters, acknowledges, acknowledges_now, raises, stored_open, stored_shut, first_readings, with_stop, leaves, unpatched, carried, may_call, carried_call, calls_now}
+use Rattle.smp_stop_steps.specs.Tells.{told, enters, acknowledges, acknowledges_now, raises, stored_open, stored_shut, first_readings, with_stop}
+use Rattle.smp_stop_steps.specs.Tells.{leaves, unpatched, carried, may_call, carried_call, calls_now}
 use Rattle.smp_stop_steps.specs.Known.{told_calling, Known, Sees, GoesOn, columns_of, setup_in, Part}
-use Rattle.smp_stop_steps.specs.KnownAfter.{called_by, ran_since, is_drafting, drafted_known, slot_stored, member_stored, refilled_by, raised_by, looked_known, looked_to, acked_by, read_since}
+use Rattle.smp_stop_steps.specs.KnownAfter.{called_by, ran_since, is_drafting, drafted_known, slot_stored, member_stored, refilled_by, raised_by}
+use Rattle.smp_stop_steps.specs.KnownAfter.{looked_known, looked_to, acked_by, read_since}
 use Rattle.smp_words.specs.declared.seen.Act.TheVariants as act
 use Rattle.smp_words.specs.declared.field.Field.{Field}
 use Rattle.smp_words.specs.declared.field.Field.TheVariants as field
@@ -46,7 +49,8 @@ told_carried Idle = refl
 told_carried (Calls call) = refl
 told_carried (Carries answer) = refl
 
-module _ (p : StopState) (at : Word → ℕ) (seat : ℕ → Seat) (source : ℕ → Source) (v : Known) (h : StopShows (setup_in v.setting) p at seat source) (sees : Sees p seat source v) where
+module _ (p : StopState) (at : Word → ℕ) (seat : ℕ → Seat) (source : ℕ → Source) (v : Known) (h : StopShows (setup_in v.setting) p at seat source)
+    (sees : Sees p seat source v) where
   abbrev u : Setup
   u = setup_in v.setting
 
@@ -65,7 +69,8 @@ module _ (p : StopState) (at : Word → ℕ) (seat : ℕ → Seat) (source : ℕ
   stored_plain s f x w a l t e = ap (λ b. cond b (stored_open p v.number s f x) (stored_shut p s f x)) (open_at s w a l t e)
 
   -- the columns are as they were, but what was read
-  pub reads_now : (n : Present) (calls : ℕ → List StopCall) (more : List Reading) → n.readings v.number ≡ more → ((c : ℕ) → c ≢ v.number → n.readings c ≡ p.now.readings c) →
+  pub reads_now : (n : Present) (calls : ℕ → List StopCall) (more : List Reading) → n.readings v.number ≡ more → ((c : ℕ) → c ≢ v.number →
+      n.readings c ≡ p.now.readings c) →
       Leaves v.number p (record p { now = n; calls = calls }) (record (v.part) { readings = more })
   reads_now n calls more mine others = let k = sees.part_is in record {
     mine = record {
@@ -113,7 +118,8 @@ module _ (p : StopState) (at : Word → ℕ) (seat : ℕ → Seat) (source : ℕ
       low = let few = h.setup.few in let b = sees.below in omega arith
 
       go : (b : Bool) → has (at (Slot s field.Roll)) v.number ≡ b →
-          Goes (put_word at (Slot s field.Roll) (bit_and (at (Slot s field.Roll)) (all_but v.number))) (cond b (record v { seat = In s (p.now.stop s).work 0 0 Rests }) v)
+          Goes (put_word at (Slot s field.Roll) (bit_and (at (Slot s field.Roll)) (all_but v.number)))
+              (cond b (record v { seat = In s (p.now.stop s).work 0 0 Rests }) v)
       go true found =
           let n = bit_and (at (Slot s field.Roll)) (all_but v.number) in
           let at' = put_word at (Slot s field.Roll) n in
@@ -162,13 +168,15 @@ module _ (p : StopState) (at : Word → ℕ) (seat : ℕ → Seat) (source : ℕ
   left_mine true n s w job same e = put_here n.readings v.number (first_readings v.number s w) ∙ ap (first_readings v.number s) same
   left_mine false n s w job same e = ap (λ f. f v.number) e ∙ sees.part_is.readings
 
-  left_other : (b : Bool) (n : Present) (s : ℕ) (w : Work) → n.readings ≡ p.now.readings → (c : ℕ) → c ≢ v.number → (cond b (leaves n v.number s w) n).readings c ≡ p.now.readings c
+  left_other : (b : Bool) (n : Present) (s : ℕ) (w : Work) → n.readings ≡ p.now.readings → (c : ℕ) → c ≢ v.number →
+      (cond b (leaves n v.number s w) n).readings c ≡ p.now.readings c
   left_other true n s w e c ne = put_else n.readings v.number (first_readings v.number s w) c ne ∙ ap (λ f. f c) e
   left_other false n s w e c ne = ap (λ f. f c) e
 
   -- the function of who has acknowledged a phase, or of another CPU
 
-  ran_mine : (b : Bool) (g : Calling) → told_calling g ≡ carried_call v.part.calling → told_calling ((cond b (put p.calling v.number g) p.calling) v.number) ≡ cond b (carried_call v.part.calling) v.part.calling
+  ran_mine : (b : Bool) (g : Calling) → told_calling g ≡ carried_call v.part.calling → told_calling ((cond b (put p.calling v.number g) p.calling) v.number)
+      ≡ cond b (carried_call v.part.calling) v.part.calling
   ran_mine true g e = ap told_calling (put_here p.calling v.number g) ∙ e
   ran_mine false g e = sees.part_is.calling
 
@@ -187,7 +195,8 @@ module _ (p : StopState) (at : Word → ℕ) (seat : ℕ → Seat) (source : ℕ
       told_calling (calling v.number) ≡ part.calling → ((c : ℕ) → c ≢ v.number → calling c ≡ p.calling c) →
       part ≡ record (v.part) { readings = part.readings; calling = part.calling } →
       Leaves v.number p (record p { now = n; calls = calls; calling = calling }) part
-  acked_leaves n calls calling part mine others calls_mine calls_others same = let k = sees.part_is in subst (Leaves v.number p (record p { now = n; calls = calls; calling = calling })) (sym same) record {
+  acked_leaves n calls calling part mine others calls_mine calls_others same = let k = sees.part_is in
+      subst (Leaves v.number p (record p { now = n; calls = calls; calling = calling })) (sym same) record {
     mine = record {
       holds = k.holds;
       begun = k.begun;
@@ -199,7 +208,8 @@ module _ (p : StopState) (at : Word → ℕ) (seat : ℕ → Seat) (source : ℕ
       nudged = k.nudged;
       patched = k.patched;
     };
-    others = λ c ne. ap (λ x. record (columns_of p c) { readings = n.readings c; calling = told_calling x }) (calls_others c ne) ∙ ap (λ x. record (columns_of p c) { readings = x }) (others c ne);
+    others = λ c ne. ap (λ x. record (columns_of p c) { readings = n.readings c; calling = told_calling x }) (calls_others c ne) ∙ ap
+        (λ x. record (columns_of p c) { readings = x }) (others c ne);
   }
 
   pub acknowledge : (s : ℕ) (w : Work) (a : ℕ) → v.seat ≡ In s w a (a + 1) Rests → (a ≡ 2 → HasCalled v.number w v.part.calling) →
@@ -214,18 +224,21 @@ module _ (p : StopState) (at : Word → ℕ) (seat : ℕ → Seat) (source : ℕ
       let next = In s w (a + 1) (a + 1) (cond (found == 1) Fills Rests) in
       let p' = acknowledges p v.number s (Inside a (a + 1)) found in
       let leaves_it = a + 1 == 4 && not (found == 1) in
-      let n : Present = record (p.now) { stop = put p.now.stop s (acknowledged (p.now.stop s) v.number (a + 1) found); patching = cond (a + 1 == 3) (unpatched v.number p.now.patching) p.now.patching } in
+      let n : Present = record (p.now) { stop = put p.now.stop s (acknowledged (p.now.stop s) v.number (a + 1) found); patching = cond (a + 1 == 3)
+          (unpatched v.number p.now.patching) p.now.patching } in
       let part = ran_since (a + 1 == 3) (read_since leaves_it s w v) in
       let alone = carried_alone u.first p.now.patching seat v.number (p.calling v.number) (subst IsNoPatch (sym here) tt) h.present.runner in
       subst (λ x. Goes (put_word at (Slot s field.Ack) x) (acked_by found v.seat v)) (sym (less_one found bounds.0 (small found bounds.1)))
       (subst (λ x. Goes at' (acked_by found x v)) (sym is)
       (goes_seat p seat source v sees p' at' next part
       (subst (λ (x : Standing). StopShows u (acknowledges p v.number s x found) at' (put seat v.number next) source) st.1
-      (ack_subtracted u p at seat source h s v.number w a 0 here (λ two. has_called w (p.calling v.number) (subst (HasCalled v.number w) (sym sees.part_is.calling) (ready two)))))
+      (ack_subtracted u p at seat source h s v.number w a 0 here (λ two. has_called w (p.calling v.number) (subst (HasCalled v.number w)
+          (sym sees.part_is.calling) (ready two)))))
       (acked_leaves (acknowledges_now p.now v.number s (a + 1) found) p'.calls p'.calling part
       (left_mine leaves_it n s (p.now.stop s).work w st.3 refl)
       (left_other leaves_it n s (p.now.stop s).work refl)
-      (ran_mine (a + 1 == 3) (carried v.number p.now.patching (p.calling v.number)) (ap told_calling alone ∙ (told_carried (p.calling v.number) ∙ ap carried_call sees.part_is.calling)))
+      (ran_mine (a + 1 == 3) (carried v.number p.now.patching (p.calling v.number)) (ap told_calling alone ∙ (told_carried (p.calling v.number) ∙ ap
+          carried_call sees.part_is.calling)))
       (ran_other (a + 1 == 3) (carried v.number p.now.patching (p.calling v.number))) refl)))
 
   pub acknowledge_patch : (s : ℕ) (w : Work) (count : ℕ) (made : List Change) → v.seat ≡ Alters s w count made [] →
@@ -239,7 +252,8 @@ module _ (p : StopState) (at : Word → ℕ) (seat : ℕ → Seat) (source : ℕ
       let at' = put_word at (Slot s field.Ack) (found - 1) in
       let next = In s w 3 3 (cond (found == 1) Fills Rests) in
       let own : carried v.number p.now.patching (p.calling v.number) ≡ Carries (patch_answer w count) =
-      ap (λ x. carried v.number x (p.calling v.number)) st.5 ∙ ap (λ b. cond b (Carries (patch_answer w count)) (carried_call (p.calling v.number))) (eq-eqb v.number v.number refl) in
+      ap (λ x. carried v.number x (p.calling v.number)) st.5 ∙ ap (λ b. cond b (Carries (patch_answer w count)) (carried_call (p.calling v.number)))
+          (eq-eqb v.number v.number refl) in
       let p' = acknowledges p v.number s (Inside 2 3) found in
       subst (λ x. Goes (put_word at (Slot s field.Ack) x) (acked_by found v.seat v)) (sym (less_one found bounds.0 (small found bounds.1)))
       (subst (λ x. Goes at' (acked_by found x v)) (sym is)
@@ -272,7 +286,8 @@ module _ (p : StopState) (at : Word → ℕ) (seat : ℕ → Seat) (source : ℕ
       go true e =
           let k = sees.part_is in
           let p' = record p { calling = put p.calling v.number (Calls call) } in
-          let plain : told u p v.number act.Load (Slot s field.Arg) (Some (at (Slot s field.Arg))) None 0 ≡ p' = ap (λ b. cond b (calls_now p v.number (p.now.stop s).work (at (Slot s field.Arg)) 0) p) (is_may ∙ e)
+          let plain : told u p v.number act.Load (Slot s field.Arg) (Some (at (Slot s field.Arg))) None 0 ≡ p' =
+              ap (λ b. cond b (calls_now p v.number (p.now.stop s).work (at (Slot s field.Arg)) 0) p) (is_may ∙ e)
           ∙ ap (λ (x : Work). record p { calling = put p.calling v.number (Calls (record { func = x.func; arg = at (Slot s field.Arg); answer = 0 })) }) st.3 in
           goes_still p seat source v sees p' at (record (v.part) { calling = Calls call })
           (subst (λ q. StopShows u q at seat source) plain (arg_loaded u p at seat source h s v.number w a l Rests here 0 refl))

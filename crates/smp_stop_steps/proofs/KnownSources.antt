@@ -1,5 +1,6 @@
 -- The steps of a source that knows v: the gate, begin, and the ends of its own stop.
-use Rattle.std.proofs.Common.{◌≡◌, ◌≢◌, ℕ, ◌+◌, ◌<◌, nat_lt, lt-ltb, eqb-true, eq-eqb, ne_eqb, Bool, true, false, ◌==◌, cond, Option, Some, None, [], ◌∷◌, ◌++◌, sym, subst, refl, ap, ◌∙◌, arith}
+use Rattle.std.proofs.Common.{◌≡◌, ◌≢◌, ℕ, ◌+◌, ◌<◌, nat_lt, lt-ltb, eqb-true, eq-eqb, ne_eqb, Bool, true, false, ◌==◌, cond, Option, Some, None, []}
+use Rattle.std.proofs.Common.{◌∷◌, ◌++◌, sym, subst, refl, ap, ◌∙◌, arith}
 use Rattle.smp_words.specs.Put.{put, put_word}
 use Rattle.smp_words.specs.Size.{cpus}
 use Rattle.smp_words.proofs.Puts.{put_all}
@@ -12,7 +13,8 @@ use Rattle.smp_stop_steps.specs.State.{Setup, StopState}
 use Rattle.smp_stop_steps.specs.Stop.{Standing, Ending, Running, Last, Ended}
 use Rattle.smp_stop_steps.specs.Tells.{told, drafted, drafts, opens, stored_open, stored_shut}
 use Rattle.smp_stop_steps.specs.Known.{Known, Sees, GoesOn, IsBegun, columns_of, told_source, told_work, holds_it, setup_in}
-use Rattle.smp_stop_steps.specs.KnownAfter.{is_drafting, drafts_more, drafted_known, draft_known, opened_by, slot_stored, member_stored, gate_known, done_by, collected_known}
+use Rattle.smp_stop_steps.specs.KnownAfter.{is_drafting, drafts_more, drafted_known, draft_known, opened_by, slot_stored, member_stored, gate_known}
+use Rattle.smp_stop_steps.specs.KnownAfter.{done_by, collected_known}
 use Rattle.smp_words.specs.declared.seen.Act.TheVariants as act
 use Rattle.smp_words.specs.declared.field.Field.{Field}
 use Rattle.smp_words.specs.declared.field.Field.TheVariants as field
@@ -159,7 +161,8 @@ done_is n standing Running done d ne = let bad : true ≡ false = sym (eq-eqb do
 done_is n standing (Last c) done d ne = let bad : true ≡ false = sym (eq-eqb done 0 d.0) ∙ ne in cc
 done_is n standing Ended done d ne = d.0
 
-module _ (p : StopState) (at : Word → ℕ) (seat : ℕ → Seat) (source : ℕ → Source) (v : Known) (h : StopShows (setup_in v.setting) p at seat source) (sees : Sees p seat source v) where
+module _ (p : StopState) (at : Word → ℕ) (seat : ℕ → Seat) (source : ℕ → Source) (v : Known) (h : StopShows (setup_in v.setting) p at seat source)
+    (sees : Sees p seat source v) where
   abbrev u : Setup
   u = setup_in v.setting
 
@@ -246,7 +249,8 @@ module _ (p : StopState) (at : Word → ℕ) (seat : ℕ → Seat) (source : ℕ
       let at' = put_word at (Slot v.number f) x in
       goes p seat source v sees p' at' seat (put drafting v.number next) v.seat (told_source next) v.part
       (subst (λ q. StopShows u q at' seat (put drafting v.number next)) plain
-      (field_stored u p at seat drafting (restaged (Drafts work (order f)) d) v.number work (order f) f 0 (put_here source v.number (Drafts work (order f))) refl low))
+      (field_stored u p at seat drafting (restaged (Drafts work (order f)) d) v.number work (order f) f 0 (put_here source v.number (Drafts work (order f)))
+          refl low))
       record { mine = sees.part_is; others = λ c ne. refl }
       sees.seat_is (ap told_source (put_here drafting v.number next)) (subst IsBegun (sym (put_here drafting v.number next)) (omega arith))
       (λ c ne. refl) (λ c ne. put_else drafting v.number next c ne ∙ put_else source v.number (Drafts work (order f)) c ne)
@@ -255,14 +259,16 @@ module _ (p : StopState) (at : Word → ℕ) (seat : ℕ → Seat) (source : ℕ
       Goes (put_word at (Slot v.number field.Kind) (begun_value cpus work field.Kind)) (draft_known (begun_value cpus work field.Kind) v)
   draft work shut holds is =
       let closed : (p.now.stop v.number).is_open ≡ false = source_here Shut (is_shut (source v.number) (sees.source_is ∙ shut)) in
-      subst (λ (k : KindOf). Goes (put_word at (Slot v.number field.Kind) (begun_value cpus work field.Kind)) (record v { source = Drafts (record { kind = k; mask = 0; active = 0; func = 0; arg = 0 }) 1 }))
+      subst (λ (k : KindOf). Goes (put_word at (Slot v.number field.Kind) (begun_value cpus work field.Kind))
+          (record v { source = Drafts (record { kind = k; mask = 0; active = 0; func = 0; arg = 0 }) 1 }))
       (sym (kind_back work.kind))
       (field_goes work field.Kind record {
         shut = closed;
         holds = holder p.gate v.number (sees.part_is.holds ∙ holds);
         is_work = is;
         stored = λ f l. absurd (omega arith);
-        told = record { kind = λ l. absurd (omega arith); mask = λ l. absurd (omega arith); active = λ l. absurd (omega arith); func = λ l. absurd (omega arith); arg = λ l. absurd (omega arith) };
+        told = record { kind = λ l. absurd (omega arith); mask = λ l. absurd (omega arith); active = λ l. absurd (omega arith); func =
+            λ l. absurd (omega arith); arg = λ l. absurd (omega arith) };
       } (omega arith))
 
   pub draft_more : (work : Work) (f : Field) → v.source ≡ Drafts (told_work (order f) work) (order f) → IsWork u work → order f ≢ 0 → order f < 10 →
@@ -273,7 +279,8 @@ module _ (p : StopState) (at : Word → ℕ) (seat : ℕ → Seat) (source : ℕ
       let y = is_draft (source v.number) work k (sees.source_is ∙ e) in
       let d : DraftShows u p.gate (p.now.stop v.number) (λ f. at (Slot v.number f)) v.number y.work k = source_here (Drafts y.work k) y.is in
       let known : slot_stored f x v ≡ record v { source = Drafts (told_work (k + 1) work) (k + 1) } =
-      stored_draft f x v ne low (ap is_drafting e) ∙ (ap (λ o. record v { source = drafts_more f x o }) e ∙ ap (λ (z : Work). record v { source = Drafts z (k + 1) }) (draft_next f work ne low)) in
+      stored_draft f x v ne low (ap is_drafting e) ∙ (ap (λ o. record v { source = drafts_more f x o }) e ∙ ap
+          (λ (z : Work). record v { source = Drafts z (k + 1) }) (draft_next f work ne low)) in
       subst (λ q. Goes (put_word at (Slot v.number f) x) q) (sym known)
       (field_goes work f record {
         shut = d.shut;
@@ -317,7 +324,8 @@ module _ (p : StopState) (at : Word → ℕ) (seat : ℕ → Seat) (source : ℕ
   -- the end of its stop
 
   pub look_done : (w : Work) → v.source ≡ Owns w → Goes at (record v { source = done_by (at (Slot v.number field.Done)) v.source })
-  look_done w is = subst (λ o. Goes at (record v { source = done_by (at (Slot v.number field.Done)) o })) (sym is) (go (at (Slot v.number field.Done) == 0) refl)
+  look_done w is = subst (λ o. Goes at (record v { source = done_by (at (Slot v.number field.Done)) o })) (sym is) (go (at (Slot v.number field.Done) == 0)
+      refl)
     where
       there : source v.number ≡ Owns w
       there = is_owns (source v.number) w (sees.source_is ∙ is)
@@ -327,7 +335,8 @@ module _ (p : StopState) (at : Word → ℕ) (seat : ℕ → Seat) (source : ℕ
       go false e =
           let o : OwnerShows u (p.now.stop v.number) w = source_here (Owns w) there in
           let one : at (Slot v.number field.Done) ≡ 1 =
-          done_is u.cpus (p.now.stop v.number).standing (p.now.stop v.number).ending (at (Slot v.number field.Done)) ((h.present.slots v.number).shows o.is_open).done e in
+          done_is u.cpus (p.now.stop v.number).standing (p.now.stop v.number).ending (at (Slot v.number field.Done)) ((h.present.slots v.number).shows
+              o.is_open).done e in
           goes_source p seat source v sees p at (Collects w) (Collects w) v.part (done_loaded u p at seat source h v.number w there one) unmoved_columns refl tt
 
   pub collect : (w : Work) → v.source ≡ Collects w → Goes at (collected_known (at (Slot v.number field.Result)) v)

@@ -19,7 +19,8 @@ use Rattle.smp_stop_steps.specs.declared.stage.RoundStage.TheVariants as round
 use Rattle.smp_stop_steps.specs.declared.stage.CompletionStage.{CompletionStage}
 use Rattle.smp_stop_steps.specs.declared.stage.CompletionStage.TheVariants as completion
 use Rattle.smp_stop_steps.specs.declared.stage.StopStage.{StopStage}
-use Rattle.smp_stop_steps.specs.declared.stage.StopStage.TheVariants.{TakeGate, OpenGate, Begin, Enter, EnterKind, EnterMask, EnterActive, Advance, Complete, Close, LoadDone, LoadResult, ReadKey, ReadSite, NudgeKey, ExchangeKey}
+use Rattle.smp_stop_steps.specs.declared.stage.StopStage.TheVariants.{TakeGate, OpenGate, Begin, Enter, EnterKind, EnterMask, EnterActive, Advance}
+use Rattle.smp_stop_steps.specs.declared.stage.StopStage.TheVariants.{Complete, Close, LoadDone, LoadResult, ReadKey, ReadSite, NudgeKey, ExchangeKey}
 use Rattle.smp_stop_steps.specs.declared.stage.Visit.{Visit}
 use Rattle.smp_words.specs.declared.work.Work.{Work}
 use Rattle.smp_words.specs.declared.word.Word.{Word}
@@ -54,7 +55,8 @@ module _ (u : Setup) (p : StopState) (at : Word → ℕ) (seat : ℕ → Seat) (
         kind = st.4;
         active = ap (λ (w : Work). has w.active c) (sym st.3) ∙ (works.first c ∙ eq-eqb c u.first r.0);
         first = r.0;
-        alone = record { law = function_law u.cpus (p.now.stop s) (λ f. at (Slot s f)) (h.present.slots s) c st.1; all_off = all_off u p.now at seat h.present s c st.1 };
+        alone = record { law = function_law u.cpus (p.now.stop s) (λ f. at (Slot s f)) (h.present.slots s) c st.1; all_off = all_off u p.now at seat
+            h.present s c st.1 };
       })
 
   module _ (c : StopControlValue) (me : ℕ) (sits : Sits u me (at Gate) c (seat me) (source me)) where
@@ -65,19 +67,22 @@ module _ (u : Setup) (p : StopState) (at : Word → ℕ) (seat : ℕ → Seat) (
     stored_itself (place.Key k, n) = refl
     stored_itself (place.Site i, n) = refl
 
-    store_is_next : (v : Visit) (made : ℕ) → SitsInRound u me c.changes v (round.StoreChange made) (seat me) → (change : Change) → label_stored (store_of (change_at c.changes made)) ≡ Some change → IsNext change
+    store_is_next : (v : Visit) (made : ℕ) → SitsInRound u me c.changes v (round.StoreChange made) (seat me) → (change : Change) →
+        label_stored (store_of (change_at c.changes made)) ≡ Some change → IsNext change
     store_is_next v made s change e = go s.6.0 s.6.1 s.6.2 s.6.3 s.6.4
       where
         go : (before after : List Change) → c.changes ≡ before ++ after → length before ≡ made → seat me ≡ Alters v.slot s.0 s.1 before after → IsNext change
         go before [] are long is = absurd (let l = s.4 in let z : length c.changes ≡ length before = ap length (are ∙ append-nil before) in omega arith)
         go before (x ∷ after) are long is =
-            let here : change_at c.changes made ≡ x = ap (λ l. change_at l made) are ∙ (ap (λ n. change_at (before ++ x ∷ after) n) (sym long) ∙ change_here before x after) in
+            let here : change_at c.changes made ≡ x = ap (λ l. change_at l made) are ∙ (ap (λ n. change_at (before ++ x ∷ after) n) (sym long) ∙ change_here
+                before x after) in
             let st : Stands p.now me (Alters v.slot s.0 s.1 before (x ∷ after)) = subst (Stands p.now me) is (h.present.stands me) in
             let some : Some x ≡ Some change = sym (ap (λ y. label_stored (store_of y)) here ∙ stored_itself x) ∙ e in
             let same : x ≡ change = cc in
             record { work = s.0; count = s.1; made = before; rest = after; patching = st.5 ∙ ap (λ y. Patches me s.0 s.1 before (y ∷ after)) same }
 
-    in_round : (v : Visit) (stage : RoundStage) → SitsInRound u me c.changes v stage (seat me) → (change : Change) → label_stored (round_access u.cpus c.changes v stage) ≡ Some change → IsNext change
+    in_round : (v : Visit) (stage : RoundStage) → SitsInRound u me c.changes v stage (seat me) → (change : Change) →
+        label_stored (round_access u.cpus c.changes v stage) ≡ Some change → IsNext change
     in_round v (round.StoreChange made) s change e = store_is_next v made s change e
     in_round v (round.Look answer) s change e = cc
     in_round v (round.LoadFunc answer) s change e = cc
@@ -94,7 +99,8 @@ module _ (u : Setup) (p : StopState) (at : Word → ℕ) (seat : ℕ → Seat) (
     in_completion v completion.StoreAnswer change e = cc
     in_completion v completion.CountDown change e = cc
 
-    at_stage : (stage : StopStage) → SitsAt u me c (Some stage) (seat me) → (change : Change) → label_stored (stop_access u.cpus me c.changes stage) ≡ Some change → IsNext change
+    at_stage : (stage : StopStage) → SitsAt u me c (Some stage) (seat me) → (change : Change) → label_stored (stop_access u.cpus me c.changes stage) ≡ Some
+        change → IsNext change
     at_stage TakeGate s change e = cc
     at_stage OpenGate s change e = cc
     at_stage (Begin work f) s change e = cc
@@ -112,5 +118,6 @@ module _ (u : Setup) (p : StopState) (at : Word → ℕ) (seat : ℕ → Seat) (
     at_stage (NudgeKey k up) s change e = cc
     at_stage (ExchangeKey k expected new) s change e = cc
 
-    pub stores_patch : (stage : StopStage) → c.stage ≡ Some stage → (change : Change) → label_stored (stop_access u.cpus me c.changes stage) ≡ Some change → IsNext change
+    pub stores_patch : (stage : StopStage) → c.stage ≡ Some stage → (change : Change) → label_stored (stop_access u.cpus me c.changes stage) ≡ Some change →
+        IsNext change
     stores_patch stage is change e = at_stage stage (subst (λ (x : Option StopStage). SitsAt u me c x (seat me)) is sits.seat) change e

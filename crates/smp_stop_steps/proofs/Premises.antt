@@ -1,5 +1,6 @@
 -- Who may make which step: what holds of the stops before it.
-use Rattle.std.proofs.Common.{◌≡◌, ◌≢◌, ℕ, ◌+◌, ◌-◌, Bool, [], true, false, ◌==◌, ◌&&◌, cond, ◌⊎◌, inl, inr, ⊎_elim, Option, Some, None, sym, subst, refl, ap, ◌∙◌, arith, eqb-true}
+use Rattle.std.proofs.Common.{◌≡◌, ◌≢◌, ℕ, ◌+◌, ◌-◌, Bool, [], true, false, ◌==◌, ◌&&◌, cond, ◌⊎◌, inl, inr, ⊎_elim, Option, Some, None, sym, subst}
+use Rattle.std.proofs.Common.{refl, ap, ◌∙◌, arith, eqb-true}
 use Rattle.smp_mask.specs.Mask.{has}
 use Rattle.smp_labels.specs.declared.patch.Place.TheVariants as place
 use Rattle.smp_words.specs.Access.{word_of, seen_of}
@@ -31,7 +32,8 @@ use Rattle.smp_stop_steps.specs.declared.stage.CompletionStage.TheVariants as co
 use Rattle.smp_stop_steps.specs.declared.stage.RoundStage.{RoundStage}
 use Rattle.smp_stop_steps.specs.declared.stage.RoundStage.TheVariants as round
 use Rattle.smp_stop_steps.specs.declared.stage.StopStage.{StopStage}
-use Rattle.smp_stop_steps.specs.declared.stage.StopStage.TheVariants.{TakeGate, OpenGate, Begin, Enter, EnterKind, EnterMask, EnterActive, Advance, Complete, Close, LoadDone, LoadResult, ReadKey, ReadSite, NudgeKey, ExchangeKey}
+use Rattle.smp_stop_steps.specs.declared.stage.StopStage.TheVariants.{TakeGate, OpenGate, Begin, Enter, EnterKind, EnterMask, EnterActive, Advance}
+use Rattle.smp_stop_steps.specs.declared.stage.StopStage.TheVariants.{Complete, Close, LoadDone, LoadResult, ReadKey, ReadSite, NudgeKey, ExchangeKey}
 use Rattle.smp_stop_steps.specs.declared.stage.Visit.{Visit}
 use Rattle.smp_stop_steps.proofs.Completions.{one_phase, rests_not}
 use Rattle.smp_stop_steps.proofs.Counts.{sum_zero}
@@ -93,7 +95,8 @@ module _ (u : Setup) (p : StopState) (at : Word → ℕ) (seat : ℕ → Seat) (
   through j w v loaded all is =
       let st = stands (In j w v.acked v.acked Rests) is in
       let kinds = ((h.present.slots j).shows (open_in j w v.acked v.acked Rests is)).kinds in
-      (⊎_elim (λ (e : v.acked ≡ 4). inl e) (λ (e : v.kind ≡ One). inr (one_phase (p.now.stop j).work.kind (p.now.stop j).phase (ap (λ (x : Work). x.kind) st.3 ∙ (sym loaded.kind ∙ e)) kinds)) all,
+      (⊎_elim (λ (e : v.acked ≡ 4). inl e) (λ (e : v.kind ≡ One). inr (one_phase (p.now.stop j).work.kind (p.now.stop j).phase (ap (λ (x : Work). x.kind)
+          st.3 ∙ (sym loaded.kind ∙ e)) kinds)) all,
       rests_not me (p.now.stop j).raising st.2)
 
   raised : (j : ℕ) (w : Work) (a : ℕ) → seat me ≡ In j w a a Sets → MayStore p me j field.State (a + 1)
@@ -122,7 +125,8 @@ module _ (u : Setup) (p : StopState) (at : Word → ℕ) (seat : ℕ → Seat) (
       patched (place.Key k, n) = tt
       patched (place.Site i, n) = tt
   in_round v (round.Acknowledge answer ran) x = ⊎_elim
-      (λ (y : (seat me ≡ In v.slot x.0 v.acked (v.acked + 1) Rests) × RunsIf me v ran). let st = stands (In v.slot x.0 v.acked (v.acked + 1) Rests) y.0 in (st.0, (v.acked, st.1, phase v.acked st.1)))
+      (λ (y : (seat me ≡ In v.slot x.0 v.acked (v.acked + 1) Rests) × RunsIf me v ran). let st = stands (In v.slot x.0 v.acked (v.acked + 1) Rests) y.0 in
+          (st.0, (v.acked, st.1, phase v.acked st.1)))
       (λ (y : (v.acked ≡ 2) × (ran ≡ true) × ((count : ℕ) × (answer ≡ patch_answer x.0 count) × (seat me ≡ Alters v.slot x.0 count (plan_at u x.0 count) []))).
       let st = stands (Alters v.slot x.0 y.2.0 (plan_at u x.0 y.2.0) []) y.2.2 in (st.0, (2, st.1, phase 2 st.1))) x.3
     where
@@ -130,7 +134,8 @@ module _ (u : Setup) (p : StopState) (at : Word → ℕ) (seat : ℕ → Seat) (
       phase a is = ⊎_elim (λ (e : a + 1 ≡ a). absurd (let z : ⊥ = omega (arith, e) in z)) (λ (e : (a + 1 ≡ a + 1) × ((p.now.stop v.slot).phase ≡ a + 1)). e.1)
           (keeps_inside u.cpus (p.now.stop v.slot) (slot v.slot) (h.present.slots v.slot) me (Inside a (a + 1)) is).2
   in_round v (round.Refill ran) x =
-      let st = stands (In v.slot x.0 v.acked v.acked Fills) x.2 in stored_open v.slot (mask_weight u.cpus v.mask) field.Ack (open_in v.slot x.0 v.acked v.acked Fills x.2) (refills_me me (p.now.stop v.slot).raising st.2)
+      let st = stands (In v.slot x.0 v.acked v.acked Fills) x.2 in stored_open v.slot (mask_weight u.cpus v.mask) field.Ack (open_in v.slot x.0 v.acked
+          v.acked Fills x.2) (refills_me me (p.now.stop v.slot).raising st.2)
   in_round v (round.Raise ran) x = stored_open v.slot (v.acked + 1) field.State (open_in v.slot x.0 v.acked v.acked Sets x.2) (raised v.slot x.0 v.acked x.2)
 
   in_completion : (v : Visit) (stage : CompletionStage) → SitsInCompletion v stage (seat me) → May (completion_access v stage)
@@ -142,21 +147,25 @@ module _ (u : Setup) (p : StopState) (at : Word → ℕ) (seat : ℕ → Seat) (
       (st.0, subst (λ (y : Standing). IsThrough (p.now.stop v.slot) me (acked y)) (sym st.1) (through v.slot x.2.0 v x.2.1 x.1 x.2.2))
   in_completion v completion.CountDown x = ⊎_elim
       (λ (y : (v.answer ≡ 0) × IsLoaded v x.0 × IsThroughAll v × (seat me ≡ In v.slot x.0 v.acked v.acked Rests)).
-      let st = stands (In v.slot x.0 v.acked v.acked Rests) y.3 in (st.0, subst (λ (z : Standing). IsThrough (p.now.stop v.slot) me (acked z)) (sym st.1) (through v.slot x.0 v y.1 y.2 y.3)))
+      let st = stands (In v.slot x.0 v.acked v.acked Rests) y.3 in (st.0, subst (λ (z : Standing). IsThrough (p.now.stop v.slot) me (acked z)) (sym st.1)
+          (through v.slot x.0 v y.1 y.2 y.3)))
       (λ (y : seat me ≡ Gives v.slot x.0 v.acked v.answer).
       let st = stands (Gives v.slot x.0 v.acked v.answer) y in
       let k = keeps_inside u.cpus (p.now.stop v.slot) (slot v.slot) (h.present.slots v.slot) me (Answering v.acked v.answer) st.1 in
       (st.0, subst (λ (z : Standing). IsThrough (p.now.stop v.slot) me (acked z)) (sym st.1) (k.2, rests_not me (p.now.stop v.slot).raising st.2))) x.1
 
-  at_stage : (stage : StopStage) → SitsAt u me c (Some stage) (seat me) → SourceSits c.is_open (Some stage) (source me) → HoldsGate me (at Gate) (Some stage) → May (stop_access u.cpus me c.changes stage)
+  at_stage : (stage : StopStage) → SitsAt u me c (Some stage) (seat me) → SourceSits c.is_open (Some stage) (source me) →
+      HoldsGate me (at Gate) (Some stage) → May (stop_access u.cpus me c.changes stage)
   at_stage TakeGate x y g = taken (at Gate == 0) refl
     where
       taken : (b : Bool) → (at Gate == 0) ≡ b → MaySee p me act.Cas Gate (Some (at Gate)) (cond b (Some (me + 1)) None)
       taken true e = gate_free p.gate (sym h.gate ∙ eqb-true (at Gate) 0 e)
       taken false e = tt
   at_stage OpenGate x y g = gate_mine me p.gate (sym h.gate ∙ g)
-  at_stage (Begin work f) x y g = let d : DraftShows u p.gate (p.now.stop me) (slot me) me work (order f) = source_is (Drafts work (order f)) y.1 in stored_shut (begun_value u.cpus work f) f d.shut d.holds
-  at_stage (Enter j) x y g = λ found. (subst (Stands p.now me) x.1 (h.present.stands me), called_is ((p.now.stop j).standing me) (sym ((h.present.slots j).roll me) ∙ found))
+  at_stage (Begin work f) x y g = let d : DraftShows u p.gate (p.now.stop me) (slot me) me work (order f) = source_is (Drafts work (order f)) y.1 in
+      stored_shut (begun_value u.cpus work f) f d.shut d.holds
+  at_stage (Enter j) x y g = λ found. (subst (Stands p.now me) x.1 (h.present.stands me), called_is ((p.now.stop j).standing me)
+      (sym ((h.present.slots j).roll me) ∙ found))
   at_stage (EnterKind j) x y g = (stands (In j x.0 0 0 Rests) x.1).0
   at_stage (EnterMask j kind) x y g = (stands (In j x.0 0 0 Rests) x.1).0
   at_stage (EnterActive j kind mask) x y g = (stands (In j x.0 0 0 Rests) x.1).0
@@ -167,11 +176,14 @@ module _ (u : Setup) (p : StopState) (at : Word → ℕ) (seat : ℕ → Seat) (
   at_stage LoadResult x y g =
       let o : OwnerShows u (p.now.stop me) y.1.0 × ((p.now.stop me).ending ≡ Ended) = source_is (Collects y.1.0) y.1.1 in
       let op = o.0.is_open in
-      let d : DoneShows u.cpus (p.now.stop me).standing Ended (slot me field.Done) = subst (λ e. DoneShows u.cpus (p.now.stop me).standing e (slot me field.Done)) o.1 ((h.present.slots me).shows op).done in
+      let d : DoneShows u.cpus (p.now.stop me).standing Ended (slot me field.Done) = subst (λ e. DoneShows u.cpus (p.now.stop me).standing e
+          (slot me field.Done)) o.1 ((h.present.slots me).shows op).done in
       (refl, op, λ d' of.
-      let member : is_of ((p.now.stop me).standing d') ≡ true = subst (λ b. is_of ((p.now.stop me).standing d') ≡ (b && has (p.now.stop me).work.mask d')) op ((h.present.slots me).members d') ∙ of in
+      let member : is_of ((p.now.stop me).standing d') ≡ true = subst (λ b. is_of ((p.now.stop me).standing d') ≡ (b && has (p.now.stop me).work.mask d'))
+          op ((h.present.slots me).members d') ∙ of in
       completed_is ((p.now.stop me).standing d') member
-      (sum_zero (λ e. unfinished ((p.now.stop me).standing e)) u.cpus d.1 d' (in_machine u.cpus (p.now.stop me).phase d' ((p.now.stop me).standing d') member ((h.present.slots me).keeps d'))))
+      (sum_zero (λ e. unfinished ((p.now.stop me).standing e)) u.cpus d.1 d' (in_machine u.cpus (p.now.stop me).phase d' ((p.now.stop me).standing d')
+          member ((h.present.slots me).keeps d'))))
   at_stage (ReadKey k) x y g = tt
   at_stage (ReadSite i) x y g = tt
   at_stage (NudgeKey k up) x y g = tt

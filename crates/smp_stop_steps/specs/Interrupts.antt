@@ -20,4 +20,5 @@ pub record InterruptLaw (p : StopState) (c : ℕ) : Type 0 where
   pub on : p.now.inside c ≡ None → p.now.irq c ≡ true
 
 abbrev pub KeepTheInterruptLaw : Type 0
-KeepTheInterruptLaw = (u : Setup) (p : StopState) (at : Word → ℕ) (seat : ℕ → Seat) (source : ℕ → Source) → StopShows u p at seat source → (c : ℕ) → InterruptLaw p c
+KeepTheInterruptLaw = (u : Setup) (p : StopState) (at : Word → ℕ) (seat : ℕ → Seat) (source : ℕ → Source) → StopShows u p at seat source → (c : ℕ) →
+    InterruptLaw p c

@@ -93,7 +93,8 @@ May v (ReadKey k) = irq_of v.seat ≡ true
 May v (ReadSite i) = irq_of v.seat ≡ true
 May v (Nudge k found new) = (irq_of v.seat ≡ true) × (has v.setting.online v.number ≡ true) × (k < MOST_KEYS) × IsNudge found new
 May v (BeginPatch s w) = (v.seat ≡ In s w DISABLE_IRQ RUN Rests) × (w.kind ≡ Patch) × (has w.active v.number ≡ true)
-May v (Alter s w count made change rest) = (v.seat ≡ Alters s w count made (change ∷ rest)) × (plan_at (setup_in v.setting) w count ≡ made ++ change ∷ rest) × (w.func < MOST_KEYS)
+May v (Alter s w count made change rest) = (v.seat ≡ Alters s w count made (change ∷ rest)) × (plan_at (setup_in v.setting) w count ≡ made ++ change ∷ rest)
+    × (w.func < MOST_KEYS)
 May v (LoadArg s w a l) = v.seat ≡ In s w a l Rests
 May v (LoadField s f) = IsPlain f
 May v (LoadEntry i) = Unit {0}
@@ -142,7 +143,8 @@ abbrev pub NothingIsKnown : Type 0
 NothingIsKnown = (k : Setting) (me : ℕ) → me < cpus → Sees no_stops (λ _. Free) (λ _. Shut) (fresh k me)
 
 abbrev pub MovesAreKnown : Type 0
-MovesAreKnown = (p : StopState) (at : Word → ℕ) (seat : ℕ → Seat) (source : ℕ → Source) (v : Known) → StopShows (setup_in v.setting) p at seat source → Sees p seat source v →
+MovesAreKnown = (p : StopState) (at : Word → ℕ) (seat : ℕ → Seat) (source : ℕ → Source) (v : Known) → StopShows (setup_in v.setting) p at seat source →
+    Sees p seat source v →
     (m : Move) → May v m →
     let access = access_in v m in
     let seen = seen_of v.number access (at (word_of access)) None in

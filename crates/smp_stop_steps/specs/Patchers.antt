@@ -40,7 +40,8 @@ abbrev pub IsLawfulOutside : StopState → (Word → ℕ) → Type 0
 IsLawfulOutside p at = is_between p.now.patching ≡ false → IsLawful (labels_in at)
 
 abbrev pub HasPatcher : Setup → StopState → Type 0
-HasPatcher u p = (c : ℕ) (work : Work) (count : ℕ) (made rest : List Change) → p.now.patching ≡ Patches c work count made rest → (s : ℕ) × IsPatcher u p s c work
+HasPatcher u p = (c : ℕ) (work : Work) (count : ℕ) (made rest : List Change) → p.now.patching ≡ Patches c work count made rest → (s : ℕ) × IsPatcher u p s c
+    work
 
 abbrev pub TableIsLawful : Type 0
 TableIsLawful = (u : Setup) (p : StopState) (at : Word → ℕ) (seat : ℕ → Seat) (source : ℕ → Source) → StopShows u p at seat source → IsLawfulOutside p at
@@ -64,4 +65,5 @@ label_stored _ = None
 
 abbrev pub LabelStoresPatch : Type 0
 LabelStoresPatch = OfEachCpu (λ u p at c me.
-    (stage : StopStage) → c.stage ≡ Some stage → (change : Change) → label_stored (stop_access u.cpus me c.changes stage) ≡ Some change → IsNextOfPatch p me change)
+    (stage : StopStage) → c.stage ≡ Some stage → (change : Change) → label_stored (stop_access u.cpus me c.changes stage) ≡ Some change →
+        IsNextOfPatch p me change)

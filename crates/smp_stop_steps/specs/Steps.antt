@@ -32,7 +32,8 @@ abbrev pub control_then : Setup → (Word → ℕ) → StopControlValue → ℕ 
 control_then u at c me stage = (stop_outcome me c stage (at (word_of (stop_access u.cpus me c.changes stage)))).control
 
 -- after the step the words show the stops that it tells, with the CPU where its next stage says
-pub record StopStep (u : Setup) (p : StopState) (at : Word → ℕ) (seat : ℕ → Seat) (source : ℕ → Source) (c : StopControlValue) (me : ℕ) (stage : StopStage) : Type 0 where
+pub record StopStep (u : Setup) (p : StopState) (at : Word → ℕ) (seat : ℕ → Seat) (source : ℕ → Source) (c : StopControlValue) (me : ℕ)
+    (stage : StopStage) : Type 0 where
   pub seat_after : Seat
   pub source_after : Source
   pub shows : StopShows u (state_after u p at c me stage) (at_then u at c me stage) (put seat me seat_after) (put source me source_after)
