@@ -55,10 +55,16 @@ module _ (u : Setup) (p : StopState) (at : Word → ℕ) (seat : ℕ → Seat) (
   -- where the CPU stands once the phase is acknowledged
   acked_sits : (answer : ℕ) (ran : Bool) (work : Work) → IsLoaded v work → OwnsIf c.is_open (source me) → c.interrupts ≡ nat_lt (v.acked + 1) 2 → (b : Bool) →
       Sits u me (at Gate) (cond b (stop_goes (record c { visit = Some (visit_acked v answer ran) }) (Advance (visit_acked v answer ran) (round.Refill ran)))
-          (turn_ends (record c { visit = Some (visit_acked v answer ran) }) (v.acked + 1) ran)).control
+      (turn_ends (record c { visit = Some (visit_acked v answer ran) }) (v.acked + 1) ran)).control
       (In v.slot work (v.acked + 1) (v.acked + 1) (cond b Fills Rests)) (source me)
-  acked_sits answer ran work loaded y irq true = record { below = s.below; irq = irq; seat =
-      (refl, (work, record { kind = loaded.kind; mask = loaded.mask; active = loaded.active }, refl)); source = y; gate_held = tt }
+  acked_sits answer ran work loaded y irq true = record {
+    below = s.below;
+    irq = irq;
+    seat =
+        (refl, (work, record { kind = loaded.kind; mask = loaded.mask; active = loaded.active }, refl));
+    source = y;
+    gate_held = tt;
+  }
   acked_sits answer ran work loaded y irq false = record {
     below = s.below;
     irq = at_test (v.acked + 1) 4 (λ d. cond d true c.interrupts ≡ nat_lt (v.acked + 1) 2 || d) (λ _. sym (or_true (nat_lt (v.acked + 1) 2)))
@@ -88,7 +94,7 @@ module _ (u : Setup) (p : StopState) (at : Word → ℕ) (seat : ℕ → Seat) (
 
       either : (work : Work) → IsLoaded v work → v.acked ≤ 3 →
           ((seat me ≡ In v.slot work v.acked (v.acked + 1) Rests) × RunsIf me v ran) ⊎ ((v.acked ≡ 2) × (ran ≡ true) ×
-              ((count : ℕ) × (answer ≡ patch_answer work count) × (seat me ≡ Alters v.slot work count (plan_at u work count) []))) →
+          ((count : ℕ) × (answer ≡ patch_answer work count) × (seat me ≡ Alters v.slot work count (plan_at u work count) []))) →
           OwnsIf c.is_open (source me) → StopStep u p at seat source c me (Advance v (round.Acknowledge answer ran))
       either work loaded most (inl (is, calm)) y =
           let next = In v.slot work (v.acked + 1) (v.acked + 1) (cond (at (Slot v.slot Ack) == 1) Fills Rests) in
@@ -104,12 +110,12 @@ module _ (u : Setup) (p : StopState) (at : Word → ℕ) (seat : ℕ → Seat) (
                 (λ two. has_called work loaded ran calm (p.calling me) (subst (λ (st : Option StopStage). CarriesAt c.visit st (p.calling me)) e k) two)));
             sits = acked_sits answer ran work loaded y
                 (s.irq ∙ (ap irq_of is ∙ (ap (λ b. nat_lt (v.acked + 1) 2 || b) (ne_eqb v.acked 4 (λ z. omega arith)) ∙ or_false (nat_lt (v.acked + 1) 2))))
-                    (at (Slot v.slot Ack) == 1);
+                (at (Slot v.slot Ack) == 1);
           }
       either work loaded most (inr (two, runs, (count, answers, is))) y =
           let next = In v.slot work (v.acked + 1) (v.acked + 1) (cond (at (Slot v.slot Ack) == 1) Fills Rests) in
           let three : In v.slot work 3 3 (cond (at (Slot v.slot Ack) == 1) Fills Rests) ≡ next =
-              ap (λ n. In v.slot work n n (cond (at (Slot v.slot Ack) == 1) Fills Rests)) (let z : 3 ≡ v.acked + 1 = omega arith in z) in
+          ap (λ n. In v.slot work n n (cond (at (Slot v.slot Ack) == 1) Fills Rests)) (let z : 3 ≡ v.acked + 1 = omega arith in z) in
           let bounds = ack_bounds_patched u p at seat source h v.slot me work count (plan_at u work count) is in
           let less = less_one (at (Slot v.slot Ack)) bounds.0 (ack_small (at (Slot v.slot Ack)) u.cpus h.setup.few bounds.1) in
           record {
@@ -119,7 +125,7 @@ module _ (u : Setup) (p : StopState) (at : Word → ℕ) (seat : ℕ → Seat) (
                 (put seat me next) (put source me (source me))) (sym less)
                 (moved_seat (state_after u p at c me (Advance v (round.Acknowledge answer ran))) (put_word at (Slot v.slot Ack) (at (Slot v.slot Ack) - 1)) next
                 (subst (λ x. StopShows u (state_after u p at c me (Advance v (round.Acknowledge answer ran))) (put_word at (Slot v.slot Ack)
-                    (at (Slot v.slot Ack) - 1)) (put seat me x) source) three
+                (at (Slot v.slot Ack) - 1)) (put seat me x) source) three
                 (ack_subtracted_patched u p at seat source h v.slot me work count (plan_at u work count) answer is)));
             sits = acked_sits answer ran work loaded y (s.irq ∙ (ap irq_of is ∙ sym (le-ltb (v.acked + 1) 2 (omega arith)))) (at (Slot v.slot Ack) == 1);
           }
@@ -136,10 +142,15 @@ module _ (u : Setup) (p : StopState) (at : Word → ℕ) (seat : ℕ → Seat) (
         shows = subst (λ m. StopShows u (told u p me act.Store (Slot v.slot Ack) None (Some (mask_weight u.cpus m)) 0) (put_word at (Slot v.slot Ack)
             (mask_weight u.cpus m)) (put seat me next) (put source me (source me))) (sym loaded.mask)
             (moved_seat (told u p me act.Store (Slot v.slot Ack) None (Some (mask_weight u.cpus work.mask)) 0) (put_word at (Slot v.slot Ack)
-                (mask_weight u.cpus work.mask)) next
+            (mask_weight u.cpus work.mask)) next
             (ack_stored u p at seat source h v.slot me work v.acked v.acked 0 r.1.2));
-        sits = record { below = s.below; irq = s.irq ∙ ap irq_of r.1.2; seat = (r.0, (work, loaded, refl)); source = at_source (round.Refill ran) e;
-            gate_held = tt };
+        sits = record {
+          below = s.below;
+          irq = s.irq ∙ ap irq_of r.1.2;
+          seat = (r.0, (work, loaded, refl));
+          source = at_source (round.Refill ran) e;
+          gate_held = tt;
+        };
       }
 
   pub raise : (ran : Bool) → c.stage ≡ Some (Advance v (round.Raise ran)) → StopStep u p at seat source c me (Advance v (round.Raise ran))

@@ -49,8 +49,18 @@ module _ (u : Setup) (p : StopState) (at : Word → ℕ) (seat : ℕ → Seat) (
     where
       kept : StopShows u p at seat (put source me (source me))
       kept = subst (λ x. StopShows u p at seat x) (sym (put_same_fn source me)) h
-  begun_shown OpenGate m = (source me, subst (λ x. StopShows u p at seat x) (sym (put_same_fn source me)) h, record { below = s.below; irq = s.irq; seat =
-      at_rest; source = owns_if; gate_held = m })
+  begun_shown OpenGate m = (
+    source me,
+    subst (λ x. StopShows u p at seat x) (sym (put_same_fn source me)) h,
+    record {
+      below = s.below;
+      irq = s.irq;
+      seat =
+          at_rest;
+      source = owns_if;
+      gate_held = m;
+    },
+  )
   begun_shown (Begin work Kind) m =
       let closed_ : source me ≡ Shut = subst (λ b. OwnsIf b (source me)) m.1 owns_if in
       let shut : (p.now.stop me).is_open ≡ false = subst (SourceShows u p.gate (p.now.stop me) (λ f. at (Slot me f)) me) closed_ (h.sources me) in (
@@ -70,8 +80,14 @@ module _ (u : Setup) (p : StopState) (at : Word → ℕ) (seat : ℕ → Seat) (
                 holds = holder p.gate (sym h.gate ∙ m.0);
                 is_work = m.2;
                 stored = λ f low. absurd (let z : ⊥ = omega (arith, low) in z);
-                told = record { kind = λ l. absurd (omega arith); mask = λ l. absurd (omega arith); active = λ l. absurd (omega arith); func =
-                    λ l. absurd (omega arith); arg = λ l. absurd (omega arith) };
+                told = record {
+                  kind = λ l. absurd (omega arith);
+                  mask = λ l. absurd (omega arith);
+                  active = λ l. absurd (omega arith);
+                  func =
+                      λ l. absurd (omega arith);
+                  arg = λ l. absurd (omega arith);
+                };
               }
               (λ j ne. h.sources j);
         },
@@ -157,7 +173,7 @@ begun_carries u c me gate outside f k stage m = go stage m
 pub begun_value_shown : (u : Setup) (p : StopState) (t : StopWords) (controls : List StopControlValue) → StopsShow u p t controls → (me : ℕ) → me < u.cpus →
     me < length controls → (stage : StopStage) →
     (stop_control_of controls me).stage ≡ None → MayBegin u me (stop_number t Gate) (stop_control_of controls me) stage →
-        StopsShow u p t (slice_set controls me (stop_goes (stop_control_of controls me) stage).control)
+    StopsShow u p t (slice_set controls me (stop_goes (stop_control_of controls me) stage).control)
 begun_value_shown u p t controls v me below low stage outside m =
     let c = stop_control_of controls me in
     let b = begun_shown u p (stop_number t) v.seat v.source v.shows c me (v.sits me below) outside stage m in
@@ -168,12 +184,12 @@ begun_value_shown u p t controls v me below low stage outside m =
       sits = λ cpu small. subst (λ k. Sits u cpu (stop_number t Gate) k (v.seat cpu) (put v.source me b.0 cpu))
           (sym (stop_controls_by_cpu controls me cpu (stop_goes c stage).control low))
           (at_test cpu me (λ d. Sits u cpu (stop_number t Gate) (cond d (stop_goes c stage).control (stop_control_of controls cpu)) (v.seat cpu)
-              (cond d b.0 (v.source cpu)))
+          (cond d b.0 (v.source cpu)))
           (λ same. subst (λ k. Sits u k (stop_number t Gate) (stop_goes c stage).control (v.seat k) b.0) (sym same) b.2) (λ ne. v.sits cpu small));
       carries = λ cpu small. subst (λ k. CarriesIn k (p.calling cpu)) (sym (stop_controls_by_cpu controls me cpu (stop_goes c stage).control low))
           (at_test cpu me (λ d. CarriesIn (cond d (stop_goes c stage).control (stop_control_of controls cpu)) (p.calling cpu))
           (λ same. subst (λ k. CarriesIn (stop_goes c stage).control (p.calling k)) (sym same) (begun_carries u c me (stop_number t Gate) outside
-              (p.calling me) (v.carries me below) stage m))
+          (p.calling me) (v.carries me below) stage m))
           (λ ne. v.carries cpu small));
       shut = λ cpu high. at_test cpu me (λ d. cond d b.0 (v.source cpu) ≡ Shut) (λ same. absurd (omega arith)) (λ _. v.shut cpu high);
     }

@@ -158,14 +158,14 @@ module _ (u : Setup) (p : StopState) (at : Word → ℕ) (seat : ℕ → Seat) (
     look : (answer : ℕ) → c.stage ≡ Some (Advance v (round.Look answer)) → Now (Advance v (round.Look answer))
     look answer e = plain (Advance v (round.Look answer)) refl (elim (at (Slot v.slot field.State) == v.acked) as
         (λ b. is_run (cond b (stop_ends c note.Same) (looked_on me c v answer (at (Slot v.slot field.State)))).note ≡ false) [ true ↦ refl | false ↦ refl ])
-            (go (at (Slot v.slot field.State) == v.acked) (at (Slot v.slot field.State) == 3 && has v.active me))
+        (go (at (Slot v.slot field.State) == v.acked) (at (Slot v.slot field.State) == 3 && has v.active me))
       where
         q : IsQuiet c.visit f
         q = at_stage (Advance v (round.Look answer)) e
 
         go : (b d : Bool) → CarriesIn (cond b (stop_ends c note.Same)
             (stop_goes (record c { interrupts = cond (at (Slot v.slot field.State) == 2) false c.interrupts })
-                (Advance v (cond d (round.LoadFunc answer) (round.Acknowledge answer false))))).control f
+            (Advance v (cond d (round.LoadFunc answer) (round.Acknowledge answer false))))).control f
         go true d = q
         go false true = q
         go false false = quiet (seat_at (Advance v (round.Look answer)) e).0 q
@@ -178,19 +178,19 @@ module _ (u : Setup) (p : StopState) (at : Word → ℕ) (seat : ℕ → Seat) (
     called s w a l answer is may =
         let st : Stands p.now me (In s w a l Rests) = subst (Stands p.now me) is (h.present.stands me) in
         let true_ : may_call me (p.now.stop s).work ((p.now.stop s).standing me) ≡ true = ap (λ (x : Work). may_call me x ((p.now.stop s).standing me))
-            st.3 ∙ (ap (may_call me w) st.1 ∙ may) in
+        st.3 ∙ (ap (may_call me w) st.1 ∙ may) in
         ap (λ b. cond b (calls_now p me (p.now.stop s).work (at (Slot s field.Arg)) answer) p) true_
 
     calls : (stage : StopStage) (s : ℕ) (w : Work) (a l answer : ℕ) → state_after u p at c me stage ≡ told u p me act.Load (Slot s field.Arg)
         (Some (at (Slot s field.Arg))) None answer →
         seat me ≡ In s w a l Rests → may_call me w (Inside a l) ≡ true → f ≡ Idle → answer_at stage ≡ answer → note_then u at c me stage ≡ Some
-            (note.Run w.func (at (Slot s field.Arg))) →
+        (note.Run w.func (at (Slot s field.Arg))) →
         ((call : StopCall) → call.answer ≡ answer → CarriesIn (control_then u at c me stage) (Calls call)) → Now stage
     calls stage s w a l answer is_told is may idle answered says mine =
         let st : Stands p.now me (In s w a l Rests) = subst (Stands p.now me) is (h.present.stands me) in
         let call : StopCall = record { func = (p.now.stop s).work.func; arg = at (Slot s field.Arg); answer = answer } in
         let after : told_of (state_after u p at c me stage) ≡ record (told_of p) { calling = put p.calling me (Calls call) } =
-            ap told_of (is_told ∙ called s w a l answer is may) in record {
+        ap told_of (is_told ∙ called s w a l answer is may) in record {
           mine = subst (λ (x : Told). CarriesIn (control_then u at c me stage) (x.calling me)) (sym after) (subst (CarriesIn (control_then u at c me stage))
               (sym (put_here p.calling me (Calls call))) (mine call refl));
           others = λ cpu ne. ap (λ (x : Told). x.calling cpu) after ∙ put_else p.calling me (Calls call) cpu ne;
@@ -218,32 +218,43 @@ module _ (u : Setup) (p : StopState) (at : Word → ℕ) (seat : ℕ → Seat) (
             let multi : work.kind ≡ Multi = sym run.0.kind ∙ is in
             let active : has work.active me ≡ true = ap (λ m. has m me) (sym run.0.active) ∙ run.2 in
             let may : may_call me work (Inside 2 3) ≡ true = ap (λ (y : KindOf). is_one y || (true && (has work.active me && is_multi y))) multi ∙ ap
-                (λ b. b && true) active in
+            (λ b. b && true) active in
             calls (Advance v (round.LoadArg answer func)) v.slot work 2 3 answer refl run.3 may
             (quiet_early me v.slot work 3 Rests v f (quiet visit q) run.1 (calling_at (In v.slot work 2 3 Rests) run.3)) refl
-            (ap (λ (y : KindOf). (cond (is_multi y) (record { control = record c { stage = Some (Advance v (round.Acknowledge answer true)) }; note =
-                Some (note.Run func (at (Slot v.slot field.Arg))) })
-                (stop_goes c (Advance v (round.LoadKey func (change_of (at (Slot v.slot field.Arg))))))).note) is
+            (ap (λ (y : KindOf). (cond (is_multi y) (record {
+              control = record c { stage = Some (Advance v (round.Acknowledge answer true)) };
+              note =
+                  Some (note.Run func (at (Slot v.slot field.Arg)));
+            })
+            (stop_goes c (Advance v (round.LoadKey func (change_of (at (Slot v.slot field.Arg))))))).note) is
             ∙ ap (λ n. Some (note.Run n (at (Slot v.slot field.Arg)))) same)
             (λ call equal. subst (λ (y : KindOf). CarriesIn (cond (is_multi y)
-                (record { control = record c { stage = Some (Advance v (round.Acknowledge answer true)) }; note =
-                Some (note.Run func (at (Slot v.slot field.Arg))) })
-                (stop_goes c (Advance v (round.LoadKey func (change_of (at (Slot v.slot field.Arg))))))).control (Calls call)) (sym is) (sym equal))
+            (record {
+              control = record c { stage = Some (Advance v (round.Acknowledge answer true)) };
+              note =
+                  Some (note.Run func (at (Slot v.slot field.Arg)));
+            })
+            (stop_goes c (Advance v (round.LoadKey func (change_of (at (Slot v.slot field.Arg))))))).control (Calls call)) (sym is) (sym equal))
         go visit some work run same Patch is =
             let patch : work.kind ≡ Patch = sym run.0.kind ∙ is in
             let st : Stands p.now me (In v.slot work 2 3 Rests) = subst (Stands p.now me) run.3 (h.present.stands me) in
             let calm : may_call me (p.now.stop v.slot).work ((p.now.stop v.slot).standing me) ≡ false =
             ap (λ (x : Work). may_call me x ((p.now.stop v.slot).standing me)) st.3 ∙ (ap (may_call me work) st.1 ∙
-                (ap (λ (y : KindOf). is_one y || (true && (has work.active me && is_multi y))) patch ∙ none (has work.active me))) in
+            (ap (λ (y : KindOf). is_one y || (true && (has work.active me && is_multi y))) patch ∙ none (has work.active me))) in
             let nothing : told_of (state_after u p at c me (Advance v (round.LoadArg answer func))) ≡ told_of p =
             ap (λ b. told_of (cond b (calls_now p me (p.now.stop v.slot).work (at (Slot v.slot field.Arg)) answer) p)) calm in
             plain (Advance v (round.LoadArg answer func)) nothing
-            (ap (λ (y : KindOf). is_run (cond (is_multi y) (record { control = record c { stage = Some (Advance v (round.Acknowledge answer true)) }; note =
-                Some (note.Run func (at (Slot v.slot field.Arg))) })
-                (stop_goes c (Advance v (round.LoadKey func (change_of (at (Slot v.slot field.Arg))))))).note) is)
-            (subst (λ (y : KindOf). CarriesIn (cond (is_multi y) (record { control = record c { stage = Some (Advance v (round.Acknowledge answer true)) };
-                note = Some (note.Run func (at (Slot v.slot field.Arg))) })
-                (stop_goes c (Advance v (round.LoadKey func (change_of (at (Slot v.slot field.Arg))))))).control f) (sym is) q)
+            (ap (λ (y : KindOf). is_run (cond (is_multi y) (record {
+              control = record c { stage = Some (Advance v (round.Acknowledge answer true)) };
+              note =
+                  Some (note.Run func (at (Slot v.slot field.Arg)));
+            })
+            (stop_goes c (Advance v (round.LoadKey func (change_of (at (Slot v.slot field.Arg))))))).note) is)
+            (subst (λ (y : KindOf). CarriesIn (cond (is_multi y) (record {
+              control = record c { stage = Some (Advance v (round.Acknowledge answer true)) };
+              note = Some (note.Run func (at (Slot v.slot field.Arg)));
+            })
+            (stop_goes c (Advance v (round.LoadKey func (change_of (at (Slot v.slot field.Arg))))))).control f) (sym is) q)
           where
             none : (b : Bool) → (b && false) ≡ false
             none true = refl
@@ -264,7 +275,7 @@ module _ (u : Setup) (p : StopState) (at : Word → ℕ) (seat : ℕ → Seat) (
         silent None = refl
         silent (Some new) = elim (at (Key key) == new) as (λ b. is_run (cond b (stop_goes (record c { changes = [] }) (Advance v (round.Acknowledge 0 true)))
             (stop_goes (record c { changes = (place.Key key, new) ∷ [] }) (Advance v (cond (xor (is_on (at (Key key))) (is_on new))
-                (round.LoadEntry key new 0) (round.StoreChange 0))))).note ≡ false) [ true ↦ refl | false ↦ refl ]
+            (round.LoadEntry key new 0) (round.StoreChange 0))))).note ≡ false) [ true ↦ refl | false ↦ refl ]
 
         acking : (answer : ℕ) → v.kind ≡ Patch → f ≡ Idle → IsAcking v answer true f
         acking answer kind idle = subst (IsAcking v answer true) (sym idle) kind
@@ -283,7 +294,7 @@ module _ (u : Setup) (p : StopState) (at : Word → ℕ) (seat : ℕ → Seat) (
     load_entry key word site e =
         let q = at_stage (Advance v (round.LoadEntry key word site)) e in
         plain (Advance v (round.LoadEntry key word site)) refl refl (elim (at (word_of (round_access u.cpus c.changes v (round.LoadEntry key word site))) ==
-            0 || site + 1 == MOST_SITES) as
+        0 || site + 1 == MOST_SITES) as
         (λ b. CarriesAt c.visit (Some (Advance v (cond b (round.StoreChange 0) (round.LoadEntry key word (site + 1))))) f) [ true ↦ q | false ↦ q ])
 
     store_change : (made : ℕ) → c.stage ≡ Some (Advance v (round.StoreChange made)) → Now (Advance v (round.StoreChange made))
@@ -331,10 +342,12 @@ module _ (u : Setup) (p : StopState) (at : Word → ℕ) (seat : ℕ → Seat) (
               ]
             ]
 
-        done : (b : Bool) (g : Calling) → told_of (state_after u p at c me stage) ≡ record (told_of p) { calling = cond b (put p.calling me g) p.calling;
-            calls = cond b (called_more p.calls me f) p.calls } →
+        done : (b : Bool) (g : Calling) → told_of (state_after u p at c me stage) ≡ record (told_of p) {
+          calling = cond b (put p.calling me g) p.calling;
+          calls = cond b (called_more p.calls me f) p.calls;
+        } →
             g ≡ carried me p.now.patching f → p.now.inside me ≡ Some v.slot → (b ≡ true → HasCalled me (p.now.stop v.slot).work f ⊎
-                ((p.now.stop v.slot).work.kind ≡ Patch)) →
+            ((p.now.stop v.slot).work.kind ≡ Patch)) →
             (b ≡ true → IsQuiet (Some (visit_acked v answer ran)) g) → (b ≡ false → IsQuiet (Some (visit_acked v answer ran)) f) → Now stage
         done true g same is in_ ready y n = record {
           mine = subst (CarriesIn (control_then u at c me stage)) (sym (ap (λ (x : Told). x.calling me) same ∙ put_here p.calling me g))
@@ -380,7 +393,7 @@ module _ (u : Setup) (p : StopState) (at : Word → ℕ) (seat : ℕ → Seat) (
 
         either : (work : Work) → IsLoaded v work →
             (((seat me ≡ In v.slot work v.acked (v.acked + 1) Rests) × RunsIf me v ran) ⊎ ((v.acked ≡ 2) × (ran ≡ true) ×
-                ((count : ℕ) × (answer ≡ patch_answer work count) × (seat me ≡ Alters v.slot work count (plan_at u work count) [])))) → Now stage
+            ((count : ℕ) × (answer ≡ patch_answer work count) × (seat me ≡ Alters v.slot work count (plan_at u work count) [])))) → Now stage
         either work loaded (inl (is, runs)) =
             let st : Stands p.now me (In v.slot work v.acked (v.acked + 1) Rests) = subst (Stands p.now me) is (h.present.stands me) in
             let alone = carried_alone u.first p.now.patching seat me f (subst IsNoPatch (sym is) tt) h.present.runner in
@@ -402,25 +415,25 @@ module _ (u : Setup) (p : StopState) (at : Word → ℕ) (seat : ℕ → Seat) (
         let st : Stands p.now me (In v.slot work v.acked v.acked Rests) = subst (Stands p.now me) is (h.present.stands me) in
         let open_ = is_open_inside u.cpus (p.now.stop v.slot) (λ g. at (Slot v.slot g)) (h.present.slots v.slot) me (Inside v.acked v.acked) st.1 refl in
         let phase = one_phase (p.now.stop v.slot).work.kind (p.now.stop v.slot).phase (ap (λ (x : Work). x.kind) st.3 ∙ one) ((h.present.slots v.slot).shows
-            open_).kinds in
+        open_).kinds in
         let near = (keeps_inside u.cpus (p.now.stop v.slot) (λ g. at (Slot v.slot g)) (h.present.slots v.slot) me (Inside v.acked v.acked) st.1).1 in
         ⊎_elim (λ (e : v.acked ≡ (p.now.stop v.slot).phase). e ∙ phase) (λ (e : v.acked + 1 ≡ (p.now.stop v.slot).phase). absurd (let z : ⊥ =
-            omega (arith, e, phase) in z)) near
+        omega (arith, e, phase) in z)) near
 
     one_arg : (answer func : ℕ) → c.stage ≡ Some (Complete v (completion.LoadArg answer func)) → Now (Complete v (completion.LoadArg answer func))
     one_arg answer func e =
         let x = (seat_at (Complete v (completion.LoadArg answer func)) e).1 in
         let one : x.1.0.kind ≡ One = sym x.1.1.kind ∙ x.0 in
         let may : may_call me x.1.0 (Inside v.acked v.acked) ≡ true = ap (λ (y : KindOf). is_one y || ((v.acked == 2 && v.acked == 3) &&
-            (has x.1.0.active me && is_multi y))) one in
+        (has x.1.0.active me && is_multi y))) one in
         let st : Stands p.now me (In v.slot x.1.0 v.acked v.acked Rests) = subst (Stands p.now me) x.1.2 (h.present.stands me) in
         calls (Complete v (completion.LoadArg answer func)) v.slot x.1.0 v.acked v.acked answer refl x.1.2 may
         (quiet_one me v.slot x.1.0 v.acked v.acked Rests v f (quiet (seat_at (Complete v (completion.LoadArg answer func)) e).0
-            (at_stage (Complete v (completion.LoadArg answer func)) e))
+        (at_stage (Complete v (completion.LoadArg answer func)) e))
         (none_acked x.1.0 one x.1.2) (calling_at (In v.slot x.1.0 v.acked v.acked Rests) x.1.2)) refl
-            (ap (λ n. Some (note.Run n (at (Slot v.slot field.Arg)))) x.1.3)
+        (ap (λ n. Some (note.Run n (at (Slot v.slot field.Arg)))) x.1.3)
         (λ call same. elim (answer == 0) as (λ b. CarriesAt (Some (record v { answer = answer }))
-            (Some (Complete (record v { answer = answer }) (cond b completion.CountDown completion.StoreAnswer))) (Calls call))
+        (Some (Complete (record v { answer = answer }) (cond b completion.CountDown completion.StoreAnswer))) (Calls call))
         [ true ↦ sym same | false ↦ sym same ])
 
     count_down : c.stage ≡ Some (Complete v completion.CountDown) → Now (Complete v completion.CountDown)
@@ -448,14 +461,18 @@ module _ (u : Setup) (p : StopState) (at : Word → ℕ) (seat : ℕ → Seat) (
           mine = subst (CarriesIn (control_then u at c me (Complete v completion.CountDown))) (sym (ap (λ (y : Told). y.calling me) same ∙ put_here
               p.calling me Idle))
               (elim (found == 1) as (λ b. CarriesIn (cond b (stop_goes (record c { visit = None }) (Close v.slot)) (stop_ends (record c { visit = None })
-                  note.Finished)).control Idle) [ true ↦ tt | false ↦ tt ]);
+              note.Finished)).control Idle) [ true ↦ tt | false ↦ tt ]);
           others = λ cpu ne. ap (λ (y : Told). y.calling cpu) same ∙ put_else p.calling me Idle cpu ne;
           goes = inr (inr (inr record {
             slot = v.slot;
             inside = in_;
             called = called;
-            completes = same ∙ ap (λ n. record { calling = put p.calling me Idle; calls = called_more p.calls me f; answers = put p.answers me
-                (put (p.answers me) v.slot (p.answers me v.slot ++ n ∷ [])) }) (answers ∙ ending f q);
+            completes = same ∙ ap (λ n. record {
+              calling = put p.calling me Idle;
+              calls = called_more p.calls me f;
+              answers = put p.answers me
+                  (put (p.answers me) v.slot (p.answers me v.slot ++ n ∷ []));
+            }) (answers ∙ ending f q);
             says = silent;
           }));
         }
@@ -527,9 +544,11 @@ module _ (u : Setup) (p : StopState) (at : Word → ℕ) (seat : ℕ → Seat) (
       let q : IsQuiet c.visit f = at_stage (Enter slot) e in
       plain (Enter slot) (either_calling p (record p { now = enters p.now me slot }) (has (at (Slot slot field.Roll)) me) refl)
       (elim (has (at (Slot slot field.Roll)) me) as (λ b. is_run (cond b (stop_goes c (EnterKind slot)) (stop_ends c note.Stale)).note ≡ false)
-          [ true ↦ refl | false ↦ refl ]) (elim (has (at (Slot slot field.Roll)) me) as
-      (λ b. CarriesIn (cond b (stop_goes c (EnterKind slot)) (stop_ends c note.Stale)).control f) [ true ↦ quiet_none f (subst (λ y. IsQuiet y f) x.0 q) |
-          false ↦ q ])
+      [ true ↦ refl | false ↦ refl ]) (elim (has (at (Slot slot field.Roll)) me) as
+      (λ b. CarriesIn (cond b (stop_goes c (EnterKind slot)) (stop_ends c note.Stale)).control f) [
+        | true ↦ quiet_none f (subst (λ y. IsQuiet y f) x.0 q)
+        | false ↦ q
+      ])
   call_step (EnterKind slot) e = plain (EnterKind slot) refl refl (at_stage (EnterKind slot) e)
   call_step (EnterMask slot kind) e = plain (EnterMask slot kind) refl refl (at_stage (EnterMask slot kind) e)
   call_step (EnterActive slot kind mask) e = plain (EnterActive slot kind mask) refl refl

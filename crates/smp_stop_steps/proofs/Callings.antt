@@ -92,9 +92,11 @@ active_multi k false e = cc
 pub calling_ran : (c s : ℕ) (w : Work) (t : Turn) (f : Calling) → w.kind ≢ One → HasCalled c w f → IsCalling c (In s w 2 3 Rests) f →
     IsCalling c (In s w 3 3 t) (carried_call f)
 calling_ran c s w t Idle many idle k = λ _. idle
-calling_ran c s w t (Calls call) many idle k =
-    (omega arith, ⊎_elim (λ (one : w.kind ≡ One). absurd (many one)) (λ (m : (2 ≡ 2) × (3 ≡ 3) × (calls_at_run c w ≡ true)). active_multi w.kind
-        (has w.active c) m.2) k.1.1)
+calling_ran c s w t (Calls call) many idle k = (
+  omega arith,
+  ⊎_elim (λ (one : w.kind ≡ One). absurd (many one)) (λ (m : (2 ≡ 2) × (3 ≡ 3) × (calls_at_run c w ≡ true)). active_multi w.kind
+      (has w.active c) m.2) k.1.1,
+)
 calling_ran c s w t (Carries x) many idle k = absurd (let z : ⊥ = omega (arith, k.0) in z)
 
 -- who patches nothing carries no answer of a patch
@@ -120,9 +122,12 @@ call_may c w a l e = (refl, kind w.kind refl e)
 pub calling_given : (c s : ℕ) (w : Work) (a l : ℕ) (v : ℕ) (f : Calling) → v ≢ 0 → (a ≡ 4) ⊎ (w.kind ≡ One) → v ≡ answer_in f →
     IsCalling c (In s w a l Rests) f → IsCalling c (Gives s w a v) f
 calling_given c s w a l v Idle some through is k = absurd (some is)
-calling_given c s w a l v (Calls call) some through is k = (k.0, ⊎_elim (λ (e : a ≡ 4). ⊎_elim (λ (one : w.kind ≡ One). one)
-    (λ (m : (a ≡ 2) × (l ≡ 3) × (calls_at_run c w ≡ true)). absurd (let z : ⊥ = omega (arith, e, m.0) in z)) k.1.1) (λ (one : w.kind ≡ One). one) through,
-    sym is)
+calling_given c s w a l v (Calls call) some through is k = (
+  k.0,
+  ⊎_elim (λ (e : a ≡ 4). ⊎_elim (λ (one : w.kind ≡ One). one)
+      (λ (m : (a ≡ 2) × (l ≡ 3) × (calls_at_run c w ≡ true)). absurd (let z : ⊥ = omega (arith, e, m.0) in z)) k.1.1) (λ (one : w.kind ≡ One). one) through,
+  sym is,
+)
 calling_given c s w a l v (Carries x) some through is k = sym is
 
 -- a CPU at this seat has no done to store
@@ -164,7 +169,7 @@ answer_replaced u p at seat source h me s w a l t x is = record {
   gate = h.gate;
   callings = put_all (λ c y. IsCalling c (seat c) y) p.calling me (with_answer x (p.calling me))
       (subst (λ y. IsCalling me y (with_answer x (p.calling me))) (sym is) (answered_in me s w a l t x (p.calling me)
-          (subst (λ y. IsCalling me y (p.calling me)) is (h.callings me))))
+      (subst (λ y. IsCalling me y (p.calling me)) is (h.callings me))))
       (λ c ne. h.callings c);
   closing = h.closing;
   sources = h.sources;

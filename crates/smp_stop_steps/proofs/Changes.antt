@@ -9,4 +9,4 @@ read_change [] i = refl
 read_change (x ∷ xs) zero = refl
 read_change (x ∷ xs) (suc i) =
     read_change xs i ∙ sym (ap (λ b. cond b x (change_at xs (suc i - 1))) (ne_eqb (suc i) 0 (λ z. omega arith)) ∙ ap (change_at xs) (let e : suc i - 1 ≡ i =
-        omega arith in e))
+    omega arith in e))

@@ -100,7 +100,7 @@ module _ (u : Setup) (p : StopState) (at : Word → ℕ) (seat : ℕ → Seat) (
         seat me,
         still (state_after u p at c me (Enter slot)) (at_then u at c me (Enter slot))
             (subst (λ n. StopShows u (state_after u p at c me (Enter slot)) (put_word at (Slot slot Roll) n) seat source)
-                (sym (clear_none (at (Slot slot Roll)) me low missing (high_none slot)))
+            (sym (clear_none (at (Slot slot Roll)) me low missing (high_none slot)))
             (subst (λ (x : Word → ℕ). StopShows u (state_after u p at c me (Enter slot)) x seat source) (sym (word_same (Slot slot Roll)))
             (roll_stale u p at seat source h slot me (Some (bit_and (at (Slot slot Roll)) (all_but me))) 0 missing))),
         record { below = s.below; irq = s.irq; seat = subst (λ x. SitsAtRest x (seat me)) (sym visit) is; source = y; gate_held = tt },
@@ -113,8 +113,14 @@ module _ (u : Setup) (p : StopState) (at : Word → ℕ) (seat : ℕ → Seat) (
         seat_after = Free;
         source_after = source me;
         shows = moved_seat (state_after u p at c me (Close slot)) (at_then u at c me (Close slot)) Free (done_stored u p at seat source h slot me 0 x.1);
-        sits = record { below = s.below; irq = s.irq ∙ ap irq_of x.1; seat = subst (λ x. SitsAtRest x Free) (sym x.0) refl; source = at_source (Close slot)
-            e; gate_held = tt };
+        sits = record {
+          below = s.below;
+          irq = s.irq ∙ ap irq_of x.1;
+          seat = subst (λ x. SitsAtRest x Free) (sym x.0) refl;
+          source = at_source (Close slot)
+              e;
+          gate_held = tt;
+        };
       }
 
   module _ (v : Visit) where
@@ -149,8 +155,10 @@ module _ (u : Setup) (p : StopState) (at : Word → ℕ) (seat : ℕ → Seat) (
       where
         go : v.kind ≡ One → (work : Work) → IsLoaded v work → seat me ≡ In v.slot work v.acked v.acked Rests → OwnsIf c.is_open (source me) → (b : Bool) →
             (answer == 0) ≡ b →
-            Sits u me (at Gate) (record c { stage = Some (Complete (record v { answer = answer }) (cond b completion.CountDown completion.StoreAnswer));
-                visit = Some (record v { answer = answer }) }) (seat me) (source me)
+            Sits u me (at Gate) (record c {
+              stage = Some (Complete (record v { answer = answer }) (cond b completion.CountDown completion.StoreAnswer));
+              visit = Some (record v { answer = answer });
+            }) (seat me) (source me)
         go one work loaded is y true z = record {
           below = s.below;
           irq = s.irq;
@@ -161,8 +169,23 @@ module _ (u : Setup) (p : StopState) (at : Word → ℕ) (seat : ℕ → Seat) (
         go one work loaded is y false z = record {
           below = s.below;
           irq = s.irq;
-          seat = (refl, ((λ none. let bad : true ≡ false = sym (eq-eqb answer 0 none) ∙ z in cc), inr one, (work, record { kind = loaded.kind; mask =
-              loaded.mask; active = loaded.active }, is)));
+          seat = (
+            refl,
+            (
+              (λ none. let bad : true ≡ false = sym (eq-eqb answer 0 none) ∙ z in cc),
+              inr one,
+              (
+                work,
+                record {
+                  kind = loaded.kind;
+                  mask =
+                      loaded.mask;
+                  active = loaded.active;
+                },
+                is,
+              ),
+            ),
+          );
           source = y;
           gate_held = tt;
         }
@@ -190,8 +213,8 @@ module _ (u : Setup) (p : StopState) (at : Word → ℕ) (seat : ℕ → Seat) (
           shows = moved_seat (state_after u p at c me (Complete v completion.StoreAnswer)) (at_then u at c me (Complete v completion.StoreAnswer)) next
               (result_stored u p at seat source h v.slot me work v.acked v.acked is through v.answer 0 some
               (calling_given me v.slot work v.acked v.acked v.answer (p.calling me) some through
-                  (ends (p.calling me) (subst (λ (st : Option StopStage). CarriesAt c.visit st (p.calling me)) e k))
-                  (subst (λ x. IsCalling me x (p.calling me)) is (h.callings me))));
+              (ends (p.calling me) (subst (λ (st : Option StopStage). CarriesAt c.visit st (p.calling me)) e k))
+              (subst (λ x. IsCalling me x (p.calling me)) is (h.callings me))));
           sits = record {
             below = s.below;
             irq = s.irq ∙ on_now u p at seat source h v.slot me work v.acked v.acked is through;
@@ -203,7 +226,7 @@ module _ (u : Setup) (p : StopState) (at : Word → ℕ) (seat : ℕ → Seat) (
 
     counted_sits : OwnsIf c.is_open (source me) → c.interrupts ≡ true → (b : Bool) →
         Sits u me (at Gate) (cond b (stop_goes (record c { visit = None }) (Close v.slot)) (stop_ends (record c { visit = None }) note.Finished)).control
-            (cond b (Closes v.slot) Free) (source me)
+        (cond b (Closes v.slot) Free) (source me)
     counted_sits y on true = record { below = s.below; irq = on; seat = (refl, refl); source = y; gate_held = tt }
     counted_sits y on false = record { below = s.below; irq = on; seat = refl; source = y; gate_held = tt }
 
@@ -227,7 +250,7 @@ module _ (u : Setup) (p : StopState) (at : Word → ℕ) (seat : ℕ → Seat) (
               shows = subst (λ n. StopShows u (state_after u p at c me (Complete v completion.CountDown)) (put_word at (Slot v.slot Todo) n)
                   (put seat me next) (put source me (source me))) (sym less)
                   (moved_seat (state_after u p at c me (Complete v completion.CountDown)) (put_word at (Slot v.slot Todo) (found - 1)) next
-                      (todo_subtracted u p at seat source h v.slot me work v.acked v.acked 0 is through));
+                  (todo_subtracted u p at seat source h v.slot me work v.acked v.acked 0 is through));
               sits = counted_sits y (s.irq ∙ on_now u p at seat source h v.slot me work v.acked v.acked is through) (found == 1);
             }
         either work (inr is) y =
@@ -241,7 +264,7 @@ module _ (u : Setup) (p : StopState) (at : Word → ℕ) (seat : ℕ → Seat) (
               shows = subst (λ n. StopShows u (state_after u p at c me (Complete v completion.CountDown)) (put_word at (Slot v.slot Todo) n)
                   (put seat me next) (put source me (source me))) (sym less)
                   (moved_seat (state_after u p at c me (Complete v completion.CountDown)) (put_word at (Slot v.slot Todo) (found - 1)) next
-                      (todo_subtracted_answered u p at seat source h v.slot me work v.acked v.answer 0 is));
+                  (todo_subtracted_answered u p at seat source h v.slot me work v.acked v.answer 0 is));
               sits = counted_sits y (s.irq ∙ ap irq_of is) (found == 1);
             }
 

@@ -78,7 +78,7 @@ module _ (cpus : ℕ) (standing : ℕ → Standing) (me a v todo : ℕ) (small :
   one_less : count_unfinished cpus (put standing me (Completed a v)) + 1 ≡ todo
   one_less =
       let s = sum_put (λ c. unfinished (standing c)) (λ c. unfinished (put standing me (Completed a v) c)) me cpus small (λ j other. ap unfinished
-          (put_else standing me (Completed a v) j other)) in
+      (put_else standing me (Completed a v) j other)) in
       let now : unfinished (put standing me (Completed a v) me) ≡ 0 = ap unfinished (put_here standing me (Completed a v)) in
       let then : unfinished (standing me) ≡ 1 = is in
       omega arith
@@ -151,7 +151,7 @@ module _ (cpus : ℕ) (stop : Stop) (word : Field → ℕ) (g : SlotShows cpus s
       let run : stop.phase ≡ 3 = ⊎_elim (λ (t : 3 ≡ 2). absurd (omega arith)) (λ (t : (3 ≡ 2 + 1) × (stop.phase ≡ 3)). t.1) k.2 in
       let open_ = is_open_inside cpus stop word g me (Inside 2 3) is refl in
       let mask_is : (c : ℕ) → is_of (stop.standing c) ≡ has stop.work.mask c = λ c. subst (λ b. is_of (stop.standing c) ≡ (b && has stop.work.mask c)) open_
-          (g.members c) in
+      (g.members c) in
       record {
         of_it = sym (mask_is me) ∙ ap is_of is;
         at_run = run;
@@ -186,8 +186,14 @@ module _ (cpus : ℕ) (stop : Stop) (word : Field → ℕ) (g : SlotShows cpus s
     roll = λ c. is_called_called (has work.mask c);
     keeps = λ c. keeps_called c (has work.mask c) refl;
     shows = λ _. record {
-      written = record { kind = b Kind (omega arith); mask = b Mask (omega arith); active = b Active (omega arith); func = b Func (omega arith); arg =
-          b Arg (omega arith) };
+      written = record {
+        kind = b Kind (omega arith);
+        mask = b Mask (omega arith);
+        active = b Active (omega arith);
+        func = b Func (omega arith);
+        arg =
+            b Arg (omega arith);
+      };
       state = b State (omega arith);
       bound = small work.kind;
       ack = λ ne. b Ack (omega arith) ∙ sym (behind_all ne);
@@ -301,9 +307,18 @@ module _ (cpus : ℕ) (stop : Stop) (word : Field → ℕ) (g : SlotShows cpus s
       answered : count_unfinished cpus stop.standing ≡ 0 → ResultShows stop.standing (word Result) →
           IsResult stop.work.mask (λ c. answer_of (stop.standing c)) (word Result)
       answered z h = ⊎_elim
-          (λ (t : (word Result ≡ 0) × ((c w : ℕ) → HasGiven (stop.standing c) w → w ≡ 0)). inl (t.0, λ c of. t.1 c (answer_of (stop.standing c))
-              (given (stop.standing c) (mask_is c ∙ of) (each z c))))
-          (λ (t : (word Result ≢ 0) × ((c : ℕ) × HasGiven (stop.standing c) (word Result))). inr
-              (t.0, (t.1.0, sym (mask_is t.1.0) ∙ (given_of (stop.standing t.1.0) (word Result) t.1.1).0, (given_of (stop.standing t.1.0) (word Result)
-              t.1.1).1)))
+          (λ (t : (word Result ≡ 0) × ((c w : ℕ) → HasGiven (stop.standing c) w → w ≡ 0)). inl (
+            t.0,
+            λ c of. t.1 c (answer_of (stop.standing c))
+                (given (stop.standing c) (mask_is c ∙ of) (each z c)),
+          ))
+          (λ (t : (word Result ≢ 0) × ((c : ℕ) × HasGiven (stop.standing c) (word Result))). inr (
+            t.0,
+            (
+              t.1.0,
+              sym (mask_is t.1.0) ∙ (given_of (stop.standing t.1.0) (word Result) t.1.1).0,
+              (given_of (stop.standing t.1.0) (word Result)
+                  t.1.1).1,
+            ),
+          ))
           h

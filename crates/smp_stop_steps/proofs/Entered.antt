@@ -39,7 +39,7 @@ module _ (u : Setup) (p : Present) (at : Word → ℕ) (seat : ℕ → Seat) (h 
       let out = all_outside u.cpus (p.stop s) w (h.slots s) shut in
       source_moves u p at (put_word at (Slot s Roll) work.mask) seat s (opened (p.stop s) work) h
       (slot_put u.cpus p.stop at s Roll work.mask (opened (p.stop s) work) h.slots (opens_slot u.cpus (p.stop s) w (h.slots s) work is_work.below
-          is_work.some stored)) refl
+      is_work.some stored)) refl
       (λ c. record {
         on = λ i. absurd (nobody (out c) i);
         back = λ i. absurd (calls (has work.mask c) i);
@@ -137,7 +137,7 @@ module _ (u : Setup) (p : Present) (at : Word → ℕ) (seat : ℕ → Seat) (h 
           let both = inside_unfinished ((p.stop s).standing c) i in
           let one = both.1 in
           let zero_ = sum_zero (λ c. unfinished ((p.stop s).standing c)) u.cpus z c (in_machine u.cpus (p.stop s).phase c ((p.stop s).standing c) both.0
-              ((h.slots s).keeps c)) in
+          ((h.slots s).keeps c)) in
           omega arith
 
   module _ (me : ℕ) where
@@ -154,7 +154,7 @@ module _ (u : Setup) (p : Present) (at : Word → ℕ) (seat : ℕ → Seat) (h 
     -- fetch_and of the roll, that found the own bit
     pub step_enters : (n : ℕ) → seat me ≡ Free → has (at (Slot s Roll)) me ≡ true → has n me ≡ false → ((c : ℕ) → c ≢ me → has n c ≡ has (at (Slot s Roll)) c) →
         PresentShows u (moved p s (stands (p.stop s) me (Inside 0 0)) (put p.inside me (Some s)) p.irq p.readings) (put_word at (Slot s Roll) n)
-            (put seat me (In s (p.stop s).work 0 0 Rests))
+        (put seat me (In s (p.stop s).work 0 0 Rests))
     step_enters n is found clears others =
         let to = Inside 0 0 in
         let stop' = stands (p.stop s) me to in
@@ -242,7 +242,7 @@ module _ (u : Setup) (p : Present) (at : Word → ℕ) (seat : ℕ → Seat) (h 
 
         now : (b : Bool) → (p.stop s).is_open ≡ true →
             Stands (moved p s (record (p.stop s) { standing = put (p.stop s).standing me (Completed a v); ending = cond b (Last me) (p.stop s).ending })
-                (put p.inside me None) p.irq p.readings) me (cond b (Closes s) Free)
+            (put p.inside me None) p.irq p.readings) me (cond b (Closes s) Free)
         now true op = (
           put_here p.inside me None,
           at_test s s (λ b. (cond b (record (p.stop s) { standing = put (p.stop s).standing me (Completed a v); ending = Last me }) (p.stop s)).is_open ≡
@@ -279,7 +279,7 @@ module _ (u : Setup) (p : Present) (at : Word → ℕ) (seat : ℕ → Seat) (h 
     pub step_answers : (job : Work) (a l v : ℕ) → seat me ≡ In s job a l Rests → v ≢ 0 → (a ≡ 4) ⊎ ((p.stop s).phase ≡ 0) → IsNot me (p.stop s).raising →
         irq_of (seat me) ≡ true →
         PresentShows u (moved p s (stands (p.stop s) me (Answering a v)) p.inside p.irq p.readings) (put_word at (Slot s Result) v)
-            (put seat me (Gives s job a v))
+        (put seat me (Gives s job a v))
     step_answers job a l v is some through quiet on =
         let to = Answering a v in
         let stop' = stands (p.stop s) me to in

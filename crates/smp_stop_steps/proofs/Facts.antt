@@ -87,9 +87,9 @@ module _ (u : Setup) (p : StopState) (at : Word → ℕ) (seat : ℕ → Seat) (
         go false e = h
         go true e =
             let may : may_call me job (Inside a l) ≡ true = sym (ap (λ (w : Work). may_call me w ((p.now.stop s).standing me)) st.3 ∙ ap (may_call me job)
-                st.1) ∙ e in
+            st.1) ∙ e in
             let calls : IsCalling me (In s job a l Rests) (Calls called) = ((ap (λ (w : Work). w.func) st.3, work_words.arg), call_may me job a l may) in
-                record {
+            record {
               setup = h.setup;
               present = h.present;
               gate = h.gate;
@@ -115,9 +115,11 @@ module _ (u : Setup) (p : StopState) (at : Word → ℕ) (seat : ℕ → Seat) (
     pub todo_bounds : (0 < at (Slot s Todo)) × (at (Slot s Todo) ≤ u.cpus)
     todo_bounds =
         let most = sum_most (λ c. unfinished ((p.now.stop s).standing c)) u.cpus (λ c. unfinished_most ((p.now.stop s).standing c)) in
-        let is_todo = shown.todo in
-        (more (at (Slot s Todo)) (λ z. let none = sum_zero (λ c. unfinished ((p.now.stop s).standing c)) u.cpus (sym is_todo ∙ z) me inside_keeps.0 in
-            let one_ : unfinished ((p.now.stop s).standing me) ≡ 1 = ap unfinished st.1 in omega arith), omega arith)
+        let is_todo = shown.todo in (
+          more (at (Slot s Todo)) (λ z. let none = sum_zero (λ c. unfinished ((p.now.stop s).standing c)) u.cpus (sym is_todo ∙ z) me inside_keeps.0 in
+              let one_ : unfinished ((p.now.stop s).standing me) ≡ 1 = ap unfinished st.1 in omega arith),
+          omega arith,
+        )
       where
         more : (n : ℕ) → n ≢ 0 → 0 < n
         more zero ne = absurd (ne refl)
@@ -129,15 +131,17 @@ module _ (u : Setup) (p : StopState) (at : Word → ℕ) (seat : ℕ → Seat) (
       let o = (h.present.slots s).shows (is_open_inside u.cpus (p.now.stop s) (λ f. at (Slot s f)) (h.present.slots s) me (Inside a (a + 1)) is refl) in
       let k = keeps_inside u.cpus (p.now.stop s) (λ f. at (Slot s f)) (h.present.slots s) me (Inside a (a + 1)) is in
       let phase : (p.now.stop s).phase ≡ a + 1 = ⊎_elim (λ (e : a + 1 ≡ a). absurd (omega arith)) (λ (e : (a + 1 ≡ a + 1) × ((p.now.stop s).phase ≡ a + 1)).
-          e.1) k.2 in
+      e.1) k.2 in
       let busy : (p.now.stop s).phase ≢ 0 = λ z. omega arith in
       let none = nobody_raises u.cpus (p.now.stop s) (at (Slot s Ack)) me a (a + 1) (p.now.stop s).raising is k.0 (λ e. omega arith) (o.ack busy) in
       let counted : at (Slot s Ack) ≡ count_behind u.cpus (p.now.stop s).phase (p.now.stop s).standing = subst (λ r. AckShows u.cpus (p.now.stop s).phase
-          (p.now.stop s).standing r (at (Slot s Ack))) none (o.ack busy) in
+      (p.now.stop s).standing r (at (Slot s Ack))) none (o.ack busy) in
       let most = sum_most (λ c. behind (p.now.stop s).phase ((p.now.stop s).standing c)) u.cpus (λ c. behind_most (p.now.stop s).phase
-          ((p.now.stop s).standing c)) in
-      (more (at (Slot s Ack)) (λ z. none_raises u.cpus (p.now.stop s).phase (p.now.stop s).standing me a (a + 1) is k.0 (λ e. omega arith)
-          (sym counted ∙ z)), omega arith)
+      ((p.now.stop s).standing c)) in (
+        more (at (Slot s Ack)) (λ z. none_raises u.cpus (p.now.stop s).phase (p.now.stop s).standing me a (a + 1) is k.0 (λ e. omega arith)
+            (sym counted ∙ z)),
+        omega arith,
+      )
     where
       more : (n : ℕ) → n ≢ 0 → 0 < n
       more zero ne = absurd (ne refl)
@@ -158,9 +162,11 @@ module _ (u : Setup) (p : StopState) (at : Word → ℕ) (seat : ℕ → Seat) (
       let o = (h.present.slots s).shows (is_open_inside u.cpus (p.now.stop s) (λ f. at (Slot s f)) (h.present.slots s) me (Answering a v) now.1 refl) in
       let k = keeps_inside u.cpus (p.now.stop s) (λ f. at (Slot s f)) (h.present.slots s) me (Answering a v) now.1 in
       let most = sum_most (λ c. unfinished ((p.now.stop s).standing c)) u.cpus (λ c. unfinished_most ((p.now.stop s).standing c)) in
-      let is_todo = o.todo in
-      (more (at (Slot s Todo)) (λ z. let none = sum_zero (λ c. unfinished ((p.now.stop s).standing c)) u.cpus (sym is_todo ∙ z) me k.0 in
-          let one_ : unfinished ((p.now.stop s).standing me) ≡ 1 = ap unfinished now.1 in omega arith), omega arith)
+      let is_todo = o.todo in (
+        more (at (Slot s Todo)) (λ z. let none = sum_zero (λ c. unfinished ((p.now.stop s).standing c)) u.cpus (sym is_todo ∙ z) me k.0 in
+            let one_ : unfinished ((p.now.stop s).standing me) ≡ 1 = ap unfinished now.1 in omega arith),
+        omega arith,
+      )
     where
       more : (n : ℕ) → n ≢ 0 → 0 < n
       more zero ne = absurd (ne refl)

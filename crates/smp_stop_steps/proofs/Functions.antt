@@ -41,21 +41,23 @@ module _ (u : Setup) (p : StopState) (at : Word → ℕ) (seat : ℕ → Seat) (
       go Free e k = absurd k
       go (In s w a l t) e k =
           let st : Stands p.now c (In s w a l t) = subst (Stands p.now c) e (h.present.stands c) in
-          let work : w ≡ (p.now.stop s).work = sym st.3 in
-          (s, record {
-            inside = st.0;
-            is_call = subst (λ (x : Work). IsCallOf x call) work k.0;
-            runs = ⊎_elim (λ (one : w.kind ≡ One). inl (ap (λ (x : Work). x.kind) (sym work) ∙ one))
-                (λ (m : (a ≡ 2) × (l ≡ 3) × (calls_at_run c w ≡ true)).
-                let b = both_true (has w.active c) (is_multi w.kind) m.2 in
-                let stands : (p.now.stop s).standing c ≡ Inside 2 3 = st.1 ∙ (ap (λ n. Inside n l) m.0 ∙ ap (Inside 2) m.1) in
-                inr record {
-                  multi = ap (λ (x : Work). x.kind) (sym work) ∙ multi_kind w.kind b.1;
-                  active = ap (λ (x : Work). has x.active c) (sym work) ∙ b.0;
-                  stands = stands;
-                  alone = runs_alone s c stands;
-                }) k.1.1;
-          })
+          let work : w ≡ (p.now.stop s).work = sym st.3 in (
+            s,
+            record {
+              inside = st.0;
+              is_call = subst (λ (x : Work). IsCallOf x call) work k.0;
+              runs = ⊎_elim (λ (one : w.kind ≡ One). inl (ap (λ (x : Work). x.kind) (sym work) ∙ one))
+                  (λ (m : (a ≡ 2) × (l ≡ 3) × (calls_at_run c w ≡ true)).
+                  let b = both_true (has w.active c) (is_multi w.kind) m.2 in
+                  let stands : (p.now.stop s).standing c ≡ Inside 2 3 = st.1 ∙ (ap (λ n. Inside n l) m.0 ∙ ap (Inside 2) m.1) in
+                  inr record {
+                    multi = ap (λ (x : Work). x.kind) (sym work) ∙ multi_kind w.kind b.1;
+                    active = ap (λ (x : Work). has x.active c) (sym work) ∙ b.0;
+                    stands = stands;
+                    alone = runs_alone s c stands;
+                  }) k.1.1;
+            },
+          )
       go (Gives s w a v) e k =
           let st : Stands p.now c (Gives s w a v) = subst (Stands p.now c) e (h.present.stands c) in
           (s, record { inside = st.0; is_call = subst (λ (x : Work). IsCallOf x call) (sym st.3) k.0; runs = inl (ap (λ (x : Work). x.kind) st.3 ∙ k.1) })

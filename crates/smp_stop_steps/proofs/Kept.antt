@@ -24,8 +24,13 @@ module _ (u : Setup) (gate : Option ℕ) (s : ℕ) where
   pub source_same : (stop : Stop) (word word' : Field → ℕ) → ((f : Field) → word' f ≡ word f) → (x : Source) → SourceShows u gate stop word s x →
       SourceShows u gate stop word' s x
   source_same stop word word' same Shut h = h
-  source_same stop word word' same (Drafts work k) h = record { shut = h.shut; holds = h.holds; is_work = h.is_work; stored = λ f l. same f ∙ h.stored f l;
-      told = h.told }
+  source_same stop word word' same (Drafts work k) h = record {
+    shut = h.shut;
+    holds = h.holds;
+    is_work = h.is_work;
+    stored = λ f l. same f ∙ h.stored f l;
+    told = h.told;
+  }
   source_same stop word word' same (Owns work) h = h
   source_same stop word word' same (Collects work) h = h
 
@@ -36,8 +41,11 @@ module _ (u : Setup) (gate : Option ℕ) (s : ℕ) where
   source_open stop stop' word word' was now same end Shut h = let bad : true ≡ false = sym was ∙ h in cc
   source_open stop stop' word word' was now same end (Drafts work k) h = let bad : true ≡ false = sym was ∙ h.shut in cc
   source_open stop stop' word word' was now same end (Owns work) h = record { is_open = now; work_is = same ∙ h.work_is; is_work = h.is_work }
-  source_open stop stop' word word' was now same end (Collects work) h = (record { is_open = now; work_is = same ∙ h.0.work_is; is_work = h.0.is_work }, end
-      h.1)
+  source_open stop stop' word word' was now same end (Collects work) h = (
+    record { is_open = now; work_is = same ∙ h.0.work_is; is_work = h.0.is_work },
+    end
+        h.1,
+  )
 
 -- the past, where nothing begins, is answered or collected
 pub past_same : (stop stop' : Stop) (begun : List Work) (collected : List ℕ) (answers : ℕ → List ℕ) → stop'.is_open ≡ stop.is_open →
@@ -77,10 +85,10 @@ pub record IsEarly (first s : ℕ) (old new : Stop) : Type 0 where
 pub owns_kept : (first : ℕ) (n : Present) (key : ℕ → ℕ) (s : ℕ) (stop' : Stop) (inside' : ℕ → Option ℕ) (irq' : ℕ → Bool) (readings' : ℕ → List Reading)
     (patching' : Patching) →
     StaysOpen (n.stop s) stop' → IsEarly first s (n.stop s) stop' → ((j : ℕ) → OwnsKey first n key j) → (j : ℕ) →
-        OwnsKey first (after n s stop' inside' irq' readings' patching') key j
+    OwnsKey first (after n s stop' inside' irq' readings' patching') key j
 owns_kept first n key s stop' inside' irq' readings' patching' stays early own j =
     at_test j s (λ b. let x = cond b stop' (n.stop j) in x.is_open ≡ true → x.work.kind ≡ Patch → is_inside (x.standing j) ≡ true →
-        3 ≤ acked (x.standing first) → StandsSet x.work (key x.work.func))
+    3 ≤ acked (x.standing first) → StandsSet x.work (key x.work.func))
     (λ e op kind in_ late.
     let i = early.inside (subst (λ k. is_inside (stop'.standing k) ≡ true) e in_) in
     let o = own s stays.was (ap (λ (w : Work). w.kind) (sym stays.work) ∙ kind) i (early.late late) in
@@ -90,8 +98,15 @@ owns_kept first n key s stop' inside' irq' readings' patching' stays early own j
 -- the past, by the answers of each CPU
 pub past_answers : (stop : Stop) (begun : List Work) (collected : List ℕ) (answers answers' : ℕ → List ℕ) → ((c : ℕ) → answers' c ≡ answers c) →
     HasPast stop begun collected answers → HasPast stop begun collected answers'
-past_answers stop begun collected answers answers' same h = (h.0, record { each = h.1.each; begun_are = h.1.begun_are; collected_are = h.1.collected_are;
-    answers_are = λ c. same c ∙ h.1.answers_are c })
+past_answers stop begun collected answers answers' same h = (
+  h.0,
+  record {
+    each = h.1.each;
+    begun_are = h.1.begun_are;
+    collected_are = h.1.collected_are;
+    answers_are = λ c. same c ∙ h.1.answers_are c;
+  },
+)
 
 module _ (u : Setup) (p : StopState) (at : Word → ℕ) (seat : ℕ → Seat) (source : ℕ → Source) (h : StopShows u p at seat source) (s : ℕ) (stop' : Stop)
     (inside' : ℕ → Option ℕ) (irq' : ℕ → Bool) (readings' : ℕ → List Reading) (patching' : Patching) (at' : Word → ℕ) (seat' : ℕ → Seat) where
@@ -103,8 +118,14 @@ module _ (u : Setup) (p : StopState) (at : Word → ℕ) (seat : ℕ → Seat) (
       ((j : ℕ) → OwnsKey u.first (after p.now s stop' inside' irq' readings' patching') (λ k. at' (Key k)) j) →
       PresentShows u (after p.now s stop' inside' irq' readings' patching') at' seat' →
       ((c : ℕ) → IsCalling c (seat' c) (calling' c)) → AreClosing (after p.now s stop' inside' irq' readings' patching') seat' →
-      StopShows u (record p { now = after p.now s stop' inside' irq' readings' patching'; answers = answers'; looks = looks'; calls = calls'; calling =
-          calling' }) at' seat' source
+      StopShows u (record p {
+        now = after p.now s stop' inside' irq' readings' patching';
+        answers = answers';
+        looks = looks';
+        calls = calls';
+        calling =
+            calling';
+      }) at' seat' source
   open_step_with looks' calls' calling' answers' was now work end gate keys slots past own present callings closing = record {
     setup = h.setup;
     present = present;
@@ -132,7 +153,7 @@ module _ (u : Setup) (p : StopState) (at : Word → ℕ) (seat : ℕ → Seat) (
       (λ j. at_test j s (λ b. HasPast (cond b stop' (p.now.stop j)) (p.begun j) (p.collected j) (λ c. p.answers c j))
       (λ e. let P : ℕ → Type 0 = λ k. HasPast stop' (p.begun k) (p.collected k) (λ c. p.answers c k) in
       subst P (sym e) (past_same (p.now.stop s) stop' (p.begun s) (p.collected s) (λ c. p.answers c s) (stays.now ∙ sym stays.was) (λ _. stays.work)
-          stays.given (h.past s)))
+      stays.given (h.past s)))
       (λ ne. h.past j)) own present callings closing
 
 -- the words of other slots, where one field of one slot was changed

@@ -65,7 +65,7 @@ module _ (p : StopState) (at : Word → ℕ) (seat : ℕ → Seat) (source : ℕ
       let mine : p0.calling v.number ≡ g = put_here p.calling v.number g in
       let calls : IsCalling v.number (Gives s w a x) (p0.calling v.number) = subst (IsCalling v.number (Gives s w a x)) (sym mine)
       (calling_given v.number s w a l x g some through (sym (answers x f called)) (subst (λ y. IsCalling v.number y g) here
-          (subst (IsCalling v.number (seat v.number)) mine (h0.callings v.number)))) in
+      (subst (IsCalling v.number (seat v.number)) mine (h0.callings v.number)))) in
       let known : slot_stored field.Result x v ≡ record v { seat = Gives s w a x } =
       ap (λ b. cond b (drafted_known field.Result x v) (member_stored field.Result x v)) idle ∙ ap (λ y. record v { seat = given_by x y }) is in
       let k = sees.part_is in
@@ -119,7 +119,7 @@ module _ (p : StopState) (at : Word → ℕ) (seat : ℕ → Seat) (source : ℕ
       let found = at (Slot s field.Todo) in
       let at' = put_word at (Slot s field.Todo) (found - 1) in
       StopShows u (completes_with p v.number s a x found) at' (put seat v.number (cond (found == 1) (Closes s) Free)) source →
-          Goes at' (completed_with found s w x v)
+      Goes at' (completed_with found s w x v)
   counted_goes s w a x low shown =
       let found = at (Slot s field.Todo) in
       goes_seat p seat source v sees (completes_with p v.number s a x found) (put_word at (Slot s field.Todo) (found - 1)) (cond (found == 1) (Closes s) Free)

@@ -78,7 +78,7 @@ module _ (p : StopState) (at : Word → ℕ) (seat : ℕ → Seat) (source : ℕ
   -- where interrupts are on, a load of a key is a reading
   key_plain : (k found : ℕ) (x : Seat) → v.seat ≡ x → irq_of x ≡ true →
       (key_loaded u p.now v.number k found (p.now.inside v.number) ≡ reads p.now v.number (ReadKey k (is_on found))) × (key_loaded_by k found x v ≡
-          reads_more (ReadKey k (is_on found)) v)
+      reads_more (ReadKey k (is_on found)) v)
   key_plain k found Free e on = (ap (λ i. key_loaded u p.now v.number k found i) (stands p at seat source v h sees Free e), refl)
   key_plain k found (In s w a l t) e on =
       let st = stands p at seat source v h sees (In s w a l t) e in
@@ -87,7 +87,7 @@ module _ (p : StopState) (at : Word → ℕ) (seat : ℕ → Seat) (source : ℕ
       let plain = reads p.now v.number (ReadKey k (is_on found)) in (
         ap (λ i. key_loaded u p.now v.number k found i) st.0
             ∙ (ap (λ y. cond (is_at_run y && is_patch (p.now.stop s).work.kind) patch plain) st.1 ∙ ap (λ b. cond (b && is_patch (p.now.stop s).work.kind)
-                patch plain) calm),
+            patch plain) calm),
         ap (λ b. cond (b && is_patch w.kind) (record v { seat = Alters s w found [] (plan_at u w found) }) (reads_more (ReadKey k (is_on found)) v)) calm,
       )
   key_plain k found (Gives s w a x) e on =
@@ -158,19 +158,21 @@ module _ (p : StopState) (at : Word → ℕ) (seat : ℕ → Seat) (source : ℕ
       let plain : key_loaded u p.now v.number w.func found (p.now.inside v.number) ≡ patch =
       ap (λ i. key_loaded u p.now v.number w.func found i) st.0
       ∙ (ap (λ y. cond (is_at_run y && is_patch (p.now.stop s).work.kind) patch reading) st.1 ∙ ap (λ k. cond (is_patch k) patch reading)
-          (ap (λ (z : Work). z.kind) st.3 ∙ kind)) in
+      (ap (λ (z : Work). z.kind) st.3 ∙ kind)) in
       let known : key_loaded_by w.func found v.seat v ≡ record v { seat = next } =
       ap (λ x. key_loaded_by w.func found x v) is ∙ ap (λ k. cond (is_patch k) (record v { seat = next }) (reads_more r v)) kind in
       subst (λ q. Goes at q) (sym known)
       (goes_seat p seat source v sees (record p { now = patch }) at next v.part
       (subst (λ n. StopShows u (record p { now = n }) at (put seat v.number next) source) plain (key_loaded_first u p at seat source h v.number s w 0
-          (sees.seat_is ∙ is) kind active))
+      (sees.seat_is ∙ is) kind active))
       record { mine = sees.part_is; others = λ c ne. refl })
 
   -- the counts that this CPU has moved as a runner of patches
   patched_leaves : (k count n : ℕ) (now : Present) → k < MOST_KEYS → ((c : ℕ) → now.readings c ≡ p.now.readings c) →
-      Leaves v.number p (record p { now = now; patched = moved_by p.patched v.number k count n }) (record (v.part) { patched = counted v.part.patched k
-          count n })
+      Leaves v.number p (record p { now = now; patched = moved_by p.patched v.number k count n }) (record (v.part) {
+        patched = counted v.part.patched k
+            count n;
+      })
   patched_leaves k count n now low same = let parts = sees.part_is in record {
     mine = record {
       holds = parts.holds;
@@ -185,7 +187,7 @@ module _ (p : StopState) (at : Word → ℕ) (seat : ℕ → Seat) (source : ℕ
     };
     others = λ c ne.
         ap (λ x. record (columns_of p c) { readings = now.readings c; patched = x }) (put_else p.patched v.number (put (p.patched v.number) k
-            (moves (p.patched v.number k) count n)) c ne)
+        (moves (p.patched v.number k) count n)) c ne)
         ∙ ap (λ l. record (columns_of p c) { readings = l }) (same c);
   }
 
@@ -213,5 +215,5 @@ module _ (p : StopState) (at : Word → ℕ) (seat : ℕ → Seat) (source : ℕ
       let p' = told u p v.number act.Store (Site i) None (Some n) 0 in
       subst (λ y. Goes (put_word at (Site i) n) (record v { seat = altered_by y })) (sym is)
       (goes_seat p seat source v sees p' (put_word at (Site i) n) next v.part (site_stored u p at seat source h v.number s w count made rest i n 0
-          (sees.seat_is ∙ is))
+      (sees.seat_is ∙ is))
       record { mine = sees.part_is; others = λ c ne. refl })

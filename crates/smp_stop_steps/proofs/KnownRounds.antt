@@ -119,7 +119,7 @@ module _ (p : StopState) (at : Word → ℕ) (seat : ℕ → Seat) (source : ℕ
 
       go : (b : Bool) → has (at (Slot s field.Roll)) v.number ≡ b →
           Goes (put_word at (Slot s field.Roll) (bit_and (at (Slot s field.Roll)) (all_but v.number)))
-              (cond b (record v { seat = In s (p.now.stop s).work 0 0 Rests }) v)
+          (cond b (record v { seat = In s (p.now.stop s).work 0 0 Rests }) v)
       go true found =
           let n = bit_and (at (Slot s field.Roll)) (all_but v.number) in
           let at' = put_word at (Slot s field.Roll) n in
@@ -197,20 +197,20 @@ module _ (p : StopState) (at : Word → ℕ) (seat : ℕ → Seat) (source : ℕ
       Leaves v.number p (record p { now = n; calls = calls; calling = calling }) part
   acked_leaves n calls calling part mine others calls_mine calls_others same = let k = sees.part_is in
       subst (Leaves v.number p (record p { now = n; calls = calls; calling = calling })) (sym same) record {
-    mine = record {
-      holds = k.holds;
-      begun = k.begun;
-      collected = k.collected;
-      answers = k.answers;
-      looks = k.looks;
-      calling = calls_mine;
-      readings = mine;
-      nudged = k.nudged;
-      patched = k.patched;
-    };
-    others = λ c ne. ap (λ x. record (columns_of p c) { readings = n.readings c; calling = told_calling x }) (calls_others c ne) ∙ ap
-        (λ x. record (columns_of p c) { readings = x }) (others c ne);
-  }
+        mine = record {
+          holds = k.holds;
+          begun = k.begun;
+          collected = k.collected;
+          answers = k.answers;
+          looks = k.looks;
+          calling = calls_mine;
+          readings = mine;
+          nudged = k.nudged;
+          patched = k.patched;
+        };
+        others = λ c ne. ap (λ x. record (columns_of p c) { readings = n.readings c; calling = told_calling x }) (calls_others c ne) ∙ ap
+            (λ x. record (columns_of p c) { readings = x }) (others c ne);
+      }
 
   pub acknowledge : (s : ℕ) (w : Work) (a : ℕ) → v.seat ≡ In s w a (a + 1) Rests → (a ≡ 2 → HasCalled v.number w v.part.calling) →
       let found = at (Slot s field.Ack) in
@@ -224,8 +224,11 @@ module _ (p : StopState) (at : Word → ℕ) (seat : ℕ → Seat) (source : ℕ
       let next = In s w (a + 1) (a + 1) (cond (found == 1) Fills Rests) in
       let p' = acknowledges p v.number s (Inside a (a + 1)) found in
       let leaves_it = a + 1 == 4 && not (found == 1) in
-      let n : Present = record (p.now) { stop = put p.now.stop s (acknowledged (p.now.stop s) v.number (a + 1) found); patching = cond (a + 1 == 3)
-          (unpatched v.number p.now.patching) p.now.patching } in
+      let n : Present = record (p.now) {
+        stop = put p.now.stop s (acknowledged (p.now.stop s) v.number (a + 1) found);
+        patching = cond (a + 1 == 3)
+            (unpatched v.number p.now.patching) p.now.patching;
+      } in
       let part = ran_since (a + 1 == 3) (read_since leaves_it s w v) in
       let alone = carried_alone u.first p.now.patching seat v.number (p.calling v.number) (subst IsNoPatch (sym here) tt) h.present.runner in
       subst (λ x. Goes (put_word at (Slot s field.Ack) x) (acked_by found v.seat v)) (sym (less_one found bounds.0 (small found bounds.1)))
@@ -233,12 +236,12 @@ module _ (p : StopState) (at : Word → ℕ) (seat : ℕ → Seat) (source : ℕ
       (goes_seat p seat source v sees p' at' next part
       (subst (λ (x : Standing). StopShows u (acknowledges p v.number s x found) at' (put seat v.number next) source) st.1
       (ack_subtracted u p at seat source h s v.number w a 0 here (λ two. has_called w (p.calling v.number) (subst (HasCalled v.number w)
-          (sym sees.part_is.calling) (ready two)))))
+      (sym sees.part_is.calling) (ready two)))))
       (acked_leaves (acknowledges_now p.now v.number s (a + 1) found) p'.calls p'.calling part
       (left_mine leaves_it n s (p.now.stop s).work w st.3 refl)
       (left_other leaves_it n s (p.now.stop s).work refl)
       (ran_mine (a + 1 == 3) (carried v.number p.now.patching (p.calling v.number)) (ap told_calling alone ∙ (told_carried (p.calling v.number) ∙ ap
-          carried_call sees.part_is.calling)))
+      carried_call sees.part_is.calling)))
       (ran_other (a + 1 == 3) (carried v.number p.now.patching (p.calling v.number))) refl)))
 
   pub acknowledge_patch : (s : ℕ) (w : Work) (count : ℕ) (made : List Change) → v.seat ≡ Alters s w count made [] →
@@ -253,7 +256,7 @@ module _ (p : StopState) (at : Word → ℕ) (seat : ℕ → Seat) (source : ℕ
       let next = In s w 3 3 (cond (found == 1) Fills Rests) in
       let own : carried v.number p.now.patching (p.calling v.number) ≡ Carries (patch_answer w count) =
       ap (λ x. carried v.number x (p.calling v.number)) st.5 ∙ ap (λ b. cond b (Carries (patch_answer w count)) (carried_call (p.calling v.number)))
-          (eq-eqb v.number v.number refl) in
+      (eq-eqb v.number v.number refl) in
       let p' = acknowledges p v.number s (Inside 2 3) found in
       subst (λ x. Goes (put_word at (Slot s field.Ack) x) (acked_by found v.seat v)) (sym (less_one found bounds.0 (small found bounds.1)))
       (subst (λ x. Goes at' (acked_by found x v)) (sym is)
@@ -287,7 +290,7 @@ module _ (p : StopState) (at : Word → ℕ) (seat : ℕ → Seat) (source : ℕ
           let k = sees.part_is in
           let p' = record p { calling = put p.calling v.number (Calls call) } in
           let plain : told u p v.number act.Load (Slot s field.Arg) (Some (at (Slot s field.Arg))) None 0 ≡ p' =
-              ap (λ b. cond b (calls_now p v.number (p.now.stop s).work (at (Slot s field.Arg)) 0) p) (is_may ∙ e)
+          ap (λ b. cond b (calls_now p v.number (p.now.stop s).work (at (Slot s field.Arg)) 0) p) (is_may ∙ e)
           ∙ ap (λ (x : Work). record p { calling = put p.calling v.number (Calls (record { func = x.func; arg = at (Slot s field.Arg); answer = 0 })) }) st.3 in
           goes_still p seat source v sees p' at (record (v.part) { calling = Calls call })
           (subst (λ q. StopShows u q at seat source) plain (arg_loaded u p at seat source h s v.number w a l Rests here 0 refl))

@@ -250,7 +250,7 @@ module _ (p : StopState) (at : Word → ℕ) (seat : ℕ → Seat) (source : ℕ
       goes p seat source v sees p' at' seat (put drafting v.number next) v.seat (told_source next) v.part
       (subst (λ q. StopShows u q at' seat (put drafting v.number next)) plain
       (field_stored u p at seat drafting (restaged (Drafts work (order f)) d) v.number work (order f) f 0 (put_here source v.number (Drafts work (order f)))
-          refl low))
+      refl low))
       record { mine = sees.part_is; others = λ c ne. refl }
       sees.seat_is (ap told_source (put_here drafting v.number next)) (subst IsBegun (sym (put_here drafting v.number next)) (omega arith))
       (λ c ne. refl) (λ c ne. put_else drafting v.number next c ne ∙ put_else source v.number (Drafts work (order f)) c ne)
@@ -260,15 +260,21 @@ module _ (p : StopState) (at : Word → ℕ) (seat : ℕ → Seat) (source : ℕ
   draft work shut holds is =
       let closed : (p.now.stop v.number).is_open ≡ false = source_here Shut (is_shut (source v.number) (sees.source_is ∙ shut)) in
       subst (λ (k : KindOf). Goes (put_word at (Slot v.number field.Kind) (begun_value cpus work field.Kind))
-          (record v { source = Drafts (record { kind = k; mask = 0; active = 0; func = 0; arg = 0 }) 1 }))
+      (record v { source = Drafts (record { kind = k; mask = 0; active = 0; func = 0; arg = 0 }) 1 }))
       (sym (kind_back work.kind))
       (field_goes work field.Kind record {
         shut = closed;
         holds = holder p.gate v.number (sees.part_is.holds ∙ holds);
         is_work = is;
         stored = λ f l. absurd (omega arith);
-        told = record { kind = λ l. absurd (omega arith); mask = λ l. absurd (omega arith); active = λ l. absurd (omega arith); func =
-            λ l. absurd (omega arith); arg = λ l. absurd (omega arith) };
+        told = record {
+          kind = λ l. absurd (omega arith);
+          mask = λ l. absurd (omega arith);
+          active = λ l. absurd (omega arith);
+          func =
+              λ l. absurd (omega arith);
+          arg = λ l. absurd (omega arith);
+        };
       } (omega arith))
 
   pub draft_more : (work : Work) (f : Field) → v.source ≡ Drafts (told_work (order f) work) (order f) → IsWork u work → order f ≢ 0 → order f < 10 →
@@ -280,7 +286,7 @@ module _ (p : StopState) (at : Word → ℕ) (seat : ℕ → Seat) (source : ℕ
       let d : DraftShows u p.gate (p.now.stop v.number) (λ f. at (Slot v.number f)) v.number y.work k = source_here (Drafts y.work k) y.is in
       let known : slot_stored f x v ≡ record v { source = Drafts (told_work (k + 1) work) (k + 1) } =
       stored_draft f x v ne low (ap is_drafting e) ∙ (ap (λ o. record v { source = drafts_more f x o }) e ∙ ap
-          (λ (z : Work). record v { source = Drafts z (k + 1) }) (draft_next f work ne low)) in
+      (λ (z : Work). record v { source = Drafts z (k + 1) }) (draft_next f work ne low)) in
       subst (λ q. Goes (put_word at (Slot v.number f) x) q) (sym known)
       (field_goes work f record {
         shut = d.shut;
@@ -336,7 +342,7 @@ module _ (p : StopState) (at : Word → ℕ) (seat : ℕ → Seat) (source : ℕ
           let o : OwnerShows u (p.now.stop v.number) w = source_here (Owns w) there in
           let one : at (Slot v.number field.Done) ≡ 1 =
           done_is u.cpus (p.now.stop v.number).standing (p.now.stop v.number).ending (at (Slot v.number field.Done)) ((h.present.slots v.number).shows
-              o.is_open).done e in
+          o.is_open).done e in
           goes_source p seat source v sees p at (Collects w) (Collects w) v.part (done_loaded u p at seat source h v.number w there one) unmoved_columns refl tt
 
   pub collect : (w : Work) → v.source ≡ Collects w → Goes at (collected_known (at (Slot v.number field.Result)) v)

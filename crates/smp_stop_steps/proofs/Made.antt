@@ -24,12 +24,12 @@ module _ (v : StopsValue) (sound : AreSoundStops v.online v.labels v.table v.con
       (tells (setup_of v.online v.labels) p (stop_seen_at v cpu stage) (answer_at stage)) table' controls'
   made_told p shown =
       let now : StopsShow (setup_of v.online v.labels) (tells (setup_of v.online v.labels) p (stop_seen_at v cpu stage) (answer_at stage))
-          (stop_stepped v cpu stage).table (stop_stepped v cpu stage).controls =
+      (stop_stepped v cpu stage).table (stop_stepped v cpu stage).controls =
       stop_value_shown (setup_of v.online v.labels) refl p v.table v.controls shown sound.sized sound.table_is cpu stage m.at_stage in
       subst (λ (t : StopWords). StopsShow (setup_of v.online v.labels) (tells (setup_of v.online v.labels) p (stop_seen_at v cpu stage) (answer_at stage)) t
-          controls') (sym m.is_table)
+      controls') (sym m.is_table)
       (subst (λ (c : List StopControlValue). StopsShow (setup_of v.online v.labels) (tells (setup_of v.online v.labels) p (stop_seen_at v cpu stage)
-          (answer_at stage)) (stop_stepped v cpu stage).table c) (sym m.is_controls) now)
+      (answer_at stage)) (stop_stepped v cpu stage).table c) (sym m.is_controls) now)
 
   pub made_sound : AreSoundStops v.online v.labels table' controls'
   made_sound = record {

@@ -75,10 +75,20 @@ module _ (p : Present) (s me : ℕ) (stop' : Stop) (inside' : ℕ → Option ℕ
 
     pub stands_kept : (seat : Seat) → Stands p c seat → Stands (moved p s stop' inside' irq' readings') c seat
     stands_kept Free h = same ∙ h
-    stands_kept (In j w a l t) h = (same ∙ h.0, standing_kept j (Inside a l) refl h.1, turn_kept j t (Inside a l) refl h.1 h.2, work_kept j (Inside a l) w
-        refl h.1 h.3)
-    stands_kept (Gives j w a v) h = (same ∙ h.0, standing_kept j (Answering a v) refl h.1, turn_kept j Rests (Answering a v) refl h.1 h.2, work_kept j
-        (Answering a v) w refl h.1 h.3)
+    stands_kept (In j w a l t) h = (
+      same ∙ h.0,
+      standing_kept j (Inside a l) refl h.1,
+      turn_kept j t (Inside a l) refl h.1 h.2,
+      work_kept j (Inside a l) w
+          refl h.1 h.3,
+    )
+    stands_kept (Gives j w a v) h = (
+      same ∙ h.0,
+      standing_kept j (Answering a v) refl h.1,
+      turn_kept j Rests (Answering a v) refl h.1 h.2,
+      work_kept j
+          (Answering a v) w refl h.1 h.3,
+    )
     stands_kept (Alters j w count made rest) h =
         (same ∙ h.0, standing_kept j (Inside 2 3) refl h.1, turn_kept j Rests (Inside 2 3) refl h.1 h.2, work_kept j (Inside 2 3) w refl h.1 h.3, h.4, h.5)
     stands_kept (Closes j) h = let e = put_all (λ j x. (p.stop j).is_open ≡ true → (p.stop j).ending ≡ Last c → (x.is_open ≡ true) × (x.ending ≡ Last c))

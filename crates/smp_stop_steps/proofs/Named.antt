@@ -155,9 +155,9 @@ module _ (u : Setup) (p : StopState) (at : Word → ℕ) (seat : ℕ → Seat) (
               let st : Stands p.now me (Alters v.slot work count before (change ∷ rest)) = subst (Stands p.now me) is (h.present.stands me) in
               let key = key_below v.slot work (open_alters v.slot work count before (change ∷ rest) is) st.3 st.4 in
               let all : AllByRecursion IsNamedChange (plan_at u work count) = plan_named work key (count_set work count) (count == count_set work count)
-                  (xor (is_on count) (is_on (count_set work count))) in
+              (xor (is_on count) (is_on (count_set work count))) in
               let here : change_at c.changes made ≡ change = ap (λ l. change_at l made) are ∙ (ap (λ n. change_at (before ++ change ∷ rest) n) (sym long) ∙
-                  change_here before change rest) in
+              change_here before change rest) in
               subst (λ (x : Change). IsStopWord (word_of (store_of x))) (sym here)
               (named_store change (at_split before change rest (subst (AllByRecursion IsNamedChange) (sym plan ∙ are) all)))
             where
@@ -169,7 +169,7 @@ module _ (u : Setup) (p : StopState) (at : Word → ℕ) (seat : ℕ → Seat) (
       round_named v (round.Acknowledge answer ran) x = ⊎_elim
           (λ (y : (seat me ≡ In v.slot x.0 v.acked (v.acked + 1) Rests) × RunsIf me v ran). below_in v.slot x.0 v.acked (v.acked + 1) Rests y.0)
           (λ (y : (v.acked ≡ 2) × (ran ≡ true) × ((count : ℕ) × (answer ≡ patch_answer x.0 count) × (seat me ≡ Alters v.slot x.0 count (plan_at u x.0 count)
-              []))). below_alters v.slot x.0 y.2.0 (plan_at u x.0 y.2.0) [] y.2.2) x.3
+          []))). below_alters v.slot x.0 y.2.0 (plan_at u x.0 y.2.0) [] y.2.2) x.3
       round_named v (round.Refill ran) x = below_in v.slot x.0 v.acked v.acked Fills x.2
       round_named v (round.Raise ran) x = below_in v.slot x.0 v.acked v.acked Sets x.2
 
@@ -179,7 +179,7 @@ module _ (u : Setup) (p : StopState) (at : Word → ℕ) (seat : ℕ → Seat) (
       completion_named v completion.StoreAnswer x = below_in v.slot x.2.0 v.acked v.acked Rests x.2.2
       completion_named v completion.CountDown x = ⊎_elim
           (λ (y : (v.answer ≡ 0) × IsLoaded v x.0 × IsThroughAll v × (seat me ≡ In v.slot x.0 v.acked v.acked Rests)). below_in v.slot x.0 v.acked v.acked
-              Rests y.3)
+          Rests y.3)
           (λ (y : seat me ≡ Gives v.slot x.0 v.acked v.answer). below_gives v.slot x.0 v.acked v.answer y) x.1
 
       -- the word of the next access is in the table

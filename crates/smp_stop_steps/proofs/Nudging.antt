@@ -76,7 +76,7 @@ module _ (u : Setup) (p : StopState) (at : Word → ℕ) (seat : ℕ → Seat) (
       go (Some j) e =
           let begun = record (p.now) { patching = patch_begun u me (p.now.stop j).work (at (Key k)) } in
           subst (λ b. Reads k (cond (b && is_patch (p.now.stop j).work.kind) begun (reads p.now me (ReadKey k (is_on (at (Key k)))))))
-              (sym (not_run u p at seat source h me j on e)) read
+          (sym (not_run u p at seat source h me j on e)) read
 
   -- a nudge that is refused at the end of the range; after is the count that it would leave
   abbrev Refuses : (k : ℕ) → (after : Option ℕ) → Type 0

@@ -49,7 +49,7 @@ module _ (u : Setup) (p : Present) (at : Word → ℕ) (seat : ℕ → Seat) (h 
       let one_ : Some t ≡ Some s = sym (h.homes t s inside_t) ∙ h.homes s s in_ in
       let same : t ≡ s = cc in
       let two : acked ((p.stop s).standing u.first) ≡ 2 = ap (λ j. acked ((p.stop j).standing u.first)) (sym same) ∙
-          (ap (λ c. acked ((p.stop t).standing c)) (sym mine) ∙ ap acked st.1) in
+      (ap (λ c. acked ((p.stop t).standing c)) (sym mine) ∙ ap acked st.1) in
       absurd (omega arith)
     where
       inside_of : (x : Standing) → is_inside x ≡ true → is_of x ≡ true
@@ -70,4 +70,4 @@ module _ (u : Setup) (p : Present) (at : Word → ℕ) (seat : ℕ → Seat) (h 
       let of = mask_is s u.first open_ ∙ ((h.works s open_ kind).all u.first ∙ on) in
       let l = level_of u.cpus (p.stop s).phase u.first ((p.stop s).standing u.first) of ((h.slots s).keeps u.first) in
       own open_ kind in_ (⊎_elim (λ (t : acked ((p.stop s).standing u.first) ≡ (p.stop s).phase). omega arith)
-          (λ (t : acked ((p.stop s).standing u.first) + 1 ≡ (p.stop s).phase). omega arith) l)
+      (λ (t : acked ((p.stop s).standing u.first) + 1 ≡ (p.stop s).phase). omega arith) l)

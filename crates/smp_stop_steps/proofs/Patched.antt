@@ -84,7 +84,7 @@ module _ (u : Setup) (p : Present) (at : Word → ℕ) (seat : ℕ → Seat) (h 
       let f = function_law u.cpus (p.stop s) w (h.slots s) me is in
       let open_ = is_open_inside u.cpus (p.stop s) w (h.slots s) me (Inside 2 3) is refl in
       let of_it : is_of ((p.stop s).standing c) ≡ true = subst (λ b. is_of ((p.stop s).standing c) ≡ (b && has (p.stop s).work.mask c)) open_
-          ((h.slots s).members c) ∙ of in
+      ((h.slots s).members c) ∙ of in
       h.irq c ∙ go ((p.stop s).standing c) refl of_it f.at_run (f.all_disabled c of) ((h.slots s).keeps c)
     where
       go : (x : Standing) → (p.stop s).standing c ≡ x → is_of x ≡ true → (p.stop s).phase ≡ 3 → (acked x ≡ 2) ⊎ (acked x ≡ 3) →
@@ -93,7 +93,7 @@ module _ (u : Setup) (p : Present) (at : Word → ℕ) (seat : ℕ → Seat) (h 
       go Called e of run a k = absurd (⊎_elim (λ (t : 0 ≡ 2). omega arith) (λ (t : 0 ≡ 3). omega arith) a)
       go (Inside b l) e of run a k = off_inside p c s b l (seat c) (h.stands c) (h.homes s c (ap is_inside e)) e
           (⊎_elim (λ (t : l ≡ b). ⊎_elim (λ (u : b ≡ 2). omega arith) (λ (u : b ≡ 3). omega arith) a) (λ (t : (l ≡ b + 1) × ((p.stop s).phase ≡ l)). let x =
-              t.1 in omega arith) k.2)
+          t.1 in omega arith) k.2)
           (λ z. ⊎_elim (λ (u : b ≡ 2). omega arith) (λ (u : b ≡ 3). omega arith) a)
       go (Answering b v) e of run a k = absurd (⊎_elim (λ (t : b ≡ 4). ⊎_elim (λ (u : b ≡ 2). omega arith) (λ (u : b ≡ 3). omega arith) a)
           (λ (t : (p.stop s).phase ≡ 0). omega arith) k.2)
@@ -122,7 +122,7 @@ module _ (u : Setup) (p : Present) (at : Word → ℕ) (seat : ℕ → Seat) (h 
       let st : Stands p me (In s job 2 3 Rests) = subst (Stands p me) is (h.stands me) in
       let open_ = is_open_inside u.cpus (p.stop s) (λ f. at (Slot s f)) (h.slots s) me (Inside 2 3) st.1 refl in
       let mine : me ≡ u.first = eqb-true me u.first (sym ((h.works s open_ (ap (λ (w : Work). w.kind) st.3 ∙ kind)).first me) ∙
-          (ap (λ (w : Work). has w.active me) st.3 ∙ active)) in
+      (ap (λ (w : Work). has w.active me) st.3 ∙ active)) in
       let whole : p.patching ≡ Whole = go p.patching h.runner mine in
       let lawful : IsLawful (labels_in at) = subst (λ x. LabelsShow x (labels_in at)) whole h.labels in
       let count = at (Key job.func) in
@@ -131,7 +131,7 @@ module _ (u : Setup) (p : Present) (at : Word → ℕ) (seat : ℕ → Seat) (h 
         slots = h.slots;
         stands = put_all (λ c y. Stands (patches (Patches me job count [] plan)) c y) seat me next (st.0, st.1, st.2, st.3, kind, refl)
             (λ c ne. alters_other (Patches me job count [] plan) c ne (λ w n made rest e. let bad : Whole ≡ Patches c w n made rest = sym whole ∙ e in cc)
-                (seat c) (h.stands c));
+            (seat c) (h.stands c));
         homes = h.homes;
         irq = put_all (λ c y. p.irq c ≡ irq_of y) seat me next (h.irq me ∙ ap irq_of is) (λ c ne. h.irq c);
         works = h.works;
@@ -149,7 +149,7 @@ module _ (u : Setup) (p : Present) (at : Word → ℕ) (seat : ℕ → Seat) (h 
   -- one of its stores
   pub patch_stores : (job : Work) (count : ℕ) (made rest : List Change) (change : Change) (at' : Word → ℕ) → seat me ≡ Alters s job count made (change ∷ rest) →
       labels_in at' ≡ stored change.0 change.1 (labels_in at) → ((j : ℕ) → SlotShows u.cpus (p.stop j) (λ f. at' (Slot j f))) →
-          AreEntriesOf u.entries (labels_in at') →
+      AreEntriesOf u.entries (labels_in at') →
       PresentShows u (patches (Patches me job count (made ++ change ∷ []) rest)) at' (put seat me (Alters s job count (made ++ change ∷ []) rest))
   patch_stores job count made rest change at' is table slots entries =
       let st : Stands p me (Alters s job count made (change ∷ rest)) = subst (Stands p me) is (h.stands me) in
@@ -163,7 +163,7 @@ module _ (u : Setup) (p : Present) (at : Word → ℕ) (seat : ℕ → Seat) (h 
         slots = slots;
         stands = put_all (λ c y. Stands (patches (Patches me job count made' rest)) c y) seat me next (st.0, st.1, st.2, st.3, st.4, refl)
             (λ c ne. alters_other (Patches me job count made' rest) c ne (λ w' n made' rest' e. let same : Patches me job count made (change ∷ rest) ≡
-                Patches c w' n made' rest' = sym st.5 ∙ e in let f : me ≡ c = cc in ne (sym f)) (seat c) (h.stands c));
+            Patches c w' n made' rest' = sym st.5 ∙ e in let f : me ≡ c = cc in ne (sym f)) (seat c) (h.stands c));
         homes = h.homes;
         irq = put_all (λ c y. p.irq c ≡ irq_of y) seat me next (h.irq me ∙ ap irq_of is) (λ c ne. h.irq c);
         works = h.works;
@@ -193,7 +193,7 @@ module _ (u : Setup) (p : Present) (at : Word → ℕ) (seat : ℕ → Seat) (h 
           slots = h.slots;
           stands = put_all (λ c y. Stands (patches Whole) c y) seat me next (st.0, st.1, st.2, st.3)
               (λ c ne. alters_other Whole c ne (λ w n made' rest e. let same : Patches me job count made [] ≡ Patches c w n made' rest = sym st.5 ∙ e in
-                  let f : me ≡ c = cc in ne (sym f)) (seat c) (h.stands c));
+              let f : me ≡ c = cc in ne (sym f)) (seat c) (h.stands c));
           homes = h.homes;
           irq = put_all (λ c y. p.irq c ≡ irq_of y) seat me next (h.irq me ∙ ap irq_of is) (λ c ne. h.irq c);
           works = h.works;

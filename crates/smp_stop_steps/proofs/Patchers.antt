@@ -47,17 +47,22 @@ module _ (u : Setup) (p : StopState) (at : Word → ℕ) (seat : ℕ → Seat) (
       let s = r.1.0 in
       let st : Stands p.now c (Alters s work count made rest) = subst (Stands p.now c) r.1.1 (h.present.stands c) in
       let open_ = is_open_inside u.cpus (p.now.stop s) (λ f. at (Slot s f)) (h.present.slots s) c (Inside 2 3) st.1 refl in
-      let works = h.present.works s open_ (ap (λ (w : Work). w.kind) st.3 ∙ st.4) in
-      (s, record {
-        inside = st.0;
-        stands = st.1;
-        work_is = st.3;
-        kind = st.4;
-        active = ap (λ (w : Work). has w.active c) (sym st.3) ∙ (works.first c ∙ eq-eqb c u.first r.0);
-        first = r.0;
-        alone = record { law = function_law u.cpus (p.now.stop s) (λ f. at (Slot s f)) (h.present.slots s) c st.1; all_off = all_off u p.now at seat
-            h.present s c st.1 };
-      })
+      let works = h.present.works s open_ (ap (λ (w : Work). w.kind) st.3 ∙ st.4) in (
+        s,
+        record {
+          inside = st.0;
+          stands = st.1;
+          work_is = st.3;
+          kind = st.4;
+          active = ap (λ (w : Work). has w.active c) (sym st.3) ∙ (works.first c ∙ eq-eqb c u.first r.0);
+          first = r.0;
+          alone = record {
+            law = function_law u.cpus (p.now.stop s) (λ f. at (Slot s f)) (h.present.slots s) c st.1;
+            all_off = all_off u p.now at seat
+                h.present s c st.1;
+          };
+        },
+      )
 
   module _ (c : StopControlValue) (me : ℕ) (sits : Sits u me (at Gate) c (seat me) (source me)) where
     abbrev IsNext : Change → Type 0
@@ -75,7 +80,7 @@ module _ (u : Setup) (p : StopState) (at : Word → ℕ) (seat : ℕ → Seat) (
         go before [] are long is = absurd (let l = s.4 in let z : length c.changes ≡ length before = ap length (are ∙ append-nil before) in omega arith)
         go before (x ∷ after) are long is =
             let here : change_at c.changes made ≡ x = ap (λ l. change_at l made) are ∙ (ap (λ n. change_at (before ++ x ∷ after) n) (sym long) ∙ change_here
-                before x after) in
+            before x after) in
             let st : Stands p.now me (Alters v.slot s.0 s.1 before (x ∷ after)) = subst (Stands p.now me) is (h.present.stands me) in
             let some : Some x ≡ Some change = sym (ap (λ y. label_stored (store_of y)) here ∙ stored_itself x) ∙ e in
             let same : x ≡ change = cc in

@@ -69,10 +69,19 @@ module _ (cpus : ℕ) (standing : ℕ → Standing) (me : ℕ) (a l a' l' : ℕ)
 
   result_inside : (n : ℕ) → ResultShows standing n → ResultShows (put standing me (Inside a' l')) n
   result_inside n h = ⊎_elim
-      (λ (t : (n ≡ 0) × ((c w : ℕ) → HasGiven (standing c) w → w ≡ 0)). inl (t.0, put_all (λ c s. (w : ℕ) → HasGiven s w → w ≡ 0) standing me (Inside a' l')
-          (λ w g. absurd g) (λ c ne. t.1 c)))
-      (λ (t : (n ≢ 0) × ((c : ℕ) × HasGiven (standing c) n)). inr (t.0, (t.1.0, put_all (λ c s. HasGiven (standing c) n → HasGiven s n) standing me
-          (Inside a' l') (λ g. absurd (subst (λ s. HasGiven s n) is g)) (λ c ne g. g) t.1.0 t.1.1)))
+      (λ (t : (n ≡ 0) × ((c w : ℕ) → HasGiven (standing c) w → w ≡ 0)). inl (
+        t.0,
+        put_all (λ c s. (w : ℕ) → HasGiven s w → w ≡ 0) standing me (Inside a' l')
+            (λ w g. absurd g) (λ c ne. t.1 c),
+      ))
+      (λ (t : (n ≢ 0) × ((c : ℕ) × HasGiven (standing c) n)). inr (
+        t.0,
+        (
+          t.1.0,
+          put_all (λ c s. HasGiven (standing c) n → HasGiven s n) standing me
+              (Inside a' l') (λ g. absurd (subst (λ s. HasGiven s n) is g)) (λ c ne g. g) t.1.0 t.1.1,
+        ),
+      ))
       h
 
   done_inside : (e : Ending) (n : ℕ) → DoneShows cpus standing e n → DoneShows cpus (put standing me (Inside a' l')) e n

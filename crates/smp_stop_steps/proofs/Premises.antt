@@ -94,10 +94,11 @@ module _ (u : Setup) (p : StopState) (at : Word → ℕ) (seat : ℕ → Seat) (
   through : (j : ℕ) (w : Work) (v : Visit) → IsLoaded v w → IsThroughAll v → seat me ≡ In j w v.acked v.acked Rests → IsThrough (p.now.stop j) me v.acked
   through j w v loaded all is =
       let st = stands (In j w v.acked v.acked Rests) is in
-      let kinds = ((h.present.slots j).shows (open_in j w v.acked v.acked Rests is)).kinds in
-      (⊎_elim (λ (e : v.acked ≡ 4). inl e) (λ (e : v.kind ≡ One). inr (one_phase (p.now.stop j).work.kind (p.now.stop j).phase (ap (λ (x : Work). x.kind)
-          st.3 ∙ (sym loaded.kind ∙ e)) kinds)) all,
-      rests_not me (p.now.stop j).raising st.2)
+      let kinds = ((h.present.slots j).shows (open_in j w v.acked v.acked Rests is)).kinds in (
+        ⊎_elim (λ (e : v.acked ≡ 4). inl e) (λ (e : v.kind ≡ One). inr (one_phase (p.now.stop j).work.kind (p.now.stop j).phase (ap (λ (x : Work). x.kind)
+            st.3 ∙ (sym loaded.kind ∙ e)) kinds)) all,
+        rests_not me (p.now.stop j).raising st.2,
+      )
 
   raised : (j : ℕ) (w : Work) (a : ℕ) → seat me ≡ In j w a a Sets → MayStore p me j field.State (a + 1)
   raised j w a is =
@@ -109,9 +110,12 @@ module _ (u : Setup) (p : StopState) (at : Word → ℕ) (seat : ℕ → Seat) (
       let ack : AckShows u.cpus (p.now.stop j).phase (p.now.stop j).standing (Raises me) (slot j field.Ack) =
       subst (λ r. AckShows u.cpus (p.now.stop j).phase (p.now.stop j).standing r (slot j field.Ack)) mine (o.ack busy) in
       let level : Inside (p.now.stop j).phase (p.now.stop j).phase ≡ Inside a a = sym ack.2 ∙ st.1 in
-      let phase : (p.now.stop j).phase ≡ a = cc in
-      (mine, ap (λ n. n + 1) (sym phase), λ d of. all_acknowledged u.cpus (p.now.stop j) (slot j) (h.present.slots j) ack.1 d
-      (subst (λ b. is_of ((p.now.stop j).standing d) ≡ (b && has (p.now.stop j).work.mask d)) op ((h.present.slots j).members d) ∙ of))
+      let phase : (p.now.stop j).phase ≡ a = cc in (
+        mine,
+        ap (λ n. n + 1) (sym phase),
+        λ d of. all_acknowledged u.cpus (p.now.stop j) (slot j) (h.present.slots j) ack.1 d
+            (subst (λ b. is_of ((p.now.stop j).standing d) ≡ (b && has (p.now.stop j).work.mask d)) op ((h.present.slots j).members d) ∙ of),
+      )
 
   in_round : (v : Visit) (stage : RoundStage) → SitsInRound u me c.changes v stage (seat me) → May (round_access u.cpus c.changes v stage)
   in_round v (round.Look answer) x = (stands (In v.slot x.2.0 v.acked v.acked Rests) x.2.2).0
@@ -126,7 +130,7 @@ module _ (u : Setup) (p : StopState) (at : Word → ℕ) (seat : ℕ → Seat) (
       patched (place.Site i, n) = tt
   in_round v (round.Acknowledge answer ran) x = ⊎_elim
       (λ (y : (seat me ≡ In v.slot x.0 v.acked (v.acked + 1) Rests) × RunsIf me v ran). let st = stands (In v.slot x.0 v.acked (v.acked + 1) Rests) y.0 in
-          (st.0, (v.acked, st.1, phase v.acked st.1)))
+      (st.0, (v.acked, st.1, phase v.acked st.1)))
       (λ (y : (v.acked ≡ 2) × (ran ≡ true) × ((count : ℕ) × (answer ≡ patch_answer x.0 count) × (seat me ≡ Alters v.slot x.0 count (plan_at u x.0 count) []))).
       let st = stands (Alters v.slot x.0 y.2.0 (plan_at u x.0 y.2.0) []) y.2.2 in (st.0, (2, st.1, phase 2 st.1))) x.3
     where
@@ -135,7 +139,7 @@ module _ (u : Setup) (p : StopState) (at : Word → ℕ) (seat : ℕ → Seat) (
           (keeps_inside u.cpus (p.now.stop v.slot) (slot v.slot) (h.present.slots v.slot) me (Inside a (a + 1)) is).2
   in_round v (round.Refill ran) x =
       let st = stands (In v.slot x.0 v.acked v.acked Fills) x.2 in stored_open v.slot (mask_weight u.cpus v.mask) field.Ack (open_in v.slot x.0 v.acked
-          v.acked Fills x.2) (refills_me me (p.now.stop v.slot).raising st.2)
+      v.acked Fills x.2) (refills_me me (p.now.stop v.slot).raising st.2)
   in_round v (round.Raise ran) x = stored_open v.slot (v.acked + 1) field.State (open_in v.slot x.0 v.acked v.acked Sets x.2) (raised v.slot x.0 v.acked x.2)
 
   in_completion : (v : Visit) (stage : CompletionStage) → SitsInCompletion v stage (seat me) → May (completion_access v stage)
@@ -147,8 +151,11 @@ module _ (u : Setup) (p : StopState) (at : Word → ℕ) (seat : ℕ → Seat) (
       (st.0, subst (λ (y : Standing). IsThrough (p.now.stop v.slot) me (acked y)) (sym st.1) (through v.slot x.2.0 v x.2.1 x.1 x.2.2))
   in_completion v completion.CountDown x = ⊎_elim
       (λ (y : (v.answer ≡ 0) × IsLoaded v x.0 × IsThroughAll v × (seat me ≡ In v.slot x.0 v.acked v.acked Rests)).
-      let st = stands (In v.slot x.0 v.acked v.acked Rests) y.3 in (st.0, subst (λ (z : Standing). IsThrough (p.now.stop v.slot) me (acked z)) (sym st.1)
-          (through v.slot x.0 v y.1 y.2 y.3)))
+      let st = stands (In v.slot x.0 v.acked v.acked Rests) y.3 in (
+        st.0,
+        subst (λ (z : Standing). IsThrough (p.now.stop v.slot) me (acked z)) (sym st.1)
+            (through v.slot x.0 v y.1 y.2 y.3),
+      ))
       (λ (y : seat me ≡ Gives v.slot x.0 v.acked v.answer).
       let st = stands (Gives v.slot x.0 v.acked v.answer) y in
       let k = keeps_inside u.cpus (p.now.stop v.slot) (slot v.slot) (h.present.slots v.slot) me (Answering v.acked v.answer) st.1 in
@@ -164,8 +171,11 @@ module _ (u : Setup) (p : StopState) (at : Word → ℕ) (seat : ℕ → Seat) (
   at_stage OpenGate x y g = gate_mine me p.gate (sym h.gate ∙ g)
   at_stage (Begin work f) x y g = let d : DraftShows u p.gate (p.now.stop me) (slot me) me work (order f) = source_is (Drafts work (order f)) y.1 in
       stored_shut (begun_value u.cpus work f) f d.shut d.holds
-  at_stage (Enter j) x y g = λ found. (subst (Stands p.now me) x.1 (h.present.stands me), called_is ((p.now.stop j).standing me)
-      (sym ((h.present.slots j).roll me) ∙ found))
+  at_stage (Enter j) x y g = λ found. (
+    subst (Stands p.now me) x.1 (h.present.stands me),
+    called_is ((p.now.stop j).standing me)
+        (sym ((h.present.slots j).roll me) ∙ found),
+  )
   at_stage (EnterKind j) x y g = (stands (In j x.0 0 0 Rests) x.1).0
   at_stage (EnterMask j kind) x y g = (stands (In j x.0 0 0 Rests) x.1).0
   at_stage (EnterActive j kind mask) x y g = (stands (In j x.0 0 0 Rests) x.1).0
@@ -177,13 +187,16 @@ module _ (u : Setup) (p : StopState) (at : Word → ℕ) (seat : ℕ → Seat) (
       let o : OwnerShows u (p.now.stop me) y.1.0 × ((p.now.stop me).ending ≡ Ended) = source_is (Collects y.1.0) y.1.1 in
       let op = o.0.is_open in
       let d : DoneShows u.cpus (p.now.stop me).standing Ended (slot me field.Done) = subst (λ e. DoneShows u.cpus (p.now.stop me).standing e
-          (slot me field.Done)) o.1 ((h.present.slots me).shows op).done in
-      (refl, op, λ d' of.
-      let member : is_of ((p.now.stop me).standing d') ≡ true = subst (λ b. is_of ((p.now.stop me).standing d') ≡ (b && has (p.now.stop me).work.mask d'))
-          op ((h.present.slots me).members d') ∙ of in
-      completed_is ((p.now.stop me).standing d') member
-      (sum_zero (λ e. unfinished ((p.now.stop me).standing e)) u.cpus d.1 d' (in_machine u.cpus (p.now.stop me).phase d' ((p.now.stop me).standing d')
-          member ((h.present.slots me).keeps d'))))
+      (slot me field.Done)) o.1 ((h.present.slots me).shows op).done in (
+        refl,
+        op,
+        λ d' of.
+            let member : is_of ((p.now.stop me).standing d') ≡ true = subst (λ b. is_of ((p.now.stop me).standing d') ≡ (b && has (p.now.stop me).work.mask d'))
+            op ((h.present.slots me).members d') ∙ of in
+            completed_is ((p.now.stop me).standing d') member
+            (sum_zero (λ e. unfinished ((p.now.stop me).standing e)) u.cpus d.1 d' (in_machine u.cpus (p.now.stop me).phase d' ((p.now.stop me).standing d')
+            member ((h.present.slots me).keeps d'))),
+      )
   at_stage (ReadKey k) x y g = tt
   at_stage (ReadSite i) x y g = tt
   at_stage (NudgeKey k up) x y g = tt

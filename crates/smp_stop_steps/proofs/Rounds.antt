@@ -102,24 +102,43 @@ module _ (u : Setup) (p : StopState) (at : Word → ℕ) (seat : ℕ → Seat) (
       let irq' = cond (found == 2) (put p.now.irq me false) p.now.irq in
       let looks' = put p.looks me (p.looks me ++ found ∷ []) in
       let next = In s job a found Rests in
-      let inside : MovesInside ((p.now.stop s).standing me) to = record { inside = λ _. ap is_inside st.1; late = λ x. subst (λ (y : Standing). 3 ≤ acked y)
-          (sym st.1) x; given = sym (ap answer_now st.1) } in
-      subst (λ (x : Standing). StopShows u (record p { now = after p.now s (stands (p.now.stop s) me (looked_by x found)) p.now.inside irq' p.now.readings
-          p.now.patching; looks = looks' }) at (put seat me next) source)
+      let inside : MovesInside ((p.now.stop s).standing me) to = record {
+        inside = λ _. ap is_inside st.1;
+        late = λ x. subst (λ (y : Standing). 3 ≤ acked y)
+            (sym st.1) x;
+        given = sym (ap answer_now st.1);
+      } in
+      subst (λ (x : Standing). StopShows u (record p {
+        now = after p.now s (stands (p.now.stop s) me (looked_by x found)) p.now.inside irq' p.now.readings
+            p.now.patching;
+        looks = looks';
+      }) at (put seat me next) source)
       (sym st.1)
       (open_step u p at seat source h s stop' p.now.inside irq' p.now.readings p.now.patching at (put seat me next) looks' p.calls p.calling
-      record { was = is_open job a l Rests is; now = is_open job a l Rests is; work = refl; end = λ e. e; given = moves_given u.first s me (p.now.stop s) to
-          inside }
+      record {
+        was = is_open job a l Rests is;
+        now = is_open job a l Rests is;
+        work = refl;
+        end = λ e. e;
+        given = moves_given u.first s me (p.now.stop s) to
+            inside;
+      }
       refl (λ k. refl) (λ j ne f. refl)
       (owns_kept u.first p.now (λ k. at (Key k)) s stop' p.now.inside irq' p.now.readings p.now.patching
-      record { was = is_open job a l Rests is; now = is_open job a l Rests is; work = refl; end = λ e. e; given = moves_given u.first s me (p.now.stop s) to
-          inside }
+      record {
+        was = is_open job a l Rests is;
+        now = is_open job a l Rests is;
+        work = refl;
+        end = λ e. e;
+        given = moves_given u.first s me (p.now.stop s) to
+            inside;
+      }
       (moves_early u.first s me (p.now.stop s) to inside stop' refl) h.owns)
       (step_looks u p.now at seat h.present s me irq' p.now.readings (save found) job a l is more
       (turned found refl (o.state ∙ refl) k (h.present.irq me ∙ ap irq_of is))
       (λ on i. h.present.read me on (before found (sym (turned found refl (o.state ∙ refl) k (h.present.irq me ∙ ap irq_of is)) ∙ refl) i)))
       (calling_same seat p.calling h.callings me next (calling_looked me s job a l found (p.calling me) (λ two three. o.state ∙ near k.2 two three)
-          (subst (λ x. IsCalling me x (p.calling me)) is (h.callings me))))
+      (subst (λ x. IsCalling me x (p.calling me)) is (h.callings me))))
       (closing_kept p.now seat me next h.closing (subst IsNotClosing (sym is) tt) s stop' (λ c ne. put_else (p.now.stop s).standing me to c ne) refl refl))
     where
       near : (l ≡ a) ⊎ ((l ≡ a + 1) × ((p.now.stop s).phase ≡ l)) → a ≡ 2 → l ≡ 3 → (p.now.stop s).phase ≡ 3
@@ -198,12 +217,12 @@ module _ (u : Setup) (p : StopState) (at : Word → ℕ) (seat : ℕ → Seat) (
         (j : ℕ) → OwnsKey u.first (after p.now s acked_stop p.now.inside irq' readings' x) (λ k. at (Key k)) j
     owns_acked x irq' readings' st known j =
         at_test j s (λ b. let y = cond b acked_stop (p.now.stop j) in y.is_open ≡ true → y.work.kind ≡ Patch → is_inside (y.standing j) ≡ true →
-            3 ≤ acked (y.standing u.first) → StandsSet y.work (at (Key y.work.func)))
+        3 ≤ acked (y.standing u.first) → StandsSet y.work (at (Key y.work.func)))
         (λ e op kind in_ late.
         let i = put_all (λ c y. is_inside y ≡ true → is_inside ((p.now.stop s).standing c) ≡ true) (p.now.stop s).standing me (Inside (a + 1) (a + 1))
-            (λ _. ap is_inside st) (λ c ne i. i) s (subst (λ k. is_inside (acked_stop.standing k) ≡ true) e in_) in
+        (λ _. ap is_inside st) (λ c ne i. i) s (subst (λ k. is_inside (acked_stop.standing k) ≡ true) e in_) in
         at_test u.first me (λ b. 3 ≤ acked (cond b (Inside (a + 1) (a + 1)) ((p.now.stop s).standing u.first)) → StandsSet (p.now.stop s).work
-            (at (Key (p.now.stop s).work.func)))
+        (at (Key (p.now.stop s).work.func)))
         (λ f late. elim (cases_eq a 2) [
           | inl two ↦ known kind (sym f) two
           | inr ne ↦ h.owns s op kind i (subst (λ c. 3 ≤ acked ((p.now.stop s).standing c)) (sym f) (subst (λ (y : Standing). 3 ≤ acked y) (sym st)
@@ -234,37 +253,53 @@ module _ (u : Setup) (p : StopState) (at : Word → ℕ) (seat : ℕ → Seat) (
         ((c : ℕ) → IsCalling c (put seat me next c) (calling' c)) → IsNotClosing (seat me) →
         (b : Bool) → (a + 1 == 4 && not (found == 1)) ≡ b →
         StopShows u (record p { now = cond b (leaves (acked_now x) me s (p.now.stop s).work) (acked_now x); calls = calls'; calling = calling' })
-            (put_word at (Slot s Ack) (found - 1)) (put seat me next) source
+        (put_word at (Slot s Ack) (found - 1)) (put seat me next) source
     ack_shown x seat0 calls' calling' present is off same st op known agrees callings idle true e =
         let irq' = put p.now.irq me true in
         let readings' = put p.now.readings me (first_readings me s (p.now.stop s).work) in
         let at' = put_word at (Slot s Ack) (found - 1) in
         let to = Inside (a + 1) (a + 1) in
         subst (λ (y : ℕ → Seat). StopShows u (record p { now = leaves (acked_now x) me s (p.now.stop s).work; calls = calls'; calling = calling' }) at' y
-            source) same
+        source) same
         (open_step u p at seat source h s acked_stop p.now.inside irq' readings' x at' (put seat0 me next) p.looks calls' calling'
-        record { was = op; now = op; work = refl; end = λ e. e; given = put_all (λ c y. answer_now y ≡ answer_now ((p.now.stop s).standing c))
-            (p.now.stop s).standing me to (sym (ap answer_now st)) (λ c ne. refl) }
+        record {
+          was = op;
+          now = op;
+          work = refl;
+          end = λ e. e;
+          given = put_all (λ c y. answer_now y ≡ answer_now ((p.now.stop s).standing c))
+              (p.now.stop s).standing me to (sym (ap answer_now st)) (λ c ne. refl);
+        }
         refl (λ k. refl) (other_slots at s Ack (found - 1))
         (owns_acked x irq' readings' st known)
         (step_acknowledges u (record (p.now) { patching = x }) at seat0 present s me irq' readings'
-        record { inside = λ c ne. refl; irq = λ c ne. put_else p.now.irq me true c ne; readings = λ c ne. put_else p.now.readings me
-            (first_readings me s (p.now.stop s).work) c ne }
+        record {
+          inside = λ c ne. refl;
+          irq = λ c ne. put_else p.now.irq me true c ne;
+          readings = λ c ne. put_else p.now.readings me
+              (first_readings me s (p.now.stop s).work) c ne;
+        }
         job a is
         (put_here p.now.irq me true ∙ sym (leaves_irq (found == 1) ∙ ap (λ b. cond b true (nat_lt (a + 1) 2)) e))
         (λ _ _. subst (AllByRecursion (Agrees (labels_in at))) (sym (put_here p.now.readings me (first_readings me s (p.now.stop s).work)))
-            (agrees (eqb-true (a + 1) 4 (both_true (a + 1 == 4) (not (found == 1)) e).0))))
+        (agrees (eqb-true (a + 1) 4 (both_true (a + 1 == 4) (not (found == 1)) e).0))))
         (subst (λ (y : ℕ → Seat). (c : ℕ) → IsCalling c (y c) (calling' c)) (sym same) callings)
         (subst (AreClosing (record (acked_now x) { irq = irq'; readings = readings' })) (sym same) (closing_kept p.now seat me next h.closing idle s
-            acked_stop (λ c ne. put_else (p.now.stop s).standing me to c ne) refl refl)))
+        acked_stop (λ c ne. put_else (p.now.stop s).standing me to c ne) refl refl)))
     ack_shown x seat0 calls' calling' present is off same st op known agrees callings idle false e =
         let at' = put_word at (Slot s Ack) (found - 1) in
         let to = Inside (a + 1) (a + 1) in
         let turned : p.now.irq me ≡ irq_of next = off ∙ sym (leaves_irq (found == 1) ∙ ap (λ b. cond b true (nat_lt (a + 1) 2)) e) in
         subst (λ (y : ℕ → Seat). StopShows u (record p { now = acked_now x; calls = calls'; calling = calling' }) at' y source) same
         (open_step u p at seat source h s acked_stop p.now.inside p.now.irq p.now.readings x at' (put seat0 me next) p.looks calls' calling'
-        record { was = op; now = op; work = refl; end = λ e. e; given = put_all (λ c y. answer_now y ≡ answer_now ((p.now.stop s).standing c))
-            (p.now.stop s).standing me to (sym (ap answer_now st)) (λ c ne. refl) }
+        record {
+          was = op;
+          now = op;
+          work = refl;
+          end = λ e. e;
+          given = put_all (λ c y. answer_now y ≡ answer_now ((p.now.stop s).standing c))
+              (p.now.stop s).standing me to (sym (ap answer_now st)) (λ c ne. refl);
+        }
         refl (λ k. refl) (other_slots at s Ack (found - 1))
         (owns_acked x p.now.irq p.now.readings st known)
         (step_acknowledges u (record (p.now) { patching = x }) at seat0 present s me p.now.irq p.now.readings
@@ -272,7 +307,7 @@ module _ (u : Setup) (p : StopState) (at : Word → ℕ) (seat : ℕ → Seat) (
         job a is turned (λ on i. h.present.read me on (turned ∙ i)))
         (subst (λ (y : ℕ → Seat). (c : ℕ) → IsCalling c (y c) (calling' c)) (sym same) callings)
         (subst (AreClosing (acked_now x)) (sym same) (closing_kept p.now seat me next h.closing idle s acked_stop (λ c ne. put_else (p.now.stop s).standing
-            me to c ne) refl refl)))
+        me to c ne) refl refl)))
 
     abbrev pub calls_then : ℕ → List StopCall
     calls_then = cond (a + 1 == 3) (called_more p.calls me (p.calling me)) p.calls
@@ -286,13 +321,13 @@ module _ (u : Setup) (p : StopState) (at : Word → ℕ) (seat : ℕ → Seat) (
     acked_calling false e is many ready =
         calling_same seat p.calling h.callings me next
         (calling_acked me s job a (cond (found == 1) Fills Rests) (p.calling me) (λ two. let bad : true ≡ false =
-            sym (eq-eqb (a + 1) 3 (omega (arith, two))) ∙ e in cc) many (subst (λ x. IsCalling me x (p.calling me)) is (h.callings me)))
+        sym (eq-eqb (a + 1) 3 (omega (arith, two))) ∙ e in cc) many (subst (λ x. IsCalling me x (p.calling me)) is (h.callings me)))
     acked_calling true e is many ready =
         let two : a ≡ 2 = let x = eqb-true (a + 1) 3 e in omega arith in
         let t = cond (found == 1) Fills Rests in
         let alone = carried_alone u.first p.now.patching seat me (p.calling me) (subst IsNoPatch (sym is) tt) h.present.runner in
         let ran = calling_ran me s job t (p.calling me) many (ready two) (subst (λ n. IsCalling me (In s job n (n + 1) Rests) (p.calling me)) two
-            (subst (λ x. IsCalling me x (p.calling me)) is (h.callings me))) in
+        (subst (λ x. IsCalling me x (p.calling me)) is (h.callings me))) in
         calling_next seat p.calling h.callings me next (carried me p.now.patching (p.calling me))
         (subst (IsCalling me next) (sym alone) (subst (λ n. IsCalling me (In s job (n + 1) (n + 1) t) (carried_call (p.calling me))) (sym two) ran))
 
@@ -304,19 +339,23 @@ module _ (u : Setup) (p : StopState) (at : Word → ℕ) (seat : ℕ → Seat) (
         let k = keeps job a (a + 1) Rests is in
         let idle : IsNoPatch (seat me) = subst IsNoPatch (sym is) tt in
         let phase : (p.now.stop s).phase ≡ a + 1 = ⊎_elim (λ (e : a + 1 ≡ a). absurd (omega arith))
-            (λ (e : (a + 1 ≡ a + 1) × ((p.now.stop s).phase ≡ a + 1)). e.1) k.2 in
+        (λ (e : (a + 1 ≡ a + 1) × ((p.now.stop s).phase ≡ a + 1)). e.1) k.2 in
         let many : job.kind ≢ One = λ one. several ((p.now.stop s).work.kind) (ap (λ (w : Work). w.kind) st.3 ∙ one) (shown job a (a + 1) Rests is).kinds
-            phase in
+        phase in
         let off : p.now.irq me ≡ nat_lt (a + 1) 2 = h.present.irq me ∙ (ap irq_of is ∙ or_false (nat_lt (a + 1) 2) (a == 4)
-            (ne_eqb a 4 (λ e. let m = k.3 in omega arith))) in
+        (ne_eqb a 4 (λ e. let m = k.3 in omega arith))) in
         subst (λ (x : Standing). StopShows u (acknowledges p me s x found) (put_word at (Slot s Ack) (found - 1)) (put seat me next) source) (sym st.1)
-        (subst (λ (x : Patching). StopShows u (record p { now = cond (a + 1 == 4 && not (found == 1)) (leaves (acked_now x) me s (p.now.stop s).work)
-            (acked_now x); calls = calls_then; calling = calling_then p.now.patching }) (put_word at (Slot s Ack) (found - 1)) (put seat me next) source)
+        (subst (λ (x : Patching). StopShows u (record p {
+          now = cond (a + 1 == 4 && not (found == 1)) (leaves (acked_now x) me s (p.now.stop s).work)
+              (acked_now x);
+          calls = calls_then;
+          calling = calling_then p.now.patching;
+        }) (put_word at (Slot s Ack) (found - 1)) (put seat me next) source)
         (sym (still (a + 1 == 3) idle))
         (ack_shown p.now.patching seat calls_then (calling_then p.now.patching) h.present is off refl st.1 (is_open job a (a + 1) Rests is)
         (λ kind mine two. absurd (active kind mine two st.3))
         (λ four. subst (λ (w : Work). AllByRecursion (Agrees (labels_in at)) (first_readings me s w)) (sym st.3) (leave_agrees job a (a + 1) Rests is
-            (omega arith)))
+        (omega arith)))
         (acked_calling (a + 1 == 3) refl is many ready) (subst IsNotClosing (sym is) tt)
         (a + 1 == 4 && not (found == 1)) refl))
       where
@@ -334,7 +373,7 @@ module _ (u : Setup) (p : StopState) (at : Word → ℕ) (seat : ℕ → Seat) (
             let w = h.present.works s (is_open job a (a + 1) Rests is) kind in
             let yes : has (p.now.stop s).work.active me ≡ true = w.first me ∙ eq-eqb me u.first mine in
             let here = subst (λ n. IsCalling me (In s job n (a + 1) Rests) (p.calling me)) two (subst (λ x. IsCalling me x (p.calling me)) is
-                (h.callings me)) in
+            (h.callings me)) in
             let idle = idle_patch me s job (a + 1) Rests (p.calling me) (ap (λ (w : Work). w.kind) (sym same) ∙ kind) here in
             let passive : has (p.now.stop s).work.active me ≡ false = ap (λ (w : Work). has w.active me) same ∙ subst (HasCalled me job) idle (ready two) in
             let bad : true ≡ false = sym yes ∙ passive in cc
@@ -343,7 +382,7 @@ module _ (u : Setup) (p : StopState) (at : Word → ℕ) (seat : ℕ → Seat) (
   pub ack_subtracted_patched : (job : Work) (count : ℕ) (made : List Change) (answer : ℕ) → seat me ≡ Alters s job count made [] →
       let found = at (Slot s Ack) in
       StopShows u (told u p me act.Sub (Slot s Ack) (Some found) (Some (found - 1)) answer) (put_word at (Slot s Ack) (found - 1))
-          (put seat me (In s job 3 3 (cond (found == 1) Fills Rests))) source
+      (put seat me (In s job 3 3 (cond (found == 1) Fills Rests))) source
   ack_subtracted_patched job count made answer is =
       let found = at (Slot s Ack) in
       let st : Stands p.now me (Alters s job count made []) = subst (Stands p.now me) is (h.present.stands me) in
@@ -355,15 +394,22 @@ module _ (u : Setup) (p : StopState) (at : Word → ℕ) (seat : ℕ → Seat) (
       let works = h.present.works s open_ (ap (λ (w : Work). w.kind) st.3 ∙ st.4) in
       let active : has job.active me ≡ true = ap (λ (w : Work). has w.active me) (sym st.3) ∙ (works.first me ∙ eq-eqb me u.first runner.0) in
       subst (λ (x : Standing). StopShows u (acknowledges p me s x found) (put_word at (Slot s Ack) (found - 1)) (put seat me next) source) (sym st.1)
-      (subst (λ (x : Patching). StopShows u (record p { now = acked_now job 2 answer (unpatched me x); calls = calls_then job 2 answer; calling =
-          calling_then job 2 answer x }) (put_word at (Slot s Ack) (found - 1)) (put seat me next) source)
+      (subst (λ (x : Patching). StopShows u (record p {
+        now = acked_now job 2 answer (unpatched me x);
+        calls = calls_then job 2 answer;
+        calling =
+            calling_then job 2 answer x;
+      }) (put_word at (Slot s Ack) (found - 1)) (put seat me next) source)
       (sym st.5)
-      (subst (λ b. StopShows u (record p { now = acked_now job 2 answer (cond b Whole (Patches me job count made [])); calls = calls_then job 2 answer;
-          calling = put p.calling me (cond b (Carries (patch_answer job count)) (carried_call (p.calling me))) }) (put_word at (Slot s Ack) (found - 1))
-          (put seat me next) source)
+      (subst (λ b. StopShows u (record p {
+        now = acked_now job 2 answer (cond b Whole (Patches me job count made []));
+        calls = calls_then job 2 answer;
+        calling = put p.calling me (cond b (Carries (patch_answer job count)) (carried_call (p.calling me)));
+      }) (put_word at (Slot s Ack) (found - 1))
+      (put seat me next) source)
       (sym (eq-eqb me me refl))
       (ack_shown job 2 answer Whole seat0 (calls_then job 2 answer) (put p.calling me (Carries (patch_answer job count))) ends.0
-          (put_here seat me (In s job 2 3 Rests)) (h.present.irq me ∙ ap irq_of is) (put_twice seat me (In s job 2 3 Rests) next) st.1 open_
+      (put_here seat me (In s job 2 3 Rests)) (h.present.irq me ∙ ap irq_of is) (put_twice seat me (In s job 2 3 Rests) next) st.1 open_
       (λ kind mine two. subst (λ (w : Work). StandsSet w (at (Key w.func))) (sym st.3) ends.1)
       (λ four. absurd (let z : ⊥ = omega (arith, four) in z))
       (calling_next seat p.calling h.callings me next (Carries (patch_answer job count)) (omega arith, active)) (subst IsNotClosing (sym is) tt)
@@ -381,21 +427,24 @@ module _ (u : Setup) (p : StopState) (at : Word → ℕ) (seat : ℕ → Seat) (
       let stop' = refilled (p.now.stop s) me in
       let next = In s job a l Sets in
       let whole : weight u.cpus (p.now.stop s).standing ≡ v = weight_of_mask u.cpus (p.now.stop s) (λ f. at (Slot s f)) (h.present.slots s) open_ ∙ ap
-          (λ (w : Work). mask_weight u.cpus w.mask) st.3 in
+      (λ (w : Work). mask_weight u.cpus w.mask) st.3 in
       let stays : StaysOpen (p.now.stop s) stop' = record { was = open_; now = open_; work = refl; end = λ e. e; given = λ c. refl } in
       subst (λ b. StopShows u (cond b (stored_open p me s Ack v) (stored_shut p s Ack v)) (put_word at (Slot s Ack) v) (put seat me next) source) (sym open_)
       (open_step u p at seat source h s stop' p.now.inside p.now.irq p.now.readings p.now.patching (put_word at (Slot s Ack) v) (put seat me next) p.looks
-          p.calls p.calling stays
+      p.calls p.calling stays
       refl (λ k. refl) (other_slots at s Ack v)
-      (owns_kept u.first p.now (λ k. at (Key k)) s stop' p.now.inside p.now.irq p.now.readings p.now.patching stays record { inside = λ i. i; late =
-          λ i. i } h.owns)
+      (owns_kept u.first p.now (λ k. at (Key k)) s stop' p.now.inside p.now.irq p.now.readings p.now.patching stays record {
+        inside = λ i. i;
+        late =
+            λ i. i;
+      } h.owns)
       (subst (λ n. PresentShows u (after p.now s stop' p.now.inside p.now.irq p.now.readings p.now.patching) (put_word at (Slot s Ack) n)
-          (put seat me next)) whole
+      (put seat me next)) whole
       (step_refills u p.now at seat h.present s me p.now.irq p.now.readings record { inside = λ c ne. refl; irq = λ c ne. refl; readings = λ c ne. refl }
       job a l is (λ z. one (p.now.stop s).raising st.2 (o.calm z)) (h.present.irq me ∙ ap irq_of is) (λ on i. h.present.read me on
-          (h.present.irq me ∙ (ap irq_of is ∙ i)))))
+      (h.present.irq me ∙ (ap irq_of is ∙ i)))))
       (calling_same seat p.calling h.callings me next (calling_turned me s job a l Fills Sets (p.calling me) (λ e. cc)
-          (subst (λ x. IsCalling me x (p.calling me)) is (h.callings me))))
+      (subst (λ x. IsCalling me x (p.calling me)) is (h.callings me))))
       (closing_kept p.now seat me next h.closing (subst IsNotClosing (sym is) tt) s stop' (λ c ne. refl) refl refl))
     where
       one : (r : Raising) → turn_of r me ≡ Fills → r ≡ Nobody → ⊥
@@ -406,7 +455,7 @@ module _ (u : Setup) (p : StopState) (at : Word → ℕ) (seat : ℕ → Seat) (
   -- store of the next phase by the one that refilled the count; from 4 to 5 it leaves
   pub state_stored : (job : Work) (a l answer : ℕ) → seat me ≡ In s job a l Sets →
       StopShows u (told u p me act.Store (Slot s State) None (Some (a + 1)) answer) (put_word at (Slot s State) (a + 1)) (put seat me (In s job a l Rests))
-          source
+      source
   state_stored job a l answer is =
       let st = here job a l Sets is in
       let open_ = is_open job a l Sets is in
@@ -417,7 +466,7 @@ module _ (u : Setup) (p : StopState) (at : Word → ℕ) (seat : ℕ → Seat) (
       let busy : (p.now.stop s).phase ≢ 0 = λ z. one (p.now.stop s).raising st.2 (o.calm z) in
       let mine = sets_me (p.now.stop s).raising st.2 in
       let ack : AckShows u.cpus (p.now.stop s).phase (p.now.stop s).standing (Raises me) (at (Slot s Ack)) =
-          subst (λ r. AckShows u.cpus (p.now.stop s).phase (p.now.stop s).standing r (at (Slot s Ack))) mine (o.ack busy) in
+      subst (λ r. AckShows u.cpus (p.now.stop s).phase (p.now.stop s).standing r (at (Slot s Ack))) mine (o.ack busy) in
       let level : Inside (p.now.stop s).phase (p.now.stop s).phase ≡ Inside a l = sym ack.2 ∙ st.1 in
       let phase : (p.now.stop s).phase ≡ a = cc in
       let looked : (p.now.stop s).phase ≡ l = cc in
@@ -448,25 +497,27 @@ module _ (u : Setup) (p : StopState) (at : Word → ℕ) (seat : ℕ → Seat) (
       go : (b : Bool) → (a + 1 == 5) ≡ b → Stands p.now me (In s job a l Sets) → (p.now.stop s).phase ≡ a → (p.now.stop s).phase ≡ l →
           (p.now.stop s).phase ≢ 0 → StaysOpen (p.now.stop s) (raised (p.now.stop s) (a + 1)) →
           ((irq' : ℕ → Bool) (readings' : ℕ → List Reading) (j : ℕ) → OwnsKey u.first (after p.now s (raised (p.now.stop s) (a + 1)) p.now.inside irq'
-              readings' p.now.patching) (λ k. at (Key k)) j) →
-          StopShows u (record p { now = cond b (leaves (with_stop p.now s (raised (p.now.stop s) (a + 1))) me s (p.now.stop s).work)
-              (with_stop p.now s (raised (p.now.stop s) (a + 1))) }) (put_word at (Slot s State) (a + 1)) (put seat me (In s job a l Rests)) source
+          readings' p.now.patching) (λ k. at (Key k)) j) →
+          StopShows u (record p {
+            now = cond b (leaves (with_stop p.now s (raised (p.now.stop s) (a + 1))) me s (p.now.stop s).work)
+                (with_stop p.now s (raised (p.now.stop s) (a + 1)));
+          }) (put_word at (Slot s State) (a + 1)) (put seat me (In s job a l Rests)) source
       go true e st phase looked busy stays own =
           let irq' = put p.now.irq me true in
           let first = first_readings me s (p.now.stop s).work in
           let readings' = put p.now.readings me first in
           let five : a ≡ 4 = let x = eqb-true (a + 1) 5 e in omega arith in
           open_step u p at seat source h s (raised (p.now.stop s) (a + 1)) p.now.inside irq' readings' p.now.patching (put_word at (Slot s State) (a + 1))
-              (put seat me (In s job a l Rests)) p.looks p.calls p.calling stays refl (λ k. refl) (other_slots at s State (a + 1)) (own irq' readings')
+          (put seat me (In s job a l Rests)) p.looks p.calls p.calling stays refl (λ k. refl) (other_slots at s State (a + 1)) (own irq' readings')
           (subst (λ n. PresentShows u (after p.now s (raised (p.now.stop s) (n + 1)) p.now.inside irq' readings' p.now.patching) (put_word at (Slot s State)
-              (n + 1)) (put seat me (In s job a l Rests))) phase
+          (n + 1)) (put seat me (In s job a l Rests))) phase
           (step_raises u p.now at seat h.present s me irq' readings'
           record { inside = λ c ne. refl; irq = λ c ne. put_else p.now.irq me true c ne; readings = λ c ne. put_else p.now.readings me first c ne }
           job a l is busy
           (put_here p.now.irq me true ∙ sym (ap (λ n. nat_lt l 2 || n == 4) five ∙ yes (nat_lt l 2)))
           (λ _ _. subst (AllByRecursion (Agrees (labels_in at))) (sym (put_here p.now.readings me first))
           (subst (λ (w : Work). AllByRecursion (Agrees (labels_in at)) (first_readings me s w)) (sym st.3) (leave_agrees job a l Sets is (omega arith))))))
-              callings closing
+          callings closing
         where
           yes : (b : Bool) → b || true ≡ true
           yes true = refl
@@ -475,9 +526,9 @@ module _ (u : Setup) (p : StopState) (at : Word → ℕ) (seat : ℕ → Seat) (
           let not_five : a == 4 ≡ false = ne_eqb a 4 (λ x. let y : true ≡ false = sym (eq-eqb (a + 1) 5 (omega arith)) ∙ e in cc) in
           let off : p.now.irq me ≡ nat_lt l 2 || a == 4 = h.present.irq me ∙ (ap irq_of is ∙ sym (or_false (nat_lt l 2) (a == 4) not_five)) in
           open_step u p at seat source h s (raised (p.now.stop s) (a + 1)) p.now.inside p.now.irq p.now.readings p.now.patching (put_word at (Slot s State)
-              (a + 1)) (put seat me (In s job a l Rests)) p.looks p.calls p.calling stays refl (λ k. refl) (other_slots at s State (a + 1))
-              (own p.now.irq p.now.readings)
+          (a + 1)) (put seat me (In s job a l Rests)) p.looks p.calls p.calling stays refl (λ k. refl) (other_slots at s State (a + 1))
+          (own p.now.irq p.now.readings)
           (subst (λ n. PresentShows u (after p.now s (raised (p.now.stop s) (n + 1)) p.now.inside p.now.irq p.now.readings p.now.patching)
-              (put_word at (Slot s State) (n + 1)) (put seat me (In s job a l Rests))) phase
+          (put_word at (Slot s State) (n + 1)) (put seat me (In s job a l Rests))) phase
           (step_raises u p.now at seat h.present s me p.now.irq p.now.readings record { inside = λ c ne. refl; irq = λ c ne. refl; readings = λ c ne. refl }
           job a l is busy off (λ on i. h.present.read me on (off ∙ i)))) callings closing

@@ -44,28 +44,85 @@ kind_back Patch = refl
 -- one more store of begin tells one more number of the work
 drafted_more : (cpus : ℕ) (f : Field) (k : ℕ) (now work : Work) → order f ≡ k → IsDrafted k now work →
     IsDrafted (k + 1) (drafted f (begun_value cpus work f) now) work
-drafted_more cpus Kind k now work e d = record { kind = λ _. kind_back work.kind; mask = λ l. absurd (omega arith); active = λ l. absurd (omega arith);
-    func = λ l. absurd (omega arith); arg = λ l. absurd (omega arith) }
-drafted_more cpus Mask k now work e d = record { kind = λ _. d.kind (omega arith); mask = λ _. refl; active = λ l. absurd (omega arith); func =
-    λ l. absurd (omega arith); arg = λ l. absurd (omega arith) }
-drafted_more cpus Active k now work e d = record { kind = λ _. d.kind (omega arith); mask = λ _. d.mask (omega arith); active = λ _. refl; func =
-    λ l. absurd (omega arith); arg = λ l. absurd (omega arith) }
-drafted_more cpus Func k now work e d = record { kind = λ _. d.kind (omega arith); mask = λ _. d.mask (omega arith); active = λ _. d.active (omega arith);
-    func = λ _. refl; arg = λ l. absurd (omega arith) }
-drafted_more cpus Arg k now work e d = record { kind = λ _. d.kind (omega arith); mask = λ _. d.mask (omega arith); active = λ _. d.active (omega arith);
-    func = λ _. d.func (omega arith); arg = λ _. refl }
-drafted_more cpus Result k now work e d = record { kind = λ _. d.kind (omega arith); mask = λ _. d.mask (omega arith); active = λ _. d.active (omega arith);
-    func = λ _. d.func (omega arith); arg = λ _. d.arg (omega arith) }
-drafted_more cpus Todo k now work e d = record { kind = λ _. d.kind (omega arith); mask = λ _. d.mask (omega arith); active = λ _. d.active (omega arith);
-    func = λ _. d.func (omega arith); arg = λ _. d.arg (omega arith) }
-drafted_more cpus Done k now work e d = record { kind = λ _. d.kind (omega arith); mask = λ _. d.mask (omega arith); active = λ _. d.active (omega arith);
-    func = λ _. d.func (omega arith); arg = λ _. d.arg (omega arith) }
-drafted_more cpus Ack k now work e d = record { kind = λ _. d.kind (omega arith); mask = λ _. d.mask (omega arith); active = λ _. d.active (omega arith);
-    func = λ _. d.func (omega arith); arg = λ _. d.arg (omega arith) }
-drafted_more cpus State k now work e d = record { kind = λ _. d.kind (omega arith); mask = λ _. d.mask (omega arith); active = λ _. d.active (omega arith);
-    func = λ _. d.func (omega arith); arg = λ _. d.arg (omega arith) }
-drafted_more cpus Roll k now work e d = record { kind = λ _. d.kind (omega arith); mask = λ _. d.mask (omega arith); active = λ _. d.active (omega arith);
-    func = λ _. d.func (omega arith); arg = λ _. d.arg (omega arith) }
+drafted_more cpus Kind k now work e d = record {
+  kind = λ _. kind_back work.kind;
+  mask = λ l. absurd (omega arith);
+  active = λ l. absurd (omega arith);
+  func = λ l. absurd (omega arith);
+  arg = λ l. absurd (omega arith);
+}
+drafted_more cpus Mask k now work e d = record {
+  kind = λ _. d.kind (omega arith);
+  mask = λ _. refl;
+  active = λ l. absurd (omega arith);
+  func =
+      λ l. absurd (omega arith);
+  arg = λ l. absurd (omega arith);
+}
+drafted_more cpus Active k now work e d = record {
+  kind = λ _. d.kind (omega arith);
+  mask = λ _. d.mask (omega arith);
+  active = λ _. refl;
+  func =
+      λ l. absurd (omega arith);
+  arg = λ l. absurd (omega arith);
+}
+drafted_more cpus Func k now work e d = record {
+  kind = λ _. d.kind (omega arith);
+  mask = λ _. d.mask (omega arith);
+  active = λ _. d.active (omega arith);
+  func = λ _. refl;
+  arg = λ l. absurd (omega arith);
+}
+drafted_more cpus Arg k now work e d = record {
+  kind = λ _. d.kind (omega arith);
+  mask = λ _. d.mask (omega arith);
+  active = λ _. d.active (omega arith);
+  func = λ _. d.func (omega arith);
+  arg = λ _. refl;
+}
+drafted_more cpus Result k now work e d = record {
+  kind = λ _. d.kind (omega arith);
+  mask = λ _. d.mask (omega arith);
+  active = λ _. d.active (omega arith);
+  func = λ _. d.func (omega arith);
+  arg = λ _. d.arg (omega arith);
+}
+drafted_more cpus Todo k now work e d = record {
+  kind = λ _. d.kind (omega arith);
+  mask = λ _. d.mask (omega arith);
+  active = λ _. d.active (omega arith);
+  func = λ _. d.func (omega arith);
+  arg = λ _. d.arg (omega arith);
+}
+drafted_more cpus Done k now work e d = record {
+  kind = λ _. d.kind (omega arith);
+  mask = λ _. d.mask (omega arith);
+  active = λ _. d.active (omega arith);
+  func = λ _. d.func (omega arith);
+  arg = λ _. d.arg (omega arith);
+}
+drafted_more cpus Ack k now work e d = record {
+  kind = λ _. d.kind (omega arith);
+  mask = λ _. d.mask (omega arith);
+  active = λ _. d.active (omega arith);
+  func = λ _. d.func (omega arith);
+  arg = λ _. d.arg (omega arith);
+}
+drafted_more cpus State k now work e d = record {
+  kind = λ _. d.kind (omega arith);
+  mask = λ _. d.mask (omega arith);
+  active = λ _. d.active (omega arith);
+  func = λ _. d.func (omega arith);
+  arg = λ _. d.arg (omega arith);
+}
+drafted_more cpus Roll k now work e d = record {
+  kind = λ _. d.kind (omega arith);
+  mask = λ _. d.mask (omega arith);
+  active = λ _. d.active (omega arith);
+  func = λ _. d.func (omega arith);
+  arg = λ _. d.arg (omega arith);
+}
 
 not_roll : (f : Field) → order f < 10 → same_field f Roll true ≡ false
 not_roll Kind l = refl
@@ -148,7 +205,7 @@ module _ (u : Setup) (p : StopState) (at : Word → ℕ) (seat : ℕ → Seat) (
       ((c : ℕ) → is_inside (stop'.standing c) ≡ true → ⊥) → ((c : ℕ) → stop'.is_open ≡ true → stop'.ending ≡ Last c → ⊥) →
       PresentShows u (after p.now me stop' p.now.inside p.now.irq p.now.readings p.now.patching) at' seat →
       StopShows u (record p { now = after p.now me stop' p.now.inside p.now.irq p.now.readings p.now.patching; begun = begun'; collected = collected' }) at'
-          seat (put source me next)
+      seat (put source me next)
   source_step stop' begun' collected' at' next gate slots keys here past begun collected nobody last present = record {
     setup = h.setup;
     present = present;
@@ -192,10 +249,16 @@ module _ (u : Setup) (p : StopState) (at : Word → ℕ) (seat : ℕ → Seat) (
       subst (λ b. StopShows u (cond b (stored_open p me me f v) (stored_shut p me f v)) at' seat (put source me (Drafts work (k + 1)))) (sym d.shut)
       (subst (λ q. StopShows u q at' seat (put source me (Drafts work (k + 1)))) (sym (shut_told p me f v fresh))
       (source_step stop' p.begun p.collected at' (Drafts work (k + 1)) refl (other_slots at me f v) (λ k. refl)
-      record { shut = d.shut; holds = d.holds; is_work = d.is_work; stored = stored_more u.cpus at me work k f place d.stored; told = drafted_more u.cpus f
-          k (p.now.stop me).work work place d.told }
+      record {
+        shut = d.shut;
+        holds = d.holds;
+        is_work = d.is_work;
+        stored = stored_more u.cpus at me work k f place d.stored;
+        told = drafted_more u.cpus f
+            k (p.now.stop me).work work place d.told;
+      }
       (past_same (p.now.stop me) stop' (p.begun me) (p.collected me) (λ c. p.answers c me) refl (λ op. absurd (apart (sym op ∙ d.shut))) (λ c. refl)
-          (h.past me))
+      (h.past me))
       (λ j ne. refl) (λ j ne. refl) (λ c. outside_not ((p.now.stop me).standing c) (out c)) (λ c op l. apart (sym op ∙ d.shut))
       (step_drafts u p.now at seat h.present me f v work' d.shut (not_roll f fresh))))
     where
@@ -209,12 +272,12 @@ module _ (u : Setup) (p : StopState) (at : Word → ℕ) (seat : ℕ → Seat) (
       let d = draft work 10 is in
       let at' = put_word at (Slot me Roll) work.mask in
       let same : (p.now.stop me).work ≡ work = work_ext (p.now.stop me).work work (d.told.kind (omega arith)) (d.told.mask (omega arith))
-          (d.told.active (omega arith)) (d.told.func (omega arith)) (d.told.arg (omega arith)) in
+      (d.told.active (omega arith)) (d.told.func (omega arith)) (d.told.arg (omega arith)) in
       let stop' = opened (p.now.stop me) work in
       let out = all_outside u.cpus (p.now.stop me) w (h.present.slots me) d.shut in
       subst (λ b. StopShows u (cond b (stored_open p me me Roll work.mask) (stored_shut p me Roll work.mask)) at' seat (put source me (Owns work))) (sym d.shut)
       (subst (λ (x : Work). StopShows u (record p { now = with_stop p.now me (opened (p.now.stop me) x); begun = put p.begun me (p.begun me ++ x ∷ []) })
-          at' seat (put source me (Owns work))) (sym same)
+      at' seat (put source me (Owns work))) (sym same)
       (source_step stop' (put p.begun me (p.begun me ++ work ∷ [])) p.collected at' (Owns work) refl (other_slots at me Roll work.mask) (λ k. refl)
       record { is_open = refl; work_is = refl; is_work = d.is_work }
       (subst (λ l. HasPast stop' l (p.collected me) (λ c. p.answers c me)) (sym (put_here p.begun me (p.begun me ++ work ∷ [])))
@@ -256,7 +319,7 @@ module _ (u : Setup) (p : StopState) (at : Word → ℕ) (seat : ℕ → Seat) (
       let o : OwnerShows u (p.now.stop me) work × ((p.now.stop me).ending ≡ Ended) = subst (SourceShows u p.gate (p.now.stop me) w me) is (h.sources me) in
       let shown = (h.present.slots me).shows o.0.is_open in
       let d : DoneShows u.cpus (p.now.stop me).standing Ended (at (Slot me Done)) = subst (λ e. DoneShows u.cpus (p.now.stop me).standing e
-          (at (Slot me Done))) o.1 shown.done in
+      (at (Slot me Done))) o.1 shown.done in
       let result = at (Slot me Result) in
       let stop' = closed (p.now.stop me) in
       source_step stop' p.begun (put p.collected me (p.collected me ++ result ∷ [])) at Shut refl (λ j ne f. refl) (λ k. refl) refl
@@ -266,7 +329,7 @@ module _ (u : Setup) (p : StopState) (at : Word → ℕ) (seat : ℕ → Seat) (
             (collects_slot u.cpus (p.now.stop me) w (h.present.slots me) o.0.is_open d.0).0
             (λ c. all ((p.now.stop me).standing c) (mask_is u p.now at seat h.present me c o.0.is_open)
             (λ of. sum_zero (λ c. unfinished ((p.now.stop me).standing c)) u.cpus d.1 c (in_machine u.cpus (p.now.stop me).phase c ((p.now.stop me).standing
-                c) of ((h.present.slots me).keeps c)))),
+            c) of ((h.present.slots me).keeps c)))),
       ))
       (λ j ne. refl) (λ j ne. put_else p.collected me (p.collected me ++ result ∷ []) j ne) (λ c e. cc) (λ c op l. cc)
       (step_collects u p.now at seat h.present me o.0.is_open d.0)

@@ -132,7 +132,7 @@ module _ (u : Setup) (p : StopState) (at : Word → ℕ) (seat : ℕ → Seat) (
   -- a store but the last
   drafts_step : (work : Work) (f g : Field) → c.stage ≡ Some (Begin work f) → order f < 10 → order g ≡ order f + 1 →
       (StopShows u (told u p me act.Store (Slot me f) None (Some (begun_value u.cpus work f)) 0) (put_word at (Slot me f) (begun_value u.cpus work f))
-          (put seat me (seat me)) (put source me (Drafts work (order g)))) ×
+      (put seat me (seat me)) (put source me (Drafts work (order g)))) ×
       Sits u me (at Gate) (record c { stage = Some (Begin work g) }) (seat me) (Drafts work (order g))
   drafts_step work f g e low next =
       let y = begins_source work f e in
@@ -140,31 +140,80 @@ module _ (u : Setup) (p : StopState) (at : Word → ℕ) (seat : ℕ → Seat) (
       let at' = put_word at (Slot me f) (begun_value u.cpus work f) in (
         moved_source p' at' (Drafts work (order g))
             (subst (λ k. StopShows u p' at' seat (put source me (Drafts work k))) (sym next) (field_stored u p at seat source h me work (order f) f 0 y.1
-                refl low)),
+            refl low)),
         record { below = s.below; irq = s.irq; seat = begins_seat work f e; source = (y.0, refl); gate_held = tt },
       )
 
   pub begin_step : (work : Work) (f : Field) → c.stage ≡ Some (Begin work f) → StopStep u p at seat source c me (Begin work f)
-  begin_step work Kind e = let d = drafts_step work Kind Mask e (omega arith) refl in record { seat_after = seat me; source_after = Drafts work 1; shows =
-      d.0; sits = d.1 }
-  begin_step work Mask e = let d = drafts_step work Mask Active e (omega arith) refl in record { seat_after = seat me; source_after = Drafts work 2; shows =
-      d.0; sits = d.1 }
-  begin_step work Active e = let d = drafts_step work Active Func e (omega arith) refl in record { seat_after = seat me; source_after =
-      Drafts work 3; shows = d.0; sits = d.1 }
-  begin_step work Func e = let d = drafts_step work Func Arg e (omega arith) refl in record { seat_after = seat me; source_after = Drafts work 4; shows =
-      d.0; sits = d.1 }
-  begin_step work Arg e = let d = drafts_step work Arg Result e (omega arith) refl in record { seat_after = seat me; source_after = Drafts work 5; shows =
-      d.0; sits = d.1 }
-  begin_step work Result e = let d = drafts_step work Result Todo e (omega arith) refl in record { seat_after = seat me; source_after =
-      Drafts work 6; shows = d.0; sits = d.1 }
-  begin_step work Todo e = let d = drafts_step work Todo Done e (omega arith) refl in record { seat_after = seat me; source_after = Drafts work 7; shows =
-      d.0; sits = d.1 }
-  begin_step work Done e = let d = drafts_step work Done Ack e (omega arith) refl in record { seat_after = seat me; source_after = Drafts work 8; shows =
-      d.0; sits = d.1 }
-  begin_step work Ack e = let d = drafts_step work Ack State e (omega arith) refl in record { seat_after = seat me; source_after = Drafts work 9; shows =
-      d.0; sits = d.1 }
-  begin_step work State e = let d = drafts_step work State Roll e (omega arith) refl in record { seat_after = seat me; source_after = Drafts work 10;
-      shows = d.0; sits = d.1 }
+  begin_step work Kind e = let d = drafts_step work Kind Mask e (omega arith) refl in record {
+    seat_after = seat me;
+    source_after = Drafts work 1;
+    shows =
+        d.0;
+    sits = d.1;
+  }
+  begin_step work Mask e = let d = drafts_step work Mask Active e (omega arith) refl in record {
+    seat_after = seat me;
+    source_after = Drafts work 2;
+    shows =
+        d.0;
+    sits = d.1;
+  }
+  begin_step work Active e = let d = drafts_step work Active Func e (omega arith) refl in record {
+    seat_after = seat me;
+    source_after =
+        Drafts work 3;
+    shows = d.0;
+    sits = d.1;
+  }
+  begin_step work Func e = let d = drafts_step work Func Arg e (omega arith) refl in record {
+    seat_after = seat me;
+    source_after = Drafts work 4;
+    shows =
+        d.0;
+    sits = d.1;
+  }
+  begin_step work Arg e = let d = drafts_step work Arg Result e (omega arith) refl in record {
+    seat_after = seat me;
+    source_after = Drafts work 5;
+    shows =
+        d.0;
+    sits = d.1;
+  }
+  begin_step work Result e = let d = drafts_step work Result Todo e (omega arith) refl in record {
+    seat_after = seat me;
+    source_after =
+        Drafts work 6;
+    shows = d.0;
+    sits = d.1;
+  }
+  begin_step work Todo e = let d = drafts_step work Todo Done e (omega arith) refl in record {
+    seat_after = seat me;
+    source_after = Drafts work 7;
+    shows =
+        d.0;
+    sits = d.1;
+  }
+  begin_step work Done e = let d = drafts_step work Done Ack e (omega arith) refl in record {
+    seat_after = seat me;
+    source_after = Drafts work 8;
+    shows =
+        d.0;
+    sits = d.1;
+  }
+  begin_step work Ack e = let d = drafts_step work Ack State e (omega arith) refl in record {
+    seat_after = seat me;
+    source_after = Drafts work 9;
+    shows =
+        d.0;
+    sits = d.1;
+  }
+  begin_step work State e = let d = drafts_step work State Roll e (omega arith) refl in record {
+    seat_after = seat me;
+    source_after = Drafts work 10;
+    shows = d.0;
+    sits = d.1;
+  }
   begin_step work Roll e =
       let y = begins_source work Roll e in
       record {
@@ -196,7 +245,7 @@ module _ (u : Setup) (p : StopState) (at : Word → ℕ) (seat : ℕ → Seat) (
   pub enter_mask : (slot : ℕ) (kind : KindOf) → c.stage ≡ Some (EnterMask slot kind) → StopStep u p at seat source c me (EnterMask slot kind)
   enter_mask slot kind e =
       let x : (work : Work) × (seat me ≡ In slot work 0 0 Rests) × (kind ≡ work.kind) = subst (λ (st : Option StopStage). SitsAt u me c st (seat me)) e
-          s.seat in
+      s.seat in
       let y : OwnsIf c.is_open (source me) = subst (λ (st : Option StopStage). SourceSits c.is_open st (source me)) e s.source in
       let w = work_words u p at seat source h slot me x.0 0 0 Rests x.1 in
       record {
@@ -210,7 +259,7 @@ module _ (u : Setup) (p : StopState) (at : Word → ℕ) (seat : ℕ → Seat) (
       (EnterActive slot kind mask)
   enter_active slot kind mask e =
       let x : (work : Work) × (seat me ≡ In slot work 0 0 Rests) × (kind ≡ work.kind) × (mask ≡ work.mask) = subst (λ (st : Option StopStage). SitsAt u me c
-          st (seat me)) e s.seat in
+      st (seat me)) e s.seat in
       let y : OwnsIf c.is_open (source me) = subst (λ (st : Option StopStage). SourceSits c.is_open st (source me)) e s.source in
       let w = work_words u p at seat source h slot me x.0 0 0 Rests x.1 in
       record {
@@ -270,8 +319,18 @@ module _ (u : Setup) (p : StopState) (at : Word → ℕ) (seat : ℕ → Seat) (
           either false z = record {
             below = s.below;
             irq = s.irq;
-            seat = (x.0, x.1, x.2, record { one = one_apart up (at (Key k)) new e; same = sym (xor_same (is_on (at (Key k))) (is_on new) z); word =
-                subst IsKeyWord (ap (count_or (at (Key k))) e) (left_in_form (nudge_of up) (at (Key k)) fits) }, x.3);
+            seat = (
+              x.0,
+              x.1,
+              x.2,
+              record {
+                one = one_apart up (at (Key k)) new e;
+                same = sym (xor_same (is_on (at (Key k))) (is_on new) z);
+                word =
+                    subst IsKeyWord (ap (count_or (at (Key k))) e) (left_in_form (nudge_of up) (at (Key k)) fits);
+              },
+              x.3,
+            );
             source = y;
             gate_held = tt;
           }
@@ -280,7 +339,7 @@ module _ (u : Setup) (p : StopState) (at : Word → ℕ) (seat : ℕ → Seat) (
   pub exchange_key : (k expected new : ℕ) → c.stage ≡ Some (ExchangeKey k expected new) → StopStep u p at seat source c me (ExchangeKey k expected new)
   exchange_key k expected new e =
       let x : (c.interrupts ≡ true) × (u.online me ≡ true) × (k < u.keys) × IsNudge expected new × AtRest = subst (λ (st : Option StopStage). SitsAt u me c
-          st (seat me)) e s.seat in
+      st (seat me)) e s.seat in
       let y : OwnsIf c.is_open (source me) = subst (λ (st : Option StopStage). SourceSits c.is_open st (source me)) e s.source in
       let on : p.now.irq me ≡ true = h.present.irq me ∙ (sym s.irq ∙ x.0) in
       record {
@@ -295,8 +354,12 @@ module _ (u : Setup) (p : StopState) (at : Word → ℕ) (seat : ℕ → Seat) (
           StopShows u (told u p me act.Cas (Key k) (Some (at (Key k))) (cond b (Some new) None) 0) (cond b (put_word at (Key k) new) at) seat source
       go online on nudge true z =
           let same = eqb-true (at (Key k)) expected z in
-          key_exchanged u p at seat source h me k (at (Key k)) new s.below online on refl record { one = subst (λ n. (new ≡ n + 1) ⊎ (n ≡ new + 1))
-              (sym same) nudge.one; same = nudge.same ∙ ap is_on (sym same); word = nudge.word } 0
+          key_exchanged u p at seat source h me k (at (Key k)) new s.below online on refl record {
+            one = subst (λ n. (new ≡ n + 1) ⊎ (n ≡ new + 1))
+                (sym same) nudge.one;
+            same = nudge.same ∙ ap is_on (sym same);
+            word = nudge.word;
+          } 0
       go online on nudge false z = h
 
   -- the looks of a source
@@ -304,7 +367,7 @@ module _ (u : Setup) (p : StopState) (at : Word → ℕ) (seat : ℕ → Seat) (
   load_done e =
       let x : AtRest = subst (λ (st : Option StopStage). SitsAt u me c st (seat me)) e s.seat in
       let y : (c.is_open ≡ true) × ((work : Work) × (source me ≡ Owns work)) = subst (λ (st : Option StopStage). SourceSits c.is_open st (source me)) e
-          s.source in
+      s.source in
       let g = go x y.0 y.1.0 y.1.1 (at (Slot me Done) == 0) refl in
       record { seat_after = seat me; source_after = g.0; shows = g.1; sits = g.2 }
     where
@@ -323,19 +386,30 @@ module _ (u : Setup) (p : StopState) (at : Word → ℕ) (seat : ℕ → Seat) (
 
       go : AtRest → c.is_open ≡ true → (work : Work) → source me ≡ Owns work → (b : Bool) → (at (Slot me Done) == 0) ≡ b →
           (y : Source) × (StopShows u p at (put seat me (seat me)) (put source me y)) × Sits u me (at Gate) (cond b (stop_ends c note.Pending)
-              (stop_goes c LoadResult)).control (seat me) y
-      go x op work own true z =
-          (source me, still p at h, record { below = s.below; irq = s.irq; seat = x; source = subst (λ b. OwnsIf b (source me)) (sym op) (work, own);
-              gate_held = tt })
-      go x op work own false z =
-          (Collects work, moved_source p at (Collects work) (done_loaded u p at seat source h me work own (open_done work own z)), record
-              { below = s.below; irq = s.irq; seat = x; source = (op, (work, refl)); gate_held = tt })
+          (stop_goes c LoadResult)).control (seat me) y
+      go x op work own true z = (
+        source me,
+        still p at h,
+        record {
+          below = s.below;
+          irq = s.irq;
+          seat = x;
+          source = subst (λ b. OwnsIf b (source me)) (sym op) (work, own);
+          gate_held = tt;
+        },
+      )
+      go x op work own false z = (
+        Collects work,
+        moved_source p at (Collects work) (done_loaded u p at seat source h me work own (open_done work own z)),
+        record
+            { below = s.below; irq = s.irq; seat = x; source = (op, (work, refl)); gate_held = tt },
+      )
 
   pub load_result : c.stage ≡ Some LoadResult → StopStep u p at seat source c me LoadResult
   load_result e =
       let x : AtRest = subst (λ (st : Option StopStage). SitsAt u me c st (seat me)) e s.seat in
       let y : (c.is_open ≡ true) × ((work : Work) × (source me ≡ Collects work)) = subst (λ (st : Option StopStage). SourceSits c.is_open st (source me)) e
-          s.source in
+      s.source in
       record {
         seat_after = seat me;
         source_after = Shut;

@@ -140,8 +140,12 @@ module _ (v : StopsValue) (cpu : ℕ) (low : cpu < cpus) (below : (k : ℕ) → 
 
   advances : (answer : ℕ) (x : Option Visit) → c.visit ≡ x → may_advance x ≡ true → MayBeginIf u cpu gate c (in_visit x (λ w. Advance w (round.Look answer)))
   advances answer None is e = tt
-  advances answer (Some w) is e = let y = both (not (is_one w.kind)) (not (w.acked == 4)) e in (is, not_one w.kind (not_true (is_one w.kind) y.0), ne_false
-      w.acked 4 (not_true (w.acked == 4) y.1))
+  advances answer (Some w) is e = let y = both (not (is_one w.kind)) (not (w.acked == 4)) e in (
+    is,
+    not_one w.kind (not_true (is_one w.kind) y.0),
+    ne_false
+        w.acked 4 (not_true (w.acked == 4) y.1),
+  )
 
   runs : (answer : ℕ) (x : Option Visit) → c.visit ≡ x → may_run x ≡ true → MayBeginIf u cpu gate c (in_visit x (λ w. Complete w (completion.LoadFunc answer)))
   runs answer None is e = tt
@@ -182,4 +186,4 @@ pub may_begin : (v : StopsValue) (cpu : ℕ) (x : Command) (stage : StopStage) �
     stop_first (stop_control_of v.controls cpu) x ≡ Some stage → MayBeginAt v cpu stage
 may_begin v cpu x stage low below online f e first =
     subst (λ o. MayBeginIf (setup_of v.online v.labels) cpu (stop_number v.table Gate) (stop_control_of v.controls cpu) o) first
-        (may_begin_if v cpu low below online (stop_control_of v.controls cpu) x f e)
+    (may_begin_if v cpu low below online (stop_control_of v.controls cpu) x f e)

@@ -82,7 +82,7 @@ module _ (u : Setup) (p : StopState) (at : Word → ℕ) (seat : ℕ → Seat) (
   raised_small w x =
       let stands : Stands p.now me (In w.slot x.0 w.acked w.acked Sets) = subst (Stands p.now me) x.2 (v.present.stands me) in
       let k : Keeps u.cpus (p.now.stop w.slot).phase me (Inside w.acked w.acked) = subst (Keeps u.cpus (p.now.stop w.slot).phase me) stands.1
-          ((v.present.slots w.slot).keeps me) in
+      ((v.present.slots w.slot).keeps me) in
       let most : w.acked ≤ 4 = k.4 in
       omega arith
 

@@ -119,13 +119,13 @@ module _ (u : Setup) (few : u.cpus ≡ cpus) (p : StopState) (t : StopWords) (co
             (subst (λ k. Sits u cpu (at_then u at c me stage Gate) k (put v.seat me one.seat_after cpu) (put v.source me one.source_after cpu))
             (sym (stop_controls_by_cpu controls me cpu (control_then u at c me stage) (stop_inside_below controls me stage e)))
             (at_test cpu me (λ b. Sits u cpu (at_then u at c me stage Gate) (cond b (control_then u at c me stage) (stop_control_of controls cpu))
-                (cond b one.seat_after (v.seat cpu)) (cond b one.source_after (v.source cpu)))
+            (cond b one.seat_after (v.seat cpu)) (cond b one.source_after (v.source cpu)))
             (λ same. subst (λ k. Sits u k (at_then u at c me stage Gate) (control_then u at c me stage) one.seat_after one.source_after) (sym same) one.sits)
             (λ ne. others cpu ne (v.sits cpu low))));
         carries = λ cpu low. subst (λ k. CarriesIn k ((state_after u p at c me stage).calling cpu))
             (sym (stop_controls_by_cpu controls me cpu (control_then u at c me stage) (stop_inside_below controls me stage e)))
             (at_test cpu me (λ b. CarriesIn (cond b (control_then u at c me stage) (stop_control_of controls cpu)) ((state_after u p at c me stage).calling
-                cpu))
+            cpu))
             (λ same. subst (λ k. CarriesIn (control_then u at c me stage) ((state_after u p at c me stage).calling k)) (sym same) calls.mine)
             (λ ne. subst (CarriesIn (stop_control_of controls cpu)) (sym (calls.others cpu ne)) (v.carries cpu low)));
         shut = λ cpu high. at_test cpu me (λ b. cond b one.source_after (v.source cpu) ≡ Shut) (λ same. absurd (let b = below in omega arith))
@@ -153,8 +153,14 @@ module _ (u : Setup) (few : u.cpus ≡ cpus) (p : StopState) (t : StopWords) (co
 
       others : (cpu : ℕ) → cpu ≢ me → Sits u cpu (at Gate) (stop_control_of controls cpu) (v.seat cpu) (v.source cpu) →
           Sits u cpu (at_then u at c me stage Gate) (stop_control_of controls cpu) (v.seat cpu) (v.source cpu)
-      others cpu ne s = record { below = s.below; irq = s.irq; seat = s.seat; source = s.source; gate_held =
-          held cpu ne (stop_control_of controls cpu).stage s.gate_held }
+      others cpu ne s = record {
+        below = s.below;
+        irq = s.irq;
+        seat = s.seat;
+        source = s.source;
+        gate_held =
+            held cpu ne (stop_control_of controls cpu).stage s.gate_held;
+      }
 
   -- the table stays one
   pub stop_table_shown : IsStopTable (stop_words_after t (stop_access u.cpus me c.changes stage))
@@ -189,8 +195,10 @@ module _ (u : Setup) (few : u.cpus ≡ cpus) (p : StopState) (t : StopWords) (co
             where
               lawful : (x : Patching) → LabelsShow x (labels_in at) → HasEntries (labels_in at)
               lawful Whole l = record { entries = l.entries }
-              lawful (Patches cpu work count made rest) l = record { entries = λ i low. subst IsEntryWord
-                  (sym (ap (λ (t : Table). t.entry i) l.2 ∙ entries_kept made l.0 i)) (l.1.entries i low) }
+              lawful (Patches cpu work count made rest) l = record {
+                entries = λ i low. subst IsEntryWord
+                    (sym (ap (λ (t : Table). t.entry i) l.2 ∙ entries_kept made l.0 i)) (l.1.entries i low);
+              }
 
           long : (work : Work) (word site : ℕ) → site ≤ length u.entries → c.changes ≡ changes_of u work word site → length c.changes ≤ site + 1
           long work word site within are = let l = changes_long work.func (is_on word) 0 (take site u.entries) in let t = length-take-le site u.entries

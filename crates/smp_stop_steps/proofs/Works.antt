@@ -15,19 +15,19 @@ use Rattle.smp_mask.specs.Mask.{has}
 
 -- a CPU whose standing changes to one that counts the same
 module _ (cpus : ℕ) (standing : ℕ → Standing) (me p : ℕ) (to : Standing) (same : behind p to ≡ behind p (standing me)) (of : is_of to ≡ is_of (standing me))
-    where
-  pub behind_kept : count_behind cpus p (put standing me to) ≡ count_behind cpus p standing
-  behind_kept = sum_same (λ c. behind p (standing c)) (λ c. behind p (put standing me to c)) cpus
-      (λ j _. put_all (λ j s. behind p s ≡ behind p (standing j)) standing me to same (λ j ne. refl) j)
+  where
+    pub behind_kept : count_behind cpus p (put standing me to) ≡ count_behind cpus p standing
+    behind_kept = sum_same (λ c. behind p (standing c)) (λ c. behind p (put standing me to c)) cpus
+        (λ j _. put_all (λ j s. behind p s ≡ behind p (standing j)) standing me to same (λ j ne. refl) j)
 
-  weight_kept : weight cpus (put standing me to) ≡ weight cpus standing
-  weight_kept = sum_same (λ c. one (standing c)) (λ c. one (put standing me to c)) cpus (λ j _. put_all (λ j s. one s ≡ one (standing j)) standing me to
-      (ap bit of) (λ j ne. refl) j)
+    weight_kept : weight cpus (put standing me to) ≡ weight cpus standing
+    weight_kept = sum_same (λ c. one (standing c)) (λ c. one (put standing me to c)) cpus (λ j _. put_all (λ j s. one s ≡ one (standing j)) standing me to
+        (ap bit of) (λ j ne. refl) j)
 
-  pub ack_kept : (r : Raising) (ack : ℕ) → IsNot me r → AckShows cpus p standing r ack → AckShows cpus p (put standing me to) r ack
-  ack_kept Nobody ack ne h = h ∙ sym behind_kept
-  ack_kept (Refills r) ack ne h = (h.0, behind_kept ∙ h.1, put_else standing me to r ne ∙ h.2)
-  ack_kept (Raises r) ack ne h = (h.0 ∙ sym weight_kept, behind_kept ∙ h.1, put_else standing me to r ne ∙ h.2)
+    pub ack_kept : (r : Raising) (ack : ℕ) → IsNot me r → AckShows cpus p standing r ack → AckShows cpus p (put standing me to) r ack
+    ack_kept Nobody ack ne h = h ∙ sym behind_kept
+    ack_kept (Refills r) ack ne h = (h.0, behind_kept ∙ h.1, put_else standing me to r ne ∙ h.2)
+    ack_kept (Raises r) ack ne h = (h.0 ∙ sym weight_kept, behind_kept ∙ h.1, put_else standing me to r ne ∙ h.2)
 
 module _ (cpus : ℕ) (standing : ℕ → Standing) (me : ℕ) (to : Standing) (same : unfinished to ≡ unfinished (standing me)) where
   pub unfinished_kept : count_unfinished cpus (put standing me to) ≡ count_unfinished cpus standing
@@ -44,10 +44,19 @@ pub result_kept : (standing : ℕ → Standing) (me : ℕ) (to : Standing) (n : 
     ((w : ℕ) → HasGiven (standing me) w → HasGiven to w) →
     ResultShows standing n → ResultShows (put standing me to) n
 result_kept standing me to n back on h = ⊎_elim
-    (λ (t : (n ≡ 0) × ((c w : ℕ) → HasGiven (standing c) w → w ≡ 0)). inl (t.0, put_all (λ c s. (w : ℕ) → HasGiven s w → w ≡ 0) standing me to
-        (λ w g. ⊎_elim (λ (a : HasGiven (standing me) w). t.1 me w a) (λ (z : w ≡ 0). z) (back w g)) (λ c ne. t.1 c)))
-    (λ (t : (n ≢ 0) × ((c : ℕ) × HasGiven (standing c) n)). inr (t.0, (t.1.0, put_all (λ c s. HasGiven (standing c) n → HasGiven s n) standing me to (on n)
-        (λ c ne g. g) t.1.0 t.1.1)))
+    (λ (t : (n ≡ 0) × ((c w : ℕ) → HasGiven (standing c) w → w ≡ 0)). inl (
+      t.0,
+      put_all (λ c s. (w : ℕ) → HasGiven s w → w ≡ 0) standing me to
+          (λ w g. ⊎_elim (λ (a : HasGiven (standing me) w). t.1 me w a) (λ (z : w ≡ 0). z) (back w g)) (λ c ne. t.1 c),
+    ))
+    (λ (t : (n ≢ 0) × ((c : ℕ) × HasGiven (standing c) n)). inr (
+      t.0,
+      (
+        t.1.0,
+        put_all (λ c s. HasGiven (standing c) n → HasGiven s n) standing me to (on n)
+            (λ c ne g. g) t.1.0 t.1.1,
+      ),
+    ))
     h
 
 pub called_is : (s : Standing) → is_called s ≡ true → s ≡ Called
@@ -90,7 +99,7 @@ module _ (cpus : ℕ) (stop : Stop) (word : Field → ℕ) (g : SlotShows cpus s
           bound = o.bound;
           ack = λ ne. ack_kept cpus stop.standing me stop.phase to (sym (ap (behind stop.phase) is)) (sym (ap is_of is)) stop.raising (word Ack)
               (not_raising cpus stop.phase stop.standing me (word Ack) stop.raising (λ (e : stop.standing me ≡ Inside stop.phase stop.phase). let z :
-                  Called ≡ Inside stop.phase stop.phase = sym is ∙ e in cc) (o.ack ne)) (o.ack ne);
+              Called ≡ Inside stop.phase stop.phase = sym is ∙ e in cc) (o.ack ne)) (o.ack ne);
           calm = o.calm;
           kinds = o.kinds;
           todo = o.todo ∙ sym (unfinished_kept cpus stop.standing me to (sym (ap unfinished is)));

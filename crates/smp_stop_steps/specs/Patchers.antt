@@ -66,4 +66,4 @@ label_stored _ = None
 abbrev pub LabelStoresPatch : Type 0
 LabelStoresPatch = OfEachCpu (λ u p at c me.
     (stage : StopStage) → c.stage ≡ Some stage → (change : Change) → label_stored (stop_access u.cpus me c.changes stage) ≡ Some change →
-        IsNextOfPatch p me change)
+    IsNextOfPatch p me change)

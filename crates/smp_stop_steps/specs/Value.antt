@@ -32,8 +32,14 @@ pub record StopsValue : Type 0 where
   pub controls : List StopControlValue
 
 abbrev pub setup_of : ℕ → Labels → Setup
-setup_of online labels = record { cpus = cpus; online = has online; first = first_below online cpus; keys = labels.keys; entries =
-    map entry_word labels.entries }
+setup_of online labels = record {
+  cpus = cpus;
+  online = has online;
+  first = first_below online cpus;
+  keys = labels.keys;
+  entries =
+      map entry_word labels.entries;
+}
 
 -- where a CPU stands; outside where there is no such CPU
 abbrev pub stop_control_of : List StopControlValue → ℕ → StopControlValue

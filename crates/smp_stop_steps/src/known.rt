@@ -43,7 +43,9 @@ pub enum Seat {
         rest: LinkedList<(Place, u64)>,
     },
     /// It has completed as the last of all.
-    Closes { slot: u32 },
+    Closes {
+        slot: u32,
+    },
 }
 
 /// Where a source is with its own stop.

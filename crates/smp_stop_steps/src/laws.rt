@@ -5,7 +5,10 @@
 
 ghost use Rattle.std.specs.Prelude.{◌≡◌};
 ghost use Rattle.smp_stop_steps.specs.declared.phase.TheConstants.{PREPARE, DISABLE_IRQ, RUN, EXIT, OVER};
-ghost use Rattle.smp_stop_steps.specs.Promises.{NothingBegun, StepsAreTold, KeepThePhaseLaw, KeepTheCountLaw, KeepTheFunctionLaw, KeepTheLabelLaw, PatchesAlone, KeysStandOutsidePatches, NudgesStand, EdgesAreRead, PatchesAnswer, OwnPatchesAreRead};
+ghost use Rattle.smp_stop_steps.specs.Promises.{NothingBegun, StepsAreTold, KeepThePhaseLaw, KeepTheCountLaw};
+ghost use Rattle.smp_stop_steps.specs.Promises.{KeepTheFunctionLaw, KeepTheLabelLaw, PatchesAlone};
+ghost use Rattle.smp_stop_steps.specs.Promises.{KeysStandOutsidePatches, NudgesStand, EdgesAreRead, PatchesAnswer};
+ghost use Rattle.smp_stop_steps.specs.Promises.{OwnPatchesAreRead};
 
 /// Words with a free gate, free slots and a lawful label table with all keys off show that no stop was begun.
 pub fn nothing_is_begun()
