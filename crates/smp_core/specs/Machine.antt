@@ -38,8 +38,8 @@ stepped core cpu stage = record core {
 abbrev pub stops_stepped : CoreValue → ℕ → StopStage → CoreValue
 stops_stepped core cpu stage = record core { stops = stop_stepped core.stops cpu stage }
 
--- a CPU's step: what is seen of it, the core after it, and what the CPU's function has answered, where the step
--- acknowledges phase 3 with it
+-- a CPU's step: what is seen of it, the core after it, and what the CPU's function answers, where the step loads its
+-- argument
 pub record Stepped : Type 0 where
   pub seen : Seen
   pub core : CoreValue

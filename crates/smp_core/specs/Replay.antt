@@ -9,8 +9,8 @@ use Rattle.smp_words.specs.declared.seen.Seen.{Seen}
 use Rattle.smp_words.specs.declared.command.Event.{Event}
 use Rattle.smp_words.specs.declared.command.Event.TheVariants as event
 
--- the answer to one event, the core after it, and what the CPU's function has answered, where the event is a step that
--- acknowledges phase 3 with it
+-- the answer to one event, the core after it, and what the CPU's function answers, where the event is a step that loads
+-- its argument
 pub record Turn : Type 0 where
   pub answer : Result (Option Seen) SmpError
   pub core : CoreValue

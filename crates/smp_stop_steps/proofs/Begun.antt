@@ -23,6 +23,9 @@ use Rattle.smp_stop_steps.specs.declared.stage.Visit.{Visit}
 use Rattle.smp_words.specs.declared.word.Word.TheVariants.{Gate, Slot}
 use Rattle.smp_words.specs.declared.word.Word.{Word}
 use Rattle.std.specs.Prelude.{slice_set}
+use Rattle.smp_stop_steps.specs.Carries.{CarriesAt, CarriesIn, IsEnding, IsQuiet}
+use Rattle.smp_stop_steps.specs.State.{Calling, Idle, Calls, Carries}
+use Rattle.smp_stop_steps.specs.declared.stage.Visit.{Visit}
 
 module _ (u : Setup) (p : StopState) (at : Word → ℕ) (seat : ℕ → Seat) (source : ℕ → Source) (h : StopShows u p at seat source) (c : StopControlValue) (me : ℕ)
     (s : Sits u me (at Gate) c (seat me) (source me)) (outside : c.stage ≡ None) where
@@ -40,12 +43,24 @@ module _ (u : Setup) (p : StopState) (at : Word → ℕ) (seat : ℕ → Seat) (
   holder (Some n) e = ap Some (let x : n ≡ me = omega arith in x)
 
   -- the source after it, and what the words show then
-  pub begun_shown : (stage : StopStage) → MayBegin u me (at Gate) c stage → (y : Source) × (StopShows u p at seat (put source me y)) × Sits u me (at Gate) (stop_goes c stage).control (seat me) y
+  pub begun_shown : (stage : StopStage) → MayBegin u me (at Gate) c stage → (y : Source) × (StopShows u p at seat (put source me y)) × Sits u me (at Gate)
+      (stop_goes c stage).control (seat me) y
   begun_shown TakeGate m = (source me, kept, record { below = s.below; irq = s.irq; seat = at_rest; source = owns_if; gate_held = tt })
     where
       kept : StopShows u p at seat (put source me (source me))
       kept = subst (λ x. StopShows u p at seat x) (sym (put_same_fn source me)) h
-  begun_shown OpenGate m = (source me, subst (λ x. StopShows u p at seat x) (sym (put_same_fn source me)) h, record { below = s.below; irq = s.irq; seat = at_rest; source = owns_if; gate_held = m })
+  begun_shown OpenGate m = (
+    source me,
+    subst (λ x. StopShows u p at seat x) (sym (put_same_fn source me)) h,
+    record {
+      below = s.below;
+      irq = s.irq;
+      seat =
+          at_rest;
+      source = owns_if;
+      gate_held = m;
+    },
+  )
   begun_shown (Begin work Kind) m =
       let closed_ : source me ≡ Shut = subst (λ b. OwnsIf b (source me)) m.1 owns_if in
       let shut : (p.now.stop me).is_open ≡ false = subst (SourceShows u p.gate (p.now.stop me) (λ f. at (Slot me f)) me) closed_ (h.sources me) in (
@@ -54,6 +69,8 @@ module _ (u : Setup) (p : StopState) (at : Word → ℕ) (seat : ℕ → Seat) (
           setup = h.setup;
           present = h.present;
           gate = h.gate;
+          callings = h.callings;
+          closing = h.closing;
           past = h.past;
           owns = h.owns;
           counts = h.counts;
@@ -63,7 +80,14 @@ module _ (u : Setup) (p : StopState) (at : Word → ℕ) (seat : ℕ → Seat) (
                 holds = holder p.gate (sym h.gate ∙ m.0);
                 is_work = m.2;
                 stored = λ f low. absurd (let z : ⊥ = omega (arith, low) in z);
-                told = record { kind = λ l. absurd (omega arith); mask = λ l. absurd (omega arith); active = λ l. absurd (omega arith); func = λ l. absurd (omega arith); arg = λ l. absurd (omega arith) };
+                told = record {
+                  kind = λ l. absurd (omega arith);
+                  mask = λ l. absurd (omega arith);
+                  active = λ l. absurd (omega arith);
+                  func =
+                      λ l. absurd (omega arith);
+                  arg = λ l. absurd (omega arith);
+                };
               }
               (λ j ne. h.sources j);
         },
@@ -117,9 +141,39 @@ module _ (u : Setup) (p : StopState) (at : Word → ℕ) (seat : ℕ → Seat) (
   )
   begun_shown _ m = absurd m
 
+-- the CPU's function is where its first stage says
+begun_carries : (u : Setup) (c : StopControlValue) (me gate : ℕ) → c.stage ≡ None → (f : Calling) → CarriesIn c f → (stage : StopStage) →
+    MayBegin u me gate c stage → CarriesIn (stop_goes c stage).control f
+begun_carries u c me gate outside f k stage m = go stage m
+  where
+    quiet : IsQuiet c.visit f
+    quiet = subst (λ (st : Option StopStage). CarriesAt c.visit st f) outside k
+
+    ends : (v : Visit) (g : Calling) → v.acked ≡ 4 → IsQuiet (Some v) g → IsEnding v g
+    ends v Idle four q = (four, q)
+    ends v (Calls call) four q = absurd q
+    ends v (Carries x) four q = q
+
+    go : (stage : StopStage) → MayBegin u me gate c stage → CarriesIn (stop_goes c stage).control f
+    go TakeGate m = quiet
+    go OpenGate m = quiet
+    go (Begin work Kind) m = quiet
+    go (Enter slot) m = quiet
+    go (Advance v (round.Look answer)) m = quiet
+    go (Complete v (completion.LoadFunc answer)) m = quiet
+    go (Complete v completion.StoreAnswer) m = ends v f m.1 (subst (λ x. IsQuiet x f) m.0 quiet)
+    go (Complete v completion.CountDown) m = ends v f m.1 (subst (λ x. IsQuiet x f) m.0 quiet)
+    go LoadDone m = quiet
+    go (ReadKey k) m = quiet
+    go (ReadSite i) m = quiet
+    go (NudgeKey k up) m = quiet
+    go _ m = absurd m
+
 -- over a stop half
-pub begun_value_shown : (u : Setup) (p : StopState) (t : StopWords) (controls : List StopControlValue) → StopsShow u p t controls → (me : ℕ) → me < u.cpus → me < length controls → (stage : StopStage) →
-    (stop_control_of controls me).stage ≡ None → MayBegin u me (stop_number t Gate) (stop_control_of controls me) stage → StopsShow u p t (slice_set controls me (stop_goes (stop_control_of controls me) stage).control)
+pub begun_value_shown : (u : Setup) (p : StopState) (t : StopWords) (controls : List StopControlValue) → StopsShow u p t controls → (me : ℕ) → me < u.cpus →
+    me < length controls → (stage : StopStage) →
+    (stop_control_of controls me).stage ≡ None → MayBegin u me (stop_number t Gate) (stop_control_of controls me) stage →
+    StopsShow u p t (slice_set controls me (stop_goes (stop_control_of controls me) stage).control)
 begun_value_shown u p t controls v me below low stage outside m =
     let c = stop_control_of controls me in
     let b = begun_shown u p (stop_number t) v.seat v.source v.shows c me (v.sits me below) outside stage m in
@@ -127,8 +181,15 @@ begun_value_shown u p t controls v me below low stage outside m =
       seat = v.seat;
       source = put v.source me b.0;
       shows = b.1;
-      sits = λ cpu small. subst (λ k. Sits u cpu (stop_number t Gate) k (v.seat cpu) (put v.source me b.0 cpu)) (sym (stop_controls_by_cpu controls me cpu (stop_goes c stage).control low))
-          (at_test cpu me (λ d. Sits u cpu (stop_number t Gate) (cond d (stop_goes c stage).control (stop_control_of controls cpu)) (v.seat cpu) (cond d b.0 (v.source cpu)))
+      sits = λ cpu small. subst (λ k. Sits u cpu (stop_number t Gate) k (v.seat cpu) (put v.source me b.0 cpu))
+          (sym (stop_controls_by_cpu controls me cpu (stop_goes c stage).control low))
+          (at_test cpu me (λ d. Sits u cpu (stop_number t Gate) (cond d (stop_goes c stage).control (stop_control_of controls cpu)) (v.seat cpu)
+          (cond d b.0 (v.source cpu)))
           (λ same. subst (λ k. Sits u k (stop_number t Gate) (stop_goes c stage).control (v.seat k) b.0) (sym same) b.2) (λ ne. v.sits cpu small));
+      carries = λ cpu small. subst (λ k. CarriesIn k (p.calling cpu)) (sym (stop_controls_by_cpu controls me cpu (stop_goes c stage).control low))
+          (at_test cpu me (λ d. CarriesIn (cond d (stop_goes c stage).control (stop_control_of controls cpu)) (p.calling cpu))
+          (λ same. subst (λ k. CarriesIn (stop_goes c stage).control (p.calling k)) (sym same) (begun_carries u c me (stop_number t Gate) outside
+          (p.calling me) (v.carries me below) stage m))
+          (λ ne. v.carries cpu small));
       shut = λ cpu high. at_test cpu me (λ d. cond d b.0 (v.source cpu) ≡ Shut) (λ same. absurd (omega arith)) (λ _. v.shut cpu high);
     }

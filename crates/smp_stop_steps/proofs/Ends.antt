@@ -9,7 +9,8 @@ use Rattle.smp_words.specs.Put.{put}
 use Rattle.smp_stop_steps.specs.Counts.{behind, bit, count_behind, count_unfinished, mask_weight, unfinished}
 use Rattle.smp_stop_steps.specs.Laws.{FunctionLaw, IsAnswer, IsResult, IsThrough}
 use Rattle.smp_stop_steps.specs.Slots.{DoneShows, HasGiven, IsLevel, IsPhaseOf, IsStored, Keeps, ResultShows, SlotShows, put_field}
-use Rattle.smp_stop_steps.specs.Stop.{Answering, Called, Completed, Ended, Ending, Inside, Last, Outside, Running, Standing, Stop, acked, answer_of, closed, completed, ended, first_phase, is_called, is_of, opened}
+use Rattle.smp_stop_steps.specs.Stop.{Answering, Called, Completed, Ended, Ending, Inside, Last, Outside, Running, Standing, Stop, acked, answer_of}
+use Rattle.smp_stop_steps.specs.Stop.{closed, completed, ended, first_phase, is_called, is_of, opened}
 use Rattle.smp_words.specs.declared.field.Field.TheVariants.{Ack, Active, Arg, Done, Func, Kind, Mask, Result, Roll, State, Todo}
 use Rattle.smp_words.specs.declared.field.Field.{Field}
 use Rattle.smp_words.specs.declared.work.Kind.TheVariants.{Multi, One, Patch}
@@ -72,16 +73,19 @@ module _ (p a v : ℕ) where
   answer_keeps cpus c (Completed b w) h t k = absurd h
 
 -- found 1: all others have completed
-module _ (cpus : ℕ) (standing : ℕ → Standing) (me a v todo : ℕ) (small : me < cpus) (is : IsUnfinished (standing me)) (was : todo ≡ count_unfinished cpus standing) where
+module _ (cpus : ℕ) (standing : ℕ → Standing) (me a v todo : ℕ) (small : me < cpus) (is : IsUnfinished (standing me)) (was : todo ≡ count_unfinished cpus
+    standing) where
   one_less : count_unfinished cpus (put standing me (Completed a v)) + 1 ≡ todo
   one_less =
-      let s = sum_put (λ c. unfinished (standing c)) (λ c. unfinished (put standing me (Completed a v) c)) me cpus small (λ j other. ap unfinished (put_else standing me (Completed a v) j other)) in
+      let s = sum_put (λ c. unfinished (standing c)) (λ c. unfinished (put standing me (Completed a v) c)) me cpus small (λ j other. ap unfinished
+      (put_else standing me (Completed a v) j other)) in
       let now : unfinished (put standing me (Completed a v) me) ≡ 0 = ap unfinished (put_here standing me (Completed a v)) in
       let then : unfinished (standing me) ≡ 1 = is in
       omega arith
 
   some_left : count_unfinished cpus standing ≢ 0
-  some_left z = let e : unfinished (standing me) ≡ 0 = sum_zero (λ c. unfinished (standing c)) cpus z me small in let f : unfinished (standing me) ≡ 1 = is in omega arith
+  some_left z = let e : unfinished (standing me) ≡ 0 = sum_zero (λ c. unfinished (standing c)) cpus z me small in let f : unfinished (standing me) ≡ 1 =
+      is in omega arith
 
   done_more : (e : Ending) (done : ℕ) → DoneShows cpus standing e done → DoneShows cpus (put standing me (Completed a v)) (cond (todo == 1) (Last me) e) done
   done_more Running done h = at_test todo 1 (λ b. DoneShows cpus (put standing me (Completed a v)) (cond b (Last me) Running) done)
@@ -101,18 +105,22 @@ module _ (cpus : ℕ) (stop : Stop) (word : Field → ℕ) (g : SlotShows cpus s
       let left = answer_unfinished stop.phase a v (stop.standing me) is in
       record {
         members = put_all (λ c s. is_of s ≡ (stop.is_open && has stop.work.mask c)) stop.standing me to (sym of ∙ g.members me) (λ c ne. g.members c);
-        roll = put_all (λ c s. has (word Roll) c ≡ is_called s) stop.standing me to (g.roll me ∙ answer_called stop.phase a v (stop.standing me) is) (λ c ne. g.roll c);
-        keeps = put_all (λ c s. Keeps cpus stop.phase c s) stop.standing me to (answer_keeps stop.phase a v cpus me (stop.standing me) is through.0 (g.keeps me)) (λ c ne. g.keeps c);
+        roll = put_all (λ c s. has (word Roll) c ≡ is_called s) stop.standing me to (g.roll me ∙ answer_called stop.phase a v (stop.standing me) is)
+            (λ c ne. g.roll c);
+        keeps = put_all (λ c s. Keeps cpus stop.phase c s) stop.standing me to (answer_keeps stop.phase a v cpus me (stop.standing me) is through.0
+            (g.keeps me)) (λ c ne. g.keeps c);
         shows = λ _. record {
           written = record { kind = o.written.kind; mask = o.written.mask; active = o.written.active; func = o.written.func; arg = o.written.arg };
           state = o.state;
           bound = o.bound;
-          ack = λ ne. ack_kept cpus stop.standing me stop.phase to (answer_behind stop.phase a v (stop.standing me) is) (sym of) stop.raising (word Ack) through.1 (o.ack ne);
+          ack = λ ne. ack_kept cpus stop.standing me stop.phase to (answer_behind stop.phase a v (stop.standing me) is) (sym of) stop.raising (word Ack)
+              through.1 (o.ack ne);
           calm = o.calm;
           kinds = o.kinds;
           todo = let l = one_less cpus stop.standing me a v (word Todo) small left o.todo in omega arith;
           done = done_more cpus stop.standing me a v (word Todo) small left o.todo stop.ending (word Done) o.done;
-          result = result_kept stop.standing me to (word Result) (answer_back stop.phase a v (stop.standing me) is) (answer_on stop.phase a v (stop.standing me) is) o.result;
+          result = result_kept stop.standing me to (word Result) (answer_back stop.phase a v (stop.standing me) is) (answer_on stop.phase a v
+              (stop.standing me) is) o.result;
         };
       }
 
@@ -142,7 +150,8 @@ module _ (cpus : ℕ) (stop : Stop) (word : Field → ℕ) (g : SlotShows cpus s
       let k = keeps_inside cpus stop word g me (Inside 2 3) is in
       let run : stop.phase ≡ 3 = ⊎_elim (λ (t : 3 ≡ 2). absurd (omega arith)) (λ (t : (3 ≡ 2 + 1) × (stop.phase ≡ 3)). t.1) k.2 in
       let open_ = is_open_inside cpus stop word g me (Inside 2 3) is refl in
-      let mask_is : (c : ℕ) → is_of (stop.standing c) ≡ has stop.work.mask c = λ c. subst (λ b. is_of (stop.standing c) ≡ (b && has stop.work.mask c)) open_ (g.members c) in
+      let mask_is : (c : ℕ) → is_of (stop.standing c) ≡ has stop.work.mask c = λ c. subst (λ b. is_of (stop.standing c) ≡ (b && has stop.work.mask c)) open_
+      (g.members c) in
       record {
         of_it = sym (mask_is me) ∙ ap is_of is;
         at_run = run;
@@ -177,7 +186,14 @@ module _ (cpus : ℕ) (stop : Stop) (word : Field → ℕ) (g : SlotShows cpus s
     roll = λ c. is_called_called (has work.mask c);
     keeps = λ c. keeps_called c (has work.mask c) refl;
     shows = λ _. record {
-      written = record { kind = b Kind (omega arith); mask = b Mask (omega arith); active = b Active (omega arith); func = b Func (omega arith); arg = b Arg (omega arith) };
+      written = record {
+        kind = b Kind (omega arith);
+        mask = b Mask (omega arith);
+        active = b Active (omega arith);
+        func = b Func (omega arith);
+        arg =
+            b Arg (omega arith);
+      };
       state = b State (omega arith);
       bound = small work.kind;
       ack = λ ne. b Ack (omega arith) ∙ sym (behind_all ne);
@@ -221,7 +237,8 @@ module _ (cpus : ℕ) (stop : Stop) (word : Field → ℕ) (g : SlotShows cpus s
       unfinished_one false = refl
 
       unfinished_all : count_unfinished cpus (λ c. cond (has work.mask c) Called Outside) ≡ mask_weight cpus work.mask
-      unfinished_all = sum_same (λ c. bit (has work.mask c)) (λ c. unfinished (cond (has work.mask c) Called Outside)) cpus (λ c _. unfinished_one (has work.mask c))
+      unfinished_all = sum_same (λ c. bit (has work.mask c)) (λ c. unfinished (cond (has work.mask c) Called Outside)) cpus
+          (λ c _. unfinished_one (has work.mask c))
 
       behind_first : (k : KindOf) (b : Bool) → first_phase k ≢ 0 → behind (first_phase k) (cond b Called Outside) ≡ bit b
       behind_first One b ne = absurd (ne refl)
@@ -230,8 +247,10 @@ module _ (cpus : ℕ) (stop : Stop) (word : Field → ℕ) (g : SlotShows cpus s
       behind_first Patch true ne = refl
       behind_first Patch false ne = refl
 
-      behind_all : first_phase work.kind ≢ 0 → count_behind cpus (first_phase work.kind) (λ c. cond (has work.mask c) Called Outside) ≡ mask_weight cpus work.mask
-      behind_all ne = sum_same (λ c. bit (has work.mask c)) (λ c. behind (first_phase work.kind) (cond (has work.mask c) Called Outside)) cpus (λ c _. behind_first work.kind (has work.mask c) ne)
+      behind_all : first_phase work.kind ≢ 0 → count_behind cpus (first_phase work.kind) (λ c. cond (has work.mask c) Called Outside) ≡ mask_weight cpus
+          work.mask
+      behind_all ne = sum_same (λ c. bit (has work.mask c)) (λ c. behind (first_phase work.kind) (cond (has work.mask c) Called Outside)) cpus
+          (λ c _. behind_first work.kind (has work.mask c) ne)
 
       gives_none : (c : ℕ) (b : Bool) (w : ℕ) → HasGiven (cond b Called Outside) w → ⊥
       gives_none c true w h = h
@@ -285,8 +304,21 @@ module _ (cpus : ℕ) (stop : Stop) (word : Field → ℕ) (g : SlotShows cpus s
       given_of (Answering a v) w h = (refl, h)
       given_of (Completed a v) w h = (refl, h)
 
-      answered : count_unfinished cpus stop.standing ≡ 0 → ResultShows stop.standing (word Result) → IsResult stop.work.mask (λ c. answer_of (stop.standing c)) (word Result)
+      answered : count_unfinished cpus stop.standing ≡ 0 → ResultShows stop.standing (word Result) →
+          IsResult stop.work.mask (λ c. answer_of (stop.standing c)) (word Result)
       answered z h = ⊎_elim
-          (λ (t : (word Result ≡ 0) × ((c w : ℕ) → HasGiven (stop.standing c) w → w ≡ 0)). inl (t.0, λ c of. t.1 c (answer_of (stop.standing c)) (given (stop.standing c) (mask_is c ∙ of) (each z c))))
-          (λ (t : (word Result ≢ 0) × ((c : ℕ) × HasGiven (stop.standing c) (word Result))). inr (t.0, (t.1.0, sym (mask_is t.1.0) ∙ (given_of (stop.standing t.1.0) (word Result) t.1.1).0, (given_of (stop.standing t.1.0) (word Result) t.1.1).1)))
+          (λ (t : (word Result ≡ 0) × ((c w : ℕ) → HasGiven (stop.standing c) w → w ≡ 0)). inl (
+            t.0,
+            λ c of. t.1 c (answer_of (stop.standing c))
+                (given (stop.standing c) (mask_is c ∙ of) (each z c)),
+          ))
+          (λ (t : (word Result ≢ 0) × ((c : ℕ) × HasGiven (stop.standing c) (word Result))). inr (
+            t.0,
+            (
+              t.1.0,
+              sym (mask_is t.1.0) ∙ (given_of (stop.standing t.1.0) (word Result) t.1.1).0,
+              (given_of (stop.standing t.1.0) (word Result)
+                  t.1.1).1,
+            ),
+          ))
           h

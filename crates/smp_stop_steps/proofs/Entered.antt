@@ -1,5 +1,6 @@
 -- Entering, completing, opening and collecting, among all slots and CPUs.
-use Rattle.std.proofs.Common.{◌≡◌, ◌≢◌, ℕ, zero, suc, ◌-◌, ◌<◌, Bool, true, false, ◌==◌, cond, sym, subst, refl, ap, ◌∙◌, ◌⊎◌, arith, ne_eqb, eq-eqb, Option, Some, None}
+use Rattle.std.proofs.Common.{◌≡◌, ◌≢◌, ℕ, zero, suc, ◌-◌, ◌<◌, Bool, true, false, ◌==◌, cond, sym, subst, refl, ap, ◌∙◌, ◌⊎◌, arith, ne_eqb, eq-eqb}
+use Rattle.std.proofs.Common.{Option, Some, None}
 use Rattle.smp_words.proofs.Puts.{at_test}
 use Rattle.smp_stop_steps.proofs.Counts.{put_else, put_here, sum_zero}
 use Rattle.smp_stop_steps.proofs.Ends.{all_outside, answer_of_it, answer_unfinished, collects_slot, completes_slot, finishes_slot, opens_slot}
@@ -15,7 +16,8 @@ use Rattle.smp_stop_steps.specs.Seats.{Closes, Fills, Free, Gives, In, Rests, Se
 use Rattle.smp_stop_steps.specs.Slots.{DoneShows, IsStored, OpenShows, SlotShows, put_field}
 use Rattle.smp_stop_steps.specs.Sources.{IsOfKind, IsPatchWork, IsWork}
 use Rattle.smp_stop_steps.specs.State.{Present, Setup}
-use Rattle.smp_stop_steps.specs.Stop.{Answering, Called, Completed, Ended, Ending, Inside, Last, Nobody, Outside, Raises, Raising, Refills, Running, Standing, Stop, closed, completed, ended, is_inside, is_of, opened, stands}
+use Rattle.smp_stop_steps.specs.Stop.{Answering, Called, Completed, Ended, Ending, Inside, Last, Nobody, Outside, Raises, Raising, Refills, Running}
+use Rattle.smp_stop_steps.specs.Stop.{Standing, Stop, closed, completed, ended, is_inside, is_of, opened, stands}
 use Rattle.smp_words.specs.declared.field.Field.TheVariants.{Ack, Done, Result, Roll, Todo}
 use Rattle.smp_words.specs.declared.field.Field.{Field}
 use Rattle.smp_words.specs.declared.work.Kind.TheVariants.{Multi, One, Patch}
@@ -36,7 +38,8 @@ module _ (u : Setup) (p : Present) (at : Word → ℕ) (seat : ℕ → Seat) (h 
   step_opens work shut is_work stored =
       let out = all_outside u.cpus (p.stop s) w (h.slots s) shut in
       source_moves u p at (put_word at (Slot s Roll) work.mask) seat s (opened (p.stop s) work) h
-      (slot_put u.cpus p.stop at s Roll work.mask (opened (p.stop s) work) h.slots (opens_slot u.cpus (p.stop s) w (h.slots s) work is_work.below is_work.some stored)) refl
+      (slot_put u.cpus p.stop at s Roll work.mask (opened (p.stop s) work) h.slots (opens_slot u.cpus (p.stop s) w (h.slots s) work is_work.below
+      is_work.some stored)) refl
       (λ c. record {
         on = λ i. absurd (nobody (out c) i);
         back = λ i. absurd (calls (has work.mask c) i);
@@ -82,7 +85,8 @@ module _ (u : Setup) (p : Present) (at : Word → ℕ) (seat : ℕ → Seat) (h 
       turned f e = at_test (place_of Roll) (place_of f) (λ b. cond b true false ≡ false)
           (λ same. let bad : true ≡ false = sym (ap (λ b. cond b true false) (eq-eqb (place_of f) (place_of Roll) (sym same))) ∙ e in cc) (λ _. refl)
 
-      drafted_slot : (f : Field) (n : ℕ) (work : Work) → (p.stop s).is_open ≡ false → ((c : ℕ) → (p.stop s).standing c ≡ Outside) → same_field f Roll true ≡ false →
+      drafted_slot : (f : Field) (n : ℕ) (work : Work) → (p.stop s).is_open ≡ false → ((c : ℕ) → (p.stop s).standing c ≡ Outside) →
+          same_field f Roll true ≡ false →
           SlotShows u.cpus (record (p.stop s) { work = work }) (put_field w f n)
       drafted_slot f n work shut out other = record {
         members = λ c. rw (out c, shut) refl;
@@ -132,12 +136,14 @@ module _ (u : Setup) (p : Present) (at : Word → ℕ) (seat : ℕ → Seat) (h 
       gone z c i =
           let both = inside_unfinished ((p.stop s).standing c) i in
           let one = both.1 in
-          let zero_ = sum_zero (λ c. unfinished ((p.stop s).standing c)) u.cpus z c (in_machine u.cpus (p.stop s).phase c ((p.stop s).standing c) both.0 ((h.slots s).keeps c)) in
+          let zero_ = sum_zero (λ c. unfinished ((p.stop s).standing c)) u.cpus z c (in_machine u.cpus (p.stop s).phase c ((p.stop s).standing c) both.0
+          ((h.slots s).keeps c)) in
           omega arith
 
   module _ (me : ℕ) where
     -- a CPU at home in no stop
-    at_home : (stop' : Stop) (to : Option ℕ) → ((j : ℕ) → is_inside ((p.stop j).standing me) ≡ true → j ≡ s) → (is_inside (stop'.standing me) ≡ true → to ≡ Some s) →
+    at_home : (stop' : Stop) (to : Option ℕ) → ((j : ℕ) → is_inside ((p.stop j).standing me) ≡ true → j ≡ s) → (is_inside (stop'.standing me) ≡ true →
+        to ≡ Some s) →
         (j : ℕ) → is_inside ((put p.stop s stop' j).standing me) ≡ true → put p.inside me to me ≡ Some j
     at_home stop' to only here j i = put_here p.inside me to ∙ at_test j s (λ b. is_inside ((cond b stop' (p.stop j)).standing me) ≡ true → to ≡ Some j)
         (λ e i. here i ∙ ap Some (sym e)) (λ ne i. absurd (ne (only j i))) i
@@ -147,7 +153,8 @@ module _ (u : Setup) (p : Present) (at : Word → ℕ) (seat : ℕ → Seat) (h 
 
     -- fetch_and of the roll, that found the own bit
     pub step_enters : (n : ℕ) → seat me ≡ Free → has (at (Slot s Roll)) me ≡ true → has n me ≡ false → ((c : ℕ) → c ≢ me → has n c ≡ has (at (Slot s Roll)) c) →
-        PresentShows u (moved p s (stands (p.stop s) me (Inside 0 0)) (put p.inside me (Some s)) p.irq p.readings) (put_word at (Slot s Roll) n) (put seat me (In s (p.stop s).work 0 0 Rests))
+        PresentShows u (moved p s (stands (p.stop s) me (Inside 0 0)) (put p.inside me (Some s)) p.irq p.readings) (put_word at (Slot s Roll) n)
+        (put seat me (In s (p.stop s).work 0 0 Rests))
     step_enters n is found clears others =
         let to = Inside 0 0 in
         let stop' = stands (p.stop s) me to in
@@ -191,7 +198,8 @@ module _ (u : Setup) (p : Present) (at : Word → ℕ) (seat : ℕ → Seat) (h 
             either (suc n) e = not_raising u.cpus (p.stop s).phase (p.stop s).standing me (at (Slot s Ack)) (p.stop s).raising not_in (o.ack (λ z. omega arith))
 
     -- fetch_sub of todo
-    pub step_completes : (a v : ℕ) → p.inside me ≡ Some s → IsAnswer ((p.stop s).standing me) a v → turn_of (p.stop s).raising me ≡ Rests → IsThrough (p.stop s) me a →
+    pub step_completes : (a v : ℕ) → p.inside me ≡ Some s → IsAnswer ((p.stop s).standing me) a v → turn_of (p.stop s).raising me ≡ Rests →
+        IsThrough (p.stop s) me a →
         irq_of (seat me) ≡ true → IsNoPatch (seat me) →
         PresentShows u (moved p s (completed (p.stop s) me a v (at (Slot s Todo))) (put p.inside me None) p.irq p.readings)
         (put_word at (Slot s Todo) (at (Slot s Todo) - 1)) (put seat me (cond (at (Slot s Todo) == 1) (Closes s) Free))
@@ -208,7 +216,8 @@ module _ (u : Setup) (p : Present) (at : Word → ℕ) (seat : ℕ → Seat) (h 
           back = λ i. subst (λ x. is_inside x ≡ true) (put_else (p.stop s).standing me (Completed a v) c ne) i;
           work = λ _. refl;
           turn = λ _. refl;
-          ending = λ op e. absurd (not_last c (in_machine u.cpus (p.stop s).phase me ((p.stop s).standing me) of ((h.slots s).keeps me)) (subst (λ e. DoneShows u.cpus (p.stop s).standing e (at (Slot s Done))) e o.done));
+          ending = λ op e. absurd (not_last c (in_machine u.cpus (p.stop s).phase me ((p.stop s).standing me) of ((h.slots s).keeps me))
+              (subst (λ e. DoneShows u.cpus (p.stop s).standing e (at (Slot s Done))) e o.done));
         })
         (save None)
         (now (found == 1) open_)
@@ -232,11 +241,14 @@ module _ (u : Setup) (p : Present) (at : Word → ℕ) (seat : ℕ → Seat) (h 
             let u = answer_unfinished (p.stop s).phase a v ((p.stop s).standing me) is in omega arith
 
         now : (b : Bool) → (p.stop s).is_open ≡ true →
-            Stands (moved p s (record (p.stop s) { standing = put (p.stop s).standing me (Completed a v); ending = cond b (Last me) (p.stop s).ending }) (put p.inside me None) p.irq p.readings) me (cond b (Closes s) Free)
+            Stands (moved p s (record (p.stop s) { standing = put (p.stop s).standing me (Completed a v); ending = cond b (Last me) (p.stop s).ending })
+            (put p.inside me None) p.irq p.readings) me (cond b (Closes s) Free)
         now true op = (
           put_here p.inside me None,
-          at_test s s (λ b. (cond b (record (p.stop s) { standing = put (p.stop s).standing me (Completed a v); ending = Last me }) (p.stop s)).is_open ≡ true) (λ _. op) (λ _. op),
-          at_test s s (λ b. (cond b (record (p.stop s) { standing = put (p.stop s).standing me (Completed a v); ending = Last me }) (p.stop s)).ending ≡ Last me) (λ _. refl) (λ ne. absurd (ne refl)),
+          at_test s s (λ b. (cond b (record (p.stop s) { standing = put (p.stop s).standing me (Completed a v); ending = Last me }) (p.stop s)).is_open ≡
+              true) (λ _. op) (λ _. op),
+          at_test s s (λ b. (cond b (record (p.stop s) { standing = put (p.stop s).standing me (Completed a v); ending = Last me }) (p.stop s)).ending ≡
+              Last me) (λ _. refl) (λ ne. absurd (ne refl)),
         )
         now false op = put_here p.inside me None
 
@@ -264,8 +276,10 @@ module _ (u : Setup) (p : Present) (at : Word → ℕ) (seat : ℕ → Seat) (h 
         (λ op kind. h.works s op kind)
 
     -- store of an answer that is not 0
-    pub step_answers : (job : Work) (a l v : ℕ) → seat me ≡ In s job a l Rests → v ≢ 0 → (a ≡ 4) ⊎ ((p.stop s).phase ≡ 0) → IsNot me (p.stop s).raising → irq_of (seat me) ≡ true →
-        PresentShows u (moved p s (stands (p.stop s) me (Answering a v)) p.inside p.irq p.readings) (put_word at (Slot s Result) v) (put seat me (Gives s job a v))
+    pub step_answers : (job : Work) (a l v : ℕ) → seat me ≡ In s job a l Rests → v ≢ 0 → (a ≡ 4) ⊎ ((p.stop s).phase ≡ 0) → IsNot me (p.stop s).raising →
+        irq_of (seat me) ≡ true →
+        PresentShows u (moved p s (stands (p.stop s) me (Answering a v)) p.inside p.irq p.readings) (put_word at (Slot s Result) v)
+        (put seat me (Gives s job a v))
     step_answers job a l v is some through quiet on =
         let to = Answering a v in
         let stop' = stands (p.stop s) me to in

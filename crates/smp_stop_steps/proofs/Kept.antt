@@ -10,7 +10,8 @@ use Rattle.smp_stop_steps.specs.Present.{OwnsKey, PresentShows}
 use Rattle.smp_stop_steps.specs.Seats.{Seat}
 use Rattle.smp_stop_steps.specs.Shows.{StopShows}
 use Rattle.smp_stop_steps.specs.Sources.{Collects, Drafts, Owns, Shut, Source, SourceShows}
-use Rattle.smp_stop_steps.specs.State.{Present, Setup, StopCall, StopState}
+use Rattle.smp_stop_steps.specs.Callings.{AreClosing, IsCalling}
+use Rattle.smp_stop_steps.specs.State.{Calling, Present, Setup, StopCall, StopState}
 use Rattle.smp_stop_steps.specs.Stop.{Ended, Standing, Stop, acked, is_inside}
 use Rattle.smp_words.specs.declared.field.Field.{Field}
 use Rattle.smp_words.specs.declared.work.Kind.TheVariants.{Patch}
@@ -20,22 +21,35 @@ use Rattle.smp_words.specs.declared.word.Word.{Word}
 
 module _ (u : Setup) (gate : Option ℕ) (s : ℕ) where
   -- a source whose slot is as it was
-  pub source_same : (stop : Stop) (word word' : Field → ℕ) → ((f : Field) → word' f ≡ word f) → (x : Source) → SourceShows u gate stop word s x → SourceShows u gate stop word' s x
+  pub source_same : (stop : Stop) (word word' : Field → ℕ) → ((f : Field) → word' f ≡ word f) → (x : Source) → SourceShows u gate stop word s x →
+      SourceShows u gate stop word' s x
   source_same stop word word' same Shut h = h
-  source_same stop word word' same (Drafts work k) h = record { shut = h.shut; holds = h.holds; is_work = h.is_work; stored = λ f l. same f ∙ h.stored f l; told = h.told }
+  source_same stop word word' same (Drafts work k) h = record {
+    shut = h.shut;
+    holds = h.holds;
+    is_work = h.is_work;
+    stored = λ f l. same f ∙ h.stored f l;
+    told = h.told;
+  }
   source_same stop word word' same (Owns work) h = h
   source_same stop word word' same (Collects work) h = h
 
   -- a source whose stop is open, stays so, and has ended where it had
-  pub source_open : (stop stop' : Stop) (word word' : Field → ℕ) → stop.is_open ≡ true → stop'.is_open ≡ true → stop'.work ≡ stop.work → (stop.ending ≡ Ended → stop'.ending ≡ Ended) →
+  pub source_open : (stop stop' : Stop) (word word' : Field → ℕ) → stop.is_open ≡ true → stop'.is_open ≡ true → stop'.work ≡ stop.work →
+      (stop.ending ≡ Ended → stop'.ending ≡ Ended) →
       (x : Source) → SourceShows u gate stop word s x → SourceShows u gate stop' word' s x
   source_open stop stop' word word' was now same end Shut h = let bad : true ≡ false = sym was ∙ h in cc
   source_open stop stop' word word' was now same end (Drafts work k) h = let bad : true ≡ false = sym was ∙ h.shut in cc
   source_open stop stop' word word' was now same end (Owns work) h = record { is_open = now; work_is = same ∙ h.work_is; is_work = h.is_work }
-  source_open stop stop' word word' was now same end (Collects work) h = (record { is_open = now; work_is = same ∙ h.0.work_is; is_work = h.0.is_work }, end h.1)
+  source_open stop stop' word word' was now same end (Collects work) h = (
+    record { is_open = now; work_is = same ∙ h.0.work_is; is_work = h.0.is_work },
+    end
+        h.1,
+  )
 
 -- the past, where nothing begins, is answered or collected
-pub past_same : (stop stop' : Stop) (begun : List Work) (collected : List ℕ) (answers : ℕ → List ℕ) → stop'.is_open ≡ stop.is_open → (stop.is_open ≡ true → stop'.work ≡ stop.work) →
+pub past_same : (stop stop' : Stop) (begun : List Work) (collected : List ℕ) (answers : ℕ → List ℕ) → stop'.is_open ≡ stop.is_open →
+    (stop.is_open ≡ true → stop'.work ≡ stop.work) →
     ((c : ℕ) → answer_now (stop'.standing c) ≡ answer_now (stop.standing c)) → HasPast stop begun collected answers → HasPast stop' begun collected answers
 past_same stop stop' begun collected answers op work given h = (
   h.0,
@@ -68,10 +82,13 @@ pub record IsEarly (first s : ℕ) (old new : Stop) : Type 0 where
   pub inside : is_inside (new.standing s) ≡ true → is_inside (old.standing s) ≡ true
   pub late : 3 ≤ acked (new.standing first) → 3 ≤ acked (old.standing first)
 
-pub owns_kept : (first : ℕ) (n : Present) (key : ℕ → ℕ) (s : ℕ) (stop' : Stop) (inside' : ℕ → Option ℕ) (irq' : ℕ → Bool) (readings' : ℕ → List Reading) (patching' : Patching) →
-    StaysOpen (n.stop s) stop' → IsEarly first s (n.stop s) stop' → ((j : ℕ) → OwnsKey first n key j) → (j : ℕ) → OwnsKey first (after n s stop' inside' irq' readings' patching') key j
+pub owns_kept : (first : ℕ) (n : Present) (key : ℕ → ℕ) (s : ℕ) (stop' : Stop) (inside' : ℕ → Option ℕ) (irq' : ℕ → Bool) (readings' : ℕ → List Reading)
+    (patching' : Patching) →
+    StaysOpen (n.stop s) stop' → IsEarly first s (n.stop s) stop' → ((j : ℕ) → OwnsKey first n key j) → (j : ℕ) →
+    OwnsKey first (after n s stop' inside' irq' readings' patching') key j
 owns_kept first n key s stop' inside' irq' readings' patching' stays early own j =
-    at_test j s (λ b. let x = cond b stop' (n.stop j) in x.is_open ≡ true → x.work.kind ≡ Patch → is_inside (x.standing j) ≡ true → 3 ≤ acked (x.standing first) → StandsSet x.work (key x.work.func))
+    at_test j s (λ b. let x = cond b stop' (n.stop j) in x.is_open ≡ true → x.work.kind ≡ Patch → is_inside (x.standing j) ≡ true →
+    3 ≤ acked (x.standing first) → StandsSet x.work (key x.work.func))
     (λ e op kind in_ late.
     let i = early.inside (subst (λ k. is_inside (stop'.standing k) ≡ true) e in_) in
     let o = own s stays.was (ap (λ (w : Work). w.kind) (sym stays.work) ∙ kind) i (early.late late) in
@@ -79,23 +96,42 @@ owns_kept first n key s stop' inside' irq' readings' patching' stays early own j
     (λ ne op kind in_ late. own j op kind in_ late)
 
 -- the past, by the answers of each CPU
-pub past_answers : (stop : Stop) (begun : List Work) (collected : List ℕ) (answers answers' : ℕ → List ℕ) → ((c : ℕ) → answers' c ≡ answers c) → HasPast stop begun collected answers → HasPast stop begun collected answers'
-past_answers stop begun collected answers answers' same h = (h.0, record { each = h.1.each; begun_are = h.1.begun_are; collected_are = h.1.collected_are; answers_are = λ c. same c ∙ h.1.answers_are c })
+pub past_answers : (stop : Stop) (begun : List Work) (collected : List ℕ) (answers answers' : ℕ → List ℕ) → ((c : ℕ) → answers' c ≡ answers c) →
+    HasPast stop begun collected answers → HasPast stop begun collected answers'
+past_answers stop begun collected answers answers' same h = (
+  h.0,
+  record {
+    each = h.1.each;
+    begun_are = h.1.begun_are;
+    collected_are = h.1.collected_are;
+    answers_are = λ c. same c ∙ h.1.answers_are c;
+  },
+)
 
 module _ (u : Setup) (p : StopState) (at : Word → ℕ) (seat : ℕ → Seat) (source : ℕ → Source) (h : StopShows u p at seat source) (s : ℕ) (stop' : Stop)
     (inside' : ℕ → Option ℕ) (irq' : ℕ → Bool) (readings' : ℕ → List Reading) (patching' : Patching) (at' : Word → ℕ) (seat' : ℕ → Seat) where
   -- a step on an open stop that stays open
-  pub open_step_with : (looks' : ℕ → List ℕ) (calls' : ℕ → List StopCall) (answers' : ℕ → ℕ → List ℕ) →
+  pub open_step_with : (looks' : ℕ → List ℕ) (calls' : ℕ → List StopCall) (calling' : ℕ → Calling) (answers' : ℕ → ℕ → List ℕ) →
       (p.now.stop s).is_open ≡ true → stop'.is_open ≡ true → stop'.work ≡ (p.now.stop s).work → ((p.now.stop s).ending ≡ Ended → stop'.ending ≡ Ended) →
       at' Gate ≡ at Gate → ((k : ℕ) → at' (Key k) ≡ at (Key k)) → ((j : ℕ) → j ≢ s → (f : Field) → at' (Slot j f) ≡ at (Slot j f)) →
       ((j : ℕ) → HasPast (put p.now.stop s stop' j) (p.begun j) (p.collected j) (λ c. answers' c j)) →
       ((j : ℕ) → OwnsKey u.first (after p.now s stop' inside' irq' readings' patching') (λ k. at' (Key k)) j) →
       PresentShows u (after p.now s stop' inside' irq' readings' patching') at' seat' →
-      StopShows u (record p { now = after p.now s stop' inside' irq' readings' patching'; answers = answers'; looks = looks'; calls = calls' }) at' seat' source
-  open_step_with looks' calls' answers' was now work end gate keys slots past own present = record {
+      ((c : ℕ) → IsCalling c (seat' c) (calling' c)) → AreClosing (after p.now s stop' inside' irq' readings' patching') seat' →
+      StopShows u (record p {
+        now = after p.now s stop' inside' irq' readings' patching';
+        answers = answers';
+        looks = looks';
+        calls = calls';
+        calling =
+            calling';
+      }) at' seat' source
+  open_step_with looks' calls' calling' answers' was now work end gate keys slots past own present callings closing = record {
     setup = h.setup;
     present = present;
     gate = gate ∙ h.gate;
+    callings = callings;
+    closing = closing;
     sources = λ j. at_test j s (λ b. SourceShows u p.gate (cond b stop' (p.now.stop j)) (λ f. at' (Slot j f)) j (source j))
         (λ e. let P : ℕ → Type 0 = λ k. SourceShows u p.gate stop' (λ f. at' (Slot k f)) k (source k) in
         subst P (sym e) (source_open u p.gate s (p.now.stop s) stop' (λ f. at (Slot s f)) (λ f. at' (Slot s f)) was now work end (source s) (h.sources s)))
@@ -106,20 +142,24 @@ module _ (u : Setup) (p : StopState) (at : Word → ℕ) (seat : ℕ → Seat) (
   }
 
   -- a step on an open stop that begins, answers and collects nothing
-  pub open_step : (looks' : ℕ → List ℕ) (calls' : ℕ → List StopCall) → StaysOpen (p.now.stop s) stop' →
+  pub open_step : (looks' : ℕ → List ℕ) (calls' : ℕ → List StopCall) (calling' : ℕ → Calling) → StaysOpen (p.now.stop s) stop' →
       at' Gate ≡ at Gate → ((k : ℕ) → at' (Key k) ≡ at (Key k)) → ((j : ℕ) → j ≢ s → (f : Field) → at' (Slot j f) ≡ at (Slot j f)) →
       ((j : ℕ) → OwnsKey u.first (after p.now s stop' inside' irq' readings' patching') (λ k. at' (Key k)) j) →
       PresentShows u (after p.now s stop' inside' irq' readings' patching') at' seat' →
-      StopShows u (record p { now = after p.now s stop' inside' irq' readings' patching'; looks = looks'; calls = calls' }) at' seat' source
-  open_step looks' calls' stays gate keys slots own present = open_step_with looks' calls' p.answers stays.was stays.now stays.work stays.end gate keys slots
+      ((c : ℕ) → IsCalling c (seat' c) (calling' c)) → AreClosing (after p.now s stop' inside' irq' readings' patching') seat' →
+      StopShows u (record p { now = after p.now s stop' inside' irq' readings' patching'; looks = looks'; calls = calls'; calling = calling' }) at' seat' source
+  open_step looks' calls' calling' stays gate keys slots own present callings closing = open_step_with looks' calls' calling' p.answers stays.was stays.now
+      stays.work stays.end gate keys slots
       (λ j. at_test j s (λ b. HasPast (cond b stop' (p.now.stop j)) (p.begun j) (p.collected j) (λ c. p.answers c j))
       (λ e. let P : ℕ → Type 0 = λ k. HasPast stop' (p.begun k) (p.collected k) (λ c. p.answers c k) in
-      subst P (sym e) (past_same (p.now.stop s) stop' (p.begun s) (p.collected s) (λ c. p.answers c s) (stays.now ∙ sym stays.was) (λ _. stays.work) stays.given (h.past s)))
-      (λ ne. h.past j)) own present
+      subst P (sym e) (past_same (p.now.stop s) stop' (p.begun s) (p.collected s) (λ c. p.answers c s) (stays.now ∙ sym stays.was) (λ _. stays.work)
+      stays.given (h.past s)))
+      (λ ne. h.past j)) own present callings closing
 
 -- the words of other slots, where one field of one slot was changed
 pub other_slots : (at : Word → ℕ) (s : ℕ) (g : Field) (n : ℕ) (j : ℕ) → j ≢ s → (f : Field) → put_word at (Slot s g) n (Slot j f) ≡ at (Slot j f)
-other_slots at s g n j ne f = at_test j s (λ b. cond (same_field f g b) n (at (Slot j f)) ≡ at (Slot j f)) (λ e. absurd (ne e)) (λ _. ap (λ b. cond b n (at (Slot j f))) (field_false f g))
+other_slots at s g n j ne f = at_test j s (λ b. cond (same_field f g b) n (at (Slot j f)) ≡ at (Slot j f)) (λ e. absurd (ne e))
+    (λ _. ap (λ b. cond b n (at (Slot j f))) (field_false f g))
 
 -- a CPU that goes elsewhere inside a stop
 pub record MovesInside (old new : Standing) : Type 0 where

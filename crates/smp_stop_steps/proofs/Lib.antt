@@ -18,6 +18,7 @@ pub mod Owns
 pub mod Pasts
 -- kinds of step
 pub mod Kept
+pub mod Callings
 pub mod Rounds
 pub mod Completions
 pub mod Sources
@@ -29,12 +30,27 @@ pub mod StageSteps
 pub mod RoundSteps
 pub mod AckSteps
 pub mod CompletionSteps
+pub mod CallSteps
 pub mod StateWords
 -- the machine: a stop table, and a list of controls
 pub mod Tables
 pub mod Named
 pub mod Values
+pub mod StepLaws
 pub mod Made
 pub mod Opened
 pub mod Begun
 pub mod Starting
+-- laws
+pub mod Functions
+pub mod Premises
+pub mod Interrupts
+pub mod Patchers
+pub mod StopLaws
+-- what a CPU knows
+pub mod Parts
+pub mod KnownSources
+pub mod KnownRounds
+pub mod KnownEnds
+pub mod KnownLabels
+pub mod KnownMoves

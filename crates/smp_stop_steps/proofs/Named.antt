@@ -1,6 +1,7 @@
 -- The word of each access of the stop half is in its table, and no step takes the gate from its holder.
 use Rattle.smp_stop_steps.specs.Tells.{plan_at}
-use Rattle.std.proofs.Common.{◌≡◌, ◌≢◌, ℕ, zero, suc, ◌+◌, ◌<◌, ◌≤◌, Bool, true, false, ◌==◌, cond, sym, subst, refl, ap, ◌∙◌, inl, inr, arith, ⊎_elim, ne_eqb, Option, Some, None, List, [], ◌∷◌, ◌++◌, length}
+use Rattle.std.proofs.Common.{◌≡◌, ◌≢◌, ℕ, zero, suc, ◌+◌, ◌<◌, ◌≤◌, Bool, true, false, ◌==◌, cond, sym, subst, refl, ap, ◌∙◌, inl, inr, arith}
+use Rattle.std.proofs.Common.{⊎_elim, ne_eqb, Option, Some, None, List, [], ◌∷◌, ◌++◌, length}
 use Rattle.std.proofs.lemmas.Bool.{cases_lt}
 use Rattle.std.proofs.lemmas.List.{append-nil}
 use Rattle.smp_stop_steps.proofs.Phases.{is_open_inside}
@@ -12,7 +13,7 @@ use Rattle.smp_words.specs.Size.{cpus}
 use Rattle.smp_stop_steps.specs.Labels.{Change, count_set, patch_answer}
 use Rattle.smp_stop_steps.specs.Seats.{Alters, Closes, Fills, Gives, In, Rests, Seat, Sets, Stands, Turn}
 use Rattle.smp_stop_steps.specs.Shows.{StopShows}
-use Rattle.smp_stop_steps.specs.Sits.{HoldsGate, IsLoaded, IsThroughAll, Sits, SitsAt, SitsInCompletion, SitsInRound}
+use Rattle.smp_stop_steps.specs.Sits.{RunsIf, HoldsGate, IsLoaded, IsThroughAll, Sits, SitsAt, SitsInCompletion, SitsInRound}
 use Rattle.smp_stop_steps.specs.Sources.{Collects, Drafts, IsWork, Owns, Shut, Source, SourceShows}
 use Rattle.smp_stop_steps.specs.Stages.{StopControlValue, change_at, completion_access, label_word, round_access, stop_access, store_of}
 use Rattle.smp_stop_steps.specs.State.{Setup, StopState}
@@ -22,7 +23,9 @@ use Rattle.smp_stop_steps.specs.declared.stage.CompletionStage.TheVariants as co
 use Rattle.smp_stop_steps.specs.declared.stage.CompletionStage.{CompletionStage}
 use Rattle.smp_stop_steps.specs.declared.stage.RoundStage.TheVariants as round
 use Rattle.smp_stop_steps.specs.declared.stage.RoundStage.{RoundStage}
-use Rattle.smp_stop_steps.specs.declared.stage.StopStage.TheVariants.{Advance, Begin, Close, Complete, Enter, EnterActive, EnterKind, EnterMask, LoadDone, LoadResult, OpenGate, ReadKey, ReadSite, TakeGate, NudgeKey, ExchangeKey}
+use Rattle.smp_stop_steps.specs.declared.stage.StopStage.TheVariants.{Advance, Begin, Close, Complete, Enter, EnterActive, EnterKind, EnterMask}
+use Rattle.smp_stop_steps.specs.declared.stage.StopStage.TheVariants.{LoadDone, LoadResult, OpenGate, ReadKey, ReadSite, TakeGate, NudgeKey}
+use Rattle.smp_stop_steps.specs.declared.stage.StopStage.TheVariants.{ExchangeKey}
 use Rattle.smp_stop_steps.specs.declared.stage.StopStage.{StopStage}
 use Rattle.smp_stop_steps.specs.declared.stage.Visit.{Visit}
 use Rattle.smp_words.specs.declared.work.Kind.TheVariants.{Patch}
@@ -51,7 +54,8 @@ module _ (u : Setup) (p : StopState) (at : Word → ℕ) (seat : ℕ → Seat) (
   open_below : (s : ℕ) → (p.now.stop s).is_open ≡ true → s < cpus
   open_below s op = elim (cases_lt s cpus) [
     | inl low ↦ low
-    | inr high ↦ absurd (let x : (p.now.stop s).is_open ≡ false = subst (SourceShows u p.gate (p.now.stop s) (λ f. at (Slot s f)) s) (shut s (omega arith)) (h.sources s) in let bad : true ≡ false = sym op ∙ x in cc)
+    | inr high ↦ absurd (let x : (p.now.stop s).is_open ≡ false = subst (SourceShows u p.gate (p.now.stop s) (λ f. at (Slot s f)) s) (shut s (omega arith))
+        (h.sources s) in let bad : true ≡ false = sym op ∙ x in cc)
   ]
 
   -- the source of an open stop owns it
@@ -104,13 +108,15 @@ module _ (u : Setup) (p : StopState) (at : Word → ℕ) (seat : ℕ → Seat) (
         let m = h.setup.few_keys in omega arith
 
     -- the changes of a patch
-    sites_named : (key : ℕ) (on : Bool) (i : ℕ) (entries : List ℕ) → i + length entries ≤ MOST_SITES → AllByRecursion IsNamedChange (site_changes key on i entries)
+    sites_named : (key : ℕ) (on : Bool) (i : ℕ) (entries : List ℕ) → i + length entries ≤ MOST_SITES → AllByRecursion IsNamedChange
+        (site_changes key on i entries)
     sites_named key on i [] fits = tt
     sites_named key on i (x ∷ rest) fits = joined (entry_at x) (site_changes key on (i + 1) rest) (sites_named key on (i + 1) rest (omega arith))
       where
         joined : (e : Option SiteEntry) (xs : List Change) → AllByRecursion IsNamedChange xs → AllByRecursion IsNamedChange (site_change key on i e ++ xs)
         joined None xs all = all
-        joined (Some e) xs all = elim (e.key == key) as (λ b. AllByRecursion IsNamedChange (cond b ((place.Site i, kind_word_site (kind_of on e.branch)) ∷ []) [] ++ xs)) [ true ↦ ((let z : i < MOST_SITES = omega arith in z), all) | false ↦ all ]
+        joined (Some e) xs all = elim (e.key == key) as (λ b. AllByRecursion IsNamedChange (cond b ((place.Site i, kind_word_site (kind_of on e.branch)) ∷
+            []) [] ++ xs)) [ true ↦ ((let z : i < MOST_SITES = omega arith in z), all) | false ↦ all ]
 
     at_split : (before : List Change) (change : Change) (rest : List Change) → AllByRecursion IsNamedChange (before ++ change ∷ rest) → IsNamedChange change
     at_split [] change rest all = all.0
@@ -127,7 +133,8 @@ module _ (u : Setup) (p : StopState) (at : Word → ℕ) (seat : ℕ → Seat) (
       me_below : me < cpus
       me_below = let b = s.below in omega arith
 
-      round_named : (v : Visit) (stage : RoundStage) → SitsInRound u me c.changes v stage (seat me) → IsStopWord (word_of (round_access u.cpus c.changes v stage))
+      round_named : (v : Visit) (stage : RoundStage) → SitsInRound u me c.changes v stage (seat me) →
+          IsStopWord (word_of (round_access u.cpus c.changes v stage))
       round_named v (round.Look answer) x = below_in v.slot x.2.0 v.acked v.acked Rests x.2.2
       round_named v (round.LoadFunc answer) x = below_in v.slot x.1.0 2 3 Rests x.1.1.3
       round_named v (round.LoadArg answer func) x = below_in v.slot x.1.0 2 3 Rests x.1.1.3
@@ -139,24 +146,30 @@ module _ (u : Setup) (p : StopState) (at : Word → ℕ) (seat : ℕ → Seat) (
       round_named v (round.LoadEntry key word site) x = x.3
       round_named v (round.StoreChange made) x = go x.0 x.1 x.4 x.5 x.6.0 x.6.1 x.6.2 x.6.3 x.6.4
         where
-          go : (work : Work) (count : ℕ) → made < length c.changes → c.changes ≡ plan_at u work count → (before after : List Change) → c.changes ≡ before ++ after → length before ≡ made →
+          go : (work : Work) (count : ℕ) → made < length c.changes → c.changes ≡ plan_at u work count → (before after : List Change) →
+              c.changes ≡ before ++ after → length before ≡ made →
               seat me ≡ Alters v.slot work count before after → IsStopWord (word_of (store_of (change_at c.changes made)))
-          go work count low plan before [] are long is = absurd (let same : length c.changes ≡ length before = ap length (are ∙ append-nil before) in omega arith)
+          go work count low plan before [] are long is = absurd (let same : length c.changes ≡ length before = ap length (are ∙ append-nil before) in
+              omega arith)
           go work count low plan before (change ∷ rest) are long is =
               let st : Stands p.now me (Alters v.slot work count before (change ∷ rest)) = subst (Stands p.now me) is (h.present.stands me) in
               let key = key_below v.slot work (open_alters v.slot work count before (change ∷ rest) is) st.3 st.4 in
-              let all : AllByRecursion IsNamedChange (plan_at u work count) = plan_named work key (count_set work count) (count == count_set work count) (xor (is_on count) (is_on (count_set work count))) in
-              let here : change_at c.changes made ≡ change = ap (λ l. change_at l made) are ∙ (ap (λ n. change_at (before ++ change ∷ rest) n) (sym long) ∙ change_here before change rest) in
+              let all : AllByRecursion IsNamedChange (plan_at u work count) = plan_named work key (count_set work count) (count == count_set work count)
+              (xor (is_on count) (is_on (count_set work count))) in
+              let here : change_at c.changes made ≡ change = ap (λ l. change_at l made) are ∙ (ap (λ n. change_at (before ++ change ∷ rest) n) (sym long) ∙
+              change_here before change rest) in
               subst (λ (x : Change). IsStopWord (word_of (store_of x))) (sym here)
               (named_store change (at_split before change rest (subst (AllByRecursion IsNamedChange) (sym plan ∙ are) all)))
             where
-              plan_named : (work : Work) → work.func < MOST_KEYS → (word : ℕ) (a b : Bool) → AllByRecursion IsNamedChange (cond a [] (cond b (patch_of work.func word u.entries) ((place.Key work.func, word) ∷ [])))
+              plan_named : (work : Work) → work.func < MOST_KEYS → (word : ℕ) (a b : Bool) → AllByRecursion IsNamedChange
+                  (cond a [] (cond b (patch_of work.func word u.entries) ((place.Key work.func, word) ∷ [])))
               plan_named work key word true b = tt
               plan_named work key word false true = (key, sites_named work.func (is_on word) 0 u.entries (let f = h.present.entries.few in omega arith))
               plan_named work key word false false = (key, tt)
       round_named v (round.Acknowledge answer ran) x = ⊎_elim
-          (λ (y : (seat me ≡ In v.slot x.0 v.acked (v.acked + 1) Rests) × (v.acked ≡ 2 → v.kind ≡ Patch → has v.active me ≡ false)). below_in v.slot x.0 v.acked (v.acked + 1) Rests y.0)
-          (λ (y : (v.acked ≡ 2) × (ran ≡ true) × ((count : ℕ) × (answer ≡ patch_answer x.0 count) × (seat me ≡ Alters v.slot x.0 count (plan_at u x.0 count) []))). below_alters v.slot x.0 y.2.0 (plan_at u x.0 y.2.0) [] y.2.2) x.3
+          (λ (y : (seat me ≡ In v.slot x.0 v.acked (v.acked + 1) Rests) × RunsIf me v ran). below_in v.slot x.0 v.acked (v.acked + 1) Rests y.0)
+          (λ (y : (v.acked ≡ 2) × (ran ≡ true) × ((count : ℕ) × (answer ≡ patch_answer x.0 count) × (seat me ≡ Alters v.slot x.0 count (plan_at u x.0 count)
+          []))). below_alters v.slot x.0 y.2.0 (plan_at u x.0 y.2.0) [] y.2.2) x.3
       round_named v (round.Refill ran) x = below_in v.slot x.0 v.acked v.acked Fills x.2
       round_named v (round.Raise ran) x = below_in v.slot x.0 v.acked v.acked Sets x.2
 
@@ -165,7 +178,8 @@ module _ (u : Setup) (p : StopState) (at : Word → ℕ) (seat : ℕ → Seat) (
       completion_named v (completion.LoadArg answer func) x = below_in v.slot x.1.0 v.acked v.acked Rests x.1.2
       completion_named v completion.StoreAnswer x = below_in v.slot x.2.0 v.acked v.acked Rests x.2.2
       completion_named v completion.CountDown x = ⊎_elim
-          (λ (y : (v.answer ≡ 0) × IsLoaded v x.0 × IsThroughAll v × (seat me ≡ In v.slot x.0 v.acked v.acked Rests)). below_in v.slot x.0 v.acked v.acked Rests y.3)
+          (λ (y : (v.answer ≡ 0) × IsLoaded v x.0 × IsThroughAll v × (seat me ≡ In v.slot x.0 v.acked v.acked Rests)). below_in v.slot x.0 v.acked v.acked
+          Rests y.3)
           (λ (y : seat me ≡ Gives v.slot x.0 v.acked v.answer). below_gives v.slot x.0 v.acked v.answer y) x.1
 
       -- the word of the next access is in the table
@@ -231,4 +245,5 @@ module _ (u : Setup) (p : StopState) (at : Word → ℕ) (seat : ℕ → Seat) (
       gate_stays (ReadKey k) e cpu ne held = held
       gate_stays (ReadSite i) e cpu ne held = held
       gate_stays (NudgeKey k up) e cpu ne held = held
-      gate_stays (ExchangeKey k expected new) e cpu ne held = elim (at (Key k) == expected) as (λ b. (put_if put_word at (Key k) (cond b (Some new) None)) Gate ≡ cpu + 1) [ true ↦ held | false ↦ held ]
+      gate_stays (ExchangeKey k expected new) e cpu ne held =
+          elim (at (Key k) == expected) as (λ b. (put_if put_word at (Key k) (cond b (Some new) None)) Gate ≡ cpu + 1) [ true ↦ held | false ↦ held ]

@@ -1,5 +1,6 @@
 -- Laws of nudges and patches, by where a CPU stands.
-use Rattle.std.proofs.Common.{◌≡◌, ◌≢◌, ℕ, ◌+◌, ◌-◌, ◌<◌, Bool, true, false, nat_lt, ltb-true, lt-ltb, eq-eqb, eqb-true, ◌==◌, ◌&&◌, cond, sym, subst, refl, ap, ◌∙◌, ◌⊎◌, inl, inr, ⊎_elim, arith, Option, Some, None, List, [], ◌∷◌, ◌++◌}
+use Rattle.std.proofs.Common.{◌≡◌, ◌≢◌, ℕ, ◌+◌, ◌-◌, ◌<◌, Bool, true, false, nat_lt, ltb-true, lt-ltb, eq-eqb, eqb-true, ◌==◌, ◌&&◌, cond, sym, subst}
+use Rattle.std.proofs.Common.{refl, ap, ◌∙◌, ◌⊎◌, inl, inr, ⊎_elim, arith, Option, Some, None, List, [], ◌∷◌, ◌++◌}
 use Rattle.std.proofs.lemmas.Bool.{cases_lt}
 use Rattle.smp_labels.specs.Keys.{is_on, change_of, count_after, IsKeyWord}
 use Rattle.smp_labels.specs.Kinds.{xor}
@@ -15,7 +16,7 @@ use Rattle.smp_stop_steps.specs.Present.{RunnerShows}
 use Rattle.smp_stop_steps.specs.Promises.{IsPatched, KeysStand, Nudges, ReadsOwnPatch, StandsAtEdge}
 use Rattle.smp_stop_steps.specs.Seats.{Alters, In, Rests, Seat, Stands}
 use Rattle.smp_stop_steps.specs.Shows.{StopShows}
-use Rattle.smp_stop_steps.specs.Sits.{IsNudge, Sits, SitsAt, SitsAtRest}
+use Rattle.smp_stop_steps.specs.Sits.{RunsIf, IsNudge, Sits, SitsAt, SitsAtRest}
 use Rattle.smp_stop_steps.specs.Sources.{Source}
 use Rattle.smp_stop_steps.specs.Stages.{StopControlValue, nudge_on, stop_ends, stop_goes}
 use Rattle.smp_stop_steps.specs.State.{Present, Setup, StopState}
@@ -25,7 +26,9 @@ use Rattle.smp_words.specs.declared.seen.Note.TheVariants as note
 use Rattle.smp_stop_steps.specs.declared.stage.CompletionStage.TheVariants as completion
 use Rattle.smp_stop_steps.specs.declared.stage.RoundStage.TheVariants as round
 use Rattle.smp_stop_steps.specs.declared.stage.StopStage.{StopStage}
-use Rattle.smp_stop_steps.specs.declared.stage.StopStage.TheVariants.{Advance, Begin, Close, Complete, Enter, EnterActive, EnterKind, EnterMask, ExchangeKey, LoadDone, LoadResult, NudgeKey, OpenGate, ReadKey as LoadKey, ReadSite, TakeGate}
+use Rattle.smp_stop_steps.specs.declared.stage.StopStage.TheVariants.{Advance, Begin, Close, Complete, Enter, EnterActive, EnterKind, EnterMask}
+use Rattle.smp_stop_steps.specs.declared.stage.StopStage.TheVariants.{ExchangeKey, LoadDone, LoadResult, NudgeKey, OpenGate, ReadKey as LoadKey}
+use Rattle.smp_stop_steps.specs.declared.stage.StopStage.TheVariants.{ReadSite, TakeGate}
 use Rattle.smp_stop_steps.specs.declared.stage.Visit.{Visit}
 use Rattle.smp_words.specs.declared.work.Kind.TheVariants.{Patch}
 use Rattle.smp_words.specs.declared.work.Work.{Work}
@@ -73,7 +76,8 @@ module _ (u : Setup) (p : StopState) (at : Word → ℕ) (seat : ℕ → Seat) (
       go None e = read
       go (Some j) e =
           let begun = record (p.now) { patching = patch_begun u me (p.now.stop j).work (at (Key k)) } in
-          subst (λ b. Reads k (cond (b && is_patch (p.now.stop j).work.kind) begun (reads p.now me (ReadKey k (is_on (at (Key k))))))) (sym (not_run u p at seat source h me j on e)) read
+          subst (λ b. Reads k (cond (b && is_patch (p.now.stop j).work.kind) begun (reads p.now me (ReadKey k (is_on (at (Key k)))))))
+          (sym (not_run u p at seat source h me j on e)) read
 
   -- a nudge that is refused at the end of the range; after is the count that it would leave
   abbrev Refuses : (k : ℕ) → (after : Option ℕ) → Type 0
@@ -171,7 +175,7 @@ module _ (u : Setup) (p : StopState) (at : Word → ℕ) (seat : ℕ → Seat) (
       let x = (at_seat (Advance v (round.Acknowledge answer ran)) e).1 in
       either x.0 x.3
     where
-      either : (w : Work) → ((seat me ≡ In v.slot w v.acked (v.acked + 1) Rests) × (v.acked ≡ 2 → v.kind ≡ Patch → has v.active me ≡ false)) ⊎
+      either : (w : Work) → ((seat me ≡ In v.slot w v.acked (v.acked + 1) Rests) × RunsIf me v ran) ⊎
           ((v.acked ≡ 2) × (ran ≡ true) × ((n : ℕ) × (answer ≡ patch_answer w n) × (seat me ≡ Alters v.slot w n (plan_at u w n) []))) →
           IsPatched u work count made rest answer ran
       either w (inl (sits, calm)) =

@@ -2,7 +2,8 @@
 use Rattle.std.proofs.lemmas.Bool.{cases_lt}
 use Rattle.smp_labels.specs.declared.keys.Change.TheVariants.{Off, On, Up, Down}
 use Rattle.smp_labels.specs.declared.keys.Change.{Change as KeyChange}
-use Rattle.std.proofs.Common.{◌≡◌, ◌≢◌, ℕ, ◌+◌, ◌≤◌, true, false, nat_lt, ◌==◌, ◌&&◌, ◌||◌, sym, subst, refl, ap, ◌∙◌, ◌⊎◌, arith, le-ltb, eqb-true, ⊎_elim, ne_eqb, Some, None, List, [], ◌∷◌, ◌++◌, lt-ltb, IfSome, cond, ◌<◌, Bool, inl, inr}
+use Rattle.std.proofs.Common.{◌≡◌, ◌≢◌, ℕ, ◌+◌, ◌≤◌, true, false, nat_lt, ◌==◌, ◌&&◌, ◌||◌, sym, subst, refl, ap, ◌∙◌, ◌⊎◌, arith, le-ltb, eqb-true}
+use Rattle.std.proofs.Common.{⊎_elim, ne_eqb, Some, None, List, [], ◌∷◌, ◌++◌, lt-ltb, IfSome, cond, ◌<◌, Bool, inl, inr}
 use Rattle.smp_words.proofs.Puts.{put_all, at_test}
 use Rattle.smp_stop_steps.proofs.Counts.{put_here}
 use Rattle.smp_stop_steps.proofs.Ends.{function_law}
@@ -53,7 +54,8 @@ off_at : (l a : ℕ) → 2 ≤ l → a ≢ 4 → IsOff l a
 off_at l a m ne = ap (λ b. b || a == 4) (before_at l m) ∙ ne_eqb a 4 ne
 
 -- a CPU inside that has acknowledged 2 and not 4 has its interrupts off
-pub off_inside : (p : Present) (c s a l : ℕ) (seat : Seat) → Stands p c seat → p.inside c ≡ Some s → (p.stop s).standing c ≡ Inside a l → 2 ≤ l → a ≢ 4 → irq_of seat ≡ false
+pub off_inside : (p : Present) (c s a l : ℕ) (seat : Seat) → Stands p c seat → p.inside c ≡ Some s → (p.stop s).standing c ≡ Inside a l → 2 ≤ l → a ≢ 4 →
+    irq_of seat ≡ false
 off_inside p c s a l Free st in_ is m ne = let bad : None ≡ Some s = sym st ∙ in_ in cc
 off_inside p c s a l (In s' job a' l' t) st in_ is m ne =
     let e : Some s' ≡ Some s = sym st.0 ∙ in_ in
@@ -81,24 +83,30 @@ module _ (u : Setup) (p : Present) (at : Word → ℕ) (seat : ℕ → Seat) (h 
       let w : Field → ℕ = λ f. at (Slot s f) in
       let f = function_law u.cpus (p.stop s) w (h.slots s) me is in
       let open_ = is_open_inside u.cpus (p.stop s) w (h.slots s) me (Inside 2 3) is refl in
-      let of_it : is_of ((p.stop s).standing c) ≡ true = subst (λ b. is_of ((p.stop s).standing c) ≡ (b && has (p.stop s).work.mask c)) open_ ((h.slots s).members c) ∙ of in
+      let of_it : is_of ((p.stop s).standing c) ≡ true = subst (λ b. is_of ((p.stop s).standing c) ≡ (b && has (p.stop s).work.mask c)) open_
+      ((h.slots s).members c) ∙ of in
       h.irq c ∙ go ((p.stop s).standing c) refl of_it f.at_run (f.all_disabled c of) ((h.slots s).keeps c)
     where
-      go : (x : Standing) → (p.stop s).standing c ≡ x → is_of x ≡ true → (p.stop s).phase ≡ 3 → (acked x ≡ 2) ⊎ (acked x ≡ 3) → Keeps u.cpus (p.stop s).phase c x → irq_of (seat c) ≡ false
+      go : (x : Standing) → (p.stop s).standing c ≡ x → is_of x ≡ true → (p.stop s).phase ≡ 3 → (acked x ≡ 2) ⊎ (acked x ≡ 3) →
+          Keeps u.cpus (p.stop s).phase c x → irq_of (seat c) ≡ false
       go Outside e of run a k = cc
       go Called e of run a k = absurd (⊎_elim (λ (t : 0 ≡ 2). omega arith) (λ (t : 0 ≡ 3). omega arith) a)
       go (Inside b l) e of run a k = off_inside p c s b l (seat c) (h.stands c) (h.homes s c (ap is_inside e)) e
-          (⊎_elim (λ (t : l ≡ b). ⊎_elim (λ (u : b ≡ 2). omega arith) (λ (u : b ≡ 3). omega arith) a) (λ (t : (l ≡ b + 1) × ((p.stop s).phase ≡ l)). let x = t.1 in omega arith) k.2)
+          (⊎_elim (λ (t : l ≡ b). ⊎_elim (λ (u : b ≡ 2). omega arith) (λ (u : b ≡ 3). omega arith) a) (λ (t : (l ≡ b + 1) × ((p.stop s).phase ≡ l)). let x =
+          t.1 in omega arith) k.2)
           (λ z. ⊎_elim (λ (u : b ≡ 2). omega arith) (λ (u : b ≡ 3). omega arith) a)
-      go (Answering b v) e of run a k = absurd (⊎_elim (λ (t : b ≡ 4). ⊎_elim (λ (u : b ≡ 2). omega arith) (λ (u : b ≡ 3). omega arith) a) (λ (t : (p.stop s).phase ≡ 0). omega arith) k.2)
-      go (Completed b v) e of run a k = absurd (⊎_elim (λ (t : b ≡ 4). ⊎_elim (λ (u : b ≡ 2). omega arith) (λ (u : b ≡ 3). omega arith) a) (λ (t : (p.stop s).phase ≡ 0). omega arith) k.2)
+      go (Answering b v) e of run a k = absurd (⊎_elim (λ (t : b ≡ 4). ⊎_elim (λ (u : b ≡ 2). omega arith) (λ (u : b ≡ 3). omega arith) a)
+          (λ (t : (p.stop s).phase ≡ 0). omega arith) k.2)
+      go (Completed b v) e of run a k = absurd (⊎_elim (λ (t : b ≡ 4). ⊎_elim (λ (u : b ≡ 2). omega arith) (λ (u : b ≡ 3). omega arith) a)
+          (λ (t : (p.stop s).phase ≡ 0). omega arith) k.2)
 
   -- what is now, with another patch
   abbrev pub patches : Patching → Present
   patches x = record p { patching = x }
 
   -- where a change of what is patched leaves the other CPUs
-  alters_other : (x : Patching) (c : ℕ) → c ≢ me → ((w : Work) (count : ℕ) (made rest : List Change) → p.patching ≡ Patches c w count made rest → ⊥) → (y : Seat) → Stands p c y → Stands (patches x) c y
+  alters_other : (x : Patching) (c : ℕ) → c ≢ me → ((w : Work) (count : ℕ) (made rest : List Change) → p.patching ≡ Patches c w count made rest → ⊥) →
+      (y : Seat) → Stands p c y → Stands (patches x) c y
   alters_other x c ne none_ Free st = st
   alters_other x c ne none_ (In j job a l t) st = st
   alters_other x c ne none_ (Gives j job a v) st = st
@@ -113,7 +121,8 @@ module _ (u : Setup) (p : Present) (at : Word → ℕ) (seat : ℕ → Seat) (h 
   patch_starts job plan is kind active leads =
       let st : Stands p me (In s job 2 3 Rests) = subst (Stands p me) is (h.stands me) in
       let open_ = is_open_inside u.cpus (p.stop s) (λ f. at (Slot s f)) (h.slots s) me (Inside 2 3) st.1 refl in
-      let mine : me ≡ u.first = eqb-true me u.first (sym ((h.works s open_ (ap (λ (w : Work). w.kind) st.3 ∙ kind)).first me) ∙ (ap (λ (w : Work). has w.active me) st.3 ∙ active)) in
+      let mine : me ≡ u.first = eqb-true me u.first (sym ((h.works s open_ (ap (λ (w : Work). w.kind) st.3 ∙ kind)).first me) ∙
+      (ap (λ (w : Work). has w.active me) st.3 ∙ active)) in
       let whole : p.patching ≡ Whole = go p.patching h.runner mine in
       let lawful : IsLawful (labels_in at) = subst (λ x. LabelsShow x (labels_in at)) whole h.labels in
       let count = at (Key job.func) in
@@ -121,7 +130,8 @@ module _ (u : Setup) (p : Present) (at : Word → ℕ) (seat : ℕ → Seat) (h 
       record {
         slots = h.slots;
         stands = put_all (λ c y. Stands (patches (Patches me job count [] plan)) c y) seat me next (st.0, st.1, st.2, st.3, kind, refl)
-            (λ c ne. alters_other (Patches me job count [] plan) c ne (λ w n made rest e. let bad : Whole ≡ Patches c w n made rest = sym whole ∙ e in cc) (seat c) (h.stands c));
+            (λ c ne. alters_other (Patches me job count [] plan) c ne (λ w n made rest e. let bad : Whole ≡ Patches c w n made rest = sym whole ∙ e in cc)
+            (seat c) (h.stands c));
         homes = h.homes;
         irq = put_all (λ c y. p.irq c ≡ irq_of y) seat me next (h.irq me ∙ ap irq_of is) (λ c ne. h.irq c);
         works = h.works;
@@ -133,11 +143,13 @@ module _ (u : Setup) (p : Present) (at : Word → ℕ) (seat : ℕ → Seat) (h 
     where
       go : (x : Patching) → RunnerShows u.first x seat → me ≡ u.first → x ≡ Whole
       go Whole r mine = refl
-      go (Patches c w count made rest) r mine = let same : c ≡ me = r.0 ∙ sym mine in let bad : In s job 2 3 Rests ≡ Alters r.1.0 w count made rest = sym is ∙ (sym (ap seat same) ∙ r.1.1) in cc
+      go (Patches c w count made rest) r mine = let same : c ≡ me = r.0 ∙ sym mine in let bad : In s job 2 3 Rests ≡ Alters r.1.0 w count made rest =
+          sym is ∙ (sym (ap seat same) ∙ r.1.1) in cc
 
   -- one of its stores
   pub patch_stores : (job : Work) (count : ℕ) (made rest : List Change) (change : Change) (at' : Word → ℕ) → seat me ≡ Alters s job count made (change ∷ rest) →
-      labels_in at' ≡ stored change.0 change.1 (labels_in at) → ((j : ℕ) → SlotShows u.cpus (p.stop j) (λ f. at' (Slot j f))) → AreEntriesOf u.entries (labels_in at') →
+      labels_in at' ≡ stored change.0 change.1 (labels_in at) → ((j : ℕ) → SlotShows u.cpus (p.stop j) (λ f. at' (Slot j f))) →
+      AreEntriesOf u.entries (labels_in at') →
       PresentShows u (patches (Patches me job count (made ++ change ∷ []) rest)) at' (put seat me (Alters s job count (made ++ change ∷ []) rest))
   patch_stores job count made rest change at' is table slots entries =
       let st : Stands p me (Alters s job count made (change ∷ rest)) = subst (Stands p me) is (h.stands me) in
@@ -150,7 +162,8 @@ module _ (u : Setup) (p : Present) (at : Word → ℕ) (seat : ℕ → Seat) (h 
       record {
         slots = slots;
         stands = put_all (λ c y. Stands (patches (Patches me job count made' rest)) c y) seat me next (st.0, st.1, st.2, st.3, st.4, refl)
-            (λ c ne. alters_other (Patches me job count made' rest) c ne (λ w' n made' rest' e. let same : Patches me job count made (change ∷ rest) ≡ Patches c w' n made' rest' = sym st.5 ∙ e in let f : me ≡ c = cc in ne (sym f)) (seat c) (h.stands c));
+            (λ c ne. alters_other (Patches me job count made' rest) c ne (λ w' n made' rest' e. let same : Patches me job count made (change ∷ rest) ≡
+            Patches c w' n made' rest' = sym st.5 ∙ e in let f : me ≡ c = cc in ne (sym f)) (seat c) (h.stands c));
         homes = h.homes;
         irq = put_all (λ c y. p.irq c ≡ irq_of y) seat me next (h.irq me ∙ ap irq_of is) (λ c ne. h.irq c);
         works = h.works;
@@ -179,7 +192,8 @@ module _ (u : Setup) (p : Present) (at : Word → ℕ) (seat : ℕ → Seat) (h 
         record {
           slots = h.slots;
           stands = put_all (λ c y. Stands (patches Whole) c y) seat me next (st.0, st.1, st.2, st.3)
-              (λ c ne. alters_other Whole c ne (λ w n made' rest e. let same : Patches me job count made [] ≡ Patches c w n made' rest = sym st.5 ∙ e in let f : me ≡ c = cc in ne (sym f)) (seat c) (h.stands c));
+              (λ c ne. alters_other Whole c ne (λ w n made' rest e. let same : Patches me job count made [] ≡ Patches c w n made' rest = sym st.5 ∙ e in
+              let f : me ≡ c = cc in ne (sym f)) (seat c) (h.stands c));
           homes = h.homes;
           irq = put_all (λ c y. p.irq c ≡ irq_of y) seat me next (h.irq me ∙ ap irq_of is) (λ c ne. h.irq c);
           works = h.works;
@@ -193,7 +207,8 @@ module _ (u : Setup) (p : Present) (at : Word → ℕ) (seat : ℕ → Seat) (h 
 
 module _ (u : Setup) (p : Present) (at : Word → ℕ) (seat : ℕ → Seat) (h : PresentShows u p at seat) (me : ℕ) where
   -- while somebody patches, every online CPU has its interrupts off
-  pub off_while_patched : u.online me ≡ true → (c : ℕ) (w : Work) (count : ℕ) (made rest : List Change) → p.patching ≡ Patches c w count made rest → p.irq me ≡ false
+  pub off_while_patched : u.online me ≡ true → (c : ℕ) (w : Work) (count : ℕ) (made rest : List Change) → p.patching ≡ Patches c w count made rest →
+      p.irq me ≡ false
   off_while_patched on_ c w count made rest is =
       let r : RunnerShows u.first (Patches c w count made rest) seat = subst (λ x. RunnerShows u.first x seat) is h.runner in
       let s = r.1.0 in

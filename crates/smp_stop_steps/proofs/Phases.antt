@@ -1,11 +1,13 @@
 -- Acknowledging, refilling and raising keep what the words of a slot show.
-use Rattle.std.proofs.Common.{◌≡◌, ◌≢◌, ℕ, ◌+◌, ◌-◌, ◌<◌, Bool, true, false, ◌==◌, ◌&&◌, cond, sym, subst, refl, ap, ◌∙◌, inl, inr, arith, ⊎_elim, ne_eqb, eq-eqb}
+use Rattle.std.proofs.Common.{◌≡◌, ◌≢◌, ℕ, ◌+◌, ◌-◌, ◌<◌, Bool, true, false, ◌==◌, ◌&&◌, cond, sym, subst, refl, ap, ◌∙◌, inl, inr, arith, ⊎_elim}
+use Rattle.std.proofs.Common.{ne_eqb, eq-eqb}
 use Rattle.smp_words.proofs.Puts.{at_test, put_all}
 use Rattle.smp_stop_steps.proofs.Counts.{put_else, put_here, sum_put, sum_same, sum_zero}
 use Rattle.smp_words.specs.Put.{put}
 use Rattle.smp_stop_steps.specs.Counts.{behind, count_behind, count_unfinished, one, unfinished, weight}
 use Rattle.smp_stop_steps.specs.Slots.{AckShows, DoneShows, HasGiven, Keeps, ResultShows, SlotShows, put_field}
-use Rattle.smp_stop_steps.specs.Stop.{Answering, Called, Completed, Ended, Ending, Inside, Last, Nobody, Outside, Raises, Raising, Refills, Running, Standing, Stop, acked, acknowledged, is_called, is_of, refilled}
+use Rattle.smp_stop_steps.specs.Stop.{Answering, Called, Completed, Ended, Ending, Inside, Last, Nobody, Outside, Raises, Raising, Refills, Running}
+use Rattle.smp_stop_steps.specs.Stop.{Standing, Stop, acked, acknowledged, is_called, is_of, refilled}
 use Rattle.smp_words.specs.declared.field.Field.TheVariants.{Ack, Done, Result, Roll}
 use Rattle.smp_words.specs.declared.field.Field.{Field}
 use Rattle.smp_mask.specs.Mask.{has}
@@ -67,8 +69,19 @@ module _ (cpus : ℕ) (standing : ℕ → Standing) (me : ℕ) (a l a' l' : ℕ)
 
   result_inside : (n : ℕ) → ResultShows standing n → ResultShows (put standing me (Inside a' l')) n
   result_inside n h = ⊎_elim
-      (λ (t : (n ≡ 0) × ((c w : ℕ) → HasGiven (standing c) w → w ≡ 0)). inl (t.0, put_all (λ c s. (w : ℕ) → HasGiven s w → w ≡ 0) standing me (Inside a' l') (λ w g. absurd g) (λ c ne. t.1 c)))
-      (λ (t : (n ≢ 0) × ((c : ℕ) × HasGiven (standing c) n)). inr (t.0, (t.1.0, put_all (λ c s. HasGiven (standing c) n → HasGiven s n) standing me (Inside a' l') (λ g. absurd (subst (λ s. HasGiven s n) is g)) (λ c ne g. g) t.1.0 t.1.1)))
+      (λ (t : (n ≡ 0) × ((c w : ℕ) → HasGiven (standing c) w → w ≡ 0)). inl (
+        t.0,
+        put_all (λ c s. (w : ℕ) → HasGiven s w → w ≡ 0) standing me (Inside a' l')
+            (λ w g. absurd g) (λ c ne. t.1 c),
+      ))
+      (λ (t : (n ≢ 0) × ((c : ℕ) × HasGiven (standing c) n)). inr (
+        t.0,
+        (
+          t.1.0,
+          put_all (λ c s. HasGiven (standing c) n → HasGiven s n) standing me
+              (Inside a' l') (λ g. absurd (subst (λ s. HasGiven s n) is g)) (λ c ne g. g) t.1.0 t.1.1,
+        ),
+      ))
       h
 
   done_inside : (e : Ending) (n : ℕ) → DoneShows cpus standing e n → DoneShows cpus (put standing me (Inside a' l')) e n
@@ -97,14 +110,16 @@ module _ (cpus : ℕ) (stop : Stop) (word : Field → ℕ) (g : SlotShows cpus s
       let at : stop.phase ≡ a + 1 = ⊎_elim (λ (e : a + 1 ≡ a). absurd (omega arith)) (λ (e : (a + 1 ≡ a + 1) × (stop.phase ≡ a + 1)). e.1) k.2 in
       let to = Inside (a + 1) (a + 1) in
       record {
-        members = put_all (λ c s. is_of s ≡ (stop.is_open && has stop.work.mask c)) stop.standing me to (sym (ap is_of is) ∙ g.members me) (λ c ne. g.members c);
+        members = put_all (λ c s. is_of s ≡ (stop.is_open && has stop.work.mask c)) stop.standing me to (sym (ap is_of is) ∙ g.members me)
+            (λ c ne. g.members c);
         roll = put_all (λ c s. has (word Roll) c ≡ is_called s) stop.standing me to (g.roll me ∙ ap is_called is) (λ c ne. g.roll c);
         keeps = put_all (λ c s. Keeps cpus stop.phase c s) stop.standing me to (k.0, inl (sym at), inl refl, k.3, k.3) (λ c ne. g.keeps c);
         shows = λ _. record {
           written = record { kind = o.written.kind; mask = o.written.mask; active = o.written.active; func = o.written.func; arg = o.written.arg };
           state = o.state;
           bound = o.bound;
-          ack = λ ne. subst (λ p. AckShows cpus stop.phase (put stop.standing me (Inside p p)) (cond (word Ack == 1) (Refills me) stop.raising) (word Ack - 1)) at
+          ack = λ ne. subst (λ p. AckShows cpus stop.phase (put stop.standing me (Inside p p)) (cond (word Ack == 1) (Refills me) stop.raising)
+              (word Ack - 1)) at
               (acked_more cpus stop.phase stop.standing me a (a + 1) (word Ack) stop.raising is k.0 (omega arith) (o.ack ne));
           calm = λ z. absurd (omega arith);
           kinds = o.kinds;

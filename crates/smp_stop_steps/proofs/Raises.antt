@@ -36,10 +36,27 @@ acked_most cpus p c (Completed a v) of k = k.3
 keeps_on : (cpus p c : ℕ) (s : Standing) → p ≢ 0 → (is_of s ≡ true → acked s ≡ p) → Keeps cpus p c s → Keeps cpus (p + 1) c s
 keeps_on cpus p c Outside ne all k = tt
 keeps_on cpus p c Called ne all k = absurd (ne (sym (all refl)))
-keeps_on cpus p c (Inside a l) ne all k = let e = all refl in
-    (k.0, inr (ap (λ n. n + 1) e), inl (⊎_elim (λ (t : l ≡ a). t) (λ (t : (l ≡ a + 1) × (p ≡ l)). absurd (let x = t.0 in let y = t.1 in omega arith)) k.2), k.3, k.4)
-keeps_on cpus p c (Answering a v) ne all k = let e = all refl in (k.0, inr (ap (λ n. n + 1) e), ⊎_elim (λ (t : a ≡ 4). inl t) (λ (t : p ≡ 0). absurd (ne t)) k.2, k.3)
-keeps_on cpus p c (Completed a v) ne all k = let e = all refl in (k.0, inr (ap (λ n. n + 1) e), ⊎_elim (λ (t : a ≡ 4). inl t) (λ (t : p ≡ 0). absurd (ne t)) k.2, k.3)
+keeps_on cpus p c (Inside a l) ne all k = let e = all refl in (
+  k.0,
+  inr (ap (λ n. n + 1) e),
+  inl (⊎_elim (λ (t : l ≡ a). t) (λ (t : (l ≡ a + 1) × (p ≡ l)). absurd (let x = t.0 in let y = t.1 in omega arith)) k.2),
+  k.3,
+  k.4,
+)
+keeps_on cpus p c (Answering a v) ne all k = let e = all refl in (
+  k.0,
+  inr (ap (λ n. n + 1) e),
+  ⊎_elim (λ (t : a ≡ 4). inl t) (λ (t : p ≡ 0). absurd (ne t))
+      k.2,
+  k.3,
+)
+keeps_on cpus p c (Completed a v) ne all k = let e = all refl in (
+  k.0,
+  inr (ap (λ n. n + 1) e),
+  ⊎_elim (λ (t : a ≡ 4). inl t) (λ (t : p ≡ 0). absurd (ne t))
+      k.2,
+  k.3,
+)
 
 -- all who have acknowledged p are behind the next
 behind_next : (p : ℕ) (s : Standing) → (is_of s ≡ true → acked s ≡ p) → behind (p + 1) s ≡ one s
@@ -78,7 +95,8 @@ module _ (cpus : ℕ) (stop : Stop) (word : Field → ℕ) (g : SlotShows cpus s
           written = record { kind = o.written.kind; mask = o.written.mask; active = o.written.active; func = o.written.func; arg = o.written.arg };
           state = refl;
           bound = omega arith;
-          ack = λ _. h.0 ∙ sym (sum_same (λ c. one (stop.standing c)) (λ c. behind (stop.phase + 1) (stop.standing c)) cpus (λ c _. behind_next stop.phase (stop.standing c) (all c)));
+          ack = λ _. h.0 ∙ sym (sum_same (λ c. one (stop.standing c)) (λ c. behind (stop.phase + 1) (stop.standing c)) cpus (λ c _. behind_next stop.phase
+              (stop.standing c) (all c)));
           calm = λ z. refl;
           kinds = raised_kind stop.work.kind stop.phase ne o.kinds;
           todo = o.todo;
@@ -92,7 +110,8 @@ module _ (cpus : ℕ) (stop : Stop) (word : Field → ℕ) (g : SlotShows cpus s
       let o = g.shows open_ in
       record {
         level = λ c of. level_of cpus stop.phase c (stop.standing c) of (g.keeps c);
-        at_the_end = λ c e of. ends (acked (stop.standing c)) e (acked_most cpus stop.phase c (stop.standing c) of (g.keeps c)) (level_of cpus stop.phase c (stop.standing c) of (g.keeps c));
+        at_the_end = λ c e of. ends (acked (stop.standing c)) e (acked_most cpus stop.phase c (stop.standing c) of (g.keeps c)) (level_of cpus stop.phase c
+            (stop.standing c) of (g.keeps c));
         counted = either stop.raising refl (o.ack ne);
         whole = λ e. at_five stop.raising e (o.ack ne);
       }
@@ -107,11 +126,13 @@ module _ (cpus : ℕ) (stop : Stop) (word : Field → ℕ) (g : SlotShows cpus s
       either (Raises r) e h = inr (r, e, h.0)
 
       four : (r : ℕ) → stop.phase ≡ 5 → stop.standing r ≡ Inside stop.phase stop.phase → ⊥
-      four r e is = let k : Keeps cpus stop.phase r (Inside stop.phase stop.phase) = subst (Keeps cpus stop.phase r) is (g.keeps r) in let m : stop.phase ≤ 4 = k.4 in omega arith
+      four r e is = let k : Keeps cpus stop.phase r (Inside stop.phase stop.phase) = subst (Keeps cpus stop.phase r) is (g.keeps r) in let m : stop.phase ≤
+          4 = k.4 in omega arith
 
       at_five : (r : Raising) → stop.phase ≡ 5 → AckShows cpus stop.phase stop.standing r (word Ack) → word Ack ≡ weight cpus stop.standing
       at_five Nobody e h = h ∙ sum_same (λ c. one (stop.standing c)) (λ c. behind stop.phase (stop.standing c)) cpus
           (λ c _. subst (λ p. behind p (stop.standing c) ≡ one (stop.standing c)) (sym e)
-          (behind_next 4 (stop.standing c) (λ of. ends (acked (stop.standing c)) e (acked_most cpus stop.phase c (stop.standing c) of (g.keeps c)) (level_of cpus stop.phase c (stop.standing c) of (g.keeps c)))))
+          (behind_next 4 (stop.standing c) (λ of. ends (acked (stop.standing c)) e (acked_most cpus stop.phase c (stop.standing c) of (g.keeps c))
+          (level_of cpus stop.phase c (stop.standing c) of (g.keeps c)))))
       at_five (Refills r) e h = absurd (four r e h.2)
       at_five (Raises r) e h = absurd (four r e h.2)

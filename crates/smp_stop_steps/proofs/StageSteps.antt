@@ -3,7 +3,8 @@ use Rattle.smp_stop_steps.proofs.Patched.{lawful_when_on}
 use Rattle.smp_labels.proofs.Patched.{left_in_form, xor_same}
 use Rattle.smp_labels.specs.Kinds.{xor}
 use Rattle.smp_labels.specs.Keys.{is_on, count_after, count_or, IsKeyWord}
-use Rattle.std.proofs.Common.{◌≡◌, ◌≢◌, ℕ, ◌+◌, ◌-◌, ◌^◌, ◌<◌, Bool, true, false, eq-eqb, eqb-true, ◌==◌, cond, sym, subst, refl, ap, ◌∙◌, ◌⊎◌, inl, inr, arith, nat_lt, Option, Some, None, length}
+use Rattle.std.proofs.Common.{◌≡◌, ◌≢◌, ℕ, ◌+◌, ◌-◌, ◌^◌, ◌<◌, Bool, true, false, eq-eqb, eqb-true, ◌==◌, cond, sym, subst, refl, ap, ◌∙◌, ◌⊎◌, inl}
+use Rattle.std.proofs.Common.{inr, arith, nat_lt, Option, Some, None, length}
 use Rattle.smp_words.proofs.Puts.{at_test}
 use Rattle.smp_stop_steps.proofs.Facts.{work_words}
 use Rattle.smp_stop_steps.proofs.Patching.{key_read, site_read, key_exchanged}
@@ -25,7 +26,8 @@ use Rattle.smp_words.specs.declared.seen.Act.TheVariants as act
 use Rattle.smp_words.specs.declared.seen.Note.TheVariants as note
 use Rattle.smp_words.specs.declared.field.Field.TheVariants.{Ack, Active, Arg, Done, Func, Kind, Mask, Result, Roll, State, Todo}
 use Rattle.smp_words.specs.declared.field.Field.{Field}
-use Rattle.smp_stop_steps.specs.declared.stage.StopStage.TheVariants.{Begin, EnterActive, EnterKind, EnterMask, LoadDone, LoadResult, OpenGate, ReadKey, ReadSite, TakeGate, NudgeKey, ExchangeKey}
+use Rattle.smp_stop_steps.specs.declared.stage.StopStage.TheVariants.{Begin, EnterActive, EnterKind, EnterMask, LoadDone, LoadResult, OpenGate}
+use Rattle.smp_stop_steps.specs.declared.stage.StopStage.TheVariants.{ReadKey, ReadSite, TakeGate, NudgeKey, ExchangeKey}
 use Rattle.smp_stop_steps.specs.declared.stage.StopStage.{StopStage}
 use Rattle.smp_words.specs.declared.work.Kind.{Kind as KindOf}
 use Rattle.smp_words.specs.declared.work.Work.{Work}
@@ -62,14 +64,17 @@ module _ (u : Setup) (p : StopState) (at : Word → ℕ) (seat : ℕ → Seat) (
     (s : Sits u me (at Gate) c (seat me) (source me)) where
   -- a step that moves neither the CPU nor its source
   still : (p' : StopState) (at' : Word → ℕ) → StopShows u p' at' seat source → StopShows u p' at' (put seat me (seat me)) (put source me (source me))
-  still p' at' shows = subst (λ x. StopShows u p' at' x (put source me (source me))) (sym (put_same_fn seat me)) (subst (λ y. StopShows u p' at' seat y) (sym (put_same_fn source me)) shows)
+  still p' at' shows = subst (λ x. StopShows u p' at' x (put source me (source me))) (sym (put_same_fn seat me)) (subst (λ y. StopShows u p' at' seat y)
+      (sym (put_same_fn source me)) shows)
 
   -- one that moves the CPU
-  moved_seat : (p' : StopState) (at' : Word → ℕ) (x : Seat) → StopShows u p' at' (put seat me x) source → StopShows u p' at' (put seat me x) (put source me (source me))
+  moved_seat : (p' : StopState) (at' : Word → ℕ) (x : Seat) → StopShows u p' at' (put seat me x) source → StopShows u p' at' (put seat me x)
+      (put source me (source me))
   moved_seat p' at' x shows = subst (λ y. StopShows u p' at' (put seat me x) y) (sym (put_same_fn source me)) shows
 
   -- one that moves its source
-  moved_source : (p' : StopState) (at' : Word → ℕ) (y : Source) → StopShows u p' at' seat (put source me y) → StopShows u p' at' (put seat me (seat me)) (put source me y)
+  moved_source : (p' : StopState) (at' : Word → ℕ) (y : Source) → StopShows u p' at' seat (put source me y) → StopShows u p' at' (put seat me (seat me))
+      (put source me y)
   moved_source p' at' y shows = subst (λ x. StopShows u p' at' x (put source me y)) (sym (put_same_fn seat me)) shows
 
   -- between commands
@@ -112,7 +117,8 @@ module _ (u : Setup) (p : StopState) (at : Word → ℕ) (seat : ℕ → Seat) (
       record {
         seat_after = seat me;
         source_after = source me;
-        shows = still (state_after u p at c me OpenGate) (at_then u at c me OpenGate) (gate_opened u p at seat source h me 0 (holder p.gate (sym h.gate ∙ g)) (not_drafting y));
+        shows = still (state_after u p at c me OpenGate) (at_then u at c me OpenGate) (gate_opened u p at seat source h me 0
+            (holder p.gate (sym h.gate ∙ g)) (not_drafting y));
         sits = record { below = s.below; irq = s.irq; seat = x; source = y; gate_held = tt };
       }
 
@@ -125,39 +131,102 @@ module _ (u : Setup) (p : StopState) (at : Word → ℕ) (seat : ℕ → Seat) (
 
   -- a store but the last
   drafts_step : (work : Work) (f g : Field) → c.stage ≡ Some (Begin work f) → order f < 10 → order g ≡ order f + 1 →
-      (StopShows u (told u p me act.Store (Slot me f) None (Some (begun_value u.cpus work f)) 0) (put_word at (Slot me f) (begun_value u.cpus work f)) (put seat me (seat me)) (put source me (Drafts work (order g)))) ×
+      (StopShows u (told u p me act.Store (Slot me f) None (Some (begun_value u.cpus work f)) 0) (put_word at (Slot me f) (begun_value u.cpus work f))
+      (put seat me (seat me)) (put source me (Drafts work (order g)))) ×
       Sits u me (at Gate) (record c { stage = Some (Begin work g) }) (seat me) (Drafts work (order g))
   drafts_step work f g e low next =
       let y = begins_source work f e in
       let p' = told u p me act.Store (Slot me f) None (Some (begun_value u.cpus work f)) 0 in
       let at' = put_word at (Slot me f) (begun_value u.cpus work f) in (
         moved_source p' at' (Drafts work (order g))
-            (subst (λ k. StopShows u p' at' seat (put source me (Drafts work k))) (sym next) (field_stored u p at seat source h me work (order f) f 0 y.1 refl low)),
+            (subst (λ k. StopShows u p' at' seat (put source me (Drafts work k))) (sym next) (field_stored u p at seat source h me work (order f) f 0 y.1
+            refl low)),
         record { below = s.below; irq = s.irq; seat = begins_seat work f e; source = (y.0, refl); gate_held = tt },
       )
 
   pub begin_step : (work : Work) (f : Field) → c.stage ≡ Some (Begin work f) → StopStep u p at seat source c me (Begin work f)
-  begin_step work Kind e = let d = drafts_step work Kind Mask e (omega arith) refl in record { seat_after = seat me; source_after = Drafts work 1; shows = d.0; sits = d.1 }
-  begin_step work Mask e = let d = drafts_step work Mask Active e (omega arith) refl in record { seat_after = seat me; source_after = Drafts work 2; shows = d.0; sits = d.1 }
-  begin_step work Active e = let d = drafts_step work Active Func e (omega arith) refl in record { seat_after = seat me; source_after = Drafts work 3; shows = d.0; sits = d.1 }
-  begin_step work Func e = let d = drafts_step work Func Arg e (omega arith) refl in record { seat_after = seat me; source_after = Drafts work 4; shows = d.0; sits = d.1 }
-  begin_step work Arg e = let d = drafts_step work Arg Result e (omega arith) refl in record { seat_after = seat me; source_after = Drafts work 5; shows = d.0; sits = d.1 }
-  begin_step work Result e = let d = drafts_step work Result Todo e (omega arith) refl in record { seat_after = seat me; source_after = Drafts work 6; shows = d.0; sits = d.1 }
-  begin_step work Todo e = let d = drafts_step work Todo Done e (omega arith) refl in record { seat_after = seat me; source_after = Drafts work 7; shows = d.0; sits = d.1 }
-  begin_step work Done e = let d = drafts_step work Done Ack e (omega arith) refl in record { seat_after = seat me; source_after = Drafts work 8; shows = d.0; sits = d.1 }
-  begin_step work Ack e = let d = drafts_step work Ack State e (omega arith) refl in record { seat_after = seat me; source_after = Drafts work 9; shows = d.0; sits = d.1 }
-  begin_step work State e = let d = drafts_step work State Roll e (omega arith) refl in record { seat_after = seat me; source_after = Drafts work 10; shows = d.0; sits = d.1 }
+  begin_step work Kind e = let d = drafts_step work Kind Mask e (omega arith) refl in record {
+    seat_after = seat me;
+    source_after = Drafts work 1;
+    shows =
+        d.0;
+    sits = d.1;
+  }
+  begin_step work Mask e = let d = drafts_step work Mask Active e (omega arith) refl in record {
+    seat_after = seat me;
+    source_after = Drafts work 2;
+    shows =
+        d.0;
+    sits = d.1;
+  }
+  begin_step work Active e = let d = drafts_step work Active Func e (omega arith) refl in record {
+    seat_after = seat me;
+    source_after =
+        Drafts work 3;
+    shows = d.0;
+    sits = d.1;
+  }
+  begin_step work Func e = let d = drafts_step work Func Arg e (omega arith) refl in record {
+    seat_after = seat me;
+    source_after = Drafts work 4;
+    shows =
+        d.0;
+    sits = d.1;
+  }
+  begin_step work Arg e = let d = drafts_step work Arg Result e (omega arith) refl in record {
+    seat_after = seat me;
+    source_after = Drafts work 5;
+    shows =
+        d.0;
+    sits = d.1;
+  }
+  begin_step work Result e = let d = drafts_step work Result Todo e (omega arith) refl in record {
+    seat_after = seat me;
+    source_after =
+        Drafts work 6;
+    shows = d.0;
+    sits = d.1;
+  }
+  begin_step work Todo e = let d = drafts_step work Todo Done e (omega arith) refl in record {
+    seat_after = seat me;
+    source_after = Drafts work 7;
+    shows =
+        d.0;
+    sits = d.1;
+  }
+  begin_step work Done e = let d = drafts_step work Done Ack e (omega arith) refl in record {
+    seat_after = seat me;
+    source_after = Drafts work 8;
+    shows =
+        d.0;
+    sits = d.1;
+  }
+  begin_step work Ack e = let d = drafts_step work Ack State e (omega arith) refl in record {
+    seat_after = seat me;
+    source_after = Drafts work 9;
+    shows =
+        d.0;
+    sits = d.1;
+  }
+  begin_step work State e = let d = drafts_step work State Roll e (omega arith) refl in record {
+    seat_after = seat me;
+    source_after = Drafts work 10;
+    shows = d.0;
+    sits = d.1;
+  }
   begin_step work Roll e =
       let y = begins_source work Roll e in
       record {
         seat_after = seat me;
         source_after = Owns work;
-        shows = moved_source (state_after u p at c me (Begin work Roll)) (at_then u at c me (Begin work Roll)) (Owns work) (roll_stored u p at seat source h me work 0 y.1);
+        shows = moved_source (state_after u p at c me (Begin work Roll)) (at_then u at c me (Begin work Roll)) (Owns work) (roll_stored u p at seat source h
+            me work 0 y.1);
         sits = record { below = s.below; irq = s.irq; seat = begins_seat work Roll e; source = (work, refl); gate_held = tt };
       }
 
   -- a step that only loads
-  nothing : (stage next : Option StopStage) (c' : StopControlValue) → c'.interrupts ≡ c.interrupts → SitsAt u me c' c'.stage (seat me) → SourceSits c'.is_open c'.stage (source me) → HoldsGate me (at Gate) c'.stage →
+  nothing : (stage next : Option StopStage) (c' : StopControlValue) → c'.interrupts ≡ c.interrupts → SitsAt u me c' c'.stage (seat me) →
+      SourceSits c'.is_open c'.stage (source me) → HoldsGate me (at Gate) c'.stage →
       Sits u me (at Gate) c' (seat me) (source me)
   nothing stage next c' same x y g = record { below = s.below; irq = same ∙ s.irq; seat = x; source = y; gate_held = g }
 
@@ -175,7 +244,8 @@ module _ (u : Setup) (p : StopState) (at : Word → ℕ) (seat : ℕ → Seat) (
 
   pub enter_mask : (slot : ℕ) (kind : KindOf) → c.stage ≡ Some (EnterMask slot kind) → StopStep u p at seat source c me (EnterMask slot kind)
   enter_mask slot kind e =
-      let x : (work : Work) × (seat me ≡ In slot work 0 0 Rests) × (kind ≡ work.kind) = subst (λ (st : Option StopStage). SitsAt u me c st (seat me)) e s.seat in
+      let x : (work : Work) × (seat me ≡ In slot work 0 0 Rests) × (kind ≡ work.kind) = subst (λ (st : Option StopStage). SitsAt u me c st (seat me)) e
+      s.seat in
       let y : OwnsIf c.is_open (source me) = subst (λ (st : Option StopStage). SourceSits c.is_open st (source me)) e s.source in
       let w = work_words u p at seat source h slot me x.0 0 0 Rests x.1 in
       record {
@@ -185,9 +255,11 @@ module _ (u : Setup) (p : StopState) (at : Word → ℕ) (seat : ℕ → Seat) (
         sits = record { below = s.below; irq = s.irq; seat = (x.0, x.1, x.2, w.mask); source = y; gate_held = tt };
       }
 
-  pub enter_active : (slot : ℕ) (kind : KindOf) (mask : ℕ) → c.stage ≡ Some (EnterActive slot kind mask) → StopStep u p at seat source c me (EnterActive slot kind mask)
+  pub enter_active : (slot : ℕ) (kind : KindOf) (mask : ℕ) → c.stage ≡ Some (EnterActive slot kind mask) → StopStep u p at seat source c me
+      (EnterActive slot kind mask)
   enter_active slot kind mask e =
-      let x : (work : Work) × (seat me ≡ In slot work 0 0 Rests) × (kind ≡ work.kind) × (mask ≡ work.mask) = subst (λ (st : Option StopStage). SitsAt u me c st (seat me)) e s.seat in
+      let x : (work : Work) × (seat me ≡ In slot work 0 0 Rests) × (kind ≡ work.kind) × (mask ≡ work.mask) = subst (λ (st : Option StopStage). SitsAt u me c
+      st (seat me)) e s.seat in
       let y : OwnsIf c.is_open (source me) = subst (λ (st : Option StopStage). SourceSits c.is_open st (source me)) e s.source in
       let w = work_words u p at seat source h slot me x.0 0 0 Rests x.1 in
       record {
@@ -235,17 +307,30 @@ module _ (u : Setup) (p : StopState) (at : Word → ℕ) (seat : ℕ → Seat) (
         sits = go x y fits (count_after (nudge_of up) (at (Key k))) refl;
       }
     where
-      go : (c.interrupts ≡ true) × (u.online me ≡ true) × (k < u.keys) × AtRest → OwnsIf c.is_open (source me) → IsKeyWord (at (Key k)) → (o : Option ℕ) → count_after (nudge_of up) (at (Key k)) ≡ o →
+      go : (c.interrupts ≡ true) × (u.online me ≡ true) × (k < u.keys) × AtRest → OwnsIf c.is_open (source me) → IsKeyWord (at (Key k)) → (o : Option ℕ) →
+          count_after (nudge_of up) (at (Key k)) ≡ o →
           Sits u me (at Gate) (nudge_on c k (at (Key k)) o).control (seat me) (source me)
       go x y fits None e = record { below = s.below; irq = s.irq; seat = x.3; source = y; gate_held = tt }
       go x y fits (Some new) e = either (xor (is_on (at (Key k))) (is_on new)) refl
         where
-          either : (b : Bool) → xor (is_on (at (Key k))) (is_on new) ≡ b → Sits u me (at Gate) (cond b (stop_ends c note.Stop) (stop_goes c (ExchangeKey k (at (Key k)) new))).control (seat me) (source me)
+          either : (b : Bool) → xor (is_on (at (Key k))) (is_on new) ≡ b → Sits u me (at Gate) (cond b (stop_ends c note.Stop)
+              (stop_goes c (ExchangeKey k (at (Key k)) new))).control (seat me) (source me)
           either true z = record { below = s.below; irq = s.irq; seat = x.3; source = y; gate_held = tt }
           either false z = record {
             below = s.below;
             irq = s.irq;
-            seat = (x.0, x.1, x.2, record { one = one_apart up (at (Key k)) new e; same = sym (xor_same (is_on (at (Key k))) (is_on new) z); word = subst IsKeyWord (ap (count_or (at (Key k))) e) (left_in_form (nudge_of up) (at (Key k)) fits) }, x.3);
+            seat = (
+              x.0,
+              x.1,
+              x.2,
+              record {
+                one = one_apart up (at (Key k)) new e;
+                same = sym (xor_same (is_on (at (Key k))) (is_on new) z);
+                word =
+                    subst IsKeyWord (ap (count_or (at (Key k))) e) (left_in_form (nudge_of up) (at (Key k)) fits);
+              },
+              x.3,
+            );
             source = y;
             gate_held = tt;
           }
@@ -253,13 +338,15 @@ module _ (u : Setup) (p : StopState) (at : Word → ℕ) (seat : ℕ → Seat) (
   -- its compare-exchange
   pub exchange_key : (k expected new : ℕ) → c.stage ≡ Some (ExchangeKey k expected new) → StopStep u p at seat source c me (ExchangeKey k expected new)
   exchange_key k expected new e =
-      let x : (c.interrupts ≡ true) × (u.online me ≡ true) × (k < u.keys) × IsNudge expected new × AtRest = subst (λ (st : Option StopStage). SitsAt u me c st (seat me)) e s.seat in
+      let x : (c.interrupts ≡ true) × (u.online me ≡ true) × (k < u.keys) × IsNudge expected new × AtRest = subst (λ (st : Option StopStage). SitsAt u me c
+      st (seat me)) e s.seat in
       let y : OwnsIf c.is_open (source me) = subst (λ (st : Option StopStage). SourceSits c.is_open st (source me)) e s.source in
       let on : p.now.irq me ≡ true = h.present.irq me ∙ (sym s.irq ∙ x.0) in
       record {
         seat_after = seat me;
         source_after = source me;
-        shows = still (state_after u p at c me (ExchangeKey k expected new)) (at_then u at c me (ExchangeKey k expected new)) (go x.1 on x.3 (at (Key k) == expected) refl);
+        shows = still (state_after u p at c me (ExchangeKey k expected new)) (at_then u at c me (ExchangeKey k expected new))
+            (go x.1 on x.3 (at (Key k) == expected) refl);
         sits = record { below = s.below; irq = s.irq; seat = x.4; source = y; gate_held = tt };
       }
     where
@@ -267,14 +354,20 @@ module _ (u : Setup) (p : StopState) (at : Word → ℕ) (seat : ℕ → Seat) (
           StopShows u (told u p me act.Cas (Key k) (Some (at (Key k))) (cond b (Some new) None) 0) (put_if put_word at (Key k) (cond b (Some new) None)) seat source
       go online on nudge true z =
           let same = eqb-true (at (Key k)) expected z in
-          key_exchanged u p at seat source h me k (at (Key k)) new s.below online on refl record { one = subst (λ n. (new ≡ n + 1) ⊎ (n ≡ new + 1)) (sym same) nudge.one; same = nudge.same ∙ ap is_on (sym same); word = nudge.word } 0
+          key_exchanged u p at seat source h me k (at (Key k)) new s.below online on refl record {
+            one = subst (λ n. (new ≡ n + 1) ⊎ (n ≡ new + 1))
+                (sym same) nudge.one;
+            same = nudge.same ∙ ap is_on (sym same);
+            word = nudge.word;
+          } 0
       go online on nudge false z = h
 
   -- the looks of a source
   pub load_done : c.stage ≡ Some LoadDone → StopStep u p at seat source c me LoadDone
   load_done e =
       let x : AtRest = subst (λ (st : Option StopStage). SitsAt u me c st (seat me)) e s.seat in
-      let y : (c.is_open ≡ true) × ((work : Work) × (source me ≡ Owns work)) = subst (λ (st : Option StopStage). SourceSits c.is_open st (source me)) e s.source in
+      let y : (c.is_open ≡ true) × ((work : Work) × (source me ≡ Owns work)) = subst (λ (st : Option StopStage). SourceSits c.is_open st (source me)) e
+      s.source in
       let g = go x y.0 y.1.0 y.1.1 (at (Slot me Done) == 0) refl in
       record { seat_after = seat me; source_after = g.0; shows = g.1; sits = g.2 }
     where
@@ -292,16 +385,31 @@ module _ (u : Setup) (p : StopState) (at : Word → ℕ) (seat : ℕ → Seat) (
           done_one Ended d = d.0
 
       go : AtRest → c.is_open ≡ true → (work : Work) → source me ≡ Owns work → (b : Bool) → (at (Slot me Done) == 0) ≡ b →
-          (y : Source) × (StopShows u p at (put seat me (seat me)) (put source me y)) × Sits u me (at Gate) (cond b (stop_ends c note.Pending) (stop_goes c LoadResult)).control (seat me) y
-      go x op work own true z =
-          (source me, still p at h, record { below = s.below; irq = s.irq; seat = x; source = subst (λ b. OwnsIf b (source me)) (sym op) (work, own); gate_held = tt })
-      go x op work own false z =
-          (Collects work, moved_source p at (Collects work) (done_loaded u p at seat source h me work own (open_done work own z)), record { below = s.below; irq = s.irq; seat = x; source = (op, (work, refl)); gate_held = tt })
+          (y : Source) × (StopShows u p at (put seat me (seat me)) (put source me y)) × Sits u me (at Gate) (cond b (stop_ends c note.Pending)
+          (stop_goes c LoadResult)).control (seat me) y
+      go x op work own true z = (
+        source me,
+        still p at h,
+        record {
+          below = s.below;
+          irq = s.irq;
+          seat = x;
+          source = subst (λ b. OwnsIf b (source me)) (sym op) (work, own);
+          gate_held = tt;
+        },
+      )
+      go x op work own false z = (
+        Collects work,
+        moved_source p at (Collects work) (done_loaded u p at seat source h me work own (open_done work own z)),
+        record
+            { below = s.below; irq = s.irq; seat = x; source = (op, (work, refl)); gate_held = tt },
+      )
 
   pub load_result : c.stage ≡ Some LoadResult → StopStep u p at seat source c me LoadResult
   load_result e =
       let x : AtRest = subst (λ (st : Option StopStage). SitsAt u me c st (seat me)) e s.seat in
-      let y : (c.is_open ≡ true) × ((work : Work) × (source me ≡ Collects work)) = subst (λ (st : Option StopStage). SourceSits c.is_open st (source me)) e s.source in
+      let y : (c.is_open ≡ true) × ((work : Work) × (source me ≡ Collects work)) = subst (λ (st : Option StopStage). SourceSits c.is_open st (source me)) e
+      s.source in
       record {
         seat_after = seat me;
         source_after = Shut;

@@ -1,5 +1,6 @@
 -- A command of the stop half that may start may begin at its first stage.
-use Rattle.std.proofs.Common.{◌≡◌, ◌≢◌, ℕ, ◌+◌, ◌<◌, ◌^◌, Bool, true, false, ◌==◌, ◌&&◌, ◌||◌, not, nat_lt, cond, sym, subst, refl, ap, ◌∙◌, inl, inr, arith, Option, Some, None, length, bit_and, eqb-true, eq-eqb, ne_eqb}
+use Rattle.std.proofs.Common.{◌≡◌, ◌≢◌, ℕ, ◌+◌, ◌<◌, ◌^◌, Bool, true, false, ◌==◌, ◌&&◌, ◌||◌, not, nat_lt, cond, sym, subst, refl, ap, ◌∙◌, inl, inr}
+use Rattle.std.proofs.Common.{arith, Option, Some, None, length, bit_and, eqb-true, eq-eqb, ne_eqb}
 use Rattle.std.proofs.lemmas.Bool.{ltb-true, cases_eq}
 use Rattle.std.proofs.lemmas.Bool.Decides.{nat_tests}
 use Rattle.std.proofs.lemmas.Nat.Bits.{bit_at-lt, bit_at_and, bit_at-pow_same, bit_at-pow_other}
@@ -14,7 +15,8 @@ use Rattle.smp_stop_steps.specs.Begins.{MayBegin, MayBeginAt}
 use Rattle.smp_stop_steps.specs.Counts.{mask_weight}
 use Rattle.smp_stop_steps.specs.Sources.{IsWork, IsOfKind, IsPatchWork}
 use Rattle.smp_stop_steps.specs.Stages.{StopControlValue, completes_from}
-use Rattle.smp_stop_steps.specs.Starts.{begin_refusal, fits_kind, fits_patch, fits_work, refusal_on, stop_first, stop_refusal, terms_of, unless, has_slot, is_free, in_visit, may_advance, may_run, may_finish}
+use Rattle.smp_stop_steps.specs.Starts.{begin_refusal, fits_kind, fits_patch, fits_work, refusal_on, stop_first, stop_refusal, terms_of, unless}
+use Rattle.smp_stop_steps.specs.Starts.{has_slot, is_free, in_visit, may_advance, may_run, may_finish}
 use Rattle.smp_stop_steps.specs.State.{Setup}
 use Rattle.smp_stop_steps.specs.Table.{stop_number}
 use Rattle.smp_stop_steps.specs.Tells.{is_one}
@@ -81,7 +83,8 @@ abbrev MayBeginIf : Setup → ℕ → ℕ → StopControlValue → Option StopSt
 MayBeginIf u me gate c None = Unit {0}
 MayBeginIf u me gate c (Some stage) = MayBegin u me gate c stage
 
-module _ (v : StopsValue) (cpu : ℕ) (low : cpu < cpus) (below : (k : ℕ) → has v.online k ≡ true → k < cpus) (online : has v.online cpu ≡ true) (c : StopControlValue) where
+module _ (v : StopsValue) (cpu : ℕ) (low : cpu < cpus) (below : (k : ℕ) → has v.online k ≡ true → k < cpus) (online : has v.online cpu ≡ true)
+    (c : StopControlValue) where
   abbrev u : Setup
   u = setup_of v.online v.labels
 
@@ -112,7 +115,8 @@ module _ (v : StopsValue) (cpu : ℕ) (low : cpu < cpus) (below : (k : ℕ) → 
   is_kind work Multi e = tt
   is_kind work Patch e = is_patch work e
 
-  begins_work : (work : Work) (is_open : Bool) → c.is_open ≡ is_open → work.func < 2 ^ 16 → begin_refusal t work is_open ≡ None → (gate ≡ cpu + 1) × (c.is_open ≡ false) × IsWork u work
+  begins_work : (work : Work) (is_open : Bool) → c.is_open ≡ is_open → work.func < 2 ^ 16 → begin_refusal t work is_open ≡ None →
+      (gate ≡ cpu + 1) × (c.is_open ≡ false) × IsWork u work
   begins_work work true shut small e = cc
   begins_work work false shut small e =
       let x = if_passed (t.holds_gate && fits_work t work) _ _ e in
@@ -136,13 +140,19 @@ module _ (v : StopsValue) (cpu : ℕ) (low : cpu < cpus) (below : (k : ℕ) → 
 
   advances : (answer : ℕ) (x : Option Visit) → c.visit ≡ x → may_advance x ≡ true → MayBeginIf u cpu gate c (in_visit x (λ w. Advance w (round.Look answer)))
   advances answer None is e = tt
-  advances answer (Some w) is e = let y = both (not (is_one w.kind)) (not (w.acked == 4)) e in (is, not_one w.kind (not_true (is_one w.kind) y.0), ne_false w.acked 4 (not_true (w.acked == 4) y.1))
+  advances answer (Some w) is e = let y = both (not (is_one w.kind)) (not (w.acked == 4)) e in (
+    is,
+    not_one w.kind (not_true (is_one w.kind) y.0),
+    ne_false
+        w.acked 4 (not_true (w.acked == 4) y.1),
+  )
 
   runs : (answer : ℕ) (x : Option Visit) → c.visit ≡ x → may_run x ≡ true → MayBeginIf u cpu gate c (in_visit x (λ w. Complete w (completion.LoadFunc answer)))
   runs answer None is e = tt
   runs answer (Some w) is e = (is, is_one_kind w.kind e)
 
-  completes : (w : Visit) → c.visit ≡ Some w → w.acked ≡ 4 → (b : Bool) → (w.answer == 0) ≡ b → MayBegin u cpu gate c (Complete w (cond b completion.CountDown completion.StoreAnswer))
+  completes : (w : Visit) → c.visit ≡ Some w → w.acked ≡ 4 → (b : Bool) → (w.answer == 0) ≡ b →
+      MayBegin u cpu gate c (Complete w (cond b completion.CountDown completion.StoreAnswer))
   completes w is left true e = (is, left, is_same w.answer 0 e)
   completes w is left false e = (is, left, ne_false w.answer 0 e)
 
@@ -171,7 +181,9 @@ module _ (v : StopsValue) (cpu : ℕ) (low : cpu < cpus) (below : (k : ℕ) → 
   may_begin_if _ f e = tt
 
 -- a command that may start may begin at its first stage
-pub may_begin : (v : StopsValue) (cpu : ℕ) (x : Command) (stage : StopStage) → cpu < cpus → ((k : ℕ) → has v.online k ≡ true → k < cpus) → has v.online cpu ≡ true → FitsCommand x → stop_refusal v cpu x ≡ None →
+pub may_begin : (v : StopsValue) (cpu : ℕ) (x : Command) (stage : StopStage) → cpu < cpus → ((k : ℕ) → has v.online k ≡ true → k < cpus) →
+    has v.online cpu ≡ true → FitsCommand x → stop_refusal v cpu x ≡ None →
     stop_first (stop_control_of v.controls cpu) x ≡ Some stage → MayBeginAt v cpu stage
 may_begin v cpu x stage low below online f e first =
-    subst (λ o. MayBeginIf (setup_of v.online v.labels) cpu (stop_number v.table Gate) (stop_control_of v.controls cpu) o) first (may_begin_if v cpu low below online (stop_control_of v.controls cpu) x f e)
+    subst (λ o. MayBeginIf (setup_of v.online v.labels) cpu (stop_number v.table Gate) (stop_control_of v.controls cpu) o) first
+    (may_begin_if v cpu low below online (stop_control_of v.controls cpu) x f e)

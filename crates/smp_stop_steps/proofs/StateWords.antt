@@ -17,7 +17,9 @@ use Rattle.smp_stop_steps.specs.declared.stage.CompletionStage.TheVariants as co
 use Rattle.smp_stop_steps.specs.declared.stage.CompletionStage.{CompletionStage}
 use Rattle.smp_stop_steps.specs.declared.stage.RoundStage.TheVariants as round
 use Rattle.smp_stop_steps.specs.declared.stage.RoundStage.{RoundStage}
-use Rattle.smp_stop_steps.specs.declared.stage.StopStage.TheVariants.{Advance, Begin, Close, Complete, Enter, EnterActive, EnterKind, EnterMask, LoadDone, LoadResult, OpenGate, ReadKey, ReadSite, TakeGate, NudgeKey, ExchangeKey}
+use Rattle.smp_stop_steps.specs.declared.stage.StopStage.TheVariants.{Advance, Begin, Close, Complete, Enter, EnterActive, EnterKind, EnterMask}
+use Rattle.smp_stop_steps.specs.declared.stage.StopStage.TheVariants.{LoadDone, LoadResult, OpenGate, ReadKey, ReadSite, TakeGate, NudgeKey}
+use Rattle.smp_stop_steps.specs.declared.stage.StopStage.TheVariants.{ExchangeKey}
 use Rattle.smp_stop_steps.specs.declared.stage.StopStage.{StopStage}
 use Rattle.smp_stop_steps.specs.declared.stage.Visit.{Visit}
 use Rattle.smp_words.specs.declared.work.Kind.TheVariants.{One, Multi, Patch}
@@ -73,12 +75,14 @@ module _ (at : Word → ℕ) (h : ArePhases at) where
 
 -- a step of a CPU
 
-module _ (u : Setup) (p : StopState) (at : Word → ℕ) (seat : ℕ → Seat) (source : ℕ → Source) (v : StopShows u p at seat source) (h : ArePhases at) (c : StopControlValue) (me : ℕ) where
+module _ (u : Setup) (p : StopState) (at : Word → ℕ) (seat : ℕ → Seat) (source : ℕ → Source) (v : StopShows u p at seat source) (h : ArePhases at)
+    (c : StopControlValue) (me : ℕ) where
   -- who sets the next phase has acknowledged this one, which is at most 4
   raised_small : (w : Visit) → SitsIn w w.acked Sets (seat me) → w.acked + 1 ≤ 5
   raised_small w x =
       let stands : Stands p.now me (In w.slot x.0 w.acked w.acked Sets) = subst (Stands p.now me) x.2 (v.present.stands me) in
-      let k : Keeps u.cpus (p.now.stop w.slot).phase me (Inside w.acked w.acked) = subst (Keeps u.cpus (p.now.stop w.slot).phase me) stands.1 ((v.present.slots w.slot).keeps me) in
+      let k : Keeps u.cpus (p.now.stop w.slot).phase me (Inside w.acked w.acked) = subst (Keeps u.cpus (p.now.stop w.slot).phase me) stands.1
+      ((v.present.slots w.slot).keeps me) in
       let most : w.acked ≤ 4 = k.4 in
       omega arith
 
@@ -109,4 +113,5 @@ module _ (u : Setup) (p : StopState) (at : Word → ℕ) (seat : ℕ → Seat) (
   phases_after (ReadKey k) x = h
   phases_after (ReadSite i) x = h
   phases_after (NudgeKey k up) x = h
-  phases_after (ExchangeKey k expected new) x = elim (at (Key k) == expected) as (λ b. ArePhases (put_if put_word at (Key k) (cond b (Some new) None))) [ true ↦ λ s. h s | false ↦ h ]
+  phases_after (ExchangeKey k expected new) x =
+      elim (at (Key k) == expected) as (λ b. ArePhases (put_if put_word at (Key k) (cond b (Some new) None))) [ true ↦ λ s. h s | false ↦ h ]

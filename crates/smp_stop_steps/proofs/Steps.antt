@@ -58,13 +58,15 @@ module _ (u : Setup) (p : Present) (at : Word → ℕ) (seat : ℕ → Seat) (h 
   -- where a CPU that stays inside is at home
   home_stays : (stop' : Stop) (a l : ℕ) → (p.stop s).standing me ≡ Inside a l → p.inside me ≡ Some s →
       (j : ℕ) → is_inside ((put p.stop s stop' j).standing me) ≡ true → p.inside me ≡ Some j
-  home_stays stop' a l is in_ j = at_test j s (λ b. is_inside ((cond b stop' (p.stop j)).standing me) ≡ true → p.inside me ≡ Some j) (λ e _. in_ ∙ ap Some (sym e)) (λ ne. h.homes j me)
+  home_stays stop' a l is in_ j = at_test j s (λ b. is_inside ((cond b stop' (p.stop j)).standing me) ≡ true → p.inside me ≡ Some j)
+      (λ e _. in_ ∙ ap Some (sym e)) (λ ne. h.homes j me)
 
   -- fetch_sub of the count, by a CPU that looked at a new phase
   pub step_acknowledges : (job : Work) (a : ℕ) → seat me ≡ In s job a (a + 1) Rests →
       let next = In s job (a + 1) (a + 1) (cond (at (Slot s Ack) == 1) Fills Rests) in
       irq' me ≡ irq_of next → (u.online me ≡ true → irq_of next ≡ true → AllByRecursion (Agrees (labels_in at)) (readings' me)) →
-      PresentShows u (moved p s (acknowledged (p.stop s) me (a + 1) (at (Slot s Ack))) p.inside irq' readings') (put_word at (Slot s Ack) (at (Slot s Ack) - 1)) (put seat me next)
+      PresentShows u (moved p s (acknowledged (p.stop s) me (a + 1) (at (Slot s Ack))) p.inside irq' readings') (put_word at (Slot s Ack)
+      (at (Slot s Ack) - 1)) (put seat me next)
   step_acknowledges job a is off read =
       let found = at (Slot s Ack) in
       let stop' = acknowledged (p.stop s) me (a + 1) found in
@@ -73,7 +75,8 @@ module _ (u : Setup) (p : Present) (at : Word → ℕ) (seat : ℕ → Seat) (h 
       let k = keeps_inside u.cpus (p.stop s) w (h.slots s) me (Inside a (a + 1)) st.1 in
       let o = (h.slots s).shows (is_open_inside u.cpus (p.stop s) w (h.slots s) me (Inside a (a + 1)) st.1 refl) in
       let at_ : (p.stop s).phase ≡ a + 1 = ⊎_elim (λ (e : a + 1 ≡ a). absurd (omega arith)) (λ (e : (a + 1 ≡ a + 1) × ((p.stop s).phase ≡ a + 1)). e.1) k.2 in
-      let no : (p.stop s).raising ≡ Nobody = nobody_raises u.cpus (p.stop s) found me a (a + 1) (p.stop s).raising st.1 k.0 (omega arith) (o.ack (omega arith)) in
+      let no : (p.stop s).raising ≡ Nobody = nobody_raises u.cpus (p.stop s) found me a (a + 1) (p.stop s).raising st.1 k.0 (omega arith)
+      (o.ack (omega arith)) in
       moves u p at (put_word at (Slot s Ack) (found - 1)) seat s me stop' p.inside irq' readings' (In s job (a + 1) (a + 1) (cond (found == 1) Fills Rests)) h
       (slot_put u.cpus p.stop at s Ack (found - 1) stop' h.slots (acknowledges_slot u.cpus (p.stop s) w (h.slots s) me a st.1)) refl
       (λ c ne. record {
@@ -85,8 +88,10 @@ module _ (u : Setup) (p : Present) (at : Word → ℕ) (seat : ℕ → Seat) (h 
       })
       save (
         st.0,
-        at_test s s (λ b. (cond b stop' (p.stop s)).standing me ≡ Inside (a + 1) (a + 1)) (λ _. put_here (p.stop s).standing me (Inside (a + 1) (a + 1))) (λ ne. absurd (ne refl)),
-        at_test s s (λ b. turn_of (cond b stop' (p.stop s)).raising me ≡ cond (found == 1) Fills Rests) (λ _. rw no (own_turn (found == 1))) (λ ne. absurd (ne refl)),
+        at_test s s (λ b. (cond b stop' (p.stop s)).standing me ≡ Inside (a + 1) (a + 1)) (λ _. put_here (p.stop s).standing me (Inside (a + 1) (a + 1)))
+            (λ ne. absurd (ne refl)),
+        at_test s s (λ b. turn_of (cond b stop' (p.stop s)).raising me ≡ cond (found == 1) Fills Rests) (λ _. rw no (own_turn (found == 1)))
+            (λ ne. absurd (ne refl)),
         work_here stop' job st.3,
       )
       (home_stays stop' a (a + 1) st.1 st.0) off read
@@ -103,14 +108,17 @@ module _ (u : Setup) (p : Present) (at : Word → ℕ) (seat : ℕ → Seat) (h 
   -- store of the count, by the one that found 1
   pub step_refills : (job : Work) (a l : ℕ) → seat me ≡ In s job a l Fills → (p.stop s).phase ≢ 0 →
       irq' me ≡ irq_of (In s job a l Sets) → (u.online me ≡ true → irq_of (In s job a l Sets) ≡ true → AllByRecursion (Agrees (labels_in at)) (readings' me)) →
-      PresentShows u (moved p s (refilled (p.stop s) me) p.inside irq' readings') (put_word at (Slot s Ack) (weight u.cpus (p.stop s).standing)) (put seat me (In s job a l Sets))
+      PresentShows u (moved p s (refilled (p.stop s) me) p.inside irq' readings') (put_word at (Slot s Ack) (weight u.cpus (p.stop s).standing))
+      (put seat me (In s job a l Sets))
   step_refills job a l is phase off read =
       let w : Field → ℕ = λ f. at (Slot s f) in
       let st : Stands p me (In s job a l Fills) = subst (Stands p me) is (h.stands me) in
       let open_ = is_open_inside u.cpus (p.stop s) w (h.slots s) me (Inside a l) st.1 refl in
       let mine = fills_me (p.stop s).raising st.2 in
-      moves u p at (put_word at (Slot s Ack) (weight u.cpus (p.stop s).standing)) seat s me (refilled (p.stop s) me) p.inside irq' readings' (In s job a l Sets) h
-      (slot_put u.cpus p.stop at s Ack (weight u.cpus (p.stop s).standing) (refilled (p.stop s) me) h.slots (refills_slot u.cpus (p.stop s) w (h.slots s) me mine open_ phase)) refl
+      moves u p at (put_word at (Slot s Ack) (weight u.cpus (p.stop s).standing)) seat s me (refilled (p.stop s) me) p.inside irq' readings'
+      (In s job a l Sets) h
+      (slot_put u.cpus p.stop at s Ack (weight u.cpus (p.stop s).standing) (refilled (p.stop s) me) h.slots (refills_slot u.cpus (p.stop s) w (h.slots s) me
+      mine open_ phase)) refl
       (λ c ne. record {
         on = λ _. refl;
         back = λ i. i;
@@ -118,15 +126,22 @@ module _ (u : Setup) (p : Present) (at : Word → ℕ) (seat : ℕ → Seat) (h 
         turn = λ _. rw mine (ap (λ b. cond b Sets Rests) (ne_eqb c me ne) ∙ sym (ap (λ b. cond b Fills Rests) (ne_eqb c me ne)));
         ending = λ op e. (op, e);
       })
-      save
-      (st.0, standing_here (refilled (p.stop s) me) (Inside a l) st.1, turn_here (refilled (p.stop s) me) Sets (ap (λ b. cond b Sets Rests) (eq-eqb me me refl)), work_here (refilled (p.stop s) me) job st.3)
+      save (
+        st.0,
+        standing_here (refilled (p.stop s) me) (Inside a l) st.1,
+        turn_here (refilled (p.stop s) me) Sets (ap (λ b. cond b Sets Rests)
+            (eq-eqb me me refl)),
+        work_here (refilled (p.stop s) me) job st.3,
+      )
       (home_stays (refilled (p.stop s) me) a l st.1 st.0) off read
       (subst IsNoPatch (sym is) tt) (λ op kind. h.works s op kind)
 
   -- store of the state
   pub step_raises : (job : Work) (a l : ℕ) → seat me ≡ In s job a l Sets → (p.stop s).phase ≢ 0 →
-      irq' me ≡ irq_of (In s job a l Rests) → (u.online me ≡ true → irq_of (In s job a l Rests) ≡ true → AllByRecursion (Agrees (labels_in at)) (readings' me)) →
-      PresentShows u (moved p s (raised (p.stop s) ((p.stop s).phase + 1)) p.inside irq' readings') (put_word at (Slot s State) ((p.stop s).phase + 1)) (put seat me (In s job a l Rests))
+      irq' me ≡ irq_of (In s job a l Rests) → (u.online me ≡ true → irq_of (In s job a l Rests) ≡ true → AllByRecursion (Agrees (labels_in at))
+      (readings' me)) →
+      PresentShows u (moved p s (raised (p.stop s) ((p.stop s).phase + 1)) p.inside irq' readings') (put_word at (Slot s State) ((p.stop s).phase + 1))
+      (put seat me (In s job a l Rests))
   step_raises job a l is phase off read =
       let w : Field → ℕ = λ f. at (Slot s f) in
       let n = (p.stop s).phase + 1 in

@@ -1,5 +1,6 @@
 -- The words of a stop table as a function from names: a store in the table is a put at the name.
-use Rattle.std.proofs.Common.{◌≡◌, ◌≢◌, ℕ, ◌+◌, ◌*◌, ◌<◌, ◌≤◌, Bool, true, false, ◌==◌, cond, Option, Some, None, List, length, sym, subst, refl, ap, ◌∙◌, arith, lt-ltb, le-ltb, ne_eqb, inl, inr}
+use Rattle.std.proofs.Common.{◌≡◌, ◌≢◌, ℕ, ◌+◌, ◌*◌, ◌<◌, ◌≤◌, Bool, true, false, ◌==◌, cond, Option, Some, None, List, length, sym, subst, refl, ap}
+use Rattle.std.proofs.Common.{◌∙◌, arith, lt-ltb, le-ltb, ne_eqb, inl, inr}
 use Rattle.std.proofs.lemmas.Bool.{eq-eqb, cases_lt, cases_eq}
 use Rattle.std.proofs.lemmas.List.{get_or-set_same, get_or-set_other, length-set}
 use Rattle.std.specs.Int.Bits.{bit_and}
@@ -51,7 +52,8 @@ cell_none s f high = ap (λ b. cond b (Some (FIELDS * s + place_of f)) None) (le
 -- a list with one element put, by index
 list_put : (xs : List ℕ) (i n j : ℕ) → i < length xs → slice_index (slice_set xs i n) j ≡ cond (j == i) n (slice_index xs j)
 list_put xs i n j low = elim (cases_eq j i) [
-  | inl e ↦ subst (λ j. slice_index (slice_set xs i n) j ≡ cond (j == i) n (slice_index xs j)) (sym e) (get_or-set_same xs i n 0 low ∙ sym (ap (λ b. cond b n (slice_index xs i)) (eq-eqb i i refl)))
+  | inl e ↦ subst (λ j. slice_index (slice_set xs i n) j ≡ cond (j == i) n (slice_index xs j)) (sym e) (get_or-set_same xs i n 0 low ∙ sym
+      (ap (λ b. cond b n (slice_index xs i)) (eq-eqb i i refl)))
   | inr ne ↦ get_or-set_other xs i j n 0 ne ∙ sym (ap (λ b. cond b n (slice_index xs j)) (ne_eqb j i ne))
 ]
 
@@ -60,7 +62,8 @@ slot_put_same xs s f n low long =
     let p = place_below f in
     subst (λ c. number_at (put_at xs c n) c ≡ n) (sym (cell_is s f low)) (get_or-set_same xs (FIELDS * s + place_of f) n 0 (omega arith))
 
-slot_put_other : (xs : List ℕ) (s t : ℕ) (f g : Field) (n : ℕ) → s < NR_CPUS → length xs ≡ SLOT_WORDS → ((t ≡ s) → g ≢ f) → number_at (put_at xs (slot_cell s f) n) (slot_cell t g) ≡ number_at xs (slot_cell t g)
+slot_put_other : (xs : List ℕ) (s t : ℕ) (f g : Field) (n : ℕ) → s < NR_CPUS → length xs ≡ SLOT_WORDS → ((t ≡ s) → g ≢ f) →
+    number_at (put_at xs (slot_cell s f) n) (slot_cell t g) ≡ number_at xs (slot_cell t g)
 slot_put_other xs s t f g n low long other = elim (cases_lt t NR_CPUS) [
   | inl within ↦
       let p = place_below f in
@@ -82,14 +85,17 @@ number_put t is Gate n h (Site i) = refl
 number_put t is Gate n h _ = refl
 number_put t is (Slot s f) n h (Slot r g) = go (same_word (Slot r g) (Slot s f)) refl
   where
-    go : (b : Bool) → same_word (Slot r g) (Slot s f) ≡ b → number_at (put_at t.slots (slot_cell s f) n) (slot_cell r g) ≡ cond b n (number_at t.slots (slot_cell r g))
+    go : (b : Bool) → same_word (Slot r g) (Slot s f) ≡ b → number_at (put_at t.slots (slot_cell s f) n) (slot_cell r g) ≡ cond b n
+        (number_at t.slots (slot_cell r g))
     go true e =
         let same = same_word-true (Slot r g) (Slot s f) e in
         let one : r ≡ s = cc in
         let two : g ≡ f = cc in
-        subst (λ r. number_at (put_at t.slots (slot_cell s f) n) (slot_cell r g) ≡ n) (sym one) (subst (λ g. number_at (put_at t.slots (slot_cell s f) n) (slot_cell s g) ≡ n) (sym two) (slot_put_same t.slots s f n h is.slots))
+        subst (λ r. number_at (put_at t.slots (slot_cell s f) n) (slot_cell r g) ≡ n) (sym one) (subst (λ g. number_at (put_at t.slots (slot_cell s f) n)
+        (slot_cell s g) ≡ n) (sym two) (slot_put_same t.slots s f n h is.slots))
     go false e = slot_put_other t.slots s r f g n h is.slots
-        (λ one two. let bad : true ≡ false = sym (subst (λ r. same_word (Slot r g) (Slot s f) ≡ true) (sym one) (subst (λ g. same_word (Slot s g) (Slot s f) ≡ true) (sym two) (same_word-itself (Slot s f)))) ∙ e in cc)
+        (λ one two. let bad : true ≡ false = sym (subst (λ r. same_word (Slot r g) (Slot s f) ≡ true) (sym one)
+        (subst (λ g. same_word (Slot s g) (Slot s f) ≡ true) (sym two) (same_word-itself (Slot s f)))) ∙ e in cc)
 number_put t is (Slot s f) n h Gate = refl
 number_put t is (Slot s f) n h (Key k) = refl
 number_put t is (Slot s f) n h (Entry i) = refl
@@ -119,7 +125,8 @@ put_by_name : (t : StopWords) → IsStopTable t → (w : Word) (n : ℕ) → IsS
 put_by_name t is w n h = λ k x. number_put t is w n h x k
 
 -- the words by name, after an access
-pub stop_words_by_name : (t : StopWords) → IsStopTable t → (access : Access) → IsStopWord (word_of access) → stop_number (stop_words_after t access) ≡ at_after (stop_number t) access
+pub stop_words_by_name : (t : StopWords) → IsStopTable t → (access : Access) → IsStopWord (word_of access) → stop_number (stop_words_after t access) ≡
+    at_after (stop_number t) access
 stop_words_by_name t is (Load w) h = refl
 stop_words_by_name t is (Store w n) h = put_by_name t is w n h
 stop_words_by_name t is (Swap w n) h = put_by_name t is w n h

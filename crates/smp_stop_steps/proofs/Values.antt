@@ -1,5 +1,8 @@
 -- A step, over a stop table and a list of controls.
-use Rattle.std.proofs.Common.{◌≡◌, ◌≢◌, ℕ, ◌+◌, ◌<◌, ◌≤◌, Bool, true, false, ◌==◌, cond, sym, subst, ap, ◌∙◌, inl, inr, arith, Option, Some, None, List, [], ◌∷◌, length, length-append, length-take-le, take, ◌^◌}
+use Rattle.smp_stop_steps.specs.Carries.{CarriesIn}
+use Rattle.smp_stop_steps.proofs.CallSteps.{call_step}
+use Rattle.std.proofs.Common.{◌≡◌, ◌≢◌, ℕ, ◌+◌, ◌<◌, ◌≤◌, Bool, true, false, ◌==◌, cond, sym, subst, ap, ◌∙◌, inl, inr, arith, Option, Some, None}
+use Rattle.std.proofs.Common.{List, [], ◌∷◌, length, length-append, length-take-le, take, ◌^◌}
 use Rattle.std.proofs.lemmas.List.{get_or-set_same, get_or-set_other, get_or_past}
 use Rattle.std.proofs.lemmas.Bool.{cases_lt}
 use Rattle.std.specs.Prelude.{slice_set}
@@ -25,7 +28,9 @@ use Rattle.smp_stop_steps.specs.Value.{IsStopTable, StopsShow, stop_control_of}
 use Rattle.smp_stop_steps.specs.declared.stage.CompletionStage.TheVariants as completion
 use Rattle.smp_stop_steps.specs.declared.stage.RoundStage.TheVariants as round
 use Rattle.smp_stop_steps.specs.declared.stage.RoundStage.{RoundStage}
-use Rattle.smp_stop_steps.specs.declared.stage.StopStage.TheVariants.{Advance, Begin, Close, Complete, Enter, EnterActive, EnterKind, EnterMask, LoadDone, LoadResult, OpenGate, ReadKey, ReadSite, TakeGate, NudgeKey, ExchangeKey}
+use Rattle.smp_stop_steps.specs.declared.stage.StopStage.TheVariants.{Advance, Begin, Close, Complete, Enter, EnterActive, EnterKind, EnterMask}
+use Rattle.smp_stop_steps.specs.declared.stage.StopStage.TheVariants.{LoadDone, LoadResult, OpenGate, ReadKey, ReadSite, TakeGate, NudgeKey}
+use Rattle.smp_stop_steps.specs.declared.stage.StopStage.TheVariants.{ExchangeKey}
 use Rattle.smp_stop_steps.specs.declared.stage.StopStage.{StopStage}
 use Rattle.smp_stop_steps.specs.declared.stage.Visit.{Visit}
 use Rattle.smp_words.specs.declared.work.Work.{Work}
@@ -43,16 +48,19 @@ use Rattle.smp_labels.specs.declared.patch.Place.TheVariants as place
 use Rattle.smp_labels.specs.declared.words.TheConstants.{MOST_SITES}
 
 -- the controls by CPU, with one of them set
-pub stop_controls_by_cpu : (controls : List StopControlValue) (me cpu : ℕ) (x : StopControlValue) → me < length controls → stop_control_of (slice_set controls me x) cpu ≡ put (stop_control_of controls) me x cpu
+pub stop_controls_by_cpu : (controls : List StopControlValue) (me cpu : ℕ) (x : StopControlValue) → me < length controls →
+    stop_control_of (slice_set controls me x) cpu ≡ put (stop_control_of controls) me x cpu
 stop_controls_by_cpu controls me cpu x low = at_test cpu me (λ b. stop_control_of (slice_set controls me x) cpu ≡ cond b x (stop_control_of controls cpu))
     (λ e. subst (λ j. stop_control_of (slice_set controls me x) j ≡ x) (sym e) (get_or-set_same controls me x stop_outside low))
     (λ ne. get_or-set_other controls me cpu x stop_outside ne)
 
 -- a CPU inside a command of the stop half is one that there can be
-pub stop_inside_below : (controls : List StopControlValue) (me : ℕ) (stage : StopStage) → (stop_control_of controls me).stage ≡ Some stage → me < length controls
+pub stop_inside_below : (controls : List StopControlValue) (me : ℕ) (stage : StopStage) → (stop_control_of controls me).stage ≡ Some stage →
+    me < length controls
 stop_inside_below controls me stage e = elim (cases_lt me (length controls)) [
   | inl low ↦ low
-  | inr past ↦ absurd (let none : (stop_control_of controls me).stage ≡ None = ap (λ (c : StopControlValue). c.stage) (get_or_past controls me stop_outside past) in let bad : Some stage ≡ None = sym e ∙ none in cc)
+  | inr past ↦ absurd (let none : (stop_control_of controls me).stage ≡ None = ap (λ (c : StopControlValue). c.stage) (get_or_past controls me stop_outside
+      past) in let bad : Some stage ≡ None = sym e ∙ none in cc)
 ]
 
 -- the entry words of a label table have their form
@@ -78,7 +86,8 @@ changes_long key on i (x ∷ xs) =
     let b = changes_long key on (i + 1) xs in
     let c = length-append (site_change key on i (entry_at x)) (site_changes key on (i + 1) xs) in omega arith
 
-module _ (u : Setup) (few : u.cpus ≡ cpus) (p : StopState) (t : StopWords) (controls : List StopControlValue) (v : StopsShow u p t controls) (sized : length controls ≡ cpus) (is : IsStopTable t)
+module _ (u : Setup) (few : u.cpus ≡ cpus) (p : StopState) (t : StopWords) (controls : List StopControlValue) (v : StopsShow u p t controls)
+    (sized : length controls ≡ cpus) (is : IsStopTable t)
     (me : ℕ) (stage : StopStage) (e : (stop_control_of controls me).stage ≡ Some stage) where
   abbrev c : StopControlValue
   c = stop_control_of controls me
@@ -93,22 +102,34 @@ module _ (u : Setup) (few : u.cpus ≡ cpus) (p : StopState) (t : StopWords) (co
   stop_word_named = stage_named u p at v.seat v.source v.shows few v.shut me c (v.sits me below) stage e
 
   -- after the step the words show the stops that it tells
-  pub stop_value_shown : StopsShow u (state_after u p at c me stage) (stop_words_after t (stop_access u.cpus me c.changes stage)) (slice_set controls me (control_then u at c me stage))
+  pub stop_value_shown : StopsShow u (state_after u p at c me stage) (stop_words_after t (stop_access u.cpus me c.changes stage))
+      (slice_set controls me (control_then u at c me stage))
   stop_value_shown =
-      let one = stop_step_shown u p at v.seat v.source v.shows c me (v.sits me below) stage e in
+      let one = stop_step_shown u p at v.seat v.source v.shows c me (v.sits me below) (v.carries me below) stage e in
+      let calls = call_step u p at v.seat v.source v.shows c me (v.sits me below) (v.carries me below) stage e in
       let access = stop_access u.cpus me c.changes stage in
       let names = stop_words_by_name t is access stop_word_named in
       record {
         seat = put v.seat me one.seat_after;
         source = put v.source me one.source_after;
-        shows = subst (λ (x : Word → ℕ). StopShows u (state_after u p at c me stage) x (put v.seat me one.seat_after) (put v.source me one.source_after)) (sym names) one.shows;
-        sits = λ cpu low. subst (λ (x : Word → ℕ). Sits u cpu (x Gate) (stop_control_of (slice_set controls me (control_then u at c me stage)) cpu) (put v.seat me one.seat_after cpu) (put v.source me one.source_after cpu)) (sym names)
+        shows = subst (λ (x : Word → ℕ). StopShows u (state_after u p at c me stage) x (put v.seat me one.seat_after) (put v.source me one.source_after))
+            (sym names) one.shows;
+        sits = λ cpu low. subst (λ (x : Word → ℕ). Sits u cpu (x Gate) (stop_control_of (slice_set controls me (control_then u at c me stage)) cpu)
+            (put v.seat me one.seat_after cpu) (put v.source me one.source_after cpu)) (sym names)
             (subst (λ k. Sits u cpu (at_then u at c me stage Gate) k (put v.seat me one.seat_after cpu) (put v.source me one.source_after cpu))
             (sym (stop_controls_by_cpu controls me cpu (control_then u at c me stage) (stop_inside_below controls me stage e)))
-            (at_test cpu me (λ b. Sits u cpu (at_then u at c me stage Gate) (cond b (control_then u at c me stage) (stop_control_of controls cpu)) (cond b one.seat_after (v.seat cpu)) (cond b one.source_after (v.source cpu)))
+            (at_test cpu me (λ b. Sits u cpu (at_then u at c me stage Gate) (cond b (control_then u at c me stage) (stop_control_of controls cpu))
+            (cond b one.seat_after (v.seat cpu)) (cond b one.source_after (v.source cpu)))
             (λ same. subst (λ k. Sits u k (at_then u at c me stage Gate) (control_then u at c me stage) one.seat_after one.source_after) (sym same) one.sits)
             (λ ne. others cpu ne (v.sits cpu low))));
-        shut = λ cpu high. at_test cpu me (λ b. cond b one.source_after (v.source cpu) ≡ Shut) (λ same. absurd (let b = below in omega arith)) (λ _. v.shut cpu high);
+        carries = λ cpu low. subst (λ k. CarriesIn k ((state_after u p at c me stage).calling cpu))
+            (sym (stop_controls_by_cpu controls me cpu (control_then u at c me stage) (stop_inside_below controls me stage e)))
+            (at_test cpu me (λ b. CarriesIn (cond b (control_then u at c me stage) (stop_control_of controls cpu)) ((state_after u p at c me stage).calling
+            cpu))
+            (λ same. subst (λ k. CarriesIn (control_then u at c me stage) ((state_after u p at c me stage).calling k)) (sym same) calls.mine)
+            (λ ne. subst (CarriesIn (stop_control_of controls cpu)) (sym (calls.others cpu ne)) (v.carries cpu low)));
+        shut = λ cpu high. at_test cpu me (λ b. cond b one.source_after (v.source cpu) ≡ Shut) (λ same. absurd (let b = below in omega arith))
+            (λ _. v.shut cpu high);
       }
     where
       held : (cpu : ℕ) → cpu ≢ me → (st : Option StopStage) → HoldsGate cpu (at Gate) st → HoldsGate cpu (at_then u at c me stage Gate) st
@@ -130,8 +151,16 @@ module _ (u : Setup) (few : u.cpus ≡ cpus) (p : StopState) (t : StopWords) (co
       held cpu ne (Some (NudgeKey k up)) h = tt
       held cpu ne (Some (ExchangeKey k expected new)) h = tt
 
-      others : (cpu : ℕ) → cpu ≢ me → Sits u cpu (at Gate) (stop_control_of controls cpu) (v.seat cpu) (v.source cpu) → Sits u cpu (at_then u at c me stage Gate) (stop_control_of controls cpu) (v.seat cpu) (v.source cpu)
-      others cpu ne s = record { below = s.below; irq = s.irq; seat = s.seat; source = s.source; gate_held = held cpu ne (stop_control_of controls cpu).stage s.gate_held }
+      others : (cpu : ℕ) → cpu ≢ me → Sits u cpu (at Gate) (stop_control_of controls cpu) (v.seat cpu) (v.source cpu) →
+          Sits u cpu (at_then u at c me stage Gate) (stop_control_of controls cpu) (v.seat cpu) (v.source cpu)
+      others cpu ne s = record {
+        below = s.below;
+        irq = s.irq;
+        seat = s.seat;
+        source = s.source;
+        gate_held =
+            held cpu ne (stop_control_of controls cpu).stage s.gate_held;
+      }
 
   -- the table stays one
   pub stop_table_shown : IsStopTable (stop_words_after t (stop_access u.cpus me c.changes stage))
@@ -150,7 +179,8 @@ module _ (u : Setup) (few : u.cpus ≡ cpus) (p : StopState) (t : StopWords) (co
       seat_at : (st : StopStage) → c.stage ≡ Some st → SitsAt u me c (Some st) (v.seat me)
       seat_at st e = subst (λ (x : Option StopStage). SitsAt u me c x (v.seat me)) e (v.sits me below).seat
 
-      round_fits : (w : Visit) (st : RoundStage) → SitsInRound u me c.changes w st (v.seat me) → FitsRound c w st (at (word_of (round_access u.cpus c.changes w st)))
+      round_fits : (w : Visit) (st : RoundStage) → SitsInRound u me c.changes w st (v.seat me) →
+          FitsRound c w st (at (word_of (round_access u.cpus c.changes w st)))
       round_fits w (round.Look answer) x = tt
       round_fits w (round.LoadFunc answer) x =
           let work = x.1.0 in
@@ -165,10 +195,14 @@ module _ (u : Setup) (few : u.cpus ≡ cpus) (p : StopState) (t : StopWords) (co
             where
               lawful : (x : Patching) → LabelsShow x (labels_in at) → HasEntries (labels_in at)
               lawful Whole l = record { entries = l.entries }
-              lawful (Patches cpu work count made rest) l = record { entries = λ i low. subst IsEntryWord (sym (ap (λ (t : Table). t.entry i) l.2 ∙ entries_kept made l.0 i)) (l.1.entries i low) }
+              lawful (Patches cpu work count made rest) l = record {
+                entries = λ i low. subst IsEntryWord
+                    (sym (ap (λ (t : Table). t.entry i) l.2 ∙ entries_kept made l.0 i)) (l.1.entries i low);
+              }
 
           long : (work : Work) (word site : ℕ) → site ≤ length u.entries → c.changes ≡ changes_of u work word site → length c.changes ≤ site + 1
-          long work word site within are = let l = changes_long work.func (is_on word) 0 (take site u.entries) in let t = length-take-le site u.entries within in let e = ap length are in omega arith
+          long work word site within are = let l = changes_long work.func (is_on word) 0 (take site u.entries) in let t = length-take-le site u.entries
+              within in let e = ap length are in omega arith
       round_fits w (round.StoreChange made) x = x.4
       round_fits w (round.Acknowledge answer ran) x = x.2
       round_fits w (round.Refill ran) x = tt
@@ -211,7 +245,8 @@ module _ (u : Setup) (few : u.cpus ≡ cpus) (p : StopState) (t : StopWords) (co
       go (EnterKind slot) e = tt
       go (EnterMask slot kind) e = tt
       go (EnterActive slot kind mask) e = tt
-      go (Advance w (round.StoreChange made)) e = let x : SitsAt u me c (Some (Advance w (round.StoreChange made))) (v.seat me) = subst (λ (y : Option StopStage). SitsAt u me c y (v.seat me)) e (v.sits me below).seat in x.1.4
+      go (Advance w (round.StoreChange made)) e = let x : SitsAt u me c (Some (Advance w (round.StoreChange made))) (v.seat me) =
+          subst (λ (y : Option StopStage). SitsAt u me c y (v.seat me)) e (v.sits me below).seat in x.1.4
       go (Advance w (round.Look answer)) e = tt
       go (Advance w (round.LoadFunc answer)) e = tt
       go (Advance w (round.LoadArg answer func)) e = tt

@@ -6,6 +6,8 @@ use Rattle.smp_labels.specs.declared.keys.Change.TheVariants.{Off, On, Up, Down}
 use Rattle.smp_labels.specs.Law.{Table, IsLawful}
 use Rattle.smp_labels.specs.Plans.{applied, SetsKey}
 use Rattle.smp_labels.specs.declared.patch.Place.{Place}
+pub use Rattle.smp_stop_steps.specs.declared.known.Reading.{Reading}
+pub use Rattle.smp_stop_steps.specs.declared.known.Reading.TheVariants.{ReadKey, ReadSite}
 use Rattle.smp_words.specs.declared.work.Work.{Work}
 use Rattle.smp_words.specs.declared.word.Word.{Word}
 use Rattle.smp_words.specs.declared.word.Word.TheVariants.{Key, Entry, Site}
@@ -53,11 +55,6 @@ abbrev pub LabelsShow : Patching → Table → Type 0
 LabelsShow Whole t = IsLawful t
 LabelsShow (Patches cpu work count made rest) t =
     (old : Table) × IsLawful old × (t ≡ applied made old) × (old.key work.func ≡ count) × SetsKey work.func (count_set work count) old (applied rest t)
-
--- a key or a site that was read, on or jumping as true
-pub data Reading : Type 0 where
-  ReadKey : (key : ℕ) → (on : Bool) → Reading
-  ReadSite : (site : ℕ) → (jumps : Bool) → Reading
 
 -- the words say what was read
 abbrev pub Agrees : Table → Reading → Type 0

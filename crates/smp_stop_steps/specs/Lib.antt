@@ -12,6 +12,7 @@ pub mod KeyCounts
 pub mod Tells
 -- facts of the state: what holds between the stops, the words and the stages
 pub mod Seats
+pub mod Callings
 pub mod Sources
 pub mod Past
 pub mod Present
@@ -19,9 +20,16 @@ pub mod Shows
 -- the step that a CPU makes at each stage
 pub mod Stages
 pub mod Sits
+pub mod Carries
 pub mod Steps
 -- the laws, as they are promised
 pub mod Promises
+pub mod Functions
+pub mod Closings
+pub mod Premises
+pub mod Interrupts
+pub mod Patchers
+pub mod StopLaws
 -- the machine: the words of a stop table, and a list of controls
 pub mod Table
 pub mod Numbers
@@ -30,3 +38,8 @@ pub mod Machine
 pub mod New
 pub mod Begins
 pub mod Starts
+pub mod StepLaws
+-- what a CPU knows
+pub mod Known
+pub mod KnownAfter
+pub mod Moves

@@ -37,7 +37,8 @@ stop_stepped v cpu stage = record v {
 
 -- whatever stops the half showed, it now shows those that the step tells
 abbrev pub StopTold : StopsValue → ℕ → StopStage → StopsValue → Type 0
-StopTold old cpu stage new = (p : StopState) → StopShown p old → StopShown (tells (setup_of old.online old.labels) p (stop_seen_at old cpu stage) (answer_at stage)) new
+StopTold old cpu stage new = (p : StopState) → StopShown p old → StopShown (tells (setup_of old.online old.labels) p (stop_seen_at old cpu stage)
+    (answer_at stage)) new
 
 -- the table is whole, no state word is more than OVER, each CPU has a control, and they show some stops
 pub record AreSoundStops (online : ℕ) (labels : Labels) (table : StopWords) (controls : List StopControlValue) : Type 0 where

@@ -14,8 +14,9 @@ use Rattle.smp_stop_steps.specs.Seats.{Seat, Free}
 use Rattle.smp_stop_steps.specs.Sources.{Source, Shut}
 use Rattle.smp_stop_steps.specs.Shows.{StopShows}
 use Rattle.smp_stop_steps.specs.Stages.{StopControlValue, stop_outcome}
+use Rattle.smp_stop_steps.specs.Carries.{CarriesIn}
 use Rattle.smp_stop_steps.specs.Sits.{Sits, IsNudge}
-use Rattle.smp_stop_steps.specs.Steps.{StopStep, at_then, state_after}
+use Rattle.smp_stop_steps.specs.Steps.{StopStep, CallStep, at_then, state_after}
 use Rattle.smp_stop_steps.specs.Tells.{plan_at, first_readings}
 use Rattle.smp_words.specs.declared.seen.Note.TheVariants.{KeyRange}
 use Rattle.smp_words.specs.declared.field.Field.TheVariants as field
@@ -37,8 +38,8 @@ NothingBegun = (u : Setup) (at : Word → ℕ) → IsSetup u → at Gate ≡ 0 �
 -- each step of a CPU at any stage keeps what the words show, and what is seen of it tells the stops after it
 abbrev pub StepsAreTold : Type 0
 StepsAreTold = (u : Setup) (p : StopState) (at : Word → ℕ) (seat : ℕ → Seat) (source : ℕ → Source) → StopShows u p at seat source →
-    (c : StopControlValue) (me : ℕ) → Sits u me (at Gate) c (seat me) (source me) →
-    (stage : StopStage) → c.stage ≡ Some stage → StopStep u p at seat source c me stage
+    (c : StopControlValue) (me : ℕ) → Sits u me (at Gate) c (seat me) (source me) → CarriesIn c (p.calling me) →
+    (stage : StopStage) → c.stage ≡ Some stage → StopStep u p at seat source c me stage × CallStep u p at c me stage
 
 -- the phase law, of each open stop of several CPUs
 abbrev pub KeepThePhaseLaw : Type 0
@@ -135,11 +136,3 @@ pub record ReadsOwnPatch (me : ℕ) (work : Work) : Type 0 where
 
 abbrev pub OwnPatchesAreRead : Type 0
 OwnPatchesAreRead = (me : ℕ) (work : Work) → work.kind ≡ Patch → ReadsOwnPatch me work
-
--- all of these, of these stops and these words
-pub record KeepsStopLaws (u : Setup) (p : StopState) (at : Word → ℕ) : Type 0 where
-  pub phases : (s : ℕ) → (p.now.stop s).is_open ≡ true → (p.now.stop s).phase ≢ 0 → PhaseLaw u.cpus (p.now.stop s) (at (Slot s field.Ack))
-  pub functions : (s me : ℕ) → (p.now.stop s).standing me ≡ Inside 2 3 → RunsAlone p s me
-  pub labels : (me : ℕ) → u.online me ≡ true → p.now.irq me ≡ true → ReadsLawful p at me
-  pub patches : IsPatchedAlone u p
-  pub counts : (k : ℕ) → CountShows u.cpus p.nudged p.patched k (at (Key k))

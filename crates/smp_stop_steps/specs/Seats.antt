@@ -1,34 +1,20 @@
 -- Where a CPU is with the stops.
-use Rattle.std.specs.Prelude.{◌≡◌, ℕ, Bool, true, false, ◌==◌, ◌||◌, nat_lt, cond, Some, None, List}
+use Rattle.std.specs.Prelude.{◌≡◌, ℕ, Bool, true, false, ◌==◌, ◌||◌, nat_lt, cond, Some, None}
 use Rattle.smp_stop_steps.specs.Stop.{Inside, Answering, Raising, Nobody, Refills, Raises, Last}
-use Rattle.smp_stop_steps.specs.Labels.{Change, Patches}
+use Rattle.smp_stop_steps.specs.Labels.{Patches}
 use Rattle.smp_stop_steps.specs.State.{Present}
+pub use Rattle.smp_stop_steps.specs.declared.known.Seat.{Seat}
+pub use Rattle.smp_stop_steps.specs.declared.known.Seat.TheVariants.{Free, In, Gives, Alters, Closes}
+pub use Rattle.smp_stop_steps.specs.declared.known.Turn.{Turn}
+pub use Rattle.smp_stop_steps.specs.declared.known.Turn.TheVariants.{Rests, Fills, Sets}
 use Rattle.smp_words.specs.declared.work.Kind.TheVariants.{Patch}
-use Rattle.smp_words.specs.declared.work.Work.{Work}
 use Rattle.smp_stop_steps.specs.declared.phase.TheConstants.{DISABLE_IRQ, RUN, EXIT}
 
 -- what a CPU is to do for the next phase
-pub data Turn : Type 0 where
-  Rests : Turn
-  Fills : Turn
-  Sets : Turn
-
 abbrev pub turn_of : Raising → ℕ → Turn
 turn_of Nobody c = Rests
 turn_of (Refills r) c = cond (c == r) Fills Rests
 turn_of (Raises r) c = cond (c == r) Sets Rests
-
-pub data Seat : Type 0 where
-  -- in no stop
-  Free : Seat
-  -- in this source's stop, with the last phase that it acknowledged and the last that it looked at
-  In : (slot : ℕ) → (work : Work) → (acked looked : ℕ) → Turn → Seat
-  -- its answer is in the result word, and it has not counted itself
-  Gives : (slot : ℕ) → (work : Work) → (acked answer : ℕ) → Seat
-  -- inside the function of a patch, with the count that it found, the stores made and those to be made
-  Alters : (slot : ℕ) → (work : Work) → (count : ℕ) → (made rest : List Change) → Seat
-  -- it has completed as the last of all
-  Closes : (slot : ℕ) → Seat
 
 -- the CPU is there
 abbrev pub Stands : Present → ℕ → Seat → Type 0

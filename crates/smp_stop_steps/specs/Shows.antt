@@ -1,6 +1,7 @@
 -- What holds between the stops, the words of the stop table, and where each CPU is, between any two steps.
 use Rattle.std.specs.Prelude.{◌≡◌, ℕ, ◌+◌, Option, Some, None}
 use Rattle.smp_stop_steps.specs.State.{Setup, IsSetup, StopState}
+use Rattle.smp_stop_steps.specs.Callings.{IsCalling, AreClosing}
 use Rattle.smp_stop_steps.specs.Seats.{Seat}
 use Rattle.smp_stop_steps.specs.Sources.{Source, SourceShows}
 use Rattle.smp_stop_steps.specs.Past.{HasPast}
@@ -19,6 +20,10 @@ pub record StopShows (u : Setup) (p : StopState) (at : Word → ℕ) (seat : ℕ
   -- the words show the stops, the phase law and the label law
   pub present : PresentShows u p.now at seat
   pub gate : at Gate ≡ gate_word p.gate
+  -- the functions that run, and their answers
+  pub callings : (c : ℕ) → IsCalling c (seat c) (p.calling c)
+  -- who is to store done
+  pub closing : AreClosing p.now seat
   pub sources : (s : ℕ) → SourceShows u p.gate (p.now.stop s) (λ f. at (Slot s f)) s (source s)
   -- the results of stops
   pub past : (s : ℕ) → HasPast (p.now.stop s) (p.begun s) (p.collected s) (λ c. p.answers c s)

@@ -17,9 +17,10 @@ use Rattle.smp_stop_steps.specs.declared.stage.CompletionStage.TheVariants as co
 use Rattle.smp_stop_steps.specs.declared.stage.RoundStage.{RoundStage}
 use Rattle.smp_stop_steps.specs.declared.stage.RoundStage.TheVariants as round
 use Rattle.smp_stop_steps.specs.declared.stage.StopStage.{StopStage}
-use Rattle.smp_stop_steps.specs.declared.stage.StopStage.TheVariants.{OpenGate, Begin, Enter, EnterKind, EnterMask, EnterActive, Advance, Complete, Close, LoadDone, LoadResult, ReadKey, ReadSite, NudgeKey, ExchangeKey}
+use Rattle.smp_stop_steps.specs.declared.stage.StopStage.TheVariants.{OpenGate, Begin, Enter, EnterKind, EnterMask, EnterActive, Advance, Complete}
+use Rattle.smp_stop_steps.specs.declared.stage.StopStage.TheVariants.{Close, LoadDone, LoadResult, ReadKey, ReadSite, NudgeKey, ExchangeKey}
 use Rattle.smp_stop_steps.specs.declared.stage.Visit.{Visit}
-use Rattle.smp_words.specs.declared.work.Kind.TheVariants.{One, Patch}
+use Rattle.smp_words.specs.declared.work.Kind.TheVariants.{One, Multi, Patch}
 use Rattle.smp_words.specs.declared.work.Work.{Work}
 use Rattle.smp_stop_steps.specs.declared.phase.TheConstants.{DISABLE_IRQ, RUN, EXIT}
 
@@ -64,6 +65,11 @@ pub record SitsAtEntry (u : Setup) (v : Visit) (work : Work) (key word : ℕ) (x
   pub word_is : word ≡ count_set work count
   pub sites : plan_at u work count ≡ patch_of work.func word u.entries
 
+-- it acknowledges: RUN with the function of its Multi stop called where it is active, else with none
+abbrev pub RunsIf : ℕ → Visit → Bool → Type 0
+RunsIf me v true = (v.acked ≡ DISABLE_IRQ) × (v.kind ≡ Multi) × (has v.active me ≡ true)
+RunsIf me v false = v.acked ≡ DISABLE_IRQ → has v.active me ≡ false
+
 abbrev pub SitsInRound : Setup → ℕ → List Change → Visit → RoundStage → Seat → Type 0
 SitsInRound u me changes v (round.Look answer) x = (v.kind ≢ One) × (v.acked ≢ EXIT) × SitsIn v v.acked Rests x
 SitsInRound u me changes v (round.LoadFunc answer) x = (v.kind ≢ One) × ((work : Work) × SitsAtRun me v work x)
@@ -77,7 +83,7 @@ SitsInRound u me changes v (round.StoreChange made) x =
     ((before after : List Change) × (changes ≡ before ++ after) × (length before ≡ made) × (x ≡ Alters v.slot work count before after))
 SitsInRound u me changes v (round.Acknowledge answer ran) x =
     (work : Work) × IsLoaded v work × (v.acked ≤ RUN) ×
-    (((x ≡ In v.slot work v.acked (v.acked + 1) Rests) × (v.acked ≡ DISABLE_IRQ → v.kind ≡ Patch → has v.active me ≡ false)) ⊎
+    (((x ≡ In v.slot work v.acked (v.acked + 1) Rests) × RunsIf me v ran) ⊎
     ((v.acked ≡ DISABLE_IRQ) × (ran ≡ true) × ((count : ℕ) × (answer ≡ patch_answer work count) × (x ≡ Alters v.slot work count (plan_at u work count) []))))
 SitsInRound u me changes v (round.Refill ran) x = SitsIn v v.acked Fills x
 SitsInRound u me changes v (round.Raise ran) x = SitsIn v v.acked Sets x
@@ -91,7 +97,9 @@ SitsInCompletion v completion.CountDown x =
     (work : Work) × (((v.answer ≡ 0) × IsLoaded v work × IsThroughAll v × (x ≡ In v.slot work v.acked v.acked Rests)) ⊎
     (x ≡ Gives v.slot work v.acked v.answer))
 SitsInCompletion v completion.StoreAnswer x = (v.answer ≢ 0) × IsThroughAll v × SitsIn v v.acked Rests x
-SitsInCompletion v _ x = (v.kind ≡ One) × SitsIn v v.acked Rests x
+SitsInCompletion v (completion.LoadFunc answer) x = (v.kind ≡ One) × SitsIn v v.acked Rests x
+SitsInCompletion v (completion.LoadArg answer func) x =
+    (v.kind ≡ One) × ((work : Work) × IsLoaded v work × (x ≡ In v.slot work v.acked v.acked Rests) × (func ≡ work.func))
 
 -- its seat at this stage
 abbrev pub SitsAt : Setup → ℕ → StopControlValue → Option StopStage → Seat → Type 0

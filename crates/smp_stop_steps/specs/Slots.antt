@@ -2,7 +2,8 @@
 use Rattle.std.specs.Prelude.{◌≡◌, ◌≢◌, ◌⊎◌, ℕ, ◌+◌, ◌<◌, ◌≤◌, true, ◌&&◌, cond}
 use Rattle.smp_mask.specs.Mask.{has}
 use Rattle.smp_words.specs.Put.{same_field}
-use Rattle.smp_stop_steps.specs.Stop.{Standing, Outside, Called, Inside, Answering, Completed, Raising, Nobody, Refills, Raises, Ending, Running, Last, Ended, Stop, is_of, is_called, first_phase}
+use Rattle.smp_stop_steps.specs.Stop.{Standing, Outside, Called, Inside, Answering, Completed, Raising, Nobody, Refills, Raises, Ending, Running}
+use Rattle.smp_stop_steps.specs.Stop.{Last, Ended, Stop, is_of, is_called, first_phase}
 use Rattle.smp_stop_steps.specs.Counts.{count_behind, count_unfinished, weight, mask_weight}
 use Rattle.smp_words.specs.declared.field.Field.{Field}
 use Rattle.smp_words.specs.declared.field.Field.TheVariants as field

@@ -5,6 +5,8 @@ use Rattle.smp_stop_steps.specs.Stop.{Stop, Ended}
 use Rattle.smp_stop_steps.specs.Counts.{mask_weight}
 use Rattle.smp_stop_steps.specs.Slots.{IsStored}
 use Rattle.smp_stop_steps.specs.State.{Setup}
+pub use Rattle.smp_stop_steps.specs.declared.known.Source.{Source}
+pub use Rattle.smp_stop_steps.specs.declared.known.Source.TheVariants.{Shut, Drafts, Owns, Collects}
 use Rattle.smp_words.specs.declared.field.Field.{Field}
 use Rattle.smp_words.specs.declared.work.Kind.{Kind}
 use Rattle.smp_words.specs.declared.work.Kind.TheVariants.{One, Multi, Patch}
@@ -30,16 +32,6 @@ pub record IsWork (u : Setup) (work : Work) : Type 0 where
   pub some : mask_weight u.cpus work.mask ≢ 0
   pub kind : IsOfKind u work work.kind
   pub func : work.func < 2 ^ 16
-
-pub data Source : Type 0 where
-  -- its slot is closed
-  Shut : Source
-  -- it holds the gate, and has stored so many fields of this work
-  Drafts : (work : Work) → (stored : ℕ) → Source
-  -- its stop is open
-  Owns : (work : Work) → Source
-  -- and it has found done set
-  Collects : (work : Work) → Source
 
 -- what the first k stores tell of the work
 pub record IsDrafted (k : ℕ) (told work : Work) : Type 0 where

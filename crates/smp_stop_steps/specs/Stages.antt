@@ -1,6 +1,7 @@
 -- The steps of the commands of the stop half, one after another.
 use Rattle.std.specs.Int.{w32, cast_signed}
-use Rattle.std.specs.Prelude.{ℕ, ◌+◌, ◌-◌, ◌*◌, ◌%◌, ◌^◌, ◌<◌, ◌≤◌, Bool, true, false, ◌==◌, ◌&&◌, ◌||◌, if◌then◌else◌, Option, Some, None, List, [], ◌∷◌, ◌++◌, length}
+use Rattle.std.specs.Prelude.{ℕ, ◌+◌, ◌-◌, ◌*◌, ◌%◌, ◌^◌, ◌<◌, ◌≤◌, Bool, true, false, ◌==◌, ◌&&◌, ◌||◌, if◌then◌else◌, Option, Some, None, List, []}
+use Rattle.std.specs.Prelude.{◌∷◌, ◌++◌, length}
 use Rattle.smp_mask.specs.Mask.{has}
 use Rattle.smp_labels.specs.Entries.{entry_at, IsEntryWord}
 use Rattle.smp_labels.specs.Keys.{is_on, change_of, count_after}
@@ -27,7 +28,8 @@ use Rattle.smp_stop_steps.specs.declared.stage.CompletionStage.TheVariants as co
 use Rattle.smp_stop_steps.specs.declared.stage.RoundStage.{RoundStage}
 use Rattle.smp_stop_steps.specs.declared.stage.RoundStage.TheVariants as round
 use Rattle.smp_stop_steps.specs.declared.stage.StopStage.{StopStage}
-use Rattle.smp_stop_steps.specs.declared.stage.StopStage.TheVariants.{TakeGate, OpenGate, Begin, Enter, EnterKind, EnterMask, EnterActive, Advance, Complete, Close, LoadDone, LoadResult, ReadKey, ReadSite, NudgeKey, ExchangeKey}
+use Rattle.smp_stop_steps.specs.declared.stage.StopStage.TheVariants.{TakeGate, OpenGate, Begin, Enter, EnterKind, EnterMask, EnterActive, Advance}
+use Rattle.smp_stop_steps.specs.declared.stage.StopStage.TheVariants.{Complete, Close, LoadDone, LoadResult, ReadKey, ReadSite, NudgeKey, ExchangeKey}
 use Rattle.smp_stop_steps.specs.declared.stage.Visit.{Visit}
 use Rattle.smp_words.specs.declared.work.Kind.{Kind}
 use Rattle.smp_words.specs.declared.work.Work.{Work}
@@ -225,9 +227,10 @@ stop_outcome me c (ReadSite i) found = stop_ends c (if is_on found then note.Jmp
 stop_outcome me c (NudgeKey k up) found = nudge_on c k found (count_after (nudge_of up) found)
 stop_outcome me c (ExchangeKey k expected new) found = stop_ends c (if found == expected then note.Done else note.Lost)
 
--- what the CPU's function has answered, where the step acknowledges RUN with it
+-- the answer of the function that the step calls, and 0 at any other step
 abbrev pub answer_at : StopStage → ℕ
-answer_at (Advance v (round.Acknowledge answer ran)) = answer
+answer_at (Advance v (round.LoadArg answer func)) = answer
+answer_at (Complete v (completion.LoadArg answer func)) = answer
 answer_at _ = 0
 
 -- the number found fits, and there is room for what it makes

@@ -3,6 +3,10 @@ use Rattle.std.specs.Prelude.{◌≡◌, ◌≢◌, ℕ, ◌<◌, ◌≤◌, Boo
 use Rattle.smp_stop_steps.specs.Stop.{Stop, no_stop}
 use Rattle.smp_stop_steps.specs.Labels.{Patching, Whole, Reading}
 use Rattle.smp_labels.specs.declared.words.TheConstants.{MOST_KEYS}
+pub use Rattle.smp_stop_steps.specs.declared.known.StopCall.{StopCall}
+pub use Rattle.smp_stop_steps.specs.declared.known.Calling.{Calling}
+pub use Rattle.smp_stop_steps.specs.declared.known.Calling.TheVariants.{Idle, Calls, Carries}
+pub use Rattle.smp_stop_steps.specs.declared.known.Moved.{Moved}
 use Rattle.smp_words.specs.declared.work.Work.{Work}
 
 -- what a table is made with: how many CPUs there are, which are online, the first of them, how many
@@ -36,17 +40,6 @@ pub record Present : Type 0 where
   -- who patches the labels
   pub patching : Patching
 
--- a call of a stop function, with its answer
-pub record StopCall : Type 0 where
-  pub func : ℕ
-  pub arg : ℕ
-  pub answer : ℕ
-
--- by how much a CPU has moved the count of a key: up in all, and down in all
-pub record Moved : Type 0 where
-  pub up : ℕ
-  pub down : ℕ
-
 pub record StopState : Type 0 where
   pub now : Present
   -- who holds the gate
@@ -59,6 +52,8 @@ pub record StopState : Type 0 where
   -- the phases that each CPU has looked at, and the stop functions that it has called
   pub looks : ℕ → List ℕ
   pub calls : ℕ → List StopCall
+  -- how far each is with the function of the stop that it is in
+  pub calling : ℕ → Calling
   -- by how much it has moved each key's count itself, outside any stop, and as the runner of patches
   pub nudged : ℕ → ℕ → Moved
   pub patched : ℕ → ℕ → Moved
@@ -79,6 +74,7 @@ no_stops = record {
   answers = λ _ _. [];
   looks = λ _. [];
   calls = λ _. [];
+  calling = λ _. Idle;
   nudged = λ _ _. unmoved;
   patched = λ _ _. unmoved;
 }

@@ -1,6 +1,5 @@
--- The state after a step, from what the step shows alone; the answer is that of the function which the CPU has called
--- last, and no step shows it.
-use Rattle.std.specs.Prelude.{ℕ, Bool, true, false, ◌==◌, ◌&&◌, not, cond, Option, Some, None, List, [], ◌∷◌, ◌++◌}
+-- The state after a step, from what the step shows, and the answer of the function that it calls, which no step shows.
+use Rattle.std.specs.Prelude.{ℕ, Bool, true, false, ◌==◌, ◌&&◌, ◌||◌, not, cond, Option, Some, None, List, [], ◌∷◌, ◌++◌}
 use Rattle.smp_mask.specs.Mask.{has}
 use Rattle.smp_labels.specs.Keys.{is_on, change_of}
 use Rattle.smp_labels.specs.Plans.{plan_of}
@@ -8,8 +7,8 @@ use Rattle.smp_words.specs.Put.{put}
 use Rattle.smp_stop_steps.specs.Stop.{Standing, Inside, Answering, Stop, stands, acknowledged, refilled, raised, completed, ended, opened, closed}
 use Rattle.smp_words.specs.Kinds.{kind_at}
 use Rattle.smp_stop_steps.specs.KeyCounts.{moved_by}
-use Rattle.smp_stop_steps.specs.Labels.{Change, Patching, Whole, Patches, Reading, ReadKey, ReadSite, count_set, state_left, reading_of}
-use Rattle.smp_stop_steps.specs.State.{Setup, Present, StopState, StopCall, Moved}
+use Rattle.smp_stop_steps.specs.Labels.{Change, Patching, Whole, Patches, Reading, ReadKey, ReadSite, count_set, patch_answer, state_left, reading_of}
+use Rattle.smp_stop_steps.specs.State.{Setup, Present, StopState, StopCall, Moved, Calling, Idle, Calls, Carries}
 use Rattle.smp_words.specs.declared.seen.Act.{Act}
 use Rattle.smp_words.specs.declared.seen.Act.TheVariants as act
 use Rattle.smp_words.specs.declared.seen.Seen.{Seen}
@@ -103,16 +102,36 @@ acknowledges_now n me s p found =
     let acked = record n { stop = put n.stop s (acknowledged (n.stop s) me p found); patching = cond (p == RUN) (unpatched me n.patching) n.patching } in
     cond (p == EXIT && not (found == 1)) (leaves acked me s (n.stop s).work) acked
 
--- the call of a stop function grows the CPU's list
-abbrev pub calls_more : (ℕ → List StopCall) → ℕ → Work → ℕ → ℕ → List StopCall
-calls_more calls me w answer = put calls me (calls me ++ record { func = w.func; arg = w.arg; answer = answer } ∷ [])
+-- a CPU that stands so may call the function of this work: of a stop of kind One, or of its Multi stop at RUN
+abbrev pub may_call : ℕ → Work → Standing → Bool
+may_call me w (Inside a l) = is_one w.kind || ((a == DISABLE_IRQ && l == RUN) && calls_at_run me w)
+may_call me w _ = false
 
-abbrev pub acknowledges : StopState → ℕ → ℕ → Standing → ℕ → ℕ → StopState
-acknowledges p me s (Inside a l) found answer = record p {
+-- with the load of the argument it calls it, and the function gives this answer
+abbrev pub calls_now : StopState → ℕ → Work → ℕ → ℕ → StopState
+calls_now p me w arg answer = record p { calling = put p.calling me (Calls (record { func = w.func; arg = arg; answer = answer })) }
+
+-- with the acknowledgement of RUN it carries the answer of the function that it has called, or of its patch
+abbrev pub carried_call : Calling → Calling
+carried_call (Calls call) = Carries call.answer
+carried_call f = f
+
+abbrev pub carried : ℕ → Patching → Calling → Calling
+carried me Whole f = carried_call f
+carried me (Patches c w count made rest) f = cond (c == me) (Carries (patch_answer w count)) (carried_call f)
+
+-- the list of its calls grows by the one that it has made
+abbrev pub called_more : (ℕ → List StopCall) → ℕ → Calling → ℕ → List StopCall
+called_more calls me (Calls call) = put calls me (calls me ++ call ∷ [])
+called_more calls me _ = calls
+
+abbrev pub acknowledges : StopState → ℕ → ℕ → Standing → ℕ → StopState
+acknowledges p me s (Inside a l) found = record p {
   now = acknowledges_now p.now me s l found;
-  calls = cond (l == RUN && calls_at_run me (p.now.stop s).work) (calls_more p.calls me (p.now.stop s).work answer) p.calls;
+  calls = cond (l == RUN) (called_more p.calls me (p.calling me)) p.calls;
+  calling = cond (l == RUN) (put p.calling me (carried me p.now.patching (p.calling me))) p.calling;
 }
-acknowledges p me s _ found answer = p
+acknowledges p me s _ found = p
 
 -- raise; who raises from EXIT to OVER leaves with it
 abbrev pub raises : Present → ℕ → ℕ → ℕ → Present
@@ -131,7 +150,8 @@ abbrev pub completes_with : StopState → ℕ → ℕ → ℕ → ℕ → ℕ �
 completes_with p me s a v found = record p {
   now = record (p.now) { stop = put p.now.stop s (completed (p.now.stop s) me a v found); inside = put p.now.inside me None };
   answers = put p.answers me (put (p.answers me) s (p.answers me s ++ v ∷ []));
-  calls = cond (is_one (p.now.stop s).work.kind) (calls_more p.calls me (p.now.stop s).work v) p.calls;
+  calls = called_more p.calls me (p.calling me);
+  calling = put p.calling me Idle;
 }
 
 -- who has stored no answer completes with 0
@@ -160,8 +180,10 @@ abbrev pub slot_told : StopState → ℕ → ℕ → Act → Field → Option �
 slot_told p me s act.Store f _ (Some v) answer = cond (p.now.stop s).is_open (stored_open p me s f v) (stored_shut p s f v)
 slot_told p me s act.And field.Roll (Some found) _ answer = cond (has found me) (record p { now = enters p.now me s }) p
 slot_told p me s act.Load field.State (Some found) _ answer = looks p me s found
+slot_told p me s act.Load field.Arg (Some found) _ answer =
+    cond (may_call me (p.now.stop s).work ((p.now.stop s).standing me)) (calls_now p me (p.now.stop s).work found answer) p
 slot_told p me s act.Load field.Result (Some found) _ answer = collects p s found
-slot_told p me s act.Sub field.Ack (Some found) _ answer = acknowledges p me s ((p.now.stop s).standing me) found answer
+slot_told p me s act.Sub field.Ack (Some found) _ answer = acknowledges p me s ((p.now.stop s).standing me) found
 slot_told p me s act.Sub field.Todo (Some found) _ answer = completes p me s ((p.now.stop s).standing me) found
 slot_told p me s _ _ _ _ answer = p
 

@@ -6,6 +6,7 @@ use Rattle.smp_labels.specs.Labels.{Labels}
 use Rattle.smp_labels.specs.declared.words.TheConstants.{MOST_KEYS, MOST_SITES}
 use Rattle.smp_words.specs.Size.{cpus}
 use Rattle.smp_stop_steps.specs.State.{Setup, StopState}
+use Rattle.smp_stop_steps.specs.Carries.{CarriesIn}
 use Rattle.smp_stop_steps.specs.Seats.{Seat}
 use Rattle.smp_stop_steps.specs.Sources.{Source, Shut}
 use Rattle.smp_stop_steps.specs.Shows.{StopShows}
@@ -31,7 +32,14 @@ pub record StopsValue : Type 0 where
   pub controls : List StopControlValue
 
 abbrev pub setup_of : ℕ → Labels → Setup
-setup_of online labels = record { cpus = cpus; online = has online; first = first_below online cpus; keys = labels.keys; entries = map entry_word labels.entries }
+setup_of online labels = record {
+  cpus = cpus;
+  online = has online;
+  first = first_below online cpus;
+  keys = labels.keys;
+  entries =
+      map entry_word labels.entries;
+}
 
 -- where a CPU stands; outside where there is no such CPU
 abbrev pub stop_control_of : List StopControlValue → ℕ → StopControlValue
@@ -50,6 +58,7 @@ pub record StopsShow (u : Setup) (p : StopState) (t : StopWords) (controls : Lis
   pub source : ℕ → Source
   pub shows : StopShows u p (stop_number t) seat source
   pub sits : (cpu : ℕ) → cpu < u.cpus → Sits u cpu (stop_number t Gate) (stop_control_of controls cpu) (seat cpu) (source cpu)
+  pub carries : (cpu : ℕ) → cpu < u.cpus → CarriesIn (stop_control_of controls cpu) (p.calling cpu)
   pub shut : (cpu : ℕ) → u.cpus ≤ cpu → source cpu ≡ Shut
 
 abbrev pub StopShown : StopState → StopsValue → Type 0

@@ -3,7 +3,8 @@
 ghost use Rattle.std.specs.Prelude.{◌≡◌, ◌<◌};
 ghost use Rattle.smp_words.specs.Size.{cpus};
 ghost use Rattle.smp_stop_steps.specs.Slots.{begun_value as value_of_begin};
-ghost use Rattle.smp_stop_steps.specs.Stages.{completion_access as access_of_completion, round_access as access_of_round, stop_access, store_of, FitsAccess};
+ghost use Rattle.smp_stop_steps.specs.Stages.{completion_access as access_of_completion};
+ghost use Rattle.smp_stop_steps.specs.Stages.{round_access as access_of_round, stop_access, store_of, FitsAccess};
 
 use crate::control::StopControl;
 use crate::mask::{mask_word, weight};

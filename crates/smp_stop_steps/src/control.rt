@@ -2,7 +2,10 @@
 
 ghost use Rattle.std.specs.Prelude.{◌≡◌, ◌<◌, ℕ, Some, None, [], length};
 ghost use Rattle.smp_labels.specs.Keys.{count_after};
-ghost use Rattle.smp_stop_steps.specs.Stages.{acked_on, begun_next, change_at, completion_outcome, entry_on, key_on, looked_on, nudge_of, nudge_on, round_outcome, stop_ends, stop_goes, stop_outcome, stop_outside, turn_ends, FitsStop, FitsRound, FitsCompletion, IsOfSource};
+ghost use Rattle.smp_stop_steps.specs.Stages.{acked_on, begun_next, change_at, completion_outcome, entry_on, key_on};
+ghost use Rattle.smp_stop_steps.specs.Stages.{looked_on, nudge_of, nudge_on, round_outcome, stop_ends, stop_goes};
+ghost use Rattle.smp_stop_steps.specs.Stages.{stop_outcome, stop_outside, turn_ends, FitsStop, FitsRound};
+ghost use Rattle.smp_stop_steps.specs.Stages.{FitsCompletion, IsOfSource};
 
 use crate::mask::has_bit;
 use crate::phase::{DISABLE_IRQ, EXIT, RUN};

@@ -5,7 +5,10 @@
 
 ghost use Rattle.std.specs.Prelude.{◌≡◌};
 ghost use Rattle.smp_stop_steps.specs.declared.phase.TheConstants.{PREPARE, DISABLE_IRQ, RUN, EXIT, OVER};
-ghost use Rattle.smp_stop_steps.specs.Promises.{NothingBegun, StepsAreTold, KeepThePhaseLaw, KeepTheCountLaw, KeepTheFunctionLaw, KeepTheLabelLaw, PatchesAlone, KeysStandOutsidePatches, NudgesStand, EdgesAreRead, PatchesAnswer, OwnPatchesAreRead};
+ghost use Rattle.smp_stop_steps.specs.Promises.{NothingBegun, StepsAreTold, KeepThePhaseLaw, KeepTheCountLaw};
+ghost use Rattle.smp_stop_steps.specs.Promises.{KeepTheFunctionLaw, KeepTheLabelLaw, PatchesAlone};
+ghost use Rattle.smp_stop_steps.specs.Promises.{KeysStandOutsidePatches, NudgesStand, EdgesAreRead, PatchesAnswer};
+ghost use Rattle.smp_stop_steps.specs.Promises.{OwnPatchesAreRead};
 
 /// Words with a free gate, free slots and a lawful label table with all keys off show that no stop was begun.
 pub fn nothing_is_begun()
@@ -16,6 +19,13 @@ pub fn nothing_is_begun()
 /// all laws: the words show the stops, the phase law, the label law and the results of stops.
 pub fn steps_are_told()
     ensures { StepsAreTold }
+{}
+
+ghost use Rattle.smp_stop_steps.specs.StopLaws.{KeepTheStopLaws};
+
+/// Words that show stops keep all laws that follow, between any two steps of any CPUs.
+pub fn stop_laws()
+    ensures { KeepTheStopLaws }
 {}
 
 /// The phases have these numbers, in the state word of a slot and in what is seen of a turn.
@@ -33,6 +43,77 @@ pub fn phase_law()
 /// them off.
 pub fn function_law()
     ensures { KeepTheFunctionLaw }
+{}
+
+ghost use Rattle.smp_stop_steps.specs.Functions.{FunctionsRun, FunctionsRunOnce, AnswersMayBeReplaced};
+
+/// A stop function runs only on a CPU that is in a stop whose work has it and its argument: of a stop of kind One, or on an
+/// active CPU of a Multi stop, which has looked at `RUN` and not acknowledged it, while every CPU of the mask has
+/// acknowledged disabled interrupts. It runs from the step that says so to the acknowledgement, or the completion, that
+/// carries its answer.
+pub fn functions_run()
+    ensures { FunctionsRun }
+{}
+
+/// Each step of a CPU does one of these of its function. It calls it, and says `run F A`, where it had called none. It
+/// acknowledges `RUN`: an active CPU of a Multi stop has called it, the call is in its list, and it carries the answer.
+/// It completes: that answer, or 0 where it was not active, is added to its answers, and in a stop of kind One the call to
+/// its list. Or nothing.
+pub fn functions_run_once()
+    ensures { FunctionsRunOnce }
+{}
+
+/// Until a CPU completes, no word and no step tells what its function has answered: any answer may be put for it. For words
+/// that threads share, where no step of an acknowledgement can be told an answer.
+pub fn answers_may_be_replaced()
+    ensures { AnswersMayBeReplaced }
+{}
+
+ghost use Rattle.smp_stop_steps.specs.Closings.{LastStoresDone};
+
+/// Where a stop is open with nothing left to do and done still 0, exactly one CPU is before its store of done: the last to
+/// complete, and it has completed.
+pub fn last_stores_done()
+    ensures { LastStoresDone }
+{}
+
+ghost use Rattle.smp_stop_steps.specs.Premises.{StepsArePremised};
+
+/// What holds before each step: a stop is opened by its source, with the gate, while none of its own is open; a CPU of the
+/// mask enters once, from no stop; it acknowledges a phase that it has looked at and that is new to it; the phase is raised
+/// by one, by the one that has refilled the count, once all have acknowledged it; a CPU completes when it is through all
+/// phases, the last stores done, and the source collects once all have completed. So the slot of an open stop is stored to
+/// by CPUs in it and by the last to complete alone, and that of a stop that is not open by its source; only the fetch_and
+/// of a roll may be any CPU's.
+pub fn steps_are_premised()
+    ensures { StepsArePremised }
+{}
+
+ghost use Rattle.smp_stop_steps.specs.Interrupts.{KeepTheInterruptLaw};
+
+/// A CPU that has acknowledged `DISABLE_IRQ` and has not left has its interrupts off, and from its look at it on; in no
+/// stop it has them on.
+pub fn interrupt_law()
+    ensures { KeepTheInterruptLaw }
+{}
+
+ghost use Rattle.smp_stop_steps.specs.Patchers.{TableIsLawful, PatchersRun, LabelStoresPatch};
+
+/// The label table is lawful whenever no patch is between its first and its last store, whatever CPUs have their
+/// interrupts on.
+pub fn table_is_lawful()
+    ensures { TableIsLawful }
+{}
+
+/// Whoever patches is the first online CPU, active in its patch stop, which is at `RUN`, and is alone: every CPU of the
+/// mask has acknowledged disabled interrupts.
+pub fn patchers_run()
+    ensures { PatchersRun }
+{}
+
+/// A CPU whose next step is a store to a key or a site patches, and that is the next store of its patch.
+pub fn label_stores_patch()
+    ensures { LabelStoresPatch }
 {}
 
 /// A CPU that is online and has its interrupts on finds a lawful label table, which says all that it has read since
@@ -84,4 +165,17 @@ ghost use Rattle.smp_stop_steps.specs.Numbers.{WordsHaveNumbers};
 /// A stop table has just the words that have a number in it ([`smp_words::stop_index`]).
 pub fn words_have_numbers()
     ensures { WordsHaveNumbers }
+{}
+
+ghost use Rattle.smp_stop_steps.specs.Moves.{NothingIsKnown, MovesAreKnown};
+
+/// A CPU that has done nothing knows its part of the state in which nothing was begun.
+pub fn nothing_is_known()
+    ensures { NothingIsKnown }
+{}
+
+/// Each kind of step that a CPU may make, by what it knows of the stops, goes on to stops that the words show, of which
+/// it knows its part as the step has told it, and every other CPU what it knew. For words that threads share.
+pub fn moves_are_known()
+    ensures { MovesAreKnown }
 {}

@@ -212,6 +212,16 @@ impl<A: Allocator> Stops<A> {
         (self.table.read(Word::Slot(slot, Field::State)) % (1 << 32)) as u32
     }
 
+    ghost use Rattle.smp_stop_steps.specs.StepLaws.{StepsKeepLaws};
+
+    /// Whatever stops the half shows, each step that a CPU may make next keeps the laws of steps: who may make it, what it
+    /// does of stop functions, and that a store to a key or a site is one of a patch.
+    pub fn steps_keep_laws(&self)
+        ensures { (p : StopState) → StopShown p self.now → StepsKeepLaws self.now p }
+    {
+        let _online = self.online;
+    }
+
     /// Every stop half shows a state of the stops that keeps all laws.
     pub fn shows_stops(&self)
         ensures { (p : StopState) × StopShown p self.now }

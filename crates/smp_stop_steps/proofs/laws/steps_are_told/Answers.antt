@@ -1,5 +1,10 @@
+use Rattle.smp_stop_steps.proofs.CallSteps.{call_step}
 use Rattle.smp_stop_steps.proofs.CompletionSteps.{stop_step_shown}
 use Rattle.smp_stop_steps.proofs.laws.steps_are_told.Goals as goal
 
 pub returns : goal.returns
-returns c u p at seat source h k me s stage e = stop_step_shown u p at seat source h k me s stage e
+returns c u p at seat source h control me sits carry stage e = (
+  stop_step_shown u p at seat source h control me sits carry stage e,
+  call_step u p at seat
+      source h control me sits carry stage e,
+)

@@ -1,4 +1,4 @@
-use Rattle.std.proofs.Common.{◌≡◌, ℕ, Bool, true, false, nat_lt, cond, Option, Some, None, List, refl}
+use Rattle.std.proofs.Common.{◌≡◌, ℕ, Bool, true, false, nat_lt, cond, Some, None, List, refl}
 use Rattle.smp_words.specs.Layout.{number_if}
 use Rattle.smp_words.specs.StopLayout.{stop_index_of}
 use Rattle.smp_words.specs.declared.size.TheConstants.{NR_CPUS, MOST_KEYS, MOST_SITES}

@@ -12,8 +12,11 @@ begin-requires-clause-may g c =
     let items = c.self.inside.controls.items in
     let sized : length items ≡ cpus = c.self.invariant.sized in
     let kept : items ≡ c.args.self.now.controls = ap (λ (v : StopsValue). v.controls) c.self.view_is in
-    let here : c.index.result.now ≡ stop_control_of items c.args.cpu = get_or_read items c.args.cpu c.index.result.now (omega (arith, c.requires.cpu)) c.index.ensures stop_outside in
-    let now : c.index.result.now ≡ stop_control_of c.args.self.now.controls c.args.cpu = here ∙ ap (λ (x : List StopControlValue). stop_control_of x c.args.cpu) kept in
+    let here : c.index.result.now ≡ stop_control_of items c.args.cpu = get_or_read items c.args.cpu c.index.result.now (omega (arith, c.requires.cpu))
+    c.index.ensures stop_outside in
+    let now : c.index.result.now ≡ stop_control_of c.args.self.now.controls c.args.cpu = here ∙ ap (λ (x : List StopControlValue). stop_control_of x
+    c.args.cpu) kept in
     let first : stop_first (stop_control_of c.args.self.now.controls c.args.cpu) c.args.command.now ≡ Some c.in-Some.stage =
     rw (← now) (sym c.first_stage.ensures ∙ c.in-Some.is) in
-    may_begin c.args.self.now c.args.cpu c.args.command.now c.in-Some.stage c.requires.cpu c.requires.below c.requires.online c.requires.fits c.requires.allowed first
+    may_begin c.args.self.now c.args.cpu c.args.command.now c.in-Some.stage c.requires.cpu c.requires.below c.requires.online c.requires.fits
+    c.requires.allowed first

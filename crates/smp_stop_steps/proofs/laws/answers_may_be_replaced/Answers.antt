@@ -1,0 +1,5 @@
+use Rattle.smp_stop_steps.proofs.Callings.{answer_replaced}
+use Rattle.smp_stop_steps.proofs.laws.answers_may_be_replaced.Goals as goal
+
+pub returns : goal.returns
+returns c u p at seat source h me s work acked looked turn answer is = answer_replaced u p at seat source h me s work acked looked turn answer is

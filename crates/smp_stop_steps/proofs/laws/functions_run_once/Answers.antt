@@ -1,0 +1,5 @@
+use Rattle.smp_stop_steps.proofs.CallSteps.{call_step}
+use Rattle.smp_stop_steps.proofs.laws.functions_run_once.Goals as goal
+
+pub returns : goal.returns
+returns c u p at seat source h control me sits carry stage e = (call_step u p at seat source h control me sits carry stage e).goes

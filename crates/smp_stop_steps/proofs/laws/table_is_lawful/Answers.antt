@@ -1,0 +1,5 @@
+use Rattle.smp_stop_steps.proofs.Patchers.{is_lawful}
+use Rattle.smp_stop_steps.proofs.laws.table_is_lawful.Goals as goal
+
+pub returns : goal.returns
+returns c u p at seat source h e = is_lawful u p at seat source h e

@@ -1,0 +1,43 @@
+-- How far a CPU is with its function, by its stage: that it has called it, and with which answer it completes.
+use Rattle.std.specs.Prelude.{◌≡◌, ℕ, Bool, true, false, Option, Some, None}
+use Rattle.smp_stop_steps.specs.Callings.{answer_in}
+use Rattle.smp_stop_steps.specs.Stages.{StopControlValue}
+use Rattle.smp_stop_steps.specs.State.{Calling, Idle, Calls, Carries}
+use Rattle.smp_stop_steps.specs.declared.stage.CompletionStage.TheVariants as completion
+use Rattle.smp_stop_steps.specs.declared.stage.RoundStage.TheVariants as round
+use Rattle.smp_stop_steps.specs.declared.stage.StopStage.{StopStage}
+use Rattle.smp_stop_steps.specs.declared.stage.StopStage.TheVariants.{Advance, Complete, EnterKind, EnterMask, EnterActive}
+use Rattle.smp_stop_steps.specs.declared.stage.Visit.{Visit}
+use Rattle.smp_words.specs.declared.work.Kind.TheVariants.{Patch}
+use Rattle.smp_stop_steps.specs.declared.phase.TheConstants.{EXIT}
+
+-- it calls no function now, and its visit has the answer that it carries
+abbrev pub IsQuiet : Option Visit → Calling → Type 0
+IsQuiet None Idle = Unit {0}
+IsQuiet (Some v) Idle = v.answer ≡ 0
+IsQuiet (Some v) (Carries answer) = v.answer ≡ answer
+IsQuiet _ _ = ⊥
+
+-- it is to acknowledge: with this answer of the function that it has called, or with none
+abbrev pub IsAcking : Visit → ℕ → Bool → Calling → Type 0
+IsAcking v answer true Idle = v.kind ≡ Patch
+IsAcking v answer true (Calls call) = answer ≡ call.answer
+IsAcking v answer true (Carries x) = ⊥
+IsAcking v answer false f = IsQuiet (Some v) f
+
+-- it is to complete with the answer of its visit; who has called no function has left its stop
+abbrev pub IsEnding : Visit → Calling → Type 0
+IsEnding v Idle = (v.acked ≡ EXIT) × (v.answer ≡ 0)
+IsEnding v f = v.answer ≡ answer_in f
+
+abbrev pub CarriesAt : Option Visit → Option StopStage → Calling → Type 0
+CarriesAt visit (Some (Advance v (round.Acknowledge answer ran))) f = IsAcking v answer ran f
+CarriesAt visit (Some (Complete v completion.StoreAnswer)) f = IsEnding v f
+CarriesAt visit (Some (Complete v completion.CountDown)) f = IsEnding v f
+CarriesAt visit (Some (EnterKind slot)) f = f ≡ Idle
+CarriesAt visit (Some (EnterMask slot kind)) f = f ≡ Idle
+CarriesAt visit (Some (EnterActive slot kind mask)) f = f ≡ Idle
+CarriesAt visit _ f = IsQuiet visit f
+
+abbrev pub CarriesIn : StopControlValue → Calling → Type 0
+CarriesIn c f = CarriesAt c.visit c.stage f

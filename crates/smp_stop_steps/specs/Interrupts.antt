@@ -1,0 +1,24 @@
+-- When a CPU's interrupts are off.
+use Rattle.std.specs.Prelude.{◌≡◌, ◌≢◌, ℕ, ◌≤◌, true, false, None}
+use Rattle.smp_stop_steps.specs.Seats.{Seat, Rests, turn_of}
+use Rattle.smp_stop_steps.specs.Shows.{StopShows}
+use Rattle.smp_stop_steps.specs.Sources.{Source}
+use Rattle.smp_stop_steps.specs.State.{Setup, StopState}
+use Rattle.smp_stop_steps.specs.Stop.{Stop, Inside}
+use Rattle.smp_stop_steps.specs.declared.phase.TheConstants.{DISABLE_IRQ, EXIT}
+use Rattle.smp_words.specs.declared.word.Word.{Word}
+
+-- the CPU has not left the stop: it has not acknowledged EXIT, or is to set the phase after it
+abbrev pub HasNotLeft : Stop → ℕ → ℕ → Type 0
+HasNotLeft stop c a = a ≡ EXIT → turn_of stop.raising c ≢ Rests
+
+-- interrupts are off from the look at DISABLE_IRQ, so also once that is acknowledged, until the CPU has left; in no stop
+-- they are on
+pub record InterruptLaw (p : StopState) (c : ℕ) : Type 0 where
+  pub off : (s a l : ℕ) → (p.now.stop s).standing c ≡ Inside a l → DISABLE_IRQ ≤ l → HasNotLeft (p.now.stop s) c a → p.now.irq c ≡ false
+  pub acknowledged : (s a l : ℕ) → (p.now.stop s).standing c ≡ Inside a l → DISABLE_IRQ ≤ a → HasNotLeft (p.now.stop s) c a → p.now.irq c ≡ false
+  pub on : p.now.inside c ≡ None → p.now.irq c ≡ true
+
+abbrev pub KeepTheInterruptLaw : Type 0
+KeepTheInterruptLaw = (u : Setup) (p : StopState) (at : Word → ℕ) (seat : ℕ → Seat) (source : ℕ → Source) → StopShows u p at seat source → (c : ℕ) →
+    InterruptLaw p c

@@ -1,0 +1,149 @@
+-- What a CPU knows of the stops: where it is with them, as far as its steps have told, and its own part of their state.
+use Rattle.std.specs.Prelude.{◌≡◌, ◌≢◌, ℕ, ◌<◌, nat_lt, Bool, false, ◌==◌, cond, Option, Some, None, List, [], length, replicate, slice_index_or}
+use Rattle.smp_labels.specs.declared.words.TheConstants.{MOST_KEYS}
+use Rattle.smp_words.specs.Size.{cpus}
+use Rattle.smp_stop_steps.specs.Seats.{Seat, Free}
+use Rattle.smp_stop_steps.specs.Shows.{StopShows}
+use Rattle.smp_stop_steps.specs.Sources.{Source, Shut, Drafts, Owns, Collects}
+use Rattle.smp_stop_steps.specs.Labels.{Reading}
+use Rattle.smp_stop_steps.specs.State.{Calling, Idle, Calls, Carries, Setup, StopState, Moved, unmoved}
+use Rattle.smp_stop_steps.specs.Value.{setup_of}
+use Rattle.smp_words.specs.declared.work.Kind.TheVariants.{One}
+use Rattle.smp_words.specs.declared.work.Work.{Work}
+use Rattle.smp_words.specs.declared.word.Word.{Word}
+pub use Rattle.smp_stop_steps.specs.declared.known.Known.{Known}
+pub use Rattle.smp_stop_steps.specs.declared.known.Part.{Part}
+pub use Rattle.smp_stop_steps.specs.declared.known.Setting.{Setting}
+
+abbrev pub setup_in : Setting → Setup
+setup_in k = setup_of k.online k.labels
+
+-- a work whose first k fields are told: the others are put as zero
+abbrev pub told_work : ℕ → Work → Work
+told_work k w = record {
+  kind = cond (nat_lt 0 k) w.kind One;
+  mask = cond (nat_lt 1 k) w.mask 0;
+  active = cond (nat_lt 2 k) w.active 0;
+  func = cond (nat_lt 3 k) w.func 0;
+  arg = cond (nat_lt 4 k) w.arg 0;
+}
+
+-- a source as far as its steps have told
+abbrev pub told_source : Source → Source
+told_source Shut = Shut
+told_source (Drafts w k) = Drafts (told_work k w) k
+told_source (Owns w) = Owns w
+told_source (Collects w) = Collects w
+
+-- a source that drafts has stored a field
+abbrev pub IsBegun : Source → Type 0
+IsBegun (Drafts w k) = k ≢ 0
+IsBegun _ = Unit {0}
+
+abbrev pub holds_it : Option ℕ → ℕ → Bool
+holds_it None me = false
+holds_it (Some c) me = c == me
+
+-- how far a CPU is with its function, as its steps tell it: no step before its completion tells the answer
+abbrev pub told_calling : Calling → Calling
+told_calling Idle = Idle
+told_calling (Calls call) = Calls (record call { answer = 0 })
+told_calling (Carries answer) = Carries 0
+
+-- what the state of all stops has of one CPU, as far as it is told
+pub record Columns : Type 0 where
+  pub holds : Bool
+  pub begun : List Work
+  pub collected : List ℕ
+  pub answers : ℕ → List ℕ
+  pub looks : List ℕ
+  pub calling : Calling
+  pub readings : List Reading
+  pub nudged : ℕ → Moved
+  pub patched : ℕ → Moved
+
+abbrev pub columns_of : StopState → ℕ → Columns
+columns_of p c = record {
+  holds = holds_it p.gate c;
+  begun = p.begun c;
+  collected = p.collected c;
+  answers = p.answers c;
+  looks = p.looks c;
+  calling = told_calling (p.calling c);
+  readings = p.now.readings c;
+  nudged = p.nudged c;
+  patched = p.patched c;
+}
+
+-- the list has the first n values of f, and d stands for what is past its end
+pub record AreFirst {A : Type 0} (n : ℕ) (f : ℕ → A) (d : A) (list : List A) : Type 0 where
+  pub sized : length list ≡ n
+  pub each : (i : ℕ) → i < n → f i ≡ slice_index_or list i d
+
+-- a CPU's part is these columns; the calls of stop functions are told at no step, and stand alone
+pub record IsPart (c : Columns) (part : Part) : Type 0 where
+  pub holds : c.holds ≡ part.holds
+  pub begun : c.begun ≡ part.begun
+  pub collected : c.collected ≡ part.collected
+  pub answers : AreFirst cpus c.answers [] part.answers
+  pub looks : c.looks ≡ part.looks
+  pub calling : c.calling ≡ part.calling
+  pub readings : c.readings ≡ part.readings
+  pub nudged : AreFirst MOST_KEYS c.nudged unmoved part.nudged
+  pub patched : AreFirst MOST_KEYS c.patched unmoved part.patched
+
+-- what a CPU knows is its own part of these stops
+pub record Sees (p : StopState) (seat : ℕ → Seat) (source : ℕ → Source) (v : Known) : Type 0 where
+  pub below : v.number < cpus
+  pub seat_is : seat v.number ≡ v.seat
+  pub source_is : told_source (source v.number) ≡ v.source
+  pub is_begun : IsBegun (source v.number)
+  pub part_is : IsPart (columns_of p v.number) v.part
+
+-- a CPU that has done nothing
+abbrev pub no_part : Part
+no_part = record {
+  holds = false;
+  begun = [];
+  collected = [];
+  answers = replicate cpus [];
+  looks = [];
+  calls = [];
+  calling = Idle;
+  readings = [];
+  nudged = replicate MOST_KEYS unmoved;
+  patched = replicate MOST_KEYS unmoved;
+}
+
+abbrev pub fresh : Setting → ℕ → Known
+fresh k me = record { setting = k; number = me; seat = Free; source = Shut; part = no_part }
+
+-- some words show some stops, of which a CPU that knows v knows its part
+pub record Lives (v : Known) : Type 0 where
+  pub stops : StopState
+  pub at : Word → ℕ
+  pub seat : ℕ → Seat
+  pub source : ℕ → Source
+  pub shown : StopShows (setup_in v.setting) stops at seat source
+  pub sees : Sees stops seat source v
+
+-- the same, where this number is in the word
+pub record Moment (v : Known) (word : Word) (number : ℕ) : Type 0 where
+  pub stops : StopState
+  pub at : Word → ℕ
+  pub seat : ℕ → Seat
+  pub source : ℕ → Source
+  pub shown : StopShows (setup_in v.setting) stops at seat source
+  pub sees : Sees stops seat source v
+  pub number_is : number ≡ at word
+
+-- the stops go on by a step of this CPU, after which it knows w: what each other CPU knows of them stays true
+pub record GoesOn (k : Setting) (p : StopState) (seat : ℕ → Seat) (source : ℕ → Source) (me : ℕ) (at : Word → ℕ) (w : Known) : Type 0 where
+  pub stops : StopState
+  pub seats : ℕ → Seat
+  pub sources : ℕ → Source
+  pub shown : StopShows (setup_in k) stops at seats sources
+  pub mine : Sees stops seats sources w
+  pub number_is : w.number ≡ me
+  pub setting_is : w.setting ≡ k
+  pub others : (o : Known) → o.number ≢ me → Sees p seat source o → Sees stops seats sources o

@@ -1,0 +1,151 @@
+-- The kinds of step, by what a CPU knows: which it may make, and its access.
+use Rattle.std.specs.Prelude.{◌≡◌, ◌≢◌, ◌⊎◌, ℕ, ◌+◌, ◌<◌, true, false, None, List, [], ◌∷◌, ◌++◌}
+use Rattle.smp_mask.specs.Mask.{has}
+use Rattle.smp_labels.specs.declared.words.TheConstants.{MOST_KEYS}
+use Rattle.smp_words.specs.Access.{word_of, at_after, seen_of}
+use Rattle.smp_words.specs.Size.{cpus}
+use Rattle.smp_stop_steps.specs.Counts.{mask_weight}
+use Rattle.smp_stop_steps.specs.Known.{Known, Setting, Sees, GoesOn, fresh, setup_in, told_work}
+use Rattle.smp_stop_steps.specs.KnownAfter.{is_drafting, known_entering, no_work}
+use Rattle.smp_stop_steps.specs.Callings.{HasCalled}
+use Rattle.smp_stop_steps.specs.Labels.{Change}
+use Rattle.smp_stop_steps.specs.Seats.{Seat, Free, In, Gives, Alters, Closes, Rests, Fills, Sets, irq_of}
+use Rattle.smp_stop_steps.specs.Shows.{StopShows}
+use Rattle.smp_stop_steps.specs.Sits.{IsNudge}
+use Rattle.smp_stop_steps.specs.Slots.{begun_value, order}
+use Rattle.smp_stop_steps.specs.Sources.{Source, Shut, Drafts, Owns, Collects, IsWork}
+use Rattle.smp_stop_steps.specs.Stages.{all_but, store_of}
+use Rattle.smp_stop_steps.specs.State.{Idle, StopState, no_stops}
+use Rattle.smp_stop_steps.specs.Tells.{plan_at}
+use Rattle.smp_words.specs.declared.access.Access.{Access}
+use Rattle.smp_words.specs.declared.access.Access.TheVariants.{Load, Store, Exchange, Sub, And}
+use Rattle.smp_words.specs.declared.field.Field.{Field}
+use Rattle.smp_words.specs.declared.field.Field.TheVariants as field
+use Rattle.smp_words.specs.declared.work.Kind.TheVariants.{One, Patch}
+use Rattle.smp_words.specs.declared.work.Work.{Work}
+use Rattle.smp_words.specs.declared.word.Word.{Word}
+use Rattle.smp_words.specs.declared.word.Word.TheVariants.{Gate, Slot, Key, Entry, Site}
+use Rattle.smp_stop_steps.specs.declared.phase.TheConstants.{DISABLE_IRQ, RUN, EXIT}
+
+pub data Move : Type 0 where
+  TakeGate : Move
+  OpenGate : Move
+  -- the first store of begin, one of the others, and the roll
+  Draft : (work : Work) → Move
+  DraftMore : (work : Work) → (f : Field) → Move
+  Open : (work : Work) → Move
+  Enter : (slot : ℕ) → Move
+  Look : (slot : ℕ) → (work : Work) → (acked looked : ℕ) → Move
+  Acknowledge : (slot : ℕ) → (work : Work) → (acked : ℕ) → Move
+  AcknowledgePatch : (slot : ℕ) → (work : Work) → (count : ℕ) → (made : List Change) → Move
+  Refill : (slot : ℕ) → (work : Work) → (acked looked : ℕ) → Move
+  Raise : (slot : ℕ) → (work : Work) → (acked looked : ℕ) → Move
+  -- store an answer that is not 0, and count down, with no answer stored or after that
+  Give : (slot : ℕ) → (work : Work) → (acked looked answer : ℕ) → Move
+  Count : (slot : ℕ) → (work : Work) → (acked looked : ℕ) → Move
+  CountGiven : (slot : ℕ) → (work : Work) → (acked answer : ℕ) → Move
+  Close : (slot : ℕ) → Move
+  LookDone : (work : Work) → Move
+  Collect : (work : Work) → Move
+  ReadKey : (key : ℕ) → Move
+  ReadSite : (site : ℕ) → Move
+  Nudge : (key found new : ℕ) → Move
+  BeginPatch : (slot : ℕ) → (work : Work) → Move
+  Alter : (slot : ℕ) → (work : Work) → (count : ℕ) → (made : List Change) → (change : Change) → (rest : List Change) → Move
+  -- the load of the argument, by who is in the stop
+  LoadArg : (slot : ℕ) → (work : Work) → (acked looked : ℕ) → Move
+  -- a load that tells nothing
+  LoadField : (slot : ℕ) → (f : Field) → Move
+  LoadEntry : (site : ℕ) → Move
+
+-- a load of this field tells nothing
+abbrev pub IsPlain : Field → Type 0
+IsPlain field.Kind = Unit {0}
+IsPlain field.Mask = Unit {0}
+IsPlain field.Active = Unit {0}
+IsPlain field.Func = Unit {0}
+IsPlain _ = ⊥
+
+-- it is through all phases, or in a stop of kind One
+abbrev pub IsThrough : Work → ℕ → Type 0
+IsThrough w a = (a ≡ EXIT) ⊎ (w.kind ≡ One)
+
+-- a CPU that knows this may make this step
+abbrev pub May : Known → Move → Type 0
+May v TakeGate = Unit {0}
+May v OpenGate = (v.part.holds ≡ true) × (is_drafting v.source ≡ false)
+May v (Draft w) = (v.source ≡ Shut) × (v.part.holds ≡ true) × IsWork (setup_in v.setting) w
+May v (DraftMore w f) = (v.source ≡ Drafts (told_work (order f) w) (order f)) × IsWork (setup_in v.setting) w × (order f ≢ 0) × (order f < order field.Roll)
+May v (Open w) = (v.source ≡ Drafts (told_work (order field.Roll) w) (order field.Roll)) × IsWork (setup_in v.setting) w
+May v (Enter s) = v.seat ≡ Free
+May v (Look s w a l) = (v.seat ≡ In s w a l Rests) × (a ≢ EXIT)
+May v (Acknowledge s w a) = (v.seat ≡ In s w a (a + 1) Rests) × (a ≡ DISABLE_IRQ → HasCalled v.number w v.part.calling)
+May v (AcknowledgePatch s w count made) = v.seat ≡ Alters s w count made []
+May v (Refill s w a l) = (v.seat ≡ In s w a l Fills) × (is_drafting v.source ≡ false)
+May v (Raise s w a l) = (v.seat ≡ In s w a l Sets) × (is_drafting v.source ≡ false)
+May v (Give s w a l x) = (v.seat ≡ In s w a l Rests) × IsThrough w a × (x ≢ 0) × (is_drafting v.source ≡ false) × (v.part.calling ≢ Idle)
+May v (Count s w a l) = (v.seat ≡ In s w a l Rests) × IsThrough w a × (s < cpus) × (w.kind ≡ One → v.part.calling ≢ Idle)
+May v (CountGiven s w a x) = (v.seat ≡ Gives s w a x) × (s < cpus)
+May v (Close s) = (v.seat ≡ Closes s) × (is_drafting v.source ≡ false)
+May v (LookDone w) = v.source ≡ Owns w
+May v (Collect w) = v.source ≡ Collects w
+May v (ReadKey k) = irq_of v.seat ≡ true
+May v (ReadSite i) = irq_of v.seat ≡ true
+May v (Nudge k found new) = (irq_of v.seat ≡ true) × (has v.setting.online v.number ≡ true) × (k < MOST_KEYS) × IsNudge found new
+May v (BeginPatch s w) = (v.seat ≡ In s w DISABLE_IRQ RUN Rests) × (w.kind ≡ Patch) × (has w.active v.number ≡ true)
+May v (Alter s w count made change rest) = (v.seat ≡ Alters s w count made (change ∷ rest)) × (plan_at (setup_in v.setting) w count ≡ made ++ change ∷ rest)
+    × (w.func < MOST_KEYS)
+May v (LoadArg s w a l) = v.seat ≡ In s w a l Rests
+May v (LoadField s f) = IsPlain f
+May v (LoadEntry i) = Unit {0}
+
+-- its access
+abbrev pub access_in : Known → Move → Access
+access_in v TakeGate = Exchange Gate 0 (v.number + 1)
+access_in v OpenGate = Store Gate 0
+access_in v (Draft w) = Store (Slot v.number field.Kind) (begun_value cpus w field.Kind)
+access_in v (DraftMore w f) = Store (Slot v.number f) (begun_value cpus w f)
+access_in v (Open w) = Store (Slot v.number field.Roll) w.mask
+access_in v (Enter s) = And (Slot s field.Roll) (all_but v.number)
+access_in v (Look s w a l) = Load (Slot s field.State)
+access_in v (Acknowledge s w a) = Sub (Slot s field.Ack)
+access_in v (AcknowledgePatch s w count made) = Sub (Slot s field.Ack)
+access_in v (Refill s w a l) = Store (Slot s field.Ack) (mask_weight cpus w.mask)
+access_in v (Raise s w a l) = Store (Slot s field.State) (a + 1)
+access_in v (Give s w a l x) = Store (Slot s field.Result) x
+access_in v (Count s w a l) = Sub (Slot s field.Todo)
+access_in v (CountGiven s w a x) = Sub (Slot s field.Todo)
+access_in v (Close s) = Store (Slot s field.Done) 1
+access_in v (LookDone w) = Load (Slot v.number field.Done)
+access_in v (Collect w) = Load (Slot v.number field.Result)
+access_in v (ReadKey k) = Load (Key k)
+access_in v (ReadSite i) = Load (Site i)
+access_in v (Nudge k found new) = Exchange (Key k) found new
+access_in v (BeginPatch s w) = Load (Key w.func)
+access_in v (Alter s w count made change rest) = store_of change
+access_in v (LoadArg s w a l) = Load (Slot s field.Arg)
+access_in v (LoadField s f) = Load (Slot s f)
+access_in v (LoadEntry i) = Load (Entry i)
+
+-- the work of a stop that is entered at this word
+abbrev pub entering : StopState → Word → Work
+entering p (Slot s f) = (p.now.stop s).work
+entering p _ = no_work
+
+-- a CPU that knows this may make this access
+pub record Can (v : Known) (access : Access) : Type 0 where
+  pub move : Move
+  pub may : May v move
+  pub is_access : access_in v move ≡ access
+
+-- at first, and after each step that a CPU may make by what it knows, each CPU knows its part of stops that the words show
+abbrev pub NothingIsKnown : Type 0
+NothingIsKnown = (k : Setting) (me : ℕ) → me < cpus → Sees no_stops (λ _. Free) (λ _. Shut) (fresh k me)
+
+abbrev pub MovesAreKnown : Type 0
+MovesAreKnown = (p : StopState) (at : Word → ℕ) (seat : ℕ → Seat) (source : ℕ → Source) (v : Known) → StopShows (setup_in v.setting) p at seat source →
+    Sees p seat source v →
+    (m : Move) → May v m →
+    let access = access_in v m in
+    let seen = seen_of v.number access (at (word_of access)) None in
+    GoesOn v.setting p seat source v.number (at_after at access) (known_entering (entering p (word_of access)) v seen.act seen.word seen.found seen.put)

@@ -1,0 +1,65 @@
+-- Who may make which step of the stop half: what holds of the stops before it.
+use Rattle.std.specs.Prelude.{◌≡◌, ℕ, ◌+◌, Bool, true, false, Option, Some, None}
+use Rattle.smp_mask.specs.Mask.{has}
+use Rattle.smp_words.specs.Access.{word_of, seen_of}
+use Rattle.smp_stop_steps.specs.Callings.{HasCompleted}
+use Rattle.smp_stop_steps.specs.Laws.{IsThrough}
+use Rattle.smp_stop_steps.specs.Promises.{OfEachCpu}
+use Rattle.smp_stop_steps.specs.Stages.{stop_access}
+use Rattle.smp_stop_steps.specs.State.{StopState}
+use Rattle.smp_stop_steps.specs.Stop.{Stop, Inside, Called, Refills, Raises, Last, Ended, acked}
+use Rattle.smp_stop_steps.specs.declared.stage.StopStage.{StopStage}
+use Rattle.smp_words.specs.declared.field.Field.{Field}
+use Rattle.smp_words.specs.declared.field.Field.TheVariants as field
+use Rattle.smp_words.specs.declared.seen.Act.{Act}
+use Rattle.smp_words.specs.declared.seen.Act.TheVariants as act
+use Rattle.smp_words.specs.declared.word.Word.{Word}
+use Rattle.smp_words.specs.declared.word.Word.TheVariants.{Gate, Slot}
+
+abbrev pub AllAcknowledged : Stop → Type 0
+AllAcknowledged stop = (c : ℕ) → has stop.work.mask c ≡ true → acked (stop.standing c) ≡ stop.phase
+
+abbrev pub AllCompleted : Stop → Type 0
+AllCompleted stop = (c : ℕ) → has stop.work.mask c ≡ true → HasCompleted (stop.standing c)
+
+-- it has looked at the phase, which is new to it
+abbrev pub IsToAcknowledge : Stop → ℕ → Type 0
+IsToAcknowledge stop me = (a : ℕ) × (stop.standing me ≡ Inside a (a + 1)) × (stop.phase ≡ a + 1)
+
+-- a store to the slot of an open stop: refill and raise, an answer, and done
+abbrev pub MayStore : StopState → ℕ → ℕ → Field → ℕ → Type 0
+MayStore p me s field.Ack n = (p.now.stop s).raising ≡ Refills me
+MayStore p me s field.State n = ((p.now.stop s).raising ≡ Raises me) × (n ≡ (p.now.stop s).phase + 1) × AllAcknowledged (p.now.stop s)
+MayStore p me s field.Result n = (p.now.inside me ≡ Some s) × IsThrough (p.now.stop s) me (acked ((p.now.stop s).standing me))
+MayStore p me s field.Done n = (n ≡ 1) × ((p.now.stop s).ending ≡ Last me)
+MayStore p me s _ n = ⊥
+
+-- any other store of a slot is one of begin, by its source, which holds the gate while its stop is not open
+abbrev pub MayStoreIf : Bool → StopState → ℕ → ℕ → Field → ℕ → Type 0
+MayStoreIf true p me s f n = MayStore p me s f n
+MayStoreIf false p me s f n = (s ≡ me) × (p.gate ≡ Some me)
+
+-- a load of a slot: of done and of the result by the source of an open stop, of all else by a CPU in it
+abbrev pub MayLoad : StopState → ℕ → ℕ → Field → Type 0
+MayLoad p me s field.Done = (s ≡ me) × ((p.now.stop s).is_open ≡ true)
+MayLoad p me s field.Result = (s ≡ me) × ((p.now.stop s).is_open ≡ true) × AllCompleted (p.now.stop s)
+MayLoad p me s f = p.now.inside me ≡ Some s
+
+-- what holds before a step that is seen so
+abbrev pub MaySee : StopState → ℕ → Act → Word → Option ℕ → Option ℕ → Type 0
+MaySee p me act.Cas Gate found (Some n) = p.gate ≡ None
+MaySee p me act.Store Gate found put = p.gate ≡ Some me
+MaySee p me act.Store (Slot s f) found (Some n) = MayStoreIf (p.now.stop s).is_open p me s f n
+MaySee p me act.And (Slot s f) (Some found) put = has found me ≡ true → (p.now.inside me ≡ None) × ((p.now.stop s).standing me ≡ Called)
+MaySee p me act.Load (Slot s f) found put = MayLoad p me s f
+MaySee p me act.Sub (Slot s field.Ack) found put = (p.now.inside me ≡ Some s) × IsToAcknowledge (p.now.stop s) me
+MaySee p me act.Sub (Slot s field.Todo) found put = (p.now.inside me ≡ Some s) × IsThrough (p.now.stop s) me (acked ((p.now.stop s).standing me))
+MaySee p me act.Sub w found put = ⊥
+MaySee p me _ _ found put = Unit {0}
+
+abbrev pub StepsArePremised : Type 0
+StepsArePremised = OfEachCpu (λ u p at c me.
+    (stage : StopStage) → c.stage ≡ Some stage →
+    let access = stop_access u.cpus me c.changes stage in
+    let seen = seen_of me access (at (word_of access)) None in
+    MaySee p me seen.act seen.word seen.found seen.put)

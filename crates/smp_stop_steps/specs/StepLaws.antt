@@ -1,0 +1,27 @@
+-- What each step that a stop half may make next keeps, beside the stops that it tells.
+use Rattle.std.specs.Prelude.{◌≡◌, ℕ, Some, None}
+use Rattle.smp_words.specs.Access.{word_of, seen_of}
+use Rattle.smp_stop_steps.specs.Labels.{Change}
+use Rattle.smp_stop_steps.specs.Patchers.{IsNextOfPatch, label_stored}
+use Rattle.smp_stop_steps.specs.Premises.{MaySee}
+use Rattle.smp_stop_steps.specs.Stages.{StopControlValue, answer_at, stop_access}
+use Rattle.smp_stop_steps.specs.State.{Setup, StopState}
+use Rattle.smp_stop_steps.specs.Steps.{FunctionGoes, note_then, state_after}
+use Rattle.smp_stop_steps.specs.Table.{stop_number}
+use Rattle.smp_stop_steps.specs.Value.{StopsValue, setup_of, stop_control_of}
+use Rattle.smp_stop_steps.specs.declared.stage.StopStage.{StopStage}
+use Rattle.smp_words.specs.declared.word.Word.{Word}
+
+-- of the step of a CPU at this stage: who may make it, what it does of functions, and that a store to a label is one of a patch
+pub record KeepsStepLaws (u : Setup) (p : StopState) (at : Word → ℕ) (c : StopControlValue) (me : ℕ) (stage : StopStage) : Type 0 where
+  pub premise :
+      let access = stop_access u.cpus me c.changes stage in
+      let seen = seen_of me access (at (word_of access)) None in
+      MaySee p me seen.act seen.word seen.found seen.put
+  pub functions : FunctionGoes p (state_after u p at c me stage) me (note_then u at c me stage) (answer_at stage)
+  pub labels : (change : Change) → label_stored (stop_access u.cpus me c.changes stage) ≡ Some change → IsNextOfPatch p me change
+
+-- the same of a stop half, of each CPU that is inside a command
+abbrev pub StepsKeepLaws : StopsValue → StopState → Type 0
+StepsKeepLaws v p = (cpu : ℕ) (stage : StopStage) → (stop_control_of v.controls cpu).stage ≡ Some stage →
+    KeepsStepLaws (setup_of v.online v.labels) p (stop_number v.table) (stop_control_of v.controls cpu) cpu stage
