@@ -11,7 +11,7 @@ use Rattle.smp_words.specs.declared.seen.Seen.{Seen}
 use Rattle.smp_words.specs.declared.command.Event.{Event}
 use Rattle.smp_words.specs.declared.command.Event.TheVariants as event
 use Rattle.smp_script.specs.declared.directive.Directive.{Directive}
-use Rattle.smp_script.specs.declared.directive.Directive.TheVariants.{Start, Step, Show}
+use Rattle.smp_script.specs.declared.directive.Directive.TheVariants.{Start, Step, Show, Do}
 use Rattle.smp_script.specs.Script.{events_of}
 use Rattle.smp_replay.specs.Output.{Progress, after_answer, event_after, steps_after, directive_after, replay_after}
 
@@ -36,6 +36,7 @@ directive_stays : (p : Progress) (d : Directive) → p.stopped ≡ true → dire
 directive_stays p (Start cpu command) h = event_stays p (event.Start cpu command) h
 directive_stays p (Step cpu count) h = steps_stay p cpu count h
 directive_stays p Show h = rw h refl
+directive_stays p (Do cpu count request) h = refl
 
 replay_stays : (p : Progress) (ds : List Directive) → p.stopped ≡ true → replay_after p ds ≡ p
 unfolding replay_after

@@ -9,7 +9,7 @@ use Rattle.smp_words.specs.declared.seen.Seen.{Seen}
 use Rattle.smp_words.specs.declared.command.Event.{Event}
 use Rattle.smp_words.specs.declared.command.Event.TheVariants as event
 use Rattle.smp_script.specs.declared.directive.Directive.{Directive}
-use Rattle.smp_script.specs.declared.directive.Directive.TheVariants.{Start, Step, Show}
+use Rattle.smp_script.specs.declared.directive.Directive.TheVariants.{Start, Step, Show, Do}
 use Rattle.smp_replay.specs.Text.{seen_text, stopped_text}
 use Rattle.smp_replay.specs.Showing.{show_text}
 use Rattle.smp_script.specs.Script.{Script}
@@ -43,11 +43,12 @@ steps_after p cpu (suc n) = event_after (steps_after p cpu n) (event.Step cpu)
 abbrev pub show_after : Progress → Progress
 show_after p = if p.stopped then p else record { core = p.core; position = p.position; text = p.text ++ show_text p.core; stopped = false }
 
--- after one line more
+-- after one line more; a replay has no `do` line
 abbrev pub directive_after : Progress → Directive → Progress
 directive_after p (Start cpu command) = event_after p (event.Start cpu command)
 directive_after p (Step cpu count) = steps_after p cpu count
 directive_after p Show = show_after p
+directive_after p (Do cpu count request) = p
 
 -- after these lines
 unfoldable pub replay_after : Progress → List Directive → Progress

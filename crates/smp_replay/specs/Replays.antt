@@ -5,6 +5,7 @@ use Rattle.smp_mask.specs.declared.error.SmpError.{SmpError}
 use Rattle.smp_mask.specs.declared.error.SmpError.TheVariants as errors
 use Rattle.smp_mask.specs.declared.error.Side.TheVariants as sides
 use Rattle.smp_script.specs.Faults.{Fault}
+use Rattle.smp_script.specs.declared.mode.Mode.TheVariants.{Replay}
 use Rattle.smp_script.specs.Script.{Script, script_of}
 use Rattle.smp_script.specs.Streams.{Gave}
 use Rattle.smp_replay.specs.Output.{replay_of}
@@ -21,14 +22,14 @@ pub record Lawful (before after : Option (List ℕ)) : Type 0 where
   pub text : List ℕ
   pub script : Script
   pub read : Gave before after text
-  pub lawful : script_of text ≡ Ok script
+  pub lawful : script_of Replay text ≡ Ok script
 
 -- What was read is a lawful script, what was written is its output, and an event of it was refused or none.
 pub record Replayed (before after held holds : Option (List ℕ)) (stopped : Bool) : Type 0 where
   pub text : List ℕ
   pub script : Script
   pub read : Gave before after text
-  pub lawful : script_of text ≡ Ok script
+  pub lawful : script_of Replay text ≡ Ok script
   pub written : Appends held holds (replay_of script).text
   pub ended : (replay_of script).stopped ≡ stopped
 
@@ -36,7 +37,7 @@ pub record Replayed (before after held holds : Option (List ℕ)) (stopped : Boo
 pub record Refused (before after : Option (List ℕ)) (fault : Fault) : Type 0 where
   pub text : List ℕ
   pub read : Gave before after text
-  pub first : script_of text ≡ Err fault
+  pub first : script_of Replay text ≡ Err fault
 
 -- What a call of `replay_script` did, by its answer. `before` and `after` are what the reader has left and
 -- `held` and `holds` what the writer has, where known; `same` says that the writer is as it was.

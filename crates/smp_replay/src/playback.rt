@@ -84,6 +84,8 @@ impl<A: Allocator> Playback<A> {
                 write_show(&mut self.text, &self.core)?;
                 Ok(false)
             }
+            // no line of a replay
+            Directive::Do(_, _, _) => Ok(false),
         }
     }
 

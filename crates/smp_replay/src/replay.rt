@@ -9,7 +9,7 @@ use crate::playback::play_script;
 use smp_mask::SmpError;
 use smp_script::script::read_script;
 use smp_script::stream::{read_text, write_text};
-use smp_script::{Outcome, Watched};
+use smp_script::{Mode, Outcome, Watched};
 use std::alloc::Allocator;
 use std::io::{Read, Write};
 
@@ -43,7 +43,7 @@ pub fn replay_script<A: Allocator + Copy, R: Read, W: Write>(
         (failed_of reader.new) (failed_of writer.new) result }
 {
     let text = read_text(alloc, reader)?;
-    let script = read_script(alloc, text.as_slice())?;
+    let script = read_script(alloc, Mode::Replay, text.as_slice())?;
     let output = play_script(alloc, &script)?;
     let printed = output.text.as_bytes();
     write_text(writer, printed)?;

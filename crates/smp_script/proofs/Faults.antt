@@ -2,11 +2,17 @@
 pub mod FieldFaults
 pub mod SignedFields
 pub mod MaskFields
+pub mod MemberFields
 -- lines, by their shape
 pub mod LineShapes
-pub mod LabelFields
+pub mod TitleFields
 pub mod OnlineFaults
+pub mod LabelFields
+pub mod ReplayShapes
+pub mod RunShapes
+pub mod RequestLines
 pub mod LineFaults
 -- the text
+pub mod SharedKeys
 pub mod FirstFaults
 pub mod OneFault

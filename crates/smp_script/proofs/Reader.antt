@@ -6,6 +6,7 @@ pub mod Widths
 -- lines
 pub mod Versions
 pub mod Online
+pub mod ApartKeys
 pub mod Directives
 -- devices
 pub mod Streams

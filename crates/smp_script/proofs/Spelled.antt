@@ -1,4 +1,6 @@
 pub mod ReadParts
+pub mod ReplayReadings
+pub mod RunReadings
 pub mod LineReadings
 pub mod LabelReadings
 pub mod Readings

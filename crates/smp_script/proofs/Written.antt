@@ -1,3 +1,5 @@
 pub mod LabelWriting
+pub mod ReplayWriting
+pub mod RunWriting
 pub mod Writing
 pub mod CanonicalTexts

@@ -1,4 +1,4 @@
--- What a line of a replay asks for: which spellings stand for which command. A wrong word is seen first, then the
+-- What a line asks for, and which spellings stand for which command of a replay. A wrong word is seen first, then the
 -- fields are read from left to right.
 use Rattle.std.specs.Prelude.{ℕ, ℤ, Bool, not, ◌==◌, if◌then◌else◌, List, [], ◌∷◌, length, codes, Result, Ok, Err}
 use Rattle.std.specs.List.{list_all}
@@ -10,7 +10,11 @@ use Rattle.smp_words.specs.declared.command.Command.TheVariants.{Post, Send, Don
 use Rattle.smp_words.specs.declared.command.Command.TheVariants.{Nudge}
 use Rattle.smp_script.specs.declared.directive.Directive.{Directive}
 use Rattle.smp_script.specs.declared.directive.Directive.TheVariants.{Start, Step, Show}
+use Rattle.smp_script.specs.declared.mode.Mode.{Mode}
+use Rattle.smp_script.specs.declared.mode.Mode.TheVariants.{Replay, Run}
+use Rattle.smp_script.specs.declared.setting.Setting.{Setting}
 use Rattle.smp_script.specs.Lines.{fields_of}
+use Rattle.smp_script.specs.Requests.{do_of}
 use Rattle.smp_script.specs.Numbers.{number_in, signed_of}
 use Rattle.smp_script.specs.Faults.{◌>>=◌}
 use Rattle.smp_script.specs.Fields.{word16, word32, word64, class_of, kind_of, mask_of, way_of}
@@ -144,20 +148,33 @@ show_of [] = Ok Show
 show_of _ = Err Word
 
 -- `start ..`, `step ..` or `show`
-abbrev pub directive_of : ℕ → List (List ℕ) → Result Directive Cause
-directive_of limit [] = Err Word
-directive_of limit (word ∷ rest) =
+abbrev pub replay_line : ℕ → List ℕ → List (List ℕ) → Result Directive Cause
+replay_line limit word rest =
     if bytes_eq word (codes "start") then start_of limit rest
     else (if bytes_eq word (codes "step") then steps_of rest else (if bytes_eq word (codes "show") then show_of rest else Err Word))
+
+-- `do ..`
+abbrev pub run_line : ℕ → ℕ → List ℕ → List (List ℕ) → Result Directive Cause
+run_line limit online word rest = if bytes_eq word (codes "do") then do_of limit online rest else Err Word
+
+-- a line of that kind of script
+abbrev pub mode_line : Mode → ℕ → ℕ → List ℕ → List (List ℕ) → Result Directive Cause
+mode_line Replay limit online word rest = replay_line limit word rest
+mode_line Run limit online word rest = run_line limit online word rest
+
+-- a line, by its first word and what follows
+abbrev pub directive_of : Setting → List (List ℕ) → Result Directive Cause
+directive_of s [] = Err Word
+directive_of s (word ∷ rest) = mode_line s.mode s.limit s.online word rest
 
 -- no field is empty
 abbrev pub are_whole : List (List ℕ) → Bool
 are_whole fields = list_all (λ f. not (length f == 0)) fields
 
 -- the same where no field is empty
-abbrev pub whole_directive : ℕ → List (List ℕ) → Result Directive Cause
-whole_directive limit fields = if are_whole fields then directive_of limit fields else Err Word
+abbrev pub whole_directive : Setting → List (List ℕ) → Result Directive Cause
+whole_directive s fields = if are_whole fields then directive_of s fields else Err Word
 
--- what a line asks for, where the CPUs of masks have to be below the limit
-unfoldable pub line_directive : ℕ → List ℕ → Result Directive Cause
-line_directive limit text = whole_directive limit (fields_of text)
+-- what a line asks for
+unfoldable pub line_directive : Setting → List ℕ → Result Directive Cause
+line_directive s text = whole_directive s (fields_of text)

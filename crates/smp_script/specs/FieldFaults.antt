@@ -1,5 +1,5 @@
 -- What is wrong with one field of a line.
-use Rattle.std.specs.Prelude.{◌≡◌, ℕ, ◌<◌, ◌≤◌, Bool, true, false, not, ◌&&◌, ◌==◌, nat_lt, if◌then◌else◌, ◌⊎◌, List, [], ◌∷◌, length, slice_index_or, codes}
+use Rattle.std.specs.Prelude.{◌≡◌, ◌≢◌, ℕ, ◌<◌, ◌≤◌, Bool, true, false, not, ◌&&◌, ◌==◌, nat_lt, if◌then◌else◌, ◌⊎◌, List, [], ◌∷◌, length, slice_index_or, codes}
 use Rattle.std.specs.List.{list_all}
 use Rattle.smp_mask.specs.CpuList.{IsMaskOf}
 use Rattle.smp_mask.specs.Mask.{has}
@@ -8,7 +8,7 @@ use Rattle.smp_mask.specs.declared.error.Cause.TheVariants.{Number, Range, Mask}
 use Rattle.smp_labels.specs.declared.words.TheConstants.{MOST_SITES}
 use Rattle.smp_script.specs.Numbers.{is_decimal, value_after}
 use Rattle.smp_script.specs.Labels.{has_number, is_below, items_of}
-use Rattle.smp_script.specs.Shapes.{Form, number, signed, cpu_list, online, items}
+use Rattle.smp_script.specs.Shapes.{Form, number, signed, cpu_list, active, online, member, items}
 
 -- the number that digits are
 abbrev pub value_of : List ℕ → ℕ
@@ -32,6 +32,17 @@ IsMask limit field mask = ((field ≡ codes "-") × (mask ≡ 0)) ⊎ IsMaskOf l
 abbrev pub MaskFault : ℕ → List ℕ → Cause → Type 0
 MaskFault limit field Mask = (mask : ℕ) → IsMask limit field mask → ⊥
 MaskFault limit field _ = ⊥
+
+-- what is wrong with a field that has to be such a mask, or `none`
+abbrev pub ActiveFault : ℕ → List ℕ → Cause → Type 0
+ActiveFault limit field Mask = (field ≢ codes "none") × ((mask : ℕ) → IsMask limit field mask → ⊥)
+ActiveFault limit field _ = ⊥
+
+-- what is wrong with a field that has to be the number of one of these CPUs
+abbrev pub MemberFault : ℕ → List ℕ → Cause → Type 0
+MemberFault mask field Number = is_decimal field ≡ false
+MemberFault mask field Range = (is_decimal field ≡ true) × (has mask (value_of field) ≡ false)
+MemberFault mask field _ = ⊥
 
 -- the field is a number in decimal, or a minus sign and a number that is not 0
 abbrev pub is_signed : List ℕ → Bool
@@ -72,6 +83,8 @@ abbrev pub FieldFault : List (List ℕ) → ℕ → Form → Cause → Type 0
 FieldFault fields i (number low high) cause = NumberFault low high (field_at fields i) cause
 FieldFault fields i signed cause = SignedFault (field_at fields i) cause
 FieldFault fields i (cpu_list limit) cause = MaskFault limit (field_at fields i) cause
+FieldFault fields i (active limit) cause = ActiveFault limit (field_at fields i) cause
+FieldFault fields i (member mask) cause = MemberFault mask (field_at fields i) cause
 FieldFault fields i (online limit) cause = OnlineFault limit (value_of (field_at fields 1)) (field_at fields i) cause
 FieldFault fields i items cause = ItemsFault (value_of (field_at fields 1)) (field_at fields i) cause
 FieldFault fields i _ cause = ⊥

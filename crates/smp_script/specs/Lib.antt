@@ -5,9 +5,12 @@ pub mod Numbers
 -- scripts, and their first fault
 pub mod Faults
 pub mod Versions
+pub mod Modes
 pub mod Fields
+pub mod Requests
 pub mod Commands
 pub mod Labels
+pub mod Keys
 pub mod Script
 pub mod MeaningOf
 -- devices, and errors

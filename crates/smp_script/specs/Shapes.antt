@@ -1,21 +1,28 @@
 -- The shapes that a line may have, field by field. Its words and the number of its fields tell which one it has.
-use Rattle.std.specs.Prelude.{ℕ, ◌-◌, ◌^◌, Bool, true, false, not, ◌&&◌, ◌||◌, ◌==◌, if◌then◌else◌, List, [], ◌∷◌, length, find, Option, codes}
+use Rattle.std.specs.Prelude.{ℕ, ◌-◌, ◌^◌, Bool, true, false, not, ◌&&◌, ◌||◌, ◌==◌, if◌then◌else◌, List, [], ◌∷◌, map, length, find, Option, codes}
 use Rattle.std.specs.Str.{bytes_eq}
 use Rattle.std.specs.List.{list_all}
 use Rattle.smp_labels.specs.declared.words.TheConstants.{MOST_KEYS}
+use Rattle.smp_script.specs.declared.mode.Mode.{Mode}
+use Rattle.smp_script.specs.declared.mode.Mode.TheVariants.{Replay, Run}
+use Rattle.smp_script.specs.declared.setting.Setting.{Setting}
 use Rattle.smp_script.specs.Labels.{is_item, items_of}
+use Rattle.smp_script.specs.Modes.{mode_text}
 use Rattle.smp_script.specs.Versions.{version_text}
 use Rattle.smp_script.specs.declared.version.Version.TheVariants.{One, Two}
 
 -- what a field has to be: that word, one of these words, a number from one to another, a number of 32 bits that may have a
--- minus sign, a list of CPUs below a limit or `-`, the mask of the CPUs online, below a limit too, or the items of the labels
+-- minus sign, a list of CPUs below a limit or `-`, the same or `none`, the mask of the CPUs online, below a limit too, the
+-- number of one of these CPUs, or the items of the labels
 pub data Form : Type 0 where
   word : List ℕ → Form
   words : List (List ℕ) → Form
   number : ℕ → ℕ → Form
   signed : Form
   cpu_list : ℕ → Form
+  active : ℕ → Form
   online : ℕ → Form
+  member : ℕ → Form
   items : Form
 
 -- a number of so many bits
@@ -26,9 +33,9 @@ bits n = number 0 (2 ^ n - 1)
 abbrev pub versions : Form
 versions = words (version_text One ∷ version_text Two ∷ [])
 
--- `smp 1 replay` or `smp 2 replay`
-abbrev pub title : List Form
-title = word (codes "smp") ∷ versions ∷ word (codes "replay") ∷ []
+-- `smp`, the version, and the kind of script
+abbrev pub title : Mode → List Form
+title mode = word (codes "smp") ∷ versions ∷ word (mode_text mode) ∷ []
 
 -- `cpus NR MASK`
 abbrev pub cpus : ℕ → List Form
@@ -94,15 +101,63 @@ step = word (codes "step") ∷ bits 32 ∷ number 1 10000 ∷ []
 abbrev pub show : List Form
 show = word (codes "show") ∷ []
 
--- what a line may ask for, where CPUs have to be below the limit
-abbrev pub requests : ℕ → List (List Form)
-requests limit = post ∷ begin limit ∷ nudge ∷ numbered ∷ answered ∷ bare ∷ step ∷ show ∷ []
+-- what a line of a replay may ask for, where CPUs have to be below the limit
+abbrev pub replay_requests : ℕ → List (List Form)
+replay_requests limit = post ∷ begin limit ∷ nudge ∷ numbered ∷ answered ∷ bare ∷ step ∷ show ∷ []
+
+-- `wait` or `nowait`
+abbrev pub wait : Form
+wait = words (codes "wait" ∷ codes "nowait" ∷ [])
+
+-- `all`, `even` or `odd`
+abbrev pub which : Form
+which = words (codes "all" ∷ codes "even" ∷ codes "odd" ∷ [])
+
+-- `on` or `off`
+abbrev pub switch : Form
+switch = words (codes "on" ∷ codes "off" ∷ [])
+
+-- FUNC INFO, and FUNC ARG
+abbrev pub func_info : List Form
+func_info = bits 16 ∷ bits 64 ∷ []
+
+abbrev pub func_arg : List Form
+func_arg = bits 16 ∷ number 0 2147483647 ∷ []
+
+-- the operations: each name, and what stands behind it, where CPUs have to be below the limit
+abbrev pub operations : ℕ → List (List ℕ × List Form)
+operations limit =
+    (codes "sync", bits 32 ∷ func_info)
+    ∷ (codes "async", bits 32 ∷ func_info)
+    ∷ (codes "user", number 0 1 ∷ bits 32 ∷ func_info)
+    ∷ (codes "any", wait ∷ cpu_list limit ∷ func_info)
+    ∷ (codes "many", wait ∷ cpu_list limit ∷ func_info)
+    ∷ (codes "cond", which ∷ wait ∷ cpu_list limit ∷ func_info)
+    ∷ (codes "one", bits 32 ∷ func_arg)
+    ∷ (codes "two", bits 32 ∷ bits 32 ∷ func_arg)
+    ∷ (codes "machine", active limit ∷ func_arg)
+    ∷ (codes "set", bits 32 ∷ switch ∷ [])
+    ∷ (codes "inc", bits 32 ∷ [])
+    ∷ (codes "dec", bits 32 ∷ [])
+    ∷ []
+
+-- `do CPU N NAME` and what stands behind it, where the CPU has to be one of those online
+abbrev pub operation : ℕ → List ℕ × List Form → List Form
+operation cpus op = word (codes "do") ∷ member cpus ∷ number 1 10000 ∷ word op.0 ∷ op.1
+
+-- what a line may ask for
+abbrev pub mode_requests : Mode → ℕ → ℕ → List (List Form)
+mode_requests Replay limit cpus = replay_requests limit
+mode_requests Run limit cpus = map (operation cpus) (operations limit)
+
+abbrev pub requests : Setting → List (List Form)
+requests s = mode_requests s.mode s.limit s.online
 
 -- the shapes of line n
-abbrev pub shapes_of : ℕ → ℕ → List (List Form)
-shapes_of limit n =
-    if n == 1 then title ∷ []
-    else (if n == 2 then cpus limit ∷ [] else (if n == 3 then labels ∷ requests limit else requests limit))
+abbrev pub shapes_of : Setting → ℕ → List (List Form)
+shapes_of s n =
+    if n == 1 then title s.mode ∷ []
+    else (if n == 2 then cpus s.limit ∷ [] else (if n == 3 then labels ∷ requests s else requests s))
 
 -- the field is one of these words
 abbrev pub is_one_of : List (List ℕ) → List ℕ → Bool
@@ -123,6 +178,6 @@ has_shape [] [] = true
 has_shape (field ∷ fields) (form ∷ forms) = has_shape fields forms && has_word form field
 has_shape _ _ = false
 
--- the shape of line n with these fields, where CPUs have to be below the limit
-abbrev pub shape_of : ℕ → ℕ → List (List ℕ) → Option (List Form)
-shape_of limit n fields = find (has_shape fields) (shapes_of limit n)
+-- the shape of line n with these fields
+abbrev pub shape_of : Setting → ℕ → List (List ℕ) → Option (List Form)
+shape_of s n fields = find (has_shape fields) (shapes_of s n)

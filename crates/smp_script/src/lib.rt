@@ -2,7 +2,8 @@
 //!
 //! - `script`: Scripts, and the first fault of one that is not lawful.
 //! - `directive`: What a line of a script asks for.
-//! - `version`: Versions of scripts.
+//! - `request`: What a `do` line asks a CPU to call.
+//! - `mode`, `version`: Kinds of scripts, and their versions.
 //! - `laws`: How each script is written, and what the first fault of any other text is.
 //! - `watched`: A reader or a writer that remembers whether it ever failed.
 //! - `stream`: The bytes of a reader, and bytes to a writer.
@@ -15,14 +16,20 @@ mod decimal;
 pub mod directive;
 pub mod errors;
 mod field;
+mod key;
 mod labels;
 pub mod laws;
 mod line;
+pub mod mode;
+mod operation;
 pub mod outcome;
+pub mod request;
 pub mod script;
+mod setting;
 pub mod stream;
 pub mod version;
 pub mod watched;
 
+pub use mode::Mode;
 pub use outcome::Outcome;
 pub use watched::Watched;

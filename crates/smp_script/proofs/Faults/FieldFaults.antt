@@ -43,8 +43,8 @@ passes shape fields i form wants right clean j other cause h e f = elim (cases_l
 ]
 
 -- a number is read, or what is wrong with it
-data NumberRead (low high : ℕ) (text : List ℕ) : Type 0 where
-  is_read : number_in low high text ≡ Ok (value_of text) → ((cause : Cause) → NumberFault low high text cause → ⊥) → NumberRead low high text
+pub data NumberRead (low high : ℕ) (text : List ℕ) : Type 0 where
+  is_read : is_decimal text ≡ true → number_in low high text ≡ Ok (value_of text) → ((cause : Cause) → NumberFault low high text cause → ⊥) → NumberRead low high text
   is_wrong : (cause : Cause) → number_in low high text ≡ Err cause → NumberFault low high text cause → NumberRead low high text
 
 right_number : (low high : ℕ) (text : List ℕ) → is_decimal text ≡ true → low ≤ value_of text → value_of text ≤ high → (cause : Cause)
@@ -53,7 +53,7 @@ right_number low high text good above below Number f = let bad : true ≡ false 
 right_number low high text good above below Range f = elim f.1 [ inl under ↦ omega arith | inr over ↦ omega arith ]
 right_number low high text good above below _ f = f
 
-number_read : (low high : ℕ) (text : List ℕ) → NumberRead low high text
+pub number_read : (low high : ℕ) (text : List ℕ) → NumberRead low high text
 number_read low high text = elim (cases_Bool (is_decimal text)) [
   | inr bad ↦ is_wrong Number (rw bad refl) bad
   | inl good ↦ elim (cases_lt (value_of text) low) [
@@ -68,7 +68,7 @@ number_read low high text = elim (cases_Bool (is_decimal text)) [
       | inr below ↦
           let test : nat_le low (value_of text) ≡ true = grind (arith, nat_tests) in
           let within : nat_le (value_of text) high ≡ true = grind (arith, nat_tests) in
-          is_read (rw (good, test, within) refl) (right_number low high text good above below)
+          is_read good (rw (good, test, within) refl) (right_number low high text good above below)
     ]
   ]
 ]
@@ -80,7 +80,7 @@ pub reads_number : {B : Type 0} (shape : List Form) (fields : List (List ℕ)) (
     → Tells shape fields holds (number_in low high (field_at fields i) >>= then)
 reads_number shape fields holds i low high then wants clean more = elim (number_read low high (field_at fields i)) [
   | is_wrong cause e f ↦ rw e (record { place = i; form = number low high; wants = wants; wrong = f; before = clean })
-  | is_read e right ↦ rw e (more (passes shape fields i (number low high) wants right clean))
+  | is_read good e right ↦ rw e (more (passes shape fields i (number low high) wants right clean))
 ]
 
 -- a field is read, or what is wrong with it

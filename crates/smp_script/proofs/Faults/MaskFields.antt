@@ -1,5 +1,5 @@
 -- Masks, and what is wrong with their fields.
-use Rattle.std.proofs.Common.{◌≡◌, ℕ, ◌≤◌, true, false, List, Result, Ok, Err, codes, refl, sym, ap, ◌∙◌, inl, inr, arith}
+use Rattle.std.proofs.Common.{◌≡◌, ◌≢◌, ℕ, ◌≤◌, Option, Some, None, true, false, List, Result, Ok, Err, codes, refl, sym, ap, ◌∙◌, inl, inr, arith}
 use Rattle.std.specs.Str.{bytes_eq}
 use Rattle.std.proofs.lemmas.Bool.{cases_Bool}
 use Rattle.smp_mask.specs.CpuList.{IsMaskOf}
@@ -10,7 +10,8 @@ use Rattle.smp_mask.specs.declared.error.SmpError.{SmpError}
 use Rattle.smp_mask.specs.declared.mask.TheConstants.{NR_CPUS}
 use Rattle.smp_mask.proofs.Walks.{accepted, refused}
 use Rattle.smp_script.specs.Fields.{mask_of, stays_below}
-use Rattle.smp_script.specs.FieldFaults.{IsMask, MaskFault}
+use Rattle.smp_script.specs.FieldFaults.{ActiveFault, IsMask, MaskFault}
+use Rattle.smp_script.specs.Requests.{active_of}
 use Rattle.smp_script.proofs.Faults.FieldFaults.{Judged, fine, faulty}
 use Rattle.smp_script.proofs.Spelled.ReadParts.{same_word}
 use Rattle.smp_script.proofs.Reader.Widths.{narrower, too_wide, wider}
@@ -51,5 +52,32 @@ mask_judged limit text few = elim (cases_Bool (bytes_eq text (codes "-"))) [
   | inr other ↦ elim (list_read limit text few other) [
     | a_list m read is ↦ fine m read (no_fault limit text m (inr is))
     | no_list read none ↦ faulty Mask read none
+  ]
+]
+
+-- a mask has only the fault that it is none
+mask_only : (limit : ℕ) (text : List ℕ) (cause : Cause) → MaskFault limit text cause → (cause ≡ Mask) × ((m : ℕ) → IsMask limit text m → ⊥)
+mask_only limit text Mask f = (refl, f)
+mask_only limit text _ f = absurd f
+
+right_active : (limit : ℕ) (text : List ℕ) → ((cause : Cause) → MaskFault limit text cause → ⊥) → (cause : Cause) → ActiveFault limit text cause → ⊥
+right_active limit text right Mask f = right Mask f.1
+right_active limit text right _ f = f
+
+none_active : (limit : ℕ) (text : List ℕ) → text ≡ codes "none" → (cause : Cause) → ActiveFault limit text cause → ⊥
+none_active limit text is Mask f = f.0 is
+none_active limit text is _ f = f
+
+not_none : (text : List ℕ) → bytes_eq text (codes "none") ≡ false → text ≢ codes "none"
+not_none text h e = let bad : true ≡ false = sym (ap (λ t. bytes_eq t (codes "none")) e) ∙ h in cc
+
+pub active_judged : (limit : ℕ) (text : List ℕ) → limit ≤ NR_CPUS → Judged (ActiveFault limit text) (active_of limit text)
+active_judged limit text few = elim (cases_Bool (bytes_eq text (codes "none"))) [
+  | inl none ↦ fine None (rw none refl) (none_active limit text (same_word text (codes "none") none))
+  | inr other ↦ elim (mask_judged limit text few) [
+    | fine m read right ↦ fine (Some m) (rw (other, read) refl) (right_active limit text right)
+    | faulty cause read wrong ↦
+        let only = mask_only limit text cause wrong in
+        faulty Mask (rw (other, read, only.0) refl) (not_none text other, only.1)
   ]
 ]

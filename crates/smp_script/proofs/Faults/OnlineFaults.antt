@@ -1,5 +1,5 @@
 -- The mask of the CPUs online, and what is wrong with its field.
-use Rattle.std.proofs.Common.{◌≡◌, ℕ, ◌≤◌, true, false, ◌==◌, nat_lt, List, [], ◌∷◌, length, drop, get_or, Ok, Err, codes, refl, sym, ◌∙◌, inl, inr, arith}
+use Rattle.std.proofs.Common.{◌≡◌, ℕ, ◌≤◌, true, false, ◌==◌, nat_lt, List, [], ◌∷◌, length, drop, get_or, Result, Ok, Err, codes, refl, sym, ◌∙◌, inl, inr, arith}
 use Rattle.std.proofs.Common.{subst}
 use Rattle.std.specs.Str.{bytes_eq}
 use Rattle.std.proofs.lemmas.Bool.{cases_Bool, cases_lt, and_parts}
@@ -18,7 +18,7 @@ use Rattle.smp_script.specs.Shapes.{online, cpus, has_shape}
 use Rattle.smp_script.specs.FieldFaults.{IsOutside, OnlineFault, value_of}
 use Rattle.smp_script.specs.FirstFault.{events_in}
 use Rattle.smp_script.proofs.Faults.FieldFaults.{Tells, none_yet, passes, reads_number}
-use Rattle.smp_script.proofs.Faults.LineShapes.{TellsLine, shapeless, shaped, no_whole, passes_word, skips_word}
+use Rattle.smp_script.proofs.Faults.LineShapes.{IsQuiet, TellsLine, shapeless, shaped, no_whole, passes_word, skips_word}
 use Rattle.smp_script.proofs.Reader.Widths.{AreCpus, mask_below, one_above, one_mask, some_fails, wider}
 use Rattle.smp_script.proofs.Faults.MaskFields.{a_list, no_list, list_read, no_word}
 use Rattle.smp_script.proofs.Spelled.ReadParts.{same_word}
@@ -86,12 +86,12 @@ mask_read limit nr text few = elim (cases_Bool (bytes_eq text (codes "-"))) [
 ]
 
 table_told : (limit : ℕ) (nr mask : List ℕ) → limit ≤ NR_CPUS
-    → Tells (cpus limit) (codes "cpus" ∷ nr ∷ mask ∷ []) (λ t. events_in (codes "cpus" ∷ nr ∷ mask ∷ []) ≡ 0) (table_of limit nr mask)
+    → Tells (cpus limit) (codes "cpus" ∷ nr ∷ mask ∷ []) (λ t. IsQuiet (codes "cpus" ∷ nr ∷ mask ∷ [])) (table_of limit nr mask)
 table_told limit nr mask few =
     let fields = codes "cpus" ∷ nr ∷ mask ∷ [] in
-    reads_number (cpus limit) fields (λ t. events_in fields ≡ 0) 1 1 limit _ refl (passes_word (cpus limit) fields 0 _ refl (none_yet (cpus limit) fields))
+    reads_number (cpus limit) fields (λ t. IsQuiet fields) 1 1 limit _ refl (passes_word (cpus limit) fields 0 _ refl (none_yet (cpus limit) fields))
     (λ two. elim (mask_read limit (value_of nr) mask few) [
-      | is_read m read on right ↦ rw (read, on) (passes (cpus limit) fields 2 (online limit) refl right two, refl)
+      | is_read m read on right ↦ rw (read, on) (passes (cpus limit) fields 2 (online limit) refl right two, (refl, refl))
       | no_mask read wrong ↦ rw read (record { place = 2; form = online limit; wants = refl; wrong = wrong; before = two })
       | outside m read off wrong ↦ rw (read, off) (record { place = 2; form = online limit; wants = refl; wrong = wrong; before = two })
     ])
@@ -101,7 +101,7 @@ no_cpus : (limit : ℕ) (fields : List (List ℕ)) → are_whole fields ≡ fals
 no_cpus limit fields empty = no_whole fields (cpus limit) refl empty
 
 cpus_shapes : (limit : ℕ) (fields : List (List ℕ)) → limit ≤ NR_CPUS → are_whole fields ≡ true
-    → TellsLine (cpus limit ∷ []) fields (λ t. events_in fields ≡ 0) (cpus_of limit fields)
+    → TellsLine (cpus limit ∷ []) fields (λ t. IsQuiet fields) (cpus_of limit fields)
 cpus_shapes limit [] few whole = shapeless refl refl
 cpus_shapes limit (a ∷ []) few whole = shapeless refl refl
 cpus_shapes limit (a ∷ b ∷ []) few whole = shapeless refl refl
@@ -116,8 +116,27 @@ cpus_shapes limit (a ∷ b ∷ c ∷ d ∷ rest) few whole = shapeless refl refl
 
 -- what reading the second line tells
 pub cpus_told : (limit : ℕ) (fields : List (List ℕ)) → limit ≤ NR_CPUS
-    → TellsLine (cpus limit ∷ []) fields (λ t. events_in fields ≡ 0) (whole_cpus limit fields)
+    → TellsLine (cpus limit ∷ []) fields (λ t. IsQuiet fields) (whole_cpus limit fields)
 cpus_told limit fields few = elim (cases_Bool (are_whole fields)) [
   | inl whole ↦ rw whole (cpus_shapes limit fields few whole)
   | inr empty ↦ shapeless (rw (no_cpus limit fields empty) refl) (rw empty refl)
+]
+
+no_cpu : AreCpus 0
+no_cpu cpu on = let bad : false ≡ true = sym (has_none cpu) ∙ on in cc
+
+-- the CPUs of a mask that was read are CPUs
+pub mask_cpus : (limit : ℕ) (text : List ℕ) (m : ℕ) → limit ≤ NR_CPUS → mask_of limit text ≡ Ok m → AreCpus m
+mask_cpus limit text m few h = elim (cases_Bool (bytes_eq text (codes "-"))) [
+  | inl dash ↦
+      let e : ◌≡◌ {A = Result ℕ Cause} (Ok 0) (Ok m) = rw dash at h in
+      let same : 0 ≡ m = cc in
+      subst AreCpus same no_cpu
+  | inr other ↦ elim (list_read limit text few other) [
+    | a_list n read is ↦
+        let e : ◌≡◌ {A = Result ℕ Cause} (Ok n) (Ok m) = sym read ∙ h in
+        let same : n ≡ m = cc in
+        subst AreCpus same (are_cpus limit text n few is)
+    | no_list read none ↦ let e : ◌≡◌ {A = Result ℕ Cause} (Err Mask) (Ok m) = sym read ∙ h in cc
+  ]
 ]

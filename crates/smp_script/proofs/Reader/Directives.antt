@@ -3,10 +3,12 @@ use Rattle.std.proofs.Common.{◌≡◌, ℕ, ◌+◌, ◌≤◌, ◌<◌, List,
 use Rattle.std.proofs.Common.{append-nil, sum_by}
 use Rattle.std.proofs.lemmas.List.Sums.{sum_by-append}
 use Rattle.std.proofs.lemmas.Bool.Decides.{nat_tests}
-use Rattle.smp_mask.specs.declared.error.Cause.TheVariants.{TooLong, Cut}
+use Rattle.smp_mask.specs.declared.error.Cause.TheVariants.{TooLong, Cut, SharedKey}
 use Rattle.smp_mask.specs.declared.error.SmpError.{SmpError}
 use Rattle.smp_mask.specs.declared.error.SmpError.TheVariants as errors
 use Rattle.smp_script.specs.declared.directive.Directive.{Directive}
+use Rattle.smp_script.specs.declared.setting.Setting.{Setting}
+use Rattle.smp_script.specs.Keys.{shares}
 use Rattle.smp_script.specs.Lines.{Line}
 use Rattle.smp_script.specs.Faults.{Fault, ◌>>=◌, at_line, Fails}
 use Rattle.smp_script.specs.Commands.{line_directive}
@@ -17,38 +19,38 @@ abbrev pub with_front : List Directive → Result (List Directive) Fault → Res
 with_front front read = read >>= λ ds. Ok (front ++ ds)
 
 -- where the reading of the lines stands
-pub record Stands (limit n count : ℕ) (front : List Directive) (lines : List Line) (all : Result (List Directive) Fault) : Type 0 where
-  pub told : with_front front (directives_of limit n count lines) ≡ all
+pub record Stands (setting : Setting) (n count : ℕ) (front : List Directive) (lines : List Line) (all : Result (List Directive) Fault) : Type 0 where
+  pub told : with_front front (directives_of setting n count front lines) ≡ all
   pub line : n ≤ 2001
   pub events : count ≤ 100000
   pub total : sum_by events_of front ≡ count
 
-pub too_many : {limit n events : ℕ} {front : List Directive} {lines : List Line} {all : Result (List Directive) Fault} (l : Line) (ls : List Line)
-    → Stands limit n events front lines all → lines ≡ l ∷ ls → 2000 < n → all ≡ Err (n, TooLong)
+pub too_many : {setting : Setting} {n events : ℕ} {front : List Directive} {lines : List Line} {all : Result (List Directive) Fault} (l : Line) (ls : List Line)
+    → Stands setting n events front lines all → lines ≡ l ∷ ls → 2000 < n → all ≡ Err (n, TooLong)
 unfolding directives_of
-too_many {limit} {n} {events} {front} l ls s e h =
+too_many {setting} {n} {events} {front} l ls s e h =
     let t : nat_lt 2000 n ≡ true = grind (arith, nat_tests) in
-    let r : with_front front (directives_of limit n events (l ∷ ls)) ≡ Err (n, TooLong) = rw t refl in
-    sym s.told ∙ ap (λ x. with_front front (directives_of limit n events x)) e ∙ r
+    let r : with_front front (directives_of setting n events front (l ∷ ls)) ≡ Err (n, TooLong) = rw t refl in
+    sym s.told ∙ ap (λ x. with_front front (directives_of setting n events front x)) e ∙ r
 
-pub is_cut : {limit n events : ℕ} {front : List Directive} {lines : List Line} {all : Result (List Directive) Fault} (l : Line) (ls : List Line)
-    → Stands limit n events front lines all → lines ≡ l ∷ ls → n ≤ 2000 → l.ended ≡ false → all ≡ Err (n, Cut)
+pub is_cut : {setting : Setting} {n events : ℕ} {front : List Directive} {lines : List Line} {all : Result (List Directive) Fault} (l : Line) (ls : List Line)
+    → Stands setting n events front lines all → lines ≡ l ∷ ls → n ≤ 2000 → l.ended ≡ false → all ≡ Err (n, Cut)
 unfolding directives_of
-is_cut {limit} {n} {events} {front} l ls s e h ended =
+is_cut {setting} {n} {events} {front} l ls s e h ended =
     let t : nat_lt 2000 n ≡ false = grind (arith, nat_tests) in
-    let r : with_front front (directives_of limit n events (l ∷ ls)) ≡ Err (n, Cut) = rw (t, ended) refl in
-    sym s.told ∙ ap (λ x. with_front front (directives_of limit n events x)) e ∙ r
+    let r : with_front front (directives_of setting n events front (l ∷ ls)) ≡ Err (n, Cut) = rw (t, ended) refl in
+    sym s.told ∙ ap (λ x. with_front front (directives_of setting n events front x)) e ∙ r
 
 -- a line that is no directive's
-pub is_bad : {limit n events : ℕ} {front : List Directive} {lines : List Line} {all : Result (List Directive) Fault} (l : Line) (ls : List Line)
-    → Stands limit n events front lines all → lines ≡ l ∷ ls → n ≤ 2000 → l.ended ≡ true → (d : SmpError) → Fails d (at_line n (line_directive limit l.text))
+pub is_bad : {setting : Setting} {n events : ℕ} {front : List Directive} {lines : List Line} {all : Result (List Directive) Fault} (l : Line) (ls : List Line)
+    → Stands setting n events front lines all → lines ≡ l ∷ ls → n ≤ 2000 → l.ended ≡ true → (d : SmpError) → Fails d (at_line n (line_directive setting l.text))
     → Fails d all
 unfolding directives_of
 is_bad l ls s e h ended errors.NoMemory f = tt
-is_bad {limit} {n} {events} {front} l ls s e h ended (errors.BadScript k cause) f =
+is_bad {setting} {n} {events} {front} l ls s e h ended (errors.BadScript k cause) f =
     let t : nat_lt 2000 n ≡ false = grind (arith, nat_tests) in
-    let r : with_front front (directives_of limit n events (l ∷ ls)) ≡ Err (k, cause) = rw (t, ended, f) refl in
-    sym s.told ∙ ap (λ x. with_front front (directives_of limit n events x)) e ∙ r
+    let r : with_front front (directives_of setting n events front (l ∷ ls)) ≡ Err (k, cause) = rw (t, ended, f) refl in
+    sym s.told ∙ ap (λ x. with_front front (directives_of setting n events front x)) e ∙ r
 is_bad l ls s e h ended errors.NoCpu f = absurd f
 is_bad l ls s e h ended errors.Busy f = absurd f
 is_bad l ls s e h ended errors.NoStopper f = absurd f
@@ -61,16 +63,26 @@ is_bad l ls s e h ended (errors.BadMask k) f = absurd f
 is_bad l ls s e h ended (errors.StreamFailed k) f = absurd f
 is_bad l ls s e h ended (errors.KeyRange k) f = absurd f
 
--- the line that passes the limit of events
-pub is_past : {limit n events : ℕ} {front : List Directive} {lines : List Line} {all : Result (List Directive) Fault} (l : Line) (ls : List Line)
-    → Stands limit n events front lines all → lines ≡ l ∷ ls → n ≤ 2000 → l.ended ≡ true → (directive : Directive)
-    → at_line n (line_directive limit l.text) ≡ Ok directive → 100000 < events + events_of directive → all ≡ Err (n, TooLong)
+-- the line with a key of another CPU
+pub is_of_another : {setting : Setting} {n events : ℕ} {front : List Directive} {lines : List Line} {all : Result (List Directive) Fault} (l : Line)
+    (ls : List Line) → Stands setting n events front lines all → lines ≡ l ∷ ls → n ≤ 2000 → l.ended ≡ true → (directive : Directive)
+    → at_line n (line_directive setting l.text) ≡ Ok directive → shares front directive ≡ true → all ≡ Err (n, SharedKey)
 unfolding directives_of
-is_past {limit} {n} {events} {front} l ls s e h ended directive f past =
+is_of_another {setting} {n} {events} {front} l ls s e h ended directive f shared =
+    let t : nat_lt 2000 n ≡ false = grind (arith, nat_tests) in
+    let r : with_front front (directives_of setting n events front (l ∷ ls)) ≡ Err (n, SharedKey) = rw (t, ended, f) (rw shared refl) in
+    sym s.told ∙ ap (λ x. with_front front (directives_of setting n events front x)) e ∙ r
+
+-- the line that passes the limit of events
+pub is_past : {setting : Setting} {n events : ℕ} {front : List Directive} {lines : List Line} {all : Result (List Directive) Fault} (l : Line) (ls : List Line)
+    → Stands setting n events front lines all → lines ≡ l ∷ ls → n ≤ 2000 → l.ended ≡ true → (directive : Directive)
+    → at_line n (line_directive setting l.text) ≡ Ok directive → shares front directive ≡ false → 100000 < events + events_of directive → all ≡ Err (n, TooLong)
+unfolding directives_of
+is_past {setting} {n} {events} {front} l ls s e h ended directive f apart past =
     let t : nat_lt 2000 n ≡ false = grind (arith, nat_tests) in
     let u : nat_lt 100000 (events + events_of directive) ≡ true = grind (arith, nat_tests) in
-    let r : with_front front (directives_of limit n events (l ∷ ls)) ≡ Err (n, TooLong) = rw (t, ended, f) (rw u refl) in
-    sym s.told ∙ ap (λ x. with_front front (directives_of limit n events x)) e ∙ r
+    let r : with_front front (directives_of setting n events front (l ∷ ls)) ≡ Err (n, TooLong) = rw (t, ended, f) (rw (apart, u) refl) in
+    sym s.told ∙ ap (λ x. with_front front (directives_of setting n events front x)) e ∙ r
 
 front_push : (front : List Directive) (directive : Directive) (read : Result (List Directive) Fault)
     → with_front front (read >>= λ ds. Ok (directive ∷ ds)) ≡ with_front (front ++ directive ∷ []) read
@@ -78,25 +90,25 @@ front_push front directive (Ok directives) = ap Ok (sym (append_assoc front (dir
 front_push front directive (Err e) = refl
 
 -- one directive more
-pub goes_on : {limit n events : ℕ} {front : List Directive} {lines : List Line} {all : Result (List Directive) Fault} (l : Line) (ls : List Line)
-    → Stands limit n events front lines all → lines ≡ l ∷ ls → n ≤ 2000 → l.ended ≡ true → (directive : Directive)
-    → at_line n (line_directive limit l.text) ≡ Ok directive → events + events_of directive ≤ 100000
-    → Stands limit (n + 1) (events + events_of directive) (front ++ directive ∷ []) ls all
+pub goes_on : {setting : Setting} {n events : ℕ} {front : List Directive} {lines : List Line} {all : Result (List Directive) Fault} (l : Line) (ls : List Line)
+    → Stands setting n events front lines all → lines ≡ l ∷ ls → n ≤ 2000 → l.ended ≡ true → (directive : Directive)
+    → at_line n (line_directive setting l.text) ≡ Ok directive → shares front directive ≡ false → events + events_of directive ≤ 100000
+    → Stands setting (n + 1) (events + events_of directive) (front ++ directive ∷ []) ls all
 unfolding directives_of
-goes_on {limit} {n} {events} {front} l ls s e h ended directive f fits =
+goes_on {setting} {n} {events} {front} l ls s e h ended directive f apart fits =
     let t : nat_lt 2000 n ≡ false = grind (arith, nat_tests) in
     let u : nat_lt 100000 (events + events_of directive) ≡ false = grind (arith, nat_tests) in
-    let r : with_front front (directives_of limit n events (l ∷ ls)) ≡ with_front front
-    (directives_of limit (n + 1) (events + events_of directive) ls >>= λ ds. Ok (directive ∷ ds)) = rw (t, ended, f) (rw u refl) in
+    let r : with_front front (directives_of setting n events front (l ∷ ls)) ≡ with_front front
+    (directives_of setting (n + 1) (events + events_of directive) (front ++ directive ∷ []) ls >>= λ ds. Ok (directive ∷ ds)) = rw (t, ended, f) (rw (apart, u) refl) in
     record {
-      told = sym (front_push front directive (directives_of limit (n + 1) (events + events_of directive) ls)) ∙ sym r
-          ∙ ap (λ x. with_front front (directives_of limit n events x)) (sym e) ∙ s.told;
+      told = sym (front_push front directive (directives_of setting (n + 1) (events + events_of directive) (front ++ directive ∷ []) ls)) ∙ sym r
+          ∙ ap (λ x. with_front front (directives_of setting n events front x)) (sym e) ∙ s.told;
       line = omega arith;
       events = fits;
       total = grind (arith, s.total, sum_by-append events_of front (directive ∷ []));
     }
 
-pub ends : {limit n events : ℕ} {front : List Directive} {lines : List Line} {all : Result (List Directive) Fault} → Stands limit n events front lines all
+pub ends : {setting : Setting} {n events : ℕ} {front : List Directive} {lines : List Line} {all : Result (List Directive) Fault} → Stands setting n events front lines all
     → lines ≡ [] → all ≡ Ok front
 unfolding directives_of
-ends {limit} {n} {events} {front} s e = sym s.told ∙ ap (λ x. with_front front (directives_of limit n events x)) e ∙ ap Ok (append-nil front)
+ends {setting} {n} {events} {front} s e = sym s.told ∙ ap (λ x. with_front front (directives_of setting n events front x)) e ∙ ap Ok (append-nil front)

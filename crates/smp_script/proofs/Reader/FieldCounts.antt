@@ -2,6 +2,7 @@
 use Rattle.std.proofs.Common.{◌≡◌, ◌<◌, ◌⊎◌, List, [], ◌∷◌, map, length, Err, refl, arith, ℕ, inl, inr}
 use Rattle.smp_mask.specs.declared.error.Cause.TheVariants.{Word}
 use Rattle.smp_script.specs.Commands.{begins_of, posts_of, start_of}
+use Rattle.smp_script.specs.Requests.{do_of}
 
 -- a post has six
 pub not_six : {X : Type 0} (f : X → List ℕ) (cpu : List ℕ) (xs : List X) → (length xs < 6) ⊎ (6 < length xs) → Err Word ≡ posts_of cpu (map f xs)
@@ -30,3 +31,10 @@ pub not_two : {X : Type 0} (f : X → List ℕ) (limit : ℕ) (xs : List X) → 
 not_two f limit [] h = refl
 not_two f limit (a ∷ []) h = refl
 not_two f limit (a ∷ b ∷ xs) h = absurd (omega arith)
+
+-- a `do` line three at least
+pub not_three : {X : Type 0} (f : X → List ℕ) (limit mask : ℕ) (xs : List X) → length xs < 3 → Err Word ≡ do_of limit mask (map f xs)
+not_three f limit mask [] h = refl
+not_three f limit mask (a ∷ []) h = refl
+not_three f limit mask (a ∷ b ∷ []) h = refl
+not_three f limit mask (a ∷ b ∷ c ∷ xs) h = absurd (omega arith)

@@ -1,11 +1,15 @@
 -- How many CPUs the versions may speak of.
-use Rattle.std.proofs.Common.{◌≡◌, ℕ, ◌≤◌, List, ◌∷◌, [], codes, refl, arith}
+use Rattle.std.proofs.Common.{◌≡◌, ℕ, ◌≤◌, List, ◌∷◌, [], drop, Ok, codes, refl, ap, ◌∙◌, arith}
 use Rattle.smp_mask.specs.declared.mask.TheConstants.{NR_CPUS}
 use Rattle.smp_script.specs.declared.version.Version.{Version}
 use Rattle.smp_script.specs.declared.version.Version.TheVariants.{One, Two}
 use Rattle.smp_script.specs.Lines.{Line, fields_of, lines_of}
 use Rattle.smp_script.specs.Versions.{limit_of, version_text}
-use Rattle.smp_script.specs.FirstFault.{limit_in}
+use Rattle.smp_script.specs.declared.mode.Mode.{Mode}
+use Rattle.smp_script.specs.Fields.{mask_of}
+use Rattle.smp_script.specs.FieldFaults.{field_at}
+use Rattle.smp_script.specs.FirstFault.{limit_in, online_in, online_word, or_none}
+use Rattle.smp_script.specs.Modes.{mode_text}
 
 -- no more than there can be
 pub limit_within : (version : Version) → limit_of version ≤ NR_CPUS
@@ -13,7 +17,21 @@ limit_within One = omega arith
 limit_within Two = omega arith
 
 -- the first line tells it
-pub limit_told : (text : List ℕ) (l : Line) (ls : List Line) (version : Version) → lines_of text ≡ l ∷ ls
-    → fields_of l.text ≡ codes "smp" ∷ version_text version ∷ codes "replay" ∷ [] → limit_in text ≡ limit_of version
-limit_told text l ls One e f = rw (e, f) refl
-limit_told text l ls Two e f = rw (e, f) refl
+pub limit_told : (mode : Mode) (text : List ℕ) (l : Line) (ls : List Line) (version : Version) → lines_of text ≡ l ∷ ls
+    → fields_of l.text ≡ codes "smp" ∷ version_text version ∷ mode_text mode ∷ [] → limit_in text ≡ limit_of version
+limit_told mode text l ls One e f = rw (e, f) refl
+limit_told mode text l ls Two e f = rw (e, f) refl
+
+second_word : (ls rest : List Line) (l : Line) → drop 1 ls ≡ l ∷ rest → online_word ls ≡ field_at (fields_of l.text) 2
+second_word [] rest l e = cc
+second_word (t ∷ []) rest l e = cc
+second_word (t ∷ m ∷ ms) rest l e = let same : m ≡ l = cc in ap (λ x. field_at (fields_of x.text) 2) same
+
+-- and the second which are online
+pub online_told : (text : List ℕ) (l : Line) (ls : List Line) (version : Version) (mask : ℕ) → drop 1 (lines_of text) ≡ l ∷ ls
+    → limit_in text ≡ limit_of version → mask_of (limit_of version) (field_at (fields_of l.text) 2) ≡ Ok mask → online_in text ≡ mask
+online_told text l ls version mask e limit read =
+    let word = second_word (lines_of text) ls l e in
+    let is : mask_of (limit_in text) (online_word (lines_of text)) ≡ Ok mask =
+    ap (λ k. mask_of k (online_word (lines_of text))) limit ∙ ap (mask_of (limit_of version)) word ∙ read in
+    ap or_none is

@@ -15,7 +15,9 @@ use Rattle.smp_mask.proofs.Members.{none_below}
 use Rattle.smp_script.specs.Script.{Script, are_online, script_of}
 use Rattle.smp_script.specs.Spelling.{IsLawful, IsMaskText, LineHasSets, SpellLine, canonical_lines, canonical_text, lacks, line_masks, mask_text}
 use Rattle.smp_script.specs.declared.directive.Directive.{Directive}
-use Rattle.smp_script.specs.declared.directive.Directive.TheVariants.{Start, Step, Show}
+use Rattle.smp_script.specs.declared.directive.Directive.TheVariants.{Start, Step, Show, Do}
+use Rattle.smp_script.specs.declared.mode.Mode.{Mode}
+use Rattle.smp_script.specs.declared.request.Request.TheVariants as request
 use Rattle.smp_words.specs.declared.command.Command.TheVariants.{Post, Send, Done, Handle, Gate, Ungate, Begin, Enter, Advance, RunOne, Finish, Poll, Key, Site}
 use Rattle.smp_words.specs.declared.command.Command.TheVariants.{Nudge}
 use Rattle.std.specs.List.{AllByRecursion}
@@ -129,6 +131,18 @@ line_is_spelled limit (Start cpu (Site site)) few h = tt
 line_is_spelled limit (Start cpu (Nudge key up)) few h = tt
 line_is_spelled limit (Step cpu count) few h = tt
 line_is_spelled limit Show few h = tt
+line_is_spelled limit (Do cpu count (request.Single wait dst func info)) few h = tt
+line_is_spelled limit (Do cpu count (request.User user dst func info)) few h = tt
+line_is_spelled limit (Do cpu count (request.Any wait mask func info)) few h = mask_is_text limit mask few h
+line_is_spelled limit (Do cpu count (request.Many wait mask func info)) few h = mask_is_text limit mask few h
+line_is_spelled limit (Do cpu count (request.Cond which wait mask func info)) few h = mask_is_text limit mask few h
+line_is_spelled limit (Do cpu count (request.One dst func arg)) few h = tt
+line_is_spelled limit (Do cpu count (request.Two a b func arg)) few h = tt
+line_is_spelled limit (Do cpu count (request.Machine None func arg)) few h = tt
+line_is_spelled limit (Do cpu count (request.Machine (Some mask) func arg)) few h = mask_is_text limit mask few h
+line_is_spelled limit (Do cpu count (request.Set key on)) few h = tt
+line_is_spelled limit (Do cpu count (request.Inc key)) few h = tt
+line_is_spelled limit (Do cpu count (request.Dec key)) few h = tt
 
 lines_are_spelled : (limit : ℕ) (ds : List Directive) → limit ≤ NR_CPUS → AllByRecursion (LineHasSets limit) ds
     → AllByRecursion (SpellLine limit) (canonical_lines ds)
@@ -140,9 +154,9 @@ lines_ask [] = refl
 lines_ask (d ∷ ds) = ap (λ xs. d ∷ xs) (lines_ask ds)
 
 -- the canonical text of a script is read as it
-pub canonical_is_read : (script : Script) → IsLawful script → script_of (canonical_text script) ≡ Ok script
-canonical_is_read script s =
-    spelling_is_read (list_text script.online) (canonical_lines script.directives) script (canonical_text script) (record {
+pub canonical_is_read : (mode : Mode) (script : Script) → IsLawful mode script → script_of mode (canonical_text mode script) ≡ Ok script
+canonical_is_read mode script s =
+    spelling_is_read mode (list_text script.online) (canonical_lines script.directives) script (canonical_text mode script) (record {
       text_is = refl;
       mask_is = list_is_text (limit_of script.version) script.online (limit_within script.version) s.is_set (some_online script.nr script.online s.online);
       lines_are = lines_ask script.directives;
@@ -152,6 +166,7 @@ canonical_is_read script s =
       online = s.online;
       labels = s.labels;
       fit = s.fit;
+      keys = s.keys;
       bytes = s.bytes;
       count = s.count;
       events = s.events;

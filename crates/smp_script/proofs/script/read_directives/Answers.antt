@@ -1,6 +1,8 @@
-use Rattle.std.proofs.Common.{arith}
+use Rattle.std.proofs.Common.{[], arith, refl, sym, ◌∙◌}
 use Rattle.std.proofs.lemmas.Result.{err_from_is_err_and}
-use Rattle.smp_script.proofs.Reader.Directives.{too_many, is_cut, is_bad, is_past, goes_on, ends}
+use Rattle.smp_script.proofs.Reader.Directives.{too_many, is_cut, is_bad, is_of_another, is_past, goes_on, ends}
+use Rattle.smp_script.proofs.Spelled.Readings.{lines_ok}
+use Rattle.smp_script.specs.Lines.{lines_of}
 use Rattle.smp_script.proofs.script.read_directives.Goals as goal
 
 pub returns-then-line-gt-MAX_LINES-clause-value : goal.returns-then-line-gt-MAX_LINES-clause-value
@@ -15,15 +17,20 @@ returns-in_err-directive-clause-value g c =
     rw (p.1, p.2) (is_bad _ _ c.loop-next.invariant.stands c.in-Some.ensures.lines c.if-line-gt-MAX_LINES.false c.if-not-next.false _
     c.in_err-directive.ensures)
 
+pub returns-then-shares-clause-value : goal.returns-then-shares-clause-value
+returns-then-shares-clause-value g c =
+    is_of_another _ _ c.loop-next.invariant.stands c.in-Some.ensures.lines c.if-line-gt-MAX_LINES.false c.if-not-next.false _ c.in_ok-directive.ensures
+    (rw (← c.as_slice.ensures.value) (sym c.shares.ensures ∙ c.if-shares.true))
+
 pub returns-then-more-events-clause-value : goal.returns-then-more-events-clause-value
 returns-then-more-events-clause-value g c =
     is_past _ _ c.loop-next.invariant.stands c.in-Some.ensures.lines c.if-line-gt-MAX_LINES.false c.if-not-next.false _ c.in_ok-directive.ensures
-    (omega (arith, c.events-more.ensures))
+    (rw (← c.as_slice.ensures.value) (sym c.shares.ensures ∙ c.if-shares.false)) (omega (arith, c.events-more.ensures))
 
 pub loop-next-preserved : goal.loop-next-preserved
 loop-next-preserved g c =
     let s = goes_on _ _ c.loop-next.invariant.stands c.in-Some.ensures.lines c.if-line-gt-MAX_LINES.false c.if-not-next.false _ c.in_ok-directive.ensures
-    (omega (arith, c.events-more.ensures)) in
+    (rw (← c.as_slice.ensures.value) (sym c.shares.ensures ∙ c.if-shares.false)) (omega (arith, c.events-more.ensures)) in
     record { stands = rw (c.events-more.ensures, c.in-Ok.ensures.items) s; short = omega (arith, c.in-Some.ensures.shorter, c.loop-next.invariant.short) }
 
 pub returns-clause-value : goal.returns-clause-value
@@ -31,3 +38,9 @@ returns-clause-value g c = ends c.loop-next.invariant.stands c.in_default.ensure
 
 pub returns-clause-events : goal.returns-clause-events
 returns-clause-events g c = omega (arith, c.loop-next.invariant.stands.total, c.loop-next.invariant.stands.events)
+
+pub returns-clause-lawful : goal.returns-clause-lawful
+returns-clause-lawful g c =
+    let e = ends c.loop-next.invariant.stands c.in_default.ensures.lines in
+    (lines_ok c.args.setting.now c.args.first 0 [] (lines_of c.args.body.now) c.args.body.now c.loop-next.found.items refl
+    (omega (arith, c.requires.first)) (omega arith) e).fit

@@ -1,4 +1,4 @@
-use Rattle.std.proofs.Common.{◌<◌, ◌^◌, length}
+use Rattle.std.proofs.Common.{◌<◌, ◌^◌, [], length}
 use Rattle.smp_script.specs.Lines.{lines_of}
 use Rattle.smp_script.specs.Script.{directives_of}
 use Rattle.smp_script.proofs.Reader.Directives.{Stands}
@@ -6,7 +6,7 @@ use Rattle.smp_script.proofs.script.read_directives.Given as goal
 
 abbrev pub invariant-loop-next : goal.invariant-loop-next
 invariant-loop-next g l = record {
-  stands : Stands l.fn.limit l.line l.events l.found.items (lines_of l.rest) (directives_of l.fn.limit l.fn.first 0 (lines_of l.fn.body));
+  stands : Stands l.fn.setting l.line l.events l.found.items (lines_of l.rest) (directives_of l.fn.setting l.fn.first 0 [] (lines_of l.fn.body));
   short : length l.rest < 2 ^ 32;
 }
 
