@@ -21,7 +21,7 @@ pub nothing_called : NothingCalled
 nothing_called at control zeros outside = zeros_shown at control zeros outside
 
 pub steps_are_told : StepsAreTold
-steps_are_told a at control v shown sees stage may access is = known_step a at control v shown sees stage may access is
+steps_are_told a at control v shown sees stage may access is = known_step shown sees stage may access is
 
 -- the place of a record that a list has
 placed_there : (places : ℕ → RecPlace) (p : RecPlace) (id : ℕ) (calls : List Call) → AllByRecursion (IsPlaced places p) calls → HasRecord id calls → places id ≡ p
@@ -32,7 +32,7 @@ placed_there places p id (call ∷ rest) all (inr h) = placed_there places p id 
 module _ (a : CallState) (at : Word → ℕ) (control : ℕ → ControlValue) (s : Shows a at control) where
   only_there : (id : ℕ) (p : RecPlace) → p ≢ place.Free → IsThere a.held a.queue a.batch a.running id p → a.place id ≡ p
   only_there id place.Free ne h = absurd (ne refl)
-  only_there id place.Held ne h = held_place a at control s (owner id) id h
+  only_there id place.Held ne h = held_place s (owner id) id h
   only_there id (place.Queued cpu) ne h = placed_there a.place (place.Queued cpu) id (a.queue cpu) (s.placed.queued cpu) h
   only_there id (place.Batch cpu) ne h = placed_there a.place (place.Batch cpu) id (a.batch cpu) (s.placed.batched cpu) h
   only_there id (place.Running cpu) ne h = placed_there a.place (place.Running cpu) id (locked_by (a.running cpu)) (s.placed.runs cpu) h

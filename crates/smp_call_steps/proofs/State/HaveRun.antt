@@ -131,7 +131,7 @@ every_sent P (s ∷ rest) f = (
 module _ (a : CallState) (at : Word → ℕ) (control : ℕ → ControlValue) (s : Shows a at control) where
   pub confirmed_sync_calls_ended : ConfirmedSyncCallsEnded a
   confirmed_sync_calls_ended id cpu e =
-      let out = confirmed_out a at control s id e in
+      let out = confirmed_out s id e in
       let ran : List Call = of_class Sync (a.ran cpu) in
       let runs : List Call = of_class Sync (running_call (a.running cpu)) in
       let left : List Call = of_class Sync (a.batch cpu) in
@@ -179,7 +179,7 @@ module _ (a : CallState) (at : Word → ℕ) (control : ℕ → ControlValue) (s
 
   history_run : (cpu : ℕ) (call : Call) → HasCall call (batches (a.taken cpu) ++ a.queue cpu) → HasRunOnce cpu call
   history_run cpu call h e =
-      let out = confirmed_out a at control s call.id e in
+      let out = confirmed_out s call.id e in
       elim (has_either call (batches (a.taken cpu)) (a.queue cpu) h) [
         | inl k ↦ taken_run cpu call out (subst (HasCall call) (sym (s.recorded.drained cpu)) (has_orders call (a.taken cpu) k))
         | inr q ↦ absurd (out.queue cpu (holds_of (IsPlaced a.place (place.Queued cpu)) (a.queue cpu) call (s.placed.queued cpu) q).placed)
