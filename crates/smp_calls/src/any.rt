@@ -1,12 +1,15 @@
 //! A call to any CPU of a mask.
 
-ghost use Rattle.std.specs.Prelude.{◌≡◌, ◌≢◌, true, None, IfOk, IfErr, IfNone, IfSome};
+ghost use Rattle.std.specs.Prelude.{◌≡◌, ◌≢◌, true, None, [], ◌∷◌, IfOk, IfErr, IfNone, IfSome};
 ghost use Rattle.smp_calls.specs.Targets.{IsAny, HasNone};
+ghost use Rattle.smp_calls.specs.Records.{call_by, single_record as single_record_in};
+ghost use Rattle.smp_calls.specs.Ended.{HaveEnded};
 ghost use Rattle.smp_calls.specs.Families.{CallsOne, CallsHere};
 
 use crate::single::call_single;
 use smp_mask::{CpuMask, SmpError};
 use smp_queue::{CallCpu, CallTable, Handler};
+use smp_words::call::Class;
 use std::alloc::Allocator;
 use std::sync::Wait;
 
@@ -44,6 +47,7 @@ pub fn call_any<A: Allocator, R: Wait, H: Handler>(
     ensures queued { IfOk result (λ cpu. cpu ≢ me.old.number → CallsOne H.leads me.old handler.old me.new handler.new cpu func info wait) }
     ensures here { IfOk result (λ cpu. cpu ≡ me.old.number → CallsHere H.leads me.old handler.old me.new handler.new func info wait) }
     ensures refused { IfErr result (λ e. (e ≡ SmpError.NoCpu) × HasNone mask table.now.online me.old.number × (me.new ≡ me.old) × (handler.new ≡ handler.old)) }
+    ensures ended { IfOk result (λ cpu. wait ≡ true → cpu ≢ me.old.number → HaveEnded me.new (λ _. call_by me.old.number (single_record_in true) Class.Sync func info) (cpu ∷ [])) }
 {
     let dst = any_of(mask, table.online(), me.number()).ok_or(SmpError::NoCpu)?;
     call_single(table, rt, me, handler, dst, func, info, wait)?;

@@ -63,6 +63,16 @@ pub record Closes (nr : ℕ) (v : Known) (words : List ℕ) : Type 0 where
   pub below : v.number < nr
   pub absent : (cpu : ℕ) → nr ≤ cpu → Sees calls controls (fresh cpu)
 
+-- these words show some calls of the CPUs of this table, of which this value is one CPU's part
+pub record ClosesWith (t : TableValue) (last : CpuValue) (words : List ℕ) : Type 0 where
+  pub calls : CallState
+  pub controls : ℕ → ControlValue
+  pub shown : Shows calls (number_in words) controls
+  pub view : last ≡ cpu_in t.table calls last.number
+  pub below : last.number < t.nr
+  pub within : t.nr ≤ cpus
+  pub absent : (cpu : ℕ) → t.nr ≤ cpu → Sees calls controls (fresh cpu)
+
 -- all calls have run: what a source has sent to a CPU is what that has taken, in order, and it has run that in drain order
 pub record HaveRun (a : CallState) : Type 0 where
   pub taken : (source cpu : ℕ) → sent_to cpu (a.sent source) ≡ marked_from source (batches_marked (a.taken cpu))

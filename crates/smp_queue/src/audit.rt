@@ -6,7 +6,7 @@ ghost use Rattle.smp_words.specs.declared.word.Word.TheVariants.{Queued, Ran};
 ghost use Rattle.smp_queue.specs.Cells.{number_in};
 ghost use Rattle.smp_queue.specs.Audit.{left_in, IsRow, IsTally, AuditAnswers};
 
-use crate::closing::Closing;
+use crate::closing::ClosedTable;
 use smp_words::Word;
 use smp_words::size::{NR_CPUS, RECORDS};
 use std::alloc::Allocator;
@@ -41,7 +41,7 @@ pub enum Audit {
 }
 
 /// The answer by these words.
-pub(crate) fn answer<A: Allocator>(words: &Closing<A>) -> Audit
+pub(crate) fn answer<A: Allocator>(words: &ClosedTable<A>) -> Audit
     ensures { AuditAnswers (number_in words.now) result }
 {
     let left = count_left(words);
@@ -52,7 +52,7 @@ pub(crate) fn answer<A: Allocator>(words: &Closing<A>) -> Audit
 }
 
 /// What is left.
-fn count_left<A: Allocator>(words: &Closing<A>) -> Left
+fn count_left<A: Allocator>(words: &ClosedTable<A>) -> Left
     ensures { result ≡ left_in (number_in words.now) }
 {
     let mut left = Left {
@@ -71,7 +71,7 @@ fn count_left<A: Allocator>(words: &Closing<A>) -> Left
 }
 
 /// The tally words.
-fn read_tally<A: Allocator>(words: &Closing<A>) -> Tally
+fn read_tally<A: Allocator>(words: &ClosedTable<A>) -> Tally
     ensures { IsTally (number_in words.now) result }
 {
     let mut tally = Tally {
@@ -86,7 +86,7 @@ fn read_tally<A: Allocator>(words: &Closing<A>) -> Tally
 }
 
 /// How many calls this CPU has queued for each.
-fn queued_by<A: Allocator>(words: &Closing<A>, source: u32) -> [u64; NR_CPUS as usize]
+fn queued_by<A: Allocator>(words: &ClosedTable<A>, source: u32) -> [u64; NR_CPUS as usize]
     requires { source < cpus }
     ensures { IsRow (λ to. number_in words.now (Queued source to)) result }
 {
@@ -98,7 +98,7 @@ fn queued_by<A: Allocator>(words: &Closing<A>, source: u32) -> [u64; NR_CPUS as 
 }
 
 /// How many calls from each this CPU has run.
-fn ran_by<A: Allocator>(words: &Closing<A>, cpu: u32) -> [u64; NR_CPUS as usize]
+fn ran_by<A: Allocator>(words: &ClosedTable<A>, cpu: u32) -> [u64; NR_CPUS as usize]
     requires { cpu < cpus }
     ensures { IsRow (λ source. number_in words.now (Ran cpu source)) result }
 {

@@ -42,6 +42,7 @@ mod table;
 
 pub use audit::{Audit, Left, Tally};
 pub use boot::Boot;
+pub use closing::ClosedTable;
 pub use cpu::CallCpu;
 pub use handle::Handled;
 pub use handler::{Handler, Heard};

@@ -26,13 +26,13 @@ ghost use Rattle.smp_queue.specs.Cells.{cells};
 ghost use Rattle.smp_queue.specs.Handling.{Grows, asks, drains};
 ghost use Rattle.smp_queue.specs.Laws.{IsShown};
 ghost use Rattle.smp_queue.specs.Cpu.{TableValue, IsFull, PostAnswers, BeginAnswers, confirmed_at, confirms, sends};
-ghost use Rattle.smp_queue.specs.Audit.{Audited, IfDrained, AreEqual, HasRowsOf, HasZerosFrom};
+ghost use Rattle.smp_queue.specs.Audit.{ClosesWith, Audited, IfDrained, AreEqual, HasRowsOf, HasZerosFrom};
 
-use crate::audit::{Audit, answer};
+use crate::audit::Audit;
 use crate::boot::Boot;
 use crate::cell::CELLS;
 use crate::seat::{next_seat, store};
-use crate::closing::Closing;
+use crate::closing::ClosedTable;
 use crate::cpu::CallCpu;
 use crate::handle::{Handled, handle};
 use crate::handler::Handler;
@@ -308,6 +308,17 @@ impl<A: Allocator> CallTable<A> {
         handle(words, &mut me.seat, me.number, &mut me.ran, handler)
     }
 
+    /// Gives up the table and one of its CPUs: the words as the last step left them, which show calls of which this CPU's
+    /// value is its part. Other CPUs of the table are useless afterwards.
+    ///
+    /// It takes effect at no step, since it owns the table; it does not wait, and nobody must poll any more.
+    pub fn close(self, last: CallCpu) -> ClosedTable<A>
+        requires { last.table ≡ self.table }
+        ensures { ClosesWith self last result }
+    {
+        ClosedTable::of(self.owner, last.seat)
+    }
+
     /// Gives up the table and one of its CPUs. Drained where all queues are empty, all records unlocked and all
     /// CPUs outside `handle`: then each call that was queued has run. Else what is left. Other CPUs of the table
     /// are useless afterwards.
@@ -320,8 +331,8 @@ impl<A: Allocator> CallTable<A> {
         ensures rows { IfDrained result (HasRowsOf last) }
         ensures zeros { IfDrained result (HasZerosFrom self.nr) }
     {
-        let words = Closing::of(self.owner, last.seat);
-        let audit = answer(&words);
+        let words = self.close(last);
+        let audit = words.audit();
         words.free();
         audit
     }

@@ -8,14 +8,15 @@ use Rattle.atomic_table.specs.Table.{State}
 use Rattle.smp_words.specs.Size.{cpus, records}
 use Rattle.smp_call_steps.specs.Calls.{no_calls}
 use Rattle.smp_call_steps.specs.Histories.{sent_to, calls_from}
+use Rattle.smp_call_steps.specs.Known.{told_stage}
 use Rattle.smp_call_steps.specs.Parts.{part_of}
 use Rattle.smp_queue.specs.Names.{Hand, Queued, Ran, Flags, Known, Part, SeatView, Maker, Cpu, Left, Audit}
 use Rattle.smp_queue.specs.Names.audit
 use Rattle.smp_call_steps.proofs.State.Drained.{Still, still_queued, still_ran, equal_tallies, all_ran, all_sent}
-use Rattle.smp_queue.specs.Audit.{Closes, Audited, AuditAnswers, HaveRun, IfDrained, AreEqual, HasRowsOf, HasZerosFrom, has_lock, has_hand, left_in}
+use Rattle.smp_queue.specs.Audit.{Closes, ClosesWith, Audited, AuditAnswers, HaveRun, IfDrained, AreEqual, HasRowsOf, HasZerosFrom, has_lock, has_hand, left_in}
 use Rattle.smp_queue.specs.Audit.{nothing_left}
 use Rattle.smp_queue.specs.Cells.{number_in}
-use Rattle.smp_queue.specs.Cpu.{TableValue, cpu_of}
+use Rattle.smp_queue.specs.Cpu.{TableValue, CpuValue, cpu_of}
 use Rattle.smp_queue.specs.Seat.{SeatValue}
 use Rattle.smp_queue.specs.Rule.{RuledFor}
 use Rattle.smp_queue.proofs.Audits.Auditing.{count_none}
@@ -119,3 +120,29 @@ audited t d words answer e c a = record {
   answers = a;
   drained = drained_run t.nr d.known words answer c a;
 }
+
+-- the words by the value of the CPU that closed the table, and by what it knew
+
+pub closes_with : (t : TableValue) (d : SeatValue) (words : List ℕ) → d.table ≡ t.table → t.nr ≤ cpus → Closes t.nr d.known words → ClosesWith t (cpu_of d) words
+closes_with t d words e within c = record {
+  calls = c.calls;
+  controls = c.controls;
+  shown = c.shown;
+  view = λ i. record { table = e i; number = d.known.number; part = sym c.sees.part i };
+  below = c.below;
+  within = within;
+  absent = c.absent;
+}
+
+module _ (t : TableValue) (last : CpuValue) (words : List ℕ) (c : ClosesWith t last words) where
+  abbrev pub last_seat : SeatValue
+  last_seat = record {
+    table = t.table;
+    known = record { number = last.number; stage = told_stage (c.controls last.number).stage; drain = (c.controls last.number).drain; part = part_of c.calls last.number };
+  }
+
+  pub last_view : cpu_of last_seat ≡ last
+  last_view = sym c.view
+
+  pub last_closes : Closes t.nr last_seat.known words
+  last_closes = record { calls = c.calls; controls = c.controls; shown = c.shown; sees = record { stage = refl; drain = refl; part = refl }; below = c.below; absent = c.absent }

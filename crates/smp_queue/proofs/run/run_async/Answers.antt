@@ -13,7 +13,7 @@ use Rattle.smp_queue.proofs.Handling.Running.{tally_running, has_run}
 use Rattle.smp_queue.proofs.run.run_async.Goals as goal
 
 pub begin_async-begun-requires-clause-class : goal.begin_async-begun-requires-clause-class
-begin_async-begun-requires-clause-class g c = ends_async (lives_stands _ c.requires.at.lives (handle.BeginAsync c.args.call c.args.next) c.requires.at.stage_is).1
+begin_async-begun-requires-clause-class g c = ends_async (lives_stands c.requires.at.lives (handle.BeginAsync c.args.call c.args.next) c.requires.at.stage_is).1
 
 pub one_more-ran-requires : goal.one_more-ran-requires
 one_more-ran-requires g c =

@@ -13,7 +13,7 @@ use Rattle.smp_queue.proofs.Handling.Running.{tally_running, has_run}
 use Rattle.smp_queue.proofs.run.run_sync.Goals as goal
 
 pub begin_sync-begun-requires-clause-class : goal.begin_sync-begun-requires-clause-class
-begin_sync-begun-requires-clause-class g c = walks_sync (lives_stands _ c.requires.at.lives (handle.BeginSync c.args.walk c.args.call c.args.next) c.requires.at.stage_is).1
+begin_sync-begun-requires-clause-class g c = walks_sync (lives_stands c.requires.at.lives (handle.BeginSync c.args.walk c.args.call c.args.next) c.requires.at.stage_is).1
 
 pub one_more-ran-requires : goal.one_more-ran-requires
 one_more-ran-requires g c =

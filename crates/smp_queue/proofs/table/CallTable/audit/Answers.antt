@@ -1,28 +1,28 @@
-use Rattle.std.proofs.Common.{ℕ, subst, ap, ◌∙◌}
-use Rattle.smp_queue.specs.Audit.{Closes, Audited, IfDrained, HasRowsOf}
-use Rattle.smp_queue.proofs.Audits.Closed.{drained_equal, drained_rows, drained_zeros, audited}
+use Rattle.std.proofs.Common.{subst, refl}
+use Rattle.smp_queue.specs.Audit.{Audited, IfDrained, HasRowsOf}
+use Rattle.smp_queue.proofs.Audits.Closed.{last_seat, last_view, last_closes, drained_equal, drained_rows, drained_zeros, audited}
 use Rattle.smp_queue.proofs.table.CallTable.audit.Goals as goal
 
 pub returns-clause-audited : goal.returns-clause-audited
 returns-clause-audited g c =
-    let nr = c.self.invariant.key_is ∙ ap (λ t. t.nr) c.self.view_is in
-    let closes = subst (λ (n : ℕ). Closes n c.last.inside.seat.known c.of-words.result) nr c.of-words.ensures in
-    subst (λ last. Audited c.args.self last c.answer-audit.result) c.last.view_is
-    (audited c.args.self c.last.inside.seat c.of-words.result c.answer-audit.result
-        (ap (λ l. l.table) c.last.view_is ∙ c.requires) closes c.answer-audit.ensures)
+    let words = c.close-words.result in
+    let e = c.close-words.ensures in
+    subst (λ last. Audited c.args.self last c.audit-audit.result) (last_view c.args.self c.args.last words e)
+    (audited c.args.self (last_seat c.args.self c.args.last words e) words c.audit-audit.result refl (last_closes c.args.self c.args.last words e) c.audit-audit.ensures)
 
 pub returns-clause-equal : goal.returns-clause-equal
-returns-clause-equal g c = drained_equal _ c.last.inside.seat.known c.of-words.result c.answer-audit.result c.of-words.ensures c.answer-audit.ensures
+returns-clause-equal g c =
+    let words = c.close-words.result in
+    drained_equal _ _ words c.audit-audit.result (last_closes c.args.self c.args.last words c.close-words.ensures) c.audit-audit.ensures
 
 pub returns-clause-rows : goal.returns-clause-rows
 returns-clause-rows g c =
-    let nr = c.self.invariant.key_is in
-    let closes = subst (λ (n : ℕ). Closes n c.last.inside.seat.known c.of-words.result) nr c.of-words.ensures in
-    subst (λ last. IfDrained c.answer-audit.result (HasRowsOf last)) c.last.view_is
-    (drained_rows c.self.inside.nr c.last.inside.seat c.of-words.result c.answer-audit.result c.self.invariant.limits.within closes c.answer-audit.ensures)
+    let words = c.close-words.result in
+    let e = c.close-words.ensures in
+    subst (λ last. IfDrained c.audit-audit.result (HasRowsOf last)) (last_view c.args.self c.args.last words e)
+    (drained_rows c.args.self.nr (last_seat c.args.self c.args.last words e) words c.audit-audit.result e.within (last_closes c.args.self c.args.last words e) c.audit-audit.ensures)
 
 pub returns-clause-zeros : goal.returns-clause-zeros
 returns-clause-zeros g c =
-    let nr = c.self.invariant.key_is ∙ ap (λ t. t.nr) c.self.view_is in
-    let closes = subst (λ (n : ℕ). Closes n c.last.inside.seat.known c.of-words.result) nr c.of-words.ensures in
-    drained_zeros c.args.self.nr c.last.inside.seat.known c.of-words.result c.answer-audit.result closes c.answer-audit.ensures
+    let words = c.close-words.result in
+    drained_zeros c.args.self.nr _ words c.audit-audit.result (last_closes c.args.self c.args.last words c.close-words.ensures) c.audit-audit.ensures

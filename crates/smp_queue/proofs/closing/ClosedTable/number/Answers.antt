@@ -1,7 +1,7 @@
 use Rattle.std.proofs.Common.{ap, ◌∙◌}
 use Rattle.smp_queue.specs.Cells.{number_in}
 use Rattle.smp_queue.proofs.TheRule.Cells.{number_got}
-use Rattle.smp_queue.proofs.closing.Closing.number.Goals as goal
+use Rattle.smp_queue.proofs.closing.ClosedTable.number.Goals as goal
 
 pub returns : goal.returns
 returns g c = number_got _ c.args.word _ _ c.cell.ensures c.word.ensures ∙ ap (λ words. number_in words c.args.word) c.self.view_is

@@ -2,7 +2,7 @@ use Rattle.std.proofs.Common.{List, ℕ, subst, ap, ◌∙◌}
 use mathlib.Core.Option.{some}
 use Rattle.smp_queue.specs.Audit.{Closes}
 use Rattle.smp_queue.proofs.Audits.Closed.{closes}
-use Rattle.smp_queue.proofs.closing.Closing.of.Goals as goal
+use Rattle.smp_queue.proofs.closing.ClosedTable.of.Goals as goal
 
 pub returns : goal.returns
 returns g c =
