@@ -1,11 +1,12 @@
 -- The steps that acknowledge a phase and set the next one, by a CPU's stage.
+use Rattle.smp_stop_steps.proofs.Same.{moved_seat}
 use Rattle.std.proofs.Common.{◌≡◌, ℕ, ◌+◌, ◌-◌, ◌≤◌, Bool, true, false, nat_lt, le-ltb, ne_eqb, ◌==◌, ◌||◌, cond, sym, subst, refl, ap, ◌∙◌, ◌⊎◌, inl}
 use Rattle.std.proofs.Common.{inr, arith, Option, Some, None, []}
 use Rattle.smp_words.proofs.Puts.{at_test}
 use Rattle.smp_stop_steps.proofs.Facts.{ack_bounds, ack_bounds_patched}
 use Rattle.smp_stop_steps.proofs.RoundSteps.{ack_small}
 use Rattle.smp_stop_steps.proofs.Rounds.{ack_stored, ack_subtracted, ack_subtracted_patched, state_stored}
-use Rattle.smp_stop_steps.proofs.StageSteps.{less_one, put_same_fn}
+use Rattle.smp_stop_steps.proofs.StageSteps.{less_one}
 use Rattle.smp_words.specs.Put.{put, put_word}
 use Rattle.smp_stop_steps.specs.Counts.{mask_weight}
 use Rattle.smp_stop_steps.specs.Labels.{patch_answer}
@@ -47,10 +48,6 @@ module _ (u : Setup) (p : StopState) (at : Word → ℕ) (seat : ℕ → Seat) (
 
   at_source : (stage : RoundStage) → c.stage ≡ Some (Advance v stage) → OwnsIf c.is_open (source me)
   at_source stage e = subst (λ (st : Option StopStage). SourceSits c.is_open st (source me)) e s.source
-
-  moved_seat : (p' : StopState) (at' : Word → ℕ) (x : Seat) → StopShows u p' at' (put seat me x) source → StopShows u p' at' (put seat me x)
-      (put source me (source me))
-  moved_seat p' at' x shows = subst (λ y. StopShows u p' at' (put seat me x) y) (sym (put_same_fn source me)) shows
 
   -- where the CPU stands once the phase is acknowledged
   acked_sits : (answer : ℕ) (ran : Bool) (work : Work) → IsLoaded v work → OwnsIf c.is_open (source me) → c.interrupts ≡ nat_lt (v.acked + 1) 2 → (b : Bool) →
@@ -105,7 +102,7 @@ module _ (u : Setup) (p : StopState) (at : Word → ℕ) (seat : ℕ → Seat) (
             source_after = source me;
             shows = subst (λ n. StopShows u (state_after u p at c me (Advance v (round.Acknowledge answer ran))) (put_word at (Slot v.slot Ack) n)
                 (put seat me next) (put source me (source me))) (sym less)
-                (moved_seat (state_after u p at c me (Advance v (round.Acknowledge answer ran))) (put_word at (Slot v.slot Ack) (at (Slot v.slot Ack) - 1)) next
+                (moved_seat u seat source me (state_after u p at c me (Advance v (round.Acknowledge answer ran))) (put_word at (Slot v.slot Ack) (at (Slot v.slot Ack) - 1)) next
                 (ack_subtracted u p at seat source h v.slot me work v.acked answer is
                 (λ two. has_called work loaded ran calm (p.calling me) (subst (λ (st : Option StopStage). CarriesAt c.visit st (p.calling me)) e k) two)));
             sits = acked_sits answer ran work loaded y
@@ -123,7 +120,7 @@ module _ (u : Setup) (p : StopState) (at : Word → ℕ) (seat : ℕ → Seat) (
             source_after = source me;
             shows = subst (λ n. StopShows u (state_after u p at c me (Advance v (round.Acknowledge answer ran))) (put_word at (Slot v.slot Ack) n)
                 (put seat me next) (put source me (source me))) (sym less)
-                (moved_seat (state_after u p at c me (Advance v (round.Acknowledge answer ran))) (put_word at (Slot v.slot Ack) (at (Slot v.slot Ack) - 1)) next
+                (moved_seat u seat source me (state_after u p at c me (Advance v (round.Acknowledge answer ran))) (put_word at (Slot v.slot Ack) (at (Slot v.slot Ack) - 1)) next
                 (subst (λ x. StopShows u (state_after u p at c me (Advance v (round.Acknowledge answer ran))) (put_word at (Slot v.slot Ack)
                 (at (Slot v.slot Ack) - 1)) (put seat me x) source) three
                 (ack_subtracted_patched u p at seat source h v.slot me work count (plan_at u work count) answer is)));
@@ -141,7 +138,7 @@ module _ (u : Setup) (p : StopState) (at : Word → ℕ) (seat : ℕ → Seat) (
         source_after = source me;
         shows = subst (λ m. StopShows u (told u p me act.Store (Slot v.slot Ack) None (Some (mask_weight u.cpus m)) 0) (put_word at (Slot v.slot Ack)
             (mask_weight u.cpus m)) (put seat me next) (put source me (source me))) (sym loaded.mask)
-            (moved_seat (told u p me act.Store (Slot v.slot Ack) None (Some (mask_weight u.cpus work.mask)) 0) (put_word at (Slot v.slot Ack)
+            (moved_seat u seat source me (told u p me act.Store (Slot v.slot Ack) None (Some (mask_weight u.cpus work.mask)) 0) (put_word at (Slot v.slot Ack)
             (mask_weight u.cpus work.mask)) next
             (ack_stored u p at seat source h v.slot me work v.acked v.acked 0 r.1.2));
         sits = record {
@@ -162,7 +159,7 @@ module _ (u : Setup) (p : StopState) (at : Word → ℕ) (seat : ℕ → Seat) (
       record {
         seat_after = next;
         source_after = source me;
-        shows = moved_seat (state_after u p at c me (Advance v (round.Raise ran))) (at_then u at c me (Advance v (round.Raise ran))) next
+        shows = moved_seat u seat source me (state_after u p at c me (Advance v (round.Raise ran))) (at_then u at c me (Advance v (round.Raise ran))) next
             (state_stored u p at seat source h v.slot me work v.acked v.acked 0 r.1.2);
         sits = record {
           below = s.below;

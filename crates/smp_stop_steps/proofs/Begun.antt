@@ -1,7 +1,7 @@
 -- A command that may begin begins where its CPU sits, and changes no stop.
 use Rattle.std.proofs.Common.{◌≡◌, ℕ, ◌+◌, ◌<◌, false, cond, sym, subst, refl, ap, ◌∙◌, inl, arith, Option, Some, None, List, length}
 use Rattle.smp_words.proofs.Puts.{at_test, put_all}
-use Rattle.smp_stop_steps.proofs.StageSteps.{put_same_fn}
+use Rattle.smp_stop_steps.proofs.Same.{put_same_fn}
 use Rattle.smp_stop_steps.proofs.Values.{stop_controls_by_cpu}
 use Rattle.smp_words.specs.Put.{put}
 use Rattle.smp_stop_steps.specs.Begins.{MayBegin}

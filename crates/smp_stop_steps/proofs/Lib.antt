@@ -26,6 +26,7 @@ pub mod Patching
 pub mod Nudging
 pub mod Facts
 -- the steps of the commands, by their stages
+pub mod Same
 pub mod StageSteps
 pub mod RoundSteps
 pub mod AckSteps
