@@ -1,4 +1,5 @@
 -- The steps that acknowledge a phase and set the next one, by a CPU's stage.
+use Rattle.smp_stop_steps.proofs.Bools.{or_false, or_true}
 use Rattle.smp_stop_steps.proofs.Same.{moved_seat}
 use Rattle.std.proofs.Common.{◌≡◌, ℕ, ◌+◌, ◌-◌, ◌≤◌, Bool, true, false, nat_lt, le-ltb, ne_eqb, ◌==◌, ◌||◌, cond, sym, subst, refl, ap, ◌∙◌, ◌⊎◌, inl}
 use Rattle.std.proofs.Common.{inr, arith, Option, Some, None, []}
@@ -33,14 +34,6 @@ use Rattle.smp_mask.specs.Mask.{has}
 use Rattle.smp_stop_steps.specs.Carries.{CarriesIn, CarriesAt, IsAcking}
 use Rattle.smp_stop_steps.specs.Callings.{HasCalled}
 
-or_false : (b : Bool) → b || false ≡ b
-or_false true = refl
-or_false false = refl
-
-or_true : (b : Bool) → b || true ≡ true
-or_true true = refl
-or_true false = refl
-
 module _ (u : Setup) (p : StopState) (at : Word → ℕ) (seat : ℕ → Seat) (source : ℕ → Source) (h : StopShows u p at seat source) (c : StopControlValue) (me : ℕ)
     (s : Sits u me (at Gate) c (seat me) (source me)) (v : Visit) where
   in_round : (stage : RoundStage) → c.stage ≡ Some (Advance v stage) → (c.visit ≡ Some v) × SitsInRound u me c.changes v stage (seat me)
@@ -65,7 +58,7 @@ module _ (u : Setup) (p : StopState) (at : Word → ℕ) (seat : ℕ → Seat) (
   acked_sits answer ran work loaded y irq false = record {
     below = s.below;
     irq = at_test (v.acked + 1) 4 (λ d. cond d true c.interrupts ≡ nat_lt (v.acked + 1) 2 || d) (λ _. sym (or_true (nat_lt (v.acked + 1) 2)))
-        (λ _. irq ∙ sym (or_false (nat_lt (v.acked + 1) 2)));
+        (λ _. irq ∙ sym (or_false (nat_lt (v.acked + 1) 2) false refl));
     seat = (work, record { kind = loaded.kind; mask = loaded.mask; active = loaded.active }, refl);
     source = y;
     gate_held = tt;
@@ -106,7 +99,7 @@ module _ (u : Setup) (p : StopState) (at : Word → ℕ) (seat : ℕ → Seat) (
                 (ack_subtracted u p at seat source h v.slot me work v.acked answer is
                 (λ two. has_called work loaded ran calm (p.calling me) (subst (λ (st : Option StopStage). CarriesAt c.visit st (p.calling me)) e k) two)));
             sits = acked_sits answer ran work loaded y
-                (s.irq ∙ (ap irq_of is ∙ (ap (λ b. nat_lt (v.acked + 1) 2 || b) (ne_eqb v.acked 4 (λ z. omega arith)) ∙ or_false (nat_lt (v.acked + 1) 2))))
+                (s.irq ∙ (ap irq_of is ∙ (ap (λ b. nat_lt (v.acked + 1) 2 || b) (ne_eqb v.acked 4 (λ z. omega arith)) ∙ or_false (nat_lt (v.acked + 1) 2) false refl)))
                 (at (Slot v.slot Ack) == 1);
           }
       either work loaded most (inr (two, runs, (count, answers, is))) y =
@@ -164,7 +157,7 @@ module _ (u : Setup) (p : StopState) (at : Word → ℕ) (seat : ℕ → Seat) (
         sits = record {
           below = s.below;
           irq = at_test v.acked 4 (λ d. cond d true c.interrupts ≡ nat_lt v.acked 2 || d) (λ _. sym (or_true (nat_lt v.acked 2)))
-              (λ _. off ∙ sym (or_false (nat_lt v.acked 2)));
+              (λ _. off ∙ sym (or_false (nat_lt v.acked 2) false refl));
           seat = subst (λ x. SitsAtRest x next) (sym r.0) (work, r.1.1, refl);
           source = at_source (round.Raise ran) e;
           gate_held = tt;

@@ -1,7 +1,8 @@
 -- A step that leaves a CPU's seat or its source as it was.
-use Rattle.std.proofs.Common.{◌≡◌, ℕ, cond, sym, subst, refl, ap}
+use Rattle.std.proofs.Common.{◌≡◌, ℕ, Bool, true, false, cond, sym, subst, refl, ap}
 use Rattle.smp_words.proofs.Puts.{at_test}
-use Rattle.smp_words.specs.Put.{put}
+use Rattle.smp_words.proofs.SameWords.{same_word-true}
+use Rattle.smp_words.specs.Put.{put, put_word, same_word}
 use Rattle.smp_words.specs.declared.word.Word.{Word}
 use Rattle.smp_stop_steps.specs.Seats.{Seat}
 use Rattle.smp_stop_steps.specs.Shows.{StopShows}
@@ -14,6 +15,14 @@ put_kept {A} f i j = at_test j i (λ b. cond b (f i) (f j) ≡ f j) (λ e. ap f 
 
 pub put_same_fn : {A : Type 0} (f : ℕ → A) (i : ℕ) → put f i (f i) ≡ f
 put_same_fn {A} f i = λ k j. put_kept f i j k
+
+-- a number put where it is
+pub word_same : (at : Word → ℕ) (w : Word) → put_word at w (at w) ≡ at
+word_same at w = λ k x. go x (same_word x w) refl k
+  where
+    go : (x : Word) (b : Bool) → same_word x w ≡ b → cond b (at w) (at x) ≡ at x
+    go x true e = ap at (sym (same_word-true x w e))
+    go x false e = refl
 
 module _ (u : Setup) (seat : ℕ → Seat) (source : ℕ → Source) (me : ℕ) where
   -- a step that moves neither

@@ -1,4 +1,5 @@
 -- Each step of a CPU's command keeps what the words show of the stops, and what was seen of it tells the stops after it.
+use Rattle.smp_stop_steps.proofs.Gates.{gate_mine}
 use Rattle.smp_stop_steps.proofs.Same.{moved_source, still}
 use Rattle.smp_stop_steps.proofs.Patched.{lawful_when_on}
 use Rattle.smp_labels.proofs.Patched.{left_in_form, xor_same}
@@ -6,14 +7,13 @@ use Rattle.smp_labels.specs.Kinds.{xor}
 use Rattle.smp_labels.specs.Keys.{is_on, count_after, count_or, IsKeyWord}
 use Rattle.std.proofs.Common.{◌≡◌, ◌≢◌, ℕ, ◌+◌, ◌-◌, ◌^◌, ◌<◌, Bool, true, false, eq-eqb, eqb-true, ◌==◌, cond, sym, subst, refl, ap, ◌∙◌, ◌⊎◌, inl}
 use Rattle.std.proofs.Common.{inr, arith, nat_lt, Option, Some, None, length}
-use Rattle.smp_words.proofs.Puts.{at_test}
 use Rattle.smp_stop_steps.proofs.Facts.{work_words}
 use Rattle.smp_stop_steps.proofs.Patching.{key_read, site_read, key_exchanged}
 use Rattle.smp_stop_steps.proofs.Sources.{done_loaded, field_stored, gate_opened, gate_taken, kind_back, result_loaded, roll_stored}
 use Rattle.smp_words.specs.Access.{one_less}
 use Rattle.smp_words.specs.Put.{put, put_word}
 use Rattle.smp_stop_steps.specs.Seats.{In, Rests, Seat}
-use Rattle.smp_stop_steps.specs.Shows.{StopShows, gate_word}
+use Rattle.smp_stop_steps.specs.Shows.{StopShows}
 use Rattle.smp_stop_steps.specs.Sits.{HoldsGate, OwnsIf, Sits, SitsAt, SitsAtRest, SourceSits, IsNudge}
 use Rattle.smp_stop_steps.specs.Slots.{DoneShows, begun_value, order}
 use Rattle.smp_words.specs.Kinds.{kind_at}
@@ -60,11 +60,6 @@ module _ (u : Setup) (p : StopState) (at : Word → ℕ) (seat : ℕ → Seat) (
   abbrev AtRest : Type 0
   AtRest = SitsAtRest c.visit (seat me)
 
-  -- the gate
-  holder : (g : Option ℕ) → gate_word g ≡ me + 1 → g ≡ Some me
-  holder None e = absurd (omega arith)
-  holder (Some n) e = ap Some (let x : n ≡ me = omega arith in x)
-
   gate_is_taken : (b : Bool) → (at Gate == 0) ≡ b →
       StopShows u (gate_told p me act.Cas (cond b (Some (me + 1)) None)) (cond b (put_word at Gate (me + 1)) at) seat source
   gate_is_taken true e = gate_taken u p at seat source h me 0 (eqb-true (at Gate) 0 e)
@@ -97,7 +92,7 @@ module _ (u : Setup) (p : StopState) (at : Word → ℕ) (seat : ℕ → Seat) (
         seat_after = seat me;
         source_after = source me;
         shows = still u seat source me (state_after u p at c me OpenGate) (at_then u at c me OpenGate) (gate_opened u p at seat source h me 0
-            (holder p.gate (sym h.gate ∙ g)) (not_drafting y));
+            (gate_mine me p.gate (sym h.gate ∙ g)) (not_drafting y));
         sits = record { below = s.below; irq = s.irq; seat = x; source = y; gate_held = tt };
       }
 
