@@ -1,11 +1,13 @@
 -- The steps that acknowledge a phase and set the next one, by a CPU's stage.
+use Rattle.smp_stop_steps.proofs.Bools.{or_false, or_true}
+use Rattle.smp_stop_steps.proofs.Same.{moved_seat}
 use Rattle.std.proofs.Common.{◌≡◌, ℕ, ◌+◌, ◌-◌, ◌≤◌, Bool, true, false, nat_lt, le-ltb, ne_eqb, ◌==◌, ◌||◌, cond, sym, subst, refl, ap, ◌∙◌, ◌⊎◌, inl}
 use Rattle.std.proofs.Common.{inr, arith, Option, Some, None, []}
 use Rattle.smp_words.proofs.Puts.{at_test}
 use Rattle.smp_stop_steps.proofs.Facts.{ack_bounds, ack_bounds_patched}
 use Rattle.smp_stop_steps.proofs.RoundSteps.{ack_small}
 use Rattle.smp_stop_steps.proofs.Rounds.{ack_stored, ack_subtracted, ack_subtracted_patched, state_stored}
-use Rattle.smp_stop_steps.proofs.StageSteps.{less_one, put_same_fn}
+use Rattle.smp_stop_steps.proofs.StageSteps.{less_one}
 use Rattle.smp_words.specs.Put.{put, put_word}
 use Rattle.smp_stop_steps.specs.Counts.{mask_weight}
 use Rattle.smp_stop_steps.specs.Labels.{patch_answer}
@@ -32,14 +34,6 @@ use Rattle.smp_mask.specs.Mask.{has}
 use Rattle.smp_stop_steps.specs.Carries.{CarriesIn, CarriesAt, IsAcking}
 use Rattle.smp_stop_steps.specs.Callings.{HasCalled}
 
-or_false : (b : Bool) → b || false ≡ b
-or_false true = refl
-or_false false = refl
-
-or_true : (b : Bool) → b || true ≡ true
-or_true true = refl
-or_true false = refl
-
 module _ (u : Setup) (p : StopState) (at : Word → ℕ) (seat : ℕ → Seat) (source : ℕ → Source) (h : StopShows u p at seat source) (c : StopControlValue) (me : ℕ)
     (s : Sits u me (at Gate) c (seat me) (source me)) (v : Visit) where
   in_round : (stage : RoundStage) → c.stage ≡ Some (Advance v stage) → (c.visit ≡ Some v) × SitsInRound u me c.changes v stage (seat me)
@@ -47,10 +41,6 @@ module _ (u : Setup) (p : StopState) (at : Word → ℕ) (seat : ℕ → Seat) (
 
   at_source : (stage : RoundStage) → c.stage ≡ Some (Advance v stage) → OwnsIf c.is_open (source me)
   at_source stage e = subst (λ (st : Option StopStage). SourceSits c.is_open st (source me)) e s.source
-
-  moved_seat : (p' : StopState) (at' : Word → ℕ) (x : Seat) → StopShows u p' at' (put seat me x) source → StopShows u p' at' (put seat me x)
-      (put source me (source me))
-  moved_seat p' at' x shows = subst (λ y. StopShows u p' at' (put seat me x) y) (sym (put_same_fn source me)) shows
 
   -- where the CPU stands once the phase is acknowledged
   acked_sits : (answer : ℕ) (ran : Bool) (work : Work) → IsLoaded v work → OwnsIf c.is_open (source me) → c.interrupts ≡ nat_lt (v.acked + 1) 2 → (b : Bool) →
@@ -68,7 +58,7 @@ module _ (u : Setup) (p : StopState) (at : Word → ℕ) (seat : ℕ → Seat) (
   acked_sits answer ran work loaded y irq false = record {
     below = s.below;
     irq = at_test (v.acked + 1) 4 (λ d. cond d true c.interrupts ≡ nat_lt (v.acked + 1) 2 || d) (λ _. sym (or_true (nat_lt (v.acked + 1) 2)))
-        (λ _. irq ∙ sym (or_false (nat_lt (v.acked + 1) 2)));
+        (λ _. irq ∙ sym (or_false (nat_lt (v.acked + 1) 2) false refl));
     seat = (work, record { kind = loaded.kind; mask = loaded.mask; active = loaded.active }, refl);
     source = y;
     gate_held = tt;
@@ -105,11 +95,11 @@ module _ (u : Setup) (p : StopState) (at : Word → ℕ) (seat : ℕ → Seat) (
             source_after = source me;
             shows = subst (λ n. StopShows u (state_after u p at c me (Advance v (round.Acknowledge answer ran))) (put_word at (Slot v.slot Ack) n)
                 (put seat me next) (put source me (source me))) (sym less)
-                (moved_seat (state_after u p at c me (Advance v (round.Acknowledge answer ran))) (put_word at (Slot v.slot Ack) (at (Slot v.slot Ack) - 1)) next
+                (moved_seat u seat source me (state_after u p at c me (Advance v (round.Acknowledge answer ran))) (put_word at (Slot v.slot Ack) (at (Slot v.slot Ack) - 1)) next
                 (ack_subtracted u p at seat source h v.slot me work v.acked answer is
                 (λ two. has_called work loaded ran calm (p.calling me) (subst (λ (st : Option StopStage). CarriesAt c.visit st (p.calling me)) e k) two)));
             sits = acked_sits answer ran work loaded y
-                (s.irq ∙ (ap irq_of is ∙ (ap (λ b. nat_lt (v.acked + 1) 2 || b) (ne_eqb v.acked 4 (λ z. omega arith)) ∙ or_false (nat_lt (v.acked + 1) 2))))
+                (s.irq ∙ (ap irq_of is ∙ (ap (λ b. nat_lt (v.acked + 1) 2 || b) (ne_eqb v.acked 4 (λ z. omega arith)) ∙ or_false (nat_lt (v.acked + 1) 2) false refl)))
                 (at (Slot v.slot Ack) == 1);
           }
       either work loaded most (inr (two, runs, (count, answers, is))) y =
@@ -123,7 +113,7 @@ module _ (u : Setup) (p : StopState) (at : Word → ℕ) (seat : ℕ → Seat) (
             source_after = source me;
             shows = subst (λ n. StopShows u (state_after u p at c me (Advance v (round.Acknowledge answer ran))) (put_word at (Slot v.slot Ack) n)
                 (put seat me next) (put source me (source me))) (sym less)
-                (moved_seat (state_after u p at c me (Advance v (round.Acknowledge answer ran))) (put_word at (Slot v.slot Ack) (at (Slot v.slot Ack) - 1)) next
+                (moved_seat u seat source me (state_after u p at c me (Advance v (round.Acknowledge answer ran))) (put_word at (Slot v.slot Ack) (at (Slot v.slot Ack) - 1)) next
                 (subst (λ x. StopShows u (state_after u p at c me (Advance v (round.Acknowledge answer ran))) (put_word at (Slot v.slot Ack)
                 (at (Slot v.slot Ack) - 1)) (put seat me x) source) three
                 (ack_subtracted_patched u p at seat source h v.slot me work count (plan_at u work count) answer is)));
@@ -141,7 +131,7 @@ module _ (u : Setup) (p : StopState) (at : Word → ℕ) (seat : ℕ → Seat) (
         source_after = source me;
         shows = subst (λ m. StopShows u (told u p me act.Store (Slot v.slot Ack) None (Some (mask_weight u.cpus m)) 0) (put_word at (Slot v.slot Ack)
             (mask_weight u.cpus m)) (put seat me next) (put source me (source me))) (sym loaded.mask)
-            (moved_seat (told u p me act.Store (Slot v.slot Ack) None (Some (mask_weight u.cpus work.mask)) 0) (put_word at (Slot v.slot Ack)
+            (moved_seat u seat source me (told u p me act.Store (Slot v.slot Ack) None (Some (mask_weight u.cpus work.mask)) 0) (put_word at (Slot v.slot Ack)
             (mask_weight u.cpus work.mask)) next
             (ack_stored u p at seat source h v.slot me work v.acked v.acked 0 r.1.2));
         sits = record {
@@ -162,12 +152,12 @@ module _ (u : Setup) (p : StopState) (at : Word → ℕ) (seat : ℕ → Seat) (
       record {
         seat_after = next;
         source_after = source me;
-        shows = moved_seat (state_after u p at c me (Advance v (round.Raise ran))) (at_then u at c me (Advance v (round.Raise ran))) next
+        shows = moved_seat u seat source me (state_after u p at c me (Advance v (round.Raise ran))) (at_then u at c me (Advance v (round.Raise ran))) next
             (state_stored u p at seat source h v.slot me work v.acked v.acked 0 r.1.2);
         sits = record {
           below = s.below;
           irq = at_test v.acked 4 (λ d. cond d true c.interrupts ≡ nat_lt v.acked 2 || d) (λ _. sym (or_true (nat_lt v.acked 2)))
-              (λ _. off ∙ sym (or_false (nat_lt v.acked 2)));
+              (λ _. off ∙ sym (or_false (nat_lt v.acked 2) false refl));
           seat = subst (λ x. SitsAtRest x next) (sym r.0) (work, r.1.1, refl);
           source = at_source (round.Raise ran) e;
           gate_held = tt;

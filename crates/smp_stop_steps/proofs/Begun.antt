@@ -1,12 +1,13 @@
 -- A command that may begin begins where its CPU sits, and changes no stop.
-use Rattle.std.proofs.Common.{◌≡◌, ℕ, ◌+◌, ◌<◌, false, cond, sym, subst, refl, ap, ◌∙◌, inl, arith, Option, Some, None, List, length}
+use Rattle.smp_stop_steps.proofs.Gates.{gate_mine}
+use Rattle.std.proofs.Common.{◌≡◌, ℕ, ◌<◌, false, cond, sym, subst, refl, ◌∙◌, inl, arith, Option, Some, None, List, length}
 use Rattle.smp_words.proofs.Puts.{at_test, put_all}
-use Rattle.smp_stop_steps.proofs.StageSteps.{put_same_fn}
+use Rattle.smp_stop_steps.proofs.Same.{put_same_fn}
 use Rattle.smp_stop_steps.proofs.Values.{stop_controls_by_cpu}
 use Rattle.smp_words.specs.Put.{put}
 use Rattle.smp_stop_steps.specs.Begins.{MayBegin}
 use Rattle.smp_stop_steps.specs.Seats.{Rests, Seat}
-use Rattle.smp_stop_steps.specs.Shows.{StopShows, gate_word}
+use Rattle.smp_stop_steps.specs.Shows.{StopShows}
 use Rattle.smp_stop_steps.specs.Sits.{OwnsIf, Sits, SitsAt, SitsAtRest, SitsIn, SourceSits}
 use Rattle.smp_stop_steps.specs.Sources.{Drafts, Shut, Source, SourceShows}
 use Rattle.smp_stop_steps.specs.Stages.{StopControlValue, stop_goes}
@@ -37,10 +38,6 @@ module _ (u : Setup) (p : StopState) (at : Word → ℕ) (seat : ℕ → Seat) (
 
   in_visit : (v : Visit) → c.visit ≡ Some v → SitsIn v v.acked Rests (seat me)
   in_visit v e = subst (λ x. SitsAtRest x (seat me)) e at_rest
-
-  holder : (g : Option ℕ) → gate_word g ≡ me + 1 → g ≡ Some me
-  holder None e = absurd (omega arith)
-  holder (Some n) e = ap Some (let x : n ≡ me = omega arith in x)
 
   -- the source after it, and what the words show then
   pub begun_shown : (stage : StopStage) → MayBegin u me (at Gate) c stage → (y : Source) × (StopShows u p at seat (put source me y)) × Sits u me (at Gate)
@@ -77,7 +74,7 @@ module _ (u : Setup) (p : StopState) (at : Word → ℕ) (seat : ℕ → Seat) (
           sources = put_all (λ j x. SourceShows u p.gate (p.now.stop j) (λ f. at (Slot j f)) j x) source me (Drafts work 0)
               record {
                 shut = shut;
-                holds = holder p.gate (sym h.gate ∙ m.0);
+                holds = gate_mine me p.gate (sym h.gate ∙ m.0);
                 is_work = m.2;
                 stored = λ f low. absurd (let z : ⊥ = omega (arith, low) in z);
                 told = record {

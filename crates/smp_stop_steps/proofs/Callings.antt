@@ -1,5 +1,6 @@
 -- The functions that run, and who is to store done, after a step.
-use Rattle.std.proofs.Common.{◌≡◌, ◌≢◌, ℕ, ◌+◌, ◌≤◌, Bool, true, false, ◌==◌, ◌&&◌, ◌⊎◌, inl, inr, ⊎_elim, cond, List, ne_eqb, sym, subst, refl, ap}
+use Rattle.smp_stop_steps.proofs.Bools.{both_true}
+use Rattle.std.proofs.Common.{◌≡◌, ◌≢◌, ℕ, ◌+◌, Bool, true, false, ◌==◌, ◌&&◌, ◌⊎◌, inl, inr, ⊎_elim, cond, List, ne_eqb, sym, subst, refl, ap}
 use Rattle.std.proofs.Common.{◌∙◌, arith, ◌||◌, eqb-true}
 use Rattle.smp_mask.specs.Mask.{has}
 use Rattle.smp_words.proofs.Puts.{at_test, put_all, put_both}
@@ -7,15 +8,15 @@ use Rattle.smp_words.specs.Put.{put}
 use Rattle.smp_words.specs.declared.work.Kind.{Kind as KindOf}
 use Rattle.smp_words.specs.declared.work.Kind.TheVariants.{One, Multi, Patch}
 use Rattle.smp_words.specs.declared.work.Work.{Work}
-use Rattle.smp_stop_steps.specs.Callings.{with_answer, IsCalling, IsCallOf, answer_in, MayCall, HasCalled, AreClosing, HasCompleted}
+use Rattle.smp_stop_steps.specs.Callings.{with_answer, IsCalling, answer_in, MayCall, HasCalled, AreClosing, HasCompleted}
 use Rattle.smp_stop_steps.specs.Labels.{Change, Patching, Whole, Patches, patch_answer}
 use Rattle.smp_stop_steps.specs.Present.{RunnerShows}
 use Rattle.smp_stop_steps.specs.Shows.{StopShows}
 use Rattle.smp_stop_steps.specs.Sources.{Source}
 use Rattle.smp_words.specs.declared.word.Word.{Word}
-use Rattle.smp_stop_steps.specs.Seats.{Seat, Free, In, Gives, Alters, Closes, Turn, Rests, Fills, Sets}
+use Rattle.smp_stop_steps.specs.Seats.{Seat, Free, In, Gives, Alters, Closes, Turn, Rests}
 use Rattle.smp_stop_steps.specs.State.{Setup, StopState, Calling, Idle, Calls, Carries, Present}
-use Rattle.smp_stop_steps.specs.Stop.{Stop, Standing, Inside, Last}
+use Rattle.smp_stop_steps.specs.Stop.{Stop, Inside, Last}
 use Rattle.smp_stop_steps.specs.Tells.{calls_at_run, carried, carried_call, is_multi, is_one, may_call}
 use Rattle.smp_stop_steps.proofs.Counts.{put_else}
 use Rattle.smp_stop_steps.proofs.Moves.{IsNoPatch}
@@ -28,10 +29,6 @@ module _ (seat : ℕ → Seat) (calling : ℕ → Calling) (h : (c : ℕ) → Is
   -- and is elsewhere with its function
   pub calling_next : (f : Calling) → IsCalling me next f → (c : ℕ) → IsCalling c (put seat me next c) (put calling me f c)
   calling_next f it = put_both (λ c x y. IsCalling c x y) seat calling me next f it (λ c ne. h c)
-
-pub both_true : (b c : Bool) → (b && c) ≡ true → (b ≡ true) × (c ≡ true)
-both_true true c e = (refl, e)
-both_true false c e = cc
 
 -- which seats leave no function to run
 pub idle_free : (c : ℕ) (f : Calling) → IsCalling c Free f → f ≡ Idle

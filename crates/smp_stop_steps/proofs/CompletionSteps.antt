@@ -1,26 +1,24 @@
 -- The steps at the ends of a stop for one CPU, by its stage; and all steps.
+use Rattle.smp_stop_steps.proofs.Same.{word_same, moved_seat, still}
 use Rattle.smp_stop_steps.specs.Callings.{IsCalling, answer_in}
-use Rattle.std.proofs.Common.{◌≡◌, ℕ, ◌-◌, ◌<◌, ◌≤◌, Bool, true, false, eq-eqb, eqb-true, ◌==◌, cond, sym, subst, refl, ap, ◌∙◌, ◌⊎◌, inl, inr, arith}
+use Rattle.std.proofs.Common.{◌≡◌, ℕ, ◌-◌, ◌<◌, Bool, true, false, eq-eqb, eqb-true, ◌==◌, cond, sym, subst, refl, ap, ◌∙◌, ◌⊎◌, inl, inr, arith}
 use Rattle.std.proofs.Common.{⊎_elim, Option, Some, None, bit_and}
-use Rattle.smp_words.proofs.SameWords.{same_word-true}
 use Rattle.smp_stop_steps.proofs.AckSteps.{acknowledge, raise, refill}
 use Rattle.smp_stop_steps.proofs.Bits.{clear_none, clear_other, clear_same}
 use Rattle.smp_stop_steps.proofs.Completions.{done_stored, on_now, result_stored, roll_cleared, roll_stale, todo_subtracted, todo_subtracted_answered}
-use Rattle.smp_stop_steps.proofs.Facts.{todo_bounds, todo_bounds_answered}
+use Rattle.smp_stop_steps.proofs.Facts.{high_none, todo_bounds, todo_bounds_answered}
 use Rattle.smp_stop_steps.proofs.RoundSteps.{ack_small, load_arg, load_entry, load_func, load_key, look, store_change}
 use Rattle.smp_stop_steps.proofs.StageSteps.{begin_step, enter_active, enter_kind, enter_mask, less_one, load_done, load_result, open_gate}
-use Rattle.smp_stop_steps.proofs.StageSteps.{put_same_fn, read_key, read_site, take_gate, nudge_key, exchange_key}
-use Rattle.smp_words.specs.Put.{put, put_word, same_word}
+use Rattle.smp_stop_steps.proofs.StageSteps.{read_key, read_site, take_gate, nudge_key, exchange_key}
+use Rattle.smp_words.specs.Put.{put, put_word}
 use Rattle.smp_stop_steps.specs.Counts.{one}
 use Rattle.smp_stop_steps.specs.Seats.{Closes, Free, Gives, In, Rests, Seat, irq_of}
 use Rattle.smp_stop_steps.specs.Shows.{StopShows}
 use Rattle.smp_stop_steps.specs.Sits.{IsLoaded, IsThroughAll, OwnsIf, Sits, SitsAt, SitsAtRest, SourceSits}
-use Rattle.smp_stop_steps.specs.Slots.{Keeps}
 use Rattle.smp_stop_steps.specs.Sources.{Source}
 use Rattle.smp_stop_steps.specs.Stages.{StopControlValue, all_but, stop_ends, stop_goes}
 use Rattle.smp_stop_steps.specs.State.{Setup, StopState, Calling, Calls, Carries, Idle}
 use Rattle.smp_stop_steps.specs.Steps.{StopStep, at_then, state_after}
-use Rattle.smp_stop_steps.specs.Stop.{Answering, Called, Completed, Inside, Outside, Standing, is_called}
 use Rattle.smp_words.specs.declared.seen.Note.TheVariants as note
 use Rattle.smp_words.specs.declared.field.Field.TheVariants.{Roll, Todo}
 use Rattle.smp_stop_steps.specs.declared.stage.CompletionStage.TheVariants as completion
@@ -47,35 +45,6 @@ module _ (u : Setup) (p : StopState) (at : Word → ℕ) (seat : ℕ → Seat) (
   at_seat : (stage : StopStage) → c.stage ≡ Some stage → SitsAt u me c (Some stage) (seat me)
   at_seat stage e = subst (λ (st : Option StopStage). SitsAt u me c st (seat me)) e s.seat
 
-  still : (p' : StopState) (at' : Word → ℕ) → StopShows u p' at' seat source → StopShows u p' at' (put seat me (seat me)) (put source me (source me))
-  still p' at' shows = subst (λ x. StopShows u p' at' x (put source me (source me))) (sym (put_same_fn seat me)) (subst (λ y. StopShows u p' at' seat y)
-      (sym (put_same_fn source me)) shows)
-
-  moved_seat : (p' : StopState) (at' : Word → ℕ) (x : Seat) → StopShows u p' at' (put seat me x) source → StopShows u p' at' (put seat me x)
-      (put source me (source me))
-  moved_seat p' at' x shows = subst (λ y. StopShows u p' at' (put seat me x) y) (sym (put_same_fn source me)) shows
-
-  -- a number put where it is
-  word_itself : (w x : Word) → put_word at w (at w) x ≡ at x
-  word_itself w x = go (same_word x w) refl
-    where
-      go : (b : Bool) → same_word x w ≡ b → cond b (at w) (at x) ≡ at x
-      go true e = ap at (sym (same_word-true x w e))
-      go false e = refl
-
-  word_same : (w : Word) → put_word at w (at w) ≡ at
-  word_same w = λ k x. word_itself w x k
-
-  high_none : (slot c : ℕ) → 64 ≤ c → has (at (Slot slot Roll)) c ≡ false
-  high_none slot c high = (h.present.slots slot).roll c ∙ go ((p.now.stop slot).standing c) ((h.present.slots slot).keeps c)
-    where
-      go : (x : Standing) → Keeps u.cpus (p.now.stop slot).phase c x → is_called x ≡ false
-      go Outside k = refl
-      go Called k = absurd (let few = h.setup.few in let low = k.0 in omega arith)
-      go (Inside a l) k = refl
-      go (Answering a v) k = refl
-      go (Completed a v) k = refl
-
   enter : (slot : ℕ) → c.stage ≡ Some (Enter slot) → StopStep u p at seat source c me (Enter slot)
   enter slot e =
       let x = at_seat (Enter slot) e in
@@ -91,17 +60,17 @@ module _ (u : Setup) (p : StopState) (at : Word → ℕ) (seat : ℕ → Seat) (
       go visit is y true found =
           let next = In slot (p.now.stop slot).work 0 0 Rests in (
             next,
-            moved_seat (state_after u p at c me (Enter slot)) (at_then u at c me (Enter slot)) next
+            moved_seat u seat source me (state_after u p at c me (Enter slot)) (at_then u at c me (Enter slot)) next
                 (roll_cleared u p at seat source h slot me (bit_and (at (Slot slot Roll)) (all_but me)) 0 is found (clear_same (at (Slot slot Roll)) me low)
-                (λ d ne. clear_other (at (Slot slot Roll)) me d low ne (high_none slot d))),
+                (λ d ne. clear_other (at (Slot slot Roll)) me d low ne (high_none u p at seat source h slot d))),
             record { below = s.below; irq = s.irq ∙ ap irq_of is; seat = ((p.now.stop slot).work, refl); source = y; gate_held = tt },
           )
       go visit is y false missing = (
         seat me,
-        still (state_after u p at c me (Enter slot)) (at_then u at c me (Enter slot))
+        still u seat source me (state_after u p at c me (Enter slot)) (at_then u at c me (Enter slot))
             (subst (λ n. StopShows u (state_after u p at c me (Enter slot)) (put_word at (Slot slot Roll) n) seat source)
-            (sym (clear_none (at (Slot slot Roll)) me low missing (high_none slot)))
-            (subst (λ (x : Word → ℕ). StopShows u (state_after u p at c me (Enter slot)) x seat source) (sym (word_same (Slot slot Roll)))
+            (sym (clear_none (at (Slot slot Roll)) me low missing (high_none u p at seat source h slot)))
+            (subst (λ (x : Word → ℕ). StopShows u (state_after u p at c me (Enter slot)) x seat source) (sym (word_same at (Slot slot Roll)))
             (roll_stale u p at seat source h slot me (Some (bit_and (at (Slot slot Roll)) (all_but me))) 0 missing))),
         record { below = s.below; irq = s.irq; seat = subst (λ x. SitsAtRest x (seat me)) (sym visit) is; source = y; gate_held = tt },
       )
@@ -112,7 +81,7 @@ module _ (u : Setup) (p : StopState) (at : Word → ℕ) (seat : ℕ → Seat) (
       record {
         seat_after = Free;
         source_after = source me;
-        shows = moved_seat (state_after u p at c me (Close slot)) (at_then u at c me (Close slot)) Free (done_stored u p at seat source h slot me 0 x.1);
+        shows = moved_seat u seat source me (state_after u p at c me (Close slot)) (at_then u at c me (Close slot)) Free (done_stored u p at seat source h slot me 0 x.1);
         sits = record {
           below = s.below;
           irq = s.irq ∙ ap irq_of x.1;
@@ -131,7 +100,7 @@ module _ (u : Setup) (p : StopState) (at : Word → ℕ) (seat : ℕ → Seat) (
         record {
           seat_after = seat me;
           source_after = source me;
-          shows = still p at h;
+          shows = still u seat source me p at h;
           sits = record {
             below = s.below;
             irq = s.irq;
@@ -148,7 +117,7 @@ module _ (u : Setup) (p : StopState) (at : Word → ℕ) (seat : ℕ → Seat) (
         record {
           seat_after = seat me;
           source_after = source me;
-          shows = still (state_after u p at c me (Complete v (completion.LoadArg answer func))) at (arg_loaded u p at seat source h v.slot me x.1.1.0
+          shows = still u seat source me (state_after u p at c me (Complete v (completion.LoadArg answer func))) at (arg_loaded u p at seat source h v.slot me x.1.1.0
               v.acked v.acked Rests x.1.1.2 answer refl);
           sits = go x.1.0 x.1.1.0 x.1.1.1 x.1.1.2 (at_source (Complete v (completion.LoadArg answer func)) e) (answer == 0) refl;
         }
@@ -210,7 +179,7 @@ module _ (u : Setup) (p : StopState) (at : Word → ℕ) (seat : ℕ → Seat) (
         record {
           seat_after = next;
           source_after = source me;
-          shows = moved_seat (state_after u p at c me (Complete v completion.StoreAnswer)) (at_then u at c me (Complete v completion.StoreAnswer)) next
+          shows = moved_seat u seat source me (state_after u p at c me (Complete v completion.StoreAnswer)) (at_then u at c me (Complete v completion.StoreAnswer)) next
               (result_stored u p at seat source h v.slot me work v.acked v.acked is through v.answer 0 some
               (calling_given me v.slot work v.acked v.acked v.answer (p.calling me) some through
               (ends (p.calling me) (subst (λ (st : Option StopStage). CarriesAt c.visit st (p.calling me)) e k))
@@ -249,7 +218,7 @@ module _ (u : Setup) (p : StopState) (at : Word → ℕ) (seat : ℕ → Seat) (
               source_after = source me;
               shows = subst (λ n. StopShows u (state_after u p at c me (Complete v completion.CountDown)) (put_word at (Slot v.slot Todo) n)
                   (put seat me next) (put source me (source me))) (sym less)
-                  (moved_seat (state_after u p at c me (Complete v completion.CountDown)) (put_word at (Slot v.slot Todo) (found - 1)) next
+                  (moved_seat u seat source me (state_after u p at c me (Complete v completion.CountDown)) (put_word at (Slot v.slot Todo) (found - 1)) next
                   (todo_subtracted u p at seat source h v.slot me work v.acked v.acked 0 is through));
               sits = counted_sits y (s.irq ∙ on_now u p at seat source h v.slot me work v.acked v.acked is through) (found == 1);
             }
@@ -263,7 +232,7 @@ module _ (u : Setup) (p : StopState) (at : Word → ℕ) (seat : ℕ → Seat) (
               source_after = source me;
               shows = subst (λ n. StopShows u (state_after u p at c me (Complete v completion.CountDown)) (put_word at (Slot v.slot Todo) n)
                   (put seat me next) (put source me (source me))) (sym less)
-                  (moved_seat (state_after u p at c me (Complete v completion.CountDown)) (put_word at (Slot v.slot Todo) (found - 1)) next
+                  (moved_seat u seat source me (state_after u p at c me (Complete v completion.CountDown)) (put_word at (Slot v.slot Todo) (found - 1)) next
                   (todo_subtracted_answered u p at seat source h v.slot me work v.acked v.answer 0 is));
               sits = counted_sits y (s.irq ∙ ap irq_of is) (found == 1);
             }

@@ -1,4 +1,5 @@
 -- The kinds of step at the ends of a stop for one CPU: it enters, stores its answer, counts itself, and stores done.
+use Rattle.smp_stop_steps.proofs.Bools.{or_true}
 use Rattle.smp_stop_steps.specs.Callings.{IsCalling, AreClosing, HasCompleted}
 use Rattle.smp_stop_steps.proofs.Callings.{calling_same, IsNotClosing, idle_free, closing_kept, idle_closes, closing_seat, calling_next}
 use Rattle.smp_stop_steps.specs.Labels.{StandsSet}
@@ -27,7 +28,7 @@ use Rattle.smp_stop_steps.specs.Sources.{Source}
 use Rattle.smp_stop_steps.specs.State.{Setup, StopState, Idle}
 use Rattle.smp_stop_steps.specs.Stop.{Answering, Called, Completed, Ended, Inside, Nobody, Outside, Raises, Raising, Refills, Standing, acked}
 use Rattle.smp_stop_steps.specs.Stop.{completed, ended, is_inside, is_of, stands, Last, Stop}
-use Rattle.smp_stop_steps.specs.Tells.{answered_by, completes, completes_with, enters, is_one, stored_open, stored_shut, told, with_stop, called_more}
+use Rattle.smp_stop_steps.specs.Tells.{answered_by, completes, completes_with, enters, stored_open, stored_shut, told, with_stop, called_more}
 use Rattle.smp_words.specs.declared.seen.Act.TheVariants as act
 use Rattle.smp_words.specs.declared.field.Field.TheVariants.{Done, Result, Roll, Todo}
 use Rattle.smp_words.specs.declared.field.Field.{Field}
@@ -43,10 +44,6 @@ pub rests_not : (me : ℕ) (r : Raising) → turn_of r me ≡ Rests → IsNot me
 rests_not me Nobody e = tt
 rests_not me (Refills r) e = λ same. at_test me r (λ b. cond b Fills Rests ≡ Rests → ⊥) (λ _ e. cc) (λ ne _. ne (sym same)) e
 rests_not me (Raises r) e = λ same. at_test me r (λ b. cond b Sets Rests ≡ Rests → ⊥) (λ _ e. cc) (λ ne _. ne (sym same)) e
-
-or_true : (b : Bool) → b || true ≡ true
-or_true true = refl
-or_true false = refl
 
 pub one_phase : (k : KindOf) (p : ℕ) → k ≡ One → IsPhaseOf k p → p ≡ 0
 one_phase One p e h = h

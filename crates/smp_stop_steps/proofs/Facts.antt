@@ -17,7 +17,7 @@ use Rattle.smp_stop_steps.specs.Shows.{StopShows}
 use Rattle.smp_stop_steps.specs.Slots.{AckShows, IsWritten, Keeps, OpenShows}
 use Rattle.smp_stop_steps.specs.Sources.{Shut, Source}
 use Rattle.smp_stop_steps.specs.State.{IsSetup, Setup, StopState, no_stops, StopCall, Calls}
-use Rattle.smp_stop_steps.specs.Stop.{Answering, Called, Completed, Inside, Outside, Standing}
+use Rattle.smp_stop_steps.specs.Stop.{Answering, Called, Completed, Inside, Outside, Standing, is_called}
 use Rattle.smp_words.specs.declared.field.Field.TheVariants.{Ack, Arg, Roll, State, Todo}
 use Rattle.smp_words.specs.declared.seen.Act.TheVariants as act
 use Rattle.smp_words.specs.declared.work.Work.{Work}
@@ -171,6 +171,18 @@ module _ (u : Setup) (p : StopState) (at : Word → ℕ) (seat : ℕ → Seat) (
       more : (n : ℕ) → n ≢ 0 → 0 < n
       more zero ne = absurd (ne refl)
       more (suc n) ne = omega arith
+
+-- a roll has no CPU past the last
+pub high_none : (u : Setup) (p : StopState) (at : Word → ℕ) (seat : ℕ → Seat) (source : ℕ → Source) → StopShows u p at seat source → (slot c : ℕ) → 64 ≤ c →
+    has (at (Slot slot Roll)) c ≡ false
+high_none u p at seat source h slot c high = (h.present.slots slot).roll c ∙ go ((p.now.stop slot).standing c) ((h.present.slots slot).keeps c)
+  where
+    go : (x : Standing) → Keeps u.cpus (p.now.stop slot).phase c x → is_called x ≡ false
+    go Outside k = refl
+    go Called k = absurd (let few = h.setup.few in let low = k.0 in omega arith)
+    go (Inside a l) k = refl
+    go (Answering a x) k = refl
+    go (Completed a x) k = refl
 
 -- at first no stop is open
 pub no_stops_shown : (u : Setup) (at : Word → ℕ) → IsSetup u → at Gate ≡ 0 → ((s : ℕ) → at (Slot s Roll) ≡ 0) → AreEntriesOf u.entries (labels_in at) →

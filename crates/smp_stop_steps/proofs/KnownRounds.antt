@@ -1,22 +1,21 @@
 -- The steps of a CPU that knows v: it enters a stop, and goes through its phases.
+use Rattle.smp_stop_steps.proofs.Same.{word_same}
 use Rattle.smp_stop_steps.proofs.Callings.{carried_alone}
 use Rattle.smp_stop_steps.specs.Callings.{HasCalled}
 use Rattle.std.proofs.Common.{◌≡◌, ◌≢◌, ℕ, ◌+◌, ◌-◌, ◌<◌, ◌≤◌, ◌^◌, Bool, true, false, ◌==◌, ◌&&◌, not, cond, Some, None, List, [], ◌∷◌, ◌++◌, sym}
 use Rattle.std.proofs.Common.{subst, refl, ap, ◌∙◌, arith, bit_and, eq-eqb}
 use Rattle.smp_mask.specs.Mask.{has}
 use Rattle.smp_words.specs.Access.{one_less}
-use Rattle.smp_words.specs.Put.{put, put_word, same_word}
+use Rattle.smp_words.specs.Put.{put, put_word}
 use Rattle.smp_words.specs.Size.{cpus}
-use Rattle.smp_words.proofs.SameWords.{same_word-true}
 use Rattle.smp_stop_steps.specs.Counts.{mask_weight}
 use Rattle.smp_stop_steps.specs.Labels.{Change, Reading, patch_answer}
 use Rattle.smp_stop_steps.specs.Seats.{Seat, Free, In, Alters, Turn, Rests, Fills, Sets, Stands}
 use Rattle.smp_stop_steps.specs.Shows.{StopShows}
-use Rattle.smp_stop_steps.specs.Slots.{Keeps}
 use Rattle.smp_stop_steps.specs.Sources.{Source}
 use Rattle.smp_stop_steps.specs.Stages.{all_but}
 use Rattle.smp_stop_steps.specs.State.{Setup, StopState, Present, StopCall, Calling, Calls, Carries, Idle}
-use Rattle.smp_stop_steps.specs.Stop.{Standing, Inside, Answering, Called, Completed, Outside, is_called, acknowledged, raised}
+use Rattle.smp_stop_steps.specs.Stop.{Standing, Inside, acknowledged, raised}
 use Rattle.smp_stop_steps.specs.Tells.{told, enters, acknowledges, acknowledges_now, raises, stored_open, stored_shut, first_readings, with_stop}
 use Rattle.smp_stop_steps.specs.Tells.{leaves, unpatched, carried, may_call, carried_call, calls_now}
 use Rattle.smp_stop_steps.specs.Known.{told_calling, Known, Sees, GoesOn, columns_of, setup_in, Part}
@@ -25,7 +24,6 @@ use Rattle.smp_stop_steps.specs.KnownAfter.{looked_known, looked_to, acked_by, r
 use Rattle.smp_words.specs.declared.seen.Act.TheVariants as act
 use Rattle.smp_words.specs.declared.field.Field.{Field}
 use Rattle.smp_words.specs.declared.field.Field.TheVariants as field
-use Rattle.smp_words.specs.declared.work.Kind.TheVariants.{Patch}
 use Rattle.smp_words.specs.declared.work.Work.{Work}
 use Rattle.smp_words.specs.declared.word.Word.{Word}
 use Rattle.smp_words.specs.declared.word.Word.TheVariants.{Slot}
@@ -33,7 +31,7 @@ use Rattle.smp_stop_steps.proofs.Bits.{clear_same, clear_other, clear_none}
 use Rattle.smp_stop_steps.proofs.Completions.{roll_cleared}
 use Rattle.smp_stop_steps.proofs.Moves.{IsNoPatch}
 use Rattle.smp_stop_steps.proofs.Counts.{put_here, put_else}
-use Rattle.smp_stop_steps.proofs.Facts.{arg_loaded, ack_bounds, ack_bounds_patched}
+use Rattle.smp_stop_steps.proofs.Facts.{high_none, arg_loaded, ack_bounds, ack_bounds_patched}
 use Rattle.smp_stop_steps.proofs.KnownSources.{still}
 use Rattle.smp_stop_steps.proofs.Parts.{Leaves, goes_seat, goes_still}
 use Rattle.smp_stop_steps.proofs.Phases.{is_open_inside}
@@ -89,26 +87,6 @@ module _ (p : StopState) (at : Word → ℕ) (seat : ℕ → Seat) (source : ℕ
 
   -- entering
 
-  word_itself : (w x : Word) → put_word at w (at w) x ≡ at x
-  word_itself w x = go (same_word x w) refl
-    where
-      go : (b : Bool) → same_word x w ≡ b → cond b (at w) (at x) ≡ at x
-      go true e = ap at (sym (same_word-true x w e))
-      go false e = refl
-
-  word_same : (w : Word) → put_word at w (at w) ≡ at
-  word_same w = λ k x. word_itself w x k
-
-  high_none : (slot c : ℕ) → 64 ≤ c → has (at (Slot slot field.Roll)) c ≡ false
-  high_none slot c high = (h.present.slots slot).roll c ∙ go ((p.now.stop slot).standing c) ((h.present.slots slot).keeps c)
-    where
-      go : (x : Standing) → Keeps u.cpus (p.now.stop slot).phase c x → is_called x ≡ false
-      go Outside k = refl
-      go Called k = absurd (let few = h.setup.few in let low = k.0 in omega arith)
-      go (Inside a l) k = refl
-      go (Answering a x) k = refl
-      go (Completed a x) k = refl
-
   pub enter : (s : ℕ) → v.seat ≡ Free →
       Goes (put_word at (Slot s field.Roll) (bit_and (at (Slot s field.Roll)) (all_but v.number)))
       (cond (has (at (Slot s field.Roll)) v.number) (record v { seat = In s (p.now.stop s).work 0 0 Rests }) v)
@@ -129,11 +107,11 @@ module _ (p : StopState) (at : Word → ℕ) (seat : ℕ → Seat) (source : ℕ
           goes_seat p seat source v sees p' at' next v.part
           (subst (λ q. StopShows u q at' (put seat v.number next) source) plain
           (roll_cleared u p at seat source h s v.number n 0 (sees.seat_is ∙ free) found (clear_same (at (Slot s field.Roll)) v.number low)
-          (λ c ne. clear_other (at (Slot s field.Roll)) v.number c low ne (high_none s c))))
+          (λ c ne. clear_other (at (Slot s field.Roll)) v.number c low ne (high_none u p at seat source h s c))))
           record { mine = sees.part_is; others = λ c ne. refl }
       go false missing =
-          subst (λ n. Goes (put_word at (Slot s field.Roll) n) v) (sym (clear_none (at (Slot s field.Roll)) v.number low missing (high_none s)))
-          (subst (λ x. Goes x v) (sym (word_same (Slot s field.Roll))) (still p at seat source v h sees))
+          subst (λ n. Goes (put_word at (Slot s field.Roll) n) v) (sym (clear_none (at (Slot s field.Roll)) v.number low missing (high_none u p at seat source h s)))
+          (subst (λ x. Goes x v) (sym (word_same at (Slot s field.Roll))) (still p at seat source v h sees))
 
   -- a round
 

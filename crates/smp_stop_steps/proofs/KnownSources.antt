@@ -1,4 +1,5 @@
 -- The steps of a source that knows v: the gate, begin, and the ends of its own stop.
+use Rattle.smp_stop_steps.proofs.Gates.{gate_free}
 use Rattle.std.proofs.Common.{◌≡◌, ◌≢◌, ℕ, ◌+◌, ◌<◌, nat_lt, lt-ltb, eqb-true, eq-eqb, ne_eqb, Bool, true, false, ◌==◌, cond, Option, Some, None, []}
 use Rattle.std.proofs.Common.{◌∷◌, ◌++◌, sym, subst, refl, ap, ◌∙◌, arith}
 use Rattle.smp_words.specs.Put.{put, put_word}
@@ -6,7 +7,7 @@ use Rattle.smp_words.specs.Size.{cpus}
 use Rattle.smp_words.proofs.Puts.{put_all}
 use Rattle.smp_stop_steps.specs.Counts.{mask_weight}
 use Rattle.smp_stop_steps.specs.Seats.{Seat}
-use Rattle.smp_stop_steps.specs.Shows.{StopShows, gate_word}
+use Rattle.smp_stop_steps.specs.Shows.{StopShows}
 use Rattle.smp_stop_steps.specs.Slots.{DoneShows, begun_value, order}
 use Rattle.smp_stop_steps.specs.Sources.{Source, Shut, Drafts, Owns, Collects, SourceShows, DraftShows, OwnerShows, IsDrafted, IsWork}
 use Rattle.smp_stop_steps.specs.State.{Setup, StopState}
@@ -30,10 +31,6 @@ use Rattle.smp_stop_steps.proofs.Sources.{gate_taken, gate_opened, field_stored,
 holder : (g : Option ℕ) (me : ℕ) → holds_it g me ≡ true → g ≡ Some me
 holder None me e = cc
 holder (Some c) me e = ap Some (eqb-true c me e)
-
-none_is : (g : Option ℕ) → gate_word g ≡ 0 → g ≡ None
-none_is None e = refl
-none_is (Some c) e = absurd (omega arith)
 
 -- a CPU that is told to draft nothing drafts nothing
 not_draft : (y told : Source) → told_source y ≡ told → is_drafting told ≡ false → (w : Work) (k : ℕ) → y ≢ Drafts w k
@@ -201,7 +198,7 @@ module _ (p : StopState) (at : Word → ℕ) (seat : ℕ → Seat) (source : ℕ
       go : (b : Bool) → (at Gate == 0) ≡ b → Goes (cond b (put_word at Gate (v.number + 1)) at) (gate_known act.Cas (cond b (Some (v.number + 1)) None) v)
       go false e = still
       go true e =
-          let free : p.gate ≡ None = none_is p.gate (sym h.gate ∙ eqb-true (at Gate) 0 e) in
+          let free : p.gate ≡ None = gate_free p.gate (sym h.gate ∙ eqb-true (at Gate) 0 e) in
           goes_still p seat source v sees (record p { gate = Some v.number }) (put_word at Gate (v.number + 1)) (record (v.part) { holds = true })
           (gate_taken u p at seat source h v.number 0 (eqb-true (at Gate) 0 e))
           (holds_alone (Some v.number) true (eq-eqb v.number v.number refl)

@@ -1,4 +1,5 @@
 -- lists and words
+pub mod Bools
 pub mod Counts
 pub mod Bits
 pub mod Weights
@@ -16,7 +17,9 @@ pub mod Entered
 pub mod Patched
 pub mod Owns
 pub mod Pasts
+pub mod Gates
 -- kinds of step
+pub mod Same
 pub mod Kept
 pub mod Callings
 pub mod Rounds

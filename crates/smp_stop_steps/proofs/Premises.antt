@@ -1,5 +1,6 @@
 -- Who may make which step: what holds of the stops before it.
-use Rattle.std.proofs.Common.{◌≡◌, ◌≢◌, ℕ, ◌+◌, ◌-◌, Bool, [], true, false, ◌==◌, ◌&&◌, cond, ◌⊎◌, inl, inr, ⊎_elim, Option, Some, None, sym, subst}
+use Rattle.smp_stop_steps.proofs.Gates.{gate_free, gate_mine}
+use Rattle.std.proofs.Common.{◌≡◌, ◌≢◌, ℕ, ◌+◌, Bool, [], true, false, ◌==◌, ◌&&◌, cond, inl, inr, ⊎_elim, Option, Some, None, sym, subst}
 use Rattle.std.proofs.Common.{refl, ap, ◌∙◌, arith, eqb-true}
 use Rattle.smp_mask.specs.Mask.{has}
 use Rattle.smp_labels.specs.declared.patch.Place.TheVariants as place
@@ -14,19 +15,19 @@ use Rattle.smp_words.specs.declared.word.Word.{Word}
 use Rattle.smp_words.specs.declared.word.Word.TheVariants.{Gate, Slot, Key}
 use Rattle.smp_stop_steps.specs.Callings.{HasCompleted}
 use Rattle.smp_stop_steps.specs.Labels.{Change, patch_answer}
-use Rattle.smp_stop_steps.specs.Laws.{IsNot, IsThrough}
-use Rattle.smp_stop_steps.specs.Premises.{AllAcknowledged, AllCompleted, IsToAcknowledge, MayStore, MayStoreIf, MaySee}
+use Rattle.smp_stop_steps.specs.Laws.{IsThrough}
+use Rattle.smp_stop_steps.specs.Premises.{MayStore, MayStoreIf, MaySee}
 use Rattle.smp_stop_steps.specs.Counts.{mask_weight, unfinished}
 use Rattle.smp_stop_steps.specs.Tells.{plan_at}
 use Rattle.smp_words.proofs.Puts.{at_test}
-use Rattle.smp_stop_steps.specs.Seats.{Seat, Free, In, Gives, Alters, Closes, Turn, Rests, Fills, Sets, Stands, turn_of}
-use Rattle.smp_stop_steps.specs.Shows.{StopShows, gate_word}
+use Rattle.smp_stop_steps.specs.Seats.{Seat, In, Gives, Alters, Closes, Turn, Rests, Fills, Sets, Stands, turn_of}
+use Rattle.smp_stop_steps.specs.Shows.{StopShows}
 use Rattle.smp_stop_steps.specs.Sits.{RunsIf, HoldsGate, IsLoaded, IsThroughAll, Sits, SitsAt, SitsInCompletion, SitsInRound, SourceSits}
-use Rattle.smp_stop_steps.specs.Slots.{AckShows, DoneShows, IsDone, begun_value, order}
-use Rattle.smp_stop_steps.specs.Sources.{Source, Shut, Drafts, Owns, Collects, SourceShows, DraftShows, OwnerShows}
+use Rattle.smp_stop_steps.specs.Slots.{AckShows, DoneShows, begun_value, order}
+use Rattle.smp_stop_steps.specs.Sources.{Source, Drafts, Owns, Collects, SourceShows, DraftShows, OwnerShows}
 use Rattle.smp_stop_steps.specs.Stages.{StopControlValue, change_at, completion_access, round_access, stop_access, store_of}
 use Rattle.smp_stop_steps.specs.State.{Setup, StopState}
-use Rattle.smp_stop_steps.specs.Stop.{Standing, Outside, Called, Inside, Answering, Completed, Raising, Nobody, Refills, Raises, Ended, acked, is_of, is_called}
+use Rattle.smp_stop_steps.specs.Stop.{Standing, Outside, Called, Inside, Answering, Completed, Raising, Nobody, Refills, Raises, Ended, acked, is_of}
 use Rattle.smp_stop_steps.specs.declared.stage.CompletionStage.{CompletionStage}
 use Rattle.smp_stop_steps.specs.declared.stage.CompletionStage.TheVariants as completion
 use Rattle.smp_stop_steps.specs.declared.stage.RoundStage.{RoundStage}
@@ -40,14 +41,6 @@ use Rattle.smp_stop_steps.proofs.Counts.{sum_zero}
 use Rattle.smp_stop_steps.proofs.Phases.{is_open_inside, keeps_inside}
 use Rattle.smp_stop_steps.proofs.Raises.{all_acknowledged, in_machine}
 use Rattle.smp_stop_steps.proofs.Works.{called_is}
-
-gate_free : (g : Option ℕ) → gate_word g ≡ 0 → g ≡ None
-gate_free None e = refl
-gate_free (Some c) e = absurd (omega arith)
-
-gate_mine : (me : ℕ) (g : Option ℕ) → gate_word g ≡ me + 1 → g ≡ Some me
-gate_mine me None e = absurd (omega arith)
-gate_mine me (Some n) e = ap Some (let x : n ≡ me = omega arith in x)
 
 refills_me : (me : ℕ) (r : Raising) → turn_of r me ≡ Fills → r ≡ Refills me
 refills_me me Nobody e = cc

@@ -1,4 +1,5 @@
 -- The steps of a turn of `multi_cpu_stop`, by a CPU's stage.
+use Rattle.smp_stop_steps.proofs.Same.{moved_seat, still}
 use Rattle.smp_labels.proofs.Patched.{plan_same, plan_tests, plan_key_first}
 use Rattle.smp_labels.specs.Kinds.{xor}
 use Rattle.smp_labels.specs.declared.keys.Change.{Change as KeyChange}
@@ -11,7 +12,6 @@ use Rattle.smp_words.proofs.Puts.{at_test}
 use Rattle.smp_stop_steps.proofs.Facts.{arg_loaded, inside_keeps, state_near, work_words}
 use Rattle.smp_stop_steps.proofs.Patching.{key_loaded_first, key_stored, site_stored}
 use Rattle.smp_stop_steps.proofs.Rounds.{look_irq, state_loaded}
-use Rattle.smp_stop_steps.proofs.StageSteps.{put_same_fn}
 use Rattle.smp_words.specs.Access.{at_after, seen_of, word_of}
 use Rattle.smp_words.specs.Put.{put}
 use Rattle.smp_stop_steps.specs.Labels.{Change, count_set, answer_for, patch_answer}
@@ -74,14 +74,6 @@ module _ (u : Setup) (p : StopState) (at : Word → ℕ) (seat : ℕ → Seat) (
   at_source : (stage : RoundStage) → c.stage ≡ Some (Advance v stage) → OwnsIf c.is_open (source me)
   at_source stage e = subst (λ (st : Option StopStage). SourceSits c.is_open st (source me)) e s.source
 
-  still : (p' : StopState) (at' : Word → ℕ) → StopShows u p' at' seat source → StopShows u p' at' (put seat me (seat me)) (put source me (source me))
-  still p' at' shows = subst (λ x. StopShows u p' at' x (put source me (source me))) (sym (put_same_fn seat me)) (subst (λ y. StopShows u p' at' seat y)
-      (sym (put_same_fn source me)) shows)
-
-  moved_seat : (p' : StopState) (at' : Word → ℕ) (x : Seat) → StopShows u p' at' (put seat me x) source → StopShows u p' at' (put seat me x)
-      (put source me (source me))
-  moved_seat p' at' x shows = subst (λ y. StopShows u p' at' (put seat me x) y) (sym (put_same_fn source me)) shows
-
   -- load of the state
   pub look : (answer : ℕ) → c.stage ≡ Some (Advance v (round.Look answer)) → StopStep u p at seat source c me (Advance v (round.Look answer))
   look answer e =
@@ -93,7 +85,7 @@ module _ (u : Setup) (p : StopState) (at : Word → ℕ) (seat : ℕ → Seat) (
       record {
         seat_after = In v.slot work v.acked found Rests;
         source_after = source me;
-        shows = moved_seat (state_after u p at c me (Advance v (round.Look answer))) at (In v.slot work v.acked found Rests) (state_loaded u p at seat
+        shows = moved_seat u seat source me (state_after u p at c me (Advance v (round.Look answer))) at (In v.slot work v.acked found Rests) (state_loaded u p at seat
             source h v.slot me work v.acked v.acked 0 is r.1.1);
         sits = go work is r.0 r.1.2.1 r.1.1 y (found == v.acked) refl (found == 3 && has v.active me) refl;
       }
@@ -179,7 +171,7 @@ module _ (u : Setup) (p : StopState) (at : Word → ℕ) (seat : ℕ → Seat) (
       record {
         seat_after = seat me;
         source_after = source me;
-        shows = still p at h;
+        shows = still u seat source me p at h;
         sits = record {
           below = s.below;
           irq = s.irq;
@@ -199,7 +191,7 @@ module _ (u : Setup) (p : StopState) (at : Word → ℕ) (seat : ℕ → Seat) (
       record {
         seat_after = seat me;
         source_after = source me;
-        shows = still (state_after u p at c me (Advance v (round.LoadArg answer func))) at (arg_loaded u p at seat source h v.slot me r.1.1.0 2 3 Rests
+        shows = still u seat source me (state_after u p at c me (Advance v (round.LoadArg answer func))) at (arg_loaded u p at seat source h v.slot me r.1.1.0 2 3 Rests
             run.3 answer refl);
         sits = go r.0 r.1.0 r.1.1.0 run r.1.1.2 (at_source (round.LoadArg answer func) e) v.kind refl;
       }
@@ -270,7 +262,7 @@ module _ (u : Setup) (p : StopState) (at : Word → ℕ) (seat : ℕ → Seat) (
       record {
         seat_after = next;
         source_after = source me;
-        shows = moved_seat (state_after u p at c me (Advance v (round.LoadKey key change))) at next
+        shows = moved_seat u seat source me (state_after u p at c me (Advance v (round.LoadKey key change))) at next
             (subst (λ k. StopShows u (told u p me act.Load (Key k) (Some (at (Key k))) None 0) at (put seat me next) source) (sym same)
             (key_loaded_first u p at seat source h me v.slot work 0 run.3 kind active));
         sits = subst (λ k. Sits u me (at Gate) (round_outcome me c v (round.LoadKey k change) (at (Key k))).control next (source me)) (sym same)
@@ -404,7 +396,7 @@ module _ (u : Setup) (p : StopState) (at : Word → ℕ) (seat : ℕ → Seat) (
       record {
         seat_after = seat me;
         source_after = source me;
-        shows = still p at h;
+        shows = still u seat source me p at h;
         sits = subst (λ k. Sits u me (at Gate) (entry_on c v k word site (at (Entry site))).control (seat me) (source me)) (sym r.1.1.key_is)
             (loads r.0 r.1.0 r.1.1 r.1.2 r.1.3 r.1.4 (at_source (round.LoadEntry key word site) e));
       }
@@ -529,7 +521,7 @@ module _ (u : Setup) (p : StopState) (at : Word → ℕ) (seat : ℕ → Seat) (
             source_after = source me;
             shows = subst (λ (x : Change). StopShows u (tells u p (seen_of me (store_of x) (at (word_of (store_of x))) None) 0) (at_after at (store_of x))
                 (put seat me next) (put source me (source me))) (sym here)
-                (moved_seat (tells u p (seen_of me (store_of change) (at (word_of (store_of change))) None) 0) (at_after at (store_of change)) next stored);
+                (moved_seat u seat source me (tells u p (seen_of me (store_of change) (at (word_of (store_of change))) None) 0) (at_after at (store_of change)) next stored);
             sits = subst (λ (x : Change). Sits u me (at_after at (store_of x) Gate)
                 (stop_goes c (Advance v (cond (made + 1 == length c.changes) (round.Acknowledge 0 true) (round.StoreChange (made + 1))))).control next
                 (source me)) (sym here)

@@ -1,4 +1,5 @@
 -- The kinds of step of a round: a CPU looks at the phase, acknowledges it, refills the count, and stores the next phase.
+use Rattle.smp_stop_steps.proofs.Bools.{both_true, or_false, or_true}
 use Rattle.smp_stop_steps.specs.Callings.{HasCalled, IsCalling, AreClosing}
 use Rattle.smp_stop_steps.proofs.Callings.{calling_same, calling_looked, IsNotClosing, calling_turned, closing_kept, calling_acked, idle_patch}
 use Rattle.smp_stop_steps.proofs.Callings.{carried_alone, calling_next, calling_ran}
@@ -26,7 +27,7 @@ use Rattle.smp_stop_steps.specs.Sources.{Source}
 use Rattle.smp_stop_steps.specs.State.{Present, Setup, StopCall, StopState, Calling, Carries}
 use Rattle.smp_stop_steps.specs.Stop.{Answering, Called, Completed, Inside, Nobody, Outside, Raises, Raising, Refills, Standing, Stop, acked}
 use Rattle.smp_stop_steps.specs.Stop.{acknowledged, is_inside, raised, refilled, stands}
-use Rattle.smp_stop_steps.specs.Tells.{acknowledges, calls_at_run, first_readings, is_patch, leaves, looked_by, stored_open, stored_shut, told}
+use Rattle.smp_stop_steps.specs.Tells.{acknowledges, first_readings, is_patch, leaves, looked_by, stored_open, stored_shut, told}
 use Rattle.smp_stop_steps.specs.Tells.{unpatched, with_stop, called_more, carried, carried_call}
 use Rattle.smp_words.specs.declared.seen.Act.TheVariants as act
 use Rattle.smp_words.specs.declared.field.Field.TheVariants.{Ack, State}
@@ -53,14 +54,6 @@ look_irq l a n p e level near ne = elim (cases_lt n 2) [
     above : 2 ≤ n → 2 ≤ l
     above high = ⊎_elim (λ (x : l ≡ a). ⊎_elim (λ (y : a ≡ p). omega arith) (λ (y : a + 1 ≡ p). omega arith) level) (λ (x : (l ≡ a + 1) × (p ≡ l)). let z =
         x.1 in omega arith) near
-
-or_false : (b c : Bool) → c ≡ false → b || c ≡ b
-or_false true c e = refl
-or_false false c e = e
-
-both_true : (b c : Bool) → b && c ≡ true → (b ≡ true) × (c ≡ true)
-both_true true c e = (refl, e)
-both_true false c e = cc
 
 -- no CPU has acknowledged more than the phase
 pub acked_most_phase : (cpus p c : ℕ) (x : Standing) → Keeps cpus p c x → acked x ≤ p
@@ -233,16 +226,8 @@ module _ (u : Setup) (p : StopState) (at : Word → ℕ) (seat : ℕ → Seat) (
 
     leaves_irq : (b : Bool) → irq_of (In s job (a + 1) (a + 1) (cond b Fills Rests)) ≡ cond (a + 1 == 4 && not b) true (nat_lt (a + 1) 2)
     leaves_irq true = at_test (a + 1) 4 (λ c. nat_lt (a + 1) 2 ≡ cond (c && false) true (nat_lt (a + 1) 2)) (λ _. refl) (λ _. refl)
-    leaves_irq false = at_test (a + 1) 4 (λ c. nat_lt (a + 1) 2 || c ≡ cond (c && true) true (nat_lt (a + 1) 2)) (λ e. at_true (nat_lt (a + 1) 2))
-        (λ ne. at_false (nat_lt (a + 1) 2))
-      where
-        at_true : (b : Bool) → b || true ≡ true
-        at_true true = refl
-        at_true false = refl
-
-        at_false : (b : Bool) → b || false ≡ b
-        at_false true = refl
-        at_false false = refl
+    leaves_irq false = at_test (a + 1) 4 (λ c. nat_lt (a + 1) 2 || c ≡ cond (c && true) true (nat_lt (a + 1) 2)) (λ e. or_true (nat_lt (a + 1) 2))
+        (λ ne. or_false (nat_lt (a + 1) 2) false refl)
 
     -- an acknowledgement, over a state in which nobody or another patches
     ack_shown : (x : Patching) (seat0 : ℕ → Seat) (calls' : ℕ → List StopCall) (calling' : ℕ → Calling) → PresentShows u (record (p.now) { patching = x })
@@ -514,14 +499,10 @@ module _ (u : Setup) (p : StopState) (at : Word → ℕ) (seat : ℕ → Seat) (
           (step_raises u p.now at seat h.present s me irq' readings'
           record { inside = λ c ne. refl; irq = λ c ne. put_else p.now.irq me true c ne; readings = λ c ne. put_else p.now.readings me first c ne }
           job a l is busy
-          (put_here p.now.irq me true ∙ sym (ap (λ n. nat_lt l 2 || n == 4) five ∙ yes (nat_lt l 2)))
+          (put_here p.now.irq me true ∙ sym (ap (λ n. nat_lt l 2 || n == 4) five ∙ or_true (nat_lt l 2)))
           (λ _ _. subst (AllByRecursion (Agrees (labels_in at))) (sym (put_here p.now.readings me first))
           (subst (λ (w : Work). AllByRecursion (Agrees (labels_in at)) (first_readings me s w)) (sym st.3) (leave_agrees job a l Sets is (omega arith))))))
           callings closing
-        where
-          yes : (b : Bool) → b || true ≡ true
-          yes true = refl
-          yes false = refl
       go false e st phase looked busy stays own =
           let not_five : a == 4 ≡ false = ne_eqb a 4 (λ x. let y : true ≡ false = sym (eq-eqb (a + 1) 5 (omega arith)) ∙ e in cc) in
           let off : p.now.irq me ≡ nat_lt l 2 || a == 4 = h.present.irq me ∙ (ap irq_of is ∙ sym (or_false (nat_lt l 2) (a == 4) not_five)) in

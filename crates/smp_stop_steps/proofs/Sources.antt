@@ -1,8 +1,9 @@
 -- The kinds of step of a source: the gate, the stores of begin, and the looks for the result.
+use Rattle.smp_stop_steps.proofs.Gates.{gate_free}
 use Rattle.smp_stop_steps.specs.Callings.{HasCompleted}
 use Rattle.smp_stop_steps.specs.KeyCounts.{CountShows}
 use Rattle.smp_stop_steps.specs.Labels.{StandsSet}
-use Rattle.std.proofs.Common.{◌≡◌, ◌≢◌, ℕ, ◌+◌, ◌<◌, ◌≤◌, Bool, true, false, eq-eqb, ◌==◌, cond, sym, subst, refl, ap, ◌∙◌, arith, Option, Some, None}
+use Rattle.std.proofs.Common.{◌≡◌, ◌≢◌, ℕ, ◌+◌, ◌<◌, ◌≤◌, Bool, true, false, eq-eqb, ◌==◌, cond, sym, subst, refl, ap, ◌∙◌, arith, Some, None}
 use Rattle.std.proofs.Common.{List, [], ◌∷◌, ◌++◌}
 use Rattle.smp_words.proofs.Puts.{at_test, put_all, put_both}
 use Rattle.smp_words.proofs.SameWords.{one_place}
@@ -18,7 +19,7 @@ use Rattle.smp_stop_steps.specs.Counts.{unfinished}
 use Rattle.smp_stop_steps.specs.Past.{HasPast, answer_now}
 use Rattle.smp_stop_steps.specs.Present.{PresentShows}
 use Rattle.smp_stop_steps.specs.Seats.{Seat, Closes}
-use Rattle.smp_stop_steps.specs.Shows.{StopShows, gate_word}
+use Rattle.smp_stop_steps.specs.Shows.{StopShows}
 use Rattle.smp_stop_steps.specs.Slots.{DoneShows, IsStored, begun_value, order}
 use Rattle.smp_words.specs.Kinds.{kind_at, kind_word}
 use Rattle.smp_stop_steps.specs.Sources.{Collects, DraftShows, Drafts, IsDrafted, OwnerShows, Owns, Shut, Source, SourceShows}
@@ -355,10 +356,6 @@ module _ (u : Setup) (p : StopState) (at : Word → ℕ) (seat : ℕ → Seat) (
     counts = h.counts;
   }
     where
-      none_is : (g : Option ℕ) → gate_word g ≡ 0 → g ≡ None
-      none_is None e = refl
-      none_is (Some c) e = absurd (omega arith)
-
       other_gate : (n : ℕ) → PresentShows u p.now (put_word at Gate n) seat
       other_gate n = record {
         slots = h.present.slots;
@@ -375,7 +372,7 @@ module _ (u : Setup) (p : StopState) (at : Word → ℕ) (seat : ℕ → Seat) (
       another : (j : ℕ) (x : Source) → SourceShows u p.gate (p.now.stop j) (λ f. at (Slot j f)) j x → SourceShows u (Some me) (p.now.stop j)
           (λ f. at (Slot j f)) j x
       another j Shut s = s
-      another j (Drafts work k) s = let bad : None ≡ Some j = sym (none_is p.gate (sym h.gate ∙ free)) ∙ s.holds in cc
+      another j (Drafts work k) s = let bad : None ≡ Some j = sym (gate_free p.gate (sym h.gate ∙ free)) ∙ s.holds in cc
       another j (Owns work) s = s
       another j (Collects work) s = s
 

@@ -1,18 +1,19 @@
 -- Each step of a CPU's command keeps what the words show of the stops, and what was seen of it tells the stops after it.
+use Rattle.smp_stop_steps.proofs.Gates.{gate_mine}
+use Rattle.smp_stop_steps.proofs.Same.{moved_source, still}
 use Rattle.smp_stop_steps.proofs.Patched.{lawful_when_on}
 use Rattle.smp_labels.proofs.Patched.{left_in_form, xor_same}
 use Rattle.smp_labels.specs.Kinds.{xor}
 use Rattle.smp_labels.specs.Keys.{is_on, count_after, count_or, IsKeyWord}
 use Rattle.std.proofs.Common.{◌≡◌, ◌≢◌, ℕ, ◌+◌, ◌-◌, ◌^◌, ◌<◌, Bool, true, false, eq-eqb, eqb-true, ◌==◌, cond, sym, subst, refl, ap, ◌∙◌, ◌⊎◌, inl}
 use Rattle.std.proofs.Common.{inr, arith, nat_lt, Option, Some, None, length}
-use Rattle.smp_words.proofs.Puts.{at_test}
 use Rattle.smp_stop_steps.proofs.Facts.{work_words}
 use Rattle.smp_stop_steps.proofs.Patching.{key_read, site_read, key_exchanged}
 use Rattle.smp_stop_steps.proofs.Sources.{done_loaded, field_stored, gate_opened, gate_taken, kind_back, result_loaded, roll_stored}
 use Rattle.smp_words.specs.Access.{one_less, put_if}
 use Rattle.smp_words.specs.Put.{put, put_word}
 use Rattle.smp_stop_steps.specs.Seats.{In, Rests, Seat}
-use Rattle.smp_stop_steps.specs.Shows.{StopShows, gate_word}
+use Rattle.smp_stop_steps.specs.Shows.{StopShows}
 use Rattle.smp_stop_steps.specs.Sits.{HoldsGate, OwnsIf, Sits, SitsAt, SitsAtRest, SourceSits, IsNudge}
 use Rattle.smp_stop_steps.specs.Slots.{DoneShows, begun_value, order}
 use Rattle.smp_words.specs.Kinds.{kind_at}
@@ -33,13 +34,6 @@ use Rattle.smp_words.specs.declared.work.Kind.{Kind as KindOf}
 use Rattle.smp_words.specs.declared.work.Work.{Work}
 use Rattle.smp_words.specs.declared.word.Word.TheVariants.{Gate, Slot, Key}
 use Rattle.smp_words.specs.declared.word.Word.{Word}
-
--- a put of what is there
-put_kept : {A : Type 0} (f : ℕ → A) (i j : ℕ) → put f i (f i) j ≡ f j
-put_kept {A} f i j = at_test j i (λ b. cond b (f i) (f j) ≡ f j) (λ e. ap f (sym e)) (λ _. refl)
-
-pub put_same_fn : {A : Type 0} (f : ℕ → A) (i : ℕ) → put f i (f i) ≡ f
-put_same_fn {A} f i = λ k j. put_kept f i j k
 
 -- a nudge moves a count by one
 one_apart : (up : Bool) (n new : ℕ) → count_after (nudge_of up) n ≡ Some new → (new ≡ n + 1) ⊎ (n ≡ new + 1)
@@ -62,29 +56,9 @@ less_one n some small = omega arith
 
 module _ (u : Setup) (p : StopState) (at : Word → ℕ) (seat : ℕ → Seat) (source : ℕ → Source) (h : StopShows u p at seat source) (c : StopControlValue) (me : ℕ)
     (s : Sits u me (at Gate) c (seat me) (source me)) where
-  -- a step that moves neither the CPU nor its source
-  still : (p' : StopState) (at' : Word → ℕ) → StopShows u p' at' seat source → StopShows u p' at' (put seat me (seat me)) (put source me (source me))
-  still p' at' shows = subst (λ x. StopShows u p' at' x (put source me (source me))) (sym (put_same_fn seat me)) (subst (λ y. StopShows u p' at' seat y)
-      (sym (put_same_fn source me)) shows)
-
-  -- one that moves the CPU
-  moved_seat : (p' : StopState) (at' : Word → ℕ) (x : Seat) → StopShows u p' at' (put seat me x) source → StopShows u p' at' (put seat me x)
-      (put source me (source me))
-  moved_seat p' at' x shows = subst (λ y. StopShows u p' at' (put seat me x) y) (sym (put_same_fn source me)) shows
-
-  -- one that moves its source
-  moved_source : (p' : StopState) (at' : Word → ℕ) (y : Source) → StopShows u p' at' seat (put source me y) → StopShows u p' at' (put seat me (seat me))
-      (put source me y)
-  moved_source p' at' y shows = subst (λ x. StopShows u p' at' x (put source me y)) (sym (put_same_fn seat me)) shows
-
   -- between commands
   abbrev AtRest : Type 0
   AtRest = SitsAtRest c.visit (seat me)
-
-  -- the gate
-  holder : (g : Option ℕ) → gate_word g ≡ me + 1 → g ≡ Some me
-  holder None e = absurd (omega arith)
-  holder (Some n) e = ap Some (let x : n ≡ me = omega arith in x)
 
   gate_is_taken : (b : Bool) → (at Gate == 0) ≡ b →
       StopShows u (gate_told p me act.Cas (cond b (Some (me + 1)) None)) (put_if put_word at Gate (cond b (Some (me + 1)) None)) seat source
@@ -105,7 +79,7 @@ module _ (u : Setup) (p : StopState) (at : Word → ℕ) (seat : ℕ → Seat) (
       record {
         seat_after = seat me;
         source_after = source me;
-        shows = still (state_after u p at c me TakeGate) (at_then u at c me TakeGate) (gate_is_taken (at Gate == 0) refl);
+        shows = still u seat source me (state_after u p at c me TakeGate) (at_then u at c me TakeGate) (gate_is_taken (at Gate == 0) refl);
         sits = record { below = s.below; irq = s.irq; seat = x; source = y; gate_held = tt };
       }
 
@@ -117,8 +91,8 @@ module _ (u : Setup) (p : StopState) (at : Word → ℕ) (seat : ℕ → Seat) (
       record {
         seat_after = seat me;
         source_after = source me;
-        shows = still (state_after u p at c me OpenGate) (at_then u at c me OpenGate) (gate_opened u p at seat source h me 0
-            (holder p.gate (sym h.gate ∙ g)) (not_drafting y));
+        shows = still u seat source me (state_after u p at c me OpenGate) (at_then u at c me OpenGate) (gate_opened u p at seat source h me 0
+            (gate_mine me p.gate (sym h.gate ∙ g)) (not_drafting y));
         sits = record { below = s.below; irq = s.irq; seat = x; source = y; gate_held = tt };
       }
 
@@ -138,7 +112,7 @@ module _ (u : Setup) (p : StopState) (at : Word → ℕ) (seat : ℕ → Seat) (
       let y = begins_source work f e in
       let p' = told u p me act.Store (Slot me f) None (Some (begun_value u.cpus work f)) 0 in
       let at' = put_word at (Slot me f) (begun_value u.cpus work f) in (
-        moved_source p' at' (Drafts work (order g))
+        moved_source u seat source me p' at' (Drafts work (order g))
             (subst (λ k. StopShows u p' at' seat (put source me (Drafts work k))) (sym next) (field_stored u p at seat source h me work (order f) f 0 y.1
             refl low)),
         record { below = s.below; irq = s.irq; seat = begins_seat work f e; source = (y.0, refl); gate_held = tt },
@@ -219,7 +193,7 @@ module _ (u : Setup) (p : StopState) (at : Word → ℕ) (seat : ℕ → Seat) (
       record {
         seat_after = seat me;
         source_after = Owns work;
-        shows = moved_source (state_after u p at c me (Begin work Roll)) (at_then u at c me (Begin work Roll)) (Owns work) (roll_stored u p at seat source h
+        shows = moved_source u seat source me (state_after u p at c me (Begin work Roll)) (at_then u at c me (Begin work Roll)) (Owns work) (roll_stored u p at seat source h
             me work 0 y.1);
         sits = record { below = s.below; irq = s.irq; seat = begins_seat work Roll e; source = (work, refl); gate_held = tt };
       }
@@ -238,7 +212,7 @@ module _ (u : Setup) (p : StopState) (at : Word → ℕ) (seat : ℕ → Seat) (
       record {
         seat_after = seat me;
         source_after = source me;
-        shows = still (state_after u p at c me (EnterKind slot)) at h;
+        shows = still u seat source me (state_after u p at c me (EnterKind slot)) at h;
         sits = record { below = s.below; irq = s.irq; seat = (x.0, x.1, ap kind_at w.kind ∙ kind_back x.0.kind); source = y; gate_held = tt };
       }
 
@@ -251,7 +225,7 @@ module _ (u : Setup) (p : StopState) (at : Word → ℕ) (seat : ℕ → Seat) (
       record {
         seat_after = seat me;
         source_after = source me;
-        shows = still (state_after u p at c me (EnterMask slot kind)) at h;
+        shows = still u seat source me (state_after u p at c me (EnterMask slot kind)) at h;
         sits = record { below = s.below; irq = s.irq; seat = (x.0, x.1, x.2, w.mask); source = y; gate_held = tt };
       }
 
@@ -265,7 +239,7 @@ module _ (u : Setup) (p : StopState) (at : Word → ℕ) (seat : ℕ → Seat) (
       record {
         seat_after = seat me;
         source_after = source me;
-        shows = still (state_after u p at c me (EnterActive slot kind mask)) at h;
+        shows = still u seat source me (state_after u p at c me (EnterActive slot kind mask)) at h;
         sits = record { below = s.below; irq = s.irq; seat = (x.0, record { kind = x.2; mask = x.3; active = w.active }, x.1); source = y; gate_held = tt };
       }
 
@@ -276,7 +250,7 @@ module _ (u : Setup) (p : StopState) (at : Word → ℕ) (seat : ℕ → Seat) (
       record {
         seat_after = seat me;
         source_after = source me;
-        shows = still (state_after u p at c me (ReadKey k)) at (key_read u p at seat source h me k 0 (h.present.irq me ∙ (sym s.irq ∙ x.0)));
+        shows = still u seat source me (state_after u p at c me (ReadKey k)) at (key_read u p at seat source h me k 0 (h.present.irq me ∙ (sym s.irq ∙ x.0)));
         sits = record { below = s.below; irq = s.irq; seat = x.2; source = y; gate_held = tt };
       }
 
@@ -287,7 +261,7 @@ module _ (u : Setup) (p : StopState) (at : Word → ℕ) (seat : ℕ → Seat) (
       record {
         seat_after = seat me;
         source_after = source me;
-        shows = still (state_after u p at c me (ReadSite i)) at (site_read u p at seat source h me i 0);
+        shows = still u seat source me (state_after u p at c me (ReadSite i)) at (site_read u p at seat source h me i 0);
         sits = record { below = s.below; irq = s.irq; seat = x.2; source = y; gate_held = tt };
       }
 
@@ -303,7 +277,7 @@ module _ (u : Setup) (p : StopState) (at : Word → ℕ) (seat : ℕ → Seat) (
       record {
         seat_after = seat me;
         source_after = source me;
-        shows = still (state_after u p at c me (NudgeKey k up)) at (key_read u p at seat source h me k 0 on);
+        shows = still u seat source me (state_after u p at c me (NudgeKey k up)) at (key_read u p at seat source h me k 0 on);
         sits = go x y fits (count_after (nudge_of up) (at (Key k))) refl;
       }
     where
@@ -345,7 +319,7 @@ module _ (u : Setup) (p : StopState) (at : Word → ℕ) (seat : ℕ → Seat) (
       record {
         seat_after = seat me;
         source_after = source me;
-        shows = still (state_after u p at c me (ExchangeKey k expected new)) (at_then u at c me (ExchangeKey k expected new))
+        shows = still u seat source me (state_after u p at c me (ExchangeKey k expected new)) (at_then u at c me (ExchangeKey k expected new))
             (go x.1 on x.3 (at (Key k) == expected) refl);
         sits = record { below = s.below; irq = s.irq; seat = x.4; source = y; gate_held = tt };
       }
@@ -389,7 +363,7 @@ module _ (u : Setup) (p : StopState) (at : Word → ℕ) (seat : ℕ → Seat) (
           (stop_goes c LoadResult)).control (seat me) y
       go x op work own true z = (
         source me,
-        still p at h,
+        still u seat source me p at h,
         record {
           below = s.below;
           irq = s.irq;
@@ -400,7 +374,7 @@ module _ (u : Setup) (p : StopState) (at : Word → ℕ) (seat : ℕ → Seat) (
       )
       go x op work own false z = (
         Collects work,
-        moved_source p at (Collects work) (done_loaded u p at seat source h me work own (open_done work own z)),
+        moved_source u seat source me p at (Collects work) (done_loaded u p at seat source h me work own (open_done work own z)),
         record
             { below = s.below; irq = s.irq; seat = x; source = (op, (work, refl)); gate_held = tt },
       )
@@ -413,6 +387,6 @@ module _ (u : Setup) (p : StopState) (at : Word → ℕ) (seat : ℕ → Seat) (
       record {
         seat_after = seat me;
         source_after = Shut;
-        shows = moved_source (state_after u p at c me LoadResult) at Shut (result_loaded u p at seat source h me y.1.0 0 y.1.1);
+        shows = moved_source u seat source me (state_after u p at c me LoadResult) at Shut (result_loaded u p at seat source h me y.1.0 0 y.1.1);
         sits = record { below = s.below; irq = s.irq; seat = x; source = refl; gate_held = tt };
       }

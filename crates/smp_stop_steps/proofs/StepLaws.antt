@@ -1,5 +1,5 @@
 -- What each step that a stop half may make next keeps.
-use Rattle.std.proofs.Common.{◌≡◌, ℕ, ◌<◌, List, length, subst, sym, arith}
+use Rattle.std.proofs.Common.{◌≡◌, ◌<◌, length, arith}
 use Rattle.smp_words.specs.Size.{cpus}
 use Rattle.smp_stop_steps.specs.State.{StopState}
 use Rattle.smp_stop_steps.specs.StepLaws.{StepsKeepLaws}

@@ -1,18 +1,15 @@
 -- Stops that words show keep all laws.
-use Rattle.std.proofs.Common.{◌≡◌, ℕ}
-use Rattle.smp_stop_steps.specs.Promises.{RunsAlone}
+use Rattle.std.proofs.Common.{ℕ}
 use Rattle.smp_stop_steps.specs.Seats.{Seat}
 use Rattle.smp_stop_steps.specs.Shows.{StopShows}
 use Rattle.smp_stop_steps.specs.Sources.{Source}
 use Rattle.smp_stop_steps.specs.State.{Setup, StopState}
-use Rattle.smp_stop_steps.specs.Stop.{Inside}
 use Rattle.smp_stop_steps.specs.StopLaws.{KeepsStopLaws}
 use Rattle.smp_words.specs.declared.word.Word.{Word}
 use Rattle.smp_words.specs.declared.word.Word.TheVariants.{Slot}
-use Rattle.smp_stop_steps.proofs.Ends.{function_law}
 use Rattle.smp_stop_steps.proofs.Functions.{last_stores, has_functions, runs_alone}
 use Rattle.smp_stop_steps.proofs.Interrupts.{interrupt_law}
-use Rattle.smp_stop_steps.proofs.Patched.{all_off, lawful_when_on, off_while_patched}
+use Rattle.smp_stop_steps.proofs.Patched.{lawful_when_on, off_while_patched}
 use Rattle.smp_stop_steps.proofs.Patchers.{is_lawful, has_patcher}
 use Rattle.smp_stop_steps.proofs.Raises.{phase_law}
 

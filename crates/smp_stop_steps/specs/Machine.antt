@@ -1,11 +1,11 @@
 -- One step of the stop half of a machine, and what every such half keeps.
-use Rattle.std.specs.Prelude.{◌≡◌, ℕ, ◌≤◌, List, length, slice_set}
+use Rattle.std.specs.Prelude.{◌≡◌, ℕ, ◌≤◌, Option, Some, List, length, slice_set}
 use Rattle.smp_labels.specs.Labels.{Labels}
 use Rattle.smp_words.specs.Size.{cpus}
 use Rattle.smp_words.specs.Access.{word_of, seen_of}
 use Rattle.smp_stop_steps.specs.State.{StopState}
 use Rattle.smp_stop_steps.specs.Tells.{tells}
-use Rattle.smp_stop_steps.specs.Stages.{StopControlValue, stop_access, stop_outcome, answer_at}
+use Rattle.smp_stop_steps.specs.Stages.{StopControlValue, StopOutcome, stop_access, stop_outcome, answer_at}
 use Rattle.smp_stop_steps.specs.Table.{StopWords, stop_number, stop_words_after}
 use Rattle.smp_stop_steps.specs.Value.{StopsValue, StopShown, StopsShow, IsStopTable, setup_of, stop_control_of}
 use Rattle.smp_words.specs.declared.access.Access.{Access}
@@ -22,6 +22,10 @@ stop_access_at v cpu stage = stop_access cpus cpu (stop_control_of v.controls cp
 abbrev pub stop_found_at : StopsValue → ℕ → StopStage → ℕ
 stop_found_at v cpu stage = stop_number v.table (word_of (stop_access_at v cpu stage))
 
+-- what follows a step that finds this number
+abbrev pub moved_on : List StopControlValue → ℕ → ℕ → StopStage → StopOutcome
+moved_on controls cpu found stage = stop_outcome cpu (stop_control_of controls cpu) stage found
+
 -- what is seen of the step
 abbrev pub stop_seen_at : StopsValue → ℕ → StopStage → Seen
 stop_seen_at v cpu stage =
@@ -34,6 +38,10 @@ stop_stepped v cpu stage = record v {
   table = stop_words_after v.table (stop_access_at v cpu stage);
   controls = slice_set v.controls cpu (stop_outcome cpu (stop_control_of v.controls cpu) stage (stop_found_at v cpu stage)).control;
 }
+
+-- it is made and seen
+abbrev pub IsStepOf : StopsValue → ℕ → StopStage → Option Seen → StopsValue → Type 0
+IsStepOf old cpu stage seen new = (seen ≡ Some (stop_seen_at old cpu stage)) × (new ≡ stop_stepped old cpu stage)
 
 -- whatever stops the half showed, it now shows those that the step tells
 abbrev pub StopTold : StopsValue → ℕ → StopStage → StopsValue → Type 0

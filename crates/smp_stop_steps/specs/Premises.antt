@@ -7,7 +7,7 @@ use Rattle.smp_stop_steps.specs.Laws.{IsThrough}
 use Rattle.smp_stop_steps.specs.Promises.{OfEachCpu}
 use Rattle.smp_stop_steps.specs.Stages.{stop_access}
 use Rattle.smp_stop_steps.specs.State.{StopState}
-use Rattle.smp_stop_steps.specs.Stop.{Stop, Inside, Called, Refills, Raises, Last, Ended, acked}
+use Rattle.smp_stop_steps.specs.Stop.{Stop, Inside, Called, Refills, Raises, Last, acked}
 use Rattle.smp_stop_steps.specs.declared.stage.StopStage.{StopStage}
 use Rattle.smp_words.specs.declared.field.Field.{Field}
 use Rattle.smp_words.specs.declared.field.Field.TheVariants as field

@@ -44,8 +44,8 @@ fn advance(controls: &mut [StopControl], cpu: u32, found: u64) -> Option<Note>
     requires cpu { cpu < length controls.old }
     requires small { cpu < 64 }
     requires fits { IfSome (stop_control_of controls.old cpu).stage (λ stage. FitsStop (stop_control_of controls.old cpu) stage found) }
-    ensures note { IfSome (stop_control_of controls.old cpu).stage (λ stage. result ≡ (stop_outcome cpu (stop_control_of controls.old cpu) stage found).note) }
-    ensures controls { IfSome (stop_control_of controls.old cpu).stage (λ stage. controls.new ≡ slice_set controls.old cpu (stop_outcome cpu (stop_control_of controls.old cpu) stage found).control) }
+    ensures note { IfSome (stop_control_of controls.old cpu).stage (λ stage. result ≡ (moved_on controls.old cpu found stage).note) }
+    ensures controls { IfSome (stop_control_of controls.old cpu).stage (λ stage. controls.new ≡ slice_set controls.old cpu (moved_on controls.old cpu found stage).control) }
 {
     let control = &mut controls[cpu as usize];
     let Some(stage) = control.stage() else {
@@ -55,7 +55,8 @@ fn advance(controls: &mut [StopControl], cpu: u32, found: u64) -> Option<Note>
 }
 
 ghost use Rattle.std.specs.Prelude.{◌<◌, length, slice_set, IfSome};
-ghost use Rattle.smp_stop_steps.specs.Stages.{FitsStop, stop_outcome};
+ghost use Rattle.smp_stop_steps.specs.Stages.{FitsStop};
+ghost use Rattle.smp_stop_steps.specs.Machine.{moved_on};
 ghost use Rattle.smp_stop_steps.specs.Value.{stop_control_of};
 ghost use Rattle.std.specs.Prelude.{IfOk, replicate};
 ghost use Rattle.smp_words.specs.Size.{cpus};
@@ -73,7 +74,7 @@ fn new_controls<A: Allocator>(alloc: A) -> Result<Vec<StopControl, A>, AllocErro
 }
 
 impl<A: Allocator> Stops<A> {
-    ghost use Rattle.smp_stop_steps.specs.Machine.{StopTold, stop_access_at, stop_seen_at, stop_stepped};
+    ghost use Rattle.smp_stop_steps.specs.Machine.{IsStepOf, StopTold, stop_access_at};
     ghost use Rattle.smp_stop_steps.specs.Begins.{MayBeginAt, stop_begun};
     ghost use Rattle.smp_stop_steps.specs.Stages.{FitsAccess};
     ghost use Rattle.smp_stop_steps.specs.State.{StopState};
@@ -181,7 +182,7 @@ impl<A: Allocator> Stops<A> {
 
     /// Makes one atomic step of the CPU's command; none where it has none.
     pub fn step(&mut self, cpu: u32) -> Option<Seen>
-        ensures step { MatchOption (stop_control_of self.old.controls cpu).stage ((result ≡ None) × (self.new ≡ self.old)) (λ stage. (result ≡ Some (stop_seen_at self.old cpu stage)) × (self.new ≡ stop_stepped self.old cpu stage)) }
+        ensures step { MatchOption (stop_control_of self.old.controls cpu).stage ((result ≡ None) × (self.new ≡ self.old)) (λ stage. IsStepOf self.old cpu stage result self.new) }
         ensures told { MatchOption (stop_control_of self.old.controls cpu).stage (self.new ≡ self.old) (λ stage. StopTold self.old cpu stage self.new) }
     {
         let Some(stage) = self.stage(cpu) else {
