@@ -7,7 +7,7 @@ mod stops;
 use super::events::replay;
 use super::*;
 use smp_mask::{CpuMask, SmpError};
-use std::alloc::Allocator;
+use std::alloc::{Allocator, Global};
 use std::test::*;
 
 // All CPUs below `nr`.
@@ -24,31 +24,43 @@ fn core_of<A: Allocator + Copy>(alloc: A, nr: u32) -> Result<Core<A>, SmpError> 
     Core::new(alloc, nr, all_online(nr)?)
 }
 
+// Why there is no such core; none where there is.
+fn refusal(alloc: Global, nr: u32, online: CpuMask) -> Option<SmpError> {
+    Core::new(alloc, nr, online).err()
+}
+
 #[test]
 fn constructor_limits(rt: HostRuntime) -> Result<(), Fail> {
-    let alloc = rt.alloc();
     let one = CpuMask::of(0)?;
-    assert!(rt; Core::new(alloc, 1, one).is_ok());
-    assert!(rt; Core::new(alloc, 32, all_online(32)?).is_ok());
-    let none = CpuMask::empty();
-    for (nr, online) in [(0, one), (33, one), (2, none), (2, CpuMask::of(2)?)] {
-        assert_eq!(rt;
-            Core::new(alloc, nr, online).err(),
-            Some(SmpError::BadArgument),
-            "at {nr}"
-        );
+    let bad = Some(SmpError::BadArgument);
+    for (nr, online, error) in [
+        (1, one, None),
+        (32, all_online(32)?, None),
+        (0, one, bad),
+        (33, one, bad),
+        (2, CpuMask::empty(), bad),
+        (2, CpuMask::of(2)?, bad),
+    ] {
+        assert_eq!(rt; refusal(rt.alloc(), nr, online), error, "at {nr}");
     }
     Ok(())
 }
 
+// How many steps a replay by two CPUs makes, and where it stops.
+fn replayed(
+    alloc: Global,
+    events: &[Event],
+) -> Result<(usize, Option<(usize, SmpError)>), SmpError> {
+    let end = replay(alloc, core_of(alloc, 2)?, events)?;
+    Ok((end.seen.len(), end.stopped))
+}
+
 #[test]
-fn replays_stop_at_a_refusal(rt: HostRuntime) -> Result<(), Fail> {
-    let alloc = rt.alloc();
-    let idle = replay(alloc, core_of(alloc, 2)?, &[Event::Step(1)])?;
-    assert!(rt; idle.seen.is_empty());
-    assert_eq!(rt; idle.stopped, Some((0, SmpError::IdleStep)));
-    let handle = Event::Start(0, Command::Handle);
-    let twice = replay(alloc, core_of(alloc, 2)?, &[handle, handle])?;
-    assert_eq!(rt; twice.stopped, Some((1, SmpError::Busy)));
-    Ok(())
+fn replays_stop_at_a_refusal(rt: HostRuntime) {
+    let step = [Event::Step(1)];
+    let idle = replayed(rt.alloc(), &step);
+    assert_eq!(rt; idle, Ok((0, Some((0, SmpError::IdleStep)))));
+    let handles = [Event::Start(0, Command::Handle); 2];
+    let busy = replayed(rt.alloc(), &handles);
+    assert_eq!(rt; busy, Ok((0, Some((1, SmpError::Busy)))));
 }

@@ -1,4 +1,4 @@
-use super::line::Line::{Begin, Goes, Refused, Stands, Steps};
+use super::line::Line::{Begin, Goes, Holds, Phase, Queue, Refused, Stands, Steps, Tally};
 use super::line::*;
 use super::*;
 
@@ -30,10 +30,8 @@ fn one_post() -> [Line; 12] {
 
 #[test]
 fn one_sync_call(rt: HostRuntime) -> Result<(), Fail> {
-    let mut core = core_of(rt.alloc(), 2)?;
-    assert_eq!(rt; first_fault(&mut core, &one_post())?, None);
-    assert_eq!(rt; core.queue(1).as_slice(), [0].as_slice());
     let handle = [
+        Queue(1, Some(0), None),
         Begin(1, Command::Handle),
         store(1, Word::Hand(1), 1),
         swap(1, Word::Intr(1), 1, 0),
@@ -55,16 +53,15 @@ fn one_sync_call(rt: HostRuntime) -> Result<(), Fail> {
         Begin(0, Command::Done(0)),
         noted(load(0, Word::Flags(0), 0), Note::Done),
         Stands(0, RecPlace::Free),
+        Tally(0, 1, (1, 1)),
+        Queue(1, None, None),
     ];
-    assert_eq!(rt; first_fault(&mut core, &handle)?, None);
-    assert_eq!(rt; core.tally(0, 1), (1, 1));
-    assert!(rt; core.queue(1).is_empty());
+    play(&rt, &[&one_post(), &handle], core_of(rt.alloc(), 2)?);
     Ok(())
 }
 
 #[test]
 fn two_posts_and_one_drain(rt: HostRuntime) -> Result<(), Fail> {
-    let mut core = core_of(rt.alloc(), 3)?;
     let lines = [
         Goes(0, asynchronous(1, 2, 1), 8, Note::Owed),
         Begin(1, asynchronous(1, 2, 2)),
@@ -94,7 +91,7 @@ fn two_posts_and_one_drain(rt: HostRuntime) -> Result<(), Fail> {
         store(2, Word::Ran(2, 1), 1),
         noted(store(2, Word::Hand(2), 0), Note::Handled(2)),
     ];
-    assert_eq!(rt; first_fault(&mut core, &lines)?, None);
+    play(&rt, &[&lines], core_of(rt.alloc(), 3)?);
     Ok(())
 }
 
@@ -153,13 +150,9 @@ fn first_pass_of_four() -> [Line; 20] {
     ]
 }
 
-#[test]
-fn sync_calls_run_first(rt: HostRuntime) -> Result<(), Fail> {
-    let mut core = core_of(rt.alloc(), 2)?;
-    assert_eq!(rt; first_fault(&mut core, &four_posts())?, None);
-    assert_eq!(rt; first_fault(&mut core, &reversal_of_four())?, None);
-    assert_eq!(rt; first_fault(&mut core, &first_pass_of_four())?, None);
-    let second_pass = [
+// The ASYNC calls run.
+fn second_pass_of_four() -> [Line; 11] {
+    [
         load(1, Word::Next(1), 11),
         load(1, Word::Func(1), 1),
         load(1, Word::Info(1), 0),
@@ -171,15 +164,21 @@ fn sync_calls_run_first(rt: HostRuntime) -> Result<(), Fail> {
         noted(store(1, Word::Flags(10), 0), Note::Call(0, 3, 0)),
         store(1, Word::Ran(1, 0), 4),
         noted(store(1, Word::Hand(1), 0), Note::Handled(4)),
-    ];
-    assert_eq!(rt; first_fault(&mut core, &second_pass)?, None);
+    ]
+}
+
+#[test]
+fn sync_calls_run_first(rt: HostRuntime) -> Result<(), Fail> {
+    let (posts, reversal) = (four_posts(), reversal_of_four());
+    let (first, second) = (first_pass_of_four(), second_pass_of_four());
+    let core = core_of(rt.alloc(), 2)?;
+    play(&rt, &[&posts, &reversal, &first, &second], core);
     Ok(())
 }
 
 // An interrupt with no call: the drain takes nothing, and no record is touched.
 #[test]
 fn a_drain_of_nothing(rt: HostRuntime) -> Result<(), Fail> {
-    let mut core = core_of(rt.alloc(), 2)?;
     let lines = [
         Goes(0, Command::Send(1), 1, Note::Sent),
         Begin(1, Command::Handle),
@@ -188,42 +187,49 @@ fn a_drain_of_nothing(rt: HostRuntime) -> Result<(), Fail> {
         swap(1, Word::Head(1), 0, 0),
         noted(store(1, Word::Hand(1), 0), Note::Handled(0)),
     ];
-    assert_eq!(rt; first_fault(&mut core, &lines)?, None);
+    play(&rt, &[&lines], core_of(rt.alloc(), 2)?);
     Ok(())
 }
 
+// So many steps, and then where the records 1, 0, 10 and 3 are.
+fn places_after(steps: u32, places: [RecPlace; 4]) -> [Line; 5] {
+    [
+        Steps(1, steps),
+        Stands(1, places[0]),
+        Stands(0, places[1]),
+        Stands(10, places[2]),
+        Stands(3, places[3]),
+    ]
+}
+
 // Each record is in the batch until its call begins, wherever the walk is.
+fn places_of_four() -> [[Line; 5]; 8] {
+    let (batch, running, free) = (RecPlace::Batch(1), RecPlace::Running(1), RecPlace::Free);
+    [
+        places_after(7, [batch, batch, batch, batch]),
+        places_after(8, [batch, batch, batch, batch]),
+        places_after(1, [batch, running, batch, batch]),
+        places_after(2, [batch, free, batch, batch]),
+        places_after(7, [batch, free, batch, batch]),
+        places_after(1, [batch, free, batch, running]),
+        places_after(5, [batch, free, batch, free]),
+        places_after(1, [free, free, batch, free]),
+    ]
+}
+
 #[test]
 fn places_inside_a_drain(rt: HostRuntime) -> Result<(), Fail> {
-    let mut core = core_of(rt.alloc(), 2)?;
-    assert_eq!(rt; first_fault(&mut core, &four_posts())?, None);
-    let batch = RecPlace::Batch(1);
-    // So many steps, and then where the records 1, 0, 10 and 3 are.
-    for (steps, places) in [
-        (7, [batch, batch, batch, batch]),
-        (8, [batch, batch, batch, batch]),
-        (1, [batch, RecPlace::Running(1), batch, batch]),
-        (2, [batch, RecPlace::Free, batch, batch]),
-        (7, [batch, RecPlace::Free, batch, batch]),
-        (1, [batch, RecPlace::Free, batch, RecPlace::Running(1)]),
-        (5, [batch, RecPlace::Free, batch, RecPlace::Free]),
-        (1, [RecPlace::Free, RecPlace::Free, batch, RecPlace::Free]),
-    ] {
-        let lines = [
-            Steps(1, steps),
-            Stands(1, places[0]),
-            Stands(0, places[1]),
-            Stands(10, places[2]),
-            Stands(3, places[3]),
-        ];
-        assert_eq!(rt; first_fault(&mut core, &lines)?, None);
-    }
+    let (posts, places) = (four_posts(), places_of_four());
+    play(
+        &rt,
+        &[&posts, places.as_flattened()],
+        core_of(rt.alloc(), 2)?,
+    );
     Ok(())
 }
 
 #[test]
 fn a_busy_record(rt: HostRuntime) -> Result<(), Fail> {
-    let mut core = core_of(rt.alloc(), 2)?;
     let post = asynchronous(10, 1, 1);
     let lines = [
         Goes(0, post, 8, Note::Owed),
@@ -239,13 +245,12 @@ fn a_busy_record(rt: HostRuntime) -> Result<(), Fail> {
         Steps(0, 2),
         noted(cas(0, Word::Head(1), 0, Some(11)), Note::Owed),
     ];
-    assert_eq!(rt; first_fault(&mut core, &lines)?, None);
+    play(&rt, &[&lines], core_of(rt.alloc(), 2)?);
     Ok(())
 }
 
 #[test]
 fn free_before_its_function_ran(rt: HostRuntime) -> Result<(), Fail> {
-    let mut core = core_of(rt.alloc(), 2)?;
     let lines = [
         Goes(0, asynchronous(10, 1, 1), 8, Note::Owed),
         Goes(0, Command::Send(1), 1, Note::Sent),
@@ -262,14 +267,13 @@ fn free_before_its_function_ran(rt: HostRuntime) -> Result<(), Fail> {
         store(1, Word::Ran(1, 0), 2),
         noted(store(1, Word::Hand(1), 0), Note::Handled(1)),
     ];
-    assert_eq!(rt; first_fault(&mut core, &lines)?, None);
+    play(&rt, &[&lines], core_of(rt.alloc(), 2)?);
     Ok(())
 }
 
 // The head is what the post has found there, but over another chain.
 #[test]
 fn the_head_equal_again(rt: HostRuntime) -> Result<(), Fail> {
-    let mut core = core_of(rt.alloc(), 3)?;
     let lines = [
         Goes(1, asynchronous(10, 2, 1), 8, Note::Owed),
         Goes(1, Command::Send(2), 1, Note::Sent),
@@ -286,19 +290,18 @@ fn the_head_equal_again(rt: HostRuntime) -> Result<(), Fail> {
         Steps(1, 7),
         noted(cas(1, Word::Head(2), 0, Some(23)), Note::Owed),
         noted(cas(0, Word::Head(2), 23, Some(11)), Note::Queued),
+        Queue(2, Some(22), Some(10)),
+        Holds(Word::Flags(10), Some(1)),
+        Holds(Word::Flags(1151), Some(0)),
+        Holds(Word::Flags(1152), None),
+        Phase(0, 0),
     ];
-    assert_eq!(rt; first_fault(&mut core, &lines)?, None);
-    assert_eq!(rt; core.queue(2).as_slice(), [22, 10].as_slice());
-    assert_eq!(rt; core.word(Word::Flags(10)), Some(1));
-    assert_eq!(rt; core.word(Word::Flags(1151)), Some(0));
-    assert_eq!(rt; core.word(Word::Flags(1152)), None);
-    assert_eq!(rt; core.phase(0), 0);
+    play(&rt, &[&lines], core_of(rt.alloc(), 3)?);
     Ok(())
 }
 
 #[test]
 fn a_post_between_accept_and_take(rt: HostRuntime) -> Result<(), Fail> {
-    let mut core = core_of(rt.alloc(), 3)?;
     let lines = [
         Goes(0, asynchronous(1, 1, 1), 8, Note::Owed),
         Goes(0, Command::Send(1), 1, Note::Sent),
@@ -317,7 +320,7 @@ fn a_post_between_accept_and_take(rt: HostRuntime) -> Result<(), Fail> {
         Steps(1, 1),
         noted(store(1, Word::Hand(1), 0), Note::Handled(2)),
     ];
-    assert_eq!(rt; first_fault(&mut core, &lines)?, None);
+    play(&rt, &[&lines], core_of(rt.alloc(), 3)?);
     Ok(())
 }
 
@@ -333,32 +336,27 @@ fn contenders(tries: u32) -> [Line; 4] {
 
 #[test]
 fn contention_with_one_try(rt: HostRuntime) -> Result<(), Fail> {
-    let mut core = core_of(rt.alloc(), 3)?;
-    assert_eq!(rt; first_fault(&mut core, &contenders(1))?, None);
     let end = [
         store(0, Word::Queued(0, 2), 0),
         noted(store(0, Word::Flags(1), 0), Note::Contended),
     ];
-    assert_eq!(rt; first_fault(&mut core, &end)?, None);
+    play(&rt, &[&contenders(1), &end], core_of(rt.alloc(), 3)?);
     Ok(())
 }
 
 #[test]
 fn contention_with_two_tries(rt: HostRuntime) -> Result<(), Fail> {
-    let mut core = core_of(rt.alloc(), 3)?;
-    assert_eq!(rt; first_fault(&mut core, &contenders(2))?, None);
     let end = [
         store(0, Word::Next(1), 14),
         noted(cas(0, Word::Head(2), 14, Some(2)), Note::Queued),
     ];
-    assert_eq!(rt; first_fault(&mut core, &end)?, None);
+    play(&rt, &[&contenders(2), &end], core_of(rt.alloc(), 3)?);
     Ok(())
 }
 
 // A record for a far destination, by the last CPU; and the last record of the first.
 #[test]
 fn records_of_thirty_two_cpus(rt: HostRuntime) -> Result<(), Fail> {
-    let mut core = core_of(rt.alloc(), 32)?;
     let lines = [
         Begin(31, asynchronous(12, 8, 1)),
         load(31, Word::Flags(1128), 0),
@@ -376,14 +374,13 @@ fn records_of_thirty_two_cpus(rt: HostRuntime) -> Result<(), Fail> {
         Stands(1128, RecPlace::Queued(8)),
         Stands(407, RecPlace::Queued(31)),
     ];
-    assert_eq!(rt; first_fault(&mut core, &lines)?, None);
+    play(&rt, &[&lines], core_of(rt.alloc(), 32)?);
     Ok(())
 }
 
 // A record for a destination that is not below the number of CPUs, and one that is none, are refused.
 #[test]
 fn records_that_a_source_has_not(rt: HostRuntime) -> Result<(), Fail> {
-    let mut few = core_of(rt.alloc(), 9)?;
     let lines = [
         Goes(0, asynchronous(12, 8, 1), 8, Note::Owed),
         Refused(0, asynchronous(13, 9, 1), SmpError::BadArgument),
@@ -391,6 +388,6 @@ fn records_that_a_source_has_not(rt: HostRuntime) -> Result<(), Fail> {
         Refused(0, Command::Done(36), SmpError::BadArgument),
         Goes(0, Command::Done(12), 1, Note::Locked),
     ];
-    assert_eq!(rt; first_fault(&mut few, &lines)?, None);
+    play(&rt, &[&lines], core_of(rt.alloc(), 9)?);
     Ok(())
 }

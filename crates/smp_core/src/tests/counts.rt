@@ -1,4 +1,4 @@
-use super::line::Line::{Begin, Goes, Refused};
+use super::line::Line::{Begin, Goes, Holds, Refused};
 use super::line::*;
 use super::stops::{slot, work};
 use super::*;
@@ -12,6 +12,8 @@ fn one_key<A: Allocator + Copy>(alloc: A, nr: u32) -> Result<Core<A>, SmpError> 
     };
     Core::with_labels(alloc, nr, all_online(nr)?, &LabelMap::new(&[entry], 1)?)
 }
+
+const GATE: Line = Goes(0, Command::Gate, 1, Note::Gate);
 
 // A patch by the only CPU, as far as its function.
 fn lone_patch(change: Change) -> Result<[Line; 4], SmpError> {
@@ -69,19 +71,15 @@ fn up_from_zero() -> [Line; 12] {
 
 #[test]
 fn a_nudge_needs_a_key_that_stays_on(rt: HostRuntime) -> Result<(), Fail> {
-    let mut core = one_key(rt.alloc(), 1)?;
-    let lines = [
+    let off = [
         Begin(0, Command::Nudge(0, true)),
         noted(load(0, Word::Key(0), 0), Note::Stop),
         Begin(0, Command::Nudge(0, false)),
         noted(load(0, Word::Key(0), 0), Note::KeyRange),
         Refused(0, Command::Nudge(1, true), SmpError::BadArgument),
-        Goes(0, Command::Gate, 1, Note::Gate),
+        GATE,
     ];
-    assert_eq!(rt; first_fault(&mut core, &lines)?, None);
-    assert_eq!(rt; first_fault(&mut core, &lone_patch(Change::Up)?)?, None);
-    assert_eq!(rt; first_fault(&mut core, &up_from_zero())?, None);
-    assert_eq!(rt; first_fault(&mut core, &leaves(2, 0))?, None);
+    let (up, run, end) = (lone_patch(Change::Up)?, up_from_zero(), leaves(2, 0));
     let nudges = [
         Goes(0, Command::Site(0), 1, Note::Jmp),
         Begin(0, Command::Nudge(0, true)),
@@ -91,25 +89,25 @@ fn a_nudge_needs_a_key_that_stays_on(rt: HostRuntime) -> Result<(), Fail> {
         Begin(0, Command::Nudge(0, false)),
         noted(load(0, Word::Key(0), 1), Note::Stop),
     ];
-    assert_eq!(rt; first_fault(&mut core, &nudges)?, None);
+    let core = one_key(rt.alloc(), 1)?;
+    play(&rt, &[&off, &up, &run, &end, &nudges], core);
     Ok(())
 }
 
 #[test]
 fn a_patch_down_to_zero_turns_the_key_off(rt: HostRuntime) -> Result<(), Fail> {
-    let mut core = one_key(rt.alloc(), 1)?;
-    let gate = [Goes(0, Command::Gate, 1, Note::Gate)];
-    assert_eq!(rt; first_fault(&mut core, &gate)?, None);
-    for change in [Change::Up, Change::Down] {
-        assert_eq!(rt; first_fault(&mut core, &lone_patch(change)?)?, None);
-        assert_eq!(rt; first_fault(&mut core, &rest(11, 2, 0))?, None);
-    }
+    let (up, down, end) = (
+        lone_patch(Change::Up)?,
+        lone_patch(Change::Down)?,
+        rest(11, 2, 0),
+    );
     let reads = [
         Goes(0, Command::Key(0), 1, Note::Off),
         Goes(0, Command::Site(0), 1, Note::Nop),
         Goes(0, Command::Nudge(0, false), 1, Note::KeyRange),
     ];
-    assert_eq!(rt; first_fault(&mut core, &reads)?, None);
+    let core = one_key(rt.alloc(), 1)?;
+    play(&rt, &[&[GATE], &up, &end, &down, &end, &reads], core);
     Ok(())
 }
 
@@ -135,36 +133,27 @@ fn patch_by_two() -> Result<[Line; 12], SmpError> {
 // Another CPU nudges between the load and the exchange.
 #[test]
 fn a_nudge_is_lost_to_another(rt: HostRuntime) -> Result<(), Fail> {
-    let mut core = one_key(rt.alloc(), 2)?;
-    assert_eq!(rt; first_fault(&mut core, &patch_by_two()?)?, None);
+    let patch = patch_by_two()?;
     let nudges = [
         Begin(0, Command::Nudge(0, true)),
         load(0, Word::Key(0), 1),
         Goes(1, Command::Nudge(0, true), 2, Note::Done),
         noted(cas(0, Word::Key(0), 2, None), Note::Lost),
         Goes(0, Command::Nudge(0, true), 2, Note::Done),
+        Holds(Word::Key(0), Some(3)),
     ];
-    assert_eq!(rt; first_fault(&mut core, &nudges)?, None);
-    assert_eq!(rt; core.word(Word::Key(0)), Some(3));
+    play(&rt, &[&patch, &nudges], one_key(rt.alloc(), 2)?);
     Ok(())
 }
 
 // The count is raised between the begin of a stop that lowers it and its run: nothing is patched.
 #[test]
 fn a_patch_counts_from_what_it_finds(rt: HostRuntime) -> Result<(), Fail> {
-    let mut core = one_key(rt.alloc(), 1)?;
-    let gate = [Goes(0, Command::Gate, 1, Note::Gate)];
-    assert_eq!(rt; first_fault(&mut core, &gate)?, None);
-    assert_eq!(rt; first_fault(&mut core, &lone_patch(Change::On)?)?, None);
-    assert_eq!(rt; first_fault(&mut core, &rest(11, 2, 0))?, None);
     let one = CpuMask::of(0)?;
-    let lines = [
-        Goes(
-            0,
-            work(Kind::Patch, one, one, 0, Change::Down.word()),
-            11,
-            Note::Begun,
-        ),
+    let (on, end) = (lone_patch(Change::On)?, rest(11, 2, 0));
+    let down = work(Kind::Patch, one, one, 0, Change::Down.word());
+    let nudged = [
+        Goes(0, down, 11, Note::Begun),
         Goes(0, Command::Nudge(0, true), 2, Note::Done),
         Goes(0, Command::Enter(0), 4, Note::Entered),
         Goes(0, Command::Nudge(0, true), 2, Note::Done),
@@ -172,20 +161,18 @@ fn a_patch_counts_from_what_it_finds(rt: HostRuntime) -> Result<(), Fail> {
         Goes(0, Command::Advance(0), 4, Note::Moved(2)),
         Refused(0, Command::Nudge(0, true), SmpError::BadArgument),
     ];
-    assert_eq!(rt; first_fault(&mut core, &lines)?, None);
-    assert_eq!(rt; first_fault(&mut core, &rest(8, 2, 0))?, None);
-    assert_eq!(rt; core.word(Word::Key(0)), Some(2));
-    assert_eq!(rt; core.word(Word::Site(0)), Some(1));
+    let short = rest(8, 2, 0);
+    let counts = [Holds(Word::Key(0), Some(2)), Holds(Word::Site(0), Some(1))];
+    let core = one_key(rt.alloc(), 1)?;
+    play(&rt, &[&[GATE], &on, &end, &nudged, &short, &counts], core);
     Ok(())
 }
 
 #[test]
 fn a_patch_at_an_edge_answers_one(rt: HostRuntime) -> Result<(), Fail> {
-    let mut core = one_key(rt.alloc(), 1)?;
-    let gate = [Goes(0, Command::Gate, 1, Note::Gate)];
-    assert_eq!(rt; first_fault(&mut core, &gate)?, None);
-    assert_eq!(rt; first_fault(&mut core, &lone_patch(Change::Down)?)?, None);
-    assert_eq!(rt; first_fault(&mut core, &rest(7, 3, 1))?, None);
-    assert_eq!(rt; core.word(Word::Key(0)), Some(0));
+    let (down, end) = (lone_patch(Change::Down)?, rest(7, 3, 1));
+    let count = [Holds(Word::Key(0), Some(0))];
+    let core = one_key(rt.alloc(), 1)?;
+    play(&rt, &[&[GATE], &down, &end, &count], core);
     Ok(())
 }

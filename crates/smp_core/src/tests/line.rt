@@ -1,4 +1,5 @@
 use super::*;
+use std::process::Abort;
 
 // A line of a worked case: what a CPU does, and what is to be seen.
 #[derive(Copy, Clone)]
@@ -15,6 +16,14 @@ pub enum Line {
     Refused(u32, Command, SmpError),
     // The record is here.
     Stands(u32, RecPlace),
+    // The CPU's queue holds these records and no others, the older one first.
+    Queue(u32, Option<u32>, Option<u32>),
+    // So many calls from the first CPU to the second were queued, and so many ran.
+    Tally(u32, u32, (u64, u64)),
+    // The word holds this number; none where there is no such word.
+    Holds(Word, Option<u64>),
+    // The slot is at this phase.
+    Phase(u32, u32),
 }
 
 impl Line {
@@ -36,8 +45,24 @@ impl Line {
             }
             Line::Refused(cpu, command, error) => Ok(core.start(cpu, command) == Err(error)),
             Line::Stands(id, place) => Ok(core.place(id) == Some(place)),
+            Line::Queue(cpu, first, second) => Ok(queue_is(core, cpu, first, second)),
+            Line::Tally(src, dst, counts) => Ok(core.tally(src, dst) == counts),
+            Line::Holds(word, number) => Ok(core.word(word) == number),
+            Line::Phase(slot, phase) => Ok(core.phase(slot) == phase),
         }
     }
+}
+
+// Whether the CPU's queue holds these records and no others.
+fn queue_is<A: Allocator>(
+    core: &Core<A>,
+    cpu: u32,
+    first: Option<u32>,
+    second: Option<u32>,
+) -> bool {
+    let queue = core.queue(cpu);
+    let ids = queue.as_slice();
+    (ids.get(0).copied(), ids.get(1).copied(), ids.get(2)) == (first, second, None)
 }
 
 // Makes so many steps: the note of the last.
@@ -53,14 +78,21 @@ fn last_note<A: Allocator>(
     Ok(note)
 }
 
-// The index of the first line that goes another way.
-pub fn first_fault<A: Allocator>(
+// Plays the parts of a case on the core, one after the other: each line goes as it says.
+pub fn play(rt: &impl Abort, parts: &[&[Line]], mut core: Core<Global>) {
+    assert_eq!(rt; first_fault(&mut core, parts), Ok(None));
+}
+
+// The part and the index there of the first line that goes another way.
+fn first_fault<A: Allocator>(
     core: &mut Core<A>,
-    lines: &[Line],
-) -> Result<Option<usize>, SmpError> {
-    for (i, line) in lines.iter().enumerate() {
-        if !line.goes(core)? {
-            return Ok(Some(i));
+    parts: &[&[Line]],
+) -> Result<Option<(usize, usize)>, SmpError> {
+    for (part, lines) in parts.iter().enumerate() {
+        for (i, line) in lines.iter().enumerate() {
+            if !line.goes(core)? {
+                return Ok(Some((part, i)));
+            }
         }
     }
     Ok(None)

@@ -1,4 +1,4 @@
-use super::line::Line::{Begin, Goes, Refused};
+use super::line::Line::{Begin, Goes, Refused, Steps};
 use super::line::*;
 use super::stops::{slot, work};
 use super::*;
@@ -28,8 +28,7 @@ fn lone_patch(change: u64) -> Result<[Line; 5], SmpError> {
 
 #[test]
 fn patch_of_one_cpu(rt: HostRuntime) -> Result<(), Fail> {
-    let mut core = two_sites(rt.alloc(), 1)?;
-    assert_eq!(rt; first_fault(&mut core, &lone_patch(1)?)?, None);
+    let patch = lone_patch(1)?;
     let run = [
         Begin(0, Command::Advance(0)),
         load(0, slot(Field::State), 3),
@@ -46,14 +45,13 @@ fn patch_of_one_cpu(rt: HostRuntime) -> Result<(), Fail> {
         store(0, slot(Field::Ack), 1),
         noted(store(0, slot(Field::State), 4), Note::Ran),
     ];
-    assert_eq!(rt; first_fault(&mut core, &run)?, None);
+    play(&rt, &[&patch, &run], two_sites(rt.alloc(), 1)?);
     Ok(())
 }
 
 #[test]
 fn a_patch_to_the_same_count_stores_nothing(rt: HostRuntime) -> Result<(), Fail> {
-    let mut core = two_sites(rt.alloc(), 1)?;
-    assert_eq!(rt; first_fault(&mut core, &lone_patch(0)?)?, None);
+    let patch = lone_patch(0)?;
     let run = [
         Begin(0, Command::Advance(0)),
         load(0, slot(Field::State), 3),
@@ -64,25 +62,29 @@ fn a_patch_to_the_same_count_stores_nothing(rt: HostRuntime) -> Result<(), Fail>
         store(0, slot(Field::Ack), 1),
         noted(store(0, slot(Field::State), 4), Note::Ran),
     ];
-    assert_eq!(rt; first_fault(&mut core, &run)?, None);
+    play(&rt, &[&patch, &run], two_sites(rt.alloc(), 1)?);
     Ok(())
 }
 
-#[test]
-fn a_patch_of_all_sites_loads_each_entry_once(rt: HostRuntime) -> Result<(), Fail> {
+// One CPU, and sixteen sites of key 0.
+fn sixteen_sites<A: Allocator + Copy>(alloc: A) -> Result<Core<A>, SmpError> {
     let entry = Entry {
         key: 0,
         branch: false,
     };
     let labels = LabelMap::new(&[entry; 16], 1)?;
-    let mut core = Core::with_labels(rt.alloc(), 1, all_online(1)?, &labels)?;
-    assert_eq!(rt; first_fault(&mut core, &lone_patch(1)?)?, None);
+    Core::with_labels(alloc, 1, all_online(1)?, &labels)
+}
+
+#[test]
+fn a_patch_of_all_sites_loads_each_entry_once(rt: HostRuntime) -> Result<(), Fail> {
+    let patch = lone_patch(1)?;
     let run = [
         Goes(0, Command::Advance(0), 40, Note::Ran),
         Goes(0, Command::Advance(0), 4, Note::Left),
         Goes(0, Command::Site(15), 1, Note::Jmp),
     ];
-    assert_eq!(rt; first_fault(&mut core, &run)?, None);
+    play(&rt, &[&patch, &run], sixteen_sites(rt.alloc())?);
     Ok(())
 }
 
@@ -103,8 +105,7 @@ fn half_a_patch() -> Result<[Line; 8], SmpError> {
 
 #[test]
 fn patch_of_two_cpus(rt: HostRuntime) -> Result<(), Fail> {
-    let mut core = two_sites(rt.alloc(), 2)?;
-    assert_eq!(rt; first_fault(&mut core, &half_a_patch()?)?, None);
+    let half = half_a_patch()?;
     let rest = [
         Goes(0, Command::Key(0), 1, Note::Off),
         Goes(0, Command::Advance(0), 4, Note::Moved(2)),
@@ -120,14 +121,13 @@ fn patch_of_two_cpus(rt: HostRuntime) -> Result<(), Fail> {
         Goes(0, Command::Site(0), 1, Note::Jmp),
         Goes(1, Command::Site(1), 1, Note::Nop),
     ];
-    assert_eq!(rt; first_fault(&mut core, &rest)?, None);
+    play(&rt, &[&half, &rest], two_sites(rt.alloc(), 2)?);
     Ok(())
 }
 
 #[test]
 fn interrupts_are_off_in_a_rendezvous(rt: HostRuntime) -> Result<(), Fail> {
-    let mut core = two_sites(rt.alloc(), 2)?;
-    assert_eq!(rt; first_fault(&mut core, &half_a_patch()?)?, None);
+    let half = half_a_patch()?;
     let post = Command::Post(1, 0, Class::Async, 3, 4, 1);
     let lines = [
         Refused(1, Command::Handle, SmpError::BadArgument),
@@ -140,24 +140,24 @@ fn interrupts_are_off_in_a_rendezvous(rt: HostRuntime) -> Result<(), Fail> {
         Goes(1, Command::Gate, 1, Note::Taken),
         Goes(0, Command::Handle, 13, Note::Handled(1)),
     ];
-    assert_eq!(rt; first_fault(&mut core, &lines)?, None);
+    play(&rt, &[&half, &lines], two_sites(rt.alloc(), 2)?);
     Ok(())
 }
 
 #[test]
 fn begin_refuses_patches_in_order(rt: HostRuntime) -> Result<(), Fail> {
-    let mut core = two_sites(rt.alloc(), 2)?;
     let all = all_online(2)?;
     let first = CpuMask::of(0)?;
-    core.start(0, Command::Gate)?;
-    core.step(0)?;
-    for bad in [
-        work(Kind::Patch, first.with(2)?, first, 0, 1),
-        work(Kind::Patch, all, all, 0, 1),
-        work(Kind::Patch, all, first, 1, 1),
-        work(Kind::Patch, all, first, 0, 4),
-    ] {
-        assert_eq!(rt; core.start(0, bad), Err(SmpError::BadArgument));
-    }
+    let offline = first.with(2)?;
+    let bad = SmpError::BadArgument;
+    let lines = [
+        Begin(0, Command::Gate),
+        Steps(0, 1),
+        Refused(0, work(Kind::Patch, offline, first, 0, 1), bad),
+        Refused(0, work(Kind::Patch, all, all, 0, 1), bad),
+        Refused(0, work(Kind::Patch, all, first, 1, 1), bad),
+        Refused(0, work(Kind::Patch, all, first, 0, 4), bad),
+    ];
+    play(&rt, &[&lines], two_sites(rt.alloc(), 2)?);
     Ok(())
 }

@@ -1,4 +1,4 @@
-use super::line::Line::{Begin, Goes, Refused};
+use super::line::Line::{Begin, Goes, Phase, Refused, Steps};
 use super::line::*;
 use super::*;
 
@@ -29,7 +29,6 @@ fn lone_turn(phase: u32, note: Note) -> [Line; 5] {
 
 #[test]
 fn begin_stores_its_fields_in_order(rt: HostRuntime) -> Result<(), Fail> {
-    let mut core = core_of(rt.alloc(), 1)?;
     let one = CpuMask::of(0)?;
     let lines = [
         Begin(0, Command::Gate),
@@ -49,20 +48,13 @@ fn begin_stores_its_fields_in_order(rt: HostRuntime) -> Result<(), Fail> {
         Begin(0, Command::Ungate),
         noted(store(0, Word::Gate, 0), Note::Open),
     ];
-    assert_eq!(rt; first_fault(&mut core, &lines)?, None);
+    play(&rt, &[&lines], core_of(rt.alloc(), 1)?);
     Ok(())
 }
 
-#[test]
-fn stop_of_one_cpu(rt: HostRuntime) -> Result<(), Fail> {
-    let mut core = core_of(rt.alloc(), 1)?;
-    let one = CpuMask::of(0)?;
-    let opening = [
-        Goes(0, Command::Gate, 1, Note::Gate),
-        Goes(0, work(Kind::Multi, one, one, 9, 5), 11, Note::Begun),
-        Goes(0, Command::Enter(0), 4, Note::Entered),
-    ];
-    let run = [
+// Its turn at phase 3, in which it runs the function.
+fn lone_run() -> [Line; 7] {
+    [
         Begin(0, Command::Advance(7)),
         load(0, slot(Field::State), 3),
         load(0, slot(Field::Func), 9),
@@ -70,60 +62,60 @@ fn stop_of_one_cpu(rt: HostRuntime) -> Result<(), Fail> {
         sub(0, slot(Field::Ack), 1),
         store(0, slot(Field::Ack), 1),
         noted(store(0, slot(Field::State), 4), Note::Ran),
+    ]
+}
+
+#[test]
+fn stop_of_one_cpu(rt: HostRuntime) -> Result<(), Fail> {
+    let one = CpuMask::of(0)?;
+    let opening = [
+        Goes(0, Command::Gate, 1, Note::Gate),
+        Goes(0, work(Kind::Multi, one, one, 9, 5), 11, Note::Begun),
+        Goes(0, Command::Enter(0), 4, Note::Entered),
     ];
+    let first = lone_turn(1, Note::Moved(1));
+    let second = lone_turn(2, Note::Moved(2));
+    let run = lone_run();
+    let last = lone_turn(4, Note::Left);
     let end = [
         Begin(0, Command::Finish),
         store(0, slot(Field::Result), 7),
         sub(0, slot(Field::Todo), 1),
         noted(store(0, slot(Field::Done), 1), Note::Finished),
         Goes(0, Command::Poll, 2, Note::Result(7)),
+        Phase(0, 5),
     ];
-    assert_eq!(rt; first_fault(&mut core, &opening)?, None);
-    assert_eq!(rt;
-        first_fault(&mut core, &lone_turn(1, Note::Moved(1)))?,
-        None
-    );
-    assert_eq!(rt;
-        first_fault(&mut core, &lone_turn(2, Note::Moved(2)))?,
-        None
-    );
-    assert_eq!(rt; first_fault(&mut core, &run)?, None);
-    assert_eq!(rt; first_fault(&mut core, &lone_turn(4, Note::Left))?, None);
-    assert_eq!(rt; first_fault(&mut core, &end)?, None);
-    assert_eq!(rt; core.phase(0), 5);
+    let core = core_of(rt.alloc(), 1)?;
+    play(&rt, &[&opening, &first, &second, &run, &last, &end], core);
     Ok(())
 }
 
 #[test]
 fn begin_refuses_in_order(rt: HostRuntime) -> Result<(), Fail> {
     let all = all_online(2)?;
-    let mut core = Core::new(rt.alloc(), 3, all)?;
-    let with_offline = CpuMask::of(0)?.with(2)?;
+    let none = CpuMask::empty();
     let first = CpuMask::of(0)?;
+    let offline = CpuMask::of(2)?;
+    let both = first.with(2)?;
     let good = work(Kind::Multi, all, first, 1, 0);
-    assert_eq!(rt; core.start(0, good), Err(SmpError::BadArgument));
-    core.start(0, Command::Gate)?;
-    core.step(0)?;
-    for bad in [
-        work(Kind::Multi, CpuMask::empty(), first, 1, 0),
-        work(Kind::One, with_offline, first, 1, 0),
-    ] {
-        assert_eq!(rt; core.start(0, bad), Err(SmpError::BadArgument));
-    }
-    for absent in [
-        work(Kind::Multi, with_offline, first, 1, 0),
-        work(Kind::One, CpuMask::of(2)?, first, 1, 0),
-    ] {
-        assert_eq!(rt; core.start(0, absent), Err(SmpError::NoStopper));
-    }
-    core.start(0, good)?;
-    assert_eq!(rt; core.start(0, Command::Poll), Err(SmpError::Busy));
+    let (bad, absent) = (SmpError::BadArgument, SmpError::NoStopper);
+    let lines = [
+        Refused(0, good, bad),
+        Begin(0, Command::Gate),
+        Steps(0, 1),
+        Refused(0, work(Kind::Multi, none, first, 1, 0), bad),
+        Refused(0, work(Kind::One, both, first, 1, 0), bad),
+        Refused(0, work(Kind::Multi, both, first, 1, 0), absent),
+        Refused(0, work(Kind::One, offline, first, 1, 0), absent),
+        Begin(0, good),
+        Refused(0, Command::Poll, SmpError::Busy),
+    ];
+    play(&rt, &[&lines], Core::new(rt.alloc(), 3, all)?);
     Ok(())
 }
 
 #[test]
 fn slots_are_entered_once_and_begun_once(rt: HostRuntime) -> Result<(), Fail> {
-    let mut core = core_of(rt.alloc(), 2)?;
     let first = CpuMask::of(0)?;
     let stop = work(Kind::Multi, first, first, 1, 0);
     let lines = [
@@ -140,14 +132,13 @@ fn slots_are_entered_once_and_begun_once(rt: HostRuntime) -> Result<(), Fail> {
         Refused(0, Command::Enter(0), SmpError::Stale),
         Refused(0, Command::RunOne(1), SmpError::BadArgument),
     ];
-    assert_eq!(rt; first_fault(&mut core, &lines)?, None);
+    play(&rt, &[&lines], core_of(rt.alloc(), 2)?);
     Ok(())
 }
 
 // The first eight slots may be entered whatever CPUs there are, and the others where there is such a CPU.
 #[test]
 fn slots_are_those_of_the_cpus(rt: HostRuntime) -> Result<(), Fail> {
-    let alloc = rt.alloc();
     let first = CpuMask::of(0)?;
     let of_all = [
         Goes(8, Command::Gate, 1, Note::Gate),
@@ -156,17 +147,17 @@ fn slots_are_those_of_the_cpus(rt: HostRuntime) -> Result<(), Fail> {
         Goes(1, Command::Enter(31), 1, Note::Stale),
         Refused(1, Command::Enter(32), SmpError::Stale),
     ];
-    assert_eq!(rt; first_fault(&mut core_of(alloc, 32)?, &of_all)?, None);
     let of_nine = [
         Goes(0, Command::Enter(8), 1, Note::Stale),
         Refused(0, Command::Enter(9), SmpError::Stale),
     ];
-    assert_eq!(rt; first_fault(&mut core_of(alloc, 9)?, &of_nine)?, None);
     let of_two = [
         Goes(0, Command::Enter(7), 1, Note::Stale),
         Refused(0, Command::Enter(8), SmpError::Stale),
     ];
-    assert_eq!(rt; first_fault(&mut core_of(alloc, 2)?, &of_two)?, None);
+    play(&rt, &[&of_all], core_of(rt.alloc(), 32)?);
+    play(&rt, &[&of_nine], core_of(rt.alloc(), 9)?);
+    play(&rt, &[&of_two], core_of(rt.alloc(), 2)?);
     Ok(())
 }
 
@@ -189,10 +180,9 @@ fn two_single_stops() -> Result<[Line; 8], SmpError> {
 
 #[test]
 fn stops_of_one_cpu_each_are_open_at_once(rt: HostRuntime) -> Result<(), Fail> {
-    let mut core = core_of(rt.alloc(), 2)?;
-    assert_eq!(rt; first_fault(&mut core, &two_single_stops()?)?, None);
-    assert_eq!(rt; core.phase(0), 0);
+    let opening = two_single_stops()?;
     let run = [
+        Phase(0, 0),
         Begin(1, Command::RunOne(-1)),
         load(1, slot(Field::Func), 3),
         noted(load(1, slot(Field::Arg), 4), Note::Run(3, 4)),
@@ -202,13 +192,12 @@ fn stops_of_one_cpu_each_are_open_at_once(rt: HostRuntime) -> Result<(), Fail> {
         Goes(0, Command::Poll, 2, Note::Result(-1)),
         Refused(0, Command::Poll, SmpError::BadArgument),
     ];
-    assert_eq!(rt; first_fault(&mut core, &run)?, None);
+    play(&rt, &[&opening, &run], core_of(rt.alloc(), 2)?);
     Ok(())
 }
 
 #[test]
 fn who_is_not_active_runs_nothing(rt: HostRuntime) -> Result<(), Fail> {
-    let mut core = core_of(rt.alloc(), 1)?;
     let stop = work(Kind::Multi, CpuMask::of(0)?, CpuMask::of(3)?, 9, 5);
     let lines = [
         Goes(0, Command::Gate, 1, Note::Gate),
@@ -222,6 +211,6 @@ fn who_is_not_active_runs_nothing(rt: HostRuntime) -> Result<(), Fail> {
         Goes(0, Command::Finish, 2, Note::Finished),
         Goes(0, Command::Poll, 2, Note::Result(0)),
     ];
-    assert_eq!(rt; first_fault(&mut core, &lines)?, None);
+    play(&rt, &[&lines], core_of(rt.alloc(), 1)?);
     Ok(())
 }
