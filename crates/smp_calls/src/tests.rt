@@ -11,6 +11,7 @@ use smp_queue::{Audit, Boot, CallCpu, CallTable, Handler, Heard, Tally};
 use smp_words::size::NR_CPUS;
 use std::alloc::Global;
 use std::marker::Model;
+use std::process::Abort;
 use std::sync::Wait;
 use std::sync::atomic::{AtomicU64, Ordering};
 use std::test::*;
@@ -63,6 +64,13 @@ impl<'a> Model for Driver<'a> {
 }
 
 impl<'a> Driver<'a> {
+    fn new(table: &'a CallTable<Global>, cpu: CallCpu, alloc: Global) -> Driver<'a>
+        requires { cpu.table ≡ table.now.table }
+    {
+        let heard = Recorder::new(alloc);
+        Driver { table, cpu, heard }
+    }
+
     fn single<R: Wait>(&mut self, rt: &R, dst: u32, func: u16, wait: bool) -> Result<(), SmpError> {
         call_single(
             self.table,
@@ -179,7 +187,21 @@ fn seat(
     boot.cpu(number)
 }
 
-/// The same with its table and a handler.
+/// A new table, and one of its CPUs.
+fn table_of(
+    alloc: Global,
+    nr: u32,
+    online: CpuMask,
+    number: u32,
+) -> Result<(CallTable<Global>, CallCpu), SmpError>
+    ensures { IfOk result (λ t. t.1.table ≡ t.0.table) }
+{
+    let (table, mut boot) = CallTable::new(alloc, nr, online)?;
+    let cpu = seat(&table, &mut boot, number)?;
+    Ok((table, cpu))
+}
+
+/// A CPU that the table gives out, with its table and a handler.
 fn drive<'a>(
     table: &'a CallTable<Global>,
     boot: &mut Boot<Global>,
@@ -190,31 +212,45 @@ fn drive<'a>(
     ensures { (cpu : ℕ) → has boot.new.online cpu ≡ true → IfSome (left_at boot.new cpu) (λ c. c.table ≡ table.now.table) }
 {
     let cpu = seat(table, boot, number)?;
-    let heard = Recorder::new(alloc);
-    Ok(Driver { table, cpu, heard })
+    Ok(Driver::new(table, cpu, alloc))
 }
 
 #[test]
 fn the_only_cpu_calls_itself(rt: HostRuntime) -> Result<(), Fail> {
     for nr in [1, 8, 32] {
-        let (table, mut boot) = CallTable::new(rt.alloc(), nr, "0".parse()?)?;
-        let mut zero = seat(&table, &mut boot, 0)?;
-        let mut heard = Recorder::new(rt.alloc());
-        let answer = call_single(&table, &rt, &mut zero, &mut heard, 0, 5, 6, true);
-        assert_eq!(rt; (answer, table.tally(&mut zero, 0)), (Ok(()), (0, 0)));
-        let call = Heard {
-            src: 0,
-            func: 5,
-            info: 6,
-        };
-        assert!(rt; heard.calls.as_slice() == &[call][..]);
-        let nothing = Tally {
-            queued: [[0; NR_CPUS as usize]; NR_CPUS as usize],
-            ran: [[0; NR_CPUS as usize]; NR_CPUS as usize],
-        };
-        assert_eq!(rt; table.audit(zero), Audit::Drained(nothing), "{nr}");
+        let (table, mut zero) = table_of(rt.alloc(), nr, "0".parse()?, 0)?;
+        calls_itself(&rt, rt.alloc(), &table, &mut zero);
+        assert_eq!(rt; table.audit(zero), Audit::Drained(no_calls()), "{nr}");
     }
     Ok(())
+}
+
+fn calls_itself<R: Wait + Abort>(
+    rt: &R,
+    alloc: Global,
+    table: &CallTable<Global>,
+    zero: &mut CallCpu,
+)
+    requires { zero.old.table ≡ table.now.table }
+    ensures { zero.new.table ≡ table.now.table }
+{
+    let mut heard = Recorder::new(alloc);
+    let answer = call_single(table, rt, zero, &mut heard, 0, 5, 6, true);
+    assert_eq!(rt; (answer, table.tally(zero, 0)), (Ok(()), (0, 0)));
+    let call = Heard {
+        src: 0,
+        func: 5,
+        info: 6,
+    };
+    assert!(rt; heard.calls.as_slice() == &[call][..]);
+}
+
+/// The tally where no CPU has queued a call.
+fn no_calls() -> Tally {
+    Tally {
+        queued: [[0; NR_CPUS as usize]; NR_CPUS as usize],
+        ran: [[0; NR_CPUS as usize]; NR_CPUS as usize],
+    }
 }
 
 #[test]
@@ -222,85 +258,107 @@ fn calls_to_one_cpu_are_refused_in_order(rt: HostRuntime) -> Result<(), Fail> {
     for nr in [4, 8, 32] {
         let (table, mut boot) = CallTable::new(rt.alloc(), nr, "0-1,3".parse()?)?;
         let mut zero = drive(&table, &mut boot, rt.alloc(), 0)?;
-        for dst in [7, 2, 31, 32] {
-            assert_eq!(rt;
-                zero.single(&rt, dst, 1, true),
-                Err(SmpError::NoCpu),
-                "{nr} {dst}"
-            );
-        }
-        assert_eq!(rt; zero.is_done(0), Ok(true));
-        assert_eq!(rt;
-            (zero.single(&rt, 0, 1, true), zero.times(0, 1)),
-            (Ok(()), 1)
-        );
-        assert_eq!(rt; zero.by_user(&rt, 0, 7, 1), Err(SmpError::NoCpu));
-        assert_eq!(rt; zero.by_user(&rt, 0, 1, 1), Ok(()));
-        assert_eq!(rt; zero.by_user(&rt, 0, 7, 1), Err(SmpError::Busy));
-        assert_eq!(rt; zero.by_user(&rt, 2, 1, 1), Err(SmpError::BadArgument));
-        // CPU 1 runs the call, and the record is free again.
+        is_refused_in_order(&rt, &mut zero);
+        calls_by_users_in_order(&rt, &mut zero);
         let mut one = drive(&table, &mut boot, rt.alloc(), 1)?;
-        one.poll();
-        assert_eq!(rt;
-            (one.times(0, 1), zero.by_user(&rt, 0, 7, 1)),
-            (1, Err(SmpError::NoCpu))
-        );
+        runs_the_call_of(&rt, &mut one, &mut zero);
     }
     Ok(())
+}
+
+fn is_refused_in_order<R: Wait + Abort>(rt: &R, zero: &mut Driver) {
+    for dst in [7, 2, 31, 32] {
+        let answer = (dst, zero.single(rt, dst, 1, true));
+        assert_eq!(rt; answer, (dst, Err(SmpError::NoCpu)));
+    }
+    assert_eq!(rt; zero.is_done(0), Ok(true));
+    assert_eq!(rt; zero.single(rt, 0, 1, true), Ok(()));
+    assert_eq!(rt; zero.times(0, 1), 1);
+}
+
+fn calls_by_users_in_order<R: Wait + Abort>(rt: &R, zero: &mut Driver) {
+    for (u, dst, answer) in [
+        (0, 7, Err(SmpError::NoCpu)),
+        (0, 1, Ok(())),
+        (0, 7, Err(SmpError::Busy)),
+        (2, 1, Err(SmpError::BadArgument)),
+    ] {
+        assert_eq!(rt; (dst, zero.by_user(rt, u, dst, 1)), (dst, answer));
+    }
+}
+
+/// CPU 1 runs the call, and the record is free again.
+fn runs_the_call_of<R: Wait + Abort>(rt: &R, one: &mut Driver, zero: &mut Driver) {
+    one.poll();
+    let after = (one.times(0, 1), zero.by_user(rt, 0, 7, 1));
+    assert_eq!(rt; after, (1, Err(SmpError::NoCpu)));
 }
 
 #[test]
 fn any_is_the_own_cpu_else_the_lowest(rt: HostRuntime) -> Result<(), Fail> {
     for nr in [4, 8, 32] {
-        let (table, mut boot) = CallTable::new(rt.alloc(), nr, "0-1,3".parse()?)?;
-        let mut zero = drive(&table, &mut boot, rt.alloc(), 0)?;
-        for (mask, called) in [
-            ("0,3", Ok(0)),
-            ("2", Err(SmpError::NoCpu)),
-            ("", Err(SmpError::NoCpu)),
-            ("1,3", Ok(1)),
-        ] {
-            assert_eq!(rt;
-                zero.any(&rt, mask.parse()?, 1, false),
-                called,
-                "{nr} {mask}"
-            );
-        }
+        let (table, zero) = table_of(rt.alloc(), nr, "0-1,3".parse()?, 0)?;
+        calls_any(&rt, &mut Driver::new(&table, zero, rt.alloc()));
     }
     Ok(())
+}
+
+fn calls_any<R: Wait + Abort>(rt: &R, zero: &mut Driver) {
+    for (mask, called) in [
+        ("0,3", Ok(0)),
+        ("2", Err(SmpError::NoCpu)),
+        ("", Err(SmpError::NoCpu)),
+        ("1,3", Ok(1)),
+    ] {
+        assert_eq!(rt; any_of(rt, zero, mask), called, "{mask}");
+    }
+}
+
+fn any_of<R: Wait>(rt: &R, driver: &mut Driver, mask: &str) -> Result<u32, SmpError> {
+    driver.any(rt, mask.parse()?, 1, false)
+}
+
+/// Notes that a CPU is asked: those that were are the digits of the number, to this base.
+fn note_asked(asked: &AtomicU64, base: u64, cpu: u32) {
+    let before = asked.load(Ordering::SeqCst);
+    let after = before.wrapping_mul(base).wrapping_add(cpu as u64);
+    asked.store(after, Ordering::SeqCst);
 }
 
 #[test]
 fn the_condition_is_asked_of_the_others_and_then_of_this_cpu(rt: HostRuntime) -> Result<(), Fail> {
     let all: CpuMask = "0-7".parse()?;
-    let (table, mut boot) = CallTable::new(rt.alloc(), 8, all)?;
-    let mut two = drive(&table, &mut boot, rt.alloc(), 2)?;
+    let even: CpuMask = "0,2,4,6".parse()?;
+    let (table, two) = table_of(rt.alloc(), 8, all, 2)?;
+    let mut two = Driver::new(&table, two, rt.alloc());
+    asks_of_eight(&rt, &mut two, all, even);
+    Ok(())
+}
+
+fn asks_of_eight<R: Wait + Abort>(rt: &R, two: &mut Driver, all: CpuMask, even: CpuMask) {
     // The CPUs asked, as the digits of a number that begins with 9.
     let asked = AtomicU64::new(9);
     let cond = |cpu: u32, _: u64| {
-        let before = asked.load(Ordering::SeqCst);
-        asked.store(
-            before.wrapping_mul(10).wrapping_add(cpu as u64),
-            Ordering::SeqCst,
-        );
+        note_asked(&asked, 10, cpu);
         cpu % 2 == 0
     };
-    let called = two.each(&rt, all, 1, &cond, false);
-    assert!(rt; called == "0,2,4,6".parse()?);
+    assert!(rt; two.each(rt, all, 1, &cond, false) == even);
     assert_eq!(rt; asked.load(Ordering::SeqCst), 901_345_672);
-    assert_eq!(rt;
-        (two.times(2, 1), two.tally(4), two.tally(5)),
-        (1, (1, 0), (0, 0))
-    );
-    Ok(())
+    let calls = (two.times(2, 1), two.tally(4), two.tally(5));
+    assert_eq!(rt; calls, (1, (1, 0), (0, 0)));
 }
 
 #[test]
 fn many_are_all_but_this_cpu(rt: HostRuntime) -> Result<(), Fail> {
     let all: CpuMask = "0-7".parse()?;
-    let (table, mut boot) = CallTable::new(rt.alloc(), 8, all)?;
-    let mut two = drive(&table, &mut boot, rt.alloc(), 2)?;
-    assert!(rt; two.many(&rt, all, 1, false) == "0-1,3-7".parse()?);
-    assert_eq!(rt; (two.heard.calls.len(), two.tally(7)), (0, (1, 0)));
+    let others: CpuMask = "0-1,3-7".parse()?;
+    let (table, two) = table_of(rt.alloc(), 8, all, 2)?;
+    let mut two = Driver::new(&table, two, rt.alloc());
+    calls_seven(&rt, &mut two, all, others);
     Ok(())
+}
+
+fn calls_seven<R: Wait + Abort>(rt: &R, two: &mut Driver, all: CpuMask, others: CpuMask) {
+    assert!(rt; two.many(rt, all, 1, false) == others);
+    assert_eq!(rt; (two.heard.calls.len(), two.tally(7)), (0, (1, 0)));
 }

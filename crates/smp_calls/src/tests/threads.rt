@@ -1,5 +1,10 @@
 //! Each family between threads that poll.
 
+ghost use Rattle.std.specs.Prelude.{ℕ, ◌≡◌, true, IfSome};
+ghost use Rattle.std.specs.Option.{ForSome};
+ghost use Rattle.smp_mask.specs.Mask.{has};
+ghost use Rattle.smp_queue.specs.Cpu.{left_at};
+
 use super::*;
 use crossbeam_utils::Backoff;
 use smp_queue::Left;
@@ -23,6 +28,16 @@ struct Progress {
     sign: AtomicU64,
     done: AtomicU64,
     right: AtomicU64,
+}
+
+impl Progress {
+    fn new() -> Progress {
+        Progress {
+            sign: AtomicU64::new(0),
+            done: AtomicU64::new(0),
+            right: AtomicU64::new(0),
+        }
+    }
 }
 
 /// Calls another CPU by the user's record, and handles its own interrupts while that is busy.
@@ -55,13 +70,18 @@ fn next_of(all: CpuMask, this: u32) -> u32 {
     all.next_after(this).or(all.first()).unwrap_or(this)
 }
 
-/// Makes each call once, to all other CPUs or to the next one.
-fn call_all<R: Wait>(driver: &mut Driver, rt: &R, all: CpuMask) -> Result<(), SmpError> {
-    let this = driver.cpu.number();
-    for other in all.without(this).iter() {
+fn call_each_other<R: Wait>(driver: &mut Driver, rt: &R, others: CpuMask) -> Result<(), SmpError> {
+    for other in others.iter() {
         driver.single(rt, other, 1, true)?;
         driver.single(rt, other, 2, false)?;
     }
+    Ok(())
+}
+
+/// Makes each call once, to all other CPUs or to the next one.
+fn call_all<R: Wait>(driver: &mut Driver, rt: &R, all: CpuMask) -> Result<(), SmpError> {
+    let this = driver.cpu.number();
+    call_each_other(driver, rt, all.without(this))?;
     let next = next_of(all, this);
     driver.any(rt, CpuMask::of(next)?, 3, true)?;
     driver.many(rt, all, 4, true);
@@ -90,6 +110,21 @@ fn has_heard_all(driver: &Driver, all: CpuMask) -> bool {
     })
 }
 
+/// Is done with its calls, and polls until all CPUs are, and once more.
+fn poll_to_the_end<R: Wait>(driver: &mut Driver, rt: &R, done: &AtomicU64) {
+    done.fetch_add(1, Ordering::SeqCst);
+    let backoff = Backoff::new();
+    for _ in rt.forever() {
+        let last = done.load(Ordering::SeqCst) >= CALLERS;
+        driver.poll();
+        if last {
+            return;
+        }
+        backoff.snooze();
+    }
+    unreachable!()
+}
+
 /// What one thread does: its calls, then it polls until all CPUs are done, and once more.
 fn run<R: Wait>(mut driver: Driver, rt: &R, all: CpuMask, progress: &Progress) {
     if !may_begin(rt, &progress.sign) {
@@ -99,54 +134,96 @@ fn run<R: Wait>(mut driver: Driver, rt: &R, all: CpuMask, progress: &Progress) {
     for _ in 0..ROUNDS {
         refused |= call_all(&mut driver, rt, all).is_err();
     }
-    progress.done.fetch_add(1, Ordering::SeqCst);
-    let backoff = Backoff::new();
-    for _ in rt.forever() {
-        let last = progress.done.load(Ordering::SeqCst) >= CALLERS;
-        driver.poll();
-        if last {
-            break;
-        }
-        backoff.snooze();
-    }
+    poll_to_the_end(&mut driver, rt, &progress.done);
     if !refused && driver.heard.whole && has_heard_all(&driver, all) {
         progress.right.fetch_add(1, Ordering::SeqCst);
     }
 }
 
-/// Runs each of four CPUs of a new table on a thread of its own: how many heard what they should, and what is
-/// left. One CPU more keeps the table's last value.
+/// The CPUs of a table that are not given out.
+#[derive(Drop)]
+struct Room<'a> {
+    table: &'a CallTable<Global>,
+    boot: Boot<Global>,
+    ghost whole: { (cpu : ℕ) → has boot.online cpu ≡ true → ForSome (left_at boot cpu) (λ c. c.table ≡ table.now.table) },
+}
+
+impl<'a> Room<'a> {
+    fn new(table: &'a CallTable<Global>, boot: Boot<Global>) -> Room<'a>
+        requires { (cpu : ℕ) → has boot.online cpu ≡ true → IfSome (left_at boot cpu) (λ c. c.table ≡ table.now.table) }
+    {
+        Room { table, boot }
+    }
+
+    /// Adds this CPU, with its handler.
+    fn drive_one(
+        &mut self,
+        drivers: &mut Vec<Driver<'a>, Global>,
+        alloc: Global,
+        number: u32,
+    ) -> Result<(), SmpError> {
+        let driver = drive(self.table, &mut self.boot, alloc, number)?;
+        if drivers.push(driver).is_err() {
+            return Err(SmpError::NoMemory);
+        }
+        Ok(())
+    }
+
+    /// These CPUs, each with its handler.
+    fn drive_all(
+        &mut self,
+        alloc: Global,
+        numbers: &[u32],
+    ) -> Result<Vec<Driver<'a>, Global>, SmpError> {
+        let mut drivers = Vec::new(alloc);
+        for number in numbers {
+            self.drive_one(&mut drivers, alloc, *number)?;
+        }
+        Ok(drivers)
+    }
+}
+
+/// Runs each of the CPUs on a thread of its own, to the end.
+fn run_threads<R: Wait + Threads + Sync>(
+    rt: &R,
+    drivers: Vec<Driver, Global>,
+    all: CpuMask,
+    progress: &Progress,
+) {
+    let mut started = true;
+    thread::scope(thread::scope_env(), rt, |scope| {
+        for driver in drivers {
+            let spawned = scope.spawn(move || run(driver, rt, all, progress));
+            started = started && spawned.is_ok();
+        }
+        let sign = if started { BEGIN } else { LEAVE };
+        progress.sign.store(sign, Ordering::SeqCst);
+    });
+}
+
+fn mask_of(numbers: &[u32]) -> Result<CpuMask, SmpError> {
+    let mut mask = CpuMask::empty();
+    for number in numbers {
+        mask = mask.with(*number)?;
+    }
+    Ok(mask)
+}
+
+/// Runs these four CPUs of a new table in threads: how many heard what they should, and what is left. One CPU
+/// more keeps the table's last value.
 fn run_all<R: Wait + Threads + Sync>(
     rt: &R,
     alloc: Global,
     nr: u32,
     callers: [u32; 4],
     last: u32,
-) -> Result<(u64, Audit), Fail> {
-    let [a, b, c, d] = callers;
-    let all = CpuMask::of(a)?.with(b)?.with(c)?.with(d)?;
+) -> Result<(u64, Audit), SmpError> {
+    let all = mask_of(&callers)?;
+    let progress = Progress::new();
     let (table, mut boot) = CallTable::new(alloc, nr, all.with(last)?)?;
-    let shared = Progress {
-        sign: AtomicU64::new(0),
-        done: AtomicU64::new(0),
-        right: AtomicU64::new(0),
-    };
-    let progress = &shared;
-    let one = drive(&table, &mut boot, alloc, a)?;
-    let two = drive(&table, &mut boot, alloc, b)?;
-    let three = drive(&table, &mut boot, alloc, c)?;
-    let four = drive(&table, &mut boot, alloc, d)?;
     let last = seat(&table, &mut boot, last)?;
-    thread::scope(thread::scope_env(), rt, |scope| {
-        let first = scope.spawn(move || run(one, rt, all, progress));
-        let second = scope.spawn(move || run(two, rt, all, progress));
-        let third = scope.spawn(move || run(three, rt, all, progress));
-        let fourth = scope.spawn(move || run(four, rt, all, progress));
-        let started = first.is_ok() && second.is_ok() && third.is_ok() && fourth.is_ok();
-        progress
-            .sign
-            .store(if started { BEGIN } else { LEAVE }, Ordering::SeqCst);
-    });
+    let drivers = Room::new(&table, boot).drive_all(alloc, &callers)?;
+    run_threads(rt, drivers, all, &progress);
     Ok((progress.right.load(Ordering::SeqCst), table.audit(last)))
 }
 
@@ -162,15 +239,8 @@ const DRAINED: Left = Left {
 fn calls_between_threads_that_poll_all_run(rt: HostRuntime) -> Result<(), Fail> {
     let (right, audit) = run_all(&rt, rt.alloc(), 8, [0, 2, 5, 7], 1)?;
     assert_eq!(rt; right, CALLERS);
-    match audit {
-        Audit::Drained(tally) => {
-            assert_eq!(rt; (tally.queued[0][2], tally.ran[2][0]), (300, 300));
-            assert_eq!(rt; (tally.queued[0][5], tally.ran[5][0]), (150, 150));
-            assert_eq!(rt; (tally.queued[5][7], tally.ran[7][5]), (250, 250));
-            assert_eq!(rt; (tally.queued[5][2], tally.ran[2][5]), (200, 200));
-        }
-        Audit::Left(left) => assert_eq!(rt; left, DRAINED),
-    }
+    let calls = [(0, 2, 300), (0, 5, 150), (5, 7, 250), (5, 2, 200)];
+    all_have_run(&rt, &audit, &calls);
     Ok(())
 }
 
@@ -178,14 +248,32 @@ fn calls_between_threads_that_poll_all_run(rt: HostRuntime) -> Result<(), Fail> 
 fn calls_between_threads_of_a_wide_table_all_run(rt: HostRuntime) -> Result<(), Fail> {
     let (right, audit) = run_all(&rt, rt.alloc(), 32, [3, 7, 8, 31], 20)?;
     assert_eq!(rt; right, CALLERS);
+    let calls = [(7, 8, 300), (3, 31, 150), (31, 3, 250), (31, 8, 200)];
+    all_have_run(&rt, &audit, &calls);
+    Ok(())
+}
+
+/// From each CPU to the other so many calls were queued and ran, and nothing is left.
+fn all_have_run(rt: &impl Abort, audit: &Audit, calls: &[(usize, usize, u64)]) {
     match audit {
         Audit::Drained(tally) => {
-            assert_eq!(rt; (tally.queued[7][8], tally.ran[8][7]), (300, 300));
-            assert_eq!(rt; (tally.queued[3][31], tally.ran[31][3]), (150, 150));
-            assert_eq!(rt; (tally.queued[31][3], tally.ran[3][31]), (250, 250));
-            assert_eq!(rt; (tally.queued[31][8], tally.ran[8][31]), (200, 200));
+            for (src, dst, count) in calls {
+                let queued = count_in(&tally.queued, *src, *dst);
+                let ran = count_in(&tally.ran, *dst, *src);
+                assert_eq!(rt;
+                    (*src, *dst, queued, ran),
+                    (*src, *dst, Some(*count), Some(*count))
+                );
+            }
         }
-        Audit::Left(left) => assert_eq!(rt; left, DRAINED),
+        Audit::Left(left) => assert_eq!(rt; *left, DRAINED),
     }
-    Ok(())
+}
+
+fn count_in(
+    counts: &[[u64; NR_CPUS as usize]; NR_CPUS as usize],
+    row: usize,
+    column: usize,
+) -> Option<u64> {
+    counts.get(row)?.get(column).copied()
 }

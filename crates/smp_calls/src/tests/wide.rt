@@ -1,32 +1,86 @@
 //! Tables on which CPUs call others by their further records.
 
+ghost use Rattle.std.specs.Prelude.{◌≡◌, IfOk};
+
 use super::*;
+
+/// A new table of 32 CPUs, and three of them.
+fn table_and_three(
+    alloc: Global,
+    numbers: [u32; 3],
+) -> Result<(CallTable<Global>, CallCpu, CallCpu, CallCpu), SmpError>
+    ensures { IfOk result (λ t. (t.1.table ≡ t.0.table) × (t.2.table ≡ t.0.table) × (t.3.table ≡ t.0.table)) }
+{
+    let (table, mut boot) = CallTable::new(alloc, 32, "0-31".parse()?)?;
+    let first = seat(&table, &mut boot, numbers[0])?;
+    let second = seat(&table, &mut boot, numbers[1])?;
+    let third = seat(&table, &mut boot, numbers[2])?;
+    Ok((table, first, second, third))
+}
+
+/// Of all records that the CPU may call by, these are done or not, and the others are not or are.
+fn records_are(rt: &impl Abort, cpu: &mut Driver, these: &[u32], done: bool) {
+    for k in 0..36u32 {
+        let expected = these.contains(&k) == done;
+        assert_eq!(rt; (k, cpu.is_done(k)), (k, Ok(expected)));
+    }
+}
 
 #[test]
 fn many_lock_the_record_for_each_destination(rt: HostRuntime) -> Result<(), Fail> {
-    let (table, mut boot) = CallTable::new(rt.alloc(), 32, "0-31".parse()?)?;
-    let mut two = drive(&table, &mut boot, rt.alloc(), 2)?;
     let others: CpuMask = "3,20".parse()?;
-    assert!(rt; two.many(&rt, others, 1, false) == others);
+    let (table, two, three, twenty) = table_and_three(rt.alloc(), [2, 3, 20])?;
+    let mut two = Driver::new(&table, two, rt.alloc());
+    let mut three = Driver::new(&table, three, rt.alloc());
+    let mut twenty = Driver::new(&table, twenty, rt.alloc());
+    locks_two_records(&rt, &mut two, others);
+    each_frees_its_record(&rt, &mut two, &mut three, &mut twenty);
+    calls_both_again(&rt, &mut two, &mut three, &mut twenty, others);
+    has_called_both_twice(&rt, &mut two, &mut three, &mut twenty);
+    Ok(())
+}
+
+fn locks_two_records<R: Wait + Abort>(rt: &R, two: &mut Driver, others: CpuMask) {
+    assert!(rt; two.many(rt, others, 1, false) == others);
     assert_eq!(rt; (two.tally(3), two.tally(20)), ((1, 0), (1, 0)));
     // The record for CPU 3 is 5, that for CPU 20 is 24.
-    for k in 0..36u32 {
-        assert_eq!(rt; two.is_done(k), Ok(k != 5 && k != 24), "{k}");
-    }
-    let mut twenty = drive(&table, &mut boot, rt.alloc(), 20)?;
+    records_are(rt, two, &[5, 24], false);
+}
+
+fn each_frees_its_record(
+    rt: &impl Abort,
+    two: &mut Driver,
+    three: &mut Driver,
+    twenty: &mut Driver,
+) {
     twenty.poll();
     assert_eq!(rt; (two.is_done(5), two.is_done(24)), (Ok(false), Ok(true)));
-    let mut three = drive(&table, &mut boot, rt.alloc(), 3)?;
     three.poll();
     assert_eq!(rt; (two.is_done(5), two.is_done(24)), (Ok(true), Ok(true)));
-    // Both records are free for the next calls.
-    assert!(rt; two.many(&rt, others, 1, false) == others);
+}
+
+/// Both records are free for the next calls.
+fn calls_both_again<R: Wait + Abort>(
+    rt: &R,
+    two: &mut Driver,
+    three: &mut Driver,
+    twenty: &mut Driver,
+    others: CpuMask,
+) {
+    assert!(rt; two.many(rt, others, 1, false) == others);
     three.poll();
     twenty.poll();
     assert_eq!(rt; (three.times(2, 1), twenty.times(2, 1)), (2, 2));
+}
+
+fn has_called_both_twice(
+    rt: &impl Abort,
+    two: &mut Driver,
+    three: &mut Driver,
+    twenty: &mut Driver,
+) {
     assert_eq!(rt; (two.tally(3), three.tally(2)), ((2, 0), (0, 2)));
     assert_eq!(rt; (two.tally(20), twenty.tally(2)), ((2, 0), (0, 2)));
-    Ok(())
 }
 
 #[test]
@@ -34,24 +88,29 @@ fn many_are_all_but_this_cpu_of_thirty_two(rt: HostRuntime) -> Result<(), Fail> 
     let all: CpuMask = "0-31".parse()?;
     // A CPU, the others, and its record for calls to itself, which it does not use.
     for (this, others, own) in [(2, "0-1,3-31", 4), (20, "0-19,21-31", 24)] {
-        let (table, mut boot) = CallTable::new(rt.alloc(), 32, all)?;
-        let mut cpu = drive(&table, &mut boot, rt.alloc(), this)?;
-        assert!(rt; cpu.many(&rt, all, 1, false) == others.parse()?, "{this}");
-        assert_eq!(rt;
-            (
-                cpu.heard.calls.len(),
-                cpu.tally(7),
-                cpu.tally(31),
-                cpu.tally(this)
-            ),
-            (0, (1, 0), (1, 0), (0, 0))
-        );
-        for k in 0..36u32 {
-            let is_free = k < 2 || k == 10 || k == 11 || k == own;
-            assert_eq!(rt; cpu.is_done(k), Ok(is_free), "{this} {k}");
-        }
+        let others: CpuMask = others.parse()?;
+        let (table, cpu) = table_of(rt.alloc(), 32, all, this)?;
+        let mut cpu = Driver::new(&table, cpu, rt.alloc());
+        calls_all_others(&rt, &mut cpu, all, others, own);
     }
     Ok(())
+}
+
+fn calls_all_others<R: Wait + Abort>(
+    rt: &R,
+    cpu: &mut Driver,
+    all: CpuMask,
+    others: CpuMask,
+    own: u32,
+) {
+    let this = cpu.cpu.number();
+    assert!(rt; cpu.many(rt, all, 1, false) == others);
+    let tallies = (cpu.tally(7), cpu.tally(31), cpu.tally(this));
+    assert_eq!(rt;
+        (cpu.heard.calls.len(), tallies),
+        (0, ((1, 0), (1, 0), (0, 0)))
+    );
+    records_are(rt, cpu, &[0, 1, 10, 11, own], true);
 }
 
 #[test]
@@ -59,21 +118,33 @@ fn the_last_cpu_of_a_table_has_the_last_record(rt: HostRuntime) -> Result<(), Fa
     // How many CPUs, the last of them, the record for it, and the first number that is no record.
     for (nr, cpu, record, none) in [(8, 7, 9, 12), (9, 8, 12, 13), (32, 31, 35, 36)] {
         let last = CpuMask::of(cpu)?;
-        let (table, mut boot) = CallTable::new(rt.alloc(), nr, last.with(0)?)?;
-        let mut zero = drive(&table, &mut boot, rt.alloc(), 0)?;
-        assert!(rt; zero.many(&rt, last, 1, false) == last, "{nr}");
-        assert_eq!(rt;
-            (zero.is_done(record), zero.is_done(none)),
-            (Ok(false), Err(SmpError::BadArgument)),
-            "{nr}"
-        );
+        let (table, zero) = table_of(rt.alloc(), nr, last.with(0)?, 0)?;
+        let mut zero = Driver::new(&table, zero, rt.alloc());
+        calls_the_last(&rt, &mut zero, last, record, none);
     }
     Ok(())
 }
 
-/// A number that tells in which order CPUs were asked.
-fn asked_next(before: u64, cpu: u32) -> u64 {
-    before.wrapping_mul(33).wrapping_add(cpu as u64)
+fn calls_the_last<R: Wait + Abort>(
+    rt: &R,
+    zero: &mut Driver,
+    last: CpuMask,
+    record: u32,
+    none: u32,
+) {
+    assert!(rt; zero.many(rt, last, 1, false) == last);
+    let done = (record, zero.is_done(record), zero.is_done(none));
+    assert_eq!(rt; done, (record, Ok(false), Err(SmpError::BadArgument)));
+}
+
+/// The number where the others are asked in order, and then this CPU.
+fn asked_last(all: CpuMask, this: u32) -> u64 {
+    let asked = AtomicU64::new(1);
+    for cpu in all.without(this).iter() {
+        note_asked(&asked, 33, cpu);
+    }
+    note_asked(&asked, 33, this);
+    asked.load(Ordering::SeqCst)
 }
 
 #[test]
@@ -81,29 +152,24 @@ fn the_condition_is_asked_of_thirty_one_others_and_then_of_this_cpu(
     rt: HostRuntime,
 ) -> Result<(), Fail> {
     let all: CpuMask = "0-31".parse()?;
-    let (table, mut boot) = CallTable::new(rt.alloc(), 32, all)?;
-    let mut twenty = drive(&table, &mut boot, rt.alloc(), 20)?;
+    let fourth: CpuMask = "0,4,8,12,16,20,24,28".parse()?;
+    let (table, twenty) = table_of(rt.alloc(), 32, all, 20)?;
+    let mut twenty = Driver::new(&table, twenty, rt.alloc());
+    asks_of_thirty_two(&rt, &mut twenty, all, fourth);
+    Ok(())
+}
+
+fn asks_of_thirty_two<R: Wait + Abort>(rt: &R, twenty: &mut Driver, all: CpuMask, fourth: CpuMask) {
     let asked = AtomicU64::new(1);
     let cond = |cpu: u32, _: u64| {
-        let before = asked.load(Ordering::SeqCst);
-        asked.store(asked_next(before, cpu), Ordering::SeqCst);
+        note_asked(&asked, 33, cpu);
         cpu % 4 == 0
     };
-    let called = twenty.each(&rt, all, 1, &cond, false);
-    assert!(rt; called == "0,4,8,12,16,20,24,28".parse()?);
-    let mut in_order = 1;
-    for cpu in all.without(20).iter() {
-        in_order = asked_next(in_order, cpu);
-    }
-    assert_eq!(rt; asked.load(Ordering::SeqCst), asked_next(in_order, 20));
+    assert!(rt; twenty.each(rt, all, 1, &cond, false) == fourth);
+    assert_eq!(rt; asked.load(Ordering::SeqCst), asked_last(all, 20));
+    let tallies = (twenty.tally(4), twenty.tally(28), twenty.tally(31));
     assert_eq!(rt;
-        (
-            twenty.times(20, 1),
-            twenty.tally(4),
-            twenty.tally(28),
-            twenty.tally(31)
-        ),
-        (1, (1, 0), (1, 0), (0, 0))
+        (twenty.times(20, 1), tallies),
+        (1, ((1, 0), (1, 0), (0, 0)))
     );
-    Ok(())
 }
