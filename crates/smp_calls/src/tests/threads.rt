@@ -30,6 +30,16 @@ struct Progress {
     right: AtomicU64,
 }
 
+impl Progress {
+    fn new() -> Progress {
+        Progress {
+            sign: AtomicU64::new(0),
+            done: AtomicU64::new(0),
+            right: AtomicU64::new(0),
+        }
+    }
+}
+
 /// Calls another CPU by the user's record, and handles its own interrupts while that is busy.
 fn repeat_by_user<R: Wait>(driver: &mut Driver, rt: &R, dst: u32) {
     let backoff = Backoff::new();
@@ -145,6 +155,20 @@ impl<'a> Room<'a> {
         Room { table, boot }
     }
 
+    /// Adds this CPU, with its handler.
+    fn drive_one(
+        &mut self,
+        drivers: &mut Vec<Driver<'a>, Global>,
+        alloc: Global,
+        number: u32,
+    ) -> Result<(), SmpError> {
+        let driver = drive(self.table, &mut self.boot, alloc, number)?;
+        if drivers.push(driver).is_err() {
+            return Err(SmpError::NoMemory);
+        }
+        Ok(())
+    }
+
     /// These CPUs, each with its handler.
     fn drive_all(
         &mut self,
@@ -153,10 +177,7 @@ impl<'a> Room<'a> {
     ) -> Result<Vec<Driver<'a>, Global>, SmpError> {
         let mut drivers = Vec::new(alloc);
         for number in numbers {
-            let driver = drive(self.table, &mut self.boot, alloc, *number)?;
-            if drivers.push(driver).is_err() {
-                return Err(SmpError::NoMemory);
-            }
+            self.drive_one(&mut drivers, alloc, *number)?;
         }
         Ok(drivers)
     }
@@ -180,6 +201,14 @@ fn run_threads<R: Wait + Threads + Sync>(
     });
 }
 
+fn mask_of(numbers: &[u32]) -> Result<CpuMask, SmpError> {
+    let mut mask = CpuMask::empty();
+    for number in numbers {
+        mask = mask.with(*number)?;
+    }
+    Ok(mask)
+}
+
 /// Runs these four CPUs of a new table in threads: how many heard what they should, and what is left. One CPU
 /// more keeps the table's last value.
 fn run_all<R: Wait + Threads + Sync>(
@@ -189,15 +218,8 @@ fn run_all<R: Wait + Threads + Sync>(
     callers: [u32; 4],
     last: u32,
 ) -> Result<(u64, Audit), SmpError> {
-    let mut all = CpuMask::empty();
-    for number in callers {
-        all = all.with(number)?;
-    }
-    let progress = Progress {
-        sign: AtomicU64::new(0),
-        done: AtomicU64::new(0),
-        right: AtomicU64::new(0),
-    };
+    let all = mask_of(&callers)?;
+    let progress = Progress::new();
     let (table, mut boot) = CallTable::new(alloc, nr, all.with(last)?)?;
     let last = seat(&table, &mut boot, last)?;
     let drivers = Room::new(&table, boot).drive_all(alloc, &callers)?;
@@ -236,11 +258,12 @@ fn all_have_run(rt: &impl Abort, audit: &Audit, calls: &[(usize, usize, u64)]) {
     match audit {
         Audit::Drained(tally) => {
             for (src, dst, count) in calls {
-                let counts = (
-                    count_in(&tally.queued, *src, *dst),
-                    count_in(&tally.ran, *dst, *src),
+                let queued = count_in(&tally.queued, *src, *dst);
+                let ran = count_in(&tally.ran, *dst, *src);
+                assert_eq!(rt;
+                    (*src, *dst, queued, ran),
+                    (*src, *dst, Some(*count), Some(*count))
                 );
-                assert_eq!(rt; counts, (Some(*count), Some(*count)), "{src} {dst}");
             }
         }
         Audit::Left(left) => assert_eq!(rt; *left, DRAINED),

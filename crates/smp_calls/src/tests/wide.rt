@@ -22,7 +22,7 @@ fn table_and_three(
 fn records_are(rt: &impl Abort, cpu: &mut Driver, these: &[u32], done: bool) {
     for k in 0..36u32 {
         let expected = these.contains(&k) == done;
-        assert_eq!(rt; cpu.is_done(k), Ok(expected), "{k}");
+        assert_eq!(rt; (k, cpu.is_done(k)), (k, Ok(expected)));
     }
 }
 
@@ -104,7 +104,7 @@ fn calls_all_others<R: Wait + Abort>(
     own: u32,
 ) {
     let this = cpu.cpu.number();
-    assert!(rt; cpu.many(rt, all, 1, false) == others, "{this}");
+    assert!(rt; cpu.many(rt, all, 1, false) == others);
     let tallies = (cpu.tally(7), cpu.tally(31), cpu.tally(this));
     assert_eq!(rt;
         (cpu.heard.calls.len(), tallies),
@@ -132,23 +132,19 @@ fn calls_the_last<R: Wait + Abort>(
     record: u32,
     none: u32,
 ) {
-    assert!(rt; zero.many(rt, last, 1, false) == last, "{record}");
-    let done = (zero.is_done(record), zero.is_done(none));
-    assert_eq!(rt; done, (Ok(false), Err(SmpError::BadArgument)), "{record}");
-}
-
-/// A number that tells in which order CPUs were asked.
-fn asked_next(before: u64, cpu: u32) -> u64 {
-    before.wrapping_mul(33).wrapping_add(cpu as u64)
+    assert!(rt; zero.many(rt, last, 1, false) == last);
+    let done = (record, zero.is_done(record), zero.is_done(none));
+    assert_eq!(rt; done, (record, Ok(false), Err(SmpError::BadArgument)));
 }
 
 /// The number where the others are asked in order, and then this CPU.
 fn asked_last(all: CpuMask, this: u32) -> u64 {
-    let mut in_order = 1;
+    let asked = AtomicU64::new(1);
     for cpu in all.without(this).iter() {
-        in_order = asked_next(in_order, cpu);
+        note_asked(&asked, 33, cpu);
     }
-    asked_next(in_order, this)
+    note_asked(&asked, 33, this);
+    asked.load(Ordering::SeqCst)
 }
 
 #[test]
@@ -166,8 +162,7 @@ fn the_condition_is_asked_of_thirty_one_others_and_then_of_this_cpu(
 fn asks_of_thirty_two<R: Wait + Abort>(rt: &R, twenty: &mut Driver, all: CpuMask, fourth: CpuMask) {
     let asked = AtomicU64::new(1);
     let cond = |cpu: u32, _: u64| {
-        let before = asked.load(Ordering::SeqCst);
-        asked.store(asked_next(before, cpu), Ordering::SeqCst);
+        note_asked(&asked, 33, cpu);
         cpu % 4 == 0
     };
     assert!(rt; twenty.each(rt, all, 1, &cond, false) == fourth);
