@@ -6,7 +6,7 @@ use Rattle.smp_labels.specs.Keys.{is_on}
 use Rattle.smp_labels.specs.declared.patch.Place.{Place}
 use Rattle.smp_labels.specs.declared.patch.Place.TheVariants as place
 use Rattle.smp_labels.specs.declared.words.TheConstants.{MOST_KEYS}
-use Rattle.smp_words.specs.Access.{word_of, at_after, seen_of}
+use Rattle.smp_words.specs.Access.{word_of, at_after, seen_of, put_if}
 use Rattle.smp_words.specs.Put.{put, put_word}
 use Rattle.smp_words.proofs.Puts.{at_test}
 use Rattle.smp_stop_steps.specs.KeyCounts.{moves, moved_by}
@@ -115,10 +115,10 @@ module _ (p : StopState) (at : Word → ℕ) (seat : ℕ → Seat) (source : ℕ
       (site_read u p at seat source h v.number i 0) (reads_leaves r)
 
   pub nudge : (k found new : ℕ) → IsOn → has v.setting.online v.number ≡ true → k < MOST_KEYS → IsNudge found new →
-      Goes (cond (at (Key k) == found) (put_word at (Key k) new) at) (key_known act.Cas k (Some (at (Key k))) (cond (at (Key k) == found) (Some new) None) v)
+      Goes (put_if put_word at (Key k) (cond (at (Key k) == found) (Some new) None)) (key_known act.Cas k (Some (at (Key k))) (cond (at (Key k) == found) (Some new) None) v)
   nudge k found new on online low is = go (at (Key k) == found) refl
     where
-      go : (b : Bool) → (at (Key k) == found) ≡ b → Goes (cond b (put_word at (Key k) new) at) (key_known act.Cas k (Some (at (Key k)))
+      go : (b : Bool) → (at (Key k) == found) ≡ b → Goes (put_if put_word at (Key k) (cond b (Some new) None)) (key_known act.Cas k (Some (at (Key k)))
           (cond b (Some new) None) v)
       go false e = still p at seat source v h sees
       go true e =

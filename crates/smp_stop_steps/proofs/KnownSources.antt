@@ -2,6 +2,7 @@
 use Rattle.smp_stop_steps.proofs.Gates.{gate_free}
 use Rattle.std.proofs.Common.{◌≡◌, ◌≢◌, ℕ, ◌+◌, ◌<◌, nat_lt, lt-ltb, eqb-true, eq-eqb, ne_eqb, Bool, true, false, ◌==◌, cond, Option, Some, None, []}
 use Rattle.std.proofs.Common.{◌∷◌, ◌++◌, sym, subst, refl, ap, ◌∙◌, arith}
+use Rattle.smp_words.specs.Access.{put_if}
 use Rattle.smp_words.specs.Put.{put, put_word}
 use Rattle.smp_words.specs.Size.{cpus}
 use Rattle.smp_words.proofs.Puts.{put_all}
@@ -192,10 +193,10 @@ module _ (p : StopState) (at : Word → ℕ) (seat : ℕ → Seat) (source : ℕ
     others = λ c ne. ap (λ x. record (columns_of p c) { holds = x }) (others c ne);
   }
 
-  pub take_gate : Goes (cond (at Gate == 0) (put_word at Gate (v.number + 1)) at) (gate_known act.Cas (cond (at Gate == 0) (Some (v.number + 1)) None) v)
+  pub take_gate : Goes (put_if put_word at Gate (cond (at Gate == 0) (Some (v.number + 1)) None)) (gate_known act.Cas (cond (at Gate == 0) (Some (v.number + 1)) None) v)
   take_gate = go (at Gate == 0) refl
     where
-      go : (b : Bool) → (at Gate == 0) ≡ b → Goes (cond b (put_word at Gate (v.number + 1)) at) (gate_known act.Cas (cond b (Some (v.number + 1)) None) v)
+      go : (b : Bool) → (at Gate == 0) ≡ b → Goes (put_if put_word at Gate (cond b (Some (v.number + 1)) None)) (gate_known act.Cas (cond b (Some (v.number + 1)) None) v)
       go false e = still
       go true e =
           let free : p.gate ≡ None = gate_free p.gate (sym h.gate ∙ eqb-true (at Gate) 0 e) in
