@@ -95,11 +95,13 @@ module _ (u : Setup) (p : StopState) (at : Word → ℕ) (seat : ℕ → Seat) (
             source_after = source me;
             shows = subst (λ n. StopShows u (state_after u p at c me (Advance v (round.Acknowledge answer ran))) (put_word at (Slot v.slot Ack) n)
                 (put seat me next) (put source me (source me))) (sym less)
-                (moved_seat u seat source me (state_after u p at c me (Advance v (round.Acknowledge answer ran))) (put_word at (Slot v.slot Ack) (at (Slot v.slot Ack) - 1)) next
+                (moved_seat u seat source me (state_after u p at c me (Advance v (round.Acknowledge answer ran))) (put_word at (Slot v.slot Ack)
+                (at (Slot v.slot Ack) - 1)) next
                 (ack_subtracted u p at seat source h v.slot me work v.acked answer is
                 (λ two. has_called work loaded ran calm (p.calling me) (subst (λ (st : Option StopStage). CarriesAt c.visit st (p.calling me)) e k) two)));
             sits = acked_sits answer ran work loaded y
-                (s.irq ∙ (ap irq_of is ∙ (ap (λ b. nat_lt (v.acked + 1) 2 || b) (ne_eqb v.acked 4 (λ z. omega arith)) ∙ or_false (nat_lt (v.acked + 1) 2) false refl)))
+                (s.irq ∙ (ap irq_of is ∙ (ap (λ b. nat_lt (v.acked + 1) 2 || b) (ne_eqb v.acked 4 (λ z. omega arith)) ∙ or_false (nat_lt (v.acked + 1) 2)
+                false refl)))
                 (at (Slot v.slot Ack) == 1);
           }
       either work loaded most (inr (two, runs, (count, answers, is))) y =
@@ -113,7 +115,8 @@ module _ (u : Setup) (p : StopState) (at : Word → ℕ) (seat : ℕ → Seat) (
             source_after = source me;
             shows = subst (λ n. StopShows u (state_after u p at c me (Advance v (round.Acknowledge answer ran))) (put_word at (Slot v.slot Ack) n)
                 (put seat me next) (put source me (source me))) (sym less)
-                (moved_seat u seat source me (state_after u p at c me (Advance v (round.Acknowledge answer ran))) (put_word at (Slot v.slot Ack) (at (Slot v.slot Ack) - 1)) next
+                (moved_seat u seat source me (state_after u p at c me (Advance v (round.Acknowledge answer ran))) (put_word at (Slot v.slot Ack)
+                (at (Slot v.slot Ack) - 1)) next
                 (subst (λ x. StopShows u (state_after u p at c me (Advance v (round.Acknowledge answer ran))) (put_word at (Slot v.slot Ack)
                 (at (Slot v.slot Ack) - 1)) (put seat me x) source) three
                 (ack_subtracted_patched u p at seat source h v.slot me work count (plan_at u work count) answer is)));

@@ -81,7 +81,8 @@ module _ (u : Setup) (p : StopState) (at : Word → ℕ) (seat : ℕ → Seat) (
       record {
         seat_after = Free;
         source_after = source me;
-        shows = moved_seat u seat source me (state_after u p at c me (Close slot)) (at_then u at c me (Close slot)) Free (done_stored u p at seat source h slot me 0 x.1);
+        shows = moved_seat u seat source me (state_after u p at c me (Close slot)) (at_then u at c me (Close slot)) Free (done_stored u p at seat source h
+            slot me 0 x.1);
         sits = record {
           below = s.below;
           irq = s.irq ∙ ap irq_of x.1;
@@ -117,7 +118,8 @@ module _ (u : Setup) (p : StopState) (at : Word → ℕ) (seat : ℕ → Seat) (
         record {
           seat_after = seat me;
           source_after = source me;
-          shows = still u seat source me (state_after u p at c me (Complete v (completion.LoadArg answer func))) at (arg_loaded u p at seat source h v.slot me x.1.1.0
+          shows = still u seat source me (state_after u p at c me (Complete v (completion.LoadArg answer func))) at (arg_loaded u p at seat source h v.slot
+              me x.1.1.0
               v.acked v.acked Rests x.1.1.2 answer refl);
           sits = go x.1.0 x.1.1.0 x.1.1.1 x.1.1.2 (at_source (Complete v (completion.LoadArg answer func)) e) (answer == 0) refl;
         }
@@ -179,7 +181,8 @@ module _ (u : Setup) (p : StopState) (at : Word → ℕ) (seat : ℕ → Seat) (
         record {
           seat_after = next;
           source_after = source me;
-          shows = moved_seat u seat source me (state_after u p at c me (Complete v completion.StoreAnswer)) (at_then u at c me (Complete v completion.StoreAnswer)) next
+          shows = moved_seat u seat source me (state_after u p at c me (Complete v completion.StoreAnswer))
+              (at_then u at c me (Complete v completion.StoreAnswer)) next
               (result_stored u p at seat source h v.slot me work v.acked v.acked is through v.answer 0 some
               (calling_given me v.slot work v.acked v.acked v.answer (p.calling me) some through
               (ends (p.calling me) (subst (λ (st : Option StopStage). CarriesAt c.visit st (p.calling me)) e k))

@@ -110,7 +110,8 @@ module _ (p : StopState) (at : Word → ℕ) (seat : ℕ → Seat) (source : ℕ
           (λ c ne. clear_other (at (Slot s field.Roll)) v.number c low ne (high_none u p at seat source h s c))))
           record { mine = sees.part_is; others = λ c ne. refl }
       go false missing =
-          subst (λ n. Goes (put_word at (Slot s field.Roll) n) v) (sym (clear_none (at (Slot s field.Roll)) v.number low missing (high_none u p at seat source h s)))
+          subst (λ n. Goes (put_word at (Slot s field.Roll) n) v) (sym (clear_none (at (Slot s field.Roll)) v.number low missing
+          (high_none u p at seat source h s)))
           (subst (λ x. Goes x v) (sym (word_same at (Slot s field.Roll))) (still p at seat source v h sees))
 
   -- a round

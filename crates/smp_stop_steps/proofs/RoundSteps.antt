@@ -85,7 +85,8 @@ module _ (u : Setup) (p : StopState) (at : Word → ℕ) (seat : ℕ → Seat) (
       record {
         seat_after = In v.slot work v.acked found Rests;
         source_after = source me;
-        shows = moved_seat u seat source me (state_after u p at c me (Advance v (round.Look answer))) at (In v.slot work v.acked found Rests) (state_loaded u p at seat
+        shows = moved_seat u seat source me (state_after u p at c me (Advance v (round.Look answer))) at (In v.slot work v.acked found Rests)
+            (state_loaded u p at seat
             source h v.slot me work v.acked v.acked 0 is r.1.1);
         sits = go work is r.0 r.1.2.1 r.1.1 y (found == v.acked) refl (found == 3 && has v.active me) refl;
       }
@@ -191,7 +192,8 @@ module _ (u : Setup) (p : StopState) (at : Word → ℕ) (seat : ℕ → Seat) (
       record {
         seat_after = seat me;
         source_after = source me;
-        shows = still u seat source me (state_after u p at c me (Advance v (round.LoadArg answer func))) at (arg_loaded u p at seat source h v.slot me r.1.1.0 2 3 Rests
+        shows = still u seat source me (state_after u p at c me (Advance v (round.LoadArg answer func))) at (arg_loaded u p at seat source h v.slot me
+            r.1.1.0 2 3 Rests
             run.3 answer refl);
         sits = go r.0 r.1.0 r.1.1.0 run r.1.1.2 (at_source (round.LoadArg answer func) e) v.kind refl;
       }
@@ -521,7 +523,8 @@ module _ (u : Setup) (p : StopState) (at : Word → ℕ) (seat : ℕ → Seat) (
             source_after = source me;
             shows = subst (λ (x : Change). StopShows u (tells u p (seen_of me (store_of x) (at (word_of (store_of x))) None) 0) (at_after at (store_of x))
                 (put seat me next) (put source me (source me))) (sym here)
-                (moved_seat u seat source me (tells u p (seen_of me (store_of change) (at (word_of (store_of change))) None) 0) (at_after at (store_of change)) next stored);
+                (moved_seat u seat source me (tells u p (seen_of me (store_of change) (at (word_of (store_of change))) None) 0)
+                (at_after at (store_of change)) next stored);
             sits = subst (λ (x : Change). Sits u me (at_after at (store_of x) Gate)
                 (stop_goes c (Advance v (cond (made + 1 == length c.changes) (round.Acknowledge 0 true) (round.StoreChange (made + 1))))).control next
                 (source me)) (sym here)

@@ -193,7 +193,8 @@ module _ (u : Setup) (p : StopState) (at : Word → ℕ) (seat : ℕ → Seat) (
       record {
         seat_after = seat me;
         source_after = Owns work;
-        shows = moved_source u seat source me (state_after u p at c me (Begin work Roll)) (at_then u at c me (Begin work Roll)) (Owns work) (roll_stored u p at seat source h
+        shows = moved_source u seat source me (state_after u p at c me (Begin work Roll)) (at_then u at c me (Begin work Roll)) (Owns work)
+            (roll_stored u p at seat source h
             me work 0 y.1);
         sits = record { below = s.below; irq = s.irq; seat = begins_seat work Roll e; source = (work, refl); gate_held = tt };
       }
