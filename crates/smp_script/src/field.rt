@@ -2,8 +2,11 @@
 
 ghost use Rattle.std.specs.Prelude.{◌≡◌, ◌<◌, ◌^◌, length};
 ghost use Rattle.smp_script.specs.Fields.{class_of, stays_below, kind_of, mask_of, way_of};
+ghost use Rattle.smp_script.specs.Requests.{active_of, member_of, switch_of, wait_of, which_of};
 
+use crate::decimal::read_u32;
 use crate::line::is_word;
+use crate::request::Which;
 use smp_mask::{Cause, CpuMask};
 use smp_words::{Class, Kind};
 
@@ -68,4 +71,69 @@ pub fn read_mask(limit: u32, text: &[u8]) -> Result<CpuMask, Cause>
         Ok(mask) if stays_below(limit, mask) => Ok(mask),
         _ => Err(Cause::Mask),
     }
+}
+
+/// `wait` or `nowait`: whether it is `wait`.
+pub fn read_wait(text: &[u8]) -> Result<bool, Cause>
+    ensures { result ≡ wait_of text.now }
+{
+    if is_word(text, b"wait") {
+        return Ok(true);
+    }
+    if is_word(text, b"nowait") {
+        return Ok(false);
+    }
+    Err(Cause::Word)
+}
+
+/// `all`, `even` or `odd`
+pub fn read_which(text: &[u8]) -> Result<Which, Cause>
+    ensures { result ≡ which_of text.now }
+{
+    if is_word(text, b"all") {
+        return Ok(Which::All);
+    }
+    if is_word(text, b"even") {
+        return Ok(Which::Even);
+    }
+    if is_word(text, b"odd") {
+        return Ok(Which::Odd);
+    }
+    Err(Cause::Word)
+}
+
+/// `on` or `off`: whether it is `on`.
+pub fn read_switch(text: &[u8]) -> Result<bool, Cause>
+    ensures { result ≡ switch_of text.now }
+{
+    if is_word(text, b"on") {
+        return Ok(true);
+    }
+    if is_word(text, b"off") {
+        return Ok(false);
+    }
+    Err(Cause::Word)
+}
+
+/// The number of one of these CPUs.
+pub fn read_member(online: CpuMask, text: &[u8]) -> Result<u32, Cause>
+    ensures { result ≡ member_of online text.now }
+{
+    let cpu = read_u32(text)?;
+    if !online.contains(cpu) {
+        return Err(Cause::Range);
+    }
+    Ok(cpu)
+}
+
+/// A mask, or `none`.
+pub fn read_active(limit: u32, text: &[u8]) -> Result<Option<CpuMask>, Cause>
+    requires { length text.now < 2 ^ 32 }
+    ensures { result ≡ active_of limit text.now }
+{
+    if is_word(text, b"none") {
+        return Ok(None);
+    }
+    let mask = read_mask(limit, text)?;
+    Ok(Some(mask))
 }

@@ -11,6 +11,7 @@
 //! - `errors`: The numbers of errors.
 #![tactic(auto)]
 
+mod call_operation;
 mod command;
 mod decimal;
 pub mod directive;
@@ -26,6 +27,7 @@ pub mod outcome;
 pub mod request;
 pub mod script;
 mod setting;
+mod stop_operation;
 pub mod stream;
 pub mod version;
 pub mod watched;

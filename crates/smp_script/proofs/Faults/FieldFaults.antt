@@ -44,7 +44,8 @@ passes shape fields i form wants right clean j other cause h e f = elim (cases_l
 
 -- a number is read, or what is wrong with it
 pub data NumberRead (low high : ℕ) (text : List ℕ) : Type 0 where
-  is_read : is_decimal text ≡ true → number_in low high text ≡ Ok (value_of text) → ((cause : Cause) → NumberFault low high text cause → ⊥) → NumberRead low high text
+  is_read : is_decimal text ≡ true → number_in low high text ≡ Ok (value_of text) → ((cause : Cause) → NumberFault low high text cause → ⊥)
+      → NumberRead low high text
   is_wrong : (cause : Cause) → number_in low high text ≡ Err cause → NumberFault low high text cause → NumberRead low high text
 
 right_number : (low high : ℕ) (text : List ℕ) → is_decimal text ≡ true → low ≤ value_of text → value_of text ≤ high → (cause : Cause)

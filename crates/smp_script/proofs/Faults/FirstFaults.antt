@@ -1,5 +1,6 @@
 -- The first fault of a text, line by line.
-use Rattle.std.proofs.Common.{◌≡◌, ℕ, zero, suc, ◌+◌, ◌<◌, ◌≤◌, true, false, nat_lt, ◌==◌, List, [], ◌∷◌, ◌++◌, length, drop, get_or, Option, Some, None, Result, Ok}
+use Rattle.std.proofs.Common.{◌≡◌, ℕ, zero, suc, ◌+◌, ◌<◌, ◌≤◌, true, false, nat_lt, ◌==◌, List, [], ◌∷◌, ◌++◌, length, drop, get_or, Option, Some, None}
+use Rattle.std.proofs.Common.{Result, Ok}
 use Rattle.std.proofs.Common.{Err, cond, refl, sym, ap, ◌∙◌, inl, inr, arith, subst, add-one}
 use Rattle.std.specs.Prelude.{slice_get}
 use Rattle.std.proofs.lemmas.Bool.{cases_Bool, cases_lt}
@@ -11,8 +12,7 @@ use Rattle.smp_mask.specs.declared.error.Cause.TheVariants.{TooLong, Cut, Shared
 use Rattle.smp_script.specs.declared.directive.Directive.{Directive}
 use Rattle.smp_script.specs.declared.mode.Mode.{Mode}
 use Rattle.smp_script.specs.declared.setting.Setting.{Setting}
-use Rattle.smp_script.specs.Fields.{mask_of}
-use Rattle.smp_script.specs.Keys.{key_of, shares}
+use Rattle.smp_script.specs.Keys.{shares}
 use Rattle.smp_script.specs.Modes.{setting_of}
 use Rattle.smp_script.specs.Lines.{Line, fields_of, lines_of}
 use Rattle.smp_script.specs.Faults.{Fault, ◌>>=◌, at_line}
@@ -21,7 +21,7 @@ use Rattle.smp_script.specs.Script.{directives_of, events_of, first_line, labels
 use Rattle.smp_labels.specs.Labels.{Labels}
 use Rattle.smp_script.specs.Labels.{is_labels, whole_labels}
 use Rattle.smp_script.specs.Shapes.{requests, shapes_of}
-use Rattle.smp_script.specs.FirstFault.{IsFault, IsFirstFault, LineFault, SharesKey, past_bytes, no_line, in_line, events_in, events_to, key_in, limit_in}
+use Rattle.smp_script.specs.FirstFault.{IsFault, IsFirstFault, LineFault, SharesKey, past_bytes, no_line, in_line, events_in, events_to, limit_in}
 use Rattle.smp_script.specs.FirstFault.{online_in, setting_in}
 use Rattle.smp_script.proofs.Faults.LineShapes.{IsQuiet, Matches, TellsLine}
 use Rattle.smp_script.proofs.Faults.RequestLines.{IsSound, line_told}
@@ -33,7 +33,6 @@ use Rattle.smp_script.proofs.Faults.LineFaults.{FirstOf, RightLine, end_first, e
 use Rattle.smp_script.proofs.Spelled.Readings.{after_first, after_labels, after_second, after_table, after_title, title_ok, whole_mask}
 use Rattle.smp_script.specs.FieldFaults.{field_at}
 use Rattle.smp_script.proofs.Reader.Widths.{AreCpus}
-use Rattle.smp_mask.specs.declared.mask.TheConstants.{NR_CPUS}
 use Rattle.smp_script.specs.declared.version.Version.{Version}
 use Rattle.smp_script.specs.Versions.{limit_of}
 use Rattle.smp_script.proofs.Reader.Versions.{limit_told, limit_within, online_told}
@@ -60,7 +59,8 @@ in_that_line setting text n line here m k cause e (in_line n' {line = other} fou
     (subst (λ i. LineFault setting (i + 1) (events_to text (i + 1)) (SharesKey text i) other k cause) same f)
 
 -- the first fault of a line is that of the text where no line before has one
-line_first : (setting : Setting) (text : List ℕ) (n : ℕ) (line : Line) (cause : Cause) → slice_get (lines_of text) n ≡ Some line → NoneBefore setting text (n + 1)
+line_first : (setting : Setting) (text : List ℕ) (n : ℕ) (line : Line) (cause : Cause) → slice_get (lines_of text) n ≡ Some line
+    → NoneBefore setting text (n + 1)
     → FirstOf setting (n + 1) (events_to text (n + 1)) (SharesKey text n) line cause → IsFirstFault setting text (n + 1) cause
 line_first setting text n line cause here none f =
     record {
@@ -78,13 +78,15 @@ line_right setting text n line here none right m k cause below f = elim (cases_l
 ]
 
 -- a line that is missing has no fault of rank 0
-none_missing : (setting : Setting) (text : List ℕ) (n : ℕ) → length (lines_of text) ≤ n → (m k : ℕ) (cause : Cause) → m ≡ n + 1 → k < 1 → IsFault setting text m k cause
+none_missing : (setting : Setting) (text : List ℕ) (n : ℕ) → length (lines_of text) ≤ n → (m k : ℕ) (cause : Cause) → m ≡ n + 1 → k < 1
+    → IsFault setting text m k cause
     → ⊥
 none_missing setting text n short m k cause e below (past_bytes f) = omega (arith, e)
 none_missing setting text n short m k cause e below (no_line f few) = omega arith
 none_missing setting text n short m k cause e below (in_line n' {line = other} found f) = omega (arith, e, slice_get_within (lines_of text) n' other found)
 
-missing_first : (setting : Setting) (text : List ℕ) (n : ℕ) → length (lines_of text) ≤ n → n ≤ 1 → NoneBefore setting text (n + 1) → IsFirstFault setting text (n + 1) Cut
+missing_first : (setting : Setting) (text : List ℕ) (n : ℕ) → length (lines_of text) ≤ n → n ≤ 1 → NoneBefore setting text (n + 1)
+    → IsFirstFault setting text (n + 1) Cut
 missing_first setting text n short few none =
     record {
       rank = 1;
@@ -94,7 +96,8 @@ missing_first setting text n short few none =
     }
 
 -- after the last line there is no fault
-none_after : (setting : Setting) (text : List ℕ) (n : ℕ) → length (lines_of text) ≤ n → 2 ≤ n → (m k : ℕ) (cause : Cause) → n < m → IsFault setting text m k cause → ⊥
+none_after : (setting : Setting) (text : List ℕ) (n : ℕ) → length (lines_of text) ≤ n → 2 ≤ n → (m k : ℕ) (cause : Cause) → n < m
+    → IsFault setting text m k cause → ⊥
 none_after setting text n short long m k cause after (past_bytes f) = omega arith
 none_after setting text n short long m k cause after (no_line f few) = omega arith
 none_after setting text n short long m k cause after (in_line n' {line = other} found f) = omega (arith, slice_get_within (lines_of text) n' other found)
@@ -132,7 +135,8 @@ events_more text n line here =
     sum_by_more (λ l. events_in (fields_of l.text)) (lines_of text) n line (slice_get_within (lines_of text) n line here)
     ∙ ap (λ l. events_to text n + events_in (fields_of l.text)) same
 
-tells_then : {A B : Type 0} (setting : Setting) (text : List ℕ) (r : Result A Fault) (f : A → B) → TellsText setting text r → TellsText setting text (r >>= λ x. Ok (f x))
+tells_then : {A B : Type 0} (setting : Setting) (text : List ℕ) (r : Result A Fault) (f : A → B) → TellsText setting text r
+    → TellsText setting text (r >>= λ x. Ok (f x))
 tells_then setting text (Ok x) f t = t
 tells_then setting text (Err e) f t = t
 

@@ -13,12 +13,10 @@ use Rattle.smp_script.specs.Labels.{entries_in, entry_of, has_number, is_below, 
 use Rattle.smp_script.specs.Shapes.{items, labels, requests, has_shape}
 use Rattle.smp_script.specs.declared.setting.Setting.{Setting}
 use Rattle.smp_script.specs.FieldFaults.{ItemsFault, value_of}
-use Rattle.smp_script.specs.FirstFault.{events_in}
 use Rattle.smp_script.proofs.Faults.FieldFaults.{Judged, fine, faulty, Tells, none_yet, reads_last, reads_number}
 use Rattle.smp_script.proofs.Faults.LineShapes.{IsQuiet, Matches, TellsLine, shapeless, shaped, no_whole, passes_word, skips, skips_word}
 use Rattle.smp_script.proofs.Faults.RequestLines.{IsSound, line_told, no_labels, no_request}
 use Rattle.smp_script.proofs.Spelled.ReadParts.{same_word}
-use Rattle.smp_mask.specs.declared.mask.TheConstants.{NR_CPUS}
 
 right_items : (keys : ℕ) (field : List ℕ) → list_all has_number (items_of field) ≡ true → length (items_of field) ≤ MOST_SITES
     → list_all (is_below keys) (items_of field) ≡ true → (cause : Cause) → ItemsFault keys field cause → ⊥

@@ -66,7 +66,8 @@ only_ends setting n events shared line h e k cause below (shared_key f) = omega 
 only_ends setting n events shared line h e k cause below (past_events f) = omega arith
 
 -- a line of this shape whose first fields are right
-clean_to : (setting : Setting) (n events : ℕ) (shared : Type 0) (line : Line) (shape : List Form) (i : ℕ) → n ≤ 2000 → line.ended ≡ true → shape_of setting n (fields_of line.text) ≡ Some shape
+clean_to : (setting : Setting) (n events : ℕ) (shared : Type 0) (line : Line) (shape : List Form) (i : ℕ) → n ≤ 2000 → line.ended ≡ true
+    → shape_of setting n (fields_of line.text) ≡ Some shape
     → i ≤ length (fields_of line.text) → Clean shape (fields_of line.text) i
     → NoneBelow setting n events shared line (3 + i)
 clean_to setting n events shared line shape i h e s within clean k cause below (past_lines f) = omega arith
@@ -124,7 +125,8 @@ shape_first setting n events shared line shape cause h e s w =
       least = clean_to setting n events shared line shape w.place h e s (omega arith) w.before;
     }
 
-pub read_first : {B : Type 0} (setting : Setting) (n events : ℕ) (shared : Type 0) (line : Line) (holds : B → Type 0) (read : Result B Cause) (cause : Cause) → n ≤ 2000 → line.ended ≡ true
+pub read_first : {B : Type 0} (setting : Setting) (n events : ℕ) (shared : Type 0) (line : Line) (holds : B → Type 0) (read : Result B Cause) (cause : Cause)
+    → n ≤ 2000 → line.ended ≡ true
     → TellsLine (shapes_of setting n) (fields_of line.text) holds read → read ≡ Err cause
     → FirstOf setting n events shared line cause
 read_first {B} setting n events shared line holds read cause h e (shapeless s is) bad =

@@ -1,6 +1,6 @@
 -- Which shape the fields of a line have, and what reading them by that shape tells.
-use Rattle.std.proofs.Common.{◌≡◌, ℕ, ℤ, ◌+◌, ◌≤◌, Bool, true, false, not, ◌&&◌, ◌==◌, List, [], ◌∷◌, length, drop, Some, None, Result, Ok, Err, codes, refl}
-use Rattle.std.proofs.Common.{sym, ◌∙◌, inl, inr, arith, subst}
+use Rattle.std.proofs.Common.{◌≡◌, ℕ, ◌+◌, Bool, true, false, not, ◌&&◌, ◌==◌, List, [], ◌∷◌, length, Some, None, Result, Err, refl}
+use Rattle.std.proofs.Common.{sym, ◌∙◌, inl, inr, arith}
 use Rattle.std.specs.Prelude.{find, slice_get}
 use Rattle.std.specs.Str.{bytes_eq}
 use Rattle.std.proofs.lemmas.Bool.{cases_Bool, and_parts, and_right, or_cases}
@@ -8,37 +8,16 @@ use Rattle.std.proofs.lemmas.Bool.Decides.{nat_tests}
 use Rattle.std.specs.List.{list_all}
 use Rattle.smp_mask.specs.declared.error.Cause.{Cause}
 use Rattle.smp_mask.specs.declared.error.Cause.TheVariants.{Word}
-use Rattle.smp_words.specs.declared.call.Class.{Class}
-use Rattle.smp_words.specs.declared.call.Class.TheVariants.{Sync, Async}
-use Rattle.smp_words.specs.declared.work.Kind.{Kind}
-use Rattle.smp_words.specs.declared.work.Kind.TheVariants.{One as OneKind, Multi, Patch}
-use Rattle.smp_words.specs.declared.command.Command.{Command}
-use Rattle.smp_words.specs.declared.command.Command.TheVariants.{Send, Done, Handle, Gate, Ungate, Enter, Advance, RunOne, Finish, Poll, Key, Site, Nudge}
 use Rattle.smp_script.specs.declared.directive.Directive.{Directive}
-use Rattle.smp_script.specs.declared.directive.Directive.TheVariants.{Start, Show}
-use Rattle.smp_script.specs.Fields.{class_of, kind_of, mask_of, way_of, word32}
-use Rattle.smp_script.specs.Faults.{◌>>=◌}
-use Rattle.smp_script.specs.Numbers.{signed_of}
-use Rattle.smp_script.specs.Commands.{are_whole, begins_of, posts_of, show_of, start_answer, start_answered, start_bare, start_begin, start_nudge}
-use Rattle.smp_script.specs.Commands.{start_number, start_of, start_one, start_post, start_short, start_two, step_of, steps_of}
-use Rattle.smp_script.specs.Script.{events_of, title_of}
-use Rattle.smp_script.specs.Shapes.{Form, word, words, number, signed, cpu_list, online, items, class, kind, title, versions, post, begin, way, nudge, numbered}
-use Rattle.smp_script.specs.Shapes.{answered, bare, with_number, with_answer, with_none, step, show, bits, has_shape, has_word, is_one_of}
+use Rattle.smp_script.specs.Commands.{are_whole}
+use Rattle.smp_script.specs.Script.{events_of}
+use Rattle.smp_script.specs.Shapes.{Form, word, words, number, signed, cpu_list, online, items}
+use Rattle.smp_script.specs.Shapes.{has_shape, has_word, is_one_of}
 use Rattle.smp_script.specs.FirstFault.{events_in}
-use Rattle.smp_script.specs.Versions.{version_text}
-use Rattle.smp_script.specs.declared.version.Version.{Version}
-use Rattle.smp_script.specs.declared.version.Version.TheVariants.{One, Two}
-use Rattle.smp_mask.specs.declared.mask.TheConstants.{NR_CPUS}
 use Rattle.smp_script.proofs.Spelled.ReadParts.{same_word}
-use Rattle.smp_script.proofs.Faults.FieldFaults.{Clean, Tells, none_yet, passes, reads_field, reads_number}
-use Rattle.smp_script.proofs.Faults.SignedFields.{signed_judged}
-use Rattle.smp_script.proofs.Faults.MaskFields.{mask_judged}
-use Rattle.smp_script.specs.declared.mode.Mode.{Mode}
-use Rattle.smp_script.specs.declared.mode.Mode.TheVariants.{Replay, Run}
+use Rattle.smp_script.proofs.Faults.FieldFaults.{Clean, Tells, passes}
 use Rattle.smp_script.specs.Keys.{key_of}
-use Rattle.smp_script.specs.Modes.{mode_text}
-use Rattle.smp_script.specs.Commands.{replay_line}
-use Rattle.smp_script.specs.Shapes.{active, member, replay_requests}
+use Rattle.smp_script.specs.Shapes.{active, member}
 use Rattle.smp_script.specs.FirstFault.{key_in}
 
 -- what reading the fields of a line tells: they have no shape, or one by which they are read

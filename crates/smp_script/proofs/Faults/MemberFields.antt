@@ -1,16 +1,16 @@
 -- The number of a CPU that is online, and what is wrong with its field.
-use Rattle.std.proofs.Common.{◌≡◌, ℕ, ◌+◌, ◌<◌, ◌≤◌, true, false, List, Some, Result, Ok, Err, refl, sym, ◌∙◌, inl, inr, arith}
+use Rattle.std.proofs.Common.{◌≡◌, ℕ, ◌+◌, ◌<◌, true, false, List, Some, Result, Ok, Err, refl, sym, ◌∙◌, inl, inr, arith}
 use Rattle.std.specs.Prelude.{slice_get}
 use Rattle.std.proofs.lemmas.Bool.{cases_Bool}
 use Rattle.smp_mask.specs.Mask.{has}
 use Rattle.smp_mask.specs.declared.error.Cause.{Cause}
 use Rattle.smp_mask.specs.declared.error.Cause.TheVariants.{Number, Range}
 use Rattle.smp_script.specs.Faults.{◌>>=◌}
-use Rattle.smp_script.specs.FieldFaults.{FieldFault, MemberFault, NumberFault, field_at, value_of}
+use Rattle.smp_script.specs.FieldFaults.{MemberFault, NumberFault, field_at, value_of}
 use Rattle.smp_script.specs.Numbers.{is_decimal, number_in}
 use Rattle.smp_script.specs.Requests.{member_of}
 use Rattle.smp_script.specs.Shapes.{Form, member}
-use Rattle.smp_script.proofs.Faults.FieldFaults.{Clean, NumberRead, Tells, is_read, is_wrong, number_read, passes}
+use Rattle.smp_script.proofs.Faults.FieldFaults.{Clean, Tells, is_read, is_wrong, number_read, passes}
 use Rattle.smp_script.proofs.Reader.Widths.{AreCpus}
 
 -- a CPU is read, or what is wrong with its field

@@ -10,7 +10,8 @@ use Rattle.smp_script.specs.Numbers.{is_decimal}
 use Rattle.smp_script.specs.Faults.{Fault}
 use Rattle.smp_script.specs.Script.{Script, script_of}
 use Rattle.smp_script.specs.Shapes.{Form, word, words, number, signed, cpu_list, active, online, member, items}
-use Rattle.smp_script.specs.FieldFaults.{field_at, value_of, ActiveFault, FieldFault, ItemsFault, MaskFault, MemberFault, NumberFault, OnlineFault, SignedFault, is_signed}
+use Rattle.smp_script.specs.FieldFaults.{field_at, value_of, ActiveFault, FieldFault, ItemsFault, MaskFault, MemberFault, NumberFault, OnlineFault, SignedFault}
+use Rattle.smp_script.specs.FieldFaults.{is_signed}
 use Rattle.smp_script.specs.Labels.{has_number, items_of}
 use Rattle.std.specs.List.{list_all}
 use Rattle.smp_script.specs.FirstFault.{LineFault, past_lines, unended, no_shape, wrong_field, shared_key, past_events, IsFault, IsFirstFault, SharesKey}
@@ -118,7 +119,8 @@ field_cause fields i items c d f g = items_cause (value_of (field_at fields 1)) 
 field_cause fields i (online limit) c d f g = online_cause limit (value_of (field_at fields 1)) (field_at fields i) c d f g
 
 -- two faults of one rank in a line have one cause
-line_cause : (setting : Setting) (n events : ℕ) (shared : Type 0) (line : Line) (k m : ℕ) (c d : Cause) → k ≡ m → LineFault setting n events shared line k c → LineFault setting n events shared line m d → c ≡ d
+line_cause : (setting : Setting) (n events : ℕ) (shared : Type 0) (line : Line) (k m : ℕ) (c d : Cause) → k ≡ m → LineFault setting n events shared line k c
+    → LineFault setting n events shared line m d → c ≡ d
 line_cause setting n events shared line k m c d e (past_lines f) (past_lines g) = refl
 line_cause setting n events shared line k m c d e (past_lines f) _ = absurd (omega (arith, e))
 line_cause setting n events shared line k m c d e (unended f) (unended g) = refl
@@ -161,7 +163,8 @@ fault_cause setting text n k m l c d e r (in_line i {line = a} here f) (in_line 
     let found : slice_get (lines_of text) i ≡ Some b = subst (λ x. slice_get (lines_of text) x ≡ Some b) place there in
     let line : b ≡ a = cc in
     line_cause setting (i + 1) (events_to text (i + 1)) (SharesKey text i) a k l c d r f
-    (subst (λ x. LineFault setting (i + 1) (events_to text (i + 1)) (SharesKey text i) x l d) line (subst (λ x. LineFault setting (x + 1) (events_to text (x + 1)) (SharesKey text x) b l d) place g))
+    (subst (λ x. LineFault setting (i + 1) (events_to text (i + 1)) (SharesKey text i) x l d) line
+    (subst (λ x. LineFault setting (x + 1) (events_to text (x + 1)) (SharesKey text x) b l d) place g))
 
 -- first faults are in one line
 one_line : (setting : Setting) (text : List ℕ) (n m : ℕ) (c d : Cause) → IsFirstFault setting text n c → IsFirstFault setting text m d → n ≡ m
@@ -180,7 +183,8 @@ one_cause setting text n m c d a b e = elim (cases_order a.rank b.rank) [
 ]
 
 -- a text with a first fault is refused with it
-refused_with : (setting : Setting) (text : List ℕ) (n : ℕ) (cause : Cause) → IsFirstFault setting text n cause → (r : Result Script Fault) → TellsText setting text r
+refused_with : (setting : Setting) (text : List ℕ) (n : ℕ) (cause : Cause) → IsFirstFault setting text n cause → (r : Result Script Fault)
+    → TellsText setting text r
     → r ≡ Err (n, cause)
 refused_with setting text n cause h (Ok script) tells = absurd (tells n h.rank cause h.fault)
 refused_with setting text n cause h (Err fault) tells =
@@ -197,7 +201,8 @@ read_then : (setting : Setting) (text : List ℕ) → ((n rank : ℕ) (cause : C
 read_then setting text none (Ok script) tells = refl
 read_then setting text none (Err fault) tells = absurd (none fault.0 tells.rank fault.1 tells.fault)
 
-pub is_read : (mode : Mode) (text : List ℕ) → ((n rank : ℕ) (cause : Cause) → IsFault (setting_in mode text) text n rank cause → ⊥) → is_ok (script_of mode text) ≡ true
+pub is_read : (mode : Mode) (text : List ℕ) → ((n rank : ℕ) (cause : Cause) → IsFault (setting_in mode text) text n rank cause → ⊥)
+    → is_ok (script_of mode text) ≡ true
 is_read mode text none = read_then (setting_in mode text) text none (script_of mode text) (script_tells mode text)
 
 none_then : (setting : Setting) (text : List ℕ) (r : Result Script Fault) → TellsText setting text r → is_ok r ≡ true → (n rank : ℕ) (cause : Cause)
@@ -205,5 +210,6 @@ none_then : (setting : Setting) (text : List ℕ) (r : Result Script Fault) → 
 none_then setting text (Ok script) tells h = tells
 none_then setting text (Err fault) tells h = cc
 
-pub has_none : (mode : Mode) (text : List ℕ) → is_ok (script_of mode text) ≡ true → (n rank : ℕ) (cause : Cause) → IsFault (setting_in mode text) text n rank cause → ⊥
+pub has_none : (mode : Mode) (text : List ℕ) → is_ok (script_of mode text) ≡ true → (n rank : ℕ) (cause : Cause)
+    → IsFault (setting_in mode text) text n rank cause → ⊥
 has_none mode text h = none_then (setting_in mode text) text (script_of mode text) (script_tells mode text) h

@@ -1,5 +1,6 @@
 -- The mask of the CPUs online, and what is wrong with its field.
-use Rattle.std.proofs.Common.{◌≡◌, ℕ, ◌≤◌, true, false, ◌==◌, nat_lt, List, [], ◌∷◌, length, drop, get_or, Result, Ok, Err, codes, refl, sym, ◌∙◌, inl, inr, arith}
+use Rattle.std.proofs.Common.{◌≡◌, ℕ, ◌≤◌, true, false, ◌==◌, nat_lt, List, [], ◌∷◌, length, drop, get_or, Result, Ok, Err, codes, refl, sym, ◌∙◌, inl, inr}
+use Rattle.std.proofs.Common.{arith}
 use Rattle.std.proofs.Common.{subst}
 use Rattle.std.specs.Str.{bytes_eq}
 use Rattle.std.proofs.lemmas.Bool.{cases_Bool, cases_lt, and_parts}
@@ -16,7 +17,6 @@ use Rattle.smp_script.specs.Commands.{are_whole}
 use Rattle.smp_script.specs.Script.{are_online, cpus_of, table_of, whole_cpus}
 use Rattle.smp_script.specs.Shapes.{online, cpus, has_shape}
 use Rattle.smp_script.specs.FieldFaults.{IsOutside, OnlineFault, value_of}
-use Rattle.smp_script.specs.FirstFault.{events_in}
 use Rattle.smp_script.proofs.Faults.FieldFaults.{Tells, none_yet, passes, reads_number}
 use Rattle.smp_script.proofs.Faults.LineShapes.{IsQuiet, TellsLine, shapeless, shaped, no_whole, passes_word, skips_word}
 use Rattle.smp_script.proofs.Reader.Widths.{AreCpus, mask_below, one_above, one_mask, some_fails, wider}

@@ -1,11 +1,9 @@
 -- What reading a line of a replay tells.
-use Rattle.std.proofs.Common.{◌≡◌, ℕ, ℤ, ◌+◌, ◌≤◌, Bool, true, false, not, ◌&&◌, ◌==◌, List, [], ◌∷◌, length, drop, Some, None, Result, Ok, Err, codes, refl}
-use Rattle.std.proofs.Common.{sym, ◌∙◌, inl, inr, arith, subst}
-use Rattle.std.specs.Prelude.{find, slice_get}
+use Rattle.std.proofs.Common.{◌≡◌, ℕ, ℤ, ◌≤◌, Bool, true, false, ◌==◌, List, [], ◌∷◌, length, drop, None, Result, Ok, Err, codes, refl}
+use Rattle.std.proofs.Common.{◌∙◌, inl, inr, arith, subst}
+use Rattle.std.specs.Prelude.{find}
 use Rattle.std.specs.Str.{bytes_eq}
-use Rattle.std.proofs.lemmas.Bool.{cases_Bool, and_parts, and_right, or_cases}
-use Rattle.std.proofs.lemmas.Bool.Decides.{nat_tests}
-use Rattle.std.specs.List.{list_all}
+use Rattle.std.proofs.lemmas.Bool.{cases_Bool, and_right}
 use Rattle.smp_mask.specs.declared.error.Cause.{Cause}
 use Rattle.smp_mask.specs.declared.error.Cause.TheVariants.{Word}
 use Rattle.smp_words.specs.declared.call.Class.{Class}
@@ -21,26 +19,16 @@ use Rattle.smp_script.specs.Faults.{◌>>=◌}
 use Rattle.smp_script.specs.Numbers.{signed_of}
 use Rattle.smp_script.specs.Commands.{are_whole, begins_of, posts_of, show_of, start_answer, start_answered, start_bare, start_begin, start_nudge}
 use Rattle.smp_script.specs.Commands.{start_number, start_of, start_one, start_post, start_short, start_two, step_of, steps_of}
-use Rattle.smp_script.specs.Script.{events_of, title_of}
-use Rattle.smp_script.specs.Shapes.{Form, word, words, number, signed, cpu_list, online, items, class, kind, title, versions, post, begin, way, nudge, numbered}
+use Rattle.smp_script.specs.Shapes.{words, signed, cpu_list, class, kind, post, begin, way, nudge, numbered}
 use Rattle.smp_script.specs.Shapes.{answered, bare, with_number, with_answer, with_none, step, show, bits, has_shape, has_word, is_one_of}
-use Rattle.smp_script.specs.FirstFault.{events_in}
-use Rattle.smp_script.specs.Versions.{version_text}
-use Rattle.smp_script.specs.declared.version.Version.{Version}
-use Rattle.smp_script.specs.declared.version.Version.TheVariants.{One, Two}
 use Rattle.smp_mask.specs.declared.mask.TheConstants.{NR_CPUS}
 use Rattle.smp_script.proofs.Spelled.ReadParts.{same_word}
-use Rattle.smp_script.proofs.Faults.FieldFaults.{Clean, Tells, none_yet, passes, reads_field, reads_number}
+use Rattle.smp_script.proofs.Faults.FieldFaults.{Tells, none_yet, passes, reads_field, reads_number}
 use Rattle.smp_script.proofs.Faults.SignedFields.{signed_judged}
 use Rattle.smp_script.proofs.Faults.MaskFields.{mask_judged}
-use Rattle.smp_script.specs.declared.mode.Mode.{Mode}
-use Rattle.smp_script.specs.declared.mode.Mode.TheVariants.{Replay, Run}
-use Rattle.smp_script.specs.Keys.{key_of}
-use Rattle.smp_script.specs.Modes.{mode_text}
 use Rattle.smp_script.specs.Commands.{replay_line}
-use Rattle.smp_script.specs.Shapes.{active, member, replay_requests}
-use Rattle.smp_script.specs.FirstFault.{key_in}
-use Rattle.smp_script.proofs.Faults.LineShapes.{IsQuiet, Matches, TellsLine, shapeless, shaped, passes_word, skips, skips_word}
+use Rattle.smp_script.specs.Shapes.{replay_requests}
+use Rattle.smp_script.proofs.Faults.LineShapes.{Matches, TellsLine, shapeless, shaped, passes_word, skips_word}
 
 -- two numbers, one after the other
 two_then : (command : ℕ → Command) (r s : Result ℕ Cause)
@@ -280,7 +268,8 @@ pair_shapes limit cpu name k w some_cpu some_k = elim (cases_Bool (bytes_eq name
 
 short_shapes : (limit : ℕ) (cpu name : List ℕ) (arguments : List (List ℕ)) → are_whole (codes "start" ∷ cpu ∷ name ∷ arguments) ≡ true
     → bytes_eq name (codes "post") ≡ false → bytes_eq name (codes "begin") ≡ false
-    → TellsLine (replay_requests limit) (codes "start" ∷ cpu ∷ name ∷ arguments) (Matches (codes "start" ∷ cpu ∷ name ∷ arguments)) (start_short cpu name arguments)
+    → TellsLine (replay_requests limit) (codes "start" ∷ cpu ∷ name ∷ arguments) (Matches (codes "start" ∷ cpu ∷ name ∷ arguments))
+    (start_short cpu name arguments)
 short_shapes limit cpu name [] whole no_post no_begin = bare_shapes limit cpu name (grind (arith, whole)) (grind (arith, whole))
 short_shapes limit cpu name (a ∷ []) whole no_post no_begin = one_shapes limit cpu name a (grind (arith, whole)) (grind (arith, whole))
 short_shapes limit cpu name (a ∷ b ∷ []) whole no_post no_begin = pair_shapes limit cpu name a b (grind (arith, whole)) (grind (arith, whole))

@@ -9,7 +9,7 @@ use Rattle.smp_script.specs.declared.mode.Mode.TheVariants.{Replay, Run}
 use Rattle.smp_script.specs.declared.setting.Setting.{Setting}
 use Rattle.smp_script.specs.Commands.{are_whole, directive_of, mode_line, whole_directive}
 use Rattle.smp_script.specs.Shapes.{has_shape, mode_requests, requests, show, step}
-use Rattle.smp_script.proofs.Faults.LineShapes.{Matches, TellsLine, shapeless, shaped, has_texts, none_whole, skips_word}
+use Rattle.smp_script.proofs.Faults.LineShapes.{Matches, TellsLine, shapeless, has_texts, none_whole, skips_word}
 use Rattle.smp_script.proofs.Faults.ReplayShapes.{no_start, replay_told}
 use Rattle.smp_script.proofs.Faults.RunShapes.{not_run, run_told}
 use Rattle.smp_script.proofs.Reader.Widths.{AreCpus}

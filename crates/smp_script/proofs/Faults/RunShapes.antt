@@ -1,5 +1,5 @@
 -- What reading a `do` line tells.
-use Rattle.std.proofs.Common.{◌≡◌, ℕ, ◌+◌, ◌≤◌, Bool, true, false, not, ◌&&◌, ◌==◌, List, [], ◌∷◌, map, length, Option, Some, None, Result, Ok, Err, codes, refl}
+use Rattle.std.proofs.Common.{◌≡◌, ℕ, ◌+◌, ◌≤◌, Bool, true, false, ◌&&◌, ◌==◌, List, [], ◌∷◌, map, length, Option, Some, None, Result, Ok, Err, codes, refl}
 use Rattle.std.proofs.Common.{sym, ap, ◌∙◌, inl, inr, arith, subst}
 use Rattle.std.specs.Prelude.{find, slice_get}
 use Rattle.std.specs.Str.{bytes_eq}
@@ -7,7 +7,6 @@ use Rattle.std.proofs.lemmas.Bool.{cases_Bool, and_right}
 use Rattle.smp_mask.specs.declared.error.Cause.{Cause}
 use Rattle.smp_mask.specs.declared.error.Cause.TheVariants.{Word}
 use Rattle.smp_mask.specs.declared.mask.TheConstants.{NR_CPUS}
-use Rattle.smp_script.specs.declared.directive.Directive.{Directive}
 use Rattle.smp_script.specs.declared.directive.Directive.TheVariants.{Do}
 use Rattle.smp_script.specs.declared.request.Request.{Request}
 use Rattle.smp_script.specs.declared.request.Request.TheVariants as request
@@ -17,10 +16,9 @@ use Rattle.smp_script.specs.Commands.{are_whole, run_line}
 use Rattle.smp_script.specs.Faults.{◌>>=◌}
 use Rattle.smp_script.specs.FieldFaults.{field_at, value_of}
 use Rattle.smp_script.specs.FirstFault.{key_in}
-use Rattle.smp_script.specs.Fields.{mask_of, word32}
+use Rattle.smp_script.specs.Fields.{mask_of}
 use Rattle.smp_script.specs.Keys.{requested_key, used_by}
-use Rattle.smp_script.specs.Numbers.{number_in}
-use Rattle.smp_script.specs.Requests.{active_of, among, func_arg as read_func_arg, func_info as read_func_info, keyed, machine, member_of, one, repeated}
+use Rattle.smp_script.specs.Requests.{active_of, among, func_arg as read_func_arg, func_info as read_func_info, keyed, machine, one, repeated}
 use Rattle.smp_script.specs.Requests.{single, switch_of, two, user, wait_of, which_of}
 use Rattle.smp_script.specs.Requests.{among_of, cond_of, counted_of, do_of, machine_of, one_of, operation_of, set_of, single_of, stop_of, two_of, user_of}
 use Rattle.smp_script.specs.Shapes.{Form, bits, has_shape, has_word, number, cpu_list, active, member, word, func_arg, func_info, operation, operations}
@@ -266,7 +264,8 @@ sync_told limit mask cpu count (dst ∷ func ∷ info ∷ []) whole =
     let some_dst : (length dst == 0) ≡ false = grind (arith, whole) in
     let some_func : (length func == 0) ≡ false = grind (arith, whole) in
     let some_info : (length info == 0) ≡ false = grind (arith, whole) in
-    known (codes "sync", bits 32 ∷ func_info) (single true dst func info) (rw (some_info, some_func, some_dst) refl) refl (single_inner mask cpu count (codes "sync") true dst func info refl)
+    known (codes "sync", bits 32 ∷ func_info) (single true dst func info) (rw (some_info, some_func, some_dst) refl) refl
+    (single_inner mask cpu count (codes "sync") true dst func info refl)
 sync_told limit mask cpu count (a ∷ b ∷ c ∷ d ∷ rest) whole = unknown refl refl
 
 async_told : (limit : ℕ) → (mask : ℕ) (cpu count : List ℕ) (arguments : List (List ℕ)) → are_whole arguments ≡ true
@@ -278,7 +277,8 @@ async_told limit mask cpu count (dst ∷ func ∷ info ∷ []) whole =
     let some_dst : (length dst == 0) ≡ false = grind (arith, whole) in
     let some_func : (length func == 0) ≡ false = grind (arith, whole) in
     let some_info : (length info == 0) ≡ false = grind (arith, whole) in
-    known (codes "async", bits 32 ∷ func_info) (single false dst func info) (rw (some_info, some_func, some_dst) refl) refl (single_inner mask cpu count (codes "async") false dst func info refl)
+    known (codes "async", bits 32 ∷ func_info) (single false dst func info) (rw (some_info, some_func, some_dst) refl) refl
+    (single_inner mask cpu count (codes "async") false dst func info refl)
 async_told limit mask cpu count (a ∷ b ∷ c ∷ d ∷ rest) whole = unknown refl refl
 
 user_told : (limit : ℕ) → (mask : ℕ) (cpu count : List ℕ) (arguments : List (List ℕ)) → are_whole arguments ≡ true
@@ -292,7 +292,8 @@ user_told limit mask cpu count (number_ ∷ dst ∷ func ∷ info ∷ []) whole 
     let some_dst : (length dst == 0) ≡ false = grind (arith, whole) in
     let some_func : (length func == 0) ≡ false = grind (arith, whole) in
     let some_info : (length info == 0) ≡ false = grind (arith, whole) in
-    known (codes "user", number 0 1 ∷ bits 32 ∷ func_info) (user number_ dst func info) (rw (some_info, some_func, some_dst, some_number_) refl) refl (user_inner mask cpu count number_ dst func info)
+    known (codes "user", number 0 1 ∷ bits 32 ∷ func_info) (user number_ dst func info) (rw (some_info, some_func, some_dst, some_number_) refl) refl
+    (user_inner mask cpu count number_ dst func info)
 user_told limit mask cpu count (a ∷ b ∷ c ∷ d ∷ e ∷ rest) whole = unknown refl refl
 
 any_told : (limit : ℕ) → limit ≤ NR_CPUS → (mask : ℕ) (cpu count : List ℕ) (arguments : List (List ℕ)) → are_whole arguments ≡ true
@@ -308,7 +309,8 @@ any_told limit few mask cpu count (w ∷ m ∷ func ∷ info ∷ []) whole =
     elim (cases_Bool (has_word wait w)) [
       | inl good ↦
           let as_wait = is_wait w good in
-          known (codes "any", wait ∷ cpu_list limit ∷ func_info) (among (request.Any as_wait.0) limit m func info) (rw (some_info, some_func, some_m, good) refl) (rw as_wait.1 refl)
+          known (codes "any", wait ∷ cpu_list limit ∷ func_info) (among (request.Any as_wait.0) limit m func info)
+          (rw (some_info, some_func, some_m, good) refl) (rw as_wait.1 refl)
           (among_inner limit few mask cpu count (codes "any") w m func info (request.Any as_wait.0) refl (λ m f n. refl))
       | inr bad ↦ unknown (rw (some_info, some_func, some_m, bad) refl) (rw (no_wait w bad) refl)
     ]
@@ -327,7 +329,8 @@ many_told limit few mask cpu count (w ∷ m ∷ func ∷ info ∷ []) whole =
     elim (cases_Bool (has_word wait w)) [
       | inl good ↦
           let as_wait = is_wait w good in
-          known (codes "many", wait ∷ cpu_list limit ∷ func_info) (among (request.Many as_wait.0) limit m func info) (rw (some_info, some_func, some_m, good) refl) (rw as_wait.1 refl)
+          known (codes "many", wait ∷ cpu_list limit ∷ func_info) (among (request.Many as_wait.0) limit m func info)
+          (rw (some_info, some_func, some_m, good) refl) (rw as_wait.1 refl)
           (among_inner limit few mask cpu count (codes "many") w m func info (request.Many as_wait.0) refl (λ m f n. refl))
       | inr bad ↦ unknown (rw (some_info, some_func, some_m, bad) refl) (rw (no_wait w bad) refl)
     ]
@@ -356,7 +359,8 @@ two_told limit mask cpu count (a ∷ b ∷ func ∷ arg ∷ []) whole =
     let some_b : (length b == 0) ≡ false = grind (arith, whole) in
     let some_func : (length func == 0) ≡ false = grind (arith, whole) in
     let some_arg : (length arg == 0) ≡ false = grind (arith, whole) in
-    known (codes "two", bits 32 ∷ bits 32 ∷ func_arg) (two a b func arg) (rw (some_arg, some_func, some_b, some_a) refl) refl (two_inner mask cpu count a b func arg)
+    known (codes "two", bits 32 ∷ bits 32 ∷ func_arg) (two a b func arg) (rw (some_arg, some_func, some_b, some_a) refl) refl
+    (two_inner mask cpu count a b func arg)
 two_told limit mask cpu count (a ∷ b ∷ c ∷ d ∷ e ∷ rest) whole = unknown refl refl
 
 machine_told : (limit : ℕ) → limit ≤ NR_CPUS → (mask : ℕ) (cpu count : List ℕ) (arguments : List (List ℕ)) → are_whole arguments ≡ true
@@ -368,7 +372,8 @@ machine_told limit few mask cpu count (m ∷ func ∷ arg ∷ []) whole =
     let some_m : (length m == 0) ≡ false = grind (arith, whole) in
     let some_func : (length func == 0) ≡ false = grind (arith, whole) in
     let some_arg : (length arg == 0) ≡ false = grind (arith, whole) in
-    known (codes "machine", active limit ∷ func_arg) (machine limit m func arg) (rw (some_arg, some_func, some_m) refl) refl (machine_inner limit few mask cpu count m func arg)
+    known (codes "machine", active limit ∷ func_arg) (machine limit m func arg) (rw (some_arg, some_func, some_m) refl) refl
+    (machine_inner limit few mask cpu count m func arg)
 machine_told limit few mask cpu count (a ∷ b ∷ c ∷ d ∷ rest) whole = unknown refl refl
 
 set_told : (limit : ℕ) → (mask : ℕ) (cpu count : List ℕ) (arguments : List (List ℕ)) → are_whole arguments ≡ true
@@ -391,7 +396,8 @@ inc_told : (limit : ℕ) → (mask : ℕ) (cpu count : List ℕ) (arguments : Li
 inc_told limit mask cpu count [] whole = unknown refl refl
 inc_told limit mask cpu count (key ∷ []) whole =
     let some_key : (length key == 0) ≡ false = grind (arith, whole) in
-    known (codes "inc", bits 32 ∷ []) (keyed request.Inc key) (rw some_key refl) refl (keyed_inner mask cpu count (codes "inc") key request.Inc refl (λ k. refl))
+    known (codes "inc", bits 32 ∷ []) (keyed request.Inc key) (rw some_key refl) refl
+    (keyed_inner mask cpu count (codes "inc") key request.Inc refl (λ k. refl))
 inc_told limit mask cpu count (a ∷ b ∷ rest) whole = unknown refl refl
 
 dec_told : (limit : ℕ) → (mask : ℕ) (cpu count : List ℕ) (arguments : List (List ℕ)) → are_whole arguments ≡ true
@@ -399,7 +405,8 @@ dec_told : (limit : ℕ) → (mask : ℕ) (cpu count : List ℕ) (arguments : Li
 dec_told limit mask cpu count [] whole = unknown refl refl
 dec_told limit mask cpu count (key ∷ []) whole =
     let some_key : (length key == 0) ≡ false = grind (arith, whole) in
-    known (codes "dec", bits 32 ∷ []) (keyed request.Dec key) (rw some_key refl) refl (keyed_inner mask cpu count (codes "dec") key request.Dec refl (λ k. refl))
+    known (codes "dec", bits 32 ∷ []) (keyed request.Dec key) (rw some_key refl) refl
+    (keyed_inner mask cpu count (codes "dec") key request.Dec refl (λ k. refl))
 dec_told limit mask cpu count (a ∷ b ∷ rest) whole = unknown refl refl
 
 cond_told : (limit : ℕ) → limit ≤ NR_CPUS → (mask : ℕ) (cpu count : List ℕ) (arguments : List (List ℕ)) → are_whole arguments ≡ true
@@ -450,7 +457,8 @@ stop_told limit few mask cpu count name arguments whole no_sync no_async no_user
           | inl is_ ↦ rw (same_word name (codes "inc") is_) (inc_told limit mask cpu count arguments whole)
           | inr no_inc ↦ elim (cases_Bool (bytes_eq name (codes "dec"))) [
             | inl is_ ↦ rw (same_word name (codes "dec") is_) (dec_told limit mask cpu count arguments whole)
-            | inr no_dec ↦ unknown (rw (no_sync, no_async, no_user, no_any, no_many, no_cond, no_one, no_two, no_machine, no_set, no_inc, no_dec) refl) (rw (no_one, no_two, no_machine, no_set, no_inc, no_dec) refl)
+            | inr no_dec ↦ unknown (rw (no_sync, no_async, no_user, no_any, no_many, no_cond, no_one, no_two, no_machine, no_set, no_inc, no_dec) refl)
+                (rw (no_one, no_two, no_machine, no_set, no_inc, no_dec) refl)
           ]
         ]
       ]
@@ -473,7 +481,8 @@ operation_told limit few mask cpu count name arguments whole = elim (cases_Bool 
           | inl is_ ↦ rw (same_word name (codes "many") is_) (many_told limit few mask cpu count arguments whole)
           | inr no_many ↦ elim (cases_Bool (bytes_eq name (codes "cond"))) [
             | inl is_ ↦ rw (same_word name (codes "cond") is_) (cond_told limit few mask cpu count arguments whole)
-            | inr no_cond ↦ rw (no_sync, no_async, no_user, no_any, no_many, no_cond) (stop_told limit few mask cpu count name arguments whole no_sync no_async no_user no_any no_many no_cond)
+            | inr no_cond ↦ rw (no_sync, no_async, no_user, no_any, no_many, no_cond)
+                (stop_told limit few mask cpu count name arguments whole no_sync no_async no_user no_any no_many no_cond)
           ]
         ]
       ]

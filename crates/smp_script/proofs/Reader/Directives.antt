@@ -43,7 +43,8 @@ is_cut {setting} {n} {events} {front} l ls s e h ended =
 
 -- a line that is no directive's
 pub is_bad : {setting : Setting} {n events : ℕ} {front : List Directive} {lines : List Line} {all : Result (List Directive) Fault} (l : Line) (ls : List Line)
-    → Stands setting n events front lines all → lines ≡ l ∷ ls → n ≤ 2000 → l.ended ≡ true → (d : SmpError) → Fails d (at_line n (line_directive setting l.text))
+    → Stands setting n events front lines all → lines ≡ l ∷ ls → n ≤ 2000 → l.ended ≡ true → (d : SmpError)
+    → Fails d (at_line n (line_directive setting l.text))
     → Fails d all
 unfolding directives_of
 is_bad l ls s e h ended errors.NoMemory f = tt
@@ -99,7 +100,8 @@ goes_on {setting} {n} {events} {front} l ls s e h ended directive f apart fits =
     let t : nat_lt 2000 n ≡ false = grind (arith, nat_tests) in
     let u : nat_lt 100000 (events + events_of directive) ≡ false = grind (arith, nat_tests) in
     let r : with_front front (directives_of setting n events front (l ∷ ls)) ≡ with_front front
-    (directives_of setting (n + 1) (events + events_of directive) (front ++ directive ∷ []) ls >>= λ ds. Ok (directive ∷ ds)) = rw (t, ended, f) (rw (apart, u) refl) in
+    (directives_of setting (n + 1) (events + events_of directive) (front ++ directive ∷ []) ls >>= λ ds. Ok (directive ∷ ds)) =
+    rw (t, ended, f) (rw (apart, u) refl) in
     record {
       told = sym (front_push front directive (directives_of setting (n + 1) (events + events_of directive) (front ++ directive ∷ []) ls)) ∙ sym r
           ∙ ap (λ x. with_front front (directives_of setting n events front x)) (sym e) ∙ s.told;
@@ -108,7 +110,8 @@ goes_on {setting} {n} {events} {front} l ls s e h ended directive f apart fits =
       total = grind (arith, s.total, sum_by-append events_of front (directive ∷ []));
     }
 
-pub ends : {setting : Setting} {n events : ℕ} {front : List Directive} {lines : List Line} {all : Result (List Directive) Fault} → Stands setting n events front lines all
+pub ends : {setting : Setting} {n events : ℕ} {front : List Directive} {lines : List Line} {all : Result (List Directive) Fault}
+    → Stands setting n events front lines all
     → lines ≡ [] → all ≡ Ok front
 unfolding directives_of
 ends {setting} {n} {events} {front} s e = sym s.told ∙ ap (λ x. with_front front (directives_of setting n events front x)) e ∙ ap Ok (append-nil front)

@@ -1,5 +1,6 @@
 -- What a text is that reads as a script.
-use Rattle.std.proofs.Common.{◌≡◌, ℕ, ◌+◌, ◌≤◌, ◌&&◌, true, false, nat_lt, List, [], ◌∷◌, ◌++◌, map, length, sum_by, Option, Some, None, Result, Ok, Err, codes, cond}
+use Rattle.std.proofs.Common.{◌≡◌, ℕ, ◌+◌, ◌≤◌, ◌&&◌, true, false, nat_lt, List, [], ◌∷◌, ◌++◌, map, length, sum_by, Option, Some, None, Result, Ok, Err, codes}
+use Rattle.std.proofs.Common.{cond}
 use Rattle.std.proofs.Common.{refl, sym, ap, ◌∙◌, inl, inr, arith, subst}
 use Rattle.std.specs.Fmt.{decimal}
 use Rattle.std.specs.List.{AllByRecursion, join_with_byte, list_all}
@@ -226,7 +227,8 @@ script_is_spelled mode text script h = elim (cases_Bool (nat_lt 65536 (length te
       let whole = guarded (are_whole (fields_of c.value.0)) (cpus_of (limit_of b.value) (fields_of c.value.0)) Word d.value
       (placed_ok 2 (whole_cpus (limit_of b.value) (fields_of c.value.0)) d.value d.first) in
       let cpus = cpus_ok (limit_of b.value) (fields_of c.value.0) d.value (limit_within b.value) whole.1 in
-      let body = lines_ok (setting_of mode b.value d.value.1) (first_line m.value.0) 0 [] m.value.1 three.rest e.value (sym three.others_are) (few_lines m.value.0)
+      let body = lines_ok (setting_of mode b.value d.value.1) (first_line m.value.0) 0 [] m.value.1 three.rest e.value (sym three.others_are)
+      (few_lines m.value.0)
       (omega arith) e.first in
       let first_is : a.value.0 ≡ join_with_byte 32 (codes "smp" ∷ version_text b.value ∷ mode_text mode ∷ []) =
       sym (join_parts 32 a.value.0) ∙ ap (join_with_byte 32) title in

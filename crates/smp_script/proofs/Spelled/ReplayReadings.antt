@@ -1,8 +1,8 @@
 -- What the fields of a line of a replay are that is read.
-use Rattle.std.proofs.Common.{◌≡◌, ℕ, zero, suc, ℤ, pos, negsuc, ◌<◌, ◌≤◌, ◌^◌, Bool, true, false, ◌==◌, List, [], ◌∷◌, length, Result, Ok, codes, refl, sym}
+use Rattle.std.proofs.Common.{◌≡◌, ℕ, zero, suc, ℤ, pos, negsuc, ◌<◌, ◌≤◌, ◌^◌, Bool, true, false, ◌==◌, List, [], ◌∷◌, Result, Ok, codes, refl, sym}
 use Rattle.std.proofs.Common.{ap, ◌∙◌, inl, inr, arith, subst}
 use Rattle.std.specs.Fmt.{decimal, signed_decimal}
-use Rattle.std.specs.List.{join_with_byte, list_all}
+use Rattle.std.specs.List.{list_all}
 use Rattle.std.specs.Str.{bytes_eq}
 use Rattle.std.proofs.lemmas.Bool.{cases_Bool, and_parts}
 use Rattle.std.proofs.lemmas.Bool.Decides.{nat_tests}
@@ -21,14 +21,13 @@ use Rattle.smp_script.specs.declared.mode.Mode.TheVariants.{Replay}
 use Rattle.smp_script.specs.Numbers.{minus, number_in, signed_of}
 use Rattle.smp_script.specs.Faults.{◌>>=◌}
 use Rattle.smp_script.specs.Fields.{class_of, kind_of, mask_of, way_of, word16, word32, word64}
-use Rattle.smp_script.specs.Commands.{are_whole, bare_of, begins_of, replay_line, posts_of, show_of, start_answer, start_answered, start_bare}
+use Rattle.smp_script.specs.Commands.{bare_of, begins_of, replay_line, posts_of, show_of, start_answer, start_answered, start_bare}
 use Rattle.smp_script.specs.Commands.{start_begin, start_nudge, start_number, start_of, start_one, start_post, start_short, start_two, step_of, steps_of}
 use Rattle.smp_script.specs.Commands.{two_numbers}
 use Rattle.smp_script.specs.Spelling.{CommandFits, DirectiveFits, IsAnswer, Masks, SpellLine, SpellMasks, class_text, command_words, directive_words, is_field}
-use Rattle.smp_script.specs.Spelling.{kind_text, lacks, way_text}
+use Rattle.smp_script.specs.Spelling.{kind_text, way_text}
 use Rattle.smp_script.proofs.Texts.Decimals.{number_in-ok}
 use Rattle.smp_script.proofs.Spelled.ReadParts.{both, guarded, read32, same_word}
-use Rattle.smp_script.proofs.Texts.Splits.{join_parts, parts_lack, parts_lack_marks}
 
 minus_ok : (b : ℕ) (bs : List ℕ) (n : ℕ) (z : ℤ) → b ≡ 45 → bs ≡ decimal n → n ≤ 2147483648 → minus n ≡ Ok z → (b ∷ bs ≡ signed_decimal z) × IsAnswer z
 minus_ok b bs zero z here is small h = cc

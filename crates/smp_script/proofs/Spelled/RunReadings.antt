@@ -1,5 +1,5 @@
 -- What the fields of a `do` line are that is read.
-use Rattle.std.proofs.Common.{◌≡◌, ℕ, ◌<◌, ◌≤◌, ◌^◌, Bool, true, false, ◌==◌, if◌then◌else◌, List, [], ◌∷◌, Option, Some, None, Result, Ok, Err, codes, refl, sym}
+use Rattle.std.proofs.Common.{◌≡◌, ℕ, ◌<◌, ◌≤◌, ◌^◌, Bool, true, false, if◌then◌else◌, List, [], ◌∷◌, Option, Some, None, Result, Ok, Err, codes, refl, sym}
 use Rattle.std.proofs.Common.{ap, ◌∙◌, inl, inr, arith, subst, cond}
 use Rattle.std.specs.Fmt.{decimal}
 use Rattle.std.specs.List.{list_all}
@@ -22,7 +22,7 @@ use Rattle.smp_script.specs.Numbers.{number_in}
 use Rattle.smp_script.specs.Requests.{active_of, among, func_arg, func_info, keyed, machine, member_of, one, repeated, single, switch_of, two, user, wait_of}
 use Rattle.smp_script.specs.Requests.{among_of, cond_of, counted_of, do_of, machine_of, one_of, operation_of, set_of, single_of, stop_of, two_of, user_of}
 use Rattle.smp_script.specs.Requests.{which_of}
-use Rattle.smp_script.specs.Spelling.{DirectiveFits, IsMaskText, Masks, RequestFits, SpellLine, SpellRequest, active_text, directive_words, is_field}
+use Rattle.smp_script.specs.Spelling.{DirectiveFits, Masks, RequestFits, SpellLine, SpellRequest, active_text, directive_words, is_field}
 use Rattle.smp_script.specs.Spelling.{request_words, switch_text, wait_text, which_text}
 use Rattle.smp_script.proofs.Texts.Decimals.{number_in-ok}
 use Rattle.smp_script.proofs.Spelled.ReadParts.{both, guarded, read32, same_word}
@@ -362,7 +362,8 @@ stop_ok limit name arguments inner r good h e = elim (cases_Bool (bytes_eq name 
         | inr no_set ↦ elim (cases_Bool (bytes_eq name (codes "inc"))) [
           | inl is_ ↦ rw (same_word name (codes "inc") is_) (incs_ok limit arguments inner r good (rw (no_one, no_two, no_machine, no_set, is_) at h) e)
           | inr no_inc ↦
-              let g = guarded (bytes_eq name (codes "dec")) (counted_of request.Dec arguments) Word inner (rw (no_one, no_two, no_machine, no_set, no_inc) at h) in
+              let g = guarded (bytes_eq name (codes "dec")) (counted_of request.Dec arguments) Word inner
+              (rw (no_one, no_two, no_machine, no_set, no_inc) at h) in
               rw (same_word name (codes "dec") g.0) (decs_ok limit arguments inner r good g.1 e)
         ]
       ]
@@ -384,7 +385,8 @@ operation_ok limit name arguments inner r good h e = elim (cases_Bool (bytes_eq 
         | inr no_any ↦ elim (cases_Bool (bytes_eq name (codes "many"))) [
           | inl is_ ↦ rw (same_word name (codes "many") is_) (manys_ok limit arguments inner r good (rw (no_sync, no_async, no_user, no_any, is_) at h) e)
           | inr no_many ↦ elim (cases_Bool (bytes_eq name (codes "cond"))) [
-            | inl is_ ↦ rw (same_word name (codes "cond") is_) (conds_ok limit arguments inner r good (rw (no_sync, no_async, no_user, no_any, no_many, is_) at h) e)
+            | inl is_ ↦
+                rw (same_word name (codes "cond") is_) (conds_ok limit arguments inner r good (rw (no_sync, no_async, no_user, no_any, no_many, is_) at h) e)
             | inr no_cond ↦
                 stop_ok limit name arguments inner r good (rw (no_sync, no_async, no_user, no_any, no_many, no_cond) at h) e
           ]

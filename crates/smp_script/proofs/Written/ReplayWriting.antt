@@ -1,37 +1,25 @@
 -- The lines of a replay, as they are written.
-use Rattle.std.proofs.Common.{◌≡◌, ℕ, suc, ℤ, pos, negsuc, ◌+◌, ◌<◌, ◌≤◌, ◌^◌, ◌==◌, ◌&&◌, Bool, not, true, false, nat_lt, List, [], ◌∷◌, map, length, sum_by}
-use Rattle.std.proofs.Common.{Option, Some, None, Ok, codes, refl, sym, ap, ◌∙◌, arith, subst}
+use Rattle.std.proofs.Common.{◌≡◌, ℕ, suc, ℤ, pos, negsuc, ◌<◌, ◌^◌, ◌==◌, ◌&&◌, Bool, not, true, false, List, [], ◌∷◌, length}
+use Rattle.std.proofs.Common.{Ok, refl, arith}
 use Rattle.std.specs.Fmt.{decimal, signed_decimal}
-use Rattle.std.specs.List.{AllByRecursion, join_with_byte, list_all}
+use Rattle.std.specs.List.{list_all}
 use Rattle.std.proofs.lemmas.Bool.Decides.{nat_tests}
-use Rattle.std.proofs.lemmas.List.Sums.{sum_by-cons}
-use Rattle.smp_mask.specs.declared.mask.TheConstants.{NR_CPUS}
 use Rattle.smp_words.specs.declared.call.Class.{Class}
 use Rattle.smp_words.specs.declared.call.Class.TheVariants.{Sync, Async}
 use Rattle.smp_words.specs.declared.command.Command.TheVariants.{Post, Send, Done, Handle, Gate, Ungate, Begin, Enter, Advance, RunOne, Finish, Poll, Key, Site}
 use Rattle.smp_words.specs.declared.command.Command.TheVariants.{Nudge}
 use Rattle.smp_words.specs.declared.work.Kind.{Kind}
 use Rattle.smp_words.specs.declared.work.Kind.TheVariants.{One as OneKind, Multi, Patch}
-use Rattle.smp_labels.specs.Labels.{Labels}
 use Rattle.smp_script.specs.declared.directive.Directive.{Directive}
 use Rattle.smp_script.specs.declared.directive.Directive.TheVariants.{Start, Step, Show, Do}
 use Rattle.smp_script.specs.declared.mode.Mode.TheVariants.{Replay}
-use Rattle.smp_script.specs.Lines.{fields_of, lines_of}
-use Rattle.smp_script.specs.Fields.{class_of, kind_of, mask_of, way_of, word32}
-use Rattle.smp_script.specs.Labels.{is_labels}
+use Rattle.smp_script.specs.Fields.{class_of, kind_of, way_of, word32}
 use Rattle.smp_script.specs.Numbers.{number_in, signed_of}
-use Rattle.smp_script.specs.Commands.{directive_of, line_directive, start_begin, start_post}
-use Rattle.smp_script.specs.Script.{Script, are_online, directives_of, events_of, first_line, labels_at, script_of, title_of, whole_cpus}
-use Rattle.smp_script.specs.Spelling.{DirectiveFits, IsAnswer, IsSpelling, LabelsFit, Masks, SpellLine, class_text, directive_words, is_field, kind_text}
-use Rattle.smp_script.specs.Spelling.{labels_before, lacks, line_before, spelled_lines, way_text}
+use Rattle.smp_script.specs.Commands.{directive_of, start_begin, start_post}
+use Rattle.smp_script.specs.Spelling.{DirectiveFits, IsAnswer, Masks, SpellLine, class_text, directive_words, is_field, kind_text}
+use Rattle.smp_script.specs.Spelling.{lacks, way_text}
 use Rattle.smp_script.proofs.Texts.Decimals.{decimal_lacks, is_field-decimal, number_in-decimal}
-use Rattle.smp_script.proofs.Written.LabelWriting.{labels_line_read}
 use Rattle.std.proofs.lemmas.Bool.{and_parts}
-use Rattle.smp_script.proofs.Texts.Joins.{fields_join, lines_of-line, whole_fields}
-use Rattle.smp_script.specs.declared.version.Version.{Version}
-use Rattle.smp_script.specs.declared.version.Version.TheVariants.{One, Two}
-use Rattle.smp_script.specs.Versions.{limit_of, version_text}
-use Rattle.smp_script.proofs.Reader.Versions.{limit_within}
 
 pub wide : (n : ℕ) → n < 2 ^ 32 → is_field (decimal n) ≡ true
 wide n h = is_field-decimal n (omega arith)

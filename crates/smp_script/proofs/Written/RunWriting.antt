@@ -1,6 +1,6 @@
 -- The lines of a run, as they are written.
-use Rattle.std.proofs.Common.{◌≡◌, ℕ, ◌+◌, ◌<◌, ◌≤◌, ◌^◌, ◌==◌, Bool, true, false, if◌then◌else◌, List, [], ◌∷◌, Option, Some, None, Result, Ok, Err, codes, refl, arith}
-use Rattle.std.proofs.Common.{inl, inr, cond, ap, sym, ◌∙◌}
+use Rattle.std.proofs.Common.{◌≡◌, ℕ, ◌<◌, ◌≤◌, ◌^◌, Bool, true, false, List, ◌∷◌, Some, None, Result, Ok, Err, codes, refl, arith}
+use Rattle.std.proofs.Common.{inl, inr, ap, sym, ◌∙◌}
 use Rattle.std.specs.Fmt.{decimal}
 use Rattle.std.specs.List.{list_all}
 use Rattle.std.specs.Str.{bytes_eq}
@@ -17,11 +17,10 @@ use Rattle.smp_script.specs.declared.request.Request.TheVariants as request
 use Rattle.smp_script.specs.declared.request.Which.{Which}
 use Rattle.smp_script.specs.declared.request.Which.TheVariants.{All, Even, Odd}
 use Rattle.smp_script.specs.Commands.{directive_of}
-use Rattle.smp_script.specs.Faults.{◌>>=◌}
-use Rattle.smp_script.specs.Fields.{mask_of, word16, word32, word64}
+use Rattle.smp_script.specs.Fields.{mask_of, word16, word64}
 use Rattle.smp_script.specs.Numbers.{number_in}
-use Rattle.smp_script.specs.Requests.{active_of, do_of, member_of, repeated, switch_of, wait_of, which_of}
-use Rattle.smp_script.specs.Spelling.{DirectiveFits, IsMaskText, Masks, RequestFits, SpellLine, SpellRequest, active_text, directive_words, is_field}
+use Rattle.smp_script.specs.Requests.{do_of, member_of, repeated, switch_of, wait_of, which_of}
+use Rattle.smp_script.specs.Spelling.{DirectiveFits, Masks, RequestFits, SpellLine, SpellRequest, directive_words, is_field}
 use Rattle.smp_script.specs.Spelling.{request_words, switch_text, wait_text, which_text}
 use Rattle.smp_script.proofs.Texts.Decimals.{is_field-decimal, number_in-decimal}
 use Rattle.smp_script.proofs.Spelled.ReadParts.{same_word}
@@ -116,7 +115,14 @@ request_read limit mask masks cpu count (request.Single true dst func info) smal
 request_read limit mask masks cpu count (request.Single false dst func info) small on some few f s =
     rw (member_read mask cpu small on, count_read count some few, read32 dst f.0, read16 func f.1, read64 info f.2) refl
 request_read limit mask masks cpu count (request.User user dst func info) small on some few f s =
-    rw (member_read mask cpu small on, count_read count some few, number_in-decimal 0 1 user (omega arith) f.0 (omega (arith, f.0)), read32 dst f.1, read16 func f.2, read64 info f.3) refl
+    rw (
+      member_read mask cpu small on,
+      count_read count some few,
+      number_in-decimal 0 1 user (omega arith) f.0 (omega (arith, f.0)),
+      read32 dst f.1,
+      read16 func f.2,
+      read64 info f.3,
+    ) refl
 request_read limit mask masks cpu count (request.Any wait set func info) small on some few f s =
     rw (wait_read wait, member_read mask cpu small on, count_read count some few, s.reads, read16 func f.0, read64 info f.1) refl
 request_read limit mask masks cpu count (request.Many wait set func info) small on some few f s =

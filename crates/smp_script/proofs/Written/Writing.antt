@@ -1,17 +1,11 @@
 -- The lines of a script, as they are written.
-use Rattle.std.proofs.Common.{◌≡◌, ℕ, suc, ℤ, pos, negsuc, ◌+◌, ◌<◌, ◌≤◌, ◌^◌, ◌==◌, ◌&&◌, Bool, not, true, false, nat_lt, List, [], ◌∷◌, ◌++◌, map, length, sum_by}
+use Rattle.std.proofs.Common.{◌≡◌, ℕ, ◌+◌, ◌<◌, ◌≤◌, true, false, nat_lt, List, [], ◌∷◌, ◌++◌, map, length, sum_by}
 use Rattle.std.proofs.Common.{Option, Some, None, Ok, codes, refl, sym, ap, ◌∙◌, arith, subst}
-use Rattle.std.specs.Fmt.{decimal, signed_decimal}
+use Rattle.std.specs.Fmt.{decimal}
 use Rattle.std.specs.List.{AllByRecursion, join_with_byte, list_all}
 use Rattle.std.proofs.lemmas.Bool.Decides.{nat_tests}
 use Rattle.std.proofs.lemmas.List.Sums.{sum_by-cons}
 use Rattle.smp_mask.specs.declared.mask.TheConstants.{NR_CPUS}
-use Rattle.smp_words.specs.declared.call.Class.{Class}
-use Rattle.smp_words.specs.declared.call.Class.TheVariants.{Sync, Async}
-use Rattle.smp_words.specs.declared.command.Command.TheVariants.{Post, Send, Done, Handle, Gate, Ungate, Begin, Enter, Advance, RunOne, Finish, Poll, Key, Site}
-use Rattle.smp_words.specs.declared.command.Command.TheVariants.{Nudge}
-use Rattle.smp_words.specs.declared.work.Kind.{Kind}
-use Rattle.smp_words.specs.declared.work.Kind.TheVariants.{One as OneKind, Multi, Patch}
 use Rattle.smp_labels.specs.Labels.{Labels}
 use Rattle.smp_script.specs.declared.directive.Directive.{Directive}
 use Rattle.smp_script.specs.declared.directive.Directive.TheVariants.{Start, Step, Show, Do}
@@ -24,16 +18,14 @@ use Rattle.smp_script.proofs.Reader.ApartKeys.{apart_at_first, apart_both}
 use Rattle.smp_script.proofs.Written.ReplayWriting.{replay_fields, replay_read}
 use Rattle.smp_script.proofs.Written.RunWriting.{run_fields, run_read}
 use Rattle.smp_script.specs.Lines.{fields_of, lines_of}
-use Rattle.smp_script.specs.Fields.{class_of, kind_of, mask_of, way_of, word32}
+use Rattle.smp_script.specs.Fields.{mask_of}
 use Rattle.smp_script.specs.Labels.{is_labels}
-use Rattle.smp_script.specs.Numbers.{number_in, signed_of}
-use Rattle.smp_script.specs.Commands.{directive_of, line_directive, start_begin, start_post}
+use Rattle.smp_script.specs.Commands.{directive_of, line_directive}
 use Rattle.smp_script.specs.Script.{Script, are_online, directives_of, events_of, first_line, labels_at, script_of, title_of, whole_cpus}
-use Rattle.smp_script.specs.Spelling.{DirectiveFits, IsAnswer, IsSpelling, LabelsFit, Masks, SpellLine, class_text, directive_words, is_field, kind_text}
-use Rattle.smp_script.specs.Spelling.{labels_before, lacks, line_before, spelled_lines, way_text}
-use Rattle.smp_script.proofs.Texts.Decimals.{decimal_lacks, is_field-decimal, number_in-decimal}
+use Rattle.smp_script.specs.Spelling.{DirectiveFits, IsSpelling, LabelsFit, Masks, SpellLine, directive_words, is_field}
+use Rattle.smp_script.specs.Spelling.{labels_before, line_before, spelled_lines}
+use Rattle.smp_script.proofs.Texts.Decimals.{is_field-decimal, number_in-decimal}
 use Rattle.smp_script.proofs.Written.LabelWriting.{labels_line_read}
-use Rattle.std.proofs.lemmas.Bool.{and_parts}
 use Rattle.smp_script.proofs.Texts.Joins.{fields_join, lines_of-line, whole_fields}
 use Rattle.smp_script.specs.declared.version.Version.{Version}
 use Rattle.smp_script.specs.declared.version.Version.TheVariants.{One, Two}
@@ -122,7 +114,8 @@ not_labels masks Show = refl
 not_labels masks (Do cpu count request) = refl
 
 -- lines of a script are no labels line
-no_labels_line : (setting : Setting) (lines : List (Masks × Directive)) → AllByRecursion (Fits setting) (asked lines) → AllByRecursion (SpellLine setting.limit) lines
+no_labels_line : (setting : Setting) (lines : List (Masks × Directive)) → AllByRecursion (Fits setting) (asked lines)
+    → AllByRecursion (SpellLine setting.limit) lines
     → labels_at (lines_of (spelled_lines lines)) ≡ Ok (None, lines_of (spelled_lines lines))
 unfolding spelled_lines
 no_labels_line setting [] f s = refl
