@@ -24,7 +24,8 @@ pub steps_are_told : StepsAreTold
 steps_are_told a at control v shown sees stage may access is = known_step shown sees stage may access is
 
 -- the place of a record that a list has
-placed_there : (places : ℕ → RecPlace) (p : RecPlace) (id : ℕ) (calls : List Call) → AllByRecursion (IsPlaced places p) calls → HasRecord id calls → places id ≡ p
+placed_there : (places : ℕ → RecPlace) (p : RecPlace) (id : ℕ) (calls : List Call) → AllByRecursion (IsPlaced places p) calls → HasRecord id calls
+    → places id ≡ p
 placed_there places p id [] all h = absurd h
 placed_there places p id (call ∷ rest) all (inl e) = subst (λ (k : ℕ). places k ≡ p) e all.0.placed
 placed_there places p id (call ∷ rest) all (inr h) = placed_there places p id rest all.1 h
@@ -45,28 +46,35 @@ keep_the_place_law a at control s = (
 
 -- of a class and of a source, one after the other
 
-keeps : (class : Class) (b : Bool) (call : Call) (rest left : List Call) → if_class class call.class call ≡ call ∷ [] → of_class class rest ≡ left → of_class class (cond b (call ∷ rest) rest) ≡ cond b (call ∷ left) left
+keeps : (class : Class) (b : Bool) (call : Call) (rest left : List Call) → if_class class call.class call ≡ call ∷ [] → of_class class rest ≡ left
+    → of_class class (cond b (call ∷ rest) rest) ≡ cond b (call ∷ left) left
 keeps class true call rest left e h = ap (λ (k : List Call). k ++ of_class class rest) e ∙ ap (λ (k : List Call). call ∷ k) h
 keeps class false call rest left e h = h
 
-drops : (class : Class) (b : Bool) (call : Call) (rest left : List Call) → if_class class call.class call ≡ [] → of_class class rest ≡ left → of_class class (cond b (call ∷ rest) rest) ≡ left
+drops : (class : Class) (b : Bool) (call : Call) (rest left : List Call) → if_class class call.class call ≡ [] → of_class class rest ≡ left
+    → of_class class (cond b (call ∷ rest) rest) ≡ left
 drops class true call rest left e h = ap (λ (k : List Call). k ++ of_class class rest) e ∙ h
 drops class false call rest left e h = h
 
 module _ (source : ℕ) where
-  class_from : (class of : Class) (call : Call) (rest : List Call) → call.class ≡ of → of_class class (calls_from source rest) ≡ calls_from source (of_class class rest) →
+  class_from : (class of : Class) (call : Call) (rest : List Call) → call.class ≡ of
+      → of_class class (calls_from source rest) ≡ calls_from source (of_class class rest) →
       of_class class (calls_from source (call ∷ rest)) ≡ calls_from source (if_class class of call ++ of_class class rest)
   class_from Sync Sync call rest e h = keeps Sync (owner call.id == source) call (calls_from source rest) (calls_from source (of_class Sync rest)) (rw e refl) h
-  class_from Sync Async call rest e h = drops Sync (owner call.id == source) call (calls_from source rest) (calls_from source (of_class Sync rest)) (rw e refl) h
-  class_from Async Sync call rest e h = drops Async (owner call.id == source) call (calls_from source rest) (calls_from source (of_class Async rest)) (rw e refl) h
-  class_from Async Async call rest e h = keeps Async (owner call.id == source) call (calls_from source rest) (calls_from source (of_class Async rest)) (rw e refl) h
+  class_from Sync Async call rest e h = drops Sync (owner call.id == source) call (calls_from source rest) (calls_from source (of_class Sync rest))
+      (rw e refl) h
+  class_from Async Sync call rest e h = drops Async (owner call.id == source) call (calls_from source rest) (calls_from source (of_class Async rest))
+      (rw e refl) h
+  class_from Async Async call rest e h = keeps Async (owner call.id == source) call (calls_from source rest) (calls_from source (of_class Async rest))
+      (rw e refl) h
 
   from_class : (class : Class) (calls : List Call) → of_class class (calls_from source calls) ≡ calls_from source (of_class class calls)
   from_class class [] = refl
   from_class class (call ∷ rest) = class_from class call.class call rest refl (from_class class rest)
 
   from_one : (b : Bool) (x : Call) (xs ys : List Call) → calls_from source (xs ++ ys) ≡ calls_from source xs ++ calls_from source ys →
-      cond b (x ∷ calls_from source (xs ++ ys)) (calls_from source (xs ++ ys)) ≡ cond b (x ∷ calls_from source xs) (calls_from source xs) ++ calls_from source ys
+      cond b (x ∷ calls_from source (xs ++ ys)) (calls_from source (xs ++ ys)) ≡ cond b (x ∷ calls_from source xs) (calls_from source xs)
+      ++ calls_from source ys
   from_one true x xs ys e = ap (λ (k : List Call). x ∷ k) e
   from_one false x xs ys e = e
 
@@ -84,7 +92,8 @@ unmarked-append : (xs ys : List Marked) → unmarked (xs ++ ys) ≡ unmarked xs 
 unmarked-append [] ys = refl
 unmarked-append (x ∷ xs) ys = ap (λ (k : List Call). x.call ∷ k) (unmarked-append xs ys)
 
-unmarked_if : (b : Bool) (m : Marked) (ms : List Marked) (calls : List Call) → unmarked ms ≡ calls → unmarked (cond b (m ∷ ms) ms) ≡ cond b (m.call ∷ calls) calls
+unmarked_if : (b : Bool) (m : Marked) (ms : List Marked) (calls : List Call) → unmarked ms ≡ calls
+    → unmarked (cond b (m ∷ ms) ms) ≡ cond b (m.call ∷ calls) calls
 unmarked_if true m ms calls e = ap (λ (k : List Call). m.call ∷ k) e
 unmarked_if false m ms calls e = e
 
@@ -94,7 +103,8 @@ unmarked_sent cpu (s ∷ rest) = unmarked_if (s.to == cpu) (mark s.is_first s.ca
 
 unmarked_from : (source : ℕ) (ms : List Marked) → unmarked (marked_from source ms) ≡ calls_from source (unmarked ms)
 unmarked_from source [] = refl
-unmarked_from source (m ∷ rest) = unmarked_if (owner m.call.id == source) m (marked_from source rest) (calls_from source (unmarked rest)) (unmarked_from source rest)
+unmarked_from source (m ∷ rest) = unmarked_if (owner m.call.id == source) m (marked_from source rest) (calls_from source (unmarked rest))
+    (unmarked_from source rest)
 
 unmarked_others : (calls : List Call) → unmarked (others_marked calls) ≡ calls
 unmarked_others [] = refl
@@ -107,11 +117,13 @@ unmarked_all (call ∷ rest) = ap (λ (k : List Call). call ∷ k) (unmarked_oth
 unmarked_batches : (taken : List (List Call)) → unmarked (batches_marked taken) ≡ batches taken
 unmarked_batches [] = refl
 unmarked_batches (batch ∷ rest) =
-    unmarked-append (marked batch) (batches_marked rest) ∙ (ap (λ (k : List Call). k ++ unmarked (batches_marked rest)) (unmarked_all batch) ∙ ap (λ (k : List Call). batch ++ k) (unmarked_batches rest))
+    unmarked-append (marked batch) (batches_marked rest)
+    ∙ (ap (λ (k : List Call). k ++ unmarked (batches_marked rest)) (unmarked_all batch) ∙ ap (λ (k : List Call). batch ++ k) (unmarked_batches rest))
 
 unmarked_history : (taken : List (List Call)) (queue : List Call) → unmarked (history_of taken queue) ≡ batches taken ++ queue
 unmarked_history taken queue =
-    unmarked-append (batches_marked taken) (marked queue) ∙ (ap (λ (k : List Call). k ++ unmarked (marked queue)) (unmarked_batches taken) ∙ ap (λ (k : List Call). batches taken ++ k) (unmarked_all queue))
+    unmarked-append (batches_marked taken) (marked queue)
+    ∙ (ap (λ (k : List Call). k ++ unmarked (marked queue)) (unmarked_batches taken) ∙ ap (λ (k : List Call). batches taken ++ k) (unmarked_all queue))
 
 pub run_at_most_once : RunAtMostOnce
 run_at_most_once a at control s source cpu class =
@@ -121,5 +133,6 @@ run_at_most_once a at control s source cpu class =
     (unmarked_from source (history_of (a.taken cpu) (a.queue cpu)) ∙ ap (calls_from source) (unmarked_history (a.taken cpu) (a.queue cpu)))) in (
       calls_from source p.0,
       ap (of_class class) sent ∙ (from_class source class (batches (a.taken cpu) ++ a.queue cpu) ∙ (ap (calls_from source) p.1 ∙
-          (from-append source (of_class class (a.ran cpu)) p.0 ∙ ap (λ (k : List Call). k ++ calls_from source p.0) (sym (from_class source class (a.ran cpu)))))),
+          (from-append source (of_class class (a.ran cpu)) p.0
+          ∙ ap (λ (k : List Call). k ++ calls_from source p.0) (sym (from_class source class (a.ran cpu)))))),
     )

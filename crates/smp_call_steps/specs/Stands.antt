@@ -151,8 +151,10 @@ HandleStands nexts s d (handle.Unlink walk last call next) =
     (nexts call.id ≡ link_to next) × (call.class ≡ Sync) × (walk.last ≡ Some last)
 HandleStands nexts s d (handle.BeginSync walk call next) =
     (rest : List Call) × Walks nexts s d walk (link_to next) (call ∷ []) rest Nothing × (nexts call.id ≡ link_to next)
-HandleStands nexts s d (handle.CountSync walk call next) = (rest : List Call) × Walks nexts s d walk (link_to next) [] rest (SyncCall call) × (call.class ≡ Sync)
-HandleStands nexts s d (handle.EndSync walk call next) = (rest : List Call) × Walks nexts s d walk (link_to next) [] rest (CountedCall call) × (call.class ≡ Sync)
+HandleStands nexts s d (handle.CountSync walk call next) = (rest : List Call) × Walks nexts s d walk (link_to next) [] rest (SyncCall call)
+    × (call.class ≡ Sync)
+HandleStands nexts s d (handle.EndSync walk call next) = (rest : List Call) × Walks nexts s d walk (link_to next) [] rest (CountedCall call)
+    × (call.class ≡ Sync)
 HandleStands nexts s d (handle.AsyncNext id) = (call : Call) × (rest : List Call) × Ends nexts s d (id + 1) [] (call ∷ rest) Nothing
 HandleStands nexts s d (handle.AsyncFunc id next) =
     (call : Call) × (rest : List Call) × Ends nexts s d (id + 1) [] (call ∷ rest) Nothing × (nexts id ≡ link_to next)
@@ -160,7 +162,8 @@ HandleStands nexts s d (handle.AsyncInfo id next func) =
     (call : Call) × (rest : List Call) × Ends nexts s d (id + 1) [] (call ∷ rest) Nothing × (nexts id ≡ link_to next) × (call.func ≡ func)
 HandleStands nexts s d (handle.BeginAsync call next) =
     (rest : List Call) × Ends nexts s d (link_to next) (call ∷ []) rest Nothing × (nexts call.id ≡ link_to next)
-HandleStands nexts s d (handle.CountAsync call next) = (rest : List Call) × Ends nexts s d (link_to next) [] rest (AsyncCall call) × IsCall call × (call.class ≡ Async)
+HandleStands nexts s d (handle.CountAsync call next) = (rest : List Call) × Ends nexts s d (link_to next) [] rest (AsyncCall call) × IsCall call
+    × (call.class ≡ Async)
 HandleStands nexts s d handle.Leave = Rests s × (d.calls ≡ length s.last)
 
 -- what holds of a CPU at this stage, and outside

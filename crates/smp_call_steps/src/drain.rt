@@ -1,7 +1,9 @@
 //! What follows each step of `handle`.
 
 ghost use Rattle.std.specs.Prelude.{◌≡◌, ◌≤◌, ◌^◌};
-ghost use Rattle.smp_call_steps.specs.Drains.{no_drain, handle_outcome, drain_after, handle_goes, calling, record_at, second_on as second, first_on as first, reverse_on as reverse, by_class as of_class, unlink_after as unlinks, FitsFound, RoomAt};
+ghost use Rattle.smp_call_steps.specs.Drains.{no_drain, handle_outcome, drain_after, handle_goes, calling, record_at};
+ghost use Rattle.smp_call_steps.specs.Drains.{second_on as second, first_on as first, reverse_on as reverse};
+ghost use Rattle.smp_call_steps.specs.Drains.{by_class as of_class, unlink_after as unlinks, FitsFound, RoomAt};
 
 use crate::handle::{HandleStage, Walk};
 use crate::stage::{Outcome, Stage};

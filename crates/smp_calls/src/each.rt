@@ -34,7 +34,8 @@ fn queue_if<A: Allocator, R: Wait, H: Handler>(
     requires limits { AreLimits table.now.nr table.now.online }
     requires online { has table.now.online to ≡ true }
     requires other { to ≢ me.old.number }
-    ensures { (queued : List Queued) × (destinations queued ≡ only_if asked to) × (firsts queued ≡ only_if result to) × Queues H.leads me.old handler.old me.new handler.new (many_call me.old.number job.class job.func job.info) queued }
+    ensures { (queued : List Queued) × (destinations queued ≡ only_if asked to) × (firsts queued ≡ only_if result to)
+        × Queues H.leads me.old handler.old me.new handler.new (many_call me.old.number job.class job.func job.info) queued }
 {
     if !asked {
         return false;
@@ -68,7 +69,8 @@ pub(crate) fn queue_each<A: Allocator, R: Wait, H: Handler, C: Fn(u32, u64) -> b
     requires limits { AreLimits table.now.nr table.now.online }
     requires online { (c : ℕ) → has others c ≡ true → (has table.now.online c ≡ true) × (c ≢ me.old.number) }
     requires condition { (c : ℕ) → c < cpus → C.pre cond.now c job.info }
-    ensures { QueuesEach H.leads me.old handler.old me.new handler.new (λ c answer. C.post cond.now c job.info answer) (many_call me.old.number job.class job.func job.info) others result.0 result.1 }
+    ensures { QueuesEach H.leads me.old handler.old me.new handler.new (λ c answer. C.post cond.now c job.info answer)
+        (many_call me.old.number job.class job.func job.info) others result.0 result.1 }
 {
     let mut called = others;
     let mut owed = others;

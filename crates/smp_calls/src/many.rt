@@ -148,7 +148,8 @@ pub fn each_cpu_cond<A: Allocator, R: Wait, H: Handler, C: Fn(u32, u64) -> bool>
     requires table { me.old.table ≡ table.now.table }
     requires condition { (c : ℕ) → c < cpus → C.pre cond.now c info }
     ensures picks { Picks (λ c answer. C.post cond.now c info answer) (is_target mask table.now.online me.old.number true) result }
-    ensures calls { CallsMany H.leads me.old handler.old me.new handler.new (remote me.old.number result) (class_in wait) func info (if has result me.old.number then Some (heard me.old.number func info) else None) wait }
+    ensures calls { CallsMany H.leads me.old handler.old me.new handler.new (remote me.old.number result) (class_in wait) func info
+        (if has result me.old.number then Some (heard me.old.number func info) else None) wait }
     ensures ended { wait ≡ true → HaveEnded me.new (many_call me.old.number Class.Sync func info) (remote me.old.number result) }
 {
     let this = me.number();

@@ -2,7 +2,8 @@
 
 ghost use Rattle.std.specs.Prelude.{◌≡◌, ◌<◌};
 ghost use Rattle.smp_words.specs.Size.{cpus, records_of_one};
-ghost use Rattle.smp_calls.specs.Records.{many_record as many_record_in, user_record as user_record_in, single_record as single_record_in, class_for as class_in};
+ghost use Rattle.smp_calls.specs.Records.{many_record as many_record_in, user_record as user_record_in};
+ghost use Rattle.smp_calls.specs.Records.{single_record as single_record_in, class_for as class_in};
 
 use smp_words::call::Class;
 use smp_words::size::{FIRST_TARGETS, USER};

@@ -97,10 +97,13 @@ pub fn call_single<A: Allocator, R: Wait, H: Handler>(
     wait: bool,
 ) -> Result<(), SmpError>
     requires { me.old.table ≡ table.now.table }
-    ensures queued { IfOk result (λ _. dst ≢ me.old.number → (has table.now.online dst ≡ true) × CallsOne H.leads me.old handler.old me.new handler.new dst func info wait) }
+    ensures queued { IfOk result (λ _. dst ≢ me.old.number → (has table.now.online dst ≡ true)
+        × CallsOne H.leads me.old handler.old me.new handler.new dst func info wait) }
     ensures here { IfOk result (λ _. dst ≡ me.old.number → CallsHere H.leads me.old handler.old me.new handler.new func info wait) }
-    ensures refused { IfErr result (λ e. (e ≡ SmpError.NoCpu) × (dst ≢ me.old.number) × (has table.now.online dst ≡ false) × QueuesNone H.leads me.old handler.old me.new handler.new None wait) }
-    ensures ended { IfOk result (λ _. wait ≡ true → dst ≢ me.old.number → HaveEnded me.new (λ _. call_by me.old.number (single_record_in true) Class.Sync func info) (dst ∷ [])) }
+    ensures refused { IfErr result (λ e. (e ≡ SmpError.NoCpu) × (dst ≢ me.old.number) × (has table.now.online dst ≡ false)
+        × QueuesNone H.leads me.old handler.old me.new handler.new None wait) }
+    ensures ended { IfOk result (λ _. wait ≡ true → dst ≢ me.old.number →
+        HaveEnded me.new (λ _. call_by me.old.number (single_record_in true) Class.Sync func info) (dst ∷ [])) }
 {
     if dst == me.number() {
         call_here(table, rt, me, handler, func, info, wait);

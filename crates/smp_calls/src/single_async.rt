@@ -34,7 +34,8 @@ pub fn call_async<A: Allocator, R: Wait, H: Handler>(
 ) -> Result<(), SmpError>
     requires { me.old.table ≡ table.now.table }
     ensures record { IfOk result (λ _. u < USER_RECORDS) }
-    ensures queued { IfOk result (λ _. dst ≢ me.old.number → (has table.now.online dst ≡ true) × CallsBy H.leads me.old handler.old me.new handler.new (user_record_in u) Class.Async dst func info false) }
+    ensures queued { IfOk result (λ _. dst ≢ me.old.number → (has table.now.online dst ≡ true)
+        × CallsBy H.leads me.old handler.old me.new handler.new (user_record_in u) Class.Async dst func info false) }
     ensures here { IfOk result (λ _. dst ≡ me.old.number → CallsUserHere H.leads me.old handler.old me.new handler.new u func info) }
     ensures refused { IfErr result (λ e. RefusesUser table.now.online me.old me.new u dst e × (handler.new ≡ handler.old)) }
 {

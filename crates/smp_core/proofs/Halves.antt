@@ -36,7 +36,8 @@ use Rattle.smp_stop_steps.specs.declared.stage.CompletionStage.TheVariants as co
 use Rattle.smp_stop_steps.specs.declared.stage.RoundStage.{RoundStage}
 use Rattle.smp_stop_steps.specs.declared.stage.RoundStage.TheVariants as round
 use Rattle.smp_stop_steps.specs.declared.stage.StopStage.{StopStage}
-use Rattle.smp_stop_steps.specs.declared.stage.StopStage.TheVariants.{TakeGate, OpenGate, Begin, Enter, EnterKind, EnterMask, EnterActive, Advance, Complete, Close, LoadDone, LoadResult, ReadKey, ReadSite, NudgeKey, ExchangeKey}
+use Rattle.smp_stop_steps.specs.declared.stage.StopStage.TheVariants.{TakeGate, OpenGate, Begin, Enter, EnterKind, EnterMask, EnterActive, Advance, Complete}
+use Rattle.smp_stop_steps.specs.declared.stage.StopStage.TheVariants.{Close, LoadDone, LoadResult, ReadKey, ReadSite, NudgeKey, ExchangeKey}
 use Rattle.smp_stop_steps.specs.declared.stage.Visit.{Visit}
 use Rattle.smp_words.specs.declared.word.Word.{Word}
 
@@ -123,7 +124,8 @@ module _ (a : CallState) (me found : ℕ) (note : Option Note) where
 
 -- a step of the call half keeps the stops that the core shows
 pub stops_kept : (core : CoreValue) (cpu : ℕ) (stage : Stage) → StopsTold core (seen_at core cpu stage) 0 (stepped core cpu stage)
-stops_kept core cpu stage p shown = subst (λ q. StopShown q core.stops) (sym (call_step_apart (setup_in core) p cpu 0 _ (seen_at core cpu stage).note (number_in core.words) stage)) shown
+stops_kept core cpu stage p shown =
+    subst (λ q. StopShown q core.stops) (sym (call_step_apart (setup_in core) p cpu 0 _ (seen_at core cpu stage).note (number_in core.words) stage)) shown
 
 -- a step of the stop half keeps the calls that the core shows
 pub calls_kept : (core : CoreValue) (cpu : ℕ) (stage : StopStage) → CallsTold core (stop_seen_at core.stops cpu stage) (stops_stepped core cpu stage)
@@ -137,7 +139,8 @@ pub record IsStopStep (core : CoreValue) (cpu : ℕ) (seen : Seen) (new : StopsV
   pub told : StopTold core.stops cpu stage new
 
 pub is_stop_step : (core : CoreValue) (cpu : ℕ) (r : Option Seen) (seen : Seen) (new : StopsValue) → r ≡ Some seen →
-    MatchOption (stop_control_of core.stops.controls cpu).stage ((r ≡ None) × (new ≡ core.stops)) (λ stage. (r ≡ Some (stop_seen_at core.stops cpu stage)) × (new ≡ stop_stepped core.stops cpu stage)) →
+    MatchOption (stop_control_of core.stops.controls cpu).stage ((r ≡ None) × (new ≡ core.stops))
+    (λ stage. (r ≡ Some (stop_seen_at core.stops cpu stage)) × (new ≡ stop_stepped core.stops cpu stage)) →
     MatchOption (stop_control_of core.stops.controls cpu).stage (new ≡ core.stops) (λ stage. StopTold core.stops cpu stage new) → IsStopStep core cpu seen new
 is_stop_step core cpu r seen new is step told = go (stop_control_of core.stops.controls cpu).stage refl step told
   where
@@ -145,10 +148,12 @@ is_stop_step core cpu r seen new is step told = go (stop_control_of core.stops.c
         MatchOption x ((r ≡ None) × (new ≡ core.stops)) (λ stage. (r ≡ Some (stop_seen_at core.stops cpu stage)) × (new ≡ stop_stepped core.stops cpu stage)) →
         MatchOption x (new ≡ core.stops) (λ stage. StopTold core.stops cpu stage new) → IsStopStep core cpu seen new
     go None e s t = absurd (let bad : Some seen ≡ None = sym is ∙ s.0 in cc)
-    go (Some stage) e s t = record { stage = stage; at_stage = e; seen_is = let both : Some seen ≡ Some (stop_seen_at core.stops cpu stage) = sym is ∙ s.0 in cc; told = t }
+    go (Some stage) e s t =
+        record { stage = stage; at_stage = e; seen_is = let both : Some seen ≡ Some (stop_seen_at core.stops cpu stage) = sym is ∙ s.0 in cc; told = t }
 
 -- it keeps the calls that the core shows
-pub calls_told : (core : CoreValue) (cpu : ℕ) (seen : Seen) (new : StopsValue) → IsStopStep core cpu seen new → CallsTold core seen (record core { stops = new })
+pub calls_told : (core : CoreValue) (cpu : ℕ) (seen : Seen) (new : StopsValue) → IsStopStep core cpu seen new
+    → CallsTold core seen (record core { stops = new })
 calls_told core cpu seen new s a shown = rw s.seen_is (calls_kept core cpu s.stage a shown)
 
 -- and the new core shows the stops that it tells

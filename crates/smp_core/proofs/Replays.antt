@@ -1,5 +1,6 @@
 -- One more event of a replay.
-use Rattle.std.proofs.Common.{◌≡◌, ℕ, ◌+◌, ◌<◌, ◌≤◌, List, [], ◌∷◌, ◌++◌, Option, Some, None, Result, Ok, Err, length, length-append, get_or, drop, sym, subst, ◌∙◌, ap, refl, append_assoc, append-nil, arith}
+use Rattle.std.proofs.Common.{◌≡◌, ℕ, ◌+◌, ◌<◌, ◌≤◌, List, [], ◌∷◌, ◌++◌, Option, Some, None, Result, Ok, Err, length, length-append, get_or, drop, sym, subst}
+use Rattle.std.proofs.Common.{◌∙◌, ap, refl, append_assoc, append-nil, arith}
 use Rattle.std.proofs.lemmas.List.{drop_more, drop_all}
 use Rattle.smp_call_steps.specs.Calls.{CallState, tells, tells_all, tells_if}
 use Rattle.smp_core.specs.Value.{CoreValue, Shown}
@@ -67,11 +68,13 @@ tells_stops-append u p [] (a ∷ answers) s answer l = absurd (omega (arith, l))
 tells_stops-append u p (x ∷ xs) [] s answer l = absurd (omega (arith, l))
 tells_stops-append u p (x ∷ xs) (a ∷ answers) s answer l = tells_stops-append u (stops.tells u p x a) xs answers s answer (omega (arith, l))
 
-begun_setup : (v : StopsValue) (cpu : ℕ) (stage : Option StopStage) → setup_of (stop_begun_if v cpu stage).online (stop_begun_if v cpu stage).labels ≡ setup_of v.online v.labels
+begun_setup : (v : StopsValue) (cpu : ℕ) (stage : Option StopStage)
+    → setup_of (stop_begun_if v cpu stage).online (stop_begun_if v cpu stage).labels ≡ setup_of v.online v.labels
 begun_setup v cpu None = refl
 begun_setup v cpu (Some stage) = refl
 
-start_setup : (core : CoreValue) (cpu : ℕ) (c : Command) (refused : Option SmpError) → setup_in (start_turn core (started core cpu c) refused).core ≡ setup_in core
+start_setup : (core : CoreValue) (cpu : ℕ) (c : Command) (refused : Option SmpError)
+    → setup_in (start_turn core (started core cpu c) refused).core ≡ setup_in core
 start_setup core cpu c (Some e) = refl
 start_setup core cpu c None = begun_setup core.stops cpu (stop_first (stop_control_of core.stops.controls cpu) c)
 
@@ -86,7 +89,8 @@ turn_setup core (event.Start cpu c) = start_setup core cpu c (refusal_of core cp
 turn_setup core (event.Step cpu) = step_setup core cpu (control_of core.controls cpu).stage (stop_control_of core.stops.controls cpu).stage
 
 answers_next : (core : CoreValue) (events : List Event) (at : ℕ) (d : Event) → at < length events →
-    answers_from core (drop at events) ≡ answers_on (turn_of core (get_or events at d)).answer (turn_of core (get_or events at d)).answered (answers_from (turn_of core (get_or events at d)).core (drop (at + 1) events))
+    answers_from core (drop at events) ≡ answers_on (turn_of core (get_or events at d)).answer (turn_of core (get_or events at d)).answered
+    (answers_from (turn_of core (get_or events at d)).core (drop (at + 1) events))
 answers_next core events at d l = ap (answers_from core) (drop_more events at d l)
 
 -- `d` is what the check takes where the list would have no such element
@@ -104,12 +108,17 @@ GoesOn-more first core core' events at d seen seen' s l answer is_core is_seen t
     answers_next core events at d l ∙ (rw (← answer, ← is_core) (sym (answers_more s answered (answers_from core' (drop (at + 1) events))))) in
     record {
       answers = answers ++ answer_list s answered;
-      answered = append_assoc answers (answer_list s answered) (answers_from core' (drop (at + 1) events)) ∙ (ap (λ (x : List ℕ). answers ++ x) (sym next) ∙ g.answered);
-      paired = length-append answers (answer_list s answered) ∙ (let once = answers_once s answered in let so_far = g.paired in let both = length-append seen (seen_list s) in rw (is_seen, both) (omega (arith, once, so_far)));
+      answered = append_assoc answers (answer_list s answered) (answers_from core' (drop (at + 1) events))
+          ∙ (ap (λ (x : List ℕ). answers ++ x) (sym next) ∙ g.answered);
+      paired = length-append answers (answer_list s answered)
+          ∙ (let once = answers_once s answered in let so_far = g.paired in let both = length-append seen (seen_list s) in
+          rw (is_seen, both) (omega (arith, once, so_far)));
       setup = rw is_core (turn_setup core event) ∙ g.setup;
-      stops = λ p shown. rw (is_seen, tells_stops-append (setup_in first) p seen answers s answered g.paired, ← g.setup) (stops (tells_stops (setup_in core) p seen answers) (rw (← g.setup) at (g.stops p shown)));
+      stops = λ p shown. rw (is_seen, tells_stops-append (setup_in first) p seen answers s answered g.paired, ← g.setup)
+          (stops (tells_stops (setup_in core) p seen answers) (rw (← g.setup) at (g.stops p shown)));
       run = rw (is_seen, is_core) (after_after seen (seen_list s) (replay_from (at + 1) (turn_of core event).core (drop (at + 1) events)) ∙
-          (ap (after_seen seen) (sym (replay_more at core event (drop (at + 1) events) s answer) ∙ ap (replay_from at core) (sym (drop_more events at d l))) ∙ g.run));
+          (ap (after_seen seen) (sym (replay_more at core event (drop (at + 1) events) s answer) ∙ ap (replay_from at core) (sym (drop_more events at d l)))
+          ∙ g.run));
       told = λ calls shown. rw (is_seen, tells_all-append calls seen s) (told (tells_all calls seen) (g.told calls shown));
     }
 
@@ -131,16 +140,19 @@ GoesOn-all first core events at seen l g p shown =
     rw (← whole) (g.stops p shown)
 
 -- the same of the event that was read there
-pub goes_on : (first core core' : CoreValue) (events : List Event) (at : ℕ) (event : Event) (seen seen' : List Seen) (s : Option Seen) → at < length events → event ≡ get_or events at event →
+pub goes_on : (first core core' : CoreValue) (events : List Event) (at : ℕ) (event : Event) (seen seen' : List Seen) (s : Option Seen) → at < length events
+    → event ≡ get_or events at event →
     Ok s ≡ (turn_of core event).answer → core' ≡ (turn_of core event).core → seen' ≡ seen ++ seen_list s →
     ((calls : CallState) → Shown calls core → Shown (tells_if calls s) core') →
     ((p : StopState) → StopShown p core.stops → StopShown (stops_if (setup_in core) p s (turn_of core event).answered) core'.stops) →
     GoesOn first core events at seen → GoesOn first core' events (at + 1) seen'
 goes_on first core core' events at event seen seen' s l e answer is_core is_seen told stops g =
-    GoesOn-more first core core' events at event seen seen' s l (subst (λ (x : Event). Ok s ≡ (turn_of core x).answer) e answer) (subst (λ (x : Event). core' ≡ (turn_of core x).core) e is_core) is_seen told
+    GoesOn-more first core core' events at event seen seen' s l (subst (λ (x : Event). Ok s ≡ (turn_of core x).answer) e answer)
+    (subst (λ (x : Event). core' ≡ (turn_of core x).core) e is_core) is_seen told
     (subst (λ (x : Event). (p : StopState) → StopShown p core.stops → StopShown (stops_if (setup_in core) p s (turn_of core x).answered) core'.stops) e stops) g
 
-pub ends_refused : (first core core' : CoreValue) (events : List Event) (at : ℕ) (event : Event) (seen : List Seen) (refused : SmpError) → at < length events → event ≡ get_or events at event →
+pub ends_refused : (first core core' : CoreValue) (events : List Event) (at : ℕ) (event : Event) (seen : List Seen) (refused : SmpError) → at < length events
+    → event ≡ get_or events at event →
     Err refused ≡ (turn_of core event).answer → core' ≡ core → GoesOn first core events at seen →
     (p : StopState) → StopShown p first.stops → StopShown (tells_stops (setup_in first) p seen (answers_from first events)) core'.stops
 ends_refused first core core' events at event seen refused l e answer same g =

@@ -48,8 +48,10 @@ pub start_below : (core : CoreValue) (cpu : ℕ) (c : Command) → AreLimits cor
 start_below core cpu c limits e = let m = may_start core cpu c e in online_below core.nr core.online cpu limits m.is_online
 
 -- the calls that a core shows are those that it shows once a command has started
-pub started_shown : (a : CallState) (core : CoreValue) (cpu : ℕ) (c : Command) → AreLimits core.nr core.online → length core.controls ≡ cpus → refusal_of core cpu c ≡ None → FitsCommand c →
-    ValuesShow a core.words core.controls → ValuesShow a core.words (slice_set core.controls cpu (control_at (control_of core.controls cpu) (first_stage core.online cpu c)))
+pub started_shown : (a : CallState) (core : CoreValue) (cpu : ℕ) (c : Command) → AreLimits core.nr core.online → length core.controls ≡ cpus
+    → refusal_of core cpu c ≡ None → FitsCommand c →
+    ValuesShow a core.words core.controls
+    → ValuesShow a core.words (slice_set core.controls cpu (control_at (control_of core.controls cpu) (first_stage core.online cpu c)))
 started_shown a core cpu c limits l e f s =
     let m = may_start core cpu c e in
     let below = online_below core.nr core.online cpu limits m.is_online in

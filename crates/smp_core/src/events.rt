@@ -33,7 +33,8 @@ pub fn replay<A: Allocator>(
 ) -> Result<Replayed<A>, SmpError>
     ensures run { IfOk result (λ r. IsReplay core events.now r.core r.seen.items r.stopped) }
     ensures told { IfOk result (λ r. (calls : CallState) → Shown calls core → Shown (tells_all calls r.seen.items) r.core) }
-    ensures stops { IfOk result (λ r. (p : StopState) → StopShown p core.stops → StopShown (tells_stops (setup_in core) p r.seen.items (answers_from core events.now)) r.core.stops) }
+    ensures stops { IfOk result (λ r. (p : StopState) → StopShown p core.stops →
+        StopShown (tells_stops (setup_in core) p r.seen.items (answers_from core events.now)) r.core.stops) }
     ensures err { IfErr result (λ e. e ≡ SmpError.NoMemory) }
 {
     let mut seen = Vec::new(alloc);

@@ -6,8 +6,8 @@ ghost use Rattle.smp_queue.specs.Audit.{Closes, AuditAnswers};
 
 use crate::audit::{Audit, answer};
 use crate::cell::cell;
-use crate::seat::{CpuSeat, leave};
 use crate::rule::Owner;
+use crate::seat::{CpuSeat, leave};
 use atomic_table::Closed;
 use smp_words::Word;
 use std::alloc::Allocator;

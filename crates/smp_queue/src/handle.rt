@@ -17,11 +17,11 @@ ghost use Rattle.smp_queue.specs.Seat.{InHandle, IsOutside};
 ghost use Rattle.smp_queue.specs.Cpu.{cpu_of};
 ghost use Rattle.smp_queue.specs.Handling.{AreRan, Grows, asks, drains};
 
-use crate::seat::{CpuSeat, store, swap};
 use crate::handler::Handler;
 use crate::reverse::reverse;
 use crate::rule::Words;
 use crate::run::{run_async_calls, run_sync_calls};
+use crate::seat::{CpuSeat, store, swap};
 use smp_call_steps::drain::record_of;
 use smp_words::Word;
 
@@ -79,7 +79,8 @@ pub(crate) fn handle<H: Handler>(
     ensures outside { IsOutside words.now.table_id seat.new number }
     ensures counts { AreRan counts.new seat.new.known }
     ensures lives { Lives seat.new.known }
-    ensures asked { result.interrupted ≡ true → (batch : List Call) × (cpu_of seat.new ≡ drains batch (asks true (cpu_of seat.old))) × (Grows H.leads handler.old (order batch) handler.new) × (result.ran ≡ length batch) }
+    ensures asked { result.interrupted ≡ true → (batch : List Call) × (cpu_of seat.new ≡ drains batch (asks true (cpu_of seat.old)))
+        × (Grows H.leads handler.old (order batch) handler.new) × (result.ran ≡ length batch) }
     ensures idle { result.interrupted ≡ false → (cpu_of seat.new ≡ asks false (cpu_of seat.old)) × (handler.new ≡ handler.old) × (result.ran ≡ 0) }
 {
     if !enter(words, seat, number) {

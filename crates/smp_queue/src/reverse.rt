@@ -8,8 +8,8 @@ ghost use Rattle.smp_call_steps.specs.declared.handle.HandleStage.TheVariants as
 ghost use Rattle.smp_call_steps.specs.declared.stage.Stage.TheVariants.{Handle};
 ghost use Rattle.smp_queue.specs.Seat.{InHandle};
 
-use crate::seat::{CpuSeat, load, store};
 use crate::rule::Words;
+use crate::seat::{CpuSeat, load, store};
 use smp_call_steps::drain::record_of;
 use smp_call_steps::handle::link_of;
 use smp_words::Word;
@@ -18,7 +18,11 @@ use smp_words::Word;
 fn reverse_one(words: &Words, seat: &mut CpuSeat, newer: Option<u32>, id: u32) -> Option<u32>
     requires { InHandle words.now.table_id seat.old (handle.ReverseLoad newer id) }
     ensures at { InHandle words.now.table_id seat.new (reverse_on (Some id) result) }
-    ensures known { seat.new.known ≡ record (seat.old.known) { stage = Some (Handle (reverse_on (Some id) result)); drain = record { calls = seat.old.known.drain.calls + 1 } } }
+    ensures known { seat.new.known ≡ record (seat.old.known) {
+      stage = Some
+          (Handle (reverse_on (Some id) result));
+      drain = record { calls = seat.old.known.drain.calls + 1 };
+    } }
     ensures room { seat.old.known.drain.calls < MOST_CALLS }
 {
     let link = load(words, seat, Word::Next(id));

@@ -10,7 +10,7 @@ ghost use Rattle.smp_queue.specs.Seat.{SeatValue, Loads, Ready};
 ghost use Rattle.smp_queue.specs.Plays.{loaded, stored, exchanged, swapped};
 
 use crate::cell::cell;
-use crate::rule::{RawSeat, NextSeat, Words};
+use crate::rule::{NextSeat, RawSeat, Words};
 use crate::seat_view::SeatView;
 use atomic_table::Play;
 use smp_words::Word;
@@ -129,7 +129,8 @@ pub(crate) fn swap(words: &Words, seat: &mut CpuSeat, word: Word, number: u64) -
     requires { Ready words.now.table_id seat.old (access.Swap word number) }
     ensures table { seat.new.table ≡ words.now.table_id }
     ensures lives { Lives seat.new.known }
-    ensures known { (t : Moment seat.old.known word result) × (seat.new.known ≡ known_taking (t.lives.calls.queue seat.old.known.number) seat.old.known act.Swap word (Some result) (Some number)) }
+    ensures known { (t : Moment seat.old.known word result) × (seat.new.known ≡ known_taking
+        (t.lives.calls.queue seat.old.known.number) seat.old.known act.Swap word (Some result) (Some number)) }
 {
     words.swap::<Swapped>(&mut seat.raw, cell(word), number)
 }

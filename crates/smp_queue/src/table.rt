@@ -31,13 +31,13 @@ ghost use Rattle.smp_queue.specs.Audit.{ClosesWith, Audited, IfDrained, AreEqual
 use crate::audit::Audit;
 use crate::boot::Boot;
 use crate::cell::CELLS;
-use crate::seat::{next_seat, store};
 use crate::closing::ClosedTable;
 use crate::cpu::CallCpu;
 use crate::handle::{Handled, handle};
 use crate::handler::Handler;
 use crate::post::{append, append_until_won, is_locked, write_record};
 use crate::rule::{Owner, RawSeat};
+use crate::seat::{next_seat, store};
 use atomic_table::Table;
 use smp_call_steps::post::Posting;
 use smp_call_steps::start::{has_record, refusal};
@@ -74,7 +74,8 @@ impl<A: Allocator> Model for CallTable<A> {
 fn lay<A: Allocator>(alloc: A, nr: u32) -> Result<(Owner<A>, RawSeat), AllocError>
 where
     A: Copy,
-    ensures { IfOk result (λ t. (t.0.shared.table_id.words ≡ cells) × (t.0.shared.table_id.slots ≡ 0) × (t.0.shared.key ≡ nr) × (t.1.table_id ≡ t.0.shared.table_id) × (t.1.me.0 ≡ Maker 0)) }
+    ensures { IfOk result (λ t. (t.0.shared.table_id.words ≡ cells) × (t.0.shared.table_id.slots ≡ 0) × (t.0.shared.key ≡ nr)
+        × (t.1.table_id ≡ t.0.shared.table_id) × (t.1.me.0 ≡ Maker 0)) }
 {
     let words = Vec::from_elem(alloc, 0u64, CELLS)?;
     let (table, seat) = Table::of_words(alloc, words.as_slice(), &nr)?;
@@ -300,7 +301,8 @@ impl<A: Allocator> CallTable<A> {
     /// waits for no other CPU, and to call it is to poll.
     pub fn handle<H: Handler>(&self, me: &mut CallCpu, handler: &mut H) -> Handled
         requires { me.old.table ≡ self.now.table }
-        ensures asked { result.interrupted ≡ true → (batch : List Call) × (me.new ≡ drains batch (asks true me.old)) × (Grows H.leads handler.old (order batch) handler.new) × (result.ran ≡ length batch) }
+        ensures asked { result.interrupted ≡ true → (batch : List Call) × (me.new ≡ drains batch (asks true me.old))
+            × (Grows H.leads handler.old (order batch) handler.new) × (result.ran ≡ length batch) }
         ensures idle { result.interrupted ≡ false → (me.new ≡ asks false me.old) × (handler.new ≡ handler.old) × (result.ran ≡ 0) }
         ensures laws { IsShown me.new }
     {

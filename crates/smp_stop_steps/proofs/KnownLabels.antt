@@ -115,7 +115,8 @@ module _ (p : StopState) (at : Word → ℕ) (seat : ℕ → Seat) (source : ℕ
       (site_read u p at seat source h v.number i 0) (reads_leaves r)
 
   pub nudge : (k found new : ℕ) → IsOn → has v.setting.online v.number ≡ true → k < MOST_KEYS → IsNudge found new →
-      Goes (put_if put_word at (Key k) (cond (at (Key k) == found) (Some new) None)) (key_known act.Cas k (Some (at (Key k))) (cond (at (Key k) == found) (Some new) None) v)
+      Goes (put_if put_word at (Key k) (cond (at (Key k) == found) (Some new) None))
+      (key_known act.Cas k (Some (at (Key k))) (cond (at (Key k) == found) (Some new) None) v)
   nudge k found new on online low is = go (at (Key k) == found) refl
     where
       go : (b : Bool) → (at (Key k) == found) ≡ b → Goes (put_if put_word at (Key k) (cond b (Some new) None)) (key_known act.Cas k (Some (at (Key k)))

@@ -193,10 +193,12 @@ module _ (p : StopState) (at : Word → ℕ) (seat : ℕ → Seat) (source : ℕ
     others = λ c ne. ap (λ x. record (columns_of p c) { holds = x }) (others c ne);
   }
 
-  pub take_gate : Goes (put_if put_word at Gate (cond (at Gate == 0) (Some (v.number + 1)) None)) (gate_known act.Cas (cond (at Gate == 0) (Some (v.number + 1)) None) v)
+  pub take_gate : Goes (put_if put_word at Gate (cond (at Gate == 0) (Some (v.number + 1)) None))
+      (gate_known act.Cas (cond (at Gate == 0) (Some (v.number + 1)) None) v)
   take_gate = go (at Gate == 0) refl
     where
-      go : (b : Bool) → (at Gate == 0) ≡ b → Goes (put_if put_word at Gate (cond b (Some (v.number + 1)) None)) (gate_known act.Cas (cond b (Some (v.number + 1)) None) v)
+      go : (b : Bool) → (at Gate == 0) ≡ b → Goes (put_if put_word at Gate (cond b (Some (v.number + 1)) None))
+          (gate_known act.Cas (cond b (Some (v.number + 1)) None) v)
       go false e = still
       go true e =
           let free : p.gate ≡ None = gate_free p.gate (sym h.gate ∙ eqb-true (at Gate) 0 e) in

@@ -326,7 +326,8 @@ module _ (u : Setup) (p : StopState) (at : Word → ℕ) (seat : ℕ → Seat) (
       }
     where
       go : u.online me ≡ true → p.now.irq me ≡ true → IsNudge expected new → (b : Bool) → (at (Key k) == expected) ≡ b →
-          StopShows u (told u p me act.Cas (Key k) (Some (at (Key k))) (cond b (Some new) None) 0) (put_if put_word at (Key k) (cond b (Some new) None)) seat source
+          StopShows u (told u p me act.Cas (Key k) (Some (at (Key k))) (cond b (Some new) None) 0)
+          (put_if put_word at (Key k) (cond b (Some new) None)) seat source
       go online on nudge true z =
           let same = eqb-true (at (Key k)) expected z in
           key_exchanged u p at seat source h me k (at (Key k)) new s.below online on refl record {

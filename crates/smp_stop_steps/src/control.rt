@@ -214,7 +214,8 @@ impl StopControl {
     /// The step of a patch after the load of its key's count, which is to be this word.
     fn count_on(&mut self, key: u16, word: u64, found: u64) -> RoundStage
         requires { self.old.changes ≡ [] }
-        ensures stage { (visit : Visit) → (stop_goes self.new (StopStage.Advance visit result)).control ≡ (key_on self.old visit key found (Some word)).control }
+        ensures stage { (visit : Visit) → (stop_goes self.new (StopStage.Advance visit result)).control ≡
+            (key_on self.old visit key found (Some word)).control }
         ensures same { (visit : Visit) → None ≡ (key_on self.old visit key found (Some word)).note }
     {
         if found == word {

@@ -45,7 +45,8 @@ fn advance(controls: &mut [StopControl], cpu: u32, found: u64) -> Option<Note>
     requires small { cpu < 64 }
     requires fits { IfSome (stop_control_of controls.old cpu).stage (λ stage. FitsStop (stop_control_of controls.old cpu) stage found) }
     ensures note { IfSome (stop_control_of controls.old cpu).stage (λ stage. result ≡ (moved_on controls.old cpu found stage).note) }
-    ensures controls { IfSome (stop_control_of controls.old cpu).stage (λ stage. controls.new ≡ slice_set controls.old cpu (moved_on controls.old cpu found stage).control) }
+    ensures controls { IfSome (stop_control_of controls.old cpu).stage
+        (λ stage. controls.new ≡ slice_set controls.old cpu (moved_on controls.old cpu found stage).control) }
 {
     let control = &mut controls[cpu as usize];
     let Some(stage) = control.stage() else {
@@ -182,7 +183,8 @@ impl<A: Allocator> Stops<A> {
 
     /// Makes one atomic step of the CPU's command; none where it has none.
     pub fn step(&mut self, cpu: u32) -> Option<Seen>
-        ensures step { MatchOption (stop_control_of self.old.controls cpu).stage ((result ≡ None) × (self.new ≡ self.old)) (λ stage. IsStepOf self.old cpu stage result self.new) }
+        ensures step { MatchOption (stop_control_of self.old.controls cpu).stage ((result ≡ None)
+            × (self.new ≡ self.old)) (λ stage. IsStepOf self.old cpu stage result self.new) }
         ensures told { MatchOption (stop_control_of self.old.controls cpu).stage (self.new ≡ self.old) (λ stage. StopTold self.old cpu stage self.new) }
     {
         let Some(stage) = self.stage(cpu) else {

@@ -35,7 +35,8 @@ handle_by_class nexts s d (handle.BeginAsync call next) h = still s h.1.running_
 handle_by_class nexts s d (handle.CountAsync call next) h = rw h.1.running_is h.3
 handle_by_class nexts s d handle.Leave h = still s h.0.running
 
-stage_by_class : (places : ℕ → RecPlace) (at : Word → ℕ) (s : Share) (d : DrainValue) (me : ℕ) (stage : Option Stage) → StandsAt places at s d me stage → RunsByClass s.running
+stage_by_class : (places : ℕ → RecPlace) (at : Word → ℕ) (s : Share) (d : DrainValue) (me : ℕ) (stage : Option Stage) → StandsAt places at s d me stage
+    → RunsByClass s.running
 stage_by_class places at s d me None k = still s k.running
 stage_by_class places at s d me (Some (Send to)) k = still s k.0.running
 stage_by_class places at s d me (Some (Done id)) k = still s k.0.running

@@ -30,7 +30,8 @@ one_of_class P Async Async call p = (p, tt)
 
 every_of_class : (P : Call → Type 0) (class : Class) (calls : List Call) → AllByRecursion P calls → AllByRecursion P (of_class class calls)
 every_of_class P class [] h = tt
-every_of_class P class (call ∷ rest) h = every_append P (if_class class call.class call) (of_class class rest) (one_of_class P class call.class call h.0) (every_of_class P class rest h.1)
+every_of_class P class (call ∷ rest) h = every_append P (if_class class call.class call) (of_class class rest) (one_of_class P class call.class call h.0)
+    (every_of_class P class rest h.1)
 
 -- a call that runs while its record is free is not SYNC
 running_none : (id : ℕ) (running : Running) → RunsByClass running → calls_by id (locked_by running) ≡ 0 → calls_by id (of_class Sync (running_call running)) ≡ 0
@@ -109,9 +110,11 @@ module _ (P : Call → Type 0) where
       (λ b. AllByRecursion (λ (x : Marked). (owner x.call.id ≡ source) × P x.call) (cond b (m ∷ marked_from source rest) (marked_from source rest)))
       (λ e. ((e, h.0), every_from source rest h.1)) (λ _. every_from source rest h.1)
 
-  every_history : (taken : List (List Call)) (queue : List Call) → ((call : Call) → HasCall call (batches taken ++ queue) → P call) → AllByRecursion Of (history_of taken queue)
+  every_history : (taken : List (List Call)) (queue : List Call) → ((call : Call) → HasCall call (batches taken ++ queue) → P call)
+      → AllByRecursion Of (history_of taken queue)
   every_history [] queue f = every_marked queue (every_call P queue f)
-  every_history (batch ∷ rest) queue f = subst (λ (ms : List Marked). AllByRecursion Of ms) (sym (append_assoc (marked batch) (batches_marked rest) (marked queue)))
+  every_history (batch ∷ rest) queue f = subst (λ (ms : List Marked). AllByRecursion Of ms)
+      (sym (append_assoc (marked batch) (batches_marked rest) (marked queue)))
       (every_append Of (marked batch) (history_of rest queue)
       (every_marked batch (every_call P batch (λ c h. f c (has_left c (batch ++ batches rest) queue (has_left c batch (batches rest) h)))))
       (every_history rest queue (λ c h. elim (has_either c (batches rest) queue h) [
@@ -120,11 +123,15 @@ module _ (P : Call → Type 0) where
       ])))
 
 -- what holds of all that were sent to each CPU holds of all that were sent
-every_sent : (P : ℕ → Call → Type 0) (sent : List Sending) → ((cpu : ℕ) → AllByRecursion (λ m. P cpu m.call) (sent_to cpu sent)) → AllByRecursion (λ s. P s.to s.call) sent
+every_sent : (P : ℕ → Call → Type 0) (sent : List Sending) → ((cpu : ℕ) → AllByRecursion (λ m. P cpu m.call) (sent_to cpu sent))
+    → AllByRecursion (λ s. P s.to s.call) sent
 every_sent P [] f = tt
 every_sent P (s ∷ rest) f = (
-  at_test s.to s.to (λ b. AllByRecursion (λ (m : Marked). P s.to m.call) (cond b (mark s.is_first s.call ∷ sent_to s.to rest) (sent_to s.to rest)) → P s.to s.call) (λ _ h. h.0) (λ ne. absurd (ne refl)) (f s.to),
-  every_sent P rest (λ cpu. at_test s.to cpu (λ b. AllByRecursion (λ (m : Marked). P cpu m.call) (cond b (mark s.is_first s.call ∷ sent_to cpu rest) (sent_to cpu rest)) → AllByRecursion (λ (m : Marked). P cpu m.call) (sent_to cpu rest))
+  at_test s.to s.to (λ b. AllByRecursion (λ (m : Marked). P s.to m.call) (cond b (mark s.is_first s.call ∷ sent_to s.to rest) (sent_to s.to rest))
+      → P s.to s.call) (λ _ h. h.0) (λ ne. absurd (ne refl)) (f s.to),
+  every_sent P rest (λ cpu. at_test s.to cpu
+      (λ b. AllByRecursion (λ (m : Marked). P cpu m.call) (cond b (mark s.is_first s.call ∷ sent_to cpu rest) (sent_to cpu rest))
+      → AllByRecursion (λ (m : Marked). P cpu m.call) (sent_to cpu rest))
       (λ _ h. h.1) (λ _ h. h) (f cpu)),
 )
 
@@ -136,15 +143,20 @@ module _ (a : CallState) (at : Word → ℕ) (control : ℕ → ControlValue) (s
       let runs : List Call = of_class Sync (running_call (a.running cpu)) in
       let left : List Call = of_class Sync (a.batch cpu) in
       let waits : List Call = of_class Sync (a.queue cpu) in
-      let q = none_by a.place (place.Queued cpu) id waits (out.queue cpu) (every_of_class (IsPlaced a.place (place.Queued cpu)) Sync (a.queue cpu) (s.placed.queued cpu)) in
-      let b = none_by a.place (place.Batch cpu) id left (out.batch cpu) (every_of_class (IsPlaced a.place (place.Batch cpu)) Sync (a.batch cpu) (s.placed.batched cpu)) in
-      let r = running_none id (a.running cpu) (runs_by_class a at control s cpu) (none_by a.place (place.Running cpu) id (locked_by (a.running cpu)) (out.running cpu) (s.placed.runs cpu)) in
+      let q = none_by a.place (place.Queued cpu) id waits (out.queue cpu)
+      (every_of_class (IsPlaced a.place (place.Queued cpu)) Sync (a.queue cpu) (s.placed.queued cpu)) in
+      let b = none_by a.place (place.Batch cpu) id left (out.batch cpu)
+      (every_of_class (IsPlaced a.place (place.Batch cpu)) Sync (a.batch cpu) (s.placed.batched cpu)) in
+      let r = running_none id (a.running cpu) (runs_by_class a at control s cpu)
+      (none_by a.place (place.Running cpu) id (locked_by (a.running cpu)) (out.running cpu) (s.placed.runs cpu)) in
       let parts : of_class Sync (batches (a.taken cpu)) ≡ ran ++ (runs ++ left) =
       sym (orders_keep Sync (a.taken cpu)) ∙ (ap (of_class Sync) (sym (s.recorded.drained cpu)) ∙
-      (of_class-append Sync (a.ran cpu) (running_call (a.running cpu) ++ a.batch cpu) ∙ ap (λ (k : List Call). ran ++ k) (of_class-append Sync (running_call (a.running cpu)) (a.batch cpu)))) in
+      (of_class-append Sync (a.ran cpu) (running_call (a.running cpu) ++ a.batch cpu)
+      ∙ ap (λ (k : List Call). ran ++ k) (of_class-append Sync (running_call (a.running cpu)) (a.batch cpu)))) in
       let whole : calls_by id (of_class Sync (batches (a.taken cpu) ++ a.queue cpu)) ≡ calls_by id (of_class Sync (batches (a.taken cpu))) + calls_by id waits =
       ap (calls_by id) (of_class-append Sync (batches (a.taken cpu)) (a.queue cpu)) ∙ by-append id (of_class Sync (batches (a.taken cpu))) waits in
-      let taken : calls_by id (of_class Sync (batches (a.taken cpu))) ≡ calls_by id ran + calls_by id (runs ++ left) = ap (calls_by id) parts ∙ by-append id ran (runs ++ left) in
+      let taken : calls_by id (of_class Sync (batches (a.taken cpu))) ≡ calls_by id ran + calls_by id (runs ++ left) =
+      ap (calls_by id) parts ∙ by-append id ran (runs ++ left) in
       let rest = by-append id runs left in
       omega arith
 
@@ -156,7 +168,8 @@ module _ (a : CallState) (at : Word → ℕ) (control : ℕ → ControlValue) (s
   ended_run cpu call Sync h = h
   ended_run cpu call Async h = has_left call (a.ran cpu) (async_call (a.running cpu)) h
 
-  running_run : (cpu : ℕ) (call : Call) → IsOut (a.place call.id) → (running : Running) → RunsByClass running → AllByRecursion (IsPlaced a.place (place.Running cpu)) (locked_by running) → HasCall call (running_call running) →
+  running_run : (cpu : ℕ) (call : Call) → IsOut (a.place call.id) → (running : Running) → RunsByClass running
+      → AllByRecursion (IsPlaced a.place (place.Running cpu)) (locked_by running) → HasCall call (running_call running) →
       (class : Class) → call.class ≡ class → HasRunAt (record a { running = λ _. running }) cpu call class
   running_run cpu call out Nothing r k h class e = absurd h
   running_run cpu call out (SyncCall x) r k h class e = absurd (out.running cpu (holds_of (IsPlaced a.place (place.Running cpu)) (x ∷ []) call k h).placed)
@@ -168,7 +181,8 @@ module _ (a : CallState) (at : Word → ℕ) (control : ℕ → ControlValue) (s
   same_run cpu call Sync h = h
   same_run cpu call Async h = h
 
-  taken_run : (cpu : ℕ) (call : Call) → IsOut (a.place call.id) → HasCall call (a.ran cpu ++ (running_call (a.running cpu) ++ a.batch cpu)) → HasRunAt a cpu call call.class
+  taken_run : (cpu : ℕ) (call : Call) → IsOut (a.place call.id) → HasCall call (a.ran cpu ++ (running_call (a.running cpu) ++ a.batch cpu))
+      → HasRunAt a cpu call call.class
   taken_run cpu call out h = elim (has_either call (a.ran cpu) (running_call (a.running cpu) ++ a.batch cpu) h) [
     | inl k ↦ ended_run cpu call call.class k
     | inr k ↦ elim (has_either call (running_call (a.running cpu)) (a.batch cpu) k) [
@@ -187,8 +201,11 @@ module _ (a : CallState) (at : Word → ℕ) (control : ℕ → ControlValue) (s
 
   pub confirmed_calls_have_run : ConfirmedCallsHaveRun a
   confirmed_calls_have_run source = every_sent (λ cpu call. a.confirmed source call.id ≡ true → HasRunAt a cpu call call.class) (a.sent source) (λ cpu.
-      subst (λ (ms : List Marked). AllByRecursion (λ m. a.confirmed source m.call.id ≡ true → HasRunAt a cpu m.call m.call.class) ms) (sym (s.recorded.in_order source cpu))
-      (every (λ (m : Marked). (owner m.call.id ≡ source) × HasRunOnce cpu m.call) (λ m. a.confirmed source m.call.id ≡ true → HasRunAt a cpu m.call m.call.class)
+      subst (λ (ms : List Marked). AllByRecursion (λ m. a.confirmed source m.call.id ≡ true → HasRunAt a cpu m.call m.call.class) ms)
+      (sym (s.recorded.in_order source cpu))
+      (every (λ (m : Marked). (owner m.call.id ≡ source) × HasRunOnce cpu m.call)
+      (λ m. a.confirmed source m.call.id ≡ true → HasRunAt a cpu m.call m.call.class)
       (λ m h e. h.1 (subst (λ (k : ℕ). a.confirmed k m.call.id ≡ true) (sym h.0) e))
       (marked_from source (history_of (a.taken cpu) (a.queue cpu)))
-      (every_from (HasRunOnce cpu) source (history_of (a.taken cpu) (a.queue cpu)) (every_history (HasRunOnce cpu) (a.taken cpu) (a.queue cpu) (history_run cpu)))))
+      (every_from (HasRunOnce cpu) source (history_of (a.taken cpu) (a.queue cpu))
+      (every_history (HasRunOnce cpu) (a.taken cpu) (a.queue cpu) (history_run cpu)))))

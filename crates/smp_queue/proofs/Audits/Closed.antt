@@ -123,7 +123,8 @@ audited t d words answer e c a = record {
 
 -- the words by the value of the CPU that closed the table, and by what it knew
 
-pub closes_with : (t : TableValue) (d : SeatValue) (words : List ℕ) → d.table ≡ t.table → t.nr ≤ cpus → Closes t.nr d.known words → ClosesWith t (cpu_of d) words
+pub closes_with : (t : TableValue) (d : SeatValue) (words : List ℕ) → d.table ≡ t.table → t.nr ≤ cpus → Closes t.nr d.known words
+    → ClosesWith t (cpu_of d) words
 closes_with t d words e within c = record {
   calls = c.calls;
   controls = c.controls;
@@ -138,11 +139,25 @@ module _ (t : TableValue) (last : CpuValue) (words : List ℕ) (c : ClosesWith t
   abbrev pub last_seat : SeatValue
   last_seat = record {
     table = t.table;
-    known = record { number = last.number; stage = told_stage (c.controls last.number).stage; drain = (c.controls last.number).drain; part = part_of c.calls last.number };
+    known =
+        record {
+          number = last.number;
+          stage = told_stage (c.controls last.number).stage;
+          drain = (c.controls last.number).drain;
+          part = part_of c.calls last.number;
+        };
   }
 
   pub last_view : cpu_of last_seat ≡ last
   last_view = sym c.view
 
   pub last_closes : Closes t.nr last_seat.known words
-  last_closes = record { calls = c.calls; controls = c.controls; shown = c.shown; sees = record { stage = refl; drain = refl; part = refl }; below = c.below; absent = c.absent }
+  last_closes =
+      record {
+        calls = c.calls;
+        controls = c.controls;
+        shown = c.shown;
+        sees = record { stage = refl; drain = refl; part = refl };
+        below = c.below;
+        absent = c.absent;
+      }

@@ -22,9 +22,11 @@ row-true (suc n) (suc i) f e = row-true n i (λ k. f (suc k)) e
 
 have_run : (d : SeatValue) (l : Lives d.known) → HaveRunFor l.calls (cpu_of d)
 have_run d l =
-    subst (λ (p : Part). AllByRecursion (λ sending. get_or p.confirmed sending.call.id false ≡ true → HasRunAt l.calls sending.to sending.call sending.call.class) p.sent) l.sees.part
+    subst (λ (p : Part). AllByRecursion
+    (λ sending. get_or p.confirmed sending.call.id false ≡ true → HasRunAt l.calls sending.to sending.call sending.call.class) p.sent) l.sees.part
     (every (λ sending. l.calls.confirmed d.known.number sending.call.id ≡ true → HasRunAt l.calls sending.to sending.call sending.call.class)
-    (λ sending. get_or (row records (l.calls.confirmed d.known.number)) sending.call.id false ≡ true → HasRunAt l.calls sending.to sending.call sending.call.class)
+    (λ sending. get_or (row records (l.calls.confirmed d.known.number)) sending.call.id false ≡ true
+    → HasRunAt l.calls sending.to sending.call sending.call.class)
     (λ sending h e. h (row-true records sending.call.id (l.calls.confirmed d.known.number) e))
     (l.calls.sent d.known.number)
     (confirmed_calls_have_run l.calls l.at l.controls l.shown d.known.number))

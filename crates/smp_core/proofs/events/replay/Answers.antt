@@ -9,15 +9,18 @@ loop-position-preserved g c =
     let pushed = c.in_ok-note_step-in-Ok.ensures.ok in
     let told = c.in-Ok.ensures.told in
     let stops = c.in-Ok.ensures.stops in
-    goes_on c.args.core c.loop-position.core c.turn.new.self c.args.events.now c.loop-position.position c.index-events-position.result c.loop-position.seen.items c.note_step.new.seen.items c.in-Ok.step
+    goes_on c.args.core c.loop-position.core c.turn.new.self c.args.events.now c.loop-position.position c.index-events-position.result
+    c.loop-position.seen.items c.note_step.new.seen.items c.in-Ok.step
     (omega arith) c.index-events-position.is answer core pushed told stops c.loop-position.invariant
 
 pub returns-in-Err-clause-stops : goal.returns-in-Err-clause-stops
 returns-in-Err-clause-stops g c =
     let answer = c.in-Err.ensures.answer in
     let same = c.in-Err.ensures.err in
-    ends_refused c.args.core c.loop-position.core c.turn.new.self c.args.events.now c.loop-position.position c.index-events-position.result c.loop-position.seen.items c.in-Err.error
+    ends_refused c.args.core c.loop-position.core c.turn.new.self c.args.events.now c.loop-position.position c.index-events-position.result
+    c.loop-position.seen.items c.in-Err.error
     (omega arith) c.index-events-position.is answer same c.loop-position.invariant
 
 pub returns-clause-stops : goal.returns-clause-stops
-returns-clause-stops g c = GoesOn-all c.args.core c.loop-position.core c.args.events.now c.loop-position.position c.loop-position.seen.items (omega arith) c.loop-position.invariant
+returns-clause-stops g c = GoesOn-all c.args.core c.loop-position.core c.args.events.now c.loop-position.position c.loop-position.seen.items
+    (omega arith) c.loop-position.invariant

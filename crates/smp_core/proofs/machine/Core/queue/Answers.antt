@@ -18,4 +18,5 @@ pub returns-clause-calls : goal.returns-clause-calls
 returns-clause-calls g c is_online calls shown =
     let items = c.self.inside.words.items in
     let inside : ValuesShow calls items c.self.inside.controls.items = rw (← c.self.view_is) at shown in
-    c.chain.ensures ∙ rw (c.read.ensures, c.deref.ensures.value, c.deref-2.ensures.value) (queue_read calls (number_in items) (control_of c.self.inside.controls.items) c.args.cpu inside)
+    c.chain.ensures ∙ rw (c.read.ensures, c.deref.ensures.value, c.deref-2.ensures.value)
+    (queue_read calls (number_in items) (control_of c.self.inside.controls.items) c.args.cpu inside)

@@ -15,14 +15,28 @@ use Rattle.smp_core.proofs.machine.Core.start.Given as given
 
 -- the core before, over its fields
 abbrev before : (g : given.Over) (c : goal.After-command-3-1 g) → CoreValue
-before g c = record { nr = c.self.inside.nr; online = c.self.inside.online; words = c.self.inside.words.items; controls = c.self.inside.controls.items; stops = c.self.inside.stops }
+before g c =
+    record {
+      nr = c.self.inside.nr;
+      online = c.self.inside.online;
+      words = c.self.inside.words.items;
+      controls = c.self.inside.controls.items;
+      stops = c.self.inside.stops;
+    }
 
 allowed : (g : given.Over) (c : goal.After-command-3-1 g) → refusal_of (before g c) c.args.cpu c.args.command ≡ None
 allowed g c = rw (← c.self.view_is) at (sym c.refusal.ensures ∙ c.in_default.is)
 
 -- the same where the first stage is asked for
 abbrev first : (g : given.Over) (c : goal.After-first_stage-arg-1 g) → CoreValue
-first g c = record { nr = c.self.inside.nr; online = c.self.inside.online; words = c.self.inside.words.items; controls = c.self.inside.controls.items; stops = c.self.inside.stops }
+first g c =
+    record {
+      nr = c.self.inside.nr;
+      online = c.self.inside.online;
+      words = c.self.inside.words.items;
+      controls = c.self.inside.controls.items;
+      stops = c.self.inside.stops;
+    }
 
 asked : (g : given.Over) (c : goal.After-first_stage-arg-1 g) → refusal_of (first g c) c.args.cpu c.args.command ≡ None
 asked g c = rw (← c.self.view_is) at (sym c.refusal.ensures ∙ c.in_default.is)
@@ -45,7 +59,8 @@ shown_after g c calls shown =
     let controls = c.self.inside.controls.items in
     let below = start_below (before g c) c.args.cpu c.args.command c.self.invariant.limits (allowed g c) in
     let sized : length controls ≡ cpus = c.self.invariant.table.controls_sized in
-    let here : c.index_mut.result.now ≡ control_of controls c.args.cpu = get_or_read controls c.args.cpu c.index_mut.result.now (omega arith) c.index_mut.ensures.value outside in
+    let here : c.index_mut.result.now ≡ control_of controls c.args.cpu =
+    get_or_read controls c.args.cpu c.index_mut.result.now (omega arith) c.index_mut.ensures.value outside in
     let begun : c.begin.new.self ≡ control_at (control_of controls c.args.cpu) (first_stage c.self.inside.online c.args.cpu c.args.command) =
     rw (← here, ← c.first_stage-stage.ensures) c.begin.ensures in
     rw begun (started_shown calls (before g c) c.args.cpu c.args.command c.self.invariant.limits sized (allowed g c) (fits g c) shown)

@@ -8,7 +8,8 @@ returns-clause-audited g c =
     let words = c.close-words.result in
     let e = c.close-words.ensures in
     subst (λ last. Audited c.args.self last c.audit-audit.result) (last_view c.args.self c.args.last words e)
-    (audited c.args.self (last_seat c.args.self c.args.last words e) words c.audit-audit.result refl (last_closes c.args.self c.args.last words e) c.audit-audit.ensures)
+    (audited c.args.self (last_seat c.args.self c.args.last words e) words c.audit-audit.result refl
+    (last_closes c.args.self c.args.last words e) c.audit-audit.ensures)
 
 pub returns-clause-equal : goal.returns-clause-equal
 returns-clause-equal g c =
@@ -20,7 +21,8 @@ returns-clause-rows g c =
     let words = c.close-words.result in
     let e = c.close-words.ensures in
     subst (λ last. IfDrained c.audit-audit.result (HasRowsOf last)) (last_view c.args.self c.args.last words e)
-    (drained_rows c.args.self.nr (last_seat c.args.self c.args.last words e) words c.audit-audit.result e.within (last_closes c.args.self c.args.last words e) c.audit-audit.ensures)
+    (drained_rows c.args.self.nr (last_seat c.args.self c.args.last words e) words c.audit-audit.result e.within
+    (last_closes c.args.self c.args.last words e) c.audit-audit.ensures)
 
 pub returns-clause-zeros : goal.returns-clause-zeros
 returns-clause-zeros g c =

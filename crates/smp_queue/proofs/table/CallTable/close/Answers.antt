@@ -8,5 +8,6 @@ pub returns : goal.returns
 returns g c =
     let nr = c.self.invariant.key_is ∙ ap (λ t. t.nr) c.self.view_is in
     subst (λ last. ClosesWith c.args.self last c.of.result) c.last.view_is
-    (closes_with c.args.self c.last.inside.seat c.of.result (ap (λ l. l.table) c.last.view_is ∙ c.requires) (subst (λ (n : ℕ). n ≤ cpus) (ap (λ t. t.nr) c.self.view_is) c.self.invariant.limits.within)
+    (closes_with c.args.self c.last.inside.seat c.of.result (ap (λ l. l.table) c.last.view_is ∙ c.requires)
+    (subst (λ (n : ℕ). n ≤ cpus) (ap (λ t. t.nr) c.self.view_is) c.self.invariant.limits.within)
     (subst (λ (n : ℕ). Closes n c.last.inside.seat.known c.of.result) nr c.of.ensures))

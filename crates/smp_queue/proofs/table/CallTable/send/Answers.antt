@@ -14,7 +14,7 @@ store-requires g c =
     let l = m.below in
     let n = m.number_is in
     let to : c.args.to < cpus = online_below c.self.inside.nr c.self.inside.online c.args.to c.self.invariant.limits
-        (sym c.contains.ensures.member ∙ c.if-not-contains.false) in
+    (sym c.contains.ensures.member ∙ c.if-not-contains.false) in
     record {
       table_is = ap (λ d. d.table) c.me.view_is ∙ (c.requires ∙ sym (ap (λ t. t.table) c.self.view_is));
       sized = c.self.invariant.sized;
@@ -25,4 +25,5 @@ store-requires g c =
 
 pub returns-clause-laws : goal.returns-clause-laws
 returns-clause-laws g c = is_shown _ c.store.ensures.lives
-    (ap (λ (v : Known). v.stage) c.store.ensures.known ∙ ap (λ (x : Option Stage). stage_after x c.me.inside.seat.known.drain act.Store (Intr c.args.to) None (Some 1)) c.me.invariant.outside)
+    (ap (λ (v : Known). v.stage) c.store.ensures.known
+    ∙ ap (λ (x : Option Stage). stage_after x c.me.inside.seat.known.drain act.Store (Intr c.args.to) None (Some 1)) c.me.invariant.outside)
