@@ -15,19 +15,35 @@ pub has_many : (nr to : ℕ) → nr ≤ cpus → to < nr → has_record nr (many
 has_many nr to within below = elim (cases_lt to FIRST_TARGETS) [
   | inl low ↦ rw (lt-ltb to FIRST_TARGETS low, lt-ltb (to + 2) FIRST_OF_ONE (omega arith)) refl
   | inr high ↦
-      rw (le-ltb to FIRST_TARGETS high, le-ltb (to + 4) FIRST_OF_ONE (omega arith), lt-ltb (to + 4) records_of_one (omega arith),
-      lt-ltb ((to + 4) - 4) nr (omega arith)) refl
+      rw (
+        le-ltb to FIRST_TARGETS high,
+        le-ltb (to + 4) FIRST_OF_ONE (omega arith),
+        lt-ltb (to + 4) records_of_one (omega arith),
+        lt-ltb ((to + 4) - 4) nr (omega arith),
+      ) refl
 ]
 
 -- it is for calls of either class to this CPU
 fits_many : (nr to : ℕ) (class : Class) → to < nr → fits_record nr (many_record to) to class ≡ true
 fits_many nr to class below = elim (cases_lt to FIRST_TARGETS) [
   | inl low ↦
-      rw (lt-ltb to FIRST_TARGETS low, ne_eqb (to + 2) 0 (λ e. omega arith), ne_eqb (to + 2) 1 (λ e. omega arith), lt-ltb (to + 2) USER (omega arith),
-      eq-eqb (to + 2) (to + 2) refl) refl
+      rw (
+        lt-ltb to FIRST_TARGETS low,
+        ne_eqb (to + 2) 0 (λ e. omega arith),
+        ne_eqb (to + 2) 1 (λ e. omega arith),
+        lt-ltb (to + 2) USER (omega arith),
+        eq-eqb (to + 2) (to + 2) refl,
+      ) refl
   | inr high ↦
-      rw (le-ltb to FIRST_TARGETS high, ne_eqb (to + 4) 0 (λ e. omega arith), ne_eqb (to + 4) 1 (λ e. omega arith), le-ltb (to + 4) USER (omega arith),
-      le-ltb (to + 4) FIRST_OF_ONE (omega arith), eq-eqb (to + 4) (to + 4) refl, lt-ltb to nr below) refl
+      rw (
+        le-ltb to FIRST_TARGETS high,
+        ne_eqb (to + 4) 0 (λ e. omega arith),
+        ne_eqb (to + 4) 1 (λ e. omega arith),
+        le-ltb (to + 4) USER (omega arith),
+        le-ltb (to + 4) FIRST_OF_ONE (omega arith),
+        eq-eqb (to + 4) (to + 4) refl,
+        lt-ltb to nr below,
+      ) refl
 ]
 
 small_many : (to : ℕ) → to < cpus → many_record to < records_of_one

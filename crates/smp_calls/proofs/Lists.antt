@@ -111,7 +111,7 @@ without_one m n c xs ys e gone =
     (filter-append (λ x. not (x == c)) xs (c ∷ ys) ∙
     (ap (λ (zs : List ℕ). zs ++ filter (λ x. not (x == c)) (c ∷ ys)) (filter_without c xs before) ∙
     ap (λ (zs : List ℕ). xs ++ zs)
-        (ap (λ b. cond (not b) (c ∷ filter (λ x. not (x == c)) ys) (filter (λ x. not (x == c)) ys)) (eq-eqb c c refl) ∙ filter_without c ys after))))
+    (ap (λ b. cond (not b) (c ∷ filter (λ x. not (x == c)) ys) (filter (λ x. not (x == c)) ys)) (eq-eqb c c refl) ∙ filter_without c ys after))))
 
 -- a mask's members are those done and those left; it stays so where the next one is done, and where it is taken out
 pub goes_on : (keep : Bool) (xs : List ℕ) (left next cpu m n : ℕ) → xs ++ members left ≡ members m → members left ≡ cpu ∷ members next →
@@ -121,4 +121,4 @@ goes_on true xs left next cpu m n e step kept out =
     append_assoc xs (cpu ∷ []) (members next) ∙ (ap (λ (ys : List ℕ). xs ++ ys) (sym step) ∙ (e ∙ ap members (sym (kept refl))))
 goes_on false xs left next cpu m n e step kept out =
     ap (λ (ys : List ℕ). ys ++ members next) (append-nil xs)
-        ∙ sym (without_one m n cpu xs (members next) (sym e ∙ ap (λ (ys : List ℕ). xs ++ ys) step) (out refl))
+    ∙ sym (without_one m n cpu xs (members next) (sym e ∙ ap (λ (ys : List ℕ). xs ++ ys) step) (out refl))

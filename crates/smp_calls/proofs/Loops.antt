@@ -76,27 +76,27 @@ module _ {H : Type 0} (leads : H → Heard → H → Type 0) where
       Asking leads old before new after says call others next called' owed'
   asking_more {old} {mid} {new} {before} {m} {after}
       {says} call others left next cpu called owed called' owed' asked first a step below here q said kept out owed_kept owed_out = record {
-    queued = a.queued ++ q.0;
-    called_are = ap (λ (xs : List ℕ). xs ++ members next) (destinations-append a.queued q.0 ∙ ap (λ (ys : List ℕ). destinations a.queued ++ ys) q.1)
-        ∙ goes_on asked (destinations a.queued) left next cpu called called' a.called_are step kept out;
-    owed_are = ap (λ (xs : List ℕ). xs ++ members next) (firsts-append a.queued q.0 ∙ ap (λ (ys : List ℕ). firsts a.queued ++ ys) q.2)
-        ∙ goes_on first (firsts a.queued) left next cpu owed owed' a.owed_are step owed_kept owed_out;
-    queues = queues_then leads call a.queued q.0 a.queues q.3;
-    among = λ c h. a.among c (kept_among asked called called' cpu c kept out h);
-    owed_among = λ c h. a.owed_among c (kept_among first owed owed' cpu c owed_kept owed_out h);
-    waiting = λ c l h.
-        let parts = both_true (has left c) (not (c == cpu)) (sym (next_gone left next cpu c step l) ∙ h) in
-        kept_else asked called called' cpu c kept out (not_true (c == cpu) parts.1) ∙ a.waiting c l parts.0;
-    answered = λ c l o n. elim (cases_eq c cpu) [
-      | inl e ↦ subst (λ (x : ℕ). says x (has called' x)) (sym e)
-          (subst (says cpu) (sym (kept_here asked called called' cpu kept out (a.waiting cpu below here))) said)
-      | inr apart ↦
-          let other = ne_eqb c cpu apart in
-          let was : has left c ≡ false = sym (and_true (has left c))
+        queued = a.queued ++ q.0;
+        called_are = ap (λ (xs : List ℕ). xs ++ members next) (destinations-append a.queued q.0 ∙ ap (λ (ys : List ℕ). destinations a.queued ++ ys) q.1)
+            ∙ goes_on asked (destinations a.queued) left next cpu called called' a.called_are step kept out;
+        owed_are = ap (λ (xs : List ℕ). xs ++ members next) (firsts-append a.queued q.0 ∙ ap (λ (ys : List ℕ). firsts a.queued ++ ys) q.2)
+            ∙ goes_on first (firsts a.queued) left next cpu owed owed' a.owed_are step owed_kept owed_out;
+        queues = queues_then leads call a.queued q.0 a.queues q.3;
+        among = λ c h. a.among c (kept_among asked called called' cpu c kept out h);
+        owed_among = λ c h. a.owed_among c (kept_among first owed owed' cpu c owed_kept owed_out h);
+        waiting = λ c l h.
+            let parts = both_true (has left c) (not (c == cpu)) (sym (next_gone left next cpu c step l) ∙ h) in
+            kept_else asked called called' cpu c kept out (not_true (c == cpu) parts.1) ∙ a.waiting c l parts.0;
+        answered = λ c l o n. elim (cases_eq c cpu) [
+          | inl e ↦ subst (λ (x : ℕ). says x (has called' x)) (sym e)
+              (subst (says cpu) (sym (kept_here asked called called' cpu kept out (a.waiting cpu below here))) said)
+          | inr apart ↦
+              let other = ne_eqb c cpu apart in
+              let was : has left c ≡ false = sym (and_true (has left c))
               ∙ (ap (λ b. has left c && not b) (sym other) ∙ (sym (next_gone left next cpu c step l) ∙ n)) in
-          subst (says c) (sym (kept_else asked called called' cpu c kept out other)) (a.answered c l o was)
-    ];
-  }
+              subst (says c) (sym (kept_else asked called called' cpu c kept out other)) (a.answered c l o was)
+        ];
+      }
 
   pub asking_end : {old new : CpuValue} {before after : H} {says : ℕ → Bool → Type 0} (call : ℕ → Call) (others left called owed : ℕ)
       → Asking leads old before new after says call others left called owed → members left ≡ []

@@ -60,7 +60,7 @@ owed_at owes to x = elim (cases_eq to x) [
   | inr n ↦
       let apart = λ (e : x ≡ to). n (sym e) in
       rw (ne_eqb to x n) (get_or-set_other (set owes to true) to x false false apart
-          ∙ (get_or-set_other owes to x true false apart ∙ sym (and_true (get_or owes x false))))
+      ∙ (get_or-set_other owes to x true false apart ∙ sym (and_true (get_or owes x false))))
 ]
 
 -- the CPU after one call was queued and its interrupt sent
@@ -86,7 +86,7 @@ by_case false wait m o e = e refl
 module _ {H : Type 0} (leads : H → Heard → H → Type 0) where
   leaves_sent : (first : Bool) (c : CpuValue) (h : H) (k to : ℕ) (class : Class) (func info : ℕ) → IsSized c → k < records_of_one →
       Leaves leads c h (sent_one k to class func info first c) h (sendings (λ _. call_by c.number k class func info) (one_queued to first)) None
-          (λ x. owes_at c x && not (is_first_to x (one_queued to first))) (λ j. cond (j == k) false (confirmed_at c j))
+      (λ x. owes_at c x && not (is_first_to x (one_queued to first))) (λ j. cond (j == k) false (confirmed_at c j))
   leaves_sent true c h k to class func info s l = record {
     table_is = refl;
     number_is = refl;
@@ -112,12 +112,12 @@ module _ {H : Type 0} (leads : H → Heard → H → Type 0) where
   pub leaves_one : (c d : CpuValue) (h : H) (number k to : ℕ) (class : Class) (func info : ℕ) (first : Bool) → IsSized c → k < records_of_one
       → c.number ≡ number → d ≡ sent_one k to class func info first c →
       Leaves leads c h d h (sendings (λ _. call_by number k class func info) (one_queued to first)) None
-          (λ x. owes_at c x && not (is_first_to x (one_queued to first))) (λ j. cond (j == k) false (confirmed_at c j))
+      (λ x. owes_at c x && not (is_first_to x (one_queued to first))) (λ j. cond (j == k) false (confirmed_at c j))
   leaves_one c d h number k to class func info first s l n e =
       subst (λ (x : CpuValue). Leaves leads c h x h (sendings (λ _. call_by number k class func info) (one_queued to first)) None
-          (λ x. owes_at c x && not (is_first_to x (one_queued to first))) (λ j. cond (j == k) false (confirmed_at c j))) (sym e)
+      (λ x. owes_at c x && not (is_first_to x (one_queued to first))) (λ j. cond (j == k) false (confirmed_at c j))) (sym e)
       (subst (λ (m : ℕ). Leaves leads c h (sent_one k to class func info first c) h (sendings (λ _. call_by m k class func info) (one_queued to first)) None
-          (λ x. owes_at c x && not (is_first_to x (one_queued to first))) (λ j. cond (j == k) false (confirmed_at c j))) n
+      (λ x. owes_at c x && not (is_first_to x (one_queued to first))) (λ j. cond (j == k) false (confirmed_at c j))) n
       (leaves_sent first c h k to class func info s l))
 
   -- the record and the class of a call are those that its waiting asks for
@@ -136,13 +136,13 @@ module _ {H : Type 0} (leads : H → Heard → H → Type 0) where
       Leaves leads old before mid m [] None (owes_at old) was →
       ((j : ℕ) → j < records_of_one → (j == k) ≡ false → was j ≡ confirmed_at old j) →
       Leaves leads mid m new after (sendings (λ _. call_by old.number k class func info) (one_queued to first)) None
-          (λ x. owes_at mid x && not (is_first_to x (one_queued to first))) done →
+      (λ x. owes_at mid x && not (is_first_to x (one_queued to first))) done →
       ((j : ℕ) → j < records_of_one → done j ≡ cond (j == k) wait (confirmed_at mid j)) →
       Calls leads old before new after (λ _. call_by old.number k class func info) (one_queued to first) None wait
   calls_one {old} {mid} k to class func info first wait was done l f kept g ends = leaves_as leads _ _ (leaves_then leads f g)
       (λ x. ap (λ b. b && not (is_first_to x (one_queued to first))) (f.owes_are x))
       (λ j b. ends j b ∙ (by_case (j == k) wait (confirmed_at mid j) (confirmed_at old j) (λ e. f.confirmed_are j b ∙ kept j b e)
-          ∙ ap (λ x. cond x wait (confirmed_at old j)) (sym (or_false (record_of old.number j == record_of old.number k) ∙ same_record old.number j k b l))))
+      ∙ ap (λ x. cond x wait (confirmed_at old j)) (sym (or_false (record_of old.number j == record_of old.number k) ∙ same_record old.number j k b l))))
 
   -- a call to one CPU by a record, not waited for
   pub calls_by : {old mid new : CpuValue} {before m : H} (k to : ℕ) (class : Class) (func info : ℕ) → k < records_of_one → IsSized old →
@@ -151,9 +151,12 @@ module _ {H : Type 0} (leads : H → Heard → H → Type 0) where
       CallsBy leads old before new m k class to func info false
   calls_by {old} {mid} {new} {before} {m} k to class func info l s f q =
       let same = sized_moved old mid f.number_is f.sized s in
-      let g = leaves_one mid new m old.number k to class func info q.0 same l f.number_is q.1 in
-      (one_queued to q.0, refl, calls_one k to class func info q.0 false (λ j. j == k || confirmed_at old j) (λ j. cond (j == k) false (confirmed_at mid j)) l f
-          (λ j b n. ap (λ x. x || confirmed_at old j) n) g (λ j b. refl))
+      let g = leaves_one mid new m old.number k to class func info q.0 same l f.number_is q.1 in (
+        one_queued to q.0,
+        refl,
+        calls_one k to class func info q.0 false (λ j. j == k || confirmed_at old j) (λ j. cond (j == k) false (confirmed_at mid j)) l f
+            (λ j b n. ap (λ x. x || confirmed_at old j) n) g (λ j b. refl),
+      )
 
   -- by the record that its waiting asks for
   pub calls_left : {old mid new : CpuValue} {before m : H} (k to : ℕ) (class : Class) (func info : ℕ) (wait : Bool) → wait ≡ false → k ≡ single_record wait
@@ -176,8 +179,8 @@ module _ {H : Type 0} (leads : H → Heard → H → Type 0) where
       let same = sized_moved old mid f.number_is f.sized s in
       let g = leaves_one mid sent m old.number k to class func info q.0 same l f.number_is q.1 in
       let g' = leaves_as leads (λ x. owes_at mid x && not (is_first_to x (one_queued to q.0))) (λ j. j == k || confirmed_at sent j)
-          (leaves_then leads g h) g.owes_are (λ j b. refl) in
+      (leaves_then leads g h) g.owes_are (λ j b. refl) in
       let made : Calls leads old before new after (λ _. call_by old.number k class func info) (one_queued to q.0) None true =
       calls_one k to class func info q.0 true (λ j. j == k || confirmed_at old j) (λ j. j == k || confirmed_at sent j) l f
-          (λ j b n. ap (λ x. x || confirmed_at old j) n) g' (λ j b. ap (λ x. j == k || x) (g.confirmed_are j b) ∙ or_cond (j == k) (confirmed_at mid j)) in
+      (λ j b n. ap (λ x. x || confirmed_at old j) n) g' (λ j b. ap (λ x. j == k || x) (g.confirmed_are j b) ∙ or_cond (j == k) (confirmed_at mid j)) in
       (one_queued to q.0, refl, said k class func info (one_queued to q.0) wait true w is_k is_class made)

@@ -96,7 +96,7 @@ result_else this called result c here made n =
 pub picks_with : (says : ℕ → Bool → Type 0) (mask online this others called result : ℕ) (here : Bool)
     → ((c : ℕ) → has others c ≡ is_target mask online this false c) → Picks says (has others) called →
     ((c : ℕ) → has result c ≡ (has called c || (here && c == this))) → (here ≡ true → (has mask this ≡ true) × (this < cpus))
-        → (has mask this ≡ true → this < cpus → says this here) →
+    → (has mask this ≡ true → this < cpus → says this here) →
     Picks says (is_target mask online this true) result
 picks_with says mask online this others called result here are picks made member answered =
     let out = not_called mask online this others called are picks.among in
@@ -144,13 +144,13 @@ module _ {H : Type 0} (leads : H → Heard → H → Type 0) where
       let call = many_call old.number class func info in
       let both = leaves_then leads q.queues.leaves (leaves_sends mid new m (members owed) s) in
       let sent = subst (λ (xs : List Sending). Leaves leads old before new m xs None (λ x. owes_at mid x && not (is_in x (members owed))) (confirmed_at mid))
-          (append-nil (sendings call q.queued)) both in (
+      (append-nil (sendings call q.queued)) both in (
         q.queued,
         q.called_are,
         leaves_as leads (λ c. owes_at old c && not (is_first_to c q.queued))
             (λ k. cond (is_used call (record_of old.number k) q.queued) false (confirmed_at old k)) sent
             (λ c. ap (λ (xs : List ℕ). owes_at mid c && not (is_in c xs)) (sym q.owed_are)
-                ∙ owed_by (is_first_to c q.queued) (owes_at mid c) (owes_at old c) (q.queues.kept c))
+            ∙ owed_by (is_first_to c q.queued) (owes_at mid c) (owes_at old c) (q.queues.kept c))
             q.queues.leaves.confirmed_are,
       )
 
@@ -162,8 +162,8 @@ module _ {H : Type 0} (leads : H → Heard → H → Type 0) where
       let call = many_call old.number class func info in
       let both = leaves_later leads f.2 w in
       let sent =
-          subst (λ (xs : List Sending). Leaves leads old before new after xs here (owes_at mid) (λ k. (wait && is_many mid.number k to) || confirmed_at mid k))
-          (append-nil (sendings call f.0)) both in (
+      subst (λ (xs : List Sending). Leaves leads old before new after xs here (owes_at mid) (λ k. (wait && is_many mid.number k to) || confirmed_at mid k))
+      (append-nil (sendings call f.0)) both in (
         f.0,
         f.1,
         leaves_as leads (λ c. owes_at old c && not (is_first_to c f.0)) (λ k. cond (is_used call (record_of old.number k) f.0) wait (confirmed_at old k)) sent
@@ -184,6 +184,9 @@ module _ {H : Type 0} (leads : H → Heard → H → Type 0) where
       let made = many_call old.number class func info in
       let both = leaves_then leads f.2 (leaves_here leads mid m after heard call) in
       let sent = subst (λ (xs : List Sending). Leaves leads old before mid after xs (Some heard) (owes_at mid) (confirmed_at mid))
-          (append-nil (sendings made f.0)) both in
-      (f.0, f.1, leaves_as leads (λ c. owes_at old c && not (is_first_to c f.0))
-          (λ k. cond (is_used made (record_of old.number k) f.0) false (confirmed_at old k)) sent f.2.owes_are f.2.confirmed_are)
+      (append-nil (sendings made f.0)) both in (
+        f.0,
+        f.1,
+        leaves_as leads (λ c. owes_at old c && not (is_first_to c f.0))
+            (λ k. cond (is_used made (record_of old.number k) f.0) false (confirmed_at old k)) sent f.2.owes_are f.2.confirmed_are,
+      )

@@ -53,7 +53,7 @@ owed_after : (owes : List Bool) (cpu c : ℕ) (o i : Bool) → get_or owes c fal
 owed_after owes cpu c o i e = elim (cases_eq c cpu) [
   | inl same ↦
       rw (eq-eqb cpu c (sym same)) (subst (λ (x : ℕ). get_or (set owes cpu false) x false ≡ (o && not (i || true))) (sym same)
-          (set_false owes cpu ∙ all_in o i))
+      (set_false owes cpu ∙ all_in o i))
   | inr apart ↦
       rw (ne_eqb cpu c (λ h. apart (sym h))) (get_or-set_other owes cpu c false false apart ∙ (e ∙ ap (λ b. o && not b) (sym (or_false i))))
 ]
@@ -93,5 +93,5 @@ module _ {H : Type 0} (leads : H → Heard → H → Type 0) where
       ap (λ x. j == k || x) (f.confirmed_are j b) ∙
       (turned (j == k) (is_many old.number j xs) (confirmed_at old j) ∙
       (ap (λ x. (is_many old.number j xs || (x || false)) || confirmed_at old j)
-          (sym (same_record old.number j k b small) ∙ ap (λ (i : ℕ). record_of old.number j == record_of old.number i) is_k) ∙
+      (sym (same_record old.number j k b small) ∙ ap (λ (i : ℕ). record_of old.number j == record_of old.number i) is_k) ∙
       ap (λ x. x || confirmed_at old j) (sym (is_by-append (λ x. record_of old.number (many_record x)) (record_of old.number j) xs (cpu ∷ []))))))

@@ -62,7 +62,7 @@ other_record : (number j k to : ℕ) → j < records_of_one → k < records_of_o
     → (record_of number j == record_of number (many_record to) || false) ≡ false → (j == k) ≡ false
 other_record number j k to b l is_k unused =
     sym (same_record number j k b l)
-        ∙ (ap (λ (i : ℕ). record_of number j == record_of number i) is_k ∙ (sym (or_false (record_of number j == record_of number (many_record to))) ∙ unused))
+    ∙ (ap (λ (i : ℕ). record_of number j == record_of number i) is_k ∙ (sym (or_false (record_of number j == record_of number (many_record to))) ∙ unused))
 
 owed_else : (first : Bool) (owes : List Bool) (to c : ℕ) → is_first_to c (one_queued to first) ≡ false
     → get_or (cond first (set owes to true) owes) c false ≡ get_or owes c false
@@ -116,8 +116,8 @@ module _ {H : Type 0} (leads : H → Heard → H → Type 0) where
   queues_then {old} {mid} {new} {before} {m} {after} call xs ys f g =
       let both = leaves_then leads f.leaves g.leaves in
       let as_one =
-          subst (λ (ss : List Sending). Leaves leads old before new after ss None (owes_at new)
-          (λ k. cond (is_used call (record_of mid.number k) ys) false (confirmed_at mid k))) (sym (sendings-append call xs ys)) both in
+      subst (λ (ss : List Sending). Leaves leads old before new after ss None (owes_at new)
+      (λ k. cond (is_used call (record_of mid.number k) ys) false (confirmed_at mid k))) (sym (sendings-append call xs ys)) both in
       record {
         leaves = leaves_as leads (owes_at new) (λ k. cond (is_used call (record_of old.number k) (xs ++ ys)) false (confirmed_at old k)) as_one (λ c. refl)
             (λ k b.
@@ -125,11 +125,11 @@ module _ {H : Type 0} (leads : H → Heard → H → Type 0) where
             (ap (cond (is_used call (record_of old.number k) ys) false) (f.leaves.confirmed_are k b) ∙
             (cond_both (is_used call (record_of old.number k) xs) (is_used call (record_of old.number k) ys) (confirmed_at old k) ∙
             ap (λ x. cond x false (confirmed_at old k))
-                (sym (ap (is_by (λ to. (call to).id) (record_of old.number k)) (destinations-append xs ys)
-                ∙ is_by-append (λ to. (call to).id) (record_of old.number k) (destinations xs) (destinations ys))))));
+            (sym (ap (is_by (λ to. (call to).id) (record_of old.number k)) (destinations-append xs ys)
+            ∙ is_by-append (λ to. (call to).id) (record_of old.number k) (destinations xs) (destinations ys))))));
         kept = λ c e.
             let parts = or_parts (is_first_to c xs) (is_first_to c ys) (sym (ap (is_in c) (firsts-append xs ys) ∙ is_in-append c (firsts xs) (firsts ys)) ∙ e)
-                in
+            in
             g.kept c parts.1 ∙ f.kept c parts.0;
         due = λ c e l. elim (cases_Bool (is_first_to c ys)) [
           | inl last ↦ g.due c last (subst (λ (n : ℕ). c < n) (sym f.leaves.owes_sized) l)
@@ -144,15 +144,15 @@ module _ {H : Type 0} (leads : H → Heard → H → Type 0) where
       → k < records_of_one → IsSized old →
       Leaves leads old before mid m [] None (owes_at old) (λ j. j == k || confirmed_at old j) → new ≡ posts k to class func info first mid →
       (queued : List Queued) × (destinations queued ≡ only_if asked to) × (firsts queued ≡ only_if first to)
-          × Queues leads old before new m (many_call old.number class func info) queued
+      × Queues leads old before new m (many_call old.number class func info) queued
   queues_one {old} {mid} {new} {before} {m} k to class func info asked first is_asked is_k l s f e =
       let same = sized_moved old mid f.number_is f.sized s in
       let small : many_record to < records_of_one = subst (λ (j : ℕ). j < records_of_one) is_k l in
       let posted : Queues leads mid m new m (many_call old.number class func info) (one_queued to first) =
       subst (λ (x : CpuValue). Queues leads mid m x m (many_call old.number class func info) (one_queued to first))
-          (sym (e ∙ ap (λ (j : ℕ). posts j to class func info first mid) is_k))
+      (sym (e ∙ ap (λ (j : ℕ). posts j to class func info first mid) is_k))
       (subst (λ (n : ℕ). Queues leads mid m (posts (many_record to) to class func info first mid) m (many_call n class func info) (one_queued to first))
-          f.number_is
+      f.number_is
       (queues_post mid m to class func info first same small)) in
       let call = many_call old.number class func info in
       let both = leaves_then leads f posted.leaves in (
@@ -164,7 +164,7 @@ module _ {H : Type 0} (leads : H → Heard → H → Type 0) where
               (λ c. refl) (λ j b.
               ap (λ (n : ℕ). cond (is_used call (record_of n j) (one_queued to first)) false (confirmed_at mid j)) f.number_is ∙
               by_case (is_used call (record_of old.number j) (one_queued to first)) false (confirmed_at mid j) (confirmed_at old j)
-                  (λ unused. f.confirmed_are j b ∙ ap (λ x. x || confirmed_at old j) (other_record old.number j k to b l is_k unused)));
+              (λ unused. f.confirmed_are j b ∙ ap (λ x. x || confirmed_at old j) (other_record old.number j k to b l is_k unused)));
           kept = λ c none. posted.kept c none ∙ f.owes_are c;
           due = λ c it below. posted.due c it (subst (λ (n : ℕ). c < n) (sym f.owes_sized) below);
         },

@@ -50,7 +50,7 @@ module _ {H : Type 0} (leads : H → Heard → H → Type 0) where
       → Handles leads old before new after
   handles_then old mid new before m after f l =
       let split : orders (batches (f.turns ++ l.turns)) ≡ orders (batches f.turns) ++ orders (batches l.turns) =
-          ap orders (batches-append f.turns l.turns) ∙ orders-append (batches f.turns) (batches l.turns) in
+      ap orders (batches-append f.turns l.turns) ∙ orders-append (batches f.turns) (batches l.turns) in
       record {
         turns = f.turns ++ l.turns;
         asked_is = grown old.part.asked mid.part.asked new.part.asked (looks f.turns) (looks l.turns) f.asked_is l.asked_is

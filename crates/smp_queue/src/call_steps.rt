@@ -14,9 +14,9 @@ ghost use Rattle.smp_queue.specs.Plays.{stored};
 ghost use Rattle.smp_queue.specs.Handling.{heard_of};
 
 use crate::cell::cell;
-use crate::seat::CpuSeat;
 use crate::handler::Handler;
 use crate::rule::Words;
+use crate::seat::CpuSeat;
 use crate::seat_view::SeatView;
 use atomic_table::Play;
 use smp_call_steps::handle::Walk;

@@ -5,8 +5,8 @@ ghost use Rattle.smp_queue.specs.Cells.{HasCell, cells, number_in};
 ghost use Rattle.smp_queue.specs.Audit.{Closes};
 
 use crate::cell::cell;
-use crate::seat::{CpuSeat, leave};
 use crate::rule::Owner;
+use crate::seat::{CpuSeat, leave};
 use atomic_table::Closed;
 use smp_words::Word;
 use std::alloc::Allocator;

@@ -17,11 +17,11 @@ ghost use Rattle.smp_queue.specs.Seat.{InHandle, IsOutside};
 ghost use Rattle.smp_queue.specs.Cpu.{cpu_of};
 ghost use Rattle.smp_queue.specs.Handling.{AreRan, Grows, asks, drains};
 
-use crate::seat::{CpuSeat, store, swap};
 use crate::handler::Handler;
 use crate::reverse::reverse;
 use crate::rule::Words;
 use crate::run::{run_async_calls, run_sync_calls};
+use crate::seat::{CpuSeat, store, swap};
 use smp_call_steps::drain::record_of;
 use smp_words::Word;
 

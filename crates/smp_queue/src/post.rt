@@ -11,8 +11,8 @@ ghost use Rattle.smp_call_steps.specs.declared.post.PostStage.TheVariants as pos
 ghost use Rattle.smp_call_steps.specs.declared.stage.Stage.TheVariants.{Post};
 ghost use Rattle.smp_queue.specs.Seat.{OwnsRecord, IsMine, IsCounting, IsTallied, uncounted, counted};
 
-use crate::seat::{CpuSeat, exchange, load, store};
 use crate::rule::Words;
+use crate::seat::{CpuSeat, exchange, load, store};
 use crossbeam_utils::Backoff;
 use smp_call_steps::post::Posting;
 use smp_words::Word;

@@ -8,8 +8,8 @@ ghost use Rattle.smp_call_steps.specs.declared.handle.HandleStage.TheVariants as
 ghost use Rattle.smp_call_steps.specs.declared.stage.Stage.TheVariants.{Handle};
 ghost use Rattle.smp_queue.specs.Seat.{InHandle};
 
-use crate::seat::{CpuSeat, load, store};
 use crate::rule::Words;
+use crate::seat::{CpuSeat, load, store};
 use smp_call_steps::drain::record_of;
 use smp_call_steps::handle::link_of;
 use smp_words::Word;

@@ -10,7 +10,7 @@ ghost use Rattle.smp_queue.specs.Seat.{SeatValue, Loads, Ready};
 ghost use Rattle.smp_queue.specs.Plays.{loaded, stored, exchanged, swapped};
 
 use crate::cell::cell;
-use crate::rule::{RawSeat, NextSeat, Words};
+use crate::rule::{NextSeat, RawSeat, Words};
 use crate::seat_view::SeatView;
 use atomic_table::Play;
 use smp_words::Word;

@@ -31,13 +31,13 @@ ghost use Rattle.smp_queue.specs.Audit.{Audited, IfDrained, AreEqual, HasRowsOf,
 use crate::audit::{Audit, answer};
 use crate::boot::Boot;
 use crate::cell::CELLS;
-use crate::seat::{next_seat, store};
 use crate::closing::Closing;
 use crate::cpu::CallCpu;
 use crate::handle::{Handled, handle};
 use crate::handler::Handler;
 use crate::post::{append, append_until_won, is_locked, write_record};
 use crate::rule::{Owner, RawSeat};
+use crate::seat::{next_seat, store};
 use atomic_table::Table;
 use smp_call_steps::post::Posting;
 use smp_call_steps::start::{has_record, refusal};

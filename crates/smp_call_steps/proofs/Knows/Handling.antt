@@ -70,7 +70,7 @@ module _ {v : Known} (l : Lives v) where
     stands_there : (v.number < cpus) × HandleStands (nexts_in l.at) (share_in v.part) v.drain h
     stands_there =
         let k : StandsAt l.calls.place l.at (share_of l.calls v.number) (l.controls v.number).drain v.number (Some (Handle h)) =
-            rw at_stage at (l.shown.stands v.number) in
+        rw at_stage at (l.shown.stands v.number) in
         subst (λ (d : DrainValue). (v.number < cpus) × HandleStands (nexts_in l.at) (share_in v.part) d h) l.sees.drain
         (subst (λ (s : Share). (v.number < cpus) × HandleStands (nexts_in l.at) s (l.controls v.number).drain h) same_share k)
 
@@ -97,7 +97,7 @@ module _ {v : Known} (l : Lives v) where
     pub lives_fits : FitsStage v.drain (Handle h) (l.at (word_of (known_access v (Handle h))))
     lives_fits = subst (λ (d : DrainValue). FitsStage d (Handle h) (l.at (word_of (known_access v (Handle h))))) l.sees.drain
         (subst (λ (x : Access). FitsStage (l.controls v.number).drain (Handle h) (l.at (word_of x))) same_access
-            (found_fits l.calls l.at l.controls v.number l.shown (Handle h) at_stage))
+        (found_fits l.calls l.at l.controls v.number l.shown (Handle h) at_stage))
 
     batched : AllPlaced l.calls.place (place.Batch v.number) (share_in v.part).batch
     batched = subst (λ (s : Share). AllPlaced l.calls.place (place.Batch v.number) s.batch) same_share (l.shown.placed.batched v.number)
@@ -126,7 +126,7 @@ module _ {v : Known} (l : Lives v) where
   pub lives_front : (call : Call) (rest : List Call) → v.part.batch ≡ call ∷ rest → call.id < records
   lives_front call rest e =
       let all : AllPlaced l.calls.place (place.Batch v.number) (call ∷ rest) =
-          subst (λ (calls : List Call). AllPlaced l.calls.place (place.Batch v.number) calls) e
+      subst (λ (calls : List Call). AllPlaced l.calls.place (place.Batch v.number) calls) e
       (subst (λ (s : Share). AllPlaced l.calls.place (place.Batch v.number) s.batch) same_share (l.shown.placed.batched v.number)) in
       all.0.is_call.in_range
 
@@ -141,11 +141,17 @@ module _ {v : Known} (l : Lives v) where
 -- what a CPU that stands here knows after a step
 pub told_at : (queue : List Call) (v : Known) (s : Option Stage) (act : Act) (w : Word) (found put : Option ℕ) → v.stage ≡ s →
     known_taking queue v act w found put
-        ≡ record v { stage = stage_after s v.drain act w found put; drain = drain_then s v.drain found;
-        part = part_after queue (held_of s) act w found put v.part }
+    ≡ record v {
+      stage = stage_after s v.drain act w found put;
+      drain = drain_then s v.drain found;
+      part = part_after queue (held_of s) act w found put v.part;
+    }
 told_at queue v s act w found put e =
-    λ i. record v { stage = stage_after (e i) v.drain act w found put; drain = drain_then (e i) v.drain found;
-    part = part_after queue (held_of (e i)) act w found put v.part }
+    λ i. record v {
+      stage = stage_after (e i) v.drain act w found put;
+      drain = drain_then (e i) v.drain found;
+      part = part_after queue (held_of (e i)) act w found put v.part;
+    }
 
 pub entered_is : (v : Known) (cpu : ℕ) → v.stage ≡ None → known_told v act.Store (Hand cpu) None (Some 1) ≡ handling handle.Accept v.drain v
 entered_is v cpu e = told_at [] v None act.Store (Hand cpu) None (Some 1) e
@@ -156,7 +162,7 @@ accepted_is queue v cpu n e one = told_at queue v (Some (Handle handle.Accept)) 
   where
     by_test : (b c : Bool) → c ≡ cond b false true →
         record v { stage = (cond {A = Outcome} b (handle_goes handle.LeaveIdle) (handle_goes handle.Take)).next; part = part_accepted c v.part }
-            ≡ accepted_known (cond b false true) v
+        ≡ accepted_known (cond b false true) v
     by_test true c f = λ i. record v { stage = Some (Handle handle.LeaveIdle); part = part_accepted (f i) v.part }
     by_test false c f = λ i. record v { stage = Some (Handle handle.Take); part = part_accepted (f i) v.part }
 
@@ -189,7 +195,7 @@ flags_found_is v h id n e odd = told_at [] v (Some (Handle h)) act.Load (Flags i
   where
     by_test : (b : Bool) → b ≡ true →
         record v { stage = (handle_outcome v.drain h n).next; drain = drain_after v.drain h n; part = cond b v.part (part_confirmed id v.part) }
-            ≡ goes_known h n v
+        ≡ goes_known h n v
     by_test b f =
         λ i. record v { stage = (handle_outcome v.drain h n).next; drain = drain_after v.drain h n; part = cond (f i) v.part (part_confirmed id v.part) }
 
@@ -200,10 +206,14 @@ pub begun_sync_is : (v : Known) (cpu : ℕ) (walk : Walk) (call : Call) (next : 
     known_told v act.Store (Hand cpu) None (Some (call.id + 2)) ≡ begun_sync walk call next v
 begun_sync_is v cpu walk call next rest e b =
     told_at [] v (Some (Handle (handle.BeginSync walk call next))) act.Store (Hand cpu) None (Some (call.id + 2)) e
-    ∙ ((λ i. record v { stage = Some (Handle (handle.CountSync walk call next));
-        part = cond (lt-ltb 1 (call.id + 2) (omega arith) i) (part_begun SyncCall (b i) v.part) v.part })
-    ∙ (λ i. record v { stage = Some (Handle (handle.CountSync walk call next));
-        part = record (v.part) { batch = rest_of (sym b i); running = SyncCall call } }))
+    ∙ ((λ i. record v {
+      stage = Some (Handle (handle.CountSync walk call next));
+      part = cond (lt-ltb 1 (call.id + 2) (omega arith) i) (part_begun SyncCall (b i) v.part) v.part;
+    })
+    ∙ (λ i. record v {
+      stage = Some (Handle (handle.CountSync walk call next));
+      part = record (v.part) { batch = rest_of (sym b i); running = SyncCall call };
+    }))
 
 pub counted_sync_is : (v : Known) (cpu source n : ℕ) (walk : Walk) (call : Call) (next : Option ℕ) → v.stage ≡ Some (Handle (handle.CountSync walk call next))
     → v.part.running ≡ SyncCall call →

@@ -47,7 +47,7 @@ lock_follow Async p at me d = refl
 
 exchange_follow : (p : Posting) (link tries n : ℕ) (b c : Bool) (won : Note) (me : ℕ) (d : DrainValue) (found : ℕ) →
     told_stage (cond b (ends won) (cond c (goes_to p (post.StoreNext found (tries - 1))) (goes_to p post.Uncount))).next
-        ≡ stage_after (told_post p (post.Exchange link tries)) d act.Cas (Head p.to) (Some found) (cond b (Some n) None)
+    ≡ stage_after (told_post p (post.Exchange link tries)) d act.Cas (Head p.to) (Some found) (cond b (Some n) None)
 exchange_follow p link tries n true c won me d found = refl
 exchange_follow p link tries n false true won me d found = refl
 exchange_follow p link tries n false false won me d found = refl
@@ -167,4 +167,4 @@ module _ {a : CallState} {at : Word → ℕ} {control : ℕ → ControlValue} {v
       → GoesOn a control me (at_after at access) (known_tells (a.queue me) v (seen_of me access (at (word_of access)) None))
   known_step access is =
       subst (λ (x : Access). GoesOn a control me (at_after at x) (known_tells (a.queue me) v (seen_of me x (at (word_of x)) None)))
-          (access_known s sees st aims ∙ is) one_step
+      (access_known s sees st aims ∙ is) one_step

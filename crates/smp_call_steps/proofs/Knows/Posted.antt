@@ -27,7 +27,7 @@ pub loaded_known : (v : Known) (id found : ℕ) → v.stage ≡ None
 loaded_known v id found e =
     let o : v ≡ outside_known v = outside_as v e in
     ap (λ (u : Known). known_told u act.Load (Flags id) (Some found) None) o
-        ∙ (load_outside v id found (found % 2 == 1) refl ∙ ap (λ (u : Known). cond (found % 2 == 1) u (confirmed_known id u)) (sym o))
+    ∙ (load_outside v id found (found % 2 == 1) refl ∙ ap (λ (u : Known). cond (found % 2 == 1) u (confirmed_known id u)) (sym o))
 
 lock_outside : (v : Known) (id : ℕ) (c : Class) → known_told (outside_known v) act.Store (Flags id) None (Some (flags_of c))
     ≡ standing (posting_of id c 0 0 0) post.StoreFunc v
@@ -38,7 +38,7 @@ pub locked_known : (v v' : Known) (id flags : ℕ) (c : Class) → v.stage ≡ N
     → v' ≡ standing (posting_of id c 0 0 0) post.StoreFunc v
 locked_known v v' id flags c o e f =
     e ∙ (ap (λ (n : ℕ). known_told v act.Store (Flags id) None (Some n)) f
-        ∙ (ap (λ (u : Known). known_told u act.Store (Flags id) None (Some (flags_of c))) (outside_as v o) ∙ lock_outside v id c))
+    ∙ (ap (λ (u : Known). known_told u act.Store (Flags id) None (Some (flags_of c))) (outside_as v o) ∙ lock_outside v id c))
 
 pub func_known : (v v' w : Known) (id n : ℕ) (p : Posting) → v' ≡ known_told w act.Store (Func id) None (Some n) → w ≡ standing p post.StoreFunc v
     → v' ≡ standing (record p { func = n }) post.StoreInfo v
@@ -93,4 +93,4 @@ pub uncount_access : (v : Known) (p : Posting) (me count : ℕ) → v.number ≡
 uncount_access v p me count n e =
     let one : one_held (held_of_post p post.Uncount) p.to ≡ 1 = rw (eq-eqb p.to p.to refl) refl in
     (λ i. Store (Queued (n i) p.to) (((length (sent_to p.to v.part.sent) + one i) % 2 ^ 64 + (2 ^ 64 - 1)) % 2 ^ 64))
-        ∙ ap (Store (Queued me p.to)) (uncounted (length (sent_to p.to v.part.sent)) count e)
+    ∙ ap (Store (Queued me p.to)) (uncounted (length (sent_to p.to v.part.sent)) count e)

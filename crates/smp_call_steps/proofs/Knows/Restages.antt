@@ -127,7 +127,7 @@ module _ {a : CallState} {at : Word → ℕ} {control : ℕ → ControlValue} {v
       let none : a.held me ≡ None = known_held ∙ ap held_of out in
       let seen : get_or (row records (a.confirmed me)) id false ≡ true = ap (λ (p : Part). get_or p.confirmed id false) sees.part ∙ conf in
       elim (s.placed.settled me id own (sym (row-at records id (a.confirmed me) false small) ∙ seen))
-          [ inl free ↦ free | inr hold ↦ absurd (let h : Holds None id = rw none at hold in h) ]
+      [ inl free ↦ free | inr hold ↦ absurd (let h : Holds None id = rw none at hold in h) ]
 
   pub aims_told : (st : Stage) → MayStep v st → told_stage (Some st) ≡ v.stage
   aims_told (Post p st) aims = aims.told

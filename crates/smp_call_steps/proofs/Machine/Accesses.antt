@@ -98,4 +98,4 @@ pub access_in_table : (a : CallState) (at : Word → ℕ) (control : ℕ → Con
 access_in_table a at control me s stage e =
     let stands : StandsAt a.place at (share_of a me) (control me).drain me (Some stage) = rw e at (s.stands me) in
     in_table (word_of (access_of at me stage))
-        (stage_in_table a.place at me (share_of a me) (control me).drain (s.placed.batched me) (s.placed.runs me) stage stands)
+    (stage_in_table a.place at me (share_of a me) (control me).drain (s.placed.batched me) (s.placed.runs me) stage stands)

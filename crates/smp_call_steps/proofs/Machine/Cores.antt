@@ -67,14 +67,14 @@ core_shown : (a : CallState) (words : List ℕ) (controls : List ControlValue) (
     let access = access_of (number_in words) me stage in
     let found = number_in words (word_of access) in
     ValuesShow (tells a (seen_of me access found (outcome_of (control_of controls me).drain stage found).note)) (words_after words access)
-        (slice_set controls me (control_after (control_of controls me) stage found))
+    (slice_set controls me (control_after (control_of controls me) stage found))
 core_shown a words controls me stage l m s e =
     let at = number_in words in
     let in_table = access_in_table a at (control_of controls) me s stage e in
     let access = access_of at me stage in
     let after = control_after (control_of controls me) stage (at (word_of access)) in
     rw (words_by_name words access l in_table, controls_by_cpu controls me after m (inside_below controls me stage m e))
-        (step_shown a at (control_of controls) me s stage e)
+    (step_shown a at (control_of controls) me s stage e)
 
 -- what the code makes of each part of a step
 pub record Made (words : List ℕ) (controls : List ControlValue) (me : ℕ) (stage : Stage) (access : Access) (found : ℕ) (seen : Seen) (words' : List ℕ)

@@ -68,8 +68,8 @@ names_record nr online cpu (command.Post k to class func info tries) e =
     let one = not (nat_lt k records_of_one) in
     let bad = ((one || tries == 0) || to == cpu) || not (fits_record nr k to class) in
     let ok =
-        or_false one (tries == 0) (or_false (one || tries == 0) (to == cpu)
-        (or_false ((one || tries == 0) || to == cpu) (not (fits_record nr k to class)) (then_none bad _ e))) in
+    or_false one (tries == 0) (or_false (one || tries == 0) (to == cpu)
+    (or_false ((one || tries == 0) || to == cpu) (not (fits_record nr k to class)) (then_none bad _ e))) in
     ltb-true k records_of_one (not_false (nat_lt k records_of_one) ok)
 names_record nr online cpu (command.Done k) e = record_below nr k (else_none (has_record nr k) None _ e).0
 names_record nr online cpu (command.Send to) e = tt
@@ -83,8 +83,8 @@ begins nr online places at s d cpu (command.Post k to class func info tries) lim
     let one = not (nat_lt k records_of_one) in
     let bad = ((one || tries == 0) || to == cpu) || not (fits_record nr k to class) in
     let ok =
-        or_false one (tries == 0) (or_false (one || tries == 0) (to == cpu)
-        (or_false ((one || tries == 0) || to == cpu) (not (fits_record nr k to class)) (then_none bad _ e))) in
+    or_false one (tries == 0) (or_false (one || tries == 0) (to == cpu)
+    (or_false ((one || tries == 0) || to == cpu) (not (fits_record nr k to class)) (then_none bad _ e))) in
     let small = ltb-true k records_of_one (not_false (nat_lt k records_of_one) ok) in (
       h,
       record {

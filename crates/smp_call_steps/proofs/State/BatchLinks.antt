@@ -142,7 +142,7 @@ module _ (nexts : ℕ → ℕ) (s : Share) where
       → BatchLinks nexts s.last s.batch (Some (Handle (handle.ReverseLoad newer id)))
   reversing_links d newer id call h e =
       let in_chain = every (λ c. HasRecord c.id (order s.last)) (λ c. is_linked (order s.last) None c ≡ true)
-          (λ c k. is_linked-left (order s.last) None c k refl) s.last (all_linked s.last None) in
+      (λ c k. is_linked-left (order s.last) None c k refl) s.last (all_linked s.last None) in
       record {
         begun = [];
         older = h.older ++ call ∷ [];
@@ -169,10 +169,10 @@ module _ (nexts : ℕ → ℕ) (s : Share) where
       let p : Call → Bool = is_linked (order s.last) (Some id) in
       let olds : filter p h.older ≡ h.older = kept_all p h.older
       (every_both (λ c. HasRecord c.id (order s.last)) (λ c. c.id ≢ call.id) (λ c. p c ≡ true) stays h.older
-          (every_left (λ c. HasRecord c.id (order s.last)) h.older (call ∷ h.newer) have) (absent_before h.older call h.newer apart)) in
+      (every_left (λ c. HasRecord c.id (order s.last)) h.older (call ∷ h.newer) have) (absent_before h.older call h.newer apart)) in
       let news : filter p h.newer ≡ h.newer = kept_all p h.newer
       (every_both (λ c. HasRecord c.id (order s.last)) (λ c. c.id ≢ call.id) (λ c. p c ≡ true) stays h.newer right.1 (absent_after h.older call h.newer apart))
-          in
+      in
       let hand : filter p (call ∷ []) ≡ [] = kept_none p (call ∷ []) (is_linked-hand (order s.last) (Some id) call (eq-eqb id call.id (sym e)), tt) in
       record {
         begun = [];
@@ -182,8 +182,8 @@ module _ (nexts : ℕ → ℕ) (s : Share) where
         begun_at = refl;
         linked = subst (λ (xs : List Call). filter (is_linked xs (Some id)) s.last ≡ h.older ++ h.newer) (sym h.batch)
             (ap (filter p) h.whole ∙ (filter-append p h.older (call ∷ h.newer)
-                ∙ ((λ i. olds i ++ filter p (call ∷ h.newer))
-                ∙ ap (λ (xs : List Call). h.older ++ xs) (filter-append p (call ∷ []) h.newer ∙ (λ i. hand i ++ news i)))));
+            ∙ ((λ i. olds i ++ filter p (call ∷ h.newer))
+            ∙ ap (λ (xs : List Call). h.older ++ xs) (filter-append p (call ∷ []) h.newer ∙ (λ i. hand i ++ news i)))));
         leads_down = h.leads_down;
         leads_up = h.leads_up;
         loaded = loaded;
@@ -193,9 +193,9 @@ module _ (nexts : ℕ → ℕ) (s : Share) where
     walked_order : order s.last ≡ w.begun ++ (front ++ (sync_calls rest ++ async_calls s.last))
     walked_order =
         let syncs : sync_calls s.last ≡ (w.begun ++ front) ++ sync_calls rest =
-            ap sync_calls w.whole ∙ (sync_calls-append w.passed rest ∙ ap (λ (xs : List Call). xs ++ sync_calls rest) w.begun_are) in
+        ap sync_calls w.whole ∙ (sync_calls-append w.passed rest ∙ ap (λ (xs : List Call). xs ++ sync_calls rest) w.begun_are) in
         ap (λ (xs : List Call). xs ++ async_calls s.last) syncs
-            ∙ (append_assoc (w.begun ++ front) (sync_calls rest) (async_calls s.last) ∙ append_assoc w.begun front (sync_calls rest ++ async_calls s.last))
+        ∙ (append_assoc (w.begun ++ front) (sync_calls rest) (async_calls s.last) ∙ append_assoc w.begun front (sync_calls rest ++ async_calls s.last))
 
     walked_kept : (hand : Option ℕ) → IsBetween hand front
         → filter (is_linked (front ++ (sync_calls rest ++ async_calls s.last)) hand) s.last ≡ async_calls w.passed ++ rest
@@ -203,17 +203,17 @@ module _ (nexts : ℕ → ℕ) (s : Share) where
         let tail : List Call = sync_calls rest ++ async_calls s.last in
         let p : Call → Bool = is_linked (front ++ tail) hand in
         let gone = every_append (λ c. p c ≡ false) w.begun front (begun_out s.last w.begun front tail hand walked_order w.apart between)
-            (front_out s.last w.begun front tail hand walked_order w.apart between) in
+        (front_out s.last w.begun front tail hand walked_order w.apart between) in
         let syncs : AllByRecursion (λ c. p c ≡ false) (sync_calls w.passed) = subst (AllByRecursion (λ c. p c ≡ false)) (sym w.begun_are) gone in
         let stay : AllByRecursion (λ c. p c ≡ true) tail = tail_in s.last w.begun front tail hand walked_order w.apart between in
         let asyncs : AllByRecursion (λ c. p c ≡ true) (async_calls w.passed ++ async_calls rest) =
         subst (AllByRecursion (λ c. p c ≡ true)) (ap async_calls w.whole ∙ async_calls-append w.passed rest)
-            (every_right (λ c. p c ≡ true) (sync_calls rest) (async_calls s.last) stay) in
+        (every_right (λ c. p c ≡ true) (sync_calls rest) (async_calls s.last) stay) in
         let ahead : AllByRecursion (λ c. p c ≡ true) rest =
-            every_class (λ c. p c ≡ true) rest (every_left (λ c. p c ≡ true) (sync_calls rest) (async_calls s.last) stay)
-            (every_right (λ c. p c ≡ true) (async_calls w.passed) (async_calls rest) asyncs) in
+        every_class (λ c. p c ≡ true) rest (every_left (λ c. p c ≡ true) (sync_calls rest) (async_calls s.last) stay)
+        (every_right (λ c. p c ≡ true) (async_calls w.passed) (async_calls rest) asyncs) in
         let behind : filter p w.passed ≡ async_calls w.passed = kept_async p w.passed syncs
-            ∙ kept_all p (async_calls w.passed) (every_left (λ c. p c ≡ true) (async_calls w.passed) (async_calls rest) asyncs) in
+        ∙ kept_all p (async_calls w.passed) (every_left (λ c. p c ≡ true) (async_calls w.passed) (async_calls rest) asyncs) in
         ap (filter p) w.whole ∙ (filter-append p w.passed rest ∙ (λ i. behind i ++ kept_all p rest ahead i))
 
     walked_links : (stage : Option Stage) → down_link stage ≡ 0 → up_link stage ≡ link_to walk.first → IsBetween (between_of stage) front
@@ -244,8 +244,8 @@ module _ (nexts : ℕ → ℕ) (s : Share) where
         let fronts : filter p front ≡ [] = kept_none p front (front_out s.last (sync_calls s.last ++ w.begun) front rest hand ended_order w.apart between) in
         let rests : filter p rest ≡ rest = kept_all p rest (tail_in s.last (sync_calls s.last ++ w.begun) front rest hand ended_order w.apart between) in
         kept_async p s.last syncs ∙ (ap (filter p) w.whole
-            ∙ (filter-append p w.begun (front ++ rest)
-            ∙ ((λ i. begun i ++ filter p (front ++ rest)) ∙ (filter-append p front rest ∙ (λ i. fronts i ++ rests i)))))
+        ∙ (filter-append p w.begun (front ++ rest)
+        ∙ ((λ i. begun i ++ filter p (front ++ rest)) ∙ (filter-append p front rest ∙ (λ i. fronts i ++ rests i)))))
 
     ended_links : (stage : Option Stage) → down_link stage ≡ 0 → up_link stage ≡ here → IsBetween (between_of stage) front
         → BegunAt stage (sync_calls s.last ++ w.begun) → LoadedAt nexts stage → BatchLinks nexts s.last s.batch stage

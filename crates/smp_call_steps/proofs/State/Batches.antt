@@ -73,7 +73,7 @@ apart_classes : (calls : List Call) → IsApart calls → AllByRecursion (λ x. 
 apart_classes [] a = tt
 apart_classes (call ∷ rest) a =
     apart_classes_one call.class call (sync_calls rest) (async_calls rest) (every_sync (λ c. c.id ≢ call.id) rest a.0)
-        (every_async (λ c. c.id ≢ call.id) rest a.0) (apart_classes rest a.1)
+    (every_async (λ c. c.id ≢ call.id) rest a.0) (apart_classes rest a.1)
 
 -- the drain order has no record twice
 pub apart_order : (calls : List Call) → IsApart calls → IsApart (order calls)

@@ -96,7 +96,7 @@ passes nexts first (suc id) passed rounds ne f =
     let link : suc id ≡ m.newest.id + 1 = m.link_is in
     passes_call nexts first id passed rounds m.newest m.older (omega arith) m.leads
     (subst (λ (ys : List Call). AllByRecursion (λ call. call.id < records) ys) m.parts f.records_are)
-        (subst (λ (ys : List Call). length ys + rounds ≤ records) m.parts f.short) f.counted f.whole
+    (subst (λ (ys : List Call). length ys + rounds ≤ records) m.parts f.short) f.counted f.whole
 
 -- at the end of a chain all of it was passed
 pub ended : (nexts : ℕ → ℕ) (first : ℕ) (passed : List ℕ) (rounds n : ℕ) → n + rounds ≡ records → Follows nexts first 0 passed rounds
@@ -137,11 +137,11 @@ sought_here nexts first link id rounds here ne e this s =
     let f = p.on here e in
     let short = f.short in
     let whole : chain_in nexts (records - (rounds + 1)) (nexts here) ++ here ∷ s.passed ≡ chain_in nexts records first =
-        f.whole (records - (rounds + 1)) (omega arith) in
+    f.whole (records - (rounds + 1)) (omega arith) in
     let found : list_any (λ r. r == id) (here ∷ s.passed) ≡ true = rw this refl in
     ap (list_any (λ r. r == id)) (sym whole)
-        ∙ (list_any-append (λ r. r == id) (chain_in nexts (records - (rounds + 1)) (nexts here)) (here ∷ s.passed)
-        ∙ (rw found (or-true (list_any (λ r. r == id) (chain_in nexts (records - (rounds + 1)) (nexts here))))))
+    ∙ (list_any-append (λ r. r == id) (chain_in nexts (records - (rounds + 1)) (nexts here)) (here ∷ s.passed)
+    ∙ (rw found (or-true (list_any (λ r. r == id) (chain_in nexts (records - (rounds + 1)) (nexts here))))))
 
 -- at the end of the chain it is not
 pub not_sought : (nexts : ℕ → ℕ) (first id rounds : ℕ) → Seeks nexts first 0 id rounds → list_any (λ r. r == id) (chain_in nexts records first) ≡ false

@@ -30,9 +30,9 @@ by-parts id (call ∷ rest) =
     let one = by-class id call.class call in
     let r = by-parts id rest in
     let a : calls_by id (sync_calls (call ∷ rest)) ≡ calls_by id (if_sync call.class call) + calls_by id (sync_calls rest) =
-        by-append id (if_sync call.class call) (sync_calls rest) in
+    by-append id (if_sync call.class call) (sync_calls rest) in
     let b : calls_by id (async_calls (call ∷ rest)) ≡ calls_by id (if_async call.class call) + calls_by id (async_calls rest) =
-        by-append id (if_async call.class call) (async_calls rest) in
+    by-append id (if_async call.class call) (async_calls rest) in
     let w : calls_by id (call ∷ rest) ≡ calls_by id (call ∷ []) + calls_by id rest = by-append id (call ∷ []) rest in
     omega arith
 
@@ -104,7 +104,7 @@ module _ {a : CallState} {at : Word → ℕ} {control : ℕ → ControlValue} (s
       let r = none_by a.place (place.Running cpu) id (locked_by (a.running cpu)) (out.running cpu) (s.placed.runs cpu) in
       let runs = by-running id (a.running cpu) in
       let all : calls_by id (a.ran cpu ++ (running_call (a.running cpu) ++ a.batch cpu)) ≡ calls_by id (orders (a.taken cpu)) =
-          ap (calls_by id) (s.recorded.drained cpu) in
+      ap (calls_by id) (s.recorded.drained cpu) in
       let same = by-orders id (a.taken cpu) in
       let left = by-append id (a.ran cpu) (running_call (a.running cpu) ++ a.batch cpu) in
       let right = by-append id (running_call (a.running cpu)) (a.batch cpu) in

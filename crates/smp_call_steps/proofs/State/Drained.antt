@@ -76,7 +76,7 @@ parts_from source (call ∷ rest) =
     let a = calls_from-append source (if_sync call.class call) (sync_calls rest) in
     let b = calls_from-append source (if_async call.class call) (async_calls rest) in
     let w : length (calls_from source (call ∷ rest)) ≡ length (calls_from source (call ∷ [])) + length (calls_from source rest) =
-        calls_from-append source (call ∷ []) rest in
+    calls_from-append source (call ∷ []) rest in
     omega arith
 
 order_from : (source : ℕ) (calls : List Call) → length (calls_from source (order calls)) ≡ length (calls_from source calls)

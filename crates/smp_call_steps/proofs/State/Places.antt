@@ -154,7 +154,7 @@ module _ (places : ℕ → RecPlace) (nexts : ℕ → ℕ) (cpu : ℕ) (s : Shar
   in_order id d up down call h k =
       let o : HasRecord id (sync_calls s.last ++ async_calls s.last) = subst (HasRecord id) h.batch k in
       let l : HasRecord id s.last = elim (has-either id (sync_calls s.last) (async_calls s.last) o)
-          [ inl x ↦ has-sync id s.last x | inr x ↦ has-async id s.last x ] in
+      [ inl x ↦ has-sync id s.last x | inr x ↦ has-async id s.last x ] in
       has-either id h.older (call ∷ h.newer) (subst (HasRecord id) h.whole l)
 
   reversed_split : (d : DrainValue) (newer : Option ℕ) (id : ℕ) (older : Option ℕ) (call : Call) → Reverses nexts s d (link_to newer) (link_to older) call
@@ -468,8 +468,11 @@ module _ {a : CallState} {at : Word → ℕ} {control : ℕ → ControlValue} (s
   held_if (place.Batch cpu) bare ne far f h =
       elim (cases_lt cpu cpus) [ inl l ↦ absurd ((far cpu l).batch refl) | inr l ↦ absurd (not_past (a.batch cpu) (rests_past bare cpu l).batch h) ]
   held_if (place.Running cpu) bare ne far f h =
-      elim (cases_lt cpu cpus) [ inl l ↦ absurd ((far cpu l).running refl) | inr l ↦
-      absurd (not_past (locked_by (a.running cpu)) (ap locked_by (rests_past bare cpu l).running) h) ]
+      elim (cases_lt cpu cpus) [
+        | inl l ↦ absurd ((far cpu l).running refl)
+        | inr l ↦
+            absurd (not_past (locked_by (a.running cpu)) (ap locked_by (rests_past bare cpu l).running) h)
+      ]
 
   -- a record that is locked, in no queue or batch, and not running is held
   pub is_held : IsBare at control → at (Flags id) ≢ 0 → ((cpu : ℕ) → cpu < cpus → IsNotOn cpu (a.place id)) → place.Held ≡ a.place id

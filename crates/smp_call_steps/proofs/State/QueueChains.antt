@@ -30,4 +30,4 @@ pub queue_read : (a : CallState) (at : Word → ℕ) (control : ℕ → ControlV
     → chain_in (nexts_in at) records (at (Head cpu)) ≡ ids (a.queue cpu)
 queue_read a at control cpu s =
     chain_read records (nexts_in at) (at (Head cpu)) (a.queue cpu)
-        (length-apart records (a.queue cpu) (s.placed.queue_apart cpu) (queue_records a at control cpu s)) (s.chained.chain cpu)
+    (length-apart records (a.queue cpu) (s.placed.queue_apart cpu) (queue_records a at control cpu s)) (s.chained.chain cpu)

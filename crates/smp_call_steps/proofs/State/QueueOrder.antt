@@ -19,7 +19,7 @@ of_class-append : (class : Class) (xs ys : List Call) → of_class class (xs ++ 
 of_class-append class [] ys = refl
 of_class-append class (x ∷ xs) ys =
     ap (λ (k : List Call). if_class class x.class x ++ k) (of_class-append class xs ys)
-        ∙ sym (append_assoc (if_class class x.class x) (of_class class xs) (of_class class ys))
+    ∙ sym (append_assoc (if_class class x.class x) (of_class class xs) (of_class class ys))
 
 -- of the SYNC calls of a list, all are of class SYNC, and none is ASYNC
 
@@ -44,7 +44,7 @@ sync_of [] = refl
 sync_of (call ∷ rest) =
     of_class-append Sync (if_sync call.class call) (sync_calls rest) ∙
     (ap (λ (k : List Call). k ++ of_class Sync (sync_calls rest)) (one_sync call.class call refl)
-        ∙ ap (λ (k : List Call). if_class Sync call.class call ++ k) (sync_of rest))
+    ∙ ap (λ (k : List Call). if_class Sync call.class call ++ k) (sync_of rest))
 
 not_sync_of : (calls : List Call) → of_class Sync (async_calls calls) ≡ []
 not_sync_of [] = refl
@@ -57,7 +57,7 @@ async_of [] = refl
 async_of (call ∷ rest) =
     of_class-append Async (if_async call.class call) (async_calls rest) ∙
     (ap (λ (k : List Call). k ++ of_class Async (async_calls rest)) (one_async call.class call refl)
-        ∙ ap (λ (k : List Call). if_class Async call.class call ++ k) (async_of rest))
+    ∙ ap (λ (k : List Call). if_class Async call.class call ++ k) (async_of rest))
 
 not_async_of : (calls : List Call) → of_class Async (sync_calls calls) ≡ []
 not_async_of [] = refl
@@ -105,5 +105,5 @@ run_in_queue_order a at control s cpu class =
       of_class class more ++ of_class class (a.queue cpu),
       of_class-append class (batches (a.taken cpu)) (a.queue cpu) ∙
           (ap (λ (k : List Call). k ++ of_class class (a.queue cpu)) ended
-              ∙ append_assoc (of_class class (a.ran cpu)) (of_class class more) (of_class class (a.queue cpu))),
+          ∙ append_assoc (of_class class (a.ran cpu)) (of_class class more) (of_class class (a.queue cpu))),
     )

@@ -101,7 +101,7 @@ pub reverses_all : (P : Call → Type 0) {nexts : ℕ → ℕ} {s : Share} {d : 
 reverses_all P {s = s} h all =
     let k : AllByRecursion P (sync_calls s.last ++ async_calls s.last) = subst (λ (xs : List Call). AllByRecursion P xs) h.batch all in
     subst (λ (xs : List Call). AllByRecursion P xs) h.whole
-        (every_class P s.last (every_left P (sync_calls s.last) (async_calls s.last) k) (every_right P (sync_calls s.last) (async_calls s.last) k))
+    (every_class P s.last (every_left P (sync_calls s.last) (async_calls s.last) k) (every_right P (sync_calls s.last) (async_calls s.last) k))
 
 module _ (P : Call → Type 0) {nexts : ℕ → ℕ} {s : Share} {d : DrainValue} {walk : Walk} {here : ℕ} {front rest : List Call} {running : Running}
     (w : Walks nexts s d walk here front rest running) (all : AllByRecursion P s.batch) where
@@ -139,7 +139,7 @@ module _ (P : Call → Type 0) {nexts : ℕ → ℕ} {s : Share} {d : DrainValue
 pub walks_stay : {nexts : ℕ → ℕ} {s : Share} {d : DrainValue} {walk : Walk} {here : ℕ} {front front' rest : List Call} {running running' : Running}
     (h : Walks nexts s d walk here front rest running)
     (begun batch : List Call) (now : Running) → sync_calls h.passed ≡ begun ++ front' → batch ≡ front' ++ (sync_calls rest ++ async_calls s.last)
-        → now ≡ running' →
+    → now ≡ running' →
     Walks nexts (record s { batch = batch; running = now }) d walk here front' rest running'
 walks_stay h begun batch now begun_are batch_is running_is = record {
   passed = h.passed;
@@ -197,8 +197,17 @@ pub first_goes : (nexts : ℕ → ℕ) (s : Share) (d : DrainValue) (walk : Walk
 first_goes nexts s d walk None [] h =
     let all : s.last ≡ h.passed = h.whole ∙ append-nil h.passed in
     second_goes nexts s d walk.first (async_calls h.passed)
-    (record { begun = []; whole = ap async_calls all; apart = h.apart; leads_on = h.leads_here; asyncs = all_async h.passed; counted = h.counted;
-        batch = h.batch ∙ ap async_calls all; running_is = h.running_is; accepted = h.accepted })
+    (record {
+      begun = [];
+      whole = ap async_calls all;
+      apart = h.apart;
+      leads_on = h.leads_here;
+      asyncs = all_async h.passed;
+      counted = h.counted;
+      batch = h.batch ∙ ap async_calls all;
+      running_is = h.running_is;
+      accepted = h.accepted;
+    })
 first_goes nexts s d walk None (call ∷ rest) h = absurd (let e = h.leads_on.0 in omega arith)
 first_goes nexts s d walk (Some id) [] h = absurd (let e : id + 1 ≡ 0 = h.leads_on in omega arith)
 first_goes nexts s d walk (Some id) (call ∷ rest) h = (call, rest, h)

@@ -63,7 +63,7 @@ sent_else : (cpu to : ℕ) (sent : List Sending) (call : Call) (first : Bool) �
     → sent_to cpu (sent ++ record { call = call; to = to; is_first = first } ∷ []) ≡ sent_to cpu sent
 sent_else cpu to sent call first ne =
     sent_to-push cpu sent (record { call = call; to = to; is_first = first })
-        ∙ (rw (one_if-other to cpu (mark first call) (λ e. ne (sym e))) (append-nil (sent_to cpu sent)))
+    ∙ (rw (one_if-other to cpu (mark first call) (λ e. ne (sym e))) (append-nil (sent_to cpu sent)))
 
 sent_here : (to : ℕ) (sent : List Sending) (call : Call) (first : Bool)
     → sent_to to (sent ++ record { call = call; to = to; is_first = first } ∷ []) ≡ sent_to to sent ++ mark first call ∷ []
@@ -73,14 +73,20 @@ sent_here to sent call first = sent_to-push to sent (record { call = call; to = 
 from_else : (source : ℕ) (taken : List (List Call)) (queue : List Call) (call : Call) → owner call.id ≢ source
     → marked_from source (history_of taken (queue ++ call ∷ [])) ≡ marked_from source (history_of taken queue)
 from_else source taken queue call ne =
-    rw (history-push taken queue call, marked_from-push source (history_of taken queue) (mark (is_nil queue) call),
-        one_if-other (owner call.id) source (mark (is_nil queue) call) ne) (append-nil (marked_from source (history_of taken queue)))
+    rw (
+      history-push taken queue call,
+      marked_from-push source (history_of taken queue) (mark (is_nil queue) call),
+      one_if-other (owner call.id) source (mark (is_nil queue) call) ne,
+    ) (append-nil (marked_from source (history_of taken queue)))
 
 from_here : (source : ℕ) (taken : List (List Call)) (queue : List Call) (call : Call) → owner call.id ≡ source
     → marked_from source (history_of taken (queue ++ call ∷ [])) ≡ marked_from source (history_of taken queue) ++ mark (is_nil queue) call ∷ []
 from_here source taken queue call e =
-    rw (history-push taken queue call, marked_from-push source (history_of taken queue) (mark (is_nil queue) call),
-        one_if-same (owner call.id) source (mark (is_nil queue) call) e) refl
+    rw (
+      history-push taken queue call,
+      marked_from-push source (history_of taken queue) (mark (is_nil queue) call),
+      one_if-same (owner call.id) source (mark (is_nil queue) call) e,
+    ) refl
 
 abbrev counted_hold : Call → ℕ → Option Holding
 counted_hold call to = Some (record { call = call; to = to; is_counted = true })
@@ -94,18 +100,18 @@ one_held-else held call to cpu e ne = rw (e, ne_eqb to cpu (λ f. ne (sym f))) r
 -- the count goes from the call that was held to the one that was sent
 tally_here : (n to : ℕ) (sent : List Sending) (call : Call) (first : Bool) (held : Option Holding) → held ≡ counted_hold call to →
     n ≡ (length (sent_to to sent) + one_held held to) % 2 ^ 64
-        → n ≡ (length (sent_to to (sent ++ record { call = call; to = to; is_first = first } ∷ [])) + 0) % 2 ^ 64
+    → n ≡ (length (sent_to to (sent ++ record { call = call; to = to; is_first = first } ∷ [])) + 0) % 2 ^ 64
 tally_here n to sent call first held e t =
     let one = one_held-here held call to e in
     let more : length (sent_to to (sent ++ record { call = call; to = to; is_first = first } ∷ [])) ≡ length (sent_to to sent) + 1 =
     ap length (sent_here to sent call first) ∙ length-append (sent_to to sent) (mark first call ∷ []) in
     let sum : length (sent_to to sent) + one_held held to ≡ length (sent_to to (sent ++ record { call = call; to = to; is_first = first } ∷ [])) + 0 =
-        omega arith in
+    omega arith in
     t ∙ ap (λ k. k % 2 ^ 64) sum
 
 tally_else : (n to cpu : ℕ) (sent : List Sending) (call : Call) (first : Bool) (held : Option Holding) → held ≡ counted_hold call to → cpu ≢ to →
     n ≡ (length (sent_to cpu sent) + one_held held cpu) % 2 ^ 64
-        → n ≡ (length (sent_to cpu (sent ++ record { call = call; to = to; is_first = first } ∷ [])) + 0) % 2 ^ 64
+    → n ≡ (length (sent_to cpu (sent ++ record { call = call; to = to; is_first = first } ∷ [])) + 0) % 2 ^ 64
 tally_else n to cpu sent call first held e ne t = rw (sent_else cpu to sent call first ne) (rw (one_held-else held call to cpu e ne) at t)
 
 held_same : (held : Option Holding) (call : Call) (to u : ℕ) → held ≡ counted_hold call to → Holds held u → u ≡ call.id
@@ -129,8 +135,13 @@ module _ (a : CallState) (at : Word → ℕ) (control : ℕ → ControlValue) (m
 
   touches : Touches call.id a.place (put a.place call.id (place.Queued to)) at (put_word at (Head to) (call.id + 1))
   touches =
-      record { place_stays = λ u ne. put_other a.place call.id (place.Queued to) u ne; flags = λ _ _. refl; func = λ _ _. refl; info = λ _ _. refl;
-      next = λ _ _. refl }
+      record {
+        place_stays = λ u ne. put_other a.place call.id (place.Queued to) u ne;
+        flags = λ _ _. refl;
+        func = λ _ _. refl;
+        info = λ _ _. refl;
+        next = λ _ _. refl;
+      }
 
   not_held : (p : RecPlace) (u : ℕ) → a.place u ≡ p → p ≢ place.Held → u ≢ call.id
   not_held p u e ne f = ne (sym e ∙ (ap a.place f ∙ placed))
@@ -164,15 +175,15 @@ module _ (a : CallState) (at : Word → ℕ) (control : ℕ → ControlValue) (m
   placed' = record {
     queued = λ cpu. at_test cpu to (λ b. AllPlaced (put a.place call.id (place.Queued to)) (place.Queued cpu) (cond b (a.queue to ++ call ∷ []) (a.queue cpu)))
         (λ e. rw e (every_push (IsPlaced (put a.place call.id (place.Queued to)) (place.Queued to)) (a.queue to) call
-            (still (place.Queued to) (queued_else to) (a.queue to) (s.placed.queued to))
-            (record { is_call = is_call; placed = put_same a.place call.id (place.Queued to) })))
+        (still (place.Queued to) (queued_else to) (a.queue to) (s.placed.queued to))
+        (record { is_call = is_call; placed = put_same a.place call.id (place.Queued to) })))
         (λ _. still (place.Queued cpu) (queued_else cpu) (a.queue cpu) (s.placed.queued cpu));
     batched = λ cpu. still (place.Batch cpu) (batch_else cpu) (a.batch cpu) (s.placed.batched cpu);
     runs = λ cpu. still (place.Running cpu) (running_else cpu) (locked_by (a.running cpu)) (s.placed.runs cpu);
     queue_apart = λ cpu. at_test cpu to (λ b. IsApart (cond b (a.queue to ++ call ∷ []) (a.queue cpu)))
         (λ _. IsApart-push (a.queue to) call
-            (every (IsPlaced a.place (place.Queued to)) (λ c. call.id ≢ c.id) (λ c q e. not_held (place.Queued to) c.id q.placed (queued_else to) (sym e))
-            (a.queue to) (s.placed.queued to)) (s.placed.queue_apart to))
+        (every (IsPlaced a.place (place.Queued to)) (λ c. call.id ≢ c.id) (λ c q e. not_held (place.Queued to) c.id q.placed (queued_else to) (sym e))
+        (a.queue to) (s.placed.queued to)) (s.placed.queue_apart to))
         (λ _. s.placed.queue_apart cpu);
     batch_apart = s.placed.batch_apart;
     is_there = λ u. elim (cases_eq u call.id) [
@@ -189,7 +200,7 @@ module _ (a : CallState) (at : Word → ℕ) (control : ℕ → ControlValue) (m
         (λ _ e. absurd (true≢false (sym e)))
         (λ ne e. elim (s.placed.settled me u (o ∙ es) e) [ inl free ↦ inl free | inr hold ↦ absurd (ne (held_same (a.held me) call to u holds hold)) ]))
         (λ ns e. elim (s.placed.settled source u o e)
-            [ inl free ↦ inl (put_other a.place call.id (place.Queued to) u (λ eu. ns (sym o ∙ (ap owner eu ∙ own))) ∙ free) | inr hold ↦ inr hold ]);
+        [ inl free ↦ inl (put_other a.place call.id (place.Queued to) u (λ eu. ns (sym o ∙ (ap owner eu ∙ own))) ∙ free) | inr hold ↦ inr hold ]);
   }
 
   written' : WrittenIn at (put a.place call.id (place.Queued to)) (put a.queue to (a.queue to ++ call ∷ [])) a.batch a.running
@@ -232,12 +243,17 @@ module _ (a : CallState) (at : Word → ℕ) (control : ℕ → ControlValue) (m
         (λ b. sent_to cpu (cond b (a.sent me ++ record { call = call; to = to; is_first = is_nil (a.queue to) } ∷ []) (a.sent source))
         ≡ marked_from source (history_of (a.taken cpu) (put a.queue to (a.queue to ++ call ∷ []) cpu)))
         (λ e. at_test cpu to (λ b. sent_to cpu (a.sent me ++ record { call = call; to = to; is_first = is_nil (a.queue to) } ∷ [])
-            ≡ marked_from source (history_of (a.taken cpu) (cond b (a.queue to ++ call ∷ []) (a.queue cpu))))
-        (λ f. rw (f, sent_here to (a.sent me) call (is_nil (a.queue to)), from_here source (a.taken to) (a.queue to) call (own ∙ sym e), e,
-            s.recorded.in_order me to) refl)
+        ≡ marked_from source (history_of (a.taken cpu) (cond b (a.queue to ++ call ∷ []) (a.queue cpu))))
+        (λ f. rw (
+          f,
+          sent_here to (a.sent me) call (is_nil (a.queue to)),
+          from_here source (a.taken to) (a.queue to) call (own ∙ sym e),
+          e,
+          s.recorded.in_order me to,
+        ) refl)
         (λ ne. sent_else cpu to (a.sent me) call (is_nil (a.queue to)) ne ∙ rw e (s.recorded.in_order me cpu)))
         (λ ne. at_test cpu to (λ b. sent_to cpu (a.sent source) ≡ marked_from source
-            (history_of (a.taken cpu) (cond b (a.queue to ++ call ∷ []) (a.queue cpu))))
+        (history_of (a.taken cpu) (cond b (a.queue to ++ call ∷ []) (a.queue cpu))))
         (λ f. rw (f, from_else source (a.taken to) (a.queue to) call (λ e. ne (sym e ∙ own))) (s.recorded.in_order source to))
         (λ _. s.recorded.in_order source cpu));
     drained = s.recorded.drained;
@@ -268,7 +284,7 @@ module _ (a : CallState) (at : Word → ℕ) (control : ℕ → ControlValue) (m
     stands = put_all (λ cpu x. Stands (put a.place call.id (place.Queued to)) (put_word at (Head to) (call.id + 1)) (share_of a cpu) cpu x)
         control me next stands
         (λ cpu ne. Stands-kept (leaves_others me call.id a.place (put a.place call.id (place.Queued to)) at (put_word at (Head to) (call.id + 1))
-            (rw placed own) touches cpu ne) (share_of a cpu) (control cpu) (s.placed.batched cpu) (s.stands cpu));
+        (rw placed own) touches cpu ne) (share_of a cpu) (control cpu) (s.placed.batched cpu) (s.stands cpu));
     hands = put_all (λ cpu (x : ControlValue). HandIs x.stage (at (Hand cpu))) control me next hand (λ cpu _. s.hands cpu);
     placed = placed';
     written = written';

@@ -54,8 +54,8 @@ module _ {a : CallState} {at : Word → ℕ} {control : ℕ → ControlValue} (m
         (cpu : ℕ) → Stands (put a.place call.id to) at' (share_of begun cpu) cpu (put control me c cpu)
     begun_stands at' c t stands = stands_after me s at' (put a.place call.id to) (share_of begun) c
         (λ cpu ne. at_test cpu me (λ b.
-            record { last = last_batch (a.taken cpu); batch = cond b rest (a.batch cpu); running = cond b r (a.running cpu); accepted = a.accepted cpu }
-            ≡ share_of a cpu) (λ f. absurd (ne f)) (λ _. refl))
+        record { last = last_batch (a.taken cpu); batch = cond b rest (a.batch cpu); running = cond b r (a.running cpu); accepted = a.accepted cpu }
+        ≡ share_of a cpu) (λ f. absurd (ne f)) (λ _. refl))
         (λ cpu ne. leaves_others me call.id a.place (put a.place call.id to) at at' (subst (Minds me call.id) (sym here) refl) t cpu ne)
         stands
 
@@ -66,12 +66,12 @@ module _ {a : CallState} {at : Word → ℕ} {control : ℕ → ControlValue} (m
         (Batch≢Free me) (λ cpu. Queued≢Batch cpu me) s.placed
         (λ cpu. at_test cpu me (λ b. AllPlaced (put a.place call.id to) (place.Batch cpu) (cond b rest (a.batch cpu)))
         (λ e. subst (λ (k : ℕ). AllPlaced (put a.place call.id to) (place.Batch k) rest) (sym e)
-            (all_placed_apart a.place call.id (place.Batch me) to here (place.Batch me) rest apart.0 all_placed.1))
+        (all_placed_apart a.place call.id (place.Batch me) to here (place.Batch me) rest apart.0 all_placed.1))
         (λ ne. all_placed_still a.place call.id (place.Batch me) to here (place.Batch cpu) (a.batch cpu) (Batch≢Batch cpu me ne) (s.placed.batched cpu)))
         (λ cpu. at_test cpu me (λ b. AllPlaced (put a.place call.id to) (place.Running cpu) (locked_by (cond b r (a.running cpu))))
         (λ e. subst (λ (k : ℕ). AllPlaced (put a.place call.id to) (place.Running k) (locked_by r)) (sym e) runs)
         (λ _. all_placed_still a.place call.id (place.Batch me) to here (place.Running cpu) (locked_by (a.running cpu)) (Running≢Batch cpu me)
-            (s.placed.runs cpu)))
+        (s.placed.runs cpu)))
         (λ cpu. at_test cpu me (λ b. IsApart (cond b rest (a.batch cpu))) (λ _. apart.1) (λ _. s.placed.batch_apart cpu))
         there
         (λ u cpu ne. at_test cpu me (λ b. HasRecord u (a.batch cpu) → HasRecord u (cond b rest (a.batch cpu)))
@@ -87,11 +87,11 @@ module _ {a : CallState} {at : Word → ℕ} {control : ℕ → ControlValue} (m
         (λ cpu. at_test cpu me (λ b. AllByRecursion (IsWritten flags' (funcs_in at) (infos_in at)) (cond b rest (a.batch cpu)))
         (λ _. all_written_apart a.place call.id (place.Batch me) to here (flags_in at) flags' (funcs_in at) (infos_in at) same rest apart.0 all_written.1)
         (λ ne. all_written_still a.place call.id (place.Batch me) to here (flags_in at) flags' (funcs_in at) (infos_in at) same (place.Batch cpu) (a.batch cpu)
-            (Batch≢Batch cpu me ne) (s.placed.batched cpu) (s.written.batched cpu)))
+        (Batch≢Batch cpu me ne) (s.placed.batched cpu) (s.written.batched cpu)))
         (λ cpu. at_test cpu me (λ b. AllByRecursion (IsWritten flags' (funcs_in at) (infos_in at)) (locked_by (cond b r (a.running cpu))))
         (λ _. runs)
         (λ _. all_written_still a.place call.id (place.Batch me) to here (flags_in at) flags' (funcs_in at) (infos_in at) same (place.Running cpu)
-            (locked_by (a.running cpu)) (Running≢Batch cpu me) (s.placed.runs cpu) (s.written.runs cpu)))
+        (locked_by (a.running cpu)) (Running≢Batch cpu me) (s.placed.runs cpu) (s.written.runs cpu)))
 
     begun_recorded : running_call r ≡ call ∷ [] → Recorded a.sent a.taken a.queue a.ran (put a.running me r) (put a.batch me rest)
     begun_recorded runs = record {
@@ -124,8 +124,13 @@ module _ {a : CallState} {at : Word → ℕ} {control : ℕ → ControlValue} (m
       record {
         held = held_after me s c (rw stage held);
         stands = begun_stands call rest front idle to (SyncCall call) (put_word at (Hand me) (call.id + 2)) c
-            (record { place_stays = λ u ne. test_else u call.id to (a.place u) ne; flags = λ _ _. refl; func = λ _ _. refl; info = λ _ _. refl;
-                next = λ _ _. refl }) stands;
+            (record {
+              place_stays = λ u ne. test_else u call.id to (a.place u) ne;
+              flags = λ _ _. refl;
+              func = λ _ _. refl;
+              info = λ _ _. refl;
+              next = λ _ _. refl;
+            }) stands;
         hands = hands_stored me s c (call.id + 2) (rw stage refl);
         placed = begun_placed call rest front idle to (SyncCall call)
             (record { is_call = first.0.is_call; placed = test_here call.id to (a.place call.id) }, tt)
@@ -171,8 +176,13 @@ module _ {a : CallState} {at : Word → ℕ} {control : ℕ → ControlValue} (m
       record {
         held = held_after me s c (rw stage held);
         stands = begun_stands call rest front idle to (AsyncCall call) (put_word at (Flags call.id) 0) c
-            (record { place_stays = λ u ne. test_else u call.id to (a.place u) ne; flags = λ u ne. test_else u call.id 0 (at (Flags u)) ne; func = λ _ _. refl;
-                info = λ _ _. refl; next = λ _ _. refl }) stands;
+            (record {
+              place_stays = λ u ne. test_else u call.id to (a.place u) ne;
+              flags = λ u ne. test_else u call.id 0 (at (Flags u)) ne;
+              func = λ _ _. refl;
+              info = λ _ _. refl;
+              next = λ _ _. refl;
+            }) stands;
         hands = hands_after me s c hand;
         placed = begun_placed call rest front idle to (AsyncCall call) tt tt;
         written = begun_written call rest front idle to (AsyncCall call) (put (flags_in at) call.id 0) (λ u ne. test_else u call.id 0 (at (Flags u)) ne)
@@ -195,7 +205,7 @@ module _ {a : CallState} {at : Word → ℕ} {control : ℕ → ControlValue} (m
       let at' : Word → ℕ = put_word at (Flags call.id) 0 in
       let c : ControlValue = record { stage = Some (Handle (handle.CountAsync call next)); drain = d } in
       let front : AllPlaced a.place (place.Batch me) (call ∷ rest) =
-          subst (λ (xs : List Call). AllPlaced a.place (place.Batch me) xs) k.batch (s.placed.batched me) in
+      subst (λ (xs : List Call). AllPlaced a.place (place.Batch me) xs) k.batch (s.placed.batched me) in
       let shown : Shows (begins_async a me (call ∷ rest)) at' (put control me c) =
       begun_async next call rest c k.batch k.running_is held (hand_at me s (handle.BeginAsync call next) e) refl (
         was.0,

@@ -48,7 +48,7 @@ module _ {a : CallState} {at : Word → ℕ} {control : ℕ → ControlValue} (m
   module _ (call : Call) (r : Running) (ran' : ℕ → List Call) (others : (cpu : ℕ) → cpu ≢ me → ran' cpu ≡ a.ran cpu)
       (locked : locked_by r ≡ locked_by (a.running me))
       (ended : ran' me ++ running_call r ≡ a.ran me ++ running_call (a.running me))
-          (counted : ran' me ++ counted_call r ≡ (a.ran me ++ counted_call (a.running me)) ++ call ∷ []) where
+      (counted : ran' me ++ counted_call r ≡ (a.ran me ++ counted_call (a.running me)) ++ call ∷ []) where
     same_locked : (cpu : ℕ) → locked_by (put a.running me r cpu) ≡ locked_by (a.running cpu)
     same_locked cpu = at_test cpu me (λ b. locked_by (cond b r (a.running cpu)) ≡ locked_by (a.running cpu))
         (λ e. locked ∙ ap (λ (k : ℕ). locked_by (a.running k)) (sym e)) (λ _. refl)
@@ -61,8 +61,8 @@ module _ {a : CallState} {at : Word → ℕ} {control : ℕ → ControlValue} (m
       held = held_after me s c held;
       stands = stands_after me s (stored call) a.place (share_of (record a { running = put a.running me r; ran = ran' })) c
           (λ cpu ne. at_test cpu me (λ b.
-              record { last = last_batch (a.taken cpu); batch = a.batch cpu; running = cond b r (a.running cpu); accepted = a.accepted cpu } ≡ share_of a cpu)
-              (λ f. absurd (ne f)) (λ _. refl))
+          record { last = last_batch (a.taken cpu); batch = a.batch cpu; running = cond b r (a.running cpu); accepted = a.accepted cpu } ≡ share_of a cpu)
+          (λ f. absurd (ne f)) (λ _. refl))
           (λ cpu _. leaves_all a.place at (stored call) (λ _. refl) (λ _. refl) (λ _. refl) (λ _. refl) cpu) stands;
       hands = hands_after me s c hand;
       placed = record {
@@ -92,7 +92,7 @@ module _ {a : CallState} {at : Word → ℕ} {control : ℕ → ControlValue} (m
       tallied = tallied_more (queued_in at) (ran_in at) a.sent a.held a.ran ran' a.running (put a.running me r) me call
           (ap (λ (x : Running). ran' me ++ counted_call x) (test_here me r (a.running me)) ∙ counted)
           (λ cpu ne. ap (λ (x : Running). ran' cpu ++ counted_call x) (test_else cpu me r (a.running cpu) ne)
-              ∙ ap (λ (xs : List Call). xs ++ counted_call (a.running cpu)) (others cpu ne))
+          ∙ ap (λ (xs : List Call). xs ++ counted_call (a.running cpu)) (others cpu ne))
           s.tallied;
     }
       where
@@ -135,7 +135,7 @@ module _ {a : CallState} {at : Word → ℕ} {control : ℕ → ControlValue} (m
       (count_shown call Nothing ran' (λ cpu ne. test_else cpu me (a.ran me ++ call ∷ []) (a.ran cpu) ne) (rw running_is refl)
       (append-nil (ran' me) ∙ (ran_here ∙ ap (λ (x : Running). a.ran me ++ running_call x) (sym running_is)))
       (append-nil (ran' me) ∙ (ran_here ∙ ap (λ (xs : List Call). xs ++ call ∷ [])
-          (sym (append-nil (a.ran me)) ∙ ap (λ (x : Running). a.ran me ++ counted_call x) (sym running_is))))
+      (sym (append-nil (a.ran me)) ∙ ap (λ (x : Running). a.ran me ++ counted_call x) (sym running_is))))
       c (holds_nothing me s (handle.CountAsync call next) e)
       (hand_of_second next (at (Hand me)) (hand_at me s (handle.CountAsync call next) e)) (
         was.0,
@@ -155,11 +155,11 @@ module _ {a : CallState} {at : Word → ℕ} {control : ℕ → ControlValue} (m
     end_placed = placed_moved a.place call.id (place.Running me) place.Free here a.held a.queue a.batch a.batch a.running (put a.running me Nothing) a.confirmed
         (Running≢Free me) (λ cpu. Queued≢Running cpu me) s.placed
         (λ cpu. all_placed_still a.place call.id (place.Running me) place.Free here (place.Batch cpu) (a.batch cpu) (Batch≢Running cpu me)
-            (s.placed.batched cpu))
+        (s.placed.batched cpu))
         (λ cpu. at_test cpu me (λ b. AllPlaced (put a.place call.id place.Free) (place.Running cpu) (locked_by (cond b Nothing (a.running cpu))))
         (λ _. tt)
         (λ ne. all_placed_still a.place call.id (place.Running me) place.Free here (place.Running cpu) (locked_by (a.running cpu)) (Running≢Running cpu me ne)
-            (s.placed.runs cpu)))
+        (s.placed.runs cpu)))
         s.placed.batch_apart
         tt
         (λ u cpu ne h. h)
@@ -169,14 +169,14 @@ module _ {a : CallState} {at : Word → ℕ} {control : ℕ → ControlValue} (m
     end_written : Written (put (flags_in at) call.id 0) (funcs_in at) (infos_in at) (put a.place call.id place.Free) a.queue a.batch (put a.running me Nothing)
     end_written = written_moved a.place call.id (place.Running me) place.Free here (flags_in at) (put (flags_in at) call.id 0) (funcs_in at) (infos_in at) same
         a.held a.queue a.batch a.batch a.running (put a.running me Nothing) a.confirmed (λ cpu. Queued≢Running cpu me) s.placed s.written
-            (test_here call.id 0 (at (Flags call.id)))
+        (test_here call.id 0 (at (Flags call.id)))
         (λ cpu. all_written_still a.place call.id (place.Running me) place.Free here (flags_in at) (put (flags_in at) call.id 0) (funcs_in at)
-            (infos_in at) same (place.Batch cpu) (a.batch cpu) (Batch≢Running cpu me) (s.placed.batched cpu) (s.written.batched cpu))
+        (infos_in at) same (place.Batch cpu) (a.batch cpu) (Batch≢Running cpu me) (s.placed.batched cpu) (s.written.batched cpu))
         (λ cpu. at_test cpu me (λ b. AllByRecursion (IsWritten (put (flags_in at) call.id 0) (funcs_in at) (infos_in at))
-            (locked_by (cond b Nothing (a.running cpu))))
+        (locked_by (cond b Nothing (a.running cpu))))
         (λ _. tt)
         (λ ne. all_written_still a.place call.id (place.Running me) place.Free here (flags_in at) (put (flags_in at) call.id 0) (funcs_in at) (infos_in at) same
-            (place.Running cpu) (locked_by (a.running cpu)) (Running≢Running cpu me ne) (s.placed.runs cpu) (s.written.runs cpu)))
+        (place.Running cpu) (locked_by (a.running cpu)) (Running≢Running cpu me ne) (s.placed.runs cpu) (s.written.runs cpu)))
       where
         same : (u : ℕ) → u ≢ call.id → put (flags_in at) call.id 0 u ≡ at (Flags u)
         same u ne = test_else u call.id 0 (at (Flags u)) ne
@@ -197,9 +197,9 @@ module _ {a : CallState} {at : Word → ℕ} {control : ℕ → ControlValue} (m
     end_tallied : Tallied (queued_in at) (ran_in at) a.sent a.held (put a.ran me (a.ran me ++ call ∷ [])) (put a.running me Nothing)
     end_tallied = tallied_same (queued_in at) (ran_in at) a.sent a.held a.ran (put a.ran me (a.ran me ++ call ∷ [])) a.running (put a.running me Nothing)
         (λ cpu. at_test cpu me (λ b. cond b (a.ran me ++ call ∷ []) (a.ran cpu) ++ counted_call (cond b Nothing (a.running cpu)) ≡ a.ran cpu
-            ++ counted_call (a.running cpu))
+        ++ counted_call (a.running cpu))
         (λ e. append-nil (a.ran me ++ call ∷ [])
-            ∙ (ap (λ (x : Running). a.ran me ++ counted_call x) (sym running) ∙ ap (λ (k : ℕ). a.ran k ++ counted_call (a.running k)) (sym e))) (λ _. refl))
+        ∙ (ap (λ (x : Running). a.ran me ++ counted_call x) (sym running) ∙ ap (λ (k : ℕ). a.ran k ++ counted_call (a.running k)) (sym e))) (λ _. refl))
         s.tallied
 
     end_shown : (c : ControlValue) → a.held me ≡ held_of c.stage → HandIs c.stage (at (Hand me))
@@ -209,12 +209,17 @@ module _ {a : CallState} {at : Word → ℕ} {control : ℕ → ControlValue} (m
       held = held_after me s c held;
       stands = stands_after me s (put_word at (Flags call.id) 0) (put a.place call.id place.Free) (share_of (ends_sync a me call)) c
           (λ cpu ne. at_test cpu me (λ b.
-              record { last = last_batch (a.taken cpu); batch = a.batch cpu; running = cond b Nothing (a.running cpu); accepted = a.accepted cpu }
-              ≡ share_of a cpu) (λ f. absurd (ne f)) (λ _. refl))
+          record { last = last_batch (a.taken cpu); batch = a.batch cpu; running = cond b Nothing (a.running cpu); accepted = a.accepted cpu }
+          ≡ share_of a cpu) (λ f. absurd (ne f)) (λ _. refl))
           (λ cpu ne. leaves_others me call.id a.place (put a.place call.id place.Free) at (put_word at (Flags call.id) 0)
-              (subst (Minds me call.id) (sym here) refl)
-          (record { place_stays = λ u n. test_else u call.id place.Free (a.place u) n; flags = λ u n. test_else u call.id 0 (at (Flags u)) n;
-              func = λ _ _. refl; info = λ _ _. refl; next = λ _ _. refl }) cpu ne)
+          (subst (Minds me call.id) (sym here) refl)
+          (record {
+            place_stays = λ u n. test_else u call.id place.Free (a.place u) n;
+            flags = λ u n. test_else u call.id 0 (at (Flags u)) n;
+            func = λ _ _. refl;
+            info = λ _ _. refl;
+            next = λ _ _. refl;
+          }) cpu ne)
           stands;
       hands = hands_after me s c hand;
       placed = end_placed;
@@ -240,7 +245,7 @@ module _ {a : CallState} {at : Word → ℕ} {control : ℕ → ControlValue} (m
       let after : Share = share_of (ends_sync a me call) me in
       let shown : Shows (ends_sync a me call) at' (put control me c) =
       end_shown call k.running_is c held
-          (hand_of_first walk next (at (Hand me)) (more_than_zero (at (Hand me)) call.id (hand_at me s (handle.EndSync walk call next) e))) (
+      (hand_of_first walk next (at (Hand me)) (more_than_zero (at (Hand me)) call.id (hand_at me s (handle.EndSync walk call next) e))) (
         was.0,
         first_goes (nexts_in at) after d walk next rest
             (walks_stay k k.begun (a.batch me) (put a.running me Nothing me) k.begun_are k.batch (test_here me Nothing (a.running me))),

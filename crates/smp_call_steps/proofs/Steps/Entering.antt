@@ -73,8 +73,8 @@ module _ {a : CallState} {at : Word → ℕ} {control : ℕ → ControlValue} (m
   still_noticed : (cpu : ℕ) → IsNoticed a.pending a.accepted a.owes cpu → IsNoticed (put a.pending me false) accepted' a.owes cpu
   still_noticed cpu (is_pending e) = at_test cpu me (λ _. IsNoticed (put a.pending me false) accepted' a.owes cpu)
       (λ f. is_accepted (subst (λ (k : ℕ). accepted' k ≡ true) (sym f)
-          (test_here me (if a.pending me then true else a.accepted me) (a.accepted me)
-          ∙ ap (λ (b : Bool). if b then true else a.accepted me) (subst (λ (k : ℕ). a.pending k ≡ true) f e))))
+      (test_here me (if a.pending me then true else a.accepted me) (a.accepted me)
+      ∙ ap (λ (b : Bool). if b then true else a.accepted me) (subst (λ (k : ℕ). a.pending k ≡ true) f e))))
       (λ ne. is_pending (test_else cpu me false (a.pending cpu) ne ∙ e))
   still_noticed cpu (is_accepted e) = is_accepted (at_test cpu me (λ b. cond b (if a.pending me then true else a.accepted me) (a.accepted cpu) ≡ true)
       (λ f. accepted_now (a.pending me) (a.accepted me) (subst (λ (k : ℕ). a.accepted k ≡ true) f e)) (λ _. e))
@@ -93,11 +93,17 @@ module _ {a : CallState} {at : Word → ℕ} {control : ℕ → ControlValue} (m
   accept_stands : (b : Bool) → (b ≡ true → a.pending me ≡ false) → (b ≡ false → a.pending me ≡ true)
       → HandleStands (nexts_in at) (share_of a me) (control me).drain handle.Accept → me < cpus →
       Stands a.place at (share_of (accepts a me) me) me
-          (record { stage = (if b then handle_goes handle.LeaveIdle else handle_goes handle.Take).next; drain = (control me).drain })
+      (record { stage = (if b then handle_goes handle.LeaveIdle else handle_goes handle.Take).next; drain = (control me).drain })
   accept_stands true none some was range =
-      let rests = was in
-      (range, record { batch = rests.batch; running = rests.running; accepted = accepted_after
-          ∙ (ap (λ (x : Bool). if x then true else a.accepted me) (none refl) ∙ rests.accepted) })
+      let rests = was in (
+        range,
+        record {
+          batch = rests.batch;
+          running = rests.running;
+          accepted = accepted_after
+              ∙ (ap (λ (x : Bool). if x then true else a.accepted me) (none refl) ∙ rests.accepted);
+        },
+      )
   accept_stands false none some was range =
       let rests = was in
       (range, (rests.batch, rests.running, accepted_after ∙ ap (λ (x : Bool). if x then true else a.accepted me) (some refl)))
@@ -119,8 +125,12 @@ module _ {a : CallState} {at : Word → ℕ} {control : ℕ → ControlValue} (m
         held = held_after me s c (accept_held idle (holds_nothing me s handle.Accept e));
         stands = stands_after me s (put_word at (Intr me) 0) a.place (share_of (accepts a me)) c
             (λ cpu ne. at_test cpu me (λ b.
-                record { last = last_batch (a.taken cpu); batch = a.batch cpu; running = a.running cpu;
-                accepted = cond b (if a.pending me then true else a.accepted me) (a.accepted cpu) } ≡ share_of a cpu) (λ f. absurd (ne f)) (λ _. refl))
+            record {
+              last = last_batch (a.taken cpu);
+              batch = a.batch cpu;
+              running = a.running cpu;
+              accepted = cond b (if a.pending me then true else a.accepted me) (a.accepted cpu);
+            } ≡ share_of a cpu) (λ f. absurd (ne f)) (λ _. refl))
             (λ cpu _. leaves_all a.place at (put_word at (Intr me) 0) (λ _. refl) (λ _. refl) (λ _. refl) (λ _. refl) cpu)
             (stands_stored idle (accept_stands idle
             (λ t. zero_bit (a.pending me) (sym (s.noticed.words me) ∙ eqb-true (at (Intr me)) 0 t))
@@ -139,6 +149,6 @@ module _ {a : CallState} {at : Word → ℕ} {control : ℕ → ControlValue} (m
       stands_stored : (b : Bool) → Stands a.place at (share_of (accepts a me) me) me
           (record { stage = (if b then handle_goes handle.LeaveIdle else handle_goes handle.Take).next; drain = (control me).drain }) →
           Stands a.place (put_word at (Intr me) 0) (share_of (accepts a me) me) me
-              (record { stage = (if b then handle_goes handle.LeaveIdle else handle_goes handle.Take).next; drain = (control me).drain })
+          (record { stage = (if b then handle_goes handle.LeaveIdle else handle_goes handle.Take).next; drain = (control me).drain })
       stands_stored true h = h
       stands_stored false h = h

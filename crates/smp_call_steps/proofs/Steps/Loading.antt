@@ -72,8 +72,16 @@ module _ {a : CallState} {at : Word → ℕ} {control : ℕ → ControlValue} (m
       let k = was.1 in
       let held = holds_nothing me s (handle.ReverseLoad newer id) e in
       let c : ControlValue = record { stage = Some (Handle (handle.ReverseStore newer id (record_at (at (Next id))))); drain = (control me).drain } in
-      goes_on c held (was.0, (k.0, subst (λ (n : ℕ). Reverses (nexts_in at) (share_of a me) (control me).drain (link_to newer) n k.0)
-          (sym (link_back (at (Next id)))) k.1, k.2, sym (link_back (at (Next id)))))
+      goes_on c held (
+        was.0,
+        (
+          k.0,
+          subst (λ (n : ℕ). Reverses (nexts_in at) (share_of a me) (control me).drain (link_to newer) n k.0)
+              (sym (link_back (at (Next id)))) k.1,
+          k.2,
+          sym (link_back (at (Next id))),
+        ),
+      )
       (hand_at me s (handle.ReverseLoad newer id) e)
 
   pub load_next_step : (walk : Walk) (id : ℕ) → (control me).stage ≡ Some (Handle (handle.LoadNext walk id))
@@ -113,7 +121,7 @@ module _ {a : CallState} {at : Word → ℕ} {control : ℕ → ControlValue} (m
       let w = walked_words walk id k.0 k.1 k.2 in
       let func : k.0.func ≡ at (Func id) = sym w.func_is ∙ ap (funcs_in at) (same_record id k.0 k.2.leads_on.0) in
       goes_on (record { stage = Some (Handle (handle.LoadInfo walk id next (at (Func id)))); drain = (control me).drain })
-          (holds_nothing me s (handle.LoadFunc walk id next) e)
+      (holds_nothing me s (handle.LoadFunc walk id next) e)
       (was.0, (k.0, k.1, k.2, k.3, k.4, func)) (hand_at me s (handle.LoadFunc walk id next) e)
 
   pub load_info_step : (walk : Walk) (id : ℕ) (next : Option ℕ) (func : ℕ) → (control me).stage ≡ Some (Handle (handle.LoadInfo walk id next func))
@@ -150,7 +158,7 @@ module _ {a : CallState} {at : Word → ℕ} {control : ℕ → ControlValue} (m
       let w = ended_words id k.0 k.1 k.2 in
       let func : k.0.func ≡ at (Func id) = sym w.func_is ∙ ap (funcs_in at) (same_record id k.0 k.2.leads_on.0) in
       goes_on (record { stage = Some (Handle (handle.AsyncInfo id next (at (Func id)))); drain = (control me).drain })
-          (holds_nothing me s (handle.AsyncFunc id next) e)
+      (holds_nothing me s (handle.AsyncFunc id next) e)
       (was.0, (k.0, k.1, k.2, k.3, func)) (hand_at me s (handle.AsyncFunc id next) e)
 
   pub async_info_step : (id : ℕ) (next : Option ℕ) (func : ℕ) → (control me).stage ≡ Some (Handle (handle.AsyncInfo id next func))
@@ -164,7 +172,7 @@ module _ {a : CallState} {at : Word → ℕ} {control : ℕ → ControlValue} (m
       let info : k.0.info ≡ at (Info id) = sym w.info_is ∙ ap (infos_in at) same in
       let call : Call = record { id = id; class = Async; func = func; info = at (Info id) } in
       let is : k.0 ≡ record { id = id; class = Async; func = func; info = at (Info id) } =
-          call_of_parts k.0 id Async func (at (Info id)) same h.asyncs.0 k.4 info in
+      call_of_parts k.0 id Async func (at (Info id)) same h.asyncs.0 k.4 info in
       let c : ControlValue = record { stage = Some (Handle (handle.BeginAsync call next)); drain = (control me).drain } in
       goes_on c (holds_nothing me s (handle.AsyncInfo id next func) e) (
         was.0,

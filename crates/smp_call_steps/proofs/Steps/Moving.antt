@@ -46,7 +46,7 @@ else_by_place places u id p q there here ne e = ne (sym there ∙ (ap places e �
 -- where a record is said to be, once another has moved
 there_still : (held : ℕ → Option Holding) (queue batch batch' : ℕ → List Call) (running running' : ℕ → Running) (u : ℕ) (p : RecPlace) →
     ((cpu : ℕ) → HasRecord u (batch cpu) → HasRecord u (batch' cpu))
-        → ((cpu : ℕ) → HasRecord u (locked_by (running cpu)) → HasRecord u (locked_by (running' cpu))) →
+    → ((cpu : ℕ) → HasRecord u (locked_by (running cpu)) → HasRecord u (locked_by (running' cpu))) →
     IsThere held queue batch running u p → IsThere held queue batch' running' u p
 there_still held queue batch batch' running running' u place.Free in_batch runs h = tt
 there_still held queue batch batch' running running' u place.Held in_batch runs h = h
@@ -106,7 +106,7 @@ module _ (places : ℕ → RecPlace) (id : ℕ) (from to : RecPlace) (here : pla
         → AllByRecursion (IsWritten flags' funcs infos) calls
     all_written_still p calls ne h k =
         every_both (IsPlaced places p) (IsWritten flags funcs infos) (IsWritten flags' funcs infos)
-            (λ call there w. written_still call (else_by_place places call.id id p from there.placed here ne) w) calls h k
+        (λ call there w. written_still call (else_by_place places call.id id p from there.placed here ne) w) calls h k
 
     -- and so are those of calls by other records
     pub all_written_apart : (calls : List Call) → IsAbsent id calls → AllByRecursion (IsWritten flags funcs infos) calls

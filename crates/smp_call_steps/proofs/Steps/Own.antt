@@ -100,9 +100,14 @@ module _ (a : CallState) (at at' : Word → ℕ) (control : ℕ → ControlValue
   written_else p away [] q w = tt
   written_else p away (call ∷ rest) q w =
       let placed = q.0 in let written = w.0 in
-      let ne = elsewhere call.id p placed.placed away in
-      (record { flags_are = o.touches.flags call.id ne ∙ written.flags_are; func_is = o.touches.func call.id ne ∙ written.func_is;
-          info_is = o.touches.info call.id ne ∙ written.info_is }, written_else p away rest q.1 w.1)
+      let ne = elsewhere call.id p placed.placed away in (
+        record {
+          flags_are = o.touches.flags call.id ne ∙ written.flags_are;
+          func_is = o.touches.func call.id ne ∙ written.func_is;
+          info_is = o.touches.info call.id ne ∙ written.info_is;
+        },
+        written_else p away rest q.1 w.1,
+      )
 
   away_queue : (cpu : ℕ) → IsHome (place.Queued cpu) → ⊥
   away_queue cpu h = home_queue (place.Queued cpu) cpu h refl
@@ -183,7 +188,7 @@ module _ (a : CallState) (at at' : Word → ℕ) (control : ℕ → ControlValue
     held = λ cpu. at_test cpu me (λ b. held' cpu ≡ held_of (cond b next (control cpu)).stage) (λ e. rw e o.my_held) (λ ne. o.others_held cpu ne ∙ s.held cpu);
     stands = put_all (λ cpu x. Stands places' at' (share_of a cpu) cpu x) control me next o.stands
         (λ cpu ne. Stands-kept (leaves_others me id a.place places' at at' (home_minds me id (a.place id) o.owned o.before) o.touches cpu ne) (share_of a cpu)
-            (control cpu) (s.placed.batched cpu) (s.stands cpu));
+        (control cpu) (s.placed.batched cpu) (s.stands cpu));
     hands = put_all (λ cpu (x : ControlValue). HandIs x.stage (at' (Hand cpu))) control me next o.hand (λ cpu _. rw (o.keeps.hand cpu) (s.hands cpu));
     placed = placed';
     written = written';

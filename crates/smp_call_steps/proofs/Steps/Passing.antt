@@ -20,7 +20,7 @@ passed_async passed call e = async_calls-push passed call ∙ ap (λ (c : Class)
 pub passes_sync : (nexts nexts' : ℕ → ℕ) (s : Share) (d : DrainValue) (walk walk' : Walk) (next : Option ℕ) (call : Call) (rest : List Call)
     → (h : Walks nexts s d walk (call.id + 1) [] (call ∷ rest) Nothing) → call.class ≡ Sync →
     Path nexts' (link_to walk'.first) (async_calls h.passed) (link_to next) → EndsAt walk'.last (async_calls h.passed) → Path nexts' (link_to next) rest 0
-        → Walks nexts' s d walk' (link_to next) (call ∷ []) rest Nothing
+    → Walks nexts' s d walk' (link_to next) (call ∷ []) rest Nothing
 passes_sync nexts nexts' s d walk walk' next call rest h e here ends on = record {
   passed = h.passed ++ call ∷ [];
   begun = sync_calls h.passed;
@@ -50,7 +50,7 @@ passes_async nexts s d walk id next call rest h n e =
       begun_are = sync_calls-push h.passed call ∙ ap (λ (c : Class). sync_calls h.passed ++ if_sync c call) e;
       leads_here = subst (λ (xs : List Call). Path nexts (link_to walk.first) xs (link_to next)) (sym (passed_async h.passed call e))
           (Path-push nexts (link_to walk.first) (async_calls h.passed) call (link_to next)
-              (subst (λ (k : ℕ). Path nexts (link_to walk.first) (async_calls h.passed) k) h.leads_on.0 h.leads_here) linked);
+          (subst (λ (k : ℕ). Path nexts (link_to walk.first) (async_calls h.passed) k) h.leads_on.0 h.leads_here) linked);
       ends_at = (async_calls h.passed, call, passed_async h.passed call e, same);
       leads_on = subst (λ (k : ℕ). Path nexts k rest 0) linked h.leads_on.1;
       apart = h.apart;
@@ -77,7 +77,7 @@ info_leads nexts s d walk next call rest h n e None l =
       rest,
       passes_sync nexts nexts s d walk (record { first = next; last = None }) next call rest h e
           (subst (λ (xs : List Call). Path nexts (link_to next) xs (link_to next)) (sym none) refl) none
-              (subst (λ (k : ℕ). Path nexts k rest 0) n h.leads_on.1),
+          (subst (λ (k : ℕ). Path nexts k rest 0) n h.leads_on.1),
       n,
     )
 info_leads nexts s d walk next call rest h n e (Some last) l = (rest, h, n, e, l)

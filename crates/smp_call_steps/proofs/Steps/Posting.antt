@@ -127,14 +127,14 @@ module _ {a : CallState} {at : Word → ℕ} {control : ℕ → ControlValue} (m
   load_flags p e false false t o =
       let r = post_rests p post.LoadFlags e in
       stands_on (confirms a me p.id) at control me (to_stage None)
-          (confirms_kept a at control me p.id (unlocked_free (a.place p.id) (at (Flags p.id)) (s.written.locks p.id) t) s) (holds_at (Post p post.LoadFlags) e)
-          (ends_here a.place at r) r.hand
+      (confirms_kept a at control me p.id (unlocked_free (a.place p.id) (at (Flags p.id)) (s.written.locks p.id) t) s) (holds_at (Post p post.LoadFlags) e)
+      (ends_here a.place at r) r.hand
   load_flags p e false true t o =
       let r = post_rests p post.LoadFlags e in
       let was = was_at p post.LoadFlags e in
       let free = unlocked_free (a.place p.id) (at (Flags p.id)) (s.written.locks p.id) t in
       stands_on (confirms a me p.id) at control me (to_stage (Some (Post p post.Lock))) (confirms_kept a at control me p.id free s)
-          (holds_at (Post p post.LoadFlags) e)
+      (holds_at (Post p post.LoadFlags) e)
       (goes_here a.place at p post.LoadFlags post.Lock e (was.goes o) free) r.hand
 
   pub flags_step : (p : Posting) → (control me).stage ≡ Some (Post p post.LoadFlags) → StepShows a at control me (Post p post.LoadFlags)
@@ -147,7 +147,7 @@ module _ {a : CallState} {at : Word → ℕ} {control : ℕ → ControlValue} (m
   done_step id e =
       let h = stands_at (Done id) e in
       confirm_if a at (put control me (to_stage None)) me id (at (Flags id) % 2 == 1) refl
-          (stands_on a at control me (to_stage None) s (holds_at (Done id) e) h.0 (hand_at (Done id) e))
+      (stands_on a at control me (to_stage None) s (holds_at (Done id) e) h.0 (hand_at (Done id) e))
 
   -- the tallies where no tally word changes and the same is held
   tallied_on : (held' : ℕ → Option Holding) → ((cpu : ℕ) → cpu ≢ me → held' cpu ≡ a.held cpu) → ((cpu : ℕ) → one_held (held' me) cpu ≡ one_held (a.held me) cpu)
@@ -171,7 +171,7 @@ module _ {a : CallState} {at : Word → ℕ} {control : ℕ → ControlValue} (m
       let places' : ℕ → RecPlace = put a.place p.id place.Held in
       let at' : Word → ℕ = put_word at (Flags p.id) (flags_of p.class) in
       let h : Option Holding =
-          Some (record { call = record { id = p.id; class = class_of (flags_of p.class); func = 0; info = 0 }; to = 0; is_counted = false }) in
+      Some (record { call = record { id = p.id; class = class_of (flags_of p.class); func = 0; info = 0 }; to = 0; is_counted = false }) in
       let held' : ℕ → Option Holding = put a.held me h in
       let placed : put a.place p.id place.Held p.id ≡ place.Held = put_same a.place p.id place.Held in
       let stored : put_word at (Flags p.id) (flags_of p.class) (Flags p.id) ≡ flags_of p.class = put_same (flags_in at) p.id (flags_of p.class) in
@@ -285,11 +285,11 @@ module _ {a : CallState} {at : Word → ℕ} {control : ℕ → ControlValue} (m
       let now : holding_with (with_count p.to) (a.held me) ≡ held_of (Some (Post p post.LoadHead)) = ap (holding_with (with_count p.to)) held in
       let before : at (Queued me p.to) ≡ (length (sent_to p.to (a.sent me)) + 0) % 2 ^ 64 = rw held at (s.tallied.queued_are me p.to) in
       on_held p post.Count post.LoadHead (put_word at (Queued me p.to) n) h a.linked e k.0
-          (touches_none p.id a.place at (put_word at (Queued me p.to) n) (λ _. refl) (λ _. refl) (λ _. refl) (λ _. refl))
+      (touches_none p.id a.place at (put_word at (Queued me p.to) n) (λ _. refl) (λ _. refl) (λ _. refl) (λ _. refl))
       (record { head = λ _. refl; intr = λ _. refl; hand = λ _. refl }) refl now (rw now refl)
       (linked_on p h (rw held refl) (λ u x. post_holds p post.LoadHead u (rw now at x))) (λ _ _. refl)
       (tallied_for p n h (rw (now, one_here p p.func p.info) (count_more (at (Queued me p.to)) (length (sent_to p.to (a.sent me))) before))
-          (λ cpu ne. rw (now, held, one_counted p p.func p.info cpu ne) refl))
+      (λ cpu ne. rw (now, held, one_counted p p.func p.info cpu ne) refl))
       was.goes k
 
   pub uncount_step : (p : Posting) → (control me).stage ≡ Some (Post p post.Uncount) → StepShows a at control me (Post p post.Uncount)
@@ -301,13 +301,13 @@ module _ {a : CallState} {at : Word → ℕ} {control : ℕ → ControlValue} (m
       let h : Option Holding = holding_with (with_count p.to) (a.held me) in
       let now : holding_with (with_count p.to) (a.held me) ≡ held_of (Some (Post p post.Release)) = ap (holding_with (with_count p.to)) held in
       let before : at (Queued me p.to) ≡ (length (sent_to p.to (a.sent me)) + 1) % 2 ^ 64 =
-          rw (held, one_here p p.func p.info) at (s.tallied.queued_are me p.to) in
+      rw (held, one_here p p.func p.info) at (s.tallied.queued_are me p.to) in
       on_held p post.Uncount post.Release (put_word at (Queued me p.to) n) h a.linked e k.0
-          (touches_none p.id a.place at (put_word at (Queued me p.to) n) (λ _. refl) (λ _. refl) (λ _. refl) (λ _. refl))
+      (touches_none p.id a.place at (put_word at (Queued me p.to) n) (λ _. refl) (λ _. refl) (λ _. refl) (λ _. refl))
       (record { head = λ _. refl; intr = λ _. refl; hand = λ _. refl }) refl now (rw now refl)
       (linked_on p h (rw held refl) (λ u x. post_holds p post.Release u (rw now at x))) (λ _ _. refl)
       (tallied_for p n h (rw now (count_less (at (Queued me p.to)) (length (sent_to p.to (a.sent me))) before))
-          (λ cpu ne. rw (now, held, one_counted p p.func p.info cpu ne) refl))
+      (λ cpu ne. rw (now, held, one_counted p p.func p.info cpu ne) refl))
       was.goes k
 
   -- a step of a post that changes no word and no call
@@ -332,7 +332,7 @@ module _ {a : CallState} {at : Word → ℕ} {control : ℕ → ControlValue} (m
       let locked : FlagsShow place.Held (at (Flags p.id)) = rw placed at (s.written.locks p.id) in
       let stored : put_word at (Next p.id) link (Next p.id) ≡ link = put_same (nexts_in at) p.id link in
       subst (λ (x : Option Holding). Shows (links a me (Some link) x) (put_word at (Next p.id) link)
-          (put control me (to_stage (Some (Post p (post.Exchange link tries)))))) (sym is)
+      (put control me (to_stage (Some (Post p (post.Exchange link tries)))))) (sym is)
       (own_step a at at' control me p.id (to_stage (Some (Post p (post.Exchange link tries)))) a.place a.held linked' s (record {
         touches = touches_next p.id link a.place at;
         keeps = record { head = λ _. refl; intr = λ _. refl; hand = λ _. refl };
@@ -369,7 +369,7 @@ module _ {a : CallState} {at : Word → ℕ} {control : ℕ → ControlValue} (m
       let h : a.held me ≡ Some (holding p p.func p.info p.to true) = holds_at (Post p (post.Exchange link tries)) e in
       subst (λ (x : Option Holding). Shows (appended a me p.to x) (put_word at (Head p.to) (p.id + 1)) (put control me (to_stage None))) (sym h)
       (append_kept a at control me p.to (posted p) (to_stage None) s was.owned h was.is_call k.0 k.1 (k.2 ∙ sym (eqb-true (at (Head p.to)) link t)) refl
-          (ends_here (put a.place p.id (place.Queued p.to)) (put_word at (Head p.to) (p.id + 1)) r) r.hand)
+      (ends_here (put a.place p.id (place.Queued p.to)) (put_word at (Head p.to) (p.id + 1)) r) r.hand)
   exchange p link tries e false true won t =
       let was = was_at p (post.Exchange link tries) e in
       let k : PostKnows a.place at p (post.Exchange link tries) = was.knows in
@@ -415,7 +415,7 @@ module _ {a : CallState} {at : Word → ℕ} {control : ℕ → ControlValue} (m
   pub release_step : (p : Posting) → (control me).stage ≡ Some (Post p post.Release) → StepShows a at control me (Post p post.Release)
   release_step p e =
       subst (λ (x : Option Holding). Shows (releases a me p.id x) (put_word at (Flags p.id) 0) (put control me (to_stage None)))
-          (sym (holds_at (Post p post.Release) e)) (release_held p e)
+      (sym (holds_at (Post p post.Release) e)) (release_held p e)
 
   pub post_step : (p : Posting) (st : PostStage) → (control me).stage ≡ Some (Post p st) → StepShows a at control me (Post p st)
   post_step p post.LoadFlags e = flags_step p e

@@ -41,7 +41,7 @@ path_to : (nexts : ℕ → ℕ) (n link : ℕ) (front : List Call) (newest : Cal
     → Path (put nexts newest.id n) link (front ++ newest ∷ []) n
 path_to nexts n link front newest after absent l =
     Path-push (put nexts newest.id n) link front newest n
-        (path_else nexts newest.id n link front (newest.id + 1) absent (Path-cut nexts link front newest after l)) (test_here newest.id n (nexts newest.id))
+    (path_else nexts newest.id n link front (newest.id + 1) absent (Path-cut nexts link front newest after l)) (test_here newest.id n (nexts newest.id))
 
 module _ {a : CallState} {at : Word → ℕ} {control : ℕ → ControlValue} (me : ℕ) (s : Shows a at control) where
   -- the next word of a record of the own batch is stored
@@ -53,7 +53,7 @@ module _ {a : CallState} {at : Word → ℕ} {control : ℕ → ControlValue} (m
     stands = stands_after me s (put_word at (Next id) n) a.place (share_of a) c (λ _ _. refl)
         (λ cpu ne. leaves_others me id a.place a.place at (put_word at (Next id) n) (subst (Minds me id) (sym here) refl)
         (record { place_stays = λ _ _. refl; flags = λ _ _. refl; func = λ _ _. refl; info = λ _ _. refl; next = λ u f. test_else u id n (at (Next u)) f })
-            cpu ne)
+        cpu ne)
         stands;
     hands = hands_after me s c hand;
     placed = s.placed;
@@ -61,7 +61,7 @@ module _ {a : CallState} {at : Word → ℕ} {control : ℕ → ControlValue} (m
     chained = record {
       chain = λ cpu. Leads-kept (nexts_in at) (put (nexts_in at) id n) (IsPlaced a.place (place.Queued cpu))
           (λ call q. test_else call.id id n (at (Next call.id))
-              (else_by_place a.place call.id id (place.Queued cpu) (place.Batch me) q.placed here (Queued≢Batch cpu me)))
+          (else_by_place a.place call.id id (place.Queued cpu) (place.Batch me) q.placed here (Queued≢Batch cpu me)))
           (at (Head cpu)) (a.queue cpu) 0 (s.placed.queued cpu) (s.chained.chain cpu);
     };
     links = record {
@@ -94,9 +94,11 @@ module _ {a : CallState} {at : Word → ℕ} {control : ℕ → ControlValue} (m
       let before : IsAbsent id h.older = subst (λ (k : ℕ). IsAbsent k h.older) same (absent_before h.older call h.newer apart) in
       let after : IsAbsent id h.newer = subst (λ (k : ℕ). IsAbsent k h.newer) same (absent_after h.older call h.newer apart) in
       let linked : put (nexts_in at) id n call.id ≡ n = ap (put (nexts_in at) id n) same ∙ test_here id n (at (Next id)) in
-      let up : Path (put (nexts_in at) id n) (id + 1) (call ∷ h.newer) 0 =
-      (ap (λ (k : ℕ). k + 1) (sym same), subst (λ (k : ℕ). Path (put (nexts_in at) id n) k h.newer 0) (sym linked)
-          (path_else (nexts_in at) id n (link_to newer) h.newer 0 after h.leads_up)) in
+      let up : Path (put (nexts_in at) id n) (id + 1) (call ∷ h.newer) 0 = (
+        ap (λ (k : ℕ). k + 1) (sym same),
+        subst (λ (k : ℕ). Path (put (nexts_in at) id n) k h.newer 0) (sym linked)
+            (path_else (nexts_in at) id n (link_to newer) h.newer 0 after h.leads_up),
+      ) in
       let counted : (control me).drain.calls + 1 ≡ length (call ∷ h.newer) = (let k = h.counted in omega arith) in
       subst (λ (x : Option Holding). Shows (links a me (Some n) x) (put_word at (Next id) n) (put control me c)) (sym held)
       (relinked id n here c held (
@@ -123,26 +125,32 @@ module _ {a : CallState} {at : Word → ℕ} {control : ℕ → ControlValue} (m
       let same : newest.id ≡ last = end.3 in
       let all = walks_passed (IsPlaced a.place (place.Batch me)) h (s.placed.batched me) in
       let mine : IsPlaced a.place (place.Batch me) newest =
-          every_last (IsPlaced a.place (place.Batch me)) front newest (subst (λ (xs : List Call). AllPlaced a.place (place.Batch me) xs) parts all) in
+      every_last (IsPlaced a.place (place.Batch me)) front newest (subst (λ (xs : List Call). AllPlaced a.place (place.Batch me) xs) parts all) in
       let here : a.place last ≡ place.Batch me = ap a.place (sym same) ∙ mine.placed in
       let apart : IsApart (h.passed ++ call ∷ rest) = subst IsApart h.whole h.apart in
       let asyncs : IsApart (front ++ newest ∷ []) = subst IsApart parts (apart_async h.passed (apart_left h.passed (call ∷ rest) apart)) in
       let across = every_async (λ x. IsAbsent x.id (call ∷ rest)) h.passed (apart_across h.passed (call ∷ rest) apart) in
       let away : IsAbsent newest.id (call ∷ rest) =
-          every_last (λ x. IsAbsent x.id (call ∷ rest)) front newest
-          (subst (λ (xs : List Call). AllByRecursion (λ x. IsAbsent x.id (call ∷ rest)) xs) parts across) in
+      every_last (λ x. IsAbsent x.id (call ∷ rest)) front newest
+      (subst (λ (xs : List Call). AllByRecursion (λ x. IsAbsent x.id (call ∷ rest)) xs) parts across) in
       let gone : IsAbsent last rest = subst (λ (k : ℕ). IsAbsent k rest) same away.1 in
       let passed : Path (put (nexts_in at) last n) (link_to walk.first) (async_calls h.passed) n =
       subst (λ (xs : List Call). Path (put (nexts_in at) last n) (link_to walk.first) xs n) (sym parts)
       (subst (λ (k : ℕ). Path (put (nexts_in at) k n) (link_to walk.first) (front ++ newest ∷ []) n) same
       (path_to (nexts_in at) n (link_to walk.first) front newest (call.id + 1) (absent_before front newest [] asyncs)
-          (subst (λ (xs : List Call). Path (nexts_in at) (link_to walk.first) xs (call.id + 1)) parts h.leads_here))) in
+      (subst (λ (xs : List Call). Path (nexts_in at) (link_to walk.first) xs (call.id + 1)) parts h.leads_here))) in
       let linked : put (nexts_in at) last n call.id ≡ link_to next =
       test_else call.id last n (at (Next call.id)) (subst (λ (k : ℕ). call.id ≢ k) same away.0) ∙ was.1.2 in
       let on : Path (put (nexts_in at) last n) (link_to next) rest 0 =
-          path_else (nexts_in at) last n (link_to next) rest 0 gone (subst (λ (k : ℕ). Path (nexts_in at) k rest 0) was.1.2 h.leads_on.1) in
+      path_else (nexts_in at) last n (link_to next) rest 0 gone (subst (λ (k : ℕ). Path (nexts_in at) k rest 0) was.1.2 h.leads_on.1) in
       subst (λ (x : Option Holding). Shows (links a me (Some n) x) (put_word at (Next last) n) (put control me c)) (sym held)
-      (relinked last n here c held
-      (was.0, (rest, passes_sync (nexts_in at) (put (nexts_in at) last n) (share_of a me)
-          (control me).drain walk walk next call rest h was.1.3 passed h.ends_at on, linked))
+      (relinked last n here c held (
+        was.0,
+        (
+          rest,
+          passes_sync (nexts_in at) (put (nexts_in at) last n) (share_of a me)
+              (control me).drain walk walk next call rest h was.1.3 passed h.ends_at on,
+          linked,
+        ),
+      )
       (hand_at me s (handle.Unlink walk last call next) e))

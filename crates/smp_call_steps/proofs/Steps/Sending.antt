@@ -86,12 +86,12 @@ noticed_still a me to cpu ne (is_owed source o) = is_owed source (owed_else a.ow
 pub send_kept : (a : CallState) (at : Word → ℕ) (control : ℕ → ControlValue) (me to : ℕ) (next : ControlValue) → Shows a at control
     → a.held me ≡ held_of next.stage →
     Stands a.place (put_word at (Intr to) 1) (share_of a me) me next → HandIs next.stage (at (Hand me))
-        → Shows (sends a me to) (put_word at (Intr to) 1) (put control me next)
+    → Shows (sends a me to) (put_word at (Intr to) 1) (put control me next)
 send_kept a at control me to next s held stands hand = record {
   held = put_all (λ cpu (x : ControlValue). a.held cpu ≡ held_of x.stage) control me next held (λ cpu _. s.held cpu);
   stands = put_all (λ cpu x. Stands a.place at' (share_of a cpu) cpu x) control me next stands
       (λ cpu _. Stands-kept (leaves_all a.place at at' (λ _. refl) (λ _. refl) (λ _. refl) (λ _. refl) cpu) (share_of a cpu) (control cpu)
-          (s.placed.batched cpu) (s.stands cpu));
+      (s.placed.batched cpu) (s.stands cpu));
   hands = put_all (λ cpu (x : ControlValue). HandIs x.stage (at (Hand cpu))) control me next hand (λ cpu _. s.hands cpu);
   placed = s.placed;
   written = s.written;

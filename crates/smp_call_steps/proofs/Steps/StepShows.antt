@@ -13,4 +13,4 @@ StepShows a at control me stage =
     let access = access_of at me stage in
     let found = at (word_of access) in
     Shows (tells a (seen_of me access found (outcome_of (control me).drain stage found).note)) (at_after at access)
-        (put control me (control_after (control me) stage found))
+    (put control me (control_after (control me) stage found))

@@ -44,7 +44,7 @@ taken_batch me cpu (place.Batch c) ne e = e
 taken_batch me cpu (place.Running c) ne e = cc
 taken_batch me cpu (place.Queued c) ne e =
     at_test c me (λ b. cond b (place.Batch me) (place.Queued c) ≡ place.Batch cpu → place.Queued c ≡ place.Batch cpu)
-        (λ _ f. absurd (ne (same_cpu cpu me (sym f)))) (λ _ f. f) e
+    (λ _ f. absurd (ne (same_cpu cpu me (sym f)))) (λ _ f. f) e
   where
     same_cpu : (x y : ℕ) → place.Batch x ≡ place.Batch y → x ≡ y
     same_cpu x y f = cc
@@ -91,7 +91,7 @@ module _ (a : CallState) (at : Word → ℕ) (me : ℕ) where
   there id place.Held none h = h
   there id (place.Queued c) none h = at_test c me (λ b. IsThere a.held queue' batch' a.running id (cond b (place.Batch me) (place.Queued c)))
       (λ e. subst (HasRecord id) (sym (test_here me (order (a.queue me)) (a.batch me)))
-          (has_order id (a.queue me) (subst (λ (k : ℕ). HasRecord id (a.queue k)) e h)))
+      (has_order id (a.queue me) (subst (λ (k : ℕ). HasRecord id (a.queue k)) e h)))
       (λ ne. subst (HasRecord id) (sym (test_else c me [] (a.queue c) ne)) h)
   there id (place.Batch c) none h = at_test c me (λ b. HasRecord id (cond b (order (a.queue me)) (a.batch c)))
       (λ e. absurd (subst (HasRecord id) (ap a.batch e ∙ none) h))
@@ -102,12 +102,12 @@ module _ (a : CallState) (at : Word → ℕ) (me : ℕ) where
   placed_taken none p = record {
     queued = λ cpu. at_test cpu me (λ b. AllPlaced place' (place.Queued cpu) (cond b [] (a.queue cpu))) (λ _. tt)
         (λ ne. every (IsPlaced a.place (place.Queued cpu)) (IsPlaced place' (place.Queued cpu))
-            (λ call h. record { is_call = h.is_call; placed = ap (place_taken me) h.placed ∙ taken_else me cpu ne }) (a.queue cpu) (p.queued cpu));
+        (λ call h. record { is_call = h.is_call; placed = ap (place_taken me) h.placed ∙ taken_else me cpu ne }) (a.queue cpu) (p.queued cpu));
     batched = λ cpu. at_test cpu me (λ b. AllPlaced place' (place.Batch cpu) (cond b (order (a.queue me)) (a.batch cpu)))
         (λ e. subst (λ (k : ℕ). AllPlaced place' (place.Batch k) (order (a.queue me))) (sym e)
         (every_order (IsPlaced place' (place.Batch me)) (a.queue me)
         (every (IsPlaced a.place (place.Queued me)) (IsPlaced place' (place.Batch me))
-            (λ call h. record { is_call = h.is_call; placed = ap (place_taken me) h.placed ∙ taken_here me }) (a.queue me) (p.queued me))))
+        (λ call h. record { is_call = h.is_call; placed = ap (place_taken me) h.placed ∙ taken_here me }) (a.queue me) (p.queued me))))
         (λ _. every (IsPlaced a.place (place.Batch cpu)) (IsPlaced place' (place.Batch cpu)) (moved (place.Batch cpu)) (a.batch cpu) (p.batched cpu));
     runs = λ cpu. every (IsPlaced a.place (place.Running cpu)) (IsPlaced place' (place.Running cpu)) (moved (place.Running cpu)) (locked_by (a.running cpu))
         (p.runs cpu);
@@ -189,13 +189,17 @@ module _ {a : CallState} {at : Word → ℕ} {control : ℕ → ControlValue} (m
         held = held_after me s c (holds_nothing me s handle.Take e);
         stands = stands_after me s (put_word at (Head me) 0) (place' a at me) (share_of (takes a me)) c
             (λ cpu ne. at_test cpu me (λ b.
-                record { last = last_batch (cond b (a.taken me ++ a.queue me ∷ []) (a.taken cpu)); batch = cond b (order (a.queue me)) (a.batch cpu);
-                running = a.running cpu; accepted = cond b false (a.accepted cpu) } ≡ share_of a cpu) (λ f. absurd (ne f)) (λ _. refl))
+            record {
+              last = last_batch (cond b (a.taken me ++ a.queue me ∷ []) (a.taken cpu));
+              batch = cond b (order (a.queue me)) (a.batch cpu);
+              running = a.running cpu;
+              accepted = cond b false (a.accepted cpu);
+            } ≡ share_of a cpu) (λ f. absurd (ne f)) (λ _. refl))
             (λ cpu _. leaves_taken cpu) (
               was.0,
               reverse_goes (nexts_in at) after no_drain None (record_at link) (a.queue me) [] (whole ∙ sym (append-nil (a.queue me)))
                   (subst (λ (n : ℕ). Leads (nexts_in at) n (a.queue me) 0) (sym (link_back link)) (s.chained.chain me)) refl
-                      (subst IsApart (sym whole) (s.placed.queue_apart me)) refl
+                  (subst IsApart (sym whole) (s.placed.queue_apart me)) refl
                   (test_here me (order (a.queue me)) (a.batch me) ∙ ap order (sym whole)) k.1 (test_here me false (a.accepted me)),
             );
         hands = hands_after me s c (hand_of_reverse None (record_at link) (at (Hand me)) (hand_at me s handle.Take e));

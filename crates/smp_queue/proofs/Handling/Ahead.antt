@@ -29,7 +29,7 @@ left_here [] call rest a = test_here call.id (suc (length rest)) (left_from (Som
 left_here (x ∷ xs) call rest a =
     let absent = every_right (λ c. c.id ≢ x.id) xs (call ∷ rest) a.0 in
     test_else x.id call.id (suc (length (xs ++ call ∷ rest))) (left_from (Some call.id) (xs ++ call ∷ rest)) (λ e. absent.0 (sym e))
-        ∙ left_here xs call rest a.1
+    ∙ left_here xs call rest a.1
 
 pub left_next : (nexts : ℕ → ℕ) (next : Option ℕ) (passed : List Call) (rest : List Call) → Path nexts (link_to next) rest 0 → IsApart (passed ++ rest)
     → left_from next (passed ++ rest) ≡ length rest
@@ -48,10 +48,10 @@ walks_less nexts s d walk id n call rest w found =
     let same : call.id ≡ id = same_record id call w.leads_on.0 in
     let whole : s.last ≡ (w.passed ++ call ∷ []) ++ rest = w.whole ∙ sym (append_assoc w.passed (call ∷ []) rest) in
     let leads : Path nexts (link_to (record_at n)) rest 0 =
-        subst (λ (k : ℕ). Path nexts k rest 0) (ap nexts same ∙ (sym found ∙ sym (link_back n))) w.leads_on.1 in
+    subst (λ (k : ℕ). Path nexts k rest 0) (ap nexts same ∙ (sym found ∙ sym (link_back n))) w.leads_on.1 in
     let from_here : left_from (Some id) s.last ≡ suc (length rest) =
     ap (left_from (Some id)) w.whole ∙ subst (λ (k : ℕ). left_from (Some k) (w.passed ++ call ∷ rest) ≡ suc (length rest)) same
-        (left_here w.passed call rest (subst IsApart w.whole w.apart)) in
+    (left_here w.passed call rest (subst IsApart w.whole w.apart)) in
     let from_next : left_from (record_at n) s.last ≡ length rest =
     ap (left_from (record_at n)) whole ∙ left_next nexts (record_at n) (w.passed ++ call ∷ []) rest leads (subst IsApart whole w.apart) in
     omega arith

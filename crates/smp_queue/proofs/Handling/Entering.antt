@@ -28,8 +28,11 @@ module _ (t : TableId) (d d' : SeatValue) (number : ℕ) where
     table_is = o.table_is;
     sized = o.sized;
     can =
-        record { stage = Handle handle.Enter; aims = (o.stage_is, subst (λ (n : ℕ). n < cpus) (sym o.number_is) o.below);
-        is_access = ap (λ (n : ℕ). Store (Hand n) 1) o.number_is };
+        record {
+          stage = Handle handle.Enter;
+          aims = (o.stage_is, subst (λ (n : ℕ). n < cpus) (sym o.number_is) o.below);
+          is_access = ap (λ (n : ℕ). Store (Hand n) 1) o.number_is;
+        };
     apart = tt;
     cell = has_cell (Hand number) o.below;
   }
@@ -61,7 +64,7 @@ module _ (t : TableId) (d d' : SeatValue) (number : ℕ) where
 pub accepted_then : (t : TableId) (d d' : SeatValue) (v : Known) (number n : ℕ) (q : List Call) → InHandle t d handle.Accept → Moment d.known (Intr number) n
     → d.known ≡ handling handle.Accept v.drain v →
     d'.known ≡ known_taking q d.known act.Swap (Intr number) (Some n) (Some 0)
-        → d'.known ≡ accepted_known (cond (n == 0) false true) (handling handle.Accept v.drain v)
+    → d'.known ≡ accepted_known (cond (n == 0) false true) (handling handle.Accept v.drain v)
 accepted_then t d d' v number n q h m is known =
     let one : (n == 1) ≡ cond (n == 0) false true = subst (λ (k : ℕ). (k == 1) ≡ cond (k == 0) false true) (sym m.number_is) (lives_intr m.lives number) in
     known ∙ (accepted_is q d.known number n h.stage_is one ∙ ap (accepted_known (cond (n == 0) false true)) is)
@@ -77,7 +80,7 @@ pub ran_order : (v w : Known) (queue calls : List Call) → Lives v → v.part.b
 ran_order v w queue calls lv bv rv lw bw rw' taken ran =
     append_cancel_left v.part.ran calls (order queue)
     (sym ran ∙ (ran_orders w lw bw rw'
-        ∙ (ap orders taken ∙ (orders-push v.part.taken queue ∙ ap (λ (xs : List Call). xs ++ order queue) (sym (ran_orders v lv bv rv))))))
+    ∙ (ap orders taken ∙ (orders-push v.part.taken queue ∙ ap (λ (xs : List Call). xs ++ order queue) (sym (ran_orders v lv bv rv))))))
 
 pub FoldsTo-append : {A B : Type 0} (R : A → B → A → Type 0) (p : A) (xs : List B) (q : A) (ys : List B) (r : A) → FoldsTo R p xs q → FoldsTo R q ys r
     → FoldsTo R p (xs ++ ys) r
@@ -90,25 +93,25 @@ module _ {H : Type 0} (leads : H → Heard → H → Type 0) (t : TableId) (s0 s
   pub has_handled : s0.table ≡ t → InHandle t s1 handle.Take → s1.known ≡ accepted_known true (handling handle.Accept s0.known.drain s0.known) → s2.table ≡ t
       → s2.known ≡ taken_known queue newest s1.known →
       s3.table ≡ t → s3.known ≡ record (s2.known) { stage = s3.known.stage; drain = s3.known.drain } → HasRunAll leads s3 s4 counts before between
-          → InHandle t s5 handle.Leave → HasRunAll leads s4 s5 counts' between after → s6.table ≡ t → s6.known ≡ outside_known s5.known →
+      → InHandle t s5 handle.Leave → HasRunAll leads s4 s5 counts' between after → s6.table ≡ t → s6.known ≡ outside_known s5.known →
       s5.known.drain.calls ≡ s3.known.drain.calls → (batch : List Call) × (cpu_of s6 ≡ drains batch (asks true (cpu_of s0)))
-          × (Grows leads before (order batch) after) × (s3.known.drain.calls ≡ length batch)
+      × (Grows leads before (order batch) after) × (s3.known.drain.calls ≡ length batch)
   has_handled t0 h1 k1 t2 k2 t3 k3 ran h5 ran' t6 k6 same_calls =
       let c1 : cpu_of s1 ≡ asks true (cpu_of s0) = λ i. cpu_of (record { table = (h1.table_is ∙ sym t0) i; known = k1 i }) in
       let c2 : cpu_of s2 ≡ record (cpu_of s1) { part = part_taken queue s1.known.part } =
-          λ i. cpu_of (record { table = (t2 ∙ sym h1.table_is) i; known = k2 i }) in
+      λ i. cpu_of (record { table = (t2 ∙ sym h1.table_is) i; known = k2 i }) in
       let c3 : cpu_of s3 ≡ cpu_of s2 = λ i. cpu_of (record { table = (t3 ∙ sym t2) i; known = k3 i }) in
       let c6 : cpu_of s6 ≡ cpu_of s5 = λ i. cpu_of (record { table = (t6 ∙ sym h5.table_is) i; known = k6 i }) in
       let c5 : cpu_of s5 ≡ runs (ran.calls ++ ran'.calls) s5.known.part (record (cpu_of s1) { part = part_taken queue s1.known.part }) =
       ran'.cpu ∙ (ap (runs ran'.calls s5.known.part) (ran.cpu ∙ ap (runs ran.calls s4.known.part) (c3 ∙ c2))
-          ∙ more_calls ran.calls ran'.calls s5.known.part (record (cpu_of s1) { part = part_taken queue s1.known.part })) in
+      ∙ more_calls ran.calls ran'.calls s5.known.part (record (cpu_of s1) { part = part_taken queue s1.known.part })) in
       let taking = lives_stands h1.lives handle.Take h1.stage_is in
       let leaves = lives_stands h5.lives handle.Leave h5.stage_is in
       let leaving = leaves.0 in
       let taken : s5.known.part.taken ≡ s1.known.part.taken ++ queue ∷ [] = ap (λ (v : CpuValue). v.part.taken) c5 in
       let same : ran.calls ++ ran'.calls ≡ order queue =
-          ran_order s1.known s5.known queue (ran.calls ++ ran'.calls) h1.lives taking.0 taking.1 h5.lives leaving.batch leaving.running taken
-          (ap (λ (v : CpuValue). v.part.ran) c5) in (
+      ran_order s1.known s5.known queue (ran.calls ++ ran'.calls) h1.lives taking.0 taking.1 h5.lives leaving.batch leaving.running taken
+      (ap (λ (v : CpuValue). v.part.ran) c5) in (
         queue,
         c6 ∙ (c5 ∙ (λ i. record (c1 i)
             { part = record (part_taken queue (c1 i).part) { batch = leaving.batch i; running = leaving.running i; ran = (c1 i).part.ran ++ same i } })),

@@ -73,11 +73,11 @@ module _ {t : TableId} {d d1 : SeatValue} (d2 d3 : SeatValue) (id : ℕ) {n : �
       async_known =
           let k1 = next_known d1 at id n l1 in
           let k2 =
-              l2.known ∙ (func_found_is d1.known (handle.AsyncFunc id (record_at n)) id func async_func_at.stage_is
-              ∙ ap (goes_known (handle.AsyncFunc id (record_at n)) func) k1) in
+          l2.known ∙ (func_found_is d1.known (handle.AsyncFunc id (record_at n)) id func async_func_at.stage_is
+          ∙ ap (goes_known (handle.AsyncFunc id (record_at n)) func) k1) in
           let k3 =
-              l3.known ∙ (info_found_is d2.known (handle.AsyncInfo id (record_at n) func) id info async_info_at.stage_is
-              ∙ ap (goes_known (handle.AsyncInfo id (record_at n) func) info) k2) in
+          l3.known ∙ (info_found_is d2.known (handle.AsyncInfo id (record_at n) func) id info async_info_at.stage_is
+          ∙ ap (goes_known (handle.AsyncInfo id (record_at n) func) info) k2) in
           k3 ∙ ap (λ (x : Option Stage). record (d.known) { stage = x }) (sym (ap (λ (u : Known). u.stage) k3))
 
 -- what has run has run still, after steps that tell nothing
@@ -88,8 +88,11 @@ run_kept {H} leads before d d' counts p q r table k = record {
   drain = ap (λ (u : Known). u.drain) k ∙ r.drain;
   cpu = (λ i. cpu_of (record { table = table i; known = k i })) ∙ (r.cpu ∙ (λ i. runs r.calls (sym k i).part (cpu_of before)));
   counts_are =
-      record { sized = r.counts_are.sized; are = λ source l. r.counts_are.are source l
-      ∙ ap (λ (u : Known). length (calls_from source u.part.ran) % 2 ^ 64) (sym k) };
+      record {
+        sized = r.counts_are.sized;
+        are = λ source l. r.counts_are.are source l
+            ∙ ap (λ (u : Known). length (calls_from source u.part.ran) % 2 ^ 64) (sym k);
+      };
   grows = r.grows;
 }
 

@@ -20,8 +20,13 @@ module _ {t : TableId} {d : SeatValue} {stage : HandleStage} (h : InHandle t d s
   -- a step that begins, counts and ends no call
   pub in_handle_ready : (access : Access) → IsApartFromCalls (Handle stage) → known_access d.known (Handle stage) ≡ access → Ready t d access
   in_handle_ready access apart is =
-      record { table_is = h.table_is; sized = h.sized; can = record { stage = Handle stage; aims = lives_aims h.lives stage h.stage_is; is_access = is };
-      apart = apart; cell = in_handle_cell access is }
+      record {
+        table_is = h.table_is;
+        sized = h.sized;
+        can = record { stage = Handle stage; aims = lives_aims h.lives stage h.stage_is; is_access = is };
+        apart = apart;
+        cell = in_handle_cell access is;
+      }
 
 -- after a step of its CPU
 pub in_handle_then : (t : TableId) (d' : SeatValue) (stage : HandleStage) (v : Known) → t.words ≡ cells → d'.table ≡ t → Lives d'.known → d'.known ≡ v

@@ -32,11 +32,11 @@ more_ran counts counts' v w call a in_range ran is = rw is (record {
         rw e (get_or-set_same counts (owner call.id) ((get_or counts (owner call.id) 0 + 1) % 2 ^ 64) 0
         (let s = a.sized in let b = owner-below call.id in_range in omega arith)
         ∙ count_wraps (get_or counts (owner call.id) 0) (length (calls_from (owner call.id) v.part.ran)) (length (calls_from (owner call.id) w.part.ran))
-            (a.are (owner call.id) (owner-below call.id in_range))
+        (a.are (owner call.id) (owner-below call.id in_range))
         (ap (λ (calls : List Call). length (calls_from (owner call.id) calls)) ran ∙ count-same (owner call.id) v.part.ran call refl))
     | inr ne ↦ get_or-set_other counts (owner call.id) source ((get_or counts (owner call.id) 0 + 1) % 2 ^ 64) 0 ne
         ∙ (a.are source l ∙ ap (λ (n : ℕ). n % 2 ^ 64)
-            (sym (ap (λ (calls : List Call). length (calls_from source calls)) ran ∙ count-other source v.part.ran call (λ e. ne (sym e)))))
+        (sym (ap (λ (calls : List Call). length (calls_from source calls)) ran ∙ count-other source v.part.ran call (λ e. ne (sym e)))))
   ];
 })
 

@@ -87,14 +87,14 @@ module _ {v : Known} {number : ℕ} {queued ran : List ℕ} (k : IsKept v number
           rw e (get_or-set_same queued to ((get_or queued to 0 + 1) % 2 ^ 64) 0 (let q = k.queued_sized in omega arith)
           ∙ (one_more (get_or queued to 0) (length (sent_to to v.part.sent)) (k.queued_are to below) ∙
           ap (λ n. n % 2 ^ 64) (sym (ap length
-              (sent_to-push to v.part.sent (record { call = call; to = to; is_first = first })
-              ∙ ap (λ (ms : List Marked). sent_to to v.part.sent ++ ms) (one_if-same to to (mark first call) refl))
-              ∙ length-append (sent_to to v.part.sent) (mark first call ∷ [])))))
+          (sent_to-push to v.part.sent (record { call = call; to = to; is_first = first })
+          ∙ ap (λ (ms : List Marked). sent_to to v.part.sent ++ ms) (one_if-same to to (mark first call) refl))
+          ∙ length-append (sent_to to v.part.sent) (mark first call ∷ [])))))
       | inr ne ↦ get_or-set_other queued to cpu ((get_or queued to 0 + 1) % 2 ^ 64) 0 ne ∙ (k.queued_are cpu l ∙
           ap (λ n. n % 2 ^ 64) (sym (ap length
-              (sent_to-push cpu v.part.sent (record { call = call; to = to; is_first = first })
-              ∙ (ap (λ (ms : List Marked). sent_to cpu v.part.sent ++ ms) (one_if-other to cpu (mark first call) (λ e. ne (sym e)))
-              ∙ append-nil (sent_to cpu v.part.sent))))))
+          (sent_to-push cpu v.part.sent (record { call = call; to = to; is_first = first })
+          ∙ (ap (λ (ms : List Marked). sent_to cpu v.part.sent ++ ms) (one_if-other to cpu (mark first call) (λ e. ne (sym e)))
+          ∙ append-nil (sent_to cpu v.part.sent))))))
     ];
     ran_are = k.ran_are;
   }

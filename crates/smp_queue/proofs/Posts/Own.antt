@@ -71,8 +71,13 @@ mine_of table s c p view is sized m =
     let call = m.is_call in
     record {
       at =
-          record { table_is = ap (λ (x : CpuValue). x.table) view ∙ is; sized = sized; me_in_range = omega arith; owned = m.owned ∙ sym n;
-          in_range = call.in_range };
+          record {
+            table_is = ap (λ (x : CpuValue). x.table) view ∙ is;
+            sized = sized;
+            me_in_range = omega arith;
+            owned = m.owned ∙ sym n;
+            in_range = call.in_range;
+          };
       is_call = call;
       to_in_range = m.to_in_range;
     }
@@ -86,7 +91,7 @@ set_twice (z ∷ zs) (suc i) x y = ap (λ (ws : List _). z ∷ ws) (set_twice zs
 pub posts_then : (s s' : SeatValue) (w : Known) (old new : CpuValue) (k to func info : ℕ) (class : Class) (p : Posting) (first : Bool) → cpu_of s ≡ new
     → new ≡ confirms k old →
     p ≡ posting_of (record_of old.number k) class func info to → s'.table ≡ old.table → w ≡ standing (uncounted p) post.Count s.known
-        → s'.known ≡ queued_known (posted p) p.to first w →
+    → s'.known ≡ queued_known (posted p) p.to first w →
     cpu_of s' ≡ posts k to class func info first old
 posts_then s s' w old new k to func info class p first view confirmed posting table stands queued =
     let id = record_of old.number k in

@@ -63,7 +63,7 @@ store_step a at control v w x can shown sees =
 exchange_step : (a : CallState) (at : Word → ℕ) (control : ℕ → ControlValue) (v : Known) (w : Word) (old new : ℕ) → MayAccess v (Exchange w old new)
     → Shows a at control → Sees a control v →
     GoesOn a control v.number (put_if put_word at w (cond (at w == old) (Some new) None))
-        (known_told v act.Cas w (Some (at w)) (cond (at w == old) (Some new) None))
+    (known_told v act.Cas w (Some (at w)) (cond (at w == old) (Some new) None))
 exchange_step a at control v w old new can shown sees =
     subst (GoesOn a control v.number (put_if put_word at w (cond (at w == old) (Some new) None)))
     (exchange_else (a.queue v.number) v w (at w) (cond (at w == old) (Some new) None))
@@ -116,10 +116,10 @@ module _ {S : Type 0} where
         each_seat = λ j u e. ⊎_elim
             (λ (t : get_elem? (set s.views id (Maker (n + 1))) j ≡ some u). ⊎_elim
             (λ (t : (j ≡ id) × (Maker (n + 1) ≡ u)). subst (SeatKnows r.calls r.controls (put r.seat n (length (set s.views id (Maker (n + 1))))) (n + 1) j) t.1
-                (refl, t.0 ∙ mine.1))
+            (refl, t.0 ∙ mine.1))
             (λ (t : (j ≢ id) × (get_elem? s.views j ≡ some u)). old j u t.0 t.1 (r.each_seat j u t.1)) (at_set s.views id j (Maker (n + 1)) u t))
             (λ (t : (j ≡ length (set s.views id (Maker (n + 1)))) × (Cpu (fresh n) ≡ u)).
-                subst (SeatKnows r.calls r.controls (put r.seat n (length (set s.views id (Maker (n + 1))))) (n + 1) j) t.1
+            subst (SeatKnows r.calls r.controls (put r.seat n (length (set s.views id (Maker (n + 1))))) (n + 1) j) t.1
             (omega arith, put_same r.seat n (length (set s.views id (Maker (n + 1)))) ∙ sym t.0, r.absent n (let a = mine.0 in omega arith)))
             (at_snoc (set s.views id (Maker (n + 1))) (Cpu (fresh n)) u j e);
         absent = λ c l. r.absent c (let a = mine.0 in omega arith);
@@ -137,7 +137,7 @@ module _ {S : Type 0} where
     shown = g.shown;
     each_seat = λ j u e. ⊎_elim
         (λ (t : (j ≡ id) × (Cpu w ≡ u)). subst (SeatKnows g.calls g.controls r.seat r.next j) t.1
-            (subst (λ k. k < r.next) (sym g.number_is) mine.0, ap r.seat g.number_is ∙ (mine.1 ∙ sym t.0), g.mine))
+        (subst (λ k. k < r.next) (sym g.number_is) mine.0, ap r.seat g.number_is ∙ (mine.1 ∙ sym t.0), g.mine))
         (λ (t : (j ≢ id) × (get_elem? s.views j ≡ some u)). other j u t.0 (r.each_seat j u t.1)) (at_set s.views id j (Cpu w) u e);
     absent = λ c l. g.others (fresh c) (λ e. let a = mine.0 in let b = e in omega arith) (r.absent c l);
   }
@@ -155,7 +155,7 @@ module _ {S : Type 0} where
 
     steps : (i : ℕ) (f : ℕ → ℕ) (then : ℕ → Me S SeatView → Type 0) →
         ((a : CallState) (control : ℕ → ControlValue) (words : List ℕ) → Shows a (number_in words) control → length words ≡ cells → Sees a control (known me.0)
-            →
+        →
         (w : Known) × GoesOn a control (known me.0).number (number_in (set words i (f (get_or words i 0)))) w × then (get_or words i 0) (Cpu w, me.1)) →
         Allows Ruled slots id me i f (λ n m. Lives (known m.0) × then n m)
     steps i f then go s r sized at fits =
@@ -172,10 +172,12 @@ module _ {S : Type 0} where
           known_told v act.Load w (Some (get_or words i 0)) None,
           subst (λ (x : List ℕ). GoesOn a control v.number (number_in x) (known_told v act.Load w (Some (get_or words i 0)) None)) (sym (set-get_or words i 0))
               (subst (λ n. GoesOn a control v.number (number_in words) (known_told v act.Load w (Some n) None)) here
-                  (load_step a (number_in words) control v w can shown sees)),
+              (load_step a (number_in words) control v w can shown sees)),
           λ u f. (
-            record { lives = record { calls = a; at = number_in words; controls = control; shown = shown; sees = sees };
-                number_is = sym (number_here words u i f) },
+            record {
+              lives = record { calls = a; at = number_in words; controls = control; shown = shown; sees = sees };
+              number_is = sym (number_here words u i f);
+            },
             ap (λ (x : Word). Cpu (known_told v act.Load x (Some (get_or words i 0)) None)) (one_cell w u i e f),
           ),
         ))
@@ -205,7 +207,7 @@ module _ {S : Type 0} where
           known_told v act.Cas w (Some n) (cond (n == old) (Some new) None),
           subst (λ (at : Word → ℕ). GoesOn a control v.number at (known_told v act.Cas w (Some n) (cond (n == old) (Some new) None))) same
               (subst (λ k. GoesOn a control v.number (put_if put_word (number_in words) w (cond (number_in words w == old) (Some new) None))
-                  (known_told v act.Cas w (Some k) (cond (k == old) (Some new) None))) here
+              (known_told v act.Cas w (Some k) (cond (k == old) (Some new) None))) here
               (exchange_step a (number_in words) control v w old new can shown sees)),
           λ u f. ap (λ (x : Word). Cpu (known_told v act.Cas x (Some n) (cond (n == old) (Some new) None))) (one_cell w u i e f),
         ))
@@ -219,10 +221,12 @@ module _ {S : Type 0} where
           subst (λ (at : Word → ℕ). GoesOn a control v.number at (known_taking q v act.Swap w (Some (get_or words i 0)) (Some x)))
               (sym (stored_here words w i x wide e))
               (subst (λ n. GoesOn a control v.number (put_word (number_in words) w x) (known_taking q v act.Swap w (Some n) (Some x))) here
-                  (known_step shown sees can.stage can.aims (Swap w x) can.is_access)),
+              (known_step shown sees can.stage can.aims (Swap w x) can.is_access)),
           λ u f. (
-            record { lives = record { calls = a; at = number_in words; controls = control; shown = shown; sees = sees };
-                number_is = sym (number_here words u i f) },
+            record {
+              lives = record { calls = a; at = number_in words; controls = control; shown = shown; sees = sees };
+              number_is = sym (number_here words u i f);
+            },
             ap (λ (y : Word). Cpu (known_taking q v act.Swap y (Some (get_or words i 0)) (Some x))) (one_cell w u i e f),
           ),
         ))

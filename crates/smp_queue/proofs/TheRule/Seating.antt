@@ -21,7 +21,7 @@ pub record AreSeated (table maker_table : TableId) (maker : SeatView) (online n 
 pub seats_more : (table maker_table maker_table' : TableId) (maker maker' : SeatView) (online n : ℕ) (waiting waiting' : List (Option CpuValue))
     (x : Option CpuValue) → AreSeated table maker_table maker online n waiting →
     maker_table' ≡ table → maker' ≡ Maker (n + 1) → waiting' ≡ waiting ++ x ∷ [] → x ≡ cond (has online n) (Some (fresh_cpu table n)) None
-        → AreSeated table maker_table' maker' online (n + 1) waiting'
+    → AreSeated table maker_table' maker' online (n + 1) waiting'
 seats_more table maker_table maker_table' maker maker' online n waiting waiting' x s is next pushed kept =
     let count : length waiting ≡ n = s.count in
     rw pushed (record {

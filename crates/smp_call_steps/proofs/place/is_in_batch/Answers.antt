@@ -17,21 +17,21 @@ pub is_on_chain-requires-clause-chained : goal.is_on_chain-requires-clause-chain
 is_on_chain-requires-clause-chained c =
     let controls = c.args.controls.now in
     let here = get_or_read controls c.args.cpu c.index-controls-cpu.result (omega (arith, c.requires.known, c.requires.table.controls_sized))
-        c.index-controls-cpu.is outside in
+    c.index-controls-cpu.is outside in
     rw c.down.ensures (down_chain c.requires.table.shown c.args.cpu c.index-controls-cpu.result here)
 
 pub is_on_chain-requires-else-is_on_chain-clause-chained : goal.is_on_chain-requires-else-is_on_chain-clause-chained
 is_on_chain-requires-else-is_on_chain-clause-chained c =
     let controls = c.args.controls.now in
     let here = get_or_read controls c.args.cpu c.index-controls-cpu.result (omega (arith, c.requires.known, c.requires.table.controls_sized))
-        c.index-controls-cpu.is outside in
+    c.index-controls-cpu.is outside in
     rw c.up.ensures (up_chain c.requires.table.shown c.args.cpu c.index-controls-cpu.result here)
 
 pub returns-then-is_between : goal.returns-then-is_between
 returns-then-is_between c calls shown =
     let controls = c.args.controls.now in
     let here = get_or_read controls c.args.cpu c.index-controls-cpu.result (omega (arith, c.requires.known, c.requires.table.controls_sized))
-        c.index-controls-cpu.is outside in (
+    c.index-controls-cpu.is outside in (
       (λ _. in_between shown c.args.cpu c.index-controls-cpu.result here c.args.id (sym c.is_between.ensures ∙ c.if-is_between.true)),
       (λ _. refl),
     )

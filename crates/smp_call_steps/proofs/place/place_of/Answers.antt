@@ -9,7 +9,7 @@ pub loop-cpu-preserved : goal.loop-cpu-preserved
 loop-cpu-preserved c =
     below_more _ _ c.loop-cpu.invariant (λ calls shown.
     not_on c.loop-cpu.cpu (calls.place c.args.id) c.is_queued.result c.is_in_batch.result c.is_running.result c.if-is_queued.false c.if-is_in_batch.false
-        c.if-is_running.false
+    c.if-is_running.false
     (c.is_queued.ensures calls shown).1 (c.is_in_batch.ensures calls shown).1 (c.is_running.ensures calls shown).1)
 
 pub returns : goal.returns

@@ -21,7 +21,7 @@ loop-round-preserved c =
     let nexts = nexts_in (number_in c.args.words.now) in
     rw c.read-link.ensures
     (seeks_on nexts c.args.first c.loop-round.link c.args.id c.loop-round._round (c.loop-round.link - 1) c.if-link-eq0.false (omega arith)
-        (ne_eqb (c.loop-round.link - 1) c.args.id c.if-here-id.false) c.loop-round.invariant)
+    (ne_eqb (c.loop-round.link - 1) c.args.id c.if-here-id.false) c.loop-round.invariant)
 
 pub returns-then-link-eq0 : goal.returns-then-link-eq0
 returns-then-link-eq0 c =
@@ -32,7 +32,7 @@ returns-then-link-eq0 c =
 pub returns-then-here-id : goal.returns-then-here-id
 returns-then-here-id c =
     sym (sought_here (nexts_in (number_in c.args.words.now)) c.args.first c.loop-round.link c.args.id c.loop-round._round
-        (c.loop-round.link - 1) c.if-link-eq0.false (omega arith) (eq-eqb (c.loop-round.link - 1) c.args.id c.if-here-id.true) c.loop-round.invariant)
+    (c.loop-round.link - 1) c.if-link-eq0.false (omega arith) (eq-eqb (c.loop-round.link - 1) c.args.id c.if-here-id.true) c.loop-round.invariant)
 
 pub returns : goal.returns
 returns c =

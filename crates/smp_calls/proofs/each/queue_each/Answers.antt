@@ -9,8 +9,8 @@ use Rattle.smp_calls.proofs.each.queue_each.Goals as goal
 pub loop-cpu-init : goal.loop-cpu-init
 loop-cpu-init g c =
     subst (λ (left : ℕ). Asking g.H.Handler.leads c.args.me.now c.args.handler.now c.args.me.now c.args.handler.now
-        (λ x answer. g.C.Fn.post c.args.cond.now (x, (c.args.job.info, tt)) answer)
-        (many_call c.args.me.now.number c.args.job.class c.args.job.func c.args.job.info) c.args.others left c.args.others c.args.others)
+    (λ x answer. g.C.Fn.post c.args.cond.now (x, (c.args.job.info, tt)) answer)
+    (many_call c.args.me.now.number c.args.job.class c.args.job.func c.args.job.info) c.args.others left c.args.others c.args.others)
     (sym (c.into_iter-cpu-iterator.ensures.into_iter_gives ∙ c.iter-cpu-items.ensures))
     (asking_start g.H.Handler.leads c.args.me.now c.args.handler.now _ _ c.args.others)
 
@@ -38,15 +38,15 @@ loop-cpu-preserved g c =
     let next = c.in-Some.ensures.steps in
     let a = c.loop-cpu.invariant in
     asking_more g.H.Handler.leads (many_call c.args.me.now.number c.args.job.class c.args.job.func c.args.job.info)
-        c.args.others c.loop-cpu.cpu-iterator c.next.new.self c.in-Some.cpu c.loop-cpu.called c.loop-cpu.owed c.without_unless-called.result
-        c.without_unless-owed.result c.cond-asked.result c.queue_if-first.result
+    c.args.others c.loop-cpu.cpu-iterator c.next.new.self c.in-Some.cpu c.loop-cpu.called c.loop-cpu.owed c.without_unless-called.result
+    c.without_unless-owed.result c.cond-asked.result c.queue_if-first.result
     a next.0 next.1.0 next.1.1
     (subst (λ (n : ℕ). (queued : List Queued) × (destinations queued ≡ only_if c.cond-asked.result c.in-Some.cpu)
-        × (firsts queued ≡ only_if c.queue_if-first.result c.in-Some.cpu)
-        × Queues g.H.Handler.leads c.loop-cpu.me c.loop-cpu.handler c.queue_if-first.new.me c.queue_if-first.new.handler
-        (many_call n c.args.job.class c.args.job.func c.args.job.info) queued) a.queues.leaves.number_is c.queue_if-first.ensures)
+    × (firsts queued ≡ only_if c.queue_if-first.result c.in-Some.cpu)
+    × Queues g.H.Handler.leads c.loop-cpu.me c.loop-cpu.handler c.queue_if-first.new.me c.queue_if-first.new.handler
+    (many_call n c.args.job.class c.args.job.func c.args.job.info) queued) a.queues.leaves.number_is c.queue_if-first.ensures)
     c.cond-asked.ensures c.without_unless-called.ensures.kept c.without_unless-called.ensures.out c.without_unless-owed.ensures.kept
-        c.without_unless-owed.ensures.out
+    c.without_unless-owed.ensures.out
 
 pub returns : goal.returns
 returns g c =

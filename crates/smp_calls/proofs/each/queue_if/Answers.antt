@@ -7,20 +7,24 @@ use Rattle.smp_calls.proofs.Round.{queues_none, queues_one}
 use Rattle.smp_calls.proofs.each.queue_if.Goals as goal
 
 pub returns-then-not-asked : goal.returns-then-not-asked
-returns-then-not-asked g c =
-    ([], search rules, refl, queues_none g.H.Handler.leads c.args.me.now c.args.handler.now
-    (many_call c.args.me.now.number c.args.job.class c.args.job.func c.args.job.info))
+returns-then-not-asked g c = (
+  [],
+  search rules,
+  refl,
+  queues_none g.H.Handler.leads c.args.me.now c.args.handler.now
+      (many_call c.args.me.now.number c.args.job.class c.args.job.func c.args.job.info),
+)
 
 pub wait_for-requires-clause-record : goal.wait_for-requires-clause-record
 wait_for-requires-clause-record g c =
     subst (λ (k : ℕ). has_record c.args.table.now.nr k ≡ true) (sym c.many_record-k.ensures)
-        (has_online c.args.table.now.nr c.args.table.now.online c.args.to c.requires.limits c.requires.online)
+    (has_online c.args.table.now.nr c.args.table.now.online c.args.to c.requires.limits c.requires.online)
 
 pub queue-requires-clause-lawful : goal.queue-requires-clause-lawful
 queue-requires-clause-lawful g c =
     subst (λ (k : ℕ). misused c.args.table.now.nr c.wait_for.new.me k c.args.to c.args.job.class 1 ≡ false) (sym c.many_record-k.ensures)
     (lawful_online c.args.table.now.nr c.args.table.now.online c.wait_for.new.me c.args.to c.args.job.class c.requires.limits c.requires.online
-        (λ same. c.requires.other (same ∙ c.wait_for.ensures.number_is)))
+    (λ same. c.requires.other (same ∙ c.wait_for.ensures.number_is)))
 
 pub returns : goal.returns
 returns g c =

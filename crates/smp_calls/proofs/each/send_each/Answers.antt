@@ -5,9 +5,12 @@ use Rattle.smp_calls.proofs.Passes.{Passed, passed_none, passed_more, passed_all
 use Rattle.smp_calls.proofs.each.send_each.Goals as goal
 
 pub loop-cpu-init : goal.loop-cpu-init
-loop-cpu-init g c =
-    ([], subst (λ (left : ℕ). Passed c.args.owed left []) (sym (c.into_iter-cpu-iterator.ensures.into_iter_gives ∙ c.iter-cpu-items.ensures))
-    (passed_none c.args.owed), sends_none c.args.me.now)
+loop-cpu-init g c = (
+  [],
+  subst (λ (left : ℕ). Passed c.args.owed left []) (sym (c.into_iter-cpu-iterator.ensures.into_iter_gives ∙ c.iter-cpu-items.ensures))
+      (passed_none c.args.owed),
+  sends_none c.args.me.now,
+)
 
 pub interrupt-requires-clause-table : goal.interrupt-requires-clause-table
 interrupt-requires-clause-table g c = ap (λ (x : CpuValue). x.table) c.loop-cpu.invariant.2.others_are ∙ c.requires.table
@@ -19,9 +22,11 @@ interrupt-requires-clause-online g c =
 
 pub loop-cpu-preserved : goal.loop-cpu-preserved
 loop-cpu-preserved g c =
-    let a = c.loop-cpu.invariant in
-    (a.0 ++ c.in-Some.cpu ∷ [], passed_more c.args.owed c.loop-cpu.cpu-iterator c.next.new.self c.in-Some.cpu a.0 a.1 c.in-Some.ensures.steps.0,
-        sends_more c.args.me.now c.loop-cpu.me c.interrupt.new.me c.in-Some.cpu a.0 a.2 c.interrupt.ensures)
+    let a = c.loop-cpu.invariant in (
+      a.0 ++ c.in-Some.cpu ∷ [],
+      passed_more c.args.owed c.loop-cpu.cpu-iterator c.next.new.self c.in-Some.cpu a.0 a.1 c.in-Some.ensures.steps.0,
+      sends_more c.args.me.now c.loop-cpu.me c.interrupt.new.me c.in-Some.cpu a.0 a.2 c.interrupt.ensures,
+    )
 
 pub returns : goal.returns
 returns g c =

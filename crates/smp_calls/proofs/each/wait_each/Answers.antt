@@ -7,9 +7,12 @@ use Rattle.smp_calls.proofs.Passes.{Passed, passed_none, passed_more, passed_all
 use Rattle.smp_calls.proofs.each.wait_each.Goals as goal
 
 pub loop-cpu-init : goal.loop-cpu-init
-loop-cpu-init g c =
-    ([], subst (λ (left : ℕ). Passed c.args.called left []) (sym (c.into_iter-cpu-iterator.ensures.into_iter_gives ∙ c.iter-cpu-items.ensures))
-    (passed_none c.args.called), waits_none g.H.Handler.leads c.args.me.now c.args.handler.now)
+loop-cpu-init g c = (
+  [],
+  subst (λ (left : ℕ). Passed c.args.called left []) (sym (c.into_iter-cpu-iterator.ensures.into_iter_gives ∙ c.iter-cpu-items.ensures))
+      (passed_none c.args.called),
+  waits_none g.H.Handler.leads c.args.me.now c.args.handler.now,
+)
 
 pub wait_for-requires-clause-table : goal.wait_for-requires-clause-table
 wait_for-requires-clause-table g c = c.loop-cpu.invariant.2.table_is ∙ c.requires.table
@@ -22,7 +25,7 @@ wait_for-requires-clause-record g c =
     let next = c.in-Some.ensures.steps in
     subst (λ (k : ℕ). has_record c.args.table.now.nr k ≡ true) (sym c.many_record.ensures)
     (has_online c.args.table.now.nr c.args.table.now.online c.in-Some.cpu c.requires.limits
-        (c.requires.online c.in-Some.cpu (c.loop-cpu.invariant.1.among c.in-Some.cpu next.1.0 next.1.1)))
+    (c.requires.online c.in-Some.cpu (c.loop-cpu.invariant.1.among c.in-Some.cpu next.1.0 next.1.1)))
 
 pub loop-cpu-preserved : goal.loop-cpu-preserved
 loop-cpu-preserved g c =
@@ -37,4 +40,4 @@ pub returns : goal.returns
 returns g c =
     let a = c.loop-cpu.invariant in
     subst (λ (xs : List ℕ). WaitsFor g.H.Handler.leads c.args.me.now c.args.handler.now c.loop-cpu.me c.loop-cpu.handler xs true)
-        (passed_all c.args.called c.loop-cpu.cpu-iterator a.0 a.1 c.in-None.ensures.steps.0.0) a.2
+    (passed_all c.args.called c.loop-cpu.cpu-iterator a.0 a.1 c.in-None.ensures.steps.0.0) a.2

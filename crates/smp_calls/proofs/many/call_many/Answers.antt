@@ -15,10 +15,10 @@ pub returns-clause-calls : goal.returns-clause-calls
 returns-clause-calls g c =
     let picks = c.queue_all-called.ensures.picks in
     let every : (x : ℕ) → x < NR_CPUS → has c.targets-others.result x ≡ true → has c.queue_all-called.result x ≡ true = λ x l o. let said =
-        picks.answered x l o in search rules in
+    picks.answered x l o in search rules in
     subst (λ (class : Class). CallsMany g.H.Handler.leads c.args.me.now c.args.handler.now c.wait_all.new.me c.wait_all.new.handler
-        (members c.targets-others.result) class c.args.func c.args.info None c.args.wait) c.class_for-class.ensures
+    (members c.targets-others.result) class c.args.func c.args.info None c.args.wait) c.class_for-class.ensures
     (subst (λ (to : List ℕ). CallsMany g.H.Handler.leads c.args.me.now c.args.handler.now c.wait_all.new.me c.wait_all.new.handler to c.class_for-class.result
-        c.args.func c.args.info None c.args.wait) (all_called c.targets-others.result c.queue_all-called.result picks.among every)
+    c.args.func c.args.info None c.args.wait) (all_called c.targets-others.result c.queue_all-called.result picks.among every)
     (calls_waited_for g.H.Handler.leads c.class_for-class.result c.args.func c.args.info
-        (members c.queue_all-called.result) None c.args.wait c.queue_all-called.ensures.calls c.wait_all.ensures))
+    (members c.queue_all-called.result) None c.args.wait c.queue_all-called.ensures.calls c.wait_all.ensures))

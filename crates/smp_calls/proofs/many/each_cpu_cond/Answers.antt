@@ -19,9 +19,9 @@ pub returns-clause-picks : goal.returns-clause-picks
 returns-clause-picks g c =
     let says = λ (x : ℕ) (answer : Bool). g.C.Fn.post c.args.cond.now (x, (c.args.info, tt)) answer in
     let made =
-        picks_with says c.args.mask c.online.result c.number-this.result c.targets-others.result c.queue_all-called.result c.with_if.result
-        c.runs_here-here.result c.targets-others.ensures c.queue_all-called.ensures.picks c.with_if.ensures c.runs_here-here.ensures.member
-        c.runs_here-here.ensures.answered in
+    picks_with says c.args.mask c.online.result c.number-this.result c.targets-others.result c.queue_all-called.result c.with_if.result
+    c.runs_here-here.result c.targets-others.ensures c.queue_all-called.ensures.picks c.with_if.ensures c.runs_here-here.ensures.member
+    c.runs_here-here.ensures.answered in
     subst (λ (n : ℕ). Picks says (is_target c.args.mask c.args.table.now.online n true) c.with_if.result) c.number-this.ensures.number
     (subst (λ (online : ℕ). Picks says (is_target c.args.mask online c.number-this.result true) c.with_if.result) c.online.ensures.known made)
 
@@ -31,18 +31,18 @@ returns-clause-calls g c =
     let called = c.queue_all-called.result in
     let here = c.runs_here-here.result in
     let out : has called this ≡ false =
-        not_called c.args.mask c.online.result this c.targets-others.result called c.targets-others.ensures c.queue_all-called.ensures.picks.among in
+    not_called c.args.mask c.online.result this c.targets-others.result called c.targets-others.ensures c.queue_all-called.ensures.picks.among in
     let direct : Option Heard = cond here (Some (heard this c.args.func c.args.info)) None in
     let made = calls_waited_for g.H.Handler.leads c.class_for-class.result c.args.func c.args.info (members called) direct c.args.wait
     (calls_then_here g.H.Handler.leads c.class_for-class.result c.args.func c.args.info
-        (members called) direct c.queue_all-called.ensures.calls c.call_if.ensures) c.wait_all.ensures in
+    (members called) direct c.queue_all-called.ensures.calls c.call_if.ensures) c.wait_all.ensures in
     let Made =
-        λ (to : List ℕ) (class : Class) (heard : Option Heard). CallsMany g.H.Handler.leads c.args.me.now c.args.handler.now c.wait_all.new.me
-        c.wait_all.new.handler to class c.args.func c.args.info heard c.args.wait in
+    λ (to : List ℕ) (class : Class) (heard : Option Heard). CallsMany g.H.Handler.leads c.args.me.now c.args.handler.now c.wait_all.new.me
+    c.wait_all.new.handler to class c.args.func c.args.info heard c.args.wait in
     subst (λ (n : ℕ). Made (remote n c.with_if.result) (class_for c.args.wait) (cond (has c.with_if.result n) (Some (heard n c.args.func c.args.info)) None))
-        c.number-this.ensures.number
+    c.number-this.ensures.number
     (subst (λ (class : Class). Made (remote this c.with_if.result) class (cond (has c.with_if.result this) (Some (heard this c.args.func c.args.info)) None))
-        c.class_for-class.ensures
+    c.class_for-class.ensures
     (subst (λ (b : Bool). Made (remote this c.with_if.result) c.class_for-class.result (cond b (Some (heard this c.args.func c.args.info)) None))
-        (sym (called_here this called c.with_if.result here c.with_if.ensures out))
+    (sym (called_here this called c.with_if.result here c.with_if.ensures out))
     (subst (λ (to : List ℕ). Made to c.class_for-class.result direct) (others_called this called c.with_if.result here c.with_if.ensures out) made)))

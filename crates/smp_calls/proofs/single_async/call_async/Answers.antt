@@ -13,29 +13,31 @@ returns-then-dst-this-clause-here g c e =
     let sized : IsSized c.args.me.now = record { number = c.number-this.ensures.sized.0; records_are = c.number-this.ensures.sized.1 } in
     let small : c.user_record-k.result < records_of_one = search rules in
     let done =
-        leaves_confirmed g.H.Handler.leads c.args.me.now c.is_done.new.me c.args.handler.now c.user_record-k.result sized small c.if-not-is_done.ensures.known
-        in
+    leaves_confirmed g.H.Handler.leads c.args.me.now c.is_done.new.me c.args.handler.now c.user_record-k.result sized small c.if-not-is_done.ensures.known
+    in
     let call : g.H.Handler.leads c.args.handler.now (heard c.args.me.now.number c.args.func c.args.info) c.call.new.self =
     subst (λ (n : ℕ). g.H.Handler.leads c.args.handler.now (heard n c.args.func c.args.info) c.call.new.self) c.number-this.ensures.number c.call.ensures in
     leaves_as g.H.Handler.leads _ _
-        (leaves_then g.H.Handler.leads done
-        (leaves_here g.H.Handler.leads c.is_done.new.me c.args.handler.now c.call.new.self (heard c.args.me.now.number c.args.func c.args.info) call))
+    (leaves_then g.H.Handler.leads done
+    (leaves_here g.H.Handler.leads c.is_done.new.me c.args.handler.now c.call.new.self (heard c.args.me.now.number c.args.func c.args.info) call))
     done.owes_are (λ j b. done.confirmed_are j b ∙ ap (λ k. j == k || confirmed_at c.args.me.now j) c.user_record-k.ensures)
 
 pub queue_and_send-requires-clause-free : goal.queue_and_send-requires-clause-free
 queue_and_send-requires-clause-free g c =
     let sized : IsSized c.args.me.now = record { number = c.number-this.ensures.sized.0; records_are = c.number-this.ensures.sized.1 } in
     ap (λ (x : CpuValue). confirmed_at x c.user_record-k.result) c.if-not-is_done.ensures.known
-        ∙ set_here c.args.me.now c.user_record-k.result true sized (search rules)
+    ∙ set_here c.args.me.now c.user_record-k.result true sized (search rules)
 
 pub returns-clause-queued : goal.returns-clause-queued
 returns-clause-queued g c e =
     let sized : IsSized c.args.me.now = record { number = c.number-this.ensures.sized.0; records_are = c.number-this.ensures.sized.1 } in
     let small : c.user_record-k.result < records_of_one = search rules in
     let done =
-        leaves_confirmed g.H.Handler.leads c.args.me.now c.is_done.new.me c.args.handler.now c.user_record-k.result sized small c.if-not-is_done.ensures.known
-        in
-    let made = calls_by g.H.Handler.leads c.user_record-k.result c.args.dst Async c.args.func c.args.info small sized done c.queue_and_send.ensures in
-    (search rules, subst (λ (k : ℕ).
-        CallsBy g.H.Handler.leads c.args.me.now c.args.handler.now c.queue_and_send.new.me c.args.handler.now k Async c.args.dst c.args.func c.args.info false)
-        c.user_record-k.ensures made)
+    leaves_confirmed g.H.Handler.leads c.args.me.now c.is_done.new.me c.args.handler.now c.user_record-k.result sized small c.if-not-is_done.ensures.known
+    in
+    let made = calls_by g.H.Handler.leads c.user_record-k.result c.args.dst Async c.args.func c.args.info small sized done c.queue_and_send.ensures in (
+      search rules,
+      subst (λ (k : ℕ).
+          CallsBy g.H.Handler.leads c.args.me.now c.args.handler.now c.queue_and_send.new.me c.args.handler.now k Async c.args.dst c.args.func c.args.info false)
+          c.user_record-k.ensures made,
+    )

@@ -13,7 +13,7 @@ pub loop-preserved : goal.loop-preserved
 loop-preserved g c =
     let before = c.loop.invariant in
     let handled =
-        subst (λ (x : CpuValue). Leaves g.H.Handler.leads x c.loop.handler c.handle_own.new.me c.handle_own.new.handler [] None (owes_at x) (confirmed_at x))
-        c.if-is_done.ensures.known c.handle_own.ensures in
+    subst (λ (x : CpuValue). Leaves g.H.Handler.leads x c.loop.handler c.handle_own.new.me c.handle_own.new.handler [] None (owes_at x) (confirmed_at x))
+    c.if-is_done.ensures.known c.handle_own.ensures in
     leaves_as g.H.Handler.leads (owes_at c.args.me.now) (confirmed_at c.args.me.now)
-        (leaves_then g.H.Handler.leads before handled) before.owes_are before.confirmed_are
+    (leaves_then g.H.Handler.leads before handled) before.owes_are before.confirmed_are

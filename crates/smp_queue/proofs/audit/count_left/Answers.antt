@@ -9,8 +9,11 @@ use Rattle.smp_queue.proofs.audit.count_left.Goals as goal
 
 pub loop-cpu-init : goal.loop-cpu-init
 loop-cpu-init g c =
-    record { heads = sym (count_zero (has_head (number_in c.args.words.now))); handling = sym (count_zero (has_hand (number_in c.args.words.now)));
-    locked = refl }
+    record {
+      heads = sym (count_zero (has_head (number_in c.args.words.now)));
+      handling = sym (count_zero (has_hand (number_in c.args.words.now)));
+      locked = refl;
+    }
 
 pub number-requires : goal.number-requires
 number-requires g c = has_cell (Head c.loop-cpu.cpu) c.loop-cpu-test.true
@@ -50,8 +53,11 @@ loop-id-init g c =
     let t = c.loop-cpu-test.false in
     let e = c.loop-cpu.auto.cpu-end in
     let all : c.loop-cpu.cpu ≡ cpus = omega arith in
-    record { heads = i.heads ∙ ap (count_below _) all; handling = i.handling ∙ ap (count_below _) all;
-        locked = i.locked ∙ sym (count_zero (has_lock (number_in c.args.words.now))) }
+    record {
+      heads = i.heads ∙ ap (count_below _) all;
+      handling = i.handling ∙ ap (count_below _) all;
+      locked = i.locked ∙ sym (count_zero (has_lock (number_in c.args.words.now)));
+    }
 
 pub number-requires-in-loop-id : goal.number-requires-in-loop-id
 number-requires-in-loop-id g c = has_cell (Flags c.loop-id.id) c.loop-id-test.true

@@ -15,18 +15,18 @@ exchange-requires c =
     let p = c.args.posting.now in
     let v = c.args.seat.now.known in
     let known = next_known v c.store.new.seat.known v p.id c.args.link (counted p) c.store.ensures.known
-        (stands_as v (counted p) post.LoadHead c.requires.stage) in
+    (stands_as v (counted p) post.LoadHead c.requires.stage) in
     ready_post _ _ p (post.Exchange c.args.link 0) _ (mine_moved _ _ _ _ _ c.requires.mine c.store.ensures.table known refl)
-        (sym (ap (λ u. u.stage) known)) tt refl
+    (sym (ap (λ u. u.stage) known)) tt refl
 
 pub returns-clause-won : goal.returns-clause-won
 returns-clause-won c e =
     let p = c.args.posting.now in
     let v = c.args.seat.now.known in
     let known = next_known v c.store.new.seat.known v p.id c.args.link (counted p) c.store.ensures.known
-        (stands_as v (counted p) post.LoadHead c.requires.stage) in
+    (stands_as v (counted p) post.LoadHead c.requires.stage) in
     won_known v c.exchange.new.seat.known c.store.new.seat.known p.to c.args.link (p.id + 1) c.exchange.result (counted p) (c.exchange.result == c.args.link)
-        (eq-eqb c.exchange.result c.args.link e) c.exchange.ensures.known known
+    (eq-eqb c.exchange.result c.args.link e) c.exchange.ensures.known known
     ∙ ap (λ n. queued_known (posted p) p.to (n == 0) v) e
 
 pub returns-clause-lost : goal.returns-clause-lost
@@ -34,7 +34,7 @@ returns-clause-lost c ne =
     let p = c.args.posting.now in
     let v = c.args.seat.now.known in
     let known = next_known v c.store.new.seat.known v p.id c.args.link (counted p) c.store.ensures.known
-        (stands_as v (counted p) post.LoadHead c.requires.stage) in
+    (stands_as v (counted p) post.LoadHead c.requires.stage) in
     lost_known v c.exchange.new.seat.known c.store.new.seat.known p.to c.args.link (p.id + 1) c.exchange.result (counted p) (c.exchange.result == c.args.link)
-        (ne_eqb c.exchange.result c.args.link ne) c.exchange.ensures.known known
+    (ne_eqb c.exchange.result c.args.link ne) c.exchange.ensures.known known
     ∙ sym (stands_as v (counted p) post.LoadHead c.requires.stage)

@@ -31,8 +31,8 @@ returns-clause-known c =
     let k = s.known ∙ (next_stored_is _ (handle.ReverseStore c.args.newer c.args.id (record_at c.load-link.result)) c.args.id c.link_of.result at.stage_is
     ∙ ap (goes_known (handle.ReverseStore c.args.newer c.args.id (record_at c.load-link.result)) 0) (next_known _ c.requires c.args.id c.load-link.result l)) in
     k ∙ ap (λ (x : Option ℕ). record (c.args.seat.now.known)
-        { stage = Some (Handle (reverse_on (Some c.args.id) x)); drain = record { calls = c.args.seat.now.known.drain.calls + 1 } })
-        (sym c.record_of-older.ensures)
+    { stage = Some (Handle (reverse_on (Some c.args.id) x)); drain = record { calls = c.args.seat.now.known.drain.calls + 1 } })
+    (sym c.record_of-older.ensures)
 
 pub returns-clause-at : goal.returns-clause-at
 returns-clause-at c =

@@ -40,5 +40,5 @@ loop-here-preserved g c =
     let l3 = c.load-info.ensures in
     let known = async_known _ _ _ _ _ here l1 l2 l3 in
     let ran = run_kept g.H.Handler.leads c.args.seat.now c.loop-here.seat c.load-info.new.seat _ _ _ c.loop-here.invariant.ran
-        (l3.table ∙ sym here.table_is) known in
+    (l3.table ∙ sym here.table_is) known in
     record { at = c.run_async.ensures.at; ran = more_run g.H.Handler.leads _ _ _ _ _ _ _ _ _ _ _ ran c.run_async.ensures }

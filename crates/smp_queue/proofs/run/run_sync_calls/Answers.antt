@@ -32,7 +32,7 @@ unlink-requires g c =
     let l1 = c.load-link.ensures in
     let l2 = c.load-flags.ensures in
     let leads = ap (λ (k : Class). by_class k c.loop-here.walk c.in-Some.id (record_at c.load-link.result)) (sym c.of_flags.ensures ∙ c.in-Sync.is)
-        ∙ ap (handle.LoadFunc c.loop-here.walk c.in-Some.id) (sym c.record_of-next.ensures) in
+    ∙ ap (handle.LoadFunc c.loop-here.walk c.in-Some.id) (sym c.record_of-next.ensures) in
     record { at = class_goes _ _ _ _ here l1 l2 (handle.LoadFunc c.loop-here.walk c.in-Some.id c.record_of-next.result) leads }
 
 pub loop-here-smaller-in-Sync : goal.loop-here-smaller-in-Sync
@@ -53,7 +53,7 @@ loop-here-preserved-in-Sync g c =
     let known = class_kept _ _ _ _ here l1 l2 in
     let kept = kept_on c.loop-here.seat.known c.load-flags.new.seat.known c.unlink.new.seat.known known c.unlink.ensures.known in
     let ran = run_kept g.H.Handler.leads c.args.seat.now c.loop-here.seat c.unlink.new.seat _ _ _ c.loop-here.invariant.ran
-        (c.unlink.ensures.at.table_is ∙ sym here.table_is) kept in
+    (c.unlink.ensures.at.table_is ∙ sym here.table_is) kept in
     record { at = c.run_sync.ensures.at; ran = more_run g.H.Handler.leads _ _ _ _ _ _ _ _ _ _ _ ran c.run_sync.ensures }
 
 pub loop-here-smaller : goal.loop-here-smaller
@@ -72,6 +72,9 @@ loop-here-preserved g c =
     let known = class_kept _ _ _ _ here l1 l2 in
     let at = class_goes _ _ _ _ here l1 l2 (first_on (record { first = c.loop-here.walk.first; last = Some c.in-Some.id }) c.record_of-next.result)
     (ap (λ (k : Class). by_class k c.loop-here.walk c.in-Some.id (record_at c.load-link.result)) (sym c.of_flags.ensures ∙ c.in-Async.is)
-        ∙ ap (first_on (record { first = c.loop-here.walk.first; last = Some c.in-Some.id })) (sym c.record_of-next.ensures)) in
-    record { at = at; ran = run_kept g.H.Handler.leads c.args.seat.now c.loop-here.seat c.load-flags.new.seat _ _ _ c.loop-here.invariant.ran
-        (l2.table ∙ sym here.table_is) known }
+    ∙ ap (first_on (record { first = c.loop-here.walk.first; last = Some c.in-Some.id })) (sym c.record_of-next.ensures)) in
+    record {
+      at = at;
+      ran = run_kept g.H.Handler.leads c.args.seat.now c.loop-here.seat c.load-flags.new.seat _ _ _ c.loop-here.invariant.ran
+          (l2.table ∙ sym here.table_is) known;
+    }

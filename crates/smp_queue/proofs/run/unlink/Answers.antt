@@ -20,5 +20,5 @@ store-requires c =
     let l2 = c.load-info.ensures in
     let call : Call = record { id = c.args.id; class = Sync; func = c.load-func.result; info = c.load-info.result } in
     let at = sync_goes _ _ _ _ _ c.requires.at l1 l2 (handle.Unlink c.args.walk c.in-Some.last call c.args.next)
-        (ap (λ (x : Option ℕ). unlink_after x c.args.walk call c.args.next) c.in-Some.is) in
+    (ap (λ (x : Option ℕ). unlink_after x c.args.walk call c.args.next) c.in-Some.is) in
     in_handle_ready at (Store (Next c.in-Some.last) c.link_of.result) tt (ap (λ (n : ℕ). Store (Next c.in-Some.last) n) (sym c.link_of.ensures))

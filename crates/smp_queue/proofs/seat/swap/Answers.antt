@@ -9,13 +9,16 @@ use Rattle.smp_queue.proofs.TheRule.Keeps.{can_same}
 use Rattle.smp_queue.proofs.seat.swap.Goals as goal
 
 pub swap-requires : goal.swap-requires
-swap-requires c = let r = c.requires in let low = cell_below c.args.word c.cell.result c.cell.ensures in let w = r.sized in
-    (ap (λ d. d.table) c.seat.view_is ∙ r.table_is, omega arith, swap_below _ _ _ _ c.seat.invariant c.args.word c.cell.result c.args.number c.cell.ensures
-        (can_same _ _ _ (ap (λ d. d.known) c.seat.view_is) r.can))
+swap-requires c = let r = c.requires in let low = cell_below c.args.word c.cell.result c.cell.ensures in let w = r.sized in (
+  ap (λ d. d.table) c.seat.view_is ∙ r.table_is,
+  omega arith,
+  swap_below _ _ _ _ c.seat.invariant c.args.word c.cell.result c.args.number c.cell.ensures
+      (can_same _ _ _ (ap (λ d. d.known) c.seat.view_is) r.can),
+)
 
 -- the moment, of what the caller sees
 pub returns-clause-known : goal.returns-clause-known
 returns-clause-known c = let e = c.swap.ensures.2.1 c.args.word c.cell.ensures in
     subst (λ (v : Known). (t : Moment v c.args.word c.swap.result)
-        × (known c.swap.new.seat.me.0 ≡ known_taking (t.lives.calls.queue v.number) v act.Swap c.args.word (Some c.swap.result) (Some c.args.number)))
+    × (known c.swap.new.seat.me.0 ≡ known_taking (t.lives.calls.queue v.number) v act.Swap c.args.word (Some c.swap.result) (Some c.args.number)))
     (ap (λ d. d.known) c.seat.view_is) (e.0, ap known e.1)

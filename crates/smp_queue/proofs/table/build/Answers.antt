@@ -20,10 +20,13 @@ loop-number-preserved g c =
     let seat : c.next_seat-seat.result ≡ record { table = _; known = _ } = (λ i. record { table = k.0 i; known = k.1 i }) in
     let cpu : c.new-cpu.result ≡ fresh_cpu c.in_ok-owner.owner.shared.table_id c.loop-number.number = c.new-cpu.ensures ∙ ap cpu_of seat in
     seats_more _ _ _ _ _ c.args.online c.loop-number.number c.loop-number.waiting.items c.push.new.self.items c.then_some.result s b.0 b.1
-        c.in_ok-push.ensures.items
+    c.in_ok-push.ensures.items
     (c.then_some.ensures ∙ (λ i. cond (c.contains.ensures.member i) (Some (cpu i)) None))
 
 pub returns : goal.returns
-returns g c =
-    (refl, refl, seats_full _ _ _ c.args.nr c.args.online c.loop-number.number c.loop-number.waiting.items c.requires c.loop-number-test.false
-    c.loop-number.invariant)
+returns g c = (
+  refl,
+  refl,
+  seats_full _ _ _ c.args.nr c.args.online c.loop-number.number c.loop-number.waiting.items c.requires c.loop-number-test.false
+      c.loop-number.invariant,
+)

@@ -8,4 +8,4 @@ pub returns : goal.returns
 returns g c =
     let f = c.close_with-closed.ensures.values.2 in
     subst (λ (words : List ℕ). Closes c.args.owner.shared.key c.args.seat.known words) f.2
-        (closes c.args.owner.shared.key f.0 f.1.0 _ c.args.seat.known (f.1.1 ∙ ap some c.leave.ensures.1))
+    (closes c.args.owner.shared.key f.0 f.1.0 _ c.args.seat.known (f.1.1 ∙ ap some c.leave.ensures.1))

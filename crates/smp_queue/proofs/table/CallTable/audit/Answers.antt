@@ -9,7 +9,7 @@ returns-clause-audited g c =
     let closes = subst (λ (n : ℕ). Closes n c.last.inside.seat.known c.of-words.result) nr c.of-words.ensures in
     subst (λ last. Audited c.args.self last c.answer-audit.result) c.last.view_is
     (audited c.args.self c.last.inside.seat c.of-words.result c.answer-audit.result
-        (ap (λ l. l.table) c.last.view_is ∙ c.requires) closes c.answer-audit.ensures)
+    (ap (λ l. l.table) c.last.view_is ∙ c.requires) closes c.answer-audit.ensures)
 
 pub returns-clause-equal : goal.returns-clause-equal
 returns-clause-equal g c = drained_equal _ c.last.inside.seat.known c.of-words.result c.answer-audit.result c.of-words.ensures c.answer-audit.ensures

@@ -8,14 +8,13 @@ is_locked-requires-clause-at g c =
     at_own _ c.me.inside.seat c.me.inside.number c.args.k c.record_of-id.result c.me.inside.queued c.me.inside.ran c.me.invariant
     (ap (λ d. d.table) c.me.view_is ∙ (c.requires ∙ sym (ap (λ t. t.table) c.self.view_is))) c.self.invariant.sized
     (allowed_record c.self.inside.nr c.self.inside.online c.me.inside.number c.args.k c.args.to c.args.func c.args.info c.args.tries c.args.class
-        (sym c.refusal.ensures ∙ c.in_default.is)) c.record_of-id.ensures
+    (sym c.refusal.ensures ∙ c.in_default.is)) c.record_of-id.ensures
 
 pub returns : goal.returns
 returns g c =
     let small = allowed_record c.self.inside.nr c.self.inside.online c.me.inside.number c.args.k c.args.to c.args.func c.args.info c.args.tries c.args.class
-        (sym c.refusal.ensures ∙ c.in_default.is) in
-    let to = online_below c.self.inside.nr c.self.inside.online c.args.to c.self.invariant.limits (sym c.contains.ensures.member ∙ c.if-not-contains.false) in
-    (
+    (sym c.refusal.ensures ∙ c.in_default.is) in
+    let to = online_below c.self.inside.nr c.self.inside.online c.args.to c.self.invariant.limits (sym c.contains.ensures.member ∙ c.if-not-contains.false) in (
       search rules,
       search rules,
       search rules,

@@ -16,9 +16,9 @@ invariant_of-me g c =
     let e = c.in_ok-posting.ensures in
     let may = e.4 in
     subst (λ (n : ℕ). IsKept c.append_until_won-first.new.seat.known c.me.inside.number
-        (set c.me.inside.queued n ((get_or c.me.inside.queued n 0 + 1) % 2 ^ 64)) c.me.inside.ran) (ap (λ (p : Posting). p.to) e.3)
+    (set c.me.inside.queued n ((get_or c.me.inside.queued n 0 + 1) % 2 ^ 64)) c.me.inside.ran) (ap (λ (p : Posting). p.to) e.3)
     (kept_posted c.me.inside.seat.known c.write_record.new.seat.known c.append_until_won-first.new.seat.known c.me.inside.number c.me.inside.queued
-        c.me.inside.ran c.in_ok-posting.posting c.append_until_won-first.result c.me.invariant
+    c.me.inside.ran c.in_ok-posting.posting c.append_until_won-first.result c.me.invariant
     may.to_in_range c.write_record.ensures.known c.append_until_won-first.ensures.sent)
 
 pub returns-clause-answers : goal.returns-clause-answers

@@ -12,7 +12,7 @@ store-requires g c =
     let l = m.below in
     let n = m.number_is in
     let to : c.args.to < cpus = online_below c.self.inside.nr c.self.inside.online c.args.to c.self.invariant.limits
-        (sym c.contains.ensures.member ∙ c.if-not-contains.false) in
+    (sym c.contains.ensures.member ∙ c.if-not-contains.false) in
     record {
       table_is = ap (λ d. d.table) c.me.view_is ∙ (c.requires ∙ sym (ap (λ t. t.table) c.self.view_is));
       sized = c.self.invariant.sized;
