@@ -27,7 +27,7 @@ words_of-set word n entries e fits =
     let more : n - length entries ≡ suc (n - (length entries + 1)) = omega arith in
     let rest : List ℕ = replicate (n - (length entries + 1)) 0 in
     rw (more, set_at (map word entries) 0 rest (word e) (length entries) (length-map entries word), length_push entries e, map-append word entries (e ∷ []))
-        (sym (append_assoc (map word entries) (word e ∷ []) rest))
+    (sym (append_assoc (map word entries) (word e ∷ []) rest))
 
 -- one more of these entries
 pub words_of-more : (word : Entry → ℕ) (n i : ℕ) (entries : List Entry) (d : Entry) → i < length entries → length entries ≤ n →
@@ -37,7 +37,7 @@ words_of-more word n i entries d within fits =
     let long : length (take i entries) ≡ i = length-take-le i entries (omega arith) in
     rw (take_more entries i d within)
     (subst (λ k. set (words_of word n (take i entries)) k (word e) ≡ words_of word n (take i entries ++ e ∷ [])) long
-        (words_of-set word n (take i entries) e (omega arith)))
+    (words_of-set word n (take i entries) e (omega arith)))
 
 all_zero : (n i : ℕ) → let z : ℕ = 0 in get_or (replicate n z) i 0 ≡ z
 all_zero zero i = refl

@@ -62,16 +62,16 @@ distinct_one_more : (key : ℕ) (on : Bool) (i : ℕ) (e : Option Entry) (rest :
 distinct_one_more key on i None rest out distinct = distinct
 distinct_one_more key on i (Some e) rest out distinct =
     elim (e.key == key) as (λ b. AreDistinct (cond b ((Site i, kind_word (kind_of on e.branch)) ∷ []) [] ++ rest)) [
-  | true ↦ (out, distinct)
-  | false ↦ distinct
-]
+      | true ↦ (out, distinct)
+      | false ↦ distinct
+    ]
 
 -- they are of different sites
 changes_distinct : (key : ℕ) (on : Bool) (i : ℕ) (entries : List ℕ) → AreDistinct (site_changes key on i entries)
 changes_distinct key on i [] = tt
 changes_distinct key on i (word ∷ rest) =
     distinct_one_more key on i (entry_at word) (site_changes key on (i + 1) rest) (changes_leave_before key on (i + 1) rest i (omega arith))
-        (changes_distinct key on (i + 1) rest)
+    (changes_distinct key on (i + 1) rest)
 
 -- they give each site of the key its new word
 changes_make : (key : ℕ) (on : Bool) (i : ℕ) (entries : List ℕ) (t : Table) (j : ℕ) (e : Entry) → entry_at (get_or entries j 0) ≡ Some e → e.key ≡ key →
@@ -81,7 +81,7 @@ changes_make key on i (word ∷ rest) t zero e is of =
     let here : i + 0 ≡ i = omega arith in
     rw (here, is, change_one key on i e of)
     (place_kept (site_changes key on (i + 1) rest) (stored (Site i) (kind_word (kind_of on e.branch)) t) (Site i)
-        (changes_leave_before key on (i + 1) rest i (omega arith)) ∙ put_same t.site i (kind_word (kind_of on e.branch)))
+    (changes_leave_before key on (i + 1) rest i (omega arith)) ∙ put_same t.site i (kind_word (kind_of on e.branch)))
 changes_make key on i (word ∷ rest) t (suc j) e is of =
     let place : i + suc j ≡ i + 1 + j = omega arith in
     rw (applied-append (site_change key on i (entry_at word)) (site_changes key on (i + 1) rest) t, place)
@@ -197,10 +197,10 @@ module _ (key new : ℕ) (entries : List ℕ) (t : Table) (in_form : IsKeyWord n
   plan_distinct : AreDistinct (plan_of key (t.key key) new entries)
   plan_distinct =
       elim (t.key key == new) as (λ a. AreDistinct (cond a [] (cond (xor (is_on (t.key key)) (is_on new)) (patch_of key new entries) ((Key key, new) ∷ [])))) [
-    | true ↦ tt
-    | false ↦ elim (xor (is_on (t.key key)) (is_on new)) as (λ b. AreDistinct (cond b (patch_of key new entries) ((Key key, new) ∷ [])))
-        [ true ↦ patch_distinct key new entries | false ↦ (tt, tt) ]
-  ]
+        | true ↦ tt
+        | false ↦ elim (xor (is_on (t.key key)) (is_on new)) as (λ b. AreDistinct (cond b (patch_of key new entries) ((Key key, new) ∷ [])))
+            [ true ↦ patch_distinct key new entries | false ↦ (tt, tt) ]
+      ]
 
   -- and each part of it leaves the rest to do
   pub plan_part_way : (front rest : List (Place × ℕ)) → plan_of key (t.key key) new entries ≡ front ++ rest → StandsPartWay key new front rest t

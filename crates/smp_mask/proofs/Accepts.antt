@@ -62,13 +62,13 @@ reads_number w p place d =
     decimal_by_steps (λ n ds. is_live w (place n) ≡ true → (at mask : ℕ) (rest : List ℕ)
     → read_from w (record { place = p; mask = mask }) at (ds ++ rest) ≡ read_from w (record { place = place n; mask = mask }) (at + length ds) rest)
     (λ n small live at mask rest. read_step w at _ _ (48 + n) rest
-        (step_other w p (place n) mask (48 + n) (grind (arith, nat_tests)) (d.starts (48 + n) ∙ ap (option_map place) (digit_of n small)) live))
+    (step_other w p (place n) mask (48 + n) (grind (arith, nat_tests)) (d.starts (48 + n) ∙ ap (option_map place) (digit_of n small)) live))
     (λ n ds long before live at mask rest.
     let last = 48 + n % 10 in
     let front = before (d.shorter n long live) at mask (last ∷ rest) in
     let on : step w (record { place = place (n / 10); mask = mask }) last ≡ Some (record { place = place n; mask = mask }) =
-        step_other w (place (n / 10)) (place n) mask last (grind (arith, nat_tests))
-        (d.goes (n / 10) last (grind (arith, nat_tests)) ∙ ap (option_map place) (longer_of n long)) live in
+    step_other w (place (n / 10)) (place n) mask last (grind (arith, nat_tests))
+    (d.goes (n / 10) last (grind (arith, nat_tests)) ∙ ap (option_map place) (longer_of n long)) live in
     let count : at + length (ds ++ last ∷ []) ≡ at + length ds + 1 = omega (arith, length-append ds (last ∷ [])) in
     rw (append_assoc ds (last ∷ []) rest, count) (front ∙ read_step w (at + length ds) _ _ last rest on))
 
@@ -94,12 +94,12 @@ reads_item w p wide opens (Run low high) h at mask rest =
     let below : nat_lt low w ≡ true = grind (arith, nat_tests, h.0, h.1) in
     let first = reads_number w p Low (opening_low w p opens) low (omega (arith, h.0, h.1)) below at mask (45 ∷ (decimal high ++ rest)) in
     let hyphen : read_from w (record { place = Low low; mask = mask }) (at + length (decimal low)) (45 ∷ (decimal high ++ rest))
-        ≡ read_from w (record { place = Dash low; mask = mask }) (at + length (decimal low) + 1) (decimal high ++ rest) =
-        read_step w (at + length (decimal low)) _ _ 45 (decimal high ++ rest) (step_other w (Low low) (Dash low) mask 45 refl refl below) in
+    ≡ read_from w (record { place = Dash low; mask = mask }) (at + length (decimal low) + 1) (decimal high ++ rest) =
+    read_step w (at + length (decimal low)) _ _ 45 (decimal high ++ rest) (step_other w (Low low) (Dash low) mask 45 refl refl below) in
     let live : is_live w (High low high) ≡ true = grind (arith, below, reach_whole w low high h.0 h.1) in
     let second = reads_number w (Dash low) (High low) (opening_high w low) high (omega (arith, h.1)) live (at + length (decimal low) + 1) mask rest in
     let count : at + length (decimal low ++ (45 ∷ decimal high)) ≡ at + length (decimal low) + 1 + length (decimal high) =
-        omega (arith, length-append (decimal low) (45 ∷ decimal high)) in
+    omega (arith, length-append (decimal low) (45 ∷ decimal high)) in
     rw (append_assoc (decimal low) (45 ∷ decimal high) rest, count) (first ∙ (hyphen ∙ second))
 
 -- the mask with the CPUs of all items too
@@ -128,7 +128,7 @@ reads_items w wide [] i p opens h at mask =
     rw (sym (append-nil (item_text i))) (all ∙ item_ends w _ mask i h.0)
 reads_items w wide (j ∷ is) i p opens h at mask =
     reads_item w p wide opens i h.0 at mask (44 ∷ joined (j ∷ is))
-        ∙ (comma_on w _ mask i (joined (j ∷ is)) h.0 ∙ reads_items w wide is j AtItem (λ b. refl) h.1 _ (with_item mask i))
+    ∙ (comma_on w _ mask i (joined (j ∷ is)) h.0 ∙ reads_items w wide is j AtItem (λ b. refl) h.1 _ (with_item mask i))
 
 -- what a CPU list reads as
 pub reads_list : (w : ℕ) → w < 2 ^ 64 → (items : List Item) → AreItems w items → mask_of_text w (joined items) ≡ Ok (with_items 0 items)

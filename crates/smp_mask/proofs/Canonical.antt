@@ -81,7 +81,7 @@ reads_back w wide m fits =
     let list = canonical w m fits in
     let items = items_of (members_below m w) in
     let same : with_items 0 items ≡ m =
-        same_members (with_items 0 items) m (λ c. has_items w items list.items_are 0 c ∙ (ap (λ z. z || names items c) (has_none c) ∙ sym (list.members c))) in
+    same_members (with_items 0 items) m (λ c. has_items w items list.items_are 0 c ∙ (ap (λ z. z || names items c) (has_none c) ∙ sym (list.members c))) in
     reads_list w wide items list.items_are ∙ ap (λ z. Ok z) same
 
 -- ---- no other list of a mask is canonical
@@ -158,4 +158,4 @@ pub only_canonical : (w m : ℕ) → m < 2 ^ w → (others : List Item) → AreC
 only_canonical w m fits others h =
     let ours = canonical w m fits in
     same_lists w 0 others (items_of (members_below m w)) (canonical_from w others h.items_are h.apart)
-        (canonical_from w (items_of (members_below m w)) ours.items_are ours.apart) (λ c. sym (h.members c) ∙ ours.members c)
+    (canonical_from w (items_of (members_below m w)) ours.items_are ours.apart) (λ c. sym (h.members c) ∙ ours.members c)

@@ -118,7 +118,7 @@ pending_after w (High low high) q b wide goes live =
     let below : x.0 < w = live_high w low x.0 (subst (λ z. is_live w z ≡ true) (sym x.2) live) in
     let wider : high * 10 + d.1 < 2 ^ 64 = omega (arith, d.4, below, wide) in
     let last : decimal x.0 ≡ decimal high ++ (b ∷ []) = ap decimal (sym d.4)
-        ∙ (digits_more high d.1 d.0 d.2 wider ∙ ap (λ z. decimal high ++ (z ∷ [])) (sym d.3)) in
+    ∙ (digits_more high d.1 d.0 d.2 wider ∙ ap (λ z. decimal high ++ (z ∷ [])) (sym d.3)) in
     ap pending (sym x.2) ∙ (ap (λ z. decimal low ++ (45 ∷ z)) last ∙ sym (append_assoc (decimal low) (45 ∷ decimal high) (b ∷ [])))
 
 -- no byte leads back to the beginning
@@ -172,9 +172,9 @@ joined_push (j ∷ js) i =
     let more : 0 < length (js ++ i ∷ []) = omega (arith, length-append js (i ∷ [])) in
     let first : joined (j ∷ (js ++ i ∷ [])) ≡ item_text j ++ (44 ∷ joined (js ++ i ∷ [])) = joined_cons j (js ++ i ∷ []) more in
     let rest : item_text j ++ (44 ∷ joined (js ++ i ∷ [])) ≡ item_text j ++ (44 ∷ (closed js ++ item_text i)) =
-        ap (λ z. item_text j ++ (44 ∷ z)) (joined_push js i) in
+    ap (λ z. item_text j ++ (44 ∷ z)) (joined_push js i) in
     first ∙ (rest ∙ (sym (append_assoc (item_text j) (44 ∷ []) (closed js ++ item_text i))
-        ∙ sym (append_assoc (item_text j ++ 44 ∷ []) (closed js) (item_text i))))
+    ∙ sym (append_assoc (item_text j ++ 44 ∷ []) (closed js) (item_text i))))
 
 -- ---- every place can be completed
 
@@ -194,9 +194,11 @@ decimal_front (suc j) m wide some =
     let long : 10 ≤ q = omega (arith, next, left) in
     let wider : q < 2 ^ 64 = omega (arith, wide, div-le_self m (10 ^ j)) in
     let front = decimal_front j m wide (inr (omega (arith, long))) in
-    let last = 48 + q % 10 in
-    (last ∷ front.0, front.1 ∙ (ap (λ z. z ++ front.0) (decimal_step q long wider)
-        ∙ (append_assoc (decimal (q / 10)) (last ∷ []) front.0 ∙ ap (λ z. decimal z ++ (last ∷ front.0)) (sym next))))
+    let last = 48 + q % 10 in (
+      last ∷ front.0,
+      front.1 ∙ (ap (λ z. z ++ front.0) (decimal_step q long wider)
+          ∙ (append_assoc (decimal (q / 10)) (last ∷ []) front.0 ∙ ap (λ z. decimal z ++ (last ∷ front.0)) (sym next))),
+    )
 
 pow_ten : (j : ℕ) → 0 < 10 ^ j
 pow_ten j = one-le-pow j 10 (omega arith)
@@ -207,8 +209,13 @@ completes_at w low high j m wide digits from to up below =
     let quotient : m / 10 ^ j ≡ high = div-eq_of_lt-le (10 ^ j) from to in
     let front = decimal_front j m (omega (arith, below, wide)) (rw quotient digits) in
     let text : decimal m ≡ decimal high ++ front.0 = front.1 ∙ ap (λ z. decimal z ++ front.0) quotient in
-    record { item = Run low m; is_item = (up, below); more = front.0; text_is = append_assoc (decimal low) (45 ∷ decimal high) front.0
-        ∙ ap (λ z. decimal low ++ (45 ∷ z)) (sym text) }
+    record {
+      item = Run low m;
+      is_item = (up, below);
+      more = front.0;
+      text_is = append_assoc (decimal low) (45 ∷ decimal high) front.0
+          ∙ ap (λ z. decimal low ++ (45 ∷ z)) (sym text);
+    }
 
 completes_high : (w low high : ℕ) → w < 2 ^ 64 → is_live w (High low high) ≡ true → Completion w (High low high)
 completes_high w low high wide live =
@@ -224,8 +231,12 @@ completes w Start some wide live = record { item = One 0; is_item = (omega arith
 completes w AtItem some wide live = record { item = One 0; is_item = (omega arith, some); more = decimal 0; text_is = refl }
 completes w (Low low) some wide live = record { item = One low; is_item = (omega arith, live_below w low live); more = []; text_is = append-nil (decimal low) }
 completes w (Dash low) some wide live =
-    record { item = Run low low; is_item = (omega arith, live_below w low live); more = decimal low;
-    text_is = append_assoc (decimal low) (45 ∷ []) (decimal low) }
+    record {
+      item = Run low low;
+      is_item = (omega arith, live_below w low live);
+      more = decimal low;
+      text_is = append_assoc (decimal low) (45 ∷ []) (decimal low);
+    }
 completes w (High low high) some wide live = completes_high w low high wide live
 
 -- ---- the reader's place in a text
@@ -238,9 +249,12 @@ pub at_front : (w : ℕ) (p : Place) (text : List ℕ) → 0 < w → w < 2 ^ 64 
 at_front w p text some wide a =
     let c = completes w p some wide a.live in
     let all : text ++ c.more ≡ joined (a.items ++ c.item ∷ []) = ap (λ z. z ++ c.more) a.text_is
-        ∙ (append_assoc (closed a.items) (pending p) c.more ∙ (ap (λ z. closed a.items ++ z) c.text_is ∙ sym (joined_push a.items c.item))) in
-    record { more = c.more; items = a.items ++ c.item ∷ [];
-        is_list = record { items_are = are_items_push w a.items c.item a.items_are c.is_item; text_is = all } }
+    ∙ (append_assoc (closed a.items) (pending p) c.more ∙ (ap (λ z. closed a.items ++ z) c.text_is ∙ sym (joined_push a.items c.item))) in
+    record {
+      more = c.more;
+      items = a.items ++ c.item ∷ [];
+      is_list = record { items_are = are_items_push w a.items c.item a.items_are c.is_item; text_is = all };
+    }
 
 kept_live : (w : ℕ) (o : Option Place) (q : Place) → option_and_then (λ p. cond (is_live w p) (Some p) None) o ≡ Some q → (o ≡ Some q) × (is_live w q ≡ true)
 kept_live w None q h = cc
@@ -257,16 +271,21 @@ at_comma w p text i a h =
     let new = whole_is w p i a.live h in
     let old : text ++ 44 ∷ [] ≡ closed a.items ++ item_text i ++ 44 ∷ [] = ap (λ z. z ++ 44 ∷ []) (a.text_is ∙ ap (λ z. closed a.items ++ z) new.0) in
     let one_more : closed (a.items ++ i ∷ []) ≡ closed a.items ++ ((item_text i ++ 44 ∷ []) ++ []) =
-        flat_map-append (λ j. item_text j ++ (44 ∷ [])) a.items (i ∷ []) in
+    flat_map-append (λ j. item_text j ++ (44 ∷ [])) a.items (i ∷ []) in
     let parts : closed a.items ++ ((item_text i ++ 44 ∷ []) ++ []) ≡ closed a.items ++ item_text i ++ 44 ∷ [] =
-        ap (λ z. closed a.items ++ z) (append-nil (item_text i ++ 44 ∷ [])) ∙ sym (append_assoc (closed a.items) (item_text i) (44 ∷ [])) in
-    record { items = a.items ++ i ∷ []; items_are = are_items_push w a.items i a.items_are new.1; live = refl; begins = tt;
-        text_is = old ∙ sym (append-nil (closed (a.items ++ i ∷ [])) ∙ (one_more ∙ parts)) }
+    ap (λ z. closed a.items ++ z) (append-nil (item_text i ++ 44 ∷ [])) ∙ sym (append_assoc (closed a.items) (item_text i) (44 ∷ [])) in
+    record {
+      items = a.items ++ i ∷ [];
+      items_are = are_items_push w a.items i a.items_are new.1;
+      live = refl;
+      begins = tt;
+      text_is = old ∙ sym (append-nil (closed (a.items ++ i ∷ [])) ∙ (one_more ∙ parts));
+    }
 
 at_other : (w : ℕ) (p q : Place) (b : ℕ) (text : List ℕ) → w < 2 ^ 64 → At w p text → after p b ≡ Some q → is_live w q ≡ true → At w q (text ++ b ∷ [])
 at_other w p q b text wide a goes live =
     let all : text ++ b ∷ [] ≡ closed a.items ++ pending q = ap (λ z. z ++ b ∷ []) a.text_is
-        ∙ (append_assoc (closed a.items) (pending p) (b ∷ []) ∙ ap (λ z. closed a.items ++ z) (sym (pending_after w p q b wide goes live))) in
+    ∙ (append_assoc (closed a.items) (pending p) (b ∷ []) ∙ ap (λ z. closed a.items ++ z) (sym (pending_after w p q b wide goes live))) in
     record { items = a.items; items_are = a.items_are; live = live; begins = after_begins p q b a.items goes; text_is = all }
 
 -- one byte on
@@ -284,9 +303,13 @@ at_step w r q b text wide a h = elim (cases_Bool (b == 44)) [
 
 at_item : (w : ℕ) (p : Place) (i : Item) (text : List ℕ) → At w p text → whole p ≡ Some i → (items : List Item) × IsListOf w text items
 at_item w p i text a h =
-    let new = whole_is w p i a.live h in
-    (a.items ++ i ∷ [], record { items_are = are_items_push w a.items i a.items_are new.1;
-        text_is = a.text_is ∙ (ap (λ z. closed a.items ++ z) new.0 ∙ sym (joined_push a.items i)) })
+    let new = whole_is w p i a.live h in (
+      a.items ++ i ∷ [],
+      record {
+        items_are = are_items_push w a.items i a.items_are new.1;
+        text_is = a.text_is ∙ (ap (λ z. closed a.items ++ z) new.0 ∙ sym (joined_push a.items i));
+      },
+    )
 
 -- the end of the text
 pub at_end : (w : ℕ) (p : Place) (mask m : ℕ) (text : List ℕ) → At w p text → finished p mask ≡ Some m → (items : List Item) × IsListOf w text items

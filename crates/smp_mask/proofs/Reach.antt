@@ -71,7 +71,7 @@ reach_complete (suc k) width low least past (suc j) digits below above fuel up =
           let wide : least * 10 * 10 ^ j ≡ least * 10 ^ suc j = rw p (omega arith) in
           let high : past * 10 * 10 ^ j ≡ past * 10 ^ suc j = rw p (omega arith) in
           rw go (reach_complete k width low (least * 10) (past * 10) j (inr (omega arith)) (omega (arith, wide, below)) (omega (arith, high, above))
-              (omega arith) (omega arith))
+          (omega arith) (omega arith))
     ]
 
 -- what is reached is below the width already

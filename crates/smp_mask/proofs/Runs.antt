@@ -104,11 +104,13 @@ run_off w zero low m n least all last above within =
 run_off w (suc d) low m n least all last above within =
     let m' = above_of m low in
     let off : members_below m w ≡ low ∷ members_below m' w =
-        least_off m m' low w least (λ c. grind (arith, nat_tests, has_above_of m low c, least.least c)) (omega arith) in
+    least_off m m' low w least (λ c. grind (arith, nat_tests, has_above_of m low c, least.least c)) (omega arith) in
     let from : suc low + d ≡ low + suc d = omega arith in
     let rest = run_off w d (suc low) m' n
-    (record { passing = grind (arith, nat_tests, has_above_of m low (suc low), all (suc low) (omega arith) (omega arith));
-        least = λ c h. grind (arith, nat_tests, has_above_of m low c, h) })
+    (record {
+      passing = grind (arith, nat_tests, has_above_of m low (suc low), all (suc low) (omega arith) (omega arith));
+      least = λ c h. grind (arith, nat_tests, has_above_of m low c, h);
+    })
     (λ c low' high'. grind (arith, nat_tests, has_above_of m low c, all c (omega arith) (omega arith)))
     (grind (arith, nat_tests, has_above_of m low (suc low + d + 1), ap (λ z. has m (z + 1)) from, last))
     (λ c. grind (arith, nat_tests, from, above c, has_above_of m low c))

@@ -35,8 +35,14 @@ with_below w n k within low h =
 pub has_without : (w n k c : ℕ) → w ≤ 32 → n < 2 ^ w → k < w → has (bit_and n (4294967295 - 1 * 2 ^ k % 4294967296)) c ≡ (has n c && not (c == k))
 has_without w n k c within low h =
     let k32 : k < 32 = omega arith in
-    grind (arith, nat_tests, bit_at_clear_same w32 n k k32, bit_at_clear_other w32 n k k32 c, bit_at_and n (4294967295 - 1 * 2 ^ k % 4294967296) c,
-        bit_at_above n w c low)
+    grind (
+      arith,
+      nat_tests,
+      bit_at_clear_same w32 n k k32,
+      bit_at_clear_other w32 n k k32 c,
+      bit_at_and n (4294967295 - 1 * 2 ^ k % 4294967296) c,
+      bit_at_above n w c low,
+    )
 
 pub has_without_none : (w n k c : ℕ) → n < 2 ^ w → w ≤ k → has n c ≡ (has n c && not (c == k))
 has_without_none w n k c low h = grind (arith, nat_tests, bit_at_above n w c low)
@@ -65,7 +71,7 @@ below_counts n (suc k) =
     let low : n % 2 ^ k < 2 ^ k = omega (arith, pow_pos k) in
     let top : ones (n % 2 ^ suc k) ≡ ones (bit_at n k * 2 ^ k + n % 2 ^ k) = ap (λ e. ones (n % 2 ^ e)) next ∙ ap ones (mod-pow-add n 1 k) in
     length-append (members_below n k) (cond (has n k) (k ∷ []) [])
-        ∙ omega (arith, below_counts n k, bit_counts n k, top, ones_cat k (bit_at n k) (n % 2 ^ k) low, ones_bit (bit_at n k) (bit_at-lt n k))
+    ∙ omega (arith, below_counts n k, bit_counts n k, top, ones_cat k (bit_at n k) (n % 2 ^ k) low, ones_bit (bit_at n k) (bit_at-lt n k))
 
 pub weight_is : (w n : ℕ) → n < 2 ^ w → ones n ≡ length (members_below n w)
 weight_is w n low = let e : n % 2 ^ w ≡ n = grind arith in sym (below_counts n w ∙ ap ones e)
@@ -82,8 +88,15 @@ has_after n k c low h =
     let top : 2 ^ suc k ≤ 2 ^ 32 = pow-le-pow_right (omega arith) step in
     let high : 4294967295 * 2 ^ k % 4294967296 ≡ 2 ^ 32 - 2 ^ k = ones_shl 32 k (omega arith) in
     let mask : 4294967295 * 2 ^ k % 4294967296 * 2 % 4294967296 ≡ 2 ^ 32 - 2 ^ suc k = rw high (grind (arith, p, top)) in
-    rw mask (grind (arith, nat_tests, bit_at_and n (2 ^ 32 - 2 ^ suc k) c, bit_at_mask_inside (suc k) 32 c, bit_at_mask_below (suc k) 32 c, bit_at-lt n c,
-        bit_at_above n 32 c low))
+    rw mask (grind (
+      arith,
+      nat_tests,
+      bit_at_and n (2 ^ 32 - 2 ^ suc k) c,
+      bit_at_mask_inside (suc k) 32 c,
+      bit_at_mask_below (suc k) 32 c,
+      bit_at-lt n c,
+      bit_at_above n 32 c low,
+    ))
 
 -- what passes the same tests has the same least
 pub least_like : (found : Option ℕ) (f g : ℕ → Bool) → FindsLeast found f → ((c : ℕ) → f c ≡ g c) → FindsLeast found g
@@ -122,8 +135,15 @@ run_bits low high up within =
 
 pub has_run : (n low high c : ℕ) → low ≤ high → has (bit_or n (2 ^ suc high - 2 ^ low)) c ≡ (has n c || (nat_le low c && nat_le c high))
 has_run n low high c up =
-    grind (arith, nat_tests, bit_at_or n (2 ^ suc high - 2 ^ low) c, bit_at-lt n c, bit_at_mask_below low (suc high) c, bit_at_mask_inside low (suc high) c,
-    bit_at_mask_above low (suc high) c)
+    grind (
+      arith,
+      nat_tests,
+      bit_at_or n (2 ^ suc high - 2 ^ low) c,
+      bit_at-lt n c,
+      bit_at_mask_below low (suc high) c,
+      bit_at_mask_inside low (suc high) c,
+      bit_at_mask_above low (suc high) c,
+    )
 
 pub run_below : (w n low high : ℕ) → n < 2 ^ w → high < w → bit_or n (2 ^ suc high - 2 ^ low) < 2 ^ w
 run_below w n low high below within =

@@ -28,7 +28,7 @@ walk_ok w wide [] r text at m a h =
 walk_ok w wide (b ∷ bs) r text at m a h =
     let on = or_ok at (λ q. read_from w q (at + 1) bs) (step w r b) m h in
     subst (λ z. (items : List Item) × IsListOf w z items) (append_assoc text (b ∷ []) bs)
-        (walk_ok w wide bs on.0 (text ++ b ∷ []) (at + 1) m (at_step w r on.0 b text wide a on.1) on.2)
+    (walk_ok w wide bs on.0 (text ++ b ∷ []) (at + 1) m (at_step w r on.0 b text wide a on.1) on.2)
 
 -- where a text goes wrong: after q bytes more, and whatever comes then
 record Stops (w : ℕ) (r : Reader) (text : List ℕ) (at : ℕ) (bs : List ℕ) (e : SmpError) : Type 0 where
@@ -65,18 +65,33 @@ walk_err : (w : ℕ) → 0 < w → w < 2 ^ 64 → (bs : List ℕ) (r : Reader) (
 unfolding read_from
 walk_err w some wide [] r text at e a h = elim (or_err at (λ mask. Ok mask) (finished r.place r.mask) e h) [
   | inl none ↦
-      record { q = 0; error = none.1 ∙ ap BadMask (omega arith); within = omega arith; front = here w some wide r text a;
-      after = λ k more low high. absurd (omega arith) }
+      record {
+        q = 0;
+        error = none.1 ∙ ap BadMask (omega arith);
+        within = omega arith;
+        front = here w some wide r text a;
+        after = λ k more low high. absurd (omega arith);
+      }
   | inr x ↦ let bad = x.2 in cc
 ]
 walk_err w some wide (b ∷ bs) r text at e a h = elim (or_err at (λ q. read_from w q (at + 1) bs) (step w r b) e h) [
   | inl none ↦
-      record { q = 0; error = none.1 ∙ ap BadMask (omega arith); within = omega arith; front = here w some wide r text a;
-      after = λ k more low high. after_none w r at b bs e none.0 none.1 k more low }
+      record {
+        q = 0;
+        error = none.1 ∙ ap BadMask (omega arith);
+        within = omega arith;
+        front = here w some wide r text a;
+        after = λ k more low high. after_none w r at b bs e none.0 none.1 k more low;
+      }
   | inr x ↦
       let s = walk_err w some wide bs x.0 (text ++ b ∷ []) (at + 1) e (at_step w r x.0 b text wide a x.1) x.2 in
-      record { q = suc s.q; error = s.error ∙ ap BadMask (omega arith); within = omega (arith, s.within);
-          front = subst (λ z. IsFront w z) (append_assoc text (b ∷ []) (take s.q bs)) s.front; after = after_some w r x.0 at b bs e s.q x.1 s.after }
+      record {
+        q = suc s.q;
+        error = s.error ∙ ap BadMask (omega arith);
+        within = omega (arith, s.within);
+        front = subst (λ z. IsFront w z) (append_assoc text (b ∷ []) (take s.q bs)) s.front;
+        after = after_some w r x.0 at b bs e s.q x.1 s.after;
+      }
 ]
 
 -- ---- the text as a whole

@@ -23,13 +23,13 @@ module _ (words : LabelWords) (key : ℕ) (change : Change) (lawful : IsLawful (
   leads : SetsKey key (count_left change (slice_index words.keys key)) (table_of words) (applied items (table_of words))
   leads = subst (λ l. SetsKey key (count_left change (slice_index words.keys key)) (table_of words) (applied l (table_of words))) (sym is)
       (plan_leads key (count_left change (slice_index words.keys key)) words.entries (table_of words)
-          (left_in_form change (slice_index words.keys key) key_fits) lawful few)
+      (left_in_form change (slice_index words.keys key) key_fits) lawful few)
 
   part_way : (front rest : List (Place × ℕ)) → items ≡ front ++ rest
       → StandsPartWay key (count_left change (slice_index words.keys key)) front rest (table_of words)
   part_way front rest parts =
       plan_part_way key (count_left change (slice_index words.keys key)) words.entries (table_of words)
-          (left_in_form change (slice_index words.keys key) key_fits) lawful few front rest (sym is ∙ parts)
+      (left_in_form change (slice_index words.keys key) key_fits) lawful few front rest (sym is ∙ parts)
 
 -- the words changed in the loop are the plan
 changes : (c : After-loop-site) → c.loop-site.plan.items ≡ plan_of c.args.key (slice_index c.args.words.now.keys c.args.key)
@@ -40,11 +40,11 @@ changes c =
     let new = c.in-Some.new in
     let left = left_is c.args.change old new c.count_after.result c.count_after.ensures c.in-Some.is in
     let none_left : c.loop-site.plan.items ≡ c.loop-site.plan.items ++ site_changes c.args.key (is_on new) c.loop-site.site [] =
-        sym (append-nil c.loop-site.plan.items) in
+    sym (append-nil c.loop-site.plan.items) in
     let done = rw (drop_all c.loop-site.site words.entries (omega arith)) at c.loop-site.invariant.left in
     subst (λ n. c.loop-site.plan.items ≡ plan_of c.args.key old n words.entries) left
     (none_left ∙ (done ∙ sym (plan_patches c.args.key old new words.entries (ne_eqb old new c.if-old-new.false)
-        (rw (c.is_on.ensures, c.is_on-2.ensures) at c.if-is_on.false))))
+    (rw (c.is_on.ensures, c.is_on-2.ensures) at c.if-is_on.false))))
 
 pub returns-then-old-new-clause-part_way : goal.returns-then-old-new-clause-part_way
 returns-then-old-new-clause-part_way c =
@@ -52,9 +52,9 @@ returns-then-old-new-clause-part_way c =
     let old = slice_index words.keys c.args.key in
     let left = left_is c.args.change old c.in-Some.new c.count_after.result c.count_after.ensures c.in-Some.is in
     part_way words c.args.key c.args.change c.requires (c.requires.keys c.args.key (omega arith)) record
-        { few = omega arith; read = λ i _. refl } c.new-plan.result.items
+    { few = omega arith; read = λ i _. refl } c.new-plan.result.items
     (subst (λ n. c.new-plan.result.items ≡ plan_of c.args.key old n words.entries) left
-        (c.new-plan.ensures ∙ sym (plan_same c.args.key old c.in-Some.new words.entries (eq-eqb old c.in-Some.new c.if-old-new.true))))
+    (c.new-plan.ensures ∙ sym (plan_same c.args.key old c.in-Some.new words.entries (eq-eqb old c.in-Some.new c.if-old-new.true))))
 
 pub returns-then-is_on-clause-part_way : goal.returns-then-is_on-clause-part_way
 returns-then-is_on-clause-part_way c =
@@ -62,20 +62,20 @@ returns-then-is_on-clause-part_way c =
     let old = slice_index words.keys c.args.key in
     let left = left_is c.args.change old c.in-Some.new c.count_after.result c.count_after.ensures c.in-Some.is in
     part_way words c.args.key c.args.change c.requires (c.requires.keys c.args.key (omega arith)) record
-        { few = omega arith; read = λ i _. refl } c.push.new.self.items
+    { few = omega arith; read = λ i _. refl } c.push.new.self.items
     (subst (λ n. c.push.new.self.items ≡ plan_of c.args.key old n words.entries) left
     (c.push.ensures.items ∙ (ap (λ l. l ++ (Key c.args.key, c.in-Some.new) ∷ []) c.new-plan.ensures
     ∙ sym (plan_counts c.args.key old c.in-Some.new words.entries (ne_eqb old c.in-Some.new c.if-old-new.false)
-        (rw (c.is_on.ensures, c.is_on-2.ensures) at c.if-is_on.true)))))
+    (rw (c.is_on.ensures, c.is_on-2.ensures) at c.if-is_on.true)))))
 
 pub returns-clause-leads : goal.returns-clause-leads
 returns-clause-leads c =
     let words = c.args.words.now in
     leads words c.args.key c.args.change c.requires (c.requires.keys c.args.key (omega arith)) record
-        { few = omega arith; read = λ i _. refl } c.loop-site.plan.items (changes c)
+    { few = omega arith; read = λ i _. refl } c.loop-site.plan.items (changes c)
 
 pub returns-clause-part_way : goal.returns-clause-part_way
 returns-clause-part_way c =
     let words = c.args.words.now in
     part_way words c.args.key c.args.change c.requires (c.requires.keys c.args.key (omega arith)) record
-        { few = omega arith; read = λ i _. refl } c.loop-site.plan.items (changes c)
+    { few = omega arith; read = λ i _. refl } c.loop-site.plan.items (changes c)

@@ -10,9 +10,11 @@ pub loop-i-init : goal.loop-i-init
 loop-i-init c = rw (none_empty _ c.empty.ensures) (refl, refl)
 
 pub loop-i-preserved : goal.loop-i-preserved
-loop-i-preserved c =
-    (c.in-Some.ensures.live, sym (read_on NR_CPUS _ _ c.loop-i.i c.args.text.now 0 c.loop-i-test.true (sym c.step.ensures.reads ∙ c.in-Some.is))
-    ∙ c.loop-i.invariant.1)
+loop-i-preserved c = (
+  c.in-Some.ensures.live,
+  sym (read_on NR_CPUS _ _ c.loop-i.i c.args.text.now 0 c.loop-i-test.true (sym c.step.ensures.reads ∙ c.in-Some.is))
+      ∙ c.loop-i.invariant.1,
+)
 
 -- the reader stopped at a byte
 stopped : (c : goal.In_default) → answered (Err c.loop-i.i) ≡ mask_of_text NR_CPUS c.args.text.now

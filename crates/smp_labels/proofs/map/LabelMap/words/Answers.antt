@@ -39,4 +39,4 @@ pub returns-clause-sites : goal.returns-clause-sites
 returns-clause-sites c =
     let items = c.deref-entry-items.result.now in
     rw (← c.self.view_is) (c.loop-site.invariant.listed
-        ∙ ap (words_of first_site MOST_SITES) (take_all c.loop-site.site items (omega arith) ∙ c.deref-entry-items.ensures.0))
+    ∙ ap (words_of first_site MOST_SITES) (take_all c.loop-site.site items (omega arith) ∙ c.deref-entry-items.ensures.0))

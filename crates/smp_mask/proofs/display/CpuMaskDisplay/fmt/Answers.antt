@@ -10,7 +10,7 @@ returns-clause-writes g c = λ plain ok.
     let first = c.in_ok-write.ensures.writes plain refl in
     let rest = c.loop-item.invariant first.plain in
     let came = YieldsList-end (YieldsList-from_first (λ i. i) (λ r. mask_items r.left) _ refl)
-        c.loop-item.yielded _ c.loop-item.yielded_by _ _ c.in-None.is c.next-in-loop-item.ensures.steps in
+    c.loop-item.yielded _ c.loop-item.yielded_by _ _ c.in-None.is c.next-in-loop-item.ensures.steps in
     put_two _ _ c.write.new.self _ _ _ _ first rest
-        (written (mask_items c.args.self.now) (mask_items c.next.new.self.left) c.loop-item.yielded c.in-Some.first c.in-Some.ensures.steps
-        (sym (map-id c.loop-item.yielded) ∙ (came.0 ∙ ap (λ r. mask_items r.left) c.into_iter-item-iterator.ensures.into_iter_gives)))
+    (written (mask_items c.args.self.now) (mask_items c.next.new.self.left) c.loop-item.yielded c.in-Some.first c.in-Some.ensures.steps
+    (sym (map-id c.loop-item.yielded) ∙ (came.0 ∙ ap (λ r. mask_items r.left) c.into_iter-item-iterator.ensures.into_iter_gives)))

@@ -12,8 +12,10 @@ returns-in_err-cpu-clause-steps c =
 pub returns-clause-steps : goal.returns-clause-steps
 returns-clause-steps c =
     let found = c.in_ok-cpu.ensures.least in
-    rw (← c.self.view_is) (least_off _ _ _ NR_CPUS found c.without-self-inside.ensures c.in_ok-cpu.ensures.within,
-        (c.in_ok-cpu.ensures.within, grind (arith, found.passing)))
+    rw (← c.self.view_is) (
+      least_off _ _ _ NR_CPUS found c.without-self-inside.ensures c.in_ok-cpu.ensures.within,
+      (c.in_ok-cpu.ensures.within, grind (arith, found.passing)),
+    )
 
 pub returns-clause-goes : goal.returns-clause-goes
 returns-clause-goes c =
