@@ -3,6 +3,7 @@ ghost use Rattle.smp_mask.specs.Mask.{has};
 ghost use Rattle.smp_queue.specs.Cpu.{left_at};
 
 mod threads;
+mod users;
 mod wide;
 
 use super::*;

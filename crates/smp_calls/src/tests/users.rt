@@ -1,0 +1,33 @@
+//! A user's proof, by public clauses alone: each call that was waited for has ended.
+
+ghost use Rattle.std.specs.Prelude.{◌≡◌, ℕ, true, false};
+ghost use Rattle.smp_mask.specs.Mask.{has, members};
+ghost use Rattle.smp_calls.specs.Ended.{HaveEnded};
+ghost use Rattle.smp_calls.specs.Records.{many_call};
+ghost use Rattle.smp_calls.specs.Targets.{is_target};
+
+use crate::call_many;
+use smp_mask::CpuMask;
+use smp_queue::{CallCpu, CallTable, Handler};
+use smp_words::call::Class;
+use std::alloc::Allocator;
+use std::sync::Wait;
+
+/// The function that drops an address space from a CPU's TLB.
+const FLUSH: u16 = 1;
+
+/// Drops an address space from the TLBs of these CPUs: the CPUs called, each of which has run the function.
+fn shoot_down<A: Allocator, R: Wait, H: Handler>(
+    table: &CallTable<A>,
+    rt: &R,
+    me: &mut CallCpu,
+    handler: &mut H,
+    users: CpuMask,
+    space: u64,
+) -> CpuMask
+    requires { me.old.table ≡ table.now.table }
+    ensures targets { (c : ℕ) → has result c ≡ is_target users table.now.online me.old.number false c }
+    ensures ended { HaveEnded me.new (many_call me.old.number Class.Sync 1 space) (members result) }
+{
+    call_many(table, rt, me, handler, users, FLUSH, space, true)
+}
