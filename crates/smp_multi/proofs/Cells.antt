@@ -32,7 +32,7 @@ field_here field.Todo = refl
 field_here field.Result = refl
 field_here field.Done = refl
 
-offset_low : (f : Field) → offset_of f < SLOTS_APART
+pub offset_low : (f : Field) → offset_of f < SLOTS_APART
 offset_low field.Kind = omega arith
 offset_low field.Mask = omega arith
 offset_low field.Active = omega arith

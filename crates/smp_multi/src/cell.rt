@@ -47,9 +47,9 @@ const SLOTS_APART: usize = 8 * LINE;
 const FIRST_SLOT: usize = LINE;
 
 /// Where the keys, the entries and the sites begin.
-pub(crate) const FIRST_KEY: usize = FIRST_SLOT + SLOTS_APART * NR_CPUS as usize;
+const FIRST_KEY: usize = FIRST_SLOT + SLOTS_APART * NR_CPUS as usize;
 
-const FIRST_ENTRY: usize = FIRST_KEY + MOST_KEYS as usize;
+pub(crate) const FIRST_ENTRY: usize = FIRST_KEY + MOST_KEYS as usize;
 
 const FIRST_SITE: usize = FIRST_ENTRY + MOST_SITES as usize;
 
