@@ -113,7 +113,7 @@ module _ (k : ℕ) (x w : Work) (same : told_work k x ≡ told_work k w) where
   }
 
 -- one more field is told
-draft_next : (f : Field) (w : Work) → order f ≢ 0 → order f < 10 → drafted f (begun_value cpus w f) (told_work (order f) w) ≡ told_work (order f + 1) w
+pub draft_next : (f : Field) (w : Work) → order f ≢ 0 → order f < 10 → drafted f (begun_value cpus w f) (told_work (order f) w) ≡ told_work (order f + 1) w
 draft_next field.Kind w ne l = absurd (ne refl)
 draft_next field.Mask w ne l = refl
 draft_next field.Active w ne l = refl
@@ -126,7 +126,7 @@ draft_next field.Ack w ne l = refl
 draft_next field.State w ne l = refl
 draft_next field.Roll w ne l = absurd (let z : ⊥ = omega (arith, l) in z)
 
-stored_draft : (f : Field) (n : ℕ) (v : Known) → order f ≢ 0 → order f < 10 → is_drafting v.source ≡ true → slot_stored f n v ≡ drafted_known f n v
+pub stored_draft : (f : Field) (n : ℕ) (v : Known) → order f ≢ 0 → order f < 10 → is_drafting v.source ≡ true → slot_stored f n v ≡ drafted_known f n v
 stored_draft field.Kind n v ne l e = absurd (ne refl)
 stored_draft field.Mask n v ne l e = ap (λ b. cond b (drafted_known field.Mask n v) v) e
 stored_draft field.Active n v ne l e = ap (λ b. cond b (drafted_known field.Active n v) v) e

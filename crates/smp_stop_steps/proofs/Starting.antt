@@ -115,7 +115,7 @@ module _ (v : StopsValue) (cpu : ℕ) (low : cpu < cpus) (below : (k : ℕ) → 
   is_kind work Multi e = tt
   is_kind work Patch e = is_patch work e
 
-  begins_work : (work : Work) (is_open : Bool) → c.is_open ≡ is_open → work.func < 2 ^ 16 → begin_refusal t work is_open ≡ None →
+  pub begins_work : (work : Work) (is_open : Bool) → c.is_open ≡ is_open → work.func < 2 ^ 16 → begin_refusal t work is_open ≡ None →
       (gate ≡ cpu + 1) × (c.is_open ≡ false) × IsWork u work
   begins_work work true shut small e = cc
   begins_work work false shut small e =

@@ -103,7 +103,7 @@ fn store(change: (Place, u64)) -> Access
 }
 
 /// What begin stores in a field.
-fn begun_value(work: Work, field: Field) -> u64
+pub fn begun_value(work: Work, field: Field) -> u64
     ensures { result ≡ value_of_begin cpus work field }
 {
     match field {

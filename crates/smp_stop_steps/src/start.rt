@@ -36,7 +36,7 @@ fn unless(test: bool, error: SmpError) -> Option<SmpError>
 }
 
 /// Whether a slot may be entered where there are `nr` CPUs: one of the first eight, or that of a CPU.
-fn has_slot(nr: u32, slot: u32) -> bool
+pub fn has_slot(nr: u32, slot: u32) -> bool
     ensures { result ≡ has_slot_in nr slot }
 {
     slot < NR_CPUS && (slot < FIRST_TARGETS || slot < nr)
@@ -68,7 +68,7 @@ impl Terms {
     }
 
     /// Why a stop may not begin; none where it may.
-    fn begin_refusal(self, work: Work, is_open: bool) -> Option<SmpError>
+    pub fn begin_refusal(self, work: Work, is_open: bool) -> Option<SmpError>
         ensures { result ≡ refusal_of_begin self work is_open }
     {
         if is_open {
@@ -168,7 +168,7 @@ impl StopControl {
 }
 
 /// The answer of a stop function, as the result word has it.
-fn answer_word(answer: i32) -> u64
+pub fn answer_word(answer: i32) -> u64
     ensures { result ≡ word_of_answer answer }
 {
     u64::from(answer.cast_unsigned())

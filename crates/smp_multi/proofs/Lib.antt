@@ -1,0 +1,17 @@
+-- where words lie
+pub mod Cells
+-- the rule: each kind of access keeps it
+pub mod Keeps
+-- the steps of each call
+pub mod Gates
+pub mod Entering
+pub mod Beginning
+pub mod Running
+pub mod Completing
+pub mod Polling
+-- a table as it is made, and its CPUs
+pub mod Starting
+pub mod Seating
+-- a CPU between two calls
+pub mod Kept
+pub mod Showing

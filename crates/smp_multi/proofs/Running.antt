@@ -1,0 +1,102 @@
+-- The steps round the function of a stop of one CPU.
+use Rattle.std.proofs.Common.{◌≡◌, ◌≢◌, ℕ, ◌==◌, ◌<◌, ◌^◌, Bool, true, false, cond, inr, sym, subst, refl, ap, ◌∙◌, eqb-true, ne_eqb}
+use Rattle.atomic_table.specs.Seated.{TableId}
+use Rattle.smp_stop_steps.specs.Known.{Moment, setup_in}
+use Rattle.smp_stop_steps.specs.KnownAfter.{slot_stored, drafted_known, member_stored, given_by, completed_by, completed_with, is_drafting}
+use Rattle.smp_stop_steps.specs.Moves.{Give, Count, CountGiven, LoadField, IsPlain}
+use Rattle.smp_stop_steps.specs.Seats.{Stands}
+use Rattle.smp_stop_steps.specs.Sources.{SourceShows, IsWork}
+use Rattle.smp_stop_steps.specs.Stop.{Inside}
+use Rattle.smp_stop_steps.proofs.Phases.{is_open_inside}
+use Rattle.smp_words.specs.Size.{cpus}
+use Rattle.smp_multi.specs.Names.{Work, One, Slot, Field, Load, Store, Sub, Seat, In, Gives, Rests, Source, Shut, Drafts, Owns, Collects, Known}
+use Rattle.smp_multi.specs.Names.field
+use Rattle.smp_multi.specs.Completes.{AtClose}
+use Rattle.smp_multi.specs.Places.{work_in}
+use Rattle.smp_multi.specs.Running.{AtOne, AtGiven, answered, given}
+use Rattle.smp_multi.specs.Seat.{SeatValue, Able, Ready}
+use Rattle.smp_multi.proofs.Cells.{slot_cell}
+
+pub one_moved : (t : TableId) (d e : SeatValue) (slot : ℕ) → AtOne t d slot → e.table ≡ t → e.known ≡ d.known → AtOne t e slot
+one_moved t d e slot a table same = record {
+  table_is = table;
+  sized = a.sized;
+  low = a.low;
+  idle = ap (λ (k : Known). is_drafting k.source) same ∙ a.idle;
+  seat_is = ap (λ (k : Known). k.seat) same ∙ (a.seat_is ∙ sym (ap (λ (k : Known). In slot (work_in k.seat) 0 0 Rests) same));
+  one = ap (λ (k : Known). (work_in k.seat).kind) same ∙ a.one;
+}
+
+module _ (t : TableId) (d : SeatValue) (slot : ℕ) where
+  pub ready_field : (f : Field) → AtOne t d slot → IsPlain f → Ready t d (Load (Slot slot f))
+  ready_field f a plain = record {
+    able = record { table_is = a.table_is; sized = a.sized; can = record { move = LoadField slot f; may = plain; is_access = refl }; cell = slot_cell slot f a.low };
+    apart = tt;
+  }
+
+  pub able_give : (x : ℕ) → AtOne t d slot → x ≢ 0 → Able t d (Store (Slot slot field.Result) x)
+  able_give x a some = record {
+    table_is = a.table_is;
+    sized = a.sized;
+    can = record { move = Give slot (work_in d.known.seat) 0 0 x; may = (a.seat_is, inr a.one, some, a.idle); is_access = refl };
+    cell = slot_cell slot field.Result a.low;
+  }
+
+  pub known_give : (x : ℕ) → AtOne t d slot → x ≢ 0 → slot_stored field.Result x d.known ≡ given slot x d.known
+  known_give x a some =
+      ap (λ b. cond b (drafted_known field.Result x d.known) (member_stored field.Result x d.known)) a.idle ∙ (
+      ap (λ (y : Seat). record (d.known) { seat = given_by x y }) a.seat_is ∙
+      ap (λ b. record (d.known) { seat = cond b (In slot (work_in d.known.seat) 0 0 Rests) (Gives slot (work_in d.known.seat) 0 x) }) (sym (ne_eqb x 0 some)))
+
+  -- where the answer is 0 nothing is stored
+  pub known_zero : (x : ℕ) → AtOne t d slot → x ≡ 0 → d.known ≡ given slot x d.known
+  known_zero x a z = ap (λ (y : Seat). record (d.known) { seat = y }) (a.seat_is ∙ ap (λ n. answered slot (work_in d.known.seat) n) (sym z))
+
+  pub at_given : (e : SeatValue) (x : ℕ) → AtOne t d slot → e.table ≡ t → e.known ≡ given slot x d.known → AtGiven t e slot x (work_in d.known.seat)
+  at_given e x a table same = record {
+    table_is = table;
+    sized = a.sized;
+    low = a.low;
+    idle = ap (λ (z : Known). is_drafting z.source) same ∙ a.idle;
+    seat_is = ap (λ (z : Known). z.seat) same;
+    one = a.one;
+  }
+
+  pub able_count : (x : ℕ) (w : Work) → AtGiven t d slot x w → Able t d (Sub (Slot slot field.Todo))
+  able_count x w a = go (x == 0) a.seat_is
+    where
+      go : (b : Bool) → d.known.seat ≡ cond b (In slot w 0 0 Rests) (Gives slot w 0 x) → Able t d (Sub (Slot slot field.Todo))
+      go true is = record { table_is = a.table_is; sized = a.sized; can = record { move = Count slot w 0 0; may = (is, inr a.one, a.low); is_access = refl }; cell = slot_cell slot field.Todo a.low }
+      go false is = record { table_is = a.table_is; sized = a.sized; can = record { move = CountGiven slot w 0 x; may = (is, a.low); is_access = refl }; cell = slot_cell slot field.Todo a.low }
+
+  pub known_count : (x found : ℕ) (w : Work) → AtGiven t d slot x w → completed_by found d.known.seat d.known ≡ completed_with found slot w x d.known
+  known_count x found w a = ap (λ (y : Seat). completed_by found y d.known) a.seat_is ∙ go (x == 0) refl
+    where
+      go : (b : Bool) → (x == 0) ≡ b → completed_by found (cond b (In slot w 0 0 Rests) (Gives slot w 0 x)) d.known ≡ completed_with found slot w x d.known
+      go true e = ap (λ n. completed_with found slot w n d.known) (sym (eqb-true x 0 e))
+      go false e = refl
+
+  pub at_close : (e : SeatValue) (x found : ℕ) (w : Work) → AtGiven t d slot x w → e.table ≡ t → e.known ≡ completed_with found slot w x d.known → AtClose t e slot found
+  at_close e x found w a table same = record {
+    table_is = table;
+    sized = a.sized;
+    low = a.low;
+    idle = ap (λ (z : Known). is_drafting z.source) same ∙ a.idle;
+    seat_is = ap (λ (z : Known). z.seat) same;
+  }
+
+-- the work of a stop that a CPU is in is one that begin takes: its function has 16 bits
+pub small_func : (v : Known) (slot : ℕ) (w : Work) (f : Field) (n : ℕ) → v.seat ≡ In slot w 0 0 Rests → Moment v (Slot slot f) n → w.func < 2 ^ 16
+small_func v slot w f n is m = (go (m.source slot) (m.shown.sources slot)).func
+  where
+    st : Stands m.stops.now v.number (In slot w 0 0 Rests)
+    st = subst (Stands m.stops.now v.number) (m.sees.seat_is ∙ is) (m.shown.present.stands v.number)
+
+    opened : (m.stops.now.stop slot).is_open ≡ true
+    opened = is_open_inside cpus (m.stops.now.stop slot) (λ g. m.at (Slot slot g)) (m.shown.present.slots slot) v.number (Inside 0 0) st.1 refl
+
+    go : (y : Source) → SourceShows (setup_in v.setting) m.stops.gate (m.stops.now.stop slot) (λ g. m.at (Slot slot g)) slot y → IsWork (setup_in v.setting) w
+    go Shut shut = absurd (let bad : true ≡ false = sym opened ∙ shut in cc)
+    go (Drafts x k) e = absurd (let bad : true ≡ false = sym opened ∙ e.shut in cc)
+    go (Owns x) e = subst (IsWork (setup_in v.setting)) (sym e.work_is ∙ st.3) e.is_work
+    go (Collects x) e = subst (IsWork (setup_in v.setting)) (sym e.0.work_is ∙ st.3) e.0.is_work

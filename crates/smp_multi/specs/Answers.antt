@@ -1,0 +1,58 @@
+-- What each call answers, and what it leaves of its CPU.
+use Rattle.std.specs.Int.{cast_signed, w32}
+use Rattle.std.specs.Prelude.{◌≡◌, ◌≢◌, ℕ, ℤ, ◌%◌, ◌^◌, true, Option, Some, None, Result, Ok, Err}
+use Rattle.smp_mask.specs.Mask.{has}
+use Rattle.smp_mask.specs.declared.error.SmpError.{SmpError}
+use Rattle.smp_mask.specs.declared.error.SmpError.TheVariants as error
+use Rattle.smp_stop_steps.specs.Known.{setup_in}
+use Rattle.smp_stop_steps.specs.Sources.{IsWork}
+use Rattle.smp_stop_steps.specs.Starts.{begin_refusal, has_slot, answer_word}
+use Rattle.smp_multi.specs.Names.{Work, Kind, One, StopCall}
+use Rattle.smp_multi.specs.declared.func.Called.{Called}
+use Rattle.smp_multi.specs.Cpu.{TableValue, CpuValue, Inside, begins, enters, runs, answers, collects, terms_of, is_pending}
+use Rattle.smp_multi.specs.Polls.{IsLastResult}
+use Rattle.smp_multi.specs.Running.{called}
+
+-- begin: it is refused just as the pure machine refuses it, and its work is one that a stop may have
+abbrev pub BeginAnswers : TableValue → CpuValue → CpuValue → Work → Result Unit SmpError → Type 0
+BeginAnswers t old new work (Ok u) = (begin_refusal (terms_of t old) work (is_pending old.pending) ≡ None) × IsWork (setup_in t.setting) work × (new ≡ begins work old)
+BeginAnswers t old new work (Err e) = (begin_refusal (terms_of t old) work (is_pending old.pending) ≡ Some e) × (new ≡ old)
+
+-- enter: the stop calls the CPU, which is in none; in the CPU's own slot it is its own stop
+pub record Enters (t : TableValue) (slot : ℕ) (old new : CpuValue) (kind : Kind) : Type 0 where
+  pub work : Work
+  pub outside : old.inside ≡ None
+  pub there : has_slot t.nr slot ≡ true
+  pub member : has work.mask old.number ≡ true
+  pub own : slot ≡ old.number → old.pending ≡ Some work
+  pub kind_is : kind ≡ work.kind
+  pub is : new ≡ enters slot work old
+
+-- a CPU in a stop of one CPU
+pub record IsInOne (c : CpuValue) : Type 0 where
+  pub stop : Inside
+  pub is : c.inside ≡ Some stop
+  pub one : stop.work.kind ≡ One
+
+-- the call of its function with this answer
+abbrev pub call_of : Inside → ℤ → StopCall
+call_of stop answer = record { func = stop.work.func; arg = stop.work.arg; answer = answer_word answer }
+
+-- run_one: the function is called once, and what it answered is the CPU's answer
+abbrev pub RunAnswers : {F : Type 0} → (F → Called → F → Type 0) → CpuValue → CpuValue → F → F → Result ℤ SmpError → Type 0
+RunAnswers leads old new before after (Ok v) =
+    (at : IsInOne old) × (new ≡ answers at.stop.slot (answer_word v) (runs (call_of at.stop v) old)) ×
+    leads before (called old.number at.stop.work.func at.stop.work.arg v) after
+RunAnswers leads old new before after (Err error.BadArgument) = (¬ (IsInOne old)) × (new ≡ old) × (after ≡ before)
+RunAnswers leads old new before after (Err _) = ⊥
+
+-- the i32 of a result word
+abbrev pub answer_in : ℕ → ℤ
+answer_in word = cast_signed w32 (word % 2 ^ 32)
+
+-- poll_done: at Some the stop is collected, with its result
+abbrev pub PollAnswers : CpuValue → CpuValue → Result (Option ℤ) SmpError → Type 0
+PollAnswers old new (Ok None) = (old.pending ≢ None) × (new ≡ old)
+PollAnswers old new (Ok (Some v)) = (old.pending ≢ None) × ((word : ℕ) × (v ≡ answer_in word) × (new ≡ collects word old) × IsLastResult new.part word)
+PollAnswers old new (Err error.BadArgument) = (old.pending ≡ None) × (new ≡ old)
+PollAnswers old new (Err _) = ⊥

@@ -1,0 +1,139 @@
+-- What contracts see of a table, of a CPU and of the CPUs that were not given out.
+use Rattle.std.specs.Prelude.{◌≡◌, ◌≢◌, ℕ, ◌<◌, Bool, true, false, Option, Some, None, List, [], ◌∷◌, ◌++◌, length, slice_index_or, slice_set}
+use Rattle.atomic_table.specs.Seated.{TableId}
+use Rattle.smp_mask.specs.Mask.{has}
+use Rattle.smp_words.specs.Size.{cpus}
+use Rattle.smp_stop_steps.specs.Known.{fresh, Lives}
+use Rattle.smp_stop_steps.specs.Seats.{irq_of}
+use Rattle.smp_stop_steps.specs.Sits.{SitsAtRest, OwnsIf}
+use Rattle.smp_stop_steps.specs.declared.phase.TheConstants.{DISABLE_IRQ}
+use Rattle.smp_stop_steps.specs.declared.stage.Visit.{Visit}
+use Rattle.smp_stop_steps.specs.declared.start.Terms.{Terms}
+use Rattle.smp_multi.specs.Names.{Work, Seat, In, Gives, Alters, Known, Part, Setting, StopCall}
+use Rattle.smp_multi.specs.Places.{pending_of}
+use Rattle.smp_multi.specs.Seat.{SeatValue}
+
+-- a table: its name, how many CPUs it has, and what it is made with
+pub record TableValue : Type 0 where
+  pub table : TableId
+  pub nr : ℕ
+  pub setting : Setting
+
+-- the stop that a CPU is in: the source whose stop it is, its work, and the last phase that the CPU has acknowledged
+pub record Inside : Type 0 where
+  pub slot : ℕ
+  pub work : Work
+  pub acked : ℕ
+
+-- a CPU between two calls: its table, its number, the work of its own stop that is not collected, the stop that it is
+-- in, whether its interrupts are on, and its own part of all stops
+pub record CpuValue : Type 0 where
+  pub table : TableId
+  pub setting : Setting
+  pub number : ℕ
+  pub pending : Option Work
+  pub inside : Option Inside
+  pub irq : Bool
+  pub part : Part
+
+abbrev pub inside_of : Seat → Option Inside
+inside_of (In s w a l t) = Some (record { slot = s; work = w; acked = a })
+inside_of (Gives s w a x) = Some (record { slot = s; work = w; acked = a })
+inside_of (Alters s w count made rest) = Some (record { slot = s; work = w; acked = DISABLE_IRQ })
+inside_of _ = None
+
+abbrev pub is_in : Option Inside → Bool
+is_in None = false
+is_in (Some x) = true
+
+abbrev pub is_pending : Option Work → Bool
+is_pending None = false
+is_pending (Some w) = true
+
+-- what a CPU knows, as contracts see it
+abbrev pub cpu_of : SeatValue → CpuValue
+cpu_of d = record {
+  table = d.table;
+  setting = d.known.setting;
+  number = d.known.number;
+  pending = pending_of d.known.source;
+  inside = inside_of d.known.seat;
+  irq = irq_of d.known.seat;
+  part = d.known.part;
+}
+
+-- a CPU that has done nothing
+abbrev pub fresh_cpu : TableId → Setting → ℕ → CpuValue
+fresh_cpu table k cpu = cpu_of (record { table = table; known = fresh k cpu })
+
+-- the CPU is one of this table
+pub record IsAt (t : TableValue) (c : CpuValue) : Type 0 where
+  pub table : c.table ≡ t.table
+  pub setting : c.setting ≡ t.setting
+
+-- the slot of a visit is one of the table
+abbrev pub IsLow : Option Visit → Type 0
+IsLow None = Unit {0}
+IsLow (Some x) = x.slot < cpus
+
+-- what a CPU keeps between two calls: it is between two turns of the stop that it is in, begins none, and what it knows
+-- is its part of some stops
+pub record IsKept (v : Known) (number : ℕ) (visit : Option Visit) (holds is_open : Bool) : Type 0 where
+  pub number_is : v.number ≡ number
+  pub below : number < cpus
+  pub online : has v.setting.online number ≡ true
+  pub rests : SitsAtRest visit v.seat
+  pub low : IsLow visit
+  pub holds_is : holds ≡ v.part.holds
+  pub owns : OwnsIf is_open v.source
+  pub lives : Lives v
+
+-- a CPU with the gate or without
+abbrev pub gated : Bool → CpuValue → CpuValue
+gated b c = record c { part = record (c.part) { holds = b } }
+
+-- one that has begun a stop of this work
+abbrev pub begins : Work → CpuValue → CpuValue
+begins w c = record c { pending = Some w; part = record (c.part) { begun = c.part.begun ++ w ∷ [] } }
+
+-- one that has entered the stop of this slot, which is this work
+abbrev pub enters : ℕ → Work → CpuValue → CpuValue
+enters slot w c = record c { inside = Some (record { slot = slot; work = w; acked = 0 }) }
+
+-- one that has called a stop function
+abbrev pub runs : StopCall → CpuValue → CpuValue
+runs call c = record c { part = record (c.part) { calls = c.part.calls ++ call ∷ [] } }
+
+-- one that has completed the stop of this slot with this answer
+abbrev pub answers : ℕ → ℕ → CpuValue → CpuValue
+answers slot x c = record c {
+  inside = None;
+  irq = true;
+  part = record (c.part) { answers = slice_set c.part.answers slot (slice_index_or c.part.answers slot [] ++ x ∷ []) };
+}
+
+-- one that has collected this result
+abbrev pub collects : ℕ → CpuValue → CpuValue
+collects x c = record c { pending = None; part = record (c.part) { collected = c.part.collected ++ x ∷ [] } }
+
+-- what a refusal depends on
+abbrev pub terms_of : TableValue → CpuValue → Terms
+terms_of t c = record { nr = t.nr; online = t.setting.online; keys = t.setting.labels.keys; sites = length t.setting.labels.entries; holds_gate = c.part.holds }
+
+-- the CPUs that were not given out, and those online
+pub record BootValue : Type 0 where
+  pub online : ℕ
+  pub cpus_left : List (Option CpuValue)
+
+-- the CPU at a number, where it is left
+abbrev pub left_at : BootValue → ℕ → Option CpuValue
+left_at b cpu = slice_index_or b.cpus_left cpu None
+
+-- without the CPU at a number
+abbrev pub given : ℕ → BootValue → BootValue
+given cpu b = record b { cpus_left = slice_set b.cpus_left cpu None }
+
+-- all CPUs that are online are left, fresh
+pub record IsFull (b : BootValue) (table : TableId) (k : Setting) : Type 0 where
+  pub online_is : b.online ≡ k.online
+  pub fresh_are : (cpu : ℕ) → has k.online cpu ≡ true → left_at b cpu ≡ Some (fresh_cpu table k cpu)

@@ -1,0 +1,20 @@
+-- What a CPU's value says of running threads.
+use Rattle.std.specs.Prelude.{◌≡◌, ℕ}
+use Rattle.smp_stop_steps.specs.Known.{Sees, setup_in}
+use Rattle.smp_stop_steps.specs.Shows.{StopShows}
+use Rattle.smp_stop_steps.specs.State.{StopState}
+use Rattle.smp_stop_steps.specs.StopLaws.{KeepsStopLaws}
+use Rattle.smp_multi.specs.Names.{Word, Seat, Source, Known}
+use Rattle.smp_multi.specs.Cpu.{CpuValue, cpu_of}
+
+-- some words of the table show stops that keep all laws, and this value is what a CPU knows that knows its part of them
+pub record IsShown (c : CpuValue) : Type 0 where
+  pub stops : StopState
+  pub at : Word → ℕ
+  pub seat : ℕ → Seat
+  pub source : ℕ → Source
+  pub shown : StopShows (setup_in c.setting) stops at seat source
+  pub laws : KeepsStopLaws (setup_in c.setting) stops at
+  pub known : Known
+  pub sees : Sees stops seat source known
+  pub view : c ≡ cpu_of (record { table = c.table; known = known })

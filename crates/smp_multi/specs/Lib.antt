@@ -1,0 +1,20 @@
+-- types by their names
+pub mod Names
+-- where words lie
+pub mod Cells
+-- the rule, and what each kind of access tells
+pub mod Rule
+pub mod Plays
+-- a CPU at the table, between two steps
+pub mod Seat
+pub mod Places
+pub mod Begins
+pub mod Running
+pub mod Completes
+pub mod Polls
+-- a table and a CPU between two calls, and what each call answers
+pub mod Cpu
+pub mod Table
+pub mod Answers
+-- what holds while threads run
+pub mod Laws

@@ -1,0 +1,22 @@
+-- The types that words, stops and seats are made of, and their variants, by their names.
+pub use Rattle.smp_words.specs.declared.word.Word.{Word}
+pub use Rattle.smp_words.specs.declared.word.Word.TheVariants.{Gate, Slot, Key, Entry, Site}
+pub use Rattle.smp_words.specs.declared.field.Field.{Field}
+pub use Rattle.smp_words.specs.declared.field.Field.TheVariants as field
+pub use Rattle.smp_words.specs.declared.access.Access.{Access}
+pub use Rattle.smp_words.specs.declared.access.Access.TheVariants.{Load, Store, Exchange, Sub, And}
+pub use Rattle.smp_words.specs.declared.seen.Act.TheVariants as act
+pub use Rattle.smp_words.specs.declared.work.Kind.{Kind}
+pub use Rattle.smp_words.specs.declared.work.Kind.TheVariants.{One, Multi, Patch}
+pub use Rattle.smp_words.specs.declared.work.Work.{Work}
+pub use Rattle.smp_stop_steps.specs.declared.known.Seat.{Seat}
+pub use Rattle.smp_stop_steps.specs.declared.known.Seat.TheVariants.{Free, In, Gives, Alters, Closes}
+pub use Rattle.smp_stop_steps.specs.declared.known.Turn.TheVariants.{Rests}
+pub use Rattle.smp_stop_steps.specs.declared.known.Source.{Source}
+pub use Rattle.smp_stop_steps.specs.declared.known.Source.TheVariants.{Shut, Drafts, Owns, Collects}
+pub use Rattle.smp_stop_steps.specs.declared.known.Known.{Known}
+pub use Rattle.smp_stop_steps.specs.declared.known.Part.{Part}
+pub use Rattle.smp_stop_steps.specs.declared.known.Setting.{Setting}
+pub use Rattle.smp_stop_steps.specs.declared.known.StopCall.{StopCall}
+pub use Rattle.smp_multi.specs.declared.seat_view.SeatView.{SeatView}
+pub use Rattle.smp_multi.specs.declared.seat_view.SeatView.TheVariants.{Maker, Cpu}

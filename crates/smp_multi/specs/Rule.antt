@@ -1,0 +1,43 @@
+-- The rule of the table: its words show stops, of which each seat knows its CPU's part.
+use Rattle.std.specs.Prelude.{◌≡◌, ℕ, ◌+◌, ◌<◌, ◌≤◌, length}
+use mathlib.Core.Option.{some}
+use lib.ListN.{get_elem?}
+use Rattle.atomic_table.specs.Table.{State}
+use Rattle.smp_words.specs.Size.{cpus}
+use Rattle.smp_stop_steps.specs.Known.{Sees, fresh, setup_in}
+use Rattle.smp_stop_steps.specs.Shows.{StopShows}
+use Rattle.smp_stop_steps.specs.State.{StopState}
+use Rattle.smp_multi.specs.Names.{Seat, Source, Known, Setting, SeatView, Maker, Cpu}
+use Rattle.smp_multi.specs.Cells.{cells, number_in}
+
+-- what a seat's CPU knows
+abbrev pub known : SeatView → Known
+known (Maker n k) = fresh k n
+known (Cpu v) = v
+
+-- the first seat after it has made one for the next CPU
+abbrev pub after : SeatView → SeatView
+after (Maker n k) = Maker (n + 1) k
+after (Cpu v) = Cpu v
+
+-- the seat that it makes
+abbrev pub seat_made : SeatView → SeatView
+seat_made (Maker n k) = Cpu (fresh k n)
+seat_made (Cpu v) = Cpu v
+
+-- a seat knows its CPU's part of the stops, and no other seat is of that CPU
+abbrev pub SeatKnows : Setting → StopState → (ℕ → Seat) → (ℕ → Source) → (ℕ → ℕ) → ℕ → ℕ → SeatView → Type 0
+SeatKnows k p seat source place next id (Maker n j) = (n ≡ next) × (id ≡ 0) × (j ≡ k)
+SeatKnows k p seat source place next id (Cpu v) = (v.number < next) × (place v.number ≡ id) × (v.setting ≡ k) × Sees p seat source v
+
+-- the words show some stops; each seat knows its part; CPUs with no seat have done nothing
+pub record Ruled {S : Type 0} (k : Setting) (s : State S SeatView) : Type 0 where
+  pub stops : StopState
+  pub seat : ℕ → Seat
+  pub source : ℕ → Source
+  pub place : ℕ → ℕ
+  pub next : ℕ
+  pub wide : length s.words ≡ cells
+  pub shown : StopShows (setup_in k) stops (number_in s.words) seat source
+  pub each_seat : (id : ℕ) (v : SeatView) → get_elem? s.views id ≡ some v → SeatKnows k stops seat source place next id v
+  pub absent : (cpu : ℕ) → next ≤ cpu → cpu < cpus → Sees stops seat source (fresh k cpu)

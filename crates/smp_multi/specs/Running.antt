@@ -1,0 +1,45 @@
+-- A CPU in a stop of one CPU: the call of its function, and its answer.
+use Rattle.std.specs.Prelude.{◌≡◌, ℕ, ℤ, ◌<◌, ◌==◌, false, cond}
+use Rattle.atomic_table.specs.Seated.{TableId}
+use Rattle.smp_words.specs.Size.{cpus}
+use Rattle.smp_stop_steps.specs.KnownAfter.{is_drafting}
+use Rattle.smp_multi.specs.Names.{Work, One, Seat, In, Gives, Rests, Known}
+use Rattle.smp_multi.specs.declared.func.Called.{Called}
+use Rattle.smp_multi.specs.Cells.{cells}
+use Rattle.smp_multi.specs.Places.{work_in}
+use Rattle.smp_multi.specs.Seat.{SeatValue}
+
+abbrev pub called : ℕ → ℕ → ℕ → ℤ → Called
+called cpu func arg answer = record { cpu = cpu; func = func; arg = arg; answer = answer }
+
+-- the call of the function of the stop that a CPU is in
+abbrev pub called_by : Known → ℤ → Called
+called_by v answer = called v.number (work_in v.seat).func (work_in v.seat).arg answer
+
+-- the function and the argument are those of the stop that the CPU is in
+abbrev pub IsItsCall : Known → ℕ → ℕ → Type 0
+IsItsCall v func arg = (func ≡ (work_in v.seat).func) × (arg ≡ (work_in v.seat).arg)
+
+-- it has entered a stop of one CPU
+pub record AtOne (table : TableId) (seat : SeatValue) (slot : ℕ) : Type 0 where
+  pub table_is : seat.table ≡ table
+  pub sized : table.words ≡ cells
+  pub low : slot < cpus
+  pub idle : is_drafting seat.known.source ≡ false
+  pub seat_is : seat.known.seat ≡ In slot (work_in seat.known.seat) 0 0 Rests
+  pub one : (work_in seat.known.seat).kind ≡ One
+
+-- its answer is in the result word where it is not 0
+abbrev pub answered : ℕ → Work → ℕ → Seat
+answered slot work x = cond (x == 0) (In slot work 0 0 Rests) (Gives slot work 0 x)
+
+abbrev pub given : ℕ → ℕ → Known → Known
+given slot x v = record v { seat = answered slot (work_in v.seat) x }
+
+pub record AtGiven (table : TableId) (seat : SeatValue) (slot x : ℕ) (work : Work) : Type 0 where
+  pub table_is : seat.table ≡ table
+  pub sized : table.words ≡ cells
+  pub low : slot < cpus
+  pub idle : is_drafting seat.known.source ≡ false
+  pub seat_is : seat.known.seat ≡ answered slot work x
+  pub one : work.kind ≡ One

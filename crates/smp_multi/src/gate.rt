@@ -1,0 +1,33 @@
+//! The gate that orders all stops (`stop_cpus_mutex`).
+
+ghost use Rattle.std.specs.Prelude.{◌≡◌, true, false, if◌then◌else◌};
+ghost use Rattle.smp_stop_steps.specs.Known.{Lives};
+ghost use Rattle.smp_multi.specs.Places.{IsSeated, holding};
+
+use crate::rule::Words;
+use crate::seat::{CpuSeat, exchange, store};
+use smp_words::word::Word;
+
+/// Takes the gate where nobody holds it.
+pub(crate) fn take_gate(words: &Words, seat: &mut CpuSeat, number: u32) -> bool
+    requires { IsSeated words.now.table_id seat.old number }
+    ensures table { seat.new.table ≡ words.now.table_id }
+    ensures lives { Lives seat.new.known }
+    ensures known { seat.new.known ≡ if result then holding true seat.old.known else seat.old.known }
+    ensures held { seat.old.known.part.holds ≡ true → result ≡ false }
+{
+    let own = u64::from(number) + 1;
+    exchange(words, seat, Word::Gate, 0, own) == 0
+}
+
+/// Gives up the gate.
+pub(crate) fn leave_gate(words: &Words, seat: &mut CpuSeat, number: u32)
+    requires seat { IsSeated words.now.table_id seat.old number }
+    requires held { seat.old.known.part.holds ≡ true }
+    ensures table { seat.new.table ≡ words.now.table_id }
+    ensures lives { Lives seat.new.known }
+    ensures known { seat.new.known ≡ holding false seat.old.known }
+{
+    let _ = number;
+    store(words, seat, Word::Gate, 0);
+}

@@ -1,0 +1,47 @@
+//! The stop table: words that the CPUs' threads change in single steps.
+//!
+//! The stops are those of `smp_stop_steps`: the same states, the same laws, between any two steps of any threads. Each
+//! CPU is driven through one value, `StopCpu`.
+//!
+//! Which calls of one table may run together, in the form of `include/linux/llist.h`:
+//!
+//! | | `try_gate` | `open_gate` | `begin` | `enter` | `run_one` | `poll_done` | `StopBoot::cpu` | `new` |
+//! |---|---|---|---|---|---|---|---|---|
+//! | `try_gate` | - | - | - | - | - | - | - | x |
+//! | `open_gate` | | g | g | - | - | - | - | x |
+//! | `begin` | | | g | - | - | - | - | x |
+//! | `enter` | | | | - | - | - | - | x |
+//! | `run_one` | | | | | - | - | - | x |
+//! | `poll_done` | | | | | | - | - | x |
+//! | `StopBoot::cpu` | | | | | | | x | x |
+//! | `new` | | | | | | | | x |
+//!
+//! Where the row's call may run together with the column's, on two threads: `-` where no lock is needed; `g` where the
+//! gate orders them, since each is E4 without it; `x` where the types refuse it, since `new` makes the table, and
+//! `StopBoot::cpu` takes the one `StopBoot` by `&mut`. The first six take the `StopCpu` of who calls by `&mut`, so that
+//! `-` is of two CPUs: one makes a single call at a time.
+//!
+//! At which step a call takes effect, whether it may wait and who must poll stands at each call.
+#![tactic(auto)]
+
+mod begin;
+mod boot;
+mod cell;
+mod complete;
+mod cpu;
+mod enter;
+mod func;
+mod gate;
+pub mod laws;
+mod poll;
+mod rule;
+mod run;
+pub mod run_steps;
+mod seat;
+mod seat_view;
+mod table;
+
+pub use boot::StopBoot;
+pub use cpu::StopCpu;
+pub use func::{Called, StopFunc};
+pub use table::StopTable;

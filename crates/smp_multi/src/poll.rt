@@ -1,0 +1,30 @@
+//! A source looks for the end of its stop, and collects its result (`wait_for_completion`).
+
+ghost use Rattle.std.specs.Prelude.{◌≡◌};
+ghost use Rattle.smp_stop_steps.specs.Known.{Lives};
+ghost use Rattle.smp_multi.specs.Polls.{IsOwner, HasFound, looked, collected};
+
+use crate::rule::Words;
+use crate::seat::{CpuSeat, load};
+use smp_words::field::Field;
+use smp_words::word::Word;
+
+/// Whether all have completed.
+pub(crate) fn is_done(words: &Words, seat: &mut CpuSeat, number: u32) -> bool
+    requires { IsOwner words.now.table_id seat.old number }
+    ensures table { seat.new.table ≡ words.now.table_id }
+    ensures lives { Lives seat.new.known }
+    ensures known { seat.new.known ≡ looked result seat.old.known }
+{
+    load(words, seat, Word::Slot(number, Field::Done)) != 0
+}
+
+/// Collects the result, which closes the stop.
+pub(crate) fn collect(words: &Words, seat: &mut CpuSeat, number: u32) -> u64
+    requires { HasFound words.now.table_id seat.old number }
+    ensures table { seat.new.table ≡ words.now.table_id }
+    ensures lives { Lives seat.new.known }
+    ensures known { seat.new.known ≡ collected result seat.old.known }
+{
+    load(words, seat, Word::Slot(number, Field::Result))
+}

@@ -1,0 +1,37 @@
+//! The rule of the table: between any two steps its words show the stops that the CPUs know.
+
+use crate::seat_view::SeatView;
+use atomic_table::{Seat, Shared, Split, Table, TableRule};
+use smp_stop_steps::known::Setting;
+
+/// The rule of the table. Its key is what the table is made with.
+pub struct StopRule;
+
+impl TableRule<(), SeatView, Setting> for StopRule {
+    ghost use Rattle.smp_multi.specs.Rule.{Ruled};
+    ghost use Rattle.smp_multi.specs.declared.seat_view.SeatView.TheVariants.{Maker};
+
+    ghost holds = { λ k. Ruled k };
+
+    ghost first = { λ k. Maker 0 k };
+}
+
+/// The first seat makes a seat for the next CPU.
+pub struct NextSeat;
+
+impl Split<SeatView> for NextSeat {
+    ghost use Rattle.smp_multi.specs.Rule.{after, seat_made};
+
+    ghost left = { after };
+
+    ghost right = { seat_made };
+}
+
+/// The words, as all threads share them.
+pub type Words = Shared<(), SeatView, Setting, StopRule>;
+
+/// The words with their memory.
+pub type Owner<A> = Table<(), SeatView, Setting, StopRule, A>;
+
+/// A seat at the table.
+pub type RawSeat = Seat<(), SeatView>;

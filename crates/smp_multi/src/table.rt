@@ -1,0 +1,274 @@
+//! The stop table.
+//!
+//! Which steps may meet in which word, and what orders them. A slot's source is the CPU of its number, its CPUs those of
+//! the mask of its stop.
+//!
+//! | Word | Loads | Stores | Other steps | What orders them |
+//! |---|---|---|---|---|
+//! | `gate` | none | 0 by its holder | compare-exchange by each CPU | a won exchange and the holder's store are one stretch, in which no other begins a stop |
+//! | kind, mask, active, func and arg of a slot | its CPUs, inside the stop | the source, before the roll | none | the store of the roll, and the fetch_and by which a CPU enters |
+//! | its `roll` | none | the source, which opens the stop | fetch_and by each CPU, which takes its own bit | the bit: with it the CPU is in the stop, and the source's later stores wait until all have completed |
+//! | its `state` | its CPUs, inside the stop | the source before the roll; the last CPU to acknowledge a phase | none | the count of acknowledgements |
+//! | its `ack` | none | the source before the roll; the last CPU to acknowledge | fetch_sub by each of its CPUs, once in each phase | who finds 1 is the last, and alone until it stores the phase |
+//! | its `result` | the source, once it has found done set | the source before the roll; its CPUs, before they count themselves | none | the count of completions, then done |
+//! | its `todo` | none | the source before the roll | fetch_sub by each of its CPUs, once | who finds 1 is the last |
+//! | its `done` | the source | the source before the roll; the last CPU to complete | none | the count of completions |
+//! | keys and sites | each CPU with interrupts on; the runner of a patch | the runner of a patch | compare-exchange of a key by an online CPU with interrupts on | the phases: while a patch runs, every online CPU has interrupts off |
+//! | entries | the runner of a patch | none | none | they stay |
+
+ghost use Rattle.std.specs.Prelude.{◌≡◌, ◌≢◌, ◌⊎◌, ◌↔◌, ℕ, ◌<◌, true, false, if◌then◌else◌, IfOk, IfErr, OnOk, IsErrOf};
+ghost use Rattle.smp_mask.specs.Mask.{has};
+ghost use Rattle.smp_words.specs.Limits.{AreLimits};
+ghost use Rattle.smp_words.specs.Size.{cpus};
+ghost use Rattle.smp_stop_steps.specs.Known.{fresh, Lives};
+ghost use Rattle.smp_multi.specs.declared.seat_view.SeatView.TheVariants.{Maker};
+ghost use Rattle.smp_multi.specs.Answers.{BeginAnswers, Enters, RunAnswers, PollAnswers};
+ghost use Rattle.smp_multi.specs.Cells.{cells};
+ghost use Rattle.smp_multi.specs.Cpu.{IsAt, IsFull, cpu_of, gated};
+
+use crate::begin;
+use crate::boot::StopBoot;
+use crate::cell::FIRST_ENTRY;
+use crate::cpu::StopCpu;
+use crate::enter;
+use crate::func::StopFunc;
+use crate::gate::{leave_gate, take_gate};
+use crate::poll::{collect, is_done};
+use crate::rule::{Owner, RawSeat};
+use crate::run;
+use crate::seat::{CpuSeat, next_seat};
+use atomic_table::Table;
+use smp_labels::LabelMap;
+use smp_mask::{CpuMask, SmpError};
+use smp_stop_steps::known::Setting;
+use smp_stop_steps::start::{Terms, has_slot};
+use smp_words::limits::are_limits;
+use smp_words::size::NR_CPUS;
+use smp_words::work::{Kind, Work};
+use std::alloc::{AllocError, Allocator};
+use std::marker::Model;
+
+/// The stop table: its name, how many CPUs it has, and what it is made with. Threads share it by reference.
+#[derive(Drop)]
+pub struct StopTable<A: Allocator> {
+    owner: Owner<A>,
+    nr: u32,
+    setting: Setting,
+}
+
+impl<A: Allocator> Model for StopTable<A> {
+    ghost use Rattle.smp_multi.specs.Cpu.{TableValue};
+    ghost use Rattle.smp_multi.specs.Table.{IsTable};
+
+    ghost Value = { TableValue };
+
+    ghost view = { λ t. record { table = t.owner.shared.table_id; nr = t.nr; setting = t.setting } };
+
+    ghost invariant = { λ t. IsTable t.owner.shared.table_id t.owner.shared.key t.nr t.setting };
+}
+
+/// The words of a table with a free gate, free slots, and these labels with all keys off, and the first seat.
+fn lay<A: Allocator>(
+    alloc: A,
+    nr: u32,
+    setting: &Setting,
+) -> Result<(Owner<A>, RawSeat), AllocError>
+where
+    A: Copy,
+    requires { AreLimits nr setting.now.online }
+    ensures made { IfOk result (λ t. (t.0.shared.table_id.words ≡ cells) × (t.0.shared.table_id.slots ≡ 0) × (t.0.shared.key ≡ setting.now) × (t.1.table_id ≡ t.0.shared.table_id) × (t.1.me.0 ≡ Maker 0 setting.now)) }
+    ensures lives { IfOk result (λ _. (cpu : ℕ) → cpu < cpus → Lives (fresh setting.now cpu)) }
+{
+    let labels = setting.labels.words();
+    let mut words = Vec::from_elem(alloc, 0u64, FIRST_ENTRY)?;
+    words.extend_from_slice(&labels.entries)?;
+    words.extend_from_slice(&labels.sites)?;
+    let (table, seat) = Table::of_words(alloc, words.as_slice(), setting)?;
+    Ok((table, seat))
+}
+
+/// The CPU of a seat, where it is online.
+fn cpu_if(is_online: bool, seat: CpuSeat, number: u32) -> Option<StopCpu>
+    requires fresh { seat.known ≡ fresh seat.known.setting number }
+    requires below { number < cpus }
+    requires online { is_online ≡ has seat.known.setting.online number }
+    requires lives { Lives seat.known }
+    ensures { result ≡ if is_online then Some (cpu_of seat) else None }
+{
+    if is_online {
+        Some(StopCpu::new(seat, number))
+    } else {
+        None
+    }
+}
+
+/// The table, and its CPUs: one seat for each that there can be, of which those online are kept.
+fn build<A: Allocator>(
+    alloc: A,
+    nr: u32,
+    setting: Setting,
+) -> Result<(StopTable<A>, StopBoot<A>), AllocError>
+where
+    A: Copy,
+    requires { AreLimits nr setting.online }
+    ensures { IfOk result (λ t. (t.0.nr ≡ nr) × (t.0.setting ≡ setting) × IsFull t.1 t.0.table setting) }
+{
+    let mut waiting = Vec::with_capacity(alloc, NR_CPUS as usize)?;
+    let (owner, mut maker) = lay(alloc, nr, &setting)?;
+    let online = setting.online;
+    for number in 0..NR_CPUS {
+        let seat = next_seat(&owner.shared, &mut maker, number);
+        waiting.push(cpu_if(online.contains(number), seat, number))?;
+    }
+    let table = StopTable {
+        owner,
+        nr,
+        setting,
+    };
+    Ok((table, StopBoot { online, waiting }))
+}
+
+impl<A: Allocator> StopTable<A> {
+    /// A table of `nr` CPUs with no stops, these labels with all keys off, and those of its CPUs that are online, each
+    /// to be handed out once. E4 where `nr` is not 1 to `NR_CPUS`, no CPU is online, or one that is online is not below
+    /// `nr`; then E6 where a growth is refused. It takes effect at no step, since no thread shares the table yet, and
+    /// does not wait.
+    pub fn new(
+        alloc: A,
+        nr: u32,
+        online: CpuMask,
+        labels: &LabelMap,
+    ) -> Result<(StopTable<A>, StopBoot<A>), SmpError>
+    where
+        A: Copy,
+        ensures ok { IfOk result (λ t. (t.0.nr ≡ nr) × (t.0.setting ≡ record { online = online; labels = labels.now }) × IsFull t.1 t.0.table t.0.setting) }
+        ensures limits { OnOk result (AreLimits nr online) }
+        ensures refused { IsErrOf result SmpError.BadArgument ↔ (¬ (AreLimits nr online)) }
+        ensures only { IfErr result (λ e. (e ≡ SmpError.BadArgument) ⊎ (e ≡ SmpError.NoMemory)) }
+    {
+        if !are_limits(nr, online) {
+            return Err(SmpError::BadArgument);
+        }
+        let setting = Setting {
+            online,
+            labels: labels.copy(),
+        };
+        match build(alloc, nr, setting) {
+            Ok(built) => Ok(built),
+            Err(_) => Err(SmpError::NoMemory),
+        }
+    }
+
+    /// The CPUs that are online. No step of the table.
+    pub fn online(&self) -> CpuMask
+        ensures value { result ≡ self.now.setting.online }
+        ensures limits { AreLimits self.now.nr result }
+    {
+        self.setting.online
+    }
+
+    /// Takes the gate (`stop_cpus_mutex`), at a compare-exchange; false where anybody holds it, this CPU included. It
+    /// does not wait.
+    pub fn try_gate(&self, me: &mut StopCpu) -> bool
+        requires { IsAt self.now me.old }
+        ensures taken { me.new ≡ if result then gated true me.old else me.old }
+        ensures held { me.old.part.holds ≡ true → result ≡ false }
+    {
+        let taken = take_gate(&self.owner.shared, &mut me.seat, me.number);
+        me.holds = me.holds || taken;
+        taken
+    }
+
+    /// Gives the gate up, at a store. E4 where this CPU does not hold it, which makes no step. It does not wait.
+    pub fn open_gate(&self, me: &mut StopCpu) -> Result<(), SmpError>
+        requires { IsAt self.now me.old }
+        ensures ok { IfOk result (λ _. (me.old.part.holds ≡ true) × (me.new ≡ gated false me.old)) }
+        ensures err { IfErr result (λ e. (e ≡ SmpError.BadArgument) × (me.old.part.holds ≡ false) × (me.new ≡ me.old)) }
+    {
+        if !me.holds {
+            return Err(SmpError::BadArgument);
+        }
+        leave_gate(&self.owner.shared, &mut me.seat, me.number);
+        me.holds = false;
+        Ok(())
+    }
+
+    /// Opens the slot of this CPU for a stop of this work, at the last of eleven stores, that of the roll. E8 where its
+    /// stop is not collected yet. Then E4: it does not hold the gate; the mask is empty; a stop of kind One has another
+    /// number of CPUs; a patch has a mask other than those online, an active mask other than the first of them, a
+    /// `func` that is no key of the table, or an `arg` that is no change. Then E3 where a CPU of the mask is not online.
+    /// A refusal makes no step. It does not wait; the source polls by `poll_done`, and each CPU of the mask by `enter`.
+    pub fn begin(&self, me: &mut StopCpu, work: Work) -> Result<(), SmpError>
+        requires { IsAt self.now me.old }
+        ensures { BeginAnswers self.now me.old me.new work result }
+    {
+        let terms = Terms {
+            nr: self.nr,
+            online: self.setting.online,
+            keys: self.setting.labels.keys(),
+            sites: self.setting.labels.sites(),
+            holds_gate: me.holds,
+        };
+        if let Some(refusal) = terms.begin_refusal(work, me.is_open) {
+            return Err(refusal);
+        }
+        begin::begin(&self.owner.shared, &mut me.seat, me.number, &work);
+        me.is_open = true;
+        Ok(())
+    }
+
+    /// Enters the stop of a slot, at the fetch_and that takes the own bit from its roll, and answers its kind. E7 where
+    /// there is no such slot (it is below neither 8 nor `nr`), this CPU is in a stop already, or the roll does not have
+    /// it; that E7 was unavoidable is promised of the first two alone. It does not wait.
+    pub fn enter(&self, me: &mut StopCpu, slot: u32) -> Result<Kind, SmpError>
+        requires { IsAt self.now me.old }
+        ensures ok { IfOk result (λ kind. Enters self.now slot me.old me.new kind) }
+        ensures err { IfErr result (λ e. (e ≡ SmpError.Stale) × (me.new ≡ me.old)) }
+    {
+        if me.in_stop() || !has_slot(self.nr, slot) {
+            return Err(SmpError::Stale);
+        }
+        match enter::enter(&self.owner.shared, &mut me.seat, me.number, slot) {
+            Some(visit) => {
+                me.visit = Some(visit);
+                Ok(visit.kind)
+            }
+            None => Err(SmpError::Stale),
+        }
+    }
+
+    /// Calls the function of the stop of one CPU that this CPU has entered, and completes with its answer, at the
+    /// fetch_sub of its count. E4 where it has entered no such stop, which makes no step. It does not wait.
+    pub fn run_one<F: StopFunc>(&self, me: &mut StopCpu, func: &mut F) -> Result<i32, SmpError>
+        requires { IsAt self.now me.old }
+        ensures { RunAnswers F.leads me.old me.new func.old func.new result }
+    {
+        let Some(visit) = me.visit else {
+            return Err(SmpError::BadArgument);
+        };
+        if visit.kind != Kind::One {
+            return Err(SmpError::BadArgument);
+        }
+        let answer = run::run_one(&self.owner.shared, &mut me.seat, me.number, visit.slot, func);
+        me.visit = None;
+        Ok(answer)
+    }
+
+    /// Whether all CPUs of this CPU's own stop have completed: None where its load of done found 0; Some, with the
+    /// result, closes the slot, at the load of the result. E4 where no stop of this CPU is open, which makes no step.
+    /// That None was unavoidable is not promised. It does not wait.
+    pub fn poll_done(&self, me: &mut StopCpu) -> Result<Option<i32>, SmpError>
+        requires { IsAt self.now me.old }
+        ensures { PollAnswers me.old me.new result }
+    {
+        if !me.is_open {
+            return Err(SmpError::BadArgument);
+        }
+        if !is_done(&self.owner.shared, &mut me.seat, me.number) {
+            return Ok(None);
+        }
+        let word = collect(&self.owner.shared, &mut me.seat, me.number);
+        me.is_open = false;
+        Ok(Some(((word % 0x1_0000_0000) as u32).cast_signed()))
+    }
+}
