@@ -1,7 +1,7 @@
 -- The first fault of a text, line by line.
 use Rattle.std.proofs.Common.{◌≡◌, ℕ, zero, suc, ◌+◌, ◌<◌, ◌≤◌, true, false, nat_lt, ◌==◌, List, [], ◌∷◌, ◌++◌, length, drop, get_or, Option, Some, None}
 use Rattle.std.proofs.Common.{Result, Ok}
-use Rattle.std.proofs.Common.{Err, cond, refl, sym, ap, ◌∙◌, inl, inr, arith, subst, add-one}
+use Rattle.std.proofs.Common.{Err, refl, sym, ap, ◌∙◌, inl, inr, arith, subst, add-one}
 use Rattle.std.specs.Prelude.{slice_get}
 use Rattle.std.proofs.lemmas.Bool.{cases_Bool, cases_lt}
 use Rattle.std.proofs.lemmas.Bool.Decides.{nat_tests}
@@ -30,7 +30,7 @@ use Rattle.smp_script.proofs.Faults.TitleFields.{title_told}
 use Rattle.smp_script.proofs.Faults.LabelFields.{labels_told, third_told}
 use Rattle.smp_script.proofs.Faults.OnlineFaults.{cpus_told, mask_cpus}
 use Rattle.smp_script.proofs.Faults.LineFaults.{FirstOf, RightLine, end_first, events_first, lines_first, read_first, read_right, right_line, shared_first}
-use Rattle.smp_script.proofs.Spelled.Readings.{after_first, after_labels, after_second, after_table, after_title, title_ok, whole_mask}
+use Rattle.smp_script.proofs.Spelled.Readings.{after_first, after_labels, after_line, after_second, after_table, after_title, title_ok, whole_mask}
 use Rattle.smp_script.specs.FieldFaults.{field_at}
 use Rattle.smp_script.proofs.Reader.Widths.{AreCpus}
 use Rattle.smp_script.specs.declared.version.Version.{Version}
@@ -110,22 +110,22 @@ ends_right setting text n short long none m k cause f = elim (cases_lt m (n + 1)
 ]
 
 -- what is left of a list
-record Left {A : Type 0} (xs : List A) (n : ℕ) (x : A) (rest : List A) : Type 0 where
+record Behind {A : Type 0} (xs : List A) (n : ℕ) (x : A) (rest : List A) : Type 0 where
   here : slice_get xs n ≡ Some x
   next : drop (n + 1) xs ≡ rest
 
-left_of : {A : Type 0} (xs : List A) (n : ℕ) (x : A) (rest : List A) → drop n xs ≡ x ∷ rest → Left xs n x rest
-left_of [] zero x rest h = cc
-left_of [] (suc n) x rest h = cc
-left_of (y ∷ ys) zero x rest h = record { here = let same : y ≡ x = cc in ap Some same; next = cc }
-left_of (y ∷ ys) (suc n) x rest h =
-    let more = left_of ys n x rest h in
+behind_of : {A : Type 0} (xs : List A) (n : ℕ) (x : A) (rest : List A) → drop n xs ≡ x ∷ rest → Behind xs n x rest
+behind_of [] zero x rest h = cc
+behind_of [] (suc n) x rest h = cc
+behind_of (y ∷ ys) zero x rest h = record { here = let same : y ≡ x = cc in ap Some same; next = cc }
+behind_of (y ∷ ys) (suc n) x rest h =
+    let more = behind_of ys n x rest h in
     record { here = more.here; next = rw add-one (rw add-one at more.next) }
 
-none_left : {A : Type 0} (xs : List A) (n : ℕ) → drop n xs ≡ [] → length xs ≤ n
-none_left [] n h = omega arith
-none_left (y ∷ ys) zero h = cc
-none_left (y ∷ ys) (suc n) h = omega (arith, none_left ys n h)
+none_behind : {A : Type 0} (xs : List A) (n : ℕ) → drop n xs ≡ [] → length xs ≤ n
+none_behind [] n h = omega arith
+none_behind (y ∷ ys) zero h = cc
+none_behind (y ∷ ys) (suc n) h = omega (arith, none_behind ys n h)
 
 -- the events of one line more
 events_more : (text : List ℕ) (n : ℕ) (line : Line) → slice_get (lines_of text) n ≡ Some line
@@ -167,14 +167,14 @@ line_shapes setting sound n line h unlabelled = elim (cases_lt 2 n) [
 ]
 
 -- where the lines of a text stand: no line so far has a fault, they make so many events, and these are the keys that they have
-record Stands (setting : Setting) (text : List ℕ) (n events : ℕ) (earlier : List Directive) : Type 0 where
+record Reached (setting : Setting) (text : List ℕ) (n events : ℕ) (earlier : List Directive) : Type 0 where
   clear : NoneBefore setting text (n + 1)
   made : events_to text n ≡ events
   keys : Agree text n earlier
 
 -- a line of the front makes no event, and has no key
 quiet_line : {B : Type 0} (setting : Setting) (text : List ℕ) (n : ℕ) (l : Line) (b : B) → slice_get (lines_of text) n ≡ Some l → n + 1 ≤ 2000
-    → l.ended ≡ true → RightLine setting (n + 1) l (λ x. IsQuiet (fields_of l.text)) b → Stands setting text n 0 [] → Stands setting text (n + 1) 0 []
+    → l.ended ≡ true → RightLine setting (n + 1) l (λ x. IsQuiet (fields_of l.text)) b → Reached setting text n 0 [] → Reached setting text (n + 1) 0 []
 quiet_line setting text n l b here few ended right s =
     let more : events_to text (n + 1) ≡ 0 = omega (arith, events_more text n l here, right.holding.0, s.made) in
     let keys = agree_none text n l here right.holding.1 s.keys in
@@ -187,19 +187,13 @@ quiet_line setting text n l b here few ended right s =
       keys = keys;
     }
 
--- what follows a line that is read
-abbrev after_line : Setting → ℕ → ℕ → List Directive → List Line → Directive → Result (List Directive) Fault
-after_line setting n events earlier ls d =
-    cond (shares earlier d) (Err (n + 1, SharedKey)) (cond (nat_lt 100000 (events + events_of d)) (Err (n + 1, TooLong))
-    (directives_of setting (n + 1 + 1) (events + events_of d) (earlier ++ d ∷ []) ls >>= λ ds. Ok (d ∷ ds)))
-
 -- a line that is read, and then the rest
 read_tells : (setting : Setting) (text : List ℕ) (l : Line) (ls : List Line) (n events : ℕ) (earlier : List Directive) (d : Directive)
     → slice_get (lines_of text) n ≡ Some l → n + 1 ≤ 2000 → l.ended ≡ true → RightLine setting (n + 1) l (Matches (fields_of l.text)) d
-    → Stands setting text n events earlier
-    → (Stands setting text (n + 1) (events + events_of d) (earlier ++ d ∷ [])
+    → Reached setting text n events earlier
+    → (Reached setting text (n + 1) (events + events_of d) (earlier ++ d ∷ [])
     → TellsText setting text (directives_of setting (n + 1 + 1) (events + events_of d) (earlier ++ d ∷ []) ls))
-    → TellsText setting text (after_line setting n events earlier ls d)
+    → TellsText setting text (after_line setting (n + 1) events earlier ls d)
 read_tells setting text l ls n events earlier d here few ended right s rest =
     let holds = Matches (fields_of l.text) in
     let all = events_to text (n + 1) in
@@ -226,11 +220,11 @@ read_tells setting text l ls n events earlier d here few ended right s rest =
 -- one line from the third on, and then the rest
 line_tells : (setting : Setting) → IsSound setting → (text : List ℕ) (l : Line) (ls : List Line) (n events : ℕ) (earlier : List Directive)
     → slice_get (lines_of text) n ≡ Some l → 2 ≤ n → (n ≡ 2 → is_labels (fields_of l.text) ≡ false) → n + 1 ≤ 2000 → l.ended ≡ true
-    → Stands setting text n events earlier
-    → ((d : Directive) → Stands setting text (n + 1) (events + events_of d) (earlier ++ d ∷ [])
+    → Reached setting text n events earlier
+    → ((d : Directive) → Reached setting text (n + 1) (events + events_of d) (earlier ++ d ∷ [])
     → TellsText setting text (directives_of setting (n + 1 + 1) (events + events_of d) (earlier ++ d ∷ []) ls))
     → (r : Result Directive Cause) → line_directive setting l.text ≡ r
-    → TellsText setting text (at_line (n + 1) r >>= after_line setting n events earlier ls)
+    → TellsText setting text (at_line (n + 1) r >>= after_line setting (n + 1) events earlier ls)
 line_tells setting sound text l ls n events earlier here h unlabelled few ended s rest (Err cause) e =
     line_first setting text n l cause here s.clear
     (read_first setting (n + 1) (events_to text (n + 1)) (SharesKey text n) l (Matches (fields_of l.text)) (line_directive setting l.text) cause few ended
@@ -241,12 +235,12 @@ line_tells setting sound text l ls n events earlier here h unlabelled few ended 
 
 -- the lines from the third on
 lines_tell : (setting : Setting) → IsSound setting → (text : List ℕ) (ls : List Line) (n events : ℕ) (earlier : List Directive)
-    → drop n (lines_of text) ≡ ls → 2 ≤ n → NoLabels n ls → Stands setting text n events earlier
+    → drop n (lines_of text) ≡ ls → 2 ≤ n → NoLabels n ls → Reached setting text n events earlier
     → TellsText setting text (directives_of setting (n + 1) events earlier ls)
 unfolding directives_of
-lines_tell setting sound text [] n events earlier e h unlabelled s = ends_right setting text n (none_left (lines_of text) n e) h s.clear
+lines_tell setting sound text [] n events earlier e h unlabelled s = ends_right setting text n (none_behind (lines_of text) n e) h s.clear
 lines_tell setting sound text (l ∷ ls) n events earlier e h unlabelled s =
-    let left = left_of (lines_of text) n l ls e in
+    let left = behind_of (lines_of text) n l ls e in
     let all = events_to text (n + 1) in
     elim (cases_Bool (nat_lt 2000 (n + 1))) [
       | inl many ↦
@@ -268,7 +262,7 @@ lines_tell setting sound text (l ∷ ls) n events earlier e h unlabelled s =
 -- the lines after the labels, and the script that they make
 script_tells_from : (mode : Mode) (version : Version) (text : List ℕ) (table : ℕ × ℕ) (third : Option Labels × List Line) (n : ℕ)
     → IsSound (setting_of mode version table.1) → first_line third.0 ≡ n + 1 → drop n (lines_of text) ≡ third.1 → 2 ≤ n → NoLabels n third.1
-    → Stands (setting_of mode version table.1) text n 0 [] → TellsText (setting_of mode version table.1) text (after_labels mode version table third)
+    → Reached (setting_of mode version table.1) text n 0 [] → TellsText (setting_of mode version table.1) text (after_labels mode version table third)
 script_tells_from mode version text table third n sound first e h unlabelled s =
     let setting = setting_of mode version table.1 in
     let body = lines_tell setting sound text third.1 n 0 [] e h unlabelled s in
@@ -278,18 +272,18 @@ script_tells_from mode version text table third n sound first e h unlabelled s =
 
 -- the labels line, and then the rest
 labels_line_tells : (mode : Mode) (version : Version) (text : List ℕ) (table : ℕ × ℕ) (l : Line) (ls : List Line)
-    → IsSound (setting_of mode version table.1) → drop 2 (lines_of text) ≡ l ∷ ls → Stands (setting_of mode version table.1) text 2 0 []
+    → IsSound (setting_of mode version table.1) → drop 2 (lines_of text) ≡ l ∷ ls → Reached (setting_of mode version table.1) text 2 0 []
     → is_labels (fields_of l.text) ≡ true → l.ended ≡ true → (r : Result Labels Cause) → whole_labels (fields_of l.text) ≡ r
     → TellsText (setting_of mode version table.1) text ((at_line 3 r >>= λ labels. Ok (Some labels, ls)) >>= after_labels mode version table)
 labels_line_tells mode version text table l ls sound e s is ended (Err cause) read =
     let setting = setting_of mode version table.1 in
-    let left = left_of (lines_of text) 2 l ls e in
+    let left = behind_of (lines_of text) 2 l ls e in
     line_first setting text 2 l cause left.here s.clear
     (read_first setting 3 (events_to text 3) (SharesKey text 2) l (λ m. IsQuiet (fields_of l.text)) (whole_labels (fields_of l.text)) cause
     (omega arith) ended (labels_told setting (fields_of l.text) is) read)
 labels_line_tells mode version text table l ls sound e s is ended (Ok labels) read =
     let setting = setting_of mode version table.1 in
-    let left = left_of (lines_of text) 2 l ls e in
+    let left = behind_of (lines_of text) 2 l ls e in
     let right = read_right setting 3 l (λ m. IsQuiet (fields_of l.text)) (whole_labels (fields_of l.text)) labels
     (labels_told setting (fields_of l.text) is) read in
     script_tells_from mode version text table (Some labels, ls) 3 sound refl left.next (omega arith) (past_labels 3 ls (omega arith))
@@ -297,7 +291,7 @@ labels_line_tells mode version text table l ls sound e s is ended (Ok labels) re
 
 -- the third line, and then the rest
 third_tells : (mode : Mode) (version : Version) (text : List ℕ) (table : ℕ × ℕ) (ls : List Line) → IsSound (setting_of mode version table.1)
-    → drop 2 (lines_of text) ≡ ls → Stands (setting_of mode version table.1) text 2 0 []
+    → drop 2 (lines_of text) ≡ ls → Reached (setting_of mode version table.1) text 2 0 []
     → TellsText (setting_of mode version table.1) text (labels_at ls >>= after_labels mode version table)
 third_tells mode version text table [] sound e s = script_tells_from mode version text table (None, []) 2 sound refl e (omega arith) tt s
 third_tells mode version text table (l ∷ ls) sound e s = elim (cases_Bool (is_labels (fields_of l.text))) [
@@ -305,7 +299,7 @@ third_tells mode version text table (l ∷ ls) sound e s = elim (cases_Bool (is_
   | inl is ↦ elim (cases_Bool l.ended) [
     | inr open_end ↦
         let setting = setting_of mode version table.1 in
-        rw (is, open_end) (line_first setting text 2 l Cut (left_of (lines_of text) 2 l ls e).here s.clear
+        rw (is, open_end) (line_first setting text 2 l Cut (behind_of (lines_of text) 2 l ls e).here s.clear
         (end_first setting 3 (events_to text 3) (SharesKey text 2) l (omega arith) open_end))
     | inl ended ↦ rw (is, ended) (labels_line_tells mode version text table l ls sound e s is ended (whole_labels (fields_of l.text)) refl)
   ]
@@ -313,25 +307,25 @@ third_tells mode version text table (l ∷ ls) sound e s = elim (cases_Bool (is_
 
 -- the second line, and then the rest; what it says of the CPUs online is what it settles
 table_tells : (mode : Mode) (version : Version) (mask : ℕ) (text : List ℕ) (l : Line) (ls : List Line) → drop 1 (lines_of text) ≡ l ∷ ls
-    → Stands (setting_of mode version mask) text 1 0 [] → l.ended ≡ true → (r : Result (ℕ × ℕ) Cause)
+    → Reached (setting_of mode version mask) text 1 0 [] → l.ended ≡ true → (r : Result (ℕ × ℕ) Cause)
     → ((table : ℕ × ℕ) → r ≡ Ok table → (mask ≡ table.1) × AreCpus table.1)
     → whole_cpus (limit_of version) (fields_of l.text) ≡ r
     → TellsText (setting_of mode version mask) text (at_line 2 r >>= after_table mode version ls)
 table_tells mode version mask text l ls e s ended (Err cause) settled read =
     let setting = setting_of mode version mask in
-    let left = left_of (lines_of text) 1 l ls e in
+    let left = behind_of (lines_of text) 1 l ls e in
     line_first setting text 1 l cause left.here s.clear
     (read_first setting 2 (events_to text 2) (SharesKey text 1) l (λ t. IsQuiet (fields_of l.text)) (whole_cpus (limit_of version) (fields_of l.text)) cause
     (omega arith) ended (cpus_told (limit_of version) (fields_of l.text) (limit_within version)) read)
 table_tells mode version mask text l ls e s ended (Ok table) settled read =
     let setting = setting_of mode version mask in
-    let left = left_of (lines_of text) 1 l ls e in
+    let left = behind_of (lines_of text) 1 l ls e in
     let right = read_right setting 2 l (λ t. IsQuiet (fields_of l.text)) (whole_cpus (limit_of version) (fields_of l.text)) table
     (cpus_told (limit_of version) (fields_of l.text) (limit_within version)) read in
     let known = settled table refl in
     let stands = quiet_line setting text 1 l table left.here (omega arith) ended right s in
     let there = third_tells mode version text table ls (record { few = limit_within version; cpus = known.1 }) left.next
-    (subst (λ m. Stands (setting_of mode version m) text 2 0 []) known.0 stands) in
+    (subst (λ m. Reached (setting_of mode version m) text 2 0 []) known.0 stands) in
     subst (λ m. TellsText (setting_of mode version m) text (labels_at ls >>= after_labels mode version table)) (sym known.0) there
 
 -- the mask of the second line is that of the CPUs online
@@ -342,14 +336,14 @@ settles text l ls version table e limit read =
     (online_told text l ls version table.1 e limit is, mask_cpus (limit_of version) (field_at (fields_of l.text) 2) table.1 (limit_within version) is)
 
 second_tells : (mode : Mode) (version : Version) (text : List ℕ) (ls : List Line) → drop 1 (lines_of text) ≡ ls → limit_in text ≡ limit_of version
-    → Stands (setting_of mode version (online_in text)) text 1 0 []
+    → Reached (setting_of mode version (online_in text)) text 1 0 []
     → TellsText (setting_of mode version (online_in text)) text (line_at 2 ls >>= after_second mode version)
 second_tells mode version text [] e limit s =
-    missing_first (setting_of mode version (online_in text)) text 1 (none_left (lines_of text) 1 e) (omega arith) s.clear
+    missing_first (setting_of mode version (online_in text)) text 1 (none_behind (lines_of text) 1 e) (omega arith) s.clear
 second_tells mode version text (l ∷ ls) e limit s = elim (cases_Bool l.ended) [
   | inr open_end ↦
       let setting = setting_of mode version (online_in text) in
-      rw open_end (line_first setting text 1 l Cut (left_of (lines_of text) 1 l ls e).here s.clear
+      rw open_end (line_first setting text 1 l Cut (behind_of (lines_of text) 1 l ls e).here s.clear
       (end_first setting 2 (events_to text 2) (SharesKey text 1) l (omega arith) open_end))
   | inl ended ↦
       rw ended (table_tells mode version (online_in text) text l ls e s ended (whole_cpus (limit_of version) (fields_of l.text))
@@ -357,42 +351,42 @@ second_tells mode version text (l ∷ ls) e limit s = elim (cases_Bool l.ended) 
 ]
 
 -- the first line, and then the rest
-title_tells : (mode : Mode) (text : List ℕ) (l : Line) (ls : List Line) → drop 0 (lines_of text) ≡ l ∷ ls → Stands (setting_in mode text) text 0 0 []
+title_tells : (mode : Mode) (text : List ℕ) (l : Line) (ls : List Line) → drop 0 (lines_of text) ≡ l ∷ ls → Reached (setting_in mode text) text 0 0 []
     → l.ended ≡ true → (r : Result Version Cause) → title_of mode (fields_of l.text) ≡ r
     → TellsText (setting_in mode text) text (at_line 1 r >>= after_title mode (l.text, ls))
 title_tells mode text l ls e s ended (Err cause) read =
     let setting = setting_in mode text in
-    let left = left_of (lines_of text) 0 l ls e in
+    let left = behind_of (lines_of text) 0 l ls e in
     line_first setting text 0 l cause left.here s.clear
     (read_first setting 1 (events_to text 1) (SharesKey text 0) l (λ t. IsQuiet (fields_of l.text)) (title_of mode (fields_of l.text)) cause (omega arith) ended
     (title_told mode (fields_of l.text)) read)
 title_tells mode text l ls e s ended (Ok version) read =
     let setting = setting_in mode text in
-    let left = left_of (lines_of text) 0 l ls e in
+    let left = behind_of (lines_of text) 0 l ls e in
     let right = read_right setting 1 l (λ t. IsQuiet (fields_of l.text)) (title_of mode (fields_of l.text)) version (title_told mode (fields_of l.text)) read in
     let stands = quiet_line setting text 0 l version left.here (omega arith) ended right s in
     let limit : limit_in text ≡ limit_of version = limit_told mode text l ls version e (title_ok mode (fields_of l.text) version read) in
     let same : setting_in mode text ≡ setting_of mode version (online_in text) =
     ap (λ k. record { mode = mode; limit = k; online = online_in text }) limit in
-    let rest = second_tells mode version text ls left.next limit (subst (λ x. Stands x text 1 0 []) same stands) in
+    let rest = second_tells mode version text ls left.next limit (subst (λ x. Reached x text 1 0 []) same stands) in
     subst (λ x. TellsText x text (line_at 2 ls >>= after_second mode version)) (sym same) rest
 
-first_tells : (mode : Mode) (text : List ℕ) (ls : List Line) → lines_of text ≡ ls → Stands (setting_in mode text) text 0 0 []
+first_tells : (mode : Mode) (text : List ℕ) (ls : List Line) → lines_of text ≡ ls → Reached (setting_in mode text) text 0 0 []
     → TellsText (setting_in mode text) text (line_at 1 ls >>= after_first mode)
-first_tells mode text [] e s = missing_first (setting_in mode text) text 0 (none_left (lines_of text) 0 e) (omega arith) s.clear
+first_tells mode text [] e s = missing_first (setting_in mode text) text 0 (none_behind (lines_of text) 0 e) (omega arith) s.clear
 first_tells mode text (l ∷ ls) e s = elim (cases_Bool l.ended) [
   | inr open_end ↦
       let setting = setting_in mode text in
-      rw open_end (line_first setting text 0 l Cut (left_of (lines_of text) 0 l ls e).here s.clear
+      rw open_end (line_first setting text 0 l Cut (behind_of (lines_of text) 0 l ls e).here s.clear
       (end_first setting 1 (events_to text 1) (SharesKey text 0) l (omega arith) open_end))
   | inl ended ↦ rw ended (title_tells mode text l ls e s ended (title_of mode (fields_of l.text)) refl)
 ]
 
 -- a text that is not too long has no fault as a whole
-none_whole : (setting : Setting) (text : List ℕ) → length text ≤ 65536 → NoneBefore setting text 1
-none_whole setting text short m k cause below (past_bytes f) = omega arith
-none_whole setting text short m k cause below (no_line f few) = omega arith
-none_whole setting text short m k cause below (in_line n found f) = omega arith
+none_long : (setting : Setting) (text : List ℕ) → length text ≤ 65536 → NoneBefore setting text 1
+none_long setting text short m k cause below (past_bytes f) = omega arith
+none_long setting text short m k cause below (no_line f few) = omega arith
+none_long setting text short m k cause below (in_line n found f) = omega arith
 
 -- what reading a text tells
 pub script_tells : (mode : Mode) (text : List ℕ) → TellsText (setting_in mode text) text (script_of mode text)
@@ -406,6 +400,6 @@ script_tells mode text = elim (cases_Bool (nat_lt 65536 (length text))) [
         least = λ k cause below f. omega arith;
       })
   | inr short ↦
-      let clear = none_whole (setting_in mode text) text (grind (arith, nat_tests, short)) in
+      let clear = none_long (setting_in mode text) text (grind (arith, nat_tests, short)) in
       rw short (first_tells mode text (lines_of text) refl (record { clear = clear; made = refl; keys = λ mine. refl }))
 ]

@@ -51,7 +51,7 @@ pub record AreLines (setting : Setting) (n events : ℕ) (earlier : List Directi
   pub total : events + sum_by events_of ds ≤ 100000
 
 -- what follows a line
-abbrev after_line : Setting → ℕ → ℕ → List Directive → List Line → Directive → Result (List Directive) Fault
+abbrev pub after_line : Setting → ℕ → ℕ → List Directive → List Line → Directive → Result (List Directive) Fault
 after_line setting n events earlier ls d =
     cond (shares earlier d) (Err (n, SharedKey)) (cond (nat_lt 100000 (events + events_of d)) (Err (n, TooLong))
     (directives_of setting (n + 1) (events + events_of d) (earlier ++ d ∷ []) ls >>= λ rest. Ok (d ∷ rest)))

@@ -24,8 +24,8 @@ use Rattle.std.proofs.lemmas.Bool.{and_parts}
 pub wide : (n : ℕ) → n < 2 ^ 32 → is_field (decimal n) ≡ true
 wide n h = is_field-decimal n (omega arith)
 
-pub read32 : (n : ℕ) → n < 2 ^ 32 → word32 (decimal n) ≡ Ok n
-read32 n h = number_in-decimal 0 4294967295 n (omega arith) (omega arith) (omega arith)
+pub decimal32 : (n : ℕ) → n < 2 ^ 32 → word32 (decimal n) ≡ Ok n
+decimal32 n h = number_in-decimal 0 4294967295 n (omega arith) (omega arith) (omega arith)
 
 class_field : (c : Class) → is_field (class_text c) ≡ true
 class_field Sync = refl
@@ -116,36 +116,36 @@ unfolding start_post start_begin
 replay_read limit mask masks (Start cpu (Post number dst class func info tries)) f s =
     rw (
       class_read class,
-      read32 cpu f.0,
-      read32 number f.1.0,
-      read32 dst f.1.1,
+      decimal32 cpu f.0,
+      decimal32 number f.1.0,
+      decimal32 dst f.1.1,
       number_in-decimal 0 65535 func (omega arith) (omega (arith, f.1.2)) (omega (arith, f.1.2)),
       number_in-decimal 0 18446744073709551615 info (omega arith) (omega (arith, f.1.3)) f.1.3,
-      read32 tries f.1.4,
+      decimal32 tries f.1.4,
     ) refl
-replay_read limit mask masks (Start cpu (Send dst)) f s = rw (read32 cpu f.0, read32 dst f.1) refl
-replay_read limit mask masks (Start cpu (Done number)) f s = rw (read32 cpu f.0, read32 number f.1) refl
-replay_read limit mask masks (Start cpu Handle) f s = rw (read32 cpu f.0) refl
-replay_read limit mask masks (Start cpu Gate) f s = rw (read32 cpu f.0) refl
-replay_read limit mask masks (Start cpu Ungate) f s = rw (read32 cpu f.0) refl
+replay_read limit mask masks (Start cpu (Send dst)) f s = rw (decimal32 cpu f.0, decimal32 dst f.1) refl
+replay_read limit mask masks (Start cpu (Done number)) f s = rw (decimal32 cpu f.0, decimal32 number f.1) refl
+replay_read limit mask masks (Start cpu Handle) f s = rw (decimal32 cpu f.0) refl
+replay_read limit mask masks (Start cpu Gate) f s = rw (decimal32 cpu f.0) refl
+replay_read limit mask masks (Start cpu Ungate) f s = rw (decimal32 cpu f.0) refl
 replay_read limit mask masks (Start cpu (Begin work)) f s =
     rw (
       kind_read work.kind,
-      read32 cpu f.0,
+      decimal32 cpu f.0,
       s.0.reads,
       s.1.reads,
       number_in-decimal 0 65535 work.func (omega arith) (omega (arith, f.1.0))
           (omega (arith, f.1.0)),
       number_in-decimal 0 18446744073709551615 work.arg (omega arith) (omega (arith, f.1.1)) f.1.1,
     ) refl
-replay_read limit mask masks (Start cpu (Enter slot)) f s = rw (read32 cpu f.0, read32 slot f.1) refl
-replay_read limit mask masks (Start cpu (Advance answer)) f s = rw (read32 cpu f.0, signed_read answer f.1) refl
-replay_read limit mask masks (Start cpu (RunOne answer)) f s = rw (read32 cpu f.0, signed_read answer f.1) refl
-replay_read limit mask masks (Start cpu Finish) f s = rw (read32 cpu f.0) refl
-replay_read limit mask masks (Start cpu Poll) f s = rw (read32 cpu f.0) refl
-replay_read limit mask masks (Start cpu (Key key)) f s = rw (read32 cpu f.0, read32 key f.1) refl
-replay_read limit mask masks (Start cpu (Site site)) f s = rw (read32 cpu f.0, read32 site f.1) refl
-replay_read limit mask masks (Start cpu (Nudge key up)) f s = rw (way_read up, read32 cpu f.0, read32 key f.1) refl
-replay_read limit mask masks (Step cpu count) f s = rw (read32 cpu f.0, number_in-decimal 1 10000 count f.1 f.2 (omega (arith, f.2))) refl
+replay_read limit mask masks (Start cpu (Enter slot)) f s = rw (decimal32 cpu f.0, decimal32 slot f.1) refl
+replay_read limit mask masks (Start cpu (Advance answer)) f s = rw (decimal32 cpu f.0, signed_read answer f.1) refl
+replay_read limit mask masks (Start cpu (RunOne answer)) f s = rw (decimal32 cpu f.0, signed_read answer f.1) refl
+replay_read limit mask masks (Start cpu Finish) f s = rw (decimal32 cpu f.0) refl
+replay_read limit mask masks (Start cpu Poll) f s = rw (decimal32 cpu f.0) refl
+replay_read limit mask masks (Start cpu (Key key)) f s = rw (decimal32 cpu f.0, decimal32 key f.1) refl
+replay_read limit mask masks (Start cpu (Site site)) f s = rw (decimal32 cpu f.0, decimal32 site f.1) refl
+replay_read limit mask masks (Start cpu (Nudge key up)) f s = rw (way_read up, decimal32 cpu f.0, decimal32 key f.1) refl
+replay_read limit mask masks (Step cpu count) f s = rw (decimal32 cpu f.0, number_in-decimal 1 10000 count f.1 f.2 (omega (arith, f.2))) refl
 replay_read limit mask masks Show f s = refl
 replay_read limit mask masks (Do cpu count request) f s = absurd f

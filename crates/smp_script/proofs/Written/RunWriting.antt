@@ -24,22 +24,22 @@ use Rattle.smp_script.specs.Spelling.{DirectiveFits, Masks, RequestFits, SpellLi
 use Rattle.smp_script.specs.Spelling.{request_words, switch_text, wait_text, which_text}
 use Rattle.smp_script.proofs.Texts.Decimals.{is_field-decimal, number_in-decimal}
 use Rattle.smp_script.proofs.Spelled.ReadParts.{same_word}
-use Rattle.smp_script.proofs.Written.ReplayWriting.{read32, wide}
+use Rattle.smp_script.proofs.Written.ReplayWriting.{decimal32, wide}
 
 word : (n : ℕ) → n < 2 ^ 16 → is_field (decimal n) ≡ true
 word n h = is_field-decimal n (omega (arith, h))
 
-read16 : (n : ℕ) → n < 2 ^ 16 → word16 (decimal n) ≡ Ok n
-read16 n h = number_in-decimal 0 65535 n (omega arith) (omega (arith, h)) (omega (arith, h))
+decimal16 : (n : ℕ) → n < 2 ^ 16 → word16 (decimal n) ≡ Ok n
+decimal16 n h = number_in-decimal 0 65535 n (omega arith) (omega (arith, h)) (omega (arith, h))
 
-read64 : (n : ℕ) → n < 2 ^ 64 → word64 (decimal n) ≡ Ok n
-read64 n h = number_in-decimal 0 18446744073709551615 n (omega arith) (omega (arith, h)) h
+decimal64 : (n : ℕ) → n < 2 ^ 64 → word64 (decimal n) ≡ Ok n
+decimal64 n h = number_in-decimal 0 18446744073709551615 n (omega arith) (omega (arith, h)) h
 
 arg : (n : ℕ) → n < 2 ^ 31 → is_field (decimal n) ≡ true
 arg n h = is_field-decimal n (omega (arith, h))
 
-read_arg : (n : ℕ) → n < 2 ^ 31 → number_in 0 2147483647 (decimal n) ≡ Ok n
-read_arg n h = number_in-decimal 0 2147483647 n (omega arith) (omega (arith, h)) (omega (arith, h))
+decimal_arg : (n : ℕ) → n < 2 ^ 31 → number_in 0 2147483647 (decimal n) ≡ Ok n
+decimal_arg n h = number_in-decimal 0 2147483647 n (omega arith) (omega (arith, h)) (omega (arith, h))
 
 wait_field : (b : Bool) → is_field (wait_text b) ≡ true
 wait_field true = refl
@@ -104,45 +104,45 @@ count_read : (count : ℕ) → 1 ≤ count → count ≤ 10000 → number_in 1 1
 count_read count some few = number_in-decimal 1 10000 count some few (omega arith)
 
 member_read : (mask cpu : ℕ) → cpu < 2 ^ 32 → has mask cpu ≡ true → member_of mask (decimal cpu) ≡ Ok cpu
-member_read mask cpu h on = rw (read32 cpu h, on) refl
+member_read mask cpu h on = rw (decimal32 cpu h, on) refl
 
 -- and are read as the request
 request_read : (limit mask : ℕ) (masks : Masks) (cpu count : ℕ) (r : Request) → cpu < 2 ^ 32 → has mask cpu ≡ true → 1 ≤ count → count ≤ 10000
     → RequestFits r → SpellRequest limit masks r → do_of limit mask (decimal cpu ∷ decimal count ∷ request_words masks r) ≡ Ok (Do cpu count r)
 unfolding repeated
 request_read limit mask masks cpu count (request.Single true dst func info) small on some few f s =
-    rw (member_read mask cpu small on, count_read count some few, read32 dst f.0, read16 func f.1, read64 info f.2) refl
+    rw (member_read mask cpu small on, count_read count some few, decimal32 dst f.0, decimal16 func f.1, decimal64 info f.2) refl
 request_read limit mask masks cpu count (request.Single false dst func info) small on some few f s =
-    rw (member_read mask cpu small on, count_read count some few, read32 dst f.0, read16 func f.1, read64 info f.2) refl
+    rw (member_read mask cpu small on, count_read count some few, decimal32 dst f.0, decimal16 func f.1, decimal64 info f.2) refl
 request_read limit mask masks cpu count (request.User user dst func info) small on some few f s =
     rw (
       member_read mask cpu small on,
       count_read count some few,
       number_in-decimal 0 1 user (omega arith) f.0 (omega (arith, f.0)),
-      read32 dst f.1,
-      read16 func f.2,
-      read64 info f.3,
+      decimal32 dst f.1,
+      decimal16 func f.2,
+      decimal64 info f.3,
     ) refl
 request_read limit mask masks cpu count (request.Any wait set func info) small on some few f s =
-    rw (wait_read wait, member_read mask cpu small on, count_read count some few, s.reads, read16 func f.0, read64 info f.1) refl
+    rw (wait_read wait, member_read mask cpu small on, count_read count some few, s.reads, decimal16 func f.0, decimal64 info f.1) refl
 request_read limit mask masks cpu count (request.Many wait set func info) small on some few f s =
-    rw (wait_read wait, member_read mask cpu small on, count_read count some few, s.reads, read16 func f.0, read64 info f.1) refl
+    rw (wait_read wait, member_read mask cpu small on, count_read count some few, s.reads, decimal16 func f.0, decimal64 info f.1) refl
 request_read limit mask masks cpu count (request.Cond which wait set func info) small on some few f s =
-    rw (which_read which, wait_read wait, member_read mask cpu small on, count_read count some few, s.reads, read16 func f.0, read64 info f.1) refl
+    rw (which_read which, wait_read wait, member_read mask cpu small on, count_read count some few, s.reads, decimal16 func f.0, decimal64 info f.1) refl
 request_read limit mask masks cpu count (request.One dst func n) small on some few f s =
-    rw (member_read mask cpu small on, count_read count some few, read32 dst f.0, read16 func f.1, read_arg n f.2) refl
+    rw (member_read mask cpu small on, count_read count some few, decimal32 dst f.0, decimal16 func f.1, decimal_arg n f.2) refl
 request_read limit mask masks cpu count (request.Two a b func n) small on some few f s =
-    rw (member_read mask cpu small on, count_read count some few, read32 a f.0, read32 b f.1, read16 func f.2, read_arg n f.3) refl
+    rw (member_read mask cpu small on, count_read count some few, decimal32 a f.0, decimal32 b f.1, decimal16 func f.2, decimal_arg n f.3) refl
 request_read limit mask masks cpu count (request.Machine None func n) small on some few f s =
-    rw (member_read mask cpu small on, count_read count some few, read16 func f.0, read_arg n f.1) refl
+    rw (member_read mask cpu small on, count_read count some few, decimal16 func f.0, decimal_arg n f.1) refl
 request_read limit mask masks cpu count (request.Machine (Some set) func n) small on some few f s =
-    rw (member_read mask cpu small on, count_read count some few, not_none limit masks.active set s.reads, s.reads, read16 func f.0, read_arg n f.1) refl
+    rw (member_read mask cpu small on, count_read count some few, not_none limit masks.active set s.reads, s.reads, decimal16 func f.0, decimal_arg n f.1) refl
 request_read limit mask masks cpu count (request.Set key on_) small on some few f s =
-    rw (switch_read on_, member_read mask cpu small on, count_read count some few, read32 key f) refl
+    rw (switch_read on_, member_read mask cpu small on, count_read count some few, decimal32 key f) refl
 request_read limit mask masks cpu count (request.Inc key) small on some few f s =
-    rw (member_read mask cpu small on, count_read count some few, read32 key f) refl
+    rw (member_read mask cpu small on, count_read count some few, decimal32 key f) refl
 request_read limit mask masks cpu count (request.Dec key) small on some few f s =
-    rw (member_read mask cpu small on, count_read count some few, read32 key f) refl
+    rw (member_read mask cpu small on, count_read count some few, decimal32 key f) refl
 
 -- the words of a line are fields
 pub run_fields : (limit mask : ℕ) (masks : Masks) (d : Directive) → DirectiveFits Run mask d → SpellLine limit (masks, d)
