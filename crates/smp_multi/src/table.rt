@@ -26,17 +26,15 @@ ghost use Rattle.smp_multi.specs.Answers.{BeginAnswers, Enters, RunAnswers, Poll
 ghost use Rattle.smp_multi.specs.Cells.{cells};
 ghost use Rattle.smp_multi.specs.Cpu.{IsAt, IsFull, cpu_of, gated};
 
-use crate::begin;
 use crate::boot::StopBoot;
 use crate::cell::FIRST_ENTRY;
 use crate::cpu::StopCpu;
-use crate::enter;
 use crate::func::StopFunc;
 use crate::gate::{leave_gate, take_gate};
 use crate::poll::{collect, is_done};
 use crate::rule::{Owner, RawSeat};
-use crate::run;
 use crate::seat::{CpuSeat, next_seat};
+use crate::{begin, enter, run};
 use atomic_table::Table;
 use smp_labels::LabelMap;
 use smp_mask::{CpuMask, SmpError};
@@ -120,11 +118,7 @@ where
         let seat = next_seat(&owner.shared, &mut maker, number);
         waiting.push(cpu_if(online.contains(number), seat, number))?;
     }
-    let table = StopTable {
-        owner,
-        nr,
-        setting,
-    };
+    let table = StopTable { owner, nr, setting };
     Ok((table, StopBoot { online, waiting }))
 }
 
@@ -249,7 +243,13 @@ impl<A: Allocator> StopTable<A> {
         if visit.kind != Kind::One {
             return Err(SmpError::BadArgument);
         }
-        let answer = run::run_one(&self.owner.shared, &mut me.seat, me.number, visit.slot, func);
+        let answer = run::run_one(
+            &self.owner.shared,
+            &mut me.seat,
+            me.number,
+            visit.slot,
+            func,
+        );
         me.visit = None;
         Ok(answer)
     }
