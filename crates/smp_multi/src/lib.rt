@@ -45,3 +45,6 @@ pub use boot::StopBoot;
 pub use cpu::StopCpu;
 pub use func::{Called, StopFunc};
 pub use table::StopTable;
+
+#[cfg(test)]
+mod tests;

@@ -1,0 +1,295 @@
+ghost use Rattle.std.specs.Prelude.{ℕ, ◌≡◌, true, IfSome};
+ghost use Rattle.smp_mask.specs.Mask.{has};
+ghost use Rattle.smp_multi.specs.Cpu.{IsAt, left_at};
+
+mod threads;
+
+use super::*;
+use linked_list_allocator::LocalHeap;
+use smp_labels::{Entry, LabelMap};
+use smp_mask::{CpuMask, SmpError};
+use smp_words::size::NR_CPUS;
+use smp_words::work::{Kind, Work};
+use std::alloc::Global;
+use std::marker::Model;
+use std::test::*;
+
+/// A CPU with its table.
+#[derive(Drop)]
+struct Driver<'a> {
+    table: &'a StopTable<Global>,
+    cpu: StopCpu,
+}
+
+impl<'a> Model for Driver<'a> {
+    ghost use Rattle.smp_multi.specs.Cpu.{CpuValue, IsAt};
+
+    ghost Value = { CpuValue };
+
+    ghost view = { λ d. d.cpu };
+
+    ghost invariant = { λ d. IsAt d.table.now d.cpu };
+}
+
+impl<'a> Driver<'a> {
+    fn try_gate(&mut self) -> bool {
+        self.table.try_gate(&mut self.cpu)
+    }
+
+    fn open_gate(&mut self) -> Result<(), SmpError> {
+        self.table.open_gate(&mut self.cpu)
+    }
+
+    fn begin(&mut self, work: Work) -> Result<(), SmpError> {
+        self.table.begin(&mut self.cpu, work)
+    }
+
+    fn enter(&mut self, slot: u32) -> Result<Kind, SmpError> {
+        self.table.enter(&mut self.cpu, slot)
+    }
+
+    fn run_one<F: StopFunc>(&mut self, func: &mut F) -> Result<i32, SmpError> {
+        self.table.run_one(&mut self.cpu, func)
+    }
+
+    fn poll_done(&mut self) -> Result<Option<i32>, SmpError> {
+        self.table.poll_done(&mut self.cpu)
+    }
+}
+
+/// A CPU that the table gives out, with its table. All CPUs that are left are of that table.
+fn drive<'a>(
+    table: &'a StopTable<Global>,
+    boot: &mut StopBoot<Global>,
+    number: u32,
+) -> Result<Driver<'a>, SmpError>
+    requires { (cpu : ℕ) → has boot.old.online cpu ≡ true → IfSome (left_at boot.old cpu) (λ c. IsAt table.now c) }
+    ensures { (cpu : ℕ) → has boot.new.online cpu ≡ true → IfSome (left_at boot.new cpu) (λ c. IsAt table.now c) }
+{
+    let cpu = boot.cpu(number)?;
+    Ok(Driver { table, cpu })
+}
+
+/// Answers always the same, and counts its calls.
+#[derive(Drop)]
+struct Answerer {
+    answer: i32,
+    calls: Vec<(u32, u16, u64), Global>,
+    whole: bool,
+}
+
+impl Answerer {
+    fn new(alloc: Global, answer: i32) -> Answerer {
+        Answerer {
+            answer,
+            calls: Vec::new(alloc),
+            whole: true,
+        }
+    }
+}
+
+impl StopFunc for Answerer {
+    ghost leads = { λ _ _ _. Unit {0} };
+
+    fn run(&mut self, cpu: u32, func: u16, arg: u64) -> i32 {
+        let pushed = self.calls.push((cpu, func, arg));
+        self.whole = self.whole && pushed.is_ok();
+        self.answer
+    }
+}
+
+/// A stop of one CPU.
+fn one(cpu: u32, func: u16, arg: u64) -> Result<Work, SmpError> {
+    let mask = CpuMask::of(cpu)?;
+    Ok(Work {
+        kind: Kind::One,
+        mask,
+        active: mask,
+        func,
+        arg,
+    })
+}
+
+#[test]
+fn a_table_has_lawful_limits(rt: HostRuntime) -> Result<(), Fail> {
+    let none = LabelMap::empty();
+    for (nr, cpus) in [(0, "0"), (33, "0"), (2, ""), (2, "2")] {
+        let refused = StopTable::new(rt.alloc(), nr, cpus.parse()?, &none).err();
+        assert_eq!(rt; refused, Some(SmpError::BadArgument), "{nr} {cpus}");
+    }
+    let off = Entry {
+        key: 0,
+        branch: false,
+    };
+    let on = Entry {
+        key: 0,
+        branch: true,
+    };
+    let labels = LabelMap::new(&[off, on], 1)?;
+    for (nr, cpus) in [(1, "0"), (2, "0-1"), (32, "0-31")] {
+        let online: CpuMask = cpus.parse()?;
+        let (table, _) = StopTable::new(rt.alloc(), nr, online, &labels)?;
+        assert!(rt; table.online() == online, "{nr} {cpus}");
+    }
+    Ok(())
+}
+
+#[test]
+fn each_growth_may_be_refused(rt: HostRuntime) -> Result<(), Fail> {
+    let online: CpuMask = "0-31".parse()?;
+    let none = LabelMap::empty();
+    // No growth is smaller than 16 bytes, so that each is the first to be refused by some heap.
+    for steps in 0..100_000usize {
+        let size = steps * 16;
+        let heap = LocalHeap::new(rt.alloc(), size)?;
+        match StopTable::new(&heap, NR_CPUS, online, &none) {
+            Ok(_) => {
+                // A table has 2,092 words of 8 bytes.
+                assert!(rt; size > 2_092 * 8, "{size} bytes");
+                return Ok(());
+            }
+            Err(error) => assert_eq!(rt; error, SmpError::NoMemory, "{size} bytes"),
+        }
+    }
+    assert!(rt; false, "no heap was large enough");
+    Ok(())
+}
+
+#[test]
+fn each_online_cpu_is_given_out_once(rt: HostRuntime) -> Result<(), Fail> {
+    let none = LabelMap::empty();
+    let (_table, mut boot) = StopTable::new(rt.alloc(), 4, "0-1,3".parse()?, &none)?;
+    for number in [0, 1, 3] {
+        let cpu = boot.cpu(number)?;
+        assert_eq!(rt; cpu.number(), number);
+        assert!(rt; cpu.interrupts_on() && !cpu.in_stop(), "{number}");
+        assert_eq!(rt; boot.cpu(number).err(), Some(SmpError::Busy), "{number}");
+    }
+    for number in [2, 4, 31, 32] {
+        assert_eq!(rt; boot.cpu(number).err(), Some(SmpError::NoCpu), "{number}");
+    }
+    Ok(())
+}
+
+#[test]
+fn the_gate_has_one_holder(rt: HostRuntime) -> Result<(), Fail> {
+    let none = LabelMap::empty();
+    let (table, mut boot) = StopTable::new(rt.alloc(), 2, "0-1".parse()?, &none)?;
+    let mut zero = drive(&table, &mut boot, 0)?;
+    let mut one_cpu = drive(&table, &mut boot, 1)?;
+    assert_eq!(rt; zero.open_gate(), Err(SmpError::BadArgument));
+    assert_eq!(rt; zero.begin(one(1, 3, 4)?), Err(SmpError::BadArgument));
+    assert!(rt; zero.try_gate());
+    assert!(rt; !zero.try_gate());
+    assert!(rt; !one_cpu.try_gate());
+    assert_eq!(rt; one_cpu.open_gate(), Err(SmpError::BadArgument));
+    zero.open_gate()?;
+    assert!(rt; one_cpu.try_gate());
+    Ok(())
+}
+
+#[test]
+fn a_stop_is_entered_by_its_cpus_once(rt: HostRuntime) -> Result<(), Fail> {
+    let none = LabelMap::empty();
+    let (table, mut boot) = StopTable::new(rt.alloc(), 2, "0-1".parse()?, &none)?;
+    let mut zero = drive(&table, &mut boot, 0)?;
+    let mut one_cpu = drive(&table, &mut boot, 1)?;
+    let mask = CpuMask::of(0)?;
+    let work = Work {
+        kind: Kind::Multi,
+        mask,
+        active: mask,
+        func: 1,
+        arg: 0,
+    };
+    assert!(rt; zero.try_gate());
+    zero.begin(work)?;
+    for slot in [0, 1, 8, 32] {
+        assert_eq!(rt; one_cpu.enter(slot), Err(SmpError::Stale), "{slot}");
+    }
+    assert_eq!(rt; zero.begin(work), Err(SmpError::SlotBusy));
+    assert_eq!(rt; zero.enter(0)?, Kind::Multi);
+    assert!(rt; zero.cpu.in_stop());
+    assert_eq!(rt; zero.enter(0), Err(SmpError::Stale));
+    let mut func = Answerer::new(rt.alloc(), 9);
+    assert_eq!(rt; zero.run_one(&mut func), Err(SmpError::BadArgument));
+    Ok(())
+}
+
+// E4 before E3: an empty mask, several CPUs in a stop of one, and patches that do not fit.
+#[test]
+fn a_work_that_no_stop_may_have_is_refused(rt: HostRuntime) -> Result<(), Fail> {
+    let off = Entry {
+        key: 0,
+        branch: false,
+    };
+    let labels = LabelMap::new(&[off], 1)?;
+    let (table, mut boot) = StopTable::new(rt.alloc(), 4, "0,2".parse()?, &labels)?;
+    let mut zero = drive(&table, &mut boot, 0)?;
+    assert!(rt; zero.try_gate());
+    for (kind, mask, active, func, arg, refusal) in [
+        (Kind::Multi, "", "", 0, 0, SmpError::BadArgument),
+        (Kind::One, "0,2", "0,2", 0, 0, SmpError::BadArgument),
+        (Kind::One, "0-1", "0-1", 0, 0, SmpError::BadArgument),
+        (Kind::One, "1", "1", 0, 0, SmpError::NoStopper),
+        (Kind::Multi, "0-2", "0", 0, 0, SmpError::NoStopper),
+        (Kind::Patch, "0", "0", 0, 1, SmpError::BadArgument),
+        (Kind::Patch, "0,2", "2", 0, 1, SmpError::BadArgument),
+        (Kind::Patch, "0,2", "0", 1, 1, SmpError::BadArgument),
+        (Kind::Patch, "0,2", "0", 0, 4, SmpError::BadArgument),
+    ] {
+        let work = Work {
+            kind,
+            mask: mask.parse()?,
+            active: active.parse()?,
+            func,
+            arg,
+        };
+        assert_eq!(rt;
+            zero.begin(work),
+            Err(refusal),
+            "{mask} {active} {func} {arg}"
+        );
+    }
+    Ok(())
+}
+
+#[test]
+fn a_stop_of_one_cpu_runs_its_function_there(rt: HostRuntime) -> Result<(), Fail> {
+    let none = LabelMap::empty();
+    let (table, mut boot) = StopTable::new(rt.alloc(), 2, "0-1".parse()?, &none)?;
+    let mut zero = drive(&table, &mut boot, 0)?;
+    let mut one_cpu = drive(&table, &mut boot, 1)?;
+    let mut func = Answerer::new(rt.alloc(), 9);
+    assert!(rt; zero.try_gate());
+    zero.begin(one(1, 3, 4)?)?;
+    assert_eq!(rt; zero.poll_done(), Ok(None));
+    assert_eq!(rt; one_cpu.run_one(&mut func), Err(SmpError::BadArgument));
+    assert_eq!(rt; one_cpu.enter(0)?, Kind::One);
+    assert_eq!(rt; zero.poll_done(), Ok(None));
+    assert_eq!(rt; one_cpu.run_one(&mut func), Ok(9));
+    assert!(rt; func.whole && func.calls.as_slice() == [(1, 3, 4)].as_slice());
+    assert_eq!(rt; one_cpu.run_one(&mut func), Err(SmpError::BadArgument));
+    assert_eq!(rt; zero.poll_done(), Ok(Some(9)));
+    assert_eq!(rt; zero.poll_done(), Err(SmpError::BadArgument));
+    zero.begin(one(1, 3, 4)?)?;
+    laws::is_shown(&table, &one_cpu.cpu);
+    Ok(())
+}
+
+#[test]
+fn a_cpu_stops_itself(rt: HostRuntime) -> Result<(), Fail> {
+    let none = LabelMap::empty();
+    let (table, mut boot) = StopTable::new(rt.alloc(), 1, "0".parse()?, &none)?;
+    let mut zero = drive(&table, &mut boot, 0)?;
+    assert!(rt; zero.try_gate());
+    for answer in [0, -1, i32::MIN, i32::MAX] {
+        let mut func = Answerer::new(rt.alloc(), answer);
+        zero.begin(one(0, 65_535, u64::MAX)?)?;
+        assert_eq!(rt; zero.enter(0)?, Kind::One);
+        assert_eq!(rt; zero.run_one(&mut func), Ok(answer));
+        assert!(rt; func.whole && func.calls.as_slice() == [(0, 65_535, u64::MAX)].as_slice());
+        assert_eq!(rt; zero.poll_done(), Ok(Some(answer)));
+    }
+    Ok(())
+}
