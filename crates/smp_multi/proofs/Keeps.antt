@@ -6,7 +6,7 @@ use lib.Seq.{set-get_or}
 use prog.Atomic.{either}
 use Rattle.atomic_table.specs.Table.{State, Me, step, keeps, stepped, Allows, Splits}
 use Rattle.atomic_table.proofs.Lists.{at_set}
-use Rattle.smp_words.specs.Access.{word_of, at_after, seen_of, one_less}
+use Rattle.smp_words.specs.Access.{word_of, at_after, seen_of, one_less, put_if}
 use Rattle.smp_words.specs.Put.{put, put_word}
 use Rattle.smp_words.specs.Size.{cpus}
 use Rattle.smp_words.proofs.Puts.{at_test}
@@ -125,8 +125,8 @@ module _ (p : StopState) (at : Word → ℕ) (seat : ℕ → Seat) (source : ℕ
   store_step : (w : Word) (x : ℕ) → Can v (Store w x) → Goes (put_word at w x) (known_told v act.Store w None (Some x))
   store_step w x can = subst (Goes (put_word at w x)) (store_else (entering p w) v w x) (moves (Store w x) can)
 
-  exchange_step : (w : Word) (old new : ℕ) → Can v (Exchange w old new) → Goes (cond (at w == old) (put_word at w new) at) (known_told v act.Cas w (Some (at w)) (cond (at w == old) (Some new) None))
-  exchange_step w old new can = subst (Goes (cond (at w == old) (put_word at w new) at)) (exchange_else (entering p w) v w (at w) (cond (at w == old) (Some new) None)) (moves (Exchange w old new) can)
+  exchange_step : (w : Word) (old new : ℕ) → Can v (Exchange w old new) → Goes (put_if put_word at w (cond (at w == old) (Some new) None)) (known_told v act.Cas w (Some (at w)) (cond (at w == old) (Some new) None))
+  exchange_step w old new can = subst (Goes (put_if put_word at w (cond (at w == old) (Some new) None))) (exchange_else (entering p w) v w (at w) (cond (at w == old) (Some new) None)) (moves (Exchange w old new) can)
 
   sub_step : (w : Word) → Can v (Sub w) → Goes (put_word at w (one_less (at w))) (known_told v act.Sub w (Some (at w)) (Some (one_less (at w))))
   sub_step w can = subst (Goes (put_word at w (one_less (at w)))) (sub_else (entering p w) v w (at w) (one_less (at w))) (moves (Sub w) can)
@@ -237,7 +237,7 @@ module _ {S : Type 0} (k : Setting) where
       λ u f. ap (λ (y : Word). Cpu (known_told v act.Store y None (Some x))) (one_cell w u i e f),
     ))
 
-    exchanged_words : (words : List ℕ) (w : Word) (i n x : ℕ) (b : Bool) → length words ≡ cells → cell_of w ≡ Some i → n ≡ get_or words i 0 → number_in (set words i (either b x n)) ≡ cond b (put_word (number_in words) w x) (number_in words)
+    exchanged_words : (words : List ℕ) (w : Word) (i n x : ℕ) (b : Bool) → length words ≡ cells → cell_of w ≡ Some i → n ≡ get_or words i 0 → number_in (set words i (either b x n)) ≡ put_if put_word (number_in words) w (cond b (Some x) None)
     exchanged_words words w i n x true l e is = stored_here words w i x l e
     exchanged_words words w i n x false l e is = ap number_in (ap (set words i) is ∙ set-get_or words i 0)
 
@@ -246,11 +246,11 @@ module _ {S : Type 0} (k : Setting) where
     exchange_allowed w i old new e can = steps i (λ n. either (n == old) new n) (AfterExchange (step slots i old new none) me) (λ p seat source words shown wide sees.
         let n = get_or words i 0 in
         let here : number_in words w ≡ n = number_here words w i e in
-        let same : (cond (number_in words w == old) (put_word (number_in words) w new) (number_in words)) ≡ number_in (set words i (either (n == old) new n)) =
-        ap (λ k. cond (k == old) (put_word (number_in words) w new) (number_in words)) here ∙ sym (exchanged_words words w i n new (n == old) wide e refl) in (
+        let same : (put_if put_word (number_in words) w (cond (number_in words w == old) (Some new) None)) ≡ number_in (set words i (either (n == old) new n)) =
+        ap (λ k. put_if put_word (number_in words) w (cond (k == old) (Some new) None)) here ∙ sym (exchanged_words words w i n new (n == old) wide e refl) in (
           known_told v act.Cas w (Some n) (cond (n == old) (Some new) None),
           subst (λ (at : Word → ℕ). GoesOn v.setting p seat source v.number at (known_told v act.Cas w (Some n) (cond (n == old) (Some new) None))) same
-              (subst (λ k. GoesOn v.setting p seat source v.number (cond (number_in words w == old) (put_word (number_in words) w new) (number_in words)) (known_told v act.Cas w (Some k) (cond (k == old) (Some new) None))) here
+              (subst (λ k. GoesOn v.setting p seat source v.number (put_if put_word (number_in words) w (cond (number_in words w == old) (Some new) None)) (known_told v act.Cas w (Some k) (cond (k == old) (Some new) None))) here
               (exchange_step p (number_in words) seat source v shown sees w old new can)),
           λ u f. (
             record { stops = p; at = number_in words; seat = seat; source = source; shown = shown; sees = sees; number_is = sym (number_here words u i f) },

@@ -9,7 +9,7 @@ use Rattle.smp_stop_steps.specs.Sits.{SitsAtRest, OwnsIf}
 use Rattle.smp_stop_steps.specs.declared.phase.TheConstants.{DISABLE_IRQ}
 use Rattle.smp_stop_steps.specs.declared.stage.Visit.{Visit}
 use Rattle.smp_stop_steps.specs.declared.start.Terms.{Terms}
-use Rattle.smp_multi.specs.Names.{Work, Seat, In, Gives, Alters, Known, Part, Setting, StopCall}
+use Rattle.smp_multi.specs.Names.{Work, Seat, In, Gives, Alters, Known, Part, Setting, StopCall, Idle}
 use Rattle.smp_multi.specs.Places.{pending_of}
 use Rattle.smp_multi.specs.Seat.{SeatValue}
 
@@ -109,7 +109,7 @@ abbrev pub answers : ℕ → ℕ → CpuValue → CpuValue
 answers slot x c = record c {
   inside = None;
   irq = true;
-  part = record (c.part) { answers = slice_set c.part.answers slot (slice_index_or c.part.answers slot [] ++ x ∷ []) };
+  part = record (c.part) { calling = Idle; answers = slice_set c.part.answers slot (slice_index_or c.part.answers slot [] ++ x ∷ []) };
 }
 
 -- one that has collected this result

@@ -18,5 +18,7 @@ pub use Rattle.smp_stop_steps.specs.declared.known.Known.{Known}
 pub use Rattle.smp_stop_steps.specs.declared.known.Part.{Part}
 pub use Rattle.smp_stop_steps.specs.declared.known.Setting.{Setting}
 pub use Rattle.smp_stop_steps.specs.declared.known.StopCall.{StopCall}
+pub use Rattle.smp_stop_steps.specs.declared.known.Calling.{Calling}
+pub use Rattle.smp_stop_steps.specs.declared.known.Calling.TheVariants.{Idle, Calls}
 pub use Rattle.smp_multi.specs.declared.seat_view.SeatView.{SeatView}
 pub use Rattle.smp_multi.specs.declared.seat_view.SeatView.TheVariants.{Maker, Cpu}

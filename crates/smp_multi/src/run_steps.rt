@@ -2,15 +2,16 @@
 //! that the call has led it from what it was at its beginning to what it is: so the CPU does not complete before the
 //! function has run, nor with another call or another answer. No other page can make these steps.
 
-ghost use Rattle.std.specs.Prelude.{◌≡◌, Some, None};
+ghost use Rattle.std.specs.Prelude.{◌≡◌, ◌≢◌, Some, None};
 ghost use Rattle.smp_words.specs.Access.{one_less};
 ghost use Rattle.smp_words.specs.declared.access.Access.TheVariants as access;
 ghost use Rattle.smp_words.specs.declared.seen.Act.TheVariants as act;
 ghost use Rattle.smp_stop_steps.specs.Known.{Lives};
 ghost use Rattle.smp_stop_steps.specs.KnownAfter.{known_told, completed_with};
+ghost use Rattle.smp_multi.specs.Names.{Idle};
 ghost use Rattle.smp_stop_steps.specs.Starts.{answer_word as word_of_answer};
 ghost use Rattle.smp_multi.specs.Plays.{stored, subtracted};
-ghost use Rattle.smp_multi.specs.Running.{AtOne, AtGiven, IsItsCall, given};
+ghost use Rattle.smp_multi.specs.Running.{AtOne, AtGiven, IsItsCall, calls_now, given};
 ghost use Rattle.smp_multi.specs.Completes.{AtClose};
 ghost use Rattle.smp_multi.specs.Places.{work_in};
 ghost use Rattle.smp_multi.specs.Seat.{Able};
@@ -73,7 +74,7 @@ pub fn begin_one<F: StopFunc>(
 ) -> (Begun<F>, u16, u64)
     requires { AtOne words.now.table_id seat.old slot }
     ensures at { AtOne words.now.table_id seat.new slot }
-    ensures known { seat.new.known ≡ seat.old.known }
+    ensures known { seat.new.known ≡ calls_now seat.old.known }
     ensures call { IsItsCall seat.new.known result.1 result.2 }
     ensures before { result.0.before.value ≡ func.now }
     ensures begun { result.0.at.value.known ≡ seat.new.known }
@@ -87,7 +88,8 @@ pub fn begin_one<F: StopFunc>(
 
 /// Stores an answer; 0 is not stored.
 fn give(words: &Words, seat: &mut CpuSeat, slot: u32, answer: u64)
-    requires { AtOne words.now.table_id seat.old slot }
+    requires at { AtOne words.now.table_id seat.old slot }
+    requires calls { seat.old.known.part.calling ≢ Idle }
     ensures at { AtGiven words.now.table_id seat.new slot answer (work_in seat.old.known.seat) }
     ensures known { seat.new.known ≡ given slot answer seat.old.known }
 {
@@ -106,6 +108,7 @@ pub fn end_one<F: StopFunc>(
     begun: Begun<F>,
 ) -> u64
     requires at { AtOne words.now.table_id seat.old slot }
+    requires calls { seat.old.known.part.calling ≢ Idle }
     requires call { IsItsCall seat.old.known call.func call.arg }
     requires cpu { call.cpu ≡ seat.old.known.number }
     requires begun { begun.at.value.known ≡ seat.old.known }
