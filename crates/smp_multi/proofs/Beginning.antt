@@ -22,18 +22,29 @@ module _ (t : TableId) (d : SeatValue) (number : ℕ) (w : Work) where
     able = record {
       table_is = b.table_is;
       sized = b.sized;
-      can = record { move = Draft w; may = (b.drafts, b.holds, b.is_work); is_access = ap (λ n. Store (Slot n field.Kind) (begun_value cpus w field.Kind)) b.number_is ∙ ap (Store (Slot number field.Kind)) (sym e) };
+      can =
+          record {
+            move = Draft w;
+            may = (b.drafts, b.holds, b.is_work);
+            is_access = ap (λ n. Store (Slot n field.Kind) (begun_value cpus w field.Kind)) b.number_is ∙ ap (Store (Slot number field.Kind)) (sym e);
+          };
       cell = slot_cell number field.Kind b.below;
     };
     apart = tt;
   }
 
-  more : (f : Field) → Begins t d number w (order f) → order f < 10 → order f ≢ 0 → draft_at (order f) w ≡ Drafts (told_work (order f) w) (order f) → (x : ℕ) → x ≡ begun_value cpus w f → Ready t d (Store (Slot number f) x)
+  more : (f : Field) → Begins t d number w (order f) → order f < 10 → order f ≢ 0 → draft_at (order f) w ≡ Drafts (told_work (order f) w) (order f) → (x : ℕ)
+      → x ≡ begun_value cpus w f → Ready t d (Store (Slot number f) x)
   more f b low ne at x e = record {
     able = record {
       table_is = b.table_is;
       sized = b.sized;
-      can = record { move = DraftMore w f; may = (b.drafts ∙ at, b.is_work, ne, low); is_access = ap (λ n. Store (Slot n f) (begun_value cpus w f)) b.number_is ∙ ap (Store (Slot number f)) (sym e) };
+      can =
+          record {
+            move = DraftMore w f;
+            may = (b.drafts ∙ at, b.is_work, ne, low);
+            is_access = ap (λ n. Store (Slot n f) (begun_value cpus w f)) b.number_is ∙ ap (Store (Slot number f)) (sym e);
+          };
       cell = slot_cell number f b.below;
     };
     apart = tt;
@@ -57,21 +68,31 @@ module _ (t : TableId) (d : SeatValue) (number : ℕ) (w : Work) where
     able = record {
       table_is = b.table_is;
       sized = b.sized;
-      can = record { move = Open w; may = (b.drafts, b.is_work); is_access = ap (λ n. Store (Slot n field.Roll) w.mask) b.number_is ∙ ap (Store (Slot number field.Roll)) (sym e) };
+      can =
+          record {
+            move = Open w;
+            may = (b.drafts, b.is_work);
+            is_access = ap (λ n. Store (Slot n field.Roll) w.mask) b.number_is
+                ∙ ap (Store (Slot number field.Roll)) (sym e);
+          };
       cell = slot_cell number field.Roll b.below;
     };
     apart = tt;
   }
 
-  known_more : (f : Field) → Begins t d number w (order f) → order f < 10 → order f ≢ 0 → draft_at (order f) w ≡ Drafts (told_work (order f) w) (order f) → draft_at (order f + 1) w ≡ Drafts (told_work (order f + 1) w) (order f + 1) →
+  known_more : (f : Field) → Begins t d number w (order f) → order f < 10 → order f ≢ 0 → draft_at (order f) w ≡ Drafts (told_work (order f) w) (order f)
+      → draft_at (order f + 1) w ≡ Drafts (told_work (order f + 1) w) (order f + 1) →
       (x : ℕ) → x ≡ begun_value cpus w f → slot_stored f x d.known ≡ record (d.known) { source = draft_at (order f + 1) w }
   known_more f b low ne at next x e =
       let is = b.drafts ∙ at in
       stored_draft f x d.known ne low (ap is_drafting is) ∙ (ap (λ o. record (d.known) { source = drafts_more f x o }) is ∙
-      (ap (λ y. record (d.known) { source = drafts_more f y (Drafts (told_work (order f) w) (order f)) }) e ∙ (ap (λ z. record (d.known) { source = Drafts z (order f + 1) }) (draft_next f w ne low) ∙ ap (λ o. record (d.known) { source = o }) (sym next))))
+      (ap (λ y. record (d.known) { source = drafts_more f y (Drafts (told_work (order f) w) (order f)) }) e
+      ∙ (ap (λ z. record (d.known) { source = Drafts z (order f + 1) }) (draft_next f w ne low) ∙ ap (λ o. record (d.known) { source = o }) (sym next))))
 
-  pub known_field : (f : Field) → Begins t d number w (order f) → order f < 10 → (x : ℕ) → x ≡ begun_value cpus w f → slot_stored f x d.known ≡ record (d.known) { source = draft_at (order f + 1) w }
-  known_field field.Kind b low x e = ap (λ y. slot_stored field.Kind y d.known) e ∙ ap (λ (k : KindOf). record (d.known) { source = Drafts (record { kind = k; mask = 0; active = 0; func = 0; arg = 0 }) 1 }) (kind_back w.kind)
+  pub known_field : (f : Field) → Begins t d number w (order f) → order f < 10 → (x : ℕ) → x ≡ begun_value cpus w f
+      → slot_stored f x d.known ≡ record (d.known) { source = draft_at (order f + 1) w }
+  known_field field.Kind b low x e = ap (λ y. slot_stored field.Kind y d.known) e
+      ∙ ap (λ (k : KindOf). record (d.known) { source = Drafts (record { kind = k; mask = 0; active = 0; func = 0; arg = 0 }) 1 }) (kind_back w.kind)
   known_field field.Mask b low x e = known_more field.Mask b low (omega arith) refl refl x e
   known_field field.Active b low x e = known_more field.Active b low (omega arith) refl refl x e
   known_field field.Func b low x e = known_more field.Func b low (omega arith) refl refl x e
@@ -86,7 +107,8 @@ module _ (t : TableId) (d : SeatValue) (number : ℕ) (w : Work) where
   pub known_open : Begins t d number w 10 → opened_by d.known.source d.known ≡ begun w d.known
   known_open b = ap (λ o. opened_by o d.known) b.drafts
 
-pub begins_on : (t : TableId) (d e : SeatValue) (number : ℕ) (w : Work) (j k : ℕ) → Begins t d number w j → e.table ≡ t → e.known ≡ record (d.known) { source = draft_at k w } → Begins t e number w k
+pub begins_on : (t : TableId) (d e : SeatValue) (number : ℕ) (w : Work) (j k : ℕ) → Begins t d number w j → e.table ≡ t
+    → e.known ≡ record (d.known) { source = draft_at k w } → Begins t e number w k
 begins_on t d e number w j k b table same = record {
   table_is = table;
   sized = b.sized;

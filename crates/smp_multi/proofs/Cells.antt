@@ -1,5 +1,6 @@
 -- Where words lie: a cell is of one word, and a store in a cell is a put at its word. Only this page knows.
-use Rattle.std.proofs.Common.{◌≡◌, ℕ, ◌+◌, ◌*◌, ◌-◌, ◌/◌, ◌%◌, ◌<◌, ◌==◌, Bool, true, false, nat_lt, cond, Some, None, Option, option_map, List, length, get_or, set, sym, refl, ap, ◌∙◌, arith}
+use Rattle.std.proofs.Common.{◌≡◌, ℕ, ◌+◌, ◌*◌, ◌-◌, ◌/◌, ◌%◌, ◌<◌, ◌==◌, Bool, true, false, nat_lt, cond, Some, None, Option, option_map, List, length, get_or}
+use Rattle.std.proofs.Common.{set, sym, refl, ap, ◌∙◌, arith}
 use Rattle.std.proofs.lemmas.Bool.{ltb-true, lt-ltb, le-ltb}
 use Rattle.smp_words.specs.Size.{cpus}
 use Rattle.smp_words.specs.Put.{put_word}
@@ -16,7 +17,8 @@ use Rattle.smp_multi.specs.Cells.{cells, offset_of, place_of, cell_of, HasCell, 
 field_at : ℕ → Field
 field_at n =
     cond (n == 0) field.Kind (cond (n == 1) field.Mask (cond (n == 2) field.Active (cond (n == 3) field.Func (cond (n == 4) field.Arg (
-    cond (n == STATE_AT) field.State (cond (n == ACK_AT) field.Ack (cond (n == ROLL_AT) field.Roll (cond (n == TODO_AT) field.Todo (cond (n == TODO_AT + 1) field.Result field.Done)))))))))
+    cond (n == STATE_AT) field.State
+    (cond (n == ACK_AT) field.Ack (cond (n == ROLL_AT) field.Roll (cond (n == TODO_AT) field.Todo (cond (n == TODO_AT + 1) field.Result field.Done)))))))))
 
 field_here : (f : Field) → field_at (offset_of f) ≡ f
 unfolding field_at
@@ -68,12 +70,14 @@ key_here k low =
 entry_here : (i : ℕ) → i < MOST_SITES → word_at (place_of (Entry i)) ≡ Entry i
 entry_here i low =
     let c = place_of (Entry i) in
-    rw (le-ltb c FIRST_SLOT (omega arith), le-ltb c FIRST_KEY (omega arith), le-ltb c FIRST_ENTRY (omega arith), lt-ltb c FIRST_SITE (omega arith)) (ap Entry (omega arith))
+    rw (le-ltb c FIRST_SLOT (omega arith), le-ltb c FIRST_KEY (omega arith), le-ltb c FIRST_ENTRY (omega arith), lt-ltb c FIRST_SITE (omega arith))
+    (ap Entry (omega arith))
 
 site_here : (i : ℕ) → i < MOST_SITES → word_at (place_of (Site i)) ≡ Site i
 site_here i low =
     let c = place_of (Site i) in
-    rw (le-ltb c FIRST_SLOT (omega arith), le-ltb c FIRST_KEY (omega arith), le-ltb c FIRST_ENTRY (omega arith), le-ltb c FIRST_SITE (omega arith)) (ap Site (omega arith))
+    rw (le-ltb c FIRST_SLOT (omega arith), le-ltb c FIRST_KEY (omega arith), le-ltb c FIRST_ENTRY (omega arith), le-ltb c FIRST_SITE (omega arith))
+    (ap Site (omega arith))
 
 -- a cell that there is where a test passed
 cell_if : (b : Bool) (x place i : ℕ) → option_map (λ _. place) (cond b (Some x) None) ≡ Some i → (b ≡ true) × (place ≡ i)

@@ -21,12 +21,19 @@ use Rattle.smp_multi.specs.Seat.{SeatValue, Ready}
 use Rattle.smp_multi.proofs.Cells.{slot_cell}
 use Rattle.smp_stop_steps.specs.declared.stage.Visit.{Visit}
 
-pub ready_roll : (t : TableId) (d : SeatValue) (number slot x : ℕ) → IsFree t d number → slot < cpus → x ≡ all_but number → Ready t d (And (Slot slot field.Roll) x)
+pub ready_roll : (t : TableId) (d : SeatValue) (number slot x : ℕ) → IsFree t d number → slot < cpus → x ≡ all_but number
+    → Ready t d (And (Slot slot field.Roll) x)
 ready_roll t d number slot x f low e = record {
   able = record {
     table_is = f.seated.table_is;
     sized = f.seated.sized;
-    can = record { move = Enter slot; may = f.free; is_access = ap (λ n. And (Slot slot field.Roll) (all_but n)) f.seated.number_is ∙ ap (And (Slot slot field.Roll)) (sym e) };
+    can =
+        record {
+          move = Enter slot;
+          may = f.free;
+          is_access = ap (λ n. And (Slot slot field.Roll) (all_but n)) f.seated.number_is
+              ∙ ap (And (Slot slot field.Roll)) (sym e);
+        };
     cell = slot_cell slot field.Roll low;
   };
   apart = tt;
@@ -53,7 +60,8 @@ module _ (v : Known) (slot found : ℕ) (m : Moment v (Slot slot field.Roll) fou
   is_own : stop.is_open ≡ true → slot ≡ v.number → pending_of v.source ≡ Some stop.work
   is_own opened same = go (m.source slot) (m.shown.sources slot) (ap (λ n. told_source (m.source n)) same ∙ m.sees.source_is)
     where
-      go : (y : Source) → SourceShows (setup_in v.setting) m.stops.gate (m.stops.now.stop slot) (λ f. m.at (Slot slot f)) slot y → told_source y ≡ v.source → pending_of v.source ≡ Some (m.stops.now.stop slot).work
+      go : (y : Source) → SourceShows (setup_in v.setting) m.stops.gate (m.stops.now.stop slot) (λ f. m.at (Slot slot f)) slot y → told_source y ≡ v.source
+          → pending_of v.source ≡ Some (m.stops.now.stop slot).work
       go Shut shows e = cc
       go (Drafts w k) shows e = let shut = shows.shut in cc
       go (Owns w) shows e = subst (λ (x : Source). pending_of x ≡ Some (m.stops.now.stop slot).work) e (ap Some (sym shows.work_is))
@@ -64,7 +72,8 @@ module _ (v : Known) (slot found : ℕ) (m : Moment v (Slot slot field.Roll) fou
 
 pub ready_plain : (t : TableId) (d : SeatValue) (slot : ℕ) (w : Work) (f : Field) → HasEntered t d slot w → IsPlain f → Ready t d (Load (Slot slot f))
 ready_plain t d slot w f h plain = record {
-  able = record { table_is = h.table_is; sized = h.sized; can = record { move = LoadField slot f; may = plain; is_access = refl }; cell = slot_cell slot f h.low };
+  able =
+      record { table_is = h.table_is; sized = h.sized; can = record { move = LoadField slot f; may = plain; is_access = refl }; cell = slot_cell slot f h.low };
   apart = tt;
 }
 
@@ -74,7 +83,11 @@ entered_moved t d e slot w h table same = record { table_is = table; sized = h.s
 -- what a CPU in a stop finds of its work
 module _ (v : Known) (slot : ℕ) (w : Work) (is : v.seat ≡ In slot w 0 0 Rests) where
   pub finds_written : (f : Field) (n : ℕ) → Moment v (Slot slot f) n → (word : Field → ℕ) × IsWritten word w × (n ≡ word f)
-  finds_written f n m = ((λ g. m.at (Slot slot g)), work_words (setup_in v.setting) m.stops m.at m.seat m.source m.shown slot v.number w 0 0 Rests (m.sees.seat_is ∙ is), m.number_is)
+  finds_written f n m = (
+    (λ g. m.at (Slot slot g)),
+    work_words (setup_in v.setting) m.stops m.at m.seat m.source m.shown slot v.number w 0 0 Rests (m.sees.seat_is ∙ is),
+    m.number_is,
+  )
 
   pub finds_kind : (n : ℕ) → Moment v (Slot slot field.Kind) n → kind_at n ≡ w.kind
   finds_kind n m = let f = finds_written field.Kind n m in ap kind_at (f.2 ∙ f.1.kind) ∙ kind_back w.kind

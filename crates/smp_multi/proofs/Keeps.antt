@@ -1,5 +1,6 @@
 -- Each access keeps the rule of the table, and tells what its play says.
-use Rattle.std.proofs.Common.{◌≡◌, ◌≢◌, ℕ, zero, suc, ◌+◌, ◌-◌, ◌%◌, ◌^◌, ◌<◌, ◌⊎◌, Bool, true, false, ◌==◌, cond, List, [], ◌∷◌, ◌++◌, length, get_or, set, sym, refl, ap, ◌∙◌, subst, inl, inr, ⊎_elim, arith, Option, Some, None, length-set, bit_and}
+use Rattle.std.proofs.Common.{◌≡◌, ◌≢◌, ℕ, zero, suc, ◌+◌, ◌-◌, ◌%◌, ◌^◌, ◌<◌, ◌⊎◌, Bool, true, false, ◌==◌, cond, List, [], ◌∷◌, ◌++◌, length, get_or, set}
+use Rattle.std.proofs.Common.{sym, refl, ap, ◌∙◌, subst, inl, inr, ⊎_elim, arith, Option, Some, None, length-set, bit_and}
 use mathlib.Core.Option.{none, some, some-injective, some-ne-none}
 use lib.ListN.{get_elem?}
 use lib.Seq.{set-get_or}
@@ -16,7 +17,8 @@ use Rattle.smp_stop_steps.specs.Moves.{Can, entering}
 use Rattle.smp_stop_steps.specs.State.{StopState}
 use Rattle.smp_stop_steps.specs.Shows.{StopShows}
 use Rattle.smp_stop_steps.proofs.KnownMoves.{known_move}
-use Rattle.smp_multi.specs.Names.{Word, Gate, Slot, Key, Entry, Site, Access, Load, Store, Exchange, Sub, And, Work, Seat, Source, Known, Setting, SeatView, Maker, Cpu}
+use Rattle.smp_multi.specs.Names.{Word, Gate, Slot, Key, Entry, Site, Access, Load, Store, Exchange, Sub, And, Work, Seat, Source, Known, Setting, SeatView}
+use Rattle.smp_multi.specs.Names.{Maker, Cpu}
 use Rattle.smp_multi.specs.Names.field
 use Rattle.smp_multi.specs.Names.act
 use Rattle.smp_multi.specs.Cells.{cells, cell_of, number_in}
@@ -111,12 +113,16 @@ sub_else x v (Entry i) n m = refl
 sub_else x v (Site i) n m = refl
 sub_else x v _ n m = refl
 
-module _ (p : StopState) (at : Word → ℕ) (seat : ℕ → Seat) (source : ℕ → Source) (v : Known) (h : StopShows (setup_in v.setting) p at seat source) (sees : Sees p seat source v) where
+module _ (p : StopState) (at : Word → ℕ) (seat : ℕ → Seat) (source : ℕ → Source) (v : Known) (h : StopShows (setup_in v.setting) p at seat source)
+    (sees : Sees p seat source v) where
   abbrev Goes : (Word → ℕ) → Known → Type 0
   Goes at' w = GoesOn v.setting p seat source v.number at' w
 
-  moves : (a : Access) → Can v a → let seen = seen_of v.number a (at (word_of a)) None in Goes (at_after at a) (known_entering (entering p (word_of a)) v seen.act seen.word seen.found seen.put)
-  moves a can = subst (λ (a : Access). let seen = seen_of v.number a (at (word_of a)) None in Goes (at_after at a) (known_entering (entering p (word_of a)) v seen.act seen.word seen.found seen.put)) can.is_access
+  moves : (a : Access) → Can v a → let seen = seen_of v.number a (at (word_of a)) None in
+      Goes (at_after at a) (known_entering (entering p (word_of a)) v seen.act seen.word seen.found seen.put)
+  moves a can =
+      subst (λ (a : Access). let seen = seen_of v.number a (at (word_of a)) None in
+      Goes (at_after at a) (known_entering (entering p (word_of a)) v seen.act seen.word seen.found seen.put)) can.is_access
       (known_move p at seat source v h sees can.move can.may)
 
   load_step : (w : Word) → Can v (Load w) → Goes at (known_told v act.Load w (Some (at w)) None)
@@ -125,13 +131,16 @@ module _ (p : StopState) (at : Word → ℕ) (seat : ℕ → Seat) (source : ℕ
   store_step : (w : Word) (x : ℕ) → Can v (Store w x) → Goes (put_word at w x) (known_told v act.Store w None (Some x))
   store_step w x can = subst (Goes (put_word at w x)) (store_else (entering p w) v w x) (moves (Store w x) can)
 
-  exchange_step : (w : Word) (old new : ℕ) → Can v (Exchange w old new) → Goes (put_if put_word at w (cond (at w == old) (Some new) None)) (known_told v act.Cas w (Some (at w)) (cond (at w == old) (Some new) None))
-  exchange_step w old new can = subst (Goes (put_if put_word at w (cond (at w == old) (Some new) None))) (exchange_else (entering p w) v w (at w) (cond (at w == old) (Some new) None)) (moves (Exchange w old new) can)
+  exchange_step : (w : Word) (old new : ℕ) → Can v (Exchange w old new)
+      → Goes (put_if put_word at w (cond (at w == old) (Some new) None)) (known_told v act.Cas w (Some (at w)) (cond (at w == old) (Some new) None))
+  exchange_step w old new can = subst (Goes (put_if put_word at w (cond (at w == old) (Some new) None)))
+      (exchange_else (entering p w) v w (at w) (cond (at w == old) (Some new) None)) (moves (Exchange w old new) can)
 
   sub_step : (w : Word) → Can v (Sub w) → Goes (put_word at w (one_less (at w))) (known_told v act.Sub w (Some (at w)) (Some (one_less (at w))))
   sub_step w can = subst (Goes (put_word at w (one_less (at w)))) (sub_else (entering p w) v w (at w) (one_less (at w))) (moves (Sub w) can)
 
-  and_step : (w : Word) (x : ℕ) → Can v (And w x) → Goes (put_word at w (bit_and (at w) x)) (known_entering (entering p w) v act.And w (Some (at w)) (Some (bit_and (at w) x)))
+  and_step : (w : Word) (x : ℕ) → Can v (And w x)
+      → Goes (put_word at w (bit_and (at w) x)) (known_entering (entering p w) v act.And w (Some (at w)) (Some (bit_and (at w) x)))
   and_step w x can = moves (And w x) can
 
 lives_on : (k : Setting) (p : StopState) (seat : ℕ → Seat) (source : ℕ → Source) (me : ℕ) (at : Word → ℕ) (w : Known) → GoesOn k p seat source me at w → Lives w
@@ -146,7 +155,8 @@ lives_on k p seat source me at w g = record {
 
 module _ {S : Type 0} (k : Setting) where
   pub splits : (id n : ℕ) (v : SeatView) → v ≡ Maker n k → n < cpus → Splits {S = S} (Ruled k) id v (after v) (seat_made v)
-  splits id n v is low s r at = subst (λ v. Ruled {S = S} k record { words = s.words; homes = s.homes; views = set s.views id (after v) ++ seat_made v ∷ [] }) (sym is) made
+  splits id n v is low s r at = subst (λ v. Ruled {S = S} k record { words = s.words; homes = s.homes; views = set s.views id (after v) ++ seat_made v ∷ [] })
+      (sym is) made
     where
       mine : (n ≡ r.next) × (id ≡ 0) × (k ≡ k)
       mine = subst (SeatKnows k r.stops r.seat r.source r.place r.next id) is (r.each_seat id v at)
@@ -154,9 +164,11 @@ module _ {S : Type 0} (k : Setting) where
       last : ℕ
       last = length (set s.views id (Maker (n + 1) k))
 
-      old : (j : ℕ) (u : SeatView) → j ≢ id → get_elem? s.views j ≡ some u → SeatKnows k r.stops r.seat r.source r.place r.next j u → SeatKnows k r.stops r.seat r.source (put r.place n (length (set s.views id (Maker (n + 1) k)))) (n + 1) j u
+      old : (j : ℕ) (u : SeatView) → j ≢ id → get_elem? s.views j ≡ some u → SeatKnows k r.stops r.seat r.source r.place r.next j u
+          → SeatKnows k r.stops r.seat r.source (put r.place n (length (set s.views id (Maker (n + 1) k)))) (n + 1) j u
       old j (Maker m l) other e h = absurd (other (h.1 ∙ sym mine.1))
-      old j (Cpu w) other e h = let a = h.0 in let b = mine.0 in (omega arith, put_other r.place n (length (set s.views id (Maker (n + 1) k))) w.number (λ same. let c = same in omega arith) ∙ h.1, h.2, h.3)
+      old j (Cpu w) other e h = let a = h.0 in let b = mine.0 in
+          (omega arith, put_other r.place n (length (set s.views id (Maker (n + 1) k))) w.number (λ same. let c = same in omega arith) ∙ h.1, h.2, h.3)
 
       made : Ruled {S = S} k record { words = s.words; homes = s.homes; views = set s.views id (Maker (n + 1) k) ++ Cpu (fresh k n) ∷ [] }
       made = record {
@@ -169,9 +181,12 @@ module _ {S : Type 0} (k : Setting) where
         shown = r.shown;
         each_seat = λ j u e. ⊎_elim
             (λ (t : get_elem? (set s.views id (Maker (n + 1) k)) j ≡ some u). ⊎_elim
-            (λ (t : (j ≡ id) × (Maker (n + 1) k ≡ u)). subst (SeatKnows k r.stops r.seat r.source (put r.place n (length (set s.views id (Maker (n + 1) k)))) (n + 1) j) t.1 (refl, t.0 ∙ mine.1, refl))
+            (λ (t : (j ≡ id) × (Maker (n + 1) k ≡ u)).
+            subst (SeatKnows k r.stops r.seat r.source (put r.place n (length (set s.views id (Maker (n + 1) k)))) (n + 1) j) t.1
+            (refl, t.0 ∙ mine.1, refl))
             (λ (t : (j ≢ id) × (get_elem? s.views j ≡ some u)). old j u t.0 t.1 (r.each_seat j u t.1)) (at_set s.views id j (Maker (n + 1) k) u t))
-            (λ (t : (j ≡ length (set s.views id (Maker (n + 1) k))) × (Cpu (fresh k n) ≡ u)). subst (SeatKnows k r.stops r.seat r.source (put r.place n (length (set s.views id (Maker (n + 1) k)))) (n + 1) j) t.1
+            (λ (t : (j ≡ length (set s.views id (Maker (n + 1) k))) × (Cpu (fresh k n) ≡ u)).
+            subst (SeatKnows k r.stops r.seat r.source (put r.place n (length (set s.views id (Maker (n + 1) k)))) (n + 1) j) t.1
             (omega arith, put_same r.place n (length (set s.views id (Maker (n + 1) k))) ∙ sym t.0, refl, r.absent n (let a = mine.0 in omega arith) low))
             (at_snoc (set s.views id (Maker (n + 1) k)) (Cpu (fresh k n)) u j e);
         absent = λ c l within. r.absent c (let a = mine.0 in omega arith) within;
@@ -189,7 +204,8 @@ module _ {S : Type 0} (k : Setting) where
     wide = length-set s.words i n ∙ r.wide;
     shown = g.shown;
     each_seat = λ j u e. ⊎_elim
-        (λ (t : (j ≡ id) × (Cpu w ≡ u)). subst (SeatKnows k g.stops g.seats g.sources r.place r.next j) t.1 (subst (λ m. m < r.next) (sym g.number_is) mine.0, ap r.place g.number_is ∙ (mine.1 ∙ sym t.0), g.setting_is, g.mine))
+        (λ (t : (j ≡ id) × (Cpu w ≡ u)). subst (SeatKnows k g.stops g.seats g.sources r.place r.next j) t.1
+        (subst (λ m. m < r.next) (sym g.number_is) mine.0, ap r.place g.number_is ∙ (mine.1 ∙ sym t.0), g.setting_is, g.mine))
         (λ (t : (j ≢ id) × (get_elem? s.views j ≡ some u)). other j u t.0 (r.each_seat j u t.1)) (at_set s.views id j (Cpu w) u e);
     absent = λ c l within. g.others (fresh k c) (λ e. let a = mine.0 in let b = e in omega arith) (r.absent c l within);
   }
@@ -197,7 +213,8 @@ module _ {S : Type 0} (k : Setting) where
       mine : SeatKnows k r.stops r.seat r.source r.place r.next id (Cpu v)
       mine = r.each_seat id (Cpu v) at
 
-      other : (j : ℕ) (u : SeatView) → j ≢ id → SeatKnows k r.stops r.seat r.source r.place r.next j u → SeatKnows k g.stops g.seats g.sources r.place r.next j u
+      other : (j : ℕ) (u : SeatView) → j ≢ id → SeatKnows k r.stops r.seat r.source r.place r.next j u
+          → SeatKnows k g.stops g.seats g.sources r.place r.next j u
       other j (Maker m l) n h = h
       other j (Cpu u) n h = (h.0, h.1, h.2, g.others u (λ e. n (sym h.1 ∙ (ap r.place e ∙ mine.1))) h.3)
 
@@ -206,51 +223,62 @@ module _ {S : Type 0} (k : Setting) where
     v = known me.0
 
     steps : (i : ℕ) (f : ℕ → ℕ) (then : ℕ → Me S SeatView → Type 0) →
-        ((p : StopState) (seat : ℕ → Seat) (source : ℕ → Source) (words : List ℕ) → StopShows (setup_in (known me.0).setting) p (number_in words) seat source → length words ≡ cells → Sees p seat source (known me.0) →
-        (w : Known) × GoesOn (known me.0).setting p seat source (known me.0).number (number_in (set words i (f (get_or words i 0)))) w × then (get_or words i 0) (Cpu w, me.1)) →
+        ((p : StopState) (seat : ℕ → Seat) (source : ℕ → Source) (words : List ℕ) → StopShows (setup_in (known me.0).setting) p (number_in words) seat source
+        → length words ≡ cells → Sees p seat source (known me.0) →
+        (w : Known) × GoesOn (known me.0).setting p seat source (known me.0).number (number_in (set words i (f (get_or words i 0)))) w
+        × then (get_or words i 0) (Cpu w, me.1)) →
         Allows (Ruled k) slots id me i f (λ n m. Lives (known m.0) × then n m)
     steps i f then go s r sized at fits =
         let at' : get_elem? s.views id ≡ some (Cpu v) = at ∙ ap some is in
         let mine : SeatKnows k r.stops r.seat r.source r.place r.next id (Cpu v) = r.each_seat id (Cpu v) at' in
         let set_k : v.setting ≡ k = mine.2 in
-        let t = go r.stops r.seat r.source s.words (subst (λ j. StopShows (setup_in j) r.stops (number_in s.words) r.seat r.source) (sym set_k) r.shown) r.wide mine.3 in
+        let t = go r.stops r.seat r.source s.words (subst (λ j. StopShows (setup_in j) r.stops (number_in s.words) r.seat r.source) (sym set_k) r.shown)
+        r.wide mine.3 in
         let lives : Lives t.0 = lives_on v.setting r.stops r.seat r.source v.number (number_in (set s.words i (f (get_or s.words i 0)))) t.0 t.1 in
         let g = subst (λ j. GoesOn j r.stops r.seat r.source v.number (number_in (set s.words i (f (get_or s.words i 0)))) t.0) set_k t.1 in
         (Cpu t.0, keeps, tt, lifts s r id i (f (get_or s.words i 0)) v t.0 me.1 at' g, (lives, t.2))
 
-    pub load_allowed : (w : Word) (i : ℕ) → cell_of w ≡ Some i → Can (known me.0) (Load w) → Allows (Ruled k) slots id me i (λ n. n) (loaded (step slots i 0 0 none) me)
+    pub load_allowed : (w : Word) (i : ℕ) → cell_of w ≡ Some i → Can (known me.0) (Load w)
+        → Allows (Ruled k) slots id me i (λ n. n) (loaded (step slots i 0 0 none) me)
     load_allowed w i e can = steps i (λ n. n) (AfterLoad (step slots i 0 0 none) me) (λ p seat source words shown wide sees.
         let here : number_in words w ≡ get_or words i 0 = number_here words w i e in (
           known_told v act.Load w (Some (get_or words i 0)) None,
-          subst (λ (x : List ℕ). GoesOn v.setting p seat source v.number (number_in x) (known_told v act.Load w (Some (get_or words i 0)) None)) (sym (set-get_or words i 0))
-              (subst (λ n. GoesOn v.setting p seat source v.number (number_in words) (known_told v act.Load w (Some n) None)) here (load_step p (number_in words) seat source v shown sees w can)),
+          subst (λ (x : List ℕ). GoesOn v.setting p seat source v.number (number_in x) (known_told v act.Load w (Some (get_or words i 0)) None))
+              (sym (set-get_or words i 0))
+              (subst (λ n. GoesOn v.setting p seat source v.number (number_in words) (known_told v act.Load w (Some n) None)) here
+              (load_step p (number_in words) seat source v shown sees w can)),
           λ u f. (
             record { stops = p; at = number_in words; seat = seat; source = source; shown = shown; sees = sees; number_is = sym (number_here words u i f) },
             ap (λ (x : Word). Cpu (known_told v act.Load x (Some (get_or words i 0)) None)) (one_cell w u i e f),
           ),
         ))
 
-    pub store_allowed : (w : Word) (i x : ℕ) → cell_of w ≡ Some i → Can (known me.0) (Store w x) → Allows (Ruled k) slots id me i (λ _. x) (λ _. stored (step slots i x 0 none) me x)
+    pub store_allowed : (w : Word) (i x : ℕ) → cell_of w ≡ Some i → Can (known me.0) (Store w x)
+        → Allows (Ruled k) slots id me i (λ _. x) (λ _. stored (step slots i x 0 none) me x)
     store_allowed w i x e can = steps i (λ _. x) (λ _. AfterStore (step slots i x 0 none) me x) (λ p seat source words shown wide sees. (
       known_told v act.Store w None (Some x),
-      subst (λ (at : Word → ℕ). GoesOn v.setting p seat source v.number at (known_told v act.Store w None (Some x))) (sym (stored_here words w i x wide e)) (store_step p (number_in words) seat source v shown sees w x can),
+      subst (λ (at : Word → ℕ). GoesOn v.setting p seat source v.number at (known_told v act.Store w None (Some x))) (sym (stored_here words w i x wide e))
+          (store_step p (number_in words) seat source v shown sees w x can),
       λ u f. ap (λ (y : Word). Cpu (known_told v act.Store y None (Some x))) (one_cell w u i e f),
     ))
 
-    exchanged_words : (words : List ℕ) (w : Word) (i n x : ℕ) (b : Bool) → length words ≡ cells → cell_of w ≡ Some i → n ≡ get_or words i 0 → number_in (set words i (either b x n)) ≡ put_if put_word (number_in words) w (cond b (Some x) None)
+    exchanged_words : (words : List ℕ) (w : Word) (i n x : ℕ) (b : Bool) → length words ≡ cells → cell_of w ≡ Some i → n ≡ get_or words i 0
+        → number_in (set words i (either b x n)) ≡ put_if put_word (number_in words) w (cond b (Some x) None)
     exchanged_words words w i n x true l e is = stored_here words w i x l e
     exchanged_words words w i n x false l e is = ap number_in (ap (set words i) is ∙ set-get_or words i 0)
 
     pub exchange_allowed : (w : Word) (i old new : ℕ) → cell_of w ≡ Some i → Can (known me.0) (Exchange w old new) →
         Allows (Ruled k) slots id me i (λ n. either (n == old) new n) (exchanged (step slots i old new none) me)
-    exchange_allowed w i old new e can = steps i (λ n. either (n == old) new n) (AfterExchange (step slots i old new none) me) (λ p seat source words shown wide sees.
+    exchange_allowed w i old new e can = steps i (λ n. either (n == old) new n) (AfterExchange (step slots i old new none) me)
+        (λ p seat source words shown wide sees.
         let n = get_or words i 0 in
         let here : number_in words w ≡ n = number_here words w i e in
         let same : (put_if put_word (number_in words) w (cond (number_in words w == old) (Some new) None)) ≡ number_in (set words i (either (n == old) new n)) =
         ap (λ k. put_if put_word (number_in words) w (cond (k == old) (Some new) None)) here ∙ sym (exchanged_words words w i n new (n == old) wide e refl) in (
           known_told v act.Cas w (Some n) (cond (n == old) (Some new) None),
           subst (λ (at : Word → ℕ). GoesOn v.setting p seat source v.number at (known_told v act.Cas w (Some n) (cond (n == old) (Some new) None))) same
-              (subst (λ k. GoesOn v.setting p seat source v.number (put_if put_word (number_in words) w (cond (number_in words w == old) (Some new) None)) (known_told v act.Cas w (Some k) (cond (k == old) (Some new) None))) here
+              (subst (λ k. GoesOn v.setting p seat source v.number (put_if put_word (number_in words) w (cond (number_in words w == old) (Some new) None))
+              (known_told v act.Cas w (Some k) (cond (k == old) (Some new) None))) here
               (exchange_step p (number_in words) seat source v shown sees w old new can)),
           λ u f. (
             record { stops = p; at = number_in words; seat = seat; source = source; shown = shown; sees = sees; number_is = sym (number_here words u i f) },
@@ -258,26 +286,33 @@ module _ {S : Type 0} (k : Setting) where
           ),
         ))
 
-    pub sub_allowed : (w : Word) (i : ℕ) → cell_of w ≡ Some i → Can (known me.0) (Sub w) → Allows (Ruled k) slots id me i (λ n. (n + (2 ^ 64 - 1)) % 2 ^ 64) (subtracted (step slots i 1 0 none) me)
+    pub sub_allowed : (w : Word) (i : ℕ) → cell_of w ≡ Some i → Can (known me.0) (Sub w)
+        → Allows (Ruled k) slots id me i (λ n. (n + (2 ^ 64 - 1)) % 2 ^ 64) (subtracted (step slots i 1 0 none) me)
     sub_allowed w i e can = steps i (λ n. (n + (2 ^ 64 - 1)) % 2 ^ 64) (AfterSubtract (step slots i 1 0 none) me) (λ p seat source words shown wide sees.
         let n = get_or words i 0 in
         let here : number_in words w ≡ n = number_here words w i e in (
           known_told v act.Sub w (Some n) (Some (one_less n)),
-          subst (λ (at : Word → ℕ). GoesOn v.setting p seat source v.number at (known_told v act.Sub w (Some n) (Some (one_less n)))) (sym (stored_here words w i (one_less n) wide e))
-              (subst (λ m. GoesOn v.setting p seat source v.number (put_word (number_in words) w (one_less m)) (known_told v act.Sub w (Some m) (Some (one_less m)))) here (sub_step p (number_in words) seat source v shown sees w can)),
+          subst (λ (at : Word → ℕ). GoesOn v.setting p seat source v.number at (known_told v act.Sub w (Some n) (Some (one_less n))))
+              (sym (stored_here words w i (one_less n) wide e))
+              (subst (λ m. GoesOn v.setting p seat source v.number (put_word (number_in words) w (one_less m))
+              (known_told v act.Sub w (Some m) (Some (one_less m)))) here (sub_step p (number_in words) seat source v shown sees w can)),
           λ u f. (
             record { stops = p; at = number_in words; seat = seat; source = source; shown = shown; sees = sees; number_is = sym (number_here words u i f) },
             ap (λ (y : Word). Cpu (known_told v act.Sub y (Some n) (Some (one_less n)))) (one_cell w u i e f),
           ),
         ))
 
-    pub and_allowed : (w : Word) (i x : ℕ) → cell_of w ≡ Some i → Can (known me.0) (And w x) → Allows (Ruled k) slots id me i (λ n. bit_and n x) (masked (step slots i x 0 none) me)
+    pub and_allowed : (w : Word) (i x : ℕ) → cell_of w ≡ Some i → Can (known me.0) (And w x)
+        → Allows (Ruled k) slots id me i (λ n. bit_and n x) (masked (step slots i x 0 none) me)
     and_allowed w i x e can = steps i (λ n. bit_and n x) (AfterMask (step slots i x 0 none) me) (λ p seat source words shown wide sees.
         let n = get_or words i 0 in
         let here : number_in words w ≡ n = number_here words w i e in (
           known_entering (entering p w) v act.And w (Some n) (Some (bit_and n x)),
-          subst (λ (at : Word → ℕ). GoesOn v.setting p seat source v.number at (known_entering (entering p w) v act.And w (Some n) (Some (bit_and n x)))) (sym (stored_here words w i (bit_and n x) wide e))
-              (subst (λ m. GoesOn v.setting p seat source v.number (put_word (number_in words) w (bit_and m x)) (known_entering (entering p w) v act.And w (Some m) (Some (bit_and m x)))) here (and_step p (number_in words) seat source v shown sees w x can)),
+          subst (λ (at : Word → ℕ). GoesOn v.setting p seat source v.number at (known_entering (entering p w) v act.And w (Some n) (Some (bit_and n x))))
+              (sym (stored_here words w i (bit_and n x) wide e))
+              (subst (λ m. GoesOn v.setting p seat source v.number (put_word (number_in words) w (bit_and m x))
+              (known_entering (entering p w) v act.And w (Some m) (Some (bit_and m x)))) here
+              (and_step p (number_in words) seat source v shown sees w x can)),
           λ u f. (
             record { stops = p; at = number_in words; seat = seat; source = source; shown = shown; sees = sees; number_is = sym (number_here words u i f) },
             ap (λ (y : Word). Cpu (known_entering (entering p y) v act.And y (Some n) (Some (bit_and n x)))) (one_cell w u i e f),

@@ -1,5 +1,6 @@
 -- What a CPU keeps between two calls, and what a call leaves of its value.
-use Rattle.std.proofs.Common.{◌≡◌, ℕ, ℤ, Ok, ◌+◌, ◌<◌, ◌^◌, ◌==◌, nat_lt, Bool, true, false, cond, Option, Some, None, List, [], ◌∷◌, ◌++◌, length, inl, inr, sym, subst, refl, ap, ◌∙◌, arith, eq-eqb}
+use Rattle.std.proofs.Common.{◌≡◌, ℕ, ℤ, Ok, ◌+◌, ◌<◌, ◌^◌, ◌==◌, nat_lt, Bool, true, false, cond, Option, Some, None, List, [], ◌∷◌, ◌++◌, length, inl, inr}
+use Rattle.std.proofs.Common.{sym, subst, refl, ap, ◌∙◌, arith, eq-eqb}
 use Rattle.atomic_table.specs.Seated.{TableId}
 use Rattle.smp_mask.specs.Mask.{has}
 use Rattle.smp_words.specs.Size.{cpus}
@@ -32,25 +33,35 @@ use Rattle.smp_multi.specs.Seat.{SeatValue}
 use Rattle.smp_multi.specs.declared.func.Called.{Called}
 
 -- begin is not refused: the gate is held, the slot is closed, and the work is one that a stop may have
-pub not_refused : (nr : ℕ) (k : Setting) (cpu : ℕ) → cpu < cpus → ((c : ℕ) → has k.online c ≡ true → c < cpus) → has k.online cpu ≡ true → (holds is_open : Bool) (work : Work) → work.func < 2 ^ 16 →
-    begin_refusal (record { nr = nr; online = k.online; keys = k.labels.keys; sites = length k.labels.entries; holds_gate = holds }) work is_open ≡ None → (holds ≡ true) × (is_open ≡ false) × IsWork (setup_in k) work
+pub not_refused : (nr : ℕ) (k : Setting) (cpu : ℕ) → cpu < cpus → ((c : ℕ) → has k.online c ≡ true → c < cpus) → has k.online cpu ≡ true
+    → (holds is_open : Bool) (work : Work) → work.func < 2 ^ 16 →
+    begin_refusal (record { nr = nr; online = k.online; keys = k.labels.keys; sites = length k.labels.entries; holds_gate = holds }) work is_open ≡ None
+    → (holds ≡ true) × (is_open ≡ false) × IsWork (setup_in k) work
 not_refused nr k cpu low below online holds true work small e = cc
 not_refused nr k cpu low below online false false work small e = cc
 not_refused nr k cpu low below online true false work small e =
     let table : StopWords = record { gate = cpu + 1; slots = []; keys = []; entries = []; sites = [] } in
-    let value : StopsValue = record { nr = nr; online = k.online; labels = record { keys = k.labels.keys; entries = k.labels.entries }; table = table; controls = [] } in
-    let may = subst (λ (b : Bool). begin_refusal (record { nr = nr; online = k.online; keys = k.labels.keys; sites = length k.labels.entries; holds_gate = b }) work false ≡ None) (sym (eq-eqb (cpu + 1) (cpu + 1) refl)) e in
+    let value : StopsValue =
+    record { nr = nr; online = k.online; labels = record { keys = k.labels.keys; entries = k.labels.entries }; table = table; controls = [] } in
+    let may =
+    subst (λ (b : Bool). begin_refusal (record { nr = nr; online = k.online; keys = k.labels.keys; sites = length k.labels.entries; holds_gate = b })
+    work false ≡ None) (sym (eq-eqb (cpu + 1) (cpu + 1) refl)) e in
     (refl, refl, (begins_work value cpu low below online stop_outside work false refl small may).2)
 
 -- a CPU that begins
-pub begins_at : (t : TableId) (d : SeatValue) (number nr : ℕ) (k : Setting) (visit : Option Visit) (holds is_open : Bool) (work : Work) → IsKept d.known number visit holds is_open → d.table ≡ t → t.words ≡ cells → d.known.setting ≡ k → work.func < 2 ^ 16 →
-    (keys sites : ℕ) → keys ≡ k.labels.keys → sites ≡ length k.labels.entries → begin_refusal (record { nr = nr; online = k.online; keys = keys; sites = sites; holds_gate = holds }) work is_open ≡ None → Begins t d number work 0
+pub begins_at : (t : TableId) (d : SeatValue) (number nr : ℕ) (k : Setting) (visit : Option Visit) (holds is_open : Bool) (work : Work)
+    → IsKept d.known number visit holds is_open → d.table ≡ t → t.words ≡ cells → d.known.setting ≡ k → work.func < 2 ^ 16 →
+    (keys sites : ℕ) → keys ≡ k.labels.keys → sites ≡ length k.labels.entries
+    → begin_refusal (record { nr = nr; online = k.online; keys = keys; sites = sites; holds_gate = holds }) work is_open ≡ None → Begins t d number work 0
 begins_at t d number nr k visit holds is_open work kept table sized same small keys sites keys_are sites_are refused =
     let u = d.known.setting in
-    let none : begin_refusal (record { nr = nr; online = k.online; keys = k.labels.keys; sites = length k.labels.entries; holds_gate = holds }) work is_open ≡ None =
+    let none : begin_refusal (record { nr = nr; online = k.online; keys = k.labels.keys; sites = length k.labels.entries; holds_gate = holds }) work is_open
+    ≡ None =
     (λ i. begin_refusal (record { nr = nr; online = k.online; keys = sym keys_are i; sites = sym sites_are i; holds_gate = holds }) work is_open) ∙ refused in
-    let none' : begin_refusal (record { nr = nr; online = u.online; keys = u.labels.keys; sites = length u.labels.entries; holds_gate = holds }) work is_open ≡ None =
-    subst (λ (k : Setting). begin_refusal (record { nr = nr; online = k.online; keys = k.labels.keys; sites = length k.labels.entries; holds_gate = holds }) work is_open ≡ None) (sym same) none in
+    let none' : begin_refusal (record { nr = nr; online = u.online; keys = u.labels.keys; sites = length u.labels.entries; holds_gate = holds }) work is_open
+    ≡ None =
+    subst (λ (k : Setting). begin_refusal (record { nr = nr; online = k.online; keys = k.labels.keys; sites = length k.labels.entries; holds_gate = holds })
+    work is_open ≡ None) (sym same) none in
     let a = not_refused nr u number kept.below kept.lives.shown.setup.below kept.online holds is_open work small none' in
     let shut : OwnsIf false d.known.source = subst (λ b. OwnsIf b d.known.source) a.1 kept.owns in
     record {
@@ -68,10 +79,12 @@ pub is_free : (visit : Option Visit) (x : Seat) → SitsAtRest visit x → is_in
 is_free None x rests e = (refl, rests)
 is_free (Some v) x rests e = absurd (let bad : true ≡ false = sym (ap (λ (y : Seat). is_in (inside_of y)) rests.2) ∙ e in cc)
 
-pub kept_same : (v u : Known) (number : ℕ) (visit : Option Visit) (holds is_open : Bool) → IsKept v number visit holds is_open → u ≡ v → IsKept u number visit holds is_open
+pub kept_same : (v u : Known) (number : ℕ) (visit : Option Visit) (holds is_open : Bool) → IsKept v number visit holds is_open → u ≡ v
+    → IsKept u number visit holds is_open
 kept_same v u number visit holds is_open kept same = subst (λ (x : Known). IsKept x number visit holds is_open) (sym same) kept
 
-pub kept_entered : (v u : Known) (number : ℕ) (visit : Option Visit) (holds is_open : Bool) (x : Visit) (slot : ℕ) (work : Work) → IsKept v number visit holds is_open → u ≡ entered slot work v → IsVisitOf slot work x → slot < cpus → Lives u →
+pub kept_entered : (v u : Known) (number : ℕ) (visit : Option Visit) (holds is_open : Bool) (x : Visit) (slot : ℕ) (work : Work)
+    → IsKept v number visit holds is_open → u ≡ entered slot work v → IsVisitOf slot work x → slot < cpus → Lives u →
     IsKept u number (Some x) holds is_open
 kept_entered v u number visit holds is_open x slot work kept same of low lives = record {
   number_is = ap (λ (z : Known). z.number) same ∙ kept.number_is;
@@ -85,7 +98,8 @@ kept_entered v u number visit holds is_open x slot work kept same of low lives =
 }
 
 -- a CPU's value by what it knows
-pub entered_view : (d e : SeatValue) (slot : ℕ) (work : Work) → d.known.seat ≡ Free → e.table ≡ d.table → e.known ≡ entered slot work d.known → cpu_of e ≡ enters slot work (cpu_of d)
+pub entered_view : (d e : SeatValue) (slot : ℕ) (work : Work) → d.known.seat ≡ Free → e.table ≡ d.table → e.known ≡ entered slot work d.known
+    → cpu_of e ≡ enters slot work (cpu_of d)
 entered_view d e slot work free table same =
     (λ i. cpu_of (record { table = table i; known = same i })) ∙ ap (λ (b : Bool). record (enters slot work (cpu_of d)) { irq = b }) (sym (ap irq_of free))
 
@@ -100,16 +114,19 @@ no_phase v slot acked looked w l is one = at_zero (none (l.stops.now.stop slot).
     opened = is_open_inside cpus (l.stops.now.stop slot) (λ g. l.at (Slot slot g)) (l.shown.present.slots slot) v.number (Inside acked looked) st.1 refl
 
     none : (kind : Kind) → (l.stops.now.stop slot).work.kind ≡ kind → (l.stops.now.stop slot).phase ≡ 0
-    none kind e = subst (λ (k : Kind). IsPhaseOf k (l.stops.now.stop slot).phase) (ap (λ (x : Work). x.kind) st.3 ∙ one) ((l.shown.present.slots slot).shows opened).kinds
+    none kind e = subst (λ (k : Kind). IsPhaseOf k (l.stops.now.stop slot).phase) (ap (λ (x : Work). x.kind) st.3 ∙ one)
+        ((l.shown.present.slots slot).shows opened).kinds
 
     at_zero : (l.stops.now.stop slot).phase ≡ 0 → acked ≡ 0
-    at_zero e = let k = (keeps_inside cpus (l.stops.now.stop slot) (λ g. l.at (Slot slot g)) (l.shown.present.slots slot) v.number (Inside acked looked) st.1).1 in elim k [
-      | inl same ↦ same ∙ e
-      | inr more ↦ absurd (omega (arith, more, e))
-    ]
+    at_zero e = let k =
+        (keeps_inside cpus (l.stops.now.stop slot) (λ g. l.at (Slot slot g)) (l.shown.present.slots slot) v.number (Inside acked looked) st.1).1 in elim k [
+          | inl same ↦ same ∙ e
+          | inr more ↦ absurd (omega (arith, more, e))
+        ]
 
 -- a CPU that has run the function of a stop of one CPU
-pub ran_view : (d e : SeatValue) (slot : ℕ) (w : Work) (x : ℕ) → w.kind ≡ One → e.table ≡ d.table → e.known ≡ completed_with 0 slot w x d.known → cpu_of e ≡ answers slot x (runs (record { func = w.func; arg = w.arg; answer = x }) (cpu_of d))
+pub ran_view : (d e : SeatValue) (slot : ℕ) (w : Work) (x : ℕ) → w.kind ≡ One → e.table ≡ d.table → e.known ≡ completed_with 0 slot w x d.known
+    → cpu_of e ≡ answers slot x (runs (record { func = w.func; arg = w.arg; answer = x }) (cpu_of d))
 ran_view d e slot w x one table same =
     (λ i. cpu_of (record { table = table i; known = same i })) ∙
     ap (λ (k : Kind). cpu_of (record { table = d.table; known = completed_with 0 slot (record w { kind = k }) x d.known })) one
@@ -125,7 +142,14 @@ record HasLast (past : List Past) (r : ℕ) : Type 0 where
 has_last : (past : List Past) (rs : List ℕ) (r : ℕ) → AllPast past → results_of past ≡ rs ++ r ∷ [] → HasLast past r
 has_last [] [] r all e = cc
 has_last [] (z ∷ zs) r all e = cc
-has_last (x ∷ []) [] r all e = record { work = x.work; answer = x.answer; works = []; works_are = refl; is_result = (let same : x.result ≡ r = cc in subst (IsResult x.work.mask x.answer) same all.0) }
+has_last (x ∷ []) [] r all e =
+    record {
+      work = x.work;
+      answer = x.answer;
+      works = [];
+      works_are = refl;
+      is_result = (let same : x.result ≡ r = cc in subst (IsResult x.work.mask x.answer) same all.0);
+    }
 has_last (x ∷ []) (z ∷ []) r all e = cc
 has_last (x ∷ []) (z ∷ y ∷ zs) r all e = cc
 has_last (x ∷ y ∷ rest) [] r all e = cc
@@ -145,12 +169,15 @@ last_result v before r l shut is =
       answer = last.answer;
       works = last.works;
       results = before;
-      begun = sym l.sees.part_is.begun ∙ (h.1.begun_are ∙ (ap (λ b. works_of h.0 ++ cond b ((l.stops.now.stop v.number).work ∷ []) []) closed ∙ (append_none (works_of h.0) ∙ last.works_are)));
+      begun = sym l.sees.part_is.begun
+          ∙ (h.1.begun_are ∙ (ap (λ b. works_of h.0 ++ cond b ((l.stops.now.stop v.number).work ∷ []) []) closed
+          ∙ (append_none (works_of h.0) ∙ last.works_are)));
       collected = is;
       is_result = last.is_result;
     }
   where
-    closed_by : (y : Source) → SourceShows (setup_in v.setting) l.stops.gate (l.stops.now.stop v.number) (λ f. l.at (Slot v.number f)) v.number y → told_source y ≡ Shut → (l.stops.now.stop v.number).is_open ≡ false
+    closed_by : (y : Source) → SourceShows (setup_in v.setting) l.stops.gate (l.stops.now.stop v.number) (λ f. l.at (Slot v.number f)) v.number y
+        → told_source y ≡ Shut → (l.stops.now.stop v.number).is_open ≡ false
     closed_by Shut shows e = shows
     closed_by (Drafts w k) shows e = cc
     closed_by (Owns w) shows e = cc
@@ -161,7 +188,8 @@ last_result v before r l shut is =
     append_none (w ∷ ws) = ap (λ r. w ∷ r) (append_none ws)
 
 -- a CPU that has collected a result
-pub collected_view : (d e f : SeatValue) (r : ℕ) → e.known ≡ looked true d.known → f.table ≡ d.table → f.known ≡ collected r e.known → cpu_of f ≡ collects r (cpu_of d)
+pub collected_view : (d e f : SeatValue) (r : ℕ) → e.known ≡ looked true d.known → f.table ≡ d.table → f.known ≡ collected r e.known
+    → cpu_of f ≡ collects r (cpu_of d)
 collected_view d e f r one table two = (λ i. cpu_of (record { table = table i; known = (two ∙ ap (collected r) one) i }))
 
 -- a slot that may be entered is one of the table
@@ -169,7 +197,8 @@ pub low_slot : (nr slot : ℕ) → has_slot nr slot ≡ true → slot < cpus
 low_slot nr slot e = ltb-true slot cpus (and_parts (nat_lt slot cpus) _ e).0
 
 -- the answer of a CPU that has entered
-pub enters_answer : (t : TableValue) (d e : SeatValue) (slot : ℕ) (work : Work) (visit : Visit) → d.known.seat ≡ Free → has_slot t.nr slot ≡ true → e.table ≡ d.table → e.known ≡ entered slot work d.known → IsCalled d.known slot work → IsVisitOf slot work visit →
+pub enters_answer : (t : TableValue) (d e : SeatValue) (slot : ℕ) (work : Work) (visit : Visit) → d.known.seat ≡ Free → has_slot t.nr slot ≡ true
+    → e.table ≡ d.table → e.known ≡ entered slot work d.known → IsCalled d.known slot work → IsVisitOf slot work visit →
     Enters t slot (cpu_of d) (cpu_of e) visit.kind
 enters_answer t d e slot work visit free there table same called of = record {
   work = work;
@@ -182,7 +211,8 @@ enters_answer t d e slot work visit free there table same called of = record {
 }
 
 -- a CPU that is to run the function of a stop of one CPU
-pub at_one : (t : TableId) (d : SeatValue) (number : ℕ) (visit : Visit) (holds is_open : Bool) → IsKept d.known number (Some visit) holds is_open → visit.kind ≡ One → d.table ≡ t → t.words ≡ cells → AtOne t d visit.slot
+pub at_one : (t : TableId) (d : SeatValue) (number : ℕ) (visit : Visit) (holds is_open : Bool) → IsKept d.known number (Some visit) holds is_open
+    → visit.kind ≡ One → d.table ≡ t → t.words ≡ cells → AtOne t d visit.slot
 at_one t d number visit holds is_open kept one table sized =
     let w = kept.rests.0 in
     let kind : w.kind ≡ One = sym kept.rests.1.kind ∙ one in
@@ -202,8 +232,10 @@ at_one t d number visit holds is_open kept one table sized =
     owned_idle false y o = ap is_drafting o
 
 -- its answer
-pub run_answers : {F : Type 0} (leads : F → Called → F → Type 0) (d e : SeatValue) (number : ℕ) (visit : Visit) (holds is_open : Bool) (before after : F) (v : ℤ) → IsKept d.known number (Some visit) holds is_open → visit.kind ≡ One →
-    e.table ≡ d.table → e.known ≡ completed_with 0 visit.slot (work_in d.known.seat) (answer_word v) d.known → leads before (called_by d.known v) after → RunAnswers leads (cpu_of d) (cpu_of e) before after (Ok v)
+pub run_answers : {F : Type 0} (leads : F → Called → F → Type 0) (d e : SeatValue) (number : ℕ) (visit : Visit) (holds is_open : Bool) (before after : F)
+    (v : ℤ) → IsKept d.known number (Some visit) holds is_open → visit.kind ≡ One →
+    e.table ≡ d.table → e.known ≡ completed_with 0 visit.slot (work_in d.known.seat) (answer_word v) d.known → leads before (called_by d.known v) after
+    → RunAnswers leads (cpu_of d) (cpu_of e) before after (Ok v)
 run_answers {F} leads d e number visit holds is_open before after v kept one table same heard =
     let w = kept.rests.0 in
     let kind : w.kind ≡ One = sym kept.rests.1.kind ∙ one in
@@ -214,10 +246,18 @@ run_answers {F} leads d e number visit holds is_open before after v kept one tab
     )
 
 -- a CPU that has collected: its stop was open, and the result is the last
-pub poll_answers : (d e f : SeatValue) (number : ℕ) (visit : Option Visit) (holds : Bool) (word : ℕ) (v : ℤ) → IsKept d.known number visit holds true → e.known ≡ looked true d.known → f.table ≡ d.table → f.known ≡ collected word e.known → Lives f.known → v ≡ answer_in word →
+pub poll_answers : (d e f : SeatValue) (number : ℕ) (visit : Option Visit) (holds : Bool) (word : ℕ) (v : ℤ) → IsKept d.known number visit holds true
+    → e.known ≡ looked true d.known → f.table ≡ d.table → f.known ≡ collected word e.known → Lives f.known → v ≡ answer_in word →
     PollAnswers (cpu_of d) (cpu_of f) (Ok (Some v))
 poll_answers d e f number visit holds word v kept one table two lives is =
     let all = two ∙ ap (collected word) one in (
-      (λ (none : pending_of d.known.source ≡ None). let some : pending_of d.known.source ≡ Some kept.owns.0 = ap pending_of kept.owns.1 in let bad : None ≡ Some kept.owns.0 = sym none ∙ some in cc),
-      (word, is, collected_view d e f word one table two, last_result f.known d.known.part.collected word lives (ap (λ (z : Known). z.source) all) (ap (λ (z : Known). z.part.collected) all)),
+      (λ (none : pending_of d.known.source ≡ None). let some : pending_of d.known.source ≡ Some kept.owns.0 = ap pending_of kept.owns.1 in
+          let bad : None ≡ Some kept.owns.0 = sym none ∙ some in cc),
+      (
+        word,
+        is,
+        collected_view d e f word one table two,
+        last_result f.known d.known.part.collected word lives (ap (λ (z : Known). z.source) all)
+            (ap (λ (z : Known). z.part.collected) all),
+      ),
     )

@@ -32,7 +32,8 @@ module _ (t : TableId) (d : SeatValue) (number : ℕ) where
     apart = tt;
   }
 
-  pub known_done : (found : ℕ) → IsOwner t d number → (b : Bool) → b ≡ not (found == 0) → record (d.known) { source = done_by found d.known.source } ≡ looked b d.known
+  pub known_done : (found : ℕ) → IsOwner t d number → (b : Bool) → b ≡ not (found == 0)
+      → record (d.known) { source = done_by found d.known.source } ≡ looked b d.known
   known_done found a b e = ap (λ (y : Source). record (d.known) { source = done_by found y }) a.owns ∙ (go (found == 0) ∙ ap (λ c. looked c d.known) (sym e))
     where
       go : (c : Bool) → record (d.known) { source = cond c (Owns (own_work d.known.source)) (Collects (own_work d.known.source)) } ≡ looked (not c) d.known

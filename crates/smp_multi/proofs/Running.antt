@@ -10,7 +10,8 @@ use Rattle.smp_stop_steps.specs.Sources.{SourceShows, IsWork}
 use Rattle.smp_stop_steps.specs.Stop.{Inside}
 use Rattle.smp_stop_steps.proofs.Phases.{is_open_inside}
 use Rattle.smp_words.specs.Size.{cpus}
-use Rattle.smp_multi.specs.Names.{Work, Kind, One, StopCall, Calling, Calls, Idle, Slot, Field, Load, Store, Sub, Seat, In, Gives, Rests, Source, Shut, Drafts, Owns, Collects, Known}
+use Rattle.smp_multi.specs.Names.{Work, Kind, One, StopCall, Calling, Calls, Idle, Slot, Field, Load, Store, Sub, Seat, In, Gives, Rests, Source, Shut, Drafts}
+use Rattle.smp_multi.specs.Names.{Owns, Collects, Known}
 use Rattle.smp_multi.specs.Names.field
 use Rattle.smp_multi.specs.Completes.{AtClose}
 use Rattle.smp_multi.specs.Places.{work_in}
@@ -46,12 +47,19 @@ calls_some f call e none = absurd (no_call (sym e ∙ none))
     no_call x = cc
 
 pub called_some : (u v : Known) → u ≡ calls_now v → u.part.calling ≢ Idle
-called_some u v same = calls_some u.part.calling (record { func = (work_in v.seat).func; arg = (work_in v.seat).arg; answer = 0 }) (ap (λ (k : Known). k.part.calling) same)
+called_some u v same = calls_some u.part.calling (record { func = (work_in v.seat).func; arg = (work_in v.seat).arg; answer = 0 })
+    (ap (λ (k : Known). k.part.calling) same)
 
 module _ (t : TableId) (d : SeatValue) (slot : ℕ) where
   pub ready_arg : AtOne t d slot → Ready t d (Load (Slot slot field.Arg))
   ready_arg a = record {
-    able = record { table_is = a.table_is; sized = a.sized; can = record { move = LoadArg slot (work_in d.known.seat) 0 0; may = a.seat_is; is_access = refl }; cell = slot_cell slot field.Arg a.low };
+    able =
+        record {
+          table_is = a.table_is;
+          sized = a.sized;
+          can = record { move = LoadArg slot (work_in d.known.seat) 0 0; may = a.seat_is; is_access = refl };
+          cell = slot_cell slot field.Arg a.low;
+        };
     apart = tt;
   }
 
@@ -67,7 +75,13 @@ module _ (t : TableId) (d : SeatValue) (slot : ℕ) where
 
   pub ready_field : (f : Field) → AtOne t d slot → IsPlain f → Ready t d (Load (Slot slot f))
   ready_field f a plain = record {
-    able = record { table_is = a.table_is; sized = a.sized; can = record { move = LoadField slot f; may = plain; is_access = refl }; cell = slot_cell slot f a.low };
+    able =
+        record {
+          table_is = a.table_is;
+          sized = a.sized;
+          can = record { move = LoadField slot f; may = plain; is_access = refl };
+          cell = slot_cell slot f a.low;
+        };
     apart = tt;
   }
 
@@ -105,8 +119,20 @@ module _ (t : TableId) (d : SeatValue) (slot : ℕ) where
   able_count x w a = go (x == 0) a.seat_is
     where
       go : (b : Bool) → d.known.seat ≡ cond b (In slot w 0 0 Rests) (Gives slot w 0 x) → Able t d (Sub (Slot slot field.Todo))
-      go true is = record { table_is = a.table_is; sized = a.sized; can = record { move = Count slot w 0 0; may = (is, inr a.one, a.low, λ one. a.calls); is_access = refl }; cell = slot_cell slot field.Todo a.low }
-      go false is = record { table_is = a.table_is; sized = a.sized; can = record { move = CountGiven slot w 0 x; may = (is, a.low); is_access = refl }; cell = slot_cell slot field.Todo a.low }
+      go true is =
+          record {
+            table_is = a.table_is;
+            sized = a.sized;
+            can = record { move = Count slot w 0 0; may = (is, inr a.one, a.low, λ one. a.calls); is_access = refl };
+            cell = slot_cell slot field.Todo a.low;
+          }
+      go false is =
+          record {
+            table_is = a.table_is;
+            sized = a.sized;
+            can = record { move = CountGiven slot w 0 x; may = (is, a.low); is_access = refl };
+            cell = slot_cell slot field.Todo a.low;
+          }
 
   pub known_count : (x found : ℕ) (w : Work) → AtGiven t d slot x w → completed_by found d.known.seat d.known ≡ completed_with found slot w x d.known
   known_count x found w a = ap (λ (y : Seat). completed_by found y d.known) a.seat_is ∙ go (x == 0) refl
@@ -115,7 +141,8 @@ module _ (t : TableId) (d : SeatValue) (slot : ℕ) where
       go true e = ap (λ n. completed_with found slot w n d.known) (sym (eqb-true x 0 e))
       go false e = refl
 
-  pub at_close : (e : SeatValue) (x found : ℕ) (w : Work) → AtGiven t d slot x w → e.table ≡ t → e.known ≡ completed_with found slot w x d.known → AtClose t e slot found
+  pub at_close : (e : SeatValue) (x found : ℕ) (w : Work) → AtGiven t d slot x w → e.table ≡ t → e.known ≡ completed_with found slot w x d.known
+      → AtClose t e slot found
   at_close e x found w a table same = record {
     table_is = table;
     sized = a.sized;

@@ -1,5 +1,6 @@
 -- The table as it is made: its words show that nothing was begun, and each CPU knows its part of that.
-use Rattle.std.proofs.Common.{◌≡◌, ℕ, zero, suc, ◌+◌, ◌-◌, ◌*◌, ◌<◌, ◌≤◌, nat_lt, ltb-true, ltb-false, Bool, true, false, cond, Option, Some, None, option_map, List, [], ◌∷◌, ◌++◌, length, length-append, map, get_or, replicate, sym, subst, refl, ap, ◌∙◌, arith}
+use Rattle.std.proofs.Common.{◌≡◌, ℕ, zero, suc, ◌+◌, ◌-◌, ◌*◌, ◌<◌, ◌≤◌, nat_lt, ltb-true, ltb-false, Bool, true, false, cond, Option, Some, None, option_map}
+use Rattle.std.proofs.Common.{List, [], ◌∷◌, ◌++◌, length, length-append, map, get_or, replicate, sym, subst, refl, ap, ◌∙◌, arith}
 use mathlib.Core.Option.{some, some-injective, some-ne-none}
 use lib.ListN.{get_elem?}
 use Rattle.std.proofs.lemmas.List.{length-map, length-replicate, get_or_append_left}
@@ -48,12 +49,14 @@ site_words {A} f es l =
     let c = length-replicate {A = ℕ} (MOST_SITES - length es) 0 in omega arith
 
 -- the number at a cell, where there is one
-number_if : (b : Bool) (x place n : ℕ) (words : List ℕ) → (b ≡ true → get_or words place 0 ≡ n) → (b ≡ false → n ≡ 0) → number_at words (option_map (λ _. place) (cond b (Some x) None)) ≡ n
+number_if : (b : Bool) (x place n : ℕ) (words : List ℕ) → (b ≡ true → get_or words place 0 ≡ n) → (b ≡ false → n ≡ 0)
+    → number_at words (option_map (λ _. place) (cond b (Some x) None)) ≡ n
 number_if true x place n words there absent = there refl
 number_if false x place n words there absent = sym (absent refl)
 
 -- the words of a table, as they are laid: zeros, the entries, and the sites
-module _ (zeros entries sites : List ℕ) (all : (i : ℕ) → get_or zeros i 0 ≡ 0) (n0 : length zeros ≡ FIRST_ENTRY) (ne : length entries ≡ MOST_SITES) (ns : length sites ≡ MOST_SITES) (n1 : length (zeros ++ entries) ≡ FIRST_SITE) where
+module _ (zeros entries sites : List ℕ) (all : (i : ℕ) → get_or zeros i 0 ≡ 0) (n0 : length zeros ≡ FIRST_ENTRY) (ne : length entries ≡ MOST_SITES)
+    (ns : length sites ≡ MOST_SITES) (n1 : length (zeros ++ entries) ≡ FIRST_SITE) where
   abbrev words : List ℕ
   words = (zeros ++ entries) ++ sites
 
@@ -70,11 +73,13 @@ module _ (zeros entries sites : List ℕ) (all : (i : ℕ) → get_or zeros i 0 
   site_here : (i : ℕ) → i < MOST_SITES → get_or ((zeros ++ entries) ++ sites) (FIRST_SITE + i) 0 ≡ get_or sites i 0
   site_here i l = back (zeros ++ entries) sites i (FIRST_SITE + i) (omega arith)
 
-  word_same : (w : Word) → number_in ((zeros ++ entries) ++ sites) w ≡ stop_number (record { gate = 0; slots = replicate SLOT_WORDS 0; keys = replicate MOST_KEYS 0; entries = entries; sites = sites }) w
+  word_same : (w : Word) → number_in ((zeros ++ entries) ++ sites) w ≡ stop_number
+      (record { gate = 0; slots = replicate SLOT_WORDS 0; keys = replicate MOST_KEYS 0; entries = entries; sites = sites }) w
   word_same Gate = zero_here 0 (omega arith)
   word_same (Slot s f) =
       number_if (nat_lt s NR_CPUS) _ (place_of (Slot s f)) 0 ((zeros ++ entries) ++ sites)
-      (λ e. let l = ltb-true s NR_CPUS e in let m = offset_low f in zero_here (place_of (Slot s f)) (omega arith)) (λ _. refl) ∙ sym (zero_at SLOT_WORDS (slot_cell s f))
+      (λ e. let l = ltb-true s NR_CPUS e in let m = offset_low f in zero_here (place_of (Slot s f)) (omega arith)) (λ _. refl)
+      ∙ sym (zero_at SLOT_WORDS (slot_cell s f))
   word_same (Key k) =
       number_if (nat_lt k MOST_KEYS) _ (place_of (Key k)) 0 ((zeros ++ entries) ++ sites)
       (λ e. let l = ltb-true k MOST_KEYS e in zero_here (place_of (Key k)) (omega arith)) (λ _. refl) ∙ sym (get_or-same 0 MOST_KEYS k)
@@ -86,37 +91,47 @@ module _ (zeros entries sites : List ℕ) (all : (i : ℕ) → get_or zeros i 0 
       (λ e. site_here i (ltb-true i MOST_SITES e)) (λ e. past sites i (let l = ltb-false i MOST_SITES e in omega arith))
   word_same _ = refl
 
-  laid_shown : (k : Setting) (nr : ℕ) → AreLimits nr k.online → AreLabels k.labels.keys k.labels.entries → entries ≡ map entry_word k.labels.entries ++ replicate (MOST_SITES - length k.labels.entries) 0 →
+  laid_shown : (k : Setting) (nr : ℕ) → AreLimits nr k.online → AreLabels k.labels.keys k.labels.entries
+      → entries ≡ map entry_word k.labels.entries ++ replicate (MOST_SITES - length k.labels.entries) 0 →
       IsLawful (labels_in (stop_number (record { gate = 0; slots = replicate SLOT_WORDS 0; keys = replicate MOST_KEYS 0; entries = entries; sites = sites }))) →
       StopShows (setup_in k) no_stops (number_in ((zeros ++ entries) ++ sites)) (λ _. Free) (λ _. Shut)
   laid_shown k nr limits are is lawful =
       let t : StopWords = record { gate = 0; slots = replicate SLOT_WORDS 0; keys = replicate MOST_KEYS 0; entries = entries; sites = sites } in
-      let shown = opened_shown k.online k.labels t (replicate cpus stop_outside) limits.member (λ c e. let low = limits.below c e in let few = limits.within in omega arith) are refl refl is lawful refl refl in
+      let shown = opened_shown k.online k.labels t (replicate cpus stop_outside) limits.member
+      (λ c e. let low = limits.below c e in let few = limits.within in omega arith) are refl refl is lawful refl refl in
       subst (λ (at : Word → ℕ). StopShows (setup_in k) no_stops at (λ _. Free) (λ _. Shut)) (λ i w. sym (word_same w) i)
-      (no_stops_shown (setup_in k) (stop_number t) shown.shows.setup refl (λ s. zero_at SLOT_WORDS (slot_cell s field.Roll)) shown.shows.present.entries lawful (λ j. get_or-same 0 MOST_KEYS j))
+      (no_stops_shown (setup_in k) (stop_number t) shown.shows.setup refl (λ s. zero_at SLOT_WORDS (slot_cell s field.Roll)) shown.shows.present.entries lawful
+      (λ j. get_or-same 0 MOST_KEYS j))
 
 -- what the table is made of
 pub record AreLaid (k : Setting) (nr : ℕ) (entries sites : List ℕ) : Type 0 where
   pub limits : AreLimits nr k.online
   pub labels : AreLabels k.labels.keys k.labels.entries
   pub entries_are : entries ≡ map entry_word k.labels.entries ++ replicate (MOST_SITES - length k.labels.entries) 0
-  pub lawful : IsLawful (labels_in (stop_number (record { gate = 0; slots = replicate SLOT_WORDS 0; keys = replicate MOST_KEYS 0; entries = entries; sites = sites })))
+  pub lawful : IsLawful (labels_in
+      (stop_number (record { gate = 0; slots = replicate SLOT_WORDS 0; keys = replicate MOST_KEYS 0; entries = entries; sites = sites })))
   pub entries_sized : length entries ≡ MOST_SITES
   pub sites_sized : length sites ≡ MOST_SITES
 
-pub are_laid : (k : Setting) (nr : ℕ) (keys entries sites : List ℕ) → AreLimits nr k.online → AreLabels k.labels.keys k.labels.entries → keys ≡ replicate MOST_KEYS 0 →
-    entries ≡ map entry_word k.labels.entries ++ replicate (MOST_SITES - length k.labels.entries) 0 → sites ≡ map first_site k.labels.entries ++ replicate (MOST_SITES - length k.labels.entries) 0 →
-    IsLawful (labels_in (stop_number (record { gate = 0; slots = replicate SLOT_WORDS 0; keys = keys; entries = entries; sites = sites }))) → AreLaid k nr entries sites
+pub are_laid : (k : Setting) (nr : ℕ) (keys entries sites : List ℕ) → AreLimits nr k.online → AreLabels k.labels.keys k.labels.entries
+    → keys ≡ replicate MOST_KEYS 0 →
+    entries ≡ map entry_word k.labels.entries ++ replicate (MOST_SITES - length k.labels.entries) 0
+    → sites ≡ map first_site k.labels.entries ++ replicate (MOST_SITES - length k.labels.entries) 0 →
+    IsLawful (labels_in (stop_number (record { gate = 0; slots = replicate SLOT_WORDS 0; keys = keys; entries = entries; sites = sites })))
+    → AreLaid k nr entries sites
 are_laid k nr keys entries sites limits labels off entries_are sites_are lawful = record {
   limits = limits;
   labels = labels;
   entries_are = entries_are;
-  lawful = subst (λ (ks : List ℕ). IsLawful (labels_in (stop_number (record { gate = 0; slots = replicate SLOT_WORDS 0; keys = ks; entries = entries; sites = sites })))) off lawful;
+  lawful =
+      subst (λ (ks : List ℕ). IsLawful
+      (labels_in (stop_number (record { gate = 0; slots = replicate SLOT_WORDS 0; keys = ks; entries = entries; sites = sites })))) off lawful;
   entries_sized = ap length entries_are ∙ site_words entry_word _ labels.few_sites;
   sites_sized = ap length sites_are ∙ site_words first_site _ labels.few_sites;
 }
 
-pub shows_none : (k : Setting) (nr : ℕ) (entries sites : List ℕ) → AreLaid k nr entries sites → StopShows (setup_in k) no_stops (number_in ((replicate FIRST_ENTRY 0 ++ entries) ++ sites)) (λ _. Free) (λ _. Shut)
+pub shows_none : (k : Setting) (nr : ℕ) (entries sites : List ℕ) → AreLaid k nr entries sites
+    → StopShows (setup_in k) no_stops (number_in ((replicate FIRST_ENTRY 0 ++ entries) ++ sites)) (λ _. Free) (λ _. Shut)
 shows_none k nr entries sites a =
     let zeros : List ℕ = replicate FIRST_ENTRY 0 in
     let n0 : length zeros ≡ FIRST_ENTRY = length-replicate {A = ℕ} FIRST_ENTRY 0 in
@@ -135,7 +150,8 @@ lives_fresh k nr entries sites a cpu low = record {
   sees = fresh_sees k cpu low;
 }
 
-pub starts : {S : Type 0} (k : Setting) (nr : ℕ) (entries sites : List ℕ) → AreLaid k nr entries sites → Ruled {S = S} k (opening ((replicate FIRST_ENTRY 0 ++ entries) ++ sites) [] (Maker 0 k))
+pub starts : {S : Type 0} (k : Setting) (nr : ℕ) (entries sites : List ℕ) → AreLaid k nr entries sites
+    → Ruled {S = S} k (opening ((replicate FIRST_ENTRY 0 ++ entries) ++ sites) [] (Maker 0 k))
 starts {S} k nr entries sites a =
     let zeros : List ℕ = replicate FIRST_ENTRY 0 in
     let n0 : length zeros ≡ FIRST_ENTRY = length-replicate {A = ℕ} FIRST_ENTRY 0 in

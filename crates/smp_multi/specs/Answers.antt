@@ -15,7 +15,8 @@ use Rattle.smp_multi.specs.Running.{called}
 
 -- begin: it is refused just as the pure machine refuses it, and its work is one that a stop may have
 abbrev pub BeginAnswers : TableValue → CpuValue → CpuValue → Work → Result Unit SmpError → Type 0
-BeginAnswers t old new work (Ok u) = (begin_refusal (terms_of t old) work (is_pending old.pending) ≡ None) × IsWork (setup_in t.setting) work × (new ≡ begins work old)
+BeginAnswers t old new work (Ok u) = (begin_refusal (terms_of t old) work (is_pending old.pending) ≡ None) × IsWork (setup_in t.setting) work
+    × (new ≡ begins work old)
 BeginAnswers t old new work (Err e) = (begin_refusal (terms_of t old) work (is_pending old.pending) ≡ Some e) × (new ≡ old)
 
 -- enter: the stop calls the CPU, which is in none; in the CPU's own slot it is its own stop

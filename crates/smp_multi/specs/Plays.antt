@@ -19,14 +19,17 @@ module _ {S : Type 0} where
   AfterStore st m n m' = let v = known m.0 in (w : Word) → cell_of w ≡ Some st.word → m'.0 ≡ Cpu (known_told v act.Store w None (Some st.first))
 
   abbrev pub AfterExchange : Step S → Me S SeatView → ℕ → Me S SeatView → Type 0
-  AfterExchange st m n m' = let v = known m.0 in (w : Word) → cell_of w ≡ Some st.word → Moment v w n × (m'.0 ≡ Cpu (known_told v act.Cas w (Some n) (if n == st.first then Some st.second else None)))
+  AfterExchange st m n m' = let v = known m.0 in (w : Word) → cell_of w ≡ Some st.word
+      → Moment v w n × (m'.0 ≡ Cpu (known_told v act.Cas w (Some n) (if n == st.first then Some st.second else None)))
 
   abbrev pub AfterSubtract : Step S → Me S SeatView → ℕ → Me S SeatView → Type 0
-  AfterSubtract st m n m' = let v = known m.0 in (w : Word) → cell_of w ≡ Some st.word → Moment v w n × (m'.0 ≡ Cpu (known_told v act.Sub w (Some n) (Some (one_less n))))
+  AfterSubtract st m n m' = let v = known m.0 in (w : Word) → cell_of w ≡ Some st.word
+      → Moment v w n × (m'.0 ≡ Cpu (known_told v act.Sub w (Some n) (Some (one_less n))))
 
   -- the work of the stop that is entered is that of the stops at that moment
   abbrev pub AfterMask : Step S → Me S SeatView → ℕ → Me S SeatView → Type 0
-  AfterMask st m n m' = let v = known m.0 in (w : Word) → cell_of w ≡ Some st.word → (t : Moment v w n) × (m'.0 ≡ Cpu (known_entering (entering t.stops w) v act.And w (Some n) (Some (bit_and n st.first))))
+  AfterMask st m n m' = let v = known m.0 in (w : Word) → cell_of w ≡ Some st.word
+      → (t : Moment v w n) × (m'.0 ≡ Cpu (known_entering (entering t.stops w) v act.And w (Some n) (Some (bit_and n st.first))))
 
   abbrev pub loaded : Step S → Me S SeatView → ℕ → Me S SeatView → Type 0
   loaded st m n m' = Lives (known m'.0) × AfterLoad st m n m'

@@ -33,7 +33,8 @@ impl<A: Allocator> StopBoot<A> {
     /// does not wait.
     pub fn cpu(&mut self, cpu: u32) -> Result<StopCpu, SmpError>
         ensures ok { IfOk result (λ c. (has self.old.online cpu ≡ true) × (left_at self.old cpu ≡ Some c) × (self.new ≡ given cpu self.old)) }
-        ensures err { IfErr result (λ e. ((e ≡ SmpError.NoCpu) × (has self.old.online cpu ≡ false)) ⊎ ((e ≡ SmpError.Busy) × (has self.old.online cpu ≡ true) × (left_at self.old cpu ≡ None))) }
+        ensures err { IfErr result (λ e. ((e ≡ SmpError.NoCpu) × (has self.old.online cpu ≡ false))
+            ⊎ ((e ≡ SmpError.Busy) × (has self.old.online cpu ≡ true) × (left_at self.old cpu ≡ None))) }
         ensures kept { IfErr result (λ e. self.new ≡ self.old) }
     {
         if !self.online.contains(cpu) {

@@ -20,7 +20,8 @@ fn take_bit(words: &Words, seat: &mut CpuSeat, number: u32, slot: u32) -> bool
     requires low { slot < cpus }
     ensures table { seat.new.table ≡ words.now.table_id }
     ensures lives { Lives seat.new.known }
-    ensures known { (work : Work) × (seat.new.known ≡ if result then entered slot work seat.old.known else seat.old.known) × (result ≡ true → IsCalled seat.old.known slot work) }
+    ensures known { (work : Work) × (seat.new.known ≡ if result then entered slot work seat.old.known else seat.old.known)
+        × (result ≡ true → IsCalled seat.old.known slot work) }
 {
     let found = mask(words, seat, Word::Slot(slot, Field::Roll), !(1 << number));
     has_bit(found, number)
@@ -53,7 +54,8 @@ pub(crate) fn enter(words: &Words, seat: &mut CpuSeat, number: u32, slot: u32) -
     requires low { slot < cpus }
     ensures table { seat.new.table ≡ words.now.table_id }
     ensures lives { Lives seat.new.known }
-    ensures known { MatchOption result (seat.new.known ≡ seat.old.known) (λ visit. (work : Work) × (seat.new.known ≡ entered slot work seat.old.known) × IsCalled seat.old.known slot work × IsVisitOf slot work visit) }
+    ensures known { MatchOption result (seat.new.known ≡ seat.old.known) (λ visit. (work : Work) × (seat.new.known ≡ entered slot work seat.old.known)
+        × IsCalled seat.old.known slot work × IsVisitOf slot work visit) }
 {
     if take_bit(words, seat, number, slot) {
         Some(load_visit(words, seat, slot))

@@ -142,7 +142,8 @@ pub(crate) fn mask(words: &Words, seat: &mut CpuSeat, word: Word, number: u64) -
     requires { Ready words.now.table_id seat.old (access.And word number) }
     ensures table { seat.new.table ≡ words.now.table_id }
     ensures lives { Lives seat.new.known }
-    ensures known { (t : Moment seat.old.known word result) × (seat.new.known ≡ known_entering (entering t.stops word) seat.old.known act.And word (Some result) (Some (bit_and result number))) }
+    ensures known { (t : Moment seat.old.known word result) × (seat.new.known ≡ known_entering (entering t.stops word) seat.old.known act.And word
+        (Some result) (Some (bit_and result number))) }
 {
     words.fetch_and::<Masked>(&mut seat.raw, cell(word), number)
 }

@@ -74,7 +74,8 @@ fn lay<A: Allocator>(
 where
     A: Copy,
     requires { AreLimits nr setting.now.online }
-    ensures made { IfOk result (λ t. (t.0.shared.table_id.words ≡ cells) × (t.0.shared.table_id.slots ≡ 0) × (t.0.shared.key ≡ setting.now) × (t.1.table_id ≡ t.0.shared.table_id) × (t.1.me.0 ≡ Maker 0 setting.now)) }
+    ensures made { IfOk result (λ t. (t.0.shared.table_id.words ≡ cells) × (t.0.shared.table_id.slots ≡ 0) × (t.0.shared.key ≡ setting.now)
+        × (t.1.table_id ≡ t.0.shared.table_id) × (t.1.me.0 ≡ Maker 0 setting.now)) }
     ensures lives { IfOk result (λ _. (cpu : ℕ) → cpu < cpus → Lives (fresh setting.now cpu)) }
 {
     let labels = setting.labels.words();

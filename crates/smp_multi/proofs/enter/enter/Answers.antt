@@ -8,5 +8,7 @@ returns-then-take_bit-clause-known c =
     let k = c.take_bit.ensures.known in
     let v = c.args.seat.now.known in
     let known = k.1 ∙ ap (λ b. cond b (entered c.args.slot k.0 v) v) c.if-take_bit.true in
-    let visit = c.load_visit.ensures.visit k.0 record { table_is = c.take_bit.ensures.table; sized = c.requires.free.seated.sized; low = c.requires.low; seat_is = ap (λ (v : Known). v.seat) known } in
+    let visit =
+    c.load_visit.ensures.visit k.0 record
+    { table_is = c.take_bit.ensures.table; sized = c.requires.free.seated.sized; low = c.requires.low; seat_is = ap (λ (v : Known). v.seat) known } in
     (k.0, c.load_visit.ensures.known ∙ known, k.2 c.if-take_bit.true, visit)

@@ -8,7 +8,8 @@ pub load-kind-requires : goal.load-kind-requires
 load-kind-requires c = ready_plain _ _ c.args.slot c.requires.0 field.Kind c.requires.1 tt
 
 pub load-mask-requires : goal.load-mask-requires
-load-mask-requires c = ready_plain _ _ c.args.slot c.requires.0 field.Mask (entered_moved _ _ _ c.args.slot c.requires.0 c.requires.1 c.load-kind.ensures.table c.load-kind.ensures.known) tt
+load-mask-requires c = ready_plain _ _ c.args.slot c.requires.0 field.Mask
+    (entered_moved _ _ _ c.args.slot c.requires.0 c.requires.1 c.load-kind.ensures.table c.load-kind.ensures.known) tt
 
 pub load-active-requires : goal.load-active-requires
 load-active-requires c = ready_plain _ _ c.args.slot c.requires.0 field.Active

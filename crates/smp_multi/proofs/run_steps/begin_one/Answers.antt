@@ -35,8 +35,7 @@ returns-clause-call g c =
     let m = one_moved _ _ _ c.args.slot c.requires c.load-number.ensures.table c.load-number.ensures.known in
     let same = sym (returns-clause-known g c) in
     let func = finds_func _ c.args.slot _ a.seat_is c.load-number.result c.load-number.ensures.then in
-    let arg = finds_arg _ c.args.slot _ m.seat_is c.load-arg.result c.load-arg.ensures.then in
-    (
+    let arg = finds_arg _ c.args.slot _ m.seat_is c.load-arg.result c.load-arg.ensures.then in (
       func ∙ ap (λ (v : Known). (work_in v.seat).func) same,
       arg ∙ (ap (λ (v : Known). (work_in v.seat).arg) c.load-number.ensures.known ∙ ap (λ (v : Known). (work_in v.seat).arg) same),
     )

@@ -20,7 +20,8 @@ pub invariant_of-me : goal.invariant_of-me
 invariant_of-me g c = elim c.match-enter.branch [
   | in-Some w ↦ let k = w.in-Some.ensures.known in
       subst (λ (m : Inside). IsKept m.seat.known m.number m.visit m.holds m.is_open) (sym w.me-inside-is)
-      (kept_entered _ _ c.me.inside.number c.me.inside.visit c.me.inside.holds c.me.inside.is_open w.in-Some.visit c.args.slot k.0 c.me.invariant k.1 k.3 (low_slot c.self.inside.nr c.args.slot (there g c)) c.enter.ensures.lives)
+      (kept_entered _ _ c.me.inside.number c.me.inside.visit c.me.inside.holds c.me.inside.is_open w.in-Some.visit c.args.slot k.0 c.me.invariant k.1 k.3
+      (low_slot c.self.inside.nr c.args.slot (there g c)) c.enter.ensures.lives)
   | in-None w ↦ subst (λ (m : Inside). IsKept m.seat.known m.number m.visit m.holds m.is_open) (sym w.me-inside-is)
       (kept_same _ _ c.me.inside.number c.me.inside.visit c.me.inside.holds c.me.inside.is_open c.me.invariant w.in-None.ensures.known)
 ]
@@ -29,12 +30,18 @@ pub returns-clause-ok : goal.returns-clause-ok
 returns-clause-ok g c = elim c.match-enter.branch [
   | in-Some w ↦ let k = w.in-Some.ensures.known in
       let d = c.me.inside.seat in
-      let free = is_free c.me.inside.visit d.known.seat c.me.invariant.rests (ap (λ (m : CpuValue). is_in m.inside) c.me.view_is ∙ (sym c.in_stop.ensures ∙ c.if-in_stop.false)) in
-      let table = c.enter.ensures.table ∙ sym (ap (λ (m : CpuValue). m.table) c.me.view_is ∙ (c.requires.table ∙ sym (ap (λ (t : TableValue). t.table) c.self.view_is))) in
-      subst (λ (r : Result Kind SmpError). IfOk r (λ kind. Enters c.args.self.now c.args.slot c.args.me.now (cpu.the_view c.match-enter.me-inside) kind)) (sym w.result-is)
+      let free = is_free c.me.inside.visit d.known.seat c.me.invariant.rests
+      (ap (λ (m : CpuValue). is_in m.inside) c.me.view_is ∙ (sym c.in_stop.ensures ∙ c.if-in_stop.false)) in
+      let table = c.enter.ensures.table
+      ∙ sym (ap (λ (m : CpuValue). m.table) c.me.view_is ∙ (c.requires.table ∙ sym (ap (λ (t : TableValue). t.table) c.self.view_is))) in
+      subst (λ (r : Result Kind SmpError). IfOk r (λ kind. Enters c.args.self.now c.args.slot c.args.me.now (cpu.the_view c.match-enter.me-inside) kind))
+      (sym w.result-is)
       (subst (λ (m : Inside). Enters c.args.self.now c.args.slot c.args.me.now (cpu.the_view m) w.in-Some.visit.kind) (sym w.me-inside-is)
       (subst (λ (m : CpuValue). Enters c.args.self.now c.args.slot m (cpu_of c.enter.new.seat) w.in-Some.visit.kind) c.me.view_is
       (subst (λ (t : TableValue). Enters t c.args.slot (cpu_of d) (cpu_of c.enter.new.seat) w.in-Some.visit.kind) c.self.view_is
-      (enters_answer (record { table = c.self.inside.owner.shared.table_id; nr = c.self.inside.nr; setting = c.self.inside.setting }) d c.enter.new.seat c.args.slot k.0 w.in-Some.visit free.1 (there g c) table k.1 k.2 k.3))))
-  | in-None w ↦ subst (λ (r : Result Kind SmpError). IfOk r (λ kind. Enters c.args.self.now c.args.slot c.args.me.now (cpu.the_view c.match-enter.me-inside) kind)) (sym w.result-is) tt
+      (enters_answer (record { table = c.self.inside.owner.shared.table_id; nr = c.self.inside.nr; setting = c.self.inside.setting })
+      d c.enter.new.seat c.args.slot k.0 w.in-Some.visit free.1 (there g c) table k.1 k.2 k.3))))
+  | in-None w ↦
+      subst (λ (r : Result Kind SmpError). IfOk r (λ kind. Enters c.args.self.now c.args.slot c.args.me.now (cpu.the_view c.match-enter.me-inside) kind))
+      (sym w.result-is) tt
 ]

@@ -12,9 +12,11 @@ returns g c =
     let d = c.me.inside.seat in
     let e = c.collect-word.new.seat in
     let kept = subst (λ b. IsKept d.known c.me.inside.number c.me.inside.visit c.me.inside.holds b) c.if-not-me.false c.me.invariant in
-    let table = c.collect-word.ensures.table ∙ sym (ap (λ (m : CpuValue). m.table) c.me.view_is ∙ (c.requires.table ∙ sym (ap (λ (t : TableValue). t.table) c.self.view_is))) in
+    let table = c.collect-word.ensures.table
+    ∙ sym (ap (λ (m : CpuValue). m.table) c.me.view_is ∙ (c.requires.table ∙ sym (ap (λ (t : TableValue). t.table) c.self.view_is))) in
     let small : SFits w32 c.cast_signed.result = search rules in
     let found = c.is_done.ensures.known ∙ ap (λ b. looked b d.known) c.if-not-is_done.false in
     subst (λ (z : ℤ). PollAnswers c.args.me.now (cpu_of e) (Ok (Some z))) (sym (to_z-of_z w32 c.cast_signed.result small))
     (subst (λ (m : CpuValue). PollAnswers m (cpu_of e) (Ok (Some c.cast_signed.result))) c.me.view_is
-    (poll_answers d c.is_done.new.seat e c.me.inside.number c.me.inside.visit c.me.inside.holds c.collect-word.result c.cast_signed.result kept found table c.collect-word.ensures.known c.collect-word.ensures.lives c.cast_signed.ensures))
+    (poll_answers d c.is_done.new.seat e c.me.inside.number c.me.inside.visit c.me.inside.holds c.collect-word.result c.cast_signed.result kept found table
+    c.collect-word.ensures.known c.collect-word.ensures.lives c.cast_signed.ensures))
