@@ -7,8 +7,8 @@ use Rattle.smp_stop_steps.specs.KnownAfter.{drafts_more, is_drafting, opened_by,
 use Rattle.smp_stop_steps.specs.Moves.{Draft, DraftMore, Open}
 use Rattle.smp_stop_steps.specs.Slots.{begun_value, order}
 use Rattle.smp_stop_steps.specs.Sources.{IsWork}
-use Rattle.smp_stop_steps.proofs.KnownSources.{stored_draft, draft_next}
-use Rattle.smp_stop_steps.proofs.Sources.{kind_back}
+use Rattle.smp_stop_steps.proofs.Knows.KnownSources.{stored_draft, draft_next}
+use Rattle.smp_stop_steps.proofs.Steps.Sources.{kind_back}
 use Rattle.smp_multi.specs.Names.{Work, Slot, Field, Store, Drafts, Known}
 use Rattle.smp_multi.specs.Names.{Kind as KindOf}
 use Rattle.smp_multi.specs.Names.field

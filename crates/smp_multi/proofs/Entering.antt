@@ -12,8 +12,8 @@ use Rattle.smp_stop_steps.specs.Sources.{SourceShows}
 use Rattle.smp_stop_steps.specs.Stages.{all_but}
 use Rattle.smp_stop_steps.specs.State.{Setup}
 use Rattle.smp_stop_steps.specs.Stop.{Standing, Outside, Called, Inside, Answering, Completed, Stop, is_of, is_called}
-use Rattle.smp_stop_steps.proofs.Facts.{work_words}
-use Rattle.smp_stop_steps.proofs.Sources.{kind_back}
+use Rattle.smp_stop_steps.proofs.Steps.Facts.{work_words}
+use Rattle.smp_stop_steps.proofs.Steps.Sources.{kind_back}
 use Rattle.smp_multi.specs.Names.{Work, Slot, Field, Load, And, Free, In, Rests, Source, Shut, Drafts, Owns, Collects, Known}
 use Rattle.smp_multi.specs.Names.field
 use Rattle.smp_multi.specs.Places.{IsFree, HasEntered, IsCalled, IsVisitOf, pending_of}

@@ -16,7 +16,7 @@ use Rattle.smp_stop_steps.specs.KnownAfter.{known_told, known_entering}
 use Rattle.smp_stop_steps.specs.Moves.{Can, entering}
 use Rattle.smp_stop_steps.specs.State.{StopState}
 use Rattle.smp_stop_steps.specs.Shows.{StopShows}
-use Rattle.smp_stop_steps.proofs.KnownMoves.{known_move}
+use Rattle.smp_stop_steps.proofs.Knows.KnownMoves.{known_move}
 use Rattle.smp_multi.specs.Names.{Word, Gate, Slot, Key, Entry, Site, Access, Load, Store, Exchange, Sub, And, Work, Seat, Source, Known, Setting, SeatView}
 use Rattle.smp_multi.specs.Names.{Maker, Cpu}
 use Rattle.smp_multi.specs.Names.field

@@ -19,8 +19,8 @@ use Rattle.smp_stop_steps.specs.Stop.{Inside}
 use Rattle.smp_stop_steps.specs.Table.{StopWords}
 use Rattle.smp_stop_steps.specs.Value.{StopsValue}
 use Rattle.smp_stop_steps.specs.declared.stage.Visit.{Visit}
-use Rattle.smp_stop_steps.proofs.Phases.{is_open_inside, keeps_inside}
-use Rattle.smp_stop_steps.proofs.Starting.{begins_work}
+use Rattle.smp_stop_steps.proofs.State.Phases.{is_open_inside, keeps_inside}
+use Rattle.smp_stop_steps.proofs.TheMachine.Starting.{begins_work}
 use Rattle.smp_multi.specs.Names.{Work, Kind, One, Slot, Seat, Free, In, Rests, Source, Shut, Drafts, Owns, Collects, Known, Part, Setting}
 use Rattle.smp_multi.specs.Answers.{Enters, RunAnswers, PollAnswers, answer_in}
 use Rattle.smp_multi.specs.Begins.{Begins}

@@ -8,7 +8,7 @@ use Rattle.smp_stop_steps.specs.Tells.{may_call, is_one, calls_at_run}
 use Rattle.smp_stop_steps.specs.Seats.{Stands}
 use Rattle.smp_stop_steps.specs.Sources.{SourceShows, IsWork}
 use Rattle.smp_stop_steps.specs.Stop.{Inside}
-use Rattle.smp_stop_steps.proofs.Phases.{is_open_inside}
+use Rattle.smp_stop_steps.proofs.State.Phases.{is_open_inside}
 use Rattle.smp_words.specs.Size.{cpus}
 use Rattle.smp_multi.specs.Names.{Work, Kind, One, StopCall, Calling, Calls, Idle, Slot, Field, Load, Store, Sub, Seat, In, Gives, Rests, Source, Shut, Drafts}
 use Rattle.smp_multi.specs.Names.{Owns, Collects, Known}

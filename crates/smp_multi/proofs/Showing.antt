@@ -1,7 +1,7 @@
 -- What a CPU knows is its part of stops that keep all laws.
 use Rattle.std.proofs.Common.{refl}
 use Rattle.smp_stop_steps.specs.Known.{setup_in, Lives}
-use Rattle.smp_stop_steps.proofs.StopLaws.{keeps_laws}
+use Rattle.smp_stop_steps.proofs.Promises.StopLaws.{keeps_laws}
 use Rattle.smp_multi.specs.Cpu.{cpu_of}
 use Rattle.smp_multi.specs.Laws.{IsShown}
 use Rattle.smp_multi.specs.Seat.{SeatValue}

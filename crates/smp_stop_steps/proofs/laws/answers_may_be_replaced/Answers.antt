@@ -1,4 +1,4 @@
-use Rattle.smp_stop_steps.proofs.Callings.{answer_replaced}
+use Rattle.smp_stop_steps.proofs.Steps.Callings.{answer_replaced}
 use Rattle.smp_stop_steps.proofs.laws.answers_may_be_replaced.Goals as goal
 
 pub returns : goal.returns

@@ -1,4 +1,4 @@
-use Rattle.smp_stop_steps.proofs.Nudging.{edge_is_read}
+use Rattle.smp_stop_steps.proofs.Steps.Nudging.{edge_is_read}
 use Rattle.smp_stop_steps.proofs.laws.edges_are_read.Goals as goal
 
 pub returns : goal.returns

@@ -1,4 +1,4 @@
-use Rattle.smp_stop_steps.proofs.Functions.{runs_alone}
+use Rattle.smp_stop_steps.proofs.Promises.Functions.{runs_alone}
 use Rattle.smp_stop_steps.proofs.laws.function_law.Goals as goal
 
 pub returns : goal.returns

@@ -1,4 +1,4 @@
-use Rattle.smp_stop_steps.proofs.Functions.{has_functions}
+use Rattle.smp_stop_steps.proofs.Promises.Functions.{has_functions}
 use Rattle.smp_stop_steps.proofs.laws.functions_run.Goals as goal
 
 pub returns : goal.returns

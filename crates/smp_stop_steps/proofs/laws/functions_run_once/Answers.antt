@@ -1,4 +1,4 @@
-use Rattle.smp_stop_steps.proofs.CallSteps.{call_step}
+use Rattle.smp_stop_steps.proofs.Steps.CallSteps.{call_step}
 use Rattle.smp_stop_steps.proofs.laws.functions_run_once.Goals as goal
 
 pub returns : goal.returns

@@ -1,4 +1,4 @@
-use Rattle.smp_stop_steps.proofs.Interrupts.{interrupt_law}
+use Rattle.smp_stop_steps.proofs.Promises.Interrupts.{interrupt_law}
 use Rattle.smp_stop_steps.proofs.laws.interrupt_law.Goals as goal
 
 pub returns : goal.returns

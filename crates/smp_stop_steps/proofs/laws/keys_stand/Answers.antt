@@ -1,4 +1,4 @@
-use Rattle.smp_stop_steps.proofs.Nudging.{keys_stand}
+use Rattle.smp_stop_steps.proofs.Steps.Nudging.{keys_stand}
 use Rattle.smp_stop_steps.proofs.laws.keys_stand.Goals as goal
 
 pub returns : goal.returns

@@ -1,4 +1,4 @@
-use Rattle.smp_stop_steps.proofs.Patched.{lawful_when_on}
+use Rattle.smp_stop_steps.proofs.State.Patched.{lawful_when_on}
 use Rattle.smp_stop_steps.proofs.laws.label_law.Goals as goal
 
 pub returns : goal.returns

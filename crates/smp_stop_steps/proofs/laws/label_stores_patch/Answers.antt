@@ -1,4 +1,4 @@
-use Rattle.smp_stop_steps.proofs.Patchers.{stores_patch}
+use Rattle.smp_stop_steps.proofs.Promises.Patchers.{stores_patch}
 use Rattle.smp_stop_steps.proofs.laws.label_stores_patch.Goals as goal
 
 pub returns : goal.returns

@@ -1,4 +1,4 @@
-use Rattle.smp_stop_steps.proofs.Functions.{last_stores}
+use Rattle.smp_stop_steps.proofs.Promises.Functions.{last_stores}
 use Rattle.smp_stop_steps.proofs.laws.last_stores_done.Goals as goal
 
 pub returns : goal.returns

@@ -1,4 +1,4 @@
-use Rattle.smp_stop_steps.proofs.KnownMoves.{known_move}
+use Rattle.smp_stop_steps.proofs.Knows.KnownMoves.{known_move}
 use Rattle.smp_stop_steps.proofs.laws.moves_are_known.Goals as goal
 
 pub returns : goal.returns

@@ -1,4 +1,4 @@
-use Rattle.smp_stop_steps.proofs.Facts.{no_stops_shown}
+use Rattle.smp_stop_steps.proofs.Steps.Facts.{no_stops_shown}
 use Rattle.smp_stop_steps.proofs.laws.nothing_is_begun.Goals as goal
 
 pub returns : goal.returns

@@ -1,4 +1,4 @@
-use Rattle.smp_stop_steps.proofs.Nudging.{nudges}
+use Rattle.smp_stop_steps.proofs.Steps.Nudging.{nudges}
 use Rattle.smp_stop_steps.proofs.laws.nudges_stand.Goals as goal
 
 pub returns : goal.returns

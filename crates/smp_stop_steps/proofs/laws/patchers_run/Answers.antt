@@ -1,4 +1,4 @@
-use Rattle.smp_stop_steps.proofs.Patchers.{has_patcher}
+use Rattle.smp_stop_steps.proofs.Promises.Patchers.{has_patcher}
 use Rattle.smp_stop_steps.proofs.laws.patchers_run.Goals as goal
 
 pub returns : goal.returns

@@ -1,4 +1,4 @@
-use Rattle.smp_stop_steps.proofs.Patched.{off_while_patched}
+use Rattle.smp_stop_steps.proofs.State.Patched.{off_while_patched}
 use Rattle.smp_stop_steps.proofs.laws.patches_alone.Goals as goal
 
 pub returns : goal.returns

@@ -1,4 +1,4 @@
-use Rattle.smp_stop_steps.proofs.Nudging.{patch_answers}
+use Rattle.smp_stop_steps.proofs.Steps.Nudging.{patch_answers}
 use Rattle.smp_stop_steps.proofs.laws.patches_answer.Goals as goal
 
 pub returns : goal.returns

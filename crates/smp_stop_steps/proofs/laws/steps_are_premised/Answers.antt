@@ -1,4 +1,4 @@
-use Rattle.smp_stop_steps.proofs.Premises.{may_see}
+use Rattle.smp_stop_steps.proofs.Promises.Premises.{may_see}
 use Rattle.smp_stop_steps.proofs.laws.steps_are_premised.Goals as goal
 
 pub returns : goal.returns

@@ -1,5 +1,5 @@
-use Rattle.smp_stop_steps.proofs.CallSteps.{call_step}
-use Rattle.smp_stop_steps.proofs.CompletionSteps.{stop_step_shown}
+use Rattle.smp_stop_steps.proofs.Steps.CallSteps.{call_step}
+use Rattle.smp_stop_steps.proofs.Steps.CompletionSteps.{stop_step_shown}
 use Rattle.smp_stop_steps.proofs.laws.steps_are_told.Goals as goal
 
 pub returns : goal.returns

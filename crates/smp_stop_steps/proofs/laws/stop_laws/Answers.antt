@@ -1,4 +1,4 @@
-use Rattle.smp_stop_steps.proofs.StopLaws.{keeps_laws}
+use Rattle.smp_stop_steps.proofs.Promises.StopLaws.{keeps_laws}
 use Rattle.smp_stop_steps.proofs.laws.stop_laws.Goals as goal
 
 pub returns : goal.returns

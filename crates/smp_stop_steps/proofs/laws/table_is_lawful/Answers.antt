@@ -1,4 +1,4 @@
-use Rattle.smp_stop_steps.proofs.Patchers.{is_lawful}
+use Rattle.smp_stop_steps.proofs.Promises.Patchers.{is_lawful}
 use Rattle.smp_stop_steps.proofs.laws.table_is_lawful.Goals as goal
 
 pub returns : goal.returns

@@ -1,6 +1,6 @@
 use Rattle.std.proofs.Common.{◌∙◌, sym}
 use Rattle.smp_words.specs.Size.{cpus}
-use Rattle.smp_stop_steps.proofs.Weights.{weight_ones}
+use Rattle.smp_stop_steps.proofs.Basics.Weights.{weight_ones}
 use Rattle.smp_stop_steps.proofs.mask.weight.Goals as goal
 
 pub returns : goal.returns

@@ -1,5 +1,5 @@
 use Rattle.smp_stop_steps.specs.Table.{stop_number}
-use Rattle.smp_stop_steps.proofs.StopLaws.{keeps_laws}
+use Rattle.smp_stop_steps.proofs.Promises.StopLaws.{keeps_laws}
 use Rattle.smp_core.proofs.machine.Core.keeps_stop_laws.Goals as goal
 
 pub returns : goal.returns

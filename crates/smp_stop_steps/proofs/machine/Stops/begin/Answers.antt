@@ -5,7 +5,7 @@ use Rattle.smp_stop_steps.specs.State.{StopState}
 use Rattle.smp_stop_steps.specs.Stages.{StopControlValue, stop_goes, stop_outside}
 use Rattle.smp_stop_steps.specs.Begins.{MayBeginAt}
 use Rattle.smp_stop_steps.specs.Value.{StopsValue, StopsShow, setup_of, stop_control_of}
-use Rattle.smp_stop_steps.proofs.Begun.{begun_value_shown}
+use Rattle.smp_stop_steps.proofs.TheMachine.Begun.{begun_value_shown}
 use Rattle.smp_stop_steps.proofs.machine.Stops.begin.Goals as goal
 use Rattle.smp_stop_steps.proofs.machine.Stops.begin.Given as given
 

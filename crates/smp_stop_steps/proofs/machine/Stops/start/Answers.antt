@@ -4,7 +4,7 @@ use Rattle.smp_words.specs.Size.{cpus}
 use Rattle.smp_stop_steps.specs.Stages.{StopControlValue, stop_outside}
 use Rattle.smp_stop_steps.specs.Starts.{stop_first}
 use Rattle.smp_stop_steps.specs.Value.{StopsValue, stop_control_of}
-use Rattle.smp_stop_steps.proofs.Starting.{may_begin}
+use Rattle.smp_stop_steps.proofs.TheMachine.Starting.{may_begin}
 use Rattle.smp_stop_steps.proofs.machine.Stops.start.Goals as goal
 
 pub begin-requires-clause-may : goal.begin-requires-clause-may

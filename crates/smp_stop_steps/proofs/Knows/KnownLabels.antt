@@ -1,0 +1,220 @@
+-- The steps on labels of a CPU that knows v: readings, nudges, and patches.
+use Rattle.std.proofs.Common.{◌≡◌, ℕ, ◌<◌, eqb-true, Bool, true, false, ◌==◌, ◌&&◌, cond, Some, None, List, [], ◌∷◌, ◌++◌, set, sym, subst, refl, ap, ◌∙◌}
+use Rattle.smp_mask.specs.Mask.{has}
+use Rattle.smp_labels.proofs.Patched.{plan_key_first}
+use Rattle.smp_labels.specs.Keys.{is_on}
+use Rattle.smp_labels.specs.declared.patch.Place.{Place}
+use Rattle.smp_labels.specs.declared.patch.Place.TheVariants as place
+use Rattle.smp_labels.specs.declared.words.TheConstants.{MOST_KEYS}
+use Rattle.smp_words.specs.Access.{word_of, at_after, seen_of, put_if}
+use Rattle.smp_words.specs.Put.{put, put_word}
+use Rattle.smp_words.proofs.Puts.{at_test}
+use Rattle.smp_stop_steps.specs.KeyCounts.{moves, moved_by}
+use Rattle.smp_stop_steps.specs.Labels.{Change, Patches, Reading, ReadKey, ReadSite, count_set}
+use Rattle.smp_stop_steps.specs.Seats.{Seat, Free, In, Gives, Alters, Closes, Turn, Rests, Fills, Sets, irq_of}
+use Rattle.smp_stop_steps.specs.Shows.{StopShows}
+use Rattle.smp_stop_steps.specs.Sits.{IsNudge}
+use Rattle.smp_stop_steps.specs.Sources.{Source}
+use Rattle.smp_stop_steps.specs.Stages.{store_of}
+use Rattle.smp_stop_steps.specs.State.{Setup, StopState, Present, Moved, unmoved}
+use Rattle.smp_stop_steps.specs.Tells.{told, is_patch, is_at_run, reads, key_loaded, key_patched, patched_more, patch_begun, plan_at}
+use Rattle.smp_stop_steps.specs.Known.{Known, Sees, GoesOn, columns_of, AreFirst, setup_in}
+use Rattle.smp_stop_steps.specs.KnownAfter.{reads_more, key_loaded_by, key_known, altered_by, patched_from, counted, known_entering}
+use Rattle.smp_stop_steps.specs.Moves.{entering}
+use Rattle.smp_words.specs.declared.seen.Act.TheVariants as act
+use Rattle.smp_words.specs.declared.work.Kind.TheVariants.{Patch}
+use Rattle.smp_words.specs.declared.work.Work.{Work}
+use Rattle.smp_words.specs.declared.word.Word.{Word}
+use Rattle.smp_words.specs.declared.word.Word.TheVariants.{Key, Site}
+use Rattle.smp_stop_steps.proofs.Basics.Counts.{put_here, put_else}
+use Rattle.smp_stop_steps.proofs.Knows.KnownRounds.{stands, reads_now}
+use Rattle.smp_stop_steps.proofs.Knows.KnownSources.{still}
+use Rattle.smp_stop_steps.proofs.Knows.Parts.{Leaves, first_put, goes_seat, goes_still}
+use Rattle.smp_stop_steps.proofs.Steps.Patching.{key_read, site_read, key_loaded_first, key_stored, site_stored, key_exchanged}
+
+-- where interrupts are on, a CPU does not stand at the function
+not_at_run : (s : ℕ) (w : Work) (a l : ℕ) (t : Turn) → irq_of (In s w a l t) ≡ true → (a == 2 && l == 3) ≡ false
+not_at_run s w a l t on = at_test a 2 (λ b. (b && l == 3) ≡ false) (λ two. at_test l 3 (λ b. b ≡ false) (λ three. absurd (off t two three on)) (λ _. refl))
+    (λ _. refl)
+  where
+    off : (t : Turn) → a ≡ 2 → l ≡ 3 → irq_of (In s w a l t) ≡ true → ⊥
+    off Rests two three on = let bad : irq_of (In s w 2 3 Rests) ≡ true = subst (λ x. irq_of (In s w x 3 Rests) ≡ true) two
+        (subst (λ x. irq_of (In s w a x Rests) ≡ true) three on) in cc
+    off Fills two three on = let bad : irq_of (In s w 2 3 Fills) ≡ true = subst (λ x. irq_of (In s w x 3 Fills) ≡ true) two
+        (subst (λ x. irq_of (In s w a x Fills) ≡ true) three on) in cc
+    off Sets two three on = let bad : irq_of (In s w 2 3 Sets) ≡ true = subst (λ x. irq_of (In s w x 3 Sets) ≡ true) two
+        (subst (λ x. irq_of (In s w a x Sets) ≡ true) three on) in cc
+
+-- the counts of one CPU, with one moved
+counted_first : (f : ℕ → ℕ → Moved) (me k old new : ℕ) (list : List Moved) → AreFirst MOST_KEYS (f me) unmoved list → k < MOST_KEYS →
+    AreFirst MOST_KEYS (moved_by f me k old new me) unmoved (counted list k old new)
+counted_first f me k old new list h low =
+    let mine = put (f me) k (moves (f me k) old new) in
+    subst (λ g. AreFirst MOST_KEYS g unmoved (counted list k old new)) (sym (put_here f me mine))
+    (subst (λ (m : Moved). AreFirst MOST_KEYS mine unmoved (set list k (moves m old new))) (h.each k low)
+    (first_put MOST_KEYS (f me) unmoved list k (moves (f me k) old new) h low))
+
+module _ (p : StopState) (at : Word → ℕ) (seat : ℕ → Seat) (source : ℕ → Source) (v : Known) (h : StopShows (setup_in v.setting) p at seat source)
+    (sees : Sees p seat source v) where
+  abbrev u : Setup
+  u = setup_in v.setting
+
+  abbrev Goes : (Word → ℕ) → Known → Type 0
+  Goes at' w = GoesOn v.setting p seat source v.number at' w
+
+  abbrev IsOn : Type 0
+  IsOn = irq_of v.seat ≡ true
+
+  irq_on : IsOn → p.now.irq v.number ≡ true
+  irq_on on = h.present.irq v.number ∙ (ap irq_of sees.seat_is ∙ on)
+
+  reads_leaves : (r : Reading) → Leaves v.number p (record p { now = reads p.now v.number r }) (record (v.part) { readings = v.part.readings ++ r ∷ [] })
+  reads_leaves r =
+      let more = p.now.readings v.number ++ r ∷ [] in
+      reads_now p at seat source v h sees (reads p.now v.number r) p.calls (v.part.readings ++ r ∷ [])
+      (put_here p.now.readings v.number more ∙ ap (λ l. l ++ r ∷ []) sees.part_is.readings)
+      (λ c ne. put_else p.now.readings v.number more c ne)
+
+  -- where interrupts are on, a load of a key is a reading
+  key_plain : (k found : ℕ) (x : Seat) → v.seat ≡ x → irq_of x ≡ true →
+      (key_loaded u p.now v.number k found (p.now.inside v.number) ≡ reads p.now v.number (ReadKey k (is_on found))) × (key_loaded_by k found x v ≡
+      reads_more (ReadKey k (is_on found)) v)
+  key_plain k found Free e on = (ap (λ i. key_loaded u p.now v.number k found i) (stands p at seat source v h sees Free e), refl)
+  key_plain k found (In s w a l t) e on =
+      let st = stands p at seat source v h sees (In s w a l t) e in
+      let calm = not_at_run s w a l t on in
+      let patch = record (p.now) { patching = patch_begun u v.number (p.now.stop s).work found } in
+      let plain = reads p.now v.number (ReadKey k (is_on found)) in (
+        ap (λ i. key_loaded u p.now v.number k found i) st.0
+            ∙ (ap (λ y. cond (is_at_run y && is_patch (p.now.stop s).work.kind) patch plain) st.1 ∙ ap (λ b. cond (b && is_patch (p.now.stop s).work.kind)
+            patch plain) calm),
+        ap (λ b. cond (b && is_patch w.kind) (record v { seat = Alters s w found [] (plan_at u w found) }) (reads_more (ReadKey k (is_on found)) v)) calm,
+      )
+  key_plain k found (Gives s w a x) e on =
+      let st = stands p at seat source v h sees (Gives s w a x) e in
+      let patch = record (p.now) { patching = patch_begun u v.number (p.now.stop s).work found } in
+      let plain = reads p.now v.number (ReadKey k (is_on found)) in
+      (ap (λ i. key_loaded u p.now v.number k found i) st.0 ∙ ap (λ y. cond (is_at_run y && is_patch (p.now.stop s).work.kind) patch plain) st.1, refl)
+  key_plain k found (Alters s w count made rest) e on = cc
+  key_plain k found (Closes s) e on = (ap (λ i. key_loaded u p.now v.number k found i) (stands p at seat source v h sees (Closes s) e).0, refl)
+
+  pub read_key : (k : ℕ) → IsOn → Goes at (key_loaded_by k (at (Key k)) v.seat v)
+  read_key k on =
+      let found = at (Key k) in
+      let r = ReadKey k (is_on found) in
+      let plain = key_plain k found v.seat refl on in
+      subst (λ q. Goes at q) (sym plain.1)
+      (goes_still p seat source v sees (record p { now = reads p.now v.number r }) at (record (v.part) { readings = v.part.readings ++ r ∷ [] })
+      (subst (λ n. StopShows u (record p { now = n }) at seat source) plain.0 (key_read u p at seat source h v.number k 0 (irq_on on)))
+      (reads_leaves r))
+
+  pub read_site : (i : ℕ) → Goes at (reads_more (ReadSite i (is_on (at (Site i)))) v)
+  read_site i =
+      let r = ReadSite i (is_on (at (Site i))) in
+      goes_still p seat source v sees (record p { now = reads p.now v.number r }) at (record (v.part) { readings = v.part.readings ++ r ∷ [] })
+      (site_read u p at seat source h v.number i 0) (reads_leaves r)
+
+  pub nudge : (k found new : ℕ) → IsOn → has v.setting.online v.number ≡ true → k < MOST_KEYS → IsNudge found new →
+      Goes (put_if put_word at (Key k) (cond (at (Key k) == found) (Some new) None))
+      (key_known act.Cas k (Some (at (Key k))) (cond (at (Key k) == found) (Some new) None) v)
+  nudge k found new on online low is = go (at (Key k) == found) refl
+    where
+      go : (b : Bool) → (at (Key k) == found) ≡ b → Goes (put_if put_word at (Key k) (cond b (Some new) None)) (key_known act.Cas k (Some (at (Key k)))
+          (cond b (Some new) None) v)
+      go false e = still p at seat source v h sees
+      go true e =
+          let was : at (Key k) ≡ found = eqb-true (at (Key k)) found e in
+          let parts = sees.part_is in
+          subst (λ n. Goes (put_word at (Key k) new) (record v { part = record (v.part) { nudged = counted v.part.nudged k n new } })) (sym was)
+          (goes_still p seat source v sees (record p { nudged = moved_by p.nudged v.number k found new }) (put_word at (Key k) new)
+          (record (v.part) { nudged = counted v.part.nudged k found new })
+          (key_exchanged u p at seat source h v.number k found new sees.below online (irq_on on) was is 0)
+          record {
+            mine = record {
+              holds = parts.holds;
+              begun = parts.begun;
+              collected = parts.collected;
+              answers = parts.answers;
+              looks = parts.looks;
+              calling = parts.calling;
+              readings = parts.readings;
+              nudged = counted_first p.nudged v.number k found new v.part.nudged parts.nudged low;
+              patched = parts.patched;
+            };
+            others = λ c ne. ap (λ x. record (columns_of p c) { nudged = x }) (put_else p.nudged v.number (put (p.nudged v.number) k
+                (moves (p.nudged v.number k) found new)) c ne);
+          })
+
+  -- patches
+
+  pub begin_patch : (s : ℕ) (w : Work) → v.seat ≡ In s w 2 3 Rests → w.kind ≡ Patch → has w.active v.number ≡ true →
+      Goes at (key_loaded_by w.func (at (Key w.func)) v.seat v)
+  begin_patch s w is kind active =
+      let found = at (Key w.func) in
+      let r = ReadKey w.func (is_on found) in
+      let next = Alters s w found [] (plan_at u w found) in
+      let st = stands p at seat source v h sees (In s w 2 3 Rests) is in
+      let patch = record (p.now) { patching = patch_begun u v.number (p.now.stop s).work found } in
+      let reading = reads p.now v.number r in
+      let plain : key_loaded u p.now v.number w.func found (p.now.inside v.number) ≡ patch =
+      ap (λ i. key_loaded u p.now v.number w.func found i) st.0
+      ∙ (ap (λ y. cond (is_at_run y && is_patch (p.now.stop s).work.kind) patch reading) st.1 ∙ ap (λ k. cond (is_patch k) patch reading)
+      (ap (λ (z : Work). z.kind) st.3 ∙ kind)) in
+      let known : key_loaded_by w.func found v.seat v ≡ record v { seat = next } =
+      ap (λ x. key_loaded_by w.func found x v) is ∙ ap (λ k. cond (is_patch k) (record v { seat = next }) (reads_more r v)) kind in
+      subst (λ q. Goes at q) (sym known)
+      (goes_seat p seat source v sees (record p { now = patch }) at next v.part
+      (subst (λ n. StopShows u (record p { now = n }) at (put seat v.number next) source) plain (key_loaded_first u p at seat source h v.number s w 0
+      (sees.seat_is ∙ is) kind active))
+      record { mine = sees.part_is; others = λ c ne. refl })
+
+  -- the counts that this CPU has moved as a runner of patches
+  patched_leaves : (k count n : ℕ) (now : Present) → k < MOST_KEYS → ((c : ℕ) → now.readings c ≡ p.now.readings c) →
+      Leaves v.number p (record p { now = now; patched = moved_by p.patched v.number k count n }) (record (v.part) {
+        patched = counted v.part.patched k
+            count n;
+      })
+  patched_leaves k count n now low same = let parts = sees.part_is in record {
+    mine = record {
+      holds = parts.holds;
+      begun = parts.begun;
+      collected = parts.collected;
+      answers = parts.answers;
+      looks = parts.looks;
+      calling = parts.calling;
+      readings = same v.number ∙ parts.readings;
+      nudged = parts.nudged;
+      patched = counted_first p.patched v.number k count n v.part.patched parts.patched low;
+    };
+    others = λ c ne.
+        ap (λ x. record (columns_of p c) { readings = now.readings c; patched = x }) (put_else p.patched v.number (put (p.patched v.number) k
+        (moves (p.patched v.number k) count n)) c ne)
+        ∙ ap (λ l. record (columns_of p c) { readings = l }) (same c);
+  }
+
+  pub alter : (s : ℕ) (w : Work) (count : ℕ) (made rest : List Change) (x : Place) (n : ℕ) → v.seat ≡ Alters s w count made ((x, n) ∷ rest) →
+      plan_at u w count ≡ made ++ (x, n) ∷ rest → w.func < MOST_KEYS →
+      let a = store_of (x, n) in
+      let seen = seen_of v.number a (at (word_of a)) None in
+      Goes (at_after at a) (known_entering (entering p (word_of a)) v seen.act seen.word seen.found seen.put)
+  alter s w count made rest (place.Key k) n is plan low =
+      let next = Alters s w count (made ++ (place.Key k, n) ∷ []) rest in
+      let at' = put_word at (Key k) n in
+      let st = stands p at seat source v h sees (Alters s w count made ((place.Key k, n) ∷ rest)) is in
+      let first = plan_key_first w.func count (count_set w count) u.entries made k n rest plan in
+      let more = Patches v.number w count (made ++ (place.Key k, n) ∷ []) rest in
+      let p' = record p { now = record (p.now) { patching = more }; patched = moved_by p.patched v.number k count n } in
+      let plain : told u p v.number act.Store (Key k) None (Some n) 0 ≡ p' =
+      ap (λ y. record p { now = record (p.now) { patching = patched_more y }; patched = key_patched y p.patched v.number k n }) st.5 in
+      subst (λ y. Goes at' (record v { seat = altered_by y; part = record (v.part) { patched = patched_from y k n v.part.patched } })) (sym is)
+      (goes_seat p seat source v sees p' at' next (record (v.part) { patched = counted v.part.patched k count n })
+      (subst (λ q. StopShows u q at' (put seat v.number next) source) plain
+      (key_stored u p at seat source h v.number s w count made rest k n 0 sees.below (sees.seat_is ∙ is) first.0 first.1))
+      (patched_leaves k count n p'.now (subst (λ i. i < MOST_KEYS) (sym first.1) low) (λ c. refl)))
+  alter s w count made rest (place.Site i) n is plan low =
+      let next = Alters s w count (made ++ (place.Site i, n) ∷ []) rest in
+      let p' = told u p v.number act.Store (Site i) None (Some n) 0 in
+      subst (λ y. Goes (put_word at (Site i) n) (record v { seat = altered_by y })) (sym is)
+      (goes_seat p seat source v sees p' (put_word at (Site i) n) next v.part (site_stored u p at seat source h v.number s w count made rest i n 0
+      (sees.seat_is ∙ is))
+      record { mine = sees.part_is; others = λ c ne. refl })

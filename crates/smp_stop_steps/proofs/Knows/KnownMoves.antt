@@ -1,0 +1,69 @@
+-- Each step that a CPU may make by what it knows goes on to stops of which all know their part.
+use Rattle.std.proofs.Common.{ℕ, Some, None}
+use Rattle.smp_words.specs.Access.{word_of, at_after, seen_of}
+use Rattle.smp_stop_steps.specs.Known.{Known, Sees, GoesOn, setup_in}
+use Rattle.smp_stop_steps.specs.KnownAfter.{slot_known, known_entering}
+use Rattle.smp_stop_steps.specs.Moves.{Move, TakeGate, OpenGate, Draft, DraftMore, Open, Enter, Look, Acknowledge, AcknowledgePatch, Refill, Raise}
+use Rattle.smp_stop_steps.specs.Moves.{Give, Count, CountGiven, Close, LookDone, Collect}
+use Rattle.smp_stop_steps.specs.Moves.{ReadKey, ReadSite, Nudge, BeginPatch, Alter, LoadArg, LoadField, LoadEntry, May, access_in, entering, IsPlain}
+use Rattle.smp_stop_steps.specs.Seats.{Seat}
+use Rattle.smp_stop_steps.specs.Shows.{StopShows}
+use Rattle.smp_stop_steps.specs.Sources.{Source}
+use Rattle.smp_stop_steps.specs.State.{StopState}
+use Rattle.smp_words.specs.declared.seen.Act.TheVariants as act
+use Rattle.smp_words.specs.declared.field.Field.{Field}
+use Rattle.smp_words.specs.declared.field.Field.TheVariants as field
+use Rattle.smp_words.specs.declared.word.Word.{Word}
+use Rattle.smp_words.specs.declared.word.Word.TheVariants.{Slot}
+use Rattle.smp_stop_steps.proofs.Knows.KnownEnds.{give, count, count_given, close}
+use Rattle.smp_stop_steps.proofs.Knows.KnownLabels.{read_key, read_site, nudge, begin_patch, alter}
+use Rattle.smp_stop_steps.proofs.Knows.KnownRounds.{enter, load_arg, look, acknowledge, acknowledge_patch, refill, raise}
+use Rattle.smp_stop_steps.proofs.Knows.KnownSources.{still, take_gate, open_gate, draft, draft_more, open_stop, look_done, collect}
+
+module _ (p : StopState) (at : Word → ℕ) (seat : ℕ → Seat) (source : ℕ → Source) (v : Known) (h : StopShows (setup_in v.setting) p at seat source)
+    (sees : Sees p seat source v) where
+  abbrev Goes : (Word → ℕ) → Known → Type 0
+  Goes at' w = GoesOn v.setting p seat source v.number at' w
+
+  load_field : (s : ℕ) (f : Field) → IsPlain f → Goes at (slot_known (p.now.stop s).work v s act.Load f (Some (at (Slot s f))) None)
+  load_field s field.Kind i = still p at seat source v h sees
+  load_field s field.Mask i = still p at seat source v h sees
+  load_field s field.Active i = still p at seat source v h sees
+  load_field s field.Func i = still p at seat source v h sees
+  load_field s field.Arg i = absurd i
+  load_field s field.Result i = absurd i
+  load_field s field.Todo i = absurd i
+  load_field s field.Done i = absurd i
+  load_field s field.Ack i = absurd i
+  load_field s field.State i = absurd i
+  load_field s field.Roll i = absurd i
+
+  pub known_move : (m : Move) → May v m →
+      let a = access_in v m in
+      let seen = seen_of v.number a (at (word_of a)) None in
+      Goes (at_after at a) (known_entering (entering p (word_of a)) v seen.act seen.word seen.found seen.put)
+  known_move TakeGate m = take_gate p at seat source v h sees
+  known_move OpenGate m = open_gate p at seat source v h sees m.0 m.1
+  known_move (Draft w) m = draft p at seat source v h sees w m.0 m.1 m.2
+  known_move (DraftMore w f) m = draft_more p at seat source v h sees w f m.0 m.1 m.2 m.3
+  known_move (Open w) m = open_stop p at seat source v h sees w m.0
+  known_move (Enter s) m = enter p at seat source v h sees s m
+  known_move (Look s w a l) m = look p at seat source v h sees s w a l m.0 m.1
+  known_move (Acknowledge s w a) m = acknowledge p at seat source v h sees s w a m.0 m.1
+  known_move (AcknowledgePatch s w count made) m = acknowledge_patch p at seat source v h sees s w count made m
+  known_move (Refill s w a l) m = refill p at seat source v h sees s w a l m.0 m.1
+  known_move (Raise s w a l) m = raise p at seat source v h sees s w a l m.0 m.1
+  known_move (Give s w a l x) m = give p at seat source v h sees s w a l x m.0 m.1 m.2 m.3 m.4
+  known_move (Count s w a l) m = count p at seat source v h sees s w a l m.0 m.1 m.2
+  known_move (CountGiven s w a x) m = count_given p at seat source v h sees s w a x m.0 m.1
+  known_move (Close s) m = close p at seat source v h sees s m.0 m.1
+  known_move (LookDone w) m = look_done p at seat source v h sees w m
+  known_move (Collect w) m = collect p at seat source v h sees w m
+  known_move (ReadKey k) m = read_key p at seat source v h sees k m
+  known_move (ReadSite i) m = read_site p at seat source v h sees i
+  known_move (Nudge k found new) m = nudge p at seat source v h sees k found new m.0 m.1 m.2 m.3
+  known_move (BeginPatch s w) m = begin_patch p at seat source v h sees s w m.0 m.1 m.2
+  known_move (Alter s w count made change rest) m = alter p at seat source v h sees s w count made rest change.0 change.1 m.0 m.1 m.2
+  known_move (LoadArg s w a l) m = load_arg p at seat source v h sees s w a l m
+  known_move (LoadField s f) m = load_field s f m
+  known_move (LoadEntry i) m = still p at seat source v h sees

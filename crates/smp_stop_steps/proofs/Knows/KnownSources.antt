@@ -1,0 +1,369 @@
+-- The steps of a source that knows v: the gate, begin, and the ends of its own stop.
+use Rattle.smp_stop_steps.proofs.State.Gates.{gate_free}
+use Rattle.std.proofs.Common.{◌≡◌, ◌≢◌, ℕ, ◌+◌, ◌<◌, nat_lt, lt-ltb, eqb-true, eq-eqb, ne_eqb, Bool, true, false, ◌==◌, cond, Option, Some, None, []}
+use Rattle.std.proofs.Common.{◌∷◌, ◌++◌, sym, subst, refl, ap, ◌∙◌, arith}
+use Rattle.smp_words.specs.Access.{put_if}
+use Rattle.smp_words.specs.Put.{put, put_word}
+use Rattle.smp_words.specs.Size.{cpus}
+use Rattle.smp_words.proofs.Puts.{put_all}
+use Rattle.smp_stop_steps.specs.Counts.{mask_weight}
+use Rattle.smp_stop_steps.specs.Seats.{Seat}
+use Rattle.smp_stop_steps.specs.Shows.{StopShows}
+use Rattle.smp_stop_steps.specs.Slots.{DoneShows, begun_value, order}
+use Rattle.smp_stop_steps.specs.Sources.{Source, Shut, Drafts, Owns, Collects, SourceShows, DraftShows, OwnerShows, IsDrafted, IsWork}
+use Rattle.smp_stop_steps.specs.State.{Setup, StopState}
+use Rattle.smp_stop_steps.specs.Stop.{Standing, Ending, Running, Last, Ended}
+use Rattle.smp_stop_steps.specs.Tells.{told, drafted, drafts, opens, stored_open, stored_shut}
+use Rattle.smp_stop_steps.specs.Known.{Known, Sees, GoesOn, IsBegun, columns_of, told_source, told_work, holds_it, setup_in}
+use Rattle.smp_stop_steps.specs.KnownAfter.{is_drafting, drafts_more, drafted_known, draft_known, opened_by, slot_stored, member_stored, gate_known}
+use Rattle.smp_stop_steps.specs.KnownAfter.{done_by, collected_known}
+use Rattle.smp_words.specs.declared.seen.Act.TheVariants as act
+use Rattle.smp_words.specs.declared.field.Field.{Field}
+use Rattle.smp_words.specs.declared.field.Field.TheVariants as field
+use Rattle.smp_words.specs.declared.work.Kind.{Kind as KindOf}
+use Rattle.smp_words.specs.declared.work.Kind.TheVariants.{One}
+use Rattle.smp_words.specs.declared.work.Work.{Work}
+use Rattle.smp_words.specs.declared.word.Word.{Word}
+use Rattle.smp_words.specs.declared.word.Word.TheVariants.{Gate, Slot}
+use Rattle.smp_stop_steps.proofs.Basics.Counts.{put_here, put_else}
+use Rattle.smp_stop_steps.proofs.Knows.Parts.{Leaves, goes, goes_source, goes_still}
+use Rattle.smp_stop_steps.proofs.Steps.Sources.{gate_taken, gate_opened, field_stored, roll_stored, done_loaded, result_loaded, kind_back, work_ext}
+
+holder : (g : Option ℕ) (me : ℕ) → holds_it g me ≡ true → g ≡ Some me
+holder None me e = cc
+holder (Some c) me e = ap Some (eqb-true c me e)
+
+-- a CPU that is told to draft nothing drafts nothing
+not_draft : (y told : Source) → told_source y ≡ told → is_drafting told ≡ false → (w : Work) (k : ℕ) → y ≢ Drafts w k
+not_draft y told is idle w k e = let bad : true ≡ false = sym (ap is_drafting (sym is ∙ ap told_source e)) ∙ idle in cc
+
+is_shut : (y : Source) → told_source y ≡ Shut → y ≡ Shut
+is_shut Shut e = refl
+is_shut (Drafts w k) e = cc
+is_shut (Owns w) e = cc
+is_shut (Collects w) e = cc
+
+is_owns : (y : Source) (w : Work) → told_source y ≡ Owns w → y ≡ Owns w
+is_owns Shut w e = cc
+is_owns (Drafts x k) w e = cc
+is_owns (Owns x) w e = e
+is_owns (Collects x) w e = cc
+
+is_collects : (y : Source) (w : Work) → told_source y ≡ Collects w → y ≡ Collects w
+is_collects Shut w e = cc
+is_collects (Drafts x k) w e = cc
+is_collects (Owns x) w e = cc
+is_collects (Collects x) w e = e
+
+-- the work that a source drafts, told so far as this one
+record IsDraft (y : Source) (w : Work) (k : ℕ) : Type 0 where
+  work : Work
+  is : y ≡ Drafts work k
+  same : told_work k work ≡ told_work k w
+
+is_draft : (y : Source) (w : Work) (k : ℕ) → told_source y ≡ Drafts (told_work k w) k → IsDraft y w k
+is_draft Shut w k e = cc
+is_draft (Drafts x j) w k e =
+    let same : j ≡ k = cc in
+    let works : told_work j x ≡ told_work k w = cc in
+    record { work = x; is = ap (Drafts x) same; same = subst (λ n. told_work n x ≡ told_work k w) same works }
+is_draft (Owns x) w k e = cc
+is_draft (Collects x) w k e = cc
+
+-- two works of which the same is told have the same first k fields
+module _ (k : ℕ) (x w : Work) (same : told_work k x ≡ told_work k w) where
+  told_at : {A : Type 0} (i : ℕ) (f : Work → A) (d : A) → i < k → cond (nat_lt i k) (f x) d ≡ cond (nat_lt i k) (f w) d → f x ≡ f w
+  told_at {A} i f d l e = subst (λ b. cond b (f x) d ≡ cond b (f w) d) (lt-ltb i k l) e
+
+  kind_same : 0 < k → x.kind ≡ w.kind
+  kind_same l = told_at 0 (λ (z : Work). z.kind) One l (ap (λ (z : Work). z.kind) same)
+
+  mask_same : 1 < k → x.mask ≡ w.mask
+  mask_same l = told_at 1 (λ (z : Work). z.mask) 0 l (ap (λ (z : Work). z.mask) same)
+
+  active_same : 2 < k → x.active ≡ w.active
+  active_same l = told_at 2 (λ (z : Work). z.active) 0 l (ap (λ (z : Work). z.active) same)
+
+  func_same : 3 < k → x.func ≡ w.func
+  func_same l = told_at 3 (λ (z : Work). z.func) 0 l (ap (λ (z : Work). z.func) same)
+
+  arg_same : 4 < k → x.arg ≡ w.arg
+  arg_same l = told_at 4 (λ (z : Work). z.arg) 0 l (ap (λ (z : Work). z.arg) same)
+
+  value_same : (n : ℕ) (f : Field) → order f < k → begun_value n x f ≡ begun_value n w f
+  value_same n field.Kind l = ap (λ (z : KindOf). begun_value n (record x { kind = z }) field.Kind) (kind_same l)
+  value_same n field.Mask l = mask_same l
+  value_same n field.Active l = active_same l
+  value_same n field.Func l = func_same l
+  value_same n field.Arg l = arg_same l
+  value_same n field.Result l = refl
+  value_same n field.Todo l = ap (mask_weight n) (mask_same (omega arith))
+  value_same n field.Done l = refl
+  value_same n field.Ack l = ap (mask_weight n) (mask_same (omega arith))
+  value_same n field.State l = ap (λ (z : KindOf). begun_value n (record x { kind = z }) field.State) (kind_same (omega arith))
+  value_same n field.Roll l = mask_same (omega arith)
+
+  drafted_same : (now : Work) → IsDrafted k now x → IsDrafted k now w
+  drafted_same now d = record {
+    kind = λ l. d.kind l ∙ kind_same l;
+    mask = λ l. d.mask l ∙ mask_same l;
+    active = λ l. d.active l ∙ active_same l;
+    func = λ l. d.func l ∙ func_same l;
+    arg = λ l. d.arg l ∙ arg_same l;
+  }
+
+-- one more field is told
+pub draft_next : (f : Field) (w : Work) → order f ≢ 0 → order f < 10 → drafted f (begun_value cpus w f) (told_work (order f) w) ≡ told_work (order f + 1) w
+draft_next field.Kind w ne l = absurd (ne refl)
+draft_next field.Mask w ne l = refl
+draft_next field.Active w ne l = refl
+draft_next field.Func w ne l = refl
+draft_next field.Arg w ne l = refl
+draft_next field.Result w ne l = refl
+draft_next field.Todo w ne l = refl
+draft_next field.Done w ne l = refl
+draft_next field.Ack w ne l = refl
+draft_next field.State w ne l = refl
+draft_next field.Roll w ne l = absurd (let z : ⊥ = omega (arith, l) in z)
+
+pub stored_draft : (f : Field) (n : ℕ) (v : Known) → order f ≢ 0 → order f < 10 → is_drafting v.source ≡ true → slot_stored f n v ≡ drafted_known f n v
+stored_draft field.Kind n v ne l e = absurd (ne refl)
+stored_draft field.Mask n v ne l e = ap (λ b. cond b (drafted_known field.Mask n v) v) e
+stored_draft field.Active n v ne l e = ap (λ b. cond b (drafted_known field.Active n v) v) e
+stored_draft field.Func n v ne l e = ap (λ b. cond b (drafted_known field.Func n v) v) e
+stored_draft field.Arg n v ne l e = ap (λ b. cond b (drafted_known field.Arg n v) v) e
+stored_draft field.Result n v ne l e = ap (λ b. cond b (drafted_known field.Result n v) (member_stored field.Result n v)) e
+stored_draft field.Todo n v ne l e = ap (λ b. cond b (drafted_known field.Todo n v) v) e
+stored_draft field.Done n v ne l e = ap (λ b. cond b (drafted_known field.Done n v) (member_stored field.Done n v)) e
+stored_draft field.Ack n v ne l e = ap (λ b. cond b (drafted_known field.Ack n v) (member_stored field.Ack n v)) e
+stored_draft field.State n v ne l e = ap (λ b. cond b (drafted_known field.State n v) (member_stored field.State n v)) e
+stored_draft field.Roll n v ne l e = absurd (let z : ⊥ = omega (arith, l) in z)
+
+-- a store but the last one drafts the work
+shut_drafts : (p : StopState) (s : ℕ) (f : Field) (x : ℕ) → order f < 10 → stored_shut p s f x ≡ record p { now = drafts p.now s f x }
+shut_drafts p s field.Kind x l = refl
+shut_drafts p s field.Mask x l = refl
+shut_drafts p s field.Active x l = refl
+shut_drafts p s field.Func x l = refl
+shut_drafts p s field.Arg x l = refl
+shut_drafts p s field.Result x l = refl
+shut_drafts p s field.Todo x l = refl
+shut_drafts p s field.Done x l = refl
+shut_drafts p s field.Ack x l = refl
+shut_drafts p s field.State x l = refl
+shut_drafts p s field.Roll x l = absurd (let z : ⊥ = omega (arith, l) in z)
+
+-- done is 1 where it is not 0
+done_is : (n : ℕ) (standing : ℕ → Standing) (e : Ending) (done : ℕ) → DoneShows n standing e done → (done == 0) ≡ false → done ≡ 1
+done_is n standing Running done d ne = let bad : true ≡ false = sym (eq-eqb done 0 d.0) ∙ ne in cc
+done_is n standing (Last c) done d ne = let bad : true ≡ false = sym (eq-eqb done 0 d.0) ∙ ne in cc
+done_is n standing Ended done d ne = d.0
+
+module _ (p : StopState) (at : Word → ℕ) (seat : ℕ → Seat) (source : ℕ → Source) (v : Known) (h : StopShows (setup_in v.setting) p at seat source)
+    (sees : Sees p seat source v) where
+  abbrev u : Setup
+  u = setup_in v.setting
+
+  abbrev Goes : (Word → ℕ) → Known → Type 0
+  Goes at' w = GoesOn v.setting p seat source v.number at' w
+
+  -- a step that leaves all columns
+  pub unmoved_columns : Leaves v.number p p v.part
+  unmoved_columns = record { mine = sees.part_is; others = λ c ne. refl }
+
+  pub still : Goes at v
+  still = goes_still p seat source v sees p at v.part h unmoved_columns
+
+  -- the gate
+
+  holds_alone : (g : Option ℕ) (b : Bool) → holds_it g v.number ≡ b → ((c : ℕ) → c ≢ v.number → holds_it g c ≡ holds_it p.gate c) →
+      Leaves v.number p (record p { gate = g }) (record (v.part) { holds = b })
+  holds_alone g b mine others = let k = sees.part_is in record {
+    mine = record {
+      holds = mine;
+      begun = k.begun;
+      collected = k.collected;
+      answers = k.answers;
+      looks = k.looks;
+      calling = k.calling;
+      readings = k.readings;
+      nudged = k.nudged;
+      patched = k.patched;
+    };
+    others = λ c ne. ap (λ x. record (columns_of p c) { holds = x }) (others c ne);
+  }
+
+  pub take_gate : Goes (put_if put_word at Gate (cond (at Gate == 0) (Some (v.number + 1)) None))
+      (gate_known act.Cas (cond (at Gate == 0) (Some (v.number + 1)) None) v)
+  take_gate = go (at Gate == 0) refl
+    where
+      go : (b : Bool) → (at Gate == 0) ≡ b → Goes (put_if put_word at Gate (cond b (Some (v.number + 1)) None))
+          (gate_known act.Cas (cond b (Some (v.number + 1)) None) v)
+      go false e = still
+      go true e =
+          let free : p.gate ≡ None = gate_free p.gate (sym h.gate ∙ eqb-true (at Gate) 0 e) in
+          goes_still p seat source v sees (record p { gate = Some v.number }) (put_word at Gate (v.number + 1)) (record (v.part) { holds = true })
+          (gate_taken u p at seat source h v.number 0 (eqb-true (at Gate) 0 e))
+          (holds_alone (Some v.number) true (eq-eqb v.number v.number refl)
+          (λ c ne. ne_eqb v.number c (λ same. ne (sym same)) ∙ sym (ap (λ g. holds_it g c) free)))
+
+  pub open_gate : v.part.holds ≡ true → is_drafting v.source ≡ false → Goes (put_word at Gate 0) (record v { part = record (v.part) { holds = false } })
+  open_gate holds idle =
+      let mine : p.gate ≡ Some v.number = holder p.gate v.number (sees.part_is.holds ∙ holds) in
+      goes_still p seat source v sees (record p { gate = None }) (put_word at Gate 0) (record (v.part) { holds = false })
+      (gate_opened u p at seat source h v.number 0 mine (not_draft (source v.number) v.source sees.source_is idle))
+      (holds_alone None false refl (λ c ne. sym (ap (λ g. holds_it g c) mine ∙ ne_eqb v.number c (λ same. ne (sym same)))))
+
+  -- begin
+
+  abbrev SourceIs : Source → Type 0
+  SourceIs y = SourceShows u p.gate (p.now.stop v.number) (λ f. at (Slot v.number f)) v.number y
+
+  -- the source may be taken for another of which the same is told
+  restaged : (y : Source) → SourceIs y → StopShows u p at seat (put source v.number y)
+  restaged y it = record {
+    setup = h.setup;
+    present = h.present;
+    gate = h.gate;
+    callings = h.callings;
+    closing = h.closing;
+    sources = put_all (λ j x. SourceShows u p.gate (p.now.stop j) (λ f. at (Slot j f)) j x) source v.number y it (λ j ne. h.sources j);
+    past = h.past;
+    owns = h.owns;
+    counts = h.counts;
+  }
+
+  source_here : (y : Source) → source v.number ≡ y → SourceIs y
+  source_here y e = subst SourceIs e (h.sources v.number)
+
+  -- a field is stored, by a source that drafts this work
+  field_goes : (work : Work) (f : Field) → DraftShows u p.gate (p.now.stop v.number) (λ f. at (Slot v.number f)) v.number work (order f) → order f < 10 →
+      Goes (put_word at (Slot v.number f) (begun_value cpus work f)) (record v { source = Drafts (told_work (order f + 1) work) (order f + 1) })
+  field_goes work f d low =
+      let drafting = put source v.number (Drafts work (order f)) in
+      let next = Drafts work (order f + 1) in
+      let x = begun_value cpus work f in
+      let p' = record p { now = drafts p.now v.number f x } in
+      let plain : told u p v.number act.Store (Slot v.number f) None (Some x) 0 ≡ p' =
+      ap (λ b. cond b (stored_open p v.number v.number f x) (stored_shut p v.number f x)) d.shut ∙ shut_drafts p v.number f x low in
+      let at' = put_word at (Slot v.number f) x in
+      goes p seat source v sees p' at' seat (put drafting v.number next) v.seat (told_source next) v.part
+      (subst (λ q. StopShows u q at' seat (put drafting v.number next)) plain
+      (field_stored u p at seat drafting (restaged (Drafts work (order f)) d) v.number work (order f) f 0 (put_here source v.number (Drafts work (order f)))
+      refl low))
+      record { mine = sees.part_is; others = λ c ne. refl }
+      sees.seat_is (ap told_source (put_here drafting v.number next)) (subst IsBegun (sym (put_here drafting v.number next)) (omega arith))
+      (λ c ne. refl) (λ c ne. put_else drafting v.number next c ne ∙ put_else source v.number (Drafts work (order f)) c ne)
+
+  pub draft : (work : Work) → v.source ≡ Shut → v.part.holds ≡ true → IsWork u work →
+      Goes (put_word at (Slot v.number field.Kind) (begun_value cpus work field.Kind)) (draft_known (begun_value cpus work field.Kind) v)
+  draft work shut holds is =
+      let closed : (p.now.stop v.number).is_open ≡ false = source_here Shut (is_shut (source v.number) (sees.source_is ∙ shut)) in
+      subst (λ (k : KindOf). Goes (put_word at (Slot v.number field.Kind) (begun_value cpus work field.Kind))
+      (record v { source = Drafts (record { kind = k; mask = 0; active = 0; func = 0; arg = 0 }) 1 }))
+      (sym (kind_back work.kind))
+      (field_goes work field.Kind record {
+        shut = closed;
+        holds = holder p.gate v.number (sees.part_is.holds ∙ holds);
+        is_work = is;
+        stored = λ f l. absurd (omega arith);
+        told = record {
+          kind = λ l. absurd (omega arith);
+          mask = λ l. absurd (omega arith);
+          active = λ l. absurd (omega arith);
+          func =
+              λ l. absurd (omega arith);
+          arg = λ l. absurd (omega arith);
+        };
+      } (omega arith))
+
+  pub draft_more : (work : Work) (f : Field) → v.source ≡ Drafts (told_work (order f) work) (order f) → IsWork u work → order f ≢ 0 → order f < 10 →
+      Goes (put_word at (Slot v.number f) (begun_value cpus work f)) (slot_stored f (begun_value cpus work f) v)
+  draft_more work f e is ne low =
+      let x = begun_value cpus work f in
+      let k = order f in
+      let y = is_draft (source v.number) work k (sees.source_is ∙ e) in
+      let d : DraftShows u p.gate (p.now.stop v.number) (λ f. at (Slot v.number f)) v.number y.work k = source_here (Drafts y.work k) y.is in
+      let known : slot_stored f x v ≡ record v { source = Drafts (told_work (k + 1) work) (k + 1) } =
+      stored_draft f x v ne low (ap is_drafting e) ∙ (ap (λ o. record v { source = drafts_more f x o }) e ∙ ap
+      (λ (z : Work). record v { source = Drafts z (k + 1) }) (draft_next f work ne low)) in
+      subst (λ q. Goes (put_word at (Slot v.number f) x) q) (sym known)
+      (field_goes work f record {
+        shut = d.shut;
+        holds = d.holds;
+        is_work = is;
+        stored = λ g l. d.stored g l ∙ value_same k y.work work y.same u.cpus g l;
+        told = drafted_same k y.work work y.same (p.now.stop v.number).work d.told;
+      } low)
+
+  pub open_stop : (work : Work) → v.source ≡ Drafts (told_work 10 work) 10 → Goes (put_word at (Slot v.number field.Roll) work.mask) (opened_by v.source v)
+  open_stop work e =
+      let y = is_draft (source v.number) work 10 (sees.source_is ∙ e) in
+      let is : source v.number ≡ Drafts work 10 = y.is ∙ ap (λ z. Drafts z 10) y.same in
+      let d : DraftShows u p.gate (p.now.stop v.number) (λ f. at (Slot v.number f)) v.number work 10 = source_here (Drafts work 10) is in
+      let t = d.told in
+      let same : (p.now.stop v.number).work ≡ work = work_ext (p.now.stop v.number).work work
+      (t.kind (omega arith)) (t.mask (omega arith)) (t.active (omega arith)) (t.func (omega arith)) (t.arg (omega arith)) in
+      let at' = put_word at (Slot v.number field.Roll) work.mask in
+      let plain : told u p v.number act.Store (Slot v.number field.Roll) None (Some work.mask) 0 ≡ opens p v.number =
+      ap (λ b. cond b (stored_open p v.number v.number field.Roll work.mask) (stored_shut p v.number field.Roll work.mask)) d.shut in
+      let begun = p.begun v.number ++ (p.now.stop v.number).work ∷ [] in
+      let k = sees.part_is in
+      subst (λ o. Goes at' (opened_by o v)) (sym e)
+      (goes_source p seat source v sees (opens p v.number) at' (Owns work) (Owns work) (record (v.part) { begun = v.part.begun ++ work ∷ [] })
+      (subst (λ q. StopShows u q at' seat (put source v.number (Owns work))) plain (roll_stored u p at seat source h v.number work 0 is))
+      record {
+        mine = record {
+          holds = k.holds;
+          begun = put_here p.begun v.number begun ∙ (ap (λ l. l ++ (p.now.stop v.number).work ∷ []) k.begun ∙ ap (λ (z : Work). v.part.begun ++ z ∷ []) same);
+          collected = k.collected;
+          answers = k.answers;
+          looks = k.looks;
+          calling = k.calling;
+          readings = k.readings;
+          nudged = k.nudged;
+          patched = k.patched;
+        };
+        others = λ c ne. ap (λ x. record (columns_of p c) { begun = x }) (put_else p.begun v.number begun c ne);
+      } refl tt)
+
+  -- the end of its stop
+
+  pub look_done : (w : Work) → v.source ≡ Owns w → Goes at (record v { source = done_by (at (Slot v.number field.Done)) v.source })
+  look_done w is = subst (λ o. Goes at (record v { source = done_by (at (Slot v.number field.Done)) o })) (sym is) (go (at (Slot v.number field.Done) == 0)
+      refl)
+    where
+      there : source v.number ≡ Owns w
+      there = is_owns (source v.number) w (sees.source_is ∙ is)
+
+      go : (b : Bool) → (at (Slot v.number field.Done) == 0) ≡ b → Goes at (record v { source = cond b (Owns w) (Collects w) })
+      go true e = subst (λ o. Goes at (record v { source = o })) is still
+      go false e =
+          let o : OwnerShows u (p.now.stop v.number) w = source_here (Owns w) there in
+          let one : at (Slot v.number field.Done) ≡ 1 =
+          done_is u.cpus (p.now.stop v.number).standing (p.now.stop v.number).ending (at (Slot v.number field.Done)) ((h.present.slots v.number).shows
+          o.is_open).done e in
+          goes_source p seat source v sees p at (Collects w) (Collects w) v.part (done_loaded u p at seat source h v.number w there one) unmoved_columns refl tt
+
+  pub collect : (w : Work) → v.source ≡ Collects w → Goes at (collected_known (at (Slot v.number field.Result)) v)
+  collect w is =
+      let found = at (Slot v.number field.Result) in
+      let there = is_collects (source v.number) w (sees.source_is ∙ is) in
+      let more = p.collected v.number ++ found ∷ [] in
+      let k = sees.part_is in
+      goes_source p seat source v sees (told u p v.number act.Load (Slot v.number field.Result) (Some found) None 0) at Shut Shut
+      (record (v.part) { collected = v.part.collected ++ found ∷ [] }) (result_loaded u p at seat source h v.number w 0 there)
+      record {
+        mine = record {
+          holds = k.holds;
+          begun = k.begun;
+          collected = put_here p.collected v.number more ∙ ap (λ l. l ++ found ∷ []) k.collected;
+          answers = k.answers;
+          looks = k.looks;
+          calling = k.calling;
+          readings = k.readings;
+          nudged = k.nudged;
+          patched = k.patched;
+        };
+        others = λ c ne. ap (λ x. record (columns_of p c) { collected = x }) (put_else p.collected v.number more c ne);
+      } refl tt

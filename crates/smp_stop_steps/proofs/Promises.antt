@@ -1,0 +1,6 @@
+-- The laws.
+pub mod Functions
+pub mod Premises
+pub mod Interrupts
+pub mod Patchers
+pub mod StopLaws

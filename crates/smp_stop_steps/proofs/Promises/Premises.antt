@@ -1,0 +1,204 @@
+-- Who may make which step: what holds of the stops before it.
+use Rattle.smp_stop_steps.proofs.State.Gates.{gate_free, gate_mine}
+use Rattle.std.proofs.Common.{◌≡◌, ◌≢◌, ℕ, ◌+◌, Bool, [], true, false, ◌==◌, ◌&&◌, cond, inl, inr, ⊎_elim, Option, Some, None, sym, subst}
+use Rattle.std.proofs.Common.{refl, ap, ◌∙◌, arith, eqb-true}
+use Rattle.smp_mask.specs.Mask.{has}
+use Rattle.smp_labels.specs.declared.patch.Place.TheVariants as place
+use Rattle.smp_words.specs.Access.{word_of, seen_of}
+use Rattle.smp_words.specs.declared.access.Access.{Access}
+use Rattle.smp_words.specs.declared.field.Field.{Field}
+use Rattle.smp_words.specs.declared.field.Field.TheVariants as field
+use Rattle.smp_words.specs.declared.seen.Act.TheVariants as act
+use Rattle.smp_words.specs.declared.work.Kind.TheVariants.{One}
+use Rattle.smp_words.specs.declared.work.Work.{Work}
+use Rattle.smp_words.specs.declared.word.Word.{Word}
+use Rattle.smp_words.specs.declared.word.Word.TheVariants.{Gate, Slot, Key}
+use Rattle.smp_stop_steps.specs.Callings.{HasCompleted}
+use Rattle.smp_stop_steps.specs.Labels.{Change, patch_answer}
+use Rattle.smp_stop_steps.specs.Laws.{IsThrough}
+use Rattle.smp_stop_steps.specs.Premises.{MayStore, MayStoreIf, MaySee}
+use Rattle.smp_stop_steps.specs.Counts.{mask_weight, unfinished}
+use Rattle.smp_stop_steps.specs.Tells.{plan_at}
+use Rattle.smp_words.proofs.Puts.{at_test}
+use Rattle.smp_stop_steps.specs.Seats.{Seat, In, Gives, Alters, Closes, Turn, Rests, Fills, Sets, Stands, turn_of}
+use Rattle.smp_stop_steps.specs.Shows.{StopShows}
+use Rattle.smp_stop_steps.specs.Sits.{RunsIf, HoldsGate, IsLoaded, IsThroughAll, Sits, SitsAt, SitsInCompletion, SitsInRound, SourceSits}
+use Rattle.smp_stop_steps.specs.Slots.{AckShows, DoneShows, begun_value, order}
+use Rattle.smp_stop_steps.specs.Sources.{Source, Drafts, Owns, Collects, SourceShows, DraftShows, OwnerShows}
+use Rattle.smp_stop_steps.specs.Stages.{StopControlValue, change_at, completion_access, round_access, stop_access, store_of}
+use Rattle.smp_stop_steps.specs.State.{Setup, StopState}
+use Rattle.smp_stop_steps.specs.Stop.{Standing, Outside, Called, Inside, Answering, Completed, Raising, Nobody, Refills, Raises, Ended, acked, is_of}
+use Rattle.smp_stop_steps.specs.declared.stage.CompletionStage.{CompletionStage}
+use Rattle.smp_stop_steps.specs.declared.stage.CompletionStage.TheVariants as completion
+use Rattle.smp_stop_steps.specs.declared.stage.RoundStage.{RoundStage}
+use Rattle.smp_stop_steps.specs.declared.stage.RoundStage.TheVariants as round
+use Rattle.smp_stop_steps.specs.declared.stage.StopStage.{StopStage}
+use Rattle.smp_stop_steps.specs.declared.stage.StopStage.TheVariants.{TakeGate, OpenGate, Begin, Enter, EnterKind, EnterMask, EnterActive, Advance}
+use Rattle.smp_stop_steps.specs.declared.stage.StopStage.TheVariants.{Complete, Close, LoadDone, LoadResult, ReadKey, ReadSite, NudgeKey, ExchangeKey}
+use Rattle.smp_stop_steps.specs.declared.stage.Visit.{Visit}
+use Rattle.smp_stop_steps.proofs.Steps.Completions.{one_phase, rests_not}
+use Rattle.smp_stop_steps.proofs.Basics.Counts.{sum_zero}
+use Rattle.smp_stop_steps.proofs.State.Phases.{is_open_inside, keeps_inside}
+use Rattle.smp_stop_steps.proofs.State.Raises.{all_acknowledged, in_machine}
+use Rattle.smp_stop_steps.proofs.State.Works.{called_is}
+
+refills_me : (me : ℕ) (r : Raising) → turn_of r me ≡ Fills → r ≡ Refills me
+refills_me me Nobody e = cc
+refills_me me (Refills r) e = at_test me r (λ b. cond b Fills Rests ≡ Fills → Refills r ≡ Refills me) (λ same _. ap Refills (sym same)) (λ ne e. cc) e
+refills_me me (Raises r) e = at_test me r (λ b. cond b Sets Rests ≡ Fills → Raises r ≡ Refills me) (λ same e. cc) (λ ne e. cc) e
+
+raises_me : (me : ℕ) (r : Raising) → turn_of r me ≡ Sets → r ≡ Raises me
+raises_me me Nobody e = cc
+raises_me me (Refills r) e = at_test me r (λ b. cond b Fills Rests ≡ Sets → Refills r ≡ Raises me) (λ same e. cc) (λ ne e. cc) e
+raises_me me (Raises r) e = at_test me r (λ b. cond b Sets Rests ≡ Sets → Raises r ≡ Raises me) (λ same _. ap Raises (sym same)) (λ ne e. cc) e
+
+completed_is : (x : Standing) → is_of x ≡ true → unfinished x ≡ 0 → HasCompleted x
+completed_is Outside of z = cc
+completed_is Called of z = absurd (omega arith)
+completed_is (Inside a l) of z = absurd (omega arith)
+completed_is (Answering a v) of z = absurd (omega arith)
+completed_is (Completed a v) of z = tt
+
+module _ (u : Setup) (p : StopState) (at : Word → ℕ) (seat : ℕ → Seat) (source : ℕ → Source) (h : StopShows u p at seat source) (c : StopControlValue) (me : ℕ)
+    (s : Sits u me (at Gate) c (seat me) (source me)) where
+  abbrev May : Access → Type 0
+  May access = let seen = seen_of me access (at (word_of access)) None in MaySee p me seen.act seen.word seen.found seen.put
+
+  abbrev slot : ℕ → Field → ℕ
+  slot j g = at (Slot j g)
+
+  stands : (x : Seat) → seat me ≡ x → Stands p.now me x
+  stands x e = subst (Stands p.now me) e (h.present.stands me)
+
+  source_is : (y : Source) → source me ≡ y → SourceShows u p.gate (p.now.stop me) (slot me) me y
+  source_is y e = subst (SourceShows u p.gate (p.now.stop me) (slot me) me) e (h.sources me)
+
+  open_in : (j : ℕ) (w : Work) (a l : ℕ) (t : Turn) → seat me ≡ In j w a l t → (p.now.stop j).is_open ≡ true
+  open_in j w a l t e = is_open_inside u.cpus (p.now.stop j) (slot j) (h.present.slots j) me (Inside a l) (stands (In j w a l t) e).1 refl
+
+  -- a store to an open slot, and to one that is not
+  stored_open : (j n : ℕ) (f : Field) → (p.now.stop j).is_open ≡ true → MayStore p me j f n → MayStoreIf (p.now.stop j).is_open p me j f n
+  stored_open j n f op may = subst (λ b. MayStoreIf b p me j f n) (sym op) may
+
+  stored_shut : (n : ℕ) (f : Field) → (p.now.stop me).is_open ≡ false → p.gate ≡ Some me → MayStoreIf (p.now.stop me).is_open p me me f n
+  stored_shut n f shut gate = subst (λ b. MayStoreIf b p me me f n) (sym shut) (refl, gate)
+
+  -- through all phases, and with nothing to do for the next one
+  through : (j : ℕ) (w : Work) (v : Visit) → IsLoaded v w → IsThroughAll v → seat me ≡ In j w v.acked v.acked Rests → IsThrough (p.now.stop j) me v.acked
+  through j w v loaded all is =
+      let st = stands (In j w v.acked v.acked Rests) is in
+      let kinds = ((h.present.slots j).shows (open_in j w v.acked v.acked Rests is)).kinds in (
+        ⊎_elim (λ (e : v.acked ≡ 4). inl e) (λ (e : v.kind ≡ One). inr (one_phase (p.now.stop j).work.kind (p.now.stop j).phase (ap (λ (x : Work). x.kind)
+            st.3 ∙ (sym loaded.kind ∙ e)) kinds)) all,
+        rests_not me (p.now.stop j).raising st.2,
+      )
+
+  raised : (j : ℕ) (w : Work) (a : ℕ) → seat me ≡ In j w a a Sets → MayStore p me j field.State (a + 1)
+  raised j w a is =
+      let st = stands (In j w a a Sets) is in
+      let op = open_in j w a a Sets is in
+      let o = (h.present.slots j).shows op in
+      let mine = raises_me me (p.now.stop j).raising st.2 in
+      let busy : (p.now.stop j).phase ≢ 0 = λ z. let bad : Nobody ≡ Raises me = sym (o.calm z) ∙ mine in cc in
+      let ack : AckShows u.cpus (p.now.stop j).phase (p.now.stop j).standing (Raises me) (slot j field.Ack) =
+      subst (λ r. AckShows u.cpus (p.now.stop j).phase (p.now.stop j).standing r (slot j field.Ack)) mine (o.ack busy) in
+      let level : Inside (p.now.stop j).phase (p.now.stop j).phase ≡ Inside a a = sym ack.2 ∙ st.1 in
+      let phase : (p.now.stop j).phase ≡ a = cc in (
+        mine,
+        ap (λ n. n + 1) (sym phase),
+        λ d of. all_acknowledged u.cpus (p.now.stop j) (slot j) (h.present.slots j) ack.1 d
+            (subst (λ b. is_of ((p.now.stop j).standing d) ≡ (b && has (p.now.stop j).work.mask d)) op ((h.present.slots j).members d) ∙ of),
+      )
+
+  in_round : (v : Visit) (stage : RoundStage) → SitsInRound u me c.changes v stage (seat me) → May (round_access u.cpus c.changes v stage)
+  in_round v (round.Look answer) x = (stands (In v.slot x.2.0 v.acked v.acked Rests) x.2.2).0
+  in_round v (round.LoadFunc answer) x = (stands (In v.slot x.1.0 2 3 Rests) x.1.1.3).0
+  in_round v (round.LoadArg answer func) x = (stands (In v.slot x.1.0 2 3 Rests) x.1.1.3).0
+  in_round v (round.LoadKey key change) x = tt
+  in_round v (round.LoadEntry key word site) x = tt
+  in_round v (round.StoreChange made) x = patched (change_at c.changes made)
+    where
+      patched : (y : Change) → May (store_of y)
+      patched (place.Key k, n) = tt
+      patched (place.Site i, n) = tt
+  in_round v (round.Acknowledge answer ran) x = ⊎_elim
+      (λ (y : (seat me ≡ In v.slot x.0 v.acked (v.acked + 1) Rests) × RunsIf me v ran). let st = stands (In v.slot x.0 v.acked (v.acked + 1) Rests) y.0 in
+      (st.0, (v.acked, st.1, phase v.acked st.1)))
+      (λ (y : (v.acked ≡ 2) × (ran ≡ true) × ((count : ℕ) × (answer ≡ patch_answer x.0 count) × (seat me ≡ Alters v.slot x.0 count (plan_at u x.0 count) []))).
+      let st = stands (Alters v.slot x.0 y.2.0 (plan_at u x.0 y.2.0) []) y.2.2 in (st.0, (2, st.1, phase 2 st.1))) x.3
+    where
+      phase : (a : ℕ) → (p.now.stop v.slot).standing me ≡ Inside a (a + 1) → (p.now.stop v.slot).phase ≡ a + 1
+      phase a is = ⊎_elim (λ (e : a + 1 ≡ a). absurd (let z : ⊥ = omega (arith, e) in z)) (λ (e : (a + 1 ≡ a + 1) × ((p.now.stop v.slot).phase ≡ a + 1)). e.1)
+          (keeps_inside u.cpus (p.now.stop v.slot) (slot v.slot) (h.present.slots v.slot) me (Inside a (a + 1)) is).2
+  in_round v (round.Refill ran) x =
+      let st = stands (In v.slot x.0 v.acked v.acked Fills) x.2 in stored_open v.slot (mask_weight u.cpus v.mask) field.Ack (open_in v.slot x.0 v.acked
+      v.acked Fills x.2) (refills_me me (p.now.stop v.slot).raising st.2)
+  in_round v (round.Raise ran) x = stored_open v.slot (v.acked + 1) field.State (open_in v.slot x.0 v.acked v.acked Sets x.2) (raised v.slot x.0 v.acked x.2)
+
+  in_completion : (v : Visit) (stage : CompletionStage) → SitsInCompletion v stage (seat me) → May (completion_access v stage)
+  in_completion v (completion.LoadFunc answer) x = (stands (In v.slot x.1.0 v.acked v.acked Rests) x.1.2).0
+  in_completion v (completion.LoadArg answer func) x = (stands (In v.slot x.1.0 v.acked v.acked Rests) x.1.2).0
+  in_completion v completion.StoreAnswer x =
+      let st = stands (In v.slot x.2.0 v.acked v.acked Rests) x.2.2 in
+      stored_open v.slot v.answer field.Result (open_in v.slot x.2.0 v.acked v.acked Rests x.2.2)
+      (st.0, subst (λ (y : Standing). IsThrough (p.now.stop v.slot) me (acked y)) (sym st.1) (through v.slot x.2.0 v x.2.1 x.1 x.2.2))
+  in_completion v completion.CountDown x = ⊎_elim
+      (λ (y : (v.answer ≡ 0) × IsLoaded v x.0 × IsThroughAll v × (seat me ≡ In v.slot x.0 v.acked v.acked Rests)).
+      let st = stands (In v.slot x.0 v.acked v.acked Rests) y.3 in (
+        st.0,
+        subst (λ (z : Standing). IsThrough (p.now.stop v.slot) me (acked z)) (sym st.1)
+            (through v.slot x.0 v y.1 y.2 y.3),
+      ))
+      (λ (y : seat me ≡ Gives v.slot x.0 v.acked v.answer).
+      let st = stands (Gives v.slot x.0 v.acked v.answer) y in
+      let k = keeps_inside u.cpus (p.now.stop v.slot) (slot v.slot) (h.present.slots v.slot) me (Answering v.acked v.answer) st.1 in
+      (st.0, subst (λ (z : Standing). IsThrough (p.now.stop v.slot) me (acked z)) (sym st.1) (k.2, rests_not me (p.now.stop v.slot).raising st.2))) x.1
+
+  at_stage : (stage : StopStage) → SitsAt u me c (Some stage) (seat me) → SourceSits c.is_open (Some stage) (source me) →
+      HoldsGate me (at Gate) (Some stage) → May (stop_access u.cpus me c.changes stage)
+  at_stage TakeGate x y g = taken (at Gate == 0) refl
+    where
+      taken : (b : Bool) → (at Gate == 0) ≡ b → MaySee p me act.Cas Gate (Some (at Gate)) (cond b (Some (me + 1)) None)
+      taken true e = gate_free p.gate (sym h.gate ∙ eqb-true (at Gate) 0 e)
+      taken false e = tt
+  at_stage OpenGate x y g = gate_mine me p.gate (sym h.gate ∙ g)
+  at_stage (Begin work f) x y g = let d : DraftShows u p.gate (p.now.stop me) (slot me) me work (order f) = source_is (Drafts work (order f)) y.1 in
+      stored_shut (begun_value u.cpus work f) f d.shut d.holds
+  at_stage (Enter j) x y g = λ found. (
+    subst (Stands p.now me) x.1 (h.present.stands me),
+    called_is ((p.now.stop j).standing me)
+        (sym ((h.present.slots j).roll me) ∙ found),
+  )
+  at_stage (EnterKind j) x y g = (stands (In j x.0 0 0 Rests) x.1).0
+  at_stage (EnterMask j kind) x y g = (stands (In j x.0 0 0 Rests) x.1).0
+  at_stage (EnterActive j kind mask) x y g = (stands (In j x.0 0 0 Rests) x.1).0
+  at_stage (Advance v stage) x y g = in_round v stage x.1
+  at_stage (Complete v stage) x y g = in_completion v stage x.1
+  at_stage (Close j) x y g = let st = stands (Closes j) x.1 in stored_open j 1 field.Done st.1 (refl, st.2)
+  at_stage LoadDone x y g = let o : OwnerShows u (p.now.stop me) y.1.0 = source_is (Owns y.1.0) y.1.1 in (refl, o.is_open)
+  at_stage LoadResult x y g =
+      let o : OwnerShows u (p.now.stop me) y.1.0 × ((p.now.stop me).ending ≡ Ended) = source_is (Collects y.1.0) y.1.1 in
+      let op = o.0.is_open in
+      let d : DoneShows u.cpus (p.now.stop me).standing Ended (slot me field.Done) = subst (λ e. DoneShows u.cpus (p.now.stop me).standing e
+      (slot me field.Done)) o.1 ((h.present.slots me).shows op).done in (
+        refl,
+        op,
+        λ d' of.
+            let member : is_of ((p.now.stop me).standing d') ≡ true = subst (λ b. is_of ((p.now.stop me).standing d') ≡ (b && has (p.now.stop me).work.mask d'))
+            op ((h.present.slots me).members d') ∙ of in
+            completed_is ((p.now.stop me).standing d') member
+            (sum_zero (λ e. unfinished ((p.now.stop me).standing e)) u.cpus d.1 d' (in_machine u.cpus (p.now.stop me).phase d' ((p.now.stop me).standing d')
+            member ((h.present.slots me).keeps d'))),
+      )
+  at_stage (ReadKey k) x y g = tt
+  at_stage (ReadSite i) x y g = tt
+  at_stage (NudgeKey k up) x y g = tt
+  at_stage (ExchangeKey k expected new) x y g = exchanged (at (Key k) == expected)
+    where
+      exchanged : (b : Bool) → MaySee p me act.Cas (Key k) (Some (at (Key k))) (cond b (Some new) None)
+      exchanged true = tt
+      exchanged false = tt
+
+  pub may_see : (stage : StopStage) → c.stage ≡ Some stage → May (stop_access u.cpus me c.changes stage)
+  may_see stage e = at_stage stage (subst (λ (x : Option StopStage). SitsAt u me c x (seat me)) e s.seat)
+      (subst (λ (x : Option StopStage). SourceSits c.is_open x (source me)) e s.source) (subst (HoldsGate me (at Gate)) e s.gate_held)

@@ -1,0 +1,187 @@
+-- Acknowledging, refilling, raising and looking, among all slots and CPUs.
+use Rattle.std.proofs.Common.{◌≡◌, ◌≢◌, ℕ, ◌+◌, ◌-◌, ◌<◌, Bool, true, false, ◌==◌, cond, sym, subst, refl, ap, ◌∙◌, arith, ⊎_elim, ne_eqb, eq-eqb, Some, List}
+use Rattle.smp_words.proofs.Puts.{at_test}
+use Rattle.smp_stop_steps.proofs.Basics.Counts.{put_else, put_here}
+use Rattle.smp_stop_steps.proofs.State.Moves.{IsNoPatch, SaveMe, moved, moves, slot_put, slot_same}
+use Rattle.smp_stop_steps.proofs.State.Phases.{acknowledges_slot, is_open_inside, keeps_inside, none_raises, refills_slot}
+use Rattle.smp_stop_steps.proofs.State.Raises.{raises_slot}
+use Rattle.smp_stop_steps.proofs.State.Works.{looks_slot}
+use Rattle.smp_words.specs.Put.{put, put_word}
+use Rattle.smp_stop_steps.specs.Counts.{weight}
+use Rattle.smp_stop_steps.specs.Labels.{Agrees, Reading, labels_in}
+use Rattle.smp_stop_steps.specs.Laws.{IsNot}
+use Rattle.smp_stop_steps.specs.Present.{PresentShows}
+use Rattle.smp_stop_steps.specs.Seats.{Fills, In, Rests, Seat, Sets, Stands, Turn, irq_of, turn_of}
+use Rattle.smp_stop_steps.specs.Slots.{AckShows}
+use Rattle.smp_stop_steps.specs.State.{Present, Setup}
+use Rattle.smp_stop_steps.specs.Stop.{Inside, Nobody, Raises, Raising, Refills, Standing, Stop, acknowledged, is_inside, raised, refilled, stands}
+use Rattle.smp_words.specs.declared.field.Field.TheVariants.{Ack, State}
+use Rattle.smp_words.specs.declared.field.Field.{Field}
+use Rattle.smp_words.specs.declared.work.Work.{Work}
+use Rattle.smp_words.specs.declared.word.Word.TheVariants.{Slot}
+use Rattle.smp_words.specs.declared.word.Word.{Word}
+use Rattle.std.specs.List.{AllByRecursion}
+
+-- nobody raises while one of the mask is behind
+pub nobody_raises : (cpus : ℕ) (stop : Stop) (ack me a l : ℕ) (r : Raising) → stop.standing me ≡ Inside a l → me < cpus → a ≢ stop.phase →
+    AckShows cpus stop.phase stop.standing r ack → r ≡ Nobody
+nobody_raises cpus stop ack me a l Nobody is small ne h = refl
+nobody_raises cpus stop ack me a l (Refills r) is small ne h = absurd (none_raises cpus stop.phase stop.standing me a l is small ne h.1)
+nobody_raises cpus stop ack me a l (Raises r) is small ne h = absurd (none_raises cpus stop.phase stop.standing me a l is small ne h.1)
+
+module _ (u : Setup) (p : Present) (at : Word → ℕ) (seat : ℕ → Seat) (h : PresentShows u p at seat)
+    (s me : ℕ) (irq' : ℕ → Bool) (readings' : ℕ → List Reading) (save : SaveMe p me p.inside irq' readings') where
+  turn_here : (stop' : Stop) (t : Turn) → turn_of stop'.raising me ≡ t → turn_of (put p.stop s stop' s).raising me ≡ t
+  turn_here stop' t e = at_test s s (λ b. turn_of (cond b stop' (p.stop s)).raising me ≡ t) (λ _. e) (λ ne. absurd (ne refl))
+
+  standing_here : (stop' : Stop) (x : Standing) → stop'.standing me ≡ x → (put p.stop s stop' s).standing me ≡ x
+  standing_here stop' x e = at_test s s (λ b. (cond b stop' (p.stop s)).standing me ≡ x) (λ _. e) (λ ne. absurd (ne refl))
+
+  fills_me : (r : Raising) → turn_of r me ≡ Fills → r ≡ Refills me
+  fills_me Nobody e = cc
+  fills_me (Refills r) e = at_test me r (λ b. cond b Fills Rests ≡ Fills → Refills r ≡ Refills me) (λ same _. ap Refills (sym same)) (λ ne e. cc) e
+  fills_me (Raises r) e = at_test me r (λ b. cond b Sets Rests ≡ Fills → Raises r ≡ Refills me) (λ same e. cc) (λ ne e. cc) e
+
+  sets_me : (r : Raising) → turn_of r me ≡ Sets → r ≡ Raises me
+  sets_me Nobody e = cc
+  sets_me (Refills r) e = at_test me r (λ b. cond b Fills Rests ≡ Sets → Refills r ≡ Raises me) (λ same e. cc) (λ ne e. cc) e
+  sets_me (Raises r) e = at_test me r (λ b. cond b Sets Rests ≡ Sets → Raises r ≡ Raises me) (λ same _. ap Raises (sym same)) (λ ne e. cc) e
+
+  rests_me : (r : Raising) → turn_of r me ≡ Rests → IsNot me r
+  rests_me Nobody e = tt
+  rests_me (Refills r) e = λ same. at_test me r (λ b. cond b Fills Rests ≡ Rests → ⊥) (λ _ e. cc) (λ ne _. ne (sym same)) e
+  rests_me (Raises r) e = λ same. at_test me r (λ b. cond b Sets Rests ≡ Rests → ⊥) (λ _ e. cc) (λ ne _. ne (sym same)) e
+
+  work_here : (stop' : Stop) (w : Work) → stop'.work ≡ w → (put p.stop s stop' s).work ≡ w
+  work_here stop' w e = at_test s s (λ b. (cond b stop' (p.stop s)).work ≡ w) (λ _. e) (λ ne. absurd (ne refl))
+
+  -- where a CPU that stays inside is at home
+  home_stays : (stop' : Stop) (a l : ℕ) → (p.stop s).standing me ≡ Inside a l → p.inside me ≡ Some s →
+      (j : ℕ) → is_inside ((put p.stop s stop' j).standing me) ≡ true → p.inside me ≡ Some j
+  home_stays stop' a l is in_ j = at_test j s (λ b. is_inside ((cond b stop' (p.stop j)).standing me) ≡ true → p.inside me ≡ Some j)
+      (λ e _. in_ ∙ ap Some (sym e)) (λ ne. h.homes j me)
+
+  -- fetch_sub of the count, by a CPU that looked at a new phase
+  pub step_acknowledges : (job : Work) (a : ℕ) → seat me ≡ In s job a (a + 1) Rests →
+      let next = In s job (a + 1) (a + 1) (cond (at (Slot s Ack) == 1) Fills Rests) in
+      irq' me ≡ irq_of next → (u.online me ≡ true → irq_of next ≡ true → AllByRecursion (Agrees (labels_in at)) (readings' me)) →
+      PresentShows u (moved p s (acknowledged (p.stop s) me (a + 1) (at (Slot s Ack))) p.inside irq' readings') (put_word at (Slot s Ack)
+      (at (Slot s Ack) - 1)) (put seat me next)
+  step_acknowledges job a is off read =
+      let found = at (Slot s Ack) in
+      let stop' = acknowledged (p.stop s) me (a + 1) found in
+      let w : Field → ℕ = λ f. at (Slot s f) in
+      let st : Stands p me (In s job a (a + 1) Rests) = subst (Stands p me) is (h.stands me) in
+      let k = keeps_inside u.cpus (p.stop s) w (h.slots s) me (Inside a (a + 1)) st.1 in
+      let o = (h.slots s).shows (is_open_inside u.cpus (p.stop s) w (h.slots s) me (Inside a (a + 1)) st.1 refl) in
+      let at_ : (p.stop s).phase ≡ a + 1 = ⊎_elim (λ (e : a + 1 ≡ a). absurd (omega arith)) (λ (e : (a + 1 ≡ a + 1) × ((p.stop s).phase ≡ a + 1)). e.1) k.2 in
+      let no : (p.stop s).raising ≡ Nobody = nobody_raises u.cpus (p.stop s) found me a (a + 1) (p.stop s).raising st.1 k.0 (omega arith)
+      (o.ack (omega arith)) in
+      moves u p at (put_word at (Slot s Ack) (found - 1)) seat s me stop' p.inside irq' readings' (In s job (a + 1) (a + 1) (cond (found == 1) Fills Rests)) h
+      (slot_put u.cpus p.stop at s Ack (found - 1) stop' h.slots (acknowledges_slot u.cpus (p.stop s) w (h.slots s) me a st.1)) refl
+      (λ c ne. record {
+        on = λ _. put_else (p.stop s).standing me (Inside (a + 1) (a + 1)) c ne;
+        back = λ i. subst (λ x. is_inside x ≡ true) (put_else (p.stop s).standing me (Inside (a + 1) (a + 1)) c ne) i;
+        work = λ _. refl;
+        turn = λ _. rw no (other_turn c ne (found == 1));
+        ending = λ op e. (op, e);
+      })
+      save (
+        st.0,
+        at_test s s (λ b. (cond b stop' (p.stop s)).standing me ≡ Inside (a + 1) (a + 1)) (λ _. put_here (p.stop s).standing me (Inside (a + 1) (a + 1)))
+            (λ ne. absurd (ne refl)),
+        at_test s s (λ b. turn_of (cond b stop' (p.stop s)).raising me ≡ cond (found == 1) Fills Rests) (λ _. rw no (own_turn (found == 1)))
+            (λ ne. absurd (ne refl)),
+        work_here stop' job st.3,
+      )
+      (home_stays stop' a (a + 1) st.1 st.0) off read
+      (subst IsNoPatch (sym is) tt) (λ op kind. h.works s op kind)
+    where
+      other_turn : (c : ℕ) → c ≢ me → (b : Bool) → turn_of (cond b (Refills me) Nobody) c ≡ Rests
+      other_turn c ne true = ap (λ b. cond b Fills Rests) (ne_eqb c me ne)
+      other_turn c ne false = refl
+
+      own_turn : (b : Bool) → turn_of (cond b (Refills me) Nobody) me ≡ cond b Fills Rests
+      own_turn true = ap (λ b. cond b Fills Rests) (eq-eqb me me refl)
+      own_turn false = refl
+
+  -- store of the count, by the one that found 1
+  pub step_refills : (job : Work) (a l : ℕ) → seat me ≡ In s job a l Fills → (p.stop s).phase ≢ 0 →
+      irq' me ≡ irq_of (In s job a l Sets) → (u.online me ≡ true → irq_of (In s job a l Sets) ≡ true → AllByRecursion (Agrees (labels_in at)) (readings' me)) →
+      PresentShows u (moved p s (refilled (p.stop s) me) p.inside irq' readings') (put_word at (Slot s Ack) (weight u.cpus (p.stop s).standing))
+      (put seat me (In s job a l Sets))
+  step_refills job a l is phase off read =
+      let w : Field → ℕ = λ f. at (Slot s f) in
+      let st : Stands p me (In s job a l Fills) = subst (Stands p me) is (h.stands me) in
+      let open_ = is_open_inside u.cpus (p.stop s) w (h.slots s) me (Inside a l) st.1 refl in
+      let mine = fills_me (p.stop s).raising st.2 in
+      moves u p at (put_word at (Slot s Ack) (weight u.cpus (p.stop s).standing)) seat s me (refilled (p.stop s) me) p.inside irq' readings'
+      (In s job a l Sets) h
+      (slot_put u.cpus p.stop at s Ack (weight u.cpus (p.stop s).standing) (refilled (p.stop s) me) h.slots (refills_slot u.cpus (p.stop s) w (h.slots s) me
+      mine open_ phase)) refl
+      (λ c ne. record {
+        on = λ _. refl;
+        back = λ i. i;
+        work = λ _. refl;
+        turn = λ _. rw mine (ap (λ b. cond b Sets Rests) (ne_eqb c me ne) ∙ sym (ap (λ b. cond b Fills Rests) (ne_eqb c me ne)));
+        ending = λ op e. (op, e);
+      })
+      save (
+        st.0,
+        standing_here (refilled (p.stop s) me) (Inside a l) st.1,
+        turn_here (refilled (p.stop s) me) Sets (ap (λ b. cond b Sets Rests)
+            (eq-eqb me me refl)),
+        work_here (refilled (p.stop s) me) job st.3,
+      )
+      (home_stays (refilled (p.stop s) me) a l st.1 st.0) off read
+      (subst IsNoPatch (sym is) tt) (λ op kind. h.works s op kind)
+
+  -- store of the state
+  pub step_raises : (job : Work) (a l : ℕ) → seat me ≡ In s job a l Sets → (p.stop s).phase ≢ 0 →
+      irq' me ≡ irq_of (In s job a l Rests) → (u.online me ≡ true → irq_of (In s job a l Rests) ≡ true → AllByRecursion (Agrees (labels_in at))
+      (readings' me)) →
+      PresentShows u (moved p s (raised (p.stop s) ((p.stop s).phase + 1)) p.inside irq' readings') (put_word at (Slot s State) ((p.stop s).phase + 1))
+      (put seat me (In s job a l Rests))
+  step_raises job a l is phase off read =
+      let w : Field → ℕ = λ f. at (Slot s f) in
+      let n = (p.stop s).phase + 1 in
+      let st : Stands p me (In s job a l Sets) = subst (Stands p me) is (h.stands me) in
+      let open_ = is_open_inside u.cpus (p.stop s) w (h.slots s) me (Inside a l) st.1 refl in
+      let mine = sets_me (p.stop s).raising st.2 in
+      moves u p at (put_word at (Slot s State) n) seat s me (raised (p.stop s) n) p.inside irq' readings' (In s job a l Rests) h
+      (slot_put u.cpus p.stop at s State n (raised (p.stop s) n) h.slots (raises_slot u.cpus (p.stop s) w (h.slots s) me mine open_ phase)) refl
+      (λ c ne. record {
+        on = λ _. refl;
+        back = λ i. i;
+        work = λ _. refl;
+        turn = λ _. rw mine (sym (ap (λ b. cond b Sets Rests) (ne_eqb c me ne)));
+        ending = λ op e. (op, e);
+      })
+      save
+      (st.0, standing_here (raised (p.stop s) n) (Inside a l) st.1, turn_here (raised (p.stop s) n) Rests refl, work_here (raised (p.stop s) n) job st.3)
+      (home_stays (raised (p.stop s) n) a l st.1 st.0) off read
+      (subst IsNoPatch (sym is) tt) (λ op kind. h.works s op kind)
+
+  -- load of the state
+  pub step_looks : (job : Work) (a l : ℕ) → seat me ≡ In s job a l Rests → a ≢ 4 →
+      let next = In s job a (at (Slot s State)) Rests in
+      irq' me ≡ irq_of next → (u.online me ≡ true → irq_of next ≡ true → AllByRecursion (Agrees (labels_in at)) (readings' me)) →
+      PresentShows u (moved p s (stands (p.stop s) me (Inside a (at (Slot s State)))) p.inside irq' readings') at (put seat me next)
+  step_looks job a l is more off read =
+      let w : Field → ℕ = λ f. at (Slot s f) in
+      let to = Inside a (at (Slot s State)) in
+      let stop' = stands (p.stop s) me to in
+      let st : Stands p me (In s job a l Rests) = subst (Stands p me) is (h.stands me) in
+      moves u p at at seat s me stop' p.inside irq' readings' (In s job a (at (Slot s State)) Rests) h
+      (slot_same u.cpus p.stop at s stop' h.slots (looks_slot u.cpus (p.stop s) w (h.slots s) me a l st.1 more (rests_me (p.stop s).raising st.2))) refl
+      (λ c ne. record {
+        on = λ _. put_else (p.stop s).standing me to c ne;
+        back = λ i. subst (λ x. is_inside x ≡ true) (put_else (p.stop s).standing me to c ne) i;
+        work = λ _. refl;
+        turn = λ _. refl;
+        ending = λ op e. (op, e);
+      })
+      save
+      (st.0, standing_here stop' to (put_here (p.stop s).standing me to), turn_here stop' Rests st.2, work_here stop' job st.3)
+      (home_stays stop' a l st.1 st.0) off read
+      (subst IsNoPatch (sym is) tt) (λ op kind. h.works s op kind)

@@ -1,0 +1,307 @@
+-- Entering, completing, opening and collecting, among all slots and CPUs.
+use Rattle.std.proofs.Common.{◌≡◌, ◌≢◌, ℕ, zero, suc, ◌-◌, ◌<◌, Bool, true, false, ◌==◌, cond, sym, subst, refl, ap, ◌∙◌, ◌⊎◌, arith, ne_eqb, eq-eqb}
+use Rattle.std.proofs.Common.{Option, Some, None}
+use Rattle.smp_words.proofs.Puts.{at_test}
+use Rattle.smp_stop_steps.proofs.Basics.Counts.{put_else, put_here, sum_zero}
+use Rattle.smp_stop_steps.proofs.State.Ends.{all_outside, answer_of_it, answer_unfinished, collects_slot, completes_slot, finishes_slot, opens_slot}
+use Rattle.smp_stop_steps.proofs.State.Moves.{IsNoPatch, SaveMe, moved, moves, slot_put, slot_same, source_moves}
+use Rattle.smp_stop_steps.proofs.State.Phases.{is_open_inside}
+use Rattle.smp_stop_steps.proofs.State.Raises.{in_machine}
+use Rattle.smp_stop_steps.proofs.State.Works.{answers_slot, called_is, enters_slot, not_raising}
+use Rattle.smp_words.specs.Put.{place_of, put, put_word, same_field}
+use Rattle.smp_stop_steps.specs.Counts.{count_unfinished, unfinished}
+use Rattle.smp_stop_steps.specs.Laws.{IsAnswer, IsNot, IsThrough}
+use Rattle.smp_stop_steps.specs.Present.{PresentShows}
+use Rattle.smp_stop_steps.specs.Seats.{Closes, Fills, Free, Gives, In, Rests, Seat, Sets, Stands, irq_of, turn_of}
+use Rattle.smp_stop_steps.specs.Slots.{DoneShows, IsStored, OpenShows, SlotShows, put_field}
+use Rattle.smp_stop_steps.specs.Sources.{IsOfKind, IsPatchWork, IsWork}
+use Rattle.smp_stop_steps.specs.State.{Present, Setup}
+use Rattle.smp_stop_steps.specs.Stop.{Answering, Called, Completed, Ended, Ending, Inside, Last, Nobody, Outside, Raises, Raising, Refills, Running}
+use Rattle.smp_stop_steps.specs.Stop.{Standing, Stop, closed, completed, ended, is_inside, is_of, opened, stands}
+use Rattle.smp_words.specs.declared.field.Field.TheVariants.{Ack, Done, Result, Roll, Todo}
+use Rattle.smp_words.specs.declared.field.Field.{Field}
+use Rattle.smp_words.specs.declared.work.Kind.TheVariants.{Multi, One, Patch}
+use Rattle.smp_words.specs.declared.work.Kind.{Kind as KindOf}
+use Rattle.smp_words.specs.declared.work.Work.{Work}
+use Rattle.smp_words.specs.declared.word.Word.TheVariants.{Slot}
+use Rattle.smp_words.specs.declared.word.Word.{Word}
+use Rattle.smp_labels.specs.Plans.{stored}
+use Rattle.smp_mask.specs.Mask.{has}
+
+module _ (u : Setup) (p : Present) (at : Word → ℕ) (seat : ℕ → Seat) (h : PresentShows u p at seat) (s : ℕ) where
+  abbrev w : Field → ℕ
+  w f = at (Slot s f)
+
+  -- store of the roll
+  pub step_opens : (work : Work) → (p.stop s).is_open ≡ false → IsWork u work → IsStored u.cpus w work 10 →
+      PresentShows u (moved p s (opened (p.stop s) work) p.inside p.irq p.readings) (put_word at (Slot s Roll) work.mask) seat
+  step_opens work shut is_work stored =
+      let out = all_outside u.cpus (p.stop s) w (h.slots s) shut in
+      source_moves u p at (put_word at (Slot s Roll) work.mask) seat s (opened (p.stop s) work) h
+      (slot_put u.cpus p.stop at s Roll work.mask (opened (p.stop s) work) h.slots (opens_slot u.cpus (p.stop s) w (h.slots s) work is_work.below
+      is_work.some stored)) refl
+      (λ c. record {
+        on = λ i. absurd (nobody (out c) i);
+        back = λ i. absurd (calls (has work.mask c) i);
+        work = λ i. absurd (nobody (out c) i);
+        turn = λ i. absurd (nobody (out c) i);
+        ending = λ op e. absurd (apart (sym op ∙ shut));
+      })
+      (λ _ kind. patch_of_kind work.kind kind is_work.kind)
+    where
+      patch_of_kind : (k : KindOf) → k ≡ Patch → IsOfKind u work k → IsPatchWork u work
+      patch_of_kind One e is = cc
+      patch_of_kind Multi e is = cc
+      patch_of_kind Patch e is = is
+
+      apart : true ≡ false → ⊥
+      apart e = cc
+
+      nobody : {x : Standing} → x ≡ Outside → is_inside x ≡ true → ⊥
+      nobody e i = let bad : false ≡ true = sym (ap is_inside e) ∙ i in cc
+
+      calls : (b : Bool) → is_inside (cond b Called Outside) ≡ true → ⊥
+      calls true e = cc
+      calls false e = cc
+
+  -- store of a field but the roll, where no stop is open
+  pub step_drafts : (f : Field) (n : ℕ) (work : Work) → (p.stop s).is_open ≡ false → same_field f Roll true ≡ false →
+      PresentShows u (moved p s (record (p.stop s) { work = work }) p.inside p.irq p.readings) (put_word at (Slot s f) n) seat
+  step_drafts f n work shut other =
+      let out = all_outside u.cpus (p.stop s) w (h.slots s) shut in
+      let stop' : Stop = record (p.stop s) { work = work } in
+      source_moves u p at (put_word at (Slot s f) n) seat s stop' h
+      (slot_put u.cpus p.stop at s f n stop' h.slots (drafted_slot f n work shut out other)) refl
+      (λ c. record { on = λ _. refl; back = λ i. i; work = λ i. absurd (nobody (out c) i); turn = λ _. refl; ending = λ op e. absurd (apart (sym op ∙ shut)) })
+      (λ op _. absurd (apart (sym op ∙ shut)))
+    where
+      apart : true ≡ false → ⊥
+      apart e = cc
+
+      nobody : {x : Standing} → x ≡ Outside → is_inside x ≡ true → ⊥
+      nobody e i = let bad : false ≡ true = sym (ap is_inside e) ∙ i in cc
+
+      turned : (f : Field) → same_field f Roll true ≡ false → same_field Roll f true ≡ false
+      turned f e = at_test (place_of Roll) (place_of f) (λ b. cond b true false ≡ false)
+          (λ same. let bad : true ≡ false = sym (ap (λ b. cond b true false) (eq-eqb (place_of f) (place_of Roll) (sym same))) ∙ e in cc) (λ _. refl)
+
+      drafted_slot : (f : Field) (n : ℕ) (work : Work) → (p.stop s).is_open ≡ false → ((c : ℕ) → (p.stop s).standing c ≡ Outside) →
+          same_field f Roll true ≡ false →
+          SlotShows u.cpus (record (p.stop s) { work = work }) (put_field w f n)
+      drafted_slot f n work shut out other = record {
+        members = λ c. rw (out c, shut) refl;
+        roll = λ c. ap (λ b. has (cond b n (w Roll)) c) (turned f other) ∙ (h.slots s).roll c;
+        keeps = (h.slots s).keeps;
+        shows = λ op. absurd (apart (sym op ∙ shut));
+      }
+
+  -- load of the result, after done was found
+  pub step_collects : (p.stop s).is_open ≡ true → at (Slot s Done) ≡ 1 →
+      PresentShows u (moved p s (closed (p.stop s)) p.inside p.irq p.readings) at seat
+  step_collects open_ found =
+      let o = (h.slots s).shows open_ in
+      let z = none_left (p.stop s).ending o.done in
+      source_moves u p at at seat s (closed (p.stop s)) h
+      (slot_same u.cpus p.stop at s (closed (p.stop s)) h.slots (collects_slot u.cpus (p.stop s) w (h.slots s) open_ found).1) refl
+      (λ c. record {
+        on = λ i. absurd (gone z c i);
+        back = λ i. absurd (apart i);
+        work = λ _. refl;
+        turn = λ _. refl;
+        ending = λ op e. absurd (running c (p.stop s).ending e o.done);
+      })
+      (λ bad kind. absurd (apart bad))
+    where
+      apart : false ≡ true → ⊥
+      apart e = cc
+
+      none_left : (e : Ending) → DoneShows u.cpus (p.stop s).standing e (at (Slot s Done)) → count_unfinished u.cpus (p.stop s).standing ≡ 0
+      none_left Running d = absurd (let e = d.0 in omega arith)
+      none_left (Last c) d = d.1
+      none_left Ended d = d.1
+
+      running : (c : ℕ) (e : Ending) → e ≡ Last c → DoneShows u.cpus (p.stop s).standing e (at (Slot s Done)) → ⊥
+      running c Running e d = let x = d.0 in omega arith
+      running c (Last r) e d = let x = d.0 in omega arith
+      running c Ended e d = cc
+
+      inside_unfinished : (x : Standing) → is_inside x ≡ true → (is_of x ≡ true) × (unfinished x ≡ 1)
+      inside_unfinished Outside e = cc
+      inside_unfinished Called e = cc
+      inside_unfinished (Inside a l) e = (refl, refl)
+      inside_unfinished (Answering a v) e = (refl, refl)
+      inside_unfinished (Completed a v) e = cc
+
+      gone : count_unfinished u.cpus (p.stop s).standing ≡ 0 → (c : ℕ) → is_inside ((p.stop s).standing c) ≡ true → ⊥
+      gone z c i =
+          let both = inside_unfinished ((p.stop s).standing c) i in
+          let one = both.1 in
+          let zero_ = sum_zero (λ c. unfinished ((p.stop s).standing c)) u.cpus z c (in_machine u.cpus (p.stop s).phase c ((p.stop s).standing c) both.0
+          ((h.slots s).keeps c)) in
+          omega arith
+
+  module _ (me : ℕ) where
+    -- a CPU at home in no stop
+    at_home : (stop' : Stop) (to : Option ℕ) → ((j : ℕ) → is_inside ((p.stop j).standing me) ≡ true → j ≡ s) → (is_inside (stop'.standing me) ≡ true →
+        to ≡ Some s) →
+        (j : ℕ) → is_inside ((put p.stop s stop' j).standing me) ≡ true → put p.inside me to me ≡ Some j
+    at_home stop' to only here j i = put_here p.inside me to ∙ at_test j s (λ b. is_inside ((cond b stop' (p.stop j)).standing me) ≡ true → to ≡ Some j)
+        (λ e i. here i ∙ ap Some (sym e)) (λ ne i. absurd (ne (only j i))) i
+
+    save : (to : Option ℕ) → SaveMe p me (put p.inside me to) p.irq p.readings
+    save to = record { inside = λ c ne. put_else p.inside me to c ne; irq = λ c ne. refl; readings = λ c ne. refl }
+
+    -- fetch_and of the roll, that found the own bit
+    pub step_enters : (n : ℕ) → seat me ≡ Free → has (at (Slot s Roll)) me ≡ true → has n me ≡ false → ((c : ℕ) → c ≢ me → has n c ≡ has (at (Slot s Roll)) c) →
+        PresentShows u (moved p s (stands (p.stop s) me (Inside 0 0)) (put p.inside me (Some s)) p.irq p.readings) (put_word at (Slot s Roll) n)
+        (put seat me (In s (p.stop s).work 0 0 Rests))
+    step_enters n is found clears others =
+        let to = Inside 0 0 in
+        let stop' = stands (p.stop s) me to in
+        let st : Stands p me Free = subst (Stands p me) is (h.stands me) in
+        let called : (p.stop s).standing me ≡ Called = called_is ((p.stop s).standing me) (sym ((h.slots s).roll me) ∙ found) in
+        let o = (h.slots s).shows (is_open_inside u.cpus (p.stop s) w (h.slots s) me Called called refl) in
+        moves u p at (put_word at (Slot s Roll) n) seat s me stop' (put p.inside me (Some s)) p.irq p.readings (In s (p.stop s).work 0 0 Rests) h
+        (slot_put u.cpus p.stop at s Roll n stop' h.slots (enters_slot u.cpus (p.stop s) w (h.slots s) me n found clears others)) refl
+        (λ c ne. record {
+          on = λ _. put_else (p.stop s).standing me to c ne;
+          back = λ i. subst (λ x. is_inside x ≡ true) (put_else (p.stop s).standing me to c ne) i;
+          work = λ _. refl;
+          turn = λ _. refl;
+          ending = λ op e. (op, e);
+        })
+        (save (Some s)) (
+          put_here p.inside me (Some s),
+          at_test s s (λ b. (cond b stop' (p.stop s)).standing me ≡ to) (λ _. put_here (p.stop s).standing me to) (λ ne. absurd (ne refl)),
+          at_test s s (λ b. turn_of (cond b stop' (p.stop s)).raising me ≡ Rests) (λ _. quiet called o) (λ ne. absurd (ne refl)),
+          at_test s s (λ b. (cond b stop' (p.stop s)).work ≡ (p.stop s).work) (λ _. refl) (λ _. refl),
+        )
+        (at_home stop' (Some s) (λ j i. absurd (let bad : None ≡ Some j = sym st ∙ h.homes j me i in cc)) (λ _. refl))
+        (h.irq me ∙ ap irq_of is)
+        (λ on i. h.read me on (h.irq me ∙ ap irq_of is))
+        (subst IsNoPatch (sym is) tt)
+        (λ op kind. h.works s op kind)
+      where
+        turns : (r : Raising) → IsNot me r → turn_of r me ≡ Rests
+        turns Nobody ne = refl
+        turns (Refills r) ne = ap (λ b. cond b Fills Rests) (ne_eqb me r (λ e. ne (sym e)))
+        turns (Raises r) ne = ap (λ b. cond b Sets Rests) (ne_eqb me r (λ e. ne (sym e)))
+
+        quiet : (p.stop s).standing me ≡ Called → OpenShows u.cpus (p.stop s) w → turn_of (p.stop s).raising me ≡ Rests
+        quiet called o = turns (p.stop s).raising (either (p.stop s).phase refl)
+          where
+            not_in : (p.stop s).standing me ≢ Inside (p.stop s).phase (p.stop s).phase
+            not_in e = let bad : Called ≡ Inside (p.stop s).phase (p.stop s).phase = sym called ∙ e in cc
+
+            either : (n : ℕ) → (p.stop s).phase ≡ n → IsNot me (p.stop s).raising
+            either zero e = subst (IsNot me) (sym (o.calm e)) tt
+            either (suc n) e = not_raising u.cpus (p.stop s).phase (p.stop s).standing me (at (Slot s Ack)) (p.stop s).raising not_in (o.ack (λ z. omega arith))
+
+    -- fetch_sub of todo
+    pub step_completes : (a v : ℕ) → p.inside me ≡ Some s → IsAnswer ((p.stop s).standing me) a v → turn_of (p.stop s).raising me ≡ Rests →
+        IsThrough (p.stop s) me a →
+        irq_of (seat me) ≡ true → IsNoPatch (seat me) →
+        PresentShows u (moved p s (completed (p.stop s) me a v (at (Slot s Todo))) (put p.inside me None) p.irq p.readings)
+        (put_word at (Slot s Todo) (at (Slot s Todo) - 1)) (put seat me (cond (at (Slot s Todo) == 1) (Closes s) Free))
+    step_completes a v in_ is turn through on mine =
+        let found = at (Slot s Todo) in
+        let stop' = completed (p.stop s) me a v found in
+        let of = answer_of_it (p.stop s).phase a v ((p.stop s).standing me) is in
+        let open_ = is_open_inside u.cpus (p.stop s) w (h.slots s) me ((p.stop s).standing me) refl of in
+        let o = (h.slots s).shows open_ in
+        moves u p at (put_word at (Slot s Todo) (found - 1)) seat s me stop' (put p.inside me None) p.irq p.readings (cond (found == 1) (Closes s) Free) h
+        (slot_put u.cpus p.stop at s Todo (found - 1) stop' h.slots (completes_slot u.cpus (p.stop s) w (h.slots s) me a v is through)) refl
+        (λ c ne. record {
+          on = λ _. put_else (p.stop s).standing me (Completed a v) c ne;
+          back = λ i. subst (λ x. is_inside x ≡ true) (put_else (p.stop s).standing me (Completed a v) c ne) i;
+          work = λ _. refl;
+          turn = λ _. refl;
+          ending = λ op e. absurd (not_last c (in_machine u.cpus (p.stop s).phase me ((p.stop s).standing me) of ((h.slots s).keeps me))
+              (subst (λ e. DoneShows u.cpus (p.stop s).standing e (at (Slot s Done))) e o.done));
+        })
+        (save None)
+        (now (found == 1) open_)
+        (at_home stop' None (λ j i. let e : Some s ≡ Some j = sym in_ ∙ h.homes j me i in let f : j ≡ s = cc in f)
+        (λ i. absurd (apart (subst (λ x. is_inside x ≡ true) (put_here (p.stop s).standing me (Completed a v)) i))))
+        (h.irq me ∙ (on ∙ sym (irq_after (found == 1))))
+        (λ o i. h.read me o (h.irq me ∙ on))
+        mine
+        (λ op kind. h.works s op kind)
+      where
+        apart : false ≡ true → ⊥
+        apart e = cc
+
+        irq_after : (b : Bool) → irq_of (cond b (Closes s) Free) ≡ true
+        irq_after true = refl
+        irq_after false = refl
+
+        not_last : (c : ℕ) → me < u.cpus → DoneShows u.cpus (p.stop s).standing (Last c) (at (Slot s Done)) → ⊥
+        not_last c small d =
+            let z = sum_zero (λ c. unfinished ((p.stop s).standing c)) u.cpus d.1 me small in
+            let u = answer_unfinished (p.stop s).phase a v ((p.stop s).standing me) is in omega arith
+
+        now : (b : Bool) → (p.stop s).is_open ≡ true →
+            Stands (moved p s (record (p.stop s) { standing = put (p.stop s).standing me (Completed a v); ending = cond b (Last me) (p.stop s).ending })
+            (put p.inside me None) p.irq p.readings) me (cond b (Closes s) Free)
+        now true op = (
+          put_here p.inside me None,
+          at_test s s (λ b. (cond b (record (p.stop s) { standing = put (p.stop s).standing me (Completed a v); ending = Last me }) (p.stop s)).is_open ≡
+              true) (λ _. op) (λ _. op),
+          at_test s s (λ b. (cond b (record (p.stop s) { standing = put (p.stop s).standing me (Completed a v); ending = Last me }) (p.stop s)).ending ≡
+              Last me) (λ _. refl) (λ ne. absurd (ne refl)),
+        )
+        now false op = put_here p.inside me None
+
+    -- store of done by the last
+    pub step_finishes : seat me ≡ Closes s →
+        PresentShows u (moved p s (ended (p.stop s)) p.inside p.irq p.readings) (put_word at (Slot s Done) 1) (put seat me Free)
+    step_finishes is =
+        let st : Stands p me (Closes s) = subst (Stands p me) is (h.stands me) in
+        moves u p at (put_word at (Slot s Done) 1) seat s me (ended (p.stop s)) p.inside p.irq p.readings Free h
+        (slot_put u.cpus p.stop at s Done 1 (ended (p.stop s)) h.slots (finishes_slot u.cpus (p.stop s) w (h.slots s) me st.2)) refl
+        (λ c ne. record {
+          on = λ _. refl;
+          back = λ i. i;
+          work = λ _. refl;
+          turn = λ _. refl;
+          ending = λ op e. absurd (let same : Last me ≡ Last c = sym st.2 ∙ e in let f : me ≡ c = cc in ne (sym f));
+        })
+        record { inside = λ c ne. refl; irq = λ c ne. refl; readings = λ c ne. refl }
+        st.0
+        (λ j. at_test j s (λ b. is_inside ((cond b (ended (p.stop s)) (p.stop j)).standing me) ≡ true → p.inside me ≡ Some j)
+        (λ e i. h.homes j me (subst (λ k. is_inside ((p.stop k).standing me) ≡ true) (sym e) i)) (λ ne. h.homes j me))
+        (h.irq me ∙ ap irq_of is)
+        (λ on i. h.read me on (h.irq me ∙ ap irq_of is))
+        (subst IsNoPatch (sym is) tt)
+        (λ op kind. h.works s op kind)
+
+    -- store of an answer that is not 0
+    pub step_answers : (job : Work) (a l v : ℕ) → seat me ≡ In s job a l Rests → v ≢ 0 → (a ≡ 4) ⊎ ((p.stop s).phase ≡ 0) → IsNot me (p.stop s).raising →
+        irq_of (seat me) ≡ true →
+        PresentShows u (moved p s (stands (p.stop s) me (Answering a v)) p.inside p.irq p.readings) (put_word at (Slot s Result) v)
+        (put seat me (Gives s job a v))
+    step_answers job a l v is some through quiet on =
+        let to = Answering a v in
+        let stop' = stands (p.stop s) me to in
+        let st : Stands p me (In s job a l Rests) = subst (Stands p me) is (h.stands me) in
+        moves u p at (put_word at (Slot s Result) v) seat s me stop' p.inside p.irq p.readings (Gives s job a v) h
+        (slot_put u.cpus p.stop at s Result v stop' h.slots (answers_slot u.cpus (p.stop s) w (h.slots s) me a l v st.1 some (through, quiet))) refl
+        (λ c ne. record {
+          on = λ _. put_else (p.stop s).standing me to c ne;
+          back = λ i. subst (λ x. is_inside x ≡ true) (put_else (p.stop s).standing me to c ne) i;
+          work = λ _. refl;
+          turn = λ _. refl;
+          ending = λ op e. (op, e);
+        })
+        record { inside = λ c ne. refl; irq = λ c ne. refl; readings = λ c ne. refl } (
+          st.0,
+          at_test s s (λ b. (cond b stop' (p.stop s)).standing me ≡ to) (λ _. put_here (p.stop s).standing me to) (λ ne. absurd (ne refl)),
+          at_test s s (λ b. turn_of (cond b stop' (p.stop s)).raising me ≡ Rests) (λ _. st.2) (λ ne. absurd (ne refl)),
+          at_test s s (λ b. (cond b stop' (p.stop s)).work ≡ job) (λ _. st.3) (λ ne. absurd (ne refl)),
+        )
+        (λ j. at_test j s (λ b. is_inside ((cond b stop' (p.stop j)).standing me) ≡ true → p.inside me ≡ Some j)
+        (λ e i. st.0 ∙ ap Some (sym e)) (λ ne. h.homes j me))
+        (h.irq me ∙ on)
+        (λ o i. h.read me o (h.irq me ∙ on))
+        (subst IsNoPatch (sym is) tt)
+        (λ op kind. h.works s op kind)

@@ -1,0 +1,168 @@
+-- The steps that acknowledge a phase and set the next one, by a CPU's stage.
+use Rattle.smp_stop_steps.proofs.Basics.Bools.{or_false, or_true}
+use Rattle.smp_stop_steps.proofs.Steps.Same.{moved_seat}
+use Rattle.std.proofs.Common.{◌≡◌, ℕ, ◌+◌, ◌-◌, ◌≤◌, Bool, true, false, nat_lt, le-ltb, ne_eqb, ◌==◌, ◌||◌, cond, sym, subst, refl, ap, ◌∙◌, ◌⊎◌, inl}
+use Rattle.std.proofs.Common.{inr, arith, Option, Some, None, []}
+use Rattle.smp_words.proofs.Puts.{at_test}
+use Rattle.smp_stop_steps.proofs.Steps.Facts.{ack_bounds, ack_bounds_patched}
+use Rattle.smp_stop_steps.proofs.Steps.RoundSteps.{ack_small}
+use Rattle.smp_stop_steps.proofs.Steps.Rounds.{ack_stored, ack_subtracted, ack_subtracted_patched, state_stored}
+use Rattle.smp_stop_steps.proofs.Steps.StageSteps.{less_one}
+use Rattle.smp_words.specs.Put.{put, put_word}
+use Rattle.smp_stop_steps.specs.Counts.{mask_weight}
+use Rattle.smp_stop_steps.specs.Labels.{patch_answer}
+use Rattle.smp_stop_steps.specs.Seats.{Alters, Fills, In, Rests, Seat, Sets, irq_of}
+use Rattle.smp_stop_steps.specs.Shows.{StopShows}
+use Rattle.smp_stop_steps.specs.Sits.{RunsIf, IsLoaded, OwnsIf, Sits, SitsAt, SitsAtRest, SitsInRound, SourceSits}
+use Rattle.smp_stop_steps.specs.Sources.{Source}
+use Rattle.smp_stop_steps.specs.Stages.{StopControlValue, stop_goes, turn_ends, visit_acked}
+use Rattle.smp_stop_steps.specs.State.{Setup, StopState, Calling, Calls, Carries, Idle}
+use Rattle.smp_stop_steps.specs.Steps.{StopStep, at_then, state_after}
+use Rattle.smp_stop_steps.specs.Tells.{told, plan_at}
+use Rattle.smp_words.specs.declared.seen.Act.TheVariants as act
+use Rattle.smp_words.specs.declared.field.Field.TheVariants.{Ack}
+use Rattle.smp_stop_steps.specs.declared.stage.RoundStage.TheVariants as round
+use Rattle.smp_stop_steps.specs.declared.stage.RoundStage.{RoundStage}
+use Rattle.smp_stop_steps.specs.declared.stage.StopStage.TheVariants.{Advance}
+use Rattle.smp_stop_steps.specs.declared.stage.StopStage.{StopStage}
+use Rattle.smp_stop_steps.specs.declared.stage.Visit.{Visit}
+use Rattle.smp_words.specs.declared.work.Kind.TheVariants.{Patch, Multi}
+use Rattle.smp_words.specs.declared.work.Work.{Work}
+use Rattle.smp_words.specs.declared.word.Word.TheVariants.{Gate, Slot}
+use Rattle.smp_words.specs.declared.word.Word.{Word}
+use Rattle.smp_mask.specs.Mask.{has}
+use Rattle.smp_stop_steps.specs.Carries.{CarriesIn, CarriesAt, IsAcking}
+use Rattle.smp_stop_steps.specs.Callings.{HasCalled}
+
+module _ (u : Setup) (p : StopState) (at : Word → ℕ) (seat : ℕ → Seat) (source : ℕ → Source) (h : StopShows u p at seat source) (c : StopControlValue) (me : ℕ)
+    (s : Sits u me (at Gate) c (seat me) (source me)) (v : Visit) where
+  in_round : (stage : RoundStage) → c.stage ≡ Some (Advance v stage) → (c.visit ≡ Some v) × SitsInRound u me c.changes v stage (seat me)
+  in_round stage e = subst (λ (st : Option StopStage). SitsAt u me c st (seat me)) e s.seat
+
+  at_source : (stage : RoundStage) → c.stage ≡ Some (Advance v stage) → OwnsIf c.is_open (source me)
+  at_source stage e = subst (λ (st : Option StopStage). SourceSits c.is_open st (source me)) e s.source
+
+  -- where the CPU stands once the phase is acknowledged
+  acked_sits : (answer : ℕ) (ran : Bool) (work : Work) → IsLoaded v work → OwnsIf c.is_open (source me) → c.interrupts ≡ nat_lt (v.acked + 1) 2 → (b : Bool) →
+      Sits u me (at Gate) (cond b (stop_goes (record c { visit = Some (visit_acked v answer ran) }) (Advance (visit_acked v answer ran) (round.Refill ran)))
+      (turn_ends (record c { visit = Some (visit_acked v answer ran) }) (v.acked + 1) ran)).control
+      (In v.slot work (v.acked + 1) (v.acked + 1) (cond b Fills Rests)) (source me)
+  acked_sits answer ran work loaded y irq true = record {
+    below = s.below;
+    irq = irq;
+    seat =
+        (refl, (work, record { kind = loaded.kind; mask = loaded.mask; active = loaded.active }, refl));
+    source = y;
+    gate_held = tt;
+  }
+  acked_sits answer ran work loaded y irq false = record {
+    below = s.below;
+    irq = at_test (v.acked + 1) 4 (λ d. cond d true c.interrupts ≡ nat_lt (v.acked + 1) 2 || d) (λ _. sym (or_true (nat_lt (v.acked + 1) 2)))
+        (λ _. irq ∙ sym (or_false (nat_lt (v.acked + 1) 2) false refl));
+    seat = (work, record { kind = loaded.kind; mask = loaded.mask; active = loaded.active }, refl);
+    source = y;
+    gate_held = tt;
+  }
+
+  pub acknowledge : CarriesIn c (p.calling me) → (answer : ℕ) (ran : Bool) → c.stage ≡ Some (Advance v (round.Acknowledge answer ran)) →
+      StopStep u p at seat source c me (Advance v (round.Acknowledge answer ran))
+  acknowledge k answer ran e =
+      let r = in_round (round.Acknowledge answer ran) e in
+      either r.1.0 r.1.1 r.1.2 r.1.3 (at_source (round.Acknowledge answer ran) e)
+    where
+      found : ℕ
+      found = at (Slot v.slot Ack)
+
+      -- who acknowledges RUN has called its function, or is not to call one
+      has_called : (work : Work) → IsLoaded v work → (b : Bool) → RunsIf me v b → (f : Calling) → IsAcking v answer b f → v.acked ≡ 2 → HasCalled me work f
+      has_called work loaded true runs Idle is two = let bad : Multi ≡ Patch = sym runs.1 ∙ is in cc
+      has_called work loaded true runs (Calls call) is two = tt
+      has_called work loaded true runs (Carries x) is two = absurd is
+      has_called work loaded false runs Idle is two = ap (λ m. has m me) (sym loaded.active) ∙ runs two
+      has_called work loaded false runs (Calls call) is two = absurd is
+      has_called work loaded false runs (Carries x) is two = tt
+
+      either : (work : Work) → IsLoaded v work → v.acked ≤ 3 →
+          ((seat me ≡ In v.slot work v.acked (v.acked + 1) Rests) × RunsIf me v ran) ⊎ ((v.acked ≡ 2) × (ran ≡ true) ×
+          ((count : ℕ) × (answer ≡ patch_answer work count) × (seat me ≡ Alters v.slot work count (plan_at u work count) []))) →
+          OwnsIf c.is_open (source me) → StopStep u p at seat source c me (Advance v (round.Acknowledge answer ran))
+      either work loaded most (inl (is, calm)) y =
+          let next = In v.slot work (v.acked + 1) (v.acked + 1) (cond (at (Slot v.slot Ack) == 1) Fills Rests) in
+          let bounds = ack_bounds u p at seat source h v.slot me work v.acked is in
+          let less = less_one (at (Slot v.slot Ack)) bounds.0 (ack_small (at (Slot v.slot Ack)) u.cpus h.setup.few bounds.1) in
+          record {
+            seat_after = next;
+            source_after = source me;
+            shows = subst (λ n. StopShows u (state_after u p at c me (Advance v (round.Acknowledge answer ran))) (put_word at (Slot v.slot Ack) n)
+                (put seat me next) (put source me (source me))) (sym less)
+                (moved_seat u seat source me (state_after u p at c me (Advance v (round.Acknowledge answer ran))) (put_word at (Slot v.slot Ack)
+                (at (Slot v.slot Ack) - 1)) next
+                (ack_subtracted u p at seat source h v.slot me work v.acked answer is
+                (λ two. has_called work loaded ran calm (p.calling me) (subst (λ (st : Option StopStage). CarriesAt c.visit st (p.calling me)) e k) two)));
+            sits = acked_sits answer ran work loaded y
+                (s.irq ∙ (ap irq_of is ∙ (ap (λ b. nat_lt (v.acked + 1) 2 || b) (ne_eqb v.acked 4 (λ z. omega arith)) ∙ or_false (nat_lt (v.acked + 1) 2)
+                false refl)))
+                (at (Slot v.slot Ack) == 1);
+          }
+      either work loaded most (inr (two, runs, (count, answers, is))) y =
+          let next = In v.slot work (v.acked + 1) (v.acked + 1) (cond (at (Slot v.slot Ack) == 1) Fills Rests) in
+          let three : In v.slot work 3 3 (cond (at (Slot v.slot Ack) == 1) Fills Rests) ≡ next =
+          ap (λ n. In v.slot work n n (cond (at (Slot v.slot Ack) == 1) Fills Rests)) (let z : 3 ≡ v.acked + 1 = omega arith in z) in
+          let bounds = ack_bounds_patched u p at seat source h v.slot me work count (plan_at u work count) is in
+          let less = less_one (at (Slot v.slot Ack)) bounds.0 (ack_small (at (Slot v.slot Ack)) u.cpus h.setup.few bounds.1) in
+          record {
+            seat_after = next;
+            source_after = source me;
+            shows = subst (λ n. StopShows u (state_after u p at c me (Advance v (round.Acknowledge answer ran))) (put_word at (Slot v.slot Ack) n)
+                (put seat me next) (put source me (source me))) (sym less)
+                (moved_seat u seat source me (state_after u p at c me (Advance v (round.Acknowledge answer ran))) (put_word at (Slot v.slot Ack)
+                (at (Slot v.slot Ack) - 1)) next
+                (subst (λ x. StopShows u (state_after u p at c me (Advance v (round.Acknowledge answer ran))) (put_word at (Slot v.slot Ack)
+                (at (Slot v.slot Ack) - 1)) (put seat me x) source) three
+                (ack_subtracted_patched u p at seat source h v.slot me work count (plan_at u work count) answer is)));
+            sits = acked_sits answer ran work loaded y (s.irq ∙ (ap irq_of is ∙ sym (le-ltb (v.acked + 1) 2 (omega arith)))) (at (Slot v.slot Ack) == 1);
+          }
+
+  pub refill : (ran : Bool) → c.stage ≡ Some (Advance v (round.Refill ran)) → StopStep u p at seat source c me (Advance v (round.Refill ran))
+  refill ran e =
+      let r = in_round (round.Refill ran) e in
+      let work = r.1.0 in
+      let loaded = r.1.1 in
+      let next = In v.slot work v.acked v.acked Sets in
+      record {
+        seat_after = next;
+        source_after = source me;
+        shows = subst (λ m. StopShows u (told u p me act.Store (Slot v.slot Ack) None (Some (mask_weight u.cpus m)) 0) (put_word at (Slot v.slot Ack)
+            (mask_weight u.cpus m)) (put seat me next) (put source me (source me))) (sym loaded.mask)
+            (moved_seat u seat source me (told u p me act.Store (Slot v.slot Ack) None (Some (mask_weight u.cpus work.mask)) 0) (put_word at (Slot v.slot Ack)
+            (mask_weight u.cpus work.mask)) next
+            (ack_stored u p at seat source h v.slot me work v.acked v.acked 0 r.1.2));
+        sits = record {
+          below = s.below;
+          irq = s.irq ∙ ap irq_of r.1.2;
+          seat = (r.0, (work, loaded, refl));
+          source = at_source (round.Refill ran) e;
+          gate_held = tt;
+        };
+      }
+
+  pub raise : (ran : Bool) → c.stage ≡ Some (Advance v (round.Raise ran)) → StopStep u p at seat source c me (Advance v (round.Raise ran))
+  raise ran e =
+      let r = in_round (round.Raise ran) e in
+      let work = r.1.0 in
+      let next = In v.slot work v.acked v.acked Rests in
+      let off : c.interrupts ≡ nat_lt v.acked 2 = s.irq ∙ ap irq_of r.1.2 in
+      record {
+        seat_after = next;
+        source_after = source me;
+        shows = moved_seat u seat source me (state_after u p at c me (Advance v (round.Raise ran))) (at_then u at c me (Advance v (round.Raise ran))) next
+            (state_stored u p at seat source h v.slot me work v.acked v.acked 0 r.1.2);
+        sits = record {
+          below = s.below;
+          irq = at_test v.acked 4 (λ d. cond d true c.interrupts ≡ nat_lt v.acked 2 || d) (λ _. sym (or_true (nat_lt v.acked 2)))
+              (λ _. off ∙ sym (or_false (nat_lt v.acked 2) false refl));
+          seat = subst (λ x. SitsAtRest x next) (sym r.0) (work, r.1.1, refl);
+          source = at_source (round.Raise ran) e;
+          gate_held = tt;
+        };
+      }

@@ -1,0 +1,271 @@
+-- The steps at the ends of a stop for one CPU, by its stage; and all steps.
+use Rattle.smp_stop_steps.proofs.Steps.Same.{word_same, moved_seat, still}
+use Rattle.smp_stop_steps.specs.Callings.{IsCalling, answer_in}
+use Rattle.std.proofs.Common.{◌≡◌, ℕ, ◌-◌, ◌<◌, Bool, true, false, eq-eqb, eqb-true, ◌==◌, cond, sym, subst, refl, ap, ◌∙◌, ◌⊎◌, inl, inr, arith}
+use Rattle.std.proofs.Common.{⊎_elim, Option, Some, None, bit_and}
+use Rattle.smp_stop_steps.proofs.Steps.AckSteps.{acknowledge, raise, refill}
+use Rattle.smp_stop_steps.proofs.Basics.Bits.{clear_none, clear_other, clear_same}
+use Rattle.smp_stop_steps.proofs.Steps.Completions.{done_stored, on_now, result_stored, roll_cleared, roll_stale, todo_subtracted, todo_subtracted_answered}
+use Rattle.smp_stop_steps.proofs.Steps.Facts.{high_none, todo_bounds, todo_bounds_answered}
+use Rattle.smp_stop_steps.proofs.Steps.RoundSteps.{ack_small, load_arg, load_entry, load_func, load_key, look, store_change}
+use Rattle.smp_stop_steps.proofs.Steps.StageSteps.{begin_step, enter_active, enter_kind, enter_mask, less_one, load_done, load_result, open_gate}
+use Rattle.smp_stop_steps.proofs.Steps.StageSteps.{read_key, read_site, take_gate, nudge_key, exchange_key}
+use Rattle.smp_words.specs.Put.{put, put_word}
+use Rattle.smp_stop_steps.specs.Counts.{one}
+use Rattle.smp_stop_steps.specs.Seats.{Closes, Free, Gives, In, Rests, Seat, irq_of}
+use Rattle.smp_stop_steps.specs.Shows.{StopShows}
+use Rattle.smp_stop_steps.specs.Sits.{IsLoaded, IsThroughAll, OwnsIf, Sits, SitsAt, SitsAtRest, SourceSits}
+use Rattle.smp_stop_steps.specs.Sources.{Source}
+use Rattle.smp_stop_steps.specs.Stages.{StopControlValue, all_but, stop_ends, stop_goes}
+use Rattle.smp_stop_steps.specs.State.{Setup, StopState, Calling, Calls, Carries, Idle}
+use Rattle.smp_stop_steps.specs.Steps.{StopStep, at_then, state_after}
+use Rattle.smp_words.specs.declared.seen.Note.TheVariants as note
+use Rattle.smp_words.specs.declared.field.Field.TheVariants.{Roll, Todo}
+use Rattle.smp_stop_steps.specs.declared.stage.CompletionStage.TheVariants as completion
+use Rattle.smp_stop_steps.specs.declared.stage.RoundStage.TheVariants as round
+use Rattle.smp_stop_steps.specs.declared.stage.StopStage.TheVariants.{Advance, Begin, Close, Complete, Enter, EnterActive, EnterKind, EnterMask}
+use Rattle.smp_stop_steps.specs.declared.stage.StopStage.TheVariants.{LoadDone, LoadResult, OpenGate, ReadKey, ReadSite, TakeGate, NudgeKey}
+use Rattle.smp_stop_steps.specs.declared.stage.StopStage.TheVariants.{ExchangeKey}
+use Rattle.smp_stop_steps.specs.declared.stage.StopStage.{StopStage}
+use Rattle.smp_stop_steps.specs.declared.stage.Visit.{Visit}
+use Rattle.smp_words.specs.declared.work.Kind.TheVariants.{One}
+use Rattle.smp_words.specs.declared.work.Work.{Work}
+use Rattle.smp_words.specs.declared.word.Word.TheVariants.{Gate, Slot}
+use Rattle.smp_words.specs.declared.word.Word.{Word}
+use Rattle.smp_mask.specs.Mask.{has}
+use Rattle.smp_stop_steps.specs.Carries.{CarriesIn, CarriesAt, IsEnding}
+use Rattle.smp_stop_steps.proofs.Steps.Callings.{calling_given}
+use Rattle.smp_stop_steps.proofs.Steps.Facts.{arg_loaded, work_words}
+
+module _ (u : Setup) (p : StopState) (at : Word → ℕ) (seat : ℕ → Seat) (source : ℕ → Source) (h : StopShows u p at seat source) (c : StopControlValue) (me : ℕ)
+    (s : Sits u me (at Gate) c (seat me) (source me)) where
+  at_source : (stage : StopStage) → c.stage ≡ Some stage → SourceSits c.is_open (Some stage) (source me)
+  at_source stage e = subst (λ (st : Option StopStage). SourceSits c.is_open st (source me)) e s.source
+
+  at_seat : (stage : StopStage) → c.stage ≡ Some stage → SitsAt u me c (Some stage) (seat me)
+  at_seat stage e = subst (λ (st : Option StopStage). SitsAt u me c st (seat me)) e s.seat
+
+  enter : (slot : ℕ) → c.stage ≡ Some (Enter slot) → StopStep u p at seat source c me (Enter slot)
+  enter slot e =
+      let x = at_seat (Enter slot) e in
+      let g = go x.0 x.1 (at_source (Enter slot) e) (has (at (Slot slot Roll)) me) refl in
+      record { seat_after = g.0; source_after = source me; shows = g.1; sits = g.2 }
+    where
+      low : me < 64
+      low = let few = h.setup.few in let b = s.below in omega arith
+
+      go : c.visit ≡ None → seat me ≡ Free → OwnsIf c.is_open (source me) → (b : Bool) → has (at (Slot slot Roll)) me ≡ b →
+          (x : Seat) × (StopShows u (state_after u p at c me (Enter slot)) (at_then u at c me (Enter slot)) (put seat me x) (put source me (source me))) ×
+          Sits u me (at Gate) (cond b (stop_goes c (EnterKind slot)) (stop_ends c note.Stale)).control x (source me)
+      go visit is y true found =
+          let next = In slot (p.now.stop slot).work 0 0 Rests in (
+            next,
+            moved_seat u seat source me (state_after u p at c me (Enter slot)) (at_then u at c me (Enter slot)) next
+                (roll_cleared u p at seat source h slot me (bit_and (at (Slot slot Roll)) (all_but me)) 0 is found (clear_same (at (Slot slot Roll)) me low)
+                (λ d ne. clear_other (at (Slot slot Roll)) me d low ne (high_none u p at seat source h slot d))),
+            record { below = s.below; irq = s.irq ∙ ap irq_of is; seat = ((p.now.stop slot).work, refl); source = y; gate_held = tt },
+          )
+      go visit is y false missing = (
+        seat me,
+        still u seat source me (state_after u p at c me (Enter slot)) (at_then u at c me (Enter slot))
+            (subst (λ n. StopShows u (state_after u p at c me (Enter slot)) (put_word at (Slot slot Roll) n) seat source)
+            (sym (clear_none (at (Slot slot Roll)) me low missing (high_none u p at seat source h slot)))
+            (subst (λ (x : Word → ℕ). StopShows u (state_after u p at c me (Enter slot)) x seat source) (sym (word_same at (Slot slot Roll)))
+            (roll_stale u p at seat source h slot me (Some (bit_and (at (Slot slot Roll)) (all_but me))) 0 missing))),
+        record { below = s.below; irq = s.irq; seat = subst (λ x. SitsAtRest x (seat me)) (sym visit) is; source = y; gate_held = tt },
+      )
+
+  close : (slot : ℕ) → c.stage ≡ Some (Close slot) → StopStep u p at seat source c me (Close slot)
+  close slot e =
+      let x = at_seat (Close slot) e in
+      record {
+        seat_after = Free;
+        source_after = source me;
+        shows = moved_seat u seat source me (state_after u p at c me (Close slot)) (at_then u at c me (Close slot)) Free (done_stored u p at seat source h
+            slot me 0 x.1);
+        sits = record {
+          below = s.below;
+          irq = s.irq ∙ ap irq_of x.1;
+          seat = subst (λ x. SitsAtRest x Free) (sym x.0) refl;
+          source = at_source (Close slot)
+              e;
+          gate_held = tt;
+        };
+      }
+
+  module _ (v : Visit) where
+    one_func : (answer : ℕ) → c.stage ≡ Some (Complete v (completion.LoadFunc answer)) → StopStep u p at seat source c me
+        (Complete v (completion.LoadFunc answer))
+    one_func answer e =
+        let x = at_seat (Complete v (completion.LoadFunc answer)) e in
+        record {
+          seat_after = seat me;
+          source_after = source me;
+          shows = still u seat source me p at h;
+          sits = record {
+            below = s.below;
+            irq = s.irq;
+            seat = (x.0, (x.1.0, (x.1.1.0, x.1.1.1, x.1.1.2, (work_words u p at seat source h v.slot me x.1.1.0 v.acked v.acked Rests x.1.1.2).func)));
+            source = at_source (Complete v (completion.LoadFunc answer)) e;
+            gate_held = tt;
+          };
+        }
+
+    one_arg : (answer func : ℕ) → c.stage ≡ Some (Complete v (completion.LoadArg answer func)) → StopStep u p at seat source c me
+        (Complete v (completion.LoadArg answer func))
+    one_arg answer func e =
+        let x = at_seat (Complete v (completion.LoadArg answer func)) e in
+        record {
+          seat_after = seat me;
+          source_after = source me;
+          shows = still u seat source me (state_after u p at c me (Complete v (completion.LoadArg answer func))) at (arg_loaded u p at seat source h v.slot
+              me x.1.1.0
+              v.acked v.acked Rests x.1.1.2 answer refl);
+          sits = go x.1.0 x.1.1.0 x.1.1.1 x.1.1.2 (at_source (Complete v (completion.LoadArg answer func)) e) (answer == 0) refl;
+        }
+      where
+        go : v.kind ≡ One → (work : Work) → IsLoaded v work → seat me ≡ In v.slot work v.acked v.acked Rests → OwnsIf c.is_open (source me) → (b : Bool) →
+            (answer == 0) ≡ b →
+            Sits u me (at Gate) (record c {
+              stage = Some (Complete (record v { answer = answer }) (cond b completion.CountDown completion.StoreAnswer));
+              visit = Some (record v { answer = answer });
+            }) (seat me) (source me)
+        go one work loaded is y true z = record {
+          below = s.below;
+          irq = s.irq;
+          seat = (refl, (work, inl (eqb-true answer 0 z, record { kind = loaded.kind; mask = loaded.mask; active = loaded.active }, inr one, is)));
+          source = y;
+          gate_held = tt;
+        }
+        go one work loaded is y false z = record {
+          below = s.below;
+          irq = s.irq;
+          seat = (
+            refl,
+            (
+              (λ none. let bad : true ≡ false = sym (eq-eqb answer 0 none) ∙ z in cc),
+              inr one,
+              (
+                work,
+                record {
+                  kind = loaded.kind;
+                  mask =
+                      loaded.mask;
+                  active = loaded.active;
+                },
+                is,
+              ),
+            ),
+          );
+          source = y;
+          gate_held = tt;
+        }
+
+    through_of : (work : Work) → IsLoaded v work → IsThroughAll v → (v.acked ≡ 4) ⊎ (work.kind ≡ One)
+    through_of work loaded t = ⊎_elim (λ (x : v.acked ≡ 4). inl x) (λ (x : v.kind ≡ One). inr (sym loaded.kind ∙ x)) t
+
+    ends : (f : Calling) → IsEnding v f → v.answer ≡ answer_in f
+    ends Idle is = is.1
+    ends (Calls call) is = is
+    ends (Carries x) is = is
+
+    store_answer : CarriesIn c (p.calling me) → c.stage ≡ Some (Complete v completion.StoreAnswer) → StopStep u p at seat source c me
+        (Complete v completion.StoreAnswer)
+    store_answer k e =
+        let x = at_seat (Complete v completion.StoreAnswer) e in
+        let some = x.1.0 in
+        let work = x.1.2.0 in
+        let is : seat me ≡ In v.slot work v.acked v.acked Rests = x.1.2.2 in
+        let through = through_of work x.1.2.1 x.1.1 in
+        let next = Gives v.slot work v.acked v.answer in
+        record {
+          seat_after = next;
+          source_after = source me;
+          shows = moved_seat u seat source me (state_after u p at c me (Complete v completion.StoreAnswer))
+              (at_then u at c me (Complete v completion.StoreAnswer)) next
+              (result_stored u p at seat source h v.slot me work v.acked v.acked is through v.answer 0 some
+              (calling_given me v.slot work v.acked v.acked v.answer (p.calling me) some through
+              (ends (p.calling me) (subst (λ (st : Option StopStage). CarriesAt c.visit st (p.calling me)) e k))
+              (subst (λ x. IsCalling me x (p.calling me)) is (h.callings me))));
+          sits = record {
+            below = s.below;
+            irq = s.irq ∙ on_now u p at seat source h v.slot me work v.acked v.acked is through;
+            seat = (x.0, (work, inr refl));
+            source = at_source (Complete v completion.StoreAnswer) e;
+            gate_held = tt;
+          };
+        }
+
+    counted_sits : OwnsIf c.is_open (source me) → c.interrupts ≡ true → (b : Bool) →
+        Sits u me (at Gate) (cond b (stop_goes (record c { visit = None }) (Close v.slot)) (stop_ends (record c { visit = None }) note.Finished)).control
+        (cond b (Closes v.slot) Free) (source me)
+    counted_sits y on true = record { below = s.below; irq = on; seat = (refl, refl); source = y; gate_held = tt }
+    counted_sits y on false = record { below = s.below; irq = on; seat = refl; source = y; gate_held = tt }
+
+    count_down : c.stage ≡ Some (Complete v completion.CountDown) → StopStep u p at seat source c me (Complete v completion.CountDown)
+    count_down e =
+        let x = at_seat (Complete v completion.CountDown) e in
+        either x.1.0 x.1.1 (at_source (Complete v completion.CountDown) e)
+      where
+        either : (work : Work) → (((v.answer ≡ 0) × IsLoaded v work × IsThroughAll v × (seat me ≡ In v.slot work v.acked v.acked Rests)) ⊎
+            (seat me ≡ Gives v.slot work v.acked v.answer)) →
+            OwnsIf c.is_open (source me) → StopStep u p at seat source c me (Complete v completion.CountDown)
+        either work (inl (none, loaded, all, is)) y =
+            let found = at (Slot v.slot Todo) in
+            let through = through_of work loaded all in
+            let next = cond (found == 1) (Closes v.slot) Free in
+            let bounds = todo_bounds u p at seat source h v.slot me work v.acked v.acked Rests is in
+            let less = less_one found bounds.0 (ack_small found u.cpus h.setup.few bounds.1) in
+            record {
+              seat_after = next;
+              source_after = source me;
+              shows = subst (λ n. StopShows u (state_after u p at c me (Complete v completion.CountDown)) (put_word at (Slot v.slot Todo) n)
+                  (put seat me next) (put source me (source me))) (sym less)
+                  (moved_seat u seat source me (state_after u p at c me (Complete v completion.CountDown)) (put_word at (Slot v.slot Todo) (found - 1)) next
+                  (todo_subtracted u p at seat source h v.slot me work v.acked v.acked 0 is through));
+              sits = counted_sits y (s.irq ∙ on_now u p at seat source h v.slot me work v.acked v.acked is through) (found == 1);
+            }
+        either work (inr is) y =
+            let found = at (Slot v.slot Todo) in
+            let next = cond (found == 1) (Closes v.slot) Free in
+            let bounds = todo_bounds_answered u p at seat source h v.slot me work v.acked v.answer is in
+            let less = less_one found bounds.0 (ack_small found u.cpus h.setup.few bounds.1) in
+            record {
+              seat_after = next;
+              source_after = source me;
+              shows = subst (λ n. StopShows u (state_after u p at c me (Complete v completion.CountDown)) (put_word at (Slot v.slot Todo) n)
+                  (put seat me next) (put source me (source me))) (sym less)
+                  (moved_seat u seat source me (state_after u p at c me (Complete v completion.CountDown)) (put_word at (Slot v.slot Todo) (found - 1)) next
+                  (todo_subtracted_answered u p at seat source h v.slot me work v.acked v.answer 0 is));
+              sits = counted_sits y (s.irq ∙ ap irq_of is) (found == 1);
+            }
+
+  -- any step of any command
+  pub stop_step_shown : CarriesIn c (p.calling me) → (stage : StopStage) → c.stage ≡ Some stage → StopStep u p at seat source c me stage
+  stop_step_shown carry TakeGate e = take_gate u p at seat source h c me s e
+  stop_step_shown carry OpenGate e = open_gate u p at seat source h c me s e
+  stop_step_shown carry (Begin work f) e = begin_step u p at seat source h c me s work f e
+  stop_step_shown carry (Enter slot) e = enter slot e
+  stop_step_shown carry (EnterKind slot) e = enter_kind u p at seat source h c me s slot e
+  stop_step_shown carry (EnterMask slot kind) e = enter_mask u p at seat source h c me s slot kind e
+  stop_step_shown carry (EnterActive slot kind mask) e = enter_active u p at seat source h c me s slot kind mask e
+  stop_step_shown carry (Advance v (round.Look answer)) e = look u p at seat source h c me s v answer e
+  stop_step_shown carry (Advance v (round.LoadFunc answer)) e = load_func u p at seat source h c me s v answer e
+  stop_step_shown carry (Advance v (round.LoadArg answer func)) e = load_arg u p at seat source h c me s v answer func e
+  stop_step_shown carry (Advance v (round.LoadKey key change)) e = load_key u p at seat source h c me s v key change e
+  stop_step_shown carry (Advance v (round.LoadEntry key word site)) e = load_entry u p at seat source h c me s v key word site e
+  stop_step_shown carry (Advance v (round.StoreChange made)) e = store_change u p at seat source h c me s v made e
+  stop_step_shown carry (Advance v (round.Acknowledge answer ran)) e = acknowledge u p at seat source h c me s v carry answer ran e
+  stop_step_shown carry (Advance v (round.Refill ran)) e = refill u p at seat source h c me s v ran e
+  stop_step_shown carry (Advance v (round.Raise ran)) e = raise u p at seat source h c me s v ran e
+  stop_step_shown carry (Complete v (completion.LoadFunc answer)) e = one_func v answer e
+  stop_step_shown carry (Complete v (completion.LoadArg answer func)) e = one_arg v answer func e
+  stop_step_shown carry (Complete v completion.StoreAnswer) e = store_answer v carry e
+  stop_step_shown carry (Complete v completion.CountDown) e = count_down v e
+  stop_step_shown carry (Close slot) e = close slot e
+  stop_step_shown carry LoadDone e = load_done u p at seat source h c me s e
+  stop_step_shown carry LoadResult e = load_result u p at seat source h c me s e
+  stop_step_shown carry (ReadKey k) e = read_key u p at seat source h c me s k e
+  stop_step_shown carry (ReadSite i) e = read_site u p at seat source h c me s i e
+  stop_step_shown carry (NudgeKey k up) e = nudge_key u p at seat source h c me s k up e
+  stop_step_shown carry (ExchangeKey k expected new) e = exchange_key u p at seat source h c me s k expected new e

@@ -1,0 +1,230 @@
+-- The kinds of step on labels: readings, and the loads and stores of a patch.
+use Rattle.smp_stop_steps.proofs.Steps.Callings.{calling_same, closing_seat, idle_patch, idle_alters, IsNotClosing}
+use Rattle.smp_stop_steps.specs.Callings.{IsCalling, AreClosing}
+use Rattle.smp_stop_steps.proofs.State.KeyCounts.{counts_nudged, counts_patched}
+use Rattle.std.specs.List.{AllByRecursion}
+use Rattle.smp_stop_steps.specs.Sits.{IsNudge}
+use Rattle.smp_stop_steps.specs.KeyCounts.{CountShows, moved_by}
+use Rattle.std.proofs.Common.{◌≡◌, ℕ, Bool, true, false, eqb-true, ◌==◌, ◌&&◌, cond, sym, subst, refl, ap, ◌∙◌, arith, Option, Some, None, List, []}
+use Rattle.std.proofs.Common.{◌∷◌, ◌++◌, ◌<◌, IfSome}
+use Rattle.smp_words.proofs.Puts.{at_test}
+use Rattle.smp_stop_steps.proofs.Steps.Kept.{source_same}
+use Rattle.smp_stop_steps.proofs.State.Owns.{owns_stores}
+use Rattle.smp_stop_steps.proofs.State.Patched.{off_inside, patch_starts, patch_stores, reads_label, nobody_patches, lawful_when_on}
+use Rattle.smp_stop_steps.proofs.State.Phases.{is_open_inside}
+use Rattle.smp_words.specs.Put.{put, put_word}
+use Rattle.smp_stop_steps.specs.Labels.{Change, Patches, Patching, ReadKey, ReadSite, Reading, labels_in, Agrees, LabelsShow, count_set, state_left}
+use Rattle.smp_stop_steps.specs.Present.{OwnsKey, PresentShows}
+use Rattle.smp_stop_steps.specs.Seats.{Alters, In, Rests, Seat, Stands}
+use Rattle.smp_stop_steps.specs.Shows.{StopShows}
+use Rattle.smp_stop_steps.specs.Sources.{Source}
+use Rattle.smp_stop_steps.specs.State.{Setup, StopState, Moved}
+use Rattle.smp_stop_steps.specs.Stop.{Answering, Called, Completed, Inside, Outside, Standing}
+use Rattle.smp_stop_steps.specs.Tells.{is_at_run, is_patch, key_loaded, patch_begun, patched_more, reads, told, plan_at, key_patched}
+use Rattle.smp_words.specs.declared.seen.Act.TheVariants as act
+use Rattle.smp_words.specs.declared.field.Field.{Field}
+use Rattle.smp_words.specs.declared.work.Kind.TheVariants.{Patch}
+use Rattle.smp_words.specs.declared.work.Work.{Work}
+use Rattle.smp_words.specs.declared.word.Word.TheVariants.{Entry, Gate, Key, Site, Slot}
+use Rattle.smp_words.specs.declared.word.Word.{Word}
+use Rattle.smp_labels.proofs.Patched.{plan_leads, left_in_form, count_lawful}
+use Rattle.smp_labels.specs.Keys.{is_on, change_of}
+use Rattle.smp_labels.specs.Law.{Table}
+use Rattle.smp_labels.specs.Plans.{AreEntriesOf, applied}
+use Rattle.smp_labels.specs.declared.patch.Place.TheVariants as place
+use Rattle.smp_mask.specs.Mask.{has}
+
+module _ (u : Setup) (p : StopState) (at : Word → ℕ) (seat : ℕ → Seat) (source : ℕ → Source) (h : StopShows u p at seat source) (me : ℕ) where
+  -- a step that leaves the stops
+  label_step : (readings' : ℕ → List Reading) (patching' : Patching) (nudged' patched' : ℕ → ℕ → Moved) (at' : Word → ℕ) (seat' : ℕ → Seat) →
+      at' Gate ≡ at Gate → ((j : ℕ) (f : Field) → at' (Slot j f) ≡ at (Slot j f)) →
+      ((j : ℕ) → OwnsKey u.first p.now (λ k. at' (Key k)) j) → ((k : ℕ) → CountShows u.cpus nudged' patched' k (at' (Key k))) →
+      PresentShows u (record (p.now) { readings = readings'; patching = patching' }) at' seat' → ((c : ℕ) → IsCalling c (seat' c) (p.calling c)) →
+      AreClosing p.now seat' →
+      StopShows u (record p { now = record (p.now) { readings = readings'; patching = patching' }; nudged = nudged'; patched = patched' }) at' seat' source
+  label_step readings' patching' nudged' patched' at' seat' gate slots own counts present callings closing = record {
+    setup = h.setup;
+    present = present;
+    gate = gate ∙ h.gate;
+    callings = callings;
+    closing = closing;
+    sources = λ j. source_same u p.gate j (p.now.stop j) (λ f. at (Slot j f)) (λ f. at' (Slot j f)) (slots j) (source j) (h.sources j);
+    past = h.past;
+    owns = own;
+    counts = counts;
+  }
+
+  run_is : (x : Standing) → is_at_run x ≡ true → x ≡ Inside 2 3
+  run_is Outside e = cc
+  run_is Called e = cc
+  run_is (Inside a l) e = let a_two = eqb-true a 2 (first_true (a == 2) (l == 3) e) in let l_three = eqb-true l 3 (second_true (a == 2) (l == 3) e) in cc
+    where
+      first_true : (b c : Bool) → b && c ≡ true → b ≡ true
+      first_true true c e = refl
+      first_true false c e = cc
+
+      second_true : (b c : Bool) → b && c ≡ true → c ≡ true
+      second_true true c e = e
+      second_true false c e = cc
+  run_is (Answering a v) e = cc
+  run_is (Completed a v) e = cc
+
+  -- where interrupts are on, the CPU is not at phase 3
+  pub not_run : (s : ℕ) → p.now.irq me ≡ true → p.now.inside me ≡ Some s → is_at_run ((p.now.stop s).standing me) ≡ false
+  not_run s on in_ = go (is_at_run ((p.now.stop s).standing me)) refl
+    where
+      go : (b : Bool) → is_at_run ((p.now.stop s).standing me) ≡ b → b ≡ false
+      go false e = refl
+      go true e =
+          let is = run_is ((p.now.stop s).standing me) e in
+          let off = off_inside p.now me s 2 3 (seat me) (h.present.stands me) in_ is (omega arith) (λ z. omega arith) in
+          let bad : true ≡ false = sym on ∙ (h.present.irq me ∙ off) in cc
+
+  -- load of a key, where interrupts are on: a reading
+  pub key_read : (k answer : ℕ) → p.now.irq me ≡ true →
+      StopShows u (told u p me act.Load (Key k) (Some (at (Key k))) None answer) at seat source
+  key_read k answer on = go (p.now.inside me) refl
+    where
+      read : StopShows u (record p { now = reads p.now me (ReadKey k (is_on (at (Key k)))) }) at seat source
+      read = label_step (put p.now.readings me (p.now.readings me ++ ReadKey k (is_on (at (Key k))) ∷ [])) p.now.patching p.nudged p.patched at seat refl
+          (λ j f. refl) h.owns h.counts
+          (reads_label u p.now at seat h.present me (ReadKey k (is_on (at (Key k)))) refl) h.callings h.closing
+
+      go : (x : Option ℕ) → p.now.inside me ≡ x → StopShows u (record p { now = key_loaded u p.now me k (at (Key k)) x }) at seat source
+      go None e = read
+      go (Some s) e = subst (λ b. StopShows u (record p {
+        now = cond (b && is_patch (p.now.stop s).work.kind)
+            (record (p.now) { patching = patch_begun u me (p.now.stop s).work (at (Key k)) }) (reads p.now me (ReadKey k (is_on (at (Key k)))));
+      }) at seat source)
+          (sym (not_run s on e)) read
+
+  -- load of a site, where interrupts are on: a reading
+  pub site_read : (i answer : ℕ) → StopShows u (told u p me act.Load (Site i) (Some (at (Site i))) None answer) at seat source
+  site_read i answer = label_step (put p.now.readings me (p.now.readings me ++ ReadSite i (is_on (at (Site i))) ∷ [])) p.now.patching p.nudged p.patched at
+      seat refl (λ j f. refl) h.owns h.counts
+      (reads_label u p.now at seat h.present me (ReadSite i (is_on (at (Site i)))) refl) h.callings h.closing
+
+  entries_same : (at' : Word → ℕ) → ((i : ℕ) → at' (Entry i) ≡ at (Entry i)) → AreEntriesOf u.entries (labels_in at')
+  entries_same at' same = record { few = h.present.entries.few; read = λ i l. same i ∙ h.present.entries.read i l }
+
+  -- compare-exchange of a key that won, where interrupts are on: nobody patches, and the key is on or off as before
+  module _ (k found new : ℕ) (below : me < u.cpus) (online : u.online me ≡ true) (on : p.now.irq me ≡ true) (was : at (Key k) ≡ found)
+      (nudge : IsNudge found new) where
+    abbrev at' : Word → ℕ
+    at' = put_word at (Key k) new
+
+    on_kept : (j : ℕ) → is_on (at' (Key j)) ≡ is_on (at (Key j))
+    on_kept j = at_test j k (λ b. is_on (cond b new (at (Key j))) ≡ is_on (at (Key j)))
+        (λ e. nudge.same ∙ ap is_on (sym was ∙ ap (λ i. at (Key i)) (sym e))) (λ _. refl)
+
+    agrees_kept : (r : Reading) → Agrees (labels_in at) r → Agrees (labels_in at') r
+    agrees_kept (ReadKey j x) a = on_kept j ∙ a
+    agrees_kept (ReadSite i x) a = a
+
+    all_agree : (rs : List Reading) → AllByRecursion (Agrees (labels_in at)) rs → AllByRecursion (Agrees (labels_in at')) rs
+    all_agree [] a = tt
+    all_agree (r ∷ rs) a = (agrees_kept r a.0, all_agree rs a.1)
+
+    stands_kept : (x : Option Bool) (m n : ℕ) → is_on n ≡ is_on m → IfSome x (λ b. is_on m ≡ b) → IfSome x (λ b. is_on n ≡ b)
+    stands_kept None m n e s = tt
+    stands_kept (Some b) m n e s = e ∙ s
+
+    pub key_exchanged : (answer : ℕ) → StopShows u (told u p me act.Cas (Key k) (Some found) (Some new) answer) at' seat source
+    key_exchanged answer =
+        let whole = nobody_patches u p.now at seat h.present me online on in
+        let lawful = lawful_when_on u p.now at seat h.present me online on in
+        let same : is_on new ≡ is_on (at (Key k)) = nudge.same ∙ ap is_on (sym was) in
+        label_step p.now.readings p.now.patching (moved_by p.nudged me k found new) p.patched at' seat refl (λ j f. refl)
+        (λ j op kind in_ late. stands_kept (state_left (change_of (p.now.stop j).work.arg)) (at (Key (p.now.stop j).work.func))
+        (at' (Key (p.now.stop j).work.func)) (on_kept (p.now.stop j).work.func) (h.owns j op kind in_ late))
+        (counts_nudged u.cpus p.nudged p.patched at me k found new below was h.counts)
+        record {
+          slots = h.present.slots;
+          stands = h.present.stands;
+          homes = h.present.homes;
+          irq = h.present.irq;
+          works = h.present.works;
+          runner = h.present.runner;
+          entries = entries_same at' (λ i. refl);
+          labels = subst (λ x. LabelsShow x (labels_in at')) (sym whole) (count_lawful k new (labels_in at) nudge.word same lawful);
+          read = λ c o i. all_agree (p.now.readings c) (h.present.read c o i);
+        } h.callings h.closing
+
+  module _ (s : ℕ) (job : Work) where
+    -- load of the key of a patch, by the CPU that is to make it: what the patch leads from is found now
+    pub key_loaded_first : (answer : ℕ) → seat me ≡ In s job 2 3 Rests → job.kind ≡ Patch → has job.active me ≡ true →
+        let found = at (Key job.func) in
+        StopShows u (told u p me act.Load (Key job.func) (Some found) None answer) at (put seat me (Alters s job found [] (plan_at u job found))) source
+    key_loaded_first answer is kind active =
+        let st : Stands p.now me (In s job 2 3 Rests) = subst (Stands p.now me) is (h.present.stands me) in
+        let found = at (Key job.func) in
+        let plan = plan_at u job found in
+        let seat' = put seat me (Alters s job found [] plan) in
+        let open_ = is_open_inside u.cpus (p.now.stop s) (λ f. at (Slot s f)) (h.present.slots s) me (Inside 2 3) st.1 refl in
+        let below : job.func < u.keys = subst (λ (w : Work). w.func < u.keys) st.3 (h.present.works s open_ (ap (λ (w : Work). w.kind) st.3 ∙ kind)).key in
+        let few = h.setup.few_keys in
+        let shown = label_step p.now.readings (Patches me job found [] plan) p.nudged p.patched at seat' refl (λ j f. refl) h.owns h.counts
+        (patch_starts u p.now at seat h.present s me job plan is kind active
+        (λ lawful. plan_leads job.func (count_set job found) u.entries (labels_in at) (left_in_form (change_of job.arg) found
+        (lawful.keys job.func (omega arith))) lawful h.present.entries))
+        (calling_same seat p.calling h.callings me (Alters s job found [] plan) (subst (IsCalling me (Alters s job found [] plan))
+        (sym (idle_patch me s job 3 Rests (p.calling me) kind (subst (λ x. IsCalling me x (p.calling me)) is (h.callings me)))) tt))
+        (closing_seat p.now seat me (Alters s job found [] plan) h.closing (subst IsNotClosing (sym is) tt)) in
+        subst (λ x. StopShows u (record p { now = key_loaded u p.now me job.func found x }) at seat' source) (sym st.0)
+        (subst (λ x. StopShows u (record p {
+          now = cond (is_at_run x && is_patch (p.now.stop s).work.kind)
+              (record (p.now) { patching = patch_begun u me (p.now.stop s).work found }) (reads p.now me (ReadKey job.func (is_on found)));
+        }) at seat' source)
+        (sym st.1)
+        (subst (λ (x : Work). StopShows u (record p {
+          now = cond (is_patch x.kind) (record (p.now) { patching = patch_begun u me x found })
+              (reads p.now me (ReadKey job.func (is_on found)));
+        }) at seat' source) (sym st.3)
+        (subst (λ k. StopShows u (record p {
+          now = cond (is_patch k) (record (p.now) { patching = patch_begun u me job found })
+              (reads p.now me (ReadKey job.func (is_on found)));
+        }) at seat' source) (sym kind) shown)))
+
+    alters_calling : (count : ℕ) (made rest made' rest' : List Change) → seat me ≡ Alters s job count made rest → (c : ℕ) →
+        IsCalling c (put seat me (Alters s job count made' rest') c) (p.calling c)
+    alters_calling count made rest made' rest' is = calling_same seat p.calling h.callings me (Alters s job count made' rest')
+        (subst (IsCalling me (Alters s job count made' rest')) (sym (idle_alters me s job count made rest (p.calling me)
+        (subst (λ x. IsCalling me x (p.calling me)) is (h.callings me)))) tt)
+
+    -- store of the key by a patch, its first store: the count goes from what the patch has found
+    pub key_stored : (count : ℕ) (made rest : List Change) (k n answer : ℕ) → me < u.cpus → seat me ≡ Alters s job count made ((place.Key k, n) ∷ rest) →
+        made ≡ [] → k ≡ job.func →
+        StopShows u (told u p me act.Store (Key k) None (Some n) answer) (put_word at (Key k) n)
+        (put seat me (Alters s job count (made ++ (place.Key k, n) ∷ []) rest)) source
+    key_stored count made rest k n answer below is none here =
+        let st : Stands p.now me (Alters s job count made ((place.Key k, n) ∷ rest)) = subst (Stands p.now me) is (h.present.stands me) in
+        let l : LabelsShow (Patches me job count made ((place.Key k, n) ∷ rest)) (labels_in at) = subst (λ x. LabelsShow x (labels_in at)) st.5
+        h.present.labels in
+        let was : at (Key k) ≡ count = ap (λ (t : Table). t.key k) (l.2 ∙ ap (λ m. applied m l.0) none) ∙ (ap l.0.key here ∙ l.3) in
+        let made' = made ++ (place.Key k, n) ∷ [] in
+        let at' = put_word at (Key k) n in
+        subst (λ x. StopShows u (record p { now = record (p.now) { patching = patched_more x }; patched = key_patched x p.patched me k n }) at'
+        (put seat me (Alters s job count made' rest)) source) (sym st.5)
+        (label_step p.now.readings (Patches me job count made' rest) p.nudged (moved_by p.patched me k count n) at'
+        (put seat me (Alters s job count made' rest)) refl (λ j f. refl)
+        (λ j. owns_stores u p.now at seat h.present j me s k n job count made ((place.Key k, n) ∷ rest) is (h.owns j))
+        (counts_patched u.cpus p.nudged p.patched at me k count n below was h.counts)
+        (patch_stores u p.now at seat h.present s me job count made rest (place.Key k, n) at' is refl h.present.slots (entries_same at' (λ i. refl)))
+        (alters_calling count made ((place.Key k, n) ∷ rest) made' rest is) (closing_seat p.now seat me (Alters s job count made' rest) h.closing
+        (subst IsNotClosing (sym is) tt)))
+
+    -- store of a site by a patch
+    pub site_stored : (count : ℕ) (made rest : List Change) (i n answer : ℕ) → seat me ≡ Alters s job count made ((place.Site i, n) ∷ rest) →
+        StopShows u (told u p me act.Store (Site i) None (Some n) answer) (put_word at (Site i) n)
+        (put seat me (Alters s job count (made ++ (place.Site i, n) ∷ []) rest)) source
+    site_stored count made rest i n answer is =
+        let st : Stands p.now me (Alters s job count made ((place.Site i, n) ∷ rest)) = subst (Stands p.now me) is (h.present.stands me) in
+        let made' = made ++ (place.Site i, n) ∷ [] in
+        let at' = put_word at (Site i) n in
+        subst (λ x. StopShows u (record p { now = record (p.now) { patching = patched_more x } }) at' (put seat me (Alters s job count made' rest)) source)
+        (sym st.5)
+        (label_step p.now.readings (Patches me job count made' rest) p.nudged p.patched at' (put seat me (Alters s job count made' rest)) refl (λ j f. refl)
+        h.owns h.counts
+        (patch_stores u p.now at seat h.present s me job count made rest (place.Site i, n) at' is refl h.present.slots (entries_same at' (λ i. refl)))
+        (alters_calling count made ((place.Site i, n) ∷ rest) made' rest is) (closing_seat p.now seat me (Alters s job count made' rest) h.closing
+        (subst IsNotClosing (sym is) tt)))

@@ -1,0 +1,515 @@
+-- The kinds of step of a round: a CPU looks at the phase, acknowledges it, refills the count, and stores the next phase.
+use Rattle.smp_stop_steps.proofs.Basics.Bools.{both_true, or_false, or_true}
+use Rattle.smp_stop_steps.specs.Callings.{HasCalled, IsCalling, AreClosing}
+use Rattle.smp_stop_steps.proofs.Steps.Callings.{calling_same, calling_looked, IsNotClosing, calling_turned, closing_kept, calling_acked, idle_patch}
+use Rattle.smp_stop_steps.proofs.Steps.Callings.{carried_alone, calling_next, calling_ran}
+use Rattle.std.proofs.Common.{◌≡◌, ◌≢◌, ℕ, ◌+◌, ◌-◌, ◌<◌, ◌≤◌, Bool, true, false, not, nat_lt, lt-ltb, le-ltb, eqb-true, eq-eqb, ne_eqb, ◌==◌, ◌&&◌}
+use Rattle.std.proofs.Common.{◌||◌, cond, sym, subst, refl, ap, ◌∙◌, ◌⊎◌, inl, inr, arith, ⊎_elim, Some, None, List, [], ◌∷◌, ◌++◌, Option, IfSome}
+use Rattle.std.proofs.lemmas.Bool.{cases_lt, cases_eq}
+use Rattle.smp_words.proofs.Puts.{at_test, put_all}
+use Rattle.smp_stop_steps.proofs.Basics.Counts.{put_else, put_here}
+use Rattle.smp_stop_steps.proofs.Steps.Kept.{MovesInside, StaysOpen, after, moves_early, moves_given, open_step, other_slots, owns_kept, put_twice}
+use Rattle.smp_stop_steps.proofs.State.Moves.{IsNoPatch, SaveMe}
+use Rattle.smp_stop_steps.proofs.State.Owns.{owns_at_leave}
+use Rattle.smp_stop_steps.proofs.State.Patched.{patch_ends}
+use Rattle.smp_stop_steps.proofs.State.Phases.{is_open_inside, keeps_inside}
+use Rattle.smp_stop_steps.proofs.State.Acknowledged.{step_acknowledges, step_looks, step_raises, step_refills}
+use Rattle.smp_stop_steps.proofs.State.Works.{weight_of_mask}
+use Rattle.smp_words.specs.Put.{put, put_word}
+use Rattle.smp_stop_steps.specs.Counts.{mask_weight, weight}
+use Rattle.smp_stop_steps.specs.Labels.{Agrees, Change, Patches, Patching, Reading, Whole, labels_in, StandsSet, reading_of, state_left, patch_answer}
+use Rattle.smp_stop_steps.specs.Past.{answer_now}
+use Rattle.smp_stop_steps.specs.Present.{OwnsKey, PresentShows, RunnerShows}
+use Rattle.smp_stop_steps.specs.Seats.{Alters, Fills, In, Rests, Seat, Sets, Stands, Turn, irq_of, turn_of}
+use Rattle.smp_stop_steps.specs.Shows.{StopShows}
+use Rattle.smp_stop_steps.specs.Slots.{AckShows, IsLevel, Keeps, OpenShows, IsPhaseOf}
+use Rattle.smp_stop_steps.specs.Sources.{Source}
+use Rattle.smp_stop_steps.specs.State.{Present, Setup, StopCall, StopState, Calling, Carries}
+use Rattle.smp_stop_steps.specs.Stop.{Answering, Called, Completed, Inside, Nobody, Outside, Raises, Raising, Refills, Standing, Stop, acked}
+use Rattle.smp_stop_steps.specs.Stop.{acknowledged, is_inside, raised, refilled, stands}
+use Rattle.smp_stop_steps.specs.Tells.{acknowledges, first_readings, is_patch, leaves, looked_by, stored_open, stored_shut, told}
+use Rattle.smp_stop_steps.specs.Tells.{unpatched, with_stop, called_more, carried, carried_call}
+use Rattle.smp_words.specs.declared.seen.Act.TheVariants as act
+use Rattle.smp_words.specs.declared.field.Field.TheVariants.{Ack, State}
+use Rattle.smp_words.specs.declared.work.Kind.TheVariants.{Multi, One, Patch}
+use Rattle.smp_words.specs.declared.work.Kind.{Kind as KindOf}
+use Rattle.smp_words.specs.declared.work.Work.{Work}
+use Rattle.smp_words.specs.declared.word.Word.TheVariants.{Key, Slot}
+use Rattle.smp_words.specs.declared.word.Word.{Word}
+use Rattle.smp_labels.specs.Keys.{is_on, change_of}
+use Rattle.smp_mask.specs.Mask.{has}
+use Rattle.std.specs.List.{AllByRecursion}
+
+-- a look changes whether interrupts are on at phase 2 alone
+pub look_irq : (l a n p : ℕ) → n ≡ p → IsLevel p a → ((l ≡ a) ⊎ ((l ≡ a + 1) × (p ≡ l))) → n ≢ 2 → nat_lt l 2 ≡ nat_lt n 2
+look_irq l a n p e level near ne = elim (cases_lt n 2) [
+  | inl low ↦ lt-ltb l 2 (below low) ∙ sym (lt-ltb n 2 low)
+  | inr high ↦ le-ltb l 2 (above high) ∙ sym (le-ltb n 2 high)
+]
+  where
+    below : n < 2 → l < 2
+    below low = ⊎_elim (λ (x : l ≡ a). ⊎_elim (λ (y : a ≡ p). omega arith) (λ (y : a + 1 ≡ p). omega arith) level) (λ (x : (l ≡ a + 1) × (p ≡ l)). let z =
+        x.1 in omega arith) near
+
+    above : 2 ≤ n → 2 ≤ l
+    above high = ⊎_elim (λ (x : l ≡ a). ⊎_elim (λ (y : a ≡ p). omega arith) (λ (y : a + 1 ≡ p). omega arith) level) (λ (x : (l ≡ a + 1) × (p ≡ l)). let z =
+        x.1 in omega arith) near
+
+-- no CPU has acknowledged more than the phase
+pub acked_most_phase : (cpus p c : ℕ) (x : Standing) → Keeps cpus p c x → acked x ≤ p
+acked_most_phase cpus p c Outside k = omega arith
+acked_most_phase cpus p c Called k = omega arith
+acked_most_phase cpus p c (Inside a l) k = ⊎_elim (λ (e : a ≡ p). omega arith) (λ (e : a + 1 ≡ p). omega arith) k.1
+acked_most_phase cpus p c (Answering a v) k = ⊎_elim (λ (e : a ≡ p). omega arith) (λ (e : a + 1 ≡ p). omega arith) k.1
+acked_most_phase cpus p c (Completed a v) k = ⊎_elim (λ (e : a ≡ p). omega arith) (λ (e : a + 1 ≡ p). omega arith) k.1
+
+module _ (u : Setup) (p : StopState) (at : Word → ℕ) (seat : ℕ → Seat) (source : ℕ → Source) (h : StopShows u p at seat source) (s me : ℕ) where
+  abbrev pub now : Present
+  now = p.now
+
+  module _ (job : Work) (a l : ℕ) (t : Turn) (is : seat me ≡ In s job a l t) where
+    -- where the CPU stands
+    here : Stands p.now me (In s job a l t)
+    here = subst (Stands p.now me) is (h.present.stands me)
+
+    keeps : Keeps u.cpus (p.now.stop s).phase me (Inside a l)
+    keeps = keeps_inside u.cpus (p.now.stop s) (λ f. at (Slot s f)) (h.present.slots s) me (Inside a l) here.1
+
+    is_open : (p.now.stop s).is_open ≡ true
+    is_open = is_open_inside u.cpus (p.now.stop s) (λ f. at (Slot s f)) (h.present.slots s) me (Inside a l) here.1 refl
+
+    shown : OpenShows u.cpus (p.now.stop s) (λ f. at (Slot s f))
+    shown = (h.present.slots s).shows is_open
+
+  -- load of the state, by a CPU that has not acknowledged the last phase
+  pub state_loaded : (job : Work) (a l answer : ℕ) → seat me ≡ In s job a l Rests → a ≢ 4 →
+      let found = at (Slot s State) in
+      StopShows u (told u p me act.Load (Slot s State) (Some found) None answer) at (put seat me (In s job a found Rests)) source
+  state_loaded job a l answer is more =
+      let found = at (Slot s State) in
+      let st = here job a l Rests is in
+      let k = keeps job a l Rests is in
+      let o = shown job a l Rests is in
+      let to = Inside a found in
+      let stop' = stands (p.now.stop s) me to in
+      let irq' = cond (found == 2) (put p.now.irq me false) p.now.irq in
+      let looks' = put p.looks me (p.looks me ++ found ∷ []) in
+      let next = In s job a found Rests in
+      let inside : MovesInside ((p.now.stop s).standing me) to = record {
+        inside = λ _. ap is_inside st.1;
+        late = λ x. subst (λ (y : Standing). 3 ≤ acked y)
+            (sym st.1) x;
+        given = sym (ap answer_now st.1);
+      } in
+      subst (λ (x : Standing). StopShows u (record p {
+        now = after p.now s (stands (p.now.stop s) me (looked_by x found)) p.now.inside irq' p.now.readings
+            p.now.patching;
+        looks = looks';
+      }) at (put seat me next) source)
+      (sym st.1)
+      (open_step u p at seat source h s stop' p.now.inside irq' p.now.readings p.now.patching at (put seat me next) looks' p.calls p.calling
+      record {
+        was = is_open job a l Rests is;
+        now = is_open job a l Rests is;
+        work = refl;
+        end = λ e. e;
+        given = moves_given u.first s me (p.now.stop s) to
+            inside;
+      }
+      refl (λ k. refl) (λ j ne f. refl)
+      (owns_kept u.first p.now (λ k. at (Key k)) s stop' p.now.inside irq' p.now.readings p.now.patching
+      record {
+        was = is_open job a l Rests is;
+        now = is_open job a l Rests is;
+        work = refl;
+        end = λ e. e;
+        given = moves_given u.first s me (p.now.stop s) to
+            inside;
+      }
+      (moves_early u.first s me (p.now.stop s) to inside stop' refl) h.owns)
+      (step_looks u p.now at seat h.present s me irq' p.now.readings (save found) job a l is more
+      (turned found refl (o.state ∙ refl) k (h.present.irq me ∙ ap irq_of is))
+      (λ on i. h.present.read me on (before found (sym (turned found refl (o.state ∙ refl) k (h.present.irq me ∙ ap irq_of is)) ∙ refl) i)))
+      (calling_same seat p.calling h.callings me next (calling_looked me s job a l found (p.calling me) (λ two three. o.state ∙ near k.2 two three)
+      (subst (λ x. IsCalling me x (p.calling me)) is (h.callings me))))
+      (closing_kept p.now seat me next h.closing (subst IsNotClosing (sym is) tt) s stop' (λ c ne. put_else (p.now.stop s).standing me to c ne) refl refl))
+    where
+      near : (l ≡ a) ⊎ ((l ≡ a + 1) × ((p.now.stop s).phase ≡ l)) → a ≡ 2 → l ≡ 3 → (p.now.stop s).phase ≡ 3
+      near k two three = ⊎_elim (λ (e : l ≡ a). absurd (let z : ⊥ = omega (arith, two, three) in z)) (λ (e : (l ≡ a + 1) × ((p.now.stop s).phase ≡ l)).
+          e.1 ∙ three) k
+
+      other_irq : (b : Bool) (c : ℕ) → c ≢ me → cond b (put p.now.irq me false) p.now.irq c ≡ p.now.irq c
+      other_irq true c ne = put_else p.now.irq me false c ne
+      other_irq false c ne = refl
+
+      save : (found : ℕ) → SaveMe p.now me p.now.inside (cond (found == 2) (put p.now.irq me false) p.now.irq) p.now.readings
+      save found = record { inside = λ c ne. refl; irq = λ c ne. other_irq (found == 2) c ne; readings = λ c ne. refl }
+
+      turned : (found : ℕ) → found ≡ found → found ≡ (p.now.stop s).phase → Keeps u.cpus (p.now.stop s).phase me (Inside a l) → p.now.irq me ≡ nat_lt l 2 ||
+          a == 4 →
+          cond (found == 2) (put p.now.irq me false) p.now.irq me ≡ nat_lt found 2 || a == 4
+      turned found _ e k i = at_test found 2 (λ b. cond b (put p.now.irq me false) p.now.irq me ≡ nat_lt found 2 || a == 4)
+          (λ two. put_here p.now.irq me false ∙ sym (ap (λ n. nat_lt n 2 || a == 4) two ∙ ne_eqb a 4 more))
+          (λ ne. i ∙ ap (λ b. b || a == 4) (look_irq l a found (p.now.stop s).phase e k.1 k.2 ne))
+
+      before : (found : ℕ) → nat_lt found 2 || a == 4 ≡ cond (found == 2) (put p.now.irq me false) p.now.irq me → nat_lt found 2 || a == 4 ≡ true →
+          p.now.irq me ≡ true
+      before found e i = at_test found 2 (λ b. cond b (put p.now.irq me false) p.now.irq me ≡ true → p.now.irq me ≡ true)
+          (λ _ x. let bad : true ≡ false = sym x ∙ put_here p.now.irq me false in cc) (λ _ x. x) (sym e ∙ i)
+
+  -- who is not inside the function of a patch does not end one
+  not_patching : (x : Patching) → IsNoPatch (seat me) → RunnerShows u.first x seat → unpatched me x ≡ x
+  not_patching Whole idle r = refl
+  not_patching (Patches c w count made rest) idle r = ap (λ b. cond b Whole (Patches c w count made rest))
+      (ne_eqb c me (λ e. subst IsNoPatch (sym (ap seat e) ∙ r.1.1) idle))
+
+  -- with the key of its own patch a source's readings begin when it leaves
+  leave_agrees : (job : Work) (a l : ℕ) (t : Turn) → seat me ≡ In s job a l t → 4 ≤ (p.now.stop s).phase → AllByRecursion (Agrees (labels_in at))
+      (first_readings me s job)
+  leave_agrees job a l t is late = go (is_patch job.kind) refl (s == me) refl
+    where
+      kind_patch : (k : KindOf) → is_patch k ≡ true → k ≡ Patch
+      kind_patch One e = cc
+      kind_patch Multi e = cc
+      kind_patch Patch e = refl
+
+      reads : (n : ℕ) → n ≡ at (Key job.func) → (x : Option Bool) → IfSome x (λ on. is_on n ≡ on) → AllByRecursion (Agrees (labels_in at))
+          (reading_of job.func x)
+      reads n same None k = tt
+      reads n same (Some on) k = (ap is_on (sym same) ∙ k, tt)
+
+      go : (b : Bool) → is_patch job.kind ≡ b → (c : Bool) → (s == me) ≡ c → AllByRecursion (Agrees (labels_in at))
+          (cond (b && c) (reading_of job.func (state_left (change_of job.arg))) [])
+      go false e c f = tt
+      go true e false f = tt
+      go true e true f =
+          let st = here job a l t is in
+          let same : s ≡ me = eqb-true s me f in
+          let in_ : is_inside ((p.now.stop s).standing s) ≡ true = subst (λ k. is_inside ((p.now.stop s).standing k) ≡ true) (sym same) (ap is_inside st.1) in
+          let kind : (p.now.stop s).work.kind ≡ Patch = ap (λ (w : Work). w.kind) st.3 ∙ kind_patch job.kind e in
+          let k = owns_at_leave u p.now at seat h.present s (is_open job a l t is) kind in_ late h.setup.first (h.owns s) in
+          reads (at (Key job.func)) refl (state_left (change_of job.arg)) (subst (λ (w : Work). StandsSet w (at (Key w.func))) st.3 k)
+
+  module _ (job : Work) (a answer : ℕ) where
+    abbrev pub found : ℕ
+    found = at (Slot s Ack)
+
+    abbrev pub next : Seat
+    next = In s job (a + 1) (a + 1) (cond (found == 1) Fills Rests)
+
+    abbrev pub acked_stop : Stop
+    acked_stop = acknowledged (p.now.stop s) me (a + 1) found
+
+    -- what is now, once the phase is acknowledged
+    abbrev pub acked_now : Patching → Present
+    acked_now x = record (p.now) { stop = put p.now.stop s acked_stop; patching = x }
+
+    -- the keys that sources know
+    owns_acked : (x : Patching) (irq' : ℕ → Bool) (readings' : ℕ → List Reading) → (p.now.stop s).standing me ≡ Inside a (a + 1) →
+        ((p.now.stop s).work.kind ≡ Patch → me ≡ u.first → a ≡ 2 → StandsSet (p.now.stop s).work (at (Key (p.now.stop s).work.func))) →
+        (j : ℕ) → OwnsKey u.first (after p.now s acked_stop p.now.inside irq' readings' x) (λ k. at (Key k)) j
+    owns_acked x irq' readings' st known j =
+        at_test j s (λ b. let y = cond b acked_stop (p.now.stop j) in y.is_open ≡ true → y.work.kind ≡ Patch → is_inside (y.standing j) ≡ true →
+        3 ≤ acked (y.standing u.first) → StandsSet y.work (at (Key y.work.func)))
+        (λ e op kind in_ late.
+        let i = put_all (λ c y. is_inside y ≡ true → is_inside ((p.now.stop s).standing c) ≡ true) (p.now.stop s).standing me (Inside (a + 1) (a + 1))
+        (λ _. ap is_inside st) (λ c ne i. i) s (subst (λ k. is_inside (acked_stop.standing k) ≡ true) e in_) in
+        at_test u.first me (λ b. 3 ≤ acked (cond b (Inside (a + 1) (a + 1)) ((p.now.stop s).standing u.first)) → StandsSet (p.now.stop s).work
+        (at (Key (p.now.stop s).work.func)))
+        (λ f late. elim (cases_eq a 2) [
+          | inl two ↦ known kind (sym f) two
+          | inr ne ↦ h.owns s op kind i (subst (λ c. 3 ≤ acked ((p.now.stop s).standing c)) (sym f) (subst (λ (y : Standing). 3 ≤ acked y) (sym st)
+              (let z : 3 ≤ a = omega arith in z)))
+        ])
+        (λ ne late. h.owns s op kind i late) late)
+        (λ ne op kind in_ late. h.owns j op kind in_ late)
+
+    leaves_irq : (b : Bool) → irq_of (In s job (a + 1) (a + 1) (cond b Fills Rests)) ≡ cond (a + 1 == 4 && not b) true (nat_lt (a + 1) 2)
+    leaves_irq true = at_test (a + 1) 4 (λ c. nat_lt (a + 1) 2 ≡ cond (c && false) true (nat_lt (a + 1) 2)) (λ _. refl) (λ _. refl)
+    leaves_irq false = at_test (a + 1) 4 (λ c. nat_lt (a + 1) 2 || c ≡ cond (c && true) true (nat_lt (a + 1) 2)) (λ e. or_true (nat_lt (a + 1) 2))
+        (λ ne. or_false (nat_lt (a + 1) 2) false refl)
+
+    -- an acknowledgement, over a state in which nobody or another patches
+    ack_shown : (x : Patching) (seat0 : ℕ → Seat) (calls' : ℕ → List StopCall) (calling' : ℕ → Calling) → PresentShows u (record (p.now) { patching = x })
+        at seat0 → seat0 me ≡ In s job a (a + 1) Rests →
+        p.now.irq me ≡ nat_lt (a + 1) 2 → put seat0 me next ≡ put seat me next → (p.now.stop s).standing me ≡ Inside a (a + 1) → (p.now.stop s).is_open ≡ true →
+        ((p.now.stop s).work.kind ≡ Patch → me ≡ u.first → a ≡ 2 → StandsSet (p.now.stop s).work (at (Key (p.now.stop s).work.func))) →
+        (a + 1 ≡ 4 → AllByRecursion (Agrees (labels_in at)) (first_readings me s (p.now.stop s).work)) →
+        ((c : ℕ) → IsCalling c (put seat me next c) (calling' c)) → IsNotClosing (seat me) →
+        (b : Bool) → (a + 1 == 4 && not (found == 1)) ≡ b →
+        StopShows u (record p { now = cond b (leaves (acked_now x) me s (p.now.stop s).work) (acked_now x); calls = calls'; calling = calling' })
+        (put_word at (Slot s Ack) (found - 1)) (put seat me next) source
+    ack_shown x seat0 calls' calling' present is off same st op known agrees callings idle true e =
+        let irq' = put p.now.irq me true in
+        let readings' = put p.now.readings me (first_readings me s (p.now.stop s).work) in
+        let at' = put_word at (Slot s Ack) (found - 1) in
+        let to = Inside (a + 1) (a + 1) in
+        subst (λ (y : ℕ → Seat). StopShows u (record p { now = leaves (acked_now x) me s (p.now.stop s).work; calls = calls'; calling = calling' }) at' y
+        source) same
+        (open_step u p at seat source h s acked_stop p.now.inside irq' readings' x at' (put seat0 me next) p.looks calls' calling'
+        record {
+          was = op;
+          now = op;
+          work = refl;
+          end = λ e. e;
+          given = put_all (λ c y. answer_now y ≡ answer_now ((p.now.stop s).standing c))
+              (p.now.stop s).standing me to (sym (ap answer_now st)) (λ c ne. refl);
+        }
+        refl (λ k. refl) (other_slots at s Ack (found - 1))
+        (owns_acked x irq' readings' st known)
+        (step_acknowledges u (record (p.now) { patching = x }) at seat0 present s me irq' readings'
+        record {
+          inside = λ c ne. refl;
+          irq = λ c ne. put_else p.now.irq me true c ne;
+          readings = λ c ne. put_else p.now.readings me
+              (first_readings me s (p.now.stop s).work) c ne;
+        }
+        job a is
+        (put_here p.now.irq me true ∙ sym (leaves_irq (found == 1) ∙ ap (λ b. cond b true (nat_lt (a + 1) 2)) e))
+        (λ _ _. subst (AllByRecursion (Agrees (labels_in at))) (sym (put_here p.now.readings me (first_readings me s (p.now.stop s).work)))
+        (agrees (eqb-true (a + 1) 4 (both_true (a + 1 == 4) (not (found == 1)) e).0))))
+        (subst (λ (y : ℕ → Seat). (c : ℕ) → IsCalling c (y c) (calling' c)) (sym same) callings)
+        (subst (AreClosing (record (acked_now x) { irq = irq'; readings = readings' })) (sym same) (closing_kept p.now seat me next h.closing idle s
+        acked_stop (λ c ne. put_else (p.now.stop s).standing me to c ne) refl refl)))
+    ack_shown x seat0 calls' calling' present is off same st op known agrees callings idle false e =
+        let at' = put_word at (Slot s Ack) (found - 1) in
+        let to = Inside (a + 1) (a + 1) in
+        let turned : p.now.irq me ≡ irq_of next = off ∙ sym (leaves_irq (found == 1) ∙ ap (λ b. cond b true (nat_lt (a + 1) 2)) e) in
+        subst (λ (y : ℕ → Seat). StopShows u (record p { now = acked_now x; calls = calls'; calling = calling' }) at' y source) same
+        (open_step u p at seat source h s acked_stop p.now.inside p.now.irq p.now.readings x at' (put seat0 me next) p.looks calls' calling'
+        record {
+          was = op;
+          now = op;
+          work = refl;
+          end = λ e. e;
+          given = put_all (λ c y. answer_now y ≡ answer_now ((p.now.stop s).standing c))
+              (p.now.stop s).standing me to (sym (ap answer_now st)) (λ c ne. refl);
+        }
+        refl (λ k. refl) (other_slots at s Ack (found - 1))
+        (owns_acked x p.now.irq p.now.readings st known)
+        (step_acknowledges u (record (p.now) { patching = x }) at seat0 present s me p.now.irq p.now.readings
+        record { inside = λ c ne. refl; irq = λ c ne. refl; readings = λ c ne. refl }
+        job a is turned (λ on i. h.present.read me on (turned ∙ i)))
+        (subst (λ (y : ℕ → Seat). (c : ℕ) → IsCalling c (y c) (calling' c)) (sym same) callings)
+        (subst (AreClosing (acked_now x)) (sym same) (closing_kept p.now seat me next h.closing idle s acked_stop (λ c ne. put_else (p.now.stop s).standing
+        me to c ne) refl refl)))
+
+    abbrev pub calls_then : ℕ → List StopCall
+    calls_then = cond (a + 1 == 3) (called_more p.calls me (p.calling me)) p.calls
+
+    abbrev pub calling_then : Patching → ℕ → Calling
+    calling_then x = cond (a + 1 == 3) (put p.calling me (carried me x (p.calling me))) p.calling
+
+    -- the function of a CPU that patches nothing, once the phase is acknowledged
+    acked_calling : (b : Bool) → (a + 1 == 3) ≡ b → seat me ≡ In s job a (a + 1) Rests → job.kind ≢ One → (a ≡ 2 → HasCalled me job (p.calling me)) →
+        (c : ℕ) → IsCalling c (put seat me next c) (cond b (put p.calling me (carried me p.now.patching (p.calling me))) p.calling c)
+    acked_calling false e is many ready =
+        calling_same seat p.calling h.callings me next
+        (calling_acked me s job a (cond (found == 1) Fills Rests) (p.calling me) (λ two. let bad : true ≡ false =
+        sym (eq-eqb (a + 1) 3 (omega (arith, two))) ∙ e in cc) many (subst (λ x. IsCalling me x (p.calling me)) is (h.callings me)))
+    acked_calling true e is many ready =
+        let two : a ≡ 2 = let x = eqb-true (a + 1) 3 e in omega arith in
+        let t = cond (found == 1) Fills Rests in
+        let alone = carried_alone u.first p.now.patching seat me (p.calling me) (subst IsNoPatch (sym is) tt) h.present.runner in
+        let ran = calling_ran me s job t (p.calling me) many (ready two) (subst (λ n. IsCalling me (In s job n (n + 1) Rests) (p.calling me)) two
+        (subst (λ x. IsCalling me x (p.calling me)) is (h.callings me))) in
+        calling_next seat p.calling h.callings me next (carried me p.now.patching (p.calling me))
+        (subst (IsCalling me next) (sym alone) (subst (λ n. IsCalling me (In s job (n + 1) (n + 1) t) (carried_call (p.calling me))) (sym two) ran))
+
+    -- fetch_sub of the count, by a CPU that has looked at a new phase and runs no patch
+    pub ack_subtracted : seat me ≡ In s job a (a + 1) Rests → (a ≡ 2 → HasCalled me job (p.calling me)) →
+        StopShows u (told u p me act.Sub (Slot s Ack) (Some found) (Some (found - 1)) answer) (put_word at (Slot s Ack) (found - 1)) (put seat me next) source
+    ack_subtracted is ready =
+        let st = here job a (a + 1) Rests is in
+        let k = keeps job a (a + 1) Rests is in
+        let idle : IsNoPatch (seat me) = subst IsNoPatch (sym is) tt in
+        let phase : (p.now.stop s).phase ≡ a + 1 = ⊎_elim (λ (e : a + 1 ≡ a). absurd (omega arith))
+        (λ (e : (a + 1 ≡ a + 1) × ((p.now.stop s).phase ≡ a + 1)). e.1) k.2 in
+        let many : job.kind ≢ One = λ one. several ((p.now.stop s).work.kind) (ap (λ (w : Work). w.kind) st.3 ∙ one) (shown job a (a + 1) Rests is).kinds
+        phase in
+        let off : p.now.irq me ≡ nat_lt (a + 1) 2 = h.present.irq me ∙ (ap irq_of is ∙ or_false (nat_lt (a + 1) 2) (a == 4)
+        (ne_eqb a 4 (λ e. let m = k.3 in omega arith))) in
+        subst (λ (x : Standing). StopShows u (acknowledges p me s x found) (put_word at (Slot s Ack) (found - 1)) (put seat me next) source) (sym st.1)
+        (subst (λ (x : Patching). StopShows u (record p {
+          now = cond (a + 1 == 4 && not (found == 1)) (leaves (acked_now x) me s (p.now.stop s).work)
+              (acked_now x);
+          calls = calls_then;
+          calling = calling_then p.now.patching;
+        }) (put_word at (Slot s Ack) (found - 1)) (put seat me next) source)
+        (sym (still (a + 1 == 3) idle))
+        (ack_shown p.now.patching seat calls_then (calling_then p.now.patching) h.present is off refl st.1 (is_open job a (a + 1) Rests is)
+        (λ kind mine two. absurd (active kind mine two st.3))
+        (λ four. subst (λ (w : Work). AllByRecursion (Agrees (labels_in at)) (first_readings me s w)) (sym st.3) (leave_agrees job a (a + 1) Rests is
+        (omega arith)))
+        (acked_calling (a + 1 == 3) refl is many ready) (subst IsNotClosing (sym is) tt)
+        (a + 1 == 4 && not (found == 1)) refl))
+      where
+        several : (k : KindOf) → k ≡ One → IsPhaseOf k (p.now.stop s).phase → (p.now.stop s).phase ≡ a + 1 → ⊥
+        several One e z phase = omega arith
+        several Multi e z phase = cc
+        several Patch e z phase = cc
+
+        still : (b : Bool) → IsNoPatch (seat me) → cond b (unpatched me p.now.patching) p.now.patching ≡ p.now.patching
+        still true idle = not_patching p.now.patching idle h.present.runner
+        still false idle = refl
+
+        active : (p.now.stop s).work.kind ≡ Patch → me ≡ u.first → a ≡ 2 → (p.now.stop s).work ≡ job → ⊥
+        active kind mine two same =
+            let w = h.present.works s (is_open job a (a + 1) Rests is) kind in
+            let yes : has (p.now.stop s).work.active me ≡ true = w.first me ∙ eq-eqb me u.first mine in
+            let here = subst (λ n. IsCalling me (In s job n (a + 1) Rests) (p.calling me)) two (subst (λ x. IsCalling me x (p.calling me)) is
+            (h.callings me)) in
+            let idle = idle_patch me s job (a + 1) Rests (p.calling me) (ap (λ (w : Work). w.kind) (sym same) ∙ kind) here in
+            let passive : has (p.now.stop s).work.active me ≡ false = ap (λ (w : Work). has w.active me) same ∙ subst (HasCalled me job) idle (ready two) in
+            let bad : true ≡ false = sym yes ∙ passive in cc
+
+  -- the same at phase 3, by the CPU that has made all stores of its patch
+  pub ack_subtracted_patched : (job : Work) (count : ℕ) (made : List Change) (answer : ℕ) → seat me ≡ Alters s job count made [] →
+      let found = at (Slot s Ack) in
+      StopShows u (told u p me act.Sub (Slot s Ack) (Some found) (Some (found - 1)) answer) (put_word at (Slot s Ack) (found - 1))
+      (put seat me (In s job 3 3 (cond (found == 1) Fills Rests))) source
+  ack_subtracted_patched job count made answer is =
+      let found = at (Slot s Ack) in
+      let st : Stands p.now me (Alters s job count made []) = subst (Stands p.now me) is (h.present.stands me) in
+      let ends = patch_ends u p.now at seat h.present s me job count made is in
+      let seat0 = put seat me (In s job 2 3 Rests) in
+      let next = In s job 3 3 (cond (found == 1) Fills Rests) in
+      let open_ = is_open_inside u.cpus (p.now.stop s) (λ f. at (Slot s f)) (h.present.slots s) me (Inside 2 3) st.1 refl in
+      let runner : RunnerShows u.first (Patches me job count made []) seat = subst (λ x. RunnerShows u.first x seat) st.5 h.present.runner in
+      let works = h.present.works s open_ (ap (λ (w : Work). w.kind) st.3 ∙ st.4) in
+      let active : has job.active me ≡ true = ap (λ (w : Work). has w.active me) (sym st.3) ∙ (works.first me ∙ eq-eqb me u.first runner.0) in
+      subst (λ (x : Standing). StopShows u (acknowledges p me s x found) (put_word at (Slot s Ack) (found - 1)) (put seat me next) source) (sym st.1)
+      (subst (λ (x : Patching). StopShows u (record p {
+        now = acked_now job 2 answer (unpatched me x);
+        calls = calls_then job 2 answer;
+        calling =
+            calling_then job 2 answer x;
+      }) (put_word at (Slot s Ack) (found - 1)) (put seat me next) source)
+      (sym st.5)
+      (subst (λ b. StopShows u (record p {
+        now = acked_now job 2 answer (cond b Whole (Patches me job count made []));
+        calls = calls_then job 2 answer;
+        calling = put p.calling me (cond b (Carries (patch_answer job count)) (carried_call (p.calling me)));
+      }) (put_word at (Slot s Ack) (found - 1))
+      (put seat me next) source)
+      (sym (eq-eqb me me refl))
+      (ack_shown job 2 answer Whole seat0 (calls_then job 2 answer) (put p.calling me (Carries (patch_answer job count))) ends.0
+      (put_here seat me (In s job 2 3 Rests)) (h.present.irq me ∙ ap irq_of is) (put_twice seat me (In s job 2 3 Rests) next) st.1 open_
+      (λ kind mine two. subst (λ (w : Work). StandsSet w (at (Key w.func))) (sym st.3) ends.1)
+      (λ four. absurd (let z : ⊥ = omega (arith, four) in z))
+      (calling_next seat p.calling h.callings me next (Carries (patch_answer job count)) (omega arith, active)) (subst IsNotClosing (sym is) tt)
+      false refl)))
+
+  -- store of the count by the one that emptied it: the weight of the mask
+  pub ack_stored : (job : Work) (a l answer : ℕ) → seat me ≡ In s job a l Fills →
+      let v = mask_weight u.cpus job.mask in
+      StopShows u (told u p me act.Store (Slot s Ack) None (Some v) answer) (put_word at (Slot s Ack) v) (put seat me (In s job a l Sets)) source
+  ack_stored job a l answer is =
+      let st = here job a l Fills is in
+      let open_ = is_open job a l Fills is in
+      let o = shown job a l Fills is in
+      let v = mask_weight u.cpus job.mask in
+      let stop' = refilled (p.now.stop s) me in
+      let next = In s job a l Sets in
+      let whole : weight u.cpus (p.now.stop s).standing ≡ v = weight_of_mask u.cpus (p.now.stop s) (λ f. at (Slot s f)) (h.present.slots s) open_ ∙ ap
+      (λ (w : Work). mask_weight u.cpus w.mask) st.3 in
+      let stays : StaysOpen (p.now.stop s) stop' = record { was = open_; now = open_; work = refl; end = λ e. e; given = λ c. refl } in
+      subst (λ b. StopShows u (cond b (stored_open p me s Ack v) (stored_shut p s Ack v)) (put_word at (Slot s Ack) v) (put seat me next) source) (sym open_)
+      (open_step u p at seat source h s stop' p.now.inside p.now.irq p.now.readings p.now.patching (put_word at (Slot s Ack) v) (put seat me next) p.looks
+      p.calls p.calling stays
+      refl (λ k. refl) (other_slots at s Ack v)
+      (owns_kept u.first p.now (λ k. at (Key k)) s stop' p.now.inside p.now.irq p.now.readings p.now.patching stays record {
+        inside = λ i. i;
+        late =
+            λ i. i;
+      } h.owns)
+      (subst (λ n. PresentShows u (after p.now s stop' p.now.inside p.now.irq p.now.readings p.now.patching) (put_word at (Slot s Ack) n)
+      (put seat me next)) whole
+      (step_refills u p.now at seat h.present s me p.now.irq p.now.readings record { inside = λ c ne. refl; irq = λ c ne. refl; readings = λ c ne. refl }
+      job a l is (λ z. one (p.now.stop s).raising st.2 (o.calm z)) (h.present.irq me ∙ ap irq_of is) (λ on i. h.present.read me on
+      (h.present.irq me ∙ (ap irq_of is ∙ i)))))
+      (calling_same seat p.calling h.callings me next (calling_turned me s job a l Fills Sets (p.calling me) (λ e. cc)
+      (subst (λ x. IsCalling me x (p.calling me)) is (h.callings me))))
+      (closing_kept p.now seat me next h.closing (subst IsNotClosing (sym is) tt) s stop' (λ c ne. refl) refl refl))
+    where
+      one : (r : Raising) → turn_of r me ≡ Fills → r ≡ Nobody → ⊥
+      one Nobody e z = cc
+      one (Refills r) e z = cc
+      one (Raises r) e z = cc
+
+  -- store of the next phase by the one that refilled the count; from 4 to 5 it leaves
+  pub state_stored : (job : Work) (a l answer : ℕ) → seat me ≡ In s job a l Sets →
+      StopShows u (told u p me act.Store (Slot s State) None (Some (a + 1)) answer) (put_word at (Slot s State) (a + 1)) (put seat me (In s job a l Rests))
+      source
+  state_stored job a l answer is =
+      let st = here job a l Sets is in
+      let open_ = is_open job a l Sets is in
+      let o = shown job a l Sets is in
+      let at' = put_word at (Slot s State) (a + 1) in
+      let stop' = raised (p.now.stop s) (a + 1) in
+      let next = In s job a l Rests in
+      let busy : (p.now.stop s).phase ≢ 0 = λ z. one (p.now.stop s).raising st.2 (o.calm z) in
+      let mine = sets_me (p.now.stop s).raising st.2 in
+      let ack : AckShows u.cpus (p.now.stop s).phase (p.now.stop s).standing (Raises me) (at (Slot s Ack)) =
+      subst (λ r. AckShows u.cpus (p.now.stop s).phase (p.now.stop s).standing r (at (Slot s Ack))) mine (o.ack busy) in
+      let level : Inside (p.now.stop s).phase (p.now.stop s).phase ≡ Inside a l = sym ack.2 ∙ st.1 in
+      let phase : (p.now.stop s).phase ≡ a = cc in
+      let looked : (p.now.stop s).phase ≡ l = cc in
+      let stays : StaysOpen (p.now.stop s) stop' = record { was = open_; now = open_; work = refl; end = λ e. e; given = λ c. refl } in
+      let own = λ (irq' : ℕ → Bool) (readings' : ℕ → List Reading).
+      owns_kept u.first p.now (λ k. at (Key k)) s stop' p.now.inside irq' readings' p.now.patching stays record { inside = λ i. i; late = λ i. i } h.owns in
+      subst (λ b. StopShows u (cond b (stored_open p me s State (a + 1)) (stored_shut p s State (a + 1))) at' (put seat me next) source) (sym open_)
+      (go (a + 1 == 5) refl st phase looked busy stays own)
+    where
+      one : (r : Raising) → turn_of r me ≡ Sets → r ≡ Nobody → ⊥
+      one Nobody e z = cc
+      one (Refills r) e z = cc
+      one (Raises r) e z = cc
+
+      sets_me : (r : Raising) → turn_of r me ≡ Sets → r ≡ Raises me
+      sets_me Nobody e = cc
+      sets_me (Refills r) e = at_test me r (λ b. cond b Fills Rests ≡ Sets → Refills r ≡ Raises me) (λ same e. cc) (λ ne e. cc) e
+      sets_me (Raises r) e = at_test me r (λ b. cond b Sets Rests ≡ Sets → Raises r ≡ Raises me) (λ same _. ap Raises (sym same)) (λ ne e. cc) e
+
+      callings : (c : ℕ) → IsCalling c (put seat me (In s job a l Rests) c) (p.calling c)
+      callings = calling_same seat p.calling h.callings me (In s job a l Rests) (calling_turned me s job a l Sets Rests (p.calling me) (λ e. cc)
+          (subst (λ x. IsCalling me x (p.calling me)) is (h.callings me)))
+
+      closing : AreClosing (record (p.now) { stop = put p.now.stop s (raised (p.now.stop s) (a + 1)) }) (put seat me (In s job a l Rests))
+      closing = closing_kept p.now seat me (In s job a l Rests) h.closing (subst IsNotClosing (sym is) tt) s (raised (p.now.stop s) (a + 1)) (λ c ne. refl)
+          refl refl
+
+      go : (b : Bool) → (a + 1 == 5) ≡ b → Stands p.now me (In s job a l Sets) → (p.now.stop s).phase ≡ a → (p.now.stop s).phase ≡ l →
+          (p.now.stop s).phase ≢ 0 → StaysOpen (p.now.stop s) (raised (p.now.stop s) (a + 1)) →
+          ((irq' : ℕ → Bool) (readings' : ℕ → List Reading) (j : ℕ) → OwnsKey u.first (after p.now s (raised (p.now.stop s) (a + 1)) p.now.inside irq'
+          readings' p.now.patching) (λ k. at (Key k)) j) →
+          StopShows u (record p {
+            now = cond b (leaves (with_stop p.now s (raised (p.now.stop s) (a + 1))) me s (p.now.stop s).work)
+                (with_stop p.now s (raised (p.now.stop s) (a + 1)));
+          }) (put_word at (Slot s State) (a + 1)) (put seat me (In s job a l Rests)) source
+      go true e st phase looked busy stays own =
+          let irq' = put p.now.irq me true in
+          let first = first_readings me s (p.now.stop s).work in
+          let readings' = put p.now.readings me first in
+          let five : a ≡ 4 = let x = eqb-true (a + 1) 5 e in omega arith in
+          open_step u p at seat source h s (raised (p.now.stop s) (a + 1)) p.now.inside irq' readings' p.now.patching (put_word at (Slot s State) (a + 1))
+          (put seat me (In s job a l Rests)) p.looks p.calls p.calling stays refl (λ k. refl) (other_slots at s State (a + 1)) (own irq' readings')
+          (subst (λ n. PresentShows u (after p.now s (raised (p.now.stop s) (n + 1)) p.now.inside irq' readings' p.now.patching) (put_word at (Slot s State)
+          (n + 1)) (put seat me (In s job a l Rests))) phase
+          (step_raises u p.now at seat h.present s me irq' readings'
+          record { inside = λ c ne. refl; irq = λ c ne. put_else p.now.irq me true c ne; readings = λ c ne. put_else p.now.readings me first c ne }
+          job a l is busy
+          (put_here p.now.irq me true ∙ sym (ap (λ n. nat_lt l 2 || n == 4) five ∙ or_true (nat_lt l 2)))
+          (λ _ _. subst (AllByRecursion (Agrees (labels_in at))) (sym (put_here p.now.readings me first))
+          (subst (λ (w : Work). AllByRecursion (Agrees (labels_in at)) (first_readings me s w)) (sym st.3) (leave_agrees job a l Sets is (omega arith))))))
+          callings closing
+      go false e st phase looked busy stays own =
+          let not_five : a == 4 ≡ false = ne_eqb a 4 (λ x. let y : true ≡ false = sym (eq-eqb (a + 1) 5 (omega arith)) ∙ e in cc) in
+          let off : p.now.irq me ≡ nat_lt l 2 || a == 4 = h.present.irq me ∙ (ap irq_of is ∙ sym (or_false (nat_lt l 2) (a == 4) not_five)) in
+          open_step u p at seat source h s (raised (p.now.stop s) (a + 1)) p.now.inside p.now.irq p.now.readings p.now.patching (put_word at (Slot s State)
+          (a + 1)) (put seat me (In s job a l Rests)) p.looks p.calls p.calling stays refl (λ k. refl) (other_slots at s State (a + 1))
+          (own p.now.irq p.now.readings)
+          (subst (λ n. PresentShows u (after p.now s (raised (p.now.stop s) (n + 1)) p.now.inside p.now.irq p.now.readings p.now.patching)
+          (put_word at (Slot s State) (n + 1)) (put seat me (In s job a l Rests))) phase
+          (step_raises u p.now at seat h.present s me p.now.irq p.now.readings record { inside = λ c ne. refl; irq = λ c ne. refl; readings = λ c ne. refl }
+          job a l is busy off (λ on i. h.present.read me on (off ∙ i)))) callings closing

@@ -1,0 +1,9 @@
+-- The machine: a stop table, and a list of controls.
+pub mod Tables
+pub mod Named
+pub mod Values
+pub mod StepLaws
+pub mod Made
+pub mod Opened
+pub mod Begun
+pub mod Starting

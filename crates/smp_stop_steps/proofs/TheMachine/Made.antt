@@ -1,0 +1,44 @@
+-- What the code of a step makes of the stop half of a machine.
+use Rattle.std.proofs.Common.{◌≡◌, ℕ, Some, List, length, sym, subst, refl, ap, ◌∙◌}
+use Rattle.std.proofs.lemmas.List.{length-set}
+use Rattle.smp_stop_steps.specs.State.{StopState}
+use Rattle.smp_stop_steps.specs.Tells.{tells}
+use Rattle.smp_stop_steps.specs.Stages.{StopControlValue, stop_outcome, answer_at}
+use Rattle.smp_stop_steps.specs.Table.{StopWords, stop_number}
+use Rattle.smp_stop_steps.specs.Value.{StopsValue, StopsShow, IsStopTable, setup_of, stop_control_of}
+use Rattle.smp_stop_steps.specs.Machine.{AreSoundStops, stop_found_at, stop_seen_at, stop_stepped}
+use Rattle.smp_stop_steps.proofs.Steps.StateWords.{ArePhases}
+use Rattle.smp_stop_steps.proofs.TheMachine.Values.{stop_value_shown, stop_table_shown, stop_phases_kept}
+use Rattle.smp_words.specs.declared.seen.Seen.{Seen}
+use Rattle.smp_stop_steps.specs.declared.stage.StopStage.{StopStage}
+
+pub record StopMade (v : StopsValue) (cpu : ℕ) (stage : StopStage) (seen : Seen) (table' : StopWords) (controls' : List StopControlValue) : Type 0 where
+  pub at_stage : (stop_control_of v.controls cpu).stage ≡ Some stage
+  pub is_table : table' ≡ (stop_stepped v cpu stage).table
+  pub is_controls : controls' ≡ (stop_stepped v cpu stage).controls
+  pub is_seen : seen ≡ stop_seen_at v cpu stage
+
+module _ (v : StopsValue) (sound : AreSoundStops v.online v.labels v.table v.controls) (cpu : ℕ) (stage : StopStage) (seen : Seen) (table' : StopWords)
+    (controls' : List StopControlValue) (m : StopMade v cpu stage seen table' controls') where
+  pub made_told : (p : StopState) → StopsShow (setup_of v.online v.labels) p v.table v.controls → StopsShow (setup_of v.online v.labels)
+      (tells (setup_of v.online v.labels) p (stop_seen_at v cpu stage) (answer_at stage)) table' controls'
+  made_told p shown =
+      let now : StopsShow (setup_of v.online v.labels) (tells (setup_of v.online v.labels) p (stop_seen_at v cpu stage) (answer_at stage))
+      (stop_stepped v cpu stage).table (stop_stepped v cpu stage).controls =
+      stop_value_shown (setup_of v.online v.labels) refl p v.table v.controls shown sound.sized sound.table_is cpu stage m.at_stage in
+      subst (λ (t : StopWords). StopsShow (setup_of v.online v.labels) (tells (setup_of v.online v.labels) p (stop_seen_at v cpu stage) (answer_at stage)) t
+      controls') (sym m.is_table)
+      (subst (λ (c : List StopControlValue). StopsShow (setup_of v.online v.labels) (tells (setup_of v.online v.labels) p (stop_seen_at v cpu stage)
+      (answer_at stage)) (stop_stepped v cpu stage).table c) (sym m.is_controls) now)
+
+  pub made_sound : AreSoundStops v.online v.labels table' controls'
+  made_sound = record {
+    sized = ap length m.is_controls ∙ (length-set v.controls cpu (stop_outcome cpu (stop_control_of v.controls cpu) stage
+        (stop_found_at v cpu stage)).control ∙ sound.sized);
+    table_is = subst IsStopTable (sym m.is_table) (stop_table_shown (setup_of v.online v.labels) refl sound.stops v.table v.controls sound.shown sound.sized
+        sound.table_is cpu stage m.at_stage);
+    phases = subst (λ (t : StopWords). ArePhases (stop_number t)) (sym m.is_table) (stop_phases_kept (setup_of v.online v.labels) refl sound.stops v.table
+        v.controls sound.shown sound.sized sound.table_is cpu stage m.at_stage sound.phases);
+    stops = tells (setup_of v.online v.labels) sound.stops (stop_seen_at v cpu stage) (answer_at stage);
+    shown = made_told sound.stops sound.shown;
+  }

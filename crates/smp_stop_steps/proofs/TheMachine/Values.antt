@@ -1,0 +1,265 @@
+-- A step, over a stop table and a list of controls.
+use Rattle.smp_stop_steps.specs.Carries.{CarriesIn}
+use Rattle.smp_stop_steps.proofs.Steps.CallSteps.{call_step}
+use Rattle.std.proofs.Common.{◌≡◌, ◌≢◌, ℕ, ◌+◌, ◌<◌, ◌≤◌, Bool, true, false, ◌==◌, cond, sym, subst, ap, ◌∙◌, inl, inr, arith, Option, Some, None}
+use Rattle.std.proofs.Common.{List, [], ◌∷◌, length, length-append, length-take-le, take, ◌^◌}
+use Rattle.std.proofs.lemmas.List.{get_or-set_same, get_or-set_other, get_or_past}
+use Rattle.std.proofs.lemmas.Bool.{cases_lt}
+use Rattle.std.specs.Prelude.{slice_set}
+use Rattle.smp_words.proofs.Puts.{at_test}
+use Rattle.smp_stop_steps.proofs.Steps.CompletionSteps.{stop_step_shown}
+use Rattle.smp_stop_steps.proofs.Steps.Facts.{work_words}
+use Rattle.smp_stop_steps.proofs.TheMachine.Named.{gate_stays, stage_named, work_in}
+use Rattle.smp_stop_steps.proofs.Steps.StateWords.{ArePhases, phases_after}
+use Rattle.smp_stop_steps.proofs.TheMachine.Tables.{IsStopWord, stop_words_by_name, table_after}
+use Rattle.smp_words.specs.Access.{word_of}
+use Rattle.smp_words.specs.Put.{put}
+use Rattle.smp_words.specs.Size.{cpus}
+use Rattle.smp_stop_steps.specs.Labels.{Change, LabelsShow, Patches, Patching, Whole, labels_in}
+use Rattle.smp_stop_steps.specs.Seats.{Rests}
+use Rattle.smp_stop_steps.specs.Shows.{StopShows}
+use Rattle.smp_stop_steps.specs.Sits.{HoldsGate, Sits, SitsAt, SitsInRound, changes_of}
+use Rattle.smp_stop_steps.specs.Sources.{Shut}
+use Rattle.smp_stop_steps.specs.Stages.{FitsAccess, FitsRound, FitsStop, StopControlValue, round_access, stop_access, stop_outside}
+use Rattle.smp_stop_steps.specs.State.{Setup, StopState}
+use Rattle.smp_stop_steps.specs.Steps.{at_then, control_then, state_after}
+use Rattle.smp_stop_steps.specs.Table.{StopWords, stop_number, stop_words_after}
+use Rattle.smp_stop_steps.specs.Value.{IsStopTable, StopsShow, stop_control_of}
+use Rattle.smp_stop_steps.specs.declared.stage.CompletionStage.TheVariants as completion
+use Rattle.smp_stop_steps.specs.declared.stage.RoundStage.TheVariants as round
+use Rattle.smp_stop_steps.specs.declared.stage.RoundStage.{RoundStage}
+use Rattle.smp_stop_steps.specs.declared.stage.StopStage.TheVariants.{Advance, Begin, Close, Complete, Enter, EnterActive, EnterKind, EnterMask}
+use Rattle.smp_stop_steps.specs.declared.stage.StopStage.TheVariants.{LoadDone, LoadResult, OpenGate, ReadKey, ReadSite, TakeGate, NudgeKey}
+use Rattle.smp_stop_steps.specs.declared.stage.StopStage.TheVariants.{ExchangeKey}
+use Rattle.smp_stop_steps.specs.declared.stage.StopStage.{StopStage}
+use Rattle.smp_stop_steps.specs.declared.stage.Visit.{Visit}
+use Rattle.smp_words.specs.declared.work.Work.{Work}
+use Rattle.smp_words.specs.declared.word.Word.TheVariants.{Entry, Gate}
+use Rattle.smp_words.specs.declared.word.Word.{Word}
+use Rattle.smp_labels.proofs.Stores.{entries_kept}
+use Rattle.smp_labels.specs.Entries.{IsEntryWord, entry_at}
+use Rattle.smp_labels.specs.Keys.{is_on}
+use Rattle.smp_labels.specs.Kinds.{kind_of}
+use Rattle.smp_labels.specs.Kinds.{kind_word as kind_word_site}
+use Rattle.smp_labels.specs.Law.{Table}
+use Rattle.smp_labels.specs.Plans.{site_change, site_changes}
+use Rattle.smp_labels.specs.declared.entries.Entry.{Entry as SiteEntry}
+use Rattle.smp_labels.specs.declared.patch.Place.TheVariants as place
+use Rattle.smp_labels.specs.declared.words.TheConstants.{MOST_SITES}
+
+-- the controls by CPU, with one of them set
+pub stop_controls_by_cpu : (controls : List StopControlValue) (me cpu : ℕ) (x : StopControlValue) → me < length controls →
+    stop_control_of (slice_set controls me x) cpu ≡ put (stop_control_of controls) me x cpu
+stop_controls_by_cpu controls me cpu x low = at_test cpu me (λ b. stop_control_of (slice_set controls me x) cpu ≡ cond b x (stop_control_of controls cpu))
+    (λ e. subst (λ j. stop_control_of (slice_set controls me x) j ≡ x) (sym e) (get_or-set_same controls me x stop_outside low))
+    (λ ne. get_or-set_other controls me cpu x stop_outside ne)
+
+-- a CPU inside a command of the stop half is one that there can be
+pub stop_inside_below : (controls : List StopControlValue) (me : ℕ) (stage : StopStage) → (stop_control_of controls me).stage ≡ Some stage →
+    me < length controls
+stop_inside_below controls me stage e = elim (cases_lt me (length controls)) [
+  | inl low ↦ low
+  | inr past ↦ absurd (let none : (stop_control_of controls me).stage ≡ None = ap (λ (c : StopControlValue). c.stage) (get_or_past controls me stop_outside
+      past) in let bad : Some stage ≡ None = sym e ∙ none in cc)
+]
+
+-- the entry words of a label table have their form
+record HasEntries (t : Table) : Type 0 where
+  entries : (i : ℕ) → i < MOST_SITES → IsEntryWord (t.entry i)
+
+-- no entry changes more than one site
+change_long : (key : ℕ) (on : Bool) (i : ℕ) (x : ℕ) → length (site_change key on i (entry_at x)) ≤ 1
+change_long key on i x = go (entry_at x)
+  where
+    go : (e : Option SiteEntry) → length (site_change key on i e) ≤ 1
+    go None = omega arith
+    go (Some e) = either (e.key == key) (place.Site i, kind_word_site (kind_of on e.branch))
+      where
+        either : (b : Bool) (change : Change) → length (cond b (change ∷ []) []) ≤ 1
+        either true change = omega arith
+        either false change = omega arith
+
+changes_long : (key : ℕ) (on : Bool) (i : ℕ) (xs : List ℕ) → length (site_changes key on i xs) ≤ length xs
+changes_long key on i [] = omega arith
+changes_long key on i (x ∷ xs) =
+    let a = change_long key on i x in
+    let b = changes_long key on (i + 1) xs in
+    let c = length-append (site_change key on i (entry_at x)) (site_changes key on (i + 1) xs) in omega arith
+
+module _ (u : Setup) (few : u.cpus ≡ cpus) (p : StopState) (t : StopWords) (controls : List StopControlValue) (v : StopsShow u p t controls)
+    (sized : length controls ≡ cpus) (is : IsStopTable t)
+    (me : ℕ) (stage : StopStage) (e : (stop_control_of controls me).stage ≡ Some stage) where
+  abbrev c : StopControlValue
+  c = stop_control_of controls me
+
+  abbrev at : Word → ℕ
+  at = stop_number t
+
+  below : me < u.cpus
+  below = let low = stop_inside_below controls me stage e in omega arith
+
+  pub stop_word_named : IsStopWord (word_of (stop_access u.cpus me c.changes stage))
+  stop_word_named = stage_named u p at v.seat v.source v.shows few v.shut me c (v.sits me below) stage e
+
+  -- after the step the words show the stops that it tells
+  pub stop_value_shown : StopsShow u (state_after u p at c me stage) (stop_words_after t (stop_access u.cpus me c.changes stage))
+      (slice_set controls me (control_then u at c me stage))
+  stop_value_shown =
+      let one = stop_step_shown u p at v.seat v.source v.shows c me (v.sits me below) (v.carries me below) stage e in
+      let calls = call_step u p at v.seat v.source v.shows c me (v.sits me below) (v.carries me below) stage e in
+      let access = stop_access u.cpus me c.changes stage in
+      let names = stop_words_by_name t is access stop_word_named in
+      record {
+        seat = put v.seat me one.seat_after;
+        source = put v.source me one.source_after;
+        shows = subst (λ (x : Word → ℕ). StopShows u (state_after u p at c me stage) x (put v.seat me one.seat_after) (put v.source me one.source_after))
+            (sym names) one.shows;
+        sits = λ cpu low. subst (λ (x : Word → ℕ). Sits u cpu (x Gate) (stop_control_of (slice_set controls me (control_then u at c me stage)) cpu)
+            (put v.seat me one.seat_after cpu) (put v.source me one.source_after cpu)) (sym names)
+            (subst (λ k. Sits u cpu (at_then u at c me stage Gate) k (put v.seat me one.seat_after cpu) (put v.source me one.source_after cpu))
+            (sym (stop_controls_by_cpu controls me cpu (control_then u at c me stage) (stop_inside_below controls me stage e)))
+            (at_test cpu me (λ b. Sits u cpu (at_then u at c me stage Gate) (cond b (control_then u at c me stage) (stop_control_of controls cpu))
+            (cond b one.seat_after (v.seat cpu)) (cond b one.source_after (v.source cpu)))
+            (λ same. subst (λ k. Sits u k (at_then u at c me stage Gate) (control_then u at c me stage) one.seat_after one.source_after) (sym same) one.sits)
+            (λ ne. others cpu ne (v.sits cpu low))));
+        carries = λ cpu low. subst (λ k. CarriesIn k ((state_after u p at c me stage).calling cpu))
+            (sym (stop_controls_by_cpu controls me cpu (control_then u at c me stage) (stop_inside_below controls me stage e)))
+            (at_test cpu me (λ b. CarriesIn (cond b (control_then u at c me stage) (stop_control_of controls cpu)) ((state_after u p at c me stage).calling
+            cpu))
+            (λ same. subst (λ k. CarriesIn (control_then u at c me stage) ((state_after u p at c me stage).calling k)) (sym same) calls.mine)
+            (λ ne. subst (CarriesIn (stop_control_of controls cpu)) (sym (calls.others cpu ne)) (v.carries cpu low)));
+        shut = λ cpu high. at_test cpu me (λ b. cond b one.source_after (v.source cpu) ≡ Shut) (λ same. absurd (let b = below in omega arith))
+            (λ _. v.shut cpu high);
+      }
+    where
+      held : (cpu : ℕ) → cpu ≢ me → (st : Option StopStage) → HoldsGate cpu (at Gate) st → HoldsGate cpu (at_then u at c me stage Gate) st
+      held cpu ne None h = tt
+      held cpu ne (Some OpenGate) h = gate_stays u p at v.seat v.source v.shows few v.shut me c (v.sits me below) stage e cpu ne h
+      held cpu ne (Some TakeGate) h = tt
+      held cpu ne (Some (Begin work f)) h = tt
+      held cpu ne (Some (Enter slot)) h = tt
+      held cpu ne (Some (EnterKind slot)) h = tt
+      held cpu ne (Some (EnterMask slot kind)) h = tt
+      held cpu ne (Some (EnterActive slot kind mask)) h = tt
+      held cpu ne (Some (Advance w st)) h = tt
+      held cpu ne (Some (Complete w st)) h = tt
+      held cpu ne (Some (Close slot)) h = tt
+      held cpu ne (Some LoadDone) h = tt
+      held cpu ne (Some LoadResult) h = tt
+      held cpu ne (Some (ReadKey k)) h = tt
+      held cpu ne (Some (ReadSite i)) h = tt
+      held cpu ne (Some (NudgeKey k up)) h = tt
+      held cpu ne (Some (ExchangeKey k expected new)) h = tt
+
+      others : (cpu : ℕ) → cpu ≢ me → Sits u cpu (at Gate) (stop_control_of controls cpu) (v.seat cpu) (v.source cpu) →
+          Sits u cpu (at_then u at c me stage Gate) (stop_control_of controls cpu) (v.seat cpu) (v.source cpu)
+      others cpu ne s = record {
+        below = s.below;
+        irq = s.irq;
+        seat = s.seat;
+        source = s.source;
+        gate_held =
+            held cpu ne (stop_control_of controls cpu).stage s.gate_held;
+      }
+
+  -- the table stays one
+  pub stop_table_shown : IsStopTable (stop_words_after t (stop_access u.cpus me c.changes stage))
+  stop_table_shown = table_after t is (stop_access u.cpus me c.changes stage) stop_word_named
+
+  -- and no state word is more than 5
+  pub stop_phases_kept : ArePhases at → ArePhases (stop_number (stop_words_after t (stop_access u.cpus me c.changes stage)))
+  stop_phases_kept h =
+      subst ArePhases (sym (stop_words_by_name t is (stop_access u.cpus me c.changes stage) stop_word_named))
+      (phases_after u p at v.seat v.source v.shows h c me stage (subst (λ (x : Option StopStage). SitsAt u me c x (v.seat me)) e (v.sits me below).seat))
+
+  -- the number found fits its type, and there is room for what it makes
+  pub stop_found_fits : FitsStop c stage (at (word_of (stop_access u.cpus me c.changes stage)))
+  stop_found_fits = go stage e
+    where
+      seat_at : (st : StopStage) → c.stage ≡ Some st → SitsAt u me c (Some st) (v.seat me)
+      seat_at st e = subst (λ (x : Option StopStage). SitsAt u me c x (v.seat me)) e (v.sits me below).seat
+
+      round_fits : (w : Visit) (st : RoundStage) → SitsInRound u me c.changes w st (v.seat me) →
+          FitsRound c w st (at (word_of (round_access u.cpus c.changes w st)))
+      round_fits w (round.Look answer) x = tt
+      round_fits w (round.LoadFunc answer) x =
+          let work = x.1.0 in
+          let same = (work_words u p at v.seat v.source v.shows w.slot me work 2 3 Rests x.1.1.3).func in
+          let f = (work_in u p at v.seat v.source v.shows few v.shut me w.slot work 2 3 Rests x.1.1.3).func in subst (λ n. n < 2 ^ 16) (sym same) f
+      round_fits w (round.LoadArg answer func) x = tt
+      round_fits w (round.LoadKey key change) x = tt
+      round_fits w (round.LoadEntry key word site) x = (entry_fits site x.3, x.3, long x.0 word site x.2 x.4)
+        where
+          entry_fits : (site : ℕ) → site < MOST_SITES → IsEntryWord (at (Entry site))
+          entry_fits site low = (lawful p.now.patching v.shows.present.labels).entries site low
+            where
+              lawful : (x : Patching) → LabelsShow x (labels_in at) → HasEntries (labels_in at)
+              lawful Whole l = record { entries = l.entries }
+              lawful (Patches cpu work count made rest) l = record {
+                entries = λ i low. subst IsEntryWord
+                    (sym (ap (λ (t : Table). t.entry i) l.2 ∙ entries_kept made l.0 i)) (l.1.entries i low);
+              }
+
+          long : (work : Work) (word site : ℕ) → site ≤ length u.entries → c.changes ≡ changes_of u work word site → length c.changes ≤ site + 1
+          long work word site within are = let l = changes_long work.func (is_on word) 0 (take site u.entries) in let t = length-take-le site u.entries
+              within in let e = ap length are in omega arith
+      round_fits w (round.StoreChange made) x = x.4
+      round_fits w (round.Acknowledge answer ran) x = x.2
+      round_fits w (round.Refill ran) x = tt
+      round_fits w (round.Raise ran) x = tt
+
+      go : (st : StopStage) → c.stage ≡ Some st → FitsStop c st (at (word_of (stop_access u.cpus me c.changes st)))
+      go TakeGate e = tt
+      go OpenGate e = tt
+      go (Begin work f) e = tt
+      go (Enter slot) e = tt
+      go (EnterKind slot) e = tt
+      go (EnterMask slot kind) e = tt
+      go (EnterActive slot kind mask) e = tt
+      go (Advance w st) e = round_fits w st (seat_at (Advance w st) e).1
+      go (Complete w (completion.LoadFunc answer)) e =
+          let x = (seat_at (Complete w (completion.LoadFunc answer)) e).1 in
+          let work = x.1.0 in
+          let same = (work_words u p at v.seat v.source v.shows w.slot me work w.acked w.acked Rests x.1.2).func in
+          let f = (work_in u p at v.seat v.source v.shows few v.shut me w.slot work w.acked w.acked Rests x.1.2).func in subst (λ n. n < 2 ^ 16) (sym same) f
+      go (Complete w (completion.LoadArg answer func)) e = tt
+      go (Complete w completion.StoreAnswer) e = tt
+      go (Complete w completion.CountDown) e = tt
+      go (Close slot) e = tt
+      go LoadDone e = tt
+      go LoadResult e = tt
+      go (ReadKey k) e = tt
+      go (ReadSite i) e = tt
+      go (NudgeKey k up) e = tt
+      go (ExchangeKey k expected new) e = tt
+
+  -- the store of a patch that is made next is one of its changes
+  pub stop_access_fits : FitsAccess c stage
+  stop_access_fits = go stage e
+    where
+      go : (st : StopStage) → c.stage ≡ Some st → FitsAccess c st
+      go TakeGate e = tt
+      go OpenGate e = tt
+      go (Begin work f) e = tt
+      go (Enter slot) e = tt
+      go (EnterKind slot) e = tt
+      go (EnterMask slot kind) e = tt
+      go (EnterActive slot kind mask) e = tt
+      go (Advance w (round.StoreChange made)) e = let x : SitsAt u me c (Some (Advance w (round.StoreChange made))) (v.seat me) =
+          subst (λ (y : Option StopStage). SitsAt u me c y (v.seat me)) e (v.sits me below).seat in x.1.4
+      go (Advance w (round.Look answer)) e = tt
+      go (Advance w (round.LoadFunc answer)) e = tt
+      go (Advance w (round.LoadArg answer func)) e = tt
+      go (Advance w (round.LoadKey key change)) e = tt
+      go (Advance w (round.LoadEntry key word site)) e = tt
+      go (Advance w (round.Acknowledge answer ran)) e = tt
+      go (Advance w (round.Refill ran)) e = tt
+      go (Advance w (round.Raise ran)) e = tt
+      go (Complete w st) e = tt
+      go (Close slot) e = tt
+      go LoadDone e = tt
+      go LoadResult e = tt
+      go (ReadKey k) e = tt
+      go (ReadSite i) e = tt
+      go (NudgeKey k up) e = tt
+      go (ExchangeKey k expected new) e = tt
