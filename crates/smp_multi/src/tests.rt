@@ -12,6 +12,7 @@ use smp_words::size::NR_CPUS;
 use smp_words::work::{Kind, Work};
 use std::alloc::Global;
 use std::marker::Model;
+use std::process::Abort;
 use std::test::*;
 
 /// A CPU with its table.
@@ -70,20 +71,20 @@ fn drive<'a>(
     Ok(Driver { table, cpu })
 }
 
-/// Answers always the same, and counts its calls.
+/// Answers always the same. How often it was called, and by what the last time.
 #[derive(Drop)]
 struct Answerer {
     answer: i32,
-    calls: Vec<(u32, u16, u64), Global>,
-    whole: bool,
+    calls: u32,
+    last: (u32, u16, u64),
 }
 
 impl Answerer {
-    fn new(alloc: Global, answer: i32) -> Answerer {
+    fn new(answer: i32) -> Answerer {
         Answerer {
             answer,
-            calls: Vec::new(alloc),
-            whole: true,
+            calls: 0,
+            last: (0, 0, 0),
         }
     }
 }
@@ -92,8 +93,8 @@ impl StopFunc for Answerer {
     ghost leads = { λ _ _ _. Unit {0} };
 
     fn run(&mut self, cpu: u32, func: u16, arg: u64) -> i32 {
-        let pushed = self.calls.push((cpu, func, arg));
-        self.whole = self.whole && pushed.is_ok();
+        self.calls = self.calls.saturating_add(1);
+        self.last = (cpu, func, arg);
         self.answer
     }
 }
@@ -110,13 +111,19 @@ fn one(cpu: u32, func: u16, arg: u64) -> Result<Work, SmpError> {
     })
 }
 
+/// A table that is made so says that these CPUs are online.
+fn online_of(
+    alloc: Global,
+    nr: u32,
+    online: CpuMask,
+    labels: &LabelMap,
+) -> Result<CpuMask, SmpError> {
+    let (table, _boot) = StopTable::new(alloc, nr, online, labels)?;
+    Ok(table.online())
+}
+
 #[test]
 fn a_table_has_lawful_limits(rt: HostRuntime) -> Result<(), Fail> {
-    let none = LabelMap::empty();
-    for (nr, cpus) in [(0, "0"), (33, "0"), (2, ""), (2, "2")] {
-        let refused = StopTable::new(rt.alloc(), nr, cpus.parse()?, &none).err();
-        assert_eq!(rt; refused, Some(SmpError::BadArgument), "{nr} {cpus}");
-    }
     let off = Entry {
         key: 0,
         branch: false,
@@ -126,10 +133,26 @@ fn a_table_has_lawful_limits(rt: HostRuntime) -> Result<(), Fail> {
         branch: true,
     };
     let labels = LabelMap::new(&[off, on], 1)?;
-    for (nr, cpus) in [(1, "0"), (2, "0-1"), (32, "0-31")] {
+    for (nr, cpus, is_lawful) in [
+        (0, "0", false),
+        (33, "0", false),
+        (2, "", false),
+        (2, "2", false),
+        (1, "0", true),
+        (2, "0-1", true),
+        (32, "0-31", true),
+    ] {
         let online: CpuMask = cpus.parse()?;
-        let (table, _) = StopTable::new(rt.alloc(), nr, online, &labels)?;
-        assert!(rt; table.online() == online, "{nr} {cpus}");
+        let wanted = if is_lawful {
+            Ok(online)
+        } else {
+            Err(SmpError::BadArgument)
+        };
+        assert_eq!(rt;
+            online_of(rt.alloc(), nr, online, &labels),
+            wanted,
+            "{nr} {cpus}"
+        );
     }
     Ok(())
 }
@@ -159,16 +182,31 @@ fn each_growth_may_be_refused(rt: HostRuntime) -> Result<(), Fail> {
 fn each_online_cpu_is_given_out_once(rt: HostRuntime) -> Result<(), Fail> {
     let none = LabelMap::empty();
     let (_table, mut boot) = StopTable::new(rt.alloc(), 4, "0-1,3".parse()?, &none)?;
-    for number in [0, 1, 3] {
-        let cpu = boot.cpu(number)?;
-        assert_eq!(rt; cpu.number(), number);
-        assert!(rt; cpu.interrupts_on() && !cpu.in_stop(), "{number}");
-        assert_eq!(rt; boot.cpu(number).err(), Some(SmpError::Busy), "{number}");
-    }
-    for number in [2, 4, 31, 32] {
-        assert_eq!(rt; boot.cpu(number).err(), Some(SmpError::NoCpu), "{number}");
-    }
+    give_out(&rt, &mut boot);
     Ok(())
+}
+
+/// What there is of a CPU that is given out: its number, whether its interrupts are on, and whether it is in a stop.
+fn given_out(boot: &mut StopBoot<Global>, number: u32) -> Result<(u32, bool, bool), SmpError> {
+    let cpu = boot.cpu(number)?;
+    Ok((cpu.number(), cpu.interrupts_on(), cpu.in_stop()))
+}
+
+fn give_out(rt: &impl Abort, boot: &mut StopBoot<Global>) {
+    let gone = Err(SmpError::NoCpu);
+    let again = Err(SmpError::Busy);
+    for (number, first, second) in [
+        (0, Ok((0, true, false)), again),
+        (1, Ok((1, true, false)), again),
+        (3, Ok((3, true, false)), again),
+        (2, gone, gone),
+        (4, gone, gone),
+        (31, gone, gone),
+        (32, gone, gone),
+    ] {
+        assert_eq!(rt; given_out(boot, number), first, "{number}");
+        assert_eq!(rt; given_out(boot, number), second, "{number}");
+    }
 }
 
 #[test]
@@ -177,15 +215,16 @@ fn the_gate_has_one_holder(rt: HostRuntime) -> Result<(), Fail> {
     let (table, mut boot) = StopTable::new(rt.alloc(), 2, "0-1".parse()?, &none)?;
     let mut zero = drive(&table, &mut boot, 0)?;
     let mut one_cpu = drive(&table, &mut boot, 1)?;
-    assert_eq!(rt; zero.open_gate(), Err(SmpError::BadArgument));
-    assert_eq!(rt; zero.begin(one(1, 3, 4)?), Err(SmpError::BadArgument));
-    assert!(rt; zero.try_gate());
-    assert!(rt; !zero.try_gate());
-    assert!(rt; !one_cpu.try_gate());
-    assert_eq!(rt; one_cpu.open_gate(), Err(SmpError::BadArgument));
-    zero.open_gate()?;
-    assert!(rt; one_cpu.try_gate());
+    hold_the_gate(&rt, &mut zero, &mut one_cpu, one(1, 3, 4)?);
     Ok(())
+}
+
+fn hold_the_gate(rt: &impl Abort, zero: &mut Driver, one_cpu: &mut Driver, work: Work) {
+    let bad = Err(SmpError::BadArgument);
+    assert_eq!(rt; (zero.open_gate(), zero.begin(work)), (bad, bad));
+    assert_eq!(rt; (zero.try_gate(), zero.try_gate()), (true, false));
+    assert_eq!(rt; (one_cpu.try_gate(), one_cpu.open_gate()), (false, bad));
+    assert_eq!(rt; (zero.open_gate(), one_cpu.try_gate()), (Ok(()), true));
 }
 
 #[test]
@@ -202,18 +241,21 @@ fn a_stop_is_entered_by_its_cpus_once(rt: HostRuntime) -> Result<(), Fail> {
         func: 1,
         arg: 0,
     };
-    assert!(rt; zero.try_gate());
-    zero.begin(work)?;
+    enter_once(&rt, &mut zero, &mut one_cpu, &work);
+    Ok(())
+}
+
+fn enter_once(rt: &impl Abort, zero: &mut Driver, one_cpu: &mut Driver, work: &Work) {
+    assert_eq!(rt; (zero.try_gate(), zero.begin(*work)), (true, Ok(())));
     for slot in [0, 1, 8, 32] {
         assert_eq!(rt; one_cpu.enter(slot), Err(SmpError::Stale), "{slot}");
     }
-    assert_eq!(rt; zero.begin(work), Err(SmpError::SlotBusy));
-    assert_eq!(rt; zero.enter(0)?, Kind::Multi);
+    assert_eq!(rt; zero.begin(*work), Err(SmpError::SlotBusy));
+    assert_eq!(rt; zero.enter(0), Ok(Kind::Multi));
     assert!(rt; zero.cpu.in_stop());
     assert_eq!(rt; zero.enter(0), Err(SmpError::Stale));
-    let mut func = Answerer::new(rt.alloc(), 9);
+    let mut func = Answerer::new(9);
     assert_eq!(rt; zero.run_one(&mut func), Err(SmpError::BadArgument));
-    Ok(())
 }
 
 // E4 before E3: an empty mask, several CPUs in a stop of one, and patches that do not fit.
@@ -226,6 +268,11 @@ fn a_work_that_no_stop_may_have_is_refused(rt: HostRuntime) -> Result<(), Fail> 
     let labels = LabelMap::new(&[off], 1)?;
     let (table, mut boot) = StopTable::new(rt.alloc(), 4, "0,2".parse()?, &labels)?;
     let mut zero = drive(&table, &mut boot, 0)?;
+    refuse_works(&rt, &mut zero)?;
+    Ok(())
+}
+
+fn refuse_works(rt: &impl Abort, zero: &mut Driver) -> Result<(), SmpError> {
     assert!(rt; zero.try_gate());
     for (kind, mask, active, func, arg, refusal) in [
         (Kind::Multi, "", "", 0, 0, SmpError::BadArgument),
@@ -245,11 +292,8 @@ fn a_work_that_no_stop_may_have_is_refused(rt: HostRuntime) -> Result<(), Fail> 
             func,
             arg,
         };
-        assert_eq!(rt;
-            zero.begin(work),
-            Err(refusal),
-            "{mask} {active} {func} {arg}"
-        );
+        let refused = zero.begin(work);
+        assert_eq!(rt; refused, Err(refusal), "{mask} {active} {func} {arg}");
     }
     Ok(())
 }
@@ -260,21 +304,27 @@ fn a_stop_of_one_cpu_runs_its_function_there(rt: HostRuntime) -> Result<(), Fail
     let (table, mut boot) = StopTable::new(rt.alloc(), 2, "0-1".parse()?, &none)?;
     let mut zero = drive(&table, &mut boot, 0)?;
     let mut one_cpu = drive(&table, &mut boot, 1)?;
-    let mut func = Answerer::new(rt.alloc(), 9);
-    assert!(rt; zero.try_gate());
-    zero.begin(one(1, 3, 4)?)?;
-    assert_eq!(rt; zero.poll_done(), Ok(None));
-    assert_eq!(rt; one_cpu.run_one(&mut func), Err(SmpError::BadArgument));
-    assert_eq!(rt; one_cpu.enter(0)?, Kind::One);
-    assert_eq!(rt; zero.poll_done(), Ok(None));
-    assert_eq!(rt; one_cpu.run_one(&mut func), Ok(9));
-    assert!(rt; func.whole && func.calls.as_slice() == [(1, 3, 4)].as_slice());
-    assert_eq!(rt; one_cpu.run_one(&mut func), Err(SmpError::BadArgument));
-    assert_eq!(rt; zero.poll_done(), Ok(Some(9)));
-    assert_eq!(rt; zero.poll_done(), Err(SmpError::BadArgument));
-    zero.begin(one(1, 3, 4)?)?;
+    run_there(&rt, &mut zero, &mut one_cpu, &one(1, 3, 4)?);
     laws::is_shown(&table, &one_cpu.cpu);
     Ok(())
+}
+
+fn run_there(rt: &impl Abort, zero: &mut Driver, one_cpu: &mut Driver, work: &Work) {
+    assert_eq!(rt; (zero.try_gate(), zero.begin(*work)), (true, Ok(())));
+    assert_eq!(rt; zero.poll_done(), Ok(None));
+    enter_and_run(rt, one_cpu);
+    assert_eq!(rt; zero.poll_done(), Ok(Some(9)));
+    assert_eq!(rt; zero.poll_done(), Err(SmpError::BadArgument));
+    assert_eq!(rt; zero.begin(*work), Ok(()));
+}
+
+fn enter_and_run(rt: &impl Abort, one_cpu: &mut Driver) {
+    let mut func = Answerer::new(9);
+    assert_eq!(rt; one_cpu.run_one(&mut func), Err(SmpError::BadArgument));
+    assert_eq!(rt; one_cpu.enter(0), Ok(Kind::One));
+    assert_eq!(rt; one_cpu.run_one(&mut func), Ok(9));
+    assert_eq!(rt; (func.calls, func.last), (1, (1, 3, 4)));
+    assert_eq!(rt; one_cpu.run_one(&mut func), Err(SmpError::BadArgument));
 }
 
 #[test]
@@ -282,14 +332,20 @@ fn a_cpu_stops_itself(rt: HostRuntime) -> Result<(), Fail> {
     let none = LabelMap::empty();
     let (table, mut boot) = StopTable::new(rt.alloc(), 1, "0".parse()?, &none)?;
     let mut zero = drive(&table, &mut boot, 0)?;
+    let work = one(0, 65_535, u64::MAX)?;
     assert!(rt; zero.try_gate());
     for answer in [0, -1, i32::MIN, i32::MAX] {
-        let mut func = Answerer::new(rt.alloc(), answer);
-        zero.begin(one(0, 65_535, u64::MAX)?)?;
-        assert_eq!(rt; zero.enter(0)?, Kind::One);
-        assert_eq!(rt; zero.run_one(&mut func), Ok(answer));
-        assert!(rt; func.whole && func.calls.as_slice() == [(0, 65_535, u64::MAX)].as_slice());
-        assert_eq!(rt; zero.poll_done(), Ok(Some(answer)));
+        stop_itself(&rt, &mut zero, work, answer);
     }
     Ok(())
+}
+
+fn stop_itself(rt: &impl Abort, zero: &mut Driver, work: Work, answer: i32) {
+    let mut func = Answerer::new(answer);
+    assert_eq!(rt; (zero.begin(work), zero.enter(0)), (Ok(()), Ok(Kind::One)));
+    assert_eq!(rt;
+        (zero.run_one(&mut func), zero.poll_done()),
+        (Ok(answer), Ok(Some(answer)))
+    );
+    assert_eq!(rt; (func.calls, func.last), (1, (0, 65_535, u64::MAX)));
 }

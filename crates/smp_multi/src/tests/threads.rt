@@ -1,5 +1,10 @@
 //! Stops of one CPU between threads.
 
+ghost use Rattle.std.specs.Prelude.{ℕ, ◌≡◌, true, IfSome};
+ghost use Rattle.std.specs.Option.{ForSome};
+ghost use Rattle.smp_mask.specs.Mask.{has};
+ghost use Rattle.smp_multi.specs.Cpu.{IsAt, left_at};
+
 use super::*;
 use crossbeam_utils::Backoff;
 use std::sync::Wait;
@@ -24,6 +29,16 @@ struct Progress {
     sign: AtomicU64,
     done: AtomicU64,
     right: AtomicU64,
+}
+
+impl Progress {
+    fn new() -> Progress {
+        Progress {
+            sign: AtomicU64::new(0),
+            done: AtomicU64::new(0),
+            right: AtomicU64::new(0),
+        }
+    }
 }
 
 /// Answers a number that the CPU, the function and the argument tell: below 0, 0 and above 0.
@@ -68,7 +83,36 @@ fn may_begin<R: Wait>(rt: &R, sign: &AtomicU64) -> bool {
     unreachable!()
 }
 
-/// Stops one CPU: takes the gate by trying again, and serves while it waits. Whether the answer was right.
+/// Takes the gate by trying again, and serves while it waits. Whether all could be served.
+fn take_gate<R: Wait>(cpu: &mut Driver, rt: &R, teller: &mut Teller) -> bool {
+    let backoff = Backoff::new();
+    let mut whole = true;
+    for _ in rt.forever() {
+        if cpu.try_gate() {
+            return whole;
+        }
+        whole = serve(cpu, teller) && whole;
+        backoff.snooze();
+    }
+    unreachable!()
+}
+
+/// Serves until the own stop is over: its answer, where all could be served.
+fn await_answer<R: Wait>(cpu: &mut Driver, rt: &R, teller: &mut Teller) -> Option<i32> {
+    let backoff = Backoff::new();
+    let mut whole = true;
+    for _ in rt.forever() {
+        match cpu.poll_done() {
+            Ok(Some(answer)) => return if whole { Some(answer) } else { None },
+            Ok(None) => whole = serve(cpu, teller) && whole,
+            Err(_) => return None,
+        }
+        backoff.snooze();
+    }
+    unreachable!()
+}
+
+/// Stops one CPU. Whether the answer was right.
 fn stop_one<R: Wait>(
     cpu: &mut Driver,
     rt: &R,
@@ -77,83 +121,124 @@ fn stop_one<R: Wait>(
     func: u16,
     arg: u64,
 ) -> bool {
-    let backoff = Backoff::new();
-    let mut whole = true;
-    for _ in rt.forever() {
-        if cpu.try_gate() {
-            break;
-        }
-        whole = serve(cpu, teller) && whole;
-        backoff.snooze();
-    }
     let Ok(work) = one(target, func, arg) else {
         return false;
     };
-    whole = cpu.begin(work).is_ok() && whole;
-    whole = cpu.open_gate().is_ok() && whole;
+    let served = take_gate(cpu, rt, teller);
+    let begun = cpu.begin(work).is_ok();
+    let opened = cpu.open_gate().is_ok();
+    let answered = await_answer(cpu, rt, teller) == Some(told(target, func, arg));
+    served && begun && opened && answered
+}
+
+/// Makes the CPU's stops. Whether each answer was right.
+fn stop_all<R: Wait>(cpu: &mut Driver, rt: &R, teller: &mut Teller) -> bool {
+    let this = cpu.cpu.number();
+    let mut whole = true;
+    for round in 0..STOPS {
+        let target = (this + (round % 4) as u32) % CPUS;
+        whole = stop_one(cpu, rt, teller, target, (round % 3) as u16, round) && whole;
+    }
+    whole
+}
+
+/// Is done with its stops, and serves until all CPUs are, and once more.
+fn serve_to_the_end<R: Wait>(
+    cpu: &mut Driver,
+    rt: &R,
+    teller: &mut Teller,
+    done: &AtomicU64,
+) -> bool {
+    done.fetch_add(1, Ordering::SeqCst);
+    let backoff = Backoff::new();
+    let mut whole = true;
     for _ in rt.forever() {
-        match cpu.poll_done() {
-            Ok(Some(answer)) => return whole && answer == told(target, func, arg),
-            Ok(None) => whole = serve(cpu, teller) && whole,
-            Err(_) => return false,
+        let last = done.load(Ordering::SeqCst) >= u64::from(CPUS);
+        whole = serve(cpu, teller) && whole;
+        if last {
+            return whole;
         }
         backoff.snooze();
     }
     unreachable!()
 }
 
-/// What one thread does: its stops, then it serves until all CPUs are done, and once more.
+/// What one thread does: its stops, then it serves until all CPUs are done.
 fn run<R: Wait>(mut cpu: Driver, rt: &R, progress: &Progress) {
     if !may_begin(rt, &progress.sign) {
         return;
     }
-    let this = cpu.cpu.number();
     let mut teller = Teller { calls: 0 };
-    let mut whole = true;
-    for round in 0..STOPS {
-        let target = (this + (round % 4) as u32) % CPUS;
-        whole = stop_one(&mut cpu, rt, &mut teller, target, (round % 3) as u16, round) && whole;
-    }
-    progress.done.fetch_add(1, Ordering::SeqCst);
-    let backoff = Backoff::new();
-    for _ in rt.forever() {
-        let last = progress.done.load(Ordering::SeqCst) >= u64::from(CPUS);
-        whole = serve(&mut cpu, &mut teller) && whole;
-        if last {
-            break;
-        }
-        backoff.snooze();
-    }
+    let stopped = stop_all(&mut cpu, rt, &mut teller);
+    let served = serve_to_the_end(&mut cpu, rt, &mut teller, &progress.done);
     // Each CPU makes as many stops on each.
-    if whole && teller.calls == STOPS {
+    if stopped && served && teller.calls == STOPS {
         progress.right.fetch_add(1, Ordering::SeqCst);
     }
 }
 
-/// Runs the four CPUs of a new table, each on a thread of its own: how many saw what they should.
-fn run_all<R: Wait + Threads + Sync>(rt: &R, alloc: Global) -> Result<u64, Fail> {
-    let none = LabelMap::empty();
-    let (table, mut boot) = StopTable::new(alloc, CPUS, "0-3".parse()?, &none)?;
-    let shared = Progress {
-        sign: AtomicU64::new(0),
-        done: AtomicU64::new(0),
-        right: AtomicU64::new(0),
-    };
-    let progress = &shared;
-    let zero = drive(&table, &mut boot, 0)?;
-    let one = drive(&table, &mut boot, 1)?;
-    let two = drive(&table, &mut boot, 2)?;
-    let three = drive(&table, &mut boot, 3)?;
+/// The CPUs of a table that are not given out.
+#[derive(Drop)]
+struct Room<'a> {
+    table: &'a StopTable<Global>,
+    boot: StopBoot<Global>,
+    ghost whole: { (cpu : ℕ) → has boot.online cpu ≡ true → ForSome (left_at boot cpu) (λ c. IsAt table.now c) },
+}
+
+impl<'a> Room<'a> {
+    fn new(table: &'a StopTable<Global>, boot: StopBoot<Global>) -> Room<'a>
+        requires { (cpu : ℕ) → has boot.online cpu ≡ true → IfSome (left_at boot cpu) (λ c. IsAt table.now c) }
+    {
+        Room { table, boot }
+    }
+
+    /// Adds this CPU.
+    fn drive_one(
+        &mut self,
+        drivers: &mut Vec<Driver<'a>, Global>,
+        number: u32,
+    ) -> Result<(), SmpError> {
+        let driver = drive(self.table, &mut self.boot, number)?;
+        if drivers.push(driver).is_err() {
+            return Err(SmpError::NoMemory);
+        }
+        Ok(())
+    }
+
+    /// The CPUs from 0 on.
+    fn drive_all(&mut self, alloc: Global) -> Result<Vec<Driver<'a>, Global>, SmpError> {
+        let mut drivers = Vec::new(alloc);
+        for number in 0..CPUS {
+            self.drive_one(&mut drivers, number)?;
+        }
+        Ok(drivers)
+    }
+}
+
+/// Runs each of the CPUs on a thread of its own, to the end.
+fn run_threads<R: Wait + Threads + Sync>(
+    rt: &R,
+    drivers: Vec<Driver, Global>,
+    progress: &Progress,
+) {
+    let mut started = true;
     thread::scope(thread::scope_env(), rt, |scope| {
-        let first = scope.spawn(move || run(zero, rt, progress));
-        let second = scope.spawn(move || run(one, rt, progress));
-        let third = scope.spawn(move || run(two, rt, progress));
-        let fourth = scope.spawn(move || run(three, rt, progress));
-        let started = first.is_ok() && second.is_ok() && third.is_ok() && fourth.is_ok();
-        progress
-            .sign
-            .store(if started { BEGIN } else { LEAVE }, Ordering::SeqCst);
+        for driver in drivers {
+            let spawned = scope.spawn(move || run(driver, rt, progress));
+            started = started && spawned.is_ok();
+        }
+        let sign = if started { BEGIN } else { LEAVE };
+        progress.sign.store(sign, Ordering::SeqCst);
     });
+}
+
+/// Runs the CPUs of a new table in threads: how many saw what they should.
+fn run_all<R: Wait + Threads + Sync>(rt: &R, alloc: Global) -> Result<u64, SmpError> {
+    let none = LabelMap::empty();
+    let progress = Progress::new();
+    let (table, boot) = StopTable::new(alloc, CPUS, "0-3".parse()?, &none)?;
+    let drivers = Room::new(&table, boot).drive_all(alloc)?;
+    run_threads(rt, drivers, &progress);
     Ok(progress.right.load(Ordering::SeqCst))
 }
 
