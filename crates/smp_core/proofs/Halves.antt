@@ -2,16 +2,18 @@
 use Rattle.std.proofs.Common.{◌≡◌, ℕ, Option, Some, None, Result, Ok, Err, List, refl, sym, subst, ◌∙◌}
 use Rattle.std.specs.Prelude.{IfSome, MatchOption}
 use Rattle.smp_labels.specs.declared.patch.Place.TheVariants as place
-use Rattle.smp_words.specs.Access.{seen_of}
+use Rattle.smp_words.specs.Access.{seen_of, word_of}
 use Rattle.smp_call_steps.specs.Calls.{CallState}
 use Rattle.smp_call_steps.specs.Calls as calls
 use Rattle.smp_call_steps.specs.Drains.{handle_access}
 use Rattle.smp_words.specs.Layout.{number_in}
-use Rattle.smp_core.specs.Machine.{Stepped, seen_at, stepped, step_of, stops_stepped, setup_in, CallsTold, StopsTold}
+use Rattle.smp_core.specs.Machine.{Stepped, seen_at, stepped, step_of, stops_stepped, setup_in, CallsTold, StopNotesFit, StopsTold}
 use Rattle.smp_call_steps.specs.Posts.{post_access}
 use Rattle.smp_call_steps.specs.Stages.{access_of}
 use Rattle.smp_stop_steps.specs.Labels.{Change}
 use Rattle.smp_stop_steps.specs.Machine.{StopTold, stop_seen_at, stop_stepped}
+use Rattle.smp_stop_steps.specs.Notes.{StopNoteFits}
+use Rattle.smp_stop_steps.specs.StepLaws.{StopNoteTold}
 use Rattle.smp_stop_steps.specs.Stages.{completion_access, round_access, stop_access, store_of, change_at}
 use Rattle.smp_stop_steps.specs.State.{Setup, StopState}
 use Rattle.smp_stop_steps.specs.Tells as stops
@@ -82,6 +84,47 @@ module _ (u : Setup) (p : StopState) (me answer found : ℕ) (note : Option Note
   call_step_apart at (Post x stage) = in_post x stage _
   call_step_apart at (Handle stage) = in_handle stage _
 
+  -- and its note nothing of the stops
+  notes_of_post : (said : Option Note) (x : Posting) (stage : PostStage) (queued : ℕ) → StopNoteFits p p me (word_of (post_access x me stage queued)) said
+  notes_of_post said x post.LoadFlags queued = refl
+  notes_of_post said x post.Lock queued = refl
+  notes_of_post said x post.StoreFunc queued = refl
+  notes_of_post said x post.StoreInfo queued = refl
+  notes_of_post said x post.Count queued = refl
+  notes_of_post said x post.LoadHead queued = refl
+  notes_of_post said x (post.StoreNext link tries) queued = refl
+  notes_of_post said x (post.Exchange link tries) queued = refl
+  notes_of_post said x post.Uncount queued = refl
+  notes_of_post said x post.Release queued = refl
+
+  notes_of_handle : (said : Option Note) (stage : HandleStage) (ran : ℕ) → StopNoteFits p p me (word_of (handle_access me stage ran)) said
+  notes_of_handle said handle.Enter ran = refl
+  notes_of_handle said handle.Accept ran = refl
+  notes_of_handle said handle.LeaveIdle ran = refl
+  notes_of_handle said handle.Take ran = refl
+  notes_of_handle said (handle.ReverseLoad newer id) ran = refl
+  notes_of_handle said (handle.ReverseStore newer id older) ran = refl
+  notes_of_handle said (handle.LoadNext walk id) ran = refl
+  notes_of_handle said (handle.LoadFlags walk id next) ran = refl
+  notes_of_handle said (handle.LoadFunc walk id next) ran = refl
+  notes_of_handle said (handle.LoadInfo walk id next func) ran = refl
+  notes_of_handle said (handle.Unlink walk last call next) ran = refl
+  notes_of_handle said (handle.BeginSync walk call next) ran = refl
+  notes_of_handle said (handle.CountSync walk call next) ran = refl
+  notes_of_handle said (handle.EndSync walk call next) ran = refl
+  notes_of_handle said (handle.AsyncNext id) ran = refl
+  notes_of_handle said (handle.AsyncFunc id next) ran = refl
+  notes_of_handle said (handle.AsyncInfo id next func) ran = refl
+  notes_of_handle said (handle.BeginAsync call next) ran = refl
+  notes_of_handle said (handle.CountAsync call next) ran = refl
+  notes_of_handle said handle.Leave ran = refl
+
+  notes_of_call : (said : Option Note) (at : Word → ℕ) (stage : Stage) → StopNoteFits p p me (word_of (access_of at me stage)) said
+  notes_of_call said at (Send to) = refl
+  notes_of_call said at (Done id) = refl
+  notes_of_call said at (Post x stage) = notes_of_post said x stage _
+  notes_of_call said at (Handle stage) = notes_of_handle said stage _
+
 module _ (a : CallState) (me found : ℕ) (note : Option Note) where
   in_patch : (change : Change) → calls.tells a (seen_of me (store_of change) found note) ≡ a
   in_patch (place.Key k, n) = refl
@@ -127,6 +170,12 @@ pub stops_kept : (core : CoreValue) (cpu : ℕ) (stage : Stage) → StopsTold co
 stops_kept core cpu stage p shown =
     subst (λ q. StopShown q core.stops) (sym (call_step_apart (setup_in core) p cpu 0 _ (seen_at core cpu stage).note (number_in core.words) stage)) shown
 
+pub stop_notes_kept : (core : CoreValue) (cpu : ℕ) (stage : Stage) → StopNotesFit core (seen_at core cpu stage) 0
+stop_notes_kept core cpu stage p shown =
+    let said = (seen_at core cpu stage).note in
+    subst (λ q. StopNoteFits p q cpu (seen_at core cpu stage).word said) (sym (call_step_apart (setup_in core) p cpu 0 _ said (number_in core.words) stage))
+    (notes_of_call (setup_in core) p cpu 0 0 said said (number_in core.words) stage)
+
 -- a step of the stop half keeps the calls that the core shows
 pub calls_kept : (core : CoreValue) (cpu : ℕ) (stage : StopStage) → CallsTold core (stop_seen_at core.stops cpu stage) (stops_stepped core cpu stage)
 calls_kept core cpu stage a shown = subst (λ b. Shown b core) (sym (stop_step_apart a cpu _ (stop_seen_at core.stops cpu stage).note _ _ stage)) shown
@@ -137,19 +186,26 @@ pub record IsStopStep (core : CoreValue) (cpu : ℕ) (seen : Seen) (new : StopsV
   pub at_stage : (stop_control_of core.stops.controls cpu).stage ≡ Some stage
   pub seen_is : seen ≡ stop_seen_at core.stops cpu stage
   pub told : StopTold core.stops cpu stage new
+  pub noted : StopNoteTold core.stops cpu stage
 
 pub is_stop_step : (core : CoreValue) (cpu : ℕ) (r : Option Seen) (seen : Seen) (new : StopsValue) → r ≡ Some seen →
     MatchOption (stop_control_of core.stops.controls cpu).stage ((r ≡ None) × (new ≡ core.stops))
     (λ stage. (r ≡ Some (stop_seen_at core.stops cpu stage)) × (new ≡ stop_stepped core.stops cpu stage)) →
-    MatchOption (stop_control_of core.stops.controls cpu).stage (new ≡ core.stops) (λ stage. StopTold core.stops cpu stage new) → IsStopStep core cpu seen new
-is_stop_step core cpu r seen new is step told = go (stop_control_of core.stops.controls cpu).stage refl step told
+    MatchOption (stop_control_of core.stops.controls cpu).stage (new ≡ core.stops) (λ stage. StopTold core.stops cpu stage new) →
+    IfSome (stop_control_of core.stops.controls cpu).stage (StopNoteTold core.stops cpu) → IsStopStep core cpu seen new
+is_stop_step core cpu r seen new is step told noted = go (stop_control_of core.stops.controls cpu).stage refl step told noted
   where
     go : (x : Option StopStage) → (stop_control_of core.stops.controls cpu).stage ≡ x →
         MatchOption x ((r ≡ None) × (new ≡ core.stops)) (λ stage. (r ≡ Some (stop_seen_at core.stops cpu stage)) × (new ≡ stop_stepped core.stops cpu stage)) →
-        MatchOption x (new ≡ core.stops) (λ stage. StopTold core.stops cpu stage new) → IsStopStep core cpu seen new
-    go None e s t = absurd (let bad : Some seen ≡ None = sym is ∙ s.0 in cc)
-    go (Some stage) e s t =
-        record { stage = stage; at_stage = e; seen_is = let both : Some seen ≡ Some (stop_seen_at core.stops cpu stage) = sym is ∙ s.0 in cc; told = t }
+        MatchOption x (new ≡ core.stops) (λ stage. StopTold core.stops cpu stage new) → IfSome x (StopNoteTold core.stops cpu) → IsStopStep core cpu seen new
+    go None e s t n = absurd (let bad : Some seen ≡ None = sym is ∙ s.0 in cc)
+    go (Some stage) e s t n = record {
+      stage = stage;
+      at_stage = e;
+      seen_is = let both : Some seen ≡ Some (stop_seen_at core.stops cpu stage) = sym is ∙ s.0 in cc;
+      told = t;
+      noted = n;
+    }
 
 -- it keeps the calls that the core shows
 pub calls_told : (core : CoreValue) (cpu : ℕ) (seen : Seen) (new : StopsValue) → IsStopStep core cpu seen new
@@ -161,6 +217,11 @@ pub stops_told : (core : CoreValue) (cpu : ℕ) (seen : Seen) (new : StopsValue)
     IfSome (step_of core cpu) (λ s. StopsTold core seen s.answer (record core { stops = new }))
 stops_told core cpu seen new none s = rw (none, s.at_stage, s.seen_is) s.told
 
+-- and its note says what it has changed of them
+pub stop_noted : (core : CoreValue) (cpu : ℕ) (seen : Seen) (new : StopsValue) → (control_of core.controls cpu).stage ≡ None → IsStopStep core cpu seen new →
+    IfSome (step_of core cpu) (λ s. StopNotesFit core seen s.answer)
+stop_noted core cpu seen new none s = rw (none, s.at_stage, s.seen_is) s.noted
+
 -- the same of an event that is a step, of either half
 pub stops_turned : (core : CoreValue) (cpu : ℕ) (r : Result Seen SmpError) (seen : Seen) (new : CoreValue) → r ≡ Ok seen →
     MatchOption (step_of core cpu) ((r ≡ Err error.IdleStep) × (new ≡ core)) (λ s. (r ≡ Ok s.seen) × (new ≡ s.core)) →
@@ -169,5 +230,15 @@ stops_turned core cpu r seen new is step told = go (step_of core cpu) step told
   where
     go : (x : Option Stepped) → MatchOption x ((r ≡ Err error.IdleStep) × (new ≡ core)) (λ s. (r ≡ Ok s.seen) × (new ≡ s.core)) →
         IfSome x (λ s. StopsTold core seen s.answer new) → StopsTold core seen (step_turn core x).answered new
+    go None s t = absurd (let bad : Ok seen ≡ Err error.IdleStep = sym is ∙ s.0 in cc)
+    go (Some x) s t = t
+
+pub notes_turned : (core : CoreValue) (cpu : ℕ) (r : Result Seen SmpError) (seen : Seen) (new : CoreValue) → r ≡ Ok seen →
+    MatchOption (step_of core cpu) ((r ≡ Err error.IdleStep) × (new ≡ core)) (λ s. (r ≡ Ok s.seen) × (new ≡ s.core)) →
+    IfSome (step_of core cpu) (λ s. StopNotesFit core seen s.answer) → StopNotesFit core seen (turn_of core (event.Step cpu)).answered
+notes_turned core cpu r seen new is step noted = go (step_of core cpu) step noted
+  where
+    go : (x : Option Stepped) → MatchOption x ((r ≡ Err error.IdleStep) × (new ≡ core)) (λ s. (r ≡ Ok s.seen) × (new ≡ s.core)) →
+        IfSome x (λ s. StopNotesFit core seen s.answer) → StopNotesFit core seen (step_turn core x).answered
     go None s t = absurd (let bad : Ok seen ≡ Err error.IdleStep = sym is ∙ s.0 in cc)
     go (Some x) s t = t

@@ -5,7 +5,9 @@ use Rattle.std.proofs.lemmas.List.{drop_more, drop_all}
 use Rattle.smp_call_steps.specs.Calls.{CallState, tells, tells_all, tells_if}
 use Rattle.smp_core.specs.Value.{CoreValue, Shown}
 use Rattle.smp_call_steps.specs.Value.{control_of}
-use Rattle.smp_core.specs.Machine.{setup_in, step_at}
+use Rattle.std.specs.Prelude.{IfSome}
+use Rattle.smp_core.specs.Machine.{StopNotesFit, setup_in, step_at}
+use Rattle.smp_stop_steps.specs.Notes.{AllNotesFit, StopNoteFits}
 use Rattle.smp_core.specs.Replay.{Replay, answers_from, answers_on, replay_from, replay_on, after_seen, seen_list, start_turn, step_turn, turn_of}
 use Rattle.smp_core.specs.Start.{refusal_of, started}
 use Rattle.smp_stop_steps.specs.Starts.{stop_begun_if, stop_first}
@@ -31,6 +33,7 @@ pub record GoesOn (first core : CoreValue) (events : List Event) (at : ℕ) (see
   pub paired : length answers ≡ length seen
   pub setup : setup_in core ≡ setup_in first
   pub stops : (p : StopState) → StopShown p first.stops → StopShown (tells_stops (setup_in first) p seen answers) core.stops
+  pub notes : (p : StopState) → StopShown p first.stops → AllNotesFit (setup_in first) p seen answers
 
 pub tells_all-append : (a : CallState) (xs : List Seen) (s : Option Seen) → tells_all a (xs ++ seen_list s) ≡ tells_if (tells_all a xs) s
 tells_all-append a [] None = refl
@@ -68,6 +71,21 @@ tells_stops-append u p [] (a ∷ answers) s answer l = absurd (omega (arith, l))
 tells_stops-append u p (x ∷ xs) [] s answer l = absurd (omega (arith, l))
 tells_stops-append u p (x ∷ xs) (a ∷ answers) s answer l = tells_stops-append u (stops.tells u p x a) xs answers s answer (omega (arith, l))
 
+-- what the note of one step more says, where one was seen
+abbrev NoteFitsIf : Setup → StopState → Option Seen → ℕ → Type 0
+NoteFitsIf u p None answer = Unit {0}
+NoteFitsIf u p (Some seen) answer = StopNoteFits p (stops.tells u p seen answer) seen.cpu seen.word seen.note
+
+notes_more : (u : Setup) (p : StopState) (xs : List Seen) (answers : List ℕ) (s : Option Seen) (answer : ℕ) → length answers ≡ length xs →
+    AllNotesFit u p xs answers → NoteFitsIf u (tells_stops u p xs answers) s answer → AllNotesFit u p (xs ++ seen_list s) (answers ++ answer_list s answer)
+unfolding answer_list
+notes_more u p [] [] None answer l so_far more = tt
+notes_more u p [] [] (Some s) answer l so_far more = (more, tt)
+notes_more u p [] (a ∷ answers) s answer l so_far more = absurd (omega (arith, l))
+notes_more u p (x ∷ xs) [] s answer l so_far more = absurd (omega (arith, l))
+notes_more u p (x ∷ xs) (a ∷ answers) s answer l so_far more =
+    (so_far.0, notes_more u (stops.tells u p x a) xs answers s answer (omega (arith, l)) so_far.1 more)
+
 begun_setup : (v : StopsValue) (cpu : ℕ) (stage : Option StopStage)
     → setup_of (stop_begun_if v cpu stage).online (stop_begun_if v cpu stage).labels ≡ setup_of v.online v.labels
 begun_setup v cpu None = refl
@@ -98,9 +116,10 @@ GoesOn-more : (first core core' : CoreValue) (events : List Event) (at : ℕ) (d
     Ok s ≡ (turn_of core (get_or events at d)).answer → core' ≡ (turn_of core (get_or events at d)).core → seen' ≡ seen ++ seen_list s →
     ((calls : CallState) → Shown calls core → Shown (tells_if calls s) core') →
     ((p : StopState) → StopShown p core.stops → StopShown (stops_if (setup_in core) p s (turn_of core (get_or events at d)).answered) core'.stops) →
+    ((p : StopState) → StopShown p core.stops → NoteFitsIf (setup_in core) p s (turn_of core (get_or events at d)).answered) →
     GoesOn first core events at seen → GoesOn first core' events (at + 1) seen'
 unfolding answer_list
-GoesOn-more first core core' events at d seen seen' s l answer is_core is_seen told stops g =
+GoesOn-more first core core' events at d seen seen' s l answer is_core is_seen told stops notes g =
     let event = get_or events at d in
     let answered = (turn_of core event).answered in
     let answers = g.answers in
@@ -116,28 +135,35 @@ GoesOn-more first core core' events at d seen seen' s l answer is_core is_seen t
       setup = rw is_core (turn_setup core event) ∙ g.setup;
       stops = λ p shown. rw (is_seen, tells_stops-append (setup_in first) p seen answers s answered g.paired, ← g.setup)
           (stops (tells_stops (setup_in core) p seen answers) (rw (← g.setup) at (g.stops p shown)));
+      notes = λ p shown. rw (is_seen, ← g.setup) (notes_more (setup_in core) p seen answers s answered g.paired (rw (← g.setup) at (g.notes p shown))
+          (notes (tells_stops (setup_in core) p seen answers) (rw (← g.setup) at (g.stops p shown))));
       run = rw (is_seen, is_core) (after_after seen (seen_list s) (replay_from (at + 1) (turn_of core event).core (drop (at + 1) events)) ∙
           (ap (after_seen seen) (sym (replay_more at core event (drop (at + 1) events) s answer) ∙ ap (replay_from at core) (sym (drop_more events at d l)))
           ∙ g.run));
       told = λ calls shown. rw (is_seen, tells_all-append calls seen s) (told (tells_all calls seen) (g.told calls shown));
     }
 
+-- the core shows the stops that these steps tell, and their notes say what they have changed
+abbrev pub IsToldBy : CoreValue → CoreValue → List Event → List Seen → StopState → Type 0
+IsToldBy first core events seen p = StopShown (tells_stops (setup_in first) p seen (answers_from first events)) core.stops ×
+    AllNotesFit (setup_in first) p seen (answers_from first events)
+
 -- where the next event is refused, the answers so far are those of all
 GoesOn-refused : (first core core' : CoreValue) (events : List Event) (at : ℕ) (d : Event) (seen : List Seen) (e : SmpError) → at < length events →
     Err e ≡ (turn_of core (get_or events at d)).answer → core' ≡ core → GoesOn first core events at seen →
-    (p : StopState) → StopShown p first.stops → StopShown (tells_stops (setup_in first) p seen (answers_from first events)) core'.stops
+    (p : StopState) → StopShown p first.stops → IsToldBy first core' events seen p
 GoesOn-refused first core core' events at d seen e l answer same g p shown =
     let none : answers_from core (drop at events) ≡ [] = answers_next core events at d l ∙ rw (← answer) refl in
     let whole : g.answers ≡ answers_from first events = sym (append-nil g.answers) ∙ (ap (λ (x : List ℕ). g.answers ++ x) (sym none) ∙ g.answered) in
-    rw (same, ← whole) (g.stops p shown)
+    rw (same, ← whole) (g.stops p shown, g.notes p shown)
 
 -- and so they are at the end
 pub GoesOn-all : (first core : CoreValue) (events : List Event) (at : ℕ) (seen : List Seen) → length events ≤ at → GoesOn first core events at seen →
-    (p : StopState) → StopShown p first.stops → StopShown (tells_stops (setup_in first) p seen (answers_from first events)) core.stops
+    (p : StopState) → StopShown p first.stops → IsToldBy first core events seen p
 GoesOn-all first core events at seen l g p shown =
     let none : answers_from core (drop at events) ≡ [] = ap (answers_from core) (drop_all at events l) in
     let whole : g.answers ≡ answers_from first events = sym (append-nil g.answers) ∙ (ap (λ (x : List ℕ). g.answers ++ x) (sym none) ∙ g.answered) in
-    rw (← whole) (g.stops p shown)
+    rw (← whole) (g.stops p shown, g.notes p shown)
 
 -- the same of the event that was read there
 pub goes_on : (first core core' : CoreValue) (events : List Event) (at : ℕ) (event : Event) (seen seen' : List Seen) (s : Option Seen) → at < length events
@@ -145,15 +171,22 @@ pub goes_on : (first core core' : CoreValue) (events : List Event) (at : ℕ) (e
     Ok s ≡ (turn_of core event).answer → core' ≡ (turn_of core event).core → seen' ≡ seen ++ seen_list s →
     ((calls : CallState) → Shown calls core → Shown (tells_if calls s) core') →
     ((p : StopState) → StopShown p core.stops → StopShown (stops_if (setup_in core) p s (turn_of core event).answered) core'.stops) →
+    IfSome s (λ seen. StopNotesFit core seen (turn_of core event).answered) →
     GoesOn first core events at seen → GoesOn first core' events (at + 1) seen'
-goes_on first core core' events at event seen seen' s l e answer is_core is_seen told stops g =
+goes_on first core core' events at event seen seen' s l e answer is_core is_seen told stops notes g =
     GoesOn-more first core core' events at event seen seen' s l (subst (λ (x : Event). Ok s ≡ (turn_of core x).answer) e answer)
     (subst (λ (x : Event). core' ≡ (turn_of core x).core) e is_core) is_seen told
-    (subst (λ (x : Event). (p : StopState) → StopShown p core.stops → StopShown (stops_if (setup_in core) p s (turn_of core x).answered) core'.stops) e stops) g
+    (subst (λ (x : Event). (p : StopState) → StopShown p core.stops → StopShown (stops_if (setup_in core) p s (turn_of core x).answered) core'.stops) e stops)
+    (subst (λ (x : Event). (p : StopState) → StopShown p core.stops → NoteFitsIf (setup_in core) p s (turn_of core x).answered) e (fits s notes)) g
+  where
+    fits : (o : Option Seen) → IfSome o (λ seen. StopNotesFit core seen (turn_of core event).answered) → (p : StopState) → StopShown p core.stops →
+        NoteFitsIf (setup_in core) p o (turn_of core event).answered
+    fits None n p shown = tt
+    fits (Some seen) n p shown = n p shown
 
 pub ends_refused : (first core core' : CoreValue) (events : List Event) (at : ℕ) (event : Event) (seen : List Seen) (refused : SmpError) → at < length events
     → event ≡ get_or events at event →
     Err refused ≡ (turn_of core event).answer → core' ≡ core → GoesOn first core events at seen →
-    (p : StopState) → StopShown p first.stops → StopShown (tells_stops (setup_in first) p seen (answers_from first events)) core'.stops
+    (p : StopState) → StopShown p first.stops → IsToldBy first core' events seen p
 ends_refused first core core' events at event seen refused l e answer same g =
     GoesOn-refused first core core' events at event seen refused l (subst (λ (x : Event). Err refused ≡ (turn_of core x).answer) e answer) same g

@@ -4,7 +4,6 @@ use Rattle.std.specs.Prelude.{slice_set}
 use Rattle.smp_mask.specs.Mask.{has}
 use Rattle.smp_mask.specs.declared.error.SmpError.{SmpError}
 use Rattle.smp_words.specs.Size.{cpus}
-use Rattle.smp_words.specs.Layout.{number_in}
 use Rattle.smp_call_steps.specs.Calls.{CallState}
 use Rattle.smp_words.specs.Limits.{AreLimits}
 use Rattle.smp_core.specs.Start.{refusal_of, own_refusal, or_else, busy_or}

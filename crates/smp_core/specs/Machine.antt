@@ -9,6 +9,7 @@ use Rattle.smp_call_steps.specs.Calls.{CallState}
 use Rattle.smp_call_steps.specs.Calls as calls
 use Rattle.smp_core.specs.Value.{Shown}
 use Rattle.smp_stop_steps.specs.Machine.{stop_seen_at, stop_stepped}
+use Rattle.smp_stop_steps.specs.Notes.{StopNoteFits}
 use Rattle.smp_stop_steps.specs.Stages.{answer_at}
 use Rattle.smp_stop_steps.specs.State.{Setup, StopState}
 use Rattle.smp_stop_steps.specs.Tells as stops
@@ -70,3 +71,8 @@ CallsTold old seen new = (a : CallState) → Shown a old → Shown (calls.tells 
 
 abbrev pub StopsTold : CoreValue → Seen → ℕ → CoreValue → Type 0
 StopsTold old seen answer new = (p : StopState) → StopShown p old.stops → StopShown (stops.tells (setup_in old) p seen answer) new.stops
+
+-- and the step's note says what it has changed of the stops
+abbrev pub StopNotesFit : CoreValue → Seen → ℕ → Type 0
+StopNotesFit old seen answer =
+    (p : StopState) → StopShown p old.stops → StopNoteFits p (stops.tells (setup_in old) p seen answer) seen.cpu seen.word seen.note

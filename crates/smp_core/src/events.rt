@@ -6,6 +6,7 @@ ghost use Rattle.smp_core.specs.Value.{Shown};
 ghost use Rattle.smp_core.specs.Runs.{IsReplay};
 ghost use Rattle.smp_core.specs.Replay.{answers_from, seen_list};
 ghost use Rattle.smp_core.specs.Machine.{setup_in};
+ghost use Rattle.smp_stop_steps.specs.Notes.{AllNotesFit};
 ghost use Rattle.smp_stop_steps.specs.State.{StopState};
 ghost use Rattle.smp_stop_steps.specs.Tells.{tells_all as tells_stops};
 ghost use Rattle.smp_stop_steps.specs.Value.{StopShown};
@@ -35,6 +36,8 @@ pub fn replay<A: Allocator>(
     ensures told { IfOk result (λ r. (calls : CallState) → Shown calls core → Shown (tells_all calls r.seen.items) r.core) }
     ensures stops { IfOk result (λ r. (p : StopState) → StopShown p core.stops →
         StopShown (tells_stops (setup_in core) p r.seen.items (answers_from core events.now)) r.core.stops) }
+    ensures stop_notes { IfOk result (λ r. (p : StopState) → StopShown p core.stops →
+        AllNotesFit (setup_in core) p r.seen.items (answers_from core events.now)) }
     ensures err { IfErr result (λ e. e ≡ SmpError.NoMemory) }
 {
     let mut seen = Vec::new(alloc);

@@ -15,4 +15,5 @@ pub mod RoundSteps
 pub mod AckSteps
 pub mod CompletionSteps
 pub mod CallSteps
+pub mod NoteSteps
 pub mod StateWords

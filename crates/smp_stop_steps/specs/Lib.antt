@@ -25,6 +25,7 @@ pub mod Steps
 -- the laws, as they are promised
 pub mod Promises
 pub mod Functions
+pub mod Notes
 pub mod Closings
 pub mod Premises
 pub mod Interrupts

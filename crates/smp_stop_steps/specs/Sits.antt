@@ -70,6 +70,11 @@ abbrev pub RunsIf : ℕ → Visit → Bool → Type 0
 RunsIf me v true = (v.acked ≡ DISABLE_IRQ) × (v.kind ≡ Multi) × (has v.active me ≡ true)
 RunsIf me v false = v.acked ≡ DISABLE_IRQ → has v.active me ≡ false
 
+-- it has acknowledged, and is to set the next phase: with RUN it has run where it is active
+pub record HasRun (me : ℕ) (v : Visit) (ran : Bool) : Type 0 where
+  pub at_run : ran ≡ true → v.acked ≡ RUN
+  pub active : v.acked ≡ RUN → has v.active me ≡ ran
+
 abbrev pub SitsInRound : Setup → ℕ → List Change → Visit → RoundStage → Seat → Type 0
 SitsInRound u me changes v (round.Look answer) x = (v.kind ≢ One) × (v.acked ≢ EXIT) × SitsIn v v.acked Rests x
 SitsInRound u me changes v (round.LoadFunc answer) x = (v.kind ≢ One) × ((work : Work) × SitsAtRun me v work x)
@@ -85,8 +90,8 @@ SitsInRound u me changes v (round.Acknowledge answer ran) x =
     (work : Work) × IsLoaded v work × (v.acked ≤ RUN) ×
     (((x ≡ In v.slot work v.acked (v.acked + 1) Rests) × RunsIf me v ran) ⊎
     ((v.acked ≡ DISABLE_IRQ) × (ran ≡ true) × ((count : ℕ) × (answer ≡ patch_answer work count) × (x ≡ Alters v.slot work count (plan_at u work count) []))))
-SitsInRound u me changes v (round.Refill ran) x = SitsIn v v.acked Fills x
-SitsInRound u me changes v (round.Raise ran) x = SitsIn v v.acked Sets x
+SitsInRound u me changes v (round.Refill ran) x = (work : Work) × IsLoaded v work × (x ≡ In v.slot work v.acked v.acked Fills) × HasRun me v ran
+SitsInRound u me changes v (round.Raise ran) x = (work : Work) × IsLoaded v work × (x ≡ In v.slot work v.acked v.acked Sets) × HasRun me v ran
 
 -- it is through all phases, or in a stop of kind One
 abbrev pub IsThroughAll : Visit → Type 0

@@ -2,17 +2,21 @@
 use Rattle.std.specs.Prelude.{◌≡◌, ℕ, Some, None}
 use Rattle.smp_words.specs.Access.{word_of, seen_of}
 use Rattle.smp_stop_steps.specs.Labels.{Change}
+use Rattle.smp_stop_steps.specs.Machine.{stop_seen_at}
+use Rattle.smp_stop_steps.specs.Notes.{NoteFits, StopNoteFits}
 use Rattle.smp_stop_steps.specs.Patchers.{IsNextOfPatch, label_stored}
 use Rattle.smp_stop_steps.specs.Premises.{MaySee}
 use Rattle.smp_stop_steps.specs.Stages.{StopControlValue, answer_at, stop_access}
 use Rattle.smp_stop_steps.specs.State.{Setup, StopState}
 use Rattle.smp_stop_steps.specs.Steps.{FunctionGoes, note_then, state_after}
 use Rattle.smp_stop_steps.specs.Table.{stop_number}
-use Rattle.smp_stop_steps.specs.Value.{StopsValue, setup_of, stop_control_of}
+use Rattle.smp_stop_steps.specs.Tells.{tells}
+use Rattle.smp_stop_steps.specs.Value.{StopsValue, StopShown, setup_of, stop_control_of}
 use Rattle.smp_stop_steps.specs.declared.stage.StopStage.{StopStage}
 use Rattle.smp_words.specs.declared.word.Word.{Word}
 
--- of the step of a CPU at this stage: who may make it, what it does of functions, and that a store to a label is one of a patch
+-- of the step of a CPU at this stage: who may make it, what it does of functions, that a store to a label is one of a patch,
+-- and that its note says what it has changed
 pub record KeepsStepLaws (u : Setup) (p : StopState) (at : Word → ℕ) (c : StopControlValue) (me : ℕ) (stage : StopStage) : Type 0 where
   pub premise :
       let access = stop_access u.cpus me c.changes stage in
@@ -20,8 +24,15 @@ pub record KeepsStepLaws (u : Setup) (p : StopState) (at : Word → ℕ) (c : St
       MaySee p me seen.act seen.word seen.found seen.put
   pub functions : FunctionGoes p (state_after u p at c me stage) me (note_then u at c me stage) (answer_at stage)
   pub labels : (change : Change) → label_stored (stop_access u.cpus me c.changes stage) ≡ Some change → IsNextOfPatch p me change
+  pub notes : NoteFits p (state_after u p at c me stage) me (note_then u at c me stage)
 
 -- the same of a stop half, of each CPU that is inside a command
 abbrev pub StepsKeepLaws : StopsValue → StopState → Type 0
 StepsKeepLaws v p = (cpu : ℕ) (stage : StopStage) → (stop_control_of v.controls cpu).stage ≡ Some stage →
     KeepsStepLaws (setup_of v.online v.labels) p (stop_number v.table) (stop_control_of v.controls cpu) cpu stage
+
+-- whatever stops the half shows, the note of this step says what it has changed of them
+abbrev pub StopNoteTold : StopsValue → ℕ → StopStage → Type 0
+StopNoteTold v cpu stage =
+    let seen = stop_seen_at v cpu stage in
+    (p : StopState) → StopShown p v → StopNoteFits p (tells (setup_of v.online v.labels) p seen (answer_at stage)) seen.cpu seen.word seen.note

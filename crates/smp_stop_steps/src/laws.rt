@@ -69,6 +69,18 @@ pub fn answers_may_be_replaced()
     ensures { AnswersMayBeReplaced }
 {}
 
+ghost use Rattle.smp_stop_steps.specs.Notes.{NotesFit};
+
+/// What the note of each step says of the state, and that no other step changes it so: `gate` and `open`, who holds the
+/// gate; `begun`, the stop that is open, and its work; `entered`, the stop that the CPU is in; `same`, that it has
+/// acknowledged the phase that it looks at; `moved P`, `ran` and `left`, the phase that it has acknowledged, whether it is
+/// active there, and that its interrupts go on; `run F A`, the function that it has called; `finished`, that it is in no
+/// stop; `result V`, what it has collected, as an `i32`; `on`, `off`, `NOP` and `JMP`, what it has read; `done`, a count that
+/// it has moved by one.
+pub fn notes_fit()
+    ensures { NotesFit }
+{}
+
 ghost use Rattle.smp_stop_steps.specs.Closings.{LastStoresDone};
 
 /// Where a stop is open with nothing left to do and done still 0, exactly one CPU is before its store of done: the last to

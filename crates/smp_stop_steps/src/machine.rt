@@ -77,6 +77,7 @@ fn new_controls<A: Allocator>(alloc: A) -> Result<Vec<StopControl, A>, AllocErro
 impl<A: Allocator> Stops<A> {
     ghost use Rattle.smp_stop_steps.specs.Machine.{IsStepOf, StopTold, stop_access_at};
     ghost use Rattle.smp_stop_steps.specs.Begins.{MayBeginAt, stop_begun};
+    ghost use Rattle.smp_stop_steps.specs.StepLaws.{StepsKeepLaws, StopNoteTold};
     ghost use Rattle.smp_stop_steps.specs.Stages.{FitsAccess};
     ghost use Rattle.smp_stop_steps.specs.State.{StopState};
     ghost use Rattle.smp_stop_steps.specs.Table.{stop_number};
@@ -186,6 +187,7 @@ impl<A: Allocator> Stops<A> {
         ensures step { MatchOption (stop_control_of self.old.controls cpu).stage ((result ≡ None)
             × (self.new ≡ self.old)) (λ stage. IsStepOf self.old cpu stage result self.new) }
         ensures told { MatchOption (stop_control_of self.old.controls cpu).stage (self.new ≡ self.old) (λ stage. StopTold self.old cpu stage self.new) }
+        ensures notes { IfSome (stop_control_of self.old.controls cpu).stage (StopNoteTold self.old cpu) }
     {
         let Some(stage) = self.stage(cpu) else {
             return None;
@@ -214,8 +216,6 @@ impl<A: Allocator> Stops<A> {
     {
         (self.table.read(Word::Slot(slot, Field::State)) % (1 << 32)) as u32
     }
-
-    ghost use Rattle.smp_stop_steps.specs.StepLaws.{StepsKeepLaws};
 
     /// Whatever stops the half shows, each step that a CPU may make next keeps the laws of steps: who may make it, what it
     /// does of stop functions, and that a store to a key or a site is one of a patch.

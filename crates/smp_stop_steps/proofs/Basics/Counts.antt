@@ -1,7 +1,9 @@
 -- Sums over CPUs, with one CPU changed.
-use Rattle.std.proofs.Common.{◌≡◌, ◌≢◌, ℕ, suc, zero, ◌+◌, ◌<◌, cond, refl, ap, arith}
+use Rattle.std.proofs.Common.{◌≡◌, ◌≢◌, ℕ, suc, zero, ◌+◌, ◌<◌, cond, refl, ap, arith, sym, ◌∙◌}
 use Rattle.std.proofs.lemmas.Bool.{ne_eqb, eq-eqb}
 use mathlib.Core.Logic.{dite}
+use mathlib.Core.Path.{fun_ext}
+use Rattle.smp_words.proofs.Puts.{at_test}
 use native.Mathlib.Decide.{ℕ_discrete}
 use Rattle.smp_words.specs.Put.{put}
 use Rattle.smp_stop_steps.specs.Counts.{sum_below}
@@ -11,6 +13,10 @@ put_here {A} f i v = ap (λ b. cond b v (f i)) (eq-eqb i i refl)
 
 pub put_else : {A : Type 0} (f : ℕ → A) (i : ℕ) (v : A) (j : ℕ) → j ≢ i → put f i v j ≡ f j
 put_else {A} f i v j other = ap (λ b. cond b v (f j)) (ne_eqb j i other)
+
+-- what is there already
+pub put_own : {A : Type 0} (f : ℕ → A) (i : ℕ) (v : A) → f i ≡ v → put f i v ≡ f
+put_own {A} f i v e = fun_ext (λ j. at_test j i (λ b. cond b v (f j) ≡ f j) (λ same. sym e ∙ ap f (sym same)) (λ _. refl))
 
 pub sum_same : (f g : ℕ → ℕ) (n : ℕ) → ((j : ℕ) → j < n → g j ≡ f j) → sum_below g n ≡ sum_below f n
 unfolding sum_below

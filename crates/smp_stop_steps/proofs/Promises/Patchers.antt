@@ -1,7 +1,6 @@
 -- The label law outside the stores of patches, and who makes these.
-use Rattle.std.proofs.Common.{◌≡◌, ℕ, false, eq-eqb, Option, Some, List, [], ◌∷◌, ◌++◌, length, sym, subst, refl, ap, ◌∙◌, arith}
+use Rattle.std.proofs.Common.{◌≡◌, ℕ, false, Option, Some, List, [], ◌∷◌, ◌++◌, length, sym, subst, refl, ap, ◌∙◌, arith}
 use Rattle.std.proofs.lemmas.List.{append-nil}
-use Rattle.smp_mask.specs.Mask.{has}
 use Rattle.smp_labels.specs.Law.{IsLawful, Table}
 use Rattle.smp_labels.specs.declared.patch.Place.TheVariants as place
 use Rattle.smp_stop_steps.specs.Labels.{Change, Patching, Whole, Patches, LabelsShow, labels_in}
@@ -13,7 +12,6 @@ use Rattle.smp_stop_steps.specs.Sits.{Sits, SitsAt, SitsInRound}
 use Rattle.smp_stop_steps.specs.Sources.{Source}
 use Rattle.smp_stop_steps.specs.Stages.{StopControlValue, change_at, completion_access, round_access, stop_access, store_of}
 use Rattle.smp_stop_steps.specs.State.{Setup, StopState}
-use Rattle.smp_stop_steps.specs.Stop.{Inside}
 use Rattle.smp_stop_steps.specs.declared.stage.RoundStage.{RoundStage}
 use Rattle.smp_stop_steps.specs.declared.stage.RoundStage.TheVariants as round
 use Rattle.smp_stop_steps.specs.declared.stage.CompletionStage.{CompletionStage}
@@ -22,12 +20,11 @@ use Rattle.smp_stop_steps.specs.declared.stage.StopStage.{StopStage}
 use Rattle.smp_stop_steps.specs.declared.stage.StopStage.TheVariants.{TakeGate, OpenGate, Begin, Enter, EnterKind, EnterMask, EnterActive, Advance}
 use Rattle.smp_stop_steps.specs.declared.stage.StopStage.TheVariants.{Complete, Close, LoadDone, LoadResult, ReadKey, ReadSite, NudgeKey, ExchangeKey}
 use Rattle.smp_stop_steps.specs.declared.stage.Visit.{Visit}
-use Rattle.smp_words.specs.declared.work.Work.{Work}
 use Rattle.smp_words.specs.declared.word.Word.{Word}
 use Rattle.smp_words.specs.declared.word.Word.TheVariants.{Gate, Slot}
 use Rattle.smp_stop_steps.proofs.State.Ends.{function_law}
 use Rattle.smp_stop_steps.proofs.State.Patched.{all_off}
-use Rattle.smp_stop_steps.proofs.State.Phases.{is_open_inside}
+use Rattle.smp_stop_steps.proofs.Steps.Facts.{patcher_active}
 use Rattle.smp_stop_steps.proofs.Steps.RoundSteps.{change_here}
 
 -- between its first and its last store alone a patch leaves the table unlawful
@@ -45,16 +42,14 @@ module _ (u : Setup) (p : StopState) (at : Word → ℕ) (seat : ℕ → Seat) (
   has_patcher c work count made rest e =
       let r : RunnerShows u.first (Patches c work count made rest) seat = subst (λ x. RunnerShows u.first x seat) e h.present.runner in
       let s = r.1.0 in
-      let st : Stands p.now c (Alters s work count made rest) = subst (Stands p.now c) r.1.1 (h.present.stands c) in
-      let open_ = is_open_inside u.cpus (p.now.stop s) (λ f. at (Slot s f)) (h.present.slots s) c (Inside 2 3) st.1 refl in
-      let works = h.present.works s open_ (ap (λ (w : Work). w.kind) st.3 ∙ st.4) in (
+      let st : Stands p.now c (Alters s work count made rest) = subst (Stands p.now c) r.1.1 (h.present.stands c) in (
         s,
         record {
           inside = st.0;
           stands = st.1;
           work_is = st.3;
           kind = st.4;
-          active = ap (λ (w : Work). has w.active c) (sym st.3) ∙ (works.first c ∙ eq-eqb c u.first r.0);
+          active = patcher_active u p at seat source h s c work count made rest r.1.1;
           first = r.0;
           alone = record {
             law = function_law u.cpus (p.now.stop s) (λ f. at (Slot s f)) (h.present.slots s) c st.1;

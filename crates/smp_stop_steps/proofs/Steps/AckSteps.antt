@@ -4,7 +4,7 @@ use Rattle.smp_stop_steps.proofs.Steps.Same.{moved_seat}
 use Rattle.std.proofs.Common.{◌≡◌, ℕ, ◌+◌, ◌-◌, ◌≤◌, Bool, true, false, nat_lt, le-ltb, ne_eqb, ◌==◌, ◌||◌, cond, sym, subst, refl, ap, ◌∙◌, ◌⊎◌, inl}
 use Rattle.std.proofs.Common.{inr, arith, Option, Some, None, []}
 use Rattle.smp_words.proofs.Puts.{at_test}
-use Rattle.smp_stop_steps.proofs.Steps.Facts.{ack_bounds, ack_bounds_patched}
+use Rattle.smp_stop_steps.proofs.Steps.Facts.{ack_bounds, ack_bounds_patched, patcher_active}
 use Rattle.smp_stop_steps.proofs.Steps.RoundSteps.{ack_small}
 use Rattle.smp_stop_steps.proofs.Steps.Rounds.{ack_stored, ack_subtracted, ack_subtracted_patched, state_stored}
 use Rattle.smp_stop_steps.proofs.Steps.StageSteps.{less_one}
@@ -13,7 +13,7 @@ use Rattle.smp_stop_steps.specs.Counts.{mask_weight}
 use Rattle.smp_stop_steps.specs.Labels.{patch_answer}
 use Rattle.smp_stop_steps.specs.Seats.{Alters, Fills, In, Rests, Seat, Sets, irq_of}
 use Rattle.smp_stop_steps.specs.Shows.{StopShows}
-use Rattle.smp_stop_steps.specs.Sits.{RunsIf, IsLoaded, OwnsIf, Sits, SitsAt, SitsAtRest, SitsInRound, SourceSits}
+use Rattle.smp_stop_steps.specs.Sits.{HasRun, RunsIf, IsLoaded, OwnsIf, Sits, SitsAt, SitsAtRest, SitsInRound, SourceSits}
 use Rattle.smp_stop_steps.specs.Sources.{Source}
 use Rattle.smp_stop_steps.specs.Stages.{StopControlValue, stop_goes, turn_ends, visit_acked}
 use Rattle.smp_stop_steps.specs.State.{Setup, StopState, Calling, Calls, Carries, Idle}
@@ -43,19 +43,19 @@ module _ (u : Setup) (p : StopState) (at : Word → ℕ) (seat : ℕ → Seat) (
   at_source stage e = subst (λ (st : Option StopStage). SourceSits c.is_open st (source me)) e s.source
 
   -- where the CPU stands once the phase is acknowledged
-  acked_sits : (answer : ℕ) (ran : Bool) (work : Work) → IsLoaded v work → OwnsIf c.is_open (source me) → c.interrupts ≡ nat_lt (v.acked + 1) 2 → (b : Bool) →
-      Sits u me (at Gate) (cond b (stop_goes (record c { visit = Some (visit_acked v answer ran) }) (Advance (visit_acked v answer ran) (round.Refill ran)))
+  acked_sits : (answer : ℕ) (ran : Bool) (work : Work) → IsLoaded v work → OwnsIf c.is_open (source me) → c.interrupts ≡ nat_lt (v.acked + 1) 2 →
+      HasRun me (visit_acked v answer ran) ran → (b : Bool) → Sits u me (at Gate) (cond b (stop_goes (record c { visit = Some (visit_acked v answer ran) }) (Advance (visit_acked v answer ran) (round.Refill ran)))
       (turn_ends (record c { visit = Some (visit_acked v answer ran) }) (v.acked + 1) ran)).control
       (In v.slot work (v.acked + 1) (v.acked + 1) (cond b Fills Rests)) (source me)
-  acked_sits answer ran work loaded y irq true = record {
+  acked_sits answer ran work loaded y irq run true = record {
     below = s.below;
     irq = irq;
     seat =
-        (refl, (work, record { kind = loaded.kind; mask = loaded.mask; active = loaded.active }, refl));
+        (refl, (work, record { kind = loaded.kind; mask = loaded.mask; active = loaded.active }, refl, run));
     source = y;
     gate_held = tt;
   }
-  acked_sits answer ran work loaded y irq false = record {
+  acked_sits answer ran work loaded y irq run false = record {
     below = s.below;
     irq = at_test (v.acked + 1) 4 (λ d. cond d true c.interrupts ≡ nat_lt (v.acked + 1) 2 || d) (λ _. sym (or_true (nat_lt (v.acked + 1) 2)))
         (λ _. irq ∙ sym (or_false (nat_lt (v.acked + 1) 2) false refl));
@@ -82,6 +82,17 @@ module _ (u : Setup) (p : StopState) (at : Word → ℕ) (seat : ℕ → Seat) (
       has_called work loaded false runs (Calls call) is two = absurd is
       has_called work loaded false runs (Carries x) is two = tt
 
+      has_run : (b : Bool) → RunsIf me v b → HasRun me (visit_acked v answer ran) b
+      has_run true runs = record { at_run = λ _. ap (λ n. n + 1) runs.0; active = λ _. runs.2 }
+      has_run false runs = record { at_run = λ bad. cc; active = λ three. runs (omega arith) }
+
+      patch_run : v.acked ≡ 2 → ran ≡ true → (work : Work) → IsLoaded v work → (count : ℕ) →
+          seat me ≡ Alters v.slot work count (plan_at u work count) [] → HasRun me (visit_acked v answer ran) ran
+      patch_run two runs work loaded count is = record {
+        at_run = λ _. ap (λ n. n + 1) two;
+        active = λ _. ap (λ m. has m me) loaded.active ∙ (patcher_active u p at seat source h v.slot me work count (plan_at u work count) [] is ∙ sym runs);
+      }
+
       either : (work : Work) → IsLoaded v work → v.acked ≤ 3 →
           ((seat me ≡ In v.slot work v.acked (v.acked + 1) Rests) × RunsIf me v ran) ⊎ ((v.acked ≡ 2) × (ran ≡ true) ×
           ((count : ℕ) × (answer ≡ patch_answer work count) × (seat me ≡ Alters v.slot work count (plan_at u work count) []))) →
@@ -102,7 +113,7 @@ module _ (u : Setup) (p : StopState) (at : Word → ℕ) (seat : ℕ → Seat) (
             sits = acked_sits answer ran work loaded y
                 (s.irq ∙ (ap irq_of is ∙ (ap (λ b. nat_lt (v.acked + 1) 2 || b) (ne_eqb v.acked 4 (λ z. omega arith)) ∙ or_false (nat_lt (v.acked + 1) 2)
                 false refl)))
-                (at (Slot v.slot Ack) == 1);
+                (has_run ran calm) (at (Slot v.slot Ack) == 1);
           }
       either work loaded most (inr (two, runs, (count, answers, is))) y =
           let next = In v.slot work (v.acked + 1) (v.acked + 1) (cond (at (Slot v.slot Ack) == 1) Fills Rests) in
@@ -120,7 +131,8 @@ module _ (u : Setup) (p : StopState) (at : Word → ℕ) (seat : ℕ → Seat) (
                 (subst (λ x. StopShows u (state_after u p at c me (Advance v (round.Acknowledge answer ran))) (put_word at (Slot v.slot Ack)
                 (at (Slot v.slot Ack) - 1)) (put seat me x) source) three
                 (ack_subtracted_patched u p at seat source h v.slot me work count (plan_at u work count) answer is)));
-            sits = acked_sits answer ran work loaded y (s.irq ∙ (ap irq_of is ∙ sym (le-ltb (v.acked + 1) 2 (omega arith)))) (at (Slot v.slot Ack) == 1);
+            sits = acked_sits answer ran work loaded y (s.irq ∙ (ap irq_of is ∙ sym (le-ltb (v.acked + 1) 2 (omega arith)))) (patch_run two runs work loaded count is)
+                (at (Slot v.slot Ack) == 1);
           }
 
   pub refill : (ran : Bool) → c.stage ≡ Some (Advance v (round.Refill ran)) → StopStep u p at seat source c me (Advance v (round.Refill ran))
@@ -140,7 +152,7 @@ module _ (u : Setup) (p : StopState) (at : Word → ℕ) (seat : ℕ → Seat) (
         sits = record {
           below = s.below;
           irq = s.irq ∙ ap irq_of r.1.2;
-          seat = (r.0, (work, loaded, refl));
+          seat = (r.0, (work, loaded, refl, r.1.3));
           source = at_source (round.Refill ran) e;
           gate_held = tt;
         };

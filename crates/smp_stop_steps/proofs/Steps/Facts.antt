@@ -5,13 +5,15 @@ use Rattle.smp_stop_steps.specs.Callings.{IsCalling}
 use Rattle.smp_stop_steps.specs.Tells.{told, may_call, calls_now}
 use Rattle.smp_stop_steps.proofs.State.KeyCounts.{opened_count}
 use Rattle.std.proofs.Common.{◌≡◌, ◌≢◌, ℕ, ◌+◌, ◌<◌, ◌≤◌, Bool, true, false, ◌==◌, cond, sym, subst, refl, ap, ◌∙◌, ◌⊎◌, inl, inr, arith, ⊎_elim}
+use Rattle.std.proofs.Common.{eq-eqb}
 use Rattle.std.proofs.Common.{zero, suc, List, [], Some, None}
 use Rattle.std.proofs.lemmas.Nat.Bits.{bit_at-zero}
 use Rattle.smp_stop_steps.proofs.Basics.Counts.{sum_zero}
 use Rattle.smp_stop_steps.proofs.State.Phases.{is_open_inside, keeps_inside, none_raises}
 use Rattle.smp_stop_steps.proofs.State.Acknowledged.{nobody_raises}
 use Rattle.smp_stop_steps.specs.Counts.{behind, count_behind, sum_below, unfinished}
-use Rattle.smp_stop_steps.specs.Labels.{Change, labels_in}
+use Rattle.smp_stop_steps.specs.Labels.{Change, Patches, labels_in}
+use Rattle.smp_stop_steps.specs.Present.{RunnerShows}
 use Rattle.smp_stop_steps.specs.Seats.{Alters, Free, Gives, In, Rests, Seat, Stands, Turn}
 use Rattle.smp_stop_steps.specs.Shows.{StopShows}
 use Rattle.smp_stop_steps.specs.Slots.{AckShows, IsWritten, Keeps, OpenShows}
@@ -64,6 +66,15 @@ unfinished_most (Answering a v) = omega arith
 unfinished_most (Completed a v) = omega arith
 
 module _ (u : Setup) (p : StopState) (at : Word → ℕ) (seat : ℕ → Seat) (source : ℕ → Source) (h : StopShows u p at seat source) (s me : ℕ) where
+  -- who patches is active in its stop
+  pub patcher_active : (work : Work) (count : ℕ) (made rest : List Change) → seat me ≡ Alters s work count made rest → has work.active me ≡ true
+  patcher_active work count made rest is =
+      let st : Stands p.now me (Alters s work count made rest) = subst (Stands p.now me) is (h.present.stands me) in
+      let r : RunnerShows u.first (Patches me work count made rest) seat = subst (λ x. RunnerShows u.first x seat) st.5 h.present.runner in
+      let open_ = is_open_inside u.cpus (p.now.stop s) (λ f. at (Slot s f)) (h.present.slots s) me (Inside 2 3) st.1 refl in
+      let works = h.present.works s open_ (ap (λ (w : Work). w.kind) st.3 ∙ st.4) in
+      ap (λ (w : Work). has w.active me) (sym st.3) ∙ (works.first me ∙ eq-eqb me u.first r.0)
+
   module _ (job : Work) (a l : ℕ) (t : Turn) (is : seat me ≡ In s job a l t) where
     st : Stands p.now me (In s job a l t)
     st = subst (Stands p.now me) is (h.present.stands me)

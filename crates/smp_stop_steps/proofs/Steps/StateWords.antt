@@ -95,7 +95,7 @@ module _ (u : Setup) (p : StopState) (at : Word → ℕ) (seat : ℕ → Seat) (
   round_after w (round.StoreChange made) x = let change : Change = change_at c.changes made in label_after at h change.0 change.1
   round_after w (round.Acknowledge answer ran) x = λ s. h s
   round_after w (round.Refill ran) x = λ s. h s
-  round_after w (round.Raise ran) x = λ s. either (s == w.slot) (w.acked + 1) (at (Slot s field.State)) (raised_small w x) (h s)
+  round_after w (round.Raise ran) x = λ s. either (s == w.slot) (w.acked + 1) (at (Slot s field.State)) (raised_small w (x.0, x.1, x.2)) (h s)
 
   pub phases_after : (st : StopStage) → SitsAt u me c (Some st) (seat me) → ArePhases (at_after at (stop_access u.cpus me c.changes st))
   phases_after TakeGate x = gate_after at h (at Gate == 0) (me + 1)

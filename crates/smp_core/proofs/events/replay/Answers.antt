@@ -1,6 +1,9 @@
 use Rattle.std.proofs.Common.{arith}
-use Rattle.smp_core.proofs.Replays.{GoesOn-all, ends_refused, goes_on}
+use Rattle.smp_core.proofs.Replays.{GoesOn-all, IsToldBy, ends_refused, goes_on}
+use Rattle.smp_stop_steps.specs.State.{StopState}
+use Rattle.smp_stop_steps.specs.Value.{StopShown}
 use Rattle.smp_core.proofs.events.replay.Goals as goal
+use Rattle.smp_core.proofs.events.replay.Given as given
 
 pub loop-position-preserved : goal.loop-position-preserved
 loop-position-preserved g c =
@@ -9,18 +12,33 @@ loop-position-preserved g c =
     let pushed = c.in_ok-note_step-in-Ok.ensures.ok in
     let told = c.in-Ok.ensures.told in
     let stops = c.in-Ok.ensures.stops in
+    let notes = c.in-Ok.ensures.stop_notes in
     goes_on c.args.core c.loop-position.core c.turn.new.self c.args.events.now c.loop-position.position c.index-events-position.result
     c.loop-position.seen.items c.note_step.new.seen.items c.in-Ok.step
-    (omega arith) c.index-events-position.is answer core pushed told stops c.loop-position.invariant
+    (omega arith) c.index-events-position.is answer core pushed told stops notes c.loop-position.invariant
 
-pub returns-in-Err-clause-stops : goal.returns-in-Err-clause-stops
-returns-in-Err-clause-stops g c =
+refused : (g : given.Over) (c : goal.In-Err g) → (p : StopState) → StopShown p c.args.core.stops →
+    IsToldBy c.args.core c.turn.new.self c.args.events.now c.loop-position.seen.items p
+refused g c =
     let answer = c.in-Err.ensures.answer in
     let same = c.in-Err.ensures.err in
     ends_refused c.args.core c.loop-position.core c.turn.new.self c.args.events.now c.loop-position.position c.index-events-position.result
     c.loop-position.seen.items c.in-Err.error
     (omega arith) c.index-events-position.is answer same c.loop-position.invariant
 
-pub returns-clause-stops : goal.returns-clause-stops
-returns-clause-stops g c = GoesOn-all c.args.core c.loop-position.core c.args.events.now c.loop-position.position c.loop-position.seen.items
+pub returns-in-Err-clause-stops : goal.returns-in-Err-clause-stops
+returns-in-Err-clause-stops g c p shown = (refused g c p shown).0
+
+pub returns-in-Err-clause-stop_notes : goal.returns-in-Err-clause-stop_notes
+returns-in-Err-clause-stop_notes g c p shown = (refused g c p shown).1
+
+all : (g : given.Over) (c : goal.After-loop-position g) → (p : StopState) → StopShown p c.args.core.stops →
+    IsToldBy c.args.core c.loop-position.core c.args.events.now c.loop-position.seen.items p
+all g c = GoesOn-all c.args.core c.loop-position.core c.args.events.now c.loop-position.position c.loop-position.seen.items
     (omega arith) c.loop-position.invariant
+
+pub returns-clause-stops : goal.returns-clause-stops
+returns-clause-stops g c p shown = (all g c p shown).0
+
+pub returns-clause-stop_notes : goal.returns-clause-stop_notes
+returns-clause-stop_notes g c p shown = (all g c p shown).1

@@ -1,0 +1,560 @@
+-- What the note of each step of a CPU's command says of the state.
+use Rattle.std.proofs.Common.{◌≡◌, ◌≢◌, ℕ, ◌+◌, Bool, true, false, eq-eqb, eqb-true, ◌==◌, ◌&&◌, not, cond, ◌⊎◌, inl, inr, Option, Some, None, [], ◌∷◌}
+use Rattle.std.proofs.Common.{◌++◌, ⊎_elim, sym, subst, refl, ap, ◌∙◌, arith}
+use Rattle.smp_mask.specs.Mask.{has}
+use Rattle.smp_labels.specs.Keys.{change_of, count_after, is_on}
+use Rattle.smp_labels.specs.Kinds.{xor}
+use Rattle.smp_labels.specs.declared.keys.Change.{Change as KeyChange}
+use Rattle.smp_labels.specs.declared.patch.Place.TheVariants as place
+use Rattle.smp_words.specs.Access.{word_of, seen_of}
+use Rattle.smp_words.specs.Put.{put}
+use Rattle.smp_words.specs.declared.field.Field.{Field}
+use Rattle.smp_words.specs.declared.field.Field.TheVariants as field
+use Rattle.smp_words.specs.declared.seen.Act.TheVariants as act
+use Rattle.smp_words.specs.declared.seen.Note.{Note}
+use Rattle.smp_words.specs.declared.seen.Note.TheVariants as note
+use Rattle.smp_words.specs.declared.work.Kind.TheVariants.{Patch}
+use Rattle.smp_words.specs.declared.work.Work.{Work}
+use Rattle.smp_words.specs.declared.word.Word.{Word}
+use Rattle.smp_words.specs.declared.word.Word.TheVariants.{Gate, Slot, Key, Site}
+use Rattle.smp_stop_steps.specs.Carries.{CarriesIn}
+use Rattle.smp_stop_steps.specs.Counts.{mask_weight}
+use Rattle.smp_stop_steps.specs.Labels.{Change, ReadKey, ReadSite, patch_answer}
+use Rattle.smp_stop_steps.specs.Notes.{HasRead, NoteFits, heard_of}
+use Rattle.smp_stop_steps.specs.Seats.{Seat, In, Gives, Alters, Closes, Rests, Sets, Stands, irq_of}
+use Rattle.smp_stop_steps.specs.Shows.{StopShows, gate_word}
+use Rattle.smp_stop_steps.specs.Sits.{HasRun, HoldsGate, IsLoaded, IsNudge, IsThroughAll, RunsIf, Sits, SitsAt, SourceSits}
+use Rattle.smp_stop_steps.specs.Slots.{DoneShows, begun_value, order}
+use Rattle.smp_stop_steps.specs.Sources.{Source, Drafts, Owns, DraftShows, OwnerShows, SourceShows}
+use Rattle.smp_stop_steps.specs.Stages.{StopControlValue, answer_at, begun_next, change_at, key_on, looked_on, nudge_of, nudge_on}
+use Rattle.smp_stop_steps.specs.Stages.{stop_ends, stop_goes, store_of, visit_acked}
+use Rattle.smp_stop_steps.specs.State.{Setup, Present, StopState, StopCall, Calls}
+use Rattle.smp_stop_steps.specs.Steps.{FunctionGoes, Told, note_then, state_after}
+use Rattle.smp_stop_steps.specs.Stop.{Standing, Stop, Inside, Ended, acknowledged, ended, opened, closed, raised, stands as stands_at}
+use Rattle.smp_stop_steps.specs.Tells.{acknowledges, completes, completes_with, calls_now, enters, first_readings, gate_told}
+use Rattle.smp_stop_steps.specs.Tells.{is_at_run, is_multi, is_patch, key_loaded, key_told, leaves, looked_by, looks, looks_now, may_call, patch_begun}
+use Rattle.smp_stop_steps.specs.Tells.{plan_at, reads, stored_open, stored_shut, tells, unpatched, with_stop}
+use Rattle.smp_stop_steps.specs.declared.stage.CompletionStage.TheVariants as completion
+use Rattle.smp_stop_steps.specs.declared.stage.RoundStage.TheVariants as round
+use Rattle.smp_stop_steps.specs.declared.stage.StopStage.{StopStage}
+use Rattle.smp_stop_steps.specs.declared.stage.StopStage.TheVariants.{TakeGate, OpenGate, Begin, Enter, EnterKind, EnterMask, EnterActive, Advance}
+use Rattle.smp_stop_steps.specs.declared.stage.StopStage.TheVariants.{Complete, Close, LoadDone, LoadResult, ReadKey as ReadsKey, ReadSite as ReadsSite}
+use Rattle.smp_stop_steps.specs.declared.stage.StopStage.TheVariants.{NudgeKey, ExchangeKey}
+use Rattle.smp_stop_steps.specs.declared.stage.Visit.{Visit}
+use Rattle.smp_stop_steps.proofs.Basics.Counts.{put_here, put_own}
+use Rattle.smp_stop_steps.proofs.State.Gates.{gate_free, gate_mine}
+use Rattle.smp_stop_steps.proofs.State.Phases.{is_open_inside}
+use Rattle.smp_stop_steps.proofs.Steps.CallSteps.{call_step}
+use Rattle.smp_stop_steps.proofs.Steps.Facts.{patcher_active}
+use Rattle.smp_stop_steps.proofs.Steps.Patching.{not_run}
+
+-- steps after which nothing is heard
+either_heard : (p q : StopState) (b : Bool) → heard_of q ≡ heard_of p → heard_of (cond b q p) ≡ heard_of p
+either_heard p q true e = e
+either_heard p q false e = refl
+
+ack_heard : (p : StopState) (me s n : ℕ) (b : Bool) → heard_of (cond b (stored_open p me s field.Ack n) (stored_shut p s field.Ack n)) ≡ heard_of p
+ack_heard p me s n true = refl
+ack_heard p me s n false = refl
+
+result_heard : (p : StopState) (me s n : ℕ) (b : Bool) → heard_of (cond b (stored_open p me s field.Result n) (stored_shut p s field.Result n)) ≡ heard_of p
+result_heard p me s n true = refl
+result_heard p me s n false = refl
+
+patch_heard : (u : Setup) (p : StopState) (at : Word → ℕ) (me : ℕ) (x : Change) →
+    heard_of (tells u p (seen_of me (store_of x) (at (word_of (store_of x))) None) 0) ≡ heard_of p
+patch_heard u p at me (place.Key k, n) = refl
+patch_heard u p at me (place.Site i, n) = refl
+
+-- who says that it runs a function has called it
+run_called : (p q : StopState) (me func arg answer : ℕ) → FunctionGoes p q me (Some (note.Run func arg)) answer →
+    (call : StopCall) × (q.calling me ≡ Calls call) × (call.func ≡ func) × (call.arg ≡ arg)
+run_called p q me func arg answer (inl x) = let bad : true ≡ false = x.says in cc
+run_called p q me func arg answer (inr (inl x)) =
+    let same : Some (note.Run func arg) ≡ Some (note.Run x.call.func x.call.arg) = x.says in
+    let funcs : x.call.func ≡ func = cc in
+    let args : x.call.arg ≡ arg = cc in
+    (x.call, ap (λ (y : Told). y.calling me) x.calls ∙ put_here p.calling me (Calls x.call), funcs, args)
+run_called p q me func arg answer (inr (inr (inl x))) = let bad : true ≡ false = x.says in cc
+run_called p q me func arg answer (inr (inr (inr x))) = let bad : true ≡ false = x.says in cc
+
+module _ (u : Setup) (p : StopState) (at : Word → ℕ) (seat : ℕ → Seat) (source : ℕ → Source) (h : StopShows u p at seat source) (c : StopControlValue) (me : ℕ)
+    (s : Sits u me (at Gate) c (seat me) (source me)) (k : CarriesIn c (p.calling me)) where
+  abbrev Fits : StopStage → Type 0
+  Fits stage = NoteFits p (state_after u p at c me stage) me (note_then u at c me stage)
+
+  seat_at : (stage : StopStage) → c.stage ≡ Some stage → SitsAt u me c (Some stage) (seat me)
+  seat_at stage e = subst (λ (x : Option StopStage). SitsAt u me c x (seat me)) e s.seat
+
+  source_at : (stage : StopStage) → c.stage ≡ Some stage → SourceSits c.is_open (Some stage) (source me)
+  source_at stage e = subst (λ (x : Option StopStage). SourceSits c.is_open x (source me)) e s.source
+
+  stands : (x : Seat) → seat me ≡ x → Stands p.now me x
+  stands x e = subst (Stands p.now me) e (h.present.stands me)
+
+  source_is : (y : Source) → source me ≡ y → SourceShows u p.gate (p.now.stop me) (λ f. at (Slot me f)) me y
+  source_is y e = subst (SourceShows u p.gate (p.now.stop me) (λ f. at (Slot me f)) me) e (h.sources me)
+
+  goes : (stage : StopStage) → c.stage ≡ Some stage → FunctionGoes p (state_after u p at c me stage) me (note_then u at c me stage) (answer_at stage)
+  goes stage e = (call_step u p at seat source h c me s k stage e).goes
+
+  gated : Fits TakeGate
+  gated = go (at Gate == 0) refl
+    where
+      go : (b : Bool) → (at Gate == 0) ≡ b → NoteFits p (gate_told p me act.Cas (cond b (Some (me + 1)) None)) me (Some (cond b note.Gate note.Taken))
+      go true e = (gate_free p.gate (sym h.gate ∙ eqb-true (at Gate) 0 e), refl)
+      go false e = (
+        λ none. let bad : true ≡ false = sym (eq-eqb (at Gate) 0 (h.gate ∙ ap gate_word none)) ∙ e in cc,
+        refl,
+      )
+
+  begun : (work : Work) (f : Field) → c.stage ≡ Some (Begin work f) → Fits (Begin work f)
+  begun work f e =
+      let d : DraftShows u p.gate (p.now.stop me) (λ f. at (Slot me f)) me work (order f) = source_is (Drafts work (order f)) (source_at (Begin work f) e).1 in
+      subst (λ b. NoteFits p (cond b (stored_open p me me f (begun_value u.cpus work f)) (stored_shut p me f (begun_value u.cpus work f))) me
+      (begun_next c work f).note) (sym d.shut) (go d.shut f)
+    where
+      here : put p.now.stop me (opened (p.now.stop me) (p.now.stop me).work) me ≡ opened (p.now.stop me) (p.now.stop me).work
+      here = put_here p.now.stop me (opened (p.now.stop me) (p.now.stop me).work)
+
+      go : (p.now.stop me).is_open ≡ false → (f : Field) → NoteFits p (stored_shut p me f (begun_value u.cpus work f)) me (begun_next c work f).note
+      go shut field.Kind = inl refl
+      go shut field.Mask = inl refl
+      go shut field.Active = inl refl
+      go shut field.Func = inl refl
+      go shut field.Arg = inl refl
+      go shut field.Result = inl refl
+      go shut field.Todo = inl refl
+      go shut field.Done = inl refl
+      go shut field.Ack = inl refl
+      go shut field.State = inl refl
+      go shut field.Roll = record {
+        shut = shut;
+        is_open = ap (λ (x : Stop). x.is_open) here;
+        begun = ap (λ (w : Work). record (heard_of p) { begun = put p.begun me (p.begun me ++ w ∷ []) }) (sym (ap (λ (x : Stop). x.work) here));
+      }
+
+  entering : (slot : ℕ) → c.stage ≡ Some (Enter slot) → Fits (Enter slot)
+  entering slot e = go (has (at (Slot slot field.Roll)) me)
+    where
+      free : p.now.inside me ≡ None
+      free = let x = seat_at (Enter slot) e in subst (Stands p.now me) x.1 (h.present.stands me)
+
+      go : (b : Bool) → NoteFits p (cond b (record p { now = enters p.now me slot }) p) me
+          (cond b (stop_goes c (EnterKind slot)) (stop_ends c note.Stale)).note
+      go true = inl refl
+      go false = (free, refl)
+
+  module _ (v : Visit) where
+    looked : (answer : ℕ) → c.stage ≡ Some (Advance v (round.Look answer)) → Fits (Advance v (round.Look answer))
+    looked answer e = let x = (seat_at (Advance v (round.Look answer)) e).1.2 in go x.0 x.2 (found == v.acked) (found == 2) refl refl
+      where
+        found : ℕ
+        found = at (Slot v.slot field.State)
+
+        after : Bool → StopState
+        after d = record (looks p me v.slot found) { now = record (looks_now p.now me v.slot found) { irq = cond d (put p.now.irq me false) p.now.irq } }
+
+        go : (work : Work) → seat me ≡ In v.slot work v.acked v.acked Rests → (b d : Bool) → (found == v.acked) ≡ b → (found == 2) ≡ d →
+            NoteFits p (after d) me (cond b (stop_ends c note.Same) (looked_on me c v answer found)).note
+        go work is false true e two = inr (inl refl)
+        go work is false false e two = inl refl
+        go work is true d e two = (
+          (v.acked, record { slot = v.slot; inside = st.0; stands = stood }),
+          quiet d two,
+        )
+          where
+            same : found ≡ v.acked
+            same = eqb-true found v.acked e
+
+            st : Stands p.now me (In v.slot work v.acked v.acked Rests)
+            st = stands (In v.slot work v.acked v.acked Rests) is
+
+            next : Stop
+            next = stands_at (p.now.stop v.slot) me (looked_by ((p.now.stop v.slot).standing me) found)
+
+            stood : (put p.now.stop v.slot next v.slot).standing me ≡ Inside v.acked v.acked
+            stood = ap (λ (x : Stop). x.standing me) (put_here p.now.stop v.slot next) ∙
+                (put_here (p.now.stop v.slot).standing me (looked_by ((p.now.stop v.slot).standing me) found) ∙
+                (ap (λ x. looked_by x found) st.1 ∙ ap (Inside v.acked) same))
+
+            quiet : (d : Bool) → (found == 2) ≡ d → heard_of (after d) ≡ heard_of p
+            quiet false two = refl
+            quiet true two =
+                let is_two : v.acked ≡ 2 = sym same ∙ eqb-true found 2 two in
+                let off : p.now.irq me ≡ false = h.present.irq me ∙ (ap irq_of is ∙ ap (λ n. irq_of (In v.slot work n n Rests)) is_two) in
+                ap (λ f. record (heard_of p) { irq = f }) (put_own p.now.irq me false off)
+
+    arg_heard : (slot answer : ℕ) → heard_of (cond (may_call me (p.now.stop slot).work ((p.now.stop slot).standing me))
+        (calls_now p me (p.now.stop slot).work (at (Slot slot field.Arg)) answer) p) ≡ heard_of p
+    arg_heard slot answer = either_heard p (calls_now p me (p.now.stop slot).work (at (Slot slot field.Arg)) answer)
+        (may_call me (p.now.stop slot).work ((p.now.stop slot).standing me)) refl
+
+    arg : (answer func : ℕ) → c.stage ≡ Some (Advance v (round.LoadArg answer func)) → Fits (Advance v (round.LoadArg answer func))
+    arg answer func e = go (is_multi v.kind) refl
+      where
+        stage : StopStage
+        stage = Advance v (round.LoadArg answer func)
+
+        found : ℕ
+        found = at (Slot v.slot field.Arg)
+
+        said : Bool → Option Note
+        said b = (cond b (record { control = record c { stage = Some (Advance v (round.Acknowledge answer true)) }; note = Some (note.Run func found) })
+            (stop_goes c (Advance v (round.LoadKey func (change_of found))))).note
+
+        go : (b : Bool) → is_multi v.kind ≡ b → NoteFits p (state_after u p at c me stage) me (said b)
+        go true is = (
+          run_called p (state_after u p at c me stage) me func found answer
+              (subst (λ b. FunctionGoes p (state_after u p at c me stage) me (said b) answer) is (goes stage e)),
+          arg_heard v.slot answer,
+        )
+        go false is = inl (arg_heard v.slot answer)
+
+    load_key : (key : ℕ) (change : KeyChange) → c.stage ≡ Some (Advance v (round.LoadKey key change)) → Fits (Advance v (round.LoadKey key change))
+    load_key key change e =
+        subst (NoteFits p (state_after u p at c me (Advance v (round.LoadKey key change))) me) (sym (none (count_after change found))) (inl unheard)
+      where
+        found : ℕ
+        found = at (Key key)
+
+        none : (o : Option ℕ) → (key_on c v key found o).note ≡ None
+        none None = refl
+        none (Some new) = elim (found == new) as (λ b. (cond b (stop_goes (record c { changes = [] }) (Advance v (round.Acknowledge 0 true)))
+            (stop_goes (record c { changes = (place.Key key, new) ∷ [] }) (Advance v (cond (xor (is_on found) (is_on new))
+            (round.LoadEntry key new 0) (round.StoreChange 0))))).note ≡ None) [ true ↦ refl | false ↦ refl ]
+
+        patch : (b : Bool) → b ≡ true → heard_of (record p {
+          now = cond b (record (p.now) { patching = patch_begun u me (p.now.stop v.slot).work found }) (reads p.now me (ReadKey key (is_on found)));
+        }) ≡ heard_of p
+        patch true is = refl
+        patch false is = cc
+
+        unheard : heard_of (record p { now = key_loaded u p.now me key found (p.now.inside me) }) ≡ heard_of p
+        unheard =
+            let x = (seat_at (Advance v (round.LoadKey key change)) e).1 in
+            let run = x.1.1 in
+            let st : Stands p.now me (In v.slot x.1.0 2 3 Rests) = stands (In v.slot x.1.0 2 3 Rests) run.3 in
+            let kind : (p.now.stop v.slot).work.kind ≡ Patch = ap (λ (w : Work). w.kind) st.3 ∙ (sym run.0.kind ∙ x.0) in
+            ap (λ y. heard_of (record p { now = key_loaded u p.now me key found y })) st.0 ∙
+            patch (is_at_run ((p.now.stop v.slot).standing me) && is_patch (p.now.stop v.slot).work.kind)
+            (ap (λ y. is_at_run y && is_patch (p.now.stop v.slot).work.kind) st.1 ∙ ap is_patch kind)
+
+    -- the acknowledgement of a phase
+    module _ (answer : ℕ) (ran : Bool) where
+      abbrev phase : ℕ
+      phase = v.acked + 1
+
+      abbrev acked_stop : Stop
+      acked_stop = acknowledged (p.now.stop v.slot) me phase (at (Slot v.slot field.Ack))
+
+      acked_here : put p.now.stop v.slot acked_stop v.slot ≡ acked_stop
+      acked_here = put_here p.now.stop v.slot acked_stop
+
+      acked_stands : (put p.now.stop v.slot acked_stop v.slot).standing me ≡ Inside phase phase
+      acked_stands = ap (λ (x : Stop). x.standing me) acked_here ∙ put_here (p.now.stop v.slot).standing me (Inside phase phase)
+
+      abbrev acked_control : StopControlValue
+      acked_control = record c { visit = Some (visit_acked v answer ran) }
+
+      abbrev acked_now : Present
+      acked_now = record (p.now) { stop = put p.now.stop v.slot acked_stop; patching = cond (phase == 3) (unpatched me p.now.patching) p.now.patching }
+
+      -- after it, where the CPU leaves the stop or not
+      abbrev acked_after : Bool → StopState
+      acked_after b = record (acknowledges p me v.slot (Inside v.acked phase) (at (Slot v.slot field.Ack))) {
+        now = cond b (leaves acked_now me v.slot (p.now.stop v.slot).work) acked_now;
+      }
+
+      module _ (in_ : p.now.inside me ≡ Some v.slot) (st : (p.now.stop v.slot).standing me ≡ Inside v.acked phase) (off : (p.now.irq me ≡ false) ⊎ (phase ≢ 4))
+          (run : HasRun me (visit_acked v answer ran) ran) (active : v.active ≡ (p.now.stop v.slot).work.active) where
+        acked_turn : (r : Bool) → ran ≡ r → phase ≢ 4 → NoteFits p (acked_after false) me (Some (cond r note.Ran (note.Moved phase)))
+        acked_turn true r ne = (
+          record {
+            acked = record { slot = v.slot; inside = in_; stands = acked_stands ∙ ap (λ n. Inside n n) (run.at_run r) };
+            active_is = λ three. ap (λ (x : Stop). has x.work.active me) acked_here ∙ (ap (λ m. has m me) (sym active) ∙ (run.active (run.at_run r) ∙ r));
+          },
+          refl,
+        )
+        acked_turn false r ne = (
+          record {
+            acked = record { slot = v.slot; inside = in_; stands = acked_stands };
+            active_is = λ three. ap (λ (x : Stop). has x.work.active me) acked_here ∙ (ap (λ m. has m me) (sym active) ∙ (run.active three ∙ r));
+          },
+          ne,
+          refl,
+        )
+
+        acked_fits : (b d : Bool) → (at (Slot v.slot field.Ack) == 1) ≡ b → (phase == 4) ≡ d → NoteFits p (acked_after (d && not b)) me
+            (cond b (stop_goes acked_control (Advance (visit_acked v answer ran) (round.Refill ran)))
+            (stop_ends (record acked_control { interrupts = cond d true c.interrupts }) (cond d note.Left (cond ran note.Ran (note.Moved phase))))).note
+        acked_fits true true one four = inl refl
+        acked_fits true false one four = inl refl
+        acked_fits false true one four =
+            let is_four : phase ≡ 4 = eqb-true phase 4 four in
+            record {
+              acked = record { slot = v.slot; inside = in_; stands = acked_stands ∙ ap (λ n. Inside n n) is_four };
+              off = ⊎_elim (λ (o : p.now.irq me ≡ false). o) (λ (ne : phase ≢ 4). absurd (ne is_four)) off;
+              on = ap (λ (w : Work). record (heard_of p) {
+                irq = put p.now.irq me true;
+                readings = put p.now.readings me (first_readings me v.slot w);
+              }) (sym (ap (λ (x : Stop). x.work) acked_here));
+            }
+        acked_fits false false one four =
+            acked_turn ran refl (λ is_four. let bad : true ≡ false = sym (eq-eqb phase 4 is_four) ∙ four in cc)
+
+        ack_fits : Fits (Advance v (round.Acknowledge answer ran))
+        ack_fits = subst (λ (y : Standing). NoteFits p (acknowledges p me v.slot y (at (Slot v.slot field.Ack))) me
+            (note_then u at c me (Advance v (round.Acknowledge answer ran)))) (sym st) (acked_fits (at (Slot v.slot field.Ack) == 1) (phase == 4) refl refl)
+
+      run_of : (b : Bool) → RunsIf me v b → HasRun me (visit_acked v answer b) b
+      run_of true runs = record { at_run = λ _. ap (λ n. n + 1) runs.0; active = λ _. runs.2 }
+      run_of false runs = record { at_run = λ bad. cc; active = λ three. runs (omega arith) }
+
+      acknowledge : c.stage ≡ Some (Advance v (round.Acknowledge answer ran)) → Fits (Advance v (round.Acknowledge answer ran))
+      acknowledge e = let x = (seat_at (Advance v (round.Acknowledge answer ran)) e).1 in either x.0 x.1 x.3
+        where
+          either : (work : Work) → IsLoaded v work →
+              (((seat me ≡ In v.slot work v.acked (v.acked + 1) Rests) × RunsIf me v ran) ⊎ ((v.acked ≡ 2) × (ran ≡ true) ×
+              ((count : ℕ) × (answer ≡ patch_answer work count) × (seat me ≡ Alters v.slot work count (plan_at u work count) [])))) →
+              Fits (Advance v (round.Acknowledge answer ran))
+          either work loaded (inl (is, runs)) =
+              let st = stands (In v.slot work v.acked (v.acked + 1) Rests) is in
+              ack_fits st.0 st.1 (off (v.acked == 3) refl) (run_of ran runs) (loaded.active ∙ ap (λ (w : Work). w.active) (sym st.3))
+            where
+              off : (b : Bool) → (v.acked == 3) ≡ b → (p.now.irq me ≡ false) ⊎ (phase ≢ 4)
+              off true three = inl (h.present.irq me ∙ (ap irq_of is ∙ ap (λ n. irq_of (In v.slot work n (n + 1) Rests)) (eqb-true v.acked 3 three)))
+              off false three = inr (λ is_four. let bad : true ≡ false = sym (eq-eqb v.acked 3 (omega arith)) ∙ three in cc)
+          either work loaded (inr (two, runs, (n, answers, is))) =
+              let st = stands (Alters v.slot work n (plan_at u work n) []) is in
+              let active : has v.active me ≡ true = ap (λ m. has m me) loaded.active ∙ patcher_active u p at seat source h v.slot me work n (plan_at u work n) []
+              is in
+              ack_fits st.0 (st.1 ∙ ap (λ n. Inside n (n + 1)) (sym two)) (inl (h.present.irq me ∙ ap irq_of is))
+              (record { at_run = λ _. ap (λ n. n + 1) two; active = λ _. active ∙ sym runs }) (loaded.active ∙ ap (λ (w : Work). w.active) (sym st.3))
+
+    -- who sets the phase after EXIT leaves with it
+    module _ (ran : Bool) where
+      abbrev raised_stop : Stop
+      raised_stop = raised (p.now.stop v.slot) (v.acked + 1)
+
+      raised_here : put p.now.stop v.slot raised_stop v.slot ≡ raised_stop
+      raised_here = put_here p.now.stop v.slot raised_stop
+
+      abbrev raised_after : Bool → StopState
+      raised_after b = record p {
+        now = cond b (leaves (with_stop p.now v.slot raised_stop) me v.slot (p.now.stop v.slot).work) (with_stop p.now v.slot raised_stop);
+      }
+
+      module _ (work : Work) (loaded : IsLoaded v work) (is : seat me ≡ In v.slot work v.acked v.acked Sets) (run : HasRun me v ran)
+          (in_ : p.now.inside me ≡ Some v.slot) (st : (p.now.stop v.slot).standing me ≡ Inside v.acked v.acked) (same : (p.now.stop v.slot).work ≡ work) where
+        raised_stands : (put p.now.stop v.slot raised_stop v.slot).standing me ≡ Inside v.acked v.acked
+        raised_stands = ap (λ (x : Stop). x.standing me) raised_here ∙ st
+
+        raised_active : has (put p.now.stop v.slot raised_stop v.slot).work.active me ≡ has v.active me
+        raised_active = ap (λ (x : Stop). has x.work.active me) raised_here ∙ (ap (λ (w : Work). has w.active me) same ∙ ap (λ m. has m me) (sym loaded.active))
+
+        raised_turn : (r : Bool) → ran ≡ r → v.acked ≢ 4 → NoteFits p (raised_after false) me (Some (cond r note.Ran (note.Moved v.acked)))
+        raised_turn true r ne = (
+          record {
+            acked = record { slot = v.slot; inside = in_; stands = raised_stands ∙ ap (λ n. Inside n n) (run.at_run r) };
+            active_is = λ three. raised_active ∙ (run.active (run.at_run r) ∙ r);
+          },
+          refl,
+        )
+        raised_turn false r ne = (
+          record {
+            acked = record { slot = v.slot; inside = in_; stands = raised_stands };
+            active_is = λ three. raised_active ∙ (run.active three ∙ r);
+          },
+          ne,
+          refl,
+        )
+
+        raised_fits : (d f : Bool) → (v.acked == 4) ≡ d → (v.acked + 1 == 5) ≡ f → NoteFits p (raised_after f) me
+            (Some (cond d note.Left (cond ran note.Ran (note.Moved v.acked))))
+        raised_fits true true four five =
+            let is_four : v.acked ≡ 4 = eqb-true v.acked 4 four in
+            record {
+              acked = record { slot = v.slot; inside = in_; stands = raised_stands ∙ ap (λ n. Inside n n) is_four };
+              off = h.present.irq me ∙ (ap irq_of is ∙ ap (λ n. irq_of (In v.slot work n n Sets)) is_four);
+              on = ap (λ (w : Work). record (heard_of p) {
+                irq = put p.now.irq me true;
+                readings = put p.now.readings me (first_readings me v.slot w);
+              }) (sym (ap (λ (x : Stop). x.work) raised_here));
+            }
+        raised_fits true false four five =
+            let is_four : v.acked ≡ 4 = eqb-true v.acked 4 four in let bad : true ≡ false = sym (eq-eqb (v.acked + 1) 5 (omega arith)) ∙ five in cc
+        raised_fits false true four five =
+            let is_five : v.acked + 1 ≡ 5 = eqb-true (v.acked + 1) 5 five in let bad : true ≡ false = sym (eq-eqb v.acked 4 (omega arith)) ∙ four in cc
+        raised_fits false false four five =
+            raised_turn ran refl (λ is_four. let bad : true ≡ false = sym (eq-eqb v.acked 4 is_four) ∙ four in cc)
+
+      raise : c.stage ≡ Some (Advance v (round.Raise ran)) → Fits (Advance v (round.Raise ran))
+      raise e =
+          let x = (seat_at (Advance v (round.Raise ran)) e).1 in
+          let st = stands (In v.slot x.0 v.acked v.acked Sets) x.2 in
+          let op = is_open_inside u.cpus (p.now.stop v.slot) (λ f. at (Slot v.slot f)) (h.present.slots v.slot) me (Inside v.acked v.acked) st.1 refl in
+          subst (λ b. NoteFits p (cond b (stored_open p me v.slot field.State (v.acked + 1)) (stored_shut p v.slot field.State (v.acked + 1))) me
+          (note_then u at c me (Advance v (round.Raise ran)))) (sym op)
+          (raised_fits x.0 x.1 x.2 x.3 st.0 st.1 st.3 (v.acked == 4) (v.acked + 1 == 5) refl refl)
+
+    count_down : c.stage ≡ Some (Complete v completion.CountDown) → Fits (Complete v completion.CountDown)
+    count_down e = let x = (seat_at (Complete v completion.CountDown) e).1 in either x.0 x.1
+      where
+        found : ℕ
+        found = at (Slot v.slot field.Todo)
+
+        go : (a x : ℕ) → p.now.inside me ≡ Some v.slot → (b : Bool) → NoteFits p (completes_with p me v.slot a x found) me
+            (cond b (stop_goes (record c { visit = None }) (Close v.slot)) (stop_ends (record c { visit = None }) note.Finished)).note
+        go a x in_ true = inl refl
+        go a x in_ false = record { same = refl; outside = put_here p.now.inside me None; finished = inl (v.slot, in_) }
+
+        either : (work : Work) → (((v.answer ≡ 0) × IsLoaded v work × IsThroughAll v × (seat me ≡ In v.slot work v.acked v.acked Rests)) ⊎
+            (seat me ≡ Gives v.slot work v.acked v.answer)) → Fits (Complete v completion.CountDown)
+        either work (inl (none, loaded, all, is)) =
+            let st = stands (In v.slot work v.acked v.acked Rests) is in
+            subst (λ (y : Standing). NoteFits p (completes p me v.slot y found) me (note_then u at c me (Complete v completion.CountDown))) (sym st.1)
+            (go v.acked 0 st.0 (found == 1))
+        either work (inr is) =
+            let st = stands (Gives v.slot work v.acked v.answer) is in
+            subst (λ (y : Standing). NoteFits p (completes p me v.slot y found) me (note_then u at c me (Complete v completion.CountDown))) (sym st.1)
+            (go v.acked v.answer st.0 (found == 1))
+
+  close : (slot : ℕ) → c.stage ≡ Some (Close slot) → Fits (Close slot)
+  close slot e =
+      let st = stands (Closes slot) (seat_at (Close slot) e).1 in
+      subst (λ b. NoteFits p (cond b (stored_open p me slot field.Done 1) (stored_shut p slot field.Done 1)) me (Some note.Finished)) (sym st.1) (record {
+        same = refl;
+        outside = st.0;
+        finished = inr (slot, st.2, ap (λ (x : Stop). x.ending) (put_here p.now.stop slot (ended (p.now.stop slot))));
+      })
+
+  load_done : c.stage ≡ Some LoadDone → Fits LoadDone
+  load_done e = go (at (Slot me field.Done) == 0) refl
+    where
+      owner : OwnerShows u (p.now.stop me) (source_at LoadDone e).1.0
+      owner = source_is (Owns (source_at LoadDone e).1.0) (source_at LoadDone e).1.1
+
+      not_ended : at (Slot me field.Done) ≡ 0 → (p.now.stop me).ending ≢ Ended
+      not_ended none is =
+          let d : DoneShows u.cpus (p.now.stop me).standing Ended (at (Slot me field.Done)) =
+          subst (λ x. DoneShows u.cpus (p.now.stop me).standing x (at (Slot me field.Done))) is ((h.present.slots me).shows owner.is_open).done in
+          let one : at (Slot me field.Done) ≡ 1 = d.0 in omega (arith, one, none)
+
+      go : (b : Bool) → (at (Slot me field.Done) == 0) ≡ b → NoteFits p p me (cond b (stop_ends c note.Pending) (stop_goes c LoadResult)).note
+      go true none = (owner.is_open, not_ended (eqb-true (at (Slot me field.Done)) 0 none), refl)
+      go false some = inl refl
+
+  -- the load of a key by a CPU with its interrupts on is a reading
+  key_read : (key : ℕ) → c.interrupts ≡ true → HasRead p (record p { now = key_loaded u p.now me key (at (Key key)) (p.now.inside me) }) me
+      (ReadKey key (is_on (at (Key key))))
+  key_read key on = go (p.now.inside me) refl
+    where
+      go : (x : Option ℕ) → p.now.inside me ≡ x → HasRead p (record p { now = key_loaded u p.now me key (at (Key key)) x }) me
+          (ReadKey key (is_on (at (Key key))))
+      go None is = refl
+      go (Some j) is = subst (λ b. HasRead p (record p {
+        now = cond (b && is_patch (p.now.stop j).work.kind) (record (p.now) { patching = patch_begun u me (p.now.stop j).work (at (Key key)) })
+            (reads p.now me (ReadKey key (is_on (at (Key key)))));
+      }) me (ReadKey key (is_on (at (Key key))))) (sym (not_run u p at seat source h me j (h.present.irq me ∙ (sym s.irq ∙ on)) is)) refl
+
+  read_key : (key : ℕ) → c.stage ≡ Some (ReadsKey key) → Fits (ReadsKey key)
+  read_key key e = go (is_on (at (Key key))) refl
+    where
+      after : StopState
+      after = record p { now = key_loaded u p.now me key (at (Key key)) (p.now.inside me) }
+
+      go : (b : Bool) → is_on (at (Key key)) ≡ b → NoteFits p after me (Some (cond b note.On note.Off))
+      go true is = (key, subst (λ b. HasRead p after me (ReadKey key b)) is (key_read key (seat_at (ReadsKey key) e).0))
+      go false is = (key, subst (λ b. HasRead p after me (ReadKey key b)) is (key_read key (seat_at (ReadsKey key) e).0))
+
+  read_site : (site : ℕ) → Fits (ReadsSite site)
+  read_site site = go (is_on (at (Site site)))
+    where
+      go : (b : Bool) → NoteFits p (record p { now = reads p.now me (ReadSite site b) }) me (Some (cond b note.Jmp note.Nop))
+      go true = (site, refl)
+      go false = (site, refl)
+
+  nudge : (key : ℕ) (up : Bool) → c.stage ≡ Some (NudgeKey key up) → Fits (NudgeKey key up)
+  nudge key up e = go (count_after (nudge_of up) found)
+    where
+      found : ℕ
+      found = at (Key key)
+
+      after : StopState
+      after = record p { now = key_loaded u p.now me key found (p.now.inside me) }
+
+      read : HasRead p after me (ReadKey key (is_on found))
+      read = key_read key (seat_at (NudgeKey key up) e).0
+
+      go : (o : Option ℕ) → NoteFits p after me (nudge_on c key found o).note
+      go None = (key, is_on found, read)
+      go (Some new) = elim (xor (is_on found) (is_on new)) as
+          (λ b. NoteFits p after me (cond b (stop_ends c note.Stop) (stop_goes c (ExchangeKey key found new))).note) [
+            | true ↦ (key, is_on found, read)
+            | false ↦ inr (inr (key, is_on found, read))
+          ]
+
+  exchange : (key expected new : ℕ) → c.stage ≡ Some (ExchangeKey key expected new) → Fits (ExchangeKey key expected new)
+  exchange key expected new e = go (found == expected) refl
+    where
+      found : ℕ
+      found = at (Key key)
+
+      one : IsNudge expected new
+      one = (seat_at (ExchangeKey key expected new) e).3
+
+      go : (b : Bool) → (found == expected) ≡ b → NoteFits p (key_told u p me key act.Cas (Some found) (cond b (Some new) None)) me
+          (Some (cond b note.Done note.Lost))
+      go true same = record {
+        key = key;
+        found = found;
+        new = new;
+        moved = refl;
+        one = subst (λ n. (new ≡ n + 1) ⊎ (n ≡ new + 1)) (sym (eqb-true found expected same)) one.one;
+      }
+      go false same = refl
+
+  pub note_fits : (stage : StopStage) → c.stage ≡ Some stage → Fits stage
+  note_fits TakeGate e = gated
+  note_fits OpenGate e = (gate_mine me p.gate (sym h.gate ∙ held), refl)
+    where
+      held : at Gate ≡ me + 1
+      held = subst (HoldsGate me (at Gate)) e s.gate_held
+  note_fits (Begin work f) e = begun work f e
+  note_fits (Enter slot) e = entering slot e
+  note_fits (EnterKind slot) e = inl refl
+  note_fits (EnterMask slot kind) e = inl refl
+  note_fits (EnterActive slot kind mask) e =
+      let x = seat_at (EnterActive slot kind mask) e in
+      let st = stands (In slot x.0 0 0 Rests) x.1 in
+      (record { slot = slot; inside = st.0; stands = st.1 }, refl)
+  note_fits (Advance v (round.Look answer)) e = looked v answer e
+  note_fits (Advance v (round.LoadFunc answer)) e = inl refl
+  note_fits (Advance v (round.LoadArg answer func)) e = arg v answer func e
+  note_fits (Advance v (round.LoadKey key change)) e = load_key v key change e
+  note_fits (Advance v (round.LoadEntry key word site)) e = inl refl
+  note_fits (Advance v (round.StoreChange made)) e = inl (patch_heard u p at me (change_at c.changes made))
+  note_fits (Advance v (round.Acknowledge answer ran)) e = acknowledge v answer ran e
+  note_fits (Advance v (round.Refill ran)) e = inl (ack_heard p me v.slot (mask_weight u.cpus v.mask) (p.now.stop v.slot).is_open)
+  note_fits (Advance v (round.Raise ran)) e = raise v ran e
+  note_fits (Complete v (completion.LoadFunc answer)) e = inl refl
+  note_fits (Complete v (completion.LoadArg answer func)) e = (
+    run_called p (state_after u p at c me (Complete v (completion.LoadArg answer func))) me func (at (Slot v.slot field.Arg)) answer
+        (goes (Complete v (completion.LoadArg answer func)) e),
+    arg_heard v v.slot answer,
+  )
+  note_fits (Complete v completion.StoreAnswer) e = inl (result_heard p me v.slot v.answer (p.now.stop v.slot).is_open)
+  note_fits (Complete v completion.CountDown) e = count_down v e
+  note_fits (Close slot) e = close slot e
+  note_fits LoadDone e = load_done e
+  note_fits LoadResult e = record {
+    found = at (Slot me field.Result);
+    collected = refl;
+    shut = ap (λ (x : Stop). x.is_open) (put_here p.now.stop me (closed (p.now.stop me)));
+    as_i32 = refl;
+  }
+  note_fits (ReadsKey key) e = read_key key e
+  note_fits (ReadsSite site) e = read_site site
+  note_fits (NudgeKey key up) e = nudge key up e
+  note_fits (ExchangeKey key expected new) e = exchange key expected new e
