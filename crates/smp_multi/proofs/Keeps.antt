@@ -10,7 +10,7 @@ use Rattle.atomic_table.proofs.Lists.{at_set}
 use Rattle.smp_words.specs.Access.{word_of, at_after, seen_of, one_less, put_if}
 use Rattle.smp_words.specs.Put.{put, put_word}
 use Rattle.smp_words.specs.Size.{cpus}
-use Rattle.smp_words.proofs.Puts.{at_test}
+use Rattle.smp_words.proofs.Puts.{at_test, put_same, put_other}
 use Rattle.smp_stop_steps.specs.Known.{Sees, GoesOn, fresh, setup_in, Lives}
 use Rattle.smp_stop_steps.specs.KnownAfter.{known_told, known_entering}
 use Rattle.smp_stop_steps.specs.Moves.{Can, entering}
@@ -26,12 +26,6 @@ use Rattle.smp_multi.specs.Rule.{Ruled, SeatKnows, known, after, seat_made}
 use Rattle.smp_multi.specs.Plays.{AfterLoad, AfterStore, AfterExchange, AfterSubtract, AfterMask, loaded, stored, exchanged, subtracted, masked}
 use Rattle.smp_multi.specs.Seat.{IsCpuSeat}
 use Rattle.smp_multi.proofs.Cells.{one_cell, number_here, stored_here}
-
-put_same : {A : Type 0} (f : ℕ → A) (i : ℕ) (v : A) → put f i v i ≡ v
-put_same {A} f i v = at_test i i (λ b. cond b v (f i) ≡ v) (λ _. refl) (λ ne. absurd (ne refl))
-
-put_other : {A : Type 0} (f : ℕ → A) (i : ℕ) (v : A) (j : ℕ) → j ≢ i → put f i v j ≡ f j
-put_other {A} f i v j ne = at_test j i (λ b. cond b v (f j) ≡ f j) (λ e. absurd (ne e)) (λ _. refl)
 
 at_snoc : {A : Type 0} (l : List A) (a b : A) (j : ℕ) → get_elem? (l ++ a ∷ []) j ≡ some b → (get_elem? l j ≡ some b) ⊎ ((j ≡ length l) × (a ≡ b))
 at_snoc [] a b zero e = inr (refl, some-injective a b e)

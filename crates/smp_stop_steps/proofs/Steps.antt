@@ -10,6 +10,7 @@ pub mod Patching
 pub mod Nudging
 pub mod Facts
 -- the steps of the commands, by their stages
+pub mod Stages
 pub mod StageSteps
 pub mod RoundSteps
 pub mod AckSteps

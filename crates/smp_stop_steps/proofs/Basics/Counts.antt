@@ -1,18 +1,11 @@
 -- Sums over CPUs, with one CPU changed.
 use Rattle.std.proofs.Common.{◌≡◌, ◌≢◌, ℕ, suc, zero, ◌+◌, ◌<◌, cond, refl, ap, arith, sym, ◌∙◌}
-use Rattle.std.proofs.lemmas.Bool.{ne_eqb, eq-eqb}
 use mathlib.Core.Logic.{dite}
 use mathlib.Core.Path.{fun_ext}
 use Rattle.smp_words.proofs.Puts.{at_test}
 use native.Mathlib.Decide.{ℕ_discrete}
 use Rattle.smp_words.specs.Put.{put}
 use Rattle.smp_stop_steps.specs.Counts.{sum_below}
-
-pub put_here : {A : Type 0} (f : ℕ → A) (i : ℕ) (v : A) → put f i v i ≡ v
-put_here {A} f i v = ap (λ b. cond b v (f i)) (eq-eqb i i refl)
-
-pub put_else : {A : Type 0} (f : ℕ → A) (i : ℕ) (v : A) (j : ℕ) → j ≢ i → put f i v j ≡ f j
-put_else {A} f i v j other = ap (λ b. cond b v (f j)) (ne_eqb j i other)
 
 -- what is there already
 pub put_own : {A : Type 0} (f : ℕ → A) (i : ℕ) (v : A) → f i ≡ v → put f i v ≡ f

@@ -20,11 +20,11 @@ use Rattle.smp_words.specs.declared.work.Work.{Work}
 use Rattle.smp_words.specs.declared.word.Word.{Word}
 use Rattle.smp_words.specs.declared.word.Word.TheVariants.{Slot}
 use Rattle.smp_stop_steps.proofs.Steps.Completions.{result_stored, todo_subtracted, todo_subtracted_answered, done_stored}
-use Rattle.smp_stop_steps.proofs.Basics.Counts.{put_here, put_else}
 use Rattle.smp_stop_steps.proofs.Steps.Facts.{todo_bounds, todo_bounds_answered}
 use Rattle.smp_stop_steps.proofs.Knows.KnownRounds.{open_at, stands, small}
 use Rattle.smp_stop_steps.proofs.Knows.Parts.{Leaves, first_put, goes_seat}
 use Rattle.smp_stop_steps.proofs.Steps.StageSteps.{less_one}
+use Rattle.smp_words.proofs.Puts.{put_same, put_other}
 
 -- another answer is told as the one before
 answers : (x : ℕ) (f : Calling) → f ≢ Idle → answer_in (with_answer x f) ≡ x
@@ -62,7 +62,7 @@ module _ (p : StopState) (at : Word → ℕ) (seat : ℕ → Seat) (source : ℕ
       let p0 = answering x in
       let h0 = answers_so s w a l x here in
       let called : f ≢ Idle = λ none. runs (sym sees.part_is.calling ∙ ap told_calling none) in
-      let mine : p0.calling v.number ≡ g = put_here p.calling v.number g in
+      let mine : p0.calling v.number ≡ g = put_same p.calling v.number g in
       let calls : IsCalling v.number (Gives s w a x) (p0.calling v.number) = subst (IsCalling v.number (Gives s w a x)) (sym mine)
       (calling_given v.number s w a l x g some through (sym (answers x f called)) (subst (λ y. IsCalling v.number y g) here
       (subst (IsCalling v.number (seat v.number)) mine (h0.callings v.number)))) in
@@ -86,7 +86,7 @@ module _ (p : StopState) (at : Word → ℕ) (seat : ℕ → Seat) (source : ℕ
           nudged = k.nudged;
           patched = k.patched;
         };
-        others = λ c ne. ap (λ y. record (columns_of p c) { calling = told_calling y }) (put_else p.calling v.number g c ne);
+        others = λ c ne. ap (λ y. record (columns_of p c) { calling = told_calling y }) (put_other p.calling v.number g c ne);
       })
 
   completed_leaves : (s : ℕ) (w : Work) (a x found : ℕ) → s < cpus → Leaves v.number p (completes_with p v.number s a x found) (completed_with found s w x
@@ -101,17 +101,17 @@ module _ (p : StopState) (at : Word → ℕ) (seat : ℕ → Seat) (source : ℕ
           holds = k.holds;
           begun = k.begun;
           collected = k.collected;
-          answers = subst (λ f. AreFirst cpus f [] (set v.part.answers s (get_or v.part.answers s [] ++ x ∷ []))) (sym (put_here p.answers v.number mine))
+          answers = subst (λ f. AreFirst cpus f [] (set v.part.answers s (get_or v.part.answers s [] ++ x ∷ []))) (sym (put_same p.answers v.number mine))
               (subst (λ l. AreFirst cpus mine [] (set v.part.answers s (l ++ x ∷ []))) (k.answers.each s low) grown);
           looks = k.looks;
-          calling = ap told_calling (put_here p.calling v.number Idle);
+          calling = ap told_calling (put_same p.calling v.number Idle);
           readings = k.readings;
           nudged = k.nudged;
           patched = k.patched;
         };
         others = λ c ne. ap (λ y. record (columns_of p c) { answers = y; calling = told_calling ((put p.calling v.number Idle) c) })
-            (put_else p.answers v.number mine c ne)
-            ∙ ap (λ y. record (columns_of p c) { calling = told_calling y }) (put_else p.calling v.number Idle c ne);
+            (put_other p.answers v.number mine c ne)
+            ∙ ap (λ y. record (columns_of p c) { calling = told_calling y }) (put_other p.calling v.number Idle c ne);
       }
 
   -- the seat of who has counted itself, and what it knows

@@ -8,7 +8,7 @@ use Rattle.smp_labels.specs.declared.patch.Place.TheVariants as place
 use Rattle.smp_labels.specs.declared.words.TheConstants.{MOST_KEYS}
 use Rattle.smp_words.specs.Access.{word_of, at_after, seen_of, put_if}
 use Rattle.smp_words.specs.Put.{put, put_word}
-use Rattle.smp_words.proofs.Puts.{at_test}
+use Rattle.smp_words.proofs.Puts.{at_test, put_same, put_other}
 use Rattle.smp_stop_steps.specs.KeyCounts.{moves, moved_by}
 use Rattle.smp_stop_steps.specs.Labels.{Change, Patches, Reading, ReadKey, ReadSite, count_set}
 use Rattle.smp_stop_steps.specs.Seats.{Seat, Free, In, Gives, Alters, Closes, Turn, Rests, Fills, Sets, irq_of}
@@ -26,7 +26,6 @@ use Rattle.smp_words.specs.declared.work.Kind.TheVariants.{Patch}
 use Rattle.smp_words.specs.declared.work.Work.{Work}
 use Rattle.smp_words.specs.declared.word.Word.{Word}
 use Rattle.smp_words.specs.declared.word.Word.TheVariants.{Key, Site}
-use Rattle.smp_stop_steps.proofs.Basics.Counts.{put_here, put_else}
 use Rattle.smp_stop_steps.proofs.Knows.KnownRounds.{stands, reads_now}
 use Rattle.smp_stop_steps.proofs.Knows.KnownSources.{still}
 use Rattle.smp_stop_steps.proofs.Knows.Parts.{Leaves, first_put, goes_seat, goes_still}
@@ -50,7 +49,7 @@ counted_first : (f : ℕ → ℕ → Moved) (me k old new : ℕ) (list : List Mo
     AreFirst MOST_KEYS (moved_by f me k old new me) unmoved (counted list k old new)
 counted_first f me k old new list h low =
     let mine = put (f me) k (moves (f me k) old new) in
-    subst (λ g. AreFirst MOST_KEYS g unmoved (counted list k old new)) (sym (put_here f me mine))
+    subst (λ g. AreFirst MOST_KEYS g unmoved (counted list k old new)) (sym (put_same f me mine))
     (subst (λ (m : Moved). AreFirst MOST_KEYS mine unmoved (set list k (moves m old new))) (h.each k low)
     (first_put MOST_KEYS (f me) unmoved list k (moves (f me k) old new) h low))
 
@@ -72,8 +71,8 @@ module _ (p : StopState) (at : Word → ℕ) (seat : ℕ → Seat) (source : ℕ
   reads_leaves r =
       let more = p.now.readings v.number ++ r ∷ [] in
       reads_now p at seat source v h sees (reads p.now v.number r) p.calls (v.part.readings ++ r ∷ [])
-      (put_here p.now.readings v.number more ∙ ap (λ l. l ++ r ∷ []) sees.part_is.readings)
-      (λ c ne. put_else p.now.readings v.number more c ne)
+      (put_same p.now.readings v.number more ∙ ap (λ l. l ++ r ∷ []) sees.part_is.readings)
+      (λ c ne. put_other p.now.readings v.number more c ne)
 
   -- where interrupts are on, a load of a key is a reading
   key_plain : (k found : ℕ) (x : Seat) → v.seat ≡ x → irq_of x ≡ true →
@@ -141,7 +140,7 @@ module _ (p : StopState) (at : Word → ℕ) (seat : ℕ → Seat) (source : ℕ
               nudged = counted_first p.nudged v.number k found new v.part.nudged parts.nudged low;
               patched = parts.patched;
             };
-            others = λ c ne. ap (λ x. record (columns_of p c) { nudged = x }) (put_else p.nudged v.number (put (p.nudged v.number) k
+            others = λ c ne. ap (λ x. record (columns_of p c) { nudged = x }) (put_other p.nudged v.number (put (p.nudged v.number) k
                 (moves (p.nudged v.number k) found new)) c ne);
           })
 
@@ -187,7 +186,7 @@ module _ (p : StopState) (at : Word → ℕ) (seat : ℕ → Seat) (source : ℕ
       patched = counted_first p.patched v.number k count n v.part.patched parts.patched low;
     };
     others = λ c ne.
-        ap (λ x. record (columns_of p c) { readings = now.readings c; patched = x }) (put_else p.patched v.number (put (p.patched v.number) k
+        ap (λ x. record (columns_of p c) { readings = now.readings c; patched = x }) (put_other p.patched v.number (put (p.patched v.number) k
         (moves (p.patched v.number k) count n)) c ne)
         ∙ ap (λ l. record (columns_of p c) { readings = l }) (same c);
   }

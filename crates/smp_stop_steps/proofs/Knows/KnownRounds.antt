@@ -30,13 +30,13 @@ use Rattle.smp_words.specs.declared.word.Word.TheVariants.{Slot}
 use Rattle.smp_stop_steps.proofs.Basics.Bits.{clear_same, clear_other, clear_none}
 use Rattle.smp_stop_steps.proofs.Steps.Completions.{roll_cleared}
 use Rattle.smp_stop_steps.proofs.State.Moves.{IsNoPatch}
-use Rattle.smp_stop_steps.proofs.Basics.Counts.{put_here, put_else}
 use Rattle.smp_stop_steps.proofs.Steps.Facts.{high_none, arg_loaded, ack_bounds, ack_bounds_patched}
 use Rattle.smp_stop_steps.proofs.Knows.KnownSources.{still}
 use Rattle.smp_stop_steps.proofs.Knows.Parts.{Leaves, goes_seat, goes_still}
 use Rattle.smp_stop_steps.proofs.State.Phases.{is_open_inside}
 use Rattle.smp_stop_steps.proofs.Steps.Rounds.{state_loaded, ack_subtracted, ack_subtracted_patched, ack_stored, state_stored}
 use Rattle.smp_stop_steps.proofs.Steps.StageSteps.{less_one}
+use Rattle.smp_words.proofs.Puts.{put_same, put_other}
 
 pub small : (n : ℕ) → n ≤ cpus → n < 2 ^ 64
 small n l = omega arith
@@ -131,36 +131,36 @@ module _ (p : StopState) (at : Word → ℕ) (seat : ℕ → Seat) (source : ℕ
           begun = k.begun;
           collected = k.collected;
           answers = k.answers;
-          looks = put_here p.looks v.number seen ∙ ap (λ x. x ++ found ∷ []) k.looks;
+          looks = put_same p.looks v.number seen ∙ ap (λ x. x ++ found ∷ []) k.looks;
           calling = k.calling;
           readings = k.readings;
           nudged = k.nudged;
           patched = k.patched;
         };
-        others = λ c ne. ap (λ x. record (columns_of p c) { looks = x }) (put_else p.looks v.number seen c ne);
+        others = λ c ne. ap (λ x. record (columns_of p c) { looks = x }) (put_other p.looks v.number seen c ne);
       })
 
   -- the readings of who leaves, or not
 
   left_mine : (b : Bool) (n : Present) (s : ℕ) (w job : Work) → w ≡ job → n.readings ≡ p.now.readings →
       (cond b (leaves n v.number s w) n).readings v.number ≡ (read_since b s job v).readings
-  left_mine true n s w job same e = put_here n.readings v.number (first_readings v.number s w) ∙ ap (first_readings v.number s) same
+  left_mine true n s w job same e = put_same n.readings v.number (first_readings v.number s w) ∙ ap (first_readings v.number s) same
   left_mine false n s w job same e = ap (λ f. f v.number) e ∙ sees.part_is.readings
 
   left_other : (b : Bool) (n : Present) (s : ℕ) (w : Work) → n.readings ≡ p.now.readings → (c : ℕ) → c ≢ v.number →
       (cond b (leaves n v.number s w) n).readings c ≡ p.now.readings c
-  left_other true n s w e c ne = put_else n.readings v.number (first_readings v.number s w) c ne ∙ ap (λ f. f c) e
+  left_other true n s w e c ne = put_other n.readings v.number (first_readings v.number s w) c ne ∙ ap (λ f. f c) e
   left_other false n s w e c ne = ap (λ f. f c) e
 
   -- the function of who has acknowledged a phase, or of another CPU
 
   ran_mine : (b : Bool) (g : Calling) → told_calling g ≡ carried_call v.part.calling → told_calling ((cond b (put p.calling v.number g) p.calling) v.number)
       ≡ cond b (carried_call v.part.calling) v.part.calling
-  ran_mine true g e = ap told_calling (put_here p.calling v.number g) ∙ e
+  ran_mine true g e = ap told_calling (put_same p.calling v.number g) ∙ e
   ran_mine false g e = sees.part_is.calling
 
   ran_other : (b : Bool) (g : Calling) (c : ℕ) → c ≢ v.number → (cond b (put p.calling v.number g) p.calling) c ≡ p.calling c
-  ran_other true g c ne = put_else p.calling v.number g c ne
+  ran_other true g c ne = put_other p.calling v.number g c ne
   ran_other false g c ne = refl
 
   has_called : (w : Work) (f : Calling) → HasCalled v.number w (told_calling f) → HasCalled v.number w f
@@ -244,8 +244,8 @@ module _ (p : StopState) (at : Word → ℕ) (seat : ℕ → Seat) (source : ℕ
       (ack_subtracted_patched u p at seat source h s v.number w count made 0 here))
       (acked_leaves (acknowledges_now p.now v.number s 3 found) p'.calls p'.calling (record (v.part) { calling = Carries 0 })
       sees.part_is.readings (λ c ne. refl)
-      (ap told_calling (put_here p.calling v.number (carried v.number p.now.patching (p.calling v.number)) ∙ own))
-      (λ c ne. put_else p.calling v.number (carried v.number p.now.patching (p.calling v.number)) c ne) refl)))
+      (ap told_calling (put_same p.calling v.number (carried v.number p.now.patching (p.calling v.number)) ∙ own))
+      (λ c ne. put_other p.calling v.number (carried v.number p.now.patching (p.calling v.number)) c ne) refl)))
 
   -- with the load of the argument it calls the function, where it may
   pub load_arg : (s : ℕ) (w : Work) (a l : ℕ) → v.seat ≡ In s w a l Rests → Goes at (called_by (at (Slot s field.Arg)) v.seat v)
@@ -280,12 +280,12 @@ module _ (p : StopState) (at : Word → ℕ) (seat : ℕ → Seat) (source : ℕ
               collected = k.collected;
               answers = k.answers;
               looks = k.looks;
-              calling = ap told_calling (put_here p.calling v.number (Calls call));
+              calling = ap told_calling (put_same p.calling v.number (Calls call));
               readings = k.readings;
               nudged = k.nudged;
               patched = k.patched;
             };
-            others = λ c ne. ap (λ x. record (columns_of p c) { calling = told_calling x }) (put_else p.calling v.number (Calls call) c ne);
+            others = λ c ne. ap (λ x. record (columns_of p c) { calling = told_calling x }) (put_other p.calling v.number (Calls call) c ne);
           }
 
   pub refill : (s : ℕ) (w : Work) (a l : ℕ) → v.seat ≡ In s w a l Fills → is_drafting v.source ≡ false →

@@ -5,7 +5,7 @@ use Rattle.std.proofs.Common.{◌∷◌, ◌++◌, sym, subst, refl, ap, ◌∙�
 use Rattle.smp_words.specs.Access.{put_if}
 use Rattle.smp_words.specs.Put.{put, put_word}
 use Rattle.smp_words.specs.Size.{cpus}
-use Rattle.smp_words.proofs.Puts.{put_all}
+use Rattle.smp_words.proofs.Puts.{put_all, put_same, put_other}
 use Rattle.smp_stop_steps.specs.Counts.{mask_weight}
 use Rattle.smp_stop_steps.specs.Seats.{Seat}
 use Rattle.smp_stop_steps.specs.Shows.{StopShows}
@@ -25,7 +25,6 @@ use Rattle.smp_words.specs.declared.work.Kind.TheVariants.{One}
 use Rattle.smp_words.specs.declared.work.Work.{Work}
 use Rattle.smp_words.specs.declared.word.Word.{Word}
 use Rattle.smp_words.specs.declared.word.Word.TheVariants.{Gate, Slot}
-use Rattle.smp_stop_steps.proofs.Basics.Counts.{put_here, put_else}
 use Rattle.smp_stop_steps.proofs.Knows.Parts.{Leaves, goes, goes_source, goes_still}
 use Rattle.smp_stop_steps.proofs.Steps.Sources.{gate_taken, gate_opened, field_stored, roll_stored, done_loaded, result_loaded, kind_back, work_ext}
 
@@ -249,11 +248,11 @@ module _ (p : StopState) (at : Word → ℕ) (seat : ℕ → Seat) (source : ℕ
       let at' = put_word at (Slot v.number f) x in
       goes p seat source v sees p' at' seat (put drafting v.number next) v.seat (told_source next) v.part
       (subst (λ q. StopShows u q at' seat (put drafting v.number next)) plain
-      (field_stored u p at seat drafting (restaged (Drafts work (order f)) d) v.number work (order f) f 0 (put_here source v.number (Drafts work (order f)))
+      (field_stored u p at seat drafting (restaged (Drafts work (order f)) d) v.number work (order f) f 0 (put_same source v.number (Drafts work (order f)))
       refl low))
       record { mine = sees.part_is; others = λ c ne. refl }
-      sees.seat_is (ap told_source (put_here drafting v.number next)) (subst IsBegun (sym (put_here drafting v.number next)) (omega arith))
-      (λ c ne. refl) (λ c ne. put_else drafting v.number next c ne ∙ put_else source v.number (Drafts work (order f)) c ne)
+      sees.seat_is (ap told_source (put_same drafting v.number next)) (subst IsBegun (sym (put_same drafting v.number next)) (omega arith))
+      (λ c ne. refl) (λ c ne. put_other drafting v.number next c ne ∙ put_other source v.number (Drafts work (order f)) c ne)
 
   pub draft : (work : Work) → v.source ≡ Shut → v.part.holds ≡ true → IsWork u work →
       Goes (put_word at (Slot v.number field.Kind) (begun_value cpus work field.Kind)) (draft_known (begun_value cpus work field.Kind) v)
@@ -315,7 +314,7 @@ module _ (p : StopState) (at : Word → ℕ) (seat : ℕ → Seat) (source : ℕ
       record {
         mine = record {
           holds = k.holds;
-          begun = put_here p.begun v.number begun ∙ (ap (λ l. l ++ (p.now.stop v.number).work ∷ []) k.begun ∙ ap (λ (z : Work). v.part.begun ++ z ∷ []) same);
+          begun = put_same p.begun v.number begun ∙ (ap (λ l. l ++ (p.now.stop v.number).work ∷ []) k.begun ∙ ap (λ (z : Work). v.part.begun ++ z ∷ []) same);
           collected = k.collected;
           answers = k.answers;
           looks = k.looks;
@@ -324,7 +323,7 @@ module _ (p : StopState) (at : Word → ℕ) (seat : ℕ → Seat) (source : ℕ
           nudged = k.nudged;
           patched = k.patched;
         };
-        others = λ c ne. ap (λ x. record (columns_of p c) { begun = x }) (put_else p.begun v.number begun c ne);
+        others = λ c ne. ap (λ x. record (columns_of p c) { begun = x }) (put_other p.begun v.number begun c ne);
       } refl tt)
 
   -- the end of its stop
@@ -357,7 +356,7 @@ module _ (p : StopState) (at : Word → ℕ) (seat : ℕ → Seat) (source : ℕ
         mine = record {
           holds = k.holds;
           begun = k.begun;
-          collected = put_here p.collected v.number more ∙ ap (λ l. l ++ found ∷ []) k.collected;
+          collected = put_same p.collected v.number more ∙ ap (λ l. l ++ found ∷ []) k.collected;
           answers = k.answers;
           looks = k.looks;
           calling = k.calling;
@@ -365,5 +364,5 @@ module _ (p : StopState) (at : Word → ℕ) (seat : ℕ → Seat) (source : ℕ
           nudged = k.nudged;
           patched = k.patched;
         };
-        others = λ c ne. ap (λ x. record (columns_of p c) { collected = x }) (put_else p.collected v.number more c ne);
+        others = λ c ne. ap (λ x. record (columns_of p c) { collected = x }) (put_other p.collected v.number more c ne);
       } refl tt

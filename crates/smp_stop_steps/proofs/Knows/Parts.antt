@@ -1,13 +1,12 @@
 -- What a step of a CPU leaves to it and to all others.
 use Rattle.std.proofs.Common.{◌≡◌, ◌≢◌, ℕ, ◌<◌, cond, List, [], get_or, set, replicate, sym, subst, refl, ap, ◌∙◌}
 use Rattle.std.proofs.lemmas.List.{length-set, length-replicate, get_or-set_same, get_or-set_other}
-use Rattle.smp_words.proofs.Puts.{at_test}
+use Rattle.smp_words.proofs.Puts.{at_test, put_same, put_other}
 use Rattle.smp_words.proofs.Zeros.{get_or-same}
 use Rattle.smp_words.specs.Put.{put}
 use Rattle.smp_words.specs.Size.{cpus}
 use Rattle.smp_labels.specs.declared.words.TheConstants.{MOST_KEYS}
 use Rattle.smp_words.specs.declared.word.Word.{Word}
-use Rattle.smp_stop_steps.proofs.Basics.Counts.{put_here, put_else}
 use Rattle.smp_stop_steps.specs.Known.{Known, Part, Setting, fresh, Columns, columns_of, AreFirst, IsPart, Sees, GoesOn, IsBegun, told_source, setup_in}
 use Rattle.smp_stop_steps.specs.Seats.{Seat, Free}
 use Rattle.smp_stop_steps.specs.Shows.{StopShows}
@@ -79,15 +78,15 @@ module _ (p : StopState) (seat : ℕ → Seat) (source : ℕ → Source) (v : Kn
   pub goes_seat : (p' : StopState) (at' : Word → ℕ) (x : Seat) (part : Part) → StopShows (setup_in v.setting) p' at' (put seat v.number x) source →
       Leaves v.number p p' part → GoesOn v.setting p seat source v.number at' (record v { seat = x; part = part })
   goes_seat p' at' x part shown leaves = goes p' at' (put seat v.number x) source x v.source part shown leaves
-      (put_here seat v.number x) sees.source_is sees.is_begun (λ c ne. put_else seat v.number x c ne) (λ c ne. refl)
+      (put_same seat v.number x) sees.source_is sees.is_begun (λ c ne. put_other seat v.number x c ne) (λ c ne. refl)
 
   -- one that moves its source alone
   pub goes_source : (p' : StopState) (at' : Word → ℕ) (y told : Source) (part : Part) → StopShows (setup_in v.setting) p' at' seat (put source v.number y) →
       Leaves v.number p p' part → told_source y ≡ told → IsBegun y →
       GoesOn v.setting p seat source v.number at' (record v { source = told; part = part })
   goes_source p' at' y told part shown leaves is begun = goes p' at' seat (put source v.number y) v.seat told part shown leaves
-      sees.seat_is (ap told_source (put_here source v.number y) ∙ is) (subst IsBegun (sym (put_here source v.number y)) begun)
-      (λ c ne. refl) (λ c ne. put_else source v.number y c ne)
+      sees.seat_is (ap told_source (put_same source v.number y) ∙ is) (subst IsBegun (sym (put_same source v.number y)) begun)
+      (λ c ne. refl) (λ c ne. put_other source v.number y c ne)
 
   -- one that moves neither
   pub goes_still : (p' : StopState) (at' : Word → ℕ) (part : Part) → StopShows (setup_in v.setting) p' at' seat source → Leaves v.number p p' part →

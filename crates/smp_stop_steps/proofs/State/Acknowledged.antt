@@ -1,7 +1,6 @@
 -- Acknowledging, refilling, raising and looking, among all slots and CPUs.
 use Rattle.std.proofs.Common.{◌≡◌, ◌≢◌, ℕ, ◌+◌, ◌-◌, ◌<◌, Bool, true, false, ◌==◌, cond, sym, subst, refl, ap, ◌∙◌, arith, ⊎_elim, ne_eqb, eq-eqb, Some, List}
-use Rattle.smp_words.proofs.Puts.{at_test}
-use Rattle.smp_stop_steps.proofs.Basics.Counts.{put_else, put_here}
+use Rattle.smp_words.proofs.Puts.{at_test, put_same, put_other}
 use Rattle.smp_stop_steps.proofs.State.Moves.{IsNoPatch, SaveMe, moved, moves, slot_put, slot_same}
 use Rattle.smp_stop_steps.proofs.State.Phases.{acknowledges_slot, is_open_inside, keeps_inside, none_raises, refills_slot}
 use Rattle.smp_stop_steps.proofs.State.Raises.{raises_slot}
@@ -29,6 +28,22 @@ nobody_raises cpus stop ack me a l Nobody is small ne h = refl
 nobody_raises cpus stop ack me a l (Refills r) is small ne h = absurd (none_raises cpus stop.phase stop.standing me a l is small ne h.1)
 nobody_raises cpus stop ack me a l (Raises r) is small ne h = absurd (none_raises cpus stop.phase stop.standing me a l is small ne h.1)
 
+-- whose turn it is, by a CPU's turn
+fills_me : (me : ℕ) (r : Raising) → turn_of r me ≡ Fills → r ≡ Refills me
+fills_me me Nobody e = cc
+fills_me me (Refills r) e = at_test me r (λ b. cond b Fills Rests ≡ Fills → Refills r ≡ Refills me) (λ same _. ap Refills (sym same)) (λ ne e. cc) e
+fills_me me (Raises r) e = at_test me r (λ b. cond b Sets Rests ≡ Fills → Raises r ≡ Refills me) (λ same e. cc) (λ ne e. cc) e
+
+pub sets_me : (me : ℕ) (r : Raising) → turn_of r me ≡ Sets → r ≡ Raises me
+sets_me me Nobody e = cc
+sets_me me (Refills r) e = at_test me r (λ b. cond b Fills Rests ≡ Sets → Refills r ≡ Raises me) (λ same e. cc) (λ ne e. cc) e
+sets_me me (Raises r) e = at_test me r (λ b. cond b Sets Rests ≡ Sets → Raises r ≡ Raises me) (λ same _. ap Raises (sym same)) (λ ne e. cc) e
+
+rests_me : (me : ℕ) (r : Raising) → turn_of r me ≡ Rests → IsNot me r
+rests_me me Nobody e = tt
+rests_me me (Refills r) e = λ same. at_test me r (λ b. cond b Fills Rests ≡ Rests → ⊥) (λ _ e. cc) (λ ne _. ne (sym same)) e
+rests_me me (Raises r) e = λ same. at_test me r (λ b. cond b Sets Rests ≡ Rests → ⊥) (λ _ e. cc) (λ ne _. ne (sym same)) e
+
 module _ (u : Setup) (p : Present) (at : Word → ℕ) (seat : ℕ → Seat) (h : PresentShows u p at seat)
     (s me : ℕ) (irq' : ℕ → Bool) (readings' : ℕ → List Reading) (save : SaveMe p me p.inside irq' readings') where
   turn_here : (stop' : Stop) (t : Turn) → turn_of stop'.raising me ≡ t → turn_of (put p.stop s stop' s).raising me ≡ t
@@ -36,21 +51,6 @@ module _ (u : Setup) (p : Present) (at : Word → ℕ) (seat : ℕ → Seat) (h 
 
   standing_here : (stop' : Stop) (x : Standing) → stop'.standing me ≡ x → (put p.stop s stop' s).standing me ≡ x
   standing_here stop' x e = at_test s s (λ b. (cond b stop' (p.stop s)).standing me ≡ x) (λ _. e) (λ ne. absurd (ne refl))
-
-  fills_me : (r : Raising) → turn_of r me ≡ Fills → r ≡ Refills me
-  fills_me Nobody e = cc
-  fills_me (Refills r) e = at_test me r (λ b. cond b Fills Rests ≡ Fills → Refills r ≡ Refills me) (λ same _. ap Refills (sym same)) (λ ne e. cc) e
-  fills_me (Raises r) e = at_test me r (λ b. cond b Sets Rests ≡ Fills → Raises r ≡ Refills me) (λ same e. cc) (λ ne e. cc) e
-
-  sets_me : (r : Raising) → turn_of r me ≡ Sets → r ≡ Raises me
-  sets_me Nobody e = cc
-  sets_me (Refills r) e = at_test me r (λ b. cond b Fills Rests ≡ Sets → Refills r ≡ Raises me) (λ same e. cc) (λ ne e. cc) e
-  sets_me (Raises r) e = at_test me r (λ b. cond b Sets Rests ≡ Sets → Raises r ≡ Raises me) (λ same _. ap Raises (sym same)) (λ ne e. cc) e
-
-  rests_me : (r : Raising) → turn_of r me ≡ Rests → IsNot me r
-  rests_me Nobody e = tt
-  rests_me (Refills r) e = λ same. at_test me r (λ b. cond b Fills Rests ≡ Rests → ⊥) (λ _ e. cc) (λ ne _. ne (sym same)) e
-  rests_me (Raises r) e = λ same. at_test me r (λ b. cond b Sets Rests ≡ Rests → ⊥) (λ _ e. cc) (λ ne _. ne (sym same)) e
 
   work_here : (stop' : Stop) (w : Work) → stop'.work ≡ w → (put p.stop s stop' s).work ≡ w
   work_here stop' w e = at_test s s (λ b. (cond b stop' (p.stop s)).work ≡ w) (λ _. e) (λ ne. absurd (ne refl))
@@ -80,15 +80,15 @@ module _ (u : Setup) (p : Present) (at : Word → ℕ) (seat : ℕ → Seat) (h 
       moves u p at (put_word at (Slot s Ack) (found - 1)) seat s me stop' p.inside irq' readings' (In s job (a + 1) (a + 1) (cond (found == 1) Fills Rests)) h
       (slot_put u.cpus p.stop at s Ack (found - 1) stop' h.slots (acknowledges_slot u.cpus (p.stop s) w (h.slots s) me a st.1)) refl
       (λ c ne. record {
-        on = λ _. put_else (p.stop s).standing me (Inside (a + 1) (a + 1)) c ne;
-        back = λ i. subst (λ x. is_inside x ≡ true) (put_else (p.stop s).standing me (Inside (a + 1) (a + 1)) c ne) i;
+        on = λ _. put_other (p.stop s).standing me (Inside (a + 1) (a + 1)) c ne;
+        back = λ i. subst (λ x. is_inside x ≡ true) (put_other (p.stop s).standing me (Inside (a + 1) (a + 1)) c ne) i;
         work = λ _. refl;
         turn = λ _. rw no (other_turn c ne (found == 1));
         ending = λ op e. (op, e);
       })
       save (
         st.0,
-        at_test s s (λ b. (cond b stop' (p.stop s)).standing me ≡ Inside (a + 1) (a + 1)) (λ _. put_here (p.stop s).standing me (Inside (a + 1) (a + 1)))
+        at_test s s (λ b. (cond b stop' (p.stop s)).standing me ≡ Inside (a + 1) (a + 1)) (λ _. put_same (p.stop s).standing me (Inside (a + 1) (a + 1)))
             (λ ne. absurd (ne refl)),
         at_test s s (λ b. turn_of (cond b stop' (p.stop s)).raising me ≡ cond (found == 1) Fills Rests) (λ _. rw no (own_turn (found == 1)))
             (λ ne. absurd (ne refl)),
@@ -114,7 +114,7 @@ module _ (u : Setup) (p : Present) (at : Word → ℕ) (seat : ℕ → Seat) (h 
       let w : Field → ℕ = λ f. at (Slot s f) in
       let st : Stands p me (In s job a l Fills) = subst (Stands p me) is (h.stands me) in
       let open_ = is_open_inside u.cpus (p.stop s) w (h.slots s) me (Inside a l) st.1 refl in
-      let mine = fills_me (p.stop s).raising st.2 in
+      let mine = fills_me me (p.stop s).raising st.2 in
       moves u p at (put_word at (Slot s Ack) (weight u.cpus (p.stop s).standing)) seat s me (refilled (p.stop s) me) p.inside irq' readings'
       (In s job a l Sets) h
       (slot_put u.cpus p.stop at s Ack (weight u.cpus (p.stop s).standing) (refilled (p.stop s) me) h.slots (refills_slot u.cpus (p.stop s) w (h.slots s) me
@@ -147,7 +147,7 @@ module _ (u : Setup) (p : Present) (at : Word → ℕ) (seat : ℕ → Seat) (h 
       let n = (p.stop s).phase + 1 in
       let st : Stands p me (In s job a l Sets) = subst (Stands p me) is (h.stands me) in
       let open_ = is_open_inside u.cpus (p.stop s) w (h.slots s) me (Inside a l) st.1 refl in
-      let mine = sets_me (p.stop s).raising st.2 in
+      let mine = sets_me me (p.stop s).raising st.2 in
       moves u p at (put_word at (Slot s State) n) seat s me (raised (p.stop s) n) p.inside irq' readings' (In s job a l Rests) h
       (slot_put u.cpus p.stop at s State n (raised (p.stop s) n) h.slots (raises_slot u.cpus (p.stop s) w (h.slots s) me mine open_ phase)) refl
       (λ c ne. record {
@@ -173,15 +173,15 @@ module _ (u : Setup) (p : Present) (at : Word → ℕ) (seat : ℕ → Seat) (h 
       let stop' = stands (p.stop s) me to in
       let st : Stands p me (In s job a l Rests) = subst (Stands p me) is (h.stands me) in
       moves u p at at seat s me stop' p.inside irq' readings' (In s job a (at (Slot s State)) Rests) h
-      (slot_same u.cpus p.stop at s stop' h.slots (looks_slot u.cpus (p.stop s) w (h.slots s) me a l st.1 more (rests_me (p.stop s).raising st.2))) refl
+      (slot_same u.cpus p.stop at s stop' h.slots (looks_slot u.cpus (p.stop s) w (h.slots s) me a l st.1 more (rests_me me (p.stop s).raising st.2))) refl
       (λ c ne. record {
-        on = λ _. put_else (p.stop s).standing me to c ne;
-        back = λ i. subst (λ x. is_inside x ≡ true) (put_else (p.stop s).standing me to c ne) i;
+        on = λ _. put_other (p.stop s).standing me to c ne;
+        back = λ i. subst (λ x. is_inside x ≡ true) (put_other (p.stop s).standing me to c ne) i;
         work = λ _. refl;
         turn = λ _. refl;
         ending = λ op e. (op, e);
       })
       save
-      (st.0, standing_here stop' to (put_here (p.stop s).standing me to), turn_here stop' Rests st.2, work_here stop' job st.3)
+      (st.0, standing_here stop' to (put_same (p.stop s).standing me to), turn_here stop' Rests st.2, work_here stop' job st.3)
       (home_stays stop' a l st.1 st.0) off read
       (subst IsNoPatch (sym is) tt) (λ op kind. h.works s op kind)

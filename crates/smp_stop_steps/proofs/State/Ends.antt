@@ -1,7 +1,7 @@
 -- Opening, completing and collecting, and the function law.
 use Rattle.std.proofs.Common.{◌≡◌, ◌≢◌, ℕ, ◌+◌, ◌-◌, ◌<◌, ◌≤◌, Bool, true, false, ◌==◌, ◌&&◌, cond, sym, subst, refl, ap, ◌∙◌, ◌⊎◌, inl, inr, arith, ⊎_elim}
-use Rattle.smp_words.proofs.Puts.{at_test, put_all}
-use Rattle.smp_stop_steps.proofs.Basics.Counts.{put_else, put_here, sum_put, sum_same, sum_zero}
+use Rattle.smp_words.proofs.Puts.{at_test, put_all, put_same, put_other}
+use Rattle.smp_stop_steps.proofs.Basics.Counts.{sum_put, sum_same, sum_zero}
 use Rattle.smp_stop_steps.proofs.State.Phases.{is_open_inside, keeps_inside}
 use Rattle.smp_stop_steps.proofs.State.Raises.{in_machine, level_of}
 use Rattle.smp_stop_steps.proofs.State.Works.{ack_kept, outside_is, result_kept}
@@ -78,8 +78,8 @@ module _ (cpus : ℕ) (standing : ℕ → Standing) (me a v todo : ℕ) (small :
   one_less : count_unfinished cpus (put standing me (Completed a v)) + 1 ≡ todo
   one_less =
       let s = sum_put (λ c. unfinished (standing c)) (λ c. unfinished (put standing me (Completed a v) c)) me cpus small (λ j other. ap unfinished
-      (put_else standing me (Completed a v) j other)) in
-      let now : unfinished (put standing me (Completed a v) me) ≡ 0 = ap unfinished (put_here standing me (Completed a v)) in
+      (put_other standing me (Completed a v) j other)) in
+      let now : unfinished (put standing me (Completed a v) me) ≡ 0 = ap unfinished (put_same standing me (Completed a v)) in
       let then : unfinished (standing me) ≡ 1 = is in
       omega arith
 

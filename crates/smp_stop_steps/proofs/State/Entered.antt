@@ -1,8 +1,8 @@
 -- Entering, completing, opening and collecting, among all slots and CPUs.
 use Rattle.std.proofs.Common.{◌≡◌, ◌≢◌, ℕ, zero, suc, ◌-◌, ◌<◌, Bool, true, false, ◌==◌, cond, sym, subst, refl, ap, ◌∙◌, ◌⊎◌, arith, ne_eqb, eq-eqb}
 use Rattle.std.proofs.Common.{Option, Some, None}
-use Rattle.smp_words.proofs.Puts.{at_test}
-use Rattle.smp_stop_steps.proofs.Basics.Counts.{put_else, put_here, sum_zero}
+use Rattle.smp_words.proofs.Puts.{at_test, put_same, put_other}
+use Rattle.smp_stop_steps.proofs.Basics.Counts.{sum_zero}
 use Rattle.smp_stop_steps.proofs.State.Ends.{all_outside, answer_of_it, answer_unfinished, collects_slot, completes_slot, finishes_slot, opens_slot}
 use Rattle.smp_stop_steps.proofs.State.Moves.{IsNoPatch, SaveMe, moved, moves, slot_put, slot_same, source_moves}
 use Rattle.smp_stop_steps.proofs.State.Phases.{is_open_inside}
@@ -145,11 +145,11 @@ module _ (u : Setup) (p : Present) (at : Word → ℕ) (seat : ℕ → Seat) (h 
     at_home : (stop' : Stop) (to : Option ℕ) → ((j : ℕ) → is_inside ((p.stop j).standing me) ≡ true → j ≡ s) → (is_inside (stop'.standing me) ≡ true →
         to ≡ Some s) →
         (j : ℕ) → is_inside ((put p.stop s stop' j).standing me) ≡ true → put p.inside me to me ≡ Some j
-    at_home stop' to only here j i = put_here p.inside me to ∙ at_test j s (λ b. is_inside ((cond b stop' (p.stop j)).standing me) ≡ true → to ≡ Some j)
+    at_home stop' to only here j i = put_same p.inside me to ∙ at_test j s (λ b. is_inside ((cond b stop' (p.stop j)).standing me) ≡ true → to ≡ Some j)
         (λ e i. here i ∙ ap Some (sym e)) (λ ne i. absurd (ne (only j i))) i
 
     save : (to : Option ℕ) → SaveMe p me (put p.inside me to) p.irq p.readings
-    save to = record { inside = λ c ne. put_else p.inside me to c ne; irq = λ c ne. refl; readings = λ c ne. refl }
+    save to = record { inside = λ c ne. put_other p.inside me to c ne; irq = λ c ne. refl; readings = λ c ne. refl }
 
     -- fetch_and of the roll, that found the own bit
     pub step_enters : (n : ℕ) → seat me ≡ Free → has (at (Slot s Roll)) me ≡ true → has n me ≡ false → ((c : ℕ) → c ≢ me → has n c ≡ has (at (Slot s Roll)) c) →
@@ -164,15 +164,15 @@ module _ (u : Setup) (p : Present) (at : Word → ℕ) (seat : ℕ → Seat) (h 
         moves u p at (put_word at (Slot s Roll) n) seat s me stop' (put p.inside me (Some s)) p.irq p.readings (In s (p.stop s).work 0 0 Rests) h
         (slot_put u.cpus p.stop at s Roll n stop' h.slots (enters_slot u.cpus (p.stop s) w (h.slots s) me n found clears others)) refl
         (λ c ne. record {
-          on = λ _. put_else (p.stop s).standing me to c ne;
-          back = λ i. subst (λ x. is_inside x ≡ true) (put_else (p.stop s).standing me to c ne) i;
+          on = λ _. put_other (p.stop s).standing me to c ne;
+          back = λ i. subst (λ x. is_inside x ≡ true) (put_other (p.stop s).standing me to c ne) i;
           work = λ _. refl;
           turn = λ _. refl;
           ending = λ op e. (op, e);
         })
         (save (Some s)) (
-          put_here p.inside me (Some s),
-          at_test s s (λ b. (cond b stop' (p.stop s)).standing me ≡ to) (λ _. put_here (p.stop s).standing me to) (λ ne. absurd (ne refl)),
+          put_same p.inside me (Some s),
+          at_test s s (λ b. (cond b stop' (p.stop s)).standing me ≡ to) (λ _. put_same (p.stop s).standing me to) (λ ne. absurd (ne refl)),
           at_test s s (λ b. turn_of (cond b stop' (p.stop s)).raising me ≡ Rests) (λ _. quiet called o) (λ ne. absurd (ne refl)),
           at_test s s (λ b. (cond b stop' (p.stop s)).work ≡ (p.stop s).work) (λ _. refl) (λ _. refl),
         )
@@ -212,8 +212,8 @@ module _ (u : Setup) (p : Present) (at : Word → ℕ) (seat : ℕ → Seat) (h 
         moves u p at (put_word at (Slot s Todo) (found - 1)) seat s me stop' (put p.inside me None) p.irq p.readings (cond (found == 1) (Closes s) Free) h
         (slot_put u.cpus p.stop at s Todo (found - 1) stop' h.slots (completes_slot u.cpus (p.stop s) w (h.slots s) me a v is through)) refl
         (λ c ne. record {
-          on = λ _. put_else (p.stop s).standing me (Completed a v) c ne;
-          back = λ i. subst (λ x. is_inside x ≡ true) (put_else (p.stop s).standing me (Completed a v) c ne) i;
+          on = λ _. put_other (p.stop s).standing me (Completed a v) c ne;
+          back = λ i. subst (λ x. is_inside x ≡ true) (put_other (p.stop s).standing me (Completed a v) c ne) i;
           work = λ _. refl;
           turn = λ _. refl;
           ending = λ op e. absurd (not_last c (in_machine u.cpus (p.stop s).phase me ((p.stop s).standing me) of ((h.slots s).keeps me))
@@ -222,7 +222,7 @@ module _ (u : Setup) (p : Present) (at : Word → ℕ) (seat : ℕ → Seat) (h 
         (save None)
         (now (found == 1) open_)
         (at_home stop' None (λ j i. let e : Some s ≡ Some j = sym in_ ∙ h.homes j me i in let f : j ≡ s = cc in f)
-        (λ i. absurd (apart (subst (λ x. is_inside x ≡ true) (put_here (p.stop s).standing me (Completed a v)) i))))
+        (λ i. absurd (apart (subst (λ x. is_inside x ≡ true) (put_same (p.stop s).standing me (Completed a v)) i))))
         (h.irq me ∙ (on ∙ sym (irq_after (found == 1))))
         (λ o i. h.read me o (h.irq me ∙ on))
         mine
@@ -244,13 +244,13 @@ module _ (u : Setup) (p : Present) (at : Word → ℕ) (seat : ℕ → Seat) (h 
             Stands (moved p s (record (p.stop s) { standing = put (p.stop s).standing me (Completed a v); ending = cond b (Last me) (p.stop s).ending })
             (put p.inside me None) p.irq p.readings) me (cond b (Closes s) Free)
         now true op = (
-          put_here p.inside me None,
+          put_same p.inside me None,
           at_test s s (λ b. (cond b (record (p.stop s) { standing = put (p.stop s).standing me (Completed a v); ending = Last me }) (p.stop s)).is_open ≡
               true) (λ _. op) (λ _. op),
           at_test s s (λ b. (cond b (record (p.stop s) { standing = put (p.stop s).standing me (Completed a v); ending = Last me }) (p.stop s)).ending ≡
               Last me) (λ _. refl) (λ ne. absurd (ne refl)),
         )
-        now false op = put_here p.inside me None
+        now false op = put_same p.inside me None
 
     -- store of done by the last
     pub step_finishes : seat me ≡ Closes s →
@@ -287,15 +287,15 @@ module _ (u : Setup) (p : Present) (at : Word → ℕ) (seat : ℕ → Seat) (h 
         moves u p at (put_word at (Slot s Result) v) seat s me stop' p.inside p.irq p.readings (Gives s job a v) h
         (slot_put u.cpus p.stop at s Result v stop' h.slots (answers_slot u.cpus (p.stop s) w (h.slots s) me a l v st.1 some (through, quiet))) refl
         (λ c ne. record {
-          on = λ _. put_else (p.stop s).standing me to c ne;
-          back = λ i. subst (λ x. is_inside x ≡ true) (put_else (p.stop s).standing me to c ne) i;
+          on = λ _. put_other (p.stop s).standing me to c ne;
+          back = λ i. subst (λ x. is_inside x ≡ true) (put_other (p.stop s).standing me to c ne) i;
           work = λ _. refl;
           turn = λ _. refl;
           ending = λ op e. (op, e);
         })
         record { inside = λ c ne. refl; irq = λ c ne. refl; readings = λ c ne. refl } (
           st.0,
-          at_test s s (λ b. (cond b stop' (p.stop s)).standing me ≡ to) (λ _. put_here (p.stop s).standing me to) (λ ne. absurd (ne refl)),
+          at_test s s (λ b. (cond b stop' (p.stop s)).standing me ≡ to) (λ _. put_same (p.stop s).standing me to) (λ ne. absurd (ne refl)),
           at_test s s (λ b. turn_of (cond b stop' (p.stop s)).raising me ≡ Rests) (λ _. st.2) (λ ne. absurd (ne refl)),
           at_test s s (λ b. (cond b stop' (p.stop s)).work ≡ job) (λ _. st.3) (λ ne. absurd (ne refl)),
         )

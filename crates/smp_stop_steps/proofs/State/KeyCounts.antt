@@ -1,7 +1,7 @@
 -- The count law: a key's word is what all CPUs together have moved it.
 use Rattle.std.proofs.Common.{◌≡◌, ◌≢◌, ℕ, zero, suc, ◌+◌, ◌-◌, ◌<◌, cond, refl, sym, ap, subst, ◌∙◌, arith}
-use Rattle.smp_words.proofs.Puts.{at_test}
-use Rattle.smp_stop_steps.proofs.Basics.Counts.{put_here, put_else, sum_put, sum_same}
+use Rattle.smp_words.proofs.Puts.{at_test, put_same, put_other}
+use Rattle.smp_stop_steps.proofs.Basics.Counts.{sum_put, sum_same}
 use Rattle.smp_words.specs.Put.{put, put_word}
 use Rattle.smp_stop_steps.specs.Counts.{sum_below}
 use Rattle.smp_stop_steps.specs.KeyCounts.{moves, moved_by, ups, downs, CountShows}
@@ -23,14 +23,14 @@ module _ (n : ℕ) (f : ℕ → ℕ → Moved) (me k old new : ℕ) (low : me < 
   f' = moved_by f me k old new
 
   here : f' me k ≡ moves (f me k) old new
-  here = ap (λ (g : ℕ → Moved). g k) (put_here f me (put (f me) k (moves (f me k) old new))) ∙ put_here (f me) k (moves (f me k) old new)
+  here = ap (λ (g : ℕ → Moved). g k) (put_same f me (put (f me) k (moves (f me k) old new))) ∙ put_same (f me) k (moves (f me k) old new)
 
   others : (c : ℕ) → c ≢ me → f' c k ≡ f c k
-  others c ne = ap (λ (g : ℕ → Moved). g k) (put_else f me (put (f me) k (moves (f me k) old new)) c ne)
+  others c ne = ap (λ (g : ℕ → Moved). g k) (put_other f me (put (f me) k (moves (f me k) old new)) c ne)
 
   elsewhere : (j : ℕ) → j ≢ k → (c : ℕ) → f' c j ≡ f c j
   elsewhere j ne c = at_test c me (λ b. cond b (put (f me) k (moves (f me k) old new)) (f c) j ≡ f c j)
-      (λ e. put_else (f me) k (moves (f me k) old new) j ne ∙ ap (λ i. f i j) (sym e)) (λ _. refl)
+      (λ e. put_other (f me) k (moves (f me k) old new) j ne ∙ ap (λ i. f i j) (sym e)) (λ _. refl)
 
   up_moved : ups n f' k ≡ ups n f k + (new - old)
   up_moved =

@@ -1,7 +1,6 @@
 -- A step on one slot, among all slots and CPUs.
 use Rattle.std.proofs.Common.{◌≡◌, ◌≢◌, ℕ, Bool, true, false, ◌==◌, cond, sym, subst, refl, ap, ◌∙◌, Option, Some, List}
-use Rattle.smp_words.proofs.Puts.{at_test, put_all}
-use Rattle.smp_stop_steps.proofs.Basics.Counts.{put_else}
+use Rattle.smp_words.proofs.Puts.{at_test, put_all, put_other}
 use Rattle.smp_words.specs.Put.{place_of, put, put_word, same_field}
 use Rattle.smp_stop_steps.specs.Labels.{Agrees, LabelsShow, Patches, Patching, Reading, Whole, labels_in}
 use Rattle.smp_stop_steps.specs.Present.{PresentShows, RunnerShows}
@@ -110,7 +109,7 @@ pub runner_kept : (first : ℕ) (patching : Patching) (seat : ℕ → Seat) (me 
     RunnerShows first patching (put seat me next)
 runner_kept first Whole seat me next mine h = tt
 runner_kept first (Patches c w count made rest) seat me next mine h =
-    (h.0, (h.1.0, put_else seat me next c (λ (e : c ≡ me). subst IsNoPatch (sym (ap seat e) ∙ h.1.1) mine) ∙ h.1.1))
+    (h.0, (h.1.0, put_other seat me next c (λ (e : c ≡ me). subst IsNoPatch (sym (ap seat e) ∙ h.1.1) mine) ∙ h.1.1))
 
 -- a step of one CPU on one slot; the words of the labels stay
 pub moves : (u : Setup) (p : Present) (at at' : Word → ℕ) (seat : ℕ → Seat) (s me : ℕ) (stop' : Stop)

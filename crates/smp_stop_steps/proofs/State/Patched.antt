@@ -4,8 +4,7 @@ use Rattle.smp_labels.specs.declared.keys.Change.TheVariants.{Off, On, Up, Down}
 use Rattle.smp_labels.specs.declared.keys.Change.{Change as KeyChange}
 use Rattle.std.proofs.Common.{◌≡◌, ◌≢◌, ℕ, ◌+◌, ◌≤◌, true, false, nat_lt, ◌==◌, ◌&&◌, ◌||◌, sym, subst, refl, ap, ◌∙◌, ◌⊎◌, arith, le-ltb, eqb-true}
 use Rattle.std.proofs.Common.{⊎_elim, ne_eqb, Some, None, List, [], ◌∷◌, ◌++◌, lt-ltb, IfSome, cond, ◌<◌, Bool, inl, inr}
-use Rattle.smp_words.proofs.Puts.{put_all, at_test}
-use Rattle.smp_stop_steps.proofs.Basics.Counts.{put_here}
+use Rattle.smp_words.proofs.Puts.{put_all, at_test, put_same}
 use Rattle.smp_stop_steps.proofs.State.Ends.{function_law}
 use Rattle.smp_stop_steps.proofs.State.Phases.{is_open_inside}
 use Rattle.smp_words.specs.Put.{put}
@@ -135,7 +134,7 @@ module _ (u : Setup) (p : Present) (at : Word → ℕ) (seat : ℕ → Seat) (h 
         homes = h.homes;
         irq = put_all (λ c y. p.irq c ≡ irq_of y) seat me next (h.irq me ∙ ap irq_of is) (λ c ne. h.irq c);
         works = h.works;
-        runner = (mine, (s, put_here seat me next));
+        runner = (mine, (s, put_same seat me next));
         entries = h.entries;
         labels = (labels_in at, lawful, refl, refl, leads lawful);
         read = h.read;
@@ -167,7 +166,7 @@ module _ (u : Setup) (p : Present) (at : Word → ℕ) (seat : ℕ → Seat) (h 
         homes = h.homes;
         irq = put_all (λ c y. p.irq c ≡ irq_of y) seat me next (h.irq me ∙ ap irq_of is) (λ c ne. h.irq c);
         works = h.works;
-        runner = (r.0, (s, put_here seat me next));
+        runner = (r.0, (s, put_same seat me next));
         entries = entries;
         labels = (
           l.0,

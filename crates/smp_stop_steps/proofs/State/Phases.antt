@@ -1,8 +1,8 @@
 -- Acknowledging, refilling and raising keep what the words of a slot show.
 use Rattle.std.proofs.Common.{◌≡◌, ◌≢◌, ℕ, ◌+◌, ◌-◌, ◌<◌, Bool, true, false, ◌==◌, ◌&&◌, cond, sym, subst, refl, ap, ◌∙◌, inl, inr, arith, ⊎_elim}
 use Rattle.std.proofs.Common.{ne_eqb, eq-eqb}
-use Rattle.smp_words.proofs.Puts.{at_test, put_all}
-use Rattle.smp_stop_steps.proofs.Basics.Counts.{put_else, put_here, sum_put, sum_same, sum_zero}
+use Rattle.smp_words.proofs.Puts.{at_test, put_all, put_same, put_other}
+use Rattle.smp_stop_steps.proofs.Basics.Counts.{sum_put, sum_same, sum_zero}
 use Rattle.smp_words.specs.Put.{put}
 use Rattle.smp_stop_steps.specs.Counts.{behind, count_behind, count_unfinished, one, unfinished, weight}
 use Rattle.smp_stop_steps.specs.Slots.{AckShows, DoneShows, HasGiven, Keeps, ResultShows, SlotShows, put_field}
@@ -39,16 +39,16 @@ pub one_fewer : (cpus p : ℕ) (standing : ℕ → Standing) (me a l : ℕ) → 
     count_behind cpus p (put standing me (Inside p p)) + 1 ≡ count_behind cpus p standing
 one_fewer cpus p standing me a l is small ne =
     let s = sum_put (λ c. behind p (standing c)) (λ c. behind p (put standing me (Inside p p) c)) me cpus small
-    (λ j other. ap (behind p) (put_else standing me (Inside p p) j other)) in
+    (λ j other. ap (behind p) (put_other standing me (Inside p p) j other)) in
     let was : behind p (standing me) ≡ 1 = ap (behind p) is ∙ behind_one p a l ne in
-    let now : behind p (put standing me (Inside p p) me) ≡ 0 = ap (behind p) (put_here standing me (Inside p p)) ∙ behind_zero p p in
+    let now : behind p (put standing me (Inside p p) me) ≡ 0 = ap (behind p) (put_same standing me (Inside p p)) ∙ behind_zero p p in
     omega arith
 
 -- found 1: all others have acknowledged
 ack_found : (cpus p : ℕ) (standing : ℕ → Standing) (me ack : ℕ) → count_behind cpus p (put standing me (Inside p p)) + 1 ≡ ack →
     AckShows cpus p (put standing me (Inside p p)) (cond (ack == 1) (Refills me) Nobody) (ack - 1)
 ack_found cpus p standing me ack n = at_test ack 1 (λ b. AckShows cpus p (put standing me (Inside p p)) (cond b (Refills me) Nobody) (ack - 1))
-    (λ e. (omega arith, omega arith, put_here standing me (Inside p p)))
+    (λ e. (omega arith, omega arith, put_same standing me (Inside p p)))
     (λ ne. omega arith)
 
 pub acked_more : (cpus p : ℕ) (standing : ℕ → Standing) (me a l ack : ℕ) (r : Raising) → standing me ≡ Inside a l → me < cpus → a ≢ p →

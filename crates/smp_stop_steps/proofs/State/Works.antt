@@ -1,7 +1,7 @@
 -- Opening, entering, looking, answering, completing and collecting keep what the words of a slot show.
 use Rattle.std.proofs.Common.{◌≡◌, ◌≢◌, ℕ, ◌+◌, ◌≤◌, true, false, ◌&&◌, sym, subst, refl, ap, ◌∙◌, ◌⊎◌, inl, inr, arith, ⊎_elim}
-use Rattle.smp_words.proofs.Puts.{put_all}
-use Rattle.smp_stop_steps.proofs.Basics.Counts.{put_else, put_here, sum_same}
+use Rattle.smp_words.proofs.Puts.{put_all, put_same, put_other}
+use Rattle.smp_stop_steps.proofs.Basics.Counts.{sum_same}
 use Rattle.smp_stop_steps.proofs.State.Phases.{is_open_inside, keeps_inside}
 use Rattle.smp_words.specs.Put.{put}
 use Rattle.smp_stop_steps.specs.Counts.{behind, bit, count_behind, count_unfinished, mask_weight, one, unfinished, weight}
@@ -26,8 +26,8 @@ module _ (cpus : ℕ) (standing : ℕ → Standing) (me p : ℕ) (to : Standing)
 
     pub ack_kept : (r : Raising) (ack : ℕ) → IsNot me r → AckShows cpus p standing r ack → AckShows cpus p (put standing me to) r ack
     ack_kept Nobody ack ne h = h ∙ sym behind_kept
-    ack_kept (Refills r) ack ne h = (h.0, behind_kept ∙ h.1, put_else standing me to r ne ∙ h.2)
-    ack_kept (Raises r) ack ne h = (h.0 ∙ sym weight_kept, behind_kept ∙ h.1, put_else standing me to r ne ∙ h.2)
+    ack_kept (Refills r) ack ne h = (h.0, behind_kept ∙ h.1, put_other standing me to r ne ∙ h.2)
+    ack_kept (Raises r) ack ne h = (h.0 ∙ sym weight_kept, behind_kept ∙ h.1, put_other standing me to r ne ∙ h.2)
 
 module _ (cpus : ℕ) (standing : ℕ → Standing) (me : ℕ) (to : Standing) (same : unfinished to ≡ unfinished (standing me)) where
   pub unfinished_kept : count_unfinished cpus (put standing me to) ≡ count_unfinished cpus standing
@@ -162,7 +162,7 @@ module _ (cpus : ℕ) (stop : Stop) (word : Field → ℕ) (g : SlotShows cpus s
           kinds = o.kinds;
           todo = o.todo ∙ sym (unfinished_kept cpus stop.standing me to (sym (ap unfinished is)));
           done = done_kept cpus stop.standing me to (sym (ap unfinished is)) stop.ending (word Done) o.done;
-          result = inr (some, (me, subst (λ s. HasGiven s v) (sym (put_here stop.standing me to)) refl));
+          result = inr (some, (me, subst (λ s. HasGiven s v) (sym (put_same stop.standing me to)) refl));
         };
       }
 

@@ -13,7 +13,7 @@ use Rattle.smp_stop_steps.specs.Counts.{mask_weight}
 use Rattle.smp_stop_steps.specs.Labels.{patch_answer}
 use Rattle.smp_stop_steps.specs.Seats.{Alters, Fills, In, Rests, Seat, Sets, irq_of}
 use Rattle.smp_stop_steps.specs.Shows.{StopShows}
-use Rattle.smp_stop_steps.specs.Sits.{HasRun, RunsIf, IsLoaded, OwnsIf, Sits, SitsAt, SitsAtRest, SitsInRound, SourceSits}
+use Rattle.smp_stop_steps.specs.Sits.{HasRun, RunsIf, IsLoaded, OwnsIf, Sits, SitsAtRest}
 use Rattle.smp_stop_steps.specs.Sources.{Source}
 use Rattle.smp_stop_steps.specs.Stages.{StopControlValue, stop_goes, turn_ends, visit_acked}
 use Rattle.smp_stop_steps.specs.State.{Setup, StopState, Calling, Calls, Carries, Idle}
@@ -22,7 +22,6 @@ use Rattle.smp_stop_steps.specs.Tells.{told, plan_at}
 use Rattle.smp_words.specs.declared.seen.Act.TheVariants as act
 use Rattle.smp_words.specs.declared.field.Field.TheVariants.{Ack}
 use Rattle.smp_stop_steps.specs.declared.stage.RoundStage.TheVariants as round
-use Rattle.smp_stop_steps.specs.declared.stage.RoundStage.{RoundStage}
 use Rattle.smp_stop_steps.specs.declared.stage.StopStage.TheVariants.{Advance}
 use Rattle.smp_stop_steps.specs.declared.stage.StopStage.{StopStage}
 use Rattle.smp_stop_steps.specs.declared.stage.Visit.{Visit}
@@ -33,15 +32,10 @@ use Rattle.smp_words.specs.declared.word.Word.{Word}
 use Rattle.smp_mask.specs.Mask.{has}
 use Rattle.smp_stop_steps.specs.Carries.{CarriesIn, CarriesAt, IsAcking}
 use Rattle.smp_stop_steps.specs.Callings.{HasCalled}
+use Rattle.smp_stop_steps.proofs.Steps.Stages.{in_round, round_source}
 
 module _ (u : Setup) (p : StopState) (at : Word → ℕ) (seat : ℕ → Seat) (source : ℕ → Source) (h : StopShows u p at seat source) (c : StopControlValue) (me : ℕ)
     (s : Sits u me (at Gate) c (seat me) (source me)) (v : Visit) where
-  in_round : (stage : RoundStage) → c.stage ≡ Some (Advance v stage) → (c.visit ≡ Some v) × SitsInRound u me c.changes v stage (seat me)
-  in_round stage e = subst (λ (st : Option StopStage). SitsAt u me c st (seat me)) e s.seat
-
-  at_source : (stage : RoundStage) → c.stage ≡ Some (Advance v stage) → OwnsIf c.is_open (source me)
-  at_source stage e = subst (λ (st : Option StopStage). SourceSits c.is_open st (source me)) e s.source
-
   -- where the CPU stands once the phase is acknowledged
   acked_sits : (answer : ℕ) (ran : Bool) (work : Work) → IsLoaded v work → OwnsIf c.is_open (source me) → c.interrupts ≡ nat_lt (v.acked + 1) 2 →
       HasRun me (visit_acked v answer ran) ran → (b : Bool) → Sits u me (at Gate) (cond b (stop_goes (record c { visit = Some (visit_acked v answer ran) }) (Advance (visit_acked v answer ran) (round.Refill ran)))
@@ -67,8 +61,8 @@ module _ (u : Setup) (p : StopState) (at : Word → ℕ) (seat : ℕ → Seat) (
   pub acknowledge : CarriesIn c (p.calling me) → (answer : ℕ) (ran : Bool) → c.stage ≡ Some (Advance v (round.Acknowledge answer ran)) →
       StopStep u p at seat source c me (Advance v (round.Acknowledge answer ran))
   acknowledge k answer ran e =
-      let r = in_round (round.Acknowledge answer ran) e in
-      either r.1.0 r.1.1 r.1.2 r.1.3 (at_source (round.Acknowledge answer ran) e)
+      let r = in_round s v (round.Acknowledge answer ran) e in
+      either r.1.0 r.1.1 r.1.2 r.1.3 (round_source s v (round.Acknowledge answer ran) e)
     where
       found : ℕ
       found = at (Slot v.slot Ack)
@@ -137,7 +131,7 @@ module _ (u : Setup) (p : StopState) (at : Word → ℕ) (seat : ℕ → Seat) (
 
   pub refill : (ran : Bool) → c.stage ≡ Some (Advance v (round.Refill ran)) → StopStep u p at seat source c me (Advance v (round.Refill ran))
   refill ran e =
-      let r = in_round (round.Refill ran) e in
+      let r = in_round s v (round.Refill ran) e in
       let work = r.1.0 in
       let loaded = r.1.1 in
       let next = In v.slot work v.acked v.acked Sets in
@@ -153,14 +147,14 @@ module _ (u : Setup) (p : StopState) (at : Word → ℕ) (seat : ℕ → Seat) (
           below = s.below;
           irq = s.irq ∙ ap irq_of r.1.2;
           seat = (r.0, (work, loaded, refl, r.1.3));
-          source = at_source (round.Refill ran) e;
+          source = round_source s v (round.Refill ran) e;
           gate_held = tt;
         };
       }
 
   pub raise : (ran : Bool) → c.stage ≡ Some (Advance v (round.Raise ran)) → StopStep u p at seat source c me (Advance v (round.Raise ran))
   raise ran e =
-      let r = in_round (round.Raise ran) e in
+      let r = in_round s v (round.Raise ran) e in
       let work = r.1.0 in
       let next = In v.slot work v.acked v.acked Rests in
       let off : c.interrupts ≡ nat_lt v.acked 2 = s.irq ∙ ap irq_of r.1.2 in
@@ -174,7 +168,7 @@ module _ (u : Setup) (p : StopState) (at : Word → ℕ) (seat : ℕ → Seat) (
           irq = at_test v.acked 4 (λ d. cond d true c.interrupts ≡ nat_lt v.acked 2 || d) (λ _. sym (or_true (nat_lt v.acked 2)))
               (λ _. off ∙ sym (or_false (nat_lt v.acked 2) false refl));
           seat = subst (λ x. SitsAtRest x next) (sym r.0) (work, r.1.1, refl);
-          source = at_source (round.Raise ran) e;
+          source = round_source s v (round.Raise ran) e;
           gate_held = tt;
         };
       }

@@ -44,8 +44,8 @@ use Rattle.smp_stop_steps.specs.declared.stage.StopStage.TheVariants.{TakeGate, 
 use Rattle.smp_stop_steps.specs.declared.stage.StopStage.TheVariants.{Complete, Close, LoadDone, LoadResult, ReadKey, ReadSite, NudgeKey, ExchangeKey}
 use Rattle.smp_stop_steps.specs.declared.stage.Visit.{Visit}
 use Rattle.smp_stop_steps.proofs.Steps.Callings.{carried_alone, idle_alters, idle_patch}
-use Rattle.smp_stop_steps.proofs.Basics.Counts.{put_here, put_else}
 use Rattle.smp_stop_steps.proofs.State.Moves.{IsNoPatch}
+use Rattle.smp_words.proofs.Puts.{put_same, put_other}
 
 -- no store calls a function
 open_calling : (p : StopState) (me s v : ℕ) (f : Field) → told_of (stored_open p me s f v) ≡ told_of p
@@ -190,8 +190,8 @@ module _ (u : Setup) (p : StopState) (at : Word → ℕ) (seat : ℕ → Seat) (
         let after : told_of (state_after u p at c me stage) ≡ record (told_of p) { calling = put p.calling me (Calls call) } =
         ap told_of (is_told ∙ called s w a l answer is may) in record {
           mine = subst (λ (x : Told). CarriesIn (control_then u at c me stage) (x.calling me)) (sym after) (subst (CarriesIn (control_then u at c me stage))
-              (sym (put_here p.calling me (Calls call))) (mine call refl));
-          others = λ cpu ne. ap (λ (x : Told). x.calling cpu) after ∙ put_else p.calling me (Calls call) cpu ne;
+              (sym (put_same p.calling me (Calls call))) (mine call refl));
+          others = λ cpu ne. ap (λ (x : Told). x.calling cpu) after ∙ put_other p.calling me (Calls call) cpu ne;
           goes = inr (inl record {
             call = call;
             idle = idle;
@@ -348,9 +348,9 @@ module _ (u : Setup) (p : StopState) (at : Word → ℕ) (seat : ℕ → Seat) (
             ((p.now.stop v.slot).work.kind ≡ Patch)) →
             (b ≡ true → IsQuiet (Some (visit_acked v answer ran)) g) → (b ≡ false → IsQuiet (Some (visit_acked v answer ran)) f) → Now stage
         done true g same is in_ ready y n = record {
-          mine = subst (CarriesIn (control_then u at c me stage)) (sym (ap (λ (x : Told). x.calling me) same ∙ put_here p.calling me g))
+          mine = subst (CarriesIn (control_then u at c me stage)) (sym (ap (λ (x : Told). x.calling me) same ∙ put_same p.calling me g))
               (acked_control answer ran (found == 1) g (y refl));
-          others = λ cpu ne. ap (λ (x : Told). x.calling cpu) same ∙ put_else p.calling me g cpu ne;
+          others = λ cpu ne. ap (λ (x : Told). x.calling cpu) same ∙ put_other p.calling me g cpu ne;
           goes = inr (inr (inl record {
             slot = v.slot;
             inside = in_;
@@ -456,11 +456,11 @@ module _ (u : Setup) (p : StopState) (at : Word → ℕ) (seat : ℕ → Seat) (
             p.now.inside me ≡ Some v.slot → x ≡ v.answer →
             ((p.now.stop v.slot).work.kind ≡ One → f ≢ Idle) → Now (Complete v completion.CountDown)
         done a x same in_ answers called = record {
-          mine = subst (CarriesIn (control_then u at c me (Complete v completion.CountDown))) (sym (ap (λ (y : Told). y.calling me) same ∙ put_here
+          mine = subst (CarriesIn (control_then u at c me (Complete v completion.CountDown))) (sym (ap (λ (y : Told). y.calling me) same ∙ put_same
               p.calling me Idle))
               (elim (found == 1) as (λ b. CarriesIn (cond b (stop_goes (record c { visit = None }) (Close v.slot)) (stop_ends (record c { visit = None })
               note.Finished)).control Idle) [ true ↦ tt | false ↦ tt ]);
-          others = λ cpu ne. ap (λ (y : Told). y.calling cpu) same ∙ put_else p.calling me Idle cpu ne;
+          others = λ cpu ne. ap (λ (y : Told). y.calling cpu) same ∙ put_other p.calling me Idle cpu ne;
           goes = inr (inr (inr record {
             slot = v.slot;
             inside = in_;

@@ -3,7 +3,7 @@ use Rattle.smp_stop_steps.proofs.Basics.Bools.{both_true}
 use Rattle.std.proofs.Common.{◌≡◌, ◌≢◌, ℕ, ◌+◌, Bool, true, false, ◌==◌, ◌&&◌, ◌⊎◌, inl, inr, ⊎_elim, cond, List, ne_eqb, sym, subst, refl, ap}
 use Rattle.std.proofs.Common.{◌∙◌, arith, ◌||◌, eqb-true}
 use Rattle.smp_mask.specs.Mask.{has}
-use Rattle.smp_words.proofs.Puts.{at_test, put_all, put_both}
+use Rattle.smp_words.proofs.Puts.{at_test, put_all, put_both, put_other}
 use Rattle.smp_words.specs.Put.{put}
 use Rattle.smp_words.specs.declared.work.Kind.{Kind as KindOf}
 use Rattle.smp_words.specs.declared.work.Kind.TheVariants.{One, Multi, Patch}
@@ -18,7 +18,6 @@ use Rattle.smp_stop_steps.specs.Seats.{Seat, Free, In, Gives, Alters, Closes, Tu
 use Rattle.smp_stop_steps.specs.State.{Setup, StopState, Calling, Idle, Calls, Carries, Present}
 use Rattle.smp_stop_steps.specs.Stop.{Stop, Inside, Last}
 use Rattle.smp_stop_steps.specs.Tells.{calls_at_run, carried, carried_call, is_multi, is_one, may_call}
-use Rattle.smp_stop_steps.proofs.Basics.Counts.{put_else}
 use Rattle.smp_stop_steps.proofs.State.Moves.{IsNoPatch}
 
 module _ (seat : ℕ → Seat) (calling : ℕ → Calling) (h : (c : ℕ) → IsCalling c (seat c) (calling c)) (me : ℕ) (next : Seat) where
@@ -137,7 +136,7 @@ module _ (n : Present) (seat : ℕ → Seat) (me : ℕ) (next : Seat) (h : AreCl
   other j c is e = subst IsNotClosing (sym (ap seat e) ∙ is) idle
 
   pub closing_seat : AreClosing n (put seat me next)
-  closing_seat j c o l = let k = h j c o l in (put_else seat me next c (other j c k.0) ∙ k.0, k.1)
+  closing_seat j c o l = let k = h j c o l in (put_other seat me next c (other j c k.0) ∙ k.0, k.1)
 
   module _ (s : ℕ) (stop' : Stop) (others : (c : ℕ) → c ≢ me → stop'.standing c ≡ (n.stop s).standing c) where
     -- a step on a stop that ends as it did
@@ -148,7 +147,7 @@ module _ (n : Present) (seat : ℕ → Seat) (me : ℕ) (next : Seat) (h : AreCl
         (λ e o l.
         let k = h s c (sym op ∙ o) (sym end ∙ l) in
         let ne = other s c k.0 in
-        (put_else seat me next c ne ∙ (k.0 ∙ ap Closes (sym e)), subst HasCompleted (sym (others c ne)) k.1))
+        (put_other seat me next c ne ∙ (k.0 ∙ ap Closes (sym e)), subst HasCompleted (sym (others c ne)) k.1))
         (λ ne o l. closing_seat j c o l)
 
 -- until a completion tells it, any answer may be put for that of the function of a CPU in a stop

@@ -14,7 +14,7 @@ use Rattle.smp_words.specs.Put.{put, put_word}
 use Rattle.smp_stop_steps.specs.Counts.{one}
 use Rattle.smp_stop_steps.specs.Seats.{Closes, Free, Gives, In, Rests, Seat, irq_of}
 use Rattle.smp_stop_steps.specs.Shows.{StopShows}
-use Rattle.smp_stop_steps.specs.Sits.{IsLoaded, IsThroughAll, OwnsIf, Sits, SitsAt, SitsAtRest, SourceSits}
+use Rattle.smp_stop_steps.specs.Sits.{IsLoaded, IsThroughAll, OwnsIf, Sits, SitsAtRest}
 use Rattle.smp_stop_steps.specs.Sources.{Source}
 use Rattle.smp_stop_steps.specs.Stages.{StopControlValue, all_but, stop_ends, stop_goes}
 use Rattle.smp_stop_steps.specs.State.{Setup, StopState, Calling, Calls, Carries, Idle}
@@ -36,19 +36,14 @@ use Rattle.smp_mask.specs.Mask.{has}
 use Rattle.smp_stop_steps.specs.Carries.{CarriesIn, CarriesAt, IsEnding}
 use Rattle.smp_stop_steps.proofs.Steps.Callings.{calling_given}
 use Rattle.smp_stop_steps.proofs.Steps.Facts.{arg_loaded, work_words}
+use Rattle.smp_stop_steps.proofs.Steps.Stages.{at_seat, at_source}
 
 module _ (u : Setup) (p : StopState) (at : Word → ℕ) (seat : ℕ → Seat) (source : ℕ → Source) (h : StopShows u p at seat source) (c : StopControlValue) (me : ℕ)
     (s : Sits u me (at Gate) c (seat me) (source me)) where
-  at_source : (stage : StopStage) → c.stage ≡ Some stage → SourceSits c.is_open (Some stage) (source me)
-  at_source stage e = subst (λ (st : Option StopStage). SourceSits c.is_open st (source me)) e s.source
-
-  at_seat : (stage : StopStage) → c.stage ≡ Some stage → SitsAt u me c (Some stage) (seat me)
-  at_seat stage e = subst (λ (st : Option StopStage). SitsAt u me c st (seat me)) e s.seat
-
   enter : (slot : ℕ) → c.stage ≡ Some (Enter slot) → StopStep u p at seat source c me (Enter slot)
   enter slot e =
-      let x = at_seat (Enter slot) e in
-      let g = go x.0 x.1 (at_source (Enter slot) e) (has (at (Slot slot Roll)) me) refl in
+      let x = at_seat s (Enter slot) e in
+      let g = go x.0 x.1 (at_source s (Enter slot) e) (has (at (Slot slot Roll)) me) refl in
       record { seat_after = g.0; source_after = source me; shows = g.1; sits = g.2 }
     where
       low : me < 64
@@ -77,7 +72,7 @@ module _ (u : Setup) (p : StopState) (at : Word → ℕ) (seat : ℕ → Seat) (
 
   close : (slot : ℕ) → c.stage ≡ Some (Close slot) → StopStep u p at seat source c me (Close slot)
   close slot e =
-      let x = at_seat (Close slot) e in
+      let x = at_seat s (Close slot) e in
       record {
         seat_after = Free;
         source_after = source me;
@@ -87,7 +82,7 @@ module _ (u : Setup) (p : StopState) (at : Word → ℕ) (seat : ℕ → Seat) (
           below = s.below;
           irq = s.irq ∙ ap irq_of x.1;
           seat = subst (λ x. SitsAtRest x Free) (sym x.0) refl;
-          source = at_source (Close slot)
+          source = at_source s (Close slot)
               e;
           gate_held = tt;
         };
@@ -97,7 +92,7 @@ module _ (u : Setup) (p : StopState) (at : Word → ℕ) (seat : ℕ → Seat) (
     one_func : (answer : ℕ) → c.stage ≡ Some (Complete v (completion.LoadFunc answer)) → StopStep u p at seat source c me
         (Complete v (completion.LoadFunc answer))
     one_func answer e =
-        let x = at_seat (Complete v (completion.LoadFunc answer)) e in
+        let x = at_seat s (Complete v (completion.LoadFunc answer)) e in
         record {
           seat_after = seat me;
           source_after = source me;
@@ -106,7 +101,7 @@ module _ (u : Setup) (p : StopState) (at : Word → ℕ) (seat : ℕ → Seat) (
             below = s.below;
             irq = s.irq;
             seat = (x.0, (x.1.0, (x.1.1.0, x.1.1.1, x.1.1.2, (work_words u p at seat source h v.slot me x.1.1.0 v.acked v.acked Rests x.1.1.2).func)));
-            source = at_source (Complete v (completion.LoadFunc answer)) e;
+            source = at_source s (Complete v (completion.LoadFunc answer)) e;
             gate_held = tt;
           };
         }
@@ -114,14 +109,14 @@ module _ (u : Setup) (p : StopState) (at : Word → ℕ) (seat : ℕ → Seat) (
     one_arg : (answer func : ℕ) → c.stage ≡ Some (Complete v (completion.LoadArg answer func)) → StopStep u p at seat source c me
         (Complete v (completion.LoadArg answer func))
     one_arg answer func e =
-        let x = at_seat (Complete v (completion.LoadArg answer func)) e in
+        let x = at_seat s (Complete v (completion.LoadArg answer func)) e in
         record {
           seat_after = seat me;
           source_after = source me;
           shows = still u seat source me (state_after u p at c me (Complete v (completion.LoadArg answer func))) at (arg_loaded u p at seat source h v.slot
               me x.1.1.0
               v.acked v.acked Rests x.1.1.2 answer refl);
-          sits = go x.1.0 x.1.1.0 x.1.1.1 x.1.1.2 (at_source (Complete v (completion.LoadArg answer func)) e) (answer == 0) refl;
+          sits = go x.1.0 x.1.1.0 x.1.1.1 x.1.1.2 (at_source s (Complete v (completion.LoadArg answer func)) e) (answer == 0) refl;
         }
       where
         go : v.kind ≡ One → (work : Work) → IsLoaded v work → seat me ≡ In v.slot work v.acked v.acked Rests → OwnsIf c.is_open (source me) → (b : Bool) →
@@ -172,7 +167,7 @@ module _ (u : Setup) (p : StopState) (at : Word → ℕ) (seat : ℕ → Seat) (
     store_answer : CarriesIn c (p.calling me) → c.stage ≡ Some (Complete v completion.StoreAnswer) → StopStep u p at seat source c me
         (Complete v completion.StoreAnswer)
     store_answer k e =
-        let x = at_seat (Complete v completion.StoreAnswer) e in
+        let x = at_seat s (Complete v completion.StoreAnswer) e in
         let some = x.1.0 in
         let work = x.1.2.0 in
         let is : seat me ≡ In v.slot work v.acked v.acked Rests = x.1.2.2 in
@@ -191,7 +186,7 @@ module _ (u : Setup) (p : StopState) (at : Word → ℕ) (seat : ℕ → Seat) (
             below = s.below;
             irq = s.irq ∙ on_now u p at seat source h v.slot me work v.acked v.acked is through;
             seat = (x.0, (work, inr refl));
-            source = at_source (Complete v completion.StoreAnswer) e;
+            source = at_source s (Complete v completion.StoreAnswer) e;
             gate_held = tt;
           };
         }
@@ -204,8 +199,8 @@ module _ (u : Setup) (p : StopState) (at : Word → ℕ) (seat : ℕ → Seat) (
 
     count_down : c.stage ≡ Some (Complete v completion.CountDown) → StopStep u p at seat source c me (Complete v completion.CountDown)
     count_down e =
-        let x = at_seat (Complete v completion.CountDown) e in
-        either x.1.0 x.1.1 (at_source (Complete v completion.CountDown) e)
+        let x = at_seat s (Complete v completion.CountDown) e in
+        either x.1.0 x.1.1 (at_source s (Complete v completion.CountDown) e)
       where
         either : (work : Work) → (((v.answer ≡ 0) × IsLoaded v work × IsThroughAll v × (seat me ≡ In v.slot work v.acked v.acked Rests)) ⊎
             (seat me ≡ Gives v.slot work v.acked v.answer)) →

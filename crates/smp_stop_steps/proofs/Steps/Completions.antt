@@ -5,8 +5,8 @@ use Rattle.smp_stop_steps.proofs.Steps.Callings.{calling_same, IsNotClosing, idl
 use Rattle.smp_stop_steps.specs.Labels.{StandsSet}
 use Rattle.std.proofs.Common.{◌≡◌, ◌≢◌, ℕ, ◌+◌, ◌-◌, ◌≤◌, Bool, true, false, nat_lt, eq-eqb, ◌==◌, ◌||◌, cond, sym, subst, refl, ap, ◌∙◌, ◌⊎◌, inl}
 use Rattle.std.proofs.Common.{inr, arith, ⊎_elim, Option, Some, None, List, [], ◌∷◌, ◌++◌}
-use Rattle.smp_words.proofs.Puts.{at_test, put_all}
-use Rattle.smp_stop_steps.proofs.Basics.Counts.{put_else, put_here, sum_zero}
+use Rattle.smp_words.proofs.Puts.{at_test, put_all, put_same, put_other}
+use Rattle.smp_stop_steps.proofs.Basics.Counts.{sum_zero}
 use Rattle.smp_stop_steps.proofs.State.Ends.{answer_of_it, answer_unfinished}
 use Rattle.smp_stop_steps.proofs.State.Entered.{step_answers, step_completes, step_enters, step_finishes}
 use Rattle.smp_stop_steps.proofs.Steps.Kept.{MovesInside, StaysOpen, after, moves_early, moves_given, open_step, open_step_with, other_slots, owns_kept, past_answers}
@@ -85,7 +85,7 @@ module _ (u : Setup) (p : StopState) (at : Word → ℕ) (seat : ℕ → Seat) (
       (subst (IsCalling me (In s (p.now.stop s).work 0 0 Rests)) (sym (idle_free me (p.calling me) (subst (λ x. IsCalling me x (p.calling me)) is
       (h.callings me)))) (λ l. absurd (let z : ⊥ = omega (arith, l) in z))))
       (closing_kept p.now seat me (In s (p.now.stop s).work 0 0 Rests) h.closing (subst IsNotClosing (sym is) tt) s stop'
-      (λ c ne. put_else (p.now.stop s).standing me to c ne) refl refl))
+      (λ c ne. put_other (p.now.stop s).standing me to c ne) refl refl))
     where
       low : IsLevel (p.now.stop s).phase 0 → (c : ℕ) → acked ((p.now.stop s).standing c) ≤ 1
       low level c = let m = acked_most_phase u.cpus (p.now.stop s).phase c ((p.now.stop s).standing c) ((h.present.slots s).keeps c) in
@@ -162,7 +162,7 @@ module _ (u : Setup) (p : StopState) (at : Word → ℕ) (seat : ℕ → Seat) (
         (p.now.stop s) to inside stop' refl) h.owns)
         (step_answers u p.now at seat h.present s me job a l v is some is_done (rests_not me (p.now.stop s).raising st.2) on_now)
         (calling_same seat p.calling h.callings me (Gives s job a v) calls)
-        (closing_kept p.now seat me (Gives s job a v) h.closing (subst IsNotClosing (sym is) tt) s stop' (λ c ne. put_else (p.now.stop s).standing me to c
+        (closing_kept p.now seat me (Gives s job a v) h.closing (subst IsNotClosing (sym is) tt) s stop' (λ c ne. put_other (p.now.stop s).standing me to c
         ne) refl refl)))
 
   -- fetch_sub of todo, of whoever is ready to be counted
@@ -220,7 +220,7 @@ module _ (u : Setup) (p : StopState) (at : Word → ℕ) (seat : ℕ → Seat) (
               stop'.ending ≡ (p.now.stop s).ending →
               AreClosing (record (p.now) { stop = put p.now.stop s stop' }) (put seat me (cond b (Closes s) Free))
           kept b stop' op same end = closing_kept p.now seat me (cond b (Closes s) Free) h.closing calm s stop'
-              (λ c ne. ap (λ f. f c) same ∙ put_else (p.now.stop s).standing me (Completed a v) c ne) op end
+              (λ c ne. ap (λ f. f c) same ∙ put_other (p.now.stop s).standing me (Completed a v) c ne) op end
 
           go : (b : Bool) → AreClosing (record (p.now) {
             stop = put p.now.stop s (record (p.now.stop s) {
@@ -238,7 +238,7 @@ module _ (u : Setup) (p : StopState) (at : Word → ℕ) (seat : ℕ → Seat) (
               y.is_open ≡ true → y.ending ≡ Last c → (put seat me (Closes s) c ≡ Closes j) × HasCompleted (y.standing c))
               (λ e o l. let same : me ≡ c = cc in
               subst (λ k. (put seat me (Closes s) k ≡ Closes j) × HasCompleted (put (p.now.stop s).standing me (Completed a v) k)) same
-              (put_here seat me (Closes s) ∙ ap Closes (sym e), subst HasCompleted (sym (put_here (p.now.stop s).standing me (Completed a v))) tt))
+              (put_same seat me (Closes s) ∙ ap Closes (sym e), subst HasCompleted (sym (put_same (p.now.stop s).standing me (Completed a v))) tt))
               (λ ne o l. closing_seat p.now seat me (Closes s) h.closing calm j c o l)
 
       acked_it : (x : Standing) → IsAnswer x a v → acked x ≡ a
@@ -256,11 +256,11 @@ module _ (u : Setup) (p : StopState) (at : Word → ℕ) (seat : ℕ → Seat) (
           let one_ = answer_unfinished (p.now.stop s).phase a v ((p.now.stop s).standing me) is in omega arith
 
       here_more : (x : List ℕ) (c : ℕ) → put p.answers me (put (p.answers me) s x) c s ≡ put (λ c. p.answers c s) me x c
-      here_more x c = at_test c me (λ b. (cond b (put (p.answers me) s x) (p.answers c)) s ≡ cond b x (p.answers c s)) (λ _. put_here (p.answers me) s x)
+      here_more x c = at_test c me (λ b. (cond b (put (p.answers me) s x) (p.answers c)) s ≡ cond b x (p.answers c s)) (λ _. put_same (p.answers me) s x)
           (λ _. refl)
 
       there_same : (j : ℕ) → j ≢ s → (x : List ℕ) (c : ℕ) → put p.answers me (put (p.answers me) s x) c j ≡ p.answers c j
-      there_same j ne x c = at_test c me (λ b. (cond b (put (p.answers me) s x) (p.answers c)) j ≡ p.answers c j) (λ e. put_else (p.answers me) s x j ne ∙
+      there_same j ne x c = at_test c me (λ b. (cond b (put (p.answers me) s x) (p.answers c)) j ≡ p.answers c j) (λ e. put_other (p.answers me) s x j ne ∙
           ap (λ k. p.answers k j) (sym e)) (λ _. refl)
 
   -- fetch_sub of todo, by who answers 0
@@ -313,4 +313,4 @@ module _ (u : Setup) (p : StopState) (at : Word → ℕ) (seat : ℕ → Seat) (
       (y.standing c))
       (λ e o l. let bad : Ended ≡ Last c = l in cc)
       (λ ne o l. let k = h.closing j c o l in
-      (put_else seat me Free c (λ same. let two : Closes j ≡ Closes s = sym k.0 ∙ (ap seat same ∙ is) in let bad : j ≡ s = cc in ne bad) ∙ k.0, k.1))))
+      (put_other seat me Free c (λ same. let two : Closes j ≡ Closes s = sym k.0 ∙ (ap seat same ∙ is) in let bad : j ≡ s = cc in ne bad) ∙ k.0, k.1))))

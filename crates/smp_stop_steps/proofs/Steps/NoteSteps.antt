@@ -41,12 +41,13 @@ use Rattle.smp_stop_steps.specs.declared.stage.StopStage.TheVariants.{TakeGate, 
 use Rattle.smp_stop_steps.specs.declared.stage.StopStage.TheVariants.{Complete, Close, LoadDone, LoadResult, ReadKey as ReadsKey, ReadSite as ReadsSite}
 use Rattle.smp_stop_steps.specs.declared.stage.StopStage.TheVariants.{NudgeKey, ExchangeKey}
 use Rattle.smp_stop_steps.specs.declared.stage.Visit.{Visit}
-use Rattle.smp_stop_steps.proofs.Basics.Counts.{put_here, put_own}
+use Rattle.smp_stop_steps.proofs.Basics.Counts.{put_own}
 use Rattle.smp_stop_steps.proofs.State.Gates.{gate_free, gate_mine}
 use Rattle.smp_stop_steps.proofs.State.Phases.{is_open_inside}
 use Rattle.smp_stop_steps.proofs.Steps.CallSteps.{call_step}
 use Rattle.smp_stop_steps.proofs.Steps.Facts.{patcher_active}
 use Rattle.smp_stop_steps.proofs.Steps.Patching.{not_run}
+use Rattle.smp_words.proofs.Puts.{put_same}
 
 -- steps after which nothing is heard
 either_heard : (p q : StopState) (b : Bool) → heard_of q ≡ heard_of p → heard_of (cond b q p) ≡ heard_of p
@@ -74,7 +75,7 @@ run_called p q me func arg answer (inr (inl x)) =
     let same : Some (note.Run func arg) ≡ Some (note.Run x.call.func x.call.arg) = x.says in
     let funcs : x.call.func ≡ func = cc in
     let args : x.call.arg ≡ arg = cc in
-    (x.call, ap (λ (y : Told). y.calling me) x.calls ∙ put_here p.calling me (Calls x.call), funcs, args)
+    (x.call, ap (λ (y : Told). y.calling me) x.calls ∙ put_same p.calling me (Calls x.call), funcs, args)
 run_called p q me func arg answer (inr (inr (inl x))) = let bad : true ≡ false = x.says in cc
 run_called p q me func arg answer (inr (inr (inr x))) = let bad : true ≡ false = x.says in cc
 
@@ -115,7 +116,7 @@ module _ (u : Setup) (p : StopState) (at : Word → ℕ) (seat : ℕ → Seat) (
       (begun_next c work f).note) (sym d.shut) (go d.shut f)
     where
       here : put p.now.stop me (opened (p.now.stop me) (p.now.stop me).work) me ≡ opened (p.now.stop me) (p.now.stop me).work
-      here = put_here p.now.stop me (opened (p.now.stop me) (p.now.stop me).work)
+      here = put_same p.now.stop me (opened (p.now.stop me) (p.now.stop me).work)
 
       go : (p.now.stop me).is_open ≡ false → (f : Field) → NoteFits p (stored_shut p me f (begun_value u.cpus work f)) me (begun_next c work f).note
       go shut field.Kind = inl refl
@@ -174,8 +175,8 @@ module _ (u : Setup) (p : StopState) (at : Word → ℕ) (seat : ℕ → Seat) (
             next = stands_at (p.now.stop v.slot) me (looked_by ((p.now.stop v.slot).standing me) found)
 
             stood : (put p.now.stop v.slot next v.slot).standing me ≡ Inside v.acked v.acked
-            stood = ap (λ (x : Stop). x.standing me) (put_here p.now.stop v.slot next) ∙
-                (put_here (p.now.stop v.slot).standing me (looked_by ((p.now.stop v.slot).standing me) found) ∙
+            stood = ap (λ (x : Stop). x.standing me) (put_same p.now.stop v.slot next) ∙
+                (put_same (p.now.stop v.slot).standing me (looked_by ((p.now.stop v.slot).standing me) found) ∙
                 (ap (λ x. looked_by x found) st.1 ∙ ap (Inside v.acked) same))
 
             quiet : (d : Bool) → (found == 2) ≡ d → heard_of (after d) ≡ heard_of p
@@ -249,10 +250,10 @@ module _ (u : Setup) (p : StopState) (at : Word → ℕ) (seat : ℕ → Seat) (
       acked_stop = acknowledged (p.now.stop v.slot) me phase (at (Slot v.slot field.Ack))
 
       acked_here : put p.now.stop v.slot acked_stop v.slot ≡ acked_stop
-      acked_here = put_here p.now.stop v.slot acked_stop
+      acked_here = put_same p.now.stop v.slot acked_stop
 
       acked_stands : (put p.now.stop v.slot acked_stop v.slot).standing me ≡ Inside phase phase
-      acked_stands = ap (λ (x : Stop). x.standing me) acked_here ∙ put_here (p.now.stop v.slot).standing me (Inside phase phase)
+      acked_stands = ap (λ (x : Stop). x.standing me) acked_here ∙ put_same (p.now.stop v.slot).standing me (Inside phase phase)
 
       abbrev acked_control : StopControlValue
       acked_control = record c { visit = Some (visit_acked v answer ran) }
@@ -338,7 +339,7 @@ module _ (u : Setup) (p : StopState) (at : Word → ℕ) (seat : ℕ → Seat) (
       raised_stop = raised (p.now.stop v.slot) (v.acked + 1)
 
       raised_here : put p.now.stop v.slot raised_stop v.slot ≡ raised_stop
-      raised_here = put_here p.now.stop v.slot raised_stop
+      raised_here = put_same p.now.stop v.slot raised_stop
 
       abbrev raised_after : Bool → StopState
       raised_after b = record p {
@@ -407,7 +408,7 @@ module _ (u : Setup) (p : StopState) (at : Word → ℕ) (seat : ℕ → Seat) (
         go : (a x : ℕ) → p.now.inside me ≡ Some v.slot → (b : Bool) → NoteFits p (completes_with p me v.slot a x found) me
             (cond b (stop_goes (record c { visit = None }) (Close v.slot)) (stop_ends (record c { visit = None }) note.Finished)).note
         go a x in_ true = inl refl
-        go a x in_ false = record { same = refl; outside = put_here p.now.inside me None; finished = inl (v.slot, in_) }
+        go a x in_ false = record { same = refl; outside = put_same p.now.inside me None; finished = inl (v.slot, in_) }
 
         either : (work : Work) → (((v.answer ≡ 0) × IsLoaded v work × IsThroughAll v × (seat me ≡ In v.slot work v.acked v.acked Rests)) ⊎
             (seat me ≡ Gives v.slot work v.acked v.answer)) → Fits (Complete v completion.CountDown)
@@ -426,7 +427,7 @@ module _ (u : Setup) (p : StopState) (at : Word → ℕ) (seat : ℕ → Seat) (
       subst (λ b. NoteFits p (cond b (stored_open p me slot field.Done 1) (stored_shut p slot field.Done 1)) me (Some note.Finished)) (sym st.1) (record {
         same = refl;
         outside = st.0;
-        finished = inr (slot, st.2, ap (λ (x : Stop). x.ending) (put_here p.now.stop slot (ended (p.now.stop slot))));
+        finished = inr (slot, st.2, ap (λ (x : Stop). x.ending) (put_same p.now.stop slot (ended (p.now.stop slot))));
       })
 
   load_done : c.stage ≡ Some LoadDone → Fits LoadDone
@@ -551,7 +552,7 @@ module _ (u : Setup) (p : StopState) (at : Word → ℕ) (seat : ℕ → Seat) (
   note_fits LoadResult e = record {
     found = at (Slot me field.Result);
     collected = refl;
-    shut = ap (λ (x : Stop). x.is_open) (put_here p.now.stop me (closed (p.now.stop me)));
+    shut = ap (λ (x : Stop). x.is_open) (put_same p.now.stop me (closed (p.now.stop me)));
     as_i32 = refl;
   }
   note_fits (ReadsKey key) e = read_key key e

@@ -6,8 +6,7 @@ use Rattle.smp_labels.specs.Keys.{is_on, change_of, count_after, IsKeyWord}
 use Rattle.smp_labels.specs.Kinds.{xor}
 use Rattle.smp_labels.specs.declared.keys.Change.TheVariants.{Up, Down}
 use Rattle.smp_words.specs.Access.{put_if}
-use Rattle.smp_words.proofs.Puts.{at_test}
-use Rattle.smp_stop_steps.proofs.Basics.Counts.{put_here}
+use Rattle.smp_words.proofs.Puts.{at_test, put_same}
 use Rattle.smp_stop_steps.proofs.State.Patched.{lawful_when_on, nobody_patches}
 use Rattle.smp_stop_steps.proofs.Steps.Patching.{not_run}
 use Rattle.smp_words.specs.Put.{put_word}
@@ -16,7 +15,7 @@ use Rattle.smp_stop_steps.specs.Present.{RunnerShows}
 use Rattle.smp_stop_steps.specs.Promises.{IsPatched, KeysStand, Nudges, ReadsOwnPatch, StandsAtEdge}
 use Rattle.smp_stop_steps.specs.Seats.{Alters, In, Rests, Seat, Stands}
 use Rattle.smp_stop_steps.specs.Shows.{StopShows}
-use Rattle.smp_stop_steps.specs.Sits.{RunsIf, IsNudge, Sits, SitsAt, SitsAtRest}
+use Rattle.smp_stop_steps.specs.Sits.{RunsIf, IsNudge, Sits, SitsAtRest}
 use Rattle.smp_stop_steps.specs.Sources.{Source}
 use Rattle.smp_stop_steps.specs.Stages.{StopControlValue, nudge_on, stop_ends, stop_goes}
 use Rattle.smp_stop_steps.specs.State.{Present, Setup, StopState}
@@ -34,12 +33,10 @@ use Rattle.smp_words.specs.declared.work.Kind.TheVariants.{Patch}
 use Rattle.smp_words.specs.declared.work.Work.{Work}
 use Rattle.smp_words.specs.declared.word.Word.{Word}
 use Rattle.smp_words.specs.declared.word.Word.TheVariants.{Gate, Key}
+use Rattle.smp_stop_steps.proofs.Steps.Stages.{at_seat}
 
 module _ (u : Setup) (p : StopState) (at : Word → ℕ) (seat : ℕ → Seat) (source : ℕ → Source) (h : StopShows u p at seat source) (c : StopControlValue) (me : ℕ)
     (s : Sits u me (at Gate) c (seat me) (source me)) where
-  at_seat : (stage : StopStage) → c.stage ≡ Some stage → SitsAt u me c (Some stage) (seat me)
-  at_seat stage e = subst (λ (st : Option StopStage). SitsAt u me c st (seat me)) e s.seat
-
   on_now : c.interrupts ≡ true → p.now.irq me ≡ true
   on_now on = h.present.irq me ∙ (sym s.irq ∙ on)
 
@@ -47,7 +44,7 @@ module _ (u : Setup) (p : StopState) (at : Word → ℕ) (seat : ℕ → Seat) (
   pub nudges : (k expected new : ℕ) → c.stage ≡ Some (ExchangeKey k expected new) → Nudges u p me expected new
   nudges k expected new e =
       let x : (c.interrupts ≡ true) × (u.online me ≡ true) × (k < u.keys) × IsNudge expected new × SitsAtRest c.visit (seat me) =
-      at_seat (ExchangeKey k expected new) e in
+      at_seat s (ExchangeKey k expected new) e in
       let on = on_now x.0 in
       record { online = x.1; irq = on; whole = nobody_patches u p.now at seat h.present me x.1 on; nudge = x.3; some = above x.3 }
     where
@@ -69,7 +66,7 @@ module _ (u : Setup) (p : StopState) (at : Word → ℕ) (seat : ℕ → Seat) (
   nudge_reads k up on = go (p.now.inside me) refl
     where
       read : Reads k (reads p.now me (ReadKey k (is_on (at (Key k)))))
-      read = put_here p.now.readings me (p.now.readings me ++ ReadKey k (is_on (at (Key k))) ∷ [])
+      read = put_same p.now.readings me (p.now.readings me ++ ReadKey k (is_on (at (Key k))) ∷ [])
 
       go : (x : Option ℕ) → p.now.inside me ≡ x → Reads k (key_loaded u p.now me k (at (Key k)) x)
       go None e = read
@@ -85,7 +82,7 @@ module _ (u : Setup) (p : StopState) (at : Word → ℕ) (seat : ℕ → Seat) (
   pub edge_is_read : (k : ℕ) (up : Bool) → c.stage ≡ Some (NudgeKey k up) → Refuses k (count_after (cond up Up Down) (at (Key k))) →
       StandsAtEdge p (state_after u p at c me (NudgeKey k up)) at me k up
   edge_is_read k up e refused =
-      let x : (c.interrupts ≡ true) × (u.online me ≡ true) × (k < u.keys) × SitsAtRest c.visit (seat me) = at_seat (NudgeKey k up) e in
+      let x : (c.interrupts ≡ true) × (u.online me ≡ true) × (k < u.keys) × SitsAtRest c.visit (seat me) = at_seat s (NudgeKey k up) e in
       let on = on_now x.0 in
       let few = h.setup.few_keys in
       let low = x.2 in
@@ -141,7 +138,7 @@ module _ (u : Setup) (p : StopState) (at : Word → ℕ) (seat : ℕ → Seat) (
   keys_stand (Advance v (round.LoadKey key change)) e w = loaded
   keys_stand (Advance v (round.LoadEntry key word site)) e w = loaded
   keys_stand (Advance v (round.StoreChange made)) e w =
-      let x = (at_seat (Advance v (round.StoreChange made)) e).1 in
+      let x = (at_seat s (Advance v (round.StoreChange made)) e).1 in
       let st : Stands p.now me (Alters v.slot x.0 x.1 x.6.0 x.6.1) = subst (Stands p.now me) x.6.4 (h.present.stands me) in
       let bad : Whole ≡ Patches me x.0 x.1 x.6.0 x.6.1 = sym w ∙ st.5 in cc
   keys_stand (Advance v (round.Acknowledge answer ran)) e w = record { keys = λ k. refl; sites = λ i. refl }
@@ -171,7 +168,7 @@ module _ (u : Setup) (p : StopState) (at : Word → ℕ) (seat : ℕ → Seat) (
   pub patch_answers : (v : Visit) (answer : ℕ) (ran : Bool) → c.stage ≡ Some (Advance v (round.Acknowledge answer ran)) →
       (work : Work) (count : ℕ) (made rest : List Change) → p.now.patching ≡ Patches me work count made rest → IsPatched u work count made rest answer ran
   patch_answers v answer ran e work count made rest is =
-      let x = (at_seat (Advance v (round.Acknowledge answer ran)) e).1 in
+      let x = (at_seat s (Advance v (round.Acknowledge answer ran)) e).1 in
       either x.0 x.3
     where
       either : (w : Work) → ((seat me ≡ In v.slot w v.acked (v.acked + 1) Rests) × RunsIf me v ran) ⊎

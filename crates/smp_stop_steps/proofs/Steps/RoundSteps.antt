@@ -17,7 +17,7 @@ use Rattle.smp_words.specs.Put.{put}
 use Rattle.smp_stop_steps.specs.Labels.{Change, count_set, answer_for, patch_answer}
 use Rattle.smp_stop_steps.specs.Seats.{Alters, In, Rests, Seat, irq_of}
 use Rattle.smp_stop_steps.specs.Shows.{StopShows}
-use Rattle.smp_stop_steps.specs.Sits.{IsLoaded, OwnsIf, Sits, SitsAt, SitsAtRest, SitsAtRun, SitsInRound, SourceSits, changes_of, SitsAtEntry}
+use Rattle.smp_stop_steps.specs.Sits.{IsLoaded, OwnsIf, Sits, SitsAtRest, SitsAtRun, changes_of, SitsAtEntry}
 use Rattle.smp_stop_steps.specs.Sources.{Source}
 use Rattle.smp_stop_steps.specs.Stages.{StopControlValue, change_at, entry_on, round_outcome, stop_ends, stop_goes, store_of, key_on}
 use Rattle.smp_stop_steps.specs.State.{Setup, StopState}
@@ -27,9 +27,7 @@ use Rattle.smp_words.specs.declared.seen.Act.TheVariants as act
 use Rattle.smp_words.specs.declared.seen.Note.TheVariants as note
 use Rattle.smp_words.specs.declared.field.Field.TheVariants.{Arg, State}
 use Rattle.smp_stop_steps.specs.declared.stage.RoundStage.TheVariants as round
-use Rattle.smp_stop_steps.specs.declared.stage.RoundStage.{RoundStage}
 use Rattle.smp_stop_steps.specs.declared.stage.StopStage.TheVariants.{Advance}
-use Rattle.smp_stop_steps.specs.declared.stage.StopStage.{StopStage}
 use Rattle.smp_stop_steps.specs.declared.stage.Visit.{Visit}
 use Rattle.smp_words.specs.declared.work.Kind.TheVariants.{Multi, One, Patch}
 use Rattle.smp_words.specs.declared.work.Kind.{Kind as KindOf}
@@ -42,6 +40,7 @@ use Rattle.smp_labels.specs.Plans.{patch_of, site_change, site_changes, plan_of}
 use Rattle.smp_labels.specs.declared.patch.Place.TheVariants as place
 use Rattle.smp_labels.specs.declared.words.TheConstants.{MOST_SITES}
 use Rattle.smp_mask.specs.Mask.{has}
+use Rattle.smp_stop_steps.proofs.Steps.Stages.{in_round, round_source}
 
 some_is : {A : Type 0} {x y : A} → Some x ≡ Some y → x ≡ y
 some_is {A} {x} {y} e = cc
@@ -67,18 +66,11 @@ changes-push key on i (y ∷ xs) x =
 
 module _ (u : Setup) (p : StopState) (at : Word → ℕ) (seat : ℕ → Seat) (source : ℕ → Source) (h : StopShows u p at seat source) (c : StopControlValue) (me : ℕ)
     (s : Sits u me (at Gate) c (seat me) (source me)) (v : Visit) where
-  -- the CPU is in a round, and its source is as it was
-  in_round : (stage : RoundStage) → c.stage ≡ Some (Advance v stage) → (c.visit ≡ Some v) × SitsInRound u me c.changes v stage (seat me)
-  in_round stage e = subst (λ (st : Option StopStage). SitsAt u me c st (seat me)) e s.seat
-
-  at_source : (stage : RoundStage) → c.stage ≡ Some (Advance v stage) → OwnsIf c.is_open (source me)
-  at_source stage e = subst (λ (st : Option StopStage). SourceSits c.is_open st (source me)) e s.source
-
   -- load of the state
   pub look : (answer : ℕ) → c.stage ≡ Some (Advance v (round.Look answer)) → StopStep u p at seat source c me (Advance v (round.Look answer))
   look answer e =
-      let r = in_round (round.Look answer) e in
-      let y = at_source (round.Look answer) e in
+      let r = in_round s v (round.Look answer) e in
+      let y = round_source s v (round.Look answer) e in
       let work = r.1.2.0 in
       let is : seat me ≡ In v.slot work v.acked v.acked Rests = r.1.2.2 in
       let found = at (Slot v.slot State) in
@@ -139,7 +131,7 @@ module _ (u : Setup) (p : StopState) (at : Word → ℕ) (seat : ℕ → Seat) (
           record {
             below = s.below;
             irq = off work is more up;
-            seat = (visit, ((in_round (round.Look answer) e).1.0, (work, (loaded, two, t.1, x))));
+            seat = (visit, ((in_round s v (round.Look answer) e).1.0, (work, (loaded, two, t.1, x))));
             source = y;
             gate_held = tt;
           }
@@ -167,7 +159,7 @@ module _ (u : Setup) (p : StopState) (at : Word → ℕ) (seat : ℕ → Seat) (
 
   pub load_func : (answer : ℕ) → c.stage ≡ Some (Advance v (round.LoadFunc answer)) → StopStep u p at seat source c me (Advance v (round.LoadFunc answer))
   load_func answer e =
-      let r = in_round (round.LoadFunc answer) e in
+      let r = in_round s v (round.LoadFunc answer) e in
       let run = r.1.1.1 in
       record {
         seat_after = seat me;
@@ -179,7 +171,7 @@ module _ (u : Setup) (p : StopState) (at : Word → ℕ) (seat : ℕ → Seat) (
           seat =
               (r.0, (r.1.0, (r.1.1.0, run, (work_words u p at seat source h v.slot me r.1.1.0 2 3 Rests run.3).func)));
           source =
-              at_source (round.LoadFunc answer) e;
+              round_source s v (round.LoadFunc answer) e;
           gate_held = tt;
         };
       }
@@ -187,7 +179,7 @@ module _ (u : Setup) (p : StopState) (at : Word → ℕ) (seat : ℕ → Seat) (
   pub load_arg : (answer func : ℕ) → c.stage ≡ Some (Advance v (round.LoadArg answer func)) → StopStep u p at seat source c me
       (Advance v (round.LoadArg answer func))
   load_arg answer func e =
-      let r = in_round (round.LoadArg answer func) e in
+      let r = in_round s v (round.LoadArg answer func) e in
       let run = r.1.1.1 in
       record {
         seat_after = seat me;
@@ -195,7 +187,7 @@ module _ (u : Setup) (p : StopState) (at : Word → ℕ) (seat : ℕ → Seat) (
         shows = still u seat source me (state_after u p at c me (Advance v (round.LoadArg answer func))) at (arg_loaded u p at seat source h v.slot me
             r.1.1.0 2 3 Rests
             run.3 answer refl);
-        sits = go r.0 r.1.0 r.1.1.0 run r.1.1.2 (at_source (round.LoadArg answer func) e) v.kind refl;
+        sits = go r.0 r.1.0 r.1.1.0 run r.1.1.2 (round_source s v (round.LoadArg answer func) e) v.kind refl;
       }
     where
       go : c.visit ≡ Some v → v.kind ≢ One → (work : Work) → SitsAtRun me v work (seat me) → func ≡ work.func → OwnsIf c.is_open (source me) →
@@ -252,7 +244,7 @@ module _ (u : Setup) (p : StopState) (at : Word → ℕ) (seat : ℕ → Seat) (
   pub load_key : (key : ℕ) (change : KeyChange) → c.stage ≡ Some (Advance v (round.LoadKey key change)) → StopStep u p at seat source c me
       (Advance v (round.LoadKey key change))
   load_key key change e =
-      let r = in_round (round.LoadKey key change) e in
+      let r = in_round s v (round.LoadKey key change) e in
       let work = r.1.1.0 in
       let run = r.1.1.1 in
       let same : key ≡ work.func = r.1.1.2 in
@@ -269,7 +261,7 @@ module _ (u : Setup) (p : StopState) (at : Word → ℕ) (seat : ℕ → Seat) (
             (key_loaded_first u p at seat source h me v.slot work 0 run.3 kind active));
         sits = subst (λ k. Sits u me (at Gate) (round_outcome me c v (round.LoadKey k change) (at (Key k))).control next (source me)) (sym same)
             (subst (λ w. Sits u me (at Gate) (round_outcome me c v (round.LoadKey work.func w) found).control next (source me)) (sym is_change)
-            (go r.0 work run (at_source (round.LoadKey key change) e) found (count_after (change_of work.arg) found) refl));
+            (go r.0 work run (round_source s v (round.LoadKey key change) e) found (count_after (change_of work.arg) found) refl));
       }
     where
       -- where the plan is empty, all of it is made
@@ -394,13 +386,13 @@ module _ (u : Setup) (p : StopState) (at : Word → ℕ) (seat : ℕ → Seat) (
   pub load_entry : (key word site : ℕ) → c.stage ≡ Some (Advance v (round.LoadEntry key word site)) → StopStep u p at seat source c me
       (Advance v (round.LoadEntry key word site))
   load_entry key word site e =
-      let r = in_round (round.LoadEntry key word site) e in
+      let r = in_round s v (round.LoadEntry key word site) e in
       record {
         seat_after = seat me;
         source_after = source me;
         shows = still u seat source me p at h;
         sits = subst (λ k. Sits u me (at Gate) (entry_on c v k word site (at (Entry site))).control (seat me) (source me)) (sym r.1.1.key_is)
-            (loads r.0 r.1.0 r.1.1 r.1.2 r.1.3 r.1.4 (at_source (round.LoadEntry key word site) e));
+            (loads r.0 r.1.0 r.1.1 r.1.2 r.1.3 r.1.4 (round_source s v (round.LoadEntry key word site) e));
       }
     where
       -- all is loaded
@@ -505,8 +497,8 @@ module _ (u : Setup) (p : StopState) (at : Word → ℕ) (seat : ℕ → Seat) (
   -- a store of a patch
   pub store_change : (made : ℕ) → c.stage ≡ Some (Advance v (round.StoreChange made)) → StopStep u p at seat source c me (Advance v (round.StoreChange made))
   store_change made e =
-      let r = in_round (round.StoreChange made) e in
-      go r.0 r.1.0 r.1.1 r.1.2 r.1.3 r.1.4 r.1.5 r.1.6.0 r.1.6.1 r.1.6.2 r.1.6.3 r.1.6.4 (at_source (round.StoreChange made) e)
+      let r = in_round s v (round.StoreChange made) e in
+      go r.0 r.1.0 r.1.1 r.1.2 r.1.3 r.1.4 r.1.5 r.1.6.0 r.1.6.1 r.1.6.2 r.1.6.3 r.1.6.4 (round_source s v (round.StoreChange made) e)
     where
       go : c.visit ≡ Some v → (work : Work) (count : ℕ) → IsLoaded v work → v.acked ≡ 2 → made < length c.changes → c.changes ≡ plan_at u work count →
           (before after : List Change) → c.changes ≡ before ++ after → length before ≡ made →

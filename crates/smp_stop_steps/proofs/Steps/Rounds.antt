@@ -6,14 +6,13 @@ use Rattle.smp_stop_steps.proofs.Steps.Callings.{carried_alone, calling_next, ca
 use Rattle.std.proofs.Common.{◌≡◌, ◌≢◌, ℕ, ◌+◌, ◌-◌, ◌<◌, ◌≤◌, Bool, true, false, not, nat_lt, lt-ltb, le-ltb, eqb-true, eq-eqb, ne_eqb, ◌==◌, ◌&&◌}
 use Rattle.std.proofs.Common.{◌||◌, cond, sym, subst, refl, ap, ◌∙◌, ◌⊎◌, inl, inr, arith, ⊎_elim, Some, None, List, [], ◌∷◌, ◌++◌, Option, IfSome}
 use Rattle.std.proofs.lemmas.Bool.{cases_lt, cases_eq}
-use Rattle.smp_words.proofs.Puts.{at_test, put_all}
-use Rattle.smp_stop_steps.proofs.Basics.Counts.{put_else, put_here}
+use Rattle.smp_words.proofs.Puts.{at_test, put_all, put_same, put_other}
 use Rattle.smp_stop_steps.proofs.Steps.Kept.{MovesInside, StaysOpen, after, moves_early, moves_given, open_step, other_slots, owns_kept, put_twice}
 use Rattle.smp_stop_steps.proofs.State.Moves.{IsNoPatch, SaveMe}
 use Rattle.smp_stop_steps.proofs.State.Owns.{owns_at_leave}
 use Rattle.smp_stop_steps.proofs.State.Patched.{patch_ends}
 use Rattle.smp_stop_steps.proofs.State.Phases.{is_open_inside, keeps_inside}
-use Rattle.smp_stop_steps.proofs.State.Acknowledged.{step_acknowledges, step_looks, step_raises, step_refills}
+use Rattle.smp_stop_steps.proofs.State.Acknowledged.{step_acknowledges, step_looks, step_raises, step_refills, sets_me}
 use Rattle.smp_stop_steps.proofs.State.Works.{weight_of_mask}
 use Rattle.smp_words.specs.Put.{put, put_word}
 use Rattle.smp_stop_steps.specs.Counts.{mask_weight, weight}
@@ -132,14 +131,14 @@ module _ (u : Setup) (p : StopState) (at : Word → ℕ) (seat : ℕ → Seat) (
       (λ on i. h.present.read me on (before found (sym (turned found refl (o.state ∙ refl) k (h.present.irq me ∙ ap irq_of is)) ∙ refl) i)))
       (calling_same seat p.calling h.callings me next (calling_looked me s job a l found (p.calling me) (λ two three. o.state ∙ near k.2 two three)
       (subst (λ x. IsCalling me x (p.calling me)) is (h.callings me))))
-      (closing_kept p.now seat me next h.closing (subst IsNotClosing (sym is) tt) s stop' (λ c ne. put_else (p.now.stop s).standing me to c ne) refl refl))
+      (closing_kept p.now seat me next h.closing (subst IsNotClosing (sym is) tt) s stop' (λ c ne. put_other (p.now.stop s).standing me to c ne) refl refl))
     where
       near : (l ≡ a) ⊎ ((l ≡ a + 1) × ((p.now.stop s).phase ≡ l)) → a ≡ 2 → l ≡ 3 → (p.now.stop s).phase ≡ 3
       near k two three = ⊎_elim (λ (e : l ≡ a). absurd (let z : ⊥ = omega (arith, two, three) in z)) (λ (e : (l ≡ a + 1) × ((p.now.stop s).phase ≡ l)).
           e.1 ∙ three) k
 
       other_irq : (b : Bool) (c : ℕ) → c ≢ me → cond b (put p.now.irq me false) p.now.irq c ≡ p.now.irq c
-      other_irq true c ne = put_else p.now.irq me false c ne
+      other_irq true c ne = put_other p.now.irq me false c ne
       other_irq false c ne = refl
 
       save : (found : ℕ) → SaveMe p.now me p.now.inside (cond (found == 2) (put p.now.irq me false) p.now.irq) p.now.readings
@@ -149,13 +148,13 @@ module _ (u : Setup) (p : StopState) (at : Word → ℕ) (seat : ℕ → Seat) (
           a == 4 →
           cond (found == 2) (put p.now.irq me false) p.now.irq me ≡ nat_lt found 2 || a == 4
       turned found _ e k i = at_test found 2 (λ b. cond b (put p.now.irq me false) p.now.irq me ≡ nat_lt found 2 || a == 4)
-          (λ two. put_here p.now.irq me false ∙ sym (ap (λ n. nat_lt n 2 || a == 4) two ∙ ne_eqb a 4 more))
+          (λ two. put_same p.now.irq me false ∙ sym (ap (λ n. nat_lt n 2 || a == 4) two ∙ ne_eqb a 4 more))
           (λ ne. i ∙ ap (λ b. b || a == 4) (look_irq l a found (p.now.stop s).phase e k.1 k.2 ne))
 
       before : (found : ℕ) → nat_lt found 2 || a == 4 ≡ cond (found == 2) (put p.now.irq me false) p.now.irq me → nat_lt found 2 || a == 4 ≡ true →
           p.now.irq me ≡ true
       before found e i = at_test found 2 (λ b. cond b (put p.now.irq me false) p.now.irq me ≡ true → p.now.irq me ≡ true)
-          (λ _ x. let bad : true ≡ false = sym x ∙ put_here p.now.irq me false in cc) (λ _ x. x) (sym e ∙ i)
+          (λ _ x. let bad : true ≡ false = sym x ∙ put_same p.now.irq me false in cc) (λ _ x. x) (sym e ∙ i)
 
   -- who is not inside the function of a patch does not end one
   not_patching : (x : Patching) → IsNoPatch (seat me) → RunnerShows u.first x seat → unpatched me x ≡ x
@@ -260,17 +259,17 @@ module _ (u : Setup) (p : StopState) (at : Word → ℕ) (seat : ℕ → Seat) (
         (step_acknowledges u (record (p.now) { patching = x }) at seat0 present s me irq' readings'
         record {
           inside = λ c ne. refl;
-          irq = λ c ne. put_else p.now.irq me true c ne;
-          readings = λ c ne. put_else p.now.readings me
+          irq = λ c ne. put_other p.now.irq me true c ne;
+          readings = λ c ne. put_other p.now.readings me
               (first_readings me s (p.now.stop s).work) c ne;
         }
         job a is
-        (put_here p.now.irq me true ∙ sym (leaves_irq (found == 1) ∙ ap (λ b. cond b true (nat_lt (a + 1) 2)) e))
-        (λ _ _. subst (AllByRecursion (Agrees (labels_in at))) (sym (put_here p.now.readings me (first_readings me s (p.now.stop s).work)))
+        (put_same p.now.irq me true ∙ sym (leaves_irq (found == 1) ∙ ap (λ b. cond b true (nat_lt (a + 1) 2)) e))
+        (λ _ _. subst (AllByRecursion (Agrees (labels_in at))) (sym (put_same p.now.readings me (first_readings me s (p.now.stop s).work)))
         (agrees (eqb-true (a + 1) 4 (both_true (a + 1 == 4) (not (found == 1)) e).0))))
         (subst (λ (y : ℕ → Seat). (c : ℕ) → IsCalling c (y c) (calling' c)) (sym same) callings)
         (subst (AreClosing (record (acked_now x) { irq = irq'; readings = readings' })) (sym same) (closing_kept p.now seat me next h.closing idle s
-        acked_stop (λ c ne. put_else (p.now.stop s).standing me to c ne) refl refl)))
+        acked_stop (λ c ne. put_other (p.now.stop s).standing me to c ne) refl refl)))
     ack_shown x seat0 calls' calling' present is off same st op known agrees callings idle false e =
         let at' = put_word at (Slot s Ack) (found - 1) in
         let to = Inside (a + 1) (a + 1) in
@@ -291,7 +290,7 @@ module _ (u : Setup) (p : StopState) (at : Word → ℕ) (seat : ℕ → Seat) (
         record { inside = λ c ne. refl; irq = λ c ne. refl; readings = λ c ne. refl }
         job a is turned (λ on i. h.present.read me on (turned ∙ i)))
         (subst (λ (y : ℕ → Seat). (c : ℕ) → IsCalling c (y c) (calling' c)) (sym same) callings)
-        (subst (AreClosing (acked_now x)) (sym same) (closing_kept p.now seat me next h.closing idle s acked_stop (λ c ne. put_else (p.now.stop s).standing
+        (subst (AreClosing (acked_now x)) (sym same) (closing_kept p.now seat me next h.closing idle s acked_stop (λ c ne. put_other (p.now.stop s).standing
         me to c ne) refl refl)))
 
     abbrev pub calls_then : ℕ → List StopCall
@@ -394,7 +393,7 @@ module _ (u : Setup) (p : StopState) (at : Word → ℕ) (seat : ℕ → Seat) (
       (put seat me next) source)
       (sym (eq-eqb me me refl))
       (ack_shown job 2 answer Whole seat0 (calls_then job 2 answer) (put p.calling me (Carries (patch_answer job count))) ends.0
-      (put_here seat me (In s job 2 3 Rests)) (h.present.irq me ∙ ap irq_of is) (put_twice seat me (In s job 2 3 Rests) next) st.1 open_
+      (put_same seat me (In s job 2 3 Rests)) (h.present.irq me ∙ ap irq_of is) (put_twice seat me (In s job 2 3 Rests) next) st.1 open_
       (λ kind mine two. subst (λ (w : Work). StandsSet w (at (Key w.func))) (sym st.3) ends.1)
       (λ four. absurd (let z : ⊥ = omega (arith, four) in z))
       (calling_next seat p.calling h.callings me next (Carries (patch_answer job count)) (omega arith, active)) (subst IsNotClosing (sym is) tt)
@@ -449,7 +448,7 @@ module _ (u : Setup) (p : StopState) (at : Word → ℕ) (seat : ℕ → Seat) (
       let stop' = raised (p.now.stop s) (a + 1) in
       let next = In s job a l Rests in
       let busy : (p.now.stop s).phase ≢ 0 = λ z. one (p.now.stop s).raising st.2 (o.calm z) in
-      let mine = sets_me (p.now.stop s).raising st.2 in
+      let mine = sets_me me (p.now.stop s).raising st.2 in
       let ack : AckShows u.cpus (p.now.stop s).phase (p.now.stop s).standing (Raises me) (at (Slot s Ack)) =
       subst (λ r. AckShows u.cpus (p.now.stop s).phase (p.now.stop s).standing r (at (Slot s Ack))) mine (o.ack busy) in
       let level : Inside (p.now.stop s).phase (p.now.stop s).phase ≡ Inside a l = sym ack.2 ∙ st.1 in
@@ -465,11 +464,6 @@ module _ (u : Setup) (p : StopState) (at : Word → ℕ) (seat : ℕ → Seat) (
       one Nobody e z = cc
       one (Refills r) e z = cc
       one (Raises r) e z = cc
-
-      sets_me : (r : Raising) → turn_of r me ≡ Sets → r ≡ Raises me
-      sets_me Nobody e = cc
-      sets_me (Refills r) e = at_test me r (λ b. cond b Fills Rests ≡ Sets → Refills r ≡ Raises me) (λ same e. cc) (λ ne e. cc) e
-      sets_me (Raises r) e = at_test me r (λ b. cond b Sets Rests ≡ Sets → Raises r ≡ Raises me) (λ same _. ap Raises (sym same)) (λ ne e. cc) e
 
       callings : (c : ℕ) → IsCalling c (put seat me (In s job a l Rests) c) (p.calling c)
       callings = calling_same seat p.calling h.callings me (In s job a l Rests) (calling_turned me s job a l Sets Rests (p.calling me) (λ e. cc)
@@ -497,10 +491,10 @@ module _ (u : Setup) (p : StopState) (at : Word → ℕ) (seat : ℕ → Seat) (
           (subst (λ n. PresentShows u (after p.now s (raised (p.now.stop s) (n + 1)) p.now.inside irq' readings' p.now.patching) (put_word at (Slot s State)
           (n + 1)) (put seat me (In s job a l Rests))) phase
           (step_raises u p.now at seat h.present s me irq' readings'
-          record { inside = λ c ne. refl; irq = λ c ne. put_else p.now.irq me true c ne; readings = λ c ne. put_else p.now.readings me first c ne }
+          record { inside = λ c ne. refl; irq = λ c ne. put_other p.now.irq me true c ne; readings = λ c ne. put_other p.now.readings me first c ne }
           job a l is busy
-          (put_here p.now.irq me true ∙ sym (ap (λ n. nat_lt l 2 || n == 4) five ∙ or_true (nat_lt l 2)))
-          (λ _ _. subst (AllByRecursion (Agrees (labels_in at))) (sym (put_here p.now.readings me first))
+          (put_same p.now.irq me true ∙ sym (ap (λ n. nat_lt l 2 || n == 4) five ∙ or_true (nat_lt l 2)))
+          (λ _ _. subst (AllByRecursion (Agrees (labels_in at))) (sym (put_same p.now.readings me first))
           (subst (λ (w : Work). AllByRecursion (Agrees (labels_in at)) (first_readings me s w)) (sym st.3) (leave_agrees job a l Sets is (omega arith))))))
           callings closing
       go false e st phase looked busy stays own =

@@ -5,9 +5,9 @@ use Rattle.smp_stop_steps.specs.KeyCounts.{CountShows}
 use Rattle.smp_stop_steps.specs.Labels.{StandsSet}
 use Rattle.std.proofs.Common.{◌≡◌, ◌≢◌, ℕ, ◌+◌, ◌<◌, ◌≤◌, Bool, true, false, eq-eqb, ◌==◌, cond, sym, subst, refl, ap, ◌∙◌, arith, Some, None}
 use Rattle.std.proofs.Common.{List, [], ◌∷◌, ◌++◌}
-use Rattle.smp_words.proofs.Puts.{at_test, put_all, put_both}
+use Rattle.smp_words.proofs.Puts.{at_test, put_all, put_both, put_same, put_other}
 use Rattle.smp_words.proofs.SameWords.{one_place}
-use Rattle.smp_stop_steps.proofs.Basics.Counts.{put_else, put_here, sum_zero}
+use Rattle.smp_stop_steps.proofs.Basics.Counts.{sum_zero}
 use Rattle.smp_stop_steps.proofs.State.Ends.{all_outside, collects_slot}
 use Rattle.smp_stop_steps.proofs.State.Entered.{step_collects, step_drafts, step_opens}
 use Rattle.smp_stop_steps.proofs.Steps.Kept.{after, other_slots, past_same, source_same}
@@ -281,9 +281,9 @@ module _ (u : Setup) (p : StopState) (at : Word → ℕ) (seat : ℕ → Seat) (
       at' seat (put source me (Owns work))) (sym same)
       (source_step stop' (put p.begun me (p.begun me ++ work ∷ [])) p.collected at' (Owns work) refl (other_slots at me Roll work.mask) (λ k. refl)
       record { is_open = refl; work_is = refl; is_work = d.is_work }
-      (subst (λ l. HasPast stop' l (p.collected me) (λ c. p.answers c me)) (sym (put_here p.begun me (p.begun me ++ work ∷ [])))
+      (subst (λ l. HasPast stop' l (p.collected me) (λ c. p.answers c me)) (sym (put_same p.begun me (p.begun me ++ work ∷ [])))
       ((h.past me).0, past_opens (h.past me).0 (p.now.stop me) (p.begun me) (p.collected me) (λ c. p.answers c me) (h.past me).1 work d.shut out))
-      (λ j ne. put_else p.begun me (p.begun me ++ work ∷ []) j ne) (λ j ne. refl) (λ c. called_not (has work.mask c)) (λ c op l. cc)
+      (λ j ne. put_other p.begun me (p.begun me ++ work ∷ []) j ne) (λ j ne. refl) (λ c. called_not (has work.mask c)) (λ c op l. cc)
       (step_opens u p.now at seat h.present me work d.shut d.is_work d.stored)))
     where
       called_not : (b : Bool) → is_inside (cond b Called Outside) ≡ true → ⊥
@@ -324,7 +324,7 @@ module _ (u : Setup) (p : StopState) (at : Word → ℕ) (seat : ℕ → Seat) (
       let result = at (Slot me Result) in
       let stop' = closed (p.now.stop me) in
       source_step stop' p.begun (put p.collected me (p.collected me ++ result ∷ [])) at Shut refl (λ j ne f. refl) (λ k. refl) refl
-      (subst (λ l. HasPast stop' (p.begun me) l (λ c. p.answers c me)) (sym (put_here p.collected me (p.collected me ++ result ∷ []))) (
+      (subst (λ l. HasPast stop' (p.begun me) l (λ c. p.answers c me)) (sym (put_same p.collected me (p.collected me ++ result ∷ []))) (
         _,
         past_collects (h.past me).0 (p.now.stop me) (p.begun me) (p.collected me) (λ c. p.answers c me) (h.past me).1 result o.0.is_open
             (collects_slot u.cpus (p.now.stop me) w (h.present.slots me) o.0.is_open d.0).0
@@ -332,7 +332,7 @@ module _ (u : Setup) (p : StopState) (at : Word → ℕ) (seat : ℕ → Seat) (
             (λ of. sum_zero (λ c. unfinished ((p.now.stop me).standing c)) u.cpus d.1 c (in_machine u.cpus (p.now.stop me).phase c ((p.now.stop me).standing
             c) of ((h.present.slots me).keeps c)))),
       ))
-      (λ j ne. refl) (λ j ne. put_else p.collected me (p.collected me ++ result ∷ []) j ne) (λ c e. cc) (λ c op l. cc)
+      (λ j ne. refl) (λ j ne. put_other p.collected me (p.collected me ++ result ∷ []) j ne) (λ c e. cc) (λ c op l. cc)
       (step_collects u p.now at seat h.present me o.0.is_open d.0)
     where
       all : {b : Bool} (x : Standing) → is_of x ≡ b → (is_of x ≡ true → unfinished x ≡ 0) → answer_now x ≡ cond b (answer_of x ∷ []) []

@@ -13,7 +13,7 @@ use Rattle.smp_words.specs.Size.{cpus}
 use Rattle.smp_stop_steps.specs.Labels.{Change, count_set, patch_answer}
 use Rattle.smp_stop_steps.specs.Seats.{Alters, Closes, Fills, Gives, In, Rests, Seat, Sets, Stands, Turn}
 use Rattle.smp_stop_steps.specs.Shows.{StopShows}
-use Rattle.smp_stop_steps.specs.Sits.{RunsIf, HoldsGate, IsLoaded, IsThroughAll, Sits, SitsAt, SitsInCompletion, SitsInRound}
+use Rattle.smp_stop_steps.specs.Sits.{RunsIf, HoldsGate, IsLoaded, IsThroughAll, Sits, SitsInCompletion, SitsInRound}
 use Rattle.smp_stop_steps.specs.Sources.{Collects, Drafts, IsWork, Owns, Shut, Source, SourceShows}
 use Rattle.smp_stop_steps.specs.Stages.{StopControlValue, change_at, completion_access, label_word, round_access, stop_access, store_of}
 use Rattle.smp_stop_steps.specs.State.{Setup, StopState}
@@ -42,6 +42,7 @@ use Rattle.smp_labels.specs.declared.patch.Place.TheVariants as place
 use Rattle.smp_labels.specs.declared.words.TheConstants.{MOST_KEYS, MOST_SITES}
 use Rattle.std.proofs.lemmas.List.{append-nil}
 use Rattle.std.specs.List.{AllByRecursion}
+use Rattle.smp_stop_steps.proofs.Steps.Stages.{at_seat}
 
 -- the changes of a patch are of words in the table
 abbrev pub IsNamedChange : Change → Type 0
@@ -126,9 +127,6 @@ module _ (u : Setup) (p : StopState) (at : Word → ℕ) (seat : ℕ → Seat) (
     named_store (place.Site i, n) h = h
 
     module _ (c : StopControlValue) (s : Sits u me (at Gate) c (seat me) (source me)) where
-      at_seat : (stage : StopStage) → c.stage ≡ Some stage → SitsAt u me c (Some stage) (seat me)
-      at_seat stage e = subst (λ (st : Option StopStage). SitsAt u me c st (seat me)) e s.seat
-
       me_below : me < cpus
       me_below = let b = s.below in omega arith
 
@@ -186,22 +184,22 @@ module _ (u : Setup) (p : StopState) (at : Word → ℕ) (seat : ℕ → Seat) (
       stage_named TakeGate e = tt
       stage_named OpenGate e = tt
       stage_named (Begin work f) e = me_below
-      stage_named (Enter slot) e = let x = at_seat (Enter slot) e in let low = x.2 in omega arith
-      stage_named (EnterKind slot) e = let x = at_seat (EnterKind slot) e in below_in slot x.0 0 0 Rests x.1
-      stage_named (EnterMask slot kind) e = let x = at_seat (EnterMask slot kind) e in below_in slot x.0 0 0 Rests x.1
-      stage_named (EnterActive slot kind mask) e = let x = at_seat (EnterActive slot kind mask) e in below_in slot x.0 0 0 Rests x.1
-      stage_named (Advance v stage) e = round_named v stage (at_seat (Advance v stage) e).1
-      stage_named (Complete v stage) e = completion_named v stage (at_seat (Complete v stage) e).1
+      stage_named (Enter slot) e = let x = at_seat s (Enter slot) e in let low = x.2 in omega arith
+      stage_named (EnterKind slot) e = let x = at_seat s (EnterKind slot) e in below_in slot x.0 0 0 Rests x.1
+      stage_named (EnterMask slot kind) e = let x = at_seat s (EnterMask slot kind) e in below_in slot x.0 0 0 Rests x.1
+      stage_named (EnterActive slot kind mask) e = let x = at_seat s (EnterActive slot kind mask) e in below_in slot x.0 0 0 Rests x.1
+      stage_named (Advance v stage) e = round_named v stage (at_seat s (Advance v stage) e).1
+      stage_named (Complete v stage) e = completion_named v stage (at_seat s (Complete v stage) e).1
       stage_named (Close slot) e =
-          let x = at_seat (Close slot) e in
+          let x = at_seat s (Close slot) e in
           let st : Stands p.now me (Closes slot) = subst (Stands p.now me) x.1 (h.present.stands me) in
           open_below slot st.1
       stage_named LoadDone e = me_below
       stage_named LoadResult e = me_below
-      stage_named (ReadKey k) e = let x = at_seat (ReadKey k) e in let low = x.1 in let m = h.setup.few_keys in omega arith
-      stage_named (NudgeKey k up) e = let x = at_seat (NudgeKey k up) e in let low = x.2 in let m = h.setup.few_keys in omega arith
-      stage_named (ExchangeKey k expected new) e = let x = at_seat (ExchangeKey k expected new) e in let low = x.2 in let m = h.setup.few_keys in omega arith
-      stage_named (ReadSite i) e = let x = at_seat (ReadSite i) e in let low = x.1 in let f = h.present.entries.few in omega arith
+      stage_named (ReadKey k) e = let x = at_seat s (ReadKey k) e in let low = x.1 in let m = h.setup.few_keys in omega arith
+      stage_named (NudgeKey k up) e = let x = at_seat s (NudgeKey k up) e in let low = x.2 in let m = h.setup.few_keys in omega arith
+      stage_named (ExchangeKey k expected new) e = let x = at_seat s (ExchangeKey k expected new) e in let low = x.2 in let m = h.setup.few_keys in omega arith
+      stage_named (ReadSite i) e = let x = at_seat s (ReadSite i) e in let low = x.1 in let f = h.present.entries.few in omega arith
 
       -- another CPU that holds the gate holds it after the step
       pub gate_stays : (stage : StopStage) → c.stage ≡ Some stage → (cpu : ℕ) → cpu ≢ me → at Gate ≡ cpu + 1 → at_then u at c me stage Gate ≡ cpu + 1
