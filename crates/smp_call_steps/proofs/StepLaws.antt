@@ -1,0 +1,6 @@
+-- The laws of steps.
+pub mod Premises
+pub mod Functions
+pub mod Notes
+pub mod Tries
+pub mod Keeps
