@@ -1,5 +1,6 @@
 -- The laws of steps.
 pub mod Premises
+pub mod Records
 pub mod Functions
 pub mod Notes
 pub mod Tries

@@ -5,7 +5,7 @@ use Rattle.smp_call_steps.specs.Calls.{CallState, Holding, Nothing, CountedCall}
 use Rattle.smp_call_steps.specs.Functions.{runs_as}
 use Rattle.smp_call_steps.specs.Places.{Holds}
 use Rattle.smp_call_steps.specs.Stands.{Rests, share_of}
-use Rattle.smp_call_steps.specs.Names.{Call, Class, Sync, Async, Word, Head, Intr, Hand, Queued, Ran, Flags, Func, Info, Next, Act}
+use Rattle.smp_call_steps.specs.Names.{Call, Class, Sync, Async, Word, Head, Intr, Hand, Queued, Ran, Flags, Func, Info, Next, Act, RecPlace}
 use Rattle.smp_call_steps.specs.Names.place
 use Rattle.smp_call_steps.specs.Names.act
 
@@ -72,6 +72,23 @@ pub record MayTake (a : CallState) (me : ℕ) : Type 0 where
   pub accepted : a.accepted me ≡ true
   pub batch : a.batch me ≡ []
   pub idle : a.running me ≡ Nothing
+
+-- a word of this record
+abbrev pub IsWordOf : ℕ → Word → Type 0
+IsWordOf id (Flags k) = k ≡ id
+IsWordOf id (Func k) = k ≡ id
+IsWordOf id (Info k) = k ≡ id
+IsWordOf id (Next k) = k ≡ id
+IsWordOf id _ = ⊥
+
+-- who may store to the words of a record that is there: its source while it is free, the CPU that holds it, nobody while it
+-- is in a queue, and then the CPU that has taken it
+abbrev pub MayStoreAt : RecPlace → CallState → ℕ → ℕ → Type 0
+MayStoreAt place.Free a me id = owner id ≡ me
+MayStoreAt place.Held a me id = Holds (a.held me) id
+MayStoreAt (place.Queued cpu) a me id = ⊥
+MayStoreAt (place.Batch cpu) a me id = cpu ≡ me
+MayStoreAt (place.Running cpu) a me id = cpu ≡ me
 
 -- what holds before a step that is seen so; there is no other
 abbrev pub MaySee : CallState → ℕ → Act → Word → Option ℕ → Option ℕ → Type 0

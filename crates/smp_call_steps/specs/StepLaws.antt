@@ -1,12 +1,12 @@
 -- What each step that a CPU may make next keeps, beside the calls that it tells.
-use Rattle.std.specs.Prelude.{◌≡◌, ℕ, Some}
-use Rattle.smp_words.specs.Access.{word_of, seen_of}
+use Rattle.std.specs.Prelude.{◌≡◌, ◌⊎◌, ℕ, Some}
+use Rattle.smp_words.specs.Access.{word_of, at_after, seen_of}
 use Rattle.smp_call_steps.specs.Calls.{CallState, tells}
 use Rattle.smp_call_steps.specs.Drains.{DrainValue}
 use Rattle.smp_call_steps.specs.Functions.{FunctionGoes}
 use Rattle.smp_call_steps.specs.Known.{Sees, MayStep}
 use Rattle.smp_call_steps.specs.Notes.{QueueGoes, SaidMeans}
-use Rattle.smp_call_steps.specs.Premises.{MaySee}
+use Rattle.smp_call_steps.specs.Premises.{IsWordOf, MayStoreAt, MaySee}
 use Rattle.smp_call_steps.specs.Shows.{Shows}
 use Rattle.smp_call_steps.specs.Stages.{ControlValue, access_of, outcome_of}
 use Rattle.smp_call_steps.specs.Tries.{GoesOnWith}
@@ -23,6 +23,11 @@ seen_then at d me stage =
 -- who may make it
 abbrev pub IsPremised : CallState → (Word → ℕ) → DrainValue → ℕ → Stage → Type 0
 IsPremised a at d me stage = let seen = seen_then at d me stage in MaySee a me seen.act seen.word seen.found seen.put
+
+-- a word of a record stays as it is, but where the CPU may store to it
+abbrev pub KeepsRecords : CallState → (Word → ℕ) → DrainValue → ℕ → Stage → Type 0
+KeepsRecords a at d me stage = (word : Word) (id : ℕ) → IsWordOf id word →
+    (at_after at (access_of at me stage) word ≡ at word) ⊎ MayStoreAt (a.place id) a me id
 
 -- what it does of functions
 abbrev pub KeepsFunctions : CallState → (Word → ℕ) → DrainValue → ℕ → Stage → Type 0
@@ -46,6 +51,7 @@ TriesGoOn a at d me stage =
 -- all of them, of the step of a CPU at this stage
 pub record KeepsStepLaws (a : CallState) (at : Word → ℕ) (d : DrainValue) (me : ℕ) (stage : Stage) : Type 0 where
   pub premise : IsPremised a at d me stage
+  pub records : KeepsRecords a at d me stage
   pub functions : KeepsFunctions a at d me stage
   pub queues : KeepsQueues a at d me stage
   pub says : NoteHolds a at d me stage

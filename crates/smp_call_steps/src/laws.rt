@@ -86,17 +86,22 @@ pub fn confirmed_calls_have_run()
     ensures { ConfirmedRun }
 {}
 
-ghost use Rattle.smp_call_steps.specs.StepLaws.{OfEachStep, IsPremised, KeepsFunctions, KeepsQueues, NoteHolds, TriesGoOn};
+ghost use Rattle.smp_call_steps.specs.StepLaws.{OfEachStep, IsPremised, KeepsRecords, KeepsFunctions, KeepsQueues, NoteHolds, TriesGoOn};
 ghost use Rattle.smp_call_steps.specs.StepLaws.{KnownStepsKeepLaws};
 
-/// What holds before each step. A free record is locked by its own source, which then stores to it alone until the call is
-/// queued; a head is exchanged for the record that is held, whose call is counted for that CPU. A CPU swaps its own
-/// interrupt word with nothing left to run, and its own head only once it has accepted an interrupt. It loads and links the
-/// records of its own batch. It begins the call at the front of what is left of it, while no other runs: by its handling
-/// word where that is SYNC, and by the unlock of its record where it is ASYNC; it counts the call that runs, once, and
-/// unlocks the record of a SYNC call only then. So no step but the drain's stores to a record that is queued.
+/// What holds before each step. A free record is locked by its own source, which holds none; a head is exchanged for the
+/// record that is held, whose call is counted for that CPU. A CPU swaps its own interrupt word with nothing left to run,
+/// and its own head only once it has accepted an interrupt. It loads and links the records of its own batch. It begins the
+/// call at the front of what is left of it, while no other runs: by its handling word where that is SYNC, and by the unlock
+/// of its record where it is ASYNC; it counts the call that runs, once, and unlocks the record of a SYNC call only then.
 pub fn steps_are_premised()
     ensures { OfEachStep IsPremised }
+{}
+
+/// So the words of a record stay as they are but where its source stores to it while it is free or held, or the CPU that
+/// has taken it; while it is in a queue nobody does.
+pub fn records_stay()
+    ensures { OfEachStep KeepsRecords }
 {}
 
 /// Each step of a CPU does one of these of functions. It begins the call at the front of its batch, where none runs, and
