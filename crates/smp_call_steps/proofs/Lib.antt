@@ -6,6 +6,8 @@ pub mod State
 pub mod Steps
 -- what a CPU knows
 pub mod Knows
+-- the laws of steps
+pub mod StepLaws
 -- the machine: a list of words, and a list of controls
 pub mod Machine
 -- the laws

@@ -24,6 +24,12 @@ pub mod HaveRun
 pub mod Parts
 pub mod Known
 pub mod Handling
+-- the laws of steps: who may make which, what each does of functions, what it says, and how a post goes on
+pub mod Functions
+pub mod Premises
+pub mod Notes
+pub mod Tries
+pub mod StepLaws
 -- the laws
 pub mod Promises
 -- the machine: a list of words, and a list of controls

@@ -85,3 +85,50 @@ pub fn confirmed_sync_calls_ended()
 pub fn confirmed_calls_have_run()
     ensures { ConfirmedRun }
 {}
+
+ghost use Rattle.smp_call_steps.specs.StepLaws.{OfEachStep, IsPremised, KeepsRecords, KeepsFunctions, KeepsQueues, NoteHolds, TriesGoOn};
+ghost use Rattle.smp_call_steps.specs.StepLaws.{KnownStepsKeepLaws};
+
+/// What holds before each step. A free record is locked by its own source, which holds none; a head is exchanged for the
+/// record that is held, whose call is counted for that CPU. A CPU swaps its own interrupt word with nothing left to run,
+/// and its own head only once it has accepted an interrupt. It loads and links the records of its own batch. It begins the
+/// call at the front of what is left of it, while no other runs: by its handling word where that is SYNC, and by the unlock
+/// of its record where it is ASYNC; it counts the call that runs, once, and unlocks the record of a SYNC call only then.
+pub fn steps_are_premised()
+    ensures { OfEachStep IsPremised }
+{}
+
+/// So the words of a record stay as they are but where its source stores to it while it is free or held, or the CPU that
+/// has taken it; while it is in a queue nobody does.
+pub fn records_stay()
+    ensures { OfEachStep KeepsRecords }
+{}
+
+/// Each step of a CPU does one of these of functions. It begins the call at the front of its batch, where none runs, and
+/// says `call S F I` with its source, function and info; the record is locked then where the call is SYNC, and free where
+/// it is ASYNC. It counts a SYNC call that has run. It ends its call, a SYNC one only once that is counted. Or nothing: and
+/// no other step says so.
+pub fn functions_run_once()
+    ensures { OfEachStep KeepsFunctions }
+{}
+
+/// A step that queues a call says whether that queue was empty, `owed` or `queued`, and no other step says either; and
+/// what the other notes say holds: of `busy`, `locked`, `done`, `nocpu` and `contended` where the record is, of `sent` that
+/// the interrupt is pending and no longer owed, and of `idle` and `handled` that nothing is left to run, with the number of
+/// calls of the batch.
+pub fn notes_hold()
+    ensures queues { OfEachStep KeepsQueues }
+    ensures says { OfEachStep NoteHolds }
+{}
+
+/// A CPU that has found a number in a head, by its load or by an exchange that it has lost, links its record to it next,
+/// and then exchanges the head where that is this number still; after a lost exchange it may count its call back instead.
+/// So an exchange is lost only where another CPU has changed the head since.
+pub fn tries_go_on()
+    ensures { OfEachStep TriesGoOn }
+{}
+
+/// All of this holds of a CPU at words that threads share, at each stage that what it knows leaves open.
+pub fn known_steps_keep_laws()
+    ensures { KnownStepsKeepLaws }
+{}

@@ -3,3 +3,4 @@ pub mod Own
 pub mod Ready
 pub mod Appends
 pub mod Kept
+pub mod Shown

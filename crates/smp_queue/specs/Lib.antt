@@ -15,3 +15,4 @@ pub mod Audit
 pub mod Handling
 -- what holds while threads run
 pub mod Laws
+pub mod Posted

@@ -72,6 +72,7 @@ pub(crate) fn link(words: &Words, seat: &mut CpuSeat, posting: &Posting, link: u
     requires mine { IsMine words.now.table_id seat.old posting.now }
     requires stage { seat.old.known.stage ≡ Some (Post (counted posting.now) post.LoadHead) }
     ensures table { seat.new.table ≡ words.now.table_id }
+    ensures lives { Lives seat.new.known }
     ensures won { result ≡ link → seat.new.known ≡ queued_known (posted posting.now) posting.now.to (link == 0) seat.old.known }
     ensures lost { result ≢ link → seat.new.known ≡ seat.old.known }
 {
@@ -91,6 +92,7 @@ pub(crate) fn give_up(words: &Words, seat: &mut CpuSeat, posting: &Posting, numb
     requires stage { seat.old.known.stage ≡ Some (Post (counted posting.now) post.LoadHead) }
     requires counted { IsTallied seat.old.known posting.now number count }
     ensures table { seat.new.table ≡ words.now.table_id }
+    ensures lives { Lives seat.new.known }
     ensures known { seat.new.known ≡ outside_known seat.old.known }
 {
     store(words, seat, Word::Queued(number, posting.to), count);
@@ -110,6 +112,7 @@ pub(crate) fn append(
     requires mine { IsMine words.now.table_id seat.old posting.now }
     requires counting { IsCounting seat.old.known posting.now number queued }
     ensures table { seat.new.table ≡ words.now.table_id }
+    ensures lives { Lives seat.new.known }
     ensures sent { IfSome result (λ first. seat.new.known ≡ queued_known (posted posting.now) posting.now.to first seat.old.known) }
     ensures lost { IfNone result (seat.new.known ≡ outside_known seat.old.known) }
 {
@@ -138,6 +141,7 @@ pub(crate) fn append_until_won<R: Wait>(
     requires mine { IsMine words.now.table_id seat.old posting.now }
     requires counting { IsCounting seat.old.known posting.now number queued }
     ensures table { seat.new.table ≡ words.now.table_id }
+    ensures lives { Lives seat.new.known }
     ensures sent { seat.new.known ≡ queued_known (posted posting.now) posting.now.to result seat.old.known }
 {
     let backoff = Backoff::new();

@@ -25,6 +25,7 @@ ghost use Rattle.smp_words.specs.declared.call.Call.{Call};
 ghost use Rattle.smp_queue.specs.Cells.{cells};
 ghost use Rattle.smp_queue.specs.Handling.{Grows, asks, drains};
 ghost use Rattle.smp_queue.specs.Laws.{IsShown};
+ghost use Rattle.smp_queue.specs.Posted.{ShowsThat, IsFree, IsMarked, call_by};
 ghost use Rattle.smp_queue.specs.Cpu.{TableValue, IsFull, PostAnswers, BeginAnswers, confirmed_at, confirms, sends};
 ghost use Rattle.smp_queue.specs.Audit.{ClosesWith, Audited, IfDrained, AreEqual, HasRowsOf, HasZerosFrom};
 
@@ -251,7 +252,9 @@ impl<A: Allocator> CallTable<A> {
         tries: u32,
     ) -> Result<bool, SmpError>
         requires { me.old.table ≡ self.now.table }
-        ensures { PostAnswers self.now me.old me.new k to class func info tries result }
+        ensures answers { PostAnswers self.now me.old me.new k to class func info tries result }
+        ensures marked { IfOk result (λ first. ShowsThat me.new (IsMarked me.old to (call_by me.old k class func info) first)) }
+        ensures free { IfErr result (λ e. e ≡ SmpError.Contended → ShowsThat me.new (IsFree me.new k)) }
     {
         let posting = self.begin_post(me, k, to, class, func, info, tries)?;
         write_record(&self.owner.shared, &mut me.seat, &posting);
@@ -282,6 +285,7 @@ impl<A: Allocator> CallTable<A> {
     ) -> Result<bool, SmpError>
         requires { me.old.table ≡ self.now.table }
         ensures answers { PostAnswers self.now me.old me.new k to class func info 1 result }
+        ensures marked { IfOk result (λ first. ShowsThat me.new (IsMarked me.old to (call_by me.old k class func info) first)) }
         ensures queued { IfErr result (λ e. e ≢ SmpError.Contended) }
     {
         let posting = self.begin_post(me, k, to, class, func, info, 1)?;

@@ -3,6 +3,7 @@ use Rattle.smp_queue.specs.Names.{Posting}
 use Rattle.smp_queue.specs.Cpu.{CpuValue, IsKept}
 use Rattle.smp_queue.proofs.Posts.Kept.{kept_posted}
 use Rattle.smp_queue.proofs.Posts.Own.{mine_of, posts_then}
+use Rattle.smp_queue.proofs.Posts.Shown.{marked_then}
 use Rattle.smp_queue.proofs.table.CallTable.post.Goals as goal
 
 pub write_record-requires-clause-mine : goal.write_record-requires-clause-mine
@@ -31,3 +32,9 @@ returns-clause-answers g c =
           c.args.func c.args.info c.args.class c.in_ok-posting.posting c.append_until_won-first.result
           c.me.view_is e.2 e.3 table c.write_record.ensures.known c.append_until_won-first.ensures.sent,
     )
+
+pub returns-clause-marked : goal.returns-clause-marked
+returns-clause-marked g c =
+    let answers = returns-clause-answers g c in
+    marked_then c.append_until_won-first.new.seat c.append_until_won-first.ensures.lives c.args.me.now c.args.k c.args.to c.args.func c.args.info c.args.class
+    c.append_until_won-first.result answers.2

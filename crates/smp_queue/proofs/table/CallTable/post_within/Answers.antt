@@ -1,8 +1,10 @@
 use Rattle.std.proofs.Common.{ℕ, ◌+◌, ◌%◌, ◌^◌, set, get_or, sym, ap, ◌∙◌, subst}
+use Rattle.smp_words.specs.Size.{record_of}
 use Rattle.smp_queue.specs.Names.{Posting}
 use Rattle.smp_queue.specs.Cpu.{CpuValue, IsKept}
 use Rattle.smp_queue.proofs.Posts.Kept.{kept_posted}
 use Rattle.smp_queue.proofs.Posts.Own.{mine_of, posts_then}
+use Rattle.smp_queue.proofs.Posts.Shown.{free_then, marked_then}
 use Rattle.smp_queue.proofs.table.CallTable.post_within.Goals as goal
 
 pub write_record-requires-clause-mine : goal.write_record-requires-clause-mine
@@ -21,8 +23,8 @@ invariant_of-me g c =
     c.in_ok-posting.posting c.in-Some.first c.me.invariant
     may.to_in_range c.write_record.ensures.known c.in-Some.ensures.sent)
 
-pub returns-in-Some : goal.returns-in-Some
-returns-in-Some g c =
+pub returns-in-Some-clause-answers : goal.returns-in-Some-clause-answers
+returns-in-Some-clause-answers g c =
     let e = c.in_ok-posting.ensures in
     let table = c.append.ensures.table ∙ (ap (λ t. t.table) c.self.view_is ∙ sym c.requires) in (
       e.0,
@@ -31,3 +33,16 @@ returns-in-Some g c =
           c.args.class c.in_ok-posting.posting c.in-Some.first
           c.me.view_is e.2 e.3 table c.write_record.ensures.known c.in-Some.ensures.sent,
     )
+
+pub returns-in-Some-clause-marked : goal.returns-in-Some-clause-marked
+returns-in-Some-clause-marked g c =
+    let answers = returns-in-Some-clause-answers g c in
+    marked_then c.append.new.seat c.append.ensures.lives c.args.me.now c.args.k c.args.to c.args.func c.args.info c.args.class c.in-Some.first answers.2
+
+pub returns-in-None-clause-free : goal.returns-in-None-clause-free
+returns-in-None-clause-free g c _ =
+    let e = c.in_ok-posting.ensures in
+    let new : CpuValue = c.begin_post.new.me in
+    free_then c.append.new.seat c.append.ensures.lives c.me.inside.seat.known c.write_record.new.seat.known new c.in_ok-posting.posting c.args.k
+    c.in-None.ensures.lost c.write_record.ensures.known (ap (λ (x : CpuValue). x.part) c.me.view_is) (ap (λ (x : CpuValue). x.number) c.me.view_is) e.4
+    (ap (λ (p : Posting). p.id) e.3 ∙ ap (λ (x : CpuValue). record_of x.number c.args.k) (sym e.2))

@@ -1,0 +1,168 @@
+-- What each step does of the functions that calls run, and what it says of them.
+use Rattle.std.proofs.Common.{◌≡◌, ℕ, ◌+◌, ◌-◌, ◌%◌, ◌==◌, nat_lt, Bool, true, false, cond, inl, inr, Option, Some, None, List, ◌∷◌, sym, subst}
+use Rattle.std.proofs.Common.{refl, ap, ◌∙◌, arith}
+use Rattle.std.proofs.lemmas.Bool.{lt-ltb}
+use Rattle.smp_words.specs.Flags.{flags_of}
+use Rattle.smp_words.specs.Put.{put}
+use Rattle.smp_words.specs.Size.{owner}
+use Rattle.smp_words.proofs.Puts.{put_same}
+use Rattle.smp_call_steps.specs.Calls.{CallState, Holding, Running, Nothing, confirms, appended, begins_sync, begins_async}
+use Rattle.smp_call_steps.specs.Calls.{counts, unlocks, releases, links, flags_told, head_told, tells}
+use Rattle.smp_call_steps.specs.Drains.{link_to}
+use Rattle.smp_call_steps.specs.Functions.{runs_as, ends_as, place_as, told_of, is_call, BeginsIt, FunctionGoes}
+use Rattle.smp_call_steps.specs.Posts.{ends, goes_to}
+use Rattle.smp_call_steps.specs.Shows.{Shows}
+use Rattle.smp_call_steps.specs.Stages.{ControlValue}
+use Rattle.smp_call_steps.specs.StepLaws.{seen_then}
+use Rattle.smp_call_steps.specs.Stands.{held_of}
+use Rattle.smp_call_steps.specs.Names.{Call, Class, Sync, Async, Word, Head, Intr, Flags, Note, Outcome, Posting, PostStage, HandleStage, Stage}
+use Rattle.smp_call_steps.specs.Names.{Send, Done, Post, Handle}
+use Rattle.smp_call_steps.specs.Names.act
+use Rattle.smp_call_steps.specs.Names.note
+use Rattle.smp_call_steps.specs.Names.place
+use Rattle.smp_call_steps.specs.Names.post
+use Rattle.smp_call_steps.specs.Names.handle
+use Rattle.smp_call_steps.proofs.State.Walks.{walks_sync, ends_async as async_next}
+use Rattle.smp_call_steps.proofs.Steps.Turns.{stands_at, holds_nothing}
+
+-- what tells nothing of functions
+
+module _ (a : CallState) (me : ℕ) where
+  told_confirms : (b : Bool) (id : ℕ) → told_of (cond b a (confirms a me id)) ≡ told_of a
+  told_confirms true id = refl
+  told_confirms false id = refl
+
+  told_lock : (c : Class) (id : ℕ) → told_of (flags_told a me id act.Store None (Some (flags_of c))) ≡ told_of a
+  told_lock Sync id = refl
+  told_lock Async id = refl
+
+  told_links : (n : ℕ) (h : Option Holding) → told_of (links a me (Some n) h) ≡ told_of a
+  told_links n None = refl
+  told_links n (Some h) = refl
+
+  told_appended : (to : ℕ) (h : Option Holding) → told_of (appended a me to h) ≡ told_of a
+  told_appended to None = refl
+  told_appended to (Some h) = refl
+
+  told_exchange : (to n : ℕ) (b : Bool) → told_of (head_told a me to act.Cas (cond b (Some n) None)) ≡ told_of a
+  told_exchange to n true = told_appended to (a.held me)
+  told_exchange to n false = refl
+
+  -- what tells some
+
+  begins : (b : CallState) (call : Call) (class : Class) → a.batch me ≡ call ∷ b.batch me → a.running me ≡ Nothing → call.class ≡ class →
+      told_of b ≡ record (told_of a) { running = put a.running me (runs_as class call) } → b.place call.id ≡ place_as class me →
+      BeginsIt a b me (Some (note.Call (owner call.id) call.func call.info))
+  begins b call class front idle is runs placed = record {
+    call = call;
+    front = front;
+    idle = idle;
+    runs = runs ∙ ap (λ (x : Class). record (told_of a) { running = put a.running me (runs_as x call) }) (sym is);
+    placed = placed ∙ ap (λ (x : Class). place_as x me) (sym is);
+    says = refl;
+  }
+
+  begins_sync_it : (call : Call) (rest : List Call) → a.batch me ≡ call ∷ rest → a.running me ≡ Nothing → call.class ≡ Sync →
+      BeginsIt a (begins_sync a me (call ∷ rest)) me (Some (note.Call (owner call.id) call.func call.info))
+  begins_sync_it call rest front idle is =
+      begins (begins_sync a me (call ∷ rest)) call Sync (front ∙ ap (λ (xs : List Call). call ∷ xs) (sym (put_same a.batch me rest))) idle is refl
+      (put_same a.place call.id (place.Running me))
+
+  begins_async_it : (call : Call) (rest : List Call) → a.batch me ≡ call ∷ rest → a.running me ≡ Nothing → call.class ≡ Async →
+      BeginsIt a (begins_async a me (call ∷ rest)) me (Some (note.Call (owner call.id) call.func call.info))
+  begins_async_it call rest front idle is =
+      begins (begins_async a me (call ∷ rest)) call Async (front ∙ ap (λ (xs : List Call). call ∷ xs) (sym (put_same a.batch me rest))) idle is refl
+      (put_same a.place call.id place.Free)
+
+-- what is said
+
+said_flags : (b c : Bool) (p : Posting) → is_call (cond b (ends note.Busy) (cond c (goes_to p post.Lock) (ends note.NoCpu))).note ≡ false
+said_flags true c p = refl
+said_flags false true p = refl
+said_flags false false p = refl
+
+said_exchange : (b c d : Bool) (p : Posting) (link tries : ℕ) →
+    is_call (cond b (ends (cond d note.Owed note.Queued)) (cond c (goes_to p (post.StoreNext link tries)) (goes_to p post.Uncount))).note ≡ false
+said_exchange true c true p link tries = refl
+said_exchange true c false p link tries = refl
+said_exchange false true d p link tries = refl
+said_exchange false false d p link tries = refl
+
+said_done : (b : Bool) → is_call (ends (cond b note.Locked note.Done)).note ≡ false
+said_done true = refl
+said_done false = refl
+
+said_accept : (b : Bool) (x y : HandleStage) →
+    is_call (cond {A = Outcome} b (record { next = Some (Handle x); note = None }) (record { next = Some (Handle y); note = None })).note ≡ false
+said_accept true x y = refl
+said_accept false x y = refl
+
+module _ (a : CallState) (at : Word → ℕ) (control : ℕ → ControlValue) (s : Shows a at control) (me : ℕ) where
+  abbrev Goes : Stage → Type 0
+  Goes stage = let seen = seen_then at (control me).drain me stage in FunctionGoes a (tells a seen) me seen.note
+
+  goes_post : (p : Posting) (stage : PostStage) → (control me).stage ≡ Some (Post p stage) → Goes (Post p stage)
+  goes_post p post.LoadFlags e =
+      let locked = at (Flags p.id) % 2 == 1 in inl (record { same = told_confirms a me locked p.id; says = said_flags locked p.is_online p })
+  goes_post p post.Lock e = inl (record { same = told_lock a me p.class p.id; says = refl })
+  goes_post p (post.StoreNext link tries) e = inl (record { same = told_links a me link (a.held me); says = refl })
+  goes_post p (post.Exchange link tries) e =
+      let won = at (Head p.to) == link in
+      inl (record {
+        same = told_exchange a me p.to (p.id + 1) won;
+        says = said_exchange won (nat_lt 1 tries) (link == 0) p (at (Head p.to)) (tries - 1);
+      })
+  goes_post p post.Release e =
+      subst (λ (h : Option Holding). FunctionGoes a (releases a me p.id h) me (Some note.Contended)) (sym (s.held me ∙ ap held_of e))
+      (inl (record { same = refl; says = refl }))
+  goes_post p _ e = inl (record { same = refl; says = refl })
+
+  goes_handle : (stage : HandleStage) → (control me).stage ≡ Some (Handle stage) → Goes (Handle stage)
+  goes_handle handle.Accept e = inl (record { same = refl; says = said_accept (at (Intr me) == 0) handle.LeaveIdle handle.Take })
+  goes_handle (handle.ReverseStore newer id older) e = inl (record { same = told_links a me (link_to newer) (a.held me); says = refl })
+  goes_handle (handle.LoadFlags walk id next) e = inl (record { same = told_confirms a me (at (Flags id) % 2 == 1) id; says = refl })
+  goes_handle (handle.Unlink walk last call next) e = inl (record { same = told_links a me (link_to next) (a.held me); says = refl })
+  goes_handle (handle.BeginSync walk call next) e =
+      let k = stands_at me s (handle.BeginSync walk call next) e in
+      let said : Option Note = Some (note.Call (owner call.id) call.func call.info) in
+      subst (λ (b : Bool). FunctionGoes a (cond b (begins_sync a me (a.batch me)) a) me said) (sym (lt-ltb 1 (call.id + 2) (omega arith)))
+      (subst (λ (xs : List Call). FunctionGoes a (begins_sync a me xs) me said) (sym k.1.1.batch)
+      (inr (inl (begins_sync_it a me call _ k.1.1.batch k.1.1.running_is (walks_sync k.1.1)))))
+  goes_handle (handle.CountSync walk call next) e =
+      let k = stands_at me s (handle.CountSync walk call next) e in
+      subst (λ (r : Running). FunctionGoes a (counts a me r) me None) (sym k.1.1.running_is)
+      (inr (inr (inl (record { call = call; was = k.1.1.running_is; counts = refl; says = refl }))))
+  goes_handle (handle.EndSync walk call next) e =
+      let k = stands_at me s (handle.EndSync walk call next) e in
+      subst (λ (h : Option Holding). FunctionGoes a (releases a me call.id h) me None) (sym (holds_nothing me s (handle.EndSync walk call next) e))
+      (subst (λ (r : Running). FunctionGoes a (unlocks a me r) me None) (sym k.1.1.running_is)
+      (inr (inr (inr (record {
+        call = call;
+        was = k.1.1.running_is ∙ ap (λ (x : Class). ends_as x call) (sym k.1.2);
+        ends = refl;
+        says = refl;
+      })))))
+  goes_handle (handle.BeginAsync call next) e =
+      let k = stands_at me s (handle.BeginAsync call next) e in
+      let said : Option Note = Some (note.Call (owner call.id) call.func call.info) in
+      subst (λ (h : Option Holding). FunctionGoes a (releases a me call.id h) me said) (sym (holds_nothing me s (handle.BeginAsync call next) e))
+      (subst (λ (r : Running). FunctionGoes a (unlocks a me r) me said) (sym k.1.1.running_is)
+      (subst (λ (xs : List Call). FunctionGoes a (begins_async a me xs) me said) (sym k.1.1.batch)
+      (inr (inl (begins_async_it a me call _ k.1.1.batch k.1.1.running_is (async_next k.1.1))))))
+  goes_handle (handle.CountAsync call next) e =
+      let k = stands_at me s (handle.CountAsync call next) e in
+      subst (λ (r : Running). FunctionGoes a (counts a me r) me None) (sym k.1.1.running_is)
+      (inr (inr (inr (record {
+        call = call;
+        was = k.1.1.running_is ∙ ap (λ (x : Class). ends_as x call) (sym k.1.3);
+        ends = refl;
+        says = refl;
+      }))))
+  goes_handle _ e = inl (record { same = refl; says = refl })
+
+  pub function_goes : (stage : Stage) → (control me).stage ≡ Some stage → Goes stage
+  function_goes (Send to) e = inl (record { same = refl; says = refl })
+  function_goes (Done id) e =
+      inl (record { same = told_confirms a me (at (Flags id) % 2 == 1) id; says = said_done (at (Flags id) % 2 == 1) })
+  function_goes (Post p stage) e = goes_post p stage e
+  function_goes (Handle stage) e = goes_handle stage e

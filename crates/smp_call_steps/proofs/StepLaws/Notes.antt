@@ -1,0 +1,199 @@
+-- What each step queues, and that its note says what holds.
+use Rattle.std.proofs.Common.{◌≡◌, ◌≢◌, ℕ, ◌+◌, ◌-◌, ◌%◌, ◌==◌, nat_lt, Bool, true, false, cond, inl, inr, Option, Some, None, List, [], ◌∷◌}
+use Rattle.std.proofs.Common.{sym, subst, refl, ap, ◌∙◌, eqb-true}
+use Rattle.smp_words.specs.Flags.{flags_of}
+use Rattle.smp_words.proofs.Puts.{put_same, test_here}
+use Rattle.smp_call_steps.specs.Calls.{CallState, Holding, Running, Nothing, is_nil, confirms, accepts, appended, begins_sync, begins_async}
+use Rattle.smp_call_steps.specs.Calls.{counts, unlocks, releases, links, flags_told, head_told, tells}
+use Rattle.smp_call_steps.specs.Drains.{link_to}
+use Rattle.smp_call_steps.specs.Notes.{is_queued, queued_note, QueueGoes, SaidMeans}
+use Rattle.smp_call_steps.specs.Posts.{ends, goes_to}
+use Rattle.smp_call_steps.specs.Shows.{Shows}
+use Rattle.smp_call_steps.specs.Stages.{ControlValue}
+use Rattle.smp_call_steps.specs.Stands.{held_of, holding}
+use Rattle.smp_call_steps.specs.StepLaws.{seen_then}
+use Rattle.smp_call_steps.specs.Words.{FlagsShow, nexts_in}
+use Rattle.smp_call_steps.specs.Names.{Call, Class, Sync, Async, Word, Head, Intr, Flags, RecPlace, Outcome, Posting, PostStage, HandleStage, Stage}
+use Rattle.smp_call_steps.specs.Names.{Send, Done, Post, Handle}
+use Rattle.smp_call_steps.specs.Names.act
+use Rattle.smp_call_steps.specs.Names.note
+use Rattle.smp_call_steps.specs.Names.place
+use Rattle.smp_call_steps.specs.Names.post
+use Rattle.smp_call_steps.specs.Names.handle
+use Rattle.smp_call_steps.proofs.Knows.Parts.{first_link}
+use Rattle.smp_call_steps.proofs.Steps.Turns.{stands_at}
+
+-- what queues nothing
+
+module _ (a : CallState) (me : ℕ) where
+  sent_confirms : (b : Bool) (id : ℕ) → (cond b a (confirms a me id)).sent ≡ a.sent
+  sent_confirms true id = refl
+  sent_confirms false id = refl
+
+  sent_lock : (c : Class) (id : ℕ) → (flags_told a me id act.Store None (Some (flags_of c))).sent ≡ a.sent
+  sent_lock Sync id = refl
+  sent_lock Async id = refl
+
+  sent_links : (n : ℕ) (h : Option Holding) → (links a me (Some n) h).sent ≡ a.sent
+  sent_links n None = refl
+  sent_links n (Some h) = refl
+
+  sent_begins : (batch : List Call) → ((begins_sync a me batch).sent ≡ a.sent) × ((begins_async a me batch).sent ≡ a.sent)
+  sent_begins [] = (refl, refl)
+  sent_begins (call ∷ rest) = (refl, refl)
+
+  sent_hand : (b : Bool) → (cond b (begins_sync a me (a.batch me)) a).sent ≡ a.sent
+  sent_hand true = (sent_begins (a.batch me)).0
+  sent_hand false = refl
+
+  sent_counts : (r : Running) → (counts a me r).sent ≡ a.sent
+  sent_counts Nothing = refl
+  sent_counts _ = refl
+
+  sent_releases : (id : ℕ) (h : Option Holding) → (releases a me id h).sent ≡ a.sent
+  sent_releases id None = unlocked (a.running me)
+    where
+      unlocked : (r : Running) → (unlocks a me r).sent ≡ a.sent
+      unlocked (Running.CountedCall call) = refl
+      unlocked _ = (sent_begins (a.batch me)).1
+  sent_releases id (Some h) = refl
+
+-- what is said
+
+said_flags : (b c : Bool) (p : Posting) → is_queued (cond b (ends note.Busy) (cond c (goes_to p post.Lock) (ends note.NoCpu))).note ≡ false
+said_flags true c p = refl
+said_flags false true p = refl
+said_flags false false p = refl
+
+said_lost : (c : Bool) (p : Posting) (link tries : ℕ) → is_queued (cond c (goes_to p (post.StoreNext link tries)) (goes_to p post.Uncount)).note ≡ false
+said_lost true p link tries = refl
+said_lost false p link tries = refl
+
+said_done : (b : Bool) → is_queued (ends (cond b note.Locked note.Done)).note ≡ false
+said_done true = refl
+said_done false = refl
+
+said_accept : (b : Bool) (x y : HandleStage) →
+    is_queued (cond {A = Outcome} b (record { next = Some (Handle x); note = None }) (record { next = Some (Handle y); note = None })).note ≡ false
+said_accept true x y = refl
+said_accept false x y = refl
+
+queued_said : (b : Bool) → cond b note.Owed note.Queued ≡ queued_note b
+queued_said true = refl
+queued_said false = refl
+
+module _ (a : CallState) (at : Word → ℕ) (control : ℕ → ControlValue) (s : Shows a at control) (me : ℕ) where
+  abbrev Queues : Stage → Type 0
+  Queues stage = let seen = seen_then at (control me).drain me stage in QueueGoes a (tells a seen) me seen.note
+
+  -- the exchange of a head, that it wins or loses
+  exchanged : (p : Posting) (link tries : ℕ) (b c : Bool) → (at (Head p.to) == link) ≡ b → a.held me ≡ Some (holding p p.func p.info p.to true) →
+      QueueGoes a (head_told a me p.to act.Cas (cond b (Some (p.id + 1)) None)) me
+      (cond b (ends (cond (link == 0) note.Owed note.Queued)) (cond c (goes_to p (post.StoreNext (at (Head p.to)) tries)) (goes_to p post.Uncount))).note
+  exchanged p link tries true c e held =
+      let first : is_nil (a.queue p.to) ≡ (link == 0) =
+      first_link (nexts_in at) (at (Head p.to)) (a.queue p.to) (s.chained.chain p.to) ∙ ap (λ (n : ℕ). n == 0) (eqb-true (at (Head p.to)) link e) in
+      subst (λ (h : Option Holding). QueueGoes a (appended a me p.to h) me (Some (cond (link == 0) note.Owed note.Queued))) (sym held)
+      (inr (record {
+        call = (holding p p.func p.info p.to true).call;
+        to = p.to;
+        queued = refl;
+        sent = refl;
+        says = ap Some (queued_said (link == 0) ∙ ap queued_note (sym first));
+      }))
+  exchanged p link tries false c e held = inl (record { same = refl; says = said_lost c p (at (Head p.to)) tries })
+
+  queues_post : (p : Posting) (stage : PostStage) → (control me).stage ≡ Some (Post p stage) → Queues (Post p stage)
+  queues_post p post.LoadFlags e =
+      let locked = at (Flags p.id) % 2 == 1 in inl (record { same = sent_confirms a me locked p.id; says = said_flags locked p.is_online p })
+  queues_post p post.Lock e = inl (record { same = sent_lock a me p.class p.id; says = refl })
+  queues_post p (post.StoreNext link tries) e = inl (record { same = sent_links a me link (a.held me); says = refl })
+  queues_post p (post.Exchange link tries) e =
+      exchanged p link (tries - 1) (at (Head p.to) == link) (nat_lt 1 tries) refl (s.held me ∙ ap held_of e)
+  queues_post p post.Release e = inl (record { same = sent_releases a me p.id (a.held me); says = refl })
+  queues_post p _ e = inl (record { same = refl; says = refl })
+
+  queues_handle : (stage : HandleStage) → Queues (Handle stage)
+  queues_handle handle.Accept = inl (record { same = refl; says = said_accept (at (Intr me) == 0) handle.LeaveIdle handle.Take })
+  queues_handle (handle.ReverseStore newer id older) = inl (record { same = sent_links a me (link_to newer) (a.held me); says = refl })
+  queues_handle (handle.LoadFlags walk id next) = inl (record { same = sent_confirms a me (at (Flags id) % 2 == 1) id; says = refl })
+  queues_handle (handle.Unlink walk last call next) = inl (record { same = sent_links a me (link_to next) (a.held me); says = refl })
+  queues_handle (handle.BeginSync walk call next) = inl (record { same = sent_hand a me (nat_lt 1 (call.id + 2)); says = refl })
+  queues_handle (handle.CountSync walk call next) = inl (record { same = sent_counts a me (a.running me); says = refl })
+  queues_handle (handle.EndSync walk call next) = inl (record { same = sent_releases a me call.id (a.held me); says = refl })
+  queues_handle (handle.BeginAsync call next) = inl (record { same = sent_releases a me call.id (a.held me); says = refl })
+  queues_handle (handle.CountAsync call next) = inl (record { same = sent_counts a me (a.running me); says = refl })
+  queues_handle _ = inl (record { same = refl; says = refl })
+
+  pub queue_goes : (stage : Stage) → (control me).stage ≡ Some stage → Queues stage
+  queue_goes (Send to) e = inl (record { same = refl; says = refl })
+  queue_goes (Done id) e =
+      inl (record { same = sent_confirms a me (at (Flags id) % 2 == 1) id; says = said_done (at (Flags id) % 2 == 1) })
+  queue_goes (Post p stage) e = queues_post p stage e
+  queue_goes (Handle stage) e = queues_handle stage
+
+  -- what else a note says
+
+  abbrev Means : Stage → Type 0
+  Means stage = let seen = seen_then at (control me).drain me stage in SaidMeans a (tells a seen) me seen.word seen.note
+
+  -- flags that are odd are of a locked record, and else of a free one
+  locked_place : (id : ℕ) → (at (Flags id) % 2 == 1) ≡ true → a.place id ≢ place.Free
+  locked_place id e free =
+      let zero_there : at (Flags id) ≡ 0 = subst (λ (p : RecPlace). FlagsShow p (at (Flags id))) free (s.written.locks id) in
+      let odd : (0 % 2 == 1) ≡ true = ap (λ (n : ℕ). n % 2 == 1) (sym zero_there) ∙ e in cc
+
+  free_if : (p : RecPlace) (flags : ℕ) → FlagsShow p flags → (flags % 2 == 1) ≡ false → p ≡ place.Free
+  free_if place.Free flags f e = refl
+  free_if _ flags f e = absurd (let bad : (1 == 1) ≡ false = ap (λ (n : ℕ). n == 1) (sym f) ∙ e in cc)
+
+  free_place : (id : ℕ) → (at (Flags id) % 2 == 1) ≡ false → a.place id ≡ place.Free
+  free_place id e = free_if (a.place id) (at (Flags id)) (s.written.locks id) e
+
+  confirmed_there : (id : ℕ) → (confirms a me id).confirmed me id ≡ true
+  confirmed_there id = ap (λ (f : ℕ → Bool). f id) (put_same a.confirmed me _) ∙ test_here id true (a.confirmed me id)
+
+  means_flags : (id : ℕ) (b c : Bool) (p : Posting) → p.id ≡ id → (at (Flags id) % 2 == 1) ≡ b →
+      SaidMeans a (cond b a (confirms a me id)) me (Flags id) (cond b (ends note.Busy) (cond c (goes_to p post.Lock) (ends note.NoCpu))).note
+  means_flags id true c p is e = locked_place id e
+  means_flags id false true p is e = tt
+  means_flags id false false p is e = (free_place id e, confirmed_there id)
+
+  means_done : (id : ℕ) (b : Bool) → (at (Flags id) % 2 == 1) ≡ b →
+      SaidMeans a (cond b a (confirms a me id)) me (Flags id) (ends (cond b note.Locked note.Done)).note
+  means_done id true e = locked_place id e
+  means_done id false e = (free_place id e, confirmed_there id)
+
+  means_exchange : (b c d : Bool) (p : Posting) (x : CallState) (link tries : ℕ) →
+      SaidMeans a x me (Head p.to) (cond b (ends (cond d note.Owed note.Queued)) (cond c (goes_to p (post.StoreNext link tries)) (goes_to p post.Uncount))).note
+  means_exchange true c true p x link tries = tt
+  means_exchange true c false p x link tries = tt
+  means_exchange false true d p x link tries = tt
+  means_exchange false false d p x link tries = tt
+
+  means_accept : (b : Bool) (x : CallState) → SaidMeans a x me (Intr me)
+      (cond {A = Outcome} b (record { next = Some (Handle handle.LeaveIdle); note = None }) (record { next = Some (Handle handle.Take); note = None })).note
+  means_accept true x = tt
+  means_accept false x = tt
+
+  means_post : (p : Posting) (stage : PostStage) → (control me).stage ≡ Some (Post p stage) → Means (Post p stage)
+  means_post p post.LoadFlags e = means_flags p.id (at (Flags p.id) % 2 == 1) p.is_online p refl refl
+  means_post p (post.Exchange link tries) e =
+      means_exchange (at (Head p.to) == link) (nat_lt 1 tries) (link == 0) p
+      (head_told a me p.to act.Cas (cond (at (Head p.to) == link) (Some (p.id + 1)) None)) (at (Head p.to)) (tries - 1)
+  means_post p post.Release e =
+      subst (λ (h : Option Holding). SaidMeans a (releases a me p.id h) me (Flags p.id) (Some note.Contended)) (sym (s.held me ∙ ap held_of e))
+      (put_same a.place p.id place.Free, put_same a.held me None)
+  means_post p _ e = tt
+
+  means_handle : (stage : HandleStage) → (control me).stage ≡ Some (Handle stage) → Means (Handle stage)
+  means_handle handle.Accept e = means_accept (at (Intr me) == 0) (accepts a me)
+  means_handle handle.LeaveIdle e = let k = stands_at me s handle.LeaveIdle e in (refl, k.1)
+  means_handle handle.Leave e = let k = stands_at me s handle.Leave e in (refl, k.1.0, k.1.1)
+  means_handle _ e = tt
+
+  pub says_so : (stage : Stage) → (control me).stage ≡ Some stage → Means stage
+  says_so (Send to) e = (put_same a.pending to true, ap (λ (f : ℕ → Bool). f to) (put_same a.owes me _) ∙ test_here to false (a.owes me to))
+  says_so (Done id) e = means_done id (at (Flags id) % 2 == 1) refl
+  says_so (Post p stage) e = means_post p stage e
+  says_so (Handle stage) e = means_handle stage e

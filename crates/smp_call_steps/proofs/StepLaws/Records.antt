@@ -1,0 +1,99 @@
+-- Which CPU may change the words of a record.
+use Rattle.std.proofs.Common.{◌≡◌, ℕ, zero, suc, Bool, true, false, ◌==◌, cond, ◌⊎◌, inl, inr, Option, Some, None, List, [], ◌∷◌, sym, subst, refl}
+use Rattle.smp_words.specs.Access.{act_of, word_of, found_by, put_by, put_if, at_after}
+use Rattle.smp_words.specs.Put.{put_word}
+use Rattle.smp_words.proofs.Puts.{at_test}
+use Rattle.smp_call_steps.specs.Calls.{CallState, Holding, Running}
+use Rattle.smp_call_steps.specs.Places.{Holds, AllPlaced, locked_by}
+use Rattle.smp_call_steps.specs.Premises.{HoldsUncounted, IsNext, MayStoreFlags, MaySee, IsWordOf, MayStoreAt}
+use Rattle.smp_call_steps.specs.Shows.{Shows}
+use Rattle.smp_call_steps.specs.Stages.{ControlValue, access_of}
+use Rattle.smp_call_steps.specs.StepLaws.{KeepsRecords}
+use Rattle.smp_call_steps.specs.Names.{Call, Word, Head, Intr, Flags, Func, Info, Next, Access, Load, Store, Swap, Exchange, RecPlace, Stage}
+use Rattle.smp_call_steps.specs.Names.act
+use Rattle.smp_call_steps.specs.Names.place
+use Rattle.smp_call_steps.proofs.State.Counts.{held_place}
+use Rattle.smp_call_steps.proofs.StepLaws.Premises.{may_see}
+
+module _ (a : CallState) (at : Word → ℕ) (control : ℕ → ControlValue) (s : Shows a at control) (me : ℕ) where
+  abbrev May : ℕ → Type 0
+  May id = MayStoreAt (a.place id) a me id
+
+  at_place : (id : ℕ) (p : RecPlace) → a.place id ≡ p → MayStoreAt p a me id → May id
+  at_place id p is may = subst (λ (x : RecPlace). MayStoreAt x a me id) (sym is) may
+
+  by_holder : (id : ℕ) → Holds (a.held me) id → May id
+  by_holder id h = at_place id place.Held (held_place s me id h) h
+
+  holds_any : (h : Option Holding) (id : ℕ) → HoldsUncounted h id → Holds h id
+  holds_any None id k = k
+  holds_any (Some h) id k = k.0
+
+  by_flags : (id n : ℕ) → MayStoreFlags a me id n → May id
+  by_flags id zero (inl h) = by_holder id (holds_any (a.held me) id h)
+  by_flags id zero (inr (inl k)) =
+      let all : AllPlaced a.place (place.Running me) (k.0 ∷ []) =
+      subst (λ (r : Running). AllPlaced a.place (place.Running me) (locked_by r)) k.2 (s.placed.runs me) in
+      at_place id (place.Running me) (subst (λ (n : ℕ). a.place n ≡ place.Running me) k.1 all.0.placed) refl
+  by_flags id zero (inr (inr k)) =
+      let next = k.2 in
+      let all : AllPlaced a.place (place.Batch me) (k.0 ∷ next.rest) =
+      subst (λ (calls : List Call). AllPlaced a.place (place.Batch me) calls) next.front (s.placed.batched me) in
+      at_place id (place.Batch me) (subst (λ (n : ℕ). a.place n ≡ place.Batch me) k.1 all.0.placed) refl
+  by_flags id (suc n) lock = at_place id place.Free lock.free lock.owned
+
+  -- a store to a word of this kind of one record, and another word of that kind
+  stored : (of : ℕ → Word) (k x n : ℕ) → (k ≡ x → May k) → (cond (k == x) n (at (of k)) ≡ at (of k)) ⊎ May k
+  stored of k x n may = at_test k x (λ b. (cond b n (at (of k)) ≡ at (of k)) ⊎ May k) (λ e. inr (may e)) (λ _. inl refl)
+
+  may_there : (k x : ℕ) → k ≡ x → May x → May k
+  may_there k x e m = subst May (sym e) m
+
+  stores : (x : Word) (n : ℕ) → MaySee a me act.Store x None (Some n) → (w : Word) (id : ℕ) → IsWordOf id w →
+      (at_after at (Store x n) w ≡ at w) ⊎ May id
+  stores (Flags x) n m (Flags k) id o = subst (λ (i : ℕ). (at_after at (Store (Flags x) n) (Flags k) ≡ at (Flags k)) ⊎ May i) o
+      (stored Flags k x n (λ e. may_there k x e (by_flags x n m)))
+  stores (Func x) n m (Func k) id o = subst (λ (i : ℕ). (at_after at (Store (Func x) n) (Func k) ≡ at (Func k)) ⊎ May i) o
+      (stored Func k x n (λ e. may_there k x e (by_holder x (holds_any (a.held me) x m))))
+  stores (Info x) n m (Info k) id o = subst (λ (i : ℕ). (at_after at (Store (Info x) n) (Info k) ≡ at (Info k)) ⊎ May i) o
+      (stored Info k x n (λ e. may_there k x e (by_holder x (holds_any (a.held me) x m))))
+  stores (Next x) n (inl m) (Next k) id o = subst (λ (i : ℕ). (at_after at (Store (Next x) n) (Next k) ≡ at (Next k)) ⊎ May i) o
+      (stored Next k x n (λ e. may_there k x e (by_holder x m)))
+  stores (Next x) n (inr m) (Next k) id o = subst (λ (i : ℕ). (at_after at (Store (Next x) n) (Next k) ≡ at (Next k)) ⊎ May i) o
+      (stored Next k x n (λ e. may_there k x e (at_place x (place.Batch me) m.0 refl)))
+  stores _ n m (Flags k) id o = inl refl
+  stores _ n m (Func k) id o = inl refl
+  stores _ n m (Info k) id o = inl refl
+  stores _ n m (Next k) id o = inl refl
+  stores _ n m _ id o = absurd o
+
+  -- a number put in a word of a CPU's queue
+  put_head : (c n : ℕ) (w : Word) (id : ℕ) → IsWordOf id w → put_word at (Head c) n w ≡ at w
+  put_head c n (Flags k) id o = refl
+  put_head c n (Func k) id o = refl
+  put_head c n (Info k) id o = refl
+  put_head c n (Next k) id o = refl
+  put_head c n _ id o = absurd o
+
+  put_intr : (c n : ℕ) (w : Word) (id : ℕ) → IsWordOf id w → put_word at (Intr c) n w ≡ at w
+  put_intr c n (Flags k) id o = refl
+  put_intr c n (Func k) id o = refl
+  put_intr c n (Info k) id o = refl
+  put_intr c n (Next k) id o = refl
+  put_intr c n _ id o = absurd o
+
+  exchanges : (b : Bool) (c n : ℕ) (w : Word) (id : ℕ) → IsWordOf id w → put_if put_word at (Head c) (cond b (Some n) None) w ≡ at w
+  exchanges true c n w id o = put_head c n w id o
+  exchanges false c n w id o = refl
+
+  stays : (x : Access) → MaySee a me (act_of x) (word_of x) (found_by x (at (word_of x))) (put_by x (at (word_of x))) → (w : Word) (id : ℕ) →
+      IsWordOf id w → (at_after at x w ≡ at w) ⊎ May id
+  stays (Load x) m w id o = inl refl
+  stays (Store x n) m w id o = stores x n m w id o
+  stays (Swap (Head c) n) m w id o = inl (put_head c n w id o)
+  stays (Swap (Intr c) n) m w id o = inl (put_intr c n w id o)
+  stays (Exchange (Head c) expected n) m w id o = inl (exchanges (at (Head c) == expected) c n w id o)
+  stays _ m w id o = absurd m
+
+  pub keeps_records : (stage : Stage) → (control me).stage ≡ Some stage → KeepsRecords a at (control me).drain me stage
+  keeps_records stage e w id o = stays (access_of at me stage) (may_see a at control s me stage e) w id o

@@ -1,0 +1,111 @@
+-- Who may make which step of the call half: what holds of the calls before it.
+use Rattle.std.specs.Prelude.{◌≡◌, ◌⊎◌, ℕ, zero, suc, ◌+◌, ◌<◌, true, false, Option, Some, None, List, [], ◌∷◌}
+use Rattle.smp_words.specs.Size.{cpus, owner}
+use Rattle.smp_call_steps.specs.Calls.{CallState, Holding, Nothing, CountedCall}
+use Rattle.smp_call_steps.specs.Functions.{runs_as}
+use Rattle.smp_call_steps.specs.Places.{Holds}
+use Rattle.smp_call_steps.specs.Stands.{Rests, share_of}
+use Rattle.smp_call_steps.specs.Names.{Call, Class, Sync, Async, Word, Head, Intr, Hand, Queued, Ran, Flags, Func, Info, Next, Act, RecPlace}
+use Rattle.smp_call_steps.specs.Names.place
+use Rattle.smp_call_steps.specs.Names.act
+
+-- it holds this record, whose call is not counted
+abbrev pub HoldsUncounted : Option Holding → ℕ → Type 0
+HoldsUncounted None id = ⊥
+HoldsUncounted (Some h) id = (h.call.id ≡ id) × (h.is_counted ≡ false)
+
+-- it holds a record whose call is counted for this CPU
+abbrev pub HoldsFor : Option Holding → ℕ → Type 0
+HoldsFor None to = ⊥
+HoldsFor (Some h) to = (h.is_counted ≡ true) × (h.to ≡ to)
+
+-- it holds a record whose call is counted for no other CPU
+abbrev pub MayCount : Option Holding → ℕ → Type 0
+MayCount None to = ⊥
+MayCount (Some h) to = h.is_counted ≡ true → h.to ≡ to
+
+-- a head that is exchanged then leads to the record that is held
+abbrev pub LeadsTo : Option Holding → Option ℕ → Type 0
+LeadsTo (Some h) (Some n) = n ≡ h.call.id + 1
+LeadsTo _ _ = Unit {0}
+
+-- the front of what is left of its batch is a call of this class, and nothing runs
+pub record IsNext (a : CallState) (me : ℕ) (class : Class) (call : Call) : Type 0 where
+  pub rest : List Call
+  pub front : a.batch me ≡ call ∷ rest
+  pub idle : a.running me ≡ Nothing
+  pub class_is : call.class ≡ class
+
+-- a free record of its own is locked by a CPU that holds none and handles nothing
+pub record MayLock (a : CallState) (me id : ℕ) : Type 0 where
+  pub owned : owner id ≡ me
+  pub free : a.place id ≡ place.Free
+  pub none : a.held me ≡ None
+  pub rests : Rests (share_of a me)
+
+-- a record is unlocked by the CPU that holds it and has counted its call back; by the one whose SYNC call it is, once that
+-- is counted; or where its ASYNC call is next
+abbrev pub MayUnlock : CallState → ℕ → ℕ → Type 0
+MayUnlock a me id = HoldsUncounted (a.held me) id
+    ⊎ ((call : Call) × (call.id ≡ id) × (a.running me ≡ CountedCall call) × (call.class ≡ Sync))
+    ⊎ ((call : Call) × (call.id ≡ id) × IsNext a me Async call)
+
+abbrev pub MayStoreFlags : CallState → ℕ → ℕ → ℕ → Type 0
+MayStoreFlags a me id zero = MayUnlock a me id
+MayStoreFlags a me id (suc n) = MayLock a me id
+
+-- the handling word is stored as a CPU enters, where it has nothing to handle, and leaves, where it has nothing left; or
+-- as the SYNC call of a record begins, which is next
+abbrev pub MayStoreHand : CallState → ℕ → ℕ → Type 0
+MayStoreHand a me n = ((n < 2) × Rests (share_of a me)) ⊎ ((call : Call) × (n ≡ call.id + 2) × IsNext a me Sync call)
+
+-- the next word of a record is stored by the CPU that holds it, or in whose batch it is, and which runs nothing
+abbrev pub MayLink : CallState → ℕ → ℕ → Type 0
+MayLink a me id = Holds (a.held me) id ⊎ ((a.place id ≡ place.Batch me) × (a.running me ≡ Nothing))
+
+-- a call is counted as run while it runs, once
+abbrev pub MayCountRun : CallState → ℕ → ℕ → Type 0
+MayCountRun a me source = (call : Call) × (owner call.id ≡ source) × (a.running me ≡ runs_as call.class call)
+
+-- the queue is taken once an interrupt is accepted, by a CPU that has nothing left to run
+pub record MayTake (a : CallState) (me : ℕ) : Type 0 where
+  pub accepted : a.accepted me ≡ true
+  pub batch : a.batch me ≡ []
+  pub idle : a.running me ≡ Nothing
+
+-- a word of this record
+abbrev pub IsWordOf : ℕ → Word → Type 0
+IsWordOf id (Flags k) = k ≡ id
+IsWordOf id (Func k) = k ≡ id
+IsWordOf id (Info k) = k ≡ id
+IsWordOf id (Next k) = k ≡ id
+IsWordOf id _ = ⊥
+
+-- who may store to the words of a record that is there: its source while it is free, the CPU that holds it, nobody while it
+-- is in a queue, and then the CPU that has taken it
+abbrev pub MayStoreAt : RecPlace → CallState → ℕ → ℕ → Type 0
+MayStoreAt place.Free a me id = owner id ≡ me
+MayStoreAt place.Held a me id = Holds (a.held me) id
+MayStoreAt (place.Queued cpu) a me id = ⊥
+MayStoreAt (place.Batch cpu) a me id = cpu ≡ me
+MayStoreAt (place.Running cpu) a me id = cpu ≡ me
+
+-- what holds before a step that is seen so; there is no other
+abbrev pub MaySee : CallState → ℕ → Act → Word → Option ℕ → Option ℕ → Type 0
+MaySee a me act.Load (Flags id) found put = (owner id ≡ me) ⊎ (a.place id ≡ place.Batch me)
+MaySee a me act.Load (Func id) found put = a.place id ≡ place.Batch me
+MaySee a me act.Load (Info id) found put = a.place id ≡ place.Batch me
+MaySee a me act.Load (Next id) found put = a.place id ≡ place.Batch me
+MaySee a me act.Load (Head to) found put = HoldsFor (a.held me) to
+MaySee a me act.Store (Flags id) found (Some n) = MayStoreFlags a me id n
+MaySee a me act.Store (Func id) found put = HoldsUncounted (a.held me) id
+MaySee a me act.Store (Info id) found put = HoldsUncounted (a.held me) id
+MaySee a me act.Store (Next id) found put = MayLink a me id
+MaySee a me act.Store (Queued from to) found put = (from ≡ me) × MayCount (a.held me) to
+MaySee a me act.Store (Ran by source) found put = (by ≡ me) × MayCountRun a me source
+MaySee a me act.Store (Hand cpu) found (Some n) = (cpu ≡ me) × MayStoreHand a me n
+MaySee a me act.Store (Intr to) found put = to < cpus
+MaySee a me act.Cas (Head to) found put = HoldsFor (a.held me) to × LeadsTo (a.held me) put
+MaySee a me act.Swap (Intr cpu) found put = (cpu ≡ me) × Rests (share_of a me)
+MaySee a me act.Swap (Head cpu) found put = (cpu ≡ me) × MayTake a me
+MaySee a me _ _ found put = ⊥
