@@ -15,4 +15,5 @@ pub mod Starting
 pub mod Seating
 -- a CPU between two calls
 pub mod Kept
+pub mod Advancing
 pub mod Showing
