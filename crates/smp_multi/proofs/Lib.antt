@@ -16,4 +16,5 @@ pub mod Seating
 -- a CPU between two calls
 pub mod Kept
 pub mod Advancing
+pub mod Finishing
 pub mod Showing

@@ -22,7 +22,7 @@ ghost use Rattle.smp_words.specs.Limits.{AreLimits};
 ghost use Rattle.smp_words.specs.Size.{cpus};
 ghost use Rattle.smp_stop_steps.specs.Known.{fresh, Lives};
 ghost use Rattle.smp_multi.specs.declared.seat_view.SeatView.TheVariants.{Maker};
-ghost use Rattle.smp_multi.specs.Advance.{AdvanceAnswers, IsNoPatch};
+ghost use Rattle.smp_multi.specs.Advance.{AdvanceAnswers, FinishAnswers, IsNoPatch};
 ghost use Rattle.smp_multi.specs.Answers.{BeginAnswers, Enters, RunAnswers, PollAnswers};
 ghost use Rattle.smp_multi.specs.Cells.{cells};
 ghost use Rattle.smp_multi.specs.Cpu.{IsAt, IsFull, fresh_cpu, gated};
@@ -36,7 +36,7 @@ use crate::poll::{collect, is_done};
 use crate::rule::{Owner, RawSeat};
 use crate::seat::{CpuSeat, next_seat};
 use crate::turn::{Turn, take_turn};
-use crate::{begin, enter, run};
+use crate::{begin, complete, enter, run};
 use atomic_table::Table;
 use smp_labels::LabelMap;
 use smp_mask::{CpuMask, SmpError};
@@ -277,6 +277,23 @@ impl<A: Allocator> StopTable<A> {
         let (visit, turn) = take_turn(&self.owner.shared, &mut me.seat, me.number, visit, func);
         me.visit = Some(visit);
         Ok(turn)
+    }
+
+    /// Completes the stop of several CPUs that this CPU has left, with its function's answer, 0 where it called none, at the
+    /// fetch_sub of its count. E4 where it is in no such stop or has not left it, which makes no step. It does not wait.
+    pub fn finish(&self, me: &mut StopCpu) -> Result<(), SmpError>
+        requires { IsAt self.now me.old }
+        ensures { FinishAnswers me.old me.new result }
+    {
+        let Some(visit) = me.visit else {
+            return Err(SmpError::BadArgument);
+        };
+        if visit.kind == Kind::One || visit.acked != EXIT {
+            return Err(SmpError::BadArgument);
+        }
+        complete::finish(&self.owner.shared, &mut me.seat, visit.slot, visit.answer);
+        me.visit = None;
+        Ok(())
     }
 
     /// Whether all CPUs of this CPU's own stop have completed: None where its load of done found 0; Some, with the
