@@ -7,6 +7,7 @@ pub mod Gates
 pub mod Entering
 pub mod Beginning
 pub mod Running
+pub mod Turning
 pub mod Completing
 pub mod Polling
 -- a table as it is made, and its CPUs
@@ -14,4 +15,6 @@ pub mod Starting
 pub mod Seating
 -- a CPU between two calls
 pub mod Kept
+pub mod Advancing
+pub mod Finishing
 pub mod Showing

@@ -34,17 +34,21 @@ mod func;
 mod gate;
 pub mod laws;
 mod poll;
+mod round;
 mod rule;
 mod run;
+mod run_multi;
 pub mod run_steps;
 mod seat;
 mod seat_view;
 mod table;
+mod turn;
 
 pub use boot::StopBoot;
 pub use cpu::StopCpu;
 pub use func::{Called, StopFunc};
 pub use table::StopTable;
+pub use turn::Turn;
 
 #[cfg(test)]
 mod tests;
