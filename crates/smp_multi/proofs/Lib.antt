@@ -15,3 +15,6 @@ pub mod Seating
 -- a CPU between two calls
 pub mod Kept
 pub mod Showing
+-- readings and nudges of keys
+pub mod Reading
+pub mod Nudging

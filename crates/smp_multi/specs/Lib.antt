@@ -18,3 +18,6 @@ pub mod Table
 pub mod Answers
 -- what holds while threads run
 pub mod Laws
+-- readings and nudges of keys
+pub mod Reads
+pub mod Nudges

@@ -33,7 +33,9 @@ mod enter;
 mod func;
 mod gate;
 pub mod laws;
+mod nudge;
 mod poll;
+mod read;
 mod rule;
 mod run;
 pub mod run_steps;
@@ -44,6 +46,7 @@ mod table;
 pub use boot::StopBoot;
 pub use cpu::StopCpu;
 pub use func::{Called, StopFunc};
+pub use nudge::Nudge;
 pub use table::StopTable;
 
 #[cfg(test)]
