@@ -17,4 +17,5 @@ pub record IsShown (c : CpuValue) : Type 0 where
   pub laws : KeepsStopLaws (setup_in c.setting) stops at
   pub known : Known
   pub sees : Sees stops seat source known
-  pub view : c ≡ cpu_of (record { table = c.table; known = known })
+  pub answer : ℕ
+  pub view : c ≡ cpu_of answer (record { table = c.table; known = known })

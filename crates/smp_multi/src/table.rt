@@ -24,7 +24,7 @@ ghost use Rattle.smp_stop_steps.specs.Known.{fresh, Lives};
 ghost use Rattle.smp_multi.specs.declared.seat_view.SeatView.TheVariants.{Maker};
 ghost use Rattle.smp_multi.specs.Answers.{BeginAnswers, Enters, RunAnswers, PollAnswers};
 ghost use Rattle.smp_multi.specs.Cells.{cells};
-ghost use Rattle.smp_multi.specs.Cpu.{IsAt, IsFull, cpu_of, gated};
+ghost use Rattle.smp_multi.specs.Cpu.{IsAt, IsFull, fresh_cpu, gated};
 ghost use Rattle.smp_multi.specs.Nudges.{NudgeAnswers};
 ghost use Rattle.smp_multi.specs.Reads.{KeyAnswers, SiteAnswers};
 
@@ -95,7 +95,7 @@ fn cpu_if(is_online: bool, seat: CpuSeat, number: u32) -> Option<StopCpu>
     requires below { number < cpus }
     requires online { is_online ≡ has seat.known.setting.online number }
     requires lives { Lives seat.known }
-    ensures { result ≡ if is_online then Some (cpu_of seat) else None }
+    ensures { result ≡ if is_online then Some (fresh_cpu seat.table seat.known.setting number) else None }
 {
     if is_online {
         Some(StopCpu::new(seat, number))

@@ -27,4 +27,5 @@ returns-clause-visit c = λ work h.
       };
       slot_is = refl;
       fresh = refl;
+      unanswered = refl;
     }
