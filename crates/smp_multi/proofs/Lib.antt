@@ -7,6 +7,7 @@ pub mod Gates
 pub mod Entering
 pub mod Beginning
 pub mod Running
+pub mod Turning
 pub mod Completing
 pub mod Polling
 -- a table as it is made, and its CPUs

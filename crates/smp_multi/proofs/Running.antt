@@ -10,7 +10,7 @@ use Rattle.smp_stop_steps.specs.Sources.{SourceShows, IsWork}
 use Rattle.smp_stop_steps.specs.Stop.{Inside}
 use Rattle.smp_stop_steps.proofs.Phases.{is_open_inside}
 use Rattle.smp_words.specs.Size.{cpus}
-use Rattle.smp_multi.specs.Names.{Work, Kind, One, StopCall, Calling, Calls, Idle, Slot, Field, Load, Store, Sub, Seat, In, Gives, Rests, Source, Shut, Drafts}
+use Rattle.smp_multi.specs.Names.{Work, Kind, One, StopCall, Calling, Calls, Idle, Slot, Field, Load, Store, Sub, Seat, In, Gives, Rests, Duty, Source, Shut, Drafts}
 use Rattle.smp_multi.specs.Names.{Owns, Collects, Known}
 use Rattle.smp_multi.specs.Names.field
 use Rattle.smp_multi.specs.Completes.{AtClose}
@@ -152,14 +152,15 @@ module _ (t : TableId) (d : SeatValue) (slot : ℕ) where
   }
 
 -- the work of a stop that a CPU is in is one that begin takes: its function has 16 bits
-pub small_func : (v : Known) (slot : ℕ) (w : Work) (f : Field) (n : ℕ) → v.seat ≡ In slot w 0 0 Rests → Moment v (Slot slot f) n → w.func < 2 ^ 16
-small_func v slot w f n is m = (go (m.source slot) (m.shown.sources slot)).func
+pub small_func : (v : Known) (slot : ℕ) (w : Work) (acked looked : ℕ) (duty : Duty) (f : Field) (n : ℕ) → v.seat ≡ In slot w acked looked duty
+    → Moment v (Slot slot f) n → w.func < 2 ^ 16
+small_func v slot w acked looked duty f n is m = (go (m.source slot) (m.shown.sources slot)).func
   where
-    st : Stands m.stops.now v.number (In slot w 0 0 Rests)
+    st : Stands m.stops.now v.number (In slot w acked looked duty)
     st = subst (Stands m.stops.now v.number) (m.sees.seat_is ∙ is) (m.shown.present.stands v.number)
 
     opened : (m.stops.now.stop slot).is_open ≡ true
-    opened = is_open_inside cpus (m.stops.now.stop slot) (λ g. m.at (Slot slot g)) (m.shown.present.slots slot) v.number (Inside 0 0) st.1 refl
+    opened = is_open_inside cpus (m.stops.now.stop slot) (λ g. m.at (Slot slot g)) (m.shown.present.slots slot) v.number (Inside acked looked) st.1 refl
 
     go : (y : Source) → SourceShows (setup_in v.setting) m.stops.gate (m.stops.now.stop slot) (λ g. m.at (Slot slot g)) slot y → IsWork (setup_in v.setting) w
     go Shut shut = absurd (let bad : true ≡ false = sym opened ∙ shut in cc)

@@ -10,12 +10,15 @@ pub mod Seat
 pub mod Places
 pub mod Begins
 pub mod Running
+pub mod Rounds
+pub mod Turns
 pub mod Completes
 pub mod Polls
 -- a table and a CPU between two calls, and what each call answers
 pub mod Cpu
 pub mod Table
 pub mod Answers
+pub mod Advance
 -- what holds while threads run
 pub mod Laws
 -- readings and nudges of keys

@@ -36,18 +36,22 @@ pub mod laws;
 mod nudge;
 mod poll;
 mod read;
+mod round;
 mod rule;
 mod run;
+mod run_multi;
 pub mod run_steps;
 mod seat;
 mod seat_view;
 mod table;
+mod turn;
 
 pub use boot::StopBoot;
 pub use cpu::StopCpu;
 pub use func::{Called, StopFunc};
 pub use nudge::Nudge;
 pub use table::StopTable;
+pub use turn::Turn;
 
 #[cfg(test)]
 mod tests;
