@@ -1,5 +1,5 @@
 -- What a CPU knows of the calls: where it stands, as far as its steps have told, and its own part of the call state.
-use Rattle.std.specs.Prelude.{◌≡◌, ◌≢◌, ℕ, ◌+◌, ◌%◌, ◌^◌, ◌<◌, Bool, true, false, ◌==◌, if◌then◌else◌, Option, Some, None, List, [], ◌++◌, length}
+use Rattle.std.specs.Prelude.{◌≡◌, ◌≢◌, ℕ, ◌+◌, ◌%◌, ◌^◌, ◌<◌, Bool, true, false, ◌==◌, if◌then◌else◌, Option, Some, None, List, [], ◌∷◌, ◌++◌, length}
 use Rattle.std.specs.Prelude.{slice_index_or}
 use Rattle.smp_words.specs.Size.{cpus, records, owner}
 use Rattle.smp_words.specs.Flags.{class_of}
@@ -12,11 +12,12 @@ use Rattle.smp_call_steps.specs.Places.{IsCall}
 use Rattle.smp_call_steps.specs.Histories.{sent_to, calls_from, one_held, counted_call}
 use Rattle.smp_call_steps.specs.Stands.{held_of, held_of_post, posted, PostGoes}
 use Rattle.smp_call_steps.specs.Shows.{Shows}
-use Rattle.smp_call_steps.specs.Names.{Call, Class, Word, Intr, Hand, Queued, Flags, Func, Info, Next, Access, Load, Store, Seen, Act, Posting, PostStage}
-use Rattle.smp_call_steps.specs.Names.{HandleStage, Stage, Send, Done, Post, Handle}
+use Rattle.smp_call_steps.specs.Names.{Call, Class, Word, Head, Intr, Hand, Queued, Flags, Func, Info, Next, Access, Load, Store, Seen, Act, Posting, PostStage}
+use Rattle.smp_call_steps.specs.Names.{HandleStage, Stage, Send, Done, Post, Handle, Logged}
 use Rattle.smp_call_steps.specs.Names.act
 use Rattle.smp_call_steps.specs.Names.post
 use Rattle.smp_call_steps.specs.Names.handle
+use Rattle.smp_call_steps.specs.Names.logged
 use Rattle.smp_call_steps.specs.declared.known.Known.{Known}
 
 -- what the steps so far have told of a post: the rest is put as zero
@@ -55,7 +56,7 @@ pub record Sees (a : CallState) (control : ℕ → ControlValue) (v : Known) : T
 
 -- a CPU that has done nothing yet
 abbrev pub fresh : ℕ → Known
-fresh me = record { number = me; stage = None; drain = no_drain; part = part_of no_calls me }
+fresh me = record { number = me; stage = None; drain = no_drain; part = part_of no_calls me; tried = 0; log = [] }
 
 -- what follows a step of a post, as the step tells it
 
@@ -113,12 +114,25 @@ abbrev pub drain_then : Option Stage → DrainValue → Option ℕ → DrainValu
 drain_then (Some (Handle stage)) d found = drain_after d stage (number_or_zero found)
 drain_then _ d found = d
 
+-- how many compare-exchanges it has made after it
+abbrev pub tried_after : Act → ℕ → ℕ
+tried_after act.Cas n = n + 1
+tried_after _ n = n
+
+-- what it has sent after it: a compare-exchange that puts its record into a head queues a call
+abbrev pub log_after : Act → Word → Option ℕ → List Logged → List Logged
+log_after act.Cas (Head to) (Some n) log = log ++ logged.Queued to ∷ []
+log_after act.Store (Intr to) put log = log ++ logged.Interrupted to ∷ []
+log_after _ w put log = log
+
 -- what a CPU knows after a step of its own; a swap of the head takes this queue
 abbrev pub known_taking : List Call → Known → Act → Word → Option ℕ → Option ℕ → Known
 known_taking queue v act w found put = record v {
   stage = stage_after v.stage v.drain act w found put;
   drain = drain_then v.stage v.drain found;
   part = part_after queue (held_of v.stage) act w found put v.part;
+  tried = tried_after act v.tried;
+  log = log_after act w put v.log;
 }
 
 -- the same of a step that takes no queue
@@ -203,9 +217,14 @@ outside_known v = record v { stage = None }
 abbrev pub confirmed_known : ℕ → Known → Known
 confirmed_known id v = record v { part = part_confirmed id v.part }
 
--- a CPU that has queued this call
+-- a CPU that has made so many compare-exchanges in vain
+abbrev pub lost_tries : ℕ → Known → Known
+lost_tries n v = record v { tried = v.tried + n }
+
+-- a CPU that has queued this call, by one compare-exchange
 abbrev pub queued_known : Call → ℕ → Bool → Known → Known
-queued_known call to first v = record v { stage = None; part = part_queued call to first v.part }
+queued_known call to first v =
+    record v { stage = None; part = part_queued call to first v.part; tried = v.tried + 1; log = v.log ++ logged.Queued to ∷ [] }
 
 -- whether it has seen its record confirmed
 abbrev pub is_confirmed : Known → ℕ → Bool

@@ -22,3 +22,5 @@ pub use Rattle.smp_call_steps.specs.declared.handle.HandleStage.TheVariants as h
 pub use Rattle.smp_call_steps.specs.declared.stage.Outcome.{Outcome}
 pub use Rattle.smp_call_steps.specs.declared.stage.Stage.{Stage}
 pub use Rattle.smp_call_steps.specs.declared.stage.Stage.TheVariants.{Send, Done, Post, Handle}
+pub use Rattle.smp_call_steps.specs.declared.known.Logged.{Logged}
+pub use Rattle.smp_call_steps.specs.declared.known.Logged.TheVariants as logged

@@ -13,6 +13,14 @@ pub struct Sending {
     pub is_first: bool,
 }
 
+/// What a CPU has sent to another one.
+pub enum Logged {
+    /// A call, into this CPU's queue.
+    Queued(u32),
+    /// An interrupt, to this CPU.
+    Interrupted(u32),
+}
+
 /// The call that a CPU runs.
 pub enum Running {
     Nothing,
@@ -45,10 +53,15 @@ pub struct Part {
     pub confirmed: LinkedList<bool>,
 }
 
-/// What a CPU knows: where it stands, as far as its steps have told, and its own part of the calls.
+/// What a CPU knows: where it stands, as far as its steps have told, its own part of the calls, and what it has done to
+/// other CPUs.
 pub struct Known {
     pub number: u32,
     pub stage: Option<Stage>,
     pub drain: Drain,
     pub part: Part,
+    /// How many compare-exchanges of heads it has made, won and lost.
+    pub tried: u64,
+    /// The calls that it has queued and the interrupts that it has sent, in the order in which it did so.
+    pub log: LinkedList<Logged>,
 }

@@ -1,6 +1,7 @@
 -- Calls that were waited for have ended.
-use Rattle.std.proofs.Common.{◌≡◌, ℕ, zero, suc, ◌<◌, ◌≤◌, ◌==◌, ◌||◌, Bool, true, false, cond, Option, None, List, [], ◌∷◌, get_or, sym, subst, refl, ap, ◌∙◌}
+use Rattle.std.proofs.Common.{◌≡◌, ℕ, zero, suc, ◌<◌, ◌≤◌, ◌==◌, ◌||◌, Bool, true, false, cond, Option, Some, None, List, [], ◌∷◌, ◌++◌, get_or, sym, subst, refl, ap, ◌∙◌}
 use Rattle.std.proofs.Common.{arith}
+use Rattle.std.proofs.lemmas.List.{append-nil}
 use Rattle.std.proofs.lemmas.Bool.{eq-eqb}
 use Rattle.std.specs.List.{AllByRecursion}
 use Rattle.smp_words.specs.Size.{cpus, records_of_one, record_of}
@@ -14,8 +15,8 @@ use Rattle.smp_queue.specs.Cpu.{CpuValue, confirmed_at}
 use Rattle.smp_queue.specs.Laws.{IsShown}
 use Rattle.smp_queue.specs.declared.handler.Heard.{Heard}
 use Rattle.smp_calls.specs.Ended.{HaveEnded}
-use Rattle.smp_calls.specs.Families.{Calls, CallsOne, CallsMany}
-use Rattle.smp_calls.specs.Queued.{Queued, destinations, sendings, is_by}
+use Rattle.smp_calls.specs.Families.{CallsWith, CallsOne, CallsMany}
+use Rattle.smp_calls.specs.Queued.{Queued, destinations, sendings, is_by, is_used}
 use Rattle.smp_calls.specs.Records.{call_by, single_record, many_call, many_record}
 use Rattle.smp_calls.proofs.Lawful.{small_many}
 
@@ -38,18 +39,34 @@ all_sent : (P : ℕ → Call → Type 0) (call : ℕ → Call) (queued : List Qu
 all_sent P call [] h = tt
 all_sent P call (q ∷ qs) h = (h.0, all_sent P call qs h.1)
 
-module _ {H : Type 0} (leads : H → Heard → H → Type 0) (old : CpuValue) (before : H) (new : CpuValue) (after : H) (k : ℕ → ℕ) (func info : ℕ)
-    (here : Option Heard) where
+-- a CPU has sent these calls and then seen the records that it used confirmed
+pub record HasWaited (old new : CpuValue) (call : ℕ → Call) (queued : List Queued) : Type 0 where
+  pub number_is : new.number ≡ old.number
+  pub sent_is : new.part.sent ≡ old.part.sent ++ sendings call queued
+  pub confirmed_are : (k : ℕ) → k < records_of_one → is_used call (record_of old.number k) queued ≡ true → confirmed_at new k ≡ true
+
+waited_by : {H : Type 0} (leads : H → Heard → H → Type 0) (old : CpuValue) (before : H) (new : CpuValue) (after : H) (call : ℕ → Call) (queued : List Queued)
+    (here : Option Heard) → CallsWith leads old before new after call queued here true → HasWaited old new call queued
+waited_by leads old before new after call queued None made = record {
+  number_is = made.number_is;
+  sent_is = made.sent_is;
+  confirmed_are = λ k small used. made.confirmed_are k small ∙ ap (λ b. cond b true (confirmed_at old k)) used;
+}
+waited_by leads old before new after call queued (Some heard) made = record {
+  number_is = made.later.number_is ∙ made.first.number_is;
+  sent_is = made.later.sent_is ∙ (append-nil made.middle.part.sent ∙ made.first.sent_is);
+  confirmed_are = λ k small used. made.later.confirmed_are k small ∙ ap (λ b. b || confirmed_at made.middle k) used;
+}
+
+module _ (old new : CpuValue) (k : ℕ → ℕ) (func info : ℕ) where
   abbrev call : ℕ → Call
   call to = call_by old.number (k to) Sync func info
 
-  module _ (queued : List Queued) (made : Calls leads old before new after call queued here true) (l : IsShown new) where
+  module _ (queued : List Queued) (made : HasWaited old new call queued) (l : IsShown new) where
     -- a record that was used is confirmed
     is_confirmed : (x : ℕ) → k x < records_of_one → is_by (λ to. (call to).id) (call x).id (destinations queued) ≡ true
         → get_or new.part.confirmed (call x).id false ≡ true
-    is_confirmed x small used =
-        ap (λ n. get_or new.part.confirmed (record_of n (k x)) false) (sym made.number_is)
-        ∙ (made.confirmed_are (k x) small ∙ ap (λ b. cond b true (confirmed_at old (k x))) used)
+    is_confirmed x small used = ap (λ n. get_or new.part.confirmed (record_of n (k x)) false) (sym made.number_is) ∙ made.confirmed_are (k x) small used
 
     abbrev Ran : ℕ → Call → Type 0
     Ran x c = get_or new.part.confirmed c.id false ≡ true → HasRunAt l.calls x c c.class
@@ -86,7 +103,8 @@ pub many_ended : {H : Type 0} (leads : H → Heard → H → Type 0) (old : CpuV
 many_ended leads old before new after mask func info here made l = record {
   is_shown = l;
   ended = subst (λ (to : List ℕ). AllByRecursion (λ x. HasCall (many_call old.number Sync func info x) (l.calls.ran x)) to) made.1
-      (all_ended leads old before new after many_record func info here made.0 made.2 l
+      (all_ended old new many_record func info made.0
+      (waited_by leads old before new after (many_call old.number Sync func info) made.0 here made.2) l
       (subst (λ (to : List ℕ). AllByRecursion (λ x. many_record x < records_of_one) to) (sym made.1)
       (every (λ x. x < cpus) (λ x. many_record x < records_of_one) small_many (members mask) (below_all mask cpus cpus (omega arith)))));
 }
@@ -98,6 +116,7 @@ pub one_ended : {H : Type 0} (leads : H → Heard → H → Type 0) (old : CpuVa
 one_ended leads old before new after dst func info made l = record {
   is_shown = l;
   ended = subst (λ (to : List ℕ). AllByRecursion (λ x. HasCall (call_by old.number (single_record true) Sync func info) (l.calls.ran x)) to) made.1
-      (all_ended leads old before new after (λ _. single_record true) func info None made.0 made.2 l
+      (all_ended old new (λ _. single_record true) func info made.0
+      (waited_by leads old before new after (λ _. call_by old.number (single_record true) Sync func info) made.0 None made.2) l
       (subst (λ (to : List ℕ). AllByRecursion (λ x. single_record true < records_of_one) to) (sym made.1) (omega arith, tt)));
 }

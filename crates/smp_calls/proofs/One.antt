@@ -1,18 +1,19 @@
 -- A call by one record: queued, and its interrupt sent.
-use Rattle.std.proofs.Common.{◌≡◌, ℕ, zero, suc, ◌<◌, ◌==◌, ◌||◌, ◌&&◌, not, Bool, true, false, cond, None, List, [], ◌∷◌, length-set, set, get_or, inl, inr}
-use Rattle.std.proofs.Common.{refl, sym, ap, ◌∙◌, subst}
+use Rattle.std.proofs.Common.{◌≡◌, ℕ, zero, suc, ◌<◌, ◌==◌, ◌||◌, ◌&&◌, not, Bool, true, false, cond, List, [], ◌∷◌, length-set, set, get_or}
+use Rattle.std.proofs.Common.{inl, inr, refl, sym, ap, ◌∙◌, subst, append_assoc, arith}
 use Rattle.std.proofs.lemmas.Bool.{cases_eq, ne_eqb, eq-eqb}
 use Rattle.std.proofs.lemmas.List.{get_or-set_other}
 use Rattle.smp_words.proofs.Sizes.{one_local}
 use Rattle.smp_words.specs.Size.{records_of_one, record_of}
 use Rattle.smp_words.specs.declared.call.Class.{Class}
-use Rattle.smp_queue.specs.Cpu.{CpuValue, confirmed_at, posts, sends}
+use Rattle.smp_queue.specs.Cpu.{CpuValue, confirmed_at, loses, posts, sends}
+use Rattle.smp_queue.specs.Names.logged
 use Rattle.smp_queue.specs.declared.handler.Heard.{Heard}
 use Rattle.smp_calls.specs.Families.{IsSized, Leaves, Calls, CallsBy, CallsOne, owes_at}
-use Rattle.smp_calls.specs.Queued.{Queued, sendings, is_first_to}
+use Rattle.smp_calls.specs.Queued.{Queued, sendings, calls_and_interrupts, is_first_to}
 use Rattle.smp_calls.specs.Records.{call_by, single_record, class_for}
 use Rattle.smp_calls.proofs.Turns.{handles_same}
-use Rattle.smp_calls.proofs.Steps.{set_here, set_else, leaves_as, leaves_then, sized_moved}
+use Rattle.smp_calls.proofs.Steps.{set_here, set_else, leaves_as, leaves_then, leaves_last, sized_moved}
 
 pub and_true : (b : Bool) → (b && true) ≡ b
 and_true true = refl
@@ -63,9 +64,9 @@ owed_at owes to x = elim (cases_eq to x) [
       ∙ (get_or-set_other owes to x true false apart ∙ sym (and_true (get_or owes x false))))
 ]
 
--- the CPU after one call was queued and its interrupt sent
-abbrev pub sent_one : ℕ → ℕ → Class → ℕ → ℕ → Bool → CpuValue → CpuValue
-sent_one k to class func info first c = let posted = posts k to class func info first c in cond first (sends to posted) posted
+-- the CPU after one call was queued, with so many compare-exchanges lost, and its interrupt sent
+abbrev pub sent_one : ℕ → ℕ → Class → ℕ → ℕ → Bool → ℕ → CpuValue → CpuValue
+sent_one k to class func info first lost c = let posted = posts k to class func info first (loses lost c) in cond first (sends to posted) posted
 
 abbrev pub one_queued : ℕ → Bool → List Queued
 one_queued to first = record { to = to; is_first = first } ∷ []
@@ -84,61 +85,65 @@ by_case true wait m o e = refl
 by_case false wait m o e = e refl
 
 module _ {H : Type 0} (leads : H → Heard → H → Type 0) where
-  leaves_sent : (first : Bool) (c : CpuValue) (h : H) (k to : ℕ) (class : Class) (func info : ℕ) → IsSized c → k < records_of_one →
-      Leaves leads c h (sent_one k to class func info first c) h (sendings (λ _. call_by c.number k class func info) (one_queued to first)) None
+  leaves_sent : (first : Bool) (lost : ℕ) (c : CpuValue) (h : H) (k to : ℕ) (class : Class) (func info : ℕ) → IsSized c → k < records_of_one →
+      Leaves leads c h (sent_one k to class func info first lost c) h (sendings (λ _. call_by c.number k class func info) (one_queued to first)) (calls_and_interrupts (one_queued to first))
       (λ x. owes_at c x && not (is_first_to x (one_queued to first))) (λ j. cond (j == k) false (confirmed_at c j))
-  leaves_sent true c h k to class func info s l = record {
+  leaves_sent true lost c h k to class func info s l = record {
     table_is = refl;
     number_is = refl;
     sized = length-set c.part.confirmed (record_of c.number k) false;
     owes_sized = length-set (set c.part.owes to true) to false ∙ length-set c.part.owes to true;
     sent_is = refl;
+    log_is = append_assoc c.log (logged.Queued to ∷ []) (logged.Interrupted to ∷ []);
+    tried = omega arith;
     owes_are = λ x. owed_at c.part.owes to x;
     confirmed_are = λ j b. locked c c.number k j s l b refl;
-    handled = handles_same leads c (sent_one k to class func info true c) h refl refl refl;
+    handled = handles_same leads c (sent_one k to class func info true lost c) h refl refl refl;
   }
-  leaves_sent false c h k to class func info s l = record {
+  leaves_sent false lost c h k to class func info s l = record {
     table_is = refl;
     number_is = refl;
     sized = length-set c.part.confirmed (record_of c.number k) false;
     owes_sized = refl;
     sent_is = refl;
+    log_is = refl;
+    tried = omega arith;
     owes_are = λ x. sym (and_true (owes_at c x));
     confirmed_are = λ j b. locked c c.number k j s l b refl;
-    handled = handles_same leads c (sent_one k to class func info false c) h refl refl refl;
+    handled = handles_same leads c (sent_one k to class func info false lost c) h refl refl refl;
   }
 
   -- the same of a CPU with this number that has become another one
-  pub leaves_one : (c d : CpuValue) (h : H) (number k to : ℕ) (class : Class) (func info : ℕ) (first : Bool) → IsSized c → k < records_of_one
-      → c.number ≡ number → d ≡ sent_one k to class func info first c →
-      Leaves leads c h d h (sendings (λ _. call_by number k class func info) (one_queued to first)) None
+  pub leaves_one : (c d : CpuValue) (h : H) (number k to : ℕ) (class : Class) (func info : ℕ) (first : Bool) (lost : ℕ) → IsSized c
+      → k < records_of_one → c.number ≡ number → d ≡ sent_one k to class func info first lost c →
+      Leaves leads c h d h (sendings (λ _. call_by number k class func info) (one_queued to first)) (calls_and_interrupts (one_queued to first))
       (λ x. owes_at c x && not (is_first_to x (one_queued to first))) (λ j. cond (j == k) false (confirmed_at c j))
-  leaves_one c d h number k to class func info first s l n e =
-      subst (λ (x : CpuValue). Leaves leads c h x h (sendings (λ _. call_by number k class func info) (one_queued to first)) None
+  leaves_one c d h number k to class func info first lost s l n e =
+      subst (λ (x : CpuValue). Leaves leads c h x h (sendings (λ _. call_by number k class func info) (one_queued to first)) (calls_and_interrupts (one_queued to first))
       (λ x. owes_at c x && not (is_first_to x (one_queued to first))) (λ j. cond (j == k) false (confirmed_at c j))) (sym e)
-      (subst (λ (m : ℕ). Leaves leads c h (sent_one k to class func info first c) h (sendings (λ _. call_by m k class func info) (one_queued to first)) None
+      (subst (λ (m : ℕ). Leaves leads c h (sent_one k to class func info first lost c) h (sendings (λ _. call_by m k class func info) (one_queued to first)) (calls_and_interrupts (one_queued to first))
       (λ x. owes_at c x && not (is_first_to x (one_queued to first))) (λ j. cond (j == k) false (confirmed_at c j))) n
-      (leaves_sent first c h k to class func info s l))
+      (leaves_sent first lost c h k to class func info s l))
 
   -- the record and the class of a call are those that its waiting asks for
   said : {old new : CpuValue} {before after : H} (k : ℕ) (class : Class) (func info : ℕ) (queued : List Queued) (wait b : Bool) → wait ≡ b
       → k ≡ single_record wait → class ≡ class_for wait →
-      Calls leads old before new after (λ _. call_by old.number k class func info) queued None b →
-      Calls leads old before new after (λ _. call_by old.number (single_record wait) (class_for wait) func info) queued None wait
+      Calls leads old before new after (λ _. call_by old.number k class func info) queued b →
+      Calls leads old before new after (λ _. call_by old.number (single_record wait) (class_for wait) func info) queued wait
   said {old} {new} {before} {after} k class func info queued wait b w is_k is_class made =
-      subst (λ (j : ℕ). Calls leads old before new after (λ _. call_by old.number j (class_for wait) func info) queued None wait) is_k
-      (subst (λ (y : Class). Calls leads old before new after (λ _. call_by old.number k y func info) queued None wait) is_class
-      (subst (λ (x : Bool). Calls leads old before new after (λ _. call_by old.number k class func info) queued None x) (sym w) made))
+      subst (λ (j : ℕ). Calls leads old before new after (λ _. call_by old.number j (class_for wait) func info) queued wait) is_k
+      (subst (λ (y : Class). Calls leads old before new after (λ _. call_by old.number k y func info) queued wait) is_class
+      (subst (λ (x : Bool). Calls leads old before new after (λ _. call_by old.number k class func info) queued x) (sym w) made))
 
   -- a record is waited for, a call is queued by it, and where it is to be waited for, that too
   pub calls_one : {old mid new : CpuValue} {before m after : H} (k to : ℕ) (class : Class) (func info : ℕ) (first wait : Bool) (was : ℕ → Bool)
       (done : ℕ → Bool) → k < records_of_one →
-      Leaves leads old before mid m [] None (owes_at old) was →
+      Leaves leads old before mid m [] [] (owes_at old) was →
       ((j : ℕ) → j < records_of_one → (j == k) ≡ false → was j ≡ confirmed_at old j) →
-      Leaves leads mid m new after (sendings (λ _. call_by old.number k class func info) (one_queued to first)) None
+      Leaves leads mid m new after (sendings (λ _. call_by old.number k class func info) (one_queued to first)) (calls_and_interrupts (one_queued to first))
       (λ x. owes_at mid x && not (is_first_to x (one_queued to first))) done →
       ((j : ℕ) → j < records_of_one → done j ≡ cond (j == k) wait (confirmed_at mid j)) →
-      Calls leads old before new after (λ _. call_by old.number k class func info) (one_queued to first) None wait
+      Calls leads old before new after (λ _. call_by old.number k class func info) (one_queued to first) wait
   calls_one {old} {mid} k to class func info first wait was done l f kept g ends = leaves_as leads _ _ (leaves_then leads f g)
       (λ x. ap (λ b. b && not (is_first_to x (one_queued to first))) (f.owes_are x))
       (λ j b. ends j b ∙ (by_case (j == k) wait (confirmed_at mid j) (confirmed_at old j) (λ e. f.confirmed_are j b ∙ kept j b e)
@@ -146,12 +151,12 @@ module _ {H : Type 0} (leads : H → Heard → H → Type 0) where
 
   -- a call to one CPU by a record, not waited for
   pub calls_by : {old mid new : CpuValue} {before m : H} (k to : ℕ) (class : Class) (func info : ℕ) → k < records_of_one → IsSized old →
-      Leaves leads old before mid m [] None (owes_at old) (λ j. j == k || confirmed_at old j) →
-      (first : Bool) × (new ≡ sent_one k to class func info first mid) →
+      Leaves leads old before mid m [] [] (owes_at old) (λ j. j == k || confirmed_at old j) →
+      (first : Bool) × (lost : ℕ) × (new ≡ sent_one k to class func info first lost mid) →
       CallsBy leads old before new m k class to func info false
   calls_by {old} {mid} {new} {before} {m} k to class func info l s f q =
       let same = sized_moved old mid f.number_is f.sized s in
-      let g = leaves_one mid new m old.number k to class func info q.0 same l f.number_is q.1 in (
+      let g = leaves_one mid new m old.number k to class func info q.0 q.1 same l f.number_is q.2 in (
         one_queued to q.0,
         refl,
         calls_one k to class func info q.0 false (λ j. j == k || confirmed_at old j) (λ j. cond (j == k) false (confirmed_at mid j)) l f
@@ -161,8 +166,8 @@ module _ {H : Type 0} (leads : H → Heard → H → Type 0) where
   -- by the record that its waiting asks for
   pub calls_left : {old mid new : CpuValue} {before m : H} (k to : ℕ) (class : Class) (func info : ℕ) (wait : Bool) → wait ≡ false → k ≡ single_record wait
       → class ≡ class_for wait → k < records_of_one → IsSized old →
-      Leaves leads old before mid m [] None (owes_at old) (λ j. j == k || confirmed_at old j) →
-      (first : Bool) × (new ≡ sent_one k to class func info first mid) →
+      Leaves leads old before mid m [] [] (owes_at old) (λ j. j == k || confirmed_at old j) →
+      (first : Bool) × (lost : ℕ) × (new ≡ sent_one k to class func info first lost mid) →
       CallsOne leads old before new m to func info wait
   calls_left k to class func info wait w is_k is_class l s f q =
       let made = calls_by k to class func info l s f q in
@@ -171,16 +176,16 @@ module _ {H : Type 0} (leads : H → Heard → H → Type 0) where
   -- one that is
   pub calls_waited : {old mid sent new : CpuValue} {before m after : H} (k to : ℕ) (class : Class) (func info : ℕ) (wait : Bool) → wait ≡ true
       → k ≡ single_record wait → class ≡ class_for wait → k < records_of_one → IsSized old →
-      Leaves leads old before mid m [] None (owes_at old) (λ j. j == k || confirmed_at old j) →
-      (first : Bool) × (sent ≡ sent_one k to class func info first mid) →
-      Leaves leads sent m new after [] None (owes_at sent) (λ j. j == k || confirmed_at sent j) →
+      Leaves leads old before mid m [] [] (owes_at old) (λ j. j == k || confirmed_at old j) →
+      (first : Bool) × (lost : ℕ) × (sent ≡ sent_one k to class func info first lost mid) →
+      Leaves leads sent m new after [] [] (owes_at sent) (λ j. j == k || confirmed_at sent j) →
       CallsOne leads old before new after to func info wait
   calls_waited {old} {mid} {sent} {new} {before} {m} {after} k to class func info wait w is_k is_class l s f q h =
       let same = sized_moved old mid f.number_is f.sized s in
-      let g = leaves_one mid sent m old.number k to class func info q.0 same l f.number_is q.1 in
+      let g = leaves_one mid sent m old.number k to class func info q.0 q.1 same l f.number_is q.2 in
       let g' = leaves_as leads (λ x. owes_at mid x && not (is_first_to x (one_queued to q.0))) (λ j. j == k || confirmed_at sent j)
-      (leaves_then leads g h) g.owes_are (λ j b. refl) in
-      let made : Calls leads old before new after (λ _. call_by old.number k class func info) (one_queued to q.0) None true =
+      (leaves_last leads (leaves_then leads g h)) g.owes_are (λ j b. refl) in
+      let made : Calls leads old before new after (λ _. call_by old.number k class func info) (one_queued to q.0) true =
       calls_one k to class func info q.0 true (λ j. j == k || confirmed_at old j) (λ j. j == k || confirmed_at sent j) l f
       (λ j b n. ap (λ x. x || confirmed_at old j) n) g' (λ j b. ap (λ x. j == k || x) (g.confirmed_are j b) ∙ or_cond (j == k) (confirmed_at mid j)) in
       (one_queued to q.0, refl, said k class func info (one_queued to q.0) wait true w is_k is_class made)

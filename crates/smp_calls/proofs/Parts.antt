@@ -1,5 +1,5 @@
 -- A call to many, out of its parts.
-use Rattle.std.proofs.Common.{◌≡◌, ℕ, ◌<◌, ◌==◌, ◌||◌, ◌&&◌, not, Bool, true, false, cond, Option, Some, None, List, [], length, inl, inr, refl, sym, ap, ◌∙◌}
+use Rattle.std.proofs.Common.{◌≡◌, ℕ, ◌<◌, ◌==◌, ◌||◌, ◌&&◌, not, Bool, true, false, cond, Option, Some, None, List, [], ◌++◌, length, inl, inr, refl, sym, ap, ◌∙◌}
 use Rattle.std.proofs.Common.{subst, arith}
 use Rattle.std.proofs.lemmas.List.{append-nil}
 use Rattle.std.proofs.lemmas.Bool.{cases_eq, ne_eqb, eq-eqb}
@@ -12,12 +12,12 @@ use Rattle.smp_call_steps.specs.declared.known.Sending.{Sending}
 use Rattle.smp_queue.specs.Cpu.{CpuValue, confirmed_at}
 use Rattle.smp_queue.specs.declared.handler.Heard.{Heard}
 use Rattle.smp_calls.specs.Families.{Leaves, CallsMany, owes_at}
-use Rattle.smp_calls.specs.Queued.{sendings, is_in, is_first_to, is_used}
+use Rattle.smp_calls.specs.Queued.{destinations, sendings, calls_to, interrupts_to, is_in, is_first_to, is_used}
 use Rattle.smp_calls.specs.Records.{many_call}
 use Rattle.smp_calls.specs.Targets.{is_target, remote}
 use Rattle.smp_calls.specs.Rounds.{Picks, Sends, QueuesEach, WaitsFor, HearsIf, is_many}
 use Rattle.smp_calls.proofs.Turns.{handles_same}
-use Rattle.smp_calls.proofs.Steps.{leaves_as, leaves_then, leaves_later, leaves_here}
+use Rattle.smp_calls.proofs.Steps.{leaves_none, leaves_as, leaves_then, leaves_last}
 use Rattle.smp_calls.proofs.One.{and_true, and_false, or_false}
 use Rattle.smp_calls.proofs.Lists.{filter_members, agreeing}
 
@@ -120,16 +120,20 @@ picks_with says mask online this others called result here are picks made member
     }
 
 module _ {H : Type 0} (leads : H → Heard → H → Type 0) where
-  -- sending changes nothing but what is owed
-  leaves_sends : (c d : CpuValue) (h : H) (to : List ℕ) → Sends c d to → Leaves leads c h d h [] None (λ x. owes_at c x && not (is_in x to)) (confirmed_at c)
+  -- sending changes nothing but what is owed and logged
+  leaves_sends : (c d : CpuValue) (h : H) (to : List ℕ) → Sends c d to
+      → Leaves leads c h d h [] (interrupts_to to) (λ x. owes_at c x && not (is_in x to)) (confirmed_at c)
   leaves_sends c d h to s =
       let field = s.others_are in
+      let tries : d.tried ≡ c.tried = ap (λ (x : CpuValue). x.tried) field in
       record {
         table_is = ap (λ (x : CpuValue). x.table) field;
         number_is = ap (λ (x : CpuValue). x.number) field;
         sized = ap (λ (x : CpuValue). length x.part.confirmed) field;
         owes_sized = s.owes_sized;
         sent_is = ap (λ (x : CpuValue). x.part.sent) field ∙ sym (append-nil c.part.sent);
+        log_is = ap (λ (x : CpuValue). x.log) field;
+        tried = omega arith;
         owes_are = s.owes_are;
         confirmed_are = λ k b. ap (λ (x : CpuValue). confirmed_at x k) field;
         handled = handles_same leads c d h (ap (λ (x : CpuValue). x.part.asked) field) (ap (λ (x : CpuValue). x.part.taken) field)
@@ -143,50 +147,63 @@ module _ {H : Type 0} (leads : H → Heard → H → Type 0) where
   calls_all {old} {mid} {new} {before} {m} class func info others called owed q s =
       let call = many_call old.number class func info in
       let both = leaves_then leads q.queues.leaves (leaves_sends mid new m (members owed) s) in
-      let sent = subst (λ (xs : List Sending). Leaves leads old before new m xs None (λ x. owes_at mid x && not (is_in x (members owed))) (confirmed_at mid))
-      (append-nil (sendings call q.queued)) both in (
+      let sent = subst (λ (xs : List Sending). Leaves leads old before new m xs (calls_to (destinations q.queued) ++ interrupts_to (members owed))
+      (λ x. owes_at mid x && not (is_in x (members owed))) (confirmed_at mid)) (append-nil (sendings call q.queued)) both in
+      let logs = subst (λ (xs : List ℕ). Leaves leads old before new m (sendings call q.queued) (calls_to (destinations q.queued) ++ interrupts_to xs)
+      (λ x. owes_at mid x && not (is_in x (members owed))) (confirmed_at mid)) (sym q.owed_are) sent in (
         q.queued,
         q.called_are,
         leaves_as leads (λ c. owes_at old c && not (is_first_to c q.queued))
-            (λ k. cond (is_used call (record_of old.number k) q.queued) false (confirmed_at old k)) sent
+            (λ k. cond (is_used call (record_of old.number k) q.queued) false (confirmed_at old k)) logs
             (λ c. ap (λ (xs : List ℕ). owes_at mid c && not (is_in c xs)) (sym q.owed_are)
             ∙ owed_by (is_first_to c q.queued) (owes_at mid c) (owes_at old c) (q.queues.kept c))
             q.queues.leaves.confirmed_are,
       )
 
   -- and then waited for, with a direct call before or not
-  pub calls_waited_for : {old mid new : CpuValue} {before m after : H} (class : Class) (func info : ℕ) (to : List ℕ) (here : Option Heard) (wait : Bool) →
+  pub calls_waited_for : (old mid new : CpuValue) (before m after : H) (class : Class) (func info : ℕ) (to : List ℕ) (here : Option Heard) (wait : Bool) →
       CallsMany leads old before mid m to class func info here false → WaitsFor leads mid m new after to wait →
       CallsMany leads old before new after to class func info here wait
-  calls_waited_for {old} {mid} {new} {before} {m} {after} class func info to here wait f w =
-      let call = many_call old.number class func info in
-      let both = leaves_later leads f.2 w in
-      let sent =
-      subst (λ (xs : List Sending). Leaves leads old before new after xs here (owes_at mid) (λ k. (wait && is_many mid.number k to) || confirmed_at mid k))
-      (append-nil (sendings call f.0)) both in (
+  calls_waited_for old mid new before m after class func info to None wait f w =
+      let call = many_call old.number class func info in (
         f.0,
         f.1,
-        leaves_as leads (λ c. owes_at old c && not (is_first_to c f.0)) (λ k. cond (is_used call (record_of old.number k) f.0) wait (confirmed_at old k)) sent
-            f.2.owes_are
+        leaves_as leads (λ c. owes_at old c && not (is_first_to c f.0)) (λ k. cond (is_used call (record_of old.number k) f.0) wait (confirmed_at old k))
+            (leaves_last leads (leaves_then leads f.2 w)) f.2.owes_are
             (λ k b.
             ap (λ (n : ℕ). (wait && is_many n k to) || confirmed_at mid k) f.2.number_is ∙
             (ap (λ x. (wait && is_many old.number k to) || x) (f.2.confirmed_are k b) ∙
             (ap (λ (xs : List ℕ). (wait && is_many old.number k xs) || cond (is_used call (record_of old.number k) f.0) false (confirmed_at old k)) (sym f.1) ∙
             confirmed_by (is_used call (record_of old.number k) f.0) wait (confirmed_at old k)))),
       )
-
-  -- a direct call, if any, after the queueing
-  pub calls_then_here : {old mid : CpuValue} {before m after : H} (class : Class) (func info : ℕ) (to : List ℕ) (here : Option Heard) →
-      CallsMany leads old before mid m to class func info None false → HearsIf leads m here after →
-      CallsMany leads old before mid after to class func info here false
-  calls_then_here {old} {mid} {before} class func info to None f e = subst (λ (x : H). CallsMany leads old before mid x to class func info None false) (sym e) f
-  calls_then_here {old} {mid} {before} {m} {after} class func info to (Some heard) f call =
-      let made = many_call old.number class func info in
-      let both = leaves_then leads f.2 (leaves_here leads mid m after heard call) in
-      let sent = subst (λ (xs : List Sending). Leaves leads old before mid after xs (Some heard) (owes_at mid) (confirmed_at mid))
-      (append-nil (sendings made f.0)) both in (
+  calls_waited_for old mid new before m after class func info to (Some heard) wait f w =
+      let call = many_call old.number class func info in
+      let c = f.2 in
+      let number : mid.number ≡ old.number = c.later.number_is ∙ c.first.number_is in (
         f.0,
         f.1,
-        leaves_as leads (λ c. owes_at old c && not (is_first_to c f.0))
-            (λ k. cond (is_used made (record_of old.number k) f.0) false (confirmed_at old k)) sent f.2.owes_are f.2.confirmed_are,
+        record {
+          middle = c.middle;
+          called = c.called;
+          ended = c.ended;
+          first = c.first;
+          here = c.here;
+          later = leaves_as leads (owes_at c.middle) (λ k. (wait && is_used call (record_of old.number k) f.0) || confirmed_at c.middle k)
+              (leaves_then leads c.later w) c.later.owes_are
+              (λ k b.
+              ap (λ (n : ℕ). (wait && is_many n k to) || confirmed_at mid k) number ∙
+              (ap (λ (xs : List ℕ). (wait && is_many old.number k xs) || confirmed_at mid k) (sym f.1) ∙
+              ap (λ x. (wait && is_used call (record_of old.number k) f.0) || x) (c.later.confirmed_are k b)));
+        },
       )
+
+  -- a direct call, if any, after the queueing
+  pub calls_then_here : (old mid : CpuValue) (before m after : H) (class : Class) (func info : ℕ) (to : List ℕ) (here : Option Heard) →
+      CallsMany leads old before mid m to class func info None false → HearsIf leads m here after →
+      CallsMany leads old before mid after to class func info here false
+  calls_then_here old mid before m after class func info to None f e = subst (λ (x : H). CallsMany leads old before mid x to class func info None false) (sym e) f
+  calls_then_here old mid before m after class func info to (Some heard) f call = (
+    f.0,
+    f.1,
+    record { middle = mid; called = m; ended = after; first = f.2; here = call; later = leaves_none leads mid after },
+  )

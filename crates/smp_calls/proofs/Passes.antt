@@ -1,5 +1,5 @@
 -- The loops that send an interrupt to each of many CPUs, and that wait for the record of each.
-use Rattle.std.proofs.Common.{◌≡◌, length, length-set, ℕ, ◌<◌, ◌==◌, ◌||◌, ◌&&◌, not, Bool, true, false, None, List, [], ◌∷◌, ◌++◌, append_assoc, set, get_or}
+use Rattle.std.proofs.Common.{◌≡◌, length, length-set, ℕ, ◌<◌, ◌==◌, ◌||◌, ◌&&◌, not, Bool, true, false, List, [], ◌∷◌, ◌++◌, append_assoc, set, get_or}
 use Rattle.std.proofs.Common.{inl, inr, refl, sym, ap, ◌∙◌, subst}
 use Rattle.std.proofs.lemmas.Bool.{cases_eq, ne_eqb, eq-eqb}
 use Rattle.std.proofs.lemmas.List.{append-nil, get_or-set_other}
@@ -7,9 +7,11 @@ use Rattle.smp_mask.specs.Mask.{has, members}
 use Rattle.smp_mask.specs.declared.mask.TheConstants.{NR_CPUS}
 use Rattle.smp_words.specs.Size.{records_of_one, record_of}
 use Rattle.smp_queue.specs.Cpu.{CpuValue, confirmed_at, sends}
+use Rattle.smp_call_steps.specs.declared.known.Logged.{Logged}
+use Rattle.smp_call_steps.specs.declared.known.Logged.TheVariants as logged
 use Rattle.smp_queue.specs.declared.handler.Heard.{Heard}
 use Rattle.smp_calls.specs.Families.{Leaves, owes_at}
-use Rattle.smp_calls.specs.Queued.{is_in}
+use Rattle.smp_calls.specs.Queued.{is_in, interrupts_to}
 use Rattle.smp_calls.specs.Records.{many_record}
 use Rattle.smp_calls.specs.Rounds.{Sends, WaitsFor, is_many}
 use Rattle.smp_calls.proofs.Steps.{leaves_none, leaves_as, leaves_then}
@@ -41,7 +43,16 @@ passed_all all left xs p none = sym (append-nil xs) ∙ (ap (λ (ys : List ℕ).
 -- ---- sending
 
 pub sends_none : (c : CpuValue) → Sends c c []
-sends_none c = record { others_are = refl; owes_sized = refl; owes_are = λ x. sym (and_true (owes_at c x)) }
+sends_none c = record { others_are = λ i. record c { log = sym (append-nil c.log) i }; owes_sized = refl; owes_are = λ x. sym (and_true (owes_at c x)) }
+
+interrupts_to-push : (xs : List ℕ) (x : ℕ) → interrupts_to xs ++ logged.Interrupted x ∷ [] ≡ interrupts_to (xs ++ x ∷ [])
+interrupts_to-push [] x = refl
+interrupts_to-push (y ∷ ys) x = ap (λ (zs : List Logged). logged.Interrupted y ∷ zs) (interrupts_to-push ys x)
+
+-- the log of one interrupt more
+interrupts_to-more : (log : List Logged) (xs : List ℕ) (x : ℕ) → (log ++ interrupts_to xs) ++ logged.Interrupted x ∷ [] ≡ log ++ interrupts_to (xs ++ x ∷ [])
+interrupts_to-more log xs x =
+    append_assoc log (interrupts_to xs) (logged.Interrupted x ∷ []) ∙ ap (λ (zs : List Logged). log ++ zs) (interrupts_to-push xs x)
 
 all_in : (o i : Bool) → false ≡ (o && not (i || true))
 all_in true true = refl
@@ -63,8 +74,9 @@ sends_more old mid new cpu xs s e =
     let owes : new.part.owes ≡ set mid.part.owes cpu false = ap (λ (x : CpuValue). x.part.owes) e in
     record {
       others_are =
-          e ∙ (ap (λ (x : CpuValue). record x { part = record (x.part) { owes = set mid.part.owes cpu false } }) s.others_are
-          ∙ ap (λ (o : List Bool). record old { part = record (old.part) { owes = o } }) (sym owes));
+          e ∙ (ap (λ (x : CpuValue). record x { part = record (x.part) { owes = set mid.part.owes cpu false }; log = x.log ++ logged.Interrupted cpu ∷ [] })
+          s.others_are
+          ∙ (λ i. record old { part = record (old.part) { owes = sym owes i }; log = interrupts_to-more old.log xs cpu i }));
       owes_sized = ap length owes ∙ (length-set mid.part.owes cpu false ∙ s.owes_sized);
       owes_are = λ c.
           ap (λ (o : List Bool). get_or o c false) owes ∙
@@ -86,7 +98,7 @@ module _ {H : Type 0} (leads : H → Heard → H → Type 0) where
 
   pub waits_more : {old mid new : CpuValue} {before m after : H} (k cpu : ℕ) (xs : List ℕ) → k ≡ many_record cpu → k < records_of_one →
       WaitsFor leads old before mid m xs true →
-      Leaves leads mid m new after [] None (owes_at mid) (λ j. j == k || confirmed_at mid j) →
+      Leaves leads mid m new after [] [] (owes_at mid) (λ j. j == k || confirmed_at mid j) →
       WaitsFor leads old before new after (xs ++ cpu ∷ []) true
   waits_more {old} {mid} k cpu xs is_k small f g =
       leaves_as leads (owes_at old) (λ j. is_many old.number j (xs ++ cpu ∷ []) || confirmed_at old j) (leaves_then leads f g) f.owes_are (λ j b.

@@ -1,16 +1,18 @@
 -- One more of many CPUs.
-use Rattle.std.proofs.Common.{◌≡◌, length, ℕ, ◌<◌, ◌==◌, ◌||◌, Bool, true, false, cond, None, List, [], ◌∷◌, ◌++◌, length-set, set, get_or, inl, inr, refl, sym}
-use Rattle.std.proofs.Common.{ap, ◌∙◌, subst}
+use Rattle.std.proofs.Common.{◌≡◌, length, ℕ, ◌<◌, ◌==◌, ◌||◌, Bool, true, false, cond, List, [], ◌∷◌, ◌++◌, length-set, set, get_or, inl, inr, refl, sym}
+use Rattle.std.proofs.Common.{ap, ◌∙◌, subst, arith}
 use Rattle.std.proofs.lemmas.Bool.{cases_eq, cases_Bool, eq-eqb, eqb-true, or_parts}
 use Rattle.std.proofs.lemmas.List.{get_or-set_same, get_or-set_other}
 use Rattle.smp_words.specs.Size.{records_of_one, record_of}
 use Rattle.smp_words.specs.declared.call.Call.{Call}
 use Rattle.smp_words.specs.declared.call.Class.{Class}
 use Rattle.smp_call_steps.specs.declared.known.Sending.{Sending}
-use Rattle.smp_queue.specs.Cpu.{CpuValue, confirmed_at, posts}
+use Rattle.smp_call_steps.specs.declared.known.Logged.{Logged}
+use Rattle.smp_call_steps.specs.declared.known.Logged.TheVariants as logged
+use Rattle.smp_queue.specs.Cpu.{CpuValue, confirmed_at, loses, posts}
 use Rattle.smp_queue.specs.declared.handler.Heard.{Heard}
 use Rattle.smp_calls.specs.Families.{IsSized, Leaves, owes_at}
-use Rattle.smp_calls.specs.Queued.{Queued, destinations, firsts, sendings, is_in, is_first_to, is_by, is_used}
+use Rattle.smp_calls.specs.Queued.{Queued, destinations, firsts, sendings, calls_to, is_in, is_first_to, is_by, is_used}
 use Rattle.smp_calls.specs.Records.{many_call, many_record}
 use Rattle.smp_calls.specs.Rounds.{only_if, Queues}
 use Rattle.smp_calls.proofs.Turns.{handles_same}
@@ -34,6 +36,14 @@ firsts-append (x ∷ xs) ys = firsts_push x.is_first x.to (firsts (xs ++ ys)) (f
 sendings-append : (call : ℕ → Call) (xs ys : List Queued) → sendings call (xs ++ ys) ≡ sendings call xs ++ sendings call ys
 sendings-append call [] ys = refl
 sendings-append call (x ∷ xs) ys = ap (λ (zs : List Sending). record { call = call x.to; to = x.to; is_first = x.is_first } ∷ zs) (sendings-append call xs ys)
+
+calls_to-append : (xs ys : List ℕ) → calls_to (xs ++ ys) ≡ calls_to xs ++ calls_to ys
+calls_to-append [] ys = refl
+calls_to-append (x ∷ xs) ys = ap (λ (zs : List Logged). logged.Queued x ∷ zs) (calls_to-append xs ys)
+
+-- the log of all these calls
+calls_to-both : (xs ys : List Queued) → calls_to (destinations xs) ++ calls_to (destinations ys) ≡ calls_to (destinations (xs ++ ys))
+calls_to-both xs ys = sym (ap calls_to (destinations-append xs ys) ∙ calls_to-append (destinations xs) (destinations ys))
 
 or_assoc : (a b c : Bool) → ((a || b) || c) ≡ (a || (b || c))
 or_assoc true b c = refl
@@ -92,19 +102,21 @@ module _ {H : Type 0} (leads : H → Heard → H → Type 0) where
   queues_none c h call = record { leaves = leaves_none leads c h; kept = λ x e. refl; due = λ x e l. cc }
 
   -- the step of a post alone
-  queues_post : (c : CpuValue) (h : H) (to : ℕ) (class : Class) (func info : ℕ) (first : Bool) → IsSized c → many_record to < records_of_one →
-      Queues leads c h (posts (many_record to) to class func info first c) h (many_call c.number class func info) (one_queued to first)
-  queues_post c h to class func info first s l = record {
+  queues_post : (c : CpuValue) (h : H) (to : ℕ) (class : Class) (func info : ℕ) (first : Bool) (lost : ℕ) → IsSized c → many_record to < records_of_one →
+      Queues leads c h (posts (many_record to) to class func info first (loses lost c)) h (many_call c.number class func info) (one_queued to first)
+  queues_post c h to class func info first lost s l = record {
     leaves = record {
       table_is = refl;
       number_is = refl;
       sized = length-set c.part.confirmed (record_of c.number (many_record to)) false;
       owes_sized = owes_length first c.part.owes to;
       sent_is = refl;
+      log_is = refl;
+      tried = omega arith;
       owes_are = λ x. refl;
       confirmed_are = λ j b. locks_at c (many_record to) j s l b
           ∙ ap (λ x. cond x false (confirmed_at c j)) (sym (or_false (record_of c.number j == record_of c.number (many_record to))));
-      handled = handles_same leads c (posts (many_record to) to class func info first c) h refl refl refl;
+      handled = handles_same leads c (posts (many_record to) to class func info first (loses lost c)) h refl refl refl;
     };
     kept = λ x e. owed_else first c.part.owes to x e;
     due = λ x e l. owed_then first c.part.owes to x e l;
@@ -116,8 +128,10 @@ module _ {H : Type 0} (leads : H → Heard → H → Type 0) where
   queues_then {old} {mid} {new} {before} {m} {after} call xs ys f g =
       let both = leaves_then leads f.leaves g.leaves in
       let as_one =
-      subst (λ (ss : List Sending). Leaves leads old before new after ss None (owes_at new)
-      (λ k. cond (is_used call (record_of mid.number k) ys) false (confirmed_at mid k))) (sym (sendings-append call xs ys)) both in
+      subst (λ (ss : List Sending). Leaves leads old before new after ss (calls_to (destinations (xs ++ ys))) (owes_at new)
+      (λ k. cond (is_used call (record_of mid.number k) ys) false (confirmed_at mid k))) (sym (sendings-append call xs ys))
+      (subst (λ (log : List Logged). Leaves leads old before new after (sendings call xs ++ sendings call ys) log (owes_at new)
+      (λ k. cond (is_used call (record_of mid.number k) ys) false (confirmed_at mid k))) (calls_to-both xs ys) both) in
       record {
         leaves = leaves_as leads (owes_at new) (λ k. cond (is_used call (record_of old.number k) (xs ++ ys)) false (confirmed_at old k)) as_one (λ c. refl)
             (λ k b.
@@ -140,20 +154,20 @@ module _ {H : Type 0} (leads : H → Heard → H → Type 0) where
       }
 
   -- the record was waited for before
-  pub queues_one : {old mid new : CpuValue} {before m : H} (k to : ℕ) (class : Class) (func info : ℕ) (asked first : Bool) → asked ≡ true → k ≡ many_record to
+  pub queues_one : {old mid new : CpuValue} {before m : H} (k to : ℕ) (class : Class) (func info : ℕ) (asked first : Bool) (lost : ℕ) → asked ≡ true → k ≡ many_record to
       → k < records_of_one → IsSized old →
-      Leaves leads old before mid m [] None (owes_at old) (λ j. j == k || confirmed_at old j) → new ≡ posts k to class func info first mid →
+      Leaves leads old before mid m [] [] (owes_at old) (λ j. j == k || confirmed_at old j) → new ≡ posts k to class func info first (loses lost mid) →
       (queued : List Queued) × (destinations queued ≡ only_if asked to) × (firsts queued ≡ only_if first to)
       × Queues leads old before new m (many_call old.number class func info) queued
-  queues_one {old} {mid} {new} {before} {m} k to class func info asked first is_asked is_k l s f e =
+  queues_one {old} {mid} {new} {before} {m} k to class func info asked first lost is_asked is_k l s f e =
       let same = sized_moved old mid f.number_is f.sized s in
       let small : many_record to < records_of_one = subst (λ (j : ℕ). j < records_of_one) is_k l in
       let posted : Queues leads mid m new m (many_call old.number class func info) (one_queued to first) =
       subst (λ (x : CpuValue). Queues leads mid m x m (many_call old.number class func info) (one_queued to first))
-      (sym (e ∙ ap (λ (j : ℕ). posts j to class func info first mid) is_k))
-      (subst (λ (n : ℕ). Queues leads mid m (posts (many_record to) to class func info first mid) m (many_call n class func info) (one_queued to first))
+      (sym (e ∙ ap (λ (j : ℕ). posts j to class func info first (loses lost mid)) is_k))
+      (subst (λ (n : ℕ). Queues leads mid m (posts (many_record to) to class func info first (loses lost mid)) m (many_call n class func info) (one_queued to first))
       f.number_is
-      (queues_post mid m to class func info first same small)) in
+      (queues_post mid m to class func info first lost same small)) in
       let call = many_call old.number class func info in
       let both = leaves_then leads f posted.leaves in (
         one_queued to first,

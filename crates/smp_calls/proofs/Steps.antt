@@ -1,5 +1,5 @@
 -- What one step of a call leaves, and one step after the other.
-use Rattle.std.proofs.Common.{◌≡◌, ℕ, ◌<◌, ◌==◌, ◌||◌, Bool, true, false, Option, Some, None, List, [], ◌++◌, append_assoc, length, length-set, slice_index_or}
+use Rattle.std.proofs.Common.{◌≡◌, ℕ, ◌<◌, ◌==◌, ◌||◌, Bool, true, false, List, [], ◌++◌, append_assoc, length, length-append, length-set, slice_index_or}
 use Rattle.std.proofs.Common.{slice_set, inl, inr, refl, sym, ap, ◌∙◌, subst, arith}
 use Rattle.std.proofs.lemmas.List.{append-nil, get_or-set_same, get_or-set_other}
 use Rattle.std.proofs.lemmas.Bool.{cases_eq, ne_eqb, eq-eqb}
@@ -8,11 +8,12 @@ use Rattle.smp_call_steps.specs.Order.{order}
 use Rattle.smp_words.proofs.Sizes.{record_of-below, one_local}
 use Rattle.smp_words.specs.declared.call.Call.{Call}
 use Rattle.smp_call_steps.specs.declared.known.Sending.{Sending}
+use Rattle.smp_call_steps.specs.declared.known.Logged.{Logged}
 use Rattle.smp_queue.specs.Cpu.{CpuValue, confirmed_at, confirms}
 use Rattle.smp_queue.specs.Handling.{Grows, asks, drains}
 use Rattle.smp_queue.specs.declared.handler.Heard.{Heard}
 use Rattle.smp_calls.specs.Families.{IsSized, Leaves, owes_at}
-use Rattle.smp_calls.proofs.Turns.{handles_none, handles_same, handles_nothing, handles_batch, handled_then, handled_later, handled_here}
+use Rattle.smp_calls.proofs.Turns.{handles_none, handles_same, handles_then, handles_nothing, handles_batch}
 
 -- sized as before
 pub sized_moved : (c d : CpuValue) → d.number ≡ c.number → length d.part.confirmed ≡ length c.part.confirmed → IsSized c → IsSized d
@@ -40,87 +41,91 @@ confirms_at c k j s l b = elim (cases_eq j k) [
 ]
 
 module _ {H : Type 0} (leads : H → Heard → H → Type 0) where
-  pub leaves_none : (c : CpuValue) (h : H) → Leaves leads c h c h [] None (owes_at c) (confirmed_at c)
+  pub leaves_none : (c : CpuValue) (h : H) → Leaves leads c h c h [] [] (owes_at c) (confirmed_at c)
   leaves_none c h = record {
     table_is = refl;
     number_is = refl;
     sized = refl;
     owes_sized = refl;
     sent_is = sym (append-nil c.part.sent);
+    log_is = sym (append-nil c.log);
+    tried = omega arith;
     owes_are = λ x. refl;
     confirmed_are = λ k l. refl;
     handled = handles_none leads c h;
   }
 
   -- the same, with what it owes and has confirmed said in other words
-  pub leaves_as : {old new : CpuValue} {before after : H} {sent : List Sending} {here : Option Heard} {o d : ℕ → Bool} (p e : ℕ → Bool)
-      → Leaves leads old before new after sent here o d → ((c : ℕ) → o c ≡ p c) → ((k : ℕ) → k < records_of_one → d k ≡ e k)
-      → Leaves leads old before new after sent here p e
+  pub leaves_as : {old new : CpuValue} {before after : H} {sent : List Sending} {log : List Logged} {o d : ℕ → Bool} (p e : ℕ → Bool)
+      → Leaves leads old before new after sent log o d → ((c : ℕ) → o c ≡ p c) → ((k : ℕ) → k < records_of_one → d k ≡ e k)
+      → Leaves leads old before new after sent log p e
   leaves_as p e l same alike = record {
     table_is = l.table_is;
     number_is = l.number_is;
     sized = l.sized;
     owes_sized = l.owes_sized;
     sent_is = l.sent_is;
+    log_is = l.log_is;
+    tried = l.tried;
     owes_are = λ c. l.owes_are c ∙ same c;
     confirmed_are = λ k b. l.confirmed_are k b ∙ alike k b;
     handled = l.handled;
   }
 
-  pub leaves_then : {old mid new : CpuValue} {before m after : H} {s t : List Sending} {here : Option Heard} {o d p e : ℕ → Bool}
-      → Leaves leads old before mid m s None o d → Leaves leads mid m new after t here p e → Leaves leads old before new after (s ++ t) here p e
-  leaves_then {old} {mid} {new} {before} {m} {after} {s} {t} {here} f l = record {
+  pub leaves_then : {old mid new : CpuValue} {before m after : H} {s t : List Sending} {x y : List Logged} {o d p e : ℕ → Bool}
+      → Leaves leads old before mid m s x o d → Leaves leads mid m new after t y p e → Leaves leads old before new after (s ++ t) (x ++ y) p e
+  leaves_then {old} {mid} {new} {before} {m} {after} {s} {t} {x} {y} f l = record {
     table_is = l.table_is ∙ f.table_is;
     number_is = l.number_is ∙ f.number_is;
     sized = l.sized ∙ f.sized;
     owes_sized = l.owes_sized ∙ f.owes_sized;
     sent_is = l.sent_is ∙ (ap (λ (xs : List Sending). xs ++ t) f.sent_is ∙ append_assoc old.part.sent s t);
+    log_is = l.log_is ∙ (ap (λ (xs : List Logged). xs ++ y) f.log_is ∙ append_assoc old.log x y);
+    tried = let first = f.tried in let later = l.tried in let both = length-append s t in omega arith;
     owes_are = l.owes_are;
     confirmed_are = l.confirmed_are;
-    handled = handled_then leads old mid new before m after here f.handled l.handled;
+    handled = handles_then leads old mid new before m after f.handled l.handled;
   }
 
-  pub leaves_later : {old mid new : CpuValue} {before m after : H} {s t : List Sending} {here : Option Heard} {o d p e : ℕ → Bool}
-      → Leaves leads old before mid m s here o d → Leaves leads mid m new after t None p e → Leaves leads old before new after (s ++ t) here p e
-  leaves_later {old} {mid} {new} {before} {m} {after} {s} {t} {here} f l = record {
-    table_is = l.table_is ∙ f.table_is;
-    number_is = l.number_is ∙ f.number_is;
-    sized = l.sized ∙ f.sized;
-    owes_sized = l.owes_sized ∙ f.owes_sized;
-    sent_is = l.sent_is ∙ (ap (λ (xs : List Sending). xs ++ t) f.sent_is ∙ append_assoc old.part.sent s t);
-    owes_are = l.owes_are;
-    confirmed_are = l.confirmed_are;
-    handled = handled_later leads old mid new before m after here f.handled l.handled;
-  }
+  -- and where nothing is sent any more
+  pub leaves_last : {old new : CpuValue} {before after : H} {s : List Sending} {x : List Logged} {o d : ℕ → Bool}
+      → Leaves leads old before new after (s ++ []) (x ++ []) o d → Leaves leads old before new after s x o d
+  leaves_last {old} {new} {before} {after} {s} {x} {o} {d} l =
+      subst (λ (xs : List Sending). Leaves leads old before new after xs x o d) (append-nil s)
+      (subst (λ (ys : List Logged). Leaves leads old before new after (s ++ []) ys o d) (append-nil x) l)
 
   -- one look at the interrupt word, by what `handle` answers
   pub leaves_handled : (interrupted : Bool) (c d : CpuValue) (h i : H) →
       (interrupted ≡ true → (batch : List Call) × (d ≡ drains batch (asks true c)) × Grows leads h (order batch) i) →
       (interrupted ≡ false → (d ≡ asks false c) × (i ≡ h)) →
-      Leaves leads c h d i [] None (owes_at c) (confirmed_at c)
+      Leaves leads c h d i [] [] (owes_at c) (confirmed_at c)
   leaves_handled true c d h i took idle =
       let t = took refl in
-      subst (λ (x : CpuValue). Leaves leads c h x i [] None (owes_at c) (confirmed_at c)) (sym t.1)
+      subst (λ (x : CpuValue). Leaves leads c h x i [] [] (owes_at c) (confirmed_at c)) (sym t.1)
       (record {
         table_is = refl;
         number_is = refl;
         sized = refl;
         owes_sized = refl;
         sent_is = sym (append-nil c.part.sent);
+        log_is = sym (append-nil c.log);
+        tried = omega arith;
         owes_are = λ x. refl;
         confirmed_are = λ k l. refl;
         handled = handles_batch leads c t.0 h i t.2;
       })
   leaves_handled false c d h i took idle =
       let n = idle refl in
-      subst (λ (x : CpuValue). Leaves leads c h x i [] None (owes_at c) (confirmed_at c)) (sym n.0)
-      (subst (λ (y : H). Leaves leads c h (asks false c) y [] None (owes_at c) (confirmed_at c)) (sym n.1)
+      subst (λ (x : CpuValue). Leaves leads c h x i [] [] (owes_at c) (confirmed_at c)) (sym n.0)
+      (subst (λ (y : H). Leaves leads c h (asks false c) y [] [] (owes_at c) (confirmed_at c)) (sym n.1)
       (record {
         table_is = refl;
         number_is = refl;
         sized = refl;
         owes_sized = refl;
         sent_is = sym (append-nil c.part.sent);
+        log_is = sym (append-nil c.log);
+        tried = omega arith;
         owes_are = λ x. refl;
         confirmed_are = λ k l. refl;
         handled = handles_nothing leads c h;
@@ -128,13 +133,15 @@ module _ {H : Type 0} (leads : H → Heard → H → Type 0) where
 
   -- a record is seen confirmed
   pub leaves_confirmed : (c d : CpuValue) (h : H) (k : ℕ) → IsSized c → k < records_of_one → d ≡ confirms k c
-      → Leaves leads c h d h [] None (owes_at c) (λ j. j == k || confirmed_at c j)
-  leaves_confirmed c d h k s l e = subst (λ (x : CpuValue). Leaves leads c h x h [] None (owes_at c) (λ j. j == k || confirmed_at c j)) (sym e) (record {
+      → Leaves leads c h d h [] [] (owes_at c) (λ j. j == k || confirmed_at c j)
+  leaves_confirmed c d h k s l e = subst (λ (x : CpuValue). Leaves leads c h x h [] [] (owes_at c) (λ j. j == k || confirmed_at c j)) (sym e) (record {
     table_is = refl;
     number_is = refl;
     sized = length-set c.part.confirmed (record_of c.number k) true;
     owes_sized = refl;
     sent_is = sym (append-nil c.part.sent);
+    log_is = sym (append-nil c.log);
+    tried = omega arith;
     owes_are = λ x. refl;
     confirmed_are = λ j b. confirms_at c k j s l b;
     handled = handles_same leads c (confirms k c) h refl refl refl;
@@ -142,21 +149,8 @@ module _ {H : Type 0} (leads : H → Heard → H → Type 0) where
 
   -- the same after some waiting
   pub leaves_ended : (old mid new : CpuValue) (before m : H) (k : ℕ) → IsSized old → k < records_of_one
-      → Leaves leads old before mid m [] None (owes_at old) (confirmed_at old) → new ≡ confirms k mid →
-      Leaves leads old before new m [] None (owes_at old) (λ j. j == k || confirmed_at old j)
+      → Leaves leads old before mid m [] [] (owes_at old) (confirmed_at old) → new ≡ confirms k mid →
+      Leaves leads old before new m [] [] (owes_at old) (λ j. j == k || confirmed_at old j)
   leaves_ended old mid new before m k s l f e =
       let g = leaves_confirmed mid new m k (sized_moved old mid f.number_is f.sized s) l e in
       leaves_as (owes_at old) (λ j. j == k || confirmed_at old j) (leaves_then f g) f.owes_are (λ j b. ap (λ x. j == k || x) (f.confirmed_are j b))
-
-  -- a call is made directly
-  pub leaves_here : (c : CpuValue) (h i : H) (x : Heard) → leads h x i → Leaves leads c h c i [] (Some x) (owes_at c) (confirmed_at c)
-  leaves_here c h i x call = record {
-    table_is = refl;
-    number_is = refl;
-    sized = refl;
-    owes_sized = refl;
-    sent_is = sym (append-nil c.part.sent);
-    owes_are = λ y. refl;
-    confirmed_are = λ k l. refl;
-    handled = handled_here leads c h i x call;
-  }

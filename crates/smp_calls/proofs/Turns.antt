@@ -8,7 +8,7 @@ use Rattle.smp_words.specs.declared.call.Call.{Call}
 use Rattle.smp_queue.specs.Cpu.{CpuValue}
 use Rattle.smp_queue.specs.Handling.{Grows, asks, drains}
 use Rattle.smp_queue.specs.declared.handler.Heard.{Heard}
-use Rattle.smp_calls.specs.Handles.{looks, batches, Handles, HandlesAround, Handled}
+use Rattle.smp_calls.specs.Handles.{looks, batches, Handles}
 
 looks-append : (ts us : List (Option (List Call))) → looks (ts ++ us) ≡ looks ts ++ looks us
 looks-append [] us = refl
@@ -81,40 +81,4 @@ module _ {H : Type 0} (leads : H → Heard → H → Type 0) where
     taken_is = refl;
     ran_is = ap (λ (xs : List Call). c.part.ran ++ xs) (sym (append-nil (order batch)));
     grows = subst (λ (xs : List Call). Grows leads h xs i) (sym (append-nil (order batch))) grown;
-  }
-
-  -- handling before a call, and after it
-  pub handled_then : (old mid new : CpuValue) (before m after : H) (here : Option Heard) → Handles leads old before mid m → Handled leads mid m new after here
-      → Handled leads old before new after here
-  handled_then old mid new before m after None f l = handles_then old mid new before m after f l
-  handled_then old mid new before m after (Some x) f l = record {
-    middle = l.middle;
-    called = l.called;
-    ended = l.ended;
-    first = handles_then old mid l.middle before m l.called f l.first;
-    call = l.call;
-    later = l.later;
-  }
-
-  pub handled_later : (old mid new : CpuValue) (before m after : H) (here : Option Heard) → Handled leads old before mid m here → Handles leads mid m new after
-      → Handled leads old before new after here
-  handled_later old mid new before m after None f l = handles_then old mid new before m after f l
-  handled_later old mid new before m after (Some x) f l = record {
-    middle = f.middle;
-    called = f.called;
-    ended = f.ended;
-    first = f.first;
-    call = f.call;
-    later = handles_then f.middle mid new f.ended m after f.later l;
-  }
-
-  -- the call alone
-  pub handled_here : (c : CpuValue) (h i : H) (heard : Heard) → leads h heard i → HandlesAround leads c h c i heard
-  handled_here c h i heard call = record {
-    middle = c;
-    called = h;
-    ended = i;
-    first = handles_none c h;
-    call = call;
-    later = handles_none c i;
   }

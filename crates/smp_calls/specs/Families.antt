@@ -1,19 +1,20 @@
 -- What a family leaves of its CPU and its handler.
-use Rattle.std.specs.Prelude.{◌≡◌, ◌≢◌, ℕ, ◌<◌, ◌≤◌, Bool, true, false, not, ◌&&◌, ◌||◌, ◌==◌, if◌then◌else◌, Option, Some, None, List, [], ◌∷◌, ◌++◌, length}
+use Rattle.std.specs.Prelude.{◌≡◌, ◌≢◌, ℕ, ◌+◌, ◌<◌, ◌≤◌, Bool, true, false, not, ◌&&◌, ◌||◌, ◌==◌, if◌then◌else◌, Option, Some, None, List, [], ◌∷◌, ◌++◌, length}
 use Rattle.std.specs.Prelude.{slice_index_or}
 use Rattle.smp_mask.specs.Mask.{has}
 use Rattle.smp_mask.specs.declared.error.SmpError.{SmpError}
 use Rattle.smp_mask.specs.declared.error.SmpError.TheVariants as error
 use Rattle.smp_words.specs.Size.{cpus, records, records_of_one, record_of}
 use Rattle.smp_call_steps.specs.declared.known.Sending.{Sending}
+use Rattle.smp_call_steps.specs.declared.known.Logged.{Logged}
 use Rattle.smp_words.specs.declared.call.Call.{Call}
 use Rattle.smp_words.specs.declared.call.Class.{Class}
 use Rattle.smp_queue.specs.Cpu.{CpuValue, confirmed_at, confirms}
 use Rattle.smp_queue.specs.Handling.{heard}
 use Rattle.smp_queue.specs.declared.handler.Heard.{Heard}
 use Rattle.smp_calls.specs.declared.records.TheConstants.{ASYNC_RECORD, USER_RECORDS}
-use Rattle.smp_calls.specs.Handles.{Handled}
-use Rattle.smp_calls.specs.Queued.{Queued, destinations, sendings, is_first_to, is_used}
+use Rattle.smp_calls.specs.Handles.{Handles}
+use Rattle.smp_calls.specs.Queued.{Queued, destinations, sendings, calls_and_interrupts, is_first_to, is_used}
 use Rattle.smp_calls.specs.Records.{call_by, class_for, single_record, user_record, many_call}
 
 -- a CPU's number is one, and it has all its records
@@ -25,48 +26,70 @@ pub record IsSized (c : CpuValue) : Type 0 where
 abbrev pub owes_at : CpuValue → ℕ → Bool
 owes_at c other = slice_index_or c.part.owes other false
 
--- a CPU has sent these calls, now owes these interrupts and has seen these of its records confirmed; else it has only handled, and made this call directly
+-- a CPU has sent these calls, has logged this, now owes these interrupts and has seen these of its records confirmed, and has made a
+-- compare-exchange at least for each call; else it has only handled
 pub record Leaves {H : Type 0} (leads : H → Heard → H → Type 0) (old : CpuValue) (before : H) (new : CpuValue) (after : H) (sent : List Sending)
-    (here : Option Heard) (owes confirmed : ℕ → Bool) : Type 0 where
+    (log : List Logged) (owes confirmed : ℕ → Bool) : Type 0 where
   pub table_is : new.table ≡ old.table
   pub number_is : new.number ≡ old.number
   pub sized : length new.part.confirmed ≡ length old.part.confirmed
   pub owes_sized : length new.part.owes ≡ length old.part.owes
   pub sent_is : new.part.sent ≡ old.part.sent ++ sent
+  pub log_is : new.log ≡ old.log ++ log
+  pub tried : old.tried + length sent ≤ new.tried
   pub owes_are : (c : ℕ) → owes_at new c ≡ owes c
   pub confirmed_are : (k : ℕ) → k < records_of_one → confirmed_at new k ≡ confirmed k
-  pub handled : Handled leads old before new after here
+  pub handled : Handles leads old before new after
 
--- a family has queued these calls: no interrupt is owed for them, and the records that it used are confirmed exactly where it waited
-abbrev pub Calls : {H : Type 0} → (H → Heard → H → Type 0) → CpuValue → H → CpuValue → H → (ℕ → Call) → List Queued → Option Heard → Bool → Type 0
-Calls leads old before new after call queued here wait =
-    Leaves leads old before new after (sendings call queued) here
+-- a family has queued these calls, all before its first interrupt; it has sent one interrupt to each CPU whose queue was empty, and no
+-- other, so that none is owed for them; and the records that it used are confirmed exactly where it waited
+abbrev pub Calls : {H : Type 0} → (H → Heard → H → Type 0) → CpuValue → H → CpuValue → H → (ℕ → Call) → List Queued → Bool → Type 0
+Calls leads old before new after call queued wait =
+    Leaves leads old before new after (sendings call queued) (calls_and_interrupts queued)
     (λ c. owes_at old c && not (is_first_to c queued))
     (λ k. if is_used call (record_of old.number k) queued then wait else confirmed_at old k)
+
+-- the same, and a direct call: when that is made, all calls are queued and all interrupts sent, and no record that was used is seen
+-- confirmed; after it the CPU only waits
+pub record CallsAndHere {H : Type 0} (leads : H → Heard → H → Type 0) (old : CpuValue) (before : H) (new : CpuValue) (after : H) (call : ℕ → Call)
+    (queued : List Queued) (heard : Heard) (wait : Bool) : Type 0 where
+  pub middle : CpuValue
+  pub called : H
+  pub ended : H
+  pub first : Calls leads old before middle called call queued false
+  pub here : leads called heard ended
+  pub later : Leaves leads middle ended new after [] [] (owes_at middle)
+      (λ k. (wait && is_used call (record_of old.number k) queued) || confirmed_at middle k)
+
+-- with a direct call, if any
+abbrev pub CallsWith : {H : Type 0} → (H → Heard → H → Type 0) → CpuValue → H → CpuValue → H → (ℕ → Call) → List Queued → Option Heard → Bool → Type 0
+CallsWith leads old before new after call queued None wait = Calls leads old before new after call queued wait
+CallsWith leads old before new after call queued (Some heard) wait = CallsAndHere leads old before new after call queued heard wait
 
 -- a call to one CPU through its queue, by this record
 abbrev pub CallsBy : {H : Type 0} → (H → Heard → H → Type 0) → CpuValue → H → CpuValue → H → ℕ → Class → ℕ → ℕ → ℕ → Bool → Type 0
 CallsBy leads old before new after k class dst func info wait =
     (queued : List Queued) × (destinations queued ≡ dst ∷ []) ×
-    Calls leads old before new after (λ _. call_by old.number k class func info) queued None wait
+    Calls leads old before new after (λ _. call_by old.number k class func info) queued wait
 
 -- by the record that its waiting asks for
 abbrev pub CallsOne : {H : Type 0} → (H → Heard → H → Type 0) → CpuValue → H → CpuValue → H → ℕ → ℕ → ℕ → Bool → Type 0
 CallsOne leads old before new after dst func info wait = CallsBy leads old before new after (single_record wait) (class_for wait) dst func info wait
 
--- a call to one CPU that queues none: without wait it has waited for the async record
-abbrev pub QueuesNone : {H : Type 0} → (H → Heard → H → Type 0) → CpuValue → H → CpuValue → H → Option Heard → Bool → Type 0
-QueuesNone leads old before new after here wait =
-    Leaves leads old before new after [] here (owes_at old) (λ k. (not wait && k == ASYNC_RECORD) || confirmed_at old k)
+-- a call to one CPU that queues none and sends no interrupt: without wait it has waited for the async record
+abbrev pub QueuesNone : {H : Type 0} → (H → Heard → H → Type 0) → CpuValue → H → CpuValue → H → Bool → Type 0
+QueuesNone leads old before new after wait =
+    Leaves leads old before new after [] [] (owes_at old) (λ k. (not wait && k == ASYNC_RECORD) || confirmed_at old k)
 
--- the same, by its function on the CPU itself
+-- the same, and then its function on the CPU itself: that is all that it does after it has waited
 abbrev pub CallsHere : {H : Type 0} → (H → Heard → H → Type 0) → CpuValue → H → CpuValue → H → ℕ → ℕ → Bool → Type 0
-CallsHere leads old before new after func info wait = QueuesNone leads old before new after (Some (heard old.number func info)) wait
+CallsHere {H = H} leads old before new after func info wait =
+    (called : H) × QueuesNone leads old before new called wait × leads called (heard old.number func info) after
 
--- a call by a record of the user, on the CPU itself: the record was seen confirmed
+-- a call by a record of the user, on the CPU itself: the record was seen confirmed, and nothing else was done
 abbrev pub CallsUserHere : {H : Type 0} → (H → Heard → H → Type 0) → CpuValue → H → CpuValue → H → ℕ → ℕ → ℕ → Type 0
 CallsUserHere leads old before new after u func info =
-    Leaves leads old before new after [] (Some (heard old.number func info)) (owes_at old) (λ k. k == user_record u || confirmed_at old k)
+    (new ≡ confirms (user_record u) old) × leads before (heard old.number func info) after
 
 -- why a call by a record of the user is refused, and what that leaves. E4 comes first, then E2, then E1
 abbrev pub RefusesUser : ℕ → CpuValue → CpuValue → ℕ → ℕ → SmpError → Type 0
@@ -75,8 +98,9 @@ RefusesUser online old new u dst error.Busy = (u < USER_RECORDS) × (confirmed_a
 RefusesUser online old new u dst error.NoCpu = (u < USER_RECORDS) × (dst ≢ old.number) × (has online dst ≡ false) × (new ≡ confirms (user_record u) old)
 RefusesUser online old new u dst _ = ⊥
 
--- calls to these CPUs, ascending, each by its record for calls to many; these are confirmed exactly where it waited
+-- calls to these CPUs, ascending, each by its record for calls to many, and a direct call, if any; the records are confirmed exactly where
+-- it waited
 abbrev pub CallsMany : {H : Type 0} → (H → Heard → H → Type 0) → CpuValue → H → CpuValue → H → List ℕ → Class → ℕ → ℕ → Option Heard → Bool → Type 0
 CallsMany leads old before new after to class func info here waited =
     (queued : List Queued) × (destinations queued ≡ to) ×
-    Calls leads old before new after (many_call old.number class func info) queued here waited
+    CallsWith leads old before new after (many_call old.number class func info) queued here waited

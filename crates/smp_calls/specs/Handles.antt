@@ -26,17 +26,3 @@ pub record Handles {H : Type 0} (leads : H → Heard → H → Type 0) (old : Cp
   pub taken_is : new.part.taken ≡ old.part.taken ++ batches turns
   pub ran_is : new.part.ran ≡ old.part.ran ++ orders (batches turns)
   pub grows : Grows leads before (orders (batches turns)) after
-
--- the same, and at some point between two looks its handler has run one call directly
-pub record HandlesAround {H : Type 0} (leads : H → Heard → H → Type 0) (old : CpuValue) (before : H) (new : CpuValue) (after : H) (heard : Heard) : Type 0 where
-  pub middle : CpuValue
-  pub called : H
-  pub ended : H
-  pub first : Handles leads old before middle called
-  pub call : leads called heard ended
-  pub later : Handles leads middle ended new after
-
--- with the direct call, if any
-abbrev pub Handled : {H : Type 0} → (H → Heard → H → Type 0) → CpuValue → H → CpuValue → H → Option Heard → Type 0
-Handled leads old before new after None = Handles leads old before new after
-Handled leads old before new after (Some heard) = HandlesAround leads old before new after heard

@@ -1,6 +1,8 @@
 -- The calls that a family queues.
-use Rattle.std.specs.Prelude.{ℕ, Bool, false, ◌||◌, ◌==◌, if◌then◌else◌, List, [], ◌∷◌}
+use Rattle.std.specs.Prelude.{ℕ, Bool, false, ◌||◌, ◌==◌, if◌then◌else◌, List, [], ◌∷◌, ◌++◌}
 use Rattle.smp_call_steps.specs.declared.known.Sending.{Sending}
+use Rattle.smp_call_steps.specs.declared.known.Logged.{Logged}
+use Rattle.smp_call_steps.specs.declared.known.Logged.TheVariants as logged
 use Rattle.smp_words.specs.declared.call.Call.{Call}
 
 -- a call that was queued: for which CPU, and whether that CPU's queue was empty
@@ -17,6 +19,20 @@ destinations (q ∷ qs) = q.to ∷ destinations qs
 abbrev pub firsts : List Queued → List ℕ
 firsts [] = []
 firsts (q ∷ qs) = if q.is_first then q.to ∷ firsts qs else firsts qs
+
+-- what a CPU logs that queues a call for each of these CPUs
+abbrev pub calls_to : List ℕ → List Logged
+calls_to [] = []
+calls_to (c ∷ cs) = logged.Queued c ∷ calls_to cs
+
+-- what a CPU logs that sends an interrupt to each of these CPUs
+abbrev pub interrupts_to : List ℕ → List Logged
+interrupts_to [] = []
+interrupts_to (c ∷ cs) = logged.Interrupted c ∷ interrupts_to cs
+
+-- what a CPU logs of these calls: all are queued, and then one interrupt is sent to each CPU whose queue was empty
+abbrev pub calls_and_interrupts : List Queued → List Logged
+calls_and_interrupts queued = calls_to (destinations queued) ++ interrupts_to (firsts queued)
 
 -- whether a CPU is in a list
 abbrev pub is_in : ℕ → List ℕ → Bool

@@ -1,5 +1,5 @@
 -- The parts of a call to many: queue each call, send each interrupt, wait for each record.
-use Rattle.std.specs.Prelude.{◌≡◌, length, ℕ, ◌<◌, Bool, true, false, not, ◌&&◌, ◌||◌, if◌then◌else◌, Option, Some, None, List, [], ◌∷◌}
+use Rattle.std.specs.Prelude.{◌≡◌, length, ℕ, ◌<◌, Bool, true, false, not, ◌&&◌, ◌||◌, if◌then◌else◌, Option, Some, None, List, [], ◌∷◌, ◌++◌}
 use Rattle.smp_mask.specs.Mask.{has, members}
 use Rattle.smp_words.specs.Size.{cpus, record_of}
 use Rattle.smp_words.specs.declared.call.Call.{Call}
@@ -7,7 +7,7 @@ use Rattle.smp_queue.specs.Cpu.{CpuValue, confirmed_at}
 use Rattle.smp_queue.specs.declared.handler.Heard.{Heard}
 use Rattle.smp_calls.specs.Families.{Leaves, owes_at}
 use Rattle.smp_calls.specs.Records.{many_record}
-use Rattle.smp_calls.specs.Queued.{Queued, destinations, firsts, sendings, is_first_to, is_used, is_by, is_in}
+use Rattle.smp_calls.specs.Queued.{Queued, destinations, firsts, sendings, calls_to, interrupts_to, is_first_to, is_used, is_by, is_in}
 
 -- this CPU, where it counts
 abbrev pub only_if : Bool → ℕ → List ℕ
@@ -16,14 +16,14 @@ only_if counts cpu = if counts then cpu ∷ [] else []
 -- calls were queued; where a call was the first in its queue, its CPU is owed an interrupt, and none is sent yet
 pub record Queues {H : Type 0} (leads : H → Heard → H → Type 0) (old : CpuValue) (before : H) (new : CpuValue) (after : H) (call : ℕ → Call)
     (queued : List Queued) : Type 0 where
-  pub leaves : Leaves leads old before new after (sendings call queued) None (owes_at new)
+  pub leaves : Leaves leads old before new after (sendings call queued) (calls_to (destinations queued)) (owes_at new)
       (λ k. if is_used call (record_of old.number k) queued then false else confirmed_at old k)
   pub kept : (c : ℕ) → is_first_to c queued ≡ false → owes_at new c ≡ owes_at old c
   pub due : (c : ℕ) → is_first_to c queued ≡ true → c < length old.part.owes → owes_at new c ≡ true
 
--- interrupts were sent to these CPUs, and nothing else was done
+-- one interrupt was sent to each of these CPUs, in order, and nothing else was done
 pub record Sends (old new : CpuValue) (sent : List ℕ) : Type 0 where
-  pub others_are : new ≡ record old { part = record (old.part) { owes = new.part.owes } }
+  pub others_are : new ≡ record old { part = record (old.part) { owes = new.part.owes }; log = old.log ++ interrupts_to sent }
   pub owes_sized : length new.part.owes ≡ length old.part.owes
   pub owes_are : (c : ℕ) → owes_at new c ≡ (owes_at old c && not (is_in c sent))
 
@@ -34,7 +34,7 @@ is_many number k to = is_by (λ x. record_of number (many_record x)) (record_of 
 -- the records for calls to these CPUs are confirmed, where they are waited for
 abbrev pub WaitsFor : {H : Type 0} → (H → Heard → H → Type 0) → CpuValue → H → CpuValue → H → List ℕ → Bool → Type 0
 WaitsFor leads old before new after to wait =
-    Leaves leads old before new after [] None (owes_at old) (λ k. (wait && is_many old.number k to) || confirmed_at old k)
+    Leaves leads old before new after [] [] (owes_at old) (λ k. (wait && is_many old.number k to) || confirmed_at old k)
 
 -- of these CPUs the ones in `called` have said yes and the others no
 pub record Picks (says : ℕ → Bool → Type 0) (asked : ℕ → Bool) (called : ℕ) : Type 0 where

@@ -25,7 +25,7 @@ fn free_async<A: Allocator, R: Wait, H: Handler>(
 )
     requires table { me.old.table ≡ table.now.table }
     requires sized { IsSized me.old }
-    ensures { QueuesNone H.leads me.old handler.old me.new handler.new None wait }
+    ensures { QueuesNone H.leads me.old handler.old me.new handler.new wait }
 {
     if !wait {
         wait_for(table, rt, me, handler, ASYNC_RECORD);
@@ -101,7 +101,7 @@ pub fn call_single<A: Allocator, R: Wait, H: Handler>(
         × CallsOne H.leads me.old handler.old me.new handler.new dst func info wait) }
     ensures here { IfOk result (λ _. dst ≡ me.old.number → CallsHere H.leads me.old handler.old me.new handler.new func info wait) }
     ensures refused { IfErr result (λ e. (e ≡ SmpError.NoCpu) × (dst ≢ me.old.number) × (has table.now.online dst ≡ false)
-        × QueuesNone H.leads me.old handler.old me.new handler.new None wait) }
+        × QueuesNone H.leads me.old handler.old me.new handler.new wait) }
     ensures ended { IfOk result (λ _. wait ≡ true → dst ≢ me.old.number →
         HaveEnded me.new (λ _. call_by me.old.number (single_record_in true) Class.Sync func info) (dst ∷ [])) }
 {

@@ -31,7 +31,7 @@ fn handle_own<A: Allocator, R: Wait, H: Handler>(
     handler: &mut H,
 )
     requires { me.old.table ≡ table.now.table }
-    ensures { Leaves H.leads me.old handler.old me.new handler.new [] None (owes_at me.old) (confirmed_at me.old) }
+    ensures { Leaves H.leads me.old handler.old me.new handler.new [] [] (owes_at me.old) (confirmed_at me.old) }
 {
     table.handle(me, handler);
 }
@@ -48,7 +48,7 @@ pub(crate) fn wait_for<A: Allocator, R: Wait, H: Handler>(
     requires table { me.old.table ≡ table.now.table }
     requires sized { IsSized me.old }
     requires record { has_record table.now.nr k ≡ true }
-    ensures { Leaves H.leads me.old handler.old me.new handler.new [] None (owes_at me.old) (λ j. j == k || confirmed_at me.old j) }
+    ensures { Leaves H.leads me.old handler.old me.new handler.new [] [] (owes_at me.old) (λ j. j == k || confirmed_at me.old j) }
 {
     let backoff = Backoff::new();
     for _ in rt.forever() {

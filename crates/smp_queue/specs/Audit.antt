@@ -1,15 +1,16 @@
 -- What an audit answers, by the words of a table that no thread shares any more.
 use Rattle.std.specs.Prelude.{◌≡◌, ◌≢◌, ℕ, zero, suc, ◌+◌, ◌%◌, ◌^◌, ◌<◌, ◌≤◌, ◌⊎◌, Bool, not, ◌==◌, if◌then◌else◌, List, [], length, slice_index_or}
 use Rattle.smp_words.specs.Size.{cpus, records}
-use Rattle.smp_call_steps.specs.Calls.{CallState}
+use Rattle.smp_call_steps.specs.Calls.{CallState, no_calls}
 use Rattle.smp_call_steps.specs.Histories.{sent_to, calls_from, marked_from, batches_marked, orders}
 use Rattle.smp_call_steps.specs.Known.{Sees, fresh}
+use Rattle.smp_call_steps.specs.Parts.{part_of}
 use Rattle.smp_call_steps.specs.Shows.{Shows}
 use Rattle.smp_call_steps.specs.Stages.{ControlValue}
 use Rattle.smp_queue.specs.Names.{Word, Head, Hand, Queued, Ran, Flags, Known, Left, Tally, Audit}
 use Rattle.smp_queue.specs.Names.audit
 use Rattle.smp_queue.specs.Cells.{number_in}
-use Rattle.smp_queue.specs.Cpu.{TableValue, CpuValue, cpu_in, fresh_cpu}
+use Rattle.smp_queue.specs.Cpu.{TableValue, CpuValue, cpu_in}
 
 -- how many numbers below n pass a test
 unfoldable pub count_below : (ℕ → Bool) → ℕ → ℕ
@@ -68,7 +69,7 @@ pub record ClosesWith (t : TableValue) (last : CpuValue) (words : List ℕ) : Ty
   pub calls : CallState
   pub controls : ℕ → ControlValue
   pub shown : Shows calls (number_in words) controls
-  pub view : last ≡ cpu_in t.table calls last.number
+  pub view : last ≡ cpu_in t.table calls last
   pub below : last.number < t.nr
   pub within : t.nr ≤ cpus
   pub absent : (cpu : ℕ) → t.nr ≤ cpu → Sees calls controls (fresh cpu)
@@ -90,9 +91,9 @@ pub record Audited (t : TableValue) (last : CpuValue) (answer : Audit) : Type 0 
   pub at : Word → ℕ
   pub controls : ℕ → ControlValue
   pub shown : Shows calls at controls
-  pub view : last ≡ cpu_in t.table calls last.number
+  pub view : last ≡ cpu_in t.table calls last
   pub below : last.number < t.nr
-  pub absent : (cpu : ℕ) → t.nr ≤ cpu → cpu_in t.table calls cpu ≡ fresh_cpu t.table cpu
+  pub absent : (cpu : ℕ) → t.nr ≤ cpu → part_of calls cpu ≡ part_of no_calls cpu
   pub answers : AuditAnswers at answer
   pub drained : IfDrained answer (λ t. HaveRun calls)
 

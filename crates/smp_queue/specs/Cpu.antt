@@ -1,5 +1,6 @@
 -- What contracts see of a table, of a CPU and of the CPUs that were not given out.
-use Rattle.std.specs.Prelude.{◌≡◌, ◌≢◌, ℕ, ◌<◌, ◌%◌, ◌^◌, Bool, true, false, not, ◌||◌, ◌==◌, nat_lt, Option, Some, None, Result, Ok, Err, List, length}
+use Rattle.std.specs.Prelude.{◌≡◌, ◌≢◌, ℕ, ◌+◌, ◌<◌, ◌%◌, ◌^◌, Bool, true, false, not, ◌||◌, ◌==◌, nat_lt, Option, Some, None, Result, Ok, Err}
+use Rattle.std.specs.Prelude.{List, [], ◌∷◌, ◌++◌, length}
 use Rattle.std.specs.Prelude.{slice_index_or, slice_set}
 use Rattle.atomic_table.specs.Seated.{TableId}
 use Rattle.smp_mask.specs.Mask.{has}
@@ -12,7 +13,8 @@ use Rattle.smp_call_steps.specs.Places.{IsCall}
 use Rattle.smp_call_steps.specs.Stands.{posted}
 use Rattle.smp_call_steps.specs.Calls.{CallState, no_calls}
 use Rattle.smp_call_steps.specs.Parts.{part_of, part_confirmed, part_sent, part_queued}
-use Rattle.smp_queue.specs.Names.{Class, Known, Part, Posting}
+use Rattle.smp_queue.specs.Names.{Class, Known, Part, Posting, Logged}
+use Rattle.smp_queue.specs.Names.logged
 use Rattle.smp_call_steps.specs.Known.{posting_of}
 use Rattle.smp_queue.specs.Seat.{SeatValue}
 
@@ -22,23 +24,26 @@ pub record TableValue : Type 0 where
   pub nr : ℕ
   pub online : ℕ
 
--- a CPU between two calls: its table, its number, and its own part of the calls
+-- a CPU between two calls: its table, its number, its own part of the calls, how many compare-exchanges of heads it has
+-- made, and the calls that it has queued and the interrupts that it has sent, in order
 pub record CpuValue : Type 0 where
   pub table : TableId
   pub number : ℕ
   pub part : Part
+  pub tried : ℕ
+  pub log : List Logged
 
 -- what a CPU knows, as contracts see it
 abbrev pub cpu_of : SeatValue → CpuValue
-cpu_of d = record { table = d.table; number = d.known.number; part = d.known.part }
+cpu_of d = record { table = d.table; number = d.known.number; part = d.known.part; tried = d.known.tried; log = d.known.log }
 
--- a CPU of these calls
-abbrev pub cpu_in : TableId → CallState → ℕ → CpuValue
-cpu_in table calls cpu = record { table = table; number = cpu; part = part_of calls cpu }
+-- a CPU at this table, with its part of these calls
+abbrev pub cpu_in : TableId → CallState → CpuValue → CpuValue
+cpu_in table calls c = record c { table = table; part = part_of calls c.number }
 
 -- a CPU that has done nothing: all its records are confirmed
 abbrev pub fresh_cpu : TableId → ℕ → CpuValue
-fresh_cpu table cpu = cpu_in table no_calls cpu
+fresh_cpu table cpu = record { table = table; number = cpu; part = part_of no_calls cpu; tried = 0; log = [] }
 
 -- what a CPU keeps between two calls: it is outside a command, and its counts are those of its calls
 pub record IsKept (v : Known) (number : ℕ) (queued ran : List ℕ) : Type 0 where
@@ -59,29 +64,37 @@ confirmed_at c k = slice_index_or c.part.confirmed (record_of c.number k) false
 abbrev pub confirms : ℕ → CpuValue → CpuValue
 confirms k c = record c { part = part_confirmed (record_of c.number k) c.part }
 
--- a CPU that has sent an interrupt: it owes none
+-- a CPU that has sent one interrupt: it owes none
 abbrev pub sends : ℕ → CpuValue → CpuValue
-sends to c = record c { part = part_sent to c.part }
+sends to c = record c { part = part_sent to c.part; log = c.log ++ logged.Interrupted to ∷ [] }
 
--- a CPU that has queued a call by its record k, into a queue that was empty or not
+-- a CPU that has made so many compare-exchanges in vain
+abbrev pub loses : ℕ → CpuValue → CpuValue
+loses n c = record c { tried = c.tried + n }
+
+-- a CPU that has queued a call by its record k, into a queue that was empty or not, by one compare-exchange
 abbrev pub posts : ℕ → ℕ → Class → ℕ → ℕ → Bool → CpuValue → CpuValue
-posts k to class func info first c =
-    record c { part = part_queued (record { id = record_of c.number k; class = class; func = func; info = info }) to first c.part }
+posts k to class func info first c = record c {
+  part = part_queued (record { id = record_of c.number k; class = class; func = func; info = info }) to first c.part;
+  tried = c.tried + 1;
+  log = c.log ++ logged.Queued to ∷ [];
+}
 
 -- arguments that a post refuses
 abbrev pub misused : ℕ → CpuValue → ℕ → ℕ → Class → ℕ → Bool
 misused nr c k to class tries = ((not (nat_lt k records_of_one) || tries == 0) || to == c.number) || not (fits_record nr k to class)
 
--- the answer of a post, and what it leaves of its CPU. E4 comes first, then E2, E1 and E5
+-- the answer of a post, and what it leaves of its CPU. E4 comes first, then E2, E1 and E5. Where it queues its call it has lost
+-- some compare-exchanges and won one; at E5 it has lost all its tries, and at every other refusal made none
 abbrev pub PostAnswers : TableValue → CpuValue → CpuValue → ℕ → ℕ → Class → ℕ → ℕ → ℕ → Result Bool SmpError → Type 0
 PostAnswers t old new k to class func info tries (Ok first) = (misused t.nr old k to class tries ≡ false) × (has t.online to ≡ true)
-    × (new ≡ posts k to class func info first old)
+    × (lost : ℕ) × (new ≡ posts k to class func info first (loses lost old))
 PostAnswers t old new k to class func info tries (Err error.BadArgument) = (misused t.nr old k to class tries ≡ true) × (new ≡ old)
 PostAnswers t old new k to class func info tries (Err error.Busy) = (misused t.nr old k to class tries ≡ false) × (confirmed_at old k ≢ true) × (new ≡ old)
 PostAnswers t old new k to class func info tries (Err error.NoCpu) = (misused t.nr old k to class tries ≡ false) × (has t.online to ≡ false)
     × (new ≡ confirms k old)
 PostAnswers t old new k to class func info tries (Err error.Contended) = (misused t.nr old k to class tries ≡ false) × (has t.online to ≡ true)
-    × (new ≡ confirms k old)
+    × (new ≡ confirms k (loses tries old))
 PostAnswers t old new k to class func info tries (Err _) = ⊥
 
 -- a CPU may queue this call: the record is its own and seen confirmed, and the numbers fit

@@ -33,4 +33,4 @@ pub record IsShown (c : CpuValue) : Type 0 where
   pub confirmed_ran : ConfirmedCallsRan calls
   pub confirmed_ended : ConfirmedSyncCallsEnded calls
   pub have_run : HaveRunFor calls c
-  pub view : c ≡ cpu_in c.table calls c.number
+  pub view : c ≡ cpu_in c.table calls c

@@ -3,10 +3,10 @@
 //! A record is written before it is linked, and linked by one compare-exchange of the head: whoever takes the
 //! queue finds every record in it complete.
 
-ghost use Rattle.std.specs.Prelude.{◌≡◌, ◌≢◌, ◌+◌, ◌*◌, ◌<◌, ◌%◌, ◌^◌, ◌==◌, true, length, if◌then◌else◌, IfSome, IfNone, Some, None};
+ghost use Rattle.std.specs.Prelude.{◌≡◌, ◌≢◌, ℕ, ◌+◌, ◌*◌, ◌<◌, ◌%◌, ◌^◌, ◌==◌, true, length, if◌then◌else◌, IfSome, IfNone, Some, None};
 ghost use Rattle.smp_words.specs.Size.{records};
 ghost use Rattle.smp_call_steps.specs.Stands.{posted};
-ghost use Rattle.smp_call_steps.specs.Known.{confirmed_known, queued_known, outside_known, is_confirmed, standing, Lives};
+ghost use Rattle.smp_call_steps.specs.Known.{confirmed_known, queued_known, outside_known, lost_tries, is_confirmed, standing, Lives};
 ghost use Rattle.smp_call_steps.specs.declared.post.PostStage.TheVariants as post;
 ghost use Rattle.smp_call_steps.specs.declared.stage.Stage.TheVariants.{Post};
 ghost use Rattle.smp_queue.specs.Seat.{OwnsRecord, IsMine, IsCounting, IsTallied, uncounted, counted};
@@ -74,7 +74,7 @@ pub(crate) fn link(words: &Words, seat: &mut CpuSeat, posting: &Posting, link: u
     ensures table { seat.new.table ≡ words.now.table_id }
     ensures lives { Lives seat.new.known }
     ensures won { result ≡ link → seat.new.known ≡ queued_known (posted posting.now) posting.now.to (link == 0) seat.old.known }
-    ensures lost { result ≢ link → seat.new.known ≡ seat.old.known }
+    ensures lost { result ≢ link → seat.new.known ≡ lost_tries 1 seat.old.known }
 {
     store(words, seat, Word::Next(posting.id), link);
     exchange(
@@ -113,11 +113,12 @@ pub(crate) fn append(
     requires counting { IsCounting seat.old.known posting.now number queued }
     ensures table { seat.new.table ≡ words.now.table_id }
     ensures lives { Lives seat.new.known }
-    ensures sent { IfSome result (λ first. seat.new.known ≡ queued_known (posted posting.now) posting.now.to first seat.old.known) }
-    ensures lost { IfNone result (seat.new.known ≡ outside_known seat.old.known) }
+    ensures sent { IfSome result (λ first. (lost : ℕ) × (lost < tries)
+        × (seat.new.known ≡ queued_known (posted posting.now) posting.now.to first (lost_tries lost seat.old.known))) }
+    ensures lost { IfNone result (seat.new.known ≡ outside_known (lost_tries tries seat.old.known)) }
 {
     let mut head = count_and_look(words, seat, posting, number, queued);
-    for _ in 0..tries {
+    for _lost in 0..tries {
         let found = link(words, seat, posting, head);
         if found == head {
             return Some(head == 0);
@@ -142,7 +143,7 @@ pub(crate) fn append_until_won<R: Wait>(
     requires counting { IsCounting seat.old.known posting.now number queued }
     ensures table { seat.new.table ≡ words.now.table_id }
     ensures lives { Lives seat.new.known }
-    ensures sent { seat.new.known ≡ queued_known (posted posting.now) posting.now.to result seat.old.known }
+    ensures sent { (lost : ℕ) × (seat.new.known ≡ queued_known (posted posting.now) posting.now.to result (lost_tries lost seat.old.known)) }
 {
     let backoff = Backoff::new();
     let mut head = count_and_look(words, seat, posting, number, queued);

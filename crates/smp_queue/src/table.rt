@@ -14,7 +14,7 @@
 //! | `func.r`, `info.r` | the target with the record in its batch | the source before the exchange that queues the record | none | that exchange, and the swap that takes the queue |
 //! | `next.r` | the target with the record in its batch | the source before each exchange; the target with the record in its batch | none | the same |
 
-ghost use Rattle.std.specs.Prelude.{◌≡◌, ◌≢◌, ◌⊎◌, ◌↔◌, ◌<◌, ◌≤◌, ◌%◌, ◌^◌, true, false, length, if◌then◌else◌, IfOk, IfErr, OnOk, IsErrOf, Ok, List};
+ghost use Rattle.std.specs.Prelude.{◌≡◌, ◌≢◌, ◌⊎◌, ◌↔◌, ◌+◌, ◌<◌, ◌≤◌, ◌%◌, ◌^◌, true, false, length, if◌then◌else◌, IfOk, IfErr, OnOk, IsErrOf, Ok, List};
 ghost use Rattle.smp_mask.specs.Mask.{has};
 ghost use Rattle.smp_call_steps.specs.Start.{has_record as has_record_in};
 ghost use Rattle.smp_words.specs.Limits.{AreLimits};
@@ -255,6 +255,7 @@ impl<A: Allocator> CallTable<A> {
         ensures answers { PostAnswers self.now me.old me.new k to class func info tries result }
         ensures marked { IfOk result (λ first. ShowsThat me.new (IsMarked me.old to (call_by me.old k class func info) first)) }
         ensures free { IfErr result (λ e. e ≡ SmpError.Contended → ShowsThat me.new (IsFree me.new k)) }
+        ensures within { IfOk result (λ _. me.new.tried ≤ me.old.tried + tries) }
     {
         let posting = self.begin_post(me, k, to, class, func, info, tries)?;
         write_record(&self.owner.shared, &mut me.seat, &posting);

@@ -3,7 +3,7 @@ use Rattle.std.proofs.Common.{◌≡◌, ℕ, ◌+◌, ◌-◌, ◌%◌, ◌^◌
 use Rattle.smp_words.specs.Flags.{flags_of}
 use Rattle.smp_call_steps.specs.Histories.{sent_to, one_held}
 use Rattle.smp_call_steps.specs.Stands.{held_of_post, posted}
-use Rattle.smp_call_steps.specs.Known.{known_told, known_access, posting_of, standing, outside_known, confirmed_known, queued_known}
+use Rattle.smp_call_steps.specs.Known.{known_told, known_access, posting_of, standing, outside_known, confirmed_known, queued_known, lost_tries}
 use Rattle.smp_call_steps.specs.Names.{Class, Sync, Async, Head, Queued, Flags, Func, Info, Next, Store, Posting, PostStage, Post}
 use Rattle.smp_call_steps.specs.Names.act
 use Rattle.smp_call_steps.specs.Names.post
@@ -71,7 +71,8 @@ won_known v v' w to link n found p true t e f = e ∙ ap (λ (u : Known). known_
 won_known v v' w to link n found p false t e f = absurd (true≢false (sym t))
 
 pub lost_known : (v v' w : Known) (to link n found : ℕ) (p : Posting) (b : Bool) → b ≡ false
-    → v' ≡ known_told w act.Cas (Head to) (Some found) (cond b (Some n) None) → w ≡ standing p (post.Exchange link 0) v → v' ≡ standing p post.LoadHead v
+    → v' ≡ known_told w act.Cas (Head to) (Some found) (cond b (Some n) None) → w ≡ standing p (post.Exchange link 0) v
+    → v' ≡ standing p post.LoadHead (lost_tries 1 v)
 lost_known v v' w to link n found p true t e f = absurd (true≢false t)
 lost_known v v' w to link n found p false t e f = e ∙ ap (λ (u : Known). known_told u act.Cas (Head to) (Some found) None) f
 

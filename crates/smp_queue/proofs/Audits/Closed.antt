@@ -114,9 +114,9 @@ audited t d words answer e c a = record {
   at = number_in words;
   controls = c.controls;
   shown = c.shown;
-  view = λ i. record { table = e i; number = d.known.number; part = sym c.sees.part i };
+  view = λ i. record (cpu_of d) { table = e i; part = sym c.sees.part i };
   below = c.below;
-  absent = λ cpu l. let sees = c.absent cpu l in λ i. record { table = t.table; number = cpu; part = sees.part i };
+  absent = λ cpu l. let sees = c.absent cpu l in sees.part;
   answers = a;
   drained = drained_run t.nr d.known words answer c a;
 }
@@ -129,7 +129,7 @@ closes_with t d words e within c = record {
   calls = c.calls;
   controls = c.controls;
   shown = c.shown;
-  view = λ i. record { table = e i; number = d.known.number; part = sym c.sees.part i };
+  view = λ i. record (cpu_of d) { table = e i; part = sym c.sees.part i };
   below = c.below;
   within = within;
   absent = c.absent;
@@ -145,6 +145,8 @@ module _ (t : TableValue) (last : CpuValue) (words : List ℕ) (c : ClosesWith t
           stage = told_stage (c.controls last.number).stage;
           drain = (c.controls last.number).drain;
           part = part_of c.calls last.number;
+          tried = last.tried;
+          log = last.log;
         };
   }
 

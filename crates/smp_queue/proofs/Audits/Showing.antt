@@ -42,7 +42,7 @@ is_shown d l e = record {
   confirmed_ran = confirmed_calls_ran l.shown;
   confirmed_ended = confirmed_sync_calls_ended l.calls l.at l.controls l.shown;
   have_run = have_run d l;
-  view = λ i. record { table = d.table; number = d.known.number; part = sym l.sees.part i };
+  view = λ i. record (cpu_of d) { part = sym l.sees.part i };
 }
 
 -- where a CPU stands stays as a load confirms a record

@@ -7,11 +7,12 @@ use Rattle.smp_words.specs.Size.{cpus, records}
 use Rattle.smp_call_steps.specs.Stands.{posted}
 use Rattle.smp_call_steps.specs.Histories.{Marked, mark, sent_to, calls_from}
 use Rattle.smp_call_steps.specs.Parts.{part_sent}
-use Rattle.smp_call_steps.specs.Known.{fresh, confirmed_known, queued_known, outside_known, standing}
+use Rattle.smp_call_steps.specs.Known.{fresh, confirmed_known, queued_known, outside_known, lost_tries, standing}
 use Rattle.smp_call_steps.proofs.Basics.Lists.{sent_to-push, one_if-same, one_if-other}
 use Rattle.smp_call_steps.proofs.Basics.Rows.{length-row}
 use Rattle.smp_words.proofs.Zeros.{get_or-same}
 use Rattle.smp_queue.specs.Names.{Call, Known, Posting}
+use Rattle.smp_queue.specs.Names.logged
 use Rattle.smp_queue.specs.Names.post
 use Rattle.smp_queue.specs.Seat.{IsCounting, uncounted}
 use Rattle.smp_queue.specs.Cpu.{IsKept}
@@ -41,8 +42,21 @@ module _ {v : Known} {number : ℕ} {queued ran : List ℕ} (k : IsKept v number
     ran_are = k.ran_are;
   }
 
-  pub kept_sent : (to : ℕ) → IsKept (record v { part = part_sent to v.part }) number queued ran
+  pub kept_sent : (to : ℕ) → IsKept (record v { part = part_sent to v.part; log = v.log ++ logged.Interrupted to ∷ [] }) number queued ran
   kept_sent to = record {
+    number_is = k.number_is;
+    below = k.below;
+    outside = k.outside;
+    records_sized = k.records_sized;
+    queued_sized = k.queued_sized;
+    ran_sized = k.ran_sized;
+    queued_are = k.queued_are;
+    ran_are = k.ran_are;
+  }
+
+  -- also where it has tried in vain
+  pub kept_lost : (lost : ℕ) → IsKept (lost_tries lost v) number queued ran
+  kept_lost lost = record {
     number_is = k.number_is;
     below = k.below;
     outside = k.outside;
@@ -100,12 +114,13 @@ module _ {v : Known} {number : ℕ} {queued ran : List ℕ} (k : IsKept v number
   }
 
 -- of a CPU that queued a call
-pub kept_posted : (v w v' : Known) (number : ℕ) (queued ran : List ℕ) (p : Posting) (first : Bool) → IsKept v number queued ran → p.to < cpus →
-    w ≡ standing (uncounted p) post.Count v → v' ≡ queued_known (posted p) p.to first w →
+pub kept_posted : (v w v' : Known) (number : ℕ) (queued ran : List ℕ) (p : Posting) (first : Bool) (lost : ℕ) → IsKept v number queued ran → p.to < cpus →
+    w ≡ standing (uncounted p) post.Count v → v' ≡ queued_known (posted p) p.to first (lost_tries lost w) →
     IsKept v' number (set queued p.to ((get_or queued p.to 0 + 1) % 2 ^ 64)) ran
-kept_posted v w v' number queued ran p first k l e f =
-    let known : v' ≡ queued_known (posted p) p.to first v = f ∙ ap (queued_known (posted p) p.to first) e in
-    subst (λ (u : Known). IsKept u number (set queued p.to ((get_or queued p.to 0 + 1) % 2 ^ 64)) ran) (sym known) (kept_appended k p.to first (posted p) l)
+kept_posted v w v' number queued ran p first lost k l e f =
+    let known : v' ≡ queued_known (posted p) p.to first (lost_tries lost v) = f ∙ ap (λ (u : Known). queued_known (posted p) p.to first (lost_tries lost u)) e in
+    subst (λ (u : Known). IsKept u number (set queued p.to ((get_or queued p.to 0 + 1) % 2 ^ 64)) ran) (sym known)
+    (kept_appended (kept_lost k lost) p.to first (posted p) l)
 
 -- the counts of a CPU that is about to count a call
 pub kept_counting : (v w : Known) (number to count : ℕ) (queued ran : List ℕ) (p : Posting) → IsKept v number queued ran → p.to ≡ to → to < cpus

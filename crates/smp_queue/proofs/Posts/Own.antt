@@ -1,5 +1,5 @@
 -- A CPU's own records, and what a post leaves of its CPU.
-use Rattle.std.proofs.Common.{◌≡◌, ℕ, zero, suc, ◌^◌, ◌<◌, Bool, true, false, not, ◌||◌, ◌==◌, nat_lt, None, List, [], ◌∷◌, get_or, set, sym, refl, ap, ◌∙◌}
+use Rattle.std.proofs.Common.{◌≡◌, ℕ, zero, suc, ◌+◌, ◌^◌, ◌<◌, Bool, true, false, not, ◌||◌, ◌==◌, nat_lt, None, List, [], ◌∷◌, ◌++◌, get_or, set, sym, refl, ap, ◌∙◌}
 use Rattle.std.proofs.Common.{arith}
 use Rattle.std.proofs.lemmas.Bool.{or_parts, ltb-true}
 use Rattle.std.proofs.lemmas.List.{get_or-set_same}
@@ -9,14 +9,15 @@ use Rattle.smp_words.specs.Size.{cpus, records, records_of_one, record_of, owner
 use Rattle.smp_call_steps.specs.Start.{command_refusal}
 use Rattle.smp_call_steps.specs.Stands.{posted}
 use Rattle.smp_call_steps.specs.Parts.{part_queued}
-use Rattle.smp_call_steps.specs.Known.{posting_of, standing, confirmed_known, queued_known}
+use Rattle.smp_call_steps.specs.Known.{posting_of, standing, confirmed_known, queued_known, lost_tries}
 use Rattle.smp_words.proofs.Sizes.{owner-of_record, record_of-below}
 use Rattle.smp_queue.specs.Names.{Class, Known, Posting}
+use Rattle.smp_queue.specs.Names.logged
 use Rattle.smp_queue.specs.Names.post
 use Rattle.smp_words.specs.declared.command.Command.TheVariants as command
 use Rattle.smp_queue.specs.Cells.{cells}
 use Rattle.smp_queue.specs.Seat.{SeatValue, OwnsRecord, IsMine, uncounted}
-use Rattle.smp_queue.specs.Cpu.{CpuValue, IsKept, MayQueue, cpu_of, confirms, posts}
+use Rattle.smp_queue.specs.Cpu.{CpuValue, IsKept, MayQueue, cpu_of, confirms, loses, posts}
 
 pub at_own : (table : TableId) (d : SeatValue) (number k id : ℕ) (queued ran : List ℕ) → IsKept d.known number queued ran → d.table ≡ table
     → table.words ≡ cells → k < records_of_one → id ≡ record_of number k → OwnsRecord table d id
@@ -88,16 +89,25 @@ set_twice (z ∷ zs) zero x y = refl
 set_twice (z ∷ zs) (suc i) x y = ap (λ (ws : List _). z ∷ ws) (set_twice zs i x y)
 
 -- what a CPU leaves that has queued the call of this post
-pub posts_then : (s s' : SeatValue) (w : Known) (old new : CpuValue) (k to func info : ℕ) (class : Class) (p : Posting) (first : Bool) → cpu_of s ≡ new
+pub posts_then : (s s' : SeatValue) (w : Known) (old new : CpuValue) (k to func info : ℕ) (class : Class) (p : Posting) (first : Bool) (lost : ℕ) → cpu_of s ≡ new
     → new ≡ confirms k old →
     p ≡ posting_of (record_of old.number k) class func info to → s'.table ≡ old.table → w ≡ standing (uncounted p) post.Count s.known
-    → s'.known ≡ queued_known (posted p) p.to first w →
-    cpu_of s' ≡ posts k to class func info first old
-posts_then s s' w old new k to func info class p first view confirmed posting table stands queued =
+    → s'.known ≡ queued_known (posted p) p.to first (lost_tries lost w) →
+    cpu_of s' ≡ posts k to class func info first (loses lost old)
+posts_then s s' w old new k to func info class p first lost view confirmed posting table stands queued =
     let id = record_of old.number k in
     let call : Posting = posting_of id class func info to in
     let seen : cpu_of s ≡ confirms k old = view ∙ confirmed in
-    let known : s'.known ≡ queued_known (posted p) p.to first s.known = queued ∙ ap (queued_known (posted p) p.to first) stands in
+    let known : s'.known ≡ queued_known (posted p) p.to first (lost_tries lost s.known) =
+    queued ∙ ap (λ (u : Known). queued_known (posted p) p.to first (lost_tries lost u)) stands in
     (λ i. cpu_of (record { table = table i; known = known i })) ∙
-    ((λ i. record { table = old.table; number = (seen i).number; part = part_queued (posted (posting i)) (posting i).to first (seen i).part }) ∙
-    (λ i. record old { part = record (part_queued (posted call) to first old.part) { confirmed = set_twice old.part.confirmed id true false i } }))
+    ((λ i. record {
+      table = old.table;
+      number = (seen i).number;
+      part = part_queued (posted (posting i)) (posting i).to first (seen i).part;
+      tried = ((seen i).tried + lost) + 1;
+      log = (seen i).log ++ logged.Queued (posting i).to ∷ [];
+    }) ∙
+    (λ i. record (posts k to class func info first (loses lost old)) {
+      part = record (part_queued (posted call) to first old.part) { confirmed = set_twice old.part.confirmed id true false i };
+    }))

@@ -29,4 +29,4 @@ queue-requires-clause-lawful g c =
 pub returns : goal.returns
 returns g c =
     queues_one g.H.Handler.leads c.many_record-k.result c.args.to c.args.job.class c.args.job.func c.args.job.info c.args.asked c.queue.result
-    c.if-not-asked.false c.many_record-k.ensures (search rules) c.requires.sized c.wait_for.ensures c.queue.ensures
+    c.queue.ensures.0 c.if-not-asked.false c.many_record-k.ensures (search rules) c.requires.sized c.wait_for.ensures c.queue.ensures.1

@@ -22,7 +22,8 @@ returns-clause-calls g c =
     (members c.targets-others.result) class c.args.func c.args.info None c.args.wait) c.class_for-class.ensures
     (subst (λ (to : List ℕ). CallsMany g.H.Handler.leads c.args.me.now c.args.handler.now c.wait_all.new.me c.wait_all.new.handler to c.class_for-class.result
     c.args.func c.args.info None c.args.wait) (all_called c.targets-others.result c.queue_all-called.result picks.among every)
-    (calls_waited_for g.H.Handler.leads c.class_for-class.result c.args.func c.args.info
+    (calls_waited_for g.H.Handler.leads c.args.me.now c.queue_all-called.new.me c.wait_all.new.me c.args.handler.now c.queue_all-called.new.handler
+    c.wait_all.new.handler c.class_for-class.result c.args.func c.args.info
     (members c.queue_all-called.result) None c.args.wait c.queue_all-called.ensures.calls c.wait_all.ensures))
 
 pub returns-clause-ended : goal.returns-clause-ended

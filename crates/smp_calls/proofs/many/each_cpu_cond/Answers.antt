@@ -36,8 +36,10 @@ returns-clause-calls g c =
     let out : has called this ≡ false =
     not_called c.args.mask c.online.result this c.targets-others.result called c.targets-others.ensures c.queue_all-called.ensures.picks.among in
     let direct : Option Heard = cond here (Some (heard this c.args.func c.args.info)) None in
-    let made = calls_waited_for g.H.Handler.leads c.class_for-class.result c.args.func c.args.info (members called) direct c.args.wait
-    (calls_then_here g.H.Handler.leads c.class_for-class.result c.args.func c.args.info
+    let made = calls_waited_for g.H.Handler.leads c.args.me.now c.queue_all-called.new.me c.wait_all.new.me c.args.handler.now c.call_if.new.handler
+    c.wait_all.new.handler c.class_for-class.result c.args.func c.args.info (members called) direct c.args.wait
+    (calls_then_here g.H.Handler.leads c.args.me.now c.queue_all-called.new.me c.args.handler.now c.queue_all-called.new.handler c.call_if.new.handler
+    c.class_for-class.result c.args.func c.args.info
     (members called) direct c.queue_all-called.ensures.calls c.call_if.ensures) c.wait_all.ensures in
     let Made =
     λ (to : List ℕ) (class : Class) (heard : Option Heard). CallsMany g.H.Handler.leads c.args.me.now c.args.handler.now c.wait_all.new.me
@@ -61,8 +63,10 @@ returns-clause-ended g c waited =
     let Made = λ (class : Class) (wait : Bool). CallsMany g.H.Handler.leads c.args.me.now c.args.handler.now c.wait_all.new.me c.wait_all.new.handler
     (members called) class c.args.func c.args.info direct wait in
     let made : Made c.class_for-class.result c.args.wait =
-    calls_waited_for g.H.Handler.leads c.class_for-class.result c.args.func c.args.info (members called) direct c.args.wait
-    (calls_then_here g.H.Handler.leads c.class_for-class.result c.args.func c.args.info
+    calls_waited_for g.H.Handler.leads c.args.me.now c.queue_all-called.new.me c.wait_all.new.me c.args.handler.now c.call_if.new.handler
+    c.wait_all.new.handler c.class_for-class.result c.args.func c.args.info (members called) direct c.args.wait
+    (calls_then_here g.H.Handler.leads c.args.me.now c.queue_all-called.new.me c.args.handler.now c.queue_all-called.new.handler c.call_if.new.handler
+    c.class_for-class.result c.args.func c.args.info
     (members called) direct c.queue_all-called.ensures.calls c.call_if.ensures) c.wait_all.ensures in
     let ended = many_ended g.H.Handler.leads c.args.me.now c.args.handler.now c.wait_all.new.me c.wait_all.new.handler called c.args.func c.args.info direct
     (subst (λ (b : Bool). Made (class_for b) b) waited (subst (λ (class : Class). Made class c.args.wait) c.class_for-class.ensures made)) c.is_shown.ensures in

@@ -1,26 +1,18 @@
-use Rattle.std.proofs.Common.{◌<◌, ◌==◌, ◌||◌, ℕ, true, false, rules, subst, ap, ◌∙◌}
+use Rattle.std.proofs.Common.{◌<◌, ℕ, true, false, rules, subst, ap, ◌∙◌}
 use Rattle.smp_words.specs.Size.{records_of_one}
 use Rattle.smp_words.specs.declared.call.Class.TheVariants.{Async}
-use Rattle.smp_queue.specs.Cpu.{CpuValue, confirmed_at}
+use Rattle.smp_queue.specs.Cpu.{CpuValue, confirmed_at, confirms}
 use Rattle.smp_queue.specs.Handling.{heard}
 use Rattle.smp_calls.specs.Families.{IsSized, CallsBy}
-use Rattle.smp_calls.proofs.Steps.{set_here, leaves_then, leaves_here, leaves_confirmed, leaves_as}
+use Rattle.smp_calls.proofs.Steps.{set_here, leaves_confirmed}
 use Rattle.smp_calls.proofs.One.{calls_by}
 use Rattle.smp_calls.proofs.single_async.call_async.Goals as goal
 
 pub returns-then-dst-this-clause-here : goal.returns-then-dst-this-clause-here
-returns-then-dst-this-clause-here g c e =
-    let sized : IsSized c.args.me.now = record { number = c.number-this.ensures.sized.0; records_are = c.number-this.ensures.sized.1 } in
-    let small : c.user_record-k.result < records_of_one = search rules in
-    let done =
-    leaves_confirmed g.H.Handler.leads c.args.me.now c.is_done.new.me c.args.handler.now c.user_record-k.result sized small c.if-not-is_done.ensures.known
-    in
-    let call : g.H.Handler.leads c.args.handler.now (heard c.args.me.now.number c.args.func c.args.info) c.call.new.self =
-    subst (λ (n : ℕ). g.H.Handler.leads c.args.handler.now (heard n c.args.func c.args.info) c.call.new.self) c.number-this.ensures.number c.call.ensures in
-    leaves_as g.H.Handler.leads _ _
-    (leaves_then g.H.Handler.leads done
-    (leaves_here g.H.Handler.leads c.is_done.new.me c.args.handler.now c.call.new.self (heard c.args.me.now.number c.args.func c.args.info) call))
-    done.owes_are (λ j b. done.confirmed_are j b ∙ ap (λ k. j == k || confirmed_at c.args.me.now j) c.user_record-k.ensures)
+returns-then-dst-this-clause-here g c e = (
+  c.if-not-is_done.ensures.known ∙ ap (λ k. confirms k c.args.me.now) c.user_record-k.ensures,
+  subst (λ (n : ℕ). g.H.Handler.leads c.args.handler.now (heard n c.args.func c.args.info) c.call.new.self) c.number-this.ensures.number c.call.ensures,
+)
 
 pub queue_and_send-requires-clause-free : goal.queue_and_send-requires-clause-free
 queue_and_send-requires-clause-free g c =

@@ -1,4 +1,4 @@
-use Rattle.std.proofs.Common.{subst, None, []}
+use Rattle.std.proofs.Common.{subst, []}
 use Rattle.smp_call_steps.proofs.Machine.Starts.{record_below}
 use Rattle.smp_queue.specs.Cpu.{CpuValue, confirmed_at}
 use Rattle.smp_calls.specs.Families.{Leaves, owes_at}
@@ -13,7 +13,7 @@ pub loop-preserved : goal.loop-preserved
 loop-preserved g c =
     let before = c.loop.invariant in
     let handled =
-    subst (λ (x : CpuValue). Leaves g.H.Handler.leads x c.loop.handler c.handle_own.new.me c.handle_own.new.handler [] None (owes_at x) (confirmed_at x))
+    subst (λ (x : CpuValue). Leaves g.H.Handler.leads x c.loop.handler c.handle_own.new.me c.handle_own.new.handler [] [] (owes_at x) (confirmed_at x))
     c.if-is_done.ensures.known c.handle_own.ensures in
     leaves_as g.H.Handler.leads (owes_at c.args.me.now) (confirmed_at c.args.me.now)
     (leaves_then g.H.Handler.leads before handled) before.owes_are before.confirmed_are

@@ -1,6 +1,6 @@
 use Rattle.std.proofs.Common.{◌==◌, ◌+◌, sym, refl, ap, ◌∙◌, eq-eqb, ne_eqb}
 use Rattle.smp_call_steps.specs.Stands.{posted}
-use Rattle.smp_call_steps.specs.Known.{queued_known}
+use Rattle.smp_call_steps.specs.Known.{queued_known, lost_tries}
 use Rattle.smp_call_steps.proofs.Knows.Posted.{stands_as, next_known, won_known, lost_known}
 use Rattle.smp_queue.specs.Seat.{counted}
 use Rattle.smp_queue.proofs.Posts.Ready.{ready_post, mine_moved}
@@ -37,4 +37,4 @@ returns-clause-lost c ne =
     (stands_as v (counted p) post.LoadHead c.requires.stage) in
     lost_known v c.exchange.new.seat.known c.store.new.seat.known p.to c.args.link (p.id + 1) c.exchange.result (counted p) (c.exchange.result == c.args.link)
     (ne_eqb c.exchange.result c.args.link ne) c.exchange.ensures.known known
-    ∙ sym (stands_as v (counted p) post.LoadHead c.requires.stage)
+    ∙ ap (lost_tries 1) (sym (stands_as v (counted p) post.LoadHead c.requires.stage))

@@ -19,8 +19,8 @@ invariant_of-me g c =
     subst (λ (n : ℕ). IsKept c.append_until_won-first.new.seat.known c.me.inside.number
     (set c.me.inside.queued n ((get_or c.me.inside.queued n 0 + 1) % 2 ^ 64)) c.me.inside.ran) (ap (λ (p : Posting). p.to) e.3)
     (kept_posted c.me.inside.seat.known c.write_record.new.seat.known c.append_until_won-first.new.seat.known c.me.inside.number c.me.inside.queued
-    c.me.inside.ran c.in_ok-posting.posting c.append_until_won-first.result c.me.invariant
-    may.to_in_range c.write_record.ensures.known c.append_until_won-first.ensures.sent)
+    c.me.inside.ran c.in_ok-posting.posting c.append_until_won-first.result c.append_until_won-first.ensures.sent.0 c.me.invariant
+    may.to_in_range c.write_record.ensures.known c.append_until_won-first.ensures.sent.1)
 
 pub returns-clause-answers : goal.returns-clause-answers
 returns-clause-answers g c =
@@ -28,9 +28,10 @@ returns-clause-answers g c =
     let table = c.append_until_won-first.ensures.table ∙ (ap (λ t. t.table) c.self.view_is ∙ sym c.requires) in (
       e.0,
       e.1,
+      c.append_until_won-first.ensures.sent.0,
       posts_then c.me.inside.seat c.append_until_won-first.new.seat c.write_record.new.seat.known c.args.me.now c.begin_post.new.me c.args.k c.args.to
-          c.args.func c.args.info c.args.class c.in_ok-posting.posting c.append_until_won-first.result
-          c.me.view_is e.2 e.3 table c.write_record.ensures.known c.append_until_won-first.ensures.sent,
+          c.args.func c.args.info c.args.class c.in_ok-posting.posting c.append_until_won-first.result c.append_until_won-first.ensures.sent.0
+          c.me.view_is e.2 e.3 table c.write_record.ensures.known c.append_until_won-first.ensures.sent.1,
     )
 
 pub returns-clause-marked : goal.returns-clause-marked
