@@ -43,6 +43,7 @@ module _ {H : Type 0} (leads : H → Heard → H → Type 0) where
   pub leaves_none : (c : CpuValue) (h : H) → Leaves leads c h c h [] None (owes_at c) (confirmed_at c)
   leaves_none c h = record {
     table_is = refl;
+    setting_is = refl;
     number_is = refl;
     sized = refl;
     owes_sized = refl;
@@ -58,6 +59,7 @@ module _ {H : Type 0} (leads : H → Heard → H → Type 0) where
       → Leaves leads old before new after sent here p e
   leaves_as p e l same alike = record {
     table_is = l.table_is;
+    setting_is = l.setting_is;
     number_is = l.number_is;
     sized = l.sized;
     owes_sized = l.owes_sized;
@@ -71,6 +73,7 @@ module _ {H : Type 0} (leads : H → Heard → H → Type 0) where
       → Leaves leads old before mid m s None o d → Leaves leads mid m new after t here p e → Leaves leads old before new after (s ++ t) here p e
   leaves_then {old} {mid} {new} {before} {m} {after} {s} {t} {here} f l = record {
     table_is = l.table_is ∙ f.table_is;
+    setting_is = l.setting_is ∙ f.setting_is;
     number_is = l.number_is ∙ f.number_is;
     sized = l.sized ∙ f.sized;
     owes_sized = l.owes_sized ∙ f.owes_sized;
@@ -84,6 +87,7 @@ module _ {H : Type 0} (leads : H → Heard → H → Type 0) where
       → Leaves leads old before mid m s here o d → Leaves leads mid m new after t None p e → Leaves leads old before new after (s ++ t) here p e
   leaves_later {old} {mid} {new} {before} {m} {after} {s} {t} {here} f l = record {
     table_is = l.table_is ∙ f.table_is;
+    setting_is = l.setting_is ∙ f.setting_is;
     number_is = l.number_is ∙ f.number_is;
     sized = l.sized ∙ f.sized;
     owes_sized = l.owes_sized ∙ f.owes_sized;
@@ -103,6 +107,7 @@ module _ {H : Type 0} (leads : H → Heard → H → Type 0) where
       subst (λ (x : CpuValue). Leaves leads c h x i [] None (owes_at c) (confirmed_at c)) (sym t.1)
       (record {
         table_is = refl;
+        setting_is = refl;
         number_is = refl;
         sized = refl;
         owes_sized = refl;
@@ -117,6 +122,7 @@ module _ {H : Type 0} (leads : H → Heard → H → Type 0) where
       (subst (λ (y : H). Leaves leads c h (asks false c) y [] None (owes_at c) (confirmed_at c)) (sym n.1)
       (record {
         table_is = refl;
+        setting_is = refl;
         number_is = refl;
         sized = refl;
         owes_sized = refl;
@@ -131,6 +137,7 @@ module _ {H : Type 0} (leads : H → Heard → H → Type 0) where
       → Leaves leads c h d h [] None (owes_at c) (λ j. j == k || confirmed_at c j)
   leaves_confirmed c d h k s l e = subst (λ (x : CpuValue). Leaves leads c h x h [] None (owes_at c) (λ j. j == k || confirmed_at c j)) (sym e) (record {
     table_is = refl;
+    setting_is = refl;
     number_is = refl;
     sized = length-set c.part.confirmed (record_of c.number k) true;
     owes_sized = refl;
@@ -152,6 +159,7 @@ module _ {H : Type 0} (leads : H → Heard → H → Type 0) where
   pub leaves_here : (c : CpuValue) (h i : H) (x : Heard) → leads h x i → Leaves leads c h c i [] (Some x) (owes_at c) (confirmed_at c)
   leaves_here c h i x call = record {
     table_is = refl;
+    setting_is = refl;
     number_is = refl;
     sized = refl;
     owes_sized = refl;

@@ -9,6 +9,7 @@ pub use Rattle.smp_words.specs.declared.access.Access.TheVariants.{Load, Store, 
 pub use Rattle.smp_words.specs.declared.seen.Act.TheVariants as act
 pub use Rattle.smp_call_steps.specs.declared.known.Known.{Known}
 pub use Rattle.smp_call_steps.specs.declared.known.Part.{Part}
+pub use Rattle.smp_call_steps.specs.declared.known.Setting.{Setting}
 pub use Rattle.smp_call_steps.specs.declared.known.Running.TheVariants.{Nothing}
 pub use Rattle.smp_call_steps.specs.declared.post.Posting.{Posting}
 pub use Rattle.smp_call_steps.specs.declared.post.PostStage.{PostStage}

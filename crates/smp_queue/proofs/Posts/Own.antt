@@ -99,5 +99,5 @@ posts_then s s' w old new k to func info class p first view confirmed posting ta
     let seen : cpu_of s ≡ confirms k old = view ∙ confirmed in
     let known : s'.known ≡ queued_known (posted p) p.to first s.known = queued ∙ ap (queued_known (posted p) p.to first) stands in
     (λ i. cpu_of (record { table = table i; known = known i })) ∙
-    ((λ i. record { table = old.table; number = (seen i).number; part = part_queued (posted (posting i)) (posting i).to first (seen i).part }) ∙
+    ((λ i. record { table = old.table; setting = (seen i).setting; number = (seen i).number; part = part_queued (posted (posting i)) (posting i).to first (seen i).part }) ∙
     (λ i. record old { part = record (part_queued (posted call) to first old.part) { confirmed = set_twice old.part.confirmed id true false i } }))
