@@ -2,7 +2,7 @@
 
 use crate::error::BenchError;
 use crate::meter::{Measured, Meter};
-use crate::seat::{Room, Seat, calls_run, last_of};
+use crate::seat::{Room, Seat, calls_run};
 use smp_queue::CallTable;
 use std::alloc::Global;
 use std::time::Clock;
@@ -72,7 +72,7 @@ pub fn run<R: Clock + Eprint>(
     mut meter: Meter<R>,
 ) -> Result<(Measured, u64), BenchError> {
     let (table, mut boot) = CallTable::new(alloc, 6, "0-5".parse()?)?;
-    let last = last_of(&table, &mut boot, 5)?;
+    let last = boot.cpu(5)?;
     measure(
         &mut Room::new(&table, boot),
         alloc,

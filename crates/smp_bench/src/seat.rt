@@ -1,9 +1,6 @@
 //! One CPU of a workload, and what a table says at its end.
 
-ghost use Rattle.std.specs.Option.{ForSome};
-ghost use Rattle.std.specs.Prelude.{ℕ, ◌≡◌, true, IfOk, IfSome};
-ghost use Rattle.smp_mask.specs.Mask.{has};
-ghost use Rattle.smp_queue.specs.Cpu.{left_at};
+ghost use Rattle.std.specs.Prelude.{◌≡◌};
 
 use crate::error::BenchError;
 use smp_calls::{call_many, call_single};
@@ -79,19 +76,19 @@ impl<'a> Seat<'a> {
 pub struct Room<'a> {
     table: &'a CallTable<Global>,
     boot: Boot<Global>,
-    ghost whole: { (cpu : ℕ) → has boot.online cpu ≡ true → ForSome (left_at boot cpu) (λ c. c.table ≡ table.now.table) },
+    ghost own: { boot.table.table ≡ table.now.table },
 }
 
 impl<'a> Room<'a> {
     pub fn new(table: &'a CallTable<Global>, boot: Boot<Global>) -> Room<'a>
-        requires { (cpu : ℕ) → has boot.online cpu ≡ true → IfSome (left_at boot cpu) (λ c. c.table ≡ table.now.table) }
+        requires { boot.table.table ≡ table.now.table }
     {
         Room { table, boot }
     }
 
     /// The seat of this CPU. E1 where it is not online, E2 where it has one.
     pub fn seat(&mut self, number: u32) -> Result<Seat<'a>, BenchError> {
-        let cpu = last_of(self.table, &mut self.boot, number)?;
+        let cpu = self.boot.cpu(number)?;
         let counter = Counter { calls: 0 };
         Ok(Seat {
             table: self.table,
@@ -99,19 +96,6 @@ impl<'a> Room<'a> {
             counter,
         })
     }
-}
-
-/// A CPU that keeps the table's last value. All CPUs that are left sit at that table.
-pub fn last_of(
-    table: &CallTable<Global>,
-    boot: &mut Boot<Global>,
-    number: u32,
-) -> Result<CallCpu, BenchError>
-    requires { (cpu : ℕ) → has boot.old.online cpu ≡ true → IfSome (left_at boot.old cpu) (λ c. c.table ≡ table.now.table) }
-    ensures last { IfOk result (λ c. c.table ≡ table.now.table) }
-    ensures left { (cpu : ℕ) → has boot.new.online cpu ≡ true → IfSome (left_at boot.new cpu) (λ c. c.table ≡ table.now.table) }
-{
-    Ok(boot.cpu(number)?)
 }
 
 /// All calls that have run, modulo 2^64.

@@ -4,7 +4,7 @@ ghost use Rattle.smp_bench.specs.Threads.{IsLawful};
 
 use crate::error::BenchError;
 use crate::meter::{Measured, Meter};
-use crate::seat::{Room, Seat, calls_run, last_of};
+use crate::seat::{Room, Seat, calls_run};
 use crate::workload::Workload;
 use crossbeam_utils::{Backoff, CachePadded};
 use smp_mask::CpuMask;
@@ -238,7 +238,7 @@ pub fn run<R: Wait + Threads + Clock + Eprint + Sync>(
 {
     // One CPU more keeps the table's last value.
     let (table, mut boot) = CallTable::new(alloc, 8, "0-7".parse()?)?;
-    let last = last_of(&table, &mut boot, 7)?;
+    let last = boot.cpu(7)?;
     measure(
         &mut Room::new(&table, boot),
         rt,

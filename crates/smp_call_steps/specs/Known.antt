@@ -19,6 +19,7 @@ use Rattle.smp_call_steps.specs.Names.post
 use Rattle.smp_call_steps.specs.Names.handle
 use Rattle.smp_call_steps.specs.Names.logged
 use Rattle.smp_call_steps.specs.declared.known.Known.{Known}
+use Rattle.smp_call_steps.specs.declared.known.Setting.{Setting}
 
 -- what the steps so far have told of a post: the rest is put as zero
 abbrev pub told_so : Posting → ℕ → ℕ → ℕ → Posting
@@ -55,8 +56,8 @@ pub record Sees (a : CallState) (control : ℕ → ControlValue) (v : Known) : T
   pub part : part_of a v.number ≡ v.part
 
 -- a CPU that has done nothing yet
-abbrev pub fresh : ℕ → Known
-fresh me = record { number = me; stage = None; drain = no_drain; part = part_of no_calls me; tried = 0; log = [] }
+abbrev pub fresh : Setting → ℕ → Known
+fresh k me = record { setting = k; number = me; stage = None; drain = no_drain; part = part_of no_calls me; tried = 0; log = [] }
 
 -- what follows a step of a post, as the step tells it
 

@@ -3,8 +3,16 @@
 
 use crate::drain::Drain;
 use crate::stage::Stage;
+use smp_mask::CpuMask;
 use smp_words::call::Call;
 use std::collections::LinkedList;
+
+/// What a table is made with: how many CPUs it has, and those online.
+#[derive(Clone, Copy)]
+pub struct Setting {
+    pub nr: u32,
+    pub online: CpuMask,
+}
 
 /// A call that was queued, where it went, and whether the queue was empty.
 pub struct Sending {
@@ -53,9 +61,10 @@ pub struct Part {
     pub confirmed: LinkedList<bool>,
 }
 
-/// What a CPU knows: where it stands, as far as its steps have told, its own part of the calls, and what it has done to
-/// other CPUs.
+/// What a CPU knows: what its table is made with, where it stands, as far as its steps have told, its own part of the
+/// calls, and what it has done to other CPUs.
 pub struct Known {
+    pub setting: Setting,
     pub number: u32,
     pub stage: Option<Stage>,
     pub drain: Drain,

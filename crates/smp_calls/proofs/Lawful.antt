@@ -1,5 +1,5 @@
 -- The record for calls to a CPU that there is: its source has it, and it may carry such a call.
-use Rattle.std.proofs.Common.{◌≡◌, ℕ, ◌+◌, ◌-◌, ◌<◌, ◌≤◌, true, false, inl, inr, refl, arith}
+use Rattle.std.proofs.Common.{◌≡◌, ℕ, ◌+◌, ◌-◌, ◌<◌, ◌≤◌, ◌⊎◌, true, false, inl, inr, refl, arith}
 use Rattle.std.proofs.lemmas.Bool.{cases_lt, lt-ltb, le-ltb, ne_eqb, eq-eqb}
 use Rattle.smp_mask.specs.Mask.{has}
 use Rattle.smp_words.specs.Size.{cpus, records_of_one}
@@ -8,7 +8,7 @@ use Rattle.smp_words.specs.Limits.{AreLimits}
 use Rattle.smp_words.specs.declared.size.TheConstants.{FIRST_TARGETS, FIRST_OF_ONE, USER}
 use Rattle.smp_words.specs.declared.call.Class.{Class}
 use Rattle.smp_queue.specs.Cpu.{CpuValue, misused}
-use Rattle.smp_calls.specs.Records.{many_record}
+use Rattle.smp_calls.specs.Records.{many_record, user_record, AreApart}
 
 -- a source has it
 pub has_many : (nr to : ℕ) → nr ≤ cpus → to < nr → has_record nr (many_record to) ≡ true
@@ -65,3 +65,31 @@ has_online nr online to limits e = has_many nr to limits.within (limits.below to
 pub lawful_online : (nr online : ℕ) (c : CpuValue) (to : ℕ) (class : Class) → AreLimits nr online → has online to ≡ true → (to ≡ c.number → ⊥)
     → misused nr c (many_record to) to class 1 ≡ false
 lawful_online nr online c to class limits e other = lawful_many nr c to class limits.within (limits.below to e) other
+
+-- the records for calls to many are no others', and one for each destination
+many_is : (to : ℕ) → ((to < 8) × (many_record to ≡ to + 2)) ⊎ ((8 ≤ to) × (many_record to ≡ to + 4))
+many_is to = elim (cases_lt to 8) [ inl low ↦ inl (low, rw (lt-ltb to 8 low) refl) | inr high ↦ inr (high, rw (le-ltb to 8 high) refl) ]
+
+same_many : (to other : ℕ) → many_record to ≡ many_record other → to ≡ other
+same_many to other e = elim (many_is to) [
+  | inl a ↦ elim (many_is other) [
+    | inl b ↦ (let m = a.1 in let n = b.1 in omega arith)
+    | inr b ↦ (let m = a.1 in let n = b.1 in let low = a.0 in let high = b.0 in omega arith)
+  ]
+  | inr a ↦ elim (many_is other) [
+    | inl b ↦ (let m = a.1 in let n = b.1 in let high = a.0 in let low = b.0 in omega arith)
+    | inr b ↦ (let m = a.1 in let n = b.1 in omega arith)
+  ]
+]
+
+above_one : (to : ℕ) → 1 < many_record to
+above_one to = elim (many_is to) [ inl a ↦ (let m = a.1 in omega arith) | inr a ↦ (let m = a.1 in omega arith) ]
+
+no_users : (to u : ℕ) → u < 2 → many_record to ≡ user_record u → ⊥
+no_users to u few e = elim (many_is to) [
+  | inl a ↦ (let m = a.1 in let low = a.0 in omega arith)
+  | inr a ↦ (let m = a.1 in let high = a.0 in omega arith)
+]
+
+pub are_apart : AreApart
+are_apart = record { above = above_one; within = small_many; many = same_many; users = no_users }

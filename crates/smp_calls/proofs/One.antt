@@ -90,6 +90,7 @@ module _ {H : Type 0} (leads : H → Heard → H → Type 0) where
       (λ x. owes_at c x && not (is_first_to x (one_queued to first))) (λ j. cond (j == k) false (confirmed_at c j))
   leaves_sent true lost c h k to class func info s l = record {
     table_is = refl;
+    setting_is = refl;
     number_is = refl;
     sized = length-set c.part.confirmed (record_of c.number k) false;
     owes_sized = length-set (set c.part.owes to true) to false ∙ length-set c.part.owes to true;
@@ -102,6 +103,7 @@ module _ {H : Type 0} (leads : H → Heard → H → Type 0) where
   }
   leaves_sent false lost c h k to class func info s l = record {
     table_is = refl;
+    setting_is = refl;
     number_is = refl;
     sized = length-set c.part.confirmed (record_of c.number k) false;
     owes_sized = refl;

@@ -128,6 +128,7 @@ module _ {H : Type 0} (leads : H → Heard → H → Type 0) where
       let tries : d.tried ≡ c.tried = ap (λ (x : CpuValue). x.tried) field in
       record {
         table_is = ap (λ (x : CpuValue). x.table) field;
+        setting_is = ap (λ (x : CpuValue). x.setting) field;
         number_is = ap (λ (x : CpuValue). x.number) field;
         sized = ap (λ (x : CpuValue). length x.part.confirmed) field;
         owes_sized = s.owes_sized;

@@ -107,6 +107,7 @@ module _ {H : Type 0} (leads : H → Heard → H → Type 0) where
   queues_post c h to class func info first lost s l = record {
     leaves = record {
       table_is = refl;
+      setting_is = refl;
       number_is = refl;
       sized = length-set c.part.confirmed (record_of c.number (many_record to)) false;
       owes_sized = owes_length first c.part.owes to;

@@ -44,6 +44,7 @@ module _ {H : Type 0} (leads : H → Heard → H → Type 0) where
   pub leaves_none : (c : CpuValue) (h : H) → Leaves leads c h c h [] [] (owes_at c) (confirmed_at c)
   leaves_none c h = record {
     table_is = refl;
+    setting_is = refl;
     number_is = refl;
     sized = refl;
     owes_sized = refl;
@@ -61,6 +62,7 @@ module _ {H : Type 0} (leads : H → Heard → H → Type 0) where
       → Leaves leads old before new after sent log p e
   leaves_as p e l same alike = record {
     table_is = l.table_is;
+    setting_is = l.setting_is;
     number_is = l.number_is;
     sized = l.sized;
     owes_sized = l.owes_sized;
@@ -76,6 +78,7 @@ module _ {H : Type 0} (leads : H → Heard → H → Type 0) where
       → Leaves leads old before mid m s x o d → Leaves leads mid m new after t y p e → Leaves leads old before new after (s ++ t) (x ++ y) p e
   leaves_then {old} {mid} {new} {before} {m} {after} {s} {t} {x} {y} f l = record {
     table_is = l.table_is ∙ f.table_is;
+    setting_is = l.setting_is ∙ f.setting_is;
     number_is = l.number_is ∙ f.number_is;
     sized = l.sized ∙ f.sized;
     owes_sized = l.owes_sized ∙ f.owes_sized;
@@ -104,6 +107,7 @@ module _ {H : Type 0} (leads : H → Heard → H → Type 0) where
       subst (λ (x : CpuValue). Leaves leads c h x i [] [] (owes_at c) (confirmed_at c)) (sym t.1)
       (record {
         table_is = refl;
+        setting_is = refl;
         number_is = refl;
         sized = refl;
         owes_sized = refl;
@@ -120,6 +124,7 @@ module _ {H : Type 0} (leads : H → Heard → H → Type 0) where
       (subst (λ (y : H). Leaves leads c h (asks false c) y [] [] (owes_at c) (confirmed_at c)) (sym n.1)
       (record {
         table_is = refl;
+        setting_is = refl;
         number_is = refl;
         sized = refl;
         owes_sized = refl;
@@ -136,6 +141,7 @@ module _ {H : Type 0} (leads : H → Heard → H → Type 0) where
       → Leaves leads c h d h [] [] (owes_at c) (λ j. j == k || confirmed_at c j)
   leaves_confirmed c d h k s l e = subst (λ (x : CpuValue). Leaves leads c h x h [] [] (owes_at c) (λ j. j == k || confirmed_at c j)) (sym e) (record {
     table_is = refl;
+    setting_is = refl;
     number_is = refl;
     sized = length-set c.part.confirmed (record_of c.number k) true;
     owes_sized = refl;

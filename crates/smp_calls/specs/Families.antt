@@ -12,7 +12,6 @@ use Rattle.smp_words.specs.declared.call.Class.{Class}
 use Rattle.smp_queue.specs.Cpu.{CpuValue, confirmed_at, confirms}
 use Rattle.smp_queue.specs.Handling.{heard}
 use Rattle.smp_queue.specs.declared.handler.Heard.{Heard}
-use Rattle.smp_calls.specs.declared.records.TheConstants.{ASYNC_RECORD, USER_RECORDS}
 use Rattle.smp_calls.specs.Handles.{Handles}
 use Rattle.smp_calls.specs.Queued.{Queued, destinations, sendings, calls_and_interrupts, is_first_to, is_used}
 use Rattle.smp_calls.specs.Records.{call_by, class_for, single_record, user_record, many_call}
@@ -31,6 +30,7 @@ owes_at c other = slice_index_or c.part.owes other false
 pub record Leaves {H : Type 0} (leads : H → Heard → H → Type 0) (old : CpuValue) (before : H) (new : CpuValue) (after : H) (sent : List Sending)
     (log : List Logged) (owes confirmed : ℕ → Bool) : Type 0 where
   pub table_is : new.table ≡ old.table
+  pub setting_is : new.setting ≡ old.setting
   pub number_is : new.number ≡ old.number
   pub sized : length new.part.confirmed ≡ length old.part.confirmed
   pub owes_sized : length new.part.owes ≡ length old.part.owes
@@ -78,8 +78,7 @@ CallsOne leads old before new after dst func info wait = CallsBy leads old befor
 
 -- a call to one CPU that queues none and sends no interrupt: without wait it has waited for the async record
 abbrev pub QueuesNone : {H : Type 0} → (H → Heard → H → Type 0) → CpuValue → H → CpuValue → H → Bool → Type 0
-QueuesNone leads old before new after wait =
-    Leaves leads old before new after [] [] (owes_at old) (λ k. (not wait && k == ASYNC_RECORD) || confirmed_at old k)
+QueuesNone leads old before new after wait = Leaves leads old before new after [] [] (owes_at old) (λ k. (not wait && k == 1) || confirmed_at old k)
 
 -- the same, and then its function on the CPU itself: that is all that it does after it has waited
 abbrev pub CallsHere : {H : Type 0} → (H → Heard → H → Type 0) → CpuValue → H → CpuValue → H → ℕ → ℕ → Bool → Type 0
@@ -91,11 +90,17 @@ abbrev pub CallsUserHere : {H : Type 0} → (H → Heard → H → Type 0) → C
 CallsUserHere leads old before new after u func info =
     (new ≡ confirms (user_record u) old) × leads before (heard old.number func info) after
 
+-- a CPU has handled nothing
+pub record HandlesNone (old new : CpuValue) : Type 0 where
+  pub asked_is : new.part.asked ≡ old.part.asked
+  pub taken_is : new.part.taken ≡ old.part.taken
+  pub ran_is : new.part.ran ≡ old.part.ran
+
 -- why a call by a record of the user is refused, and what that leaves. E4 comes first, then E2, then E1
 abbrev pub RefusesUser : ℕ → CpuValue → CpuValue → ℕ → ℕ → SmpError → Type 0
-RefusesUser online old new u dst error.BadArgument = (USER_RECORDS ≤ u) × (new ≡ old)
-RefusesUser online old new u dst error.Busy = (u < USER_RECORDS) × (confirmed_at old (user_record u) ≢ true) × (new ≡ old)
-RefusesUser online old new u dst error.NoCpu = (u < USER_RECORDS) × (dst ≢ old.number) × (has online dst ≡ false) × (new ≡ confirms (user_record u) old)
+RefusesUser online old new u dst error.BadArgument = (2 ≤ u) × (new ≡ old)
+RefusesUser online old new u dst error.Busy = (u < 2) × (confirmed_at old (user_record u) ≢ true) × (new ≡ old)
+RefusesUser online old new u dst error.NoCpu = (u < 2) × (dst ≢ old.number) × (has online dst ≡ false) × (new ≡ confirms (user_record u) old)
 RefusesUser online old new u dst _ = ⊥
 
 -- calls to these CPUs, ascending, each by its record for calls to many, and a direct call, if any; the records are confirmed exactly where

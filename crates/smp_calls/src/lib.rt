@@ -14,6 +14,7 @@
 
 mod any;
 mod each;
+pub mod laws;
 mod many;
 mod queue;
 mod records;
@@ -24,7 +25,7 @@ mod wait;
 
 pub use any::call_any;
 pub use many::{call_many, each_cpu_cond};
-pub use records::{ASYNC_RECORD, SYNC_RECORD, USER_RECORDS};
+pub use records::{ASYNC_RECORD, SYNC_RECORD, USER_RECORDS, many_record, user_record};
 pub use single::call_single;
 pub use single_async::call_async;
 pub use target::targets;

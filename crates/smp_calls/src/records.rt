@@ -18,17 +18,18 @@ pub const ASYNC_RECORD: u32 = 1;
 /// How many records the user has.
 pub const USER_RECORDS: u32 = 2;
 
-/// The record for calls to many with this destination (`cfd_data`).
-pub(crate) fn many_record(to: u32) -> u32
+/// The record for calls to many with this destination (`cfd_data`), by which [`crate::call_many`] without wait calls it:
+/// 2 more than its number, from CPU 8 on 4 more. `CallTable::is_done` says whether its last call has begun or run.
+pub fn many_record(to: u32) -> u32
     requires { to < cpus }
     ensures { result ≡ many_record_in to }
 {
     if to < FIRST_TARGETS { to + 2 } else { to + 4 }
 }
 
-/// The record of the user with this number.
-pub(crate) fn user_record(u: u32) -> u32
-    requires { u < USER_RECORDS }
+/// The record of the user with this number, 0 or 1, by which [`crate::call_async`] calls: 10 and 11.
+pub fn user_record(u: u32) -> u32
+    requires { u < 2 }
     ensures { result ≡ user_record_in u }
 {
     USER + u

@@ -2,8 +2,9 @@
 
 ghost use Rattle.std.specs.Prelude.{◌≡◌, ◌≢◌, ◌<◌, true, false, IfOk, IfErr};
 ghost use Rattle.smp_mask.specs.Mask.{has};
+ghost use Rattle.smp_queue.specs.Handling.{heard};
 ghost use Rattle.smp_calls.specs.Records.{user_record as user_record_in};
-ghost use Rattle.smp_calls.specs.Families.{CallsBy, CallsUserHere, RefusesUser};
+ghost use Rattle.smp_calls.specs.Families.{CallsBy, CallsUserHere, RefusesUser, HandlesNone};
 
 use crate::queue::{Job, queue_and_send};
 use crate::records::{USER_RECORDS, user_record};
@@ -17,8 +18,8 @@ use std::sync::Wait;
 /// Calls a function on one CPU by the user's record `u`, 0 or 1, and does not wait for it
 /// (`kernel/smp.c: smp_call_function_single_async`). On this CPU it runs at once, and nothing is queued.
 ///
-/// A call to another CPU is queued at the compare-exchange that wins in its post. It waits for no call, but its post
-/// may wait while others change the same head, and `dst` must poll for the call to run.
+/// A call to another CPU is queued at the compare-exchange that wins in its post. It waits for no call, so it handles
+/// nothing, but its post may wait while others change the same head, and `dst` must poll for the call to run.
 ///
 /// E4 where there is no such record; then E2 where the record's last call is not done; then E1 where `dst` is
 /// another CPU that is not online.
@@ -33,10 +34,13 @@ pub fn call_async<A: Allocator, R: Wait, H: Handler>(
     info: u64,
 ) -> Result<(), SmpError>
     requires { me.old.table ≡ table.now.table }
-    ensures record { IfOk result (λ _. u < USER_RECORDS) }
+    ensures record { IfOk result (λ _. u < 2) }
     ensures queued { IfOk result (λ _. dst ≢ me.old.number → (has table.now.online dst ≡ true)
         × CallsBy H.leads me.old handler.old me.new handler.new (user_record_in u) Class.Async dst func info false) }
     ensures here { IfOk result (λ _. dst ≡ me.old.number → CallsUserHere H.leads me.old handler.old me.new handler.new u func info) }
+    ensures still { HandlesNone me.old me.new }
+    ensures untouched { IfOk result (λ _. dst ≢ me.old.number → handler.new ≡ handler.old) }
+    ensures called { IfOk result (λ _. dst ≡ me.old.number → H.leads handler.old (heard me.old.number func info) handler.new) }
     ensures refused { IfErr result (λ e. RefusesUser table.now.online me.old me.new u dst e × (handler.new ≡ handler.old)) }
 {
     if u >= USER_RECORDS {

@@ -1,6 +1,4 @@
-ghost use Rattle.std.specs.Prelude.{ℕ, ◌≡◌, true, IfOk, IfSome};
-ghost use Rattle.smp_mask.specs.Mask.{has};
-ghost use Rattle.smp_queue.specs.Cpu.{left_at};
+ghost use Rattle.std.specs.Prelude.{◌≡◌, IfOk};
 
 mod threads;
 mod users;
@@ -175,19 +173,6 @@ impl<'a> Driver<'a> {
     }
 }
 
-/// A CPU that the table gives out. All CPUs that are left sit at that table.
-fn seat(
-    table: &CallTable<Global>,
-    boot: &mut Boot<Global>,
-    number: u32,
-) -> Result<CallCpu, SmpError>
-    requires { (cpu : ℕ) → has boot.old.online cpu ≡ true → IfSome (left_at boot.old cpu) (λ c. c.table ≡ table.now.table) }
-    ensures seat { IfOk result (λ c. c.table ≡ table.now.table) }
-    ensures left { (cpu : ℕ) → has boot.new.online cpu ≡ true → IfSome (left_at boot.new cpu) (λ c. c.table ≡ table.now.table) }
-{
-    boot.cpu(number)
-}
-
 /// A new table, and one of its CPUs.
 fn table_of(
     alloc: Global,
@@ -198,22 +183,8 @@ fn table_of(
     ensures { IfOk result (λ t. t.1.table ≡ t.0.table) }
 {
     let (table, mut boot) = CallTable::new(alloc, nr, online)?;
-    let cpu = seat(&table, &mut boot, number)?;
+    let cpu = boot.cpu(number)?;
     Ok((table, cpu))
-}
-
-/// A CPU that the table gives out, with its table and a handler.
-fn drive<'a>(
-    table: &'a CallTable<Global>,
-    boot: &mut Boot<Global>,
-    alloc: Global,
-    number: u32,
-) -> Result<Driver<'a>, SmpError>
-    requires { (cpu : ℕ) → has boot.old.online cpu ≡ true → IfSome (left_at boot.old cpu) (λ c. c.table ≡ table.now.table) }
-    ensures { (cpu : ℕ) → has boot.new.online cpu ≡ true → IfSome (left_at boot.new cpu) (λ c. c.table ≡ table.now.table) }
-{
-    let cpu = seat(table, boot, number)?;
-    Ok(Driver::new(table, cpu, alloc))
 }
 
 #[test]
@@ -258,10 +229,10 @@ fn no_calls() -> Tally {
 fn calls_to_one_cpu_are_refused_in_order(rt: HostRuntime) -> Result<(), Fail> {
     for nr in [4, 8, 32] {
         let (table, mut boot) = CallTable::new(rt.alloc(), nr, "0-1,3".parse()?)?;
-        let mut zero = drive(&table, &mut boot, rt.alloc(), 0)?;
+        let mut zero = Driver::new(&table, boot.cpu(0)?, rt.alloc());
         is_refused_in_order(&rt, &mut zero);
         calls_by_users_in_order(&rt, &mut zero);
-        let mut one = drive(&table, &mut boot, rt.alloc(), 1)?;
+        let mut one = Driver::new(&table, boot.cpu(1)?, rt.alloc());
         runs_the_call_of(&rt, &mut one, &mut zero);
     }
     Ok(())

@@ -1,5 +1,4 @@
 -- The words, and the rule that each access keeps.
 pub mod Cells
 pub mod Keeps
-pub mod Below
 pub mod Seating

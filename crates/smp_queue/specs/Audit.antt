@@ -7,10 +7,10 @@ use Rattle.smp_call_steps.specs.Known.{Sees, fresh}
 use Rattle.smp_call_steps.specs.Parts.{part_of}
 use Rattle.smp_call_steps.specs.Shows.{Shows}
 use Rattle.smp_call_steps.specs.Stages.{ControlValue}
-use Rattle.smp_queue.specs.Names.{Word, Head, Hand, Queued, Ran, Flags, Known, Left, Tally, Audit}
+use Rattle.smp_queue.specs.Names.{Word, Head, Hand, Queued, Ran, Flags, Known, Setting, Left, Tally, Audit}
 use Rattle.smp_queue.specs.Names.audit
 use Rattle.smp_queue.specs.Cells.{number_in}
-use Rattle.smp_queue.specs.Cpu.{TableValue, CpuValue, cpu_in}
+use Rattle.smp_queue.specs.Cpu.{TableValue, CpuValue, cpu_in, setting_of}
 
 -- how many numbers below n pass a test
 unfoldable pub count_below : (ℕ → Bool) → ℕ → ℕ
@@ -55,24 +55,25 @@ abbrev pub AuditAnswers : (Word → ℕ) → Audit → Type 0
 AuditAnswers at (audit.Drained t) = (left_in at ≡ nothing_left) × IsTally at t
 AuditAnswers at (audit.Left left) = (left_in at ≡ left) × (left ≢ nothing_left)
 
--- these words show some calls of nr CPUs, of which this is one CPU's part
-pub record Closes (nr : ℕ) (v : Known) (words : List ℕ) : Type 0 where
+-- these words show some calls of the CPUs of a table made with this, of which this is one CPU's part
+pub record Closes (k : Setting) (v : Known) (words : List ℕ) : Type 0 where
   pub calls : CallState
   pub controls : ℕ → ControlValue
   pub shown : Shows calls (number_in words) controls
   pub sees : Sees calls controls v
-  pub below : v.number < nr
-  pub absent : (cpu : ℕ) → nr ≤ cpu → Sees calls controls (fresh cpu)
+  pub setting_is : v.setting ≡ k
+  pub below : v.number < k.nr
+  pub absent : (cpu : ℕ) → k.nr ≤ cpu → Sees calls controls (fresh k cpu)
 
 -- these words show some calls of the CPUs of this table, of which this value is one CPU's part
 pub record ClosesWith (t : TableValue) (last : CpuValue) (words : List ℕ) : Type 0 where
   pub calls : CallState
   pub controls : ℕ → ControlValue
   pub shown : Shows calls (number_in words) controls
-  pub view : last ≡ cpu_in t.table calls last
+  pub view : last ≡ cpu_in t.table (setting_of t) calls last
   pub below : last.number < t.nr
   pub within : t.nr ≤ cpus
-  pub absent : (cpu : ℕ) → t.nr ≤ cpu → Sees calls controls (fresh cpu)
+  pub absent : (cpu : ℕ) → t.nr ≤ cpu → Sees calls controls (fresh (setting_of t) cpu)
 
 -- all calls have run: what a source has sent to a CPU is what that has taken, in order, and it has run that in drain order
 pub record HaveRun (a : CallState) : Type 0 where
@@ -91,7 +92,7 @@ pub record Audited (t : TableValue) (last : CpuValue) (answer : Audit) : Type 0 
   pub at : Word → ℕ
   pub controls : ℕ → ControlValue
   pub shown : Shows calls at controls
-  pub view : last ≡ cpu_in t.table calls last
+  pub view : last ≡ cpu_in t.table (setting_of t) calls last
   pub below : last.number < t.nr
   pub absent : (cpu : ℕ) → t.nr ≤ cpu → part_of calls cpu ≡ part_of no_calls cpu
   pub answers : AuditAnswers at answer

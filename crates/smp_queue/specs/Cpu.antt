@@ -1,7 +1,5 @@
 -- What contracts see of a table, of a CPU and of the CPUs that were not given out.
-use Rattle.std.specs.Prelude.{◌≡◌, ◌≢◌, ℕ, ◌+◌, ◌<◌, ◌%◌, ◌^◌, Bool, true, false, not, ◌||◌, ◌==◌, nat_lt, Option, Some, None, Result, Ok, Err}
-use Rattle.std.specs.Prelude.{List, [], ◌∷◌, ◌++◌, length}
-use Rattle.std.specs.Prelude.{slice_index_or, slice_set}
+use Rattle.std.specs.Prelude.{◌≡◌, ◌≢◌, ℕ, ◌+◌, ◌<◌, ◌%◌, ◌^◌, Bool, true, false, not, ◌||◌, ◌==◌, nat_lt, Option, Some, None, Result, Ok, Err, List, [], ◌∷◌, ◌++◌, length, slice_index_or, slice_set, IfSome}
 use Rattle.atomic_table.specs.Seated.{TableId}
 use Rattle.smp_mask.specs.Mask.{has}
 use Rattle.smp_mask.specs.declared.error.SmpError.{SmpError}
@@ -13,7 +11,7 @@ use Rattle.smp_call_steps.specs.Places.{IsCall}
 use Rattle.smp_call_steps.specs.Stands.{posted}
 use Rattle.smp_call_steps.specs.Calls.{CallState, no_calls}
 use Rattle.smp_call_steps.specs.Parts.{part_of, part_confirmed, part_sent, part_queued}
-use Rattle.smp_queue.specs.Names.{Class, Known, Part, Posting, Logged}
+use Rattle.smp_queue.specs.Names.{Class, Known, Part, Posting, Logged, Setting}
 use Rattle.smp_queue.specs.Names.logged
 use Rattle.smp_call_steps.specs.Known.{posting_of}
 use Rattle.smp_queue.specs.Seat.{SeatValue}
@@ -24,10 +22,19 @@ pub record TableValue : Type 0 where
   pub nr : ℕ
   pub online : ℕ
 
--- a CPU between two calls: its table, its number, its own part of the calls, how many compare-exchanges of heads it has
--- made, and the calls that it has queued and the interrupts that it has sent, in order
+-- what it is made with
+abbrev pub setting_of : TableValue → Setting
+setting_of t = record { nr = t.nr; online = t.online }
+
+-- the table of this name that is made with this
+abbrev pub table_with : TableId → Setting → TableValue
+table_with table k = record { table = table; nr = k.nr; online = k.online }
+
+-- a CPU between two calls: its table, what that is made with, its number, its own part of the calls, how many
+-- compare-exchanges of heads it has made, and the calls that it has queued and the interrupts that it has sent, in order
 pub record CpuValue : Type 0 where
   pub table : TableId
+  pub setting : Setting
   pub number : ℕ
   pub part : Part
   pub tried : ℕ
@@ -35,20 +42,28 @@ pub record CpuValue : Type 0 where
 
 -- what a CPU knows, as contracts see it
 abbrev pub cpu_of : SeatValue → CpuValue
-cpu_of d = record { table = d.table; number = d.known.number; part = d.known.part; tried = d.known.tried; log = d.known.log }
+cpu_of d = record {
+  table = d.table;
+  setting = d.known.setting;
+  number = d.known.number;
+  part = d.known.part;
+  tried = d.known.tried;
+  log = d.known.log;
+}
 
 -- a CPU at this table, with its part of these calls
-abbrev pub cpu_in : TableId → CallState → CpuValue → CpuValue
-cpu_in table calls c = record c { table = table; part = part_of calls c.number }
+abbrev pub cpu_in : TableId → Setting → CallState → CpuValue → CpuValue
+cpu_in table k calls c = record c { table = table; setting = k; part = part_of calls c.number }
 
--- a CPU that has done nothing: all its records are confirmed
-abbrev pub fresh_cpu : TableId → ℕ → CpuValue
-fresh_cpu table cpu = record { table = table; number = cpu; part = part_of no_calls cpu; tried = 0; log = [] }
+-- a CPU of this table that has done nothing: all its records are confirmed
+abbrev pub fresh_cpu : TableValue → ℕ → CpuValue
+fresh_cpu t cpu = record { table = t.table; setting = setting_of t; number = cpu; part = part_of no_calls cpu; tried = 0; log = [] }
 
--- what a CPU keeps between two calls: it is outside a command, and its counts are those of its calls
+-- what a CPU keeps between two calls: it is online and outside a command, and its counts are those of its calls
 pub record IsKept (v : Known) (number : ℕ) (queued ran : List ℕ) : Type 0 where
   pub number_is : v.number ≡ number
   pub below : number < cpus
+  pub online : has v.setting.online number ≡ true
   pub outside : v.stage ≡ None
   pub records_sized : length v.part.confirmed ≡ records
   pub queued_sized : length queued ≡ cpus
@@ -116,20 +131,26 @@ BeginAnswers t old new k to class func info tries (Err error.NoCpu) = (misused t
     × (new ≡ confirms k old)
 BeginAnswers t old new k to class func info tries (Err _) = ⊥
 
--- the CPUs that were not given out, and those online
+-- the CPUs of a table that were not given out: for each number, whether it was not
 pub record BootValue : Type 0 where
-  pub online : ℕ
-  pub cpus_left : List (Option CpuValue)
+  pub table : TableValue
+  pub left : List Bool
 
--- the CPU at a number, where it is left
-abbrev pub left_at : BootValue → ℕ → Option CpuValue
-left_at b cpu = slice_index_or b.cpus_left cpu None
+-- whether the CPU of a number is left
+abbrev pub is_left : BootValue → ℕ → Bool
+is_left b cpu = slice_index_or b.left cpu false
 
--- without the CPU at a number
+-- without the CPU of a number
 abbrev pub given : ℕ → BootValue → BootValue
-given cpu b = record b { cpus_left = slice_set b.cpus_left cpu None }
+given cpu b = record b { left = slice_set b.left cpu false }
 
--- all CPUs that are online are left, fresh
-pub record IsFull (b : BootValue) (table : TableId) (online : ℕ) : Type 0 where
-  pub online_is : b.online ≡ online
-  pub fresh_are : (cpu : ℕ) → has online cpu ≡ true → left_at b cpu ≡ Some (fresh_cpu table cpu)
+-- each CPU that is online waits fresh, or was given out
+pub record AreWaiting (t : TableValue) (online : ℕ) (waiting : List (Option CpuValue)) : Type 0 where
+  pub online_is : online ≡ t.online
+  pub sized : (cpu : ℕ) → has online cpu ≡ true → cpu < length waiting
+  pub fresh_are : (cpu : ℕ) → has online cpu ≡ true → IfSome (slice_index_or waiting cpu None) (λ c. c ≡ fresh_cpu t cpu)
+
+-- all CPUs of this table that are online are left
+pub record IsFull (b : BootValue) (t : TableValue) : Type 0 where
+  pub table_is : b.table ≡ t
+  pub left_are : (cpu : ℕ) → has t.online cpu ≡ true → is_left b cpu ≡ true

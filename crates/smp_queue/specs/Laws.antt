@@ -1,11 +1,13 @@
 -- What a CPU's value says of running threads.
-use Rattle.std.specs.Prelude.{◌≡◌, ℕ, ◌<◌, true, false, None, slice_index_or}
+use Rattle.std.specs.Prelude.{◌≡◌, ℕ, ◌<◌, ◌≤◌, true, false, None, slice_index_or}
 use Rattle.std.specs.List.{AllByRecursion}
+use Rattle.smp_mask.specs.Mask.{has}
 use Rattle.smp_words.specs.Size.{owner, records}
-use Rattle.smp_call_steps.specs.Calls.{CallState}
+use Rattle.smp_call_steps.specs.Calls.{CallState, no_calls}
 use Rattle.smp_call_steps.specs.Counts.{ConfirmedCallsRan}
 use Rattle.smp_call_steps.specs.HaveRun.{ConfirmedSyncCallsEnded, HasRunAt}
 use Rattle.smp_call_steps.specs.Known.{told_stage}
+use Rattle.smp_call_steps.specs.Parts.{part_of}
 use Rattle.smp_call_steps.specs.Shows.{Shows}
 use Rattle.smp_call_steps.specs.Stages.{ControlValue}
 use Rattle.smp_call_steps.specs.declared.place.RecPlace.TheVariants as place
@@ -21,16 +23,20 @@ HaveRunFor a c = AllByRecursion
 abbrev pub AreFreeFor : CallState → CpuValue → Type 0
 AreFreeFor a c = (id : ℕ) → owner id ≡ c.number → id < records → slice_index_or c.part.confirmed id false ≡ true → a.place id ≡ place.Free
 
--- Some words of the table show calls that keep all laws, of which this value is one CPU's part, outside a command; calls
--- by confirmed records have run, those of all CPUs and those of this one.
+-- Some words show calls that keep all laws, of which this value is one CPU's part, outside a command. The CPU is one of
+-- its table and online, and the CPUs that its table does not have have done nothing. Calls by confirmed records have run,
+-- those of all CPUs and those of this one.
 pub record IsShown (c : CpuValue) : Type 0 where
   pub calls : CallState
   pub at : Word → ℕ
   pub controls : ℕ → ControlValue
   pub shown : Shows calls at controls
+  pub below : c.number < c.setting.nr
+  pub online : has c.setting.online c.number ≡ true
+  pub absent : (cpu : ℕ) → c.setting.nr ≤ cpu → part_of calls cpu ≡ part_of no_calls cpu
   pub outside : told_stage (controls c.number).stage ≡ None
   pub are_free : AreFreeFor calls c
   pub confirmed_ran : ConfirmedCallsRan calls
   pub confirmed_ended : ConfirmedSyncCallsEnded calls
   pub have_run : HaveRunFor calls c
-  pub view : c ≡ cpu_in c.table calls c
+  pub view : c ≡ cpu_in c.table c.setting calls c

@@ -11,6 +11,7 @@ pub use Rattle.smp_call_steps.specs.declared.known.Known.{Known}
 pub use Rattle.smp_call_steps.specs.declared.known.Part.{Part}
 pub use Rattle.smp_call_steps.specs.declared.known.Logged.{Logged}
 pub use Rattle.smp_call_steps.specs.declared.known.Logged.TheVariants as logged
+pub use Rattle.smp_call_steps.specs.declared.known.Setting.{Setting}
 pub use Rattle.smp_call_steps.specs.declared.known.Running.TheVariants.{Nothing}
 pub use Rattle.smp_call_steps.specs.declared.post.Posting.{Posting}
 pub use Rattle.smp_call_steps.specs.declared.post.PostStage.{PostStage}

@@ -1,11 +1,11 @@
 -- What each kind of access tells: what the CPU knows after it, which is its part of some calls that some words show.
 use Rattle.std.specs.Prelude.{◌≡◌, ℕ, ◌==◌, if◌then◌else◌, Some, None}
 use Rattle.atomic_table.specs.Table.{Me, Step}
-use Rattle.smp_call_steps.specs.Known.{known_told, known_taking, Moment, Lives}
+use Rattle.smp_call_steps.specs.Known.{known_told, known_taking, Moment}
 use Rattle.smp_queue.specs.Names.{Word, SeatView, Cpu}
 use Rattle.smp_queue.specs.Names.act
 use Rattle.smp_queue.specs.Cells.{cell_of}
-use Rattle.smp_queue.specs.Rule.{known}
+use Rattle.smp_queue.specs.Rule.{known, Sits}
 
 module _ {S : Type 0} where
   abbrev pub AfterLoad : Step S → Me S SeatView → ℕ → Me S SeatView → Type 0
@@ -24,13 +24,13 @@ module _ {S : Type 0} where
       → (t : Moment v w n) × (m'.0 ≡ Cpu (known_taking (t.lives.calls.queue v.number) v act.Swap w (Some n) (Some st.first)))
 
   abbrev pub loaded : Step S → Me S SeatView → ℕ → Me S SeatView → Type 0
-  loaded st m n m' = Lives (known m'.0) × AfterLoad st m n m'
+  loaded st m n m' = Sits (known m'.0) × AfterLoad st m n m'
 
   abbrev pub stored : Step S → Me S SeatView → ℕ → Me S SeatView → Type 0
-  stored st m n m' = Lives (known m'.0) × AfterStore st m n m'
+  stored st m n m' = Sits (known m'.0) × AfterStore st m n m'
 
   abbrev pub exchanged : Step S → Me S SeatView → ℕ → Me S SeatView → Type 0
-  exchanged st m n m' = Lives (known m'.0) × AfterExchange st m n m'
+  exchanged st m n m' = Sits (known m'.0) × AfterExchange st m n m'
 
   abbrev pub swapped : Step S → Me S SeatView → ℕ → Me S SeatView → Type 0
-  swapped st m n m' = Lives (known m'.0) × AfterSwap st m n m'
+  swapped st m n m' = Sits (known m'.0) × AfterSwap st m n m'

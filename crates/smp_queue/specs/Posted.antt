@@ -15,7 +15,7 @@ pub record ShowsThat (c : CpuValue) (P : CallState → Type 0) : Type 0 where
   pub at : Word → ℕ
   pub controls : ℕ → ControlValue
   pub shown : Shows calls at controls
-  pub view : c ≡ cpu_in c.table calls c.number
+  pub view : c ≡ cpu_in c.table c.setting calls c
   pub holds : P calls
 
 -- the record k of this CPU is free

@@ -6,47 +6,50 @@ use Rattle.atomic_table.specs.Table.{State}
 use Rattle.smp_call_steps.specs.Calls.{CallState}
 use Rattle.smp_call_steps.specs.Stages.{ControlValue}
 use Rattle.smp_call_steps.specs.Shows.{Shows}
-use Rattle.smp_call_steps.specs.Known.{Sees, fresh}
-use Rattle.smp_queue.specs.Names.{Known, SeatView, Maker, Cpu}
+use Rattle.smp_call_steps.specs.Known.{Sees, Lives, fresh}
+use Rattle.smp_queue.specs.Names.{Known, Setting, SeatView, Maker, Cpu}
 use Rattle.smp_queue.specs.Cells.{cells, number_in}
 
 -- what a seat's CPU knows
 abbrev pub known : SeatView → Known
-known (Maker n) = fresh n
+known (Maker n k) = fresh k n
 known (Cpu v) = v
+
+-- what a seat's table is made with
+abbrev pub made_with : SeatView → Setting
+made_with (Maker n k) = k
+made_with (Cpu v) = v.setting
 
 -- the first seat after it has made one for the next CPU
 abbrev pub after : SeatView → SeatView
-after (Maker n) = Maker (n + 1)
+after (Maker n k) = Maker (n + 1) k
 after (Cpu v) = Cpu v
 
 -- the seat that it makes
 abbrev pub seat_made : SeatView → SeatView
-seat_made (Maker n) = Cpu (fresh n)
+seat_made (Maker n k) = Cpu (fresh k n)
 seat_made (Cpu v) = Cpu v
 
 -- a seat knows its CPU's part of the calls, and no other seat is of that CPU
-abbrev pub SeatKnows : CallState → (ℕ → ControlValue) → (ℕ → ℕ) → ℕ → ℕ → SeatView → Type 0
-SeatKnows a control seat next id (Maker n) = (n ≡ next) × (id ≡ 0)
-SeatKnows a control seat next id (Cpu v) = (v.number < next) × (seat v.number ≡ id) × Sees a control v
+abbrev pub SeatKnows : Setting → CallState → (ℕ → ControlValue) → (ℕ → ℕ) → ℕ → ℕ → SeatView → Type 0
+SeatKnows k a control seat next id (Maker n j) = (n ≡ next) × (id ≡ 0) × (j ≡ k)
+SeatKnows k a control seat next id (Cpu v) = (v.number < next) × (seat v.number ≡ id) × (v.setting ≡ k) × Sees a control v
 
--- the words show some calls; each seat knows its part; CPUs with no seat have done nothing
-pub record Ruled {S : Type 0} (s : State S SeatView) : Type 0 where
+-- the words show some calls; each seat knows its part; only CPUs that the table has have a seat, and those with none have
+-- done nothing
+pub record Ruled {S : Type 0} (k : Setting) (s : State S SeatView) : Type 0 where
   pub calls : CallState
   pub controls : ℕ → ControlValue
   pub seat : ℕ → ℕ
   pub next : ℕ
+  pub few : next ≤ k.nr
   pub wide : length s.words ≡ cells
   pub shown : Shows calls (number_in s.words) controls
-  pub each_seat : (id : ℕ) (v : SeatView) → get_elem? s.views id ≡ some v → SeatKnows calls controls seat next id v
-  pub absent : (cpu : ℕ) → next ≤ cpu → Sees calls controls (fresh cpu)
+  pub each_seat : (id : ℕ) (v : SeatView) → get_elem? s.views id ≡ some v → SeatKnows k calls controls seat next id v
+  pub absent : (cpu : ℕ) → next ≤ cpu → Sees calls controls (fresh k cpu)
 
--- only CPUs below nr have a seat: the first seat counts them
-pub record SeatsBelow {S : Type 0} (nr : ℕ) (s : State S SeatView) : Type 0 where
-  pub next : ℕ
-  pub few : next ≤ nr
-  pub counts : get_elem? s.views 0 ≡ some (Maker next)
-
--- the rule of a table of nr CPUs
-abbrev pub RuledFor : {S : Type 0} → ℕ → State S SeatView → Type 0
-RuledFor nr s = Ruled s × SeatsBelow nr s
+-- some words show some calls, of which a CPU of the table knows its part; CPUs that the table does not have have done nothing
+pub record Sits (v : Known) : Type 0 where
+  pub lives : Lives v
+  pub below : v.number < v.setting.nr
+  pub absent : (cpu : ℕ) → v.setting.nr ≤ cpu → Sees lives.calls lives.controls (fresh v.setting cpu)

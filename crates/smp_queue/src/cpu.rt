@@ -1,6 +1,7 @@
 //! One CPU at the table.
 
-ghost use Rattle.std.specs.Prelude.{◌≡◌, ◌<◌, length};
+ghost use Rattle.std.specs.Prelude.{◌≡◌, ◌<◌, true, length};
+ghost use Rattle.smp_mask.specs.Mask.{has};
 ghost use Rattle.smp_words.specs.Size.{cpus, records};
 ghost use Rattle.smp_call_steps.specs.Known.{fresh};
 ghost use Rattle.smp_queue.specs.Cpu.{cpu_of};
@@ -33,9 +34,11 @@ impl Model for CallCpu {
 }
 
 impl CallCpu {
-    /// A CPU that has done nothing.
+    /// An online CPU that has done nothing.
     pub(crate) fn new(seat: CpuSeat, number: u32) -> CallCpu
-        requires { (seat.known ≡ fresh number) × (number < cpus) }
+        requires fresh { seat.known ≡ fresh seat.known.setting number }
+        requires below { number < cpus }
+        requires online { has seat.known.setting.online number ≡ true }
         ensures { result ≡ cpu_of seat }
     {
         CallCpu {
@@ -48,18 +51,20 @@ impl CallCpu {
 
     ghost use Rattle.smp_queue.specs.Laws.{IsShown};
 
-    /// At any time, and whatever calls were made with it, a CPU's value is its part of calls that some words of the table
-    /// show and that keep all laws, and the CPU stands outside any command. So a record whose last call it has seen
-    /// confirmed is free, and each call that it has sent by it has run at its target. It makes no step.
+    /// At any time, and whatever calls were made with it, a CPU's value is its part of calls that some words show and that
+    /// keep all laws, and the CPU stands outside any command. It is one of its table's CPUs and online, and in those calls
+    /// CPUs that its table does not have have done nothing. So a record whose last call it has seen confirmed is free, and
+    /// each call that it has sent by it has run at its target; the last may still run where it is ASYNC. It makes no step.
     pub fn is_shown(&self)
         ensures { IsShown self.now }
     {
         self.seat.is_shown();
     }
 
-    /// The CPU's number, which is below `NR_CPUS`. It has a confirmation of each record.
+    /// The CPU's number, which is below `NR_CPUS` and that of an online CPU. It has a confirmation of each record.
     pub fn number(&self) -> u32
         ensures number { result ≡ self.now.number }
+        ensures online { has self.now.setting.online self.now.number ≡ true }
         ensures sized { (self.now.number < cpus) × (length self.now.part.confirmed ≡ records) }
     {
         self.number

@@ -2,17 +2,18 @@
 
 use crate::seat_view::SeatView;
 use atomic_table::{Seat, Shared, Split, Table, TableRule};
+use smp_call_steps::known::Setting;
 
-/// The rule of the table. Its key is how many CPUs the table has.
+/// The rule of the table. Its key is what the table is made with.
 pub struct CallRule;
 
-impl TableRule<(), SeatView, u32> for CallRule {
-    ghost use Rattle.smp_queue.specs.Rule.{RuledFor};
+impl TableRule<(), SeatView, Setting> for CallRule {
+    ghost use Rattle.smp_queue.specs.Rule.{Ruled};
     ghost use Rattle.smp_queue.specs.declared.seat_view.SeatView.TheVariants.{Maker};
 
-    ghost holds = { λ nr. RuledFor nr };
+    ghost holds = { λ k. Ruled k };
 
-    ghost first = { λ _. Maker 0 };
+    ghost first = { λ k. Maker 0 k };
 }
 
 /// The first seat makes a seat for the next CPU.
@@ -27,10 +28,10 @@ impl Split<SeatView> for NextSeat {
 }
 
 /// The words, as all threads share them.
-pub type Words = Shared<(), SeatView, u32, CallRule>;
+pub type Words = Shared<(), SeatView, Setting, CallRule>;
 
 /// The words with their memory.
-pub type Owner<A> = Table<(), SeatView, u32, CallRule, A>;
+pub type Owner<A> = Table<(), SeatView, Setting, CallRule, A>;
 
 /// A seat at the table.
 pub type RawSeat = Seat<(), SeatView>;

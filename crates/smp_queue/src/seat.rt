@@ -7,6 +7,7 @@ ghost use Rattle.smp_words.specs.declared.seen.Act.TheVariants as act;
 ghost use Rattle.smp_queue.specs.declared.seat_view.SeatView.TheVariants.{Maker, Cpu};
 ghost use Rattle.smp_queue.specs.Cells.{cells};
 ghost use Rattle.smp_queue.specs.Seat.{SeatValue, Loads, Ready};
+ghost use Rattle.smp_queue.specs.Rule.{Sits};
 ghost use Rattle.smp_queue.specs.Plays.{loaded, stored, exchanged, swapped};
 
 use crate::cell::cell;
@@ -23,21 +24,21 @@ pub struct CpuSeat {
 }
 
 impl Model for CpuSeat {
-    ghost use Rattle.smp_call_steps.specs.Known.{Lives};
     ghost use Rattle.smp_queue.specs.Seat.{SeatValue, IsCpuSeat};
-    ghost use Rattle.smp_queue.specs.Rule.{known};
+    ghost use Rattle.smp_queue.specs.Rule.{Sits, known};
 
     ghost Value = { SeatValue };
 
     ghost view = { λ c. record { table = c.raw.table_id; known = known c.raw.me.0 } };
 
-    ghost invariant = { λ c. IsCpuSeat c.raw.me.0 × Lives (known c.raw.me.0) };
+    ghost invariant = { λ c. IsCpuSeat c.raw.me.0 × Sits (known c.raw.me.0) };
 }
 
 impl CpuSeat {
-    /// What the CPU knows is its part of calls that some words show.
+    /// What the CPU knows is its part of calls that some words show, in which CPUs that the table does not have have done
+    /// nothing.
     pub(crate) fn is_shown(&self)
-        ensures { Lives self.now.known }
+        ensures { Sits self.now.known }
     {
         let _ = &self.raw;
     }
@@ -71,9 +72,9 @@ impl Play<(), SeatView> for Swapped {
 
 /// A seat for the next CPU.
 pub(crate) fn next_seat(words: &Words, maker: &mut RawSeat, n: u32) -> CpuSeat
-    requires { (maker.old.table_id ≡ words.now.table_id) × (words.now.table_id.words ≡ cells) × (maker.old.me.0 ≡ Maker n) × (n < words.now.key) }
-    ensures maker { (maker.new.table_id ≡ words.now.table_id) × (maker.new.me.0 ≡ Maker (n + 1)) }
-    ensures seat { (result.table ≡ words.now.table_id) × (result.known ≡ fresh n) }
+    requires { (maker.old.table_id ≡ words.now.table_id) × (words.now.table_id.words ≡ cells) × (maker.old.me.0 ≡ Maker n words.now.key) × (n < words.now.key.nr) }
+    ensures maker { (maker.new.table_id ≡ words.now.table_id) × (maker.new.me.0 ≡ Maker (n + 1) words.now.key) }
+    ensures seat { (result.table ≡ words.now.table_id) × (result.known ≡ fresh words.now.key n) }
 {
     let raw = words.split_seat::<NextSeat>(maker);
     CpuSeat { raw }

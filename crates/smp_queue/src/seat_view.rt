@@ -1,10 +1,11 @@
 //! What a seat at the table knows.
 
-use smp_call_steps::known::Known;
+use smp_call_steps::known::{Known, Setting};
 
-/// What a seat knows: the first seat how many CPUs have one, each other its CPU's part of the calls.
+/// What a seat knows: the first seat how many CPUs have one and what the table is made with, each other its CPU's part
+/// of the calls.
 pub enum SeatView {
     /// The CPUs below this number have a seat.
-    Maker(u32),
+    Maker(u32, Setting),
     Cpu(Known),
 }

@@ -15,7 +15,10 @@
 //! | `next.r` | the target with the record in its batch | the source before each exchange; the target with the record in its batch | none | the same |
 
 ghost use Rattle.std.specs.Prelude.{◌≡◌, ◌≢◌, ◌⊎◌, ◌↔◌, ◌+◌, ◌<◌, ◌≤◌, ◌%◌, ◌^◌, true, false, length, if◌then◌else◌, IfOk, IfErr, OnOk, IsErrOf, Ok, List};
+ghost use Rattle.std.specs.Prelude.{Some, None};
 ghost use Rattle.smp_mask.specs.Mask.{has};
+ghost use Rattle.smp_words.specs.Size.{cpus};
+ghost use Rattle.smp_call_steps.specs.Known.{fresh};
 ghost use Rattle.smp_call_steps.specs.Start.{has_record as has_record_in};
 ghost use Rattle.smp_words.specs.Limits.{AreLimits};
 ghost use Rattle.smp_call_steps.specs.Histories.{sent_to, calls_from};
@@ -26,7 +29,7 @@ ghost use Rattle.smp_queue.specs.Cells.{cells};
 ghost use Rattle.smp_queue.specs.Handling.{Grows, asks, drains};
 ghost use Rattle.smp_queue.specs.Laws.{IsShown};
 ghost use Rattle.smp_queue.specs.Posted.{ShowsThat, IsFree, IsMarked, call_by};
-ghost use Rattle.smp_queue.specs.Cpu.{TableValue, IsFull, PostAnswers, BeginAnswers, confirmed_at, confirms, sends};
+ghost use Rattle.smp_queue.specs.Cpu.{TableValue, IsFull, cpu_of, PostAnswers, BeginAnswers, confirmed_at, confirms, sends};
 ghost use Rattle.smp_queue.specs.Audit.{ClosesWith, Audited, IfDrained, AreEqual, HasRowsOf, HasZerosFrom};
 
 use crate::audit::Audit;
@@ -38,8 +41,9 @@ use crate::handle::{Handled, handle};
 use crate::handler::Handler;
 use crate::post::{append, append_until_won, is_locked, write_record};
 use crate::rule::{Owner, RawSeat};
-use crate::seat::{next_seat, store};
+use crate::seat::{CpuSeat, next_seat, store};
 use atomic_table::Table;
+use smp_call_steps::known::Setting;
 use smp_call_steps::post::Posting;
 use smp_call_steps::start::{has_record, refusal};
 use smp_mask::{CpuMask, SmpError};
@@ -71,16 +75,30 @@ impl<A: Allocator> Model for CallTable<A> {
     ghost invariant = { λ t. IsTable t.owner.shared.table_id t.owner.shared.key t.nr t.online };
 }
 
-/// The words of a table of `nr` CPUs, all 0, and the first seat.
-fn lay<A: Allocator>(alloc: A, nr: u32) -> Result<(Owner<A>, RawSeat), AllocError>
+/// The words of a table, all 0, and the first seat.
+fn lay<A: Allocator>(alloc: A, setting: &Setting) -> Result<(Owner<A>, RawSeat), AllocError>
 where
     A: Copy,
-    ensures { IfOk result (λ t. (t.0.shared.table_id.words ≡ cells) × (t.0.shared.table_id.slots ≡ 0) × (t.0.shared.key ≡ nr)
-        × (t.1.table_id ≡ t.0.shared.table_id) × (t.1.me.0 ≡ Maker 0)) }
+    ensures { IfOk result (λ t. (t.0.shared.table_id.words ≡ cells) × (t.0.shared.table_id.slots ≡ 0) × (t.0.shared.key ≡ setting.now)
+        × (t.1.table_id ≡ t.0.shared.table_id) × (t.1.me.0 ≡ Maker 0 setting.now)) }
 {
     let words = Vec::from_elem(alloc, 0u64, CELLS)?;
-    let (table, seat) = Table::of_words(alloc, words.as_slice(), &nr)?;
+    let (table, seat) = Table::of_words(alloc, words.as_slice(), setting)?;
     Ok((table, seat))
+}
+
+/// The CPU of a seat, where it is online.
+fn cpu_if(is_online: bool, seat: CpuSeat, number: u32) -> Option<CallCpu>
+    requires fresh { seat.known ≡ fresh seat.known.setting number }
+    requires below { number < cpus }
+    requires online { is_online ≡ has seat.known.setting.online number }
+    ensures { result ≡ if is_online then Some (cpu_of seat) else None }
+{
+    if is_online {
+        Some(CallCpu::new(seat, number))
+    } else {
+        None
+    }
 }
 
 /// The table, and its CPUs: one seat for each below `nr`, of which those online are kept.
@@ -92,23 +110,21 @@ fn build<A: Allocator>(
 where
     A: Copy,
     requires { AreLimits nr online }
-    ensures { IfOk result (λ t. (t.0.nr ≡ nr) × (t.0.online ≡ online) × IsFull t.1 t.0.table online) }
+    ensures { IfOk result (λ t. (t.0.nr ≡ nr) × (t.0.online ≡ online) × IsFull t.1 t.0) }
 {
     let mut waiting = Vec::with_capacity(alloc, nr as usize)?;
-    let (owner, mut maker) = lay(alloc, nr)?;
+    let (owner, mut maker) = lay(alloc, &Setting { nr, online })?;
     for number in 0..nr {
         let seat = next_seat(&owner.shared, &mut maker, number);
-        let cpu = CallCpu::new(seat, number);
-        waiting.push(then_some(online.contains(number), cpu))?;
+        waiting.push(cpu_if(online.contains(number), seat, number))?;
     }
     let table = CallTable { owner, nr, online };
-    Ok((table, Boot { online, waiting }))
-}
-
-fn then_some(keep: bool, cpu: CallCpu) -> Option<CallCpu>
-    ensures { result ≡ if keep then Some cpu else None }
-{
-    if keep { Some(cpu) } else { None }
+    let boot = Boot {
+        maker,
+        online,
+        waiting,
+    };
+    Ok((table, boot))
 }
 
 impl<A: Allocator> CallTable<A> {
@@ -118,7 +134,7 @@ impl<A: Allocator> CallTable<A> {
     pub fn new(alloc: A, nr: u32, online: CpuMask) -> Result<(CallTable<A>, Boot<A>), SmpError>
     where
         A: Copy,
-        ensures ok { IfOk result (λ t. (t.0.nr ≡ nr) × (t.0.online ≡ online) × IsFull t.1 t.0.table online) }
+        ensures ok { IfOk result (λ t. (t.0.nr ≡ nr) × (t.0.online ≡ online) × IsFull t.1 t.0) }
         ensures limits { OnOk result (AreLimits nr online) }
         ensures refused { IsErrOf result SmpError.BadArgument ↔ (¬ (AreLimits nr online)) }
         ensures only { IfErr result (λ e. (e ≡ SmpError.BadArgument) ⊎ (e ≡ SmpError.NoMemory)) }
@@ -158,6 +174,7 @@ impl<A: Allocator> CallTable<A> {
         }
         let id = record_of(me.number, k);
         let locked = is_locked(&self.owner.shared, &mut me.seat, id);
+        me.is_shown();
         Ok(!locked)
     }
 
@@ -193,6 +210,7 @@ impl<A: Allocator> CallTable<A> {
             return Err(SmpError::NoCpu);
         }
         store(&self.owner.shared, &mut me.seat, Word::Intr(to), 1);
+        me.is_shown();
         Ok(())
     }
 
@@ -312,7 +330,9 @@ impl<A: Allocator> CallTable<A> {
         ensures laws { IsShown me.new }
     {
         let words = &self.owner.shared;
-        handle(words, &mut me.seat, me.number, &mut me.ran, handler)
+        let handled = handle(words, &mut me.seat, me.number, &mut me.ran, handler);
+        me.is_shown();
+        handled
     }
 
     /// Gives up the table and one of its CPUs: the words as the last step left them, which show calls of which this CPU's

@@ -1,6 +1,4 @@
-ghost use Rattle.std.specs.Prelude.{ℕ, ◌≡◌, true, IfSome};
-ghost use Rattle.smp_mask.specs.Mask.{has};
-ghost use Rattle.smp_queue.specs.Cpu.{left_at};
+ghost use Rattle.std.specs.Prelude.{◌≡◌};
 
 mod audits;
 
@@ -40,6 +38,12 @@ impl<'a> Model for Driver<'a> {
 }
 
 impl<'a> Driver<'a> {
+    fn new(table: &'a CallTable<Global>, cpu: CallCpu) -> Driver<'a>
+        requires { cpu.table ≡ table.now.table }
+    {
+        Driver { table, cpu }
+    }
+
     fn post_as(&mut self, k: u32, to: u32, class: Class, tries: u32) -> Result<bool, SmpError> {
         self.table
             .post_within(&mut self.cpu, k, to, class, 1, 1, tries)
@@ -76,19 +80,6 @@ impl<'a> Driver<'a> {
     fn tally(&mut self, other: u32) -> (u64, u64) {
         self.table.tally(&mut self.cpu, other)
     }
-}
-
-/// A CPU that the table gives out, with its table. All CPUs that are left sit at that table.
-fn drive<'a>(
-    table: &'a CallTable<Global>,
-    boot: &mut Boot<Global>,
-    number: u32,
-) -> Result<Driver<'a>, SmpError>
-    requires { (cpu : ℕ) → has boot.old.online cpu ≡ true → IfSome (left_at boot.old cpu) (λ c. c.table ≡ table.now.table) }
-    ensures { (cpu : ℕ) → has boot.new.online cpu ≡ true → IfSome (left_at boot.new cpu) (λ c. c.table ≡ table.now.table) }
-{
-    let cpu = boot.cpu(number)?;
-    Ok(Driver { table, cpu })
 }
 
 #[test]
@@ -150,7 +141,7 @@ fn give_out(rt: &impl Abort, boot: &mut Boot<Global>) {
 #[test]
 fn misuse_is_refused(rt: HostRuntime) -> Result<(), Fail> {
     let (table, mut boot) = CallTable::new(rt.alloc(), 2, "0-1".parse()?)?;
-    let mut zero = drive(&table, &mut boot, 0)?;
+    let mut zero = Driver::new(&table, boot.cpu(0)?);
     refuses_misuse(&rt, &mut zero);
     Ok(())
 }
@@ -182,7 +173,7 @@ fn each_cpu_that_there_is_has_a_record_of_its_own(rt: HostRuntime) -> Result<(),
         (8, "0-7", 12, 7, false),
     ] {
         let (table, mut boot) = CallTable::new(rt.alloc(), nr, cpus.parse()?)?;
-        let mut zero = drive(&table, &mut boot, 0)?;
+        let mut zero = Driver::new(&table, boot.cpu(0)?);
         calls_by_record(&rt, &mut zero, k, to, is_there);
     }
     Ok(())
@@ -204,8 +195,8 @@ fn calls_by_record(rt: &impl Abort, zero: &mut Driver, k: u32, to: u32, is_there
 #[test]
 fn a_post_appends_one_call(rt: HostRuntime) -> Result<(), Fail> {
     let (table, mut boot) = CallTable::new(rt.alloc(), 4, "0-2".parse()?)?;
-    let mut zero = drive(&table, &mut boot, 0)?;
-    let mut one = drive(&table, &mut boot, 1)?;
+    let mut zero = Driver::new(&table, boot.cpu(0)?);
+    let mut one = Driver::new(&table, boot.cpu(1)?);
     two_post_to_a_third(&rt, &mut zero, &mut one);
     Ok(())
 }
@@ -229,7 +220,7 @@ fn two_post_to_a_third<R: Wait + Abort>(rt: &R, zero: &mut Driver, one: &mut Dri
 #[test]
 fn an_offline_cpu_gets_no_call(rt: HostRuntime) -> Result<(), Fail> {
     let (table, mut boot) = CallTable::new(rt.alloc(), 4, "0-1,3".parse()?)?;
-    let mut zero = drive(&table, &mut boot, 0)?;
+    let mut zero = Driver::new(&table, boot.cpu(0)?);
     calls_cpus_that_are_offline(&rt, &mut zero);
     Ok(())
 }
@@ -318,8 +309,8 @@ fn race_once<R: Wait + Threads>(
     let (table, mut boot) = CallTable::new(alloc, 3, "0-2".parse()?)?;
     let shared = Answers::none();
     let answers = &shared;
-    let zero = drive(&table, &mut boot, 0)?;
-    let one = drive(&table, &mut boot, 1)?;
+    let zero = Driver::new(&table, boot.cpu(0)?);
+    let one = Driver::new(&table, boot.cpu(1)?);
     thread::scope(thread::scope_env(), rt, |scope| {
         let first = scope.spawn(move || race(zero, answers, repeats));
         let second = scope.spawn(move || race(one, answers, repeats));

@@ -7,6 +7,7 @@
 //!
 //! - `size`: How many CPUs, records and words there are, and to whom a record belongs.
 //! - `limits`: How many CPUs a table may have, and which may be online.
+//! - `laws`: The numbers of CPUs, records and words, as numbers.
 //! - `field`: The words of one rendezvous slot.
 //! - `word`: The words of both tables, by name and by number.
 //! - `seen`: A step, as it was seen.
@@ -20,6 +21,7 @@ pub mod access;
 pub mod call;
 pub mod command;
 pub mod field;
+pub mod laws;
 pub mod limits;
 pub mod seen;
 pub mod size;

@@ -1,9 +1,6 @@
 //! Each family between threads that poll.
 
-ghost use Rattle.std.specs.Prelude.{ℕ, ◌≡◌, true, IfSome};
-ghost use Rattle.std.specs.Option.{ForSome};
-ghost use Rattle.smp_mask.specs.Mask.{has};
-ghost use Rattle.smp_queue.specs.Cpu.{left_at};
+ghost use Rattle.std.specs.Prelude.{◌≡◌};
 
 use super::*;
 use crossbeam_utils::Backoff;
@@ -145,12 +142,12 @@ fn run<R: Wait>(mut driver: Driver, rt: &R, all: CpuMask, progress: &Progress) {
 struct Room<'a> {
     table: &'a CallTable<Global>,
     boot: Boot<Global>,
-    ghost whole: { (cpu : ℕ) → has boot.online cpu ≡ true → ForSome (left_at boot cpu) (λ c. c.table ≡ table.now.table) },
+    ghost own: { boot.table.table ≡ table.now.table },
 }
 
 impl<'a> Room<'a> {
     fn new(table: &'a CallTable<Global>, boot: Boot<Global>) -> Room<'a>
-        requires { (cpu : ℕ) → has boot.online cpu ≡ true → IfSome (left_at boot cpu) (λ c. c.table ≡ table.now.table) }
+        requires { boot.table.table ≡ table.now.table }
     {
         Room { table, boot }
     }
@@ -162,7 +159,8 @@ impl<'a> Room<'a> {
         alloc: Global,
         number: u32,
     ) -> Result<(), SmpError> {
-        let driver = drive(self.table, &mut self.boot, alloc, number)?;
+        let cpu = self.boot.cpu(number)?;
+        let driver = Driver::new(self.table, cpu, alloc);
         if drivers.push(driver).is_err() {
             return Err(SmpError::NoMemory);
         }
@@ -221,7 +219,7 @@ fn run_all<R: Wait + Threads + Sync>(
     let all = mask_of(&callers)?;
     let progress = Progress::new();
     let (table, mut boot) = CallTable::new(alloc, nr, all.with(last)?)?;
-    let last = seat(&table, &mut boot, last)?;
+    let last = boot.cpu(last)?;
     let drivers = Room::new(&table, boot).drive_all(alloc, &callers)?;
     run_threads(rt, drivers, all, &progress);
     Ok((progress.right.load(Ordering::SeqCst), table.audit(last)))

@@ -12,9 +12,9 @@ fn table_and_three(
     ensures { IfOk result (λ t. (t.1.table ≡ t.0.table) × (t.2.table ≡ t.0.table) × (t.3.table ≡ t.0.table)) }
 {
     let (table, mut boot) = CallTable::new(alloc, 32, "0-31".parse()?)?;
-    let first = seat(&table, &mut boot, numbers[0])?;
-    let second = seat(&table, &mut boot, numbers[1])?;
-    let third = seat(&table, &mut boot, numbers[2])?;
+    let first = boot.cpu(numbers[0])?;
+    let second = boot.cpu(numbers[1])?;
+    let third = boot.cpu(numbers[2])?;
     Ok((table, first, second, third))
 }
 

@@ -10,26 +10,33 @@ use Rattle.smp_call_steps.specs.Calls.{no_calls}
 use Rattle.smp_call_steps.specs.Histories.{sent_to, calls_from}
 use Rattle.smp_call_steps.specs.Known.{told_stage}
 use Rattle.smp_call_steps.specs.Parts.{part_of}
-use Rattle.smp_queue.specs.Names.{Hand, Queued, Ran, Flags, Known, Part, SeatView, Maker, Cpu, Left, Audit}
+use Rattle.smp_queue.specs.Names.{Hand, Queued, Ran, Flags, Known, Part, Setting, SeatView, Cpu, Left, Audit}
 use Rattle.smp_queue.specs.Names.audit
 use Rattle.smp_call_steps.proofs.State.Drained.{Still, still_queued, still_ran, equal_tallies, all_ran, all_sent}
 use Rattle.smp_queue.specs.Audit.{Closes, ClosesWith, Audited, AuditAnswers, HaveRun, IfDrained, AreEqual, HasRowsOf, HasZerosFrom, has_lock, has_hand, left_in}
 use Rattle.smp_queue.specs.Audit.{nothing_left}
 use Rattle.smp_queue.specs.Cells.{number_in}
-use Rattle.smp_queue.specs.Cpu.{TableValue, CpuValue, cpu_of}
+use Rattle.smp_queue.specs.Cpu.{TableValue, CpuValue, setting_of, cpu_of}
 use Rattle.smp_queue.specs.Seat.{SeatValue}
-use Rattle.smp_queue.specs.Rule.{RuledFor}
+use Rattle.smp_queue.specs.Rule.{Ruled}
 use Rattle.smp_queue.proofs.Audits.Auditing.{count_none}
 use Rattle.smp_queue.proofs.TheRule.Cells.{no_hand, no_flags}
 
 -- its words show some calls, of which the seat knows its part
-pub closes : {S : Type 0} (nr : ℕ) (s : State S SeatView) (r : RuledFor nr s) (id : ℕ) (v : Known) → get_elem? s.views id ≡ some (Cpu v) → Closes nr v s.words
-closes nr s r id v at =
-    let sits = r.0.each_seat id (Cpu v) at in
+pub closes : {S : Type 0} (k : Setting) (s : State S SeatView) (r : Ruled k s) (id : ℕ) (v : Known) → get_elem? s.views id ≡ some (Cpu v) → Closes k v s.words
+closes k s r id v at =
+    let sits = r.each_seat id (Cpu v) at in
     let number = sits.0 in
-    let few = r.1.few in
-    let next = (r.0.each_seat 0 (Maker r.1.next) r.1.counts).0 in
-    record { calls = r.0.calls; controls = r.0.controls; shown = r.0.shown; sees = sits.2; below = omega arith; absent = λ cpu l. r.0.absent cpu (omega arith) }
+    let few = r.few in
+    record {
+      calls = r.calls;
+      controls = r.controls;
+      shown = r.shown;
+      sees = sits.3;
+      setting_is = sits.2;
+      below = omega arith;
+      absent = λ cpu l. r.absent cpu (omega arith);
+    }
 
 no_lock : (n : ℕ) → (n % 2 == 1) ≡ false → n % 2 ≢ 1
 no_lock n e f = true≢false (sym (eq-eqb (n % 2) 1 f) ∙ e)
@@ -56,16 +63,16 @@ still words e = record {
     outside cpu false t = no_hand words cpu (ltb-false cpu cpus t)
 
 -- the tallies of a table that is drained are equal
-pub drained_equal : (nr : ℕ) (v : Known) (words : List ℕ) (answer : Audit) → Closes nr v words → AuditAnswers (number_in words) answer
+pub drained_equal : (k : Setting) (v : Known) (words : List ℕ) (answer : Audit) → Closes k v words → AuditAnswers (number_in words) answer
     → IfDrained answer AreEqual
-drained_equal nr v words (audit.Drained t) c a = λ source to s d. a.1.queued_are source to s d
+drained_equal k v words (audit.Drained t) c a = λ source to s d. a.1.queued_are source to s d
     ∙ (equal_tallies c.shown (still words a.0) source to ∙ sym (a.1.ran_are to source d s))
-drained_equal nr v words (audit.Left left) c a = tt
+drained_equal k v words (audit.Left left) c a = tt
 
 -- a CPU's rows are those of its part
-pub drained_rows : (nr : ℕ) (d : SeatValue) (words : List ℕ) (answer : Audit) → nr ≤ cpus → Closes nr d.known words → AuditAnswers (number_in words) answer
+pub drained_rows : (k : Setting) (d : SeatValue) (words : List ℕ) (answer : Audit) → k.nr ≤ cpus → Closes k d.known words → AuditAnswers (number_in words) answer
     → IfDrained answer (HasRowsOf (cpu_of d))
-drained_rows nr d words (audit.Drained t) within c a = λ other below.
+drained_rows k d words (audit.Drained t) within c a = λ other below.
     let me = d.known.number in
     let b = c.below in
     let l : me < cpus = omega arith in
@@ -74,12 +81,12 @@ drained_rows nr d words (audit.Drained t) within c a = λ other below.
       a.1.queued_are me other l below ∙ (still_queued c.shown s me other ∙ ap (λ (p : Part). length (sent_to other p.sent) % 2 ^ 64) c.sees.part),
       a.1.ran_are me other l below ∙ (still_ran c.shown s me other ∙ ap (λ (p : Part). length (calls_from other p.ran) % 2 ^ 64) c.sees.part),
     )
-drained_rows nr d words (audit.Left left) within c a = tt
+drained_rows k d words (audit.Left left) within c a = tt
 
 -- nothing was queued for or by a CPU that is not there
-pub drained_zeros : (nr : ℕ) (v : Known) (words : List ℕ) (answer : Audit) → Closes nr v words → AuditAnswers (number_in words) answer
-    → IfDrained answer (HasZerosFrom nr)
-drained_zeros nr v words (audit.Drained t) c a = λ cpu other l m past. (
+pub drained_zeros : (k : Setting) (v : Known) (words : List ℕ) (answer : Audit) → Closes k v words → AuditAnswers (number_in words) answer
+    → IfDrained answer (HasZerosFrom k.nr)
+drained_zeros k v words (audit.Drained t) c a = λ cpu other l m past. (
   a.1.queued_are cpu other l m ∙ elim past [ inl p ↦ none_queued cpu other p | inr p ↦ equal cpu other ∙ none_ran other cpu p ],
   a.1.ran_are cpu other l m ∙ elim past [ inl p ↦ none_ran cpu other p | inr p ↦ sym (equal other cpu) ∙ none_queued other cpu p ],
 )
@@ -87,49 +94,49 @@ drained_zeros nr v words (audit.Drained t) c a = λ cpu other l m past. (
     equal : (source cpu : ℕ) → number_in words (Queued source cpu) ≡ number_in words (Ran cpu source)
     equal = equal_tallies c.shown (still words a.0)
 
-    none : (cpu : ℕ) → nr ≤ cpu → part_of c.calls cpu ≡ part_of no_calls cpu
+    none : (cpu : ℕ) → k.nr ≤ cpu → part_of c.calls cpu ≡ part_of no_calls cpu
     none cpu p = let sees = c.absent cpu p in sees.part
 
-    none_queued : (source cpu : ℕ) → nr ≤ source → number_in words (Queued source cpu) ≡ 0
+    none_queued : (source cpu : ℕ) → k.nr ≤ source → number_in words (Queued source cpu) ≡ 0
     none_queued source cpu p = still_queued c.shown (still words a.0) source cpu ∙ ap (λ (q : Part). length (sent_to cpu q.sent) % 2 ^ 64) (none source p)
 
-    none_ran : (cpu source : ℕ) → nr ≤ cpu → number_in words (Ran cpu source) ≡ 0
+    none_ran : (cpu source : ℕ) → k.nr ≤ cpu → number_in words (Ran cpu source) ≡ 0
     none_ran cpu source p = still_ran c.shown (still words a.0) cpu source ∙ ap (λ (q : Part). length (calls_from source q.ran) % 2 ^ 64) (none cpu p)
-drained_zeros nr v words (audit.Left left) c a = tt
+drained_zeros k v words (audit.Left left) c a = tt
 
 -- all its calls have run
-drained_run : (nr : ℕ) (v : Known) (words : List ℕ) (answer : Audit) (c : Closes nr v words) → AuditAnswers (number_in words) answer
+drained_run : (k : Setting) (v : Known) (words : List ℕ) (answer : Audit) (c : Closes k v words) → AuditAnswers (number_in words) answer
     → IfDrained answer (λ t. HaveRun c.calls)
-drained_run nr v words (audit.Drained t) c a =
+drained_run k v words (audit.Drained t) c a =
     let at = number_in words in
     let s = still words a.0 in
     record { taken = all_sent c.shown s; ran = all_ran c.shown s }
-drained_run nr v words (audit.Left left) c a = tt
+drained_run k v words (audit.Left left) c a = tt
 
 -- what an audit tells of its table
-pub audited : (t : TableValue) (d : SeatValue) (words : List ℕ) (answer : Audit) → d.table ≡ t.table → Closes t.nr d.known words
+pub audited : (t : TableValue) (d : SeatValue) (words : List ℕ) (answer : Audit) → d.table ≡ t.table → Closes (setting_of t) d.known words
     → AuditAnswers (number_in words) answer → Audited t (cpu_of d) answer
 audited t d words answer e c a = record {
   calls = c.calls;
   at = number_in words;
   controls = c.controls;
   shown = c.shown;
-  view = λ i. record (cpu_of d) { table = e i; part = sym c.sees.part i };
+  view = λ i. record (cpu_of d) { table = e i; setting = c.setting_is i; part = sym c.sees.part i };
   below = c.below;
   absent = λ cpu l. let sees = c.absent cpu l in sees.part;
   answers = a;
-  drained = drained_run t.nr d.known words answer c a;
+  drained = drained_run (setting_of t) d.known words answer c a;
 }
 
 -- the words by the value of the CPU that closed the table, and by what it knew
 
-pub closes_with : (t : TableValue) (d : SeatValue) (words : List ℕ) → d.table ≡ t.table → t.nr ≤ cpus → Closes t.nr d.known words
+pub closes_with : (t : TableValue) (d : SeatValue) (words : List ℕ) → d.table ≡ t.table → t.nr ≤ cpus → Closes (setting_of t) d.known words
     → ClosesWith t (cpu_of d) words
 closes_with t d words e within c = record {
   calls = c.calls;
   controls = c.controls;
   shown = c.shown;
-  view = λ i. record (cpu_of d) { table = e i; part = sym c.sees.part i };
+  view = λ i. record (cpu_of d) { table = e i; setting = c.setting_is i; part = sym c.sees.part i };
   below = c.below;
   within = within;
   absent = c.absent;
@@ -141,6 +148,7 @@ module _ (t : TableValue) (last : CpuValue) (words : List ℕ) (c : ClosesWith t
     table = t.table;
     known =
         record {
+          setting = setting_of t;
           number = last.number;
           stage = told_stage (c.controls last.number).stage;
           drain = (c.controls last.number).drain;
@@ -153,13 +161,14 @@ module _ (t : TableValue) (last : CpuValue) (words : List ℕ) (c : ClosesWith t
   pub last_view : cpu_of last_seat ≡ last
   last_view = sym c.view
 
-  pub last_closes : Closes t.nr last_seat.known words
+  pub last_closes : Closes (setting_of t) last_seat.known words
   last_closes =
       record {
         calls = c.calls;
         controls = c.controls;
         shown = c.shown;
         sees = record { stage = refl; drain = refl; part = refl };
+        setting_is = refl;
         below = c.below;
         absent = c.absent;
       }

@@ -3,7 +3,8 @@ use Rattle.std.proofs.Common.{◌≡◌, ℕ, zero, suc, Bool, true, false, None
 use Rattle.std.specs.List.{AllByRecursion}
 use Rattle.smp_words.specs.Size.{records}
 use Rattle.smp_call_steps.specs.HaveRun.{HasRunAt}
-use Rattle.smp_call_steps.specs.Known.{Lives, confirmed_known}
+use Rattle.smp_mask.specs.Mask.{has}
+use Rattle.smp_call_steps.specs.Known.{Lives}
 use Rattle.smp_call_steps.specs.Parts.{row}
 use Rattle.smp_call_steps.proofs.Basics.Alls.{every}
 use Rattle.smp_call_steps.proofs.Knows.Restages.{free_outside}
@@ -12,6 +13,7 @@ use Rattle.smp_call_steps.proofs.State.HaveRun.{confirmed_sync_calls_ended, conf
 use Rattle.smp_queue.specs.Names.{Known, Part}
 use Rattle.smp_queue.specs.Cpu.{cpu_of}
 use Rattle.smp_queue.specs.Seat.{SeatValue}
+use Rattle.smp_queue.specs.Rule.{Sits}
 use Rattle.smp_queue.specs.Laws.{HaveRunFor, IsShown}
 
 row-true : (n i : ℕ) (f : ℕ → Bool) → get_or (row n f) i false ≡ true → f i ≡ true
@@ -31,12 +33,15 @@ have_run d l =
     (l.calls.sent d.known.number)
     (confirmed_calls_have_run l.calls l.at l.controls l.shown d.known.number))
 
-pub is_shown : (d : SeatValue) → Lives d.known → d.known.stage ≡ None → IsShown (cpu_of d)
-is_shown d l e = record {
+pub is_shown : (d : SeatValue) → Sits d.known → has d.known.setting.online d.known.number ≡ true → d.known.stage ≡ None → IsShown (cpu_of d)
+is_shown d s o e = let l = s.lives in record {
   calls = l.calls;
   at = l.at;
   controls = l.controls;
   shown = l.shown;
+  below = s.below;
+  online = o;
+  absent = λ cpu far. let sees = s.absent cpu far in sees.part;
   outside = l.sees.stage ∙ e;
   are_free = λ id own small conf. free_outside l.shown l.sees id own small e conf;
   confirmed_ran = confirmed_calls_ran l.shown;
@@ -44,8 +49,3 @@ is_shown d l e = record {
   have_run = have_run d l;
   view = λ i. record (cpu_of d) { part = sym l.sees.part i };
 }
-
--- where a CPU stands stays as a load confirms a record
-pub stage_kept : (locked : Bool) (id : ℕ) (v : Known) → (cond locked v (confirmed_known id v)).stage ≡ v.stage
-stage_kept true id v = refl
-stage_kept false id v = refl

@@ -3,6 +3,7 @@ use Rattle.std.proofs.Common.{◌≡◌, ℕ, ◌+◌, ◌%◌, ◌^◌, ◌<◌
 use Rattle.std.proofs.Common.{length-append, sym, refl, ap, ◌∙◌, subst, inl, inr, arith}
 use Rattle.std.proofs.lemmas.List.{append-nil, get_or-set_same, get_or-set_other, length-replicate}
 use Rattle.std.proofs.lemmas.Bool.{cases_eq}
+use Rattle.smp_mask.specs.Mask.{has}
 use Rattle.smp_words.specs.Size.{cpus, records}
 use Rattle.smp_call_steps.specs.Stands.{posted}
 use Rattle.smp_call_steps.specs.Histories.{Marked, mark, sent_to, calls_from}
@@ -17,10 +18,12 @@ use Rattle.smp_queue.specs.Names.post
 use Rattle.smp_queue.specs.Seat.{IsCounting, uncounted}
 use Rattle.smp_queue.specs.Cpu.{IsKept}
 
-pub kept_fresh : (v : Known) (number : ℕ) → v ≡ fresh number → number < cpus → IsKept v number (replicate cpus 0) (replicate cpus 0)
-kept_fresh v number e l = record {
+pub kept_fresh : (v : Known) (number : ℕ) → v ≡ fresh v.setting number → number < cpus → has v.setting.online number ≡ true
+    → IsKept v number (replicate cpus 0) (replicate cpus 0)
+kept_fresh v number e l o = record {
   number_is = ap (λ (x : Known). x.number) e;
   below = l;
+  online = o;
   outside = ap (λ (x : Known). x.stage) e;
   records_sized = ap (λ (x : Known). length x.part.confirmed) e ∙ length-row records (λ _. true);
   queued_sized = length-replicate {A = ℕ} cpus 0;
@@ -34,6 +37,7 @@ module _ {v : Known} {number : ℕ} {queued ran : List ℕ} (k : IsKept v number
   kept_confirmed id = record {
     number_is = k.number_is;
     below = k.below;
+    online = k.online;
     outside = k.outside;
     records_sized = length-set v.part.confirmed id true ∙ k.records_sized;
     queued_sized = k.queued_sized;
@@ -46,6 +50,7 @@ module _ {v : Known} {number : ℕ} {queued ran : List ℕ} (k : IsKept v number
   kept_sent to = record {
     number_is = k.number_is;
     below = k.below;
+    online = k.online;
     outside = k.outside;
     records_sized = k.records_sized;
     queued_sized = k.queued_sized;
@@ -71,6 +76,7 @@ module _ {v : Known} {number : ℕ} {queued ran : List ℕ} (k : IsKept v number
   kept_outside = record {
     number_is = k.number_is;
     below = k.below;
+    online = k.online;
     outside = refl;
     records_sized = k.records_sized;
     queued_sized = k.queued_sized;
@@ -92,6 +98,7 @@ module _ {v : Known} {number : ℕ} {queued ran : List ℕ} (k : IsKept v number
   kept_appended to first call below = record {
     number_is = k.number_is;
     below = k.below;
+    online = k.online;
     outside = refl;
     records_sized = length-set v.part.confirmed call.id false ∙ k.records_sized;
     queued_sized = length-set queued to ((get_or queued to 0 + 1) % 2 ^ 64) ∙ k.queued_sized;

@@ -103,6 +103,7 @@ posts_then s s' w old new k to func info class p first lost view confirmed posti
     (λ i. cpu_of (record { table = table i; known = known i })) ∙
     ((λ i. record {
       table = old.table;
+      setting = (seen i).setting;
       number = (seen i).number;
       part = part_queued (posted (posting i)) (posting i).to first (seen i).part;
       tried = ((seen i).tried + lost) + 1;

@@ -1,5 +1,5 @@
 -- Each access keeps the rule of the table, and tells what its play says.
-use Rattle.std.proofs.Common.{◌≡◌, ◌≢◌, ℕ, zero, suc, ◌+◌, ◌<◌, ◌⊎◌, Bool, true, false, ◌==◌, cond, List, [], ◌∷◌, ◌++◌, length, get_or, set, replicate, sym}
+use Rattle.std.proofs.Common.{◌≡◌, ◌≢◌, ℕ, zero, suc, ◌+◌, ◌<◌, ◌≤◌, ◌⊎◌, Bool, true, false, ◌==◌, cond, List, [], ◌∷◌, ◌++◌, length, get_or, set, replicate, sym}
 use Rattle.std.proofs.Common.{refl, ap, ◌∙◌, subst, inl, inr, ⊎_elim, arith, Option, Some, None, length-set}
 use mathlib.Core.Option.{none, some, some-injective, some-ne-none}
 use lib.ListN.{get_elem?, length-replicate}
@@ -14,16 +14,15 @@ use Rattle.smp_call_steps.specs.Calls.{CallState, no_calls}
 use Rattle.smp_call_steps.specs.Stages.{ControlValue}
 use Rattle.smp_call_steps.specs.Value.{outside}
 use Rattle.smp_call_steps.specs.Shows.{Shows}
-use Rattle.smp_call_steps.specs.Known.{Sees, fresh, known_told, known_taking, GoesOn, Lives}
+use Rattle.smp_call_steps.specs.Known.{Sees, fresh, known_told, known_taking, GoesOn}
 use Rattle.smp_call_steps.proofs.Knows.OneStep.{known_step}
-use Rattle.smp_call_steps.proofs.Knows.Handling.{lives_on}
 use Rattle.smp_call_steps.proofs.Machine.Starts.{zeros_shown}
 use Rattle.smp_words.proofs.Zeros.{zero_at}
-use Rattle.smp_queue.specs.Names.{Call, Word, Head, Access, Load, Store, Swap, Exchange, Known, SeatView}
+use Rattle.smp_queue.specs.Names.{Call, Word, Head, Access, Load, Store, Swap, Exchange, Known, Setting, SeatView}
 use Rattle.smp_queue.specs.Names.{Maker, Cpu}
 use Rattle.smp_queue.specs.Names.act
 use Rattle.smp_queue.specs.Cells.{cells, cell_of, number_in}
-use Rattle.smp_queue.specs.Rule.{Ruled, SeatKnows, known, after, seat_made}
+use Rattle.smp_queue.specs.Rule.{Ruled, SeatKnows, Sits, known, after, seat_made}
 use Rattle.smp_queue.specs.Plays.{AfterLoad, AfterStore, AfterExchange, AfterSwap, loaded, stored, exchanged, swapped}
 use Rattle.smp_queue.specs.Seat.{IsCpuSeat, MayAccess}
 use Rattle.smp_queue.proofs.TheRule.Cells.{one_cell, number_here, stored_here}
@@ -69,85 +68,105 @@ exchange_step a at control v w old new can shown sees =
     (exchange_else (a.queue v.number) v w (at w) (cond (at w == old) (Some new) None))
     (known_step shown sees can.stage can.aims (Exchange w old new) can.is_access)
 
-module _ {S : Type 0} where
-  pub starts : Ruled {S = S} (opening (replicate cells 0) [] (Maker 0))
+module _ {S : Type 0} (k : Setting) where
+  pub starts : Ruled {S = S} k (opening (replicate cells 0) [] (Maker 0 k))
   starts = record {
     calls = no_calls;
     controls = λ _. outside;
     seat = λ _. 0;
     next = 0;
+    few = omega arith;
     wide = length-replicate {A = ℕ} cells 0;
     shown = zeros_shown (number_in (replicate cells 0)) (λ _. outside) (λ w. zero_at cells (cell_of w)) (λ _. refl);
     each_seat = each;
     absent = λ _ _. record { stage = refl; drain = refl; part = refl };
   }
     where
-      each : (id : ℕ) (v : SeatView) → get_elem? (Maker 0 ∷ []) id ≡ some v → SeatKnows no_calls (λ _. outside) (λ _. 0) 0 id v
-      each zero v e = subst (SeatKnows no_calls (λ _. outside) (λ _. 0) 0 0) (some-injective (Maker 0) v e) (refl, refl)
+      each : (id : ℕ) (v : SeatView) → get_elem? (Maker 0 k ∷ []) id ≡ some v → SeatKnows k no_calls (λ _. outside) (λ _. 0) 0 id v
+      each zero v e = subst (SeatKnows k no_calls (λ _. outside) (λ _. 0) 0 0) (some-injective (Maker 0 k) v e) (refl, refl, refl)
       each (suc id) v e = absurd (some-ne-none v (sym e))
 
-  pub splits : (id n : ℕ) (v : SeatView) → v ≡ Maker n → Splits {S = S} Ruled id v (after v) (seat_made v)
-  splits id n v is s r at = subst (λ v. Ruled {S = S} record { words = s.words; homes = s.homes; views = set s.views id (after v) ++ seat_made v ∷ [] })
+  pub splits : (id n : ℕ) (v : SeatView) → v ≡ Maker n k → n < k.nr → Splits {S = S} (Ruled k) id v (after v) (seat_made v)
+  splits id n v is low s r at = subst (λ v. Ruled {S = S} k record { words = s.words; homes = s.homes; views = set s.views id (after v) ++ seat_made v ∷ [] })
       (sym is) made
     where
-      mine : (n ≡ r.next) × (id ≡ 0)
-      mine = subst (SeatKnows r.calls r.controls r.seat r.next id) is (r.each_seat id v at)
+      mine : (n ≡ r.next) × (id ≡ 0) × (k ≡ k)
+      mine = subst (SeatKnows k r.calls r.controls r.seat r.next id) is (r.each_seat id v at)
 
       last : ℕ
-      last = length (set s.views id (Maker (n + 1)))
+      last = length (set s.views id (Maker (n + 1) k))
 
-      seat' : ℕ → ℕ
-      seat' = put r.seat n (length (set s.views id (Maker (n + 1))))
-
-      old : (j : ℕ) (u : SeatView) → j ≢ id → get_elem? s.views j ≡ some u → SeatKnows r.calls r.controls r.seat r.next j u
-          → SeatKnows r.calls r.controls (put r.seat n (length (set s.views id (Maker (n + 1))))) (n + 1) j u
-      old j (Maker k) other e h = absurd (other (h.1 ∙ sym mine.1))
+      old : (j : ℕ) (u : SeatView) → j ≢ id → get_elem? s.views j ≡ some u → SeatKnows k r.calls r.controls r.seat r.next j u
+          → SeatKnows k r.calls r.controls (put r.seat n (length (set s.views id (Maker (n + 1) k)))) (n + 1) j u
+      old j (Maker m l) other e h = absurd (other (h.1 ∙ sym mine.1))
       old j (Cpu w) other e h = let a = h.0 in let b = mine.0 in
-          (omega arith, put_other r.seat n (length (set s.views id (Maker (n + 1)))) w.number (λ same. let c = same in omega arith) ∙ h.1, h.2)
+          (omega arith, put_other r.seat n (length (set s.views id (Maker (n + 1) k))) w.number (λ same. let c = same in omega arith) ∙ h.1, h.2, h.3)
 
-      made : Ruled {S = S} record { words = s.words; homes = s.homes; views = set s.views id (Maker (n + 1)) ++ Cpu (fresh n) ∷ [] }
+      made : Ruled {S = S} k record { words = s.words; homes = s.homes; views = set s.views id (Maker (n + 1) k) ++ Cpu (fresh k n) ∷ [] }
       made = record {
         calls = r.calls;
         controls = r.controls;
-        seat = put r.seat n (length (set s.views id (Maker (n + 1))));
+        seat = put r.seat n (length (set s.views id (Maker (n + 1) k)));
         next = n + 1;
+        few = omega arith;
         wide = r.wide;
         shown = r.shown;
         each_seat = λ j u e. ⊎_elim
-            (λ (t : get_elem? (set s.views id (Maker (n + 1))) j ≡ some u). ⊎_elim
-            (λ (t : (j ≡ id) × (Maker (n + 1) ≡ u)). subst (SeatKnows r.calls r.controls (put r.seat n (length (set s.views id (Maker (n + 1))))) (n + 1) j) t.1
-            (refl, t.0 ∙ mine.1))
-            (λ (t : (j ≢ id) × (get_elem? s.views j ≡ some u)). old j u t.0 t.1 (r.each_seat j u t.1)) (at_set s.views id j (Maker (n + 1)) u t))
-            (λ (t : (j ≡ length (set s.views id (Maker (n + 1)))) × (Cpu (fresh n) ≡ u)).
-            subst (SeatKnows r.calls r.controls (put r.seat n (length (set s.views id (Maker (n + 1))))) (n + 1) j) t.1
-            (omega arith, put_same r.seat n (length (set s.views id (Maker (n + 1)))) ∙ sym t.0, r.absent n (let a = mine.0 in omega arith)))
-            (at_snoc (set s.views id (Maker (n + 1))) (Cpu (fresh n)) u j e);
+            (λ (t : get_elem? (set s.views id (Maker (n + 1) k)) j ≡ some u). ⊎_elim
+            (λ (t : (j ≡ id) × (Maker (n + 1) k ≡ u)).
+            subst (SeatKnows k r.calls r.controls (put r.seat n (length (set s.views id (Maker (n + 1) k)))) (n + 1) j) t.1
+            (refl, t.0 ∙ mine.1, refl))
+            (λ (t : (j ≢ id) × (get_elem? s.views j ≡ some u)). old j u t.0 t.1 (r.each_seat j u t.1)) (at_set s.views id j (Maker (n + 1) k) u t))
+            (λ (t : (j ≡ length (set s.views id (Maker (n + 1) k))) × (Cpu (fresh k n) ≡ u)).
+            subst (SeatKnows k r.calls r.controls (put r.seat n (length (set s.views id (Maker (n + 1) k)))) (n + 1) j) t.1
+            (omega arith, put_same r.seat n (length (set s.views id (Maker (n + 1) k))) ∙ sym t.0, refl, r.absent n (let a = mine.0 in omega arith)))
+            (at_snoc (set s.views id (Maker (n + 1) k)) (Cpu (fresh k n)) u j e);
         absent = λ c l. r.absent c (let a = mine.0 in omega arith);
       }
 
-  -- a seat's CPU makes a step of the machine
-  lifts : (s : State S SeatView) (r : Ruled s) (id i n : ℕ) (v w : Known) (carried : List (ℕ × S)) → get_elem? s.views id ≡ some (Cpu v)
-      → GoesOn r.calls r.controls v.number (number_in (set s.words i n)) w → Ruled (stepped s i n id carried (Cpu w) keeps)
-  lifts s r id i n v w carried at g = record {
-    calls = g.calls;
-    controls = g.controls;
-    seat = r.seat;
-    next = r.next;
-    wide = length-set s.words i n ∙ r.wide;
-    shown = g.shown;
-    each_seat = λ j u e. ⊎_elim
-        (λ (t : (j ≡ id) × (Cpu w ≡ u)). subst (SeatKnows g.calls g.controls r.seat r.next j) t.1
-        (subst (λ k. k < r.next) (sym g.number_is) mine.0, ap r.seat g.number_is ∙ (mine.1 ∙ sym t.0), g.mine))
-        (λ (t : (j ≢ id) × (get_elem? s.views j ≡ some u)). other j u t.0 (r.each_seat j u t.1)) (at_set s.views id j (Cpu w) u e);
-    absent = λ c l. g.others (fresh c) (λ e. let a = mine.0 in let b = e in omega arith) (r.absent c l);
-  }
+  -- a CPU that has a seat sits among the CPUs of the table
+  sits : (s : State S SeatView) (r : Ruled k s) (id : ℕ) (v : Known) → SeatKnows k r.calls r.controls r.seat r.next id (Cpu v) → Sits v
+  sits s r id v m =
+      let few = r.few in
+      let low = m.0 in
+      let nr : v.setting.nr ≡ k.nr = ap (λ (j : Setting). j.nr) m.2 in
+      record {
+        lives = record { calls = r.calls; at = number_in s.words; controls = r.controls; shown = r.shown; sees = m.3 };
+        below = omega arith;
+        absent = λ cpu l. subst (λ (j : Setting). Sees r.calls r.controls (fresh j cpu)) (sym m.2) (r.absent cpu (omega arith));
+      }
+
+  -- a seat's CPU makes a step of the machine: it has its seat still, and the rule is kept
+  lifts : (s : State S SeatView) (r : Ruled k s) (id i n : ℕ) (v w : Known) (carried : List (ℕ × S)) → get_elem? s.views id ≡ some (Cpu v)
+      → w.setting ≡ v.setting → GoesOn r.calls r.controls v.number (number_in (set s.words i n)) w
+      → Ruled k (stepped s i n id carried (Cpu w) keeps) × Sits w
+  lifts s r id i n v w carried at same g = (ruled, sits (stepped s i n id carried (Cpu w) keeps) ruled id w its)
     where
-      mine : SeatKnows r.calls r.controls r.seat r.next id (Cpu v)
+      mine : SeatKnows k r.calls r.controls r.seat r.next id (Cpu v)
       mine = r.each_seat id (Cpu v) at
 
-      other : (j : ℕ) (u : SeatView) → j ≢ id → SeatKnows r.calls r.controls r.seat r.next j u → SeatKnows g.calls g.controls r.seat r.next j u
-      other j (Maker k) n h = h
-      other j (Cpu u) n h = (h.0, h.1, g.others u (λ e. n (sym h.1 ∙ (ap r.seat e ∙ mine.1))) h.2)
+      its : SeatKnows k g.calls g.controls r.seat r.next id (Cpu w)
+      its = (subst (λ m. m < r.next) (sym g.number_is) mine.0, ap r.seat g.number_is ∙ mine.1, same ∙ mine.2, g.mine)
+
+      other : (j : ℕ) (u : SeatView) → j ≢ id → SeatKnows k r.calls r.controls r.seat r.next j u → SeatKnows k g.calls g.controls r.seat r.next j u
+      other j (Maker m l) n h = h
+      other j (Cpu u) n h = (h.0, h.1, h.2, g.others u (λ e. n (sym h.1 ∙ (ap r.seat e ∙ mine.1))) h.3)
+
+      ruled : Ruled k (stepped s i n id carried (Cpu w) keeps)
+      ruled = record {
+        calls = g.calls;
+        controls = g.controls;
+        seat = r.seat;
+        next = r.next;
+        few = r.few;
+        wide = length-set s.words i n ∙ r.wide;
+        shown = g.shown;
+        each_seat = λ j u e. ⊎_elim
+            (λ (t : (j ≡ id) × (Cpu w ≡ u)). subst (SeatKnows k g.calls g.controls r.seat r.next j) t.1
+            (subst (λ x. SeatKnows k g.calls g.controls r.seat r.next x (Cpu w)) (sym t.0) its))
+            (λ (t : (j ≢ id) × (get_elem? s.views j ≡ some u)). other j u t.0 (r.each_seat j u t.1)) (at_set s.views id j (Cpu w) u e);
+        absent = λ c l. g.others (fresh k c) (λ e. let a = mine.0 in let b = e in omega arith) (r.absent c l);
+      }
 
   module _ (slots id : ℕ) (me : Me S SeatView) (is : IsCpuSeat me.0) where
     abbrev v : Known
@@ -155,21 +174,22 @@ module _ {S : Type 0} where
 
     steps : (i : ℕ) (f : ℕ → ℕ) (then : ℕ → Me S SeatView → Type 0) →
         ((a : CallState) (control : ℕ → ControlValue) (words : List ℕ) → Shows a (number_in words) control → length words ≡ cells → Sees a control (known me.0)
-        →
-        (w : Known) × GoesOn a control (known me.0).number (number_in (set words i (f (get_or words i 0)))) w × then (get_or words i 0) (Cpu w, me.1)) →
-        Allows Ruled slots id me i f (λ n m. Lives (known m.0) × then n m)
+        → (w : Known) × (w.setting ≡ (known me.0).setting) × GoesOn a control (known me.0).number (number_in (set words i (f (get_or words i 0)))) w
+        × then (get_or words i 0) (Cpu w, me.1)) →
+        Allows (Ruled k) slots id me i f (λ n m. Sits (known m.0) × then n m)
     steps i f then go s r sized at fits =
         let at' : get_elem? s.views id ≡ some (Cpu v) = at ∙ ap some is in
-        let mine : SeatKnows r.calls r.controls r.seat r.next id (Cpu v) = r.each_seat id (Cpu v) at' in
-        let t = go r.calls r.controls s.words r.shown r.wide mine.2 in
-        let lives : Lives t.0 = lives_on r.calls r.controls v.number (number_in (set s.words i (f (get_or s.words i 0)))) t.0 t.1 in
-        (Cpu t.0, keeps, tt, lifts s r id i (f (get_or s.words i 0)) v t.0 me.1 at' t.1, (lives, t.2))
+        let mine : SeatKnows k r.calls r.controls r.seat r.next id (Cpu v) = r.each_seat id (Cpu v) at' in
+        let t = go r.calls r.controls s.words r.shown r.wide mine.3 in
+        let on = lifts s r id i (f (get_or s.words i 0)) v t.0 me.1 at' t.1 t.2 in
+        (Cpu t.0, keeps, tt, on.0, (on.1, t.3))
 
     pub load_allowed : (w : Word) (i : ℕ) → cell_of w ≡ Some i → MayAccess (known me.0) (Load w)
-        → Allows Ruled slots id me i (λ n. n) (loaded (step slots i 0 0 none) me)
+        → Allows (Ruled k) slots id me i (λ n. n) (loaded (step slots i 0 0 none) me)
     load_allowed w i e can = steps i (λ n. n) (AfterLoad (step slots i 0 0 none) me) (λ a control words shown wide sees.
         let here : number_in words w ≡ get_or words i 0 = number_here words w i e in (
           known_told v act.Load w (Some (get_or words i 0)) None,
+          refl,
           subst (λ (x : List ℕ). GoesOn a control v.number (number_in x) (known_told v act.Load w (Some (get_or words i 0)) None)) (sym (set-get_or words i 0))
               (subst (λ n. GoesOn a control v.number (number_in words) (known_told v act.Load w (Some n) None)) here
               (load_step a (number_in words) control v w can shown sees)),
@@ -183,9 +203,10 @@ module _ {S : Type 0} where
         ))
 
     pub store_allowed : (w : Word) (i x : ℕ) → cell_of w ≡ Some i → MayAccess (known me.0) (Store w x)
-        → Allows Ruled slots id me i (λ _. x) (λ _. stored (step slots i x 0 none) me x)
+        → Allows (Ruled k) slots id me i (λ _. x) (λ _. stored (step slots i x 0 none) me x)
     store_allowed w i x e can = steps i (λ _. x) (λ _. AfterStore (step slots i x 0 none) me x) (λ a control words shown wide sees. (
       known_told v act.Store w None (Some x),
+      refl,
       subst (λ (at : Word → ℕ). GoesOn a control v.number at (known_told v act.Store w None (Some x))) (sym (stored_here words w i x wide e))
           (store_step a (number_in words) control v w x can shown sees),
       λ u f. ap (λ (y : Word). Cpu (known_told v act.Store y None (Some x))) (one_cell w u i e f),
@@ -197,7 +218,7 @@ module _ {S : Type 0} where
     exchanged_words words w i n x false l e is = ap number_in (ap (set words i) is ∙ set-get_or words i 0)
 
     pub exchange_allowed : (w : Word) (i old new : ℕ) → cell_of w ≡ Some i → MayAccess (known me.0) (Exchange w old new) →
-        Allows Ruled slots id me i (λ n. either (n == old) new n) (exchanged (step slots i old new none) me)
+        Allows (Ruled k) slots id me i (λ n. either (n == old) new n) (exchanged (step slots i old new none) me)
     exchange_allowed w i old new e can = steps i (λ n. either (n == old) new n) (AfterExchange (step slots i old new none) me)
         (λ a control words shown wide sees.
         let n = get_or words i 0 in
@@ -205,6 +226,7 @@ module _ {S : Type 0} where
         let same : (put_if put_word (number_in words) w (cond (number_in words w == old) (Some new) None)) ≡ number_in (set words i (either (n == old) new n)) =
         ap (λ k. put_if put_word (number_in words) w (cond (k == old) (Some new) None)) here ∙ sym (exchanged_words words w i n new (n == old) wide e refl) in (
           known_told v act.Cas w (Some n) (cond (n == old) (Some new) None),
+          refl,
           subst (λ (at : Word → ℕ). GoesOn a control v.number at (known_told v act.Cas w (Some n) (cond (n == old) (Some new) None))) same
               (subst (λ k. GoesOn a control v.number (put_if put_word (number_in words) w (cond (number_in words w == old) (Some new) None))
               (known_told v act.Cas w (Some k) (cond (k == old) (Some new) None))) here
@@ -213,11 +235,12 @@ module _ {S : Type 0} where
         ))
 
     pub swap_allowed : (w : Word) (i x : ℕ) → cell_of w ≡ Some i → MayAccess (known me.0) (Swap w x)
-        → Allows Ruled slots id me i (λ _. x) (swapped (step slots i x 0 none) me)
+        → Allows (Ruled k) slots id me i (λ _. x) (swapped (step slots i x 0 none) me)
     swap_allowed w i x e can = steps i (λ _. x) (AfterSwap (step slots i x 0 none) me) (λ a control words shown wide sees.
         let here : number_in words w ≡ get_or words i 0 = number_here words w i e in
         let q = a.queue v.number in (
           known_taking q v act.Swap w (Some (get_or words i 0)) (Some x),
+          refl,
           subst (λ (at : Word → ℕ). GoesOn a control v.number at (known_taking q v act.Swap w (Some (get_or words i 0)) (Some x)))
               (sym (stored_here words w i x wide e))
               (subst (λ n. GoesOn a control v.number (put_word (number_in words) w x) (known_taking q v act.Swap w (Some n) (Some x))) here
@@ -238,15 +261,19 @@ pub can_same : (v u : Known) (access : Access) → v ≡ u → MayAccess u acces
 can_same v u access e can = subst (λ (x : Known). MayAccess x access) (sym e) can
 
 -- a CPU that has done nothing has its part of no calls
-fresh_lives : (n : ℕ) → Lives (fresh n)
-fresh_lives n =
+fresh_sits : (k : Setting) (n : ℕ) → n < k.nr → Sits (fresh k n)
+fresh_sits k n low =
     record {
-      calls = no_calls;
-      at = λ _. 0;
-      controls = λ _. outside;
-      shown = zeros_shown (λ _. 0) (λ _. outside) (λ _. refl) (λ _. refl);
-      sees = record { stage = refl; drain = refl; part = refl };
+      lives = record {
+        calls = no_calls;
+        at = λ _. 0;
+        controls = λ _. outside;
+        shown = zeros_shown (λ _. 0) (λ _. outside) (λ _. refl) (λ _. refl);
+        sees = record { stage = refl; drain = refl; part = refl };
+      };
+      below = low;
+      absent = λ _ _. record { stage = refl; drain = refl; part = refl };
     }
 
-pub fresh_seat_is : (m : SeatView) (n : ℕ) → m ≡ Cpu (fresh n) → IsCpuSeat m × Lives (known m)
-fresh_seat_is m n e = (is_of m (fresh n) e, subst (λ (x : SeatView). Lives (known x)) (sym e) (fresh_lives n))
+pub fresh_seat_is : (m : SeatView) (k : Setting) (n : ℕ) → n < k.nr → m ≡ Cpu (fresh k n) → IsCpuSeat m × Sits (known m)
+fresh_seat_is m k n low e = (is_of m (fresh k n) e, subst (λ (x : SeatView). Sits (known x)) (sym e) (fresh_sits k n low))

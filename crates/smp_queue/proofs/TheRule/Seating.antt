@@ -1,45 +1,72 @@
 -- The CPUs of a table, as they are seated one after the other.
-use Rattle.std.proofs.Common.{◌≡◌, ℕ, ◌+◌, ◌<◌, ◌≤◌, Bool, cond, Option, Some, None, List, [], ◌∷◌, ◌++◌, length, length-append, get_or, sym, refl, ap, ◌∙◌}
-use Rattle.std.proofs.Common.{inl, inr, arith}
-use Rattle.std.proofs.lemmas.List.{get_or_push, get_or_append_left}
+use Rattle.std.proofs.Common.{◌≡◌, ℕ, ◌+◌, ◌<◌, ◌≤◌, Bool, true, false, cond, Option, Some, None, List, [], ◌∷◌, ◌++◌, length, length-append, get_or, map}
+use Rattle.std.proofs.Common.{sym, refl, ap, ◌∙◌, subst, inl, inr, arith}
+use Rattle.std.specs.Prelude.{IfSome, is_some}
+use Rattle.std.proofs.lemmas.List.{get_or_push, get_or_append_left, get_or_default}
 use Rattle.std.proofs.lemmas.Bool.{cases_eq}
+use Rattle.std.proofs.Math.ListN.{get_or-map}
 use Rattle.atomic_table.specs.Seated.{TableId}
 use Rattle.smp_mask.specs.Mask.{has}
 use Rattle.smp_words.specs.Limits.{AreLimits}
 use Rattle.smp_queue.specs.Cells.{cells}
-use Rattle.smp_queue.specs.Cpu.{CpuValue, fresh_cpu, IsFull}
-use Rattle.smp_queue.specs.Names.{SeatView, Maker}
+use Rattle.smp_queue.specs.Cpu.{TableValue, CpuValue, fresh_cpu, table_with, is_left, AreWaiting, IsFull}
+use Rattle.smp_queue.specs.Names.{Setting, SeatView, Maker}
 
 -- the CPUs below n have a seat, and of these the ones online are kept
-pub record AreSeated (table maker_table : TableId) (maker : SeatView) (online n : ℕ) (waiting : List (Option CpuValue)) : Type 0 where
+pub record AreSeated (table maker_table : TableId) (maker : SeatView) (k : Setting) (n : ℕ) (waiting : List (Option CpuValue)) : Type 0 where
   pub sized : table.words ≡ cells
   pub maker_is : maker_table ≡ table
-  pub next : maker ≡ Maker n
+  pub next : maker ≡ Maker n k
   pub count : length waiting ≡ n
-  pub each : (cpu : ℕ) → cpu < n → get_or waiting cpu None ≡ cond (has online cpu) (Some (fresh_cpu table cpu)) None
+  pub each : (cpu : ℕ) → cpu < n → get_or waiting cpu None ≡ cond (has k.online cpu) (Some (fresh_cpu (table_with table k) cpu)) None
 
-pub seats_more : (table maker_table maker_table' : TableId) (maker maker' : SeatView) (online n : ℕ) (waiting waiting' : List (Option CpuValue))
-    (x : Option CpuValue) → AreSeated table maker_table maker online n waiting →
-    maker_table' ≡ table → maker' ≡ Maker (n + 1) → waiting' ≡ waiting ++ x ∷ [] → x ≡ cond (has online n) (Some (fresh_cpu table n)) None
-    → AreSeated table maker_table' maker' online (n + 1) waiting'
-seats_more table maker_table maker_table' maker maker' online n waiting waiting' x s is next pushed kept =
+pub seats_more : (table maker_table maker_table' : TableId) (maker maker' : SeatView) (k : Setting) (n : ℕ) (waiting waiting' : List (Option CpuValue))
+    (x : Option CpuValue) → AreSeated table maker_table maker k n waiting →
+    maker_table' ≡ table → maker' ≡ Maker (n + 1) k → waiting' ≡ waiting ++ x ∷ [] → x ≡ cond (has k.online n) (Some (fresh_cpu (table_with table k) n)) None
+    → AreSeated table maker_table' maker' k (n + 1) waiting'
+seats_more table maker_table maker_table' maker maker' k n waiting waiting' x s is next pushed kept =
     let count : length waiting ≡ n = s.count in
+    let t = table_with table k in
     rw pushed (record {
       sized = s.sized;
       maker_is = is;
       next = next;
       count = length-append waiting (x ∷ []) ∙ omega arith;
       each = λ cpu l. elim (cases_eq cpu n) [
-        | inl e ↦ get_or_push waiting x None cpu (count ∙ sym e) ∙ (kept ∙ ap (λ (k : ℕ). cond (has online k) (Some (fresh_cpu table k)) None) (sym e))
+        | inl e ↦ get_or_push waiting x None cpu (count ∙ sym e) ∙ (kept ∙ ap (λ (j : ℕ). cond (has k.online j) (Some (fresh_cpu t j)) None) (sym e))
         | inr ne ↦ get_or_append_left waiting (x ∷ []) None cpu (omega arith) ∙ s.each cpu (omega arith)
       ];
     })
 
--- once all are seated, all that are online are left
-pub seats_full : (table maker_table : TableId) (maker : SeatView) (nr online n : ℕ) (waiting : List (Option CpuValue)) → AreLimits nr online → nr ≤ n
-    → AreSeated table maker_table maker online n waiting →
-    IsFull (record { online = online; cpus_left = waiting }) table online
-seats_full table maker_table maker nr online n waiting limits all s = record {
+-- once all are seated, all that are online wait fresh
+pub seats_wait : (table maker_table : TableId) (maker : SeatView) (k : Setting) (n : ℕ) (waiting : List (Option CpuValue)) → AreLimits k.nr k.online → k.nr ≤ n
+    → AreSeated table maker_table maker k n waiting → AreWaiting (table_with table k) k.online waiting
+seats_wait table maker_table maker k n waiting limits all s = record {
   online_is = refl;
-  fresh_are = λ cpu e. let below = limits.below cpu e in s.each cpu (omega arith) ∙ ap (λ (b : Bool). cond b (Some (fresh_cpu table cpu)) None) e;
+  sized = λ cpu e. let below = limits.below cpu e in let count = s.count in omega arith;
+  fresh_are = λ cpu e. let below = limits.below cpu e in
+      subst (λ o. IfSome o (λ c. c ≡ fresh_cpu (table_with table k) cpu))
+      (sym (s.each cpu (omega arith) ∙ ap (λ (b : Bool). cond b (Some (fresh_cpu (table_with table k) cpu)) None) e)) refl;
 }
+
+-- whether the CPU of a number is left, by what waits there
+pub left_is : (waiting : List (Option CpuValue)) (cpu : ℕ) (o : Option CpuValue) → get_or waiting cpu None ≡ o → get_or (map is_some waiting) cpu false ≡ is_some o
+left_is waiting cpu o e = get_or-map is_some waiting cpu None ∙ ap is_some e
+
+-- and are left
+pub seats_left : (table maker_table : TableId) (maker : SeatView) (k : Setting) (n : ℕ) (waiting : List (Option CpuValue)) → AreLimits k.nr k.online → k.nr ≤ n
+    → AreSeated table maker_table maker k n waiting → (cpu : ℕ) → has k.online cpu ≡ true → get_or (map is_some waiting) cpu false ≡ true
+seats_left table maker_table maker k n waiting limits all s cpu e =
+    let below = limits.below cpu e in
+    left_is waiting cpu (Some (fresh_cpu (table_with table k) cpu))
+    (s.each cpu (omega arith) ∙ ap (λ (b : Bool). cond b (Some (fresh_cpu (table_with table k) cpu)) None) e)
+
+-- the CPU that waits at a number, as it is taken out
+pub taken_from : (waiting : List (Option CpuValue)) (cpu : ℕ) (o now : Option CpuValue) → cpu < length waiting → o ≡ now → now ≡ get_or waiting cpu now
+    → get_or waiting cpu None ≡ o
+taken_from waiting cpu o now low e f = sym (e ∙ (f ∙ get_or_default waiting cpu now None low))
+
+-- is fresh
+pub waits_fresh : (t : TableValue) (online : ℕ) (waiting : List (Option CpuValue)) (cpu : ℕ) (c : CpuValue) → AreWaiting t online waiting → has online cpu ≡ true
+    → get_or waiting cpu None ≡ Some c → c ≡ fresh_cpu t cpu
+waits_fresh t online waiting cpu c w h e = subst (λ o. IfSome o (λ c. c ≡ fresh_cpu t cpu)) e (w.fresh_are cpu h)

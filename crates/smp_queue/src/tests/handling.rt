@@ -3,7 +3,6 @@
 ghost use Rattle.std.specs.Prelude.{◌≡◌};
 ghost use Rattle.smp_queue.specs.declared.handler.Heard.{Heard};
 
-use super::audits::seat;
 use super::*;
 
 /// Writes down the calls that it hears.
@@ -55,9 +54,9 @@ const IDLE: Handled = Handled {
 #[test]
 fn calls_of_two_cpus_run_in_their_order(rt: HostRuntime) -> Result<(), Fail> {
     let (table, mut boot) = CallTable::new(rt.alloc(), 3, "0-2".parse()?)?;
-    let mut zero = drive(&table, &mut boot, 0)?;
-    let mut one = drive(&table, &mut boot, 1)?;
-    let mut two = drive(&table, &mut boot, 2)?;
+    let mut zero = Driver::new(&table, boot.cpu(0)?);
+    let mut one = Driver::new(&table, boot.cpu(1)?);
+    let mut two = Driver::new(&table, boot.cpu(2)?);
     let mut heard = Recorder::new(rt.alloc());
     two_call_a_third(&rt, &mut zero, &mut one, &mut two, &mut heard);
     Ok(())
@@ -88,8 +87,8 @@ fn two_call_a_third(
 #[test]
 fn sync_calls_run_first(rt: HostRuntime) -> Result<(), Fail> {
     let (table, mut boot) = CallTable::new(rt.alloc(), 2, "0-1".parse()?)?;
-    let mut zero = drive(&table, &mut boot, 0)?;
-    let mut one = drive(&table, &mut boot, 1)?;
+    let mut zero = Driver::new(&table, boot.cpu(0)?);
+    let mut one = Driver::new(&table, boot.cpu(1)?);
     let mut heard = Recorder::new(rt.alloc());
     one_calls_in_two_classes(&rt, &mut zero, &mut one, &mut heard);
     Ok(())
@@ -155,9 +154,9 @@ fn in_order(first: u32, second: u32) -> [(u32, u16, u64); 10] {
 #[test]
 fn a_long_batch_runs_in_its_order(rt: HostRuntime) -> Result<(), Fail> {
     let (table, mut boot) = CallTable::new(rt.alloc(), 32, "0-31".parse()?)?;
-    let mut zero = drive(&table, &mut boot, 0)?;
-    let mut eight = drive(&table, &mut boot, 8)?;
-    let mut last = drive(&table, &mut boot, 31)?;
+    let mut zero = Driver::new(&table, boot.cpu(0)?);
+    let mut eight = Driver::new(&table, boot.cpu(8)?);
+    let mut last = Driver::new(&table, boot.cpu(31)?);
     run_ten_twice(&rt, rt.alloc(), &mut zero, &mut eight, &mut last);
     Ok(())
 }
@@ -178,8 +177,8 @@ fn run_ten_twice(
 #[test]
 fn a_record_is_busy_until_its_call_has_run(rt: HostRuntime) -> Result<(), Fail> {
     let (table, mut boot) = CallTable::new(rt.alloc(), 2, "0-1".parse()?)?;
-    let mut zero = drive(&table, &mut boot, 0)?;
-    let mut one = drive(&table, &mut boot, 1)?;
+    let mut zero = Driver::new(&table, boot.cpu(0)?);
+    let mut one = Driver::new(&table, boot.cpu(1)?);
     let mut heard = Recorder::new(rt.alloc());
     posts_twice(&rt, &mut zero, &mut one, &mut heard);
     Ok(())
@@ -198,8 +197,8 @@ fn posts_twice(rt: &impl Abort, zero: &mut Driver, one: &mut Driver, heard: &mut
 #[test]
 fn a_table_is_drained_once_its_call_has_run(rt: HostRuntime) -> Result<(), Fail> {
     let (table, mut boot) = CallTable::new(rt.alloc(), 2, "0-1".parse()?)?;
-    let mut zero = seat(&table, &mut boot, 0)?;
-    let mut one = seat(&table, &mut boot, 1)?;
+    let mut zero = boot.cpu(0)?;
+    let mut one = boot.cpu(1)?;
     let mut heard = Recorder::new(rt.alloc());
     let owed = table.post_within(&mut zero, 1, 1, Class::Async, 7, 9, 1);
     assert_eq!(rt; (owed, table.send(&mut zero, 1)), (Ok(true), Ok(())));
@@ -244,8 +243,8 @@ impl<'a> Handler for Asker<'a> {
 #[test]
 fn a_sync_record_stays_locked_while_its_function_runs(rt: HostRuntime) -> Result<(), Fail> {
     let (table, mut boot) = CallTable::new(rt.alloc(), 2, "0-1".parse()?)?;
-    let zero = drive(&table, &mut boot, 0)?;
-    let mut one = drive(&table, &mut boot, 1)?;
+    let zero = Driver::new(&table, boot.cpu(0)?);
+    let mut one = Driver::new(&table, boot.cpu(1)?);
     let mut asker = Asker {
         source: zero,
         answers: [None, None],
@@ -362,13 +361,13 @@ fn all_to_all<R: Wait + Threads>(
     cpus: [u32; 4],
 ) -> Result<(u64, Audit), Fail> {
     let (table, mut boot) = CallTable::new(alloc, nr, online)?;
-    let last = seat(&table, &mut boot, 4)?;
+    let last = boot.cpu(4)?;
     let shared = AtomicU64::new(0);
     let right = &shared;
-    let zero = drive(&table, &mut boot, cpus[0])?;
-    let one = drive(&table, &mut boot, cpus[1])?;
-    let two = drive(&table, &mut boot, cpus[2])?;
-    let three = drive(&table, &mut boot, cpus[3])?;
+    let zero = Driver::new(&table, boot.cpu(cpus[0])?);
+    let one = Driver::new(&table, boot.cpu(cpus[1])?);
+    let two = Driver::new(&table, boot.cpu(cpus[2])?);
+    let three = Driver::new(&table, boot.cpu(cpus[3])?);
     thread::scope(thread::scope_env(), rt, |scope| {
         let _ = scope.spawn(move || post_to_all(zero, cpus[0], &cpus, 100, right));
         let _ = scope.spawn(move || post_to_all(one, cpus[1], &cpus, 100, right));
@@ -419,10 +418,10 @@ fn all_to_one<R: Wait + Threads>(rt: &R, alloc: Global) -> Result<u64, Fail> {
     let (table, mut boot) = CallTable::new(alloc, 4, "0-3".parse()?)?;
     let shared = AtomicU64::new(0);
     let right = &shared;
-    let zero = drive(&table, &mut boot, 0)?;
-    let one = drive(&table, &mut boot, 1)?;
-    let two = drive(&table, &mut boot, 2)?;
-    let three = drive(&table, &mut boot, 3)?;
+    let zero = Driver::new(&table, boot.cpu(0)?);
+    let one = Driver::new(&table, boot.cpu(1)?);
+    let two = Driver::new(&table, boot.cpu(2)?);
+    let three = Driver::new(&table, boot.cpu(3)?);
     thread::scope(thread::scope_env(), rt, |scope| {
         let _ = scope.spawn(move || post_to_zero(one, right));
         let _ = scope.spawn(move || post_to_zero(two, right));

@@ -1,16 +1,15 @@
 use Rattle.std.proofs.Common.{rules, arith, ap, subst, ◌∙◌}
 use Rattle.smp_call_steps.specs.Known.{Moment}
 use Rattle.smp_queue.specs.Names.{Known}
-use Rattle.smp_queue.proofs.TheRule.Below.{load_below}
+use Rattle.smp_queue.proofs.TheRule.Keeps.{load_allowed, can_same}
 use Rattle.smp_queue.proofs.TheRule.Cells.{cell_below}
-use Rattle.smp_queue.proofs.TheRule.Keeps.{can_same}
 use Rattle.smp_queue.proofs.seat.load.Goals as goal
 
 pub load-requires : goal.load-requires
 load-requires c = let r = c.requires in let low = cell_below c.args.word c.cell.result c.cell.ensures in let w = r.sized in (
   ap (λ d. d.table) c.seat.view_is ∙ r.table_is,
   omega arith,
-  load_below _ _ _ _ c.seat.invariant.0 c.args.word c.cell.result c.cell.ensures
+  load_allowed _ _ _ _ c.seat.invariant.0 c.args.word c.cell.result c.cell.ensures
       (can_same _ _ _ (ap (λ d. d.known) c.seat.view_is) r.can),
 )
 

@@ -1,13 +1,12 @@
 use Rattle.std.proofs.Common.{arith, ap, ◌∙◌}
-use Rattle.smp_queue.proofs.TheRule.Below.{store_below}
+use Rattle.smp_queue.proofs.TheRule.Keeps.{store_allowed, can_same}
 use Rattle.smp_queue.proofs.TheRule.Cells.{cell_below}
-use Rattle.smp_queue.proofs.TheRule.Keeps.{can_same}
 use Rattle.smp_queue.proofs.seat.store.Goals as goal
 
 pub store-requires : goal.store-requires
 store-requires c = let r = c.requires in let low = cell_below c.args.word c.cell.result c.cell.ensures in let w = r.sized in (
   ap (λ d. d.table) c.seat.view_is ∙ r.table_is,
   omega arith,
-  store_below _ _ _ _ c.seat.invariant.0 c.args.word c.cell.result c.args.number c.cell.ensures
+  store_allowed _ _ _ _ c.seat.invariant.0 c.args.word c.cell.result c.args.number c.cell.ensures
       (can_same _ _ _ (ap (λ d. d.known) c.seat.view_is) r.can),
 )

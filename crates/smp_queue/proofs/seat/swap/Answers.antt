@@ -3,16 +3,15 @@ use Rattle.smp_call_steps.specs.Known.{Moment, known_taking}
 use Rattle.smp_queue.specs.Names.{Known}
 use Rattle.smp_queue.specs.Names.act
 use Rattle.smp_queue.specs.Rule.{known}
-use Rattle.smp_queue.proofs.TheRule.Below.{swap_below}
+use Rattle.smp_queue.proofs.TheRule.Keeps.{swap_allowed, can_same}
 use Rattle.smp_queue.proofs.TheRule.Cells.{cell_below}
-use Rattle.smp_queue.proofs.TheRule.Keeps.{can_same}
 use Rattle.smp_queue.proofs.seat.swap.Goals as goal
 
 pub swap-requires : goal.swap-requires
 swap-requires c = let r = c.requires in let low = cell_below c.args.word c.cell.result c.cell.ensures in let w = r.sized in (
   ap (λ d. d.table) c.seat.view_is ∙ r.table_is,
   omega arith,
-  swap_below _ _ _ _ c.seat.invariant.0 c.args.word c.cell.result c.args.number c.cell.ensures
+  swap_allowed _ _ _ _ c.seat.invariant.0 c.args.word c.cell.result c.args.number c.cell.ensures
       (can_same _ _ _ (ap (λ d. d.known) c.seat.view_is) r.can),
 )
 

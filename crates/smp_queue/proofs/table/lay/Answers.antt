@@ -2,12 +2,12 @@ use Rattle.std.proofs.Common.{◌≡◌, ◌∙◌, ℕ, [], List, replicate, sy
 use Rattle.atomic_table.specs.Table.{opening}
 use Rattle.smp_queue.specs.Names.{Maker}
 use Rattle.smp_queue.specs.Cells.{cells}
-use Rattle.smp_queue.specs.Rule.{RuledFor}
-use Rattle.smp_queue.proofs.TheRule.Below.{starts_below}
+use Rattle.smp_queue.specs.Rule.{Ruled}
+use Rattle.smp_queue.proofs.TheRule.Keeps.{starts}
 use Rattle.smp_queue.proofs.table.lay.Goals as goal
 
 pub of_words-requires : goal.of_words-requires
 of_words-requires g c =
     let zeros = c.in_ok-words.ensures.items_if_clones_equal (λ y h. h) in
     let same : c.as_slice.result.now ≡ replicate cells 0 = c.as_slice.ensures.value ∙ zeros in
-    subst (λ (ws : List ℕ). RuledFor c.args.nr (opening ws [] (Maker 0))) (sym same) (starts_below c.args.nr)
+    subst (λ (ws : List ℕ). Ruled c.args.setting.now (opening ws [] (Maker 0 c.args.setting.now))) (sym same) (starts c.args.setting.now)

@@ -21,10 +21,10 @@ returns-clause-rows g c =
     let words = c.close-words.result in
     let e = c.close-words.ensures in
     subst (λ last. IfDrained c.audit-audit.result (HasRowsOf last)) (last_view c.args.self c.args.last words e)
-    (drained_rows c.args.self.nr (last_seat c.args.self c.args.last words e) words c.audit-audit.result e.within
+    (drained_rows _ (last_seat c.args.self c.args.last words e) words c.audit-audit.result e.within
     (last_closes c.args.self c.args.last words e) c.audit-audit.ensures)
 
 pub returns-clause-zeros : goal.returns-clause-zeros
 returns-clause-zeros g c =
     let words = c.close-words.result in
-    drained_zeros c.args.self.nr _ words c.audit-audit.result (last_closes c.args.self c.args.last words c.close-words.ensures) c.audit-audit.ensures
+    drained_zeros _ _ words c.audit-audit.result (last_closes c.args.self c.args.last words c.close-words.ensures) c.audit-audit.ensures

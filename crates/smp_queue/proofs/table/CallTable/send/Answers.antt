@@ -5,7 +5,6 @@ use Rattle.smp_call_steps.specs.Known.{stage_after}
 use Rattle.smp_queue.specs.Names.{Intr, Send, Known, Stage}
 use Rattle.smp_queue.specs.Names.act
 use Rattle.smp_queue.proofs.TheRule.Cells.{has_cell}
-use Rattle.smp_queue.proofs.Audits.Showing.{is_shown}
 use Rattle.smp_queue.proofs.table.CallTable.send.Goals as goal
 
 pub store-requires : goal.store-requires
@@ -22,8 +21,3 @@ store-requires g c =
       apart = tt;
       cell = has_cell (Intr c.args.to) to;
     }
-
-pub returns-clause-laws : goal.returns-clause-laws
-returns-clause-laws g c = is_shown _ c.store.ensures.lives
-    (ap (λ (v : Known). v.stage) c.store.ensures.known
-    ∙ ap (λ (x : Option Stage). stage_after x c.me.inside.seat.known.drain act.Store (Intr c.args.to) None (Some 1)) c.me.invariant.outside)
