@@ -1,0 +1,12 @@
+use Rattle.std.proofs.Common.{ℕ, ◌≡◌, true, ap, subst}
+use Rattle.smp_mask.specs.Mask.{members}
+use Rattle.smp_words.specs.declared.call.Class.TheVariants.{Sync}
+use Rattle.smp_calls.specs.Ended.{HaveEnded}
+use Rattle.smp_calls.specs.Records.{many_call}
+use Rattle.smp_machine.specs.Place.{PlaceValue}
+use Rattle.smp_machine.proofs.machine.Machine.call_many.Goals as goal
+
+pub returns-clause-ended : goal.returns-clause-ended
+returns-clause-ended g c =
+    subst (λ (n : ℕ). c.args.wait ≡ true → HaveEnded c.many.new.me.calls (many_call n Sync c.args.func c.args.info) (members c.many.result))
+    (ap (λ (p : PlaceValue). p.calls.number) c.me.view_is) c.many.ensures.ended

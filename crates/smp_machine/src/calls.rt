@@ -1,0 +1,374 @@
+//! The families of calls on a machine: those of `smp_calls`, by a CPU that has no work in hand.
+//!
+//! Each has two parts: one for a caller's CPU, that refuses with E4 where a work is in hand, and one that is lent the CPU
+//! with its interrupts on. A CPU that waits in a family takes no part in a stop (Linux has preemption off there).
+
+ghost use Rattle.std.specs.Prelude.{◌≡◌, ◌≢◌, ◌⊎◌, ◌<◌, ℕ, true, false, None, Some, [], ◌∷◌, if◌then◌else◌, IfOk, IfErr};
+ghost use Rattle.smp_mask.specs.Mask.{has, members};
+ghost use Rattle.smp_words.specs.Size.{cpus};
+ghost use Rattle.smp_queue.specs.Handling.{heard};
+ghost use Rattle.smp_calls.specs.Ended.{HaveEnded};
+ghost use Rattle.smp_calls.specs.Families.{CallsOne, CallsBy, CallsHere, CallsUserHere, CallsMany, QueuesNone, RefusesUser};
+ghost use Rattle.smp_calls.specs.Records.{call_by, many_call, single_record, user_record, class_for};
+ghost use Rattle.smp_calls.specs.Rounds.{Picks};
+ghost use Rattle.smp_calls.specs.Targets.{IsAny, HasNone, is_target, remote};
+ghost use Rattle.smp_machine.specs.Calls.{KeepsStops, RefusedInHand};
+ghost use Rattle.smp_machine.specs.Place.{IsAt};
+
+use crate::cpu::Cpu;
+use crate::machine::Machine;
+use crate::place::Place;
+use smp_calls::{USER_RECORDS, call_any, call_async, call_many, call_single, each_cpu_cond};
+use smp_mask::{CpuMask, SmpError};
+use smp_queue::Handler;
+use smp_words::call::Class;
+use std::alloc::Allocator;
+use std::sync::Wait;
+
+/// A call to one CPU. Interrupts are on: while it waits, the CPU handles its own.
+fn single<A: Allocator, R: Wait, H: Handler>(
+    machine: &Machine<A>,
+    rt: &R,
+    me: &mut Place<A>,
+    handler: &mut H,
+    dst: u32,
+    func: u16,
+    info: u64,
+    wait: bool,
+) -> Result<(), SmpError>
+    requires at { IsAt machine.now me.old }
+    requires irq { me.old.stops.irq ≡ true }
+    ensures queued { IfOk result (λ _. dst ≢ me.old.calls.number → (has machine.now.calls.online dst ≡ true)
+        × CallsOne H.leads me.old.calls handler.old me.new.calls handler.new dst func info wait) }
+    ensures here { IfOk result (λ _. dst ≡ me.old.calls.number → CallsHere H.leads me.old.calls handler.old me.new.calls handler.new func info wait) }
+    ensures refused { IfErr result (λ e. (e ≡ SmpError.NoCpu) × (dst ≢ me.old.calls.number) × (has machine.now.calls.online dst ≡ false)
+        × QueuesNone H.leads me.old.calls handler.old me.new.calls handler.new None wait) }
+    ensures ended { IfOk result (λ _. wait ≡ true → dst ≢ me.old.calls.number →
+        HaveEnded me.new.calls (λ _. call_by me.old.calls.number (single_record true) Class.Sync func info) (dst ∷ [])) }
+    ensures kept { KeepsStops me.old me.new }
+{
+    call_single(
+        &machine.calls,
+        rt,
+        &mut me.calls,
+        handler,
+        dst,
+        func,
+        info,
+        wait,
+    )
+}
+
+/// A call to one CPU by a record of the user. Interrupts are on: while it waits, the CPU handles its own.
+fn single_async<A: Allocator, R: Wait, H: Handler>(
+    machine: &Machine<A>,
+    rt: &R,
+    me: &mut Place<A>,
+    handler: &mut H,
+    u: u32,
+    dst: u32,
+    func: u16,
+    info: u64,
+) -> Result<(), SmpError>
+    requires at { IsAt machine.now me.old }
+    requires irq { me.old.stops.irq ≡ true }
+    ensures record { IfOk result (λ _. u < USER_RECORDS) }
+    ensures queued { IfOk result (λ _. dst ≢ me.old.calls.number → (has machine.now.calls.online dst ≡ true)
+        × CallsBy H.leads me.old.calls handler.old me.new.calls handler.new (user_record u) Class.Async dst func info false) }
+    ensures here { IfOk result (λ _. dst ≡ me.old.calls.number → CallsUserHere H.leads me.old.calls handler.old me.new.calls handler.new u func info) }
+    ensures refused { IfErr result (λ e. RefusesUser machine.now.calls.online me.old.calls me.new.calls u dst e × (handler.new ≡ handler.old)) }
+    ensures kept { KeepsStops me.old me.new }
+{
+    call_async(
+        &machine.calls,
+        rt,
+        &mut me.calls,
+        handler,
+        u,
+        dst,
+        func,
+        info,
+    )
+}
+
+/// A call to any CPU of a mask. Interrupts are on: while it waits, the CPU handles its own.
+fn any<A: Allocator, R: Wait, H: Handler>(
+    machine: &Machine<A>,
+    rt: &R,
+    me: &mut Place<A>,
+    handler: &mut H,
+    mask: CpuMask,
+    func: u16,
+    info: u64,
+    wait: bool,
+) -> Result<u32, SmpError>
+    requires at { IsAt machine.now me.old }
+    requires irq { me.old.stops.irq ≡ true }
+    ensures any { IfOk result (λ cpu. IsAny mask machine.now.calls.online me.old.calls.number cpu) }
+    ensures queued { IfOk result (λ cpu. cpu ≢ me.old.calls.number → CallsOne H.leads me.old.calls handler.old me.new.calls handler.new cpu func info wait) }
+    ensures here { IfOk result (λ cpu. cpu ≡ me.old.calls.number → CallsHere H.leads me.old.calls handler.old me.new.calls handler.new func info wait) }
+    ensures refused { IfErr result (λ e. (e ≡ SmpError.NoCpu) × HasNone mask machine.now.calls.online me.old.calls.number
+        × (me.new.calls ≡ me.old.calls) × (handler.new ≡ handler.old)) }
+    ensures ended { IfOk result (λ cpu. wait ≡ true → cpu ≢ me.old.calls.number →
+        HaveEnded me.new.calls (λ _. call_by me.old.calls.number (single_record true) Class.Sync func info) (cpu ∷ [])) }
+    ensures kept { KeepsStops me.old me.new }
+{
+    call_any(
+        &machine.calls,
+        rt,
+        &mut me.calls,
+        handler,
+        mask,
+        func,
+        info,
+        wait,
+    )
+}
+
+/// A call to many CPUs. Interrupts are on: while it waits, the CPU handles its own.
+fn many<A: Allocator, R: Wait, H: Handler>(
+    machine: &Machine<A>,
+    rt: &R,
+    me: &mut Place<A>,
+    handler: &mut H,
+    mask: CpuMask,
+    func: u16,
+    info: u64,
+    wait: bool,
+) -> CpuMask
+    requires at { IsAt machine.now me.old }
+    requires irq { me.old.stops.irq ≡ true }
+    ensures targets { (c : ℕ) → has result c ≡ is_target mask machine.now.calls.online me.old.calls.number false c }
+    ensures calls { CallsMany H.leads me.old.calls handler.old me.new.calls handler.new (members result) (class_for wait) func info None wait }
+    ensures ended { wait ≡ true → HaveEnded me.new.calls (many_call me.old.calls.number Class.Sync func info) (members result) }
+    ensures kept { KeepsStops me.old me.new }
+{
+    call_many(
+        &machine.calls,
+        rt,
+        &mut me.calls,
+        handler,
+        mask,
+        func,
+        info,
+        wait,
+    )
+}
+
+/// A call to each CPU of which a condition holds. Interrupts are on: while it waits, the CPU handles its own.
+fn each<A: Allocator, R: Wait, H: Handler, C: Fn(u32, u64) -> bool>(
+    machine: &Machine<A>,
+    rt: &R,
+    me: &mut Place<A>,
+    handler: &mut H,
+    mask: CpuMask,
+    func: u16,
+    info: u64,
+    cond: &C,
+    wait: bool,
+) -> CpuMask
+    requires at { IsAt machine.now me.old }
+    requires irq { me.old.stops.irq ≡ true }
+    requires condition { (c : ℕ) → c < cpus → C.pre cond.now c info }
+    ensures picks { Picks (λ c answer. C.post cond.now c info answer) (is_target mask machine.now.calls.online me.old.calls.number true) result }
+    ensures calls { CallsMany H.leads me.old.calls handler.old me.new.calls handler.new (remote me.old.calls.number result) (class_for wait)
+        func info (if has result me.old.calls.number then Some (heard me.old.calls.number func info) else None) wait }
+    ensures ended { wait ≡ true → HaveEnded me.new.calls (many_call me.old.calls.number Class.Sync func info) (remote me.old.calls.number result) }
+    ensures kept { KeepsStops me.old me.new }
+{
+    each_cpu_cond(
+        &machine.calls,
+        rt,
+        &mut me.calls,
+        handler,
+        mask,
+        func,
+        info,
+        cond,
+        wait,
+    )
+}
+
+impl<A: Allocator> Machine<A> {
+    /// Calls a function on one CPU (`kernel/smp.c: smp_call_function_single`), as [`smp_calls::call_single`].
+    ///
+    /// A call to another CPU is queued at the compare-exchange that wins in its post. It may wait, for the record's last
+    /// call and with `wait` for its own; the targets of the calls that it waits for must poll. While it waits, the CPU
+    /// handles its own interrupts, and takes no part in a stop.
+    ///
+    /// E4 where a work is in hand; then E1 where `dst` is another CPU that is not online.
+    pub fn call_single<R: Wait, H: Handler>(
+        &self,
+        rt: &R,
+        me: &mut Cpu<A>,
+        handler: &mut H,
+        dst: u32,
+        func: u16,
+        info: u64,
+        wait: bool,
+    ) -> Result<(), SmpError>
+        requires at { IsAt self.now me.old }
+        ensures free { IfOk result (λ _. me.old.stops.inside ≡ None) }
+        ensures queued { IfOk result (λ _. dst ≢ me.old.calls.number → (has self.now.calls.online dst ≡ true)
+            × CallsOne H.leads me.old.calls handler.old me.new.calls handler.new dst func info wait) }
+        ensures here { IfOk result (λ _. dst ≡ me.old.calls.number → CallsHere H.leads me.old.calls handler.old me.new.calls handler.new func info wait) }
+        ensures refused { IfErr result (λ e. RefusedInHand e me.old handler.old me.new handler.new
+            ⊎ ((me.old.stops.inside ≡ None) × (e ≡ SmpError.NoCpu) × (dst ≢ me.old.calls.number) × (has self.now.calls.online dst ≡ false)
+            × QueuesNone H.leads me.old.calls handler.old me.new.calls handler.new None wait)) }
+        ensures ended { IfOk result (λ _. wait ≡ true → dst ≢ me.old.calls.number →
+            HaveEnded me.new.calls (λ _. call_by me.old.calls.number (single_record true) Class.Sync func info) (dst ∷ [])) }
+        ensures kept { KeepsStops me.old me.new }
+    {
+        if me.place.in_hand() {
+            return Err(SmpError::BadArgument);
+        }
+        single(self, rt, &mut me.place, handler, dst, func, info, wait)
+    }
+
+    /// Calls a function on one CPU by the user's record `u`, 0 or 1, and does not wait for it
+    /// (`kernel/smp.c: smp_call_function_single_async`), as [`smp_calls::call_async`].
+    ///
+    /// A call to another CPU is queued at the compare-exchange that wins in its post. It waits for no call, but its post
+    /// may wait while others change the same head, and `dst` must poll for the call to run.
+    ///
+    /// E4 where a work is in hand or there is no such record; then E2 where the record's last call is not done; then E1
+    /// where `dst` is another CPU that is not online.
+    pub fn call_async<R: Wait, H: Handler>(
+        &self,
+        rt: &R,
+        me: &mut Cpu<A>,
+        handler: &mut H,
+        u: u32,
+        dst: u32,
+        func: u16,
+        info: u64,
+    ) -> Result<(), SmpError>
+        requires at { IsAt self.now me.old }
+        ensures free { IfOk result (λ _. me.old.stops.inside ≡ None) }
+        ensures record { IfOk result (λ _. u < USER_RECORDS) }
+        ensures queued { IfOk result (λ _. dst ≢ me.old.calls.number → (has self.now.calls.online dst ≡ true)
+            × CallsBy H.leads me.old.calls handler.old me.new.calls handler.new (user_record u) Class.Async dst func info false) }
+        ensures here { IfOk result (λ _. dst ≡ me.old.calls.number → CallsUserHere H.leads me.old.calls handler.old me.new.calls handler.new u func info) }
+        ensures refused { IfErr result (λ e. RefusedInHand e me.old handler.old me.new handler.new
+            ⊎ ((me.old.stops.inside ≡ None) × RefusesUser self.now.calls.online me.old.calls me.new.calls u dst e × (handler.new ≡ handler.old))) }
+        ensures kept { KeepsStops me.old me.new }
+    {
+        if me.place.in_hand() {
+            return Err(SmpError::BadArgument);
+        }
+        single_async(self, rt, &mut me.place, handler, u, dst, func, info)
+    }
+
+    /// Calls a function on one CPU of the mask (`kernel/smp.c: smp_call_function_any`), and answers that CPU, as
+    /// [`smp_calls::call_any`].
+    ///
+    /// A call to another CPU is queued at the compare-exchange that wins in its post. It may wait as `call_single` does;
+    /// the targets of the calls that it waits for must poll.
+    ///
+    /// E4 where a work is in hand; then E1 where the mask has neither this CPU nor one that is online: then nothing is
+    /// waited for.
+    pub fn call_any<R: Wait, H: Handler>(
+        &self,
+        rt: &R,
+        me: &mut Cpu<A>,
+        handler: &mut H,
+        mask: CpuMask,
+        func: u16,
+        info: u64,
+        wait: bool,
+    ) -> Result<u32, SmpError>
+        requires at { IsAt self.now me.old }
+        ensures free { IfOk result (λ _. me.old.stops.inside ≡ None) }
+        ensures any { IfOk result (λ cpu. IsAny mask self.now.calls.online me.old.calls.number cpu) }
+        ensures queued { IfOk result (λ cpu. cpu ≢ me.old.calls.number → CallsOne H.leads me.old.calls handler.old me.new.calls handler.new cpu func info wait) }
+        ensures here { IfOk result (λ cpu. cpu ≡ me.old.calls.number → CallsHere H.leads me.old.calls handler.old me.new.calls handler.new func info wait) }
+        ensures refused { IfErr result (λ e. RefusedInHand e me.old handler.old me.new handler.new
+            ⊎ ((me.old.stops.inside ≡ None) × (e ≡ SmpError.NoCpu) × HasNone mask self.now.calls.online me.old.calls.number
+            × (me.new.calls ≡ me.old.calls) × (handler.new ≡ handler.old))) }
+        ensures ended { IfOk result (λ cpu. wait ≡ true → cpu ≢ me.old.calls.number →
+            HaveEnded me.new.calls (λ _. call_by me.old.calls.number (single_record true) Class.Sync func info) (cpu ∷ [])) }
+        ensures kept { KeepsStops me.old me.new }
+    {
+        if me.place.in_hand() {
+            return Err(SmpError::BadArgument);
+        }
+        any(self, rt, &mut me.place, handler, mask, func, info, wait)
+    }
+
+    /// Calls a function on each online CPU of the mask but this one (`kernel/smp.c: smp_call_function_many`), and answers
+    /// the CPUs called, as [`smp_calls::call_many`].
+    ///
+    /// Each call is queued at the compare-exchange that wins in its post: they are as many steps, not one. It may wait, for
+    /// the records and with `wait` for its calls; its targets must poll. While it waits, the CPU handles its own
+    /// interrupts, and takes no part in a stop.
+    ///
+    /// E4 where a work is in hand.
+    pub fn call_many<R: Wait, H: Handler>(
+        &self,
+        rt: &R,
+        me: &mut Cpu<A>,
+        handler: &mut H,
+        mask: CpuMask,
+        func: u16,
+        info: u64,
+        wait: bool,
+    ) -> Result<CpuMask, SmpError>
+        requires at { IsAt self.now me.old }
+        ensures free { IfOk result (λ _. me.old.stops.inside ≡ None) }
+        ensures targets { IfOk result (λ called. (c : ℕ) → has called c ≡ is_target mask self.now.calls.online me.old.calls.number false c) }
+        ensures calls { IfOk result (λ called. CallsMany H.leads me.old.calls handler.old me.new.calls handler.new (members called) (class_for wait) func info None wait) }
+        ensures ended { IfOk result (λ called. wait ≡ true → HaveEnded me.new.calls (many_call me.old.calls.number Class.Sync func info) (members called)) }
+        ensures refused { IfErr result (λ e. RefusedInHand e me.old handler.old me.new handler.new) }
+        ensures kept { KeepsStops me.old me.new }
+    {
+        if me.place.in_hand() {
+            return Err(SmpError::BadArgument);
+        }
+        Ok(many(self, rt, &mut me.place, handler, mask, func, info, wait))
+    }
+
+    /// Calls a function on each online CPU of the mask of which the condition holds, this one included
+    /// (`kernel/smp.c: on_each_cpu_cond_mask`), and answers the CPUs called, as [`smp_calls::each_cpu_cond`].
+    ///
+    /// Each call is queued at the compare-exchange that wins in its post: they are as many steps, not one. It may wait, for
+    /// the records and with `wait` for its calls; its targets must poll. While it waits, the CPU handles its own
+    /// interrupts, and takes no part in a stop.
+    ///
+    /// E4 where a work is in hand.
+    pub fn each_cpu_cond<R: Wait, H: Handler, C: Fn(u32, u64) -> bool>(
+        &self,
+        rt: &R,
+        me: &mut Cpu<A>,
+        handler: &mut H,
+        mask: CpuMask,
+        func: u16,
+        info: u64,
+        cond: &C,
+        wait: bool,
+    ) -> Result<CpuMask, SmpError>
+        requires at { IsAt self.now me.old }
+        requires condition { (c : ℕ) → c < cpus → C.pre cond.now c info }
+        ensures free { IfOk result (λ _. me.old.stops.inside ≡ None) }
+        ensures picks { IfOk result (λ called. Picks (λ c answer. C.post cond.now c info answer) (is_target mask self.now.calls.online me.old.calls.number true) called) }
+        ensures calls { IfOk result (λ called. CallsMany H.leads me.old.calls handler.old me.new.calls handler.new (remote me.old.calls.number called) (class_for wait)
+            func info (if has called me.old.calls.number then Some (heard me.old.calls.number func info) else None) wait) }
+        ensures ended { IfOk result (λ called. wait ≡ true → HaveEnded me.new.calls (many_call me.old.calls.number Class.Sync func info) (remote me.old.calls.number called)) }
+        ensures refused { IfErr result (λ e. RefusedInHand e me.old handler.old me.new handler.new) }
+        ensures kept { KeepsStops me.old me.new }
+    {
+        if me.place.in_hand() {
+            return Err(SmpError::BadArgument);
+        }
+        Ok(each(
+            self,
+            rt,
+            &mut me.place,
+            handler,
+            mask,
+            func,
+            info,
+            cond,
+            wait,
+        ))
+    }
+}

@@ -1,0 +1,18 @@
+//! What holds of running threads, at any time, of each CPU's value.
+
+ghost use Rattle.smp_queue.specs.Laws.{IsShown as CallsAreShown};
+ghost use Rattle.smp_multi.specs.Laws.{IsShown as StopsAreShown};
+
+use crate::cpu::Cpu;
+use crate::machine::Machine;
+use std::alloc::Allocator;
+
+/// Whatever the threads of other CPUs do: this CPU's value is its part of calls that words of the call table show, and of
+/// stops that words of the stop table show, which keep all laws of the two halves. It makes no step.
+pub fn is_shown<A: Allocator>(machine: &Machine<A>, cpu: &Cpu<A>)
+    ensures calls { CallsAreShown cpu.now.calls }
+    ensures stops { StopsAreShown cpu.now.stops }
+{
+    cpu.place.calls.is_shown();
+    smp_multi::laws::is_shown(&machine.stops, &cpu.place.stops);
+}

@@ -1,0 +1,124 @@
+//! The machine: both tables, and the stopper queues.
+
+ghost use Rattle.std.specs.Prelude.{◌≡◌, ◌⊎◌, ◌↔◌, IfOk, IfErr, OnOk, IsErrOf};
+ghost use Rattle.smp_words.specs.Limits.{AreLimits};
+ghost use Rattle.smp_queue.specs.Audit.{Audited, IfDrained, AreEqual, HasRowsOf, HasZerosFrom};
+ghost use Rattle.smp_machine.specs.Place.{IsAt, IsFull};
+
+use crate::boot::{MachineBoot, seat_all};
+use crate::cpu::Cpu;
+use crate::open::open;
+use crate::place::Place;
+use crate::stoppers::Stoppers;
+use smp_labels::LabelMap;
+use smp_mask::{CpuMask, SmpError};
+use smp_multi::StopTable;
+use smp_queue::{Audit, CallTable};
+use smp_words::limits::are_limits;
+use std::alloc::Allocator;
+use std::marker::Model;
+
+/// The machine: its call table, its stop table and its stopper queues. Threads share it by reference.
+#[derive(Drop)]
+pub struct Machine<A: Allocator> {
+    pub(crate) calls: CallTable<A>,
+    pub(crate) stops: StopTable<A>,
+    pub(crate) queues: Stoppers<A>,
+}
+
+impl<A: Allocator> Model for Machine<A> {
+    ghost use Rattle.smp_machine.specs.Place.{MachineValue, IsMachine};
+
+    ghost Value = { MachineValue };
+
+    ghost view = { λ m. record { calls = m.calls; stops = m.stops; queues = m.queues } };
+
+    ghost invariant = { λ m. IsMachine (record { calls = m.calls; stops = m.stops; queues = m.queues }) };
+}
+
+/// The tables and the queues, and the CPUs.
+fn build<A: Allocator>(
+    alloc: A,
+    nr: u32,
+    online: CpuMask,
+    labels: &LabelMap,
+) -> Result<(Machine<A>, MachineBoot<A>), SmpError>
+where
+    A: Copy,
+    requires { AreLimits nr online }
+    ensures calls { IfOk result (λ t. (t.0.calls.nr ≡ nr) × (t.0.calls.online ≡ online)) }
+    ensures stops { IfOk result (λ t. (t.0.stops.nr ≡ nr) × (t.0.stops.setting ≡ record { online = online; labels = labels.now })) }
+    ensures full { IfOk result (λ t. IsFull t.1 t.0) }
+    ensures err { IfErr result (λ e. e ≡ SmpError.NoMemory) }
+{
+    let (calls, call_cpus) = CallTable::new(alloc, nr, online)?;
+    let (stops, stop_cpus) = StopTable::new(alloc, nr, online, labels)?;
+    let Ok((queues, passes)) = open(alloc) else {
+        return Err(SmpError::NoMemory);
+    };
+    let machine = Machine {
+        calls,
+        stops,
+        queues,
+    };
+    match seat_all(alloc, &machine, call_cpus, stop_cpus, passes) {
+        Ok(boot) => Ok((machine, boot)),
+        Err(_) => Err(SmpError::NoMemory),
+    }
+}
+
+impl<A: Allocator> Machine<A> {
+    /// A machine of `nr` CPUs with no calls, no stops, these labels with all keys off, and those of its CPUs that are
+    /// online, each to be handed out once. E4 where `nr` is not 1 to `NR_CPUS`, no CPU is online, or one that is online
+    /// is not below `nr`; then E6 where a growth is refused. It takes effect at no step, since no thread shares the
+    /// machine yet, and does not wait.
+    pub fn new(
+        alloc: A,
+        nr: u32,
+        online: CpuMask,
+        labels: &LabelMap,
+    ) -> Result<(Machine<A>, MachineBoot<A>), SmpError>
+    where
+        A: Copy,
+        ensures calls { IfOk result (λ t. (t.0.calls.nr ≡ nr) × (t.0.calls.online ≡ online)) }
+        ensures stops { IfOk result (λ t. (t.0.stops.nr ≡ nr) × (t.0.stops.setting ≡ record { online = online; labels = labels.now })) }
+        ensures full { IfOk result (λ t. IsFull t.1 t.0) }
+        ensures limits { OnOk result (AreLimits nr online) }
+        ensures refused { IsErrOf result SmpError.BadArgument ↔ (¬ (AreLimits nr online)) }
+        ensures only { IfErr result (λ e. (e ≡ SmpError.BadArgument) ⊎ (e ≡ SmpError.NoMemory)) }
+    {
+        if !are_limits(nr, online) {
+            return Err(SmpError::BadArgument);
+        }
+        match build(alloc, nr, online, labels) {
+            Ok(built) => Ok(built),
+            Err(_) => Err(SmpError::NoMemory),
+        }
+    }
+
+    /// The CPUs that are online. No step of a table.
+    pub fn online(&self) -> CpuMask
+        ensures calls { result ≡ self.now.calls.online }
+        ensures stops { result ≡ self.now.stops.setting.online }
+        ensures limits { AreLimits self.now.calls.nr result }
+    {
+        self.calls.online()
+    }
+
+    /// Gives up the machine and one of its CPUs, and answers what is left of calls, as [`CallTable::audit`]. Other CPUs of
+    /// the machine are useless afterwards.
+    ///
+    /// It takes effect at no step, since it owns the machine; it does not wait, and nobody must poll any more.
+    pub fn shutdown(self, last: Cpu<A>) -> Audit
+        requires { IsAt self last }
+        ensures audited { Audited self.calls last.calls result }
+        ensures equal { IfDrained result AreEqual }
+        ensures rows { IfDrained result (HasRowsOf last.calls) }
+        ensures zeros { IfDrained result (HasZerosFrom self.calls.nr) }
+    {
+        let Machine { calls, .. } = self;
+        let Cpu { place } = last;
+        let Place { calls: cpu, .. } = place;
+        calls.audit(cpu)
+    }
+}

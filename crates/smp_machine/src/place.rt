@@ -1,0 +1,48 @@
+//! One CPU of a machine, inside the crate.
+
+ghost use Rattle.std.specs.Prelude.{◌≡◌, ◌≢◌, ◌<◌, None, true, false};
+ghost use Rattle.smp_words.specs.Size.{cpus};
+
+use crate::stoppers::Passes;
+use smp_multi::StopCpu;
+use smp_queue::CallCpu;
+use std::alloc::Allocator;
+use std::marker::Model;
+
+/// One CPU: its part of the calls, of the stops and of the queues.
+#[derive(Drop)]
+pub(crate) struct Place<A: Allocator> {
+    pub(crate) calls: CallCpu,
+    pub(crate) stops: StopCpu,
+    pub(crate) passes: Passes<A>,
+}
+
+impl<A: Allocator> Model for Place<A> {
+    ghost use Rattle.smp_machine.specs.Place.{PlaceValue, IsPlace};
+
+    ghost Value = { PlaceValue };
+
+    ghost view = { λ p. record { calls = p.calls; stops = p.stops; passes = p.passes } };
+
+    ghost invariant = { λ p. IsPlace (record { calls = p.calls; stops = p.stops; passes = p.passes }) };
+}
+
+impl<A: Allocator> Place<A> {
+    /// The CPU's number.
+    pub(crate) fn number(&self) -> u32
+        ensures number { (result ≡ self.now.calls.number) × (result ≡ self.now.stops.number) × (result ≡ self.now.passes.number) }
+        ensures below { result < cpus }
+    {
+        self.calls.number()
+    }
+
+    /// Whether a work is in hand. Where none is, interrupts are on.
+    pub(crate) fn in_hand(&self) -> bool
+        ensures yes { result ≡ true → self.now.stops.inside ≢ None }
+        ensures no { result ≡ false → self.now.stops.inside ≡ None }
+        ensures on { result ≡ false → self.now.stops.irq ≡ true }
+    {
+        let _on = self.stops.interrupts_on();
+        self.stops.in_stop()
+    }
+}

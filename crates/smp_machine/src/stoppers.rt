@@ -1,0 +1,84 @@
+//! The stopper queues of all CPUs, and what one CPU holds of them: a pass of each, by which it puts, and one of its own,
+//! by which it takes.
+
+ghost use Rattle.std.specs.Prelude.{◌≡◌, ◌<◌, true, false, MatchOption};
+ghost use Rattle.smp_words.specs.Size.{cpus};
+ghost use Rattle.smp_machine.specs.Passes.{AreHeld, passes_of, puts, takes, PutIsShown, TakenIsShown};
+
+use crate::work_queue::{Item, Put, Take, WorkPass, WorkQueue};
+use std::alloc::Allocator;
+use std::marker::Model;
+use std::sync::Wait;
+
+/// The queues: one for each CPU.
+#[derive(Drop)]
+pub(crate) struct Stoppers<A: Allocator> {
+    pub(crate) queues: Vec<WorkQueue<A>, A>,
+}
+
+impl<A: Allocator> Model for Stoppers<A> {
+    ghost use Rattle.std.specs.Prelude.{◌≡◌, List, map, length};
+    ghost use Rattle.atomic_table.specs.Seated.{TableId};
+    ghost use Rattle.smp_words.specs.Size.{cpus};
+    ghost use Rattle.smp_machine.specs.Passes.{queue_ids};
+
+    ghost Value = { List TableId };
+
+    ghost view = { λ s. queue_ids s.queues.items };
+
+    ghost invariant = { λ s. length s.queues.items ≡ cpus };
+}
+
+/// The passes of one CPU.
+#[derive(Drop)]
+pub(crate) struct Passes<A: Allocator> {
+    number: u32,
+    to: Vec<WorkPass, A>,
+    own: WorkPass,
+}
+
+impl<A: Allocator> Model for Passes<A> {
+    ghost use Rattle.smp_machine.specs.Passes.{PassesValue, AreHeld, passes_of};
+
+    ghost Value = { PassesValue };
+
+    ghost view = { λ p. passes_of p.number p.to.items p.own };
+
+    ghost invariant = { λ p. AreHeld p.number p.to.items p.own };
+}
+
+impl<A: Allocator> Passes<A> {
+    /// The passes of this CPU.
+    pub(crate) fn new(number: u32, to: Vec<WorkPass, A>, own: WorkPass) -> Passes<A>
+        requires { AreHeld number to.items own }
+        ensures { result ≡ passes_of number to.items own }
+    {
+        Passes { number, to, own }
+    }
+}
+
+impl<A: Allocator> Stoppers<A> {
+    /// Puts an item into this CPU's queue (`cpu_stop_queue_work`), at the compare-exchange of its tail; false where it
+    /// was full. It may wait while another CPU is between two steps of a call on the same queue.
+    pub(crate) fn put<R: Wait>(&self, rt: &R, me: &mut Passes<A>, cpu: u32, item: Item) -> bool
+        requires queues { me.old.queues ≡ self.now }
+        requires own { item.slot ≡ me.old.number }
+        requires within { cpu < cpus }
+        ensures put { result ≡ true → (me.new ≡ puts cpu item me.old) × PutIsShown me.new cpu }
+        ensures full { result ≡ false → me.new ≡ me.old }
+    {
+        let pass = &mut me.to[cpu as usize];
+        self.queues[cpu as usize]
+            .push_as::<Put, R>(rt, pass, item)
+            .is_ok()
+    }
+
+    /// Takes the front of the own queue, at the compare-exchange of its head; an empty queue is only looked at. It may
+    /// wait while another CPU is between two steps of a put into this queue.
+    pub(crate) fn take<R: Wait>(&self, rt: &R, me: &mut Passes<A>) -> Option<Item>
+        requires queues { me.old.queues ≡ self.now }
+        ensures { MatchOption result (me.new ≡ me.old) (λ x. (me.new ≡ takes x me.old) × TakenIsShown me.new) }
+    {
+        self.queues[me.number as usize].pop_as::<Take, R>(rt, &mut me.own)
+    }
+}
