@@ -64,6 +64,7 @@ module _ {v : Known} {number : ℕ} {queued ran : List ℕ} (k : IsKept v number
   kept_lost lost = record {
     number_is = k.number_is;
     below = k.below;
+    online = k.online;
     outside = k.outside;
     records_sized = k.records_sized;
     queued_sized = k.queued_sized;

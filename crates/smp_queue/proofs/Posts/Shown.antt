@@ -4,7 +4,7 @@ use Rattle.smp_words.specs.Size.{record_of}
 use Rattle.smp_call_steps.specs.Calls.{CallState}
 use Rattle.smp_call_steps.specs.declared.known.Sending.{Sending}
 use Rattle.smp_call_steps.specs.Histories.{Marked, mark, sent_to, marked_from, history_of}
-use Rattle.smp_call_steps.specs.Known.{standing, outside_known, Lives}
+use Rattle.smp_call_steps.specs.Known.{standing, outside_known, lost_tries, Lives}
 use Rattle.smp_call_steps.proofs.Basics.Lists.{sent_to-push, one_if-same}
 use Rattle.smp_call_steps.proofs.Knows.Restages.{free_outside}
 use Rattle.smp_queue.specs.Names.{Call, Class, Known, Part, Posting}
@@ -21,15 +21,15 @@ module _ (d : SeatValue) (l : Lives d.known) where
     at = l.at;
     controls = l.controls;
     shown = l.shown;
-    view = λ i. record { table = d.table; number = d.known.number; part = sym l.sees.part i };
+    view = λ i. record (cpu_of d) { part = sym l.sees.part i };
     holds = h;
   }
 
   -- a CPU that has given a record up
-  pub free_then : (v w : Known) (new : CpuValue) (p : Posting) (k : ℕ) → d.known ≡ outside_known w → w ≡ standing (uncounted p) post.Count v →
+  pub free_then : (v w : Known) (new : CpuValue) (p : Posting) (k lost : ℕ) → d.known ≡ outside_known (lost_tries lost w) → w ≡ standing (uncounted p) post.Count v →
       v.part ≡ new.part → v.number ≡ new.number → MayQueue new p → p.id ≡ record_of new.number k → ShowsThat (cpu_of d) (IsFree (cpu_of d) k)
-  free_then v w new p k left stands part number may is =
-      let known : d.known ≡ outside_known v = left ∙ ap outside_known stands in
+  free_then v w new p k lost left stands part number may is =
+      let known : d.known ≡ outside_known (lost_tries lost v) = left ∙ ap (λ (u : Known). outside_known (lost_tries lost u)) stands in
       let n : d.known.number ≡ new.number = ap (λ (u : Known). u.number) known ∙ number in
       let call = may.is_call in
       let id : record_of d.known.number k ≡ p.id = ap (λ (m : ℕ). record_of m k) n ∙ sym is in

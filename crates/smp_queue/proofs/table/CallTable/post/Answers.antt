@@ -1,6 +1,6 @@
 use Rattle.std.proofs.Common.{ℕ, ◌+◌, ◌%◌, ◌^◌, set, get_or, sym, ap, ◌∙◌, subst}
 use Rattle.smp_queue.specs.Names.{Posting}
-use Rattle.smp_queue.specs.Cpu.{CpuValue, IsKept}
+use Rattle.smp_queue.specs.Cpu.{CpuValue, IsKept, loses}
 use Rattle.smp_queue.proofs.Posts.Kept.{kept_posted}
 use Rattle.smp_queue.proofs.Posts.Own.{mine_of, posts_then}
 use Rattle.smp_queue.proofs.Posts.Shown.{marked_then}
@@ -37,5 +37,5 @@ returns-clause-answers g c =
 pub returns-clause-marked : goal.returns-clause-marked
 returns-clause-marked g c =
     let answers = returns-clause-answers g c in
-    marked_then c.append_until_won-first.new.seat c.append_until_won-first.ensures.lives c.args.me.now c.args.k c.args.to c.args.func c.args.info c.args.class
-    c.append_until_won-first.result answers.2
+    marked_then c.append_until_won-first.new.seat c.append_until_won-first.ensures.lives (loses answers.2 c.args.me.now) c.args.k c.args.to c.args.func c.args.info
+    c.args.class c.append_until_won-first.result answers.3

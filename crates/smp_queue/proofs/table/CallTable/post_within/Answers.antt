@@ -1,7 +1,7 @@
 use Rattle.std.proofs.Common.{ℕ, ◌+◌, ◌%◌, ◌^◌, set, get_or, sym, ap, ◌∙◌, subst}
 use Rattle.smp_words.specs.Size.{record_of}
 use Rattle.smp_queue.specs.Names.{Posting}
-use Rattle.smp_queue.specs.Cpu.{CpuValue, IsKept}
+use Rattle.smp_queue.specs.Cpu.{CpuValue, IsKept, loses}
 use Rattle.smp_queue.proofs.Posts.Kept.{kept_posted}
 use Rattle.smp_queue.proofs.Posts.Own.{mine_of, posts_then}
 use Rattle.smp_queue.proofs.Posts.Shown.{free_then, marked_then}
@@ -38,12 +38,13 @@ returns-in-Some-clause-answers g c =
 pub returns-in-Some-clause-marked : goal.returns-in-Some-clause-marked
 returns-in-Some-clause-marked g c =
     let answers = returns-in-Some-clause-answers g c in
-    marked_then c.append.new.seat c.append.ensures.lives c.args.me.now c.args.k c.args.to c.args.func c.args.info c.args.class c.in-Some.first answers.2
+    marked_then c.append.new.seat c.append.ensures.lives (loses answers.2 c.args.me.now) c.args.k c.args.to c.args.func c.args.info c.args.class
+    c.in-Some.first answers.3
 
 pub returns-in-None-clause-free : goal.returns-in-None-clause-free
 returns-in-None-clause-free g c _ =
     let e = c.in_ok-posting.ensures in
     let new : CpuValue = c.begin_post.new.me in
     free_then c.append.new.seat c.append.ensures.lives c.me.inside.seat.known c.write_record.new.seat.known new c.in_ok-posting.posting c.args.k
-    c.in-None.ensures.lost c.write_record.ensures.known (ap (λ (x : CpuValue). x.part) c.me.view_is) (ap (λ (x : CpuValue). x.number) c.me.view_is) e.4
+    c.args.tries c.in-None.ensures.lost c.write_record.ensures.known (ap (λ (x : CpuValue). x.part) c.me.view_is) (ap (λ (x : CpuValue). x.number) c.me.view_is) e.4
     (ap (λ (p : Posting). p.id) e.3 ∙ ap (λ (x : CpuValue). record_of x.number c.args.k) (sym e.2))
