@@ -2,7 +2,7 @@
 use Rattle.std.specs.Prelude.{◌≡◌, ◌≢◌, ◌⊎◌, ℕ, Bool, true, false, Option, Some, None, [], ◌∷◌, ◌++◌, length}
 use Rattle.smp_words.specs.Put.{put}
 use Rattle.smp_call_steps.specs.Calls.{CallState, is_nil}
-use Rattle.smp_call_steps.specs.Stands.{Rests, share_of}
+use Rattle.smp_call_steps.specs.Premises.{HandlesNothing}
 use Rattle.smp_call_steps.specs.Words.{last_batch}
 use Rattle.smp_call_steps.specs.Names.{Call, Word, Intr, Hand, Flags, Note}
 use Rattle.smp_call_steps.specs.Names.place
@@ -44,8 +44,8 @@ NoteMeans a b me (Flags id) note.Done = (b.place id ≡ place.Free) × (b.confir
 NoteMeans a b me (Flags id) note.NoCpu = (b.place id ≡ place.Free) × (b.confirmed me id ≡ true)
 NoteMeans a b me (Flags id) note.Contended = (b.place id ≡ place.Free) × (b.held me ≡ None)
 NoteMeans a b me (Intr to) note.Sent = (b.pending to ≡ true) × (b.owes me to ≡ false)
-NoteMeans a b me (Hand cpu) note.Idle = (cpu ≡ me) × Rests (share_of b me)
-NoteMeans a b me (Hand cpu) (note.Handled n) = (cpu ≡ me) × Rests (share_of b me) × (n ≡ length (last_batch (b.taken me)))
+NoteMeans a b me (Hand cpu) note.Idle = (cpu ≡ me) × HandlesNothing b me
+NoteMeans a b me (Hand cpu) (note.Handled n) = (cpu ≡ me) × HandlesNothing b me × (n ≡ length (last_batch (b.taken me)))
 NoteMeans a b me _ note.Owed = Unit {0}
 NoteMeans a b me _ note.Queued = Unit {0}
 NoteMeans a b me _ (note.Call source func info) = Unit {0}

@@ -4,7 +4,6 @@ use Rattle.smp_words.specs.Size.{cpus, owner}
 use Rattle.smp_call_steps.specs.Calls.{CallState, Holding, Nothing, CountedCall}
 use Rattle.smp_call_steps.specs.Functions.{runs_as}
 use Rattle.smp_call_steps.specs.Places.{Holds}
-use Rattle.smp_call_steps.specs.Stands.{Rests, share_of}
 use Rattle.smp_call_steps.specs.Names.{Call, Class, Sync, Async, Word, Head, Intr, Hand, Queued, Ran, Flags, Func, Info, Next, Act, RecPlace}
 use Rattle.smp_call_steps.specs.Names.place
 use Rattle.smp_call_steps.specs.Names.act
@@ -36,12 +35,18 @@ pub record IsNext (a : CallState) (me : ℕ) (class : Class) (call : Call) : Typ
   pub idle : a.running me ≡ Nothing
   pub class_is : call.class ≡ class
 
+-- it handles nothing: nothing is left of its batch, nothing runs, and it has accepted no interrupt
+pub record HandlesNothing (a : CallState) (me : ℕ) : Type 0 where
+  pub batch : a.batch me ≡ []
+  pub idle : a.running me ≡ Nothing
+  pub accepted : a.accepted me ≡ false
+
 -- a free record of its own is locked by a CPU that holds none and handles nothing
 pub record MayLock (a : CallState) (me id : ℕ) : Type 0 where
   pub owned : owner id ≡ me
   pub free : a.place id ≡ place.Free
   pub none : a.held me ≡ None
-  pub rests : Rests (share_of a me)
+  pub rests : HandlesNothing a me
 
 -- a record is unlocked by the CPU that holds it and has counted its call back; by the one whose SYNC call it is, once that
 -- is counted; or where its ASYNC call is next
@@ -57,7 +62,7 @@ MayStoreFlags a me id (suc n) = MayLock a me id
 -- the handling word is stored as a CPU enters, where it has nothing to handle, and leaves, where it has nothing left; or
 -- as the SYNC call of a record begins, which is next
 abbrev pub MayStoreHand : CallState → ℕ → ℕ → Type 0
-MayStoreHand a me n = ((n < 2) × Rests (share_of a me)) ⊎ ((call : Call) × (n ≡ call.id + 2) × IsNext a me Sync call)
+MayStoreHand a me n = ((n < 2) × HandlesNothing a me) ⊎ ((call : Call) × (n ≡ call.id + 2) × IsNext a me Sync call)
 
 -- the next word of a record is stored by the CPU that holds it, or in whose batch it is, and which runs nothing
 abbrev pub MayLink : CallState → ℕ → ℕ → Type 0
@@ -106,6 +111,6 @@ MaySee a me act.Store (Ran by source) found put = (by ≡ me) × MayCountRun a m
 MaySee a me act.Store (Hand cpu) found (Some n) = (cpu ≡ me) × MayStoreHand a me n
 MaySee a me act.Store (Intr to) found put = to < cpus
 MaySee a me act.Cas (Head to) found put = HoldsFor (a.held me) to × LeadsTo (a.held me) put
-MaySee a me act.Swap (Intr cpu) found put = (cpu ≡ me) × Rests (share_of a me)
+MaySee a me act.Swap (Intr cpu) found put = (cpu ≡ me) × HandlesNothing a me
 MaySee a me act.Swap (Head cpu) found put = (cpu ≡ me) × MayTake a me
 MaySee a me _ _ found put = ⊥

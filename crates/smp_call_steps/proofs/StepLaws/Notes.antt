@@ -21,6 +21,7 @@ use Rattle.smp_call_steps.specs.Names.place
 use Rattle.smp_call_steps.specs.Names.post
 use Rattle.smp_call_steps.specs.Names.handle
 use Rattle.smp_call_steps.proofs.Knows.Parts.{first_link}
+use Rattle.smp_call_steps.proofs.StepLaws.Premises.{rests}
 use Rattle.smp_call_steps.proofs.Steps.Turns.{stands_at}
 
 -- what queues nothing
@@ -188,8 +189,8 @@ module _ (a : CallState) (at : Word → ℕ) (control : ℕ → ControlValue) (s
 
   means_handle : (stage : HandleStage) → (control me).stage ≡ Some (Handle stage) → Means (Handle stage)
   means_handle handle.Accept e = means_accept (at (Intr me) == 0) (accepts a me)
-  means_handle handle.LeaveIdle e = let k = stands_at me s handle.LeaveIdle e in (refl, k.1)
-  means_handle handle.Leave e = let k = stands_at me s handle.Leave e in (refl, k.1.0, k.1.1)
+  means_handle handle.LeaveIdle e = let k = stands_at me s handle.LeaveIdle e in (refl, rests a at control s me k.1)
+  means_handle handle.Leave e = let k = stands_at me s handle.Leave e in (refl, rests a at control s me k.1.0, k.1.1)
   means_handle _ e = tt
 
   pub says_so : (stage : Stage) → (control me).stage ≡ Some stage → Means stage

@@ -5,10 +5,10 @@ use Rattle.smp_words.specs.Flags.{flags_of}
 use Rattle.smp_call_steps.specs.Calls.{CallState, Holding, Running, Nothing}
 use Rattle.smp_call_steps.specs.Functions.{runs_as}
 use Rattle.smp_call_steps.specs.Places.{Holds, IsPlaced}
-use Rattle.smp_call_steps.specs.Premises.{HoldsUncounted, HoldsFor, MayCount, LeadsTo, MayLock, MayStoreFlags, MaySee}
+use Rattle.smp_call_steps.specs.Premises.{HoldsUncounted, HoldsFor, HandlesNothing, MayCount, LeadsTo, MayLock, MayStoreFlags, MaySee}
 use Rattle.smp_call_steps.specs.Shows.{Shows}
 use Rattle.smp_call_steps.specs.Stages.{ControlValue, access_of}
-use Rattle.smp_call_steps.specs.Stands.{StandsAt, share_of, holding, held_of, Reverses, Walks, Ends}
+use Rattle.smp_call_steps.specs.Stands.{Rests, StandsAt, share_of, holding, held_of, Reverses, Walks, Ends}
 use Rattle.smp_call_steps.specs.Words.{nexts_in}
 use Rattle.smp_call_steps.specs.Names.{Call, Class, Sync, Async, Word, Head, Posting, PostStage, Walk, HandleStage, Stage, Send, Done, Post, Handle}
 use Rattle.smp_call_steps.specs.Names.place
@@ -33,6 +33,9 @@ module _ (a : CallState) (at : Word → ℕ) (control : ℕ → ControlValue) (s
   holds : (P : Option Holding → Type 0) (stage : Stage) → (control me).stage ≡ Some stage → P (held_of (Some stage)) → P (a.held me)
   holds P stage e p = subst P (sym (s.held me ∙ ap held_of e)) p
 
+  pub rests : Rests (share_of a me) → HandlesNothing a me
+  rests k = record { batch = k.batch; idle = k.running; accepted = k.accepted }
+
   lock : (c : Class) (id : ℕ) → MayLock a me id → MayStoreFlags a me id (flags_of c)
   lock Sync id m = m
   lock Async id m = m
@@ -45,7 +48,7 @@ module _ (a : CallState) (at : Word → ℕ) (control : ℕ → ControlValue) (s
   may_post p post.LoadFlags e = let k = stands (Post p post.LoadFlags) e in inl k.1.owned
   may_post p post.Lock e =
       let k = stands (Post p post.Lock) e in
-      lock p.class p.id (record { owned = k.1.owned; free = k.1.knows; none = s.held me ∙ ap held_of e; rests = k.0 })
+      lock p.class p.id (record { owned = k.1.owned; free = k.1.knows; none = s.held me ∙ ap held_of e; rests = rests k.0 })
   may_post p post.StoreFunc e = holds (λ h. HoldsUncounted h p.id) (Post p post.StoreFunc) e (refl, refl)
   may_post p post.StoreInfo e = holds (λ h. HoldsUncounted h p.id) (Post p post.StoreInfo) e (refl, refl)
   may_post p post.Count e = (refl, holds (λ h. MayCount h p.to) (Post p post.Count) e (λ f. cc))
@@ -83,9 +86,9 @@ module _ (a : CallState) (at : Word → ℕ) (control : ℕ → ControlValue) (s
   runs r class call e c is = e ∙ (is ∙ ap (λ (x : Class). runs_as x call) (sym c))
 
   may_handle : (stage : HandleStage) → (control me).stage ≡ Some (Handle stage) → Premise (Handle stage)
-  may_handle handle.Enter e = let k = stands_at me s handle.Enter e in (refl, inl (omega arith, k.1))
-  may_handle handle.Accept e = let k = stands_at me s handle.Accept e in (refl, k.1)
-  may_handle handle.LeaveIdle e = let k = stands_at me s handle.LeaveIdle e in (refl, inl (omega arith, k.1))
+  may_handle handle.Enter e = let k = stands_at me s handle.Enter e in (refl, inl (omega arith, rests k.1))
+  may_handle handle.Accept e = let k = stands_at me s handle.Accept e in (refl, rests k.1)
+  may_handle handle.LeaveIdle e = let k = stands_at me s handle.LeaveIdle e in (refl, inl (omega arith, rests k.1))
   may_handle handle.Take e = let k = stands_at me s handle.Take e in (refl, record { accepted = k.1.2; batch = k.1.0; idle = k.1.1 })
   may_handle (handle.ReverseLoad newer id) e = let k = stands_at me s (handle.ReverseLoad newer id) e in reversed _ _ id k.1.0 k.1.1 k.1.2
   may_handle (handle.ReverseStore newer id older) e =
@@ -113,7 +116,7 @@ module _ (a : CallState) (at : Word → ℕ) (control : ℕ → ControlValue) (s
       inr (inr (call, refl, record { rest = _; front = k.1.1.batch; idle = k.1.1.running_is; class_is = ends_async k.1.1 }))
   may_handle (handle.CountAsync call next) e =
       let k = stands_at me s (handle.CountAsync call next) e in (refl, (call, refl, runs _ Async call k.1.1.running_is k.1.3 refl))
-  may_handle handle.Leave e = let k = stands_at me s handle.Leave e in (refl, inl (omega arith, k.1.0))
+  may_handle handle.Leave e = let k = stands_at me s handle.Leave e in (refl, inl (omega arith, rests k.1.0))
 
   pub may_see : (stage : Stage) → (control me).stage ≡ Some stage → Premise stage
   may_see (Send to) e = let k = stands (Send to) e in k.1
