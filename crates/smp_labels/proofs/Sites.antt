@@ -1,11 +1,10 @@
 -- Which sites of a lawful table jump, case by case.
-use Rattle.std.proofs.Common.{◌≡◌, ℕ, ◌+◌, ◌*◌, ◌<◌, Bool, true, false, nat_lt, lt-ltb, sym, ap, ◌∙◌, refl, arith, Some}
+use Rattle.std.proofs.Common.{◌≡◌, ℕ, ◌+◌, ◌*◌, ◌<◌, Bool, true, false, lt-ltb, ap, ◌∙◌, arith}
 use Rattle.smp_labels.specs.Entries.{entry_at, entry_word}
 use Rattle.smp_labels.specs.Keys.{is_on}
 use Rattle.smp_labels.specs.Kinds.{kind_of, kind_word}
 use Rattle.smp_labels.specs.Law.{IsLawful, Table, site_word}
 use Rattle.smp_labels.specs.Sites.{Jumps}
-use Rattle.smp_labels.specs.declared.entries.Entry.{Entry}
 use Rattle.smp_labels.proofs.Lawful.{entry_at-word}
 
 module _ (t : Table) (l : IsLawful t) (i k : ℕ) (small : i < 16) where
