@@ -5,7 +5,7 @@
 //! | [`call_single`] | one CPU | sync, or async without wait | returns once the function has run there | first waits for the record's last call |
 //! | [`call_async`] | one CPU | one of the user's | | refused where the record's last call is not done |
 //! | [`call_any`] | this CPU, else the lowest of a mask | as `call_single` | as `call_single` | as `call_single` |
-//! | [`call_many`] | each of a mask but this CPU | that of the destination | returns once the function has run on each | first waits for each record's last call |
+//! | [`call_many`] | each of a mask but this CPU | that of the destination | returns once it has run on each | first waits for each record's last call |
 //! | [`each_cpu_cond`] | each of a mask of which a condition holds | as `call_many` | as `call_many` | as `call_many` |
 //!
 //! On the calling CPU itself a function runs at once, and nothing is queued. A CPU that waits handles its own

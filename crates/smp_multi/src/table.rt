@@ -6,15 +6,18 @@
 //! | Word | Loads | Stores | Other steps | What orders them |
 //! |---|---|---|---|---|
 //! | `gate` | none | 0 by its holder | compare-exchange by each CPU | a won exchange and the holder's store are one stretch, in which no other begins a stop |
-//! | kind, mask, active, func and arg of a slot | its CPUs, inside the stop | the source, before the roll | none | the store of the roll, and the fetch_and by which a CPU enters |
-//! | its `roll` | none | the source, which opens the stop | fetch_and by each CPU, which takes its own bit | the bit: with it the CPU is in the stop, and the source's later stores wait until all have completed |
+//! | kind, mask, active, func, arg of a slot | its CPUs, inside the stop | the source, before the roll | none | the store of the roll, and its fetch_and |
+//! | its `roll` | none | the source, which opens the stop | fetch_and by each CPU, of its own bit | the bit: with it the CPU is in the stop |
 //! | its `state` | its CPUs, inside the stop | the source before the roll; the last CPU to acknowledge a phase | none | the count of acknowledgements |
-//! | its `ack` | none | the source before the roll; the last CPU to acknowledge | fetch_sub by each of its CPUs, once in each phase | who finds 1 is the last, and alone until it stores the phase |
-//! | its `result` | the source, once it has found done set | the source before the roll; its CPUs, before they count themselves | none | the count of completions, then done |
+//! | its `ack` | none | the source before the roll; the last to acknowledge | fetch_sub by each of its CPUs, once a phase | who finds 1 is the last |
+//! | its `result` | the source, once done is set | the source before the roll; its CPUs, before they count themselves | none | the counts, then done |
 //! | its `todo` | none | the source before the roll | fetch_sub by each of its CPUs, once | who finds 1 is the last |
 //! | its `done` | the source | the source before the roll; the last CPU to complete | none | the count of completions |
-//! | keys and sites | each CPU with interrupts on; the runner of a patch | the runner of a patch | compare-exchange of a key by an online CPU with interrupts on | the phases: while a patch runs, every online CPU has interrupts off |
+//! | keys and sites | CPUs with interrupts on; who patches | who patches | compare-exchange of a key by an online CPU with interrupts on | the phases |
 //! | entries | the runner of a patch | none | none | they stay |
+//!
+//! The source's stores into its slot wait until all CPUs of its last stop have completed. The last CPU to acknowledge a
+//! phase is alone until it stores the next one. While a patch runs, every online CPU has interrupts off.
 
 ghost use Rattle.std.specs.Prelude.{◌≡◌, ◌≢◌, ◌⊎◌, ◌↔◌, ℕ, ◌<◌, true, false, if◌then◌else◌, IfOk, IfErr, OnOk, IsErrOf};
 ghost use Rattle.smp_mask.specs.Mask.{has};

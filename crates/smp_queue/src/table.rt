@@ -5,14 +5,18 @@
 //!
 //! | Word | Loads | Stores | Exchanges | What orders them |
 //! |---|---|---|---|---|
-//! | `head.c` | each CPU but c, before its first exchange | none | compare-exchange by each CPU but c; swap by c | each won exchange and each swap is one point in the queue's order; a lost one finds the newest head |
+//! | `head.c` | each CPU but c, before its first exchange | none | compare-exchange by each CPU but c; swap by c | each won exchange and each swap |
 //! | `intr.c` | none | 1 by each CPU | swap with 0 by c | the swap answers all stores of 1 before it; whoever found an empty queue still owes a store |
 //! | `hand.c` | none | c | none | c alone |
 //! | `queued.s.d` | s | s | none | s alone |
 //! | `ran.d.s` | d | d | none | d alone |
-//! | `flags.r` | the source at any time, the target with the record in its batch | the source while LOCK is clear or its record is not queued; the target's last store of a call | none | LOCK: between the won exchange and the target's clearing store, the source only loads |
-//! | `func.r`, `info.r` | the target with the record in its batch | the source before the exchange that queues the record | none | that exchange, and the swap that takes the queue |
+//! | `flags.r` | the source; the target with the record in its batch | the source, unless a call waits; the target's last store of a call | none | LOCK |
+//! | `func.r`, `info.r` | the target with the record in its batch | the source before the exchange that queues it | none | that exchange, and the swap |
 //! | `next.r` | the target with the record in its batch | the source before each exchange; the target with the record in its batch | none | the same |
+//!
+//! Each won exchange and each swap of a head is one point in the queue's order; a lost exchange finds the newest head. The
+//! source stores flags while LOCK is clear or its record is not queued: between the won exchange and the target's clearing
+//! store it only loads.
 
 ghost use Rattle.std.specs.Prelude.{◌≡◌, ◌≢◌, ◌⊎◌, ◌↔◌, ◌+◌, ◌<◌, ◌≤◌, ◌%◌, ◌^◌, true, false, length, if◌then◌else◌, IfOk, IfErr, OnOk, IsErrOf, Ok, List};
 ghost use Rattle.std.specs.Prelude.{Some, None};

@@ -64,7 +64,13 @@ impl<A: Allocator> StopTable<A> {
     /// A table with a free gate, free slots, and these labels.
     pub fn new(alloc: A, labels: LabelWords) -> Result<Self, AllocError>
         ensures sized { IfOk result IsStopTable }
-        ensures made { IfOk result (λ t. t ≡ record { gate = 0; slots = replicate SLOT_WORDS 0; keys = labels.keys; entries = labels.entries; sites = labels.sites }) }
+        ensures made { IfOk result (λ t. t ≡ record {
+          gate = 0;
+          slots = replicate SLOT_WORDS 0;
+          keys = labels.keys;
+          entries = labels.entries;
+          sites = labels.sites;
+        }) }
     {
         let slots = vec![in alloc; 0; SLOT_WORDS]?;
         Ok(StopTable {

@@ -9,7 +9,8 @@ use Rattle.smp_words.proofs.Puts.{at_test, put_all, put_same, put_other}
 use Rattle.smp_stop_steps.proofs.Basics.Counts.{sum_zero}
 use Rattle.smp_stop_steps.proofs.State.Ends.{answer_of_it, answer_unfinished}
 use Rattle.smp_stop_steps.proofs.State.Entered.{step_answers, step_completes, step_enters, step_finishes}
-use Rattle.smp_stop_steps.proofs.Steps.Kept.{MovesInside, StaysOpen, after, moves_early, moves_given, open_step, open_step_with, other_slots, owns_kept, past_answers}
+use Rattle.smp_stop_steps.proofs.Steps.Kept.{MovesInside, StaysOpen, after, moves_early, moves_given, open_step, open_step_with, other_slots}
+use Rattle.smp_stop_steps.proofs.Steps.Kept.{owns_kept, past_answers}
 use Rattle.smp_stop_steps.proofs.State.Moves.{IsNoPatch}
 use Rattle.smp_stop_steps.proofs.State.Pasts.{past_completes}
 use Rattle.smp_stop_steps.proofs.State.Phases.{is_open_inside, keeps_inside}

@@ -328,7 +328,8 @@ module _ (u : Setup) (p : StopState) (at : Word → ℕ) (seat : ℕ → Seat) (
               off false three = inr (λ is_four. let bad : true ≡ false = sym (eq-eqb v.acked 3 (omega arith)) ∙ three in cc)
           either work loaded (inr (two, runs, (n, answers, is))) =
               let st = stands (Alters v.slot work n (plan_at u work n) []) is in
-              let active : has v.active me ≡ true = ap (λ m. has m me) loaded.active ∙ patcher_active u p at seat source h v.slot me work n (plan_at u work n) []
+              let active : has v.active me ≡ true =
+              ap (λ m. has m me) loaded.active ∙ patcher_active u p at seat source h v.slot me work n (plan_at u work n) []
               is in
               ack_fits st.0 (st.1 ∙ ap (λ n. Inside n (n + 1)) (sym two)) (inl (h.present.irq me ∙ ap irq_of is))
               (record { at_run = λ _. ap (λ n. n + 1) two; active = λ _. active ∙ sym runs }) (loaded.active ∙ ap (λ (w : Work). w.active) (sym st.3))

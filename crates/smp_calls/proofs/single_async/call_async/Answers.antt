@@ -30,6 +30,7 @@ returns-clause-queued g c e =
     let made = calls_by g.H.Handler.leads c.user_record-k.result c.args.dst Async c.args.func c.args.info small sized done c.queue_and_send.ensures in (
       search rules,
       subst (λ (k : ℕ).
-          CallsBy g.H.Handler.leads c.args.me.now c.args.handler.now c.queue_and_send.new.me c.args.handler.now k Async c.args.dst c.args.func c.args.info false)
+          CallsBy g.H.Handler.leads c.args.me.now c.args.handler.now c.queue_and_send.new.me c.args.handler.now k Async c.args.dst
+          c.args.func c.args.info false)
           c.user_record-k.ensures made,
     )
