@@ -18,3 +18,6 @@ pub mod Kept
 pub mod Advancing
 pub mod Finishing
 pub mod Showing
+-- readings and nudges of keys
+pub mod Reading
+pub mod Nudging

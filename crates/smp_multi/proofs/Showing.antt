@@ -6,7 +6,7 @@ use Rattle.smp_multi.specs.Cpu.{cpu_of}
 use Rattle.smp_multi.specs.Laws.{IsShown}
 use Rattle.smp_multi.specs.Seat.{SeatValue}
 
-pub is_shown : (answer : ℕ) (d : SeatValue) → Lives d.known → IsShown (cpu_of answer d)
+abbrev pub is_shown : (answer : ℕ) (d : SeatValue) → Lives d.known → IsShown (cpu_of answer d)
 is_shown answer d l = record {
   stops = l.stops;
   at = l.at;

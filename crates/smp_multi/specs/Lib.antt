@@ -21,3 +21,6 @@ pub mod Answers
 pub mod Advance
 -- what holds while threads run
 pub mod Laws
+-- readings and nudges of keys
+pub mod Reads
+pub mod Nudges

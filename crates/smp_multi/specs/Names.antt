@@ -18,6 +18,9 @@ pub use Rattle.smp_stop_steps.specs.declared.known.Source.TheVariants.{Shut, Dra
 pub use Rattle.smp_stop_steps.specs.declared.known.Known.{Known}
 pub use Rattle.smp_stop_steps.specs.declared.known.Part.{Part}
 pub use Rattle.smp_stop_steps.specs.declared.known.Setting.{Setting}
+pub use Rattle.smp_stop_steps.specs.declared.known.Reading.{Reading}
+pub use Rattle.smp_stop_steps.specs.declared.known.Reading.TheVariants.{ReadKey, ReadSite}
+pub use Rattle.smp_stop_steps.specs.declared.known.Moved.{Moved}
 pub use Rattle.smp_stop_steps.specs.declared.known.StopCall.{StopCall}
 pub use Rattle.smp_stop_steps.specs.declared.known.Calling.{Calling}
 pub use Rattle.smp_stop_steps.specs.declared.known.Calling.TheVariants.{Idle, Calls, Carries}

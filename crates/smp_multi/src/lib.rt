@@ -33,7 +33,9 @@ mod enter;
 mod func;
 mod gate;
 pub mod laws;
+mod nudge;
 mod poll;
+mod read;
 mod round;
 mod rule;
 mod run;
@@ -47,6 +49,7 @@ mod turn;
 pub use boot::StopBoot;
 pub use cpu::StopCpu;
 pub use func::{Called, StopFunc};
+pub use nudge::Nudge;
 pub use table::StopTable;
 pub use turn::Turn;
 

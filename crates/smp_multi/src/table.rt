@@ -26,19 +26,22 @@ ghost use Rattle.smp_multi.specs.Advance.{AdvanceAnswers, FinishAnswers, IsNoPat
 ghost use Rattle.smp_multi.specs.Answers.{BeginAnswers, Enters, RunAnswers, PollAnswers};
 ghost use Rattle.smp_multi.specs.Cells.{cells};
 ghost use Rattle.smp_multi.specs.Cpu.{IsAt, IsFull, fresh_cpu, gated};
+ghost use Rattle.smp_multi.specs.Nudges.{NudgeAnswers};
+ghost use Rattle.smp_multi.specs.Reads.{KeyAnswers, SiteAnswers};
 
 use crate::boot::StopBoot;
 use crate::cell::FIRST_ENTRY;
 use crate::cpu::StopCpu;
 use crate::func::StopFunc;
 use crate::gate::{leave_gate, take_gate};
+use crate::nudge::Nudge;
 use crate::poll::{collect, is_done};
 use crate::rule::{Owner, RawSeat};
 use crate::seat::{CpuSeat, next_seat};
 use crate::turn::{Turn, take_turn};
-use crate::{begin, complete, enter, run};
+use crate::{begin, complete, enter, nudge, read, run};
 use atomic_table::Table;
-use smp_labels::LabelMap;
+use smp_labels::{LabelMap, SiteKind};
 use smp_mask::{CpuMask, SmpError};
 use smp_stop_steps::known::Setting;
 use smp_stop_steps::phase::EXIT;
@@ -312,5 +315,48 @@ impl<A: Allocator> StopTable<A> {
         let word = collect(&self.owner.shared, &mut me.seat, me.number);
         me.is_open = false;
         Ok(Some(((word % 0x1_0000_0000) as u32).cast_signed()))
+    }
+
+    /// Whether a key is on (`include/linux/jump_label.h: static_key_enabled`), at a load of its count. E4 where the table
+    /// has no such key, or this CPU has its interrupts off, which makes no step. One lawful table says all that the CPU
+    /// has read since its interrupts last went on. It does not wait.
+    pub fn read_key(&self, me: &mut StopCpu, k: u32) -> Result<bool, SmpError>
+        requires { IsAt self.now me.old }
+        ensures { KeyAnswers k me.old me.new result }
+    {
+        if k >= self.setting.labels.keys() || !me.interrupts_on() {
+            return Err(SmpError::BadArgument);
+        }
+        Ok(read::read_key(&self.owner.shared, &mut me.seat, k))
+    }
+
+    /// What stands at a site, a NOP or a jump (`arch_static_branch`, `arch_static_branch_jump`), at a load of its word. E4
+    /// where the table has no such site, or this CPU has its interrupts off, which makes no step. One lawful table says
+    /// all that the CPU has read since its interrupts last went on. It does not wait.
+    pub fn read_site(&self, me: &mut StopCpu, i: u32) -> Result<SiteKind, SmpError>
+        requires { IsAt self.now me.old }
+        ensures { SiteAnswers i me.old me.new result }
+    {
+        if i >= self.setting.labels.sites() || !me.interrupts_on() {
+            return Err(SmpError::BadArgument);
+        }
+        Ok(read::read_site(&self.owner.shared, &mut me.seat, i))
+    }
+
+    /// Moves the count of a key by one, where the key stays on: up as `kernel/jump_label.c:
+    /// static_key_fast_inc_not_disabled`, down as `static_key_slow_try_dec`. E4 where the table has no such key, or this
+    /// CPU has its interrupts off, which makes no step. Else it loads the count, which is a reading of the key. E13 where
+    /// that is 65,535 and is to go up, or 0 and is to go down; `Stop` where the key would turn on (up from 0) or off (down
+    /// from 1), which takes a stop. All three take effect at this load. Else one compare-exchange, at which the others take
+    /// effect: `Done` where it has put the next count, `Lost` where it has found another. It does not wait; after `Lost` the
+    /// caller may try again.
+    pub fn try_key(&self, me: &mut StopCpu, k: u32, up: bool) -> Result<Nudge, SmpError>
+        requires { IsAt self.now me.old }
+        ensures { NudgeAnswers k up me.old me.new result }
+    {
+        if k >= self.setting.labels.keys() || !me.interrupts_on() {
+            return Err(SmpError::BadArgument);
+        }
+        nudge::try_key(&self.owner.shared, &mut me.seat, k, up)
     }
 }

@@ -2,11 +2,12 @@ ghost use Rattle.std.specs.Prelude.{ℕ, ◌≡◌, true, IfSome};
 ghost use Rattle.smp_mask.specs.Mask.{has};
 ghost use Rattle.smp_multi.specs.Cpu.{IsAt, left_at};
 
+mod labels;
 mod threads;
 
 use super::*;
 use linked_list_allocator::LocalHeap;
-use smp_labels::{Entry, LabelMap};
+use smp_labels::{Entry, LabelMap, SiteKind};
 use smp_mask::{CpuMask, SmpError};
 use smp_words::size::NR_CPUS;
 use smp_words::work::{Kind, Work};
@@ -54,6 +55,18 @@ impl<'a> Driver<'a> {
 
     fn poll_done(&mut self) -> Result<Option<i32>, SmpError> {
         self.table.poll_done(&mut self.cpu)
+    }
+
+    fn read_key(&mut self, k: u32) -> Result<bool, SmpError> {
+        self.table.read_key(&mut self.cpu, k)
+    }
+
+    fn read_site(&mut self, i: u32) -> Result<SiteKind, SmpError> {
+        self.table.read_site(&mut self.cpu, i)
+    }
+
+    fn try_key(&mut self, k: u32, up: bool) -> Result<Nudge, SmpError> {
+        self.table.try_key(&mut self.cpu, k, up)
     }
 }
 
