@@ -1,5 +1,6 @@
 -- A CPU that completes a stop of several CPUs: where it is, and what that leaves of its value.
-use Rattle.std.proofs.Common.{◌≡◌, ◌≢◌, ℕ, Ok, ◌&&◌, ◌||◌, Bool, true, false, cond, Option, Some, ◌∷◌, [], ◌++◌, slice_index_or, slice_set, inl, sym, subst, refl, ap, ◌∙◌, arith}
+use Rattle.std.proofs.Common.{◌≡◌, ◌≢◌, ℕ, Ok, ◌&&◌, ◌||◌, Bool, true, false, cond, Option, Some, ◌∷◌, [], ◌++◌, slice_index_or, slice_set, inl, sym}
+use Rattle.std.proofs.Common.{subst, refl, ap, ◌∙◌, arith}
 use Rattle.atomic_table.specs.Seated.{TableId}
 use Rattle.smp_mask.specs.Mask.{has}
 use Rattle.smp_stop_steps.specs.Callings.{IsCalling, answer_in, with_answer}

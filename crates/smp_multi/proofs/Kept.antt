@@ -24,7 +24,8 @@ use Rattle.smp_stop_steps.specs.declared.phase.TheConstants.{RUN}
 use Rattle.smp_stop_steps.specs.declared.stage.Visit.{Visit}
 use Rattle.smp_stop_steps.proofs.State.Phases.{is_open_inside, keeps_inside}
 use Rattle.smp_stop_steps.proofs.TheMachine.Starting.{begins_work}
-use Rattle.smp_multi.specs.Names.{Work, Kind, One, Slot, Seat, Free, In, Rests, Source, Shut, Drafts, Owns, Collects, Known, Part, Setting, Duty, StopCall, Calling, Idle, Calls, Carries}
+use Rattle.smp_multi.specs.Names.{Work, Kind, One, Slot, Seat, Free, In, Rests, Source, Shut, Drafts, Owns, Collects, Known, Part, Setting, Duty}
+use Rattle.smp_multi.specs.Names.{StopCall, Calling, Idle, Calls, Carries}
 use Rattle.smp_multi.specs.Answers.{Enters, RunAnswers, PollAnswers, answer_in}
 use Rattle.smp_multi.specs.Begins.{Begins}
 use Rattle.smp_multi.specs.Cells.{cells}

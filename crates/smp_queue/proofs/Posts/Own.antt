@@ -1,5 +1,6 @@
 -- A CPU's own records, and what a post leaves of its CPU.
-use Rattle.std.proofs.Common.{◌≡◌, ℕ, zero, suc, ◌+◌, ◌^◌, ◌<◌, Bool, true, false, not, ◌||◌, ◌==◌, nat_lt, None, List, [], ◌∷◌, ◌++◌, get_or, set, sym, refl, ap, ◌∙◌}
+use Rattle.std.proofs.Common.{◌≡◌, ℕ, zero, suc, ◌+◌, ◌^◌, ◌<◌, Bool, true, false, not, ◌||◌, ◌==◌, nat_lt, None, List, [], ◌∷◌, ◌++◌, get_or, set}
+use Rattle.std.proofs.Common.{sym, refl, ap, ◌∙◌}
 use Rattle.std.proofs.Common.{arith}
 use Rattle.std.proofs.lemmas.Bool.{or_parts, ltb-true}
 use Rattle.std.proofs.lemmas.List.{get_or-set_same}
