@@ -34,6 +34,7 @@ mod func;
 mod gate;
 pub mod laws;
 mod nudge;
+mod patch;
 mod poll;
 mod read;
 mod round;
