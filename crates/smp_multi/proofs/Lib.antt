@@ -16,6 +16,8 @@ pub mod Starting
 pub mod Seating
 -- a CPU between two calls
 pub mod Kept
+pub mod Advancing
+pub mod Finishing
 pub mod Showing
 -- readings and nudges of keys
 pub mod Reading

@@ -22,9 +22,10 @@ use Rattle.smp_stop_steps.specs.declared.phase.TheConstants.{DISABLE_IRQ, RUN, E
 use Rattle.smp_stop_steps.specs.declared.stage.Visit.{Visit}
 use Rattle.smp_stop_steps.proofs.Facts.{inside_keeps, state_near}
 use Rattle.smp_stop_steps.proofs.Functions.{runs_alone}
-use Rattle.smp_multi.specs.Names.{Word, Work, Kind, Multi, Slot, Field, Load, Store, Sub, Seat, In, Duty, Rests, Fills, Sets, Source, Known, Part, StopCall}
+use Rattle.smp_multi.specs.Names.{Word, Work, Kind, Multi, Slot, Field, Load, Store, Sub, Seat, Free, In, Gives, Alters, Closes, Duty, Rests, Fills, Sets, Source, Known, Part, StopCall}
 use Rattle.smp_multi.specs.Names.{Calling, Idle, Calls, Carries}
 use Rattle.smp_multi.specs.Names.field
+use Rattle.smp_multi.specs.Laws.{IsAtRun}
 use Rattle.smp_multi.specs.Places.{work_in}
 use Rattle.smp_multi.specs.Rounds.{AtTurn, AtRun, AloneWhile, passed_by}
 use Rattle.smp_multi.specs.Running.{calls_now}
@@ -69,15 +70,20 @@ module _ (v : Known) (s : ℕ) (w : Work) (a l : ℕ) (t : Duty) (is : v.seat �
   pub few_phases : (f : Field) (n : ℕ) → Moment v (Slot s f) n → a ≤ EXIT
   few_phases f n m = (inside_keeps (setup_in v.setting) m.stops m.at m.seat m.source m.shown s v.number w a l t (m.sees.seat_is ∙ is)).4
 
--- at RUN its function runs alone
-pub runs_alone_at : (v : Known) (s : ℕ) (w : Work) (t : Duty) → v.seat ≡ In s w DISABLE_IRQ RUN t → AloneWhile v s
-runs_alone_at v s w t is p at seat source h sees =
-    let st : Stands p.now v.number (In s w DISABLE_IRQ RUN t) = subst (Stands p.now v.number) (sees.seat_is ∙ is) (h.present.stands v.number) in
-    runs_alone (setup_in v.setting) p at seat source h s v.number st.1
+-- at RUN its function, or its patch, runs alone
+pub runs_alone_there : (v : Known) (slot : ℕ) → IsAtRun v.seat slot → AloneWhile v slot
+runs_alone_there v slot is p at seat source h sees =
+    runs_alone (setup_in v.setting) p at seat source h slot v.number (go v.seat is (subst (Stands p.now v.number) sees.seat_is (h.present.stands v.number)))
+  where
+    go : (x : Seat) → IsAtRun x slot → Stands p.now v.number x → (p.now.stop slot).standing v.number ≡ Inside DISABLE_IRQ RUN
+    go Free run st = absurd run
+    go (In s w a l t) run st = subst (λ n. (p.now.stop n).standing v.number ≡ Inside a l) run.0 st.1 ∙ (λ i. Inside (run.1 i) (run.2 i))
+    go (Gives s w a x) run st = absurd run
+    go (Alters s w count made rest) run st = subst (λ n. (p.now.stop n).standing v.number ≡ Inside DISABLE_IRQ RUN) run st.1
+    go (Closes s) run st = absurd run
 
 pub run_alone : (t : TableId) (d : SeatValue) (v : Visit) (k : Kind) → AtRun t d v k → AloneWhile d.known v.slot
-run_alone t d v k a = runs_alone_at d.known v.slot (work_in d.known.seat) Rests
-    (a.at.seat_is ∙ ap (λ n. In v.slot (work_in d.known.seat) n RUN Rests) a.disabled)
+run_alone t d v k a = runs_alone_there d.known v.slot (subst (λ x. IsAtRun x v.slot) (sym a.at.seat_is) (refl, a.disabled, refl))
 
 abbrev called_at : Known → Work → ℕ → Known
 called_at v w n = record v { part = record (v.part) { calling = Calls (record { func = w.func; arg = n; answer = 0 }) } }

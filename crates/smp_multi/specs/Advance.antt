@@ -1,5 +1,5 @@
 -- What a turn, and the end of a stop of several CPUs, leave of a CPU.
-use Rattle.std.specs.Prelude.{◌≡◌, ◌≢◌, ℕ, ℤ, ◌+◌, nat_lt, Bool, true, false, Some, [], ◌∷◌, ◌++◌, Result, Ok, Err}
+use Rattle.std.specs.Prelude.{◌≡◌, ◌≢◌, ℕ, ℤ, ◌+◌, nat_lt, Bool, true, false, Option, Some, None, [], ◌∷◌, ◌++◌, Result, Ok, Err}
 use Rattle.smp_mask.specs.Mask.{has}
 use Rattle.smp_mask.specs.declared.error.SmpError.{SmpError}
 use Rattle.smp_mask.specs.declared.error.SmpError.TheVariants as error
@@ -23,6 +23,14 @@ pub record IsInRound (c : CpuValue) : Type 0 where
   pub is : c.inside ≡ Some stop
   pub several : stop.work.kind ≢ One
   pub not_left : stop.acked ≢ EXIT
+
+-- the stop that it is in is no patch
+abbrev pub IsNoPatchIn : Option Inside → Type 0
+IsNoPatchIn None = Unit {0}
+IsNoPatchIn (Some stop) = stop.work.kind ≢ Patch
+
+abbrev pub IsNoPatch : CpuValue → Type 0
+IsNoPatch c = IsNoPatchIn c.inside
 
 -- one that has left it, and has not completed
 pub record HasLeft (c : CpuValue) : Type 0 where

@@ -8,7 +8,7 @@ use Rattle.smp_stop_steps.specs.Starts.{answer_word}
 use Rattle.smp_stop_steps.specs.declared.known.Moved.{Moved as CountMoved}
 use Rattle.smp_stop_steps.specs.declared.phase.TheConstants.{DISABLE_IRQ, RUN, EXIT}
 use Rattle.smp_stop_steps.specs.declared.stage.Visit.{Visit}
-use Rattle.smp_multi.specs.Names.{Work, Kind, One, Multi, Patch, Known, Carries}
+use Rattle.smp_multi.specs.Names.{Work, Kind, One, Multi, Patch, Seat, Known, Carries}
 use Rattle.smp_multi.specs.Places.{work_in}
 use Rattle.smp_multi.specs.Rounds.{passed_by, passed_known}
 use Rattle.smp_multi.specs.Running.{calls_now, called_by}
@@ -20,10 +20,10 @@ use Rattle.smp_multi.specs.declared.turn.Turn.TheVariants.{Same, Moved, Ran, Lef
 abbrev pub patched_with : Work → ℕ → List CountMoved → List CountMoved
 patched_with w count l = cond (count == count_set w count) l (counted l w.func count (count_set w count))
 
--- it has acknowledged RUN with its patch made, which has found this count
-abbrev pub patched_known : ℕ → Known → Known
-patched_known count v = let next = passed_known RUN v in
-    record next { part = record (next.part) { calling = Carries 0; patched = patched_with (work_in v.seat) count v.part.patched } }
+-- it has looked at RUN, has made its patch, which has found this count, and has acknowledged RUN
+abbrev pub patched_by : ℕ → Seat → Known → Known
+patched_by count x v = let next = passed_by x v in
+    record next { part = record (next.part) { calling = Carries 0; patched = patched_with (work_in x) count v.part.patched } }
 
 -- an active CPU has acknowledged RUN with its function called, or its patch made
 abbrev pub HasRun : {F : Type 0} → (F → Called → F → Type 0) → Known → Known → Visit → Visit → F → F → Kind → Type 0
@@ -31,7 +31,8 @@ HasRun leads old new v v' f g One = ⊥
 HasRun leads old new v v' f g Multi = (answer : ℤ) × (new ≡ passed_by (looked_to RUN old.seat) (calls_now (looked_known RUN old)))
     × (v' ≡ visit_acked v (answer_word answer) true) × leads f (called_by old answer) g
 HasRun leads old new v v' f g Patch =
-    (count : ℕ) × (new ≡ patched_known count old) × (v' ≡ visit_acked v (patch_answer (work_in old.seat) count) true) × (g ≡ f)
+    (count : ℕ) × (new ≡ patched_by count (looked_to RUN old.seat) (looked_known RUN old))
+    × (v' ≡ visit_acked v (patch_answer (work_in old.seat) count) true) × (g ≡ f)
 
 -- it looks at one phase more; where that is new it acknowledges it, and at RUN an active CPU has called its function
 abbrev pub TurnAnswers : {F : Type 0} → (F → Called → F → Type 0) → Known → Known → Visit → Visit → F → F → Turn → Type 0

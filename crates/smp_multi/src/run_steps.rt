@@ -12,8 +12,8 @@ ghost use Rattle.smp_stop_steps.specs.KnownAfter.{acked_by, known_told, complete
 ghost use Rattle.smp_multi.specs.Names.{Idle, Multi};
 ghost use Rattle.smp_stop_steps.specs.Starts.{answer_word as word_of_answer};
 ghost use Rattle.smp_multi.specs.Plays.{stored, subtracted};
-ghost use Rattle.smp_multi.specs.Running.{AtOne, AtGiven, IsItsCall, calls_now, given};
-ghost use Rattle.smp_multi.specs.Completes.{AtClose};
+ghost use Rattle.smp_multi.specs.Running.{AtOne, IsItsCall, calls_now};
+ghost use Rattle.smp_multi.specs.Completes.{AtClose, AtGiven, given};
 ghost use Rattle.smp_multi.specs.Places.{work_in};
 ghost use Rattle.smp_multi.specs.Rounds.{AloneWhile, AtRun};
 ghost use Rattle.smp_multi.specs.Seat.{Able};
@@ -93,8 +93,8 @@ pub fn begin_one<F: StopFunc>(
 fn give(words: &Words, seat: &mut CpuSeat, slot: u32, answer: u64)
     requires at { AtOne words.now.table_id seat.old slot }
     requires calls { seat.old.known.part.calling ≢ Idle }
-    ensures at { AtGiven words.now.table_id seat.new slot answer (work_in seat.old.known.seat) }
-    ensures known { seat.new.known ≡ given slot answer seat.old.known }
+    ensures at { AtGiven words.now.table_id seat.new slot 0 answer (work_in seat.old.known.seat) }
+    ensures known { seat.new.known ≡ given slot 0 answer seat.old.known }
 {
     if answer != 0 {
         store_step(words, seat, Word::Slot(slot, Field::Result), answer);

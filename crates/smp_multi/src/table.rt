@@ -22,6 +22,7 @@ ghost use Rattle.smp_words.specs.Limits.{AreLimits};
 ghost use Rattle.smp_words.specs.Size.{cpus};
 ghost use Rattle.smp_stop_steps.specs.Known.{fresh, Lives};
 ghost use Rattle.smp_multi.specs.declared.seat_view.SeatView.TheVariants.{Maker};
+ghost use Rattle.smp_multi.specs.Advance.{AdvanceAnswers, FinishAnswers, IsNoPatch};
 ghost use Rattle.smp_multi.specs.Answers.{BeginAnswers, Enters, RunAnswers, PollAnswers};
 ghost use Rattle.smp_multi.specs.Cells.{cells};
 ghost use Rattle.smp_multi.specs.Cpu.{IsAt, IsFull, fresh_cpu, gated};
@@ -37,11 +38,13 @@ use crate::nudge::Nudge;
 use crate::poll::{collect, is_done};
 use crate::rule::{Owner, RawSeat};
 use crate::seat::{CpuSeat, next_seat};
-use crate::{begin, enter, nudge, read, run};
+use crate::turn::{Turn, take_turn};
+use crate::{begin, complete, enter, nudge, read, run};
 use atomic_table::Table;
 use smp_labels::{LabelMap, SiteKind};
 use smp_mask::{CpuMask, SmpError};
 use smp_stop_steps::known::Setting;
+use smp_stop_steps::phase::EXIT;
 use smp_stop_steps::start::{Terms, has_slot};
 use smp_words::limits::are_limits;
 use smp_words::size::NR_CPUS;
@@ -256,6 +259,44 @@ impl<A: Allocator> StopTable<A> {
         );
         me.visit = None;
         Ok(answer)
+    }
+
+    /// One turn of the stop of several CPUs that this CPU has entered, at the load of its phase: Same where that is no new
+    /// one; else the turn ends in the fetch_sub that acknowledges it, after which the last of all stores the next phase. At
+    /// `RUN` an active CPU first calls the function, with its interrupts off, while every CPU of the mask has acknowledged
+    /// `DISABLE_IRQ`. E4 where the CPU is in no such stop or has left it, which makes no step. It does not wait; each CPU
+    /// of the mask polls until it has left.
+    pub fn advance<F: StopFunc>(&self, me: &mut StopCpu, func: &mut F) -> Result<Turn, SmpError>
+        requires at { IsAt self.now me.old }
+        requires multi { IsNoPatch me.old }
+        ensures { AdvanceAnswers F.leads me.old me.new func.old func.new result }
+    {
+        let Some(visit) = me.visit else {
+            return Err(SmpError::BadArgument);
+        };
+        if visit.kind == Kind::One || visit.acked == EXIT {
+            return Err(SmpError::BadArgument);
+        }
+        let (visit, turn) = take_turn(&self.owner.shared, &mut me.seat, me.number, visit, func);
+        me.visit = Some(visit);
+        Ok(turn)
+    }
+
+    /// Completes the stop of several CPUs that this CPU has left, with its function's answer, 0 where it called none, at the
+    /// fetch_sub of its count. E4 where it is in no such stop or has not left it, which makes no step. It does not wait.
+    pub fn finish(&self, me: &mut StopCpu) -> Result<(), SmpError>
+        requires { IsAt self.now me.old }
+        ensures { FinishAnswers me.old me.new result }
+    {
+        let Some(visit) = me.visit else {
+            return Err(SmpError::BadArgument);
+        };
+        if visit.kind == Kind::One || visit.acked != EXIT {
+            return Err(SmpError::BadArgument);
+        }
+        complete::finish(&self.owner.shared, &mut me.seat, visit.slot, visit.answer);
+        me.visit = None;
+        Ok(())
     }
 
     /// Whether all CPUs of this CPU's own stop have completed: None where its load of done found 0; Some, with the
