@@ -39,11 +39,11 @@ use Rattle.smp_multi.specs.Names.{Moved, Calls, Carries, ReadKey}
 use Rattle.smp_multi.specs.Names.act
 use Rattle.smp_multi.specs.Names.field
 use Rattle.smp_multi.specs.Cells.{cells, HasCell}
-use Rattle.smp_multi.specs.Patches.{AtPatch, begins_with, count_in, entries_in, made_in, moved_with, patched_by, rest_in, stored_all, stored_to}
+use Rattle.smp_multi.specs.Patches.{AtPatch, begins_with, count_in, entries_in, made_in, moved_with, rest_in, stored_all, stored_to}
 use Rattle.smp_multi.specs.Places.{work_in}
 use Rattle.smp_multi.specs.Rounds.{AloneWhile, AtRun, AtTurn}
 use Rattle.smp_multi.specs.Seat.{SeatValue, Ready}
-use Rattle.smp_multi.specs.Turns.{patched_with}
+use Rattle.smp_multi.specs.Turns.{patched_by, patched_with}
 use Rattle.smp_multi.proofs.Cells.{slot_cell, key_cell, entry_cell, site_cell}
 
 -- what a CPU in a patch stop finds at a moment

@@ -9,9 +9,9 @@ use Rattle.smp_stop_steps.specs.KnownAfter.{counted, is_drafting}
 use Rattle.smp_stop_steps.specs.Labels.{Change, count_set}
 use Rattle.smp_stop_steps.specs.Sits.{IsLoaded}
 use Rattle.smp_stop_steps.specs.Tells.{plan_at}
-use Rattle.smp_stop_steps.specs.declared.phase.TheConstants.{DISABLE_IRQ, RUN}
+use Rattle.smp_stop_steps.specs.declared.phase.TheConstants.{DISABLE_IRQ}
 use Rattle.smp_stop_steps.specs.declared.stage.Visit.{Visit}
-use Rattle.smp_multi.specs.Names.{Work, Seat, In, Alters, Rests, Known, Moved, Carries}
+use Rattle.smp_multi.specs.Names.{Work, Seat, In, Alters, Known, Moved}
 use Rattle.smp_multi.specs.Cells.{cells}
 use Rattle.smp_multi.specs.Places.{work_in}
 use Rattle.smp_multi.specs.Seat.{SeatValue}
@@ -73,11 +73,3 @@ stored_all (Alters s w count made rest) v = record v {
   part = record (v.part) { patched = patched_with w count v.part.patched };
 }
 stored_all x v = v
-
--- it has acknowledged RUN with its patch made
-abbrev pub patched_by : ℕ → Seat → Known → Known
-patched_by count (In s w a l t) v = record v {
-  seat = In s w RUN RUN Rests;
-  part = record (v.part) { calling = Carries 0; patched = patched_with w count v.part.patched };
-}
-patched_by count x v = v

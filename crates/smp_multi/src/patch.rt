@@ -11,9 +11,10 @@ ghost use Rattle.smp_stop_steps.specs.Labels.{answer_for as answer_of_patch, pat
 ghost use Rattle.smp_stop_steps.specs.Stages.{label_word, visit_acked};
 ghost use Rattle.smp_multi.specs.Names.{Patch, Rests};
 ghost use Rattle.smp_multi.specs.Cells.{cells};
-ghost use Rattle.smp_multi.specs.Patches.{AtPatch, begins_with, entries_in, made_in, patched_by, rest_in, stored_all};
+ghost use Rattle.smp_multi.specs.Patches.{AtPatch, begins_with, entries_in, made_in, rest_in, stored_all};
 ghost use Rattle.smp_multi.specs.Places.{work_in};
 ghost use Rattle.smp_multi.specs.Rounds.{AloneWhile, AtRun, AtTurn};
+ghost use Rattle.smp_multi.specs.Turns.{patched_by};
 
 use crate::round::pass;
 use crate::rule::Words;
