@@ -8,6 +8,7 @@ pub mod Entering
 pub mod Beginning
 pub mod Running
 pub mod Turning
+pub mod Patching
 pub mod Completing
 pub mod Polling
 -- a table as it is made, and its CPUs

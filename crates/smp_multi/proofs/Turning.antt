@@ -191,8 +191,8 @@ module _ (t : TableId) (d : SeatValue) (v : Visit) where
     apart = tt;
   }
 
-  pub ready_arg : AtRun t d v Multi → Ready t d (Load (Slot v.slot field.Arg))
-  ready_arg a = record {
+  pub ready_arg : (k : Kind) → AtRun t d v k → Ready t d (Load (Slot v.slot field.Arg))
+  ready_arg k a = record {
     able = record {
       table_is = a.at.table_is;
       sized = a.at.sized;

@@ -24,14 +24,6 @@ pub record IsInRound (c : CpuValue) : Type 0 where
   pub several : stop.work.kind ≢ One
   pub not_left : stop.acked ≢ EXIT
 
--- the stop that it is in is no patch
-abbrev pub IsNoPatchIn : Option Inside → Type 0
-IsNoPatchIn None = Unit {0}
-IsNoPatchIn (Some stop) = stop.work.kind ≢ Patch
-
-abbrev pub IsNoPatch : CpuValue → Type 0
-IsNoPatch c = IsNoPatchIn c.inside
-
 -- one that has left it, and has not completed
 pub record HasLeft (c : CpuValue) : Type 0 where
   pub stop : Inside

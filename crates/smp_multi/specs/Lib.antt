@@ -12,6 +12,7 @@ pub mod Begins
 pub mod Running
 pub mod Rounds
 pub mod Turns
+pub mod Patches
 pub mod Completes
 pub mod Polls
 -- a table and a CPU between two calls, and what each call answers

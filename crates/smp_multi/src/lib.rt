@@ -35,6 +35,7 @@ mod func;
 mod gate;
 pub mod laws;
 mod nudge;
+mod patch;
 mod poll;
 mod read;
 mod round;

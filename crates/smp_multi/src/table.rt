@@ -25,7 +25,7 @@ ghost use Rattle.smp_words.specs.Limits.{AreLimits};
 ghost use Rattle.smp_words.specs.Size.{cpus};
 ghost use Rattle.smp_stop_steps.specs.Known.{fresh, Lives};
 ghost use Rattle.smp_multi.specs.declared.seat_view.SeatView.TheVariants.{Maker};
-ghost use Rattle.smp_multi.specs.Advance.{AdvanceAnswers, FinishAnswers, IsNoPatch};
+ghost use Rattle.smp_multi.specs.Advance.{AdvanceAnswers, FinishAnswers};
 ghost use Rattle.smp_multi.specs.Answers.{BeginAnswers, Enters, RunAnswers, PollAnswers};
 ghost use Rattle.smp_multi.specs.Cells.{cells};
 ghost use Rattle.smp_multi.specs.Cpu.{IsAt, IsFull, fresh_cpu, gated};
@@ -266,12 +266,13 @@ impl<A: Allocator> StopTable<A> {
 
     /// One turn of the stop of several CPUs that this CPU has entered, at the load of its phase: Same where that is no new
     /// one; else the turn ends in the fetch_sub that acknowledges it, after which the last of all stores the next phase. At
-    /// `RUN` an active CPU first calls the function, with its interrupts off, while every CPU of the mask has acknowledged
-    /// `DISABLE_IRQ`. E4 where the CPU is in no such stop or has left it, which makes no step. It does not wait; each CPU
-    /// of the mask polls until it has left.
+    /// `RUN` an active CPU first calls the function, or makes the patch of a patch stop, with its interrupts off, while every
+    /// CPU of the mask has acknowledged `DISABLE_IRQ`: the patch loads the key, then the entries where the key turns on or
+    /// off, and stores the key and then its sites, ascending; its answer is 1 where the count stands at the end of its range,
+    /// so that nothing changes, else 0. E4 where the CPU is in no such stop or has left it, which makes no step. It does not
+    /// wait; each CPU of the mask polls until it has left.
     pub fn advance<F: StopFunc>(&self, me: &mut StopCpu, func: &mut F) -> Result<Turn, SmpError>
-        requires at { IsAt self.now me.old }
-        requires multi { IsNoPatch me.old }
+        requires { IsAt self.now me.old }
         ensures { AdvanceAnswers F.leads me.old me.new func.old func.new result }
     {
         let Some(visit) = me.visit else {

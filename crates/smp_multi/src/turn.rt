@@ -3,11 +3,12 @@
 ghost use Rattle.std.specs.Prelude.{◌≡◌, ◌≢◌, ◌<◌, ◌==◌, ◌&&◌};
 ghost use Rattle.smp_mask.specs.Mask.{has};
 ghost use Rattle.smp_stop_steps.specs.Known.{Lives};
-ghost use Rattle.smp_multi.specs.Names.{Multi, Rests};
+ghost use Rattle.smp_multi.specs.Names.{One, Rests};
 ghost use Rattle.smp_multi.specs.Rounds.{AtTurn};
 ghost use Rattle.smp_multi.specs.Turns.{TurnAnswers};
 
 use crate::func::StopFunc;
+use crate::patch::patch_on;
 use crate::round::{look, move_on};
 use crate::rule::Words;
 use crate::run_multi::run_on;
@@ -15,6 +16,7 @@ use crate::seat::CpuSeat;
 use smp_stop_steps::mask::has_bit;
 use smp_stop_steps::phase::{EXIT, RUN};
 use smp_stop_steps::stage::Visit;
+use smp_words::work::Kind;
 
 /// What a turn has done.
 #[derive(Clone, Copy, Debug, PartialEq, Eq)]
@@ -47,7 +49,7 @@ pub(crate) fn take_turn<F: StopFunc>(
 ) -> (Visit, Turn)
     requires at { AtTurn words.now.table_id seat.old visit visit.acked Rests }
     requires more { visit.acked ≢ EXIT }
-    requires multi { visit.kind ≡ Multi }
+    requires several { visit.kind ≢ One }
     requires number { seat.old.known.number ≡ number }
     requires below { number < 64 }
     ensures at { AtTurn words.now.table_id seat.new result.0 result.0.acked Rests }
@@ -59,7 +61,11 @@ pub(crate) fn take_turn<F: StopFunc>(
         return (visit, Turn::Same);
     }
     if calls_at(state, visit, number) {
-        let visit = run_on(words, seat, number, visit, func);
+        let visit = if visit.kind == Kind::Patch {
+            patch_on(words, seat, visit)
+        } else {
+            run_on(words, seat, number, visit, func)
+        };
         return (visit, Turn::Ran);
     }
     let visit = move_on(words, seat, visit);
