@@ -7,7 +7,7 @@ ghost use Rattle.smp_queue.specs.Audit.{Closes, AuditAnswers};
 use crate::audit::{Audit, answer};
 use crate::cell::cell;
 use crate::rule::Owner;
-use crate::seat::{CpuSeat, leave};
+use crate::seat::{CpuSeat, close};
 use atomic_table::Closed;
 use smp_words::Word;
 use std::alloc::Allocator;
@@ -37,8 +37,9 @@ impl<A: Allocator> ClosedTable<A> {
         requires sized { (owner.shared.table_id.words ≡ cells) × (owner.shared.table_id.slots ≡ 0) }
         ensures { Closes owner.shared.key seat.known result }
     {
-        let closed = owner.close_with(leave(seat));
-        ClosedTable { closed }
+        ClosedTable {
+            closed: close(owner, seat),
+        }
     }
 
     /// The number in a word.

@@ -26,7 +26,6 @@
 
 mod audit;
 mod boot;
-pub mod call_steps;
 mod cell;
 mod closing;
 mod cpu;
@@ -46,6 +45,7 @@ pub use closing::ClosedTable;
 pub use cpu::CallCpu;
 pub use handle::Handled;
 pub use handler::{Handler, Heard};
+pub use seat::call_steps;
 pub use table::CallTable;
 
 #[cfg(test)]

@@ -7,10 +7,9 @@ ghost use Rattle.smp_call_steps.specs.declared.handle.HandleStage.TheVariants as
 ghost use Rattle.smp_queue.specs.Seat.{InHandle};
 ghost use Rattle.smp_queue.specs.Handling.{AreRan, HasRun, HasRunAll};
 
-use crate::call_steps;
 use crate::handler::Handler;
 use crate::rule::Words;
-use crate::seat::{CpuSeat, load, store};
+use crate::seat::{CpuSeat, call_steps, load, store};
 use smp_call_steps::drain::record_of;
 use smp_call_steps::handle::{Walk, link_of};
 use smp_words::call::Class;

@@ -1,26 +1,33 @@
-//! A CPU's seat, and the accesses that it makes. Nothing above this page names a seat or a cell.
+//! A CPU's seat, and the accesses that it makes. Nothing above this page names a raw seat or a cell, and none can: what
+//! steps is private here. Only the page of the steps round a function call, below this one, has it too.
 
-ghost use Rattle.std.specs.Prelude.{◌≡◌, ◌+◌, ◌<◌, ◌==◌, if◌then◌else◌, Some, None};
+ghost use Rattle.std.specs.Prelude.{◌≡◌, ◌+◌, ◌<◌, ◌==◌, if◌then◌else◌, IfOk, Some, None};
+ghost use Rattle.std.specs.Mem.Slots.{slots_items, slots_len, IsFull};
 ghost use Rattle.smp_call_steps.specs.Known.{known_told, known_taking, fresh, Moment, Lives};
 ghost use Rattle.smp_words.specs.declared.access.Access.TheVariants as access;
 ghost use Rattle.smp_words.specs.declared.seen.Act.TheVariants as act;
-ghost use Rattle.smp_queue.specs.declared.seat_view.SeatView.TheVariants.{Maker, Cpu};
+ghost use Rattle.smp_queue.specs.declared.seat_view.SeatView.TheVariants.{Maker};
+ghost use Rattle.smp_queue.specs.Audit.{Closes};
 ghost use Rattle.smp_queue.specs.Cells.{cells};
 ghost use Rattle.smp_queue.specs.Seat.{SeatValue, Loads, Ready};
 ghost use Rattle.smp_queue.specs.Rule.{Sits};
 ghost use Rattle.smp_queue.specs.Plays.{loaded, stored, exchanged, swapped};
 
-use crate::cell::cell;
-use crate::rule::{NextSeat, RawSeat, Words};
+pub mod call_steps;
+
+use crate::cell::{CELLS, cell};
+use crate::rule::{NextSeat, Owner, RawSeat, Words};
 use crate::seat_view::SeatView;
-use atomic_table::Play;
+use atomic_table::{Closed, Play, Table};
+use smp_call_steps::known::Setting;
 use smp_words::Word;
+use std::alloc::{AllocError, Allocator};
 use std::marker::Model;
 
 /// The seat of one CPU, seen as its table and what the CPU knows: at any time its part of calls that some words show.
 #[derive(Drop)]
 pub struct CpuSeat {
-    pub(crate) raw: RawSeat,
+    raw: RawSeat,
 }
 
 impl Model for CpuSeat {
@@ -70,21 +77,45 @@ impl Play<(), SeatView> for Swapped {
     ghost then = { swapped };
 }
 
+/// The first seat of a table, which makes one for each CPU.
+#[derive(Drop)]
+pub struct SeatMaker {
+    raw: RawSeat,
+}
+
+/// The words of a table, all 0, and the first seat.
+pub(crate) fn lay<A: Allocator>(
+    alloc: A,
+    setting: &Setting,
+) -> Result<(Owner<A>, SeatMaker), AllocError>
+where
+    A: Copy,
+    ensures { IfOk result (λ t. (t.0.shared.table_id.words ≡ cells) × (t.0.shared.table_id.slots ≡ 0) × (t.0.shared.key ≡ setting.now)
+        × (t.1.raw.table_id ≡ t.0.shared.table_id) × (t.1.raw.me.0 ≡ Maker 0 setting.now)) }
+{
+    let words = Vec::from_elem(alloc, 0u64, CELLS)?;
+    let (table, raw) = Table::of_words(alloc, words.as_slice(), setting)?;
+    Ok((table, SeatMaker { raw }))
+}
+
 /// A seat for the next CPU.
-pub(crate) fn next_seat(words: &Words, maker: &mut RawSeat, n: u32) -> CpuSeat
-    requires { (maker.old.table_id ≡ words.now.table_id) × (words.now.table_id.words ≡ cells) × (maker.old.me.0 ≡ Maker n words.now.key) × (n < words.now.key.nr) }
-    ensures maker { (maker.new.table_id ≡ words.now.table_id) × (maker.new.me.0 ≡ Maker (n + 1) words.now.key) }
+pub(crate) fn next_seat(words: &Words, maker: &mut SeatMaker, n: u32) -> CpuSeat
+    requires { (maker.old.raw.table_id ≡ words.now.table_id) × (words.now.table_id.words ≡ cells) × (maker.old.raw.me.0 ≡ Maker n words.now.key) × (n < words.now.key.nr) }
+    ensures maker { (maker.new.raw.table_id ≡ words.now.table_id) × (maker.new.raw.me.0 ≡ Maker (n + 1) words.now.key) }
     ensures seat { (result.table ≡ words.now.table_id) × (result.known ≡ fresh words.now.key n) }
 {
-    let raw = words.split_seat::<NextSeat>(maker);
+    let raw = words.split_seat::<NextSeat>(&mut maker.raw);
     CpuSeat { raw }
 }
 
-/// The seat of a CPU that makes no more steps.
-pub(crate) fn leave(seat: CpuSeat) -> RawSeat
-    ensures { (result.table_id ≡ seat.table) × (result.me.0 ≡ Cpu seat.known) }
+/// Gives up the table and the seat of a CPU: the words as the last step left them.
+pub(crate) fn close<A: Allocator>(owner: Owner<A>, seat: CpuSeat) -> Closed<(), A>
+    requires table { seat.table ≡ owner.shared.table_id }
+    requires sized { (owner.shared.table_id.words ≡ cells) × (owner.shared.table_id.slots ≡ 0) }
+    ensures full { IsFull result.words × (slots_len result.words ≡ cells) × (slots_len result.slots ≡ 0) }
+    ensures closes { Closes owner.shared.key seat.known (slots_items result.words) }
 {
-    seat.raw
+    owner.close_with(seat.raw)
 }
 
 /// Loads a word.

@@ -26,10 +26,8 @@ ghost use Rattle.smp_call_steps.specs.Known.{fresh};
 ghost use Rattle.smp_call_steps.specs.Start.{has_record as has_record_in};
 ghost use Rattle.smp_words.specs.Limits.{AreLimits};
 ghost use Rattle.smp_call_steps.specs.Histories.{sent_to, calls_from};
-ghost use Rattle.smp_queue.specs.declared.seat_view.SeatView.TheVariants.{Maker};
 ghost use Rattle.smp_call_steps.specs.Order.{order};
 ghost use Rattle.smp_words.specs.declared.call.Call.{Call};
-ghost use Rattle.smp_queue.specs.Cells.{cells};
 ghost use Rattle.smp_queue.specs.Handling.{Grows, asks, drains};
 ghost use Rattle.smp_queue.specs.Laws.{IsShown};
 ghost use Rattle.smp_queue.specs.Posted.{ShowsThat, IsFree, IsMarked, call_by};
@@ -38,15 +36,13 @@ ghost use Rattle.smp_queue.specs.Audit.{ClosesWith, Audited, IfDrained, AreEqual
 
 use crate::audit::Audit;
 use crate::boot::Boot;
-use crate::cell::CELLS;
 use crate::closing::ClosedTable;
 use crate::cpu::CallCpu;
 use crate::handle::{Handled, handle};
 use crate::handler::Handler;
 use crate::post::{append, append_until_won, is_locked, write_record};
-use crate::rule::{Owner, RawSeat};
-use crate::seat::{CpuSeat, next_seat, store};
-use atomic_table::Table;
+use crate::rule::Owner;
+use crate::seat::{CpuSeat, lay, next_seat, store};
 use smp_call_steps::known::Setting;
 use smp_call_steps::post::Posting;
 use smp_call_steps::start::{has_record, refusal};
@@ -77,18 +73,6 @@ impl<A: Allocator> Model for CallTable<A> {
     ghost view = { λ t. record { table = t.owner.shared.table_id; nr = t.nr; online = t.online } };
 
     ghost invariant = { λ t. IsTable t.owner.shared.table_id t.owner.shared.key t.nr t.online };
-}
-
-/// The words of a table, all 0, and the first seat.
-fn lay<A: Allocator>(alloc: A, setting: &Setting) -> Result<(Owner<A>, RawSeat), AllocError>
-where
-    A: Copy,
-    ensures { IfOk result (λ t. (t.0.shared.table_id.words ≡ cells) × (t.0.shared.table_id.slots ≡ 0) × (t.0.shared.key ≡ setting.now)
-        × (t.1.table_id ≡ t.0.shared.table_id) × (t.1.me.0 ≡ Maker 0 setting.now)) }
-{
-    let words = Vec::from_elem(alloc, 0u64, CELLS)?;
-    let (table, seat) = Table::of_words(alloc, words.as_slice(), setting)?;
-    Ok((table, seat))
 }
 
 /// The CPU of a seat, where it is online.

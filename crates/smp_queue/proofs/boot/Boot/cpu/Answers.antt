@@ -15,7 +15,7 @@ returns-clause-ok g c = elim c.match-take.branch [
       let items : List (Option CpuValue) = b.waiting.items in
       let cpu = c.args.cpu in
       let m = c.self.invariant in
-      let t = table_with b.maker.table_id (made_with b.maker.me.0) in
+      let t = table_with b.maker.raw.table_id (made_with b.maker.raw.me.0) in
       let old : BootValue = record { table = t; left = map is_some items } in
       let new : BootValue = record { table = t; left = map is_some (set items cpu c.take.new.self) } in
       let online : has b.online cpu ≡ true = sym c.contains.ensures.member ∙ c.if-not-contains.false in

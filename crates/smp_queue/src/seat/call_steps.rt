@@ -1,6 +1,10 @@
-//! The steps that begin, count and end a call. Each is lent the handler, and one that counts or ends a call asks
-//! that the call has led the handler from what it was at its beginning to what it is: so no call is counted, and
-//! no SYNC record unlocked, before its function has run. No other page can make these steps.
+//! The steps that begin, count and end a call. Each is lent a handler. The beginning gives a token of that call, which
+//! has the handler as it was then; who counts or ends a call shows the token of that call, and that the call has led the
+//! handler from what it was to what it is. So no call is counted, and no SYNC record unlocked, before its function has
+//! run on the handler that is lent.
+//!
+//! No other page can make these steps: what steps is private to the page of the seats, whose own store asks that no call
+//! begins, is counted or ends by it.
 
 ghost use Rattle.std.specs.Prelude.{◌≡◌, ◌+◌, ◌%◌, ◌^◌, Some, None};
 ghost use Rattle.smp_words.specs.Size.{owner};
@@ -13,10 +17,10 @@ ghost use Rattle.smp_queue.specs.Seat.{InHandle, IsStepOfCall};
 ghost use Rattle.smp_queue.specs.Plays.{stored};
 ghost use Rattle.smp_queue.specs.Handling.{heard_of};
 
+use super::CpuSeat;
 use crate::cell::cell;
 use crate::handler::Handler;
 use crate::rule::Words;
-use crate::seat::CpuSeat;
 use crate::seat_view::SeatView;
 use atomic_table::Play;
 use smp_call_steps::handle::Walk;
@@ -31,9 +35,10 @@ impl Play<(), SeatView> for CallStored {
     ghost then = { stored };
 }
 
-/// A call that has begun, and the handler as it was then.
+/// The token of a call that has begun: the call, and the handler as it was then.
 #[derive(Drop)]
 pub struct Begun<H> {
+    call: Snapshot<Call>,
     before: Snapshot<H>,
 }
 
@@ -62,10 +67,12 @@ pub fn begin_sync<H: Handler>(
     requires class { call.class ≡ Class.Sync }
     ensures at { InHandle words.now.table_id seat.new (handle.CountSync walk call next) }
     ensures known { seat.new.known ≡ begun_sync walk call next seat.old.known }
+    ensures of { result.call.value ≡ call }
     ensures before { result.before.value ≡ handler.now }
 {
     store_step(words, seat, Word::Hand(number), call.id as u64 + 2);
     Begun {
+        call: Snapshot::of(&call),
         before: Snapshot::of(handler),
     }
 }
@@ -85,6 +92,7 @@ pub fn count_sync<H: Handler>(
     requires me { seat.old.known.number ≡ number }
     requires at { InHandle words.now.table_id seat.old (handle.CountSync walk call next) }
     requires count { count ≡ (ran_tally seat.old.known.part (owner call.id) + 1) % 2 ^ 64 }
+    requires of { begun.now.call.value ≡ call }
     requires heard { H.leads begun.now.before.value (heard_of call) handler.now }
     ensures at { InHandle words.now.table_id seat.new (handle.EndSync walk call next) }
     ensures known { seat.new.known ≡ counted_sync walk call next seat.old.known }
@@ -105,6 +113,7 @@ pub fn end_sync<H: Handler>(
     begun: Begun<H>,
 )
     requires at { InHandle words.now.table_id seat.old (handle.EndSync walk call next) }
+    requires of { begun.call.value ≡ call }
     requires heard { H.leads begun.before.value (heard_of call) handler.now }
     ensures at { InHandle words.now.table_id seat.new (first_on walk next) }
     ensures known { seat.new.known ≡ ended_call (first_on walk next) call seat.old.known }
@@ -125,10 +134,12 @@ pub fn begin_async<H: Handler>(
     requires class { call.class ≡ Class.Async }
     ensures at { InHandle words.now.table_id seat.new (handle.CountAsync call next) }
     ensures known { seat.new.known ≡ begun_async call next seat.old.known }
+    ensures of { result.call.value ≡ call }
     ensures before { result.before.value ≡ handler.now }
 {
     store_step(words, seat, Word::Flags(call.id), 0);
     Begun {
+        call: Snapshot::of(&call),
         before: Snapshot::of(handler),
     }
 }
@@ -147,6 +158,7 @@ pub fn count_async<H: Handler>(
     requires me { seat.old.known.number ≡ number }
     requires at { InHandle words.now.table_id seat.old (handle.CountAsync call next) }
     requires count { count ≡ (ran_tally seat.old.known.part (owner call.id) + 1) % 2 ^ 64 }
+    requires of { begun.call.value ≡ call }
     requires heard { H.leads begun.before.value (heard_of call) handler.now }
     ensures at { InHandle words.now.table_id seat.new (second_on next) }
     ensures known { seat.new.known ≡ ended_call (second_on next) call seat.old.known }

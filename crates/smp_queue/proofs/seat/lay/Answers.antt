@@ -4,7 +4,7 @@ use Rattle.smp_queue.specs.Names.{Maker}
 use Rattle.smp_queue.specs.Cells.{cells}
 use Rattle.smp_queue.specs.Rule.{Ruled}
 use Rattle.smp_queue.proofs.TheRule.Keeps.{starts}
-use Rattle.smp_queue.proofs.table.lay.Goals as goal
+use Rattle.smp_queue.proofs.seat.lay.Goals as goal
 
 pub of_words-requires : goal.of_words-requires
 of_words-requires g c =
