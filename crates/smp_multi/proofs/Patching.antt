@@ -32,8 +32,8 @@ use Rattle.smp_stop_steps.specs.Stop.{Inside}
 use Rattle.smp_stop_steps.specs.Tells.{is_multi, is_one, is_patch, plan_at}
 use Rattle.smp_stop_steps.specs.declared.phase.TheConstants.{DISABLE_IRQ, RUN}
 use Rattle.smp_stop_steps.specs.declared.stage.Visit.{Visit}
-use Rattle.smp_stop_steps.proofs.Functions.{runs_alone}
-use Rattle.smp_stop_steps.proofs.Phases.{is_open_inside}
+use Rattle.smp_stop_steps.proofs.Promises.Functions.{runs_alone}
+use Rattle.smp_stop_steps.proofs.State.Phases.{is_open_inside}
 use Rattle.smp_multi.specs.Names.{Word, Work, Kind, Patch, Slot, Key, Entry, Site, Field, Load, Store, Sub, Seat, In, Alters, Duty, Rests, Fills, Source, Known}
 use Rattle.smp_multi.specs.Names.{Moved, Calls, Carries, ReadKey}
 use Rattle.smp_multi.specs.Names.act
