@@ -14,3 +14,6 @@ mod work_queue;
 pub use boot::MachineBoot;
 pub use cpu::Cpu;
 pub use machine::Machine;
+
+#[cfg(test)]
+mod tests;
