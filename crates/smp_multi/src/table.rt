@@ -58,7 +58,7 @@ use std::marker::Model;
 /// The stop table: its name, how many CPUs it has, and what it is made with. Threads share it by reference.
 #[derive(Drop)]
 pub struct StopTable<A: Allocator> {
-    owner: Owner<A>,
+    pub(crate) owner: Owner<A>,
     nr: u32,
     setting: Setting,
 }
@@ -358,7 +358,7 @@ impl<A: Allocator> StopTable<A> {
         requires { IsAt self.now me.old }
         ensures { NudgeAnswers k up me.old me.new result }
     {
-        if k >= self.setting.labels.keys() || !me.interrupts_on() {
+        if !me.interrupts_on() || k >= self.setting.labels.keys() {
             return Err(SmpError::BadArgument);
         }
         nudge::try_key(&self.owner.shared, &mut me.seat, k, up)

@@ -3,6 +3,8 @@ ghost use Rattle.smp_mask.specs.Mask.{has};
 ghost use Rattle.smp_multi.specs.Cpu.{IsAt, left_at};
 
 mod labels;
+mod nudges;
+mod patches;
 mod threads;
 
 use super::*;
@@ -52,6 +54,14 @@ impl<'a> Driver<'a> {
 
     fn run_one<F: StopFunc>(&mut self, func: &mut F) -> Result<i32, SmpError> {
         self.table.run_one(&mut self.cpu, func)
+    }
+
+    fn advance<F: StopFunc>(&mut self, func: &mut F) -> Result<Turn, SmpError> {
+        self.table.advance(&mut self.cpu, func)
+    }
+
+    fn finish(&mut self) -> Result<(), SmpError> {
+        self.table.finish(&mut self.cpu)
     }
 
     fn poll_done(&mut self) -> Result<Option<i32>, SmpError> {
