@@ -110,7 +110,7 @@ ack_still p me slot n false s in_ = draft_still p me slot n field.Ack s in_
 result_still : (p : StopState) (me slot n : ℕ) (b : Bool) → StaysStill p (cond b (stored_open p me slot field.Result n) (stored_shut p slot field.Result n)) me
 result_still p me slot n true s in_ = record {
   acked = inl (put_acked p.now.stop slot me (stands_at (p.now.stop slot) me (answered_by ((p.now.stop slot).standing me) n))
-      (ap acked (put_here (p.now.stop slot).standing me (answered_by ((p.now.stop slot).standing me) n)) ∙
+      (ap acked (put_same (p.now.stop slot).standing me (answered_by ((p.now.stop slot).standing me) n)) ∙
       answered_acked ((p.now.stop slot).standing me) n) s);
   inside = inl in_;
 }
@@ -223,7 +223,7 @@ module _ (u : Setup) (p : StopState) (at : Word → ℕ) (seat : ℕ → Seat) (
         still : (d : Bool) → StaysStill p (after d) me
         still d j in_ = record {
           acked = inl (put_acked p.now.stop v.slot me (stands_at (p.now.stop v.slot) me (looked_by ((p.now.stop v.slot).standing me) found))
-              (ap acked (put_here (p.now.stop v.slot).standing me (looked_by ((p.now.stop v.slot).standing me) found)) ∙
+              (ap acked (put_same (p.now.stop v.slot).standing me (looked_by ((p.now.stop v.slot).standing me) found)) ∙
               looked_acked ((p.now.stop v.slot).standing me) found) j);
           inside = inl in_;
         }
@@ -502,8 +502,8 @@ module _ (u : Setup) (p : StopState) (at : Word → ℕ) (seat : ℕ → Seat) (
             let same : j ≡ v.slot = cc in
             let next = completed (p.now.stop v.slot) me a x found in
             record {
-              acked = inl (put_acked p.now.stop v.slot me next (ap acked (put_here (p.now.stop v.slot).standing me (Completed a x)) ∙ sym was) j);
-              inside = inr (ap (λ i. (put p.now.stop v.slot next i).ending) same ∙ (ap (λ (y : Stop). y.ending) (put_here p.now.stop v.slot next) ∙
+              acked = inl (put_acked p.now.stop v.slot me next (ap acked (put_same (p.now.stop v.slot).standing me (Completed a x)) ∙ sym was) j);
+              inside = inr (ap (λ i. (put p.now.stop v.slot next i).ending) same ∙ (ap (λ (y : Stop). y.ending) (put_same p.now.stop v.slot next) ∙
                   ap (λ b. cond b (Last me) (p.now.stop v.slot).ending) one));
             }
 
@@ -511,7 +511,7 @@ module _ (u : Setup) (p : StopState) (at : Word → ℕ) (seat : ℕ → Seat) (
             NoteFits p (completes_with p me v.slot a x found) me
             (cond b (stop_goes (record c { visit = None }) (Close v.slot)) (stop_ends (record c { visit = None }) note.Finished)).note
         go a x in_ was true one = (inl refl, still a x in_ was one)
-        go a x in_ was false one = record { same = refl; outside = put_here p.now.inside me None; finished = inl (v.slot, in_) }
+        go a x in_ was false one = record { same = refl; outside = put_same p.now.inside me None; finished = inl (v.slot, in_) }
 
         either : (work : Work) → (((v.answer ≡ 0) × IsLoaded v work × IsThroughAll v × (seat me ≡ In v.slot work v.acked v.acked Rests)) ⊎
             (seat me ≡ Gives v.slot work v.acked v.answer)) → Fits (Complete v completion.CountDown)
