@@ -24,6 +24,7 @@ pub mod HaveRun
 pub mod Parts
 pub mod Known
 pub mod Handling
+pub mod Logs
 -- the laws
 pub mod Promises
 -- the machine: a list of words, and a list of controls
