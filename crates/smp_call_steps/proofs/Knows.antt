@@ -4,3 +4,4 @@ pub mod Restages
 pub mod OneStep
 pub mod Posted
 pub mod Handling
+pub mod Logs

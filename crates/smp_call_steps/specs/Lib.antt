@@ -24,6 +24,7 @@ pub mod HaveRun
 pub mod Parts
 pub mod Known
 pub mod Handling
+pub mod Logs
 -- the laws of steps: who may make which, what each does of functions, what it says, and how a post goes on
 pub mod Functions
 pub mod Premises

@@ -7,6 +7,7 @@ ghost use Rattle.std.specs.Prelude.{List};
 ghost use Rattle.smp_call_steps.specs.BatchLinks.{KeepBatchLinks};
 ghost use Rattle.smp_call_steps.specs.Classes.{RunByClass};
 ghost use Rattle.smp_call_steps.specs.HaveRun.{ConfirmedRun, ConfirmedSyncEnd};
+ghost use Rattle.smp_call_steps.specs.Logs.{LogsTell};
 ghost use Rattle.smp_call_steps.specs.Promises.{NothingCalled, StepsAreTold, KeepThePlaceLaw, KeepTheInterruptLaw};
 ghost use Rattle.smp_call_steps.specs.Promises.{KeepTheQueueHistory, KeepTheTallyLaw, RunAtMostOnce};
 ghost use Rattle.smp_call_steps.specs.QueueOrder.{KeepsClasses, AsyncsLast, RunInQueueOrder};
@@ -21,6 +22,12 @@ pub fn nothing_is_called()
 /// and changes no other CPU's part.
 pub fn steps_are_told()
     ensures { StepsAreTold }
+{}
+
+/// By each step of a CPU its log grows by what the step has sent, a call that joins a queue or an interrupt that is pending
+/// then, and by nothing else.
+pub fn logs_tell()
+    ensures { LogsTell }
 {}
 
 /// Each record is in exactly one place: free, held by its source, or locked in one queue, one batch or one SYNC call that

@@ -2,11 +2,10 @@
 use Rattle.std.proofs.Common.{◌≡◌, ◌≢◌, ℕ, ◌+◌, ◌%◌, ◌<◌, ◌==◌, Bool, true, false, cond, Option, Some, None, List, [], ◌∷◌, ◌++◌, sym, subst, refl, ap, ◌∙◌}
 use Rattle.std.proofs.Common.{arith}
 use Rattle.std.proofs.lemmas.Bool.{lt-ltb, eq-eqb}
-use Rattle.std.specs.List.{AllByRecursion}
 use Rattle.smp_words.specs.Size.{cpus, records}
 use Rattle.smp_words.specs.Access.{word_of}
 use Rattle.smp_call_steps.specs.Calls.{CallState, Nothing, SyncCall, CountedCall, AsyncCall}
-use Rattle.smp_call_steps.specs.Drains.{DrainValue, handle_goes, link_to, record_at, first_on, second_on, handle_outcome, drain_after}
+use Rattle.smp_call_steps.specs.Drains.{DrainValue, handle_goes, record_at, first_on, second_on, handle_outcome, drain_after}
 use Rattle.smp_call_steps.specs.Places.{IsPlaced, AllPlaced}
 use Rattle.smp_call_steps.specs.Words.{FlagsShow, bit, nexts_in, last_batch}
 use Rattle.smp_call_steps.specs.Histories.{orders, running_call}

@@ -1,0 +1,150 @@
+-- A step's log is what it has sent.
+use Rattle.std.proofs.Common.{◌≡◌, ℕ, ◌%◌, ◌≤◌, ◌==◌, nat_lt, Bool, true, false, cond, Option, Some, None, List, [], ◌∷◌, length, sym, subst, refl, ap, ◌∙◌, arith}
+use Rattle.smp_words.specs.Access.{act_of, word_of, seen_of}
+use Rattle.smp_call_steps.specs.Calls.{CallState, Holding, Running, CountedCall, SyncCall, AsyncCall, confirms, locked, releases, unlocks, begins_sync, begins_async}
+use Rattle.smp_call_steps.specs.Calls.{counts, links, held_told, flags_told, hand_told, appended, told}
+use Rattle.smp_call_steps.specs.Known.{Sees, MayStep, known_access, log_after}
+use Rattle.smp_call_steps.specs.Logs.{SendsNothing, SendsCall, Sends, log_with, LogsTell}
+use Rattle.smp_call_steps.specs.Shows.{Shows}
+use Rattle.smp_call_steps.specs.Stages.{ControlValue}
+use Rattle.smp_call_steps.specs.Names.{Call, Word, Head, Intr, Hand, Queued, Ran, Flags, Func, Info, Next, Access, Act, Stage, Post, Handle, Logged}
+use Rattle.smp_call_steps.specs.Names.act
+use Rattle.smp_call_steps.specs.Names.handle
+use Rattle.smp_call_steps.specs.Names.logged
+use Rattle.smp_call_steps.specs.Names.post
+use Rattle.smp_call_steps.proofs.Knows.Restages.{aims_held}
+use Rattle.smp_call_steps.specs.declared.known.Known.{Known}
+
+shorter : (b : Bool) (calls : List Call) → length (cond b [] calls) ≤ length calls
+shorter true calls = omega arith
+shorter false calls = omega arith
+
+was_pending : (b p : Bool) → cond b false p ≡ true → p ≡ true
+was_pending true p e = cc
+was_pending false p e = e
+
+-- a CPU holds a call
+abbrev IsHeld : Option Holding → Type 0
+IsHeld None = ⊥
+IsHeld (Some h) = Unit {0}
+
+-- a word in which a step sends nothing
+abbrev IsElse : Word → Type 0
+IsElse (Head to) = ⊥
+IsElse (Intr to) = ⊥
+IsElse _ = Unit {0}
+
+module _ (a : CallState) (me : ℕ) where
+  quiet : (b : CallState) → b.queue ≡ a.queue → b.pending ≡ a.pending → SendsNothing a b
+  quiet b q p = record {
+    queues = λ cpu. let e : length (b.queue cpu) ≡ length (a.queue cpu) = ap (λ (f : ℕ → List Call). length (f cpu)) q in omega arith;
+    pending = λ cpu h. ap (λ (f : ℕ → Bool). f cpu) (sym p) ∙ h;
+  }
+
+  quiet_async : (calls : List Call) → SendsNothing a (begins_async a me calls)
+  quiet_async [] = quiet a refl refl
+  quiet_async (call ∷ rest) = quiet (begins_async a me (call ∷ rest)) refl refl
+
+  quiet_sync : (b : Bool) (calls : List Call) → SendsNothing a (cond b (begins_sync a me calls) a)
+  quiet_sync true [] = quiet a refl refl
+  quiet_sync true (call ∷ rest) = quiet (begins_sync a me (call ∷ rest)) refl refl
+  quiet_sync false calls = quiet a refl refl
+
+  quiet_unlocks : (running : Running) → SendsNothing a (unlocks a me running)
+  quiet_unlocks (CountedCall call) = quiet (unlocks a me (CountedCall call)) refl refl
+  quiet_unlocks _ = quiet_async (a.batch me)
+
+  quiet_releases : (id : ℕ) (held : Option Holding) → SendsNothing a (releases a me id held)
+  quiet_releases id (Some h) = quiet (releases a me id (Some h)) refl refl
+  quiet_releases id None = quiet_unlocks (a.running me)
+
+  quiet_counts : (running : Running) → SendsNothing a (counts a me running)
+  quiet_counts (SyncCall call) = quiet (counts a me (SyncCall call)) refl refl
+  quiet_counts (AsyncCall call) = quiet (counts a me (AsyncCall call)) refl refl
+  quiet_counts _ = quiet a refl refl
+
+  quiet_links : (put : Option ℕ) (held : Option Holding) → SendsNothing a (links a me put held)
+  quiet_links (Some n) (Some h) = quiet (links a me (Some n) (Some h)) refl refl
+  quiet_links _ _ = quiet a refl refl
+
+  quiet_held : (f : ℕ → Holding → Holding) (put : Option ℕ) → SendsNothing a (held_told a me f put)
+  quiet_held f (Some n) = quiet (held_told a me f (Some n)) refl refl
+  quiet_held f None = quiet a refl refl
+
+  quiet_hand : (put : Option ℕ) → SendsNothing a (hand_told a me put)
+  quiet_hand (Some n) = quiet_sync (nat_lt 1 n) (a.batch me)
+  quiet_hand None = quiet a refl refl
+
+  quiet_confirms : (b : Bool) (id : ℕ) → SendsNothing a (cond b a (confirms a me id))
+  quiet_confirms true id = quiet a refl refl
+  quiet_confirms false id = quiet (confirms a me id) refl refl
+
+  quiet_locks : (b : Bool) (id n : ℕ) → SendsNothing a (cond b (releases a me id (a.held me)) (locked a me id n))
+  quiet_locks true id n = quiet_releases id (a.held me)
+  quiet_locks false id n = quiet (locked a me id n) refl refl
+
+  quiet_flags : (id : ℕ) (kind : Act) (found put : Option ℕ) → SendsNothing a (flags_told a me id kind found put)
+  quiet_flags id act.Load (Some found) put = quiet_confirms (found % 2 == 1) id
+  quiet_flags id act.Store found (Some n) = quiet_locks (n == 0) id n
+  quiet_flags id _ found put = quiet a refl refl
+
+  quiet_else : (kind : Act) (w : Word) (found put : Option ℕ) → IsElse w → SendsNothing a (told a me kind w found put)
+  quiet_else kind (Flags id) found put e = quiet_flags id kind found put
+  quiet_else kind (Func id) found put e = quiet_held _ put
+  quiet_else kind (Info id) found put e = quiet_held _ put
+  quiet_else kind (Queued from to) found put e = quiet_held _ put
+  quiet_else kind (Head to) found put e = absurd e
+  quiet_else kind (Intr to) found put e = absurd e
+  quiet_else kind (Hand cpu) found put e = quiet_hand put
+  quiet_else kind (Ran by from) found put e = quiet_counts (a.running me)
+  quiet_else kind (Next id) found put e = quiet_links put (a.held me)
+  quiet_else kind _ found put e = quiet a refl refl
+
+  log_else : (kind : Act) (w : Word) (put : Option ℕ) (log : List Logged) → IsElse w → log_after kind w put log ≡ log
+  log_else act.Cas (Head to) put log e = absurd e
+  log_else act.Store (Intr to) put log e = absurd e
+  log_else _ w put log e = refl
+
+  sends_call : (to : ℕ) (held : Option Holding) → IsHeld held → SendsCall a (appended a me to held) to
+  sends_call to (Some h) holds = record { call = h.call; queues = refl; pending = refl }
+  sends_call to None holds = absurd holds
+
+  -- a step on this word logs what it sends
+  abbrev Logs : Act → Word → Option ℕ → Option ℕ → List Logged → Type 0
+  Logs kind w found put log = (sent : Option Logged) × (log_after kind w put log ≡ log_with sent log) × Sends sent a (told a me kind w found put)
+
+  head_logs : (kind : Act) (to : ℕ) (found put : Option ℕ) (log : List Logged) → (kind ≡ act.Cas → IsHeld (a.held me)) → Logs kind (Head to) found put log
+  head_logs act.Cas to found (Some n) log holds = (Some (logged.Queued to), refl, sends_call to (a.held me) (holds refl))
+  head_logs act.Swap to found put log holds = (
+    None,
+    refl,
+    record { queues = λ cpu. shorter (cpu == me) (a.queue cpu); pending = λ cpu h. h },
+  )
+  head_logs _ to found put log holds = (None, refl, quiet a refl refl)
+
+  intr_logs : (kind : Act) (to : ℕ) (found put : Option ℕ) (log : List Logged) → Logs kind (Intr to) found put log
+  intr_logs act.Store to found put log = (Some (logged.Interrupted to), refl, record { queues = refl; pending = refl })
+  intr_logs act.Swap to found put log = (
+    None,
+    refl,
+    record { queues = λ cpu. omega arith; pending = λ cpu h. was_pending (cpu == me) (a.pending cpu) h },
+  )
+  intr_logs _ to found put log = (None, refl, quiet a refl refl)
+
+  step_logs : (kind : Act) (w : Word) (found put : Option ℕ) (log : List Logged) → (kind ≡ act.Cas → IsHeld (a.held me)) → Logs kind w found put log
+  step_logs kind (Head to) found put log holds = head_logs kind to found put log holds
+  step_logs kind (Intr to) found put log holds = intr_logs kind to found put log
+  step_logs kind w found put log holds = (None, log_else kind w put log tt, quiet_else kind w found put tt)
+
+-- at a compare-exchange a CPU holds the call that it queues
+module _ {a : CallState} {at : Word → ℕ} {control : ℕ → ControlValue} {v : Known} (s : Shows a at control) (sees : Sees a control v) where
+  holds_at : (st : Stage) → MayStep v st → act_of (known_access v st) ≡ act.Cas → IsHeld (a.held v.number)
+  holds_at (Post p (post.Exchange link tries)) aims e = subst IsHeld (sym (aims_held s sees (Post p (post.Exchange link tries)) aims)) tt
+  holds_at (Handle handle.Enter) aims e = absurd (let f = e in cc)
+  holds_at _ aims e = absurd (let f = e in cc)
+
+pub logs_tell : LogsTell
+logs_tell a at control v s sees st aims access is =
+    subst (λ (x : Access). let seen = seen_of v.number x (at (word_of x)) None in Logs a v.number seen.act seen.word seen.found seen.put v.log) is
+    (let seen = seen_of v.number (known_access v st) (at (word_of (known_access v st))) None in
+    step_logs a v.number seen.act seen.word seen.found seen.put v.log (λ e. holds_at s sees st aims e))

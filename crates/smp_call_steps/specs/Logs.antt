@@ -1,0 +1,45 @@
+-- What a CPU's log says of the state of the calls.
+use Rattle.std.specs.Prelude.{◌≡◌, ℕ, ◌≤◌, true, Option, Some, None, List, [], ◌∷◌, ◌++◌, length}
+use Rattle.smp_words.specs.Put.{put}
+use Rattle.smp_words.specs.Access.{word_of, seen_of}
+use Rattle.smp_call_steps.specs.Calls.{CallState, tells}
+use Rattle.smp_call_steps.specs.Known.{Sees, MayStep, known_access, known_tells}
+use Rattle.smp_call_steps.specs.Shows.{Shows}
+use Rattle.smp_call_steps.specs.Stages.{ControlValue}
+use Rattle.smp_call_steps.specs.Names.{Call, Word, Access, Stage, Logged}
+use Rattle.smp_call_steps.specs.Names.logged
+use Rattle.smp_call_steps.specs.declared.known.Known.{Known}
+
+-- no call has joined a queue, and no interrupt has become pending
+pub record SendsNothing (a b : CallState) : Type 0 where
+  pub queues : (cpu : ℕ) → length (b.queue cpu) ≤ length (a.queue cpu)
+  pub pending : (cpu : ℕ) → b.pending cpu ≡ true → a.pending cpu ≡ true
+
+-- this CPU has an interrupt pending, and no call has joined a queue
+pub record SendsInterrupt (a b : CallState) (to : ℕ) : Type 0 where
+  pub queues : b.queue ≡ a.queue
+  pub pending : b.pending ≡ put a.pending to true
+
+-- one call has joined this CPU's queue, and no interrupt has become pending
+pub record SendsCall (a b : CallState) (to : ℕ) : Type 0 where
+  pub call : Call
+  pub queues : b.queue ≡ put a.queue to (a.queue to ++ call ∷ [])
+  pub pending : b.pending ≡ a.pending
+
+-- what is logged, if anything, is what was sent
+abbrev pub Sends : Option Logged → CallState → CallState → Type 0
+Sends None a b = SendsNothing a b
+Sends (Some (logged.Queued to)) a b = SendsCall a b to
+Sends (Some (logged.Interrupted to)) a b = SendsInterrupt a b to
+
+-- a log and what is logged next, if anything
+abbrev pub log_with : Option Logged → List Logged → List Logged
+log_with None log = log
+log_with (Some x) log = log ++ x ∷ []
+
+-- by each step that a CPU may make its log grows by what the step has sent, and by nothing else
+abbrev pub LogsTell : Type 0
+LogsTell = (a : CallState) (at : Word → ℕ) (control : ℕ → ControlValue) (v : Known) → Shows a at control → Sees a control v →
+    (stage : Stage) → MayStep v stage → (access : Access) → known_access v stage ≡ access →
+    let seen = seen_of v.number access (at (word_of access)) None in
+    (sent : Option Logged) × ((known_tells (a.queue v.number) v seen).log ≡ log_with sent v.log) × Sends sent a (tells a seen)
