@@ -22,3 +22,5 @@ pub mod Showing
 -- readings and nudges of keys
 pub mod Reading
 pub mod Nudging
+pub mod LabelLaws
+pub mod PatchLaws

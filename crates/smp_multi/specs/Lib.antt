@@ -25,3 +25,5 @@ pub mod Laws
 -- readings and nudges of keys
 pub mod Reads
 pub mod Nudges
+pub mod LabelLaws
+pub mod PatchLaws
