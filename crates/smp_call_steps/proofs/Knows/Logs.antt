@@ -1,7 +1,9 @@
 -- A step's log is what it has sent.
-use Rattle.std.proofs.Common.{◌≡◌, ℕ, ◌%◌, ◌≤◌, ◌==◌, nat_lt, Bool, true, false, cond, Option, Some, None, List, [], ◌∷◌, length, sym, subst, refl, ap, ◌∙◌, arith}
+use Rattle.std.proofs.Common.{◌≡◌, ℕ, ◌%◌, ◌≤◌, ◌==◌, nat_lt, Bool, true, false, cond, Option, Some, None, List, [], ◌∷◌, length, sym, subst, refl}
+use Rattle.std.proofs.Common.{ap, ◌∙◌, arith}
 use Rattle.smp_words.specs.Access.{act_of, word_of, seen_of}
-use Rattle.smp_call_steps.specs.Calls.{CallState, Holding, Running, CountedCall, SyncCall, AsyncCall, confirms, locked, releases, unlocks, begins_sync, begins_async}
+use Rattle.smp_call_steps.specs.Calls.{CallState, Holding, Running, CountedCall, SyncCall, AsyncCall, confirms, locked, releases, unlocks}
+use Rattle.smp_call_steps.specs.Calls.{begins_sync, begins_async}
 use Rattle.smp_call_steps.specs.Calls.{counts, links, held_told, flags_told, hand_told, appended, told}
 use Rattle.smp_call_steps.specs.Known.{Sees, MayStep, known_access, log_after}
 use Rattle.smp_call_steps.specs.Logs.{SendsNothing, SendsCall, Sends, log_with, LogsTell}
