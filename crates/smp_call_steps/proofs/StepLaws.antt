@@ -5,3 +5,4 @@ pub mod Functions
 pub mod Notes
 pub mod Tries
 pub mod Keeps
+pub mod Saying

@@ -1,9 +1,10 @@
 -- When the function of a call runs: what each step does of the calls that run, and what it says of them.
-use Rattle.std.specs.Prelude.{◌≡◌, ◌⊎◌, ℕ, Bool, true, false, Option, Some, List, [], ◌∷◌, ◌++◌}
+use Rattle.std.specs.Prelude.{◌≡◌, ◌⊎◌, ℕ, ◌==◌, Bool, true, false, if◌then◌else◌, Option, Some, List, [], ◌∷◌, ◌++◌}
 use Rattle.smp_words.specs.Put.{put}
 use Rattle.smp_words.specs.Size.{owner}
 use Rattle.smp_call_steps.specs.Calls.{CallState, Running, Nothing, SyncCall, CountedCall, AsyncCall}
-use Rattle.smp_call_steps.specs.Names.{Call, Class, Sync, Async, RecPlace, Note}
+use Rattle.smp_call_steps.specs.Histories.{running_call}
+use Rattle.smp_call_steps.specs.Names.{Call, Class, Sync, Async, RecPlace, Note, Seen}
 use Rattle.smp_call_steps.specs.Names.place
 use Rattle.smp_call_steps.specs.Names.note
 
@@ -66,3 +67,31 @@ pub record EndsIt (a b : CallState) (me : ℕ) (said : Option Note) : Type 0 whe
 -- what a step does of functions is one of these
 abbrev pub FunctionGoes : CallState → CallState → ℕ → Option Note → Type 0
 FunctionGoes a b me said = Silent a b said ⊎ BeginsIt a b me said ⊎ CountsIt a b me said ⊎ EndsIt a b me said
+
+-- the calls that have begun at a CPU: those that have ended there, and the one that runs
+abbrev pub begun_in : Told → ℕ → List Call
+begun_in t cpu = t.ran cpu ++ running_call (t.running cpu)
+
+-- a function call, as a step says it
+pub record Said : Type 0 where
+  pub source : ℕ
+  pub func : ℕ
+  pub info : ℕ
+
+-- these calls, as the steps that begin them say it
+abbrev pub all_said : List Call → List Said
+all_said [] = []
+all_said (call ∷ rest) = record { source = owner call.id; func = call.func; info = call.info } ∷ all_said rest
+
+abbrev pub call_in : Option Note → List Said
+call_in (Some (note.Call source func info)) = record { source = source; func = func; info = info } ∷ []
+call_in _ = []
+
+-- what the steps of this CPU say, of all these
+abbrev pub said_by : ℕ → List Seen → List Said
+said_by cpu [] = []
+said_by cpu (seen ∷ rest) = (if cpu == seen.cpu then call_in seen.note else []) ++ said_by cpu rest
+
+-- the function calls that these steps say, CPU by CPU and in order, are the calls that have begun there meanwhile
+abbrev pub SaysWhatBegins : CallState → List Seen → CallState → Type 0
+SaysWhatBegins a seen b = (cpu : ℕ) → all_said (begun_in (told_of b) cpu) ≡ all_said (begun_in (told_of a) cpu) ++ said_by cpu seen

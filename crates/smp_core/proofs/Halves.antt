@@ -147,7 +147,7 @@ module _ (a : CallState) (me found : ℕ) (note : Option Note) where
   in_completion v completion.StoreAnswer = refl
   in_completion v completion.CountDown = refl
 
-  stop_step_apart : (n : ℕ) (changes : List Change) (stage : StopStage) → calls.tells a (seen_of me (stop_access n me changes stage) found note) ≡ a
+  pub stop_step_apart : (n : ℕ) (changes : List Change) (stage : StopStage) → calls.tells a (seen_of me (stop_access n me changes stage) found note) ≡ a
   stop_step_apart n changes TakeGate = refl
   stop_step_apart n changes OpenGate = refl
   stop_step_apart n changes (Begin work f) = refl

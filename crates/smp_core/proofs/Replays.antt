@@ -3,6 +3,8 @@ use Rattle.std.proofs.Common.{◌≡◌, ℕ, ◌+◌, ◌<◌, ◌≤◌, List,
 use Rattle.std.proofs.Common.{◌∙◌, ap, refl, append_assoc, append-nil, arith}
 use Rattle.std.proofs.lemmas.List.{drop_more, drop_all}
 use Rattle.smp_call_steps.specs.Calls.{CallState, tells, tells_all, tells_if}
+use Rattle.smp_call_steps.specs.Functions.{SaysWhatBegins}
+use Rattle.smp_call_steps.proofs.StepLaws.Saying.{says_none, says_then}
 use Rattle.smp_core.specs.Value.{CoreValue, Shown}
 use Rattle.smp_call_steps.specs.Value.{control_of}
 use Rattle.std.specs.Prelude.{IfSome}
@@ -27,6 +29,7 @@ use Rattle.smp_mask.specs.declared.error.SmpError.{SmpError}
 pub record GoesOn (first core : CoreValue) (events : List Event) (at : ℕ) (seen : List Seen) : Type 0 where
   pub run : after_seen seen (replay_from at core (drop at events)) ≡ replay_from 0 first events
   pub told : (calls : CallState) → Shown calls first → Shown (tells_all calls seen) core
+  pub said : (calls : CallState) → Shown calls first → SaysWhatBegins calls seen (tells_all calls seen)
   -- the answers of the functions so far, and then those of the rest, are the answers of all
   pub answers : List ℕ
   pub answered : answers ++ answers_from core (drop at events) ≡ answers_from first events
@@ -106,6 +109,19 @@ turn_setup : (core : CoreValue) (event : Event) → setup_in (turn_of core event
 turn_setup core (event.Start cpu c) = start_setup core cpu c (refusal_of core cpu c)
 turn_setup core (event.Step cpu) = step_setup core cpu (control_of core.controls cpu).stage (stop_control_of core.stops.controls cpu).stage
 
+-- at first no step is seen
+pub starts : (first : CoreValue) (events : List Event) (seen : List Seen) → seen ≡ [] → GoesOn first first events 0 seen
+starts first events seen none = rw none (record {
+  run = refl;
+  told = λ calls shown. shown;
+  said = λ calls shown. says_none calls;
+  answers = [];
+  answered = refl;
+  paired = refl;
+  setup = refl;
+  stops = λ p shown. shown;
+})
+
 answers_next : (core : CoreValue) (events : List Event) (at : ℕ) (d : Event) → at < length events →
     answers_from core (drop at events) ≡ answers_on (turn_of core (get_or events at d)).answer (turn_of core (get_or events at d)).answered
     (answers_from (turn_of core (get_or events at d)).core (drop (at + 1) events))
@@ -115,11 +131,12 @@ answers_next core events at d l = ap (answers_from core) (drop_more events at d 
 GoesOn-more : (first core core' : CoreValue) (events : List Event) (at : ℕ) (d : Event) (seen seen' : List Seen) (s : Option Seen) → at < length events →
     Ok s ≡ (turn_of core (get_or events at d)).answer → core' ≡ (turn_of core (get_or events at d)).core → seen' ≡ seen ++ seen_list s →
     ((calls : CallState) → Shown calls core → Shown (tells_if calls s) core') →
+    ((calls : CallState) → Shown calls core → SaysWhatBegins calls (seen_list s) (tells_if calls s)) →
     ((p : StopState) → StopShown p core.stops → StopShown (stops_if (setup_in core) p s (turn_of core (get_or events at d)).answered) core'.stops) →
     ((p : StopState) → StopShown p core.stops → NoteFitsIf (setup_in core) p s (turn_of core (get_or events at d)).answered) →
     GoesOn first core events at seen → GoesOn first core' events (at + 1) seen'
 unfolding answer_list
-GoesOn-more first core core' events at d seen seen' s l answer is_core is_seen told stops notes g =
+GoesOn-more first core core' events at d seen seen' s l answer is_core is_seen told said stops notes g =
     let event = get_or events at d in
     let answered = (turn_of core event).answered in
     let answers = g.answers in
@@ -141,6 +158,9 @@ GoesOn-more first core core' events at d seen seen' s l answer is_core is_seen t
           (ap (after_seen seen) (sym (replay_more at core event (drop (at + 1) events) s answer) ∙ ap (replay_from at core) (sym (drop_more events at d l)))
           ∙ g.run));
       told = λ calls shown. rw (is_seen, tells_all-append calls seen s) (told (tells_all calls seen) (g.told calls shown));
+      said = λ calls shown. rw (is_seen, tells_all-append calls seen s)
+          (says_then calls (tells_all calls seen) (tells_if (tells_all calls seen) s) seen (seen_list s) (g.said calls shown)
+          (said (tells_all calls seen) (g.told calls shown)));
     }
 
 -- the core shows the stops that these steps tell, and their notes say what they have changed
@@ -170,12 +190,13 @@ pub goes_on : (first core core' : CoreValue) (events : List Event) (at : ℕ) (e
     → event ≡ get_or events at event →
     Ok s ≡ (turn_of core event).answer → core' ≡ (turn_of core event).core → seen' ≡ seen ++ seen_list s →
     ((calls : CallState) → Shown calls core → Shown (tells_if calls s) core') →
+    ((calls : CallState) → Shown calls core → SaysWhatBegins calls (seen_list s) (tells_if calls s)) →
     ((p : StopState) → StopShown p core.stops → StopShown (stops_if (setup_in core) p s (turn_of core event).answered) core'.stops) →
     IfSome s (λ seen. StopNotesFit core seen (turn_of core event).answered) →
     GoesOn first core events at seen → GoesOn first core' events (at + 1) seen'
-goes_on first core core' events at event seen seen' s l e answer is_core is_seen told stops notes g =
+goes_on first core core' events at event seen seen' s l e answer is_core is_seen told said stops notes g =
     GoesOn-more first core core' events at event seen seen' s l (subst (λ (x : Event). Ok s ≡ (turn_of core x).answer) e answer)
-    (subst (λ (x : Event). core' ≡ (turn_of core x).core) e is_core) is_seen told
+    (subst (λ (x : Event). core' ≡ (turn_of core x).core) e is_core) is_seen told said
     (subst (λ (x : Event). (p : StopState) → StopShown p core.stops → StopShown (stops_if (setup_in core) p s (turn_of core x).answered) core'.stops) e stops)
     (subst (λ (x : Event). (p : StopState) → StopShown p core.stops → NoteFitsIf (setup_in core) p s (turn_of core x).answered) e (fits s notes)) g
   where

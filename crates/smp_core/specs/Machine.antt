@@ -1,5 +1,5 @@
 -- One step of a core: what it does to the words, what is seen of it, and where the CPU stands after it.
-use Rattle.std.specs.Prelude.{ℕ, Option, Some, None, slice_set}
+use Rattle.std.specs.Prelude.{ℕ, Option, Some, None, [], ◌∷◌, slice_set}
 use Rattle.smp_words.specs.Layout.{number_in}
 use Rattle.smp_words.specs.Access.{word_of, words_after, seen_of}
 use Rattle.smp_call_steps.specs.Stages.{access_of, outcome_of, control_after}
@@ -7,6 +7,7 @@ use Rattle.smp_core.specs.Value.{CoreValue}
 use Rattle.smp_call_steps.specs.Value.{control_of}
 use Rattle.smp_call_steps.specs.Calls.{CallState}
 use Rattle.smp_call_steps.specs.Calls as calls
+use Rattle.smp_call_steps.specs.Functions.{SaysWhatBegins}
 use Rattle.smp_core.specs.Value.{Shown}
 use Rattle.smp_stop_steps.specs.Machine.{stop_seen_at, stop_stepped}
 use Rattle.smp_stop_steps.specs.Notes.{StopNoteFits}
@@ -68,6 +69,10 @@ setup_in core = setup_of core.stops.online core.stops.labels
 -- whatever calls and stops the old core showed, the new one shows those that the step tells
 abbrev pub CallsTold : CoreValue → Seen → CoreValue → Type 0
 CallsTold old seen new = (a : CallState) → Shown a old → Shown (calls.tells a seen) new
+
+-- the function call that the step says, if any, is the call that begins
+abbrev pub CallsSaid : CoreValue → Seen → Type 0
+CallsSaid old seen = (a : CallState) → Shown a old → SaysWhatBegins a (seen ∷ []) (calls.tells a seen)
 
 abbrev pub StopsTold : CoreValue → Seen → ℕ → CoreValue → Type 0
 StopsTold old seen answer new = (p : StopState) → StopShown p old.stops → StopShown (stops.tells (setup_in old) p seen answer) new.stops

@@ -2,6 +2,7 @@
 
 ghost use Rattle.std.specs.Prelude.{◌≡◌, ◌++◌, IfOk, IfErr, OnOk, OnErr};
 ghost use Rattle.smp_call_steps.specs.Calls.{CallState, tells_all};
+ghost use Rattle.smp_call_steps.specs.Functions.{SaysWhatBegins};
 ghost use Rattle.smp_core.specs.Value.{Shown};
 ghost use Rattle.smp_core.specs.Runs.{IsReplay};
 ghost use Rattle.smp_core.specs.Replay.{answers_from, seen_list};
@@ -34,6 +35,7 @@ pub fn replay<A: Allocator>(
 ) -> Result<Replayed<A>, SmpError>
     ensures run { IfOk result (λ r. IsReplay core events.now r.core r.seen.items r.stopped) }
     ensures told { IfOk result (λ r. (calls : CallState) → Shown calls core → Shown (tells_all calls r.seen.items) r.core) }
+    ensures said { IfOk result (λ r. (calls : CallState) → Shown calls core → SaysWhatBegins calls r.seen.items (tells_all calls r.seen.items)) }
     ensures stops { IfOk result (λ r. (p : StopState) → StopShown p core.stops →
         StopShown (tells_stops (setup_in core) p r.seen.items (answers_from core events.now)) r.core.stops) }
     ensures stop_notes { IfOk result (λ r. (p : StopState) → StopShown p core.stops →

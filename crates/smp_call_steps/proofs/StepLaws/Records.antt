@@ -5,7 +5,7 @@ use Rattle.smp_words.specs.Put.{put_word}
 use Rattle.smp_words.proofs.Puts.{at_test}
 use Rattle.smp_call_steps.specs.Calls.{CallState, Holding, Running}
 use Rattle.smp_call_steps.specs.Places.{Holds, AllPlaced, locked_by}
-use Rattle.smp_call_steps.specs.Premises.{HoldsUncounted, IsNext, MayStoreFlags, MaySee, IsWordOf, MayStoreAt}
+use Rattle.smp_call_steps.specs.Premises.{HoldsUncounted, MayStoreFlags, MaySee, IsWordOf, MayStoreAt}
 use Rattle.smp_call_steps.specs.Shows.{Shows}
 use Rattle.smp_call_steps.specs.Stages.{ControlValue, access_of}
 use Rattle.smp_call_steps.specs.StepLaws.{KeepsRecords}

@@ -1,9 +1,12 @@
 use Rattle.std.proofs.Common.{arith}
-use Rattle.smp_core.proofs.Replays.{GoesOn-all, IsToldBy, ends_refused, goes_on}
+use Rattle.smp_core.proofs.Replays.{GoesOn-all, IsToldBy, ends_refused, goes_on, starts}
 use Rattle.smp_stop_steps.specs.State.{StopState}
 use Rattle.smp_stop_steps.specs.Value.{StopShown}
 use Rattle.smp_core.proofs.events.replay.Goals as goal
 use Rattle.smp_core.proofs.events.replay.Given as given
+
+pub loop-position-init : goal.loop-position-init
+loop-position-init g c = starts c.args.core c.args.events.now c.new-seen.result.items c.new-seen.ensures.items
 
 pub loop-position-preserved : goal.loop-position-preserved
 loop-position-preserved g c =
@@ -11,11 +14,12 @@ loop-position-preserved g c =
     let core = c.turn.ensures.core in
     let pushed = c.in_ok-note_step-in-Ok.ensures.ok in
     let told = c.in-Ok.ensures.told in
+    let said = c.in-Ok.ensures.said in
     let stops = c.in-Ok.ensures.stops in
     let notes = c.in-Ok.ensures.stop_notes in
     goes_on c.args.core c.loop-position.core c.turn.new.self c.args.events.now c.loop-position.position c.index-events-position.result
     c.loop-position.seen.items c.note_step.new.seen.items c.in-Ok.step
-    (omega arith) c.index-events-position.is answer core pushed told stops notes c.loop-position.invariant
+    (omega arith) c.index-events-position.is answer core pushed told said stops notes c.loop-position.invariant
 
 refused : (g : given.Over) (c : goal.In-Err g) → (p : StopState) → StopShown p c.args.core.stops →
     IsToldBy c.args.core c.turn.new.self c.args.events.now c.loop-position.seen.items p

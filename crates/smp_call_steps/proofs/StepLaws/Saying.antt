@@ -1,0 +1,85 @@
+-- The function calls that steps say are those of the calls that begin.
+use Rattle.std.proofs.Common.{◌≡◌, ℕ, ◌==◌, Bool, true, false, cond, inl, inr, Option, Some, None, List, [], ◌∷◌, ◌++◌, sym, refl, ap, ◌∙◌, append_assoc}
+use Rattle.std.proofs.lemmas.List.{append-nil}
+use Rattle.smp_words.proofs.Puts.{at_test}
+use Rattle.smp_call_steps.specs.Calls.{CallState, Running, Nothing, CountedCall}
+use Rattle.smp_call_steps.specs.Functions.{runs_as, ends_as, Told, told_of, is_call, FunctionGoes, begun_in, Said, all_said, call_in, said_by, SaysWhatBegins}
+use Rattle.smp_call_steps.specs.Histories.{running_call}
+use Rattle.smp_call_steps.specs.Names.{Call, Class, Sync, Async, Note, Seen}
+use Rattle.smp_call_steps.specs.Names.note
+
+all_said-append : (xs ys : List Call) → all_said (xs ++ ys) ≡ all_said xs ++ all_said ys
+all_said-append [] ys = refl
+all_said-append (x ∷ xs) ys = ap (λ (s : List Said). all_said (x ∷ []) ++ s) (all_said-append xs ys)
+
+pub none_said : (said : Option Note) → is_call said ≡ false → call_in said ≡ []
+none_said None e = refl
+none_said (Some (note.Call source func info)) e = cc
+none_said (Some _) e = refl
+
+said_nothing : (b : Bool) (said : Option Note) → is_call said ≡ false → cond b (call_in said) [] ≡ []
+said_nothing true said e = none_said said e
+said_nothing false said e = refl
+
+-- while its function runs, and as it ends, a call is the one that runs
+runs_one : (class : Class) (call : Call) → running_call (runs_as class call) ≡ call ∷ []
+runs_one Sync call = refl
+runs_one Async call = refl
+
+ends_one : (class : Class) (call : Call) → running_call (ends_as class call) ≡ call ∷ []
+ends_one Sync call = refl
+ends_one Async call = refl
+
+module _ (a b : CallState) (me : ℕ) (said : Option Note) (cpu : ℕ) where
+  abbrev Says : Type 0
+  Says = all_said (begun_in (told_of b) cpu) ≡ all_said (begun_in (told_of a) cpu) ++ cond (cpu == me) (call_in said) []
+
+  -- a step that leaves what has begun as it was, and says nothing
+  same_begun : begun_in (told_of b) cpu ≡ begun_in (told_of a) cpu → is_call said ≡ false → Says
+  same_begun e s = ap all_said e ∙ (sym (append-nil (all_said (begun_in (told_of a) cpu)))
+      ∙ ap (λ (xs : List Said). all_said (begun_in (told_of a) cpu) ++ xs) (sym (said_nothing (cpu == me) said s)))
+
+  pub says_what_begins : FunctionGoes a b me said → Says
+  says_what_begins (inl k) = same_begun (ap (λ (t : Told). begun_in t cpu) k.same) k.says
+  says_what_begins (inr (inl k)) =
+      ap (λ (t : Told). all_said (begun_in t cpu)) k.runs
+      ∙ (at_test cpu me
+      (λ x. all_said (a.ran cpu ++ running_call (cond x (runs_as k.call.class k.call) (a.running cpu)))
+      ≡ all_said (a.ran cpu ++ running_call (a.running cpu)) ++ cond x (call_in said) [])
+      (λ e. ap (λ (xs : List Call). all_said (a.ran cpu ++ xs)) (runs_one k.call.class k.call)
+      ∙ (all_said-append (a.ran cpu) (k.call ∷ [])
+      ∙ (λ i. all_said (sym (append-nil (a.ran cpu)) i) ++ call_in (sym k.says i)) ∙
+      ap (λ (r : Running). all_said (a.ran cpu ++ running_call r) ++ call_in said) (sym (ap a.running e ∙ k.idle))))
+      (λ ne. sym (append-nil (all_said (a.ran cpu ++ running_call (a.running cpu))))))
+  says_what_begins (inr (inr (inl k))) =
+      same_begun (ap (λ (t : Told). begun_in t cpu) k.counts
+      ∙ at_test cpu me (λ x. a.ran cpu ++ running_call (cond x (CountedCall k.call) (a.running cpu)) ≡ a.ran cpu ++ running_call (a.running cpu))
+      (λ e. ap (λ (r : Running). a.ran cpu ++ running_call r) (sym (ap a.running e ∙ k.was))) (λ ne. refl)) k.says
+  says_what_begins (inr (inr (inr k))) =
+      same_begun (ap (λ (t : Told). begun_in t cpu) k.ends
+      ∙ at_test cpu me
+      (λ x. cond x (a.ran me ++ k.call ∷ []) (a.ran cpu) ++ running_call (cond x Nothing (a.running cpu)) ≡ a.ran cpu ++ running_call (a.running cpu))
+      (λ e. append-nil (a.ran me ++ k.call ∷ []) ∙ ((λ i. a.ran (sym e i) ++ sym (ends_one k.call.class k.call) i)
+      ∙ ap (λ (r : Running). a.ran cpu ++ running_call r) (sym (ap a.running e ∙ k.was)))) (λ ne. refl)) k.says
+
+-- of one step, and of some steps and then others
+
+pub says_one : (a b : CallState) (seen : Seen) → FunctionGoes a b seen.cpu seen.note → SaysWhatBegins a (seen ∷ []) b
+says_one a b seen goes cpu =
+    says_what_begins a b seen.cpu seen.note cpu goes
+    ∙ ap (λ (xs : List Said). all_said (begun_in (told_of a) cpu) ++ xs) (sym (append-nil (cond (cpu == seen.cpu) (call_in seen.note) [])))
+
+pub says_none : (a : CallState) → SaysWhatBegins a [] a
+says_none a cpu = sym (append-nil (all_said (begun_in (told_of a) cpu)))
+
+said_by-append : (cpu : ℕ) (xs ys : List Seen) → said_by cpu (xs ++ ys) ≡ said_by cpu xs ++ said_by cpu ys
+said_by-append cpu [] ys = refl
+said_by-append cpu (x ∷ xs) ys =
+    ap (λ (s : List Said). cond (cpu == x.cpu) (call_in x.note) [] ++ s) (said_by-append cpu xs ys)
+    ∙ sym (append_assoc (cond (cpu == x.cpu) (call_in x.note) []) (said_by cpu xs) (said_by cpu ys))
+
+pub says_then : (a b c : CallState) (xs ys : List Seen) → SaysWhatBegins a xs b → SaysWhatBegins b ys c → SaysWhatBegins a (xs ++ ys) c
+says_then a b c xs ys first second cpu =
+    second cpu ∙ (ap (λ (s : List Said). s ++ said_by cpu ys) (first cpu)
+    ∙ (append_assoc (all_said (begun_in (told_of a) cpu)) (said_by cpu xs) (said_by cpu ys)
+    ∙ ap (λ (s : List Said). all_said (begun_in (told_of a) cpu) ++ s) (sym (said_by-append cpu xs ys))))
