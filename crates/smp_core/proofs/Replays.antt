@@ -120,6 +120,7 @@ starts first events seen none = rw none (record {
   paired = refl;
   setup = refl;
   stops = λ p shown. shown;
+  notes = λ p shown. tt;
 })
 
 answers_next : (core : CoreValue) (events : List Event) (at : ℕ) (d : Event) → at < length events →
