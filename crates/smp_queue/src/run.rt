@@ -43,9 +43,10 @@ fn run_sync<H: Handler>(
     requires counts { AreRan counts.old seat.old.known }
     ensures { HasRun H.leads words.now.table_id seat.old seat.new (first_on walk next) call counts.new handler.old handler.new }
 {
+    let source = owner_of(call.id);
     let begun = call_steps::begin_sync(words, seat, number, walk, call, next, handler);
-    handler.call(owner_of(call.id), call.func, call.info);
-    let ran = one_more(counts, owner_of(call.id));
+    handler.call(source, call.func, call.info);
+    let ran = one_more(counts, source);
     call_steps::count_sync(words, seat, number, walk, call, next, ran, handler, &begun);
     call_steps::end_sync(words, seat, walk, call, next, handler, begun);
 }
@@ -65,9 +66,10 @@ fn run_async<H: Handler>(
     requires counts { AreRan counts.old seat.old.known }
     ensures { HasRun H.leads words.now.table_id seat.old seat.new (second_on next) call counts.new handler.old handler.new }
 {
+    let source = owner_of(call.id);
     let begun = call_steps::begin_async(words, seat, call, next, handler);
-    handler.call(owner_of(call.id), call.func, call.info);
-    let ran = one_more(counts, owner_of(call.id));
+    handler.call(source, call.func, call.info);
+    let ran = one_more(counts, source);
     call_steps::count_async(words, seat, number, call, next, ran, handler, begun);
 }
 

@@ -20,7 +20,7 @@ one_more-ran-requires g c =
     let at = c.requires.at in
     let batch = (lives_stands at.lives (handle.BeginAsync c.args.call c.args.next) at.stage_is).1.batch in
     let below : owner c.args.call.id < cpus = owner-below c.args.call.id (lives_front at.lives c.args.call _ batch) in
-    let is = c.owner_of-2.ensures in
+    let is = c.owner_of-source.ensures in
     let sized = c.requires.counts.sized in
     omega arith
 
@@ -33,7 +33,7 @@ count_async-requires-clause-count g c =
     let tally = tally_running c.args.seat.now.known c.begin_async-begun.new.seat.known (owner c.args.call.id) (ap (λ (u : Known). u.part.ran) known)
     (ap (λ (u : Known). counted_call u.part.running) known) in
     c.one_more-ran.ensures.count ∙ ap (λ (n : ℕ). (n + 1) % 2 ^ 64)
-    (ap (λ (n : ℕ). get_or c.args.counts.now n 0) c.owner_of-2.ensures ∙ (c.requires.counts.are (owner c.args.call.id) below ∙ sym tally))
+    (ap (λ (n : ℕ). get_or c.args.counts.now n 0) c.owner_of-source.ensures ∙ (c.requires.counts.are (owner c.args.call.id) below ∙ sym tally))
 
 pub returns : goal.returns
 returns g c =
@@ -42,12 +42,12 @@ returns g c =
     let begun = c.begin_async-begun.ensures.known in
     let is : c.one_more-ran.new.counts ≡ set c.args.counts.now (owner c.args.call.id) ((get_or c.args.counts.now (owner c.args.call.id) 0 + 1) % 2 ^ 64) =
     c.one_more-ran.ensures.counts ∙
-    (ap (set c.args.counts.now c.owner_of-2.result) c.one_more-ran.ensures.count
-    ∙ ap (λ (n : ℕ). set c.args.counts.now n ((get_or c.args.counts.now n 0 + 1) % 2 ^ 64)) c.owner_of-2.ensures) in
+    (ap (set c.args.counts.now c.owner_of-source.result) c.one_more-ran.ensures.count
+    ∙ ap (λ (n : ℕ). set c.args.counts.now n ((get_or c.args.counts.now n 0 + 1) % 2 ^ 64)) c.owner_of-source.ensures) in
     has_run g.H.Handler.leads c.args.words.now.table_id c.args.seat.now c.count_async.new.seat
     (second_on c.args.next) c.args.call c.args.next _ c.args.counts.now c.one_more-ran.new.counts c.args.handler.now c.call.new.self
     at.table_is c.requires.counts (lives_front at.lives c.args.call _ batch) batch
     (c.count_async.ensures.known ∙ ap (ended_call (second_on c.args.next) c.args.call) begun)
     c.count_async.ensures.at
     is
-    (subst (λ (n : ℕ). g.H.Handler.leads c.args.handler.now (heard n c.args.call.func c.args.call.info) c.call.new.self) c.owner_of.ensures c.call.ensures)
+    (subst (λ (n : ℕ). g.H.Handler.leads c.args.handler.now (heard n c.args.call.func c.args.call.info) c.call.new.self) c.owner_of-source.ensures c.call.ensures)
