@@ -2,6 +2,7 @@ ghost use Rattle.std.specs.Prelude.{◌≡◌, IfOk};
 
 mod threads;
 mod users;
+mod waiting;
 mod wide;
 
 use super::*;
