@@ -18,8 +18,8 @@ use Rattle.smp_machine.proofs.Made.{fresh_rest}
 -- the parts of the CPUs from n on are left, and of the CPUs below n those online are kept
 pub record AreSeated (m : MachineValue) (n : ℕ) (calls : call.BootValue) (stops : stop.BootValue) (passes : List PassesValue)
     (waiting : List (Option PlaceValue)) : Type 0 where
-  pub calls_online : calls.online ≡ m.calls.online
-  pub calls_left : (cpu : ℕ) → n ≤ cpu → has m.calls.online cpu ≡ true → call.left_at calls cpu ≡ Some (call.fresh_cpu m.calls.table cpu)
+  pub calls_table : calls.table ≡ m.calls
+  pub calls_left : (cpu : ℕ) → n ≤ cpu → has m.calls.online cpu ≡ true → call.is_left calls cpu ≡ true
   pub stops_online : stops.online ≡ m.calls.online
   pub stops_left : (cpu : ℕ) → n ≤ cpu → has m.calls.online cpu ≡ true → stop.left_at stops cpu ≡ Some (stop.fresh_cpu m.stops.table m.stops.setting cpu)
   pub passes_sized : length passes + n ≡ cpus
@@ -27,28 +27,28 @@ pub record AreSeated (m : MachineValue) (n : ℕ) (calls : call.BootValue) (stop
   pub count : length waiting ≡ n
   pub each : (cpu : ℕ) → cpu < n → get_or waiting cpu None ≡ (if has m.calls.online cpu then Some (fresh_place m cpu) else None)
 
-calls_past : (b : Bool) (n cpu : ℕ) (calls : call.BootValue) → cpu ≢ n → call.left_at (if b then call.given n calls else calls) cpu ≡ call.left_at calls cpu
-calls_past true n cpu calls other = get_or-set_other calls.cpus_left n cpu None None other
+calls_past : (b : Bool) (n cpu : ℕ) (calls : call.BootValue) → cpu ≢ n → call.is_left (if b then call.given n calls else calls) cpu ≡ call.is_left calls cpu
+calls_past true n cpu calls other = get_or-set_other calls.left n cpu false false other
 calls_past false n cpu calls other = refl
 
 stops_past : (b : Bool) (n cpu : ℕ) (stops : stop.BootValue) → cpu ≢ n → stop.left_at (if b then stop.given n stops else stops) cpu ≡ stop.left_at stops cpu
 stops_past true n cpu stops other = get_or-set_other stops.cpus_left n cpu None None other
 stops_past false n cpu stops other = refl
 
-calls_online_kept : (b : Bool) (n : ℕ) (calls : call.BootValue) → (if b then call.given n calls else calls).online ≡ calls.online
-calls_online_kept true n calls = refl
-calls_online_kept false n calls = refl
+calls_table_kept : (b : Bool) (n : ℕ) (calls : call.BootValue) → (if b then call.given n calls else calls).table ≡ calls.table
+calls_table_kept true n calls = refl
+calls_table_kept false n calls = refl
 
 stops_online_kept : (b : Bool) (n : ℕ) (stops : stop.BootValue) → (if b then stop.given n stops else stops).online ≡ stops.online
 stops_online_kept true n stops = refl
 stops_online_kept false n stops = refl
 
 pub seated_none : (m : MachineValue) (calls : call.BootValue) (stops : stop.BootValue) (passes : List PassesValue) (waiting : List (Option PlaceValue))
-    → m.stops.setting.online ≡ m.calls.online → call.IsFull calls m.calls.table m.calls.online → stop.IsFull stops m.stops.table m.stops.setting
+    → m.stops.setting.online ≡ m.calls.online → call.IsFull calls m.calls → stop.IsFull stops m.stops.table m.stops.setting
     → length passes ≡ cpus → AreFresh m.queues 0 passes → waiting ≡ [] → AreSeated m 0 calls stops passes waiting
 seated_none m calls stops passes waiting online c s sized fresh none = record {
-  calls_online = c.online_is;
-  calls_left = λ cpu l e. c.fresh_are cpu e;
+  calls_table = c.table_is;
+  calls_left = λ cpu l e. c.left_are cpu e;
   stops_online = s.online_is ∙ online;
   stops_left = λ cpu l e. s.fresh_are cpu (ap (λ (mask : ℕ). has mask cpu) online ∙ e);
   passes_sized = omega arith;
@@ -66,7 +66,7 @@ seated_more m n calls calls' stops stops' passes passes' waiting waiting' x b lo
     let shorter : length (remove passes 0) + 1 ≡ length passes = length-remove passes 0 (omega arith) in
     let count : length waiting ≡ n = s.count in
     rw c_is (rw s_is (rw p_is (rw w_is (record {
-      calls_online = calls_online_kept b n calls ∙ s.calls_online;
+      calls_table = calls_table_kept b n calls ∙ s.calls_table;
       calls_left = λ cpu l e. calls_past b n cpu calls (λ k. omega arith) ∙ s.calls_left cpu (omega arith) e;
       stops_online = stops_online_kept b n stops ∙ s.stops_online;
       stops_left = λ cpu l e. stops_past b n cpu stops (λ k. omega arith) ∙ s.stops_left cpu (omega arith) e;

@@ -41,7 +41,7 @@ pub record IsQuiet (p : PlaceValue) : Type 0 where
 
 -- a CPU that has done nothing
 abbrev pub fresh_place : MachineValue → ℕ → PlaceValue
-fresh_place m cpu = record { calls = fresh_calls m.calls.table cpu; stops = fresh_stops m.stops.table m.stops.setting cpu; passes = fresh_passes m.queues cpu }
+fresh_place m cpu = record { calls = fresh_calls m.calls cpu; stops = fresh_stops m.stops.table m.stops.setting cpu; passes = fresh_passes m.queues cpu }
 
 -- the CPUs that were not given out, and those online
 pub record BootValue : Type 0 where

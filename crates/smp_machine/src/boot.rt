@@ -3,7 +3,7 @@
 ghost use Rattle.std.specs.Prelude.{◌≡◌, ◌<◌, ◌≤◌, ◌⊎◌, true, false, None, Some, if◌then◌else◌, length, IfOk, IfErr};
 ghost use Rattle.smp_mask.specs.Mask.{has};
 ghost use Rattle.smp_words.specs.Size.{cpus};
-ghost use Rattle.smp_queue.specs.Cpu.{IsFull as IsFullOfCalls, left_at as call_left, given as calls_given, fresh_cpu as fresh_calls};
+ghost use Rattle.smp_queue.specs.Cpu.{IsFull as IsFullOfCalls, is_left as is_call_left, given as calls_given};
 ghost use Rattle.smp_multi.specs.Cpu.{IsFull as IsFullOfStops, left_at as stop_left, given as stops_given, fresh_cpu as fresh_stops};
 ghost use Rattle.smp_machine.specs.Passes.{AreFresh, fresh_passes};
 ghost use Rattle.smp_machine.specs.Place.{IsFull, left_at, given, fresh_place};
@@ -47,8 +47,9 @@ fn seat_if<A: Allocator>(
     passes: Passes<A>,
     number: u32,
 ) -> Option<Cpu<A>>
-    requires online { (is_online ≡ has calls.old.online number) × (is_online ≡ has stops.old.online number) }
-    requires calls { is_online ≡ true → call_left calls.old number ≡ Some (fresh_calls machine.now.calls.table number) }
+    requires table { calls.old.table ≡ machine.now.calls }
+    requires online { (is_online ≡ has machine.now.calls.online number) × (is_online ≡ has stops.old.online number) }
+    requires calls { is_online ≡ true → is_call_left calls.old number ≡ true }
     requires stops { is_online ≡ true → stop_left stops.old number ≡ Some (fresh_stops machine.now.stops.table machine.now.stops.setting number) }
     requires passes { passes ≡ fresh_passes machine.now.queues number }
     ensures cpu { result ≡ if is_online then Some (fresh_place machine.now number) else None }
@@ -81,7 +82,7 @@ pub(crate) fn seat_all<A: Allocator>(
     mut stops: StopBoot<A>,
     mut passes: Vec<Passes<A>, A>,
 ) -> Result<MachineBoot<A>, AllocError>
-    requires calls { IsFullOfCalls calls machine.now.calls.table machine.now.calls.online }
+    requires calls { IsFullOfCalls calls machine.now.calls }
     requires stops { IsFullOfStops stops machine.now.stops.table machine.now.stops.setting }
     requires sized { length passes.items ≡ cpus }
     requires passes { AreFresh machine.now.queues 0 passes.items }

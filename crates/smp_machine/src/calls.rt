@@ -42,7 +42,7 @@ fn single<A: Allocator, R: Wait, H: Handler>(
         × CallsOne H.leads me.old.calls handler.old me.new.calls handler.new dst func info wait) }
     ensures here { IfOk result (λ _. dst ≡ me.old.calls.number → CallsHere H.leads me.old.calls handler.old me.new.calls handler.new func info wait) }
     ensures refused { IfErr result (λ e. (e ≡ SmpError.NoCpu) × (dst ≢ me.old.calls.number) × (has machine.now.calls.online dst ≡ false)
-        × QueuesNone H.leads me.old.calls handler.old me.new.calls handler.new None wait) }
+        × QueuesNone H.leads me.old.calls handler.old me.new.calls handler.new wait) }
     ensures ended { IfOk result (λ _. wait ≡ true → dst ≢ me.old.calls.number →
         HaveEnded me.new.calls (λ _. call_by me.old.calls.number (single_record true) Class.Sync func info) (dst ∷ [])) }
     ensures kept { KeepsStops me.old me.new }
@@ -214,7 +214,7 @@ impl<A: Allocator> Machine<A> {
         ensures here { IfOk result (λ _. dst ≡ me.old.calls.number → CallsHere H.leads me.old.calls handler.old me.new.calls handler.new func info wait) }
         ensures refused { IfErr result (λ e. RefusedInHand e me.old handler.old me.new handler.new
             ⊎ ((me.old.stops.inside ≡ None) × (e ≡ SmpError.NoCpu) × (dst ≢ me.old.calls.number) × (has self.now.calls.online dst ≡ false)
-            × QueuesNone H.leads me.old.calls handler.old me.new.calls handler.new None wait)) }
+            × QueuesNone H.leads me.old.calls handler.old me.new.calls handler.new wait)) }
         ensures ended { IfOk result (λ _. wait ≡ true → dst ≢ me.old.calls.number →
             HaveEnded me.new.calls (λ _. call_by me.old.calls.number (single_record true) Class.Sync func info) (dst ∷ [])) }
         ensures kept { KeepsStops me.old me.new }
