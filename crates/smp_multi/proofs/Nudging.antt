@@ -23,7 +23,8 @@ use Rattle.smp_multi.proofs.Cells.{key_cell}
 use Rattle.smp_multi.proofs.Reading.{reads_table}
 use Rattle.smp_multi.proofs.Showing.{is_shown}
 
-pub ready_nudge : (t : TableId) (d : SeatValue) → MayRead t d → (k count next : ℕ) → k < MOST_KEYS → IsNudge count next → Ready t d (Exchange (Key k) count next)
+pub ready_nudge : (t : TableId) (d : SeatValue) → MayRead t d → (k count next : ℕ) → k < MOST_KEYS → IsNudge count next
+    → Ready t d (Exchange (Key k) count next)
 ready_nudge t d m k count next low nudge = record {
   able = record {
     table_is = m.table_is;
@@ -34,20 +35,24 @@ ready_nudge t d m k count next low nudge = record {
   apart = tt;
 }
 
-turns : (next n : ℕ) → Some n ≡ Some next → (a b : Bool) → is_on next ≡ b → is_on n ≡ a → a ≢ b → ⊥
-turns next n e a b was is ne = let same : n ≡ next = cc in ne (sym is ∙ (ap is_on same ∙ was))
+-- a count that leaves a key as it is at m is none that turns it
+kept_apart : (next n m : ℕ) → Some n ≡ Some next → is_on next ≡ is_on m → is_on n ≢ is_on m → ⊥
+kept_apart next n m e same ne = let is : n ≡ next = cc in ne (ap is_on is ∙ same)
+
+on_is_not_off : is_on 1 ≢ is_on 0
+on_is_not_off e = let bad : true ≡ false = e in cc
 
 -- a count whose next leaves the key on or off as it is: it is none at which that can't be
 pub stays_on : (up : Bool) (count next : ℕ) → count_after (nudge_of up) count ≡ Some next → is_on next ≡ is_on count → StaysOn up count
 stays_on true count next e same = (
   λ edge. let bad : None ≡ Some next = subst (λ n. count_after (nudge_of true) n ≡ Some next) edge e in cc,
-  λ turn. let one : Some 1 ≡ Some next = subst (λ n. count_after (nudge_of true) n ≡ Some next) turn e in
-      let two : is_on next ≡ is_on 0 = subst (λ n. is_on next ≡ is_on n) turn same in turns next 1 one true false two refl (λ x. let bad : true ≡ false = x in cc),
+  λ turn. let is : Some 1 ≡ Some next = subst (λ n. count_after (nudge_of true) n ≡ Some next) turn e in
+      kept_apart next 1 0 is (subst (λ n. is_on next ≡ is_on n) turn same) on_is_not_off,
 )
 stays_on false count next e same = (
   λ edge. let bad : None ≡ Some next = subst (λ n. count_after (nudge_of false) n ≡ Some next) edge e in cc,
-  λ turn. let one : Some 0 ≡ Some next = subst (λ n. count_after (nudge_of false) n ≡ Some next) turn e in
-      let two : is_on next ≡ is_on 1 = subst (λ n. is_on next ≡ is_on n) turn same in turns next 0 one false true two refl (λ x. let bad : false ≡ true = x in cc),
+  λ turn. let is : Some 0 ≡ Some next = subst (λ n. count_after (nudge_of false) n ≡ Some next) turn e in
+      kept_apart next 0 1 is (subst (λ n. is_on next ≡ is_on n) turn same) (λ x. on_is_not_off (sym x)),
 )
 
 pub same_tests : (a b : Bool) → not (beq a b) ≡ false → a ≡ b

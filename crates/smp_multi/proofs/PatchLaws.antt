@@ -1,7 +1,6 @@
 -- By how much a patch moves the count of its key.
 use Rattle.std.proofs.Common.{◌≡◌, ◌≢◌, ℕ, ◌+◌, ◌-◌, ◌<◌, ◌==◌, Bool, true, false, cond, Option, Some, None, List, length, slice_index_or, sym, subst}
-use Rattle.std.proofs.Common.{refl, ap, ◌∙◌}
-use Rattle.std.proofs.Common.{arith, eqb-true, ne_eqb, lt-ltb}
+use Rattle.std.proofs.Common.{refl, ap, ◌∙◌, arith, eqb-true, ne_eqb, lt-ltb}
 use Rattle.std.proofs.lemmas.List.{get_or-set_same, get_or-set_other}
 use Rattle.smp_labels.specs.Keys.{change_of, count_after, count_or}
 use Rattle.smp_labels.specs.declared.keys.Change.{Change}

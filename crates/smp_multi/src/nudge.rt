@@ -1,5 +1,5 @@
 //! A CPU with its interrupts on moves a key's count by one, where the key stays on
-//! (`kernel/jump_label.c: static_key_fast_inc_not_disabled`, `static_key_slow_try_dec`).
+//! (`kernel/jump_label.c`: the loop of `static_key_slow_inc_cpuslocked`, `static_key_slow_try_dec`).
 
 ghost use Rattle.std.specs.Prelude.{◌≡◌, ℕ, ◌<◌, ◌==◌, if◌then◌else◌};
 ghost use Rattle.smp_labels.specs.declared.words.TheConstants.{MOST_KEYS};

@@ -347,13 +347,12 @@ impl<A: Allocator> StopTable<A> {
         Ok(read::read_site(&self.owner.shared, &mut me.seat, i))
     }
 
-    /// Moves the count of a key by one, where the key stays on: up as `kernel/jump_label.c:
-    /// static_key_fast_inc_not_disabled`, down as `static_key_slow_try_dec`. E4 where the table has no such key, or this
-    /// CPU has its interrupts off, which makes no step. Else it loads the count, which is a reading of the key. E13 where
-    /// that is 65,535 and is to go up, or 0 and is to go down; `Stop` where the key would turn on (up from 0) or off (down
-    /// from 1), which takes a stop. All three take effect at this load. Else one compare-exchange, at which the others take
-    /// effect: `Done` where it has put the next count, `Lost` where it has found another. It does not wait; after `Lost` the
-    /// caller may try again.
+    /// Moves the count of a key by one, where the key stays on: up as the loop of `kernel/jump_label.c:
+    /// static_key_slow_inc_cpuslocked`, down as `static_key_slow_try_dec`. E4 where the table has no such key, or this CPU
+    /// has its interrupts off, which makes no step. Else it loads the count, which is a reading of the key: at this load it
+    /// is E13 where that is 65,535 and is to go up, or 0 and is to go down, and `Stop` where the key would turn on (up from
+    /// 0) or off (down from 1), which takes a stop. Else one compare-exchange: at it `Done` where it has put the next count,
+    /// or `Lost` where it has found another. It does not wait; after `Lost` the caller may try again.
     pub fn try_key(&self, me: &mut StopCpu, k: u32, up: bool) -> Result<Nudge, SmpError>
         requires { IsAt self.now me.old }
         ensures { NudgeAnswers k up me.old me.new result }

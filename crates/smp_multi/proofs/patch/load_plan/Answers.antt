@@ -32,7 +32,8 @@ loop-site-preserved c =
             table = c.load_entry-word.ensures.table;
             lives = c.load_entry-word.ensures.lives;
             known = c.load_entry-word.ensures.known ∙ inv.known;
-            room = (let r = inv.room in let n = length-append old ((place.Site c.loop-site.site, kind_word (kind_of on e.branch)) ∷ []) in let l = ap length one in
+            room = (let r = inv.room in let n = length-append old ((place.Site c.loop-site.site, kind_word (kind_of on e.branch)) ∷ []) in
+                let l = ap length one in
                 omega arith);
             left = subst (PlanLeft c.args.key on (c.loop-site.site + 1) es whole) (sym one) (more true (eq-eqb e.key c.args.key w.if-entry-key.true));
           }
