@@ -1,4 +1,5 @@
 pub mod Filled
 pub mod Lawful
 pub mod Patched
+pub mod Sites
 pub mod Stores

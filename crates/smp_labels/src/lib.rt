@@ -9,6 +9,7 @@
 mod entries;
 mod keys;
 mod kinds;
+pub mod laws;
 mod map;
 mod patch;
 mod words;

@@ -1,8 +1,8 @@
 //! A script from a reader, and its output to a writer.
 
-ghost use Rattle.std.specs.Prelude.{◌≡◌, true, false, Err};
+ghost use Rattle.std.specs.Prelude.{◌≡◌, true, false, Err, OnOk};
 ghost use Rattle.smp_mask.specs.declared.error.Side.TheVariants.{Read as ReadSide};
-ghost use Rattle.smp_script.specs.Watched.{inner_of, failed_of};
+ghost use Rattle.smp_script.specs.Watched.{inner_of, failed_of, flushed_of};
 ghost use Rattle.smp_replay.specs.Replays.{Replays, outcome_of};
 
 use crate::playback::play_script;
@@ -41,6 +41,8 @@ pub fn replay_script<A: Allocator + Copy, R: Read, W: Write>(
     ensures replays { Replays (R.remaining (inner_of reader.old)) (R.remaining (inner_of reader.new))
         (W.contents (inner_of writer.old)) (W.contents (inner_of writer.new)) (writer.new ≡ writer.old)
         (failed_of reader.new) (failed_of writer.new) result }
+    ensures kept { OnOk result (failed_of writer.new ≡ false) }
+    ensures flushed { OnOk result (flushed_of writer.new ≡ true) }
 {
     let text = read_text(alloc, reader)?;
     let script = read_script(alloc, Mode::Replay, text.as_slice())?;

@@ -1,5 +1,6 @@
 mod devices;
 mod scripts;
+mod worked;
 
 use super::*;
 use devices::{Narrow, Slow};
@@ -9,6 +10,7 @@ use smp_mask::{Cause, Side, SmpError};
 use smp_script::{Outcome, Watched};
 use std::io;
 use std::test::*;
+use worked::*;
 
 /// Replays a script into memory: the answer, and what was written.
 fn replayed(rt: &HostRuntime, script: &[u8]) -> (Result<Outcome, SmpError>, Vec<u8>) {
@@ -23,6 +25,22 @@ fn one_call(rt: HostRuntime) {
     let (answer, written) = replayed(&rt, ONE_CALL);
     assert_eq!(rt; answer, Ok(Outcome::Done));
     assert_eq!(rt; written.as_slice(), ITS_OUTPUT);
+}
+
+#[test]
+fn worked_cases(rt: HostRuntime) {
+    let cases: [(&[u8], &[u8]); 5] = [
+        (MARKS, MARKS_PRINTS),
+        (TWO_CLASSES, TWO_CLASSES_PRINTS),
+        (BUSY_RECORD, BUSY_RECORD_PRINTS),
+        (CONTENDED, CONTENDED_PRINTS),
+        (STOP_OF_TWO, STOP_OF_TWO_PRINTS),
+    ];
+    for (script, prints) in cases {
+        let (answer, written) = replayed(&rt, script);
+        assert_eq!(rt; answer, Ok(Outcome::Done));
+        assert_eq!(rt; written.as_slice(), prints);
+    }
 }
 
 #[test]

@@ -1,14 +1,15 @@
 -- What a reader gave, and what an error says of its device.
-use Rattle.std.specs.Prelude.{◌≡◌, ℕ, ◌<◌, ◌⊎◌, Bool, true, List, length, Option}
+use Rattle.std.specs.Prelude.{◌≡◌, ℕ, ◌<◌, ◌≤◌, ◌⊎◌, Bool, true, List, length, Option}
 use Rattle.std.specs.Io.KnownBytes.{Consumes, IsAtEnd}
 use Rattle.smp_mask.specs.declared.error.SmpError.{SmpError}
 use Rattle.smp_mask.specs.declared.error.SmpError.TheVariants as errors
 use Rattle.smp_mask.specs.declared.error.Side.TheVariants as sides
 
--- The reader gave this text, and then its end, or the text is longer than a script may be.
+-- The reader gave this text, and then its end, or the text is longer than a script may be, by one byte at most.
 pub record Gave (before after : Option (List ℕ)) (text : List ℕ) : Type 0 where
   pub bytes : Consumes before after text
   pub last : IsAtEnd after ⊎ (65536 < length text)
+  pub limit : length text ≤ 65537
 
 -- want of memory, or E12 where the reader has failed
 abbrev pub IsReadError : Bool → SmpError → Type 0

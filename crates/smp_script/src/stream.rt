@@ -3,7 +3,7 @@
 ghost use Rattle.std.specs.Prelude.{◌≡◌, ◌≤◌, true, false, Err, IfOk, IfErr, OnOk, length};
 ghost use Rattle.std.specs.Io.KnownBytes.{Appends};
 ghost use Rattle.smp_mask.specs.declared.error.Side.TheVariants.{Read as ReadSide};
-ghost use Rattle.smp_script.specs.Watched.{inner_of, failed_of};
+ghost use Rattle.smp_script.specs.Watched.{inner_of, failed_of, flushed_of};
 ghost use Rattle.smp_script.specs.Streams.{Gave, IsReadError, IsWriteError};
 
 use crate::script::MAX_BYTES;
@@ -19,7 +19,6 @@ pub fn read_text<A: Allocator, R: Read>(
 ) -> Result<Vec<u8, A>, SmpError>
     requires { failed_of reader.old ≡ false }
     ensures seen { failed_of reader.new ≡ true → result ≡ Err (SmpError.StreamFailed ReadSide) }
-    ensures limit { IfOk result (λ text. length text.items ≤ 65537) }
     ensures ok { IfOk result (λ text. Gave (R.remaining (inner_of reader.old)) (R.remaining (inner_of reader.new)) text.items) }
     ensures err { IfErr result (IsReadError (failed_of reader.new)) }
 {
@@ -40,9 +39,11 @@ pub fn read_text<A: Allocator, R: Read>(
     Ok(text)
 }
 
-/// Writes all of a text. An interrupted write, and one that takes nothing, is a failure.
+/// Writes all of a text, and flushes it. An interrupted write, and one that takes nothing, is a failure.
 pub fn write_text<W: Write>(writer: &mut Watched<W>, text: &[u8]) -> Result<(), SmpError>
     ensures ok { OnOk result (Appends (W.contents (inner_of writer.old)) (W.contents (inner_of writer.new)) text.now) }
+    ensures kept { OnOk result (failed_of writer.new ≡ failed_of writer.old) }
+    ensures flushed { OnOk result (flushed_of writer.new ≡ true) }
     ensures err { IfErr result (IsWriteError (failed_of writer.new)) }
 {
     let mut at = 0;

@@ -1,9 +1,9 @@
 //! A reader or a writer that remembers whether it ever failed.
 
-ghost use Rattle.std.specs.Prelude.{◌≡◌, ◌||◌, ◌&&◌, ◌==◌, nat_lt, false, true, Ok, is_err, length};
+ghost use Rattle.std.specs.Prelude.{◌≡◌, ◌||◌, ◌&&◌, ◌==◌, nat_lt, false, true, Ok, is_ok, is_err, length};
 ghost use Rattle.std.specs.Io.{ReadsAtMost, WritesAtMost};
 ghost use Rattle.std.specs.Io.KnownBytes.{Keeps, ReadConsumes, WriteAppends};
-ghost use Rattle.smp_script.specs.Watched.{inner_of, failed_of, took_none};
+ghost use Rattle.smp_script.specs.Watched.{inner_of, failed_of, flushed_of, took_none};
 
 use std::io;
 use std::io::{Read, Write};
@@ -13,6 +13,7 @@ use std::io::{Read, Write};
 pub struct Watched<T> {
     inner: T,
     has_failed: bool,
+    is_flushed: bool,
 }
 
 impl<T> Watched<T> {
@@ -20,10 +21,12 @@ impl<T> Watched<T> {
     pub fn new(inner: T) -> Watched<T>
         ensures inner { inner_of result ≡ inner }
         ensures fresh { failed_of result ≡ false }
+        ensures unflushed { flushed_of result ≡ false }
     {
         Watched {
             inner,
             has_failed: false,
+            is_flushed: false,
         }
     }
 
@@ -34,6 +37,7 @@ impl<T> Watched<T> {
         let Watched {
             inner,
             has_failed: _,
+            is_flushed: _,
         } = self;
         inner
     }
@@ -43,6 +47,13 @@ impl<T> Watched<T> {
         ensures { result ≡ failed_of self.now }
     {
         self.has_failed
+    }
+
+    /// Whether what was written is flushed: a flush was passed on and answered `Ok`, and no write came after it.
+    pub fn flushed(&self) -> bool
+        ensures { result ≡ flushed_of self.now }
+    {
+        self.is_flushed
     }
 }
 
@@ -67,6 +78,7 @@ impl<W: Write> Write for Watched<W> {
         ensures bound { WritesAtMost result buf.now }
         ensures bytes { WriteAppends (W.contents (inner_of self.old)) (W.contents (inner_of self.new)) result buf.now }
         ensures failed { failed_of self.new ≡ (failed_of self.old || took_none result (length buf.now)) }
+        ensures unflushed { flushed_of self.new ≡ false }
     {
         let result = self.inner.write(buf);
         let took_none = match &result {
@@ -74,15 +86,18 @@ impl<W: Write> Write for Watched<W> {
             Err(_) => true,
         };
         self.has_failed = self.has_failed || took_none;
+        self.is_flushed = false;
         result
     }
 
     fn flush(&mut self) -> io::Result<()>
         ensures bytes { Keeps (W.contents (inner_of self.old)) (W.contents (inner_of self.new)) }
         ensures failed { failed_of self.new ≡ (failed_of self.old || is_err result) }
+        ensures flushed { flushed_of self.new ≡ is_ok result }
     {
         let result = self.inner.flush();
         self.has_failed = self.has_failed || result.is_err();
+        self.is_flushed = result.is_ok();
         result
     }
 }

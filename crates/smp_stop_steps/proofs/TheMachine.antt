@@ -6,4 +6,6 @@ pub mod StepLaws
 pub mod Made
 pub mod Opened
 pub mod Begun
+pub mod Fits
 pub mod Starting
+pub mod Refusals

@@ -39,6 +39,7 @@ pub mod Machine
 pub mod New
 pub mod Begins
 pub mod Starts
+pub mod Refusals
 pub mod StepLaws
 -- what a CPU knows
 pub mod Known

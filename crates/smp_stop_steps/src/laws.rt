@@ -172,6 +172,17 @@ pub fn own_patches_are_read()
     ensures { OwnPatchesAreRead }
 {}
 
+ghost use Rattle.smp_stop_steps.specs.Refusals.{RefusalsAreOfTheState};
+
+/// Each refusal of a command by a CPU outside a command is that of the stops that the half shows. Of an enter, E7 exactly
+/// where the CPU is in a stop, or there is no such slot; of a handle, a reading and a nudge, E4 exactly where its interrupts
+/// are off, or there is no such key or site; of a turn, a run and a finish, by the stop that it is in and whether it has left
+/// it; of a poll by its own stop, and of who gives up the gate by its holder; of a begin, E8 where its own stop is open, else
+/// E4 where it does not hold the gate or the work is none, else E3 where some CPU of the mask is not online.
+pub fn refusals_are_of_the_state()
+    ensures { RefusalsAreOfTheState }
+{}
+
 ghost use Rattle.smp_stop_steps.specs.Numbers.{WordsHaveNumbers};
 
 /// A stop table has just the words that have a number in it ([`smp_words::stop_index`]).
