@@ -19,7 +19,7 @@ use Rattle.smp_stop_steps.specs.Sources.{Source}
 use Rattle.smp_stop_steps.specs.Stages.{StopControlValue}
 use Rattle.smp_stop_steps.specs.State.{Setup, StopState, StopCall, Moved, Calls}
 use Rattle.smp_stop_steps.specs.Steps.{note_then, state_after}
-use Rattle.smp_stop_steps.specs.Stop.{Inside, Last, Ended}
+use Rattle.smp_stop_steps.specs.Stop.{Inside, Refills, Last, Ended, acked}
 use Rattle.smp_stop_steps.specs.Tells.{first_readings, tells}
 use Rattle.smp_stop_steps.specs.declared.stage.StopStage.{StopStage}
 
@@ -96,9 +96,18 @@ abbrev pub IsSilent : StopState → StopState → ℕ → Type 0
 IsSilent p q me = IsUnheard p q ⊎ (heard_of q ≡ record (heard_of p) { irq = put p.now.irq me false }) ⊎
     ((k : ℕ) × (on : Bool) × HasRead p q me (ReadKey k on))
 
+-- of the stop that the CPU was in: it has acknowledged no phase, or is the last to do so and says it once it has set the
+-- next one; and it is in it still, or is the last to complete and says it once it has stored done
+pub record IsStill (p q : StopState) (me s : ℕ) : Type 0 where
+  pub acked : (acked ((q.now.stop s).standing me) ≡ acked ((p.now.stop s).standing me)) ⊎ ((q.now.stop s).raising ≡ Refills me)
+  pub inside : (q.now.inside me ≡ Some s) ⊎ ((q.now.stop s).ending ≡ Last me)
+
+abbrev pub StaysStill : StopState → StopState → ℕ → Type 0
+StaysStill p q me = (s : ℕ) → p.now.inside me ≡ Some s → IsStill p q me s
+
 -- what a step of the stop half that says this has changed
 abbrev pub NoteFits : StopState → StopState → ℕ → Option Note → Type 0
-NoteFits p q me None = IsSilent p q me
+NoteFits p q me None = IsSilent p q me × StaysStill p q me
 NoteFits p q me (Some note.Gate) = (p.gate ≡ None) × (heard_of q ≡ record (heard_of p) { gate = Some me })
 NoteFits p q me (Some note.Taken) = (p.gate ≢ None) × IsUnheard p q
 NoteFits p q me (Some note.Open) = (p.gate ≡ Some me) × (heard_of q ≡ record (heard_of p) { gate = None })

@@ -76,7 +76,8 @@ ghost use Rattle.smp_stop_steps.specs.Notes.{NotesFit};
 /// acknowledged the phase that it looks at; `moved P`, `ran` and `left`, the phase that it has acknowledged, whether it is
 /// active there, and that its interrupts go on; `run F A`, the function that it has called; `finished`, that it is in no
 /// stop; `result V`, what it has collected, as an `i32`; `on`, `off`, `NOP` and `JMP`, what it has read; `done`, a count that
-/// it has moved by one.
+/// it has moved by one. A step with no note acknowledges no phase and leaves no stop, but that of the last to do so, which
+/// says it once the next phase, or done, is stored.
 pub fn notes_fit()
     ensures { NotesFit }
 {}

@@ -38,8 +38,8 @@ module _ (u : Setup) (p : StopState) (at : Word → ℕ) (seat : ℕ → Seat) (
     (s : Sits u me (at Gate) c (seat me) (source me)) (v : Visit) where
   -- where the CPU stands once the phase is acknowledged
   acked_sits : (answer : ℕ) (ran : Bool) (work : Work) → IsLoaded v work → OwnsIf c.is_open (source me) → c.interrupts ≡ nat_lt (v.acked + 1) 2 →
-      HasRun me (visit_acked v answer ran) ran → (b : Bool) → Sits u me (at Gate)
-      (cond b (stop_goes (record c { visit = Some (visit_acked v answer ran) }) (Advance (visit_acked v answer ran) (round.Refill ran)))
+      HasRun me (visit_acked v answer ran) ran → (b : Bool) →
+      Sits u me (at Gate) (cond b (stop_goes (record c { visit = Some (visit_acked v answer ran) }) (Advance (visit_acked v answer ran) (round.Refill ran)))
       (turn_ends (record c { visit = Some (visit_acked v answer ran) }) (v.acked + 1) ran)).control
       (In v.slot work (v.acked + 1) (v.acked + 1) (cond b Fills Rests)) (source me)
   acked_sits answer ran work loaded y irq run true = record {
@@ -127,8 +127,7 @@ module _ (u : Setup) (p : StopState) (at : Word → ℕ) (seat : ℕ → Seat) (
                 (at (Slot v.slot Ack) - 1)) (put seat me x) source) three
                 (ack_subtracted_patched u p at seat source h v.slot me work count (plan_at u work count) answer is)));
             sits = acked_sits answer ran work loaded y (s.irq ∙ (ap irq_of is ∙ sym (le-ltb (v.acked + 1) 2 (omega arith))))
-                (patch_run two runs work loaded count is)
-                (at (Slot v.slot Ack) == 1);
+                (patch_run two runs work loaded count is) (at (Slot v.slot Ack) == 1);
           }
 
   pub refill : (ran : Bool) → c.stage ≡ Some (Advance v (round.Refill ran)) → StopStep u p at seat source c me (Advance v (round.Refill ran))

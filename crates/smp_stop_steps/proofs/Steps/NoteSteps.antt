@@ -8,6 +8,7 @@ use Rattle.smp_labels.specs.declared.keys.Change.{Change as KeyChange}
 use Rattle.smp_labels.specs.declared.patch.Place.TheVariants as place
 use Rattle.smp_words.specs.Access.{word_of, seen_of}
 use Rattle.smp_words.specs.Put.{put}
+use Rattle.smp_words.proofs.Puts.{at_test}
 use Rattle.smp_words.specs.declared.field.Field.{Field}
 use Rattle.smp_words.specs.declared.field.Field.TheVariants as field
 use Rattle.smp_words.specs.declared.seen.Act.TheVariants as act
@@ -20,7 +21,7 @@ use Rattle.smp_words.specs.declared.word.Word.TheVariants.{Gate, Slot, Key, Site
 use Rattle.smp_stop_steps.specs.Carries.{CarriesIn}
 use Rattle.smp_stop_steps.specs.Counts.{mask_weight}
 use Rattle.smp_stop_steps.specs.Labels.{Change, ReadKey, ReadSite, patch_answer}
-use Rattle.smp_stop_steps.specs.Notes.{HasRead, NoteFits, heard_of}
+use Rattle.smp_stop_steps.specs.Notes.{StaysStill, HasRead, NoteFits, heard_of}
 use Rattle.smp_stop_steps.specs.Seats.{Seat, In, Gives, Alters, Closes, Rests, Sets, Stands, irq_of}
 use Rattle.smp_stop_steps.specs.Shows.{StopShows, gate_word}
 use Rattle.smp_stop_steps.specs.Sits.{HasRun, HoldsGate, IsLoaded, IsNudge, IsThroughAll, RunsIf, Sits, SitsAt, SourceSits}
@@ -30,7 +31,9 @@ use Rattle.smp_stop_steps.specs.Stages.{StopControlValue, answer_at, begun_next,
 use Rattle.smp_stop_steps.specs.Stages.{stop_ends, stop_goes, store_of, visit_acked}
 use Rattle.smp_stop_steps.specs.State.{Setup, Present, StopState, StopCall, Calls}
 use Rattle.smp_stop_steps.specs.Steps.{FunctionGoes, Told, note_then, state_after}
-use Rattle.smp_stop_steps.specs.Stop.{Standing, Stop, Inside, Ended, acknowledged, ended, opened, closed, raised, stands as stands_at}
+use Rattle.smp_stop_steps.specs.Stop.{Standing, Outside, Called, Inside, Answering, Completed, Refills, Last, Ended, Stop}
+use Rattle.smp_stop_steps.specs.Stop.{acked, acknowledged, closed, completed, ended, opened, raised, refilled, stands as stands_at}
+use Rattle.smp_stop_steps.specs.Tells.{answered_by, drafted, drafts}
 use Rattle.smp_stop_steps.specs.Tells.{acknowledges, completes, completes_with, calls_now, enters, first_readings, gate_told}
 use Rattle.smp_stop_steps.specs.Tells.{is_at_run, is_multi, is_patch, key_loaded, key_told, leaves, looked_by, looks, looks_now, may_call, patch_begun}
 use Rattle.smp_stop_steps.specs.Tells.{plan_at, reads, stored_open, stored_shut, tells, unpatched, with_stop}
@@ -66,6 +69,67 @@ patch_heard : (u : Setup) (p : StopState) (at : Word → ℕ) (me : ℕ) (x : Ch
     heard_of (tells u p (seen_of me (store_of x) (at (word_of (store_of x))) None) 0) ≡ heard_of p
 patch_heard u p at me (place.Key k, n) = refl
 patch_heard u p at me (place.Site i, n) = refl
+
+-- steps that acknowledge no phase, and leave no stop
+same_still : (p : StopState) (me : ℕ) → StaysStill p p me
+same_still p me s in_ = record { acked = inl refl; inside = inl in_ }
+
+put_acked : (f : ℕ → Stop) (i me : ℕ) (x : Stop) → acked (x.standing me) ≡ acked ((f i).standing me) → (s : ℕ) →
+    acked ((put f i x s).standing me) ≡ acked ((f s).standing me)
+put_acked f i me x same s = at_test s i (λ b. acked ((cond b x (f s)).standing me) ≡ acked ((f s).standing me))
+    (λ e. same ∙ ap (λ j. acked ((f j).standing me)) (sym e)) (λ _. refl)
+
+draft_still : (p : StopState) (me slot n : ℕ) (f : Field) → StaysStill p (record p { now = drafts p.now slot f n }) me
+draft_still p me slot n f s in_ = record {
+  acked = inl (put_acked p.now.stop slot me (record (p.now.stop slot) { work = drafted f n (p.now.stop slot).work }) refl s);
+  inside = inl in_;
+}
+
+looked_acked : (x : Standing) (n : ℕ) → acked (looked_by x n) ≡ acked x
+looked_acked Outside n = refl
+looked_acked Called n = refl
+looked_acked (Inside a l) n = refl
+looked_acked (Answering a v) n = refl
+looked_acked (Completed a v) n = refl
+
+answered_acked : (x : Standing) (n : ℕ) → acked (answered_by x n) ≡ acked x
+answered_acked Outside n = refl
+answered_acked Called n = refl
+answered_acked (Inside a l) n = refl
+answered_acked (Answering a v) n = refl
+answered_acked (Completed a v) n = refl
+
+either_still : (p q : StopState) (me : ℕ) (b : Bool) → StaysStill p q me → StaysStill p (cond b q p) me
+either_still p q me true h = h
+either_still p q me false h = same_still p me
+
+ack_still : (p : StopState) (me slot n : ℕ) (b : Bool) → StaysStill p (cond b (stored_open p me slot field.Ack n) (stored_shut p slot field.Ack n)) me
+ack_still p me slot n true s in_ = record { acked = inl (put_acked p.now.stop slot me (refilled (p.now.stop slot) me) refl s); inside = inl in_ }
+ack_still p me slot n false s in_ = draft_still p me slot n field.Ack s in_
+
+result_still : (p : StopState) (me slot n : ℕ) (b : Bool) → StaysStill p (cond b (stored_open p me slot field.Result n) (stored_shut p slot field.Result n)) me
+result_still p me slot n true s in_ = record {
+  acked = inl (put_acked p.now.stop slot me (stands_at (p.now.stop slot) me (answered_by ((p.now.stop slot).standing me) n))
+      (ap acked (put_same (p.now.stop slot).standing me (answered_by ((p.now.stop slot).standing me) n)) ∙
+      answered_acked ((p.now.stop slot).standing me) n) s);
+  inside = inl in_;
+}
+result_still p me slot n false s in_ = draft_still p me slot n field.Result s in_
+
+loaded_still : (u : Setup) (p : StopState) (me key found : ℕ) (x : Option ℕ) → StaysStill p (record p { now = key_loaded u p.now me key found x }) me
+loaded_still u p me key found None s in_ = record { acked = inl refl; inside = inl in_ }
+loaded_still u p me key found (Some j) s in_ = either (is_at_run ((p.now.stop j).standing me) && is_patch (p.now.stop j).work.kind) s in_
+  where
+    either : (b : Bool) → StaysStill p (record p {
+      now = cond b (record (p.now) { patching = patch_begun u me (p.now.stop j).work found }) (reads p.now me (ReadKey key (is_on found)));
+    }) me
+    either true s in_ = record { acked = inl refl; inside = inl in_ }
+    either false s in_ = record { acked = inl refl; inside = inl in_ }
+
+patch_still : (u : Setup) (p : StopState) (at : Word → ℕ) (me : ℕ) (x : Change) →
+    StaysStill p (tells u p (seen_of me (store_of x) (at (word_of (store_of x))) None) 0) me
+patch_still u p at me (place.Key k, n) s in_ = record { acked = inl refl; inside = inl in_ }
+patch_still u p at me (place.Site i, n) s in_ = record { acked = inl refl; inside = inl in_ }
 
 -- who says that it runs a function has called it
 run_called : (p q : StopState) (me func arg answer : ℕ) → FunctionGoes p q me (Some (note.Run func arg)) answer →
@@ -119,16 +183,16 @@ module _ (u : Setup) (p : StopState) (at : Word → ℕ) (seat : ℕ → Seat) (
       here = put_same p.now.stop me (opened (p.now.stop me) (p.now.stop me).work)
 
       go : (p.now.stop me).is_open ≡ false → (f : Field) → NoteFits p (stored_shut p me f (begun_value u.cpus work f)) me (begun_next c work f).note
-      go shut field.Kind = inl refl
-      go shut field.Mask = inl refl
-      go shut field.Active = inl refl
-      go shut field.Func = inl refl
-      go shut field.Arg = inl refl
-      go shut field.Result = inl refl
-      go shut field.Todo = inl refl
-      go shut field.Done = inl refl
-      go shut field.Ack = inl refl
-      go shut field.State = inl refl
+      go shut field.Kind = (inl refl, draft_still p me me (begun_value u.cpus work field.Kind) field.Kind)
+      go shut field.Mask = (inl refl, draft_still p me me (begun_value u.cpus work field.Mask) field.Mask)
+      go shut field.Active = (inl refl, draft_still p me me (begun_value u.cpus work field.Active) field.Active)
+      go shut field.Func = (inl refl, draft_still p me me (begun_value u.cpus work field.Func) field.Func)
+      go shut field.Arg = (inl refl, draft_still p me me (begun_value u.cpus work field.Arg) field.Arg)
+      go shut field.Result = (inl refl, draft_still p me me (begun_value u.cpus work field.Result) field.Result)
+      go shut field.Todo = (inl refl, draft_still p me me (begun_value u.cpus work field.Todo) field.Todo)
+      go shut field.Done = (inl refl, draft_still p me me (begun_value u.cpus work field.Done) field.Done)
+      go shut field.Ack = (inl refl, draft_still p me me (begun_value u.cpus work field.Ack) field.Ack)
+      go shut field.State = (inl refl, draft_still p me me (begun_value u.cpus work field.State) field.State)
       go shut field.Roll = record {
         shut = shut;
         is_open = ap (λ (x : Stop). x.is_open) here;
@@ -143,7 +207,7 @@ module _ (u : Setup) (p : StopState) (at : Word → ℕ) (seat : ℕ → Seat) (
 
       go : (b : Bool) → NoteFits p (cond b (record p { now = enters p.now me slot }) p) me
           (cond b (stop_goes c (EnterKind slot)) (stop_ends c note.Stale)).note
-      go true = inl refl
+      go true = (inl refl, λ j in_. absurd (let bad : None ≡ Some j = sym free ∙ in_ in let z : ⊥ = cc in z))
       go false = (free, refl)
 
   module _ (v : Visit) where
@@ -156,10 +220,18 @@ module _ (u : Setup) (p : StopState) (at : Word → ℕ) (seat : ℕ → Seat) (
         after : Bool → StopState
         after d = record (looks p me v.slot found) { now = record (looks_now p.now me v.slot found) { irq = cond d (put p.now.irq me false) p.now.irq } }
 
+        still : (d : Bool) → StaysStill p (after d) me
+        still d j in_ = record {
+          acked = inl (put_acked p.now.stop v.slot me (stands_at (p.now.stop v.slot) me (looked_by ((p.now.stop v.slot).standing me) found))
+              (ap acked (put_same (p.now.stop v.slot).standing me (looked_by ((p.now.stop v.slot).standing me) found)) ∙
+              looked_acked ((p.now.stop v.slot).standing me) found) j);
+          inside = inl in_;
+        }
+
         go : (work : Work) → seat me ≡ In v.slot work v.acked v.acked Rests → (b d : Bool) → (found == v.acked) ≡ b → (found == 2) ≡ d →
             NoteFits p (after d) me (cond b (stop_ends c note.Same) (looked_on me c v answer found)).note
-        go work is false true e two = inr (inl refl)
-        go work is false false e two = inl refl
+        go work is false true e two = (inr (inl refl), still true)
+        go work is false false e two = (inl refl, still false)
         go work is true d e two = (
           (v.acked, record { slot = v.slot; inside = st.0; stands = stood }),
           quiet d two,
@@ -191,6 +263,11 @@ module _ (u : Setup) (p : StopState) (at : Word → ℕ) (seat : ℕ → Seat) (
     arg_heard slot answer = either_heard p (calls_now p me (p.now.stop slot).work (at (Slot slot field.Arg)) answer)
         (may_call me (p.now.stop slot).work ((p.now.stop slot).standing me)) refl
 
+    arg_still : (slot answer : ℕ) → StaysStill p (cond (may_call me (p.now.stop slot).work ((p.now.stop slot).standing me))
+        (calls_now p me (p.now.stop slot).work (at (Slot slot field.Arg)) answer) p) me
+    arg_still slot answer = either_still p (calls_now p me (p.now.stop slot).work (at (Slot slot field.Arg)) answer) me
+        (may_call me (p.now.stop slot).work ((p.now.stop slot).standing me)) (λ j in_. record { acked = inl refl; inside = inl in_ })
+
     arg : (answer func : ℕ) → c.stage ≡ Some (Advance v (round.LoadArg answer func)) → Fits (Advance v (round.LoadArg answer func))
     arg answer func e = go (is_multi v.kind) refl
       where
@@ -210,11 +287,12 @@ module _ (u : Setup) (p : StopState) (at : Word → ℕ) (seat : ℕ → Seat) (
               (subst (λ b. FunctionGoes p (state_after u p at c me stage) me (said b) answer) is (goes stage e)),
           arg_heard v.slot answer,
         )
-        go false is = inl (arg_heard v.slot answer)
+        go false is = (inl (arg_heard v.slot answer), arg_still v.slot answer)
 
     load_key : (key : ℕ) (change : KeyChange) → c.stage ≡ Some (Advance v (round.LoadKey key change)) → Fits (Advance v (round.LoadKey key change))
     load_key key change e =
-        subst (NoteFits p (state_after u p at c me (Advance v (round.LoadKey key change))) me) (sym (none (count_after change found))) (inl unheard)
+        subst (NoteFits p (state_after u p at c me (Advance v (round.LoadKey key change))) me) (sym (none (count_after change found)))
+        (inl unheard, loaded_still u p me key found (p.now.inside me))
       where
         found : ℕ
         found = at (Key key)
@@ -286,11 +364,22 @@ module _ (u : Setup) (p : StopState) (at : Word → ℕ) (seat : ℕ → Seat) (
           refl,
         )
 
+        -- the last to acknowledge is to set the next phase
+        acked_still : (at (Slot v.slot field.Ack) == 1) ≡ true → StaysStill p (acked_after false) me
+        acked_still one j is =
+            let both : Some j ≡ Some v.slot = sym is ∙ in_ in
+            let same : j ≡ v.slot = cc in
+            record {
+              acked = inr (ap (λ i. (put p.now.stop v.slot acked_stop i).raising) same ∙ (ap (λ (x : Stop). x.raising) acked_here ∙
+                  ap (λ b. cond b (Refills me) (p.now.stop v.slot).raising) one));
+              inside = inl is;
+            }
+
         acked_fits : (b d : Bool) → (at (Slot v.slot field.Ack) == 1) ≡ b → (phase == 4) ≡ d → NoteFits p (acked_after (d && not b)) me
             (cond b (stop_goes acked_control (Advance (visit_acked v answer ran) (round.Refill ran)))
             (stop_ends (record acked_control { interrupts = cond d true c.interrupts }) (cond d note.Left (cond ran note.Ran (note.Moved phase))))).note
-        acked_fits true true one four = inl refl
-        acked_fits true false one four = inl refl
+        acked_fits true true one four = (inl refl, acked_still one)
+        acked_fits true false one four = (inl refl, acked_still one)
         acked_fits false true one four =
             let is_four : phase ≡ 4 = eqb-true phase 4 four in
             record {
@@ -328,9 +417,8 @@ module _ (u : Setup) (p : StopState) (at : Word → ℕ) (seat : ℕ → Seat) (
               off false three = inr (λ is_four. let bad : true ≡ false = sym (eq-eqb v.acked 3 (omega arith)) ∙ three in cc)
           either work loaded (inr (two, runs, (n, answers, is))) =
               let st = stands (Alters v.slot work n (plan_at u work n) []) is in
-              let active : has v.active me ≡ true =
-              ap (λ m. has m me) loaded.active ∙ patcher_active u p at seat source h v.slot me work n (plan_at u work n) []
-              is in
+              let its = patcher_active u p at seat source h v.slot me work n (plan_at u work n) [] is in
+              let active : has v.active me ≡ true = ap (λ m. has m me) loaded.active ∙ its in
               ack_fits st.0 (st.1 ∙ ap (λ n. Inside n (n + 1)) (sym two)) (inl (h.present.irq me ∙ ap irq_of is))
               (record { at_run = λ _. ap (λ n. n + 1) two; active = λ _. active ∙ sym runs }) (loaded.active ∙ ap (λ (w : Work). w.active) (sym st.3))
 
@@ -406,21 +494,35 @@ module _ (u : Setup) (p : StopState) (at : Word → ℕ) (seat : ℕ → Seat) (
         found : ℕ
         found = at (Slot v.slot field.Todo)
 
-        go : (a x : ℕ) → p.now.inside me ≡ Some v.slot → (b : Bool) → NoteFits p (completes_with p me v.slot a x found) me
+        -- the last to complete is to store done
+        still : (a x : ℕ) → p.now.inside me ≡ Some v.slot → acked ((p.now.stop v.slot).standing me) ≡ a → (found == 1) ≡ true →
+            StaysStill p (completes_with p me v.slot a x found) me
+        still a x in_ was one j is =
+            let both : Some j ≡ Some v.slot = sym is ∙ in_ in
+            let same : j ≡ v.slot = cc in
+            let next = completed (p.now.stop v.slot) me a x found in
+            record {
+              acked = inl (put_acked p.now.stop v.slot me next (ap acked (put_same (p.now.stop v.slot).standing me (Completed a x)) ∙ sym was) j);
+              inside = inr (ap (λ i. (put p.now.stop v.slot next i).ending) same ∙ (ap (λ (y : Stop). y.ending) (put_same p.now.stop v.slot next) ∙
+                  ap (λ b. cond b (Last me) (p.now.stop v.slot).ending) one));
+            }
+
+        go : (a x : ℕ) → p.now.inside me ≡ Some v.slot → acked ((p.now.stop v.slot).standing me) ≡ a → (b : Bool) → (found == 1) ≡ b →
+            NoteFits p (completes_with p me v.slot a x found) me
             (cond b (stop_goes (record c { visit = None }) (Close v.slot)) (stop_ends (record c { visit = None }) note.Finished)).note
-        go a x in_ true = inl refl
-        go a x in_ false = record { same = refl; outside = put_same p.now.inside me None; finished = inl (v.slot, in_) }
+        go a x in_ was true one = (inl refl, still a x in_ was one)
+        go a x in_ was false one = record { same = refl; outside = put_same p.now.inside me None; finished = inl (v.slot, in_) }
 
         either : (work : Work) → (((v.answer ≡ 0) × IsLoaded v work × IsThroughAll v × (seat me ≡ In v.slot work v.acked v.acked Rests)) ⊎
             (seat me ≡ Gives v.slot work v.acked v.answer)) → Fits (Complete v completion.CountDown)
         either work (inl (none, loaded, all, is)) =
             let st = stands (In v.slot work v.acked v.acked Rests) is in
             subst (λ (y : Standing). NoteFits p (completes p me v.slot y found) me (note_then u at c me (Complete v completion.CountDown))) (sym st.1)
-            (go v.acked 0 st.0 (found == 1))
+            (go v.acked 0 st.0 (ap acked st.1) (found == 1) refl)
         either work (inr is) =
             let st = stands (Gives v.slot work v.acked v.answer) is in
             subst (λ (y : Standing). NoteFits p (completes p me v.slot y found) me (note_then u at c me (Complete v completion.CountDown))) (sym st.1)
-            (go v.acked v.answer st.0 (found == 1))
+            (go v.acked v.answer st.0 (ap acked st.1) (found == 1) refl)
 
   close : (slot : ℕ) → c.stage ≡ Some (Close slot) → Fits (Close slot)
   close slot e =
@@ -445,7 +547,7 @@ module _ (u : Setup) (p : StopState) (at : Word → ℕ) (seat : ℕ → Seat) (
 
       go : (b : Bool) → (at (Slot me field.Done) == 0) ≡ b → NoteFits p p me (cond b (stop_ends c note.Pending) (stop_goes c LoadResult)).note
       go true none = (owner.is_open, not_ended (eqb-true (at (Slot me field.Done)) 0 none), refl)
-      go false some = inl refl
+      go false some = (inl refl, same_still p me)
 
   -- the load of a key by a CPU with its interrupts on is a reading
   key_read : (key : ℕ) → c.interrupts ≡ true → HasRead p (record p { now = key_loaded u p.now me key (at (Key key)) (p.now.inside me) }) me
@@ -494,7 +596,7 @@ module _ (u : Setup) (p : StopState) (at : Word → ℕ) (seat : ℕ → Seat) (
       go (Some new) = elim (xor (is_on found) (is_on new)) as
           (λ b. NoteFits p after me (cond b (stop_ends c note.Stop) (stop_goes c (ExchangeKey key found new))).note) [
             | true ↦ (key, is_on found, read)
-            | false ↦ inr (inr (key, is_on found, read))
+            | false ↦ (inr (inr (key, is_on found, read)), loaded_still u p me key found (p.now.inside me))
           ]
 
   exchange : (key expected new : ℕ) → c.stage ≡ Some (ExchangeKey key expected new) → Fits (ExchangeKey key expected new)
@@ -525,28 +627,35 @@ module _ (u : Setup) (p : StopState) (at : Word → ℕ) (seat : ℕ → Seat) (
       held = subst (HoldsGate me (at Gate)) e s.gate_held
   note_fits (Begin work f) e = begun work f e
   note_fits (Enter slot) e = entering slot e
-  note_fits (EnterKind slot) e = inl refl
-  note_fits (EnterMask slot kind) e = inl refl
+  note_fits (EnterKind slot) e = (inl refl, same_still p me)
+  note_fits (EnterMask slot kind) e = (inl refl, same_still p me)
   note_fits (EnterActive slot kind mask) e =
       let x = seat_at (EnterActive slot kind mask) e in
       let st = stands (In slot x.0 0 0 Rests) x.1 in
       (record { slot = slot; inside = st.0; stands = st.1 }, refl)
   note_fits (Advance v (round.Look answer)) e = looked v answer e
-  note_fits (Advance v (round.LoadFunc answer)) e = inl refl
+  note_fits (Advance v (round.LoadFunc answer)) e = (inl refl, same_still p me)
   note_fits (Advance v (round.LoadArg answer func)) e = arg v answer func e
   note_fits (Advance v (round.LoadKey key change)) e = load_key v key change e
-  note_fits (Advance v (round.LoadEntry key word site)) e = inl refl
-  note_fits (Advance v (round.StoreChange made)) e = inl (patch_heard u p at me (change_at c.changes made))
+  note_fits (Advance v (round.LoadEntry key word site)) e = (inl refl, same_still p me)
+  note_fits (Advance v (round.StoreChange made)) e =
+      (inl (patch_heard u p at me (change_at c.changes made)), patch_still u p at me (change_at c.changes made))
   note_fits (Advance v (round.Acknowledge answer ran)) e = acknowledge v answer ran e
-  note_fits (Advance v (round.Refill ran)) e = inl (ack_heard p me v.slot (mask_weight u.cpus v.mask) (p.now.stop v.slot).is_open)
+  note_fits (Advance v (round.Refill ran)) e = (
+    inl (ack_heard p me v.slot (mask_weight u.cpus v.mask) (p.now.stop v.slot).is_open),
+    ack_still p me v.slot (mask_weight u.cpus v.mask) (p.now.stop v.slot).is_open,
+  )
   note_fits (Advance v (round.Raise ran)) e = raise v ran e
-  note_fits (Complete v (completion.LoadFunc answer)) e = inl refl
+  note_fits (Complete v (completion.LoadFunc answer)) e = (inl refl, same_still p me)
   note_fits (Complete v (completion.LoadArg answer func)) e = (
     run_called p (state_after u p at c me (Complete v (completion.LoadArg answer func))) me func (at (Slot v.slot field.Arg)) answer
         (goes (Complete v (completion.LoadArg answer func)) e),
     arg_heard v v.slot answer,
   )
-  note_fits (Complete v completion.StoreAnswer) e = inl (result_heard p me v.slot v.answer (p.now.stop v.slot).is_open)
+  note_fits (Complete v completion.StoreAnswer) e = (
+    inl (result_heard p me v.slot v.answer (p.now.stop v.slot).is_open),
+    result_still p me v.slot v.answer (p.now.stop v.slot).is_open,
+  )
   note_fits (Complete v completion.CountDown) e = count_down v e
   note_fits (Close slot) e = close slot e
   note_fits LoadDone e = load_done e
