@@ -127,6 +127,15 @@ cell_kept false x place e = cc
 pub slot_cell : (s : ℕ) (f : Field) → s < cpus → HasCell (Slot s f)
 slot_cell s f low = (place_of (Slot s f), cell_kept (nat_lt s NR_CPUS) _ (place_of (Slot s f)) (lt-ltb s NR_CPUS low))
 
+pub key_cell : (k : ℕ) → k < MOST_KEYS → HasCell (Key k)
+key_cell k low = (place_of (Key k), cell_kept (nat_lt k MOST_KEYS) _ (place_of (Key k)) (lt-ltb k MOST_KEYS low))
+
+pub entry_cell : (i : ℕ) → i < MOST_SITES → HasCell (Entry i)
+entry_cell i low = (place_of (Entry i), cell_kept (nat_lt i MOST_SITES) _ (place_of (Entry i)) (lt-ltb i MOST_SITES low))
+
+pub site_cell : (i : ℕ) → i < MOST_SITES → HasCell (Site i)
+site_cell i low = (place_of (Site i), cell_kept (nat_lt i MOST_SITES) _ (place_of (Site i)) (lt-ltb i MOST_SITES low))
+
 -- the number at the cell of a word, and a store there
 pub number_here : (words : List ℕ) (w : Word) (i : ℕ) → cell_of w ≡ Some i → number_in words w ≡ get_or words i 0
 number_here words w i e = ap (number_at words) e

@@ -14,7 +14,7 @@ use Rattle.smp_stop_steps.specs.State.{Setup}
 use Rattle.smp_stop_steps.specs.Stop.{Standing, Outside, Called, Inside, Answering, Completed, Stop, is_of, is_called}
 use Rattle.smp_stop_steps.proofs.Steps.Facts.{work_words}
 use Rattle.smp_stop_steps.proofs.Steps.Sources.{kind_back}
-use Rattle.smp_multi.specs.Names.{Work, Slot, Field, Load, And, Free, In, Rests, Source, Shut, Drafts, Owns, Collects, Known}
+use Rattle.smp_multi.specs.Names.{Work, Slot, Field, Load, And, Free, In, Duty, Source, Shut, Drafts, Owns, Collects, Known}
 use Rattle.smp_multi.specs.Names.field
 use Rattle.smp_multi.specs.Places.{IsFree, HasEntered, IsCalled, IsVisitOf, pending_of}
 use Rattle.smp_multi.specs.Seat.{SeatValue, Ready}
@@ -81,11 +81,12 @@ pub entered_moved : (t : TableId) (d e : SeatValue) (slot : ℕ) (w : Work) → 
 entered_moved t d e slot w h table same = record { table_is = table; sized = h.sized; low = h.low; seat_is = ap (λ (k : Known). k.seat) same ∙ h.seat_is }
 
 -- what a CPU in a stop finds of its work
-module _ (v : Known) (slot : ℕ) (w : Work) (is : v.seat ≡ In slot w 0 0 Rests) where
+module _ (v : Known) (slot : ℕ) (w : Work) (acked looked : ℕ) (duty : Duty) (is : v.seat ≡ In slot w acked looked duty) where
   pub finds_written : (f : Field) (n : ℕ) → Moment v (Slot slot f) n → (word : Field → ℕ) × IsWritten word w × (n ≡ word f)
   finds_written f n m = (
     (λ g. m.at (Slot slot g)),
-    work_words (setup_in v.setting) m.stops m.at m.seat m.source m.shown slot v.number w 0 0 Rests (m.sees.seat_is ∙ is),
+    work_words (setup_in v.setting) m.stops m.at m.seat m.source m.shown slot v.number w acked looked duty
+        (m.sees.seat_is ∙ is),
     m.number_is,
   )
 

@@ -4,7 +4,9 @@ use Rattle.std.proofs.Common.{sym, subst, refl, ap, ◌∙◌, arith, eq-eqb}
 use Rattle.atomic_table.specs.Seated.{TableId}
 use Rattle.smp_mask.specs.Mask.{has}
 use Rattle.smp_words.specs.Size.{cpus}
-use Rattle.smp_stop_steps.specs.Known.{setup_in, told_source, Lives}
+use Rattle.smp_stop_steps.specs.Callings.{IsCalling, with_answer}
+use Rattle.smp_stop_steps.specs.Carries.{IsQuiet}
+use Rattle.smp_stop_steps.specs.Known.{setup_in, told_source, told_calling, Lives}
 use Rattle.smp_stop_steps.specs.KnownAfter.{completed_with, is_drafting}
 use Rattle.smp_stop_steps.specs.Laws.{IsResult}
 use Rattle.smp_stop_steps.specs.Past.{Past, AllPast, works_of, results_of, work_now}
@@ -18,14 +20,17 @@ use Rattle.smp_stop_steps.specs.Starts.{begin_refusal, has_slot, answer_word}
 use Rattle.smp_stop_steps.specs.Stop.{Inside}
 use Rattle.smp_stop_steps.specs.Table.{StopWords}
 use Rattle.smp_stop_steps.specs.Value.{StopsValue}
+use Rattle.smp_stop_steps.specs.declared.phase.TheConstants.{RUN}
 use Rattle.smp_stop_steps.specs.declared.stage.Visit.{Visit}
 use Rattle.smp_stop_steps.proofs.State.Phases.{is_open_inside, keeps_inside}
 use Rattle.smp_stop_steps.proofs.TheMachine.Starting.{begins_work}
-use Rattle.smp_multi.specs.Names.{Work, Kind, One, Slot, Seat, Free, In, Rests, Source, Shut, Drafts, Owns, Collects, Known, Part, Setting}
+use Rattle.smp_multi.specs.Names.{Work, Kind, One, Slot, Seat, Free, In, Rests, Duty, Source, Shut, Drafts, Owns, Collects, Known, Part, Setting}
+use Rattle.smp_multi.specs.Names.{StopCall, Calling, Idle, Calls, Carries}
 use Rattle.smp_multi.specs.Answers.{Enters, RunAnswers, PollAnswers, answer_in}
 use Rattle.smp_multi.specs.Begins.{Begins}
 use Rattle.smp_multi.specs.Cells.{cells}
-use Rattle.smp_multi.specs.Cpu.{TableValue, CpuValue, IsKept, IsLow, cpu_of, inside_of, is_in, enters, runs, answers, collects}
+use Rattle.smp_multi.specs.Cpu.{TableValue, CpuValue, IsKept, IsLow, answer_of, call_with, calls_with, part_with, cpu_of, inside_of, is_in, enters, runs}
+use Rattle.smp_multi.specs.Cpu.{answers, collects}
 use Rattle.smp_multi.specs.Places.{IsVisitOf, IsCalled, entered, work_in, pending_of}
 use Rattle.smp_multi.specs.Polls.{IsLastResult, looked, collected}
 use Rattle.smp_multi.specs.Running.{AtOne, called, called_by}
@@ -79,29 +84,47 @@ pub is_free : (visit : Option Visit) (x : Seat) → SitsAtRest visit x → is_in
 is_free None x rests e = (refl, rests)
 is_free (Some v) x rests e = absurd (let bad : true ≡ false = sym (ap (λ (y : Seat). is_in (inside_of y)) rests.2) ∙ e in cc)
 
+-- and calls no function
+pub idle_outside : (visit : Option Visit) (f : Calling) → visit ≡ None → IsQuiet visit (with_answer (answer_of visit) f) → f ≡ Idle
+idle_outside visit f none quiet = go f (subst (λ x. IsQuiet x (with_answer (answer_of x) f)) none quiet)
+  where
+    go : (f : Calling) → IsQuiet None (with_answer 0 f) → f ≡ Idle
+    go Idle q = refl
+    go (Calls call) q = absurd q
+    go (Carries answer) q = absurd q
+
 pub kept_same : (v u : Known) (number : ℕ) (visit : Option Visit) (holds is_open : Bool) → IsKept v number visit holds is_open → u ≡ v
     → IsKept u number visit holds is_open
 kept_same v u number visit holds is_open kept same = subst (λ (x : Known). IsKept x number visit holds is_open) (sym same) kept
 
 pub kept_entered : (v u : Known) (number : ℕ) (visit : Option Visit) (holds is_open : Bool) (x : Visit) (slot : ℕ) (work : Work)
-    → IsKept v number visit holds is_open → u ≡ entered slot work v → IsVisitOf slot work x → slot < cpus → Lives u →
+    → IsKept v number visit holds is_open → v.part.calling ≡ Idle → u ≡ entered slot work v → IsVisitOf slot work x → slot < cpus → Lives u →
     IsKept u number (Some x) holds is_open
-kept_entered v u number visit holds is_open x slot work kept same of low lives = record {
+kept_entered v u number visit holds is_open x slot work kept idle same of low lives = record {
   number_is = ap (λ (z : Known). z.number) same ∙ kept.number_is;
   below = kept.below;
   online = ap (λ (z : Known). has z.setting.online number) same ∙ kept.online;
   rests = (work, of.loaded, ap (λ (z : Known). z.seat) same ∙ (λ i. In (sym of.slot_is i) work (sym of.fresh i) (sym of.fresh i) Rests));
   low = subst (λ n. n < cpus) (sym of.slot_is) low;
+  quiet = subst (λ (f : Calling). IsQuiet (Some x) (with_answer x.answer f)) (sym (ap (λ (z : Known). z.part.calling) same ∙ idle)) of.unanswered;
   holds_is = kept.holds_is ∙ sym (ap (λ (z : Known). z.part.holds) same);
   owns = subst (OwnsIf is_open) (sym (ap (λ (z : Known). z.source) same)) kept.owns;
   lives = lives;
 }
 
+-- the part of a CPU that carries no answer
+pub idle_part : (answer : ℕ) (v : Known) → v.part.calling ≡ Idle → part_with answer v ≡ record (v.part) { calling = Idle }
+idle_part answer v idle =
+    ap (λ f. record (v.part) { calls = calls_with answer v.number (work_in v.seat) v.part.calls f; calling = with_answer answer f }) idle
+
 -- a CPU's value by what it knows
-pub entered_view : (d e : SeatValue) (slot : ℕ) (work : Work) → d.known.seat ≡ Free → e.table ≡ d.table → e.known ≡ entered slot work d.known
-    → cpu_of e ≡ enters slot work (cpu_of d)
-entered_view d e slot work free table same =
-    (λ i. cpu_of (record { table = table i; known = same i })) ∙ ap (λ (b : Bool). record (enters slot work (cpu_of d)) { irq = b }) (sym (ap irq_of free))
+pub entered_view : (x y : ℕ) (d e : SeatValue) (slot : ℕ) (work : Work) → d.known.seat ≡ Free → d.known.part.calling ≡ Idle → e.table ≡ d.table
+    → e.known ≡ entered slot work d.known → cpu_of x e ≡ enters slot work (cpu_of y d)
+entered_view x y d e slot work free idle table same =
+    let v = entered slot work d.known in
+    (λ i. cpu_of x (record { table = table i; known = same i })) ∙ (
+    ap (λ (k : Part). record (cpu_of x (record { table = d.table; known = v })) { part = k }) (idle_part x v idle ∙ sym (idle_part y d.known idle)) ∙
+    ap (λ (b : Bool). record (enters slot work (cpu_of y d)) { irq = b }) (sym (ap irq_of free)))
 
 -- a stop of one CPU has no phases
 pub no_phase : (v : Known) (slot acked looked : ℕ) (w : Work) → Lives v → v.seat ≡ In slot w acked looked Rests → w.kind ≡ One → acked ≡ 0
@@ -124,12 +147,26 @@ no_phase v slot acked looked w l is one = at_zero (none (l.stops.now.stop slot).
           | inr more ↦ absurd (omega (arith, more, e))
         ]
 
+-- before RUN is acknowledged a CPU carries no answer, and between two calls it calls no function
+pub idle_before : (v : Known) (x : Visit) (slot acked looked : ℕ) (w : Work) (t : Duty) → Lives v → v.seat ≡ In slot w acked looked t → acked < RUN
+    → IsQuiet (Some x) (with_answer x.answer v.part.calling) → v.part.calling ≡ Idle
+idle_before v x slot acked looked w t l is early quiet = go (l.stops.calling v.number) here l.sees.part_is.calling
+  where
+    here : IsCalling v.number (In slot w acked looked t) (l.stops.calling v.number)
+    here = subst (λ y. IsCalling v.number y (l.stops.calling v.number)) (l.sees.seat_is ∙ is) (l.shown.callings v.number)
+
+    go : (f : Calling) → IsCalling v.number (In slot w acked looked t) f → told_calling f ≡ v.part.calling → v.part.calling ≡ Idle
+    go Idle k e = sym e
+    go (Calls call) k e = absurd (let P : Calling → Type 0 = λ f. IsQuiet (Some x) (with_answer x.answer f) in subst P (sym e) quiet)
+    go (Carries answer) k e = absurd (let late = k.0 in omega (arith, late, early))
+
 -- a CPU that has run the function of a stop of one CPU
-pub ran_view : (d e : SeatValue) (slot : ℕ) (w : Work) (x : ℕ) → w.kind ≡ One → e.table ≡ d.table → e.known ≡ completed_with 0 slot w x d.known
-    → cpu_of e ≡ answers slot x (runs (record { func = w.func; arg = w.arg; answer = x }) (cpu_of d))
-ran_view d e slot w x one table same =
-    (λ i. cpu_of (record { table = table i; known = same i })) ∙
-    ap (λ (k : Kind). cpu_of (record { table = d.table; known = completed_with 0 slot (record w { kind = k }) x d.known })) one
+pub ran_view : (y z : ℕ) (d e : SeatValue) (slot : ℕ) (w : Work) (x : ℕ) → w.kind ≡ One → d.known.part.calling ≡ Idle → e.table ≡ d.table
+    → e.known ≡ completed_with 0 slot w x d.known → cpu_of y e ≡ answers slot x (runs (call_with w x) (cpu_of z d))
+ran_view y z d e slot w x one idle table same =
+    (λ i. cpu_of y (record { table = table i; known = same i })) ∙ (
+    ap (λ (k : Kind). cpu_of y (record { table = d.table; known = completed_with 0 slot (record w { kind = k }) x d.known })) one ∙
+    ap (λ (k : Part). answers slot x (runs (call_with w x) (record (cpu_of z d) { part = k }))) (sym (idle_part z d.known idle)))
 
 -- the last of the works that were begun, with its result
 record HasLast (past : List Past) (r : ℕ) : Type 0 where
@@ -187,27 +224,39 @@ last_result v before r l shut is =
     append_none [] = refl
     append_none (w ∷ ws) = ap (λ r. w ∷ r) (append_none ws)
 
+-- so also for a CPU that carries an answer in another stop
+last_with : (answer : ℕ) (v : Known) (r : ℕ) → IsLastResult v.part r → IsLastResult (part_with answer v) r
+last_with answer v r l = record {
+  work = l.work;
+  answer = l.answer;
+  works = l.works;
+  results = l.results;
+  begun = l.begun;
+  collected = l.collected;
+  is_result = l.is_result;
+}
+
 -- a CPU that has collected a result
-pub collected_view : (d e f : SeatValue) (r : ℕ) → e.known ≡ looked true d.known → f.table ≡ d.table → f.known ≡ collected r e.known
-    → cpu_of f ≡ collects r (cpu_of d)
-collected_view d e f r one table two = (λ i. cpu_of (record { table = table i; known = (two ∙ ap (collected r) one) i }))
+pub collected_view : (x : ℕ) (d e f : SeatValue) (r : ℕ) → e.known ≡ looked true d.known → f.table ≡ d.table → f.known ≡ collected r e.known
+    → cpu_of x f ≡ collects r (cpu_of x d)
+collected_view x d e f r one table two = (λ i. cpu_of x (record { table = table i; known = (two ∙ ap (collected r) one) i }))
 
 -- a slot that may be entered is one of the table
 pub low_slot : (nr slot : ℕ) → has_slot nr slot ≡ true → slot < cpus
 low_slot nr slot e = ltb-true slot cpus (and_parts (nat_lt slot cpus) _ e).0
 
 -- the answer of a CPU that has entered
-pub enters_answer : (t : TableValue) (d e : SeatValue) (slot : ℕ) (work : Work) (visit : Visit) → d.known.seat ≡ Free → has_slot t.nr slot ≡ true
-    → e.table ≡ d.table → e.known ≡ entered slot work d.known → IsCalled d.known slot work → IsVisitOf slot work visit →
-    Enters t slot (cpu_of d) (cpu_of e) visit.kind
-enters_answer t d e slot work visit free there table same called of = record {
+pub enters_answer : (t : TableValue) (x y : ℕ) (d e : SeatValue) (slot : ℕ) (work : Work) (visit : Visit) → d.known.seat ≡ Free
+    → d.known.part.calling ≡ Idle → has_slot t.nr slot ≡ true → e.table ≡ d.table → e.known ≡ entered slot work d.known → IsCalled d.known slot work
+    → IsVisitOf slot work visit → Enters t slot (cpu_of x d) (cpu_of y e) visit.kind
+enters_answer t x y d e slot work visit free idle there table same calls of = record {
   work = work;
   outside = ap inside_of free;
   there = there;
-  member = called.member;
-  own = called.own;
+  member = calls.member;
+  own = calls.own;
   kind_is = of.loaded.kind;
-  is = entered_view d e slot work free table same;
+  is = entered_view y x d e slot work free idle table same;
 }
 
 -- a CPU that is to run the function of a stop of one CPU
@@ -235,20 +284,22 @@ at_one t d number visit holds is_open kept one table sized =
 pub run_answers : {F : Type 0} (leads : F → Called → F → Type 0) (d e : SeatValue) (number : ℕ) (visit : Visit) (holds is_open : Bool) (before after : F)
     (v : ℤ) → IsKept d.known number (Some visit) holds is_open → visit.kind ≡ One →
     e.table ≡ d.table → e.known ≡ completed_with 0 visit.slot (work_in d.known.seat) (answer_word v) d.known → leads before (called_by d.known v) after
-    → RunAnswers leads (cpu_of d) (cpu_of e) before after (Ok v)
+    → RunAnswers leads (cpu_of visit.answer d) (cpu_of 0 e) before after (Ok v)
 run_answers {F} leads d e number visit holds is_open before after v kept one table same heard =
     let w = kept.rests.0 in
     let kind : w.kind ≡ One = sym kept.rests.1.kind ∙ one in
-    let work : work_in d.known.seat ≡ w = ap work_in kept.rests.2 in (
+    let work : work_in d.known.seat ≡ w = ap work_in kept.rests.2 in
+    let none = no_phase d.known visit.slot visit.acked visit.acked w kept.lives kept.rests.2 kind in
+    let idle = idle_before d.known visit visit.slot visit.acked visit.acked w Rests kept.lives kept.rests.2 (omega (arith, none)) kept.quiet in (
       record { stop = record { slot = visit.slot; work = w; acked = visit.acked }; is = ap inside_of kept.rests.2; one = kind },
-      ran_view d e visit.slot w (answer_word v) kind table (same ∙ ap (λ (x : Work). completed_with 0 visit.slot x (answer_word v) d.known) work),
+      ran_view 0 visit.answer d e visit.slot w (answer_word v) kind idle table (same ∙ ap (λ (x : Work). completed_with 0 visit.slot x (answer_word v) d.known) work),
       subst (λ (x : Work). leads before (called d.known.number x.func x.arg v) after) work heard,
     )
 
 -- a CPU that has collected: its stop was open, and the result is the last
 pub poll_answers : (d e f : SeatValue) (number : ℕ) (visit : Option Visit) (holds : Bool) (word : ℕ) (v : ℤ) → IsKept d.known number visit holds true
     → e.known ≡ looked true d.known → f.table ≡ d.table → f.known ≡ collected word e.known → Lives f.known → v ≡ answer_in word →
-    PollAnswers (cpu_of d) (cpu_of f) (Ok (Some v))
+    PollAnswers (cpu_of (answer_of visit) d) (cpu_of (answer_of visit) f) (Ok (Some v))
 poll_answers d e f number visit holds word v kept one table two lives is =
     let all = two ∙ ap (collected word) one in (
       (λ (none : pending_of d.known.source ≡ None). let some : pending_of d.known.source ≡ Some kept.owns.0 = ap pending_of kept.owns.1 in
@@ -256,8 +307,8 @@ poll_answers d e f number visit holds word v kept one table two lives is =
       (
         word,
         is,
-        collected_view d e f word one table two,
-        last_result f.known d.known.part.collected word lives (ap (λ (z : Known). z.source) all)
-            (ap (λ (z : Known). z.part.collected) all),
+        collected_view (answer_of visit) d e f word one table two,
+        last_with (answer_of visit) f.known word (last_result f.known d.known.part.collected word lives (ap (λ (z : Known). z.source) all)
+            (ap (λ (z : Known). z.part.collected) all)),
       ),
     )

@@ -7,6 +7,8 @@ pub mod Gates
 pub mod Entering
 pub mod Beginning
 pub mod Running
+pub mod Turning
+pub mod Patching
 pub mod Completing
 pub mod Polling
 -- a table as it is made, and its CPUs
@@ -14,4 +16,11 @@ pub mod Starting
 pub mod Seating
 -- a CPU between two calls
 pub mod Kept
+pub mod Advancing
+pub mod Finishing
 pub mod Showing
+-- readings and nudges of keys
+pub mod Reading
+pub mod Nudging
+pub mod LabelLaws
+pub mod PatchLaws

@@ -10,12 +10,12 @@ use Rattle.smp_stop_steps.specs.Sources.{SourceShows, IsWork}
 use Rattle.smp_stop_steps.specs.Stop.{Inside}
 use Rattle.smp_stop_steps.proofs.State.Phases.{is_open_inside}
 use Rattle.smp_words.specs.Size.{cpus}
-use Rattle.smp_multi.specs.Names.{Work, Kind, One, StopCall, Calling, Calls, Idle, Slot, Field, Load, Store, Sub, Seat, In, Gives, Rests, Source, Shut, Drafts}
+use Rattle.smp_multi.specs.Names.{Work, Kind, One, StopCall, Calling, Calls, Idle, Slot, Field, Load, Store, Sub, Seat, In, Gives, Rests, Duty, Source, Shut, Drafts}
 use Rattle.smp_multi.specs.Names.{Owns, Collects, Known}
 use Rattle.smp_multi.specs.Names.field
-use Rattle.smp_multi.specs.Completes.{AtClose}
+use Rattle.smp_multi.specs.Completes.{AtEnd}
 use Rattle.smp_multi.specs.Places.{work_in}
-use Rattle.smp_multi.specs.Running.{AtOne, AtGiven, answered, calls_now, given}
+use Rattle.smp_multi.specs.Running.{AtOne, calls_now}
 use Rattle.smp_multi.specs.Seat.{SeatValue, Able, Ready}
 use Rattle.smp_multi.proofs.Cells.{slot_cell}
 
@@ -85,81 +85,20 @@ module _ (t : TableId) (d : SeatValue) (slot : ℕ) where
     apart = tt;
   }
 
-  pub able_give : (x : ℕ) → AtOne t d slot → d.known.part.calling ≢ Idle → x ≢ 0 → Able t d (Store (Slot slot field.Result) x)
-  able_give x a calls some = record {
-    table_is = a.table_is;
-    sized = a.sized;
-    can = record { move = Give slot (work_in d.known.seat) 0 0 x; may = (a.seat_is, inr a.one, some, a.idle, calls); is_access = refl };
-    cell = slot_cell slot field.Result a.low;
-  }
-
-  pub known_give : (x : ℕ) → AtOne t d slot → x ≢ 0 → slot_stored field.Result x d.known ≡ given slot x d.known
-  known_give x a some =
-      ap (λ b. cond b (drafted_known field.Result x d.known) (member_stored field.Result x d.known)) a.idle ∙ (
-      ap (λ (y : Seat). record (d.known) { seat = given_by x y }) a.seat_is ∙
-      ap (λ b. record (d.known) { seat = cond b (In slot (work_in d.known.seat) 0 0 Rests) (Gives slot (work_in d.known.seat) 0 x) }) (sym (ne_eqb x 0 some)))
-
-  -- where the answer is 0 nothing is stored
-  pub known_zero : (x : ℕ) → AtOne t d slot → x ≡ 0 → d.known ≡ given slot x d.known
-  known_zero x a z = ap (λ (y : Seat). record (d.known) { seat = y }) (a.seat_is ∙ ap (λ n. answered slot (work_in d.known.seat) n) (sym z))
-
-  pub at_given : (e : SeatValue) (x : ℕ) → AtOne t d slot → d.known.part.calling ≢ Idle → e.table ≡ t → e.known ≡ given slot x d.known
-      → AtGiven t e slot x (work_in d.known.seat)
-  at_given e x a calls table same = record {
-    table_is = table;
-    sized = a.sized;
-    low = a.low;
-    idle = ap (λ (z : Known). is_drafting z.source) same ∙ a.idle;
-    seat_is = ap (λ (z : Known). z.seat) same;
-    one = a.one;
-    calls = λ none. calls (sym (ap (λ (z : Known). z.part.calling) same) ∙ none);
-  }
-
-  pub able_count : (x : ℕ) (w : Work) → AtGiven t d slot x w → Able t d (Sub (Slot slot field.Todo))
-  able_count x w a = go (x == 0) a.seat_is
-    where
-      go : (b : Bool) → d.known.seat ≡ cond b (In slot w 0 0 Rests) (Gives slot w 0 x) → Able t d (Sub (Slot slot field.Todo))
-      go true is =
-          record {
-            table_is = a.table_is;
-            sized = a.sized;
-            can = record { move = Count slot w 0 0; may = (is, inr a.one, a.low, λ one. a.calls); is_access = refl };
-            cell = slot_cell slot field.Todo a.low;
-          }
-      go false is =
-          record {
-            table_is = a.table_is;
-            sized = a.sized;
-            can = record { move = CountGiven slot w 0 x; may = (is, a.low); is_access = refl };
-            cell = slot_cell slot field.Todo a.low;
-          }
-
-  pub known_count : (x found : ℕ) (w : Work) → AtGiven t d slot x w → completed_by found d.known.seat d.known ≡ completed_with found slot w x d.known
-  known_count x found w a = ap (λ (y : Seat). completed_by found y d.known) a.seat_is ∙ go (x == 0) refl
-    where
-      go : (b : Bool) → (x == 0) ≡ b → completed_by found (cond b (In slot w 0 0 Rests) (Gives slot w 0 x)) d.known ≡ completed_with found slot w x d.known
-      go true e = ap (λ n. completed_with found slot w n d.known) (sym (eqb-true x 0 e))
-      go false e = refl
-
-  pub at_close : (e : SeatValue) (x found : ℕ) (w : Work) → AtGiven t d slot x w → e.table ≡ t → e.known ≡ completed_with found slot w x d.known
-      → AtClose t e slot found
-  at_close e x found w a table same = record {
-    table_is = table;
-    sized = a.sized;
-    low = a.low;
-    idle = ap (λ (z : Known). is_drafting z.source) same ∙ a.idle;
-    seat_is = ap (λ (z : Known). z.seat) same;
-  }
+  -- it is through all phases, since there are none
+  pub one_end : AtOne t d slot → AtEnd t d slot 0
+  one_end a = record { table_is = a.table_is; sized = a.sized; low = a.low; idle = a.idle; seat_is = a.seat_is; through = inr a.one }
 
 -- the work of a stop that a CPU is in is one that begin takes: its function has 16 bits
-pub small_func : (v : Known) (slot : ℕ) (w : Work) (f : Field) (n : ℕ) → v.seat ≡ In slot w 0 0 Rests → Moment v (Slot slot f) n → w.func < 2 ^ 16
-small_func v slot w f n is m = (go (m.source slot) (m.shown.sources slot)).func
+pub small_func : (v : Known) (slot : ℕ) (w : Work) (acked looked : ℕ) (duty : Duty) (f : Field) (n : ℕ) → v.seat ≡ In slot w acked looked duty
+    → Moment v (Slot slot f) n → w.func < 2 ^ 16
+small_func v slot w acked looked duty f n is m = (go (m.source slot) (m.shown.sources slot)).func
   where
-    st : Stands m.stops.now v.number (In slot w 0 0 Rests)
+    st : Stands m.stops.now v.number (In slot w acked looked duty)
     st = subst (Stands m.stops.now v.number) (m.sees.seat_is ∙ is) (m.shown.present.stands v.number)
 
     opened : (m.stops.now.stop slot).is_open ≡ true
-    opened = is_open_inside cpus (m.stops.now.stop slot) (λ g. m.at (Slot slot g)) (m.shown.present.slots slot) v.number (Inside 0 0) st.1 refl
+    opened = is_open_inside cpus (m.stops.now.stop slot) (λ g. m.at (Slot slot g)) (m.shown.present.slots slot) v.number (Inside acked looked) st.1 refl
 
     go : (y : Source) → SourceShows (setup_in v.setting) m.stops.gate (m.stops.now.stop slot) (λ g. m.at (Slot slot g)) slot y → IsWork (setup_in v.setting) w
     go Shut shut = absurd (let bad : true ≡ false = sym opened ∙ shut in cc)

@@ -9,7 +9,7 @@ use Rattle.smp_stop_steps.specs.Sources.{IsWork}
 use Rattle.smp_stop_steps.specs.Starts.{begin_refusal, has_slot, answer_word}
 use Rattle.smp_multi.specs.Names.{Work, Kind, One, StopCall}
 use Rattle.smp_multi.specs.declared.func.Called.{Called}
-use Rattle.smp_multi.specs.Cpu.{TableValue, CpuValue, Inside, begins, enters, runs, answers, collects, terms_of, is_pending}
+use Rattle.smp_multi.specs.Cpu.{TableValue, CpuValue, Inside, call_with, begins, enters, runs, answers, collects, terms_of, is_pending}
 use Rattle.smp_multi.specs.Polls.{IsLastResult}
 use Rattle.smp_multi.specs.Running.{called}
 
@@ -37,7 +37,7 @@ pub record IsInOne (c : CpuValue) : Type 0 where
 
 -- the call of its function with this answer
 abbrev pub call_of : Inside → ℤ → StopCall
-call_of stop answer = record { func = stop.work.func; arg = stop.work.arg; answer = answer_word answer }
+call_of stop answer = call_with stop.work (answer_word answer)
 
 -- run_one: the function is called once, and what it answered is the CPU's answer
 abbrev pub RunAnswers : {F : Type 0} → (F → Called → F → Type 0) → CpuValue → CpuValue → F → F → Result ℤ SmpError → Type 0

@@ -1,16 +1,19 @@
 -- What contracts see of a table, of a CPU and of the CPUs that were not given out.
-use Rattle.std.specs.Prelude.{◌≡◌, ◌≢◌, ℕ, ◌<◌, Bool, true, false, Option, Some, None, List, [], ◌∷◌, ◌++◌, length, slice_index_or, slice_set}
+use Rattle.std.specs.Prelude.{◌≡◌, ◌≢◌, ℕ, ◌<◌, Bool, true, false, cond, Option, Some, None, List, [], ◌∷◌, ◌++◌, length, slice_index_or, slice_set}
 use Rattle.atomic_table.specs.Seated.{TableId}
 use Rattle.smp_mask.specs.Mask.{has}
 use Rattle.smp_words.specs.Size.{cpus}
 use Rattle.smp_stop_steps.specs.Known.{fresh, Lives}
+use Rattle.smp_stop_steps.specs.Callings.{with_answer}
+use Rattle.smp_stop_steps.specs.Carries.{IsQuiet}
 use Rattle.smp_stop_steps.specs.Seats.{irq_of}
 use Rattle.smp_stop_steps.specs.Sits.{SitsAtRest, OwnsIf}
+use Rattle.smp_stop_steps.specs.Tells.{calls_at_run}
 use Rattle.smp_stop_steps.specs.declared.phase.TheConstants.{DISABLE_IRQ}
 use Rattle.smp_stop_steps.specs.declared.stage.Visit.{Visit}
 use Rattle.smp_stop_steps.specs.declared.start.Terms.{Terms}
-use Rattle.smp_multi.specs.Names.{Work, Seat, In, Gives, Alters, Known, Part, Setting, StopCall, Idle}
-use Rattle.smp_multi.specs.Places.{pending_of}
+use Rattle.smp_multi.specs.Names.{Work, Seat, In, Gives, Alters, Known, Part, Setting, StopCall, Calling, Idle, Carries}
+use Rattle.smp_multi.specs.Places.{pending_of, work_in}
 use Rattle.smp_multi.specs.Seat.{SeatValue}
 
 -- a table: its name, how many CPUs it has, and what it is made with
@@ -50,21 +53,42 @@ abbrev pub is_pending : Option Work → Bool
 is_pending None = false
 is_pending (Some w) = true
 
--- what a CPU knows, as contracts see it
-abbrev pub cpu_of : SeatValue → CpuValue
-cpu_of d = record {
+-- the call of the function of a stop with this answer
+abbrev pub call_with : Work → ℕ → StopCall
+call_with w answer = record { func = w.func; arg = w.arg; answer = answer }
+
+-- its calls in stops: one that carries an answer has called the function of its stop, where it calls one at RUN
+abbrev pub calls_with : ℕ → ℕ → Work → List StopCall → Calling → List StopCall
+calls_with answer me w calls (Carries x) = cond (calls_at_run me w) (calls ++ call_with w answer ∷ []) calls
+calls_with answer me w calls _ = calls
+
+-- its part with the answer that it carries, which no step tells before the completion
+abbrev pub part_with : ℕ → Known → Part
+part_with answer v = record (v.part) {
+  calls = calls_with answer v.number (work_in v.seat) v.part.calls v.part.calling;
+  calling = with_answer answer v.part.calling;
+}
+
+-- the answer of its function in the stop that it is in; 0 before, and where it calls none
+abbrev pub answer_of : Option Visit → ℕ
+answer_of None = 0
+answer_of (Some x) = x.answer
+
+-- what a CPU knows, with the answer that it carries, as contracts see it
+abbrev pub cpu_of : ℕ → SeatValue → CpuValue
+cpu_of answer d = record {
   table = d.table;
   setting = d.known.setting;
   number = d.known.number;
   pending = pending_of d.known.source;
   inside = inside_of d.known.seat;
   irq = irq_of d.known.seat;
-  part = d.known.part;
+  part = part_with answer d.known;
 }
 
 -- a CPU that has done nothing
 abbrev pub fresh_cpu : TableId → Setting → ℕ → CpuValue
-fresh_cpu table k cpu = cpu_of (record { table = table; known = fresh k cpu })
+fresh_cpu table k cpu = cpu_of 0 (record { table = table; known = fresh k cpu })
 
 -- the CPU is one of this table
 pub record IsAt (t : TableValue) (c : CpuValue) : Type 0 where
@@ -76,14 +100,15 @@ abbrev pub IsLow : Option Visit → Type 0
 IsLow None = Unit {0}
 IsLow (Some x) = x.slot < cpus
 
--- what a CPU keeps between two calls: it is between two turns of the stop that it is in, begins none, and what it knows
--- is its part of some stops
+-- what a CPU keeps between two calls: it is between two turns of the stop that it is in, calls no function, begins no
+-- stop, and what it knows is its part of some stops
 pub record IsKept (v : Known) (number : ℕ) (visit : Option Visit) (holds is_open : Bool) : Type 0 where
   pub number_is : v.number ≡ number
   pub below : number < cpus
   pub online : has v.setting.online number ≡ true
   pub rests : SitsAtRest visit v.seat
   pub low : IsLow visit
+  pub quiet : IsQuiet visit (with_answer (answer_of visit) v.part.calling)
   pub holds_is : holds ≡ v.part.holds
   pub owns : OwnsIf is_open v.source
   pub lives : Lives v

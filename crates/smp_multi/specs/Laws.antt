@@ -1,13 +1,28 @@
 -- What a CPU's value says of running threads.
-use Rattle.std.specs.Prelude.{◌≡◌, ℕ}
-use Rattle.smp_stop_steps.specs.Known.{Sees, setup_in}
+use Rattle.std.specs.Prelude.{◌≡◌, ℕ, true, false, Option, Some, None}
+use Rattle.smp_stop_steps.specs.Known.{Sees, setup_in, told_calling}
 use Rattle.smp_stop_steps.specs.Shows.{StopShows}
-use Rattle.smp_stop_steps.specs.State.{StopState}
+use Rattle.smp_stop_steps.specs.State.{Present, StopState}
+use Rattle.smp_stop_steps.specs.Stop.{Stop, acked}
 use Rattle.smp_stop_steps.specs.StopLaws.{KeepsStopLaws}
-use Rattle.smp_multi.specs.Names.{Word, Seat, Source, Known}
-use Rattle.smp_multi.specs.Cpu.{CpuValue, cpu_of}
+use Rattle.smp_stop_steps.specs.declared.phase.TheConstants.{DISABLE_IRQ, RUN}
+use Rattle.smp_multi.specs.Names.{Word, Work, Seat, In, Alters, Source, Known}
+use Rattle.smp_multi.specs.Cpu.{CpuValue, Inside, cpu_of}
+use Rattle.smp_multi.specs.Rounds.{AloneWhile}
 
--- some words of the table show stops that keep all laws, and this value is what a CPU knows that knows its part of them
+-- the CPU is in this stop, which has this work, and this is the last phase that it has acknowledged
+abbrev pub IsInside : Present → ℕ → Option Inside → Type 0
+IsInside n me None = n.inside me ≡ None
+IsInside n me (Some x) = (n.inside me ≡ Some x.slot) × ((n.stop x.slot).work ≡ x.work) × (acked ((n.stop x.slot).standing me) ≡ x.acked)
+
+-- a source's stop is open, with this work, or is not
+abbrev pub IsPending : Stop → Option Work → Type 0
+IsPending stop None = stop.is_open ≡ false
+IsPending stop (Some w) = (stop.is_open ≡ true) × (stop.work ≡ w)
+
+-- some words of the table show stops that keep all laws, and this value is what a CPU knows that knows its part of them:
+-- it is in the stop that the value has, its interrupts are on or off and its own stop is pending as the value says, and it
+-- is as far with its function, whose answer no words tell
 pub record IsShown (c : CpuValue) : Type 0 where
   pub stops : StopState
   pub at : Word → ℕ
@@ -17,4 +32,20 @@ pub record IsShown (c : CpuValue) : Type 0 where
   pub laws : KeepsStopLaws (setup_in c.setting) stops at
   pub known : Known
   pub sees : Sees stops seat source known
-  pub view : c ≡ cpu_of (record { table = c.table; known = known })
+  pub answer : ℕ
+  pub view : c ≡ cpu_of answer (record { table = c.table; known = known })
+  pub inside : IsInside stops.now c.number c.inside
+  pub irq : stops.now.irq c.number ≡ c.irq
+  pub pending : IsPending (stops.now.stop c.number) c.pending
+  pub calling : told_calling (stops.calling c.number) ≡ told_calling c.part.calling
+
+-- a CPU in the stop of this slot that has looked at RUN and has not acknowledged it: it calls its function, or makes its
+-- patch
+abbrev pub IsAtRun : Seat → ℕ → Type 0
+IsAtRun (In s w a l t) slot = (s ≡ slot) × (a ≡ DISABLE_IRQ) × (l ≡ RUN)
+IsAtRun (Alters s w count made rest) slot = s ≡ slot
+IsAtRun _ slot = ⊥
+
+-- the function law for running threads: as long as a CPU knows that it is there, its function runs alone
+abbrev pub FunctionsRunAlone : Type 0
+FunctionsRunAlone = (v : Known) (slot : ℕ) → IsAtRun v.seat slot → AloneWhile v slot

@@ -10,11 +10,20 @@ pub mod Seat
 pub mod Places
 pub mod Begins
 pub mod Running
+pub mod Rounds
+pub mod Turns
+pub mod Patches
 pub mod Completes
 pub mod Polls
 -- a table and a CPU between two calls, and what each call answers
 pub mod Cpu
 pub mod Table
 pub mod Answers
+pub mod Advance
 -- what holds while threads run
 pub mod Laws
+-- readings and nudges of keys
+pub mod Reads
+pub mod Nudges
+pub mod LabelLaws
+pub mod PatchLaws

@@ -11,14 +11,18 @@ pub use Rattle.smp_words.specs.declared.work.Kind.TheVariants.{One, Multi, Patch
 pub use Rattle.smp_words.specs.declared.work.Work.{Work}
 pub use Rattle.smp_stop_steps.specs.declared.known.Seat.{Seat}
 pub use Rattle.smp_stop_steps.specs.declared.known.Seat.TheVariants.{Free, In, Gives, Alters, Closes}
-pub use Rattle.smp_stop_steps.specs.declared.known.Turn.TheVariants.{Rests}
+pub use Rattle.smp_stop_steps.specs.declared.known.Turn.{Turn as Duty}
+pub use Rattle.smp_stop_steps.specs.declared.known.Turn.TheVariants.{Rests, Fills, Sets}
 pub use Rattle.smp_stop_steps.specs.declared.known.Source.{Source}
 pub use Rattle.smp_stop_steps.specs.declared.known.Source.TheVariants.{Shut, Drafts, Owns, Collects}
 pub use Rattle.smp_stop_steps.specs.declared.known.Known.{Known}
 pub use Rattle.smp_stop_steps.specs.declared.known.Part.{Part}
 pub use Rattle.smp_stop_steps.specs.declared.known.Setting.{Setting}
+pub use Rattle.smp_stop_steps.specs.declared.known.Reading.{Reading}
+pub use Rattle.smp_stop_steps.specs.declared.known.Reading.TheVariants.{ReadKey, ReadSite}
+pub use Rattle.smp_stop_steps.specs.declared.known.Moved.{Moved}
 pub use Rattle.smp_stop_steps.specs.declared.known.StopCall.{StopCall}
 pub use Rattle.smp_stop_steps.specs.declared.known.Calling.{Calling}
-pub use Rattle.smp_stop_steps.specs.declared.known.Calling.TheVariants.{Idle, Calls}
+pub use Rattle.smp_stop_steps.specs.declared.known.Calling.TheVariants.{Idle, Calls, Carries}
 pub use Rattle.smp_multi.specs.declared.seat_view.SeatView.{SeatView}
 pub use Rattle.smp_multi.specs.declared.seat_view.SeatView.TheVariants.{Maker, Cpu}

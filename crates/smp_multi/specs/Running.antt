@@ -1,9 +1,9 @@
 -- A CPU in a stop of one CPU: the call of its function, and its answer.
-use Rattle.std.specs.Prelude.{◌≡◌, ◌≢◌, ℕ, ℤ, ◌<◌, ◌==◌, false, cond}
+use Rattle.std.specs.Prelude.{◌≡◌, ℕ, ℤ, ◌<◌, false}
 use Rattle.atomic_table.specs.Seated.{TableId}
 use Rattle.smp_words.specs.Size.{cpus}
 use Rattle.smp_stop_steps.specs.KnownAfter.{is_drafting}
-use Rattle.smp_multi.specs.Names.{Work, One, Seat, In, Gives, Rests, Known, Calls, Idle}
+use Rattle.smp_multi.specs.Names.{One, In, Rests, Known, Calls}
 use Rattle.smp_multi.specs.declared.func.Called.{Called}
 use Rattle.smp_multi.specs.Cells.{cells}
 use Rattle.smp_multi.specs.Places.{work_in}
@@ -32,19 +32,3 @@ pub record AtOne (table : TableId) (seat : SeatValue) (slot : ℕ) : Type 0 wher
 -- and has loaded what its function is called with: it calls it, with no answer yet
 abbrev pub calls_now : Known → Known
 calls_now v = record v { part = record (v.part) { calling = Calls (record { func = (work_in v.seat).func; arg = (work_in v.seat).arg; answer = 0 }) } }
-
--- its answer is in the result word where it is not 0
-abbrev pub answered : ℕ → Work → ℕ → Seat
-answered slot work x = cond (x == 0) (In slot work 0 0 Rests) (Gives slot work 0 x)
-
-abbrev pub given : ℕ → ℕ → Known → Known
-given slot x v = record v { seat = answered slot (work_in v.seat) x }
-
-pub record AtGiven (table : TableId) (seat : SeatValue) (slot x : ℕ) (work : Work) : Type 0 where
-  pub table_is : seat.table ≡ table
-  pub sized : table.words ≡ cells
-  pub low : slot < cpus
-  pub idle : is_drafting seat.known.source ≡ false
-  pub seat_is : seat.known.seat ≡ answered slot work x
-  pub one : work.kind ≡ One
-  pub calls : seat.known.part.calling ≢ Idle

@@ -4,7 +4,7 @@ ghost use Rattle.std.specs.Prelude.{◌≡◌, ◌<◌, true, None};
 ghost use Rattle.smp_mask.specs.Mask.{has};
 ghost use Rattle.smp_words.specs.Size.{cpus};
 ghost use Rattle.smp_stop_steps.specs.Known.{fresh, Lives};
-ghost use Rattle.smp_multi.specs.Cpu.{cpu_of, is_in};
+ghost use Rattle.smp_multi.specs.Cpu.{fresh_cpu, is_in};
 
 use crate::seat::CpuSeat;
 use smp_stop_steps::phase::{DISABLE_IRQ, EXIT};
@@ -26,11 +26,11 @@ pub struct StopCpu {
 }
 
 impl Model for StopCpu {
-    ghost use Rattle.smp_multi.specs.Cpu.{CpuValue, IsKept, cpu_of};
+    ghost use Rattle.smp_multi.specs.Cpu.{CpuValue, IsKept, answer_of, cpu_of};
 
     ghost Value = { CpuValue };
 
-    ghost view = { λ c. cpu_of c.seat };
+    ghost view = { λ c. cpu_of (answer_of c.visit) c.seat };
 
     ghost invariant = { λ c. IsKept c.seat.known c.number c.visit c.holds c.is_open };
 }
@@ -42,7 +42,7 @@ impl StopCpu {
         requires below { number < cpus }
         requires online { has seat.known.setting.online number ≡ true }
         requires lives { Lives seat.known }
-        ensures { result ≡ cpu_of seat }
+        ensures { result ≡ fresh_cpu seat.table seat.known.setting number }
     {
         StopCpu {
             seat,

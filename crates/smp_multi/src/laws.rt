@@ -1,6 +1,8 @@
 //! What holds of running threads, at any time, of each CPU's value.
 
-ghost use Rattle.smp_multi.specs.Laws.{IsShown};
+ghost use Rattle.smp_multi.specs.LabelLaws.{LabelsAreLawful, CountsAreSums};
+ghost use Rattle.smp_multi.specs.Laws.{IsShown, FunctionsRunAlone};
+ghost use Rattle.smp_multi.specs.PatchLaws.{PatchesMoveCounts};
 
 use crate::cpu::StopCpu;
 use crate::table::StopTable;
@@ -14,3 +16,36 @@ pub fn is_shown<A: Allocator>(table: &StopTable<A>, cpu: &StopCpu)
     let _ = table;
     let _number = cpu.number;
 }
+
+/// The function law: from its look at `RUN` to its acknowledgement, as long as that is what a CPU knows, whatever steps
+/// other threads make, the phase is `RUN`, and every CPU of the mask has acknowledged `DISABLE_IRQ` and has its interrupts
+/// off. A CPU calls the function of a Multi stop, and makes a patch, only there ([`crate::run_steps`]).
+pub fn functions_run_alone()
+    ensures { FunctionsRunAlone }
+{}
+
+/// The label law: while no CPU is between the first and the last store of a patch, the label table is lawful, whatever CPUs
+/// have their interrupts on. Who patches is the first online CPU, active in its patch stop at `RUN`, and every online CPU
+/// has its interrupts off.
+pub fn labels_are_lawful<A: Allocator>(table: &StopTable<A>, cpu: &StopCpu)
+    ensures { LabelsAreLawful cpu.now }
+{
+    let _ = table;
+    let _number = cpu.number;
+}
+
+/// The count law: each key's word is the sum of what all CPUs have moved it, by nudges (`StopTable::try_key`) and as runners
+/// of patches; a CPU's value has its own moves of each key.
+pub fn counts_are_sums<A: Allocator>(table: &StopTable<A>, cpu: &StopCpu)
+    ensures { CountsAreSums cpu.now }
+{
+    let _ = table;
+    let _number = cpu.number;
+}
+
+/// By how much the patch of a stop moves its key, by the number of its change and the count that it finds, and what it
+/// answers: 0 takes the count to 0, 1 makes it 1 where it is 0, 2 adds 1 and 3 takes 1 away. The answer is 1 where the count
+/// stands at that end of its range, 65,535 or 0, and then nothing moves; else it is 0.
+pub fn patches_move_counts()
+    ensures { PatchesMoveCounts }
+{}

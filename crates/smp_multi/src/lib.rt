@@ -5,21 +5,22 @@
 //!
 //! Which calls of one table may run together, in the form of `include/linux/llist.h`:
 //!
-//! | | `try_gate` | `open_gate` | `begin` | `enter` | `run_one` | `poll_done` | `StopBoot::cpu` | `new` |
-//! |---|---|---|---|---|---|---|---|---|
-//! | `try_gate` | - | - | - | - | - | - | - | x |
-//! | `open_gate` | | g | g | - | - | - | - | x |
-//! | `begin` | | | g | - | - | - | - | x |
-//! | `enter` | | | | - | - | - | - | x |
-//! | `run_one` | | | | | - | - | - | x |
-//! | `poll_done` | | | | | | - | - | x |
-//! | `StopBoot::cpu` | | | | | | | x | x |
-//! | `new` | | | | | | | | x |
+//! | | `try_gate` | `open_gate` | `begin` | `enter` | `run_one`, `advance`, `finish` | `poll_done` | `read_key`, `read_site`, `try_key` | `StopBoot::cpu` | `new` |
+//! |---|---|---|---|---|---|---|---|---|---|
+//! | `try_gate` | - | - | - | - | - | - | - | - | x |
+//! | `open_gate` | | g | g | - | - | - | - | - | x |
+//! | `begin` | | | g | - | - | - | - | - | x |
+//! | `enter` | | | | - | - | - | - | - | x |
+//! | `run_one`, `advance`, `finish` | | | | | - | - | - | - | x |
+//! | `poll_done` | | | | | | - | - | - | x |
+//! | `read_key`, `read_site`, `try_key` | | | | | | | - | - | x |
+//! | `StopBoot::cpu` | | | | | | | | x | x |
+//! | `new` | | | | | | | | | x |
 //!
 //! Where the row's call may run together with the column's, on two threads: `-` where no lock is needed; `g` where the
 //! gate orders them, since each is E4 without it; `x` where the types refuse it, since `new` makes the table, and
-//! `StopBoot::cpu` takes the one `StopBoot` by `&mut`. The first six take the `StopCpu` of who calls by `&mut`, so that
-//! `-` is of two CPUs: one makes a single call at a time.
+//! `StopBoot::cpu` takes the one `StopBoot` by `&mut`. All but the last two take the `StopCpu` of who calls by `&mut`, so
+//! that `-` is of two CPUs: one makes a single call at a time.
 //!
 //! At which step a call takes effect, whether it may wait and who must poll stands at each call.
 #![tactic(auto)]
@@ -33,18 +34,26 @@ mod enter;
 mod func;
 mod gate;
 pub mod laws;
+mod nudge;
+mod patch;
 mod poll;
+mod read;
+mod round;
 mod rule;
 mod run;
+mod run_multi;
 pub mod run_steps;
 mod seat;
 mod seat_view;
 mod table;
+mod turn;
 
 pub use boot::StopBoot;
 pub use cpu::StopCpu;
 pub use func::{Called, StopFunc};
+pub use nudge::Nudge;
 pub use table::StopTable;
+pub use turn::Turn;
 
 #[cfg(test)]
 mod tests;

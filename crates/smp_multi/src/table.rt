@@ -25,23 +25,29 @@ ghost use Rattle.smp_words.specs.Limits.{AreLimits};
 ghost use Rattle.smp_words.specs.Size.{cpus};
 ghost use Rattle.smp_stop_steps.specs.Known.{fresh, Lives};
 ghost use Rattle.smp_multi.specs.declared.seat_view.SeatView.TheVariants.{Maker};
+ghost use Rattle.smp_multi.specs.Advance.{AdvanceAnswers, FinishAnswers};
 ghost use Rattle.smp_multi.specs.Answers.{BeginAnswers, Enters, RunAnswers, PollAnswers};
 ghost use Rattle.smp_multi.specs.Cells.{cells};
-ghost use Rattle.smp_multi.specs.Cpu.{IsAt, IsFull, cpu_of, gated};
+ghost use Rattle.smp_multi.specs.Cpu.{IsAt, IsFull, fresh_cpu, gated};
+ghost use Rattle.smp_multi.specs.Nudges.{NudgeAnswers};
+ghost use Rattle.smp_multi.specs.Reads.{KeyAnswers, SiteAnswers};
 
 use crate::boot::StopBoot;
 use crate::cell::FIRST_ENTRY;
 use crate::cpu::StopCpu;
 use crate::func::StopFunc;
 use crate::gate::{leave_gate, take_gate};
+use crate::nudge::Nudge;
 use crate::poll::{collect, is_done};
 use crate::rule::{Owner, RawSeat};
 use crate::seat::{CpuSeat, next_seat};
-use crate::{begin, enter, run};
+use crate::turn::{Turn, take_turn};
+use crate::{begin, complete, enter, nudge, read, run};
 use atomic_table::Table;
-use smp_labels::LabelMap;
+use smp_labels::{LabelMap, SiteKind};
 use smp_mask::{CpuMask, SmpError};
 use smp_stop_steps::known::Setting;
+use smp_stop_steps::phase::EXIT;
 use smp_stop_steps::start::{Terms, has_slot};
 use smp_words::limits::are_limits;
 use smp_words::size::NR_CPUS;
@@ -52,7 +58,7 @@ use std::marker::Model;
 /// The stop table: its name, how many CPUs it has, and what it is made with. Threads share it by reference.
 #[derive(Drop)]
 pub struct StopTable<A: Allocator> {
-    owner: Owner<A>,
+    pub(crate) owner: Owner<A>,
     nr: u32,
     setting: Setting,
 }
@@ -95,7 +101,7 @@ fn cpu_if(is_online: bool, seat: CpuSeat, number: u32) -> Option<StopCpu>
     requires below { number < cpus }
     requires online { is_online ≡ has seat.known.setting.online number }
     requires lives { Lives seat.known }
-    ensures { result ≡ if is_online then Some (cpu_of seat) else None }
+    ensures { result ≡ if is_online then Some (fresh_cpu seat.table seat.known.setting number) else None }
 {
     if is_online {
         Some(StopCpu::new(seat, number))
@@ -258,6 +264,45 @@ impl<A: Allocator> StopTable<A> {
         Ok(answer)
     }
 
+    /// One turn of the stop of several CPUs that this CPU has entered, at the load of its phase: Same where that is no new
+    /// one; else the turn ends in the fetch_sub that acknowledges it, after which the last of all stores the next phase. At
+    /// `RUN` an active CPU first calls the function, or makes the patch of a patch stop, with its interrupts off, while every
+    /// CPU of the mask has acknowledged `DISABLE_IRQ`: the patch loads the key, then the entries where the key turns on or
+    /// off, and stores the key and then its sites, ascending; its answer is 1 where the count stands at the end of its range,
+    /// so that nothing changes, else 0. E4 where the CPU is in no such stop or has left it, which makes no step. It does not
+    /// wait; each CPU of the mask polls until it has left.
+    pub fn advance<F: StopFunc>(&self, me: &mut StopCpu, func: &mut F) -> Result<Turn, SmpError>
+        requires { IsAt self.now me.old }
+        ensures { AdvanceAnswers F.leads me.old me.new func.old func.new result }
+    {
+        let Some(visit) = me.visit else {
+            return Err(SmpError::BadArgument);
+        };
+        if visit.kind == Kind::One || visit.acked == EXIT {
+            return Err(SmpError::BadArgument);
+        }
+        let (visit, turn) = take_turn(&self.owner.shared, &mut me.seat, me.number, visit, func);
+        me.visit = Some(visit);
+        Ok(turn)
+    }
+
+    /// Completes the stop of several CPUs that this CPU has left, with its function's answer, 0 where it called none, at the
+    /// fetch_sub of its count. E4 where it is in no such stop or has not left it, which makes no step. It does not wait.
+    pub fn finish(&self, me: &mut StopCpu) -> Result<(), SmpError>
+        requires { IsAt self.now me.old }
+        ensures { FinishAnswers me.old me.new result }
+    {
+        let Some(visit) = me.visit else {
+            return Err(SmpError::BadArgument);
+        };
+        if visit.kind == Kind::One || visit.acked != EXIT {
+            return Err(SmpError::BadArgument);
+        }
+        complete::finish(&self.owner.shared, &mut me.seat, visit.slot, visit.answer);
+        me.visit = None;
+        Ok(())
+    }
+
     /// Whether all CPUs of this CPU's own stop have completed: None where its load of done found 0; Some, with the
     /// result, closes the slot, at the load of the result. E4 where no stop of this CPU is open, which makes no step.
     /// That None was unavoidable is not promised. It does not wait.
@@ -274,5 +319,48 @@ impl<A: Allocator> StopTable<A> {
         let word = collect(&self.owner.shared, &mut me.seat, me.number);
         me.is_open = false;
         Ok(Some(((word % 0x1_0000_0000) as u32).cast_signed()))
+    }
+
+    /// Whether a key is on (`include/linux/jump_label.h: static_key_enabled`), at a load of its count. E4 where the table
+    /// has no such key, or this CPU has its interrupts off, which makes no step. One lawful table says all that the CPU
+    /// has read since its interrupts last went on. It does not wait.
+    pub fn read_key(&self, me: &mut StopCpu, k: u32) -> Result<bool, SmpError>
+        requires { IsAt self.now me.old }
+        ensures { KeyAnswers k me.old me.new result }
+    {
+        if k >= self.setting.labels.keys() || !me.interrupts_on() {
+            return Err(SmpError::BadArgument);
+        }
+        Ok(read::read_key(&self.owner.shared, &mut me.seat, k))
+    }
+
+    /// What stands at a site, a NOP or a jump (`arch_static_branch`, `arch_static_branch_jump`), at a load of its word. E4
+    /// where the table has no such site, or this CPU has its interrupts off, which makes no step. One lawful table says
+    /// all that the CPU has read since its interrupts last went on. It does not wait.
+    pub fn read_site(&self, me: &mut StopCpu, i: u32) -> Result<SiteKind, SmpError>
+        requires { IsAt self.now me.old }
+        ensures { SiteAnswers i me.old me.new result }
+    {
+        if i >= self.setting.labels.sites() || !me.interrupts_on() {
+            return Err(SmpError::BadArgument);
+        }
+        Ok(read::read_site(&self.owner.shared, &mut me.seat, i))
+    }
+
+    /// Moves the count of a key by one, where the key stays on: up as `kernel/jump_label.c:
+    /// static_key_fast_inc_not_disabled`, down as `static_key_slow_try_dec`. E4 where the table has no such key, or this
+    /// CPU has its interrupts off, which makes no step. Else it loads the count, which is a reading of the key. E13 where
+    /// that is 65,535 and is to go up, or 0 and is to go down; `Stop` where the key would turn on (up from 0) or off (down
+    /// from 1), which takes a stop. All three take effect at this load. Else one compare-exchange, at which the others take
+    /// effect: `Done` where it has put the next count, `Lost` where it has found another. It does not wait; after `Lost` the
+    /// caller may try again.
+    pub fn try_key(&self, me: &mut StopCpu, k: u32, up: bool) -> Result<Nudge, SmpError>
+        requires { IsAt self.now me.old }
+        ensures { NudgeAnswers k up me.old me.new result }
+    {
+        if !me.interrupts_on() || k >= self.setting.labels.keys() {
+            return Err(SmpError::BadArgument);
+        }
+        nudge::try_key(&self.owner.shared, &mut me.seat, k, up)
     }
 }

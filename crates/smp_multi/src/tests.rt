@@ -1,12 +1,16 @@
 ghost use Rattle.std.specs.Prelude.{ℕ, ◌≡◌, true, IfSome};
+ghost use Rattle.std.specs.Option.{ForSome};
 ghost use Rattle.smp_mask.specs.Mask.{has};
 ghost use Rattle.smp_multi.specs.Cpu.{IsAt, left_at};
 
+mod labels;
+mod nudges;
+mod patches;
 mod threads;
 
 use super::*;
 use linked_list_allocator::LocalHeap;
-use smp_labels::{Entry, LabelMap};
+use smp_labels::{Entry, LabelMap, SiteKind};
 use smp_mask::{CpuMask, SmpError};
 use smp_words::size::NR_CPUS;
 use smp_words::work::{Kind, Work};
@@ -53,8 +57,28 @@ impl<'a> Driver<'a> {
         self.table.run_one(&mut self.cpu, func)
     }
 
+    fn advance<F: StopFunc>(&mut self, func: &mut F) -> Result<Turn, SmpError> {
+        self.table.advance(&mut self.cpu, func)
+    }
+
+    fn finish(&mut self) -> Result<(), SmpError> {
+        self.table.finish(&mut self.cpu)
+    }
+
     fn poll_done(&mut self) -> Result<Option<i32>, SmpError> {
         self.table.poll_done(&mut self.cpu)
+    }
+
+    fn read_key(&mut self, k: u32) -> Result<bool, SmpError> {
+        self.table.read_key(&mut self.cpu, k)
+    }
+
+    fn read_site(&mut self, i: u32) -> Result<SiteKind, SmpError> {
+        self.table.read_site(&mut self.cpu, i)
+    }
+
+    fn try_key(&mut self, k: u32, up: bool) -> Result<Nudge, SmpError> {
+        self.table.try_key(&mut self.cpu, k, up)
     }
 }
 
@@ -69,6 +93,48 @@ fn drive<'a>(
 {
     let cpu = boot.cpu(number)?;
     Ok(Driver { table, cpu })
+}
+
+/// The CPUs of a table that are not given out.
+#[derive(Drop)]
+struct Room<'a> {
+    table: &'a StopTable<Global>,
+    boot: StopBoot<Global>,
+    ghost whole: { (cpu : ℕ) → has boot.online cpu ≡ true → ForSome (left_at boot cpu) (λ c. IsAt table.now c) },
+}
+
+impl<'a> Room<'a> {
+    fn new(table: &'a StopTable<Global>, boot: StopBoot<Global>) -> Room<'a>
+        requires { (cpu : ℕ) → has boot.online cpu ≡ true → IfSome (left_at boot cpu) (λ c. IsAt table.now c) }
+    {
+        Room { table, boot }
+    }
+
+    /// Adds this CPU.
+    fn drive_one(
+        &mut self,
+        drivers: &mut Vec<Driver<'a>, Global>,
+        number: u32,
+    ) -> Result<(), SmpError> {
+        let driver = drive(self.table, &mut self.boot, number)?;
+        if drivers.push(driver).is_err() {
+            return Err(SmpError::NoMemory);
+        }
+        Ok(())
+    }
+
+    /// So many CPUs, from 0 on.
+    fn drive_all(
+        &mut self,
+        alloc: Global,
+        count: u32,
+    ) -> Result<Vec<Driver<'a>, Global>, SmpError> {
+        let mut drivers = Vec::new(alloc);
+        for number in 0..count {
+            self.drive_one(&mut drivers, number)?;
+        }
+        Ok(drivers)
+    }
 }
 
 /// Answers always the same. How often it was called, and by what the last time.

@@ -1,5 +1,5 @@
 use Rattle.std.proofs.Common.{ap, refl, ◌∙◌}
-use Rattle.smp_multi.specs.Names.{Known}
+use Rattle.smp_multi.specs.Names.{Known, Rests}
 use Rattle.smp_multi.specs.Names.field
 use Rattle.smp_multi.proofs.Entering.{ready_plain, entered_moved, finds_kind, finds_mask, finds_active}
 use Rattle.smp_multi.proofs.enter.load_visit.Goals as goal
@@ -21,10 +21,11 @@ returns-clause-visit c = λ work h.
     let two = c.load-mask.ensures.known ∙ one in
     record {
       loaded = record {
-        kind = c.of_word.ensures ∙ finds_kind _ c.args.slot work h.seat_is c.load-kind.result c.load-kind.ensures.then;
-        mask = finds_mask _ c.args.slot work (ap (λ (v : Known). v.seat) one ∙ h.seat_is) c.load-mask.result c.load-mask.ensures.then;
-        active = finds_active _ c.args.slot work (ap (λ (v : Known). v.seat) two ∙ h.seat_is) c.load-active.result c.load-active.ensures.then;
+        kind = c.of_word.ensures ∙ finds_kind _ c.args.slot work 0 0 Rests h.seat_is c.load-kind.result c.load-kind.ensures.then;
+        mask = finds_mask _ c.args.slot work 0 0 Rests (ap (λ (v : Known). v.seat) one ∙ h.seat_is) c.load-mask.result c.load-mask.ensures.then;
+        active = finds_active _ c.args.slot work 0 0 Rests (ap (λ (v : Known). v.seat) two ∙ h.seat_is) c.load-active.result c.load-active.ensures.then;
       };
       slot_is = refl;
       fresh = refl;
+      unanswered = refl;
     }

@@ -1,5 +1,5 @@
 use Rattle.std.proofs.Common.{◌≡◌, arith, ap, ◌∙◌, sym}
-use Rattle.smp_multi.specs.Names.{Known}
+use Rattle.smp_multi.specs.Names.{Known, Rests}
 use Rattle.smp_multi.specs.Names.field
 use Rattle.smp_multi.specs.Places.{work_in}
 use Rattle.smp_multi.specs.Running.{calls_now}
@@ -16,14 +16,14 @@ load-arg-requires g c = ready_arg _ _ c.args.slot (one_moved _ _ _ c.args.slot c
 pub overflow_cast-result : goal.overflow_cast-result
 overflow_cast-result g c =
     let a = c.requires in
-    let is = finds_func _ c.args.slot _ a.seat_is c.load-number.result c.load-number.ensures.then in
-    let low = small_func _ c.args.slot _ field.Func c.load-number.result a.seat_is c.load-number.ensures.then in
+    let is = finds_func _ c.args.slot _ 0 0 Rests a.seat_is c.load-number.result c.load-number.ensures.then in
+    let low = small_func _ c.args.slot _ 0 0 Rests field.Func c.load-number.result a.seat_is c.load-number.ensures.then in
     omega arith
 
 pub returns-clause-known : goal.returns-clause-known
 returns-clause-known g c =
     let m = one_moved _ _ _ c.args.slot c.requires c.load-number.ensures.table c.load-number.ensures.known in
-    let arg = finds_arg _ c.args.slot _ m.seat_is c.load-arg.result c.load-arg.ensures.then in
+    let arg = finds_arg _ c.args.slot _ 0 0 Rests m.seat_is c.load-arg.result c.load-arg.ensures.then in
     c.load-arg.ensures.known ∙ (known_arg _ _ c.args.slot c.load-arg.result m arg ∙ ap calls_now c.load-number.ensures.known)
 
 pub returns-clause-at : goal.returns-clause-at
@@ -34,8 +34,8 @@ returns-clause-call g c =
     let a = c.requires in
     let m = one_moved _ _ _ c.args.slot c.requires c.load-number.ensures.table c.load-number.ensures.known in
     let same = sym (returns-clause-known g c) in
-    let func = finds_func _ c.args.slot _ a.seat_is c.load-number.result c.load-number.ensures.then in
-    let arg = finds_arg _ c.args.slot _ m.seat_is c.load-arg.result c.load-arg.ensures.then in (
+    let func = finds_func _ c.args.slot _ 0 0 Rests a.seat_is c.load-number.result c.load-number.ensures.then in
+    let arg = finds_arg _ c.args.slot _ 0 0 Rests m.seat_is c.load-arg.result c.load-arg.ensures.then in (
       func ∙ ap (λ (v : Known). (work_in v.seat).func) same,
       arg ∙ (ap (λ (v : Known). (work_in v.seat).arg) c.load-number.ensures.known ∙ ap (λ (v : Known). (work_in v.seat).arg) same),
     )

@@ -3,12 +3,12 @@ use Rattle.smp_mask.specs.declared.error.SmpError.{SmpError}
 use Rattle.smp_words.specs.Size.{cpus}
 use Rattle.smp_stop_steps.specs.Starts.{has_slot}
 use Rattle.smp_stop_steps.specs.declared.stage.Visit.{Visit}
-use Rattle.smp_multi.specs.Names.{Kind, Free, Known}
+use Rattle.smp_multi.specs.Names.{Kind, Free, Idle, Known}
 use Rattle.smp_multi.specs.Answers.{Enters}
-use Rattle.smp_multi.specs.Cpu.{CpuValue, TableValue, IsKept, cpu_of, is_in}
+use Rattle.smp_multi.specs.Cpu.{CpuValue, TableValue, IsKept, answer_of, cpu_of, is_in}
 use Rattle.smp_multi.specs.declared.cpu.StopCpu.TheInside.{Inside}
 use Rattle.smp_multi.specs.contracts.cpu.StopCpu as cpu
-use Rattle.smp_multi.proofs.Kept.{is_free, kept_same, kept_entered, enters_answer, low_slot}
+use Rattle.smp_multi.proofs.Kept.{is_free, idle_outside, kept_same, kept_entered, enters_answer, low_slot}
 use Rattle.smp_multi.proofs.table.StopTable.enter.Given as given
 use Rattle.smp_multi.proofs.table.StopTable.enter.Goals.{in-Some, in-None}
 use Rattle.smp_multi.proofs.table.StopTable.enter.Goals as goal
@@ -16,11 +16,18 @@ use Rattle.smp_multi.proofs.table.StopTable.enter.Goals as goal
 there : (g : given.Over) (c : goal.Joined-enter g) → has_slot c.self.inside.nr c.args.slot ≡ true
 there g c = sym c.has_slot.ensures ∙ c.if-not-has_slot.false
 
+free : (g : given.Over) (c : goal.Joined-enter g) → (c.me.inside.visit ≡ None) × (c.me.inside.seat.known.seat ≡ Free)
+free g c = is_free c.me.inside.visit c.me.inside.seat.known.seat c.me.invariant.rests
+    (ap (λ (m : CpuValue). is_in m.inside) c.me.view_is ∙ (sym c.in_stop.ensures ∙ c.if-in_stop.false))
+
+idle : (g : given.Over) (c : goal.Joined-enter g) → c.me.inside.seat.known.part.calling ≡ Idle
+idle g c = idle_outside c.me.inside.visit c.me.inside.seat.known.part.calling (free g c).0 c.me.invariant.quiet
+
 pub invariant_of-me : goal.invariant_of-me
 invariant_of-me g c = elim c.match-enter.branch [
   | in-Some w ↦ let k = w.in-Some.ensures.known in
       subst (λ (m : Inside). IsKept m.seat.known m.number m.visit m.holds m.is_open) (sym w.me-inside-is)
-      (kept_entered _ _ c.me.inside.number c.me.inside.visit c.me.inside.holds c.me.inside.is_open w.in-Some.visit c.args.slot k.0 c.me.invariant k.1 k.3
+      (kept_entered _ _ c.me.inside.number c.me.inside.visit c.me.inside.holds c.me.inside.is_open w.in-Some.visit c.args.slot k.0 c.me.invariant (idle g c) k.1 k.3
       (low_slot c.self.inside.nr c.args.slot (there g c)) c.enter.ensures.lives)
   | in-None w ↦ subst (λ (m : Inside). IsKept m.seat.known m.number m.visit m.holds m.is_open) (sym w.me-inside-is)
       (kept_same _ _ c.me.inside.number c.me.inside.visit c.me.inside.holds c.me.inside.is_open c.me.invariant w.in-None.ensures.known)
@@ -30,17 +37,16 @@ pub returns-clause-ok : goal.returns-clause-ok
 returns-clause-ok g c = elim c.match-enter.branch [
   | in-Some w ↦ let k = w.in-Some.ensures.known in
       let d = c.me.inside.seat in
-      let free = is_free c.me.inside.visit d.known.seat c.me.invariant.rests
-      (ap (λ (m : CpuValue). is_in m.inside) c.me.view_is ∙ (sym c.in_stop.ensures ∙ c.if-in_stop.false)) in
       let table = c.enter.ensures.table
       ∙ sym (ap (λ (m : CpuValue). m.table) c.me.view_is ∙ (c.requires.table ∙ sym (ap (λ (t : TableValue). t.table) c.self.view_is))) in
       subst (λ (r : Result Kind SmpError). IfOk r (λ kind. Enters c.args.self.now c.args.slot c.args.me.now (cpu.the_view c.match-enter.me-inside) kind))
       (sym w.result-is)
       (subst (λ (m : Inside). Enters c.args.self.now c.args.slot c.args.me.now (cpu.the_view m) w.in-Some.visit.kind) (sym w.me-inside-is)
-      (subst (λ (m : CpuValue). Enters c.args.self.now c.args.slot m (cpu_of c.enter.new.seat) w.in-Some.visit.kind) c.me.view_is
-      (subst (λ (t : TableValue). Enters t c.args.slot (cpu_of d) (cpu_of c.enter.new.seat) w.in-Some.visit.kind) c.self.view_is
+      (subst (λ (m : CpuValue). Enters c.args.self.now c.args.slot m (cpu_of w.in-Some.visit.answer c.enter.new.seat) w.in-Some.visit.kind) c.me.view_is
+      (subst (λ (t : TableValue). Enters t c.args.slot (cpu_of (answer_of c.me.inside.visit) d) (cpu_of w.in-Some.visit.answer c.enter.new.seat) w.in-Some.visit.kind) c.self.view_is
       (enters_answer (record { table = c.self.inside.owner.shared.table_id; nr = c.self.inside.nr; setting = c.self.inside.setting })
-      d c.enter.new.seat c.args.slot k.0 w.in-Some.visit free.1 (there g c) table k.1 k.2 k.3))))
+      (answer_of c.me.inside.visit) w.in-Some.visit.answer d c.enter.new.seat c.args.slot k.0 w.in-Some.visit (free g c).1 (idle g c) (there g c) table
+      k.1 k.2 k.3))))
   | in-None w ↦
       subst (λ (r : Result Kind SmpError). IfOk r (λ kind. Enters c.args.self.now c.args.slot c.args.me.now (cpu.the_view c.match-enter.me-inside) kind))
       (sym w.result-is) tt

@@ -1,0 +1,120 @@
+-- A CPU that completes a stop of several CPUs: where it is, and what that leaves of its value.
+use Rattle.std.proofs.Common.{◌≡◌, ◌≢◌, ℕ, Ok, ◌&&◌, ◌||◌, Bool, true, false, cond, Option, Some, ◌∷◌, [], ◌++◌, slice_index_or, slice_set, inl, sym, subst, refl, ap, ◌∙◌, arith}
+use Rattle.atomic_table.specs.Seated.{TableId}
+use Rattle.smp_mask.specs.Mask.{has}
+use Rattle.smp_stop_steps.specs.Callings.{IsCalling, answer_in, with_answer}
+use Rattle.smp_stop_steps.specs.Carries.{IsQuiet}
+use Rattle.smp_stop_steps.specs.Known.{Lives, told_calling}
+use Rattle.smp_stop_steps.specs.KnownAfter.{completed_with, has_called, is_drafting}
+use Rattle.smp_stop_steps.specs.Sits.{OwnsIf}
+use Rattle.smp_stop_steps.specs.Tells.{calls_at_run, is_multi, is_one}
+use Rattle.smp_stop_steps.specs.declared.phase.TheConstants.{EXIT}
+use Rattle.smp_stop_steps.specs.declared.stage.Visit.{Visit}
+use Rattle.smp_multi.specs.Names.{Work, Kind, One, Multi, Patch, Seat, In, Rests, Source, Known, Part, StopCall, Calling, Idle, Calls, Carries}
+use Rattle.smp_multi.specs.Advance.{HasLeft, FinishAnswers}
+use Rattle.smp_multi.specs.Cells.{cells}
+use Rattle.smp_multi.specs.Completes.{AtEnd}
+use Rattle.smp_multi.specs.Cpu.{IsKept, answers, call_with, calls_with, cpu_of, inside_of, part_with}
+use Rattle.smp_multi.specs.Places.{work_in}
+use Rattle.smp_multi.specs.Seat.{SeatValue}
+
+-- who is quiet completes with the answer of its visit, and carries one where that is not 0
+quiet_answer : (v : Visit) (f : Calling) → IsQuiet (Some v) (with_answer v.answer f) → answer_in (with_answer v.answer f) ≡ v.answer
+quiet_answer v Idle q = sym q
+quiet_answer v (Calls call) q = absurd q
+quiet_answer v (Carries answer) q = refl
+
+quiet_carries : (v : Visit) (f : Calling) → IsQuiet (Some v) (with_answer v.answer f) → v.answer ≢ 0 → f ≢ Idle
+quiet_carries v Idle q some e = some q
+quiet_carries v (Calls call) q some e = q
+quiet_carries v (Carries answer) q some e = absurd (let bad : Carries answer ≡ Idle = e in cc)
+
+is_several : (k : Kind) → k ≢ One → is_one k ≡ false
+is_several One ne = absurd (ne refl)
+is_several Multi ne = refl
+is_several Patch ne = refl
+
+owned_idle : (b : Bool) (y : Source) → OwnsIf b y → is_drafting y ≡ false
+owned_idle true y o = ap is_drafting o.1
+owned_idle false y o = ap is_drafting o
+
+module _ (t : TableId) (d : SeatValue) (number : ℕ) (v : Visit) (holds is_open : Bool) (k : IsKept d.known number (Some v) holds is_open)
+    (several : v.kind ≢ One) (left : v.acked ≡ EXIT) where
+  abbrev w : Work
+  w = k.rests.0
+
+  abbrev me : ℕ
+  me = d.known.number
+
+  is : d.known.seat ≡ In v.slot k.rests.0 EXIT EXIT Rests
+  is = k.rests.2 ∙ (λ i. In v.slot k.rests.0 (left i) (left i) Rests)
+
+  kind : k.rests.0.kind ≢ One
+  kind one = several (k.rests.1.kind ∙ one)
+
+  pub at_end : d.table ≡ t → t.words ≡ cells → AtEnd t d v.slot EXIT
+  at_end table sized = record {
+    table_is = table;
+    sized = sized;
+    low = k.low;
+    idle = owned_idle is_open d.known.source k.owns;
+    seat_is = is ∙ sym (ap (λ (x : Seat). In v.slot (work_in x) EXIT EXIT Rests) is);
+    through = inl refl;
+  }
+
+  pub end_several : (work_in d.known.seat).kind ≢ One
+  end_several one = kind (sym (ap (λ (x : Seat). (work_in x).kind) is) ∙ one)
+
+  pub end_carries : v.answer ≢ 0 → d.known.part.calling ≢ Idle
+  end_carries = quiet_carries v d.known.part.calling k.quiet
+
+  -- who carries no answer is not active
+  inactive : d.known.part.calling ≡ Idle → has w.active me ≡ false
+  inactive idle = go (k.lives.stops.calling me) here (k.lives.sees.part_is.calling ∙ idle)
+    where
+      here : IsCalling me (In v.slot w EXIT EXIT Rests) (k.lives.stops.calling me)
+      here = subst (λ y. IsCalling me y (k.lives.stops.calling me)) (k.lives.sees.seat_is ∙ is) (k.lives.shown.callings me)
+
+      go : (f : Calling) → IsCalling me (In v.slot w EXIT EXIT Rests) f → told_calling f ≡ Idle → has w.active me ≡ false
+      go Idle h e = h (omega arith)
+      go (Calls call) h e = cc
+      go (Carries answer) h e = cc
+
+  -- an active CPU of a Multi stop has called its function, and no other has
+  has_run : (f : Calling) → f ≡ d.known.part.calling → calls_with v.answer me (work_in d.known.seat) d.known.part.calls f
+      ≡ cond (has_called me w) (d.known.part.calls ++ call_with w v.answer ∷ []) d.known.part.calls
+  has_run Idle e = sym (ap (λ b. cond b (d.known.part.calls ++ call_with w v.answer ∷ []) d.known.part.calls)
+      (ap (λ b. b || calls_at_run me w) (is_several w.kind kind) ∙ ap (λ b. b && is_multi w.kind) (inactive (sym e))))
+  has_run (Calls call) e = absurd (let P : Calling → Type 0 = λ f. IsQuiet (Some v) (with_answer v.answer f) in subst P (sym e) k.quiet)
+  has_run (Carries answer) e =
+      ap (λ (z : Work). cond (calls_at_run me z) (d.known.part.calls ++ call_with z v.answer ∷ []) d.known.part.calls) (ap work_in is) ∙
+      sym (ap (λ b. cond (b || calls_at_run me w) (d.known.part.calls ++ call_with w v.answer ∷ []) d.known.part.calls) (is_several w.kind kind))
+
+  -- its value once it has completed
+  finished_view : (e : SeatValue) → e.table ≡ d.table → e.known ≡ completed_with 0 v.slot (work_in d.known.seat) v.answer d.known →
+      cpu_of 0 e ≡ answers v.slot (answer_in (with_answer v.answer d.known.part.calling)) (cpu_of v.answer d)
+  finished_view e table same =
+      let known : e.known ≡ completed_with 0 v.slot w v.answer d.known
+      = same ∙ ap (λ (z : Work). completed_with 0 v.slot z v.answer d.known) (ap work_in is) in
+      let answer = quiet_answer v d.known.part.calling k.quiet in
+      let calls = has_run d.known.part.calling refl in
+      (λ i. cpu_of 0 (record { table = table i; known = known i })) ∙
+      (λ i. record (answers v.slot (sym answer i) (cpu_of v.answer d)) {
+        part = record (d.known.part) {
+          calling = Idle;
+          answers = slice_set d.known.part.answers v.slot (slice_index_or d.known.part.answers v.slot [] ++ sym answer i ∷ []);
+          calls = sym calls i;
+        };
+      })
+
+  pub finish_answers : (e : SeatValue) → e.table ≡ d.table → e.known ≡ completed_with 0 v.slot (work_in d.known.seat) v.answer d.known → (u : Unit) →
+      FinishAnswers (cpu_of v.answer d) (cpu_of 0 e) (Ok u)
+  finish_answers e table same u = (
+    record {
+      stop = record { slot = v.slot; work = w; acked = v.acked };
+      is = ap inside_of k.rests.2;
+      several = kind;
+      left = left;
+    },
+    finished_view e table same,
+  )

@@ -1,0 +1,433 @@
+-- The patch of a stop: what its CPU may do, what it finds, and where it is after each step.
+use Rattle.std.proofs.Common.{◌≡◌, ℕ, zero, suc, ◌+◌, ◌<◌, ◌≤◌, ◌==◌, ◌&&◌, ◌||◌, Bool, true, false, cond, Option, Some, None, List, [], ◌∷◌, ◌++◌, length, map}
+use Rattle.std.proofs.Common.{get_or, slice_index, take, drop, inl, inr, sym, subst, refl, ap, ◌∙◌, arith, eqb-true, append_assoc, drop-cons}
+use Rattle.std.proofs.Math.Seq.{drop-nil}
+use Rattle.std.proofs.lemmas.Bool.{cases_lt}
+use Rattle.std.proofs.lemmas.List.{append-nil, drop_all, get_or_past, take-append-drop, take_all, take_more}
+use Rattle.std.specs.List.{AllByRecursion}
+use Rattle.atomic_table.specs.Seated.{TableId}
+use Rattle.smp_labels.specs.Entries.{entry_word, entry_at, IsEntryWord}
+use Rattle.smp_labels.specs.Keys.{is_on, count_or, count_after, change_of}
+use Rattle.smp_labels.specs.Kinds.{kind_of, kind_word, xor}
+use Rattle.smp_labels.specs.Law.{Table}
+use Rattle.smp_labels.specs.Plans.{applied, patch_of, plan_of, site_change, site_changes}
+use Rattle.smp_labels.specs.declared.entries.Entry.{Entry as SiteEntry}
+use Rattle.smp_labels.specs.declared.patch.Place.{Place}
+use Rattle.smp_labels.specs.declared.patch.Place.TheVariants as place
+use Rattle.smp_labels.specs.declared.words.TheConstants.{MOST_KEYS, MOST_SITES}
+use Rattle.smp_labels.proofs.Patched.{plan_key_first}
+use Rattle.smp_labels.proofs.Stores.{entries_kept}
+use Rattle.smp_mask.specs.Mask.{has}
+use Rattle.smp_words.specs.Size.{cpus}
+use Rattle.smp_stop_steps.specs.Known.{Sees, Lives, Moment, setup_in}
+use Rattle.smp_stop_steps.specs.KnownAfter.{acked_by, called_by, counted, is_drafting, key_loaded_by, known_told, raised_by, reads_more}
+use Rattle.smp_stop_steps.specs.Labels.{Change, LabelsShow, Patching, Patches, Whole, answer_for, count_set}
+use Rattle.smp_stop_steps.specs.Moves.{Alter, AcknowledgePatch, BeginPatch, LoadEntry}
+use Rattle.smp_stop_steps.specs.Seats.{Stands}
+use Rattle.smp_stop_steps.specs.Shows.{StopShows}
+use Rattle.smp_stop_steps.specs.Sits.{IsLoaded}
+use Rattle.smp_stop_steps.specs.Stages.{label_word, store_of, visit_acked}
+use Rattle.smp_stop_steps.specs.State.{StopState}
+use Rattle.smp_stop_steps.specs.Stop.{Inside}
+use Rattle.smp_stop_steps.specs.Tells.{is_multi, is_one, is_patch, plan_at}
+use Rattle.smp_stop_steps.specs.declared.phase.TheConstants.{DISABLE_IRQ, RUN}
+use Rattle.smp_stop_steps.specs.declared.stage.Visit.{Visit}
+use Rattle.smp_stop_steps.proofs.Promises.Functions.{runs_alone}
+use Rattle.smp_stop_steps.proofs.State.Phases.{is_open_inside}
+use Rattle.smp_multi.specs.Names.{Word, Work, Kind, Patch, Slot, Key, Entry, Site, Field, Load, Store, Sub, Seat, In, Alters, Duty, Rests, Fills, Source, Known}
+use Rattle.smp_multi.specs.Names.{Moved, Calls, Carries, ReadKey}
+use Rattle.smp_multi.specs.Names.act
+use Rattle.smp_multi.specs.Names.field
+use Rattle.smp_multi.specs.Cells.{cells, HasCell}
+use Rattle.smp_multi.specs.Patches.{AtPatch, begins_with, count_in, entries_in, made_in, moved_with, rest_in, stored_all, stored_to}
+use Rattle.smp_multi.specs.Places.{work_in}
+use Rattle.smp_multi.specs.Rounds.{AloneWhile, AtRun, AtTurn}
+use Rattle.smp_multi.specs.Seat.{SeatValue, Ready}
+use Rattle.smp_multi.specs.Turns.{patched_by, patched_with}
+use Rattle.smp_multi.proofs.Cells.{slot_cell, key_cell, entry_cell, site_cell}
+
+-- what a CPU in a patch stop finds at a moment
+
+-- the key of the patch is one of the table
+pub patch_key : (v : Known) (s : ℕ) (w : Work) (a l : ℕ) (t : Duty) (f : Field) (n : ℕ) → v.seat ≡ In s w a l t → w.kind ≡ Patch → Moment v (Slot s f) n
+    → w.func < MOST_KEYS
+patch_key v s w a l t f n is kind m =
+    let st : Stands m.stops.now v.number (In s w a l t) = subst (Stands m.stops.now v.number) (m.sees.seat_is ∙ is) (m.shown.present.stands v.number) in
+    let opened = is_open_inside cpus (m.stops.now.stop s) (λ g. m.at (Slot s g)) (m.shown.present.slots s) v.number (Inside a l) st.1 refl in
+    let patch = m.shown.present.works s opened (ap (λ (x : Work). x.kind) st.3 ∙ kind) in
+    let key : (m.stops.now.stop s).work.func < (setup_in v.setting).keys = patch.key in
+    let same : (m.stops.now.stop s).work.func ≡ w.func = ap (λ (x : Work). x.func) st.3 in
+    let few = m.shown.setup.few_keys in omega arith
+
+-- an entry word has its form, whoever patches
+entry_form : (x : Patching) (t : Table) → LabelsShow x t → (i : ℕ) → i < MOST_SITES → IsEntryWord (t.entry i)
+entry_form Whole t h i low = h.entries i low
+entry_form (Patches c w count made rest) t h i low = subst IsEntryWord (sym (ap (λ (x : Table). x.entry i) h.2 ∙ entries_kept made h.0 i)) (h.1.entries i low)
+
+pub entry_found : (v : Known) (i n : ℕ) → i < MOST_SITES → Moment v (Entry i) n → IsEntryWord n
+entry_found v i n low m = subst IsEntryWord (sym m.number_is) (entry_form m.stops.now.patching _ m.shown.present.labels i low)
+
+-- there are no more entries than sites
+pub few_entries : (v : Known) → Lives v → length (entries_in v) ≤ MOST_SITES
+few_entries v l = l.shown.present.entries.few
+
+-- the loads of a patch
+module _ (t : TableId) (d : SeatValue) (v : Visit) (a : AtRun t d v Patch) where
+  abbrev work : Work
+  work = work_in d.known.seat
+
+  pub is_at_run : d.known.seat ≡ In v.slot work DISABLE_IRQ RUN Rests
+  is_at_run = a.at.seat_is ∙ ap (λ n. In v.slot work n RUN Rests) a.disabled
+
+  pub is_patch_work : work.kind ≡ Patch
+  is_patch_work = sym a.at.loaded.kind ∙ a.kind_is
+
+  pub ready_begin : (k : ℕ) → k ≡ work.func → k < MOST_KEYS → Ready t d (Load (Key k))
+  ready_begin k is low = record {
+    able = record {
+      table_is = a.at.table_is;
+      sized = a.at.sized;
+      can = record {
+        move = BeginPatch v.slot work;
+        may = (is_at_run, is_patch_work, ap (λ m. has m d.known.number) (sym a.at.loaded.active) ∙ a.active);
+        is_access = ap (λ n. Load (Key n)) (sym is);
+      };
+      cell = key_cell k low;
+    };
+    apart = tt;
+  }
+
+  abbrev called_with : ℕ → Known
+  called_with n = record (d.known) { part = record (d.known.part) { calling = Calls (record { func = work.func; arg = n; answer = 0 }) } }
+
+  -- the argument is that of a patch: it calls no function with it
+  pub change_known : (x : ℕ) → called_by x d.known.seat d.known ≡ d.known
+  change_known x =
+      ap (λ (y : Seat). called_by x y d.known) is_at_run
+      ∙ (ap (λ (k : Kind). cond (is_one k || (has work.active d.known.number && is_multi k)) (called_with x) d.known) is_patch_work
+      ∙ none (has work.active d.known.number))
+    where
+      none : (b : Bool) → cond (b && false) (called_with x) d.known ≡ d.known
+      none true = refl
+      none false = refl
+
+  -- with the key loaded it is in its patch
+  pub begin_known : (k found : ℕ) → key_loaded_by k found d.known.seat d.known ≡ begins_with found d.known.seat d.known
+  begin_known k found =
+      let next = record (d.known) { seat = Alters v.slot work found [] (plan_at (setup_in d.known.setting) work found) } in
+      ap (λ (y : Seat). key_loaded_by k found y d.known) is_at_run
+      ∙ (ap (λ (x : Kind). cond (is_patch x) next (reads_more (ReadKey k (is_on found)) d.known)) is_patch_work
+      ∙ sym (ap (λ (y : Seat). begins_with found y d.known) is_at_run))
+
+  pub at_patch : (e : SeatValue) (found : ℕ) → e.table ≡ t → e.known ≡ begins_with found d.known.seat d.known → work.func < MOST_KEYS → AtPatch t e v
+  at_patch e found table same low =
+      let plan = plan_at (setup_in d.known.setting) work found in
+      let next = Alters v.slot work found [] plan in
+      let is : e.known ≡ record (d.known) { seat = next } = same ∙ ap (λ (y : Seat). begins_with found y d.known) is_at_run in
+      subst (λ (k : Known). AtPatch t (record { table = e.table; known = k }) v) (sym is) record {
+        table_is = table;
+        sized = a.at.sized;
+        low = a.at.low;
+        idle = a.at.idle;
+        loaded = a.at.loaded;
+        disabled = a.disabled;
+        key_low = low;
+        seat_is = refl;
+        plan_is = refl;
+      }
+
+-- inside a patch every CPU of the mask has its interrupts off
+pub patch_alone : (t : TableId) (d : SeatValue) (v : Visit) → AtPatch t d v → AloneWhile d.known v.slot
+patch_alone t d v a p at seat source h sees =
+    let w = work_in d.known.seat in
+    let x = Alters v.slot w (count_in d.known.seat) (made_in d.known.seat) (rest_in d.known.seat) in
+    let st : Stands p.now d.known.number x = subst (Stands p.now d.known.number) (sees.seat_is ∙ a.seat_is) (h.present.stands d.known.number) in
+    runs_alone (setup_in d.known.setting) p at seat source h v.slot d.known.number st.1
+
+pub ready_entry : (t : TableId) (d : SeatValue) (i : ℕ) → d.table ≡ t → t.words ≡ cells → i < MOST_SITES → Ready t d (Load (Entry i))
+ready_entry t d i table sized low = record {
+  able = record { table_is = table; sized = sized; can = record { move = LoadEntry i; may = tt; is_access = refl }; cell = entry_cell i low };
+  apart = tt;
+}
+
+-- the plan, entry by entry
+
+-- one entry more
+site_next : (key : ℕ) (on : Bool) (i : ℕ) (es : List ℕ) → site_changes key on i (drop i es)
+    ≡ site_change key on i (entry_at (slice_index es i)) ++ site_changes key on (i + 1) (drop (i + 1) es)
+site_next key on i es = elim (cases_lt i (length es)) [
+  | inl low ↦ ap (site_changes key on i) (drop-cons es i 0 low)
+      ∙ ap (λ n. site_change key on i (entry_at (slice_index es i)) ++ site_changes key on (i + 1) (drop n es)) (let e : suc i ≡ i + 1 = omega arith in e)
+  | inr past ↦ ap (site_changes key on i) (drop_all i es past)
+      ∙ sym (ap (λ n. site_change key on i (entry_at n) ++ site_changes key on (i + 1) (drop (i + 1) es)) (get_or_past es i 0 past)
+      ∙ ap (site_changes key on (i + 1)) (drop_all (i + 1) es (omega arith)))
+]
+
+-- the plan so far, and what is left of it
+abbrev pub PlanLeft : ℕ → Bool → ℕ → List ℕ → List Change → List Change → Type 0
+PlanLeft key on i es whole plan = plan ++ site_changes key on i (drop i es) ≡ whole
+
+pub left_more : (key : ℕ) (on : Bool) (i : ℕ) (es : List ℕ) (plan whole : List Change) (e : SiteEntry) → entry_at (slice_index es i) ≡ Some e
+    → plan ++ site_changes key on i (drop i es) ≡ whole → (b : Bool) → (e.key == key) ≡ b
+    → cond b (plan ++ (place.Site i, kind_word (kind_of on e.branch)) ∷ []) plan ++ site_changes key on (i + 1) (drop (i + 1) es) ≡ whole
+left_more key on i es plan whole e is left b test =
+    let rest = site_changes key on (i + 1) (drop (i + 1) es) in
+    let one = (place.Site i, kind_word (kind_of on e.branch)) ∷ [] in
+    let here : site_changes key on i (drop i es) ≡ cond b one [] ++ rest =
+    site_next key on i es ∙ (ap (λ o. site_change key on i o ++ rest) is ∙ ap (λ c. cond c one [] ++ rest) test) in
+    joined b plan one rest ∙ (ap (λ l. plan ++ l) (sym here) ∙ left)
+  where
+    joined : (b : Bool) (plan one rest : List Change) → cond b (plan ++ one) plan ++ rest ≡ plan ++ (cond b one [] ++ rest)
+    joined true plan one rest = append_assoc plan one rest
+    joined false plan one rest = refl
+
+-- nothing is left behind the last entry
+pub entries_end : (es : List SiteEntry) (i : ℕ) → slice_index (map entry_word es) i ≡ 0 → drop i (map entry_word es) ≡ []
+entries_end [] i e = drop-nil i
+entries_end (x ∷ es) zero e = absurd (omega (arith, e))
+entries_end (x ∷ es) (suc i) e = entries_end es i e
+
+pub left_none : (key : ℕ) (on : Bool) (i : ℕ) (es : List ℕ) (plan whole : List Change) → drop i es ≡ []
+    → plan ++ site_changes key on i (drop i es) ≡ whole → plan ≡ whole
+left_none key on i es plan whole none left = sym (append-nil plan) ∙ (sym (ap (λ l. plan ++ site_changes key on i l) none) ∙ left)
+
+-- the stores
+
+-- the sites of a plan are below the number of sites
+abbrev IsLow : Place → Type 0
+IsLow (place.Key k) = Unit {0}
+IsLow (place.Site i) = i < MOST_SITES
+
+abbrev AreLow : List Change → Type 0
+AreLow xs = AllByRecursion (λ change. IsLow change.0) xs
+
+sites_low : (key : ℕ) (on : Bool) (i : ℕ) (es : List ℕ) → i + length es ≤ MOST_SITES → AreLow (site_changes key on i es)
+sites_low key on i [] fits = tt
+sites_low key on i (x ∷ es) fits = joined (entry_at x) (site_changes key on (i + 1) es) (sites_low key on (i + 1) es (omega arith))
+  where
+    joined : (o : Option SiteEntry) (xs : List Change) → AreLow xs → AreLow (site_change key on i o ++ xs)
+    joined None xs all = all
+    joined (Some e) xs all = elim (e.key == key) as (λ b. AreLow (cond b ((place.Site i, kind_word (kind_of on e.branch)) ∷ []) [] ++ xs)) [
+      | true ↦ ((let z : i < MOST_SITES = omega arith in z), all)
+      | false ↦ all
+    ]
+
+in_middle : (before : List Change) (change : Change) (rest : List Change) → AreLow (before ++ change ∷ rest) → IsLow change.0
+in_middle [] change rest all = all.0
+in_middle (x ∷ before) change rest all = in_middle before change rest all.1
+
+plan_low : (key old new : ℕ) (es : List ℕ) → length es ≤ MOST_SITES → AreLow (plan_of key old new es)
+plan_low key old new es few = go (old == new) (xor (is_on old) (is_on new))
+  where
+    go : (a b : Bool) → AreLow (cond a [] (cond b (patch_of key new es) ((place.Key key, new) ∷ [])))
+    go true b = tt
+    go false true = (tt, sites_low key (is_on new) 0 es (omega arith))
+    go false false = (tt, tt)
+
+-- the first store of a plan is that of a key
+site_first : (key old new : ℕ) (es : List ℕ) (i n : ℕ) (rest : List Change) → plan_of key old new es ≡ (place.Site i, n) ∷ rest → ⊥
+site_first key old new es i n rest e = go (old == new) (xor (is_on old) (is_on new)) e
+  where
+    other : (word : ℕ) (xs ys : List Change) → (place.Key key, word) ∷ xs ≡ (place.Site i, n) ∷ ys → ⊥
+    other word xs ys e = let pair : ◌≡◌ {A = Change} (place.Key key, word) (place.Site i, n) = cc in
+        let places : ◌≡◌ {A = Place} (place.Key key) (place.Site i) = ap (λ (x : Change). x.0) pair in cc
+
+    go : (a b : Bool) → cond a [] (cond b (patch_of key new es) ((place.Key key, new) ∷ [])) ≡ (place.Site i, n) ∷ rest → ⊥
+    go true b e = cc
+    go false true e = other new (site_changes key (is_on new) 0 es) rest e
+    go false false e = other new [] rest e
+
+-- a plan that leaves a count as it is has no stores
+moved_all : (w : Work) (count : ℕ) (es : List ℕ) (l : List Moved) → moved_with w count (plan_of w.func count (count_set w count) es) l ≡ patched_with w count l
+moved_all w count es l = go (count == count_set w count) (xor (is_on count) (is_on (count_set w count)))
+  where
+    go : (a b : Bool) → moved_with w count (cond a [] (cond b (patch_of w.func (count_set w count) es) ((place.Key w.func, count_set w count) ∷ []))) l
+        ≡ cond a l (counted l w.func count (count_set w count))
+    go true b = refl
+    go false true = refl
+    go false false = refl
+
+-- a CPU that has found this count makes the stores of its plan
+module _ (t : TableId) (d : SeatValue) (v : Visit) (a : AtPatch t d v) (fresh : made_in d.known.seat ≡ []) where
+  abbrev job : Work
+  job = work_in d.known.seat
+
+  abbrev count : ℕ
+  count = count_in d.known.seat
+
+  abbrev plan : List Change
+  plan = rest_in d.known.seat
+
+  abbrev entries : List ℕ
+  entries = entries_in d.known
+
+  plan_is : plan_of job.func count (count_set job count) entries ≡ plan
+  plan_is = a.plan_is ∙ ap (λ l. l ++ plan) fresh
+
+  seat_is : d.known.seat ≡ Alters v.slot job count [] plan
+  seat_is = a.seat_is ∙ ap (λ l. Alters v.slot job count l plan) fresh
+
+  -- with these stores made
+  abbrev with_made : List Change → List Change → List Moved → Known
+  with_made made rest l = record (d.known) { seat = Alters v.slot job count made rest; part = record (d.known.part) { patched = l } }
+
+  stored_is : (i : ℕ) → stored_to i d.known.seat d.known ≡ with_made (take i plan) (drop i plan) (moved_with job count (take i plan) d.known.part.patched)
+  stored_is i = ap (λ (y : Seat). stored_to i y d.known) seat_is
+
+  -- one store more
+  step_known : (made rest : List Change) (x : Place) (n : ℕ) → plan ≡ made ++ (x, n) ∷ rest →
+      known_told (with_made made ((x, n) ∷ rest) (moved_with job count made d.known.part.patched)) act.Store (label_word x) None (Some n)
+      ≡ with_made (made ++ (x, n) ∷ []) rest (moved_with job count (made ++ (x, n) ∷ []) d.known.part.patched)
+  step_known made rest (place.Key k) n is =
+      let first = plan_key_first job.func count (count_set job count) entries made k n rest (plan_is ∙ is) in
+      let old = d.known.part.patched in
+      ap (with_made (made ++ (place.Key k, n) ∷ []) rest)
+      (ap (λ m. counted (moved_with job count m old) k count n) first.0
+      ∙ (ap (λ j. counted old j count n) first.1 ∙ (ap (λ m. counted old job.func count m) first.2
+      ∙ sym (ap (λ m. moved_with job count (m ++ (place.Key k, n) ∷ []) old) first.0))))
+  step_known [] rest (place.Site i) n is = absurd (site_first job.func count (count_set job count) entries i n rest (plan_is ∙ is))
+  step_known (y ∷ made) rest (place.Site i) n is = refl
+
+  split : (i : ℕ) (change : Change) → i < length plan → change ≡ get_or plan i (place.Key 0, 0) → drop i plan ≡ change ∷ drop (i + 1) plan
+  split i change low is = drop-cons plan i (place.Key 0, 0) low
+      ∙ ((λ j. sym is j ∷ drop (suc i) plan) ∙ ap (λ n. change ∷ drop n plan) (let e : suc i ≡ i + 1 = omega arith in e))
+
+  whole : (i : ℕ) (change : Change) → i < length plan → change ≡ get_or plan i (place.Key 0, 0) → plan ≡ take i plan ++ change ∷ drop (i + 1) plan
+  whole i change low is = sym (take-append-drop i plan) ∙ ap (λ l. take i plan ++ l) (split i change low is)
+
+  at_store : (e : SeatValue) (i : ℕ) (change : Change) → e.known ≡ stored_to i d.known.seat d.known → i < length plan → change ≡ get_or plan i (place.Key 0, 0)
+      → e.known ≡ with_made (take i plan) (change ∷ drop (i + 1) plan) (moved_with job count (take i plan) d.known.part.patched)
+  at_store e i change same low is = same ∙ (stored_is i
+      ∙ ap (λ l. with_made (take i plan) l (moved_with job count (take i plan) d.known.part.patched)) (split i change low is))
+
+  pub ready_store : (e : SeatValue) (i : ℕ) (change : Change) → e.table ≡ t → Lives e.known → e.known ≡ stored_to i d.known.seat d.known → i < length plan
+      → change ≡ get_or plan i (place.Key 0, 0) → Ready t e (Store (label_word change.0) change.1)
+  ready_store e i change table lives same low is = subst (λ (k : Known). Ready t (record { table = e.table; known = k }) (store_of change))
+      (sym (at_store e i change same low is)) record {
+        able = record {
+          table_is = table;
+          sized = a.sized;
+          can = record {
+            move = Alter v.slot job count (take i plan) change (drop (i + 1) plan);
+            may = (refl, plan_is ∙ whole i change low is, a.key_low);
+            is_access = refl;
+          };
+          cell = has_cell change.0 change.1 refl;
+        };
+        apart = tt;
+      }
+    where
+      few : length entries ≤ MOST_SITES
+      few = subst (λ (k : Known). length (entries_in k) ≤ MOST_SITES) (same ∙ stored_is i) (few_entries e.known lives)
+
+      parts : (x : Place) (n : ℕ) → change ≡ (x, n) → plan_of job.func count (count_set job count) entries ≡ take i plan ++ (x, n) ∷ drop (i + 1) plan
+      parts x n c = plan_is ∙ (whole i change low is ∙ ap (λ y. take i plan ++ y ∷ drop (i + 1) plan) c)
+
+      has_cell : (x : Place) (n : ℕ) → change ≡ (x, n) → HasCell (label_word x)
+      has_cell (place.Key k) n c =
+          let first = plan_key_first job.func count (count_set job count) entries (take i plan) k n (drop (i + 1) plan) (parts (place.Key k) n c) in
+          key_cell k (subst (λ j. j < MOST_KEYS) (sym first.1) a.key_low)
+      has_cell (place.Site j) n c =
+          site_cell j (in_middle (take i plan) (place.Site j, n) (drop (i + 1) plan) (subst AreLow (parts (place.Site j) n c)
+          (plan_low job.func count (count_set job count) entries few)))
+
+  pub stored_more : (e f : SeatValue) (i : ℕ) (change : Change) → e.known ≡ stored_to i d.known.seat d.known → i < length plan
+      → change ≡ get_or plan i (place.Key 0, 0) → f.known ≡ known_told e.known act.Store (label_word change.0) None (Some change.1)
+      → f.known ≡ stored_to (i + 1) d.known.seat d.known
+  stored_more e f i change same low is next =
+      let made = take i plan ++ change ∷ [] in
+      let more : made ≡ take (i + 1) plan = sym (take_more plan i (place.Key 0, 0) low ∙ ap (λ y. take i plan ++ y ∷ []) (sym is)) in
+      next ∙ (ap (λ (k : Known). known_told k act.Store (label_word change.0) None (Some change.1)) (at_store e i change same low is)
+      ∙ (step_known (take i plan) (drop (i + 1) plan) change.0 change.1 (whole i change low is)
+      ∙ (ap (λ l. with_made l (drop (i + 1) plan) (moved_with job count l d.known.part.patched)) more ∙ sym (stored_is (i + 1)))))
+
+  -- all of them
+  pub stored_whole : (e : SeatValue) (i : ℕ) → i ≡ length plan → e.known ≡ stored_to i d.known.seat d.known → e.known ≡ stored_all d.known.seat d.known
+  stored_whole e i end same =
+      let all : take i plan ≡ plan = take_all i plan (omega arith) in
+      let none : drop i plan ≡ [] = drop_all i plan (omega arith) in
+      same ∙ (stored_is i
+      ∙ (ap (λ l. with_made l (drop i plan) (moved_with job count l d.known.part.patched)) all
+      ∙ (ap (λ l. with_made plan l (moved_with job count plan d.known.part.patched)) none
+      ∙ (ap (with_made plan []) (ap (λ l. moved_with job count l d.known.part.patched) (sym plan_is) ∙ moved_all job count entries d.known.part.patched)
+      ∙ sym (ap (λ (y : Seat). stored_all y d.known) seat_is)))))
+
+  pub at_whole : (e : SeatValue) → e.table ≡ t → e.known ≡ stored_all d.known.seat d.known → AtPatch t e v × (rest_in e.known.seat ≡ [])
+  at_whole e table same =
+      let is : e.known ≡ with_made plan [] (patched_with job count d.known.part.patched) = same ∙ ap (λ (y : Seat). stored_all y d.known) seat_is in
+      subst (λ (k : Known). AtPatch t (record { table = e.table; known = k }) v × (rest_in k.seat ≡ [])) (sym is) (
+        record {
+          table_is = table;
+          sized = a.sized;
+          low = a.low;
+          idle = a.idle;
+          loaded = a.loaded;
+          disabled = a.disabled;
+          key_low = a.key_low;
+          seat_is = refl;
+          plan_is = plan_is ∙ sym (append-nil plan);
+        },
+        refl,
+      )
+
+-- the acknowledgement
+
+pub ready_acknowledge_patch : (t : TableId) (d : SeatValue) (v : Visit) → AtPatch t d v → rest_in d.known.seat ≡ [] → Ready t d (Sub (Slot v.slot field.Ack))
+ready_acknowledge_patch t d v a none =
+    let w = work_in d.known.seat in
+    let count = count_in d.known.seat in
+    let made = made_in d.known.seat in
+    record {
+      able = record {
+        table_is = a.table_is;
+        sized = a.sized;
+        can = record { move = AcknowledgePatch v.slot w count made; may = a.seat_is ∙ ap (Alters v.slot w count made) none; is_access = refl };
+        cell = slot_cell v.slot field.Ack a.low;
+      };
+      apart = tt;
+    }
+
+-- where the CPU is once it has acknowledged RUN
+pub patch_acked : (t : TableId) (d e : SeatValue) (v x : Visit) (found : ℕ) → AtPatch t d v → e.table ≡ t → e.known ≡ acked_by found d.known.seat d.known
+    → (x.slot ≡ v.slot) × (x.kind ≡ v.kind) × (x.mask ≡ v.mask) × (x.active ≡ v.active) × (x.acked ≡ v.acked + 1)
+    → AtTurn t e x x.acked (cond (found == 1) Fills Rests)
+patch_acked t d e v x found a table same moved =
+    let w = work_in d.known.seat in
+    let duty = cond (found == 1) Fills Rests in
+    let run : RUN ≡ x.acked = (let two = a.disabled in let up = moved.4 in omega arith) in
+    let is : e.known ≡ acked_by found (Alters v.slot w (count_in d.known.seat) (made_in d.known.seat) (rest_in d.known.seat)) d.known =
+    same ∙ ap (λ y. acked_by found y d.known) a.seat_is in
+    let seat : e.known.seat ≡ In x.slot w x.acked x.acked duty = ap (λ (k : Known). k.seat) is ∙ (λ i. In (sym moved.0 i) w (run i) (run i) duty) in
+    let work : w ≡ work_in e.known.seat = sym (ap work_in seat) in
+    record {
+      table_is = table;
+      sized = a.sized;
+      low = subst (λ n. n < cpus) (sym moved.0) a.low;
+      idle = ap (λ (k : Known). is_drafting k.source) is ∙ a.idle;
+      loaded = subst (IsLoaded x) work record { kind = moved.1 ∙ a.loaded.kind; mask = moved.2 ∙ a.loaded.mask; active = moved.3 ∙ a.loaded.active };
+      seat_is = seat ∙ (λ i. In x.slot (work i) x.acked x.acked duty);
+    }
+
+-- all steps of a patch, from the load of its key on
+module _ (k : Known) (s : ℕ) (w : Work) (count : ℕ) (is : k.seat ≡ In s w DISABLE_IRQ RUN Rests) where
+  abbrev patched_at : Duty → Known
+  patched_at duty = record k { seat = In s w RUN RUN duty; part = record (k.part) { calling = Carries 0; patched = patched_with w count k.part.patched } }
+
+  abbrev duty_at : Bool → Duty
+  duty_at last = cond last Fills Rests
+
+  passed_same : (b : Bool) → cond b (raised_by 4 (patched_at (duty_at b)).seat (patched_at (duty_at b))) (patched_at (duty_at b)) ≡ patched_at Rests
+  passed_same true = refl
+  passed_same false = refl
+
+  pub patch_ends : (k1 k2 k3 k4 : Known) (found next : ℕ) → k1 ≡ begins_with count k.seat k → k2 ≡ stored_all k1.seat k1 → k3 ≡ acked_by found k2.seat k2
+      → k4 ≡ cond (found == 1) (raised_by next k3.seat k3) k3 → next ≡ 4 → k4 ≡ patched_by count k.seat k
+  patch_ends k1 k2 k3 k4 found next one two three four up =
+      let plan = plan_at (setup_in k.setting) w count in
+      let l = patched_with w count k.part.patched in
+      let acked = patched_at (duty_at (found == 1)) in
+      let a : k1 ≡ record k { seat = Alters s w count [] plan } = one ∙ ap (λ y. begins_with count y k) is in
+      let b : k2 ≡ record k { seat = Alters s w count plan []; part = record (k.part) { patched = l } } = two ∙ ap (λ (x : Known). stored_all x.seat x) a in
+      let c : k3 ≡ acked = three ∙ ap (λ (x : Known). acked_by found x.seat x) b in
+      four ∙ (ap (λ (x : Known). cond (found == 1) (raised_by next x.seat x) x) c
+      ∙ (ap (λ n. cond (found == 1) (raised_by n acked.seat acked) acked) up ∙ (passed_same (found == 1) ∙ sym (ap (λ y. patched_by count y k) is))))

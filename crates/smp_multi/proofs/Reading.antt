@@ -1,0 +1,70 @@
+-- The readings of keys and sites, by a CPU with its interrupts on.
+use Rattle.std.specs.List.{AllByRecursion}
+use Rattle.std.proofs.Common.{◌≡◌, ℕ, ◌<◌, Bool, true, Ok, length, sym, subst, refl, ap, ◌∙◌}
+use Rattle.atomic_table.specs.Seated.{TableId}
+use Rattle.smp_labels.specs.Keys.{IsKeyWord}
+use Rattle.smp_labels.specs.declared.kinds.SiteKind.{SiteKind}
+use Rattle.smp_labels.specs.declared.words.TheConstants.{MOST_KEYS, MOST_SITES}
+use Rattle.smp_mask.specs.Mask.{has}
+use Rattle.smp_stop_steps.specs.Known.{Lives, Moment, setup_in}
+use Rattle.smp_stop_steps.specs.KnownAfter.{reads_more}
+use Rattle.smp_stop_steps.specs.Labels.{Agrees, labels_in}
+use Rattle.smp_stop_steps.specs.Moves.{ReadKey as LoadKey, ReadSite as LoadSite}
+use Rattle.smp_stop_steps.specs.Seats.{irq_of}
+use Rattle.smp_stop_steps.proofs.State.Patched.{lawful_when_on}
+use Rattle.smp_multi.specs.Names.{Key, Site, Load, Known, Reading, ReadKey, ReadSite}
+use Rattle.smp_multi.specs.Cpu.{cpu_of}
+use Rattle.smp_multi.specs.Reads.{MayRead, ReadsOneTable, KeyAnswers, SiteAnswers, jumps, reads}
+use Rattle.smp_multi.specs.Seat.{SeatValue, Ready}
+use Rattle.smp_multi.proofs.Cells.{key_cell, site_cell}
+
+module _ (t : TableId) (d : SeatValue) (m : MayRead t d) where
+  pub ready_key : (k : ℕ) → k < MOST_KEYS → Ready t d (Load (Key k))
+  ready_key k low = record {
+    able = record { table_is = m.table_is; sized = m.sized; can = record { move = LoadKey k; may = m.irq; is_access = refl }; cell = key_cell k low };
+    apart = tt;
+  }
+
+  pub ready_site : (i : ℕ) → i < MOST_SITES → Ready t d (Load (Site i))
+  ready_site i low = record {
+    able = record { table_is = m.table_is; sized = m.sized; can = record { move = LoadSite i; may = m.irq; is_access = refl }; cell = site_cell i low };
+    apart = tt;
+  }
+
+-- the key of a CPU that may read has a count
+pub count_found : (v : Known) (k n : ℕ) → has v.setting.online v.number ≡ true → irq_of v.seat ≡ true → k < MOST_KEYS → Moment v (Key k) n → IsKeyWord n
+count_found v k n online on low m =
+    let irq = m.shown.present.irq v.number ∙ (ap irq_of m.sees.seat_is ∙ on) in
+    subst IsKeyWord (sym m.number_is) ((lawful_when_on (setup_in v.setting) m.stops.now m.at m.seat m.shown.present v.number online irq).keys k low)
+
+-- whoever has interrupts on has read what one lawful table says
+pub reads_table : (a : ℕ) (d : SeatValue) → Lives d.known → has d.known.setting.online d.known.number ≡ true → irq_of d.known.seat ≡ true → ReadsOneTable (cpu_of a d)
+reads_table a d l online on =
+    let me = d.known.number in
+    let irq = l.shown.present.irq me ∙ (ap irq_of l.sees.seat_is ∙ on) in
+    record {
+      labels = labels_in l.at;
+      lawful = lawful_when_on (setup_in d.known.setting) l.stops.now l.at l.seat l.shown.present me online irq;
+      entries = l.shown.present.entries;
+      agrees = subst (AllByRecursion (Agrees (labels_in l.at))) l.sees.part_is.readings (l.shown.present.read me online irq);
+    }
+
+-- a CPU that has read
+module _ (a : ℕ) (d e : SeatValue) (r : Reading) (table : e.table ≡ d.table) (same : e.known ≡ reads_more r d.known) (lives : Lives e.known)
+    (online : has d.known.setting.online d.known.number ≡ true) (on : irq_of d.known.seat ≡ true) where
+  pub read_view : cpu_of a e ≡ reads r (cpu_of a d)
+  read_view = λ i. cpu_of a (record { table = table i; known = same i })
+
+  pub read_table : ReadsOneTable (cpu_of a e)
+  read_table = reads_table a e lives (ap (λ (v : Known). has v.setting.online v.number) same ∙ online) (ap (λ (v : Known). irq_of v.seat) same ∙ on)
+
+pub key_answers : (a : ℕ) (d e : SeatValue) (k : ℕ) (b : Bool) → e.table ≡ d.table → e.known ≡ reads_more (ReadKey k b) d.known → Lives e.known
+    → has d.known.setting.online d.known.number ≡ true → irq_of d.known.seat ≡ true → k < d.known.setting.labels.keys → KeyAnswers k (cpu_of a d) (cpu_of a e) (Ok b)
+key_answers a d e k b table same lives online on low =
+    ((low, on), read_view a d e (ReadKey k b) table same lives online on, read_table a d e (ReadKey k b) table same lives online on)
+
+pub site_answers : (a : ℕ) (d e : SeatValue) (i : ℕ) (kind : SiteKind) → e.table ≡ d.table → e.known ≡ reads_more (ReadSite i (jumps kind)) d.known → Lives e.known
+    → has d.known.setting.online d.known.number ≡ true → irq_of d.known.seat ≡ true → i < length d.known.setting.labels.entries
+    → SiteAnswers i (cpu_of a d) (cpu_of a e) (Ok kind)
+site_answers a d e i kind table same lives online on low =
+    let r = ReadSite i (jumps kind) in ((low, on), read_view a d e r table same lives online on, read_table a d e r table same lives online on)

@@ -1,0 +1,297 @@
+-- A turn of a stop of several CPUs: what the CPU may do, what it finds, and where it is after each step.
+use Rattle.std.proofs.Common.{◌≡◌, ◌≢◌, ◌⊎◌, ℕ, ◌+◌, ◌<◌, ◌≤◌, ◌^◌, ◌==◌, ◌&&◌, ◌||◌, not, Bool, true, false, cond, List, sym, subst, refl, ap, ◌∙◌, arith}
+use Rattle.std.proofs.Common.{eq-eqb, ne_eqb}
+use Rattle.atomic_table.specs.Seated.{TableId}
+use Rattle.smp_mask.specs.Mask.{has}
+use Rattle.smp_words.proofs.Puts.{at_test}
+use Rattle.smp_words.specs.Size.{cpus}
+use Rattle.smp_stop_steps.specs.Callings.{HasCalled}
+use Rattle.smp_stop_steps.specs.Counts.{mask_weight}
+use Rattle.smp_stop_steps.specs.Known.{Sees, Moment, setup_in}
+use Rattle.smp_stop_steps.specs.KnownAfter.{acked_by, called_by, drafted_known, is_drafting, looked_known, looked_to, member_stored, raised_by, ran_since, read_since}
+use Rattle.smp_stop_steps.specs.KnownAfter.{refilled_by, slot_stored}
+use Rattle.smp_stop_steps.specs.Moves.{Look, Acknowledge, Refill, Raise, LoadArg, LoadField, IsPlain}
+use Rattle.smp_stop_steps.specs.Seats.{Stands}
+use Rattle.smp_stop_steps.specs.Shows.{StopShows}
+use Rattle.smp_stop_steps.specs.Sits.{IsLoaded}
+use Rattle.smp_stop_steps.specs.State.{StopState}
+use Rattle.smp_stop_steps.specs.declared.known.Reading.{Reading}
+use Rattle.smp_stop_steps.specs.Tells.{first_readings, may_call, is_one, is_multi}
+use Rattle.smp_stop_steps.specs.Stop.{Inside}
+use Rattle.smp_stop_steps.specs.declared.phase.TheConstants.{DISABLE_IRQ, RUN, EXIT, OVER}
+use Rattle.smp_stop_steps.specs.declared.stage.Visit.{Visit}
+use Rattle.smp_stop_steps.proofs.Steps.Facts.{inside_keeps, state_near}
+use Rattle.smp_stop_steps.proofs.Promises.Functions.{runs_alone}
+use Rattle.smp_multi.specs.Names.{Word, Work, Kind, Multi, Slot, Field, Load, Store, Sub, Seat, Free, In, Gives, Alters, Closes, Duty, Rests, Fills, Sets, Source, Known, Part, StopCall}
+use Rattle.smp_multi.specs.Names.{Calling, Idle, Calls, Carries}
+use Rattle.smp_multi.specs.Names.field
+use Rattle.smp_multi.specs.Laws.{IsAtRun}
+use Rattle.smp_multi.specs.Places.{work_in}
+use Rattle.smp_multi.specs.Rounds.{AtTurn, AtRun, AloneWhile, passed_by}
+use Rattle.smp_multi.specs.Running.{calls_now}
+use Rattle.smp_multi.specs.Seat.{SeatValue, Able, Ready}
+use Rattle.smp_multi.proofs.Cells.{slot_cell}
+
+-- a CPU that goes on in the stop that it is in
+pub turn_on : (t : TableId) (d e : SeatValue) (v x : Visit) (l m : ℕ) (r q : Duty) → AtTurn t d v l r → e.table ≡ t
+    → is_drafting e.known.source ≡ is_drafting d.known.source → x.slot ≡ v.slot → IsLoaded x (work_in d.known.seat)
+    → e.known.seat ≡ In v.slot (work_in d.known.seat) x.acked m q → AtTurn t e x m q
+turn_on t d e v x l m r q a table idle slot loaded seat =
+    let work : work_in d.known.seat ≡ work_in e.known.seat = sym (ap work_in seat) in
+    record {
+      table_is = table;
+      sized = a.sized;
+      low = subst (λ n. n < cpus) (sym slot) a.low;
+      idle = idle ∙ a.idle;
+      loaded = subst (IsLoaded x) work loaded;
+      seat_is = seat ∙ (λ i. In (sym slot i) (work i) x.acked m q);
+    }
+
+-- a CPU that knows the same is at the same place
+pub turn_moved : (t : TableId) (d e : SeatValue) (v : Visit) (l : ℕ) (r : Duty) → AtTurn t d v l r → e.table ≡ t → e.known.source ≡ d.known.source
+    → e.known.seat ≡ d.known.seat → AtTurn t e v l r
+turn_moved t d e v l r a table source seat = turn_on t d e v v l l r r a table (ap is_drafting source) refl a.loaded (seat ∙ a.seat_is)
+
+pub run_moved : (t : TableId) (d e : SeatValue) (v : Visit) (k : Kind) → AtRun t d v k → e.table ≡ t → e.known.number ≡ d.known.number
+    → e.known.source ≡ d.known.source → e.known.seat ≡ d.known.seat → AtRun t e v k
+run_moved t d e v k a table number source seat = record {
+  at = turn_moved t d e v RUN Rests a.at table source seat;
+  disabled = a.disabled;
+  kind_is = a.kind_is;
+  active = ap (λ n. has v.active n) number ∙ a.active;
+}
+
+-- what a CPU in a stop finds at a moment
+module _ (v : Known) (s : ℕ) (w : Work) (a l : ℕ) (t : Duty) (is : v.seat ≡ In s w a l t) where
+  pub finds_near : (n : ℕ) → Moment v (Slot s field.State) n → (n ≡ a) ⊎ (n ≡ a + 1)
+  finds_near n m = subst (λ k. (k ≡ a) ⊎ (k ≡ a + 1)) (sym m.number_is)
+      (state_near (setup_in v.setting) m.stops m.at m.seat m.source m.shown s v.number w a l t (m.sees.seat_is ∙ is))
+
+  pub few_phases : (f : Field) (n : ℕ) → Moment v (Slot s f) n → a ≤ EXIT
+  few_phases f n m = (inside_keeps (setup_in v.setting) m.stops m.at m.seat m.source m.shown s v.number w a l t (m.sees.seat_is ∙ is)).4
+
+-- at RUN its function, or its patch, runs alone
+pub runs_alone_there : (v : Known) (slot : ℕ) → IsAtRun v.seat slot → AloneWhile v slot
+runs_alone_there v slot is p at seat source h sees =
+    runs_alone (setup_in v.setting) p at seat source h slot v.number (go v.seat is (subst (Stands p.now v.number) sees.seat_is (h.present.stands v.number)))
+  where
+    go : (x : Seat) → IsAtRun x slot → Stands p.now v.number x → (p.now.stop slot).standing v.number ≡ Inside DISABLE_IRQ RUN
+    go Free run st = absurd run
+    go (In s w a l t) run st = subst (λ n. (p.now.stop n).standing v.number ≡ Inside a l) run.0 st.1 ∙ (λ i. Inside (run.1 i) (run.2 i))
+    go (Gives s w a x) run st = absurd run
+    go (Alters s w count made rest) run st = subst (λ n. (p.now.stop n).standing v.number ≡ Inside DISABLE_IRQ RUN) run st.1
+    go (Closes s) run st = absurd run
+
+pub run_alone : (t : TableId) (d : SeatValue) (v : Visit) (k : Kind) → AtRun t d v k → AloneWhile d.known v.slot
+run_alone t d v k a = runs_alone_there d.known v.slot (subst (λ x. IsAtRun x v.slot) (sym a.at.seat_is) (refl, a.disabled, refl))
+
+abbrev called_at : Known → Work → ℕ → Known
+called_at v w n = record v { part = record (v.part) { calling = Calls (record { func = w.func; arg = n; answer = 0 }) } }
+
+-- who calls no function at RUN has not to call one
+called_not : (c : ℕ) (w : Work) (f : Calling) → has w.active c ≡ false → HasCalled c w f
+called_not c w Idle calm = calm
+called_not c w (Calls call) calm = tt
+called_not c w (Carries x) calm = tt
+
+-- who calls one has called it
+called_some : (c : ℕ) (w : Work) (f : Calling) → f ≢ Idle → HasCalled c w f
+called_some c w Idle some = absurd (some refl)
+called_some c w (Calls call) some = tt
+called_some c w (Carries x) some = tt
+
+-- with the argument loaded it calls its function
+pub known_arg : (t : TableId) (d : SeatValue) (v : Visit) (x : ℕ) → AtRun t d v Multi → x ≡ (work_in d.known.seat).arg
+    → called_by x d.known.seat d.known ≡ calls_now d.known
+known_arg t d v x a is =
+    let w = work_in d.known.seat in
+    let me = d.known.number in
+    let kind : w.kind ≡ Multi = sym a.at.loaded.kind ∙ a.kind_is in
+    let active : has w.active me ≡ true = ap (λ m. has m me) (sym a.at.loaded.active) ∙ a.active in
+    let seat : d.known.seat ≡ In v.slot w DISABLE_IRQ RUN Rests = a.at.seat_is ∙ ap (λ n. In v.slot w n RUN Rests) a.disabled in
+    let may : may_call me w (Inside DISABLE_IRQ RUN) ≡ true =
+    ap (λ (k : Kind). is_one k || (has w.active me && is_multi k)) kind ∙ ap (λ b. b && true) active in
+    ap (λ (y : Seat). called_by x y d.known) seat ∙ (ap (λ b. cond b (called_at d.known w x) d.known) may ∙ ap (called_at d.known w) is)
+
+-- the accesses of a turn
+module _ (t : TableId) (d : SeatValue) (v : Visit) where
+  abbrev work : Work
+  work = work_in d.known.seat
+
+  pub ready_look : AtTurn t d v v.acked Rests → v.acked ≢ EXIT → Ready t d (Load (Slot v.slot field.State))
+  ready_look a more = record {
+    able = record {
+      table_is = a.table_is;
+      sized = a.sized;
+      can = record { move = Look v.slot work v.acked v.acked; may = (a.seat_is, more); is_access = refl };
+      cell = slot_cell v.slot field.State a.low;
+    };
+    apart = tt;
+  }
+
+  pub ready_acknowledge : AtTurn t d v (v.acked + 1) Rests → (v.acked ≡ DISABLE_IRQ → has v.active d.known.number ≡ false)
+      → Ready t d (Sub (Slot v.slot field.Ack))
+  ready_acknowledge a calm =
+      let none : v.acked ≡ DISABLE_IRQ → has work.active d.known.number ≡ false
+      = λ two. ap (λ m. has m d.known.number) (sym a.loaded.active) ∙ calm two in
+      record {
+        able = record {
+          table_is = a.table_is;
+          sized = a.sized;
+          can = record {
+            move = Acknowledge v.slot work v.acked;
+            may = (a.seat_is, λ two. called_not d.known.number work d.known.part.calling (none two));
+            is_access = refl;
+          };
+          cell = slot_cell v.slot field.Ack a.low;
+        };
+        apart = none;
+      }
+
+  pub ready_refill : (n : ℕ) → AtTurn t d v v.acked Fills → n ≡ mask_weight cpus v.mask → Ready t d (Store (Slot v.slot field.Ack) n)
+  ready_refill n a e = record {
+    able = record {
+      table_is = a.table_is;
+      sized = a.sized;
+      can = record {
+        move = Refill v.slot work v.acked v.acked;
+        may = (a.seat_is, a.idle);
+        is_access = ap (Store (Slot v.slot field.Ack)) (ap (mask_weight cpus) (sym a.loaded.mask) ∙ sym e);
+      };
+      cell = slot_cell v.slot field.Ack a.low;
+    };
+    apart = tt;
+  }
+
+  pub ready_raise : (n : ℕ) → AtTurn t d v v.acked Sets → n ≡ v.acked + 1 → Ready t d (Store (Slot v.slot field.State) n)
+  ready_raise n a e = record {
+    able = record {
+      table_is = a.table_is;
+      sized = a.sized;
+      can = record {
+        move = Raise v.slot work v.acked v.acked;
+        may = (a.seat_is, a.idle);
+        is_access = ap (Store (Slot v.slot field.State)) (sym e);
+      };
+      cell = slot_cell v.slot field.State a.low;
+    };
+    apart = tt;
+  }
+
+  pub ready_func : (k : Kind) → AtRun t d v k → Ready t d (Load (Slot v.slot field.Func))
+  ready_func k a = record {
+    able = record {
+      table_is = a.at.table_is;
+      sized = a.at.sized;
+      can = record { move = LoadField v.slot field.Func; may = tt; is_access = refl };
+      cell = slot_cell v.slot field.Func a.at.low;
+    };
+    apart = tt;
+  }
+
+  pub ready_arg : (k : Kind) → AtRun t d v k → Ready t d (Load (Slot v.slot field.Arg))
+  ready_arg k a = record {
+    able = record {
+      table_is = a.at.table_is;
+      sized = a.at.sized;
+      can = record { move = LoadArg v.slot work v.acked RUN; may = a.at.seat_is; is_access = refl };
+      cell = slot_cell v.slot field.Arg a.at.low;
+    };
+    apart = tt;
+  }
+
+  -- the acknowledgement of who has run its function
+  pub able_run : (k : Kind) → AtRun t d v k → d.known.part.calling ≢ Idle → Able t d (Sub (Slot v.slot field.Ack))
+  able_run k a some = record {
+    table_is = a.at.table_is;
+    sized = a.at.sized;
+    can = record {
+      move = Acknowledge v.slot work DISABLE_IRQ;
+      may = (
+        a.at.seat_is ∙ ap (λ n. In v.slot work n RUN Rests) a.disabled,
+        λ two. called_some d.known.number work d.known.part.calling some,
+      );
+      is_access = refl;
+    };
+    cell = slot_cell v.slot field.Ack a.at.low;
+  }
+
+-- where the CPU is after each access
+
+pub turn_looked : (t : TableId) (d e : SeatValue) (v : Visit) (n : ℕ) → AtTurn t d v v.acked Rests → e.table ≡ t → e.known ≡ looked_known n d.known
+    → AtTurn t e v n Rests
+turn_looked t d e v n a table same = turn_on t d e v v v.acked n Rests Rests a table (ap (λ (k : Known). is_drafting k.source) same) refl a.loaded
+    (ap (λ (k : Known). k.seat) same ∙ ap (looked_to n) a.seat_is)
+
+pub turn_filled : (t : TableId) (d e : SeatValue) (v : Visit) (n : ℕ) → AtTurn t d v v.acked Fills → e.table ≡ t → e.known ≡ slot_stored field.Ack n d.known
+    → (e.known ≡ record (d.known) { seat = In v.slot (work_in d.known.seat) v.acked v.acked Sets }) × AtTurn t e v v.acked Sets
+turn_filled t d e v n a table same =
+    let next = In v.slot (work_in d.known.seat) v.acked v.acked Sets in
+    let is : e.known ≡ record (d.known) { seat = next } = same ∙ (
+    ap (λ b. cond b (drafted_known field.Ack n d.known) (member_stored field.Ack n d.known)) a.idle ∙
+    ap (λ x. record (d.known) { seat = refilled_by x }) a.seat_is) in
+    (is, turn_on t d e v v v.acked v.acked Fills Sets a table (ap (λ (k : Known). is_drafting k.source) is) refl a.loaded (ap (λ (k : Known). k.seat) is))
+
+pub turn_raised : (t : TableId) (d e : SeatValue) (v : Visit) (n : ℕ) → AtTurn t d v v.acked Sets → e.table ≡ t → e.known ≡ slot_stored field.State n d.known
+    → (e.known ≡ raised_by n d.known.seat d.known) × AtTurn t e v v.acked Rests
+turn_raised t d e v n a table same =
+    let is : e.known ≡ raised_by n d.known.seat d.known = same
+    ∙ ap (λ b. cond b (drafted_known field.State n d.known) (member_stored field.State n d.known)) a.idle in
+    let at : e.known ≡ raised_by n (In v.slot (work_in d.known.seat) v.acked v.acked Sets) d.known = is ∙ ap (λ x. raised_by n x d.known) a.seat_is in
+    (is, turn_on t d e v v v.acked v.acked Sets Rests a table (ap (λ (k : Known). is_drafting k.source) at) refl a.loaded (ap (λ (k : Known). k.seat) at))
+
+-- both stores of who stores the next phase
+pub turn_passed : (t : TableId) (d e f : SeatValue) (v : Visit) (m n : ℕ) → AtTurn t d v v.acked Fills → e.table ≡ t
+    → e.known ≡ slot_stored field.Ack m d.known → f.table ≡ t → f.known ≡ slot_stored field.State n e.known → n ≡ v.acked + 1
+    → (f.known ≡ raised_by (v.acked + 1) d.known.seat d.known) × AtTurn t f v v.acked Rests
+turn_passed t d e f v m n a table same table' same' next =
+    let one = turn_filled t d e v m a table same in
+    let two = turn_raised t e f v n one.1 table' same' in
+    let s = v.slot in
+    let w = work_in d.known.seat in (
+      two.0 ∙ (
+          ap (λ (k : Known). raised_by n k.seat k) one.0 ∙ (
+          ap (λ j. raised_by j (In s w v.acked v.acked Sets) (record (d.known) { seat = In s w v.acked v.acked Sets })) next ∙
+          sym (ap (λ x. raised_by (v.acked + 1) x d.known) a.seat_is))),
+      two.1,
+    )
+
+abbrev acked_at : Known → ℕ → Work → ℕ → Bool → Known
+acked_at k s w l b = record k { seat = In s w l l (cond b Fills Rests); part = ran_since (l == RUN) (read_since (l == EXIT && not b) s w k) }
+
+abbrev passed_with : Known → ℕ → Work → ℕ → List Reading → Known
+passed_with k s w l r = record k { seat = In s w l l Rests; part = record (ran_since (l == RUN) (k.part)) { readings = r } }
+
+-- an acknowledgement, and the stores of the next phase where it was the last, leave the same
+pub ack_passes : (k k1 k2 : Known) (s : ℕ) (w : Work) (a l found : ℕ) → k.seat ≡ In s w a l Rests → k1 ≡ acked_by found k.seat k
+    → k2 ≡ cond (found == 1) (raised_by (l + 1) k1.seat k1) k1 → k2 ≡ passed_by k.seat k
+ack_passes k k1 k2 s w a l found is e f =
+    f ∙ (ap (λ x. cond (found == 1) (raised_by (l + 1) x.seat x) x) e
+    ∙ (ap (λ x. cond (found == 1) (raised_by (l + 1) (acked_by found x k).seat (acked_by found x k)) (acked_by found x k)) is
+    ∙ (go (found == 1) ∙ sym (ap (λ x. passed_by x k) is))))
+  where
+    fives : (old more : List Reading) → cond (l + 1 == OVER) more (cond (l == EXIT && false) more old) ≡ cond (l == EXIT) more old
+    fives old more = at_test l EXIT (λ b. cond (l + 1 == OVER) more (cond (b && false) more old) ≡ cond b more old)
+        (λ four. ap (λ b. cond b more old) (eq-eqb (l + 1) OVER (omega (arith, four))))
+        (λ ne. ap (λ b. cond b more old) (ne_eqb (l + 1) OVER (λ x. ne (omega (arith, x)))))
+
+    fours : (old more : List Reading) (b : Bool) → cond (b && true) more old ≡ cond b more old
+    fours old more true = refl
+    fours old more false = refl
+
+    go : (b : Bool) → cond b (raised_by (l + 1) (acked_at k s w l b).seat (acked_at k s w l b)) (acked_at k s w l b) ≡ passed_by (In s w a l Rests) k
+    go true = ap (passed_with k s w l) (fives k.part.readings (first_readings k.number s w))
+    go false = ap (passed_with k s w l) (fours k.part.readings (first_readings k.number s w) (l == EXIT))
+
+-- where the CPU is once it has acknowledged the phase
+pub turn_acked : (t : TableId) (d e : SeatValue) (v x : Visit) (l found : ℕ) → AtTurn t d v l Rests → e.table ≡ t
+    → e.known ≡ acked_by found d.known.seat d.known → l ≡ v.acked + 1 → (x.slot ≡ v.slot) × (x.kind ≡ v.kind) × (x.mask ≡ v.mask) ×
+    (x.active ≡ v.active) × (x.acked ≡ v.acked + 1) → AtTurn t e x x.acked (cond (found == 1) Fills Rests)
+turn_acked t d e v x l found a table same up moved =
+    let w = work_in d.known.seat in
+    let duty = cond (found == 1) Fills Rests in
+    let is : e.known ≡ acked_by found (In v.slot w v.acked l Rests) d.known = same ∙ ap (λ y. acked_by found y d.known) a.seat_is in
+    let acked : l ≡ x.acked = up ∙ sym moved.4 in
+    turn_on t d e v x l x.acked Rests duty a table (ap (λ (k : Known). is_drafting k.source) is) moved.0
+    (record { kind = moved.1 ∙ a.loaded.kind; mask = moved.2 ∙ a.loaded.mask; active = moved.3 ∙ a.loaded.active })
+    (ap (λ (k : Known). k.seat) is ∙ ap (λ n. In v.slot w n n duty) acked)

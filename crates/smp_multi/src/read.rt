@@ -1,0 +1,50 @@
+//! A CPU with its interrupts on reads keys and sites.
+
+ghost use Rattle.std.specs.Prelude.{◌≡◌, ◌<◌};
+ghost use Rattle.smp_labels.specs.declared.words.TheConstants.{MOST_KEYS, MOST_SITES};
+ghost use Rattle.smp_labels.specs.Keys.{is_on as is_word_on};
+ghost use Rattle.smp_labels.specs.Keys.{IsKeyWord};
+ghost use Rattle.smp_stop_steps.specs.Known.{Lives, Moment};
+ghost use Rattle.smp_stop_steps.specs.KnownAfter.{reads_more};
+ghost use Rattle.smp_multi.specs.Names.{Key, ReadKey, ReadSite};
+ghost use Rattle.smp_multi.specs.Reads.{MayRead, jumps};
+
+use crate::rule::Words;
+use crate::seat::{CpuSeat, load};
+use smp_labels::{SiteKind, is_on};
+use smp_words::word::Word;
+
+/// Loads the count of a key.
+pub(crate) fn load_count(words: &Words, seat: &mut CpuSeat, k: u32) -> u64
+    requires at { MayRead words.now.table_id seat.old }
+    requires low { k < MOST_KEYS }
+    ensures table { seat.new.table ≡ words.now.table_id }
+    ensures lives { Lives seat.new.known }
+    ensures known { seat.new.known ≡ reads_more (ReadKey k (is_word_on result)) seat.old.known }
+    ensures then { Moment seat.old.known (Key k) result }
+    ensures word { IsKeyWord result }
+{
+    load(words, seat, Word::Key(k))
+}
+
+/// Whether a key is on (`static_key_enabled`).
+pub(crate) fn read_key(words: &Words, seat: &mut CpuSeat, k: u32) -> bool
+    requires at { MayRead words.now.table_id seat.old }
+    requires low { k < MOST_KEYS }
+    ensures table { seat.new.table ≡ words.now.table_id }
+    ensures lives { Lives seat.new.known }
+    ensures known { seat.new.known ≡ reads_more (ReadKey k result) seat.old.known }
+{
+    is_on(load_count(words, seat, k))
+}
+
+/// What stands at a site.
+pub(crate) fn read_site(words: &Words, seat: &mut CpuSeat, i: u32) -> SiteKind
+    requires at { MayRead words.now.table_id seat.old }
+    requires low { i < MOST_SITES }
+    ensures table { seat.new.table ≡ words.now.table_id }
+    ensures lives { Lives seat.new.known }
+    ensures known { seat.new.known ≡ reads_more (ReadSite i (jumps result)) seat.old.known }
+{
+    SiteKind::from_word(load(words, seat, Word::Site(i)))
+}

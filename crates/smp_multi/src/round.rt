@@ -1,0 +1,88 @@
+//! The steps of a turn: a CPU loads the phase, acknowledges it, and as the last stores the next one (`ack_state`,
+//! `set_state`).
+
+ghost use Rattle.std.specs.Prelude.{◌≡◌, ◌≢◌, ◌⊎◌, ◌+◌, ◌≤◌, ◌==◌, false, if◌then◌else◌};
+ghost use Rattle.smp_mask.specs.Mask.{has};
+ghost use Rattle.smp_stop_steps.specs.Known.{Lives};
+ghost use Rattle.smp_stop_steps.specs.KnownAfter.{acked_by, looked_known, raised_by};
+ghost use Rattle.smp_stop_steps.specs.Stages.{visit_acked};
+ghost use Rattle.smp_multi.specs.Names.{Rests, Fills};
+ghost use Rattle.smp_multi.specs.Rounds.{AtTurn, passed_by};
+
+use crate::rule::Words;
+use crate::seat::{CpuSeat, load, store, subtract};
+use smp_stop_steps::mask::weight;
+use smp_stop_steps::phase::{DISABLE_IRQ, EXIT, RUN};
+use smp_stop_steps::stage::Visit;
+use smp_words::field::Field;
+use smp_words::word::Word;
+
+/// Loads the phase: the one that the CPU has acknowledged last, or the next one.
+pub(crate) fn look(words: &Words, seat: &mut CpuSeat, visit: Visit) -> u64
+    requires at { AtTurn words.now.table_id seat.old visit visit.acked Rests }
+    requires more { visit.acked ≢ EXIT }
+    ensures at { AtTurn words.now.table_id seat.new visit result Rests }
+    ensures lives { Lives seat.new.known }
+    ensures known { seat.new.known ≡ looked_known result seat.old.known }
+    ensures near { (result ≡ visit.acked) ⊎ (result ≡ visit.acked + 1) }
+    ensures few { visit.acked ≤ RUN }
+{
+    load(words, seat, Word::Slot(visit.slot, Field::State))
+}
+
+/// Acknowledges a phase in which it calls no function, and answers what was found in the count.
+fn acknowledge(words: &Words, seat: &mut CpuSeat, visit: Visit) -> u64
+    requires at { AtTurn words.now.table_id seat.old visit (visit.acked + 1) Rests }
+    requires calm { visit.acked ≡ DISABLE_IRQ → has visit.active seat.old.known.number ≡ false }
+    ensures table { seat.new.table ≡ words.now.table_id }
+    ensures lives { Lives seat.new.known }
+    ensures known { seat.new.known ≡ acked_by result seat.old.known.seat seat.old.known }
+{
+    subtract(words, seat, Word::Slot(visit.slot, Field::Ack))
+}
+
+/// As the last to acknowledge a phase, fills the count again and then stores the next phase.
+fn raise(words: &Words, seat: &mut CpuSeat, visit: Visit)
+    requires at { AtTurn words.now.table_id seat.old visit visit.acked Fills }
+    ensures at { AtTurn words.now.table_id seat.new visit visit.acked Rests }
+    ensures lives { Lives seat.new.known }
+    ensures known { seat.new.known ≡ raised_by (visit.acked + 1) seat.old.known.seat seat.old.known }
+{
+    store(
+        words,
+        seat,
+        Word::Slot(visit.slot, Field::Ack),
+        weight(visit.mask),
+    );
+    let next = u64::from(visit.acked) + 1;
+    store(words, seat, Word::Slot(visit.slot, Field::State), next);
+}
+
+/// Who has found 1 in the count stores the next phase.
+pub(crate) fn pass(words: &Words, seat: &mut CpuSeat, visit: Visit, found: u64)
+    requires at { AtTurn words.now.table_id seat.old visit visit.acked (if found == 1 then Fills else Rests) }
+    requires lives { Lives seat.old.known }
+    ensures at { AtTurn words.now.table_id seat.new visit visit.acked Rests }
+    ensures lives { Lives seat.new.known }
+    ensures known { seat.new.known ≡ if found == 1 then raised_by (visit.acked + 1) seat.old.known.seat seat.old.known else seat.old.known }
+{
+    if found == 1 {
+        raise(words, seat, visit);
+    }
+}
+
+/// Acknowledges a phase in which it calls no function, and stores the next one as the last.
+pub(crate) fn move_on(words: &Words, seat: &mut CpuSeat, visit: Visit) -> Visit
+    requires at { AtTurn words.now.table_id seat.old visit (visit.acked + 1) Rests }
+    requires calm { visit.acked ≡ DISABLE_IRQ → has visit.active seat.old.known.number ≡ false }
+    requires few { visit.acked ≤ RUN }
+    ensures at { AtTurn words.now.table_id seat.new result result.acked Rests }
+    ensures lives { Lives seat.new.known }
+    ensures known { seat.new.known ≡ passed_by seat.old.known.seat seat.old.known }
+    ensures visit { result ≡ visit_acked visit 0 false }
+{
+    let found = acknowledge(words, seat, visit);
+    let visit = visit.acknowledged(0, false);
+    pass(words, seat, visit, found);
+    visit
+}
