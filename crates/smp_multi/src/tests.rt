@@ -1,4 +1,5 @@
 ghost use Rattle.std.specs.Prelude.{ℕ, ◌≡◌, true, IfSome};
+ghost use Rattle.std.specs.Option.{ForSome};
 ghost use Rattle.smp_mask.specs.Mask.{has};
 ghost use Rattle.smp_multi.specs.Cpu.{IsAt, left_at};
 
@@ -92,6 +93,48 @@ fn drive<'a>(
 {
     let cpu = boot.cpu(number)?;
     Ok(Driver { table, cpu })
+}
+
+/// The CPUs of a table that are not given out.
+#[derive(Drop)]
+struct Room<'a> {
+    table: &'a StopTable<Global>,
+    boot: StopBoot<Global>,
+    ghost whole: { (cpu : ℕ) → has boot.online cpu ≡ true → ForSome (left_at boot cpu) (λ c. IsAt table.now c) },
+}
+
+impl<'a> Room<'a> {
+    fn new(table: &'a StopTable<Global>, boot: StopBoot<Global>) -> Room<'a>
+        requires { (cpu : ℕ) → has boot.online cpu ≡ true → IfSome (left_at boot cpu) (λ c. IsAt table.now c) }
+    {
+        Room { table, boot }
+    }
+
+    /// Adds this CPU.
+    fn drive_one(
+        &mut self,
+        drivers: &mut Vec<Driver<'a>, Global>,
+        number: u32,
+    ) -> Result<(), SmpError> {
+        let driver = drive(self.table, &mut self.boot, number)?;
+        if drivers.push(driver).is_err() {
+            return Err(SmpError::NoMemory);
+        }
+        Ok(())
+    }
+
+    /// So many CPUs, from 0 on.
+    fn drive_all(
+        &mut self,
+        alloc: Global,
+        count: u32,
+    ) -> Result<Vec<Driver<'a>, Global>, SmpError> {
+        let mut drivers = Vec::new(alloc);
+        for number in 0..count {
+            self.drive_one(&mut drivers, number)?;
+        }
+        Ok(drivers)
+    }
 }
 
 /// Answers always the same. How often it was called, and by what the last time.

@@ -66,7 +66,7 @@ fn a_count_is_nudged_where_the_key_stays_on(rt: HostRuntime) -> Result<(), Fail>
     let online: CpuMask = "0".parse()?;
     let (table, mut boot) = StopTable::new(rt.alloc(), 1, online, &two_sites()?)?;
     let mut zero = drive(&table, &mut boot, 0)?;
-    let mut func = Answerer::new(rt.alloc(), 9);
+    let mut func = Answerer::new(9);
     assert_eq!(rt; zero.try_key(1, true), Err(SmpError::BadArgument));
     assert_eq!(rt; zero.try_key(0, true), Ok(Nudge::Stop));
     assert_eq!(rt; zero.try_key(0, false), Err(SmpError::KeyRange(Edge::Zero)));
@@ -83,7 +83,7 @@ fn a_count_is_nudged_where_the_key_stays_on(rt: HostRuntime) -> Result<(), Fail>
     assert_eq!(rt; zero.try_key(0, true), Ok(Nudge::Done));
     assert_eq!(rt; zero.try_key(0, false), Ok(Nudge::Done));
     assert_eq!(rt; zero.try_key(0, false), Ok(Nudge::Stop));
-    assert!(rt; func.calls.as_slice().is_empty());
+    assert_eq!(rt; func.calls, 0);
     Ok(())
 }
 
@@ -93,7 +93,7 @@ fn a_patch_answers_1_at_the_end_of_the_range(rt: HostRuntime) -> Result<(), Fail
     let online: CpuMask = "0".parse()?;
     let (table, mut boot) = StopTable::new(rt.alloc(), 1, online, &two_sites()?)?;
     let mut zero = drive(&table, &mut boot, 0)?;
-    let mut func = Answerer::new(rt.alloc(), 9);
+    let mut func = Answerer::new(9);
     assert!(rt; zero.try_gate());
     for (change, answer, count) in [
         (3, 1, 0),
@@ -159,7 +159,7 @@ fn two_cpus_make_a_patch(rt: HostRuntime) -> Result<(), Fail> {
     let (table, mut boot) = StopTable::new(rt.alloc(), 2, online, &two_sites()?)?;
     let mut zero = drive(&table, &mut boot, 0)?;
     let mut one_cpu = drive(&table, &mut boot, 1)?;
-    let mut func = Answerer::new(rt.alloc(), 9);
+    let mut func = Answerer::new(9);
     assert!(rt; zero.try_gate());
     zero.begin(patch(online, 1)?)?;
     assert_eq!(rt;
@@ -198,6 +198,6 @@ fn two_cpus_make_a_patch(rt: HostRuntime) -> Result<(), Fail> {
         assert_eq!(rt; cpu.read_site(0), Ok(SiteKind::Jmp));
         assert_eq!(rt; cpu.read_site(1), Ok(SiteKind::Nop));
     }
-    assert!(rt; func.calls.as_slice().is_empty());
+    assert_eq!(rt; func.calls, 0);
     Ok(())
 }

@@ -85,7 +85,7 @@ fn run_all<R: Wait + Threads>(rt: &R, alloc: Global) -> Result<(u64, u64), Fail>
     let mut one = drive(&table, &mut boot, 1)?;
     let mut two = drive(&table, &mut boot, 2)?;
     let mut three = drive(&table, &mut boot, 3)?;
-    let mut func = Answerer::new(alloc, 9);
+    let mut func = Answerer::new(9);
     let work = patch(online, 2)?;
     let answer = turn_on(&mut zero, &mut one, &mut two, &mut three, &mut func, work);
     let count = AtomicU64::new(if answer == Some(0) { 0 } else { 100 });

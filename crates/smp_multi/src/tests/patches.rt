@@ -17,9 +17,11 @@ const CPUS: u32 = 4;
 /// How many turns a CPU makes before it gives up: a test that fails ends too.
 const TURNS: u64 = 10_000_000;
 
-/// How many CPUs have made their patches, and how many CPUs saw what they should.
+/// The patches that turn the key on and off, how many CPUs have made theirs, and how many CPUs saw what they should.
 #[derive(Drop)]
 struct Board {
+    on: Work,
+    off: Work,
     done: AtomicU64,
     right: AtomicU64,
 }
@@ -98,43 +100,40 @@ fn read_until_done(cpu: &mut Driver, func: &mut Answerer, board: &Board) -> bool
 }
 
 /// What one thread does.
-fn run(mut cpu: Driver, mut func: Answerer, board: &Board, on: Work, off: Work) {
+fn run(mut cpu: Driver, board: &Board) {
+    let mut func = Answerer::new(9);
     let mut whole = true;
     if cpu.cpu.number() < 2 {
-        whole = make_patches(&mut cpu, &mut func, on, off);
+        whole = make_patches(&mut cpu, &mut func, board.on, board.off);
         board.done.fetch_add(1, Ordering::SeqCst);
     }
     whole = read_until_done(&mut cpu, &mut func, board) && whole;
-    if whole && func.calls.as_slice().is_empty() {
+    if whole && func.calls == 0 {
         board.right.fetch_add(1, Ordering::SeqCst);
     }
 }
 
-/// Runs the four CPUs of a new table, each on a thread of its own: how many saw what they should.
-fn run_all<R: Wait + Threads>(rt: &R, alloc: Global) -> Result<u64, Fail> {
+/// Runs each of the CPUs on a thread of its own, to the end.
+fn run_threads<R: Wait + Threads>(rt: &R, drivers: Vec<Driver, Global>, board: &Board) {
+    thread::scope(thread::scope_env(), rt, |scope| {
+        for driver in drivers {
+            let _ = scope.spawn(move || run(driver, board));
+        }
+    });
+}
+
+/// Runs the CPUs of a new table in threads: how many saw what they should.
+fn run_all<R: Wait + Threads>(rt: &R, alloc: Global) -> Result<u64, SmpError> {
     let online: CpuMask = "0-3".parse()?;
-    let (table, mut boot) = StopTable::new(alloc, CPUS, online, &two_sites()?)?;
-    let shared = Board {
+    let board = Board {
+        on: patch(online, 1)?,
+        off: patch(online, 0)?,
         done: AtomicU64::new(0),
         right: AtomicU64::new(0),
     };
-    let board = &shared;
-    let on = patch(online, 1)?;
-    let off = patch(online, 0)?;
-    let zero = drive(&table, &mut boot, 0)?;
-    let one = drive(&table, &mut boot, 1)?;
-    let two = drive(&table, &mut boot, 2)?;
-    let three = drive(&table, &mut boot, 3)?;
-    let first_func = Answerer::new(alloc, 9);
-    let second_func = Answerer::new(alloc, 9);
-    let third_func = Answerer::new(alloc, 9);
-    let fourth_func = Answerer::new(alloc, 9);
-    thread::scope(thread::scope_env(), rt, |scope| {
-        let _ = scope.spawn(move || run(zero, first_func, board, on, off));
-        let _ = scope.spawn(move || run(one, second_func, board, on, off));
-        let _ = scope.spawn(move || run(two, third_func, board, on, off));
-        let _ = scope.spawn(move || run(three, fourth_func, board, on, off));
-    });
+    let (table, boot) = StopTable::new(alloc, CPUS, online, &two_sites()?)?;
+    let drivers = Room::new(&table, boot).drive_all(alloc, CPUS)?;
+    run_threads(rt, drivers, &board);
     Ok(board.right.load(Ordering::SeqCst))
 }
 

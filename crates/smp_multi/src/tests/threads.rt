@@ -1,10 +1,5 @@
 //! Stops of one CPU between threads.
 
-ghost use Rattle.std.specs.Prelude.{ℕ, ◌≡◌, true, IfSome};
-ghost use Rattle.std.specs.Option.{ForSome};
-ghost use Rattle.smp_mask.specs.Mask.{has};
-ghost use Rattle.smp_multi.specs.Cpu.{IsAt, left_at};
-
 use super::*;
 use crossbeam_utils::Backoff;
 use std::sync::Wait;
@@ -177,44 +172,6 @@ fn run<R: Wait>(mut cpu: Driver, rt: &R, progress: &Progress) {
     }
 }
 
-/// The CPUs of a table that are not given out.
-#[derive(Drop)]
-struct Room<'a> {
-    table: &'a StopTable<Global>,
-    boot: StopBoot<Global>,
-    ghost whole: { (cpu : ℕ) → has boot.online cpu ≡ true → ForSome (left_at boot cpu) (λ c. IsAt table.now c) },
-}
-
-impl<'a> Room<'a> {
-    fn new(table: &'a StopTable<Global>, boot: StopBoot<Global>) -> Room<'a>
-        requires { (cpu : ℕ) → has boot.online cpu ≡ true → IfSome (left_at boot cpu) (λ c. IsAt table.now c) }
-    {
-        Room { table, boot }
-    }
-
-    /// Adds this CPU.
-    fn drive_one(
-        &mut self,
-        drivers: &mut Vec<Driver<'a>, Global>,
-        number: u32,
-    ) -> Result<(), SmpError> {
-        let driver = drive(self.table, &mut self.boot, number)?;
-        if drivers.push(driver).is_err() {
-            return Err(SmpError::NoMemory);
-        }
-        Ok(())
-    }
-
-    /// The CPUs from 0 on.
-    fn drive_all(&mut self, alloc: Global) -> Result<Vec<Driver<'a>, Global>, SmpError> {
-        let mut drivers = Vec::new(alloc);
-        for number in 0..CPUS {
-            self.drive_one(&mut drivers, number)?;
-        }
-        Ok(drivers)
-    }
-}
-
 /// Runs each of the CPUs on a thread of its own, to the end.
 fn run_threads<R: Wait + Threads + Sync>(
     rt: &R,
@@ -237,7 +194,7 @@ fn run_all<R: Wait + Threads + Sync>(rt: &R, alloc: Global) -> Result<u64, SmpEr
     let none = LabelMap::empty();
     let progress = Progress::new();
     let (table, boot) = StopTable::new(alloc, CPUS, "0-3".parse()?, &none)?;
-    let drivers = Room::new(&table, boot).drive_all(alloc)?;
+    let drivers = Room::new(&table, boot).drive_all(alloc, CPUS)?;
     run_threads(rt, drivers, &progress);
     Ok(progress.right.load(Ordering::SeqCst))
 }

@@ -18,10 +18,6 @@ use Rattle.smp_script.specs.FirstFault.{LineFault, past_lines, unended, no_shape
 use Rattle.smp_script.specs.FirstFault.{past_bytes, no_line, in_line, events_to, setting_in}
 use Rattle.smp_script.specs.declared.mode.Mode.{Mode}
 use Rattle.smp_script.specs.declared.setting.Setting.{Setting}
-use Rattle.smp_script.specs.FirstFault.{LineFault, past_lines, unended, no_shape, wrong_field, shared_key, past_events, IsFault, IsFirstFault, SharesKey}
-use Rattle.smp_script.specs.FirstFault.{past_bytes, no_line, in_line, events_to, setting_in}
-use Rattle.smp_script.specs.declared.mode.Mode.{Mode}
-use Rattle.smp_script.specs.declared.setting.Setting.{Setting}
 use Rattle.smp_script.proofs.Faults.LineFaults.{place_within}
 use Rattle.smp_script.proofs.Faults.FirstFaults.{TellsText, script_tells}
 

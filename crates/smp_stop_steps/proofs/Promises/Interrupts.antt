@@ -1,5 +1,5 @@
 -- When a CPU's interrupts are off.
-use Rattle.std.proofs.Common.{◌≡◌, ◌≢◌, ℕ, ◌+◌, ◌≤◌, true, false, nat_lt, le-ltb, ne_eqb, ◌==◌, ◌||◌, ⊎_elim, Some, None, sym, subst, refl, ap, ◌∙◌, arith}
+use Rattle.std.proofs.Common.{◌≡◌, ◌≢◌, ℕ, ◌+◌, ◌≤◌, true, false, le-ltb, ne_eqb, ◌==◌, ◌||◌, ⊎_elim, Some, None, sym, subst, refl, ap, ◌∙◌, arith}
 use Rattle.smp_stop_steps.specs.Interrupts.{HasNotLeft, InterruptLaw}
 use Rattle.smp_stop_steps.specs.Seats.{Seat, Free, In, Gives, Alters, Closes, Turn, Rests, Fills, Sets, Stands, irq_of, turn_of}
 use Rattle.smp_stop_steps.specs.Shows.{StopShows}
@@ -19,9 +19,6 @@ module _ (u : Setup) (p : StopState) (at : Word → ℕ) (seat : ℕ → Seat) (
   on_outside (Alters s w count made rest) st none = let bad : Some s ≡ None = sym st.0 ∙ none in cc
   on_outside (Closes s) st none = refl
 
-  low_off : (l : ℕ) → 2 ≤ l → nat_lt l 2 ≡ false
-  low_off l m = le-ltb l 2 m
-
   in_off : (x : Seat) → Stands p.now c x → (s a l : ℕ) → p.now.inside c ≡ Some s → (p.now.stop s).standing c ≡ Inside a l → 2 ≤ l →
       HasNotLeft (p.now.stop s) c a → irq_of x ≡ false
   in_off Free st s a l in_ is m stays = let bad : None ≡ Some s = sym st ∙ in_ in cc
@@ -35,9 +32,9 @@ module _ (u : Setup) (p : StopState) (at : Word → ℕ) (seat : ℕ → Seat) (
       turned t (subst (λ i. turn_of (p.now.stop i).raising c ≡ t) same st.2) (subst (λ n. 2 ≤ n) (sym looked_same) m) (λ e. stays (sym acked_same ∙ e))
     where
       turned : (t : Turn) → turn_of (p.now.stop s).raising c ≡ t → 2 ≤ k → (b ≡ 4 → turn_of (p.now.stop s).raising c ≢ Rests) → irq_of (In j w b k t) ≡ false
-      turned Rests e m stays = ap (λ x. x || b == 4) (low_off k m) ∙ ne_eqb b 4 (λ four. stays four e)
-      turned Fills e m stays = low_off k m
-      turned Sets e m stays = low_off k m
+      turned Rests e m stays = ap (λ x. x || b == 4) (le-ltb k 2 m) ∙ ne_eqb b 4 (λ four. stays four e)
+      turned Fills e m stays = le-ltb k 2 m
+      turned Sets e m stays = le-ltb k 2 m
   in_off (Gives j w b v) st s a l in_ is m stays =
       let one : Some j ≡ Some s = sym st.0 ∙ in_ in
       let same : j ≡ s = cc in

@@ -19,15 +19,14 @@ use Rattle.smp_stop_steps.specs.Laws.{IsThrough}
 use Rattle.smp_stop_steps.specs.Premises.{MayStore, MayStoreIf, MaySee}
 use Rattle.smp_stop_steps.specs.Counts.{mask_weight, unfinished}
 use Rattle.smp_stop_steps.specs.Tells.{plan_at}
-use Rattle.smp_words.proofs.Puts.{at_test}
-use Rattle.smp_stop_steps.specs.Seats.{Seat, In, Gives, Alters, Closes, Turn, Rests, Fills, Sets, Stands, turn_of}
+use Rattle.smp_stop_steps.specs.Seats.{Seat, In, Gives, Alters, Closes, Turn, Rests, Fills, Sets, Stands}
 use Rattle.smp_stop_steps.specs.Shows.{StopShows}
 use Rattle.smp_stop_steps.specs.Sits.{RunsIf, HoldsGate, IsLoaded, IsThroughAll, Sits, SitsAt, SitsInCompletion, SitsInRound, SourceSits}
 use Rattle.smp_stop_steps.specs.Slots.{AckShows, DoneShows, begun_value, order}
 use Rattle.smp_stop_steps.specs.Sources.{Source, Drafts, Owns, Collects, SourceShows, DraftShows, OwnerShows}
 use Rattle.smp_stop_steps.specs.Stages.{StopControlValue, change_at, completion_access, round_access, stop_access, store_of}
 use Rattle.smp_stop_steps.specs.State.{Setup, StopState}
-use Rattle.smp_stop_steps.specs.Stop.{Standing, Outside, Called, Inside, Answering, Completed, Raising, Nobody, Refills, Raises, Ended, acked, is_of}
+use Rattle.smp_stop_steps.specs.Stop.{Standing, Outside, Called, Inside, Answering, Completed, Nobody, Raises, Ended, acked, is_of}
 use Rattle.smp_stop_steps.specs.declared.stage.CompletionStage.{CompletionStage}
 use Rattle.smp_stop_steps.specs.declared.stage.CompletionStage.TheVariants as completion
 use Rattle.smp_stop_steps.specs.declared.stage.RoundStage.{RoundStage}
@@ -36,21 +35,12 @@ use Rattle.smp_stop_steps.specs.declared.stage.StopStage.{StopStage}
 use Rattle.smp_stop_steps.specs.declared.stage.StopStage.TheVariants.{TakeGate, OpenGate, Begin, Enter, EnterKind, EnterMask, EnterActive, Advance}
 use Rattle.smp_stop_steps.specs.declared.stage.StopStage.TheVariants.{Complete, Close, LoadDone, LoadResult, ReadKey, ReadSite, NudgeKey, ExchangeKey}
 use Rattle.smp_stop_steps.specs.declared.stage.Visit.{Visit}
-use Rattle.smp_stop_steps.proofs.Steps.Completions.{one_phase, rests_not}
+use Rattle.smp_stop_steps.proofs.Steps.Completions.{one_phase}
 use Rattle.smp_stop_steps.proofs.Basics.Counts.{sum_zero}
 use Rattle.smp_stop_steps.proofs.State.Phases.{is_open_inside, keeps_inside}
 use Rattle.smp_stop_steps.proofs.State.Raises.{all_acknowledged, in_machine}
 use Rattle.smp_stop_steps.proofs.State.Works.{called_is}
-
-refills_me : (me : ℕ) (r : Raising) → turn_of r me ≡ Fills → r ≡ Refills me
-refills_me me Nobody e = cc
-refills_me me (Refills r) e = at_test me r (λ b. cond b Fills Rests ≡ Fills → Refills r ≡ Refills me) (λ same _. ap Refills (sym same)) (λ ne e. cc) e
-refills_me me (Raises r) e = at_test me r (λ b. cond b Sets Rests ≡ Fills → Raises r ≡ Refills me) (λ same e. cc) (λ ne e. cc) e
-
-raises_me : (me : ℕ) (r : Raising) → turn_of r me ≡ Sets → r ≡ Raises me
-raises_me me Nobody e = cc
-raises_me me (Refills r) e = at_test me r (λ b. cond b Fills Rests ≡ Sets → Refills r ≡ Raises me) (λ same e. cc) (λ ne e. cc) e
-raises_me me (Raises r) e = at_test me r (λ b. cond b Sets Rests ≡ Sets → Raises r ≡ Raises me) (λ same _. ap Raises (sym same)) (λ ne e. cc) e
+use Rattle.smp_stop_steps.proofs.State.Acknowledged.{fills_me, rests_me, sets_me}
 
 completed_is : (x : Standing) → is_of x ≡ true → unfinished x ≡ 0 → HasCompleted x
 completed_is Outside of z = cc
@@ -90,7 +80,7 @@ module _ (u : Setup) (p : StopState) (at : Word → ℕ) (seat : ℕ → Seat) (
       let kinds = ((h.present.slots j).shows (open_in j w v.acked v.acked Rests is)).kinds in (
         ⊎_elim (λ (e : v.acked ≡ 4). inl e) (λ (e : v.kind ≡ One). inr (one_phase (p.now.stop j).work.kind (p.now.stop j).phase (ap (λ (x : Work). x.kind)
             st.3 ∙ (sym loaded.kind ∙ e)) kinds)) all,
-        rests_not me (p.now.stop j).raising st.2,
+        rests_me me (p.now.stop j).raising st.2,
       )
 
   raised : (j : ℕ) (w : Work) (a : ℕ) → seat me ≡ In j w a a Sets → MayStore p me j field.State (a + 1)
@@ -98,7 +88,7 @@ module _ (u : Setup) (p : StopState) (at : Word → ℕ) (seat : ℕ → Seat) (
       let st = stands (In j w a a Sets) is in
       let op = open_in j w a a Sets is in
       let o = (h.present.slots j).shows op in
-      let mine = raises_me me (p.now.stop j).raising st.2 in
+      let mine = sets_me me (p.now.stop j).raising st.2 in
       let busy : (p.now.stop j).phase ≢ 0 = λ z. let bad : Nobody ≡ Raises me = sym (o.calm z) ∙ mine in cc in
       let ack : AckShows u.cpus (p.now.stop j).phase (p.now.stop j).standing (Raises me) (slot j field.Ack) =
       subst (λ r. AckShows u.cpus (p.now.stop j).phase (p.now.stop j).standing r (slot j field.Ack)) mine (o.ack busy) in
@@ -132,7 +122,7 @@ module _ (u : Setup) (p : StopState) (at : Word → ℕ) (seat : ℕ → Seat) (
           (keeps_inside u.cpus (p.now.stop v.slot) (slot v.slot) (h.present.slots v.slot) me (Inside a (a + 1)) is).2
   in_round v (round.Refill ran) x =
       let st = stands (In v.slot x.0 v.acked v.acked Fills) x.2 in stored_open v.slot (mask_weight u.cpus v.mask) field.Ack (open_in v.slot x.0 v.acked
-      v.acked Fills x.2) (refills_me me (p.now.stop v.slot).raising st.2)
+      v.acked Fills x.2) (fills_me me (p.now.stop v.slot).raising st.2)
   in_round v (round.Raise ran) x = stored_open v.slot (v.acked + 1) field.State (open_in v.slot x.0 v.acked v.acked Sets x.2) (raised v.slot x.0 v.acked x.2)
 
   in_completion : (v : Visit) (stage : CompletionStage) → SitsInCompletion v stage (seat me) → May (completion_access v stage)
@@ -152,7 +142,7 @@ module _ (u : Setup) (p : StopState) (at : Word → ℕ) (seat : ℕ → Seat) (
       (λ (y : seat me ≡ Gives v.slot x.0 v.acked v.answer).
       let st = stands (Gives v.slot x.0 v.acked v.answer) y in
       let k = keeps_inside u.cpus (p.now.stop v.slot) (slot v.slot) (h.present.slots v.slot) me (Answering v.acked v.answer) st.1 in
-      (st.0, subst (λ (z : Standing). IsThrough (p.now.stop v.slot) me (acked z)) (sym st.1) (k.2, rests_not me (p.now.stop v.slot).raising st.2))) x.1
+      (st.0, subst (λ (z : Standing). IsThrough (p.now.stop v.slot) me (acked z)) (sym st.1) (k.2, rests_me me (p.now.stop v.slot).raising st.2))) x.1
 
   at_stage : (stage : StopStage) → SitsAt u me c (Some stage) (seat me) → SourceSits c.is_open (Some stage) (source me) →
       HoldsGate me (at Gate) (Some stage) → May (stop_access u.cpus me c.changes stage)

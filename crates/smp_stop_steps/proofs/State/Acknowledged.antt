@@ -29,7 +29,7 @@ nobody_raises cpus stop ack me a l (Refills r) is small ne h = absurd (none_rais
 nobody_raises cpus stop ack me a l (Raises r) is small ne h = absurd (none_raises cpus stop.phase stop.standing me a l is small ne h.1)
 
 -- whose turn it is, by a CPU's turn
-fills_me : (me : ℕ) (r : Raising) → turn_of r me ≡ Fills → r ≡ Refills me
+pub fills_me : (me : ℕ) (r : Raising) → turn_of r me ≡ Fills → r ≡ Refills me
 fills_me me Nobody e = cc
 fills_me me (Refills r) e = at_test me r (λ b. cond b Fills Rests ≡ Fills → Refills r ≡ Refills me) (λ same _. ap Refills (sym same)) (λ ne e. cc) e
 fills_me me (Raises r) e = at_test me r (λ b. cond b Sets Rests ≡ Fills → Raises r ≡ Refills me) (λ same e. cc) (λ ne e. cc) e
@@ -39,7 +39,8 @@ sets_me me Nobody e = cc
 sets_me me (Refills r) e = at_test me r (λ b. cond b Fills Rests ≡ Sets → Refills r ≡ Raises me) (λ same e. cc) (λ ne e. cc) e
 sets_me me (Raises r) e = at_test me r (λ b. cond b Sets Rests ≡ Sets → Raises r ≡ Raises me) (λ same _. ap Raises (sym same)) (λ ne e. cc) e
 
-rests_me : (me : ℕ) (r : Raising) → turn_of r me ≡ Rests → IsNot me r
+-- who has nothing to do for the next phase does not set it
+pub rests_me : (me : ℕ) (r : Raising) → turn_of r me ≡ Rests → IsNot me r
 rests_me me Nobody e = tt
 rests_me me (Refills r) e = λ same. at_test me r (λ b. cond b Fills Rests ≡ Rests → ⊥) (λ _ e. cc) (λ ne _. ne (sym same)) e
 rests_me me (Raises r) e = λ same. at_test me r (λ b. cond b Sets Rests ≡ Rests → ⊥) (λ _ e. cc) (λ ne _. ne (sym same)) e

@@ -46,11 +46,8 @@ stands_left Down n = tt
 abbrev IsOff : ℕ → ℕ → Type 0
 IsOff l a = (nat_lt l 2 || a == 4) ≡ false
 
-before_at : (l : ℕ) → 2 ≤ l → nat_lt l 2 ≡ false
-before_at l m = le-ltb l 2 m
-
 off_at : (l a : ℕ) → 2 ≤ l → a ≢ 4 → IsOff l a
-off_at l a m ne = ap (λ b. b || a == 4) (before_at l m) ∙ ne_eqb a 4 ne
+off_at l a m ne = ap (λ b. b || a == 4) (le-ltb l 2 m) ∙ ne_eqb a 4 ne
 
 -- a CPU inside that has acknowledged 2 and not 4 has its interrupts off
 pub off_inside : (p : Present) (c s a l : ℕ) (seat : Seat) → Stands p c seat → p.inside c ≡ Some s → (p.stop s).standing c ≡ Inside a l → 2 ≤ l → a ≢ 4 →
@@ -65,8 +62,8 @@ off_inside p c s a l (In s' job a' l' t) st in_ is m ne =
   where
     turns : (t : Turn) → 2 ≤ l' → a' ≢ 4 → irq_of (In s' job a' l' t) ≡ false
     turns Rests m ne = off_at l' a' m ne
-    turns Fills m ne = before_at l' m
-    turns Sets m ne = before_at l' m
+    turns Fills m ne = le-ltb l' 2 m
+    turns Sets m ne = le-ltb l' 2 m
 off_inside p c s a l (Gives s' job a' v) st in_ is m ne =
     let e : Some s' ≡ Some s = sym st.0 ∙ in_ in
     let same : s' ≡ s = cc in

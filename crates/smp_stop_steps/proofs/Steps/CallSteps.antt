@@ -27,7 +27,7 @@ use Rattle.smp_stop_steps.specs.Counts.{mask_weight}
 use Rattle.smp_stop_steps.specs.Slots.{begun_value}
 use Rattle.smp_stop_steps.specs.Seats.{Seat, In, Gives, Alters, Rests, Stands, Turn}
 use Rattle.smp_stop_steps.specs.Shows.{StopShows}
-use Rattle.smp_stop_steps.specs.Sits.{IsLoaded, RunsIf, Sits, SitsAt, SitsAtRun, IsThroughAll}
+use Rattle.smp_stop_steps.specs.Sits.{IsLoaded, RunsIf, Sits, SitsAtRun, IsThroughAll}
 use Rattle.smp_stop_steps.specs.Sources.{Source}
 use Rattle.smp_stop_steps.specs.Stages.{StopControlValue, answer_at, turn_note, begun_next, change_at, visit_of}
 use Rattle.smp_stop_steps.specs.Stages.{key_on, looked_on, nudge_of, nudge_on, round_access}
@@ -46,6 +46,7 @@ use Rattle.smp_stop_steps.specs.declared.stage.Visit.{Visit}
 use Rattle.smp_stop_steps.proofs.Steps.Callings.{carried_alone, idle_alters, idle_patch}
 use Rattle.smp_stop_steps.proofs.State.Moves.{IsNoPatch}
 use Rattle.smp_words.proofs.Puts.{put_same, put_other}
+use Rattle.smp_stop_steps.proofs.Steps.Stages.{at_seat}
 
 -- no store calls a function
 open_calling : (p : StopState) (me s v : ℕ) (f : Field) → told_of (stored_open p me s f v) ≡ told_of p
@@ -134,9 +135,6 @@ module _ (u : Setup) (p : StopState) (at : Word → ℕ) (seat : ℕ → Seat) (
   at_stage : (stage : StopStage) → c.stage ≡ Some stage → CarriesAt c.visit (Some stage) f
   at_stage stage e = subst (λ (x : Option StopStage). CarriesAt c.visit x f) e k
 
-  seat_at : (stage : StopStage) → c.stage ≡ Some stage → SitsAt u me c (Some stage) (seat me)
-  seat_at stage e = subst (λ (x : Option StopStage). SitsAt u me c x (seat me)) e s.seat
-
   calling_at : (x : Seat) → seat me ≡ x → IsCalling me x f
   calling_at x e = subst (λ y. IsCalling me y f) e (h.callings me)
 
@@ -166,7 +164,7 @@ module _ (u : Setup) (p : StopState) (at : Word → ℕ) (seat : ℕ → Seat) (
             (Advance v (cond d (round.LoadFunc answer) (round.Acknowledge answer false))))).control f
         go true d = q
         go false true = q
-        go false false = quiet (seat_at (Advance v (round.Look answer)) e).0 q
+        go false false = quiet (at_seat s (Advance v (round.Look answer)) e).0 q
 
     -- load of the argument of a function that the CPU may call
     called : (s : ℕ) (w : Work) (a l answer : ℕ) → seat me ≡ In s w a l Rests → may_call me w (Inside a l) ≡ true →
@@ -203,7 +201,7 @@ module _ (u : Setup) (p : StopState) (at : Word → ℕ) (seat : ℕ → Seat) (
 
     load_arg : (answer func : ℕ) → c.stage ≡ Some (Advance v (round.LoadArg answer func)) → Now (Advance v (round.LoadArg answer func))
     load_arg answer func e =
-        let x = seat_at (Advance v (round.LoadArg answer func)) e in
+        let x = at_seat s (Advance v (round.LoadArg answer func)) e in
         go x.0 x.1.0 x.1.1.0 x.1.1.1 x.1.1.2 v.kind refl
       where
         q : IsQuiet c.visit f
@@ -260,7 +258,7 @@ module _ (u : Setup) (p : StopState) (at : Word → ℕ) (seat : ℕ → Seat) (
 
     load_key : (key : ℕ) (change : KeyChange) → c.stage ≡ Some (Advance v (round.LoadKey key change)) → Now (Advance v (round.LoadKey key change))
     load_key key change e =
-        let x = seat_at (Advance v (round.LoadKey key change)) e in
+        let x = at_seat s (Advance v (round.LoadKey key change)) e in
         let run = x.1.1.1 in
         let patch = sym run.0.kind ∙ x.1.0 in
         let idle = idle_patch me v.slot x.1.1.0 3 Rests f patch (calling_at (In v.slot x.1.1.0 2 3 Rests) run.3) in
@@ -297,7 +295,7 @@ module _ (u : Setup) (p : StopState) (at : Word → ℕ) (seat : ℕ → Seat) (
 
     store_change : (made : ℕ) → c.stage ≡ Some (Advance v (round.StoreChange made)) → Now (Advance v (round.StoreChange made))
     store_change made e =
-        let x = (seat_at (Advance v (round.StoreChange made)) e).1 in
+        let x = (at_seat s (Advance v (round.StoreChange made)) e).1 in
         let q = at_stage (Advance v (round.StoreChange made)) e in
         let is : seat me ≡ Alters v.slot x.0 x.1 x.6.0 x.6.1 = x.6.4 in
         let st : Stands p.now me (Alters v.slot x.0 x.1 x.6.0 x.6.1) = subst (Stands p.now me) is (h.present.stands me) in
@@ -314,7 +312,7 @@ module _ (u : Setup) (p : StopState) (at : Word → ℕ) (seat : ℕ → Seat) (
     acked_control answer ran false g q = q
 
     acknowledge : (answer : ℕ) (ran : Bool) → c.stage ≡ Some (Advance v (round.Acknowledge answer ran)) → Now (Advance v (round.Acknowledge answer ran))
-    acknowledge answer ran e = let x = (seat_at (Advance v (round.Acknowledge answer ran)) e).1 in either x.0 x.1 x.3
+    acknowledge answer ran e = let x = (at_seat s (Advance v (round.Acknowledge answer ran)) e).1 in either x.0 x.1 x.3
       where
         stage : StopStage
         stage = Advance v (round.Acknowledge answer ran)
@@ -420,13 +418,13 @@ module _ (u : Setup) (p : StopState) (at : Word → ℕ) (seat : ℕ → Seat) (
 
     one_arg : (answer func : ℕ) → c.stage ≡ Some (Complete v (completion.LoadArg answer func)) → Now (Complete v (completion.LoadArg answer func))
     one_arg answer func e =
-        let x = (seat_at (Complete v (completion.LoadArg answer func)) e).1 in
+        let x = (at_seat s (Complete v (completion.LoadArg answer func)) e).1 in
         let one : x.1.0.kind ≡ One = sym x.1.1.kind ∙ x.0 in
         let may : may_call me x.1.0 (Inside v.acked v.acked) ≡ true = ap (λ (y : KindOf). is_one y || ((v.acked == 2 && v.acked == 3) &&
         (has x.1.0.active me && is_multi y))) one in
         let st : Stands p.now me (In v.slot x.1.0 v.acked v.acked Rests) = subst (Stands p.now me) x.1.2 (h.present.stands me) in
         calls (Complete v (completion.LoadArg answer func)) v.slot x.1.0 v.acked v.acked answer refl x.1.2 may
-        (quiet_one me v.slot x.1.0 v.acked v.acked Rests v f (quiet (seat_at (Complete v (completion.LoadArg answer func)) e).0
+        (quiet_one me v.slot x.1.0 v.acked v.acked Rests v f (quiet (at_seat s (Complete v (completion.LoadArg answer func)) e).0
         (at_stage (Complete v (completion.LoadArg answer func)) e))
         (none_acked x.1.0 one x.1.2) (calling_at (In v.slot x.1.0 v.acked v.acked Rests) x.1.2)) refl
         (ap (λ n. Some (note.Run n (at (Slot v.slot field.Arg)))) x.1.3)
@@ -435,7 +433,7 @@ module _ (u : Setup) (p : StopState) (at : Word → ℕ) (seat : ℕ → Seat) (
         [ true ↦ sym same | false ↦ sym same ])
 
     count_down : c.stage ≡ Some (Complete v completion.CountDown) → Now (Complete v completion.CountDown)
-    count_down e = let x = (seat_at (Complete v completion.CountDown) e).1 in either x.0 x.1
+    count_down e = let x = (at_seat s (Complete v completion.CountDown) e).1 in either x.0 x.1
       where
         found : ℕ
         found = at (Slot v.slot field.Todo)
@@ -538,7 +536,7 @@ module _ (u : Setup) (p : StopState) (at : Word → ℕ) (seat : ℕ → Seat) (
       next field.State = q
       next field.Roll = q
   call_step (Enter slot) e =
-      let x = seat_at (Enter slot) e in
+      let x = at_seat s (Enter slot) e in
       let q : IsQuiet c.visit f = at_stage (Enter slot) e in
       plain (Enter slot) (either_calling p (record p { now = enters p.now me slot }) (has (at (Slot slot field.Roll)) me) refl)
       (elim (has (at (Slot slot field.Roll)) me) as (λ b. is_run (cond b (stop_goes c (EnterKind slot)) (stop_ends c note.Stale)).note ≡ false)

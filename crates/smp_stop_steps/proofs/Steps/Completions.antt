@@ -19,15 +19,15 @@ use Rattle.smp_stop_steps.proofs.Steps.Rounds.{acked_most_phase}
 use Rattle.smp_stop_steps.proofs.State.Works.{called_is}
 use Rattle.smp_words.specs.Put.{put, put_word}
 use Rattle.smp_stop_steps.specs.Counts.{one, unfinished}
-use Rattle.smp_stop_steps.specs.Laws.{IsAnswer, IsNot}
+use Rattle.smp_stop_steps.specs.Laws.{IsAnswer}
 use Rattle.smp_stop_steps.specs.Past.{HasPast, answer_now}
 use Rattle.smp_stop_steps.specs.Present.{OwnsKey}
-use Rattle.smp_stop_steps.specs.Seats.{Closes, Fills, Free, Gives, In, Rests, Seat, Sets, Stands, irq_of, turn_of}
+use Rattle.smp_stop_steps.specs.Seats.{Closes, Free, Gives, In, Rests, Seat, Stands, irq_of, turn_of}
 use Rattle.smp_stop_steps.specs.Shows.{StopShows}
 use Rattle.smp_stop_steps.specs.Slots.{DoneShows, IsDone, IsLevel, IsPhaseOf}
 use Rattle.smp_stop_steps.specs.Sources.{Source}
 use Rattle.smp_stop_steps.specs.State.{Setup, StopState, Idle}
-use Rattle.smp_stop_steps.specs.Stop.{Answering, Called, Completed, Ended, Inside, Nobody, Outside, Raises, Raising, Refills, Standing, acked}
+use Rattle.smp_stop_steps.specs.Stop.{Answering, Called, Completed, Ended, Inside, Outside, Standing, acked}
 use Rattle.smp_stop_steps.specs.Stop.{completed, ended, is_inside, is_of, stands, Last, Stop}
 use Rattle.smp_stop_steps.specs.Tells.{answered_by, completes, completes_with, enters, stored_open, stored_shut, told, with_stop, called_more}
 use Rattle.smp_words.specs.declared.seen.Act.TheVariants as act
@@ -39,12 +39,7 @@ use Rattle.smp_words.specs.declared.work.Work.{Work}
 use Rattle.smp_words.specs.declared.word.Word.TheVariants.{Key, Slot}
 use Rattle.smp_words.specs.declared.word.Word.{Word}
 use Rattle.smp_mask.specs.Mask.{has}
-
--- who has nothing to do for the next phase does not set it
-pub rests_not : (me : ℕ) (r : Raising) → turn_of r me ≡ Rests → IsNot me r
-rests_not me Nobody e = tt
-rests_not me (Refills r) e = λ same. at_test me r (λ b. cond b Fills Rests ≡ Rests → ⊥) (λ _ e. cc) (λ ne _. ne (sym same)) e
-rests_not me (Raises r) e = λ same. at_test me r (λ b. cond b Sets Rests ≡ Rests → ⊥) (λ _ e. cc) (λ ne _. ne (sym same)) e
+use Rattle.smp_stop_steps.proofs.State.Acknowledged.{rests_me}
 
 pub one_phase : (k : KindOf) (p : ℕ) → k ≡ One → IsPhaseOf k p → p ≡ 0
 one_phase One p e h = h
@@ -161,7 +156,7 @@ module _ (u : Setup) (p : StopState) (at : Word → ℕ) (seat : ℕ → Seat) (
         refl (λ k. refl) (other_slots at s Result v)
         (owns_kept u.first p.now (λ k. at (Key k)) s stop' p.now.inside p.now.irq p.now.readings p.now.patching stays (moves_early u.first s me
         (p.now.stop s) to inside stop' refl) h.owns)
-        (step_answers u p.now at seat h.present s me job a l v is some is_done (rests_not me (p.now.stop s).raising st.2) on_now)
+        (step_answers u p.now at seat h.present s me job a l v is some is_done (rests_me me (p.now.stop s).raising st.2) on_now)
         (calling_same seat p.calling h.callings me (Gives s job a v) calls)
         (closing_kept p.now seat me (Gives s job a v) h.closing (subst IsNotClosing (sym is) tt) s stop' (λ c ne. put_other (p.now.stop s).standing me to c
         ne) refl refl)))
@@ -202,7 +197,7 @@ module _ (u : Setup) (p : StopState) (at : Word → ℕ) (seat : ℕ → Seat) (
       (put_all (λ c y. 3 ≤ acked y → 3 ≤ acked ((p.now.stop s).standing c)) (p.now.stop s).standing me to
       (λ x. subst (λ n. 3 ≤ n) (sym (acked_it ((p.now.stop s).standing me) is)) x) (λ c ne l. l) u.first late))
       (λ ne. h.owns j))
-      (step_completes u p.now at seat h.present s me a v in_ is turn (done, rests_not me (p.now.stop s).raising turn) on idle)
+      (step_completes u p.now at seat h.present s me a v in_ is turn (done, rests_me me (p.now.stop s).raising turn) on idle)
       (calling_next seat p.calling h.callings me (cond (found == 1) (Closes s) Free) Idle (ends (found == 1)))
       (last found)
     where

@@ -41,6 +41,7 @@ use Rattle.smp_labels.specs.declared.patch.Place.TheVariants as place
 use Rattle.smp_labels.specs.declared.words.TheConstants.{MOST_SITES}
 use Rattle.smp_mask.specs.Mask.{has}
 use Rattle.smp_stop_steps.proofs.Steps.Stages.{in_round, round_source}
+use Rattle.smp_stop_steps.proofs.Basics.Bools.{both_true}
 
 some_is : {A : Type 0} {x y : A} → Some x ≡ Some y → x ≡ y
 some_is {A} {x} {y} e = cc
@@ -86,10 +87,6 @@ module _ (u : Setup) (p : StopState) (at : Word → ℕ) (seat : ℕ → Seat) (
       not_three : (a : ℕ) (b : Bool) → a ≡ 3 → ((a == 3) && b) ≡ false → b ≡ false
       not_three a b three e = subst (λ x. (x && b) ≡ false) (eq-eqb a 3 three) e
 
-      is_three : (x b : Bool) → (x && b) ≡ true → (x ≡ true) × (b ≡ true)
-      is_three true b e = (refl, e)
-      is_three false b e = cc
-
       next : (work : Work) → seat me ≡ In v.slot work v.acked v.acked Rests → at (Slot v.slot State) ≢ v.acked → at (Slot v.slot State) ≡ v.acked + 1
       next work is ne = ⊎_elim (λ (x : at (Slot v.slot State) ≡ v.acked). absurd (ne x)) (λ (x : at (Slot v.slot State) ≡ v.acked + 1). x)
           (state_near u p at seat source h v.slot me work v.acked v.acked Rests is)
@@ -123,7 +120,7 @@ module _ (u : Setup) (p : StopState) (at : Word → ℕ) (seat : ℕ → Seat) (
           }
       go work is visit loaded more y false other true f =
           let up = next work is (λ z. let bad : true ≡ false = sym (eq-eqb (at (Slot v.slot State)) v.acked z) ∙ other in cc) in
-          let t = is_three (at (Slot v.slot State) == 3) (has v.active me) f in
+          let t = both_true (at (Slot v.slot State) == 3) (has v.active me) f in
           let three = eqb-true (at (Slot v.slot State)) 3 t.0 in
           let two : v.acked ≡ 2 = omega arith in
           let x : In v.slot work v.acked (at (Slot v.slot State)) Rests ≡ In v.slot work 2 3 Rests = ap (λ n. In v.slot work n (at (Slot v.slot State))

@@ -26,7 +26,6 @@ use Rattle.smp_words.specs.declared.word.Word.{Word}
 use Rattle.std.specs.Prelude.{slice_set}
 use Rattle.smp_stop_steps.specs.Carries.{CarriesAt, CarriesIn, IsEnding, IsQuiet}
 use Rattle.smp_stop_steps.specs.State.{Calling, Idle, Calls, Carries}
-use Rattle.smp_stop_steps.specs.declared.stage.Visit.{Visit}
 
 module _ (u : Setup) (p : StopState) (at : Word → ℕ) (seat : ℕ → Seat) (source : ℕ → Source) (h : StopShows u p at seat source) (c : StopControlValue) (me : ℕ)
     (s : Sits u me (at Gate) c (seat me) (source me)) (outside : c.stage ≡ None) where

@@ -40,7 +40,6 @@ use Rattle.smp_labels.specs.Plans.{patch_of, site_change, site_changes}
 use Rattle.smp_labels.specs.declared.entries.Entry.{Entry as SiteEntry}
 use Rattle.smp_labels.specs.declared.patch.Place.TheVariants as place
 use Rattle.smp_labels.specs.declared.words.TheConstants.{MOST_KEYS, MOST_SITES}
-use Rattle.std.proofs.lemmas.List.{append-nil}
 use Rattle.std.specs.List.{AllByRecursion}
 use Rattle.smp_stop_steps.proofs.Steps.Stages.{at_seat}
 
