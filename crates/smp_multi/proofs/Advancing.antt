@@ -1,12 +1,12 @@
 -- What a turn leaves of a CPU.
-use Rattle.std.proofs.Common.{◌≡◌, ◌≢◌, ℕ, ℤ, Ok, Err, ◌+◌, ◌<◌, ◌==◌, ◌&&◌, ◌||◌, nat_lt, Bool, true, false, cond, Option, Some, None, List, [], ◌∷◌, ◌++◌}
+use Rattle.std.proofs.Common.{◌≡◌, ◌≢◌, ℕ, Ok, ◌==◌, ◌&&◌, ◌||◌, nat_lt, Bool, true, false, cond, Some, List, [], ◌∷◌, ◌++◌}
 use Rattle.std.proofs.Common.{sym, subst, refl, ap, ◌∙◌, arith, ne_eqb}
 use Rattle.atomic_table.specs.Seated.{TableId}
 use Rattle.smp_mask.specs.Mask.{has}
 use Rattle.smp_stop_steps.specs.Callings.{with_answer}
 use Rattle.smp_stop_steps.specs.Carries.{IsQuiet}
 use Rattle.smp_stop_steps.specs.Known.{Lives}
-use Rattle.smp_stop_steps.specs.KnownAfter.{looked_known, looked_to, ran_since, read_since}
+use Rattle.smp_stop_steps.specs.KnownAfter.{looked_known, looked_to}
 use Rattle.smp_stop_steps.specs.Sits.{OwnsIf}
 use Rattle.smp_stop_steps.specs.Stages.{visit_acked}
 use Rattle.smp_stop_steps.specs.Starts.{answer_word}
@@ -15,13 +15,12 @@ use Rattle.smp_stop_steps.specs.Labels.{patch_answer}
 use Rattle.smp_stop_steps.specs.declared.known.Reading.{Reading}
 use Rattle.smp_stop_steps.specs.declared.phase.TheConstants.{DISABLE_IRQ, RUN, EXIT}
 use Rattle.smp_stop_steps.specs.declared.stage.Visit.{Visit}
-use Rattle.smp_multi.specs.Names.{Work, Kind, One, Multi, Patch, Seat, In, Rests, Known, Part, StopCall, Calling, Idle, Calls, Carries}
-use Rattle.smp_multi.specs.Advance.{IsInRound, Advances, AdvanceAnswers, RunsAt, looks, acknowledges, carries, patches, reads_anew}
-use Rattle.smp_multi.specs.Answers.{call_of}
+use Rattle.smp_multi.specs.Names.{Work, Kind, One, Multi, Patch, Seat, In, Rests, Known, Part, Calling, Idle, Calls, Carries}
+use Rattle.smp_multi.specs.Advance.{Advances, AdvanceAnswers, RunsAt, acknowledges, carries, patches}
 use Rattle.smp_multi.specs.Cpu.{CpuValue, Inside, IsKept, call_with, calls_with, part_with, cpu_of, inside_of, runs}
 use Rattle.smp_multi.specs.Places.{work_in}
 use Rattle.smp_multi.specs.Rounds.{AtTurn, passed_by, passed_known}
-use Rattle.smp_multi.specs.Running.{called, calls_now, called_by}
+use Rattle.smp_multi.specs.Running.{called, calls_now}
 use Rattle.smp_multi.specs.Seat.{SeatValue}
 use Rattle.smp_multi.specs.Turns.{TurnAnswers, HasRun, patched_by, patched_with}
 use Rattle.smp_multi.specs.declared.func.Called.{Called}

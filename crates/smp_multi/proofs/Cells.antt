@@ -1,16 +1,15 @@
 -- Where words lie: a cell is of one word, and a store in a cell is a put at its word. Only this page knows.
-use Rattle.std.proofs.Common.{◌≡◌, ℕ, ◌+◌, ◌*◌, ◌-◌, ◌/◌, ◌%◌, ◌<◌, ◌==◌, Bool, true, false, nat_lt, cond, Some, None, Option, option_map, List, length, get_or}
+use Rattle.std.proofs.Common.{◌≡◌, ℕ, ◌+◌, ◌-◌, ◌/◌, ◌%◌, ◌<◌, ◌==◌, Bool, true, false, nat_lt, cond, Some, None, option_map, List, length, get_or}
 use Rattle.std.proofs.Common.{set, sym, refl, ap, ◌∙◌, arith}
 use Rattle.std.proofs.lemmas.Bool.{ltb-true, lt-ltb, le-ltb}
 use Rattle.smp_words.specs.Size.{cpus}
 use Rattle.smp_words.specs.Put.{put_word}
 use Rattle.smp_words.specs.Layout.{number_at}
-use Rattle.smp_words.specs.StopLayout.{stop_index_of}
 use Rattle.smp_words.proofs.Placing.{stored_at}
 use Rattle.smp_words.specs.declared.size.TheConstants.{NR_CPUS, MOST_KEYS, MOST_SITES}
 use Rattle.smp_multi.specs.Names.{Word, Gate, Slot, Key, Entry, Site, Field}
 use Rattle.smp_multi.specs.Names.field
-use Rattle.smp_multi.specs.declared.cell.TheConstants.{STATE_AT, ACK_AT, ROLL_AT, TODO_AT, DONE_AT, SLOTS_APART, FIRST_SLOT, FIRST_KEY, FIRST_ENTRY, FIRST_SITE}
+use Rattle.smp_multi.specs.declared.cell.TheConstants.{STATE_AT, ACK_AT, ROLL_AT, TODO_AT, SLOTS_APART, FIRST_SLOT, FIRST_KEY, FIRST_ENTRY, FIRST_SITE}
 use Rattle.smp_multi.specs.Cells.{cells, offset_of, place_of, cell_of, HasCell, number_in}
 
 -- the field that lies so far from the beginning of its slot

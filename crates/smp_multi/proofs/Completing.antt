@@ -3,7 +3,7 @@ use Rattle.std.proofs.Common.{◌≡◌, ◌≢◌, ℕ, ◌==◌, Bool, true, f
 use Rattle.atomic_table.specs.Seated.{TableId}
 use Rattle.smp_stop_steps.specs.KnownAfter.{completed_by, completed_with, is_drafting, slot_stored, drafted_known, given_by, member_stored}
 use Rattle.smp_stop_steps.specs.Moves.{Give, Count, CountGiven, Close}
-use Rattle.smp_multi.specs.Names.{Work, One, Slot, Load, Store, Sub, Free, In, Gives, Closes, Rests, Seat, Known, Idle}
+use Rattle.smp_multi.specs.Names.{Work, One, Slot, Store, Sub, Free, In, Gives, Closes, Rests, Seat, Known, Idle}
 use Rattle.smp_multi.specs.Names.field
 use Rattle.smp_multi.specs.Completes.{AtEnd, AtGiven, AtClose, answered, given, left}
 use Rattle.smp_multi.specs.Places.{work_in}

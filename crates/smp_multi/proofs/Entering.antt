@@ -1,5 +1,5 @@
 -- The steps of a CPU that enters a stop: whose stop it is, and what is loaded of it.
-use Rattle.std.proofs.Common.{◌≡◌, ℕ, ◌<◌, ◌&&◌, Bool, true, false, Option, Some, sym, subst, refl, ap, ◌∙◌}
+use Rattle.std.proofs.Common.{◌≡◌, ℕ, ◌<◌, true, Some, sym, subst, refl, ap, ◌∙◌}
 use Rattle.std.proofs.lemmas.Bool.{and_parts}
 use Rattle.atomic_table.specs.Seated.{TableId}
 use Rattle.smp_mask.specs.Mask.{has}
@@ -10,16 +10,14 @@ use Rattle.smp_stop_steps.specs.Moves.{Enter, LoadField, IsPlain}
 use Rattle.smp_stop_steps.specs.Slots.{IsWritten, SlotShows}
 use Rattle.smp_stop_steps.specs.Sources.{SourceShows}
 use Rattle.smp_stop_steps.specs.Stages.{all_but}
-use Rattle.smp_stop_steps.specs.State.{Setup}
 use Rattle.smp_stop_steps.specs.Stop.{Standing, Outside, Called, Inside, Answering, Completed, Stop, is_of, is_called}
 use Rattle.smp_stop_steps.proofs.Steps.Facts.{work_words}
 use Rattle.smp_stop_steps.proofs.Steps.Sources.{kind_back}
-use Rattle.smp_multi.specs.Names.{Work, Slot, Field, Load, And, Free, In, Rests, Source, Shut, Drafts, Owns, Collects, Known, Duty}
+use Rattle.smp_multi.specs.Names.{Work, Slot, Field, Load, And, In, Source, Shut, Drafts, Owns, Collects, Known, Duty}
 use Rattle.smp_multi.specs.Names.field
-use Rattle.smp_multi.specs.Places.{IsFree, HasEntered, IsCalled, IsVisitOf, pending_of}
+use Rattle.smp_multi.specs.Places.{IsFree, HasEntered, IsCalled, pending_of}
 use Rattle.smp_multi.specs.Seat.{SeatValue, Ready}
 use Rattle.smp_multi.proofs.Cells.{slot_cell}
-use Rattle.smp_stop_steps.specs.declared.stage.Visit.{Visit}
 
 pub ready_roll : (t : TableId) (d : SeatValue) (number slot x : ℕ) → IsFree t d number → slot < cpus → x ≡ all_but number
     → Ready t d (And (Slot slot field.Roll) x)

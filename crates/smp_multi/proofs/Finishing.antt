@@ -1,21 +1,21 @@
 -- A CPU that completes a stop of several CPUs: where it is, and what that leaves of its value.
-use Rattle.std.proofs.Common.{◌≡◌, ◌≢◌, ℕ, Ok, ◌&&◌, ◌||◌, Bool, true, false, cond, Option, Some, ◌∷◌, [], ◌++◌, slice_index_or, slice_set, inl, sym}
+use Rattle.std.proofs.Common.{◌≡◌, ◌≢◌, ℕ, Ok, ◌&&◌, ◌||◌, Bool, true, false, cond, Some, ◌∷◌, [], ◌++◌, slice_index_or, slice_set, inl, sym}
 use Rattle.std.proofs.Common.{subst, refl, ap, ◌∙◌, arith}
 use Rattle.atomic_table.specs.Seated.{TableId}
 use Rattle.smp_mask.specs.Mask.{has}
 use Rattle.smp_stop_steps.specs.Callings.{IsCalling, answer_in, with_answer}
 use Rattle.smp_stop_steps.specs.Carries.{IsQuiet}
-use Rattle.smp_stop_steps.specs.Known.{Lives, told_calling}
+use Rattle.smp_stop_steps.specs.Known.{told_calling}
 use Rattle.smp_stop_steps.specs.KnownAfter.{completed_with, has_called, is_drafting}
 use Rattle.smp_stop_steps.specs.Sits.{OwnsIf}
 use Rattle.smp_stop_steps.specs.Tells.{calls_at_run, is_multi, is_one}
 use Rattle.smp_stop_steps.specs.declared.phase.TheConstants.{EXIT}
 use Rattle.smp_stop_steps.specs.declared.stage.Visit.{Visit}
-use Rattle.smp_multi.specs.Names.{Work, Kind, One, Multi, Patch, Seat, In, Rests, Source, Known, Part, StopCall, Calling, Idle, Calls, Carries}
-use Rattle.smp_multi.specs.Advance.{HasLeft, FinishAnswers}
+use Rattle.smp_multi.specs.Names.{Work, Kind, One, Multi, Patch, Seat, In, Rests, Source, Calling, Idle, Calls, Carries}
+use Rattle.smp_multi.specs.Advance.{FinishAnswers}
 use Rattle.smp_multi.specs.Cells.{cells}
 use Rattle.smp_multi.specs.Completes.{AtEnd}
-use Rattle.smp_multi.specs.Cpu.{IsKept, answers, call_with, calls_with, cpu_of, inside_of, part_with}
+use Rattle.smp_multi.specs.Cpu.{IsKept, answers, call_with, calls_with, cpu_of, inside_of}
 use Rattle.smp_multi.specs.Places.{work_in}
 use Rattle.smp_multi.specs.Seat.{SeatValue}
 

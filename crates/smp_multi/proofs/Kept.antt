@@ -1,5 +1,5 @@
 -- What a CPU keeps between two calls, and what a call leaves of its value.
-use Rattle.std.proofs.Common.{◌≡◌, ℕ, ℤ, Ok, ◌+◌, ◌<◌, ◌^◌, ◌==◌, nat_lt, Bool, true, false, cond, Option, Some, None, List, [], ◌∷◌, ◌++◌, length, inl, inr}
+use Rattle.std.proofs.Common.{◌≡◌, ℕ, ℤ, Ok, ◌+◌, ◌<◌, ◌^◌, nat_lt, Bool, true, false, cond, Option, Some, None, List, [], ◌∷◌, ◌++◌, length, inl, inr}
 use Rattle.std.proofs.Common.{sym, subst, refl, ap, ◌∙◌, arith, eq-eqb}
 use Rattle.atomic_table.specs.Seated.{TableId}
 use Rattle.smp_mask.specs.Mask.{has}
@@ -9,10 +9,10 @@ use Rattle.smp_stop_steps.specs.Carries.{IsQuiet}
 use Rattle.smp_stop_steps.specs.Known.{setup_in, told_source, told_calling, Lives}
 use Rattle.smp_stop_steps.specs.KnownAfter.{completed_with, is_drafting}
 use Rattle.smp_stop_steps.specs.Laws.{IsResult}
-use Rattle.smp_stop_steps.specs.Past.{Past, AllPast, works_of, results_of, work_now}
+use Rattle.smp_stop_steps.specs.Past.{Past, AllPast, works_of, results_of}
 use Rattle.smp_stop_steps.specs.Seats.{irq_of, Stands}
 use Rattle.smp_stop_steps.specs.Sits.{SitsAtRest, OwnsIf}
-use Rattle.smp_stop_steps.specs.Slots.{IsPhaseOf, OpenShows}
+use Rattle.smp_stop_steps.specs.Slots.{IsPhaseOf}
 use Rattle.smp_stop_steps.specs.Sources.{IsWork, SourceShows}
 use Rattle.smp_stop_steps.specs.Stages.{stop_outside}
 use Rattle.std.proofs.lemmas.Bool.{and_parts, ltb-true}
@@ -25,11 +25,11 @@ use Rattle.smp_stop_steps.specs.declared.stage.Visit.{Visit}
 use Rattle.smp_stop_steps.proofs.State.Phases.{is_open_inside, keeps_inside}
 use Rattle.smp_stop_steps.proofs.TheMachine.Starting.{begins_work}
 use Rattle.smp_multi.specs.Names.{Work, Kind, One, Slot, Seat, Free, In, Rests, Source, Shut, Drafts, Owns, Collects, Known, Part, Setting, Duty}
-use Rattle.smp_multi.specs.Names.{StopCall, Calling, Idle, Calls, Carries}
+use Rattle.smp_multi.specs.Names.{Calling, Idle, Calls, Carries}
 use Rattle.smp_multi.specs.Answers.{Enters, RunAnswers, PollAnswers, answer_in}
 use Rattle.smp_multi.specs.Begins.{Begins}
 use Rattle.smp_multi.specs.Cells.{cells}
-use Rattle.smp_multi.specs.Cpu.{TableValue, CpuValue, IsKept, IsLow, answer_of, call_with, calls_with, part_with, cpu_of, inside_of, is_in, enters, runs}
+use Rattle.smp_multi.specs.Cpu.{TableValue, IsKept, answer_of, call_with, calls_with, part_with, cpu_of, inside_of, is_in, enters, runs}
 use Rattle.smp_multi.specs.Cpu.{answers, collects}
 use Rattle.smp_multi.specs.Places.{IsVisitOf, IsCalled, entered, work_in, pending_of}
 use Rattle.smp_multi.specs.Polls.{IsLastResult, looked, collected}

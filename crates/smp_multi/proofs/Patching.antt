@@ -1,16 +1,16 @@
 -- The patch of a stop: what its CPU may do, what it finds, and where it is after each step.
 use Rattle.std.proofs.Common.{◌≡◌, ℕ, zero, suc, ◌+◌, ◌<◌, ◌≤◌, ◌==◌, ◌&&◌, ◌||◌, Bool, true, false, cond, Option, Some, None, List, [], ◌∷◌, ◌++◌, length, map}
-use Rattle.std.proofs.Common.{get_or, slice_index, take, drop, inl, inr, sym, subst, refl, ap, ◌∙◌, arith, eqb-true, append_assoc, drop-cons}
+use Rattle.std.proofs.Common.{get_or, slice_index, take, drop, inl, inr, sym, subst, refl, ap, ◌∙◌, arith, append_assoc, drop-cons}
 use Rattle.std.proofs.Math.Seq.{drop-nil}
 use Rattle.std.proofs.lemmas.Bool.{cases_lt}
 use Rattle.std.proofs.lemmas.List.{append-nil, drop_all, get_or_past, take-append-drop, take_all, take_more}
 use Rattle.std.specs.List.{AllByRecursion}
 use Rattle.atomic_table.specs.Seated.{TableId}
 use Rattle.smp_labels.specs.Entries.{entry_word, entry_at, IsEntryWord}
-use Rattle.smp_labels.specs.Keys.{is_on, count_or, count_after, change_of}
+use Rattle.smp_labels.specs.Keys.{is_on}
 use Rattle.smp_labels.specs.Kinds.{kind_of, kind_word, xor}
 use Rattle.smp_labels.specs.Law.{Table}
-use Rattle.smp_labels.specs.Plans.{applied, patch_of, plan_of, site_change, site_changes}
+use Rattle.smp_labels.specs.Plans.{patch_of, plan_of, site_change, site_changes}
 use Rattle.smp_labels.specs.declared.entries.Entry.{Entry as SiteEntry}
 use Rattle.smp_labels.specs.declared.patch.Place.{Place}
 use Rattle.smp_labels.specs.declared.patch.Place.TheVariants as place
@@ -19,22 +19,20 @@ use Rattle.smp_labels.proofs.Patched.{plan_key_first}
 use Rattle.smp_labels.proofs.Stores.{entries_kept}
 use Rattle.smp_mask.specs.Mask.{has}
 use Rattle.smp_words.specs.Size.{cpus}
-use Rattle.smp_stop_steps.specs.Known.{Sees, Lives, Moment, setup_in}
+use Rattle.smp_stop_steps.specs.Known.{Lives, Moment, setup_in}
 use Rattle.smp_stop_steps.specs.KnownAfter.{acked_by, called_by, counted, is_drafting, key_loaded_by, known_told, raised_by, reads_more}
-use Rattle.smp_stop_steps.specs.Labels.{Change, LabelsShow, Patching, Patches, Whole, answer_for, count_set}
+use Rattle.smp_stop_steps.specs.Labels.{Change, LabelsShow, Patching, Patches, Whole, count_set}
 use Rattle.smp_stop_steps.specs.Moves.{Alter, AcknowledgePatch, BeginPatch, LoadEntry}
 use Rattle.smp_stop_steps.specs.Seats.{Stands}
-use Rattle.smp_stop_steps.specs.Shows.{StopShows}
 use Rattle.smp_stop_steps.specs.Sits.{IsLoaded}
-use Rattle.smp_stop_steps.specs.Stages.{label_word, store_of, visit_acked}
-use Rattle.smp_stop_steps.specs.State.{StopState}
+use Rattle.smp_stop_steps.specs.Stages.{label_word, store_of}
 use Rattle.smp_stop_steps.specs.Stop.{Inside}
 use Rattle.smp_stop_steps.specs.Tells.{is_multi, is_one, is_patch, plan_at}
 use Rattle.smp_stop_steps.specs.declared.phase.TheConstants.{DISABLE_IRQ, RUN}
 use Rattle.smp_stop_steps.specs.declared.stage.Visit.{Visit}
 use Rattle.smp_stop_steps.proofs.Promises.Functions.{runs_alone}
 use Rattle.smp_stop_steps.proofs.State.Phases.{is_open_inside}
-use Rattle.smp_multi.specs.Names.{Word, Work, Kind, Patch, Slot, Key, Entry, Site, Field, Load, Store, Sub, Seat, In, Alters, Duty, Rests, Fills, Source, Known}
+use Rattle.smp_multi.specs.Names.{Work, Kind, Patch, Slot, Key, Entry, Field, Load, Store, Sub, Seat, In, Alters, Duty, Rests, Fills, Known}
 use Rattle.smp_multi.specs.Names.{Moved, Calls, Carries, ReadKey}
 use Rattle.smp_multi.specs.Names.act
 use Rattle.smp_multi.specs.Names.field

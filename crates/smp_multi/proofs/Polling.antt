@@ -3,7 +3,7 @@ use Rattle.std.proofs.Common.{◌≡◌, ℕ, ◌==◌, not, Bool, true, false, 
 use Rattle.atomic_table.specs.Seated.{TableId}
 use Rattle.smp_stop_steps.specs.KnownAfter.{done_by}
 use Rattle.smp_stop_steps.specs.Moves.{LookDone, Collect}
-use Rattle.smp_multi.specs.Names.{Slot, Load, Source, Owns, Collects, Known}
+use Rattle.smp_multi.specs.Names.{Slot, Load, Source, Owns, Collects}
 use Rattle.smp_multi.specs.Names.field
 use Rattle.smp_multi.specs.Polls.{IsOwner, HasFound, own_work, looked}
 use Rattle.smp_multi.specs.Seat.{SeatValue, Ready}

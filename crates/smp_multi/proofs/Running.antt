@@ -1,23 +1,23 @@
 -- The steps round the function of a stop of one CPU.
-use Rattle.std.proofs.Common.{◌≡◌, ◌≢◌, ℕ, ◌==◌, ◌<◌, ◌^◌, ◌||◌, Bool, true, false, cond, inr, sym, subst, refl, ap, ◌∙◌, eqb-true, ne_eqb}
+use Rattle.std.proofs.Common.{◌≡◌, ◌≢◌, ℕ, ◌<◌, ◌^◌, ◌||◌, true, false, cond, inr, sym, subst, refl, ap, ◌∙◌}
 use Rattle.atomic_table.specs.Seated.{TableId}
 use Rattle.smp_stop_steps.specs.Known.{Moment, setup_in}
-use Rattle.smp_stop_steps.specs.KnownAfter.{called_by, slot_stored, drafted_known, member_stored, given_by, completed_by, completed_with, is_drafting}
-use Rattle.smp_stop_steps.specs.Moves.{Give, Count, CountGiven, LoadArg, LoadField, IsPlain}
-use Rattle.smp_stop_steps.specs.Tells.{may_call, is_one, calls_at_run}
+use Rattle.smp_stop_steps.specs.KnownAfter.{called_by, is_drafting}
+use Rattle.smp_stop_steps.specs.Moves.{LoadArg, LoadField, IsPlain}
+use Rattle.smp_stop_steps.specs.Tells.{is_one}
 use Rattle.smp_stop_steps.specs.Seats.{Stands}
 use Rattle.smp_stop_steps.specs.Sources.{SourceShows, IsWork}
 use Rattle.smp_stop_steps.specs.Stop.{Inside}
 use Rattle.smp_stop_steps.proofs.State.Phases.{is_open_inside}
 use Rattle.smp_words.specs.Size.{cpus}
-use Rattle.smp_multi.specs.Names.{Work, Kind, One, StopCall, Calling, Calls, Idle, Slot, Field, Load, Store, Sub, Seat, In, Gives, Rests, Duty}
+use Rattle.smp_multi.specs.Names.{Work, Kind, StopCall, Calling, Calls, Idle, Slot, Field, Load, Seat, In, Rests, Duty}
 use Rattle.smp_multi.specs.Names.{Source, Shut, Drafts}
 use Rattle.smp_multi.specs.Names.{Owns, Collects, Known}
 use Rattle.smp_multi.specs.Names.field
 use Rattle.smp_multi.specs.Completes.{AtEnd}
 use Rattle.smp_multi.specs.Places.{work_in}
 use Rattle.smp_multi.specs.Running.{AtOne, calls_now}
-use Rattle.smp_multi.specs.Seat.{SeatValue, Able, Ready}
+use Rattle.smp_multi.specs.Seat.{SeatValue, Ready}
 use Rattle.smp_multi.proofs.Cells.{slot_cell}
 
 pub one_moved : (t : TableId) (d e : SeatValue) (slot : ℕ) → AtOne t d slot → e.table ≡ t → e.known ≡ d.known → AtOne t e slot

@@ -1,5 +1,5 @@
 -- The table as it is made: its words show that nothing was begun, and each CPU knows its part of that.
-use Rattle.std.proofs.Common.{◌≡◌, ℕ, zero, suc, ◌+◌, ◌-◌, ◌*◌, ◌<◌, ◌≤◌, nat_lt, ltb-true, ltb-false, Bool, true, false, cond, Option, Some, None, option_map}
+use Rattle.std.proofs.Common.{◌≡◌, ℕ, zero, suc, ◌+◌, ◌-◌, ◌<◌, ◌≤◌, nat_lt, ltb-true, ltb-false, Bool, true, false, cond, Some, None, option_map}
 use Rattle.std.proofs.Common.{List, [], ◌∷◌, ◌++◌, length, length-append, map, get_or, replicate, sym, subst, refl, ap, ◌∙◌, arith}
 use mathlib.Core.Option.{some, some-injective, some-ne-none}
 use lib.ListN.{get_elem?}
@@ -14,7 +14,7 @@ use Rattle.smp_words.specs.Limits.{AreLimits}
 use Rattle.smp_words.specs.Size.{cpus}
 use Rattle.smp_words.specs.declared.size.TheConstants.{NR_CPUS, SLOT_WORDS}
 use Rattle.smp_words.proofs.Zeros.{zero_at, get_or-same}
-use Rattle.smp_stop_steps.specs.Known.{setup_in, fresh, Sees, Lives}
+use Rattle.smp_stop_steps.specs.Known.{setup_in, fresh, Lives}
 use Rattle.smp_stop_steps.specs.Labels.{labels_in}
 use Rattle.smp_stop_steps.specs.Shows.{StopShows}
 use Rattle.smp_stop_steps.specs.Stages.{stop_outside}
@@ -23,10 +23,10 @@ use Rattle.smp_stop_steps.specs.Table.{StopWords, stop_number, slot_cell}
 use Rattle.smp_stop_steps.proofs.Steps.Facts.{no_stops_shown}
 use Rattle.smp_stop_steps.proofs.TheMachine.Opened.{opened_shown}
 use Rattle.smp_stop_steps.proofs.Knows.Parts.{fresh_sees}
-use Rattle.smp_multi.specs.Names.{Word, Gate, Slot, Key, Entry, Site, Field, Free, Shut, Setting, SeatView, Maker}
+use Rattle.smp_multi.specs.Names.{Word, Gate, Slot, Key, Entry, Site, Free, Shut, Setting, SeatView, Maker}
 use Rattle.smp_multi.specs.Names.field
-use Rattle.smp_multi.specs.declared.cell.TheConstants.{FIRST_SLOT, FIRST_KEY, FIRST_ENTRY, FIRST_SITE}
-use Rattle.smp_multi.specs.Cells.{cells, place_of, number_in}
+use Rattle.smp_multi.specs.declared.cell.TheConstants.{FIRST_ENTRY, FIRST_SITE}
+use Rattle.smp_multi.specs.Cells.{place_of, number_in}
 use Rattle.smp_multi.specs.Rule.{Ruled, SeatKnows}
 use Rattle.smp_multi.proofs.Cells.{offset_low}
 

@@ -1,5 +1,5 @@
 -- A turn of a stop of several CPUs: what the CPU may do, what it finds, and where it is after each step.
-use Rattle.std.proofs.Common.{◌≡◌, ◌≢◌, ◌⊎◌, ℕ, ◌+◌, ◌<◌, ◌≤◌, ◌^◌, ◌==◌, ◌&&◌, ◌||◌, not, Bool, true, false, cond, List, sym, subst, refl, ap, ◌∙◌, arith}
+use Rattle.std.proofs.Common.{◌≡◌, ◌≢◌, ◌⊎◌, ℕ, ◌+◌, ◌<◌, ◌≤◌, ◌==◌, ◌&&◌, ◌||◌, not, Bool, true, false, cond, List, sym, subst, refl, ap, ◌∙◌, arith}
 use Rattle.std.proofs.Common.{eq-eqb, ne_eqb}
 use Rattle.atomic_table.specs.Seated.{TableId}
 use Rattle.smp_mask.specs.Mask.{has}
@@ -7,15 +7,13 @@ use Rattle.smp_words.proofs.Puts.{at_test}
 use Rattle.smp_words.specs.Size.{cpus}
 use Rattle.smp_stop_steps.specs.Callings.{HasCalled}
 use Rattle.smp_stop_steps.specs.Counts.{mask_weight}
-use Rattle.smp_stop_steps.specs.Known.{Sees, Moment, setup_in}
+use Rattle.smp_stop_steps.specs.Known.{Moment, setup_in}
 use Rattle.smp_stop_steps.specs.KnownAfter.{acked_by, called_by, drafted_known, is_drafting, looked_known, looked_to, member_stored, raised_by}
 use Rattle.smp_stop_steps.specs.KnownAfter.{ran_since, read_since}
 use Rattle.smp_stop_steps.specs.KnownAfter.{refilled_by, slot_stored}
-use Rattle.smp_stop_steps.specs.Moves.{Look, Acknowledge, Refill, Raise, LoadArg, LoadField, IsPlain}
+use Rattle.smp_stop_steps.specs.Moves.{Look, Acknowledge, Refill, Raise, LoadArg, LoadField}
 use Rattle.smp_stop_steps.specs.Seats.{Stands}
-use Rattle.smp_stop_steps.specs.Shows.{StopShows}
 use Rattle.smp_stop_steps.specs.Sits.{IsLoaded}
-use Rattle.smp_stop_steps.specs.State.{StopState}
 use Rattle.smp_stop_steps.specs.declared.known.Reading.{Reading}
 use Rattle.smp_stop_steps.specs.Tells.{first_readings, may_call, is_one, is_multi}
 use Rattle.smp_stop_steps.specs.Stop.{Inside}
@@ -23,8 +21,8 @@ use Rattle.smp_stop_steps.specs.declared.phase.TheConstants.{DISABLE_IRQ, RUN, E
 use Rattle.smp_stop_steps.specs.declared.stage.Visit.{Visit}
 use Rattle.smp_stop_steps.proofs.Steps.Facts.{inside_keeps, state_near}
 use Rattle.smp_stop_steps.proofs.Promises.Functions.{runs_alone}
-use Rattle.smp_multi.specs.Names.{Word, Work, Kind, Multi, Slot, Field, Load, Store, Sub, Seat, In, Duty, Rests, Fills, Sets, Source, Known, Part}
-use Rattle.smp_multi.specs.Names.{StopCall, Free, Gives, Alters, Closes}
+use Rattle.smp_multi.specs.Names.{Work, Kind, Multi, Slot, Field, Load, Store, Sub, Seat, In, Duty, Rests, Fills, Sets, Known}
+use Rattle.smp_multi.specs.Names.{Free, Gives, Alters, Closes}
 use Rattle.smp_multi.specs.Names.{Calling, Idle, Calls, Carries}
 use Rattle.smp_multi.specs.Names.field
 use Rattle.smp_multi.specs.Laws.{IsAtRun}

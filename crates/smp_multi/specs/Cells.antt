@@ -2,7 +2,7 @@
 use Rattle.std.specs.Prelude.{◌≡◌, ℕ, ◌+◌, ◌*◌, Option, Some, List, option_map}
 use Rattle.smp_words.specs.Layout.{number_at}
 use Rattle.smp_words.specs.StopLayout.{stop_index_of}
-use Rattle.smp_multi.specs.Names.{Word, Gate, Slot, Key, Entry, Site, Field}
+use Rattle.smp_multi.specs.Names.{Word, Slot, Key, Entry, Site, Field}
 use Rattle.smp_multi.specs.Names.field
 use Rattle.smp_multi.specs.declared.cell.TheConstants.{STATE_AT, ACK_AT, ROLL_AT, TODO_AT, DONE_AT, SLOTS_APART, FIRST_SLOT, FIRST_KEY, FIRST_ENTRY, FIRST_SITE}
 use Rattle.smp_multi.specs.declared.cell.TheConstants.{CELLS}

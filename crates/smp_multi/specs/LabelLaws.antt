@@ -1,5 +1,5 @@
 -- The label law and the count law at running threads, of each CPU's value.
-use Rattle.std.specs.Prelude.{◌≡◌, ℕ, ◌+◌, ◌<◌, false}
+use Rattle.std.specs.Prelude.{◌≡◌, ℕ, ◌+◌, false}
 use Rattle.smp_labels.specs.Law.{IsLawful}
 use Rattle.smp_labels.specs.declared.words.TheConstants.{MOST_KEYS}
 use Rattle.smp_words.specs.Size.{cpus}

@@ -6,7 +6,7 @@ use Rattle.smp_words.specs.Size.{cpus, records, owner}
 use Rattle.smp_call_steps.specs.Places.{IsCall}
 use Rattle.smp_call_steps.specs.Histories.{sent_to}
 use Rattle.smp_call_steps.specs.Stands.{posted}
-use Rattle.smp_call_steps.specs.Known.{MayStep, known_access, fresh, posting_of, known_told, Lives, Moment}
+use Rattle.smp_call_steps.specs.Known.{MayStep, known_access, posting_of, known_told, Lives, Moment}
 use Rattle.smp_queue.specs.Names.{Word, Access, Store, Known, Posting, HandleStage, Stage, Post, Handle, SeatView, Cpu}
 use Rattle.smp_queue.specs.Names.post
 use Rattle.smp_queue.specs.Names.act

@@ -3,12 +3,10 @@ use Rattle.std.proofs.Common.{◌≡◌, ℕ, ◌+◌, ◌^◌, ◌<◌, ◌≤�
 use Rattle.std.specs.List.{AllByRecursion}
 use Rattle.smp_words.specs.Size.{records}
 use Rattle.smp_words.specs.Access.{word_of}
-use Rattle.smp_call_steps.specs.Calls.{CallState, Nothing}
-use Rattle.smp_call_steps.specs.Drains.{link_to}
+use Rattle.smp_call_steps.specs.Calls.{CallState}
 use Rattle.smp_call_steps.specs.Stages.{ControlValue, FitsStage, access_of}
 use Rattle.smp_call_steps.specs.Places.{IsApart, IsPlaced}
 use Rattle.smp_call_steps.specs.Words.{Leads, Path, funcs_in, nexts_in}
-use Rattle.smp_call_steps.specs.Stands.{share_of}
 use Rattle.smp_call_steps.specs.Shows.{Shows}
 use Rattle.smp_words.specs.declared.size.TheConstants.{MOST_CALLS}
 use Rattle.smp_call_steps.proofs.Basics.Alls.{every, every_left}

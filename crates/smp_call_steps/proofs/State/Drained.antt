@@ -2,13 +2,12 @@
 use Rattle.std.proofs.Common.{◌≡◌, ◌≢◌, ℕ, ◌+◌, ◌%◌, ◌^◌, ◌==◌, Bool, true, false, cond, Option, Some, None, List, [], ◌∷◌, ◌++◌, length, sym, refl, ap, ◌∙◌}
 use Rattle.std.proofs.Common.{arith}
 use Rattle.std.proofs.lemmas.List.{append-nil}
-use Rattle.std.specs.List.{AllByRecursion}
 use Rattle.smp_words.specs.Size.{owner}
 use Rattle.smp_call_steps.specs.Calls.{CallState, Holding, Running}
 use Rattle.smp_call_steps.specs.Histories.{Marked, mark, marked, others_marked, batches_marked, history_of, marked_from, sent_to, calls_from, orders}
 use Rattle.smp_call_steps.specs.Histories.{running_call, one_held, counted_call}
 use Rattle.smp_call_steps.specs.Order.{if_sync, if_async, sync_calls, async_calls, order}
-use Rattle.smp_call_steps.specs.Places.{Holds, IsPlaced, AllPlaced}
+use Rattle.smp_call_steps.specs.Places.{Holds, AllPlaced}
 use Rattle.smp_call_steps.specs.Words.{FlagsShow, hands_in}
 use Rattle.smp_call_steps.specs.Shows.{Shows}
 use Rattle.smp_call_steps.specs.Stages.{ControlValue}

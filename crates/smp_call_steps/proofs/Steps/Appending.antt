@@ -10,8 +10,8 @@ use Rattle.smp_words.specs.Size.{owner}
 use Rattle.smp_call_steps.specs.Calls.{CallState, Holding, Sending, appended, is_nil}
 use Rattle.smp_call_steps.specs.Stages.{ControlValue}
 use Rattle.smp_call_steps.specs.Places.{Placed, IsPlaced, IsCall, IsThere, Holds, HasRecord, IsApart, locked_by, AllPlaced}
-use Rattle.smp_call_steps.specs.Words.{Written, IsWritten, FlagsShow, Chained, Leads, Linked, LinkIs, Noticed, IsNoticed, is_pending, is_accepted, is_owed}
-use Rattle.smp_call_steps.specs.Words.{IsEmpty, flags_in, funcs_in, infos_in, nexts_in, heads_in, intrs_in, queued_in, ran_in, IsWrittenIn, WrittenIn}
+use Rattle.smp_call_steps.specs.Words.{FlagsShow, Chained, Leads, Linked, LinkIs, Noticed, IsNoticed, is_pending, is_accepted, is_owed}
+use Rattle.smp_call_steps.specs.Words.{IsEmpty, nexts_in, heads_in, intrs_in, queued_in, ran_in, IsWrittenIn, WrittenIn}
 use Rattle.smp_call_steps.specs.Histories.{Recorded, Tallied, Marked, mark, sent_to, marked_from, history_of, one_held}
 use Rattle.smp_call_steps.specs.Stands.{Stands, share_of, held_of, HandIs}
 use Rattle.smp_call_steps.specs.Shows.{Shows}

@@ -9,7 +9,7 @@ use Rattle.smp_call_steps.specs.Calls.{CallState, Holding, Running, Nothing, Syn
 use Rattle.smp_call_steps.specs.Order.{sync_calls, async_calls}
 use Rattle.smp_call_steps.specs.Drains.{DrainValue}
 use Rattle.smp_call_steps.specs.Stages.{ControlValue}
-use Rattle.smp_call_steps.specs.Places.{IsApart, HasRecord, IsPlaced, IsThere, Placed, locked_by, AllPlaced}
+use Rattle.smp_call_steps.specs.Places.{IsApart, HasRecord, IsThere, Placed, locked_by, AllPlaced}
 use Rattle.smp_call_steps.specs.Words.{FlagsShow, IsWritten, Written, last_batch, flags_in, funcs_in, infos_in, queued_in, ran_in, IsWrittenIn}
 use Rattle.smp_call_steps.specs.Histories.{orders, running_call, counted_call, Recorded, Tallied}
 use Rattle.smp_call_steps.specs.Stands.{share_of, Stands, HandIs}

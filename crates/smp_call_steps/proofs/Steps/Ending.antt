@@ -7,7 +7,7 @@ use Rattle.smp_words.specs.Put.{put, put_word}
 use Rattle.smp_call_steps.specs.Calls.{CallState, Holding, Running, Nothing, CountedCall, counts, ends_sync, ends_async, releases, unlocks}
 use Rattle.smp_call_steps.specs.Drains.{DrainValue, second_on, first_on}
 use Rattle.smp_call_steps.specs.Stages.{ControlValue}
-use Rattle.smp_call_steps.specs.Places.{HasRecord, IsPlaced, IsThere, Placed, locked_by, AllPlaced}
+use Rattle.smp_call_steps.specs.Places.{HasRecord, IsThere, Placed, locked_by, AllPlaced}
 use Rattle.smp_call_steps.specs.Words.{IsWritten, Written, last_batch, flags_in, funcs_in, infos_in, nexts_in, queued_in, ran_in, IsWrittenIn}
 use Rattle.smp_call_steps.specs.Histories.{orders, running_call, counted_call, Recorded, Tallied}
 use Rattle.smp_call_steps.specs.Stands.{Share, share_of, Stands, HandIs, held_of}

@@ -7,7 +7,7 @@ use Rattle.smp_call_steps.specs.Order.{async_calls}
 use Rattle.smp_call_steps.specs.Calls.{Running, Nothing, SyncCall, CountedCall, AsyncCall}
 use Rattle.smp_call_steps.specs.Stages.{ControlValue}
 use Rattle.smp_call_steps.specs.Places.{IsPlaced, AllPlaced}
-use Rattle.smp_call_steps.specs.Words.{Leads, IsWritten, flags_in, funcs_in, infos_in, nexts_in, IsWrittenIn}
+use Rattle.smp_call_steps.specs.Words.{Leads, nexts_in, IsWrittenIn}
 use Rattle.smp_call_steps.specs.Stands.{Share, Stands, StandsAt, HandleStands, Reverses, Walks, Ends, PostKnows, posted}
 use Rattle.smp_call_steps.proofs.Basics.Alls.{every_left, every_right}
 use Rattle.smp_call_steps.proofs.State.Walks.{Path-kept, reverses_all, walks_front, walks_passed, walks_rest, ends_front, ends_rest, same_record}

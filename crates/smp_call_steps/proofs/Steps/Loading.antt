@@ -6,7 +6,7 @@ use Rattle.smp_words.specs.Flags.{flags_of, class_of}
 use Rattle.smp_call_steps.specs.Calls.{CallState, Nothing, confirms}
 use Rattle.smp_call_steps.specs.Drains.{link_to, record_at, by_class, unlink_after}
 use Rattle.smp_call_steps.specs.Stages.{ControlValue}
-use Rattle.smp_call_steps.specs.Words.{Path, IsWritten, flags_in, funcs_in, infos_in, nexts_in, hands_in, IsWrittenIn}
+use Rattle.smp_call_steps.specs.Words.{Path, flags_in, funcs_in, infos_in, nexts_in, hands_in, IsWrittenIn}
 use Rattle.smp_call_steps.specs.Stands.{share_of, Reverses, Walks, Ends, Stands, HandIs, held_of}
 use Rattle.smp_call_steps.specs.Shows.{Shows}
 use Rattle.smp_call_steps.proofs.Steps.Frames.{leaves_all}

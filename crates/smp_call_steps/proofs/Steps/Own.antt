@@ -7,7 +7,7 @@ use Rattle.smp_words.specs.Size.{owner}
 use Rattle.smp_call_steps.specs.Calls.{CallState, Holding}
 use Rattle.smp_call_steps.specs.Stages.{ControlValue}
 use Rattle.smp_call_steps.specs.Places.{Placed, IsPlaced, IsThere, Holds, locked_by, AllPlaced}
-use Rattle.smp_call_steps.specs.Words.{Written, IsWritten, FlagsShow, Chained, Linked, LinkIs, Noticed, flags_in, funcs_in, infos_in, nexts_in, heads_in}
+use Rattle.smp_call_steps.specs.Words.{FlagsShow, Chained, Linked, LinkIs, Noticed, nexts_in, heads_in}
 use Rattle.smp_call_steps.specs.Words.{intrs_in, queued_in, ran_in, IsWrittenIn, WrittenIn}
 use Rattle.smp_call_steps.specs.Histories.{Tallied}
 use Rattle.smp_call_steps.specs.Stands.{Stands, StandsAt, share_of, held_of, held_of_post, HandIs}

@@ -12,7 +12,7 @@ use Rattle.smp_call_steps.specs.Posts.{ends, goes_to}
 use Rattle.smp_call_steps.specs.Drains.{DrainValue}
 use Rattle.smp_call_steps.specs.Stages.{ControlValue}
 use Rattle.smp_call_steps.specs.Places.{Holds}
-use Rattle.smp_call_steps.specs.Words.{IsWritten, FlagsShow, LinkIs, flags_in, funcs_in, infos_in, nexts_in, queued_in, ran_in, IsWrittenIn}
+use Rattle.smp_call_steps.specs.Words.{FlagsShow, LinkIs, flags_in, funcs_in, infos_in, nexts_in, queued_in, ran_in, IsWrittenIn}
 use Rattle.smp_call_steps.specs.Histories.{Tallied, sent_to, one_held}
 use Rattle.smp_call_steps.specs.Stands.{Rests, Stands, StandsAt, PostStands, PostKnows, PostGoes, posted, share_of, held_of, held_of_post, holding, HandIs}
 use Rattle.smp_call_steps.specs.Shows.{Shows}

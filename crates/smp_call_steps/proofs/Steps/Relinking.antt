@@ -4,7 +4,7 @@ use Rattle.std.specs.List.{AllByRecursion}
 use Rattle.smp_words.proofs.Puts.{test_here, test_else}
 use Rattle.smp_words.specs.Put.{put, put_word}
 use Rattle.smp_call_steps.specs.Order.{async_calls}
-use Rattle.smp_call_steps.specs.Calls.{CallState, Holding, Nothing, links}
+use Rattle.smp_call_steps.specs.Calls.{CallState, Holding, links}
 use Rattle.smp_call_steps.specs.Drains.{link_to, reverse_on}
 use Rattle.smp_call_steps.specs.Stages.{ControlValue}
 use Rattle.smp_call_steps.specs.Places.{IsAbsent, IsApart, Holds, IsPlaced, AllPlaced}

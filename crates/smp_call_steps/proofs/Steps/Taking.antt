@@ -8,8 +8,8 @@ use Rattle.smp_call_steps.specs.Calls.{CallState, Running, Nothing, place_taken,
 use Rattle.smp_call_steps.specs.Drains.{no_drain, record_at, reverse_on}
 use Rattle.smp_call_steps.specs.Stages.{ControlValue}
 use Rattle.smp_call_steps.specs.Places.{IsApart, HasRecord, IsPlaced, IsThere, Placed, locked_by, AllPlaced}
-use Rattle.smp_call_steps.specs.Words.{Leads, FlagsShow, IsWritten, Written, Chained, last_batch, IsEmpty, IsNoticed, is_pending, is_accepted, is_owed, Noticed}
-use Rattle.smp_call_steps.specs.Words.{flags_in, funcs_in, infos_in, nexts_in, heads_in, intrs_in, IsWrittenIn, WrittenIn}
+use Rattle.smp_call_steps.specs.Words.{Leads, FlagsShow, Chained, last_batch, IsEmpty, IsNoticed, is_pending, is_accepted, is_owed, Noticed}
+use Rattle.smp_call_steps.specs.Words.{nexts_in, heads_in, intrs_in, IsWrittenIn, WrittenIn}
 use Rattle.smp_call_steps.specs.Histories.{marked, batches_marked, history_of, marked_from, sent_to, orders, running_call, Recorded}
 use Rattle.smp_call_steps.specs.Stands.{Share, share_of}
 use Rattle.smp_call_steps.specs.Shows.{Shows}

@@ -1,5 +1,5 @@
 -- What a CPU knows is its part of calls that keep all laws.
-use Rattle.std.proofs.Common.{◌≡◌, ℕ, zero, suc, Bool, true, false, None, cond, get_or, sym, subst, refl, ◌∙◌}
+use Rattle.std.proofs.Common.{◌≡◌, ℕ, zero, suc, Bool, true, false, None, get_or, sym, subst, ◌∙◌}
 use Rattle.std.specs.List.{AllByRecursion}
 use Rattle.smp_words.specs.Size.{records}
 use Rattle.smp_call_steps.specs.HaveRun.{HasRunAt}
@@ -10,7 +10,7 @@ use Rattle.smp_call_steps.proofs.Basics.Alls.{every}
 use Rattle.smp_call_steps.proofs.Knows.Restages.{free_outside}
 use Rattle.smp_call_steps.proofs.State.Counts.{confirmed_calls_ran}
 use Rattle.smp_call_steps.proofs.State.HaveRun.{confirmed_sync_calls_ended, confirmed_calls_have_run}
-use Rattle.smp_queue.specs.Names.{Known, Part}
+use Rattle.smp_queue.specs.Names.{Part}
 use Rattle.smp_queue.specs.Cpu.{cpu_of}
 use Rattle.smp_queue.specs.Seat.{SeatValue}
 use Rattle.smp_queue.specs.Rule.{Sits}

@@ -9,7 +9,7 @@ use Rattle.atomic_table.specs.Seated.{TableId}
 use Rattle.smp_mask.specs.Mask.{has}
 use Rattle.smp_words.specs.Limits.{AreLimits}
 use Rattle.smp_queue.specs.Cells.{cells}
-use Rattle.smp_queue.specs.Cpu.{TableValue, CpuValue, fresh_cpu, table_with, is_left, AreWaiting, IsFull}
+use Rattle.smp_queue.specs.Cpu.{TableValue, CpuValue, fresh_cpu, table_with, AreWaiting}
 use Rattle.smp_queue.specs.Names.{Setting, SeatView, Maker}
 
 -- the CPUs below n have a seat, and of these the ones online are kept

@@ -2,7 +2,7 @@ use Rattle.std.proofs.Common.{◌≡◌, ◌||◌, Bool, true, false, ℕ, sym, 
 use Rattle.std.proofs.lemmas.List.{get_or_read}
 use Rattle.smp_words.specs.Layout.{number_in}
 use Rattle.smp_call_steps.specs.Words.{nexts_in}
-use Rattle.smp_call_steps.specs.Value.{control_of, outside}
+use Rattle.smp_call_steps.specs.Value.{outside}
 use Rattle.smp_call_steps.proofs.State.Places.{is_on, in_batch, in_between, down_chain, up_chain}
 use Rattle.smp_call_steps.proofs.place.is_in_batch.Goals as goal
 

@@ -1,6 +1,5 @@
 use Rattle.std.proofs.Common.{◌≢◌, ◌∙◌, below_more, arith}
 use Rattle.smp_words.specs.Layout.{number_in}
-use Rattle.smp_call_steps.specs.Value.{control_of}
 use Rattle.smp_call_steps.proofs.State.Places.{not_on, is_held, bare}
 use Rattle.smp_call_steps.specs.Names.{Flags}
 use Rattle.smp_call_steps.proofs.place.place_of.Goals as goal

@@ -1,4 +1,4 @@
-use Rattle.std.proofs.Common.{◌≡◌, true, sym, refl, ap, ◌∙◌, cond}
+use Rattle.std.proofs.Common.{◌≡◌, sym, refl, ap, ◌∙◌, cond}
 use Rattle.smp_mask.specs.Mask.{has}
 use Rattle.smp_multi.specs.Places.{entered}
 use Rattle.smp_multi.proofs.Entering.{ready_roll, is_called_by}

@@ -1,10 +1,9 @@
-use Rattle.std.proofs.Common.{◌≡◌, ◌+◌, ◌++◌, ◌∷◌, [], length, length-append, true, false, List, Some, slice_index, ap, sym, subst, ◌∙◌, arith, eq-eqb, ne_eqb}
+use Rattle.std.proofs.Common.{◌≡◌, ◌+◌, ◌++◌, ◌∷◌, [], length, length-append, true, false, Some, slice_index, ap, sym, subst, ◌∙◌, arith, eq-eqb, ne_eqb}
 use Rattle.smp_labels.specs.Entries.{entry_at}
 use Rattle.smp_labels.specs.Keys.{is_on}
 use Rattle.smp_labels.specs.Kinds.{kind_of, kind_word}
 use Rattle.smp_labels.specs.Plans.{site_changes}
 use Rattle.smp_labels.specs.declared.patch.Place.TheVariants as place
-use Rattle.smp_stop_steps.specs.Labels.{Change}
 use Rattle.smp_multi.specs.Names.{Known}
 use Rattle.smp_multi.specs.Patches.{entries_in}
 use Rattle.smp_multi.proofs.Patching.{left_more, PlanLeft}

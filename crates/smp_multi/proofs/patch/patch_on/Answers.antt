@@ -1,4 +1,4 @@
-use Rattle.std.proofs.Common.{◌≡◌, ◌+◌, ℕ, true, Option, ap, sym, arith, ◌∙◌}
+use Rattle.std.proofs.Common.{◌≡◌, ◌+◌, true, ap, arith, ◌∙◌}
 use Rattle.smp_labels.specs.Keys.{count_after}
 use Rattle.smp_labels.specs.declared.keys.Change.{Change}
 use Rattle.smp_stop_steps.specs.Labels.{answer_for, patch_answer}

@@ -1,4 +1,4 @@
-use Rattle.std.proofs.Common.{◌≡◌, ◌<◌, List, None, Some, length, slice_index_or, ap, sym, subst, ◌∙◌}
+use Rattle.std.proofs.Common.{◌<◌, List, None, Some, length, slice_index_or, ap, sym, subst, ◌∙◌}
 use Rattle.smp_labels.specs.declared.patch.Place.TheVariants.{Key}
 use Rattle.smp_stop_steps.specs.KnownAfter.{known_told}
 use Rattle.smp_stop_steps.specs.Labels.{Change}

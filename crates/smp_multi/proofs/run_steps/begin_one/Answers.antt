@@ -1,4 +1,4 @@
-use Rattle.std.proofs.Common.{◌≡◌, arith, ap, ◌∙◌, sym}
+use Rattle.std.proofs.Common.{arith, ap, ◌∙◌, sym}
 use Rattle.smp_multi.specs.Names.{Known, Rests}
 use Rattle.smp_multi.specs.Names.field
 use Rattle.smp_multi.specs.Places.{work_in}

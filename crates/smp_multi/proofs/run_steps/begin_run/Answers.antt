@@ -1,4 +1,4 @@
-use Rattle.std.proofs.Common.{arith, ap, ◌∙◌, sym, refl}
+use Rattle.std.proofs.Common.{arith, ap, ◌∙◌, sym}
 use Rattle.smp_stop_steps.specs.declared.phase.TheConstants.{RUN}
 use Rattle.smp_multi.specs.Names.{Known, Multi, Rests}
 use Rattle.smp_multi.specs.Names.field
@@ -7,7 +7,6 @@ use Rattle.smp_multi.specs.Running.{calls_now}
 use Rattle.smp_multi.proofs.Entering.{finds_func, finds_arg}
 use Rattle.smp_multi.proofs.Running.{small_func}
 use Rattle.smp_multi.proofs.Turning.{ready_func, ready_arg, known_arg, run_moved, run_alone}
-use Rattle.smp_multi.proofs.run_steps.begin_run.Given as given
 use Rattle.smp_multi.proofs.run_steps.begin_run.Goals as goal
 
 pub load-number-requires : goal.load-number-requires

@@ -1,8 +1,7 @@
-use Rattle.std.proofs.Common.{ℕ, Option, Some, refl, ap, ◌∙◌, sym, subst}
+use Rattle.std.proofs.Common.{Some, refl, ap, ◌∙◌, sym}
 use Rattle.smp_call_steps.specs.Drains.{record_at, first_on, by_class}
 use Rattle.smp_queue.specs.Names.{Class, Flags, Next, Load, Known}
 use Rattle.smp_queue.specs.Names.handle
-use Rattle.smp_queue.specs.Seat.{InHandle}
 use Rattle.smp_queue.proofs.Handling.Ahead.{ahead_less, ahead_then, same_taken}
 use Rattle.smp_queue.proofs.Handling.Handles.{in_handle_ready}
 use Rattle.smp_queue.proofs.Handling.Running.{more_run}

@@ -1,6 +1,6 @@
 use Rattle.std.proofs.Common.{List, ℕ, subst, ap, ◌∙◌}
 use mathlib.Core.Option.{some}
-use Rattle.smp_queue.specs.Names.{Known, Cpu}
+use Rattle.smp_queue.specs.Names.{Cpu}
 use Rattle.smp_queue.specs.Audit.{Closes}
 use Rattle.smp_queue.proofs.Audits.Closed.{closes}
 use Rattle.smp_queue.proofs.seat.close.Goals as goal

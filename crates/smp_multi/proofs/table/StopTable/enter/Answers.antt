@@ -1,9 +1,7 @@
-use Rattle.std.proofs.Common.{◌≡◌, ◌<◌, true, false, None, Some, Ok, Err, Result, IfOk, ap, sym, subst, refl, ◌∙◌}
+use Rattle.std.proofs.Common.{◌≡◌, true, None, Result, IfOk, ap, sym, subst, ◌∙◌}
 use Rattle.smp_mask.specs.declared.error.SmpError.{SmpError}
-use Rattle.smp_words.specs.Size.{cpus}
 use Rattle.smp_stop_steps.specs.Starts.{has_slot}
-use Rattle.smp_stop_steps.specs.declared.stage.Visit.{Visit}
-use Rattle.smp_multi.specs.Names.{Kind, Free, Idle, Known}
+use Rattle.smp_multi.specs.Names.{Kind, Free, Idle}
 use Rattle.smp_multi.specs.Answers.{Enters}
 use Rattle.smp_multi.specs.Cpu.{CpuValue, TableValue, IsKept, answer_of, cpu_of, is_in}
 use Rattle.smp_multi.specs.declared.cpu.StopCpu.TheInside.{Inside}

@@ -1,8 +1,7 @@
-use Rattle.std.proofs.Common.{ℤ, Some, Ok, SFits, w32, rules, true, ap, sym, subst, ◌∙◌}
+use Rattle.std.proofs.Common.{ℤ, Some, Ok, SFits, w32, rules, ap, sym, subst, ◌∙◌}
 use Rattle.std.proofs.lemmas.Int.{to_z-of_z}
 use Rattle.smp_multi.specs.Answers.{PollAnswers}
 use Rattle.smp_multi.specs.Cpu.{CpuValue, TableValue, IsKept, answer_of, cpu_of}
-use Rattle.smp_multi.specs.Names.{Known}
 use Rattle.smp_multi.specs.Polls.{looked}
 use Rattle.smp_multi.proofs.Kept.{poll_answers}
 use Rattle.smp_multi.proofs.table.StopTable.poll_done.Goals as goal

@@ -1,11 +1,10 @@
-use Rattle.std.proofs.Common.{◌≡◌, Option, Some, Ok, ℤ, SFits, w32, rules, ap, sym, subst, ◌∙◌}
+use Rattle.std.proofs.Common.{◌≡◌, Option, Ok, ℤ, SFits, w32, rules, ap, sym, subst, ◌∙◌}
 use Rattle.std.proofs.lemmas.Int.{to_z-of_z}
 use Rattle.smp_stop_steps.specs.declared.stage.Visit.{Visit}
 use Rattle.smp_multi.specs.Names.{One}
 use Rattle.smp_multi.specs.Answers.{RunAnswers}
 use Rattle.smp_multi.specs.Cpu.{CpuValue, TableValue, IsKept, answer_of, cpu_of}
-use Rattle.smp_multi.proofs.Kept.{at_one, run_answers}
-use Rattle.smp_multi.proofs.table.StopTable.run_one.Given as given
+use Rattle.smp_multi.proofs.Kept.{run_answers}
 use Rattle.smp_multi.proofs.table.StopTable.run_one.Goals as goal
 
 pub returns : goal.returns

@@ -1,7 +1,6 @@
 use Rattle.std.proofs.Common.{sym, ap, ◌∙◌}
 use Rattle.smp_call_steps.proofs.Machine.Starts.{record_below}
 use Rattle.smp_queue.proofs.Posts.Own.{at_own}
-use Rattle.smp_queue.specs.Names.{Known}
 use Rattle.smp_queue.proofs.table.CallTable.is_done.Goals as goal
 
 pub is_locked-locked-requires-clause-at : goal.is_locked-locked-requires-clause-at
