@@ -110,13 +110,18 @@ impl<'a> Room<'a> {
         Room { table, boot }
     }
 
+    /// This CPU.
+    fn drive(&mut self, number: u32) -> Result<Driver<'a>, SmpError> {
+        drive(self.table, &mut self.boot, number)
+    }
+
     /// Adds this CPU.
     fn drive_one(
         &mut self,
         drivers: &mut Vec<Driver<'a>, Global>,
         number: u32,
     ) -> Result<(), SmpError> {
-        let driver = drive(self.table, &mut self.boot, number)?;
+        let driver = self.drive(number)?;
         if drivers.push(driver).is_err() {
             return Err(SmpError::NoMemory);
         }

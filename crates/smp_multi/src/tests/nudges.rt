@@ -16,6 +16,9 @@ const NUDGES: u32 = 2_000;
 /// How many CPUs there are, each with a thread.
 const CPUS: u32 = 4;
 
+/// One more, which raises the key from 0 before they begin.
+const SOURCE: u32 = CPUS;
+
 /// How often a CPU tries again before it gives up: a test that fails ends too.
 const TRIES: u64 = 10_000_000;
 
@@ -44,64 +47,75 @@ fn run(mut cpu: Driver, right: &AtomicU64) {
     }
 }
 
-/// One turn of a CPU's part in the stop of CPU 0.
+/// One turn of a CPU's part in the stop of the source.
 fn serve(cpu: &mut Driver, func: &mut Answerer) {
     if !cpu.cpu.in_stop() {
-        let _ = cpu.enter(0);
+        let _ = cpu.enter(SOURCE);
     } else if cpu.advance(func) == Ok(Turn::Left) {
         let _ = cpu.finish();
     }
 }
 
-/// All four CPUs make a stop that raises the key from 0.
-fn turn_on(
-    zero: &mut Driver,
-    one: &mut Driver,
-    two: &mut Driver,
-    three: &mut Driver,
-    func: &mut Answerer,
-    work: Work,
-) -> Option<i32> {
-    if !zero.try_gate() || zero.begin(work).is_err() {
+/// Each CPU has such a turn.
+fn serve_each(cpus: &mut [Driver], func: &mut Answerer) {
+    for cpu in cpus {
+        serve(cpu, func);
+    }
+}
+
+/// All CPUs make a stop that raises the key from 0: its result.
+fn turn_on(source: &mut Driver, others: &mut [Driver], work: Work) -> Option<i32> {
+    let mut func = Answerer::new(9);
+    if !source.try_gate() || source.begin(work).is_err() {
         return None;
     }
     for _ in 0..20 {
-        serve(zero, func);
-        serve(one, func);
-        serve(two, func);
-        serve(three, func);
-        if let Ok(Some(answer)) = zero.poll_done() {
+        serve(source, &mut func);
+        serve_each(others, &mut func);
+        if let Ok(Some(answer)) = source.poll_done() {
             return Some(answer);
         }
     }
     None
 }
 
-/// Runs the four CPUs of a new table, each on a thread of its own: how many moved the key as they should, and its count.
-fn run_all<R: Wait + Threads>(rt: &R, alloc: Global) -> Result<(u64, u64), Fail> {
-    let online: CpuMask = "0-3".parse()?;
-    let (table, mut boot) = StopTable::new(alloc, CPUS, online, &two_sites()?)?;
-    let mut zero = drive(&table, &mut boot, 0)?;
-    let mut one = drive(&table, &mut boot, 1)?;
-    let mut two = drive(&table, &mut boot, 2)?;
-    let mut three = drive(&table, &mut boot, 3)?;
-    let mut func = Answerer::new(9);
-    let work = patch(online, 2)?;
-    let answer = turn_on(&mut zero, &mut one, &mut two, &mut three, &mut func, work);
-    let count = AtomicU64::new(if answer == Some(0) { 0 } else { 100 });
-    let right = &count;
+/// Runs each of the CPUs on a thread of its own, to the end.
+fn run_threads<R: Wait + Threads>(rt: &R, drivers: Vec<Driver, Global>, right: &AtomicU64) {
+    let mut started = true;
     thread::scope(thread::scope_env(), rt, |scope| {
-        let first = scope.spawn(move || run(zero, right));
-        let second = scope.spawn(move || run(one, right));
-        let third = scope.spawn(move || run(two, right));
-        let fourth = scope.spawn(move || run(three, right));
-        let started = first.is_ok() && second.is_ok() && third.is_ok() && fourth.is_ok();
-        if !started {
-            right.fetch_add(200, Ordering::SeqCst);
+        for driver in drivers {
+            let spawned = scope.spawn(move || run(driver, right));
+            started = started && spawned.is_ok();
         }
     });
+    if !started {
+        right.fetch_add(200, Ordering::SeqCst);
+    }
+}
+
+/// Turns the key on, and then runs the CPUs in threads: how many moved it as they should.
+fn nudge_all<R: Wait + Threads>(
+    rt: &R,
+    alloc: Global,
+    room: &mut Room,
+    work: Work,
+) -> Result<u64, SmpError> {
+    let mut source = room.drive(SOURCE)?;
+    let mut drivers = room.drive_all(alloc, CPUS)?;
+    let answer = turn_on(&mut source, drivers.as_mut_slice(), work);
+    let right = AtomicU64::new(if answer == Some(0) { 0 } else { 100 });
+    run_threads(rt, drivers, &right);
+    Ok(right.load(Ordering::SeqCst))
+}
+
+/// Runs the CPUs of a new table: how many moved the key as they should, and its count.
+fn run_all<R: Wait + Threads>(rt: &R, alloc: Global) -> Result<(u64, u64), SmpError> {
+    let online: CpuMask = "0-4".parse()?;
+    let (table, boot) = StopTable::new(alloc, CPUS + 1, online, &two_sites()?)?;
+    let work = patch(online, 2)?;
+    let right = nudge_all(rt, alloc, &mut Room::new(&table, boot), work)?;
     let word = table.owner.shared.peek(cell(Word::Key(0)));
-    Ok((right.load(Ordering::SeqCst), word))
+    Ok((right, word))
 }
 
 #[test]

@@ -42,14 +42,14 @@ fn serve(cpu: &mut Driver, func: &mut Answerer) -> bool {
 }
 
 /// Makes one patch: takes the gate by trying again, and serves while it waits. Whether its result was 0.
-fn patch_once(cpu: &mut Driver, func: &mut Answerer, work: Work) -> bool {
+fn patch_once(cpu: &mut Driver, func: &mut Answerer, work: &Work) -> bool {
     let backoff = Backoff::new();
     let mut whole = true;
     let mut open = false;
     for _ in 0..TURNS {
         if !open && cpu.try_gate() {
             open = true;
-            whole = cpu.begin(work).is_ok() && whole;
+            whole = cpu.begin(*work).is_ok() && whole;
         }
         whole = serve(cpu, func) && whole;
         if open && let Ok(Some(answer)) = cpu.poll_done() {
@@ -61,7 +61,7 @@ fn patch_once(cpu: &mut Driver, func: &mut Answerer, work: Work) -> bool {
 }
 
 /// Turns the key on and off. Whether all patches were right.
-fn make_patches(cpu: &mut Driver, func: &mut Answerer, on: Work, off: Work) -> bool {
+fn make_patches(cpu: &mut Driver, func: &mut Answerer, on: &Work, off: &Work) -> bool {
     let mut whole = true;
     for round in 0..PATCHES {
         let work = if round % 2 == 0 { on } else { off };
@@ -104,7 +104,7 @@ fn run(mut cpu: Driver, board: &Board) {
     let mut func = Answerer::new(9);
     let mut whole = true;
     if cpu.cpu.number() < 2 {
-        whole = make_patches(&mut cpu, &mut func, board.on, board.off);
+        whole = make_patches(&mut cpu, &mut func, &board.on, &board.off);
         board.done.fetch_add(1, Ordering::SeqCst);
     }
     whole = read_until_done(&mut cpu, &mut func, board) && whole;
