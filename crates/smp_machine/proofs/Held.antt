@@ -90,7 +90,8 @@ pub still_takes : (r : Option Item) (v w : Knows) (K : Type 0) → IsTakes v
 still_takes r v w K h =
     option_both r _ _ (IsTakes w) (λ t. subst IsTakes (sym t.0) h) (λ x t. subst IsTakes (sym t.0) (takes_still v x h))
 
-ids_kept : (to : List (Pass Item Knows)) (i : ℕ) (p q : Pass Item Knows) → p ≡ slice_index_or to i p → q.table_id ≡ p.table_id → ids_of (slice_set to i q) ≡ ids_of to
+ids_kept : (to : List (Pass Item Knows)) (i : ℕ) (p q : Pass Item Knows) → p ≡ slice_index_or to i p → q.table_id ≡ p.table_id
+    → ids_of (slice_set to i q) ≡ ids_of to
 ids_kept to i p q at same = map-set_same (λ (y : Pass Item Knows). y.table_id) to i q p (same ∙ ap (λ (y : Pass Item Knows). y.table_id) at)
 
 module _ (number : ℕ) (to : List (Pass Item Knows)) (own : Pass Item Knows) (h : AreHeld number to own) where

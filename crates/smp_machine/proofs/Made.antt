@@ -35,7 +35,8 @@ at_end (y ∷ ys) x (suc i) p l e = ⊎_elim (λ t. let a = t.0 in inl (omega ar
 pub takers_none : (ids : List TableId) → ids ≡ [] → AreTakers ids (λ _. 0) []
 takers_none ids e = record { ids_are = sym e; each = λ i p l at. absurd (omega arith) }
 
-pub takers_more : (ids : List TableId) (takers : List (Pass Item Knows)) (p : Pass Item Knows) (id : TableId) → AreTakers ids (λ _. 0) takers → p.table_id ≡ id → p.me.1 ≡ []
+pub takers_more : (ids : List TableId) (takers : List (Pass Item Knows)) (p : Pass Item Knows) (id : TableId) → AreTakers ids (λ _. 0) takers
+    → p.table_id ≡ id → p.me.1 ≡ []
     → view p ≡ Takes 0 [] → AreTakers (ids ++ id ∷ []) (λ _. 0) (takers ++ p ∷ [])
 takers_more ids takers p id h same empty knows = record {
   ids_are = map-append (λ (y : Pass Item Knows). y.table_id) takers (p ∷ []) ∙ (λ k. h.ids_are k ++ same k ∷ []);
@@ -58,8 +59,10 @@ same_below c s i n = elim (dec_le c i) [
 ]
 
 -- one taker more has given the source its pass
-pub takers_gave : (ids : List TableId) (takers : List (Pass Item Knows)) (c s : ℕ) (p q : Pass Item Knows) → AreTakers ids (given_below c s) takers → c < length takers
-    → p ≡ slice_index_or takers c p → q.table_id ≡ p.table_id → q.me.1 ≡ [] → view q ≡ Takes (s + 1) [] → AreTakers ids (given_below (c + 1) s) (slice_set takers c q)
+pub takers_gave : (ids : List TableId) (takers : List (Pass Item Knows)) (c s : ℕ) (p q : Pass Item Knows) → AreTakers ids (given_below c s) takers
+    → c < length takers
+    → p ≡ slice_index_or takers c p → q.table_id ≡ p.table_id → q.me.1 ≡ [] → view q ≡ Takes (s + 1) []
+    → AreTakers ids (given_below (c + 1) s) (slice_set takers c q)
 takers_gave ids takers c s p q h below at same empty knows = record {
   ids_are = map-set_same (λ (y : Pass Item Knows). y.table_id) takers c q p (same ∙ ap (λ (y : Pass Item Knows). y.table_id) at) ∙ h.ids_are;
   each = λ i r l there. elim (cases_eq i c) [
@@ -81,7 +84,8 @@ takers_as ids takers f g e h =
 pub takers_before : (ids : List TableId) (takers : List (Pass Item Knows)) (s : ℕ) → AreTakers ids (λ _. s) takers → AreTakers ids (given_below 0 s) takers
 takers_before ids takers s h = takers_as ids takers (λ _. s) (given_below 0 s) (λ i l. sym (above_is 0 s i (omega arith))) h
 
-pub takers_after : (ids : List TableId) (takers : List (Pass Item Knows)) (c s : ℕ) → length takers ≤ c → AreTakers ids (given_below c s) takers → AreTakers ids (λ _. s + 1) takers
+pub takers_after : (ids : List TableId) (takers : List (Pass Item Knows)) (c s : ℕ) → length takers ≤ c → AreTakers ids (given_below c s) takers
+    → AreTakers ids (λ _. s + 1) takers
 takers_after ids takers c s all h = takers_as ids takers (given_below c s) (λ _. s + 1) (λ i l. below_is c s i (omega arith)) h
 
 take_next : {A : Type 0} (ids : List A) (c : ℕ) (x : A) → c < length ids → x ≡ slice_index_or ids c x → take (suc c) ids ≡ take c ids ++ x ∷ []
@@ -171,7 +175,8 @@ given_rest ids first given h i to l at =
     let same : first + suc i ≡ first + 1 + i = omega arith in
     subst (λ (n : ℕ). AreSources ids n to) same t
 
-pub given_first : (ids : List TableId) (first : ℕ) (given : List (List (Pass Item Knows))) (to : List (Pass Item Knows)) → AreGiven ids first given → 0 < length given
+pub given_first : (ids : List TableId) (first : ℕ) (given : List (List (Pass Item Knows))) (to : List (Pass Item Knows)) → AreGiven ids first given
+    → 0 < length given
     → to ≡ slice_index_or given 0 to → AreSources ids first to
 given_first ids first given to h l at =
     let same : first + 0 ≡ first = omega arith in

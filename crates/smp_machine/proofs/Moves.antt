@@ -78,13 +78,16 @@ module _ (items : List Item) (views : List Knows) (h : IsInOrder items views) wh
       no_source n t l _ (sym (same_there views (h.port t) port (Puts t (items_by t (h.taken ++ items))) (Takes n l) (h.puts t below) at e))
 
 -- a pass that is not the source's own
-stays : (items : List Item) (views : List Knows) (h : IsInOrder items views) (port s : ℕ) (x : Item) → x.slot ≡ s → h.port s ≡ port → (q : ℕ) (u : Knows) → q ≢ port
+stays : (items : List Item) (views : List Knows) (h : IsInOrder items views) (port s : ℕ) (x : Item) → x.slot ≡ s → h.port s ≡ port → (q : ℕ) (u : Knows)
+    → q ≢ port
     → IsAtPort h.taker h.port h.next h.taken items q u → IsAtPort h.taker h.port h.next h.taken (items ++ x ∷ []) q u
 stays items views h port s x own mine q (Takes n l) other f = f
-stays items views h port s x own mine q (Puts t l) other f = (f.0, f.1, f.2 ∙ sym (put_else t h.taken items x (λ e. other (f.0 ∙ (ap h.port (sym e ∙ own) ∙ mine)))))
+stays items views h port s x own mine q (Puts t l) other f =
+    (f.0, f.1, f.2 ∙ sym (put_else t h.taken items x (λ e. other (f.0 ∙ (ap h.port (sym e ∙ own) ∙ mine)))))
 
 -- a source puts an item
-module _ (port s : ℕ) (l : List Item) (x : Item) (own : x.slot ≡ s) (items : List Item) (views : List Knows) (h : IsInOrder items views) (at : get_elem? views port ≡ some (Puts s l)) where
+module _ (port s : ℕ) (l : List Item) (x : Item) (own : x.slot ≡ s) (items : List Item) (views : List Knows) (h : IsInOrder items views)
+    (at : get_elem? views port ≡ some (Puts s l)) where
   abbrev put_views : List Knows
   put_views = set views port (Puts s (l ++ x ∷ []))
 
@@ -123,16 +126,19 @@ puts_as n port s l x own items views room h at =
     let after = put_in_order port s l x own items views h at in
     (w, after, (refl, record { items = items ++ x ∷ []; views = set views port w; port = port; in_order = after; at = set_there views port (Puts s l) w at }))
 
-pub puts : (n port : ℕ) (v : Knows) (s : ℕ) (l : List Item) (x : Item) → v ≡ Puts s l → x.slot ≡ s → Pushes IsInOrder n port v x (λ w. (w ≡ puts_more v x) × IsKnown w)
+pub puts : (n port : ℕ) (v : Knows) (s : ℕ) (l : List Item) (x : Item) → v ≡ Puts s l → x.slot ≡ s
+    → Pushes IsInOrder n port v x (λ w. (w ≡ puts_more v x) × IsKnown w)
 puts n port v s l x is own = subst (λ (y : Knows). Pushes IsInOrder n port y x (λ w. (w ≡ puts_more y x) × IsKnown w)) (sym is) (puts_as n port s l x own)
 
-moves : (taker : ℕ) (port : ℕ → ℕ) (next : ℕ) (taken items : List Item) (x : Item) (q : ℕ) (u : Knows) → q ≢ taker → IsAtPort taker port next taken (x ∷ items) q u
+moves : (taker : ℕ) (port : ℕ → ℕ) (next : ℕ) (taken items : List Item) (x : Item) (q : ℕ) (u : Knows) → q ≢ taker
+    → IsAtPort taker port next taken (x ∷ items) q u
     → IsAtPort taker port next (taken ++ x ∷ []) items q u
 moves taker port next taken items x q (Takes n l) other f = absurd (other f.0)
 moves taker port next taken items x q (Puts t l) other f = (f.0, f.1, f.2 ∙ ap (items_by t) (sym (append_assoc taken (x ∷ []) items)))
 
 -- the taker takes the front
-module _ (port n : ℕ) (l : List Item) (x : Item) (items : List Item) (views : List Knows) (h : IsInOrder (x ∷ items) views) (at : get_elem? views port ≡ some (Takes n l)) where
+module _ (port n : ℕ) (l : List Item) (x : Item) (items : List Item) (views : List Knows) (h : IsInOrder (x ∷ items) views)
+    (at : get_elem? views port ≡ some (Takes n l)) where
   abbrev taken_views : List Knows
   taken_views = set views port (Takes n (l ++ x ∷ []))
 
@@ -191,7 +197,8 @@ module _ (port n : ℕ) (l : List Item) (items : List Item) (views : List Knows)
       → get_elem? (given_views ++ Puts n [] ∷ []) (ported h.port n (length given_views) t) ≡ some (Puts t (items_by t (h.taken ++ items)))
   put_before same t below (inl e) =
       let none : items_by n (h.taken ++ items) ≡ [] = h.fresh n (omega arith) in
-      subst (λ (m : ℕ). get_elem? (given_views ++ Puts n [] ∷ []) (ported h.port n (length given_views) m) ≡ some (Puts m (items_by m (h.taken ++ items)))) (sym e)
+      subst (λ (m : ℕ). get_elem? (given_views ++ Puts n [] ∷ []) (ported h.port n (length given_views) m) ≡ some (Puts m (items_by m (h.taken ++ items))))
+      (sym e)
       (ap (λ (m : ℕ). get_elem? (given_views ++ Puts n [] ∷ []) m) (ported_mine h.port n (length given_views))
       ∙ (at_last given_views (Puts n []) (length given_views) refl ∙ ap (λ (k : List Item). some (Puts n k)) (sym none)))
   put_before same t below (inr other) =
@@ -217,7 +224,8 @@ module _ (port n : ℕ) (l : List Item) (items : List Item) (views : List Knows)
         puts = λ t below. put_before mine.1 t below (cases_eq t n);
         each = λ q u e. ⊎_elim
             (λ (there : get_elem? given_views q ≡ some u). ⊎_elim
-            (λ (t : (q ≡ port) × (Takes (n + 1) l ≡ u)). subst (λ (y : Knows). IsAtPort h.taker (ported h.port n p) (n + 1) h.taken items q y) t.1 (t.0 ∙ mine.0, refl, mine.2))
+            (λ (t : (q ≡ port) × (Takes (n + 1) l ≡ u)). subst (λ (y : Knows). IsAtPort h.taker (ported h.port n p) (n + 1) h.taken items q y) t.1
+            (t.0 ∙ mine.0, refl, mine.2))
             (λ (t : (q ≢ port) × (get_elem? views q ≡ some u)). seated h.taker h.port n p h.taken items q u (λ x. t.0 (x ∙ sym mine.0)) (old q u t.1))
             (at_set views port q (Takes (n + 1) l) u there))
             (λ (t : (q ≡ p) × (Puts n [] ≡ u)). subst (λ (y : Knows). IsAtPort h.taker (ported h.port n p) (n + 1) h.taken items q y) t.1

@@ -59,7 +59,8 @@ seated_none m calls stops passes waiting online c s sized fresh none = record {
 
 pub seated_more : (m : MachineValue) (n : ℕ) (calls calls' : call.BootValue) (stops stops' : stop.BootValue) (passes passes' : List PassesValue)
     (waiting waiting' : List (Option PlaceValue)) (x : Option PlaceValue) (b : Bool) → n < cpus → b ≡ has m.calls.online n
-    → AreSeated m n calls stops passes waiting → calls' ≡ (if b then call.given n calls else calls) → stops' ≡ (if b then stop.given n stops else stops) → passes' ≡ remove passes 0
+    → AreSeated m n calls stops passes waiting → calls' ≡ (if b then call.given n calls else calls) → stops' ≡ (if b then stop.given n stops else stops)
+    → passes' ≡ remove passes 0
     → x ≡ (if b then Some (fresh_place m n) else None) → waiting' ≡ waiting ++ x ∷ [] → AreSeated m (n + 1) calls' stops' passes' waiting'
 seated_more m n calls calls' stops stops' passes passes' waiting waiting' x b low is s c_is s_is p_is x_is w_is =
     let passes_sized : length passes + n ≡ cpus = s.passes_sized in
@@ -82,7 +83,8 @@ seated_more m n calls calls' stops stops' passes passes' waiting waiting' x b lo
     }))))
 
 -- once all are seated, all that are online are left
-pub seated_all : (m : MachineValue) (online n : ℕ) (calls : call.BootValue) (stops : stop.BootValue) (passes : List PassesValue) (waiting : List (Option PlaceValue))
+pub seated_all : (m : MachineValue) (online n : ℕ) (calls : call.BootValue) (stops : stop.BootValue) (passes : List PassesValue)
+    (waiting : List (Option PlaceValue))
     → online ≡ m.calls.online → AreLimits m.calls.nr online → cpus ≤ n → AreSeated m n calls stops passes waiting
     → IsFull (record { online = online; cpus_left = waiting }) m
 seated_all m online n calls stops passes waiting is limits all s = record {
@@ -92,7 +94,8 @@ seated_all m online n calls stops passes waiting is limits all s = record {
 }
 
 -- each CPU that is online has a place
-pub seated_wide : (m : MachineValue) (online n : ℕ) (calls : call.BootValue) (stops : stop.BootValue) (passes : List PassesValue) (waiting : List (Option PlaceValue))
+pub seated_wide : (m : MachineValue) (online n : ℕ) (calls : call.BootValue) (stops : stop.BootValue) (passes : List PassesValue)
+    (waiting : List (Option PlaceValue))
     → AreLimits m.calls.nr online → cpus ≤ n → AreSeated m n calls stops passes waiting → (cpu : ℕ) → has online cpu ≡ true → cpu < length waiting
 seated_wide m online n calls stops passes waiting limits all s cpu e =
     let below = limits.below cpu e in let few = limits.within in let count : length waiting ≡ n = s.count in omega arith

@@ -3,7 +3,7 @@
 ghost use Rattle.std.specs.Prelude.{◌≡◌, ◌<◌, ◌≤◌, ◌⊎◌, true, false, None, Some, if◌then◌else◌, length, IfOk, IfErr};
 ghost use Rattle.smp_mask.specs.Mask.{has};
 ghost use Rattle.smp_words.specs.Size.{cpus};
-ghost use Rattle.smp_queue.specs.Cpu.{IsFull as IsFullOfCalls, is_left as is_call_left, given as calls_given};
+ghost use Rattle.smp_queue.specs.Cpu.{IsFull as IsFullOfCalls, is_left as call_left, given as calls_given};
 ghost use Rattle.smp_multi.specs.Cpu.{IsFull as IsFullOfStops, left_at as stop_left, given as stops_given, fresh_cpu as fresh_stops};
 ghost use Rattle.smp_machine.specs.Passes.{AreFresh, fresh_passes};
 ghost use Rattle.smp_machine.specs.Place.{IsFull, left_at, given, fresh_place};
@@ -47,9 +47,8 @@ fn seat_if<A: Allocator>(
     passes: Passes<A>,
     number: u32,
 ) -> Option<Cpu<A>>
-    requires table { calls.old.table ≡ machine.now.calls }
-    requires online { (is_online ≡ has machine.now.calls.online number) × (is_online ≡ has stops.old.online number) }
-    requires calls { is_online ≡ true → is_call_left calls.old number ≡ true }
+    requires online { (is_online ≡ has calls.old.table.online number) × (is_online ≡ has stops.old.online number) }
+    requires calls { (calls.old.table ≡ machine.now.calls) × (is_online ≡ true → call_left calls.old number ≡ true) }
     requires stops { is_online ≡ true → stop_left stops.old number ≡ Some (fresh_stops machine.now.stops.table machine.now.stops.setting number) }
     requires passes { passes ≡ fresh_passes machine.now.queues number }
     ensures cpu { result ≡ if is_online then Some (fresh_place machine.now number) else None }

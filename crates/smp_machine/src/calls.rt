@@ -8,7 +8,7 @@ ghost use Rattle.smp_mask.specs.Mask.{has, members};
 ghost use Rattle.smp_words.specs.Size.{cpus};
 ghost use Rattle.smp_queue.specs.Handling.{heard};
 ghost use Rattle.smp_calls.specs.Ended.{HaveEnded};
-ghost use Rattle.smp_calls.specs.Families.{CallsOne, CallsBy, CallsHere, CallsUserHere, CallsMany, QueuesNone, RefusesUser};
+ghost use Rattle.smp_calls.specs.Families.{CallsOne, CallsBy, CallsHere, CallsUserHere, CallsMany, QueuesNone, RefusesUser, HandlesNone};
 ghost use Rattle.smp_calls.specs.Records.{call_by, many_call, single_record, user_record, class_for};
 ghost use Rattle.smp_calls.specs.Rounds.{Picks};
 ghost use Rattle.smp_calls.specs.Targets.{IsAny, HasNone, is_target, remote};
@@ -18,7 +18,7 @@ ghost use Rattle.smp_machine.specs.Place.{IsAt};
 use crate::cpu::Cpu;
 use crate::machine::Machine;
 use crate::place::Place;
-use smp_calls::{USER_RECORDS, call_any, call_async, call_many, call_single, each_cpu_cond};
+use smp_calls::{call_any, call_async, call_many, call_single, each_cpu_cond};
 use smp_mask::{CpuMask, SmpError};
 use smp_queue::Handler;
 use smp_words::call::Class;
@@ -72,10 +72,13 @@ fn single_async<A: Allocator, R: Wait, H: Handler>(
 ) -> Result<(), SmpError>
     requires at { IsAt machine.now me.old }
     requires irq { me.old.stops.irq ≡ true }
-    ensures record { IfOk result (λ _. u < USER_RECORDS) }
+    ensures record { IfOk result (λ _. u < 2) }
     ensures queued { IfOk result (λ _. dst ≢ me.old.calls.number → (has machine.now.calls.online dst ≡ true)
         × CallsBy H.leads me.old.calls handler.old me.new.calls handler.new (user_record u) Class.Async dst func info false) }
     ensures here { IfOk result (λ _. dst ≡ me.old.calls.number → CallsUserHere H.leads me.old.calls handler.old me.new.calls handler.new u func info) }
+    ensures still { HandlesNone me.old.calls me.new.calls }
+    ensures untouched { IfOk result (λ _. dst ≢ me.old.calls.number → handler.new ≡ handler.old) }
+    ensures called { IfOk result (λ _. dst ≡ me.old.calls.number → H.leads handler.old (heard me.old.calls.number func info) handler.new) }
     ensures refused { IfErr result (λ e. RefusesUser machine.now.calls.online me.old.calls me.new.calls u dst e × (handler.new ≡ handler.old)) }
     ensures kept { KeepsStops me.old me.new }
 {
@@ -245,10 +248,13 @@ impl<A: Allocator> Machine<A> {
     ) -> Result<(), SmpError>
         requires at { IsAt self.now me.old }
         ensures free { IfOk result (λ _. me.old.stops.inside ≡ None) }
-        ensures record { IfOk result (λ _. u < USER_RECORDS) }
+        ensures record { IfOk result (λ _. u < 2) }
         ensures queued { IfOk result (λ _. dst ≢ me.old.calls.number → (has self.now.calls.online dst ≡ true)
             × CallsBy H.leads me.old.calls handler.old me.new.calls handler.new (user_record u) Class.Async dst func info false) }
         ensures here { IfOk result (λ _. dst ≡ me.old.calls.number → CallsUserHere H.leads me.old.calls handler.old me.new.calls handler.new u func info) }
+        ensures still { HandlesNone me.old.calls me.new.calls }
+        ensures untouched { IfOk result (λ _. dst ≢ me.old.calls.number → handler.new ≡ handler.old) }
+        ensures called { IfOk result (λ _. dst ≡ me.old.calls.number → H.leads handler.old (heard me.old.calls.number func info) handler.new) }
         ensures refused { IfErr result (λ e. RefusedInHand e me.old handler.old me.new handler.new
             ⊎ ((me.old.stops.inside ≡ None) × RefusesUser self.now.calls.online me.old.calls me.new.calls u dst e × (handler.new ≡ handler.old))) }
         ensures kept { KeepsStops me.old me.new }
@@ -280,7 +286,8 @@ impl<A: Allocator> Machine<A> {
         requires at { IsAt self.now me.old }
         ensures free { IfOk result (λ _. me.old.stops.inside ≡ None) }
         ensures any { IfOk result (λ cpu. IsAny mask self.now.calls.online me.old.calls.number cpu) }
-        ensures queued { IfOk result (λ cpu. cpu ≢ me.old.calls.number → CallsOne H.leads me.old.calls handler.old me.new.calls handler.new cpu func info wait) }
+        ensures queued { IfOk result (λ cpu. cpu ≢ me.old.calls.number →
+            CallsOne H.leads me.old.calls handler.old me.new.calls handler.new cpu func info wait) }
         ensures here { IfOk result (λ cpu. cpu ≡ me.old.calls.number → CallsHere H.leads me.old.calls handler.old me.new.calls handler.new func info wait) }
         ensures refused { IfErr result (λ e. RefusedInHand e me.old handler.old me.new handler.new
             ⊎ ((me.old.stops.inside ≡ None) × (e ≡ SmpError.NoCpu) × HasNone mask self.now.calls.online me.old.calls.number
@@ -316,7 +323,8 @@ impl<A: Allocator> Machine<A> {
         requires at { IsAt self.now me.old }
         ensures free { IfOk result (λ _. me.old.stops.inside ≡ None) }
         ensures targets { IfOk result (λ called. (c : ℕ) → has called c ≡ is_target mask self.now.calls.online me.old.calls.number false c) }
-        ensures calls { IfOk result (λ called. CallsMany H.leads me.old.calls handler.old me.new.calls handler.new (members called) (class_for wait) func info None wait) }
+        ensures calls { IfOk result (λ called.
+            CallsMany H.leads me.old.calls handler.old me.new.calls handler.new (members called) (class_for wait) func info None wait) }
         ensures ended { IfOk result (λ called. wait ≡ true → HaveEnded me.new.calls (many_call me.old.calls.number Class.Sync func info) (members called)) }
         ensures refused { IfErr result (λ e. RefusedInHand e me.old handler.old me.new handler.new) }
         ensures kept { KeepsStops me.old me.new }
@@ -349,10 +357,13 @@ impl<A: Allocator> Machine<A> {
         requires at { IsAt self.now me.old }
         requires condition { (c : ℕ) → c < cpus → C.pre cond.now c info }
         ensures free { IfOk result (λ _. me.old.stops.inside ≡ None) }
-        ensures picks { IfOk result (λ called. Picks (λ c answer. C.post cond.now c info answer) (is_target mask self.now.calls.online me.old.calls.number true) called) }
-        ensures calls { IfOk result (λ called. CallsMany H.leads me.old.calls handler.old me.new.calls handler.new (remote me.old.calls.number called) (class_for wait)
+        ensures picks { IfOk result (λ called. Picks (λ c answer. C.post cond.now c info answer)
+            (is_target mask self.now.calls.online me.old.calls.number true) called) }
+        ensures calls { IfOk result (λ called.
+            CallsMany H.leads me.old.calls handler.old me.new.calls handler.new (remote me.old.calls.number called) (class_for wait)
             func info (if has called me.old.calls.number then Some (heard me.old.calls.number func info) else None) wait) }
-        ensures ended { IfOk result (λ called. wait ≡ true → HaveEnded me.new.calls (many_call me.old.calls.number Class.Sync func info) (remote me.old.calls.number called)) }
+        ensures ended { IfOk result (λ called. wait ≡ true →
+            HaveEnded me.new.calls (many_call me.old.calls.number Class.Sync func info) (remote me.old.calls.number called)) }
         ensures refused { IfErr result (λ e. RefusedInHand e me.old handler.old me.new handler.new) }
         ensures kept { KeepsStops me.old me.new }
     {

@@ -15,7 +15,8 @@ loop-number-preserved g c =
     let is = c.contains-is_online.ensures.member ∙ ap (λ (mask : ℕ). has mask n) c.online-online.ensures.calls in
     seated_more c.args.machine.now n c.loop-number.calls c.seat_if-cpu.new.calls c.loop-number.stops c.seat_if-cpu.new.stops c.loop-number.passes.items
     c.remove-own.new.self.items c.loop-number.waiting.items c.push.new.self.items c.seat_if-cpu.result c.contains-is_online.result c.loop-number-test.true is
-    c.loop-number.invariant c.seat_if-cpu.ensures.calls c.seat_if-cpu.ensures.stops c.remove-own.ensures.items c.seat_if-cpu.ensures.cpu c.in_ok-push.ensures.items
+    c.loop-number.invariant c.seat_if-cpu.ensures.calls c.seat_if-cpu.ensures.stops c.remove-own.ensures.items c.seat_if-cpu.ensures.cpu
+    c.in_ok-push.ensures.items
 
 pub invariant_of-result : goal.invariant_of-result
 invariant_of-result g c =

@@ -49,4 +49,5 @@ loop-cpu-preserved g c =
 pub returns-clause-takers : goal.returns-clause-takers
 returns-clause-takers g c =
     let all : length c.args.queues.now ≤ c.loop-cpu.cpu = c.loop-cpu-test.false in
-    takers_after (queue_ids c.args.queues.now) c.loop-cpu.takers.items c.loop-cpu.cpu c.args.source (subst (λ (n : ℕ). n ≤ c.loop-cpu.cpu) (sym c.loop-cpu.invariant.sized) all) c.loop-cpu.invariant.takers
+    takers_after (queue_ids c.args.queues.now) c.loop-cpu.takers.items c.loop-cpu.cpu c.args.source
+    (subst (λ (n : ℕ). n ≤ c.loop-cpu.cpu) (sym c.loop-cpu.invariant.sized) all) c.loop-cpu.invariant.takers

@@ -15,7 +15,8 @@ loop-number-init g c = record {
   takers = left_all (queue_ids c.args.queues.now) c.args.takers.items c.requires.takers;
   given = c.requires.given;
   count = search rules;
-  fresh = subst (λ (l : List PassesValue). AreFresh (queue_ids c.args.queues.now) 0 l) (sym c.in_ok-passes.ensures.items) (fresh_none (queue_ids c.args.queues.now));
+  fresh = subst (λ (l : List PassesValue). AreFresh (queue_ids c.args.queues.now) 0 l) (sym c.in_ok-passes.ensures.items)
+      (fresh_none (queue_ids c.args.queues.now));
 }
 
 pub new-requires : goal.new-requires
@@ -46,7 +47,8 @@ loop-number-preserved g c =
     record {
       takers_left = search rules;
       given_left = search rules;
-      takers = subst (λ (l : List (Pass Item Knows)). AreLeft ids (n + 1) l) (sym c.remove-own.ensures.items) (left_rest ids n c.loop-number.takers.items v.takers);
+      takers = subst (λ (l : List (Pass Item Knows)). AreLeft ids (n + 1) l) (sym c.remove-own.ensures.items)
+          (left_rest ids n c.loop-number.takers.items v.takers);
       given = subst (λ (l : List (List (Pass Item Knows))). AreGiven ids (n + 1) l) (sym c.remove.ensures.items)
           (given_rest ids n c.loop-number.given.items v.given);
       count = search rules;
