@@ -86,7 +86,8 @@ by_case false wait m o e = e refl
 
 module _ {H : Type 0} (leads : H → Heard → H → Type 0) where
   leaves_sent : (first : Bool) (lost : ℕ) (c : CpuValue) (h : H) (k to : ℕ) (class : Class) (func info : ℕ) → IsSized c → k < records_of_one →
-      Leaves leads c h (sent_one k to class func info first lost c) h (sendings (λ _. call_by c.number k class func info) (one_queued to first)) (calls_and_interrupts (one_queued to first))
+      Leaves leads c h (sent_one k to class func info first lost c) h (sendings (λ _. call_by c.number k class func info) (one_queued to first))
+      (calls_and_interrupts (one_queued to first))
       (λ x. owes_at c x && not (is_first_to x (one_queued to first))) (λ j. cond (j == k) false (confirmed_at c j))
   leaves_sent true lost c h k to class func info s l = record {
     table_is = refl;
@@ -121,9 +122,11 @@ module _ {H : Type 0} (leads : H → Heard → H → Type 0) where
       Leaves leads c h d h (sendings (λ _. call_by number k class func info) (one_queued to first)) (calls_and_interrupts (one_queued to first))
       (λ x. owes_at c x && not (is_first_to x (one_queued to first))) (λ j. cond (j == k) false (confirmed_at c j))
   leaves_one c d h number k to class func info first lost s l n e =
-      subst (λ (x : CpuValue). Leaves leads c h x h (sendings (λ _. call_by number k class func info) (one_queued to first)) (calls_and_interrupts (one_queued to first))
+      subst (λ (x : CpuValue). Leaves leads c h x h (sendings (λ _. call_by number k class func info) (one_queued to first)) (calls_and_interrupts
+      (one_queued to first))
       (λ x. owes_at c x && not (is_first_to x (one_queued to first))) (λ j. cond (j == k) false (confirmed_at c j))) (sym e)
-      (subst (λ (m : ℕ). Leaves leads c h (sent_one k to class func info first lost c) h (sendings (λ _. call_by m k class func info) (one_queued to first)) (calls_and_interrupts (one_queued to first))
+      (subst (λ (m : ℕ). Leaves leads c h (sent_one k to class func info first lost c) h (sendings (λ _. call_by m k class func info)
+      (one_queued to first)) (calls_and_interrupts (one_queued to first))
       (λ x. owes_at c x && not (is_first_to x (one_queued to first))) (λ j. cond (j == k) false (confirmed_at c j))) n
       (leaves_sent first lost c h k to class func info s l))
 

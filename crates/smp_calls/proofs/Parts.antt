@@ -203,7 +203,8 @@ module _ {H : Type 0} (leads : H → Heard → H → Type 0) where
   pub calls_then_here : (old mid : CpuValue) (before m after : H) (class : Class) (func info : ℕ) (to : List ℕ) (here : Option Heard) →
       CallsMany leads old before mid m to class func info None false → HearsIf leads m here after →
       CallsMany leads old before mid after to class func info here false
-  calls_then_here old mid before m after class func info to None f e = subst (λ (x : H). CallsMany leads old before mid x to class func info None false) (sym e) f
+  calls_then_here old mid before m after class func info to None f e = subst (λ (x : H). CallsMany leads old before mid x to class func info None false)
+      (sym e) f
   calls_then_here old mid before m after class func info to (Some heard) f call = (
     f.0,
     f.1,

@@ -155,7 +155,8 @@ module _ {H : Type 0} (leads : H → Heard → H → Type 0) where
       }
 
   -- the record was waited for before
-  pub queues_one : {old mid new : CpuValue} {before m : H} (k to : ℕ) (class : Class) (func info : ℕ) (asked first : Bool) (lost : ℕ) → asked ≡ true → k ≡ many_record to
+  pub queues_one : {old mid new : CpuValue} {before m : H} (k to : ℕ) (class : Class) (func info : ℕ) (asked first : Bool) (lost : ℕ) → asked ≡ true
+      → k ≡ many_record to
       → k < records_of_one → IsSized old →
       Leaves leads old before mid m [] [] (owes_at old) (λ j. j == k || confirmed_at old j) → new ≡ posts k to class func info first (loses lost mid) →
       (queued : List Queued) × (destinations queued ≡ only_if asked to) × (firsts queued ≡ only_if first to)
@@ -166,7 +167,8 @@ module _ {H : Type 0} (leads : H → Heard → H → Type 0) where
       let posted : Queues leads mid m new m (many_call old.number class func info) (one_queued to first) =
       subst (λ (x : CpuValue). Queues leads mid m x m (many_call old.number class func info) (one_queued to first))
       (sym (e ∙ ap (λ (j : ℕ). posts j to class func info first (loses lost mid)) is_k))
-      (subst (λ (n : ℕ). Queues leads mid m (posts (many_record to) to class func info first (loses lost mid)) m (many_call n class func info) (one_queued to first))
+      (subst (λ (n : ℕ). Queues leads mid m (posts (many_record to) to class func info first (loses lost mid)) m (many_call n class func info)
+      (one_queued to first))
       f.number_is
       (queues_post mid m to class func info first lost same small)) in
       let call = many_call old.number class func info in

@@ -174,7 +174,8 @@ module _ {F : Type 0} (leads : F → Called → F → Type 0) (t : TableId) (d e
       let n = d.known.number in
       let c = d.known.part.calling in
       let same_call = quiet_carried v c k.quiet (p == RUN) in
-      ap (λ y. cpu_of y e) (ap (λ (z : Visit). z.answer) next) ∙ (view v.answer (turned_at d.known p v.slot w c) (same ∙ passed_is d.known v.slot w v.acked p is) ∙
+      ap (λ y. cpu_of y e) (ap (λ (z : Visit). z.answer) next) ∙ (view v.answer (turned_at d.known p v.slot w c) (same
+      ∙ passed_is d.known v.slot w v.acked p is) ∙
       (λ i. record (acknowledges stop p (nat_lt p DISABLE_IRQ || p == EXIT) old) {
         part = record (d.known.part) {
           looks = d.known.part.looks ++ p ∷ [];
@@ -200,7 +201,8 @@ module _ {F : Type 0} (leads : F → Called → F → Type 0) (t : TableId) (d e
             ap (λ b. record (cpu_of y (record { table = d.table; known = mine })) {
               part = record (mine.part) { calls = cond b (d.known.part.calls ++ call_with w y ∷ []) d.known.part.calls; calling = Carries y };
             }) calls ∙
-            ap (λ (z : Part). carries y (runs (call_with w y) (acknowledges stop RUN false (record old { part = z })))) (sym (idle_part v.answer d.known (idle two))))),
+            ap (λ (z : Part). carries y (runs (call_with w y) (acknowledges stop RUN false (record old { part = z })))) (sym (idle_part v.answer d.known
+            (idle two))))),
         subst (λ (z : Work). leads f (called d.known.number z.func z.arg h.0) g) (sym work_is) h.3,
       )
   runs_at Patch kind two on h =
@@ -214,7 +216,8 @@ module _ {F : Type 0} (leads : F → Called → F → Type 0) (t : TableId) (d e
             ap (λ b. record (cpu_of y (record { table = d.table; known = mine })) {
               part = record (mine.part) { calls = cond b (d.known.part.calls ++ call_with w y ∷ []) d.known.part.calls; calling = Carries y };
             }) none ∙
-            ap (λ (z : Part). carries y (patches w h.0 (acknowledges stop RUN false (record old { part = z })))) (sym (idle_part v.answer d.known (idle two))))),
+            ap (λ (z : Part). carries y (patches w h.0 (acknowledges stop RUN false (record old { part = z })))) (sym (idle_part v.answer d.known
+            (idle two))))),
         h.3,
       )
 

@@ -292,7 +292,8 @@ run_answers {F} leads d e number visit holds is_open before after v kept one tab
     let none = no_phase d.known visit.slot visit.acked visit.acked w kept.lives kept.rests.2 kind in
     let idle = idle_before d.known visit visit.slot visit.acked visit.acked w Rests kept.lives kept.rests.2 (omega (arith, none)) kept.quiet in (
       record { stop = record { slot = visit.slot; work = w; acked = visit.acked }; is = ap inside_of kept.rests.2; one = kind },
-      ran_view 0 visit.answer d e visit.slot w (answer_word v) kind idle table (same ∙ ap (λ (x : Work). completed_with 0 visit.slot x (answer_word v) d.known) work),
+      ran_view 0 visit.answer d e visit.slot w (answer_word v) kind idle table (same
+          ∙ ap (λ (x : Work). completed_with 0 visit.slot x (answer_word v) d.known) work),
       subst (λ (x : Work). leads before (called d.known.number x.func x.arg v) after) work heard,
     )
 

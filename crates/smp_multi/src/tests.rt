@@ -4,15 +4,20 @@ ghost use Rattle.smp_mask.specs.Mask.{has};
 ghost use Rattle.smp_multi.specs.Cpu.{IsAt, left_at};
 
 mod labels;
+mod meetings;
 mod nudges;
 mod patches;
+mod rounds;
 mod threads;
 
 use super::*;
+use crate::cell::cell;
 use linked_list_allocator::LocalHeap;
 use smp_labels::{Entry, LabelMap, SiteKind};
 use smp_mask::{CpuMask, SmpError};
+use smp_words::field::Field;
 use smp_words::size::NR_CPUS;
+use smp_words::word::Word;
 use smp_words::work::{Kind, Work};
 use std::alloc::Global;
 use std::marker::Model;
@@ -180,6 +185,16 @@ fn one(cpu: u32, func: u16, arg: u64) -> Result<Work, SmpError> {
         func,
         arg,
     })
+}
+
+/// The count of key 0.
+fn count_of_key(table: &StopTable<Global>) -> u64 {
+    table.owner.shared.peek(cell(Word::Key(0)))
+}
+
+/// The phase in the slot of CPU 0.
+fn phase_of_slot(table: &StopTable<Global>) -> u64 {
+    table.owner.shared.peek(cell(Word::Slot(0, Field::State)))
 }
 
 /// A table that is made so says that these CPUs are online.

@@ -100,7 +100,8 @@ where
 
 /// A seat for the next CPU.
 pub(crate) fn next_seat(words: &Words, maker: &mut SeatMaker, n: u32) -> CpuSeat
-    requires { (maker.old.raw.table_id ≡ words.now.table_id) × (words.now.table_id.words ≡ cells) × (maker.old.raw.me.0 ≡ Maker n words.now.key) × (n < words.now.key.nr) }
+    requires { (maker.old.raw.table_id ≡ words.now.table_id) × (words.now.table_id.words ≡ cells)
+        × (maker.old.raw.me.0 ≡ Maker n words.now.key) × (n < words.now.key.nr) }
     ensures maker { (maker.new.raw.table_id ≡ words.now.table_id) × (maker.new.raw.me.0 ≡ Maker (n + 1) words.now.key) }
     ensures seat { (result.table ≡ words.now.table_id) × (result.known ≡ fresh words.now.key n) }
 {

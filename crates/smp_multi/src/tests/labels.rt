@@ -1,9 +1,7 @@
 //! Keys and sites on one thread: readings, nudges, and a patch by hand.
 
 use super::*;
-use crate::cell::cell;
 use smp_mask::Edge;
-use smp_words::word::Word;
 
 /// One key with two sites, as `static_branch_unlikely` and `static_branch_likely` declare them.
 pub(super) fn two_sites() -> Result<LabelMap, SmpError> {
@@ -143,7 +141,7 @@ fn patched_to(
 ) -> (Result<Option<i32>, SmpError>, u64) {
     let mut func = Answerer::new(9);
     let (_, result) = patch_alone(zero, &mut func, work);
-    (result, table.owner.shared.peek(cell(Word::Key(0))))
+    (result, count_of_key(table))
 }
 
 /// A key that is on or off is read so, and its sites are lawful.

@@ -2,9 +2,7 @@
 
 use super::labels::{patch, two_sites};
 use super::*;
-use crate::cell::cell;
 use crossbeam_utils::Backoff;
-use smp_words::word::Word;
 use std::sync::Wait;
 use std::sync::atomic::{AtomicU64, Ordering};
 use std::thread;
@@ -114,7 +112,7 @@ fn run_all<R: Wait + Threads>(rt: &R, alloc: Global) -> Result<(u64, u64), SmpEr
     let (table, boot) = StopTable::new(alloc, CPUS + 1, online, &two_sites()?)?;
     let work = patch(online, 2)?;
     let right = nudge_all(rt, alloc, &mut Room::new(&table, boot), work)?;
-    let word = table.owner.shared.peek(cell(Word::Key(0)));
+    let word = count_of_key(&table);
     Ok((right, word))
 }
 

@@ -70,7 +70,8 @@ drained_equal k v words (audit.Drained t) c a = λ source to s d. a.1.queued_are
 drained_equal k v words (audit.Left left) c a = tt
 
 -- a CPU's rows are those of its part
-pub drained_rows : (k : Setting) (d : SeatValue) (words : List ℕ) (answer : Audit) → k.nr ≤ cpus → Closes k d.known words → AuditAnswers (number_in words) answer
+pub drained_rows : (k : Setting) (d : SeatValue) (words : List ℕ) (answer : Audit) → k.nr ≤ cpus → Closes k d.known words
+    → AuditAnswers (number_in words) answer
     → IfDrained answer (HasRowsOf (cpu_of d))
 drained_rows k d words (audit.Drained t) within c a = λ other below.
     let me = d.known.number in

@@ -126,7 +126,8 @@ pub kept_posted : (v w v' : Known) (number : ℕ) (queued ran : List ℕ) (p : P
     w ≡ standing (uncounted p) post.Count v → v' ≡ queued_known (posted p) p.to first (lost_tries lost w) →
     IsKept v' number (set queued p.to ((get_or queued p.to 0 + 1) % 2 ^ 64)) ran
 kept_posted v w v' number queued ran p first lost k l e f =
-    let known : v' ≡ queued_known (posted p) p.to first (lost_tries lost v) = f ∙ ap (λ (u : Known). queued_known (posted p) p.to first (lost_tries lost u)) e in
+    let known : v' ≡ queued_known (posted p) p.to first (lost_tries lost v) = f
+    ∙ ap (λ (u : Known). queued_known (posted p) p.to first (lost_tries lost u)) e in
     subst (λ (u : Known). IsKept u number (set queued p.to ((get_or queued p.to 0 + 1) % 2 ^ 64)) ran) (sym known)
     (kept_appended (kept_lost k lost) p.to first (posted p) l)
 

@@ -90,7 +90,8 @@ set_twice (z ∷ zs) zero x y = refl
 set_twice (z ∷ zs) (suc i) x y = ap (λ (ws : List _). z ∷ ws) (set_twice zs i x y)
 
 -- what a CPU leaves that has queued the call of this post
-pub posts_then : (s s' : SeatValue) (w : Known) (old new : CpuValue) (k to func info : ℕ) (class : Class) (p : Posting) (first : Bool) (lost : ℕ) → cpu_of s ≡ new
+pub posts_then : (s s' : SeatValue) (w : Known) (old new : CpuValue) (k to func info : ℕ) (class : Class) (p : Posting) (first : Bool) (lost : ℕ)
+    → cpu_of s ≡ new
     → new ≡ confirms k old →
     p ≡ posting_of (record_of old.number k) class func info to → s'.table ≡ old.table → w ≡ standing (uncounted p) post.Count s.known
     → s'.known ≡ queued_known (posted p) p.to first (lost_tries lost w) →

@@ -26,7 +26,8 @@ module _ (d : SeatValue) (l : Lives d.known) where
   }
 
   -- a CPU that has given a record up
-  pub free_then : (v w : Known) (new : CpuValue) (p : Posting) (k lost : ℕ) → d.known ≡ outside_known (lost_tries lost w) → w ≡ standing (uncounted p) post.Count v →
+  pub free_then : (v w : Known) (new : CpuValue) (p : Posting) (k lost : ℕ) → d.known ≡ outside_known (lost_tries lost w)
+      → w ≡ standing (uncounted p) post.Count v →
       v.part ≡ new.part → v.number ≡ new.number → MayQueue new p → p.id ≡ record_of new.number k → ShowsThat (cpu_of d) (IsFree (cpu_of d) k)
   free_then v w new p k lost left stands part number may is =
       let known : d.known ≡ outside_known (lost_tries lost v) = left ∙ ap (λ (u : Known). outside_known (lost_tries lost u)) stands in

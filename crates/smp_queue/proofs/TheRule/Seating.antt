@@ -50,7 +50,8 @@ seats_wait table maker_table maker k n waiting limits all s = record {
 }
 
 -- whether the CPU of a number is left, by what waits there
-pub left_is : (waiting : List (Option CpuValue)) (cpu : ℕ) (o : Option CpuValue) → get_or waiting cpu None ≡ o → get_or (map is_some waiting) cpu false ≡ is_some o
+pub left_is : (waiting : List (Option CpuValue)) (cpu : ℕ) (o : Option CpuValue) → get_or waiting cpu None ≡ o
+    → get_or (map is_some waiting) cpu false ≡ is_some o
 left_is waiting cpu o e = get_or-map is_some waiting cpu None ∙ ap is_some e
 
 -- and are left
@@ -67,6 +68,7 @@ pub taken_from : (waiting : List (Option CpuValue)) (cpu : ℕ) (o now : Option 
 taken_from waiting cpu o now low e f = sym (e ∙ (f ∙ get_or_default waiting cpu now None low))
 
 -- is fresh
-pub waits_fresh : (t : TableValue) (online : ℕ) (waiting : List (Option CpuValue)) (cpu : ℕ) (c : CpuValue) → AreWaiting t online waiting → has online cpu ≡ true
+pub waits_fresh : (t : TableValue) (online : ℕ) (waiting : List (Option CpuValue)) (cpu : ℕ) (c : CpuValue) → AreWaiting t online waiting
+    → has online cpu ≡ true
     → get_or waiting cpu None ≡ Some c → c ≡ fresh_cpu t cpu
 waits_fresh t online waiting cpu c w h e = subst (λ o. IfSome o (λ c. c ≡ fresh_cpu t cpu)) e (w.fresh_are cpu h)

@@ -14,7 +14,8 @@ load-number-requires g c = ready_func _ _ c.args.visit Multi c.requires
 
 pub load-arg-requires : goal.load-arg-requires
 load-arg-requires g c = let same = c.load-number.ensures.known in
-    ready_arg _ _ c.args.visit Multi (run_moved _ c.args.seat.now c.load-number.new.seat c.args.visit Multi c.requires c.load-number.ensures.table (ap (λ (v : Known). v.number) same)
+    ready_arg _ _ c.args.visit Multi (run_moved _ c.args.seat.now c.load-number.new.seat c.args.visit Multi c.requires c.load-number.ensures.table (ap
+    (λ (v : Known). v.number) same)
     (ap (λ (v : Known). v.source) same) (ap (λ (v : Known). v.seat) same))
 
 pub overflow_cast-result : goal.overflow_cast-result

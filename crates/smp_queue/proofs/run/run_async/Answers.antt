@@ -50,4 +50,5 @@ returns g c =
     (c.count_async.ensures.known ∙ ap (ended_call (second_on c.args.next) c.args.call) begun)
     c.count_async.ensures.at
     is
-    (subst (λ (n : ℕ). g.H.Handler.leads c.args.handler.now (heard n c.args.call.func c.args.call.info) c.call.new.self) c.owner_of-source.ensures c.call.ensures)
+    (subst (λ (n : ℕ). g.H.Handler.leads c.args.handler.now (heard n c.args.call.func c.args.call.info) c.call.new.self) c.owner_of-source.ensures
+    c.call.ensures)

@@ -51,4 +51,5 @@ returns g c =
     (c.end_sync.ensures.known ∙ ap (ended_call (first_on c.args.walk c.args.next) c.args.call) counted)
     c.end_sync.ensures.at
     is
-    (subst (λ (n : ℕ). g.H.Handler.leads c.args.handler.now (heard n c.args.call.func c.args.call.info) c.call.new.self) c.owner_of-source.ensures c.call.ensures)
+    (subst (λ (n : ℕ). g.H.Handler.leads c.args.handler.now (heard n c.args.call.func c.args.call.info) c.call.new.self) c.owner_of-source.ensures
+    c.call.ensures)

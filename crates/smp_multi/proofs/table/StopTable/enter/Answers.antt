@@ -25,7 +25,8 @@ pub invariant_of-me : goal.invariant_of-me
 invariant_of-me g c = elim c.match-enter.branch [
   | in-Some w ↦ let k = w.in-Some.ensures.known in
       subst (λ (m : Inside). IsKept m.seat.known m.number m.visit m.holds m.is_open) (sym w.me-inside-is)
-      (kept_entered _ _ c.me.inside.number c.me.inside.visit c.me.inside.holds c.me.inside.is_open w.in-Some.visit c.args.slot k.0 c.me.invariant (idle g c) k.1 k.3
+      (kept_entered _ _ c.me.inside.number c.me.inside.visit c.me.inside.holds c.me.inside.is_open w.in-Some.visit c.args.slot k.0 c.me.invariant
+      (idle g c) k.1 k.3
       (low_slot c.self.inside.nr c.args.slot (there g c)) c.enter.ensures.lives)
   | in-None w ↦ subst (λ (m : Inside). IsKept m.seat.known m.number m.visit m.holds m.is_open) (sym w.me-inside-is)
       (kept_same _ _ c.me.inside.number c.me.inside.visit c.me.inside.holds c.me.inside.is_open c.me.invariant w.in-None.ensures.known)
@@ -41,7 +42,8 @@ returns-clause-ok g c = elim c.match-enter.branch [
       (sym w.result-is)
       (subst (λ (m : Inside). Enters c.args.self.now c.args.slot c.args.me.now (cpu.the_view m) w.in-Some.visit.kind) (sym w.me-inside-is)
       (subst (λ (m : CpuValue). Enters c.args.self.now c.args.slot m (cpu_of w.in-Some.visit.answer c.enter.new.seat) w.in-Some.visit.kind) c.me.view_is
-      (subst (λ (t : TableValue). Enters t c.args.slot (cpu_of (answer_of c.me.inside.visit) d) (cpu_of w.in-Some.visit.answer c.enter.new.seat) w.in-Some.visit.kind) c.self.view_is
+      (subst (λ (t : TableValue). Enters t c.args.slot (cpu_of (answer_of c.me.inside.visit) d)
+      (cpu_of w.in-Some.visit.answer c.enter.new.seat) w.in-Some.visit.kind) c.self.view_is
       (enters_answer (record { table = c.self.inside.owner.shared.table_id; nr = c.self.inside.nr; setting = c.self.inside.setting })
       (answer_of c.me.inside.visit) w.in-Some.visit.answer d c.enter.new.seat c.args.slot k.0 w.in-Some.visit (free g c).1 (idle g c) (there g c) table
       k.1 k.2 k.3))))

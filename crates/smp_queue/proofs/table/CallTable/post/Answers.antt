@@ -37,5 +37,6 @@ returns-clause-answers g c =
 pub returns-clause-marked : goal.returns-clause-marked
 returns-clause-marked g c =
     let answers = returns-clause-answers g c in
-    marked_then c.append_until_won-first.new.seat c.append_until_won-first.ensures.lives (loses answers.2 c.args.me.now) c.args.k c.args.to c.args.func c.args.info
+    marked_then c.append_until_won-first.new.seat c.append_until_won-first.ensures.lives
+    (loses answers.2 c.args.me.now) c.args.k c.args.to c.args.func c.args.info
     c.args.class c.append_until_won-first.result answers.3

@@ -46,5 +46,6 @@ returns-in-None-clause-free g c _ =
     let e = c.in_ok-posting.ensures in
     let new : CpuValue = c.begin_post.new.me in
     free_then c.append.new.seat c.append.ensures.lives c.me.inside.seat.known c.write_record.new.seat.known new c.in_ok-posting.posting c.args.k
-    c.args.tries c.in-None.ensures.lost c.write_record.ensures.known (ap (λ (x : CpuValue). x.part) c.me.view_is) (ap (λ (x : CpuValue). x.number) c.me.view_is) e.4
+    c.args.tries c.in-None.ensures.lost c.write_record.ensures.known (ap (λ (x : CpuValue). x.part) c.me.view_is) (ap (λ
+    (x : CpuValue). x.number) c.me.view_is) e.4
     (ap (λ (p : Posting). p.id) e.3 ∙ ap (λ (x : CpuValue). record_of x.number c.args.k) (sym e.2))
