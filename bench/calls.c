@@ -14,14 +14,8 @@
  */
 #define _GNU_SOURCE
 #include <pthread.h>
-#include <sched.h>
 #include <stdatomic.h>
-#include <stdbool.h>
-#include <stdint.h>
-#include <stdio.h>
-#include <stdlib.h>
-#include <string.h>
-#include <time.h>
+#include "meter.h"
 
 enum { CPUS = 32, FIRST_TARGETS = 8, FIRST_OF_ONE = 12, MORE_OF_ONE = CPUS - FIRST_TARGETS };
 enum { FIRST_RECORDS = CPUS * FIRST_OF_ONE, RECORDS = FIRST_RECORDS + CPUS * MORE_OF_ONE };
@@ -85,18 +79,6 @@ static uint32_t owner_of(uint32_t id)
 
 /* The record for calls to many with this destination. */
 static uint32_t many_record(uint32_t to) { return to < FIRST_TARGETS ? to + 2 : to + 4; }
-
-/* What crossbeam's Backoff does: spins 1, 2, .. 64 times, then yields. */
-static void snooze(uint32_t *step)
-{
-	if (*step <= 6) {
-		for (uint32_t i = 0; i < 1u << *step; i++)
-			__builtin_ia32_pause();
-		*step += 1;
-	} else {
-		sched_yield();
-	}
-}
 
 /* The function of all calls. */
 static void call(struct cpu *me, uint32_t source, uint16_t func, uint64_t info)
@@ -257,38 +239,6 @@ static void call_many(struct cpu *me, uint32_t mask)
 		wait_for(me, many_record(__builtin_ctz(left)));
 }
 
-/* The meter: times of batches in tenths of a nanosecond for one operation. */
-static _Alignas(64) struct {
-	bool counts;
-	uint64_t limit, operations, began, last;
-	uint64_t *samples;
-	size_t length, room;
-} meter;
-
-static uint64_t now(void)
-{
-	struct timespec t;
-	clock_gettime(CLOCK_MONOTONIC, &t);
-	return (uint64_t)t.tv_sec * 1000000000u + t.tv_nsec;
-}
-
-static bool lap(uint32_t operations)
-{
-	uint64_t time = now();
-	if (operations > 0) {
-		if (meter.length == meter.room) {
-			meter.room = meter.room ? 2 * meter.room : 1024;
-			meter.samples = realloc(meter.samples, meter.room * sizeof *meter.samples);
-			if (!meter.samples)
-				exit(1);
-		}
-		meter.samples[meter.length++] = (time - meter.last) * 10 / operations;
-	}
-	meter.last = time;
-	meter.operations += operations;
-	return meter.counts ? meter.operations < meter.limit : (time - meter.began) / 1000000 < meter.limit;
-}
-
 /* The workloads. */
 enum { ROUNDS = 100, BATCH = 100, BEGIN = 1, STOP = 2 };
 enum { POST_1, POST_8, TRIP, ASYNCS, MANY, WORKLOADS };
@@ -385,12 +335,6 @@ static void run_threads(uint32_t threads)
 		pthread_join(helpers[i], NULL);
 }
 
-static int compare(const void *a, const void *b)
-{
-	uint64_t x = *(const uint64_t *)a, y = *(const uint64_t *)b;
-	return (x > y) - (x < y);
-}
-
 static void report(uint32_t asked)
 {
 	static _Alignas(64) word table[WORDS + LINE];
@@ -404,8 +348,7 @@ static void report(uint32_t asked)
 		cpus[c].number = c;
 	}
 	sign = done = 0;
-	meter.operations = meter.length = 0;
-	meter.began = meter.last = now();
+	begin_meter();
 	if (workload == POST_1)
 		alone(1, 1);
 	else if (workload == POST_8)
@@ -414,26 +357,12 @@ static void report(uint32_t asked)
 		run_threads(threads);
 	for (uint32_t c = 0; c < CPUS; c++)
 		calls += cpus[c].heard;
-	printf("%s %u %lu ", names[workload], threads, (unsigned long)meter.operations);
-	if (meter.counts) {
-		printf("%lu\n", (unsigned long)calls);
-		return;
-	}
-	qsort(meter.samples, meter.length, sizeof *meter.samples, compare);
-	uint64_t median = meter.samples[meter.length / 2], low = meter.samples[meter.length / 10];
-	printf("%lu.%lu %lu.%lu\n", (unsigned long)(median / 10), (unsigned long)(median % 10),
-	       (unsigned long)(low / 10), (unsigned long)(low % 10));
+	print_line(names[workload], threads, calls);
 }
 
 int main(int argc, char **argv)
 {
-	uint32_t threads = argc > 2 ? (uint32_t)atoi(argv[2]) : 0;
-	if (argc < 4 || threads < 2 || threads > 7) {
-		fprintf(stderr, "usage: calls time|count THREADS LIMIT [WORKLOAD]\n");
-		return 2;
-	}
-	meter.counts = strcmp(argv[1], "count") == 0;
-	meter.limit = strtoul(argv[3], NULL, 10);
+	uint32_t threads = read_words("calls", argc, argv);
 	for (workload = 0; workload < WORKLOADS; workload++)
 		if (argc < 5 || strcmp(argv[4], names[workload]) == 0)
 			report(threads);

@@ -1,4 +1,4 @@
-//! Measures cross-processor calls: `smp_bench time|count THREADS LIMIT [WORKLOAD]`.
+//! Measures cross-processor calls and stops: `smp_bench time|count THREADS LIMIT [WORKLOAD]`.
 //!
 //! `time` goes on for LIMIT milliseconds and prints for each workload its name, its threads, its operations and the
 //! nanoseconds of one operation: the median over batches, and what a tenth of the batches stays below. `count` makes
@@ -13,6 +13,8 @@ mod meter;
 mod request;
 mod samples;
 mod seat;
+mod stand;
+mod stops;
 mod threads;
 mod workload;
 
@@ -43,6 +45,7 @@ fn run<R: Wait + Threads + Clock + Eprint + Sync>(
         Workload::PostEight => alone::run(alloc, 4, &[10, 11], meter),
         Workload::RoundTrip => threads::run(rt, alloc, workload, 2, meter),
         Workload::Async | Workload::Many => threads::run(rt, alloc, workload, threads, meter),
+        _ => stops::run(rt, alloc, workload, threads, meter),
     }
 }
 

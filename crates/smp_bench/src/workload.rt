@@ -13,15 +13,24 @@ pub enum Workload {
     Async,
     /// A call to many with wait, from one thread to all others, which poll.
     Many,
+    /// A stop of all CPUs by one thread, while all others poll.
+    Stop,
+    /// A stop of one CPU by another.
+    StopOne,
+    /// A key is turned on and off in turn by one thread, each time in a stop, while all others poll.
+    SetKey,
 }
 
 impl Workload {
-    pub const ALL: [Workload; 5] = [
+    pub const ALL: [Workload; 8] = [
         Workload::PostOne,
         Workload::PostEight,
         Workload::RoundTrip,
         Workload::Async,
         Workload::Many,
+        Workload::Stop,
+        Workload::StopOne,
+        Workload::SetKey,
     ];
 
     pub fn name(self) -> &'static str {
@@ -31,6 +40,9 @@ impl Workload {
             Workload::RoundTrip => "trip",
             Workload::Async => "async",
             Workload::Many => "many",
+            Workload::Stop => "stop",
+            Workload::StopOne => "stop-one",
+            Workload::SetKey => "set-key",
         }
     }
 
@@ -38,8 +50,8 @@ impl Workload {
     pub fn threads(self, asked: u32) -> u32 {
         match self {
             Workload::PostOne | Workload::PostEight => 1,
-            Workload::RoundTrip => 2,
-            Workload::Async | Workload::Many => asked,
+            Workload::RoundTrip | Workload::StopOne => 2,
+            Workload::Async | Workload::Many | Workload::Stop | Workload::SetKey => asked,
         }
     }
 }

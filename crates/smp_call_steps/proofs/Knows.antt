@@ -5,3 +5,4 @@ pub mod OneStep
 pub mod Posted
 pub mod Handling
 pub mod Logs
+pub mod Heads

@@ -13,11 +13,13 @@ use Rattle.smp_call_steps.specs.Histories.{sent_to, calls_from, one_held, counte
 use Rattle.smp_call_steps.specs.Stands.{held_of, held_of_post, posted, PostGoes}
 use Rattle.smp_call_steps.specs.Shows.{Shows}
 use Rattle.smp_call_steps.specs.Names.{Call, Class, Word, Head, Intr, Hand, Queued, Flags, Func, Info, Next, Access, Load, Store, Seen, Act, Posting, PostStage}
-use Rattle.smp_call_steps.specs.Names.{HandleStage, Stage, Send, Done, Post, Handle, Logged}
+use Rattle.smp_call_steps.specs.Names.{HandleStage, Stage, Send, Done, Post, Handle, Logged, HeadSeen}
 use Rattle.smp_call_steps.specs.Names.act
 use Rattle.smp_call_steps.specs.Names.post
 use Rattle.smp_call_steps.specs.Names.handle
 use Rattle.smp_call_steps.specs.Names.logged
+use Rattle.smp_call_steps.specs.Names.head
+use Rattle.smp_call_steps.specs.Heads.{Found, times_lost, heads_with}
 use Rattle.smp_call_steps.specs.declared.known.Known.{Known}
 use Rattle.smp_call_steps.specs.declared.known.Setting.{Setting}
 
@@ -57,7 +59,7 @@ pub record Sees (a : CallState) (control : ℕ → ControlValue) (v : Known) : T
 
 -- a CPU that has done nothing yet
 abbrev pub fresh : Setting → ℕ → Known
-fresh k me = record { setting = k; number = me; stage = None; drain = no_drain; part = part_of no_calls me; tried = 0; log = [] }
+fresh k me = record { setting = k; number = me; stage = None; drain = no_drain; part = part_of no_calls me; tried = 0; heads = []; log = [] }
 
 -- what follows a step of a post, as the step tells it
 
@@ -120,6 +122,12 @@ abbrev pub tried_after : Act → ℕ → ℕ
 tried_after act.Cas n = n + 1
 tried_after _ n = n
 
+-- what it has seen of heads after it: an exchange expects what the record was linked to
+abbrev pub heads_after : Act → Word → Option ℕ → Option Stage → List HeadSeen → List HeadSeen
+heads_after act.Load (Head to) (Some n) s heads = heads ++ head.Loaded n ∷ []
+heads_after act.Cas (Head to) (Some n) (Some (Post p (post.Exchange link tries))) heads = heads ++ head.Exchanged link n ∷ []
+heads_after _ w found s heads = heads
+
 -- what it has sent after it: a compare-exchange that puts its record into a head queues a call
 abbrev pub log_after : Act → Word → Option ℕ → List Logged → List Logged
 log_after act.Cas (Head to) (Some n) log = log ++ logged.Queued to ∷ []
@@ -133,6 +141,7 @@ known_taking queue v act w found put = record v {
   drain = drain_then v.stage v.drain found;
   part = part_after queue (held_of v.stage) act w found put v.part;
   tried = tried_after act v.tried;
+  heads = heads_after act w found v.stage v.heads;
   log = log_after act w put v.log;
 }
 
@@ -218,14 +227,27 @@ outside_known v = record v { stage = None }
 abbrev pub confirmed_known : ℕ → Known → Known
 confirmed_known id v = record v { part = part_confirmed id v.part }
 
--- a CPU that has made so many compare-exchanges in vain
-abbrev pub lost_tries : ℕ → Known → Known
-lost_tries n v = record v { tried = v.tried + n }
+-- a CPU that has loaded a head and found this number
+abbrev pub looked_known : ℕ → Known → Known
+looked_known n v = record v { heads = v.heads ++ head.Loaded n ∷ [] }
 
--- a CPU that has queued this call, by one compare-exchange
-abbrev pub queued_known : Call → ℕ → Bool → Known → Known
-queued_known call to first v =
-    record v { stage = None; part = part_queued call to first v.part; tried = v.tried + 1; log = v.log ++ logged.Queued to ∷ [] }
+-- a CPU that has made a compare-exchange in vain: it expected one number and found the other
+abbrev pub lost_one : ℕ → ℕ → Known → Known
+lost_one expected found v = record v { tried = v.tried + 1; heads = v.heads ++ head.Exchanged expected found ∷ [] }
+
+-- a CPU that has found these numbers in a head, and so has made its compare-exchanges in vain
+abbrev pub lost_tries : Found → Known → Known
+lost_tries f v = record v { tried = v.tried + times_lost f; heads = heads_with v.heads f }
+
+-- a CPU that has queued this call, by a compare-exchange that expected this number and found it
+abbrev pub queued_known : Call → ℕ → Bool → ℕ → Known → Known
+queued_known call to first link v = record v {
+  stage = None;
+  part = part_queued call to first v.part;
+  tried = v.tried + 1;
+  heads = v.heads ++ head.Exchanged link link ∷ [];
+  log = v.log ++ logged.Queued to ∷ [];
+}
 
 -- whether it has seen its record confirmed
 abbrev pub is_confirmed : Known → ℕ → Bool

@@ -22,6 +22,7 @@ pub mod Classes
 pub mod HaveRun
 -- what a CPU knows
 pub mod Parts
+pub mod Heads
 pub mod Known
 pub mod Handling
 pub mod Logs

@@ -1,4 +1,4 @@
--- What a CPU's log says of the state of the calls.
+-- What a CPU's log says of the state of the calls, and what it has seen of heads of its steps.
 use Rattle.std.specs.Prelude.{◌≡◌, ℕ, ◌≤◌, true, Option, Some, None, List, [], ◌∷◌, ◌++◌, length}
 use Rattle.smp_words.specs.Put.{put}
 use Rattle.smp_words.specs.Access.{word_of, seen_of}
@@ -6,8 +6,9 @@ use Rattle.smp_call_steps.specs.Calls.{CallState, tells}
 use Rattle.smp_call_steps.specs.Known.{Sees, MayStep, known_access, known_tells}
 use Rattle.smp_call_steps.specs.Shows.{Shows}
 use Rattle.smp_call_steps.specs.Stages.{ControlValue}
-use Rattle.smp_call_steps.specs.Names.{Call, Word, Access, Stage, Logged}
+use Rattle.smp_call_steps.specs.Names.{Call, Word, Head, Access, Load, Exchange, Stage, Logged, HeadSeen}
 use Rattle.smp_call_steps.specs.Names.logged
+use Rattle.smp_call_steps.specs.Names.head
 use Rattle.smp_call_steps.specs.declared.known.Known.{Known}
 
 -- no call has joined a queue, and no interrupt has become pending
@@ -43,3 +44,21 @@ LogsTell = (a : CallState) (at : Word → ℕ) (control : ℕ → ControlValue) 
     (stage : Stage) → MayStep v stage → (access : Access) → known_access v stage ≡ access →
     let seen = seen_of v.number access (at (word_of access)) None in
     (sent : Option Logged) × ((known_tells (a.queue v.number) v seen).log ≡ log_with sent v.log) × Sends sent a (tells a seen)
+
+-- what a step sees of a head, by its access and the number that it finds
+abbrev pub head_in : Access → ℕ → Option HeadSeen
+head_in (Load (Head to)) found = Some (head.Loaded found)
+head_in (Exchange (Head to) expected number) found = Some (head.Exchanged expected found)
+head_in _ found = None
+
+-- what was seen of heads and what is seen next, if anything
+abbrev pub heads_and : Option HeadSeen → List HeadSeen → List HeadSeen
+heads_and None heads = heads
+heads_and (Some x) heads = heads ++ x ∷ []
+
+-- by each step that a CPU may make, what it has seen of heads grows by what the step finds in a head, with what an exchange
+-- expects there, and by nothing else
+abbrev pub HeadsTell : Type 0
+HeadsTell = (v : Known) (stage : Stage) → MayStep v stage → (found : ℕ) (queue : List Call) →
+    let seen = seen_of v.number (known_access v stage) found None in
+    (known_tells queue v seen).heads ≡ heads_and (head_in (known_access v stage) found) v.heads

@@ -24,3 +24,5 @@ pub use Rattle.smp_call_steps.specs.declared.stage.Stage.{Stage}
 pub use Rattle.smp_call_steps.specs.declared.stage.Stage.TheVariants.{Send, Done, Post, Handle}
 pub use Rattle.smp_call_steps.specs.declared.known.Logged.{Logged}
 pub use Rattle.smp_call_steps.specs.declared.known.Logged.TheVariants as logged
+pub use Rattle.smp_call_steps.specs.declared.known.HeadSeen.{HeadSeen}
+pub use Rattle.smp_call_steps.specs.declared.known.HeadSeen.TheVariants as head

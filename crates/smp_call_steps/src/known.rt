@@ -29,6 +29,14 @@ pub enum Logged {
     Interrupted(u32),
 }
 
+/// What a CPU has seen of a head.
+pub enum HeadSeen {
+    /// This number, by a load.
+    Loaded(u64),
+    /// By a compare-exchange: which number it expected, and which it found.
+    Exchanged { expected: u64, found: u64 },
+}
+
 /// The call that a CPU runs.
 pub enum Running {
     Nothing,
@@ -71,6 +79,8 @@ pub struct Known {
     pub part: Part,
     /// How many compare-exchanges of heads it has made, won and lost.
     pub tried: u64,
+    /// What its posts have found in heads, by loads and by compare-exchanges, in order.
+    pub heads: LinkedList<HeadSeen>,
     /// The calls that it has queued and the interrupts that it has sent, in the order in which it did so.
     pub log: LinkedList<Logged>,
 }

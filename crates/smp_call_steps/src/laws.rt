@@ -7,7 +7,7 @@ ghost use Rattle.std.specs.Prelude.{List};
 ghost use Rattle.smp_call_steps.specs.BatchLinks.{KeepBatchLinks};
 ghost use Rattle.smp_call_steps.specs.Classes.{RunByClass};
 ghost use Rattle.smp_call_steps.specs.HaveRun.{ConfirmedRun, ConfirmedSyncEnd};
-ghost use Rattle.smp_call_steps.specs.Logs.{LogsTell};
+ghost use Rattle.smp_call_steps.specs.Logs.{LogsTell, HeadsTell};
 ghost use Rattle.smp_call_steps.specs.Promises.{NothingCalled, StepsAreTold, KeepThePlaceLaw, KeepTheInterruptLaw};
 ghost use Rattle.smp_call_steps.specs.Promises.{KeepTheQueueHistory, KeepTheTallyLaw, RunAtMostOnce};
 ghost use Rattle.smp_call_steps.specs.QueueOrder.{KeepsClasses, AsyncsLast, RunInQueueOrder};
@@ -28,6 +28,12 @@ pub fn steps_are_told()
 /// then, and by nothing else.
 pub fn logs_tell()
     ensures { LogsTell }
+{}
+
+/// By each step of a CPU what it has seen of heads grows by what the step finds in a head, by a load or by a
+/// compare-exchange with the number that this expects, and by nothing else.
+pub fn heads_tell()
+    ensures { HeadsTell }
 {}
 
 /// Each record is in exactly one place: free, held by its source, or locked in one queue, one batch or one SYNC call that

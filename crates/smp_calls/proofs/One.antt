@@ -6,7 +6,8 @@ use Rattle.std.proofs.lemmas.List.{get_or-set_other}
 use Rattle.smp_words.proofs.Sizes.{one_local}
 use Rattle.smp_words.specs.Size.{records_of_one, record_of}
 use Rattle.smp_words.specs.declared.call.Class.{Class}
-use Rattle.smp_queue.specs.Cpu.{CpuValue, confirmed_at, loses, posts, sends}
+use Rattle.smp_call_steps.specs.Heads.{Found}
+use Rattle.smp_queue.specs.Cpu.{CpuValue, confirmed_at, posts, sends}
 use Rattle.smp_queue.specs.Names.logged
 use Rattle.smp_queue.specs.declared.handler.Heard.{Heard}
 use Rattle.smp_calls.specs.Families.{IsSized, Leaves, Calls, CallsBy, CallsOne, owes_at}
@@ -64,9 +65,9 @@ owed_at owes to x = elim (cases_eq to x) [
       ∙ (get_or-set_other owes to x true false apart ∙ sym (and_true (get_or owes x false))))
 ]
 
--- the CPU after one call was queued, with so many compare-exchanges lost, and its interrupt sent
-abbrev pub sent_one : ℕ → ℕ → Class → ℕ → ℕ → Bool → ℕ → CpuValue → CpuValue
-sent_one k to class func info first lost c = let posted = posts k to class func info first (loses lost c) in cond first (sends to posted) posted
+-- the CPU after one call was queued, with what it has found in the head, and its interrupt sent
+abbrev pub sent_one : ℕ → ℕ → Class → ℕ → ℕ → Bool → Found → CpuValue → CpuValue
+sent_one k to class func info first found c = let posted = posts k to class func info first found c in cond first (sends to posted) posted
 
 abbrev pub one_queued : ℕ → Bool → List Queued
 one_queued to first = record { to = to; is_first = first } ∷ []
@@ -85,11 +86,11 @@ by_case true wait m o e = refl
 by_case false wait m o e = e refl
 
 module _ {H : Type 0} (leads : H → Heard → H → Type 0) where
-  leaves_sent : (first : Bool) (lost : ℕ) (c : CpuValue) (h : H) (k to : ℕ) (class : Class) (func info : ℕ) → IsSized c → k < records_of_one →
-      Leaves leads c h (sent_one k to class func info first lost c) h (sendings (λ _. call_by c.number k class func info) (one_queued to first))
+  leaves_sent : (first : Bool) (found : Found) (c : CpuValue) (h : H) (k to : ℕ) (class : Class) (func info : ℕ) → IsSized c → k < records_of_one →
+      Leaves leads c h (sent_one k to class func info first found c) h (sendings (λ _. call_by c.number k class func info) (one_queued to first))
       (calls_and_interrupts (one_queued to first))
       (λ x. owes_at c x && not (is_first_to x (one_queued to first))) (λ j. cond (j == k) false (confirmed_at c j))
-  leaves_sent true lost c h k to class func info s l = record {
+  leaves_sent true found c h k to class func info s l = record {
     table_is = refl;
     setting_is = refl;
     number_is = refl;
@@ -100,9 +101,9 @@ module _ {H : Type 0} (leads : H → Heard → H → Type 0) where
     tried = omega arith;
     owes_are = λ x. owed_at c.part.owes to x;
     confirmed_are = λ j b. locked c c.number k j s l b refl;
-    handled = handles_same leads c (sent_one k to class func info true lost c) h refl refl refl;
+    handled = handles_same leads c (sent_one k to class func info true found c) h refl refl refl;
   }
-  leaves_sent false lost c h k to class func info s l = record {
+  leaves_sent false found c h k to class func info s l = record {
     table_is = refl;
     setting_is = refl;
     number_is = refl;
@@ -113,22 +114,22 @@ module _ {H : Type 0} (leads : H → Heard → H → Type 0) where
     tried = omega arith;
     owes_are = λ x. sym (and_true (owes_at c x));
     confirmed_are = λ j b. locked c c.number k j s l b refl;
-    handled = handles_same leads c (sent_one k to class func info false lost c) h refl refl refl;
+    handled = handles_same leads c (sent_one k to class func info false found c) h refl refl refl;
   }
 
   -- the same of a CPU with this number that has become another one
-  pub leaves_one : (c d : CpuValue) (h : H) (number k to : ℕ) (class : Class) (func info : ℕ) (first : Bool) (lost : ℕ) → IsSized c
-      → k < records_of_one → c.number ≡ number → d ≡ sent_one k to class func info first lost c →
+  pub leaves_one : (c d : CpuValue) (h : H) (number k to : ℕ) (class : Class) (func info : ℕ) (first : Bool) (found : Found) → IsSized c
+      → k < records_of_one → c.number ≡ number → d ≡ sent_one k to class func info first found c →
       Leaves leads c h d h (sendings (λ _. call_by number k class func info) (one_queued to first)) (calls_and_interrupts (one_queued to first))
       (λ x. owes_at c x && not (is_first_to x (one_queued to first))) (λ j. cond (j == k) false (confirmed_at c j))
-  leaves_one c d h number k to class func info first lost s l n e =
+  leaves_one c d h number k to class func info first found s l n e =
       subst (λ (x : CpuValue). Leaves leads c h x h (sendings (λ _. call_by number k class func info) (one_queued to first)) (calls_and_interrupts
       (one_queued to first))
       (λ x. owes_at c x && not (is_first_to x (one_queued to first))) (λ j. cond (j == k) false (confirmed_at c j))) (sym e)
-      (subst (λ (m : ℕ). Leaves leads c h (sent_one k to class func info first lost c) h (sendings (λ _. call_by m k class func info)
+      (subst (λ (m : ℕ). Leaves leads c h (sent_one k to class func info first found c) h (sendings (λ _. call_by m k class func info)
       (one_queued to first)) (calls_and_interrupts (one_queued to first))
       (λ x. owes_at c x && not (is_first_to x (one_queued to first))) (λ j. cond (j == k) false (confirmed_at c j))) n
-      (leaves_sent first lost c h k to class func info s l))
+      (leaves_sent first found c h k to class func info s l))
 
   -- the record and the class of a call are those that its waiting asks for
   said : {old new : CpuValue} {before after : H} (k : ℕ) (class : Class) (func info : ℕ) (queued : List Queued) (wait b : Bool) → wait ≡ b
@@ -157,7 +158,7 @@ module _ {H : Type 0} (leads : H → Heard → H → Type 0) where
   -- a call to one CPU by a record, not waited for
   pub calls_by : {old mid new : CpuValue} {before m : H} (k to : ℕ) (class : Class) (func info : ℕ) → k < records_of_one → IsSized old →
       Leaves leads old before mid m [] [] (owes_at old) (λ j. j == k || confirmed_at old j) →
-      (first : Bool) × (lost : ℕ) × (new ≡ sent_one k to class func info first lost mid) →
+      (first : Bool) × (found : Found) × (new ≡ sent_one k to class func info first found mid) →
       CallsBy leads old before new m k class to func info false
   calls_by {old} {mid} {new} {before} {m} k to class func info l s f q =
       let same = sized_moved old mid f.number_is f.sized s in
@@ -172,7 +173,7 @@ module _ {H : Type 0} (leads : H → Heard → H → Type 0) where
   pub calls_left : {old mid new : CpuValue} {before m : H} (k to : ℕ) (class : Class) (func info : ℕ) (wait : Bool) → wait ≡ false → k ≡ single_record wait
       → class ≡ class_for wait → k < records_of_one → IsSized old →
       Leaves leads old before mid m [] [] (owes_at old) (λ j. j == k || confirmed_at old j) →
-      (first : Bool) × (lost : ℕ) × (new ≡ sent_one k to class func info first lost mid) →
+      (first : Bool) × (found : Found) × (new ≡ sent_one k to class func info first found mid) →
       CallsOne leads old before new m to func info wait
   calls_left k to class func info wait w is_k is_class l s f q =
       let made = calls_by k to class func info l s f q in
@@ -182,7 +183,7 @@ module _ {H : Type 0} (leads : H → Heard → H → Type 0) where
   pub calls_waited : {old mid sent new : CpuValue} {before m after : H} (k to : ℕ) (class : Class) (func info : ℕ) (wait : Bool) → wait ≡ true
       → k ≡ single_record wait → class ≡ class_for wait → k < records_of_one → IsSized old →
       Leaves leads old before mid m [] [] (owes_at old) (λ j. j == k || confirmed_at old j) →
-      (first : Bool) × (lost : ℕ) × (sent ≡ sent_one k to class func info first lost mid) →
+      (first : Bool) × (found : Found) × (sent ≡ sent_one k to class func info first found mid) →
       Leaves leads sent m new after [] [] (owes_at sent) (λ j. j == k || confirmed_at sent j) →
       CallsOne leads old before new after to func info wait
   calls_waited {old} {mid} {sent} {new} {before} {m} {after} k to class func info wait w is_k is_class l s f q h =

@@ -9,7 +9,8 @@ use Rattle.smp_words.specs.declared.call.Class.{Class}
 use Rattle.smp_call_steps.specs.declared.known.Sending.{Sending}
 use Rattle.smp_call_steps.specs.declared.known.Logged.{Logged}
 use Rattle.smp_call_steps.specs.declared.known.Logged.TheVariants as logged
-use Rattle.smp_queue.specs.Cpu.{CpuValue, confirmed_at, loses, posts}
+use Rattle.smp_call_steps.specs.Heads.{Found}
+use Rattle.smp_queue.specs.Cpu.{CpuValue, confirmed_at, posts}
 use Rattle.smp_queue.specs.declared.handler.Heard.{Heard}
 use Rattle.smp_calls.specs.Families.{IsSized, Leaves, owes_at}
 use Rattle.smp_calls.specs.Queued.{Queued, destinations, firsts, sendings, calls_to, is_in, is_first_to, is_by, is_used}
@@ -102,9 +103,9 @@ module _ {H : Type 0} (leads : H → Heard → H → Type 0) where
   queues_none c h call = record { leaves = leaves_none leads c h; kept = λ x e. refl; due = λ x e l. cc }
 
   -- the step of a post alone
-  queues_post : (c : CpuValue) (h : H) (to : ℕ) (class : Class) (func info : ℕ) (first : Bool) (lost : ℕ) → IsSized c → many_record to < records_of_one →
-      Queues leads c h (posts (many_record to) to class func info first (loses lost c)) h (many_call c.number class func info) (one_queued to first)
-  queues_post c h to class func info first lost s l = record {
+  queues_post : (c : CpuValue) (h : H) (to : ℕ) (class : Class) (func info : ℕ) (first : Bool) (found : Found) → IsSized c → many_record to < records_of_one →
+      Queues leads c h (posts (many_record to) to class func info first found c) h (many_call c.number class func info) (one_queued to first)
+  queues_post c h to class func info first found s l = record {
     leaves = record {
       table_is = refl;
       setting_is = refl;
@@ -117,7 +118,7 @@ module _ {H : Type 0} (leads : H → Heard → H → Type 0) where
       owes_are = λ x. refl;
       confirmed_are = λ j b. locks_at c (many_record to) j s l b
           ∙ ap (λ x. cond x false (confirmed_at c j)) (sym (or_false (record_of c.number j == record_of c.number (many_record to))));
-      handled = handles_same leads c (posts (many_record to) to class func info first (loses lost c)) h refl refl refl;
+      handled = handles_same leads c (posts (many_record to) to class func info first found c) h refl refl refl;
     };
     kept = λ x e. owed_else first c.part.owes to x e;
     due = λ x e l. owed_then first c.part.owes to x e l;
@@ -155,22 +156,22 @@ module _ {H : Type 0} (leads : H → Heard → H → Type 0) where
       }
 
   -- the record was waited for before
-  pub queues_one : {old mid new : CpuValue} {before m : H} (k to : ℕ) (class : Class) (func info : ℕ) (asked first : Bool) (lost : ℕ) → asked ≡ true
+  pub queues_one : {old mid new : CpuValue} {before m : H} (k to : ℕ) (class : Class) (func info : ℕ) (asked first : Bool) (found : Found) → asked ≡ true
       → k ≡ many_record to
       → k < records_of_one → IsSized old →
-      Leaves leads old before mid m [] [] (owes_at old) (λ j. j == k || confirmed_at old j) → new ≡ posts k to class func info first (loses lost mid) →
+      Leaves leads old before mid m [] [] (owes_at old) (λ j. j == k || confirmed_at old j) → new ≡ posts k to class func info first found mid →
       (queued : List Queued) × (destinations queued ≡ only_if asked to) × (firsts queued ≡ only_if first to)
       × Queues leads old before new m (many_call old.number class func info) queued
-  queues_one {old} {mid} {new} {before} {m} k to class func info asked first lost is_asked is_k l s f e =
+  queues_one {old} {mid} {new} {before} {m} k to class func info asked first found is_asked is_k l s f e =
       let same = sized_moved old mid f.number_is f.sized s in
       let small : many_record to < records_of_one = subst (λ (j : ℕ). j < records_of_one) is_k l in
       let posted : Queues leads mid m new m (many_call old.number class func info) (one_queued to first) =
       subst (λ (x : CpuValue). Queues leads mid m x m (many_call old.number class func info) (one_queued to first))
-      (sym (e ∙ ap (λ (j : ℕ). posts j to class func info first (loses lost mid)) is_k))
-      (subst (λ (n : ℕ). Queues leads mid m (posts (many_record to) to class func info first (loses lost mid)) m (many_call n class func info)
+      (sym (e ∙ ap (λ (j : ℕ). posts j to class func info first found mid) is_k))
+      (subst (λ (n : ℕ). Queues leads mid m (posts (many_record to) to class func info first found mid) m (many_call n class func info)
       (one_queued to first))
       f.number_is
-      (queues_post mid m to class func info first lost same small)) in
+      (queues_post mid m to class func info first found same small)) in
       let call = many_call old.number class func info in
       let both = leaves_then leads f posted.leaves in (
         one_queued to first,

@@ -10,9 +10,12 @@
 //!
 //! On the calling CPU itself a function runs at once, and nothing is queued. A CPU that waits handles its own
 //! interrupts meanwhile, so that two CPUs that call each other both go on.
+//!
+//! A [`Caller`] holds the table, the CPU, its handler and the runtime, and has each call as a method.
 #![tactic(auto)]
 
 mod any;
+mod caller;
 mod each;
 pub mod laws;
 mod many;
@@ -24,6 +27,7 @@ mod target;
 mod wait;
 
 pub use any::call_any;
+pub use caller::Caller;
 pub use many::{call_many, each_cpu_cond};
 pub use records::{ASYNC_RECORD, SYNC_RECORD, USER_RECORDS, many_record, user_record};
 pub use single::call_single;

@@ -102,7 +102,8 @@ fn with_if(mask: CpuMask, this: u32, here: bool) -> CpuMask
 /// CPU handles its own interrupts. Answers the CPUs called.
 ///
 /// Each call is queued at the compare-exchange that wins in its post: they are as many steps, not one. It may wait, for
-/// the records and with `wait` for its calls; its targets must poll.
+/// the records and with `wait` for its calls; its targets must poll. It refuses nothing: a CPU that is not online is left
+/// out.
 pub fn call_many<A: Allocator, R: Wait, H: Handler>(
     table: &CallTable<A>,
     rt: &R,
@@ -133,7 +134,8 @@ pub fn call_many<A: Allocator, R: Wait, H: Handler>(
 /// rest is as in [`call_many`]. Answers the CPUs called.
 ///
 /// Each call is queued at the compare-exchange that wins in its post: they are as many steps, not one. It may wait, for
-/// the records and with `wait` for its calls; its targets must poll.
+/// the records and with `wait` for its calls; its targets must poll. It refuses nothing: a CPU that is not online is left
+/// out.
 pub fn each_cpu_cond<A: Allocator, R: Wait, H: Handler, C: Fn(u32, u64) -> bool>(
     table: &CallTable<A>,
     rt: &R,

@@ -1,8 +1,9 @@
 //! Queueing one call, and the interrupt that is owed for it.
 
-ghost use Rattle.std.specs.Prelude.{◌≡◌, ℕ, true, false, Bool, if◌then◌else◌};
+ghost use Rattle.std.specs.Prelude.{◌≡◌, true, false, Bool, if◌then◌else◌};
 ghost use Rattle.smp_mask.specs.Mask.{has};
-ghost use Rattle.smp_queue.specs.Cpu.{confirmed_at, misused, loses, posts, sends};
+ghost use Rattle.smp_call_steps.specs.Heads.{Found};
+ghost use Rattle.smp_queue.specs.Cpu.{confirmed_at, misused, posts, sends};
 
 use smp_queue::{CallCpu, CallTable};
 use smp_words::call::Class;
@@ -30,7 +31,7 @@ pub(crate) fn queue<A: Allocator, R: Wait>(
     requires lawful { misused table.now.nr me.old k to job.class 1 ≡ false }
     requires online { has table.now.online to ≡ true }
     requires free { confirmed_at me.old k ≡ true }
-    ensures { (lost : ℕ) × (me.new ≡ posts k to job.class job.func job.info result (loses lost me.old)) }
+    ensures { (found : Found) × (me.new ≡ posts k to job.class job.func job.info result found me.old) }
 {
     match table.post(rt, me, k, to, job.class, job.func, job.info) {
         Ok(first) => first,
@@ -64,8 +65,8 @@ pub(crate) fn queue_and_send<A: Allocator, R: Wait>(
     requires lawful { misused table.now.nr me.old k to job.class 1 ≡ false }
     requires online { has table.now.online to ≡ true }
     requires free { confirmed_at me.old k ≡ true }
-    ensures { (first : Bool) × (lost : ℕ)
-        × (me.new ≡ let posted = posts k to job.class job.func job.info first (loses lost me.old) in if first then sends to posted else posted) }
+    ensures { (first : Bool) × (found : Found)
+        × (me.new ≡ let posted = posts k to job.class job.func job.info first found me.old in if first then sends to posted else posted) }
 {
     if queue(table, rt, me, k, to, job) {
         interrupt(table, me, to);

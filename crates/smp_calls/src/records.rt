@@ -20,6 +20,7 @@ pub const USER_RECORDS: u32 = 2;
 
 /// The record for calls to many with this destination (`cfd_data`), by which [`crate::call_many`] without wait calls it:
 /// 2 more than its number, from CPU 8 on 4 more. `CallTable::is_done` says whether its last call has begun or run.
+/// It makes no step, and does not wait.
 pub fn many_record(to: u32) -> u32
     requires { to < cpus }
     ensures { result ≡ many_record_in to }
@@ -27,7 +28,8 @@ pub fn many_record(to: u32) -> u32
     if to < FIRST_TARGETS { to + 2 } else { to + 4 }
 }
 
-/// The record of the user with this number, 0 or 1, by which [`crate::call_async`] calls: 10 and 11.
+/// The record of the user with this number, 0 or 1, by which [`crate::call_async`] calls: 10 and 11. It stands for a
+/// `call_single_data_t` of the caller's own. It makes no step, and does not wait.
 pub fn user_record(u: u32) -> u32
     requires { u < 2 }
     ensures { result ≡ user_record_in u }

@@ -56,21 +56,21 @@ fn call_there<A: Allocator, R: Wait, H: Handler>(
     rt: &R,
     me: &mut CallCpu,
     handler: &mut H,
-    dst: u32,
+    to: u32,
     func: u16,
     info: u64,
     wait: bool,
 )
     requires table { me.old.table ≡ table.now.table }
     requires sized { IsSized me.old }
-    requires other { dst ≢ me.old.number }
-    requires online { has table.now.online dst ≡ true }
-    ensures { CallsOne H.leads me.old handler.old me.new handler.new dst func info wait }
+    requires other { to ≢ me.old.number }
+    requires online { has table.now.online to ≡ true }
+    ensures { CallsOne H.leads me.old handler.old me.new handler.new to func info wait }
 {
     let k = single_record(wait);
     let class = class_for(wait);
     wait_for(table, rt, me, handler, k);
-    queue_and_send(table, rt, me, k, dst, Job { class, func, info });
+    queue_and_send(table, rt, me, k, to, Job { class, func, info });
     if wait {
         wait_for(table, rt, me, handler, k);
     }

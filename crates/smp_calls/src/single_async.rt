@@ -47,12 +47,12 @@ pub fn call_async<A: Allocator, R: Wait, H: Handler>(
         return Err(SmpError::BadArgument);
     }
     let k = user_record(u);
-    let this = me.number();
+    let number = me.number();
     if !is_done(table, me, k) {
         return Err(SmpError::Busy);
     }
-    if dst == this {
-        handler.call(this, func, info);
+    if dst == number {
+        handler.call(number, func, info);
         return Ok(());
     }
     if !table.online().contains(dst) {

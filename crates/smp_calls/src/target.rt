@@ -7,7 +7,7 @@ ghost use Rattle.smp_calls.specs.Targets.{is_target};
 use smp_mask::CpuMask;
 
 /// The CPUs of `mask` that are `online`, without `this`; and with `this` where it counts (`local`) and the mask
-/// has it (`kernel/smp.c: smp_call_function_many_cond`).
+/// has it (`kernel/smp.c: smp_call_function_many_cond`). It makes no step, and does not wait.
 pub fn targets(mask: CpuMask, online: CpuMask, this: u32, local: bool) -> CpuMask
     ensures { (c : ℕ) → has result c ≡ is_target mask online this local c }
 {

@@ -1,6 +1,7 @@
 mod calls;
 mod counts;
 mod line;
+mod memory;
 mod patches;
 mod stops;
 
@@ -47,8 +48,8 @@ fn constructor_limits(rt: HostRuntime) -> Result<(), Fail> {
 }
 
 // How many steps a replay by two CPUs makes, and where it stops.
-fn replayed(
-    alloc: Global,
+fn replayed<A: Allocator + Copy>(
+    alloc: A,
     events: &[Event],
 ) -> Result<(usize, Option<(usize, SmpError)>), SmpError> {
     let end = replay(alloc, core_of(alloc, 2)?, events)?;

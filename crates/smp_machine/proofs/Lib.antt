@@ -6,3 +6,17 @@ pub mod Held
 pub mod Made
 -- the CPUs of a machine as it is made
 pub mod Seating
+-- one stretch of work after another
+pub mod Works
+-- what a look and a turn leave of a CPU
+pub mod Turns
+-- the works of stops
+pub mod StopWorks
+-- a stop, out of its parts
+pub mod Stopping
+-- a patch, out of its parts
+pub mod KeyStops
+-- a CPU goes on with a work until it is completed
+pub mod Polls
+-- a change of a count by one, out of its parts
+pub mod KeyCounts

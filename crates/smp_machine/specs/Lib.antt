@@ -6,3 +6,17 @@ pub mod Passes
 pub mod Place
 -- what a family of calls leaves of its CPU
 pub mod Calls
+-- what only a CPU's own stop calls change
+pub mod Own
+-- what a CPU does between two points of a call
+pub mod Works
+-- what a CPU takes from its own queue
+pub mod Takes
+-- what a stop call makes of its CPU
+pub mod Stops
+-- what a change of a key makes of it
+pub mod Keys
+-- a poll
+pub mod Polls
+-- what a change of a count by one makes of it
+pub mod Counts

@@ -1,9 +1,10 @@
 -- A machine, and a CPU of it.
-use Rattle.std.specs.Prelude.{◌≡◌, ℕ, false, true, Option, Some, None, List, slice_index_or, slice_set}
+use Rattle.std.specs.Prelude.{◌≡◌, ◌≢◌, ◌<◌, ℕ, Bool, false, true, Option, Some, None, IfSome, List, length, slice_index_or, slice_set}
 use Rattle.atomic_table.specs.Seated.{TableId}
 use Rattle.smp_mask.specs.Mask.{has}
+use Rattle.smp_stop_steps.specs.declared.phase.TheConstants.{EXIT}
 use Rattle.smp_queue.specs.Cpu.{TableValue as CallTableValue, CpuValue as CallCpuValue, fresh_cpu as fresh_calls}
-use Rattle.smp_multi.specs.Cpu.{TableValue as StopTableValue, CpuValue as StopCpuValue, fresh_cpu as fresh_stops, IsAt as IsAtStops}
+use Rattle.smp_multi.specs.Cpu.{TableValue as StopTableValue, CpuValue as StopCpuValue, Inside, fresh_cpu as fresh_stops, IsAt as IsAtStops}
 use Rattle.smp_machine.specs.Passes.{PassesValue, fresh_passes}
 
 -- a machine: both tables, and the names of the stopper queues
@@ -29,10 +30,16 @@ pub record IsAt (m : MachineValue) (p : PlaceValue) : Type 0 where
   pub stops : IsAtStops m.stops p.stops
   pub queues : p.passes.queues ≡ m.queues
 
--- its parts are of one CPU
+-- who has left its stop has completed it too
+abbrev pub HasNotLeft : Option Inside → Type 0
+HasNotLeft None = Unit {0}
+HasNotLeft (Some stop) = stop.acked ≢ EXIT
+
+-- its parts are of one CPU, and it is between two turns
 pub record IsPlace (p : PlaceValue) : Type 0 where
   pub stops_number : p.stops.number ≡ p.calls.number
   pub passes_number : p.passes.number ≡ p.calls.number
+  pub not_left : HasNotLeft p.stops.inside
 
 -- between two calls of a user the CPU does not hold the gate, and no stop of its own is left to collect
 pub record IsQuiet (p : PlaceValue) : Type 0 where
@@ -43,20 +50,26 @@ pub record IsQuiet (p : PlaceValue) : Type 0 where
 abbrev pub fresh_place : MachineValue → ℕ → PlaceValue
 fresh_place m cpu = record { calls = fresh_calls m.calls cpu; stops = fresh_stops m.stops.table m.stops.setting cpu; passes = fresh_passes m.queues cpu }
 
--- the CPUs that were not given out, and those online
+-- the machine whose CPUs are given out, and which of these are left
 pub record BootValue : Type 0 where
-  pub online : ℕ
-  pub cpus_left : List (Option PlaceValue)
+  pub machine : MachineValue
+  pub left : List Bool
 
--- the CPU at a number, where it is left
-abbrev pub left_at : BootValue → ℕ → Option PlaceValue
-left_at b cpu = slice_index_or b.cpus_left cpu None
+-- whether the CPU of a number is left
+abbrev pub is_left : BootValue → ℕ → Bool
+is_left b cpu = slice_index_or b.left cpu false
 
--- without the CPU at a number
+-- without the CPU of a number
 abbrev pub given : ℕ → BootValue → BootValue
-given cpu b = record b { cpus_left = slice_set b.cpus_left cpu None }
+given cpu b = record b { left = slice_set b.left cpu false }
 
--- all CPUs of the machine that are online are left, fresh
+-- each CPU that is online waits fresh, or was given out
+pub record AreWaiting (m : MachineValue) (online : ℕ) (waiting : List (Option PlaceValue)) : Type 0 where
+  pub online_is : online ≡ m.calls.online
+  pub sized : (cpu : ℕ) → has online cpu ≡ true → cpu < length waiting
+  pub fresh_are : (cpu : ℕ) → has online cpu ≡ true → IfSome (slice_index_or waiting cpu None) (λ c. c ≡ fresh_place m cpu)
+
+-- all CPUs of the machine that are online are left
 pub record IsFull (b : BootValue) (m : MachineValue) : Type 0 where
-  pub online_is : b.online ≡ m.calls.online
-  pub fresh_are : (cpu : ℕ) → has m.calls.online cpu ≡ true → left_at b cpu ≡ Some (fresh_place m cpu)
+  pub machine_is : b.machine ≡ m
+  pub left_are : (cpu : ℕ) → has m.calls.online cpu ≡ true → is_left b cpu ≡ true

@@ -4,9 +4,9 @@ ghost use Rattle.std.specs.Prelude.{◌≡◌, ◌<◌, ◌≤◌, ◌⊎◌, tr
 ghost use Rattle.smp_mask.specs.Mask.{has};
 ghost use Rattle.smp_words.specs.Size.{cpus};
 ghost use Rattle.smp_queue.specs.Cpu.{IsFull as IsFullOfCalls, is_left as call_left, given as calls_given};
-ghost use Rattle.smp_multi.specs.Cpu.{IsFull as IsFullOfStops, left_at as stop_left, given as stops_given, fresh_cpu as fresh_stops};
+ghost use Rattle.smp_multi.specs.Cpu.{IsFull as IsFullOfStops, is_left as stop_left, given as stops_given};
 ghost use Rattle.smp_machine.specs.Passes.{AreFresh, fresh_passes};
-ghost use Rattle.smp_machine.specs.Place.{IsFull, left_at, given, fresh_place};
+ghost use Rattle.smp_machine.specs.Place.{IsFull, is_left, given, fresh_place};
 
 use crate::cpu::Cpu;
 use crate::machine::Machine;
@@ -18,24 +18,26 @@ use smp_queue::Boot;
 use smp_words::size::NR_CPUS;
 use std::alloc::{AllocError, Allocator};
 use std::marker::Model;
+use std::snapshot::Snapshot;
 
 /// Hands each CPU of a machine out once.
 #[derive(Drop)]
 pub struct MachineBoot<A: Allocator> {
+    /// The machine as it was made, which contracts speak of.
+    machine: Snapshot<Machine<A>>,
     online: CpuMask,
     waiting: Vec<Option<Cpu<A>>, A>,
 }
 
 impl<A: Allocator> Model for MachineBoot<A> {
-    ghost use Rattle.std.specs.Prelude.{◌≡◌, ℕ, ◌<◌, true, length};
-    ghost use Rattle.smp_mask.specs.Mask.{has};
-    ghost use Rattle.smp_machine.specs.Place.{BootValue};
+    ghost use Rattle.std.specs.Prelude.{map, is_some};
+    ghost use Rattle.smp_machine.specs.Place.{BootValue, AreWaiting};
 
     ghost Value = { BootValue };
 
-    ghost view = { λ b. record { online = b.online; cpus_left = b.waiting.items } };
+    ghost view = { λ b. record { machine = b.machine.value; left = map is_some b.waiting.items } };
 
-    ghost invariant = { λ b. (cpu : ℕ) → has b.online cpu ≡ true → cpu < length b.waiting.items };
+    ghost invariant = { λ b. AreWaiting b.machine.value b.online b.waiting.items };
 }
 
 /// The CPU of these parts, where it is online.
@@ -47,9 +49,10 @@ fn seat_if<A: Allocator>(
     passes: Passes<A>,
     number: u32,
 ) -> Option<Cpu<A>>
-    requires online { (is_online ≡ has calls.old.table.online number) × (is_online ≡ has stops.old.online number) }
+    requires online { (is_online ≡ has calls.old.table.online number) × (is_online ≡ has machine.now.stops.setting.online number) }
     requires calls { (calls.old.table ≡ machine.now.calls) × (is_online ≡ true → call_left calls.old number ≡ true) }
-    requires stops { is_online ≡ true → stop_left stops.old number ≡ Some (fresh_stops machine.now.stops.table machine.now.stops.setting number) }
+    requires table { (stops.old.table ≡ machine.now.stops.table) × (stops.old.setting ≡ machine.now.stops.setting) }
+    requires stops { is_online ≡ true → stop_left stops.old number ≡ true }
     requires passes { passes ≡ fresh_passes machine.now.queues number }
     ensures cpu { result ≡ if is_online then Some (fresh_place machine.now number) else None }
     ensures calls { calls.new ≡ if is_online then calls_given number calls.old else calls.old }
@@ -95,16 +98,22 @@ pub(crate) fn seat_all<A: Allocator>(
         let cpu = seat_if(machine, is_online, &mut calls, &mut stops, own, number);
         waiting.push(cpu)?;
     }
-    Ok(MachineBoot { online, waiting })
+    let machine = Snapshot::of(machine);
+    Ok(MachineBoot {
+        machine,
+        online,
+        waiting,
+    })
 }
 
 impl<A: Allocator> MachineBoot<A> {
-    /// This CPU's value. E1 where it is not online, then E2 where it was given out. It makes no step of a table, and
-    /// does not wait.
+    /// This CPU's value: that of a CPU of this machine that has done nothing. E1 where it is not online, then E2 where it
+    /// was given out. It makes no step of a table, and does not wait.
     pub fn cpu(&mut self, cpu: u32) -> Result<Cpu<A>, SmpError>
-        ensures ok { IfOk result (λ c. (has self.old.online cpu ≡ true) × (left_at self.old cpu ≡ Some c) × (self.new ≡ given cpu self.old)) }
-        ensures err { IfErr result (λ e. ((e ≡ SmpError.NoCpu) × (has self.old.online cpu ≡ false))
-            ⊎ ((e ≡ SmpError.Busy) × (has self.old.online cpu ≡ true) × (left_at self.old cpu ≡ None))) }
+        ensures ok { IfOk result (λ c. (c ≡ fresh_place self.old.machine cpu) × (has self.old.machine.calls.online cpu ≡ true)
+            × (is_left self.old cpu ≡ true) × (self.new ≡ given cpu self.old)) }
+        ensures err { IfErr result (λ e. ((e ≡ SmpError.NoCpu) × (has self.old.machine.calls.online cpu ≡ false))
+            ⊎ ((e ≡ SmpError.Busy) × (has self.old.machine.calls.online cpu ≡ true) × (is_left self.old cpu ≡ false))) }
         ensures kept { IfErr result (λ e. self.new ≡ self.old) }
     {
         if !self.online.contains(cpu) {

@@ -1,3 +1,8 @@
+mod hall;
+mod keys;
+mod stops;
+mod turns;
+
 use super::*;
 use linked_list_allocator::LocalHeap;
 use smp_labels::{Entry, LabelMap};

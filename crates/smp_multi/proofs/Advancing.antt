@@ -5,7 +5,7 @@ use Rattle.atomic_table.specs.Seated.{TableId}
 use Rattle.smp_mask.specs.Mask.{has}
 use Rattle.smp_stop_steps.specs.Callings.{with_answer}
 use Rattle.smp_stop_steps.specs.Carries.{IsQuiet}
-use Rattle.smp_stop_steps.specs.Known.{Lives}
+use Rattle.smp_stop_steps.specs.Known.{Lives, Moment}
 use Rattle.smp_stop_steps.specs.KnownAfter.{looked_known, looked_to}
 use Rattle.smp_stop_steps.specs.Sits.{OwnsIf}
 use Rattle.smp_stop_steps.specs.Stages.{visit_acked}
@@ -15,9 +15,10 @@ use Rattle.smp_stop_steps.specs.Labels.{patch_answer}
 use Rattle.smp_stop_steps.specs.declared.known.Reading.{Reading}
 use Rattle.smp_stop_steps.specs.declared.phase.TheConstants.{DISABLE_IRQ, RUN, EXIT}
 use Rattle.smp_stop_steps.specs.declared.stage.Visit.{Visit}
-use Rattle.smp_multi.specs.Names.{Work, Kind, One, Multi, Patch, Seat, In, Rests, Known, Part, Calling, Idle, Calls, Carries}
-use Rattle.smp_multi.specs.Advance.{Advances, AdvanceAnswers, RunsAt, acknowledges, carries, patches}
+use Rattle.smp_multi.specs.Names.{Key, Work, Kind, One, Multi, Patch, Seat, In, Rests, Known, Part, Calling, Idle, Calls, Carries}
+use Rattle.smp_multi.specs.Advance.{Advances, AdvanceAnswers, RunsAt, acknowledges, carries, looks, patches}
 use Rattle.smp_multi.specs.Cpu.{CpuValue, Inside, IsKept, call_with, calls_with, part_with, cpu_of, inside_of, runs}
+use Rattle.smp_multi.specs.Laws.{FindsCount}
 use Rattle.smp_multi.specs.Places.{work_in}
 use Rattle.smp_multi.specs.Rounds.{AtTurn, passed_by, passed_known}
 use Rattle.smp_multi.specs.Running.{called, calls_now}
@@ -27,6 +28,7 @@ use Rattle.smp_multi.specs.declared.func.Called.{Called}
 use Rattle.smp_multi.specs.declared.turn.Turn.{Turn}
 use Rattle.smp_multi.specs.declared.turn.Turn.TheVariants.{Same, Moved, Ran, Left}
 use Rattle.smp_multi.proofs.Kept.{idle_before, idle_part}
+use Rattle.smp_multi.proofs.Showing.{HasNotGiven, finds_count}
 
 -- who is quiet carries on
 quiet_on : (v x : Visit) (f : Calling) → x.answer ≡ v.answer → IsQuiet (Some v) (with_answer v.answer f) → IsQuiet (Some x) (with_answer x.answer f)
@@ -111,7 +113,7 @@ module _ {F : Type 0} (leads : F → Called → F → Type 0) (t : TableId) (d e
   ran_turned Patch h = record {
     seat = In v.slot w RUN RUN Rests;
     part = (patched_at d.known v.slot w h.0).part;
-    is = h.1 ∙ patched_is d.known v.slot w v.acked h.0 is;
+    is = h.2 ∙ patched_is d.known v.slot w v.acked h.0 is;
     holds = refl;
     quiet = refl;
   }
@@ -188,8 +190,29 @@ module _ {F : Type 0} (leads : F → Called → F → Type 0) (t : TableId) (d e
   idle : v.acked ≡ DISABLE_IRQ → d.known.part.calling ≡ Idle
   idle two = idle_before d.known v v.slot v.acked v.acked w Rests k.lives is (omega (arith, two)) k.quiet
 
+  -- the CPU that has looked at RUN
+  abbrev at_run : SeatValue
+  at_run = record { table = d.table; known = looked_known RUN d.known }
+
+  at_run_view : v.acked ≡ DISABLE_IRQ → cpu_of v.answer at_run ≡ looks RUN old
+  at_run_view two =
+      let there : d.known.seat ≡ In v.slot w DISABLE_IRQ DISABLE_IRQ Rests = is ∙ ap (λ n. In v.slot w n n Rests) two in
+      let P : Seat → CpuValue = λ y. cpu_of v.answer (record {
+        table = d.table;
+        known = record (d.known) { seat = looked_to RUN y; part = record (d.known.part) { looks = d.known.part.looks ++ RUN ∷ [] } };
+      }) in
+      let Q : Seat → CpuValue = λ y. looks RUN (cpu_of v.answer (record { table = d.table; known = record (d.known) { seat = y } })) in
+      ap P there ∙ sym (ap Q there)
+
+  finds : (count : ℕ) → v.acked ≡ DISABLE_IRQ → Moment (looked_known RUN d.known) (Key (work_in d.known.seat).func) count
+      → FindsCount (looks RUN old) w.func count
+  finds count two m =
+      let free : HasNotGiven (looked_to RUN d.known.seat) = subst (λ y. HasNotGiven (looked_to RUN y)) (sym is) tt in
+      subst (λ (z : CpuValue). FindsCount z w.func count) (at_run_view two) (finds_count v.answer at_run w.func count free
+      (subst (λ (z : Work). Moment (looked_known RUN d.known) (Key z.func) count) (sym work_is) m))
+
   runs_at : (kind : Kind) → v.kind ≡ kind → v.acked ≡ DISABLE_IRQ → has v.active d.known.number ≡ true → HasRun leads d.known e.known v x f g kind
-      → RunsAt leads stop (acknowledges stop RUN false old) (cpu_of x.answer e) f g kind
+      → RunsAt leads stop old (cpu_of x.answer e) f g kind
   runs_at One e_ two on h = absurd h
   runs_at Multi kind two on h =
       let y = answer_word h.0 in
@@ -211,14 +234,15 @@ module _ {F : Type 0} (leads : F → Called → F → Type 0) (t : TableId) (d e
       ap (λ b. b && is_multi w.kind) (active_is ∙ on) ∙ ap is_multi (sym k.rests.1.kind ∙ kind) in
       let mine = patched_at d.known v.slot w h.0 in (
         h.0,
-        ap (λ z. cpu_of z e) (ap (λ (z : Visit). z.answer) h.2 ∙ ap (λ (z : Work). patch_answer z h.0) (sym work_is)) ∙ (
-            view y mine (h.1 ∙ patched_is d.known v.slot w v.acked h.0 is) ∙ (
+        ap (λ z. cpu_of z e) (ap (λ (z : Visit). z.answer) h.3 ∙ ap (λ (z : Work). patch_answer z h.0) (sym work_is)) ∙ (
+            view y mine (h.2 ∙ patched_is d.known v.slot w v.acked h.0 is) ∙ (
             ap (λ b. record (cpu_of y (record { table = d.table; known = mine })) {
               part = record (mine.part) { calls = cond b (d.known.part.calls ++ call_with w y ∷ []) d.known.part.calls; calling = Carries y };
             }) none ∙
             ap (λ (z : Part). carries y (patches w h.0 (acknowledges stop RUN false (record old { part = z })))) (sym (idle_part v.answer d.known
             (idle two))))),
-        h.3,
+        h.4,
+        finds h.0 two h.1,
       )
 
   pub advances : (turn : Turn) → TurnAnswers leads d.known e.known v x f g turn → Advances leads stop old (cpu_of x.answer e) f g turn
@@ -243,7 +267,7 @@ module _ {F : Type 0} (leads : F → Called → F → Type 0) (t : TableId) (d e
   advances Ran h = (
     h.0,
     active_is ∙ h.1,
-    subst (RunsAt leads stop (acknowledges stop RUN false old) (cpu_of x.answer e) f g) k.rests.1.kind
+    subst (RunsAt leads stop old (cpu_of x.answer e) f g) k.rests.1.kind
         (runs_at v.kind refl h.0 h.1 h.2),
   )
   advances Left h = (h.0, moved_view EXIT (first_readings d.known.number v.slot w) h.1 h.2 refl, h.3)

@@ -14,14 +14,14 @@ use Rattle.smp_stop_steps.specs.Sits.{IsNudge}
 use Rattle.smp_stop_steps.specs.Stages.{nudge_of}
 use Rattle.smp_multi.specs.Names.{Key, Exchange, Known}
 use Rattle.smp_multi.specs.Cpu.{cpu_of}
-use Rattle.smp_multi.specs.Nudges.{FindsCount, LoadsCount, NudgeAnswers, NudgeKnown, StaysOn, loads_known, nudged_known}
+use Rattle.smp_multi.specs.Nudges.{LoadsCount, NudgeAnswers, NudgeKnown, StaysOn, loads_known, nudged_known}
 use Rattle.smp_multi.specs.Reads.{MayRead}
 use Rattle.smp_multi.specs.Seat.{SeatValue, Ready}
 use Rattle.smp_multi.specs.declared.nudge.Nudge.{Nudge}
 use Rattle.smp_multi.specs.declared.nudge.Nudge.TheVariants.{Done, Lost, Stop}
 use Rattle.smp_multi.proofs.Cells.{key_cell}
 use Rattle.smp_multi.proofs.Reading.{reads_table}
-use Rattle.smp_multi.proofs.Showing.{is_shown}
+use Rattle.smp_multi.proofs.Showing.{HasNotGiven, lives_at, finds_count}
 
 pub ready_nudge : (t : TableId) (d : SeatValue) → MayRead t d → (k count next : ℕ) → k < MOST_KEYS → IsNudge count next
     → Ready t d (Exchange (Key k) count next)
@@ -65,24 +65,15 @@ same_tests false true e = cc
 pub found_other : (found count : ℕ) (b : Bool) → b ≡ (found == count) → b ≡ false → found ≢ count
 found_other found count b is lost same = let bad : true ≡ false = sym (eq-eqb found count same) ∙ (sym is ∙ lost) in cc
 
--- at a moment at which the CPU knew this
-abbrev lives_at : (v : Known) (k n : ℕ) → Moment v (Key k) n → Lives v
-lives_at v k n m = record { stops = m.stops; at = m.at; seat = m.seat; source = m.source; shown = m.shown; sees = m.sees }
-
-pub finds_count : (a : ℕ) (d : SeatValue) (k n : ℕ) → Moment d.known (Key k) n → FindsCount (cpu_of a d) k n
-finds_count a d k n m = record {
-  shown = is_shown a d (lives_at d.known k n m);
-  found = sym m.number_is;
-}
-
 -- the CPU that has loaded a count
 abbrev loaded : SeatValue → ℕ → ℕ → SeatValue
 loaded d k count = record { table = d.table; known = loads_known k count d.known }
 
 module _ (a : ℕ) (d e : SeatValue) (k : ℕ) (up : Bool) (table : e.table ≡ d.table) (lives : Lives e.known)
-    (online : has d.known.setting.online d.known.number ≡ true) (on : irq_of d.known.seat ≡ true) (low : k < d.known.setting.labels.keys) where
+    (online : has d.known.setting.online d.known.number ≡ true) (on : irq_of d.known.seat ≡ true) (low : k < d.known.setting.labels.keys)
+    (free : HasNotGiven d.known.seat) where
   loads : (count : ℕ) → Moment d.known (Key k) count → Lives (loads_known k count d.known) → LoadsCount (cpu_of a d) k count
-  loads count m l = record { key = (low, on); finds = finds_count a d k count m; reads = reads_table a (loaded d k count) l online on }
+  loads count m l = record { key = (low, on); finds = finds_count a d k count free m; reads = reads_table a (loaded d k count) l online on }
 
   same_view : (w : Known) → e.known ≡ w → cpu_of a e ≡ cpu_of a (record { table = d.table; known = w })
   same_view w same = λ i. cpu_of a (record { table = table i; known = same i })
@@ -93,10 +84,10 @@ module _ (a : ℕ) (d e : SeatValue) (k : ℕ) (up : Bool) (table : e.table ≡ 
   pub nudge_answers : (r : Result Nudge SmpError) → NudgeKnown k up d.known e.known r → NudgeAnswers k up (cpu_of a d) (cpu_of a e) r
   nudge_answers (Ok Done) h =
       let n = h.0 in
-      (n, loads n h.1 (lives_at _ k n h.3), h.2, finds_count a (loaded d k n) k n h.3, same_view (nudged_known up k (loads_known k n d.known)) h.4)
+      (n, loads n h.1 (lives_at _ (Key k) n h.3), h.2, finds_count a (loaded d k n) k n free h.3, same_view (nudged_known up k (loads_known k n d.known)) h.4)
   nudge_answers (Ok Lost) h =
       let n = h.0 in
-      (n, h.1, loads n h.2 (lives_at _ k h.1 h.4), h.3, finds_count a (loaded d k n) k h.1 h.4, h.5, same_view (loads_known k n d.known) h.6)
+      (n, h.1, loads n h.2 (lives_at _ (Key k) h.1 h.4), h.3, finds_count a (loaded d k n) k h.1 free h.4, h.5, same_view (loads_known k n d.known) h.6)
   nudge_answers (Ok Stop) h = let n = h.0 in let w = loads_known k n d.known in (n, loads n h.1 (lives_as w h.3), h.2, same_view w h.3)
   nudge_answers (Err (error.KeyRange x)) h = let n = h.0 in let w = loads_known k n d.known in (n, loads n h.1 (lives_as w h.4), h.2, h.3, same_view w h.4)
   nudge_answers (Err _) h = absurd h

@@ -20,19 +20,21 @@ use Rattle.smp_labels.proofs.Stores.{entries_kept}
 use Rattle.smp_mask.specs.Mask.{has}
 use Rattle.smp_words.specs.Size.{cpus}
 use Rattle.smp_stop_steps.specs.Known.{Lives, Moment, setup_in}
-use Rattle.smp_stop_steps.specs.KnownAfter.{acked_by, called_by, counted, is_drafting, key_loaded_by, known_told, raised_by, reads_more}
-use Rattle.smp_stop_steps.specs.Labels.{Change, LabelsShow, Patching, Patches, Whole, count_set}
+use Rattle.smp_stop_steps.specs.KnownAfter.{acked_by, called_by, counted, is_drafting, key_loaded_by, known_told, looked_known, looked_to}
+use Rattle.smp_stop_steps.specs.KnownAfter.{raised_by, reads_more}
+use Rattle.smp_stop_steps.specs.Labels.{Change, LabelsShow, Patching, Patches, Whole, count_set, patch_answer}
 use Rattle.smp_stop_steps.specs.Moves.{Alter, AcknowledgePatch, BeginPatch, LoadEntry}
 use Rattle.smp_stop_steps.specs.Seats.{Stands}
 use Rattle.smp_stop_steps.specs.Sits.{IsLoaded}
-use Rattle.smp_stop_steps.specs.Stages.{label_word, store_of}
+use Rattle.smp_stop_steps.specs.Stages.{label_word, store_of, visit_acked}
 use Rattle.smp_stop_steps.specs.Stop.{Inside}
 use Rattle.smp_stop_steps.specs.Tells.{is_multi, is_one, is_patch, plan_at}
 use Rattle.smp_stop_steps.specs.declared.phase.TheConstants.{DISABLE_IRQ, RUN}
 use Rattle.smp_stop_steps.specs.declared.stage.Visit.{Visit}
 use Rattle.smp_stop_steps.proofs.Promises.Functions.{runs_alone}
 use Rattle.smp_stop_steps.proofs.State.Phases.{is_open_inside}
-use Rattle.smp_multi.specs.Names.{Work, Kind, Patch, Slot, Key, Entry, Field, Load, Store, Sub, Seat, In, Alters, Duty, Rests, Fills, Known}
+use Rattle.smp_multi.specs.Names.{Work, Kind, Patch, Slot, Key, Entry, Field, Load, Store, Sub, Seat, Duty, Rests, Fills, Known}
+use Rattle.smp_multi.specs.Names.{Free, In, Gives, Alters, Closes}
 use Rattle.smp_multi.specs.Names.{Moved, Calls, Carries, ReadKey}
 use Rattle.smp_multi.specs.Names.act
 use Rattle.smp_multi.specs.Names.field
@@ -41,7 +43,8 @@ use Rattle.smp_multi.specs.Patches.{AtPatch, begins_with, count_in, entries_in, 
 use Rattle.smp_multi.specs.Places.{work_in}
 use Rattle.smp_multi.specs.Rounds.{AloneWhile, AtRun, AtTurn}
 use Rattle.smp_multi.specs.Seat.{SeatValue, Ready}
-use Rattle.smp_multi.specs.Turns.{patched_by, patched_with}
+use Rattle.smp_multi.specs.Turns.{HasRun, patched_by, patched_with}
+use Rattle.smp_multi.specs.declared.func.Called.{Called}
 use Rattle.smp_multi.proofs.Cells.{slot_cell, key_cell, entry_cell, site_cell}
 
 -- what a CPU in a patch stop finds at a moment
@@ -429,3 +432,26 @@ module _ (k : Known) (s : ℕ) (w : Work) (count : ℕ) (is : k.seat ≡ In s w 
       let c : k3 ≡ acked = three ∙ ap (λ (x : Known). acked_by found x.seat x) b in
       four ∙ (ap (λ (x : Known). cond (found == 1) (raised_by next x.seat x) x) c
       ∙ (ap (λ n. cond (found == 1) (raised_by n acked.seat acked) acked) up ∙ (passed_same (found == 1) ∙ sym (ap (λ y. patched_by count y k) is))))
+
+-- a turn with a patch
+
+work_looked : (n : ℕ) (x : Seat) → work_in (looked_to n x) ≡ work_in x
+work_looked n Free = refl
+work_looked n (In s w a l t) = refl
+work_looked n (Gives s w a x) = refl
+work_looked n (Alters s w count made rest) = refl
+work_looked n (Closes s) = refl
+
+-- a CPU that has looked at RUN, where this count was in the key, and has made its patch
+pub has_patched : {F : Type 0} (leads : F → Called → F → Type 0) (old looked new : Known) (v x : Visit) (f : F) (count : ℕ)
+    → looked ≡ looked_known RUN old → Moment looked (Key (work_in looked.seat).func) count → new ≡ patched_by count looked.seat looked
+    → x ≡ visit_acked v (patch_answer (work_in looked.seat) count) true → HasRun leads old new v x f f Patch
+has_patched leads old looked new v x f count is m same next =
+    let work : work_in looked.seat ≡ work_in old.seat = ap (λ (k : Known). work_in k.seat) is ∙ work_looked RUN old.seat in (
+      count,
+      subst (λ (w : Work). Moment (looked_known RUN old) (Key w.func) count) work
+          (subst (λ (k : Known). Moment k (Key (work_in looked.seat).func) count) is m),
+      same ∙ ap (λ (k : Known). patched_by count k.seat k) is,
+      next ∙ ap (λ (w : Work). visit_acked v (patch_answer w count) true) work,
+      refl,
+    )

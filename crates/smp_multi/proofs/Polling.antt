@@ -1,13 +1,20 @@
 -- The looks of a source, and the result that it collects.
-use Rattle.std.proofs.Common.{◌≡◌, ℕ, ◌==◌, not, Bool, true, false, cond, sym, refl, ap, ◌∙◌}
+use Rattle.std.proofs.Common.{◌≡◌, ℕ, ◌==◌, not, Bool, true, false, cond, Option, Some, None, Ok, sym, refl, ap, subst, ◌∙◌, eqb-true}
 use Rattle.atomic_table.specs.Seated.{TableId}
+use Rattle.smp_stop_steps.specs.Known.{Moment}
 use Rattle.smp_stop_steps.specs.KnownAfter.{done_by}
+use Rattle.smp_stop_steps.specs.declared.stage.Visit.{Visit}
 use Rattle.smp_stop_steps.specs.Moves.{LookDone, Collect}
 use Rattle.smp_multi.specs.Names.{Slot, Load, Source, Owns, Collects}
 use Rattle.smp_multi.specs.Names.field
+use Rattle.smp_multi.specs.Answers.{PollAnswers}
+use Rattle.smp_multi.specs.Cpu.{IsKept, answer_of, cpu_of}
+use Rattle.smp_multi.specs.Laws.{Finds}
+use Rattle.smp_multi.specs.Places.{pending_of}
 use Rattle.smp_multi.specs.Polls.{IsOwner, HasFound, own_work, looked}
 use Rattle.smp_multi.specs.Seat.{SeatValue, Ready}
 use Rattle.smp_multi.proofs.Cells.{slot_cell}
+use Rattle.smp_multi.proofs.Showing.{finds, rests_ungiven}
 
 module _ (t : TableId) (d : SeatValue) (number : ℕ) where
   pub ready_done : IsOwner t d number → Ready t d (Load (Slot number field.Done))
@@ -39,3 +46,25 @@ module _ (t : TableId) (d : SeatValue) (number : ℕ) where
       go : (c : Bool) → record (d.known) { source = cond c (Owns (own_work d.known.source)) (Collects (own_work d.known.source)) } ≡ looked (not c) d.known
       go true = refl
       go false = refl
+
+-- a CPU that has found done not set
+pub poll_none : (d e : SeatValue) (number : ℕ) (visit : Option Visit) (holds : Bool) (n : ℕ) (b : Bool) → IsKept d.known number visit holds true
+    → e.table ≡ d.table → e.known ≡ looked b d.known → Moment d.known (Slot number field.Done) n → b ≡ not (n == 0) → b ≡ false →
+    PollAnswers (cpu_of (answer_of visit) d) (cpu_of (answer_of visit) e) (Ok None)
+poll_none d e number visit holds n b kept table same m is none =
+    let a = answer_of visit in
+    let w = kept.owns.0 in
+    let owned : looked false d.known ≡ d.known = ap (λ y. record (d.known) { source = Owns (own_work y) }) kept.owns.1
+    ∙ sym (ap (λ y. record (d.known) { source = y }) kept.owns.1) in
+    let known : e.known ≡ d.known = same ∙ (ap (λ c. looked c d.known) none ∙ owned) in
+    let found : Finds (cpu_of a d) (Slot number field.Done) n = finds a d (Slot number field.Done) n (rests_ungiven visit d.known.seat kept.rests) m in (
+      (λ (closed : pending_of d.known.source ≡ None). let some : pending_of d.known.source ≡ Some w = ap pending_of kept.owns.1 in
+          let bad : None ≡ Some w = sym closed ∙ some in cc),
+      (λ i. cpu_of a (record { table = table i; known = known i })),
+      subst (λ k. Finds (cpu_of a d) (Slot k field.Done) 0) (sym kept.number_is)
+          (subst (Finds (cpu_of a d) (Slot number field.Done)) (at_zero (n == 0) refl (sym (sym is ∙ none))) found),
+    )
+  where
+    at_zero : (c : Bool) → (n == 0) ≡ c → false ≡ not c → n ≡ 0
+    at_zero true e f = eqb-true n 0 e
+    at_zero false e f = cc

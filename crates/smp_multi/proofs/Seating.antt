@@ -1,14 +1,16 @@
 -- The CPUs of a table, as they are seated one after the other.
-use Rattle.std.proofs.Common.{◌≡◌, ℕ, ◌+◌, ◌<◌, ◌≤◌, Bool, cond, Option, Some, None, List, [], ◌∷◌, ◌++◌, length, length-append, get_or, sym, refl, ap, ◌∙◌}
-use Rattle.std.proofs.Common.{inl, inr, arith}
-use Rattle.std.proofs.lemmas.List.{get_or_push, get_or_append_left}
+use Rattle.std.proofs.Common.{◌≡◌, ℕ, ◌+◌, ◌<◌, ◌≤◌, Bool, true, false, cond, Option, Some, None, List, [], ◌∷◌, ◌++◌, length, length-append}
+use Rattle.std.proofs.Common.{get_or, map, sym, refl, ap, ◌∙◌, subst, inl, inr, arith}
+use Rattle.std.specs.Prelude.{IfSome, is_some}
+use Rattle.std.proofs.lemmas.List.{get_or_push, get_or_append_left, get_or_default}
 use Rattle.std.proofs.lemmas.Bool.{cases_eq}
+use Rattle.std.proofs.Math.ListN.{get_or-map}
 use Rattle.atomic_table.specs.Seated.{TableId}
 use Rattle.smp_mask.specs.Mask.{has}
 use Rattle.smp_words.specs.Limits.{AreLimits}
 use Rattle.smp_words.specs.Size.{cpus}
 use Rattle.smp_multi.specs.Cells.{cells}
-use Rattle.smp_multi.specs.Cpu.{CpuValue, fresh_cpu, IsFull}
+use Rattle.smp_multi.specs.Cpu.{CpuValue, fresh_cpu, AreWaiting}
 use Rattle.smp_multi.specs.Names.{Setting, SeatView, Maker}
 
 -- the CPUs below n have a seat, and of these the ones online are kept
@@ -36,12 +38,36 @@ seats_more table maker_table maker_table' maker maker' k n waiting waiting' x s 
       ];
     })
 
--- once all are seated, all that are online are left
-pub seats_full : (table maker_table : TableId) (maker : SeatView) (nr : ℕ) (k : Setting) (n : ℕ) (waiting : List (Option CpuValue)) → AreLimits nr k.online
-    → cpus ≤ n → AreSeated table maker_table maker k n waiting →
-    IsFull (record { online = k.online; cpus_left = waiting }) table k
-seats_full table maker_table maker nr k n waiting limits all s = record {
+-- once all are seated, all that are online wait fresh
+pub seats_wait : (table maker_table : TableId) (maker : SeatView) (nr : ℕ) (k : Setting) (n : ℕ) (waiting : List (Option CpuValue)) → AreLimits nr k.online
+    → cpus ≤ n → AreSeated table maker_table maker k n waiting → AreWaiting table k k.online waiting
+seats_wait table maker_table maker nr k n waiting limits all s = record {
   online_is = refl;
+  sized = λ cpu e. let below = limits.below cpu e in let few = limits.within in let count = s.count in omega arith;
   fresh_are = λ cpu e. let below = limits.below cpu e in let few = limits.within in
-      s.each cpu (omega arith) ∙ ap (λ (b : Bool). cond b (Some (fresh_cpu table k cpu)) None) e;
+      subst (λ o. IfSome o (λ c. c ≡ fresh_cpu table k cpu))
+      (sym (s.each cpu (omega arith) ∙ ap (λ (b : Bool). cond b (Some (fresh_cpu table k cpu)) None) e)) refl;
 }
+
+-- whether the CPU of a number is left, by what waits there
+pub left_is : (waiting : List (Option CpuValue)) (cpu : ℕ) (o : Option CpuValue) → get_or waiting cpu None ≡ o
+    → get_or (map is_some waiting) cpu false ≡ is_some o
+left_is waiting cpu o e = get_or-map is_some waiting cpu None ∙ ap is_some e
+
+-- and are left
+pub seats_left : (table maker_table : TableId) (maker : SeatView) (nr : ℕ) (k : Setting) (n : ℕ) (waiting : List (Option CpuValue)) → AreLimits nr k.online
+    → cpus ≤ n → AreSeated table maker_table maker k n waiting → (cpu : ℕ) → has k.online cpu ≡ true → get_or (map is_some waiting) cpu false ≡ true
+seats_left table maker_table maker nr k n waiting limits all s cpu e =
+    let below = limits.below cpu e in
+    let few = limits.within in
+    left_is waiting cpu (Some (fresh_cpu table k cpu)) (s.each cpu (omega arith) ∙ ap (λ (b : Bool). cond b (Some (fresh_cpu table k cpu)) None) e)
+
+-- the CPU that waits at a number, as it is taken out
+pub taken_from : (waiting : List (Option CpuValue)) (cpu : ℕ) (o now : Option CpuValue) → cpu < length waiting → o ≡ now → now ≡ get_or waiting cpu now
+    → get_or waiting cpu None ≡ o
+taken_from waiting cpu o now low e f = sym (e ∙ (f ∙ get_or_default waiting cpu now None low))
+
+-- is fresh
+pub waits_fresh : (table : TableId) (k : Setting) (online : ℕ) (waiting : List (Option CpuValue)) (cpu : ℕ) (c : CpuValue)
+    → AreWaiting table k online waiting → has online cpu ≡ true → get_or waiting cpu None ≡ Some c → c ≡ fresh_cpu table k cpu
+waits_fresh table k online waiting cpu c w h e = subst (λ o. IfSome o (λ c. c ≡ fresh_cpu table k cpu)) e (w.fresh_are cpu h)

@@ -1,15 +1,21 @@
 -- What a CPU knows is its part of stops that keep all laws.
-use Rattle.std.proofs.Common.{ℕ, refl, ◌≡◌, Option, subst, ap, ◌∙◌}
-use Rattle.smp_stop_steps.specs.Known.{setup_in, Lives, told_calling, told_source}
+use Rattle.std.proofs.Common.{ℕ, refl, ◌≡◌, Option, Some, None, List, subst, sym, ap, ◌∙◌}
+use Rattle.smp_words.specs.Put.{put}
+use Rattle.smp_words.proofs.Puts.{put_all, put_same}
+use Rattle.smp_stop_steps.specs.Known.{setup_in, Lives, Moment, Sees, told_calling, told_source}
 use Rattle.smp_stop_steps.proofs.Promises.StopLaws.{keeps_laws}
-use Rattle.smp_multi.specs.Cpu.{cpu_of, inside_of}
-use Rattle.smp_multi.specs.Laws.{IsShown, IsInside, IsPending}
-use Rattle.smp_stop_steps.specs.Callings.{with_answer}
+use Rattle.smp_multi.specs.Cpu.{cpu_of, inside_of, part_with}
+use Rattle.smp_multi.specs.Laws.{Finds, FindsCount, IsShown, IsInside, IsPending}
+use Rattle.smp_stop_steps.specs.Callings.{IsCalling, with_answer}
 use Rattle.smp_stop_steps.specs.Seats.{Stands, irq_of}
+use Rattle.smp_stop_steps.specs.Shows.{StopShows}
+use Rattle.smp_stop_steps.specs.Sits.{SitsAtRest}
 use Rattle.smp_stop_steps.specs.Sources.{SourceShows}
-use Rattle.smp_stop_steps.specs.State.{Present, Setup}
+use Rattle.smp_stop_steps.specs.State.{Present, Setup, StopState}
 use Rattle.smp_stop_steps.specs.Stop.{Stop, acked}
-use Rattle.smp_multi.specs.Names.{Slot, Field, Seat, Free, In, Gives, Alters, Closes, Source, Shut, Drafts, Owns, Collects, Calling, Idle, Calls, Carries}
+use Rattle.smp_stop_steps.specs.declared.stage.Visit.{Visit}
+use Rattle.smp_multi.specs.Names.{Word, Slot, Key, Field, Seat, Free, In, Gives, Alters, Closes, Source, Shut, Drafts, Owns, Collects}
+use Rattle.smp_multi.specs.Names.{Known, StopCall, Calling, Idle, Calls, Carries}
 use Rattle.smp_multi.specs.Places.{pending_of}
 use Rattle.smp_multi.specs.Seat.{SeatValue}
 
@@ -30,30 +36,120 @@ pending_shown u gate stop word me y z shows e = subst (λ x. IsPending stop (pen
     go (Owns w) s = (s.is_open, s.work_is)
     go (Collects w) s = (s.0.is_open, s.0.work_is)
 
-pub calling_shown : (answer : ℕ) (f g : Calling) → told_calling f ≡ g → told_calling f ≡ told_calling (with_answer answer g)
-calling_shown answer f g e = subst (λ x. told_calling f ≡ told_calling (with_answer answer x)) e (go f)
-  where
-    go : (f : Calling) → told_calling f ≡ told_calling (with_answer answer (told_calling f))
-    go Idle = refl
-    go (Calls call) = refl
-    go (Carries x) = refl
+-- the answer of a function stands in no word before it is given
+abbrev pub HasNotGiven : Seat → Type 0
+HasNotGiven (Gives s w a x) = ⊥
+HasNotGiven _ = Unit {0}
 
-abbrev pub is_shown : (answer : ℕ) (d : SeatValue) → Lives d.known → IsShown (cpu_of answer d)
-is_shown answer d l = record {
-  stops = l.stops;
-  at = l.at;
-  seat = l.seat;
-  source = l.source;
-  shown = l.shown;
-  laws = keeps_laws (setup_in d.known.setting) l.stops l.at l.seat l.source l.shown;
-  known = d.known;
-  sees = l.sees;
-  answer = answer;
-  view = refl;
-  inside = inside_shown l.stops.now d.known.number d.known.seat (subst (Stands l.stops.now d.known.number) l.sees.seat_is
-      (l.shown.present.stands d.known.number));
-  irq = l.shown.present.irq d.known.number ∙ ap irq_of l.sees.seat_is;
-  pending = pending_shown (setup_in d.known.setting) l.stops.gate (l.stops.now.stop d.known.number) (λ f. l.at (Slot d.known.number f)) d.known.number
-      (l.source d.known.number) d.known.source (l.shown.sources d.known.number) l.sees.source_is;
-  calling = calling_shown answer (l.stops.calling d.known.number) d.known.part.calling l.sees.part_is.calling;
+pub rests_ungiven : (visit : Option Visit) (x : Seat) → SitsAtRest visit x → HasNotGiven x
+rests_ungiven None x rests = subst HasNotGiven (sym rests) tt
+rests_ungiven (Some v) x rests = subst HasNotGiven (sym rests.2) tt
+
+-- so any may be put for it
+answer_put : (c : ℕ) (x : Seat) (y : ℕ) (f : Calling) → HasNotGiven x → IsCalling c x f → IsCalling c x (with_answer y f)
+answer_put c Free y Idle free k = k
+answer_put c Free y (Calls call) free k = absurd k
+answer_put c Free y (Carries z) free k = absurd k
+answer_put c (In s w a l t) y Idle free k = k
+answer_put c (In s w a l t) y (Calls call) free k = k
+answer_put c (In s w a l t) y (Carries z) free k = k
+answer_put c (Gives s w a v) y f free k = absurd free
+answer_put c (Alters s w count made rest) y Idle free k = k
+answer_put c (Alters s w count made rest) y (Calls call) free k = absurd k
+answer_put c (Alters s w count made rest) y (Carries z) free k = absurd k
+answer_put c (Closes s) y Idle free k = k
+answer_put c (Closes s) y (Calls call) free k = absurd k
+answer_put c (Closes s) y (Carries z) free k = absurd k
+
+told_with : (y : ℕ) (f : Calling) → told_calling (with_answer y f) ≡ told_calling f
+told_with y Idle = refl
+told_with y (Calls call) = refl
+told_with y (Carries z) = refl
+
+with_told : (y : ℕ) (f : Calling) → with_answer y (told_calling f) ≡ with_answer y f
+with_told y Idle = refl
+with_told y (Calls call) = refl
+with_told y (Carries z) = refl
+
+-- the same stops, where this CPU has made these calls and carries this answer
+abbrev pub stops_with : ℕ → List StopCall → ℕ → StopState → StopState
+stops_with y calls me p = record p { calls = put p.calls me calls; calling = put p.calling me (with_answer y (p.calling me)) }
+
+module _ (d : SeatValue) (l : Lives d.known) (y : ℕ) (calls : List StopCall) where
+  abbrev me : ℕ
+  me = d.known.number
+
+  pub shown_with : HasNotGiven d.known.seat → StopShows (setup_in d.known.setting) (stops_with y calls me l.stops) l.at l.seat l.source
+  shown_with free = record {
+    setup = l.shown.setup;
+    present = l.shown.present;
+    gate = l.shown.gate;
+    callings = put_all (λ c f. IsCalling c (l.seat c) f) l.stops.calling me (with_answer y (l.stops.calling me))
+        (answer_put me (l.seat me) y (l.stops.calling me) (subst HasNotGiven (sym l.sees.seat_is) free) (l.shown.callings me))
+        (λ c ne. l.shown.callings c);
+    closing = l.shown.closing;
+    sources = l.shown.sources;
+    past = l.shown.past;
+    owns = l.shown.owns;
+    counts = l.shown.counts;
+  }
+
+  pub sees_with : Sees (stops_with y calls me l.stops) l.seat l.source d.known
+  sees_with = let part = l.sees.part_is in record {
+    below = l.sees.below;
+    seat_is = l.sees.seat_is;
+    source_is = l.sees.source_is;
+    is_begun = l.sees.is_begun;
+    part_is = record {
+      holds = part.holds;
+      begun = part.begun;
+      collected = part.collected;
+      answers = part.answers;
+      looks = part.looks;
+      calling = ap told_calling (put_same l.stops.calling me (with_answer y (l.stops.calling me))) ∙ (told_with y (l.stops.calling me) ∙ part.calling);
+      readings = part.readings;
+      nudged = part.nudged;
+      patched = part.patched;
+    };
+  }
+
+  pub calling_with : put l.stops.calling me (with_answer y (l.stops.calling me)) me ≡ with_answer y d.known.part.calling
+  calling_with = put_same l.stops.calling me (with_answer y (l.stops.calling me))
+      ∙ (sym (with_told y (l.stops.calling me)) ∙ ap (with_answer y) l.sees.part_is.calling)
+
+abbrev pub is_shown : (answer : ℕ) (d : SeatValue) → Lives d.known → HasNotGiven d.known.seat → IsShown (cpu_of answer d)
+is_shown answer d l free =
+    let me = d.known.number in
+    let calls = (part_with answer d.known).calls in
+    let shown = shown_with d l answer calls free in
+    record {
+      stops = stops_with answer calls me l.stops;
+      at = l.at;
+      seat = l.seat;
+      source = l.source;
+      shown = shown;
+      laws = keeps_laws (setup_in d.known.setting) (stops_with answer calls me l.stops) l.at l.seat l.source shown;
+      known = d.known;
+      sees = sees_with d l answer calls;
+      answer = answer;
+      view = refl;
+      inside = inside_shown l.stops.now me d.known.seat (subst (Stands l.stops.now me) l.sees.seat_is (l.shown.present.stands me));
+      irq = l.shown.present.irq me ∙ ap irq_of l.sees.seat_is;
+      pending = pending_shown (setup_in d.known.setting) l.stops.gate (l.stops.now.stop me) (λ f. l.at (Slot me f)) me (l.source me) d.known.source
+          (l.shown.sources me) l.sees.source_is;
+      calls = put_same l.stops.calls me calls;
+      calling = calling_with d l answer calls;
+    }
+
+-- what is in a word at a moment
+abbrev pub lives_at : (v : Known) (word : Word) (n : ℕ) → Moment v word n → Lives v
+lives_at v word n m = record { stops = m.stops; at = m.at; seat = m.seat; source = m.source; shown = m.shown; sees = m.sees }
+
+pub finds : (a : ℕ) (d : SeatValue) (word : Word) (n : ℕ) → HasNotGiven d.known.seat → Moment d.known word n → Finds (cpu_of a d) word n
+finds a d word n free m = record {
+  shown = is_shown a d (lives_at d.known word n m) free;
+  found = sym m.number_is;
 }
+
+pub finds_count : (a : ℕ) (d : SeatValue) (k n : ℕ) → HasNotGiven d.known.seat → Moment d.known (Key k) n → FindsCount (cpu_of a d) k n
+finds_count a d k n free m = finds a d (Key k) n free m

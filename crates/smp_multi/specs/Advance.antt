@@ -11,6 +11,7 @@ use Rattle.smp_stop_steps.specs.declared.phase.TheConstants.{DISABLE_IRQ, RUN, E
 use Rattle.smp_multi.specs.Names.{Work, Kind, One, Multi, Patch, Carries}
 use Rattle.smp_multi.specs.Answers.{call_of}
 use Rattle.smp_multi.specs.Cpu.{CpuValue, Inside, runs, answers}
+use Rattle.smp_multi.specs.Laws.{FindsCount}
 use Rattle.smp_multi.specs.Running.{called}
 use Rattle.smp_multi.specs.Turns.{patched_with}
 use Rattle.smp_multi.specs.declared.func.Called.{Called}
@@ -51,13 +52,16 @@ patches w count c = record c { part = record (c.part) { patched = patched_with w
 abbrev pub reads_anew : Inside → CpuValue → CpuValue
 reads_anew stop c = record c { part = record (c.part) { readings = first_readings c.number stop.slot stop.work } }
 
--- an active CPU at RUN: it has called the function of its Multi stop once, or has made its patch
+-- an active CPU at RUN: it has called the function of its Multi stop once, or has made its patch, which leads from the count
+-- that its load has found in the key
 abbrev pub RunsAt : {F : Type 0} → (F → Called → F → Type 0) → Inside → CpuValue → CpuValue → F → F → Kind → Type 0
 RunsAt leads stop old new before after One = ⊥
-RunsAt leads stop old new before after Multi = (answer : ℤ) × (new ≡ carries (answer_word answer) (runs (call_of stop answer) old))
+RunsAt leads stop old new before after Multi =
+    (answer : ℤ) × (new ≡ carries (answer_word answer) (runs (call_of stop answer) (acknowledges stop RUN false old)))
     × leads before (called old.number stop.work.func stop.work.arg answer) after
 RunsAt leads stop old new before after Patch =
-    (count : ℕ) × (new ≡ carries (patch_answer stop.work count) (patches stop.work count old)) × (after ≡ before)
+    (count : ℕ) × (new ≡ carries (patch_answer stop.work count) (patches stop.work count (acknowledges stop RUN false old)))
+    × (after ≡ before) × FindsCount (looks RUN old) stop.work.func count
 
 -- one turn, in this stop. The CPU has looked at one phase more, the last that it has acknowledged at the end: a new one but
 -- at Same. Interrupts are off from DISABLE_IRQ until it has left
@@ -66,7 +70,7 @@ Advances leads stop old new before after Same = (new ≡ looks stop.acked old) �
 Advances leads stop old new before after (Moved p) = (p ≡ stop.acked + 1) × (p ≢ EXIT) × (p ≡ RUN → has stop.work.active old.number ≡ false)
     × (new ≡ acknowledges stop p (nat_lt p DISABLE_IRQ) old) × (after ≡ before)
 Advances leads stop old new before after Ran = (stop.acked ≡ DISABLE_IRQ) × (has stop.work.active old.number ≡ true)
-    × RunsAt leads stop (acknowledges stop RUN false old) new before after stop.work.kind
+    × RunsAt leads stop old new before after stop.work.kind
 Advances leads stop old new before after Left = (stop.acked ≡ RUN) × (new ≡ reads_anew stop (acknowledges stop EXIT true old)) × (after ≡ before)
 
 -- advance: one turn; refused where the CPU is in no stop of several CPUs, or has left it

@@ -1,13 +1,15 @@
 -- What each call answers, and what it leaves of its CPU.
 use Rattle.std.specs.Int.{cast_signed, w32}
-use Rattle.std.specs.Prelude.{◌≡◌, ◌≢◌, ℕ, ℤ, ◌%◌, ◌^◌, true, Option, Some, None, Result, Ok, Err}
+use Rattle.std.specs.Prelude.{◌≡◌, ◌≢◌, ◌⊎◌, ℕ, ℤ, ◌%◌, ◌^◌, true, false, Option, Some, None, Result, Ok, Err}
 use Rattle.smp_mask.specs.Mask.{has}
 use Rattle.smp_mask.specs.declared.error.SmpError.{SmpError}
 use Rattle.smp_mask.specs.declared.error.SmpError.TheVariants as error
 use Rattle.smp_stop_steps.specs.Known.{setup_in}
 use Rattle.smp_stop_steps.specs.Sources.{IsWork}
 use Rattle.smp_stop_steps.specs.Starts.{begin_refusal, has_slot, answer_word}
-use Rattle.smp_multi.specs.Names.{Work, Kind, One, StopCall}
+use Rattle.smp_multi.specs.Laws.{Finds, FindsNoCall}
+use Rattle.smp_multi.specs.Names.{Slot, Work, Kind, One, StopCall}
+use Rattle.smp_multi.specs.Names.field
 use Rattle.smp_multi.specs.declared.func.Called.{Called}
 use Rattle.smp_multi.specs.Cpu.{TableValue, CpuValue, Inside, call_with, begins, enters, runs, answers, collects, terms_of, is_pending}
 use Rattle.smp_multi.specs.Polls.{IsLastResult}
@@ -28,6 +30,10 @@ pub record Enters (t : TableValue) (slot : ℕ) (old new : CpuValue) (kind : Kin
   pub own : slot ≡ old.number → old.pending ≡ Some work
   pub kind_is : kind ≡ work.kind
   pub is : new ≡ enters slot work old
+
+-- enter is refused: the CPU is in a stop, there is no such slot, or its roll does not have the CPU
+abbrev pub IsStale : TableValue → ℕ → CpuValue → Type 0
+IsStale t slot c = (c.inside ≢ None) ⊎ ((has_slot t.nr slot ≡ false) ⊎ FindsNoCall c slot)
 
 -- a CPU in a stop of one CPU
 pub record IsInOne (c : CpuValue) : Type 0 where
@@ -51,9 +57,9 @@ RunAnswers leads old new before after (Err _) = ⊥
 abbrev pub answer_in : ℕ → ℤ
 answer_in word = cast_signed w32 (word % 2 ^ 32)
 
--- poll_done: at Some the stop is collected, with its result
+-- poll_done: None where done was not set; at Some the stop is collected, with its result
 abbrev pub PollAnswers : CpuValue → CpuValue → Result (Option ℤ) SmpError → Type 0
-PollAnswers old new (Ok None) = (old.pending ≢ None) × (new ≡ old)
+PollAnswers old new (Ok None) = (old.pending ≢ None) × (new ≡ old) × Finds old (Slot old.number field.Done) 0
 PollAnswers old new (Ok (Some v)) = (old.pending ≢ None) × ((word : ℕ) × (v ≡ answer_in word) × (new ≡ collects word old) × IsLastResult new.part word)
 PollAnswers old new (Err error.BadArgument) = (old.pending ≡ None) × (new ≡ old)
 PollAnswers old new (Err _) = ⊥

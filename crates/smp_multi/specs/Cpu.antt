@@ -1,5 +1,6 @@
 -- What contracts see of a table, of a CPU and of the CPUs that were not given out.
-use Rattle.std.specs.Prelude.{◌≡◌, ℕ, ◌<◌, Bool, true, false, cond, Option, Some, None, List, [], ◌∷◌, ◌++◌, length, slice_index_or, slice_set}
+use Rattle.std.specs.Prelude.{◌≡◌, ℕ, ◌<◌, Bool, true, false, cond, Option, Some, None, List, [], ◌∷◌, ◌++◌, length}
+use Rattle.std.specs.Prelude.{IfSome, slice_index_or, slice_set}
 use Rattle.atomic_table.specs.Seated.{TableId}
 use Rattle.smp_mask.specs.Mask.{has}
 use Rattle.smp_words.specs.Size.{cpus}
@@ -145,20 +146,28 @@ collects x c = record c { pending = None; part = record (c.part) { collected = c
 abbrev pub terms_of : TableValue → CpuValue → Terms
 terms_of t c = record { nr = t.nr; online = t.setting.online; keys = t.setting.labels.keys; sites = length t.setting.labels.entries; holds_gate = c.part.holds }
 
--- the CPUs that were not given out, and those online
+-- the CPUs of a table that were not given out: for each number, whether it was not
 pub record BootValue : Type 0 where
-  pub online : ℕ
-  pub cpus_left : List (Option CpuValue)
+  pub table : TableId
+  pub setting : Setting
+  pub left : List Bool
 
--- the CPU at a number, where it is left
-abbrev pub left_at : BootValue → ℕ → Option CpuValue
-left_at b cpu = slice_index_or b.cpus_left cpu None
+-- whether the CPU of a number is left
+abbrev pub is_left : BootValue → ℕ → Bool
+is_left b cpu = slice_index_or b.left cpu false
 
--- without the CPU at a number
+-- without the CPU of a number
 abbrev pub given : ℕ → BootValue → BootValue
-given cpu b = record b { cpus_left = slice_set b.cpus_left cpu None }
+given cpu b = record b { left = slice_set b.left cpu false }
 
--- all CPUs that are online are left, fresh
+-- each CPU that is online waits fresh, or was given out
+pub record AreWaiting (table : TableId) (k : Setting) (online : ℕ) (waiting : List (Option CpuValue)) : Type 0 where
+  pub online_is : online ≡ k.online
+  pub sized : (cpu : ℕ) → has online cpu ≡ true → cpu < length waiting
+  pub fresh_are : (cpu : ℕ) → has online cpu ≡ true → IfSome (slice_index_or waiting cpu None) (λ c. c ≡ fresh_cpu table k cpu)
+
+-- all CPUs of this table that are online are left
 pub record IsFull (b : BootValue) (table : TableId) (k : Setting) : Type 0 where
-  pub online_is : b.online ≡ k.online
-  pub fresh_are : (cpu : ℕ) → has k.online cpu ≡ true → left_at b cpu ≡ Some (fresh_cpu table k cpu)
+  pub table_is : b.table ≡ table
+  pub setting_is : b.setting ≡ k
+  pub left_are : (cpu : ℕ) → has k.online cpu ≡ true → is_left b cpu ≡ true

@@ -1,12 +1,14 @@
 -- What a CPU's value says of running threads.
-use Rattle.std.specs.Prelude.{◌≡◌, ℕ, true, false, Option, Some, None}
-use Rattle.smp_stop_steps.specs.Known.{Sees, setup_in, told_calling}
+use Rattle.std.specs.Prelude.{◌≡◌, ◌≢◌, ℕ, true, false, Option, Some, None}
+use Rattle.smp_mask.specs.Mask.{has}
+use Rattle.smp_stop_steps.specs.Known.{Sees, setup_in}
 use Rattle.smp_stop_steps.specs.Shows.{StopShows}
 use Rattle.smp_stop_steps.specs.State.{Present, StopState}
 use Rattle.smp_stop_steps.specs.Stop.{Stop, acked}
 use Rattle.smp_stop_steps.specs.StopLaws.{KeepsStopLaws}
 use Rattle.smp_stop_steps.specs.declared.phase.TheConstants.{DISABLE_IRQ, RUN}
-use Rattle.smp_multi.specs.Names.{Word, Work, Seat, In, Alters, Source, Known}
+use Rattle.smp_multi.specs.Names.{Word, Gate, Slot, Key, Work, Seat, In, Alters, Source, Known}
+use Rattle.smp_multi.specs.Names.field
 use Rattle.smp_multi.specs.Cpu.{CpuValue, Inside, cpu_of}
 use Rattle.smp_multi.specs.Rounds.{AloneWhile}
 
@@ -21,8 +23,8 @@ IsPending stop None = stop.is_open ≡ false
 IsPending stop (Some w) = (stop.is_open ≡ true) × (stop.work ≡ w)
 
 -- some words of the table show stops that keep all laws, and this value is what a CPU knows that knows its part of them:
--- it is in the stop that the value has, its interrupts are on or off and its own stop is pending as the value says, and it
--- is as far with its function, whose answer no words tell
+-- it is in the stop that the value has, its interrupts are on or off and its own stop is pending as the value says, it has
+-- made the value's calls of stop functions, and carries the answer of the last one, which no words tell
 pub record IsShown (c : CpuValue) : Type 0 where
   pub stops : StopState
   pub at : Word → ℕ
@@ -37,7 +39,25 @@ pub record IsShown (c : CpuValue) : Type 0 where
   pub inside : IsInside stops.now c.number c.inside
   pub irq : stops.now.irq c.number ≡ c.irq
   pub pending : IsPending (stops.now.stop c.number) c.pending
-  pub calling : told_calling (stops.calling c.number) ≡ told_calling c.part.calling
+  pub calls : stops.calls c.number ≡ c.part.calls
+  pub calling : stops.calling c.number ≡ c.part.calling
+
+-- a word had this number when the CPU's value was this: some words of the table show stops of which it is the CPU's part
+pub record Finds (c : CpuValue) (word : Word) (number : ℕ) : Type 0 where
+  pub shown : IsShown c
+  pub found : shown.at word ≡ number
+
+-- key k had this count
+abbrev pub FindsCount : CpuValue → ℕ → ℕ → Type 0
+FindsCount c k count = Finds c (Key k) count
+
+-- somebody held the gate
+abbrev pub FindsHeld : CpuValue → Type 0
+FindsHeld c = (n : ℕ) × Finds c Gate n × (n ≢ 0)
+
+-- the roll of a slot did not have the CPU
+abbrev pub FindsNoCall : CpuValue → ℕ → Type 0
+FindsNoCall c slot = (roll : ℕ) × Finds c (Slot slot field.Roll) roll × (has roll c.number ≡ false)
 
 -- a CPU in the stop of this slot that has looked at RUN and has not acknowledged it: it calls its function, or makes its
 -- patch

@@ -10,7 +10,7 @@ use Rattle.smp_stop_steps.specs.KnownAfter.{reads_more}
 use Rattle.smp_stop_steps.specs.State.{unmoved}
 use Rattle.smp_multi.specs.Names.{Key, Known, Part, Moved, ReadKey}
 use Rattle.smp_multi.specs.Cpu.{CpuValue}
-use Rattle.smp_multi.specs.Laws.{IsShown}
+use Rattle.smp_multi.specs.Laws.{FindsCount}
 use Rattle.smp_multi.specs.Reads.{HasKey, ReadsOneTable, reads}
 use Rattle.smp_multi.specs.declared.nudge.Nudge.{Nudge}
 use Rattle.smp_multi.specs.declared.nudge.Nudge.TheVariants.{Done, Lost, Stop}
@@ -61,11 +61,6 @@ NudgeKnown k up old new (Ok Stop) = (count : ℕ) × Moment old (Key k) count ×
 NudgeKnown k up old new (Err (error.KeyRange e)) = (count : ℕ) × Moment old (Key k) count × (count ≡ edge_at up) × (e ≡ end_of up) × (new ≡ loads_known k
     count old)
 NudgeKnown k up old new (Err _) = ⊥
-
--- key k had this count when the CPU's value was this: some words of the table show stops of which it is the CPU's part
-pub record FindsCount (c : CpuValue) (k count : ℕ) : Type 0 where
-  pub shown : IsShown c
-  pub found : shown.at (Key k) ≡ count
 
 -- the load of a nudge has found this count
 pub record LoadsCount (old : CpuValue) (k count : ℕ) : Type 0 where

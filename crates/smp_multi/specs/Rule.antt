@@ -15,6 +15,11 @@ abbrev pub known : SeatView → Known
 known (Maker n k) = fresh k n
 known (Cpu v) = v
 
+-- what a seat's table is made with
+abbrev pub made_with : SeatView → Setting
+made_with (Maker n k) = k
+made_with (Cpu v) = v.setting
+
 -- the first seat after it has made one for the next CPU
 abbrev pub after : SeatView → SeatView
 after (Maker n k) = Maker (n + 1) k

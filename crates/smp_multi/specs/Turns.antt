@@ -1,6 +1,7 @@
 -- What one turn of a stop of several CPUs does, by what the CPU knows before and after it.
 use Rattle.std.specs.Prelude.{◌≡◌, ◌≢◌, ℕ, ℤ, ◌+◌, ◌==◌, true, false, cond, List}
 use Rattle.smp_mask.specs.Mask.{has}
+use Rattle.smp_stop_steps.specs.Known.{Moment}
 use Rattle.smp_stop_steps.specs.KnownAfter.{counted, looked_known, looked_to}
 use Rattle.smp_stop_steps.specs.Labels.{count_set, patch_answer}
 use Rattle.smp_stop_steps.specs.Stages.{visit_acked}
@@ -8,7 +9,7 @@ use Rattle.smp_stop_steps.specs.Starts.{answer_word}
 use Rattle.smp_stop_steps.specs.declared.known.Moved.{Moved as CountMoved}
 use Rattle.smp_stop_steps.specs.declared.phase.TheConstants.{DISABLE_IRQ, RUN, EXIT}
 use Rattle.smp_stop_steps.specs.declared.stage.Visit.{Visit}
-use Rattle.smp_multi.specs.Names.{Work, Kind, One, Multi, Patch, Seat, Known, Carries}
+use Rattle.smp_multi.specs.Names.{Key, Work, Kind, One, Multi, Patch, Seat, Known, Carries}
 use Rattle.smp_multi.specs.Places.{work_in}
 use Rattle.smp_multi.specs.Rounds.{passed_by, passed_known}
 use Rattle.smp_multi.specs.Running.{calls_now, called_by}
@@ -31,7 +32,8 @@ HasRun leads old new v v' f g One = ⊥
 HasRun leads old new v v' f g Multi = (answer : ℤ) × (new ≡ passed_by (looked_to RUN old.seat) (calls_now (looked_known RUN old)))
     × (v' ≡ visit_acked v (answer_word answer) true) × leads f (called_by old answer) g
 HasRun leads old new v v' f g Patch =
-    (count : ℕ) × (new ≡ patched_by count (looked_to RUN old.seat) (looked_known RUN old))
+    (count : ℕ) × Moment (looked_known RUN old) (Key (work_in old.seat).func) count
+    × (new ≡ patched_by count (looked_to RUN old.seat) (looked_known RUN old))
     × (v' ≡ visit_acked v (patch_answer (work_in old.seat) count) true) × (g ≡ f)
 
 -- it looks at one phase more; where that is new it acknowledges it, and at RUN an active CPU has called its function

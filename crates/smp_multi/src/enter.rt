@@ -1,9 +1,11 @@
 //! A CPU that a stop calls enters it: it takes its bit from the roll, and loads what it is to know of the stop.
 
-ghost use Rattle.std.specs.Prelude.{◌≡◌, ◌<◌, true, if◌then◌else◌, MatchOption};
+ghost use Rattle.std.specs.Prelude.{◌≡◌, ℕ, ◌<◌, true, false, None, if◌then◌else◌, MatchOption};
+ghost use Rattle.smp_mask.specs.Mask.{has};
 ghost use Rattle.smp_words.specs.Size.{cpus};
-ghost use Rattle.smp_stop_steps.specs.Known.{Lives};
-ghost use Rattle.smp_multi.specs.Names.{Work};
+ghost use Rattle.smp_stop_steps.specs.Known.{Lives, Moment};
+ghost use Rattle.smp_multi.specs.Names.{Slot, Work};
+ghost use Rattle.smp_multi.specs.Names.field;
 ghost use Rattle.smp_multi.specs.Places.{IsFree, HasEntered, IsCalled, IsVisitOf, entered};
 
 use crate::rule::Words;
@@ -22,6 +24,7 @@ fn take_bit(words: &Words, seat: &mut CpuSeat, number: u32, slot: u32) -> bool
     ensures lives { Lives seat.new.known }
     ensures known { (work : Work) × (seat.new.known ≡ if result then entered slot work seat.old.known else seat.old.known)
         × (result ≡ true → IsCalled seat.old.known slot work) }
+    ensures then { (found : ℕ) × Moment seat.old.known (Slot slot field.Roll) found × (result ≡ has found number) }
 {
     let found = mask(words, seat, Word::Slot(slot, Field::Roll), !(1 << number));
     has_bit(found, number)
@@ -56,6 +59,7 @@ pub(crate) fn enter(words: &Words, seat: &mut CpuSeat, number: u32, slot: u32) -
     ensures lives { Lives seat.new.known }
     ensures known { MatchOption result (seat.new.known ≡ seat.old.known) (λ visit. (work : Work) × (seat.new.known ≡ entered slot work seat.old.known)
         × IsCalled seat.old.known slot work × IsVisitOf slot work visit) }
+    ensures then { (found : ℕ) × Moment seat.old.known (Slot slot field.Roll) found × (result ≡ None → has found number ≡ false) }
 {
     if take_bit(words, seat, number, slot) {
         Some(load_visit(words, seat, slot))

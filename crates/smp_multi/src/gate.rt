@@ -1,7 +1,8 @@
 //! The gate that orders all stops (`stop_cpus_mutex`).
 
-ghost use Rattle.std.specs.Prelude.{◌≡◌, true, false, if◌then◌else◌};
-ghost use Rattle.smp_stop_steps.specs.Known.{Lives};
+ghost use Rattle.std.specs.Prelude.{◌≡◌, ℕ, ◌==◌, true, false, if◌then◌else◌};
+ghost use Rattle.smp_stop_steps.specs.Known.{Lives, Moment};
+ghost use Rattle.smp_multi.specs.Names.{Gate};
 ghost use Rattle.smp_multi.specs.Places.{IsSeated, holding};
 
 use crate::rule::Words;
@@ -15,6 +16,7 @@ pub(crate) fn take_gate(words: &Words, seat: &mut CpuSeat, number: u32) -> bool
     ensures lives { Lives seat.new.known }
     ensures known { seat.new.known ≡ if result then holding true seat.old.known else seat.old.known }
     ensures held { seat.old.known.part.holds ≡ true → result ≡ false }
+    ensures then { (found : ℕ) × Moment seat.old.known Gate found × (result ≡ (found == 0)) }
 {
     let own = u64::from(number) + 1;
     exchange(words, seat, Word::Gate, 0, own) == 0

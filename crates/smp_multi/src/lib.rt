@@ -5,22 +5,22 @@
 //!
 //! Which calls of one table may run together, in the form of `include/linux/llist.h`:
 //!
-//! | | `try_gate` | `open_gate` | `begin` | `enter` | `run_one`, `advance`, `finish` | `poll_done` | `read_key`, `read_site`, `try_key` | `StopBoot::cpu` | `new` |
-//! |---|---|---|---|---|---|---|---|---|---|
-//! | `try_gate` | - | - | - | - | - | - | - | - | x |
-//! | `open_gate` | | g | g | - | - | - | - | - | x |
-//! | `begin` | | | g | - | - | - | - | - | x |
-//! | `enter` | | | | - | - | - | - | - | x |
-//! | `run_one`, `advance`, `finish` | | | | | - | - | - | - | x |
-//! | `poll_done` | | | | | | - | - | - | x |
-//! | `read_key`, `read_site`, `try_key` | | | | | | | - | - | x |
-//! | `StopBoot::cpu` | | | | | | | | x | x |
-//! | `new` | | | | | | | | | x |
+//! | | | 1 | 2 | 3 | 4 | 5 | 6 | 7 | 8 | 9 |
+//! |---|---|---|---|---|---|---|---|---|---|---|
+//! | 1 | `try_gate` | - | - | - | - | - | - | - | - | x |
+//! | 2 | `open_gate` | | g | g | - | - | - | - | - | x |
+//! | 3 | `begin` | | | g | - | - | - | - | - | x |
+//! | 4 | `enter` | | | | - | - | - | - | - | x |
+//! | 5 | `run_one`, `advance`, `finish` | | | | | - | - | - | - | x |
+//! | 6 | `poll_done` | | | | | | - | - | - | x |
+//! | 7 | `read_key`, `read_site`, `try_key` | | | | | | | - | - | x |
+//! | 8 | `StopBoot::cpu` | | | | | | | | x | x |
+//! | 9 | `new` | | | | | | | | | x |
 //!
-//! Where the row's call may run together with the column's, on two threads: `-` where no lock is needed; `g` where the
-//! gate orders them, since each is E4 without it; `x` where the types refuse it, since `new` makes the table, and
-//! `StopBoot::cpu` takes the one `StopBoot` by `&mut`. All but the last two take the `StopCpu` of who calls by `&mut`, so
-//! that `-` is of two CPUs: one makes a single call at a time.
+//! Where the row's call may run together with the one of the column's number, on two threads: `-` where no lock is
+//! needed; `g` where the gate orders them, since each is E4 without it; `x` where the types refuse it, since `new` makes
+//! the table, and `StopBoot::cpu` takes the one `StopBoot` by `&mut`. All but the last two take the `StopCpu` of who calls
+//! by `&mut`, so that `-` is of two CPUs: one makes a single call at a time.
 //!
 //! At which step a call takes effect, whether it may wait and who must poll stands at each call.
 #![tactic(auto)]

@@ -5,11 +5,11 @@ ghost use Rattle.smp_labels.specs.Entries.{IsEntryWord};
 ghost use Rattle.smp_labels.specs.Keys.{change_of};
 ghost use Rattle.smp_labels.specs.Plans.{plan_of};
 ghost use Rattle.smp_labels.specs.declared.words.TheConstants.{MOST_KEYS, MOST_SITES};
-ghost use Rattle.smp_stop_steps.specs.Known.{Lives};
+ghost use Rattle.smp_stop_steps.specs.Known.{Lives, Moment};
 ghost use Rattle.smp_stop_steps.specs.KnownAfter.{acked_by};
 ghost use Rattle.smp_stop_steps.specs.Labels.{answer_for as answer_of_patch, patch_answer};
 ghost use Rattle.smp_stop_steps.specs.Stages.{label_word, visit_acked};
-ghost use Rattle.smp_multi.specs.Names.{Patch, Rests};
+ghost use Rattle.smp_multi.specs.Names.{Key, Patch, Rests};
 ghost use Rattle.smp_multi.specs.Cells.{cells};
 ghost use Rattle.smp_multi.specs.Patches.{AtPatch, begins_with, entries_in, made_in, rest_in, stored_all};
 ghost use Rattle.smp_multi.specs.Places.{work_in};
@@ -49,6 +49,7 @@ fn begin_patch(words: &Words, seat: &mut CpuSeat, visit: Visit, key: u32) -> u64
     ensures at { AtPatch words.now.table_id seat.new visit }
     ensures lives { Lives seat.new.known }
     ensures alone { AloneWhile seat.new.known visit.slot }
+    ensures then { Moment seat.old.known (Key key) result }
     ensures known { seat.new.known ≡ begins_with result seat.old.known.seat seat.old.known }
 {
     load(words, seat, Word::Key(key))
@@ -164,7 +165,8 @@ pub(crate) fn patch_on(words: &Words, seat: &mut CpuSeat, visit: Visit) -> Visit
     requires { AtRun words.now.table_id seat.old visit Patch }
     ensures at { AtTurn words.now.table_id seat.new result result.acked Rests }
     ensures lives { Lives seat.new.known }
-    ensures patched { (count : ℕ) × (seat.new.known ≡ patched_by count seat.old.known.seat seat.old.known)
+    ensures patched { (count : ℕ) × Moment seat.old.known (Key (work_in seat.old.known.seat).func) count
+        × (seat.new.known ≡ patched_by count seat.old.known.seat seat.old.known)
         × (result ≡ visit_acked visit (patch_answer (work_in seat.old.known.seat) count) true) }
 {
     let (key, change) = load_change(words, seat, visit);

@@ -1,7 +1,9 @@
 //! A source looks for the end of its stop, and collects its result (`wait_for_completion`).
 
-ghost use Rattle.std.specs.Prelude.{◌≡◌};
-ghost use Rattle.smp_stop_steps.specs.Known.{Lives};
+ghost use Rattle.std.specs.Prelude.{◌≡◌, ℕ, ◌==◌, not};
+ghost use Rattle.smp_stop_steps.specs.Known.{Lives, Moment};
+ghost use Rattle.smp_multi.specs.Names.{Slot};
+ghost use Rattle.smp_multi.specs.Names.field;
 ghost use Rattle.smp_multi.specs.Polls.{IsOwner, HasFound, looked, collected};
 
 use crate::rule::Words;
@@ -15,6 +17,7 @@ pub(crate) fn is_done(words: &Words, seat: &mut CpuSeat, number: u32) -> bool
     ensures table { seat.new.table ≡ words.now.table_id }
     ensures lives { Lives seat.new.known }
     ensures known { seat.new.known ≡ looked result seat.old.known }
+    ensures then { (found : ℕ) × Moment seat.old.known (Slot number field.Done) found × (result ≡ not (found == 0)) }
 {
     load(words, seat, Word::Slot(number, Field::Done)) != 0
 }

@@ -19,16 +19,18 @@
 //! The source's stores into its slot wait until all CPUs of its last stop have completed. The last CPU to acknowledge a
 //! phase is alone until it stores the next one. While a patch runs, every online CPU has interrupts off.
 
-ghost use Rattle.std.specs.Prelude.{◌≡◌, ◌≢◌, ◌⊎◌, ◌↔◌, ℕ, ◌<◌, true, false, if◌then◌else◌, IfOk, IfErr, OnOk, IsErrOf};
+ghost use Rattle.std.specs.Prelude.{◌≡◌, ◌≢◌, ◌⊎◌, ◌↔◌, ℕ, ◌<◌, ◌≤◌, true, false, if◌then◌else◌, IfOk, IfErr, OnOk, IsErrOf};
+ghost use Rattle.smp_labels.specs.declared.words.TheConstants.{MOST_KEYS};
 ghost use Rattle.smp_mask.specs.Mask.{has};
 ghost use Rattle.smp_words.specs.Limits.{AreLimits};
 ghost use Rattle.smp_words.specs.Size.{cpus};
 ghost use Rattle.smp_stop_steps.specs.Known.{fresh, Lives};
 ghost use Rattle.smp_multi.specs.declared.seat_view.SeatView.TheVariants.{Maker};
 ghost use Rattle.smp_multi.specs.Advance.{AdvanceAnswers, FinishAnswers};
-ghost use Rattle.smp_multi.specs.Answers.{BeginAnswers, Enters, RunAnswers, PollAnswers};
+ghost use Rattle.smp_multi.specs.Answers.{BeginAnswers, Enters, IsStale, RunAnswers, PollAnswers};
 ghost use Rattle.smp_multi.specs.Cells.{cells};
 ghost use Rattle.smp_multi.specs.Cpu.{IsAt, IsFull, fresh_cpu, gated};
+ghost use Rattle.smp_multi.specs.Laws.{FindsHeld};
 ghost use Rattle.smp_multi.specs.Nudges.{NudgeAnswers};
 ghost use Rattle.smp_multi.specs.Reads.{KeyAnswers, SiteAnswers};
 
@@ -129,7 +131,12 @@ where
         waiting.push(cpu_if(online.contains(number), seat, number))?;
     }
     let table = StopTable { owner, nr, setting };
-    Ok((table, StopBoot { online, waiting }))
+    let boot = StopBoot {
+        maker,
+        online,
+        waiting,
+    };
+    Ok((table, boot))
 }
 
 impl<A: Allocator> StopTable<A> {
@@ -171,12 +178,21 @@ impl<A: Allocator> StopTable<A> {
         self.setting.online
     }
 
-    /// Takes the gate (`stop_cpus_mutex`), at a compare-exchange; false where anybody holds it, this CPU included. It
-    /// does not wait.
+    /// How many keys there are. No step of the table.
+    pub fn keys(&self) -> u32
+        ensures value { result ≡ self.now.setting.labels.keys }
+        ensures within { result ≤ MOST_KEYS }
+    {
+        self.setting.labels.keys()
+    }
+
+    /// Takes the gate (`stop_cpus_mutex`), at a compare-exchange; false where that has found a holder, who may be this
+    /// CPU. It does not wait.
     pub fn try_gate(&self, me: &mut StopCpu) -> bool
         requires { IsAt self.now me.old }
         ensures taken { me.new ≡ if result then gated true me.old else me.old }
         ensures held { me.old.part.holds ≡ true → result ≡ false }
+        ensures busy { result ≡ false → FindsHeld me.old }
     {
         let taken = take_gate(&self.owner.shared, &mut me.seat, me.number);
         me.holds = me.holds || taken;
@@ -222,12 +238,12 @@ impl<A: Allocator> StopTable<A> {
     }
 
     /// Enters the stop of a slot, at the fetch_and that takes the own bit from its roll, and answers its kind. E7 where
-    /// there is no such slot (it is below neither 8 nor `nr`), this CPU is in a stop already, or the roll does not have
-    /// it; that E7 was unavoidable is promised of the first two alone. It does not wait.
+    /// there is no such slot (it is below neither 8 nor `nr`), this CPU is in a stop already, or the roll that the
+    /// fetch_and has found does not have it; only the last makes a step. It does not wait.
     pub fn enter(&self, me: &mut StopCpu, slot: u32) -> Result<Kind, SmpError>
         requires { IsAt self.now me.old }
         ensures ok { IfOk result (λ kind. Enters self.now slot me.old me.new kind) }
-        ensures err { IfErr result (λ e. (e ≡ SmpError.Stale) × (me.new ≡ me.old)) }
+        ensures err { IfErr result (λ e. (e ≡ SmpError.Stale) × (me.new ≡ me.old) × IsStale self.now slot me.old) }
     {
         if me.in_stop() || !has_slot(self.nr, slot) {
             return Err(SmpError::Stale);
@@ -305,7 +321,7 @@ impl<A: Allocator> StopTable<A> {
 
     /// Whether all CPUs of this CPU's own stop have completed: None where its load of done found 0; Some, with the
     /// result, closes the slot, at the load of the result. E4 where no stop of this CPU is open, which makes no step.
-    /// That None was unavoidable is not promised. It does not wait.
+    /// It does not wait.
     pub fn poll_done(&self, me: &mut StopCpu) -> Result<Option<i32>, SmpError>
         requires { IsAt self.now me.old }
         ensures { PollAnswers me.old me.new result }

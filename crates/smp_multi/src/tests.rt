@@ -1,7 +1,4 @@
-ghost use Rattle.std.specs.Prelude.{ℕ, ◌≡◌, true, IfSome};
-ghost use Rattle.std.specs.Option.{ForSome};
-ghost use Rattle.smp_mask.specs.Mask.{has};
-ghost use Rattle.smp_multi.specs.Cpu.{IsAt, left_at};
+ghost use Rattle.std.specs.Prelude.{◌≡◌};
 
 mod labels;
 mod meetings;
@@ -87,14 +84,14 @@ impl<'a> Driver<'a> {
     }
 }
 
-/// A CPU that the table gives out, with its table. All CPUs that are left are of that table.
+/// A CPU that the table gives out, with its table.
 fn drive<'a>(
     table: &'a StopTable<Global>,
     boot: &mut StopBoot<Global>,
     number: u32,
 ) -> Result<Driver<'a>, SmpError>
-    requires { (cpu : ℕ) → has boot.old.online cpu ≡ true → IfSome (left_at boot.old cpu) (λ c. IsAt table.now c) }
-    ensures { (cpu : ℕ) → has boot.new.online cpu ≡ true → IfSome (left_at boot.new cpu) (λ c. IsAt table.now c) }
+    requires { (boot.old.table ≡ table.now.table) × (boot.old.setting ≡ table.now.setting) }
+    ensures { (boot.new.table ≡ table.now.table) × (boot.new.setting ≡ table.now.setting) }
 {
     let cpu = boot.cpu(number)?;
     Ok(Driver { table, cpu })
@@ -105,12 +102,12 @@ fn drive<'a>(
 struct Room<'a> {
     table: &'a StopTable<Global>,
     boot: StopBoot<Global>,
-    ghost whole: { (cpu : ℕ) → has boot.online cpu ≡ true → ForSome (left_at boot cpu) (λ c. IsAt table.now c) },
+    ghost whole: { (boot.table ≡ table.now.table) × (boot.setting ≡ table.now.setting) },
 }
 
 impl<'a> Room<'a> {
     fn new(table: &'a StopTable<Global>, boot: StopBoot<Global>) -> Room<'a>
-        requires { (cpu : ℕ) → has boot.online cpu ≡ true → IfSome (left_at boot cpu) (λ c. IsAt table.now c) }
+        requires { (boot.table ≡ table.now.table) × (boot.setting ≡ table.now.setting) }
     {
         Room { table, boot }
     }

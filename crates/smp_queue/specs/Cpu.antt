@@ -12,9 +12,10 @@ use Rattle.smp_call_steps.specs.Places.{IsCall}
 use Rattle.smp_call_steps.specs.Stands.{posted}
 use Rattle.smp_call_steps.specs.Calls.{CallState, no_calls}
 use Rattle.smp_call_steps.specs.Parts.{part_of, part_confirmed, part_sent, part_queued}
-use Rattle.smp_queue.specs.Names.{Class, Known, Part, Posting, Logged, Setting}
+use Rattle.smp_queue.specs.Names.{Class, Known, Part, Posting, Logged, HeadSeen, Setting}
 use Rattle.smp_queue.specs.Names.logged
 use Rattle.smp_call_steps.specs.Known.{posting_of}
+use Rattle.smp_call_steps.specs.Heads.{Found, last_found, times_lost, heads_with, heads_won, AreOthers}
 use Rattle.smp_queue.specs.Seat.{SeatValue}
 
 -- a table: its name, how many CPUs it has, and those online
@@ -32,13 +33,15 @@ abbrev pub table_with : TableId → Setting → TableValue
 table_with table k = record { table = table; nr = k.nr; online = k.online }
 
 -- a CPU between two calls: its table, what that is made with, its number, its own part of the calls, how many
--- compare-exchanges of heads it has made, and the calls that it has queued and the interrupts that it has sent, in order
+-- compare-exchanges of heads it has made, what it has found in heads, by which kind of access, and the calls that it has
+-- queued and the interrupts that it has sent, in order
 pub record CpuValue : Type 0 where
   pub table : TableId
   pub setting : Setting
   pub number : ℕ
   pub part : Part
   pub tried : ℕ
+  pub heads : List HeadSeen
   pub log : List Logged
 
 -- what a CPU knows, as contracts see it
@@ -49,6 +52,7 @@ cpu_of d = record {
   number = d.known.number;
   part = d.known.part;
   tried = d.known.tried;
+  heads = d.known.heads;
   log = d.known.log;
 }
 
@@ -58,7 +62,7 @@ cpu_in table k calls c = record c { table = table; setting = k; part = part_of c
 
 -- a CPU of this table that has done nothing: all its records are confirmed
 abbrev pub fresh_cpu : TableValue → ℕ → CpuValue
-fresh_cpu t cpu = record { table = t.table; setting = setting_of t; number = cpu; part = part_of no_calls cpu; tried = 0; log = [] }
+fresh_cpu t cpu = record { table = t.table; setting = setting_of t; number = cpu; part = part_of no_calls cpu; tried = 0; heads = []; log = [] }
 
 -- what a CPU keeps between two calls: it is online and outside a command, and its counts are those of its calls
 pub record IsKept (v : Known) (number : ℕ) (queued ran : List ℕ) : Type 0 where
@@ -84,15 +88,17 @@ confirms k c = record c { part = part_confirmed (record_of c.number k) c.part }
 abbrev pub sends : ℕ → CpuValue → CpuValue
 sends to c = record c { part = part_sent to c.part; log = c.log ++ logged.Interrupted to ∷ [] }
 
--- a CPU that has made so many compare-exchanges in vain
-abbrev pub loses : ℕ → CpuValue → CpuValue
-loses n c = record c { tried = c.tried + n }
+-- a CPU that has found these numbers in a head, and so has made its compare-exchanges in vain
+abbrev pub loses : Found → CpuValue → CpuValue
+loses found c = record c { tried = c.tried + times_lost found; heads = heads_with c.heads found }
 
--- a CPU that has queued a call by its record k, into a queue that was empty or not, by one compare-exchange
-abbrev pub posts : ℕ → ℕ → Class → ℕ → ℕ → Bool → CpuValue → CpuValue
-posts k to class func info first c = record c {
+-- a CPU that has found these numbers in a head, and then has queued a call by its record k, into a queue that was empty
+-- or not, by the compare-exchange that expected the last of them
+abbrev pub posts : ℕ → ℕ → Class → ℕ → ℕ → Bool → Found → CpuValue → CpuValue
+posts k to class func info first found c = record c {
   part = part_queued (record { id = record_of c.number k; class = class; func = func; info = info }) to first c.part;
-  tried = c.tried + 1;
+  tried = (c.tried + times_lost found) + 1;
+  heads = heads_won c.heads found;
   log = c.log ++ logged.Queued to ∷ [];
 }
 
@@ -100,17 +106,18 @@ posts k to class func info first c = record c {
 abbrev pub misused : ℕ → CpuValue → ℕ → ℕ → Class → ℕ → Bool
 misused nr c k to class tries = ((not (nat_lt k records_of_one) || tries == 0) || to == c.number) || not (fits_record nr k to class)
 
--- the answer of a post, and what it leaves of its CPU. E4 comes first, then E2, E1 and E5. Where it queues its call it has lost
--- some compare-exchanges and won one; at E5 it has lost all its tries, and at every other refusal made none
+-- the answer of a post, and what it leaves of its CPU. E4 comes first, then E2, E1 and E5. Where it queues its call it has
+-- loaded the head, lost some compare-exchanges and won one, each at the number that was found last; the queue was empty where
+-- that is 0. At E5 it has lost all its tries, and at every other refusal made none
 abbrev pub PostAnswers : TableValue → CpuValue → CpuValue → ℕ → ℕ → Class → ℕ → ℕ → ℕ → Result Bool SmpError → Type 0
 PostAnswers t old new k to class func info tries (Ok first) = (misused t.nr old k to class tries ≡ false) × (has t.online to ≡ true)
-    × (lost : ℕ) × (new ≡ posts k to class func info first (loses lost old))
+    × (found : Found) × AreOthers found × (first ≡ (last_found found == 0)) × (new ≡ posts k to class func info first found old)
 PostAnswers t old new k to class func info tries (Err error.BadArgument) = (misused t.nr old k to class tries ≡ true) × (new ≡ old)
 PostAnswers t old new k to class func info tries (Err error.Busy) = (misused t.nr old k to class tries ≡ false) × (confirmed_at old k ≢ true) × (new ≡ old)
 PostAnswers t old new k to class func info tries (Err error.NoCpu) = (misused t.nr old k to class tries ≡ false) × (has t.online to ≡ false)
     × (new ≡ confirms k old)
 PostAnswers t old new k to class func info tries (Err error.Contended) = (misused t.nr old k to class tries ≡ false) × (has t.online to ≡ true)
-    × (new ≡ confirms k (loses tries old))
+    × (found : Found) × AreOthers found × (times_lost found ≡ tries) × (new ≡ confirms k (loses found old))
 PostAnswers t old new k to class func info tries (Err _) = ⊥
 
 -- a CPU may queue this call: the record is its own and seen confirmed, and the numbers fit

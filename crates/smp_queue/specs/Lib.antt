@@ -7,6 +7,7 @@ pub mod Rule
 pub mod Plays
 -- a CPU at the table
 pub mod Seat
+pub mod Appends
 pub mod Cpu
 pub mod Table
 -- what an audit answers

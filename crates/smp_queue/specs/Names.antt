@@ -11,6 +11,8 @@ pub use Rattle.smp_call_steps.specs.declared.known.Known.{Known}
 pub use Rattle.smp_call_steps.specs.declared.known.Part.{Part}
 pub use Rattle.smp_call_steps.specs.declared.known.Logged.{Logged}
 pub use Rattle.smp_call_steps.specs.declared.known.Logged.TheVariants as logged
+pub use Rattle.smp_call_steps.specs.declared.known.HeadSeen.{HeadSeen}
+pub use Rattle.smp_call_steps.specs.declared.known.HeadSeen.TheVariants as head
 pub use Rattle.smp_call_steps.specs.declared.known.Setting.{Setting}
 pub use Rattle.smp_call_steps.specs.declared.known.Running.TheVariants.{Nothing}
 pub use Rattle.smp_call_steps.specs.declared.post.Posting.{Posting}

@@ -3,13 +3,15 @@
 //! A record is written before it is linked, and linked by one compare-exchange of the head: whoever takes the
 //! queue finds every record in it complete.
 
-ghost use Rattle.std.specs.Prelude.{◌≡◌, ◌≢◌, ℕ, ◌+◌, ◌*◌, ◌<◌, ◌%◌, ◌^◌, ◌==◌, true, length, if◌then◌else◌, IfSome, IfNone, Some, None};
+ghost use Rattle.std.specs.Prelude.{◌≡◌, ◌≢◌, ◌+◌, ◌*◌, ◌<◌, ◌%◌, ◌^◌, ◌==◌, true, length, if◌then◌else◌, IfSome, IfNone, Some, None};
 ghost use Rattle.smp_words.specs.Size.{records};
 ghost use Rattle.smp_call_steps.specs.Stands.{posted};
-ghost use Rattle.smp_call_steps.specs.Known.{confirmed_known, queued_known, outside_known, lost_tries, is_confirmed, standing, Lives};
+ghost use Rattle.smp_call_steps.specs.Known.{confirmed_known, queued_known, outside_known, looked_known, lost_one, is_confirmed, standing, Lives};
 ghost use Rattle.smp_call_steps.specs.declared.post.PostStage.TheVariants as post;
 ghost use Rattle.smp_call_steps.specs.declared.stage.Stage.TheVariants.{Post};
 ghost use Rattle.smp_queue.specs.Seat.{OwnsRecord, IsMine, IsCounting, IsTallied, uncounted, counted};
+ghost use Rattle.smp_queue.specs.Appends.{Appends, GivesUp};
+ghost use Rattle.smp_call_steps.specs.Heads.{Found, times_lost};
 
 use crate::rule::Words;
 use crate::seat::{CpuSeat, exchange, load, store};
@@ -55,7 +57,7 @@ pub(crate) fn count_and_look(
     requires mine { IsMine words.now.table_id seat.old posting.now }
     requires counting { IsCounting seat.old.known posting.now number count }
     ensures table { seat.new.table ≡ words.now.table_id }
-    ensures known { seat.new.known ≡ standing (counted posting.now) post.LoadHead seat.old.known }
+    ensures known { seat.new.known ≡ standing (counted posting.now) post.LoadHead (looked_known result seat.old.known) }
 {
     store(
         words,
@@ -73,8 +75,8 @@ pub(crate) fn link(words: &Words, seat: &mut CpuSeat, posting: &Posting, link: u
     requires stage { seat.old.known.stage ≡ Some (Post (counted posting.now) post.LoadHead) }
     ensures table { seat.new.table ≡ words.now.table_id }
     ensures lives { Lives seat.new.known }
-    ensures won { result ≡ link → seat.new.known ≡ queued_known (posted posting.now) posting.now.to (link == 0) seat.old.known }
-    ensures lost { result ≢ link → seat.new.known ≡ lost_tries 1 seat.old.known }
+    ensures won { result ≡ link → seat.new.known ≡ queued_known (posted posting.now) posting.now.to (link == 0) link seat.old.known }
+    ensures lost { result ≢ link → seat.new.known ≡ lost_one link result seat.old.known }
 {
     store(words, seat, Word::Next(posting.id), link);
     exchange(
@@ -113,9 +115,8 @@ pub(crate) fn append(
     requires counting { IsCounting seat.old.known posting.now number queued }
     ensures table { seat.new.table ≡ words.now.table_id }
     ensures lives { Lives seat.new.known }
-    ensures sent { IfSome result (λ first. (lost : ℕ) × (lost < tries)
-        × (seat.new.known ≡ queued_known (posted posting.now) posting.now.to first (lost_tries lost seat.old.known))) }
-    ensures lost { IfNone result (seat.new.known ≡ outside_known (lost_tries tries seat.old.known)) }
+    ensures sent { IfSome result (λ first. (found : Found) × (times_lost found < tries) × Appends posting.now first found seat.old.known seat.new.known) }
+    ensures lost { IfNone result ((found : Found) × (times_lost found ≡ tries) × GivesUp found seat.old.known seat.new.known) }
 {
     let mut head = count_and_look(words, seat, posting, number, queued);
     for _lost in 0..tries {
@@ -143,7 +144,7 @@ pub(crate) fn append_until_won<R: Wait>(
     requires counting { IsCounting seat.old.known posting.now number queued }
     ensures table { seat.new.table ≡ words.now.table_id }
     ensures lives { Lives seat.new.known }
-    ensures sent { (lost : ℕ) × (seat.new.known ≡ queued_known (posted posting.now) posting.now.to result (lost_tries lost seat.old.known)) }
+    ensures sent { (found : Found) × Appends posting.now result found seat.old.known seat.new.known }
 {
     let backoff = Backoff::new();
     let mut head = count_and_look(words, seat, posting, number, queued);

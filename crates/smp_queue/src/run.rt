@@ -44,10 +44,11 @@ fn run_sync<H: Handler>(
     ensures { HasRun H.leads words.now.table_id seat.old seat.new (first_on walk next) call counts.new handler.old handler.new }
 {
     let source = owner_of(call.id);
+    let tally = Word::Ran(number, source);
     let begun = call_steps::begin_sync(words, seat, number, walk, call, next, handler);
     handler.call(source, call.func, call.info);
     let ran = one_more(counts, source);
-    call_steps::count_sync(words, seat, number, walk, call, next, ran, handler, &begun);
+    call_steps::count_sync(words, seat, tally, walk, call, next, ran, handler, &begun);
     call_steps::end_sync(words, seat, walk, call, next, handler, begun);
 }
 
@@ -67,10 +68,11 @@ fn run_async<H: Handler>(
     ensures { HasRun H.leads words.now.table_id seat.old seat.new (second_on next) call counts.new handler.old handler.new }
 {
     let source = owner_of(call.id);
+    let tally = Word::Ran(number, source);
     let begun = call_steps::begin_async(words, seat, call, next, handler);
     handler.call(source, call.func, call.info);
     let ran = one_more(counts, source);
-    call_steps::count_async(words, seat, number, call, next, ran, handler, begun);
+    call_steps::count_async(words, seat, tally, call, next, ran, handler, begun);
 }
 
 /// Loads a SYNC call, and takes its record out of the chain.

@@ -241,9 +241,10 @@ impl<A: Allocator> CallTable<A> {
 
     /// Queues one call by the CPU's record `k`, and answers whether an interrupt is owed, since the queue was
     /// empty; queued at the compare-exchange (`kernel/smp.c: generic_exec_single`). `tries` counts
-    /// compare-exchanges. E4 where `k` is no record, `tries` is 0, `to` is the own CPU or the record may not
-    /// carry such a call; then E2 where the record is locked; then E1 where `to` is not online; then E5 where
-    /// the tries are used up: then nothing is queued, and the record is free again.
+    /// compare-exchanges, each of which expects the number that was found in the head last. E4 where `k` is no
+    /// record, `tries` is 0, `to` is the own CPU or the record may not carry such a call; then E2 where the record
+    /// is locked; then E1 where `to` is not online; then E5 where the tries are used up: then nothing is queued, and
+    /// the record is free again.
     ///
     /// The call is queued at the compare-exchange that wins; it makes no more than `tries` of these and does not wait,
     /// and `to` must poll for the call to run.

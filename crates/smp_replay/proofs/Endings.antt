@@ -4,11 +4,11 @@ use Rattle.smp_mask.specs.declared.error.SmpError.{SmpError}
 use Rattle.smp_mask.specs.declared.error.SmpError.TheVariants as errors
 use Rattle.smp_mask.specs.declared.error.Side.TheVariants as sides
 use Rattle.smp_script.specs.Streams.{IsWriteError}
-use Rattle.smp_replay.specs.Replays.{Lawful, Replayed, Replays, outcome_of}
+use Rattle.smp_replay.specs.Replays.{WroteFront, Replayed, Replays, outcome_of}
 
--- where the writer failed, the script was lawful
+-- where the writer failed, the script was lawful, and a front of its output was written
 pub write_failed : (before after held holds : Option (List ℕ)) (same : Type 0) (reader writer : Bool) (e : SmpError) → IsWriteError writer e
-    → Lawful before after → Replays before after held holds same reader writer (Err e)
+    → WroteFront before after held holds → Replays before after held holds same reader writer (Err e)
 write_failed before after held holds same reader writer (errors.StreamFailed sides.Read) f l = absurd f
 write_failed before after held holds same reader writer (errors.StreamFailed sides.Write) f l = (l, f)
 write_failed before after held holds same reader writer errors.NoMemory f l = absurd f

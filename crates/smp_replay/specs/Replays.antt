@@ -7,7 +7,7 @@ use Rattle.smp_mask.specs.declared.error.Side.TheVariants as sides
 use Rattle.smp_script.specs.Faults.{Fault}
 use Rattle.smp_script.specs.declared.mode.Mode.TheVariants.{Replay}
 use Rattle.smp_script.specs.Script.{Script, script_of}
-use Rattle.smp_script.specs.Streams.{Gave}
+use Rattle.smp_script.specs.Streams.{Gave, TookFront}
 use Rattle.smp_replay.specs.Output.{replay_of}
 use Rattle.smp_script.specs.declared.outcome.Outcome.{Outcome}
 use Rattle.smp_script.specs.declared.outcome.Outcome.TheVariants.{Done, Stopped}
@@ -17,12 +17,13 @@ abbrev pub outcome_of : Bool → Outcome
 outcome_of true = Stopped
 outcome_of false = Done
 
--- What was read is a lawful script.
-pub record Lawful (before after : Option (List ℕ)) : Type 0 where
+-- What was read is a lawful script, and the writer took a front of its output.
+pub record WroteFront (before after held holds : Option (List ℕ)) : Type 0 where
   pub text : List ℕ
   pub script : Script
   pub read : Gave before after text
   pub lawful : script_of Replay text ≡ Ok script
+  pub written : TookFront held holds (replay_of script).text
 
 -- What was read is a lawful script, what was written is its output, and an event of it was refused or none.
 pub record Replayed (before after held holds : Option (List ℕ)) (stopped : Bool) : Type 0 where
@@ -49,7 +50,7 @@ Replays before after held holds same reader writer (Ok _) = ⊥
 -- what was read is no lawful script, and this is its first fault
 Replays before after held holds same reader writer (Err (errors.BadScript n cause)) = Refused before after (n, cause) × same
 Replays before after held holds same reader writer (Err (errors.StreamFailed sides.Read)) = (reader ≡ true) × same
--- what was read is a lawful script, and the writer has failed
-Replays before after held holds same reader writer (Err (errors.StreamFailed sides.Write)) = Lawful before after × (writer ≡ true)
+-- what was read is a lawful script, and the writer has failed, and has taken a front of its output
+Replays before after held holds same reader writer (Err (errors.StreamFailed sides.Write)) = WroteFront before after held holds × (writer ≡ true)
 Replays before after held holds same reader writer (Err errors.NoMemory) = same
 Replays before after held holds same reader writer (Err _) = ⊥

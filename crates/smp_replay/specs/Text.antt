@@ -110,11 +110,13 @@ abbrev pub after_step : Option Note → List ℕ
 after_step None = codes ""
 after_step (Some note) = codes " ; " ++ note_text note
 
--- the line of a step: CPU ACT WORD VALUE, and its note
+-- a step without its CPU: ACT WORD VALUE, and its note
+abbrev pub step_text : Seen → List ℕ
+step_text seen = act_text seen.act ++ codes " " ++ word_text seen.word ++ codes " " ++ value_text seen.act seen.found seen.put ++ after_step seen.note
+
+-- the line of a step
 abbrev pub seen_text : Seen → List ℕ
-seen_text seen =
-    decimal seen.cpu ++ codes " " ++ act_text seen.act ++ codes " " ++ word_text seen.word ++ codes " "
-    ++ value_text seen.act seen.found seen.put ++ after_step seen.note ++ 10 ∷ []
+seen_text seen = decimal seen.cpu ++ codes " " ++ step_text seen ++ 10 ∷ []
 
 -- the line of a refused event, by its position
 abbrev pub stopped_text : ℕ → SmpError → List ℕ

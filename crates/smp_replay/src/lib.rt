@@ -8,8 +8,8 @@
 
 mod playback;
 mod replay;
-mod show;
-mod text;
+pub mod show;
+pub mod text;
 
 pub use replay::replay_script;
 

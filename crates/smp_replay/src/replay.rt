@@ -28,7 +28,8 @@ fn ending(stopped: bool) -> Outcome
 ///
 /// Refusals, in this order: `StreamFailed(Read)` where the reader failed, `BadScript` with the first fault where
 /// the script is not lawful, `NoMemory` where a growth was refused (at once, where that is while the script is read
-/// and checked), `StreamFailed(Write)` where the writer failed. Only at the last has anything been written.
+/// and checked), `StreamFailed(Write)` where the writer failed. Only at the last has anything been written: a front of
+/// what the script prints.
 pub fn replay_script<A: Allocator + Copy, R: Read, W: Write>(
     alloc: A,
     reader: &mut Watched<R>,

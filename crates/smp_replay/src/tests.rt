@@ -3,7 +3,7 @@ mod scripts;
 mod worked;
 
 use super::*;
-use devices::{Narrow, Slow};
+use devices::{Again, Narrow, Slow};
 use linked_list_allocator::LocalHeap;
 use scripts::*;
 use smp_mask::{Cause, Side, SmpError};
@@ -215,10 +215,22 @@ fn stops_at_a_refused_event(rt: HostRuntime) {
 #[test]
 fn first_faults(rt: HostRuntime) {
     let last = ONE_CALL.len() - 1;
-    let cases: [(&[u8], u32, Cause); 5] = [
+    let cases: [(&[u8], u32, Cause); 13] = [
         (b"", 1, Cause::Cut),
         (b"smp 1 replay\n", 2, Cause::Cut),
         (&ONE_CALL[..last], 11, Cause::Cut),
+        (b"smp 1 replay\ncpus 9 0\n", 2, Cause::Range),
+        (b"smp 1 replay\ncpus 2 -\n", 2, Cause::Range),
+        (b"smp 1 replay\ncpus 2 0,2\n", 2, Cause::Range),
+        (b"smp 1 replay\ncpus 2 0-\n", 2, Cause::Mask),
+        (b"smp 1 replay\ncpus 02 0\n", 2, Cause::Number),
+        (
+            b"smp 1 replay\ncpus 2 0\nstart 0 post 0 1 sync 65536 0 1\n",
+            3,
+            Cause::Range,
+        ),
+        (b"smp 1 replay\ncpus 2 0\nstart 0 send\n", 3, Cause::Word),
+        (b"smp 1 replay\ncpus 2 0\nstep 0 10001\n", 3, Cause::Range),
         (
             b"smp 1 replay\ncpus 2 0-1\nshow\nstep 0 0\n",
             4,
@@ -230,6 +242,38 @@ fn first_faults(rt: HostRuntime) {
         let (answer, written) = replayed(&rt, text);
         assert_eq!(rt; answer, Err(SmpError::BadScript { line, cause }));
         assert!(rt; written.is_empty());
+    }
+}
+
+const FRONT: &[u8] = b"smp 1 replay\ncpus 1 0\n";
+
+// 65,536 bytes (a list of one CPU, again and again), 100,000 events and 2,000 lines are taken, one more is not.
+#[test]
+fn largest_scripts(rt: HostRuntime) {
+    let list: &[u8] = b"smp 1 replay\ncpus 1 ";
+    let idle: &[u8] = b"stopped 0 E10\n";
+    let stops = Ok(Outcome::Stopped);
+    let cases: [(&[u8], &[u8], u32, &[u8], Result<Outcome, u32>, &[u8]); 6] = [
+        (list, b"0,", 32_757, b"0\n", Ok(Outcome::Done), b""),
+        (list, b"0,", 32_757, b"0\n\n", Err(0), b""),
+        (FRONT, b"step 0 10000\n", 10, b"", stops, idle),
+        (FRONT, b"step 0 10000\n", 11, b"", Err(13), b""),
+        (FRONT, b"step 0 1\n", 1998, b"", stops, idle),
+        (FRONT, b"step 0 1\n", 1999, b"", Err(2001), b""),
+    ];
+    for (left, piece, times, tail, outcome, output) in cases {
+        let mut reader = Watched::new(Again {
+            left,
+            piece,
+            times,
+            tail,
+        });
+        let mut writer = Watched::new(Vec::new(rt.alloc()));
+        let answer = replay_script(rt.alloc(), &mut reader, &mut writer);
+        let cause = Cause::TooLong;
+        let expected = outcome.map_err(|line| SmpError::BadScript { line, cause });
+        assert_eq!(rt; answer, expected);
+        assert_eq!(rt; writer.into_inner().as_slice(), output);
     }
 }
 
@@ -289,36 +333,43 @@ fn each_read_fails_in_turn(rt: HostRuntime) {
 
 #[test]
 fn each_write_fails_in_turn(rt: HostRuntime) {
-    // five writes and a flush
-    let calls = 6;
+    // a write for each byte, and a flush
+    let calls = ITS_OUTPUT.len() + 1;
     for fails_at in 0..=calls {
         let narrow = Narrow {
-            taken: 0,
+            taken: Vec::new(rt.alloc()),
             writes: 0,
             fails_at,
         };
         let mut reader = Watched::new(ONE_CALL);
         let mut writer = Watched::new(narrow);
         let answer = replay_script(rt.alloc(), &mut reader, &mut writer);
+        let failed = writer.failed();
+        let written = writer.into_inner().taken;
         if fails_at < calls {
-            assert!(rt; writer.failed());
+            assert!(rt; failed);
             assert_eq!(rt; answer, Err(SmpError::StreamFailed(Side::Write)));
+            assert_eq!(rt; written.len(), fails_at);
+            assert!(rt; ITS_OUTPUT.starts_with(written.as_slice()));
         } else {
-            assert!(rt; !writer.failed());
+            assert!(rt; !failed);
             assert_eq!(rt; answer, Ok(Outcome::Done));
-            assert_eq!(rt; writer.into_inner().taken, ITS_OUTPUT.len());
+            assert_eq!(rt; written.as_slice(), ITS_OUTPUT);
         }
     }
 }
 
 // Whether a heap of so many blocks of 16 bytes is enough for a call; `None` where it answers anything but its
-// output, or the want of memory with nothing written.
+// output, or the want of memory with nothing written, or keeps some of the heap.
 fn is_enough(rt: &HostRuntime, blocks: usize) -> Result<Option<bool>, Fail> {
     let heap = LocalHeap::new(rt.alloc(), blocks.wrapping_mul(16))?;
     let mut reader = Watched::new(ONE_CALL);
     let mut writer = Watched::new(Vec::new(rt.alloc()));
     let answer = replay_script(&heap, &mut reader, &mut writer);
     let written = writer.into_inner();
+    if heap.used() > 0 {
+        return Ok(None);
+    }
     Ok(match answer {
         Ok(Outcome::Done) if written.as_slice() == ITS_OUTPUT => Some(true),
         Err(SmpError::NoMemory) if written.is_empty() => Some(false),

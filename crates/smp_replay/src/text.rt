@@ -1,7 +1,7 @@
 //! The lines of a replay's output.
 
 ghost use Rattle.std.specs.Prelude.{◌≡◌, ◌++◌, OnOk, string_bytes};
-ghost use Rattle.smp_replay.specs.Text.{act_text, after_step, cas_text, field_text, list_text, note_text, seen_text, stopped_text, value_text, word_text};
+ghost use Rattle.smp_replay.specs.Text.{act_text, after_step, cas_text, field_text, list_text, note_text, seen_text, step_text, stopped_text, value_text, word_text};
 
 use smp_core::{Act, Field, Note, Seen, Word};
 use smp_mask::SmpError;
@@ -148,17 +148,25 @@ fn write_after<A: Allocator>(out: &mut String<A>, note: Option<Note>) -> Result<
     write_note(out, note)
 }
 
+/// A step without its CPU: ACT WORD VALUE, and its note.
+pub fn write_step<A: Allocator>(out: &mut String<A>, seen: Seen) -> Result<(), AllocError>
+    ensures { OnOk result (string_bytes out.new ≡ string_bytes out.old ++ step_text seen) }
+{
+    let act = act_name(seen.act);
+    write!(out, "{act} ")?;
+    write_word(out, seen.word)?;
+    write!(out, " ")?;
+    write_value(out, seen.act, seen.found, seen.put)?;
+    write_after(out, seen.note)
+}
+
 /// The line of a step: CPU ACT WORD VALUE, and its note.
 pub fn write_seen<A: Allocator>(out: &mut String<A>, seen: Seen) -> Result<(), AllocError>
     ensures { OnOk result (string_bytes out.new ≡ string_bytes out.old ++ seen_text seen) }
 {
     let cpu = seen.cpu;
-    let act = act_name(seen.act);
-    write!(out, "{cpu} {act} ")?;
-    write_word(out, seen.word)?;
-    write!(out, " ")?;
-    write_value(out, seen.act, seen.found, seen.put)?;
-    write_after(out, seen.note)?;
+    write!(out, "{cpu} ")?;
+    write_step(out, seen)?;
     writeln!(out, "")
 }
 

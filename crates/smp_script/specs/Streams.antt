@@ -1,6 +1,6 @@
--- What a reader gave, and what an error says of its device.
-use Rattle.std.specs.Prelude.{◌≡◌, ℕ, ◌<◌, ◌≤◌, ◌⊎◌, Bool, true, List, length, Option}
-use Rattle.std.specs.Io.KnownBytes.{Consumes, IsAtEnd}
+-- What a reader gave, what a writer took of a text, and what an error says of its device.
+use Rattle.std.specs.Prelude.{◌≡◌, ℕ, ◌<◌, ◌≤◌, ◌⊎◌, Bool, true, List, length, take, Option}
+use Rattle.std.specs.Io.KnownBytes.{Appends, Consumes, IsAtEnd}
 use Rattle.smp_mask.specs.declared.error.SmpError.{SmpError}
 use Rattle.smp_mask.specs.declared.error.SmpError.TheVariants as errors
 use Rattle.smp_mask.specs.declared.error.Side.TheVariants as sides
@@ -10,6 +10,11 @@ pub record Gave (before after : Option (List ℕ)) (text : List ℕ) : Type 0 wh
   pub bytes : Consumes before after text
   pub last : IsAtEnd after ⊎ (65536 < length text)
   pub limit : length text ≤ 65537
+
+-- The writer took the front of this text, from its first byte on, and nothing else.
+pub record TookFront (before after : Option (List ℕ)) (text : List ℕ) : Type 0 where
+  pub count : ℕ
+  pub written : Appends before after (take count text)
 
 -- want of memory, or E12 where the reader has failed
 abbrev pub IsReadError : Bool → SmpError → Type 0

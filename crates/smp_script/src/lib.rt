@@ -5,6 +5,7 @@
 //! - `request`: What a `do` line asks a CPU to call.
 //! - `mode`, `version`: Kinds of scripts, and their versions.
 //! - `laws`: How each script is written, and what the first fault of any other text is.
+//! - `line`, `decimal`, `field`: Lines, their fields, and what fields say.
 //! - `watched`: A reader or a writer that remembers whether it ever failed.
 //! - `stream`: The bytes of a reader, and bytes to a writer.
 //! - `outcome`: How a script ended.
@@ -13,14 +14,14 @@
 
 mod call_operation;
 mod command;
-mod decimal;
+pub mod decimal;
 pub mod directive;
 pub mod errors;
-mod field;
+pub mod field;
 mod key;
 mod labels;
 pub mod laws;
-mod line;
+pub mod line;
 pub mod mode;
 mod operation;
 pub mod outcome;

@@ -4,7 +4,7 @@ ghost use Rattle.std.specs.Prelude.{◌≡◌, ◌≤◌, true, false, Err, IfOk
 ghost use Rattle.std.specs.Io.KnownBytes.{Appends};
 ghost use Rattle.smp_mask.specs.declared.error.Side.TheVariants.{Read as ReadSide};
 ghost use Rattle.smp_script.specs.Watched.{inner_of, failed_of, flushed_of};
-ghost use Rattle.smp_script.specs.Streams.{Gave, IsReadError, IsWriteError};
+ghost use Rattle.smp_script.specs.Streams.{Gave, TookFront, IsReadError, IsWriteError};
 
 use crate::script::MAX_BYTES;
 use crate::watched::Watched;
@@ -39,12 +39,14 @@ pub fn read_text<A: Allocator, R: Read>(
     Ok(text)
 }
 
-/// Writes all of a text, and flushes it. An interrupted write, and one that takes nothing, is a failure.
+/// Writes all of a text, and flushes it. An interrupted write, and one that takes nothing, is a failure, and leaves what
+/// was written until then.
 pub fn write_text<W: Write>(writer: &mut Watched<W>, text: &[u8]) -> Result<(), SmpError>
     ensures ok { OnOk result (Appends (W.contents (inner_of writer.old)) (W.contents (inner_of writer.new)) text.now) }
     ensures kept { OnOk result (failed_of writer.new ≡ failed_of writer.old) }
     ensures flushed { OnOk result (flushed_of writer.new ≡ true) }
     ensures err { IfErr result (IsWriteError (failed_of writer.new)) }
+    ensures front { IfErr result (λ e. TookFront (W.contents (inner_of writer.old)) (W.contents (inner_of writer.new)) text.now) }
 {
     let mut at = 0;
     'pieces: while at < text.len() {

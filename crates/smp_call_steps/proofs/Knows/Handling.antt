@@ -12,7 +12,7 @@ use Rattle.smp_call_steps.specs.Histories.{orders, running_call}
 use Rattle.smp_call_steps.specs.Stages.{ControlValue, access_of, FitsStage}
 use Rattle.smp_call_steps.specs.Stands.{Share, share_of, StandsAt, HandleStands, held_of}
 use Rattle.smp_call_steps.specs.Parts.{Part, part_confirmed, part_accepted, part_begun, part_unlocked, part_counted, part_after}
-use Rattle.smp_call_steps.specs.Known.{told_stage, told_post, told_handle, known_told, known_taking, stage_after, drain_then, tried_after, log_after}
+use Rattle.smp_call_steps.specs.Known.{told_stage, told_post, told_handle, known_told, known_taking, stage_after, drain_then, tried_after, heads_after, log_after}
 use Rattle.smp_call_steps.specs.Known.{MayStep, known_access, Lives}
 use Rattle.smp_call_steps.specs.Known.{GoesOn}
 use Rattle.smp_call_steps.specs.Handling.{rest_of, handling, goes_known, accepted_known, taken_known, begun_sync, counted_sync, begun_async, ended_call}
@@ -146,6 +146,7 @@ pub told_at : (queue : List Call) (v : Known) (s : Option Stage) (act : Act) (w 
       drain = drain_then s v.drain found;
       part = part_after queue (held_of s) act w found put v.part;
       tried = tried_after act v.tried;
+      heads = heads_after act w found s v.heads;
       log = log_after act w put v.log;
     }
 told_at queue v s act w found put e =
@@ -154,6 +155,7 @@ told_at queue v s act w found put e =
       drain = drain_then (e i) v.drain found;
       part = part_after queue (held_of (e i)) act w found put v.part;
       tried = tried_after act v.tried;
+      heads = heads_after act w found (e i) v.heads;
       log = log_after act w put v.log;
     }
 

@@ -1,12 +1,13 @@
 -- What a CPU knows after each step of a post, of a send and of a question for a record.
-use Rattle.std.proofs.Common.{◌≡◌, ℕ, ◌+◌, ◌-◌, ◌%◌, ◌^◌, Bool, true, false, ◌==◌, cond, Some, None, length, sym, refl, ap, ◌∙◌, arith, true≢false, eq-eqb}
+use Rattle.std.proofs.Common.{◌≡◌, ℕ, ◌+◌, ◌-◌, ◌%◌, ◌^◌, Bool, true, false, ◌==◌, cond, Some, None, [], ◌∷◌, ◌++◌, length, sym, refl, ap, ◌∙◌, arith, true≢false, eq-eqb}
 use Rattle.smp_words.specs.Flags.{flags_of}
 use Rattle.smp_call_steps.specs.Histories.{sent_to, one_held}
 use Rattle.smp_call_steps.specs.Stands.{held_of_post, posted}
-use Rattle.smp_call_steps.specs.Known.{known_told, known_access, posting_of, standing, outside_known, confirmed_known, queued_known, lost_tries}
+use Rattle.smp_call_steps.specs.Known.{known_told, known_access, posting_of, standing, outside_known, confirmed_known, queued_known, looked_known, lost_one}
 use Rattle.smp_call_steps.specs.Names.{Class, Sync, Async, Head, Queued, Flags, Func, Info, Next, Store, Posting, PostStage, Post}
 use Rattle.smp_call_steps.specs.Names.act
 use Rattle.smp_call_steps.specs.Names.post
+use Rattle.smp_call_steps.specs.Names.head
 use Rattle.smp_call_steps.specs.declared.known.Known.{Known}
 
 -- a CPU outside a command
@@ -57,7 +58,7 @@ pub uncount_known : (v v' w : Known) (me to n : ℕ) (p : Posting) → v' ≡ kn
 uncount_known v v' w me to n p e f = e ∙ ap (λ (u : Known). known_told u act.Store (Queued me to) None (Some n)) f
 
 pub head_known : (v v' w : Known) (to found : ℕ) (p : Posting) → v' ≡ known_told w act.Load (Head to) (Some found) None → w ≡ standing p post.LoadHead v
-    → v' ≡ standing p post.LoadHead v
+    → v' ≡ standing p post.LoadHead (looked_known found v)
 head_known v v' w to found p e f = e ∙ ap (λ (u : Known). known_told u act.Load (Head to) (Some found) None) f
 
 pub next_known : (v v' w : Known) (id n : ℕ) (p : Posting) → v' ≡ known_told w act.Store (Next id) None (Some n) → w ≡ standing p post.LoadHead v
@@ -66,13 +67,14 @@ next_known v v' w id n p e f = e ∙ ap (λ (u : Known). known_told u act.Store 
 
 pub won_known : (v v' w : Known) (to link n found : ℕ) (p : Posting) (b : Bool) → b ≡ true
     → v' ≡ known_told w act.Cas (Head to) (Some found) (cond b (Some n) None) → w ≡ standing p (post.Exchange link 0) v →
-    v' ≡ queued_known (posted p) to (found == 0) v
-won_known v v' w to link n found p true t e f = e ∙ ap (λ (u : Known). known_told u act.Cas (Head to) (Some found) (Some n)) f
-won_known v v' w to link n found p false t e f = absurd (true≢false (sym t))
+    found ≡ link → v' ≡ queued_known (posted p) to (link == 0) link v
+won_known v v' w to link n found p true t e f is = e ∙ (ap (λ (u : Known). known_told u act.Cas (Head to) (Some found) (Some n)) f
+    ∙ (λ i. record (queued_known (posted p) to (is i == 0) link v) { heads = v.heads ++ head.Exchanged link (is i) ∷ [] }))
+won_known v v' w to link n found p false t e f is = absurd (true≢false (sym t))
 
 pub lost_known : (v v' w : Known) (to link n found : ℕ) (p : Posting) (b : Bool) → b ≡ false
     → v' ≡ known_told w act.Cas (Head to) (Some found) (cond b (Some n) None) → w ≡ standing p (post.Exchange link 0) v
-    → v' ≡ standing p post.LoadHead (lost_tries 1 v)
+    → v' ≡ standing p post.LoadHead (lost_one link found v)
 lost_known v v' w to link n found p true t e f = absurd (true≢false t)
 lost_known v v' w to link n found p false t e f = e ∙ ap (λ (u : Known). known_told u act.Cas (Head to) (Some found) None) f
 

@@ -191,6 +191,20 @@ fn a_drain_of_nothing(rt: HostRuntime) -> Result<(), Fail> {
     Ok(())
 }
 
+// The interrupt of a call is taken for another's, which comes first; its own finds nothing.
+#[test]
+fn another_interrupts_first(rt: HostRuntime) -> Result<(), Fail> {
+    let lines = [
+        Goes(0, asynchronous(10, 1, 1), 8, Note::Owed),
+        Goes(2, Command::Send(1), 1, Note::Sent),
+        Goes(1, Command::Handle, 13, Note::Handled(1)),
+        Goes(0, Command::Send(1), 1, Note::Sent),
+        Goes(1, Command::Handle, 4, Note::Handled(0)),
+    ];
+    play(&rt, &[&lines], core_of(rt.alloc(), 3)?);
+    Ok(())
+}
+
 // So many steps, and then where the records 1, 0, 10 and 3 are.
 fn places_after(steps: u32, places: [RecPlace; 4]) -> [Line; 5] {
     [

@@ -155,6 +155,7 @@ module _ (t : TableValue) (last : CpuValue) (words : List ℕ) (c : ClosesWith t
           drain = (c.controls last.number).drain;
           part = part_of c.calls last.number;
           tried = last.tried;
+          heads = last.heads;
           log = last.log;
         };
   }

@@ -1,31 +1,38 @@
 -- A CPU that tries to append a call: what it knows between two tries.
-use Rattle.std.proofs.Common.{◌≡◌, ℕ, ◌+◌, Bool, Some, length, ◌%◌, ◌^◌, sym, refl, ap, ◌∙◌, arith}
+use Rattle.std.proofs.Common.{◌≡◌, ◌≢◌, ℕ, ◌+◌, ◌==◌, Some, [], ◌∷◌, ◌++◌, length, ◌%◌, ◌^◌, sym, refl, ap, ◌∙◌, arith}
 use Rattle.atomic_table.specs.Seated.{TableId}
+use Rattle.smp_call_steps.specs.Heads.{Found, by_load, by_exchange, last_found, times_lost, heads_with, AreOthers}
 use Rattle.smp_call_steps.specs.Histories.{sent_to}
 use Rattle.smp_call_steps.specs.Stands.{posted}
-use Rattle.smp_call_steps.specs.Known.{standing, queued_known, outside_known, lost_tries}
+use Rattle.smp_call_steps.specs.Known.{standing, queued_known, outside_known, looked_known, lost_one, lost_tries}
 use Rattle.smp_queue.specs.Names.{Known, Posting, Post}
 use Rattle.smp_queue.specs.Names.post
+use Rattle.smp_queue.specs.Names.head
+use Rattle.smp_queue.specs.Appends.{Appends, GivesUp}
 use Rattle.smp_queue.specs.Seat.{SeatValue, IsMine, IsCounting, IsTallied, counted}
 use Rattle.smp_queue.proofs.Posts.Ready.{mine_moved}
 
--- it stands before its next try, has lost so many, and else knows what it knew
-pub record Tries (table : TableId) (before seat : SeatValue) (p : Posting) (lost : ℕ) : Type 0 where
+-- it stands before its next try, at the last of the numbers that it has found, and else knows what it knew
+pub record Tries (table : TableId) (before seat : SeatValue) (p : Posting) (link : ℕ) (found : Found) : Type 0 where
   pub table_is : seat.table ≡ table
-  pub known_is : seat.known ≡ standing (counted p) post.LoadHead (lost_tries lost before.known)
+  pub known_is : seat.known ≡ standing (counted p) post.LoadHead (lost_tries found before.known)
+  pub others : AreOthers found
+  pub link_is : link ≡ last_found found
 
--- before its first try it has lost none
-pub tries_first : (table : TableId) (before seat : SeatValue) (p : Posting) → seat.table ≡ table → seat.known ≡ standing (counted p) post.LoadHead before.known
-    → Tries table before seat p 0
-tries_first table before seat p is known = record {
+-- before its first try it has loaded the head
+pub tries_first : (table : TableId) (before seat : SeatValue) (p : Posting) (link : ℕ) → seat.table ≡ table
+    → seat.known ≡ standing (counted p) post.LoadHead (looked_known link before.known) → Tries table before seat p link (by_load link)
+tries_first table before seat p link is known = record {
   table_is = is;
   known_is = known ∙ (let none : before.known.tried ≡ before.known.tried + 0 = omega arith in
-      λ i. standing (counted p) post.LoadHead (record (before.known) { tried = none i }));
+      λ i. standing (counted p) post.LoadHead (record (looked_known link before.known) { tried = none i }));
+  others = tt;
+  link_is = refl;
 }
 
-module _ {table : TableId} {before seat : SeatValue} {p : Posting} {lost : ℕ} (t : Tries table before seat p lost) where
+module _ {table : TableId} {before seat : SeatValue} {p : Posting} {link : ℕ} {found : Found} (t : Tries table before seat p link found) where
   pub tries_mine : IsMine table before p → IsMine table seat p
-  tries_mine m = mine_moved table before seat p (standing (counted p) post.LoadHead (lost_tries lost before.known)) m t.table_is t.known_is refl
+  tries_mine m = mine_moved table before seat p (standing (counted p) post.LoadHead (lost_tries found before.known)) m t.table_is t.known_is refl
 
   pub tries_stage : seat.known.stage ≡ Some (Post (counted p) post.LoadHead)
   tries_stage = ap (λ (u : Known). u.stage) t.known_is
@@ -37,18 +44,28 @@ module _ {table : TableId} {before seat : SeatValue} {p : Posting} {lost : ℕ} 
   }
 
   -- the call is queued
-  pub tries_won : (v : Known) (first : Bool) → v ≡ queued_known (posted p) p.to first seat.known
-      → v ≡ queued_known (posted p) p.to first (lost_tries lost before.known)
-  tries_won v first e = e ∙ ap (queued_known (posted p) p.to first) t.known_is
+  pub tries_won : (v : Known) → v ≡ queued_known (posted p) p.to (link == 0) link seat.known → Appends p (link == 0) found before.known v
+  tries_won v e = record {
+    others = t.others;
+    first_is = ap (λ n. n == 0) t.link_is;
+    known_is = e ∙ (λ i. queued_known (posted p) p.to (link == 0) (t.link_is i) (t.known_is i));
+  }
 
   -- it has given up
-  pub tries_left : (v : Known) → v ≡ outside_known seat.known → v ≡ outside_known (lost_tries lost before.known)
-  tries_left v e = e ∙ ap outside_known t.known_is
+  pub tries_left : (v : Known) → v ≡ outside_known seat.known → GivesUp found before.known v
+  tries_left v e = record { others = t.others; known_is = e ∙ ap outside_known t.known_is }
 
   -- it has lost one more
-  pub tries_lost : (next : SeatValue) → next.table ≡ table → next.known ≡ lost_tries 1 seat.known → Tries table before next p (lost + 1)
-  tries_lost next is known = record {
+  pub tries_lost : (next : SeatValue) (n : ℕ) → next.table ≡ table → next.known ≡ lost_one link n seat.known → n ≢ link
+      → Tries table before next p n (by_exchange found n)
+  tries_lost next n is known other = record {
     table_is = is;
-    known_is = known ∙ (ap (lost_tries 1) t.known_is ∙ (let more : (before.known.tried + lost) + 1 ≡ before.known.tried + (lost + 1) = omega arith in
-        λ i. standing (counted p) post.LoadHead (record (before.known) { tried = more i })));
+    known_is = known ∙ (ap (lost_one link n) t.known_is ∙
+        (let more : (before.known.tried + times_lost found) + 1 ≡ before.known.tried + (times_lost found + 1) = omega arith in
+        λ i. standing (counted p) post.LoadHead (record (before.known) {
+          tried = more i;
+          heads = heads_with before.known.heads found ++ head.Exchanged (t.link_is i) n ∷ [];
+        })));
+    others = (t.others, λ e. other (e ∙ sym t.link_is));
+    link_is = refl;
   }

@@ -8,6 +8,7 @@ use Rattle.smp_words.specs.Size.{cpus, records}
 use Rattle.smp_call_steps.specs.Stands.{posted}
 use Rattle.smp_call_steps.specs.Histories.{Marked, mark, sent_to, calls_from}
 use Rattle.smp_call_steps.specs.Parts.{part_sent}
+use Rattle.smp_call_steps.specs.Heads.{Found, last_found}
 use Rattle.smp_call_steps.specs.Known.{fresh, confirmed_known, queued_known, outside_known, lost_tries, standing}
 use Rattle.smp_call_steps.proofs.Basics.Lists.{sent_to-push, one_if-same, one_if-other}
 use Rattle.smp_call_steps.proofs.Basics.Rows.{length-row}
@@ -16,6 +17,7 @@ use Rattle.smp_queue.specs.Names.{Call, Known, Posting}
 use Rattle.smp_queue.specs.Names.logged
 use Rattle.smp_queue.specs.Names.post
 use Rattle.smp_queue.specs.Seat.{IsCounting, uncounted}
+use Rattle.smp_queue.specs.Appends.{Appends}
 use Rattle.smp_queue.specs.Cpu.{IsKept}
 
 pub kept_fresh : (v : Known) (number : ℕ) → v ≡ fresh v.setting number → number < cpus → has v.setting.online number ≡ true
@@ -60,8 +62,8 @@ module _ {v : Known} {number : ℕ} {queued ran : List ℕ} (k : IsKept v number
   }
 
   -- also where it has tried in vain
-  pub kept_lost : (lost : ℕ) → IsKept (lost_tries lost v) number queued ran
-  kept_lost lost = record {
+  pub kept_lost : (found : Found) → IsKept (lost_tries found v) number queued ran
+  kept_lost found = record {
     number_is = k.number_is;
     below = k.below;
     online = k.online;
@@ -94,9 +96,9 @@ module _ {v : Known} {number : ℕ} {queued ran : List ℕ} (k : IsKept v number
   one_more n len e = omega arith
 
   -- a call more that was queued is counted
-  pub kept_appended : (to : ℕ) (first : Bool) (call : Call) → to < cpus →
-      IsKept (queued_known call to first v) number (set queued to ((get_or queued to 0 + 1) % 2 ^ 64)) ran
-  kept_appended to first call below = record {
+  pub kept_appended : (to : ℕ) (first : Bool) (link : ℕ) (call : Call) → to < cpus →
+      IsKept (queued_known call to first link v) number (set queued to ((get_or queued to 0 + 1) % 2 ^ 64)) ran
+  kept_appended to first link call below = record {
     number_is = k.number_is;
     below = k.below;
     online = k.online;
@@ -122,14 +124,14 @@ module _ {v : Known} {number : ℕ} {queued ran : List ℕ} (k : IsKept v number
   }
 
 -- of a CPU that queued a call
-pub kept_posted : (v w v' : Known) (number : ℕ) (queued ran : List ℕ) (p : Posting) (first : Bool) (lost : ℕ) → IsKept v number queued ran → p.to < cpus →
-    w ≡ standing (uncounted p) post.Count v → v' ≡ queued_known (posted p) p.to first (lost_tries lost w) →
+pub kept_posted : (v w v' : Known) (number : ℕ) (queued ran : List ℕ) (p : Posting) (first : Bool) (found : Found) → IsKept v number queued ran → p.to < cpus →
+    w ≡ standing (uncounted p) post.Count v → Appends p first found w v' →
     IsKept v' number (set queued p.to ((get_or queued p.to 0 + 1) % 2 ^ 64)) ran
-kept_posted v w v' number queued ran p first lost k l e f =
-    let known : v' ≡ queued_known (posted p) p.to first (lost_tries lost v) = f
-    ∙ ap (λ (u : Known). queued_known (posted p) p.to first (lost_tries lost u)) e in
+kept_posted v w v' number queued ran p first found k l e f =
+    let known : v' ≡ queued_known (posted p) p.to first (last_found found) (lost_tries found v) = f.known_is
+    ∙ ap (λ (u : Known). queued_known (posted p) p.to first (last_found found) (lost_tries found u)) e in
     subst (λ (u : Known). IsKept u number (set queued p.to ((get_or queued p.to 0 + 1) % 2 ^ 64)) ran) (sym known)
-    (kept_appended (kept_lost k lost) p.to first (posted p) l)
+    (kept_appended (kept_lost k found) p.to first (last_found found) (posted p) l)
 
 -- the counts of a CPU that is about to count a call
 pub kept_counting : (v w : Known) (number to count : ℕ) (queued ran : List ℕ) (p : Posting) → IsKept v number queued ran → p.to ≡ to → to < cpus

@@ -10,7 +10,8 @@ use Rattle.smp_words.specs.Size.{cpus, records, records_of_one, record_of, owner
 use Rattle.smp_call_steps.specs.Start.{command_refusal}
 use Rattle.smp_call_steps.specs.Stands.{posted}
 use Rattle.smp_call_steps.specs.Parts.{part_queued}
-use Rattle.smp_call_steps.specs.Known.{posting_of, standing, confirmed_known, queued_known, lost_tries}
+use Rattle.smp_call_steps.specs.Heads.{Found, last_found, times_lost, heads_won}
+use Rattle.smp_call_steps.specs.Known.{posting_of, standing, outside_known, confirmed_known, queued_known, lost_tries}
 use Rattle.smp_words.proofs.Sizes.{owner-of_record, record_of-below}
 use Rattle.smp_queue.specs.Names.{Class, Known, Posting}
 use Rattle.smp_queue.specs.Names.logged
@@ -18,6 +19,7 @@ use Rattle.smp_queue.specs.Names.post
 use Rattle.smp_words.specs.declared.command.Command.TheVariants as command
 use Rattle.smp_queue.specs.Cells.{cells}
 use Rattle.smp_queue.specs.Seat.{SeatValue, OwnsRecord, IsMine, uncounted}
+use Rattle.smp_queue.specs.Appends.{Appends, GivesUp}
 use Rattle.smp_queue.specs.Cpu.{CpuValue, IsKept, MayQueue, cpu_of, confirms, loses, posts}
 
 pub at_own : (table : TableId) (d : SeatValue) (number k id : ℕ) (queued ran : List ℕ) → IsKept d.known number queued ran → d.table ≡ table
@@ -90,27 +92,36 @@ set_twice (z ∷ zs) zero x y = refl
 set_twice (z ∷ zs) (suc i) x y = ap (λ (ws : List _). z ∷ ws) (set_twice zs i x y)
 
 -- what a CPU leaves that has queued the call of this post
-pub posts_then : (s s' : SeatValue) (w : Known) (old new : CpuValue) (k to func info : ℕ) (class : Class) (p : Posting) (first : Bool) (lost : ℕ)
+pub posts_then : (s s' : SeatValue) (w : Known) (old new : CpuValue) (k to func info : ℕ) (class : Class) (p : Posting) (first : Bool) (found : Found)
     → cpu_of s ≡ new
     → new ≡ confirms k old →
     p ≡ posting_of (record_of old.number k) class func info to → s'.table ≡ old.table → w ≡ standing (uncounted p) post.Count s.known
-    → s'.known ≡ queued_known (posted p) p.to first (lost_tries lost w) →
-    cpu_of s' ≡ posts k to class func info first (loses lost old)
-posts_then s s' w old new k to func info class p first lost view confirmed posting table stands queued =
+    → Appends p first found w s'.known → cpu_of s' ≡ posts k to class func info first found old
+posts_then s s' w old new k to func info class p first found view confirmed posting table stands queued =
     let id = record_of old.number k in
     let call : Posting = posting_of id class func info to in
     let seen : cpu_of s ≡ confirms k old = view ∙ confirmed in
-    let known : s'.known ≡ queued_known (posted p) p.to first (lost_tries lost s.known) =
-    queued ∙ ap (λ (u : Known). queued_known (posted p) p.to first (lost_tries lost u)) stands in
+    let known : s'.known ≡ queued_known (posted p) p.to first (last_found found) (lost_tries found s.known) =
+    queued.known_is ∙ ap (λ (u : Known). queued_known (posted p) p.to first (last_found found) (lost_tries found u)) stands in
     (λ i. cpu_of (record { table = table i; known = known i })) ∙
     ((λ i. record {
       table = old.table;
       setting = (seen i).setting;
       number = (seen i).number;
       part = part_queued (posted (posting i)) (posting i).to first (seen i).part;
-      tried = ((seen i).tried + lost) + 1;
+      tried = ((seen i).tried + times_lost found) + 1;
+      heads = heads_won (seen i).heads found;
       log = (seen i).log ++ logged.Queued (posting i).to ∷ [];
     }) ∙
-    (λ i. record (posts k to class func info first (loses lost old)) {
+    (λ i. record (posts k to class func info first found old) {
       part = record (part_queued (posted call) to first old.part) { confirmed = set_twice old.part.confirmed id true false i };
     }))
+
+-- what a CPU leaves that has given up
+pub gives_up_then : (s s' : SeatValue) (w : Known) (old new : CpuValue) (k : ℕ) (p : Posting) (found : Found) → cpu_of s ≡ new → new ≡ confirms k old
+    → s'.table ≡ old.table → w ≡ standing (uncounted p) post.Count s.known → GivesUp found w s'.known → cpu_of s' ≡ confirms k (loses found old)
+gives_up_then s s' w old new k p found view confirmed table stands left =
+    let seen : cpu_of s ≡ confirms k old = view ∙ confirmed in
+    let known : s'.known ≡ outside_known (lost_tries found s.known) =
+    left.known_is ∙ ap (λ (u : Known). outside_known (lost_tries found u)) stands in
+    (λ i. cpu_of (record { table = table i; known = known i })) ∙ (λ i. loses found (record (seen i) { table = old.table }))

@@ -4,11 +4,13 @@ use Rattle.smp_words.specs.Size.{record_of}
 use Rattle.smp_call_steps.specs.Calls.{CallState}
 use Rattle.smp_call_steps.specs.declared.known.Sending.{Sending}
 use Rattle.smp_call_steps.specs.Histories.{Marked, mark, sent_to, marked_from, history_of}
+use Rattle.smp_call_steps.specs.Heads.{Found}
 use Rattle.smp_call_steps.specs.Known.{standing, outside_known, lost_tries, Lives}
 use Rattle.smp_call_steps.proofs.Basics.Lists.{sent_to-push, one_if-same}
 use Rattle.smp_call_steps.proofs.Knows.Restages.{free_outside}
 use Rattle.smp_queue.specs.Names.{Call, Class, Known, Part, Posting}
 use Rattle.smp_queue.specs.Names.post
+use Rattle.smp_queue.specs.Appends.{GivesUp}
 use Rattle.smp_queue.specs.Cpu.{CpuValue, MayQueue, cpu_of, posts}
 use Rattle.smp_queue.specs.Posted.{ShowsThat, IsFree, call_by, IsMarked}
 use Rattle.smp_queue.specs.Seat.{SeatValue, uncounted}
@@ -26,11 +28,11 @@ module _ (d : SeatValue) (l : Lives d.known) where
   }
 
   -- a CPU that has given a record up
-  pub free_then : (v w : Known) (new : CpuValue) (p : Posting) (k lost : ℕ) → d.known ≡ outside_known (lost_tries lost w)
+  pub free_then : (v w : Known) (new : CpuValue) (p : Posting) (k : ℕ) (found : Found) → GivesUp found w d.known
       → w ≡ standing (uncounted p) post.Count v →
       v.part ≡ new.part → v.number ≡ new.number → MayQueue new p → p.id ≡ record_of new.number k → ShowsThat (cpu_of d) (IsFree (cpu_of d) k)
-  free_then v w new p k lost left stands part number may is =
-      let known : d.known ≡ outside_known (lost_tries lost v) = left ∙ ap (λ (u : Known). outside_known (lost_tries lost u)) stands in
+  free_then v w new p k found left stands part number may is =
+      let known : d.known ≡ outside_known (lost_tries found v) = left.known_is ∙ ap (λ (u : Known). outside_known (lost_tries found u)) stands in
       let n : d.known.number ≡ new.number = ap (λ (u : Known). u.number) known ∙ number in
       let call = may.is_call in
       let id : record_of d.known.number k ≡ p.id = ap (λ (m : ℕ). record_of m k) n ∙ sym is in
@@ -40,9 +42,10 @@ module _ (d : SeatValue) (l : Lives d.known) where
       ∙ free_outside l.shown l.sees p.id (may.owned ∙ sym n) call.in_range (ap (λ (u : Known). u.stage) known) conf)
 
   -- a CPU that has queued a call
-  pub marked_then : (old : CpuValue) (k to func info : ℕ) (class : Class) (first : Bool) → cpu_of d ≡ posts k to class func info first old →
+  pub marked_then : (old : CpuValue) (k to func info : ℕ) (class : Class) (first : Bool) (found : Found)
+      → cpu_of d ≡ posts k to class func info first found old →
       ShowsThat (cpu_of d) (IsMarked old to (call_by old k class func info) first)
-  marked_then old k to func info class first is =
+  marked_then old k to func info class first found is =
       let call : Call = call_by old k class func info in
       let last : Sending = record { call = call; to = to; is_first = first } in
       let sent : l.calls.sent d.known.number ≡ old.part.sent ++ last ∷ [] = ap (λ (p : Part). p.sent) l.sees.part ∙ ap (λ (c : CpuValue). c.part.sent) is in

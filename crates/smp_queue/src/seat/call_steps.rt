@@ -12,6 +12,7 @@ ghost use Rattle.smp_call_steps.specs.Drains.{first_on, second_on};
 ghost use Rattle.smp_call_steps.specs.Known.{Lives, known_told, ran_tally};
 ghost use Rattle.smp_call_steps.specs.Handling.{begun_sync, counted_sync, begun_async, ended_call};
 ghost use Rattle.smp_words.specs.declared.seen.Act.TheVariants as act;
+ghost use Rattle.smp_words.specs.declared.word.Word.TheVariants.{Ran};
 ghost use Rattle.smp_call_steps.specs.declared.handle.HandleStage.TheVariants as handle;
 ghost use Rattle.smp_queue.specs.Seat.{InHandle, IsStepOfCall};
 ghost use Rattle.smp_queue.specs.Plays.{stored};
@@ -25,7 +26,6 @@ use crate::seat_view::SeatView;
 use atomic_table::Play;
 use smp_call_steps::handle::Walk;
 use smp_words::call::Class;
-use smp_words::size::owner_of;
 use smp_words::{Call, Word};
 use std::snapshot::Snapshot;
 
@@ -77,11 +77,11 @@ pub fn begin_sync<H: Handler>(
     }
 }
 
-/// A SYNC call whose function has run is counted, as the call of this count from its source.
+/// A SYNC call whose function has run is counted, as the call of this count from its source, in that source's tally word.
 pub fn count_sync<H: Handler>(
     words: &Words,
     seat: &mut CpuSeat,
-    number: u32,
+    tally: Word,
     walk: Walk,
     call: Call,
     next: Option<u32>,
@@ -89,8 +89,8 @@ pub fn count_sync<H: Handler>(
     handler: &H,
     begun: &Begun<H>,
 )
-    requires me { seat.old.known.number ≡ number }
     requires at { InHandle words.now.table_id seat.old (handle.CountSync walk call next) }
+    requires tally { tally ≡ Ran seat.old.known.number (owner call.id) }
     requires count { count ≡ (ran_tally seat.old.known.part (owner call.id) + 1) % 2 ^ 64 }
     requires of { begun.now.call.value ≡ call }
     requires heard { H.leads begun.now.before.value (heard_of call) handler.now }
@@ -99,7 +99,7 @@ pub fn count_sync<H: Handler>(
 {
     let _ = handler;
     let _ = begun;
-    store_step(words, seat, Word::Ran(number, owner_of(call.id)), count);
+    store_step(words, seat, tally, count);
 }
 
 /// A SYNC call whose function has run ends: its record is unlocked.
@@ -144,19 +144,20 @@ pub fn begin_async<H: Handler>(
     }
 }
 
-/// An ASYNC call whose function has run is counted, as the call of this count from its source, and ends.
+/// An ASYNC call whose function has run is counted, as the call of this count from its source, in that source's tally
+/// word, and ends.
 pub fn count_async<H: Handler>(
     words: &Words,
     seat: &mut CpuSeat,
-    number: u32,
+    tally: Word,
     call: Call,
     next: Option<u32>,
     count: u64,
     handler: &H,
     begun: Begun<H>,
 )
-    requires me { seat.old.known.number ≡ number }
     requires at { InHandle words.now.table_id seat.old (handle.CountAsync call next) }
+    requires tally { tally ≡ Ran seat.old.known.number (owner call.id) }
     requires count { count ≡ (ran_tally seat.old.known.part (owner call.id) + 1) % 2 ^ 64 }
     requires of { begun.call.value ≡ call }
     requires heard { H.leads begun.before.value (heard_of call) handler.now }
@@ -164,5 +165,5 @@ pub fn count_async<H: Handler>(
     ensures known { seat.new.known ≡ ended_call (second_on next) call seat.old.known }
 {
     let _ = handler;
-    store_step(words, seat, Word::Ran(number, owner_of(call.id)), count);
+    store_step(words, seat, tally, count);
 }

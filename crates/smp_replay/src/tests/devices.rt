@@ -24,23 +24,24 @@ impl<'a> Read for Slow<'a> {
     }
 }
 
-/// Takes 100 bytes a write, and fails at the write or flush `fails_at`, counted from 0.
+/// Takes one byte a write, and fails at the write or flush `fails_at`, counted from 0.
 #[derive(Drop)]
 pub struct Narrow {
-    pub taken: usize,
-    pub writes: u32,
-    pub fails_at: u32,
+    pub taken: Vec<u8>,
+    pub writes: usize,
+    pub fails_at: usize,
 }
 
 impl Write for Narrow {
     fn write(&mut self, buf: &[u8]) -> io::Result<usize> {
         self.writes = self.writes.wrapping_add(1);
-        if self.writes > self.fails_at {
+        if self.writes > self.fails_at || buf.is_empty() {
             return Ok(0);
         }
-        let taken = buf.len().min(100);
-        self.taken = self.taken.wrapping_add(taken);
-        Ok(taken)
+        match self.taken.push(buf[0]) {
+            Ok(()) => Ok(1),
+            Err(_) => Err(Error::from(ErrorKind::OutOfMemory)),
+        }
     }
 
     fn flush(&mut self) -> io::Result<()> {
@@ -49,5 +50,41 @@ impl Write for Narrow {
             return Err(Error::from(ErrorKind::Other));
         }
         Ok(())
+    }
+}
+
+/// Gives one byte a read of a text in which a piece stands again and again.
+#[derive(Drop)]
+pub struct Again<'a> {
+    /// What stands before the pieces; later what is left of the piece in hand.
+    pub left: &'a [u8],
+    pub piece: &'a [u8],
+    pub times: u32,
+    pub tail: &'a [u8],
+}
+
+impl<'a> Again<'a> {
+    fn next_piece(&mut self) {
+        if self.times > 0 {
+            self.times -= 1;
+            self.left = self.piece;
+        } else {
+            self.left = self.tail;
+            self.tail = b"";
+        }
+    }
+}
+
+impl<'a> Read for Again<'a> {
+    fn read(&mut self, buf: &mut [u8]) -> io::Result<usize> {
+        if self.left.is_empty() {
+            self.next_piece();
+        }
+        if self.left.is_empty() || buf.is_empty() {
+            return Ok(0);
+        }
+        buf[0] = self.left[0];
+        self.left = &self.left[1..];
+        Ok(1)
     }
 }

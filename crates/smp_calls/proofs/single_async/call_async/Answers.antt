@@ -8,21 +8,21 @@ use Rattle.smp_calls.proofs.Steps.{set_here, leaves_confirmed}
 use Rattle.smp_calls.proofs.One.{calls_by}
 use Rattle.smp_calls.proofs.single_async.call_async.Goals as goal
 
-pub returns-then-dst-this-clause-here : goal.returns-then-dst-this-clause-here
-returns-then-dst-this-clause-here g c e = (
+pub returns-then-dst-number-clause-here : goal.returns-then-dst-number-clause-here
+returns-then-dst-number-clause-here g c e = (
   c.if-not-is_done.ensures.known ∙ ap (λ k. confirms k c.args.me.now) c.user_record-k.ensures,
-  subst (λ (n : ℕ). g.H.Handler.leads c.args.handler.now (heard n c.args.func c.args.info) c.call.new.self) c.number-this.ensures.number c.call.ensures,
+  subst (λ (n : ℕ). g.H.Handler.leads c.args.handler.now (heard n c.args.func c.args.info) c.call.new.self) c.number-number.ensures.number c.call.ensures,
 )
 
 pub queue_and_send-requires-clause-free : goal.queue_and_send-requires-clause-free
 queue_and_send-requires-clause-free g c =
-    let sized : IsSized c.args.me.now = record { number = c.number-this.ensures.sized.0; records_are = c.number-this.ensures.sized.1 } in
+    let sized : IsSized c.args.me.now = record { number = c.number-number.ensures.sized.0; records_are = c.number-number.ensures.sized.1 } in
     ap (λ (x : CpuValue). confirmed_at x c.user_record-k.result) c.if-not-is_done.ensures.known
     ∙ set_here c.args.me.now c.user_record-k.result true sized (search rules)
 
 pub returns-clause-queued : goal.returns-clause-queued
 returns-clause-queued g c e =
-    let sized : IsSized c.args.me.now = record { number = c.number-this.ensures.sized.0; records_are = c.number-this.ensures.sized.1 } in
+    let sized : IsSized c.args.me.now = record { number = c.number-number.ensures.sized.0; records_are = c.number-number.ensures.sized.1 } in
     let small : c.user_record-k.result < records_of_one = search rules in
     let done =
     leaves_confirmed g.H.Handler.leads c.args.me.now c.is_done.new.me c.args.handler.now c.user_record-k.result sized small c.if-not-is_done.ensures.known

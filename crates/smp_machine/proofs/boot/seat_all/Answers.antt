@@ -1,6 +1,8 @@
-use Rattle.std.proofs.Common.{ℕ, sym, ap, ◌∙◌}
+use Rattle.std.proofs.Common.{ℕ, refl, sym, ap, ◌∙◌, subst}
+use Rattle.smp_words.specs.Limits.{AreLimits}
+use Rattle.smp_machine.specs.Place.{MachineValue, AreWaiting}
 use Rattle.smp_mask.specs.Mask.{has}
-use Rattle.smp_machine.proofs.Seating.{seated_none, seated_more, seated_all, seated_wide}
+use Rattle.smp_machine.proofs.Seating.{seated_none, seated_more, seats_wait, seats_left}
 use Rattle.smp_machine.proofs.boot.seat_all.Goals as goal
 
 pub loop-number-init : goal.loop-number-init
@@ -20,10 +22,18 @@ loop-number-preserved g c =
 
 pub invariant_of-result : goal.invariant_of-result
 invariant_of-result g c =
-    seated_wide c.args.machine.now c.online-online.result c.loop-number.number c.loop-number.calls c.loop-number.stops c.loop-number.passes.items
-    c.loop-number.waiting.items c.online-online.ensures.limits c.loop-number-test.false c.loop-number.invariant
+    let is = c.online-online.ensures.calls in
+    subst (λ (m : MachineValue). AreWaiting m c.online-online.result c.loop-number.waiting.items) (sym c.of-machine.ensures)
+    (seats_wait c.args.machine.now c.online-online.result c.loop-number.number c.loop-number.calls c.loop-number.stops c.loop-number.passes.items
+    c.loop-number.waiting.items is (subst (λ (mask : ℕ). AreLimits c.args.machine.now.calls.nr mask) is c.online-online.ensures.limits)
+    c.loop-number-test.false c.loop-number.invariant)
 
 pub returns : goal.returns
 returns g c =
-    seated_all c.args.machine.now c.online-online.result c.loop-number.number c.loop-number.calls c.loop-number.stops c.loop-number.passes.items
-    c.loop-number.waiting.items c.online-online.ensures.calls c.online-online.ensures.limits c.loop-number-test.false c.loop-number.invariant
+    let is = c.online-online.ensures.calls in
+    record {
+      machine_is = c.of-machine.ensures;
+      left_are = seats_left c.args.machine.now c.loop-number.number c.loop-number.calls c.loop-number.stops c.loop-number.passes.items
+          c.loop-number.waiting.items (subst (λ (mask : ℕ). AreLimits c.args.machine.now.calls.nr mask) is c.online-online.ensures.limits)
+          c.loop-number-test.false c.loop-number.invariant;
+    }

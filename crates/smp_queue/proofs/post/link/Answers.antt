@@ -1,6 +1,5 @@
 use Rattle.std.proofs.Common.{◌==◌, ◌+◌, sym, refl, ap, ◌∙◌, eq-eqb, ne_eqb}
-use Rattle.smp_call_steps.specs.Stands.{posted}
-use Rattle.smp_call_steps.specs.Known.{queued_known, lost_tries}
+use Rattle.smp_call_steps.specs.Known.{lost_one}
 use Rattle.smp_call_steps.proofs.Knows.Posted.{stands_as, next_known, won_known, lost_known}
 use Rattle.smp_queue.specs.Seat.{counted}
 use Rattle.smp_queue.proofs.Posts.Ready.{ready_post, mine_moved}
@@ -26,8 +25,7 @@ returns-clause-won c e =
     let known = next_known v c.store.new.seat.known v p.id c.args.link (counted p) c.store.ensures.known
     (stands_as v (counted p) post.LoadHead c.requires.stage) in
     won_known v c.exchange.new.seat.known c.store.new.seat.known p.to c.args.link (p.id + 1) c.exchange.result (counted p) (c.exchange.result == c.args.link)
-    (eq-eqb c.exchange.result c.args.link e) c.exchange.ensures.known known
-    ∙ ap (λ n. queued_known (posted p) p.to (n == 0) v) e
+    (eq-eqb c.exchange.result c.args.link e) c.exchange.ensures.known known e
 
 pub returns-clause-lost : goal.returns-clause-lost
 returns-clause-lost c ne =
@@ -37,4 +35,4 @@ returns-clause-lost c ne =
     (stands_as v (counted p) post.LoadHead c.requires.stage) in
     lost_known v c.exchange.new.seat.known c.store.new.seat.known p.to c.args.link (p.id + 1) c.exchange.result (counted p) (c.exchange.result == c.args.link)
     (ne_eqb c.exchange.result c.args.link ne) c.exchange.ensures.known known
-    ∙ ap (lost_tries 1) (sym (stands_as v (counted p) post.LoadHead c.requires.stage))
+    ∙ ap (lost_one c.args.link c.exchange.result) (sym (stands_as v (counted p) post.LoadHead c.requires.stage))

@@ -12,9 +12,17 @@ pub returns-in_err-write_text-clause-replays : goal.returns-in_err-write_text-cl
 returns-in_err-write_text-clause-replays g c =
     let p = err_from_is_err_and c.from_residual-in_err-write_text.result c.from_residual-in_err-write_text.ensures.1 in
     let e : script_of Replay c.in_ok-text.text.items ≡ Ok (meaning_of c.in_ok-script.script) = rw (← c.as_slice.ensures.value) c.in_ok-script.ensures.value in
+    let o : c.as_bytes-printed.result.now ≡ (replay_of (meaning_of c.in_ok-script.script)).text =
+    c.as_bytes-printed.ensures.value ∙ c.in_ok-output.ensures.text in
     rw (p.1, p.2) (write_failed _ _ (g.W.Write.contents (inner_of c.args.writer.now))
     (g.W.Write.contents (inner_of c.write_text.new.writer)) _ _ _ _ c.in_err-write_text.ensures.err
-    (record { text = c.in_ok-text.text.items; script = meaning_of c.in_ok-script.script; read = c.in_ok-text.ensures.ok; lawful = e }))
+    (record {
+      text = c.in_ok-text.text.items;
+      script = meaning_of c.in_ok-script.script;
+      read = c.in_ok-text.ensures.ok;
+      lawful = e;
+      written = rw (← o) c.in_err-write_text.ensures.front;
+    }))
 
 pub returns-clause-replays : goal.returns-clause-replays
 returns-clause-replays g c =

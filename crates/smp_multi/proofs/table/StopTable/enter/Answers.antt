@@ -1,12 +1,17 @@
-use Rattle.std.proofs.Common.{◌≡◌, true, None, Result, IfOk, ap, sym, subst, ◌∙◌}
+use Rattle.std.proofs.Common.{◌≡◌, true, false, None, Result, IfOk, IfErr, inr, refl, ap, sym, subst, ◌∙◌}
+use Rattle.smp_mask.specs.Mask.{has}
 use Rattle.smp_mask.specs.declared.error.SmpError.{SmpError}
+use Rattle.smp_mask.specs.declared.error.SmpError.TheVariants as error
 use Rattle.smp_stop_steps.specs.Starts.{has_slot}
-use Rattle.smp_multi.specs.Names.{Kind, Free, Idle}
-use Rattle.smp_multi.specs.Answers.{Enters}
+use Rattle.smp_multi.specs.Names.{Slot, Kind, Free, Idle}
+use Rattle.smp_multi.specs.Names.field
+use Rattle.smp_multi.specs.Answers.{Enters, IsStale}
+use Rattle.smp_multi.specs.Laws.{FindsNoCall}
 use Rattle.smp_multi.specs.Cpu.{CpuValue, TableValue, IsKept, answer_of, cpu_of, is_in}
 use Rattle.smp_multi.specs.declared.cpu.StopCpu.TheInside.{Inside}
 use Rattle.smp_multi.specs.contracts.cpu.StopCpu as cpu
 use Rattle.smp_multi.proofs.Kept.{is_free, idle_outside, kept_same, kept_entered, enters_answer, low_slot}
+use Rattle.smp_multi.proofs.Showing.{finds, rests_ungiven}
 use Rattle.smp_multi.proofs.table.StopTable.enter.Given as given
 use Rattle.smp_multi.proofs.table.StopTable.enter.Goals.{in-Some, in-None}
 use Rattle.smp_multi.proofs.table.StopTable.enter.Goals as goal
@@ -51,3 +56,26 @@ returns-clause-ok g c = elim c.match-enter.branch [
       subst (λ (r : Result Kind SmpError). IfOk r (λ kind. Enters c.args.self.now c.args.slot c.args.me.now (cpu.the_view c.match-enter.me-inside) kind))
       (sym w.result-is) tt
 ]
+
+pub returns-clause-err : goal.returns-clause-err
+returns-clause-err g c =
+    let Stales : Result Kind SmpError → Type 0 = λ r. IfErr r (λ e. (e ≡ error.Stale) × (cpu.the_view c.match-enter.me-inside ≡ c.args.me.now)
+    × IsStale c.args.self.now c.args.slot c.args.me.now) in
+    elim c.match-enter.branch [
+      | in-Some w ↦ subst Stales (sym w.result-is) tt
+      | in-None w ↦
+          let d = c.me.inside.seat in
+          let a = answer_of c.me.inside.visit in
+          let t = c.enter.ensures.then in
+          let table = c.enter.ensures.table
+          ∙ sym (ap (λ (m : CpuValue). m.table) c.me.view_is ∙ (c.requires.table ∙ sym (ap (λ (t : TableValue). t.table) c.self.view_is))) in
+          let known = w.in-None.ensures.known in
+          let view : cpu_of a c.enter.new.seat ≡ cpu_of a d = λ i. cpu_of a (record { table = table i; known = known i }) in
+          let found = finds a d (Slot c.args.slot field.Roll) t.0 (rests_ungiven _ _ c.me.invariant.rests) t.1 in
+          let none : has t.0 d.known.number ≡ false = ap (has t.0) c.me.invariant.number_is ∙ t.2 w.in-None.is in
+          subst Stales (sym w.result-is) (
+            refl,
+            subst (λ (m : Inside). cpu.the_view m ≡ c.args.me.now) (sym w.me-inside-is) (view ∙ c.me.view_is),
+            inr (inr (subst (λ (m : CpuValue). FindsNoCall m c.args.slot) c.me.view_is (t.0, found, none))),
+          )
+    ]

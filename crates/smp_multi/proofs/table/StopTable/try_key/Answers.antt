@@ -4,6 +4,7 @@ use Rattle.smp_multi.specs.Names.{Setting}
 use Rattle.smp_multi.specs.Cpu.{CpuValue, TableValue, answer_of, cpu_of}
 use Rattle.smp_multi.specs.Nudges.{NudgeAnswers}
 use Rattle.smp_multi.proofs.Nudging.{nudge_answers}
+use Rattle.smp_multi.proofs.Showing.{rests_ungiven}
 use Rattle.smp_multi.proofs.table.StopTable.try_key.Goals as goal
 
 pub returns : goal.returns
@@ -19,4 +20,5 @@ returns g c =
     let on = ap (λ (m : CpuValue). m.irq) c.me.view_is ∙ (sym c.interrupts_on.ensures.value ∙ c.if-not-interrupts_on.false) in
     let low = subst (λ (s : Setting). c.args.k < s.labels.keys) (sym setting) (subst (λ n. c.args.k < n) c.keys.ensures.value c.if-k-keys.false) in
     subst (λ (m : CpuValue). NudgeAnswers c.args.k c.args.up m (cpu_of a e) c.try_key.result) c.me.view_is
-    (nudge_answers a d e c.args.k c.args.up table c.try_key.ensures.lives online on low c.try_key.result c.try_key.ensures.known)
+    (nudge_answers a d e c.args.k c.args.up table c.try_key.ensures.lives online on low (rests_ungiven _ _ kept.rests)
+    c.try_key.result c.try_key.ensures.known)

@@ -1,6 +1,6 @@
 use Rattle.std.proofs.Common.{ℕ, ◌+◌, ◌%◌, ◌^◌, set, get_or, sym, ap, ◌∙◌, subst}
 use Rattle.smp_queue.specs.Names.{Posting}
-use Rattle.smp_queue.specs.Cpu.{CpuValue, IsKept, loses}
+use Rattle.smp_queue.specs.Cpu.{CpuValue, IsKept}
 use Rattle.smp_queue.proofs.Posts.Kept.{kept_posted}
 use Rattle.smp_queue.proofs.Posts.Own.{mine_of, posts_then}
 use Rattle.smp_queue.proofs.Posts.Shown.{marked_then}
@@ -29,6 +29,8 @@ returns-clause-answers g c =
       e.0,
       e.1,
       c.append_until_won-first.ensures.sent.0,
+      c.append_until_won-first.ensures.sent.1.others,
+      c.append_until_won-first.ensures.sent.1.first_is,
       posts_then c.me.inside.seat c.append_until_won-first.new.seat c.write_record.new.seat.known c.args.me.now c.begin_post.new.me c.args.k c.args.to
           c.args.func c.args.info c.args.class c.in_ok-posting.posting c.append_until_won-first.result c.append_until_won-first.ensures.sent.0
           c.me.view_is e.2 e.3 table c.write_record.ensures.known c.append_until_won-first.ensures.sent.1,
@@ -38,5 +40,5 @@ pub returns-clause-marked : goal.returns-clause-marked
 returns-clause-marked g c =
     let answers = returns-clause-answers g c in
     marked_then c.append_until_won-first.new.seat c.append_until_won-first.ensures.lives
-    (loses answers.2 c.args.me.now) c.args.k c.args.to c.args.func c.args.info
-    c.args.class c.append_until_won-first.result answers.3
+    c.args.me.now c.args.k c.args.to c.args.func c.args.info
+    c.args.class c.append_until_won-first.result answers.2 answers.5

@@ -1,9 +1,9 @@
 use Rattle.std.proofs.Common.{ℕ, ◌+◌, ◌%◌, ◌^◌, set, get_or, sym, ap, ◌∙◌, subst}
 use Rattle.smp_words.specs.Size.{record_of}
 use Rattle.smp_queue.specs.Names.{Posting}
-use Rattle.smp_queue.specs.Cpu.{CpuValue, IsKept, loses}
+use Rattle.smp_queue.specs.Cpu.{CpuValue, IsKept}
 use Rattle.smp_queue.proofs.Posts.Kept.{kept_posted}
-use Rattle.smp_queue.proofs.Posts.Own.{mine_of, posts_then}
+use Rattle.smp_queue.proofs.Posts.Own.{mine_of, posts_then, gives_up_then}
 use Rattle.smp_queue.proofs.Posts.Shown.{free_then, marked_then}
 use Rattle.smp_queue.proofs.table.CallTable.post_within.Goals as goal
 
@@ -30,6 +30,8 @@ returns-in-Some-clause-answers g c =
       e.0,
       e.1,
       c.in-Some.ensures.sent.0,
+      c.in-Some.ensures.sent.2.others,
+      c.in-Some.ensures.sent.2.first_is,
       posts_then c.me.inside.seat c.append.new.seat c.write_record.new.seat.known c.args.me.now c.begin_post.new.me c.args.k c.args.to c.args.func c.args.info
           c.args.class c.in_ok-posting.posting c.in-Some.first c.in-Some.ensures.sent.0
           c.me.view_is e.2 e.3 table c.write_record.ensures.known c.in-Some.ensures.sent.2,
@@ -38,14 +40,28 @@ returns-in-Some-clause-answers g c =
 pub returns-in-Some-clause-marked : goal.returns-in-Some-clause-marked
 returns-in-Some-clause-marked g c =
     let answers = returns-in-Some-clause-answers g c in
-    marked_then c.append.new.seat c.append.ensures.lives (loses answers.2 c.args.me.now) c.args.k c.args.to c.args.func c.args.info c.args.class
-    c.in-Some.first answers.3
+    marked_then c.append.new.seat c.append.ensures.lives c.args.me.now c.args.k c.args.to c.args.func c.args.info c.args.class
+    c.in-Some.first answers.2 answers.5
+
+pub returns-in-None-clause-answers : goal.returns-in-None-clause-answers
+returns-in-None-clause-answers g c =
+    let e = c.in_ok-posting.ensures in
+    let left = c.in-None.ensures.lost in
+    let table = c.append.ensures.table ∙ (ap (λ t. t.table) c.self.view_is ∙ sym c.requires) in (
+      e.0,
+      e.1,
+      left.0,
+      left.2.others,
+      left.1,
+      gives_up_then c.me.inside.seat c.append.new.seat c.write_record.new.seat.known c.args.me.now c.begin_post.new.me c.args.k c.in_ok-posting.posting
+          left.0 c.me.view_is e.2 table c.write_record.ensures.known left.2,
+    )
 
 pub returns-in-None-clause-free : goal.returns-in-None-clause-free
 returns-in-None-clause-free g c _ =
     let e = c.in_ok-posting.ensures in
     let new : CpuValue = c.begin_post.new.me in
     free_then c.append.new.seat c.append.ensures.lives c.me.inside.seat.known c.write_record.new.seat.known new c.in_ok-posting.posting c.args.k
-    c.args.tries c.in-None.ensures.lost c.write_record.ensures.known (ap (λ (x : CpuValue). x.part) c.me.view_is) (ap (λ
+    c.in-None.ensures.lost.0 c.in-None.ensures.lost.2 c.write_record.ensures.known (ap (λ (x : CpuValue). x.part) c.me.view_is) (ap (λ
     (x : CpuValue). x.number) c.me.view_is) e.4
     (ap (λ (p : Posting). p.id) e.3 ∙ ap (λ (x : CpuValue). record_of x.number c.args.k) (sym e.2))

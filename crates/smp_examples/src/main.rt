@@ -1,0 +1,66 @@
+//! Replays the examples of the folder that it is run in, and compares what each prints with what is expected of it.
+//!
+//! An example is a script `NAME.smp`, and `NAME.smp.stdout` is what its replay prints. `data` is the folder `examples` of
+//! the repository, so that the gate compares all of them.
+#![tactic(auto)]
+
+mod compare;
+
+use crate::compare::prints;
+use std::fs::{File, read_dir};
+use std::io;
+use std::io::Read;
+use std::process::ExitCode;
+
+// All bytes of a file.
+fn read_file(rt: &HostRuntime, name: &str) -> io::Result<Vec<u8>> {
+    let mut bytes = Vec::new(rt.alloc());
+    File::open(rt, name)?.read_to_end(&mut bytes)?;
+    Ok(bytes)
+}
+
+// The names of the scripts in this folder, ascending.
+fn scripts(rt: &HostRuntime) -> io::Result<Vec<String>> {
+    let mut names = Vec::new(rt.alloc());
+    for entry in read_dir(rt, ".")? {
+        let entry = entry?;
+        let name = entry.file_name();
+        if name.ends_with(".smp") {
+            names.push(String::from_str(rt.alloc(), name)?)?;
+        }
+    }
+    names.sort()?;
+    Ok(names)
+}
+
+// Compares one example, and prints a line for it: whether it is as expected.
+fn compare_one(rt: &HostRuntime, name: &str) -> io::Result<bool> {
+    let script = read_file(rt, name)?;
+    let wanted = format!(in rt.alloc(); "{name}.stdout")?;
+    let expected = read_file(rt, wanted.as_str())?;
+    match prints(rt.alloc(), script.as_slice(), expected.as_slice()) {
+        Ok(true) => {
+            println!(rt; "{name}: as expected")?;
+            Ok(true)
+        }
+        Ok(false) => {
+            println!(rt; "{name}: prints something else")?;
+            Ok(false)
+        }
+        Err(error) => {
+            println!(rt; "{name}: {error}")?;
+            Ok(false)
+        }
+    }
+}
+
+fn main(rt: HostRuntime) -> io::Result<ExitCode> {
+    let names = scripts(&rt)?;
+    let mut all = true;
+    for name in names.iter() {
+        all = compare_one(&rt, name.as_str())? && all;
+    }
+    let count = names.len();
+    println!(rt; "{count} examples")?;
+    Ok(ExitCode::from(if all { 0 } else { 1 }))
+}

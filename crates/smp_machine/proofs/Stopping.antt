@@ -1,0 +1,159 @@
+-- A stop, out of its parts.
+use Rattle.std.proofs.Common.{◌≡◌, ◌≢◌, ℕ, ℤ, Bool, true, false, true≢false, ◌==◌, ◌||◌, Option, Some, None}
+use Rattle.std.proofs.Common.{List, [], ◌∷◌, ◌++◌, slice_index_or}
+use Rattle.std.proofs.Common.{inl, inr, refl, sym, ap, ◌∙◌, subst}
+use Rattle.std.proofs.lemmas.Bool.{cases_eq, ne_eqb}
+use Rattle.std.proofs.lemmas.List.{get_or-set_other}
+use Rattle.smp_mask.specs.Mask.{members}
+use Rattle.smp_queue.specs.declared.handler.Heard.{Heard}
+use Rattle.smp_calls.specs.Queued.{is_in}
+use Rattle.smp_calls.proofs.Round.{is_in-append}
+use Rattle.smp_multi.specs.Answers.{answer_in}
+use Rattle.smp_multi.specs.Cpu.{gated, begins, collects}
+use Rattle.smp_multi.specs.Names.{Work, Part}
+use Rattle.smp_multi.specs.Polls.{IsLastResult}
+use Rattle.smp_multi.specs.declared.func.Called.{Called}
+use Rattle.smp_machine.specs.declared.work_queue.Item.{Item}
+use Rattle.smp_machine.specs.declared.work_queue.Knows.TheVariants.{Puts}
+use Rattle.smp_machine.specs.WorkQueue.{IsKnown}
+use Rattle.smp_machine.specs.Own.{Own, own_of, with_gate, with_begun, with_put, with_collected, put_one, put_all}
+use Rattle.smp_machine.specs.Passes.{puts}
+use Rattle.smp_machine.specs.Place.{PlaceValue}
+use Rattle.smp_machine.specs.Stops.{item, with_stop, AreShown, HasCollected, HasStopped}
+use Rattle.smp_machine.specs.Works.{Works}
+use Rattle.smp_machine.proofs.Works.{works_own, works_none, works_then, works_as, works_both}
+
+put_all-append : (x : Item) (xs ys : List ℕ) (put : List (List Item)) → put_all x (xs ++ ys) put ≡ put_all x ys (put_all x xs put)
+put_all-append x [] ys put = refl
+put_all-append x (cpu ∷ xs) ys put = put_all-append x xs ys (put_one x cpu put)
+
+module _ {H F : Type 0} (hears : H → Heard → H → Type 0) (runs : F → Called → F → Type 0) where
+  -- one step of the own stop
+  pub works_gate : (p new : PlaceValue) (h : H) (f : F) (b : Bool) → new ≡ record p { stops = gated b p.stops }
+      → Works hears runs p h f new h f (with_gate b (own_of p))
+  works_gate p new h f b e =
+      subst (λ (x : PlaceValue). Works hears runs p h f x h f (with_gate b (own_of p))) (sym e)
+      (works_own hears runs p (record p { stops = gated b p.stops }) h f refl refl refl refl refl refl refl)
+
+  pub works_begin : (p new : PlaceValue) (h : H) (f : F) (work : Work) → new ≡ record p { stops = begins work p.stops }
+      → Works hears runs p h f new h f (with_begun work (own_of p))
+  works_begin p new h f work e =
+      subst (λ (x : PlaceValue). Works hears runs p h f x h f (with_begun work (own_of p))) (sym e)
+      (works_own hears runs p (record p { stops = begins work p.stops }) h f refl refl refl refl refl refl refl)
+
+  pub works_put : (p new : PlaceValue) (h : H) (f : F) (cpu : ℕ) (x : Item) → new ≡ record p { passes = puts cpu x p.passes }
+      → Works hears runs p h f new h f (with_put x (cpu ∷ []) (own_of p))
+  works_put p new h f cpu x e =
+      subst (λ (y : PlaceValue). Works hears runs p h f y h f (with_put x (cpu ∷ []) (own_of p))) (sym e)
+      (works_own hears runs p (record p { passes = puts cpu x p.passes }) h f refl refl refl refl refl refl refl)
+
+  pub works_collect : (p new : PlaceValue) (h : H) (f : F) (word : ℕ) → new ≡ record p { stops = collects word p.stops }
+      → Works hears runs p h f new h f (with_collected word (own_of p))
+  works_collect p new h f word e =
+      subst (λ (x : PlaceValue). Works hears runs p h f x h f (with_collected word (own_of p))) (sym e)
+      (works_own hears runs p (record p { stops = collects word p.stops }) h f refl refl refl refl refl refl refl)
+
+  -- after a stretch in which the CPU has made none
+  pub works_after : {old mid new : PlaceValue} {h h₁ h₂ : H} {f f₁ f₂ : F} (g : Own → Own) → Works hears runs old h f mid h₁ f₁ (own_of old)
+      → Works hears runs mid h₁ f₁ new h₂ f₂ (g (own_of mid)) → Works hears runs old h f new h₂ f₂ (g (own_of old))
+  works_after g a b = works_both hears runs (λ o. o) g a b
+
+  -- one queue more
+  pub works_more : {old mid new : PlaceValue} {h h₁ h₂ : H} {f f₁ f₂ : F} (work : Work) (xs : List ℕ) (cpu : ℕ)
+      → Works hears runs old h f mid h₁ f₁ (with_put (item old.stops.number work) xs (own_of old))
+      → Works hears runs mid h₁ f₁ new h₂ f₂ (with_put (item mid.stops.number work) (cpu ∷ []) (own_of mid))
+      → Works hears runs old h f new h₂ f₂ (with_put (item old.stops.number work) (xs ++ cpu ∷ []) (own_of old))
+  works_more {old} {mid} {new} {h} {h₁} {h₂} {f} {f₁} {f₂} work xs cpu a b =
+      let x : Item = item old.stops.number work in
+      let same = subst (λ (n : ℕ). Works hears runs mid h₁ f₁ new h₂ f₂ (with_put (item n work) (cpu ∷ []) (own_of mid))) a.number_is b in
+      works_as hears runs (with_put x (xs ++ cpu ∷ []) (own_of old))
+      (ap (λ (l : List (List Item)). record (own_of old) { put = l }) (sym (put_all-append x xs (cpu ∷ []) old.passes.put)))
+      (works_both hears runs (with_put x xs) (with_put x (cpu ∷ [])) a same)
+
+  pub works_all : {old new : PlaceValue} {h h' : H} {f f' : F} (x : Item) (xs ys : List ℕ) → xs ≡ ys
+      → Works hears runs old h f new h' f' (with_put x xs (own_of old)) → Works hears runs old h f new h' f' (with_put x ys (own_of old))
+  works_all {old} x xs ys e w = works_as hears runs (with_put x ys (own_of old)) (ap (λ (l : List ℕ). with_put x l (own_of old)) e) w
+
+  -- a stop until its works are queued
+  pub stop_queued : {old m₁ m₂ m₃ : PlaceValue} {h h₁ h₃ : H} {f f₁ f₃ : F} (work : Work)
+      → Works hears runs old h f m₁ h₁ f₁ (with_gate true (own_of old))
+      → m₂ ≡ record m₁ { stops = begins work m₁.stops }
+      → Works hears runs m₂ h₁ f₁ m₃ h₃ f₃ (with_put (item m₂.stops.number work) (members work.mask) (own_of m₂))
+      → Works hears runs old h f m₃ h₃ f₃ (with_put (item old.stops.number work) (members work.mask) (with_begun work (with_gate true (own_of old))))
+  stop_queued {old} {m₁} {m₂} {m₃} {h} {h₁} {h₃} {f} {f₁} {f₃} work a e b =
+      let number : m₂.stops.number ≡ old.stops.number = ap (λ (p : PlaceValue). p.stops.number) e ∙ a.number_is in
+      let two = works_both hears runs (with_gate true) (with_begun work) a (works_begin m₁ m₂ h₁ f₁ work e) in
+      works_both hears runs (λ o. with_begun work (with_gate true o)) (with_put (item old.stops.number work) (members work.mask)) two
+      (subst (λ (n : ℕ). Works hears runs m₂ h₁ f₁ m₃ h₃ f₃ (with_put (item n work) (members work.mask) (own_of m₂))) number b)
+
+-- a result is one of these works and results, whatever else a CPU's part has
+pub last_kept : {old new : Part} {word : ℕ} → new.begun ≡ old.begun → new.collected ≡ old.collected → IsLastResult old word
+    → IsLastResult new word
+last_kept begun collected r = record {
+  work = r.work;
+  answer = r.answer;
+  works = r.works;
+  results = r.results;
+  begun = begun ∙ r.begun;
+  collected = collected ∙ r.collected;
+  is_result = r.is_result;
+}
+
+-- the law of the queues, over those that were put to
+or_left : (b : Bool) → (b || (false || false)) ≡ true → b ≡ true
+or_left true e = refl
+or_left false e = e
+
+pub shown_none : (n : ℕ) (put : List (List Item)) → AreShown n [] put
+shown_none n put c h = absurd (true≢false (sym h))
+
+pub shown_more : (n : ℕ) (x : Item) (xs : List ℕ) (cpu : ℕ) (before after : List (List Item)) → after ≡ put_one x cpu before → AreShown n xs before
+    → IsKnown (Puts n (slice_index_or after cpu [])) → AreShown n (xs ++ cpu ∷ []) after
+shown_more n x xs cpu before after e shown here c h = elim (cases_eq c cpu) [
+  | inl same ↦ subst (λ (k : ℕ). IsKnown (Puts n (slice_index_or after k []))) (sym same) here
+  | inr apart ↦
+      let there : is_in c xs ≡ true = or_left (is_in c xs) (subst (λ (b : Bool). (is_in c xs || (b || false)) ≡ true) (ne_eqb cpu c (λ k. apart (sym k)))
+      (sym (is_in-append c xs (cpu ∷ [])) ∙ h)) in
+      let alike : slice_index_or after c [] ≡ slice_index_or before c [] = ap (λ (l : List (List Item)). slice_index_or l c []) e
+      ∙ get_or-set_other before cpu c (slice_index_or before cpu [] ++ x ∷ []) [] apart in
+      subst (λ (l : List Item). IsKnown (Puts n l)) (sym alike) (shown c there)
+]
+
+pub shown_at : {n m : ℕ} {xs ys : List ℕ} {put put' : List (List Item)} → n ≡ m → xs ≡ ys → put ≡ put' → AreShown n xs put
+    → AreShown m ys put'
+shown_at e f k = subst (λ (t : ℕ × List ℕ × List (List Item)). AreShown t.0 t.1 t.2) (λ i. (e i, f i, k i))
+
+module _ {H F : Type 0} (hears : H → Heard → H → Type 0) (runs : F → Called → F → Type 0) where
+  -- a stop that gives the gate up once it is complete
+  pub stop_long : {old m₃ m₄ new : PlaceValue} {n : ℕ} {h h₃ h₄ : H} {f f₃ f₄ : F} (work : Work) (u v : ℤ) → u ≡ v
+      → n ≡ old.stops.number
+      → Works hears runs old h f m₃ h₃ f₃ (with_put (item old.stops.number work) (members work.mask) (with_begun work (with_gate true (own_of old))))
+      → AreShown n (members work.mask) m₃.passes.put → HasCollected hears runs m₃ h₃ f₃ m₄ h₄ f₄ v
+      → new ≡ record m₄ { stops = gated false m₄.stops } → HasStopped hears runs work old h f new h₄ f₄ u
+  stop_long {old} {m₃} {m₄} {new} {n} {h} {h₃} {h₄} {f} {f₃} {f₄} work u v same number a shown c e =
+      let put = λ (o : Own). with_put (item old.stops.number work) (members work.mask) (with_begun work (with_gate true o)) in
+      let three = works_both hears runs put (with_collected c.word) a c.works in record {
+        word = c.word;
+        answer_is = same ∙ c.answer_is;
+        works = works_both hears runs (λ (o : Own). with_collected c.word (put o)) (with_gate false) three (works_gate hears runs m₄ new h₄ f₄ false e);
+        result = last_kept (ap (λ (p : PlaceValue). p.stops.part.begun) e) (ap (λ (p : PlaceValue). p.stops.part.collected) e) c.result;
+        shown = shown_at number refl (sym (ap (λ (p : PlaceValue). p.passes.put) e ∙ ap (λ (o : Own). o.put) c.works.own_is)) shown;
+        outside = ap (λ (p : PlaceValue). p.stops.inside) e ∙ c.outside;
+      }
+
+  -- a stop that gives it up once its works are queued
+  pub stop_short : {old m₃ m₄ new : PlaceValue} {n : ℕ} {h h₃ h₅ : H} {f f₃ f₅ : F} (work : Work) (u v : ℤ) → u ≡ v
+      → n ≡ old.stops.number
+      → Works hears runs old h f m₃ h₃ f₃ (with_put (item old.stops.number work) (members work.mask) (with_begun work (with_gate true (own_of old))))
+      → AreShown n (members work.mask) m₃.passes.put → m₄ ≡ record m₃ { stops = gated false m₃.stops }
+      → HasCollected hears runs m₄ h₃ f₃ new h₅ f₅ v → HasStopped hears runs work old h f new h₅ f₅ u
+  stop_short {old} {m₃} {m₄} {new} {n} {h} {h₃} {h₅} {f} {f₃} {f₅} work u v same number a shown e c =
+      let put = λ (o : Own). with_put (item old.stops.number work) (members work.mask) (with_begun work (with_gate true o)) in
+      let three = works_both hears runs put (with_gate false) a (works_gate hears runs m₃ m₄ h₃ f₃ false e) in record {
+        word = c.word;
+        answer_is = same ∙ c.answer_is;
+        works = works_both hears runs (λ (o : Own). with_gate false (put o)) (with_collected c.word) three c.works;
+        result = c.result;
+        shown = shown_at number refl (sym (ap (λ (o : Own). o.put) c.works.own_is ∙ ap (λ (p : PlaceValue). p.passes.put) e)) shown;
+        outside = c.outside;
+      }

@@ -1,0 +1,269 @@
+-- What a look and a turn leave of a CPU.
+use Rattle.std.proofs.Common.{arith, ◌≡◌, ◌≢◌, ℕ, ℤ, Bool, true, false, true≢false, Option, Some, None, List, [], ◌∷◌, ◌++◌, map, nat_lt, refl, sym, ap, ◌∙◌, subst, Ok, Err}
+use Rattle.std.proofs.lemmas.List.{append-nil}
+use Rattle.smp_words.specs.declared.call.Call.{Call}
+use Rattle.smp_call_steps.specs.Order.{order}
+use Rattle.smp_queue.specs.Cpu.{CpuValue as CallCpuValue}
+use Rattle.smp_queue.specs.Handling.{Grows, asks, drains}
+use Rattle.smp_queue.specs.declared.handler.Heard.{Heard}
+use Rattle.smp_calls.specs.Handles.{Handles}
+use Rattle.smp_calls.proofs.Turns.{handles_none, handles_nothing, handles_batch}
+use Rattle.smp_mask.specs.declared.error.SmpError.{SmpError}
+use Rattle.smp_mask.specs.declared.error.SmpError.TheVariants as error
+use Rattle.smp_multi.specs.Names.{Kind, One, Multi, Patch}
+use Rattle.smp_multi.specs.Advance.{IsInRound, HasLeft, Advances, AdvanceAnswers, FinishAnswers, RunsAt, looks, acknowledges, carries, patches, reads_anew}
+use Rattle.smp_multi.specs.Answers.{IsInOne, RunAnswers, call_of}
+use Rattle.smp_multi.specs.Cpu.{CpuValue as StopCpuValue, Inside, answers, runs}
+use Rattle.smp_multi.specs.declared.func.Called.{Called}
+use Rattle.smp_multi.specs.declared.turn.Turn.{Turn}
+use Rattle.smp_multi.specs.declared.turn.Turn.TheVariants.{Same, Moved, Ran, Left}
+use Rattle.smp_multi.specs.Running.{called}
+use Rattle.smp_stop_steps.specs.Callings.{answer_in as carried_answer}
+use Rattle.smp_stop_steps.specs.Labels.{patch_answer}
+use Rattle.smp_stop_steps.specs.Starts.{answer_word}
+use Rattle.smp_stop_steps.specs.Tells.{first_readings}
+use Rattle.smp_stop_steps.specs.declared.phase.TheConstants.{DISABLE_IRQ, RUN, EXIT}
+use Rattle.smp_machine.specs.Own.{own_of}
+use Rattle.smp_machine.specs.Passes.{PassesValue}
+use Rattle.smp_machine.specs.Place.{PlaceValue, HasNotLeft}
+use Rattle.smp_machine.specs.Works.{handled_calls, stop_call, turned, HasRun, Works, Hears, LooksOnce, LooksIfOn, StopMoves, GoesRound, completed, StaysIn, TurnsStop}
+
+module _ {H : Type 0} (hears : H → Heard → H → Type 0) where
+  -- one look, by what `handle` answers
+  pub looks_once : (interrupted : Bool) (p : PlaceValue) (calls : CallCpuValue) (h i : H)
+      → (interrupted ≡ true → (batch : List Call) × (calls ≡ drains batch (asks true p.calls)) × Grows hears h (order batch) i)
+      → (interrupted ≡ false → (calls ≡ asks false p.calls) × (i ≡ h))
+      → LooksOnce hears p h (record p { calls = calls }) i
+  looks_once true p calls h i took idle =
+      let t = took refl in
+      subst (λ (x : CallCpuValue). LooksOnce hears p h (record p { calls = x }) i) (sym t.1) (record {
+        rest = record { stops_are = refl; passes_are = refl; calls_kept = refl; handled = handles_batch hears p.calls t.0 h i t.2 };
+        once = (true, refl);
+      })
+  looks_once false p calls h i took idle =
+      let n = idle refl in
+      subst (λ (x : CallCpuValue). LooksOnce hears p h (record p { calls = x }) i) (sym n.0)
+      (subst (λ (y : H). LooksOnce hears p h (record p { calls = asks false p.calls }) y) (sym n.1) (record {
+        rest = record { stops_are = refl; passes_are = refl; calls_kept = refl; handled = handles_nothing hears p.calls h };
+        once = (false, refl);
+      }))
+
+  pub looks_on : (old new : PlaceValue) (h i : H) → old.stops.irq ≡ true → LooksOnce hears old h new i → LooksIfOn hears old h new i
+  looks_on old new h i on l = record { rest = l.rest; once = λ _. l.once; off = λ off. absurd (true≢false (sym on ∙ off)) }
+
+  pub looks_off : (p : PlaceValue) (h : H) → p.stops.irq ≡ false → LooksIfOn hears p h p h
+  looks_off p h off = record {
+    rest = record { stops_are = refl; passes_are = refl; calls_kept = refl; handled = handles_none hears p.calls h };
+    once = λ on. absurd (true≢false (sym on ∙ off));
+    off = λ _. (refl, refl);
+  }
+
+-- a look, and then a turn of a stop
+pub works_turn : {H F : Type 0} (hears : H → Heard → H → Type 0) (leads : F → Called → F → Type 0) {old mid new : PlaceValue} {h h' : H} {f f' : F}
+    → Hears hears old h mid h' → new.calls ≡ mid.calls → new.passes ≡ mid.passes → StopMoves leads mid.stops f new.stops f'
+    → Works hears leads old h f new h' f' (own_of old)
+works_turn hears leads {old} {mid} {new} {h} {h'} {f} {f'} l calls passes s =
+    let kept : new.stops ≡ turned old.stops new.stops = s.kept ∙ ap (λ (x : StopCpuValue). turned x new.stops) l.stops_are in
+    let passed : new.passes ≡ old.passes = passes ∙ l.passes_are in
+    record {
+      calls_kept = subst (λ (x : CallCpuValue). x ≡ handled_calls old.calls x) (sym calls) l.calls_kept;
+      handled = subst (λ (x : CallCpuValue). Handles hears old.calls h x h') (sym calls) l.handled;
+      table_is = ap (λ (x : StopCpuValue). x.table) kept;
+      setting_is = ap (λ (x : StopCpuValue). x.setting) kept;
+      number_is = ap (λ (x : StopCpuValue). x.number) kept;
+      ran = s.ran;
+      calls_are = s.calls_are ∙ ap (λ (x : StopCpuValue). x.part.calls ++ map stop_call s.ran) l.stops_are;
+      grows = subst (λ (n : ℕ). HasRun leads n f s.ran f') (ap (λ (x : StopCpuValue). x.number) l.stops_are) s.grows;
+      queues_are = ap (λ (x : PassesValue). x.queues) passed;
+      passes_number = ap (λ (x : PassesValue). x.number) passed;
+      own_is = λ i. own_of (record { calls = new.calls; stops = kept i; passes = passed i });
+    }
+
+-- a stop of several CPUs, or of one
+
+some_same : {x y : Inside} {o : Option Inside} → o ≡ Some x → o ≡ Some y → x ≡ y
+some_same e f = cc
+
+some_none : {x : Inside} {o : Option Inside} → o ≡ Some x → o ≡ None → ⊥
+some_none e n = cc
+
+-- who is in no stop of one CPU is in one of several
+pub in_round : (c : StopCpuValue) (o : Option Inside) → c.inside ≡ o → o ≢ None → HasNotLeft o → (¬ (IsInOne c)) → IsInRound c
+in_round c None is inside not_left not_one = absurd (inside refl)
+in_round c (Some stop) is inside not_left not_one =
+    record { stop = stop; is = is; several = λ one. not_one (record { stop = stop; is = is; one = one }); not_left = not_left }
+
+same_left : Same ≡ Left → ⊥
+same_left e = cc
+
+moved_left : {p : ℕ} → Moved p ≡ Left → ⊥
+moved_left e = cc
+
+ran_left : Ran ≡ Left → ⊥
+ran_left e = cc
+
+stayed : (old new : StopCpuValue) (stop : Inside) → StaysIn old new → old.inside ≡ Some stop → HasNotLeft new.inside
+stayed old new stop stays is = let s = stays stop is in subst HasNotLeft (sym s.2) s.1
+
+not_both : (c : StopCpuValue) → IsInOne c → IsInRound c → ⊥
+not_both c a b = b.several (ap (λ (x : Inside). x.work.kind) (some_same b.is a.is) ∙ a.one)
+
+module _ {F : Type 0} (leads : F → Called → F → Type 0) where
+  -- who has left may finish
+  has_left : (old mid : StopCpuValue) (f f' : F) → AdvanceAnswers leads old mid f f' (Ok Left) → HasLeft mid
+  has_left old mid f f' a = record {
+    stop = record (a.0.stop) { acked = EXIT };
+    is = ap (λ (c : StopCpuValue). c.inside) a.1.1;
+    several = a.0.several;
+    left = refl;
+  }
+
+  at_left : (old mid : StopCpuValue) (f f' : F) (turn : Turn) → turn ≡ Left → AdvanceAnswers leads old mid f f' (Ok turn)
+      → AdvanceAnswers leads old mid f f' (Ok Left)
+  at_left old mid f f' turn is a = subst (λ (t : Turn). AdvanceAnswers leads old mid f f' (Ok t)) is a
+
+  pub finishes : (old mid new : StopCpuValue) (f f' : F) (turn : Turn) (e : SmpError) → turn ≡ Left → AdvanceAnswers leads old mid f f' (Ok turn)
+      → FinishAnswers mid new (Err e) → ⊥
+  finishes old mid new f f' turn error.BadArgument is a r = r.0 (has_left old mid f f' (at_left old mid f f' turn is a))
+  finishes old mid new f f' turn _ is a r = r
+
+  -- who has left has completed
+  pub round_done : (old mid new : StopCpuValue) (f f' : F) (turn : Turn) (u : Unit {0}) → turn ≡ Left → AdvanceAnswers leads old mid f f' (Ok turn)
+      → FinishAnswers mid new (Ok u) → GoesRound leads old f new f' Left
+  round_done old mid new f f' turn u is a done =
+      let l = at_left old mid f f' turn is a in
+      let same : done.0.stop ≡ record (l.0.stop) { acked = EXIT } = some_same done.0.is (ap (λ (c : StopCpuValue). c.inside) l.1.1) in
+      record {
+        at = l.0;
+        advanced = mid;
+        advances = l.1;
+        is = done.1 ∙ ap (λ (x : Inside). answers x.slot (carried_answer mid.part.calling) mid) same;
+      }
+
+  -- who has not left goes on
+  pub round_on : (old new : StopCpuValue) (f f' : F) (turn : Turn) → turn ≢ Left → AdvanceAnswers leads old new f f' (Ok turn)
+      → GoesRound leads old f new f' turn
+  round_on old new f f' Left on a = absurd (on refl)
+  round_on old new f f' Same on a = record { at = a.0; advanced = new; advances = a.1; is = refl }
+  round_on old new f f' (Moved p) on a = record { at = a.0; advanced = new; advances = a.1; is = refl }
+  round_on old new f f' Ran on a = record { at = a.0; advanced = new; advances = a.1; is = refl }
+
+  -- a stop of one CPU is not run where there is none
+  pub not_run : (old new : StopCpuValue) (f f' : F) (e : SmpError) → RunAnswers leads old new f f' (Err e)
+      → (¬ (IsInOne old)) × (new ≡ old) × (f' ≡ f)
+  not_run old new f f' error.BadArgument r = (r.0, r.1, r.2)
+  not_run old new f f' _ r = absurd r
+
+  lit_moves : (old x new : StopCpuValue) (f f' : F) (ran : List Called) → x ≡ turned old x → x.part.calls ≡ old.part.calls ++ map stop_call ran
+      → HasRun leads old.number f ran f' → new ≡ x → StopMoves leads old f new f'
+  lit_moves old x new f f' ran kept calls grows is =
+      subst (λ (y : StopCpuValue). StopMoves leads old f y f') (sym is) (record { kept = kept; ran = ran; calls_are = calls; grows = grows })
+
+  lit_still : (old x new : StopCpuValue) (f f' : F) → x ≡ turned old x → x.part.calls ≡ old.part.calls → f' ≡ f → new ≡ x → StopMoves leads old f new f'
+  lit_still old x new f f' kept calls same is = lit_moves old x new f f' [] kept (calls ∙ sym (append-nil old.part.calls)) (sym same) is
+
+  -- nothing was done, where no work is in hand
+  pub turns_none : (c : StopCpuValue) (f : F) → c.inside ≡ None → TurnsStop leads c f c f Same
+  turns_none c f outside = record {
+    moves = lit_still c c c f f refl refl refl refl;
+    none = λ _. (refl, refl, refl);
+    one = λ at. absurd (some_none at.is outside);
+    round = λ at. absurd (some_none at.is outside);
+    left = λ e. absurd (same_left e);
+    stays = λ _ stop is. absurd (some_none is outside);
+    read = λ e. absurd (same_left e);
+  }
+
+  -- a stop of one CPU was run
+  pub turns_one : (old new : StopCpuValue) (f f' : F) (v : ℤ) → RunAnswers leads old new f f' (Ok v) → TurnsStop leads old f new f' Left
+  turns_one old new f f' v a =
+      let at : IsInOne old = a.0 in
+      let is : new ≡ answers at.stop.slot (answer_word v) (runs (call_of at.stop v) old) = a.1 in
+      record {
+        moves = lit_moves old (answers at.stop.slot (answer_word v) (runs (call_of at.stop v) old)) new f f'
+            (called old.number at.stop.work.func at.stop.work.arg v ∷ []) refl refl (f', (refl, a.2), refl) is;
+        none = λ n. absurd (some_none at.is n);
+        one = λ _. (record { at = at; answer = v; is = is; ran = a.2 }, refl);
+        round = λ r. absurd (not_both old at r);
+        left = λ _. (some_none at.is, ap (λ (c : StopCpuValue). c.inside) is);
+        stays = λ n. absurd (n refl);
+        read = λ _ stop there several. absurd (several (ap (λ (x : Inside). x.work.kind) (some_same there at.is) ∙ at.one));
+      }
+
+  run_moves : (kind : Kind) (stop : Inside) (old new : StopCpuValue) (f f' : F)
+      → RunsAt leads stop old new f f' kind → StopMoves leads old f new f'
+  run_moves One stop old new f f' r = absurd r
+  run_moves Multi stop old new f f' r =
+      lit_moves old (carries (answer_word r.0) (runs (call_of stop r.0) (acknowledges stop RUN false old))) new f f'
+      (called old.number stop.work.func stop.work.arg r.0 ∷ []) refl refl (f', (refl, r.2), refl) r.1
+  run_moves Patch stop old new f f' r =
+      lit_still old (carries (patch_answer stop.work r.0) (patches stop.work r.0 (acknowledges stop RUN false old))) new f f' refl refl r.2 r.1
+
+  run_inside : (kind : Kind) (stop : Inside) (old new : StopCpuValue) (f f' : F)
+      → RunsAt leads stop old new f f' kind → new.inside ≡ Some (record stop { acked = RUN })
+  run_inside One stop old new f f' r = absurd r
+  run_inside Multi stop old new f f' r = ap (λ (c : StopCpuValue). c.inside) r.1
+  run_inside Patch stop old new f f' r = ap (λ (c : StopCpuValue). c.inside) r.1
+
+  round_moves : (old new mid : StopCpuValue) (stop : Inside) (f f' : F) (turn : Turn) → Advances leads stop old mid f f' turn
+      → new ≡ completed turn stop mid → StopMoves leads old f new f'
+  round_moves old new mid stop f f' Same a is = lit_still old (looks stop.acked old) new f f' refl refl a.1 (is ∙ a.0)
+  round_moves old new mid stop f f' (Moved p) a is =
+      lit_still old (acknowledges stop p (nat_lt p DISABLE_IRQ) old) new f f' refl refl a.4 (is ∙ a.3)
+  round_moves old new mid stop f f' Ran a is =
+      subst (λ (y : StopCpuValue). StopMoves leads old f y f') (sym is) (run_moves stop.work.kind stop old mid f f' a.2)
+  round_moves old new mid stop f f' Left a is =
+      lit_still old (completed Left stop (reads_anew stop (acknowledges stop EXIT true old))) new f f' refl refl a.2 (is ∙ ap (completed Left stop) a.1)
+
+  stays_at : (old new : StopCpuValue) (stop : Inside) (acked : ℕ) → old.inside ≡ Some stop → acked ≢ EXIT
+      → new.inside ≡ Some (record stop { acked = acked }) → StaysIn old new
+  stays_at old new stop acked is in_it at other there =
+      (acked, in_it, at ∙ ap (λ (x : Inside). Some (record x { acked = acked })) (some_same is there))
+
+  round_stays : (old new mid : StopCpuValue) (at : IsInRound old) (f f' : F) (turn : Turn) → Advances leads at.stop old mid f f' turn
+      → new ≡ completed turn at.stop mid → turn ≢ Left → StaysIn old new
+  round_stays old new mid at f f' Same a is not_left =
+      stays_at old new at.stop at.stop.acked at.is at.not_left (ap (λ (c : StopCpuValue). c.inside) (is ∙ a.0) ∙ at.is)
+  round_stays old new mid at f f' (Moved p) a is not_left = stays_at old new at.stop p at.is a.1 (ap (λ (c : StopCpuValue). c.inside) (is ∙ a.3))
+  round_stays old new mid at f f' Ran a is not_left =
+      stays_at old new at.stop RUN at.is (λ e. omega arith) (ap (λ (c : StopCpuValue). c.inside) is ∙ run_inside at.stop.work.kind at.stop old mid f f' a.2)
+  round_stays old new mid at f f' Left a is not_left = absurd (not_left refl)
+
+  round_left : (old new mid : StopCpuValue) (stop : Inside) (f f' : F) (turn : Turn) → Advances leads stop old mid f f' turn
+      → new ≡ completed turn stop mid → turn ≡ Left → (new.inside ≡ None) × (new.part.readings ≡ first_readings old.number stop.slot stop.work)
+  round_left old new mid stop f f' Left a is e =
+      let full = is ∙ ap (completed Left stop) a.1 in
+      (ap (λ (c : StopCpuValue). c.inside) full, ap (λ (c : StopCpuValue). c.part.readings) full)
+  round_left old new mid stop f f' Same a is e = absurd (same_left e)
+  round_left old new mid stop f f' (Moved p) a is e = absurd (moved_left e)
+  round_left old new mid stop f f' Ran a is e = absurd (ran_left e)
+
+  -- a stop of several CPUs was gone on with
+  pub turns_round : (old new : StopCpuValue) (f f' : F) (turn : Turn) → GoesRound leads old f new f' turn → TurnsStop leads old f new f' turn
+  turns_round old new f f' turn g =
+      let done = round_left old new g.advanced g.at.stop f f' turn g.advances g.is in
+      record {
+        moves = round_moves old new g.advanced g.at.stop f f' turn g.advances g.is;
+        none = λ n. absurd (some_none g.at.is n);
+        one = λ at. absurd (not_both old at g.at);
+        round = λ _. g;
+        left = λ e. (some_none g.at.is, (done e).0);
+        stays = round_stays old new g.advanced g.at f f' turn g.advances g.is;
+        read = λ e stop there several. (done e).1 ∙ ap (λ (x : Inside). first_readings old.number x.slot x.work) (some_same g.at.is there);
+      }
+
+  -- the same after a look for a stop of one CPU
+  pub turns_after : (old mid new : StopCpuValue) (f f₁ f' : F) (turn : Turn) → mid ≡ old → f₁ ≡ f → GoesRound leads mid f₁ new f' turn
+      → TurnsStop leads old f new f' turn
+  turns_after old mid new f f₁ f' turn e k g =
+      subst (λ (y : StopCpuValue). TurnsStop leads y f new f' turn) e
+      (subst (λ (z : F). TurnsStop leads mid z new f' turn) k (turns_round mid new f₁ f' turn g))
+
+  -- between two turns no CPU has left its stop
+  pub turn_not_left : (old new : StopCpuValue) (f f' : F) (turn : Turn) → TurnsStop leads old f new f' turn → (o : Option Inside) → old.inside ≡ o
+      → o ≢ None → HasNotLeft new.inside
+  turn_not_left old new f f' Left t o is inside = subst HasNotLeft (sym (t.left refl).1) tt
+  turn_not_left old new f f' turn t None is inside = absurd (inside refl)
+  turn_not_left old new f f' Same t (Some stop) is inside = stayed old new stop (t.stays (λ e. same_left e)) is
+  turn_not_left old new f f' (Moved p) t (Some stop) is inside = stayed old new stop (t.stays (λ e. moved_left e)) is
+  turn_not_left old new f f' Ran t (Some stop) is inside = stayed old new stop (t.stays (λ e. ran_left e)) is

@@ -1,0 +1,92 @@
+-- One stretch of work after another.
+use Rattle.std.proofs.Common.{◌≡◌, ℕ, List, [], ◌∷◌, ◌++◌, map, append_assoc, refl, sym, ap, ◌∙◌, subst}
+use Rattle.std.specs.List.{FoldsTo}
+use Rattle.std.proofs.lemmas.List.{append-nil, map-append}
+use Rattle.smp_queue.specs.Cpu.{CpuValue as CallCpuValue}
+use Rattle.smp_queue.specs.declared.handler.Heard.{Heard}
+use Rattle.smp_calls.specs.Handles.{Handles}
+use Rattle.smp_calls.proofs.Turns.{handles_none, handles_then}
+use Rattle.smp_multi.specs.Names.{StopCall}
+use Rattle.smp_multi.specs.declared.func.Called.{Called}
+use Rattle.smp_machine.specs.Own.{Own, own_of}
+use Rattle.smp_machine.specs.Place.{MachineValue, PlaceValue, IsAt}
+use Rattle.smp_machine.specs.Works.{handled_calls, stop_call, HasRun, Works}
+
+folds-append : {P A : Type 0} (R : P → A → P → Type 0) (xs ys : List A) (p q r : P) → FoldsTo R p xs q → FoldsTo R q ys r → FoldsTo R p (xs ++ ys) r
+folds-append R [] ys p q r e f = subst (λ z. FoldsTo R z ys r) (sym e) f
+folds-append R (x ∷ xs) ys p q r e f = (e.0, e.1, folds-append R xs ys e.0 q r e.2 f)
+
+kept_then : (old mid new : CallCpuValue) → mid ≡ handled_calls old mid → new ≡ handled_calls mid new → new ≡ handled_calls old new
+kept_then old mid new f l = l ∙ ap (λ (x : CallCpuValue). handled_calls x new) f
+
+-- the calls of two stretches
+ran_then : (old mid new : List StopCall) (xs ys : List Called) → mid ≡ old ++ map stop_call xs → new ≡ mid ++ map stop_call ys
+    → new ≡ old ++ map stop_call (xs ++ ys)
+ran_then old mid new xs ys e f =
+    f ∙ (ap (λ (l : List StopCall). l ++ map stop_call ys) e ∙ (append_assoc old (map stop_call xs) (map stop_call ys)
+    ∙ ap (λ (l : List StopCall). old ++ l) (sym (map-append stop_call xs ys))))
+
+module _ {H F : Type 0} (hears : H → Heard → H → Type 0) (leads : F → Called → F → Type 0) where
+  -- only what its own stop calls change has changed
+  pub works_own : (old new : PlaceValue) (h : H) (f : F) → new.calls ≡ old.calls → new.stops.table ≡ old.stops.table
+      → new.stops.setting ≡ old.stops.setting → new.stops.number ≡ old.stops.number → new.stops.part.calls ≡ old.stops.part.calls
+      → new.passes.queues ≡ old.passes.queues → new.passes.number ≡ old.passes.number → Works hears leads old h f new h f (own_of new)
+  works_own old new h f calls table setting number ran queues passes_number = record {
+    calls_kept = subst (λ (x : CallCpuValue). x ≡ handled_calls old.calls x) (sym calls) refl;
+    handled = subst (λ (x : CallCpuValue). Handles hears old.calls h x h) (sym calls) (handles_none hears old.calls h);
+    table_is = table;
+    setting_is = setting;
+    number_is = number;
+    ran = [];
+    calls_are = ran ∙ sym (append-nil old.stops.part.calls);
+    grows = refl;
+    queues_are = queues;
+    passes_number = passes_number;
+    own_is = refl;
+  }
+
+  -- nothing was done
+  pub works_none : (p : PlaceValue) (h : H) (f : F) → Works hears leads p h f p h f (own_of p)
+  works_none p h f = works_own p p h f refl refl refl refl refl refl refl
+
+  -- one stretch, and then another
+  pub works_then : {old mid new : PlaceValue} {h h₁ h₂ : H} {f f₁ f₂ : F} {own own' : Own} → Works hears leads old h f mid h₁ f₁ own
+      → Works hears leads mid h₁ f₁ new h₂ f₂ own' → Works hears leads old h f new h₂ f₂ own'
+  works_then {old} {mid} {new} {h} {h₁} {h₂} {f} {f₁} {f₂} a b = record {
+    calls_kept = kept_then old.calls mid.calls new.calls a.calls_kept b.calls_kept;
+    handled = handles_then hears old.calls mid.calls new.calls h h₁ h₂ a.handled b.handled;
+    table_is = b.table_is ∙ a.table_is;
+    setting_is = b.setting_is ∙ a.setting_is;
+    number_is = b.number_is ∙ a.number_is;
+    ran = a.ran ++ b.ran;
+    calls_are = ran_then old.stops.part.calls mid.stops.part.calls new.stops.part.calls a.ran b.ran a.calls_are b.calls_are;
+    grows = folds-append (λ p call q. (call.cpu ≡ old.stops.number) × leads p call q) a.ran b.ran f f₁ f₂ a.grows
+        (subst (λ (n : ℕ). HasRun leads n f₁ b.ran f₂) a.number_is b.grows);
+    queues_are = b.queues_are ∙ a.queues_are;
+    passes_number = b.passes_number ∙ a.passes_number;
+    own_is = b.own_is;
+  }
+
+  -- with what its own stop calls change in other words
+  pub works_as : {old new : PlaceValue} {h h' : H} {f f' : F} {own : Own} (own' : Own) → own ≡ own' → Works hears leads old h f new h' f' own
+      → Works hears leads old h f new h' f' own'
+  works_as {old} {new} {h} {h'} {f} {f'} {own} own' e w = subst (λ (o : Own). Works hears leads old h f new h' f' o) e w
+
+  -- two stretches, each by what it makes of the own part
+  pub works_both : {old mid new : PlaceValue} {h h₁ h₂ : H} {f f₁ f₂ : F} (g k : Own → Own) → Works hears leads old h f mid h₁ f₁ (g (own_of old))
+      → Works hears leads mid h₁ f₁ new h₂ f₂ (k (own_of mid)) → Works hears leads old h f new h₂ f₂ (k (g (own_of old)))
+  works_both {old} g k a b = works_as (k (g (own_of old))) (ap k a.own_is) (works_then a b)
+
+  -- nothing has changed before
+  pub works_from : {old mid new : PlaceValue} {h h' : H} {f f' : F} {own : Own} → mid ≡ old → Works hears leads mid h f new h' f' own
+      → Works hears leads old h f new h' f' own
+  works_from {old} {mid} {new} {h} {h'} {f} {f'} {own} e w = subst (λ (x : PlaceValue). Works hears leads x h f new h' f' own) e w
+
+  -- a CPU stays at its machine
+  pub at_still : {m : MachineValue} {old new : PlaceValue} {h h' : H} {f f' : F} {own : Own} → Works hears leads old h f new h' f' own → IsAt m old
+      → IsAt m new
+  at_still w at = record {
+    calls = ap (λ (x : CallCpuValue). x.table) w.calls_kept ∙ at.calls;
+    stops = record { table = w.table_is ∙ at.stops.table; setting = w.setting_is ∙ at.stops.setting };
+    queues = w.queues_are ∙ at.queues;
+  }

@@ -1,0 +1,37 @@
+use Rattle.std.proofs.Common.{rules, ap, ◌∙◌}
+use Rattle.std.proofs.lemmas.Int.{to_z-of_z}
+use mir.Syntax.{w32}
+use mir.Val.{SFits}
+use Rattle.smp_multi.specs.Cpu.{CpuValue}
+use Rattle.smp_machine.specs.Own.{own_of, with_collected}
+use Rattle.smp_machine.specs.Place.{PlaceValue}
+use Rattle.smp_machine.proofs.Works.{works_as, works_from}
+use Rattle.smp_machine.proofs.Stopping.{works_after, works_collect}
+use Rattle.smp_machine.proofs.key.collect_quietly.Goals as goal
+
+pub loop-preserved : goal.loop-preserved
+loop-preserved g c =
+    let same = c.in-None-look_done.ensures in
+    let stops = ap (λ (p : PlaceValue). p.stops) same ∙ c.loop.invariant.stops in
+    record {
+      works = works_after g.H.Handler.leads g.F.StopFunc.leads (λ o. o) c.loop.invariant.works (works_from g.H.Handler.leads g.F.StopFunc.leads same
+          (works_as g.H.Handler.leads g.F.StopFunc.leads (own_of c.loop.me) (ap own_of same) c.turn.ensures.works));
+      stops = (c.turn.ensures.stops.none (ap (λ (s : CpuValue). s.inside) stops ∙ c.requires.outside)).0 ∙ stops;
+    }
+
+pub returns-in-Some-look_done-clause-collected : goal.returns-in-Some-look_done-clause-collected
+returns-in-Some-look_done-clause-collected g c =
+    let d = c.in-Some-look_done.ensures in
+    let fits : SFits w32 c.in-Some-look_done.answer = search rules in
+    record {
+      word = d.0;
+      answer_is = to_z-of_z w32 c.in-Some-look_done.answer fits ∙ d.1;
+      works = works_after g.H.Handler.leads g.F.StopFunc.leads (with_collected d.0) c.loop.invariant.works
+          (works_collect g.H.Handler.leads g.F.StopFunc.leads c.loop.me c.look_done.new.me c.loop.handler c.loop.run d.0 d.2);
+      result = d.3;
+      outside = ap (λ (p : PlaceValue). p.stops.inside) d.2 ∙ (ap (λ (s : CpuValue). s.inside) c.loop.invariant.stops ∙ c.requires.outside);
+    }
+
+pub returns-in-Some-look_done-clause-read : goal.returns-in-Some-look_done-clause-read
+returns-in-Some-look_done-clause-read g c =
+    ap (λ (p : PlaceValue). p.stops.part.readings) c.in-Some-look_done.ensures.2 ∙ ap (λ (s : CpuValue). s.part.readings) c.loop.invariant.stops

@@ -1,0 +1,10 @@
+use Rattle.std.proofs.Common.{◌≡◌}
+use Rattle.smp_machine.specs.Own.{own_of}
+use Rattle.smp_machine.specs.Works.{Works}
+use Rattle.smp_machine.proofs.stop.put.Given as goal
+
+abbrev pub invariant-loop : goal.invariant-loop
+invariant-loop g l = record {
+  works : Works g.H.Handler.leads g.F.StopFunc.leads l.fn.me l.fn.handler l.fn.run l.me l.handler l.run (own_of l.fn.me);
+  stops : l.me.stops ≡ l.fn.me.stops;
+}

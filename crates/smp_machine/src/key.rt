@@ -1,0 +1,193 @@
+//! A key is changed: by a patch of this CPU, for whose end it waits without taking part in any other stop.
+
+ghost use Rattle.std.specs.Prelude.{◌≡◌, ◌≢◌, ◌<◌, ℤ, Bool, true, false, None, Some};
+ghost use Rattle.smp_stop_steps.specs.Tells.{first_readings};
+ghost use Rattle.smp_multi.specs.Cpu.{gated};
+ghost use Rattle.smp_multi.specs.Names.{ReadKey};
+ghost use Rattle.smp_multi.specs.Reads.{reads};
+ghost use Rattle.smp_machine.specs.Keys.{IsPatchOf, Reads, state_of};
+ghost use Rattle.smp_machine.specs.Own.{own_of, with_gate};
+ghost use Rattle.smp_machine.specs.Place.{IsAt};
+ghost use Rattle.smp_machine.specs.Stops.{MayBegin, HasCollected, HasStopped};
+ghost use Rattle.smp_machine.specs.Works.{Works};
+
+use crate::machine::Machine;
+use crate::place::Place;
+use crate::stop::{begin, give_gate, look_done, put_to_all, take_gate};
+use crate::take::take_next;
+use crate::turn::{finish_work, turn};
+use crossbeam_utils::Backoff;
+use smp_multi::StopFunc;
+use smp_queue::Handler;
+use smp_words::work::{Kind, Work};
+use std::alloc::Allocator;
+use std::sync::Wait;
+
+/// A turn, and then the next work up to its completion: whether it was the own patch.
+fn run_next<A: Allocator, R: Wait, H: Handler, F: StopFunc>(
+    machine: &Machine<A>,
+    rt: &R,
+    me: &mut Place<A>,
+    handler: &mut H,
+    run: &mut F,
+    work: &Work,
+) -> bool
+    requires at { IsAt machine.now me.old }
+    requires outside { me.old.stops.inside ≡ None }
+    requires begun { me.old.stops.pending ≡ Some work.now }
+    requires several { work.now.kind ≢ Kind.One }
+    ensures works { Works H.leads F.leads me.old handler.old run.old me.new handler.new run.new (own_of me.old) }
+    ensures outside { me.new.stops.inside ≡ None }
+    ensures read { result ≡ true → me.new.stops.part.readings ≡ first_readings me.old.stops.number me.old.stops.number work.now }
+{
+    let number = me.number();
+    turn(machine, me, handler, run);
+    match take_next(machine, rt, me) {
+        None => false,
+        Some(slot) => {
+            finish_work(machine, rt, me, handler, run);
+            slot == number
+        }
+    }
+}
+
+/// Runs works until the own patch has run here.
+fn run_own_patch<A: Allocator, R: Wait, H: Handler, F: StopFunc>(
+    machine: &Machine<A>,
+    rt: &R,
+    me: &mut Place<A>,
+    handler: &mut H,
+    run: &mut F,
+    work: &Work,
+)
+    requires at { IsAt machine.now me.old }
+    requires outside { me.old.stops.inside ≡ None }
+    requires begun { me.old.stops.pending ≡ Some work.now }
+    requires several { work.now.kind ≢ Kind.One }
+    ensures works { Works H.leads F.leads me.old handler.old run.old me.new handler.new run.new (own_of me.old) }
+    ensures outside { me.new.stops.inside ≡ None }
+    ensures read { me.new.stops.part.readings ≡ first_readings me.old.stops.number me.old.stops.number work.now }
+{
+    let backoff = Backoff::new();
+    for _ in rt.forever() {
+        if run_next(machine, rt, me, handler, run, work) {
+            return;
+        }
+        backoff.snooze();
+    }
+    unreachable!()
+}
+
+/// Waits for the own stop, and takes no work meanwhile: its result.
+fn collect_quietly<A: Allocator, R: Wait, H: Handler, F: StopFunc>(
+    machine: &Machine<A>,
+    rt: &R,
+    me: &mut Place<A>,
+    handler: &mut H,
+    run: &mut F,
+) -> i32
+    requires at { IsAt machine.now me.old }
+    requires outside { me.old.stops.inside ≡ None }
+    requires begun { me.old.stops.pending ≢ None }
+    ensures collected { HasCollected H.leads F.leads me.old handler.old run.old me.new handler.new run.new result }
+    ensures read { me.new.stops.part.readings ≡ me.old.stops.part.readings }
+{
+    let backoff = Backoff::new();
+    for _ in rt.forever() {
+        match look_done(machine, me) {
+            Some(answer) => return answer,
+            None => {
+                turn(machine, me, handler, run);
+                backoff.snooze();
+            }
+        }
+    }
+    unreachable!()
+}
+
+/// Makes the patch by who holds the gate, and gives the gate up: the patch's answer.
+pub(crate) fn patch<A: Allocator, R: Wait, H: Handler, F: StopFunc>(
+    machine: &Machine<A>,
+    rt: &R,
+    me: &mut Place<A>,
+    handler: &mut H,
+    run: &mut F,
+    work: &Work,
+) -> i32
+    requires at { IsAt machine.now me.old }
+    requires outside { me.old.stops.inside ≡ None }
+    requires gate { me.old.stops.part.holds ≡ true }
+    requires collected { me.old.stops.pending ≡ None }
+    requires several { work.now.kind ≢ Kind.One }
+    requires work { MayBegin machine.now.stops work.now }
+    ensures stopped { HasStopped H.leads F.leads work.now me.old handler.old run.old me.new handler.new run.new result }
+    ensures read { me.new.stops.part.readings ≡ first_readings me.old.stops.number me.old.stops.number work.now }
+{
+    begin(machine, me, work);
+    put_to_all(machine, rt, me, handler, run, work);
+    run_own_patch(machine, rt, me, handler, run, work);
+    let answer = collect_quietly(machine, rt, me, handler, run);
+    give_gate(machine, me);
+    answer
+}
+
+/// Whether the key is on.
+fn read<A: Allocator>(machine: &Machine<A>, me: &mut Place<A>, k: u32) -> bool
+    requires at { IsAt machine.now me.old }
+    requires outside { me.old.stops.inside ≡ None }
+    requires key { k < machine.now.stops.setting.labels.keys }
+    ensures { me.new ≡ record me.old { stops = reads (ReadKey k result) me.old.stops } }
+{
+    // Interrupts are on outside a stop.
+    let _on = me.stops.interrupts_on();
+    match machine.stops.read_key(&mut me.stops, k) {
+        Ok(on) => on,
+        Err(_) => unreachable!(),
+    }
+}
+
+/// Whether the key stands so; then the gate is given up.
+fn stands<A: Allocator>(machine: &Machine<A>, me: &mut Place<A>, k: u32, on: bool) -> bool
+    requires at { IsAt machine.now me.old }
+    requires outside { me.old.stops.inside ≡ None }
+    requires gate { me.old.stops.part.holds ≡ true }
+    requires key { k < machine.now.stops.setting.labels.keys }
+    ensures yes { result ≡ true → me.new ≡ record me.old { stops = gated false (reads (ReadKey k on) me.old.stops) } }
+    ensures no { result ≡ false → (now : Bool) × (me.new ≡ record me.old { stops = reads (ReadKey k now) me.old.stops }) }
+{
+    if read(machine, me, k) != on {
+        return false;
+    }
+    give_gate(machine, me);
+    true
+}
+
+/// Turns a key on or off by this patch, unless it stands so: whether there was a patch.
+pub(crate) fn set<A: Allocator, R: Wait, H: Handler, F: StopFunc>(
+    machine: &Machine<A>,
+    rt: &R,
+    me: &mut Place<A>,
+    handler: &mut H,
+    run: &mut F,
+    k: u32,
+    on: bool,
+    work: &Work,
+) -> bool
+    requires at { IsAt machine.now me.old }
+    requires outside { me.old.stops.inside ≡ None }
+    requires collected { me.old.stops.pending ≡ None }
+    requires key { k < machine.now.stops.setting.labels.keys }
+    requires patch { IsPatchOf machine.now.stops k (state_of on) work.now }
+    requires work { MayBegin machine.now.stops work.now }
+    ensures without { result ≡ false → Works H.leads F.leads me.old handler.old run.old me.new handler.new run.new (with_gate false (own_of me.old)) }
+    ensures stopped { result ≡ true → (v : ℤ) × HasStopped H.leads F.leads work.now me.old handler.old run.old me.new handler.new run.new v }
+    ensures read { Reads me.new.stops (ReadKey k on) }
+    ensures outside { me.new.stops.inside ≡ None }
+{
+    take_gate(machine, rt, me, handler, run);
+    if stands(machine, me, k, on) {
+        return false;
+    }
+    patch(machine, rt, me, handler, run, work);
+    true
+}

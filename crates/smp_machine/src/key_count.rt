@@ -1,0 +1,153 @@
+//! A key's count goes up or down by one: by a nudge where the key stays on, else by a patch.
+
+ghost use Rattle.std.specs.Prelude.{◌≡◌, ◌<◌, None, true, false};
+ghost use Rattle.smp_multi.specs.Nudges.{NudgeAnswers};
+ghost use Rattle.smp_machine.specs.Counts.{step_of, Nudges, Patches, Counts};
+ghost use Rattle.smp_machine.specs.Place.{IsAt};
+
+use crate::key::patch;
+use crate::key_work::patch_work;
+use crate::machine::Machine;
+use crate::place::Place;
+use crate::stop::{give_gate, take_gate};
+use crossbeam_utils::Backoff;
+use smp_labels::Change;
+use smp_mask::SmpError;
+use smp_multi::{Nudge, StopFunc};
+use smp_queue::Handler;
+use std::alloc::Allocator;
+use std::sync::Wait;
+
+/// The change by one.
+fn step(up: bool) -> Change
+    ensures { result ≡ step_of up }
+{
+    if up { Change::Up } else { Change::Down }
+}
+
+/// Tries once to nudge the count.
+fn try_key<A: Allocator>(
+    machine: &Machine<A>,
+    me: &mut Place<A>,
+    k: u32,
+    up: bool,
+) -> Result<Nudge, SmpError>
+    requires at { IsAt machine.now me.old }
+    ensures answers { NudgeAnswers k up me.old.stops me.new.stops result }
+    ensures rest { me.new ≡ record me.old { stops = me.new.stops } }
+{
+    machine.stops.try_key(&mut me.stops, k, up)
+}
+
+/// Nudges the count where the key stays on, and tries again as long as another CPU has changed it meanwhile: false where
+/// the key would turn.
+fn nudge<A: Allocator, R: Wait>(
+    machine: &Machine<A>,
+    rt: &R,
+    me: &mut Place<A>,
+    k: u32,
+    up: bool,
+) -> Result<bool, SmpError>
+    requires at { IsAt machine.now me.old }
+    requires outside { me.old.stops.inside ≡ None }
+    requires key { k < machine.now.stops.setting.labels.keys }
+    ensures nudges { Nudges k up me.old.stops me.new.stops result }
+    ensures rest { me.new ≡ record me.old { stops = me.new.stops } }
+{
+    // Interrupts are on outside a stop.
+    let _on = me.stops.interrupts_on();
+    let backoff = Backoff::new();
+    for _ in rt.forever() {
+        match try_key(machine, me, k, up) {
+            Ok(Nudge::Done) => return Ok(true),
+            Ok(Nudge::Stop) => return Ok(false),
+            Ok(Nudge::Lost) => backoff.snooze(),
+            Err(error) => return Err(error),
+        }
+    }
+    unreachable!()
+}
+
+/// A patch of the count by one, by who holds the gate, which it gives up.
+fn patch_by_one<A: Allocator, R: Wait, H: Handler, F: StopFunc>(
+    machine: &Machine<A>,
+    rt: &R,
+    me: &mut Place<A>,
+    handler: &mut H,
+    run: &mut F,
+    k: u32,
+    up: bool,
+) -> Result<bool, SmpError>
+    requires at { IsAt machine.now me.old }
+    requires outside { me.old.stops.inside ≡ None }
+    requires gate { me.old.stops.part.holds ≡ true }
+    requires collected { me.old.stops.pending ≡ None }
+    requires key { k < machine.now.stops.setting.labels.keys }
+    ensures { Patches H.leads F.leads machine.now.stops k up me.old handler.old run.old me.new handler.new run.new result }
+{
+    let change = step(up);
+    let work = patch_work(&machine.stops, k, change);
+    let answer = patch(machine, rt, me, handler, run, &work);
+    if answer == 0 {
+        Ok(true)
+    } else {
+        Err(SmpError::KeyRange(change.edge()))
+    }
+}
+
+/// Changes the count by one, by who holds the gate, which it gives up: whether there was a patch.
+fn count_at_gate<A: Allocator, R: Wait, H: Handler, F: StopFunc>(
+    machine: &Machine<A>,
+    rt: &R,
+    me: &mut Place<A>,
+    handler: &mut H,
+    run: &mut F,
+    k: u32,
+    up: bool,
+) -> Result<bool, SmpError>
+    requires at { IsAt machine.now me.old }
+    requires outside { me.old.stops.inside ≡ None }
+    requires gate { me.old.stops.part.holds ≡ true }
+    requires collected { me.old.stops.pending ≡ None }
+    requires key { k < machine.now.stops.setting.labels.keys }
+    ensures { Counts H.leads F.leads machine.now.stops k up me.old handler.old run.old me.new handler.new run.new result }
+{
+    match nudge(machine, rt, me, k, up) {
+        Ok(true) => {
+            give_gate(machine, me);
+            Ok(false)
+        }
+        Ok(false) => patch_by_one(machine, rt, me, handler, run, k, up),
+        Err(error) => {
+            give_gate(machine, me);
+            Err(error)
+        }
+    }
+}
+
+/// Changes the count by one: whether there was a patch.
+pub(crate) fn count<A: Allocator, R: Wait, H: Handler, F: StopFunc>(
+    machine: &Machine<A>,
+    rt: &R,
+    me: &mut Place<A>,
+    handler: &mut H,
+    run: &mut F,
+    k: u32,
+    up: bool,
+) -> Result<bool, SmpError>
+    requires at { IsAt machine.now me.old }
+    requires outside { me.old.stops.inside ≡ None }
+    requires gate { me.old.stops.part.holds ≡ false }
+    requires collected { me.old.stops.pending ≡ None }
+    requires key { k < machine.now.stops.setting.labels.keys }
+    ensures { Counts H.leads F.leads machine.now.stops k up me.old handler.old run.old me.new handler.new run.new result }
+{
+    match nudge(machine, rt, me, k, up) {
+        Ok(true) => Ok(false),
+        Ok(false) => {
+            take_gate(machine, rt, me, handler, run);
+            count_at_gate(machine, rt, me, handler, run, k, up)
+        }
+        Err(error) => Err(error),
+    }
+}

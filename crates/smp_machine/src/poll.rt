@@ -1,0 +1,62 @@
+//! A poll: what a CPU does while it waits, and each idle CPU over and over.
+
+ghost use Rattle.std.specs.Prelude.{◌≡◌, true, None};
+ghost use Rattle.smp_machine.specs.Own.{own_of};
+ghost use Rattle.smp_machine.specs.Place.{IsAt};
+ghost use Rattle.smp_machine.specs.Polls.{Polls};
+ghost use Rattle.smp_machine.specs.Works.{Works, LooksOnceOrMore};
+
+use crate::cpu::Cpu;
+use crate::machine::Machine;
+use crate::place::Place;
+use crate::take::take_work;
+use crate::turn::{finish_work, turn};
+use smp_multi::StopFunc;
+use smp_queue::Handler;
+use std::alloc::Allocator;
+use std::sync::Wait;
+
+/// A turn; then, where a work can be taken, turns until it is completed. Afterwards no work is in hand. It may wait; the
+/// CPUs of the work's mask must poll.
+#[tactic(auto, using(crate::proofs::Polls::works_poll))]
+pub(crate) fn poll<A: Allocator, R: Wait, H: Handler, F: StopFunc>(
+    machine: &Machine<A>,
+    rt: &R,
+    me: &mut Place<A>,
+    handler: &mut H,
+    func: &mut F,
+)
+    requires at { IsAt machine.now me.old }
+    ensures works { Works H.leads F.leads me.old handler.old func.old me.new handler.new func.new (own_of me.old) }
+    ensures polls { Polls H.leads F.leads machine.now me.old handler.old func.old me.new handler.new func.new }
+    ensures outside { me.new.stops.inside ≡ None }
+    ensures once { me.old.stops.irq ≡ true → LooksOnceOrMore me.old.calls me.new.calls }
+{
+    turn(machine, me, handler, func);
+    if take_work(machine, rt, me) {
+        finish_work(machine, rt, me, handler, func);
+    }
+}
+
+impl<A: Allocator> Machine<A> {
+    /// A turn, as [`Machine::turn`]; then, where a work can be taken ([`Machine::take_work`]), turns until it is completed.
+    /// Afterwards no work is in hand. One poll takes at most one work.
+    ///
+    /// It takes effect at the steps of these. It may wait: with a stop of several CPUs for the other CPUs of its mask, which
+    /// must poll too.
+    pub fn poll<R: Wait, H: Handler, F: StopFunc>(
+        &self,
+        rt: &R,
+        me: &mut Cpu<A>,
+        handler: &mut H,
+        func: &mut F,
+    )
+        requires at { IsAt self.now me.old }
+        ensures works { Works H.leads F.leads me.old handler.old func.old me.new handler.new func.new (own_of me.old) }
+        ensures polls { Polls H.leads F.leads self.now me.old handler.old func.old me.new handler.new func.new }
+        ensures outside { me.new.stops.inside ≡ None }
+        ensures once { me.old.stops.irq ≡ true → LooksOnceOrMore me.old.calls me.new.calls }
+    {
+        poll(self, rt, &mut me.place, handler, func)
+    }
+}

@@ -1,0 +1,225 @@
+//! A stop, step by step: a CPU takes the gate, begins its stop, puts the work into the queue of each CPU of the mask, and
+//! waits for the result.
+
+ghost use Rattle.std.specs.Prelude.{◌≡◌, ◌≢◌, ◌<◌, ℕ, true, false, if◌then◌else◌, None, MatchOption, [], ◌∷◌, slice_index_or};
+ghost use Rattle.smp_mask.specs.Mask.{members};
+ghost use Rattle.smp_words.specs.Size.{cpus};
+ghost use Rattle.smp_multi.specs.Answers.{answer_in};
+ghost use Rattle.smp_multi.specs.Cpu.{gated, begins, collects};
+ghost use Rattle.smp_multi.specs.Polls.{IsLastResult};
+ghost use Rattle.smp_machine.specs.declared.work_queue.Knows.TheVariants.{Puts};
+ghost use Rattle.smp_machine.specs.Passes.{puts};
+ghost use Rattle.smp_machine.specs.Place.{IsAt};
+ghost use Rattle.smp_machine.specs.Own.{own_of, with_gate, with_put};
+ghost use Rattle.smp_machine.specs.Stops.{MayBegin, item, AreShown, HasCollected, HasStopped};
+ghost use Rattle.smp_machine.specs.WorkQueue.{IsKnown};
+ghost use Rattle.smp_machine.specs.Works.{Works};
+
+use crate::machine::Machine;
+use crate::place::Place;
+use crate::poll::poll;
+use crate::turn::turn;
+use crate::work_queue::Item;
+use crossbeam_utils::Backoff;
+use smp_multi::StopFunc;
+use smp_queue::Handler;
+use smp_words::work::Work;
+use std::alloc::Allocator;
+use std::sync::Wait;
+
+/// Takes the gate, if it is free.
+fn try_gate<A: Allocator>(machine: &Machine<A>, me: &mut Place<A>) -> bool
+    requires at { IsAt machine.now me.old }
+    ensures taken { result ≡ true → me.new ≡ record me.old { stops = gated true me.old.stops } }
+    ensures held { result ≡ false → me.new ≡ me.old }
+{
+    machine.stops.try_gate(&mut me.stops)
+}
+
+/// Takes the gate (`stop_cpus_mutex`), and polls until it is free.
+pub(crate) fn take_gate<A: Allocator, R: Wait, H: Handler, F: StopFunc>(
+    machine: &Machine<A>,
+    rt: &R,
+    me: &mut Place<A>,
+    handler: &mut H,
+    run: &mut F,
+)
+    requires at { IsAt machine.now me.old }
+    requires outside { me.old.stops.inside ≡ None }
+    ensures works { Works H.leads F.leads me.old handler.old run.old me.new handler.new run.new (with_gate true (own_of me.old)) }
+    ensures outside { me.new.stops.inside ≡ None }
+{
+    let backoff = Backoff::new();
+    for _ in rt.forever() {
+        if try_gate(machine, me) {
+            return;
+        }
+        poll(machine, rt, me, handler, run);
+        backoff.snooze();
+    }
+    unreachable!()
+}
+
+/// Gives the gate up.
+pub(crate) fn give_gate<A: Allocator>(machine: &Machine<A>, me: &mut Place<A>)
+    requires at { IsAt machine.now me.old }
+    requires gate { me.old.stops.part.holds ≡ true }
+    ensures { me.new ≡ record me.old { stops = gated false me.old.stops } }
+{
+    match machine.stops.open_gate(&mut me.stops) {
+        Ok(()) => {}
+        Err(_) => unreachable!(),
+    }
+}
+
+/// Opens the own slot for a stop of this work.
+pub(crate) fn begin<A: Allocator>(machine: &Machine<A>, me: &mut Place<A>, work: &Work)
+    requires at { IsAt machine.now me.old }
+    requires gate { me.old.stops.part.holds ≡ true }
+    requires collected { me.old.stops.pending ≡ None }
+    requires work { MayBegin machine.now.stops work.now }
+    ensures { me.new ≡ record me.old { stops = begins work.now me.old.stops } }
+{
+    match machine.stops.begin(&mut me.stops, *work) {
+        Ok(()) => {}
+        Err(_) => unreachable!(),
+    }
+}
+
+/// Puts the work into this CPU's queue; false where that was full.
+fn try_put<A: Allocator, R: Wait>(
+    machine: &Machine<A>,
+    rt: &R,
+    me: &mut Place<A>,
+    cpu: u32,
+    work: &Work,
+) -> bool
+    requires at { IsAt machine.now me.old }
+    requires within { cpu < cpus }
+    ensures put { result ≡ true → me.new ≡ record me.old { passes = puts cpu (item me.old.stops.number work.now) me.old.passes } }
+    ensures shown { result ≡ true → IsKnown (Puts me.old.stops.number (slice_index_or me.new.passes.put cpu [])) }
+    ensures full { result ≡ false → me.new ≡ me.old }
+{
+    let slot = me.number();
+    let item = Item { slot, work: *work };
+    machine.queues.put(rt, &mut me.passes, cpu, item)
+}
+
+/// Puts the work into this CPU's queue (`cpu_stop_queue_work`). Where that is full, takes a turn and tries again.
+fn put<A: Allocator, R: Wait, H: Handler, F: StopFunc>(
+    machine: &Machine<A>,
+    rt: &R,
+    me: &mut Place<A>,
+    handler: &mut H,
+    run: &mut F,
+    cpu: u32,
+    work: &Work,
+)
+    requires at { IsAt machine.now me.old }
+    requires outside { me.old.stops.inside ≡ None }
+    requires within { cpu < cpus }
+    ensures works { Works H.leads F.leads me.old handler.old run.old me.new handler.new run.new
+        (with_put (item me.old.stops.number work.now) (cpu ∷ []) (own_of me.old)) }
+    ensures stops { me.new.stops ≡ me.old.stops }
+    ensures shown { IsKnown (Puts me.old.stops.number (slice_index_or me.new.passes.put cpu [])) }
+{
+    let backoff = Backoff::new();
+    for _ in rt.forever() {
+        if try_put(machine, rt, me, cpu, work) {
+            return;
+        }
+        turn(machine, me, handler, run);
+        backoff.snooze();
+    }
+    unreachable!()
+}
+
+/// Puts the work into the queue of each CPU of its mask, ascending (`queue_stop_cpus_work`).
+pub(crate) fn put_to_all<A: Allocator, R: Wait, H: Handler, F: StopFunc>(
+    machine: &Machine<A>,
+    rt: &R,
+    me: &mut Place<A>,
+    handler: &mut H,
+    run: &mut F,
+    work: &Work,
+)
+    requires at { IsAt machine.now me.old }
+    requires outside { me.old.stops.inside ≡ None }
+    ensures works { Works H.leads F.leads me.old handler.old run.old me.new handler.new run.new
+        (with_put (item me.old.stops.number work.now) (members work.now.mask) (own_of me.old)) }
+    ensures stops { me.new.stops ≡ me.old.stops }
+    ensures shown { AreShown me.old.stops.number (members work.now.mask) me.new.passes.put }
+{
+    let mask = work.mask;
+    for cpu in mask.iter() {
+        put(machine, rt, me, handler, run, cpu, work);
+    }
+}
+
+/// The result of the own stop, once all its CPUs have completed.
+pub(crate) fn look_done<A: Allocator>(machine: &Machine<A>, me: &mut Place<A>) -> Option<i32>
+    requires at { IsAt machine.now me.old }
+    requires begun { me.old.stops.pending ≢ None }
+    ensures { MatchOption result (me.new ≡ me.old) (λ v. (word : ℕ) × (v ≡ answer_in word)
+        × (me.new ≡ record me.old { stops = collects word me.old.stops }) × IsLastResult me.new.stops.part word) }
+{
+    match machine.stops.poll_done(&mut me.stops) {
+        Ok(done) => done,
+        Err(_) => unreachable!(),
+    }
+}
+
+/// Polls until the own stop is complete (`wait_for_completion`): its result.
+pub(crate) fn collect<A: Allocator, R: Wait, H: Handler, F: StopFunc>(
+    machine: &Machine<A>,
+    rt: &R,
+    me: &mut Place<A>,
+    handler: &mut H,
+    run: &mut F,
+) -> i32
+    requires at { IsAt machine.now me.old }
+    requires outside { me.old.stops.inside ≡ None }
+    requires begun { me.old.stops.pending ≢ None }
+    ensures { HasCollected H.leads F.leads me.old handler.old run.old me.new handler.new run.new result }
+{
+    let backoff = Backoff::new();
+    for _ in rt.forever() {
+        match look_done(machine, me) {
+            Some(answer) => return answer,
+            None => {
+                poll(machine, rt, me, handler, run);
+                backoff.snooze();
+            }
+        }
+    }
+    unreachable!()
+}
+
+/// A stop of this work: its result. Where it is `long`, the gate is given up only once the stop is complete, else as soon
+/// as its works are queued.
+pub(crate) fn stop<A: Allocator, R: Wait, H: Handler, F: StopFunc>(
+    machine: &Machine<A>,
+    rt: &R,
+    me: &mut Place<A>,
+    handler: &mut H,
+    run: &mut F,
+    work: &Work,
+    long: bool,
+) -> i32
+    requires at { IsAt machine.now me.old }
+    requires outside { me.old.stops.inside ≡ None }
+    requires collected { me.old.stops.pending ≡ None }
+    requires work { MayBegin machine.now.stops work.now }
+    ensures { HasStopped H.leads F.leads work.now me.old handler.old run.old me.new handler.new run.new result }
+{
+    take_gate(machine, rt, me, handler, run);
+    begin(machine, me, work);
+    put_to_all(machine, rt, me, handler, run, work);
+    if long {
+        let answer = collect(machine, rt, me, handler, run);
+        give_gate(machine, me);
+        return answer;
+    }
+    give_gate(machine, me);
+    collect(machine, rt, me, handler, run)
+}

@@ -1,0 +1,58 @@
+//! A CPU takes the front of its own queue.
+
+ghost use Rattle.std.specs.Prelude.{◌≡◌, None};
+ghost use Rattle.smp_machine.specs.Place.{IsAt};
+ghost use Rattle.smp_machine.specs.Takes.{TakesNext, TakesWork};
+
+use crate::cpu::Cpu;
+use crate::machine::Machine;
+use crate::place::Place;
+use std::alloc::Allocator;
+use std::sync::Wait;
+
+/// Takes the front of the own queue and enters its stop: the slot of that. None where the queue was empty, and where the
+/// stop calls this CPU no more: that work is dropped. It may wait while another CPU is between two steps of a put into
+/// this queue.
+pub(crate) fn take_next<A: Allocator, R: Wait>(
+    machine: &Machine<A>,
+    rt: &R,
+    me: &mut Place<A>,
+) -> Option<u32>
+    requires at { IsAt machine.now me.old }
+    requires outside { me.old.stops.inside ≡ None }
+    ensures { TakesNext machine.now me.old me.new result }
+{
+    let item = machine.queues.take(rt, &mut me.passes)?;
+    match machine.stops.enter(&mut me.stops, item.slot) {
+        Ok(_) => Some(item.slot),
+        Err(_) => None,
+    }
+}
+
+/// The same where no work is in hand, and nothing where one is: whether one is then.
+pub(crate) fn take_work<A: Allocator, R: Wait>(
+    machine: &Machine<A>,
+    rt: &R,
+    me: &mut Place<A>,
+) -> bool
+    requires at { IsAt machine.now me.old }
+    ensures { TakesWork machine.now me.old me.new result }
+{
+    me.in_hand() || take_next(machine, rt, me).is_some()
+}
+
+impl<A: Allocator> Machine<A> {
+    /// Where no work is in hand, takes the front of the CPU's own queue and enters its stop
+    /// (`kernel/stop_machine.c: cpu_stopper_thread`); a work whose stop calls the CPU no more is dropped. True where a work is
+    /// in hand afterwards.
+    ///
+    /// The front is taken at the compare-exchange of the queue's head, and entered at the fetch_and that takes the CPU's bit
+    /// from its roll; an empty queue is only looked at. It may wait while another CPU is between two steps of a put into
+    /// this queue. That it finds a work that is there is not promised.
+    pub fn take_work<R: Wait>(&self, rt: &R, me: &mut Cpu<A>) -> bool
+        requires at { IsAt self.now me.old }
+        ensures { TakesWork self.now me.old me.new result }
+    {
+        take_work(self, rt, &mut me.place)
+    }
+}

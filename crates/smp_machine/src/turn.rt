@@ -1,0 +1,162 @@
+//! Turns: a CPU handles its own interrupt and goes on with the work in hand.
+
+ghost use Rattle.std.specs.Prelude.{◌≡◌, ◌≢◌, true, false, None};
+ghost use Rattle.smp_multi.specs.Advance.{IsInRound};
+ghost use Rattle.smp_multi.specs.Cpu.{IsAt as IsAtStops};
+ghost use Rattle.smp_machine.specs.Own.{own_of};
+ghost use Rattle.smp_machine.specs.Place.{IsAt, HasNotLeft};
+ghost use Rattle.smp_machine.specs.Works.{Works, LooksOnce, LooksIfOn, LooksOnceMore, GoesRound, TurnsStop, ReadsAnew};
+
+use crate::cpu::Cpu;
+use crate::machine::Machine;
+use crate::place::Place;
+use crossbeam_utils::Backoff;
+use smp_multi::{StopCpu, StopFunc, StopTable, Turn};
+use smp_queue::Handler;
+use std::alloc::Allocator;
+use std::sync::Wait;
+
+/// Handles the CPU's own interrupt, with interrupts on. Outside the families nothing else of this crate does.
+pub(crate) fn handle_own<A: Allocator, H: Handler>(
+    machine: &Machine<A>,
+    me: &mut Place<A>,
+    handler: &mut H,
+)
+    requires at { IsAt machine.now me.old }
+    requires irq { me.old.stops.irq ≡ true }
+    ensures { LooksOnce H.leads me.old handler.old me.new handler.new }
+{
+    machine.calls.handle(&mut me.calls, handler);
+}
+
+/// The same where interrupts are on; where they are off, nothing.
+pub(crate) fn handle_if_on<A: Allocator, H: Handler>(
+    machine: &Machine<A>,
+    me: &mut Place<A>,
+    handler: &mut H,
+)
+    requires at { IsAt machine.now me.old }
+    ensures { LooksIfOn H.leads me.old handler.old me.new handler.new }
+{
+    if me.stops.interrupts_on() {
+        handle_own(machine, me, handler);
+    }
+}
+
+/// One turn of a stop of several CPUs; it completes where the CPU has left.
+fn go_round<A: Allocator, F: StopFunc>(table: &StopTable<A>, me: &mut StopCpu, func: &mut F) -> Turn
+    requires at { IsAtStops table.now me.old }
+    requires round { IsInRound me.old }
+    ensures { GoesRound F.leads me.old func.old me.new func.new result }
+{
+    match table.advance(me, func) {
+        Ok(Turn::Left) => match table.finish(me) {
+            Ok(()) => Turn::Left,
+            Err(_) => unreachable!(),
+        },
+        Ok(turn) => turn,
+        Err(_) => unreachable!(),
+    }
+}
+
+/// One turn of the stop that the CPU is in: a stop of one CPU runs and is completed.
+fn go_on<A: Allocator, F: StopFunc>(table: &StopTable<A>, me: &mut StopCpu, func: &mut F) -> Turn
+    requires at { IsAtStops table.now me.old }
+    requires inside { me.old.inside ≢ None }
+    requires not_left { HasNotLeft me.old.inside }
+    ensures stops { TurnsStop F.leads me.old func.old me.new func.new result }
+    ensures not_left { HasNotLeft me.new.inside }
+{
+    match table.run_one(me, func) {
+        Ok(_) => Turn::Left,
+        Err(_) => go_round(table, me, func),
+    }
+}
+
+/// One turn of the work in hand, if any.
+pub(crate) fn step<A: Allocator, F: StopFunc>(
+    machine: &Machine<A>,
+    me: &mut Place<A>,
+    func: &mut F,
+) -> Turn
+    requires at { IsAt machine.now me.old }
+    ensures calls { me.new.calls ≡ me.old.calls }
+    ensures passes { me.new.passes ≡ me.old.passes }
+    ensures stops { TurnsStop F.leads me.old.stops func.old me.new.stops func.new result }
+{
+    if !me.stops.in_stop() {
+        return Turn::Same;
+    }
+    go_on(&machine.stops, &mut me.stops, func)
+}
+
+/// Handles the own interrupt where interrupts are on, and then makes one turn of the work in hand, if any. It does not
+/// wait.
+#[tactic(auto, using(crate::proofs::Turns::works_turn))]
+pub(crate) fn turn<A: Allocator, H: Handler, F: StopFunc>(
+    machine: &Machine<A>,
+    me: &mut Place<A>,
+    handler: &mut H,
+    func: &mut F,
+) -> Turn
+    requires at { IsAt machine.now me.old }
+    ensures works { Works H.leads F.leads me.old handler.old func.old me.new handler.new func.new (own_of me.old) }
+    ensures stops { TurnsStop F.leads me.old.stops func.old me.new.stops func.new result }
+    ensures once { me.old.stops.irq ≡ true → LooksOnceMore me.old.calls me.new.calls }
+    ensures off { me.old.stops.irq ≡ false → (me.new.calls ≡ me.old.calls) × (handler.new ≡ handler.old) }
+    ensures passes { me.new.passes ≡ me.old.passes }
+{
+    handle_if_on(machine, me, handler);
+    step(machine, me, func)
+}
+
+/// Turns until the work in hand is completed. It may wait; the CPUs of the work's mask must poll.
+pub(crate) fn finish_work<A: Allocator, R: Wait, H: Handler, F: StopFunc>(
+    machine: &Machine<A>,
+    rt: &R,
+    me: &mut Place<A>,
+    handler: &mut H,
+    func: &mut F,
+)
+    requires at { IsAt machine.now me.old }
+    requires inside { me.old.stops.inside ≢ None }
+    ensures works { Works H.leads F.leads me.old handler.old func.old me.new handler.new func.new (own_of me.old) }
+    ensures outside { me.new.stops.inside ≡ None }
+    ensures read { ReadsAnew me.old.stops me.new.stops }
+    ensures passes { me.new.passes ≡ me.old.passes }
+{
+    let backoff = Backoff::new();
+    for _ in rt.forever() {
+        match turn(machine, me, handler, func) {
+            Turn::Left => return,
+            _ => backoff.snooze(),
+        }
+    }
+    unreachable!()
+}
+
+impl<A: Allocator> Machine<A> {
+    /// One turn: where interrupts are on, one look at the own interrupt word, whose calls the handler hears
+    /// ([`smp_queue::CallTable::handle`]); then, where a work is in hand, one turn of its stop
+    /// (`kernel/stop_machine.c: multi_cpu_stop`), with its completion at the end. `Left` exactly where the work is completed,
+    /// which is so at once with a stop of one CPU; `Same` where none is in hand, or its stop shows no new phase.
+    ///
+    /// No handler runs while interrupts are off. It takes effect at the steps of `handle`, and of
+    /// [`smp_multi::StopTable::run_one`], or of `advance` and `finish`. It does not wait; with a stop of several CPUs each
+    /// CPU of the mask must go on too.
+    pub fn turn<H: Handler, F: StopFunc>(
+        &self,
+        me: &mut Cpu<A>,
+        handler: &mut H,
+        func: &mut F,
+    ) -> Turn
+        requires at { IsAt self.now me.old }
+        ensures works { Works H.leads F.leads me.old handler.old func.old me.new handler.new func.new (own_of me.old) }
+        ensures stops { TurnsStop F.leads me.old.stops func.old me.new.stops func.new result }
+        ensures once { me.old.stops.irq ≡ true → LooksOnceMore me.old.calls me.new.calls }
+        ensures off { me.old.stops.irq ≡ false → (me.new.calls ≡ me.old.calls) × (handler.new ≡ handler.old) }
+        ensures passes { me.new.passes ≡ me.old.passes }
+    {
+        turn(self, &mut me.place, handler, func)
+    }
+}

@@ -1,0 +1,65 @@
+-- What a TLB holds after some calls.
+use Rattle.std.proofs.Common.{◌≡◌, ◌≢◌, ℕ, ◌==◌, not, Bool, true, false, cond, List, [], ◌∷◌, ◌++◌}
+use Rattle.std.proofs.Common.{refl, sym, ap, ◌∙◌, subst, append-nil, append_assoc}
+use Rattle.std.proofs.lemmas.List.Sums.{fold_push}
+use Rattle.std.proofs.lemmas.Bool.{eq-eqb}
+use Rattle.std.proofs.lemmas.Fn.{chained_keeps}
+use Rattle.std.proofs.lemmas.List.Elements.{All-filter, All-weaker, All-push, filter_passes}
+use Rattle.smp_words.specs.declared.call.Call.{Call}
+use Rattle.smp_queue.specs.declared.handler.Heard.{Heard}
+use Rattle.smp_queue.specs.Handling.{Grows, heard_of}
+use Rattle.smp_shootdown.specs.declared.tlb.Entry.{Entry}
+use Rattle.smp_shootdown.specs.Tlb.{without, left_by, left_after, IsGone, AreFlushed}
+
+apart : (a b : ℕ) → not (a == b) ≡ true → a ≢ b
+apart a b h e = let k = ap not (eq-eqb a b e) in let bad : true ≡ false = sym h ∙ k in cc
+
+-- an address space that was flushed is gone
+pub gone : (space : ℕ) (entries : List Entry) → IsGone space (without space entries)
+gone space entries =
+    All-weaker (λ (e : Entry). not (e.space == space) ≡ true) (λ e. e.space ≢ space) (λ e h. apart e.space space h) (without space entries)
+    (filter_passes (λ (e : Entry). not (e.space == space)) entries)
+
+-- what is gone stays gone, whatever else is flushed
+pub still_gone : (space other : ℕ) (entries : List Entry) → IsGone space entries → IsGone space (without other entries)
+still_gone space other entries h = All-filter (λ (e : Entry). not (e.space == other)) (λ e. e.space ≢ space) entries h
+
+pub still_flushed : (calls : List Call) (other : ℕ) (entries : List Entry) → AreFlushed calls entries → AreFlushed calls (without other entries)
+still_flushed calls other entries h =
+    All-weaker (λ (call : Call). call.func ≡ 1 → IsGone call.info entries) (λ call. call.func ≡ 1 → IsGone call.info (without other entries))
+    (λ call k e. still_gone call.info other entries (k e)) calls h
+
+left_flushed : (b : Bool) (calls : List Call) (other : ℕ) (entries : List Entry) → AreFlushed calls entries
+    → AreFlushed calls (cond b (without other entries) entries)
+left_flushed true calls other entries h = still_flushed calls other entries h
+left_flushed false calls other entries h = h
+
+-- one call more
+flushed_more : (calls : List Call) (call : Call) (entries : List Entry) → AreFlushed calls entries
+    → AreFlushed (calls ++ call ∷ []) (left_by (heard_of call) entries)
+flushed_more calls call entries h =
+    All-push (λ (c : Call). c.func ≡ 1 → IsGone c.info (left_by (heard_of call) entries)) calls call
+    (left_flushed (call.func == 1) calls call.info entries h)
+    (λ is. rw (eq-eqb call.func 1 is) (gone call.info entries))
+
+-- by a handler whose calls leave just what `left_by` says
+module _ {H : Type 0} (leads : H → Heard → H → Type 0) (entries : H → List Entry)
+    (leaves : (p : H) (call : Heard) (q : H) → leads p call q → entries q ≡ left_by call (entries p)) where
+  one_more : (old : List Call) (xs : List Call) (q : H) (call : Call) (v : H) → AreFlushed (old ++ xs) (entries q) → leads q (heard_of call) v
+      → AreFlushed (old ++ (xs ++ call ∷ [])) (entries v)
+  one_more old xs q call v h led =
+      subst (λ es. AreFlushed (old ++ (xs ++ call ∷ [])) es) (sym (leaves q (heard_of call) v led))
+      (subst (λ cs. AreFlushed cs (left_by (heard_of call) (entries q))) (append_assoc old xs (call ∷ [])) (flushed_more (old ++ xs) call (entries q) h))
+
+  pub flushed_all : (old : List Call) (before : H) (calls : List Call) (after : H) → AreFlushed old (entries before) → Grows leads before calls after
+      → AreFlushed (old ++ calls) (entries after)
+  flushed_all old before calls after h grows =
+      chained_keeps (λ p call q. leads p (heard_of call) q) (λ xs q. AreFlushed (old ++ xs) (entries q)) (one_more old) calls before after
+      (subst (λ cs. AreFlushed cs (entries before)) (sym (append-nil old)) h) grows
+
+  pub left_all : (before : H) (calls : List Call) (after : H) → Grows leads before calls after → entries after ≡ left_after calls (entries before)
+  left_all before calls after grows =
+      chained_keeps (λ p call q. leads p (heard_of call) q) (λ xs q. entries q ≡ left_after xs (entries before))
+      (λ xs q call v is led. leaves q (heard_of call) v led ∙
+      (ap (left_by (heard_of call)) is ∙ sym (fold_push (λ es c. left_by (heard_of c) es) (entries before) xs call)))
+      calls before after refl grows

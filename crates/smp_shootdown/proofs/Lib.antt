@@ -1,0 +1,2 @@
+-- what a TLB holds after some calls
+pub mod Flushed
