@@ -269,16 +269,13 @@ static bool take_work(struct cpu *me)
 	return me->in_stop;
 }
 
-/* poll: whether it has run a work */
-static bool poll(struct cpu *me)
+static void poll(struct cpu *me)
 {
 	uint32_t step = 0;
 	turn(me);
-	if (!take_work(me))
-		return false;
-	while (!turn(me))
-		snooze(&step);
-	return true;
+	if (take_work(me))
+		while (!turn(me))
+			snooze(&step);
 }
 
 static void take_gate(struct cpu *me)
@@ -369,40 +366,143 @@ static bool set_key(struct cpu *me, uint32_t key, bool on)
 	return true;
 }
 
-/* The workloads. */
-enum { BATCH = 10, GO_ON = 0, END = 1 };
-enum { STOP, STOP_ONE, SET_KEY, WORKLOADS };
-static const char *const names[WORKLOADS] = { "stop", "stop-one", "set-key" };
+/* A change of a count by one without a stop, tried again while others change it: 1 where it is made, 0 where the key
+   would turn, -1 at the end of the range. */
+static int nudge(struct cpu *me, uint32_t key, bool up)
+{
+	uint32_t step = 0;
+	for (;;) {
+		uint64_t count = atomic_load(&me->stops[KEY + key]), found = count, next = up ? count + 1 : count - 1;
+		if (count == (up ? KEY_TOP : 0))
+			return -1;
+		if ((next > 0) != (count > 0))
+			return 0;
+		if (atomic_compare_exchange_strong(&me->stops[KEY + key], &found, next))
+			return 1;
+		snooze(&step);
+	}
+}
+
+/* key_inc and key_dec: 1 where there was a patch, -1 at the end of the range */
+static int count_key(struct cpu *me, uint32_t key, bool up)
+{
+	if (me->in_stop || key >= KEYS)
+		return -1;
+	int moved = nudge(me, key, up);
+	if (moved != 0)
+		return moved < 0 ? -1 : 0;
+	take_gate(me);
+	moved = nudge(me, key, up);
+	int result = moved != 0 ? (moved < 0 ? -1 : 0) : patch_key(me, key, up ? UP : DOWN) == 0 ? 1 : -1;
+	open_gate(me);
+	return result;
+}
+
+/* The workloads; add-1 and add are key-inc-1 and key-inc with a plain atomic increment or decrement in place of each change. */
+enum { BATCH = 10, SHORT_BATCH = 100, GO_ON = 0, COUNT = 1, END = 2 };
+enum { STOP, STOP_ONE, SET_KEY, COUNT_ONE, COUNT_ALL, IDLE, ADD_ONE, ADD_ALL, WORKLOADS };
+static const char *const names[WORKLOADS] = { "stop", "stop-one", "set-key", "key-inc-1", "key-inc", "idle", "add-1", "add" };
 static _Alignas(64) _Atomic uint64_t sign;
 static _Alignas(64) struct cpu cpus[CPUS];
 static int workload;
 
-static void *help(void *given)
+/* Handles and turns; then runs a work of its queue, if there is one. */
+static bool help_once(struct cpu *me)
 {
-	struct cpu *me = given;
+	turn(me);
+	if (!take_work(me))
+		return false;
+	poll(me);
+	return true;
+}
+
+static void answer(struct cpu *me, uint64_t until)
+{
 	uint32_t step = 0;
-	while (atomic_load(&sign) != END) {
-		if (poll(me))
+	while (atomic_load(&sign) < until) {
+		if (help_once(me))
 			step = 0;
 		else
 			snooze(&step);
 	}
+}
+
+static void count_batch(struct cpu *me)
+{
+	for (int i = 0; i < SHORT_BATCH; i++)
+		if (count_key(me, 0, i % 2 == 0) == 0)
+			me->heard += 1;
+}
+
+static void add_batch(struct cpu *me)
+{
+	for (int i = 0; i < SHORT_BATCH; i++) {
+		if (i % 2 == 0)
+			atomic_fetch_add(&me->stops[KEY], 1);
+		else
+			atomic_fetch_sub(&me->stops[KEY], 1);
+	}
+	me->heard += SHORT_BATCH;
+}
+
+static void stop_batch(struct cpu *me)
+{
+	for (int i = 0; i < BATCH; i++) {
+		if (workload == STOP)
+			stop_machine(me, 3, 4);
+		else if (workload == STOP_ONE)
+			stop_one(me, 1, 3, 4);
+		else
+			set_key(me, 0, i % 2 == 0);
+	}
+}
+
+/* One batch: how many operations it has. */
+static uint32_t run_batch(struct cpu *me)
+{
+	switch (workload) {
+	case COUNT_ONE: case COUNT_ALL:
+		count_batch(me);
+		return SHORT_BATCH;
+	case ADD_ONE: case ADD_ALL:
+		add_batch(me);
+		return SHORT_BATCH;
+	case IDLE:
+		for (int i = 0; i < SHORT_BATCH; i++)
+			help_once(me);
+		return SHORT_BATCH;
+	default:
+		stop_batch(me);
+		return BATCH;
+	}
+}
+
+static void *help(void *given)
+{
+	struct cpu *me = given;
+	if (workload != COUNT_ALL && workload != ADD_ALL) {
+		answer(me, END);
+		return NULL;
+	}
+	answer(me, COUNT);
+	if (meter.counts)
+		for (uint64_t i = 0; i < meter.limit; i += SHORT_BATCH)
+			run_batch(me);
+	else
+		while (atomic_load(&sign) != END)
+			run_batch(me);
 	return NULL;
 }
 
-static void stop_many_times(struct cpu *me)
+static void lead(struct cpu *me)
 {
-	bool on = false;
-	do {
-		for (int i = 0; i < BATCH; i++) {
-			if (workload == STOP)
-				stop_machine(me, 3, 4);
-			else if (workload == STOP_ONE)
-				stop_one(me, 1, 3, 4);
-			else
-				set_key(me, 0, on = !on);
-		}
-	} while (lap(BATCH));
+	if (workload == COUNT_ONE || workload == COUNT_ALL || workload == ADD_ONE || workload == ADD_ALL) {
+		set_key(me, 0, true);
+		atomic_store(&sign, COUNT);
+		lap(0);
+	}
+	while (lap(run_batch(me)))
+		;
 	atomic_store(&sign, END);
 }
 
@@ -413,7 +513,7 @@ static void run_threads(uint32_t threads)
 		if (pthread_create(&helpers[i], NULL, help, &cpus[i]))
 			exit(1);
 	begin_meter();
-	stop_many_times(&cpus[0]);
+	lead(&cpus[0]);
 	for (uint32_t i = 1; i < threads; i++)
 		pthread_join(helpers[i], NULL);
 }
@@ -421,7 +521,8 @@ static void run_threads(uint32_t threads)
 static void report(uint32_t asked)
 {
 	static _Alignas(64) word call_words[CALL_WORDS + LINE], stop_words[STOP_WORDS + LINE];
-	uint32_t threads = workload == STOP_ONE ? 2 : asked;
+	bool alone = workload == COUNT_ONE || workload == ADD_ONE || workload == IDLE;
+	uint32_t threads = alone ? 1 : workload == STOP_ONE ? 2 : asked;
 	uint64_t calls = 0;
 	memset(call_words, 0, sizeof call_words);
 	memset(stop_words, 0, sizeof stop_words);

@@ -8,6 +8,7 @@
 ghost use Rattle.smp_bench.specs.Threads.{IsLawful};
 
 mod alone;
+mod batch;
 mod error;
 mod meter;
 mod request;

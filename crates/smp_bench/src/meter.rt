@@ -59,6 +59,11 @@ impl<'a, R: Clock + Eprint> Meter<'a, R> {
         Ok(())
     }
 
+    /// How long the workload goes on.
+    pub fn limit(&self) -> Limit {
+        self.limit
+    }
+
     /// How many operations there are to be in all, where they are counted.
     pub fn quota(&self) -> u64 {
         match self.limit {

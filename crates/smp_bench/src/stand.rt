@@ -46,13 +46,15 @@ pub struct Stand<'a> {
     cpu: Cpu<Global>,
     counter: Counter,
     runs: Runs,
+    /// Changes of the key's count that took no stop, modulo 2^64.
+    nudges: u64,
     ghost own: { IsAt machine.now cpu },
 }
 
 impl<'a> Stand<'a> {
-    /// How many stop functions have run here, modulo 2^64.
-    pub fn calls(&self) -> u64 {
-        self.runs.calls
+    /// How many stop functions have run here, and changes of the key's count were made without a stop, modulo 2^64.
+    pub fn done(&self) -> u64 {
+        self.runs.calls.wrapping_add(self.nudges)
     }
 
     /// Handles and turns; then runs a work of its queue, if there is one: whether there was.
@@ -84,6 +86,19 @@ impl<'a> Stand<'a> {
         let (cpu, counter, runs) = (&mut self.cpu, &mut self.counter, &mut self.runs);
         self.machine.set_key(rt, cpu, counter, runs, 0, on).is_ok();
     }
+
+    /// Counts the key up or down by one.
+    pub fn count<R: Wait>(&mut self, rt: &R, up: bool) {
+        let (cpu, counter, runs) = (&mut self.cpu, &mut self.counter, &mut self.runs);
+        let turned = if up {
+            self.machine.key_inc(rt, cpu, counter, runs, 0)
+        } else {
+            self.machine.key_dec(rt, cpu, counter, runs, 0)
+        };
+        if turned == Ok(false) {
+            self.nudges = self.nudges.wrapping_add(1);
+        }
+    }
 }
 
 /// The CPUs of a machine that have no stand yet.
@@ -109,6 +124,7 @@ impl<'a> Stands<'a> {
             cpu,
             counter: Counter { calls: 0 },
             runs: Runs { calls: 0 },
+            nudges: 0,
         })
     }
 }

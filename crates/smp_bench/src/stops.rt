@@ -1,9 +1,11 @@
-//! Stops and patches on a machine.
+//! Threads at a machine, one for each of its CPUs.
 
 ghost use Rattle.smp_bench.specs.Threads.{IsLawful};
 
+use crate::batch::{batches_of, count_batch, run_batch};
 use crate::error::BenchError;
 use crate::meter::{Measured, Meter};
+use crate::request::Limit;
 use crate::stand::{Stand, Stands, label};
 use crate::workload::Workload;
 use crossbeam_utils::{Backoff, CachePadded};
@@ -16,34 +18,42 @@ use std::thread;
 use std::thread::Threads;
 use std::time::Clock;
 
-/// Stops that are timed together.
-const BATCH: u32 = 10;
+/// What the threads are told: to count, where they do; that the first thread is through; or to leave at once, where one
+/// of them could not be started.
+const COUNT: u64 = 1;
+
+const OVER: u64 = 2;
+
+const LEAVE: u64 = 3;
 
 /// What the threads share beside the machine.
 #[derive(Drop)]
 struct Progress {
-    /// 1 once the first thread is through.
-    over: AtomicU64,
-    /// How many calls of stop functions the threads have told that are through.
-    calls: AtomicU64,
+    sign: AtomicU64,
+    /// What the threads that are through have done, modulo 2^64.
+    done: AtomicU64,
 }
 
 impl Progress {
-    fn is_over(&self) -> bool {
-        self.over.load(Ordering::SeqCst) == 1
+    fn tell(&self, sign: u64) {
+        self.sign.store(sign, Ordering::SeqCst);
     }
 
-    fn tell(&self, stand: &Stand) {
-        self.calls.fetch_add(stand.calls(), Ordering::SeqCst);
+    /// Whether the threads were told this, or what comes after it.
+    fn is_told(&self, sign: u64) -> bool {
+        self.sign.load(Ordering::SeqCst) >= sign
+    }
+
+    fn note(&self, stand: &Stand) {
+        self.done.fetch_add(stand.done(), Ordering::SeqCst);
     }
 }
 
-/// Polls until the first thread is through.
-fn answer<R: Wait>(rt: &R, mut stand: Stand, progress: &Progress) {
+/// Polls until it is told this.
+fn answer<R: Wait>(rt: &R, stand: &mut Stand, progress: &Progress, sign: u64) {
     let mut backoff = Backoff::new();
     for _ in rt.forever() {
-        if progress.is_over() {
-            progress.tell(&stand);
+        if progress.is_told(sign) {
             return;
         }
         if stand.poll(rt) {
@@ -55,34 +65,72 @@ fn answer<R: Wait>(rt: &R, mut stand: Stand, progress: &Progress) {
     unreachable!()
 }
 
-/// One stop of this workload; a key is turned on and off in turn.
-fn stop_once<R: Wait>(rt: &R, stand: &mut Stand, workload: Workload, on: bool) {
-    match workload {
-        Workload::StopOne => stand.stop_one(rt, 1),
-        Workload::SetKey => stand.set_key(rt, on),
-        _ => stand.stop_all(rt),
+/// Counts the key up and down: so often, or until the first thread is through.
+fn count<R: Wait>(rt: &R, stand: &mut Stand, progress: &Progress, limit: Limit) {
+    if progress.is_told(LEAVE) {
+        return;
     }
+    if let Some(batches) = batches_of(limit) {
+        for _ in 0..batches {
+            count_batch(rt, stand);
+        }
+        return;
+    }
+    for _ in rt.forever() {
+        if progress.is_told(OVER) {
+            return;
+        }
+        count_batch(rt, stand);
+    }
+    unreachable!()
 }
 
-/// Stops until the meter says that it is enough.
-fn lead<R: Wait + Clock + Eprint>(
+/// What a thread beside the first does.
+fn help<R: Wait>(rt: &R, mut stand: Stand, progress: &Progress, workload: Workload, limit: Limit) {
+    match workload {
+        Workload::CountAll => {
+            answer(rt, &mut stand, progress, COUNT);
+            count(rt, &mut stand, progress, limit);
+        }
+        _ => answer(rt, &mut stand, progress, OVER),
+    }
+    progress.note(&stand);
+}
+
+/// Makes batches until the meter says that it is enough.
+fn repeat<R: Wait + Clock + Eprint>(
     rt: &R,
     stand: &mut Stand,
     workload: Workload,
     meter: &mut Meter<R>,
 ) {
     for _ in rt.forever() {
-        for i in 0..BATCH {
-            stop_once(rt, stand, workload, i % 2 == 0);
-        }
-        if !meter.lap(BATCH) {
+        let operations = run_batch(rt, stand, workload);
+        if !meter.lap(operations) {
             return;
         }
     }
     unreachable!()
 }
 
-/// Starts the helpers, and leads where all were started: how many calls of stop functions there were.
+/// What the first thread does, with all others started.
+fn lead<R: Wait + Clock + Eprint>(
+    rt: &R,
+    stand: &mut Stand,
+    progress: &Progress,
+    workload: Workload,
+    meter: &mut Meter<R>,
+) {
+    if workload == Workload::CountOne || workload == Workload::CountAll {
+        // The key is on from here on. The first batch begins only now.
+        stand.set_key(rt, true);
+        progress.tell(COUNT);
+        meter.lap(0);
+    }
+    repeat(rt, stand, workload, meter);
+}
+
+/// Starts the helpers, and leads where all were started: what all of them have done.
 fn run_threads<'a, R: Wait + Threads + Clock + Eprint + Sync>(
     rt: &R,
     mut first: Stand<'a>,
@@ -92,24 +140,25 @@ fn run_threads<'a, R: Wait + Threads + Clock + Eprint + Sync>(
 ) -> Option<u64> {
     // All threads look at it all the time, so that it must share no line with what one of them writes.
     let shared = CachePadded::new(Progress {
-        over: AtomicU64::new(0),
-        calls: AtomicU64::new(0),
+        sign: AtomicU64::new(0),
+        done: AtomicU64::new(0),
     });
     let progress: &Progress = &shared;
+    let limit = meter.limit();
     let mut started = true;
     thread::scope(thread::scope_env(), rt, |scope| {
         for helper in helpers {
-            let spawned = scope.spawn(move || answer(rt, helper, progress));
+            let spawned = scope.spawn(move || help(rt, helper, progress, workload, limit));
             started = started && spawned.is_ok();
         }
         if started {
-            lead(rt, &mut first, workload, meter);
+            lead(rt, &mut first, progress, workload, meter);
         }
-        progress.tell(&first);
-        progress.over.store(1, Ordering::SeqCst);
+        progress.note(&first);
+        progress.tell(if started { OVER } else { LEAVE });
     });
     if started {
-        Some(progress.calls.load(Ordering::SeqCst))
+        Some(progress.done.load(Ordering::SeqCst))
     } else {
         None
     }
@@ -124,7 +173,7 @@ fn first_cpus(count: u32) -> Result<CpuMask, BenchError> {
     Ok(mask)
 }
 
-/// Runs a workload of 2 to 7 threads, one for each CPU of a machine with one key and two sites.
+/// Runs a workload of up to 7 threads, one for each CPU of a machine with one key and two sites.
 pub fn run<R: Wait + Threads + Clock + Eprint + Sync>(
     rt: &R,
     alloc: Global,
@@ -143,6 +192,6 @@ pub fn run<R: Wait + Threads + Clock + Eprint + Sync>(
         helpers.push(stands.stand(number)?)?;
     }
     meter.begin()?;
-    let calls = run_threads(rt, first, helpers, workload, &mut meter);
-    Ok((meter.close()?, calls.ok_or(BenchError::NoThread)?))
+    let done = run_threads(rt, first, helpers, workload, &mut meter);
+    Ok((meter.close()?, done.ok_or(BenchError::NoThread)?))
 }

@@ -19,10 +19,16 @@ pub enum Workload {
     StopOne,
     /// A key is turned on and off in turn by one thread, each time in a stop, while all others poll.
     SetKey,
+    /// A key that is on is counted up and down in turn, outside any stop, by one thread. An operation is one change.
+    CountOne,
+    /// The same by all threads, each for itself. An operation is a change by the first of them.
+    CountAll,
+    /// A CPU polls, and finds neither an interrupt nor a work.
+    Idle,
 }
 
 impl Workload {
-    pub const ALL: [Workload; 8] = [
+    pub const ALL: [Workload; 11] = [
         Workload::PostOne,
         Workload::PostEight,
         Workload::RoundTrip,
@@ -31,6 +37,9 @@ impl Workload {
         Workload::Stop,
         Workload::StopOne,
         Workload::SetKey,
+        Workload::CountOne,
+        Workload::CountAll,
+        Workload::Idle,
     ];
 
     pub fn name(self) -> &'static str {
@@ -43,15 +52,18 @@ impl Workload {
             Workload::Stop => "stop",
             Workload::StopOne => "stop-one",
             Workload::SetKey => "set-key",
+            Workload::CountOne => "key-inc-1",
+            Workload::CountAll => "key-inc",
+            Workload::Idle => "idle",
         }
     }
 
     /// How many threads it has, where so many are asked for.
     pub fn threads(self, asked: u32) -> u32 {
         match self {
-            Workload::PostOne | Workload::PostEight => 1,
+            Workload::PostOne | Workload::PostEight | Workload::CountOne | Workload::Idle => 1,
             Workload::RoundTrip | Workload::StopOne => 2,
-            Workload::Async | Workload::Many | Workload::Stop | Workload::SetKey => asked,
+            _ => asked,
         }
     }
 }
