@@ -1,12 +1,15 @@
 ghost use Rattle.std.specs.Prelude.{◌≡◌};
 
 mod labels;
+mod line;
 mod meetings;
 mod nudges;
 mod patches;
 mod rounds;
 mod threads;
 
+use self::line::Act::{Answer, Begin, Called, Enter, Gate, InStop, Open, Poll, Run};
+use self::line::{Line, play, play_stops};
 use super::*;
 use crate::cell::cell;
 use linked_list_allocator::LocalHeap;
@@ -184,6 +187,17 @@ fn one(cpu: u32, func: u16, arg: u64) -> Result<Work, SmpError> {
     })
 }
 
+/// A Multi stop of function 1.
+fn multi(mask: &str, active: &str) -> Result<Work, SmpError> {
+    Ok(Work {
+        kind: Kind::Multi,
+        mask: mask.parse()?,
+        active: active.parse()?,
+        func: 1,
+        arg: 0,
+    })
+}
+
 /// The count of key 0.
 fn count_of_key(table: &StopTable<Global>) -> u64 {
     table.owner.shared.peek(cell(Word::Key(0)))
@@ -292,53 +306,61 @@ fn give_out(rt: &impl Abort, boot: &mut StopBoot<Global>) {
     }
 }
 
+const BAD: SmpError = SmpError::BadArgument;
+
 #[test]
 fn the_gate_has_one_holder(rt: HostRuntime) -> Result<(), Fail> {
-    let none = LabelMap::empty();
-    let (table, mut boot) = StopTable::new(rt.alloc(), 2, "0-1".parse()?, &none)?;
-    let mut zero = drive(&table, &mut boot, 0)?;
-    let mut one_cpu = drive(&table, &mut boot, 1)?;
-    hold_the_gate(&rt, &mut zero, &mut one_cpu, one(1, 3, 4)?);
+    let lines = [
+        (0, Open(Err(BAD))),
+        (0, Begin(one(1, 3, 4)?, Err(BAD))),
+        (0, Gate(true)),
+        (0, Gate(false)),
+        (1, Gate(false)),
+        (1, Open(Err(BAD))),
+        (0, Open(Ok(()))),
+        (1, Gate(true)),
+    ];
+    assert_eq!(rt; play_stops(rt.alloc(), 2, &[&lines])?, None);
     Ok(())
-}
-
-fn hold_the_gate(rt: &impl Abort, zero: &mut Driver, one_cpu: &mut Driver, work: Work) {
-    let bad = Err(SmpError::BadArgument);
-    assert_eq!(rt; (zero.open_gate(), zero.begin(work)), (bad, bad));
-    assert_eq!(rt; (zero.try_gate(), zero.try_gate()), (true, false));
-    assert_eq!(rt; (one_cpu.try_gate(), one_cpu.open_gate()), (false, bad));
-    assert_eq!(rt; (zero.open_gate(), one_cpu.try_gate()), (Ok(()), true));
 }
 
 #[test]
 fn a_stop_is_entered_by_its_cpus_once(rt: HostRuntime) -> Result<(), Fail> {
-    let none = LabelMap::empty();
-    let (table, mut boot) = StopTable::new(rt.alloc(), 2, "0-1".parse()?, &none)?;
-    let mut zero = drive(&table, &mut boot, 0)?;
-    let mut one_cpu = drive(&table, &mut boot, 1)?;
-    let mask = CpuMask::of(0)?;
-    let work = Work {
-        kind: Kind::Multi,
-        mask,
-        active: mask,
-        func: 1,
-        arg: 0,
-    };
-    enter_once(&rt, &mut zero, &mut one_cpu, &work);
+    let work = multi("0", "0")?;
+    let lines = [
+        (0, Gate(true)),
+        (0, Begin(work, Ok(()))),
+        (1, Enter(0, Err(SmpError::Stale))),
+        (1, Enter(1, Err(SmpError::Stale))),
+        (1, Enter(8, Err(SmpError::Stale))),
+        (1, Enter(32, Err(SmpError::Stale))),
+        (0, Begin(work, Err(SmpError::SlotBusy))),
+        (0, Enter(0, Ok(Kind::Multi))),
+        (0, InStop(true)),
+        (0, Enter(0, Err(SmpError::Stale))),
+        (0, Run(Err(BAD))),
+    ];
+    assert_eq!(rt; play_stops(rt.alloc(), 2, &[&lines])?, None);
     Ok(())
 }
 
-fn enter_once(rt: &impl Abort, zero: &mut Driver, one_cpu: &mut Driver, work: &Work) {
-    assert_eq!(rt; (zero.try_gate(), zero.begin(*work)), (true, Ok(())));
-    for slot in [0, 1, 8, 32] {
-        assert_eq!(rt; one_cpu.enter(slot), Err(SmpError::Stale), "{slot}");
-    }
-    assert_eq!(rt; zero.begin(*work), Err(SmpError::SlotBusy));
-    assert_eq!(rt; zero.enter(0), Ok(Kind::Multi));
-    assert!(rt; zero.cpu.in_stop());
-    assert_eq!(rt; zero.enter(0), Err(SmpError::Stale));
-    let mut func = Answerer::new(9);
-    assert_eq!(rt; zero.run_one(&mut func), Err(SmpError::BadArgument));
+/// This work is refused so.
+fn refused(
+    kind: Kind,
+    mask: &str,
+    active: &str,
+    func: u16,
+    arg: u64,
+    refusal: SmpError,
+) -> Result<Line, SmpError> {
+    let work = Work {
+        kind,
+        mask: mask.parse()?,
+        active: active.parse()?,
+        func,
+        arg,
+    };
+    Ok((0, Begin(work, Err(refusal))))
 }
 
 // E4 before E3: an empty mask, several CPUs in a stop of one, and patches that do not fit.
@@ -349,86 +371,69 @@ fn a_work_that_no_stop_may_have_is_refused(rt: HostRuntime) -> Result<(), Fail> 
         branch: false,
     };
     let labels = LabelMap::new(&[off], 1)?;
-    let (table, mut boot) = StopTable::new(rt.alloc(), 4, "0,2".parse()?, &labels)?;
-    let mut zero = drive(&table, &mut boot, 0)?;
-    refuse_works(&rt, &mut zero)?;
-    Ok(())
-}
-
-fn refuse_works(rt: &impl Abort, zero: &mut Driver) -> Result<(), SmpError> {
-    assert!(rt; zero.try_gate());
     for (kind, mask, active, func, arg, refusal) in [
-        (Kind::Multi, "", "", 0, 0, SmpError::BadArgument),
-        (Kind::One, "0,2", "0,2", 0, 0, SmpError::BadArgument),
-        (Kind::One, "0-1", "0-1", 0, 0, SmpError::BadArgument),
+        (Kind::Multi, "", "", 0, 0, BAD),
+        (Kind::One, "0,2", "0,2", 0, 0, BAD),
+        (Kind::One, "0-1", "0-1", 0, 0, BAD),
         (Kind::One, "1", "1", 0, 0, SmpError::NoStopper),
         (Kind::Multi, "0-2", "0", 0, 0, SmpError::NoStopper),
-        (Kind::Patch, "0", "0", 0, 1, SmpError::BadArgument),
-        (Kind::Patch, "0,2", "2", 0, 1, SmpError::BadArgument),
-        (Kind::Patch, "0,2", "0", 1, 1, SmpError::BadArgument),
-        (Kind::Patch, "0,2", "0", 0, 4, SmpError::BadArgument),
+        (Kind::Patch, "0", "0", 0, 1, BAD),
+        (Kind::Patch, "0,2", "2", 0, 1, BAD),
+        (Kind::Patch, "0,2", "0", 1, 1, BAD),
+        (Kind::Patch, "0,2", "0", 0, 4, BAD),
     ] {
-        let work = Work {
-            kind,
-            mask: mask.parse()?,
-            active: active.parse()?,
-            func,
-            arg,
-        };
-        let refused = zero.begin(work);
-        assert_eq!(rt; refused, Err(refusal), "{mask} {active} {func} {arg}");
+        let lines = [
+            (0, Gate(true)),
+            refused(kind, mask, active, func, arg, refusal)?,
+        ];
+        let fault = play(rt.alloc(), 4, "0,2", 1, &labels, &[&lines])?;
+        assert_eq!(rt; fault, None, "{mask} {active} {func} {arg}");
     }
     Ok(())
 }
 
 #[test]
 fn a_stop_of_one_cpu_runs_its_function_there(rt: HostRuntime) -> Result<(), Fail> {
-    let none = LabelMap::empty();
-    let (table, mut boot) = StopTable::new(rt.alloc(), 2, "0-1".parse()?, &none)?;
-    let mut zero = drive(&table, &mut boot, 0)?;
-    let mut one_cpu = drive(&table, &mut boot, 1)?;
-    run_there(&rt, &mut zero, &mut one_cpu, &one(1, 3, 4)?);
-    laws::is_shown(&table, &one_cpu.cpu);
+    let work = one(1, 3, 4)?;
+    let lines = [
+        (0, Gate(true)),
+        (0, Begin(work, Ok(()))),
+        (0, Poll(Ok(None))),
+        (1, Run(Err(BAD))),
+        (1, Enter(0, Ok(Kind::One))),
+        (1, Run(Ok(9))),
+        (1, Called(1, (1, 3, 4))),
+        (1, Run(Err(BAD))),
+        (0, Poll(Ok(Some(9)))),
+        (0, Poll(Err(BAD))),
+        (0, Begin(work, Ok(()))),
+    ];
+    assert_eq!(rt; play_stops(rt.alloc(), 2, &[&lines])?, None);
     Ok(())
 }
 
-fn run_there(rt: &impl Abort, zero: &mut Driver, one_cpu: &mut Driver, work: &Work) {
-    assert_eq!(rt; (zero.try_gate(), zero.begin(*work)), (true, Ok(())));
-    assert_eq!(rt; zero.poll_done(), Ok(None));
-    enter_and_run(rt, one_cpu);
-    assert_eq!(rt; zero.poll_done(), Ok(Some(9)));
-    assert_eq!(rt; zero.poll_done(), Err(SmpError::BadArgument));
-    assert_eq!(rt; zero.begin(*work), Ok(()));
-}
-
-fn enter_and_run(rt: &impl Abort, one_cpu: &mut Driver) {
-    let mut func = Answerer::new(9);
-    assert_eq!(rt; one_cpu.run_one(&mut func), Err(SmpError::BadArgument));
-    assert_eq!(rt; one_cpu.enter(0), Ok(Kind::One));
-    assert_eq!(rt; one_cpu.run_one(&mut func), Ok(9));
-    assert_eq!(rt; (func.calls, func.last), (1, (1, 3, 4)));
-    assert_eq!(rt; one_cpu.run_one(&mut func), Err(SmpError::BadArgument));
+/// CPU 0 stops itself, with this answer.
+fn stop_itself(work: Work, answer: i32) -> [Line; 6] {
+    [
+        (0, Answer(answer)),
+        (0, Begin(work, Ok(()))),
+        (0, Enter(0, Ok(Kind::One))),
+        (0, Run(Ok(answer))),
+        (0, Poll(Ok(Some(answer)))),
+        (0, Called(1, (0, 65_535, u64::MAX))),
+    ]
 }
 
 #[test]
 fn a_cpu_stops_itself(rt: HostRuntime) -> Result<(), Fail> {
-    let none = LabelMap::empty();
-    let (table, mut boot) = StopTable::new(rt.alloc(), 1, "0".parse()?, &none)?;
-    let mut zero = drive(&table, &mut boot, 0)?;
     let work = one(0, 65_535, u64::MAX)?;
-    assert!(rt; zero.try_gate());
-    for answer in [0, -1, i32::MIN, i32::MAX] {
-        stop_itself(&rt, &mut zero, work, answer);
-    }
+    let parts: [&[Line]; 5] = [
+        &[(0, Gate(true))],
+        &stop_itself(work, 0),
+        &stop_itself(work, -1),
+        &stop_itself(work, i32::MIN),
+        &stop_itself(work, i32::MAX),
+    ];
+    assert_eq!(rt; play_stops(rt.alloc(), 1, &parts)?, None);
     Ok(())
-}
-
-fn stop_itself(rt: &impl Abort, zero: &mut Driver, work: Work, answer: i32) {
-    let mut func = Answerer::new(answer);
-    assert_eq!(rt; (zero.begin(work), zero.enter(0)), (Ok(()), Ok(Kind::One)));
-    assert_eq!(rt;
-        (zero.run_one(&mut func), zero.poll_done()),
-        (Ok(answer), Ok(Some(answer)))
-    );
-    assert_eq!(rt; (func.calls, func.last), (1, (0, 65_535, u64::MAX)));
 }

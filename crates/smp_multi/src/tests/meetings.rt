@@ -190,31 +190,37 @@ fn run<R: Wait>(mut cpu: Driver, rt: &R, hall: &Hall, all: CpuMask) {
     }
 }
 
-/// Runs the four CPUs of a new table, each on a thread of its own: how many saw what they should, and the counter.
-fn run_all<R: Wait + Threads + Sync>(rt: &R, alloc: Global) -> Result<(u64, u64), Fail> {
+/// Runs each of the CPUs on a thread of its own, to the end.
+fn run_threads<R: Wait + Threads + Sync>(
+    rt: &R,
+    drivers: Vec<Driver, Global>,
+    hall: &Hall,
+    all: CpuMask,
+) {
+    let mut started = true;
+    thread::scope(thread::scope_env(), rt, |scope| {
+        for driver in drivers {
+            let spawned = scope.spawn(move || run(driver, rt, hall, all));
+            started = started && spawned.is_ok();
+        }
+        let sign = if started { BEGIN } else { LEAVE };
+        hall.sign.store(sign, Ordering::SeqCst);
+    });
+}
+
+/// Runs the CPUs of a new table in threads: how many saw what they should, and the counter.
+fn run_all<R: Wait + Threads + Sync>(rt: &R, alloc: Global) -> Result<(u64, u64), SmpError> {
     let none = LabelMap::empty();
     let all: CpuMask = "0-3".parse()?;
-    let (table, mut boot) = StopTable::new(alloc, CPUS, all, &none)?;
-    let shared = Hall {
+    let hall = Hall {
         sign: AtomicU64::new(0),
         count: AtomicU64::new(0),
         running: AtomicU64::new(0),
         right: AtomicU64::new(0),
     };
-    let hall = &shared;
-    let zero = drive(&table, &mut boot, 0)?;
-    let one = drive(&table, &mut boot, 1)?;
-    let two = drive(&table, &mut boot, 2)?;
-    let three = drive(&table, &mut boot, 3)?;
-    thread::scope(thread::scope_env(), rt, |scope| {
-        let first = scope.spawn(move || run(zero, rt, hall, all));
-        let second = scope.spawn(move || run(one, rt, hall, all));
-        let third = scope.spawn(move || run(two, rt, hall, all));
-        let fourth = scope.spawn(move || run(three, rt, hall, all));
-        let started = first.is_ok() && second.is_ok() && third.is_ok() && fourth.is_ok();
-        hall.sign
-            .store(if started { BEGIN } else { LEAVE }, Ordering::SeqCst);
-    });
+    let (table, boot) = StopTable::new(alloc, CPUS, all, &none)?;
+    let drivers = Room::new(&table, boot).drive_all(alloc, CPUS)?;
+    run_threads(rt, drivers, &hall, all);
     Ok((
         hall.right.load(Ordering::SeqCst),
         hall.count.load(Ordering::SeqCst),
