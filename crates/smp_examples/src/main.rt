@@ -1,7 +1,7 @@
 //! Replays the examples of the folder that it is run in, and compares what each prints with what is expected of it.
 //!
-//! An example is a script `NAME.smp`, and `NAME.smp.stdout` is what its replay prints. `data` is the folder `examples` of
-//! the repository, so that the gate compares all of them.
+//! An example is a script `NAME.smp`, and `NAME.smp.stdout` is what its replay prints. The examples stand in `data`, so that
+//! the gate compares all of them.
 #![tactic(auto)]
 
 mod compare;
