@@ -18,10 +18,10 @@ fn opening(work: Work) -> [Line; 4] {
 const OUTSIDE: [Line; 2] = [(0, Advance(Err(BAD))), (0, Finish(Err(BAD)))];
 
 /// A turn of a CPU that stops alone, seen in the state word of its slot; it could not complete before.
-fn turn_alone(turn: Turn, next: u64) -> [Line; 5] {
+fn turn_alone(phase: u64, turn: Turn, next: u64) -> [Line; 5] {
     [
         (0, Finish(Err(BAD))),
-        (0, Phase(next - 1)),
+        (0, Phase(phase)),
         (0, Advance(Ok(turn))),
         (0, Phase(next)),
         (0, Interrupts(next == 2 || next == 5)),
@@ -45,10 +45,10 @@ fn a_cpu_stops_alone(rt: HostRuntime) -> Result<(), Fail> {
         &[(0, Answer(-7))],
         &OUTSIDE,
         &opening(multi("0", "0")?),
-        &turn_alone(Turn::Moved(1), 2),
-        &turn_alone(Turn::Moved(2), 3),
-        &turn_alone(Turn::Ran, 4),
-        &turn_alone(Turn::Left, 5),
+        &turn_alone(1, Turn::Moved(1), 2),
+        &turn_alone(2, Turn::Moved(2), 3),
+        &turn_alone(3, Turn::Ran, 4),
+        &turn_alone(4, Turn::Left, 5),
         &END_ALONE,
     ];
     assert_eq!(rt; play_stops(rt.alloc(), 1, &parts)?, None);
