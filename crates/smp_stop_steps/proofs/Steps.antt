@@ -18,3 +18,4 @@ pub mod CompletionSteps
 pub mod CallSteps
 pub mod NoteSteps
 pub mod StateWords
+pub mod AnswerWords

@@ -3,6 +3,7 @@ pub mod Tables
 pub mod Named
 pub mod Values
 pub mod StepLaws
+pub mod Answered
 pub mod Made
 pub mod Opened
 pub mod Begun

@@ -35,6 +35,7 @@ pub mod StopLaws
 pub mod Table
 pub mod Numbers
 pub mod Value
+pub mod AnswerWords
 pub mod Machine
 pub mod New
 pub mod Begins

@@ -3,6 +3,7 @@ use Rattle.std.specs.Prelude.{◌≡◌, ℕ, ◌≤◌, Option, Some, List, len
 use Rattle.smp_labels.specs.Labels.{Labels}
 use Rattle.smp_words.specs.Size.{cpus}
 use Rattle.smp_words.specs.Access.{word_of, seen_of}
+use Rattle.smp_stop_steps.specs.AnswerWords.{AreI32Words, HasI32Answers}
 use Rattle.smp_stop_steps.specs.State.{StopState}
 use Rattle.smp_stop_steps.specs.Tells.{tells}
 use Rattle.smp_stop_steps.specs.Stages.{StopControlValue, StopOutcome, stop_access, stop_outcome, answer_at}
@@ -48,10 +49,13 @@ abbrev pub StopTold : StopsValue → ℕ → StopStage → StopsValue → Type 0
 StopTold old cpu stage new = (p : StopState) → StopShown p old → StopShown (tells (setup_of old.online old.labels) p (stop_seen_at old cpu stage)
     (answer_at stage)) new
 
--- the table is whole, no state word is more than OVER, each CPU has a control, and they show some stops
+-- the table is whole, no state word is more than OVER, each CPU has a control, results and answers are of i32s, and they show
+-- some stops
 pub record AreSoundStops (online : ℕ) (labels : Labels) (table : StopWords) (controls : List StopControlValue) : Type 0 where
   pub sized : length controls ≡ cpus
   pub table_is : IsStopTable table
   pub phases : (s : ℕ) → stop_number table (Slot s field.State) ≤ OVER
+  pub results : AreI32Words (stop_number table)
+  pub answers : (cpu : ℕ) → HasI32Answers (stop_control_of controls cpu)
   pub stops : StopState
   pub shown : StopsShow (setup_of online labels) stops table controls

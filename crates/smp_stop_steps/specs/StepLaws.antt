@@ -1,6 +1,7 @@
 -- What each step that a stop half may make next keeps, beside the stops that it tells.
 use Rattle.std.specs.Prelude.{◌≡◌, ℕ, Some, None}
 use Rattle.smp_words.specs.Access.{word_of, seen_of}
+use Rattle.smp_stop_steps.specs.AnswerWords.{KeepsAnswers}
 use Rattle.smp_stop_steps.specs.Labels.{Change}
 use Rattle.smp_stop_steps.specs.Machine.{stop_seen_at}
 use Rattle.smp_stop_steps.specs.Notes.{NoteFits, StopNoteFits}
@@ -16,7 +17,7 @@ use Rattle.smp_stop_steps.specs.declared.stage.StopStage.{StopStage}
 use Rattle.smp_words.specs.declared.word.Word.{Word}
 
 -- of the step of a CPU at this stage: who may make it, what it does of functions, that a store to a label is one of a patch,
--- and that its note says what it has changed
+-- that its note says what it has changed, and that answers and results stay those of i32s
 pub record KeepsStepLaws (u : Setup) (p : StopState) (at : Word → ℕ) (c : StopControlValue) (me : ℕ) (stage : StopStage) : Type 0 where
   pub premise :
       let access = stop_access u.cpus me c.changes stage in
@@ -25,6 +26,7 @@ pub record KeepsStepLaws (u : Setup) (p : StopState) (at : Word → ℕ) (c : St
   pub functions : FunctionGoes p (state_after u p at c me stage) me (note_then u at c me stage) (answer_at stage)
   pub labels : (change : Change) → label_stored (stop_access u.cpus me c.changes stage) ≡ Some change → IsNextOfPatch p me change
   pub notes : NoteFits p (state_after u p at c me stage) me (note_then u at c me stage)
+  pub answers : KeepsAnswers u at c me stage
 
 -- the same of a stop half, of each CPU that is inside a command
 abbrev pub StepsKeepLaws : StopsValue → StopState → Type 0

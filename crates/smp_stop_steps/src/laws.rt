@@ -82,6 +82,16 @@ pub fn notes_fit()
     ensures { NotesFit }
 {}
 
+ghost use Rattle.smp_stop_steps.specs.AnswerWords.{AnswersAreI32s, AnswersAreTaken};
+
+/// Where each result word, and each answer that a CPU has where it stands, is the word of an `i32`, each step keeps that.
+/// What the function of a command is to answer stays what the command says, until it is called, and `run F A` tells that
+/// answer. `result V` is the `i32` of the whole word that is collected: nothing of an answer is cut, and none spills.
+pub fn answers_are_i32s()
+    ensures steps { AnswersAreI32s }
+    ensures commands { AnswersAreTaken }
+{}
+
 ghost use Rattle.smp_stop_steps.specs.Closings.{LastStoresDone};
 
 /// Where a stop is open with nothing left to do and done still 0, exactly one CPU is before its store of done: the last to

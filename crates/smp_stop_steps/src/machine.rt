@@ -76,6 +76,7 @@ fn new_controls<A: Allocator>(alloc: A) -> Result<Vec<StopControl, A>, AllocErro
 
 impl<A: Allocator> Stops<A> {
     ghost use Rattle.smp_stop_steps.specs.Machine.{IsStepOf, StopTold, stop_access_at};
+    ghost use Rattle.smp_stop_steps.specs.AnswerWords.{AnswersFit};
     ghost use Rattle.smp_stop_steps.specs.Begins.{MayBeginAt, stop_begun};
     ghost use Rattle.smp_stop_steps.specs.StepLaws.{StepsKeepLaws, StopNoteTold};
     ghost use Rattle.smp_stop_steps.specs.Stages.{FitsAccess};
@@ -120,7 +121,6 @@ impl<A: Allocator> Stops<A> {
 
     ghost use Rattle.smp_stop_steps.specs.Starts.{terms_of, stop_refusal, stop_started};
     ghost use Rattle.smp_stop_steps.specs.Table.{stop_number_of};
-    ghost use Rattle.smp_words.specs.Commands.{FitsCommand};
 
     /// What a refusal depends on beside where the CPU stands.
     fn terms(&self, cpu: u32) -> Terms
@@ -147,26 +147,26 @@ impl<A: Allocator> Stops<A> {
 
     /// Puts a CPU that is outside a command at the first stage of one that may start, where that is a command of this
     /// half. It makes no step.
-    pub fn start(&mut self, cpu: u32, command: &Command)
+    pub fn start(&mut self, cpu: u32, command: Command)
         requires cpu { cpu < cpus }
         requires online { has self.old.online cpu ≡ true }
         requires below { (c : ℕ) → has self.old.online c ≡ true → c < cpus }
         requires outside { (stop_control_of self.old.controls cpu).stage ≡ None }
-        requires allowed { stop_refusal self.old cpu command.now ≡ None }
-        requires fits { FitsCommand command.now }
-        ensures started { self.new ≡ stop_started self.old cpu command.now }
+        requires allowed { stop_refusal self.old cpu command ≡ None }
+        ensures started { self.new ≡ stop_started self.old cpu command }
         ensures told { (p : StopState) → StopShown p self.old → StopShown p self.new }
     {
-        if let Some(stage) = self.controls[cpu as usize].first_stage(command) {
+        if let Some(stage) = self.controls[cpu as usize].first_stage(&command) {
             self.begin(cpu, stage);
         }
     }
 
     /// Puts a CPU that is outside a command at the first stage of one that may begin. It makes no step.
-    pub fn begin(&mut self, cpu: u32, stage: StopStage)
+    fn begin(&mut self, cpu: u32, stage: StopStage)
         requires cpu { cpu < cpus }
         requires outside { (stop_control_of self.old.controls cpu).stage ≡ None }
         requires may { MayBeginAt self.old cpu stage }
+        requires answers { AnswersFit stage }
         ensures begun { self.new ≡ stop_begun self.old cpu stage }
         ensures told { (p : StopState) → StopShown p self.old → StopShown p self.new }
     {

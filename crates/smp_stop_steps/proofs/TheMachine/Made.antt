@@ -8,7 +8,10 @@ use Rattle.smp_stop_steps.specs.Table.{StopWords, stop_number}
 use Rattle.smp_stop_steps.specs.Value.{StopsValue, StopsShow, IsStopTable, setup_of, stop_control_of}
 use Rattle.smp_stop_steps.specs.Machine.{AreSoundStops, stop_found_at, stop_seen_at, stop_stepped}
 use Rattle.smp_stop_steps.proofs.Steps.StateWords.{ArePhases}
-use Rattle.smp_stop_steps.proofs.TheMachine.Values.{stop_value_shown, stop_table_shown, stop_phases_kept}
+use Rattle.smp_stop_steps.specs.AnswerWords.{AreI32Words, HasI32Answers}
+use Rattle.smp_stop_steps.proofs.Steps.AnswerWords.{keeps_answers}
+use Rattle.smp_stop_steps.proofs.TheMachine.Answered.{answers_set}
+use Rattle.smp_stop_steps.proofs.TheMachine.Values.{stop_inside_below, stop_value_shown, stop_table_shown, stop_phases_kept, stop_results_kept}
 use Rattle.smp_words.specs.declared.seen.Seen.{Seen}
 use Rattle.smp_stop_steps.specs.declared.stage.StopStage.{StopStage}
 
@@ -39,6 +42,13 @@ module _ (v : StopsValue) (sound : AreSoundStops v.online v.labels v.table v.con
         sound.table_is cpu stage m.at_stage);
     phases = subst (λ (t : StopWords). ArePhases (stop_number t)) (sym m.is_table) (stop_phases_kept (setup_of v.online v.labels) refl sound.stops v.table
         v.controls sound.shown sound.sized sound.table_is cpu stage m.at_stage sound.phases);
+    results = subst (λ (t : StopWords). AreI32Words (stop_number t)) (sym m.is_table) (stop_results_kept (setup_of v.online v.labels) refl sound.stops v.table
+        v.controls sound.shown sound.sized sound.table_is cpu stage m.at_stage sound.results (sound.answers cpu));
+    answers = subst (λ (x : List StopControlValue). (k : ℕ) → HasI32Answers (stop_control_of x k)) (sym m.is_controls)
+        (answers_set v.controls cpu (stop_outcome cpu (stop_control_of v.controls cpu) stage (stop_found_at v cpu stage)).control
+        (stop_inside_below v.controls cpu stage m.at_stage) sound.answers
+        (keeps_answers (setup_of v.online v.labels) (stop_number v.table) sound.results (stop_control_of v.controls cpu) cpu (sound.answers cpu) stage
+        m.at_stage).goes.control);
     stops = tells (setup_of v.online v.labels) sound.stops (stop_seen_at v cpu stage) (answer_at stage);
     shown = made_told sound.stops sound.shown;
   }

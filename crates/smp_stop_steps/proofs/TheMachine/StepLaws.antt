@@ -17,17 +17,20 @@ use Rattle.smp_stop_steps.specs.State.{StopState}
 use Rattle.smp_stop_steps.specs.StepLaws.{StepsKeepLaws, StopNoteTold}
 use Rattle.smp_stop_steps.specs.Table.{stop_number}
 use Rattle.smp_stop_steps.specs.Value.{StopsValue, StopShown, setup_of, stop_control_of}
+use Rattle.smp_stop_steps.specs.Machine.{AreSoundStops}
+use Rattle.smp_stop_steps.proofs.Steps.AnswerWords.{keeps_answers}
 use Rattle.smp_stop_steps.proofs.Steps.CallSteps.{call_step}
 use Rattle.smp_stop_steps.proofs.Steps.NoteSteps.{note_fits}
 use Rattle.smp_stop_steps.proofs.Promises.Patchers.{stores_patch}
 use Rattle.smp_stop_steps.proofs.Promises.Premises.{may_see}
 use Rattle.smp_stop_steps.proofs.TheMachine.Values.{stop_inside_below}
 
-pub steps_keep_laws : (v : StopsValue) (p : StopState) → length v.controls ≡ cpus → StopShown p v → StepsKeepLaws v p
-steps_keep_laws v p sized shown cpu stage e =
+pub steps_keep_laws : (v : StopsValue) (p : StopState) → AreSoundStops v.online v.labels v.table v.controls → StopShown p v → StepsKeepLaws v p
+steps_keep_laws v p sound shown cpu stage e =
     let u = setup_of v.online v.labels in
     let at = stop_number v.table in
     let c = stop_control_of v.controls cpu in
+    let sized = sound.sized in
     let below : cpu < cpus = let low = stop_inside_below v.controls cpu stage e in omega arith in
     let s = shown.sits cpu below in
     record {
@@ -35,6 +38,7 @@ steps_keep_laws v p sized shown cpu stage e =
       functions = (call_step u p at shown.seat shown.source shown.shows c cpu s (shown.carries cpu below) stage e).goes;
       labels = λ change is. stores_patch u p at shown.seat shown.source shown.shows c cpu s stage e change is;
       notes = note_fits u p at shown.seat shown.source shown.shows c cpu s (shown.carries cpu below) stage e;
+      answers = keeps_answers u at sound.results c cpu (sound.answers cpu) stage e;
     }
 
 -- the word of a step of the stop half is one of its table
@@ -77,5 +81,6 @@ pub note_told : (v : StopsValue) (cpu : ℕ) (stage : StopStage) → length v.co
 note_told v cpu stage sized e p shown =
     let u = setup_of v.online v.labels in
     let c = stop_control_of v.controls cpu in
-    let fits = (steps_keep_laws v p sized shown cpu stage e).notes in
+    let below : cpu < cpus = let low = stop_inside_below v.controls cpu stage e in omega arith in
+    let fits = note_fits u p (stop_number v.table) shown.seat shown.source shown.shows c cpu (shown.sits cpu below) (shown.carries cpu below) stage e in
     noted p (state_after u p (stop_number v.table) c cpu stage) cpu (note_then u (stop_number v.table) c cpu stage) u.cpus c.changes stage fits

@@ -10,6 +10,8 @@ use Rattle.smp_words.proofs.Puts.{at_test}
 use Rattle.smp_stop_steps.proofs.Steps.CompletionSteps.{stop_step_shown}
 use Rattle.smp_stop_steps.proofs.Steps.Facts.{work_words}
 use Rattle.smp_stop_steps.proofs.TheMachine.Named.{gate_stays, stage_named, work_in}
+use Rattle.smp_stop_steps.specs.AnswerWords.{AreI32Words, HasI32Answers}
+use Rattle.smp_stop_steps.proofs.Steps.AnswerWords.{keeps_answers}
 use Rattle.smp_stop_steps.proofs.Steps.StateWords.{ArePhases, phases_after}
 use Rattle.smp_stop_steps.proofs.TheMachine.Tables.{IsStopWord, stop_words_by_name, table_after}
 use Rattle.smp_words.specs.Access.{word_of}
@@ -171,6 +173,11 @@ module _ (u : Setup) (few : u.cpus ≡ cpus) (p : StopState) (t : StopWords) (co
   stop_phases_kept h =
       subst ArePhases (sym (stop_words_by_name t is (stop_access u.cpus me c.changes stage) stop_word_named))
       (phases_after u p at v.seat v.source v.shows h c me stage (subst (λ (x : Option StopStage). SitsAt u me c x (v.seat me)) e (v.sits me below).seat))
+
+  -- each result word stays that of an i32
+  pub stop_results_kept : AreI32Words at → HasI32Answers c → AreI32Words (stop_number (stop_words_after t (stop_access u.cpus me c.changes stage)))
+  stop_results_kept h k =
+      subst AreI32Words (sym (stop_words_by_name t is (stop_access u.cpus me c.changes stage) stop_word_named)) (keeps_answers u at h c me k stage e).words
 
   -- the number found fits its type, and there is room for what it makes
   pub stop_found_fits : FitsStop c stage (at (word_of (stop_access u.cpus me c.changes stage)))

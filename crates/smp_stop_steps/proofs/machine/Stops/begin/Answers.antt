@@ -1,10 +1,12 @@
-use Rattle.std.proofs.Common.{◌≡◌, None, List, sym, ◌∙◌, ap, subst, arith}
+use Rattle.std.proofs.Common.{◌≡◌, ◌<◌, None, List, length, sym, ◌∙◌, ap, subst, arith}
 use Rattle.std.proofs.lemmas.List.{get_or_read, length-set}
 use Rattle.std.specs.Prelude.{slice_set}
 use Rattle.smp_stop_steps.specs.State.{StopState}
 use Rattle.smp_stop_steps.specs.Stages.{StopControlValue, stop_goes, stop_outside}
 use Rattle.smp_stop_steps.specs.Begins.{MayBeginAt}
 use Rattle.smp_stop_steps.specs.Value.{StopsValue, StopsShow, setup_of, stop_control_of}
+use Rattle.smp_stop_steps.specs.AnswerWords.{HasI32Answers}
+use Rattle.smp_stop_steps.proofs.TheMachine.Answered.{answers_set}
 use Rattle.smp_stop_steps.proofs.TheMachine.Begun.{begun_value_shown}
 use Rattle.smp_stop_steps.proofs.machine.Stops.begin.Goals as goal
 use Rattle.smp_stop_steps.proofs.machine.Stops.begin.Given as given
@@ -40,11 +42,20 @@ shown_after g c p shown =
     rw (here g c) (begun_value_shown (setup_of c.self.inside.online c.self.inside.labels) p c.self.inside.table items shown c.args.cpu c.requires.cpu
     (omega (arith, c.requires.cpu)) c.args.stage outside may)
 
+-- its answers are of i32s
+long : (g : given.Over) (c : goal.After-self-1 g) → c.args.cpu < length c.self.inside.controls.items
+long g c = let sized = c.self.invariant.sized in omega (arith, c.requires.cpu)
+
+answers_here : (g : given.Over) (c : goal.After-self-1 g) → HasI32Answers c.begin.new.self
+answers_here g c = rw (here g c) record { visit = (c.self.invariant.answers c.args.cpu).visit; stage = c.requires.answers }
+
 pub invariant_of-self : goal.invariant_of-self
 invariant_of-self g c = record {
   sized = length-set c.self.inside.controls.items c.args.cpu c.begin.new.self ∙ c.self.invariant.sized;
   table_is = c.self.invariant.table_is;
   phases = c.self.invariant.phases;
+  results = c.self.invariant.results;
+  answers = answers_set c.self.inside.controls.items c.args.cpu c.begin.new.self (long g c) c.self.invariant.answers (answers_here g c);
   stops = c.self.invariant.stops;
   shown = shown_after g c c.self.invariant.stops c.self.invariant.shown;
 }

@@ -11,4 +11,4 @@ returns g c =
       table = c.self.inside.table;
       controls = c.self.inside.controls.items;
     } in
-    rw (← c.self.view_is) (λ p shown. steps_keep_laws value p c.self.invariant.sized shown)
+    rw (← c.self.view_is) (λ p shown. steps_keep_laws value p c.self.invariant shown)
