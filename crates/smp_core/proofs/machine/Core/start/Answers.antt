@@ -14,7 +14,7 @@ use Rattle.smp_core.proofs.machine.Core.start.Goals as goal
 use Rattle.smp_core.proofs.machine.Core.start.Given as given
 
 -- the core before, over its fields
-abbrev before : (g : given.Over) (c : goal.After-command-3-1 g) → CoreValue
+abbrev before : (g : given.Over) (c : goal.After-start-arg-1 g) → CoreValue
 before g c =
     record {
       nr = c.self.inside.nr;
@@ -24,7 +24,7 @@ before g c =
       stops = c.self.inside.stops;
     }
 
-allowed : (g : given.Over) (c : goal.After-command-3-1 g) → refusal_of (before g c) c.args.cpu c.args.command ≡ None
+allowed : (g : given.Over) (c : goal.After-start-arg-1 g) → refusal_of (before g c) c.args.cpu c.args.command ≡ None
 allowed g c = rw (← c.self.view_is) at (sym c.refusal.ensures ∙ c.in_default.is)
 
 -- the same where the first stage is asked for
@@ -49,11 +49,11 @@ first_stage-stage-requires-clause-record g c =
 pub start-requires-clause-allowed : goal.start-requires-clause-allowed
 start-requires-clause-allowed g c = (may_start (before g c) c.args.cpu c.args.command (allowed g c)).is_stop_allowed
 
-fits : (g : given.Over) (c : goal.After-command-3-1 g) → FitsCommand c.args.command
+fits : (g : given.Over) (c : goal.After-start-arg-1 g) → FitsCommand c.args.command
 fits g c = search rules
 
 -- the core shows the calls that it showed
-shown_after : (g : given.Over) (c : goal.After-command-3-1 g) (calls : CallState) → ValuesShow calls c.self.inside.words.items c.self.inside.controls.items →
+shown_after : (g : given.Over) (c : goal.After-start-arg-1 g) (calls : CallState) → ValuesShow calls c.self.inside.words.items c.self.inside.controls.items →
     ValuesShow calls c.self.inside.words.items (slice_set c.self.inside.controls.items c.args.cpu c.begin.new.self)
 shown_after g c calls shown =
     let controls = c.self.inside.controls.items in
