@@ -1,5 +1,6 @@
 //! What holds of running threads, at any time, of each CPU's value.
 
+ghost use Rattle.std.specs.Prelude.{◌≡◌, true, None};
 ghost use Rattle.smp_queue.specs.Laws.{IsShown as CallsAreShown};
 ghost use Rattle.smp_multi.specs.Laws.{IsShown as StopsAreShown};
 
@@ -15,4 +16,11 @@ pub fn is_shown<A: Allocator>(machine: &Machine<A>, cpu: &Cpu<A>)
 {
     cpu.place.calls.is_shown();
     smp_multi::laws::is_shown(&machine.stops, &cpu.place.stops);
+}
+
+/// Outside a stop a CPU has its interrupts on. It makes no step.
+pub fn interrupts_are_on<A: Allocator>(cpu: &Cpu<A>)
+    ensures { cpu.now.stops.inside ≡ None → cpu.now.stops.irq ≡ true }
+{
+    cpu.place.stops.interrupts_on();
 }

@@ -1,0 +1,18 @@
+-- lines that are answered
+mod Answering
+mod Picking
+-- threads that are joined
+mod Joining
+-- what is printed
+mod Numbering
+mod Yielding
+-- what is read of the labels
+mod Readings
+-- a CPU stays at its machine, and why calls are refused
+mod Staying
+mod Calling
+mod Refusals
+-- lines of a run
+mod Lines
+-- how a run ends
+mod Endings

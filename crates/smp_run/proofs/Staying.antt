@@ -1,0 +1,102 @@
+-- A CPU of a machine stays there, with no work in hand, whatever it calls.
+use Rattle.std.proofs.Common.{◌≡◌, ℕ, ℤ, Bool, true, false, None, inl, inr, Result, Ok, Err, IfOk, IfErr, refl, sym, ap, subst, ◌∙◌}
+use Rattle.smp_mask.specs.Mask.{has}
+use Rattle.smp_mask.specs.declared.error.SmpError.{SmpError}
+use Rattle.smp_mask.specs.declared.error.SmpError.TheVariants as error
+use Rattle.smp_queue.specs.Cpu.{CpuValue as CallCpuValue}
+use Rattle.smp_queue.specs.declared.handler.Heard.{Heard}
+use Rattle.smp_multi.specs.Cpu.{TableValue, IsAt as IsAtStops}
+use Rattle.smp_multi.specs.Names.{Work}
+use Rattle.smp_multi.specs.declared.func.Called.{Called}
+use Rattle.smp_machine.specs.Calls.{KeepsStops}
+use Rattle.smp_machine.specs.Counts.{CountsOr}
+use Rattle.smp_machine.specs.Keys.{Sets}
+use Rattle.smp_machine.specs.Own.{Own}
+use Rattle.smp_machine.specs.Passes.{PassesValue}
+use Rattle.smp_machine.specs.Place.{MachineValue, PlaceValue, IsAt}
+use Rattle.smp_machine.specs.Stops.{HasStopped, RefusedStill}
+use Rattle.smp_machine.specs.Works.{Works}
+use Rattle.smp_machine.proofs.Works.{at_still}
+use Rattle.smp_run.specs.Seats.{IsSeated, IsStill}
+
+-- nothing has changed
+pub still_same : (m : MachineValue) (old new : PlaceValue) → new ≡ old → IsSeated m old → IsStill m old new
+still_same m old new e seated = subst (λ (x : PlaceValue). IsStill m old x) (sym e) (record { seated = seated; number_is = refl })
+
+-- a call of a family
+pub still_called : (m : MachineValue) (old new : PlaceValue) → KeepsStops old new → IsSeated m old → IsStill m old new
+still_called m old new k seated = record {
+  seated = record {
+    at = record {
+      calls = k.same.table_is ∙ seated.at.calls;
+      stops = subst (λ x. IsAtStops m.stops x) (sym k.stops_are) seated.at.stops;
+      queues = ap (λ (x : PassesValue). x.queues) k.passes_are ∙ seated.at.queues;
+    };
+    free = ap (λ x. x.inside) k.stops_are ∙ seated.free;
+    online = subst (λ (n : ℕ). has m.calls.online n ≡ true) (sym k.same.number_is) seated.online;
+  };
+  number_is = k.same.number_is;
+}
+
+pub seated_called : (m : MachineValue) (old new : PlaceValue) → KeepsStops old new → IsSeated m old → IsSeated m new
+seated_called m old new k seated = (still_called m old new k seated).seated
+
+module _ {H F : Type 0} (hears : H → Heard → H → Type 0) (runs : F → Called → F → Type 0) where
+  -- a stretch of work, after which it is in no stop
+  pub still_worked : (m : MachineValue) (old new : PlaceValue) (h h' : H) (f f' : F) (own : Own) → Works hears runs old h f new h' f' own
+      → new.stops.inside ≡ None → IsSeated m old → IsStill m old new
+  still_worked m old new h h' f f' own w outside seated =
+      let number : new.calls.number ≡ old.calls.number = ap (λ (x : CallCpuValue). x.number) w.calls_kept in
+      record {
+        seated = record {
+          at = at_still hears runs w seated.at;
+          free = outside;
+          online = subst (λ (n : ℕ). has m.calls.online n ≡ true) (sym number) seated.online;
+        };
+        number_is = number;
+      }
+
+  -- a stop
+  pub still_stopped : (m : MachineValue) (P : Work → Type 0) (old new : PlaceValue) (h h' : H) (f f' : F) (made : Result ℤ SmpError)
+      → IfOk made (λ v. (work : Work) × P work × HasStopped hears runs work old h f new h' f' v)
+      → IfErr made (λ _. RefusedStill old h f new h' f') → IsSeated m old → IsStill m old new
+  still_stopped m P old new h h' f f' (Ok v) ok err seated = still_worked m old new h h' f f' _ ok.2.works ok.2.outside seated
+  still_stopped m P old new h h' f f' (Err e) ok err seated = still_same m old new err.kept seated
+
+  -- a key that is set
+  pub still_set : (m : MachineValue) (t : TableValue) (k : ℕ) (on : Bool) (old new : PlaceValue) (h h' : H) (f f' : F) (made : Result Bool SmpError)
+      → IfOk made (λ turned. Sets hears runs t k on old h f new h' f' turned) → IfOk made (λ _. new.stops.inside ≡ None)
+      → IfErr made (λ _. RefusedStill old h f new h' f') → IsSeated m old → IsStill m old new
+  still_set m t k on old new h h' f f' (Ok false) sets outside err seated = still_worked m old new h h' f f' _ sets outside seated
+  still_set m t k on old new h h' f f' (Ok true) sets outside err seated = still_worked m old new h h' f f' _ sets.2.1.works outside seated
+  still_set m t k on old new h h' f f' (Err e) sets outside err seated = still_same m old new err.kept seated
+
+  -- a key that is counted
+  pub still_counted : (m : MachineValue) (t : TableValue) (k : ℕ) (up : Bool) (old new : PlaceValue) (h h' : H) (f f' : F) (made : Result Bool SmpError)
+      → CountsOr hears runs t k up old h f new h' f' made → IsSeated m old → IsStill m old new
+  still_counted m t k up old new h h' f f' (Ok false) c seated = still_worked m old new h h' f f' _ c.1.works c.1.outside seated
+  still_counted m t k up old new h h' f f' (Ok true) c seated = still_worked m old new h h' f f' _ c.1.patches.stopped.works c.1.patches.stopped.outside seated
+  still_counted m t k up old new h h' f f' (Err (error.KeyRange e)) (may, (is, inl edge)) seated = still_worked m old new h h' f f' _ edge.works edge.outside seated
+  still_counted m t k up old new h h' f f' (Err (error.KeyRange e)) (may, (is, inr patched)) seated =
+      still_worked m old new h h' f f' _ patched.2.patches.stopped.works patched.2.patches.stopped.outside seated
+  still_counted m t k up old new h h' f f' (Err error.BadArgument) c seated = still_same m old new c.1.kept seated
+  still_counted m t k up old new h h' f f' (Err error.NoStopper) c seated = absurd c.1
+  still_counted m t k up old new h h' f f' (Err error.NoCpu) c seated = absurd c.1
+  still_counted m t k up old new h h' f f' (Err error.Busy) c seated = absurd c.1
+  still_counted m t k up old new h h' f f' (Err error.Contended) c seated = absurd c.1
+  still_counted m t k up old new h h' f f' (Err error.NoMemory) c seated = absurd c.1
+  still_counted m t k up old new h h' f f' (Err error.Stale) c seated = absurd c.1
+  still_counted m t k up old new h h' f f' (Err error.SlotBusy) c seated = absurd c.1
+  still_counted m t k up old new h h' f f' (Err (error.BadScript n cause)) c seated = absurd c.1
+  still_counted m t k up old new h h' f f' (Err error.IdleStep) c seated = absurd c.1
+  still_counted m t k up old new h h' f f' (Err (error.BadMask n)) c seated = absurd c.1
+  still_counted m t k up old new h h' f f' (Err (error.StreamFailed n)) c seated = absurd c.1
+
+  -- the same, part by part
+  pub seated_worked : (m : MachineValue) (old new : PlaceValue) (h h' : H) (f f' : F) (own : Own) → Works hears runs old h f new h' f' own
+      → new.stops.inside ≡ None → IsSeated m old → IsSeated m new
+  seated_worked m old new h h' f f' own w outside seated = (still_worked m old new h h' f f' own w outside seated).seated
+
+  pub number_worked : (old new : PlaceValue) (h h' : H) (f f' : F) (own : Own) → Works hears runs old h f new h' f' own
+      → new.calls.number ≡ old.calls.number
+  number_worked old new h h' f f' own w = ap (λ (x : CallCpuValue). x.number) w.calls_kept

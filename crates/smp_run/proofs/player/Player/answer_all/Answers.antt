@@ -1,0 +1,19 @@
+use Rattle.std.proofs.Common.{rules, ◌∙◌, sym, subst}
+use Rattle.smp_machine.specs.Place.{MachineValue}
+use Rattle.smp_run.specs.Answers.{IsLineAnswer}
+use Rattle.smp_run.specs.Seats.{keys_at}
+use Rattle.smp_run.proofs.Answering.{answered_more}
+use Rattle.smp_run.proofs.player.Player.answer_all.Goals as goal
+
+pub loop-at-preserved : goal.loop-at-preserved
+loop-at-preserved g c =
+    let was = c.loop-at.invariant in let same = was.0 in let more = c.answer_if.ensures.same in
+    let m = c.args.self.now.machine.now in let line = c.index-lines-at.result in let answer = c.answer_if.new.answer in (
+      record { machine_is = more.machine_is ∙ same.machine_is; number_is = more.number_is ∙ same.number_is },
+      search rules,
+      answered_more m.calls.online (keys_at m) c.args.self.now.cpu.calls.number c.args.lines.now c.loop-at.answers c.loop-at.at line answer c.loop-at-test.true was.1
+          c.index-lines-at.is
+          (λ mine. subst (λ (x : MachineValue). IsLineAnswer x.calls.online (keys_at x) line answer) same.machine_is
+          (c.answer_if.ensures.answered (mine ∙ sym same.number_is)))
+          was.2,
+    )

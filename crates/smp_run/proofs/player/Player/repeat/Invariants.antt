@@ -1,0 +1,5 @@
+use Rattle.smp_run.specs.Players.{IsSame}
+use Rattle.smp_run.proofs.player.Player.repeat.Given as goal
+
+abbrev pub invariant-loop : goal.invariant-loop
+invariant-loop g l = IsSame l.initial.self l.self

@@ -1,0 +1,15 @@
+-- what lines answer
+pub mod Answers
+-- a CPU between two lines
+pub mod Seats
+pub mod Players
+-- what threads are given and give back
+pub mod Driven
+-- what they promise
+pub mod Tasks
+-- what a CPU reads of the labels at the end
+pub mod Readings
+-- what a run prints
+pub mod Text
+-- a run as a whole, and a call of `run_script`
+pub mod Runs

@@ -1,0 +1,45 @@
+-- What a CPU reads of the labels at the end of a run.
+use Rattle.std.specs.Prelude.{◌≡◌, ℕ, ◌<◌, Bool, List, [], ◌∷◌, ◌++◌, length, slice_index_or}
+use Rattle.smp_labels.specs.Kinds.{kind_of}
+use Rattle.smp_labels.specs.Labels.{Labels}
+use Rattle.smp_labels.specs.declared.entries.Entry.{Entry}
+use Rattle.smp_labels.specs.declared.kinds.SiteKind.{SiteKind}
+use Rattle.smp_machine.specs.Place.{MachineValue, PlaceValue}
+use Rattle.smp_multi.specs.Names.{Reading, ReadKey, ReadSite}
+use Rattle.smp_multi.specs.Reads.{ReadsOneTable, jumps, reads}
+use Rattle.smp_run.specs.Seats.{IsSeated}
+use Rattle.smp_run.specs.Text.{numbered}
+
+-- one reading more, which one lawful table says with those before it
+pub record ReadsMore (m : MachineValue) (reading : Reading) (old new : PlaceValue) : Type 0 where
+  pub seated : IsSeated m new
+  pub calls_are : new.calls ≡ old.calls
+  pub stops_are : new.stops ≡ reads reading old.stops
+  pub one_table : ReadsOneTable new.stops
+
+abbrev pub key_reading : ℕ → Bool → List Reading
+key_reading k on = ReadKey k on ∷ []
+
+abbrev pub site_reading : ℕ → SiteKind → List Reading
+site_reading i kind = ReadSite i (jumps kind) ∷ []
+
+-- it has read this since
+pub record HasRead (m : MachineValue) (old new : PlaceValue) (readings : List Reading) : Type 0 where
+  pub seated : IsSeated m new
+  pub calls_are : new.calls ≡ old.calls
+  pub setting_is : new.stops.setting ≡ old.stops.setting
+  pub readings_are : new.stops.part.readings ≡ old.stops.part.readings ++ readings
+
+-- these keys, and these sites, each from number 0 on
+abbrev pub keys_read : List Bool → List Reading
+keys_read keys = numbered key_reading 0 keys
+
+abbrev pub sites_read : List SiteKind → List Reading
+sites_read sites = numbered site_reading 0 sites
+
+-- the kind of each site is that of its key's state and its branch
+pub record HaveKinds (labels : Labels) (keys : List Bool) (sites : List SiteKind) : Type 0 where
+  pub keys_sized : length keys ≡ labels.keys
+  pub sites_sized : length sites ≡ length labels.entries
+  pub kinds : (i : ℕ) (e : Entry) (s : SiteKind) (b : Bool) → i < length labels.entries
+      → slice_index_or sites i s ≡ kind_of (slice_index_or keys (slice_index_or labels.entries i e).key b) (slice_index_or labels.entries i e).branch

@@ -1,0 +1,105 @@
+-- A run as a whole, and what a call of `run_script` reads and writes.
+use Rattle.std.specs.Prelude.{◌≡◌, ℕ, ◌<◌, Bool, true, false, List, [], ◌++◌, length, slice_index_or, Option, Some, None, Result, Ok, Err}
+use Rattle.std.specs.Io.KnownBytes.{Appends}
+use Rattle.smp_mask.specs.declared.error.SmpError.{SmpError}
+use Rattle.smp_mask.specs.declared.error.SmpError.TheVariants as errors
+use Rattle.smp_mask.specs.declared.error.Side.TheVariants as sides
+use Rattle.smp_labels.specs.Labels.{Labels}
+use Rattle.smp_labels.specs.declared.kinds.SiteKind.{SiteKind}
+use Rattle.smp_queue.specs.Audit.{Audited, IfDrained, AreEqual}
+use Rattle.smp_queue.specs.Cpu.{TableValue, CpuValue}
+use Rattle.smp_queue.specs.declared.audit.Audit.{Audit}
+use Rattle.smp_queue.specs.declared.audit.Audit.TheVariants as audit
+use Rattle.smp_script.specs.Faults.{Fault}
+use Rattle.smp_script.specs.declared.directive.Directive.{Directive}
+use Rattle.smp_script.specs.declared.mode.Mode.TheVariants.{Run}
+use Rattle.smp_script.specs.declared.outcome.Outcome.{Outcome}
+use Rattle.smp_script.specs.declared.outcome.Outcome.TheVariants.{Done, Left}
+use Rattle.smp_script.specs.Script.{Script, first_line, script_of}
+use Rattle.smp_script.specs.Streams.{Gave, TookFront}
+use Rattle.smp_run.specs.Answers.{IsLineAnswer}
+use Rattle.smp_run.specs.Readings.{HaveKinds}
+use Rattle.smp_run.specs.Text.{ending_text, line_text, numbered}
+use Rattle.smp_run.specs.declared.answer.Answer.{Answer}
+
+abbrev pub is_left : Audit → Bool
+is_left (audit.Drained t) = false
+is_left (audit.Left left) = true
+
+-- one answer for each line, in order, and it is that line's
+pub record AreAnswers (online keys : ℕ) (lines : List Directive) (answers : List Answer) : Type 0 where
+  pub sized : length answers ≡ length lines
+  pub each : (i : ℕ) (l : Directive) (a : Answer) → i < length lines → IsLineAnswer online keys (slice_index_or lines i l) (slice_index_or answers i a)
+
+-- What a run prints: a line for each, in order, with its answer, of which the first is of this number; then, where the
+-- audit is Drained, each pair of CPUs with as many calls run as queued; the keys and the sites; and how the audit ended.
+pub record Prints (nr online : ℕ) (labels : Labels) (first : ℕ) (lines : List Directive) (text : List ℕ) (left : Bool) : Type 0 where
+  pub answers : List Answer
+  pub answered : AreAnswers online labels.keys lines answers
+  pub keys : List Bool
+  pub sites : List SiteKind
+  pub kinds : HaveKinds labels keys sites
+  pub table : TableValue
+  pub last : CpuValue
+  pub ending : Audit
+  pub sizes : (table.nr ≡ nr) × (table.online ≡ online)
+  pub audited : Audited table last ending
+  pub equal : IfDrained ending AreEqual
+  pub left_is : left ≡ is_left ending
+  pub text_is : text ≡ numbered line_text first answers ++ ending_text online keys sites ending
+
+-- the labels of a script: none where it has no labels line
+abbrev pub labels_of : Option Labels → Labels
+labels_of None = record { keys = 0; entries = [] }
+labels_of (Some labels) = labels
+
+-- what the run of a script prints, and whether calls are left
+abbrev pub Printed : Script → List ℕ → Bool → Type 0
+Printed s text left = Prints s.nr s.online (labels_of s.labels) (first_line s.labels) s.directives text left
+
+-- how a run ended
+abbrev pub outcome_of : Bool → Outcome
+outcome_of true = Left
+outcome_of false = Done
+
+-- What was read is a lawful script, and the writer took a front of what a run of it prints.
+pub record WroteFront (before after held holds : Option (List ℕ)) : Type 0 where
+  pub text : List ℕ
+  pub script : Script
+  pub output : List ℕ
+  pub left : Bool
+  pub read : Gave before after text
+  pub lawful : script_of Run text ≡ Ok script
+  pub printed : Printed script output left
+  pub written : TookFront held holds output
+
+-- What was read is a lawful script, what was written is what a run of it prints, and calls are left or none.
+pub record Ran (before after held holds : Option (List ℕ)) (left : Bool) : Type 0 where
+  pub text : List ℕ
+  pub script : Script
+  pub output : List ℕ
+  pub read : Gave before after text
+  pub lawful : script_of Run text ≡ Ok script
+  pub printed : Printed script output left
+  pub written : Appends held holds output
+
+-- What was read is no lawful script, and this is its first fault.
+pub record Refused (before after : Option (List ℕ)) (fault : Fault) : Type 0 where
+  pub text : List ℕ
+  pub read : Gave before after text
+  pub first : script_of Run text ≡ Err fault
+
+-- What a call of `run_script` did, by its answer. `before` and `after` are what the reader has left and
+-- `held` and `holds` what the writer has, where known; `same` says that the writer is as it was.
+abbrev pub Runs : Option (List ℕ) → Option (List ℕ) → Option (List ℕ) → Option (List ℕ) → Type 0 → Bool → Bool → Result Outcome SmpError → Type 0
+-- what was read is a lawful script, and what was written is what a run of it prints: Left exactly where the audit is
+Runs before after held holds same reader writer (Ok Done) = Ran before after held holds false
+Runs before after held holds same reader writer (Ok Left) = Ran before after held holds true
+Runs before after held holds same reader writer (Ok _) = ⊥
+-- what was read is no lawful script, and this is its first fault
+Runs before after held holds same reader writer (Err (errors.BadScript n cause)) = Refused before after (n, cause) × same
+Runs before after held holds same reader writer (Err (errors.StreamFailed sides.Read)) = (reader ≡ true) × same
+-- what was read is a lawful script, and the writer has failed, and has taken a front of what a run of it prints
+Runs before after held holds same reader writer (Err (errors.StreamFailed sides.Write)) = WroteFront before after held holds × (writer ≡ true)
+Runs before after held holds same reader writer (Err errors.NoMemory) = same
+Runs before after held holds same reader writer (Err _) = ⊥

@@ -1,0 +1,278 @@
+//! What a CPU calls, and what is answered.
+
+ghost use Rattle.std.specs.Prelude.{◌≡◌, ◌≤◌, ◌&&◌, true, false, IfSome};
+ghost use Rattle.smp_mask.specs.declared.error.Edge.TheVariants.{Full, Zero};
+ghost use Rattle.smp_calls.specs.Targets.{is_target};
+ghost use Rattle.smp_script.specs.Spelling.{RequestFits};
+ghost use Rattle.smp_run.specs.Answers.{IsAnswer, IsAnyAnswer, IsCount, IsCpus, IsDone, IsNumber, IsRefusedOr, IsTruth};
+ghost use Rattle.smp_run.specs.Answers.{answer_of, call_refusal, key_refusal, one_refusal, two_refusal, says as says_of};
+ghost use Rattle.smp_run.specs.Players.{IsSame};
+ghost use Rattle.smp_run.specs.Seats.{keys_at};
+
+use crate::answer::Answer;
+use crate::pace::Pace;
+use crate::player::Player;
+use crossbeam_utils::Backoff;
+use smp_mask::{CpuMask, SmpError};
+use smp_script::request::{Request, Which};
+use std::sync::Wait;
+
+fn says(which: Which, cpu: u32) -> bool
+    ensures { result ≡ says_of which cpu }
+{
+    match which {
+        Which::All => true,
+        Which::Even => cpu % 2 == 0,
+        Which::Odd => cpu % 2 == 1,
+    }
+}
+
+fn done_or(made: Result<(), SmpError>) -> Answer
+    ensures { result ≡ answer_of (λ _. Answer.Done) made }
+{
+    match made {
+        Ok(()) => Answer::Done,
+        Err(error) => Answer::Refused(error),
+    }
+}
+
+fn cpu_or(made: Result<u32, SmpError>) -> Answer
+    ensures { result ≡ answer_of Answer.Cpu made }
+{
+    match made {
+        Ok(cpu) => Answer::Cpu(cpu),
+        Err(error) => Answer::Refused(error),
+    }
+}
+
+fn cpus_or(made: Result<CpuMask, SmpError>) -> Answer
+    ensures { result ≡ answer_of Answer.Cpus made }
+{
+    match made {
+        Ok(cpus) => Answer::Cpus(cpus),
+        Err(error) => Answer::Refused(error),
+    }
+}
+
+fn number_or(made: Result<i32, SmpError>) -> Answer
+    ensures { result ≡ answer_of Answer.Number made }
+{
+    match made {
+        Ok(answer) => Answer::Number(answer),
+        Err(error) => Answer::Refused(error),
+    }
+}
+
+fn turned_or(made: Result<bool, SmpError>) -> Answer
+    ensures { result ≡ answer_of Answer.Turned made }
+{
+    match made {
+        Ok(turned) => Answer::Turned(turned),
+        Err(error) => Answer::Refused(error),
+    }
+}
+
+impl<'a, P: Pace> Player<'a, P> {
+    /// A poll of the machine: the CPU handles its own interrupt, and takes part in a stop that calls it.
+    #[tactic(auto, using(crate::proofs::Staying::seated_worked, crate::proofs::Staying::number_worked))]
+    pub(crate) fn poll<R: Wait>(&mut self, rt: &R)
+        ensures { IsSame self.old self.new }
+    {
+        self.machine
+            .poll(rt, &mut self.cpu, &mut self.functions, &mut self.echo);
+    }
+
+    #[tactic(auto, using(crate::proofs::Staying::seated_called, crate::proofs::Calling::single_answered))]
+    fn single<R: Wait>(&mut self, rt: &R, wait: bool, dst: u32, func: u16, info: u64) -> Answer
+        ensures same { IsSame self.old self.new }
+        ensures answer { IsRefusedOr (call_refusal self.old.machine.now.calls.online dst) IsDone result }
+    {
+        let (cpu, functions) = (&mut self.cpu, &mut self.functions);
+        let made = self
+            .machine
+            .call_single(rt, cpu, functions, dst, func, info, wait);
+        done_or(made)
+    }
+
+    /// One call by a record of the user; none where the record is busy.
+    #[tactic(auto, using(crate::proofs::Staying::seated_called, crate::proofs::Calling::call_made, crate::proofs::Calling::user_refused))]
+    fn try_user<R: Wait>(
+        &mut self,
+        rt: &R,
+        u: u32,
+        dst: u32,
+        func: u16,
+        info: u64,
+    ) -> Option<Answer>
+        requires { u ≤ 1 }
+        ensures same { IsSame self.old self.new }
+        ensures answer { IfSome result (IsRefusedOr (call_refusal self.old.machine.now.calls.online dst) IsDone) }
+    {
+        let (cpu, functions) = (&mut self.cpu, &mut self.functions);
+        match self
+            .machine
+            .call_async(rt, cpu, functions, u, dst, func, info)
+        {
+            Ok(()) => Some(Answer::Done),
+            Err(SmpError::Busy) => None,
+            Err(error) => Some(Answer::Refused(error)),
+        }
+    }
+
+    /// The same, repeated after a poll while the record is busy.
+    fn user<R: Wait>(&mut self, rt: &R, u: u32, dst: u32, func: u16, info: u64) -> Answer
+        requires { u ≤ 1 }
+        ensures same { IsSame self.old self.new }
+        ensures answer { IsRefusedOr (call_refusal self.old.machine.now.calls.online dst) IsDone result }
+    {
+        let backoff = Backoff::new();
+        for _ in rt.forever() {
+            if let Some(answer) = self.try_user(rt, u, dst, func, info) {
+                return answer;
+            }
+            self.poll(rt);
+            backoff.snooze();
+        }
+        unreachable!()
+    }
+
+    #[tactic(auto, using(crate::proofs::Staying::seated_called, crate::proofs::Calling::any_answered))]
+    fn any<R: Wait>(&mut self, rt: &R, wait: bool, mask: CpuMask, func: u16, info: u64) -> Answer
+        ensures same { IsSame self.old self.new }
+        ensures answer { IsAnyAnswer mask self.old.machine.now.calls.online self.old.cpu.calls.number result }
+    {
+        let (cpu, functions) = (&mut self.cpu, &mut self.functions);
+        let made = self
+            .machine
+            .call_any(rt, cpu, functions, mask, func, info, wait);
+        cpu_or(made)
+    }
+
+    #[tactic(auto, using(crate::proofs::Staying::seated_called, crate::proofs::Calling::many_answered))]
+    fn many<R: Wait>(&mut self, rt: &R, wait: bool, mask: CpuMask, func: u16, info: u64) -> Answer
+        ensures same { IsSame self.old self.new }
+        ensures answer { IsCpus (is_target mask self.old.machine.now.calls.online self.old.cpu.calls.number false) result }
+    {
+        let (cpu, functions) = (&mut self.cpu, &mut self.functions);
+        let made = self
+            .machine
+            .call_many(rt, cpu, functions, mask, func, info, wait);
+        cpus_or(made)
+    }
+
+    #[tactic(auto, using(crate::proofs::Staying::seated_called, crate::proofs::Calling::cond_answered))]
+    fn cond<R: Wait>(
+        &mut self,
+        rt: &R,
+        which: Which,
+        wait: bool,
+        mask: CpuMask,
+        func: u16,
+        info: u64,
+    ) -> Answer
+        ensures same { IsSame self.old self.new }
+        ensures answer { IsCpus (λ c. is_target mask self.old.machine.now.calls.online self.old.cpu.calls.number true c && says_of which c) result }
+    {
+        let asked = |cpu: u32, _info: u64| -> bool
+            ensures { result ≡ says_of which cpu }
+        { says(which, cpu) };
+        let (cpu, functions) = (&mut self.cpu, &mut self.functions);
+        let made = self
+            .machine
+            .each_cpu_cond(rt, cpu, functions, mask, func, info, &asked, wait);
+        cpus_or(made)
+    }
+
+    #[tactic(auto, using(crate::proofs::Staying::still_stopped, crate::proofs::Refusals::one_answered))]
+    fn one<R: Wait>(&mut self, rt: &R, dst: u32, func: u16, arg: u64) -> Answer
+        ensures same { IsSame self.old self.new }
+        ensures answer { IsRefusedOr (one_refusal self.old.machine.now.calls.online dst) IsNumber result }
+    {
+        let _online = self.machine.online();
+        let (cpu, functions, echo) = (&mut self.cpu, &mut self.functions, &mut self.echo);
+        let made = self
+            .machine
+            .stop_one(rt, cpu, functions, echo, dst, func, arg);
+        number_or(made)
+    }
+
+    #[tactic(auto, using(crate::proofs::Staying::still_stopped, crate::proofs::Refusals::two_answered))]
+    fn two<R: Wait>(&mut self, rt: &R, a: u32, b: u32, func: u16, arg: u64) -> Answer
+        ensures same { IsSame self.old self.new }
+        ensures answer { IsRefusedOr (two_refusal self.old.machine.now.calls.online a b) IsNumber result }
+    {
+        let _online = self.machine.online();
+        let (cpu, functions, echo) = (&mut self.cpu, &mut self.functions, &mut self.echo);
+        let made = self
+            .machine
+            .stop_two(rt, cpu, functions, echo, a, b, func, arg);
+        number_or(made)
+    }
+
+    #[tactic(auto, using(crate::proofs::Staying::still_stopped, crate::proofs::Refusals::all_answered))]
+    fn stop_all<R: Wait>(&mut self, rt: &R, active: Option<CpuMask>, func: u16, arg: u64) -> Answer
+        ensures same { IsSame self.old self.new }
+        ensures answer { IsNumber result }
+    {
+        let (cpu, functions, echo) = (&mut self.cpu, &mut self.functions, &mut self.echo);
+        let made = self
+            .machine
+            .stop_machine(rt, cpu, functions, echo, func, arg, active);
+        number_or(made)
+    }
+
+    #[tactic(auto, using(crate::proofs::Staying::still_set, crate::proofs::Refusals::set_answered))]
+    fn set<R: Wait>(&mut self, rt: &R, k: u32, on: bool) -> Answer
+        ensures same { IsSame self.old self.new }
+        ensures answer { IsRefusedOr (key_refusal (keys_at self.old.machine.now) k) IsTruth result }
+    {
+        let (cpu, functions, echo) = (&mut self.cpu, &mut self.functions, &mut self.echo);
+        let made = self.machine.set_key(rt, cpu, functions, echo, k, on);
+        turned_or(made)
+    }
+
+    #[tactic(auto, using(crate::proofs::Staying::still_counted, crate::proofs::Refusals::counted))]
+    fn inc<R: Wait>(&mut self, rt: &R, k: u32) -> Answer
+        ensures same { IsSame self.old self.new }
+        ensures answer { IsRefusedOr (key_refusal (keys_at self.old.machine.now) k) (IsCount Full) result }
+    {
+        let (cpu, functions, echo) = (&mut self.cpu, &mut self.functions, &mut self.echo);
+        let made = self.machine.key_inc(rt, cpu, functions, echo, k);
+        turned_or(made)
+    }
+
+    #[tactic(auto, using(crate::proofs::Staying::still_counted, crate::proofs::Refusals::counted))]
+    fn dec<R: Wait>(&mut self, rt: &R, k: u32) -> Answer
+        ensures same { IsSame self.old self.new }
+        ensures answer { IsRefusedOr (key_refusal (keys_at self.old.machine.now) k) (IsCount Zero) result }
+    {
+        let (cpu, functions, echo) = (&mut self.cpu, &mut self.functions, &mut self.echo);
+        let made = self.machine.key_dec(rt, cpu, functions, echo, k);
+        turned_or(made)
+    }
+
+    /// What a request asks for, once, and its answer.
+    pub(crate) fn make<R: Wait>(&mut self, rt: &R, request: Request) -> Answer
+        requires { RequestFits request }
+        ensures same { IsSame self.old self.new }
+        ensures answer { IsAnswer self.old.machine.now.calls.online (keys_at self.old.machine.now) self.old.cpu.calls.number request result }
+    {
+        match request {
+            Request::Single(wait, dst, func, info) => self.single(rt, wait, dst, func, info),
+            Request::User(u, dst, func, info) => self.user(rt, u, dst, func, info),
+            Request::Any(wait, mask, func, info) => self.any(rt, wait, mask, func, info),
+            Request::Many(wait, mask, func, info) => self.many(rt, wait, mask, func, info),
+            Request::Cond(which, wait, mask, func, info) => {
+                self.cond(rt, which, wait, mask, func, info)
+            }
+            Request::One(dst, func, arg) => self.one(rt, dst, func, u64::from(arg)),
+            Request::Two(a, b, func, arg) => self.two(rt, a, b, func, u64::from(arg)),
+            Request::Machine(active, func, arg) => {
+                self.stop_all(rt, active, func, u64::from(arg))
+            }
+            Request::Set(k, on) => self.set(rt, k, on),
+            Request::Inc(k) => self.inc(rt, k),
+            Request::Dec(k) => self.dec(rt, k),
+        }
+    }
+}

@@ -1,0 +1,31 @@
+//! Runs: each CPU of a script on a thread of its own.
+//!
+//! - `script`: A script from a reader, and what its run prints to a writer.
+//! - `run`: A script, from its lines to the text of its answers.
+//! - `launch`: A thread for each CPU.
+//! - `driver`: What the thread of one CPU does.
+//! - `player`: A CPU at its machine.
+//! - `calls`: What a CPU calls, and what is answered.
+//! - `reading`: What a CPU reads of the labels at the end.
+//! - `pace`: What a caller may do inside handlers, and where a CPU ends.
+//! - `text`: The lines of a run's output.
+#![tactic(auto)]
+
+pub mod answer;
+mod calls;
+mod driver;
+mod launch;
+mod pace;
+mod player;
+mod reading;
+mod run;
+mod script;
+mod text;
+
+pub use answer::Answer;
+pub use pace::{FreePace, Pace};
+pub use run::{Ran, run_lines};
+pub use script::run_script;
+
+#[cfg(test)]
+mod tests;

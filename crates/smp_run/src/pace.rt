@@ -1,0 +1,52 @@
+//! What a caller may do inside handlers, and where a CPU ends.
+
+use smp_multi::StopFunc;
+use smp_queue::Handler;
+
+/// Is told of each call as its function runs, and says which CPUs poll at the end. All threads of a run share it.
+pub trait Pace {
+    /// CPU `cpu` runs a call that CPU `src` has made, on its thread and inside its handler.
+    fn entered(&self, cpu: u32, src: u32, func: u16, info: u64);
+
+    /// Whether this CPU polls once its own lines are done, until all CPUs are done. Asked once of each CPU.
+    fn polls(&self, cpu: u32) -> bool;
+}
+
+/// Does nothing, and lets each CPU poll.
+#[derive(Clone, Copy)]
+pub struct FreePace;
+
+impl Pace for FreePace {
+    fn entered(&self, _cpu: u32, _src: u32, _func: u16, _info: u64) {}
+
+    fn polls(&self, _cpu: u32) -> bool {
+        true
+    }
+}
+
+/// The functions that calls run on a CPU: each tells the pace.
+#[derive(Drop)]
+pub(crate) struct Paced<'a, P: Pace> {
+    pub(crate) pace: &'a P,
+    pub(crate) cpu: u32,
+}
+
+impl<'a, P: Pace> Handler for Paced<'a, P> {
+    ghost leads = { λ before call after. Unit {0} };
+
+    fn call(&mut self, src: u32, func: u16, info: u64) {
+        self.pace.entered(self.cpu, src, func, info);
+    }
+}
+
+/// The functions that stops run: each answers its argument, which is below 2^31 in a script.
+#[derive(Clone, Copy)]
+pub(crate) struct Echo;
+
+impl StopFunc for Echo {
+    ghost leads = { λ before call after. Unit {0} };
+
+    fn run(&mut self, _cpu: u32, _func: u16, arg: u64) -> i32 {
+        i32::try_from(arg).unwrap_or(i32::MAX)
+    }
+}

@@ -1,0 +1,105 @@
+//! What a CPU reads of the labels at the end of a run.
+
+ghost use Rattle.std.specs.Prelude.{◌≡◌, ◌<◌, length, IfOk};
+ghost use Rattle.smp_multi.specs.Names.{ReadKey, ReadSite};
+ghost use Rattle.smp_multi.specs.Reads.{ReadsOneTable, jumps};
+ghost use Rattle.smp_run.specs.Readings.{HasRead, HaveKinds, ReadsMore, keys_read, sites_read};
+ghost use Rattle.smp_run.specs.Seats.{IsSeated, keys_at, sites_at};
+
+use smp_labels::{LabelMap, SiteKind};
+use smp_machine::laws::interrupts_are_on;
+use smp_machine::{Cpu, Machine};
+use std::alloc::{AllocError, Global};
+
+/// Which keys are on, and what stands at each site.
+#[derive(Drop)]
+pub(crate) struct LabelReadings {
+    pub(crate) keys: Vec<bool, Global>,
+    pub(crate) sites: Vec<SiteKind, Global>,
+}
+
+/// Whether a key is on.
+fn read_key(machine: &Machine<Global>, me: &mut Cpu<Global>, k: u32) -> bool
+    requires seated { IsSeated machine.now me.old }
+    requires key { k < keys_at machine.now }
+    ensures { ReadsMore machine.now (ReadKey k result) me.old me.new }
+{
+    interrupts_are_on(me);
+    match machine.read_key(me, k) {
+        Ok(on) => on,
+        Err(_) => unreachable!(),
+    }
+}
+
+/// What stands at a site.
+fn read_site(machine: &Machine<Global>, me: &mut Cpu<Global>, i: u32) -> SiteKind
+    requires seated { IsSeated machine.now me.old }
+    requires site { i < sites_at machine.now }
+    ensures { ReadsMore machine.now (ReadSite i (jumps result)) me.old me.new }
+{
+    interrupts_are_on(me);
+    match machine.read_site(me, i) {
+        Ok(kind) => kind,
+        Err(_) => unreachable!(),
+    }
+}
+
+/// The keys, ascending.
+#[tactic(auto, using(crate::proofs::Readings::none_read))]
+fn read_keys(
+    alloc: Global,
+    machine: &Machine<Global>,
+    me: &mut Cpu<Global>,
+    count: u32,
+) -> Result<Vec<bool, Global>, AllocError>
+    requires seated { IsSeated machine.now me.old }
+    requires count { count ≡ keys_at machine.now }
+    ensures { IfOk result (λ keys. HasRead machine.now me.old me.new (keys_read keys.items) × (length keys.items ≡ count)) }
+{
+    let mut keys = Vec::with_capacity(alloc, count as usize)?;
+    for k in 0..count {
+        let on = read_key(machine, me, k);
+        keys.push(on)?;
+    }
+    Ok(keys)
+}
+
+/// The sites, ascending.
+#[tactic(auto, using(crate::proofs::Readings::none_read))]
+fn read_sites(
+    alloc: Global,
+    machine: &Machine<Global>,
+    me: &mut Cpu<Global>,
+    count: u32,
+) -> Result<Vec<SiteKind, Global>, AllocError>
+    requires seated { IsSeated machine.now me.old }
+    requires count { count ≡ sites_at machine.now }
+    ensures read { IfOk result (λ sites. HasRead machine.now me.old me.new (sites_read sites.items) × (length sites.items ≡ count)) }
+    ensures one { IfOk result (λ _. 0 < count → ReadsOneTable me.new.stops) }
+{
+    let mut sites = Vec::with_capacity(alloc, count as usize)?;
+    for i in 0..count {
+        let kind = read_site(machine, me, i);
+        sites.push(kind)?;
+    }
+    Ok(sites)
+}
+
+/// All keys, and then all sites.
+pub(crate) fn read_labels(
+    alloc: Global,
+    machine: &Machine<Global>,
+    labels: &LabelMap,
+    me: &mut Cpu<Global>,
+) -> Result<LabelReadings, AllocError>
+    requires seated { IsSeated machine.now me.old }
+    requires labels { machine.now.stops.setting.labels ≡ labels.now }
+    ensures seated { IfOk result (λ _. IsSeated machine.now me.new) }
+    ensures kinds { IfOk result (λ r. HaveKinds labels.now r.keys.items r.sites.items) }
+{
+    // Each entry's key is one of the keys.
+    let _words = labels.words();
+    let keys = read_keys(alloc, machine, me, labels.keys())?;
+    let sites = read_sites(alloc, machine, me, labels.sites())?;
+    Ok(LabelReadings { keys, sites })
+}

@@ -1,0 +1,185 @@
+//! A script, from its lines to the text of its answers.
+
+ghost use Rattle.std.specs.Prelude.{◌≡◌, ◌+◌, ◌≤◌, vec_len, string_bytes, IfOk, IfErr, None};
+ghost use Rattle.smp_words.specs.Limits.{AreLimits};
+ghost use Rattle.smp_machine.specs.Place.{IsFull};
+ghost use Rattle.smp_script.specs.Script.{first_line};
+ghost use Rattle.smp_script.specs.MeaningOf.{meaning_of};
+ghost use Rattle.smp_run.specs.Driven.{AreJoined, AreLeft, IsSeat, AreSeats};
+ghost use Rattle.smp_run.specs.Runs.{Printed, Prints, is_left, labels_of};
+ghost use Rattle.smp_run.specs.Seats.{AreLines};
+
+use crate::answer::Answer;
+use crate::driver::Seat;
+use crate::launch::{Driven, run_all};
+use crate::pace::Pace;
+use crate::reading::read_labels;
+use crate::text::{write_answers, write_ending};
+use smp_labels::LabelMap;
+use smp_machine::{Machine, MachineBoot};
+use smp_mask::SmpError;
+use smp_queue::Audit;
+use smp_script::directive::Directive;
+use smp_script::script::Script;
+use std::alloc::{AllocError, Global};
+use std::sync::Wait;
+use std::thread::Threads;
+
+/// What a run printed, and whether calls were left.
+#[derive(Drop)]
+pub struct Ran {
+    pub text: String<Global>,
+    pub left: bool,
+}
+
+/// A seat for this CPU, where it is online, with room for the answer of each line.
+fn seat_one(
+    alloc: Global,
+    machine: &Machine<Global>,
+    boot: &mut MachineBoot<Global>,
+    number: u32,
+    lines: &[Directive],
+) -> Result<Option<Seat>, AllocError>
+    requires { AreLeft machine.now boot.old number }
+    ensures seat { IfOk result (λ s. IsSeat machine.now lines.now number s) }
+    ensures left { IfOk result (λ _. AreLeft machine.now boot.new (number + 1)) }
+{
+    match boot.cpu(number) {
+        Ok(cpu) => {
+            let answers = Vec::from_elem(alloc, Answer::Done, lines.len())?;
+            Ok(Some(Seat { cpu, answers }))
+        }
+        Err(_) => Ok(None),
+    }
+}
+
+/// A seat for each CPU below `nr`.
+fn seat_all(
+    alloc: Global,
+    machine: &Machine<Global>,
+    mut boot: MachineBoot<Global>,
+    nr: u32,
+    lines: &[Directive],
+) -> Result<Vec<Option<Seat>, Global>, AllocError>
+    requires { IsFull boot machine.now }
+    ensures { IfOk result (λ v. (vec_len v ≡ nr) × AreSeats machine.now lines.now nr v.items) }
+{
+    let mut seats = Vec::with_capacity(alloc, nr as usize)?;
+    for number in 0..nr {
+        let seat = seat_one(alloc, machine, &mut boot, number, lines)?;
+        seats.push(seat)?;
+    }
+    Ok(seats)
+}
+
+fn is_left(audit: &Audit) -> bool
+    ensures { result ≡ is_left audit.now }
+{
+    match audit {
+        Audit::Drained(_) => false,
+        Audit::Left(_) => true,
+    }
+}
+
+/// Reads the labels, gives up the machine and its last CPU, and tells the answers, of which the first is of line `first`.
+fn finish(
+    alloc: Global,
+    machine: Machine<Global>,
+    labels: &LabelMap,
+    first: usize,
+    lines: &[Directive],
+    driven: Driven,
+) -> Result<Ran, AllocError>
+    requires limits { AreLimits machine.calls.nr machine.calls.online }
+    requires first { first ≤ 4 }
+    requires labels { machine.stops.setting.labels ≡ labels.now }
+    requires lawful { AreLines machine.calls.online lines.now }
+    requires joined { AreJoined machine lines.now machine.calls.nr driven.last driven.answers.items }
+    ensures { IfOk result (λ r. Prints machine.calls.nr machine.calls.online labels.now first lines.now (string_bytes r.text) r.left) }
+{
+    let Driven { answers, mut last } = driven;
+    let read = read_labels(alloc, &machine, labels, &mut last)?;
+    let online = machine.online();
+    let audit = machine.shutdown(last);
+    let mut text = String::new(alloc);
+    write_answers(&mut text, first, answers.as_slice())?;
+    write_ending(&mut text, online, &read, &audit)?;
+    let left = is_left(&audit);
+    Ok(Ran { text, left })
+}
+
+/// The same from a machine on that has made no call.
+fn run_machine<R: Threads + Wait + Sync, P: Pace + Sync>(
+    rt: &R,
+    alloc: Global,
+    machine: Machine<Global>,
+    boot: MachineBoot<Global>,
+    nr: u32,
+    labels: &LabelMap,
+    first: usize,
+    lines: &[Directive],
+    pace: &P,
+) -> Result<Ran, AllocError>
+    requires limits { AreLimits nr machine.calls.online }
+    requires nr { machine.calls.nr ≡ nr }
+    requires full { IsFull boot machine }
+    requires first { first ≤ 4 }
+    requires labels { machine.stops.setting.labels ≡ labels.now }
+    requires lawful { AreLines machine.calls.online lines.now }
+    ensures { IfOk result (λ r. Prints nr machine.calls.online labels.now first lines.now (string_bytes r.text) r.left) }
+{
+    let seats = seat_all(alloc, &machine, boot, nr, lines)?;
+    let answers = Vec::from_elem(alloc, Answer::Done, lines.len())?;
+    let Some(driven) = run_all(rt, alloc, &machine, lines, pace, seats, answers) else {
+        return Err(AllocError);
+    };
+    finish(alloc, machine, labels, first, lines, driven)
+}
+
+/// The labels of a script: none where it has no labels line.
+fn labels_of<'a>(script: &'a Script<Global>, none: &'a LabelMap) -> &'a LabelMap
+    requires { none.now ≡ labels_of None }
+    ensures { result.now ≡ labels_of script.now.labels }
+{
+    match &script.labels {
+        Some(labels) => labels,
+        None => none,
+    }
+}
+
+/// The number of the first line that asks for something.
+fn first_of(script: &Script<Global>) -> usize
+    ensures value { result ≡ first_line script.now.labels }
+    ensures few { result ≤ 4 }
+{
+    if script.labels.is_some() { 4 } else { 3 }
+}
+
+/// Drives each CPU of a run script that is online on a thread of its own, from a machine with no calls, no stops and all
+/// keys off: what it prints. `NoMemory` where a growth is refused or a thread can't be started. That is before any CPU has
+/// begun, or once all have ended.
+pub fn run_lines<R: Threads + Wait + Sync, P: Pace + Sync>(
+    rt: &R,
+    alloc: Global,
+    script: &Script<Global>,
+    pace: &P,
+) -> Result<Ran, SmpError>
+    requires limits { AreLimits script.now.nr script.now.online }
+    requires lawful { AreLines script.now.online script.now.directives.items }
+    ensures ran { IfOk result (λ r. Printed (meaning_of script.now) (string_bytes r.text) r.left) }
+    ensures err { IfErr result (λ e. e ≡ SmpError.NoMemory) }
+{
+    let none = LabelMap::empty();
+    let labels = labels_of(script, &none);
+    let first = first_of(script);
+    let lines = script.directives.as_slice();
+    let Ok((machine, boot)) = Machine::new(alloc, script.nr, script.online, labels) else {
+        return Err(SmpError::NoMemory);
+    };
+    match run_machine(
+        rt, alloc, machine, boot, script.nr, labels, first, lines, pace,
+    ) {
+        Ok(ran) => Ok(ran),
+        Err(_) => Err(SmpError::NoMemory),
+    }
+}

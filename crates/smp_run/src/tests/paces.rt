@@ -1,0 +1,109 @@
+//! Paces of tests.
+
+use super::*;
+use std::sync::atomic::{AtomicU64, Ordering};
+
+/// How often a handler looks for the other one.
+const TURNS: u32 = 100_000_000;
+
+/// The handlers of CPUs 0 and 1 wait for each other.
+#[derive(Drop)]
+pub struct Meets {
+    zero: AtomicU64,
+    one: AtomicU64,
+    /// How often a handler gave up.
+    late: AtomicU64,
+}
+
+impl Meets {
+    pub fn new() -> Meets {
+        Meets {
+            zero: AtomicU64::new(0),
+            one: AtomicU64::new(0),
+            late: AtomicU64::new(0),
+        }
+    }
+
+    /// Whether both handlers were entered, and neither gave up.
+    pub fn have_met(&self) -> bool {
+        let zero = self.zero.load(Ordering::SeqCst);
+        let one = self.one.load(Ordering::SeqCst);
+        zero == 1 && one == 1 && self.late.load(Ordering::SeqCst) == 0
+    }
+
+    fn meet(&self, mine: &AtomicU64, other: &AtomicU64) {
+        mine.store(1, Ordering::SeqCst);
+        for _ in 0..TURNS {
+            if other.load(Ordering::SeqCst) == 1 {
+                return;
+            }
+        }
+        self.late.fetch_add(1, Ordering::SeqCst);
+    }
+}
+
+impl Pace for Meets {
+    fn entered(&self, cpu: u32, _src: u32, _func: u16, _info: u64) {
+        if cpu == 0 {
+            self.meet(&self.zero, &self.one);
+        }
+        if cpu == 1 {
+            self.meet(&self.one, &self.zero);
+        }
+    }
+
+    fn polls(&self, _cpu: u32) -> bool {
+        true
+    }
+}
+
+/// One CPU does not poll at the end.
+#[derive(Clone, Copy)]
+pub struct Stays(pub u32);
+
+impl Pace for Stays {
+    fn entered(&self, _cpu: u32, _src: u32, _func: u16, _info: u64) {}
+
+    fn polls(&self, cpu: u32) -> bool {
+        cpu != self.0
+    }
+}
+
+/// Counts the calls that run, modulo 2^64, and adds up what they were given.
+#[derive(Drop)]
+pub struct Counts {
+    calls: AtomicU64,
+    sum: AtomicU64,
+}
+
+impl Counts {
+    pub fn new() -> Counts {
+        Counts {
+            calls: AtomicU64::new(0),
+            sum: AtomicU64::new(0),
+        }
+    }
+
+    pub fn calls(&self) -> u64 {
+        self.calls.load(Ordering::SeqCst)
+    }
+
+    pub fn sum(&self) -> u64 {
+        self.sum.load(Ordering::SeqCst)
+    }
+}
+
+impl Pace for Counts {
+    fn entered(&self, cpu: u32, src: u32, func: u16, info: u64) {
+        self.calls.fetch_add(1, Ordering::SeqCst);
+        let given = info
+            .wrapping_add(u64::from(func).wrapping_mul(1000))
+            .wrapping_add(u64::from(src).wrapping_mul(100_000))
+            .wrapping_add(u64::from(cpu).wrapping_mul(1_000_000));
+        self.sum.fetch_add(given, Ordering::SeqCst);
+    }
+
+    fn polls(&self, _cpu: u32) -> bool {
+        true
+    }
+}
