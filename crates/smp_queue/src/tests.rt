@@ -1,7 +1,11 @@
-ghost use Rattle.std.specs.Prelude.{◌≡◌};
+ghost use Rattle.std.specs.Prelude.{◌≡◌, IfOk};
 
 mod audits;
+mod handling;
+mod line;
 
+use self::line::Act::{Done, Post, Queue, Send, Tally as Counts};
+use self::line::{Line, play};
 use super::*;
 use crossbeam_utils::Backoff;
 use linked_list_allocator::LocalHeap;
@@ -17,7 +21,7 @@ use std::test::*;
 use std::thread;
 use std::thread::Threads;
 
-mod handling;
+const BAD: SmpError = SmpError::BadArgument;
 
 /// A CPU with its table.
 #[derive(Drop)]
@@ -38,15 +42,17 @@ impl<'a> Model for Driver<'a> {
 }
 
 impl<'a> Driver<'a> {
-    fn new(table: &'a CallTable<Global>, cpu: CallCpu) -> Driver<'a>
-        requires { cpu.table ≡ table.now.table }
-    {
-        Driver { table, cpu }
-    }
-
-    fn post_as(&mut self, k: u32, to: u32, class: Class, tries: u32) -> Result<bool, SmpError> {
+    fn try_call(
+        &mut self,
+        k: u32,
+        to: u32,
+        class: Class,
+        func: u16,
+        info: u64,
+        tries: u32,
+    ) -> Result<bool, SmpError> {
         self.table
-            .post_within(&mut self.cpu, k, to, class, 1, 1, tries)
+            .post_within(&mut self.cpu, k, to, class, func, info, tries)
     }
 
     fn call(
@@ -57,16 +63,20 @@ impl<'a> Driver<'a> {
         func: u16,
         info: u64,
     ) -> Result<bool, SmpError> {
+        self.try_call(k, to, class, func, info, 1)
+    }
+
+    fn post(&mut self, k: u32, to: u32, tries: u32) -> Result<bool, SmpError> {
+        self.try_call(k, to, Class::Async, 1, 1, tries)
+    }
+
+    fn post_at_any_time<R: Wait>(&mut self, rt: &R, k: u32, to: u32) -> Result<bool, SmpError> {
         self.table
-            .post_within(&mut self.cpu, k, to, class, func, info, 1)
+            .post(rt, &mut self.cpu, k, to, Class::Async, 1, 1)
     }
 
     fn handle<H: Handler>(&mut self, handler: &mut H) -> Handled {
         self.table.handle(&mut self.cpu, handler)
-    }
-
-    fn post(&mut self, k: u32, to: u32, tries: u32) -> Result<bool, SmpError> {
-        self.post_as(k, to, Class::Async, tries)
     }
 
     fn is_done(&mut self, k: u32) -> Result<bool, SmpError> {
@@ -82,16 +92,108 @@ impl<'a> Driver<'a> {
     }
 }
 
+/// A CPU that the table gives out. The boot stays the table's.
+fn seat(
+    table: &CallTable<Global>,
+    boot: &mut Boot<Global>,
+    number: u32,
+) -> Result<CallCpu, SmpError>
+    requires { boot.old.table ≡ table.now }
+    ensures left { boot.new.table ≡ table.now }
+    ensures ok { IfOk result (λ c. c.table ≡ table.now.table) }
+{
+    boot.cpu(number)
+}
+
+/// Posts one call of function 7 with 9, by one try.
+fn post_one(
+    table: &CallTable<Global>,
+    cpu: &mut CallCpu,
+    k: u32,
+    to: u32,
+    class: Class,
+) -> Result<bool, SmpError>
+    requires { cpu.old.table ≡ table.now.table }
+    ensures { cpu.new.table ≡ table.now.table }
+{
+    table.post_within(cpu, k, to, class, 7, 9, 1)
+}
+
+/// Gives up the table and this CPU.
+fn audit_by(table: CallTable<Global>, last: CallCpu) -> Audit
+    requires { last.table ≡ table.table }
+{
+    table.audit(last)
+}
+
+/// The CPUs of a table that are not given out.
+#[derive(Drop)]
+struct Room<'a> {
+    table: &'a CallTable<Global>,
+    boot: Boot<Global>,
+    ghost whole: { boot.table ≡ table.now },
+}
+
+impl<'a> Room<'a> {
+    fn new(table: &'a CallTable<Global>, boot: Boot<Global>) -> Room<'a>
+        requires { boot.table ≡ table.now }
+    {
+        Room { table, boot }
+    }
+
+    /// This CPU.
+    fn drive(&mut self, number: u32) -> Result<Driver<'a>, SmpError> {
+        let table = self.table;
+        let cpu = seat(table, &mut self.boot, number)?;
+        Ok(Driver { table, cpu })
+    }
+
+    /// Adds this CPU.
+    fn drive_one(
+        &mut self,
+        drivers: &mut Vec<Driver<'a>, Global>,
+        number: u32,
+    ) -> Result<(), SmpError> {
+        let driver = self.drive(number)?;
+        if drivers.push(driver).is_err() {
+            return Err(SmpError::NoMemory);
+        }
+        Ok(())
+    }
+
+    /// These CPUs.
+    fn drive_all(
+        &mut self,
+        alloc: Global,
+        numbers: &[u32],
+    ) -> Result<Vec<Driver<'a>, Global>, SmpError> {
+        let mut drivers = Vec::new(alloc);
+        for &number in numbers {
+            self.drive_one(&mut drivers, number)?;
+        }
+        Ok(drivers)
+    }
+}
+
+/// A table that is made so says that these CPUs are online.
+fn online_of(alloc: Global, nr: u32, online: CpuMask) -> Result<CpuMask, SmpError> {
+    let (table, _boot) = CallTable::new(alloc, nr, online)?;
+    Ok(table.online())
+}
+
 #[test]
 fn a_table_has_lawful_limits(rt: HostRuntime) -> Result<(), Fail> {
-    for (nr, cpus) in [(0, "0"), (33, "0"), (2, ""), (2, "2")] {
-        let refused = CallTable::new(rt.alloc(), nr, cpus.parse()?).err();
-        assert_eq!(rt; refused, Some(SmpError::BadArgument), "{nr} {cpus}");
-    }
-    for (nr, cpus) in [(1, "0"), (32, "0-31")] {
+    for (nr, cpus, is_lawful) in [
+        (0, "0", false),
+        (33, "0", false),
+        (2, "", false),
+        (2, "2", false),
+        (1, "0", true),
+        (32, "0-31", true),
+    ] {
         let online: CpuMask = cpus.parse()?;
-        let (table, _) = CallTable::new(rt.alloc(), nr, online)?;
-        assert!(rt; table.online() == online, "{nr} {cpus}");
+        let wanted = if is_lawful { Ok(online) } else { Err(BAD) };
+        assert_eq!(rt; online_of(rt.alloc(), nr, online), wanted, "{nr} {cpus}");
     }
     Ok(())
 }
@@ -99,9 +201,9 @@ fn a_table_has_lawful_limits(rt: HostRuntime) -> Result<(), Fail> {
 #[test]
 fn each_growth_may_be_refused(rt: HostRuntime) -> Result<(), Fail> {
     let online: CpuMask = "0-31".parse()?;
-    // No growth is smaller than 16 bytes, so that each is the first to be refused by some heap.
+    // No growth is smaller than 256 bytes, so that each is the first to be refused by some heap.
     for steps in 0..100_000usize {
-        let size = steps * 16;
+        let size = steps * 256;
         let heap = LocalHeap::new(rt.alloc(), size)?;
         match CallTable::new(&heap, NR_CPUS, online) {
             Ok(_) => {
@@ -140,24 +242,32 @@ fn give_out(rt: &impl Abort, boot: &mut Boot<Global>) {
 
 #[test]
 fn misuse_is_refused(rt: HostRuntime) -> Result<(), Fail> {
-    let (table, mut boot) = CallTable::new(rt.alloc(), 2, "0-1".parse()?)?;
-    let mut zero = Driver::new(&table, boot.cpu(0)?);
-    refuses_misuse(&rt, &mut zero);
+    let lines = [
+        (0, Done(0, Ok(true))),
+        (0, Done(12, Err(BAD))),
+        (0, Post(12, 1, Class::Async, 1, Err(BAD))),
+        (0, Post(10, 1, Class::Async, 0, Err(BAD))),
+        (0, Post(10, 0, Class::Async, 1, Err(BAD))),
+        (0, Post(0, 1, Class::Async, 1, Err(BAD))),
+    ];
+    let fault = play(&rt, rt.alloc(), 2, "0-1", &[0], &[&lines], &[])?;
+    assert_eq!(rt; fault, None);
     Ok(())
 }
 
-fn refuses_misuse(rt: &impl Abort, zero: &mut Driver) {
-    let done = (zero.is_done(0), zero.is_done(12));
-    assert_eq!(rt; done, (Ok(true), Err(SmpError::BadArgument)));
-    for (k, to, class, tries) in [
-        (12, 1, Class::Async, 1),
-        (10, 1, Class::Async, 0),
-        (10, 0, Class::Async, 1),
-        (0, 1, Class::Async, 1),
-    ] {
-        let answer = zero.post_as(k, to, class, tries);
-        assert_eq!(rt; answer, Err(SmpError::BadArgument), "{k} {to} {tries}");
-    }
+/// CPU 0 calls this CPU by this record, or is refused; to CPU 1 that carries no call.
+fn calls_by_record(k: u32, to: u32, is_there: bool) -> [Line; 4] {
+    let (before, owed, after) = if is_there {
+        (Ok(true), Ok(true), Ok(false))
+    } else {
+        (Err(BAD), Err(BAD), Err(BAD))
+    };
+    [
+        (0, Done(k, before)),
+        (0, Post(k, to, Class::Async, 1, owed)),
+        (0, Done(k, after)),
+        (0, Post(k, 1, Class::Async, 1, Err(BAD))),
+    ]
 }
 
 #[test]
@@ -172,67 +282,55 @@ fn each_cpu_that_there_is_has_a_record_of_its_own(rt: HostRuntime) -> Result<(),
         (8, "0-7", 9, 7, true),
         (8, "0-7", 12, 7, false),
     ] {
-        let (table, mut boot) = CallTable::new(rt.alloc(), nr, cpus.parse()?)?;
-        let mut zero = Driver::new(&table, boot.cpu(0)?);
-        calls_by_record(&rt, &mut zero, k, to, is_there);
+        let lines = calls_by_record(k, to, is_there);
+        let fault = play(&rt, rt.alloc(), nr, cpus, &[0], &[&lines], &[])?;
+        assert_eq!(rt; fault, None, "{k} {to}");
     }
     Ok(())
-}
-
-fn calls_by_record(rt: &impl Abort, zero: &mut Driver, k: u32, to: u32, is_there: bool) {
-    let bad = SmpError::BadArgument;
-    let wanted = if is_there {
-        (Ok(true), Ok(true), Ok(false))
-    } else {
-        (Err(bad), Err(bad), Err(bad))
-    };
-    let answers = (zero.is_done(k), zero.post(k, to, 1), zero.is_done(k));
-    assert_eq!(rt; answers, wanted, "{k} {to}");
-    // It carries calls to no other CPU.
-    assert_eq!(rt; zero.post(k, 1, 1), Err(bad), "{k} {to}");
 }
 
 #[test]
 fn a_post_appends_one_call(rt: HostRuntime) -> Result<(), Fail> {
-    let (table, mut boot) = CallTable::new(rt.alloc(), 4, "0-2".parse()?)?;
-    let mut zero = Driver::new(&table, boot.cpu(0)?);
-    let mut one = Driver::new(&table, boot.cpu(1)?);
-    two_post_to_a_third(&rt, &mut zero, &mut one);
+    // The record is locked while its call is queued, which comes before that CPU 3 is not online.
+    let lines = [
+        (0, Post(10, 2, Class::Async, 1, Ok(true))),
+        (1, Post(10, 2, Class::Async, 1, Ok(false))),
+        (0, Done(10, Ok(false))),
+        (0, Done(11, Ok(true))),
+        (0, Post(10, 2, Class::Async, 1, Err(SmpError::Busy))),
+        (0, Post(10, 3, Class::Async, 1, Err(SmpError::Busy))),
+        (0, Queue(11, 1, Ok(true))),
+        (0, Counts(2, (1, 0))),
+        (0, Counts(1, (1, 0))),
+        (0, Counts(3, (0, 0))),
+        (1, Counts(2, (1, 0))),
+        (1, Counts(0, (0, 0))),
+    ];
+    let fault = play(&rt, rt.alloc(), 4, "0-2", &[0, 1], &[&lines], &[])?;
+    assert_eq!(rt; fault, None);
     Ok(())
 }
 
-fn two_post_to_a_third<R: Wait + Abort>(rt: &R, zero: &mut Driver, one: &mut Driver) {
-    let posted = (zero.post(10, 2, 1), one.post(10, 2, 1));
-    assert_eq!(rt; posted, (Ok(true), Ok(false)));
-    assert_eq!(rt; (zero.is_done(10), zero.is_done(11)), (Ok(false), Ok(true)));
-    // The record is locked while its call is queued, which comes before that CPU 3 is not online.
-    let again = (zero.post(10, 2, 1), zero.post(10, 3, 1));
-    assert_eq!(rt; again, (Err(SmpError::Busy), Err(SmpError::Busy)));
-    let first = zero
-        .table
-        .post(rt, &mut zero.cpu, 11, 1, Class::Async, 1, 1);
-    assert_eq!(rt; first, Ok(true));
-    let tallies = (zero.tally(2), zero.tally(1), zero.tally(3));
-    assert_eq!(rt; tallies, ((1, 0), (1, 0), (0, 0)));
-    assert_eq!(rt; (one.tally(2), one.tally(0)), ((1, 0), (0, 0)));
+/// A CPU that is offline is called.
+fn calls_in_vain(to: u32) -> [Line; 4] {
+    [
+        (0, Send(to, Err(SmpError::NoCpu))),
+        (0, Post(10, to, Class::Async, 1, Err(SmpError::NoCpu))),
+        (0, Done(10, Ok(true))),
+        (0, Counts(to, (0, 0))),
+    ]
 }
 
 #[test]
 fn an_offline_cpu_gets_no_call(rt: HostRuntime) -> Result<(), Fail> {
-    let (table, mut boot) = CallTable::new(rt.alloc(), 4, "0-1,3".parse()?)?;
-    let mut zero = Driver::new(&table, boot.cpu(0)?);
-    calls_cpus_that_are_offline(&rt, &mut zero);
+    let parts: [&[Line]; 3] = [
+        &calls_in_vain(2),
+        &calls_in_vain(7),
+        &[(0, Send(3, Ok(()))), (0, Send(0, Ok(())))],
+    ];
+    let fault = play(&rt, rt.alloc(), 4, "0-1,3", &[0], &parts, &[])?;
+    assert_eq!(rt; fault, None);
     Ok(())
-}
-
-fn calls_cpus_that_are_offline(rt: &impl Abort, zero: &mut Driver) {
-    for to in [2, 7] {
-        assert_eq!(rt; zero.send(to), Err(SmpError::NoCpu), "{to}");
-        assert_eq!(rt; zero.post(10, to, 1), Err(SmpError::NoCpu), "{to}");
-        let after = (zero.is_done(10), zero.tally(to));
-        assert_eq!(rt; after, (Ok(true), (0, 0)), "{to}");
-    }
-    assert_eq!(rt; (zero.send(3), zero.send(0)), (Ok(()), Ok(())));
 }
 
 /// Waits until another thread is here too, so that both go on at once; or for many turns, on a busy machine.
@@ -300,24 +398,35 @@ fn race(mut cpu: Driver, answers: &Answers, repeats: u32) {
     }
 }
 
+/// Runs each of the CPUs on a thread of its own, to the end.
+fn race_in_threads<R: Wait + Threads>(
+    rt: &R,
+    drivers: Vec<Driver, Global>,
+    answers: &Answers,
+    repeats: u32,
+) {
+    let mut started = true;
+    thread::scope(thread::scope_env(), rt, |scope| {
+        for driver in drivers {
+            let spawned = scope.spawn(move || race(driver, answers, repeats));
+            started = started && spawned.is_ok();
+        }
+    });
+    if !started {
+        answers.other.fetch_add(1, Ordering::SeqCst);
+    }
+}
+
 /// Lets two CPUs of a new table race for the queue of a third.
 fn race_once<R: Wait + Threads>(
     rt: &R,
     alloc: Global,
     repeats: u32,
-) -> Result<(u64, u64, u64, u64), Fail> {
-    let (table, mut boot) = CallTable::new(alloc, 3, "0-2".parse()?)?;
-    let shared = Answers::none();
-    let answers = &shared;
-    let zero = Driver::new(&table, boot.cpu(0)?);
-    let one = Driver::new(&table, boot.cpu(1)?);
-    thread::scope(thread::scope_env(), rt, |scope| {
-        let first = scope.spawn(move || race(zero, answers, repeats));
-        let second = scope.spawn(move || race(one, answers, repeats));
-        if first.is_err() || second.is_err() {
-            answers.other.fetch_add(1, Ordering::SeqCst);
-        }
-    });
+) -> Result<(u64, u64, u64, u64), SmpError> {
+    let (table, boot) = CallTable::new(alloc, 3, "0-2".parse()?)?;
+    let drivers = Room::new(&table, boot).drive_all(alloc, &[0, 1])?;
+    let answers = Answers::none();
+    race_in_threads(rt, drivers, &answers, repeats);
     Ok(answers.counts())
 }
 

@@ -3,25 +3,26 @@
 ghost use Rattle.std.specs.Prelude.{◌≡◌};
 ghost use Rattle.smp_queue.specs.declared.handler.Heard.{Heard};
 
+use super::line::Act::{Call, Handle};
 use super::*;
 
 /// Writes down the calls that it hears.
 #[derive(Drop)]
-struct Recorder {
+pub struct Recorder {
     heard: Vec<Heard, Global>,
     /// Whether it has missed none.
     whole: bool,
 }
 
 impl Recorder {
-    fn new(alloc: Global) -> Recorder {
+    pub fn new(alloc: Global) -> Recorder {
         Recorder {
             heard: Vec::new(alloc),
             whole: true,
         }
     }
 
-    fn has_heard(&self, calls: &[(u32, u16, u64)]) -> bool {
+    pub fn has_heard(&self, calls: &[(u32, u16, u64)]) -> bool {
         let mut same = self.whole && self.heard.len() == calls.len();
         for (heard, call) in self.heard.iter().zip(calls) {
             same = same && (heard.src, heard.func, heard.info) == *call;
@@ -53,160 +54,144 @@ const IDLE: Handled = Handled {
 
 #[test]
 fn calls_of_two_cpus_run_in_their_order(rt: HostRuntime) -> Result<(), Fail> {
-    let (table, mut boot) = CallTable::new(rt.alloc(), 3, "0-2".parse()?)?;
-    let mut zero = Driver::new(&table, boot.cpu(0)?);
-    let mut one = Driver::new(&table, boot.cpu(1)?);
-    let mut two = Driver::new(&table, boot.cpu(2)?);
-    let mut heard = Recorder::new(rt.alloc());
-    two_call_a_third(&rt, &mut zero, &mut one, &mut two, &mut heard);
+    // Without an interrupt nothing runs. CPU 0 owes it, and any CPU may send it; that of CPU 0 comes late, and finds
+    // nothing to run.
+    let lines = [
+        (0, Call(1, 2, Class::Async, 1, Ok(true))),
+        (1, Call(1, 2, Class::Async, 2, Ok(false))),
+        (2, Handle(IDLE)),
+        (1, Send(2, Ok(()))),
+        (2, Handle(handled(2))),
+        (2, Counts(0, (0, 1))),
+        (2, Counts(1, (0, 1))),
+        (0, Send(2, Ok(()))),
+        (2, Handle(handled(0))),
+        (2, Handle(IDLE)),
+    ];
+    let calls = [(0, 1, 0), (1, 2, 0)];
+    let fault = play(&rt, rt.alloc(), 3, "0-2", &[0, 1, 2], &[&lines], &calls)?;
+    assert_eq!(rt; fault, None);
     Ok(())
-}
-
-fn two_call_a_third(
-    rt: &impl Abort,
-    zero: &mut Driver,
-    one: &mut Driver,
-    two: &mut Driver,
-    heard: &mut Recorder,
-) {
-    assert_eq!(rt; zero.call(1, 2, Class::Async, 1, 0), Ok(true));
-    assert_eq!(rt; one.call(1, 2, Class::Async, 2, 0), Ok(false));
-    // No interrupt is pending yet, so that nothing runs.
-    assert_eq!(rt; two.handle(heard), IDLE);
-    // CPU 0 owes the interrupt, and any CPU may send it.
-    assert_eq!(rt; one.send(2), Ok(()));
-    assert_eq!(rt; two.handle(heard), handled(2));
-    assert!(rt; heard.has_heard(&[(0, 1, 0), (1, 2, 0)]));
-    assert_eq!(rt; (two.tally(0), two.tally(1)), ((0, 1), (0, 1)));
-    // Its own interrupt comes late, and finds nothing to run.
-    assert_eq!(rt; zero.send(2), Ok(()));
-    assert_eq!(rt; two.handle(heard), handled(0));
-    assert_eq!(rt; two.handle(heard), IDLE);
 }
 
 #[test]
 fn sync_calls_run_first(rt: HostRuntime) -> Result<(), Fail> {
-    let (table, mut boot) = CallTable::new(rt.alloc(), 2, "0-1".parse()?)?;
-    let mut zero = Driver::new(&table, boot.cpu(0)?);
-    let mut one = Driver::new(&table, boot.cpu(1)?);
-    let mut heard = Recorder::new(rt.alloc());
-    one_calls_in_two_classes(&rt, &mut zero, &mut one, &mut heard);
+    let lines = [
+        (0, Call(1, 1, Class::Async, 1, Ok(true))),
+        (0, Call(0, 1, Class::Sync, 2, Ok(false))),
+        (0, Call(10, 1, Class::Async, 3, Ok(false))),
+        (0, Call(3, 1, Class::Sync, 4, Ok(false))),
+        (0, Send(1, Ok(()))),
+        (1, Handle(handled(4))),
+    ];
+    let calls = [(0, 2, 0), (0, 4, 0), (0, 1, 0), (0, 3, 0)];
+    let fault = play(&rt, rt.alloc(), 2, "0-1", &[0, 1], &[&lines], &calls)?;
+    assert_eq!(rt; fault, None);
     Ok(())
 }
 
-fn one_calls_in_two_classes(
-    rt: &impl Abort,
-    zero: &mut Driver,
-    one: &mut Driver,
-    heard: &mut Recorder,
-) {
-    assert_eq!(rt; zero.call(1, 1, Class::Async, 1, 0), Ok(true));
-    assert_eq!(rt; zero.call(0, 1, Class::Sync, 2, 0), Ok(false));
-    assert_eq!(rt; zero.call(10, 1, Class::Async, 3, 0), Ok(false));
-    assert_eq!(rt; zero.call(3, 1, Class::Sync, 4, 0), Ok(false));
-    assert_eq!(rt; zero.send(1), Ok(()));
-    assert_eq!(rt; one.handle(heard), handled(4));
-    assert!(rt; heard.has_heard(&[(0, 2, 0), (0, 4, 0), (0, 1, 0), (0, 3, 0)]));
-}
-
-/// Posts a call by each of the records by which a CPU may call CPU 31; true where it queued all of them.
-fn post_five(cpu: &mut Driver, class: Class) -> bool {
-    cpu.call(1, 31, Class::Async, 1, 0).is_ok()
-        && cpu.call(0, 31, Class::Sync, 2, 0).is_ok()
-        && cpu.call(35, 31, class, 3, 0).is_ok()
-        && cpu.call(10, 31, Class::Async, 4, 0).is_ok()
-        && cpu.call(11, 31, Class::Async, 5, 0).is_ok()
-}
-
-/// Ten calls to CPU 31, five of each of two CPUs, of which two of the first and one of the second are SYNC; true
-/// where it runs these calls in this order.
-fn run_ten(
-    alloc: Global,
-    first: &mut Driver,
-    second: &mut Driver,
-    last: &mut Driver,
-    calls: &[(u32, u16, u64)],
-) -> bool {
-    let mut heard = Recorder::new(alloc);
-    post_five(first, Class::Sync)
-        && post_five(second, Class::Async)
-        && first.send(31).is_ok()
-        && last.handle(&mut heard) == handled(10)
-        && heard.has_heard(calls)
-}
-
-/// SYNC calls first, then ASYNC calls, both oldest first.
-fn in_order(first: u32, second: u32) -> [(u32, u16, u64); 10] {
+/// A call by each of the records by which a CPU may call CPU 31, of which the first owes an interrupt or does not.
+fn five(cpu: usize, class: Class, owed: bool) -> [Line; 5] {
     [
-        (first, 2, 0),
-        (first, 3, 0),
-        (second, 2, 0),
-        (first, 1, 0),
-        (first, 4, 0),
-        (first, 5, 0),
-        (second, 1, 0),
-        (second, 3, 0),
-        (second, 4, 0),
-        (second, 5, 0),
+        (cpu, Call(1, 31, Class::Async, 1, Ok(owed))),
+        (cpu, Call(0, 31, Class::Sync, 2, Ok(false))),
+        (cpu, Call(35, 31, class, 3, Ok(false))),
+        (cpu, Call(10, 31, Class::Async, 4, Ok(false))),
+        (cpu, Call(11, 31, Class::Async, 5, Ok(false))),
     ]
 }
 
+/// The calls of two batches of ten, five of each of two CPUs, of which two of the first and one of the second are SYNC:
+/// SYNC calls first, then ASYNC calls, both oldest first. The second batch has the same records once more, in another
+/// order and of other classes.
+const TWICE_TEN: [(u32, u16, u64); 20] = [
+    (0, 2, 0),
+    (0, 3, 0),
+    (8, 2, 0),
+    (0, 1, 0),
+    (0, 4, 0),
+    (0, 5, 0),
+    (8, 1, 0),
+    (8, 3, 0),
+    (8, 4, 0),
+    (8, 5, 0),
+    (8, 2, 0),
+    (8, 3, 0),
+    (0, 2, 0),
+    (8, 1, 0),
+    (8, 4, 0),
+    (8, 5, 0),
+    (0, 1, 0),
+    (0, 3, 0),
+    (0, 4, 0),
+    (0, 5, 0),
+];
+
 #[test]
 fn a_long_batch_runs_in_its_order(rt: HostRuntime) -> Result<(), Fail> {
-    let (table, mut boot) = CallTable::new(rt.alloc(), 32, "0-31".parse()?)?;
-    let mut zero = Driver::new(&table, boot.cpu(0)?);
-    let mut eight = Driver::new(&table, boot.cpu(8)?);
-    let mut last = Driver::new(&table, boot.cpu(31)?);
-    run_ten_twice(&rt, rt.alloc(), &mut zero, &mut eight, &mut last);
+    let parts: [&[Line]; 7] = [
+        &five(0, Class::Sync, true),
+        &five(1, Class::Async, false),
+        &[(0, Send(31, Ok(()))), (2, Handle(handled(10)))],
+        &five(1, Class::Sync, true),
+        &five(0, Class::Async, false),
+        &[(1, Send(31, Ok(()))), (2, Handle(handled(10)))],
+        &[(2, Counts(0, (0, 10))), (2, Counts(8, (0, 10)))],
+    ];
+    let fault = play(&rt, rt.alloc(), 32, "0-31", &[0, 8, 31], &parts, &TWICE_TEN)?;
+    assert_eq!(rt; fault, None);
     Ok(())
-}
-
-fn run_ten_twice(
-    rt: &impl Abort,
-    alloc: Global,
-    zero: &mut Driver,
-    eight: &mut Driver,
-    last: &mut Driver,
-) {
-    assert!(rt; run_ten(alloc, zero, eight, last, &in_order(0, 8)));
-    // The same records once more, in another order and of other classes.
-    assert!(rt; run_ten(alloc, eight, zero, last, &in_order(8, 0)));
-    assert_eq!(rt; (last.tally(0), last.tally(8)), ((0, 10), (0, 10)));
 }
 
 #[test]
 fn a_record_is_busy_until_its_call_has_run(rt: HostRuntime) -> Result<(), Fail> {
-    let (table, mut boot) = CallTable::new(rt.alloc(), 2, "0-1".parse()?)?;
-    let mut zero = Driver::new(&table, boot.cpu(0)?);
-    let mut one = Driver::new(&table, boot.cpu(1)?);
-    let mut heard = Recorder::new(rt.alloc());
-    posts_twice(&rt, &mut zero, &mut one, &mut heard);
+    let lines = [
+        (0, Call(10, 1, Class::Async, 1, Ok(true))),
+        (0, Call(10, 1, Class::Async, 1, Err(SmpError::Busy))),
+        (0, Send(1, Ok(()))),
+        (1, Handle(handled(1))),
+        (0, Done(10, Ok(true))),
+        (0, Call(10, 1, Class::Async, 1, Ok(true))),
+        (0, Counts(1, (2, 0))),
+        (1, Counts(0, (0, 1))),
+    ];
+    let fault = play(&rt, rt.alloc(), 2, "0-1", &[0, 1], &[&lines], &[(0, 1, 0)])?;
+    assert_eq!(rt; fault, None);
     Ok(())
-}
-
-fn posts_twice(rt: &impl Abort, zero: &mut Driver, one: &mut Driver, heard: &mut Recorder) {
-    assert_eq!(rt; zero.post(10, 1, 1), Ok(true));
-    assert_eq!(rt; zero.post(10, 1, 1), Err(SmpError::Busy));
-    assert_eq!(rt; zero.send(1), Ok(()));
-    assert_eq!(rt; one.handle(heard), handled(1));
-    assert_eq!(rt; zero.is_done(10), Ok(true));
-    assert_eq!(rt; zero.post(10, 1, 1), Ok(true));
-    assert_eq!(rt; (zero.tally(1), one.tally(0)), ((2, 0), (0, 1)));
 }
 
 #[test]
 fn a_table_is_drained_once_its_call_has_run(rt: HostRuntime) -> Result<(), Fail> {
     let (table, mut boot) = CallTable::new(rt.alloc(), 2, "0-1".parse()?)?;
-    let mut zero = boot.cpu(0)?;
-    let mut one = boot.cpu(1)?;
+    let mut zero = seat(&table, &mut boot, 0)?;
+    let mut one = seat(&table, &mut boot, 1)?;
     let mut heard = Recorder::new(rt.alloc());
-    let owed = table.post_within(&mut zero, 1, 1, Class::Async, 7, 9, 1);
-    assert_eq!(rt; (owed, table.send(&mut zero, 1)), (Ok(true), Ok(())));
-    assert_eq!(rt; table.handle(&mut one, &mut heard), handled(1));
-    assert_eq!(rt; table.handle(&mut one, &mut heard), IDLE);
+    let called = (
+        post_one(&table, &mut zero, 1, 1, Class::Async),
+        send_from(&table, &mut zero, 1),
+    );
+    assert_eq!(rt; called, (Ok(true), Ok(())));
+    assert_eq!(rt; handle_on(&table, &mut one, &mut heard), handled(1));
+    assert_eq!(rt; handle_on(&table, &mut one, &mut heard), IDLE);
     assert!(rt; heard.has_heard(&[(0, 7, 9)]));
-    assert_eq!(rt; table.audit(one), Audit::Drained(one_call_tally()));
+    assert_eq!(rt; audit_by(table, one), Audit::Drained(one_call_tally()));
     Ok(())
+}
+
+/// Sends an interrupt.
+fn send_from(table: &CallTable<Global>, cpu: &mut CallCpu, to: u32) -> Result<(), SmpError>
+    requires { cpu.old.table ≡ table.now.table }
+    ensures { cpu.new.table ≡ table.now.table }
+{
+    table.send(cpu, to)
+}
+
+/// Handles what there is.
+fn handle_on(table: &CallTable<Global>, cpu: &mut CallCpu, heard: &mut Recorder) -> Handled
+    requires { cpu.old.table ≡ table.now.table }
+    ensures { cpu.new.table ≡ table.now.table }
+{
+    table.handle(cpu, heard)
 }
 
 /// The tally where CPU 0 has queued one call for CPU 1, and it has run.
@@ -242,9 +227,10 @@ impl<'a> Handler for Asker<'a> {
 
 #[test]
 fn a_sync_record_stays_locked_while_its_function_runs(rt: HostRuntime) -> Result<(), Fail> {
-    let (table, mut boot) = CallTable::new(rt.alloc(), 2, "0-1".parse()?)?;
-    let zero = Driver::new(&table, boot.cpu(0)?);
-    let mut one = Driver::new(&table, boot.cpu(1)?);
+    let (table, boot) = CallTable::new(rt.alloc(), 2, "0-1".parse()?)?;
+    let mut room = Room::new(&table, boot);
+    let zero = room.drive(0)?;
+    let mut one = room.drive(1)?;
     let mut asker = Asker {
         source: zero,
         answers: [None, None],
@@ -316,22 +302,48 @@ fn record_for(to: u32) -> u32 {
     }
 }
 
-/// Posts so many calls to each other CPU of these while it handles those that they post to it.
-fn post_to_all(mut cpu: Driver, number: u32, cpus: &[u32], calls: u32, right: &AtomicU64) {
-    let mut counter = Counter { calls: 0 };
-    let mut whole = true;
-    let mut due = 0u64;
-    for _ in 0..calls {
-        for &to in cpus {
-            if to != number {
-                whole = post_at_last(&mut cpu, record_for(to), to, &mut counter) && whole;
-                due = due.wrapping_add(1);
+/// Posts one call to each other CPU of these: how many that were, where none was refused.
+fn post_round(cpu: &mut Driver, counter: &mut Counter, cpus: &[u32]) -> Option<u64> {
+    let number = cpu.cpu.number();
+    let mut posted = 0u64;
+    for &to in cpus {
+        if to != number {
+            if !post_at_last(cpu, record_for(to), to, counter) {
+                return None;
             }
+            posted = posted.wrapping_add(1);
         }
     }
-    if handle_until(&mut cpu, &mut counter, due) && whole {
+    Some(posted)
+}
+
+/// Posts so many calls to each other CPU of these while it handles those that they post to it.
+fn post_to_all(mut cpu: Driver, cpus: &[u32], calls: u32, right: &AtomicU64) {
+    let mut counter = Counter { calls: 0 };
+    let mut due = 0u64;
+    for _ in 0..calls {
+        match post_round(&mut cpu, &mut counter, cpus) {
+            Some(posted) => due = due.wrapping_add(posted),
+            None => return,
+        }
+    }
+    if handle_until(&mut cpu, &mut counter, due) {
         right.fetch_add(1, Ordering::SeqCst);
     }
+}
+
+/// Runs each of the CPUs on a thread of its own, to the end.
+fn post_in_threads<R: Wait + Threads>(
+    rt: &R,
+    drivers: Vec<Driver, Global>,
+    cpus: &[u32],
+    right: &AtomicU64,
+) {
+    thread::scope(thread::scope_env(), rt, |scope| {
+        for driver in drivers {
+            let _ = scope.spawn(move || post_to_all(driver, cpus, 100, right));
+        }
+    });
 }
 
 /// The tally where each CPU of these has queued so many calls for each other of them, and all have run.
@@ -358,24 +370,14 @@ fn all_to_all<R: Wait + Threads>(
     alloc: Global,
     nr: u32,
     online: CpuMask,
-    cpus: [u32; 4],
-) -> Result<(u64, Audit), Fail> {
+    cpus: &[u32],
+) -> Result<(u64, Audit), SmpError> {
     let (table, mut boot) = CallTable::new(alloc, nr, online)?;
-    let last = boot.cpu(4)?;
-    let shared = AtomicU64::new(0);
-    let right = &shared;
-    let zero = Driver::new(&table, boot.cpu(cpus[0])?);
-    let one = Driver::new(&table, boot.cpu(cpus[1])?);
-    let two = Driver::new(&table, boot.cpu(cpus[2])?);
-    let three = Driver::new(&table, boot.cpu(cpus[3])?);
-    thread::scope(thread::scope_env(), rt, |scope| {
-        let _ = scope.spawn(move || post_to_all(zero, cpus[0], &cpus, 100, right));
-        let _ = scope.spawn(move || post_to_all(one, cpus[1], &cpus, 100, right));
-        let _ = scope.spawn(move || post_to_all(two, cpus[2], &cpus, 100, right));
-        post_to_all(three, cpus[3], &cpus, 100, right);
-    });
-    let count = right.load(Ordering::SeqCst);
-    Ok((count, table.audit(last)))
+    let last = seat(&table, &mut boot, 4)?;
+    let right = AtomicU64::new(0);
+    let drivers = Room::new(&table, boot).drive_all(alloc, cpus)?;
+    post_in_threads(rt, drivers, cpus, &right);
+    Ok((right.load(Ordering::SeqCst), audit_by(table, last)))
 }
 
 #[test]
@@ -385,7 +387,7 @@ fn four_threads_post_to_each_other(rt: HostRuntime) -> Result<(), Fail> {
         (32, "0-31", [0, 8, 16, 31]),
         (32, "0-31", [7, 15, 23, 30]),
     ] {
-        let (right, audit) = all_to_all(&rt, rt.alloc(), nr, online.parse()?, cpus)?;
+        let (right, audit) = all_to_all(&rt, rt.alloc(), nr, online.parse()?, &cpus)?;
         assert_eq!(rt; right, 4, "{nr}");
         assert_eq!(rt; audit, Audit::Drained(all_pairs(&cpus, 100)), "{nr}");
     }
@@ -413,21 +415,30 @@ fn handle_all(mut cpu: Driver, right: &AtomicU64) {
     }
 }
 
-/// Lets three CPUs of a new table post to the fourth: how many of them saw what they should.
-fn all_to_one<R: Wait + Threads>(rt: &R, alloc: Global) -> Result<u64, Fail> {
-    let (table, mut boot) = CallTable::new(alloc, 4, "0-3".parse()?)?;
-    let shared = AtomicU64::new(0);
-    let right = &shared;
-    let zero = Driver::new(&table, boot.cpu(0)?);
-    let one = Driver::new(&table, boot.cpu(1)?);
-    let two = Driver::new(&table, boot.cpu(2)?);
-    let three = Driver::new(&table, boot.cpu(3)?);
+/// What one thread does: CPU 0 handles what the others post.
+fn crowd(cpu: Driver, right: &AtomicU64) {
+    if cpu.cpu.number() == 0 {
+        handle_all(cpu, right);
+    } else {
+        post_to_zero(cpu, right);
+    }
+}
+
+/// Runs each of the CPUs on a thread of its own, to the end.
+fn crowd_in_threads<R: Wait + Threads>(rt: &R, drivers: Vec<Driver, Global>, right: &AtomicU64) {
     thread::scope(thread::scope_env(), rt, |scope| {
-        let _ = scope.spawn(move || post_to_zero(one, right));
-        let _ = scope.spawn(move || post_to_zero(two, right));
-        let _ = scope.spawn(move || post_to_zero(three, right));
-        handle_all(zero, right);
+        for driver in drivers {
+            let _ = scope.spawn(move || crowd(driver, right));
+        }
     });
+}
+
+/// Lets three CPUs of a new table post to the fourth: how many of them saw what they should.
+fn all_to_one<R: Wait + Threads>(rt: &R, alloc: Global) -> Result<u64, SmpError> {
+    let (table, boot) = CallTable::new(alloc, 4, "0-3".parse()?)?;
+    let right = AtomicU64::new(0);
+    let drivers = Room::new(&table, boot).drive_all(alloc, &[0, 1, 2, 3])?;
+    crowd_in_threads(rt, drivers, &right);
     Ok(right.load(Ordering::SeqCst))
 }
 
