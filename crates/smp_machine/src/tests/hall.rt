@@ -2,6 +2,8 @@
 
 ghost use Rattle.std.specs.Prelude.{◌≡◌};
 
+mod echo;
+
 use super::*;
 use crossbeam_utils::Backoff;
 use smp_labels::SiteKind;

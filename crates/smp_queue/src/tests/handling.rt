@@ -433,17 +433,31 @@ fn crowd_in_threads<R: Wait + Threads>(rt: &R, drivers: Vec<Driver, Global>, rig
     });
 }
 
-/// Lets three CPUs of a new table post to the fourth: how many of them saw what they should.
-fn all_to_one<R: Wait + Threads>(rt: &R, alloc: Global) -> Result<u64, SmpError> {
-    let (table, boot) = CallTable::new(alloc, 4, "0-3".parse()?)?;
+/// The tally where CPUs 1 to 3 have each queued 1,000 calls for CPU 0, and all have run.
+fn three_to_zero() -> Tally {
+    let mut tally = all_pairs(&[], 0);
+    for source in 1..4 {
+        tally.queued[source][0] = 1_000;
+        tally.ran[0][source] = 1_000;
+    }
+    tally
+}
+
+/// Lets three CPUs of a new table post to the fourth: how many of them saw what they should, and the audit with a
+/// fifth CPU, 4.
+fn all_to_one<R: Wait + Threads>(rt: &R, alloc: Global) -> Result<(u64, Audit), SmpError> {
+    let (table, mut boot) = CallTable::new(alloc, 5, "0-4".parse()?)?;
+    let last = seat(&table, &mut boot, 4)?;
     let right = AtomicU64::new(0);
     let drivers = Room::new(&table, boot).drive_all(alloc, &[0, 1, 2, 3])?;
     crowd_in_threads(rt, drivers, &right);
-    Ok(right.load(Ordering::SeqCst))
+    Ok((right.load(Ordering::SeqCst), audit_by(table, last)))
 }
 
 #[test]
 fn three_cpus_crowd_one_queue(rt: HostRuntime) -> Result<(), Fail> {
-    assert_eq!(rt; all_to_one(&rt, rt.alloc())?, 4);
+    let (right, audit) = all_to_one(&rt, rt.alloc())?;
+    assert_eq!(rt; right, 4);
+    assert_eq!(rt; audit, Audit::Drained(three_to_zero()));
     Ok(())
 }
