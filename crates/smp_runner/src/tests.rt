@@ -11,15 +11,6 @@ fn replayed(rt: &HostRuntime, script: &[u8]) -> Result<Outcome, Refusal> {
 }
 
 #[test]
-fn the_kind_is_the_first_word(rt: HostRuntime) {
-    for (word, mode) in [("replay", Mode::Replay), ("run", Mode::Run)] {
-        let words = ["smp_runner", word, "a.smp"];
-        let request = read_words(rt.alloc(), &words);
-        assert_eq!(rt; request.map(|r| (r.mode, r.file)), Ok((mode, Some("a.smp"))));
-    }
-}
-
-#[test]
 fn statuses_of_replays(rt: HostRuntime) {
     let cases: [(&[u8], u8); 4] = [
         (b"smp 1 replay\ncpus 1 0\nshow\n", 0),
@@ -48,22 +39,18 @@ fn statuses_of_refusals(rt: HostRuntime) {
 
 #[test]
 fn a_file_that_is_none(rt: HostRuntime) {
-    for mode in [Mode::Replay, Mode::Run] {
-        let file = Some("no/such/file");
-        let answer = run_file(&rt, &rt, Request { mode, file });
-        let error = SmpError::StreamFailed(Side::Read);
-        assert_eq!(rt; answer, Err(Refusal::Failed(error)));
-    }
+    let answer = replay_file(&rt, Some("no/such/file"));
+    let error = SmpError::StreamFailed(Side::Read);
+    assert_eq!(rt; answer, Err(Refusal::Failed(error)));
 }
 
 #[test]
 fn words_that_are_none_of_this_program(rt: HostRuntime) {
-    let cases: [&[&str]; 7] = [
+    let cases: [&[&str]; 6] = [
         &[],
         &["smp_runner"],
         &["smp_runner", "jump"],
         &["smp_runner", "replay", "one", "two"],
-        &["smp_runner", "run", "one", "two"],
         &["smp_runner", "replay", "--fast"],
         &["smp_runner", "--help"],
     ];
