@@ -33,6 +33,3 @@ pub use records::{ASYNC_RECORD, SYNC_RECORD, USER_RECORDS, many_record, user_rec
 pub use single::call_single;
 pub use single_async::call_async;
 pub use target::targets;
-
-#[cfg(test)]
-mod tests;

@@ -15,6 +15,3 @@ pub use smp_words::{
     Access, Act, Call, Class, Command, Event, Field, Kind, Note, Seen, Word, Work, call_index,
     stop_index,
 };
-
-#[cfg(test)]
-mod tests;

@@ -25,6 +25,3 @@ mod work_queue;
 pub use boot::MachineBoot;
 pub use cpu::Cpu;
 pub use machine::Machine;
-
-#[cfg(test)]
-mod tests;

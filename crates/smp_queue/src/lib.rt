@@ -47,6 +47,3 @@ pub use handle::Handled;
 pub use handler::{Handler, Heard};
 pub use seat::call_steps;
 pub use table::CallTable;
-
-#[cfg(test)]
-mod tests;

@@ -12,6 +12,3 @@ pub mod show;
 pub mod text;
 
 pub use replay::replay_script;
-
-#[cfg(test)]
-mod tests;

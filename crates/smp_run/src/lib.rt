@@ -26,6 +26,3 @@ pub use answer::Answer;
 pub use pace::{FreePace, Pace};
 pub use run::{Ran, run_lines};
 pub use script::run_script;
-
-#[cfg(test)]
-mod tests;

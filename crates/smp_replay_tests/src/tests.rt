@@ -2,7 +2,7 @@ mod devices;
 mod scripts;
 mod worked;
 
-use super::*;
+use smp_replay::*;
 use devices::{Again, Narrow, Slow};
 use linked_list_allocator::LocalHeap;
 use scripts::*;

@@ -3,7 +3,7 @@ mod keys;
 mod stops;
 mod turns;
 
-use super::*;
+use smp_machine::*;
 use linked_list_allocator::LocalHeap;
 use smp_labels::{Entry, LabelMap};
 use smp_mask::{CpuMask, SmpError};

@@ -1,6 +1,6 @@
 mod paces;
 
-use super::*;
+use smp_run::*;
 use crate::tests::paces::{Counts, Meets, Stays};
 use smp_mask::{Cause, SmpError};
 use smp_script::{Outcome, Watched};

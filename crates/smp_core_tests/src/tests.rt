@@ -5,8 +5,7 @@ mod memory;
 mod patches;
 mod stops;
 
-use super::events::replay;
-use super::*;
+use smp_core::*;
 use smp_mask::{CpuMask, SmpError};
 use std::alloc::{Allocator, Global};
 use std::test::*;

@@ -5,7 +5,7 @@ mod users;
 mod waiting;
 mod wide;
 
-use super::*;
+use smp_calls::*;
 use smp_mask::{CpuMask, SmpError};
 use smp_queue::{Audit, Boot, CallCpu, CallTable, Handler, Heard, Tally};
 use smp_words::size::NR_CPUS;

@@ -6,7 +6,7 @@ ghost use Rattle.smp_calls.specs.Ended.{HaveEnded};
 ghost use Rattle.smp_calls.specs.Records.{many_call};
 ghost use Rattle.smp_calls.specs.Targets.{is_target};
 
-use crate::call_many;
+use smp_calls::call_many;
 use smp_mask::CpuMask;
 use smp_queue::{CallCpu, CallTable, Handler};
 use smp_words::call::Class;

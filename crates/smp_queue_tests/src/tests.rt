@@ -6,7 +6,7 @@ mod line;
 
 use self::line::Act::{Done, Post, Queue, Send, Tally as Counts};
 use self::line::{Line, play};
-use super::*;
+use smp_queue::*;
 use crossbeam_utils::Backoff;
 use linked_list_allocator::LocalHeap;
 use smp_mask::{CpuMask, SmpError};

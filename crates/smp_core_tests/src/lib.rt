@@ -1,0 +1,5 @@
+//! Worked cases of the pure machine.
+#![tactic(auto)]
+
+#[cfg(test)]
+mod tests;

@@ -1,0 +1,5 @@
+//! Worked scripts, byte for byte, and failing devices.
+#![tactic(auto)]
+
+#[cfg(test)]
+mod tests;

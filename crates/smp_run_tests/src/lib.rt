@@ -1,0 +1,5 @@
+//! Worked run scripts.
+#![tactic(auto)]
+
+#[cfg(test)]
+mod tests;
