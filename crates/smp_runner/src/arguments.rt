@@ -4,18 +4,22 @@ use crate::status::Refusal;
 use clap::error::ErrorKind;
 use clap::{Arg, Command};
 use smp_mask::SmpError;
+use smp_script::Mode;
 use std::alloc::{AllocError, Global};
 
-/// What to run.
+/// What to run: a script of this kind from a file, or from standard input.
 #[derive(Drop)]
-pub enum Request<'a> {
-    /// The replay of a file, or of standard input.
-    Replay(Option<&'a str>),
+pub struct Request<'a> {
+    pub mode: Mode,
+    pub file: Option<&'a str>,
 }
 
 fn grammar<'a>(alloc: Global) -> Result<Command<'a>, AllocError> {
     let replay = Command::new(alloc, "replay").arg(Arg::new(alloc, "FILE"))?;
-    Command::new(alloc, "smp_runner").subcommand(replay)
+    let run = Command::new(alloc, "run").arg(Arg::new(alloc, "FILE"))?;
+    Command::new(alloc, "smp_runner")
+        .subcommand(replay)?
+        .subcommand(run)
 }
 
 /// What the words ask for: `Failed(NoMemory)` where a growth was refused, and `Usage` where they are no command line, or
@@ -26,7 +30,14 @@ pub fn read_words<'a>(alloc: Global, words: &'a [&'a str]) -> Result<Request<'a>
     };
     match grammar.try_get_matches_from(words) {
         Ok(matches) => match matches.subcommand() {
-            Some((_, found)) => Ok(Request::Replay(found.get_str("FILE"))),
+            Some((name, found)) => Ok(Request {
+                mode: if name == "run" {
+                    Mode::Run
+                } else {
+                    Mode::Replay
+                },
+                file: found.get_str("FILE"),
+            }),
             None => Err(Refusal::Usage),
         },
         Err(e) => match e.kind() {

@@ -2,24 +2,73 @@ use super::*;
 use smp_mask::Cause;
 use std::test::*;
 
-/// How a replay from memory into memory ends.
-fn replayed(rt: &HostRuntime, script: &[u8]) -> Result<Outcome, Refusal> {
+/// How a script of memory ends, and what it writes.
+fn played<T: Threads + Wait + Sync>(
+    threads: &T,
+    alloc: Global,
+    mode: Mode,
+    script: &[u8],
+) -> (Result<Outcome, SmpError>, Vec<u8, Global>) {
     let mut reader = Watched::new(script);
-    let mut writer = Watched::new(Vec::new(rt.alloc()));
-    let answer = replay_script(rt.alloc(), &mut reader, &mut writer);
-    answer.map_err(|e| Refusal::Failed(e))
+    let mut writer = Watched::new(Vec::new(alloc));
+    let answer = run_from(threads, alloc, mode, &mut reader, &mut writer);
+    (answer, writer.into_inner())
 }
 
 #[test]
-fn statuses_of_replays(rt: HostRuntime) {
-    let cases: [(&[u8], u8); 4] = [
-        (b"smp 1 replay\ncpus 1 0\nshow\n", 0),
-        (b"smp 1 replay\ncpus 1 0\nstep 0 1\n", 1),
-        (b"smp 1 replay\ncpus 1 0\nstep 0 0\n", 1),
-        (b"", 1),
+fn the_kind_is_the_first_word(rt: HostRuntime) {
+    for (word, mode) in [("replay", Mode::Replay), ("run", Mode::Run)] {
+        let words = ["smp_runner", word, "a.smp"];
+        let request = read_words(rt.alloc(), &words);
+        assert_eq!(rt;
+            request.map(|r| (r.mode, r.file)),
+            Ok((mode, Some("a.smp")))
+        );
+        let words = ["smp_runner", word];
+        let request = read_words(rt.alloc(), &words);
+        assert_eq!(rt; request.map(|r| (r.mode, r.file)), Ok((mode, None)));
+    }
+}
+
+#[test]
+fn statuses_of_scripts(rt: HostRuntime) {
+    let cases: [(Mode, &[u8], u8); 8] = [
+        (Mode::Replay, b"smp 1 replay\ncpus 1 0\nshow\n", 0),
+        (Mode::Replay, b"smp 1 replay\ncpus 1 0\nstep 0 1\n", 1),
+        (Mode::Replay, b"smp 1 replay\ncpus 1 0\nstep 0 0\n", 1),
+        (Mode::Replay, b"smp 1 run\ncpus 1 0\n", 1),
+        (Mode::Replay, b"", 1),
+        (Mode::Run, b"smp 1 run\ncpus 2 0\ndo 0 1 sync 1 1 0\n", 0),
+        (Mode::Run, b"smp 1 run\ncpus 2 0\ndo 1 1 sync 0 1 0\n", 1),
+        (Mode::Run, b"smp 1 replay\ncpus 1 0\nshow\n", 1),
     ];
-    for (script, status) in cases {
-        assert_eq!(rt; status_of(replayed(&rt, script)), status);
+    for (mode, script, status) in cases {
+        let (answer, _written) = played(&rt, rt.alloc(), mode, script);
+        assert_eq!(rt; status_of(answer.map_err(|e| Refusal::Failed(e))), status);
+    }
+}
+
+// A call of each class, a stop and a key that is turned: all that a run prints is there, or no memory and nothing.
+#[test]
+fn a_run_prints_all_or_nothing(rt: HostRuntime) {
+    let script: &[u8] =
+        b"smp 1 run\ncpus 3 0-2\nlabels 1 0:1\ndo 0 3 sync 1 7 42\ndo 2 2 many nowait 0-2 8 0\ndo 1 1 machine none 5 9\ndo 0 1 set 0 on\n";
+    let print: &[u8] =
+        b"4 ok\n5 0-1\n6 9\n7 true\ntally 0 1 3 3\ntally 0 2 0 0\ntally 1 0 0 0\ntally 1 2 0 0\ntally 2 0 2 2\ntally 2 1 2 2\nkey 0 on\nsite 0 NOP\ndrained\n";
+    let mut page = [0u8; 200];
+    let mut reader = Watched::new(script);
+    let mut writer = Watched::new(page.as_mut_slice());
+    let answer = run_from(&rt, rt.alloc(), Mode::Run, &mut reader, &mut writer);
+    let written = 200 - writer.into_inner().len();
+    match answer {
+        Ok(outcome) => {
+            assert_eq!(rt; outcome, Outcome::Done);
+            assert_eq!(rt; &page[..written], print);
+        }
+        Err(error) => {
+            assert_eq!(rt; error, SmpError::NoMemory);
+            assert_eq!(rt; written, 0);
+        }
     }
 }
 
@@ -39,18 +88,21 @@ fn statuses_of_refusals(rt: HostRuntime) {
 
 #[test]
 fn a_file_that_is_none(rt: HostRuntime) {
-    let answer = replay_file(&rt, Some("no/such/file"));
-    let error = SmpError::StreamFailed(Side::Read);
-    assert_eq!(rt; answer, Err(Refusal::Failed(error)));
+    for mode in [Mode::Replay, Mode::Run] {
+        let file = Some("no/such/file");
+        let answer = run_file(&rt, &rt, Request { mode, file });
+        assert_eq!(rt; answer, Err(SmpError::StreamFailed(Side::Read)));
+    }
 }
 
 #[test]
 fn words_that_are_none_of_this_program(rt: HostRuntime) {
-    let cases: [&[&str]; 6] = [
+    let cases: [&[&str]; 7] = [
         &[],
         &["smp_runner"],
         &["smp_runner", "jump"],
         &["smp_runner", "replay", "one", "two"],
+        &["smp_runner", "run", "one", "two"],
         &["smp_runner", "replay", "--fast"],
         &["smp_runner", "--help"],
     ];
