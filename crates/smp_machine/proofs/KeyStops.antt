@@ -22,7 +22,7 @@ use Rattle.smp_machine.specs.Stops.{item, with_stop, AreShown, HasCollected, Has
 use Rattle.smp_machine.specs.Takes.{TakesFront, EntersFront, TakesNext}
 use Rattle.smp_machine.specs.Works.{Works, ReadsAnew}
 use Rattle.smp_machine.proofs.Works.{works_own, works_as, works_both}
-use Rattle.smp_machine.proofs.Stopping.{works_begin, works_gate, last_kept, shown_at}
+use Rattle.smp_machine.proofs.Stopping.{works_begin, works_gate, last_open, shown_at}
 
 some_same : {A : Type 0} {a b : A} → Some a ≡ Some b → a ≡ b
 some_same e = cc
@@ -72,7 +72,7 @@ module _ {H F : Type 0} (hears : H → Heard → H → Type 0) (runs : F → Cal
         word = c.word;
         answer_is = same ∙ c.answer_is;
         works = works_both hears runs (λ (o : Own). with_collected c.word (put o)) (with_gate false) four (works_gate hears runs m₄ new h₄ f₄ false g);
-        result = last_kept (ap (λ (p : PlaceValue). p.stops.part.begun) g) (ap (λ (p : PlaceValue). p.stops.part.collected) g) c.result;
+        result = last_open g c.result;
         shown = shown_at number refl (sym (ap (λ (p : PlaceValue). p.passes.put) g
             ∙ (ap (λ (o : Own). o.put) c.works.own_is ∙ ap (λ (o : Own). o.put) b.own_is))) shown;
         outside = ap (λ (p : PlaceValue). p.stops.inside) g ∙ c.outside;

@@ -9,8 +9,8 @@ use Rattle.smp_queue.specs.declared.handler.Heard.{Heard}
 use Rattle.smp_calls.specs.Queued.{is_in}
 use Rattle.smp_calls.proofs.Round.{is_in-append}
 use Rattle.smp_multi.specs.Answers.{answer_in}
-use Rattle.smp_multi.specs.Cpu.{gated, begins, collects}
-use Rattle.smp_multi.specs.Names.{Work, Part}
+use Rattle.smp_multi.specs.Cpu.{CpuValue, gated, begins, collects}
+use Rattle.smp_multi.specs.Names.{Work}
 use Rattle.smp_multi.specs.Polls.{IsLastResult}
 use Rattle.smp_multi.specs.declared.func.Called.{Called}
 use Rattle.smp_machine.specs.declared.work_queue.Item.{Item}
@@ -86,18 +86,32 @@ module _ {H F : Type 0} (hears : H → Heard → H → Type 0) (runs : F → Cal
       works_both hears runs (λ o. with_begun work (with_gate true o)) (with_put (item old.stops.number work) (members work.mask)) two
       (subst (λ (n : ℕ). Works hears runs m₂ h₁ f₁ m₃ h₃ f₃ (with_put (item n work) (members work.mask) (own_of m₂))) number b)
 
--- a result is one of these works and results, whatever else a CPU's part has
-pub last_kept : {old new : Part} {word : ℕ} → new.begun ≡ old.begun → new.collected ≡ old.collected → IsLastResult old word
-    → IsLastResult new word
-last_kept begun collected r = record {
+-- a result stays the last one, with the gate or without
+last_gated : (b : Bool) (c : CpuValue) (word : ℕ) → IsLastResult c word → IsLastResult (gated b c) word
+last_gated b c word r = record {
   work = r.work;
   answer = r.answer;
   works = r.works;
   results = r.results;
-  begun = begun ∙ r.begun;
-  collected = collected ∙ r.collected;
+  begun = r.begun;
+  collected = r.collected;
   is_result = r.is_result;
+  given = record {
+    stops = r.given.stops;
+    at = r.given.at;
+    seat = r.given.seat;
+    source = r.given.source;
+    shown = r.given.shown;
+    laws = r.given.laws;
+    begun = r.given.begun;
+    collected = r.given.collected;
+    closed = r.given.closed;
+    given = r.given.given;
+  };
 }
+
+pub last_open : {p new : PlaceValue} {word : ℕ} → new ≡ record p { stops = gated false p.stops } → IsLastResult p.stops word → IsLastResult new.stops word
+last_open {p} {new} {word} e r = subst (λ (q : PlaceValue). IsLastResult q.stops word) (sym e) (last_gated false p.stops word r)
 
 -- the law of the queues, over those that were put to
 or_left : (b : Bool) → (b || (false || false)) ≡ true → b ≡ true
@@ -136,7 +150,7 @@ module _ {H F : Type 0} (hears : H → Heard → H → Type 0) (runs : F → Cal
         word = c.word;
         answer_is = same ∙ c.answer_is;
         works = works_both hears runs (λ (o : Own). with_collected c.word (put o)) (with_gate false) three (works_gate hears runs m₄ new h₄ f₄ false e);
-        result = last_kept (ap (λ (p : PlaceValue). p.stops.part.begun) e) (ap (λ (p : PlaceValue). p.stops.part.collected) e) c.result;
+        result = last_open e c.result;
         shown = shown_at number refl (sym (ap (λ (p : PlaceValue). p.passes.put) e ∙ ap (λ (o : Own). o.put) c.works.own_is)) shown;
         outside = ap (λ (p : PlaceValue). p.stops.inside) e ∙ c.outside;
       }
@@ -157,3 +171,10 @@ module _ {H F : Type 0} (hears : H → Heard → H → Type 0) (runs : F → Cal
         shown = shown_at number refl (sym (ap (λ (o : Own). o.put) c.works.own_is ∙ ap (λ (p : PlaceValue). p.passes.put) e)) shown;
         outside = c.outside;
       }
+
+  -- the same stop, as callers see its CPU and its answer
+  pub stop_seen : {old seen new : PlaceValue} {h h' : H} {f f' : F} {work : Work} (u v : ℤ) → old ≡ seen → u ≡ v
+      → HasStopped hears runs work old h f new h' f' v → HasStopped hears runs work seen h f new h' f' u
+  stop_seen {old} {seen} {new} {h} {h'} {f} {f'} {work} u v e same s =
+      subst (λ (p : PlaceValue). HasStopped hears runs work p h f new h' f' u) e
+      (subst (λ (x : ℤ). HasStopped hears runs work old h f new h' f' x) (sym same) s)

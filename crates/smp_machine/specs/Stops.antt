@@ -54,7 +54,7 @@ pub record HasCollected {H F : Type 0} (hears : H → Heard → H → Type 0) (r
   pub word : ℕ
   pub answer_is : answer ≡ answer_in word
   pub works : Works hears runs old h f new h' f' (with_collected word (own_of old))
-  pub result : IsLastResult new.stops.part word
+  pub result : IsLastResult new.stops word
   pub outside : new.stops.inside ≡ None
 
 -- a CPU that was in no stop has made a stop of this work, with this answer, and is in none. Its works were queued once for
@@ -64,7 +64,7 @@ pub record HasStopped {H F : Type 0} (hears : H → Heard → H → Type 0) (run
   pub word : ℕ
   pub answer_is : answer ≡ answer_in word
   pub works : Works hears runs old h f new h' f' (with_stop old.stops.number work word (own_of old))
-  pub result : IsLastResult new.stops.part word
+  pub result : IsLastResult new.stops word
   pub shown : AreShown old.stops.number (members work.mask) new.passes.put
   pub outside : new.stops.inside ≡ None
 

@@ -161,7 +161,7 @@ pub(crate) fn look_done<A: Allocator>(machine: &Machine<A>, me: &mut Place<A>) -
     requires at { IsAt machine.now me.old }
     requires begun { me.old.stops.pending ≢ None }
     ensures { MatchOption result (me.new ≡ me.old) (λ v. (word : ℕ) × (v ≡ answer_in word)
-        × (me.new ≡ record me.old { stops = collects word me.old.stops }) × IsLastResult me.new.stops.part word) }
+        × (me.new ≡ record me.old { stops = collects word me.old.stops }) × IsLastResult me.new.stops word) }
 {
     match machine.stops.poll_done(&mut me.stops) {
         Ok(done) => done,

@@ -9,22 +9,26 @@ use Rattle.smp_stop_steps.specs.Carries.{IsQuiet}
 use Rattle.smp_stop_steps.specs.Known.{setup_in, told_source, told_calling, Lives}
 use Rattle.smp_stop_steps.specs.KnownAfter.{completed_with, is_drafting}
 use Rattle.smp_stop_steps.specs.Laws.{IsResult}
-use Rattle.smp_stop_steps.specs.Past.{Past, AllPast, works_of, results_of}
+use Rattle.smp_stop_steps.specs.Past.{Past, AllPast, works_of, results_of, answers_of, answer_now}
 use Rattle.smp_stop_steps.specs.Seats.{irq_of, Stands}
 use Rattle.smp_stop_steps.specs.Sits.{SitsAtRest, OwnsIf}
 use Rattle.smp_stop_steps.specs.Slots.{IsPhaseOf}
 use Rattle.smp_stop_steps.specs.Sources.{IsWork, SourceShows}
 use Rattle.smp_stop_steps.specs.Stages.{stop_outside}
 use Rattle.std.proofs.lemmas.Bool.{and_parts, ltb-true}
+use Rattle.std.proofs.lemmas.List.{append-nil}
 use Rattle.smp_stop_steps.specs.Starts.{begin_refusal, has_slot, answer_word}
-use Rattle.smp_stop_steps.specs.Stop.{Inside}
+use Rattle.smp_stop_steps.specs.State.{Setup}
+use Rattle.smp_stop_steps.specs.Stop.{Stop, Inside}
 use Rattle.smp_stop_steps.specs.Table.{StopWords}
 use Rattle.smp_stop_steps.specs.Value.{StopsValue}
 use Rattle.smp_stop_steps.specs.declared.phase.TheConstants.{RUN}
 use Rattle.smp_stop_steps.specs.declared.stage.Visit.{Visit}
+use Rattle.smp_stop_steps.proofs.Promises.StopLaws.{keeps_laws}
+use Rattle.smp_stop_steps.proofs.State.Ends.{all_outside}
 use Rattle.smp_stop_steps.proofs.State.Phases.{is_open_inside, keeps_inside}
 use Rattle.smp_stop_steps.proofs.TheMachine.Starting.{begins_work}
-use Rattle.smp_multi.specs.Names.{Work, Kind, One, Slot, Seat, Free, In, Rests, Source, Shut, Drafts, Owns, Collects, Known, Part, Setting, Duty}
+use Rattle.smp_multi.specs.Names.{Field, Work, Kind, One, Slot, Seat, Free, In, Rests, Source, Shut, Drafts, Owns, Collects, Known, Part, Setting, Duty}
 use Rattle.smp_multi.specs.Names.{Calling, Idle, Calls, Carries}
 use Rattle.smp_multi.specs.Answers.{Enters, RunAnswers, PollAnswers, answer_in}
 use Rattle.smp_multi.specs.Begins.{Begins}
@@ -168,13 +172,20 @@ ran_view y z d e slot w x one idle table same =
     ap (λ (k : Kind). cpu_of y (record { table = d.table; known = completed_with 0 slot (record w { kind = k }) x d.known })) one ∙
     ap (λ (k : Part). answers slot x (runs (call_with w x) (record (cpu_of z d) { part = k }))) (sym (idle_part z d.known idle)))
 
--- the last of the works that were begun, with its result
+-- one stop more, before those that have this last answer
+given_more : (b : Bool) (n : ℕ) (answers before : List ℕ) (v : ℕ) → answers ≡ before ++ v ∷ []
+    → (more : List ℕ) × (cond b (n ∷ answers) answers ≡ more ++ v ∷ [])
+given_more true n answers before v e = (n ∷ before, ap (λ l. n ∷ l) e)
+given_more false n answers before v e = (before, e)
+
+-- the last of the works that were begun, with its result and its answers
 record HasLast (past : List Past) (r : ℕ) : Type 0 where
   work : Work
   answer : ℕ → ℕ
   works : List Work
   works_are : works_of past ≡ works ++ work ∷ []
   is_result : IsResult work.mask answer r
+  given : (c : ℕ) → has work.mask c ≡ true → (before : List ℕ) × (answers_of c past ≡ before ++ answer c ∷ [])
 
 has_last : (past : List Past) (rs : List ℕ) (r : ℕ) → AllPast past → results_of past ≡ rs ++ r ∷ [] → HasLast past r
 has_last [] [] r all e = cc
@@ -186,6 +197,7 @@ has_last (x ∷ []) [] r all e =
       works = [];
       works_are = refl;
       is_result = (let same : x.result ≡ r = cc in subst (IsResult x.work.mask x.answer) same all.0);
+      given = λ c of. ([], ap (λ b. cond b (x.answer c ∷ []) []) of);
     }
 has_last (x ∷ []) (z ∷ []) r all e = cc
 has_last (x ∷ []) (z ∷ y ∷ zs) r all e = cc
@@ -193,13 +205,33 @@ has_last (x ∷ y ∷ rest) [] r all e = cc
 has_last (x ∷ y ∷ rest) (z ∷ zs) r all e =
     let tail : results_of (y ∷ rest) ≡ zs ++ r ∷ [] = (let f : x.result ∷ results_of (y ∷ rest) ≡ z ∷ (zs ++ r ∷ []) = e in cc) in
     let l = has_last (y ∷ rest) zs r all.1 tail in
-    record { work = l.work; answer = l.answer; works = x.work ∷ l.works; works_are = ap (λ ws. x.work ∷ ws) l.works_are; is_result = l.is_result }
+    record {
+      work = l.work;
+      answer = l.answer;
+      works = x.work ∷ l.works;
+      works_are = ap (λ ws. x.work ∷ ws) l.works_are;
+      is_result = l.is_result;
+      given = λ c of. (let g = l.given c of in given_more (has x.work.mask c) (x.answer c) (answers_of c (y ∷ rest)) g.0 (l.answer c) g.1);
+    }
 
--- the result that was collected last is that of the work begun last
-pub last_result : (v : Known) (before : List ℕ) (r : ℕ) → Lives v → v.source ≡ Shut → v.part.collected ≡ before ++ r ∷ [] → IsLastResult v.part r
-last_result v before r l shut is =
-    let h = l.shown.past v.number in
-    let closed = closed_by (l.source v.number) (l.shown.sources v.number) (l.sees.source_is ∙ shut) in
+closed_by : (u : Setup) (gate : Option ℕ) (stop : Stop) (word : Field → ℕ) (me : ℕ) (y : Source) → SourceShows u gate stop word me y
+    → told_source y ≡ Shut → stop.is_open ≡ false
+closed_by u gate stop word me Shut shows e = shows
+closed_by u gate stop word me (Drafts w k) shows e = cc
+closed_by u gate stop word me (Owns w) shows e = cc
+closed_by u gate stop word me (Collects w) shows e = cc
+
+-- the result that was collected last is that of the work begun last, whatever answer the CPU carries in another stop
+pub last_result : (a : ℕ) (d : SeatValue) (before : List ℕ) (r : ℕ) → Lives d.known → d.known.source ≡ Shut → d.known.part.collected ≡ before ++ r ∷ []
+    → IsLastResult (cpu_of a d) r
+last_result a d before r l shut is =
+    let v = d.known in
+    let me = v.number in
+    let u = setup_in v.setting in
+    let stop = l.stops.now.stop me in
+    let word = λ (f : Field). l.at (Slot me f) in
+    let h = l.shown.past me in
+    let closed = closed_by u l.stops.gate stop word me (l.source me) (l.shown.sources me) (l.sees.source_is ∙ shut) in
     let last = has_last h.0 before r h.1.each (sym h.1.collected_are ∙ (l.sees.part_is.collected ∙ is)) in
     record {
       work = last.work;
@@ -207,34 +239,27 @@ last_result v before r l shut is =
       works = last.works;
       results = before;
       begun = sym l.sees.part_is.begun
-          ∙ (h.1.begun_are ∙ (ap (λ b. works_of h.0 ++ cond b ((l.stops.now.stop v.number).work ∷ []) []) closed
-          ∙ (append_none (works_of h.0) ∙ last.works_are)));
+          ∙ (h.1.begun_are ∙ (ap (λ b. works_of h.0 ++ cond b (stop.work ∷ []) []) closed ∙ (append-nil (works_of h.0) ∙ last.works_are)));
       collected = is;
       is_result = last.is_result;
+      given = record {
+        stops = l.stops;
+        at = l.at;
+        seat = l.seat;
+        source = l.source;
+        shown = l.shown;
+        laws = keeps_laws u l.stops l.at l.seat l.source l.shown;
+        begun = l.sees.part_is.begun;
+        collected = l.sees.part_is.collected;
+        closed = closed;
+        given = λ c of. (let g = last.given c of in (
+          g.0,
+          h.1.answers_are c ∙ (
+              ap (λ s. answers_of c h.0 ++ answer_now s) (all_outside u.cpus stop word (l.shown.present.slots me) closed c)
+              ∙ (append-nil (answers_of c h.0) ∙ g.1)),
+        ));
+      };
     }
-  where
-    closed_by : (y : Source) → SourceShows (setup_in v.setting) l.stops.gate (l.stops.now.stop v.number) (λ f. l.at (Slot v.number f)) v.number y
-        → told_source y ≡ Shut → (l.stops.now.stop v.number).is_open ≡ false
-    closed_by Shut shows e = shows
-    closed_by (Drafts w k) shows e = cc
-    closed_by (Owns w) shows e = cc
-    closed_by (Collects w) shows e = cc
-
-    append_none : (ws : List Work) → ws ++ [] ≡ ws
-    append_none [] = refl
-    append_none (w ∷ ws) = ap (λ r. w ∷ r) (append_none ws)
-
--- so also for a CPU that carries an answer in another stop
-last_with : (answer : ℕ) (v : Known) (r : ℕ) → IsLastResult v.part r → IsLastResult (part_with answer v) r
-last_with answer v r l = record {
-  work = l.work;
-  answer = l.answer;
-  works = l.works;
-  results = l.results;
-  begun = l.begun;
-  collected = l.collected;
-  is_result = l.is_result;
-}
 
 -- a CPU that has collected a result
 pub collected_view : (x : ℕ) (d e f : SeatValue) (r : ℕ) → e.known ≡ looked true d.known → f.table ≡ d.table → f.known ≡ collected r e.known
@@ -309,7 +334,7 @@ poll_answers d e f number visit holds word v kept one table two lives is =
         word,
         is,
         collected_view (answer_of visit) d e f word one table two,
-        last_with (answer_of visit) f.known word (last_result f.known d.known.part.collected word lives (ap (λ (z : Known). z.source) all)
-            (ap (λ (z : Known). z.part.collected) all)),
+        last_result (answer_of visit) f d.known.part.collected word lives (ap (λ (z : Known). z.source) all)
+            (ap (λ (z : Known). z.part.collected) all),
       ),
     )

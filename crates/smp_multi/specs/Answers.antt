@@ -60,6 +60,6 @@ answer_in word = cast_signed w32 (word % 2 ^ 32)
 -- poll_done: None where done was not set; at Some the stop is collected, with its result
 abbrev pub PollAnswers : CpuValue → CpuValue → Result (Option ℤ) SmpError → Type 0
 PollAnswers old new (Ok None) = (old.pending ≢ None) × (new ≡ old) × Finds old (Slot old.number field.Done) 0
-PollAnswers old new (Ok (Some v)) = (old.pending ≢ None) × ((word : ℕ) × (v ≡ answer_in word) × (new ≡ collects word old) × IsLastResult new.part word)
+PollAnswers old new (Ok (Some v)) = (old.pending ≢ None) × ((word : ℕ) × (v ≡ answer_in word) × (new ≡ collects word old) × IsLastResult new word)
 PollAnswers old new (Err error.BadArgument) = (old.pending ≡ None) × (new ≡ old)
 PollAnswers old new (Err _) = ⊥

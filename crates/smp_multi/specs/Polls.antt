@@ -1,11 +1,17 @@
 -- A source that looks for the end of its stop, and the result that it collects.
-use Rattle.std.specs.Prelude.{◌≡◌, ℕ, ◌<◌, Bool, cond, List, [], ◌∷◌, ◌++◌}
+use Rattle.std.specs.Prelude.{◌≡◌, ℕ, ◌<◌, Bool, true, false, cond, List, [], ◌∷◌, ◌++◌}
 use Rattle.atomic_table.specs.Seated.{TableId}
+use Rattle.smp_mask.specs.Mask.{has}
 use Rattle.smp_words.specs.Size.{cpus}
+use Rattle.smp_stop_steps.specs.Known.{setup_in}
 use Rattle.smp_stop_steps.specs.KnownAfter.{no_work}
 use Rattle.smp_stop_steps.specs.Laws.{IsResult}
-use Rattle.smp_multi.specs.Names.{Work, Source, Shut, Owns, Collects, Known, Part}
+use Rattle.smp_stop_steps.specs.Shows.{StopShows}
+use Rattle.smp_stop_steps.specs.State.{StopState}
+use Rattle.smp_stop_steps.specs.StopLaws.{KeepsStopLaws}
+use Rattle.smp_multi.specs.Names.{Word, Work, Seat, Source, Shut, Owns, Collects, Known}
 use Rattle.smp_multi.specs.Cells.{cells}
+use Rattle.smp_multi.specs.Cpu.{CpuValue}
 use Rattle.smp_multi.specs.Seat.{SeatValue}
 
 -- the work of a source's stop
@@ -36,13 +42,28 @@ looked done v = record v { source = cond done (Collects (own_work v.source)) (Ow
 abbrev pub collected : ℕ → Known → Known
 collected x v = record v { source = Shut; part = record (v.part) { collected = v.part.collected ++ x ∷ [] } }
 
+-- some words of the table show stops that keep all laws: in them this CPU has begun and collected what its part says, none
+-- of its stops is open, and the last answer of each CPU of the mask in its stops is this
+pub record AreGiven (c : CpuValue) (mask : ℕ) (answer : ℕ → ℕ) : Type 0 where
+  pub stops : StopState
+  pub at : Word → ℕ
+  pub seat : ℕ → Seat
+  pub source : ℕ → Source
+  pub shown : StopShows (setup_in c.setting) stops at seat source
+  pub laws : KeepsStopLaws (setup_in c.setting) stops at
+  pub begun : stops.begun c.number ≡ c.part.begun
+  pub collected : stops.collected c.number ≡ c.part.collected
+  pub closed : (stops.now.stop c.number).is_open ≡ false
+  pub given : (cpu : ℕ) → has mask cpu ≡ true → (before : List ℕ) × (stops.answers cpu c.number ≡ before ++ answer cpu ∷ [])
+
 -- the result collected last is that of the stop begun last: 0 where all of its mask have answered 0, else one of the
 -- answers that are not
-pub record IsLastResult (part : Part) (result : ℕ) : Type 0 where
+pub record IsLastResult (c : CpuValue) (result : ℕ) : Type 0 where
   pub work : Work
   pub answer : ℕ → ℕ
   pub works : List Work
   pub results : List ℕ
-  pub begun : part.begun ≡ works ++ work ∷ []
-  pub collected : part.collected ≡ results ++ result ∷ []
+  pub begun : c.part.begun ≡ works ++ work ∷ []
+  pub collected : c.part.collected ≡ results ++ result ∷ []
   pub is_result : IsResult work.mask answer result
+  pub given : AreGiven c work.mask answer
