@@ -95,7 +95,7 @@ impl<'a> Stand<'a> {
         } else {
             self.machine.key_dec(rt, cpu, counter, runs, 0)
         };
-        if turned == Ok(false) {
+        if let Ok(false) = turned {
             self.nudges = self.nudges.wrapping_add(1);
         }
     }

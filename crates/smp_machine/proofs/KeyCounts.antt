@@ -55,6 +55,24 @@ module _ (k : ℕ) (up : Bool) (rs : List Reading) (old mid new : CpuValue) (e :
   nudge_refused error.BadArgument key a = absurd (a.0 key)
   nudge_refused _ key a = absurd a
 
+-- nudges after such readings are nudges of before
+loads_after : (k count : ℕ) (rs : List Reading) (old mid loaded : CpuValue) → mid ≡ reads_all rs old → Loads k count mid loaded → Loads k count old loaded
+loads_after k count rs old mid loaded e l =
+    let is : reads_all l.readings mid ≡ reads_all (rs ++ l.readings) old = ap (reads_all l.readings) e
+    ∙ (λ i. record old { part = record (old.part) { readings = append_assoc old.part.readings rs l.readings i } }) in
+    record {
+      readings = rs ++ l.readings;
+      finds = subst (λ (c : CpuValue). FindsCount c k count) is l.finds;
+      is = l.is ∙ ap (loads_count k count) is;
+    }
+
+pub nudges_after : (k : ℕ) (up : Bool) (rs : List Reading) (old mid new : CpuValue) → mid ≡ reads_all rs old → (r : Result Bool SmpError)
+    → Nudges k up mid new r → Nudges k up old new r
+nudges_after k up rs old mid new e (Ok true) n = (n.0, n.1, loads_after k n.0 rs old mid n.1 e n.2, n.3, n.4, n.5)
+nudges_after k up rs old mid new e (Ok false) n = loads_after k (turn_at up) rs old mid new e n
+nudges_after k up rs old mid new e (Err (error.KeyRange x)) n = (n.0, loads_after k (edge_at up) rs old mid new e n.1)
+nudges_after k up rs old mid new e (Err _) n = absurd n
+
 pub nudge_lost : (k : ℕ) (up : Bool) (mid new : CpuValue) (n : Nudge) → n ≡ Lost → NudgeAnswers k up mid new (Ok n) → (count : ℕ) × (new ≡ loads_count k count mid)
 nudge_lost k up mid new Lost is a = (a.0, a.6)
 nudge_lost k up mid new _ is a = absurd cc
@@ -164,32 +182,32 @@ module _ {H F : Type 0} (hears : H → Heard → H → Type 0) (runs : F → Cal
   )
   counts_patched (Err _) p m new h h' f f' l e holds b = absurd b
 
-  -- all that, once the gate is taken
-  pub counts_after : (r : Result Bool SmpError) (p m new : PlaceValue) (h h₁ h' : H) (f f₁ f' : F) → Works hears runs p h f m h₁ f₁ (with_gate true (own_of p))
+  -- all that, after a stretch in which at most the gate was taken or given up
+  pub counts_after : (held : Bool) (r : Result Bool SmpError) (p m new : PlaceValue) (h h₁ h' : H) (f f₁ f' : F) → Works hears runs p h f m h₁ f₁ (with_gate held (own_of p))
       → Counts hears runs t k up m h₁ f₁ new h' f' r → Counts hears runs t k up p h f new h' f' r
-  counts_after (Ok false) p m new h h₁ h' f f₁ f' w c = record {
+  counts_after held (Ok false) p m new h h₁ h' f f₁ f' w c = record {
     count = c.count;
     stays = c.stays;
     found = c.found;
-    works = works_both hears runs (with_gate true) (λ o. with_nudge up k (with_gate false o)) w c.works;
+    works = works_both hears runs (with_gate held) (λ o. with_nudge up k (with_gate false o)) w c.works;
     outside = c.outside;
   }
-  counts_after (Ok true) p m new h h₁ h' f f₁ f' w c = record {
+  counts_after held (Ok true) p m new h h₁ h' f f₁ f' w c = record {
     at_gate = c.at_gate;
     found = c.found;
     holds = c.holds;
     begun = c.begun ∙ ap (λ (o : Own). o.begun) w.own_is;
-    patches = patches_after (with_gate true) (pos 0) (λ o. refl) w c.patches;
+    patches = patches_after (with_gate held) (pos 0) (λ o. refl) w c.patches;
   }
-  counts_after (Err (error.KeyRange x)) p m new h h₁ h' f f₁ f' w (a, inl c) = (
+  counts_after held (Err (error.KeyRange x)) p m new h h₁ h' f f₁ f' w (a, inl c) = (
     a,
     inl (record {
       found = c.found;
-      works = works_both hears runs (with_gate true) (with_gate false) w c.works;
+      works = works_both hears runs (with_gate held) (with_gate false) w c.works;
       outside = c.outside;
     }),
   )
-  counts_after (Err (error.KeyRange x)) p m new h h₁ h' f f₁ f' w (a, inr (v, n, c)) = (
+  counts_after held (Err (error.KeyRange x)) p m new h h₁ h' f f₁ f' w (a, inr (v, n, c)) = (
     a,
     inr (
       v,
@@ -199,11 +217,11 @@ module _ {H F : Type 0} (hears : H → Heard → H → Type 0) (runs : F → Cal
         found = c.found;
         holds = c.holds;
         begun = c.begun ∙ ap (λ (o : Own). o.begun) w.own_is;
-        patches = patches_after (with_gate true) v (λ o. refl) w c.patches;
+        patches = patches_after (with_gate held) v (λ o. refl) w c.patches;
       },
     ),
   )
-  counts_after (Err _) p m new h h₁ h' f f₁ f' w c = absurd c
+  counts_after held (Err _) p m new h h₁ h' f f₁ f' w c = absurd c
 
   pub counts_or : (r : Result Bool SmpError) (p new : PlaceValue) (h h' : H) (f f' : F) → MayChange t p k → Counts hears runs t k up p h f new h' f' r
       → CountsOr hears runs t k up p h f new h' f' r

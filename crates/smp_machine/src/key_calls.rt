@@ -65,6 +65,7 @@ impl<A: Allocator> Machine<A> {
     ///
     /// E4 where a work is in hand, or there is no such key, which makes no step. E13 where the count is 65,535: found by
     /// the load of a nudge, or by its own patch, which stays among the stops that the CPU has made.
+    #[inline]
     pub fn key_inc<R: Wait, H: Handler, F: StopFunc>(
         &self,
         rt: &R,
@@ -89,6 +90,7 @@ impl<A: Allocator> Machine<A> {
     ///
     /// E4 where a work is in hand, or there is no such key, which makes no step. E13 where the count is 0: found by the
     /// load of a nudge, or by its own patch, which stays among the stops that the CPU has made.
+    #[inline]
     pub fn key_dec<R: Wait, H: Handler, F: StopFunc>(
         &self,
         rt: &R,

@@ -26,6 +26,7 @@ fn step(up: bool) -> Change
 }
 
 /// Tries once to nudge the count.
+#[inline(always)]
 fn try_key<A: Allocator>(
     machine: &Machine<A>,
     me: &mut Place<A>,
@@ -39,9 +40,10 @@ fn try_key<A: Allocator>(
     machine.stops.try_key(&mut me.stops, k, up)
 }
 
-/// Nudges the count where the key stays on, and tries again as long as another CPU has changed it meanwhile: false where
-/// the key would turn.
-fn nudge<A: Allocator, R: Wait>(
+/// Nudges the count, which another CPU has just changed: tries again as long as that is so.
+#[cold]
+#[inline(never)]
+fn nudge_again<A: Allocator, R: Wait>(
     machine: &Machine<A>,
     rt: &R,
     me: &mut Place<A>,
@@ -57,6 +59,7 @@ fn nudge<A: Allocator, R: Wait>(
     // Interrupts are on outside a stop.
     let _on = me.stops.interrupts_on();
     let backoff = Backoff::new();
+    backoff.snooze();
     for _ in rt.forever() {
         match try_key(machine, me, k, up) {
             Ok(Nudge::Done) => return Ok(true),
@@ -66,6 +69,32 @@ fn nudge<A: Allocator, R: Wait>(
         }
     }
     unreachable!()
+}
+
+/// Nudges the count where the key stays on, and tries again as long as another CPU has changed it meanwhile: false where
+/// the key would turn.
+#[inline(always)]
+fn nudge<A: Allocator, R: Wait>(
+    machine: &Machine<A>,
+    rt: &R,
+    me: &mut Place<A>,
+    k: u32,
+    up: bool,
+) -> Result<bool, SmpError>
+    requires at { IsAt machine.now me.old }
+    requires outside { me.old.stops.inside ≡ None }
+    requires key { k < machine.now.stops.setting.labels.keys }
+    ensures nudges { Nudges k up me.old.stops me.new.stops result }
+    ensures rest { me.new ≡ record me.old { stops = me.new.stops } }
+{
+    // Interrupts are on outside a stop.
+    let _on = me.stops.interrupts_on();
+    match try_key(machine, me, k, up) {
+        Ok(Nudge::Done) => Ok(true),
+        Ok(Nudge::Stop) => Ok(false),
+        Ok(Nudge::Lost) => nudge_again(machine, rt, me, k, up),
+        Err(error) => Err(error),
+    }
 }
 
 /// A patch of the count by one, by who holds the gate, which it gives up.
@@ -125,7 +154,30 @@ fn count_at_gate<A: Allocator, R: Wait, H: Handler, F: StopFunc>(
     }
 }
 
+/// Takes the gate and changes the count by one: whether there was a patch.
+#[cold]
+#[inline(never)]
+fn count_by_gate<A: Allocator, R: Wait, H: Handler, F: StopFunc>(
+    machine: &Machine<A>,
+    rt: &R,
+    me: &mut Place<A>,
+    handler: &mut H,
+    run: &mut F,
+    k: u32,
+    up: bool,
+) -> Result<bool, SmpError>
+    requires at { IsAt machine.now me.old }
+    requires outside { me.old.stops.inside ≡ None }
+    requires collected { me.old.stops.pending ≡ None }
+    requires key { k < machine.now.stops.setting.labels.keys }
+    ensures { Counts H.leads F.leads machine.now.stops k up me.old handler.old run.old me.new handler.new run.new result }
+{
+    take_gate(machine, rt, me, handler, run);
+    count_at_gate(machine, rt, me, handler, run, k, up)
+}
+
 /// Changes the count by one: whether there was a patch.
+#[inline(always)]
 pub(crate) fn count<A: Allocator, R: Wait, H: Handler, F: StopFunc>(
     machine: &Machine<A>,
     rt: &R,
@@ -144,10 +196,7 @@ pub(crate) fn count<A: Allocator, R: Wait, H: Handler, F: StopFunc>(
 {
     match nudge(machine, rt, me, k, up) {
         Ok(true) => Ok(false),
-        Ok(false) => {
-            take_gate(machine, rt, me, handler, run);
-            count_at_gate(machine, rt, me, handler, run, k, up)
-        }
+        Ok(false) => count_by_gate(machine, rt, me, handler, run, k, up),
         Err(error) => Err(error),
     }
 }

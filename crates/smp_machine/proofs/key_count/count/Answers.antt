@@ -1,8 +1,6 @@
 use Rattle.std.proofs.Common.{Bool, true, Ok, ◌∙◌, subst}
 use Rattle.smp_multi.specs.Nudges.{turn_at}
 use Rattle.smp_machine.specs.Counts.{Nudges}
-use Rattle.smp_machine.specs.Own.{with_gate}
-use Rattle.smp_machine.proofs.Stopping.{works_after}
 use Rattle.smp_machine.proofs.KeyCounts.{gate_same, gate_nudges, gate_refused, works_loads, counts_nudged, counts_refused, counts_after}
 use Rattle.smp_machine.proofs.key_count.count.Goals as goal
 
@@ -21,11 +19,10 @@ returns-in-Ok-false g c =
     let runs = g.F.StopFunc.leads in
     let t = c.args.machine.now.stops in
     let l = subst (λ (b : Bool). Nudges c.args.k c.args.up c.args.me.now.stops c.nudge.new.me.stops (Ok b)) c.in-Ok-false.field-0-test c.in-Ok-false.ensures.nudges in
-    counts_after hears runs t c.args.k c.args.up c.count_at_gate.result c.args.me.now c.take_gate.new.me c.count_at_gate.new.me
-    c.args.handler.now c.take_gate.new.handler c.count_at_gate.new.handler c.args.run.now c.take_gate.new.run c.count_at_gate.new.run
-    (works_after hears runs (with_gate true)
+    counts_after hears runs t c.args.k c.args.up c.args.me.now.stops.part.holds c.count_by_gate.result c.args.me.now c.nudge.new.me c.count_by_gate.new.me
+    c.args.handler.now c.args.handler.now c.count_by_gate.new.handler c.args.run.now c.args.run.now c.count_by_gate.new.run
     (works_loads hears runs t c.args.k c.args.up (turn_at c.args.up) c.args.me.now c.nudge.new.me c.args.handler.now c.args.run.now l c.nudge.ensures.rest)
-    c.take_gate.ensures.works) c.count_at_gate.ensures
+    c.count_by_gate.ensures
 
 pub returns-in-Err : goal.returns-in-Err
 returns-in-Err g c =

@@ -1,44 +1,33 @@
-use Rattle.std.proofs.Common.{ℕ, ◌<◌, List, [], ◌∷◌, ◌++◌, sym, subst, ap, ◌∙◌}
+use Rattle.std.proofs.Common.{ℕ, ◌<◌, List, [], ◌∷◌, sym, subst, ap, ◌∙◌}
 use Rattle.smp_labels.specs.Keys.{is_on}
 use Rattle.smp_multi.specs.Names.{ReadKey, Setting}
 use Rattle.smp_multi.specs.Cpu.{CpuValue}
 use Rattle.smp_machine.specs.Place.{PlaceValue}
-use Rattle.smp_machine.proofs.KeyCounts.{reads_none, reads_more, nudge_done, nudge_turns, nudge_lost, nudge_refused}
+use Rattle.smp_machine.proofs.KeyCounts.{reads_none, nudge_done, nudge_turns, nudge_lost, nudge_refused, nudges_after}
 use Rattle.smp_machine.proofs.key_count.nudge.Goals as goal
-
-pub loop-init : goal.loop-init
-loop-init g c = record { read = []; is = reads_none c.args.me.now }
-
-pub loop-preserved : goal.loop-preserved
-loop-preserved g c =
-    let i = c.loop.invariant in
-    let lost = nudge_lost c.args.k c.args.up c.loop.me.stops c.try_key.new.me.stops c.in-Ok-Lost.field-0 c.in-Ok-Lost.field-0-is c.in-Ok-Lost.ensures.answers in
-    record {
-      read = i.read ++ ReadKey c.args.k (is_on lost.0) ∷ [];
-      is = reads_more i.read (ReadKey c.args.k (is_on lost.0)) c.args.me.now c.loop.me c.try_key.new.me i.is
-          (c.try_key.ensures.rest ∙ ap (λ (s : CpuValue). record (c.loop.me) { stops = s }) lost.1);
-    }
 
 pub returns-in-Ok-Done-clause-nudges : goal.returns-in-Ok-Done-clause-nudges
 returns-in-Ok-Done-clause-nudges g c =
-    let i = c.loop.invariant in
-    nudge_done c.args.k c.args.up i.read c.args.me.now.stops c.loop.me.stops c.try_key.new.me.stops (ap (λ (p : PlaceValue). p.stops) i.is)
+    nudge_done c.args.k c.args.up [] c.args.me.now.stops c.args.me.now.stops c.try_key.new.me.stops (ap (λ (p : PlaceValue). p.stops) (reads_none c.args.me.now))
     c.in-Ok-Done.field-0 c.in-Ok-Done.field-0-is c.in-Ok-Done.ensures.answers
 
 pub returns-in-Ok-Stop-clause-nudges : goal.returns-in-Ok-Stop-clause-nudges
 returns-in-Ok-Stop-clause-nudges g c =
-    let i = c.loop.invariant in
-    nudge_turns c.args.k c.args.up i.read c.args.me.now.stops c.loop.me.stops c.try_key.new.me.stops (ap (λ (p : PlaceValue). p.stops) i.is)
+    nudge_turns c.args.k c.args.up [] c.args.me.now.stops c.args.me.now.stops c.try_key.new.me.stops (ap (λ (p : PlaceValue). p.stops) (reads_none c.args.me.now))
     c.in-Ok-Stop.field-0 c.in-Ok-Stop.field-0-is c.in-Ok-Stop.ensures.answers
+
+pub returns-in-Ok-Lost-clause-nudges : goal.returns-in-Ok-Lost-clause-nudges
+returns-in-Ok-Lost-clause-nudges g c =
+    let lost = nudge_lost c.args.k c.args.up c.args.me.now.stops c.try_key.new.me.stops c.in-Ok-Lost.field-0 c.in-Ok-Lost.field-0-is c.in-Ok-Lost.ensures.answers in
+    nudges_after c.args.k c.args.up (ReadKey c.args.k (is_on lost.0) ∷ []) c.args.me.now.stops c.try_key.new.me.stops c.nudge_again.new.me.stops lost.1
+    c.nudge_again.result c.nudge_again.ensures.nudges
 
 pub returns-in-Err-clause-nudges : goal.returns-in-Err-clause-nudges
 returns-in-Err-clause-nudges g c =
-    let i = c.loop.invariant in
-    let stops = ap (λ (p : PlaceValue). p.stops) i.is in
-    let setting = ap (λ (s : CpuValue). s.setting) stops ∙ c.requires.at.stops.setting in
-    nudge_refused c.args.k c.args.up i.read c.args.me.now.stops c.loop.me.stops c.try_key.new.me.stops stops c.in-Err.error (
-      subst (λ (x : Setting). c.args.k < x.labels.keys) (sym setting) c.requires.key,
-      ap (λ (s : CpuValue). s.irq) stops ∙ (sym (ap (λ (p : PlaceValue). p.stops.irq) c.me.view_is)
-          ∙ c.interrupts_on-on.ensures.outside (ap (λ (p : PlaceValue). p.stops.inside) c.me.view_is ∙ c.requires.outside)),
+    nudge_refused c.args.k c.args.up [] c.args.me.now.stops c.args.me.now.stops c.try_key.new.me.stops (ap (λ (p : PlaceValue). p.stops) (reads_none c.args.me.now))
+    c.in-Err.error (
+      subst (λ (x : Setting). c.args.k < x.labels.keys) (sym c.requires.at.stops.setting) c.requires.key,
+      sym (ap (λ (p : PlaceValue). p.stops.irq) c.me.view_is)
+          ∙ c.interrupts_on-on.ensures.outside (ap (λ (p : PlaceValue). p.stops.inside) c.me.view_is ∙ c.requires.outside),
     )
     c.in-Err.ensures.answers
