@@ -1,0 +1,68 @@
+//! What calls and stops run on a CPU.
+
+ghost use Rattle.std.specs.Prelude.{◌<◌};
+
+use crate::sheet::Sheet;
+use smp_multi::StopFunc;
+use smp_queue::Handler;
+use smp_words::size::NR_CPUS;
+
+/// Notes each call that it hears.
+#[derive(Drop)]
+pub struct Ear {
+    pub own: u32,
+    pub heard: Sheet,
+    /// Polls and waits in which it heard calls of other CPUs, modulo 2^64. Each is a batch of the queue, or more.
+    pub batches: u64,
+    /// Whether the current poll or wait has had none yet.
+    pub fresh: bool,
+}
+
+impl Handler for Ear {
+    ghost leads = { λ _ _ _. Unit {0} };
+
+    fn call(&mut self, src: u32, func: u16, info: u64) {
+        self.heard.note(func, src, info);
+        if self.fresh && src != self.own {
+            self.batches = self.batches.wrapping_add(1);
+            self.fresh = false;
+        }
+    }
+}
+
+/// Notes each stop function that runs, and answers a number that its argument gives.
+#[derive(Drop)]
+pub struct Runs {
+    pub own: u32,
+    pub ran: Sheet,
+}
+
+/// The argument of a stop by this CPU.
+pub fn arg_of(source: u32, random: u64) -> u64 {
+    random - random % u64::from(NR_CPUS) + u64::from(source % NR_CPUS)
+}
+
+/// The CPU that made the stop of an argument.
+pub fn source_of(arg: u64) -> u32
+    ensures { result < 32 }
+{
+    (arg % u64::from(NR_CPUS)) as u32
+}
+
+/// What a stop function answers: it is never 0.
+pub fn answer_to(arg: u64) -> i32 {
+    (arg / u64::from(NR_CPUS) % 1_000_000) as i32 + 1
+}
+
+impl StopFunc for Runs {
+    ghost leads = { λ _ _ _. Unit {0} };
+
+    fn run(&mut self, cpu: u32, func: u16, arg: u64) -> i32 {
+        if cpu == self.own {
+            self.ran.note(func, source_of(arg), arg);
+        } else {
+            self.ran.stray();
+        }
+        answer_to(arg)
+    }
+}

@@ -1,0 +1,86 @@
+//! Tortures a machine by random calls and stops from all of its CPUs, as `kernel/scftorture.c` does.
+//!
+//! Each CPU is a thread. It draws what it does by weights, sleeps and polls among them, until the seconds have passed;
+//! then all poll until the last is done. At the end the calls that each CPU has sent are compared with those that the
+//! others' handlers have heard, and with the machine's own tally words. The exit status is 1 where a count is off.
+#![tactic(auto)]
+
+mod acts;
+mod cell;
+mod choice;
+mod ear;
+mod error;
+mod kind;
+mod launch;
+mod made;
+mod member;
+mod plan;
+mod report;
+mod request;
+mod sheet;
+mod table;
+mod torturer;
+mod verdict;
+mod weights;
+
+use crate::acts::labels;
+use crate::error::TortureError;
+use crate::launch::{Ended, torture};
+use crate::plan::Plan;
+use crate::request::{Request, read_words};
+use crate::table::print_table;
+use smp_machine::Machine;
+use smp_mask::CpuMask;
+use std::alloc::{AllocError, Global};
+use std::process::ExitCode;
+use std::sync::Wait;
+use std::thread::Threads;
+use std::time::{Clock, Instant};
+use std::{env, io};
+
+/// The CPUs from 0 on, so many.
+fn first_cpus(count: u32) -> Result<CpuMask, TortureError> {
+    let mut mask = CpuMask::empty();
+    for number in 0..count {
+        mask = mask.with(number)?;
+    }
+    Ok(mask)
+}
+
+/// Tortures a new machine, and prints what was done: whether all counts are right.
+fn run<R: Wait + Threads + Clock + Print + Eprint + Sync>(
+    rt: &R,
+    alloc: Global,
+    request: Request,
+) -> Result<bool, TortureError> {
+    let online = first_cpus(request.threads)?;
+    let (machine, boot) = Machine::new(alloc, request.threads, online, &labels()?)?;
+    let began = Instant::now(rt)?;
+    let plan = Plan { request, began };
+    let Ended { last, reports } = torture(rt, alloc, &plan, &machine, boot)?;
+    let audit = machine.shutdown(last);
+    Ok(print_table(rt, &request, reports.as_slice(), &audit)?)
+}
+
+/// Does what the words of the command line ask for.
+fn run_words<R: Wait + Threads + Clock + Print + Eprint + Sync>(
+    rt: &R,
+    alloc: Global,
+    words: &[String],
+) -> Result<bool, TortureError> {
+    let texts: Result<Vec<&str>, AllocError> = words.iter().map(|w| w.as_str()).collect(alloc);
+    let request = read_words(alloc, texts?.as_slice())?;
+    run(rt, alloc, request)
+}
+
+fn main(rt: HostRuntime) -> io::Result<ExitCode> {
+    let words: Result<Vec<String>, AllocError> = env::args(&rt)?.collect(rt.alloc());
+    match run_words(&rt, rt.alloc(), words?.as_slice()) {
+        Ok(true) => Ok(ExitCode::SUCCESS),
+        Ok(false) => Ok(ExitCode::from(1)),
+        Err(error) => {
+            eprintln!(rt; "smp_torture: {error}")?;
+            Ok(ExitCode::from(2))
+        }
+    }
+}

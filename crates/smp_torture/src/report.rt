@@ -1,0 +1,31 @@
+//! What one CPU has made, sent and heard.
+
+ghost use Rattle.std.specs.Prelude.{◌<◌};
+
+use crate::kind::{KINDS, Kind};
+use crate::made::Made;
+use crate::sheet::Sheet;
+
+/// What one CPU has made, sent and heard.
+#[derive(Drop)]
+pub struct Report {
+    pub number: u32,
+    pub made: [Made; KINDS],
+    /// The calls and the stops that it has made, by the CPUs on which their functions were to run.
+    pub sent: Sheet,
+    /// The calls that its handler has heard.
+    pub heard: Sheet,
+    /// The stop functions that it has run.
+    pub ran: Sheet,
+    /// How often a record of its own was still busy, modulo 2^64.
+    pub retries: u64,
+    /// Polls and waits in which it heard calls of other CPUs, modulo 2^64.
+    pub batches: u64,
+    ghost below: { number < 32 },
+}
+
+impl Report {
+    pub fn made(&self, kind: Kind) -> Made {
+        self.made[kind.index()]
+    }
+}

@@ -1,0 +1,119 @@
+//! Whether every handler heard what was sent to it.
+
+ghost use Rattle.std.specs.Prelude.{◌≡◌, ◌<◌, ◌↔◌, All, IsTrue};
+ghost use Rattle.smp_torture.specs.Kinds.{index_of};
+ghost use Rattle.smp_torture.specs.Verdicts.{heard_from, IsHeard, AreHeard};
+
+use crate::cell::Cell;
+use crate::kind::{KINDS, Kind};
+use crate::made::Made;
+use crate::report::Report;
+use smp_queue::Tally;
+use smp_words::size::NR_CPUS;
+
+/// The kinds that are calls come first.
+const CALLS: u16 = 9;
+
+/// What a CPU has heard of a kind from another: by its handler, or by its stop function.
+fn heard_from(target: &Report, kind: Kind, source: u32) -> Cell
+    ensures { source < 32 → result ≡ heard_from target.now (index_of kind) source }
+{
+    let func = kind.func();
+    let heard = target.heard.cell(func, source);
+    heard.plus(target.ran.cell(func, source))
+}
+
+/// Whether a CPU has heard of a kind exactly what another has sent to it.
+fn is_heard(source: &Report, target: &Report, kind: Kind) -> bool
+    ensures { IsTrue result ↔ IsHeard (index_of kind) source.now target.now }
+{
+    let sent = source.sent.cell(kind.func(), target.number);
+    sent == heard_from(target, kind, source.number)
+}
+
+/// Whether all CPUs have heard of a kind exactly what this one has sent to them.
+fn are_heard(source: &Report, reports: &[Report], kind: Kind) -> bool
+    ensures { IsTrue result ↔ All (λ target. IsHeard (index_of kind) source.now target) reports.now }
+{
+    reports.iter().all(|target| is_heard(source, target, kind))
+}
+
+/// Whether every CPU has heard of a kind exactly what each has sent to it.
+pub fn is_right(reports: &[Report], kind: Kind) -> bool
+    ensures { IsTrue result ↔ AreHeard (index_of kind) reports.now }
+{
+    reports
+        .iter()
+        .all(|source| are_heard(source, reports, kind))
+}
+
+/// What all CPUs have made of a kind.
+pub fn made_of(reports: &[Report], kind: Kind) -> Made {
+    let mut all = Made::NONE;
+    for report in reports {
+        all = all.plus(report.made(kind));
+    }
+    all
+}
+
+/// What all CPUs have sent of a kind.
+pub fn sent_of(reports: &[Report], kind: Kind) -> Cell {
+    let mut all = Cell::NONE;
+    for report in reports {
+        for cpu in 0..NR_CPUS {
+            all = all.plus(report.sent.cell(kind.func(), cpu));
+        }
+    }
+    all
+}
+
+/// What all CPUs have heard of a kind.
+pub fn heard_of(reports: &[Report], kind: Kind) -> Cell {
+    let mut all = Cell::NONE;
+    for report in reports {
+        for cpu in 0..NR_CPUS {
+            all = all.plus(heard_from(report, kind, cpu));
+        }
+    }
+    all
+}
+
+/// Whether no CPU has heard a call of a function or a CPU that does not exist.
+pub fn are_no_strays(reports: &[Report]) -> bool {
+    reports.iter().all(|r| r.sent.strays() == 0 && r.heard.strays() == 0 && r.ran.strays() == 0)
+}
+
+/// How many calls a CPU has queued for another: the tables know nothing of calls to itself, which run at once.
+fn queued_for(report: &Report, target: u32) -> u64 {
+    let mut count = 0u64;
+    if target != report.number {
+        for func in 0..CALLS {
+            count = count.wrapping_add(report.sent.cell(func, target).count);
+        }
+    }
+    count
+}
+
+/// Whether the tally words of the machine say the same of each pair of CPUs.
+pub fn is_tallied(reports: &[Report], tally: &Tally) -> bool {
+    for report in reports {
+        for target in 0..NR_CPUS {
+            let queued = tally.queued[report.number as usize][target as usize];
+            if queued != queued_for(report, target) {
+                return false;
+            }
+        }
+    }
+    true
+}
+
+/// How many calls were queued, modulo 2^64.
+pub fn queued_in(tally: &Tally) -> u64 {
+    let mut sum = 0u64;
+    for row in &tally.queued {
+        for queued in row {
+            sum = sum.wrapping_add(*queued);
+        }
+    }
+    sum
+}
