@@ -9,3 +9,6 @@ pub mod Cells
 pub mod Forms
 pub mod Shapes
 pub mod Places
+-- a picture
+pub mod Frame
+pub mod Link

@@ -11,6 +11,8 @@ use std::alloc::{AllocError, Global};
 pub enum Request<'a> {
     /// Its replay, with one column for each CPU.
     Lanes(Option<&'a str>),
+    /// A picture of its replay.
+    Svg(Option<&'a str>),
     /// What is wrong with it.
     Explain(Option<&'a str>),
 }
@@ -19,16 +21,18 @@ impl<'a> Request<'a> {
     /// The file that is named.
     pub fn file(&self) -> Option<&'a str> {
         match self {
-            Request::Lanes(file) | Request::Explain(file) => *file,
+            Request::Lanes(file) | Request::Svg(file) | Request::Explain(file) => *file,
         }
     }
 }
 
 fn grammar<'a>(alloc: Global) -> Result<Command<'a>, AllocError> {
     let lanes = Command::new(alloc, "lanes").arg(Arg::new(alloc, "FILE"))?;
+    let svg = Command::new(alloc, "svg").arg(Arg::new(alloc, "FILE"))?;
     let explain = Command::new(alloc, "explain").arg(Arg::new(alloc, "FILE"))?;
     Command::new(alloc, "smp_view")
         .subcommand(lanes)?
+        .subcommand(svg)?
         .subcommand(explain)
 }
 
@@ -36,6 +40,7 @@ fn grammar<'a>(alloc: Global) -> Result<Command<'a>, AllocError> {
 fn request_of<'a>(name: &str, file: Option<&'a str>) -> Result<Request<'a>, Refusal> {
     match name {
         "lanes" => Ok(Request::Lanes(file)),
+        "svg" => Ok(Request::Svg(file)),
         "explain" => Ok(Request::Explain(file)),
         _ => Err(Refusal::Usage),
     }

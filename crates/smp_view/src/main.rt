@@ -1,23 +1,32 @@
-//! Shows replays of scripts: `smp_view lanes [FILE]` and `smp_view explain [FILE]`.
+//! Shows replays of scripts: `smp_view lanes [FILE]`, `smp_view svg [FILE]`, `smp_view explain [FILE]`.
 //!
 //! - `arguments`, `status`: The words of the command line, and how the program ends.
 //! - `moments`, `trace`: What a script asks for, moment by moment, and what is seen of it.
 //! - `lanes`, `cell`, `pad`: A replay with one column for each CPU.
+//! - `svg`, `picture`, `legend`, `element`: A replay as a picture.
+//! - `frame`, `link`, `mark`: Where things stand in it, what opens and closes an arrow or a band, and the names of styles.
 //! - `forms`, `shapes`, `fits`, `fault`, `explain`: What is wrong with a script, and what may stand in its place.
 #![tactic(auto)]
 
 mod arguments;
 mod cell;
+mod element;
 mod explain;
 mod fault;
 mod fits;
 mod forms;
+mod frame;
 mod lanes;
+mod legend;
+mod link;
+mod mark;
 mod moments;
 mod pad;
+mod picture;
 mod shapes;
 mod show;
 mod status;
+mod svg;
 #[cfg(test)]
 mod tests;
 mod trace;
@@ -25,6 +34,7 @@ mod trace;
 use crate::arguments::{Request, read_words};
 use crate::show::{explain_script, show_lanes};
 use crate::status::{Refusal, status_of};
+use crate::svg::show_svg;
 use smp_mask::{Side, SmpError};
 use smp_script::{Outcome, Watched};
 use std::alloc::AllocError;
@@ -43,6 +53,7 @@ fn show_reader<R: Read + Drop>(
     let mut writer = Watched::new(rt.stdout());
     match request {
         Request::Lanes(_) => show_lanes(rt.alloc(), &mut reader, &mut writer),
+        Request::Svg(_) => show_svg(rt.alloc(), &mut reader, &mut writer),
         Request::Explain(_) => explain_script(rt.alloc(), &mut reader, &mut writer),
     }
 }
@@ -74,7 +85,7 @@ fn run_words(rt: &HostRuntime, words: &[String]) -> Result<Outcome, Refusal> {
 /// Says why nothing was shown to its end, on standard error.
 fn tell(rt: &HostRuntime, refusal: Refusal) -> io::Result<()> {
     match refusal {
-        Refusal::Usage => eprintln!(rt; "usage: smp_view lanes|explain [FILE]"),
+        Refusal::Usage => eprintln!(rt; "usage: smp_view lanes|svg|explain [FILE]"),
         Refusal::Failed(error) => eprintln!(rt; "smp_view: {error}"),
     }
 }

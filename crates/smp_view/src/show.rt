@@ -65,8 +65,8 @@ fn has_refused(rows: &[Row]) -> bool
     rows.iter().any(|row| is_refused(row.what))
 }
 
-// How a replay ended: whether an event was refused.
-fn ending(rows: &[Row]) -> Outcome
+/// How a replay ended: whether an event was refused.
+pub fn ending(rows: &[Row]) -> Outcome
     ensures { result ≡ ending_of rows.now }
 {
     if has_refused(rows) {

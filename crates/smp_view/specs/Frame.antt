@@ -1,0 +1,54 @@
+-- Where things stand in a picture, in pixels.
+use Rattle.std.specs.Prelude.{ℕ, ◌+◌, ◌*◌, ◌==◌, Bool, true, false, if◌then◌else◌, min, nat_lt, List, [], ◌∷◌}
+use Rattle.std.specs.List.{list_any}
+use Rattle.smp_view.specs.declared.frame.Lane.{Lane}
+use Rattle.smp_view.specs.declared.trace.Row.{Row}
+use Rattle.smp_view.specs.declared.trace.What.{What}
+use Rattle.smp_view.specs.declared.trace.What.TheVariants.{Shown}
+
+-- the column of an event
+abbrev pub column_of : Row → ℕ
+column_of row = min row.number 100000
+
+-- an event, and no `show`, of this CPU
+abbrev pub is_event : ℕ → ℕ → What → Bool
+is_event cpu row_cpu Shown = false
+is_event cpu row_cpu _ = row_cpu == cpu
+
+abbrev pub is_event_of : ℕ → Row → Bool
+is_event_of cpu row = is_event cpu row.cpu row.what
+
+abbrev pub is_busy : List Row → ℕ → Bool
+is_busy rows cpu = list_any (is_event_of cpu) rows
+
+abbrev pub lane_height : Bool → ℕ
+lane_height busy = if busy then 76 else 24
+
+-- the place of a CPU's lane; `low` where it has none
+abbrev pub top_of : ℕ → ℕ → List Lane → ℕ
+top_of low cpu [] = low
+top_of low cpu (lane ∷ lanes) = if lane.cpu == cpu then lane.top else top_of low cpu lanes
+
+-- the smaller of the two
+abbrev pub within : ℕ → ℕ → ℕ
+within bound n = if nat_lt n bound then n else bound
+
+-- the left edge of a column, none right of the last
+abbrev pub left_of : ℕ → ℕ → ℕ
+left_of last column = 64 + 28 * within last column
+
+-- the upper edge of a CPU's lane, none below the lowest
+abbrev pub upper_of : ℕ → List Lane → ℕ → ℕ
+upper_of low lanes cpu = 128 + within low (top_of low cpu lanes)
+
+-- room for the last column
+abbrev pub room_of : ℕ → ℕ
+room_of last = 64 + 28 * (last + 1) + 24
+
+-- and for the legend
+abbrev pub width_of : ℕ → ℕ
+width_of last = if nat_lt (room_of last) 800 then 800 else room_of last
+
+-- room for the lowest lane
+abbrev pub height_of : ℕ → ℕ
+height_of low = 128 + low + 76 + 16

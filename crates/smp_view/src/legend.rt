@@ -1,0 +1,159 @@
+//! The head of a picture: its styles, its legend, its lanes and the numbers of its events.
+
+use crate::element::{Area, write_area, write_text};
+use crate::frame::{ABOVE, Frame, LANE, LEFT, Lane, STEP};
+use std::alloc::{AllocError, Allocator};
+
+// Colours that readers tell apart who see no red or no green: the eight of Okabe and Ito.
+const STYLES: &str = "<style>
+text { font-family: monospace; font-size: 10px; fill: #000000; }
+text.cpu { font-size: 13px; }
+text.number { font-size: 9px; fill: #555555; text-anchor: middle; }
+text.key { font-size: 11px; }
+rect { stroke-width: 1; }
+rect.lane { fill: #f6f6f6; }
+rect.off { fill: #000000; fill-opacity: 0.16; }
+rect.odd { fill: #cc79a7; fill-opacity: 0.6; }
+rect.even { fill: #cc79a7; fill-opacity: 0.25; }
+rect.post { fill: #56b4e9; fill-opacity: 0.45; stroke: #0072b2; }
+rect.send { fill: #e69f00; fill-opacity: 0.45; stroke: #e69f00; }
+rect.handle { fill: #009e73; fill-opacity: 0.4; stroke: #009e73; }
+rect.stop { fill: #cc79a7; fill-opacity: 0.4; stroke: #cc79a7; }
+rect.ask { fill: #ffffff; fill-opacity: 0.6; stroke: #000000; }
+rect.nudge { fill: #f0e442; fill-opacity: 0.6; stroke: #a09700; }
+line.number { stroke: #dddddd; }
+path.call { fill: none; stroke: #0072b2; stroke-width: 1.6; }
+path.interrupt { fill: none; stroke: #d55e00; stroke-width: 1.6; stroke-dasharray: 5 3; }
+</style>
+";
+
+// What is drawn more than once: dots, and the heads of arrows.
+const DOTS: &str = "<defs>
+<path id=\"start\" d=\"M -4 -4 L 3 0 L -4 4 Z\" fill=\"#888888\"/>
+<circle id=\"load\" r=\"4\" fill=\"#ffffff\" stroke=\"#000000\" stroke-width=\"1.5\"/>
+<circle id=\"store\" r=\"4.5\" fill=\"#000000\"/>
+<path id=\"swap\" d=\"M 0 -6 L 6 0 L 0 6 L -6 0 Z\" fill=\"#000000\"/>
+<path id=\"lost\" d=\"M 0 -6 L 6 0 L 0 6 L -6 0 Z\" fill=\"#ffffff\" stroke=\"#000000\" stroke-width=\"1.5\"/>
+<circle id=\"run\" r=\"7\" fill=\"#d55e00\" stroke=\"#000000\"/>
+<path id=\"error\" d=\"M -5 -5 L 5 5 M 5 -5 L -5 5\" stroke=\"#d55e00\" stroke-width=\"3\"/>
+<marker id=\"call-head\" markerWidth=\"8\" markerHeight=\"8\" refX=\"6\" refY=\"4\" orient=\"auto\" markerUnits=\"userSpaceOnUse\"><path d=\"M 0 0 L 8 4 L 0 8 Z\" fill=\"#0072b2\"/></marker>
+<marker id=\"interrupt-head\" markerWidth=\"8\" markerHeight=\"8\" refX=\"6\" refY=\"4\" orient=\"auto\" markerUnits=\"userSpaceOnUse\"><path d=\"M 0 0 L 8 4 L 0 8 Z\" fill=\"#d55e00\"/></marker>
+</defs>
+";
+
+// The first line: the boxes of commands.
+const BOXES: &str =
+    "<rect class=\"post\" x=\"12\" y=\"10\" width=\"22\" height=\"14\"/><text class=\"key\" x=\"40\" y=\"21\">post</text>
+<rect class=\"send\" x=\"100\" y=\"10\" width=\"22\" height=\"14\"/><text class=\"key\" x=\"128\" y=\"21\">send</text>
+<rect class=\"handle\" x=\"188\" y=\"10\" width=\"22\" height=\"14\"/><text class=\"key\" x=\"216\" y=\"21\">handle</text>
+<rect class=\"stop\" x=\"290\" y=\"10\" width=\"22\" height=\"14\"/><text class=\"key\" x=\"318\" y=\"21\">of a stop</text>
+<rect class=\"nudge\" x=\"412\" y=\"10\" width=\"22\" height=\"14\"/><text class=\"key\" x=\"440\" y=\"21\">nudge</text>
+<rect class=\"ask\" x=\"508\" y=\"10\" width=\"22\" height=\"14\"/><text class=\"key\" x=\"536\" y=\"21\">done, poll, key, site</text>
+";
+
+// The second line: the dots of steps.
+const STEPS: &str =
+    "<use href=\"#start\" x=\"22\" y=\"43\"/><text class=\"key\" x=\"34\" y=\"47\">start</text>
+<use href=\"#load\" x=\"98\" y=\"43\"/><text class=\"key\" x=\"110\" y=\"47\">load</text>
+<use href=\"#store\" x=\"166\" y=\"43\"/><text class=\"key\" x=\"178\" y=\"47\">store</text>
+<use href=\"#swap\" x=\"242\" y=\"43\"/><text class=\"key\" x=\"254\" y=\"47\">swap, cas, and, sub</text>
+<use href=\"#lost\" x=\"408\" y=\"43\"/><text class=\"key\" x=\"420\" y=\"47\">lost cas</text>
+<use href=\"#run\" x=\"506\" y=\"43\"/><text class=\"key\" x=\"520\" y=\"47\">a function runs</text>
+<use href=\"#error\" x=\"650\" y=\"43\"/><text class=\"key\" x=\"662\" y=\"47\">error, refused</text>
+";
+
+// The third line: arrows and bands.
+const LINKS: &str =
+    "<path class=\"call\" d=\"M 12 69 L 42 69\" marker-end=\"url(#call-head)\"/><text class=\"key\" x=\"50\" y=\"73\">a call to its run</text>
+<path class=\"interrupt\" d=\"M 188 69 L 218 69\" marker-end=\"url(#interrupt-head)\"/><text class=\"key\" x=\"226\" y=\"73\">a send to its swap</text>
+<rect class=\"off\" x=\"372\" y=\"62\" width=\"22\" height=\"14\"/><text class=\"key\" x=\"400\" y=\"73\">interrupts off</text>
+<rect class=\"odd\" x=\"514\" y=\"62\" width=\"14\" height=\"14\"/><rect class=\"even\" x=\"528\" y=\"62\" width=\"14\" height=\"14\"/><text class=\"key\" x=\"548\" y=\"73\">phases of a stop</text>
+";
+
+/// The begin of a picture, with its size, and its styles.
+pub fn write_head<A: Allocator>(out: &mut String<A>, frame: &Frame<'_>) -> Result<(), AllocError> {
+    let width = frame.width();
+    let height = frame.height();
+    write!(
+        out,
+        "<svg xmlns=\"http://www.w3.org/2000/svg\" width=\"{width}\" height=\"{height}\""
+    )?;
+    writeln!(out, " viewBox=\"0 0 {width} {height}\">")?;
+    out.push_str(STYLES)?;
+    out.push_str(DOTS)?;
+    writeln!(
+        out,
+        "<rect width=\"{width}\" height=\"{height}\" fill=\"#ffffff\"/>"
+    )
+}
+
+/// What the styles stand for.
+pub fn write_legend<A: Allocator>(out: &mut String<A>) -> Result<(), AllocError> {
+    out.push_str(BOXES)?;
+    out.push_str(STEPS)?;
+    out.push_str(LINKS)
+}
+
+// The lane of a CPU.
+fn write_lane<A: Allocator + Copy>(
+    alloc: A,
+    out: &mut String<A>,
+    frame: &Frame<'_>,
+    lane: &Lane,
+) -> Result<(), AllocError> {
+    let cpu = lane.cpu;
+    let y = frame.upper(cpu);
+    let name = format!(in alloc; "CPU {cpu}")?;
+    let height = if lane.busy { LANE } else { 24 };
+    let area = Area {
+        x: 0,
+        y: y + 1,
+        width: frame.width(),
+        height: height - 2,
+    };
+    write_area(out, "lane", area, name.as_str())?;
+    write_text(out, "cpu", 8, y + height / 2 + 5, name.as_str())
+}
+
+/// The lanes of all CPUs.
+pub fn write_lanes<A: Allocator + Copy>(
+    alloc: A,
+    out: &mut String<A>,
+    frame: &Frame<'_>,
+) -> Result<(), AllocError> {
+    for lane in frame.lanes {
+        write_lane(alloc, out, frame, lane)?;
+    }
+    Ok(())
+}
+
+// The number of an event, and a line below it.
+fn write_number<A: Allocator + Copy>(
+    alloc: A,
+    out: &mut String<A>,
+    frame: &Frame<'_>,
+    column: u32,
+) -> Result<(), AllocError> {
+    let x = frame.left(column) + STEP / 2;
+    let bottom = frame.height() - 8;
+    let top = ABOVE - 4;
+    writeln!(
+        out,
+        "<line class=\"number\" x1=\"{x}\" y1=\"{top}\" x2=\"{x}\" y2=\"{bottom}\"/>"
+    )?;
+    let number = format!(in alloc; "{column}")?;
+    write_text(out, "number", x, ABOVE - 8, number.as_str())
+}
+
+/// The number of each fifth event.
+pub fn write_axis<A: Allocator + Copy>(
+    alloc: A,
+    out: &mut String<A>,
+    frame: &Frame<'_>,
+) -> Result<(), AllocError> {
+    write_text(out, "key", 8, ABOVE - 8, "event")?;
+    for fifth in 0..frame.last / 5 + 1 {
+        write_number(alloc, out, frame, 5 * fifth)?;
+    }
+    Ok(())
+}
