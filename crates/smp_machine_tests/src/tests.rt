@@ -3,9 +3,9 @@ mod keys;
 mod stops;
 mod turns;
 
-use smp_machine::*;
 use linked_list_allocator::LocalHeap;
 use smp_labels::{Entry, LabelMap};
+use smp_machine::*;
 use smp_mask::{CpuMask, SmpError};
 use smp_queue::{Audit, Handler, Heard};
 use smp_words::size::NR_CPUS;

@@ -6,10 +6,10 @@ mod line;
 
 use self::line::Act::{Done, Post, Queue, Send, Tally as Counts};
 use self::line::{Line, play};
-use smp_queue::*;
 use crossbeam_utils::Backoff;
 use linked_list_allocator::LocalHeap;
 use smp_mask::{CpuMask, SmpError};
+use smp_queue::*;
 use smp_words::call::Class;
 use smp_words::size::NR_CPUS;
 use std::alloc::Global;

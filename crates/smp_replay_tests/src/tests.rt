@@ -2,11 +2,11 @@ mod devices;
 mod scripts;
 mod worked;
 
-use smp_replay::*;
 use devices::{Again, Narrow, Slow};
 use linked_list_allocator::LocalHeap;
 use scripts::*;
 use smp_mask::{Cause, Side, SmpError};
+use smp_replay::*;
 use smp_script::{Outcome, Watched};
 use std::io;
 use std::test::*;

@@ -1,8 +1,8 @@
 mod paces;
 
-use smp_run::*;
 use crate::tests::paces::{Counts, Meets, Stays};
 use smp_mask::{Cause, SmpError};
+use smp_run::*;
 use smp_script::{Outcome, Watched};
 use std::alloc::Global;
 use std::sync::Wait;
