@@ -59,15 +59,16 @@ fn a_run_prints_all_or_nothing(rt: HostRuntime) {
     let mut reader = Watched::new(script);
     let mut writer = Watched::new(page.as_mut_slice());
     let answer = run_from(&rt, rt.alloc(), Mode::Run, &mut reader, &mut writer);
-    let written = 200 - writer.into_inner().len();
+    let room = writer.into_inner().len();
     match answer {
         Ok(outcome) => {
             assert_eq!(rt; outcome, Outcome::Done);
-            assert_eq!(rt; &page[..written], print);
+            assert_eq!(rt; room.checked_add(print.len()), Some(200));
+            assert!(rt; page.starts_with(print));
         }
         Err(error) => {
             assert_eq!(rt; error, SmpError::NoMemory);
-            assert_eq!(rt; written, 0);
+            assert_eq!(rt; room, 200);
         }
     }
 }
