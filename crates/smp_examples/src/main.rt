@@ -1,7 +1,7 @@
-//! Replays the examples of the folder that it is run in, and compares what each prints with what is expected of it.
+//! Replays or runs the examples of the folder that it is run in, and compares what each prints with what is expected of it.
 //!
-//! An example is a script `NAME.smp`, and `NAME.smp.stdout` is what its replay prints. The examples stand in `data`, so that
-//! the gate compares all of them.
+//! An example is a script `NAME.smp`, and `NAME.smp.stdout` is what it prints. The examples stand in `data`, so that the gate
+//! compares all of them. `NAME.smp.args` is the word by which `smp_runner` replays or runs it.
 #![tactic(auto)]
 
 mod compare;
@@ -11,6 +11,8 @@ use std::fs::{File, read_dir};
 use std::io;
 use std::io::Read;
 use std::process::ExitCode;
+use std::sync::Wait;
+use std::thread::Threads;
 
 // All bytes of a file.
 fn read_file(rt: &HostRuntime, name: &str) -> io::Result<Vec<u8>> {
@@ -34,11 +36,15 @@ fn scripts(rt: &HostRuntime) -> io::Result<Vec<String>> {
 }
 
 // Compares one example, and prints a line for it: whether it is as expected.
-fn compare_one(rt: &HostRuntime, name: &str) -> io::Result<bool> {
+fn compare_one<T: Threads + Wait + Sync>(
+    rt: &HostRuntime,
+    threads: &T,
+    name: &str,
+) -> io::Result<bool> {
     let script = read_file(rt, name)?;
     let wanted = format!(in rt.alloc(); "{name}.stdout")?;
     let expected = read_file(rt, wanted.as_str())?;
-    match prints(rt.alloc(), script.as_slice(), expected.as_slice()) {
+    match prints(threads, rt.alloc(), script.as_slice(), expected.as_slice()) {
         Ok(true) => {
             println!(rt; "{name}: as expected")?;
             Ok(true)
@@ -58,7 +64,7 @@ fn main(rt: HostRuntime) -> io::Result<ExitCode> {
     let names = scripts(&rt)?;
     let mut all = true;
     for name in names.iter() {
-        all = compare_one(&rt, name.as_str())? && all;
+        all = compare_one(&rt, &rt, name.as_str())? && all;
     }
     let count = names.len();
     println!(rt; "{count} examples")?;
