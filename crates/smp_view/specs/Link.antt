@@ -24,14 +24,14 @@ call_opened _ _ = None
 
 -- the store of a phase, and the load of the second one by a CPU that acts on it
 abbrev pub state_opened : ℕ → ℕ → Act → Option ℕ → Option ℕ → Option Note → Option Link
-state_opened slot cpu acts.Store found (Some phase) note = phase_opened slot phase
+state_opened slot cpu acts.Store found (Some phase) _ = phase_opened slot phase
 state_opened slot cpu acts.Load (Some found) put None = if found == 2 then Some (Off cpu) else None
 state_opened _ _ _ _ _ _ = None
 
 abbrev pub opened_at : Seen → Word → Option Note → Option Link
-opened_at seen (words.Head cpu) note = call_opened seen.act seen.put
+opened_at seen (words.Head cpu) _ = call_opened seen.act seen.put
 opened_at seen (words.Intr cpu) (Some notes.Sent) = Some (Interrupt cpu)
-opened_at seen (words.Slot slot fields.State) note = state_opened slot seen.cpu seen.act seen.found seen.put seen.note
+opened_at seen (words.Slot slot fields.State) _ = state_opened slot seen.cpu seen.act seen.found seen.put seen.note
 opened_at _ _ _ = None
 
 abbrev pub opened : Seen → Option Link
