@@ -1,0 +1,251 @@
+//! Worked cases as lines: what a CPU does, and what it is answered.
+
+use super::hall::Hall;
+use super::member::{Member, Room};
+use super::*;
+use crossbeam_utils::Backoff;
+use smp_labels::SiteKind;
+use smp_labels::SiteKind::{Jmp, Nop};
+use smp_multi::Turn;
+
+/// How often a CPU tries again before it gives up: a test that fails ends too.
+const TRIES: u64 = 10_000_000;
+
+#[derive(Copy, Clone)]
+pub enum Act {
+    /// It stops this CPU for this function.
+    One(u32, u16, Result<i32, SmpError>),
+    Two(u32, u32, u16, Result<i32, SmpError>),
+    /// It stops the machine for this function with this argument, on these CPUs.
+    All(u16, u64, Option<CpuMask>, Result<i32, SmpError>),
+    Set(u32, bool, Result<bool, SmpError>),
+    /// It sets the key, with a stop or without one, and reads it so.
+    SetTo(u32, bool),
+    Inc(u32, Result<bool, SmpError>),
+    Dec(u32, Result<bool, SmpError>),
+    /// It raises or lowers the count of this key, with a stop or without one.
+    Count(u32, bool),
+    /// It calls this CPU, and waits for the end of the call or does not.
+    Single(u32, bool, Result<(), SmpError>),
+    /// It calls CPU 0 for this user.
+    ByUser(u32, Result<(), SmpError>),
+    Any(CpuMask, Result<u32, SmpError>),
+    Many(CpuMask, Result<CpuMask, SmpError>),
+    /// It calls those of these CPUs for which this is said.
+    Each(CpuMask, bool, Result<CpuMask, SmpError>),
+    TakeWork(bool),
+    /// It tries to take a work until there is one.
+    AwaitWork,
+    Turn(Turn),
+    Poll,
+    /// It makes turns in which nothing goes on, until it has heard so many calls.
+    Hears(u32),
+    Key(u32, Result<bool, SmpError>),
+    Site(u32, Result<SiteKind, SmpError>),
+    /// The key and its two sites are read as those of a key that is on or off.
+    Reads(u32, bool),
+    /// The key and its two sites, read twice, are those of one lawful table.
+    Agrees(u32),
+    /// It has heard so many calls, the last of them this.
+    Heard(u32, (u32, u16, u64)),
+    /// Its stop function was called so often.
+    Calls(u32),
+    /// Stop functions have run so since the last question: see [`Hall::runs`].
+    Runs(u64),
+    /// It raises the flag by one.
+    Raise,
+}
+
+impl Act {
+    /// Whether it goes so.
+    fn goes<R: Wait>(&self, rt: &R, me: &mut Member) -> bool {
+        match *self {
+            Act::One(dst, func, answer) => me.stop_one(rt, dst, func) == answer,
+            Act::Two(a, b, func, answer) => me.stop_two(rt, a, b, func) == answer,
+            Act::All(func, arg, active, answer) => {
+                me.stop_machine(rt, func, arg, active) == answer
+            }
+            Act::Set(k, on, answer) => me.set_key(rt, k, on) == answer,
+            Act::SetTo(k, on) => me.set_key(rt, k, on).is_ok() && reads_as(me, k, on),
+            Act::Inc(k, answer) => me.key_inc(rt, k) == answer,
+            Act::Dec(k, answer) => me.key_dec(rt, k) == answer,
+            Act::Count(k, true) => me.key_inc(rt, k).is_ok(),
+            Act::Count(k, false) => me.key_dec(rt, k).is_ok(),
+            _ => self.calls(rt, me),
+        }
+    }
+
+    /// The same of calls.
+    fn calls<R: Wait>(&self, rt: &R, me: &mut Member) -> bool {
+        match *self {
+            Act::Single(dst, wait, answer) => me.single(rt, dst, wait) == answer,
+            Act::ByUser(u, answer) => me.by_user(rt, u) == answer,
+            Act::Any(mask, answer) => me.any(rt, mask) == answer,
+            Act::Many(mask, answer) => me.many(rt, mask) == answer,
+            Act::Each(mask, yes, answer) => me.each(rt, mask, yes) == answer,
+            _ => self.serves(rt, me),
+        }
+    }
+
+    /// The same of a CPU's part in stops.
+    fn serves<R: Wait>(&self, rt: &R, me: &mut Member) -> bool {
+        match *self {
+            Act::TakeWork(has_one) => me.take_work(rt) == has_one,
+            Act::AwaitWork => await_work(rt, me),
+            Act::Turn(turn) => me.turn() == turn,
+            Act::Poll => {
+                me.poll(rt);
+                true
+            }
+            Act::Hears(calls) => hears(me, calls),
+            _ => self.is_seen(me),
+        }
+    }
+
+    /// The same of what is read.
+    fn is_seen(&self, me: &mut Member) -> bool {
+        match *self {
+            Act::Key(k, answer) => me.read_key(k) == answer,
+            Act::Site(i, answer) => me.read_site(i) == answer,
+            Act::Reads(k, on) => reads_as(me, k, on),
+            Act::Agrees(k) => agrees(me, k),
+            Act::Heard(calls, last) => (me.ear.calls, me.ear.last) == (calls, last),
+            Act::Calls(calls) => me.teller.calls == calls,
+            Act::Runs(runs) => me.hall.runs() == runs,
+            Act::Raise => {
+                me.hall.raise();
+                true
+            }
+            _ => false,
+        }
+    }
+}
+
+fn await_work<R: Wait>(rt: &R, me: &mut Member) -> bool {
+    let backoff = Backoff::new();
+    for _ in 0..TRIES {
+        if me.take_work(rt) {
+            return true;
+        }
+        backoff.snooze();
+    }
+    false
+}
+
+fn hears(me: &mut Member, calls: u32) -> bool {
+    let backoff = Backoff::new();
+    for _ in 0..TRIES {
+        let turn = me.turn();
+        if me.ear.calls == calls {
+            return true;
+        }
+        if turn != Turn::Same {
+            return false;
+        }
+        backoff.snooze();
+    }
+    false
+}
+
+/// Whether key and sites are read as the key is on or off.
+fn reads_as(me: &mut Member, k: u32, on: bool) -> bool {
+    let first = k.wrapping_mul(2);
+    let (off_branch, on_branch) = if on { (Jmp, Nop) } else { (Nop, Jmp) };
+    me.read_key(k) == Ok(on)
+        && me.read_site(first) == Ok(off_branch)
+        && me.read_site(first.wrapping_add(1)) == Ok(on_branch)
+}
+
+fn agrees(me: &mut Member, k: u32) -> bool {
+    match me.read_key(k) {
+        Ok(on) => reads_as(me, k, on) && reads_as(me, k, on),
+        Err(_) => false,
+    }
+}
+
+/// Whether all of these go so.
+fn all_go<R: Wait>(rt: &R, me: &mut Member, acts: &[Act]) -> bool {
+    let mut right = true;
+    for act in acts {
+        right = act.goes(rt, me) && right;
+    }
+    right
+}
+
+/// How often a CPU does what a part of a case says.
+#[derive(Copy, Clone)]
+pub enum Often {
+    Times(u32),
+    /// Until the flag was raised so often.
+    Until(u64),
+}
+
+/// Plays a part until the flag was raised so often. Whether all goes so.
+fn play_until<R: Wait>(rt: &R, me: &mut Member, flag: u64, acts: &[Act]) -> bool {
+    let backoff = Backoff::new();
+    for _ in 0..TRIES {
+        if me.hall.flag() == flag {
+            return true;
+        }
+        if !all_go(rt, me, acts) {
+            return false;
+        }
+        backoff.snooze();
+    }
+    false
+}
+
+fn play_often<R: Wait>(rt: &R, me: &mut Member, often: Often, acts: &[Act]) -> bool {
+    match often {
+        Often::Until(flag) => play_until(rt, me, flag, acts),
+        Often::Times(times) => {
+            let mut right = true;
+            for _ in 0..times {
+                right = all_go(rt, me, acts) && right;
+            }
+            right
+        }
+    }
+}
+
+/// A part of a case: how often, and what.
+pub type Part<'a> = (Often, &'a [Act]);
+
+/// Plays a CPU's parts, one after the other: whether all goes as they say.
+pub fn play_parts<R: Wait>(rt: &R, me: &mut Member, parts: &[Part]) -> bool {
+    let mut right = true;
+    for (often, acts) in parts {
+        right = play_often(rt, me, *often, acts) && right;
+    }
+    right
+}
+
+/// The first line that goes another way.
+fn first_fault<R: Wait>(rt: &R, members: &mut [Member], lines: &[(usize, Act)]) -> Option<usize> {
+    for (i, (cpu, act)) in lines.iter().enumerate() {
+        let is_so = match members.get_mut(*cpu) {
+            Some(member) => act.goes(rt, member),
+            None => false,
+        };
+        if !is_so {
+            return Some(i);
+        }
+    }
+    None
+}
+
+/// Plays lines, each with the number of its CPU, on the CPUs of a new machine, on one thread: the first that goes another
+/// way.
+pub fn play<R: Wait>(
+    rt: &R,
+    alloc: Global,
+    online: CpuMask,
+    labels: &LabelMap,
+    lines: &[(usize, Act)],
+) -> Result<Option<usize>, SmpError> {
+    let cpus = online.weight();
+    let hall = Hall::new();
+    let (machine, boot) = Machine::new(alloc, cpus, online, labels)?;
+    let mut members = Room::new(&machine, boot, &hall).members(alloc, cpus)?;
+    Ok(first_fault(rt, members.as_mut_slice(), lines))
+}
