@@ -4,6 +4,7 @@ mod line;
 mod member;
 mod stops;
 mod turns;
+mod users;
 
 use linked_list_allocator::LocalHeap;
 use smp_labels::{Entry, LabelMap};

@@ -1,0 +1,35 @@
+//! A user's proof, by public clauses alone: what a CPU that has turned a key reads of its sites.
+
+ghost use Rattle.std.specs.Prelude.{◌≡◌, IfOk, slice_index_or};
+ghost use Rattle.smp_labels.specs.Kinds.{kind_of};
+ghost use Rattle.smp_labels.specs.declared.entries.Entry.{Entry};
+ghost use Rattle.smp_machine.specs.Place.{IsAt};
+
+use smp_labels::SiteKind;
+use smp_machine::{Cpu, Machine};
+use smp_mask::SmpError;
+use smp_multi::StopFunc;
+use smp_queue::Handler;
+use std::alloc::Allocator;
+use std::sync::Wait;
+
+/// Turns a key on or off, and then reads one of its sites: it is a jump or not as key and branch say.
+fn turn_and_look<A: Allocator, R: Wait, H: Handler, F: StopFunc>(
+    machine: &Machine<A>,
+    rt: &R,
+    me: &mut Cpu<A>,
+    handler: &mut H,
+    run: &mut F,
+    k: u32,
+    on: bool,
+    i: u32,
+) -> Result<SiteKind, SmpError>
+    requires { IsAt machine.now me.old }
+    ensures { IfOk result (λ kind. (e : Entry) → e ≡ slice_index_or machine.now.stops.setting.labels.entries i e → e.key ≡ k
+        → kind ≡ kind_of on e.branch) }
+{
+    match machine.set_key(rt, me, handler, run, k, on) {
+        Ok(_) => machine.read_site(me, i),
+        Err(error) => Err(error),
+    }
+}
