@@ -20,3 +20,5 @@ pub mod KeyStops
 pub mod Polls
 -- a change of a count by one, out of its parts
 pub mod KeyCounts
+-- readings of a key and of its sites agree
+pub mod ReadLaws

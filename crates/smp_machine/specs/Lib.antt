@@ -20,3 +20,5 @@ pub mod Keys
 pub mod Polls
 -- what a change of a count by one makes of it
 pub mod Counts
+-- what it has read of keys and sites
+pub mod ReadLaws

@@ -3,6 +3,7 @@
 ghost use Rattle.std.specs.Prelude.{◌≡◌, true, None};
 ghost use Rattle.smp_queue.specs.Laws.{IsShown as CallsAreShown};
 ghost use Rattle.smp_multi.specs.Laws.{IsShown as StopsAreShown};
+ghost use Rattle.smp_machine.specs.ReadLaws.{KindsFollowKeys};
 
 use crate::cpu::Cpu;
 use crate::machine::Machine;
@@ -24,3 +25,9 @@ pub fn interrupts_are_on<A: Allocator>(cpu: &Cpu<A>)
 {
     cpu.place.stops.interrupts_on();
 }
+
+/// Whatever keys other CPUs change meanwhile: what a CPU has read of a key and of that key's sites, since its interrupts last
+/// went on, agrees. A site jumps exactly where its key and its branch differ (`kernel/jump_label.c: jump_label_type`).
+pub fn kinds_follow_keys()
+    ensures { KindsFollowKeys }
+{}

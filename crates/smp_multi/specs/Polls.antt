@@ -42,8 +42,8 @@ looked done v = record v { source = cond done (Collects (own_work v.source)) (Ow
 abbrev pub collected : ℕ → Known → Known
 collected x v = record v { source = Shut; part = record (v.part) { collected = v.part.collected ++ x ∷ [] } }
 
--- some words of the table show stops that keep all laws: in them this CPU has begun and collected what its part says, none
--- of its stops is open, and the last answer of each CPU of the mask in its stops is this
+-- some words show stops that keep all laws: in them this CPU has begun and collected what its part says, none of its stops
+-- is open, and the last answer of each CPU of the mask in its stops is this
 pub record AreGiven (c : CpuValue) (mask : ℕ) (answer : ℕ → ℕ) : Type 0 where
   pub stops : StopState
   pub at : Word → ℕ

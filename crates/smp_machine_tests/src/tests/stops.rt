@@ -50,7 +50,7 @@ fn functions_run_on_active_cpus_alone(rt: HostRuntime) -> Result<(), Fail> {
     Ok(())
 }
 
-/// CPU 0 stops CPU 1, which may make no call with that work in hand.
+/// CPU 0 stops CPU 1, which may make no call with that work in hand, nor turn a key that there is.
 #[test]
 fn no_call_with_a_work_in_hand(rt: HostRuntime) -> Result<(), Fail> {
     let stops = [One(1, 9, Ok(9))];
@@ -62,8 +62,7 @@ fn no_call_with_a_work_in_hand(rt: HostRuntime) -> Result<(), Fail> {
         Poll,
     ];
     let plays: [&[Part]; 2] = [&[(Times(1), &stops)], &[(Times(1), &refused)]];
-    let none = LabelMap::empty();
-    assert_eq!(rt; in_threads(&rt, rt.alloc(), "0-1", &none, &plays)?, 2);
+    assert_eq!(rt; in_threads(&rt, rt.alloc(), "0-1", &two_sites()?, &plays)?, 2);
     Ok(())
 }
 
