@@ -1,7 +1,7 @@
 //! Where things stand in a picture: columns of events, lanes of CPUs.
 
-ghost use Rattle.std.specs.Prelude.{◌≡◌, ◌≤◌, ◌<◌, ◌^◌, ◌+◌, ◌*◌};
-ghost use Rattle.smp_view.specs.Frame.{column_of, height_of, is_busy, is_event_of, lane_height, left_of, room_of, top_of, upper_of, width_of};
+ghost use Rattle.std.specs.Prelude.{◌≡◌, ◌≤◌, ◌<◌, ◌^◌, ◌+◌, ◌*◌, IfOk};
+ghost use Rattle.smp_view.specs.Frame.{column_of, height_of, is_busy, is_event_of, lane_height, lanes_from, left_of, lowest_of, room_of, top_of, upper_of, width_of};
 
 use crate::trace::{Row, What};
 use std::alloc::{AllocError, Allocator};
@@ -96,7 +96,9 @@ pub fn lanes_of<A: Allocator>(
     alloc: A,
     cpus: &[u32],
     rows: &[Row],
-) -> Result<Vec<Lane, A>, AllocError> {
+) -> Result<Vec<Lane, A>, AllocError>
+    ensures { IfOk result (λ lanes. lanes.items ≡ lanes_from rows.now 0 cpus.now) }
+{
     let mut found = Vec::new(alloc);
     let mut top = 0u32;
     for cpu in cpus {
@@ -109,7 +111,9 @@ pub fn lanes_of<A: Allocator>(
 }
 
 /// The place of the lowest lane.
-pub fn lowest(lanes: &[Lane]) -> u32 {
+pub fn lowest(lanes: &[Lane]) -> u32
+    ensures { result ≡ lowest_of lanes.now }
+{
     match lanes.last() {
         Some(lane) => lane.top,
         None => 0,

@@ -1,7 +1,7 @@
 //! A replay as a picture: a lane for each CPU, a column for each event.
 
-ghost use Rattle.std.specs.Prelude.{◌≡◌, ◌≤◌, ◌<◌, ◌^◌, ◌+◌, ◌*◌, IfOk};
-ghost use Rattle.smp_view.specs.Frame.{column_of, height_of, left_of, room_of, upper_of};
+ghost use Rattle.std.specs.Prelude.{◌≡◌, ◌≤◌, ◌<◌, ◌^◌, ◌+◌, ◌-◌, ◌*◌};
+ghost use Rattle.smp_view.specs.Frame.{column_of, dot_of, height_of, left_of, room_of, upper_of, IsNear};
 
 use crate::cell::cell;
 use crate::element::{Area, Ends, write_area, write_arrow, write_dot, write_text};
@@ -27,6 +27,7 @@ fn span(frame: &Frame<'_>, cpu: u32, first: u32, last: u32, below: u64, height: 
     requires { below + height ≤ 76 }
     ensures x { result.x ≡ left_of frame.now.last first }
     ensures y { result.y ≡ upper_of frame.now.low frame.now.lanes.now cpu + below }
+    ensures width { result.width ≡ left_of frame.now.last last + 28 - left_of frame.now.last first }
     ensures height { result.height ≡ height }
     ensures inside { (result.x + result.width ≤ room_of frame.now.last) × (result.y + result.height ≤ height_of frame.now.low) }
     ensures small { (result.x < 2 ^ 40) × (result.y < 2 ^ 41) }
@@ -44,7 +45,7 @@ fn span(frame: &Frame<'_>, cpu: u32, first: u32, last: u32, below: u64, height: 
 // The middle of an event's column, at the height of its lane's dots.
 fn point(frame: &Frame<'_>, row: &Row) -> (u64, u64)
     ensures x { result.0 ≡ left_of frame.now.last (column_of row.now) + 14 }
-    ensures y { result.1 ≡ upper_of frame.now.low frame.now.lanes.now row.now.cpu + 40 }
+    ensures y { result.1 ≡ dot_of frame.now.low frame.now.lanes.now row.now }
     ensures inside { (result.0 ≤ room_of frame.now.last) × (result.1 + 52 ≤ height_of frame.now.low) }
     ensures small { (result.0 < 2 ^ 41) × (result.1 < 2 ^ 41) × (168 ≤ result.1) }
 {
@@ -207,6 +208,9 @@ fn write_bands<A: Allocator>(
 fn ends(frame: &Frame<'_>, from: &Row, to: &Row) -> (Ends, u64)
     ensures from { result.0.x1 ≡ left_of frame.now.last (column_of from.now) + 14 }
     ensures to { result.0.x2 ≡ left_of frame.now.last (column_of to.now) + 14 }
+    // Each end is at most 8 above its dot, or below it.
+    ensures begins { IsNear result.0.y1 (dot_of frame.now.low frame.now.lanes.now from.now) }
+    ensures ends { IsNear result.0.y2 (dot_of frame.now.low frame.now.lanes.now to.now) }
     ensures across { (result.0.x1 ≤ room_of frame.now.last) × (result.0.x2 ≤ room_of frame.now.last) }
     ensures inside { (result.0.y1 ≤ height_of frame.now.low) × (result.0.y2 ≤ height_of frame.now.low) × (result.1 ≤ height_of frame.now.low) }
 {
