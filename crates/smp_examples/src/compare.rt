@@ -11,12 +11,14 @@ use std::alloc::Global;
 use std::sync::Wait;
 use std::thread::Threads;
 
-// The kind that the first line tells.
-fn mode_of(script: &[u8]) -> Mode {
-    if script.starts_with(b"smp 1 run\n") || script.starts_with(b"smp 2 run\n") {
-        Mode::Run
+/// The kind of an example, by the words that `smp_runner` takes it with: `None` where they are none of the two.
+pub fn mode_of(words: &[u8]) -> Option<Mode> {
+    if are_same(words, b"replay\n") {
+        Some(Mode::Replay)
+    } else if are_same(words, b"run\n") {
+        Some(Mode::Run)
     } else {
-        Mode::Replay
+        None
     }
 }
 
@@ -27,17 +29,18 @@ fn are_same(printed: &[u8], expected: &[u8]) -> bool
     printed == expected
 }
 
-/// Whether a script prints these bytes, to the last, when it is replayed, or run if it is of that kind. `BadScript` where it is
-/// none, `NoMemory` where a growth was refused or a thread can't be started.
+/// Whether a script prints these bytes, to the last, when it is replayed or run. `BadScript` where it is no script of this
+/// kind, `NoMemory` where a growth was refused or a thread can't be started.
 pub fn prints<T: Threads + Wait + Sync>(
     threads: &T,
     alloc: Global,
+    mode: Mode,
     script: &[u8],
     expected: &[u8],
 ) -> Result<bool, SmpError> {
     let mut reader = Watched::new(script);
     let mut writer = Watched::new(Vec::new(alloc));
-    match mode_of(script) {
+    match mode {
         Mode::Replay => replay_script(alloc, &mut reader, &mut writer)?,
         Mode::Run => run_script(threads, alloc, &mut reader, &mut writer, &FreePace)?,
     };

@@ -1,12 +1,12 @@
 //! Replays or runs the examples of the folder that it is run in, and compares what each prints with what is expected of it.
 //!
 //! An example is a script `NAME.smp`, and `NAME.smp.stdout` is what it prints. The examples stand in `data`, so that the gate
-//! compares all of them. `NAME.smp.args` is the word by which `smp_runner` replays or runs it.
+//! compares all of them. `NAME.smp.args` is the word by which it is taken, as `smp_runner` takes it: `replay` or `run`.
 #![tactic(auto)]
 
 mod compare;
 
-use crate::compare::prints;
+use crate::compare::{mode_of, prints};
 use std::fs::{File, read_dir};
 use std::io;
 use std::io::Read;
@@ -42,9 +42,19 @@ fn compare_one<T: Threads + Wait + Sync>(
     name: &str,
 ) -> io::Result<bool> {
     let script = read_file(rt, name)?;
-    let wanted = format!(in rt.alloc(); "{name}.stdout")?;
-    let expected = read_file(rt, wanted.as_str())?;
-    match prints(threads, rt.alloc(), script.as_slice(), expected.as_slice()) {
+    let expected = read_file(rt, format!(in rt.alloc(); "{name}.stdout")?.as_str())?;
+    let words = read_file(rt, format!(in rt.alloc(); "{name}.args")?.as_str())?;
+    let Some(mode) = mode_of(words.as_slice()) else {
+        println!(rt; "{name}: its words are neither replay nor run")?;
+        return Ok(false);
+    };
+    match prints(
+        threads,
+        rt.alloc(),
+        mode,
+        script.as_slice(),
+        expected.as_slice(),
+    ) {
         Ok(true) => {
             println!(rt; "{name}: as expected")?;
             Ok(true)
