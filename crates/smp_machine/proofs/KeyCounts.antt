@@ -1,5 +1,6 @@
 -- A change of a key's count by one, out of its parts.
-use Rattle.std.proofs.Common.{◌≡◌, ◌≢◌, ◌⊎◌, inl, inr, ℕ, ℤ, pos, Bool, true, false, None, Result, Ok, Err, List, [], ◌∷◌, ◌++◌, append_assoc, refl, sym, ap, ◌∙◌, subst}
+use Rattle.std.proofs.Common.{◌≡◌, ◌≢◌, ◌⊎◌, inl, inr, ℕ, ℤ, pos, Bool, true, false, None, Result, Ok, Err, List, [], ◌∷◌, ◌++◌}
+use Rattle.std.proofs.Common.{append_assoc, refl, sym, ap, ◌∙◌, subst}
 use Rattle.std.proofs.lemmas.List.{append-nil}
 use Rattle.smp_labels.specs.Keys.{is_on, edge_of}
 use Rattle.smp_mask.specs.declared.error.SmpError.{SmpError}
@@ -73,7 +74,8 @@ nudges_after k up rs old mid new e (Ok false) n = loads_after k (turn_at up) rs 
 nudges_after k up rs old mid new e (Err (error.KeyRange x)) n = (n.0, loads_after k (edge_at up) rs old mid new e n.1)
 nudges_after k up rs old mid new e (Err _) n = absurd n
 
-pub nudge_lost : (k : ℕ) (up : Bool) (mid new : CpuValue) (n : Nudge) → n ≡ Lost → NudgeAnswers k up mid new (Ok n) → (count : ℕ) × (new ≡ loads_count k count mid)
+pub nudge_lost : (k : ℕ) (up : Bool) (mid new : CpuValue) (n : Nudge) → n ≡ Lost → NudgeAnswers k up mid new (Ok n) → (count : ℕ)
+    × (new ≡ loads_count k count mid)
 nudge_lost k up mid new Lost is a = (a.0, a.6)
 nudge_lost k up mid new _ is a = absurd cc
 
@@ -183,7 +185,8 @@ module _ {H F : Type 0} (hears : H → Heard → H → Type 0) (runs : F → Cal
   counts_patched (Err _) p m new h h' f f' l e holds b = absurd b
 
   -- all that, after a stretch in which at most the gate was taken or given up
-  pub counts_after : (held : Bool) (r : Result Bool SmpError) (p m new : PlaceValue) (h h₁ h' : H) (f f₁ f' : F) → Works hears runs p h f m h₁ f₁ (with_gate held (own_of p))
+  pub counts_after : (held : Bool) (r : Result Bool SmpError) (p m new : PlaceValue) (h h₁ h' : H) (f f₁ f' : F)
+      → Works hears runs p h f m h₁ f₁ (with_gate held (own_of p))
       → Counts hears runs t k up m h₁ f₁ new h' f' r → Counts hears runs t k up p h f new h' f' r
   counts_after held (Ok false) p m new h h₁ h' f f₁ f' w c = record {
     count = c.count;

@@ -1,5 +1,6 @@
 -- One lawful table agrees with all readings of a CPU, so readings of a key and of its sites agree.
-use Rattle.std.proofs.Common.{◌≡◌, ℕ, ◌<◌, ◌≤◌, Bool, true, false, Option, Some, List, [], ◌∷◌, ◌++◌, length, slice_index_or, map, refl, sym, ap, subst, ◌∙◌, arith}
+use Rattle.std.proofs.Common.{◌≡◌, ℕ, ◌<◌, ◌≤◌, Bool, true, false, Option, Some, List, [], ◌∷◌, ◌++◌, length, slice_index_or, map, refl}
+use Rattle.std.proofs.Common.{sym, ap, subst, ◌∙◌, arith}
 use Rattle.std.proofs.lemmas.List.{get_or-map, length-map}
 use Rattle.std.specs.List.{AllByRecursion}
 use Rattle.smp_labels.specs.Entries.{entry_word, entry_at}
@@ -32,7 +33,8 @@ kinds_follow c k i on jump e one key_read site_read below at key =
     let found : entry_at (t.entry i) ≡ Some e = ap (λ (w : ℕ). entry_at w) word ∙ entry_at-word e in
     let site : t.site i ≡ kind_word (kind_of (is_on (t.key e.key)) e.branch) =
     one.lawful.sites i few ∙ ap (λ (x : Option Entry). site_word t.key x) found in
-    let key_said : is_on (t.key k) ≡ on = all_at (Agrees t) key_read.0 key_read.1 (ReadKey k on) (subst (λ rs. AllByRecursion (Agrees t) rs) key_read.2 one.agrees) in
+    let key_said : is_on (t.key k) ≡ on = all_at (Agrees t) key_read.0 key_read.1 (ReadKey k on)
+    (subst (λ rs. AllByRecursion (Agrees t) rs) key_read.2 one.agrees) in
     let site_said : is_on (t.site i) ≡ jump =
     all_at (Agrees t) site_read.0 site_read.1 (ReadSite i jump) (subst (λ rs. AllByRecursion (Agrees t) rs) site_read.2 one.agrees) in
     let on_said : is_on (t.key e.key) ≡ on = ap (λ (n : ℕ). is_on (t.key n)) key ∙ key_said in

@@ -1,5 +1,6 @@
 -- What a look and a turn leave of a CPU.
-use Rattle.std.proofs.Common.{arith, ◌≡◌, ◌≢◌, ℕ, ℤ, Bool, true, false, true≢false, Option, Some, None, List, [], ◌∷◌, ◌++◌, map, nat_lt, refl, sym, ap, ◌∙◌, subst, Ok, Err}
+use Rattle.std.proofs.Common.{arith, ◌≡◌, ◌≢◌, ℕ, ℤ, Bool, true, false, true≢false, Option, Some, None, List, [], ◌∷◌, ◌++◌, map, nat_lt}
+use Rattle.std.proofs.Common.{refl, sym, ap, ◌∙◌, subst, Ok, Err}
 use Rattle.std.proofs.lemmas.List.{append-nil}
 use Rattle.smp_words.specs.declared.call.Call.{Call}
 use Rattle.smp_call_steps.specs.Order.{order}
@@ -26,7 +27,8 @@ use Rattle.smp_stop_steps.specs.declared.phase.TheConstants.{DISABLE_IRQ, RUN, E
 use Rattle.smp_machine.specs.Own.{own_of}
 use Rattle.smp_machine.specs.Passes.{PassesValue}
 use Rattle.smp_machine.specs.Place.{PlaceValue, HasNotLeft}
-use Rattle.smp_machine.specs.Works.{handled_calls, stop_call, turned, HasRun, Works, Hears, LooksOnce, LooksIfOn, StopMoves, GoesRound, completed, StaysIn, TurnsStop}
+use Rattle.smp_machine.specs.Works.{handled_calls, stop_call, turned, HasRun, Works, Hears, LooksOnce, LooksIfOn, StopMoves, GoesRound}
+use Rattle.smp_machine.specs.Works.{completed, StaysIn, TurnsStop}
 
 module _ {H : Type 0} (hears : H → Heard → H → Type 0) where
   -- one look, by what `handle` answers

@@ -1,5 +1,6 @@
 -- What a change of a key's count by one makes of its CPU.
-use Rattle.std.specs.Prelude.{◌≡◌, ◌≢◌, ◌⊎◌, ℕ, ℤ, pos, ◌≤◌, Bool, true, false, if◌then◌else◌, Result, Ok, Err, None, List, [], ◌∷◌, ◌++◌, slice_index_or, slice_set}
+use Rattle.std.specs.Prelude.{◌≡◌, ◌≢◌, ◌⊎◌, ℕ, ℤ, pos, ◌≤◌, Bool, true, false, if◌then◌else◌, Result, Ok, Err, None, List, [], ◌∷◌, ◌++◌}
+use Rattle.std.specs.Prelude.{slice_index_or, slice_set}
 use Rattle.smp_labels.specs.Keys.{is_on}
 use Rattle.smp_labels.specs.declared.keys.Change.{Change}
 use Rattle.smp_labels.specs.declared.keys.Change.TheVariants.{Up, Down}

@@ -26,7 +26,8 @@ pub not_made : (online dst : ℕ) (e : SmpError) → e ≡ error.NoCpu → has o
 not_made online dst e is off = rw (off, is) refl
 
 -- to the own CPU, or to another
-pub call_made : (online dst this : ℕ) (Q : Type 0) → has online this ≡ true → (dst ≢ this → (has online dst ≡ true) × Q) → IsRefusedOr (call_refusal online dst) IsDone Done
+pub call_made : (online dst this : ℕ) (Q : Type 0) → has online this ≡ true → (dst ≢ this → (has online dst ≡ true) × Q)
+    → IsRefusedOr (call_refusal online dst) IsDone Done
 call_made online dst this Q here there = elim (cases_eq dst this) [
   | inl e ↦ is_made online dst (subst (λ (x : ℕ). has online x ≡ true) (sym e) here)
   | inr other ↦ is_made online dst (there other).0

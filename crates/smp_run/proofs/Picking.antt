@@ -11,7 +11,8 @@ none_picked asked says called picks c other = elim (cases_Bool (has called c)) [
   | inr e ↦ e
 ]
 
-picked_if : (asked says : ℕ → Bool) (called : ℕ) → Picks (λ c answer. answer ≡ says c) asked called → (c : ℕ) → c < cpus → (b : Bool) → asked c ≡ b → has called c ≡ (b && says c)
+picked_if : (asked says : ℕ → Bool) (called : ℕ) → Picks (λ c answer. answer ≡ says c) asked called → (c : ℕ) → c < cpus → (b : Bool) → asked c ≡ b
+    → has called c ≡ (b && says c)
 picked_if asked says called picks c below true e = picks.answered c below e
 picked_if asked says called picks c below false e = none_picked asked says called picks c e
 

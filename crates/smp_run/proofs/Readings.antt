@@ -83,7 +83,8 @@ same_kind Jmp Nop e = absurd (cc e)
 
 -- the word of a site, by its entry
 site_is : (c : CpuValue) (one : ReadsOneTable c) (i : ℕ) (e : Entry) → i < length c.setting.labels.entries
-    → one.labels.site i ≡ kind_word (kind_of (is_on (one.labels.key (slice_index_or c.setting.labels.entries i e).key)) (slice_index_or c.setting.labels.entries i e).branch)
+    → one.labels.site i ≡ kind_word (kind_of (is_on (one.labels.key (slice_index_or c.setting.labels.entries i e).key))
+    (slice_index_or c.setting.labels.entries i e).branch)
 site_is c one i e below =
     let t = one.labels in let entries = c.setting.labels.entries in let entry = slice_index_or entries i e in
     let few : i < 16 = (let l : length (map entry_word entries) ≤ 16 = one.entries.few in omega (arith, length-map entries entry_word, l, below)) in
@@ -101,16 +102,19 @@ kinds_read labels keys sites c front known same keys_sized sites_sized readings 
   kinds = λ i e s b below.
       let one = one_if (omega (arith, below)) in let t = one.labels in
       let entry = slice_index_or labels.entries i e in
-      let all : AllByRecursion (Agrees t) ((front ++ keys_read keys) ++ sites_read sites) = subst (λ (rs : List Reading). AllByRecursion (Agrees t) rs) readings one.agrees in
+      let all : AllByRecursion (Agrees t) ((front ++ keys_read keys) ++ sites_read sites) =
+      subst (λ (rs : List Reading). AllByRecursion (Agrees t) rs) readings one.agrees in
       let key_below : entry.key < labels.keys = All-get_or (λ (x : Entry). x.key < labels.keys) labels.entries i e below known.known in
       let key_in : entry.key < length keys = omega (arith, key_below, keys_sized) in
       let site_in : i < length sites = omega (arith, below, sites_sized) in
       let key_said : is_on (t.key entry.key) ≡ slice_index_or keys entry.key b =
-      (all_from_zero (Agrees t) key_reading keys (all_last (Agrees t) front (keys_read keys) (all_first (Agrees t) (front ++ keys_read keys) (sites_read sites) all)) entry.key b key_in).0 in
+      (all_from_zero (Agrees t) key_reading keys (all_last (Agrees t) front (keys_read keys)
+      (all_first (Agrees t) (front ++ keys_read keys) (sites_read sites) all)) entry.key b key_in).0 in
       let site_said : is_on (t.site i) ≡ jumps (slice_index_or sites i s) =
       (all_from_zero (Agrees t) site_reading sites (all_last (Agrees t) (front ++ keys_read keys) (sites_read sites) all) i s site_in).0 in
       let word : t.site i ≡ kind_word (kind_of (is_on (t.key entry.key)) entry.branch) =
-      subst (λ (x : Labels). (i < length x.entries) → t.site i ≡ kind_word (kind_of (is_on (t.key (slice_index_or x.entries i e).key)) (slice_index_or x.entries i e).branch)) same
+      subst (λ (x : Labels). (i < length x.entries) → t.site i ≡ kind_word
+      (kind_of (is_on (t.key (slice_index_or x.entries i e).key)) (slice_index_or x.entries i e).branch)) same
       (λ low. site_is c one i e low) below in
       let kind = kind_of (slice_index_or keys entry.key b) entry.branch in
       let told : t.site i ≡ kind_word kind = word ∙ ap (λ (x : Bool). kind_word (kind_of x entry.branch)) key_said in

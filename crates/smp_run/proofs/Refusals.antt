@@ -44,7 +44,8 @@ one_answered t old dst online (Err e) same free ok err =
 refused_two : (t : TableValue) (old : PlaceValue) (a b : ℕ) (e : SmpError) → old.stops.inside ≡ None → RefusesTwo t old a b e
     → IsRefusedOr (two_refusal t.setting.online a b) IsNumber (Refused e)
 refused_two t old a b error.NoStopper free (_, other, inl off) = let e : (a == b) ≡ false = ne_eqb a b other in rw (e, off) refl
-refused_two t old a b error.NoStopper free (_, other, inr off) = let e : (a == b) ≡ false = ne_eqb a b other in rw (e, off, and-false (has t.setting.online a)) refl
+refused_two t old a b error.NoStopper free (_, other, inr off) = let e : (a == b) ≡ false = ne_eqb a b other in
+    rw (e, off, and-false (has t.setting.online a)) refl
 refused_two t old a b error.BadArgument free (inl inside) = absurd (inside free)
 refused_two t old a b error.BadArgument free (inr same) = rw (same, eq-eqb b b refl) refl
 refused_two t old a b error.NoCpu free r = absurd r
@@ -103,7 +104,8 @@ module _ {H F : Type 0} (hears : H → Heard → H → Type 0) (runs : F → Cal
       → old.stops.inside ≡ None → CountsOr hears runs t k up old h f new h' f' made
       → IsRefusedOr (key_refusal t.setting.labels.keys k) (IsCount (end_of up)) (answer_of Turned made)
   counted t k up old h f new h' f' (Ok turned) free c = has_key t.setting.labels.keys k (IsCount (end_of up)) (Turned turned) c.0.key tt
-  counted t k up old h f new h' f' (Err (error.KeyRange e)) free c = has_key t.setting.labels.keys k (IsCount (end_of up)) (Refused (error.KeyRange e)) c.0.key c.1.0
+  counted t k up old h f new h' f' (Err (error.KeyRange e)) free c =
+      has_key t.setting.labels.keys k (IsCount (end_of up)) (Refused (error.KeyRange e)) c.0.key c.1.0
   counted t k up old h f new h' f' (Err error.BadArgument) free c = refused_key t old k (IsCount (end_of up)) error.BadArgument free c.0
   counted t k up old h f new h' f' (Err error.NoStopper) free c = absurd c.1
   counted t k up old h f new h' f' (Err error.NoCpu) free c = absurd c.1

@@ -76,7 +76,8 @@ module _ {H F : Type 0} (hears : H → Heard → H → Type 0) (runs : F → Cal
       → CountsOr hears runs t k up old h f new h' f' made → IsSeated m old → IsStill m old new
   still_counted m t k up old new h h' f f' (Ok false) c seated = still_worked m old new h h' f f' _ c.1.works c.1.outside seated
   still_counted m t k up old new h h' f f' (Ok true) c seated = still_worked m old new h h' f f' _ c.1.patches.stopped.works c.1.patches.stopped.outside seated
-  still_counted m t k up old new h h' f f' (Err (error.KeyRange e)) (may, (is, inl edge)) seated = still_worked m old new h h' f f' _ edge.works edge.outside seated
+  still_counted m t k up old new h h' f f' (Err (error.KeyRange e)) (may, (is, inl edge)) seated =
+      still_worked m old new h h' f f' _ edge.works edge.outside seated
   still_counted m t k up old new h h' f f' (Err (error.KeyRange e)) (may, (is, inr patched)) seated =
       still_worked m old new h h' f f' _ patched.2.patches.stopped.works patched.2.patches.stopped.outside seated
   still_counted m t k up old new h h' f f' (Err error.BadArgument) c seated = still_same m old new c.1.kept seated

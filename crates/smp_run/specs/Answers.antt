@@ -1,5 +1,6 @@
 -- What `do` lines answer.
-use Rattle.std.specs.Prelude.{◌≡◌, ℕ, ◌<◌, ◌%◌, ◌==◌, ◌&&◌, Bool, true, false, nat_lt, if◌then◌else◌, Option, Some, None, Result, Ok, Err, List, length, slice_index_or}
+use Rattle.std.specs.Prelude.{◌≡◌, ℕ, ◌<◌, ◌%◌, ◌==◌, ◌&&◌, Bool, true, false, nat_lt, if◌then◌else◌, Option, Some, None, Result, Ok, Err}
+use Rattle.std.specs.Prelude.{List, length, slice_index_or}
 use Rattle.smp_mask.specs.Mask.{has}
 use Rattle.smp_mask.specs.declared.error.Edge.{Edge}
 use Rattle.smp_mask.specs.declared.error.Edge.TheVariants.{Full, Zero}

@@ -12,7 +12,8 @@ use Rattle.smp_call_steps.specs.Histories.{orders, running_call}
 use Rattle.smp_call_steps.specs.Stages.{ControlValue, access_of, FitsStage}
 use Rattle.smp_call_steps.specs.Stands.{Share, share_of, StandsAt, HandleStands, held_of}
 use Rattle.smp_call_steps.specs.Parts.{Part, part_confirmed, part_accepted, part_begun, part_unlocked, part_counted, part_after}
-use Rattle.smp_call_steps.specs.Known.{told_stage, told_post, told_handle, known_told, known_taking, stage_after, drain_then, tried_after, heads_after, log_after}
+use Rattle.smp_call_steps.specs.Known.{told_stage, told_post, told_handle, known_told, known_taking, stage_after, drain_then, tried_after}
+use Rattle.smp_call_steps.specs.Known.{heads_after, log_after}
 use Rattle.smp_call_steps.specs.Known.{MayStep, known_access, Lives}
 use Rattle.smp_call_steps.specs.Known.{GoesOn}
 use Rattle.smp_call_steps.specs.Handling.{rest_of, handling, goes_known, accepted_known, taken_known, begun_sync, counted_sync, begun_async, ended_call}

@@ -62,7 +62,10 @@ fn no_call_with_a_work_in_hand(rt: HostRuntime) -> Result<(), Fail> {
         Poll,
     ];
     let plays: [&[Part]; 2] = [&[(Times(1), &stops)], &[(Times(1), &refused)]];
-    assert_eq!(rt; in_threads(&rt, rt.alloc(), "0-1", &two_sites()?, &plays)?, 2);
+    assert_eq!(rt;
+        in_threads(&rt, rt.alloc(), "0-1", &two_sites()?, &plays)?,
+        2
+    );
     Ok(())
 }
 

@@ -233,7 +233,8 @@ module _ (u : Setup) (at : Word → ℕ) (h : AreI32Words at) (c : StopControlVa
   whole n l = ap (cast_signed w32) (omega (arith, l))
 
   answers_go : (stage : StopStage) → AnswersFit stage → AnswersGo stage (found_at stage) (stop_outcome me c stage (found_at stage))
-  answers_go TakeGate x = ends me c TakeGate (found_at TakeGate) k _ (said me c TakeGate (found_at TakeGate) k (found_at TakeGate == 0) note.Gate note.Taken tt tt)
+  answers_go TakeGate x = ends me c TakeGate (found_at TakeGate) k _
+      (said me c TakeGate (found_at TakeGate) k (found_at TakeGate == 0) note.Gate note.Taken tt tt)
   answers_go OpenGate x = ends me c OpenGate (found_at OpenGate) k note.Open tt
   answers_go (Begin work f) x = begun me c (Begin work f) (found_at (Begin work f)) k work f
   answers_go (Enter slot) x = choose me c (Enter slot) (found_at (Enter slot)) k (has (found_at (Enter slot)) me) (stop_goes c (EnterKind slot))

@@ -11,7 +11,8 @@ returns-in-Ok-true g c =
 
 pub returns-in-Ok-false : goal.returns-in-Ok-false
 returns-in-Ok-false g c =
-    counts_patched g.H.Handler.leads g.F.StopFunc.leads c.args.machine.now.stops c.args.k c.args.up c.patch_by_one.result c.args.me.now c.nudge.new.me c.patch_by_one.new.me
+    counts_patched g.H.Handler.leads g.F.StopFunc.leads c.args.machine.now.stops c.args.k c.args.up c.patch_by_one.result c.args.me.now c.nudge.new.me
+    c.patch_by_one.new.me
     c.args.handler.now c.patch_by_one.new.handler c.args.run.now c.patch_by_one.new.run
     (subst (λ (b : Bool). Nudges c.args.k c.args.up c.args.me.now.stops c.nudge.new.me.stops (Ok b)) c.in-Ok-false.field-0-test c.in-Ok-false.ensures.nudges)
     c.nudge.ensures.rest c.requires.gate c.patch_by_one.ensures

@@ -19,10 +19,12 @@ loop-handle-preserved-in-Some-join g c =
       rest_of (IsStarted m lines) _ _ c.in-Some.handle done _ _ _ grown step.0 step.1 was.1,
       c.gather.ensures.sized,
       (λ all. subst (λ (n : ℕ). Answered online (keys_at m) (IsJoined online n) lines c.gather.new.answers) (sym grown)
-          (joined_kept m told_machine done number c.number.result lines told_lines c.loop-handle.answers c.as_slice.result.now c.gather.new.answers told.0 told.1 told.2 (c.number.ensures.number.0 ∙ kept.1)
+          (joined_kept m told_machine done number c.number.result lines told_lines c.loop-handle.answers c.as_slice.result.now c.gather.new.answers told.0
+          told.1 told.2 (c.number.ensures.number.0 ∙ kept.1)
           (subst (λ xs. Answered told_machine.calls.online (keys_at told_machine) (λ c. c ≡ number) told_lines xs) (sym c.as_slice.ensures.value) kept.2)
           c.gather.ensures.sized (was.3 all) c.gather.ensures.own c.gather.ensures.others)),
-      first_at m c.loop-handle.last c.in-Some-join.seat.cpu c.first_of.result was.4 (subst (λ (x : MachineValue). IsSeated x c.in-Some-join.seat.cpu) told.0 kept.0) c.first_of.ensures,
+      first_at m c.loop-handle.last c.in-Some-join.seat.cpu c.first_of.result was.4
+          (subst (λ (x : MachineValue). IsSeated x c.in-Some-join.seat.cpu) told.0 kept.0) c.first_of.ensures,
     )
 
 pub loop-handle-preserved-in-None-join : goal.loop-handle-preserved-in-None-join
@@ -33,7 +35,8 @@ loop-handle-preserved-in-None-join g c =
       omega (arith, grown, was.0, step.1),
       rest_of (IsStarted m lines) _ _ c.in-Some.handle done _ _ _ grown step.0 step.1 was.1,
       was.2,
-      (λ no. absurd {A = Answered online (keys_at m) (IsJoined online (length (c.loop-handle.yielded ++ c.in-Some.handle ∷ []))) lines c.loop-handle.answers} (cc no)),
+      (λ no. absurd {A = Answered online (keys_at m) (IsJoined online (length (c.loop-handle.yielded ++ c.in-Some.handle ∷ []))) lines c.loop-handle.answers}
+          (cc no)),
       was.4,
     )
 
@@ -46,6 +49,7 @@ loop-handle-preserved g c =
       omega (arith, grown, was.0, step.1),
       rest_of (IsStarted m lines) _ _ c.in-Some.handle done _ _ _ grown step.0 step.1 was.1,
       was.2,
-      (λ all. subst (λ (n : ℕ). Answered online (keys_at m) (IsJoined online n) lines c.loop-handle.answers) (sym grown) (joined_none online (keys_at m) done lines c.loop-handle.answers (subst (λ x. IsStarted m lines done x) c.in-None-handle.is here) (was.3 all))),
+      (λ all. subst (λ (n : ℕ). Answered online (keys_at m) (IsJoined online n) lines c.loop-handle.answers) (sym grown)
+          (joined_none online (keys_at m) done lines c.loop-handle.answers (subst (λ x. IsStarted m lines done x) c.in-None-handle.is here) (was.3 all))),
       was.4,
     )

@@ -11,7 +11,8 @@ loop-i-preserved c =
     let was = c.loop-i.invariant in let old = c.loop-i.sites.items in let item = c.read_site-kind.result in
     let items : c.push.new.self.items ≡ old ++ item ∷ [] = c.in_ok-push.ensures.items in
     let all : HasRead c.args.machine.now c.args.me.now c.read_site-kind.new.me (sites_read (old ++ item ∷ [])) =
-    more_read site_reading c.args.machine.now c.args.me.now c.loop-i.me c.read_site-kind.new.me old item c.loop-i.i (ReadSite c.loop-i.i (jumps c.read_site-kind.result)) was.1 refl was.0 c.read_site-kind.ensures in (
+    more_read site_reading c.args.machine.now c.args.me.now c.loop-i.me c.read_site-kind.new.me old item c.loop-i.i
+    (ReadSite c.loop-i.i (jumps c.read_site-kind.result)) was.1 refl was.0 c.read_site-kind.ensures in (
       rw items all,
       rw items (one_more old item ∙ ap (λ (n : ℕ). n + 1) was.1),
       λ some. c.read_site-kind.ensures.one_table,

@@ -13,4 +13,5 @@ returns g c =
     let m = c.args.online in
     let from = YieldsList-at (c.into_iter-source-iterator.ensures.into_iter_gives ∙ c.iter-source-items.ensures) (road m) in
     let ended = YieldsList-end from c.loop-source.yielded _ c.loop-source.yielded_by _ _ c.in-None.is c.next.ensures.steps in
-    all_yielded (λ source. flat_map (pair_text (tally_at c.args.tally.now.queued) source) (members m)) c.loop-source.yielded (members m) _ _ ended.0 c.loop-source.invariant
+    all_yielded (λ source. flat_map (pair_text (tally_at c.args.tally.now.queued) source) (members m)) c.loop-source.yielded (members m) _ _ ended.0
+    c.loop-source.invariant

@@ -6,4 +6,5 @@ use Rattle.smp_run.specs.Text.{pair_text}
 use Rattle.smp_run.proofs.text.write_tally.Given as goal
 
 abbrev pub invariant-loop-source : goal.invariant-loop-source
-invariant-loop-source g l = string_bytes l.out ≡ string_bytes l.initial.out ++ flat_map (λ source. flat_map (pair_text (tally_at l.tally.queued) source) (members l.online)) l.yielded
+invariant-loop-source g l = string_bytes l.out ≡ string_bytes l.initial.out ++ flat_map
+    (λ source. flat_map (pair_text (tally_at l.tally.queued) source) (members l.online)) l.yielded

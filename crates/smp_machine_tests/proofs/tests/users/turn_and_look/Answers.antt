@@ -28,7 +28,8 @@ answer_read law setting mid new k i on (Ok kind) same read a = λ e at key.
 answer_read law setting mid new k i on (Err x) same read a = tt
 
 -- the machine's labels are still the CPU's
-setting_kept : {H F : Type 0} (hears : H → Heard → H → Type 0) (runs : F → Called → F → Type 0) (t : TableValue) (k : ℕ) (on : Bool) (p : PlaceValue) (h : H) (f : F)
+setting_kept : {H F : Type 0} (hears : H → Heard → H → Type 0) (runs : F → Called → F → Type 0) (t : TableValue) (k : ℕ) (on : Bool) (p : PlaceValue) (h : H)
+    (f : F)
     (new : PlaceValue) (h' : H) (f' : F) (turned : Bool) → Sets hears runs t k on p h f new h' f' turned → new.stops.setting ≡ p.stops.setting
 setting_kept hears runs t k on p h f new h' f' false s = s.setting_is
 setting_kept hears runs t k on p h f new h' f' true s = s.2.1.works.setting_is
@@ -37,5 +38,6 @@ pub returns-in-Ok : goal.returns-in-Ok
 returns-in-Ok g c =
     let kept = setting_kept g.H.Handler.leads g.F.StopFunc.leads c.args.machine.now.stops c.args.k c.args.on c.args.me.now c.args.handler.now c.args.run.now
     c.set_key.new.me c.set_key.new.handler c.set_key.new.run _ c.in-Ok.ensures.sets in
-    answer_read c.kinds_follow_keys.ensures c.args.machine.now.stops.setting c.set_key.new.me.stops c.read_site.new.me.stops c.args.k c.args.i c.args.on c.read_site.result
+    answer_read c.kinds_follow_keys.ensures c.args.machine.now.stops.setting c.set_key.new.me.stops c.read_site.new.me.stops c.args.k c.args.i c.args.on
+    c.read_site.result
     (kept ∙ c.requires.stops.setting) c.in-Ok.ensures.read c.read_site.ensures.answers

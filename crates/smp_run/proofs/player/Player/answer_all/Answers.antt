@@ -11,7 +11,8 @@ loop-at-preserved g c =
     let m = c.args.self.now.machine.now in let line = c.index-lines-at.result in let answer = c.answer_if.new.answer in (
       record { machine_is = more.machine_is ∙ same.machine_is; number_is = more.number_is ∙ same.number_is },
       search rules,
-      answered_more m.calls.online (keys_at m) c.args.self.now.cpu.calls.number c.args.lines.now c.loop-at.answers c.loop-at.at line answer c.loop-at-test.true was.1
+      answered_more m.calls.online (keys_at m) c.args.self.now.cpu.calls.number c.args.lines.now c.loop-at.answers c.loop-at.at line answer
+          c.loop-at-test.true was.1
           c.index-lines-at.is
           (λ mine. subst (λ (x : MachineValue). IsLineAnswer x.calls.online (keys_at x) line answer) same.machine_is
           (c.answer_if.ensures.answered (mine ∙ sym same.number_is)))

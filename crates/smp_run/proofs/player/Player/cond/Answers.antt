@@ -7,5 +7,6 @@ use Rattle.smp_run.proofs.player.Player.cond.Goals as goal
 pub returns-clause-answer : goal.returns-clause-answer
 returns-clause-answer g c =
     let me = c.args.self.now in let call = c.each_cpu_cond-made in
-    rw c.cpus_or.ensures (cond_answered (is_target c.args.mask me.machine.now.calls.online me.cpu.calls.number true) (says c.args.which) me.cpu call.new.me _ _ call.result
+    rw c.cpus_or.ensures (cond_answered (is_target c.args.mask me.machine.now.calls.online me.cpu.calls.number true) (says c.args.which) me.cpu call.new.me _
+    _ call.result
     me.own.free call.ensures.picks call.ensures.refused)

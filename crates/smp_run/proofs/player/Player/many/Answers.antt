@@ -6,5 +6,6 @@ use Rattle.smp_run.proofs.player.Player.many.Goals as goal
 pub returns-clause-answer : goal.returns-clause-answer
 returns-clause-answer g c =
     let me = c.args.self.now in let call = c.call_many-made in
-    rw c.cpus_or.ensures (many_answered (is_target c.args.mask me.machine.now.calls.online me.cpu.calls.number false) me.cpu call.new.me _ _ call.result me.own.free
+    rw c.cpus_or.ensures (many_answered (is_target c.args.mask me.machine.now.calls.online me.cpu.calls.number false) me.cpu call.new.me _ _ call.result
+    me.own.free
     call.ensures.targets call.ensures.refused)

@@ -4,5 +4,6 @@ use Rattle.smp_run.proofs.player.Player.single.Goals as goal
 pub returns-clause-answer : goal.returns-clause-answer
 returns-clause-answer g c =
     let me = c.args.self.now in let call = c.call_single-made in
-    rw c.done_or.ensures (single_answered me.machine.now.calls.online c.args.dst me.cpu.calls.number me.cpu call.new.me _ _ _ _ call.result me.own.online me.own.free
+    rw c.done_or.ensures (single_answered me.machine.now.calls.online c.args.dst me.cpu.calls.number me.cpu call.new.me _ _ _ _ call.result me.own.online
+    me.own.free
     call.ensures.queued call.ensures.refused)

@@ -5,5 +5,6 @@ use Rattle.smp_run.proofs.player.Player.two.Goals as goal
 pub returns-clause-answer : goal.returns-clause-answer
 returns-clause-answer g c =
     let me = c.args.self.now in let call = c.stop_two-made in
-    rw c.number_or.ensures (two_answered me.machine.now.stops me.cpu c.args.a c.args.b me.machine.now.calls.online call.result (sym c.online-online.ensures.stops ∙ c.online-online.ensures.calls) me.own.free
+    rw c.number_or.ensures (two_answered me.machine.now.stops me.cpu c.args.a c.args.b me.machine.now.calls.online call.result
+    (sym c.online-online.ensures.stops ∙ c.online-online.ensures.calls) me.own.free
     call.ensures.online call.ensures.err)
