@@ -19,7 +19,7 @@ use Rattle.smp_machine.specs.WorkQueue.{IsKnown}
 use Rattle.smp_machine.specs.Own.{Own, own_of, with_gate, with_begun, with_put, with_collected, put_one, put_all}
 use Rattle.smp_machine.specs.Passes.{puts}
 use Rattle.smp_machine.specs.Place.{PlaceValue}
-use Rattle.smp_machine.specs.Stops.{item, with_stop, AreShown, HasCollected, HasStopped}
+use Rattle.smp_machine.specs.Stops.{item, with_queued, AreShown, HasCollected, HasStopped}
 use Rattle.smp_machine.specs.Works.{Works}
 use Rattle.smp_machine.proofs.Works.{works_own, works_none, works_then, works_as, works_both}
 
@@ -79,7 +79,7 @@ module _ {H F : Type 0} (hears : H → Heard → H → Type 0) (runs : F → Cal
       → Works hears runs old h f m₁ h₁ f₁ (with_gate true (own_of old))
       → m₂ ≡ record m₁ { stops = begins work m₁.stops }
       → Works hears runs m₂ h₁ f₁ m₃ h₃ f₃ (with_put (item m₂.stops.number work) (members work.mask) (own_of m₂))
-      → Works hears runs old h f m₃ h₃ f₃ (with_put (item old.stops.number work) (members work.mask) (with_begun work (with_gate true (own_of old))))
+      → Works hears runs old h f m₃ h₃ f₃ (with_queued old.stops.number work (own_of old))
   stop_queued {old} {m₁} {m₂} {m₃} {h} {h₁} {h₃} {f} {f₁} {f₃} work a e b =
       let number : m₂.stops.number ≡ old.stops.number = ap (λ (p : PlaceValue). p.stops.number) e ∙ a.number_is in
       let two = works_both hears runs (with_gate true) (with_begun work) a (works_begin m₁ m₂ h₁ f₁ work e) in
@@ -141,14 +141,15 @@ module _ {H F : Type 0} (hears : H → Heard → H → Type 0) (runs : F → Cal
   -- a stop that gives the gate up once it is complete
   pub stop_long : {old m₃ m₄ new : PlaceValue} {n : ℕ} {h h₃ h₄ : H} {f f₃ f₄ : F} (work : Work) (u v : ℤ) → u ≡ v
       → n ≡ old.stops.number
-      → Works hears runs old h f m₃ h₃ f₃ (with_put (item old.stops.number work) (members work.mask) (with_begun work (with_gate true (own_of old))))
+      → Works hears runs old h f m₃ h₃ f₃ (with_queued old.stops.number work (own_of old))
       → AreShown n (members work.mask) m₃.passes.put → HasCollected hears runs m₃ h₃ f₃ m₄ h₄ f₄ v
-      → new ≡ record m₄ { stops = gated false m₄.stops } → HasStopped hears runs work old h f new h₄ f₄ u
+      → new ≡ record m₄ { stops = gated false m₄.stops } → HasStopped hears runs true work old h f new h₄ f₄ u
   stop_long {old} {m₃} {m₄} {new} {n} {h} {h₃} {h₄} {f} {f₃} {f₄} work u v same number a shown c e =
-      let put = λ (o : Own). with_put (item old.stops.number work) (members work.mask) (with_begun work (with_gate true o)) in
+      let put = with_queued old.stops.number work in
       let three = works_both hears runs put (with_collected c.word) a c.works in record {
         word = c.word;
         answer_is = same ∙ c.answer_is;
+        gate = (m₄, three, e);
         works = works_both hears runs (λ (o : Own). with_collected c.word (put o)) (with_gate false) three (works_gate hears runs m₄ new h₄ f₄ false e);
         result = last_open e c.result;
         shown = shown_at number refl (sym (ap (λ (p : PlaceValue). p.passes.put) e ∙ ap (λ (o : Own). o.put) c.works.own_is)) shown;
@@ -158,23 +159,29 @@ module _ {H F : Type 0} (hears : H → Heard → H → Type 0) (runs : F → Cal
   -- a stop that gives it up once its works are queued
   pub stop_short : {old m₃ m₄ new : PlaceValue} {n : ℕ} {h h₃ h₅ : H} {f f₃ f₅ : F} (work : Work) (u v : ℤ) → u ≡ v
       → n ≡ old.stops.number
-      → Works hears runs old h f m₃ h₃ f₃ (with_put (item old.stops.number work) (members work.mask) (with_begun work (with_gate true (own_of old))))
+      → Works hears runs old h f m₃ h₃ f₃ (with_queued old.stops.number work (own_of old))
       → AreShown n (members work.mask) m₃.passes.put → m₄ ≡ record m₃ { stops = gated false m₃.stops }
-      → HasCollected hears runs m₄ h₃ f₃ new h₅ f₅ v → HasStopped hears runs work old h f new h₅ f₅ u
+      → HasCollected hears runs m₄ h₃ f₃ new h₅ f₅ v → HasStopped hears runs false work old h f new h₅ f₅ u
   stop_short {old} {m₃} {m₄} {new} {n} {h} {h₃} {h₅} {f} {f₃} {f₅} work u v same number a shown e c =
-      let put = λ (o : Own). with_put (item old.stops.number work) (members work.mask) (with_begun work (with_gate true o)) in
+      let put = with_queued old.stops.number work in
       let three = works_both hears runs put (with_gate false) a (works_gate hears runs m₃ m₄ h₃ f₃ false e) in record {
         word = c.word;
         answer_is = same ∙ c.answer_is;
+        gate = (m₃, h₃, f₃, a, subst (λ (p : PlaceValue). Works hears runs p h₃ f₃ new h₅ f₅ (with_collected c.word (own_of p))) e c.works);
         works = works_both hears runs (λ (o : Own). with_gate false (put o)) (with_collected c.word) three c.works;
         result = c.result;
         shown = shown_at number refl (sym (ap (λ (o : Own). o.put) c.works.own_is ∙ ap (λ (p : PlaceValue). p.passes.put) e)) shown;
         outside = c.outside;
       }
 
+  -- the same, long or not
+  pub stop_as : {old new : PlaceValue} {h h' : H} {f f' : F} {work : Work} {v : ℤ} {long is_long : Bool} → is_long ≡ long
+      → HasStopped hears runs long work old h f new h' f' v → HasStopped hears runs is_long work old h f new h' f' v
+  stop_as {old} {new} {h} {h'} {f} {f'} {work} {v} e = subst (λ (b : Bool). HasStopped hears runs b work old h f new h' f' v) (sym e)
+
   -- the same stop, as callers see its CPU and its answer
-  pub stop_seen : {old seen new : PlaceValue} {h h' : H} {f f' : F} {work : Work} (u v : ℤ) → old ≡ seen → u ≡ v
-      → HasStopped hears runs work old h f new h' f' v → HasStopped hears runs work seen h f new h' f' u
-  stop_seen {old} {seen} {new} {h} {h'} {f} {f'} {work} u v e same s =
-      subst (λ (p : PlaceValue). HasStopped hears runs work p h f new h' f' u) e
-      (subst (λ (x : ℤ). HasStopped hears runs work old h f new h' f' x) (sym same) s)
+  pub stop_seen : {old seen new : PlaceValue} {h h' : H} {f f' : F} {long : Bool} {work : Work} (u v : ℤ) → old ≡ seen → u ≡ v
+      → HasStopped hears runs long work old h f new h' f' v → HasStopped hears runs long work seen h f new h' f' u
+  stop_seen {old} {seen} {new} {h} {h'} {f} {f'} {long} {work} u v e same s =
+      subst (λ (p : PlaceValue). HasStopped hears runs long work p h f new h' f' u) e
+      (subst (λ (x : ℤ). HasStopped hears runs long work old h f new h' f' x) (sym same) s)

@@ -69,12 +69,12 @@ pub record HasFoundEdge {H F : Type 0} (hears : H → Heard → H → Type 0) (r
   pub works : Works hears runs old h f new h' f' (with_gate false (own_of old))
   pub outside : new.stops.inside ≡ None
 
--- it has made a patch by one, with this answer
+-- it has made a patch by one, with this answer, and held the gate until that was complete
 pub record PatchesByOne {H F : Type 0} (hears : H → Heard → H → Type 0) (runs : F → Called → F → Type 0) (t : TableValue) (k : ℕ) (up : Bool)
     (old : PlaceValue) (h : H) (f : F) (new : PlaceValue) (h' : H) (f' : F) (answer : ℤ) : Type 0 where
   pub work : Work
   pub patch : IsPatchOf t k (step_of up) work
-  pub stopped : HasStopped hears runs work old h f new h' f' answer
+  pub stopped : HasStopped hears runs true work old h f new h' f' answer
 
 -- the same, by its answer: E13 where the patch has not answered 0
 abbrev pub Patches : {H F : Type 0} → (H → Heard → H → Type 0) → (F → Called → F → Type 0) → TableValue → ℕ → Bool → PlaceValue → H → F

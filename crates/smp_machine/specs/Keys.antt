@@ -37,7 +37,7 @@ abbrev pub Sets : {H F : Type 0} → (H → Heard → H → Type 0) → (F → C
     → PlaceValue → H → F → PlaceValue → H → F → Bool → Type 0
 Sets hears runs t k on old h f new h' f' false = Works hears runs old h f new h' f' (own_of old)
 Sets hears runs t k on old h f new h' f' true =
-    (work : Work) × IsPatchOf t k (state_of on) work × ((answer : ℤ) × HasStopped hears runs work old h f new h' f' answer)
+    (work : Work) × IsPatchOf t k (state_of on) work × ((answer : ℤ) × HasStopped hears runs true work old h f new h' f' answer)
 
 -- a change of a key is refused with E4 where a work is in hand, or there is no such key
 abbrev pub RefusesKey : TableValue → PlaceValue → ℕ → SmpError → Type 0

@@ -1,5 +1,5 @@
 -- What a stop call makes of its CPU.
-use Rattle.std.specs.Prelude.{◌≡◌, ◌≢◌, ◌⊎◌, ℕ, ℤ, ◌==◌, ◌||◌, true, false, Option, Some, None}
+use Rattle.std.specs.Prelude.{◌≡◌, ◌≢◌, ◌⊎◌, ℕ, ℤ, ◌==◌, ◌||◌, Bool, true, false, Option, Some, None}
 use Rattle.std.specs.Prelude.{List, [], ◌∷◌, ◌++◌, length, slice_index_or}
 use Rattle.smp_mask.specs.Mask.{has, members, IsLeast}
 use Rattle.smp_mask.specs.declared.error.SmpError.{SmpError}
@@ -10,7 +10,7 @@ use Rattle.smp_stop_steps.specs.Starts.{begin_refusal}
 use Rattle.smp_stop_steps.specs.declared.start.Terms.{Terms}
 use Rattle.smp_multi.specs.Names.{Work, One, Multi}
 use Rattle.smp_multi.specs.Answers.{answer_in}
-use Rattle.smp_multi.specs.Cpu.{TableValue}
+use Rattle.smp_multi.specs.Cpu.{TableValue, gated}
 use Rattle.smp_multi.specs.Polls.{IsLastResult}
 use Rattle.smp_multi.specs.declared.func.Called.{Called}
 use Rattle.smp_machine.specs.declared.work_queue.Item.{Item}
@@ -57,12 +57,31 @@ pub record HasCollected {H F : Type 0} (hears : H → Heard → H → Type 0) (r
   pub result : IsLastResult new.stops word
   pub outside : new.stops.inside ≡ None
 
+-- the gate was taken, and a stop of this work begun, and queued once for each CPU of its mask
+abbrev pub with_queued : ℕ → Work → Own → Own
+with_queued source work o = with_put (item source work) (members work.mask) (with_begun work (with_gate true o))
+
+-- a CPU that gives the gate up
+abbrev pub gives_gate : PlaceValue → PlaceValue
+gives_gate p = record p { stops = gated false p.stops }
+
+-- a stop held the gate until it was given up: a long one as its last step, with its result collected, any other when its
+-- works were queued, and collected its result after that
+abbrev pub HoldsGate : {H F : Type 0} → (H → Heard → H → Type 0) → (F → Called → F → Type 0) → Bool → Work → ℕ → PlaceValue → H → F
+    → PlaceValue → H → F → Type 0
+HoldsGate hears runs true work word old h f new h' f' = (holder : PlaceValue)
+    × Works hears runs old h f holder h' f' (with_collected word (with_queued old.stops.number work (own_of old))) × (new ≡ gives_gate holder)
+HoldsGate {H} {F} hears runs false work word old h f new h' f' = (holder : PlaceValue) × (heard : H) × (called : F)
+    × Works hears runs old h f holder heard called (with_queued old.stops.number work (own_of old))
+    × Works hears runs (gives_gate holder) heard called new h' f' (with_collected word (own_of (gives_gate holder)))
+
 -- a CPU that was in no stop has made a stop of this work, with this answer, and is in none. Its works were queued once for
--- each CPU of the mask, and the queues show it
-pub record HasStopped {H F : Type 0} (hears : H → Heard → H → Type 0) (runs : F → Called → F → Type 0) (work : Work)
+-- each CPU of the mask, and the queues show it; a long stop gave the gate up last
+pub record HasStopped {H F : Type 0} (hears : H → Heard → H → Type 0) (runs : F → Called → F → Type 0) (long : Bool) (work : Work)
     (old : PlaceValue) (h : H) (f : F) (new : PlaceValue) (h' : H) (f' : F) (answer : ℤ) : Type 0 where
   pub word : ℕ
   pub answer_is : answer ≡ answer_in word
+  pub gate : HoldsGate hears runs long work word old h f new h' f'
   pub works : Works hears runs old h f new h' f' (with_stop old.stops.number work word (own_of old))
   pub result : IsLastResult new.stops word
   pub shown : AreShown old.stops.number (members work.mask) new.passes.put

@@ -120,7 +120,7 @@ pub(crate) fn patch<A: Allocator, R: Wait, H: Handler, F: StopFunc>(
     requires collected { me.old.stops.pending ≡ None }
     requires several { work.now.kind ≢ Kind.One }
     requires work { MayBegin machine.now.stops work.now }
-    ensures stopped { HasStopped H.leads F.leads work.now me.old handler.old run.old me.new handler.new run.new result }
+    ensures stopped { HasStopped H.leads F.leads true work.now me.old handler.old run.old me.new handler.new run.new result }
     ensures read { me.new.stops.part.readings ≡ first_readings me.old.stops.number me.old.stops.number work.now }
 {
     begin(machine, me, work);
@@ -180,7 +180,7 @@ pub(crate) fn set<A: Allocator, R: Wait, H: Handler, F: StopFunc>(
     requires patch { IsPatchOf machine.now.stops k (state_of on) work.now }
     requires work { MayBegin machine.now.stops work.now }
     ensures without { result ≡ false → Works H.leads F.leads me.old handler.old run.old me.new handler.new run.new (with_gate false (own_of me.old)) }
-    ensures stopped { result ≡ true → (v : ℤ) × HasStopped H.leads F.leads work.now me.old handler.old run.old me.new handler.new run.new v }
+    ensures stopped { result ≡ true → (v : ℤ) × HasStopped H.leads F.leads true work.now me.old handler.old run.old me.new handler.new run.new v }
     ensures read { Reads me.new.stops (ReadKey k on) }
     ensures outside { me.new.stops.inside ≡ None }
 {

@@ -210,7 +210,7 @@ pub(crate) fn stop<A: Allocator, R: Wait, H: Handler, F: StopFunc>(
     requires outside { me.old.stops.inside ≡ None }
     requires collected { me.old.stops.pending ≡ None }
     requires work { MayBegin machine.now.stops work.now }
-    ensures { HasStopped H.leads F.leads work.now me.old handler.old run.old me.new handler.new run.new result }
+    ensures { HasStopped H.leads F.leads long work.now me.old handler.old run.old me.new handler.new run.new result }
 {
     take_gate(machine, rt, me, handler, run);
     begin(machine, me, work);

@@ -57,11 +57,11 @@ module _ {H F : Type 0} (hears : H → Heard → H → Type 0) (runs : F → Cal
       }
 
   -- a stop
-  pub still_stopped : (m : MachineValue) (P : Work → Type 0) (old new : PlaceValue) (h h' : H) (f f' : F) (made : Result ℤ SmpError)
-      → IfOk made (λ v. (work : Work) × P work × HasStopped hears runs work old h f new h' f' v)
+  pub still_stopped : (m : MachineValue) (long : Bool) (P : Work → Type 0) (old new : PlaceValue) (h h' : H) (f f' : F) (made : Result ℤ SmpError)
+      → IfOk made (λ v. (work : Work) × P work × HasStopped hears runs long work old h f new h' f' v)
       → IfErr made (λ _. RefusedStill old h f new h' f') → IsSeated m old → IsStill m old new
-  still_stopped m P old new h h' f f' (Ok v) ok err seated = still_worked m old new h h' f f' _ ok.2.works ok.2.outside seated
-  still_stopped m P old new h h' f f' (Err e) ok err seated = still_same m old new err.kept seated
+  still_stopped m long P old new h h' f f' (Ok v) ok err seated = still_worked m old new h h' f f' _ ok.2.works ok.2.outside seated
+  still_stopped m long P old new h h' f f' (Err e) ok err seated = still_same m old new err.kept seated
 
   -- a key that is set
   pub still_set : (m : MachineValue) (t : TableValue) (k : ℕ) (on : Bool) (old new : PlaceValue) (h h' : H) (f f' : F) (made : Result Bool SmpError)
