@@ -54,6 +54,3 @@ pub use func::{Called, StopFunc};
 pub use nudge::Nudge;
 pub use table::StopTable;
 pub use turn::Turn;
-
-#[cfg(test)]
-mod tests;

@@ -1,14 +1,1 @@
 pub mod Status
--- a replay, moment by moment
-pub mod Moments
-pub mod Trace
-pub mod Replays
--- a column for each CPU
-pub mod Cells
--- the first fault of a script
-pub mod Forms
-pub mod Shapes
-pub mod Places
--- a picture
-pub mod Frame
-pub mod Link

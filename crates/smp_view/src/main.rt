@@ -1,42 +1,19 @@
 //! Shows replays of scripts: `smp_view lanes [FILE]`, `smp_view svg [FILE]`, `smp_view explain [FILE]`.
 //!
-//! - `arguments`, `status`: The words of the command line, and how the program ends.
-//! - `moments`, `trace`: What a script asks for, moment by moment, and what is seen of it.
-//! - `lanes`, `cell`, `pad`: A replay with one column for each CPU.
-//! - `svg`, `picture`, `legend`, `element`: A replay as a picture.
-//! - `frame`, `link`, `mark`: Where things stand in it, what opens and closes an arrow or a band, and the names of styles.
-//! - `forms`, `shapes`, `fits`, `fault`, `explain`: What is wrong with a script, and what may stand in its place.
+//! - `arguments`: What the words of the command line ask for.
+//! - `status`: How the program ends.
 #![tactic(auto)]
 
 mod arguments;
-mod cell;
-mod element;
-mod explain;
-mod fault;
-mod fits;
-mod forms;
-mod frame;
-mod lanes;
-mod legend;
-mod link;
-mod mark;
-mod moments;
-mod pad;
-mod picture;
-mod shapes;
-mod show;
 mod status;
-mod svg;
 #[cfg(test)]
 mod tests;
-mod trace;
 
 use crate::arguments::{Request, read_words};
-use crate::show::{explain_script, show_lanes};
 use crate::status::{Refusal, status_of};
-use crate::svg::show_svg;
 use smp_mask::{Side, SmpError};
 use smp_script::{Outcome, Watched};
+use smp_show::{explain_script, show_lanes, show_svg};
 use std::alloc::AllocError;
 use std::fs::File;
 use std::io::Read;

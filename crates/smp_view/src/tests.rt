@@ -1,6 +1,6 @@
 use super::*;
-use crate::explain::explanation;
-use crate::fault::first_fault;
+use smp_show::explain::explanation;
+use smp_show::fault::first_fault;
 use std::test::*;
 
 #[test]

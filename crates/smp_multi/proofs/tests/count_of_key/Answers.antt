@@ -1,5 +1,0 @@
-use Rattle.std.proofs.Common.{refl}
-use Rattle.smp_multi.proofs.tests.count_of_key.Goals as goal
-
-pub cell-requires : goal.cell-requires
-cell-requires g = (_, refl)

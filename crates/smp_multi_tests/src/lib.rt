@@ -1,0 +1,5 @@
+//! Worked cases of the stop table, and threads that use it.
+#![tactic(auto)]
+
+#[cfg(test)]
+mod tests;

@@ -1,0 +1,214 @@
+//! A replay with one column for each CPU.
+
+ghost use Rattle.std.specs.Prelude.{◌≡◌, ◌++◌, IfOk, OnOk, string_bytes};
+ghost use Rattle.std.specs.List.{flat_map};
+ghost use Rattle.smp_mask.specs.Mask.{members};
+ghost use Rattle.smp_show.specs.Cells.{apart, cell_at, front_text, head_cell, head_text, is_column, row_text, table_cell, told_text};
+
+use crate::cell::cell;
+use crate::pad::write_padded;
+use crate::trace::Row;
+use smp_mask::CpuMask;
+use std::alloc::{AllocError, Allocator};
+use std::str::from_utf8;
+
+/// The width of an event's number, and of a line's.
+const NUMBER: usize = 6;
+
+const LINE: usize = 4;
+
+/// How wide a script's line and a column are, and which CPUs have a column.
+#[derive(Clone, Copy)]
+pub struct Layout<'a> {
+    pub script: usize,
+    pub column: usize,
+    pub cpus: &'a [u32],
+}
+
+/// The CPUs of a mask, ascending.
+pub fn columns<A: Allocator>(alloc: A, online: CpuMask) -> Result<Vec<u32, A>, AllocError>
+    ensures { IfOk result (λ cpus. cpus.items ≡ members online) }
+{
+    let mut cpus = Vec::new(alloc);
+    for cpu in online.iter() {
+        cpus.push(cpu)?;
+    }
+    Ok(cpus)
+}
+
+// A line of the script by its number; nothing where there is no such line, or it is no text.
+fn script_line<'a>(lines: &[&'a [u8]], line: usize) -> &'a str {
+    match lines.get(line.saturating_sub(1)) {
+        Some(bytes) => from_utf8(bytes).unwrap_or(""),
+        None => "",
+    }
+}
+
+// What stands in the column of that CPU: nothing where the row is of another.
+fn cell_at<'a>(row: &Row, text: &'a str, cpu: u32) -> &'a str
+    ensures { result.now ≡ cell_at row.now.cpu text.now cpu }
+{
+    if row.cpu == cpu { text } else { "" }
+}
+
+// One cell of the table, with the bar behind it.
+fn write_table_cell<A: Allocator>(
+    out: &mut String<A>,
+    text: &str,
+    width: usize,
+) -> Result<(), AllocError>
+    ensures { OnOk result (string_bytes out.new ≡ string_bytes out.old ++ table_cell text.now width) }
+{
+    write!(out, " ")?;
+    write_padded(out, text, width)?;
+    write!(out, " |")
+}
+
+// The columns of a row.
+fn write_cells<A: Allocator>(
+    out: &mut String<A>,
+    layout: &Layout<'_>,
+    row: &Row,
+    text: &str,
+) -> Result<(), AllocError>
+    ensures { OnOk result (string_bytes out.new ≡ string_bytes out.old
+        ++ flat_map (λ cpu. table_cell (cell_at row.now.cpu text.now cpu) layout.now.column) layout.now.cpus.now) }
+{
+    for cpu in layout.cpus {
+        write_table_cell(out, cell_at(row, text, *cpu), layout.column)?;
+    }
+    Ok(())
+}
+
+// Whether the CPU has a column.
+fn is_column(cpus: &[u32], cpu: u32) -> bool
+    ensures { result ≡ is_column cpus.now cpu }
+{
+    cpus.iter().any(|c| *c == cpu)
+}
+
+// What is told of a CPU that has no column, behind the table.
+fn write_apart<A: Allocator>(
+    out: &mut String<A>,
+    layout: &Layout<'_>,
+    row: &Row,
+    text: &str,
+) -> Result<(), AllocError>
+    ensures { OnOk result (string_bytes out.new ≡ string_bytes out.old ++ apart layout.now.cpus.now row.now.cpu text.now) }
+{
+    if is_column(layout.cpus, row.cpu) || text.is_empty() {
+        return write!(out, "");
+    }
+    let cpu = row.cpu;
+    write!(out, " CPU {cpu}: {text}")
+}
+
+// The number of an event, its line's, and the line itself.
+fn write_front<A: Allocator + Copy>(
+    alloc: A,
+    out: &mut String<A>,
+    layout: &Layout<'_>,
+    row: &Row,
+    script: &str,
+) -> Result<(), AllocError>
+    ensures { OnOk result (string_bytes out.new ≡ string_bytes out.old ++ front_text layout.now.script row.now.number row.now.line script.now) }
+{
+    let number = row.number;
+    let line = row.line;
+    let number = format!(in alloc; "{number}")?;
+    write_padded(out, number.as_str(), NUMBER)?;
+    write!(out, " ")?;
+    let line = format!(in alloc; "{line}")?;
+    write_padded(out, line.as_str(), LINE)?;
+    write!(out, " ")?;
+    write_padded(out, script, layout.script)?;
+    write!(out, " |")
+}
+
+// One row of the table, with this text in the column of its CPU.
+fn write_told<A: Allocator + Copy>(
+    alloc: A,
+    out: &mut String<A>,
+    layout: &Layout<'_>,
+    row: &Row,
+    script: &str,
+    text: &str,
+) -> Result<(), AllocError>
+    ensures { OnOk result (string_bytes out.new ≡ string_bytes out.old
+        ++ told_text layout.now.script layout.now.column layout.now.cpus.now script.now row.now text.now) }
+{
+    write_front(alloc, out, layout, row, script)?;
+    write_cells(out, layout, row, text)?;
+    write_apart(out, layout, row, text)?;
+    writeln!(out, "")
+}
+
+// One row of the table.
+fn write_row<A: Allocator + Copy>(
+    alloc: A,
+    out: &mut String<A>,
+    layout: &Layout<'_>,
+    row: &Row,
+    script: &str,
+) -> Result<(), AllocError>
+    ensures { OnOk result (string_bytes out.new ≡ string_bytes out.old ++ row_text layout.now.script layout.now.column layout.now.cpus.now script.now row.now) }
+{
+    let text = cell(alloc, row.what)?;
+    write_told(alloc, out, layout, row, script, text.as_str())
+}
+
+// The head of the table.
+fn write_head<A: Allocator + Copy>(
+    alloc: A,
+    out: &mut String<A>,
+    layout: &Layout<'_>,
+) -> Result<(), AllocError>
+    ensures { OnOk result (string_bytes out.new ≡ string_bytes out.old ++ head_text layout.now.script layout.now.column layout.now.cpus.now) }
+{
+    write!(out, "event  line ")?;
+    write_padded(out, "script", layout.script)?;
+    write!(out, " |")?;
+    for cpu in layout.cpus {
+        let name = format!(in alloc; "CPU {cpu}")?;
+        write_table_cell(out, name.as_str(), layout.column)?;
+    }
+    writeln!(out, "")
+}
+
+// How wide the widest of these is, and no less than the names of the columns.
+fn widths<A: Allocator + Copy>(
+    alloc: A,
+    rows: &[Row],
+    lines: &[&[u8]],
+) -> Result<(usize, usize), AllocError> {
+    let mut script = 6;
+    let mut column = 6;
+    for row in rows {
+        script = script.max(script_line(lines, row.line).len());
+        let text = cell(alloc, row.what)?;
+        column = column.max(text.len());
+    }
+    Ok((script, column))
+}
+
+/// The table of a replay: its head, and a row for each event and each `show`, with the number of the event, the line of the
+/// script, and what the CPU has done in the CPU's own column.
+pub fn lanes<A: Allocator + Copy>(
+    alloc: A,
+    cpus: &[u32],
+    lines: &[&[u8]],
+    rows: &[Row],
+) -> Result<String<A>, AllocError> {
+    let (script, column) = widths(alloc, rows, lines)?;
+    let layout = Layout {
+        script,
+        column,
+        cpus,
+    };
+    let mut out = String::new(alloc);
+    write_head(alloc, &mut out, &layout)?;
+    for row in rows {
+        write_row(alloc, &mut out, &layout, row, script_line(lines, row.line))?;
+    }
+    Ok(out)
+}

@@ -1,0 +1,134 @@
+//! A script from a reader, and what is shown of it to a writer.
+
+ghost use Rattle.std.specs.Prelude.{◌≡◌, ◌≤◌, IfOk, IfErr, true, false, Err, OnOk};
+ghost use Rattle.smp_words.specs.Limits.{AreLimits};
+ghost use Rattle.smp_script.specs.Watched.{inner_of, failed_of, flushed_of};
+ghost use Rattle.smp_script.specs.MeaningOf.{meaning_of};
+ghost use Rattle.smp_mask.specs.declared.error.Side.TheVariants.{Read as ReadSide};
+ghost use Rattle.smp_core.specs.New.{new_core};
+ghost use Rattle.smp_replay.specs.Output.{labels_or_none};
+ghost use Rattle.smp_show.specs.Replays.{ending_of, has_refused, rows_of_script};
+
+use crate::explain::explanation;
+use crate::fault::first_fault;
+use crate::lanes::{columns, lanes};
+use crate::moments::moments;
+use crate::trace::{Row, is_refused, trace};
+use smp_core::Core;
+use smp_labels::LabelMap;
+use smp_mask::{CpuMask, SmpError};
+use smp_script::line::parts;
+use smp_script::script::{Script, read_script};
+use smp_script::stream::{read_text, write_text};
+use smp_script::{Mode, Outcome, Watched};
+use std::alloc::Allocator;
+use std::io::{Read, Write};
+
+// A core with no calls and no stops, and with these labels.
+fn new_core<A: Allocator + Copy>(
+    alloc: A,
+    nr: u32,
+    online: CpuMask,
+    labels: &Option<LabelMap>,
+) -> Result<Core<A>, SmpError>
+    requires { AreLimits nr online }
+    ensures core { IfOk result (λ core. core ≡ new_core nr online (labels_or_none labels.now)) }
+    ensures err { IfErr result (λ e. e ≡ SmpError.NoMemory) }
+{
+    match labels {
+        Some(labels) => Core::with_labels(alloc, nr, online, labels),
+        None => Core::new(alloc, nr, online),
+    }
+}
+
+/// What is seen of a script's replay, on a table with no calls and no stops.
+pub fn rows<A: Allocator + Copy>(alloc: A, script: &Script<A>) -> Result<Vec<Row, A>, SmpError>
+    requires { AreLimits script.now.nr script.now.online }
+    ensures rows { IfOk result (λ rows. rows.items ≡ rows_of_script (meaning_of script.now)) }
+    ensures err { IfErr result (λ e. e ≡ SmpError.NoMemory) }
+{
+    let core = new_core(alloc, script.nr, script.online, &script.labels)?;
+    let first = if script.labels.is_some() { 4 } else { 3 };
+    let Ok(moments) = moments(alloc, first, script.directives.as_slice()) else {
+        return Err(SmpError::NoMemory);
+    };
+    let Ok(rows) = trace(alloc, core, moments.as_slice()) else {
+        return Err(SmpError::NoMemory);
+    };
+    Ok(rows)
+}
+
+// Whether an event was refused.
+fn has_refused(rows: &[Row]) -> bool
+    ensures { result ≡ has_refused rows.now }
+{
+    rows.iter().any(|row| is_refused(row.what))
+}
+
+/// How a replay ended: whether an event was refused.
+pub fn ending(rows: &[Row]) -> Outcome
+    ensures { result ≡ ending_of rows.now }
+{
+    if has_refused(rows) {
+        Outcome::Stopped
+    } else {
+        Outcome::Done
+    }
+}
+
+/// Reads a script, and writes its replay with one column for each CPU.
+///
+/// Refusals, in this order: `StreamFailed(Read)` where the reader failed, `BadScript` with the first fault where
+/// the script is not lawful, `NoMemory` where a growth was refused, `StreamFailed(Write)` where the writer failed.
+pub fn show_lanes<A: Allocator + Copy, R: Read, W: Write>(
+    alloc: A,
+    reader: &mut Watched<R>,
+    writer: &mut Watched<W>,
+) -> Result<Outcome, SmpError>
+    requires reads { failed_of reader.old ≡ false }
+    ensures order { failed_of reader.new ≡ true → result ≡ Err (SmpError.StreamFailed ReadSide) }
+    ensures kept { OnOk result (failed_of writer.new ≡ failed_of writer.old) }
+    ensures flushed { OnOk result (flushed_of writer.new ≡ true) }
+{
+    let text = read_text(alloc, reader)?;
+    let script = read_script(alloc, Mode::Replay, text.as_slice())?;
+    let rows = rows(alloc, &script)?;
+    let Ok(lines) = parts(alloc, text.as_slice(), b'\n') else {
+        return Err(SmpError::NoMemory);
+    };
+    let Ok(cpus) = columns(alloc, script.online) else {
+        return Err(SmpError::NoMemory);
+    };
+    let Ok(table) = lanes(alloc, cpus.as_slice(), lines.as_slice(), rows.as_slice()) else {
+        return Err(SmpError::NoMemory);
+    };
+    write_text(writer, table.as_bytes())?;
+    Ok(ending(rows.as_slice()))
+}
+
+/// Reads a script, and writes what its first fault is and what may stand there: `Done` where it has none.
+///
+/// Refusals, in this order: `StreamFailed(Read)` where the reader failed, `NoMemory` where a growth was refused,
+/// `StreamFailed(Write)` where the writer failed.
+pub fn explain_script<A: Allocator + Copy, R: Read, W: Write>(
+    alloc: A,
+    reader: &mut Watched<R>,
+    writer: &mut Watched<W>,
+) -> Result<Outcome, SmpError>
+    requires reads { failed_of reader.old ≡ false }
+    ensures order { failed_of reader.new ≡ true → result ≡ Err (SmpError.StreamFailed ReadSide) }
+    ensures kept { OnOk result (failed_of writer.new ≡ failed_of writer.old) }
+    ensures flushed { OnOk result (flushed_of writer.new ≡ true) }
+{
+    let text = read_text(alloc, reader)?;
+    let found = first_fault(alloc, text.as_slice())?;
+    let Ok(said) = explanation(alloc, text.as_slice(), found) else {
+        return Err(SmpError::NoMemory);
+    };
+    write_text(writer, said.as_bytes())?;
+    Ok(if found.is_some() {
+        Outcome::Stopped
+    } else {
+        Outcome::Done
+    })
+}
