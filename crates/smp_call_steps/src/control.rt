@@ -1,6 +1,6 @@
 //! Where a CPU stands: its stage, and how many calls it has reversed of its batch.
 
-ghost use Rattle.std.specs.Prelude.{◌≡◌};
+ghost use Rattle.std.specs.Prelude.{◌≡◌, ◌↔◌, true};
 ghost use Rattle.smp_call_steps.specs.Stages.{control_after, outcome_of, FitsStage};
 ghost use Rattle.smp_call_steps.specs.Start.{control_at};
 ghost use Rattle.smp_call_steps.specs.Value.{outside};
@@ -8,6 +8,7 @@ ghost use Rattle.smp_call_steps.specs.Batches.{has_record, down_link, up_link, b
 
 use crate::drain::Drain;
 use crate::stage::{Outcome, Stage};
+use smp_words::same::Same;
 use smp_words::seen::Note;
 use std::marker::Model;
 
@@ -25,6 +26,30 @@ impl Model for Control {
     ghost Value = { ControlValue };
 
     ghost view = { λ c. record { stage = c.stage; drain = c.drain } };
+}
+
+/// Whether both are outside a command, or at the same stage.
+fn is_same_stage(one: Option<Stage>, other: Option<Stage>) -> bool
+    ensures { result ≡ true ↔ one ≡ other }
+{
+    match (one, other) {
+        (None, None) => true,
+        (Some(one), Some(other)) => one.is_same(other),
+        _ => false,
+    }
+}
+
+impl Same for Control {
+    fn copy(&self) -> Self {
+        Control {
+            stage: self.stage,
+            drain: self.drain.copy(),
+        }
+    }
+
+    fn is_same(&self, other: &Self) -> bool {
+        is_same_stage(self.stage, other.stage) && self.drain.is_same(&other.drain)
+    }
 }
 
 impl Control {

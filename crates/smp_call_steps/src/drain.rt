@@ -1,6 +1,6 @@
 //! What follows each step of `handle`.
 
-ghost use Rattle.std.specs.Prelude.{◌≡◌, ◌≤◌, ◌^◌};
+ghost use Rattle.std.specs.Prelude.{◌≡◌, ◌↔◌, ◌≤◌, ◌^◌, true};
 ghost use Rattle.smp_call_steps.specs.Drains.{no_drain, handle_outcome, drain_after, handle_goes, calling, record_at};
 ghost use Rattle.smp_call_steps.specs.Drains.{second_on as second, first_on as first, reverse_on as reverse};
 ghost use Rattle.smp_call_steps.specs.Drains.{by_class as of_class, unlink_after as unlinks, FitsFound, RoomAt};
@@ -32,6 +32,20 @@ impl Drain {
         ensures { result ≡ no_drain }
     {
         Drain { calls: 0 }
+    }
+
+    /// The same once more.
+    pub fn copy(&self) -> Self
+        ensures { result ≡ self.now }
+    {
+        Drain { calls: self.calls }
+    }
+
+    /// Whether both have reversed as many.
+    pub fn is_same(&self, other: &Self) -> bool
+        ensures { result ≡ true ↔ self.now ≡ other.now }
+    {
+        self.calls == other.calls
     }
 
     /// What follows when a step of `handle` found this number.

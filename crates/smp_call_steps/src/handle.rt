@@ -5,7 +5,7 @@
 //! pass runs the SYNC calls, each unlinked from the chain and loaded before its function runs, and unlocked after it;
 //! the second runs the ASYNC calls that are left, each loaded, unlocked and then called.
 
-ghost use Rattle.std.specs.Prelude.{◌≡◌, ◌+◌, ◌%◌, ◌^◌, ◌<◌};
+ghost use Rattle.std.specs.Prelude.{◌≡◌, ◌↔◌, true, ◌+◌, ◌%◌, ◌^◌, ◌<◌};
 ghost use Rattle.smp_words.specs.Size.{owner};
 ghost use Rattle.smp_call_steps.specs.Drains.{handle_access, source_at, link_to};
 ghost use Rattle.smp_call_steps.specs.Batches.{has_record, down_at, up_at, between_at, is_this, running_at};
@@ -16,7 +16,7 @@ use smp_words::size::owner_of;
 use smp_words::word::Word;
 
 /// Where the first pass is in its chain.
-#[derive(Clone, Copy)]
+#[derive(Clone, Copy, PartialEq, Eq)]
 pub struct Walk {
     /// The first record that is left in the chain.
     pub first: Option<u32>,
@@ -25,7 +25,7 @@ pub struct Walk {
 }
 
 /// The next step of `handle`. `next` is the record to which a record leads, and `call` a call that is loaded.
-#[derive(Clone, Copy)]
+#[derive(Clone, Copy, PartialEq, Eq)]
 pub enum HandleStage {
     /// Store 1 in the handling word.
     Enter,
@@ -117,7 +117,77 @@ pub enum HandleStage {
     Leave,
 }
 
+/// Whether two stages of the first pass have the same walk, SYNC call and next record.
+fn is_same_sync(one: (Walk, Call, Option<u32>), other: (Walk, Call, Option<u32>)) -> bool
+    ensures { result ≡ true ↔ one ≡ other }
+{
+    one.0 == other.0 && one.1 == other.1 && one.2 == other.2
+}
+
 impl HandleStage {
+    /// Whether the two are the same. Most arms are the derived comparison, of a variant that is known: so a proof looks
+    /// at 22 pairs for each, and not at all of them at once.
+    pub fn is_same(self, other: HandleStage) -> bool
+        ensures { result ≡ true ↔ self ≡ other }
+    {
+        match self {
+            HandleStage::Enter => self == other,
+            HandleStage::Accept => self == other,
+            HandleStage::LeaveIdle => self == other,
+            HandleStage::Take => self == other,
+            HandleStage::ReverseLoad { .. } => self == other,
+            HandleStage::ReverseStore { .. } => self == other,
+            HandleStage::LoadNext { .. } => self == other,
+            HandleStage::LoadFlags { .. } => self == other,
+            HandleStage::LoadFunc { .. } => self == other,
+            HandleStage::LoadInfo { .. } => self == other,
+            HandleStage::Unlink {
+                walk,
+                last,
+                call,
+                next,
+            } => match other {
+                HandleStage::Unlink {
+                    walk: w,
+                    last: l,
+                    call: c,
+                    next: n,
+                } => last == l && is_same_sync((walk, call, next), (w, c, n)),
+                _ => false,
+            },
+            HandleStage::BeginSync { walk, call, next } => match other {
+                HandleStage::BeginSync {
+                    walk: w,
+                    call: c,
+                    next: n,
+                } => is_same_sync((walk, call, next), (w, c, n)),
+                _ => false,
+            },
+            HandleStage::CountSync { walk, call, next } => match other {
+                HandleStage::CountSync {
+                    walk: w,
+                    call: c,
+                    next: n,
+                } => is_same_sync((walk, call, next), (w, c, n)),
+                _ => false,
+            },
+            HandleStage::EndSync { walk, call, next } => match other {
+                HandleStage::EndSync {
+                    walk: w,
+                    call: c,
+                    next: n,
+                } => is_same_sync((walk, call, next), (w, c, n)),
+                _ => false,
+            },
+            HandleStage::AsyncNext { .. } => self == other,
+            HandleStage::AsyncFunc { .. } => self == other,
+            HandleStage::AsyncInfo { .. } => self == other,
+            HandleStage::BeginAsync { .. } => self == other,
+            HandleStage::CountAsync { .. } => self == other,
+            HandleStage::Leave => self == other,
+        }
+    }
+
     /// The next access; `ran` is the number in the word that counts the calls of this call's source.
     pub fn access(self, me: u32, ran: u64) -> Access
         ensures { result ≡ handle_access me self ran }

@@ -14,7 +14,7 @@ use smp_words::seen::Note;
 use smp_words::word::Word;
 
 /// The call that a `post` is queueing.
-#[derive(Clone, Copy)]
+#[derive(Clone, Copy, PartialEq, Eq)]
 pub struct Posting {
     /// The record.
     pub id: u32,
@@ -29,7 +29,7 @@ pub struct Posting {
 
 /// The next step of a `post`. `link` is what was found in the head last, `tries` how many
 /// compare-exchanges are left.
-#[derive(Clone, Copy)]
+#[derive(Clone, Copy, PartialEq, Eq)]
 pub enum PostStage {
     LoadFlags,
     Lock,

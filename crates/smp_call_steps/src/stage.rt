@@ -1,6 +1,6 @@
 //! Where a CPU stands inside its command.
 
-ghost use Rattle.std.specs.Prelude.{◌≡◌};
+ghost use Rattle.std.specs.Prelude.{◌≡◌, ◌↔◌, true};
 ghost use Rattle.smp_call_steps.specs.Posts.{go_on, ends};
 
 use crate::handle::HandleStage;
@@ -11,7 +11,7 @@ use smp_words::seen::Note;
 use smp_words::word::Word;
 
 /// The step that a CPU makes next.
-#[derive(Clone, Copy)]
+#[derive(Clone, Copy, PartialEq, Eq)]
 pub enum Stage {
     /// Send an interrupt to this CPU.
     Send(u32),
@@ -54,6 +54,24 @@ ghost use Rattle.smp_words.specs.Layout.{number_in};
 ghost use Rattle.smp_call_steps.specs.Stages.{access_of};
 
 impl Stage {
+    /// Whether the two are the same.
+    pub fn is_same(self, other: Stage) -> bool
+        ensures { result ≡ true ↔ self ≡ other }
+    {
+        match self {
+            Stage::Handle(stage) => match other {
+                Stage::Handle(other) => stage.is_same(other),
+                _ => false,
+            },
+            Stage::Send(_) => self == other,
+            Stage::Done(_) => self == other,
+            Stage::Post(posting, stage) => match other {
+                Stage::Post(other, at) => posting == other && stage == at,
+                _ => false,
+            },
+        }
+    }
+
     /// The access that is made next.
     pub fn access(self, words: &[u64], me: u32) -> Access
         requires { length words.now ≡ table_size }

@@ -1,6 +1,6 @@
 //! The keys and the sites that a machine is made with.
 
-ghost use Rattle.std.specs.Prelude.{[], ◌≡◌, ◌≤◌, ◌-◌, ◌++◌, ◌↔◌, length, map, replicate, IsOk, IfOk, OnErr, IsErrOf};
+ghost use Rattle.std.specs.Prelude.{[], ◌≡◌, ◌≤◌, ◌-◌, ◌++◌, ◌↔◌, length, map, replicate, IsOk, IfOk, true, OnErr, IsErrOf};
 ghost use Rattle.smp_labels.specs.Entries.{entry_word};
 ghost use Rattle.smp_labels.specs.Labels.{AreLabels, first_site};
 ghost use Rattle.smp_labels.specs.Law.{IsLawful};
@@ -33,6 +33,21 @@ impl Model for LabelMap {
     ghost invariant = { λ m. AreLabels m.keys m.entries.items };
 
     ghost inverse = { λ v. record { entries = record { items = v.entries }; keys = v.keys } };
+}
+
+// Whether the entries are the same, one by one.
+fn are_same_entries(one: &[Entry], other: &[Entry]) -> bool
+    ensures { result ≡ true ↔ one.now ≡ other.now }
+{
+    if one.len() != other.len() {
+        return false;
+    }
+    for i in 0..one.len() {
+        if one[i] != other[i] {
+            return false;
+        }
+    }
+    true
 }
 
 impl LabelMap {
@@ -82,6 +97,14 @@ impl LabelMap {
             words.sites[site] = kind_of(false, entry.branch).word();
         }
         words
+    }
+
+    /// Whether the two have as many keys, and the same entries in the same order.
+    pub fn is_same(&self, other: &LabelMap) -> bool
+        ensures { result ≡ true ↔ self.now ≡ other.now }
+    {
+        self.keys == other.keys
+            && are_same_entries(self.entries.as_slice(), other.entries.as_slice())
     }
 
     /// The same map once more.

@@ -1,6 +1,6 @@
 //! Where a CPU stands in the stop half: which step it makes next, and what it knows of the stop that it is in.
 
-ghost use Rattle.std.specs.Prelude.{◌≡◌, ◌<◌, ℕ, Some, None, [], length};
+ghost use Rattle.std.specs.Prelude.{◌≡◌, ◌↔◌, ◌<◌, ℕ, true, Some, None, [], length};
 ghost use Rattle.smp_labels.specs.Keys.{count_after};
 ghost use Rattle.smp_stop_steps.specs.Stages.{acked_on, begun_next, change_at, completion_outcome, entry_on, key_on};
 ghost use Rattle.smp_stop_steps.specs.Stages.{looked_on, nudge_of, nudge_on, round_outcome, stop_ends, stop_goes};
@@ -13,6 +13,7 @@ use crate::stage::{CompletionStage, RoundStage, StopStage, Visit};
 use arrayvec::ArrayVec;
 use smp_labels::{Change, Entry, MOST_CHANGES, MOST_SITES, Place, is_on, kind_of};
 use smp_words::field::Field;
+use smp_words::same::Same;
 use smp_words::seen::Note;
 use smp_words::work::{Kind, Work};
 use std::marker::Model;
@@ -37,6 +38,72 @@ impl Model for StopControl {
     ghost Value = { StopControlValue };
 
     ghost view = { λ c. record { stage = c.stage; visit = c.visit; changes = c.changes.items; interrupts = c.interrupts; is_open = c.is_open } };
+}
+
+/// These changes once more.
+fn copy_changes(
+    changes: &ArrayVec<(Place, u64), MOST_CHANGES>,
+) -> ArrayVec<(Place, u64), MOST_CHANGES>
+    ensures { result ≡ changes.now }
+{
+    let mut copies = ArrayVec::new();
+    for change in changes.iter() {
+        copies.push(*change);
+    }
+    copies
+}
+
+/// Whether both are outside a command, or at the same stage.
+fn is_same_stage(one: Option<StopStage>, other: Option<StopStage>) -> bool
+    ensures { result ≡ true ↔ one ≡ other }
+{
+    match (one, other) {
+        (None, None) => true,
+        (Some(one), Some(other)) => one.is_same(other),
+        _ => false,
+    }
+}
+
+/// Whether both are in no stop, or know the same of it.
+fn is_same_visit(one: Option<Visit>, other: Option<Visit>) -> bool
+    ensures { result ≡ true ↔ one ≡ other }
+{
+    one == other
+}
+
+/// Whether the changes are the same, in the same order.
+fn are_same_changes(one: &[(Place, u64)], other: &[(Place, u64)]) -> bool
+    ensures { result ≡ true ↔ one.now ≡ other.now }
+{
+    if one.len() != other.len() {
+        return false;
+    }
+    for i in 0..one.len() {
+        if one[i] != other[i] {
+            return false;
+        }
+    }
+    true
+}
+
+impl Same for StopControl {
+    fn copy(&self) -> Self {
+        StopControl {
+            stage: self.stage,
+            visit: self.visit,
+            changes: copy_changes(&self.changes),
+            interrupts: self.interrupts,
+            is_open: self.is_open,
+        }
+    }
+
+    fn is_same(&self, other: &Self) -> bool {
+        is_same_stage(self.stage, other.stage)
+            && is_same_visit(self.visit, other.visit)
+            && are_same_changes(self.changes.as_slice(), other.changes.as_slice())
+            && self.interrupts == other.interrupts
+            && self.is_open == other.is_open
+    }
 }
 
 impl StopControl {

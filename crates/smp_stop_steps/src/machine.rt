@@ -1,6 +1,6 @@
 //! The stop half of a pure machine: its words, and where each CPU stands, one atomic step at a time.
 
-ghost use Rattle.std.specs.Prelude.{◌≡◌, ◌≤◌, MatchOption};
+ghost use Rattle.std.specs.Prelude.{◌≡◌, ◌↔◌, ◌≤◌, true, MatchOption};
 
 use crate::control::StopControl;
 use crate::stage::StopStage;
@@ -11,6 +11,7 @@ use smp_mask::{CpuMask, SmpError};
 use smp_words::access::Access;
 use smp_words::command::Command;
 use smp_words::field::Field;
+use smp_words::same::{are_same, copy_all};
 use smp_words::seen::{Note, Seen};
 use smp_words::size::NR_CPUS;
 use smp_words::word::Word;
@@ -37,6 +38,18 @@ impl<A: Allocator> Model for Stops<A> {
     ghost view = { λ s. record { nr = s.nr; online = s.online; labels = s.labels; table = s.table; controls = s.controls.items } };
 
     ghost invariant = { λ s. AreSoundStops s.online s.labels s.table s.controls.items };
+}
+
+/// Whether both halves are made of the same: as many CPUs, the same of them online, and the same labels.
+fn is_same_setup(
+    one: (u32, CpuMask),
+    other: (u32, CpuMask),
+    labels: &LabelMap,
+    others: &LabelMap,
+) -> bool
+    ensures { result ≡ true ↔ (one ≡ other) × (labels.now ≡ others.now) }
+{
+    one == other && labels.is_same(others)
 }
 
 /// Moves the control of one CPU, which is inside a command, on.
@@ -83,7 +96,7 @@ impl<A: Allocator> Stops<A> {
     ghost use Rattle.smp_stop_steps.specs.State.{StopState};
     ghost use Rattle.smp_stop_steps.specs.Table.{stop_number};
     ghost use Rattle.smp_stop_steps.specs.Value.{StopShown};
-    ghost use Rattle.std.specs.Prelude.{ℕ, true};
+    ghost use Rattle.std.specs.Prelude.{ℕ};
     ghost use Rattle.smp_mask.specs.Mask.{has};
     ghost use Rattle.smp_stop_steps.specs.New.{new_stops};
     ghost use Rattle.smp_stop_steps.specs.State.{no_stops};
@@ -106,6 +119,33 @@ impl<A: Allocator> Stops<A> {
             table,
             controls,
         })
+    }
+
+    /// The same once more.
+    pub fn copy(&self, alloc: A) -> Result<Self, AllocError>
+    where
+        A: Copy,
+        ensures { IfOk result (λ copy. copy ≡ self.now) }
+    {
+        let table = self.table.copy(alloc)?;
+        let controls = copy_all(alloc, &self.controls)?;
+        Ok(Stops {
+            nr: self.nr,
+            online: self.online,
+            labels: self.labels.copy(),
+            table,
+            controls,
+        })
+    }
+
+    /// Whether the two are the same: the words, and where each CPU stands.
+    pub fn is_same(&self, other: &Self) -> bool
+        ensures { result ≡ true ↔ self.now ≡ other.now }
+    {
+        let (one, another) = ((self.nr, self.online), (other.nr, other.online));
+        is_same_setup(one, another, &self.labels, &other.labels)
+            && self.table.is_same(&other.table)
+            && are_same(&self.controls, &other.controls)
     }
 
     /// Where this CPU stands; none outside a command of the stop half, or where there is no such CPU.

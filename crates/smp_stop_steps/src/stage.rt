@@ -1,6 +1,6 @@
 //! Where a CPU stands inside a command of the stop half.
 
-ghost use Rattle.std.specs.Prelude.{◌≡◌, ◌≤◌};
+ghost use Rattle.std.specs.Prelude.{◌≡◌, ◌≤◌, ◌↔◌, true};
 ghost use Rattle.smp_stop_steps.specs.Stages.{completes_from, visit_acked};
 
 use crate::phase::RUN;
@@ -9,7 +9,7 @@ use smp_words::field::Field;
 use smp_words::work::{Kind, Work};
 
 /// What a CPU has loaded of the stop that it is in, and how far it is with it.
-#[derive(Clone, Copy)]
+#[derive(Clone, Copy, PartialEq, Eq)]
 pub struct Visit {
     /// The source whose stop it is.
     pub slot: u32,
@@ -51,7 +51,7 @@ impl Visit {
 
 /// The next step of one turn of `multi_cpu_stop`. `answer` is what the function will answer, `ran` whether the
 /// CPU has called it in this turn.
-#[derive(Clone, Copy)]
+#[derive(Clone, Copy, PartialEq, Eq)]
 pub enum RoundStage {
     /// Load the phase.
     Look { answer: u64 },
@@ -74,7 +74,7 @@ pub enum RoundStage {
 }
 
 /// The next step of `cpu_stop_signal_done`, and before it of the function of a stop of one CPU.
-#[derive(Clone, Copy)]
+#[derive(Clone, Copy, PartialEq, Eq)]
 pub enum CompletionStage {
     /// Load the function of a stop of one CPU.
     LoadFunc { answer: u64 },
@@ -87,7 +87,7 @@ pub enum CompletionStage {
 }
 
 /// The step that a CPU makes next.
-#[derive(Clone, Copy)]
+#[derive(Clone, Copy, PartialEq, Eq)]
 pub enum StopStage {
     /// Put the own number + 1 in the gate, where it is 0.
     TakeGate,
@@ -114,4 +114,40 @@ pub enum StopStage {
     NudgeKey(u32, bool),
     /// Put the second count in the key's word, where it is the first.
     ExchangeKey(u32, u64, u64),
+}
+
+impl StopStage {
+    /// Whether the two are the same. Each arm compares a variant that is known: so a proof looks at 16 pairs for each, and
+    /// not at all of them at once.
+    pub fn is_same(self, other: StopStage) -> bool
+        ensures { result ≡ true ↔ self ≡ other }
+    {
+        match self {
+            StopStage::TakeGate => self == other,
+            StopStage::OpenGate => self == other,
+            StopStage::Begin(work, field) => match other {
+                StopStage::Begin(w, f) => work == w && field == f,
+                _ => false,
+            },
+            StopStage::Enter(_) => self == other,
+            StopStage::EnterKind(_) => self == other,
+            StopStage::EnterMask(_, _) => self == other,
+            StopStage::EnterActive(_, _, _) => self == other,
+            StopStage::Advance(visit, stage) => match other {
+                StopStage::Advance(v, s) => visit == v && stage == s,
+                _ => false,
+            },
+            StopStage::Complete(visit, stage) => match other {
+                StopStage::Complete(v, s) => visit == v && stage == s,
+                _ => false,
+            },
+            StopStage::Close(_) => self == other,
+            StopStage::LoadDone => self == other,
+            StopStage::LoadResult => self == other,
+            StopStage::ReadKey(_) => self == other,
+            StopStage::ReadSite(_) => self == other,
+            StopStage::NudgeKey(_, _) => self == other,
+            StopStage::ExchangeKey(_, _, _) => self == other,
+        }
+    }
 }

@@ -1,6 +1,6 @@
 //! The words of a stop table, and what an access does to them.
 
-ghost use Rattle.std.specs.Prelude.{◌≡◌, IfOk, replicate};
+ghost use Rattle.std.specs.Prelude.{◌≡◌, ◌↔◌, true, IfOk, replicate};
 ghost use Rattle.smp_words.specs.Access.{word_of};
 ghost use Rattle.smp_stop_steps.specs.Value.{IsStopTable};
 ghost use Rattle.smp_stop_steps.specs.Table.{slot_cell as cell_in, stop_number, stop_number_of, stop_put, stop_words_after};
@@ -78,6 +78,28 @@ impl<A: Allocator> StopTable<A> {
             slots,
             labels,
         })
+    }
+
+    /// The same once more.
+    pub fn copy(&self, alloc: A) -> Result<Self, AllocError>
+        ensures { IfOk result (λ copy. copy ≡ self.now) }
+    {
+        let mut slots = Vec::with_capacity(alloc, SLOT_WORDS)?;
+        slots.extend_from_slice(&self.slots)?;
+        Ok(StopTable {
+            gate: self.gate,
+            slots,
+            labels: self.labels,
+        })
+    }
+
+    /// Whether all words are the same.
+    pub fn is_same(&self, other: &Self) -> bool
+        ensures { result ≡ true ↔ self.now ≡ other.now }
+    {
+        self.gate == other.gate
+            && self.slots.as_slice() == other.slots.as_slice()
+            && self.labels == other.labels
     }
 
     /// The number in a word; 0 where there is no such word.

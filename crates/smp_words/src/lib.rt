@@ -15,6 +15,7 @@
 //! - `call`: A call, as its record has it.
 //! - `work`: What a stop is to do.
 //! - `command`: What a CPU may be told to do.
+//! - `same`: Values that can be made once more, and of which two can be the same.
 #![tactic(auto)]
 
 pub mod access;
@@ -23,6 +24,7 @@ pub mod command;
 pub mod field;
 pub mod laws;
 pub mod limits;
+pub mod same;
 pub mod seen;
 pub mod size;
 pub mod word;
@@ -32,6 +34,7 @@ pub use access::Access;
 pub use call::{Call, Class};
 pub use command::{Command, Event};
 pub use field::Field;
+pub use same::Same;
 pub use seen::{Act, Note, Seen};
 pub use word::{Word, call_index, stop_index};
 pub use work::{Kind, Work};

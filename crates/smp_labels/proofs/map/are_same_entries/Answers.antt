@@ -1,0 +1,6 @@
+use Rattle.std.proofs.Common.{refl, arith}
+use Rattle.std.proofs.lemmas.List.{same_lists}
+use Rattle.smp_labels.proofs.map.are_same_entries.Goals as goal
+
+pub returns : goal.returns
+returns c = (λ _. same_lists c.args.one.now c.args.other.now (omega arith) (λ j d below. c.loop-i.invariant j d (omega arith)), λ _. refl)
