@@ -1,5 +1,5 @@
 -- One step of a core: what it does to the words, what is seen of it, and where the CPU stands after it.
-use Rattle.std.specs.Prelude.{ℕ, Option, Some, None, [], ◌∷◌, slice_set}
+use Rattle.std.specs.Prelude.{ℕ, Bool, true, false, Option, Some, None, [], ◌∷◌, slice_set}
 use Rattle.smp_words.specs.Layout.{number_in}
 use Rattle.smp_words.specs.Access.{word_of, words_after, seen_of}
 use Rattle.smp_call_steps.specs.Stages.{access_of, outcome_of, control_after}
@@ -61,6 +61,15 @@ step_at core cpu None None = None
 
 abbrev pub step_of : CoreValue → ℕ → Option Stepped
 step_of core cpu = step_at core cpu (control_of core.controls cpu).stage (stop_control_of core.stops.controls cpu).stage
+
+-- whether a CPU is inside a command, of either half
+abbrev pub is_inside_at : Option Stage → Option StopStage → Bool
+is_inside_at (Some stage) _ = true
+is_inside_at None (Some stage) = true
+is_inside_at None None = false
+
+abbrev pub is_inside : CoreValue → ℕ → Bool
+is_inside core cpu = is_inside_at (control_of core.controls cpu).stage (stop_control_of core.stops.controls cpu).stage
 
 -- what the stop half of a core is made with
 abbrev pub setup_in : CoreValue → Setup
