@@ -1,0 +1,5 @@
+//! Worked cases of the search.
+#![tactic(auto)]
+
+#[cfg(test)]
+mod tests;

@@ -1,0 +1,231 @@
+use smp_core::{Class, Command, Core, Event, Field, Kind, Replayed, Word, Work, replay};
+use smp_explore::{Atom, Conditions, Line, Part, Verdict, events_of, explore};
+use smp_mask::{CpuMask, SmpError};
+use std::alloc::Global;
+use std::test::*;
+
+// What a search said: how many states there are, the shortest schedule, or that there are more states than were allowed.
+#[derive(Drop)]
+enum Found {
+    States(usize),
+    Broken(Vec<u32, Global>),
+    More,
+}
+
+fn said(
+    alloc: Global,
+    cpus: &str,
+    lines: &[Line],
+    conditions: Conditions<'_>,
+    most: usize,
+) -> Result<Found, SmpError> {
+    let core = Core::new(alloc, 3, cpus.parse()?)?;
+    let verdict = explore(alloc, core, lines, conditions, most)?;
+    Ok(match verdict {
+        Verdict::All(count) => Found::States(count),
+        Verdict::Broken(schedule) => Found::Broken(schedule),
+        Verdict::Limit => Found::More,
+    })
+}
+
+// How many states there are where all is as expected.
+fn states(
+    alloc: Global,
+    cpus: &str,
+    lines: &[Line],
+    conditions: Conditions<'_>,
+) -> Result<Option<usize>, SmpError> {
+    Ok(match said(alloc, cpus, lines, conditions, 1_000)? {
+        Found::States(count) => Some(count),
+        _ => None,
+    })
+}
+
+// The shortest schedule to a state that is not as expected.
+fn broken(
+    alloc: Global,
+    cpus: &str,
+    lines: &[Line],
+    conditions: Conditions<'_>,
+) -> Result<Option<Vec<u32, Global>>, SmpError> {
+    Ok(match said(alloc, cpus, lines, conditions, 1_000)? {
+        Found::Broken(schedule) => Some(schedule),
+        _ => None,
+    })
+}
+
+const NOTHING: Conditions<'static> = Conditions {
+    always: &[],
+    finally: &[],
+};
+
+// A command that is made once.
+fn once(cpu: u32, command: Command) -> Line {
+    Line {
+        cpu,
+        command,
+        again: Some(0),
+    }
+}
+
+// One that is made until it is not in vain.
+fn until(cpu: u32, command: Command) -> Line {
+    Line {
+        cpu,
+        command,
+        again: None,
+    }
+}
+
+fn post(cpu: u32, to: u32, tries: u32) -> Line {
+    once(cpu, Command::Post(0, to, Class::Sync, 7, 42, tries))
+}
+
+// The counts are those of another search, over another simulator of the machine.
+#[test]
+fn states_of_calls(rt: HostRuntime) -> Result<(), Fail> {
+    let alloc = rt.alloc();
+    let sends = [once(0, Command::Send(1)), once(1, Command::Send(0))];
+    assert_eq!(rt; states(alloc, "0-1", &sends, NOTHING)?, Some(4));
+    assert_eq!(rt; states(alloc, "0-1", &[post(0, 1, 1)], NOTHING)?, Some(9));
+    let two = [post(0, 2, 2), post(1, 2, 2)];
+    assert_eq!(rt; states(alloc, "0-2", &two, NOTHING)?, Some(90));
+    let two = [post(0, 2, 1), post(1, 2, 1)];
+    assert_eq!(rt; states(alloc, "0-2", &two, NOTHING)?, Some(92));
+    let gates = [
+        until(0, Command::Gate),
+        once(0, Command::Ungate),
+        until(1, Command::Gate),
+        once(1, Command::Ungate),
+    ];
+    assert_eq!(rt; states(alloc, "0-1", &gates, NOTHING)?, Some(8));
+    Ok(())
+}
+
+// Two calls to one queue are both in it at the end, whatever the order.
+#[test]
+fn no_call_is_lost(rt: HostRuntime) -> Result<(), Fail> {
+    let lines = [post(0, 2, 2), post(1, 2, 2)];
+    let both = Conditions {
+        always: &[],
+        finally: &[Part::Is(Atom::Queue(2, 2))],
+    };
+    assert_eq!(rt; states(rt.alloc(), "0-2", &lines, both)?, Some(90));
+    Ok(())
+}
+
+// A call that is posted while its target handles: at the end it has run, or an interrupt is pending.
+#[test]
+fn no_interrupt_is_lost(rt: HostRuntime) -> Result<(), Fail> {
+    let lines = [
+        post(0, 1, 1),
+        once(0, Command::Send(1)),
+        until(1, Command::Handle),
+    ];
+    let told = Conditions {
+        always: &[],
+        finally: &[
+            Part::Is(Atom::Word(Word::Ran(1, 0), 1)),
+            Part::IsNot(Atom::Word(Word::Queued(0, 1), 0)),
+            Part::Or,
+            Part::Is(Atom::Word(Word::Intr(1), 1)),
+        ],
+    };
+    assert_eq!(rt; states(rt.alloc(), "0-1", &lines, told)?, Some(42));
+    Ok(())
+}
+
+// A stop of two CPUs: each order ends in its last phase.
+#[test]
+fn a_stop_ends(rt: HostRuntime) -> Result<(), Fail> {
+    let two: CpuMask = "0-1".parse()?;
+    let work = Work {
+        kind: Kind::Multi,
+        mask: two,
+        active: CpuMask::of(0)?,
+        func: 5,
+        arg: 9,
+    };
+    let lines = [
+        once(0, Command::Gate),
+        once(0, Command::Begin(work)),
+        once(0, Command::Enter(0)),
+        until(0, Command::Advance(0)),
+        until(0, Command::Advance(0)),
+        until(0, Command::Advance(0)),
+        until(0, Command::Advance(0)),
+        once(0, Command::Finish),
+        until(0, Command::Poll),
+        until(1, Command::Enter(0)),
+        until(1, Command::Advance(0)),
+        until(1, Command::Advance(0)),
+        until(1, Command::Advance(0)),
+        until(1, Command::Advance(0)),
+        once(1, Command::Finish),
+    ];
+    let over = Conditions {
+        always: &[],
+        finally: &[Part::Is(Atom::Word(Word::Slot(0, Field::State), 5))],
+    };
+    assert_eq!(rt; states(rt.alloc(), "0-1", &lines, over)?, Some(122));
+    Ok(())
+}
+
+// What these events leave of the head of CPU 2's queue, where a replay accepts them all.
+fn head_after(alloc: Global, events: &[Event]) -> Result<Option<u64>, SmpError> {
+    let core = Core::new(alloc, 3, "0-2".parse()?)?;
+    let Replayed {
+        core,
+        seen: _,
+        stopped,
+    } = replay(alloc, core, events)?;
+    if stopped.is_some() {
+        return Ok(None);
+    }
+    Ok(core.word(Word::Head(2)))
+}
+
+// A wrong expectation: the head of a queue to which two CPUs post stays 0. The shortest way to another is one whole post,
+// of the first CPU: record 0 is linked as 1.
+#[test]
+fn the_shortest_schedule_is_told(rt: HostRuntime) -> Result<(), Fail> {
+    let alloc = rt.alloc();
+    let lines = [post(0, 2, 2), post(1, 2, 2)];
+    let empty = Conditions {
+        always: &[Part::Is(Atom::Word(Word::Head(2), 0))],
+        finally: &[],
+    };
+    let schedule = broken(alloc, "0-2", &lines, empty)?.ok_or("a schedule")?;
+    assert_eq!(rt; schedule.as_slice(), [0, 0, 0, 0, 0, 0, 0, 0].as_slice());
+    let core = Core::new(alloc, 3, "0-2".parse()?)?;
+    let events = events_of(alloc, core, &lines, schedule.as_slice())?;
+    assert_eq!(rt; events.len(), 9);
+    assert_eq!(rt; head_after(alloc, events.as_slice())?, Some(1));
+    Ok(())
+}
+
+// A CPU that waits for its own stop, which is not open, can't move.
+#[test]
+fn a_program_that_is_stuck_is_told(rt: HostRuntime) -> Result<(), Fail> {
+    let alloc = rt.alloc();
+    let lines = [once(0, Command::Send(1)), until(0, Command::Poll)];
+    let schedule = broken(alloc, "0-1", &lines, NOTHING)?.ok_or("a schedule")?;
+    assert_eq!(rt; schedule.as_slice(), [0].as_slice());
+    Ok(())
+}
+
+// So many states are kept and no more: of two posts there are 90.
+#[test]
+fn a_limit_is_told(rt: HostRuntime) -> Result<(), Fail> {
+    let lines = [post(0, 2, 2), post(1, 2, 2)];
+    for (most, all) in [(0, false), (1, false), (89, false), (90, true), (91, true)] {
+        let answer = said(rt.alloc(), "0-2", &lines, NOTHING, most)?;
+        let is_as_wanted = match answer {
+            Found::States(count) => all && count == 90,
+            Found::More => !all,
+            Found::Broken(_) => false,
+        };
+        assert!(rt; is_as_wanted, "{most}");
+    }
+    Ok(())
+}
