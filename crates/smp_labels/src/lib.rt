@@ -18,6 +18,7 @@ pub use entries::Entry;
 pub use keys::{Change, MOST_COUNT, is_on};
 pub use kinds::{SiteKind, kind_of};
 pub use map::LabelMap;
+pub use map::kept::KeptLabels;
 pub use patch::{MOST_CHANGES, Place, plan};
 pub use words::{LabelWords, MOST_KEYS, MOST_SITES, is_lawful};
 

@@ -6,6 +6,8 @@ ghost use Rattle.smp_labels.specs.Labels.{AreLabels, first_site};
 ghost use Rattle.smp_labels.specs.Law.{IsLawful};
 ghost use Rattle.smp_labels.specs.Words.{table_of};
 
+pub mod kept;
+
 use crate::entries::Entry;
 use crate::kinds::kind_of;
 use crate::words::{LabelWords, MOST_KEYS, MOST_SITES};
