@@ -5,6 +5,7 @@ pub mod QueueChains
 pub mod Batches
 pub mod BatchLinks
 pub mod Places
+pub mod Whereabouts
 pub mod Tallies
 pub mod Counts
 pub mod QueueOrder

@@ -38,3 +38,4 @@ pub mod Promises
 pub mod Value
 pub mod Sound
 pub mod Queues
+pub mod Whereabouts

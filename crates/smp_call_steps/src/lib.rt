@@ -12,6 +12,7 @@
 //!   (`kernel/smp.c: __flush_smp_call_function_queue`).
 //! - `drain`: What follows each step of `handle`.
 //! - `control`: Where a CPU stands: its stage, and how many calls it has reversed of its batch.
+//! - `kept`: How a CPU's place is kept in a list of which most CPUs are outside a command.
 //! - `start`: When a command of the call half may start, and where it begins.
 //! - `table`: The words of a call table as a list, and what an access does to them.
 //! - `queue`: A chain of records, as the words link them.
@@ -23,6 +24,7 @@
 pub mod control;
 pub mod drain;
 pub mod handle;
+pub mod kept;
 pub mod known;
 pub mod laws;
 pub mod place;

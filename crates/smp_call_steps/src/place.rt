@@ -3,7 +3,11 @@
 ghost use Rattle.std.specs.Prelude.{◌≡◌, ◌↔◌, ◌<◌, true};
 ghost use Rattle.smp_words.specs.Size.{cpus, records};
 ghost use Rattle.smp_call_steps.specs.Calls.{CallState};
-ghost use Rattle.smp_call_steps.specs.Value.{ValuesShow};
+ghost use Rattle.smp_call_steps.specs.Batches.{has_record, running_of};
+ghost use Rattle.smp_call_steps.specs.Value.{control_of, ValuesShow};
+ghost use Rattle.smp_call_steps.specs.Whereabouts.{is_left as is_left_in, leads_through, place_in};
+ghost use Rattle.smp_words.specs.Layout.{number_in};
+ghost use Rattle.smp_words.specs.declared.word.Word.TheVariants.{Head};
 ghost use Rattle.smp_call_steps.specs.Sound.{IsTable};
 
 use crate::control::Control;
@@ -31,7 +35,8 @@ pub enum RecPlace {
 pub fn place_of(words: &[u64], controls: &[Control], id: u32) -> RecPlace
     requires known { id < records }
     requires table { IsTable words.now controls.now }
-    ensures { (calls : CallState) → ValuesShow calls words.now controls.now → result ≡ calls.place id }
+    ensures calls { (calls : CallState) → ValuesShow calls words.now controls.now → result ≡ calls.place id }
+    ensures told { result ≡ place_in words.now controls.now id }
 {
     if read(words, Word::Flags(id)) == 0 {
         return RecPlace::Free;
@@ -52,7 +57,8 @@ pub fn place_of(words: &[u64], controls: &[Control], id: u32) -> RecPlace
 
 fn is_queued(words: &[u64], controls: &[Control], cpu: u32, id: u32) -> bool
     requires table { IsTable words.now controls.now }
-    ensures { (calls : CallState) → ValuesShow calls words.now controls.now → result ≡ true ↔ calls.place id ≡ RecPlace.Queued cpu }
+    ensures calls { (calls : CallState) → ValuesShow calls words.now controls.now → result ≡ true ↔ calls.place id ≡ RecPlace.Queued cpu }
+    ensures told { result ≡ leads_through words.now (number_in words.now (Head cpu)) id }
 {
     let _count = controls.len();
     is_on_chain(words, read(words, Word::Head(cpu)), id)
@@ -61,7 +67,8 @@ fn is_queued(words: &[u64], controls: &[Control], cpu: u32, id: u32) -> bool
 fn is_in_batch(words: &[u64], controls: &[Control], cpu: u32, id: u32) -> bool
     requires known { cpu < cpus }
     requires table { IsTable words.now controls.now }
-    ensures { (calls : CallState) → ValuesShow calls words.now controls.now → result ≡ true ↔ calls.place id ≡ RecPlace.Batch cpu }
+    ensures calls { (calls : CallState) → ValuesShow calls words.now controls.now → result ≡ true ↔ calls.place id ≡ RecPlace.Batch cpu }
+    ensures told { result ≡ is_left_in words.now (control_of controls.now cpu).stage id }
 {
     let control = &controls[cpu as usize];
     if control.is_between(id) {
@@ -73,7 +80,8 @@ fn is_in_batch(words: &[u64], controls: &[Control], cpu: u32, id: u32) -> bool
 fn is_running(words: &[u64], controls: &[Control], cpu: u32, id: u32) -> bool
     requires known { cpu < cpus }
     requires table { IsTable words.now controls.now }
-    ensures { (calls : CallState) → ValuesShow calls words.now controls.now → result ≡ true ↔ calls.place id ≡ RecPlace.Running cpu }
+    ensures calls { (calls : CallState) → ValuesShow calls words.now controls.now → result ≡ true ↔ calls.place id ≡ RecPlace.Running cpu }
+    ensures told { result ≡ has_record id (running_of (control_of controls.now cpu).stage) }
 {
     controls[cpu as usize].is_running(id)
 }

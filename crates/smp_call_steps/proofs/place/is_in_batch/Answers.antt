@@ -2,7 +2,10 @@ use Rattle.std.proofs.Common.{◌≡◌, ◌||◌, Bool, true, false, ℕ, sym, 
 use Rattle.std.proofs.lemmas.List.{get_or_read}
 use Rattle.smp_words.specs.Layout.{number_in}
 use Rattle.smp_call_steps.specs.Words.{nexts_in}
+use Rattle.smp_call_steps.specs.Batches.{between_of, down_link, is_this, up_link}
+use Rattle.smp_call_steps.specs.Stages.{ControlValue}
 use Rattle.smp_call_steps.specs.Value.{outside}
+use Rattle.smp_call_steps.specs.Whereabouts.{is_left, leads_through}
 use Rattle.smp_call_steps.proofs.State.Places.{is_on, in_batch, in_between, down_chain, up_chain}
 use Rattle.smp_call_steps.proofs.place.is_in_batch.Goals as goal
 
@@ -27,8 +30,8 @@ is_on_chain-requires-else-is_on_chain-clause-chained c =
     c.index-controls-cpu.is outside in
     rw c.up.ensures (up_chain c.requires.table.shown c.args.cpu c.index-controls-cpu.result here)
 
-pub returns-then-is_between : goal.returns-then-is_between
-returns-then-is_between c calls shown =
+pub returns-then-is_between-clause-calls : goal.returns-then-is_between-clause-calls
+returns-then-is_between-clause-calls c calls shown =
     let controls = c.args.controls.now in
     let here = get_or_read controls c.args.cpu c.index-controls-cpu.result (omega (arith, c.requires.known, c.requires.table.controls_sized))
     c.index-controls-cpu.is outside in (
@@ -36,8 +39,8 @@ returns-then-is_between c calls shown =
       (λ _. refl),
     )
 
-pub returns-then-is_on_chain : goal.returns-then-is_on_chain
-returns-then-is_on_chain c calls shown =
+pub returns-then-is_on_chain-clause-calls : goal.returns-then-is_on_chain-clause-calls
+returns-then-is_on_chain-clause-calls c calls shown =
     let controls = c.args.controls.now in
     let at = number_in c.args.words.now in
     let x = c.index-controls-cpu.result in
@@ -45,8 +48,8 @@ returns-then-is_on_chain c calls shown =
     let down = c.is_on_chain.ensures ∙ ap (λ (link : ℕ). is_on (nexts_in at) link c.args.id) c.down.ensures in
     in_batch shown c.args.cpu x here c.args.id _ (sym c.is_between.ensures ∙ c.if-is_between.false) (or_first _ _ _ down c.if-is_on_chain.true)
 
-pub returns-else-is_on_chain : goal.returns-else-is_on_chain
-returns-else-is_on_chain c calls shown =
+pub returns-else-is_on_chain-clause-calls : goal.returns-else-is_on_chain-clause-calls
+returns-else-is_on_chain-clause-calls c calls shown =
     let controls = c.args.controls.now in
     let at = number_in c.args.words.now in
     let x = c.index-controls-cpu.result in
@@ -54,3 +57,45 @@ returns-else-is_on_chain c calls shown =
     let down = c.is_on_chain.ensures ∙ ap (λ (link : ℕ). is_on (nexts_in at) link c.args.id) c.down.ensures in
     let up = c.is_on_chain-else-is_on_chain.ensures ∙ ap (λ (link : ℕ). is_on (nexts_in at) link c.args.id) c.up.ensures in
     in_batch shown c.args.cpu x here c.args.id _ (sym c.is_between.ensures ∙ c.if-is_between.false) (or_second _ _ _ (sym down ∙ c.if-is_on_chain.false) up)
+
+is_first : (x y z : Bool) → x ≡ true → true ≡ (x || (y || z))
+is_first x y z e = rw e
+
+is_second : (x y z b : Bool) → x ≡ false → b ≡ y → b ≡ true → b ≡ (x || (y || z))
+is_second x true z b f e t = rw f e
+is_second x false z b f e t = let g = sym e ∙ t in cc
+
+is_third : (x y z b : Bool) → x ≡ false → y ≡ false → b ≡ z → b ≡ (x || (y || z))
+is_third x y z b f g e = rw f (rw g e)
+
+pub returns-then-is_between-clause-told : goal.returns-then-is_between-clause-told
+returns-then-is_between-clause-told c =
+    let controls = c.args.controls.now in
+    let words = c.args.words.now in
+    let x = c.index-controls-cpu.result in
+    let here = get_or_read controls c.args.cpu x (omega (arith, c.requires.known, c.requires.table.controls_sized)) c.index-controls-cpu.is outside in
+    is_first (is_this c.args.id (between_of x.stage)) (leads_through words (down_link x.stage) c.args.id) (leads_through words (up_link x.stage) c.args.id)
+    (sym c.is_between.ensures ∙ c.if-is_between.true) ∙ ap (λ (at : ControlValue). is_left words at.stage c.args.id) here
+
+pub returns-then-is_on_chain-clause-told : goal.returns-then-is_on_chain-clause-told
+returns-then-is_on_chain-clause-told c =
+    let controls = c.args.controls.now in
+    let words = c.args.words.now in
+    let x = c.index-controls-cpu.result in
+    let here = get_or_read controls c.args.cpu x (omega (arith, c.requires.known, c.requires.table.controls_sized)) c.index-controls-cpu.is outside in
+    let down = c.is_on_chain.ensures ∙ ap (λ (link : ℕ). leads_through words link c.args.id) c.down.ensures in
+    is_second (is_this c.args.id (between_of x.stage)) (leads_through words (down_link x.stage) c.args.id) (leads_through words (up_link x.stage) c.args.id)
+    c.is_on_chain.result (sym c.is_between.ensures ∙ c.if-is_between.false) down c.if-is_on_chain.true
+    ∙ ap (λ (at : ControlValue). is_left words at.stage c.args.id) here
+
+pub returns-else-is_on_chain-clause-told : goal.returns-else-is_on_chain-clause-told
+returns-else-is_on_chain-clause-told c =
+    let controls = c.args.controls.now in
+    let words = c.args.words.now in
+    let x = c.index-controls-cpu.result in
+    let here = get_or_read controls c.args.cpu x (omega (arith, c.requires.known, c.requires.table.controls_sized)) c.index-controls-cpu.is outside in
+    let down = c.is_on_chain.ensures ∙ ap (λ (link : ℕ). leads_through words link c.args.id) c.down.ensures in
+    let up = c.is_on_chain-else-is_on_chain.ensures ∙ ap (λ (link : ℕ). leads_through words link c.args.id) c.up.ensures in
+    is_third (is_this c.args.id (between_of x.stage)) (leads_through words (down_link x.stage) c.args.id) (leads_through words (up_link x.stage) c.args.id)
+    c.is_on_chain-else-is_on_chain.result (sym c.is_between.ensures ∙ c.if-is_between.false) (sym down ∙ c.if-is_on_chain.false) up
+    ∙ ap (λ (at : ControlValue). is_left words at.stage c.args.id) here
