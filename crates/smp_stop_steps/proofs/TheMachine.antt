@@ -10,3 +10,4 @@ pub mod Begun
 pub mod Fits
 pub mod Starting
 pub mod Refusals
+pub mod Kept

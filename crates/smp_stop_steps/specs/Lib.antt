@@ -42,6 +42,7 @@ pub mod Begins
 pub mod Starts
 pub mod Refusals
 pub mod StepLaws
+pub mod Kept
 -- what a CPU knows
 pub mod Known
 pub mod KnownAfter

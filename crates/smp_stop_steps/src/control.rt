@@ -7,6 +7,8 @@ ghost use Rattle.smp_stop_steps.specs.Stages.{looked_on, nudge_of, nudge_on, rou
 ghost use Rattle.smp_stop_steps.specs.Stages.{stop_outcome, stop_outside, turn_ends, FitsStop, FitsRound};
 ghost use Rattle.smp_stop_steps.specs.Stages.{FitsCompletion, IsOfSource};
 
+pub mod kept;
+
 use crate::mask::has_bit;
 use crate::phase::{DISABLE_IRQ, EXIT, RUN};
 use crate::stage::{CompletionStage, RoundStage, StopStage, Visit};

@@ -14,6 +14,7 @@
 //! - `start`: When a command of the stop half may start, and where it begins.
 //! - `table`: The words of a stop table, and what an access does to them.
 //! - `machine`: The stop half of a pure machine: its words, and where each CPU stands, one atomic step at a time.
+//! - `control::kept`, `table::kept`, `machine::kept`: The same kept in little, for a search that keeps many states.
 //! - `known`: Where a CPU is with the stops, and what it knows of them.
 //! - `laws`: The laws of the stop half, each as a function that does nothing and whose contract is the law.
 #![tactic(auto)]

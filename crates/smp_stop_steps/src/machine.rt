@@ -2,6 +2,8 @@
 
 ghost use Rattle.std.specs.Prelude.{◌≡◌, ◌↔◌, ◌≤◌, true, MatchOption};
 
+pub mod kept;
+
 use crate::control::StopControl;
 use crate::stage::StopStage;
 use crate::start::Terms;
@@ -183,6 +185,13 @@ impl<A: Allocator> Stops<A> {
     {
         self.terms(cpu)
             .refusal(&self.controls[cpu as usize], command)
+    }
+
+    /// There is a place for each CPU that there can be.
+    pub fn has_all_places(&self)
+        ensures { length self.now.controls ≡ cpus }
+    {
+        let _nr = self.nr;
     }
 
     /// Puts a CPU that is outside a command at the first stage of one that may start, where that is a command of this

@@ -5,6 +5,8 @@ ghost use Rattle.smp_words.specs.Access.{word_of};
 ghost use Rattle.smp_stop_steps.specs.Value.{IsStopTable};
 ghost use Rattle.smp_stop_steps.specs.Table.{slot_cell as cell_in, stop_number, stop_number_of, stop_put, stop_words_after};
 
+pub mod kept;
+
 use smp_labels::LabelWords;
 use smp_words::access::Access;
 use smp_words::field::Field;
