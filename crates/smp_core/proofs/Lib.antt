@@ -1,6 +1,9 @@
 -- what a command or a step of one half leaves to the other
 pub mod Starts
+pub mod Insides
 pub mod Halves
 pub mod Saying
+-- what a step changes of a core
+pub mod Kept
 -- a list of events
 pub mod Replays

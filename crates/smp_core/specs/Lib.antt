@@ -10,3 +10,5 @@ pub mod Replay
 pub mod Runs
 -- what is read of it
 pub mod Queues
+-- how it is kept
+pub mod Kept

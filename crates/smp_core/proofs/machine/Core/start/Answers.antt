@@ -10,6 +10,7 @@ use Rattle.smp_core.specs.Value.{CoreValue}
 use Rattle.smp_call_steps.specs.Value.{ValuesShow, control_of, outside}
 use Rattle.smp_core.proofs.Starts.{may_start, started_shown, started_nr, started_online, start_below}
 use Rattle.smp_call_steps.proofs.Machine.Starts.{names_record}
+use Rattle.smp_core.proofs.Insides.{started_inside}
 use Rattle.smp_core.proofs.machine.Core.start.Goals as goal
 use Rattle.smp_core.proofs.machine.Core.start.Given as given
 
@@ -52,18 +53,23 @@ start-requires-clause-allowed g c = (may_start (before g c) c.args.cpu c.args.co
 fits : (g : given.Over) (c : goal.After-start-arg-1 g) → FitsCommand c.args.command
 fits g c = search rules
 
--- the core shows the calls that it showed
-shown_after : (g : given.Over) (c : goal.After-start-arg-1 g) (calls : CallState) → ValuesShow calls c.self.inside.words.items c.self.inside.controls.items →
-    ValuesShow calls c.self.inside.words.items (slice_set c.self.inside.controls.items c.args.cpu c.begin.new.self)
-shown_after g c calls shown =
+-- where the CPU stands after it
+begun : (g : given.Over) (c : goal.After-start-arg-1 g) → c.begin.new.self
+    ≡ control_at (control_of c.self.inside.controls.items c.args.cpu) (first_stage c.self.inside.online c.args.cpu c.args.command)
+begun g c =
     let controls = c.self.inside.controls.items in
     let below = start_below (before g c) c.args.cpu c.args.command c.self.invariant.limits (allowed g c) in
     let sized : length controls ≡ cpus = c.self.invariant.table.controls_sized in
     let here : c.index_mut.result.now ≡ control_of controls c.args.cpu =
     get_or_read controls c.args.cpu c.index_mut.result.now (omega arith) c.index_mut.ensures.value outside in
-    let begun : c.begin.new.self ≡ control_at (control_of controls c.args.cpu) (first_stage c.self.inside.online c.args.cpu c.args.command) =
-    rw (← here, ← c.first_stage-stage.ensures) c.begin.ensures in
-    rw begun (started_shown calls (before g c) c.args.cpu c.args.command c.self.invariant.limits sized (allowed g c) (fits g c) shown)
+    rw (← here, ← c.first_stage-stage.ensures) c.begin.ensures
+
+-- the core shows the calls that it showed
+shown_after : (g : given.Over) (c : goal.After-start-arg-1 g) (calls : CallState) → ValuesShow calls c.self.inside.words.items c.self.inside.controls.items →
+    ValuesShow calls c.self.inside.words.items (slice_set c.self.inside.controls.items c.args.cpu c.begin.new.self)
+shown_after g c calls shown =
+    let sized : length c.self.inside.controls.items ≡ cpus = c.self.invariant.table.controls_sized in
+    rw (begun g c) (started_shown calls (before g c) c.args.cpu c.args.command c.self.invariant.limits sized (allowed g c) (fits g c) shown)
 
 pub invariant_of-self : goal.invariant_of-self
 invariant_of-self g c =
@@ -81,3 +87,10 @@ invariant_of-self g c =
 
 pub returns-clause-told : goal.returns-clause-told
 returns-clause-told g c calls shown = shown_after g c.before calls (rw (← c.self.view_is) at shown)
+
+pub returns-clause-inside : goal.returns-clause-inside
+returns-clause-inside g c =
+    let invariant = c.self.invariant in
+    let stops_sized : length c.self.inside.stops.controls ≡ cpus = c.has_all_places.ensures in
+    rw (begun g c.before, c.start.ensures.started) (started_inside (before g c.before) c.args.cpu c.args.command invariant.limits
+    invariant.table.controls_sized stops_sized (allowed g c.before))
