@@ -1,7 +1,8 @@
 //! The lines of a replay's output.
 
 ghost use Rattle.std.specs.Prelude.{◌≡◌, ◌++◌, OnOk, string_bytes};
-ghost use Rattle.smp_replay.specs.Text.{act_text, after_step, cas_text, field_text, list_text, note_text, seen_text, step_text, stopped_text, value_text, word_text};
+ghost use Rattle.smp_replay.specs.Text.{act_text, after_step, cas_text, list_text, seen_text, step_text, stopped_text, value_text};
+ghost use Rattle.smp_script.specs.Printed.{field_text, note_text, word_text};
 
 use smp_core::{Act, Field, Note, Seen, Word};
 use smp_mask::SmpError;

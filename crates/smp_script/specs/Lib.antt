@@ -22,3 +22,5 @@ pub mod Spelling
 pub mod Shapes
 pub mod FieldFaults
 pub mod FirstFault
+-- how words and notes are printed
+pub mod Printed

@@ -3,6 +3,7 @@
 //! - `script`: Scripts, and the first fault of one that is not lawful.
 //! - `directive`: What a line of a script asks for.
 //! - `request`: What a `do` line asks a CPU to call.
+//! - `command`: What a `start` line asks for.
 //! - `mode`, `version`: Kinds of scripts, and their versions.
 //! - `laws`: How each script is written, and what the first fault of any other text is.
 //! - `line`, `decimal`, `field`: Lines, their fields, and what fields say.
@@ -13,7 +14,7 @@
 #![tactic(auto)]
 
 mod call_operation;
-mod command;
+pub mod command;
 pub mod decimal;
 pub mod directive;
 pub mod errors;
