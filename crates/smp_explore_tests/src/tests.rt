@@ -1,13 +1,21 @@
-use smp_core::{Class, Command, Core, Event, Field, Kind, Replayed, Word, Work, replay};
-use smp_explore::{Atom, Conditions, Line, Part, Verdict, events_of, explore};
+use smp_core::{
+    Class, Command, Core, Event, Field, Kind, Note, RecPlace, Replayed, Word, Work, replay,
+};
+use smp_explore::walk::walk;
+use smp_explore::{
+    Atom, Conditions, Expected, Line, Part, Verdict, WalkEnd, Walked, events_of, explore,
+};
 use smp_mask::{CpuMask, SmpError};
 use std::alloc::Global;
 use std::test::*;
 
-// What a search said: how many states there are, the shortest schedule, or that there are more states than were allowed.
+// How many states there are, how many steps, and how deep they are.
+type Counts = (usize, u64, usize);
+
+// What a search said: what was counted, the shortest schedule, or that there are more states than were allowed.
 #[derive(Drop)]
 enum Found {
-    States(usize),
+    All(Counts),
     Broken(Vec<u32, Global>),
     More,
 }
@@ -16,27 +24,31 @@ fn said(
     alloc: Global,
     cpus: &str,
     lines: &[Line],
-    conditions: Conditions<'_>,
+    expected: &[Expected<'_>],
     most: usize,
 ) -> Result<Found, SmpError> {
     let core = Core::new(alloc, 3, cpus.parse()?)?;
-    let verdict = explore(alloc, core, lines, conditions, most)?;
+    let verdict = explore(alloc, core, lines, Conditions { expected }, most)?;
     Ok(match verdict {
-        Verdict::All(count) => Found::States(count),
+        Verdict::All {
+            states,
+            steps,
+            depth,
+        } => Found::All((states, steps, depth)),
         Verdict::Broken(schedule) => Found::Broken(schedule),
         Verdict::Limit => Found::More,
     })
 }
 
-// How many states there are where all is as expected.
-fn states(
+// What is counted where all is as expected.
+fn counts(
     alloc: Global,
     cpus: &str,
     lines: &[Line],
-    conditions: Conditions<'_>,
-) -> Result<Option<usize>, SmpError> {
-    Ok(match said(alloc, cpus, lines, conditions, 1_000)? {
-        Found::States(count) => Some(count),
+    expected: &[Expected<'_>],
+) -> Result<Option<Counts>, SmpError> {
+    Ok(match said(alloc, cpus, lines, expected, 1_000)? {
+        Found::All(counts) => Some(counts),
         _ => None,
     })
 }
@@ -46,18 +58,16 @@ fn broken(
     alloc: Global,
     cpus: &str,
     lines: &[Line],
-    conditions: Conditions<'_>,
+    expected: &[Expected<'_>],
 ) -> Result<Option<Vec<u32, Global>>, SmpError> {
-    Ok(match said(alloc, cpus, lines, conditions, 1_000)? {
+    Ok(match said(alloc, cpus, lines, expected, 1_000)? {
         Found::Broken(schedule) => Some(schedule),
         _ => None,
     })
 }
 
-const NOTHING: Conditions<'static> = Conditions {
-    always: &[],
-    finally: &[],
-};
+// Nothing but that the programs go on.
+const NOTHING: &[Expected<'static>] = &[Expected::Goes];
 
 // A command that is made once.
 fn once(cpu: u32, command: Command) -> Line {
@@ -86,19 +96,22 @@ fn post(cpu: u32, to: u32, tries: u32) -> Line {
 fn states_of_calls(rt: HostRuntime) -> Result<(), Fail> {
     let alloc = rt.alloc();
     let sends = [once(0, Command::Send(1)), once(1, Command::Send(0))];
-    assert_eq!(rt; states(alloc, "0-1", &sends, NOTHING)?, Some(4));
-    assert_eq!(rt; states(alloc, "0-1", &[post(0, 1, 1)], NOTHING)?, Some(9));
+    assert_eq!(rt; counts(alloc, "0-1", &sends, NOTHING)?, Some((4, 4, 2)));
+    assert_eq!(rt;
+        counts(alloc, "0-1", &[post(0, 1, 1)], NOTHING)?,
+        Some((9, 8, 8))
+    );
     let two = [post(0, 2, 2), post(1, 2, 2)];
-    assert_eq!(rt; states(alloc, "0-2", &two, NOTHING)?, Some(90));
+    assert_eq!(rt; counts(alloc, "0-2", &two, NOTHING)?, Some((90, 152, 17)));
     let two = [post(0, 2, 1), post(1, 2, 1)];
-    assert_eq!(rt; states(alloc, "0-2", &two, NOTHING)?, Some(92));
+    assert_eq!(rt; counts(alloc, "0-2", &two, NOTHING)?, Some((92, 152, 18)));
     let gates = [
         until(0, Command::Gate),
         once(0, Command::Ungate),
         until(1, Command::Gate),
         once(1, Command::Ungate),
     ];
-    assert_eq!(rt; states(alloc, "0-1", &gates, NOTHING)?, Some(8));
+    assert_eq!(rt; counts(alloc, "0-1", &gates, NOTHING)?, Some((8, 10, 4)));
     Ok(())
 }
 
@@ -106,11 +119,38 @@ fn states_of_calls(rt: HostRuntime) -> Result<(), Fail> {
 #[test]
 fn no_call_is_lost(rt: HostRuntime) -> Result<(), Fail> {
     let lines = [post(0, 2, 2), post(1, 2, 2)];
-    let both = Conditions {
-        always: &[],
-        finally: &[Part::Is(Atom::Queue(2, 2))],
-    };
-    assert_eq!(rt; states(rt.alloc(), "0-2", &lines, both)?, Some(90));
+    let both = [
+        Expected::Goes,
+        Expected::Finally(&[Part::Is(Atom::Queue(2, 2))]),
+    ];
+    assert_eq!(rt;
+        counts(rt.alloc(), "0-2", &lines, &both)?,
+        Some((90, 152, 17))
+    );
+    Ok(())
+}
+
+// How soon the record of a SYNC call can be at each of its places: locked by the second step of the post, in the queue by
+// its exchange, the eighth; then the send, and in the batch by the third step of the handle; its function runs after the tenth.
+#[test]
+fn a_record_is_at_its_places(rt: HostRuntime) -> Result<(), Fail> {
+    let lines = [
+        post(0, 1, 1),
+        once(0, Command::Send(1)),
+        until(1, Command::Handle),
+    ];
+    let places = [
+        (RecPlace::Free, 0),
+        (RecPlace::Held, 2),
+        (RecPlace::Queued(1), 8),
+        (RecPlace::Batch(1), 12),
+        (RecPlace::Running(1), 19),
+    ];
+    for (place, steps) in places {
+        let never = [Expected::Never(&[Part::Is(Atom::Place(0, place))])];
+        let found = broken(rt.alloc(), "0-1", &lines, &never)?;
+        assert_eq!(rt; found.map(|schedule| schedule.len()), Some(steps));
+    }
     Ok(())
 }
 
@@ -122,16 +162,19 @@ fn no_interrupt_is_lost(rt: HostRuntime) -> Result<(), Fail> {
         once(0, Command::Send(1)),
         until(1, Command::Handle),
     ];
-    let told = Conditions {
-        always: &[],
-        finally: &[
+    let told = [
+        Expected::Goes,
+        Expected::Finally(&[
             Part::Is(Atom::Word(Word::Ran(1, 0), 1)),
             Part::IsNot(Atom::Word(Word::Queued(0, 1), 0)),
             Part::Or,
             Part::Is(Atom::Word(Word::Intr(1), 1)),
-        ],
-    };
-    assert_eq!(rt; states(rt.alloc(), "0-1", &lines, told)?, Some(42));
+        ]),
+    ];
+    assert_eq!(rt;
+        counts(rt.alloc(), "0-1", &lines, &told)?,
+        Some((42, 68, 22))
+    );
     Ok(())
 }
 
@@ -163,11 +206,14 @@ fn a_stop_ends(rt: HostRuntime) -> Result<(), Fail> {
         until(1, Command::Advance(0)),
         once(1, Command::Finish),
     ];
-    let over = Conditions {
-        always: &[],
-        finally: &[Part::Is(Atom::Word(Word::Slot(0, Field::State), 5))],
-    };
-    assert_eq!(rt; states(rt.alloc(), "0-1", &lines, over)?, Some(122));
+    let over = [
+        Expected::Goes,
+        Expected::Finally(&[Part::Is(Atom::Word(Word::Slot(0, Field::State), 5))]),
+    ];
+    assert_eq!(rt;
+        counts(rt.alloc(), "0-1", &lines, &over)?,
+        Some((122, 234, 51))
+    );
     Ok(())
 }
 
@@ -191,11 +237,8 @@ fn head_after(alloc: Global, events: &[Event]) -> Result<Option<u64>, SmpError> 
 fn the_shortest_schedule_is_told(rt: HostRuntime) -> Result<(), Fail> {
     let alloc = rt.alloc();
     let lines = [post(0, 2, 2), post(1, 2, 2)];
-    let empty = Conditions {
-        always: &[Part::Is(Atom::Word(Word::Head(2), 0))],
-        finally: &[],
-    };
-    let schedule = broken(alloc, "0-2", &lines, empty)?.ok_or("a schedule")?;
+    let empty = [Expected::Always(&[Part::Is(Atom::Word(Word::Head(2), 0))])];
+    let schedule = broken(alloc, "0-2", &lines, &empty)?.ok_or("a schedule")?;
     assert_eq!(rt; schedule.as_slice(), [0, 0, 0, 0, 0, 0, 0, 0].as_slice());
     let core = Core::new(alloc, 3, "0-2".parse()?)?;
     let events = events_of(alloc, core, &lines, schedule.as_slice())?;
@@ -214,6 +257,28 @@ fn a_program_that_is_stuck_is_told(rt: HostRuntime) -> Result<(), Fail> {
     Ok(())
 }
 
+// An interrupt is owed for the first call of a queue alone, whatever the order; two posts can't both owe one.
+#[test]
+fn what_a_step_said(rt: HostRuntime) -> Result<(), Fail> {
+    let lines = [post(0, 2, 2), post(1, 2, 2)];
+    let owed = Part::Is(Atom::Said(Note::Owed));
+    let once = [
+        Expected::Never(&[owed, Part::IsNot(Atom::Queue(2, 1))]),
+        Expected::Never(&[
+            Part::Is(Atom::Said(Note::Queued)),
+            Part::IsNot(Atom::Queue(2, 2)),
+        ]),
+    ];
+    assert_eq!(rt;
+        counts(rt.alloc(), "0-2", &lines, &once)?,
+        Some((90, 152, 17))
+    );
+    let never = [Expected::Never(&[owed])];
+    let schedule = broken(rt.alloc(), "0-2", &lines, &never)?.ok_or("a schedule")?;
+    assert_eq!(rt; schedule.len(), 8);
+    Ok(())
+}
+
 // So many states are kept and no more: of two posts there are 90.
 #[test]
 fn a_limit_is_told(rt: HostRuntime) -> Result<(), Fail> {
@@ -221,11 +286,35 @@ fn a_limit_is_told(rt: HostRuntime) -> Result<(), Fail> {
     for (most, all) in [(0, false), (1, false), (89, false), (90, true), (91, true)] {
         let answer = said(rt.alloc(), "0-2", &lines, NOTHING, most)?;
         let is_as_wanted = match answer {
-            Found::States(count) => all && count == 90,
+            Found::All(counts) => all && counts == (90, 152, 17),
             Found::More => !all,
             Found::Broken(_) => false,
         };
         assert!(rt; is_as_wanted, "{most}");
     }
+    Ok(())
+}
+
+// The walk of these picks, of two CPUs that send each other an interrupt.
+fn walked(alloc: Global, picks: &[u32]) -> Result<Walked<Global>, SmpError> {
+    let core = Core::new(alloc, 2, "0-1".parse()?)?;
+    let lines = [once(0, Command::Send(1)), once(1, Command::Send(0))];
+    let never = Expected::Never(&[Part::Is(Atom::Word(Word::Intr(0), 1))]);
+    walk(alloc, core, &lines, &never, picks)
+}
+
+// Each send is one step, and both CPUs can move until they have sent. The interrupt of CPU 0 is not to be expected.
+#[test]
+fn picks_say_who_moves(rt: HostRuntime) -> Result<(), Fail> {
+    let alloc = rt.alloc();
+    let cut = walked(alloc, &[6])?;
+    assert_eq!(rt; cut.schedule.as_slice(), [0].as_slice());
+    assert_eq!(rt; cut.end, WalkEnd::Cut);
+    let broken = walked(alloc, &[6, 5, 4])?;
+    assert_eq!(rt; broken.schedule.as_slice(), [0, 1].as_slice());
+    assert_eq!(rt; broken.end, WalkEnd::Broken);
+    let sooner = walked(alloc, &[7, 7])?;
+    assert_eq!(rt; sooner.schedule.as_slice(), [1].as_slice());
+    assert_eq!(rt; sooner.end, WalkEnd::Broken);
     Ok(())
 }
