@@ -1,0 +1,5 @@
+//! Worked explorations, and texts with faults.
+#![tactic(auto)]
+
+#[cfg(test)]
+mod tests;
