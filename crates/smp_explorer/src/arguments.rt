@@ -1,0 +1,93 @@
+//! What the words of the command line ask for.
+
+use crate::status::Refusal;
+use clap::error::ErrorKind;
+use clap::{Arg, ArgAction, ArgMatches, Command};
+use smp_mask::SmpError;
+use smp_report::{Orders, Sample};
+use std::alloc::{AllocError, Global};
+
+/// How many states are kept where no word says.
+const MOST_STATES: u32 = 100_000;
+
+/// What a sample is drawn by, how many runs it has, and how many steps one makes at most, where no word says.
+const SEED: u64 = 1;
+
+const RUNS: u32 = 100;
+
+const MOST_STEPS: u32 = 10_000;
+
+/// To go through orders of the steps of the programs of a file, or of standard input.
+#[derive(Drop)]
+pub struct Request<'a> {
+    pub file: Option<&'a str>,
+    pub orders: Orders,
+}
+
+// A word that may stand behind this one.
+fn option<'a>(alloc: Global, name: &'a str) -> Arg<'a> {
+    Arg::new(alloc, name).long(name).action(ArgAction::Set)
+}
+
+fn grammar<'a>(alloc: Global) -> Result<Command<'a>, AllocError> {
+    let all = Command::new(alloc, "all")
+        .arg(option(alloc, "states"))?
+        .arg(Arg::new(alloc, "FILE"))?;
+    let sample = Command::new(alloc, "sample")
+        .arg(option(alloc, "seed"))?
+        .arg(option(alloc, "runs"))?
+        .arg(option(alloc, "steps"))?
+        .arg(Arg::new(alloc, "FILE"))?;
+    Command::new(alloc, "smp_explorer")
+        .subcommand(all)?
+        .subcommand(sample)
+}
+
+// The number behind a word, or this where the word is not there.
+fn number_of(matches: &ArgMatches<'_>, name: &str, usual: u32) -> Result<u32, Refusal> {
+    match matches.get_str(name) {
+        None => Ok(usual),
+        Some(text) => text.parse::<u32>().map_err(|_| Refusal::Usage),
+    }
+}
+
+fn seed_of(matches: &ArgMatches<'_>) -> Result<u64, Refusal> {
+    match matches.get_str("seed") {
+        None => Ok(SEED),
+        Some(text) => text.parse::<u64>().map_err(|_| Refusal::Usage),
+    }
+}
+
+// Which orders the words behind this name ask for.
+fn orders_of(name: &str, matches: &ArgMatches<'_>) -> Result<Orders, Refusal> {
+    if name == "all" {
+        let most = number_of(matches, "states", MOST_STATES)?;
+        return Ok(Orders::All(most as usize));
+    }
+    Ok(Orders::Sampled(Sample {
+        seed: seed_of(matches)?,
+        runs: number_of(matches, "runs", RUNS)?,
+        steps: number_of(matches, "steps", MOST_STEPS)?,
+    }))
+}
+
+/// What the words ask for: `Failed(NoMemory)` where a growth was refused, and `Usage` where they are no command line, or
+/// ask for help.
+pub fn read_words<'a>(alloc: Global, words: &'a [&'a str]) -> Result<Request<'a>, Refusal> {
+    let Ok(grammar) = grammar(alloc) else {
+        return Err(Refusal::Failed(SmpError::NoMemory));
+    };
+    match grammar.try_get_matches_from(words) {
+        Ok(matches) => match matches.subcommand() {
+            Some((name, found)) => Ok(Request {
+                file: found.get_str("FILE"),
+                orders: orders_of(name, found)?,
+            }),
+            None => Err(Refusal::Usage),
+        },
+        Err(e) => match e.kind() {
+            ErrorKind::OutOfMemory => Err(Refusal::Failed(SmpError::NoMemory)),
+            _ => Err(Refusal::Usage),
+        },
+    }
+}
