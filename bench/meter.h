@@ -1,4 +1,4 @@
-/* What both programs of this folder share: how they wait, and how they time the batches of a workload. */
+/* What calls.c and stops.c share: how they wait, and how they time the batches of a workload. */
 #include <sched.h>
 #include <stdbool.h>
 #include <stdint.h>
