@@ -76,6 +76,9 @@ fn which_runs(rt: HostRuntime) -> Result<(), Fail> {
         runs: 7,
         steps: 50,
     };
-    assert_eq!(rt; orders(alloc, &words).ok_or("words")?, Orders::Sampled(other));
+    assert_eq!(rt;
+        orders(alloc, &words).ok_or("words")?,
+        Orders::Sampled(other)
+    );
     Ok(())
 }

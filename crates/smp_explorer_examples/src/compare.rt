@@ -17,7 +17,11 @@ const SAMPLED: Orders = Orders::Sampled(Sample {
 
 /// The orders of an example, by the bytes of its words.
 pub fn orders_of(words: &[u8]) -> Orders {
-    if words == b"sample\n".as_slice() { SAMPLED } else { ALL }
+    if words == b"sample\n".as_slice() {
+        SAMPLED
+    } else {
+        ALL
+    }
 }
 
 /// Whether these bytes are told of an exploration by these orders, to the last. `BadScript` where it is none, `NoMemory`

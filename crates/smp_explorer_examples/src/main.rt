@@ -40,7 +40,12 @@ fn compare_one(rt: &HostRuntime, name: &str) -> io::Result<bool> {
     let expected = read_file(rt, format!(in rt.alloc(); "{name}.stdout")?.as_str())?;
     let words = read_file(rt, format!(in rt.alloc(); "{name}.args")?.as_str())?;
     let orders = orders_of(words.as_slice());
-    match tells(rt.alloc(), orders, exploration.as_slice(), expected.as_slice()) {
+    match tells(
+        rt.alloc(),
+        orders,
+        exploration.as_slice(),
+        expected.as_slice(),
+    ) {
         Ok(true) => {
             println!(rt; "{name}: as expected")?;
             Ok(true)
