@@ -4,7 +4,7 @@ use crate::status::Refusal;
 use clap::error::ErrorKind;
 use clap::{Arg, ArgAction, ArgMatches, Command};
 use smp_mask::SmpError;
-use smp_report::{Orders, Sample};
+use smp_report::{Orders, Run, Sample, Task};
 use std::alloc::{AllocError, Global};
 
 /// How many states are kept where no word says.
@@ -17,11 +17,11 @@ const RUNS: u32 = 100;
 
 const MOST_STEPS: u32 = 10_000;
 
-/// To go through orders of the steps of the programs of a file, or of standard input.
+/// What is to be told of the programs of a file, or of standard input.
 #[derive(Drop)]
 pub struct Request<'a> {
     pub file: Option<&'a str>,
-    pub orders: Orders,
+    pub task: Task,
 }
 
 // A word that may stand behind this one.
@@ -38,9 +38,15 @@ fn grammar<'a>(alloc: Global) -> Result<Command<'a>, AllocError> {
         .arg(option(alloc, "runs"))?
         .arg(option(alloc, "steps"))?
         .arg(Arg::new(alloc, "FILE"))?;
+    let script = Command::new(alloc, "script")
+        .arg(option(alloc, "seed"))?
+        .arg(option(alloc, "run"))?
+        .arg(option(alloc, "steps"))?
+        .arg(Arg::new(alloc, "FILE"))?;
     Command::new(alloc, "smp_explorer")
         .subcommand(all)?
-        .subcommand(sample)
+        .subcommand(sample)?
+        .subcommand(script)
 }
 
 // The number behind a word, or this where the word is not there.
@@ -58,16 +64,23 @@ fn seed_of(matches: &ArgMatches<'_>) -> Result<u64, Refusal> {
     }
 }
 
-// Which orders the words behind this name ask for.
-fn orders_of(name: &str, matches: &ArgMatches<'_>) -> Result<Orders, Refusal> {
+// What the words behind this name ask for.
+fn task_of(name: &str, matches: &ArgMatches<'_>) -> Result<Task, Refusal> {
     if name == "all" {
         let most = number_of(matches, "states", MOST_STATES)?;
-        return Ok(Orders::All(most as usize));
+        return Ok(Task::Judge(Orders::All(most as usize)));
     }
-    Ok(Orders::Sampled(Sample {
-        seed: seed_of(matches)?,
-        runs: number_of(matches, "runs", RUNS)?,
-        steps: number_of(matches, "steps", MOST_STEPS)?,
+    let seed = seed_of(matches)?;
+    let steps = number_of(matches, "steps", MOST_STEPS)?;
+    if name == "sample" {
+        let runs = number_of(matches, "runs", RUNS)?;
+        return Ok(Task::Judge(Orders::Sampled(Sample { seed, runs, steps })));
+    }
+    let number = number_of(matches, "run", 0)?;
+    Ok(Task::Write(Run {
+        seed,
+        number,
+        steps,
     }))
 }
 
@@ -81,7 +94,7 @@ pub fn read_words<'a>(alloc: Global, words: &'a [&'a str]) -> Result<Request<'a>
         Ok(matches) => match matches.subcommand() {
             Some((name, found)) => Ok(Request {
                 file: found.get_str("FILE"),
-                orders: orders_of(name, found)?,
+                task: task_of(name, found)?,
             }),
             None => Err(Refusal::Usage),
         },

@@ -15,8 +15,8 @@ pub enum Refusal {
     Failed(SmpError),
 }
 
-/// The status of the program: 0 where all expectations hold, or no run of a sample breaks one, 1 where one is broken, 3 where none is but one has more states
-/// than were to be kept, and 2 where nothing was told.
+/// The status of the program: 0 where all expectations hold, no run of a sample breaks one, or a run is written down; 1 where
+/// one is broken; 3 where none is but one has more states than were to be kept; and 2 where nothing was told.
 pub fn status_of(answer: Result<Ending, Refusal>) -> u8
     ensures { result ≡ status_of answer }
 {

@@ -1,13 +1,13 @@
 //! Explores the examples of the folder that it is run in, and compares what is told of each with what is expected.
 //!
 //! An example is an exploration `NAME.smp`; `NAME.smp.args` says whether it is gone through by `all` orders or by a
-//! `sample`, and `NAME.smp.stdout` is what `smp_explorer` then tells of it. The examples stand in `data`, so that the gate
+//! `sample`, or the `script` of a run is written, and `NAME.smp.stdout` is what `smp_explorer` then tells of it. The examples stand in `data`, so that the gate
 //! compares all of them.
 #![tactic(auto)]
 
 mod compare;
 
-use crate::compare::{orders_of, tells};
+use crate::compare::{task_of, tells};
 use std::fs::{File, read_dir};
 use std::io;
 use std::io::Read;
@@ -39,10 +39,10 @@ fn compare_one(rt: &HostRuntime, name: &str) -> io::Result<bool> {
     let exploration = read_file(rt, name)?;
     let expected = read_file(rt, format!(in rt.alloc(); "{name}.stdout")?.as_str())?;
     let words = read_file(rt, format!(in rt.alloc(); "{name}.args")?.as_str())?;
-    let orders = orders_of(words.as_slice());
+    let task = task_of(words.as_slice());
     match tells(
         rt.alloc(),
-        orders,
+        task,
         exploration.as_slice(),
         expected.as_slice(),
     ) {
