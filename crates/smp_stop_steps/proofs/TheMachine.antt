@@ -11,3 +11,4 @@ pub mod Fits
 pub mod Starting
 pub mod Refusals
 pub mod Kept
+pub mod Weights

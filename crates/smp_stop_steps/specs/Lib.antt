@@ -47,3 +47,4 @@ pub mod Kept
 pub mod Known
 pub mod KnownAfter
 pub mod Moves
+pub mod Weights
