@@ -7,3 +7,5 @@ pub mod Saying
 pub mod Kept
 -- a list of events
 pub mod Replays
+-- what a kept core takes
+pub mod Weights

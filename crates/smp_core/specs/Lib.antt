@@ -12,3 +12,4 @@ pub mod Runs
 pub mod Queues
 -- how it is kept
 pub mod Kept
+pub mod Weights
