@@ -3,7 +3,8 @@ use smp_core::{
 };
 use smp_explore::walk::walk;
 use smp_explore::{
-    Atom, Conditions, Expected, Line, Part, Verdict, WalkEnd, Walked, events_of, explore,
+    Atom, Conditions, Expected, Limit, Line, Most, Part, Unwatched, Verdict, WalkEnd, Walked,
+    Watch, events_of, explore,
 };
 use smp_mask::{CpuMask, SmpError};
 use std::alloc::Global;
@@ -12,12 +13,12 @@ use std::test::*;
 // How many states there are, how many steps, and how deep they are.
 type Counts = (usize, u64, usize);
 
-// What a search said: what was counted, the shortest schedule, or that there are more states than were allowed.
+// What a search said: what was counted, the shortest schedule, or what there is more of than was allowed.
 #[derive(Drop)]
 enum Found {
     All(Counts),
     Broken(Vec<u32, Global>),
-    More,
+    More(Limit),
 }
 
 fn said(
@@ -25,10 +26,17 @@ fn said(
     cpus: &str,
     lines: &[Line],
     expected: &[Expected<'_>],
-    most: usize,
+    most: Most,
 ) -> Result<Found, SmpError> {
     let core = Core::new(alloc, 3, cpus.parse()?)?;
-    let verdict = explore(alloc, core, lines, Conditions { expected }, most)?;
+    let verdict = explore(
+        alloc,
+        core,
+        lines,
+        Conditions { expected },
+        most,
+        &mut Unwatched,
+    )?;
     Ok(match verdict {
         Verdict::All {
             states,
@@ -36,8 +44,16 @@ fn said(
             depth,
         } => Found::All((states, steps, depth)),
         Verdict::Broken(schedule) => Found::Broken(schedule),
-        Verdict::Limit => Found::More,
+        Verdict::Limit(limit) => Found::More(limit),
     })
+}
+
+// So many states, and as much memory as they take.
+fn states(count: usize) -> Most {
+    Most {
+        states: count,
+        bytes: usize::MAX,
+    }
 }
 
 // What is counted where all is as expected.
@@ -47,7 +63,7 @@ fn counts(
     lines: &[Line],
     expected: &[Expected<'_>],
 ) -> Result<Option<Counts>, SmpError> {
-    Ok(match said(alloc, cpus, lines, expected, 1_000)? {
+    Ok(match said(alloc, cpus, lines, expected, states(1_000))? {
         Found::All(counts) => Some(counts),
         _ => None,
     })
@@ -60,7 +76,7 @@ fn broken(
     lines: &[Line],
     expected: &[Expected<'_>],
 ) -> Result<Option<Vec<u32, Global>>, SmpError> {
-    Ok(match said(alloc, cpus, lines, expected, 1_000)? {
+    Ok(match said(alloc, cpus, lines, expected, states(1_000))? {
         Found::Broken(schedule) => Some(schedule),
         _ => None,
     })
@@ -284,14 +300,87 @@ fn what_a_step_said(rt: HostRuntime) -> Result<(), Fail> {
 fn a_limit_is_told(rt: HostRuntime) -> Result<(), Fail> {
     let lines = [post(0, 2, 2), post(1, 2, 2)];
     for (most, all) in [(0, false), (1, false), (89, false), (90, true), (91, true)] {
-        let answer = said(rt.alloc(), "0-2", &lines, NOTHING, most)?;
+        let answer = said(rt.alloc(), "0-2", &lines, NOTHING, states(most))?;
         let is_as_wanted = match answer {
             Found::All(counts) => all && counts == (90, 152, 17),
-            Found::More => !all,
+            Found::More(limit) => !all && limit == Limit::States,
             Found::Broken(_) => false,
         };
         assert!(rt; is_as_wanted, "{most}");
     }
+    Ok(())
+}
+
+// Two sends have 4 states: the first takes 448 bytes; after a send 24 more for the CPU that is on, and 16 for the word that
+// is written, so 488; after both 528. So 1,952 in all.
+#[test]
+fn a_limit_of_memory_is_told(rt: HostRuntime) -> Result<(), Fail> {
+    let lines = [once(0, Command::Send(1)), once(1, Command::Send(0))];
+    let cases: [(usize, usize, Option<Limit>); 8] = [
+        (4, 1_952, None),
+        (4, usize::MAX, None),
+        (4, 1_951, Some(Limit::Memory)),
+        (4, 448, Some(Limit::Memory)),
+        (4, 0, Some(Limit::Memory)),
+        (1, 0, Some(Limit::Memory)),
+        (0, 0, Some(Limit::States)),
+        (3, 1_951, Some(Limit::States)),
+    ];
+    for (states, bytes, limit) in cases {
+        let most = Most { states, bytes };
+        let answer = said(rt.alloc(), "0-1", &lines, NOTHING, most)?;
+        let is_as_wanted = match answer {
+            Found::All(counts) => limit.is_none() && counts == (4, 4, 2),
+            Found::More(found) => limit == Some(found),
+            Found::Broken(_) => false,
+        };
+        assert!(rt; is_as_wanted, "{states} {bytes}");
+    }
+    Ok(())
+}
+
+// Notes what it sees.
+#[derive(Clone, Copy, Debug, PartialEq, Eq)]
+struct Noted {
+    calls: u32,
+    states: usize,
+    steps: u64,
+}
+
+impl Watch for Noted {
+    fn look(&mut self, states: usize, steps: u64) {
+        self.calls = self.calls.wrapping_add(1);
+        self.states = states;
+        self.steps = steps;
+    }
+}
+
+// A watch looks on at each of the 4 states; when the last is at hand all 4 steps are followed.
+#[test]
+fn a_watch_sees_each_state(rt: HostRuntime) -> Result<(), Fail> {
+    let alloc = rt.alloc();
+    let core = Core::new(alloc, 2, "0-1".parse()?)?;
+    let lines = [once(0, Command::Send(1)), once(1, Command::Send(0))];
+    let expected = NOTHING;
+    let mut noted = Noted {
+        calls: 0,
+        states: 0,
+        steps: 0,
+    };
+    explore(
+        alloc,
+        core,
+        &lines,
+        Conditions { expected },
+        states(4),
+        &mut noted,
+    )?;
+    let wanted = Noted {
+        calls: 4,
+        states: 4,
+        steps: 4,
+    };
+    assert_eq!(rt; noted, wanted);
     Ok(())
 }
 
