@@ -3,12 +3,16 @@
 use crate::status::Refusal;
 use clap::error::ErrorKind;
 use clap::{Arg, ArgAction, ArgMatches, Command};
+use smp_explore::Most;
 use smp_mask::SmpError;
 use smp_report::{Orders, Run, Sample, Task};
 use std::alloc::{AllocError, Global};
 
 /// How many states are kept where no word says.
 const MOST_STATES: u32 = 100_000;
+
+/// How many bytes there are in one MiB.
+const MIB: usize = 1_048_576;
 
 /// What a sample is drawn by, how many runs it has, and how many steps one makes at most, where no word says.
 const SEED: u64 = 1;
@@ -32,6 +36,7 @@ fn option<'a>(alloc: Global, name: &'a str) -> Arg<'a> {
 fn grammar<'a>(alloc: Global) -> Result<Command<'a>, AllocError> {
     let all = Command::new(alloc, "all")
         .arg(option(alloc, "states"))?
+        .arg(option(alloc, "memory"))?
         .arg(Arg::new(alloc, "FILE"))?;
     let sample = Command::new(alloc, "sample")
         .arg(option(alloc, "seed"))?
@@ -57,6 +62,17 @@ fn number_of(matches: &ArgMatches<'_>, name: &str, usual: u32) -> Result<u32, Re
     }
 }
 
+// How many bytes of states are kept: no word, no limit.
+fn bytes_of(matches: &ArgMatches<'_>) -> Result<usize, Refusal> {
+    match matches.get_str("memory") {
+        None => Ok(usize::MAX),
+        Some(text) => match text.parse::<u32>() {
+            Ok(count) => Ok(count as usize * MIB),
+            Err(_) => Err(Refusal::Usage),
+        },
+    }
+}
+
 fn seed_of(matches: &ArgMatches<'_>) -> Result<u64, Refusal> {
     match matches.get_str("seed") {
         None => Ok(SEED),
@@ -67,8 +83,10 @@ fn seed_of(matches: &ArgMatches<'_>) -> Result<u64, Refusal> {
 // What the words behind this name ask for.
 fn task_of(name: &str, matches: &ArgMatches<'_>) -> Result<Task, Refusal> {
     if name == "all" {
-        let most = number_of(matches, "states", MOST_STATES)?;
-        return Ok(Task::Judge(Orders::All(most as usize)));
+        return Ok(Task::Judge(Orders::All(Most {
+            states: number_of(matches, "states", MOST_STATES)? as usize,
+            bytes: bytes_of(matches)?,
+        })));
     }
     let seed = seed_of(matches)?;
     let steps = number_of(matches, "steps", MOST_STEPS)?;

@@ -16,7 +16,8 @@ pub enum Refusal {
 }
 
 /// The status of the program: 0 where all expectations hold, no run of a sample breaks one, or a run is written down; 1 where
-/// one is broken; 3 where none is but one has more states than were to be kept; and 2 where nothing was told.
+/// one is broken; 3 where none is but one has more states than were to be kept, or they take more memory; and 2 where nothing
+/// was told.
 pub fn status_of(answer: Result<Ending, Refusal>) -> u8
     ensures { result ≡ status_of answer }
 {

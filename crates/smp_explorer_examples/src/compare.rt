@@ -1,12 +1,16 @@
 //! What is told of an exploration, beside what is to be told.
 
+use smp_explore::{Most, Unwatched};
 use smp_mask::SmpError;
 use smp_report::{Orders, Run, Sample, Task, explore_script};
 use smp_script::Watched;
 use std::alloc::Global;
 
 /// All orders, where there are no more states than so many.
-const ALL: Task = Task::Judge(Orders::All(10_000));
+const ALL: Task = Task::Judge(Orders::All(Most {
+    states: 10_000,
+    bytes: usize::MAX,
+}));
 
 /// The sample that `smp_explorer sample` makes where no word says.
 const SAMPLED: Task = Task::Judge(Orders::Sampled(Sample {
@@ -43,7 +47,7 @@ pub fn tells(
 ) -> Result<bool, SmpError> {
     let mut reader = Watched::new(exploration);
     let mut writer = Watched::new(Vec::new(alloc));
-    explore_script(alloc, task, &mut reader, &mut writer)?;
+    explore_script(alloc, task, &mut reader, &mut writer, &mut Unwatched)?;
     let told = writer.into_inner();
     Ok(told.as_slice() == expected)
 }
