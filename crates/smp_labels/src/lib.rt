@@ -21,6 +21,3 @@ pub use map::LabelMap;
 pub use map::kept::KeptLabels;
 pub use patch::{MOST_CHANGES, Place, plan};
 pub use words::{LabelWords, MOST_KEYS, MOST_SITES, is_lawful};
-
-#[cfg(test)]
-mod tests;

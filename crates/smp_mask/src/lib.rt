@@ -12,6 +12,3 @@ mod parse;
 pub use error::{Cause, Edge, Side, SmpError};
 pub use iter::MaskIter;
 pub use mask::{CpuMask, NR_CPUS};
-
-#[cfg(test)]
-mod tests;

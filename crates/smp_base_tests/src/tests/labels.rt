@@ -1,4 +1,4 @@
-use super::*;
+use smp_labels::{Change, Entry, LabelMap, MOST_COUNT, Place, SiteKind, is_lawful, plan};
 use smp_mask::{Edge, SmpError};
 use std::test::Fail;
 

@@ -1,10 +1,8 @@
 ghost use Rattle.std.specs.Prelude.{◌≡◌, length};
 ghost use Rattle.smp_mask.specs.Mask.{members};
 
-mod cpu_lists;
-
-use super::*;
-use cpu_lists::CPU_LISTS;
+use super::cpu_lists::CPU_LISTS;
+use smp_mask::{Cause, CpuMask, Edge, NR_CPUS, Side, SmpError};
 use std::test::*;
 
 #[test]

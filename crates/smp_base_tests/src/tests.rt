@@ -1,0 +1,4 @@
+mod cpu_lists;
+mod labels;
+mod masks;
+mod sparse;
