@@ -3,8 +3,9 @@ pub mod Starts
 pub mod Insides
 pub mod Halves
 pub mod Saying
--- what a step changes of a core
+-- what a step changes of a core, and what it keeps
 pub mod Kept
+mod Whole
 -- a list of events
 pub mod Replays
 -- what a kept core takes

@@ -5,6 +5,7 @@ pub mod New
 -- its commands and its steps
 pub mod Start
 pub mod Machine
+pub mod Whole
 -- a list of events
 pub mod Replay
 pub mod Runs

@@ -4,9 +4,11 @@
 //! - `machine`: A pure machine that makes one atomic step at a time. `machine::kept` keeps it in little, for a search
 //!   that keeps many states.
 //! - `events`: A list of events, one after the other.
+//! - `laws`: What every order of steps leaves of a core.
 #![tactic(auto)]
 
 pub mod events;
+pub mod laws;
 pub mod machine;
 
 pub use events::{Replayed, replay};

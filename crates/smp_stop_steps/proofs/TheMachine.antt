@@ -9,6 +9,7 @@ pub mod Opened
 pub mod Begun
 pub mod Fits
 pub mod Starting
+pub mod Started
 pub mod Refusals
 pub mod Kept
 pub mod Weights

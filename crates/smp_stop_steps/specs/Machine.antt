@@ -59,3 +59,7 @@ pub record AreSoundStops (online : ℕ) (labels : Labels) (table : StopWords) (c
   pub answers : (cpu : ℕ) → HasI32Answers (stop_control_of controls cpu)
   pub stops : StopState
   pub shown : StopsShow (setup_of online labels) stops table controls
+
+-- the same, of a stop half
+abbrev pub IsSoundHalf : StopsValue → Type 0
+IsSoundHalf v = AreSoundStops v.online v.labels v.table v.controls

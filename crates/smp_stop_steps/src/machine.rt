@@ -274,6 +274,15 @@ impl<A: Allocator> Stops<A> {
         let _online = self.online;
     }
 
+    ghost use Rattle.smp_stop_steps.specs.Machine.{IsSoundHalf};
+
+    /// Every stop half is whole.
+    pub fn is_sound(&self)
+        ensures { IsSoundHalf self.now }
+    {
+        let _online = self.online;
+    }
+
     /// Every stop half shows a state of the stops that keeps all laws.
     pub fn shows_stops(&self)
         ensures { (p : StopState) × StopShown p self.now }

@@ -4,6 +4,7 @@ use Rattle.std.proofs.Common.{◌≡◌, ℕ, ℤ, ◌<◌, ◌==◌, Bool, true
 use Rattle.std.proofs.lemmas.Int.{to_z-of_z}
 use Rattle.std.specs.Prelude.{slice_set}
 use Rattle.smp_words.proofs.Puts.{at_test}
+use Rattle.smp_words.specs.Commands.{FitsCommand}
 use Rattle.smp_words.specs.declared.command.Command.{Command}
 use Rattle.smp_words.specs.declared.command.Command.TheVariants as command
 use Rattle.smp_stop_steps.specs.AnswerWords.{AnswersAreTaken, BeginsWith, CompletionFits, HasI32Answers, IsI32Word, StageFits, VisitFits}
@@ -33,14 +34,8 @@ begins_with answer f (Some w) v e =
 pub answers_are_taken : AnswersAreTaken
 answers_are_taken c v answer e f = begins_with answer f c.visit v e
 
--- the answer of a command is an i32
-abbrev pub FitsAnswer : Command → Type 0
-FitsAnswer (command.Advance answer) = FitsSigned w32 answer
-FitsAnswer (command.RunOne answer) = FitsSigned w32 answer
-FitsAnswer _ = Unit {0}
-
--- so that a command's first stage has the word of one
-pub first_fits : (c : StopControlValue) (x : Command) → VisitFits c.visit → FitsAnswer x → StageFits (stop_first c x)
+-- the first stage of a command with an answer has the word of an i32
+pub first_fits : (c : StopControlValue) (x : Command) → VisitFits c.visit → FitsCommand x → StageFits (stop_first c x)
 first_fits c command.Gate k f = tt
 first_fits c command.Ungate k f = tt
 first_fits c (command.Begin work) k f = tt

@@ -6,7 +6,7 @@ use Rattle.smp_stop_steps.specs.Starts.{stop_first}
 use Rattle.smp_stop_steps.specs.Value.{StopsValue, stop_control_of}
 use Rattle.smp_words.specs.Commands.{FitsCommand}
 use Rattle.smp_stop_steps.specs.AnswerWords.{StageFits}
-use Rattle.smp_stop_steps.proofs.TheMachine.Answered.{FitsAnswer, first_fits}
+use Rattle.smp_stop_steps.proofs.TheMachine.Answered.{first_fits}
 use Rattle.smp_stop_steps.proofs.TheMachine.Starting.{may_begin}
 use Rattle.smp_stop_steps.proofs.machine.Stops.start.Goals as goal
 
@@ -33,5 +33,5 @@ begin-requires-clause-answers g c =
     let here : c.index.result.now ≡ stop_control_of items c.args.cpu = get_or_read items c.args.cpu c.index.result.now (omega (arith, c.requires.cpu))
     c.index.ensures stop_outside in
     let first : stop_first (stop_control_of items c.args.cpu) c.args.command ≡ Some c.in-Some.stage = rw (← here) (sym c.first_stage.ensures ∙ c.in-Some.is) in
-    let fits : FitsAnswer c.args.command = search rules in
+    let fits : FitsCommand c.args.command = search rules in
     subst StageFits first (first_fits (stop_control_of items c.args.cpu) c.args.command (c.self.invariant.answers c.args.cpu).visit fits)
