@@ -5,7 +5,7 @@ pub mod Halves
 pub mod Saying
 -- what a step changes of a core, and what it keeps
 pub mod Kept
-mod Whole
+pub mod Whole
 -- a list of events
 pub mod Replays
 -- what a kept core takes
