@@ -1,5 +1,8 @@
-use smp_labels::{Change, Entry, LabelMap, MOST_COUNT, Place, SiteKind, is_lawful, plan};
+use smp_labels::{
+    Change, Entry, LabelMap, LabelWords, MOST_COUNT, Place, SiteKind, is_lawful, plan,
+};
 use smp_mask::{Edge, SmpError};
+use std::process::Abort;
 use std::test::Fail;
 
 const OFF: Entry = Entry {
@@ -12,45 +15,94 @@ const ON: Entry = Entry {
     branch: true,
 };
 
+/// The words of one key of this count, and of its two sites, declared off and on, that are of these kinds.
+fn two_sites(count: u64, kinds: [u64; 2]) -> LabelWords {
+    let [first, second] = kinds;
+    LabelWords {
+        keys: [count, 0, 0, 0],
+        entries: [1, 2, 0, 0, 0, 0, 0, 0, 0, 0, 0, 0, 0, 0, 0, 0],
+        sites: [first, second, 0, 0, 0, 0, 0, 0, 0, 0, 0, 0, 0, 0, 0, 0],
+    }
+}
+
 // Two sites of one key, as `static_branch_unlikely` and `static_branch_likely` declare them.
 #[test]
 fn one_key_with_two_sites(rt: HostRuntime) -> Result<(), Fail> {
     let map = LabelMap::new(&[OFF, ON], 1)?;
     assert_eq!(rt; (map.keys(), map.sites()), (1, 2));
-    let off = map.words();
-    assert_eq!(rt; off.keys, [0, 0, 0, 0]);
-    assert_eq!(rt;
-        off.entries,
-        [1, 2, 0, 0, 0, 0, 0, 0, 0, 0, 0, 0, 0, 0, 0, 0]
-    );
-    assert_eq!(rt; SiteKind::from_word(off.sites[0]), SiteKind::Nop);
-    assert_eq!(rt; SiteKind::from_word(off.sites[1]), SiteKind::Jmp);
-    assert_eq!(rt;
-        plan(&off, 0, Change::On)?.as_slice(),
-        [(Place::Key(0), 1), (Place::Site(0), 1), (Place::Site(1), 0)].as_slice()
-    );
-    assert_eq!(rt; plan(&off, 0, Change::Off)?.as_slice(), [].as_slice());
-    assert_eq!(rt; plan(&off, 4, Change::On), Err(SmpError::BadArgument));
+    assert_eq!(rt; map.words(), two_sites(0, [0, 1]));
+    let kinds = [0, 1].map(|word| SiteKind::from_word(word));
+    assert_eq!(rt; kinds, [SiteKind::Nop, SiteKind::Jmp]);
     Ok(())
 }
 
-// The key word alone, then the first site: the table is lawful again only with both sites.
+// The key word alone, then the first site: the words are lawful again only with both sites. Then words that no map
+// has: a count above the highest, an entry after a gap, a key that no table has.
 #[test]
-fn patched_word_by_word(rt: HostRuntime) -> Result<(), Fail> {
-    let mut words = LabelMap::new(&[OFF, ON], 1)?.words();
-    assert!(rt; is_lawful(&words));
-    words.keys[0] = 1;
-    assert!(rt; !is_lawful(&words));
-    words.sites[0] = 1;
-    assert!(rt; !is_lawful(&words));
-    words.sites[1] = 0;
-    assert!(rt; is_lawful(&words));
-    assert_eq!(rt; plan(&words, 0, Change::On)?.as_slice(), [].as_slice());
-    assert_eq!(rt;
-        plan(&words, 0, Change::Off)?.as_slice(),
-        [(Place::Key(0), 0), (Place::Site(0), 0), (Place::Site(1), 1)].as_slice()
-    );
+fn lawful_words(rt: HostRuntime) -> Result<(), Fail> {
+    let off = two_sites(0, [0, 1]);
+    let mut gap = off;
+    gap.entries[3] = 1;
+    let mut stranger = off;
+    stranger.entries[1] = 9;
+    let cases = [
+        (off, true),
+        (two_sites(1, [0, 1]), false),
+        (two_sites(1, [1, 1]), false),
+        (two_sites(1, [1, 0]), true),
+        (two_sites(65_535, [1, 0]), true),
+        (two_sites(65_536, [1, 0]), false),
+        (gap, false),
+        (stranger, false),
+    ];
+    for (words, lawful) in cases {
+        assert_eq!(rt; is_lawful(&words), lawful);
+    }
     Ok(())
+}
+
+/// A change of a key, and the words that it writes, in order, or how it is refused.
+type Planned<'a> = (u32, Change, Result<&'a [(Place, u64)], SmpError>);
+
+/// Each of these changes, from these words, is planned so.
+fn plans<R: Abort>(rt: &R, words: LabelWords, cases: &[Planned]) -> Result<(), Fail> {
+    assert!(rt; is_lawful(&words));
+    for (key, change, wanted) in cases {
+        match plan(&words, *key, *change) {
+            Ok(planned) => assert_eq!(rt; Ok(planned.as_slice()), *wanted),
+            Err(error) => assert_eq!(rt; Err(error), *wanted),
+        }
+    }
+    Ok(())
+}
+
+// Sites change where the count leaves 0 and comes to 0 alone.
+#[test]
+fn changes_of_a_key(rt: HostRuntime) -> Result<(), Fail> {
+    let on: &[(Place, u64)] = &[(Place::Key(0), 1), (Place::Site(0), 1), (Place::Site(1), 0)];
+    let off: &[(Place, u64)] = &[(Place::Key(0), 0), (Place::Site(0), 0), (Place::Site(1), 1)];
+    let from_zero: [Planned; 6] = [
+        (0, Change::On, Ok(on)),
+        (0, Change::Off, Ok(&[])),
+        (0, Change::Up, Ok(on)),
+        (0, Change::Down, Err(SmpError::KeyRange(Edge::Zero))),
+        (4, Change::On, Err(SmpError::BadArgument)),
+        (4, Change::Up, Err(SmpError::BadArgument)),
+    ];
+    plans(&rt, two_sites(0, [0, 1]), &from_zero)?;
+    let from_one: [Planned; 4] = [
+        (0, Change::On, Ok(&[])),
+        (0, Change::Off, Ok(off)),
+        (0, Change::Up, Ok(&[(Place::Key(0), 2)])),
+        (0, Change::Down, Ok(off)),
+    ];
+    plans(&rt, two_sites(1, [1, 0]), &from_one)?;
+    let from_most: [Planned; 3] = [
+        (0, Change::Up, Err(SmpError::KeyRange(Edge::Full))),
+        (0, Change::Down, Ok(&[(Place::Key(0), 65_534)])),
+        (0, Change::Off, Ok(off)),
+    ];
+    plans(&rt, two_sites(MOST_COUNT, [1, 0]), &from_most)
 }
 
 // Site i is of key i % 4, and the sites from 8 on are declared on.
@@ -75,83 +127,31 @@ fn four_keys_with_sixteen_sites(rt: HostRuntime) -> Result<(), Fail> {
         [1, 3, 5, 7, 1, 3, 5, 7, 2, 4, 6, 8, 2, 4, 6, 8]
     );
     assert_eq!(rt; off.sites, [0, 0, 0, 0, 0, 0, 0, 0, 1, 1, 1, 1, 1, 1, 1, 1]);
-    assert_eq!(rt;
-        plan(&off, 3, Change::On)?.as_slice(),
-        [
-            (Place::Key(3), 1),
-            (Place::Site(3), 1),
-            (Place::Site(7), 1),
-            (Place::Site(11), 0),
-            (Place::Site(15), 0),
-        ]
-        .as_slice()
-    );
-    Ok(())
+    let third = [
+        (Place::Key(3), 1),
+        (Place::Site(3), 1),
+        (Place::Site(7), 1),
+        (Place::Site(11), 0),
+        (Place::Site(15), 0),
+    ];
+    plans(&rt, off, &[(3, Change::On, Ok(&third))])
 }
 
 #[test]
 fn refusals(rt: HostRuntime) -> Result<(), Fail> {
-    let refused = Err(SmpError::BadArgument);
-    assert_eq!(rt; LabelMap::new(&[OFF; 17], 1), refused);
-    assert_eq!(rt; LabelMap::new(&[OFF], 5), refused);
-    assert_eq!(rt;
-        LabelMap::new(
-            &[
-                OFF,
-                Entry {
-                    key: 2,
-                    branch: true
-                }
-            ],
-            2
-        ),
-        refused
-    );
-    assert_eq!(rt; LabelMap::new(&[OFF], 0), refused);
+    let stranger = Entry {
+        key: 2,
+        branch: true,
+    };
+    let tables: [(&[Entry], u32); 4] = [
+        (&[OFF; 17], 1),
+        (&[OFF], 5),
+        (&[OFF, stranger], 2),
+        (&[OFF], 0),
+    ];
+    for (entries, keys) in tables {
+        assert_eq!(rt; LabelMap::new(entries, keys), Err(SmpError::BadArgument));
+    }
     assert_eq!(rt; LabelMap::new(&[], 0)?.sites(), 0);
-    Ok(())
-}
-
-// Words that no map has: a count above the highest, an entry after a gap, a key that no table has.
-#[test]
-fn words_out_of_form(rt: HostRuntime) -> Result<(), Fail> {
-    let words = LabelMap::new(&[OFF], 1)?.words();
-    let mut high = words;
-    high.keys[3] = 65_536;
-    assert!(rt; !is_lawful(&high));
-    let mut gap = words;
-    gap.entries[2] = 1;
-    assert!(rt; !is_lawful(&gap));
-    let mut stranger = words;
-    stranger.entries[1] = 9;
-    assert!(rt; !is_lawful(&stranger));
-    Ok(())
-}
-
-// A count that goes up and down: sites change from 0 and to 0 alone.
-#[test]
-fn a_key_is_counted(rt: HostRuntime) -> Result<(), Fail> {
-    let mut words = LabelMap::new(&[OFF, ON], 1)?.words();
-    assert_eq!(rt; plan(&words, 0, Change::Up)?, plan(&words, 0, Change::On)?);
-    let at_zero = SmpError::KeyRange(Edge::Zero);
-    assert_eq!(rt; plan(&words, 0, Change::Down), Err(at_zero));
-    words.keys[0] = 1;
-    words.sites[0] = 1;
-    words.sites[1] = 0;
-    assert_eq!(rt;
-        plan(&words, 0, Change::Up)?.as_slice(),
-        [(Place::Key(0), 2)].as_slice()
-    );
-    assert_eq!(rt; plan(&words, 0, Change::On)?.as_slice(), [].as_slice());
-    words.keys[0] = MOST_COUNT;
-    assert!(rt; is_lawful(&words));
-    let full = SmpError::KeyRange(Edge::Full);
-    assert_eq!(rt; plan(&words, 0, Change::Up), Err(full));
-    assert_eq!(rt; plan(&words, 4, Change::Up), Err(SmpError::BadArgument));
-    assert_eq!(rt;
-        plan(&words, 0, Change::Down)?.as_slice(),
-        [(Place::Key(0), 65_534)].as_slice()
-    );
-    assert_eq!(rt; plan(&words, 0, Change::Off)?.len(), 3);
     Ok(())
 }
