@@ -173,6 +173,24 @@ fn first_cpus(count: u32) -> Result<CpuMask, BenchError> {
     Ok(mask)
 }
 
+/// Stands one CPU for each thread, and runs the threads: what all of them have done.
+fn measure<R: Wait + Threads + Clock + Eprint + Sync>(
+    stands: &mut Stands,
+    rt: &R,
+    alloc: Global,
+    workload: Workload,
+    count: u32,
+    meter: &mut Meter<R>,
+) -> Result<u64, BenchError> {
+    let first = stands.stand(0)?;
+    let mut helpers = Vec::new(alloc);
+    for number in 1..count {
+        helpers.push(stands.stand(number)?)?;
+    }
+    meter.begin()?;
+    run_threads(rt, first, helpers, workload, meter).ok_or(BenchError::NoThread)
+}
+
 /// Runs a workload of up to 7 threads, one for each CPU of a machine with one key and two sites.
 pub fn run<R: Wait + Threads + Clock + Eprint + Sync>(
     rt: &R,
@@ -185,13 +203,13 @@ pub fn run<R: Wait + Threads + Clock + Eprint + Sync>(
 {
     let count = workload.threads(threads);
     let (machine, boot) = Machine::new(alloc, 8, first_cpus(count)?, &label()?)?;
-    let mut stands = Stands::new(&machine, boot);
-    let first = stands.stand(0)?;
-    let mut helpers = Vec::new(alloc);
-    for number in 1..count {
-        helpers.push(stands.stand(number)?)?;
-    }
-    meter.begin()?;
-    let done = run_threads(rt, first, helpers, workload, &mut meter);
-    Ok((meter.close()?, done.ok_or(BenchError::NoThread)?))
+    let done = measure(
+        &mut Stands::new(&machine, boot),
+        rt,
+        alloc,
+        workload,
+        count,
+        &mut meter,
+    )?;
+    Ok((meter.close()?, done))
 }
