@@ -28,30 +28,31 @@ pub struct Request<'a> {
     pub task: Task,
 }
 
-// A word that may stand behind this one.
-fn option<'a>(alloc: Global, name: &'a str) -> Arg<'a> {
-    Arg::new(alloc, name).long(name).action(ArgAction::Set)
+// A command of this name: these words may stand behind it, each with a value, and then a file.
+fn command<'a>(
+    alloc: Global,
+    name: &'a str,
+    options: &[&'a str],
+) -> Result<Command<'a>, AllocError> {
+    let mut command = Command::new(alloc, name);
+    for &option in options {
+        let arg = Arg::new(alloc, option).long(option).action(ArgAction::Set);
+        command = command.arg(arg)?;
+    }
+    command.arg(Arg::new(alloc, "FILE"))
 }
 
 fn grammar<'a>(alloc: Global) -> Result<Command<'a>, AllocError> {
-    let all = Command::new(alloc, "all")
-        .arg(option(alloc, "states"))?
-        .arg(option(alloc, "memory"))?
-        .arg(Arg::new(alloc, "FILE"))?;
-    let sample = Command::new(alloc, "sample")
-        .arg(option(alloc, "seed"))?
-        .arg(option(alloc, "runs"))?
-        .arg(option(alloc, "steps"))?
-        .arg(Arg::new(alloc, "FILE"))?;
-    let script = Command::new(alloc, "script")
-        .arg(option(alloc, "seed"))?
-        .arg(option(alloc, "run"))?
-        .arg(option(alloc, "steps"))?
-        .arg(Arg::new(alloc, "FILE"))?;
-    Command::new(alloc, "smp_explorer")
-        .subcommand(all)?
-        .subcommand(sample)?
-        .subcommand(script)
+    let commands: [(&'a str, &[&'a str]); 3] = [
+        ("all", &["states", "memory"]),
+        ("sample", &["seed", "runs", "steps"]),
+        ("script", &["seed", "run", "steps"]),
+    ];
+    let mut grammar = Command::new(alloc, "smp_explorer");
+    for (name, options) in commands {
+        grammar = grammar.subcommand(command(alloc, name, options)?)?;
+    }
+    Ok(grammar)
 }
 
 // The number behind a word, or this where the word is not there.
