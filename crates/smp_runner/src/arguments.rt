@@ -15,11 +15,12 @@ pub struct Request<'a> {
 }
 
 fn grammar<'a>(alloc: Global) -> Result<Command<'a>, AllocError> {
-    let replay = Command::new(alloc, "replay").arg(Arg::new(alloc, "FILE"))?;
-    let run = Command::new(alloc, "run").arg(Arg::new(alloc, "FILE"))?;
-    Command::new(alloc, "smp_runner")
-        .subcommand(replay)?
-        .subcommand(run)
+    let mut grammar = Command::new(alloc, "smp_runner");
+    for name in ["replay", "run"] {
+        let command = Command::new(alloc, name).arg(Arg::new(alloc, "FILE"))?;
+        grammar = grammar.subcommand(command)?;
+    }
+    Ok(grammar)
 }
 
 /// What the words ask for: `Failed(NoMemory)` where a growth was refused, and `Usage` where they are no command line, or

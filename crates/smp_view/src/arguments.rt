@@ -27,13 +27,12 @@ impl<'a> Request<'a> {
 }
 
 fn grammar<'a>(alloc: Global) -> Result<Command<'a>, AllocError> {
-    let lanes = Command::new(alloc, "lanes").arg(Arg::new(alloc, "FILE"))?;
-    let svg = Command::new(alloc, "svg").arg(Arg::new(alloc, "FILE"))?;
-    let explain = Command::new(alloc, "explain").arg(Arg::new(alloc, "FILE"))?;
-    Command::new(alloc, "smp_view")
-        .subcommand(lanes)?
-        .subcommand(svg)?
-        .subcommand(explain)
+    let mut grammar = Command::new(alloc, "smp_view");
+    for name in ["lanes", "svg", "explain"] {
+        let command = Command::new(alloc, name).arg(Arg::new(alloc, "FILE"))?;
+        grammar = grammar.subcommand(command)?;
+    }
+    Ok(grammar)
 }
 
 // What a subcommand asks for, by its name.
