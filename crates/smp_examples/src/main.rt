@@ -7,6 +7,7 @@
 mod compare;
 
 use crate::compare::{mode_of, prints};
+use smp_mask::SmpError;
 use std::fs::{File, read_dir};
 use std::io;
 use std::io::Read;
@@ -19,6 +20,11 @@ fn read_file(rt: &HostRuntime, name: &str) -> io::Result<Vec<u8>> {
     let mut bytes = Vec::new(rt.alloc());
     File::open(rt, name)?.read_to_end(&mut bytes)?;
     Ok(bytes)
+}
+
+// All bytes of the file that goes with this one under this ending.
+fn read_beside(rt: &HostRuntime, name: &str, ending: &str) -> io::Result<Vec<u8>> {
+    read_file(rt, format!(in rt.alloc(); "{name}.{ending}")?.as_str())
 }
 
 // The names of the scripts in this folder, ascending.
@@ -35,6 +41,16 @@ fn scripts(rt: &HostRuntime) -> io::Result<Vec<String>> {
     Ok(names)
 }
 
+// Prints a line for an example: whether it is as expected.
+fn tell(rt: &HostRuntime, name: &str, answer: Result<bool, SmpError>) -> io::Result<bool> {
+    match answer {
+        Ok(true) => println!(rt; "{name}: as expected")?,
+        Ok(false) => println!(rt; "{name}: prints something else")?,
+        Err(error) => println!(rt; "{name}: {error}")?,
+    }
+    Ok(answer == Ok(true))
+}
+
 // Compares one example, and prints a line for it: whether it is as expected.
 fn compare_one<T: Threads + Wait + Sync>(
     rt: &HostRuntime,
@@ -42,32 +58,20 @@ fn compare_one<T: Threads + Wait + Sync>(
     name: &str,
 ) -> io::Result<bool> {
     let script = read_file(rt, name)?;
-    let expected = read_file(rt, format!(in rt.alloc(); "{name}.stdout")?.as_str())?;
-    let words = read_file(rt, format!(in rt.alloc(); "{name}.args")?.as_str())?;
+    let expected = read_beside(rt, name, "stdout")?;
+    let words = read_beside(rt, name, "args")?;
     let Some(mode) = mode_of(words.as_slice()) else {
         println!(rt; "{name}: its words are neither replay nor run")?;
         return Ok(false);
     };
-    match prints(
+    let answer = prints(
         threads,
         rt.alloc(),
         mode,
         script.as_slice(),
         expected.as_slice(),
-    ) {
-        Ok(true) => {
-            println!(rt; "{name}: as expected")?;
-            Ok(true)
-        }
-        Ok(false) => {
-            println!(rt; "{name}: prints something else")?;
-            Ok(false)
-        }
-        Err(error) => {
-            println!(rt; "{name}: {error}")?;
-            Ok(false)
-        }
-    }
+    );
+    tell(rt, name, answer)
 }
 
 fn main(rt: HostRuntime) -> io::Result<ExitCode> {

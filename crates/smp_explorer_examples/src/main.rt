@@ -8,6 +8,7 @@
 mod compare;
 
 use crate::compare::{task_of, tells};
+use smp_mask::SmpError;
 use std::fs::{File, read_dir};
 use std::io;
 use std::io::Read;
@@ -18,6 +19,11 @@ fn read_file(rt: &HostRuntime, name: &str) -> io::Result<Vec<u8>> {
     let mut bytes = Vec::new(rt.alloc());
     File::open(rt, name)?.read_to_end(&mut bytes)?;
     Ok(bytes)
+}
+
+// All bytes of the file that goes with this one under this ending.
+fn read_beside(rt: &HostRuntime, name: &str, ending: &str) -> io::Result<Vec<u8>> {
+    read_file(rt, format!(in rt.alloc(); "{name}.{ending}")?.as_str())
 }
 
 // The names of the explorations in this folder, ascending.
@@ -34,31 +40,28 @@ fn explorations(rt: &HostRuntime) -> io::Result<Vec<String>> {
     Ok(names)
 }
 
+// Prints a line for an example: whether it is as expected.
+fn tell(rt: &HostRuntime, name: &str, answer: Result<bool, SmpError>) -> io::Result<bool> {
+    match answer {
+        Ok(true) => println!(rt; "{name}: as expected")?,
+        Ok(false) => println!(rt; "{name}: tells something else")?,
+        Err(error) => println!(rt; "{name}: {error}")?,
+    }
+    Ok(answer == Ok(true))
+}
+
 // Compares one example, and prints a line for it: whether it is as expected.
 fn compare_one(rt: &HostRuntime, name: &str) -> io::Result<bool> {
     let exploration = read_file(rt, name)?;
-    let expected = read_file(rt, format!(in rt.alloc(); "{name}.stdout")?.as_str())?;
-    let words = read_file(rt, format!(in rt.alloc(); "{name}.args")?.as_str())?;
-    let task = task_of(words.as_slice());
-    match tells(
+    let expected = read_beside(rt, name, "stdout")?;
+    let words = read_beside(rt, name, "args")?;
+    let answer = tells(
         rt.alloc(),
-        task,
+        task_of(words.as_slice()),
         exploration.as_slice(),
         expected.as_slice(),
-    ) {
-        Ok(true) => {
-            println!(rt; "{name}: as expected")?;
-            Ok(true)
-        }
-        Ok(false) => {
-            println!(rt; "{name}: tells something else")?;
-            Ok(false)
-        }
-        Err(error) => {
-            println!(rt; "{name}: {error}")?;
-            Ok(false)
-        }
-    }
+    );
+    tell(rt, name, answer)
 }
 
 fn main(rt: HostRuntime) -> io::Result<ExitCode> {
