@@ -101,33 +101,38 @@ fn read_at(cpu: usize, is_on: bool) -> [Line; 3] {
 #[test]
 fn a_patch_answers_1_at_the_end_of_the_range(rt: HostRuntime) -> Result<(), Fail> {
     let online = CpuMask::of(0)?;
+    let to_off = patch(online, 0)?;
+    let to_on = patch(online, 1)?;
+    let up = patch(online, 2)?;
+    let down = patch(online, 3)?;
+    let sites = two_sites()?;
     let off = read_at(0, false);
     let on = read_at(0, true);
     let parts: [&[Line]; 22] = [
         &[(0, Gate(true))],
-        &patch_alone(patch(online, 3)?, 1),
+        &patch_alone(down, 1),
         &[(0, Count(0))],
         &off,
-        &patch_alone(patch(online, 1)?, 0),
+        &patch_alone(to_on, 0),
         &[(0, Count(1))],
         &on,
-        &patch_alone(patch(online, 2)?, 0),
+        &patch_alone(up, 0),
         &[(0, Count(2))],
         &on,
-        &patch_alone(patch(online, 1)?, 0),
+        &patch_alone(to_on, 0),
         &[(0, Count(2))],
         &on,
-        &patch_alone(patch(online, 3)?, 0),
+        &patch_alone(down, 0),
         &[(0, Count(1))],
         &on,
-        &patch_alone(patch(online, 2)?, 0),
+        &patch_alone(up, 0),
         &[(0, Count(2))],
         &on,
-        &patch_alone(patch(online, 0)?, 0),
+        &patch_alone(to_off, 0),
         &[(0, Count(0))],
         &off,
     ];
-    let fault = play(rt.alloc(), 1, "0", 1, &two_sites()?, &parts)?;
+    let fault = play(rt.alloc(), 1, "0", 1, &sites, &parts)?;
     assert_eq!(rt; fault, None);
     Ok(())
 }
