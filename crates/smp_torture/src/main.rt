@@ -5,6 +5,9 @@
 //! others' handlers have heard, and with the machine's own tally words. The exit status is 1 where a count is off.
 #![tactic(auto)]
 
+ghost use Rattle.std.specs.Prelude.{IfOk};
+ghost use Rattle.smp_machine.specs.Place.{IsAt, IsFull};
+
 mod acts;
 mod cell;
 mod choice;
@@ -29,7 +32,7 @@ use crate::launch::{Ended, torture};
 use crate::plan::Plan;
 use crate::request::{Request, read_words};
 use crate::table::print_table;
-use smp_machine::Machine;
+use smp_machine::{Machine, MachineBoot};
 use smp_mask::CpuMask;
 use std::alloc::{AllocError, Global};
 use std::process::ExitCode;
@@ -47,17 +50,43 @@ fn first_cpus(count: u32) -> Result<CpuMask, TortureError> {
     Ok(mask)
 }
 
+/// A new machine of so many CPUs, all of them online, and its CPUs.
+fn machine_of(
+    alloc: Global,
+    threads: u32,
+) -> Result<(Machine<Global>, MachineBoot<Global>), TortureError>
+    ensures { IfOk result (λ t. IsFull t.1 t.0) }
+{
+    let online = first_cpus(threads)?;
+    Ok(Machine::new(alloc, threads, online, &labels()?)?)
+}
+
+/// Tortures this machine from now on: a CPU of it, and what all have done.
+fn torture_from_now<R: Wait + Threads + Clock + Eprint + Sync>(
+    rt: &R,
+    alloc: Global,
+    request: &Request,
+    machine: &Machine<Global>,
+    boot: MachineBoot<Global>,
+) -> Result<Ended, TortureError>
+    requires { IsFull boot machine.now }
+    ensures { IfOk result (λ e. IsAt machine.now e.last) }
+{
+    let plan = Plan {
+        request: *request,
+        began: Instant::now(rt)?,
+    };
+    torture(rt, alloc, &plan, machine, boot)
+}
+
 /// Tortures a new machine, and prints what was done: whether all counts are right.
 fn run<R: Wait + Threads + Clock + Print + Eprint + Sync>(
     rt: &R,
     alloc: Global,
     request: Request,
 ) -> Result<bool, TortureError> {
-    let online = first_cpus(request.threads)?;
-    let (machine, boot) = Machine::new(alloc, request.threads, online, &labels()?)?;
-    let began = Instant::now(rt)?;
-    let plan = Plan { request, began };
-    let Ended { last, reports } = torture(rt, alloc, &plan, &machine, boot)?;
+    let (machine, boot) = machine_of(alloc, request.threads)?;
+    let Ended { last, reports } = torture_from_now(rt, alloc, &request, &machine, boot)?;
     let audit = machine.shutdown(last);
     Ok(print_table(rt, &request, reports.as_slice(), &audit)?)
 }

@@ -101,34 +101,35 @@ fn read_at(cpu: usize, is_on: bool) -> [Line; 3] {
 #[test]
 fn a_patch_answers_1_at_the_end_of_the_range(rt: HostRuntime) -> Result<(), Fail> {
     let online = CpuMask::of(0)?;
-    let to_off = patch(online, 0)?;
-    let to_on = patch(online, 1)?;
-    let up = patch(online, 2)?;
-    let down = patch(online, 3)?;
+    let to_off = patch_alone(patch(online, 0)?, 0);
+    let to_on = patch_alone(patch(online, 1)?, 0);
+    let up = patch_alone(patch(online, 2)?, 0);
+    let down = patch_alone(patch(online, 3)?, 0);
+    let down_in_vain = patch_alone(patch(online, 3)?, 1);
     let sites = two_sites()?;
     let off = read_at(0, false);
     let on = read_at(0, true);
     let parts: [&[Line]; 22] = [
         &[(0, Gate(true))],
-        &patch_alone(down, 1),
+        &down_in_vain,
         &[(0, Count(0))],
         &off,
-        &patch_alone(to_on, 0),
+        &to_on,
         &[(0, Count(1))],
         &on,
-        &patch_alone(up, 0),
+        &up,
         &[(0, Count(2))],
         &on,
-        &patch_alone(to_on, 0),
+        &to_on,
         &[(0, Count(2))],
         &on,
-        &patch_alone(down, 0),
+        &down,
         &[(0, Count(1))],
         &on,
-        &patch_alone(up, 0),
+        &up,
         &[(0, Count(2))],
         &on,
-        &patch_alone(to_off, 0),
+        &to_off,
         &[(0, Count(0))],
         &off,
     ];
