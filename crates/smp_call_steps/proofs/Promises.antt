@@ -1,4 +1,5 @@
 -- The laws of the call half.
+use Rattle.std.proofs.Common.{arith}
 use Rattle.std.proofs.Common.{◌≡◌, ◌≢◌, ℕ, ◌==◌, Bool, true, false, cond, List, [], ◌∷◌, ◌++◌, inl, inr, sym, subst, refl, ap, ◌∙◌}
 use Rattle.std.specs.List.{AllByRecursion}
 use Rattle.smp_words.specs.Size.{owner}
@@ -61,12 +62,9 @@ module _ (source : ℕ) where
       → of_class class (calls_from source rest) ≡ calls_from source (of_class class rest) →
       of_class class (calls_from source (call ∷ rest)) ≡ calls_from source (if_class class of call ++ of_class class rest)
   class_from Sync Sync call rest e h = keeps Sync (owner call.id == source) call (calls_from source rest) (calls_from source (of_class Sync rest)) (rw e refl) h
-  class_from Sync Async call rest e h = drops Sync (owner call.id == source) call (calls_from source rest) (calls_from source (of_class Sync rest))
-      (rw e refl) h
-  class_from Async Sync call rest e h = drops Async (owner call.id == source) call (calls_from source rest) (calls_from source (of_class Async rest))
-      (rw e refl) h
-  class_from Async Async call rest e h = keeps Async (owner call.id == source) call (calls_from source rest) (calls_from source (of_class Async rest))
-      (rw e refl) h
+  class_from Sync Async call rest e h = search (drops, arith)
+  class_from Async Sync call rest e h = search (drops, arith)
+  class_from Async Async call rest e h = search (keeps, arith)
 
   from_class : (class : Class) (calls : List Call) → of_class class (calls_from source calls) ≡ calls_from source (of_class class calls)
   from_class class [] = refl
@@ -103,8 +101,7 @@ unmarked_sent cpu (s ∷ rest) = unmarked_if (s.to == cpu) (mark s.is_first s.ca
 
 unmarked_from : (source : ℕ) (ms : List Marked) → unmarked (marked_from source ms) ≡ calls_from source (unmarked ms)
 unmarked_from source [] = refl
-unmarked_from source (m ∷ rest) = unmarked_if (owner m.call.id == source) m (marked_from source rest) (calls_from source (unmarked rest))
-    (unmarked_from source rest)
+unmarked_from source (m ∷ rest) = search (unmarked_if, unmarked_from source rest, arith)
 
 unmarked_others : (calls : List Call) → unmarked (others_marked calls) ≡ calls
 unmarked_others [] = refl
@@ -116,14 +113,10 @@ unmarked_all (call ∷ rest) = ap (λ (k : List Call). call ∷ k) (unmarked_oth
 
 unmarked_batches : (taken : List (List Call)) → unmarked (batches_marked taken) ≡ batches taken
 unmarked_batches [] = refl
-unmarked_batches (batch ∷ rest) =
-    unmarked-append (marked batch) (batches_marked rest)
-    ∙ (ap (λ (k : List Call). k ++ unmarked (batches_marked rest)) (unmarked_all batch) ∙ ap (λ (k : List Call). batch ++ k) (unmarked_batches rest))
+unmarked_batches (batch ∷ rest) = search (unmarked-append, unmarked_all, unmarked_batches rest, arith)
 
 unmarked_history : (taken : List (List Call)) (queue : List Call) → unmarked (history_of taken queue) ≡ batches taken ++ queue
-unmarked_history taken queue =
-    unmarked-append (batches_marked taken) (marked queue)
-    ∙ (ap (λ (k : List Call). k ++ unmarked (marked queue)) (unmarked_batches taken) ∙ ap (λ (k : List Call). batches taken ++ k) (unmarked_all queue))
+unmarked_history taken queue = search (unmarked-append, unmarked_batches, unmarked_all, arith)
 
 pub run_at_most_once : RunAtMostOnce
 run_at_most_once a at control s source cpu class =

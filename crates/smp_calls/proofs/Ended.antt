@@ -1,5 +1,5 @@
 -- Calls that were waited for have ended.
-use Rattle.std.proofs.Common.{◌≡◌, ℕ, zero, suc, ◌<◌, ◌≤◌, ◌==◌, ◌||◌, Bool, true, false, cond, Option, Some, None, List, [], ◌∷◌, ◌++◌, get_or, sym}
+use Rattle.std.proofs.Common.{◌≡◌, ℕ, zero, suc, ◌<◌, ◌≤◌, ◌||◌, Bool, true, false, cond, Option, Some, None, List, [], ◌∷◌, ◌++◌, get_or, sym}
 use Rattle.std.proofs.Common.{subst, refl, ap, ◌∙◌}
 use Rattle.std.proofs.Common.{arith}
 use Rattle.std.proofs.lemmas.List.{append-nil}
@@ -28,11 +28,7 @@ or_yes false = refl
 -- each of the CPUs has one of the records
 all_by : (of : ℕ → ℕ) (xs : List ℕ) → AllByRecursion (λ x. is_by of (of x) xs ≡ true) xs
 all_by of [] = tt
-all_by of (x ∷ xs) = (
-  rw (eq-eqb (of x) (of x) refl) refl,
-  every (λ y. is_by of (of y) xs ≡ true) (λ y. is_by of (of y) (x ∷ xs) ≡ true) (λ y e. ap (λ b. (of y == of x) || b) e ∙ or_yes (of y == of x)) xs
-      (all_by of xs),
-)
+all_by of (x ∷ xs) = search (eq-eqb, every, or_yes, all_by of xs, arith)
 
 -- what holds of what was sent holds of each destination and its call
 all_sent : (P : ℕ → Call → Type 0) (call : ℕ → Call) (queued : List Queued) → AllByRecursion (λ s. P s.to s.call) (sendings call queued)
@@ -48,16 +44,8 @@ pub record HasWaited (old new : CpuValue) (call : ℕ → Call) (queued : List Q
 
 waited_by : {H : Type 0} (leads : H → Heard → H → Type 0) (old : CpuValue) (before : H) (new : CpuValue) (after : H) (call : ℕ → Call) (queued : List Queued)
     (here : Option Heard) → CallsWith leads old before new after call queued here true → HasWaited old new call queued
-waited_by leads old before new after call queued None made = record {
-  number_is = made.number_is;
-  sent_is = made.sent_is;
-  confirmed_are = λ k small used. made.confirmed_are k small ∙ ap (λ b. cond b true (confirmed_at old k)) used;
-}
-waited_by leads old before new after call queued (Some heard) made = record {
-  number_is = made.later.number_is ∙ made.first.number_is;
-  sent_is = made.later.sent_is ∙ (append-nil made.middle.part.sent ∙ made.first.sent_is);
-  confirmed_are = λ k small used. made.later.confirmed_are k small ∙ ap (λ b. b || confirmed_at made.middle k) used;
-}
+waited_by leads old before new after call queued None made = search arith
+waited_by leads old before new after call queued (Some heard) made = search (append-nil, arith)
 
 module _ (old new : CpuValue) (k : ℕ → ℕ) (func info : ℕ) where
   abbrev call : ℕ → Call

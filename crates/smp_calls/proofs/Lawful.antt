@@ -1,62 +1,29 @@
 -- The record for calls to a CPU that there is: its source has it, and it may carry such a call.
-use Rattle.std.proofs.Common.{◌≡◌, ℕ, ◌+◌, ◌-◌, ◌<◌, ◌≤◌, ◌⊎◌, true, false, inl, inr, refl, arith}
+use Rattle.std.proofs.Common.{◌≡◌, ℕ, ◌+◌, ◌<◌, ◌≤◌, ◌⊎◌, true, false, inl, inr, refl, arith}
 use Rattle.std.proofs.lemmas.Bool.{cases_lt, lt-ltb, le-ltb, ne_eqb, eq-eqb}
 use Rattle.smp_mask.specs.Mask.{has}
 use Rattle.smp_words.specs.Size.{cpus, records_of_one}
 use Rattle.smp_call_steps.specs.Start.{has_record, fits_record}
 use Rattle.smp_words.specs.Limits.{AreLimits}
-use Rattle.smp_words.specs.declared.size.TheConstants.{FIRST_TARGETS, FIRST_OF_ONE, USER}
 use Rattle.smp_words.specs.declared.call.Class.{Class}
 use Rattle.smp_queue.specs.Cpu.{CpuValue, misused}
 use Rattle.smp_calls.specs.Records.{many_record, user_record, AreApart}
 
 -- a source has it
 pub has_many : (nr to : ℕ) → nr ≤ cpus → to < nr → has_record nr (many_record to) ≡ true
-has_many nr to within below = elim (cases_lt to FIRST_TARGETS) [
-  | inl low ↦ rw (lt-ltb to FIRST_TARGETS low, lt-ltb (to + 2) FIRST_OF_ONE (omega arith)) refl
-  | inr high ↦
-      rw (
-        le-ltb to FIRST_TARGETS high,
-        le-ltb (to + 4) FIRST_OF_ONE (omega arith),
-        lt-ltb (to + 4) records_of_one (omega arith),
-        lt-ltb ((to + 4) - 4) nr (omega arith),
-      ) refl
-]
+has_many nr to within below = search (cases_lt, lt-ltb, le-ltb, arith)
 
 -- it is for calls of either class to this CPU
 fits_many : (nr to : ℕ) (class : Class) → to < nr → fits_record nr (many_record to) to class ≡ true
-fits_many nr to class below = elim (cases_lt to FIRST_TARGETS) [
-  | inl low ↦
-      rw (
-        lt-ltb to FIRST_TARGETS low,
-        ne_eqb (to + 2) 0 (λ e. omega arith),
-        ne_eqb (to + 2) 1 (λ e. omega arith),
-        lt-ltb (to + 2) USER (omega arith),
-        eq-eqb (to + 2) (to + 2) refl,
-      ) refl
-  | inr high ↦
-      rw (
-        le-ltb to FIRST_TARGETS high,
-        ne_eqb (to + 4) 0 (λ e. omega arith),
-        ne_eqb (to + 4) 1 (λ e. omega arith),
-        le-ltb (to + 4) USER (omega arith),
-        le-ltb (to + 4) FIRST_OF_ONE (omega arith),
-        eq-eqb (to + 4) (to + 4) refl,
-        lt-ltb to nr below,
-      ) refl
-]
+fits_many nr to class below = search (cases_lt, lt-ltb, ne_eqb, eq-eqb, le-ltb, arith)
 
 pub small_many : (to : ℕ) → to < cpus → many_record to < records_of_one
-small_many to below = elim (cases_lt to FIRST_TARGETS) [
-  | inl low ↦ rw (lt-ltb to FIRST_TARGETS low) (omega arith)
-  | inr high ↦ rw (le-ltb to FIRST_TARGETS high) (omega arith)
-]
+small_many to below = search (cases_lt, lt-ltb, le-ltb, arith)
 
 -- a post to another CPU by it is not refused for its arguments
 pub lawful_many : (nr : ℕ) (c : CpuValue) (to : ℕ) (class : Class) → nr ≤ cpus → to < nr → (to ≡ c.number → ⊥)
     → misused nr c (many_record to) to class 1 ≡ false
-lawful_many nr c to class within below other =
-    rw (lt-ltb (many_record to) records_of_one (small_many to (omega arith)), ne_eqb to c.number other, fits_many nr to class below) refl
+lawful_many nr c to class within below other = search (lt-ltb, small_many, ne_eqb, fits_many, arith)
 
 -- the same of a CPU that is online
 pub has_online : (nr online to : ℕ) → AreLimits nr online → has online to ≡ true → has_record nr (many_record to) ≡ true
@@ -71,25 +38,13 @@ many_is : (to : ℕ) → ((to < 8) × (many_record to ≡ to + 2)) ⊎ ((8 ≤ t
 many_is to = elim (cases_lt to 8) [ inl low ↦ inl (low, rw (lt-ltb to 8 low) refl) | inr high ↦ inr (high, rw (le-ltb to 8 high) refl) ]
 
 same_many : (to other : ℕ) → many_record to ≡ many_record other → to ≡ other
-same_many to other e = elim (many_is to) [
-  | inl a ↦ elim (many_is other) [
-    | inl b ↦ (let m = a.1 in let n = b.1 in omega arith)
-    | inr b ↦ (let m = a.1 in let n = b.1 in let low = a.0 in let high = b.0 in omega arith)
-  ]
-  | inr a ↦ elim (many_is other) [
-    | inl b ↦ (let m = a.1 in let n = b.1 in let high = a.0 in let low = b.0 in omega arith)
-    | inr b ↦ (let m = a.1 in let n = b.1 in omega arith)
-  ]
-]
+same_many to other e = search (many_is, arith)
 
 above_one : (to : ℕ) → 1 < many_record to
 above_one to = elim (many_is to) [ inl a ↦ (let m = a.1 in omega arith) | inr a ↦ (let m = a.1 in omega arith) ]
 
 no_users : (to u : ℕ) → u < 2 → many_record to ≡ user_record u → ⊥
-no_users to u few e = elim (many_is to) [
-  | inl a ↦ (let m = a.1 in let low = a.0 in omega arith)
-  | inr a ↦ (let m = a.1 in let high = a.0 in omega arith)
-]
+no_users to u few e = search (many_is, arith)
 
 pub are_apart : AreApart
 are_apart = record { above = above_one; within = small_many; many = same_many; users = no_users }

@@ -59,10 +59,7 @@ last false kept passes k p e same = rw same refl
 pub filter_members : (m n : ℕ) (p : ℕ → Bool) (k : ℕ) → ((c : ℕ) → has n c ≡ (has m c && p c)) → filter p (members_below m k) ≡ members_below n k
 unfolding members_below
 filter_members m n p zero same = refl
-filter_members m n p (suc k) same =
-    filter-append p (members_below m k) (cond (has m k) (k ∷ []) []) ∙
-    (ap (λ (xs : List ℕ). xs ++ filter p (cond (has m k) (k ∷ []) [])) (filter_members m n p k same) ∙
-    ap (λ (xs : List ℕ). members_below n k ++ xs) (last (has m k) (has n k) (p k) k p refl (same k)))
+filter_members m n p (suc k) same = search (filter-append, last, filter_members m n p k same, arith)
 
 -- what does not stand in a list is not filtered out
 filter_without : (c : ℕ) (xs : List ℕ) → times c xs ≡ 0 → filter (λ x. not (x == c)) xs ≡ xs
@@ -84,17 +81,14 @@ pub next_gone : (left next cpu c : ℕ) → members left ≡ cpu ∷ members nex
 unfolding times
 next_gone left next cpu c e below =
     let before : times c (members left) ≡ cond (has left c) 1 0 = times_member left c NR_CPUS ∙ ap (λ b. cond (b && has left c) 1 0) (lt-ltb c NR_CPUS below) in
-    let after : times c (members next) ≡ cond (has next c) 1 0 = times_member next c NR_CPUS ∙ ap (λ b. cond (b && has next c) 1 0) (lt-ltb c NR_CPUS below) in
-    let split : times c (members left) ≡ cond (cpu == c) 1 0 + times c (members next) = ap (times c) e in
-    grind (arith, nat_tests, before, after, split)
+    search (times, times_member, lt-ltb, nat_tests, before, arith)
 
 -- none is left
 pub none_left : (left c : ℕ) → members left ≡ [] → c < NR_CPUS → has left c ≡ false
 unfolding times
 none_left left c e below =
     let before : times c (members left) ≡ cond (has left c) 1 0 = times_member left c NR_CPUS ∙ ap (λ b. cond (b && has left c) 1 0) (lt-ltb c NR_CPUS below) in
-    let none : times c (members left) ≡ 0 = ap (times c) e in
-    grind (arith, nat_tests, before, none)
+    search (times, nat_tests, before, arith)
 
 -- a mask without one member has the others in their order
 without_one : (m n c : ℕ) (xs ys : List ℕ) → members m ≡ xs ++ c ∷ ys → ((x : ℕ) → has n x ≡ (has m x && not (x == c))) → members n ≡ xs ++ ys
@@ -117,8 +111,5 @@ without_one m n c xs ys e gone =
 pub goes_on : (keep : Bool) (xs : List ℕ) (left next cpu m n : ℕ) → xs ++ members left ≡ members m → members left ≡ cpu ∷ members next →
     (keep ≡ true → n ≡ m) → (keep ≡ false → (c : ℕ) → has n c ≡ (has m c && not (c == cpu))) →
     (xs ++ only_if keep cpu) ++ members next ≡ members n
-goes_on true xs left next cpu m n e step kept out =
-    append_assoc xs (cpu ∷ []) (members next) ∙ (ap (λ (ys : List ℕ). xs ++ ys) (sym step) ∙ (e ∙ ap members (sym (kept refl))))
-goes_on false xs left next cpu m n e step kept out =
-    ap (λ (ys : List ℕ). ys ++ members next) (append-nil xs)
-    ∙ sym (without_one m n cpu xs (members next) (sym e ∙ ap (λ (ys : List ℕ). xs ++ ys) step) (out refl))
+goes_on true xs left next cpu m n e step kept out = search (append_assoc, arith)
+goes_on false xs left next cpu m n e step kept out = search (append-nil, without_one, arith)

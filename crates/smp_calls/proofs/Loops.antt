@@ -1,5 +1,6 @@
 -- The loops over many CPUs: what holds with some of them left.
-use Rattle.std.proofs.Common.{◌≡◌, ℕ, ◌<◌, ◌==◌, ◌&&◌, not, Bool, true, false, List, [], ◌∷◌, ◌++◌, inl, inr, refl, sym, ap, ◌∙◌, subst}
+use Rattle.std.proofs.Common.{arith}
+use Rattle.std.proofs.Common.{◌≡◌, ℕ, ◌<◌, ◌==◌, ◌&&◌, not, Bool, true, false, List, [], ◌∷◌, ◌++◌, refl, sym, ap, ◌∙◌}
 use Rattle.std.proofs.lemmas.Bool.{cases_eq, ne_eqb, eq-eqb}
 use Rattle.std.proofs.lemmas.List.{append-nil}
 use Rattle.smp_mask.specs.Mask.{has, members}
@@ -84,28 +85,11 @@ module _ {H : Type 0} (leads : H → Heard → H → Type 0) where
         queues = queues_then leads call a.queued q.0 a.queues q.3;
         among = λ c h. a.among c (kept_among asked called called' cpu c kept out h);
         owed_among = λ c h. a.owed_among c (kept_among first owed owed' cpu c owed_kept owed_out h);
-        waiting = λ c l h.
-            let parts = both_true (has left c) (not (c == cpu)) (sym (next_gone left next cpu c step l) ∙ h) in
-            kept_else asked called called' cpu c kept out (not_true (c == cpu) parts.1) ∙ a.waiting c l parts.0;
-        answered = λ c l o n. elim (cases_eq c cpu) [
-          | inl e ↦ subst (λ (x : ℕ). says x (has called' x)) (sym e)
-              (subst (says cpu) (sym (kept_here asked called called' cpu kept out (a.waiting cpu below here))) said)
-          | inr apart ↦
-              let other = ne_eqb c cpu apart in
-              let was : has left c ≡ false = sym (and_true (has left c))
-              ∙ (ap (λ b. has left c && not b) (sym other) ∙ (sym (next_gone left next cpu c step l) ∙ n)) in
-              subst (says c) (sym (kept_else asked called called' cpu c kept out other)) (a.answered c l o was)
-        ];
+        waiting = search (both_true, next_gone, kept_else, not_true, arith);
+        answered = search (cases_eq, kept_here, ne_eqb, and_true, next_gone, kept_else, arith);
       }
 
   pub asking_end : {old new : CpuValue} {before after : H} {says : ℕ → Bool → Type 0} (call : ℕ → Call) (others left called owed : ℕ)
       → Asking leads old before new after says call others left called owed → members left ≡ []
       → QueuesEach leads old before new after says call others called owed
-  asking_end call others left called owed a none = record {
-    queued = a.queued;
-    called_are = sym (append-nil (destinations a.queued)) ∙ (ap (λ (xs : List ℕ). destinations a.queued ++ xs) (sym none) ∙ a.called_are);
-    owed_are = sym (append-nil (firsts a.queued)) ∙ (ap (λ (xs : List ℕ). firsts a.queued ++ xs) (sym none) ∙ a.owed_are);
-    queues = a.queues;
-    picks = record { among = a.among; answered = λ c l o. a.answered c l o (none_left left c none l) };
-    owed_among = a.owed_among;
-  }
+  asking_end call others left called owed a none = search (append-nil, none_left, arith)

@@ -1,6 +1,6 @@
 -- A call by one record: queued, and its interrupt sent.
 use Rattle.std.proofs.Common.{◌≡◌, ℕ, zero, suc, ◌<◌, ◌==◌, ◌||◌, ◌&&◌, not, Bool, true, false, cond, List, [], ◌∷◌, length-set, set, get_or}
-use Rattle.std.proofs.Common.{inl, inr, refl, sym, ap, ◌∙◌, subst, append_assoc, arith}
+use Rattle.std.proofs.Common.{refl, sym, ap, ◌∙◌, subst, append_assoc, arith}
 use Rattle.std.proofs.lemmas.Bool.{cases_eq, ne_eqb, eq-eqb}
 use Rattle.std.proofs.lemmas.List.{get_or-set_other}
 use Rattle.smp_words.proofs.Sizes.{one_local}
@@ -8,7 +8,6 @@ use Rattle.smp_words.specs.Size.{records_of_one, record_of}
 use Rattle.smp_words.specs.declared.call.Class.{Class}
 use Rattle.smp_call_steps.specs.Heads.{Found}
 use Rattle.smp_queue.specs.Cpu.{CpuValue, confirmed_at, posts, sends}
-use Rattle.smp_queue.specs.Names.logged
 use Rattle.smp_queue.specs.declared.handler.Heard.{Heard}
 use Rattle.smp_calls.specs.Families.{IsSized, Leaves, Calls, CallsBy, CallsOne, owes_at}
 use Rattle.smp_calls.specs.Queued.{Queued, sendings, calls_and_interrupts, is_first_to}
@@ -36,34 +35,17 @@ set_false (x ∷ xs) (suc i) = set_false xs i
 
 -- whether two local numbers of one CPU are the same record
 pub same_record : (number j k : ℕ) → j < records_of_one → k < records_of_one → (record_of number j == record_of number k) ≡ (j == k)
-same_record number j k b l = elim (cases_eq j k) [
-  | inl e ↦ rw (eq-eqb j k e) (eq-eqb (record_of number j) (record_of number k) (ap (record_of number) e))
-  | inr n ↦ rw (ne_eqb j k n) (ne_eqb (record_of number j) (record_of number k) (λ e. n (one_local number j k b l e)))
-]
+same_record number j k b l = search (cases_eq, eq-eqb, ne_eqb, one_local, arith)
 
 -- whether a record is confirmed once another one is locked
 pub locks_at : (c : CpuValue) (k j : ℕ) → IsSized c → k < records_of_one → j < records_of_one
     → get_or (set c.part.confirmed (record_of c.number k) false) (record_of c.number j) false
     ≡ cond (record_of c.number j == record_of c.number k) false (confirmed_at c j)
-locks_at c k j s l b = elim (cases_eq j k) [
-  | inl e ↦ rw (eq-eqb (record_of c.number j) (record_of c.number k) (ap (record_of c.number) e))
-      (subst (λ (i : ℕ). get_or (set c.part.confirmed (record_of c.number k) false) (record_of c.number i) false ≡ false) (sym e) (set_here c k false s l))
-  | inr n ↦
-      let apart = λ (e : record_of c.number j ≡ record_of c.number k). n (one_local c.number j k b l e) in
-      rw (ne_eqb (record_of c.number j) (record_of c.number k) apart) (set_else c (record_of c.number k) (record_of c.number j) false apart)
-]
+locks_at c k j s l b = search (cases_eq, eq-eqb, get_or, set, set_here, one_local, ne_eqb, set_else, arith)
 
 -- what is owed once a CPU was sent an interrupt, whether it was owed one or not
 owed_at : (owes : List Bool) (to x : ℕ) → get_or (set (set owes to true) to false) x false ≡ (get_or owes x false && not (to == x || false))
-owed_at owes to x = elim (cases_eq to x) [
-  | inl e ↦
-      rw (eq-eqb to x e) (subst (λ (y : ℕ). get_or (set (set owes to true) to false) y false ≡ (get_or owes y false && false)) e
-      (set_false (set owes to true) to ∙ sym (and_false (get_or owes to false))))
-  | inr n ↦
-      let apart = λ (e : x ≡ to). n (sym e) in
-      rw (ne_eqb to x n) (get_or-set_other (set owes to true) to x false false apart
-      ∙ (get_or-set_other owes to x true false apart ∙ sym (and_true (get_or owes x false))))
-]
+owed_at owes to x = search (cases_eq, eq-eqb, get_or, set, set_false, and_false, ne_eqb, get_or-set_other, and_true, arith)
 
 -- the CPU after one call was queued, with what it has found in the head, and its interrupt sent
 abbrev pub sent_one : ℕ → ℕ → Class → ℕ → ℕ → Bool → Found → CpuValue → CpuValue
@@ -90,32 +72,8 @@ module _ {H : Type 0} (leads : H → Heard → H → Type 0) where
       Leaves leads c h (sent_one k to class func info first found c) h (sendings (λ _. call_by c.number k class func info) (one_queued to first))
       (calls_and_interrupts (one_queued to first))
       (λ x. owes_at c x && not (is_first_to x (one_queued to first))) (λ j. cond (j == k) false (confirmed_at c j))
-  leaves_sent true found c h k to class func info s l = record {
-    table_is = refl;
-    setting_is = refl;
-    number_is = refl;
-    sized = length-set c.part.confirmed (record_of c.number k) false;
-    owes_sized = length-set (set c.part.owes to true) to false ∙ length-set c.part.owes to true;
-    sent_is = refl;
-    log_is = append_assoc c.log (logged.Queued to ∷ []) (logged.Interrupted to ∷ []);
-    tried = omega arith;
-    owes_are = λ x. owed_at c.part.owes to x;
-    confirmed_are = λ j b. locked c c.number k j s l b refl;
-    handled = handles_same leads c (sent_one k to class func info true found c) h refl refl refl;
-  }
-  leaves_sent false found c h k to class func info s l = record {
-    table_is = refl;
-    setting_is = refl;
-    number_is = refl;
-    sized = length-set c.part.confirmed (record_of c.number k) false;
-    owes_sized = refl;
-    sent_is = refl;
-    log_is = refl;
-    tried = omega arith;
-    owes_are = λ x. sym (and_true (owes_at c x));
-    confirmed_are = λ j b. locked c c.number k j s l b refl;
-    handled = handles_same leads c (sent_one k to class func info false found c) h refl refl refl;
-  }
+  leaves_sent true found c h k to class func info s l = search (length-set, set, append_assoc, owed_at, locked, handles_same, arith)
+  leaves_sent false found c h k to class func info s l = search (length-set, and_true, locked, handles_same, arith)
 
   -- the same of a CPU with this number that has become another one
   pub leaves_one : (c d : CpuValue) (h : H) (number k to : ℕ) (class : Class) (func info : ℕ) (first : Bool) (found : Found) → IsSized c
@@ -136,10 +94,7 @@ module _ {H : Type 0} (leads : H → Heard → H → Type 0) where
       → k ≡ single_record wait → class ≡ class_for wait →
       Calls leads old before new after (λ _. call_by old.number k class func info) queued b →
       Calls leads old before new after (λ _. call_by old.number (single_record wait) (class_for wait) func info) queued wait
-  said {old} {new} {before} {after} k class func info queued wait b w is_k is_class made =
-      subst (λ (j : ℕ). Calls leads old before new after (λ _. call_by old.number j (class_for wait) func info) queued wait) is_k
-      (subst (λ (y : Class). Calls leads old before new after (λ _. call_by old.number k y func info) queued wait) is_class
-      (subst (λ (x : Bool). Calls leads old before new after (λ _. call_by old.number k class func info) queued x) (sym w) made))
+  said {old} {new} {before} {after} k class func info queued wait b w is_k is_class made = search arith
 
   -- a record is waited for, a call is queued by it, and where it is to be waited for, that too
   pub calls_one : {old mid new : CpuValue} {before m after : H} (k to : ℕ) (class : Class) (func info : ℕ) (first wait : Bool) (was : ℕ → Bool)

@@ -1,7 +1,7 @@
 -- A call to many, out of its parts.
-use Rattle.std.proofs.Common.{◌≡◌, ℕ, ◌<◌, ◌==◌, ◌||◌, ◌&&◌, not, Bool, true, false, cond, Option, Some, None, List, [], ◌++◌, length, inl, inr, refl}
+use Rattle.std.proofs.Common.{◌≡◌, ℕ, ◌<◌, ◌==◌, ◌||◌, ◌&&◌, not, Bool, true, false, cond, Option, Some, None, List, [], refl}
 use Rattle.std.proofs.Common.{sym, ap, ◌∙◌}
-use Rattle.std.proofs.Common.{subst, arith}
+use Rattle.std.proofs.Common.{arith}
 use Rattle.std.proofs.lemmas.List.{append-nil}
 use Rattle.std.proofs.lemmas.Bool.{cases_eq, ne_eqb, eq-eqb}
 use Rattle.std.proofs.lemmas.Bool.Decides.{nat_tests}
@@ -9,11 +9,10 @@ use Rattle.smp_mask.specs.Mask.{has, members}
 use Rattle.smp_mask.specs.declared.mask.TheConstants.{NR_CPUS}
 use Rattle.smp_words.specs.Size.{cpus, record_of}
 use Rattle.smp_words.specs.declared.call.Class.{Class}
-use Rattle.smp_call_steps.specs.declared.known.Sending.{Sending}
 use Rattle.smp_queue.specs.Cpu.{CpuValue, confirmed_at}
 use Rattle.smp_queue.specs.declared.handler.Heard.{Heard}
 use Rattle.smp_calls.specs.Families.{Leaves, CallsMany, owes_at}
-use Rattle.smp_calls.specs.Queued.{destinations, sendings, calls_to, interrupts_to, is_in, is_first_to, is_used}
+use Rattle.smp_calls.specs.Queued.{interrupts_to, is_in, is_first_to, is_used}
 use Rattle.smp_calls.specs.Records.{many_call}
 use Rattle.smp_calls.specs.Targets.{is_target, remote}
 use Rattle.smp_calls.specs.Rounds.{Picks, Sends, QueuesEach, WaitsFor, HearsIf, is_many}
@@ -49,25 +48,17 @@ all_called others called among every = agreeing called others NR_CPUS (λ c l. s
 -- of the called ones all but this one are remote
 pub others_called : (this called result : ℕ) (here : Bool) → ((c : ℕ) → has result c ≡ (has called c || (here && c == this))) → has called this ≡ false
     → members called ≡ remote this result
-others_called this called result here made out = sym (filter_members result called (λ c. not (c == this)) NR_CPUS (λ c. elim (cases_eq c this) [
-  | inl e ↦ rw (eq-eqb c this e) (subst (λ (x : ℕ). has called x ≡ false) (sym e) out ∙ sym (and_false (has result c)))
-  | inr n ↦
-      sym (ap (λ b. has result c && not b) (ne_eqb c this n)
-      ∙ (and_true (has result c) ∙ (made c
-      ∙ (ap (λ b. has called c || (here && b)) (ne_eqb c this n) ∙ (ap (λ b. has called c || b) (and_false here) ∙ or_false (has called c))))))
-]))
+others_called this called result here made out = search (filter_members, cases_eq, eq-eqb, and_false, ne_eqb, and_true, or_false, arith)
 
 -- this one is called exactly where its function runs here
 pub called_here : (this called result : ℕ) (here : Bool) → ((c : ℕ) → has result c ≡ (has called c || (here && c == this))) → has called this ≡ false
     → has result this ≡ here
-called_here this called result here made out =
-    made this ∙ (ap (λ b. b || (here && this == this)) out ∙ (ap (λ b. here && b) (eq-eqb this this refl) ∙ and_true here))
+called_here this called result here made out = search (eq-eqb, and_true, arith)
 
 -- this CPU is not among the others
 pub not_called : (mask online this others called : ℕ) → ((c : ℕ) → has others c ≡ is_target mask online this false c)
     → ((c : ℕ) → has called c ≡ true → has others c ≡ true) → has called this ≡ false
-not_called mask online this others called are among =
-    none_true (has called this) (λ h. let e = sym (are this) ∙ among this h in let same = eq-eqb this this refl in grind (arith, nat_tests, e, same))
+not_called mask online this others called are among = search (none_true, eq-eqb, nat_tests, arith)
 
 second : (m o n : Bool) → (((m && o) && n) || false) ≡ true → o ≡ true
 second true true n e = refl
@@ -80,18 +71,14 @@ target_online mask online this c e = second (has mask c) (has online c) (not (c 
 
 -- of the others only those are in the mask and online
 others_targets : (mask online this c : ℕ) → (c == this) ≡ false → is_target mask online this false c ≡ is_target mask online this true c
-others_targets mask online this c n = ap (λ b. ((has mask c && has online c) && not b) || ((false && has mask c) && b)) n
-    ∙ (ap (λ b. ((has mask c && has online c) && true) || b) (sym (and_false (has mask c)))
-    ∙ sym (ap (λ b. ((has mask c && has online c) && not b) || ((true && has mask c) && b)) n))
+others_targets mask online this c n = search (and_false, arith)
 
 own_target : (mask online this c : ℕ) → (c == this) ≡ true → is_target mask online this true c ≡ has mask c
-own_target mask online this c e = ap (λ b. ((has mask c && has online c) && not b) || (has mask c && b)) e
-    ∙ (ap (λ b. b || (has mask c && true)) (and_false (has mask c && has online c)) ∙ and_true (has mask c))
+own_target mask online this c e = search (and_false, and_true, arith)
 
 result_else : (this called result c : ℕ) (here : Bool) → ((x : ℕ) → has result x ≡ (has called x || (here && x == this))) → (c == this) ≡ false
     → has result c ≡ has called c
-result_else this called result c here made n =
-    made c ∙ (ap (λ b. has called c || (here && b)) n ∙ (ap (λ b. has called c || b) (and_false here) ∙ or_false (has called c)))
+result_else this called result c here made n = search (and_false, or_false, arith)
 
 -- the others that said yes, with this one where it did
 pub picks_with : (says : ℕ → Bool → Type 0) (mask online this others called result : ℕ) (here : Bool)
@@ -101,46 +88,13 @@ pub picks_with : (says : ℕ → Bool → Type 0) (mask online this others calle
     Picks says (is_target mask online this true) result
 picks_with says mask online this others called result here are picks made member answered =
     let out = not_called mask online this others called are picks.among in
-    let is_here = called_here this called result here made out in
-    record {
-      among = λ c h. elim (cases_eq c this) [
-        | inl e ↦ own_target mask online this c (eq-eqb c this e)
-            ∙ subst (λ (x : ℕ). has mask x ≡ true) (sym e) (member (sym is_here ∙ subst (λ (x : ℕ). has result x ≡ true) e h)).0
-        | inr n ↦
-            let other = ne_eqb c this n in
-            sym (others_targets mask online this c other) ∙ (sym (are c) ∙ picks.among c (sym (result_else this called result c here made other) ∙ h))
-      ];
-      answered = λ c l t. elim (cases_eq c this) [
-        | inl e ↦
-            let mine : has mask this ≡ true = subst (λ (x : ℕ). has mask x ≡ true) e (sym (own_target mask online this c (eq-eqb c this e)) ∙ t) in
-            subst (λ (x : ℕ). says x (has result x)) (sym e) (subst (says this) (sym is_here) (answered mine (subst (λ (x : ℕ). x < cpus) e l)))
-        | inr n ↦
-            let other = ne_eqb c this n in
-            subst (says c) (sym (result_else this called result c here made other)) (picks.answered c l (are c ∙ (others_targets mask online this c other ∙ t)))
-      ];
-    }
+    search (called_here, out, cases_eq, own_target, eq-eqb, ne_eqb, others_targets, result_else, arith)
 
 module _ {H : Type 0} (leads : H → Heard → H → Type 0) where
   -- sending changes nothing but what is owed and logged
   leaves_sends : (c d : CpuValue) (h : H) (to : List ℕ) → Sends c d to
       → Leaves leads c h d h [] (interrupts_to to) (λ x. owes_at c x && not (is_in x to)) (confirmed_at c)
-  leaves_sends c d h to s =
-      let field = s.others_are in
-      let tries : d.tried ≡ c.tried = ap (λ (x : CpuValue). x.tried) field in
-      record {
-        table_is = ap (λ (x : CpuValue). x.table) field;
-        setting_is = ap (λ (x : CpuValue). x.setting) field;
-        number_is = ap (λ (x : CpuValue). x.number) field;
-        sized = ap (λ (x : CpuValue). length x.part.confirmed) field;
-        owes_sized = s.owes_sized;
-        sent_is = ap (λ (x : CpuValue). x.part.sent) field ∙ sym (append-nil c.part.sent);
-        log_is = ap (λ (x : CpuValue). x.log) field;
-        tried = omega arith;
-        owes_are = s.owes_are;
-        confirmed_are = λ k b. ap (λ (x : CpuValue). confirmed_at x k) field;
-        handled = handles_same leads c d h (ap (λ (x : CpuValue). x.part.asked) field) (ap (λ (x : CpuValue). x.part.taken) field)
-            (ap (λ (x : CpuValue). x.part.ran) field);
-      }
+  leaves_sends c d h to s = search (append-nil, handles_same, arith)
 
   -- all calls are queued, and then all interrupts sent
   pub calls_all : {old mid new : CpuValue} {before m : H} {says : ℕ → Bool → Type 0} (class : Class) (func info : ℕ) (others called owed : ℕ) →
@@ -149,18 +103,7 @@ module _ {H : Type 0} (leads : H → Heard → H → Type 0) where
   calls_all {old} {mid} {new} {before} {m} class func info others called owed q s =
       let call = many_call old.number class func info in
       let both = leaves_then leads q.queues.leaves (leaves_sends mid new m (members owed) s) in
-      let sent = subst (λ (xs : List Sending). Leaves leads old before new m xs (calls_to (destinations q.queued) ++ interrupts_to (members owed))
-      (λ x. owes_at mid x && not (is_in x (members owed))) (confirmed_at mid)) (append-nil (sendings call q.queued)) both in
-      let logs = subst (λ (xs : List ℕ). Leaves leads old before new m (sendings call q.queued) (calls_to (destinations q.queued) ++ interrupts_to xs)
-      (λ x. owes_at mid x && not (is_in x (members owed))) (confirmed_at mid)) (sym q.owed_are) sent in (
-        q.queued,
-        q.called_are,
-        leaves_as leads (λ c. owes_at old c && not (is_first_to c q.queued))
-            (λ k. cond (is_used call (record_of old.number k) q.queued) false (confirmed_at old k)) logs
-            (λ c. ap (λ (xs : List ℕ). owes_at mid c && not (is_in c xs)) (sym q.owed_are)
-            ∙ owed_by (is_first_to c q.queued) (owes_at mid c) (owes_at old c) (q.queues.kept c))
-            q.queues.leaves.confirmed_are,
-      )
+      search (append-nil, call, both, leaves_as, owed_by, arith)
 
   -- and then waited for, with a direct call before or not
   pub calls_waited_for : (old mid new : CpuValue) (before m after : H) (class : Class) (func info : ℕ) (to : List ℕ) (here : Option Heard) (wait : Bool) →
@@ -203,10 +146,5 @@ module _ {H : Type 0} (leads : H → Heard → H → Type 0) where
   pub calls_then_here : (old mid : CpuValue) (before m after : H) (class : Class) (func info : ℕ) (to : List ℕ) (here : Option Heard) →
       CallsMany leads old before mid m to class func info None false → HearsIf leads m here after →
       CallsMany leads old before mid after to class func info here false
-  calls_then_here old mid before m after class func info to None f e = subst (λ (x : H). CallsMany leads old before mid x to class func info None false)
-      (sym e) f
-  calls_then_here old mid before m after class func info to (Some heard) f call = (
-    f.0,
-    f.1,
-    record { middle = mid; called = m; ended = after; first = f.2; here = call; later = leaves_none leads mid after },
-  )
+  calls_then_here old mid before m after class func info to None f e = search arith
+  calls_then_here old mid before m after class func info to (Some heard) f call = search leaves_none

@@ -1,6 +1,7 @@
 -- The loops that send an interrupt to each of many CPUs, and that wait for the record of each.
-use Rattle.std.proofs.Common.{◌≡◌, length, length-set, ℕ, ◌<◌, ◌==◌, ◌||◌, ◌&&◌, not, Bool, true, false, List, [], ◌∷◌, ◌++◌, append_assoc, set, get_or}
-use Rattle.std.proofs.Common.{inl, inr, refl, sym, ap, ◌∙◌, subst}
+use Rattle.std.proofs.Common.{arith}
+use Rattle.std.proofs.Common.{◌≡◌, length-set, ℕ, ◌<◌, ◌==◌, ◌||◌, ◌&&◌, not, Bool, true, false, List, [], ◌∷◌, ◌++◌, append_assoc, set, get_or}
+use Rattle.std.proofs.Common.{refl, sym, ap, ◌∙◌}
 use Rattle.std.proofs.lemmas.Bool.{cases_eq, ne_eqb, eq-eqb}
 use Rattle.std.proofs.lemmas.List.{append-nil, get_or-set_other}
 use Rattle.smp_mask.specs.Mask.{has, members}
@@ -11,7 +12,7 @@ use Rattle.smp_call_steps.specs.declared.known.Logged.{Logged}
 use Rattle.smp_call_steps.specs.declared.known.Logged.TheVariants as logged
 use Rattle.smp_queue.specs.declared.handler.Heard.{Heard}
 use Rattle.smp_calls.specs.Families.{Leaves, owes_at}
-use Rattle.smp_calls.specs.Queued.{is_in, interrupts_to}
+use Rattle.smp_calls.specs.Queued.{interrupts_to}
 use Rattle.smp_calls.specs.Records.{many_record}
 use Rattle.smp_calls.specs.Rounds.{Sends, WaitsFor, is_many}
 use Rattle.smp_calls.proofs.Steps.{leaves_none, leaves_as, leaves_then}
@@ -51,8 +52,7 @@ interrupts_to-push (y ∷ ys) x = ap (λ (zs : List Logged). logged.Interrupted 
 
 -- the log of one interrupt more
 interrupts_to-more : (log : List Logged) (xs : List ℕ) (x : ℕ) → (log ++ interrupts_to xs) ++ logged.Interrupted x ∷ [] ≡ log ++ interrupts_to (xs ++ x ∷ [])
-interrupts_to-more log xs x =
-    append_assoc log (interrupts_to xs) (logged.Interrupted x ∷ []) ∙ ap (λ (zs : List Logged). log ++ zs) (interrupts_to-push xs x)
+interrupts_to-more log xs x = search (append_assoc, interrupts_to-push)
 
 all_in : (o i : Bool) → false ≡ (o && not (i || true))
 all_in true true = refl
@@ -61,28 +61,10 @@ all_in false i = refl
 
 owed_after : (owes : List Bool) (cpu c : ℕ) (o i : Bool) → get_or owes c false ≡ (o && not i)
     → get_or (set owes cpu false) c false ≡ (o && not (i || (cpu == c || false)))
-owed_after owes cpu c o i e = elim (cases_eq c cpu) [
-  | inl same ↦
-      rw (eq-eqb cpu c (sym same)) (subst (λ (x : ℕ). get_or (set owes cpu false) x false ≡ (o && not (i || true))) (sym same)
-      (set_false owes cpu ∙ all_in o i))
-  | inr apart ↦
-      rw (ne_eqb cpu c (λ h. apart (sym h))) (get_or-set_other owes cpu c false false apart ∙ (e ∙ ap (λ b. o && not b) (sym (or_false i))))
-]
+owed_after owes cpu c o i e = search (cases_eq, eq-eqb, get_or, set, set_false, all_in, ne_eqb, get_or-set_other, or_false, arith)
 
 pub sends_more : (old mid new : CpuValue) (cpu : ℕ) (xs : List ℕ) → Sends old mid xs → new ≡ sends cpu mid → Sends old new (xs ++ cpu ∷ [])
-sends_more old mid new cpu xs s e =
-    let owes : new.part.owes ≡ set mid.part.owes cpu false = ap (λ (x : CpuValue). x.part.owes) e in
-    record {
-      others_are =
-          e ∙ (ap (λ (x : CpuValue). record x { part = record (x.part) { owes = set mid.part.owes cpu false }; log = x.log ++ logged.Interrupted cpu ∷ [] })
-          s.others_are
-          ∙ (λ i. record old { part = record (old.part) { owes = sym owes i }; log = interrupts_to-more old.log xs cpu i }));
-      owes_sized = ap length owes ∙ (length-set mid.part.owes cpu false ∙ s.owes_sized);
-      owes_are = λ c.
-          ap (λ (o : List Bool). get_or o c false) owes ∙
-          (owed_after mid.part.owes cpu c (owes_at old c) (is_in c xs) (s.owes_are c) ∙
-          ap (λ b. owes_at old c && not b) (sym (is_in-append c xs (cpu ∷ []))));
-    }
+sends_more old mid new cpu xs s e = search (set, interrupts_to-more, length-set, get_or, owed_after, is_in-append, arith)
 
 -- ---- waiting
 

@@ -1,5 +1,5 @@
 -- One more of many CPUs.
-use Rattle.std.proofs.Common.{◌≡◌, length, ℕ, ◌<◌, ◌==◌, ◌||◌, Bool, true, false, cond, List, [], ◌∷◌, ◌++◌, length-set, set, get_or, inl, inr, refl, sym}
+use Rattle.std.proofs.Common.{◌≡◌, length, ℕ, ◌<◌, ◌==◌, ◌||◌, Bool, true, false, cond, List, [], ◌∷◌, ◌++◌, length-set, set, get_or, refl, sym}
 use Rattle.std.proofs.Common.{ap, ◌∙◌, subst, arith}
 use Rattle.std.proofs.lemmas.Bool.{cases_eq, cases_Bool, eq-eqb, eqb-true, or_parts}
 use Rattle.std.proofs.lemmas.List.{get_or-set_same, get_or-set_other}
@@ -71,23 +71,16 @@ false_true false e h = cc
 
 other_record : (number j k to : ℕ) → j < records_of_one → k < records_of_one → k ≡ many_record to
     → (record_of number j == record_of number (many_record to) || false) ≡ false → (j == k) ≡ false
-other_record number j k to b l is_k unused =
-    sym (same_record number j k b l)
-    ∙ (ap (λ (i : ℕ). record_of number j == record_of number i) is_k ∙ (sym (or_false (record_of number j == record_of number (many_record to))) ∙ unused))
+other_record number j k to b l is_k unused = search (same_record, or_false, arith)
 
 owed_else : (first : Bool) (owes : List Bool) (to c : ℕ) → is_first_to c (one_queued to first) ≡ false
     → get_or (cond first (set owes to true) owes) c false ≡ get_or owes c false
-owed_else true owes to c e = elim (cases_eq c to) [
-  | inl same ↦ absurd (false_true (to == c) e (eq-eqb to c (sym same)))
-  | inr apart ↦ get_or-set_other owes to c true false apart
-]
+owed_else true owes to c e = search (cases_eq, false_true, eq-eqb, get_or-set_other, arith)
 owed_else false owes to c e = refl
 
 owed_then : (first : Bool) (owes : List Bool) (to c : ℕ) → is_first_to c (one_queued to first) ≡ true → c < length owes
     → get_or (cond first (set owes to true) owes) c false ≡ true
-owed_then true owes to c e l =
-    let same : to ≡ c = eqb-true to c (sym (or_false (to == c)) ∙ e) in
-    subst (λ (x : ℕ). get_or (set owes to true) x false ≡ true) same (get_or-set_same owes to true false (subst (λ (x : ℕ). x < length owes) (sym same) l))
+owed_then true owes to c e l = search (eqb-true, or_false, get_or, set, get_or-set_same, arith)
 owed_then false owes to c e l = cc
 
 owes_length : (first : Bool) (owes : List Bool) (to : ℕ) → length (cond first (set owes to true) owes) ≡ length owes
@@ -105,24 +98,7 @@ module _ {H : Type 0} (leads : H → Heard → H → Type 0) where
   -- the step of a post alone
   queues_post : (c : CpuValue) (h : H) (to : ℕ) (class : Class) (func info : ℕ) (first : Bool) (found : Found) → IsSized c → many_record to < records_of_one →
       Queues leads c h (posts (many_record to) to class func info first found c) h (many_call c.number class func info) (one_queued to first)
-  queues_post c h to class func info first found s l = record {
-    leaves = record {
-      table_is = refl;
-      setting_is = refl;
-      number_is = refl;
-      sized = length-set c.part.confirmed (record_of c.number (many_record to)) false;
-      owes_sized = owes_length first c.part.owes to;
-      sent_is = refl;
-      log_is = refl;
-      tried = omega arith;
-      owes_are = λ x. refl;
-      confirmed_are = λ j b. locks_at c (many_record to) j s l b
-          ∙ ap (λ x. cond x false (confirmed_at c j)) (sym (or_false (record_of c.number j == record_of c.number (many_record to))));
-      handled = handles_same leads c (posts (many_record to) to class func info first found c) h refl refl refl;
-    };
-    kept = λ x e. owed_else first c.part.owes to x e;
-    due = λ x e l. owed_then first c.part.owes to x e l;
-  }
+  queues_post c h to class func info first found s l = search (length-set, owes_length, locks_at, or_false, handles_same, owed_else, owed_then, arith)
 
   -- one queueing after the other
   pub queues_then : {old mid new : CpuValue} {before m after : H} (call : ℕ → Call) (xs ys : List Queued) → Queues leads old before mid m call xs
@@ -134,26 +110,7 @@ module _ {H : Type 0} (leads : H → Heard → H → Type 0) where
       (λ k. cond (is_used call (record_of mid.number k) ys) false (confirmed_at mid k))) (sym (sendings-append call xs ys))
       (subst (λ (log : List Logged). Leaves leads old before new after (sendings call xs ++ sendings call ys) log (owes_at new)
       (λ k. cond (is_used call (record_of mid.number k) ys) false (confirmed_at mid k))) (calls_to-both xs ys) both) in
-      record {
-        leaves = leaves_as leads (owes_at new) (λ k. cond (is_used call (record_of old.number k) (xs ++ ys)) false (confirmed_at old k)) as_one (λ c. refl)
-            (λ k b.
-            ap (λ (n : ℕ). cond (is_used call (record_of n k) ys) false (confirmed_at mid k)) f.leaves.number_is ∙
-            (ap (cond (is_used call (record_of old.number k) ys) false) (f.leaves.confirmed_are k b) ∙
-            (cond_both (is_used call (record_of old.number k) xs) (is_used call (record_of old.number k) ys) (confirmed_at old k) ∙
-            ap (λ x. cond x false (confirmed_at old k))
-            (sym (ap (is_by (λ to. (call to).id) (record_of old.number k)) (destinations-append xs ys)
-            ∙ is_by-append (λ to. (call to).id) (record_of old.number k) (destinations xs) (destinations ys))))));
-        kept = λ c e.
-            let parts = or_parts (is_first_to c xs) (is_first_to c ys) (sym (ap (is_in c) (firsts-append xs ys) ∙ is_in-append c (firsts xs) (firsts ys)) ∙ e)
-            in
-            g.kept c parts.1 ∙ f.kept c parts.0;
-        due = λ c e l. elim (cases_Bool (is_first_to c ys)) [
-          | inl last ↦ g.due c last (subst (λ (n : ℕ). c < n) (sym f.leaves.owes_sized) l)
-          | inr not_last ↦ g.kept c not_last
-              ∙ f.due c (first_one (is_first_to c xs) (is_first_to c ys) (sym (ap (is_in c) (firsts-append xs ys) ∙ is_in-append c (firsts xs) (firsts ys)) ∙ e)
-              not_last) l
-        ];
-      }
+      search (leaves_as, as_one, cond_both, destinations-append, is_by-append, or_parts, firsts-append, is_in-append, cases_Bool, first_one, arith)
 
   -- the record was waited for before
   pub queues_one : {old mid new : CpuValue} {before m : H} (k to : ℕ) (class : Class) (func info : ℕ) (asked first : Bool) (found : Found) → asked ≡ true
@@ -178,11 +135,7 @@ module _ {H : Type 0} (leads : H → Heard → H → Type 0) where
         ap (λ b. only_if b to) (sym is_asked),
         refl,
         record {
-          leaves = leaves_as leads (owes_at new) (λ j. cond (is_used call (record_of old.number j) (one_queued to first)) false (confirmed_at old j)) both
-              (λ c. refl) (λ j b.
-              ap (λ (n : ℕ). cond (is_used call (record_of n j) (one_queued to first)) false (confirmed_at mid j)) f.number_is ∙
-              by_case (is_used call (record_of old.number j) (one_queued to first)) false (confirmed_at mid j) (confirmed_at old j)
-              (λ unused. f.confirmed_are j b ∙ ap (λ x. x || confirmed_at old j) (other_record old.number j k to b l is_k unused)));
+          leaves = search (leaves_as, one_queued, by_case, other_record, arith);
           kept = λ c none. posted.kept c none ∙ f.owes_are c;
           due = λ c it below. posted.due c it (subst (λ (n : ℕ). c < n) (sym f.owes_sized) below);
         },

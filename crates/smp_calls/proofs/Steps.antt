@@ -1,6 +1,6 @@
 -- What one step of a call leaves, and one step after the other.
 use Rattle.std.proofs.Common.{◌≡◌, ℕ, ◌<◌, ◌==◌, ◌||◌, Bool, true, false, List, [], ◌++◌, append_assoc, length, length-append, length-set, slice_index_or}
-use Rattle.std.proofs.Common.{slice_set, inl, inr, refl, sym, ap, ◌∙◌, subst, arith}
+use Rattle.std.proofs.Common.{slice_set, refl, sym, ap, ◌∙◌, subst, arith}
 use Rattle.std.proofs.lemmas.List.{append-nil, get_or-set_same, get_or-set_other}
 use Rattle.std.proofs.lemmas.Bool.{cases_eq, ne_eqb, eq-eqb}
 use Rattle.smp_words.specs.Size.{cpus, records_of_one, record_of}
@@ -22,10 +22,7 @@ sized_moved c d n e s = record { number = subst (λ (m : ℕ). m < cpus) (sym n)
 -- a record that is stored as confirmed or not, and the others
 pub set_here : (c : CpuValue) (k : ℕ) (b : Bool) → IsSized c → k < records_of_one
     → slice_index_or (slice_set c.part.confirmed (record_of c.number k) b) (record_of c.number k) false ≡ b
-set_here c k b s l =
-    let e = s.records_are in
-    let below = record_of-below c.number k s.number l in
-    get_or-set_same c.part.confirmed (record_of c.number k) b false (omega arith)
+set_here c k b s l = search (record_of-below, get_or-set_same, arith)
 
 pub set_else : (c : CpuValue) (i j : ℕ) (b : Bool) → (j ≡ i → ⊥)
     → slice_index_or (slice_set c.part.confirmed i b) j false ≡ slice_index_or c.part.confirmed j false
@@ -33,125 +30,41 @@ set_else c i j b other = get_or-set_other c.part.confirmed i j b false other
 
 -- whether a record is confirmed once that of number k is
 pub confirms_at : (c : CpuValue) (k j : ℕ) → IsSized c → k < records_of_one → j < records_of_one → confirmed_at (confirms k c) j ≡ (j == k || confirmed_at c j)
-confirms_at c k j s l b = elim (cases_eq j k) [
-  | inl e ↦
-      rw (eq-eqb j k e) (subst (λ (i : ℕ). slice_index_or (slice_set c.part.confirmed (record_of c.number k) true) (record_of c.number i) false ≡ true) (sym e)
-      (set_here c k true s l))
-  | inr n ↦ rw (ne_eqb j k n) (set_else c (record_of c.number k) (record_of c.number j) true (λ e. n (one_local c.number j k b l e)))
-]
+confirms_at c k j s l b = search (cases_eq, eq-eqb, slice_index_or, slice_set, set_here, ne_eqb, set_else, one_local, arith)
 
 module _ {H : Type 0} (leads : H → Heard → H → Type 0) where
   pub leaves_none : (c : CpuValue) (h : H) → Leaves leads c h c h [] [] (owes_at c) (confirmed_at c)
-  leaves_none c h = record {
-    table_is = refl;
-    setting_is = refl;
-    number_is = refl;
-    sized = refl;
-    owes_sized = refl;
-    sent_is = sym (append-nil c.part.sent);
-    log_is = sym (append-nil c.log);
-    tried = omega arith;
-    owes_are = λ x. refl;
-    confirmed_are = λ k l. refl;
-    handled = handles_none leads c h;
-  }
+  leaves_none c h = search (append-nil, handles_none, arith)
 
   -- the same, with what it owes and has confirmed said in other words
   pub leaves_as : {old new : CpuValue} {before after : H} {sent : List Sending} {log : List Logged} {o d : ℕ → Bool} (p e : ℕ → Bool)
       → Leaves leads old before new after sent log o d → ((c : ℕ) → o c ≡ p c) → ((k : ℕ) → k < records_of_one → d k ≡ e k)
       → Leaves leads old before new after sent log p e
-  leaves_as p e l same alike = record {
-    table_is = l.table_is;
-    setting_is = l.setting_is;
-    number_is = l.number_is;
-    sized = l.sized;
-    owes_sized = l.owes_sized;
-    sent_is = l.sent_is;
-    log_is = l.log_is;
-    tried = l.tried;
-    owes_are = λ c. l.owes_are c ∙ same c;
-    confirmed_are = λ k b. l.confirmed_are k b ∙ alike k b;
-    handled = l.handled;
-  }
+  leaves_as p e l same alike = search arith
 
   pub leaves_then : {old mid new : CpuValue} {before m after : H} {s t : List Sending} {x y : List Logged} {o d p e : ℕ → Bool}
       → Leaves leads old before mid m s x o d → Leaves leads mid m new after t y p e → Leaves leads old before new after (s ++ t) (x ++ y) p e
-  leaves_then {old} {mid} {new} {before} {m} {after} {s} {t} {x} {y} f l = record {
-    table_is = l.table_is ∙ f.table_is;
-    setting_is = l.setting_is ∙ f.setting_is;
-    number_is = l.number_is ∙ f.number_is;
-    sized = l.sized ∙ f.sized;
-    owes_sized = l.owes_sized ∙ f.owes_sized;
-    sent_is = l.sent_is ∙ (ap (λ (xs : List Sending). xs ++ t) f.sent_is ∙ append_assoc old.part.sent s t);
-    log_is = l.log_is ∙ (ap (λ (xs : List Logged). xs ++ y) f.log_is ∙ append_assoc old.log x y);
-    tried = let first = f.tried in let later = l.tried in let both = length-append s t in omega arith;
-    owes_are = l.owes_are;
-    confirmed_are = l.confirmed_are;
-    handled = handles_then leads old mid new before m after f.handled l.handled;
-  }
+  leaves_then {old} {mid} {new} {before} {m} {after} {s} {t} {x} {y} f l = search (append_assoc, length-append, handles_then, arith)
 
   -- and where nothing is sent any more
   pub leaves_last : {old new : CpuValue} {before after : H} {s : List Sending} {x : List Logged} {o d : ℕ → Bool}
       → Leaves leads old before new after (s ++ []) (x ++ []) o d → Leaves leads old before new after s x o d
-  leaves_last {old} {new} {before} {after} {s} {x} {o} {d} l =
-      subst (λ (xs : List Sending). Leaves leads old before new after xs x o d) (append-nil s)
-      (subst (λ (ys : List Logged). Leaves leads old before new after (s ++ []) ys o d) (append-nil x) l)
+  leaves_last {old} {new} {before} {after} {s} {x} {o} {d} l = search (append-nil, arith)
 
   -- one look at the interrupt word, by what `handle` answers
   pub leaves_handled : (interrupted : Bool) (c d : CpuValue) (h i : H) →
       (interrupted ≡ true → (batch : List Call) × (d ≡ drains batch (asks true c)) × Grows leads h (order batch) i) →
       (interrupted ≡ false → (d ≡ asks false c) × (i ≡ h)) →
       Leaves leads c h d i [] [] (owes_at c) (confirmed_at c)
-  leaves_handled true c d h i took idle =
-      let t = took refl in
-      subst (λ (x : CpuValue). Leaves leads c h x i [] [] (owes_at c) (confirmed_at c)) (sym t.1)
-      (record {
-        table_is = refl;
-        setting_is = refl;
-        number_is = refl;
-        sized = refl;
-        owes_sized = refl;
-        sent_is = sym (append-nil c.part.sent);
-        log_is = sym (append-nil c.log);
-        tried = omega arith;
-        owes_are = λ x. refl;
-        confirmed_are = λ k l. refl;
-        handled = handles_batch leads c t.0 h i t.2;
-      })
+  leaves_handled true c d h i took idle = search (append-nil, handles_batch, arith)
   leaves_handled false c d h i took idle =
       let n = idle refl in
-      subst (λ (x : CpuValue). Leaves leads c h x i [] [] (owes_at c) (confirmed_at c)) (sym n.0)
-      (subst (λ (y : H). Leaves leads c h (asks false c) y [] [] (owes_at c) (confirmed_at c)) (sym n.1)
-      (record {
-        table_is = refl;
-        setting_is = refl;
-        number_is = refl;
-        sized = refl;
-        owes_sized = refl;
-        sent_is = sym (append-nil c.part.sent);
-        log_is = sym (append-nil c.log);
-        tried = omega arith;
-        owes_are = λ x. refl;
-        confirmed_are = λ k l. refl;
-        handled = handles_nothing leads c h;
-      }))
+      search (n, append-nil, handles_nothing, arith)
 
   -- a record is seen confirmed
   pub leaves_confirmed : (c d : CpuValue) (h : H) (k : ℕ) → IsSized c → k < records_of_one → d ≡ confirms k c
       → Leaves leads c h d h [] [] (owes_at c) (λ j. j == k || confirmed_at c j)
-  leaves_confirmed c d h k s l e = subst (λ (x : CpuValue). Leaves leads c h x h [] [] (owes_at c) (λ j. j == k || confirmed_at c j)) (sym e) (record {
-    table_is = refl;
-    setting_is = refl;
-    number_is = refl;
-    sized = length-set c.part.confirmed (record_of c.number k) true;
-    owes_sized = refl;
-    sent_is = sym (append-nil c.part.sent);
-    log_is = sym (append-nil c.log);
-    tried = omega arith;
-    owes_are = λ x. refl;
-    confirmed_are = λ j b. confirms_at c k j s l b;
-    handled = handles_same leads c (confirms k c) h refl refl refl;
-  })
+  leaves_confirmed c d h k s l e = search (length-set, append-nil, confirms_at, handles_same, arith)
 
   -- the same after some waiting
   pub leaves_ended : (old mid new : CpuValue) (before m : H) (k : ℕ) → IsSized old → k < records_of_one

@@ -1,4 +1,5 @@
 -- Handling twice is handling once, with the turns of both.
+use Rattle.std.proofs.Common.{arith}
 use Rattle.std.proofs.Common.{◌≡◌, Bool, true, false, Option, Some, None, List, [], ◌∷◌, ◌++◌, append_assoc, refl, sym, ap, ◌∙◌, subst}
 use Rattle.std.specs.List.{FoldsTo}
 use Rattle.std.proofs.lemmas.List.{append-nil}
@@ -35,13 +36,7 @@ grown xs ys zs us vs e f = f ∙ (ap (λ (ws : List _). ws ++ vs) e ∙ append_a
 module _ {H : Type 0} (leads : H → Heard → H → Type 0) where
   -- no look at all, whatever else the CPU has done
   pub handles_same : (c d : CpuValue) (h : H) → d.part.asked ≡ c.part.asked → d.part.taken ≡ c.part.taken → d.part.ran ≡ c.part.ran → Handles leads c h d h
-  handles_same c d h asked taken ran = record {
-    turns = [];
-    asked_is = asked ∙ sym (append-nil c.part.asked);
-    taken_is = taken ∙ sym (append-nil c.part.taken);
-    ran_is = ran ∙ sym (append-nil c.part.ran);
-    grows = refl;
-  }
+  handles_same c d h asked taken ran = search (append-nil, arith)
 
   pub handles_none : (c : CpuValue) (h : H) → Handles leads c h c h
   handles_none c h = handles_same c c h refl refl refl
@@ -51,17 +46,7 @@ module _ {H : Type 0} (leads : H → Heard → H → Type 0) where
   handles_then old mid new before m after f l =
       let split : orders (batches (f.turns ++ l.turns)) ≡ orders (batches f.turns) ++ orders (batches l.turns) =
       ap orders (batches-append f.turns l.turns) ∙ orders-append (batches f.turns) (batches l.turns) in
-      record {
-        turns = f.turns ++ l.turns;
-        asked_is = grown old.part.asked mid.part.asked new.part.asked (looks f.turns) (looks l.turns) f.asked_is l.asked_is
-            ∙ ap (λ (xs : List _). old.part.asked ++ xs) (sym (looks-append f.turns l.turns));
-        taken_is = grown old.part.taken mid.part.taken new.part.taken (batches f.turns) (batches l.turns) f.taken_is l.taken_is
-            ∙ ap (λ (xs : List (List Call)). old.part.taken ++ xs) (sym (batches-append f.turns l.turns));
-        ran_is = grown old.part.ran mid.part.ran new.part.ran (orders (batches f.turns)) (orders (batches l.turns)) f.ran_is l.ran_is
-            ∙ ap (λ (xs : List Call). old.part.ran ++ xs) (sym split);
-        grows = subst (λ (xs : List Call). Grows leads before xs after) (sym split)
-            (folds-append _ (orders (batches f.turns)) (orders (batches l.turns)) before m after f.grows l.grows);
-      }
+      search (grown, looks-append, batches-append, split, folds-append, arith)
 
   -- one look that found nothing
   pub handles_nothing : (c : CpuValue) (h : H) → Handles leads c h (asks false c) h

@@ -1,4 +1,5 @@
 -- The calls that were sent and those that were queued, with one more.
+use Rattle.std.proofs.Common.{arith}
 use Rattle.std.proofs.Common.{◌≡◌, ◌≢◌, ℕ, Bool, true, false, cond, ◌==◌, List, [], ◌∷◌, ◌++◌, sym, refl, ap, ◌∙◌, append_assoc}
 use Rattle.std.proofs.lemmas.Bool.{eq-eqb, ne_eqb}
 use Rattle.smp_words.specs.Size.{owner}
@@ -15,14 +16,12 @@ push_if false x rest ys = refl
 
 pub sent_to-push : (cpu : ℕ) (xs : List Sending) (y : Sending) → sent_to cpu (xs ++ y ∷ []) ≡ sent_to cpu xs ++ one_if (y.to == cpu) (mark y.is_first y.call)
 sent_to-push cpu [] y = refl
-sent_to-push cpu (x ∷ xs) y =
-    rw (sent_to-push cpu xs y) (push_if (x.to == cpu) (mark x.is_first x.call) (sent_to cpu xs) (one_if (y.to == cpu) (mark y.is_first y.call)))
+sent_to-push cpu (x ∷ xs) y = search (push_if, sent_to-push cpu xs y, arith)
 
 pub marked_from-push : (source : ℕ) (xs : List Marked) (y : Marked)
     → marked_from source (xs ++ y ∷ []) ≡ marked_from source xs ++ one_if (owner y.call.id == source) y
 marked_from-push source [] y = refl
-marked_from-push source (x ∷ xs) y =
-    rw (marked_from-push source xs y) (push_if (owner x.call.id == source) x (marked_from source xs) (one_if (owner y.call.id == source) y))
+marked_from-push source (x ∷ xs) y = search (push_if, marked_from-push source xs y, arith)
 
 pub calls_from-push : (source : ℕ) (xs : List Call) (y : Call) → calls_from source (xs ++ y ∷ []) ≡ calls_from source xs ++ one_if (owner y.id == source) y
 calls_from-push source [] y = refl
@@ -45,5 +44,4 @@ marked-push (x ∷ xs) y = ap (λ (ms : List Marked). mark true x ∷ ms) (other
 
 pub history-push : (taken : List (List Call)) (queue : List Call) (y : Call)
     → history_of taken (queue ++ y ∷ []) ≡ history_of taken queue ++ mark (is_nil queue) y ∷ []
-history-push taken queue y = ap (λ (ms : List Marked). batches_marked taken ++ ms) (marked-push queue y)
-    ∙ sym (append_assoc (batches_marked taken) (marked queue) (mark (is_nil queue) y ∷ []))
+history-push taken queue y = search (marked-push, append_assoc, arith)

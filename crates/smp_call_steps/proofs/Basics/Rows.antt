@@ -14,15 +14,12 @@ row-same : {A : Type 0} (n : ℕ) (f g : ℕ → A) → ((k : ℕ) → f k ≡ g
 row-same n f g h = ap (row n) (λ i k. h k i)
 
 put_suc : {A : Type 0} (f : ℕ → A) (i : ℕ) (x : A) (k : ℕ) → put f (suc i) x (suc k) ≡ put (λ k. f (suc k)) i x k
-put_suc f i x k = at_test k i (λ b. put f (suc i) x (suc k) ≡ cond b x (f (suc k)))
-    (λ e. rw e (put_same f (suc i) x))
-    (λ ne. put_other f (suc i) x (suc k) (λ e. ne (omega (arith, e))))
+put_suc f i x k = search (at_test, put_same, put_other, arith)
 
 pub row-put : {A : Type 0} (n i : ℕ) (f : ℕ → A) (x : A) → row n (put f i x) ≡ set (row n f) i x
 unfolding row
 row-put zero i f x = refl
-row-put {A} (suc n) zero f x =
-    (λ j. put_same f zero x j ∷ row-same n (λ k. put f zero x (suc k)) (λ k. f (suc k)) (λ k. put_other f zero x (suc k) (omega arith)) j)
+row-put {A} (suc n) zero f x = search (put_same, row-same, put_other, arith)
 row-put {A} (suc n) (suc i) f x =
     (λ j. put_other f (suc i) x zero (omega arith) j ∷
     (row-same n (λ k. put f (suc i) x (suc k)) (put (λ k. f (suc k)) i x) (put_suc f i x) ∙ row-put n i (λ k. f (suc k)) x) j)

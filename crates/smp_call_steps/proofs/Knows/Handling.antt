@@ -69,11 +69,7 @@ module _ {v : Known} (l : Lives v) where
     at_stage = told_there (l.controls v.number).stage h told
 
     stands_there : (v.number < cpus) × HandleStands (nexts_in l.at) (share_in v.part) v.drain h
-    stands_there =
-        let k : StandsAt l.calls.place l.at (share_of l.calls v.number) (l.controls v.number).drain v.number (Some (Handle h)) =
-        rw at_stage at (l.shown.stands v.number) in
-        subst (λ (d : DrainValue). (v.number < cpus) × HandleStands (nexts_in l.at) (share_in v.part) d h) l.sees.drain
-        (subst (λ (s : Share). (v.number < cpus) × HandleStands (nexts_in l.at) s (l.controls v.number).drain h) same_share k)
+    stands_there = search (same_share, arith)
 
     pub lives_below : v.number < cpus
     lives_below = stands_there.0
@@ -105,10 +101,7 @@ module _ {v : Known} (l : Lives v) where
 
   -- a record of the batch that is loaded is locked
   lives_placed : (id : ℕ) (call : Call) → call.id ≡ id → IsPlaced l.calls.place (place.Batch v.number) call → (id < records) × (l.at (Flags id) % 2 ≡ 1)
-  lives_placed id call e q = (
-    subst (λ (n : ℕ). n < records) e q.is_call.in_range,
-    subst (λ (p : RecPlace). FlagsShow p (l.at (Flags id))) (ap l.calls.place (sym e) ∙ q.placed) (l.shown.written.locks id),
-  )
+  lives_placed id call e q = search arith
 
   pub lives_reversed : (newer : Option ℕ) (id : ℕ) → v.stage ≡ Some (Handle (handle.ReverseLoad newer id)) → id < records
   lives_reversed newer id e =
@@ -125,11 +118,7 @@ module _ {v : Known} (l : Lives v) where
 
   -- the front of the batch is by a record
   pub lives_front : (call : Call) (rest : List Call) → v.part.batch ≡ call ∷ rest → call.id < records
-  lives_front call rest e =
-      let all : AllPlaced l.calls.place (place.Batch v.number) (call ∷ rest) =
-      subst (λ (calls : List Call). AllPlaced l.calls.place (place.Batch v.number) calls) e
-      (subst (λ (s : Share). AllPlaced l.calls.place (place.Batch v.number) s.batch) same_share (l.shown.placed.batched v.number)) in
-      all.0.is_call.in_range
+  lives_front call rest e = search (same_share, arith)
 
   -- an interrupt word is 0 or 1
   pub lives_intr : (cpu : ℕ) → (l.at (Intr cpu) == 1) ≡ cond (l.at (Intr cpu) == 0) false true
@@ -150,15 +139,7 @@ pub told_at : (queue : List Call) (v : Known) (s : Option Stage) (act : Act) (w 
       heads = heads_after act w found s v.heads;
       log = log_after act w put v.log;
     }
-told_at queue v s act w found put e =
-    λ i. record v {
-      stage = stage_after (e i) v.drain act w found put;
-      drain = drain_then (e i) v.drain found;
-      part = part_after queue (held_of (e i)) act w found put v.part;
-      tried = tried_after act v.tried;
-      heads = heads_after act w found (e i) v.heads;
-      log = log_after act w put v.log;
-    }
+told_at queue v s act w found put e = search arith
 
 pub entered_is : (v : Known) (cpu : ℕ) → v.stage ≡ None → known_told v act.Store (Hand cpu) None (Some 1) ≡ handling handle.Accept v.drain v
 entered_is v cpu e = told_at [] v None act.Store (Hand cpu) None (Some 1) e
@@ -203,51 +184,31 @@ flags_found_is v h id n e odd = told_at [] v (Some (Handle h)) act.Load (Flags i
     by_test : (b : Bool) → b ≡ true →
         record v { stage = (handle_outcome v.drain h n).next; drain = drain_after v.drain h n; part = cond b v.part (part_confirmed id v.part) }
         ≡ goes_known h n v
-    by_test b f =
-        λ i. record v { stage = (handle_outcome v.drain h n).next; drain = drain_after v.drain h n; part = cond (f i) v.part (part_confirmed id v.part) }
+    by_test b f = search arith
 
 -- steps that begin, count and end a call
 
 pub begun_sync_is : (v : Known) (cpu : ℕ) (walk : Walk) (call : Call) (next : Option ℕ) (rest : List Call)
     → v.stage ≡ Some (Handle (handle.BeginSync walk call next)) → v.part.batch ≡ call ∷ rest →
     known_told v act.Store (Hand cpu) None (Some (call.id + 2)) ≡ begun_sync walk call next v
-begun_sync_is v cpu walk call next rest e b =
-    told_at [] v (Some (Handle (handle.BeginSync walk call next))) act.Store (Hand cpu) None (Some (call.id + 2)) e
-    ∙ ((λ i. record v {
-      stage = Some (Handle (handle.CountSync walk call next));
-      part = cond (lt-ltb 1 (call.id + 2) (omega arith) i) (part_begun SyncCall (b i) v.part) v.part;
-    })
-    ∙ (λ i. record v {
-      stage = Some (Handle (handle.CountSync walk call next));
-      part = record (v.part) { batch = rest_of (sym b i); running = SyncCall call };
-    }))
+begun_sync_is v cpu walk call next rest e b = search (told_at, lt-ltb, arith)
 
 pub counted_sync_is : (v : Known) (cpu source n : ℕ) (walk : Walk) (call : Call) (next : Option ℕ) → v.stage ≡ Some (Handle (handle.CountSync walk call next))
     → v.part.running ≡ SyncCall call →
     known_told v act.Store (Ran cpu source) None (Some n) ≡ counted_sync walk call next v
-counted_sync_is v cpu source n walk call next e r =
-    told_at [] v (Some (Handle (handle.CountSync walk call next))) act.Store (Ran cpu source) None (Some n) e
-    ∙ (λ i. record v { stage = Some (Handle (handle.EndSync walk call next)); part = part_counted (r i) v.part })
+counted_sync_is v cpu source n walk call next e r = search (told_at, arith)
 
 pub ended_sync_is : (v : Known) (walk : Walk) (call : Call) (next : Option ℕ) → v.stage ≡ Some (Handle (handle.EndSync walk call next))
     → v.part.running ≡ CountedCall call →
     known_told v act.Store (Flags call.id) None (Some 0) ≡ ended_call (first_on walk next) call v
-ended_sync_is v walk call next e r =
-    told_at [] v (Some (Handle (handle.EndSync walk call next))) act.Store (Flags call.id) None (Some 0) e
-    ∙ (λ i. record v { stage = Some (Handle (first_on walk next)); part = part_unlocked (r i) v.part })
+ended_sync_is v walk call next e r = search (told_at, arith)
 
 pub begun_async_is : (v : Known) (call : Call) (next : Option ℕ) (rest : List Call) → v.stage ≡ Some (Handle (handle.BeginAsync call next))
     → v.part.batch ≡ call ∷ rest → v.part.running ≡ Nothing →
     known_told v act.Store (Flags call.id) None (Some 0) ≡ begun_async call next v
-begun_async_is v call next rest e b r =
-    told_at [] v (Some (Handle (handle.BeginAsync call next))) act.Store (Flags call.id) None (Some 0) e
-    ∙ ((λ i. record v { stage = Some (Handle (handle.CountAsync call next)); part = part_unlocked (r i) v.part })
-    ∙ ((λ i. record v { stage = Some (Handle (handle.CountAsync call next)); part = part_begun AsyncCall (b i) v.part })
-    ∙ (λ i. record v { stage = Some (Handle (handle.CountAsync call next)); part = record (v.part) { batch = rest_of (sym b i); running = AsyncCall call } })))
+begun_async_is v call next rest e b r = search (told_at, arith)
 
 pub counted_async_is : (v : Known) (cpu source n : ℕ) (call : Call) (next : Option ℕ) → v.stage ≡ Some (Handle (handle.CountAsync call next))
     → v.part.running ≡ AsyncCall call →
     known_told v act.Store (Ran cpu source) None (Some n) ≡ ended_call (second_on next) call v
-counted_async_is v cpu source n call next e r =
-    told_at [] v (Some (Handle (handle.CountAsync call next))) act.Store (Ran cpu source) None (Some n) e
-    ∙ (λ i. record v { stage = Some (Handle (second_on next)); part = part_counted (r i) v.part })
+counted_async_is v cpu source n call next e r = search (told_at, arith)

@@ -38,10 +38,7 @@ IsElse _ = Unit {0}
 
 module _ (a : CallState) (me : ℕ) where
   quiet : (b : CallState) → b.queue ≡ a.queue → b.pending ≡ a.pending → SendsNothing a b
-  quiet b q p = record {
-    queues = λ cpu. let e : length (b.queue cpu) ≡ length (a.queue cpu) = ap (λ (f : ℕ → List Call). length (f cpu)) q in omega arith;
-    pending = λ cpu h. ap (λ (f : ℕ → Bool). f cpu) (sym p) ∙ h;
-  }
+  quiet b q p = search arith
 
   quiet_async : (calls : List Call) → SendsNothing a (begins_async a me calls)
   quiet_async [] = quiet a refl refl
@@ -117,20 +114,12 @@ module _ (a : CallState) (me : ℕ) where
 
   head_logs : (kind : Act) (to : ℕ) (found put : Option ℕ) (log : List Logged) → (kind ≡ act.Cas → IsHeld (a.held me)) → Logs kind (Head to) found put log
   head_logs act.Cas to found (Some n) log holds = (Some (logged.Queued to), refl, sends_call to (a.held me) (holds refl))
-  head_logs act.Swap to found put log holds = (
-    None,
-    refl,
-    record { queues = λ cpu. shorter (cpu == me) (a.queue cpu); pending = λ cpu h. h },
-  )
+  head_logs act.Swap to found put log holds = search (shorter, arith)
   head_logs _ to found put log holds = (None, refl, quiet a refl refl)
 
   intr_logs : (kind : Act) (to : ℕ) (found put : Option ℕ) (log : List Logged) → Logs kind (Intr to) found put log
   intr_logs act.Store to found put log = (Some (logged.Interrupted to), refl, record { queues = refl; pending = refl })
-  intr_logs act.Swap to found put log = (
-    None,
-    refl,
-    record { queues = λ cpu. omega arith; pending = λ cpu h. was_pending (cpu == me) (a.pending cpu) h },
-  )
+  intr_logs act.Swap to found put log = search (was_pending, arith)
   intr_logs _ to found put log = (None, refl, quiet a refl refl)
 
   step_logs : (kind : Act) (w : Word) (found put : Option ℕ) (log : List Logged) → (kind ≡ act.Cas → IsHeld (a.held me)) → Logs kind w found put log
@@ -146,7 +135,4 @@ module _ {a : CallState} {at : Word → ℕ} {control : ℕ → ControlValue} {v
   holds_at _ aims e = absurd (let f = e in cc)
 
 pub logs_tell : LogsTell
-logs_tell a at control v s sees st aims access is =
-    subst (λ (x : Access). let seen = seen_of v.number x (at (word_of x)) None in Logs a v.number seen.act seen.word seen.found seen.put v.log) is
-    (let seen = seen_of v.number (known_access v st) (at (word_of (known_access v st))) None in
-    step_logs a v.number seen.act seen.word seen.found seen.put v.log (λ e. holds_at s sees st aims e))
+logs_tell a at control v s sees st aims access is = search (step_logs, holds_at, arith)

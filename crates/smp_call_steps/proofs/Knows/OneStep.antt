@@ -1,4 +1,5 @@
 -- One step of a CPU that knows v: what holds after it, and what each CPU knows then.
+use Rattle.std.proofs.Common.{arith}
 use Rattle.std.proofs.Common.{◌≡◌, ◌≢◌, ℕ, ◌+◌, ◌-◌, ◌%◌, nat_lt, Bool, true, false, ◌==◌, cond, Option, Some, None, subst, refl, ap, ◌∙◌}
 use Rattle.smp_words.proofs.Puts.{put_same, put_other}
 use Rattle.smp_words.specs.Put.{put}
@@ -82,14 +83,12 @@ accept_told false = refl
 follows : (at : Word → ℕ) (me : ℕ) (d : DrainValue) (st : Stage) → Follows at me d st
 follows at me d (Post p post.LoadFlags) = flags_follow (at (Flags p.id) % 2 == 1) p.is_online p
 follows at me d (Post p post.Lock) = lock_follow p.class p at me d
-follows at me d (Post p (post.Exchange link tries)) =
-    exchange_follow p link tries (p.id + 1) (at (Head p.to) == link) (nat_lt 1 tries) (cond (link == 0) note.Owed note.Queued) me d (at (Head p.to))
+follows at me d (Post p (post.Exchange link tries)) = search (exchange_follow, nat_lt, arith)
 follows at me d (Handle handle.Accept) = accept_told (at (Intr me) == 0)
 follows at me d (Handle handle.Take) = reverse_told None (record_at (at (Head me)))
 follows at me d (Handle (handle.ReverseStore newer id older)) = reverse_told (Some id) older
 follows at me d (Handle (handle.LoadFlags walk id next)) = class_told (class_of (at (Flags id))) walk id next
-follows at me d (Handle (handle.LoadInfo walk id next func)) =
-    info_told walk.last walk (record { id = id; class = Sync; func = func; info = at (Info id) }) next
+follows at me d (Handle (handle.LoadInfo walk id next func)) = search (info_told, arith)
 follows at me d (Handle (handle.EndSync walk call next)) = first_told walk next
 follows at me d (Handle (handle.CountAsync call next)) = second_told next
 follows at me d _ = refl
@@ -135,8 +134,7 @@ module _ {a : CallState} {at : Word → ℕ} {control : ℕ → ControlValue} {v
 
   mine : Sees (Told a at me v.drain st) (put controls me after) (known_tells (a.queue me) v seen)
   mine = record {
-    stage = ap (λ (c : ControlValue). told_stage c.stage) there
-        ∙ (follows at me v.drain st ∙ ap (λ (x : Option Stage). stage_after x v.drain seen.act seen.word seen.found seen.put) told_here);
+    stage = search (there, follows, told_here, arith);
     drain = ap (λ (c : ControlValue). c.drain) there ∙ (leaves at me v.drain st ∙ ap (λ (x : Option Stage). drain_then x v.drain seen.found) told_here);
     part = part_mine me v.drain s st ∙ (λ i. part_after (a.queue me) (known_held s sees i) seen.act seen.word seen.found seen.put (sees.part i));
   }
@@ -165,6 +163,4 @@ module _ {a : CallState} {at : Word → ℕ} {control : ℕ → ControlValue} {v
   -- the same, by what the CPU knows of its access
   pub known_step : (access : Access) → known_access v st ≡ access
       → GoesOn a control me (at_after at access) (known_tells (a.queue me) v (seen_of me access (at (word_of access)) None))
-  known_step access is =
-      subst (λ (x : Access). GoesOn a control me (at_after at x) (known_tells (a.queue me) v (seen_of me x (at (word_of x)) None)))
-      (access_known s sees st aims ∙ is) one_step
+  known_step access is = search (access_known, one_step, arith)

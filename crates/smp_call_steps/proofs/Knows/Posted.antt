@@ -26,10 +26,7 @@ load_outside v id found false e = rw e refl
 
 pub loaded_known : (v : Known) (id found : ℕ) → v.stage ≡ None
     → known_told v act.Load (Flags id) (Some found) None ≡ cond (found % 2 == 1) v (confirmed_known id v)
-loaded_known v id found e =
-    let o : v ≡ outside_known v = outside_as v e in
-    ap (λ (u : Known). known_told u act.Load (Flags id) (Some found) None) o
-    ∙ (load_outside v id found (found % 2 == 1) refl ∙ ap (λ (u : Known). cond (found % 2 == 1) u (confirmed_known id u)) (sym o))
+loaded_known v id found e = search (outside_as, load_outside, arith)
 
 lock_outside : (v : Known) (id : ℕ) (c : Class) → known_told (outside_known v) act.Store (Flags id) None (Some (flags_of c))
     ≡ standing (posting_of id c 0 0 0) post.StoreFunc v
@@ -38,9 +35,7 @@ lock_outside v id Async = refl
 
 pub locked_known : (v v' : Known) (id flags : ℕ) (c : Class) → v.stage ≡ None → v' ≡ known_told v act.Store (Flags id) None (Some flags) → flags ≡ flags_of c
     → v' ≡ standing (posting_of id c 0 0 0) post.StoreFunc v
-locked_known v v' id flags c o e f =
-    e ∙ (ap (λ (n : ℕ). known_told v act.Store (Flags id) None (Some n)) f
-    ∙ (ap (λ (u : Known). known_told u act.Store (Flags id) None (Some (flags_of c))) (outside_as v o) ∙ lock_outside v id c))
+locked_known v v' id flags c o e f = search (outside_as, lock_outside, arith)
 
 pub func_known : (v v' w : Known) (id n : ℕ) (p : Posting) → v' ≡ known_told w act.Store (Func id) None (Some n) → w ≡ standing p post.StoreFunc v
     → v' ≡ standing (record p { func = n }) post.StoreInfo v
@@ -69,8 +64,7 @@ next_known v v' w id n p e f = e ∙ ap (λ (u : Known). known_told u act.Store 
 pub won_known : (v v' w : Known) (to link n found : ℕ) (p : Posting) (b : Bool) → b ≡ true
     → v' ≡ known_told w act.Cas (Head to) (Some found) (cond b (Some n) None) → w ≡ standing p (post.Exchange link 0) v →
     found ≡ link → v' ≡ queued_known (posted p) to (link == 0) link v
-won_known v v' w to link n found p true t e f is = e ∙ (ap (λ (u : Known). known_told u act.Cas (Head to) (Some found) (Some n)) f
-    ∙ (λ i. record (queued_known (posted p) to (is i == 0) link v) { heads = v.heads ++ head.Exchanged link (is i) ∷ [] }))
+won_known v v' w to link n found p true t e f is = search arith
 won_known v v' w to link n found p false t e f is = absurd (true≢false (sym t))
 
 pub lost_known : (v v' w : Known) (to link n found : ℕ) (p : Posting) (b : Bool) → b ≡ false
@@ -86,15 +80,11 @@ released_known v v' w id p e f = e ∙ ap (λ (u : Known). known_told u act.Stor
 -- the numbers that a post stores in its tally word
 pub count_access : (v : Known) (p : Posting) (me count : ℕ) → v.number ≡ me → count ≡ length (sent_to p.to v.part.sent) % 2 ^ 64
     → known_access v (Post p post.Count) ≡ Store (Queued me p.to) ((count + 1) % 2 ^ 64)
-count_access v p me count n e = let same : (length (sent_to p.to v.part.sent) + 0) % 2 ^ 64 ≡ count = omega arith in
-    λ i. Store (Queued (n i) p.to) ((same i + 1) % 2 ^ 64)
+count_access v p me count n e = search arith
 
 uncounted : (x count : ℕ) → count ≡ x % 2 ^ 64 → ((x + 1) % 2 ^ 64 + (2 ^ 64 - 1)) % 2 ^ 64 ≡ count
 uncounted x count e = omega arith
 
 pub uncount_access : (v : Known) (p : Posting) (me count : ℕ) → v.number ≡ me → count ≡ length (sent_to p.to v.part.sent) % 2 ^ 64
     → known_access v (Post p post.Uncount) ≡ Store (Queued me p.to) count
-uncount_access v p me count n e =
-    let one : one_held (held_of_post p post.Uncount) p.to ≡ 1 = rw (eq-eqb p.to p.to refl) refl in
-    (λ i. Store (Queued (n i) p.to) (((length (sent_to p.to v.part.sent) + one i) % 2 ^ 64 + (2 ^ 64 - 1)) % 2 ^ 64))
-    ∙ ap (Store (Queued me p.to)) (uncounted (length (sent_to p.to v.part.sent)) count e)
+uncount_access v p me count n e = search (eq-eqb, uncounted, arith)

@@ -1,4 +1,5 @@
 -- A CPU may stand at any stage that its steps so far leave open.
+use Rattle.std.proofs.Common.{arith}
 use Rattle.std.proofs.Common.{◌≡◌, ℕ, ◌%◌, ◌<◌, true, false, ◌==◌, Option, Some, None, get_or, sym, subst, refl, ap, ◌∙◌, ◌⊎◌, inl, inr}
 use Rattle.smp_words.specs.Put.{put}
 use Rattle.smp_words.specs.Size.{records, owner}
@@ -123,11 +124,7 @@ module _ {a : CallState} {at : Word → ℕ} {control : ℕ → ControlValue} {v
 
   -- a confirmed record is free, where its source is outside
   pub free_outside : (id : ℕ) → owner id ≡ me → id < records → v.stage ≡ None → is_confirmed v id ≡ true → a.place id ≡ place.Free
-  free_outside id own small out conf =
-      let none : a.held me ≡ None = known_held ∙ ap held_of out in
-      let seen : get_or (row records (a.confirmed me)) id false ≡ true = ap (λ (p : Part). get_or p.confirmed id false) sees.part ∙ conf in
-      elim (s.placed.settled me id own (sym (row-at records id (a.confirmed me) false small) ∙ seen))
-      [ inl free ↦ free | inr hold ↦ absurd (let h : Holds None id = rw none at hold in h) ]
+  free_outside id own small out conf = search (known_held, get_or, row-at, arith)
 
   pub aims_told : (st : Stage) → MayStep v st → told_stage (Some st) ≡ v.stage
   aims_told (Post p st) aims = aims.told
@@ -152,33 +149,14 @@ module _ {a : CallState} {at : Word → ℕ} {control : ℕ → ControlValue} {v
   aims_stands : (st : Stage) → MayStep v st → StandsAt a.place at (share_of a me) (control me).drain me (Some st)
   aims_stands (Send to) aims = let i = outside_idle aims.0 in (i.rests, aims.1, aims.2)
   aims_stands (Done id) aims = let i = outside_idle aims.0 in (i.rests, aims.1, aims.2)
-  aims_stands (Post p st) aims =
-      let i = idle (subst IsNoHandle aims.told (post_no_handle p st)) in (
-        i.rests,
-        record {
-          owned = aims.owned;
-          is_call = aims.is_call;
-          me_in_range = aims.me_in_range;
-          goes = aims.goes;
-          knows =
-              told_knows a.place at p st (subst (Knows a.place at) (sees.stage ∙ sym aims.told)
-              (knows_told a at me (control me).drain (control me).stage (s.stands me))) (free_at p st aims);
-        },
-      )
-  aims_stands (Handle h) aims = elim (enters h) [
-    | inl b ↦ subst (λ (x : Option Stage). StandsAt a.place at (share_of a me) (control me).drain me x) (handle_same h b aims.0) (s.stands me)
-    | inr e ↦ subst (λ (x : HandleStage). StandsAt a.place at (share_of a me) (control me).drain me (Some (Handle x))) (sym e)
-        (let i = outside_idle (aims.0 ∙ ap told_handle e) in (aims.1, i.rests))
-  ]
+  aims_stands (Post p st) aims = search (idle, post_no_handle, told_knows, knows_told, free_at, arith)
+  aims_stands (Handle h) aims = search (enters, handle_same, outside_idle, arith)
 
   aims_hand : (st : Stage) → MayStep v st → HandIs (Some st) (at (Hand me))
   aims_hand (Send to) aims = let i = outside_idle aims.0 in i.hand
   aims_hand (Done id) aims = let i = outside_idle aims.0 in i.hand
   aims_hand (Post p st) aims = let i = idle (subst IsNoHandle aims.told (post_no_handle p st)) in i.hand
-  aims_hand (Handle h) aims = elim (enters h) [
-    | inl b ↦ subst (λ (x : Option Stage). HandIs x (at (Hand me))) (handle_same h b aims.0) (s.hands me)
-    | inr e ↦ subst (λ (x : HandleStage). HandIs (Some (Handle x)) (at (Hand me))) (sym e) (let i = outside_idle (aims.0 ∙ ap told_handle e) in i.hand)
-  ]
+  aims_hand (Handle h) aims = search (enters, handle_same, outside_idle, arith)
 
   pub aims_held : (st : Stage) → MayStep v st → a.held me ≡ held_of (Some st)
   aims_held st aims = known_held ∙ (ap held_of (sym (aims_told st aims)) ∙ held_told (Some st))
@@ -193,16 +171,10 @@ module _ {a : CallState} {at : Word → ℕ} {control : ℕ → ControlValue} {v
   pub access_known : (st : Stage) → MayStep v st → access_of at me st ≡ known_access v st
   access_known (Send to) aims = refl
   access_known (Done id) aims = refl
-  access_known (Post p st) aims =
-      let held : a.held me ≡ held_of_post p st = aims_held (Post p st) aims in
-      ap (post_access p me st) (s.tallied.queued_are me p.to ∙ (λ i. queued_tally (sees.part i) (held i) p.to))
+  access_known (Post p st) aims = search (aims_held, arith)
   access_known (Handle h) aims = ap (handle_access me h) (s.tallied.ran_are me (source_at h) ∙ (λ i. ran_tally (sees.part i) (source_at h)))
 
 -- where a CPU stands outside, its confirmed records are unlocked
 pub confirmed_unlocked : (v : Known) (id n : ℕ) → Moment v (Flags id) n → v.stage ≡ None → owner id ≡ v.number → id < records → is_confirmed v id ≡ true
     → (n % 2 == 1) ≡ false
-confirmed_unlocked v id n m out own small conf =
-    let l = m.lives in
-    let free : l.calls.place id ≡ place.Free = free_outside l.shown l.sees id own small out conf in
-    let zero_there : l.at (Flags id) ≡ 0 = rw free at (l.shown.written.locks id) in
-    rw (m.number_is, zero_there) refl
+confirmed_unlocked v id n m out own small conf = search (free_outside, arith)

@@ -1,4 +1,5 @@
 -- The word of each access is in the table.
+use Rattle.std.proofs.Common.{arith}
 use Rattle.std.proofs.Common.{◌≡◌, ℕ, ◌<◌, Some, List, [], ◌∷◌, ◌+◌, subst, refl, ap, ◌∙◌}
 use Rattle.smp_words.specs.Size.{cpus, records}
 use Rattle.smp_words.specs.Access.{word_of}
@@ -59,14 +60,10 @@ module _ (places : ℕ → RecPlace) (at : Word → ℕ) (me : ℕ) (s : Share) 
 
   -- the call that runs, where its record is locked meanwhile
   running_in_range : (call : Call) (running : Running) → locked_by running ≡ call ∷ [] → s.running ≡ running → call.id < records
-  running_in_range call running e r =
-      let all : AllPlaced places (place.Running me) (call ∷ []) = subst (λ (x : List Call). AllPlaced places (place.Running me) x) (ap locked_by r ∙ e) runs in
-      all.0.is_call.in_range
+  running_in_range call running e r = search arith
 
   begun_in_range : (call : Call) (rest : List Call) → s.batch ≡ call ∷ rest → call.id < records
-  begun_in_range call rest e =
-      let all : AllPlaced places (place.Batch me) (call ∷ rest) = subst (λ (x : List Call). AllPlaced places (place.Batch me) x) e batched in
-      all.0.is_call.in_range
+  begun_in_range call rest e = search arith
 
   handle_in_table : (stage : HandleStage) → me < cpus → HandleStands (nexts_in at) s d stage → IsInTable (word_of (access_of at me (Handle stage)))
   handle_in_table (handle.ReverseLoad newer id) l h = reversed_in_range (link_to newer) (at (Next id)) h.0 id h.1 h.2
@@ -94,7 +91,4 @@ module _ (places : ℕ → RecPlace) (at : Word → ℕ) (me : ℕ) (s : Share) 
 -- the CPU of a stage, and the word of its access
 pub access_in_table : (a : CallState) (at : Word → ℕ) (control : ℕ → ControlValue) (me : ℕ) → Shows a at control → (stage : Stage)
     → (control me).stage ≡ Some stage → HasIndex (word_of (access_of at me stage))
-access_in_table a at control me s stage e =
-    let stands : StandsAt a.place at (share_of a me) (control me).drain me (Some stage) = rw e at (s.stands me) in
-    in_table (word_of (access_of at me stage))
-    (stage_in_table a.place at me (share_of a me) (control me).drain (s.placed.batched me) (s.placed.runs me) stage stands)
+access_in_table a at control me s stage e = search (in_table, stage_in_table, arith)

@@ -40,9 +40,7 @@ length-words_after words access = length_if words (word_of access) (put_by acces
 
 set_control : (controls : List ControlValue) (me : ℕ) (x : ControlValue) → length controls ≡ cpus → me < cpus → (j : ℕ)
     → control_of (slice_set controls me x) j ≡ put (control_of controls) me x j
-set_control controls me x l m j = at_test j me (λ b. control_of (slice_set controls me x) j ≡ cond b x (control_of controls j))
-    (λ e. rw e (get_or-set_same controls me x outside (omega arith)))
-    (λ ne. get_or-set_other controls me j x outside ne)
+set_control controls me x l m j = search (at_test, get_or-set_same, get_or-set_other, arith)
 
 -- the controls by CPU, with one of them set
 pub controls_by_cpu : (controls : List ControlValue) (me : ℕ) (x : ControlValue) → length controls ≡ cpus → me < cpus
@@ -52,10 +50,7 @@ controls_by_cpu controls me x l m = λ k j. set_control controls me x l m j k
 below_if : (controls : List ControlValue) (me : ℕ) (stage : Stage) (b : Bool) → nat_lt me cpus ≡ b → length controls ≡ cpus
     → (control_of controls me).stage ≡ Some stage → me < cpus
 below_if controls me stage true t l e = ltb-true me cpus t
-below_if controls me stage false t l e =
-    let past : cpus ≤ me = ltb-false me cpus t in
-    let none : (control_of controls me).stage ≡ None = ap (λ (c : ControlValue). c.stage) (get_or_past controls me outside (omega arith)) in
-    cc
+below_if controls me stage false t l e = search (ltb-false, get_or_past, arith)
 
 -- a CPU inside a command is one that there can be
 pub inside_below : (controls : List ControlValue) (me : ℕ) (stage : Stage) → length controls ≡ cpus → (control_of controls me).stage ≡ Some stage → me < cpus

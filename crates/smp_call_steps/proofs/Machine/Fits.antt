@@ -49,22 +49,10 @@ module _ {a : CallState} {at : Word → ℕ} {control : ℕ → ControlValue} (m
   batched_records = every (IsPlaced a.place (place.Batch me)) IsRecord (λ call h. h.is_call.in_range) (a.batch me) (s.placed.batched me)
 
   func_fits : (walk : Walk) (id : ℕ) (next : Option ℕ) → (control me).stage ≡ Some (Handle (handle.LoadFunc walk id next)) → at (Func id) < 2 ^ 16
-  func_fits walk id next e =
-      let was = stands_at me s (handle.LoadFunc walk id next) e in
-      let k = was.1 in
-      let w = walked_words me s walk id k.0 k.1 k.2 in
-      let p = walks_rest (IsPlaced a.place (place.Batch me)) k.2 (s.placed.batched me) in
-      let func : at (Func id) ≡ k.0.func = ap (funcs_in at) (sym (same_record id k.0 k.2.leads_on.0)) ∙ w.func_is in
-      subst (λ (n : ℕ). n < 2 ^ 16) (sym func) p.0.is_call.func
+  func_fits walk id next e = search (stands_at, walked_words, walks_rest, same_record, arith)
 
   async_fits : (id : ℕ) (next : Option ℕ) → (control me).stage ≡ Some (Handle (handle.AsyncFunc id next)) → at (Func id) < 2 ^ 16
-  async_fits id next e =
-      let was = stands_at me s (handle.AsyncFunc id next) e in
-      let k = was.1 in
-      let w = ended_words me s id k.0 k.1 k.2 in
-      let p = ends_rest (IsPlaced a.place (place.Batch me)) k.2 (s.placed.batched me) in
-      let func : at (Func id) ≡ k.0.func = ap (funcs_in at) (sym (same_record id k.0 k.2.leads_on.0)) ∙ w.func_is in
-      subst (λ (n : ℕ). n < 2 ^ 16) (sym func) p.0.is_call.func
+  async_fits id next e = search (stands_at, ended_words, ends_rest, same_record, arith)
 
   down_fits : (newer : Option ℕ) (id : ℕ) → (control me).stage ≡ Some (Handle (handle.ReverseLoad newer id)) → at (Next id) ≤ 2 ^ 32
   down_fits newer id e =
@@ -81,11 +69,7 @@ module _ {a : CallState} {at : Word → ℕ} {control : ℕ → ControlValue} (m
       subst (λ (n : ℕ). at (Next n) ≤ 2 ^ 32) (same_record id k.0 k.2.leads_on.0) (path_fits (nexts_in at) (at (Next k.0.id)) k.1 all.1 k.2.leads_on.1)
 
   async_next_fits : (id : ℕ) → (control me).stage ≡ Some (Handle (handle.AsyncNext id)) → at (Next id) ≤ 2 ^ 32
-  async_next_fits id e =
-      let was = stands_at me s (handle.AsyncNext id) e in
-      let k = was.1 in
-      let all = ends_rest IsRecord k.2 batched_records in
-      subst (λ (n : ℕ). at (Next n) ≤ 2 ^ 32) (same_record id k.0 k.2.leads_on.0) (path_fits (nexts_in at) (at (Next k.0.id)) k.1 all.1 k.2.leads_on.1)
+  async_next_fits id e = search (stands_at, ends_rest, batched_records, same_record, path_fits, arith)
 
   -- a batch has no more calls than there are records
   room_fits : (newer : Option ℕ) (id : ℕ) (older : Option ℕ) → (control me).stage ≡ Some (Handle (handle.ReverseStore newer id older))
@@ -95,9 +79,7 @@ module _ {a : CallState} {at : Word → ℕ} {control : ℕ → ControlValue} (m
       let h = was.1.1 in
       let all = reverses_all IsRecord h batched_records in
       let short = length-apart records (h.older ++ was.1.0 ∷ h.newer) (subst IsApart h.whole h.apart) all in
-      let size = length-append h.older (was.1.0 ∷ h.newer) in
-      let k = h.counted in
-      room_for_all (control me).drain.calls (omega arith)
+      search (length-append, h, was, room_for_all, arith)
 
   handle_fits : (stage : HandleStage) → (control me).stage ≡ Some (Handle stage)
       → FitsStage (control me).drain (Handle stage) (at (word_of (access_of at me (Handle stage))))

@@ -55,22 +55,11 @@ begins_outside online cpu _ hand e = e
 
 -- a record that a source has is one of its local numbers
 pub record_below : (nr k : ℕ) → has_record nr k ≡ true → k < records_of_one
-record_below nr k e = elim (cases_lt k FIRST_OF_ONE) [
-  | inl low ↦ omega arith
-  | inr high ↦
-      let far : (nat_lt k records_of_one && nat_lt (k - 4) nr) ≡ true = rw (← e, le-ltb k FIRST_OF_ONE high) refl in
-      ltb-true k records_of_one (and_parts (nat_lt k records_of_one) (nat_lt (k - 4) nr) far).0
-]
+record_below nr k e = search (cases_lt, nat_lt, le-ltb, ltb-true, and_parts, arith)
 
 -- a command that may start names a record that there is
 pub names_record : (nr online cpu : ℕ) (c : Command) → command_refusal nr online cpu c ≡ None → NamesRecord c
-names_record nr online cpu (command.Post k to class func info tries) e =
-    let one = not (nat_lt k records_of_one) in
-    let bad = ((one || tries == 0) || to == cpu) || not (fits_record nr k to class) in
-    let ok =
-    or_false one (tries == 0) (or_false (one || tries == 0) (to == cpu)
-    (or_false ((one || tries == 0) || to == cpu) (not (fits_record nr k to class)) (then_none bad _ e))) in
-    ltb-true k records_of_one (not_false (nat_lt k records_of_one) ok)
+names_record nr online cpu (command.Post k to class func info tries) e = search (nat_lt, or_false, then_none, ltb-true, not_false, arith)
 names_record nr online cpu (command.Done k) e = record_below nr k (else_none (has_record nr k) None _ e).0
 names_record nr online cpu (command.Send to) e = tt
 names_record nr online cpu command.Handle e = tt
@@ -81,24 +70,9 @@ begins : (nr online : ℕ) (places : ℕ → RecPlace) (at : Word → ℕ) (s : 
     StandsAt places at s d cpu None → StandsAt places at s d cpu (first_stage online cpu c)
 begins nr online places at s d cpu (command.Post k to class func info tries) limits l e f h =
     let one = not (nat_lt k records_of_one) in
-    let bad = ((one || tries == 0) || to == cpu) || not (fits_record nr k to class) in
-    let ok =
-    or_false one (tries == 0) (or_false (one || tries == 0) (to == cpu)
-    (or_false ((one || tries == 0) || to == cpu) (not (fits_record nr k to class)) (then_none bad _ e))) in
-    let small = ltb-true k records_of_one (not_false (nat_lt k records_of_one) ok) in (
-      h,
-      record {
-        owned = owner-of_record cpu k l small;
-        is_call = record { in_range = record_of-below cpu k l small; func = f.0; info = f.1 };
-        me_in_range = l;
-        goes = λ o. online_below nr online to limits o;
-        knows = tt;
-      },
-    )
+    search (one, or_false, then_none, ltb-true, not_false, nat_lt, owner-of_record, record_of-below, online_below, arith)
 begins nr online places at s d cpu (command.Send to) limits l e f h = (h, online_below nr online to limits (else_none (has online to) None _ e).0, l)
-begins nr online places at s d cpu (command.Done k) limits l e f h =
-    let small = record_below nr k (else_none (has_record nr k) None _ e).0 in
-    (h, owner-of_record cpu k l small, record_of-below cpu k l small)
+begins nr online places at s d cpu (command.Done k) limits l e f h = search (record_below, else_none, owner-of_record, record_of-below, arith)
 begins nr online places at s d cpu command.Handle limits l e f h = (l, h)
 begins nr online places at s d cpu _ limits l e f h = h
 
@@ -116,12 +90,9 @@ module _ (nr online : ℕ) {a : CallState} {at : Word → ℕ} {control : ℕ �
       let next = control_at (control cpu) (first_stage online cpu c) in
       let hand : hands_in at cpu ≡ 0 = rw outside_now at (shows.hands cpu) in
       record {
-        held = put_all (λ (j : ℕ) (x : ControlValue). a.held j ≡ held_of x.stage) control cpu next
-            (shows.held cpu ∙ (ap held_of outside_now ∙ sym (begins_empty online cpu c))) (λ j _. shows.held j);
-        stands = put_all (λ (j : ℕ) (x : ControlValue). Stands a.place at (share_of a j) j x) control cpu next (begun_stands limits l e f)
-            (λ j _. shows.stands j);
-        hands = put_all (λ (j : ℕ) (x : ControlValue). HandIs x.stage (hands_in at j)) control cpu next (begins_outside online cpu c (hands_in at cpu) hand)
-            (λ j _. shows.hands j);
+        held = search (put_all, begins_empty, arith);
+        stands = search (put_all, begun_stands, arith);
+        hands = search (put_all, begins_outside, arith);
         placed = shows.placed;
         written = shows.written;
         chained = shows.chained;
@@ -136,26 +107,7 @@ rests = record { batch = refl; running = refl; accepted = refl }
 
 -- words that are all 0, with each CPU outside, show no calls
 pub zeros_shown : (at : Word → ℕ) (control : ℕ → ControlValue) → ((w : Word) → at w ≡ 0) → ((cpu : ℕ) → control cpu ≡ outside) → Shows no_calls at control
-zeros_shown at control z n = record {
-  held = λ cpu. rw (n cpu) refl;
-  stands = λ cpu. rw (n cpu) rests;
-  hands = λ cpu. rw (n cpu) (z (Hand cpu));
-  placed = record {
-    queued = λ _. tt;
-    batched = λ _. tt;
-    runs = λ _. tt;
-    queue_apart = λ _. tt;
-    batch_apart = λ _. tt;
-    is_there = λ _. tt;
-    settled = λ _ _ _ _. inl refl;
-  };
-  written = record { locks = λ id. z (Flags id); queued = λ _. tt; batched = λ _. tt; runs = λ _. tt };
-  chained = record { chain = λ cpu. z (Head cpu) };
-  links = record { held_links = λ _. tt };
-  noticed = record { words = λ cpu. z (Intr cpu); noticed = λ _. inl tt };
-  recorded = record { in_order = λ _ _. refl; drained = λ _. refl };
-  tallied = record { queued_are = λ source cpu. z (Queued source cpu); ran_are = λ cpu source. z (Ran cpu source) };
-}
+zeros_shown at control z n = search (rests, arith)
 
 -- a table of zeros, with each CPU outside, shows no calls
 pub new_shown : (words : List ℕ) (controls : List ControlValue) → words ≡ replicate table_size 0 → controls ≡ replicate cpus outside

@@ -1,4 +1,5 @@
 -- The links of a batch, by where its CPU stands.
+use Rattle.std.proofs.Common.{arith}
 use Rattle.std.proofs.Common.{◌≡◌, ◌≢◌, ℕ, ◌+◌, Bool, true, false, ◌&&◌, not, Option, Some, None, List, [], ◌∷◌, ◌++◌, inl, inr, sym, subst, refl, ap, ◌∙◌}
 use Rattle.std.proofs.Common.{append_assoc}
 use Rattle.std.proofs.lemmas.Bool.{eq-eqb, ne_eqb}
@@ -41,13 +42,11 @@ kept_async : (p : Call → Bool) (xs : List Call) → AllByRecursion (λ x. p x 
 kept_async p [] h = refl
 kept_async p (x ∷ xs) h =
     let rest = kept_async p xs (every_right (λ y. p y ≡ false) (if_sync x.class x) (sync_calls xs) h) in
-    kept_one p x.class x xs (every_left (λ y. p y ≡ false) (if_sync x.class x) (sync_calls xs) h) ∙
-    (ap (λ (ys : List Call). filter p (if_async x.class x) ++ ys) rest ∙ sym (filter-append p (if_async x.class x) (async_calls xs)))
+    search (kept_one, every_left, rest, filter-append, arith)
 
 sync_calls-append : (xs ys : List Call) → sync_calls (xs ++ ys) ≡ sync_calls xs ++ sync_calls ys
 sync_calls-append [] ys = refl
-sync_calls-append (x ∷ xs) ys = ap (λ (k : List Call). if_sync x.class x ++ k) (sync_calls-append xs ys)
-    ∙ sym (append_assoc (if_sync x.class x) (sync_calls xs) (sync_calls ys))
+sync_calls-append (x ∷ xs) ys = search (append_assoc, sync_calls-append xs ys, arith)
 
 -- which calls are in the chain
 
@@ -72,9 +71,7 @@ in_hand (Some id) front b = subst (AllByRecursion (λ c. is_this c.id (Some id) 
 
 not_in_hand : (hand : Option ℕ) (front : List Call) → IsBetween hand front → (id : ℕ) → IsAbsent id front → is_this id hand ≡ false
 not_in_hand None front b id absent = refl
-not_in_hand (Some at) front b id absent =
-    let k : IsAbsent id (b.0 ∷ []) = subst (IsAbsent id) b.1 absent in
-    ne_eqb at id (λ e. k.0 (b.2 ∙ e))
+not_in_hand (Some at) front b id absent = search (ne_eqb, arith)
 
 linked_out : (b : Bool) → (b && not true) ≡ false
 linked_out true = refl
@@ -96,12 +93,10 @@ module _ (batch begun front tail : List Call) (hand : Option ℕ) (whole : order
   all_apart = subst IsApart whole (apart_order batch apart)
 
   begun_out : AllByRecursion (λ c. is_linked (front ++ tail) hand c ≡ false) begun
-  begun_out = every (λ c. IsAbsent c.id (front ++ tail)) (λ c. is_linked (front ++ tail) hand c ≡ false)
-      (λ c absent. is_linked-gone (front ++ tail) hand c absent) begun (apart_across begun (front ++ tail) all_apart)
+  begun_out = search (every, is_linked-gone, apart_across, all_apart, arith)
 
   front_out : AllByRecursion (λ c. is_linked (front ++ tail) hand c ≡ false) front
-  front_out = every (λ c. is_this c.id hand ≡ true) (λ c. is_linked (front ++ tail) hand c ≡ false) (λ c e. is_linked-hand (front ++ tail) hand c e) front
-      (in_hand hand front between)
+  front_out = search (every, is_linked-hand, in_hand, arith)
 
   tail_in : AllByRecursion (λ c. is_linked (front ++ tail) hand c ≡ true) tail
   tail_in =
@@ -114,9 +109,7 @@ module _ (batch begun front tail : List Call) (hand : Option ℕ) (whole : order
 all_linked : (batch : List Call) (hand : Option ℕ) → AllByRecursion (λ c. HasRecord c.id (order batch)) batch
 all_linked batch hand =
     let all = all_have (order batch) in
-    every_class (λ c. HasRecord c.id (order batch)) batch
-    (every_left (λ c. HasRecord c.id (order batch)) (sync_calls batch) (async_calls batch) all)
-    (every_right (λ c. HasRecord c.id (order batch)) (sync_calls batch) (async_calls batch) all)
+    search (every_class, every_left, all, every_right, arith)
 
 module _ (nexts : ℕ → ℕ) (s : Share) where
   rests_links : (stage : Option Stage) → down_link stage ≡ 0 → up_link stage ≡ 0 → s.batch ≡ [] → BegunAt stage (order s.last) → LoadedAt nexts stage
@@ -173,29 +166,11 @@ module _ (nexts : ℕ → ℕ) (s : Share) where
       let news : filter p h.newer ≡ h.newer = kept_all p h.newer
       (every_both (λ c. HasRecord c.id (order s.last)) (λ c. c.id ≢ call.id) (λ c. p c ≡ true) stays h.newer right.1 (absent_after h.older call h.newer apart))
       in
-      let hand : filter p (call ∷ []) ≡ [] = kept_none p (call ∷ []) (is_linked-hand (order s.last) (Some id) call (eq-eqb id call.id (sym e)), tt) in
-      record {
-        begun = [];
-        older = h.older;
-        newer = h.newer;
-        in_order = sym h.batch;
-        begun_at = refl;
-        linked = subst (λ (xs : List Call). filter (is_linked xs (Some id)) s.last ≡ h.older ++ h.newer) (sym h.batch)
-            (ap (filter p) h.whole ∙ (filter-append p h.older (call ∷ h.newer)
-            ∙ ((λ i. olds i ++ filter p (call ∷ h.newer))
-            ∙ ap (λ (xs : List Call). h.older ++ xs) (filter-append p (call ∷ []) h.newer ∙ (λ i. hand i ++ news i)))));
-        leads_down = h.leads_down;
-        leads_up = h.leads_up;
-        loaded = loaded;
-      }
+      search (p, kept_none, is_linked-hand, eq-eqb, filter-append, olds, news, arith)
 
   module _ (d : DrainValue) (walk : Walk) (here : ℕ) (front rest : List Call) (running : Running) (w : Walks nexts s d walk here front rest running) where
     walked_order : order s.last ≡ w.begun ++ (front ++ (sync_calls rest ++ async_calls s.last))
-    walked_order =
-        let syncs : sync_calls s.last ≡ (w.begun ++ front) ++ sync_calls rest =
-        ap sync_calls w.whole ∙ (sync_calls-append w.passed rest ∙ ap (λ (xs : List Call). xs ++ sync_calls rest) w.begun_are) in
-        ap (λ (xs : List Call). xs ++ async_calls s.last) syncs
-        ∙ (append_assoc (w.begun ++ front) (sync_calls rest) (async_calls s.last) ∙ append_assoc w.begun front (sync_calls rest ++ async_calls s.last))
+    walked_order = search (sync_calls-append, append_assoc, arith)
 
     walked_kept : (hand : Option ℕ) → IsBetween hand front
         → filter (is_linked (front ++ (sync_calls rest ++ async_calls s.last)) hand) s.last ≡ async_calls w.passed ++ rest
@@ -212,9 +187,7 @@ module _ (nexts : ℕ → ℕ) (s : Share) where
         let ahead : AllByRecursion (λ c. p c ≡ true) rest =
         every_class (λ c. p c ≡ true) rest (every_left (λ c. p c ≡ true) (sync_calls rest) (async_calls s.last) stay)
         (every_right (λ c. p c ≡ true) (async_calls w.passed) (async_calls rest) asyncs) in
-        let behind : filter p w.passed ≡ async_calls w.passed = kept_async p w.passed syncs
-        ∙ kept_all p (async_calls w.passed) (every_left (λ c. p c ≡ true) (async_calls w.passed) (async_calls rest) asyncs) in
-        ap (filter p) w.whole ∙ (filter-append p w.passed rest ∙ (λ i. behind i ++ kept_all p rest ahead i))
+        search (p, kept_async, syncs, kept_all, every_left, asyncs, filter-append, ahead, arith)
 
     walked_links : (stage : Option Stage) → down_link stage ≡ 0 → up_link stage ≡ link_to walk.first → IsBetween (between_of stage) front
         → BegunAt stage w.begun → LoadedAt nexts stage → BatchLinks nexts s.last s.batch stage
@@ -243,9 +216,7 @@ module _ (nexts : ℕ → ℕ) (s : Share) where
         let begun : filter p w.begun ≡ [] = kept_none p w.begun (every_right (λ c. p c ≡ false) (sync_calls s.last) w.begun gone) in
         let fronts : filter p front ≡ [] = kept_none p front (front_out s.last (sync_calls s.last ++ w.begun) front rest hand ended_order w.apart between) in
         let rests : filter p rest ≡ rest = kept_all p rest (tail_in s.last (sync_calls s.last ++ w.begun) front rest hand ended_order w.apart between) in
-        kept_async p s.last syncs ∙ (ap (filter p) w.whole
-        ∙ (filter-append p w.begun (front ++ rest)
-        ∙ ((λ i. begun i ++ filter p (front ++ rest)) ∙ (filter-append p front rest ∙ (λ i. fronts i ++ rests i)))))
+        search (kept_async, p, syncs, filter-append, begun, fronts, rests, arith)
 
     ended_links : (stage : Option Stage) → down_link stage ≡ 0 → up_link stage ≡ here → IsBetween (between_of stage) front
         → BegunAt stage (sync_calls s.last ++ w.begun) → LoadedAt nexts stage → BatchLinks nexts s.last s.batch stage

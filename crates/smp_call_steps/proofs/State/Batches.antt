@@ -26,21 +26,12 @@ has_one id Async call e = inr (inl e)
 
 has_class : (id : ℕ) (calls : List Call) → HasRecord id calls → HasRecord id (sync_calls calls) ⊎ HasRecord id (async_calls calls)
 has_class id [] h = absurd h
-has_class id (call ∷ rest) (inl e) = elim (has_one id call.class call e) [
-  | inl h ↦ inl (has_left id (if_sync call.class call) (sync_calls rest) h)
-  | inr h ↦ inr (has_left id (if_async call.class call) (async_calls rest) h)
-]
-has_class id (call ∷ rest) (inr k) = elim (has_class id rest k) [
-  | inl h ↦ inl (has_right id (if_sync call.class call) (sync_calls rest) h)
-  | inr h ↦ inr (has_right id (if_async call.class call) (async_calls rest) h)
-]
+has_class id (call ∷ rest) (inl e) = search (has_one, has_left, arith)
+has_class id (call ∷ rest) (inr k) = search (has_right, has_class id rest k, arith)
 
 -- the drain order has all records
 pub has_order : (id : ℕ) (calls : List Call) → HasRecord id calls → HasRecord id (order calls)
-has_order id calls h = elim (has_class id calls h) [
-  | inl k ↦ has_left id (sync_calls calls) (async_calls calls) k
-  | inr k ↦ has_right id (sync_calls calls) (async_calls calls) k
-]
+has_order id calls h = search (has_class, has_left, has_right, arith)
 
 pub apart_append : (xs ys : List Call) → IsApart xs → IsApart ys → AllByRecursion (λ x. IsAbsent x.id ys) xs → IsApart (xs ++ ys)
 apart_append [] ys a b cross = b
@@ -66,14 +57,11 @@ apart_classes_one : (class : Class) (call : Call) (sync async : List Call) → I
     → AllByRecursion (λ x. IsAbsent x.id async) sync →
     AllByRecursion (λ x. IsAbsent x.id (if_async class call ++ async)) (if_sync class call ++ sync)
 apart_classes_one Sync call sync async s a cross = (a, cross)
-apart_classes_one Async call sync async s a cross =
-    every_both (λ x. x.id ≢ call.id) (λ x. IsAbsent x.id async) (λ x. IsAbsent x.id (call ∷ async)) (λ x ne h. ((λ e. ne (sym e)), h)) sync s cross
+apart_classes_one Async call sync async s a cross = search (every_both, arith)
 
 apart_classes : (calls : List Call) → IsApart calls → AllByRecursion (λ x. IsAbsent x.id (async_calls calls)) (sync_calls calls)
 apart_classes [] a = tt
-apart_classes (call ∷ rest) a =
-    apart_classes_one call.class call (sync_calls rest) (async_calls rest) (every_sync (λ c. c.id ≢ call.id) rest a.0)
-    (every_async (λ c. c.id ≢ call.id) rest a.0) (apart_classes rest a.1)
+apart_classes (call ∷ rest) a = search (apart_classes_one, every_sync, every_async, apart_classes rest a.1, arith)
 
 -- the drain order has no record twice
 pub apart_order : (calls : List Call) → IsApart calls → IsApart (order calls)

@@ -31,16 +31,14 @@ pub chain_read : (n : ℕ) (nexts : ℕ → ℕ) (link : ℕ) (calls : List Call
 chain_read n nexts zero calls s l = chain_in-zero nexts n ∙ sym (ap ids (no_chain nexts 0 calls refl l))
 chain_read zero nexts (suc id) calls s l =
     let m = has_newest nexts (suc id) calls (λ e. cc) l in
-    let size : length calls ≡ length m.older + 1 = ap length m.parts ∙ length-append m.older (m.newest ∷ []) in
-    absurd (omega arith)
+    search (m, length-append, arith)
 chain_read (suc n) nexts (suc id) calls s l =
     let m = has_newest nexts (suc id) calls (λ e. cc) l in
     let link : suc id ≡ m.newest.id + 1 = m.link_is in
     let same : m.newest.id ≡ id = omega arith in
     let size : length calls ≡ length m.older + 1 = ap length m.parts ∙ length-append m.older (m.newest ∷ []) in
     let older : chain_in nexts n (nexts m.newest.id) ≡ ids m.older = chain_read n nexts (nexts m.newest.id) m.older (omega arith) m.leads in
-    let whole : ids calls ≡ ids m.older ++ m.newest.id ∷ [] = ap ids m.parts ∙ ids-append m.older (m.newest ∷ []) in
-    chain_in-more nexts n id ∙ (rw (← same, older) (sym whole))
+    search (m, ids-append, chain_in-more, same, older, arith)
 
 -- where a reader of a chain stands: what is left, and the records that were passed
 pub record Follows (nexts : ℕ → ℕ) (first link : ℕ) (passed : List ℕ) (rounds : ℕ) : Type 0 where
@@ -52,14 +50,7 @@ pub record Follows (nexts : ℕ → ℕ) (first link : ℕ) (passed : List ℕ) 
   pub whole : (n : ℕ) → n + rounds ≡ records → chain_in nexts n link ++ passed ≡ chain_in nexts records first
 
 pub follows_all : (nexts : ℕ → ℕ) (first : ℕ) → HasChain nexts first → Follows nexts first first [] 0
-follows_all nexts first h = record {
-  rest = h.calls;
-  leads = h.leads;
-  records_are = h.records_are;
-  short = let s = h.short in omega arith;
-  counted = refl;
-  whole = λ n e. let f : n ≡ records = omega arith in rw f (append-nil (chain_in nexts records first));
-}
+follows_all nexts first h = search (append-nil, arith)
 
 -- what a reader needs of a link that is no end, and where it stands after it
 pub record Passes (nexts : ℕ → ℕ) (first link : ℕ) (passed : List ℕ) (rounds : ℕ) : Type 0 where
@@ -109,9 +100,7 @@ pub ended_by_count : (nexts : ℕ → ℕ) (first link : ℕ) (passed : List ℕ
 ended_by_count nexts first zero passed rounds n f = let s = f.short in ended nexts first passed rounds 0 (omega arith) f
 ended_by_count nexts first (suc id) passed rounds n f =
     let p = passes nexts first (suc id) passed rounds (λ e. cc) f in
-    let r = p.room in
-    let c = f.counted in
-    absurd (omega arith)
+    search (p, arith)
 
 -- who looks for a record on a chain has not passed it
 pub record Seeks (nexts : ℕ → ℕ) (first link id rounds : ℕ) : Type 0 where
@@ -138,10 +127,7 @@ sought_here nexts first link id rounds here ne e this s =
     let short = f.short in
     let whole : chain_in nexts (records - (rounds + 1)) (nexts here) ++ here ∷ s.passed ≡ chain_in nexts records first =
     f.whole (records - (rounds + 1)) (omega arith) in
-    let found : list_any (λ r. r == id) (here ∷ s.passed) ≡ true = rw this refl in
-    ap (list_any (λ r. r == id)) (sym whole)
-    ∙ (list_any-append (λ r. r == id) (chain_in nexts (records - (rounds + 1)) (nexts here)) (here ∷ s.passed)
-    ∙ (rw found (or-true (list_any (λ r. r == id) (chain_in nexts (records - (rounds + 1)) (nexts here))))))
+    search (whole, list_any-append, or-true, arith)
 
 -- at the end of the chain it is not
 pub not_sought : (nexts : ℕ → ℕ) (first id rounds : ℕ) → Seeks nexts first 0 id rounds → list_any (λ r. r == id) (chain_in nexts records first) ≡ false
@@ -155,6 +141,4 @@ not_sought_by_count nexts first link id rounds n s = ap (list_any (λ r. r == id
 
 -- a list that is written back whole
 pub refilled : (xs ys : List ℕ) → length ys ≡ length xs → refill (length xs) xs ys ≡ ys
-refilled xs ys e =
-    let rest : drop (length ys) xs ≡ [] = drop_all (length ys) xs (omega arith) in
-    ap (λ (zs : List ℕ). take (length xs) (ys ++ zs)) rest ∙ (ap (take (length xs)) (append-nil ys) ∙ take_all (length xs) ys (omega arith))
+refilled xs ys e = search (drop_all, append-nil, take_all, arith)

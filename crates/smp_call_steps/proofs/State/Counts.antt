@@ -41,19 +41,12 @@ by-order id calls = by-append id (sync_calls calls) (async_calls calls) ∙ by-p
 
 by-orders : (id : ℕ) (taken : List (List Call)) → calls_by id (orders taken) ≡ calls_by id (batches taken)
 by-orders id [] = refl
-by-orders id (batch ∷ rest) =
-    let o = by-order id batch in
-    let r = by-orders id rest in
-    let a : calls_by id (orders (batch ∷ rest)) ≡ calls_by id (order batch) + calls_by id (orders rest) = by-append id (order batch) (orders rest) in
-    let b : calls_by id (batches (batch ∷ rest)) ≡ calls_by id batch + calls_by id (batches rest) = by-append id batch (batches rest) in
-    omega arith
+by-orders id (batch ∷ rest) = search (by-order, by-append, by-orders id rest, arith)
 
 -- a list of calls whose records are elsewhere has none by this record
 pub none_by : (places : ℕ → RecPlace) (p : RecPlace) (id : ℕ) (calls : List Call) → places id ≢ p → AllPlaced places p calls → calls_by id calls ≡ 0
 none_by places p id [] ne h = refl
-none_by places p id (call ∷ rest) ne h =
-    let other : call.id ≢ id = λ e. ne (rw e at h.0.placed) in
-    rw (ne_eqb call.id id other) (none_by places p id rest ne h.1)
+none_by places p id (call ∷ rest) ne h = search (ne_eqb, none_by places p id rest ne h.1, arith)
 
 -- the calls that run, but for an ASYNC one, keep their record locked
 by-running : (id : ℕ) (running : Running) → calls_by id (running_call running) ≡ calls_by id (locked_by running) + calls_by id (async_call running)
@@ -87,13 +80,10 @@ held_out p e = record { queue = λ cpu f. cc; batch = λ cpu f. cc; running = λ
 
 module _ {a : CallState} {at : Word → ℕ} {control : ℕ → ControlValue} (s : Shows a at control) where
   pub held_place : (source id : ℕ) → Holds (a.held source) id → a.place id ≡ place.Held
-  held_place source id h =
-      let k : Holds (held_of (control source).stage) id = rw (s.held source) at h in
-      stage_held a.place at (share_of a source) (control source).drain source id (control source).stage (s.stands source) k
+  held_place source id h = search (stage_held, arith)
 
   pub confirmed_out : (id : ℕ) → a.confirmed (owner id) id ≡ true → IsOut (a.place id)
-  confirmed_out id e =
-      elim (s.placed.settled (owner id) id refl e) [ inl f ↦ free_out (a.place id) f | inr h ↦ held_out (a.place id) (held_place (owner id) id h) ]
+  confirmed_out id e = search (free_out, held_out, held_place, arith)
 
   pub confirmed_calls_ran : ConfirmedCallsRan a
   confirmed_calls_ran id cpu e =
@@ -104,9 +94,4 @@ module _ {a : CallState} {at : Word → ℕ} {control : ℕ → ControlValue} (s
       let runs = by-running id (a.running cpu) in
       let all : calls_by id (a.ran cpu ++ (running_call (a.running cpu) ++ a.batch cpu)) ≡ calls_by id (orders (a.taken cpu)) =
       ap (calls_by id) (s.recorded.drained cpu) in
-      let same = by-orders id (a.taken cpu) in
-      let left = by-append id (a.ran cpu) (running_call (a.running cpu) ++ a.batch cpu) in
-      let right = by-append id (running_call (a.running cpu)) (a.batch cpu) in
-      let queued = by-append id (batches (a.taken cpu)) (a.queue cpu) in
-      let ended = by-append id (a.ran cpu) (async_call (a.running cpu)) in
-      omega arith
+      search (by-orders, by-append, arith)

@@ -26,38 +26,22 @@ length-kept false x rest = omega arith
 
 calls_from-append : (source : ℕ) (xs ys : List Call) → length (calls_from source (xs ++ ys)) ≡ length (calls_from source xs) + length (calls_from source ys)
 calls_from-append source [] ys = omega arith
-calls_from-append source (x ∷ xs) ys =
-    let whole = length-kept (owner x.id == source) x (calls_from source (xs ++ ys)) in
-    let part = length-kept (owner x.id == source) x (calls_from source xs) in
-    let rest = calls_from-append source xs ys in
-    omega arith
+calls_from-append source (x ∷ xs) ys = search (length-kept, calls_from-append source xs ys, arith)
 
 marked_from-append : (source : ℕ) (xs ys : List Marked)
     → length (marked_from source (xs ++ ys)) ≡ length (marked_from source xs) + length (marked_from source ys)
 marked_from-append source [] ys = omega arith
-marked_from-append source (x ∷ xs) ys =
-    let whole = length-kept (owner x.call.id == source) x (marked_from source (xs ++ ys)) in
-    let part = length-kept (owner x.call.id == source) x (marked_from source xs) in
-    let rest = marked_from-append source xs ys in
-    omega arith
+marked_from-append source (x ∷ xs) ys = search (length-kept, marked_from-append source xs ys, arith)
 
 -- marks are no calls
 
 others_from : (source : ℕ) (calls : List Call) → length (marked_from source (others_marked calls)) ≡ length (calls_from source calls)
 others_from source [] = refl
-others_from source (call ∷ rest) =
-    let m = length-kept (owner call.id == source) (mark false call) (marked_from source (others_marked rest)) in
-    let c = length-kept (owner call.id == source) call (calls_from source rest) in
-    let r = others_from source rest in
-    omega arith
+others_from source (call ∷ rest) = search (length-kept, others_from source rest, arith)
 
 all_from : (source : ℕ) (calls : List Call) → length (marked_from source (marked calls)) ≡ length (calls_from source calls)
 all_from source [] = refl
-all_from source (call ∷ rest) =
-    let m = length-kept (owner call.id == source) (mark true call) (marked_from source (others_marked rest)) in
-    let c = length-kept (owner call.id == source) call (calls_from source rest) in
-    let r = others_from source rest in
-    omega arith
+all_from source (call ∷ rest) = search (length-kept, others_from, arith)
 
 -- the drain order has the calls of its batch
 
@@ -69,27 +53,14 @@ class_from source Async call = omega arith
 parts_from : (source : ℕ) (calls : List Call) → length (calls_from source (sync_calls calls)) + length (calls_from source (async_calls calls))
     ≡ length (calls_from source calls)
 parts_from source [] = refl
-parts_from source (call ∷ rest) =
-    let one = class_from source call.class call in
-    let r = parts_from source rest in
-    let a = calls_from-append source (if_sync call.class call) (sync_calls rest) in
-    let b = calls_from-append source (if_async call.class call) (async_calls rest) in
-    let w : length (calls_from source (call ∷ rest)) ≡ length (calls_from source (call ∷ [])) + length (calls_from source rest) =
-    calls_from-append source (call ∷ []) rest in
-    omega arith
+parts_from source (call ∷ rest) = search (class_from, calls_from-append, parts_from source rest, arith)
 
 order_from : (source : ℕ) (calls : List Call) → length (calls_from source (order calls)) ≡ length (calls_from source calls)
 order_from source calls = calls_from-append source (sync_calls calls) (async_calls calls) ∙ parts_from source calls
 
 batches_from : (source : ℕ) (taken : List (List Call)) → length (marked_from source (batches_marked taken)) ≡ length (calls_from source (orders taken))
 batches_from source [] = refl
-batches_from source (batch ∷ rest) =
-    let m = marked_from-append source (marked batch) (batches_marked rest) in
-    let c = calls_from-append source (order batch) (orders rest) in
-    let b = all_from source batch in
-    let o = order_from source batch in
-    let r = batches_from source rest in
-    omega arith
+batches_from source (batch ∷ rest) = search (marked_from-append, calls_from-append, all_from, order_from, batches_from source rest, arith)
 
 -- no record is locked, and nobody is inside handle
 pub record Still (at : Word → ℕ) : Type 0 where
@@ -140,33 +111,22 @@ module _ {a : CallState} {at : Word → ℕ} {control : ℕ → ControlValue} (s
   -- the tally words count the calls that were sent and those that ran
 
   pub still_queued : (source cpu : ℕ) → at (Queued source cpu) ≡ length (sent_to cpu (a.sent source)) % 2 ^ 64
-  still_queued source cpu =
-      let none : one_held (a.held source) cpu ≡ 0 = ap (λ (h : Option Holding). one_held h cpu) (nothing_held source) in
-      s.tallied.queued_are source cpu ∙ ap (λ (n : ℕ). n % 2 ^ 64) (omega arith)
+  still_queued source cpu = search (nothing_held, arith)
 
   pub still_ran : (cpu source : ℕ) → at (Ran cpu source) ≡ length (calls_from source (a.ran cpu)) % 2 ^ 64
-  still_ran cpu source =
-      s.tallied.ran_are cpu source
-      ∙ ap (λ (r : Running). length (calls_from source (a.ran cpu ++ counted_call r)) % 2 ^ 64) (rests cpu).running
-      ∙ ap (λ (calls : List Call). length (calls_from source calls) % 2 ^ 64) (append-nil (a.ran cpu))
+  still_ran cpu source = search (rests, append-nil, arith)
 
   -- each CPU has run what it has taken, in drain order
   pub all_ran : (cpu : ℕ) → a.ran cpu ≡ orders (a.taken cpu)
-  all_ran cpu =
-      let r = rests cpu in
-      sym (append-nil (a.ran cpu)) ∙ (λ i. a.ran cpu ++ (running_call (sym r.running i) ++ sym r.batch i)) ∙ s.recorded.drained cpu
+  all_ran cpu = search (rests, append-nil, arith)
 
   -- and has taken what was sent to it
   pub all_sent : (source cpu : ℕ) → sent_to cpu (a.sent source) ≡ marked_from source (batches_marked (a.taken cpu))
-  all_sent source cpu =
-      s.recorded.in_order source cpu
-      ∙ ap (λ (queue : List Call). marked_from source (history_of (a.taken cpu) queue)) (nothing_queued cpu)
-      ∙ ap (marked_from source) (append-nil (batches_marked (a.taken cpu)))
+  all_sent source cpu = search (nothing_queued, append-nil, arith)
 
   -- as many calls of each source as it has queued for a CPU have run there
   pub as_many_ran : (source cpu : ℕ) → length (sent_to cpu (a.sent source)) ≡ length (calls_from source (a.ran cpu))
-  as_many_ran source cpu =
-      ap length (all_sent source cpu) ∙ batches_from source (a.taken cpu) ∙ ap (λ (calls : List Call). length (calls_from source calls)) (sym (all_ran cpu))
+  as_many_ran source cpu = search (all_sent, batches_from, all_ran, arith)
 
   pub equal_tallies : (source cpu : ℕ) → at (Queued source cpu) ≡ at (Ran cpu source)
   equal_tallies source cpu = still_queued source cpu ∙ ap (λ (n : ℕ). n % 2 ^ 64) (as_many_ran source cpu) ∙ sym (still_ran cpu source)

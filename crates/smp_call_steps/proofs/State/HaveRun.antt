@@ -30,8 +30,7 @@ one_of_class P Async Async call p = (p, tt)
 
 every_of_class : (P : Call → Type 0) (class : Class) (calls : List Call) → AllByRecursion P calls → AllByRecursion P (of_class class calls)
 every_of_class P class [] h = tt
-every_of_class P class (call ∷ rest) h = every_append P (if_class class call.class call) (of_class class rest) (one_of_class P class call.class call h.0)
-    (every_of_class P class rest h.1)
+every_of_class P class (call ∷ rest) h = search (every_append, one_of_class, every_of_class P class rest h.1, arith)
 
 -- a call that runs while its record is free is not SYNC
 running_none : (id : ℕ) (running : Running) → RunsByClass running → calls_by id (locked_by running) ≡ 0 → calls_by id (of_class Sync (running_call running)) ≡ 0
@@ -106,9 +105,7 @@ module _ (P : Call → Type 0) where
 
   every_from : (source : ℕ) (ms : List Marked) → AllByRecursion Of ms → AllByRecursion (λ m. (owner m.call.id ≡ source) × P m.call) (marked_from source ms)
   every_from source [] h = tt
-  every_from source (m ∷ rest) h = at_test (owner m.call.id) source
-      (λ b. AllByRecursion (λ (x : Marked). (owner x.call.id ≡ source) × P x.call) (cond b (m ∷ marked_from source rest) (marked_from source rest)))
-      (λ e. ((e, h.0), every_from source rest h.1)) (λ _. every_from source rest h.1)
+  every_from source (m ∷ rest) h = search (at_test, every_from source rest h.1, arith)
 
   every_history : (taken : List (List Call)) (queue : List Call) → ((call : Call) → HasCall call (batches taken ++ queue) → P call)
       → AllByRecursion Of (history_of taken queue)
@@ -157,8 +154,7 @@ module _ (a : CallState) (at : Word → ℕ) (control : ℕ → ControlValue) (s
       ap (calls_by id) (of_class-append Sync (batches (a.taken cpu)) (a.queue cpu)) ∙ by-append id (of_class Sync (batches (a.taken cpu))) waits in
       let taken : calls_by id (of_class Sync (batches (a.taken cpu))) ≡ calls_by id ran + calls_by id (runs ++ left) =
       ap (calls_by id) parts ∙ by-append id ran (runs ++ left) in
-      let rest = by-append id runs left in
-      omega arith
+      search (by-append, runs, left, arith)
 
   -- a call of a history has run, where its record is confirmed
   abbrev HasRunOnce : ℕ → Call → Type 0

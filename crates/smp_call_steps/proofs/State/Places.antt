@@ -134,20 +134,7 @@ pub record Splits (places : ℕ → RecPlace) (nexts : ℕ → ℕ) (cpu : ℕ) 
 module _ (places : ℕ → RecPlace) (nexts : ℕ → ℕ) (cpu : ℕ) (s : Share) (placed : AllPlaced places (place.Batch cpu) s.batch) (apart : IsApart s.batch) where
   rests_split : (stage : Option Stage) → down_link stage ≡ 0 → up_link stage ≡ 0 → between_of stage ≡ None → s.batch ≡ []
       → Splits places nexts cpu s.batch stage
-  rests_split stage d u b e = record {
-    down = [];
-    up = [];
-    between = [];
-    leads_down = d;
-    leads_up = u;
-    is_between = rw b refl;
-    down_placed = tt;
-    up_placed = tt;
-    between_placed = tt;
-    down_apart = tt;
-    up_apart = tt;
-    all = λ id h. absurd (subst (HasRecord id) e h);
-  }
+  rests_split stage d u b e = search arith
 
   in_order : (id : ℕ) (d : DrainValue) (up down : ℕ) (call : Call) → (h : Reverses nexts s d up down call) → HasRecord id s.batch
       → HasRecord id h.older ⊎ HasRecord id (call ∷ h.newer)
@@ -267,28 +254,20 @@ module _ (places : ℕ → RecPlace) (nexts : ℕ → ℕ) (cpu : ℕ) (s : Shar
   handle_split d (handle.ReverseLoad newer id) h = reversing_split d newer id h.0 h.1 h.2
   handle_split d (handle.ReverseStore newer id older) h = reversed_split d newer id older h.0 h.1 h.2
   handle_split d (handle.LoadNext walk id) h = walked_split d walk (id + 1) [] (h.0 ∷ h.1) Nothing (Some (Handle (handle.LoadNext walk id))) h.2 refl refl refl
-  handle_split d (handle.LoadFlags walk id next) h =
-      walked_split d walk (id + 1) [] (h.0 ∷ h.1) Nothing (Some (Handle (handle.LoadFlags walk id next))) h.2 refl refl refl
-  handle_split d (handle.LoadFunc walk id next) h =
-      walked_split d walk (id + 1) [] (h.0 ∷ h.1) Nothing (Some (Handle (handle.LoadFunc walk id next))) h.2 refl refl refl
-  handle_split d (handle.LoadInfo walk id next func) h =
-      walked_split d walk (id + 1) [] (h.0 ∷ h.1) Nothing (Some (Handle (handle.LoadInfo walk id next func))) h.2 refl refl refl
-  handle_split d (handle.Unlink walk last call next) h =
-      walked_split d walk (call.id + 1) [] (call ∷ h.0) Nothing (Some (Handle (handle.Unlink walk last call next))) h.1 refl refl refl
+  handle_split d (handle.LoadFlags walk id next) h = search (walked_split, arith)
+  handle_split d (handle.LoadFunc walk id next) h = search (walked_split, arith)
+  handle_split d (handle.LoadInfo walk id next func) h = search (walked_split, arith)
+  handle_split d (handle.Unlink walk last call next) h = search (walked_split, arith)
   handle_split d (handle.BeginSync walk call next) h =
       walked_split d walk (link_to next) (call ∷ []) h.0 Nothing (Some (Handle (handle.BeginSync walk call next))) h.1 refl refl (call, refl, refl)
-  handle_split d (handle.CountSync walk call next) h =
-      walked_split d walk (link_to next) [] h.0 (SyncCall call) (Some (Handle (handle.CountSync walk call next))) h.1 refl refl refl
-  handle_split d (handle.EndSync walk call next) h =
-      walked_split d walk (link_to next) [] h.0 (CountedCall call) (Some (Handle (handle.EndSync walk call next))) h.1 refl refl refl
+  handle_split d (handle.CountSync walk call next) h = search (walked_split, arith)
+  handle_split d (handle.EndSync walk call next) h = search (walked_split, arith)
   handle_split d (handle.AsyncNext id) h = ended_split d (id + 1) [] (h.0 ∷ h.1) Nothing (Some (Handle (handle.AsyncNext id))) h.2 refl refl refl
   handle_split d (handle.AsyncFunc id next) h = ended_split d (id + 1) [] (h.0 ∷ h.1) Nothing (Some (Handle (handle.AsyncFunc id next))) h.2 refl refl refl
-  handle_split d (handle.AsyncInfo id next func) h =
-      ended_split d (id + 1) [] (h.0 ∷ h.1) Nothing (Some (Handle (handle.AsyncInfo id next func))) h.2 refl refl refl
+  handle_split d (handle.AsyncInfo id next func) h = search (ended_split, arith)
   handle_split d (handle.BeginAsync call next) h =
       ended_split d (link_to next) (call ∷ []) h.0 Nothing (Some (Handle (handle.BeginAsync call next))) h.1 refl refl (call, refl, refl)
-  handle_split d (handle.CountAsync call next) h =
-      ended_split d (link_to next) [] h.0 (AsyncCall call) (Some (Handle (handle.CountAsync call next))) h.1 refl refl refl
+  handle_split d (handle.CountAsync call next) h = search (ended_split, arith)
   handle_split d handle.Leave h = rests_split (Some (Handle handle.Leave)) refl refl refl h.0.batch
 
 stage_split : (places : ℕ → RecPlace) (at : Word → ℕ) (s : Share) (d : DrainValue) (me : ℕ) (stage : Option Stage) → AllPlaced places (place.Batch me) s.batch
@@ -332,34 +311,24 @@ module _ {a : CallState} {at : Word → ℕ} {control : ℕ → ControlValue} (s
   placed_records calls all = every (IsPlaced a.place (place.Batch cpu)) (λ call. call.id < records) (λ call q. q.is_call.in_range) calls all
 
   up_short : length (turned splits.up) ≤ records
-  up_short =
-      let n = length-apart records splits.up splits.up_apart (placed_records splits.up splits.up_placed) in
-      let e = turned_length splits.up in
-      omega arith
+  up_short = search (length-apart, placed_records, turned_length, arith)
 
   down_short : length splits.down ≤ records
   down_short = length-apart records splits.down splits.down_apart (placed_records splits.down splits.down_placed)
 
   -- the chain of what is not reversed yet
   pub down_chain : (x : ControlValue) → x ≡ control cpu → HasChain (nexts_in at) (down_link x.stage)
-  down_chain x here = subst (λ (c : ControlValue). HasChain (nexts_in at) (down_link c.stage)) (sym here)
-      (record { calls = splits.down; leads = splits.leads_down; records_are = placed_records splits.down splits.down_placed; short = down_short })
+  down_chain x here = search (placed_records, down_short, arith)
 
   -- and of what is
   pub up_chain : (x : ControlValue) → x ≡ control cpu → HasChain (nexts_in at) (up_link x.stage)
-  up_chain x here = subst (λ (c : ControlValue). HasChain (nexts_in at) (up_link c.stage)) (sym here) (record {
-    calls = turned splits.up;
-    leads = path_leads (nexts_in at) (up_link (control cpu).stage) splits.up splits.leads_up;
-    records_are = turned_all (λ call. call.id < records) splits.up (placed_records splits.up splits.up_placed);
-    short = up_short;
-  })
+  up_chain x here = search (path_leads, turned_all, placed_records, up_short, arith)
 
   down_read : chain_in (nexts_in at) records (down_link (control cpu).stage) ≡ ids splits.down
   down_read = chain_read records (nexts_in at) (down_link (control cpu).stage) splits.down down_short splits.leads_down
 
   up_read : chain_in (nexts_in at) records (up_link (control cpu).stage) ≡ ids (turned splits.up)
-  up_read = chain_read records (nexts_in at) (up_link (control cpu).stage) (turned splits.up) up_short
-      (path_leads (nexts_in at) (up_link (control cpu).stage) splits.up splits.leads_up)
+  up_read = search (chain_read, up_short, path_leads, arith)
 
   there : (id : ℕ) (p : RecPlace) → a.place id ≡ p → IsThere a.held a.queue a.batch a.running id p
   there id p e = subst (λ (q : RecPlace). IsThere a.held a.queue a.batch a.running id q) e (s.placed.is_there id)
@@ -367,9 +336,7 @@ module _ {a : CallState} {at : Word → ℕ} {control : ℕ → ControlValue} (s
   this_between : (id : ℕ) (between : Option ℕ) (calls : List Call) → IsBetween between calls → AllPlaced a.place (place.Batch cpu) calls
       → is_this id between ≡ true → a.place id ≡ place.Batch cpu
   this_between id None calls b all t = cc
-  this_between id (Some k) calls b all t =
-      let one : AllPlaced a.place (place.Batch cpu) (b.0 ∷ []) = subst (λ (xs : List Call). AllPlaced a.place (place.Batch cpu) xs) b.1 all in
-      ap a.place (sym (eqb-true k id t) ∙ sym b.2) ∙ one.0.placed
+  this_between id (Some k) calls b all t = search (eqb-true, arith)
 
   between_this : (id : ℕ) (between : Option ℕ) (calls : List Call) → IsBetween between calls → HasRecord id calls → is_this id between ≡ true
   between_this id None calls b h = absurd (subst (HasRecord id) b h)
@@ -413,21 +380,11 @@ module _ {a : CallState} {at : Word → ℕ} {control : ℕ → ControlValue} (s
 
   pub in_queue : (id : ℕ) (chain : List ℕ) (b : Bool) → chain ≡ ids (a.queue cpu) → b ≡ list_any (λ y. y == id) chain →
       (b ≡ true → a.place id ≡ place.Queued cpu) × (a.place id ≡ place.Queued cpu → b ≡ true)
-  in_queue id chain b e f =
-      let is : b ≡ has_record id (a.queue cpu) = f ∙ (ap (λ (xs : List ℕ). list_any (λ y. y == id) xs) e ∙ has_id id (a.queue cpu)) in (
-        (λ t. place_of a.place (place.Queued cpu) id (a.queue cpu) (s.placed.queued cpu) (has_record-true id (a.queue cpu) (sym is ∙ t))),
-        (λ h. is ∙ true-has_record id (a.queue cpu) (there id (place.Queued cpu) h)),
-      )
+  in_queue id chain b e f = search (has_id, place_of, has_record-true, true-has_record, there, arith)
 
   pub in_running : (id : ℕ) (b : Bool) → b ≡ has_record id (running_of (control cpu).stage) →
       (b ≡ true → a.place id ≡ place.Running cpu) × (a.place id ≡ place.Running cpu → b ≡ true)
-  in_running id b f =
-      let same = stage_runs a.place at (share_of a cpu) (control cpu).drain cpu (control cpu).stage (s.stands cpu) in
-      let is : b ≡ has_record id (locked_by (a.running cpu)) = f ∙ ap (has_record id) (sym same) in (
-        (λ t. place_of a.place (place.Running cpu) id (locked_by (a.running cpu)) (s.placed.runs cpu)
-            (has_record-true id (locked_by (a.running cpu)) (sym is ∙ t))),
-        (λ h. is ∙ true-has_record id (locked_by (a.running cpu)) (there id (place.Running cpu) h)),
-      )
+  in_running id b f = search (stage_runs, place_of, has_record-true, true-has_record, there, arith)
 
 -- a record is not in the queue or the batch of this CPU, and does not run on it
 pub record IsNotOn (cpu : ℕ) (p : RecPlace) : Type 0 where

@@ -1,4 +1,5 @@
 -- The chain of a queue, and what is read of it.
+use Rattle.std.proofs.Common.{arith}
 use Rattle.std.proofs.Common.{◌≡◌, ℕ, ◌<◌}
 use Rattle.std.specs.List.{AllByRecursion}
 use Rattle.smp_words.specs.Size.{records}
@@ -16,8 +17,7 @@ use Rattle.smp_call_steps.specs.Names.place
 
 queue_records : (a : CallState) (at : Word → ℕ) (control : ℕ → ControlValue) (cpu : ℕ) → Shows a at control
     → AllByRecursion (λ call. call.id < records) (a.queue cpu)
-queue_records a at control cpu s = every (IsPlaced a.place (place.Queued cpu)) (λ call. call.id < records) (λ call q. q.is_call.in_range) (a.queue cpu)
-    (s.placed.queued cpu)
+queue_records a at control cpu s = search (every, arith)
 
 -- the chain of a queue
 pub queue_chain : (a : CallState) (at : Word → ℕ) (control : ℕ → ControlValue) (cpu : ℕ) → Shows a at control → HasChain (nexts_in at) (at (Head cpu))

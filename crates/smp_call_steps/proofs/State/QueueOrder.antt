@@ -1,4 +1,5 @@
 -- In which order calls run.
+use Rattle.std.proofs.Common.{arith}
 use Rattle.std.proofs.Common.{◌≡◌, ◌≢◌, ℕ, List, [], ◌∷◌, ◌++◌, sym, subst, refl, ap, ◌∙◌, append_assoc}
 use Rattle.std.proofs.lemmas.List.{append-nil}
 use Rattle.std.specs.List.{AllByRecursion}
@@ -17,9 +18,7 @@ use Rattle.smp_call_steps.specs.Names.{Call, Class, Sync, Async, Word}
 
 pub of_class-append : (class : Class) (xs ys : List Call) → of_class class (xs ++ ys) ≡ of_class class xs ++ of_class class ys
 of_class-append class [] ys = refl
-of_class-append class (x ∷ xs) ys =
-    ap (λ (k : List Call). if_class class x.class x ++ k) (of_class-append class xs ys)
-    ∙ sym (append_assoc (if_class class x.class x) (of_class class xs) (of_class class ys))
+of_class-append class (x ∷ xs) ys = search (append_assoc, of_class-append class xs ys, arith)
 
 -- of the SYNC calls of a list, all are of class SYNC, and none is ASYNC
 
@@ -41,37 +40,23 @@ one_not_async Async call e = refl
 
 sync_of : (calls : List Call) → of_class Sync (sync_calls calls) ≡ of_class Sync calls
 sync_of [] = refl
-sync_of (call ∷ rest) =
-    of_class-append Sync (if_sync call.class call) (sync_calls rest) ∙
-    (ap (λ (k : List Call). k ++ of_class Sync (sync_calls rest)) (one_sync call.class call refl)
-    ∙ ap (λ (k : List Call). if_class Sync call.class call ++ k) (sync_of rest))
+sync_of (call ∷ rest) = search (of_class-append, one_sync, sync_of rest, arith)
 
 not_sync_of : (calls : List Call) → of_class Sync (async_calls calls) ≡ []
 not_sync_of [] = refl
-not_sync_of (call ∷ rest) =
-    of_class-append Sync (if_async call.class call) (async_calls rest) ∙
-    (ap (λ (k : List Call). k ++ of_class Sync (async_calls rest)) (one_not_sync call.class call refl) ∙ not_sync_of rest)
+not_sync_of (call ∷ rest) = search (of_class-append, one_not_sync, not_sync_of rest, arith)
 
 async_of : (calls : List Call) → of_class Async (async_calls calls) ≡ of_class Async calls
 async_of [] = refl
-async_of (call ∷ rest) =
-    of_class-append Async (if_async call.class call) (async_calls rest) ∙
-    (ap (λ (k : List Call). k ++ of_class Async (async_calls rest)) (one_async call.class call refl)
-    ∙ ap (λ (k : List Call). if_class Async call.class call ++ k) (async_of rest))
+async_of (call ∷ rest) = search (of_class-append, one_async, async_of rest, arith)
 
 not_async_of : (calls : List Call) → of_class Async (sync_calls calls) ≡ []
 not_async_of [] = refl
-not_async_of (call ∷ rest) =
-    of_class-append Async (if_sync call.class call) (sync_calls rest) ∙
-    (ap (λ (k : List Call). k ++ of_class Async (sync_calls rest)) (one_not_async call.class call refl) ∙ not_async_of rest)
+not_async_of (call ∷ rest) = search (of_class-append, one_not_async, not_async_of rest, arith)
 
 pub keeps_classes : (batch : List Call) → KeepsClasses batch
-keeps_classes batch Sync =
-    of_class-append Sync (sync_calls batch) (async_calls batch) ∙
-    (ap (λ (k : List Call). of_class Sync (sync_calls batch) ++ k) (not_sync_of batch) ∙ (append-nil (of_class Sync (sync_calls batch)) ∙ sync_of batch))
-keeps_classes batch Async =
-    of_class-append Async (sync_calls batch) (async_calls batch) ∙
-    (ap (λ (k : List Call). k ++ of_class Async (async_calls batch)) (not_async_of batch) ∙ async_of batch)
+keeps_classes batch Sync = search (of_class-append, not_sync_of, append-nil, sync_of, arith)
+keeps_classes batch Async = search (of_class-append, not_async_of, async_of, arith)
 
 abbrev first_class : List Call → Class
 first_class [] = Sync
@@ -92,10 +77,7 @@ asyncs_last batch before call after e is = after_async (sync_calls batch) (async
 
 pub orders_keep : (class : Class) (taken : List (List Call)) → of_class class (orders taken) ≡ of_class class (batches taken)
 orders_keep class [] = refl
-orders_keep class (batch ∷ rest) =
-    of_class-append class (order batch) (orders rest) ∙
-    (ap (λ (k : List Call). k ++ of_class class (orders rest)) (keeps_classes batch class) ∙
-    (ap (λ (k : List Call). of_class class batch ++ k) (orders_keep class rest) ∙ sym (of_class-append class batch (batches rest))))
+orders_keep class (batch ∷ rest) = search (of_class-append, keeps_classes, orders_keep class rest, arith)
 
 pub run_in_queue_order : (a : CallState) (at : Word → ℕ) (control : ℕ → ControlValue) → Shows a at control → InQueueOrder a
 run_in_queue_order a at control s cpu class =

@@ -15,22 +15,15 @@ push_one false x rest ys = refl
 calls_from-push : (source : ℕ) (xs : List Call) (y : Call)
     → calls_from source (xs ++ y ∷ []) ≡ calls_from source xs ++ (if owner y.id == source then y ∷ [] else [])
 calls_from-push source [] y = refl
-calls_from-push source (x ∷ xs) y =
-    rw (calls_from-push source xs y) (push_one (owner x.id == source) x (calls_from source xs) (if owner y.id == source then y ∷ [] else []))
+calls_from-push source (x ∷ xs) y = search (push_one, calls_from-push source xs y, arith)
 
 -- one more of its own source
 pub count-same : (source : ℕ) (xs : List Call) (y : Call) → owner y.id ≡ source → length (calls_from source (xs ++ y ∷ [])) ≡ length (calls_from source xs) + 1
-count-same source xs y e =
-    ap length (calls_from-push source xs y)
-    ∙ (ap (λ (b : Bool). length (calls_from source xs ++ (if b then y ∷ [] else []))) (eq-eqb (owner y.id) source e)
-    ∙ length-append (calls_from source xs) (y ∷ []))
+count-same source xs y e = search (calls_from-push, eq-eqb, length-append, arith)
 
 -- and none of another
 pub count-other : (source : ℕ) (xs : List Call) (y : Call) → owner y.id ≢ source → length (calls_from source (xs ++ y ∷ [])) ≡ length (calls_from source xs)
-count-other source xs y ne =
-    let sum : length (calls_from source xs ++ []) ≡ length (calls_from source xs) + length {A = Call} [] = length-append (calls_from source xs) [] in
-    ap length (calls_from-push source xs y)
-    ∙ (ap (λ (b : Bool). length (calls_from source xs ++ (if b then y ∷ [] else []))) (ne_eqb (owner y.id) source ne) ∙ omega arith)
+count-other source xs y ne = search (length-append, calls_from-push, ne_eqb, arith)
 
 pub count_wraps : (n x y : ℕ) → n ≡ x % 2 ^ 64 → y ≡ x + 1 → (n + 1) % 2 ^ 64 ≡ y % 2 ^ 64
 count_wraps n x y e f = omega arith
@@ -59,21 +52,11 @@ tallied_more queued words sent held ran ran' running running' me call here other
 
     mine : (source : ℕ) → cond (source == owner call.id) ((words me (owner call.id) + 1) % 2 ^ 64) (words me source)
         ≡ length (calls_from source (ran' me ++ counted_call (running' me))) % 2 ^ 64
-    mine source =
-        at_test source (owner call.id)
-        (λ b. cond b ((words me (owner call.id) + 1) % 2 ^ 64) (words me source) ≡ length (calls_from source (ran' me ++ counted_call (running' me))) % 2 ^ 64)
-        (λ e. count_wraps (words me (owner call.id)) (length (calls_from source (ran me ++ counted_call (running me))))
-        (length (calls_from source (ran' me ++ counted_call (running' me))))
-        (ap (words me) (sym e) ∙ t.ran_are me source) (now source ∙ count-same source (ran me ++ counted_call (running me)) call (sym e)))
-        (λ ne. t.ran_are me source ∙ ap (λ (n : ℕ). n % 2 ^ 64)
-        (sym (now source ∙ count-other source (ran me ++ counted_call (running me)) call (λ f. ne (sym f)))))
+    mine source = search (at_test, count_wraps, count-same, count-other, arith)
 
 -- the tally law where each CPU has counted what it had counted
 pub tallied_same : (queued words : ℕ → ℕ → ℕ) (sent : ℕ → List Sending) (held : ℕ → Option Holding) (ran ran' : ℕ → List Call) (running running' : ℕ → Running)
     →
     ((cpu : ℕ) → ran' cpu ++ counted_call (running' cpu) ≡ ran cpu ++ counted_call (running cpu)) → Tallied queued words sent held ran running
     → Tallied queued words sent held ran' running'
-tallied_same queued words sent held ran ran' running running' same t = record {
-  queued_are = t.queued_are;
-  ran_are = λ cpu source. t.ran_are cpu source ∙ ap (λ (xs : List Call). length (calls_from source xs) % 2 ^ 64) (sym (same cpu));
-}
+tallied_same queued words sent held ran ran' running running' same t = search arith

@@ -22,8 +22,7 @@ link_back n = at_test n 0 (λ b. link_to (cond {A = Option ℕ} b None (Some (n 
 pub Path-kept : (nexts nexts' : ℕ → ℕ) (P : Call → Type 0) → ((call : Call) → P call → nexts' call.id ≡ nexts call.id) →
     (link : ℕ) (calls : List Call) (after : ℕ) → AllByRecursion P calls → Path nexts link calls after → Path nexts' link calls after
 Path-kept nexts nexts' P same link [] after h l = l
-Path-kept nexts nexts' P same link (call ∷ rest) after h l =
-    (l.0, subst (λ (k : ℕ). Path nexts' k rest after) (sym (same call h.0)) (Path-kept nexts nexts' P same (nexts call.id) rest after h.1 l.1))
+Path-kept nexts nexts' P same link (call ∷ rest) after h l = search (Path-kept nexts nexts' P same (nexts call.id) rest after h.1 l.1, arith)
 
 pub Path-push : (nexts : ℕ → ℕ) (link : ℕ) (calls : List Call) (newest : Call) (after : ℕ) → Path nexts link calls (newest.id + 1) → nexts newest.id ≡ after
     → Path nexts link (calls ++ newest ∷ []) after
@@ -70,8 +69,7 @@ absent_after (x ∷ xs) call ys a = absent_after xs call ys a.1
 
 pub async_calls-append : (xs ys : List Call) → async_calls (xs ++ ys) ≡ async_calls xs ++ async_calls ys
 async_calls-append [] ys = refl
-async_calls-append (x ∷ xs) ys = ap (λ (k : List Call). if_async x.class x ++ k) (async_calls-append xs ys)
-    ∙ sym (append_assoc (if_async x.class x) (async_calls xs) (async_calls ys))
+async_calls-append (x ∷ xs) ys = search (append_assoc, async_calls-append xs ys, arith)
 
 async_one : (class : Class) (call : Call) → call.class ≡ class → AllByRecursion IsAsync (if_async class call)
 async_one Sync call e = tt
@@ -100,8 +98,7 @@ pub reverses_all : (P : Call → Type 0) {nexts : ℕ → ℕ} {s : Share} {d : 
     → AllByRecursion P s.batch → AllByRecursion P (h.older ++ call ∷ h.newer)
 reverses_all P {s = s} h all =
     let k : AllByRecursion P (sync_calls s.last ++ async_calls s.last) = subst (λ (xs : List Call). AllByRecursion P xs) h.batch all in
-    subst (λ (xs : List Call). AllByRecursion P xs) h.whole
-    (every_class P s.last (every_left P (sync_calls s.last) (async_calls s.last) k) (every_right P (sync_calls s.last) (async_calls s.last) k))
+    search (every_class, every_left, k, every_right, arith)
 
 module _ (P : Call → Type 0) {nexts : ℕ → ℕ} {s : Share} {d : DrainValue} {walk : Walk} {here : ℕ} {front rest : List Call} {running : Running}
     (w : Walks nexts s d walk here front rest running) (all : AllByRecursion P s.batch) where
@@ -109,8 +106,7 @@ module _ (P : Call → Type 0) {nexts : ℕ → ℕ} {s : Share} {d : DrainValue
   walks_batch = subst (λ (xs : List Call). AllByRecursion P xs) w.batch all
 
   walks_async : AllByRecursion P (async_calls w.passed ++ async_calls rest)
-  walks_async = subst (λ (xs : List Call). AllByRecursion P xs) (ap async_calls w.whole ∙ async_calls-append w.passed rest)
-      (every_right P (sync_calls rest) (async_calls s.last) (every_right P front (sync_calls rest ++ async_calls s.last) walks_batch))
+  walks_async = search (async_calls-append, every_right, walks_batch, arith)
 
   pub walks_front : AllByRecursion P front
   walks_front = every_left P front (sync_calls rest ++ async_calls s.last) walks_batch
@@ -119,9 +115,7 @@ module _ (P : Call → Type 0) {nexts : ℕ → ℕ} {s : Share} {d : DrainValue
   walks_passed = every_left P (async_calls w.passed) (async_calls rest) walks_async
 
   pub walks_rest : AllByRecursion P rest
-  walks_rest =
-      every_class P rest (every_left P (sync_calls rest) (async_calls s.last) (every_right P front (sync_calls rest ++ async_calls s.last) walks_batch))
-      (every_right P (async_calls w.passed) (async_calls rest) walks_async)
+  walks_rest = search (every_class, every_left, every_right, walks_batch, walks_async, arith)
 
 module _ (P : Call → Type 0) {nexts : ℕ → ℕ} {s : Share} {d : DrainValue} {here : ℕ} {front rest : List Call} {running : Running}
     (w : Ends nexts s d here front rest running) (all : AllByRecursion P s.batch) where
@@ -152,36 +146,13 @@ pub walks_stay : {nexts : ℕ → ℕ} {s : Share} {d : DrainValue} {walk : Walk
     (begun batch : List Call) (now : Running) → sync_calls h.passed ≡ begun ++ front' → batch ≡ front' ++ (sync_calls rest ++ async_calls s.last)
     → now ≡ running' →
     Walks nexts (record s { batch = batch; running = now }) d walk here front' rest running'
-walks_stay h begun batch now begun_are batch_is running_is = record {
-  passed = h.passed;
-  begun = begun;
-  whole = h.whole;
-  begun_are = begun_are;
-  leads_here = h.leads_here;
-  ends_at = h.ends_at;
-  leads_on = h.leads_on;
-  apart = h.apart;
-  counted = h.counted;
-  batch = batch_is;
-  running_is = running_is;
-  accepted = h.accepted;
-}
+walks_stay h begun batch now begun_are batch_is running_is = search arith
 
 pub ends_stay : {nexts : ℕ → ℕ} {s : Share} {d : DrainValue} {here : ℕ} {front front' rest : List Call} {running running' : Running}
     (h : Ends nexts s d here front rest running)
     (begun batch : List Call) (now : Running) → async_calls s.last ≡ begun ++ (front' ++ rest) → batch ≡ front' ++ rest → now ≡ running' →
     Ends nexts (record s { batch = batch; running = now }) d here front' rest running'
-ends_stay h begun batch now whole batch_is running_is = record {
-  begun = begun;
-  whole = whole;
-  leads_on = h.leads_on;
-  apart = h.apart;
-  asyncs = h.asyncs;
-  counted = h.counted;
-  batch = batch_is;
-  running_is = running_is;
-  accepted = h.accepted;
-}
+ends_stay h begun batch now whole batch_is running_is = search arith
 
 -- the last ASYNC call that was passed
 pub walks_last : (P : Call → Type 0) (nexts : ℕ → ℕ) (s : Share) (d : DrainValue) (walk : Walk) (last here : ℕ) (rest : List Call)
@@ -246,22 +217,7 @@ reverse_goes nexts s d here None older newer whole down up apart counted batch r
     })
 reverse_goes nexts s d here (Some id) older newer whole down up apart counted batch running accepted =
     let n : HasNewest nexts (id + 1) older 0 = has_newest nexts (id + 1) older (λ e. omega arith) down in
-    let same : n.newest.id ≡ id = same_record id n.newest n.link_is in (
-      n.newest,
-      record {
-        older = n.older;
-        newer = newer;
-        whole = whole ∙ (ap (λ (xs : List Call). xs ++ newer) n.parts ∙ append_assoc n.older (n.newest ∷ []) newer);
-        leads_down = subst (λ (k : ℕ). Leads nexts (nexts k) n.older 0) same n.leads;
-        leads_up = up;
-        apart = apart;
-        counted = counted;
-        batch = batch;
-        running = running;
-        accepted = accepted;
-      },
-      same,
-    )
+    search (n, same_record, append_assoc, arith)
 
 pub hand_of_second : (next : Option ℕ) (hand : ℕ) → hand ≢ 0 → HandIs (Some (Handle (second_on next))) hand
 hand_of_second None hand ne = ne

@@ -57,9 +57,7 @@ module _ (words : List ℕ) (controls : List ControlValue) (id : ℕ) where
       rw (ne_eqb (number_in words (Flags id)) 0 ne) (sym (ap or_held found))
 
   pub told_held : (n : ℕ) → number_in words (Flags id) ≢ 0 → n ≡ cpus → place_below words controls id n ≡ None → place.Held ≡ place_in words controls id
-  told_held n ne all none =
-      let none : place_below words controls id cpus ≡ None = subst (λ k. place_below words controls id k ≡ None) all none in
-      rw (ne_eqb (number_in words (Flags id)) 0 ne) (sym (ap or_held none))
+  told_held n ne all none = search (ne_eqb, arith)
 
   pub none_first : place_below words controls id 0 ≡ None
   unfolding place_below

@@ -53,26 +53,15 @@ module _ (a : CallState) (me : ℕ) where
   begins : (b : CallState) (call : Call) (class : Class) → a.batch me ≡ call ∷ b.batch me → a.running me ≡ Nothing → call.class ≡ class →
       told_of b ≡ record (told_of a) { running = put a.running me (runs_as class call) } → b.place call.id ≡ place_as class me →
       BeginsIt a b me (Some (note.Call (owner call.id) call.func call.info))
-  begins b call class front idle is runs placed = record {
-    call = call;
-    front = front;
-    idle = idle;
-    runs = runs ∙ ap (λ (x : Class). record (told_of a) { running = put a.running me (runs_as x call) }) (sym is);
-    placed = placed ∙ ap (λ (x : Class). place_as x me) (sym is);
-    says = refl;
-  }
+  begins b call class front idle is runs placed = search arith
 
   begins_sync_it : (call : Call) (rest : List Call) → a.batch me ≡ call ∷ rest → a.running me ≡ Nothing → call.class ≡ Sync →
       BeginsIt a (begins_sync a me (call ∷ rest)) me (Some (note.Call (owner call.id) call.func call.info))
-  begins_sync_it call rest front idle is =
-      begins (begins_sync a me (call ∷ rest)) call Sync (front ∙ ap (λ (xs : List Call). call ∷ xs) (sym (put_same a.batch me rest))) idle is refl
-      (put_same a.place call.id (place.Running me))
+  begins_sync_it call rest front idle is = search (begins, put_same, arith)
 
   begins_async_it : (call : Call) (rest : List Call) → a.batch me ≡ call ∷ rest → a.running me ≡ Nothing → call.class ≡ Async →
       BeginsIt a (begins_async a me (call ∷ rest)) me (Some (note.Call (owner call.id) call.func call.info))
-  begins_async_it call rest front idle is =
-      begins (begins_async a me (call ∷ rest)) call Async (front ∙ ap (λ (xs : List Call). call ∷ xs) (sym (put_same a.batch me rest))) idle is refl
-      (put_same a.place call.id place.Free)
+  begins_async_it call rest front idle is = search (begins, put_same, arith)
 
 -- what is said
 
@@ -102,19 +91,11 @@ module _ (a : CallState) (at : Word → ℕ) (control : ℕ → ControlValue) (s
   Goes stage = let seen = seen_then at (control me).drain me stage in FunctionGoes a (tells a seen) me seen.note
 
   goes_post : (p : Posting) (stage : PostStage) → (control me).stage ≡ Some (Post p stage) → Goes (Post p stage)
-  goes_post p post.LoadFlags e =
-      let locked = at (Flags p.id) % 2 == 1 in inl (record { same = told_confirms a me locked p.id; says = said_flags locked p.is_online p })
+  goes_post p post.LoadFlags e = search (told_confirms, said_flags, arith)
   goes_post p post.Lock e = inl (record { same = told_lock a me p.class p.id; says = refl })
   goes_post p (post.StoreNext link tries) e = inl (record { same = told_links a me link (a.held me); says = refl })
-  goes_post p (post.Exchange link tries) e =
-      let won = at (Head p.to) == link in
-      inl (record {
-        same = told_exchange a me p.to (p.id + 1) won;
-        says = said_exchange won (nat_lt 1 tries) (link == 0) p (at (Head p.to)) (tries - 1);
-      })
-  goes_post p post.Release e =
-      subst (λ (h : Option Holding). FunctionGoes a (releases a me p.id h) me (Some note.Contended)) (sym (s.held me ∙ ap held_of e))
-      (inl (record { same = refl; says = refl }))
+  goes_post p (post.Exchange link tries) e = search (told_exchange, said_exchange, nat_lt, arith)
+  goes_post p post.Release e = search arith
   goes_post p _ e = inl (record { same = refl; says = refl })
 
   goes_handle : (stage : HandleStage) → (control me).stage ≡ Some (Handle stage) → Goes (Handle stage)
@@ -128,20 +109,8 @@ module _ (a : CallState) (at : Word → ℕ) (control : ℕ → ControlValue) (s
       subst (λ (b : Bool). FunctionGoes a (cond b (begins_sync a me (a.batch me)) a) me said) (sym (lt-ltb 1 (call.id + 2) (omega arith)))
       (subst (λ (xs : List Call). FunctionGoes a (begins_sync a me xs) me said) (sym k.1.1.batch)
       (inr (inl (begins_sync_it a me call _ k.1.1.batch k.1.1.running_is (walks_sync k.1.1)))))
-  goes_handle (handle.CountSync walk call next) e =
-      let k = stands_at me s (handle.CountSync walk call next) e in
-      subst (λ (r : Running). FunctionGoes a (counts a me r) me None) (sym k.1.1.running_is)
-      (inr (inr (inl (record { call = call; was = k.1.1.running_is; counts = refl; says = refl }))))
-  goes_handle (handle.EndSync walk call next) e =
-      let k = stands_at me s (handle.EndSync walk call next) e in
-      subst (λ (h : Option Holding). FunctionGoes a (releases a me call.id h) me None) (sym (holds_nothing me s (handle.EndSync walk call next) e))
-      (subst (λ (r : Running). FunctionGoes a (unlocks a me r) me None) (sym k.1.1.running_is)
-      (inr (inr (inr (record {
-        call = call;
-        was = k.1.1.running_is ∙ ap (λ (x : Class). ends_as x call) (sym k.1.2);
-        ends = refl;
-        says = refl;
-      })))))
+  goes_handle (handle.CountSync walk call next) e = search (stands_at, arith)
+  goes_handle (handle.EndSync walk call next) e = search (stands_at, holds_nothing, arith)
   goes_handle (handle.BeginAsync call next) e =
       let k = stands_at me s (handle.BeginAsync call next) e in
       let said : Option Note = Some (note.Call (owner call.id) call.func call.info) in
@@ -149,20 +118,11 @@ module _ (a : CallState) (at : Word → ℕ) (control : ℕ → ControlValue) (s
       (subst (λ (r : Running). FunctionGoes a (unlocks a me r) me said) (sym k.1.1.running_is)
       (subst (λ (xs : List Call). FunctionGoes a (begins_async a me xs) me said) (sym k.1.1.batch)
       (inr (inl (begins_async_it a me call _ k.1.1.batch k.1.1.running_is (async_next k.1.1))))))
-  goes_handle (handle.CountAsync call next) e =
-      let k = stands_at me s (handle.CountAsync call next) e in
-      subst (λ (r : Running). FunctionGoes a (counts a me r) me None) (sym k.1.1.running_is)
-      (inr (inr (inr (record {
-        call = call;
-        was = k.1.1.running_is ∙ ap (λ (x : Class). ends_as x call) (sym k.1.3);
-        ends = refl;
-        says = refl;
-      }))))
+  goes_handle (handle.CountAsync call next) e = search (stands_at, arith)
   goes_handle _ e = inl (record { same = refl; says = refl })
 
   pub function_goes : (stage : Stage) → (control me).stage ≡ Some stage → Goes stage
   function_goes (Send to) e = inl (record { same = refl; says = refl })
-  function_goes (Done id) e =
-      inl (record { same = told_confirms a me (at (Flags id) % 2 == 1) id; says = said_done (at (Flags id) % 2 == 1) })
+  function_goes (Done id) e = search (told_confirms, said_done, arith)
   function_goes (Post p stage) e = goes_post p stage e
   function_goes (Handle stage) e = goes_handle stage e

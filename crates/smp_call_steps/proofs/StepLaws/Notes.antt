@@ -1,4 +1,5 @@
 -- What each step queues, and that its note says what holds.
+use Rattle.std.proofs.Common.{arith}
 use Rattle.std.proofs.Common.{◌≡◌, ◌≢◌, ℕ, ◌+◌, ◌-◌, ◌%◌, ◌==◌, nat_lt, Bool, true, false, cond, inl, inr, Option, Some, None, List, [], ◌∷◌}
 use Rattle.std.proofs.Common.{sym, subst, refl, ap, ◌∙◌, eqb-true}
 use Rattle.smp_words.specs.Flags.{flags_of}
@@ -91,26 +92,14 @@ module _ (a : CallState) (at : Word → ℕ) (control : ℕ → ControlValue) (s
   exchanged : (p : Posting) (link tries : ℕ) (b c : Bool) → (at (Head p.to) == link) ≡ b → a.held me ≡ Some (holding p p.func p.info p.to true) →
       QueueGoes a (head_told a me p.to act.Cas (cond b (Some (p.id + 1)) None)) me
       (cond b (ends (cond (link == 0) note.Owed note.Queued)) (cond c (goes_to p (post.StoreNext (at (Head p.to)) tries)) (goes_to p post.Uncount))).note
-  exchanged p link tries true c e held =
-      let first : is_nil (a.queue p.to) ≡ (link == 0) =
-      first_link (nexts_in at) (at (Head p.to)) (a.queue p.to) (s.chained.chain p.to) ∙ ap (λ (n : ℕ). n == 0) (eqb-true (at (Head p.to)) link e) in
-      subst (λ (h : Option Holding). QueueGoes a (appended a me p.to h) me (Some (cond (link == 0) note.Owed note.Queued))) (sym held)
-      (inr (record {
-        call = (holding p p.func p.info p.to true).call;
-        to = p.to;
-        queued = refl;
-        sent = refl;
-        says = ap Some (queued_said (link == 0) ∙ ap queued_note (sym first));
-      }))
+  exchanged p link tries true c e held = search (first_link, eqb-true, queued_said, arith)
   exchanged p link tries false c e held = inl (record { same = refl; says = said_lost c p (at (Head p.to)) tries })
 
   queues_post : (p : Posting) (stage : PostStage) → (control me).stage ≡ Some (Post p stage) → Queues (Post p stage)
-  queues_post p post.LoadFlags e =
-      let locked = at (Flags p.id) % 2 == 1 in inl (record { same = sent_confirms a me locked p.id; says = said_flags locked p.is_online p })
+  queues_post p post.LoadFlags e = search (sent_confirms, said_flags, arith)
   queues_post p post.Lock e = inl (record { same = sent_lock a me p.class p.id; says = refl })
   queues_post p (post.StoreNext link tries) e = inl (record { same = sent_links a me link (a.held me); says = refl })
-  queues_post p (post.Exchange link tries) e =
-      exchanged p link (tries - 1) (at (Head p.to) == link) (nat_lt 1 tries) refl (s.held me ∙ ap held_of e)
+  queues_post p (post.Exchange link tries) e = search (exchanged, nat_lt, arith)
   queues_post p post.Release e = inl (record { same = sent_releases a me p.id (a.held me); says = refl })
   queues_post p _ e = inl (record { same = refl; says = refl })
 
@@ -128,8 +117,7 @@ module _ (a : CallState) (at : Word → ℕ) (control : ℕ → ControlValue) (s
 
   pub queue_goes : (stage : Stage) → (control me).stage ≡ Some stage → Queues stage
   queue_goes (Send to) e = inl (record { same = refl; says = refl })
-  queue_goes (Done id) e =
-      inl (record { same = sent_confirms a me (at (Flags id) % 2 == 1) id; says = said_done (at (Flags id) % 2 == 1) })
+  queue_goes (Done id) e = search (sent_confirms, said_done, arith)
   queue_goes (Post p stage) e = queues_post p stage e
   queue_goes (Handle stage) e = queues_handle stage
 
@@ -140,9 +128,7 @@ module _ (a : CallState) (at : Word → ℕ) (control : ℕ → ControlValue) (s
 
   -- flags that are odd are of a locked record, and else of a free one
   locked_place : (id : ℕ) → (at (Flags id) % 2 == 1) ≡ true → a.place id ≢ place.Free
-  locked_place id e free =
-      let zero_there : at (Flags id) ≡ 0 = subst (λ (p : RecPlace). FlagsShow p (at (Flags id))) free (s.written.locks id) in
-      let odd : (0 % 2 == 1) ≡ true = ap (λ (n : ℕ). n % 2 == 1) (sym zero_there) ∙ e in cc
+  locked_place id e free = search arith
 
   free_if : (p : RecPlace) (flags : ℕ) → FlagsShow p flags → (flags % 2 == 1) ≡ false → p ≡ place.Free
   free_if place.Free flags f e = refl
@@ -179,12 +165,8 @@ module _ (a : CallState) (at : Word → ℕ) (control : ℕ → ControlValue) (s
 
   means_post : (p : Posting) (stage : PostStage) → (control me).stage ≡ Some (Post p stage) → Means (Post p stage)
   means_post p post.LoadFlags e = means_flags p.id (at (Flags p.id) % 2 == 1) p.is_online p refl refl
-  means_post p (post.Exchange link tries) e =
-      means_exchange (at (Head p.to) == link) (nat_lt 1 tries) (link == 0) p
-      (head_told a me p.to act.Cas (cond (at (Head p.to) == link) (Some (p.id + 1)) None)) (at (Head p.to)) (tries - 1)
-  means_post p post.Release e =
-      subst (λ (h : Option Holding). SaidMeans a (releases a me p.id h) me (Flags p.id) (Some note.Contended)) (sym (s.held me ∙ ap held_of e))
-      (put_same a.place p.id place.Free, put_same a.held me None)
+  means_post p (post.Exchange link tries) e = search (means_exchange, nat_lt, arith)
+  means_post p post.Release e = search (put_same, arith)
   means_post p _ e = tt
 
   means_handle : (stage : HandleStage) → (control me).stage ≡ Some (Handle stage) → Means (Handle stage)

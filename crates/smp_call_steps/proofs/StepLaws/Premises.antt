@@ -46,19 +46,13 @@ module _ (a : CallState) (at : Word → ℕ) (control : ℕ → ControlValue) (s
 
   may_post : (p : Posting) (stage : PostStage) → (control me).stage ≡ Some (Post p stage) → Premise (Post p stage)
   may_post p post.LoadFlags e = let k = stands (Post p post.LoadFlags) e in inl k.1.owned
-  may_post p post.Lock e =
-      let k = stands (Post p post.Lock) e in
-      lock p.class p.id (record { owned = k.1.owned; free = k.1.knows; none = s.held me ∙ ap held_of e; rests = rests k.0 })
+  may_post p post.Lock e = search (stands, lock, rests, arith)
   may_post p post.StoreFunc e = holds (λ h. HoldsUncounted h p.id) (Post p post.StoreFunc) e (refl, refl)
   may_post p post.StoreInfo e = holds (λ h. HoldsUncounted h p.id) (Post p post.StoreInfo) e (refl, refl)
   may_post p post.Count e = (refl, holds (λ h. MayCount h p.to) (Post p post.Count) e (λ f. cc))
   may_post p post.LoadHead e = holds (λ h. HoldsFor h p.to) (Post p post.LoadHead) e (refl, refl)
   may_post p (post.StoreNext link tries) e = inl (holds (λ h. Holds h p.id) (Post p (post.StoreNext link tries)) e refl)
-  may_post p (post.Exchange link tries) e = (
-    holds (λ h. HoldsFor h p.to) (Post p (post.Exchange link tries)) e (refl, refl),
-    holds (λ h. LeadsTo h (cond (at (Head p.to) == link) (Some (p.id + 1)) None)) (Post p (post.Exchange link tries)) e
-        (wins (at (Head p.to) == link) (holding p p.func p.info p.to true)),
-  )
+  may_post p (post.Exchange link tries) e = search (holds, wins, arith)
   may_post p post.Uncount e = (refl, holds (λ h. MayCount h p.to) (Post p post.Uncount) e (λ _. refl))
   may_post p post.Release e = inl (holds (λ h. HoldsUncounted h p.id) (Post p post.Release) e (refl, refl))
 
@@ -104,18 +98,15 @@ module _ (a : CallState) (at : Word → ℕ) (control : ℕ → ControlValue) (s
   may_handle (handle.BeginSync walk call next) e =
       let k = stands_at me s (handle.BeginSync walk call next) e in
       (refl, inr (call, refl, record { rest = _; front = k.1.1.batch; idle = k.1.1.running_is; class_is = walks_sync k.1.1 }))
-  may_handle (handle.CountSync walk call next) e =
-      let k = stands_at me s (handle.CountSync walk call next) e in (refl, (call, refl, runs _ Sync call k.1.1.running_is k.1.2 refl))
-  may_handle (handle.EndSync walk call next) e =
-      let k = stands_at me s (handle.EndSync walk call next) e in inr (inl (call, refl, k.1.1.running_is, k.1.2))
+  may_handle (handle.CountSync walk call next) e = search (stands_at, runs, arith)
+  may_handle (handle.EndSync walk call next) e = search (stands_at, arith)
   may_handle (handle.AsyncNext id) e = let k = stands_at me s (handle.AsyncNext id) e in ended id k.1.0 k.1.1 k.1.2
   may_handle (handle.AsyncFunc id next) e = let k = stands_at me s (handle.AsyncFunc id next) e in ended id k.1.0 k.1.1 k.1.2
   may_handle (handle.AsyncInfo id next func) e = let k = stands_at me s (handle.AsyncInfo id next func) e in ended id k.1.0 k.1.1 k.1.2
   may_handle (handle.BeginAsync call next) e =
       let k = stands_at me s (handle.BeginAsync call next) e in
       inr (inr (call, refl, record { rest = _; front = k.1.1.batch; idle = k.1.1.running_is; class_is = ends_async k.1.1 }))
-  may_handle (handle.CountAsync call next) e =
-      let k = stands_at me s (handle.CountAsync call next) e in (refl, (call, refl, runs _ Async call k.1.1.running_is k.1.3 refl))
+  may_handle (handle.CountAsync call next) e = search (stands_at, runs, arith)
   may_handle handle.Leave e = let k = stands_at me s handle.Leave e in (refl, inl (omega arith, rests k.1.0))
 
   pub may_see : (stage : Stage) → (control me).stage ≡ Some stage → Premise stage

@@ -1,4 +1,5 @@
 -- Which CPU may change the words of a record.
+use Rattle.std.proofs.Common.{arith}
 use Rattle.std.proofs.Common.{◌≡◌, ℕ, zero, suc, Bool, true, false, ◌==◌, cond, ◌⊎◌, inl, inr, Option, Some, None, List, [], ◌∷◌, sym, subst, refl}
 use Rattle.smp_words.specs.Access.{act_of, word_of, found_by, put_by, put_if, at_after}
 use Rattle.smp_words.specs.Put.{put_word}
@@ -31,15 +32,8 @@ module _ (a : CallState) (at : Word → ℕ) (control : ℕ → ControlValue) (s
 
   by_flags : (id n : ℕ) → MayStoreFlags a me id n → May id
   by_flags id zero (inl h) = by_holder id (holds_any (a.held me) id h)
-  by_flags id zero (inr (inl k)) =
-      let all : AllPlaced a.place (place.Running me) (k.0 ∷ []) =
-      subst (λ (r : Running). AllPlaced a.place (place.Running me) (locked_by r)) k.2 (s.placed.runs me) in
-      at_place id (place.Running me) (subst (λ (n : ℕ). a.place n ≡ place.Running me) k.1 all.0.placed) refl
-  by_flags id zero (inr (inr k)) =
-      let next = k.2 in
-      let all : AllPlaced a.place (place.Batch me) (k.0 ∷ next.rest) =
-      subst (λ (calls : List Call). AllPlaced a.place (place.Batch me) calls) next.front (s.placed.batched me) in
-      at_place id (place.Batch me) (subst (λ (n : ℕ). a.place n ≡ place.Batch me) k.1 all.0.placed) refl
+  by_flags id zero (inr (inl k)) = search (at_place, arith)
+  by_flags id zero (inr (inr k)) = search (at_place, arith)
   by_flags id (suc n) lock = at_place id place.Free lock.free lock.owned
 
   -- a store to a word of this kind of one record, and another word of that kind
@@ -51,16 +45,11 @@ module _ (a : CallState) (at : Word → ℕ) (control : ℕ → ControlValue) (s
 
   stores : (x : Word) (n : ℕ) → MaySee a me act.Store x None (Some n) → (w : Word) (id : ℕ) → IsWordOf id w →
       (at_after at (Store x n) w ≡ at w) ⊎ May id
-  stores (Flags x) n m (Flags k) id o = subst (λ (i : ℕ). (at_after at (Store (Flags x) n) (Flags k) ≡ at (Flags k)) ⊎ May i) o
-      (stored Flags k x n (λ e. may_there k x e (by_flags x n m)))
-  stores (Func x) n m (Func k) id o = subst (λ (i : ℕ). (at_after at (Store (Func x) n) (Func k) ≡ at (Func k)) ⊎ May i) o
-      (stored Func k x n (λ e. may_there k x e (by_holder x (holds_any (a.held me) x m))))
-  stores (Info x) n m (Info k) id o = subst (λ (i : ℕ). (at_after at (Store (Info x) n) (Info k) ≡ at (Info k)) ⊎ May i) o
-      (stored Info k x n (λ e. may_there k x e (by_holder x (holds_any (a.held me) x m))))
-  stores (Next x) n (inl m) (Next k) id o = subst (λ (i : ℕ). (at_after at (Store (Next x) n) (Next k) ≡ at (Next k)) ⊎ May i) o
-      (stored Next k x n (λ e. may_there k x e (by_holder x m)))
-  stores (Next x) n (inr m) (Next k) id o = subst (λ (i : ℕ). (at_after at (Store (Next x) n) (Next k) ≡ at (Next k)) ⊎ May i) o
-      (stored Next k x n (λ e. may_there k x e (at_place x (place.Batch me) m.0 refl)))
+  stores (Flags x) n m (Flags k) id o = search (stored, may_there, by_flags, arith)
+  stores (Func x) n m (Func k) id o = search (stored, may_there, by_holder, holds_any, arith)
+  stores (Info x) n m (Info k) id o = search (stored, may_there, by_holder, holds_any, arith)
+  stores (Next x) n (inl m) (Next k) id o = search (stored, may_there, by_holder, arith)
+  stores (Next x) n (inr m) (Next k) id o = search (stored, may_there, at_place, arith)
   stores _ n m (Flags k) id o = inl refl
   stores _ n m (Func k) id o = inl refl
   stores _ n m (Info k) id o = inl refl

@@ -1,4 +1,5 @@
 -- The function calls that steps say are those of the calls that begin.
+use Rattle.std.proofs.Common.{arith}
 use Rattle.std.proofs.Common.{◌≡◌, ℕ, ◌==◌, Bool, true, false, cond, inl, inr, Option, Some, None, List, [], ◌∷◌, ◌++◌, sym, refl, ap, ◌∙◌, append_assoc}
 use Rattle.std.proofs.lemmas.List.{append-nil}
 use Rattle.smp_words.proofs.Puts.{at_test}
@@ -36,25 +37,12 @@ module _ (a b : CallState) (me : ℕ) (said : Option Note) (cpu : ℕ) where
 
   -- a step that leaves what has begun as it was, and says nothing
   same_begun : begun_in (told_of b) cpu ≡ begun_in (told_of a) cpu → is_call said ≡ false → Says
-  same_begun e s = ap all_said e ∙ (sym (append-nil (all_said (begun_in (told_of a) cpu)))
-      ∙ ap (λ (xs : List Said). all_said (begun_in (told_of a) cpu) ++ xs) (sym (said_nothing (cpu == me) said s)))
+  same_begun e s = search (append-nil, said_nothing, arith)
 
   pub says_what_begins : FunctionGoes a b me said → Says
   says_what_begins (inl k) = same_begun (ap (λ (t : Told). begun_in t cpu) k.same) k.says
-  says_what_begins (inr (inl k)) =
-      ap (λ (t : Told). all_said (begun_in t cpu)) k.runs
-      ∙ (at_test cpu me
-      (λ x. all_said (a.ran cpu ++ running_call (cond x (runs_as k.call.class k.call) (a.running cpu)))
-      ≡ all_said (a.ran cpu ++ running_call (a.running cpu)) ++ cond x (call_in said) [])
-      (λ e. ap (λ (xs : List Call). all_said (a.ran cpu ++ xs)) (runs_one k.call.class k.call)
-      ∙ (all_said-append (a.ran cpu) (k.call ∷ [])
-      ∙ (λ i. all_said (sym (append-nil (a.ran cpu)) i) ++ call_in (sym k.says i)) ∙
-      ap (λ (r : Running). all_said (a.ran cpu ++ running_call r) ++ call_in said) (sym (ap a.running e ∙ k.idle))))
-      (λ ne. sym (append-nil (all_said (a.ran cpu ++ running_call (a.running cpu))))))
-  says_what_begins (inr (inr (inl k))) =
-      same_begun (ap (λ (t : Told). begun_in t cpu) k.counts
-      ∙ at_test cpu me (λ x. a.ran cpu ++ running_call (cond x (CountedCall k.call) (a.running cpu)) ≡ a.ran cpu ++ running_call (a.running cpu))
-      (λ e. ap (λ (r : Running). a.ran cpu ++ running_call r) (sym (ap a.running e ∙ k.was))) (λ ne. refl)) k.says
+  says_what_begins (inr (inl k)) = search (at_test, runs_one, all_said-append, append-nil, arith)
+  says_what_begins (inr (inr (inl k))) = search (same_begun, at_test, arith)
   says_what_begins (inr (inr (inr k))) =
       same_begun (ap (λ (t : Told). begun_in t cpu) k.ends
       ∙ at_test cpu me
@@ -65,21 +53,14 @@ module _ (a b : CallState) (me : ℕ) (said : Option Note) (cpu : ℕ) where
 -- of one step, and of some steps and then others
 
 pub says_one : (a b : CallState) (seen : Seen) → FunctionGoes a b seen.cpu seen.note → SaysWhatBegins a (seen ∷ []) b
-says_one a b seen goes cpu =
-    says_what_begins a b seen.cpu seen.note cpu goes
-    ∙ ap (λ (xs : List Said). all_said (begun_in (told_of a) cpu) ++ xs) (sym (append-nil (cond (cpu == seen.cpu) (call_in seen.note) [])))
+says_one a b seen goes cpu = search (says_what_begins, append-nil, arith)
 
 pub says_none : (a : CallState) → SaysWhatBegins a [] a
 says_none a cpu = sym (append-nil (all_said (begun_in (told_of a) cpu)))
 
 said_by-append : (cpu : ℕ) (xs ys : List Seen) → said_by cpu (xs ++ ys) ≡ said_by cpu xs ++ said_by cpu ys
 said_by-append cpu [] ys = refl
-said_by-append cpu (x ∷ xs) ys =
-    ap (λ (s : List Said). cond (cpu == x.cpu) (call_in x.note) [] ++ s) (said_by-append cpu xs ys)
-    ∙ sym (append_assoc (cond (cpu == x.cpu) (call_in x.note) []) (said_by cpu xs) (said_by cpu ys))
+said_by-append cpu (x ∷ xs) ys = search (append_assoc, said_by-append cpu xs ys, arith)
 
 pub says_then : (a b c : CallState) (xs ys : List Seen) → SaysWhatBegins a xs b → SaysWhatBegins b ys c → SaysWhatBegins a (xs ++ ys) c
-says_then a b c xs ys first second cpu =
-    second cpu ∙ (ap (λ (s : List Said). s ++ said_by cpu ys) (first cpu)
-    ∙ (append_assoc (all_said (begun_in (told_of a) cpu)) (said_by cpu xs) (said_by cpu ys)
-    ∙ ap (λ (s : List Said). all_said (begun_in (told_of a) cpu) ++ s) (sym (said_by-append cpu xs ys))))
+says_then a b c xs ys first second cpu = search (append_assoc, said_by-append, arith)

@@ -1,4 +1,5 @@
 -- What a CPU does with what it finds in a head, until its call is queued.
+use Rattle.std.proofs.Common.{arith}
 use Rattle.std.proofs.Common.{◌≡◌, ℕ, ◌+◌, ◌-◌, ◌==◌, nat_lt, Bool, true, false, cond, inl, inr, Option, Some, None, sym, subst, refl, ap, ◌∙◌}
 use Rattle.smp_words.specs.Access.{word_of}
 use Rattle.smp_call_steps.specs.Calls.{CallState, Holding}
@@ -30,31 +31,18 @@ module _ (a : CallState) (at : Word → ℕ) (control : ℕ → ControlValue) (s
       (cond b (ends won) (cond c (goes_to p (post.StoreNext (at (Head p.to)) (tries - 1))) (goes_to p post.Uncount))).next ≡ Some next →
       (at' : Word → ℕ) → GoesOnWith a me act.Cas (Head p.to) (Some (at (Head p.to))) (cond b (Some (p.id + 1)) None) (access_of at' me next)
   lost p link tries true c won e next f at' = tt
-  lost p link tries false true won e next f at' =
-      subst (λ (x : Stage). GoesOnWith a me act.Cas (Head p.to) (Some (at (Head p.to))) None (access_of at' me x)) (some_same _ next f)
-      (inl (subst (λ (h : Option Holding). LinksTo h (at (Head p.to)) (access_of at' me (Post p (post.StoreNext (at (Head p.to)) (tries - 1)))))
-      (sym (s.held me ∙ ap held_of e)) refl))
-  lost p link tries false false won e next f at' =
-      subst (λ (x : Stage). GoesOnWith a me act.Cas (Head p.to) (Some (at (Head p.to))) None (access_of at' me x)) (some_same _ next f) (inr refl)
+  lost p link tries false true won e next f at' = search (some_same, arith)
+  lost p link tries false false won e next f at' = search (some_same, arith)
 
   goes_post : (p : Posting) (stage : PostStage) → (control me).stage ≡ Some (Post p stage) → Goes (Post p stage)
-  goes_post p post.LoadHead e next f at' =
-      subst (λ (x : Stage). LinksTo (a.held me) (at (Head p.to)) (access_of at' me x)) (some_same _ next f)
-      (subst (λ (h : Option Holding). LinksTo h (at (Head p.to)) (access_of at' me (Post p (post.StoreNext (at (Head p.to)) p.tries))))
-      (sym (s.held me ∙ ap held_of e)) refl)
-  goes_post p (post.StoreNext link tries) e next f at' =
-      subst (λ (x : Stage). Exchanges (a.held me) link (access_of at' me x)) (some_same _ next f)
-      (subst (λ (h : Option Holding). Exchanges h link (access_of at' me (Post p (post.Exchange link tries)))) (sym (s.held me ∙ ap held_of e)) refl)
-  goes_post p (post.Exchange link tries) e next f at' =
-      lost p link tries (at (Head p.to) == link) (nat_lt 1 tries) (cond (link == 0) note.Owed note.Queued) e next f at'
+  goes_post p post.LoadHead e next f at' = search (some_same, arith)
+  goes_post p (post.StoreNext link tries) e next f at' = search (some_same, arith)
+  goes_post p (post.Exchange link tries) e next f at' = search (lost, nat_lt, arith)
   goes_post p _ e next f at' = tt
 
   goes_handle : (stage : HandleStage) → (control me).stage ≡ Some (Handle stage) → Goes (Handle stage)
-  goes_handle (handle.ReverseStore newer id older) e next f at' =
-      subst (λ (h : Option Holding). Exchanges h (link_to newer) (access_of at' me next))
-      (sym (holds_nothing me s (handle.ReverseStore newer id older) e)) tt
-  goes_handle (handle.Unlink walk last call next) e after f at' =
-      subst (λ (h : Option Holding). Exchanges h (link_to next) (access_of at' me after)) (sym (holds_nothing me s (handle.Unlink walk last call next) e)) tt
+  goes_handle (handle.ReverseStore newer id older) e next f at' = search (holds_nothing, arith)
+  goes_handle (handle.Unlink walk last call next) e after f at' = search (holds_nothing, arith)
   goes_handle _ e next f at' = tt
 
   pub tries_go : (stage : Stage) → (control me).stage ≡ Some stage → Goes stage

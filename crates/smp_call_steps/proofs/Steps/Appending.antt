@@ -38,10 +38,7 @@ true≢false e = cc
 -- owed by now, and owed before
 owes_more : (first : Bool) (f : ℕ → ℕ → Bool) (me to source cpu : ℕ) → f source cpu ≡ true → cond first (put f me (put (f me) to true)) f source cpu ≡ true
 owes_more false f me to source cpu e = e
-owes_more true f me to source cpu e =
-    at_test source me (λ b. cond b (put (f me) to true) (f source) cpu ≡ true)
-    (λ eq. at_test cpu to (λ b. cond b true (f me cpu) ≡ true) (λ _. refl) (λ _. rw eq at e))
-    (λ _. e)
+owes_more true f me to source cpu e = search (at_test, arith)
 
 owes_new : (f : ℕ → ℕ → Bool) (me to : ℕ) → put f me (put (f me) to true) me to ≡ true
 owes_new f me to = ap (λ (g : ℕ → Bool). g to) (put_same f me (put (f me) to true)) ∙ put_same (f me) to true
@@ -61,32 +58,19 @@ noticed_else a first me to cpu (is_owed source o) = is_owed source (owes_more fi
 
 sent_else : (cpu to : ℕ) (sent : List Sending) (call : Call) (first : Bool) → cpu ≢ to
     → sent_to cpu (sent ++ record { call = call; to = to; is_first = first } ∷ []) ≡ sent_to cpu sent
-sent_else cpu to sent call first ne =
-    sent_to-push cpu sent (record { call = call; to = to; is_first = first })
-    ∙ (rw (one_if-other to cpu (mark first call) (λ e. ne (sym e))) (append-nil (sent_to cpu sent)))
+sent_else cpu to sent call first ne = search (sent_to-push, one_if-other, append-nil, arith)
 
 sent_here : (to : ℕ) (sent : List Sending) (call : Call) (first : Bool)
     → sent_to to (sent ++ record { call = call; to = to; is_first = first } ∷ []) ≡ sent_to to sent ++ mark first call ∷ []
-sent_here to sent call first = sent_to-push to sent (record { call = call; to = to; is_first = first })
-    ∙ ap (λ (ms : List Marked). sent_to to sent ++ ms) (one_if-same to to (mark first call) refl)
+sent_here to sent call first = search (sent_to-push, one_if-same, arith)
 
 from_else : (source : ℕ) (taken : List (List Call)) (queue : List Call) (call : Call) → owner call.id ≢ source
     → marked_from source (history_of taken (queue ++ call ∷ [])) ≡ marked_from source (history_of taken queue)
-from_else source taken queue call ne =
-    rw (
-      history-push taken queue call,
-      marked_from-push source (history_of taken queue) (mark (is_nil queue) call),
-      one_if-other (owner call.id) source (mark (is_nil queue) call) ne,
-    ) (append-nil (marked_from source (history_of taken queue)))
+from_else source taken queue call ne = search (history-push, marked_from-push, one_if-other, append-nil, arith)
 
 from_here : (source : ℕ) (taken : List (List Call)) (queue : List Call) (call : Call) → owner call.id ≡ source
     → marked_from source (history_of taken (queue ++ call ∷ [])) ≡ marked_from source (history_of taken queue) ++ mark (is_nil queue) call ∷ []
-from_here source taken queue call e =
-    rw (
-      history-push taken queue call,
-      marked_from-push source (history_of taken queue) (mark (is_nil queue) call),
-      one_if-same (owner call.id) source (mark (is_nil queue) call) e,
-    ) refl
+from_here source taken queue call e = search (history-push, marked_from-push, one_if-same, arith)
 
 abbrev counted_hold : Call → ℕ → Option Holding
 counted_hold call to = Some (record { call = call; to = to; is_counted = true })
@@ -101,13 +85,7 @@ one_held-else held call to cpu e ne = rw (e, ne_eqb to cpu (λ f. ne (sym f))) r
 tally_here : (n to : ℕ) (sent : List Sending) (call : Call) (first : Bool) (held : Option Holding) → held ≡ counted_hold call to →
     n ≡ (length (sent_to to sent) + one_held held to) % 2 ^ 64
     → n ≡ (length (sent_to to (sent ++ record { call = call; to = to; is_first = first } ∷ [])) + 0) % 2 ^ 64
-tally_here n to sent call first held e t =
-    let one = one_held-here held call to e in
-    let more : length (sent_to to (sent ++ record { call = call; to = to; is_first = first } ∷ [])) ≡ length (sent_to to sent) + 1 =
-    ap length (sent_here to sent call first) ∙ length-append (sent_to to sent) (mark first call ∷ []) in
-    let sum : length (sent_to to sent) + one_held held to ≡ length (sent_to to (sent ++ record { call = call; to = to; is_first = first } ∷ [])) + 0 =
-    omega arith in
-    t ∙ ap (λ k. k % 2 ^ 64) sum
+tally_here n to sent call first held e t = search (one_held-here, sent_here, length-append, arith)
 
 tally_else : (n to cpu : ℕ) (sent : List Sending) (call : Call) (first : Bool) (held : Option Holding) → held ≡ counted_hold call to → cpu ≢ to →
     n ≡ (length (sent_to cpu sent) + one_held held cpu) % 2 ^ 64
@@ -134,14 +112,7 @@ module _ (a : CallState) (at : Word → ℕ) (control : ℕ → ControlValue) (m
   queue' = put a.queue to (a.queue to ++ call ∷ [])
 
   touches : Touches call.id a.place (put a.place call.id (place.Queued to)) at (put_word at (Head to) (call.id + 1))
-  touches =
-      record {
-        place_stays = λ u ne. put_other a.place call.id (place.Queued to) u ne;
-        flags = λ _ _. refl;
-        func = λ _ _. refl;
-        info = λ _ _. refl;
-        next = λ _ _. refl;
-      }
+  touches = search (put_other, arith)
 
   not_held : (p : RecPlace) (u : ℕ) → a.place u ≡ p → p ≢ place.Held → u ≢ call.id
   not_held p u e ne f = ne (sym e ∙ (ap a.place f ∙ placed))
@@ -156,15 +127,12 @@ module _ (a : CallState) (at : Word → ℕ) (control : ℕ → ControlValue) (m
   running_else cpu e = cc
 
   still : (p : RecPlace) → p ≢ place.Held → (calls : List Call) → AllPlaced a.place p calls → AllPlaced (put a.place call.id (place.Queued to)) p calls
-  still p ne = every (IsPlaced a.place p) (IsPlaced (put a.place call.id (place.Queued to)) p)
-      (λ c q. record { is_call = q.is_call; placed = put_other a.place call.id (place.Queued to) c.id (not_held p c.id q.placed ne) ∙ q.placed })
+  still p ne = search (every, put_other, not_held, arith)
 
   there_else : (u : ℕ) (p : RecPlace) → u ≢ call.id → IsThere a.held a.queue a.batch a.running u p
       → IsThere (put a.held me None) (put a.queue to (a.queue to ++ call ∷ [])) a.batch a.running u p
-  there_else u place.Held ne h = at_test (owner u) me (λ b. Holds (cond b None (a.held (owner u))) u)
-      (λ e. absurd (ne (held_same (a.held (owner u)) call to u (ap a.held e ∙ holds) h))) (λ _. h)
-  there_else u (place.Queued cpu) ne h = at_test cpu to (λ b. HasRecord u (cond b (a.queue to ++ call ∷ []) (a.queue cpu)))
-      (λ e. has_left u (a.queue to) (call ∷ []) (rw e at h)) (λ _. h)
+  there_else u place.Held ne h = search (at_test, held_same, arith)
+  there_else u (place.Queued cpu) ne h = search (at_test, has_left, arith)
   there_else u _ ne h = h
 
   there_id : IsThere (put a.held me None) (put a.queue to (a.queue to ++ call ∷ [])) a.batch a.running call.id (place.Queued to)
@@ -173,18 +141,10 @@ module _ (a : CallState) (at : Word → ℕ) (control : ℕ → ControlValue) (m
   placed' : Placed (put a.place call.id (place.Queued to)) (put a.held me None) (put a.queue to (a.queue to ++ call ∷ [])) a.batch a.running
       (put a.confirmed me (put (a.confirmed me) call.id false))
   placed' = record {
-    queued = λ cpu. at_test cpu to (λ b. AllPlaced (put a.place call.id (place.Queued to)) (place.Queued cpu) (cond b (a.queue to ++ call ∷ []) (a.queue cpu)))
-        (λ e. rw e (every_push (IsPlaced (put a.place call.id (place.Queued to)) (place.Queued to)) (a.queue to) call
-        (still (place.Queued to) (queued_else to) (a.queue to) (s.placed.queued to))
-        (record { is_call = is_call; placed = put_same a.place call.id (place.Queued to) })))
-        (λ _. still (place.Queued cpu) (queued_else cpu) (a.queue cpu) (s.placed.queued cpu));
+    queued = search (at_test, every_push, still, queued_else, put_same, arith);
     batched = λ cpu. still (place.Batch cpu) (batch_else cpu) (a.batch cpu) (s.placed.batched cpu);
     runs = λ cpu. still (place.Running cpu) (running_else cpu) (locked_by (a.running cpu)) (s.placed.runs cpu);
-    queue_apart = λ cpu. at_test cpu to (λ b. IsApart (cond b (a.queue to ++ call ∷ []) (a.queue cpu)))
-        (λ _. IsApart-push (a.queue to) call
-        (every (IsPlaced a.place (place.Queued to)) (λ c. call.id ≢ c.id) (λ c q e. not_held (place.Queued to) c.id q.placed (queued_else to) (sym e))
-        (a.queue to) (s.placed.queued to)) (s.placed.queue_apart to))
-        (λ _. s.placed.queue_apart cpu);
+    queue_apart = search (at_test, IsApart-push, every, not_held, queued_else, arith);
     batch_apart = s.placed.batch_apart;
     is_there = λ u. elim (cases_eq u call.id) [
       | inl e ↦
@@ -204,25 +164,13 @@ module _ (a : CallState) (at : Word → ℕ) (control : ℕ → ControlValue) (m
   }
 
   written' : WrittenIn at (put a.place call.id (place.Queued to)) (put a.queue to (a.queue to ++ call ∷ [])) a.batch a.running
-  written' = record {
-    locks = λ u. at_test u call.id (λ b. FlagsShow (cond b (place.Queued to) (a.place u)) (at (Flags u)))
-        (λ e. rw e (let f : FlagsShow place.Held (at (Flags call.id)) = rw placed at (s.written.locks call.id) in f)) (λ _. s.written.locks u);
-    queued = λ cpu. at_test cpu to (λ b. AllByRecursion (IsWrittenIn at) (cond b (a.queue to ++ call ∷ []) (a.queue cpu)))
-        (λ _. every_push (IsWrittenIn at) (a.queue to) call (s.written.queued to) written) (λ _. s.written.queued cpu);
-    batched = s.written.batched;
-    runs = s.written.runs;
-  }
+  written' = search (at_test, every_push, arith)
 
   chained' : Chained (heads_in (put_word at (Head to) (call.id + 1))) (nexts_in at) (put a.queue to (a.queue to ++ call ∷ []))
-  chained' = record {
-    chain = λ cpu. at_test cpu to (λ b. Leads (nexts_in at) (cond b (call.id + 1) (at (Head cpu))) (cond b (a.queue to ++ call ∷ []) (a.queue cpu)) 0)
-        (λ _. Leads-push (nexts_in at) (at (Head to)) (a.queue to) 0 call link (s.chained.chain to)) (λ _. s.chained.chain cpu);
-  }
+  chained' = search (at_test, Leads-push, arith)
 
   links' : Linked (nexts_in at) (put a.held me None) a.linked
-  links' = record {
-    held_links = λ cpu. at_test cpu me (λ b. LinkIs (nexts_in at) (cond b None (a.held cpu)) (a.linked cpu)) (λ _. tt) (λ _. s.links.held_links cpu);
-  }
+  links' = search (at_test, arith)
 
   noticed' : Noticed (intrs_in at) (put a.queue to (a.queue to ++ call ∷ [])) a.pending a.accepted
       (cond (is_nil (a.queue to)) (put a.owes me (put (a.owes me) to true)) a.owes)

@@ -107,10 +107,7 @@ module _ {a : CallState} {at : Word → ℕ} {control : ℕ → ControlValue} (m
         mine = ap (λ (xs : List Call). a.ran me ++ (xs ++ rest)) runs ∙ (ap (λ (xs : List Call). a.ran me ++ xs) (sym was) ∙ s.recorded.drained me)
 
     begun_tallied : counted_call r ≡ [] → Tallied (queued_in at) (ran_in at) a.sent a.held a.ran (put a.running me r)
-    begun_tallied uncounted = tallied_same (queued_in at) (ran_in at) a.sent a.held a.ran a.ran a.running (put a.running me r)
-        (λ cpu. at_test cpu me (λ b. a.ran cpu ++ counted_call (cond b r (a.running cpu)) ≡ a.ran cpu ++ counted_call (a.running cpu))
-        (λ e. ap (λ (xs : List Call). a.ran cpu ++ xs) (uncounted ∙ sym (ap counted_call (ap a.running e ∙ idle)))) (λ _. refl))
-        s.tallied
+    begun_tallied uncounted = search (tallied_same, at_test, arith)
 
   -- the store of the record's number: a SYNC call begins
   begun_sync : (walk : Walk) (next : Option ℕ) (call : Call) (rest : List Call) (c : ControlValue) → a.batch me ≡ call ∷ rest → a.running me ≡ Nothing
@@ -164,8 +161,7 @@ module _ {a : CallState} {at : Word → ℕ} {control : ℕ → ControlValue} (m
           walks_sync k,
         ),
       ) in
-      subst (λ (b : Bool). Shows (if b then begins_sync a me (a.batch me) else a) at' (put control me c)) (sym stored)
-      (subst (λ (xs : List Call). Shows (begins_sync a me xs) at' (put control me c)) (sym k.batch) shown)
+      search (at', c, stored, k, shown, arith)
 
   -- the store of 0 to the flags: an ASYNC call begins
   begun_async : (next : Option ℕ) (call : Call) (rest : List Call) (c : ControlValue) → a.batch me ≡ call ∷ rest → a.running me ≡ Nothing → a.held me ≡ None
@@ -218,6 +214,4 @@ module _ {a : CallState} {at : Word → ℕ} {control : ℕ → ControlValue} (m
           ends_async k,
         ),
       ) in
-      subst (λ (h : Option Holding). Shows (releases a me call.id h) at' (put control me c)) (sym held)
-      (subst (λ (x : Running). Shows (unlocks a me x) at' (put control me c)) (sym k.running_is)
-      (subst (λ (xs : List Call). Shows (begins_async a me xs) at' (put control me c)) (sym k.batch) shown))
+      search (at', c, held, k, shown, arith)

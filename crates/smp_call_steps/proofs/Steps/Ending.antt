@@ -50,8 +50,7 @@ module _ {a : CallState} {at : Word → ℕ} {control : ℕ → ControlValue} (m
       (ended : ran' me ++ running_call r ≡ a.ran me ++ running_call (a.running me))
       (counted : ran' me ++ counted_call r ≡ (a.ran me ++ counted_call (a.running me)) ++ call ∷ []) where
     same_locked : (cpu : ℕ) → locked_by (put a.running me r cpu) ≡ locked_by (a.running cpu)
-    same_locked cpu = at_test cpu me (λ b. locked_by (cond b r (a.running cpu)) ≡ locked_by (a.running cpu))
-        (λ e. locked ∙ ap (λ (k : ℕ). locked_by (a.running k)) (sym e)) (λ _. refl)
+    same_locked cpu = search (at_test, arith)
 
     count_shown : (c : ControlValue) → a.held me ≡ held_of c.stage → HandIs c.stage (at (Hand me))
         → Stands a.place (stored call)
@@ -97,8 +96,7 @@ module _ {a : CallState} {at : Word → ℕ} {control : ℕ → ControlValue} (m
     }
       where
         drained_here : ran' me ++ (running_call r ++ a.batch me) ≡ orders (a.taken me)
-        drained_here = sym (append_assoc (ran' me) (running_call r) (a.batch me))
-            ∙ (ap (λ (xs : List Call). xs ++ a.batch me) ended ∙ (append_assoc (a.ran me) (running_call (a.running me)) (a.batch me) ∙ s.recorded.drained me))
+        drained_here = search (append_assoc, arith)
 
   -- the store of the number of calls that ran, for a SYNC call
   pub count_sync_step : (walk : Walk) (call : Call) (next : Option ℕ) → (control me).stage ≡ Some (Handle (handle.CountSync walk call next))
@@ -192,16 +190,10 @@ module _ {a : CallState} {at : Word → ℕ} {control : ℕ → ControlValue} (m
     }
       where
         mine : (a.ran me ++ call ∷ []) ++ a.batch me ≡ orders (a.taken me)
-        mine = append_assoc (a.ran me) (call ∷ []) (a.batch me)
-            ∙ (ap (λ (x : Running). a.ran me ++ (running_call x ++ a.batch me)) (sym running) ∙ s.recorded.drained me)
+        mine = search (append_assoc, arith)
 
     end_tallied : Tallied (queued_in at) (ran_in at) a.sent a.held (put a.ran me (a.ran me ++ call ∷ [])) (put a.running me Nothing)
-    end_tallied = tallied_same (queued_in at) (ran_in at) a.sent a.held a.ran (put a.ran me (a.ran me ++ call ∷ [])) a.running (put a.running me Nothing)
-        (λ cpu. at_test cpu me (λ b. cond b (a.ran me ++ call ∷ []) (a.ran cpu) ++ counted_call (cond b Nothing (a.running cpu)) ≡ a.ran cpu
-        ++ counted_call (a.running cpu))
-        (λ e. append-nil (a.ran me ++ call ∷ [])
-        ∙ (ap (λ (x : Running). a.ran me ++ counted_call x) (sym running) ∙ ap (λ (k : ℕ). a.ran k ++ counted_call (a.running k)) (sym e))) (λ _. refl))
-        s.tallied
+    end_tallied = search (tallied_same, at_test, append-nil, arith)
 
     end_shown : (c : ControlValue) → a.held me ≡ held_of c.stage → HandIs c.stage (at (Hand me))
         → Stands (put a.place call.id place.Free) (put_word at (Flags call.id) 0) (share_of (ends_sync a me call) me) me c →
@@ -251,5 +243,4 @@ module _ {a : CallState} {at : Word → ℕ} {control : ℕ → ControlValue} (m
         first_goes (nexts_in at) after d walk next rest
             (walks_stay k k.begun (a.batch me) (put a.running me Nothing me) k.begun_are k.batch (test_here me Nothing (a.running me))),
       ) in
-      subst (λ (h : Option Holding). Shows (releases a me call.id h) at' (put control me c)) (sym held)
-      (subst (λ (x : Running). Shows (unlocks a me x) at' (put control me c)) (sym k.running_is) shown)
+      search (at', c, held, k, shown, arith)

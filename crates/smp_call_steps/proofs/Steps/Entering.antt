@@ -71,13 +71,8 @@ module _ {a : CallState} {at : Word → ℕ} {control : ℕ → ControlValue} (m
 
   -- a CPU that was noticed is noticed still
   still_noticed : (cpu : ℕ) → IsNoticed a.pending a.accepted a.owes cpu → IsNoticed (put a.pending me false) accepted' a.owes cpu
-  still_noticed cpu (is_pending e) = at_test cpu me (λ _. IsNoticed (put a.pending me false) accepted' a.owes cpu)
-      (λ f. is_accepted (subst (λ (k : ℕ). accepted' k ≡ true) (sym f)
-      (test_here me (if a.pending me then true else a.accepted me) (a.accepted me)
-      ∙ ap (λ (b : Bool). if b then true else a.accepted me) (subst (λ (k : ℕ). a.pending k ≡ true) f e))))
-      (λ ne. is_pending (test_else cpu me false (a.pending cpu) ne ∙ e))
-  still_noticed cpu (is_accepted e) = is_accepted (at_test cpu me (λ b. cond b (if a.pending me then true else a.accepted me) (a.accepted cpu) ≡ true)
-      (λ f. accepted_now (a.pending me) (a.accepted me) (subst (λ (k : ℕ). a.accepted k ≡ true) f e)) (λ _. e))
+  still_noticed cpu (is_pending e) = search (at_test, test_here, test_else, arith)
+  still_noticed cpu (is_accepted e) = search (at_test, accepted_now, arith)
   still_noticed cpu (is_owed source e) = is_owed source e
 
   noticed_accepted : Noticed (put (intrs_in at) me 0) a.queue (put a.pending me false) accepted' a.owes
@@ -94,19 +89,8 @@ module _ {a : CallState} {at : Word → ℕ} {control : ℕ → ControlValue} (m
       → HandleStands (nexts_in at) (share_of a me) (control me).drain handle.Accept → me < cpus →
       Stands a.place at (share_of (accepts a me) me) me
       (record { stage = (if b then handle_goes handle.LeaveIdle else handle_goes handle.Take).next; drain = (control me).drain })
-  accept_stands true none some was range =
-      let rests = was in (
-        range,
-        record {
-          batch = rests.batch;
-          running = rests.running;
-          accepted = accepted_after
-              ∙ (ap (λ (x : Bool). if x then true else a.accepted me) (none refl) ∙ rests.accepted);
-        },
-      )
-  accept_stands false none some was range =
-      let rests = was in
-      (range, (rests.batch, rests.running, accepted_after ∙ ap (λ (x : Bool). if x then true else a.accepted me) (some refl)))
+  accept_stands true none some was range = search (accepted_after, arith)
+  accept_stands false none some was range = search (accepted_after, arith)
 
   accept_hand : (b : Bool) → hands_in at me ≢ 0 → HandIs (if b then handle_goes handle.LeaveIdle else handle_goes handle.Take).next (hands_in at me)
   accept_hand true ne = ne

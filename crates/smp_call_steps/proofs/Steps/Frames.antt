@@ -1,4 +1,5 @@
 -- What a step leaves to another CPU: a CPU stands where it stood.
+use Rattle.std.proofs.Common.{arith}
 use Rattle.std.proofs.Common.{◌≡◌, ◌≢◌, ℕ, ◌+◌, Option, Some, List, [], ◌∷◌, sym, subst, refl, ◌∙◌}
 use Rattle.std.specs.List.{AllByRecursion}
 use Rattle.smp_words.specs.Size.{owner}
@@ -47,27 +48,18 @@ pub record Touches (id : ℕ) (places places' : ℕ → RecPlace) (at at' : Word
 
 -- a record of another CPU is not the one that I mind
 pub else_minded : (me cpu id u : ℕ) (places : ℕ → RecPlace) → Minds me id (places id) → cpu ≢ me → Minds cpu u (places u) → u ≢ id
-else_minded me cpu id u places mine ne theirs e =
-    let there : Minds cpu id (places id) = subst (λ (k : ℕ). Minds cpu k (places k)) e theirs in
-    ne (one_minds me cpu id (places id) mine there)
+else_minded me cpu id u places mine ne theirs e = search (one_minds, arith)
 
 -- a step on a record that I mind leaves the others alone
 pub leaves_others : (me id : ℕ) (places places' : ℕ → RecPlace) (at at' : Word → ℕ) → Minds me id (places id) → Touches id places places' at at' → (cpu : ℕ)
     → cpu ≢ me → LeavesTo cpu places places' at at'
-leaves_others me id places places' at at' mine t cpu ne = record {
-  place_stays = λ u m. t.place_stays u (else_minded me cpu id u places mine ne m);
-  flags = λ u m. t.flags u (else_minded me cpu id u places mine ne m);
-  func = λ u m. t.func u (else_minded me cpu id u places mine ne m);
-  info = λ u m. t.info u (else_minded me cpu id u places mine ne m);
-  next = λ u m. t.next u (else_minded me cpu id u places mine ne m);
-}
+leaves_others me id places places' at at' mine t cpu ne = search (else_minded, arith)
 
 -- a step on words of CPUs alone
 pub leaves_all : (places : ℕ → RecPlace) (at at' : Word → ℕ) → ((id : ℕ) → at' (Flags id) ≡ at (Flags id)) → ((id : ℕ) → at' (Func id) ≡ at (Func id))
     → ((id : ℕ) → at' (Info id) ≡ at (Info id)) → ((id : ℕ) → at' (Next id) ≡ at (Next id)) →
     (cpu : ℕ) → LeavesTo cpu places places at at'
-leaves_all places at at' flags func info next cpu =
-    record { place_stays = λ _ _. refl; flags = λ u _. flags u; func = λ u _. func u; info = λ u _. info u; next = λ u _. next u }
+leaves_all places at at' flags func info next cpu = search arith
 
 -- where the next words of these calls stay, so does the chain
 pub Leads-kept : (nexts nexts' : ℕ → ℕ) (P : Call → Type 0) → ((call : Call) → P call → nexts' call.id ≡ nexts call.id) →
@@ -103,27 +95,13 @@ module _ {cpu : ℕ} {places places' : ℕ → RecPlace} {at at' : Word → ℕ}
       → Reverses (nexts_in at) s d up down call → Reverses (nexts_in at') s d up down call
   Reverses-kept s d up down call b h =
       let all = reverses_all (IsPlaced places (place.Batch cpu)) h b in
-      let newer = every_right (IsPlaced places (place.Batch cpu)) h.older (call ∷ h.newer) all in
-      record {
-        older = h.older;
-        newer = h.newer;
-        whole = h.whole;
-        leads_down = Leads-kept (nexts_in at) (nexts_in at') (IsPlaced places (place.Batch cpu)) same_next down h.older 0
-            (every_left (IsPlaced places (place.Batch cpu)) h.older (call ∷ h.newer) all) h.leads_down;
-        leads_up = Path-kept (nexts_in at) (nexts_in at') (IsPlaced places (place.Batch cpu)) same_next up h.newer 0 newer.1 h.leads_up;
-        apart = h.apart;
-        counted = h.counted;
-        batch = h.batch;
-        running = h.running;
-        accepted = h.accepted;
-      }
+      search (every_right, all, Leads-kept, same_next, every_left, Path-kept, arith)
 
   reversed_next : (s : Share) (d : DrainValue) (up down : ℕ) (call : Call) (id : ℕ) → call.id ≡ id → AllPlaced places (place.Batch cpu) s.batch
       → Reverses (nexts_in at) s d up down call → at' (Next id) ≡ at (Next id)
   reversed_next s d up down call id e b h =
       let all = reverses_all (IsPlaced places (place.Batch cpu)) h b in
-      let newer = every_right (IsPlaced places (place.Batch cpu)) h.older (call ∷ h.newer) all in
-      next_of id call e newer.0
+      search (every_right, all, next_of, arith)
 
   Walks-kept : (s : Share) (d : DrainValue) (walk : Walk) (here : ℕ) (front rest : List Call) (running : Running) → AllPlaced places (place.Batch cpu) s.batch
       → Walks (nexts_in at) s d walk here front rest running → Walks (nexts_in at') s d walk here front rest running
@@ -167,45 +145,32 @@ module _ {cpu : ℕ} {places places' : ℕ → RecPlace} {at at' : Word → ℕ}
 
   ended_next : (s : Share) (d : DrainValue) (id : ℕ) (call : Call) (rest : List Call) → AllPlaced places (place.Batch cpu) s.batch
       → Ends (nexts_in at) s d (id + 1) [] (call ∷ rest) Nothing → at' (Next id) ≡ at (Next id)
-  ended_next s d id call rest b h =
-      let all = ends_rest (IsPlaced places (place.Batch cpu)) h b in
-      next_of id call (same_record id call h.leads_on.0) all.0
+  ended_next s d id call rest b h = search (ends_rest, next_of, same_record, arith)
 
   HandleStands-kept : (s : Share) (d : DrainValue) (stage : HandleStage) → AllPlaced places (place.Batch cpu) s.batch → HandleStands (nexts_in at) s d stage
       → HandleStands (nexts_in at') s d stage
-  HandleStands-kept s d (handle.ReverseLoad newer id) b h =
-      (h.0, rw (reversed_next s d (link_to newer) (at (Next id)) h.0 id h.2 b h.1) (Reverses-kept s d (link_to newer) (at (Next id)) h.0 b h.1), h.2)
+  HandleStands-kept s d (handle.ReverseLoad newer id) b h = search (reversed_next, Reverses-kept, arith)
   HandleStands-kept s d (handle.ReverseStore newer id older) b h =
       (h.0, Reverses-kept s d (link_to newer) (link_to older) h.0 b h.1, h.2, reversed_next s d (link_to newer) (link_to older) h.0 id h.2 b h.1 ∙ h.3)
   HandleStands-kept s d (handle.LoadNext walk id) b h = (h.0, h.1, Walks-kept s d walk (id + 1) [] (h.0 ∷ h.1) Nothing b h.2)
   HandleStands-kept s d (handle.LoadFlags walk id next) b h =
       (h.0, h.1, Walks-kept s d walk (id + 1) [] (h.0 ∷ h.1) Nothing b h.2, walked_next s d walk id h.0 h.1 b h.2 ∙ h.3)
-  HandleStands-kept s d (handle.LoadFunc walk id next) b h =
-      (h.0, h.1, Walks-kept s d walk (id + 1) [] (h.0 ∷ h.1) Nothing b h.2, walked_next s d walk id h.0 h.1 b h.2 ∙ h.3, h.4)
-  HandleStands-kept s d (handle.LoadInfo walk id next func) b h =
-      (h.0, h.1, Walks-kept s d walk (id + 1) [] (h.0 ∷ h.1) Nothing b h.2, walked_next s d walk id h.0 h.1 b h.2 ∙ h.3, h.4, h.5)
-  HandleStands-kept s d (handle.Unlink walk last call next) b h =
-      (h.0, Walks-kept s d walk (call.id + 1) [] (call ∷ h.0) Nothing b h.1, walked_next s d walk call.id call h.0 b h.1 ∙ h.2, h.3, h.4)
-  HandleStands-kept s d (handle.BeginSync walk call next) b h =
-      let front = walks_front (IsPlaced places (place.Batch cpu)) h.1 b in
-      (h.0, Walks-kept s d walk (link_to next) (call ∷ []) h.0 Nothing b h.1, same_next call front.0 ∙ h.2)
+  HandleStands-kept s d (handle.LoadFunc walk id next) b h = search (Walks-kept, walked_next, arith)
+  HandleStands-kept s d (handle.LoadInfo walk id next func) b h = search (Walks-kept, walked_next, arith)
+  HandleStands-kept s d (handle.Unlink walk last call next) b h = search (Walks-kept, walked_next, arith)
+  HandleStands-kept s d (handle.BeginSync walk call next) b h = search (walks_front, Walks-kept, same_next, arith)
   HandleStands-kept s d (handle.CountSync walk call next) b h = (h.0, Walks-kept s d walk (link_to next) [] h.0 (SyncCall call) b h.1, h.2)
   HandleStands-kept s d (handle.EndSync walk call next) b h = (h.0, Walks-kept s d walk (link_to next) [] h.0 (CountedCall call) b h.1, h.2)
   HandleStands-kept s d (handle.AsyncNext id) b h = (h.0, h.1, Ends-kept s d (id + 1) [] (h.0 ∷ h.1) Nothing b h.2)
   HandleStands-kept s d (handle.AsyncFunc id next) b h = (h.0, h.1, Ends-kept s d (id + 1) [] (h.0 ∷ h.1) Nothing b h.2, ended_next s d id h.0 h.1 b h.2 ∙ h.3)
-  HandleStands-kept s d (handle.AsyncInfo id next func) b h =
-      (h.0, h.1, Ends-kept s d (id + 1) [] (h.0 ∷ h.1) Nothing b h.2, ended_next s d id h.0 h.1 b h.2 ∙ h.3, h.4)
-  HandleStands-kept s d (handle.BeginAsync call next) b h =
-      let front = ends_front (IsPlaced places (place.Batch cpu)) h.1 b in
-      (h.0, Ends-kept s d (link_to next) (call ∷ []) h.0 Nothing b h.1, same_next call front.0 ∙ h.2)
+  HandleStands-kept s d (handle.AsyncInfo id next func) b h = search (Ends-kept, ended_next, arith)
+  HandleStands-kept s d (handle.BeginAsync call next) b h = search (ends_front, Ends-kept, same_next, arith)
   HandleStands-kept s d (handle.CountAsync call next) b h = (h.0, Ends-kept s d (link_to next) [] h.0 (AsyncCall call) b h.1, h.2, h.3)
   HandleStands-kept s d _ b h = h
 
   StandsAt-kept : (s : Share) (d : DrainValue) (stage : Option Stage) → AllPlaced places (place.Batch cpu) s.batch → StandsAt places at s d cpu stage
       → StandsAt places' at' s d cpu stage
-  StandsAt-kept s d (Some (Post p stage)) b h =
-      let k = h.1 in
-      (h.0, record { owned = k.owned; is_call = k.is_call; me_in_range = k.me_in_range; goes = k.goes; knows = PostKnows-kept p stage k.owned k.knows })
+  StandsAt-kept s d (Some (Post p stage)) b h = search (PostKnows-kept, arith)
   StandsAt-kept s d (Some (Handle stage)) b h = (h.0, HandleStands-kept s d stage b h.1)
   StandsAt-kept s d _ b h = h
 

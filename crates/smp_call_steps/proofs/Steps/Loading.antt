@@ -1,4 +1,5 @@
 -- The steps of handle that load a word of a record of its batch.
+use Rattle.std.proofs.Common.{arith}
 use Rattle.std.proofs.Common.{◌≡◌, ℕ, ◌+◌, ◌%◌, ◌==◌, Bool, true, if◌then◌else◌, Option, Some, None, List, [], ◌∷◌, ◌++◌, sym, subst, refl, ap, ◌∙◌}
 use Rattle.smp_call_steps.proofs.Basics.Alls.{class_of-flags_of}
 use Rattle.smp_words.specs.Put.{put}
@@ -42,8 +43,7 @@ module _ {a : CallState} {at : Word → ℕ} {control : ℕ → ControlValue} (m
       → Shows a at (put control me c)
   goes_on c held stands hand = record {
     held = held_after me s c held;
-    stands = stands_after me s at a.place (share_of a) c (λ _ _. refl) (λ cpu _. leaves_all a.place at at (λ _. refl) (λ _. refl) (λ _. refl) (λ _. refl) cpu)
-        stands;
+    stands = search (stands_after, leaves_all, arith);
     hands = hands_after me s c hand;
     placed = s.placed;
     written = s.written;

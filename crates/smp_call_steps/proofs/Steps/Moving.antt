@@ -1,4 +1,5 @@
 -- One record goes from one place to another: the place law, the words and the links after it.
+use Rattle.std.proofs.Common.{arith}
 use Rattle.std.proofs.Common.{◌≡◌, ◌≢◌, ℕ, inl, inr, Bool, cond, Option, List, sym, subst, ap, ◌∙◌}
 use Rattle.std.specs.List.{AllByRecursion}
 use Rattle.smp_words.specs.Put.{put}
@@ -64,13 +65,11 @@ module _ (places : ℕ → RecPlace) (id : ℕ) (from to : RecPlace) (here : pla
 
   -- calls at another place are where they were
   pub all_placed_still : (p : RecPlace) (calls : List Call) → p ≢ from → AllPlaced places p calls → AllPlaced (put places id to) p calls
-  all_placed_still p calls ne h = every (IsPlaced places p) (IsPlaced (put places id to) p)
-      (λ call k. placed_still p call (else_by_place places call.id id p from k.placed here ne) k) calls h
+  all_placed_still p calls ne h = search (every, placed_still, else_by_place, arith)
 
   -- and so are calls by other records
   pub all_placed_apart : (p : RecPlace) (calls : List Call) → IsAbsent id calls → AllPlaced places p calls → AllPlaced (put places id to) p calls
-  all_placed_apart p calls absent h = every_both (λ call. call.id ≢ id) (IsPlaced places p) (IsPlaced (put places id to) p)
-      (λ call ne k. placed_still p call ne k) calls absent h
+  all_placed_apart p calls absent h = search (every_both, placed_still, arith)
 
   module _ (held : ℕ → Option Holding) (queue batch batch' : ℕ → List Call) (running running' : ℕ → Running) (confirmed : ℕ → ℕ → Bool) where
     -- the place law after a record has left a batch or the call that runs
@@ -91,10 +90,7 @@ module _ (places : ℕ → RecPlace) (id : ℕ) (from to : RecPlace) (here : pla
       is_there = λ u. at_test u id (λ b. IsThere held queue batch' running' u (cond b to (places u)))
           (λ e. subst (λ (k : ℕ). IsThere held queue batch' running' k to) (sym e) there)
           (λ ne. there_still held queue batch batch' running running' u (places u) (λ cpu. in_batch u cpu ne) (λ cpu. in_run u cpu ne) (p.is_there u));
-      settled = λ source u o e. elim (p.settled source u o e) [
-        | inl free ↦ inl (place_else u (λ f. taken (sym here ∙ (ap places (sym f) ∙ free))) ∙ free)
-        | inr hold ↦ inr hold
-      ];
+      settled = search (place_else, arith);
     }
 
   module _ (flags flags' funcs infos : ℕ → ℕ) (same : (u : ℕ) → u ≢ id → flags' u ≡ flags u) where
@@ -104,15 +100,12 @@ module _ (places : ℕ → RecPlace) (id : ℕ) (from to : RecPlace) (here : pla
     -- the words of calls at another place are what they were
     pub all_written_still : (p : RecPlace) (calls : List Call) → p ≢ from → AllPlaced places p calls → AllByRecursion (IsWritten flags funcs infos) calls
         → AllByRecursion (IsWritten flags' funcs infos) calls
-    all_written_still p calls ne h k =
-        every_both (IsPlaced places p) (IsWritten flags funcs infos) (IsWritten flags' funcs infos)
-        (λ call there w. written_still call (else_by_place places call.id id p from there.placed here ne) w) calls h k
+    all_written_still p calls ne h k = search (every_both, else_by_place, arith)
 
     -- and so are those of calls by other records
     pub all_written_apart : (calls : List Call) → IsAbsent id calls → AllByRecursion (IsWritten flags funcs infos) calls
         → AllByRecursion (IsWritten flags' funcs infos) calls
-    all_written_apart calls absent k = every_both (λ call. call.id ≢ id) (IsWritten flags funcs infos)
-        (IsWritten flags' funcs infos) written_still calls absent k
+    all_written_apart calls absent k = search (every_both, arith)
 
     -- the words after it
     pub written_moved : (held : ℕ → Option Holding) (queue batch batch' : ℕ → List Call) (running running' : ℕ → Running) (confirmed : ℕ → ℕ → Bool)
@@ -122,9 +115,7 @@ module _ (places : ℕ → RecPlace) (id : ℕ) (from to : RecPlace) (here : pla
         ((cpu : ℕ) → AllByRecursion (IsWritten flags' funcs infos) (locked_by (running' cpu))) →
         Written flags' funcs infos (put places id to) queue batch' running'
     written_moved held queue batch batch' running running' confirmed unqueued p w lock batched runs = record {
-      locks = λ u. at_test u id (λ b. FlagsShow (cond b to (places u)) (flags' u))
-          (λ e. subst (λ (k : ℕ). FlagsShow to (flags' k)) (sym e) lock)
-          (λ ne. subst (FlagsShow (places u)) (sym (same u ne)) (w.locks u));
+      locks = search (at_test, arith);
       queued = λ cpu. all_written_still (place.Queued cpu) (queue cpu) (unqueued cpu) (p.queued cpu) (w.queued cpu);
       batched = batched;
       runs = runs;

@@ -1,4 +1,5 @@
 -- A step of a CPU on a record of its own that is in no queue and no batch.
+use Rattle.std.proofs.Common.{arith}
 use Rattle.std.proofs.Common.{◌≡◌, ◌≢◌, ℕ, cond, Option, Some, None, List, [], ◌∷◌, sym, subst, refl, ap, ◌∙◌, ◌⊎◌, inl, inr}
 use Rattle.std.proofs.lemmas.Bool.{cases_eq}
 use Rattle.std.specs.List.{AllByRecursion}
@@ -92,22 +93,12 @@ module _ (a : CallState) (at at' : Word → ℕ) (control : ℕ → ControlValue
   elsewhere u p e away f = away (subst IsHome (sym (ap a.place f) ∙ e) o.before)
 
   placed_else : (p : RecPlace) → (IsHome p → ⊥) → (calls : List Call) → AllPlaced a.place p calls → AllPlaced places' p calls
-  placed_else p away = every (IsPlaced a.place p) (IsPlaced places' p)
-      (λ call q. record { is_call = q.is_call; placed = o.touches.place_stays call.id (elsewhere call.id p q.placed away) ∙ q.placed })
+  placed_else p away = search (every, elsewhere, arith)
 
   written_else : (p : RecPlace) → (IsHome p → ⊥) → (calls : List Call) → AllPlaced a.place p calls → AllByRecursion (IsWrittenIn at) calls
       → AllByRecursion (IsWrittenIn at') calls
   written_else p away [] q w = tt
-  written_else p away (call ∷ rest) q w =
-      let placed = q.0 in let written = w.0 in
-      let ne = elsewhere call.id p placed.placed away in (
-        record {
-          flags_are = o.touches.flags call.id ne ∙ written.flags_are;
-          func_is = o.touches.func call.id ne ∙ written.func_is;
-          info_is = o.touches.info call.id ne ∙ written.info_is;
-        },
-        written_else p away rest q.1 w.1,
-      )
+  written_else p away (call ∷ rest) q w = search (elsewhere, written_else p away rest q.1 w.1, arith)
 
   away_queue : (cpu : ℕ) → IsHome (place.Queued cpu) → ⊥
   away_queue cpu h = home_queue (place.Queued cpu) cpu h refl
@@ -119,10 +110,7 @@ module _ (a : CallState) (at at' : Word → ℕ) (control : ℕ → ControlValue
   away_running cpu h = home_running (place.Running cpu) cpu h refl
 
   holds_else : (source u : ℕ) → u ≢ id → Holds (a.held source) u → Holds (held' source) u
-  holds_else source u ne h = elim (cases_eq source me) [
-    | inl e ↦ absurd (ne (o.mine_only u (subst (λ (k : ℕ). Holds (a.held k) u) e h)))
-    | inr n ↦ subst (λ (x : Option Holding). Holds x u) (sym (o.others_held source n)) h
-  ]
+  holds_else source u ne h = search (cases_eq, arith)
 
   there_else : (u : ℕ) (p : RecPlace) → u ≢ id → IsThere a.held a.queue a.batch a.running u p → IsThere held' a.queue a.batch a.running u p
   there_else u place.Held ne h = holds_else (owner u) u ne h
@@ -132,53 +120,16 @@ module _ (a : CallState) (at at' : Word → ℕ) (control : ℕ → ControlValue
   there_id = elim o.after [ inl e ↦ rw e tt | inr e ↦ rw (e.0, o.owned) e.1 ]
 
   placed' : Placed places' held' a.queue a.batch a.running a.confirmed
-  placed' = record {
-    queued = λ cpu. placed_else (place.Queued cpu) (away_queue cpu) (a.queue cpu) (s.placed.queued cpu);
-    batched = λ cpu. placed_else (place.Batch cpu) (away_batch cpu) (a.batch cpu) (s.placed.batched cpu);
-    runs = λ cpu. placed_else (place.Running cpu) (away_running cpu) (locked_by (a.running cpu)) (s.placed.runs cpu);
-    queue_apart = s.placed.queue_apart;
-    batch_apart = s.placed.batch_apart;
-    is_there = λ u. elim (cases_eq u id) [
-      | inl e ↦ subst (λ (k : ℕ). IsThere held' a.queue a.batch a.running k (places' k)) (sym e) there_id
-      | inr ne ↦ rw (o.touches.place_stays u ne) (there_else u (a.place u) ne (s.placed.is_there u))
-    ];
-    settled = λ source u own c. elim (cases_eq u id) [
-      | inl e ↦ elim o.after [
-        | inl free ↦ inl (ap places' e ∙ free)
-        | inr held ↦ inr (rw (e, sym own ∙ (ap owner e ∙ o.owned)) held.1)
-      ]
-      | inr ne ↦ elim (s.placed.settled source u own c) [ inl free ↦ inl (o.touches.place_stays u ne ∙ free) | inr hold ↦ inr (holds_else source u ne hold) ]
-    ];
-  }
+  placed' = search (placed_else, away_queue, away_batch, away_running, cases_eq, there_id, there_else, holds_else, arith)
 
   written' : WrittenIn at' places' a.queue a.batch a.running
-  written' = record {
-    locks = λ u. elim (cases_eq u id) [
-      | inl e ↦ subst (λ (k : ℕ). FlagsShow (places' k) (at' (Flags k))) (sym e) o.flags
-      | inr ne ↦ rw (o.touches.place_stays u ne, o.touches.flags u ne) (s.written.locks u)
-    ];
-    queued = λ cpu. written_else (place.Queued cpu) (away_queue cpu) (a.queue cpu) (s.placed.queued cpu) (s.written.queued cpu);
-    batched = λ cpu. written_else (place.Batch cpu) (away_batch cpu) (a.batch cpu) (s.placed.batched cpu) (s.written.batched cpu);
-    runs = λ cpu. written_else (place.Running cpu) (away_running cpu) (locked_by (a.running cpu)) (s.placed.runs cpu) (s.written.runs cpu);
-  }
+  written' = search (cases_eq, written_else, away_queue, away_batch, away_running, arith)
 
   chained' : Chained (heads_in at') (nexts_in at') a.queue
-  chained' = record {
-    chain =
-        λ cpu. rw (o.keeps.head cpu) (Leads-kept (nexts_in at) (nexts_in at') (IsPlaced a.place (place.Queued cpu))
-        (λ call q. o.touches.next call.id (elsewhere call.id (place.Queued cpu) q.placed (away_queue cpu))) (at (Head cpu)) (a.queue cpu) 0
-        (s.placed.queued cpu) (s.chained.chain cpu));
-  }
+  chained' = search (Leads-kept, elsewhere, away_queue, arith)
 
   links' : Linked (nexts_in at') held' linked'
-  links' = record {
-    held_links = λ cpu. elim (cases_eq cpu me) [
-      | inl e ↦ subst (λ (k : ℕ). LinkIs (nexts_in at') (held' k) (linked' k)) (sym e) o.my_link
-      | inr ne ↦ rw (o.others_held cpu ne, o.others_linked cpu ne)
-          (LinkIs-kept (nexts_in at) (nexts_in at') (a.held cpu) (a.linked cpu)
-          (λ u h. o.touches.next u (λ e. ne (sym (holder_owns s cpu u h) ∙ (ap owner e ∙ o.owned)))) (s.links.held_links cpu))
-    ];
-  }
+  links' = search (cases_eq, LinkIs-kept, holder_owns, arith)
 
   noticed' : Noticed (intrs_in at') a.queue a.pending a.accepted a.owes
   noticed' = record { words = λ cpu. o.keeps.intr cpu ∙ s.noticed.words cpu; noticed = s.noticed.noticed }

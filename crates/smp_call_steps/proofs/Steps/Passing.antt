@@ -1,4 +1,5 @@
 -- The first pass leaves an ASYNC record in the chain, and takes a SYNC record out of it.
+use Rattle.std.proofs.Common.{arith}
 use Rattle.std.proofs.Common.{◌≡◌, ℕ, ◌+◌, Option, Some, None, List, [], ◌∷◌, ◌++◌, sym, subst, refl, ap, ◌∙◌, append_assoc}
 use Rattle.std.proofs.lemmas.List.{append-nil}
 use Rattle.smp_call_steps.specs.Order.{if_sync, if_async, sync_calls, async_calls}
@@ -48,9 +49,7 @@ passes_async nexts s d walk id next call rest h n e =
       begun = sync_calls h.passed;
       whole = h.whole ∙ sym (append_assoc h.passed (call ∷ []) rest);
       begun_are = sync_calls-push h.passed call ∙ ap (λ (c : Class). sync_calls h.passed ++ if_sync c call) e;
-      leads_here = subst (λ (xs : List Call). Path nexts (link_to walk.first) xs (link_to next)) (sym (passed_async h.passed call e))
-          (Path-push nexts (link_to walk.first) (async_calls h.passed) call (link_to next)
-          (subst (λ (k : ℕ). Path nexts (link_to walk.first) (async_calls h.passed) k) h.leads_on.0 h.leads_here) linked);
+      leads_here = search (passed_async, Path-push, arith);
       ends_at = (async_calls h.passed, call, passed_async h.passed call e, same);
       leads_on = subst (λ (k : ℕ). Path nexts k rest 0) linked h.leads_on.1;
       apart = h.apart;

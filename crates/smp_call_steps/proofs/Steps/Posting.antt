@@ -48,25 +48,20 @@ one_here p func info = rw (eq-eqb p.to p.to refl) refl
 -- another flags word, and no other word, of this record
 touches_flags : (id n : ℕ) (places places' : ℕ → RecPlace) (at : Word → ℕ) → ((u : ℕ) → u ≢ id → places' u ≡ places u)
     → Touches id places places' at (put_word at (Flags id) n)
-touches_flags id n places places' at same =
-    record { place_stays = same; flags = λ u ne. put_other (flags_in at) id n u ne; func = λ _ _. refl; info = λ _ _. refl; next = λ _ _. refl }
+touches_flags id n places places' at same = search (put_other, arith)
 
 touches_func : (id n : ℕ) (places : ℕ → RecPlace) (at : Word → ℕ) → Touches id places places at (put_word at (Func id) n)
-touches_func id n places at =
-    record { place_stays = λ _ _. refl; flags = λ _ _. refl; func = λ u ne. put_other (funcs_in at) id n u ne; info = λ _ _. refl; next = λ _ _. refl }
+touches_func id n places at = search (put_other, arith)
 
 touches_info : (id n : ℕ) (places : ℕ → RecPlace) (at : Word → ℕ) → Touches id places places at (put_word at (Info id) n)
-touches_info id n places at =
-    record { place_stays = λ _ _. refl; flags = λ _ _. refl; func = λ _ _. refl; info = λ u ne. put_other (infos_in at) id n u ne; next = λ _ _. refl }
+touches_info id n places at = search (put_other, arith)
 
 touches_next : (id n : ℕ) (places : ℕ → RecPlace) (at : Word → ℕ) → Touches id places places at (put_word at (Next id) n)
-touches_next id n places at =
-    record { place_stays = λ _ _. refl; flags = λ _ _. refl; func = λ _ _. refl; info = λ _ _. refl; next = λ u ne. put_other (nexts_in at) id n u ne }
+touches_next id n places at = search (put_other, arith)
 
 touches_none : (id : ℕ) (places : ℕ → RecPlace) (at at' : Word → ℕ) → ((u : ℕ) → at' (Flags u) ≡ at (Flags u)) → ((u : ℕ) → at' (Func u) ≡ at (Func u))
     → ((u : ℕ) → at' (Info u) ≡ at (Info u)) → ((u : ℕ) → at' (Next u) ≡ at (Next u)) → Touches id places places at at'
-touches_none id places at at' flags func info next =
-    record { place_stays = λ _ _. refl; flags = λ u _. flags u; func = λ u _. func u; info = λ u _. info u; next = λ u _. next u }
+touches_none id places at at' flags func info next = search arith
 
 abbrev keeps : (Word → ℕ) → Word → ℕ → Type 0
 keeps at w n = KeepsCpus at (put_word at w n)
@@ -114,16 +109,12 @@ module _ {a : CallState} {at : Word → ℕ} {control : ℕ → ControlValue} (m
 
   goes_here : (places' : ℕ → RecPlace) (at' : Word → ℕ) (p : Posting) (st next : PostStage) → (control me).stage ≡ Some (Post p st) → PostGoes p next
       → PostKnows places' at' p next → Stands places' at' (share_of a me) me (to_stage (Some (Post p next)))
-  goes_here places' at' p st next e goes knows =
-      let r = post_rests p st e in
-      let was = was_at p st e in
-      (r.rests, record { owned = was.owned; is_call = was.is_call; me_in_range = was.me_in_range; goes = goes; knows = knows })
+  goes_here places' at' p st next e goes knows = search (post_rests, was_at, arith)
 
   -- the load of the own flags
   load_flags : (p : Posting) → (control me).stage ≡ Some (Post p post.LoadFlags) → (b c : Bool) → (at (Flags p.id) % 2 == 1) ≡ b → p.is_online ≡ c →
       Shows (cond b a (confirms a me p.id)) at (put control me (to_stage (cond b (ends note.Busy) (cond c (goes_to p post.Lock) (ends note.NoCpu))).next))
-  load_flags p e true c t o = let r = post_rests p post.LoadFlags e in
-      stands_on a at control me (to_stage None) s (holds_at (Post p post.LoadFlags) e) (ends_here a.place at r) r.hand
+  load_flags p e true c t o = search (post_rests, stands_on, holds_at, ends_here, arith)
   load_flags p e false false t o =
       let r = post_rests p post.LoadFlags e in
       stands_on (confirms a me p.id) at control me (to_stage None)
@@ -146,18 +137,12 @@ module _ {a : CallState} {at : Word → ℕ} {control : ℕ → ControlValue} (m
   pub done_step : (id : ℕ) → (control me).stage ≡ Some (Done id) → StepShows a at control me (Done id)
   done_step id e =
       let h = stands_at (Done id) e in
-      confirm_if a at (put control me (to_stage None)) me id (at (Flags id) % 2 == 1) refl
-      (stands_on a at control me (to_stage None) s (holds_at (Done id) e) h.0 (hand_at (Done id) e))
+      search (confirm_if, stands_on, holds_at, h, hand_at, arith)
 
   -- the tallies where no tally word changes and the same is held
   tallied_on : (held' : ℕ → Option Holding) → ((cpu : ℕ) → cpu ≢ me → held' cpu ≡ a.held cpu) → ((cpu : ℕ) → one_held (held' me) cpu ≡ one_held (a.held me) cpu)
       → Tallied (queued_in at) (ran_in at) a.sent held' a.ran a.running
-  tallied_on held' others mine = record {
-    queued_are =
-        λ source cpu. elim (cases_eq source me)
-        [ inl e ↦ rw (e, mine cpu) (s.tallied.queued_are me cpu) | inr ne ↦ rw (others source ne) (s.tallied.queued_are source cpu) ];
-    ran_are = s.tallied.ran_are;
-  }
+  tallied_on held' others mine = search (cases_eq, arith)
 
   mine_only : (p : Posting) (st : PostStage) → (control me).stage ≡ Some (Post p st) → (u : ℕ) → Holds (a.held me) u → u ≡ p.id
   mine_only p st e u h = post_holds p st u (subst (λ (x : Option Holding). Holds x u) (holds_at (Post p st) e) h)
@@ -198,8 +183,7 @@ module _ {a : CallState} {at : Word → ℕ} {control : ℕ → ControlValue} (m
   told_lock Async id = refl
 
   pub lock_step : (p : Posting) → (control me).stage ≡ Some (Post p post.Lock) → StepShows a at control me (Post p post.Lock)
-  lock_step p e = subst (λ (x : CallState). Shows x (put_word at (Flags p.id) (flags_of p.class)) (put control me (to_stage (Some (Post p post.StoreFunc)))))
-      (sym (told_lock p.class p.id)) (lock_class p e)
+  lock_step p e = search (told_lock, lock_class, arith)
 
   -- a store in a word of the held record, whose place and lock stay
   on_held : (p : Posting) (st next : PostStage) (at' : Word → ℕ) (h : Option Holding) (l : ℕ → Option ℕ) → (control me).stage ≡ Some (Post p st)
@@ -313,9 +297,7 @@ module _ {a : CallState} {at : Word → ℕ} {control : ℕ → ControlValue} (m
   -- a step of a post that changes no word and no call
   goes_on : (p : Posting) (st next : PostStage) → (control me).stage ≡ Some (Post p st) → held_of_post p st ≡ held_of_post p next → PostGoes p next
       → PostKnows a.place at p next → Shows a at (put control me (to_stage (Some (Post p next))))
-  goes_on p st next e same goes knows =
-      let r = post_rests p st e in
-      stands_on a at control me (to_stage (Some (Post p next))) s (holds_at (Post p st) e ∙ same) (goes_here a.place at p st next e goes knows) r.hand
+  goes_on p st next e same goes knows = search (post_rests, stands_on, holds_at, goes_here, arith)
 
   pub head_step : (p : Posting) → (control me).stage ≡ Some (Post p post.LoadHead) → StepShows a at control me (Post p post.LoadHead)
   head_step p e = let was = was_at p post.LoadHead e in goes_on p post.LoadHead (post.StoreNext (at (Head p.to)) p.tries) e refl was.goes was.knows
@@ -346,8 +328,7 @@ module _ {a : CallState} {at : Word → ℕ} {control : ℕ → ControlValue} (m
         my_link = rw (held, is, put_same a.linked me (Some link)) stored;
         others_linked = λ cpu ne. put_other a.linked me (Some link) cpu ne;
         tallied = s.tallied;
-        stands = goes_here a.place at' p st (post.Exchange link tries) e goes
-            (placed, record { flags_are = written.flags_are; func_is = written.func_is; info_is = written.info_is }, stored);
+        stands = search (goes_here, arith);
         hand = r.hand;
       }))
 
@@ -355,8 +336,7 @@ module _ {a : CallState} {at : Word → ℕ} {control : ℕ → ControlValue} (m
       → StepShows a at control me (Post p (post.StoreNext link tries))
   next_step p link tries e =
       let was = was_at p (post.StoreNext link tries) e in
-      let k : PostKnows a.place at p (post.StoreNext link tries) = was.knows in
-      link_here p link (post.StoreNext link tries) (a.held me) e (holds_at (Post p (post.StoreNext link tries)) e) refl k.0 k.1 was.goes tries
+      search (was, link_here, holds_at, arith)
 
   exchange : (p : Posting) (link tries : ℕ) → (control me).stage ≡ Some (Post p (post.Exchange link tries)) → (b c : Bool) (won : Note)
       → (at (Head p.to) == link) ≡ b →
@@ -370,14 +350,8 @@ module _ {a : CallState} {at : Word → ℕ} {control : ℕ → ControlValue} (m
       subst (λ (x : Option Holding). Shows (appended a me p.to x) (put_word at (Head p.to) (p.id + 1)) (put control me (to_stage None))) (sym h)
       (append_kept a at control me p.to (posted p) (to_stage None) s was.owned h was.is_call k.0 k.1 (k.2 ∙ sym (eqb-true (at (Head p.to)) link t)) refl
       (ends_here (put a.place p.id (place.Queued p.to)) (put_word at (Head p.to) (p.id + 1)) r) r.hand)
-  exchange p link tries e false true won t =
-      let was = was_at p (post.Exchange link tries) e in
-      let k : PostKnows a.place at p (post.Exchange link tries) = was.knows in
-      goes_on p (post.Exchange link tries) (post.StoreNext (at (Head p.to)) (tries - 1)) e refl was.goes (k.0, k.1)
-  exchange p link tries e false false won t =
-      let was = was_at p (post.Exchange link tries) e in
-      let k : PostKnows a.place at p (post.Exchange link tries) = was.knows in
-      goes_on p (post.Exchange link tries) post.Uncount e refl was.goes (k.0, k.1)
+  exchange p link tries e false true won t = search (was_at, goes_on, arith)
+  exchange p link tries e false false won t = search (was_at, goes_on, arith)
 
   pub exchange_step : (p : Posting) (link tries : ℕ) → (control me).stage ≡ Some (Post p (post.Exchange link tries))
       → StepShows a at control me (Post p (post.Exchange link tries))

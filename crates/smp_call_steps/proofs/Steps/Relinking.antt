@@ -28,20 +28,16 @@ use Rattle.smp_call_steps.specs.Names.handle
 
 -- a list without a record, where a next word is stored
 leads_else : (nexts : ℕ → ℕ) (id n link : ℕ) (calls : List Call) → IsAbsent id calls → Leads nexts link calls 0 → Leads (put nexts id n) link calls 0
-leads_else nexts id n link calls absent l =
-    Leads-kept nexts (put nexts id n) (λ call. call.id ≢ id) (λ call ne. test_else call.id id n (nexts call.id) ne) link calls 0 absent l
+leads_else nexts id n link calls absent l = search (Leads-kept, test_else, arith)
 
 path_else : (nexts : ℕ → ℕ) (id n link : ℕ) (calls : List Call) (after : ℕ) → IsAbsent id calls → Path nexts link calls after
     → Path (put nexts id n) link calls after
-path_else nexts id n link calls after absent l =
-    Path-kept nexts (put nexts id n) (λ call. call.id ≢ id) (λ call ne. test_else call.id id n (nexts call.id) ne) link calls after absent l
+path_else nexts id n link calls after absent l = search (Path-kept, test_else, arith)
 
 -- the link after the newest call of a path is stored
 path_to : (nexts : ℕ → ℕ) (n link : ℕ) (front : List Call) (newest : Call) (after : ℕ) → IsAbsent newest.id front → Path nexts link (front ++ newest ∷ []) after
     → Path (put nexts newest.id n) link (front ++ newest ∷ []) n
-path_to nexts n link front newest after absent l =
-    Path-push (put nexts newest.id n) link front newest n
-    (path_else nexts newest.id n link front (newest.id + 1) absent (Path-cut nexts link front newest after l)) (test_here newest.id n (nexts newest.id))
+path_to nexts n link front newest after absent l = search (Path-push, path_else, Path-cut, test_here, arith)
 
 module _ {a : CallState} {at : Word → ℕ} {control : ℕ → ControlValue} (me : ℕ) (s : Shows a at control) where
   -- the next word of a record of the own batch is stored

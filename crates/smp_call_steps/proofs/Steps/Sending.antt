@@ -1,4 +1,5 @@
 -- Steps that touch no record: loads of the own flags, and the send of an interrupt.
+use Rattle.std.proofs.Common.{arith}
 use Rattle.std.proofs.Common.{◌≡◌, ◌≢◌, ℕ, ◌%◌, Bool, true, false, ◌==◌, cond, refl, ap, ◌∙◌, ◌⊎◌, inl, inr}
 use Rattle.std.proofs.lemmas.Bool.{cases_eq, eqb-false}
 use Rattle.smp_words.specs.Put.{put, put_word}
@@ -72,9 +73,7 @@ confirm_if a at control me id false e s = confirms_kept a at control me id (unlo
 
 -- what is owed to another CPU stays owed
 owed_else : (f : ℕ → ℕ → Bool) (me to source cpu : ℕ) → cpu ≢ to → f source cpu ≡ true → put f me (put (f me) to false) source cpu ≡ true
-owed_else f me to source cpu ne o = at_test source me (λ b. cond b (put (f me) to false) (f source) cpu ≡ true)
-    (λ e. at_test cpu to (λ b. cond b false (f me cpu) ≡ true) (λ x. absurd (ne x)) (λ _. rw e at o))
-    (λ _. o)
+owed_else f me to source cpu ne o = search (at_test, arith)
 
 noticed_still : (a : CallState) (me to cpu : ℕ) → cpu ≢ to → IsNoticed a.pending a.accepted a.owes cpu
     → IsNoticed (sends a me to).pending a.accepted (sends a me to).owes cpu

@@ -1,4 +1,5 @@
 -- The swap that takes a queue: the whole queue becomes a batch.
+use Rattle.std.proofs.Common.{arith}
 use Rattle.std.proofs.Common.{◌≡◌, ◌≢◌, ℕ, ◌⊎◌, inl, inr, false, cond, Some, None, List, [], ◌∷◌, ◌++◌, sym, subst, refl, ap, ◌∙◌, append_assoc}
 use Rattle.std.proofs.lemmas.List.{append-nil}
 use Rattle.std.specs.List.{AllByRecursion}
@@ -89,47 +90,18 @@ module _ (a : CallState) (at : Word → ℕ) (me : ℕ) where
       → IsThere a.held queue' batch' a.running id (place_taken me p)
   there id place.Free none h = tt
   there id place.Held none h = h
-  there id (place.Queued c) none h = at_test c me (λ b. IsThere a.held queue' batch' a.running id (cond b (place.Batch me) (place.Queued c)))
-      (λ e. subst (HasRecord id) (sym (test_here me (order (a.queue me)) (a.batch me)))
-      (has_order id (a.queue me) (subst (λ (k : ℕ). HasRecord id (a.queue k)) e h)))
-      (λ ne. subst (HasRecord id) (sym (test_else c me [] (a.queue c) ne)) h)
-  there id (place.Batch c) none h = at_test c me (λ b. HasRecord id (cond b (order (a.queue me)) (a.batch c)))
-      (λ e. absurd (subst (HasRecord id) (ap a.batch e ∙ none) h))
-      (λ _. h)
+  there id (place.Queued c) none h = search (at_test, test_here, has_order, test_else, arith)
+  there id (place.Batch c) none h = search (at_test, arith)
   there id (place.Running c) none h = h
 
   placed_taken : a.batch me ≡ [] → Placed a.place a.held a.queue a.batch a.running a.confirmed → Placed place' a.held queue' batch' a.running a.confirmed
-  placed_taken none p = record {
-    queued = λ cpu. at_test cpu me (λ b. AllPlaced place' (place.Queued cpu) (cond b [] (a.queue cpu))) (λ _. tt)
-        (λ ne. every (IsPlaced a.place (place.Queued cpu)) (IsPlaced place' (place.Queued cpu))
-        (λ call h. record { is_call = h.is_call; placed = ap (place_taken me) h.placed ∙ taken_else me cpu ne }) (a.queue cpu) (p.queued cpu));
-    batched = λ cpu. at_test cpu me (λ b. AllPlaced place' (place.Batch cpu) (cond b (order (a.queue me)) (a.batch cpu)))
-        (λ e. subst (λ (k : ℕ). AllPlaced place' (place.Batch k) (order (a.queue me))) (sym e)
-        (every_order (IsPlaced place' (place.Batch me)) (a.queue me)
-        (every (IsPlaced a.place (place.Queued me)) (IsPlaced place' (place.Batch me))
-        (λ call h. record { is_call = h.is_call; placed = ap (place_taken me) h.placed ∙ taken_here me }) (a.queue me) (p.queued me))))
-        (λ _. every (IsPlaced a.place (place.Batch cpu)) (IsPlaced place' (place.Batch cpu)) (moved (place.Batch cpu)) (a.batch cpu) (p.batched cpu));
-    runs = λ cpu. every (IsPlaced a.place (place.Running cpu)) (IsPlaced place' (place.Running cpu)) (moved (place.Running cpu)) (locked_by (a.running cpu))
-        (p.runs cpu);
-    queue_apart = λ cpu. at_test cpu me (λ b. IsApart (cond b [] (a.queue cpu))) (λ _. tt) (λ _. p.queue_apart cpu);
-    batch_apart = λ cpu. at_test cpu me (λ b. IsApart (cond b (order (a.queue me)) (a.batch cpu))) (λ _. apart_order (a.queue me) (p.queue_apart me))
-        (λ _. p.batch_apart cpu);
-    is_there = λ id. there id (a.place id) none (p.is_there id);
-    settled = λ source id o e. elim (p.settled source id o e) [ inl free ↦ inl (ap (place_taken me) free) | inr hold ↦ inr hold ];
-  }
+  placed_taken none p = search (at_test, every, taken_else, every_order, taken_here, moved, apart_order, there, arith)
 
   written_taken : WrittenIn at a.place a.queue a.batch a.running → WrittenIn at place' queue' batch' a.running
-  written_taken w = record {
-    locks = λ id. FlagsShow-taken me (at (Flags id)) (a.place id) (w.locks id);
-    queued = λ cpu. at_test cpu me (λ b. AllByRecursion (IsWrittenIn at) (cond b [] (a.queue cpu))) (λ _. tt) (λ _. w.queued cpu);
-    batched = λ cpu. at_test cpu me (λ b. AllByRecursion (IsWrittenIn at) (cond b (order (a.queue me)) (a.batch cpu)))
-        (λ _. every_order (IsWrittenIn at) (a.queue me) (w.queued me)) (λ _. w.batched cpu);
-    runs = w.runs;
-  }
+  written_taken w = search (FlagsShow-taken, at_test, every_order, arith)
 
   chained_taken : Chained (heads_in at) (nexts_in at) a.queue → Chained (put (heads_in at) me 0) (nexts_in at) queue'
-  chained_taken c =
-      record { chain = λ cpu. at_test cpu me (λ b. Leads (nexts_in at) (cond b 0 (at (Head cpu))) (cond b [] (a.queue cpu)) 0) (λ _. refl) (λ _. c.chain cpu) }
+  chained_taken c = search (at_test, arith)
 
   abbrev taken' : ℕ → List (List Call)
   taken' = put a.taken me (a.taken me ++ a.queue me ∷ [])
@@ -163,8 +135,7 @@ module _ (a : CallState) (at : Word → ℕ) (me : ℕ) where
   }
     where
       before : a.ran me ≡ orders (a.taken me)
-      before = sym (append-nil (a.ran me))
-          ∙ (ap (λ (k : List Call). a.ran me ++ k) (sym (ap (λ (x : Running). running_call x ++ a.batch me) idle ∙ none)) ∙ r.drained me)
+      before = search (append-nil, arith)
 
       drained_here : a.ran me ++ (running_call (a.running me) ++ order (a.queue me)) ≡ orders (a.taken me ++ a.queue me ∷ [])
       drained_here = ap (λ (x : Running). a.ran me ++ (running_call x ++ order (a.queue me))) idle
@@ -173,8 +144,7 @@ module _ (a : CallState) (at : Word → ℕ) (me : ℕ) where
 module _ {a : CallState} {at : Word → ℕ} {control : ℕ → ControlValue} (me : ℕ) (s : Shows a at control) where
   -- nobody minds a queued record
   leaves_taken : (cpu : ℕ) → LeavesTo cpu a.place (place' a at me) at (put_word at (Head me) 0)
-  leaves_taken cpu =
-      record { place_stays = λ id m. taken_minded me cpu id (a.place id) m; flags = λ _ _. refl; func = λ _ _. refl; info = λ _ _. refl; next = λ _ _. refl }
+  leaves_taken cpu = search (taken_minded, arith)
 
   pub take_step : (control me).stage ≡ Some (Handle handle.Take) → StepShows a at control me (Handle handle.Take)
   take_step e =

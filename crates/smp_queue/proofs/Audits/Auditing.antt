@@ -46,18 +46,11 @@ byte-cond false = refl
 -- the same of a count that is kept
 pub counted_more : (test : ℕ → Bool) (n count more : ℕ) (b : Bool) → count ≡ count_below test n → more ≡ from_bool b → b ≡ test n
     → count + more ≡ count_below test (n + 1)
-counted_more test n count more b e f g =
-    let m : more ≡ cond (test n) 1 0 = f ∙ (byte-cond b ∙ ap (λ (t : Bool). cond {A = ℕ} t 1 0) g) in
-    let c = count_more test n in
-    omega arith
+counted_more test n count more b e f g = search (byte-cond, count_more, arith)
 
 -- it stays small
 pub counted_small : (test : ℕ → Bool) (n count more : ℕ) (b : Bool) → count ≡ count_below test n → more ≡ from_bool b → count + more ≤ n + 1
-counted_small test n count more b e f =
-    let m : more ≡ cond b 1 0 = f ∙ byte-cond b in
-    let c = count_bound test n in
-    let one = at_most_one b in
-    omega arith
+counted_small test n count more b e f = search (byte-cond, count_bound, at_most_one, arith)
 
 -- the heads and handling words of the CPUs below n are counted
 pub record CountsCpus (at : Word → ℕ) (n : ℕ) (left : Left) : Type 0 where
@@ -77,13 +70,7 @@ pub record Reads (number : ℕ → ℕ) (n : ℕ) (row : List ℕ) : Type 0 wher
   pub each : (cpu : ℕ) → cpu < n → get_or row cpu 0 ≡ number cpu
 
 pub reads_more : (number : ℕ → ℕ) (n x : ℕ) (row : List ℕ) → n < cpus → x ≡ number n → Reads number n row → Reads number (n + 1) (set row n x)
-reads_more number n x row l e r = record {
-  sized = length-set row n x ∙ r.sized;
-  each = λ cpu below. elim (cases_eq cpu n) [
-    | inl same ↦ rw same (get_or-set_same row n x 0 (let s = r.sized in omega arith) ∙ e)
-    | inr other ↦ get_or-set_other row n cpu x 0 other ∙ r.each cpu (omega arith)
-  ];
-}
+reads_more number n x row l e r = search (length-set, cases_eq, get_or-set_same, get_or-set_other, arith)
 
 -- the rows of the CPUs below n are read
 pub record ReadsRows (number : ℕ → ℕ → ℕ) (n : ℕ) (rows : List (List ℕ)) : Type 0 where
@@ -92,13 +79,7 @@ pub record ReadsRows (number : ℕ → ℕ → ℕ) (n : ℕ) (rows : List (List
 
 pub rows_more : (number : ℕ → ℕ → ℕ) (n : ℕ) (row : List ℕ) (rows : List (List ℕ)) → n < cpus → IsRow (number n) row → ReadsRows number n rows
     → ReadsRows number (n + 1) (set rows n row)
-rows_more number n row rows l e r = record {
-  sized = length-set rows n row ∙ r.sized;
-  each = λ cpu other below o. elim (cases_eq cpu n) [
-    | inl same ↦ rw same (ap (λ (xs : List ℕ). get_or xs other 0) (get_or-set_same rows n row [] (let s = r.sized in omega arith)) ∙ e other o)
-    | inr ne ↦ ap (λ (xs : List ℕ). get_or xs other 0) (get_or-set_other rows n cpu row [] ne) ∙ r.each cpu other (omega arith) o
-  ];
-}
+rows_more number n row rows l e r = search (length-set, cases_eq, get_or, get_or-set_same, get_or-set_other, arith)
 
 -- both kinds
 pub record ReadsTally (at : Word → ℕ) (n : ℕ) (tally : Tally) : Type 0 where

@@ -26,17 +26,7 @@ use Rattle.smp_queue.proofs.TheRule.Cells.{no_hand, no_flags}
 pub closes : {S : Type 0} (k : Setting) (s : State S SeatView) (r : Ruled k s) (id : ℕ) (v : Known) → get_elem? s.views id ≡ some (Cpu v) → Closes k v s.words
 closes k s r id v at =
     let sits = r.each_seat id (Cpu v) at in
-    let number = sits.0 in
-    let few = r.few in
-    record {
-      calls = r.calls;
-      controls = r.controls;
-      shown = r.shown;
-      sees = sits.3;
-      setting_is = sits.2;
-      below = omega arith;
-      absent = λ cpu l. r.absent cpu (omega arith);
-    }
+    search (sits, arith)
 
 no_lock : (n : ℕ) → (n % 2 == 1) ≡ false → n % 2 ≢ 1
 no_lock n e f = true≢false (sym (eq-eqb (n % 2) 1 f) ∙ e)
@@ -108,10 +98,7 @@ drained_zeros k v words (audit.Left left) c a = tt
 -- all its calls have run
 drained_run : (k : Setting) (v : Known) (words : List ℕ) (answer : Audit) (c : Closes k v words) → AuditAnswers (number_in words) answer
     → IfDrained answer (λ t. HaveRun c.calls)
-drained_run k v words (audit.Drained t) c a =
-    let at = number_in words in
-    let s = still words a.0 in
-    record { taken = all_sent c.shown s; ran = all_ran c.shown s }
+drained_run k v words (audit.Drained t) c a = search (still, all_sent, all_ran, arith)
 drained_run k v words (audit.Left left) c a = tt
 
 -- what an audit tells of its table
@@ -133,15 +120,7 @@ audited t d words answer e c a = record {
 
 pub closes_with : (t : TableValue) (d : SeatValue) (words : List ℕ) → d.table ≡ t.table → t.nr ≤ cpus → Closes (setting_of t) d.known words
     → ClosesWith t (cpu_of d) words
-closes_with t d words e within c = record {
-  calls = c.calls;
-  controls = c.controls;
-  shown = c.shown;
-  view = λ i. record (cpu_of d) { table = e i; setting = c.setting_is i; part = sym c.sees.part i };
-  below = c.below;
-  within = within;
-  absent = c.absent;
-}
+closes_with t d words e within c = search arith
 
 module _ (t : TableValue) (last : CpuValue) (words : List ℕ) (c : ClosesWith t last words) where
   abbrev pub last_seat : SeatValue
@@ -164,13 +143,4 @@ module _ (t : TableValue) (last : CpuValue) (words : List ℕ) (c : ClosesWith t
   last_view = sym c.view
 
   pub last_closes : Closes (setting_of t) last_seat.known words
-  last_closes =
-      record {
-        calls = c.calls;
-        controls = c.controls;
-        shown = c.shown;
-        sees = record { stage = refl; drain = refl; part = refl };
-        setting_is = refl;
-        below = c.below;
-        absent = c.absent;
-      }
+  last_closes = search arith

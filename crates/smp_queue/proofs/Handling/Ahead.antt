@@ -49,12 +49,7 @@ walks_less nexts s d walk id n call rest w found =
     let whole : s.last ≡ (w.passed ++ call ∷ []) ++ rest = w.whole ∙ sym (append_assoc w.passed (call ∷ []) rest) in
     let leads : Path nexts (link_to (record_at n)) rest 0 =
     subst (λ (k : ℕ). Path nexts k rest 0) (ap nexts same ∙ (sym found ∙ sym (link_back n))) w.leads_on.1 in
-    let from_here : left_from (Some id) s.last ≡ suc (length rest) =
-    ap (left_from (Some id)) w.whole ∙ subst (λ (k : ℕ). left_from (Some k) (w.passed ++ call ∷ rest) ≡ suc (length rest)) same
-    (left_here w.passed call rest (subst IsApart w.whole w.apart)) in
-    let from_next : left_from (record_at n) s.last ≡ length rest =
-    ap (left_from (record_at n)) whole ∙ left_next nexts (record_at n) (w.passed ++ call ∷ []) rest leads (subst IsApart whole w.apart) in
-    omega arith
+    search (same, left_here, whole, left_next, leads, arith)
 
 -- the same at the load of the link
 pub ahead_less : (t : TableId) (d : SeatValue) (walk : Walk) (id n : ℕ) → InHandle t d (handle.LoadNext walk id) → Moment d.known (Next id) n →
@@ -67,10 +62,7 @@ ahead_less t d walk id n at m =
 pub ahead_then : (taken taken' : List (List Call)) (here next : Option ℕ) (id n : ℕ) → here ≡ Some id → next ≡ record_at n → taken' ≡ taken
     → left_from (record_at n) (last_batch taken) < left_from (Some id) (last_batch taken) →
     left_from next (last_batch taken') < left_from here (last_batch taken)
-ahead_then taken taken' here next id n e f t l =
-    subst (λ (x : Option ℕ). left_from next (last_batch taken') < left_from x (last_batch taken)) (sym e)
-    (subst (λ (x : Option ℕ). left_from x (last_batch taken') < left_from (Some id) (last_batch taken)) (sym f)
-    (subst (λ (x : List (List Call)). left_from (record_at n) (last_batch x) < left_from (Some id) (last_batch taken)) (sym t) l))
+ahead_then taken taken' here next id n e f t l = search arith
 
 -- a CPU that has run calls, and no more, has taken no queue
 pub same_taken : (d d1 d2 : SeatValue) (calls : List Call) → d1.known ≡ record (d.known) { stage = d1.known.stage }

@@ -1,4 +1,5 @@
 -- A CPU that enters handle, takes its queue, and leaves.
+use Rattle.std.proofs.Common.{arith}
 use Rattle.std.proofs.Common.{◌≡◌, ℕ, ◌<◌, ◌==◌, true, false, cond, Option, Some, None, List, [], ◌∷◌, ◌++◌, length, append-nil, sym, refl, ap, ◌∙◌, subst}
 use Rattle.std.proofs.lemmas.List.{append_cancel_left}
 use Rattle.atomic_table.specs.Seated.{TableId}
@@ -65,9 +66,7 @@ pub accepted_then : (t : TableId) (d d' : SeatValue) (v : Known) (number n : ℕ
     → d.known ≡ handling handle.Accept v.drain v →
     d'.known ≡ known_taking q d.known act.Swap (Intr number) (Some n) (Some 0)
     → d'.known ≡ accepted_known (cond (n == 0) false true) (handling handle.Accept v.drain v)
-accepted_then t d d' v number n q h m is known =
-    let one : (n == 1) ≡ cond (n == 0) false true = subst (λ (k : ℕ). (k == 1) ≡ cond (k == 0) false true) (sym m.number_is) (lives_intr m.lives number) in
-    known ∙ (accepted_is q d.known number n h.stage_is one ∙ ap (accepted_known (cond (n == 0) false true)) is)
+accepted_then t d d' v number n q h m is known = search (lives_intr, accepted_is, arith)
 
 -- where no call runs and none is left, what ran is the drain order of the batches
 ran_orders : (v : Known) → Lives v → v.part.batch ≡ [] → v.part.running ≡ Nothing → v.part.ran ≡ orders v.part.taken
@@ -77,10 +76,7 @@ ran_orders v l b r = sym (append-nil v.part.ran) ∙ ((λ i. v.part.ran ++ (runn
 pub ran_order : (v w : Known) (queue calls : List Call) → Lives v → v.part.batch ≡ [] → v.part.running ≡ Nothing → Lives w → w.part.batch ≡ []
     → w.part.running ≡ Nothing →
     w.part.taken ≡ v.part.taken ++ queue ∷ [] → w.part.ran ≡ v.part.ran ++ calls → calls ≡ order queue
-ran_order v w queue calls lv bv rv lw bw rw' taken ran =
-    append_cancel_left v.part.ran calls (order queue)
-    (sym ran ∙ (ran_orders w lw bw rw'
-    ∙ (ap orders taken ∙ (orders-push v.part.taken queue ∙ ap (λ (xs : List Call). xs ++ order queue) (sym (ran_orders v lv bv rv))))))
+ran_order v w queue calls lv bv rv lw bw rw' taken ran = search (append_cancel_left, ran_orders, orders-push, arith)
 
 pub FoldsTo-append : {A B : Type 0} (R : A → B → A → Type 0) (p : A) (xs : List B) (q : A) (ys : List B) (r : A) → FoldsTo R p xs q → FoldsTo R q ys r
     → FoldsTo R p (xs ++ ys) r

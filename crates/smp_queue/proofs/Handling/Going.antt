@@ -1,4 +1,5 @@
 -- A step of a CPU inside handle that tells nothing of the calls: where it stands then, and what it knows.
+use Rattle.std.proofs.Common.{arith}
 use Rattle.std.proofs.Common.{◌≡◌, ℕ, ◌%◌, ◌^◌, Option, Some, List, length, refl, ap, ◌∙◌, sym, subst}
 use Rattle.atomic_table.specs.Seated.{TableId}
 use Rattle.smp_words.specs.Access.{word_of}
@@ -33,9 +34,7 @@ module _ {t : TableId} {d : SeatValue} (d' : SeatValue) {h : HandleStage} (at : 
 -- what is found fits
 pub found_fits : (t : TableId) (d d' : SeatValue) (h : HandleStage) → InHandle t d h → (w : Word) (n : ℕ) → Loads t d d' w n
     → word_of (known_access d.known (Handle h)) ≡ w → FitsFound h n
-found_fits t d d' h at w n l e =
-    let m = l.moment in
-    subst (FitsFound h) (ap m.lives.at e ∙ sym m.number_is) (lives_fits m.lives h at.stage_is).0
+found_fits t d d' h at w n l e = search (lives_fits, arith)
 
 -- a CPU that reverses its chain, between two records
 pub record Reversing (t : TableId) (before d : SeatValue) (here next : Option ℕ) (calls : ℕ) : Type 0 where
@@ -46,8 +45,7 @@ pub record Reversing (t : TableId) (before d : SeatValue) (here next : Option �
 -- what is found at some time fits
 pub moment_fits : (t : TableId) (d : SeatValue) (h : HandleStage) → InHandle t d h → (w : Word) (n : ℕ) → Moment d.known w n
     → word_of (known_access d.known (Handle h)) ≡ w → FitsFound h n
-moment_fits t d h at w n m e =
-    subst (FitsFound h) (ap m.lives.at e ∙ sym m.number_is) (lives_fits m.lives h at.stage_is).0
+moment_fits t d h at w n m e = search (lives_fits, arith)
 
 -- a CPU in its second pass, between two calls
 pub record Running2 {H : Type 0} (leads : H → Heard → H → Type 0) (t : TableId) (before d : SeatValue) (here : Option ℕ) (counts : List ℕ)
@@ -63,54 +61,29 @@ module _ {t : TableId} {d d1 : SeatValue} (d2 d3 : SeatValue) (id : ℕ) {n : �
 
   module _ (l2 : Loads t d1 d2 (Func id) func) where
     pub async_info_at : InHandle t d2 (handle.AsyncInfo id (record_at n) func)
-    async_info_at = in_handle_then t d2 (handle.AsyncInfo id (record_at n) func)
-        (goes_known (handle.AsyncFunc id (record_at n)) func d1.known) at.sized l2.table l2.lives
-        (l2.known ∙ func_found_is d1.known (handle.AsyncFunc id (record_at n)) id func async_func_at.stage_is) refl
+    async_info_at = search (in_handle_then, func_found_is, arith)
 
     module _ (l3 : Loads t d2 d3 (Info id) info) where
       pub async_known : d3.known ≡ record (d.known) { stage = d3.known.stage }
-      async_known =
-          let k1 = next_known d1 at id n l1 in
-          let k2 =
-          l2.known ∙ (func_found_is d1.known (handle.AsyncFunc id (record_at n)) id func async_func_at.stage_is
-          ∙ ap (goes_known (handle.AsyncFunc id (record_at n)) func) k1) in
-          let k3 =
-          l3.known ∙ (info_found_is d2.known (handle.AsyncInfo id (record_at n) func) id info async_info_at.stage_is
-          ∙ ap (goes_known (handle.AsyncInfo id (record_at n) func) info) k2) in
-          k3 ∙ ap (λ (x : Option Stage). record (d.known) { stage = x }) (sym (ap (λ (u : Known). u.stage) k3))
+      async_known = search (next_known, func_found_is, info_found_is, arith)
 
 -- what has run has run still, after steps that tell nothing
 pub run_kept : {H : Type 0} (leads : H → Heard → H → Type 0) (before d d' : SeatValue) (counts : List ℕ) (p q : H) → HasRunAll leads before d counts p q
     → d'.table ≡ d.table → d'.known ≡ record (d.known) { stage = d'.known.stage } → HasRunAll leads before d' counts p q
-run_kept {H} leads before d d' counts p q r table k = record {
-  calls = r.calls;
-  drain = ap (λ (u : Known). u.drain) k ∙ r.drain;
-  cpu = (λ i. cpu_of (record { table = table i; known = k i })) ∙ (r.cpu ∙ (λ i. runs r.calls (sym k i).part (cpu_of before)));
-  counts_are =
-      record {
-        sized = r.counts_are.sized;
-        are = λ source l. r.counts_are.are source l
-            ∙ ap (λ (u : Known). length (calls_from source u.part.ran) % 2 ^ 64) (sym k);
-      };
-  grows = r.grows;
-}
+run_kept {H} leads before d d' counts p q r table k = search arith
 
 -- two loads after one another, of a SYNC record of the first pass
 module _ {t : TableId} {d d1 : SeatValue} (d2 : SeatValue) (walk : Walk) (id : ℕ) (next : Option ℕ) {func : ℕ} (info : ℕ)
     (at : InHandle t d (handle.LoadFunc walk id next)) (l1 : Loads t d d1 (Func id) func) where
   pub sync_info_at : InHandle t d1 (handle.LoadInfo walk id next func)
-  sync_info_at = in_handle_then t d1 (handle.LoadInfo walk id next func) (goes_known (handle.LoadFunc walk id next) func d.known) at.sized l1.table l1.lives
-      (l1.known ∙ func_found_is d.known (handle.LoadFunc walk id next) id func at.stage_is) refl
+  sync_info_at = search (in_handle_then, func_found_is, arith)
 
   module _ (l2 : Loads t d1 d2 (Info id) info) where
     pub sync_known : d2.known ≡ goes_known (handle.LoadInfo walk id next func) info (goes_known (handle.LoadFunc walk id next) func d.known)
-    sync_known =
-        l2.known ∙ (info_found_is d1.known (handle.LoadInfo walk id next func) id info sync_info_at.stage_is
-        ∙ ap (goes_known (handle.LoadInfo walk id next func) info) (l1.known ∙ func_found_is d.known (handle.LoadFunc walk id next) id func at.stage_is))
+    sync_known = search (info_found_is, func_found_is, arith)
 
     pub sync_goes : (h : HandleStage) → unlink_after walk.last walk (record { id = id; class = Sync; func = func; info = info }) next ≡ h → InHandle t d2 h
-    sync_goes h e = in_handle_then t d2 h (goes_known (handle.LoadInfo walk id next func) info (goes_known (handle.LoadFunc walk id next) func d.known))
-        at.sized l2.table l2.lives sync_known (ap (λ (x : HandleStage). Some (Handle x)) e)
+    sync_goes h e = search (in_handle_then, arith)
 
 -- steps that change what a CPU knows by its stage alone, after others that did
 pub kept_on : (v v1 v2 : Known) → v1 ≡ record v { stage = v1.stage } → v2 ≡ record v1 { stage = v2.stage } → v2 ≡ record v { stage = v2.stage }
@@ -138,9 +111,7 @@ module _ {t : TableId} {d d1 : SeatValue} (d2 : SeatValue) (walk : Walk) (id : �
         ∙ ap (goes_known (handle.LoadFlags walk id (record_at n)) flags) (next_known d1 at id n l1))
 
     pub class_goes : (h : HandleStage) → by_class (class_of flags) walk id (record_at n) ≡ h → InHandle t d2 h
-    class_goes h e = in_handle_then t d2 h (goes_known (handle.LoadFlags walk id (record_at n)) flags (goes_known (handle.LoadNext walk id) n d.known))
-        at.sized l2.table l2.lives class_known
-        (ap (λ (x : HandleStage). Some (Handle x)) e)
+    class_goes h e = search (in_handle_then, arith)
 
     pub class_kept : d2.known ≡ record (d.known) { stage = d2.known.stage }
     class_kept = class_known ∙ ap (λ (x : Option Stage). record (d.known) { stage = x }) (sym (ap (λ (u : Known). u.stage) class_known))

@@ -1,4 +1,5 @@
 -- A CPU inside handle: when it may make its next step, and where it stands after it.
+use Rattle.std.proofs.Common.{arith}
 use Rattle.std.proofs.Common.{◌≡◌, Some, ap, ◌∙◌, subst}
 use Rattle.atomic_table.specs.Seated.{TableId}
 use Rattle.smp_words.specs.Access.{word_of}
@@ -14,8 +15,7 @@ module _ {t : TableId} {d : SeatValue} {stage : HandleStage} (h : InHandle t d s
   in_handle_can access is = record { stage = Handle stage; aims = lives_aims h.lives stage h.stage_is; is_access = is }
 
   pub in_handle_cell : (access : Access) → known_access d.known (Handle stage) ≡ access → HasCell (word_of access)
-  in_handle_cell access is =
-      subst (λ (x : Access). HasCell (word_of x)) is (has_cell_of (word_of (known_access d.known (Handle stage))) (lives_in_table h.lives stage h.stage_is))
+  in_handle_cell access is = search (has_cell_of, lives_in_table, arith)
 
   -- a step that begins, counts and ends no call
   pub in_handle_ready : (access : Access) → IsApartFromCalls (Handle stage) → known_access d.known (Handle stage) ≡ access → Ready t d access

@@ -19,25 +19,14 @@ use Rattle.smp_queue.specs.Handling.{heard_of, AreRan, runs, HasRun, HasRunAll}
 -- a call that runs is not counted yet
 pub tally_running : (v w : Known) (source : ℕ) → w.part.ran ≡ v.part.ran → counted_call w.part.running ≡ []
     → ran_tally w.part source ≡ length (calls_from source v.part.ran) % 2 ^ 64
-tally_running v w source r n =
-    (λ i. length (calls_from source (r i ++ n i)) % 2 ^ 64) ∙ ap (λ (calls : List Call). length (calls_from source calls) % 2 ^ 64) (append-nil v.part.ran)
+tally_running v w source r n = search (append-nil, arith)
 
 -- one call more has run
 pub more_ran : (counts counts' : List ℕ) (v w : Known) (call : Call) → AreRan counts v → call.id < records → w.part.ran ≡ v.part.ran ++ call ∷ [] →
     counts' ≡ set counts (owner call.id) ((get_or counts (owner call.id) 0 + 1) % 2 ^ 64) → AreRan counts' w
 more_ran counts counts' v w call a in_range ran is = rw is (record {
   sized = length-set counts (owner call.id) ((get_or counts (owner call.id) 0 + 1) % 2 ^ 64) ∙ a.sized;
-  are = λ source l. elim (cases_eq source (owner call.id)) [
-    | inl e ↦
-        rw e (get_or-set_same counts (owner call.id) ((get_or counts (owner call.id) 0 + 1) % 2 ^ 64) 0
-        (let s = a.sized in let b = owner-below call.id in_range in omega arith)
-        ∙ count_wraps (get_or counts (owner call.id) 0) (length (calls_from (owner call.id) v.part.ran)) (length (calls_from (owner call.id) w.part.ran))
-        (a.are (owner call.id) (owner-below call.id in_range))
-        (ap (λ (calls : List Call). length (calls_from (owner call.id) calls)) ran ∙ count-same (owner call.id) v.part.ran call refl))
-    | inr ne ↦ get_or-set_other counts (owner call.id) source ((get_or counts (owner call.id) 0 + 1) % 2 ^ 64) 0 ne
-        ∙ (a.are source l ∙ ap (λ (n : ℕ). n % 2 ^ 64)
-        (sym (ap (λ (calls : List Call). length (calls_from source calls)) ran ∙ count-other source v.part.ran call (λ e. ne (sym e)))))
-  ];
+  are = search (cases_eq, get_or-set_same, get_or, owner-below, count_wraps, count-same, get_or-set_other, count-other, arith);
 })
 
 -- a call has begun and ended

@@ -22,13 +22,7 @@ pub record Tries (table : TableId) (before seat : SeatValue) (p : Posting) (link
 -- before its first try it has loaded the head
 pub tries_first : (table : TableId) (before seat : SeatValue) (p : Posting) (link : ℕ) → seat.table ≡ table
     → seat.known ≡ standing (counted p) post.LoadHead (looked_known link before.known) → Tries table before seat p link (by_load link)
-tries_first table before seat p link is known = record {
-  table_is = is;
-  known_is = known ∙ (let none : before.known.tried ≡ before.known.tried + 0 = omega arith in
-      λ i. standing (counted p) post.LoadHead (record (looked_known link before.known) { tried = none i }));
-  others = tt;
-  link_is = refl;
-}
+tries_first table before seat p link is known = search arith
 
 module _ {table : TableId} {before seat : SeatValue} {p : Posting} {link : ℕ} {found : Found} (t : Tries table before seat p link found) where
   pub tries_mine : IsMine table before p → IsMine table seat p
@@ -38,18 +32,11 @@ module _ {table : TableId} {before seat : SeatValue} {p : Posting} {link : ℕ} 
   tries_stage = ap (λ (u : Known). u.stage) t.known_is
 
   pub tries_tallied : (number count : ℕ) → IsCounting before.known p number count → IsTallied seat.known p number count
-  tries_tallied number count k = record {
-    number_is = ap (λ (u : Known). u.number) t.known_is ∙ k.number_is;
-    count_is = k.count_is ∙ ap (λ (u : Known). length (sent_to p.to u.part.sent) % 2 ^ 64) (sym t.known_is);
-  }
+  tries_tallied number count k = search arith
 
   -- the call is queued
   pub tries_won : (v : Known) → v ≡ queued_known (posted p) p.to (link == 0) link seat.known → Appends p (link == 0) found before.known v
-  tries_won v e = record {
-    others = t.others;
-    first_is = ap (λ n. n == 0) t.link_is;
-    known_is = e ∙ (λ i. queued_known (posted p) p.to (link == 0) (t.link_is i) (t.known_is i));
-  }
+  tries_won v e = search arith
 
   -- it has given up
   pub tries_left : (v : Known) → v ≡ outside_known seat.known → GivesUp found before.known v
@@ -58,14 +45,4 @@ module _ {table : TableId} {before seat : SeatValue} {p : Posting} {link : ℕ} 
   -- it has lost one more
   pub tries_lost : (next : SeatValue) (n : ℕ) → next.table ≡ table → next.known ≡ lost_one link n seat.known → n ≢ link
       → Tries table before next p n (by_exchange found n)
-  tries_lost next n is known other = record {
-    table_is = is;
-    known_is = known ∙ (ap (lost_one link n) t.known_is ∙
-        (let more : (before.known.tried + times_lost found) + 1 ≡ before.known.tried + (times_lost found + 1) = omega arith in
-        λ i. standing (counted p) post.LoadHead (record (before.known) {
-          tried = more i;
-          heads = heads_with before.known.heads found ++ head.Exchanged (t.link_is i) n ∷ [];
-        })));
-    others = (t.others, λ e. other (e ∙ sym t.link_is));
-    link_is = refl;
-  }
+  tries_lost next n is known other = search arith

@@ -36,57 +36,17 @@ kept_fresh v number e l o = record {
 
 module _ {v : Known} {number : ℕ} {queued ran : List ℕ} (k : IsKept v number queued ran) where
   pub kept_confirmed : (id : ℕ) → IsKept (confirmed_known id v) number queued ran
-  kept_confirmed id = record {
-    number_is = k.number_is;
-    below = k.below;
-    online = k.online;
-    outside = k.outside;
-    records_sized = length-set v.part.confirmed id true ∙ k.records_sized;
-    queued_sized = k.queued_sized;
-    ran_sized = k.ran_sized;
-    queued_are = k.queued_are;
-    ran_are = k.ran_are;
-  }
+  kept_confirmed id = search (length-set, arith)
 
   pub kept_sent : (to : ℕ) → IsKept (record v { part = part_sent to v.part; log = v.log ++ logged.Interrupted to ∷ [] }) number queued ran
-  kept_sent to = record {
-    number_is = k.number_is;
-    below = k.below;
-    online = k.online;
-    outside = k.outside;
-    records_sized = k.records_sized;
-    queued_sized = k.queued_sized;
-    ran_sized = k.ran_sized;
-    queued_are = k.queued_are;
-    ran_are = k.ran_are;
-  }
+  kept_sent to = search arith
 
   -- also where it has tried in vain
   pub kept_lost : (found : Found) → IsKept (lost_tries found v) number queued ran
-  kept_lost found = record {
-    number_is = k.number_is;
-    below = k.below;
-    online = k.online;
-    outside = k.outside;
-    records_sized = k.records_sized;
-    queued_sized = k.queued_sized;
-    ran_sized = k.ran_sized;
-    queued_are = k.queued_are;
-    ran_are = k.ran_are;
-  }
+  kept_lost found = search arith
 
   pub kept_outside : IsKept (outside_known v) number queued ran
-  kept_outside = record {
-    number_is = k.number_is;
-    below = k.below;
-    online = k.online;
-    outside = refl;
-    records_sized = k.records_sized;
-    queued_sized = k.queued_sized;
-    ran_sized = k.ran_sized;
-    queued_are = k.queued_are;
-    ran_are = k.ran_are;
-  }
+  kept_outside = search arith
 
   pub kept_unless : (b : Bool) (id : ℕ) → IsKept (cond b v (confirmed_known id v)) number queued ran
   kept_unless true id = k
@@ -137,10 +97,4 @@ kept_posted v w v' number queued ran p first found k l e f =
 pub kept_counting : (v w : Known) (number to count : ℕ) (queued ran : List ℕ) (p : Posting) → IsKept v number queued ran → p.to ≡ to → to < cpus
     → count ≡ get_or queued to 0 →
     w ≡ standing (uncounted p) post.Count v → IsCounting w p number count
-kept_counting v w number to count queued ran p k e l is stands = record {
-  stage = ap (λ (u : Known). u.stage) stands;
-  number_is = ap (λ (u : Known). u.number) stands ∙ k.number_is;
-  count_is =
-      is ∙ (k.queued_are to l ∙ (ap (λ (n : ℕ). length (sent_to n v.part.sent) % 2 ^ 64) (sym e)
-      ∙ ap (λ (u : Known). length (sent_to p.to u.part.sent) % 2 ^ 64) (sym stands)));
-}
+kept_counting v w number to count queued ran p k e l is stands = search arith

@@ -24,25 +24,12 @@ use Rattle.smp_queue.specs.Cpu.{CpuValue, IsKept, MayQueue, cpu_of, confirms, lo
 
 pub at_own : (table : TableId) (d : SeatValue) (number k id : ℕ) (queued ran : List ℕ) → IsKept d.known number queued ran → d.table ≡ table
     → table.words ≡ cells → k < records_of_one → id ≡ record_of number k → OwnsRecord table d id
-at_own table d number k id queued ran m is sized l e =
-    let n = m.number_is in
-    let b = m.below in
-    rw e (record {
-      table_is = is;
-      sized = sized;
-      me_in_range = omega arith;
-      owned = owner-of_record number k b l ∙ sym n;
-      in_range = record_of-below number k b l;
-    })
+at_own table d number k id queued ran m is sized l e = search (owner-of_record, record_of-below, arith)
 
 -- a post that is not misused is by a record of its CPU
 pub small_record : (k to number tries : ℕ) (fits : Bool) → ((((not (nat_lt k records_of_one) || tries == 0) || to == number)) || fits) ≡ false
     → k < records_of_one
-small_record k to number tries fits e =
-    let a = or_parts ((not (nat_lt k records_of_one) || tries == 0) || to == number) fits e in
-    let b = or_parts (not (nat_lt k records_of_one) || tries == 0) (to == number) a.0 in
-    let c = or_parts (not (nat_lt k records_of_one)) (tries == 0) b.0 in
-    ltb-true k records_of_one (not_false (nat_lt k records_of_one) c.0)
+small_record k to number tries fits e = search (or_parts, nat_lt, ltb-true, not_false, arith)
 
 pub allowed_record : (nr online number k to func info tries : ℕ) (class : Class)
     → command_refusal nr online number (command.Post k to class func info tries) ≡ None → k < records_of_one
@@ -52,39 +39,12 @@ allowed_record nr online number k to func info tries class e = small_record k to
 pub may_queue : (s s' : SeatValue) (number k id to func info : ℕ) (class : Class) (queued ran : List ℕ) → IsKept s.known number queued ran → k < records_of_one
     → id ≡ record_of number k →
     to < cpus → func < 2 ^ 16 → info < 2 ^ 64 → s'.known ≡ confirmed_known id s.known → MayQueue (cpu_of s') (posting_of id class func info to)
-may_queue s s' number k id to func info class queued ran m l e below f i known =
-    let n : s'.known.number ≡ number = ap (λ (u : Known). u.number) known ∙ m.number_is in
-    let b = m.below in
-    let sized = m.records_sized in
-    let range = record_of-below number k b l in
-    let in_range : id < records = omega arith in
-    record {
-      below = omega arith;
-      owned = ap owner e ∙ (owner-of_record number k b l ∙ sym n);
-      is_call = record { in_range = in_range; func = f; info = i };
-      to_in_range = below;
-      confirmed = ap (λ (u : Known). get_or u.part.confirmed id false) known ∙ get_or-set_same s.known.part.confirmed id true false (omega arith);
-    }
+may_queue s s' number k id to func info class queued ran m l e below f i known = search (record_of-below, owner-of_record, get_or, get_or-set_same, arith)
 
 -- the record is the CPU's own, as its seat shows
 pub mine_of : (table : TableId) (s : SeatValue) (c : CpuValue) (p : Posting) → cpu_of s ≡ c → c.table ≡ table → table.words ≡ cells → MayQueue c p
     → IsMine table s p
-mine_of table s c p view is sized m =
-    let n : s.known.number ≡ c.number = ap (λ (x : CpuValue). x.number) view in
-    let below = m.below in
-    let call = m.is_call in
-    record {
-      at =
-          record {
-            table_is = ap (λ (x : CpuValue). x.table) view ∙ is;
-            sized = sized;
-            me_in_range = omega arith;
-            owned = m.owned ∙ sym n;
-            in_range = call.in_range;
-          };
-      is_call = call;
-      to_in_range = m.to_in_range;
-    }
+mine_of table s c p view is sized m = search arith
 
 set_twice : {A : Type 0} (xs : List A) (i : ℕ) (x y : A) → set (set xs i x) i y ≡ set xs i y
 set_twice [] i x y = refl
@@ -97,31 +57,9 @@ pub posts_then : (s s' : SeatValue) (w : Known) (old new : CpuValue) (k to func 
     → new ≡ confirms k old →
     p ≡ posting_of (record_of old.number k) class func info to → s'.table ≡ old.table → w ≡ standing (uncounted p) post.Count s.known
     → Appends p first found w s'.known → cpu_of s' ≡ posts k to class func info first found old
-posts_then s s' w old new k to func info class p first found view confirmed posting table stands queued =
-    let id = record_of old.number k in
-    let call : Posting = posting_of id class func info to in
-    let seen : cpu_of s ≡ confirms k old = view ∙ confirmed in
-    let known : s'.known ≡ queued_known (posted p) p.to first (last_found found) (lost_tries found s.known) =
-    queued.known_is ∙ ap (λ (u : Known). queued_known (posted p) p.to first (last_found found) (lost_tries found u)) stands in
-    (λ i. cpu_of (record { table = table i; known = known i })) ∙
-    ((λ i. record {
-      table = old.table;
-      setting = (seen i).setting;
-      number = (seen i).number;
-      part = part_queued (posted (posting i)) (posting i).to first (seen i).part;
-      tried = ((seen i).tried + times_lost found) + 1;
-      heads = heads_won (seen i).heads found;
-      log = (seen i).log ++ logged.Queued (posting i).to ∷ [];
-    }) ∙
-    (λ i. record (posts k to class func info first found old) {
-      part = record (part_queued (posted call) to first old.part) { confirmed = set_twice old.part.confirmed id true false i };
-    }))
+posts_then s s' w old new k to func info class p first found view confirmed posting table stands queued = search (set_twice, arith)
 
 -- what a CPU leaves that has given up
 pub gives_up_then : (s s' : SeatValue) (w : Known) (old new : CpuValue) (k : ℕ) (p : Posting) (found : Found) → cpu_of s ≡ new → new ≡ confirms k old
     → s'.table ≡ old.table → w ≡ standing (uncounted p) post.Count s.known → GivesUp found w s'.known → cpu_of s' ≡ confirms k (loses found old)
-gives_up_then s s' w old new k p found view confirmed table stands left =
-    let seen : cpu_of s ≡ confirms k old = view ∙ confirmed in
-    let known : s'.known ≡ outside_known (lost_tries found s.known) =
-    left.known_is ∙ ap (λ (u : Known). outside_known (lost_tries found u)) stands in
-    (λ i. cpu_of (record { table = table i; known = known i })) ∙ (λ i. loses found (record (seen i) { table = old.table }))
+gives_up_then s s' w old new k p found view confirmed table stands left = search arith

@@ -15,9 +15,7 @@ use Rattle.smp_queue.proofs.TheRule.Cells.{has_cell}
 -- a seat after a step of its CPU
 pub at_moved : (t : TableId) (d d' : SeatValue) (id : ℕ) (v : Known) → OwnsRecord t d id → d'.table ≡ t → d'.known ≡ v → v.number ≡ d.known.number
     → OwnsRecord t d' id
-at_moved t d d' id v a table known same =
-    let n : d'.known.number ≡ d.known.number = ap (λ (u : Known). u.number) known ∙ same in
-    record { table_is = table; sized = a.sized; me_in_range = (let h = a.me_in_range in omega arith); owned = a.owned ∙ sym n; in_range = a.in_range }
+at_moved t d d' id v a table known same = search arith
 
 pub mine_moved : (t : TableId) (d d' : SeatValue) (p : Posting) (v : Known) → IsMine t d p → d'.table ≡ t → d'.known ≡ v → v.number ≡ d.known.number
     → IsMine t d' p

@@ -33,30 +33,16 @@ number_of c =
     (FLAGS + WORDS_OF_ONE * ((c - FIRST_RECORD) / RECORDS_APART) + (c - FIRST_RECORD) % RECORDS_APART))
 
 alone_numbered : (base cpu i : ℕ) → base + cpu ≡ i → i < QUEUED → number_of (cpu_place base cpu) ≡ i
-alone_numbered base cpu i e l =
-    let f : cpu_place base cpu / LINE ≡ i = omega arith in
-    rw (lt-ltb (cpu_place base cpu) TALLIES (omega arith), f) refl
+alone_numbered base cpu i e l = search (lt-ltb, arith)
 
 queued_numbered : (s d i : ℕ) → s < NR_CPUS → d < NR_CPUS → QUEUED + NR_CPUS * s + d ≡ i → number_of (pair_place 0 s d) ≡ i
-queued_numbered s d i l m e =
-    let c = pair_place 0 s d in
-    let row : (c - TALLIES) / TALLIES_APART ≡ s = omega arith in
-    let column : (c - TALLIES) % TALLIES_APART ≡ d = omega arith in
-    rw (le-ltb c TALLIES (omega arith), lt-ltb c FIRST_RECORD (omega arith), row, column, lt-ltb d ROW (omega arith)) e
+queued_numbered s d i l m e = search (le-ltb, lt-ltb, arith)
 
 ran_numbered : (d s i : ℕ) → d < NR_CPUS → s < NR_CPUS → RAN + NR_CPUS * d + s ≡ i → number_of (pair_place ROW d s) ≡ i
-ran_numbered d s i l m e =
-    let c = pair_place ROW d s in
-    let row : (c - TALLIES) / TALLIES_APART ≡ d = omega arith in
-    let column : (c - TALLIES) % TALLIES_APART ≡ ROW + s = omega arith in
-    rw (le-ltb c TALLIES (omega arith), lt-ltb c FIRST_RECORD (omega arith), row, column, le-ltb (ROW + s) ROW (omega arith)) (omega arith)
+ran_numbered d s i l m e = search (le-ltb, lt-ltb, arith)
 
 record_numbered : (base r i : ℕ) → FLAGS ≤ base → base ≤ NEXTS → base + WORDS_OF_ONE * r ≡ i → number_of (record_place base r) ≡ i
-record_numbered base r i l m e =
-    let c = record_place base r in
-    let one : (c - FIRST_RECORD) / RECORDS_APART ≡ r = omega arith in
-    let word : (c - FIRST_RECORD) % RECORDS_APART ≡ base - FLAGS = omega arith in
-    rw (le-ltb c TALLIES (omega arith), le-ltb c FIRST_RECORD (omega arith), one, word) (omega arith)
+record_numbered base r i l m e = search (le-ltb, arith)
 
 numbered : (w : Word) (i : ℕ) → Reads w i → number_of (place_of w) ≡ i
 numbered (Head c) i p = alone_numbered HEADS c i p.1 (omega arith)
@@ -86,9 +72,7 @@ has_number (Some i) place cell e = record { number = i; is_number = refl; is_cel
 
 -- the number is told by the cell
 number_told : (w : Word) (i : ℕ) → cell_of w ≡ Some i → index_of w ≡ Some (number_of i)
-number_told w i e =
-    let a = has_number (index_of w) (place_of w) i e in
-    a.is_number ∙ ap Some (sym (numbered w a.number (index_reads w a.number a.is_number)) ∙ ap number_of a.is_cell)
+number_told w i e = search (has_number, numbered, index_reads, arith)
 
 -- a cell is of one word
 pub one_cell : (u w : Word) (i : ℕ) → cell_of u ≡ Some i → cell_of w ≡ Some i → u ≡ w
@@ -103,9 +87,7 @@ pub has_cell : (w : Word) → IsInTable w → HasCell w
 has_cell w l = has_cell_of w (in_table w l)
 
 pub cell_below : (w : Word) (i : ℕ) → cell_of w ≡ Some i → i < cells
-cell_below w i e =
-    let a = has_number (index_of w) (place_of w) i e in
-    subst (λ c. c < cells) a.is_cell (place_below w a.number (index_reads w a.number a.is_number))
+cell_below w i e = search (has_number, place_below, index_reads, arith)
 
 -- a word that has no cell is 0
 

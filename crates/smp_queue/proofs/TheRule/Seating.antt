@@ -26,28 +26,12 @@ pub seats_more : (table maker_table maker_table' : TableId) (maker maker' : Seat
     → AreSeated table maker_table' maker' k (n + 1) waiting'
 seats_more table maker_table maker_table' maker maker' k n waiting waiting' x s is next pushed kept =
     let count : length waiting ≡ n = s.count in
-    let t = table_with table k in
-    rw pushed (record {
-      sized = s.sized;
-      maker_is = is;
-      next = next;
-      count = length-append waiting (x ∷ []) ∙ omega arith;
-      each = λ cpu l. elim (cases_eq cpu n) [
-        | inl e ↦ get_or_push waiting x None cpu (count ∙ sym e) ∙ (kept ∙ ap (λ (j : ℕ). cond (has k.online j) (Some (fresh_cpu t j)) None) (sym e))
-        | inr ne ↦ get_or_append_left waiting (x ∷ []) None cpu (omega arith) ∙ s.each cpu (omega arith)
-      ];
-    })
+    search (count, length-append, cases_eq, get_or_push, get_or_append_left, arith)
 
 -- once all are seated, all that are online wait fresh
 pub seats_wait : (table maker_table : TableId) (maker : SeatView) (k : Setting) (n : ℕ) (waiting : List (Option CpuValue)) → AreLimits k.nr k.online → k.nr ≤ n
     → AreSeated table maker_table maker k n waiting → AreWaiting (table_with table k) k.online waiting
-seats_wait table maker_table maker k n waiting limits all s = record {
-  online_is = refl;
-  sized = λ cpu e. let below = limits.below cpu e in let count = s.count in omega arith;
-  fresh_are = λ cpu e. let below = limits.below cpu e in
-      subst (λ o. IfSome o (λ c. c ≡ fresh_cpu (table_with table k) cpu))
-      (sym (s.each cpu (omega arith) ∙ ap (λ (b : Bool). cond b (Some (fresh_cpu (table_with table k) cpu)) None) e)) refl;
-}
+seats_wait table maker_table maker k n waiting limits all s = search arith
 
 -- whether the CPU of a number is left, by what waits there
 pub left_is : (waiting : List (Option CpuValue)) (cpu : ℕ) (o : Option CpuValue) → get_or waiting cpu None ≡ o
@@ -57,10 +41,7 @@ left_is waiting cpu o e = get_or-map is_some waiting cpu None ∙ ap is_some e
 -- and are left
 pub seats_left : (table maker_table : TableId) (maker : SeatView) (k : Setting) (n : ℕ) (waiting : List (Option CpuValue)) → AreLimits k.nr k.online → k.nr ≤ n
     → AreSeated table maker_table maker k n waiting → (cpu : ℕ) → has k.online cpu ≡ true → get_or (map is_some waiting) cpu false ≡ true
-seats_left table maker_table maker k n waiting limits all s cpu e =
-    let below = limits.below cpu e in
-    left_is waiting cpu (Some (fresh_cpu (table_with table k) cpu))
-    (s.each cpu (omega arith) ∙ ap (λ (b : Bool). cond b (Some (fresh_cpu (table_with table k) cpu)) None) e)
+seats_left table maker_table maker k n waiting limits all s cpu e = search (left_is, arith)
 
 -- the CPU that waits at a number, as it is taken out
 pub taken_from : (waiting : List (Option CpuValue)) (cpu : ℕ) (o now : Option CpuValue) → cpu < length waiting → o ≡ now → now ≡ get_or waiting cpu now

@@ -69,33 +69,10 @@ is_third : (x y z b : Bool) → x ≡ false → y ≡ false → b ≡ z → b �
 is_third x y z b f g e = rw f (rw g e)
 
 pub returns-then-is_between-clause-told : goal.returns-then-is_between-clause-told
-returns-then-is_between-clause-told c =
-    let controls = c.args.controls.now in
-    let words = c.args.words.now in
-    let x = c.index-controls-cpu.result in
-    let here = get_or_read controls c.args.cpu x (omega (arith, c.requires.known, c.requires.table.controls_sized)) c.index-controls-cpu.is outside in
-    is_first (is_this c.args.id (between_of x.stage)) (leads_through words (down_link x.stage) c.args.id) (leads_through words (up_link x.stage) c.args.id)
-    (sym c.is_between.ensures ∙ c.if-is_between.true) ∙ ap (λ (at : ControlValue). is_left words at.stage c.args.id) here
+returns-then-is_between-clause-told c = search (get_or_read, is_first, arith)
 
 pub returns-then-is_on_chain-clause-told : goal.returns-then-is_on_chain-clause-told
-returns-then-is_on_chain-clause-told c =
-    let controls = c.args.controls.now in
-    let words = c.args.words.now in
-    let x = c.index-controls-cpu.result in
-    let here = get_or_read controls c.args.cpu x (omega (arith, c.requires.known, c.requires.table.controls_sized)) c.index-controls-cpu.is outside in
-    let down = c.is_on_chain.ensures ∙ ap (λ (link : ℕ). leads_through words link c.args.id) c.down.ensures in
-    is_second (is_this c.args.id (between_of x.stage)) (leads_through words (down_link x.stage) c.args.id) (leads_through words (up_link x.stage) c.args.id)
-    c.is_on_chain.result (sym c.is_between.ensures ∙ c.if-is_between.false) down c.if-is_on_chain.true
-    ∙ ap (λ (at : ControlValue). is_left words at.stage c.args.id) here
+returns-then-is_on_chain-clause-told c = search (get_or_read, is_second, arith)
 
 pub returns-else-is_on_chain-clause-told : goal.returns-else-is_on_chain-clause-told
-returns-else-is_on_chain-clause-told c =
-    let controls = c.args.controls.now in
-    let words = c.args.words.now in
-    let x = c.index-controls-cpu.result in
-    let here = get_or_read controls c.args.cpu x (omega (arith, c.requires.known, c.requires.table.controls_sized)) c.index-controls-cpu.is outside in
-    let down = c.is_on_chain.ensures ∙ ap (λ (link : ℕ). leads_through words link c.args.id) c.down.ensures in
-    let up = c.is_on_chain-else-is_on_chain.ensures ∙ ap (λ (link : ℕ). leads_through words link c.args.id) c.up.ensures in
-    is_third (is_this c.args.id (between_of x.stage)) (leads_through words (down_link x.stage) c.args.id) (leads_through words (up_link x.stage) c.args.id)
-    c.is_on_chain-else-is_on_chain.result (sym c.is_between.ensures ∙ c.if-is_between.false) (sym down ∙ c.if-is_on_chain.false) up
-    ∙ ap (λ (at : ControlValue). is_left words at.stage c.args.id) here
+returns-else-is_on_chain-clause-told c = search (get_or_read, is_third, arith)

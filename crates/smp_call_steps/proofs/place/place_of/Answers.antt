@@ -22,22 +22,19 @@ loop-cpu-preserved c =
 pub returns-then-is_queued-clause-told : goal.returns-then-is_queued-clause-told
 returns-then-is_queued-clause-told c =
     let here = is_queued c.args.words.now c.args.controls.now c.args.id c.loop-cpu.cpu (sym c.is_queued.ensures.told ∙ c.if-is_queued.true) in
-    told_first c.args.words.now c.args.controls.now c.args.id c.loop-cpu.cpu (place.Queued c.loop-cpu.cpu) (λ e. c.if-read-eq0.false (c.read.ensures ∙ e))
-    (omega arith) c.loop-cpu.invariant.1 here
+    search (told_first, here, arith)
 
 pub returns-then-is_in_batch-clause-told : goal.returns-then-is_in_batch-clause-told
 returns-then-is_in_batch-clause-told c =
     let here = is_batched c.args.words.now c.args.controls.now c.args.id c.loop-cpu.cpu (sym c.is_queued.ensures.told ∙ c.if-is_queued.false)
     (sym c.is_in_batch.ensures.told ∙ c.if-is_in_batch.true) in
-    told_first c.args.words.now c.args.controls.now c.args.id c.loop-cpu.cpu (place.Batch c.loop-cpu.cpu) (λ e. c.if-read-eq0.false (c.read.ensures ∙ e))
-    (omega arith) c.loop-cpu.invariant.1 here
+    search (told_first, here, arith)
 
 pub returns-then-is_running-clause-told : goal.returns-then-is_running-clause-told
 returns-then-is_running-clause-told c =
     let here = is_run c.args.words.now c.args.controls.now c.args.id c.loop-cpu.cpu (sym c.is_queued.ensures.told ∙ c.if-is_queued.false)
     (sym c.is_in_batch.ensures.told ∙ c.if-is_in_batch.false) (sym c.is_running.ensures.told ∙ c.if-is_running.true) in
-    told_first c.args.words.now c.args.controls.now c.args.id c.loop-cpu.cpu (place.Running c.loop-cpu.cpu) (λ e. c.if-read-eq0.false (c.read.ensures ∙ e))
-    (omega arith) c.loop-cpu.invariant.1 here
+    search (told_first, here, arith)
 
 pub returns-clause-calls : goal.returns-clause-calls
 returns-clause-calls c calls shown =
@@ -46,6 +43,4 @@ returns-clause-calls c calls shown =
     (λ k l. c.loop-cpu.invariant.0 k (omega arith) calls shown)
 
 pub returns-clause-told : goal.returns-clause-told
-returns-clause-told c =
-    told_held c.args.words.now c.args.controls.now c.args.id c.loop-cpu.cpu (λ e. c.if-read-eq0.false (c.read.ensures ∙ e)) (omega arith)
-    c.loop-cpu.invariant.1
+returns-clause-told c = search (told_held, arith)

@@ -16,18 +16,10 @@ pub overflow_cast-id : goal.overflow_cast-id
 overflow_cast-id c =
     let p = passes (nexts_in (number_in c.args.words.now)) c.args.first c.loop-round.link
     (reverse c.loop-round.passed.items) c.loop-round._round c.if-link-eq0.false c.loop-round.invariant in
-    let small : c.loop-round.link ≤ records = p.below in
-    search (rules, small)
+    search (p, rules, arith)
 
 pub loop-round-preserved : goal.loop-round-preserved
-loop-round-preserved c =
-    let id : ℕ = c.loop-round.link - 1 in
-    let p = passes (nexts_in (number_in c.args.words.now)) c.args.first c.loop-round.link
-    (reverse c.loop-round.passed.items) c.loop-round._round c.if-link-eq0.false c.loop-round.invariant in
-    let pushed : reverse c.push.new.self.items ≡ id ∷ reverse c.loop-round.passed.items =
-    ap reverse c.push.ensures.items ∙ reverse-append c.loop-round.passed.items (id ∷ []) in
-    let next = c.read-link.ensures in
-    rw (next, pushed) (p.on id (omega arith))
+loop-round-preserved c = search (passes, reverse-append, arith)
 
 pub returns : goal.returns
 returns c =

@@ -13,8 +13,7 @@ pub overflow_cast-here : goal.overflow_cast-here
 overflow_cast-here c =
     let i = c.loop-round.invariant in
     let p = passes (nexts_in (number_in c.args.words.now)) c.args.first c.loop-round.link i.passed c.loop-round._round c.if-link-eq0.false i.follows in
-    let small : c.loop-round.link ≤ records = p.below in
-    search (rules, small)
+    search (p, rules, arith)
 
 pub loop-round-preserved : goal.loop-round-preserved
 loop-round-preserved c =

@@ -1,37 +1,26 @@
-use Rattle.std.proofs.Common.{◌≡◌, ℕ, List, ◌∙◌, sym, subst}
+use Rattle.std.proofs.Common.{arith}
+use Rattle.std.proofs.Common.{◌≡◌, ℕ, List, ◌∙◌, subst}
 use Rattle.smp_calls.specs.Queued.{Queued, destinations, firsts}
 use Rattle.smp_calls.specs.Records.{many_call}
 use Rattle.smp_calls.specs.Rounds.{only_if, Queues}
 use Rattle.smp_calls.proofs.Steps.{sized_moved}
-use Rattle.smp_calls.proofs.Loops.{Asking, asking_start, asking_more, asking_end}
+use Rattle.smp_calls.proofs.Loops.{asking_start, asking_more, asking_end}
 use Rattle.smp_calls.proofs.each.queue_each.Goals as goal
 
 pub loop-cpu-init : goal.loop-cpu-init
-loop-cpu-init g c =
-    subst (λ (left : ℕ). Asking g.H.Handler.leads c.args.me.now c.args.handler.now c.args.me.now c.args.handler.now
-    (λ x answer. g.C.Fn.post c.args.cond.now (x, (c.args.job.info, tt)) answer)
-    (many_call c.args.me.now.number c.args.job.class c.args.job.func c.args.job.info) c.args.others left c.args.others c.args.others)
-    (sym (c.into_iter-cpu-iterator.ensures.into_iter_gives ∙ c.iter-cpu-items.ensures))
-    (asking_start g.H.Handler.leads c.args.me.now c.args.handler.now _ _ c.args.others)
+loop-cpu-init g c = search (asking_start, arith)
 
 pub queue_if-first-requires-clause-table : goal.queue_if-first-requires-clause-table
 queue_if-first-requires-clause-table g c = c.loop-cpu.invariant.queues.leaves.table_is ∙ c.requires.table
 
 pub queue_if-first-requires-clause-sized : goal.queue_if-first-requires-clause-sized
-queue_if-first-requires-clause-sized g c =
-    sized_moved c.args.me.now c.loop-cpu.me c.loop-cpu.invariant.queues.leaves.number_is c.loop-cpu.invariant.queues.leaves.sized c.requires.sized
+queue_if-first-requires-clause-sized g c = search sized_moved
 
 pub queue_if-first-requires-clause-online : goal.queue_if-first-requires-clause-online
-queue_if-first-requires-clause-online g c =
-    let next = c.in-Some.ensures.steps in
-    let a = c.loop-cpu.invariant in
-    (c.requires.online c.in-Some.cpu (a.among c.in-Some.cpu (a.waiting c.in-Some.cpu next.1.0 next.1.1))).0
+queue_if-first-requires-clause-online g c = search arith
 
 pub queue_if-first-requires-clause-other : goal.queue_if-first-requires-clause-other
-queue_if-first-requires-clause-other g c same =
-    let next = c.in-Some.ensures.steps in
-    let a = c.loop-cpu.invariant in
-    (c.requires.online c.in-Some.cpu (a.among c.in-Some.cpu (a.waiting c.in-Some.cpu next.1.0 next.1.1))).1 (same ∙ a.queues.leaves.number_is)
+queue_if-first-requires-clause-other g c same = search arith
 
 pub loop-cpu-preserved : goal.loop-cpu-preserved
 loop-cpu-preserved g c =

@@ -1,6 +1,5 @@
-use Rattle.std.proofs.Common.{◌≡◌, ℕ, [], true, false, refl, ◌∙◌, sym, subst, rules}
-use Rattle.smp_call_steps.specs.Start.{has_record}
-use Rattle.smp_queue.specs.Cpu.{misused}
+use Rattle.std.proofs.Common.{arith}
+use Rattle.std.proofs.Common.{[], refl, rules}
 use Rattle.smp_calls.specs.Records.{many_call}
 use Rattle.smp_calls.proofs.Lawful.{has_online, lawful_online}
 use Rattle.smp_calls.proofs.Round.{queues_none, queues_one}
@@ -16,15 +15,10 @@ returns-then-not-asked g c = (
 )
 
 pub wait_for-requires-clause-record : goal.wait_for-requires-clause-record
-wait_for-requires-clause-record g c =
-    subst (λ (k : ℕ). has_record c.args.table.now.nr k ≡ true) (sym c.many_record-k.ensures)
-    (has_online c.args.table.now.nr c.args.table.now.online c.args.to c.requires.limits c.requires.online)
+wait_for-requires-clause-record g c = search (has_online, arith)
 
 pub queue-requires-clause-lawful : goal.queue-requires-clause-lawful
-queue-requires-clause-lawful g c =
-    subst (λ (k : ℕ). misused c.args.table.now.nr c.wait_for.new.me k c.args.to c.args.job.class 1 ≡ false) (sym c.many_record-k.ensures)
-    (lawful_online c.args.table.now.nr c.args.table.now.online c.wait_for.new.me c.args.to c.args.job.class c.requires.limits c.requires.online
-    (λ same. c.requires.other (same ∙ c.wait_for.ensures.number_is)))
+queue-requires-clause-lawful g c = search (lawful_online, arith)
 
 pub returns : goal.returns
 returns g c =

@@ -1,6 +1,5 @@
-use Rattle.std.proofs.Common.{◌≡◌, ℕ, true, [], ◌++◌, ◌∷◌, List, ◌∙◌, sym, subst, rules}
-use Rattle.smp_call_steps.specs.Start.{has_record}
-use Rattle.smp_calls.specs.Rounds.{WaitsFor}
+use Rattle.std.proofs.Common.{arith}
+use Rattle.std.proofs.Common.{ℕ, [], ◌++◌, ◌∷◌, ◌∙◌, sym, subst, rules}
 use Rattle.smp_calls.proofs.Lawful.{has_online}
 use Rattle.smp_calls.proofs.Steps.{sized_moved}
 use Rattle.smp_calls.proofs.Passes.{Passed, passed_none, passed_more, passed_all, waits_none, waits_more}
@@ -21,11 +20,7 @@ pub wait_for-requires-clause-sized : goal.wait_for-requires-clause-sized
 wait_for-requires-clause-sized g c = sized_moved c.args.me.now c.loop-cpu.me c.loop-cpu.invariant.2.number_is c.loop-cpu.invariant.2.sized c.requires.sized
 
 pub wait_for-requires-clause-record : goal.wait_for-requires-clause-record
-wait_for-requires-clause-record g c =
-    let next = c.in-Some.ensures.steps in
-    subst (λ (k : ℕ). has_record c.args.table.now.nr k ≡ true) (sym c.many_record.ensures)
-    (has_online c.args.table.now.nr c.args.table.now.online c.in-Some.cpu c.requires.limits
-    (c.requires.online c.in-Some.cpu (c.loop-cpu.invariant.1.among c.in-Some.cpu next.1.0 next.1.1)))
+wait_for-requires-clause-record g c = search (has_online, arith)
 
 pub loop-cpu-preserved : goal.loop-cpu-preserved
 loop-cpu-preserved g c =
@@ -37,7 +32,4 @@ loop-cpu-preserved g c =
     )
 
 pub returns : goal.returns
-returns g c =
-    let a = c.loop-cpu.invariant in
-    subst (λ (xs : List ℕ). WaitsFor g.H.Handler.leads c.args.me.now c.args.handler.now c.loop-cpu.me c.loop-cpu.handler xs true)
-    (passed_all c.args.called c.loop-cpu.cpu-iterator a.0 a.1 c.in-None.ensures.steps.0.0) a.2
+returns g c = search (passed_all, arith)

@@ -1,4 +1,5 @@
-use Rattle.std.proofs.Common.{◌≡◌, ◌<◌, ℕ, Bool, List, true, None, sym, subst, ◌∙◌, rules}
+use Rattle.std.proofs.Common.{arith}
+use Rattle.std.proofs.Common.{◌≡◌, ◌<◌, ℕ, Bool, List, true, None, subst, rules}
 use Rattle.smp_mask.specs.Mask.{has, members}
 use Rattle.smp_mask.specs.declared.mask.TheConstants.{NR_CPUS}
 use Rattle.smp_words.specs.declared.call.Class.{Class}
@@ -9,9 +10,7 @@ use Rattle.smp_calls.proofs.Parts.{target_online, all_called, calls_waited_for}
 use Rattle.smp_calls.proofs.many.call_many.Goals as goal
 
 pub wait_all-requires-clause-online : goal.wait_all-requires-clause-online
-wait_all-requires-clause-online g c x called =
-    subst (λ (online : ℕ). has online x ≡ true) c.online.ensures.known
-    (target_online c.args.mask c.online.result c.number.result x (sym (c.targets-others.ensures x) ∙ c.queue_all-called.ensures.picks.among x called))
+wait_all-requires-clause-online g c x called = search (target_online, arith)
 
 pub returns-clause-calls : goal.returns-clause-calls
 returns-clause-calls g c =

@@ -1,11 +1,11 @@
-use Rattle.std.proofs.Common.{◌≡◌, ℕ, Bool, List, Option, true, false, cond, Some, None, sym, subst, ◌∙◌}
+use Rattle.std.proofs.Common.{arith}
+use Rattle.std.proofs.Common.{◌≡◌, ℕ, Bool, List, Option, false, cond, Some, None, sym, subst}
 use Rattle.smp_mask.specs.Mask.{has, members}
 use Rattle.smp_words.specs.declared.call.Class.{Class}
 use Rattle.smp_queue.specs.Handling.{heard}
 use Rattle.smp_queue.specs.declared.handler.Heard.{Heard}
 use Rattle.smp_calls.specs.Families.{CallsMany}
-use Rattle.smp_calls.specs.Rounds.{Picks}
-use Rattle.smp_calls.specs.Targets.{is_target, remote}
+use Rattle.smp_calls.specs.Targets.{remote}
 use Rattle.smp_calls.specs.Ended.{HaveEnded}
 use Rattle.smp_calls.specs.Records.{class_for, many_call}
 use Rattle.smp_words.specs.declared.call.Class.TheVariants.{Sync}
@@ -14,9 +14,7 @@ use Rattle.smp_calls.proofs.Parts.{target_online, not_called, picks_with, others
 use Rattle.smp_calls.proofs.many.each_cpu_cond.Goals as goal
 
 pub wait_all-requires-clause-online : goal.wait_all-requires-clause-online
-wait_all-requires-clause-online g c x called =
-    subst (λ (online : ℕ). has online x ≡ true) c.online.ensures.known
-    (target_online c.args.mask c.online.result c.number-this.result x (sym (c.targets-others.ensures x) ∙ c.queue_all-called.ensures.picks.among x called))
+wait_all-requires-clause-online g c x called = search (target_online, arith)
 
 pub returns-clause-picks : goal.returns-clause-picks
 returns-clause-picks g c =
@@ -25,8 +23,7 @@ returns-clause-picks g c =
     picks_with says c.args.mask c.online.result c.number-this.result c.targets-others.result c.queue_all-called.result c.with_if.result
     c.runs_here-here.result c.targets-others.ensures c.queue_all-called.ensures.picks c.with_if.ensures c.runs_here-here.ensures.member
     c.runs_here-here.ensures.answered in
-    subst (λ (n : ℕ). Picks says (is_target c.args.mask c.args.table.now.online n true) c.with_if.result) c.number-this.ensures.number
-    (subst (λ (online : ℕ). Picks says (is_target c.args.mask online c.number-this.result true) c.with_if.result) c.online.ensures.known made)
+    search (says, made, arith)
 
 pub returns-clause-calls : goal.returns-clause-calls
 returns-clause-calls g c =

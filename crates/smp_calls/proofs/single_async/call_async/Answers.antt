@@ -1,24 +1,17 @@
-use Rattle.std.proofs.Common.{◌<◌, ℕ, true, false, rules, subst, ap, ◌∙◌}
+use Rattle.std.proofs.Common.{arith}
+use Rattle.std.proofs.Common.{◌<◌, ℕ, false, rules, subst}
 use Rattle.smp_words.specs.Size.{records_of_one}
 use Rattle.smp_words.specs.declared.call.Class.TheVariants.{Async}
-use Rattle.smp_queue.specs.Cpu.{CpuValue, confirmed_at, confirms}
-use Rattle.smp_queue.specs.Handling.{heard}
 use Rattle.smp_calls.specs.Families.{IsSized, CallsBy}
 use Rattle.smp_calls.proofs.Steps.{set_here, leaves_confirmed}
 use Rattle.smp_calls.proofs.One.{calls_by}
 use Rattle.smp_calls.proofs.single_async.call_async.Goals as goal
 
 pub returns-then-dst-number-clause-here : goal.returns-then-dst-number-clause-here
-returns-then-dst-number-clause-here g c e = (
-  c.if-not-is_done.ensures.known ∙ ap (λ k. confirms k c.args.me.now) c.user_record-k.ensures,
-  subst (λ (n : ℕ). g.H.Handler.leads c.args.handler.now (heard n c.args.func c.args.info) c.call.new.self) c.number-number.ensures.number c.call.ensures,
-)
+returns-then-dst-number-clause-here g c e = search arith
 
 pub queue_and_send-requires-clause-free : goal.queue_and_send-requires-clause-free
-queue_and_send-requires-clause-free g c =
-    let sized : IsSized c.args.me.now = record { number = c.number-number.ensures.sized.0; records_are = c.number-number.ensures.sized.1 } in
-    ap (λ (x : CpuValue). confirmed_at x c.user_record-k.result) c.if-not-is_done.ensures.known
-    ∙ set_here c.args.me.now c.user_record-k.result true sized (search rules)
+queue_and_send-requires-clause-free g c = search (set_here, rules)
 
 pub returns-clause-queued : goal.returns-clause-queued
 returns-clause-queued g c e =

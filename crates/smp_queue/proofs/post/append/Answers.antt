@@ -15,11 +15,7 @@ pub link-found-requires-clause-stage : goal.link-found-requires-clause-stage
 link-found-requires-clause-stage c = tries_stage c.loop-lost.invariant.1
 
 pub returns-then-found-head-clause-sent : goal.returns-then-found-head-clause-sent
-returns-then-found-head-clause-sent c =
-    let so_many = c.loop-lost.invariant.2 in
-    let below = c.loop-lost-test.true in
-    let few : times_lost c.loop-lost.invariant.0 < c.args.tries = omega arith in
-    (c.loop-lost.invariant.0, few, tries_won c.loop-lost.invariant.1 c.link-found.new.seat.known (c.link-found.ensures.won c.if-found-head.true))
+returns-then-found-head-clause-sent c = search (tries_won, arith)
 
 pub loop-lost-preserved : goal.loop-lost-preserved
 loop-lost-preserved c = (
@@ -40,8 +36,4 @@ pub give_up-requires-clause-counted : goal.give_up-requires-clause-counted
 give_up-requires-clause-counted c = tries_tallied c.loop-lost.invariant.1 c.args.number c.args.queued c.requires.counting
 
 pub returns-clause-lost : goal.returns-clause-lost
-returns-clause-lost c =
-    let past = c.loop-lost-test.false in
-    let few = c.loop-lost.invariant.3 in
-    let all : c.loop-lost._lost ≡ c.args.tries = omega arith in
-    (c.loop-lost.invariant.0, c.loop-lost.invariant.2 ∙ all, tries_left c.loop-lost.invariant.1 c.give_up.new.seat.known c.give_up.ensures.known)
+returns-clause-lost c = search (tries_left, arith)

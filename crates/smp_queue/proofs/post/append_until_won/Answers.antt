@@ -1,3 +1,4 @@
+use Rattle.std.proofs.Common.{arith}
 use Rattle.smp_call_steps.specs.Heads.{by_load, by_exchange}
 use Rattle.smp_queue.proofs.Posts.Appends.{tries_first, tries_mine, tries_stage, tries_won, tries_lost}
 use Rattle.smp_queue.proofs.post.append_until_won.Goals as goal
@@ -15,10 +16,7 @@ pub link-found-requires-clause-stage : goal.link-found-requires-clause-stage
 link-found-requires-clause-stage g c = tries_stage c.loop.invariant.1
 
 pub returns-then-found-head-clause-sent : goal.returns-then-found-head-clause-sent
-returns-then-found-head-clause-sent g c = (
-  c.loop.invariant.0,
-  tries_won c.loop.invariant.1 c.link-found.new.seat.known (c.link-found.ensures.won c.if-found-head.true),
-)
+returns-then-found-head-clause-sent g c = search (tries_won, arith)
 
 pub loop-preserved : goal.loop-preserved
 loop-preserved g c = (

@@ -1,3 +1,4 @@
+use Rattle.std.proofs.Common.{arith}
 use Rattle.std.proofs.Common.{◌+◌, ◌%◌, ◌^◌, sym, refl, ap}
 use Rattle.smp_call_steps.proofs.Knows.Posted.{stands_as, count_known, head_known, count_access}
 use Rattle.smp_queue.specs.Seat.{uncounted, counted}
@@ -22,10 +23,4 @@ load-requires c =
     ready_post _ _ p post.LoadHead _ (mine_moved _ _ _ _ _ c.requires.mine c.store.ensures.table known refl) (sym (ap (λ u. u.stage) known)) tt refl
 
 pub returns-clause-known : goal.returns-clause-known
-returns-clause-known c =
-    let k = c.requires.counting in
-    let p = c.args.posting.now in
-    let v = c.args.seat.now.known in
-    let known = count_known v c.store.new.seat.known v c.args.number p.to ((c.args.count + 1) % 2 ^ 64) (uncounted p) c.store.ensures.known
-    (stands_as v (uncounted p) post.Count k.stage) in
-    head_known v c.load.new.seat.known c.store.new.seat.known p.to c.load.result (counted p) c.load.ensures.known known
+returns-clause-known c = search (count_known, stands_as, head_known, arith)

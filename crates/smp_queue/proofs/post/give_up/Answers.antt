@@ -1,3 +1,4 @@
+use Rattle.std.proofs.Common.{arith}
 use Rattle.std.proofs.Common.{sym, refl, ap}
 use Rattle.smp_call_steps.proofs.Knows.Posted.{stands_as, uncount_known, released_known, uncount_access}
 use Rattle.smp_queue.specs.Seat.{counted}
@@ -21,9 +22,4 @@ store-requires-2 c =
     ready_post _ _ p post.Release _ (mine_moved _ _ _ _ _ c.requires.mine c.store.ensures.table known refl) (sym (ap (λ u. u.stage) known)) tt refl
 
 pub returns-clause-known : goal.returns-clause-known
-returns-clause-known c =
-    let p = c.args.posting.now in
-    let v = c.args.seat.now.known in
-    let known = uncount_known v c.store.new.seat.known v c.args.number p.to c.args.count (counted p) c.store.ensures.known
-    (stands_as v (counted p) post.LoadHead c.requires.stage) in
-    released_known v c.store-2.new.seat.known c.store.new.seat.known p.id (counted p) c.store-2.ensures.known known
+returns-clause-known c = search (uncount_known, stands_as, released_known, arith)

@@ -1,3 +1,4 @@
+use Rattle.std.proofs.Common.{arith}
 use Rattle.std.proofs.Common.{◌==◌, ◌+◌, sym, refl, ap, ◌∙◌, eq-eqb, ne_eqb}
 use Rattle.smp_call_steps.specs.Known.{lost_one}
 use Rattle.smp_call_steps.proofs.Knows.Posted.{stands_as, next_known, won_known, lost_known}
@@ -19,20 +20,7 @@ exchange-requires c =
     (sym (ap (λ u. u.stage) known)) tt refl
 
 pub returns-clause-won : goal.returns-clause-won
-returns-clause-won c e =
-    let p = c.args.posting.now in
-    let v = c.args.seat.now.known in
-    let known = next_known v c.store.new.seat.known v p.id c.args.link (counted p) c.store.ensures.known
-    (stands_as v (counted p) post.LoadHead c.requires.stage) in
-    won_known v c.exchange.new.seat.known c.store.new.seat.known p.to c.args.link (p.id + 1) c.exchange.result (counted p) (c.exchange.result == c.args.link)
-    (eq-eqb c.exchange.result c.args.link e) c.exchange.ensures.known known e
+returns-clause-won c e = search (next_known, stands_as, won_known, eq-eqb, arith)
 
 pub returns-clause-lost : goal.returns-clause-lost
-returns-clause-lost c ne =
-    let p = c.args.posting.now in
-    let v = c.args.seat.now.known in
-    let known = next_known v c.store.new.seat.known v p.id c.args.link (counted p) c.store.ensures.known
-    (stands_as v (counted p) post.LoadHead c.requires.stage) in
-    lost_known v c.exchange.new.seat.known c.store.new.seat.known p.to c.args.link (p.id + 1) c.exchange.result (counted p) (c.exchange.result == c.args.link)
-    (ne_eqb c.exchange.result c.args.link ne) c.exchange.ensures.known known
-    ∙ ap (lost_one c.args.link c.exchange.result) (sym (stands_as v (counted p) post.LoadHead c.requires.stage))
+returns-clause-lost c ne = search (next_known, stands_as, lost_known, ne_eqb, arith)

@@ -1,3 +1,4 @@
+use Rattle.std.proofs.Common.{arith}
 use Rattle.std.proofs.Common.{sym, refl, ap}
 use Rattle.smp_call_steps.specs.Known.{posting_of}
 use Rattle.smp_call_steps.proofs.Knows.Posted.{locked_known, func_known, info_known}
@@ -26,9 +27,4 @@ store-requires-3 c =
     ready_post _ _ p post.StoreInfo _ (mine_moved _ _ _ _ _ c.requires.mine c.store-2.ensures.table known2 refl) (sym (ap (λ u. u.stage) known2)) tt refl
 
 pub returns-clause-known : goal.returns-clause-known
-returns-clause-known c =
-    let p = c.args.posting.now in
-    let v = c.args.seat.now.known in
-    let known = locked_known v c.store.new.seat.known p.id c.flags.result p.class c.requires.outside c.store.ensures.known c.flags.ensures in
-    let known2 = func_known v c.store-2.new.seat.known c.store.new.seat.known p.id p.func (posting_of p.id p.class 0 0 0) c.store-2.ensures.known known in
-    info_known v c.store-3.new.seat.known c.store-2.new.seat.known p.id p.info (posting_of p.id p.class p.func 0 0) c.store-3.ensures.known known2
+returns-clause-known c = search (locked_known, func_known, info_known, arith)

@@ -1,3 +1,4 @@
+use Rattle.std.proofs.Common.{arith}
 use Rattle.std.proofs.Common.{ℕ, ◌+◌, ◌<◌, Option, Some, refl, ap, ◌∙◌, sym, subst}
 use Rattle.smp_call_steps.specs.Drains.{record_at, reverse_on}
 use Rattle.smp_call_steps.specs.Handling.{goes_known}
@@ -24,23 +25,10 @@ store-requires c =
     in_handle_ready at (Store (Next c.args.id) c.link_of.result) tt (ap (λ (n : ℕ). Store (Next c.args.id) n) (sym c.link_of.ensures))
 
 pub returns-clause-known : goal.returns-clause-known
-returns-clause-known c =
-    let l = c.load-link.ensures in
-    let at = next_goes _ c.requires c.args.id c.load-link.result (handle.ReverseStore c.args.newer c.args.id (record_at c.load-link.result)) l refl in
-    let s = c.store.ensures in
-    let k = s.known ∙ (next_stored_is _ (handle.ReverseStore c.args.newer c.args.id (record_at c.load-link.result)) c.args.id c.link_of.result at.stage_is
-    ∙ ap (goes_known (handle.ReverseStore c.args.newer c.args.id (record_at c.load-link.result)) 0) (next_known _ c.requires c.args.id c.load-link.result l)) in
-    k ∙ ap (λ (x : Option ℕ). record (c.args.seat.now.known)
-    { stage = Some (Handle (reverse_on (Some c.args.id) x)); drain = record { calls = c.args.seat.now.known.drain.calls + 1 } })
-    (sym c.record_of-older.ensures)
+returns-clause-known c = search (next_goes, next_stored_is, next_known, arith)
 
 pub returns-clause-at : goal.returns-clause-at
-returns-clause-at c =
-    let l = c.load-link.ensures in
-    let at = next_goes _ c.requires c.args.id c.load-link.result (handle.ReverseStore c.args.newer c.args.id (record_at c.load-link.result)) l refl in
-    let s = c.store.ensures in
-    let k = s.known ∙ next_stored_is _ (handle.ReverseStore c.args.newer c.args.id (record_at c.load-link.result)) c.args.id c.link_of.result at.stage_is in
-    in_handle_then _ _ _ _ at.sized s.table s.lives k (ap (λ (x : Option ℕ). Some (Handle (reverse_on (Some c.args.id) x))) (sym c.record_of-older.ensures))
+returns-clause-at c = search (next_goes, next_stored_is, in_handle_then, arith)
 
 pub returns-clause-room : goal.returns-clause-room
 returns-clause-room c =

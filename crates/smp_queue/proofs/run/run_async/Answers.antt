@@ -16,24 +16,10 @@ pub begin_async-begun-requires-clause-class : goal.begin_async-begun-requires-cl
 begin_async-begun-requires-clause-class g c = ends_async (lives_stands c.requires.at.lives (handle.BeginAsync c.args.call c.args.next) c.requires.at.stage_is).1
 
 pub one_more-ran-requires : goal.one_more-ran-requires
-one_more-ran-requires g c =
-    let at = c.requires.at in
-    let batch = (lives_stands at.lives (handle.BeginAsync c.args.call c.args.next) at.stage_is).1.batch in
-    let below : owner c.args.call.id < cpus = owner-below c.args.call.id (lives_front at.lives c.args.call _ batch) in
-    let is = c.owner_of-source.ensures in
-    let sized = c.requires.counts.sized in
-    omega arith
+one_more-ran-requires g c = search (lives_stands, owner-below, lives_front, arith)
 
 pub count_async-requires-clause-count : goal.count_async-requires-clause-count
-count_async-requires-clause-count g c =
-    let at = c.requires.at in
-    let batch = (lives_stands at.lives (handle.BeginAsync c.args.call c.args.next) at.stage_is).1.batch in
-    let below : owner c.args.call.id < cpus = owner-below c.args.call.id (lives_front at.lives c.args.call _ batch) in
-    let known = c.begin_async-begun.ensures.known in
-    let tally = tally_running c.args.seat.now.known c.begin_async-begun.new.seat.known (owner c.args.call.id) (ap (λ (u : Known). u.part.ran) known)
-    (ap (λ (u : Known). counted_call u.part.running) known) in
-    c.one_more-ran.ensures.count ∙ ap (λ (n : ℕ). (n + 1) % 2 ^ 64)
-    (ap (λ (n : ℕ). get_or c.args.counts.now n 0) c.owner_of-source.ensures ∙ (c.requires.counts.are (owner c.args.call.id) below ∙ sym tally))
+count_async-requires-clause-count g c = search (lives_stands, owner-below, lives_front, tally_running, get_or, arith)
 
 pub returns : goal.returns
 returns g c =

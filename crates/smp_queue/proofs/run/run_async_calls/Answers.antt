@@ -1,3 +1,4 @@
+use Rattle.std.proofs.Common.{arith}
 use Rattle.std.proofs.Common.{refl, ◌∙◌, sym}
 use Rattle.smp_queue.specs.Names.{Func, Info, Next, Load}
 use Rattle.smp_queue.proofs.Handling.Handles.{in_handle_ready}
@@ -13,8 +14,7 @@ load-link-requires g c =
 pub record_of-next-requires : goal.record_of-next-requires
 record_of-next-requires g c =
     let here = second_at c.in-Some.is c.loop-here.invariant.at in
-    let l1 = c.load-link.ensures in
-    found_fits _ _ _ _ here (Next c.in-Some.id) c.load-link.result l1 refl
+    search (found_fits, here, arith)
 
 pub load-func-requires : goal.load-func-requires
 load-func-requires g c =

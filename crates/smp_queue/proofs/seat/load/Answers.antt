@@ -16,10 +16,4 @@ load-requires c = let r = c.requires in let low = cell_below c.args.word c.cell.
 pub returns : goal.returns
 returns c =
     let told = c.load.ensures.2.1 c.args.word c.cell.ensures in
-    record {
-      table = search rules;
-      lives = search rules;
-      known = search rules;
-      -- the moment, of what the caller sees
-      moment = subst (λ (v : Known). Moment v c.args.word c.load.result) (ap (λ d. d.known) c.seat.view_is) told.0;
-    }
+    search (rules, told, arith)

@@ -1,3 +1,4 @@
+use Rattle.std.proofs.Common.{arith}
 use Rattle.std.proofs.Common.{ℕ, ◌+◌, ◌%◌, ◌^◌, set, get_or, sym, ap, ◌∙◌, subst}
 use Rattle.smp_queue.specs.Names.{Posting}
 use Rattle.smp_queue.specs.Cpu.{CpuValue, IsKept}
@@ -7,10 +8,7 @@ use Rattle.smp_queue.proofs.Posts.Shown.{marked_then}
 use Rattle.smp_queue.proofs.table.CallTable.post.Goals as goal
 
 pub write_record-requires-clause-mine : goal.write_record-requires-clause-mine
-write_record-requires-clause-mine g c =
-    let e = c.in_ok-posting.ensures in
-    let table = ap (λ (x : CpuValue). x.table) e.2 ∙ (c.requires ∙ sym (ap (λ t. t.table) c.self.view_is)) in
-    mine_of _ c.me.inside.seat c.begin_post.new.me c.in_ok-posting.posting c.me.view_is table c.self.invariant.sized e.4
+write_record-requires-clause-mine g c = search (mine_of, arith)
 
 pub invariant_of-me : goal.invariant_of-me
 invariant_of-me g c =
@@ -39,6 +37,4 @@ returns-clause-answers g c =
 pub returns-clause-marked : goal.returns-clause-marked
 returns-clause-marked g c =
     let answers = returns-clause-answers g c in
-    marked_then c.append_until_won-first.new.seat c.append_until_won-first.ensures.lives
-    c.args.me.now c.args.k c.args.to c.args.func c.args.info
-    c.args.class c.append_until_won-first.result answers.2 answers.5
+    search (marked_then, answers, arith)

@@ -1,3 +1,4 @@
+use Rattle.std.proofs.Common.{arith}
 use Rattle.std.proofs.Common.{ℕ, ◌+◌, ◌%◌, ◌^◌, set, get_or, sym, ap, ◌∙◌, subst}
 use Rattle.smp_words.specs.Size.{record_of}
 use Rattle.smp_queue.specs.Names.{Posting}
@@ -8,10 +9,7 @@ use Rattle.smp_queue.proofs.Posts.Shown.{free_then, marked_then}
 use Rattle.smp_queue.proofs.table.CallTable.post_within.Goals as goal
 
 pub write_record-requires-clause-mine : goal.write_record-requires-clause-mine
-write_record-requires-clause-mine g c =
-    let e = c.in_ok-posting.ensures in
-    let table = ap (λ (x : CpuValue). x.table) e.2 ∙ (c.requires ∙ sym (ap (λ t. t.table) c.self.view_is)) in
-    mine_of _ c.me.inside.seat c.begin_post.new.me c.in_ok-posting.posting c.me.view_is table c.self.invariant.sized e.4
+write_record-requires-clause-mine g c = search (mine_of, arith)
 
 pub invariant_of-me : goal.invariant_of-me
 invariant_of-me g c =
@@ -40,22 +38,10 @@ returns-in-Some-clause-answers g c =
 pub returns-in-Some-clause-marked : goal.returns-in-Some-clause-marked
 returns-in-Some-clause-marked g c =
     let answers = returns-in-Some-clause-answers g c in
-    marked_then c.append.new.seat c.append.ensures.lives c.args.me.now c.args.k c.args.to c.args.func c.args.info c.args.class
-    c.in-Some.first answers.2 answers.5
+    search (marked_then, answers, arith)
 
 pub returns-in-None-clause-answers : goal.returns-in-None-clause-answers
-returns-in-None-clause-answers g c =
-    let e = c.in_ok-posting.ensures in
-    let left = c.in-None.ensures.lost in
-    let table = c.append.ensures.table ∙ (ap (λ t. t.table) c.self.view_is ∙ sym c.requires) in (
-      e.0,
-      e.1,
-      left.0,
-      left.2.others,
-      left.1,
-      gives_up_then c.me.inside.seat c.append.new.seat c.write_record.new.seat.known c.args.me.now c.begin_post.new.me c.args.k c.in_ok-posting.posting
-          left.0 c.me.view_is e.2 table c.write_record.ensures.known left.2,
-    )
+returns-in-None-clause-answers g c = search (gives_up_then, arith)
 
 pub returns-in-None-clause-free : goal.returns-in-None-clause-free
 returns-in-None-clause-free g c _ =
