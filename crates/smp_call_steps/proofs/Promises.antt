@@ -1,22 +1,16 @@
 -- The laws of the call half.
-use Rattle.std.proofs.Common.{arith}
-use Rattle.std.proofs.Common.{◌≡◌, ◌≢◌, ℕ, ◌==◌, Bool, true, false, cond, List, [], ◌∷◌, ◌++◌, inl, inr, sym, subst, refl, ap, ◌∙◌}
+use Rattle.std.proofs.Common.{arith, ◌≡◌, ◌≢◌, ℕ, ◌==◌, Bool, true, false, cond, List, [], ◌∷◌, ◌++◌, inl, inr, sym, subst, refl, ap, ◌∙◌}
 use Rattle.std.specs.List.{AllByRecursion}
 use Rattle.smp_words.specs.Size.{owner}
-use Rattle.smp_call_steps.specs.Calls.{CallState, Sending}
-use Rattle.smp_call_steps.specs.Counts.{batches}
-use Rattle.smp_call_steps.specs.Histories.{Marked, mark, marked, others_marked, batches_marked, history_of, sent_to, marked_from, calls_from}
-use Rattle.smp_call_steps.specs.Places.{HasRecord, IsPlaced, IsThere, locked_by}
-use Rattle.smp_call_steps.specs.Promises.{NothingCalled, StepsAreTold, KeepThePlaceLaw, calls_to, RunAtMostOnce}
-use Rattle.smp_call_steps.specs.QueueOrder.{if_class, of_class, IsPrefix}
+use Rattle.smp_call_steps.specs.{CallState, Sending, batches, Marked, mark, marked, others_marked, batches_marked, history_of, sent_to, marked_from}
+use Rattle.smp_call_steps.specs.{calls_from, HasRecord, IsPlaced, IsThere, locked_by, NothingCalled, StepsAreTold, KeepThePlaceLaw, calls_to, RunAtMostOnce}
+use Rattle.smp_call_steps.specs.{if_class, of_class, IsPrefix, ControlValue, Call, Class, Sync, Async, Word, RecPlace}
 use Rattle.smp_call_steps.specs.Shows.{Shows}
-use Rattle.smp_call_steps.specs.Stages.{ControlValue}
-use Rattle.smp_call_steps.specs.Names.{Call, Class, Sync, Async, Word, RecPlace}
-use Rattle.smp_call_steps.specs.Names.place
 use Rattle.smp_call_steps.proofs.State.Counts.{held_place}
 use Rattle.smp_call_steps.proofs.Knows.OneStep.{known_step}
 use Rattle.smp_call_steps.proofs.State.QueueOrder.{run_in_queue_order}
 use Rattle.smp_call_steps.proofs.Machine.Starts.{zeros_shown}
+use Rattle.smp_call_steps.specs.place
 
 pub nothing_called : NothingCalled
 nothing_called at control zeros outside = zeros_shown at control zeros outside

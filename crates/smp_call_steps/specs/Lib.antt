@@ -39,3 +39,38 @@ pub mod Value
 pub mod Sound
 pub mod Queues
 pub mod Whereabouts
+-- all of it by one name, for proofs
+unfoldable pub use Names.*
+unfoldable pub use Posts.*
+unfoldable pub use Order.*
+unfoldable pub use Drains.*
+unfoldable pub use Stages.*
+unfoldable pub use Batches.*
+unfoldable pub use Start.*
+unfoldable pub use Calls.*
+unfoldable pub use Places.*
+unfoldable pub use Words.*
+unfoldable pub use Histories.*
+unfoldable pub use Stands.*
+unfoldable pub use Shows.*
+unfoldable pub use Counts.*
+unfoldable pub use BatchLinks.*
+unfoldable pub use QueueOrder.*
+unfoldable pub use Classes.*
+unfoldable pub use HaveRun.*
+unfoldable pub use Parts.*
+unfoldable pub use Heads.*
+unfoldable pub use Known.*
+unfoldable pub use Handling.*
+unfoldable pub use Logs.*
+unfoldable pub use Functions.*
+unfoldable pub use Premises.*
+unfoldable pub use Notes.*
+unfoldable pub use Tries.*
+unfoldable pub use StepLaws.*
+unfoldable pub use Promises.*
+unfoldable pub use Value.*
+unfoldable pub use Sound.*
+unfoldable pub use Queues.*
+unfoldable pub use Whereabouts.*
+pub use Batches.{has_record}

@@ -1,7 +1,6 @@
 -- The loops that send an interrupt to each of many CPUs, and that wait for the record of each.
-use Rattle.std.proofs.Common.{arith}
-use Rattle.std.proofs.Common.{◌≡◌, length-set, ℕ, ◌<◌, ◌==◌, ◌||◌, ◌&&◌, not, Bool, true, false, List, [], ◌∷◌, ◌++◌, append_assoc, set, get_or}
-use Rattle.std.proofs.Common.{refl, sym, ap, ◌∙◌}
+use Rattle.std.proofs.Common.{arith, ◌≡◌, length-set, ℕ, ◌<◌, ◌==◌, ◌||◌, ◌&&◌, not, Bool, true, false, List, [], ◌∷◌, ◌++◌, append_assoc, set, get_or, refl}
+use Rattle.std.proofs.Common.{sym, ap, ◌∙◌}
 use Rattle.std.proofs.lemmas.Bool.{cases_eq, ne_eqb, eq-eqb}
 use Rattle.std.proofs.lemmas.List.{append-nil, get_or-set_other}
 use Rattle.smp_mask.specs.Mask.{has, members}
@@ -9,7 +8,6 @@ use Rattle.smp_mask.specs.declared.mask.TheConstants.{NR_CPUS}
 use Rattle.smp_words.specs.Size.{records_of_one, record_of}
 use Rattle.smp_queue.specs.Cpu.{CpuValue, confirmed_at, sends}
 use Rattle.smp_call_steps.specs.declared.known.Logged.{Logged}
-use Rattle.smp_call_steps.specs.declared.known.Logged.TheVariants as logged
 use Rattle.smp_queue.specs.declared.handler.Heard.{Heard}
 use Rattle.smp_calls.specs.Families.{Leaves, owes_at}
 use Rattle.smp_calls.specs.Queued.{interrupts_to}
@@ -19,6 +17,7 @@ use Rattle.smp_calls.proofs.Steps.{leaves_none, leaves_as, leaves_then}
 use Rattle.smp_calls.proofs.One.{and_true, or_false, same_record, set_false}
 use Rattle.smp_calls.proofs.Round.{is_in-append, is_by-append}
 use Rattle.smp_calls.proofs.Lists.{next_gone}
+use Rattle.smp_call_steps.specs.declared.known.Logged.TheVariants as logged
 
 -- these members of a mask were passed, and those left not yet
 pub record Passed (all left : ℕ) (xs : List ℕ) : Type 0 where

@@ -1,6 +1,6 @@
 -- One more of many CPUs.
-use Rattle.std.proofs.Common.{◌≡◌, length, ℕ, ◌<◌, ◌==◌, ◌||◌, Bool, true, false, cond, List, [], ◌∷◌, ◌++◌, length-set, set, get_or, refl, sym}
-use Rattle.std.proofs.Common.{ap, ◌∙◌, subst, arith}
+use Rattle.std.proofs.Common.{◌≡◌, length, ℕ, ◌<◌, ◌==◌, ◌||◌, Bool, true, false, cond, List, [], ◌∷◌, ◌++◌, length-set, set, get_or, refl, sym, ap, ◌∙◌}
+use Rattle.std.proofs.Common.{subst, arith}
 use Rattle.std.proofs.lemmas.Bool.{cases_eq, cases_Bool, eq-eqb, eqb-true, or_parts}
 use Rattle.std.proofs.lemmas.List.{get_or-set_same, get_or-set_other}
 use Rattle.smp_words.specs.Size.{records_of_one, record_of}
@@ -8,7 +8,6 @@ use Rattle.smp_words.specs.declared.call.Call.{Call}
 use Rattle.smp_words.specs.declared.call.Class.{Class}
 use Rattle.smp_call_steps.specs.declared.known.Sending.{Sending}
 use Rattle.smp_call_steps.specs.declared.known.Logged.{Logged}
-use Rattle.smp_call_steps.specs.declared.known.Logged.TheVariants as logged
 use Rattle.smp_call_steps.specs.Heads.{Found}
 use Rattle.smp_queue.specs.Cpu.{CpuValue, confirmed_at, posts}
 use Rattle.smp_queue.specs.declared.handler.Heard.{Heard}
@@ -19,6 +18,7 @@ use Rattle.smp_calls.specs.Rounds.{only_if, Queues}
 use Rattle.smp_calls.proofs.Turns.{handles_same}
 use Rattle.smp_calls.proofs.Steps.{leaves_none, leaves_as, leaves_then, sized_moved}
 use Rattle.smp_calls.proofs.One.{or_false, by_case, same_record, locks_at, one_queued}
+use Rattle.smp_call_steps.specs.declared.known.Logged.TheVariants as logged
 
 -- ---- lists of queued calls, one after the other
 

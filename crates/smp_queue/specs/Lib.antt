@@ -17,3 +17,16 @@ pub mod Handling
 -- what holds while threads run
 pub mod Laws
 pub mod Posted
+-- all of it by one name, for proofs
+unfoldable pub use Names.*
+unfoldable pub use Cells.*
+unfoldable pub use Rule.*
+unfoldable pub use Plays.*
+unfoldable pub use Seat.*
+unfoldable pub use Appends.*
+unfoldable pub use Cpu.*
+unfoldable pub use Table.*
+unfoldable pub use Audit.*
+unfoldable pub use Handling.*
+unfoldable pub use Laws.*
+unfoldable pub use Posted.*

@@ -2,8 +2,7 @@
 use Rattle.smp_words.specs.Flags.{class_of, flags_of}
 use Rattle.std.proofs.Common.{refl, ◌≡◌, List, [], ◌∷◌, ◌++◌}
 use Rattle.std.specs.List.{AllByRecursion}
-use Rattle.smp_call_steps.specs.Order.{if_sync, if_async, sync_calls, async_calls}
-use Rattle.smp_call_steps.specs.Names.{Call, Class, Sync, Async}
+use Rattle.smp_call_steps.specs.{if_sync, if_async, sync_calls, async_calls, Call, Class, Sync, Async}
 
 pub every : {A : Type 0} (P Q : A → Type 0) → ((x : A) → P x → Q x) → (xs : List A) → AllByRecursion P xs → AllByRecursion Q xs
 every P Q f [] h = tt

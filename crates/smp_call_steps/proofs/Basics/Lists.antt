@@ -1,11 +1,8 @@
 -- The calls that were sent and those that were queued, with one more.
-use Rattle.std.proofs.Common.{arith}
-use Rattle.std.proofs.Common.{◌≡◌, ◌≢◌, ℕ, Bool, true, false, cond, ◌==◌, List, [], ◌∷◌, ◌++◌, sym, refl, ap, ◌∙◌, append_assoc}
+use Rattle.std.proofs.Common.{arith, ◌≡◌, ◌≢◌, ℕ, Bool, true, false, cond, ◌==◌, List, [], ◌∷◌, ◌++◌, refl, ap, append_assoc}
 use Rattle.std.proofs.lemmas.Bool.{eq-eqb, ne_eqb}
 use Rattle.smp_words.specs.Size.{owner}
-use Rattle.smp_call_steps.specs.Calls.{Sending, is_nil}
-use Rattle.smp_call_steps.specs.Histories.{Marked, mark, marked, others_marked, batches_marked, history_of, sent_to, marked_from, calls_from}
-use Rattle.smp_call_steps.specs.Names.{Call}
+use Rattle.smp_call_steps.specs.{Sending, is_nil, Marked, mark, marked, others_marked, history_of, sent_to, marked_from, calls_from, Call}
 
 abbrev pub one_if : {A : Type 0} → Bool → A → List A
 one_if b x = cond b (x ∷ []) []

@@ -1,7 +1,7 @@
 -- Rows: the first values of a function, as a list.
-use Rattle.std.proofs.Common.{◌≡◌, ℕ, zero, suc, ◌<◌, cond, ◌∷◌, length, get_or, set, refl, ap, ◌∙◌, arith}
+use Rattle.std.proofs.Common.{◌≡◌, ℕ, zero, suc, ◌<◌, ◌∷◌, length, get_or, set, refl, ap, ◌∙◌, arith}
 use Rattle.smp_words.specs.Put.{put}
-use Rattle.smp_call_steps.specs.Parts.{row}
+use Rattle.smp_call_steps.specs.{row}
 use Rattle.smp_words.proofs.Puts.{at_test, put_same, put_other}
 
 pub row-at : {A : Type 0} (n i : ℕ) (f : ℕ → A) (d : A) → i < n → get_or (row n f) i d ≡ f i

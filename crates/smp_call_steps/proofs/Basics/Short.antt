@@ -4,9 +4,7 @@ use Rattle.std.proofs.lemmas.Bool.{ne_eqb, eqb-true, or_cases}
 use Rattle.std.proofs.lemmas.Map.Steps.{length-le_from_distinct_below}
 use Rattle.std.proofs.lemmas.Map.Keys.{IsDistinct-cons}
 use Rattle.std.specs.List.{AllByRecursion, IsDistinct, list_any}
-use Rattle.smp_call_steps.specs.Places.{IsAbsent, IsApart}
-use Rattle.smp_call_steps.specs.Queues.{ids}
-use Rattle.smp_call_steps.specs.Names.{Call}
+use Rattle.smp_call_steps.specs.{IsAbsent, IsApart, ids, Call}
 
 absent_ids : (id : ℕ) (calls : List Call) → IsAbsent id calls → AllByRecursion (λ y. eqb id y ≡ false) (ids calls)
 absent_ids id [] h = tt

@@ -4,32 +4,24 @@ use Rattle.std.proofs.Common.{arith}
 use Rattle.std.proofs.lemmas.Bool.{lt-ltb, eq-eqb}
 use Rattle.smp_words.specs.Size.{cpus, records}
 use Rattle.smp_words.specs.Access.{word_of}
-use Rattle.smp_call_steps.specs.Calls.{CallState, Nothing, SyncCall, CountedCall, AsyncCall}
-use Rattle.smp_call_steps.specs.Drains.{DrainValue, handle_goes, record_at, first_on, second_on, handle_outcome, drain_after}
-use Rattle.smp_call_steps.specs.Places.{IsPlaced, AllPlaced}
-use Rattle.smp_call_steps.specs.Words.{FlagsShow, bit, nexts_in, last_batch}
-use Rattle.smp_call_steps.specs.Histories.{orders, running_call}
-use Rattle.smp_call_steps.specs.Stages.{ControlValue, access_of, FitsStage}
-use Rattle.smp_call_steps.specs.Stands.{Share, share_of, StandsAt, HandleStands, held_of}
-use Rattle.smp_call_steps.specs.Parts.{Part, part_confirmed, part_accepted, part_begun, part_unlocked, part_counted, part_after}
-use Rattle.smp_call_steps.specs.Known.{told_stage, told_post, told_handle, known_told, known_taking, stage_after, drain_then, tried_after}
-use Rattle.smp_call_steps.specs.Known.{heads_after, log_after}
-use Rattle.smp_call_steps.specs.Known.{MayStep, known_access, Lives}
-use Rattle.smp_call_steps.specs.Known.{GoesOn}
-use Rattle.smp_call_steps.specs.Handling.{rest_of, handling, goes_known, accepted_known, taken_known, begun_sync, counted_sync, begun_async, ended_call}
+use Rattle.smp_call_steps.specs.{CallState, Nothing, SyncCall, CountedCall, AsyncCall, DrainValue, handle_goes, record_at, first_on, second_on}
+use Rattle.smp_call_steps.specs.{handle_outcome, drain_after, IsPlaced, AllPlaced, bit, nexts_in, last_batch, orders, running_call, ControlValue}
+use Rattle.smp_call_steps.specs.{access_of, FitsStage, Share, share_of, HandleStands, held_of, Part, part_confirmed, part_accepted}
+use Rattle.smp_call_steps.specs.{part_after, told_stage, told_post, told_handle, known_told, known_taking, stage_after}
+use Rattle.smp_call_steps.specs.{drain_then, tried_after, heads_after, log_after, MayStep, known_access, Lives, GoesOn, handling, goes_known}
+use Rattle.smp_call_steps.specs.{accepted_known, taken_known, begun_sync, counted_sync, begun_async, ended_call, Call, Word, Head, Intr, Hand, Ran, Flags}
+use Rattle.smp_call_steps.specs.{Func, Info, Next, Access, Act, Posting, PostStage, Walk, HandleStage, Outcome, Stage, Post, Handle}
 use Rattle.smp_words.proofs.Links.{HasIndex}
 use Rattle.smp_call_steps.proofs.Machine.Accesses.{access_in_table}
 use Rattle.smp_call_steps.proofs.Basics.Alls.{every_right}
 use Rattle.smp_call_steps.proofs.State.Walks.{reverses_all, walks_rest, same_record}
-use Rattle.smp_call_steps.specs.Names.{Call, Word, Head, Intr, Hand, Ran, Flags, Func, Info, Next, Access, Act, RecPlace, Posting, PostStage, Walk}
-use Rattle.smp_call_steps.specs.Names.{HandleStage, Outcome, Stage, Post, Handle}
-use Rattle.smp_call_steps.specs.Names.place
-use Rattle.smp_call_steps.specs.Names.act
-use Rattle.smp_call_steps.specs.Names.post
-use Rattle.smp_call_steps.specs.Names.handle
 use Rattle.smp_call_steps.proofs.Machine.Fits.{found_fits}
 use Rattle.smp_call_steps.proofs.Knows.Restages.{access_known}
 use Rattle.smp_call_steps.specs.declared.known.Known.{Known}
+use Rattle.smp_call_steps.specs.place
+use Rattle.smp_call_steps.specs.act
+use Rattle.smp_call_steps.specs.post
+use Rattle.smp_call_steps.specs.handle
 
 -- a step of a CPU goes on to calls of which it knows its part
 pub lives_on : (a : CallState) (control : ℕ → ControlValue) (me : ℕ) (at : Word → ℕ) (w : Known) → GoesOn a control me at w → Lives w

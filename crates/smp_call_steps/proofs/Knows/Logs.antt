@@ -1,21 +1,18 @@
 -- A step's log is what it has sent.
 use Rattle.std.proofs.Common.{◌≡◌, ℕ, ◌%◌, ◌≤◌, ◌==◌, nat_lt, Bool, true, false, cond, Option, Some, None, List, [], ◌∷◌, length, sym, subst, refl}
-use Rattle.std.proofs.Common.{ap, ◌∙◌, arith}
-use Rattle.smp_words.specs.Access.{act_of, word_of, seen_of}
-use Rattle.smp_call_steps.specs.Calls.{CallState, Holding, Running, CountedCall, SyncCall, AsyncCall, confirms, locked, releases, unlocks}
-use Rattle.smp_call_steps.specs.Calls.{begins_sync, begins_async}
-use Rattle.smp_call_steps.specs.Calls.{counts, links, held_told, flags_told, hand_told, appended, told}
-use Rattle.smp_call_steps.specs.Known.{Sees, MayStep, known_access, log_after}
-use Rattle.smp_call_steps.specs.Logs.{SendsNothing, SendsCall, Sends, log_with, LogsTell}
+use Rattle.std.proofs.Common.{arith}
+use Rattle.smp_words.specs.Access.{act_of}
+use Rattle.smp_call_steps.specs.{CallState, Holding, Running, CountedCall, SyncCall, AsyncCall, confirms, locked, releases, unlocks, begins_sync}
+use Rattle.smp_call_steps.specs.{begins_async, counts, links, held_told, flags_told, hand_told, appended, told, Sees, MayStep, known_access, log_after}
+use Rattle.smp_call_steps.specs.{SendsNothing, SendsCall, Sends, log_with, LogsTell, ControlValue, Call, Word, Head, Intr, Hand, Queued, Ran, Flags, Func}
+use Rattle.smp_call_steps.specs.{Info, Next, Act, Stage, Post, Handle, Logged}
 use Rattle.smp_call_steps.specs.Shows.{Shows}
-use Rattle.smp_call_steps.specs.Stages.{ControlValue}
-use Rattle.smp_call_steps.specs.Names.{Call, Word, Head, Intr, Hand, Queued, Ran, Flags, Func, Info, Next, Access, Act, Stage, Post, Handle, Logged}
-use Rattle.smp_call_steps.specs.Names.act
-use Rattle.smp_call_steps.specs.Names.handle
-use Rattle.smp_call_steps.specs.Names.logged
-use Rattle.smp_call_steps.specs.Names.post
 use Rattle.smp_call_steps.proofs.Knows.Restages.{aims_held}
 use Rattle.smp_call_steps.specs.declared.known.Known.{Known}
+use Rattle.smp_call_steps.specs.act
+use Rattle.smp_call_steps.specs.handle
+use Rattle.smp_call_steps.specs.logged
+use Rattle.smp_call_steps.specs.post
 
 shorter : (b : Bool) (calls : List Call) → length (cond b [] calls) ≤ length calls
 shorter true calls = omega arith

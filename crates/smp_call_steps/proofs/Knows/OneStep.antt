@@ -1,27 +1,22 @@
 -- One step of a CPU that knows v: what holds after it, and what each CPU knows then.
-use Rattle.std.proofs.Common.{arith}
-use Rattle.std.proofs.Common.{◌≡◌, ◌≢◌, ℕ, ◌+◌, ◌-◌, ◌%◌, nat_lt, Bool, true, false, ◌==◌, cond, Option, Some, None, subst, refl, ap, ◌∙◌}
+use Rattle.std.proofs.Common.{arith, ◌≡◌, ◌≢◌, ℕ, ◌-◌, ◌%◌, nat_lt, Bool, true, false, ◌==◌, cond, Option, Some, None, refl, ap, ◌∙◌}
 use Rattle.smp_words.proofs.Puts.{put_same, put_other}
 use Rattle.smp_words.specs.Put.{put}
-use Rattle.smp_call_steps.specs.Calls.{CallState}
-use Rattle.smp_call_steps.specs.Posts.{ends, goes_to}
-use Rattle.smp_call_steps.specs.Drains.{DrainValue, handle_goes, record_at, second_on, first_on, reverse_on, by_class, unlink_after}
+use Rattle.smp_call_steps.specs.{CallState, ends, goes_to, DrainValue, handle_goes, record_at, second_on, first_on, reverse_on, by_class, unlink_after, Call}
+use Rattle.smp_call_steps.specs.{Class, Sync, Async, Word, Head, Intr, Flags, Access, Seen, Note, Posting, Walk, Outcome, Stage, Post, Handle}
+use Rattle.smp_call_steps.specs.{ControlValue, access_of, outcome_of, drain_of, control_after, part_after, told_post, told_handle, told_stage, Sees}
+use Rattle.smp_call_steps.specs.{known_tells, stage_after, drain_then, MayStep, known_access, GoesOn}
 use Rattle.smp_words.specs.Flags.{class_of}
-use Rattle.smp_call_steps.specs.Names.{Call, Class, Sync, Async, Word, Head, Intr, Flags, Info, Access, Seen, Note, Posting, Walk, Outcome, Stage, Post}
-use Rattle.smp_call_steps.specs.Names.{Handle}
-use Rattle.smp_call_steps.specs.Names.act
-use Rattle.smp_call_steps.specs.Names.note
-use Rattle.smp_call_steps.specs.Names.post
-use Rattle.smp_call_steps.specs.Names.handle
-use Rattle.smp_call_steps.specs.Stages.{ControlValue, access_of, outcome_of, drain_of, control_after}
 use Rattle.smp_words.specs.Access.{word_of, at_after, seen_of}
 use Rattle.smp_call_steps.specs.Shows.{Shows}
-use Rattle.smp_call_steps.specs.Parts.{part_after}
-use Rattle.smp_call_steps.specs.Known.{told_post, told_handle, told_stage, Sees, known_tells, stage_after, drain_then, MayStep, known_access, GoesOn}
 use Rattle.smp_call_steps.proofs.Steps.Every.{step_shown}
 use Rattle.smp_call_steps.proofs.Knows.Restages.{known_held, restages, access_known, aims_told}
 use Rattle.smp_call_steps.proofs.Knows.Parts.{Told, part_mine, part_else}
 use Rattle.smp_call_steps.specs.declared.known.Known.{Known}
+use Rattle.smp_call_steps.specs.act
+use Rattle.smp_call_steps.specs.note
+use Rattle.smp_call_steps.specs.post
+use Rattle.smp_call_steps.specs.handle
 
 -- the stage that follows, as the step tells it
 abbrev Follows : (Word → ℕ) → ℕ → DrainValue → Stage → Type 0

@@ -1,15 +1,13 @@
 -- What a CPU knows after each step of a post, of a send and of a question for a record.
-use Rattle.std.proofs.Common.{◌≡◌, ℕ, ◌+◌, ◌-◌, ◌%◌, ◌^◌, Bool, true, false, ◌==◌, cond, Some, None, [], ◌∷◌, ◌++◌, length, sym, refl, ap}
-use Rattle.std.proofs.Common.{◌∙◌, arith, true≢false, eq-eqb}
+use Rattle.std.proofs.Common.{◌≡◌, ℕ, ◌+◌, ◌-◌, ◌%◌, ◌^◌, Bool, true, false, ◌==◌, cond, Some, None, length, sym, refl, ap, ◌∙◌, arith}
+use Rattle.std.proofs.Common.{true≢false, eq-eqb}
 use Rattle.smp_words.specs.Flags.{flags_of}
-use Rattle.smp_call_steps.specs.Histories.{sent_to, one_held}
-use Rattle.smp_call_steps.specs.Stands.{held_of_post, posted}
-use Rattle.smp_call_steps.specs.Known.{known_told, known_access, posting_of, standing, outside_known, confirmed_known, queued_known, looked_known, lost_one}
-use Rattle.smp_call_steps.specs.Names.{Class, Sync, Async, Head, Queued, Flags, Func, Info, Next, Store, Posting, PostStage, Post}
-use Rattle.smp_call_steps.specs.Names.act
-use Rattle.smp_call_steps.specs.Names.post
-use Rattle.smp_call_steps.specs.Names.head
+use Rattle.smp_call_steps.specs.{sent_to, posted, known_told, known_access, posting_of, standing, outside_known, confirmed_known}
+use Rattle.smp_call_steps.specs.{queued_known, looked_known, lost_one, Class, Sync, Async, Head, Queued, Flags, Func, Info, Next, Store, Posting, PostStage}
+use Rattle.smp_call_steps.specs.{Post}
 use Rattle.smp_call_steps.specs.declared.known.Known.{Known}
+use Rattle.smp_call_steps.specs.act
+use Rattle.smp_call_steps.specs.post
 
 -- a CPU outside a command
 pub outside_as : (v : Known) → v.stage ≡ None → v ≡ outside_known v

@@ -1,24 +1,18 @@
 -- A CPU may stand at any stage that its steps so far leave open.
-use Rattle.std.proofs.Common.{arith}
-use Rattle.std.proofs.Common.{◌≡◌, ℕ, ◌%◌, ◌<◌, true, false, ◌==◌, Option, Some, None, get_or, sym, subst, refl, ap, ◌∙◌, ◌⊎◌, inl, inr}
+use Rattle.std.proofs.Common.{arith, ◌≡◌, ℕ, ◌%◌, ◌<◌, true, false, ◌==◌, Option, Some, None, get_or, sym, subst, refl, ap, ◌∙◌, ◌⊎◌, inl, inr}
 use Rattle.smp_words.specs.Put.{put}
 use Rattle.smp_words.specs.Size.{records, owner}
-use Rattle.smp_call_steps.specs.Calls.{CallState}
-use Rattle.smp_call_steps.specs.Posts.{post_access}
-use Rattle.smp_call_steps.specs.Drains.{DrainValue, handle_access, source_at}
-use Rattle.smp_call_steps.specs.Stages.{ControlValue, access_of}
-use Rattle.smp_call_steps.specs.Places.{Holds}
-use Rattle.smp_call_steps.specs.Stands.{Rests, StandsAt, PostKnows, share_of, held_of, held_of_post, HandIs}
+use Rattle.smp_call_steps.specs.{CallState, DrainValue, handle_access, source_at, ControlValue, access_of, Rests, StandsAt, PostKnows}
+use Rattle.smp_call_steps.specs.{share_of, held_of, HandIs, told_post, told_handle, told_stage, Sees, MayStep, MayPost, Moment}
+use Rattle.smp_call_steps.specs.{known_access, ran_tally, is_confirmed, Word, Hand, Flags, RecPlace, Posting, PostStage, HandleStage, Stage}
+use Rattle.smp_call_steps.specs.{Send, Done, Post, Handle}
 use Rattle.smp_call_steps.specs.Shows.{Shows}
-use Rattle.smp_call_steps.specs.Parts.{Part, row}
-use Rattle.smp_call_steps.specs.Known.{told_post, told_handle, told_stage, Sees, MayStep, MayPost, Moment, known_access, queued_tally, ran_tally, is_confirmed}
 use Rattle.smp_call_steps.proofs.Basics.Rows.{row-at}
 use Rattle.smp_call_steps.proofs.Steps.Sending.{stands_on}
 use Rattle.smp_call_steps.specs.declared.known.Known.{Known}
-use Rattle.smp_call_steps.specs.Names.{Word, Hand, Flags, RecPlace, Posting, PostStage, HandleStage, Stage, Send, Done, Post, Handle}
-use Rattle.smp_call_steps.specs.Names.place
-use Rattle.smp_call_steps.specs.Names.post
-use Rattle.smp_call_steps.specs.Names.handle
+use Rattle.smp_call_steps.specs.place
+use Rattle.smp_call_steps.specs.post
+use Rattle.smp_call_steps.specs.handle
 
 -- what is held was told
 pub held_told : (s : Option Stage) → held_of (told_stage s) ≡ held_of s

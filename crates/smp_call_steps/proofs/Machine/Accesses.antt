@@ -1,23 +1,18 @@
 -- The word of each access is in the table.
-use Rattle.std.proofs.Common.{arith}
-use Rattle.std.proofs.Common.{◌≡◌, ℕ, ◌<◌, Some, List, [], ◌∷◌, ◌+◌, subst, refl, ap, ◌∙◌}
+use Rattle.std.proofs.Common.{arith, ◌≡◌, ℕ, ◌<◌, Some, List, [], ◌∷◌, ◌+◌, subst, refl}
 use Rattle.smp_words.specs.Size.{cpus, records}
 use Rattle.smp_words.specs.Access.{word_of}
-use Rattle.smp_call_steps.specs.Calls.{CallState, Running, Nothing, SyncCall, CountedCall}
-use Rattle.smp_call_steps.specs.Drains.{DrainValue, link_to}
-use Rattle.smp_call_steps.specs.Places.{IsPlaced, locked_by, AllPlaced}
-use Rattle.smp_call_steps.specs.Stages.{ControlValue, access_of}
-use Rattle.smp_call_steps.specs.Stands.{Share, share_of, StandsAt, HandleStands, Reverses, Walks, Ends, PostStands}
+use Rattle.smp_call_steps.specs.{CallState, Running, Nothing, SyncCall, CountedCall, DrainValue, link_to, IsPlaced, locked_by, AllPlaced, ControlValue}
+use Rattle.smp_call_steps.specs.{access_of, Share, StandsAt, HandleStands, Reverses, Walks, Ends, PostStands, nexts_in, Call, Word, Next, RecPlace}
+use Rattle.smp_call_steps.specs.{Posting, PostStage, Walk, HandleStage, Stage, Send, Done, Post, Handle}
 use Rattle.smp_call_steps.specs.Shows.{Shows}
-use Rattle.smp_call_steps.specs.Words.{nexts_in}
-use Rattle.smp_call_steps.specs.Names.{Call, Word, Next, RecPlace, Posting, PostStage, Walk, HandleStage, Stage, Send, Done, Post, Handle}
-use Rattle.smp_call_steps.specs.Names.place
-use Rattle.smp_call_steps.specs.Names.post
-use Rattle.smp_call_steps.specs.Names.handle
 use Rattle.smp_call_steps.proofs.Basics.Alls.{every_right}
 use Rattle.smp_call_steps.proofs.State.Walks.{reverses_all, walks_rest, walks_last, ends_rest, same_record}
 use Rattle.smp_words.proofs.Links.{HasIndex, IsInTable, in_table}
 use Rattle.smp_words.proofs.Sizes.{owner-below}
+use Rattle.smp_call_steps.specs.place
+use Rattle.smp_call_steps.specs.post
+use Rattle.smp_call_steps.specs.handle
 
 post_in_table : (places : ℕ → RecPlace) (at : Word → ℕ) (me : ℕ) (p : Posting) (stage : PostStage) → PostStands places at me p stage
     → IsInTable (word_of (access_of at me (Post p stage)))

@@ -1,5 +1,5 @@
 -- A step, over a core's list of words and list of controls.
-use Rattle.std.proofs.Common.{◌≡◌, ℕ, ◌<◌, ◌≤◌, Bool, true, false, nat_lt, cond, Option, Some, None, List, length, refl, ap, arith}
+use Rattle.std.proofs.Common.{◌≡◌, ℕ, ◌<◌, Bool, true, false, nat_lt, Option, Some, None, List, length, refl, arith}
 use Rattle.std.proofs.lemmas.List.{get_or-set_same, get_or-set_other, get_or_past, length-set}
 use Rattle.std.proofs.lemmas.Bool.{ltb-true, ltb-false}
 use Rattle.std.specs.Prelude.{slice_set}
@@ -7,14 +7,12 @@ use Rattle.smp_words.specs.Size.{cpus, table_size}
 use Rattle.smp_words.specs.Put.{put, put_word}
 use Rattle.smp_words.specs.Layout.{index_of, number_in, put_in, put_at}
 use Rattle.smp_words.specs.Access.{word_of, put_by, put_if, at_after, words_after, seen_of}
-use Rattle.smp_call_steps.specs.Calls.{CallState, tells}
-use Rattle.smp_call_steps.specs.Stages.{ControlValue, access_of, outcome_of, control_after}
-use Rattle.smp_call_steps.specs.Value.{ValuesShow, control_of, outside}
+use Rattle.smp_call_steps.specs.{CallState, tells, ControlValue, access_of, outcome_of, control_after, ValuesShow, control_of, Word, Access, Seen}
+use Rattle.smp_call_steps.specs.{Stage}
 use Rattle.smp_call_steps.proofs.Machine.Accesses.{access_in_table}
 use Rattle.smp_call_steps.proofs.Steps.Every.{step_shown}
 use Rattle.smp_words.proofs.Links.{HasIndex, number_in-put_in}
 use Rattle.smp_words.proofs.Puts.{at_test}
-use Rattle.smp_call_steps.specs.Names.{Word, Access, Seen, Stage}
 
 words_if : (words : List ℕ) (w : Word) (put : Option ℕ) → length words ≡ table_size → HasIndex w
     → number_in (put_if put_in words w put) ≡ put_if put_word (number_in words) w put

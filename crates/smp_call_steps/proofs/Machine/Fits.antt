@@ -1,12 +1,10 @@
 -- What a step finds fits the types of the machine, and there is room for what it loads.
-use Rattle.std.proofs.Common.{◌≡◌, ℕ, ◌+◌, ◌^◌, ◌<◌, ◌≤◌, Option, Some, List, [], ◌∷◌, ◌++◌, length-append, sym, subst, ap, ◌∙◌, arith}
+use Rattle.std.proofs.Common.{◌≡◌, ℕ, ◌+◌, ◌^◌, ◌<◌, ◌≤◌, Option, Some, List, [], ◌∷◌, ◌++◌, length-append, sym, subst, arith}
 use Rattle.std.specs.List.{AllByRecursion}
 use Rattle.smp_words.specs.Size.{records}
 use Rattle.smp_words.specs.Access.{word_of}
-use Rattle.smp_call_steps.specs.Calls.{CallState}
-use Rattle.smp_call_steps.specs.Stages.{ControlValue, FitsStage, access_of}
-use Rattle.smp_call_steps.specs.Places.{IsApart, IsPlaced}
-use Rattle.smp_call_steps.specs.Words.{Leads, Path, funcs_in, nexts_in}
+use Rattle.smp_call_steps.specs.{CallState, ControlValue, FitsStage, access_of, IsApart, IsPlaced, Leads, Path, nexts_in, Call, Word, Head, Func}
+use Rattle.smp_call_steps.specs.{Next, Walk, HandleStage, Stage, Handle}
 use Rattle.smp_call_steps.specs.Shows.{Shows}
 use Rattle.smp_words.specs.declared.size.TheConstants.{MOST_CALLS}
 use Rattle.smp_call_steps.proofs.Basics.Alls.{every, every_left}
@@ -14,9 +12,8 @@ use Rattle.smp_call_steps.proofs.Basics.Short.{length-apart}
 use Rattle.smp_call_steps.proofs.Steps.Turns.{stands_at}
 use Rattle.smp_call_steps.proofs.Steps.Loading.{walked_words, ended_words}
 use Rattle.smp_call_steps.proofs.State.Walks.{reverses_all, walks_rest, ends_rest, same_record}
-use Rattle.smp_call_steps.specs.Names.{Call, Word, Head, Func, Next, Walk, HandleStage, Stage, Handle}
-use Rattle.smp_call_steps.specs.Names.place
-use Rattle.smp_call_steps.specs.Names.handle
+use Rattle.smp_call_steps.specs.place
+use Rattle.smp_call_steps.specs.handle
 
 abbrev IsRecord : Call → Type 0
 IsRecord call = call.id < records

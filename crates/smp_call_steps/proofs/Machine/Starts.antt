@@ -1,29 +1,25 @@
 -- A command of the call half that may start begins where it should, and changes no call.
-use Rattle.std.proofs.Common.{◌≡◌, ℕ, ◌-◌, ◌<◌, Bool, true, false, ◌==◌, ◌||◌, ◌&&◌, not, nat_lt, cond, Option, Some, None, List, sym, refl, ap, ◌∙◌, arith}
-use Rattle.std.proofs.Common.{replicate, inl, inr}
+use Rattle.std.proofs.Common.{◌≡◌, ℕ, ◌<◌, Bool, true, false, ◌||◌, not, nat_lt, cond, Option, Some, None, List, refl, arith}
+use Rattle.std.proofs.Common.{replicate}
 use Rattle.std.proofs.lemmas.Bool.{ltb-true, le-ltb, cases_lt, and_parts}
 use Rattle.smp_mask.specs.Mask.{has}
 use Rattle.smp_mask.specs.declared.error.SmpError.{SmpError}
 use Rattle.smp_words.specs.Size.{cpus, table_size, records_of_one}
-use Rattle.smp_words.specs.declared.size.TheConstants.{FIRST_OF_ONE}
 use Rattle.smp_words.specs.Put.{put}
 use Rattle.smp_words.specs.Layout.{index_of, number_in}
-use Rattle.smp_call_steps.specs.Calls.{CallState, no_calls}
-use Rattle.smp_call_steps.specs.Drains.{DrainValue}
-use Rattle.smp_call_steps.specs.Stages.{ControlValue}
+use Rattle.smp_call_steps.specs.{CallState, no_calls, DrainValue, ControlValue, command_refusal, first_stage, control_at, NamesRecord, Share}
+use Rattle.smp_call_steps.specs.{share_of, Rests, StandsAt, held_of, HandIs, ValuesShow, control_of, outside, hands_in, Word}
+use Rattle.smp_call_steps.specs.{RecPlace}
 use Rattle.smp_words.specs.Limits.{AreLimits}
-use Rattle.smp_call_steps.specs.Start.{command_refusal, first_stage, fits_record, has_record, control_at, NamesRecord}
+use Rattle.smp_call_steps.specs.Start.{has_record}
 use Rattle.smp_words.specs.Commands.{FitsCommand}
-use Rattle.smp_call_steps.specs.Stands.{Share, share_of, Rests, Stands, StandsAt, held_of, HandIs}
-use Rattle.smp_call_steps.specs.Value.{ValuesShow, control_of, outside}
-use Rattle.smp_call_steps.specs.Words.{hands_in}
+use Rattle.smp_call_steps.specs.Stands.{Stands}
 use Rattle.smp_call_steps.specs.Shows.{Shows}
 use Rattle.smp_words.proofs.Puts.{put_all}
 use Rattle.smp_words.proofs.Sizes.{owner-of_record, record_of-below}
 use Rattle.smp_words.specs.declared.command.Command.{Command}
-use Rattle.smp_words.specs.declared.command.Command.TheVariants as command
-use Rattle.smp_call_steps.specs.Names.{Word, Head, Intr, Hand, Queued, Ran, Flags, RecPlace}
 use Rattle.smp_words.proofs.Zeros.{get_or-same, zero_at}
+use Rattle.smp_words.specs.declared.command.Command.TheVariants as command
 
 pub else_none : (b : Bool) (x : Option SmpError) (y : SmpError) → cond b x (Some y) ≡ None → (b ≡ true) × (x ≡ None)
 else_none true x y e = (refl, e)

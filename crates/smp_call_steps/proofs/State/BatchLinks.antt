@@ -1,26 +1,21 @@
 -- The links of a batch, by where its CPU stands.
-use Rattle.std.proofs.Common.{arith}
-use Rattle.std.proofs.Common.{◌≡◌, ◌≢◌, ℕ, ◌+◌, Bool, true, false, ◌&&◌, not, Option, Some, None, List, [], ◌∷◌, ◌++◌, inl, inr, sym, subst, refl, ap, ◌∙◌}
-use Rattle.std.proofs.Common.{append_assoc}
+use Rattle.std.proofs.Common.{arith, ◌≡◌, ◌≢◌, ℕ, ◌+◌, Bool, true, false, ◌&&◌, not, Option, Some, None, List, [], ◌∷◌, ◌++◌, inl, inr, sym, subst, refl, ap}
+use Rattle.std.proofs.Common.{◌∙◌, append_assoc}
 use Rattle.std.proofs.lemmas.Bool.{eq-eqb, ne_eqb}
 use Rattle.std.proofs.lemmas.List.{append-nil}
 use Rattle.std.proofs.lemmas.List.Elements.{filter-append}
 use Rattle.std.specs.List.{AllByRecursion, filter}
-use Rattle.smp_call_steps.specs.Order.{if_sync, if_async, sync_calls, async_calls, order}
-use Rattle.smp_call_steps.specs.Calls.{Running, Nothing, SyncCall, CountedCall, AsyncCall}
-use Rattle.smp_call_steps.specs.Drains.{DrainValue, link_to}
-use Rattle.smp_call_steps.specs.Words.{Leads, nexts_in}
-use Rattle.smp_call_steps.specs.Places.{IsAbsent, IsApart, HasRecord}
-use Rattle.smp_call_steps.specs.Batches.{has_record, is_this, down_link, up_link, between_of}
-use Rattle.smp_call_steps.specs.BatchLinks.{is_linked, BegunAt, LoadedAt, BatchLinks, KeepBatchLinks}
-use Rattle.smp_call_steps.specs.Stands.{Share, share_of, Reverses, Walks, Ends, HandleStands, StandsAt}
+use Rattle.smp_call_steps.specs.{if_sync, if_async, sync_calls, async_calls, order, Running, Nothing, SyncCall, CountedCall, AsyncCall, DrainValue, link_to}
+use Rattle.smp_call_steps.specs.{Leads, nexts_in, IsAbsent, IsApart, HasRecord, has_record, is_this, down_link, up_link, between_of, is_linked, BegunAt}
+use Rattle.smp_call_steps.specs.{LoadedAt, KeepBatchLinks, Share, share_of, Reverses, Walks, Ends, HandleStands, StandsAt, Call, Class, Sync, Async, Word}
+use Rattle.smp_call_steps.specs.{RecPlace, Walk, HandleStage, Stage, Send, Done, Post, Handle}
+use Rattle.smp_call_steps.specs.BatchLinks.{BatchLinks}
 use Rattle.smp_call_steps.proofs.Basics.Alls.{every, every_both, every_left, every_right, every_append, every_class}
 use Rattle.smp_call_steps.proofs.Steps.Appending.{Leads-push}
 use Rattle.smp_call_steps.proofs.State.Batches.{has_right, apart_order}
 use Rattle.smp_call_steps.proofs.State.Places.{IsBetween, true-has_record}
 use Rattle.smp_call_steps.proofs.State.Walks.{Path-append, apart_right, apart_across, absent_before, absent_after, async_calls-append}
-use Rattle.smp_call_steps.specs.Names.{Call, Class, Sync, Async, Word, RecPlace, Walk, HandleStage, Stage, Send, Done, Post, Handle}
-use Rattle.smp_call_steps.specs.Names.handle
+use Rattle.smp_call_steps.specs.handle
 
 -- what a test keeps of a list
 

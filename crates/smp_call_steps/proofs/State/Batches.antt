@@ -1,11 +1,8 @@
 -- The drain order of a batch, and the chain that leads through it.
 use Rattle.std.proofs.Common.{◌≡◌, ◌≢◌, ℕ, ◌+◌, List, [], ◌∷◌, ◌++◌, sym, refl, ap, ◌∙◌, ◌⊎◌, inl, inr, arith, append_assoc}
 use Rattle.std.specs.List.{AllByRecursion}
-use Rattle.smp_call_steps.specs.Order.{if_sync, if_async, sync_calls, async_calls, order}
-use Rattle.smp_call_steps.specs.Places.{IsAbsent, IsApart, HasRecord}
-use Rattle.smp_call_steps.specs.Words.{Leads}
+use Rattle.smp_call_steps.specs.{if_sync, if_async, sync_calls, async_calls, order, IsAbsent, IsApart, HasRecord, Leads, Call, Class, Sync, Async}
 use Rattle.smp_call_steps.proofs.Basics.Alls.{every_both, every_append, every_sync, every_async}
-use Rattle.smp_call_steps.specs.Names.{Call, Class, Sync, Async}
 
 -- what holds of all of a batch holds of all of it in drain order
 pub every_order : (P : Call → Type 0) (calls : List Call) → AllByRecursion P calls → AllByRecursion P (order calls)

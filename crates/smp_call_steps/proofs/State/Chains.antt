@@ -1,16 +1,14 @@
 -- A chain is read from its newest call to its oldest.
 use Rattle.std.proofs.Math.Bool.{or-true}
 use Rattle.std.proofs.Common.{◌≡◌, ◌≢◌, ℕ, zero, suc, ◌+◌, ◌-◌, ◌<◌, ◌≤◌, ◌==◌, true, false, List, [], ◌∷◌, ◌++◌, length, sym, subst, refl, ap, ◌∙◌, arith}
-use Rattle.std.proofs.Common.{append_assoc, length-append, take, drop}
+use Rattle.std.proofs.Common.{append_assoc, length-append}
 use Rattle.std.proofs.lemmas.List.{append-nil, drop_all, take_all}
 use Rattle.std.proofs.lemmas.List.Folds.{list_any-append}
 use Rattle.std.specs.List.{AllByRecursion, list_any, refill}
 use Rattle.smp_words.specs.Size.{records}
-use Rattle.smp_call_steps.specs.Words.{Leads}
-use Rattle.smp_call_steps.specs.Queues.{HasChain, chain_in, ids}
+use Rattle.smp_call_steps.specs.{Leads, HasChain, chain_in, ids, Call}
 use Rattle.smp_call_steps.proofs.Basics.Alls.{every_left, every_last}
 use Rattle.smp_call_steps.proofs.State.Batches.{no_chain, has_newest}
-use Rattle.smp_call_steps.specs.Names.{Call}
 
 pub ids-append : (xs ys : List Call) → ids (xs ++ ys) ≡ ids xs ++ ids ys
 ids-append [] ys = refl

@@ -1,14 +1,9 @@
 -- What a class means for the call that runs.
 use Rattle.std.proofs.Common.{◌≡◌, ℕ, Option, Some, None}
-use Rattle.smp_call_steps.specs.Calls.{CallState, Nothing}
-use Rattle.smp_call_steps.specs.Classes.{RunsByClass}
-use Rattle.smp_call_steps.specs.Drains.{DrainValue}
+use Rattle.smp_call_steps.specs.{CallState, Nothing, RunsByClass, DrainValue, ControlValue, Share, share_of, HandleStands, StandsAt, nexts_in, Word, RecPlace}
+use Rattle.smp_call_steps.specs.{HandleStage, Stage, Send, Done, Post, Handle}
 use Rattle.smp_call_steps.specs.Shows.{Shows}
-use Rattle.smp_call_steps.specs.Stages.{ControlValue}
-use Rattle.smp_call_steps.specs.Stands.{Share, share_of, HandleStands, StandsAt}
-use Rattle.smp_call_steps.specs.Words.{nexts_in}
-use Rattle.smp_call_steps.specs.Names.{Word, RecPlace, HandleStage, Stage, Send, Done, Post, Handle}
-use Rattle.smp_call_steps.specs.Names.handle
+use Rattle.smp_call_steps.specs.handle
 
 still : (s : Share) → s.running ≡ Nothing → RunsByClass s.running
 still s e = rw e tt

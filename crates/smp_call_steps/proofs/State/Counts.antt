@@ -1,20 +1,14 @@
 -- The calls by a confirmed record have all run, or run now.
-use Rattle.std.proofs.Common.{◌≡◌, ◌≢◌, ℕ, ◌+◌, ◌==◌, true, cond, Option, Some, List, [], ◌∷◌, ◌++◌, inl, inr, refl, ap, ◌∙◌, arith}
+use Rattle.std.proofs.Common.{◌≡◌, ◌≢◌, ℕ, ◌+◌, ◌==◌, true, cond, Option, Some, List, [], ◌∷◌, ◌++◌, refl, ap, ◌∙◌, arith}
 use Rattle.std.proofs.lemmas.Bool.{ne_eqb}
 use Rattle.std.proofs.lemmas.List.Sums.{sum_by-append}
 use Rattle.smp_words.specs.Size.{owner}
-use Rattle.smp_call_steps.specs.Calls.{CallState, Running, Nothing}
-use Rattle.smp_call_steps.specs.Counts.{calls_by, batches, async_call, ConfirmedCallsRan}
-use Rattle.smp_call_steps.specs.Histories.{orders, running_call}
-use Rattle.smp_call_steps.specs.Order.{if_sync, if_async, sync_calls, async_calls, order}
-use Rattle.smp_call_steps.specs.Places.{Holds, locked_by, AllPlaced}
+use Rattle.smp_call_steps.specs.{CallState, Running, Nothing, calls_by, batches, async_call, ConfirmedCallsRan, orders, running_call, if_sync, if_async}
+use Rattle.smp_call_steps.specs.{sync_calls, async_calls, order, Holds, locked_by, AllPlaced, ControlValue, Share, StandsAt, PostKnows, held_of}
+use Rattle.smp_call_steps.specs.{held_of_post, DrainValue, Call, Class, Sync, Async, Word, RecPlace, Posting, PostStage, Stage, Post}
 use Rattle.smp_call_steps.specs.Shows.{Shows}
-use Rattle.smp_call_steps.specs.Stages.{ControlValue}
-use Rattle.smp_call_steps.specs.Stands.{share_of, Share, StandsAt, PostKnows, held_of, held_of_post}
-use Rattle.smp_call_steps.specs.Drains.{DrainValue}
-use Rattle.smp_call_steps.specs.Names.{Call, Class, Sync, Async, Word, RecPlace, Posting, PostStage, Stage, Post}
-use Rattle.smp_call_steps.specs.Names.place
-use Rattle.smp_call_steps.specs.Names.post
+use Rattle.smp_call_steps.specs.place
+use Rattle.smp_call_steps.specs.post
 
 pub by-append : (id : ℕ) (xs ys : List Call) → calls_by id (xs ++ ys) ≡ calls_by id xs + calls_by id ys
 by-append id xs ys = sum_by-append (λ call. cond (call.id == id) 1 0) xs ys

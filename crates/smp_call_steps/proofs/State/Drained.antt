@@ -1,22 +1,15 @@
 -- Where no record is locked and nobody handles calls, each call that was queued has run, once.
-use Rattle.std.proofs.Common.{◌≡◌, ◌≢◌, ℕ, ◌+◌, ◌%◌, ◌^◌, ◌==◌, Bool, true, false, cond, Option, Some, None, List, [], ◌∷◌, ◌++◌, length, sym, refl, ap, ◌∙◌}
+use Rattle.std.proofs.Common.{◌≡◌, ◌≢◌, ℕ, ◌+◌, ◌%◌, ◌^◌, Bool, true, false, cond, Option, Some, None, List, [], ◌∷◌, ◌++◌, length, sym, refl, ap, ◌∙◌}
 use Rattle.std.proofs.Common.{arith}
 use Rattle.std.proofs.lemmas.List.{append-nil}
-use Rattle.smp_words.specs.Size.{owner}
-use Rattle.smp_call_steps.specs.Calls.{CallState, Holding, Running}
-use Rattle.smp_call_steps.specs.Histories.{Marked, mark, marked, others_marked, batches_marked, history_of, marked_from, sent_to, calls_from, orders}
-use Rattle.smp_call_steps.specs.Histories.{running_call, one_held, counted_call}
-use Rattle.smp_call_steps.specs.Order.{if_sync, if_async, sync_calls, async_calls, order}
-use Rattle.smp_call_steps.specs.Places.{Holds, AllPlaced}
-use Rattle.smp_call_steps.specs.Words.{FlagsShow, hands_in}
+use Rattle.smp_call_steps.specs.{CallState, Holding, Marked, marked, others_marked, batches_marked, marked_from, sent_to}
+use Rattle.smp_call_steps.specs.{calls_from, orders, if_sync, if_async, sync_calls, async_calls, order, Holds}
+use Rattle.smp_call_steps.specs.{AllPlaced, FlagsShow, hands_in, ControlValue, Share, share_of, Rests, StandsAt, HandIs, DrainValue, Call, Class, Sync, Async}
+use Rattle.smp_call_steps.specs.{Word, Hand, Queued, Ran, Flags, RecPlace, HandleStage, Stage, Handle}
 use Rattle.smp_call_steps.specs.Shows.{Shows}
-use Rattle.smp_call_steps.specs.Stages.{ControlValue}
-use Rattle.smp_call_steps.specs.Stands.{Share, share_of, Rests, StandsAt, HandIs}
-use Rattle.smp_call_steps.specs.Drains.{DrainValue}
 use Rattle.smp_call_steps.proofs.State.Counts.{held_place}
-use Rattle.smp_call_steps.specs.Names.{Call, Class, Sync, Async, Word, Hand, Queued, Ran, Flags, RecPlace, HandleStage, Stage, Handle}
-use Rattle.smp_call_steps.specs.Names.place
-use Rattle.smp_call_steps.specs.Names.handle
+use Rattle.smp_call_steps.specs.place
+use Rattle.smp_call_steps.specs.handle
 
 -- how many calls of a source a list has
 

@@ -3,22 +3,16 @@ use Rattle.std.proofs.Common.{◌≡◌, ℕ, ◌+◌, true, cond, List, [], ◌
 use Rattle.std.specs.List.{AllByRecursion}
 use Rattle.smp_words.specs.Size.{owner}
 use Rattle.smp_words.proofs.Puts.{at_test}
-use Rattle.smp_call_steps.specs.Calls.{CallState, Running, Nothing, SyncCall, CountedCall, AsyncCall, Sending}
-use Rattle.smp_call_steps.specs.Classes.{RunsByClass}
-use Rattle.smp_call_steps.specs.Counts.{calls_by, batches, async_call}
-use Rattle.smp_call_steps.specs.HaveRun.{ConfirmedSyncCallsEnded, HasCall, HasRunAt, ConfirmedCallsHaveRun}
-use Rattle.smp_call_steps.specs.Histories.{Marked, mark, marked, others_marked, batches_marked, history_of, sent_to, marked_from, orders, running_call}
-use Rattle.smp_call_steps.specs.Order.{if_sync, if_async, sync_calls, async_calls, order}
-use Rattle.smp_call_steps.specs.Places.{IsPlaced, locked_by}
-use Rattle.smp_call_steps.specs.QueueOrder.{if_class, of_class}
+use Rattle.smp_call_steps.specs.{CallState, Running, Nothing, SyncCall, CountedCall, AsyncCall, Sending, RunsByClass, calls_by, batches, async_call}
+use Rattle.smp_call_steps.specs.{ConfirmedSyncCallsEnded, HasCall, HasRunAt, ConfirmedCallsHaveRun, Marked, mark, marked, others_marked, batches_marked}
+use Rattle.smp_call_steps.specs.{history_of, sent_to, marked_from, orders, running_call, if_sync, if_async, sync_calls, async_calls, order, IsPlaced}
+use Rattle.smp_call_steps.specs.{locked_by, if_class, of_class, ControlValue, Call, Class, Sync, Async, Word}
 use Rattle.smp_call_steps.specs.Shows.{Shows}
-use Rattle.smp_call_steps.specs.Stages.{ControlValue}
-use Rattle.smp_call_steps.specs.Names.{Call, Class, Sync, Async, Word}
-use Rattle.smp_call_steps.specs.Names.place
 use Rattle.smp_call_steps.proofs.Basics.Alls.{every, every_append}
 use Rattle.smp_call_steps.proofs.State.Classes.{runs_by_class}
 use Rattle.smp_call_steps.proofs.State.Counts.{IsOut, by-append, none_by, confirmed_out}
 use Rattle.smp_call_steps.proofs.State.QueueOrder.{of_class-append, orders_keep, Sync≢Async}
+use Rattle.smp_call_steps.specs.place
 
 -- of the SYNC calls
 

@@ -5,29 +5,23 @@ use Rattle.std.proofs.lemmas.Bool.{eqb-true, eq-eqb, or_cases, cases_lt}
 use Rattle.std.proofs.lemmas.List.{get_or_past}
 use Rattle.std.specs.List.{AllByRecursion, list_any}
 use Rattle.smp_words.specs.Size.{cpus, records}
-use Rattle.smp_call_steps.specs.Batches.{has_record, down_link, up_link, between_of, is_this, running_of}
-use Rattle.smp_call_steps.specs.Calls.{CallState, Running, Nothing, SyncCall, CountedCall, AsyncCall}
-use Rattle.smp_call_steps.specs.Drains.{DrainValue, link_to}
+use Rattle.smp_call_steps.specs.{has_record, down_link, up_link, between_of, is_this, running_of, CallState, Running, Nothing}
+use Rattle.smp_call_steps.specs.{DrainValue, link_to, if_sync, if_async, sync_calls, async_calls, HasRecord, IsAbsent, IsApart, IsPlaced, IsThere}
+use Rattle.smp_call_steps.specs.{locked_by, AllPlaced, HasChain, chain_in, ids, ControlValue, Share, share_of, Rests, StandsAt, HandleStands, Reverses, Walks}
+use Rattle.smp_call_steps.specs.{Ends, Leads, Path, nexts_in, FlagsShow, control_of, outside, Call, Class, Sync, Async, Word, Head, Flags, RecPlace, Walk}
+use Rattle.smp_call_steps.specs.{HandleStage, Stage, Send, Done, Post, Handle}
 use Rattle.smp_words.specs.Layout.{number_in}
-use Rattle.smp_call_steps.specs.Order.{if_sync, if_async, sync_calls, async_calls}
-use Rattle.smp_call_steps.specs.Places.{HasRecord, IsAbsent, IsApart, IsPlaced, IsThere, locked_by, AllPlaced}
-use Rattle.smp_call_steps.specs.Queues.{HasChain, chain_in, ids}
 use Rattle.smp_call_steps.specs.Shows.{Shows}
-use Rattle.smp_call_steps.specs.Stages.{ControlValue}
-use Rattle.smp_call_steps.specs.Stands.{Share, share_of, Rests, StandsAt, HandleStands, Reverses, Walks, Ends}
-use Rattle.smp_call_steps.specs.Words.{Leads, Path, nexts_in, FlagsShow}
-use Rattle.smp_call_steps.specs.Value.{control_of, outside}
 use Rattle.smp_call_steps.proofs.Basics.Alls.{every, every_append, every_left, every_right, every_async}
 use Rattle.smp_call_steps.proofs.Steps.Appending.{Leads-push}
 use Rattle.smp_call_steps.proofs.State.Batches.{no_chain, has_left, has_right, apart_append, apart_async}
 use Rattle.smp_call_steps.proofs.State.Walks.{Path-append, apart_left, apart_right, apart_across, async_calls-append, reverses_all, walks_front, walks_passed}
 use Rattle.smp_call_steps.proofs.State.Walks.{walks_rest, ends_front, ends_rest}
-use Rattle.smp_call_steps.specs.Names.{Call, Class, Sync, Async, Word, Head, Flags, RecPlace, Walk, HandleStage, Stage, Send, Done, Post, Handle}
-use Rattle.smp_call_steps.specs.Names.place
-use Rattle.smp_call_steps.specs.Names.handle
 use Rattle.smp_call_steps.proofs.State.Chains.{chain_read}
 use Rattle.smp_words.proofs.Links.{no_head}
 use Rattle.smp_call_steps.proofs.Basics.Short.{length-apart}
+use Rattle.smp_call_steps.specs.place
+use Rattle.smp_call_steps.specs.handle
 
 -- lists that have a call by a record
 

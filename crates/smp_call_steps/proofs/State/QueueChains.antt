@@ -1,19 +1,12 @@
 -- The chain of a queue, and what is read of it.
-use Rattle.std.proofs.Common.{arith}
-use Rattle.std.proofs.Common.{◌≡◌, ℕ, ◌<◌}
+use Rattle.std.proofs.Common.{arith, ◌≡◌, ℕ, ◌<◌}
 use Rattle.std.specs.List.{AllByRecursion}
 use Rattle.smp_words.specs.Size.{records}
-use Rattle.smp_call_steps.specs.Calls.{CallState}
-use Rattle.smp_call_steps.specs.Places.{IsPlaced}
-use Rattle.smp_call_steps.specs.Queues.{HasChain, chain_in, ids}
+use Rattle.smp_call_steps.specs.{CallState, HasChain, chain_in, ids, ControlValue, nexts_in, Word, Head}
 use Rattle.smp_call_steps.specs.Shows.{Shows}
-use Rattle.smp_call_steps.specs.Stages.{ControlValue}
-use Rattle.smp_call_steps.specs.Words.{nexts_in}
 use Rattle.smp_call_steps.proofs.Basics.Alls.{every}
 use Rattle.smp_call_steps.proofs.State.Chains.{chain_read}
 use Rattle.smp_call_steps.proofs.Basics.Short.{length-apart}
-use Rattle.smp_call_steps.specs.Names.{Word, Head}
-use Rattle.smp_call_steps.specs.Names.place
 
 queue_records : (a : CallState) (at : Word → ℕ) (control : ℕ → ControlValue) (cpu : ℕ) → Shows a at control
     → AllByRecursion (λ call. call.id < records) (a.queue cpu)

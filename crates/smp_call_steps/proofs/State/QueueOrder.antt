@@ -1,20 +1,12 @@
 -- In which order calls run.
-use Rattle.std.proofs.Common.{arith}
-use Rattle.std.proofs.Common.{◌≡◌, ◌≢◌, ℕ, List, [], ◌∷◌, ◌++◌, sym, subst, refl, ap, ◌∙◌, append_assoc}
+use Rattle.std.proofs.Common.{arith, ◌≡◌, ◌≢◌, ℕ, List, [], ◌∷◌, ◌++◌, sym, subst, refl, ap, ◌∙◌, append_assoc}
 use Rattle.std.proofs.lemmas.List.{append-nil}
 use Rattle.std.specs.List.{AllByRecursion}
-use Rattle.smp_call_steps.specs.Calls.{CallState}
-use Rattle.smp_call_steps.specs.Counts.{batches}
-use Rattle.smp_call_steps.specs.Handling.{rest_of}
-use Rattle.smp_call_steps.specs.Histories.{orders, running_call}
-use Rattle.smp_call_steps.specs.Order.{if_sync, if_async, sync_calls, async_calls, order}
-use Rattle.smp_call_steps.specs.QueueOrder.{if_class, of_class, KeepsClasses, AsyncsLast, InQueueOrder}
+use Rattle.smp_call_steps.specs.{CallState, batches, rest_of, orders, running_call, if_sync, if_async, sync_calls, async_calls, if_class, of_class}
+use Rattle.smp_call_steps.specs.{KeepsClasses, AsyncsLast, InQueueOrder, ControlValue, IsAsync, Call, Class, Sync, Async, Word}
 use Rattle.smp_call_steps.specs.Shows.{Shows}
-use Rattle.smp_call_steps.specs.Stages.{ControlValue}
-use Rattle.smp_call_steps.specs.Stands.{IsAsync}
 use Rattle.smp_call_steps.proofs.Basics.Alls.{every_right}
 use Rattle.smp_call_steps.proofs.State.Walks.{IsSync, all_sync, all_async}
-use Rattle.smp_call_steps.specs.Names.{Call, Class, Sync, Async, Word}
 
 pub of_class-append : (class : Class) (xs ys : List Call) → of_class class (xs ++ ys) ≡ of_class class xs ++ of_class class ys
 of_class-append class [] ys = refl

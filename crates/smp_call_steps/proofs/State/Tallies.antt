@@ -3,10 +3,8 @@ use Rattle.std.proofs.Common.{◌≡◌, ◌≢◌, ℕ, ◌+◌, ◌%◌, ◌^�
 use Rattle.std.proofs.Common.{length-append, sym, subst, refl, ap, ◌∙◌, arith}
 use Rattle.std.proofs.lemmas.Bool.{eq-eqb, ne_eqb}
 use Rattle.smp_words.specs.Size.{owner}
-use Rattle.smp_call_steps.specs.Calls.{Holding, Running, Sending}
-use Rattle.smp_call_steps.specs.Histories.{calls_from, counted_call, Tallied}
+use Rattle.smp_call_steps.specs.{Holding, Running, Sending, calls_from, counted_call, Tallied, Call}
 use Rattle.smp_words.proofs.Puts.{at_test}
-use Rattle.smp_call_steps.specs.Names.{Call}
 
 push_one : (b : Bool) (x : Call) (rest ys : List Call) → (if b then x ∷ (rest ++ ys) else rest ++ ys) ≡ (if b then x ∷ rest else rest) ++ ys
 push_one true x rest ys = refl

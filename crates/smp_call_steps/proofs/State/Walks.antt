@@ -3,16 +3,12 @@ use Rattle.std.proofs.Common.{◌≡◌, ◌≢◌, ℕ, ◌+◌, ◌-◌, false
 use Rattle.std.proofs.Common.{append_assoc}
 use Rattle.std.proofs.lemmas.List.{append-nil}
 use Rattle.std.specs.List.{AllByRecursion}
-use Rattle.smp_call_steps.specs.Order.{if_sync, if_async, sync_calls, async_calls, order}
-use Rattle.smp_call_steps.specs.Calls.{Running, Nothing}
-use Rattle.smp_call_steps.specs.Drains.{DrainValue, link_to, record_at, second_on, first_on, reverse_on}
-use Rattle.smp_call_steps.specs.Places.{IsAbsent, IsApart}
-use Rattle.smp_call_steps.specs.Words.{Leads, Path}
-use Rattle.smp_call_steps.specs.Stands.{Share, IsAsync, Reverses, EndsAt, Walks, Ends, HandleStands, HandIs}
+use Rattle.smp_call_steps.specs.{if_sync, if_async, sync_calls, async_calls, order, Running, Nothing, DrainValue, link_to, record_at, second_on, first_on}
+use Rattle.smp_call_steps.specs.{reverse_on, IsAbsent, IsApart, Leads, Path, Share, IsAsync, Reverses, EndsAt, Walks, Ends, HandleStands, HandIs, Call, Class}
+use Rattle.smp_call_steps.specs.{Sync, Async, Walk, Handle}
 use Rattle.smp_words.proofs.Puts.{at_test}
 use Rattle.smp_call_steps.proofs.Basics.Alls.{every_left, every_right, every_append, every_class, every_last}
 use Rattle.smp_call_steps.proofs.State.Batches.{HasNewest, has_newest, no_chain}
-use Rattle.smp_call_steps.specs.Names.{Call, Class, Sync, Async, Walk, Handle}
 
 -- the record to which a link leads is linked by it
 pub link_back : (n : ℕ) → link_to (record_at n) ≡ n

@@ -3,12 +3,9 @@ use Rattle.std.proofs.Common.{◌≡◌, ◌≢◌, ℕ, zero, suc, ◌+◌, ◌
 use Rattle.std.proofs.lemmas.Bool.{cases_lt, ne_eqb}
 use Rattle.smp_words.specs.Size.{cpus}
 use Rattle.smp_words.specs.Layout.{number_in}
-use Rattle.smp_call_steps.specs.Names.{RecPlace, Flags, Head}
-use Rattle.smp_call_steps.specs.Names.place
-use Rattle.smp_call_steps.specs.Batches.{has_record, running_of}
-use Rattle.smp_call_steps.specs.Stages.{ControlValue}
-use Rattle.smp_call_steps.specs.Value.{control_of}
-use Rattle.smp_call_steps.specs.Whereabouts.{is_left, leads_through, or_held, or_place, place_at, place_below, place_in}
+use Rattle.smp_call_steps.specs.{RecPlace, Flags, Head, has_record, running_of, ControlValue, control_of, is_left, leads_through, or_held, or_place, place_at}
+use Rattle.smp_call_steps.specs.{place_below, place_in}
+use Rattle.smp_call_steps.specs.place
 
 module _ (words : List ℕ) (controls : List ControlValue) (id : ℕ) where
   abbrev at_cpu : ℕ → Option RecPlace

@@ -1,29 +1,22 @@
 -- What each step does of the functions that calls run, and what it says of them.
-use Rattle.std.proofs.Common.{◌≡◌, ℕ, ◌+◌, ◌-◌, ◌%◌, ◌==◌, nat_lt, Bool, true, false, cond, inl, inr, Option, Some, None, List, ◌∷◌, sym, subst}
-use Rattle.std.proofs.Common.{refl, ap, ◌∙◌, arith}
+use Rattle.std.proofs.Common.{◌≡◌, ℕ, ◌+◌, ◌%◌, ◌==◌, nat_lt, Bool, true, false, cond, inl, inr, Option, Some, None, List, ◌∷◌, sym, subst, refl}
+use Rattle.std.proofs.Common.{arith}
 use Rattle.std.proofs.lemmas.Bool.{lt-ltb}
 use Rattle.smp_words.specs.Flags.{flags_of}
 use Rattle.smp_words.specs.Put.{put}
 use Rattle.smp_words.specs.Size.{owner}
 use Rattle.smp_words.proofs.Puts.{put_same}
-use Rattle.smp_call_steps.specs.Calls.{CallState, Holding, Running, Nothing, confirms, appended, begins_sync, begins_async}
-use Rattle.smp_call_steps.specs.Calls.{counts, unlocks, releases, links, flags_told, head_told, tells}
-use Rattle.smp_call_steps.specs.Drains.{link_to}
-use Rattle.smp_call_steps.specs.Functions.{runs_as, ends_as, place_as, told_of, is_call, BeginsIt, FunctionGoes}
-use Rattle.smp_call_steps.specs.Posts.{ends, goes_to}
+use Rattle.smp_call_steps.specs.{CallState, Holding, Running, Nothing, confirms, appended, begins_sync, begins_async, unlocks, releases, links}
+use Rattle.smp_call_steps.specs.{flags_told, head_told, tells, link_to, runs_as, place_as, told_of, is_call, BeginsIt, FunctionGoes, ends, goes_to}
+use Rattle.smp_call_steps.specs.{ControlValue, seen_then, Call, Class, Sync, Async, Word, Intr, Flags, Note, Outcome, Posting, PostStage}
+use Rattle.smp_call_steps.specs.{HandleStage, Stage, Send, Done, Post, Handle}
 use Rattle.smp_call_steps.specs.Shows.{Shows}
-use Rattle.smp_call_steps.specs.Stages.{ControlValue}
-use Rattle.smp_call_steps.specs.StepLaws.{seen_then}
-use Rattle.smp_call_steps.specs.Stands.{held_of}
-use Rattle.smp_call_steps.specs.Names.{Call, Class, Sync, Async, Word, Head, Intr, Flags, Note, Outcome, Posting, PostStage, HandleStage, Stage}
-use Rattle.smp_call_steps.specs.Names.{Send, Done, Post, Handle}
-use Rattle.smp_call_steps.specs.Names.act
-use Rattle.smp_call_steps.specs.Names.note
-use Rattle.smp_call_steps.specs.Names.place
-use Rattle.smp_call_steps.specs.Names.post
-use Rattle.smp_call_steps.specs.Names.handle
 use Rattle.smp_call_steps.proofs.State.Walks.{walks_sync, ends_async as async_next}
 use Rattle.smp_call_steps.proofs.Steps.Turns.{stands_at, holds_nothing}
+use Rattle.smp_call_steps.specs.act
+use Rattle.smp_call_steps.specs.note
+use Rattle.smp_call_steps.specs.post
+use Rattle.smp_call_steps.specs.handle
 
 -- what tells nothing of functions
 

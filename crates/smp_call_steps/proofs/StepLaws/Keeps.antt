@@ -2,12 +2,8 @@
 use Rattle.std.proofs.Common.{◌≡◌, ℕ, Some, subst, ap}
 use Rattle.smp_words.specs.Put.{put}
 use Rattle.smp_words.proofs.Puts.{put_same}
-use Rattle.smp_call_steps.specs.Calls.{CallState}
-use Rattle.smp_call_steps.specs.Drains.{DrainValue}
+use Rattle.smp_call_steps.specs.{CallState, DrainValue, ControlValue, KeepsStepLaws, StepsKeepLaws, KnownStepsKeepLaws, Word}
 use Rattle.smp_call_steps.specs.Shows.{Shows}
-use Rattle.smp_call_steps.specs.Stages.{ControlValue}
-use Rattle.smp_call_steps.specs.StepLaws.{KeepsStepLaws, StepsKeepLaws, KnownStepsKeepLaws}
-use Rattle.smp_call_steps.specs.Names.{Word}
 use Rattle.smp_call_steps.proofs.Knows.Restages.{restages}
 use Rattle.smp_call_steps.proofs.StepLaws.Functions.{function_goes}
 use Rattle.smp_call_steps.proofs.StepLaws.Notes.{queue_goes, says_so}

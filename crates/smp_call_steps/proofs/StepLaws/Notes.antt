@@ -1,29 +1,21 @@
 -- What each step queues, and that its note says what holds.
-use Rattle.std.proofs.Common.{arith}
-use Rattle.std.proofs.Common.{◌≡◌, ◌≢◌, ℕ, ◌+◌, ◌-◌, ◌%◌, ◌==◌, nat_lt, Bool, true, false, cond, inl, inr, Option, Some, None, List, [], ◌∷◌}
-use Rattle.std.proofs.Common.{sym, subst, refl, ap, ◌∙◌, eqb-true}
+use Rattle.std.proofs.Common.{arith, ◌≡◌, ◌≢◌, ℕ, ◌+◌, ◌%◌, ◌==◌, nat_lt, Bool, true, false, cond, inl, Option, Some, None, List, [], ◌∷◌, sym}
+use Rattle.std.proofs.Common.{refl, ap, ◌∙◌, eqb-true}
 use Rattle.smp_words.specs.Flags.{flags_of}
 use Rattle.smp_words.proofs.Puts.{put_same, test_here}
-use Rattle.smp_call_steps.specs.Calls.{CallState, Holding, Running, Nothing, is_nil, confirms, accepts, appended, begins_sync, begins_async}
-use Rattle.smp_call_steps.specs.Calls.{counts, unlocks, releases, links, flags_told, head_told, tells}
-use Rattle.smp_call_steps.specs.Drains.{link_to}
-use Rattle.smp_call_steps.specs.Notes.{is_queued, queued_note, QueueGoes, SaidMeans}
-use Rattle.smp_call_steps.specs.Posts.{ends, goes_to}
+use Rattle.smp_call_steps.specs.{CallState, Holding, Running, Nothing, confirms, accepts, begins_sync, begins_async, counts, unlocks}
+use Rattle.smp_call_steps.specs.{releases, links, flags_told, head_told, tells, link_to, is_queued, queued_note, QueueGoes, SaidMeans, ends, goes_to}
+use Rattle.smp_call_steps.specs.{ControlValue, holding, seen_then, FlagsShow, Call, Class, Sync, Async, Word, Head, Intr, Flags, RecPlace}
+use Rattle.smp_call_steps.specs.{Outcome, Posting, PostStage, HandleStage, Stage, Send, Done, Post, Handle}
 use Rattle.smp_call_steps.specs.Shows.{Shows}
-use Rattle.smp_call_steps.specs.Stages.{ControlValue}
-use Rattle.smp_call_steps.specs.Stands.{held_of, holding}
-use Rattle.smp_call_steps.specs.StepLaws.{seen_then}
-use Rattle.smp_call_steps.specs.Words.{FlagsShow, nexts_in}
-use Rattle.smp_call_steps.specs.Names.{Call, Class, Sync, Async, Word, Head, Intr, Flags, RecPlace, Outcome, Posting, PostStage, HandleStage, Stage}
-use Rattle.smp_call_steps.specs.Names.{Send, Done, Post, Handle}
-use Rattle.smp_call_steps.specs.Names.act
-use Rattle.smp_call_steps.specs.Names.note
-use Rattle.smp_call_steps.specs.Names.place
-use Rattle.smp_call_steps.specs.Names.post
-use Rattle.smp_call_steps.specs.Names.handle
 use Rattle.smp_call_steps.proofs.Knows.Parts.{first_link}
 use Rattle.smp_call_steps.proofs.StepLaws.Premises.{rests}
 use Rattle.smp_call_steps.proofs.Steps.Turns.{stands_at}
+use Rattle.smp_call_steps.specs.act
+use Rattle.smp_call_steps.specs.note
+use Rattle.smp_call_steps.specs.place
+use Rattle.smp_call_steps.specs.post
+use Rattle.smp_call_steps.specs.handle
 
 -- what queues nothing
 

@@ -1,22 +1,17 @@
 -- Who may make which step: what holds of the calls before it.
-use Rattle.std.proofs.Common.{◌≡◌, ℕ, ◌+◌, ◌==◌, Bool, true, false, cond, inl, inr, Option, Some, None, List, [], ◌∷◌, sym, subst, refl, ap, ◌∙◌, arith}
+use Rattle.std.proofs.Common.{◌≡◌, ℕ, ◌+◌, Bool, true, false, cond, inl, inr, Option, Some, None, List, [], ◌∷◌, sym, subst, refl, ap, ◌∙◌, arith}
 use Rattle.smp_words.specs.Access.{word_of, seen_of}
 use Rattle.smp_words.specs.Flags.{flags_of}
-use Rattle.smp_call_steps.specs.Calls.{CallState, Holding, Running, Nothing}
-use Rattle.smp_call_steps.specs.Functions.{runs_as}
-use Rattle.smp_call_steps.specs.Places.{Holds, IsPlaced}
-use Rattle.smp_call_steps.specs.Premises.{HoldsUncounted, HoldsFor, HandlesNothing, MayCount, LeadsTo, MayLock, MayStoreFlags, MaySee}
+use Rattle.smp_call_steps.specs.{CallState, Holding, Running, Nothing, runs_as, Holds, IsPlaced, HoldsUncounted, HoldsFor, HandlesNothing, MayCount, LeadsTo}
+use Rattle.smp_call_steps.specs.{MayLock, MayStoreFlags, MaySee, ControlValue, access_of, Rests, StandsAt, share_of, held_of, Reverses, Walks, Ends}
+use Rattle.smp_call_steps.specs.{nexts_in, Call, Class, Sync, Async, Word, Posting, PostStage, Walk, HandleStage, Stage, Send, Done, Post, Handle}
 use Rattle.smp_call_steps.specs.Shows.{Shows}
-use Rattle.smp_call_steps.specs.Stages.{ControlValue, access_of}
-use Rattle.smp_call_steps.specs.Stands.{Rests, StandsAt, share_of, holding, held_of, Reverses, Walks, Ends}
-use Rattle.smp_call_steps.specs.Words.{nexts_in}
-use Rattle.smp_call_steps.specs.Names.{Call, Class, Sync, Async, Word, Head, Posting, PostStage, Walk, HandleStage, Stage, Send, Done, Post, Handle}
-use Rattle.smp_call_steps.specs.Names.place
-use Rattle.smp_call_steps.specs.Names.post
-use Rattle.smp_call_steps.specs.Names.handle
 use Rattle.smp_call_steps.proofs.Basics.Alls.{every_right}
 use Rattle.smp_call_steps.proofs.State.Walks.{reverses_all, walks_rest, walks_last, walks_sync, ends_rest, ends_async, same_record}
 use Rattle.smp_call_steps.proofs.Steps.Turns.{stands_at}
+use Rattle.smp_call_steps.specs.place
+use Rattle.smp_call_steps.specs.post
+use Rattle.smp_call_steps.specs.handle
 
 module _ (a : CallState) (at : Word → ℕ) (control : ℕ → ControlValue) (s : Shows a at control) (me : ℕ) where
   abbrev pub Premise : Stage → Type 0

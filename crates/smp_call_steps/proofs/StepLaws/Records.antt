@@ -1,20 +1,16 @@
 -- Which CPU may change the words of a record.
-use Rattle.std.proofs.Common.{arith}
-use Rattle.std.proofs.Common.{◌≡◌, ℕ, zero, suc, Bool, true, false, ◌==◌, cond, ◌⊎◌, inl, inr, Option, Some, None, List, [], ◌∷◌, sym, subst, refl}
+use Rattle.std.proofs.Common.{arith, ◌≡◌, ℕ, zero, suc, Bool, true, false, ◌==◌, cond, ◌⊎◌, inl, inr, Option, Some, None, sym, subst, refl}
 use Rattle.smp_words.specs.Access.{act_of, word_of, found_by, put_by, put_if, at_after}
 use Rattle.smp_words.specs.Put.{put_word}
 use Rattle.smp_words.proofs.Puts.{at_test}
-use Rattle.smp_call_steps.specs.Calls.{CallState, Holding, Running}
-use Rattle.smp_call_steps.specs.Places.{Holds, AllPlaced, locked_by}
-use Rattle.smp_call_steps.specs.Premises.{HoldsUncounted, MayStoreFlags, MaySee, IsWordOf, MayStoreAt}
+use Rattle.smp_call_steps.specs.{CallState, Holding, Holds, HoldsUncounted, MayStoreFlags, MaySee, IsWordOf, MayStoreAt}
+use Rattle.smp_call_steps.specs.{ControlValue, access_of, KeepsRecords, Word, Head, Intr, Flags, Func, Info, Next, Access, Load, Store, Swap, Exchange}
+use Rattle.smp_call_steps.specs.{RecPlace, Stage}
 use Rattle.smp_call_steps.specs.Shows.{Shows}
-use Rattle.smp_call_steps.specs.Stages.{ControlValue, access_of}
-use Rattle.smp_call_steps.specs.StepLaws.{KeepsRecords}
-use Rattle.smp_call_steps.specs.Names.{Call, Word, Head, Intr, Flags, Func, Info, Next, Access, Load, Store, Swap, Exchange, RecPlace, Stage}
-use Rattle.smp_call_steps.specs.Names.act
-use Rattle.smp_call_steps.specs.Names.place
 use Rattle.smp_call_steps.proofs.State.Counts.{held_place}
 use Rattle.smp_call_steps.proofs.StepLaws.Premises.{may_see}
+use Rattle.smp_call_steps.specs.act
+use Rattle.smp_call_steps.specs.place
 
 module _ (a : CallState) (at : Word → ℕ) (control : ℕ → ControlValue) (s : Shows a at control) (me : ℕ) where
   abbrev May : ℕ → Type 0

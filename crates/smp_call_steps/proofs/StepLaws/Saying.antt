@@ -1,13 +1,11 @@
 -- The function calls that steps say are those of the calls that begin.
-use Rattle.std.proofs.Common.{arith}
-use Rattle.std.proofs.Common.{◌≡◌, ℕ, ◌==◌, Bool, true, false, cond, inl, inr, Option, Some, None, List, [], ◌∷◌, ◌++◌, sym, refl, ap, ◌∙◌, append_assoc}
+use Rattle.std.proofs.Common.{arith, ◌≡◌, ℕ, ◌==◌, Bool, true, false, cond, inl, inr, Option, Some, None, List, [], ◌∷◌, ◌++◌, sym, refl, ap, ◌∙◌}
+use Rattle.std.proofs.Common.{append_assoc}
 use Rattle.std.proofs.lemmas.List.{append-nil}
 use Rattle.smp_words.proofs.Puts.{at_test}
-use Rattle.smp_call_steps.specs.Calls.{CallState, Running, Nothing, CountedCall}
-use Rattle.smp_call_steps.specs.Functions.{runs_as, ends_as, Told, told_of, is_call, FunctionGoes, begun_in, Said, all_said, call_in, said_by, SaysWhatBegins}
-use Rattle.smp_call_steps.specs.Histories.{running_call}
-use Rattle.smp_call_steps.specs.Names.{Call, Class, Sync, Async, Note, Seen}
-use Rattle.smp_call_steps.specs.Names.note
+use Rattle.smp_call_steps.specs.{CallState, Running, Nothing, runs_as, ends_as, Told, told_of, is_call, FunctionGoes, begun_in, Said, all_said}
+use Rattle.smp_call_steps.specs.{call_in, said_by, SaysWhatBegins, running_call, Call, Class, Sync, Async, Note, Seen}
+use Rattle.smp_call_steps.specs.note
 
 all_said-append : (xs ys : List Call) → all_said (xs ++ ys) ≡ all_said xs ++ all_said ys
 all_said-append [] ys = refl

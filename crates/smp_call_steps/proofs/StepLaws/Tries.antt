@@ -1,21 +1,13 @@
 -- What a CPU does with what it finds in a head, until its call is queued.
-use Rattle.std.proofs.Common.{arith}
-use Rattle.std.proofs.Common.{◌≡◌, ℕ, ◌+◌, ◌-◌, ◌==◌, nat_lt, Bool, true, false, cond, inl, inr, Option, Some, None, sym, subst, refl, ap, ◌∙◌}
+use Rattle.std.proofs.Common.{arith, ◌≡◌, ℕ, ◌+◌, ◌-◌, nat_lt, Bool, true, false, cond, Some, None}
 use Rattle.smp_words.specs.Access.{word_of}
-use Rattle.smp_call_steps.specs.Calls.{CallState, Holding}
-use Rattle.smp_call_steps.specs.Drains.{link_to}
-use Rattle.smp_call_steps.specs.Posts.{ends, goes_to}
+use Rattle.smp_call_steps.specs.{CallState, ends, goes_to, ControlValue, access_of, outcome_of, seen_then}
+use Rattle.smp_call_steps.specs.{GoesOnWith, Word, Head, Note, Posting, PostStage, HandleStage, Stage, Send, Done, Post, Handle}
 use Rattle.smp_call_steps.specs.Shows.{Shows}
-use Rattle.smp_call_steps.specs.Stages.{ControlValue, access_of, outcome_of}
-use Rattle.smp_call_steps.specs.Stands.{held_of}
-use Rattle.smp_call_steps.specs.StepLaws.{seen_then}
-use Rattle.smp_call_steps.specs.Tries.{LinksTo, Exchanges, GoesOnWith}
-use Rattle.smp_call_steps.specs.Names.{Word, Head, Note, Posting, PostStage, HandleStage, Stage, Send, Done, Post, Handle}
-use Rattle.smp_call_steps.specs.Names.act
-use Rattle.smp_call_steps.specs.Names.note
-use Rattle.smp_call_steps.specs.Names.post
-use Rattle.smp_call_steps.specs.Names.handle
 use Rattle.smp_call_steps.proofs.Steps.Turns.{holds_nothing}
+use Rattle.smp_call_steps.specs.act
+use Rattle.smp_call_steps.specs.post
+use Rattle.smp_call_steps.specs.handle
 
 -- the stage that follows is the one that is named
 some_same : (x y : Stage) → Some x ≡ Some y → x ≡ y

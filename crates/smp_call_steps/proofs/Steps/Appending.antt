@@ -7,20 +7,17 @@ use Rattle.std.specs.List.{AllByRecursion}
 use Rattle.smp_call_steps.proofs.State.Batches.{has_left, has_right}
 use Rattle.smp_words.specs.Put.{put, put_word}
 use Rattle.smp_words.specs.Size.{owner}
-use Rattle.smp_call_steps.specs.Calls.{CallState, Holding, Sending, appended, is_nil}
-use Rattle.smp_call_steps.specs.Stages.{ControlValue}
-use Rattle.smp_call_steps.specs.Places.{Placed, IsPlaced, IsCall, IsThere, Holds, HasRecord, IsApart, locked_by, AllPlaced}
-use Rattle.smp_call_steps.specs.Words.{FlagsShow, Chained, Leads, Linked, LinkIs, Noticed, IsNoticed, is_pending, is_accepted, is_owed}
-use Rattle.smp_call_steps.specs.Words.{IsEmpty, nexts_in, heads_in, intrs_in, queued_in, ran_in, IsWrittenIn, WrittenIn}
-use Rattle.smp_call_steps.specs.Histories.{Recorded, Tallied, Marked, mark, sent_to, marked_from, history_of, one_held}
-use Rattle.smp_call_steps.specs.Stands.{Stands, share_of, held_of, HandIs}
+use Rattle.smp_call_steps.specs.{CallState, Holding, Sending, appended, is_nil, ControlValue, Placed, IsCall, IsThere, Holds, IsApart}
+use Rattle.smp_call_steps.specs.{locked_by, AllPlaced, Chained, Leads, Linked, Noticed, IsNoticed, is_pending, is_accepted, is_owed}
+use Rattle.smp_call_steps.specs.{IsEmpty, nexts_in, heads_in, intrs_in, queued_in, ran_in, IsWrittenIn, WrittenIn, Recorded, Tallied, mark, sent_to}
+use Rattle.smp_call_steps.specs.{marked_from, history_of, one_held, share_of, held_of, HandIs, Call, Word, Head, Hand, Queued, Next, RecPlace}
+use Rattle.smp_call_steps.specs.Stands.{Stands}
 use Rattle.smp_call_steps.specs.Shows.{Shows}
 use Rattle.smp_words.proofs.Puts.{at_test, put_all, put_other, put_same}
 use Rattle.smp_call_steps.proofs.Basics.Alls.{every, every_push}
 use Rattle.smp_call_steps.proofs.Steps.Frames.{Touches, leaves_others, Stands-kept}
 use Rattle.smp_call_steps.proofs.Basics.Lists.{sent_to-push, marked_from-push, history-push, one_if-same, one_if-other}
-use Rattle.smp_call_steps.specs.Names.{Call, Word, Head, Hand, Queued, Flags, Next, RecPlace}
-use Rattle.smp_call_steps.specs.Names.place
+use Rattle.smp_call_steps.specs.place
 
 -- one more, above what the head was
 pub Leads-push : (nexts : ℕ → ℕ) (link : ℕ) (calls : List Call) (below : ℕ) (new : Call) → nexts new.id ≡ link → Leads nexts link calls below

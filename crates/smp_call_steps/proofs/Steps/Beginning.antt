@@ -1,18 +1,15 @@
 -- The steps of handle that begin a call: the front of the batch runs, and its record stays locked or is free.
-use Rattle.std.proofs.Common.{◌≡◌, ◌≢◌, ℕ, ◌+◌, nat_lt, inl, inr, Bool, true, cond, if◌then◌else◌, Option, Some, None, List, [], ◌∷◌, ◌++◌, sym, subst, refl}
+use Rattle.std.proofs.Common.{◌≡◌, ◌≢◌, ℕ, ◌+◌, nat_lt, inl, inr, true, cond, Option, Some, None, List, [], ◌∷◌, ◌++◌, sym, subst, refl}
 use Rattle.std.proofs.Common.{ap, ◌∙◌, arith, append_assoc}
 use Rattle.std.proofs.lemmas.Bool.{lt-ltb}
 use Rattle.std.proofs.lemmas.List.{append-nil}
 use Rattle.std.specs.List.{AllByRecursion}
 use Rattle.smp_words.specs.Put.{put, put_word}
-use Rattle.smp_call_steps.specs.Calls.{CallState, Holding, Running, Nothing, SyncCall, AsyncCall, begins_sync, begins_async, releases, unlocks}
-use Rattle.smp_call_steps.specs.Order.{sync_calls, async_calls}
-use Rattle.smp_call_steps.specs.Drains.{DrainValue}
-use Rattle.smp_call_steps.specs.Stages.{ControlValue}
-use Rattle.smp_call_steps.specs.Places.{IsApart, HasRecord, IsThere, Placed, locked_by, AllPlaced}
-use Rattle.smp_call_steps.specs.Words.{FlagsShow, IsWritten, Written, last_batch, flags_in, funcs_in, infos_in, queued_in, ran_in, IsWrittenIn}
-use Rattle.smp_call_steps.specs.Histories.{orders, running_call, counted_call, Recorded, Tallied}
-use Rattle.smp_call_steps.specs.Stands.{share_of, Stands, HandIs}
+use Rattle.smp_call_steps.specs.{CallState, Running, Nothing, SyncCall, AsyncCall, begins_sync, begins_async, sync_calls}
+use Rattle.smp_call_steps.specs.{async_calls, DrainValue, ControlValue, IsApart, HasRecord, IsThere, Placed, locked_by, AllPlaced, FlagsShow, IsWritten}
+use Rattle.smp_call_steps.specs.{Written, last_batch, flags_in, funcs_in, infos_in, queued_in, ran_in, IsWrittenIn, orders, running_call, counted_call}
+use Rattle.smp_call_steps.specs.{Recorded, Tallied, share_of, HandIs, Call, Word, Hand, Flags, RecPlace, Walk, Handle}
+use Rattle.smp_call_steps.specs.Stands.{Stands}
 use Rattle.smp_call_steps.specs.Shows.{Shows}
 use Rattle.smp_words.proofs.Puts.{at_test, test_here, test_else}
 use Rattle.smp_call_steps.proofs.Steps.Frames.{Minds, Touches, leaves_others}
@@ -22,9 +19,8 @@ use Rattle.smp_call_steps.proofs.Steps.Moving.{Batch≢Batch, Running≢Batch, Q
 use Rattle.smp_call_steps.proofs.Steps.Moving.{all_written_still, all_written_apart, written_moved}
 use Rattle.smp_call_steps.proofs.State.Tallies.{tallied_same}
 use Rattle.smp_call_steps.proofs.Steps.StepShows.{StepShows}
-use Rattle.smp_call_steps.specs.Names.{Call, Word, Hand, Flags, RecPlace, Walk, Handle}
-use Rattle.smp_call_steps.specs.Names.place
-use Rattle.smp_call_steps.specs.Names.handle
+use Rattle.smp_call_steps.specs.place
+use Rattle.smp_call_steps.specs.handle
 
 -- of a batch, the records but the front one
 has_rest : (u : ℕ) (call : Call) (rest : List Call) → u ≢ call.id → HasRecord u (call ∷ rest) → HasRecord u rest

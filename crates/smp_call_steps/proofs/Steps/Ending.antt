@@ -4,25 +4,22 @@ use Rattle.std.proofs.lemmas.List.{append-nil}
 use Rattle.std.specs.List.{AllByRecursion}
 use Rattle.smp_words.specs.Size.{owner}
 use Rattle.smp_words.specs.Put.{put, put_word}
-use Rattle.smp_call_steps.specs.Calls.{CallState, Holding, Running, Nothing, CountedCall, counts, ends_sync, ends_async, releases, unlocks}
-use Rattle.smp_call_steps.specs.Drains.{DrainValue, second_on, first_on}
-use Rattle.smp_call_steps.specs.Stages.{ControlValue}
-use Rattle.smp_call_steps.specs.Places.{HasRecord, IsThere, Placed, locked_by, AllPlaced}
-use Rattle.smp_call_steps.specs.Words.{IsWritten, Written, last_batch, flags_in, funcs_in, infos_in, nexts_in, queued_in, ran_in, IsWrittenIn}
-use Rattle.smp_call_steps.specs.Histories.{orders, running_call, counted_call, Recorded, Tallied}
-use Rattle.smp_call_steps.specs.Stands.{Share, share_of, Stands, HandIs, held_of}
+use Rattle.smp_call_steps.specs.{CallState, Holding, Running, Nothing, CountedCall, counts, ends_sync, ends_async, DrainValue, second_on}
+use Rattle.smp_call_steps.specs.{first_on, ControlValue, HasRecord, IsThere, Placed, locked_by, AllPlaced, IsWritten, Written, last_batch, flags_in, funcs_in}
+use Rattle.smp_call_steps.specs.{infos_in, nexts_in, queued_in, ran_in, IsWrittenIn, orders, running_call, counted_call, Recorded, Tallied, Share, share_of}
+use Rattle.smp_call_steps.specs.{HandIs, held_of, Call, Word, Hand, Ran, Flags, RecPlace, Walk, Handle}
+use Rattle.smp_call_steps.specs.Stands.{Stands}
 use Rattle.smp_call_steps.specs.Shows.{Shows}
 use Rattle.smp_words.proofs.Puts.{at_test, test_here, test_else}
 use Rattle.smp_call_steps.proofs.Steps.Frames.{Minds, leaves_others, leaves_all}
 use Rattle.smp_call_steps.proofs.Steps.Turns.{holds_nothing, stands_at, hand_at, held_after, stands_after, hands_after}
-use Rattle.smp_call_steps.proofs.Steps.Moving.{Running≢Running, Batch≢Running, Queued≢Running, Running≢Free, all_placed_still, placed_moved, all_written_still}
-use Rattle.smp_call_steps.proofs.Steps.Moving.{written_moved}
+use Rattle.smp_call_steps.proofs.Steps.Moving.{Running≢Running, Batch≢Running, Queued≢Running, Running≢Free, all_placed_still, placed_moved}
+use Rattle.smp_call_steps.proofs.Steps.Moving.{all_written_still, written_moved}
 use Rattle.smp_call_steps.proofs.State.Walks.{walks_stay, ends_stay, second_goes, first_goes, hand_of_second, hand_of_first}
 use Rattle.smp_call_steps.proofs.State.Tallies.{tallied_more, tallied_same}
 use Rattle.smp_call_steps.proofs.Steps.StepShows.{StepShows}
-use Rattle.smp_call_steps.specs.Names.{Call, Word, Hand, Ran, Flags, RecPlace, Walk, Handle}
-use Rattle.smp_call_steps.specs.Names.place
-use Rattle.smp_call_steps.specs.Names.handle
+use Rattle.smp_call_steps.specs.place
+use Rattle.smp_call_steps.specs.handle
 
 more_than_zero : (hand id : ℕ) → hand ≡ id + 2 → hand ≢ 0
 more_than_zero hand id e f = omega arith

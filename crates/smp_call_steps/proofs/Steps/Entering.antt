@@ -1,21 +1,17 @@
 -- The steps of handle before it takes a queue and after it has run it: enter, accept and leave.
-use Rattle.std.proofs.Common.{◌≡◌, ◌≢◌, ℕ, ◌<◌, inl, inr, Bool, true, false, ◌==◌, cond, if◌then◌else◌, Some, None, sym, subst, refl, ap, ◌∙◌, arith}
+use Rattle.std.proofs.Common.{◌≡◌, ◌≢◌, ℕ, ◌<◌, inl, inr, Bool, true, false, ◌==◌, cond, if◌then◌else◌, Some, None, sym, refl, ◌∙◌, arith}
 use Rattle.std.proofs.lemmas.Bool.{eqb-true, eqb-false}
 use Rattle.smp_words.specs.Size.{cpus}
 use Rattle.smp_words.specs.Put.{put, put_word}
-use Rattle.smp_call_steps.specs.Calls.{CallState, accepts}
-use Rattle.smp_call_steps.specs.Drains.{handle_goes}
-use Rattle.smp_call_steps.specs.Stages.{ControlValue}
-use Rattle.smp_call_steps.specs.Words.{bit, IsNoticed, is_pending, is_accepted, is_owed, Noticed, nexts_in, intrs_in, hands_in}
-use Rattle.smp_call_steps.specs.Words.{last_batch}
-use Rattle.smp_call_steps.specs.Stands.{share_of, Stands, HandleStands, HandIs, held_of}
+use Rattle.smp_call_steps.specs.{CallState, accepts, handle_goes, ControlValue, bit, IsNoticed, is_pending, is_accepted, is_owed, Noticed, nexts_in, intrs_in}
+use Rattle.smp_call_steps.specs.{hands_in, last_batch, share_of, HandleStands, HandIs, held_of, Word, Intr, Hand, Handle}
+use Rattle.smp_call_steps.specs.Stands.{Stands}
 use Rattle.smp_call_steps.specs.Shows.{Shows}
 use Rattle.smp_words.proofs.Puts.{at_test, test_here, test_else}
 use Rattle.smp_call_steps.proofs.Steps.Frames.{leaves_all}
 use Rattle.smp_call_steps.proofs.Steps.Turns.{holds_nothing, stands_at, hand_at, held_after, stands_after, hands_after, hands_stored}
 use Rattle.smp_call_steps.proofs.Steps.StepShows.{StepShows}
-use Rattle.smp_call_steps.specs.Names.{Word, Intr, Hand, Handle}
-use Rattle.smp_call_steps.specs.Names.handle
+use Rattle.smp_call_steps.specs.handle
 
 one≢zero : ◌≢◌ {A = ℕ} 1 0
 one≢zero e = omega arith

@@ -1,12 +1,10 @@
 -- Each step of a CPU keeps what the words show of the calls, and what was seen of it tells the calls after it.
 use Rattle.std.proofs.Common.{◌≡◌, ℕ, Some}
-use Rattle.smp_call_steps.specs.Calls.{CallState}
-use Rattle.smp_call_steps.specs.Stages.{ControlValue}
+use Rattle.smp_call_steps.specs.{CallState, ControlValue, Word, Stage, Send, Done, Post, Handle}
 use Rattle.smp_call_steps.specs.Shows.{Shows}
 use Rattle.smp_call_steps.proofs.Steps.StepShows.{StepShows}
 use Rattle.smp_call_steps.proofs.Steps.Posting.{post_step, send_step, done_step}
 use Rattle.smp_call_steps.proofs.Steps.Handles.{handle_step}
-use Rattle.smp_call_steps.specs.Names.{Word, Stage, Send, Done, Post, Handle}
 
 -- any step of any CPU
 pub step_shown : (a : CallState) (at : Word → ℕ) (control : ℕ → ControlValue) (me : ℕ) → Shows a at control → (st : Stage) → (control me).stage ≡ Some st

@@ -1,21 +1,16 @@
 -- What a step leaves to another CPU: a CPU stands where it stood.
-use Rattle.std.proofs.Common.{arith}
-use Rattle.std.proofs.Common.{◌≡◌, ◌≢◌, ℕ, ◌+◌, Option, Some, List, [], ◌∷◌, sym, subst, refl, ◌∙◌}
+use Rattle.std.proofs.Common.{arith, ◌≡◌, ◌≢◌, ℕ, ◌+◌, Option, Some, List, [], ◌∷◌, sym, subst, refl, ◌∙◌}
 use Rattle.std.specs.List.{AllByRecursion}
 use Rattle.smp_words.specs.Size.{owner}
-use Rattle.smp_call_steps.specs.Drains.{DrainValue, link_to}
-use Rattle.smp_call_steps.specs.Order.{async_calls}
-use Rattle.smp_call_steps.specs.Calls.{Running, Nothing, SyncCall, CountedCall, AsyncCall}
-use Rattle.smp_call_steps.specs.Stages.{ControlValue}
-use Rattle.smp_call_steps.specs.Places.{IsPlaced, AllPlaced}
-use Rattle.smp_call_steps.specs.Words.{Leads, nexts_in, IsWrittenIn}
-use Rattle.smp_call_steps.specs.Stands.{Share, Stands, StandsAt, HandleStands, Reverses, Walks, Ends, PostKnows, posted}
+use Rattle.smp_call_steps.specs.{DrainValue, link_to, async_calls, Running, Nothing, SyncCall, CountedCall, AsyncCall, ControlValue, IsPlaced, AllPlaced}
+use Rattle.smp_call_steps.specs.{Leads, nexts_in, IsWrittenIn, Share, StandsAt, HandleStands, Reverses, Walks, Ends, PostKnows, posted, Call, Word, Flags}
+use Rattle.smp_call_steps.specs.{Func, Info, Next, RecPlace, Posting, PostStage, Walk, HandleStage, Stage, Post, Handle}
+use Rattle.smp_call_steps.specs.Stands.{Stands}
 use Rattle.smp_call_steps.proofs.Basics.Alls.{every_left, every_right}
 use Rattle.smp_call_steps.proofs.State.Walks.{Path-kept, reverses_all, walks_front, walks_passed, walks_rest, ends_front, ends_rest, same_record}
-use Rattle.smp_call_steps.specs.Names.{Call, Word, Flags, Func, Info, Next, RecPlace, Posting, PostStage, Walk, HandleStage, Stage, Post, Handle}
-use Rattle.smp_call_steps.specs.Names.place
-use Rattle.smp_call_steps.specs.Names.post
-use Rattle.smp_call_steps.specs.Names.handle
+use Rattle.smp_call_steps.specs.place
+use Rattle.smp_call_steps.specs.post
+use Rattle.smp_call_steps.specs.handle
 
 -- the CPU that alone changes a record at this place
 abbrev pub Minds : ℕ → ℕ → RecPlace → Type 0

@@ -1,7 +1,6 @@
 -- Each step of handle keeps what the words show of the calls, and what is seen of it tells the calls after it.
 use Rattle.std.proofs.Common.{◌≡◌, ℕ, Some}
-use Rattle.smp_call_steps.specs.Calls.{CallState}
-use Rattle.smp_call_steps.specs.Stages.{ControlValue}
+use Rattle.smp_call_steps.specs.{CallState, ControlValue, Word, HandleStage, Handle}
 use Rattle.smp_call_steps.specs.Shows.{Shows}
 use Rattle.smp_call_steps.proofs.Steps.StepShows.{StepShows}
 use Rattle.smp_call_steps.proofs.Steps.Entering.{enter_step, accept_step, leave_idle_step, leave_step}
@@ -11,8 +10,7 @@ use Rattle.smp_call_steps.proofs.Steps.Loading.{reverse_load_step, load_next_ste
 use Rattle.smp_call_steps.proofs.Steps.Loading.{async_func_step, async_info_step}
 use Rattle.smp_call_steps.proofs.Steps.Beginning.{begin_sync_step, begin_async_step}
 use Rattle.smp_call_steps.proofs.Steps.Ending.{count_sync_step, end_sync_step, count_async_step}
-use Rattle.smp_call_steps.specs.Names.{Word, HandleStage, Handle}
-use Rattle.smp_call_steps.specs.Names.handle
+use Rattle.smp_call_steps.specs.handle
 
 pub handle_step : (a : CallState) (at : Word → ℕ) (control : ℕ → ControlValue) (me : ℕ) → Shows a at control → (stage : HandleStage)
     → (control me).stage ≡ Some (Handle stage) → StepShows a at control me (Handle stage)

@@ -1,22 +1,19 @@
 -- The steps of handle that load a word of a record of its batch.
-use Rattle.std.proofs.Common.{arith}
-use Rattle.std.proofs.Common.{◌≡◌, ℕ, ◌+◌, ◌%◌, ◌==◌, Bool, true, if◌then◌else◌, Option, Some, None, List, [], ◌∷◌, ◌++◌, sym, subst, refl, ap, ◌∙◌}
+use Rattle.std.proofs.Common.{arith, ◌≡◌, ℕ, ◌+◌, ◌%◌, ◌==◌, Bool, true, if◌then◌else◌, Option, Some, None, List, [], ◌∷◌, ◌++◌, sym, subst, refl, ap, ◌∙◌}
 use Rattle.smp_call_steps.proofs.Basics.Alls.{class_of-flags_of}
 use Rattle.smp_words.specs.Put.{put}
 use Rattle.smp_words.specs.Flags.{flags_of, class_of}
-use Rattle.smp_call_steps.specs.Calls.{CallState, Nothing, confirms}
-use Rattle.smp_call_steps.specs.Drains.{link_to, record_at, by_class, unlink_after}
-use Rattle.smp_call_steps.specs.Stages.{ControlValue}
-use Rattle.smp_call_steps.specs.Words.{Path, flags_in, funcs_in, infos_in, nexts_in, hands_in, IsWrittenIn}
-use Rattle.smp_call_steps.specs.Stands.{share_of, Reverses, Walks, Ends, Stands, HandIs, held_of}
+use Rattle.smp_call_steps.specs.{CallState, Nothing, confirms, link_to, record_at, by_class, unlink_after, ControlValue, Path, flags_in, funcs_in, infos_in}
+use Rattle.smp_call_steps.specs.{nexts_in, hands_in, IsWrittenIn, share_of, Reverses, Walks, Ends, HandIs, held_of, Call, Class, Sync, Async, Word, Hand}
+use Rattle.smp_call_steps.specs.{Flags, Func, Info, Next, Walk, Handle}
+use Rattle.smp_call_steps.specs.Stands.{Stands}
 use Rattle.smp_call_steps.specs.Shows.{Shows}
 use Rattle.smp_call_steps.proofs.Steps.Frames.{leaves_all}
 use Rattle.smp_call_steps.proofs.Steps.Turns.{holds_nothing, stands_at, hand_at, held_after, stands_after, hands_after}
 use Rattle.smp_call_steps.proofs.State.Walks.{link_back, same_record, walks_rest, ends_rest, hand_of_first}
 use Rattle.smp_call_steps.proofs.Steps.Passing.{flags_lead, info_leads}
 use Rattle.smp_call_steps.proofs.Steps.StepShows.{StepShows}
-use Rattle.smp_call_steps.specs.Names.{Call, Class, Sync, Async, Word, Hand, Flags, Func, Info, Next, Walk, Handle}
-use Rattle.smp_call_steps.specs.Names.handle
+use Rattle.smp_call_steps.specs.handle
 
 -- the flags of a call have LOCK
 flags_locked : (class : Class) → (flags_of class % 2 == 1) ≡ true

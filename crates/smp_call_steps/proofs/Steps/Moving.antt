@@ -1,15 +1,12 @@
 -- One record goes from one place to another: the place law, the words and the links after it.
-use Rattle.std.proofs.Common.{arith}
-use Rattle.std.proofs.Common.{◌≡◌, ◌≢◌, ℕ, inl, inr, Bool, cond, Option, List, sym, subst, ap, ◌∙◌}
+use Rattle.std.proofs.Common.{arith, ◌≡◌, ◌≢◌, ℕ, Bool, cond, Option, List, sym, subst, ap, ◌∙◌}
 use Rattle.std.specs.List.{AllByRecursion}
 use Rattle.smp_words.specs.Put.{put}
-use Rattle.smp_call_steps.specs.Calls.{Holding, Running}
-use Rattle.smp_call_steps.specs.Places.{IsAbsent, IsApart, HasRecord, IsPlaced, IsThere, Placed, locked_by, AllPlaced}
-use Rattle.smp_call_steps.specs.Words.{FlagsShow, IsWritten, Written}
+use Rattle.smp_call_steps.specs.{Holding, Running, IsAbsent, IsApart, HasRecord, IsPlaced, IsThere, Placed, locked_by, AllPlaced, FlagsShow, IsWritten}
+use Rattle.smp_call_steps.specs.{Written, Call, RecPlace}
 use Rattle.smp_words.proofs.Puts.{at_test, test_else}
 use Rattle.smp_call_steps.proofs.Basics.Alls.{every, every_both}
-use Rattle.smp_call_steps.specs.Names.{Call, RecPlace}
-use Rattle.smp_call_steps.specs.Names.place
+use Rattle.smp_call_steps.specs.place
 
 -- places that are not one
 

@@ -1,24 +1,19 @@
 -- A step of a CPU on a record of its own that is in no queue and no batch.
-use Rattle.std.proofs.Common.{arith}
-use Rattle.std.proofs.Common.{◌≡◌, ◌≢◌, ℕ, cond, Option, Some, None, List, [], ◌∷◌, sym, subst, refl, ap, ◌∙◌, ◌⊎◌, inl, inr}
+use Rattle.std.proofs.Common.{arith, ◌≡◌, ◌≢◌, ℕ, cond, Option, Some, None, List, [], ◌∷◌, sym, subst, refl, ap, ◌∙◌, ◌⊎◌, inl, inr}
 use Rattle.std.proofs.lemmas.Bool.{cases_eq}
 use Rattle.std.specs.List.{AllByRecursion}
 use Rattle.smp_words.specs.Put.{put}
 use Rattle.smp_words.specs.Size.{owner}
-use Rattle.smp_call_steps.specs.Calls.{CallState, Holding}
-use Rattle.smp_call_steps.specs.Stages.{ControlValue}
-use Rattle.smp_call_steps.specs.Places.{Placed, IsPlaced, IsThere, Holds, locked_by, AllPlaced}
-use Rattle.smp_call_steps.specs.Words.{FlagsShow, Chained, Linked, LinkIs, Noticed, nexts_in, heads_in}
-use Rattle.smp_call_steps.specs.Words.{intrs_in, queued_in, ran_in, IsWrittenIn, WrittenIn}
-use Rattle.smp_call_steps.specs.Histories.{Tallied}
-use Rattle.smp_call_steps.specs.Stands.{Stands, StandsAt, share_of, held_of, held_of_post, HandIs}
+use Rattle.smp_call_steps.specs.{CallState, Holding, ControlValue, Placed, IsThere, Holds, AllPlaced, FlagsShow, Chained, Linked, LinkIs}
+use Rattle.smp_call_steps.specs.{Noticed, nexts_in, heads_in, intrs_in, queued_in, ran_in, IsWrittenIn, WrittenIn, Tallied, StandsAt, share_of, held_of}
+use Rattle.smp_call_steps.specs.{held_of_post, HandIs, Call, Word, Head, Intr, Hand, Flags, RecPlace, Posting, PostStage, Stage, Post}
+use Rattle.smp_call_steps.specs.Stands.{Stands}
 use Rattle.smp_call_steps.specs.Shows.{Shows}
 use Rattle.smp_words.proofs.Puts.{at_test, put_all}
 use Rattle.smp_call_steps.proofs.Basics.Alls.{every}
 use Rattle.smp_call_steps.proofs.Steps.Frames.{Touches, Minds, Leads-kept, leaves_others, Stands-kept}
-use Rattle.smp_call_steps.specs.Names.{Call, Word, Head, Intr, Hand, Flags, RecPlace, Posting, PostStage, Stage, Post}
-use Rattle.smp_call_steps.specs.Names.place
-use Rattle.smp_call_steps.specs.Names.post
+use Rattle.smp_call_steps.specs.place
+use Rattle.smp_call_steps.specs.post
 
 -- the record of a post that holds it
 pub post_holds : (p : Posting) (st : PostStage) (u : ℕ) → Holds (held_of_post p st) u → u ≡ p.id

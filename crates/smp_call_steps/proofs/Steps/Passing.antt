@@ -1,15 +1,10 @@
 -- The first pass leaves an ASYNC record in the chain, and takes a SYNC record out of it.
-use Rattle.std.proofs.Common.{arith}
-use Rattle.std.proofs.Common.{◌≡◌, ℕ, ◌+◌, Option, Some, None, List, [], ◌∷◌, ◌++◌, sym, subst, refl, ap, ◌∙◌, append_assoc}
+use Rattle.std.proofs.Common.{arith, ◌≡◌, ℕ, ◌+◌, Option, Some, None, List, [], ◌∷◌, ◌++◌, sym, subst, refl, ap, ◌∙◌, append_assoc}
 use Rattle.std.proofs.lemmas.List.{append-nil}
-use Rattle.smp_call_steps.specs.Order.{if_sync, if_async, sync_calls, async_calls}
-use Rattle.smp_call_steps.specs.Calls.{Nothing}
-use Rattle.smp_call_steps.specs.Drains.{DrainValue, link_to, by_class, unlink_after}
-use Rattle.smp_call_steps.specs.Words.{Path}
-use Rattle.smp_call_steps.specs.Stands.{Share, EndsAt, Walks, HandleStands}
+use Rattle.smp_call_steps.specs.{if_sync, if_async, sync_calls, async_calls, Nothing, DrainValue, link_to, by_class, unlink_after, Path, Share, EndsAt, Walks}
+use Rattle.smp_call_steps.specs.{HandleStands, Call, Class, Sync, Async, Walk}
 use Rattle.smp_call_steps.proofs.State.Batches.{sync_calls-push, async_calls-push}
 use Rattle.smp_call_steps.proofs.State.Walks.{Path-push, same_record, first_goes}
-use Rattle.smp_call_steps.specs.Names.{Call, Class, Sync, Async, Walk}
 
 passed_sync : (passed : List Call) (call : Call) → call.class ≡ Sync → async_calls (passed ++ call ∷ []) ≡ async_calls passed
 passed_sync passed call e = async_calls-push passed call ∙ (ap (λ (c : Class). async_calls passed ++ if_async c call) e ∙ append-nil (async_calls passed))

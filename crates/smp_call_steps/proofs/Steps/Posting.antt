@@ -6,15 +6,12 @@ use Rattle.smp_call_steps.proofs.Basics.Alls.{class_of-flags_of}
 use Rattle.smp_words.specs.Put.{put, put_word}
 use Rattle.smp_words.specs.Access.{put_if}
 use Rattle.smp_words.specs.Flags.{flags_of, class_of}
-use Rattle.smp_call_steps.specs.Calls.{CallState, Holding, locked, given_up, releases, links, confirms, appended, holding_with, with_func, with_info}
-use Rattle.smp_call_steps.specs.Calls.{with_count, flags_told, head_told}
-use Rattle.smp_call_steps.specs.Posts.{ends, goes_to}
-use Rattle.smp_call_steps.specs.Drains.{DrainValue}
-use Rattle.smp_call_steps.specs.Stages.{ControlValue}
-use Rattle.smp_call_steps.specs.Places.{Holds}
-use Rattle.smp_call_steps.specs.Words.{FlagsShow, LinkIs, flags_in, funcs_in, infos_in, nexts_in, queued_in, ran_in, IsWrittenIn}
-use Rattle.smp_call_steps.specs.Histories.{Tallied, sent_to, one_held}
-use Rattle.smp_call_steps.specs.Stands.{Rests, Stands, StandsAt, PostStands, PostKnows, PostGoes, posted, share_of, held_of, held_of_post, holding, HandIs}
+use Rattle.smp_call_steps.specs.{CallState, Holding, locked, given_up, releases, links, confirms, appended, holding_with, with_func, with_info, with_count}
+use Rattle.smp_call_steps.specs.{flags_told, head_told, ends, goes_to, DrainValue, ControlValue, Holds, FlagsShow, LinkIs, flags_in, funcs_in, infos_in}
+use Rattle.smp_call_steps.specs.{nexts_in, queued_in, ran_in, IsWrittenIn, Tallied, sent_to, one_held, Rests, StandsAt, PostStands, PostKnows, PostGoes}
+use Rattle.smp_call_steps.specs.{posted, share_of, held_of, held_of_post, holding, HandIs, Class, Sync, Async, Word, Head, Hand, Queued, Flags, Func, Info}
+use Rattle.smp_call_steps.specs.{Next, Note, RecPlace, Posting, PostStage, Stage, Send, Done, Post}
+use Rattle.smp_call_steps.specs.Stands.{Stands}
 use Rattle.smp_call_steps.specs.Shows.{Shows}
 use Rattle.smp_words.proofs.Puts.{at_test, put_other, put_same}
 use Rattle.smp_call_steps.proofs.Steps.Frames.{Touches}
@@ -22,12 +19,10 @@ use Rattle.smp_call_steps.proofs.Steps.Own.{post_holds, own_step, KeepsCpus}
 use Rattle.smp_call_steps.proofs.Steps.Sending.{stands_on, unlocked_free, confirms_kept, confirm_if, send_kept}
 use Rattle.smp_call_steps.proofs.Steps.Appending.{append_kept}
 use Rattle.smp_call_steps.proofs.Steps.StepShows.{StepShows}
-use Rattle.smp_call_steps.specs.Names.{Class, Sync, Async, Word, Head, Hand, Queued, Flags, Func, Info, Next, Note, RecPlace, Posting, PostStage, Stage, Send}
-use Rattle.smp_call_steps.specs.Names.{Done, Post}
-use Rattle.smp_call_steps.specs.Names.place
-use Rattle.smp_call_steps.specs.Names.act
-use Rattle.smp_call_steps.specs.Names.note
-use Rattle.smp_call_steps.specs.Names.post
+use Rattle.smp_call_steps.specs.place
+use Rattle.smp_call_steps.specs.act
+use Rattle.smp_call_steps.specs.note
+use Rattle.smp_call_steps.specs.post
 
 flags_odd : (c : Class) → flags_of c % 2 ≡ 1
 flags_odd Sync = refl

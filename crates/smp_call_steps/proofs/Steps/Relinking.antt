@@ -3,13 +3,9 @@ use Rattle.std.proofs.Common.{◌≡◌, ◌≢◌, ℕ, ◌+◌, Option, Some, 
 use Rattle.std.specs.List.{AllByRecursion}
 use Rattle.smp_words.proofs.Puts.{test_here, test_else}
 use Rattle.smp_words.specs.Put.{put, put_word}
-use Rattle.smp_call_steps.specs.Order.{async_calls}
-use Rattle.smp_call_steps.specs.Calls.{CallState, Holding, links}
-use Rattle.smp_call_steps.specs.Drains.{link_to, reverse_on}
-use Rattle.smp_call_steps.specs.Stages.{ControlValue}
-use Rattle.smp_call_steps.specs.Places.{IsAbsent, IsApart, Holds, IsPlaced, AllPlaced}
-use Rattle.smp_call_steps.specs.Words.{Leads, Path, nexts_in, hands_in}
-use Rattle.smp_call_steps.specs.Stands.{share_of, EndsAt, Stands, HandIs, held_of}
+use Rattle.smp_call_steps.specs.{async_calls, CallState, Holding, links, link_to, reverse_on, ControlValue, IsAbsent, IsApart, Holds, IsPlaced, AllPlaced}
+use Rattle.smp_call_steps.specs.{Leads, Path, nexts_in, hands_in, share_of, EndsAt, HandIs, held_of, Call, Word, Head, Hand, Next, Walk, Handle}
+use Rattle.smp_call_steps.specs.Stands.{Stands}
 use Rattle.smp_call_steps.specs.Shows.{Shows}
 use Rattle.smp_call_steps.proofs.Basics.Alls.{every_right, every_async, every_last}
 use Rattle.smp_call_steps.proofs.State.Counts.{held_place}
@@ -19,12 +15,11 @@ use Rattle.smp_call_steps.proofs.Steps.Own.{LinkIs-kept}
 use Rattle.smp_call_steps.proofs.Steps.Passing.{passes_sync}
 use Rattle.smp_call_steps.proofs.Steps.StepShows.{StepShows}
 use Rattle.smp_call_steps.proofs.Steps.Turns.{holds_nothing, stands_at, hand_at, held_after, stands_after, hands_after}
-use Rattle.smp_call_steps.proofs.State.Walks.{Path-kept, Path-push, Path-cut, absent_before, absent_after, apart_left, apart_across, reverses_all, walks_passed}
-use Rattle.smp_call_steps.proofs.State.Walks.{reverse_goes, hand_of_reverse}
+use Rattle.smp_call_steps.proofs.State.Walks.{Path-kept, Path-push, Path-cut, absent_before, absent_after, apart_left, apart_across, reverses_all}
+use Rattle.smp_call_steps.proofs.State.Walks.{walks_passed, reverse_goes, hand_of_reverse}
 use Rattle.smp_call_steps.proofs.State.Batches.{apart_async}
-use Rattle.smp_call_steps.specs.Names.{Call, Word, Head, Hand, Next, Walk, Handle}
-use Rattle.smp_call_steps.specs.Names.place
-use Rattle.smp_call_steps.specs.Names.handle
+use Rattle.smp_call_steps.specs.place
+use Rattle.smp_call_steps.specs.handle
 
 -- a list without a record, where a next word is stored
 leads_else : (nexts : ℕ → ℕ) (id n link : ℕ) (calls : List Call) → IsAbsent id calls → Leads nexts link calls 0 → Leads (put nexts id n) link calls 0

@@ -1,18 +1,14 @@
 -- Steps that touch no record: loads of the own flags, and the send of an interrupt.
-use Rattle.std.proofs.Common.{arith}
-use Rattle.std.proofs.Common.{◌≡◌, ◌≢◌, ℕ, ◌%◌, Bool, true, false, ◌==◌, cond, refl, ap, ◌∙◌, ◌⊎◌, inl, inr}
+use Rattle.std.proofs.Common.{arith, ◌≡◌, ◌≢◌, ℕ, ◌%◌, Bool, true, false, ◌==◌, cond, refl, ap, ◌∙◌, ◌⊎◌, inl, inr}
 use Rattle.std.proofs.lemmas.Bool.{cases_eq, eqb-false}
 use Rattle.smp_words.specs.Put.{put, put_word}
-use Rattle.smp_call_steps.specs.Calls.{CallState, confirms, sends}
-use Rattle.smp_call_steps.specs.Stages.{ControlValue}
-use Rattle.smp_call_steps.specs.Places.{Holds}
-use Rattle.smp_call_steps.specs.Words.{FlagsShow, IsNoticed, is_pending, is_accepted, is_owed, bit}
-use Rattle.smp_call_steps.specs.Stands.{Stands, share_of, held_of, HandIs}
+use Rattle.smp_call_steps.specs.{CallState, confirms, sends, ControlValue, Holds, FlagsShow, IsNoticed, is_pending, is_accepted, is_owed, bit, share_of}
+use Rattle.smp_call_steps.specs.{held_of, HandIs, Word, Intr, Hand, Flags, RecPlace}
+use Rattle.smp_call_steps.specs.Stands.{Stands}
 use Rattle.smp_call_steps.specs.Shows.{Shows}
 use Rattle.smp_words.proofs.Puts.{at_test, put_all}
 use Rattle.smp_call_steps.proofs.Steps.Frames.{leaves_all, Stands-kept}
-use Rattle.smp_call_steps.specs.Names.{Word, Intr, Hand, Flags, RecPlace}
-use Rattle.smp_call_steps.specs.Names.place
+use Rattle.smp_call_steps.specs.place
 
 -- a step that changes no word and no call
 pub stands_on : (a : CallState) (at : Word → ℕ) (control : ℕ → ControlValue) (me : ℕ) (next : ControlValue) → Shows a at control →

@@ -2,10 +2,8 @@
 use Rattle.std.proofs.Common.{ℕ}
 use Rattle.smp_words.specs.Put.{put}
 use Rattle.smp_words.specs.Access.{at_after, word_of, seen_of}
-use Rattle.smp_call_steps.specs.Calls.{CallState, tells}
-use Rattle.smp_call_steps.specs.Stages.{ControlValue, access_of, outcome_of, control_after}
+use Rattle.smp_call_steps.specs.{CallState, tells, ControlValue, access_of, outcome_of, control_after, Word, Stage}
 use Rattle.smp_call_steps.specs.Shows.{Shows}
-use Rattle.smp_call_steps.specs.Names.{Word, Stage}
 
 -- after a step of me at this stage, the words show the calls that the step tells
 abbrev pub StepShows : CallState → (Word → ℕ) → (ℕ → ControlValue) → ℕ → Stage → Type 0

@@ -1,18 +1,11 @@
 -- The swap that takes a queue: the whole queue becomes a batch.
-use Rattle.std.proofs.Common.{arith}
-use Rattle.std.proofs.Common.{◌≡◌, ◌≢◌, ℕ, ◌⊎◌, inl, inr, false, cond, Some, None, List, [], ◌∷◌, ◌++◌, sym, subst, refl, ap, ◌∙◌, append_assoc}
+use Rattle.std.proofs.Common.{arith, ◌≡◌, ◌≢◌, ℕ, ◌⊎◌, inl, inr, false, cond, Some, None, List, [], ◌∷◌, ◌++◌, sym, subst, refl, ap, ◌∙◌, append_assoc}
 use Rattle.std.proofs.lemmas.List.{append-nil}
-use Rattle.std.specs.List.{AllByRecursion}
 use Rattle.smp_words.specs.Put.{put, put_word}
-use Rattle.smp_call_steps.specs.Order.{order}
-use Rattle.smp_call_steps.specs.Calls.{CallState, Running, Nothing, place_taken, takes}
-use Rattle.smp_call_steps.specs.Drains.{no_drain, record_at, reverse_on}
-use Rattle.smp_call_steps.specs.Stages.{ControlValue}
-use Rattle.smp_call_steps.specs.Places.{IsApart, HasRecord, IsPlaced, IsThere, Placed, locked_by, AllPlaced}
-use Rattle.smp_call_steps.specs.Words.{Leads, FlagsShow, Chained, last_batch, IsEmpty, IsNoticed, is_pending, is_accepted, is_owed, Noticed}
-use Rattle.smp_call_steps.specs.Words.{nexts_in, heads_in, intrs_in, IsWrittenIn, WrittenIn}
-use Rattle.smp_call_steps.specs.Histories.{marked, batches_marked, history_of, marked_from, sent_to, orders, running_call, Recorded}
-use Rattle.smp_call_steps.specs.Stands.{Share, share_of}
+use Rattle.smp_call_steps.specs.{order, CallState, Running, Nothing, place_taken, takes, no_drain, record_at, reverse_on, ControlValue, IsApart}
+use Rattle.smp_call_steps.specs.{IsPlaced, IsThere, Placed, Leads, FlagsShow, Chained, last_batch, IsEmpty, IsNoticed, is_pending}
+use Rattle.smp_call_steps.specs.{is_accepted, is_owed, Noticed, nexts_in, heads_in, intrs_in, WrittenIn, marked, batches_marked, history_of}
+use Rattle.smp_call_steps.specs.{marked_from, sent_to, orders, running_call, Recorded, Share, share_of, Call, Word, Head, Hand, RecPlace, Handle}
 use Rattle.smp_call_steps.specs.Shows.{Shows}
 use Rattle.smp_words.proofs.Puts.{at_test, test_here, test_else}
 use Rattle.smp_call_steps.proofs.Basics.Alls.{every}
@@ -21,9 +14,8 @@ use Rattle.smp_call_steps.proofs.State.Batches.{every_order, has_order, apart_or
 use Rattle.smp_call_steps.proofs.Steps.Turns.{holds_nothing, stands_at, hand_at, held_after, stands_after, hands_after}
 use Rattle.smp_call_steps.proofs.State.Walks.{link_back, reverse_goes, hand_of_reverse}
 use Rattle.smp_call_steps.proofs.Steps.StepShows.{StepShows}
-use Rattle.smp_call_steps.specs.Names.{Call, Word, Head, Hand, Flags, RecPlace, Handle}
-use Rattle.smp_call_steps.specs.Names.place
-use Rattle.smp_call_steps.specs.Names.handle
+use Rattle.smp_call_steps.specs.place
+use Rattle.smp_call_steps.specs.handle
 
 -- what a place becomes when this CPU takes its queue
 

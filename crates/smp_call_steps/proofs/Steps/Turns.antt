@@ -2,14 +2,12 @@
 use Rattle.std.proofs.Common.{◌≡◌, ◌≢◌, ℕ, ◌<◌, Option, Some, None, sym, subst, ap, ◌∙◌}
 use Rattle.smp_words.specs.Size.{cpus}
 use Rattle.smp_words.specs.Put.{put}
-use Rattle.smp_call_steps.specs.Calls.{CallState}
-use Rattle.smp_call_steps.specs.Stages.{ControlValue}
-use Rattle.smp_call_steps.specs.Words.{nexts_in, hands_in}
-use Rattle.smp_call_steps.specs.Stands.{Share, share_of, Stands, StandsAt, HandleStands, HandIs, held_of}
+use Rattle.smp_call_steps.specs.{CallState, ControlValue, nexts_in, hands_in, Share, share_of, StandsAt, HandleStands, HandIs, held_of, Word, RecPlace}
+use Rattle.smp_call_steps.specs.{HandleStage, Stage, Handle}
+use Rattle.smp_call_steps.specs.Stands.{Stands}
 use Rattle.smp_call_steps.specs.Shows.{Shows}
 use Rattle.smp_words.proofs.Puts.{put_all, put_both}
 use Rattle.smp_call_steps.proofs.Steps.Frames.{LeavesTo, Stands-kept}
-use Rattle.smp_call_steps.specs.Names.{Word, RecPlace, HandleStage, Stage, Handle}
 
 module _ {a : CallState} {at : Word → ℕ} {control : ℕ → ControlValue} (me : ℕ) (s : Shows a at control) where
   -- inside handle a CPU holds nothing

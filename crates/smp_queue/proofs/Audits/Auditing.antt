@@ -5,8 +5,7 @@ use Rattle.std.proofs.lemmas.Bool.{cases_eq}
 use Rattle.std.proofs.lemmas.List.{get_or-set_same, get_or-set_other}
 use Rattle.std.specs.Int.{from_bool}
 use Rattle.smp_words.specs.Size.{cpus}
-use Rattle.smp_queue.specs.Names.{Word, Queued, Ran, Left, Tally}
-use Rattle.smp_queue.specs.Audit.{count_below, has_head, has_lock, has_hand, tally_at, IsRow}
+use Rattle.smp_queue.specs.{Word, Queued, Ran, Left, Tally, count_below, has_head, has_lock, has_hand, tally_at, IsRow}
 
 pub count_zero : (test : ℕ → Bool) → count_below test 0 ≡ 0
 unfolding count_below

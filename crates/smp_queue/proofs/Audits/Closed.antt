@@ -10,17 +10,14 @@ use Rattle.smp_call_steps.specs.Calls.{no_calls}
 use Rattle.smp_call_steps.specs.Histories.{sent_to, calls_from}
 use Rattle.smp_call_steps.specs.Known.{told_stage}
 use Rattle.smp_call_steps.specs.Parts.{part_of}
-use Rattle.smp_queue.specs.Names.{Hand, Queued, Ran, Flags, Known, Part, Setting, SeatView, Cpu, Left, Audit}
-use Rattle.smp_queue.specs.Names.audit
+use Rattle.smp_queue.specs.{Hand, Queued, Ran, Flags, Known, Part, Setting, SeatView, Left, Closes, ClosesWith, Audited, AuditAnswers, HaveRun, IfDrained}
+use Rattle.smp_queue.specs.{AreEqual, HasRowsOf, HasZerosFrom, has_lock, has_hand, left_in, nothing_left, number_in, TableValue, CpuValue, setting_of, cpu_of}
+use Rattle.smp_queue.specs.{SeatValue, Ruled}
+use Rattle.smp_queue.specs.Names.{Cpu, Audit}
 use Rattle.smp_call_steps.proofs.State.Drained.{Still, still_queued, still_ran, equal_tallies, all_ran, all_sent}
-use Rattle.smp_queue.specs.Audit.{Closes, ClosesWith, Audited, AuditAnswers, HaveRun, IfDrained, AreEqual, HasRowsOf, HasZerosFrom, has_lock, has_hand, left_in}
-use Rattle.smp_queue.specs.Audit.{nothing_left}
-use Rattle.smp_queue.specs.Cells.{number_in}
-use Rattle.smp_queue.specs.Cpu.{TableValue, CpuValue, setting_of, cpu_of}
-use Rattle.smp_queue.specs.Seat.{SeatValue}
-use Rattle.smp_queue.specs.Rule.{Ruled}
 use Rattle.smp_queue.proofs.Audits.Auditing.{count_none}
 use Rattle.smp_queue.proofs.TheRule.Cells.{no_hand, no_flags}
+use Rattle.smp_queue.specs.audit
 
 -- its words show some calls, of which the seat knows its part
 pub closes : {S : Type 0} (k : Setting) (s : State S SeatView) (r : Ruled k s) (id : ℕ) (v : Known) → get_elem? s.views id ≡ some (Cpu v) → Closes k v s.words

@@ -10,11 +10,7 @@ use Rattle.smp_call_steps.proofs.Basics.Alls.{every}
 use Rattle.smp_call_steps.proofs.Knows.Restages.{free_outside}
 use Rattle.smp_call_steps.proofs.State.Counts.{confirmed_calls_ran}
 use Rattle.smp_call_steps.proofs.State.HaveRun.{confirmed_sync_calls_ended, confirmed_calls_have_run}
-use Rattle.smp_queue.specs.Names.{Part}
-use Rattle.smp_queue.specs.Cpu.{cpu_of}
-use Rattle.smp_queue.specs.Seat.{SeatValue}
-use Rattle.smp_queue.specs.Rule.{Sits}
-use Rattle.smp_queue.specs.Laws.{HaveRunFor, IsShown}
+use Rattle.smp_queue.specs.{Part, cpu_of, SeatValue, Sits, HaveRunFor, IsShown}
 
 row-true : (n i : ℕ) (f : ℕ → Bool) → get_or (row n f) i false ≡ true → f i ≡ true
 unfolding row

@@ -11,11 +11,8 @@ use Rattle.smp_call_steps.specs.Words.{Path, last_batch, nexts_in}
 use Rattle.smp_call_steps.proofs.Basics.Alls.{every_right}
 use Rattle.smp_call_steps.proofs.Knows.Handling.{lives_stands, share_in}
 use Rattle.smp_call_steps.proofs.State.Walks.{link_back, same_record}
-use Rattle.smp_queue.specs.Names.{Call, Next, Known, Nothing, Walk}
-use Rattle.smp_queue.specs.Names.handle
-use Rattle.smp_queue.specs.Cpu.{CpuValue, cpu_of}
-use Rattle.smp_queue.specs.Seat.{SeatValue, InHandle}
-use Rattle.smp_queue.specs.Handling.{runs}
+use Rattle.smp_queue.specs.{Call, Next, Known, Nothing, Walk, CpuValue, cpu_of, SeatValue, InHandle, runs}
+use Rattle.smp_queue.specs.handle
 
 -- the calls from this record on
 abbrev pub left_from : Option ℕ → List Call → ℕ

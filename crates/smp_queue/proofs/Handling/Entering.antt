@@ -1,13 +1,12 @@
 -- A CPU that enters handle, takes its queue, and leaves.
-use Rattle.std.proofs.Common.{arith}
-use Rattle.std.proofs.Common.{◌≡◌, ℕ, ◌<◌, ◌==◌, true, false, cond, Option, Some, None, List, [], ◌∷◌, ◌++◌, length, append-nil, sym, refl, ap, ◌∙◌, subst}
+use Rattle.std.proofs.Common.{arith, ◌≡◌, ℕ, ◌<◌, ◌==◌, true, false, cond, Option, Some, None, List, [], ◌∷◌, ◌++◌, length, append-nil, sym, refl, ap, ◌∙◌}
+use Rattle.std.proofs.Common.{subst}
 use Rattle.std.proofs.lemmas.List.{append_cancel_left}
 use Rattle.atomic_table.specs.Seated.{TableId}
 use Rattle.smp_words.specs.Size.{cpus}
 use Rattle.smp_call_steps.specs.Order.{order}
-use Rattle.smp_queue.specs.Names.{Call, Intr, Hand, Store, Swap, Known, Nothing, HandleStage, Handle, Heard}
-use Rattle.smp_queue.specs.Names.act
-use Rattle.smp_queue.specs.Names.handle
+use Rattle.smp_queue.specs.{Call, Intr, Hand, Store, Swap, Known, Nothing, HandleStage, Handle, Heard, CpuValue, cpu_of, SeatValue, Ready, InHandle}
+use Rattle.smp_queue.specs.{IsOutside, Grows, HasRunAll, runs, asks, drains, heard_of}
 use Rattle.smp_call_steps.specs.Words.{last_batch}
 use Rattle.std.specs.List.{FoldsTo}
 use Rattle.smp_call_steps.specs.Histories.{orders, running_call}
@@ -16,12 +15,11 @@ use Rattle.smp_call_steps.specs.Known.{known_told, known_taking, Moment, Lives, 
 use Rattle.smp_call_steps.specs.Handling.{handling, accepted_known, taken_known, IsLeaving}
 use Rattle.smp_call_steps.proofs.Knows.Handling.{lives_stands, lives_drained, lives_intr, entered_is, accepted_is, left_is}
 use Rattle.smp_call_steps.proofs.Steps.Taking.{orders-push, last_batch-push}
-use Rattle.smp_queue.specs.Cpu.{CpuValue, cpu_of}
-use Rattle.smp_queue.specs.Seat.{SeatValue, Ready, InHandle, IsOutside}
-use Rattle.smp_queue.specs.Handling.{Grows, HasRunAll, runs, asks, drains, heard_of}
 use Rattle.smp_queue.proofs.TheRule.Cells.{has_cell}
 use Rattle.smp_queue.proofs.Handling.Handles.{in_handle_ready, in_handle_then}
 use Rattle.smp_queue.proofs.Handling.Running.{more_calls}
+use Rattle.smp_queue.specs.act
+use Rattle.smp_queue.specs.handle
 
 module _ (t : TableId) (d d' : SeatValue) (number : ℕ) where
   pub enter_ready : IsOutside t d number → Ready t d (Store (Hand number) 1)

@@ -1,13 +1,10 @@
 -- A CPU inside handle: when it may make its next step, and where it stands after it.
-use Rattle.std.proofs.Common.{arith}
-use Rattle.std.proofs.Common.{◌≡◌, Some, ap, ◌∙◌, subst}
+use Rattle.std.proofs.Common.{arith, ◌≡◌, Some, ap, ◌∙◌, subst}
 use Rattle.atomic_table.specs.Seated.{TableId}
 use Rattle.smp_words.specs.Access.{word_of}
 use Rattle.smp_call_steps.specs.Known.{known_access, Lives}
 use Rattle.smp_call_steps.proofs.Knows.Handling.{lives_aims, lives_in_table}
-use Rattle.smp_queue.specs.Names.{Access, Known, HandleStage, Handle}
-use Rattle.smp_queue.specs.Cells.{cells, HasCell}
-use Rattle.smp_queue.specs.Seat.{SeatValue, MayAccess, Ready, InHandle, IsApartFromCalls}
+use Rattle.smp_queue.specs.{Access, Known, HandleStage, Handle, cells, HasCell, SeatValue, MayAccess, Ready, InHandle, IsApartFromCalls}
 use Rattle.smp_queue.proofs.TheRule.Cells.{has_cell_of}
 
 module _ {t : TableId} {d : SeatValue} {stage : HandleStage} (h : InHandle t d stage) where

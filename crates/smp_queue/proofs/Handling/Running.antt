@@ -1,20 +1,17 @@
 -- A CPU that runs its batch: what it knows after each call.
-use Rattle.std.proofs.Common.{◌≡◌, ℕ, ◌+◌, ◌%◌, ◌^◌, ◌<◌, Option, List, [], ◌∷◌, ◌++◌, length, length-set, get_or, set, append-nil, append_assoc, sym, refl, ap}
-use Rattle.std.proofs.Common.{◌∙◌, inl, inr, arith}
+use Rattle.std.proofs.Common.{◌≡◌, ℕ, ◌+◌, ◌%◌, ◌^◌, ◌<◌, Option, List, [], ◌∷◌, ◌++◌, length, length-set, get_or, set, append-nil, append_assoc, sym, refl}
+use Rattle.std.proofs.Common.{ap, ◌∙◌, inl, inr, arith}
 use Rattle.std.proofs.lemmas.List.{get_or-set_same, get_or-set_other}
 use Rattle.std.proofs.lemmas.Bool.{cases_eq}
 use Rattle.std.proofs.lemmas.Fn.{FoldsTo-push}
 use Rattle.atomic_table.specs.Seated.{TableId}
 use Rattle.smp_words.specs.Size.{records, owner}
 use Rattle.smp_call_steps.specs.Histories.{calls_from, counted_call}
-use Rattle.smp_queue.specs.Names.{Call, Known, Part, HandleStage, Heard}
+use Rattle.smp_queue.specs.{Call, Known, Part, HandleStage, Heard, CpuValue, cpu_of, SeatValue, InHandle, heard_of, AreRan, runs, HasRun, HasRunAll}
 use Rattle.smp_call_steps.specs.Known.{ran_tally}
 use Rattle.smp_call_steps.specs.Handling.{begun_async, ended_call, rest_of}
 use Rattle.smp_words.proofs.Sizes.{owner-below}
 use Rattle.smp_call_steps.proofs.State.Tallies.{count-same, count-other, count_wraps}
-use Rattle.smp_queue.specs.Cpu.{CpuValue, cpu_of}
-use Rattle.smp_queue.specs.Seat.{SeatValue, InHandle}
-use Rattle.smp_queue.specs.Handling.{heard_of, AreRan, runs, HasRun, HasRunAll}
 
 -- a call that runs is not counted yet
 pub tally_running : (v w : Known) (source : ℕ) → w.part.ran ≡ v.part.ran → counted_call w.part.running ≡ []

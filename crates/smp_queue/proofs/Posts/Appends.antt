@@ -5,12 +5,11 @@ use Rattle.smp_call_steps.specs.Heads.{Found, by_load, by_exchange, last_found, 
 use Rattle.smp_call_steps.specs.Histories.{sent_to}
 use Rattle.smp_call_steps.specs.Stands.{posted}
 use Rattle.smp_call_steps.specs.Known.{standing, queued_known, outside_known, looked_known, lost_one, lost_tries}
-use Rattle.smp_queue.specs.Names.{Known, Posting, Post}
-use Rattle.smp_queue.specs.Names.post
-use Rattle.smp_queue.specs.Names.head
-use Rattle.smp_queue.specs.Appends.{Appends, GivesUp}
-use Rattle.smp_queue.specs.Seat.{SeatValue, IsMine, IsCounting, IsTallied, counted}
+use Rattle.smp_queue.specs.{Known, Posting, Post, GivesUp, SeatValue, IsMine, IsCounting, IsTallied, counted}
+use Rattle.smp_queue.specs.Appends.{Appends}
 use Rattle.smp_queue.proofs.Posts.Ready.{mine_moved}
+use Rattle.smp_queue.specs.post
+use Rattle.smp_queue.specs.head
 
 -- it stands before its next try, at the last of the numbers that it has found, and else knows what it knew
 pub record Tries (table : TableId) (before seat : SeatValue) (p : Posting) (link : ℕ) (found : Found) : Type 0 where

@@ -13,12 +13,10 @@ use Rattle.smp_call_steps.specs.Known.{fresh, confirmed_known, queued_known, out
 use Rattle.smp_call_steps.proofs.Basics.Lists.{sent_to-push, one_if-same, one_if-other}
 use Rattle.smp_call_steps.proofs.Basics.Rows.{length-row}
 use Rattle.smp_words.proofs.Zeros.{get_or-same}
-use Rattle.smp_queue.specs.Names.{Call, Known, Posting}
-use Rattle.smp_queue.specs.Names.logged
-use Rattle.smp_queue.specs.Names.post
-use Rattle.smp_queue.specs.Seat.{IsCounting, uncounted}
+use Rattle.smp_queue.specs.{Call, Known, Posting, IsCounting, uncounted, IsKept}
 use Rattle.smp_queue.specs.Appends.{Appends}
-use Rattle.smp_queue.specs.Cpu.{IsKept}
+use Rattle.smp_queue.specs.logged
+use Rattle.smp_queue.specs.post
 
 pub kept_fresh : (v : Known) (number : ℕ) → v ≡ fresh v.setting number → number < cpus → has v.setting.online number ≡ true
     → IsKept v number (replicate cpus 0) (replicate cpus 0)

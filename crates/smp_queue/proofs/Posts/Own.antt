@@ -1,7 +1,6 @@
 -- A CPU's own records, and what a post leaves of its CPU.
-use Rattle.std.proofs.Common.{◌≡◌, ℕ, zero, suc, ◌+◌, ◌^◌, ◌<◌, Bool, true, false, not, ◌||◌, ◌==◌, nat_lt, None, List, [], ◌∷◌, ◌++◌, get_or, set}
-use Rattle.std.proofs.Common.{sym, refl, ap, ◌∙◌}
-use Rattle.std.proofs.Common.{arith}
+use Rattle.std.proofs.Common.{◌≡◌, ℕ, zero, suc, ◌+◌, ◌^◌, ◌<◌, Bool, true, false, not, ◌||◌, ◌==◌, nat_lt, None, List, [], ◌∷◌, ◌++◌, get_or, set, sym, refl}
+use Rattle.std.proofs.Common.{ap, ◌∙◌, arith}
 use Rattle.std.proofs.lemmas.Bool.{or_parts, ltb-true}
 use Rattle.std.proofs.lemmas.List.{get_or-set_same}
 use Rattle.atomic_table.specs.Seated.{TableId}
@@ -13,14 +12,12 @@ use Rattle.smp_call_steps.specs.Parts.{part_queued}
 use Rattle.smp_call_steps.specs.Heads.{Found, last_found, times_lost, heads_won}
 use Rattle.smp_call_steps.specs.Known.{posting_of, standing, outside_known, confirmed_known, queued_known, lost_tries}
 use Rattle.smp_words.proofs.Sizes.{owner-of_record, record_of-below}
-use Rattle.smp_queue.specs.Names.{Class, Known, Posting}
-use Rattle.smp_queue.specs.Names.logged
-use Rattle.smp_queue.specs.Names.post
+use Rattle.smp_queue.specs.{Class, Known, Posting, cells, SeatValue, OwnsRecord, IsMine, uncounted, GivesUp, CpuValue, IsKept, MayQueue, cpu_of, confirms}
+use Rattle.smp_queue.specs.{loses, posts}
+use Rattle.smp_queue.specs.Appends.{Appends}
+use Rattle.smp_queue.specs.logged
+use Rattle.smp_queue.specs.post
 use Rattle.smp_words.specs.declared.command.Command.TheVariants as command
-use Rattle.smp_queue.specs.Cells.{cells}
-use Rattle.smp_queue.specs.Seat.{SeatValue, OwnsRecord, IsMine, uncounted}
-use Rattle.smp_queue.specs.Appends.{Appends, GivesUp}
-use Rattle.smp_queue.specs.Cpu.{CpuValue, IsKept, MayQueue, cpu_of, confirms, loses, posts}
 
 pub at_own : (table : TableId) (d : SeatValue) (number k id : ℕ) (queued ran : List ℕ) → IsKept d.known number queued ran → d.table ≡ table
     → table.words ≡ cells → k < records_of_one → id ≡ record_of number k → OwnsRecord table d id

@@ -6,11 +6,9 @@ use Rattle.smp_words.specs.Access.{word_of}
 use Rattle.smp_call_steps.specs.Stands.{PostGoes}
 use Rattle.smp_call_steps.specs.Known.{IsLockable, told_post, known_access, posting_of}
 use Rattle.smp_words.proofs.Links.{IsInTable}
-use Rattle.smp_queue.specs.Names.{Flags, Access, Load, Known, Posting, PostStage, Done, Post}
-use Rattle.smp_queue.specs.Names.post
-use Rattle.smp_queue.specs.Seat.{SeatValue, Ready, OwnsRecord, IsMine, counted}
-use Rattle.smp_queue.specs.Cells.{HasCell}
+use Rattle.smp_queue.specs.{Flags, Access, Load, Known, Posting, PostStage, Done, Post, SeatValue, Ready, OwnsRecord, IsMine, counted, HasCell}
 use Rattle.smp_queue.proofs.TheRule.Cells.{has_cell}
+use Rattle.smp_queue.specs.post
 
 -- a seat after a step of its CPU
 pub at_moved : (t : TableId) (d d' : SeatValue) (id : ℕ) (v : Known) → OwnsRecord t d id → d'.table ≡ t → d'.known ≡ v → v.number ≡ d.known.number

@@ -1,6 +1,5 @@
 -- What a post shows of the calls: the record that it gave up is free, and its mark is that of the queue history.
-use Rattle.std.proofs.Common.{arith}
-use Rattle.std.proofs.Common.{◌≡◌, ℕ, Bool, true, false, List, [], ◌∷◌, ◌++◌, get_or, sym, subst, refl, ap, ◌∙◌}
+use Rattle.std.proofs.Common.{arith, ◌≡◌, ℕ, Bool, true, false, List, [], ◌∷◌, ◌++◌, get_or, sym, subst, refl, ap, ◌∙◌}
 use Rattle.smp_words.specs.Size.{record_of}
 use Rattle.smp_call_steps.specs.Calls.{CallState}
 use Rattle.smp_call_steps.specs.declared.known.Sending.{Sending}
@@ -9,12 +8,9 @@ use Rattle.smp_call_steps.specs.Heads.{Found}
 use Rattle.smp_call_steps.specs.Known.{standing, outside_known, lost_tries, Lives}
 use Rattle.smp_call_steps.proofs.Basics.Lists.{sent_to-push, one_if-same}
 use Rattle.smp_call_steps.proofs.Knows.Restages.{free_outside}
-use Rattle.smp_queue.specs.Names.{Call, Class, Known, Part, Posting}
-use Rattle.smp_queue.specs.Names.post
-use Rattle.smp_queue.specs.Appends.{GivesUp}
-use Rattle.smp_queue.specs.Cpu.{CpuValue, MayQueue, cpu_of, posts}
-use Rattle.smp_queue.specs.Posted.{ShowsThat, IsFree, call_by, IsMarked}
-use Rattle.smp_queue.specs.Seat.{SeatValue, uncounted}
+use Rattle.smp_queue.specs.{Call, Class, Known, Part, Posting, GivesUp, CpuValue, MayQueue, cpu_of, posts, ShowsThat, IsFree, call_by, IsMarked, SeatValue}
+use Rattle.smp_queue.specs.{uncounted}
+use Rattle.smp_queue.specs.post
 
 module _ (d : SeatValue) (l : Lives d.known) where
   -- what holds of the calls that the table shows

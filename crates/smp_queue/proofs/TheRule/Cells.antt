@@ -1,6 +1,6 @@
 -- Where words lie: a cell is of one word, and a store in a cell is a put at its word. Only this page knows.
-use Rattle.std.proofs.Common.{◌≡◌, ℕ, zero, suc, ◌+◌, ◌*◌, ◌-◌, ◌/◌, ◌%◌, ◌<◌, ◌≤◌, nat_lt, cond, Some, None, Option, option_map, List, [], ◌∷◌, length, get_or}
-use Rattle.std.proofs.Common.{set, sym, refl, ap, subst, ◌∙◌, arith}
+use Rattle.std.proofs.Common.{◌≡◌, ℕ, zero, suc, ◌+◌, ◌*◌, ◌-◌, ◌/◌, ◌%◌, ◌<◌, ◌≤◌, nat_lt, cond, Some, None, Option, option_map, List, [], ◌∷◌, length}
+use Rattle.std.proofs.Common.{get_or, set, sym, refl, ap, subst, ◌∙◌, arith}
 use mathlib.Core.Option.{some, some-injective, some-ne-none}
 use lib.ListN.{get_elem?}
 use Rattle.std.proofs.lemmas.Bool.{lt-ltb, le-ltb}
@@ -10,9 +10,9 @@ use Rattle.smp_words.specs.Layout.{index_of, number_at}
 use Rattle.smp_words.proofs.Links.{one_word, HasIndex, IsInTable, in_table, Reads, index_reads}
 use Rattle.smp_words.proofs.Placing.{stored_at}
 use Rattle.smp_words.specs.declared.size.TheConstants.{NR_CPUS, WORDS_OF_ONE, HEADS, INTRS, HANDS, QUEUED, RAN, FLAGS, FUNCS, INFOS, NEXTS}
-use Rattle.smp_queue.specs.Names.{Word, Head, Intr, Hand, Queued, Ran, Flags, Func, Info, Next}
+use Rattle.smp_queue.specs.{Word, Head, Intr, Hand, Queued, Ran, Flags, Func, Info, Next, cells, cpu_place, pair_place, record_place, place_of, cell_of}
+use Rattle.smp_queue.specs.{HasCell, number_in}
 use Rattle.smp_queue.specs.declared.cell.TheConstants.{LINE, TALLIES, ROW, TALLIES_APART, FIRST_RECORD, RECORDS_APART}
-use Rattle.smp_queue.specs.Cells.{cells, cpu_place, pair_place, record_place, place_of, cell_of, HasCell, number_in}
 
 got_or : (xs : List ℕ) (i n : ℕ) → get_elem? xs i ≡ some n → get_or xs i 0 ≡ n
 got_or [] i n e = absurd (some-ne-none n (sym e))

@@ -1,6 +1,5 @@
 -- Each access keeps the rule of the table, and tells what its play says.
-use Rattle.std.proofs.Common.{◌≡◌, ◌≢◌, ℕ, zero, suc, ◌+◌, ◌<◌, ◌⊎◌, Bool, true, false, ◌==◌, cond, List, [], ◌∷◌, ◌++◌, length, get_or, set}
-use Rattle.std.proofs.Common.{replicate, sym}
+use Rattle.std.proofs.Common.{◌≡◌, ◌≢◌, ℕ, zero, suc, ◌+◌, ◌<◌, ◌⊎◌, Bool, true, false, ◌==◌, cond, List, [], ◌∷◌, ◌++◌, length, get_or, set, replicate, sym}
 use Rattle.std.proofs.Common.{refl, ap, ◌∙◌, subst, inl, inr, ⊎_elim, arith, Option, Some, None, length-set}
 use mathlib.Core.Option.{none, some, some-injective, some-ne-none}
 use lib.ListN.{get_elem?, length-replicate}
@@ -19,14 +18,12 @@ use Rattle.smp_call_steps.specs.Known.{Sees, fresh, known_told, known_taking, Go
 use Rattle.smp_call_steps.proofs.Knows.OneStep.{known_step}
 use Rattle.smp_call_steps.proofs.Machine.Starts.{zeros_shown}
 use Rattle.smp_words.proofs.Zeros.{zero_at}
-use Rattle.smp_queue.specs.Names.{Call, Word, Head, Access, Load, Store, Swap, Exchange, Known, Setting, SeatView}
-use Rattle.smp_queue.specs.Names.{Maker, Cpu}
-use Rattle.smp_queue.specs.Names.act
-use Rattle.smp_queue.specs.Cells.{cells, cell_of, number_in}
-use Rattle.smp_queue.specs.Rule.{Ruled, SeatKnows, Sits, known, after, seat_made}
-use Rattle.smp_queue.specs.Plays.{AfterLoad, AfterStore, AfterExchange, AfterSwap, loaded, stored, exchanged, swapped}
-use Rattle.smp_queue.specs.Seat.{IsCpuSeat, MayAccess}
+use Rattle.smp_queue.specs.{Call, Word, Head, Access, Load, Store, Swap, Exchange, Known, Setting, SeatView, Maker, cells, cell_of, number_in, Ruled}
+use Rattle.smp_queue.specs.{SeatKnows, Sits, known, after, seat_made, AfterLoad, AfterStore, AfterExchange, AfterSwap, loaded, stored, exchanged, swapped}
+use Rattle.smp_queue.specs.{IsCpuSeat, MayAccess}
+use Rattle.smp_queue.specs.Names.{Cpu}
 use Rattle.smp_queue.proofs.TheRule.Cells.{one_cell, number_here, stored_here}
+use Rattle.smp_queue.specs.act
 
 at_snoc : {A : Type 0} (l : List A) (a b : A) (j : ℕ) → get_elem? (l ++ a ∷ []) j ≡ some b → (get_elem? l j ≡ some b) ⊎ ((j ≡ length l) × (a ≡ b))
 at_snoc [] a b zero e = inr (refl, some-injective a b e)

@@ -8,9 +8,7 @@ use Rattle.std.proofs.Math.ListN.{get_or-map}
 use Rattle.atomic_table.specs.Seated.{TableId}
 use Rattle.smp_mask.specs.Mask.{has}
 use Rattle.smp_words.specs.Limits.{AreLimits}
-use Rattle.smp_queue.specs.Cells.{cells}
-use Rattle.smp_queue.specs.Cpu.{TableValue, CpuValue, fresh_cpu, table_with, AreWaiting}
-use Rattle.smp_queue.specs.Names.{Setting, SeatView, Maker}
+use Rattle.smp_queue.specs.{cells, TableValue, CpuValue, fresh_cpu, table_with, AreWaiting, Setting, SeatView, Maker}
 
 -- the CPUs below n have a seat, and of these the ones online are kept
 pub record AreSeated (table maker_table : TableId) (maker : SeatView) (k : Setting) (n : ℕ) (waiting : List (Option CpuValue)) : Type 0 where

@@ -1,11 +1,7 @@
 use Rattle.std.proofs.Common.{◌≡◌, ◌||◌, Bool, true, false, ℕ, sym, refl, ap, ◌∙◌, arith}
 use Rattle.std.proofs.lemmas.List.{get_or_read}
 use Rattle.smp_words.specs.Layout.{number_in}
-use Rattle.smp_call_steps.specs.Words.{nexts_in}
-use Rattle.smp_call_steps.specs.Batches.{between_of, down_link, is_this, up_link}
-use Rattle.smp_call_steps.specs.Stages.{ControlValue}
-use Rattle.smp_call_steps.specs.Value.{outside}
-use Rattle.smp_call_steps.specs.Whereabouts.{is_left, leads_through}
+use Rattle.smp_call_steps.specs.{nexts_in, outside}
 use Rattle.smp_call_steps.proofs.State.Places.{is_on, in_batch, in_between, down_chain, up_chain}
 use Rattle.smp_call_steps.proofs.place.is_in_batch.Goals as goal
 

@@ -1,10 +1,7 @@
 use Rattle.std.proofs.Common.{ℕ, ap, ◌∙◌}
 use Rattle.smp_words.specs.Layout.{number_in}
 use Rattle.smp_words.specs.Size.{records}
-use Rattle.smp_call_steps.specs.Words.{nexts_in}
-use Rattle.smp_call_steps.specs.Queues.{chain_in}
-use Rattle.smp_call_steps.specs.Value.{control_of}
-use Rattle.smp_call_steps.specs.Whereabouts.{leads_through}
+use Rattle.smp_call_steps.specs.{nexts_in, chain_in, control_of, leads_through}
 use Rattle.smp_call_steps.proofs.State.Places.{in_queue}
 use Rattle.smp_call_steps.proofs.State.QueueChains.{queue_chain, queue_read}
 use Rattle.smp_call_steps.proofs.place.is_queued.Goals as goal

@@ -1,8 +1,6 @@
 use Rattle.std.proofs.Common.{◌≡◌, ◌<◌, length, ap, ◌∙◌, arith}
 use Rattle.std.proofs.lemmas.List.{get_or_read}
-use Rattle.smp_call_steps.specs.Batches.{has_record, running_of}
-use Rattle.smp_call_steps.specs.Stages.{ControlValue}
-use Rattle.smp_call_steps.specs.Value.{control_of, outside}
+use Rattle.smp_call_steps.specs.{has_record, running_of, ControlValue, control_of, outside}
 use Rattle.smp_call_steps.proofs.State.Places.{in_running}
 use Rattle.smp_call_steps.proofs.place.is_running.Goals as goal
 

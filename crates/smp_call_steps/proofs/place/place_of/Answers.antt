@@ -2,8 +2,7 @@ use Rattle.std.proofs.Common.{◌≢◌, ◌∙◌, sym, below_more, arith}
 use Rattle.smp_words.specs.Layout.{number_in}
 use Rattle.smp_call_steps.proofs.State.Places.{not_on, is_held, bare}
 use Rattle.smp_call_steps.proofs.State.Whereabouts.{is_batched, is_elsewhere, is_queued, is_run, none_first, none_found, told_first, told_held}
-use Rattle.smp_call_steps.specs.Names.{Flags}
-use Rattle.smp_call_steps.specs.Names.place
+use Rattle.smp_call_steps.specs.{Flags}
 use Rattle.smp_call_steps.proofs.place.place_of.Goals as goal
 
 pub loop-cpu-init : goal.loop-cpu-init

@@ -1,7 +1,5 @@
 use Rattle.std.proofs.Common.{◌≡◌, ℕ, ◌<◌, None}
-use Rattle.smp_call_steps.specs.Calls.{CallState}
-use Rattle.smp_call_steps.specs.Value.{ValuesShow}
-use Rattle.smp_call_steps.specs.Whereabouts.{place_below}
+use Rattle.smp_call_steps.specs.{CallState, ValuesShow, place_below}
 use Rattle.smp_call_steps.proofs.State.Places.{IsNotOn}
 use Rattle.smp_call_steps.proofs.place.place_of.Given as goal
 

@@ -1,13 +1,12 @@
 use mathlib.Core.List.{reverse}
-use Rattle.std.proofs.Common.{◌≡◌, ℕ, ◌-◌, ◌≤◌, List, [], ◌∷◌, length, ap, ◌∙◌, arith, rules}
+use Rattle.std.proofs.Common.{◌≡◌, ℕ, ◌-◌, List, length, ap, ◌∙◌, arith, rules}
 use Rattle.std.proofs.lemmas.List.{reverse-append, length-reverse}
 use Rattle.smp_words.specs.Layout.{number_in}
 use Rattle.smp_words.specs.Size.{records}
-use Rattle.smp_call_steps.specs.Words.{nexts_in}
-use Rattle.smp_call_steps.specs.Queues.{chain_in}
+use Rattle.smp_call_steps.specs.{nexts_in, chain_in}
 use Rattle.smp_call_steps.proofs.State.Chains.{Follows, follows_all, passes, ended, ended_by_count, refilled}
-use Rattle.smp_call_steps.proofs.queue.chain.Goals as goal
 use Rattle.smp_call_steps.proofs.queue.chain.Goals.{else-loop-round-test, then-loop-round-test+then-link-eq0}
+use Rattle.smp_call_steps.proofs.queue.chain.Goals as goal
 
 pub loop-round-init : goal.loop-round-init
 loop-round-init c = rw c.new-passed.ensures (follows_all (nexts_in (number_in c.args.words.now)) c.args.first c.requires.chained)

@@ -1,6 +1,6 @@
 use mathlib.Core.List.{reverse}
 use Rattle.smp_words.specs.Layout.{number_in}
-use Rattle.smp_call_steps.specs.Words.{nexts_in}
+use Rattle.smp_call_steps.specs.{nexts_in}
 use Rattle.smp_call_steps.proofs.State.Chains.{Follows}
 use Rattle.smp_call_steps.proofs.queue.chain.Given as goal
 

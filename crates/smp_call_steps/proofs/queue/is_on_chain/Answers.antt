@@ -1,8 +1,7 @@
-use Rattle.std.proofs.Common.{◌-◌, ◌≤◌, sym, arith, rules}
+use Rattle.std.proofs.Common.{◌-◌, sym, arith, rules}
 use Rattle.std.proofs.lemmas.Bool.{eq-eqb, ne_eqb}
 use Rattle.smp_words.specs.Layout.{number_in}
-use Rattle.smp_words.specs.Size.{records}
-use Rattle.smp_call_steps.specs.Words.{nexts_in}
+use Rattle.smp_call_steps.specs.{nexts_in}
 use Rattle.smp_call_steps.proofs.State.Chains.{Seeks, passes, seeks_first, seeks_on, sought_here, not_sought, not_sought_by_count}
 use Rattle.smp_call_steps.proofs.queue.is_on_chain.Goals as goal
 

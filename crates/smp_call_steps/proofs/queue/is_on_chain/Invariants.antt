@@ -1,5 +1,5 @@
 use Rattle.smp_words.specs.Layout.{number_in}
-use Rattle.smp_call_steps.specs.Words.{nexts_in}
+use Rattle.smp_call_steps.specs.{nexts_in}
 use Rattle.smp_call_steps.proofs.State.Chains.{Seeks}
 use Rattle.smp_call_steps.proofs.queue.is_on_chain.Given as goal
 

@@ -1,5 +1,4 @@
-use Rattle.std.proofs.Common.{arith}
-use Rattle.std.proofs.Common.{◌≡◌, ℕ, List, ◌∙◌, subst}
+use Rattle.std.proofs.Common.{arith, ◌≡◌, ℕ, List, ◌∙◌, subst}
 use Rattle.smp_calls.specs.Queued.{Queued, destinations, firsts}
 use Rattle.smp_calls.specs.Records.{many_call}
 use Rattle.smp_calls.specs.Rounds.{only_if, Queues}

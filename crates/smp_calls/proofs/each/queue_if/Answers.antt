@@ -1,5 +1,4 @@
-use Rattle.std.proofs.Common.{arith}
-use Rattle.std.proofs.Common.{[], refl, rules}
+use Rattle.std.proofs.Common.{arith, [], refl, rules}
 use Rattle.smp_calls.specs.Records.{many_call}
 use Rattle.smp_calls.proofs.Lawful.{has_online, lawful_online}
 use Rattle.smp_calls.proofs.Round.{queues_none, queues_one}

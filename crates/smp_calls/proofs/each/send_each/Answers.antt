@@ -1,5 +1,4 @@
-use Rattle.std.proofs.Common.{arith}
-use Rattle.std.proofs.Common.{[], ◌++◌, ◌∷◌, ap, ◌∙◌}
+use Rattle.std.proofs.Common.{arith, [], ◌++◌, ◌∷◌, ap, ◌∙◌}
 use Rattle.smp_queue.specs.Cpu.{CpuValue}
 use Rattle.smp_calls.proofs.Passes.{passed_none, passed_more, passed_all, sends_none, sends_more}
 use Rattle.smp_calls.proofs.each.send_each.Goals as goal

@@ -1,5 +1,4 @@
-use Rattle.std.proofs.Common.{arith}
-use Rattle.std.proofs.Common.{ℕ, [], ◌++◌, ◌∷◌, ◌∙◌, sym, subst, rules}
+use Rattle.std.proofs.Common.{arith, ℕ, [], ◌++◌, ◌∷◌, ◌∙◌, sym, subst, rules}
 use Rattle.smp_calls.proofs.Lawful.{has_online}
 use Rattle.smp_calls.proofs.Steps.{sized_moved}
 use Rattle.smp_calls.proofs.Passes.{Passed, passed_none, passed_more, passed_all, waits_none, waits_more}

@@ -1,5 +1,4 @@
-use Rattle.std.proofs.Common.{arith}
-use Rattle.std.proofs.Common.{◌≡◌, ℕ, Bool, List, Option, false, cond, Some, None, sym, subst}
+use Rattle.std.proofs.Common.{arith, ◌≡◌, ℕ, Bool, List, Option, false, cond, Some, None, sym, subst}
 use Rattle.smp_mask.specs.Mask.{has, members}
 use Rattle.smp_words.specs.declared.call.Class.{Class}
 use Rattle.smp_queue.specs.Handling.{heard}

@@ -1,5 +1,4 @@
-use Rattle.std.proofs.Common.{arith}
-use Rattle.std.proofs.Common.{◌<◌, ℕ, false, rules, subst}
+use Rattle.std.proofs.Common.{arith, ◌<◌, ℕ, false, rules, subst}
 use Rattle.smp_words.specs.Size.{records_of_one}
 use Rattle.smp_words.specs.declared.call.Class.TheVariants.{Async}
 use Rattle.smp_calls.specs.Families.{IsSized, CallsBy}

@@ -1,4 +1,4 @@
-use Rattle.smp_queue.specs.Cells.{number_in}
+use Rattle.smp_queue.specs.{number_in}
 use Rattle.smp_queue.proofs.Audits.Auditing.{CountsCpus, CountsRecords}
 use Rattle.smp_queue.proofs.audit.count_left.Given as goal
 

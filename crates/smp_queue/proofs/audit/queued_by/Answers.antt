@@ -1,4 +1,4 @@
-use Rattle.smp_queue.specs.Names.{Queued}
+use Rattle.smp_queue.specs.{Queued}
 use Rattle.smp_queue.proofs.TheRule.Cells.{has_cell}
 use Rattle.smp_queue.proofs.audit.queued_by.Goals as goal
 

@@ -1,5 +1,4 @@
-use Rattle.smp_queue.specs.Names.{Queued}
-use Rattle.smp_queue.specs.Cells.{number_in}
+use Rattle.smp_queue.specs.{Queued, number_in}
 use Rattle.smp_queue.proofs.Audits.Auditing.{Reads}
 use Rattle.smp_queue.proofs.audit.queued_by.Given as goal
 

@@ -1,4 +1,4 @@
-use Rattle.smp_queue.specs.Names.{Ran}
+use Rattle.smp_queue.specs.{Ran}
 use Rattle.smp_queue.proofs.TheRule.Cells.{has_cell}
 use Rattle.smp_queue.proofs.audit.ran_by.Goals as goal
 

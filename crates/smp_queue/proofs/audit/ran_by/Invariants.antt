@@ -1,5 +1,4 @@
-use Rattle.smp_queue.specs.Names.{Ran}
-use Rattle.smp_queue.specs.Cells.{number_in}
+use Rattle.smp_queue.specs.{Ran, number_in}
 use Rattle.smp_queue.proofs.Audits.Auditing.{Reads}
 use Rattle.smp_queue.proofs.audit.ran_by.Given as goal
 

@@ -1,8 +1,8 @@
 use Rattle.std.proofs.Common.{ℕ, ap}
-use Rattle.smp_queue.specs.Names.{Head, Swap}
-use Rattle.smp_queue.specs.Names.handle
+use Rattle.smp_queue.specs.{Head, Swap}
 use Rattle.smp_queue.proofs.Handling.Going.{moment_fits}
 use Rattle.smp_queue.proofs.Handling.Handles.{in_handle_ready}
+use Rattle.smp_queue.specs.handle
 use Rattle.smp_queue.proofs.handle.take.Goals as goal
 
 pub swap-link-requires : goal.swap-link-requires

@@ -1,9 +1,8 @@
-use Rattle.std.proofs.Common.{arith}
-use Rattle.std.proofs.Common.{◌+◌, ◌%◌, ◌^◌, sym, refl, ap}
+use Rattle.std.proofs.Common.{arith, ◌+◌, ◌%◌, ◌^◌, sym, refl, ap}
 use Rattle.smp_call_steps.proofs.Knows.Posted.{stands_as, count_known, head_known, count_access}
-use Rattle.smp_queue.specs.Seat.{uncounted, counted}
+use Rattle.smp_queue.specs.{uncounted, counted}
 use Rattle.smp_queue.proofs.Posts.Ready.{ready_post, mine_moved}
-use Rattle.smp_queue.specs.Names.post
+use Rattle.smp_queue.specs.post
 use Rattle.smp_queue.proofs.post.count_and_look.Goals as goal
 
 pub store-requires : goal.store-requires

@@ -1,9 +1,8 @@
-use Rattle.std.proofs.Common.{arith}
-use Rattle.std.proofs.Common.{sym, refl, ap}
+use Rattle.std.proofs.Common.{arith, sym, refl, ap}
 use Rattle.smp_call_steps.proofs.Knows.Posted.{stands_as, uncount_known, released_known, uncount_access}
-use Rattle.smp_queue.specs.Seat.{counted}
+use Rattle.smp_queue.specs.{counted}
 use Rattle.smp_queue.proofs.Posts.Ready.{ready_post, mine_moved}
-use Rattle.smp_queue.specs.Names.post
+use Rattle.smp_queue.specs.post
 use Rattle.smp_queue.proofs.post.give_up.Goals as goal
 
 pub store-requires : goal.store-requires

@@ -1,10 +1,9 @@
-use Rattle.std.proofs.Common.{arith}
-use Rattle.std.proofs.Common.{◌==◌, ◌+◌, sym, refl, ap, ◌∙◌, eq-eqb, ne_eqb}
+use Rattle.std.proofs.Common.{arith, ◌==◌, ◌+◌, sym, refl, ap, ◌∙◌, eq-eqb, ne_eqb}
 use Rattle.smp_call_steps.specs.Known.{lost_one}
 use Rattle.smp_call_steps.proofs.Knows.Posted.{stands_as, next_known, won_known, lost_known}
-use Rattle.smp_queue.specs.Seat.{counted}
+use Rattle.smp_queue.specs.{counted}
 use Rattle.smp_queue.proofs.Posts.Ready.{ready_post, mine_moved}
-use Rattle.smp_queue.specs.Names.post
+use Rattle.smp_queue.specs.post
 use Rattle.smp_queue.proofs.post.link.Goals as goal
 
 pub store-requires : goal.store-requires

@@ -1,10 +1,9 @@
-use Rattle.std.proofs.Common.{arith}
-use Rattle.std.proofs.Common.{sym, refl, ap}
+use Rattle.std.proofs.Common.{arith, sym, refl, ap}
 use Rattle.smp_call_steps.specs.Known.{posting_of}
 use Rattle.smp_call_steps.proofs.Knows.Posted.{locked_known, func_known, info_known}
 use Rattle.smp_queue.proofs.Posts.Ready.{ready_post, mine_moved}
-use Rattle.smp_queue.specs.Names.{Flags, Store}
-use Rattle.smp_queue.specs.Names.post
+use Rattle.smp_queue.specs.{Flags, Store}
+use Rattle.smp_queue.specs.post
 use Rattle.smp_queue.proofs.post.write_record.Goals as goal
 
 pub store-requires : goal.store-requires

@@ -1,13 +1,12 @@
-use Rattle.std.proofs.Common.{arith}
-use Rattle.std.proofs.Common.{ℕ, ◌+◌, ◌<◌, Option, Some, refl, ap, ◌∙◌, sym, subst}
+use Rattle.std.proofs.Common.{arith, ℕ, ◌+◌, ◌<◌, Option, Some, refl, ap, ◌∙◌, sym, subst}
 use Rattle.smp_call_steps.specs.Drains.{record_at, reverse_on}
 use Rattle.smp_call_steps.specs.Handling.{goes_known}
 use Rattle.smp_words.specs.declared.size.TheConstants.{MOST_CALLS}
 use Rattle.smp_call_steps.proofs.Knows.Handling.{lives_fits, next_stored_is}
-use Rattle.smp_queue.specs.Names.{Next, Load, Store, Known, Handle}
-use Rattle.smp_queue.specs.Names.handle
+use Rattle.smp_queue.specs.{Next, Load, Store, Known, Handle}
 use Rattle.smp_queue.proofs.Handling.Handles.{in_handle_ready, in_handle_then}
 use Rattle.smp_queue.proofs.Handling.Going.{next_known, next_goes, found_fits}
+use Rattle.smp_queue.specs.handle
 use Rattle.smp_queue.proofs.reverse.reverse_one.Goals as goal
 
 pub load-link-requires : goal.load-link-requires

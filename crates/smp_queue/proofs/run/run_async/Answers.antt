@@ -6,10 +6,9 @@ use Rattle.smp_call_steps.specs.Handling.{ended_call}
 use Rattle.smp_words.proofs.Sizes.{owner-below}
 use Rattle.smp_call_steps.proofs.State.Walks.{ends_async}
 use Rattle.smp_call_steps.proofs.Knows.Handling.{lives_stands, lives_front}
-use Rattle.smp_queue.specs.Names.{Known}
-use Rattle.smp_queue.specs.Names.handle
-use Rattle.smp_queue.specs.Handling.{heard}
+use Rattle.smp_queue.specs.{Known, heard}
 use Rattle.smp_queue.proofs.Handling.Running.{tally_running, has_run}
+use Rattle.smp_queue.specs.handle
 use Rattle.smp_queue.proofs.run.run_async.Goals as goal
 
 pub begin_async-begun-requires-clause-class : goal.begin_async-begun-requires-clause-class

@@ -1,6 +1,5 @@
-use Rattle.std.proofs.Common.{arith}
-use Rattle.std.proofs.Common.{refl, ◌∙◌, sym}
-use Rattle.smp_queue.specs.Names.{Func, Info, Next, Load}
+use Rattle.std.proofs.Common.{arith, refl, ◌∙◌, sym}
+use Rattle.smp_queue.specs.{Func, Info, Next, Load}
 use Rattle.smp_queue.proofs.Handling.Handles.{in_handle_ready}
 use Rattle.smp_queue.proofs.Handling.Running.{more_run}
 use Rattle.smp_queue.proofs.Handling.Going.{second_at, found_fits, async_func_at, async_info_at, async_known, run_kept}

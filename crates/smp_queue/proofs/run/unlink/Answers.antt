@@ -1,9 +1,9 @@
 use Rattle.std.proofs.Common.{ℕ, Option, refl, ap, sym}
 use Rattle.smp_call_steps.specs.Drains.{unlink_after}
-use Rattle.smp_queue.specs.Names.{Call, Sync, Func, Info, Next, Load, Store}
-use Rattle.smp_queue.specs.Names.handle
+use Rattle.smp_queue.specs.{Call, Sync, Func, Info, Next, Load, Store}
 use Rattle.smp_queue.proofs.Handling.Handles.{in_handle_ready}
 use Rattle.smp_queue.proofs.Handling.Going.{sync_info_at, sync_goes}
+use Rattle.smp_queue.specs.handle
 use Rattle.smp_queue.proofs.run.unlink.Goals as goal
 
 pub load-func-requires : goal.load-func-requires

@@ -1,8 +1,6 @@
 use Rattle.std.proofs.Common.{◌≡◌, ◌∙◌, ℕ, [], List, replicate, sym, subst}
 use Rattle.atomic_table.specs.Table.{opening}
-use Rattle.smp_queue.specs.Names.{Maker}
-use Rattle.smp_queue.specs.Cells.{cells}
-use Rattle.smp_queue.specs.Rule.{Ruled}
+use Rattle.smp_queue.specs.{Maker, cells, Ruled}
 use Rattle.smp_queue.proofs.TheRule.Keeps.{starts}
 use Rattle.smp_queue.proofs.seat.lay.Goals as goal
 

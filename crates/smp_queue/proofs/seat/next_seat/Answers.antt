@@ -1,5 +1,5 @@
 use Rattle.std.proofs.Common.{arith, ap, ◌∙◌}
-use Rattle.smp_queue.specs.Rule.{seat_made}
+use Rattle.smp_queue.specs.{seat_made}
 use Rattle.smp_queue.proofs.TheRule.Keeps.{splits, fresh_seat_is}
 use Rattle.smp_queue.proofs.seat.next_seat.Goals as goal
 

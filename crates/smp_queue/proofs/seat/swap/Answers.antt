@@ -1,10 +1,9 @@
 use Rattle.std.proofs.Common.{arith, ap, subst, ◌∙◌, ◌≡◌, Some}
 use Rattle.smp_call_steps.specs.Known.{Moment, known_taking}
-use Rattle.smp_queue.specs.Names.{Known}
-use Rattle.smp_queue.specs.Names.act
-use Rattle.smp_queue.specs.Rule.{known}
+use Rattle.smp_queue.specs.{Known, known}
 use Rattle.smp_queue.proofs.TheRule.Keeps.{swap_allowed, can_same}
 use Rattle.smp_queue.proofs.TheRule.Cells.{cell_below}
+use Rattle.smp_queue.specs.act
 use Rattle.smp_queue.proofs.seat.swap.Goals as goal
 
 pub swap-requires : goal.swap-requires

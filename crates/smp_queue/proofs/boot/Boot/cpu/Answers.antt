@@ -2,11 +2,10 @@ use Rattle.std.proofs.Common.{◌≡◌, true, Option, List, set, map, sym, ap, 
 use Rattle.std.specs.Prelude.{is_some}
 use Rattle.std.proofs.lemmas.List.{map-set}
 use Rattle.smp_mask.specs.Mask.{has}
-use Rattle.smp_queue.specs.Cpu.{BootValue, CpuValue, fresh_cpu, table_with, is_left, given}
-use Rattle.smp_queue.specs.Rule.{made_with}
+use Rattle.smp_queue.specs.{BootValue, CpuValue, fresh_cpu, table_with, is_left, given, made_with}
 use Rattle.smp_queue.proofs.TheRule.Seating.{taken_from, waits_fresh, left_is}
-use Rattle.smp_queue.proofs.boot.Boot.cpu.Goals as goal
 use Rattle.smp_queue.proofs.boot.Boot.cpu.Goals.{in-Some, in-None}
+use Rattle.smp_queue.proofs.boot.Boot.cpu.Goals as goal
 
 pub returns-clause-ok : goal.returns-clause-ok
 returns-clause-ok g c = elim c.match-take.branch [

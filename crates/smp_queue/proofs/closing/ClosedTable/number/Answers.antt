@@ -1,5 +1,5 @@
 use Rattle.std.proofs.Common.{ap, ◌∙◌}
-use Rattle.smp_queue.specs.Cells.{number_in}
+use Rattle.smp_queue.specs.{number_in}
 use Rattle.smp_queue.proofs.TheRule.Cells.{number_got}
 use Rattle.smp_queue.proofs.closing.ClosedTable.number.Goals as goal
 

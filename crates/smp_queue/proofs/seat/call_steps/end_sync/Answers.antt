@@ -1,6 +1,6 @@
 use Rattle.std.proofs.Common.{◌∙◌}
 use Rattle.smp_call_steps.proofs.Knows.Handling.{lives_stands, ended_sync_is}
-use Rattle.smp_queue.specs.Names.handle
+use Rattle.smp_queue.specs.handle
 use Rattle.smp_queue.proofs.seat.call_steps.end_sync.Goals as goal
 
 pub returns-clause-known : goal.returns-clause-known

@@ -1,5 +1,5 @@
 use Rattle.std.proofs.Common.{arith, ap, ◌∙◌}
-use Rattle.smp_queue.specs.Names.{Store}
+use Rattle.smp_queue.specs.{Store}
 use Rattle.smp_queue.proofs.TheRule.Cells.{cell_below}
 use Rattle.smp_queue.proofs.TheRule.Keeps.{store_allowed, can_same}
 use Rattle.smp_queue.proofs.Handling.Handles.{in_handle_can, in_handle_cell}

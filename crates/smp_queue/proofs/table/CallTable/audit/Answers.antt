@@ -1,5 +1,5 @@
 use Rattle.std.proofs.Common.{subst, refl}
-use Rattle.smp_queue.specs.Audit.{Audited, IfDrained, HasRowsOf}
+use Rattle.smp_queue.specs.{Audited, IfDrained, HasRowsOf}
 use Rattle.smp_queue.proofs.Audits.Closed.{last_seat, last_view, last_closes, drained_equal, drained_rows, drained_zeros, audited}
 use Rattle.smp_queue.proofs.table.CallTable.audit.Goals as goal
 

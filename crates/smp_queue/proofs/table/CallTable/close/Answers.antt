@@ -1,9 +1,6 @@
-use Rattle.std.proofs.Common.{arith}
-use Rattle.std.proofs.Common.{◌≤◌, ℕ, subst, ap, ◌∙◌}
+use Rattle.std.proofs.Common.{arith, ◌≤◌, ℕ, subst, ap, ◌∙◌}
 use Rattle.smp_words.specs.Size.{cpus}
-use Rattle.smp_queue.specs.Names.{Setting}
-use Rattle.smp_queue.specs.Audit.{Closes, ClosesWith}
-use Rattle.smp_queue.specs.Cpu.{setting_of}
+use Rattle.smp_queue.specs.{Setting, Closes, ClosesWith, setting_of}
 use Rattle.smp_queue.proofs.Audits.Closed.{closes_with}
 use Rattle.smp_queue.proofs.table.CallTable.close.Goals as goal
 

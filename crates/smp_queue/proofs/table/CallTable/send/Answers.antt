@@ -1,7 +1,7 @@
 use Rattle.std.proofs.Common.{◌<◌, sym, refl, ap, ◌∙◌, arith}
 use Rattle.smp_words.specs.Size.{cpus}
 use Rattle.smp_call_steps.proofs.Machine.Starts.{online_below}
-use Rattle.smp_queue.specs.Names.{Intr, Send}
+use Rattle.smp_queue.specs.{Intr, Send}
 use Rattle.smp_queue.proofs.TheRule.Cells.{has_cell}
 use Rattle.smp_queue.proofs.table.CallTable.send.Goals as goal
 
