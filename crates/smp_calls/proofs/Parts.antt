@@ -1,6 +1,5 @@
 -- A call to many, out of its parts.
-use Rattle.std.proofs.Common.{◌≡◌, ℕ, ◌<◌, ◌==◌, ◌||◌, ◌&&◌, not, Bool, true, false, cond, Option, Some, None, List, [], refl, sym, ap, ◌∙◌, arith}
-use Rattle.std.proofs.lemmas.List.{append-nil}
+use Rattle.std.proofs.Common.{◌≡◌, ℕ, ◌<◌, ◌==◌, ◌||◌, ◌&&◌, not, Bool, true, false, cond, Option, Some, None, List, refl, sym, ap, ◌∙◌, arith}
 use Rattle.std.proofs.lemmas.Bool.{cases_eq, ne_eqb, eq-eqb}
 use Rattle.std.proofs.lemmas.Bool.Decides.{nat_tests}
 use Rattle.smp_mask.specs.Mask.{has, members}
@@ -9,12 +8,11 @@ use Rattle.smp_words.specs.Size.{cpus, record_of}
 use Rattle.smp_words.specs.declared.call.Class.{Class}
 use Rattle.smp_queue.specs.Cpu.{CpuValue, confirmed_at}
 use Rattle.smp_queue.specs.declared.handler.Heard.{Heard}
-use Rattle.smp_calls.specs.Families.{Leaves, CallsMany, owes_at}
-use Rattle.smp_calls.specs.Queued.{interrupts_to, is_in, is_first_to, is_used}
+use Rattle.smp_calls.specs.Families.{CallsMany, owes_at}
+use Rattle.smp_calls.specs.Queued.{is_first_to, is_used}
 use Rattle.smp_calls.specs.Records.{many_call}
 use Rattle.smp_calls.specs.Targets.{is_target, remote}
-use Rattle.smp_calls.specs.Rounds.{Picks, Sends, QueuesEach, WaitsFor, HearsIf, is_many}
-use Rattle.smp_calls.proofs.Turns.{handles_same}
+use Rattle.smp_calls.specs.Rounds.{Picks, WaitsFor, HearsIf, is_many}
 use Rattle.smp_calls.proofs.Steps.{leaves_none, leaves_as, leaves_then, leaves_last}
 use Rattle.smp_calls.proofs.One.{and_true, and_false, or_false}
 use Rattle.smp_calls.proofs.Lists.{filter_members, agreeing}
@@ -24,10 +22,6 @@ confirmed_by true true x = refl
 confirmed_by true false x = refl
 confirmed_by false true x = refl
 confirmed_by false false x = refl
-
-owed_by : (first new old : Bool) → (first ≡ false → new ≡ old) → (new && not first) ≡ (old && not first)
-owed_by true new old e = and_false new ∙ sym (and_false old)
-owed_by false new old e = ap (λ b. b && true) (e refl)
 
 none_true : (b : Bool) → (b ≡ true → ⊥) → b ≡ false
 none_true true never = absurd (never refl)
@@ -89,19 +83,6 @@ picks_with says mask online this others called result here are picks made member
     search (called_here, out, cases_eq, own_target, eq-eqb, ne_eqb, others_targets, result_else, arith)
 
 module _ {H : Type 0} (leads : H → Heard → H → Type 0) where
-  -- sending changes nothing but what is owed and logged
-  leaves_sends : (c d : CpuValue) (h : H) (to : List ℕ) → Sends c d to
-      → Leaves leads c h d h [] (interrupts_to to) (λ x. owes_at c x && not (is_in x to)) (confirmed_at c)
-  leaves_sends c d h to s = search (append-nil, handles_same, arith)
-
-  -- all calls are queued, and then all interrupts sent
-  pub calls_all : {old mid new : CpuValue} {before m : H} {says : ℕ → Bool → Type 0} (class : Class) (func info : ℕ) (others called owed : ℕ) →
-      QueuesEach leads old before mid m says (many_call old.number class func info) others called owed → Sends mid new (members owed) →
-      CallsMany leads old before new m (members called) class func info None false
-  calls_all {old} {mid} {new} {before} {m} class func info others called owed q s =
-      let call = many_call old.number class func info in
-      let both = leaves_then leads q.queues.leaves (leaves_sends mid new m (members owed) s) in
-      search (append-nil, call, both, leaves_as, owed_by, arith)
 
   -- and then waited for, with a direct call before or not
   pub calls_waited_for : (old mid new : CpuValue) (before m after : H) (class : Class) (func info : ℕ) (to : List ℕ) (here : Option Heard) (wait : Bool) →

@@ -191,11 +191,3 @@ in_table _ l = absurd l
 -- no queue begins at a CPU that there cannot be
 pub no_head : (words : List ℕ) (cpu : ℕ) → cpus ≤ cpu → number_in words (Head cpu) ≡ 0
 no_head words cpu l = rw (le-ltb cpu cpus l) refl
-
-below_end : (w : Word) (i : ℕ) → Reads w i → i < table_size
-below_end (Head c) i p = omega arith
-below_end _ i p = omega arith
-
--- a word's number is in the table
-pub index_below : (w : Word) (i : ℕ) → index_of w ≡ Some i → i < table_size
-index_below w i e = below_end w i (index_reads w i e)

@@ -21,24 +21,10 @@ pub owner_far : (id : ℕ) → FIRST_RECORDS ≤ id → owner id ≡ (id - FIRST
 unfolding owner
 owner_far id l = rw (le-ltb id FIRST_RECORDS l) refl
 
-local_near : (id : ℕ) → id < FIRST_RECORDS → local id ≡ id % FIRST_OF_ONE
-unfolding local
-local_near id l = rw (lt-ltb id FIRST_RECORDS l) refl
-
-local_far : (id : ℕ) → FIRST_RECORDS ≤ id → local id ≡ FIRST_OF_ONE + (id - FIRST_RECORDS) % MORE_OF_ONE
-unfolding local
-local_far id l = rw (le-ltb id FIRST_RECORDS l) refl
-
 pub owner-of_record : (source k : ℕ) → source < cpus → k < records_of_one → owner (record_of source k) ≡ source
 owner-of_record source k s l = elim (cases_lt k FIRST_OF_ONE) [
   | inl low ↦ let n = near source k low in let o = owner_near (record_of source k) (omega arith) in omega arith
   | inr high ↦ let n = far source k high in let o = owner_far (record_of source k) (omega arith) in omega arith
-]
-
-pub local-of_record : (source k : ℕ) → source < cpus → k < records_of_one → local (record_of source k) ≡ k
-local-of_record source k s l = elim (cases_lt k FIRST_OF_ONE) [
-  | inl low ↦ let n = near source k low in let o = local_near (record_of source k) (omega arith) in omega arith
-  | inr high ↦ let n = far source k high in let o = local_far (record_of source k) (omega arith) in omega arith
 ]
 
 -- one source's records are as many as their local numbers
@@ -54,20 +40,6 @@ one_local source j k b l e = elim (cases_lt j FIRST_OF_ONE) [
   ]
 ]
 
-pub record_of-parts : (id : ℕ) → record_of (owner id) (local id) ≡ id
-record_of-parts id = elim (cases_lt id FIRST_RECORDS) [
-  | inl low ↦
-      let o = owner_near id low in
-      let p = local_near id low in
-      let n = near (owner id) (local id) (omega arith) in
-      omega arith
-  | inr high ↦
-      let o = owner_far id high in
-      let p = local_far id high in
-      let n = far (owner id) (local id) (omega arith) in
-      omega arith
-]
-
 pub record_of-below : (source k : ℕ) → source < cpus → k < records_of_one → record_of source k < records
 record_of-below source k s l = elim (cases_lt k FIRST_OF_ONE) [
   | inl low ↦ let n = near source k low in omega arith
@@ -79,7 +51,3 @@ owner-below id l = elim (cases_lt id FIRST_RECORDS) [
   | inl low ↦ let o = owner_near id low in omega arith
   | inr high ↦ let o = owner_far id high in omega arith
 ]
-
--- a record has a number of 32 bits
-pub record_of-fits : (source k : ℕ) → source < cpus → k < records_of_one → record_of source k < 2 ^ 32
-record_of-fits source k s l = let b = record_of-below source k s l in omega arith

@@ -95,13 +95,6 @@ module _ {v : Known} (l : Lives v) where
   lives_placed : (id : ℕ) (call : Call) → call.id ≡ id → IsPlaced l.calls.place (place.Batch v.number) call → (id < records) × (l.at (Flags id) % 2 ≡ 1)
   lives_placed id call e q = search arith
 
-  pub lives_reversed : (newer : Option ℕ) (id : ℕ) → v.stage ≡ Some (Handle (handle.ReverseLoad newer id)) → id < records
-  lives_reversed newer id e =
-      let k = lives_stands (handle.ReverseLoad newer id) e in
-      let all = every_right (IsPlaced l.calls.place (place.Batch v.number)) k.1.older (k.0 ∷ k.1.newer)
-      (reverses_all (IsPlaced l.calls.place (place.Batch v.number)) k.1 (batched (handle.ReverseLoad newer id) e)) in
-      (lives_placed id k.0 k.2 all.0).0
-
   pub lives_locked : (walk : Walk) (id : ℕ) (next : Option ℕ) → v.stage ≡ Some (Handle (handle.LoadFlags walk id next)) → l.at (Flags id) % 2 ≡ 1
   lives_locked walk id next e =
       let k = lives_stands (handle.LoadFlags walk id next) e in
@@ -180,27 +173,7 @@ flags_found_is v h id n e odd = told_at [] v (Some (Handle h)) act.Load (Flags i
 
 -- steps that begin, count and end a call
 
-pub begun_sync_is : (v : Known) (cpu : ℕ) (walk : Walk) (call : Call) (next : Option ℕ) (rest : List Call)
-    → v.stage ≡ Some (Handle (handle.BeginSync walk call next)) → v.part.batch ≡ call ∷ rest →
-    known_told v act.Store (Hand cpu) None (Some (call.id + 2)) ≡ begun_sync walk call next v
-begun_sync_is v cpu walk call next rest e b = search (told_at, lt-ltb, arith)
-
-pub counted_sync_is : (v : Known) (cpu source n : ℕ) (walk : Walk) (call : Call) (next : Option ℕ) → v.stage ≡ Some (Handle (handle.CountSync walk call next))
-    → v.part.running ≡ SyncCall call →
-    known_told v act.Store (Ran cpu source) None (Some n) ≡ counted_sync walk call next v
-counted_sync_is v cpu source n walk call next e r = search (told_at, arith)
-
 pub ended_sync_is : (v : Known) (walk : Walk) (call : Call) (next : Option ℕ) → v.stage ≡ Some (Handle (handle.EndSync walk call next))
     → v.part.running ≡ CountedCall call →
     known_told v act.Store (Flags call.id) None (Some 0) ≡ ended_call (first_on walk next) call v
 ended_sync_is v walk call next e r = search (told_at, arith)
-
-pub begun_async_is : (v : Known) (call : Call) (next : Option ℕ) (rest : List Call) → v.stage ≡ Some (Handle (handle.BeginAsync call next))
-    → v.part.batch ≡ call ∷ rest → v.part.running ≡ Nothing →
-    known_told v act.Store (Flags call.id) None (Some 0) ≡ begun_async call next v
-begun_async_is v call next rest e b r = search (told_at, arith)
-
-pub counted_async_is : (v : Known) (cpu source n : ℕ) (call : Call) (next : Option ℕ) → v.stage ≡ Some (Handle (handle.CountAsync call next))
-    → v.part.running ≡ AsyncCall call →
-    known_told v act.Store (Ran cpu source) None (Some n) ≡ ended_call (second_on next) call v
-counted_async_is v cpu source n call next e r = search (told_at, arith)

@@ -31,9 +31,6 @@ Queued≢Running x y e = cc
 pub Batch≢Free : (x : ℕ) → place.Batch x ≢ place.Free
 Batch≢Free x e = cc
 
-pub Free≢Batch : (x : ℕ) → place.Free ≢ place.Batch x
-Free≢Batch x e = cc
-
 pub Running≢Free : (x : ℕ) → place.Running x ≢ place.Free
 Running≢Free x e = cc
 

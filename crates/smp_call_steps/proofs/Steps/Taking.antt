@@ -29,19 +29,6 @@ taken_minded : (me cpu id : ℕ) (p : RecPlace) → Minds cpu id p → place_tak
 taken_minded me cpu id (place.Queued c) m = absurd m
 taken_minded me cpu id _ m = refl
 
--- a record in another CPU's batch was there before
-taken_batch : (me cpu : ℕ) (p : RecPlace) → cpu ≢ me → place_taken me p ≡ place.Batch cpu → p ≡ place.Batch cpu
-taken_batch me cpu place.Free ne e = cc
-taken_batch me cpu place.Held ne e = cc
-taken_batch me cpu (place.Batch c) ne e = e
-taken_batch me cpu (place.Running c) ne e = cc
-taken_batch me cpu (place.Queued c) ne e =
-    at_test c me (λ b. cond b (place.Batch me) (place.Queued c) ≡ place.Batch cpu → place.Queued c ≡ place.Batch cpu)
-    (λ _ f. absurd (ne (same_cpu cpu me (sym f)))) (λ _ f. f) e
-  where
-    same_cpu : (x y : ℕ) → place.Batch x ≡ place.Batch y → x ≡ y
-    same_cpu x y f = cc
-
 FlagsShow-taken : (me flags : ℕ) (p : RecPlace) → FlagsShow p flags → FlagsShow (place_taken me p) flags
 FlagsShow-taken me flags (place.Queued c) f = at_test c me (λ b. FlagsShow (cond b (place.Batch me) (place.Queued c)) flags) (λ _. f) (λ _. f)
 FlagsShow-taken me flags _ f = f

@@ -76,10 +76,6 @@ pub record ReadsRows (number : ℕ → ℕ → ℕ) (n : ℕ) (rows : List (List
   pub sized : length rows ≡ cpus
   pub each : (cpu other : ℕ) → cpu < n → other < cpus → tally_at rows cpu other ≡ number cpu other
 
-pub rows_more : (number : ℕ → ℕ → ℕ) (n : ℕ) (row : List ℕ) (rows : List (List ℕ)) → n < cpus → IsRow (number n) row → ReadsRows number n rows
-    → ReadsRows number (n + 1) (set rows n row)
-rows_more number n row rows l e r = search (length-set, cases_eq, get_or, get_or-set_same, get_or-set_other, arith)
-
 -- both kinds
 pub record ReadsTally (at : Word → ℕ) (n : ℕ) (tally : Tally) : Type 0 where
   pub queued : ReadsRows (λ source to. at (Queued source to)) n tally.queued

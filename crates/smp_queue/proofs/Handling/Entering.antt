@@ -53,19 +53,6 @@ module _ (t : TableId) (d d' : SeatValue) (number : ℕ) where
   leave_ready handle.Leave h l e = in_handle_ready h (Store (Hand number) 0) tt (ap (λ (n : ℕ). Store (Hand n) 0) e)
   leave_ready _ h l e = absurd l
 
-  pub leave_known : (stage : HandleStage) → InHandle t d stage → IsLeaving stage
-      → known_told d.known act.Store (Hand number) None (Some 0) ≡ outside_known d.known
-  leave_known handle.LeaveIdle h l = left_is d.known number handle.LeaveIdle refl h.stage_is refl
-  leave_known handle.Leave h l = left_is d.known number handle.Leave refl h.stage_is refl
-  leave_known _ h l = absurd l
-
--- the interrupt that was found
-pub accepted_then : (t : TableId) (d d' : SeatValue) (v : Known) (number n : ℕ) (q : List Call) → InHandle t d handle.Accept → Moment d.known (Intr number) n
-    → d.known ≡ handling handle.Accept v.drain v →
-    d'.known ≡ known_taking q d.known act.Swap (Intr number) (Some n) (Some 0)
-    → d'.known ≡ accepted_known (cond (n == 0) false true) (handling handle.Accept v.drain v)
-accepted_then t d d' v number n q h m is known = search (lives_intr, accepted_is, arith)
-
 -- where no call runs and none is left, what ran is the drain order of the batches
 ran_orders : (v : Known) → Lives v → v.part.batch ≡ [] → v.part.running ≡ Nothing → v.part.ran ≡ orders v.part.taken
 ran_orders v l b r = sym (append-nil v.part.ran) ∙ ((λ i. v.part.ran ++ (running_call (sym r i) ++ sym b i)) ∙ lives_drained l)

@@ -33,22 +33,10 @@ kept_fresh v number e l o = record {
 }
 
 module _ {v : Known} {number : ℕ} {queued ran : List ℕ} (k : IsKept v number queued ran) where
-  pub kept_confirmed : (id : ℕ) → IsKept (confirmed_known id v) number queued ran
-  kept_confirmed id = search (length-set, arith)
-
-  pub kept_sent : (to : ℕ) → IsKept (record v { part = part_sent to v.part; log = v.log ++ logged.Interrupted to ∷ [] }) number queued ran
-  kept_sent to = search arith
 
   -- also where it has tried in vain
   pub kept_lost : (found : Found) → IsKept (lost_tries found v) number queued ran
   kept_lost found = search arith
-
-  pub kept_outside : IsKept (outside_known v) number queued ran
-  kept_outside = search arith
-
-  pub kept_unless : (b : Bool) (id : ℕ) → IsKept (cond b v (confirmed_known id v)) number queued ran
-  kept_unless true id = k
-  kept_unless false id = kept_confirmed id
 
   one_more : (n len : ℕ) → n ≡ len % 2 ^ 64 → (n + 1) % 2 ^ 64 ≡ (len + 1) % 2 ^ 64
   one_more n len e = omega arith
@@ -90,9 +78,3 @@ kept_posted v w v' number queued ran p first found k l e f =
     ∙ ap (λ (u : Known). queued_known (posted p) p.to first (last_found found) (lost_tries found u)) e in
     subst (λ (u : Known). IsKept u number (set queued p.to ((get_or queued p.to 0 + 1) % 2 ^ 64)) ran) (sym known)
     (kept_appended (kept_lost k found) p.to first (last_found found) (posted p) l)
-
--- the counts of a CPU that is about to count a call
-pub kept_counting : (v w : Known) (number to count : ℕ) (queued ran : List ℕ) (p : Posting) → IsKept v number queued ran → p.to ≡ to → to < cpus
-    → count ≡ get_or queued to 0 →
-    w ≡ standing (uncounted p) post.Count v → IsCounting w p number count
-kept_counting v w number to count queued ran p k e l is stands = search arith
