@@ -1,7 +1,7 @@
 -- To whom a record belongs. The only proofs that know how records are numbered.
-use Rattle.std.proofs.Common.{◌≡◌, ℕ, ◌+◌, ◌-◌, ◌*◌, ◌/◌, ◌%◌, ◌^◌, ◌<◌, ◌≤◌, refl, inl, inr, arith}
+use Rattle.std.proofs.Common.{◌≡◌, ℕ, ◌+◌, ◌-◌, ◌*◌, ◌/◌, ◌<◌, ◌≤◌, refl, inl, inr, arith}
 use Rattle.std.proofs.lemmas.Bool.{cases_lt, lt-ltb, le-ltb}
-use Rattle.smp_words.specs.Size.{cpus, records, records_of_one, owner, local, record_of}
+use Rattle.smp_words.specs.Size.{cpus, records, records_of_one, owner, record_of}
 use Rattle.smp_words.specs.declared.size.TheConstants.{FIRST_OF_ONE, MORE_OF_ONE, FIRST_RECORDS}
 
 -- the number of a first record of a source, and of a further one

@@ -1,20 +1,19 @@
 -- A CPU inside handle: what holds of it by the laws, and what it knows after each of its steps.
-use Rattle.std.proofs.Common.{◌≡◌, ◌≢◌, ℕ, ◌+◌, ◌%◌, ◌<◌, ◌==◌, Bool, true, false, cond, Option, Some, None, List, [], ◌∷◌, ◌++◌, sym, subst, refl, ap, ◌∙◌}
+use Rattle.std.proofs.Common.{◌≡◌, ◌≢◌, ℕ, ◌%◌, ◌<◌, ◌==◌, Bool, true, false, cond, Option, Some, None, List, [], ◌∷◌, ◌++◌, sym, subst, refl, ap, ◌∙◌}
 use Rattle.std.proofs.Common.{arith}
-use Rattle.std.proofs.lemmas.Bool.{lt-ltb, eq-eqb}
+use Rattle.std.proofs.lemmas.Bool.{eq-eqb}
 use Rattle.smp_words.specs.Size.{cpus, records}
 use Rattle.smp_words.specs.Access.{word_of}
-use Rattle.smp_call_steps.specs.{CallState, Nothing, SyncCall, CountedCall, AsyncCall, DrainValue, handle_goes, record_at, first_on, second_on}
+use Rattle.smp_call_steps.specs.{CallState, CountedCall, DrainValue, handle_goes, record_at, first_on}
 use Rattle.smp_call_steps.specs.{handle_outcome, drain_after, IsPlaced, AllPlaced, bit, nexts_in, last_batch, orders, running_call, ControlValue}
 use Rattle.smp_call_steps.specs.{access_of, FitsStage, Share, share_of, HandleStands, held_of, Part, part_confirmed, part_accepted}
 use Rattle.smp_call_steps.specs.{part_after, told_stage, told_post, told_handle, known_told, known_taking, stage_after}
 use Rattle.smp_call_steps.specs.{drain_then, tried_after, heads_after, log_after, MayStep, known_access, Lives, GoesOn, handling, goes_known}
-use Rattle.smp_call_steps.specs.{accepted_known, taken_known, begun_sync, counted_sync, begun_async, ended_call, Call, Word, Head, Intr, Hand, Ran, Flags}
+use Rattle.smp_call_steps.specs.{accepted_known, taken_known, ended_call, Call, Word, Head, Intr, Hand, Flags}
 use Rattle.smp_call_steps.specs.{Func, Info, Next, Access, Act, Posting, PostStage, Walk, HandleStage, Outcome, Stage, Post, Handle}
 use Rattle.smp_words.proofs.Links.{HasIndex}
 use Rattle.smp_call_steps.proofs.Machine.Accesses.{access_in_table}
-use Rattle.smp_call_steps.proofs.Basics.Alls.{every_right}
-use Rattle.smp_call_steps.proofs.State.Walks.{reverses_all, walks_rest, same_record}
+use Rattle.smp_call_steps.proofs.State.Walks.{walks_rest, same_record}
 use Rattle.smp_call_steps.proofs.Machine.Fits.{found_fits}
 use Rattle.smp_call_steps.proofs.Knows.Restages.{access_known}
 use Rattle.smp_call_steps.specs.declared.known.Known.{Known}

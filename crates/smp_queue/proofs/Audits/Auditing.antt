@@ -1,11 +1,11 @@
 -- What is counted and read of the closing words, so far.
-use Rattle.std.proofs.Common.{◌≡◌, ℕ, zero, suc, ◌+◌, ◌<◌, ◌≤◌, Bool, true, false, cond, List, [], length, length-set, get_or, set, refl, ap, ◌∙◌, subst, inl}
+use Rattle.std.proofs.Common.{◌≡◌, ℕ, zero, suc, ◌+◌, ◌<◌, ◌≤◌, Bool, true, false, cond, List, length, length-set, get_or, set, refl, ap, ◌∙◌, subst, inl}
 use Rattle.std.proofs.Common.{inr, arith}
 use Rattle.std.proofs.lemmas.Bool.{cases_eq}
 use Rattle.std.proofs.lemmas.List.{get_or-set_same, get_or-set_other}
 use Rattle.std.specs.Int.{from_bool}
 use Rattle.smp_words.specs.Size.{cpus}
-use Rattle.smp_queue.specs.{Word, Queued, Ran, Left, Tally, count_below, has_head, has_lock, has_hand, tally_at, IsRow}
+use Rattle.smp_queue.specs.{Word, Queued, Ran, Left, Tally, count_below, has_head, has_lock, has_hand, tally_at}
 
 pub count_zero : (test : ℕ → Bool) → count_below test 0 ≡ 0
 unfolding count_below

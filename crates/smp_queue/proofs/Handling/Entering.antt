@@ -1,5 +1,5 @@
 -- A CPU that enters handle, takes its queue, and leaves.
-use Rattle.std.proofs.Common.{arith, ◌≡◌, ℕ, ◌<◌, ◌==◌, true, false, cond, Option, Some, None, List, [], ◌∷◌, ◌++◌, length, append-nil, sym, refl, ap, ◌∙◌}
+use Rattle.std.proofs.Common.{arith, ◌≡◌, ℕ, ◌<◌, true, Option, Some, None, List, [], ◌∷◌, ◌++◌, length, append-nil, sym, refl, ap, ◌∙◌}
 use Rattle.std.proofs.Common.{subst}
 use Rattle.std.proofs.lemmas.List.{append_cancel_left}
 use Rattle.atomic_table.specs.Seated.{TableId}
@@ -11,9 +11,9 @@ use Rattle.smp_call_steps.specs.Words.{last_batch}
 use Rattle.std.specs.List.{FoldsTo}
 use Rattle.smp_call_steps.specs.Histories.{orders, running_call}
 use Rattle.smp_call_steps.specs.Parts.{part_taken}
-use Rattle.smp_call_steps.specs.Known.{known_told, known_taking, Moment, Lives, outside_known}
+use Rattle.smp_call_steps.specs.Known.{known_told, Lives, outside_known}
 use Rattle.smp_call_steps.specs.Handling.{handling, accepted_known, taken_known, IsLeaving}
-use Rattle.smp_call_steps.proofs.Knows.Handling.{lives_stands, lives_drained, lives_intr, entered_is, accepted_is, left_is}
+use Rattle.smp_call_steps.proofs.Knows.Handling.{lives_stands, lives_drained, entered_is}
 use Rattle.smp_call_steps.proofs.Steps.Taking.{orders-push, last_batch-push}
 use Rattle.smp_queue.proofs.TheRule.Cells.{has_cell}
 use Rattle.smp_queue.proofs.Handling.Handles.{in_handle_ready, in_handle_then}

@@ -1,15 +1,14 @@
 -- A step of a CPU inside handle that tells nothing of the calls: where it stands then, and what it knows.
-use Rattle.std.proofs.Common.{arith, ◌≡◌, ℕ, ◌%◌, ◌^◌, Option, Some, List, length, refl, ap, ◌∙◌, sym, subst}
+use Rattle.std.proofs.Common.{arith, ◌≡◌, ℕ, ◌%◌, Option, Some, List, refl, ap, ◌∙◌, sym, subst}
 use Rattle.atomic_table.specs.Seated.{TableId}
 use Rattle.smp_words.specs.Access.{word_of}
 use Rattle.smp_call_steps.specs.Drains.{record_at, unlink_after, handle_outcome, by_class, FitsFound, reverse_on, first_on, second_on}
 use Rattle.smp_words.specs.Flags.{class_of}
-use Rattle.smp_queue.specs.{Sync, Word, Flags, Func, Info, Next, Known, Walk, HandleStage, Stage, Handle, Heard, HasRunAll, runs, cpu_of, SeatValue, Loads}
+use Rattle.smp_queue.specs.{Sync, Word, Flags, Func, Info, Next, Known, Walk, HandleStage, Stage, Handle, Heard, HasRunAll, SeatValue, Loads}
 use Rattle.smp_queue.specs.{InHandle}
 use Rattle.smp_call_steps.specs.Known.{known_access, Moment}
 use Rattle.smp_call_steps.specs.Handling.{goes_known}
 use Rattle.smp_call_steps.proofs.Knows.Handling.{lives_fits, next_found_is, func_found_is, info_found_is, flags_found_is, lives_locked}
-use Rattle.smp_call_steps.specs.Histories.{calls_from}
 use Rattle.smp_queue.proofs.Handling.Handles.{in_handle_then}
 use Rattle.smp_queue.specs.handle
 

@@ -1,5 +1,5 @@
 -- A CPU inside handle: when it may make its next step, and where it stands after it.
-use Rattle.std.proofs.Common.{arith, ◌≡◌, Some, ap, ◌∙◌, subst}
+use Rattle.std.proofs.Common.{arith, ◌≡◌, Some, ap, ◌∙◌}
 use Rattle.atomic_table.specs.Seated.{TableId}
 use Rattle.smp_words.specs.Access.{word_of}
 use Rattle.smp_call_steps.specs.Known.{known_access, Lives}

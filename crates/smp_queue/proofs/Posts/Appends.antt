@@ -1,15 +1,13 @@
 -- A CPU that tries to append a call: what it knows between two tries.
-use Rattle.std.proofs.Common.{◌≡◌, ◌≢◌, ℕ, ◌+◌, ◌==◌, Some, [], ◌∷◌, ◌++◌, length, ◌%◌, ◌^◌, sym, refl, ap, ◌∙◌, arith}
+use Rattle.std.proofs.Common.{◌≡◌, ◌≢◌, ℕ, ◌==◌, Some, refl, ap, ◌∙◌, arith}
 use Rattle.atomic_table.specs.Seated.{TableId}
-use Rattle.smp_call_steps.specs.Heads.{Found, by_load, by_exchange, last_found, times_lost, heads_with, AreOthers}
-use Rattle.smp_call_steps.specs.Histories.{sent_to}
+use Rattle.smp_call_steps.specs.Heads.{Found, by_load, by_exchange, last_found, AreOthers}
 use Rattle.smp_call_steps.specs.Stands.{posted}
 use Rattle.smp_call_steps.specs.Known.{standing, queued_known, outside_known, looked_known, lost_one, lost_tries}
 use Rattle.smp_queue.specs.{Known, Posting, Post, GivesUp, SeatValue, IsMine, IsCounting, IsTallied, counted}
 use Rattle.smp_queue.specs.Appends.{Appends}
 use Rattle.smp_queue.proofs.Posts.Ready.{mine_moved}
 use Rattle.smp_queue.specs.post
-use Rattle.smp_queue.specs.head
 
 -- it stands before its next try, at the last of the numbers that it has found, and else knows what it knew
 pub record Tries (table : TableId) (before seat : SeatValue) (p : Posting) (link : ℕ) (found : Found) : Type 0 where

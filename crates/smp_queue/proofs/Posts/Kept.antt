@@ -1,5 +1,5 @@
 -- What a CPU keeps between two calls stays over each of them.
-use Rattle.std.proofs.Common.{◌≡◌, ℕ, ◌+◌, ◌%◌, ◌^◌, ◌<◌, Bool, true, false, cond, List, [], ◌∷◌, ◌++◌, length, get_or, set, replicate, length-set}
+use Rattle.std.proofs.Common.{◌≡◌, ℕ, ◌+◌, ◌%◌, ◌^◌, ◌<◌, Bool, true, false, List, [], ◌∷◌, ◌++◌, length, get_or, set, replicate, length-set}
 use Rattle.std.proofs.Common.{length-append, sym, refl, ap, ◌∙◌, subst, inl, inr, arith}
 use Rattle.std.proofs.lemmas.List.{append-nil, get_or-set_same, get_or-set_other, length-replicate}
 use Rattle.std.proofs.lemmas.Bool.{cases_eq}
@@ -7,15 +7,13 @@ use Rattle.smp_mask.specs.Mask.{has}
 use Rattle.smp_words.specs.Size.{cpus, records}
 use Rattle.smp_call_steps.specs.Stands.{posted}
 use Rattle.smp_call_steps.specs.Histories.{Marked, mark, sent_to, calls_from}
-use Rattle.smp_call_steps.specs.Parts.{part_sent}
 use Rattle.smp_call_steps.specs.Heads.{Found, last_found}
-use Rattle.smp_call_steps.specs.Known.{fresh, confirmed_known, queued_known, outside_known, lost_tries, standing}
+use Rattle.smp_call_steps.specs.Known.{fresh, queued_known, lost_tries, standing}
 use Rattle.smp_call_steps.proofs.Basics.Lists.{sent_to-push, one_if-same, one_if-other}
 use Rattle.smp_call_steps.proofs.Basics.Rows.{length-row}
 use Rattle.smp_words.proofs.Zeros.{get_or-same}
-use Rattle.smp_queue.specs.{Call, Known, Posting, IsCounting, uncounted, IsKept}
+use Rattle.smp_queue.specs.{Call, Known, Posting, uncounted, IsKept}
 use Rattle.smp_queue.specs.Appends.{Appends}
-use Rattle.smp_queue.specs.logged
 use Rattle.smp_queue.specs.post
 
 pub kept_fresh : (v : Known) (number : ℕ) → v ≡ fresh v.setting number → number < cpus → has v.setting.online number ≡ true

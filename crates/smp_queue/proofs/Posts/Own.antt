@@ -1,21 +1,18 @@
 -- A CPU's own records, and what a post leaves of its CPU.
-use Rattle.std.proofs.Common.{◌≡◌, ℕ, zero, suc, ◌+◌, ◌^◌, ◌<◌, Bool, true, false, not, ◌||◌, ◌==◌, nat_lt, None, List, [], ◌∷◌, ◌++◌, get_or, set, sym, refl}
-use Rattle.std.proofs.Common.{ap, ◌∙◌, arith}
+use Rattle.std.proofs.Common.{◌≡◌, ℕ, zero, suc, ◌^◌, ◌<◌, Bool, false, not, ◌||◌, ◌==◌, nat_lt, None, List, [], ◌∷◌, get_or, set, refl}
+use Rattle.std.proofs.Common.{ap, arith}
 use Rattle.std.proofs.lemmas.Bool.{or_parts, ltb-true}
 use Rattle.std.proofs.lemmas.List.{get_or-set_same}
 use Rattle.atomic_table.specs.Seated.{TableId}
 use Rattle.smp_call_steps.proofs.Machine.Starts.{then_none, not_false}
-use Rattle.smp_words.specs.Size.{cpus, records, records_of_one, record_of, owner}
+use Rattle.smp_words.specs.Size.{cpus, records_of_one, record_of}
 use Rattle.smp_call_steps.specs.Start.{command_refusal}
-use Rattle.smp_call_steps.specs.Stands.{posted}
-use Rattle.smp_call_steps.specs.Parts.{part_queued}
-use Rattle.smp_call_steps.specs.Heads.{Found, last_found, times_lost, heads_won}
-use Rattle.smp_call_steps.specs.Known.{posting_of, standing, outside_known, confirmed_known, queued_known, lost_tries}
+use Rattle.smp_call_steps.specs.Heads.{Found}
+use Rattle.smp_call_steps.specs.Known.{posting_of, standing, confirmed_known}
 use Rattle.smp_words.proofs.Sizes.{owner-of_record, record_of-below}
 use Rattle.smp_queue.specs.{Class, Known, Posting, cells, SeatValue, OwnsRecord, IsMine, uncounted, GivesUp, CpuValue, IsKept, MayQueue, cpu_of, confirms}
 use Rattle.smp_queue.specs.{loses, posts}
 use Rattle.smp_queue.specs.Appends.{Appends}
-use Rattle.smp_queue.specs.logged
 use Rattle.smp_queue.specs.post
 use Rattle.smp_words.specs.declared.command.Command.TheVariants as command
 

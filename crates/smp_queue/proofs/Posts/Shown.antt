@@ -1,14 +1,12 @@
 -- What a post shows of the calls: the record that it gave up is free, and its mark is that of the queue history.
-use Rattle.std.proofs.Common.{arith, ◌≡◌, ℕ, Bool, true, false, List, [], ◌∷◌, ◌++◌, get_or, sym, subst, refl, ap, ◌∙◌}
+use Rattle.std.proofs.Common.{arith, ◌≡◌, ℕ, Bool, get_or}
 use Rattle.smp_words.specs.Size.{record_of}
 use Rattle.smp_call_steps.specs.Calls.{CallState}
-use Rattle.smp_call_steps.specs.declared.known.Sending.{Sending}
-use Rattle.smp_call_steps.specs.Histories.{Marked, mark, sent_to, marked_from, history_of}
 use Rattle.smp_call_steps.specs.Heads.{Found}
-use Rattle.smp_call_steps.specs.Known.{standing, outside_known, lost_tries, Lives}
+use Rattle.smp_call_steps.specs.Known.{standing, Lives}
 use Rattle.smp_call_steps.proofs.Basics.Lists.{sent_to-push, one_if-same}
 use Rattle.smp_call_steps.proofs.Knows.Restages.{free_outside}
-use Rattle.smp_queue.specs.{Call, Class, Known, Part, Posting, GivesUp, CpuValue, MayQueue, cpu_of, posts, ShowsThat, IsFree, call_by, IsMarked, SeatValue}
+use Rattle.smp_queue.specs.{Class, Known, Posting, GivesUp, CpuValue, MayQueue, cpu_of, posts, ShowsThat, IsFree, call_by, IsMarked, SeatValue}
 use Rattle.smp_queue.specs.{uncounted}
 use Rattle.smp_queue.specs.post
 

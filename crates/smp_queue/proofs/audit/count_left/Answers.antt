@@ -1,6 +1,5 @@
-use Rattle.std.proofs.Common.{rules, ◌≡◌, ◌≤◌, ◌+◌, ◌%◌, ◌==◌, not, refl, arith, sym, ap, ◌∙◌}
-use Rattle.smp_words.specs.Size.{cpus, records}
-use Rattle.smp_queue.specs.{Head, Hand, Flags, number_in, count_below, has_head, has_hand, has_lock}
+use Rattle.std.proofs.Common.{rules, arith}
+use Rattle.smp_queue.specs.{Head, Hand, Flags}
 use Rattle.smp_queue.proofs.Audits.Auditing.{count_zero, counted_more, counted_small}
 use Rattle.smp_queue.proofs.TheRule.Cells.{has_cell}
 use Rattle.smp_queue.proofs.audit.count_left.Goals as goal

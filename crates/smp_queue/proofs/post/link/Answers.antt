@@ -1,5 +1,4 @@
-use Rattle.std.proofs.Common.{arith, ◌==◌, ◌+◌, sym, refl, ap, ◌∙◌, eq-eqb, ne_eqb}
-use Rattle.smp_call_steps.specs.Known.{lost_one}
+use Rattle.std.proofs.Common.{arith, sym, refl, ap, eq-eqb, ne_eqb}
 use Rattle.smp_call_steps.proofs.Knows.Posted.{stands_as, next_known, won_known, lost_known}
 use Rattle.smp_queue.specs.{counted}
 use Rattle.smp_queue.proofs.Posts.Ready.{ready_post, mine_moved}

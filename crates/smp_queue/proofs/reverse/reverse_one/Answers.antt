@@ -1,9 +1,8 @@
-use Rattle.std.proofs.Common.{arith, ℕ, ◌+◌, ◌<◌, Option, Some, refl, ap, ◌∙◌, sym, subst}
-use Rattle.smp_call_steps.specs.Drains.{record_at, reverse_on}
-use Rattle.smp_call_steps.specs.Handling.{goes_known}
+use Rattle.std.proofs.Common.{arith, ℕ, ◌<◌, refl, ap, sym, subst}
+use Rattle.smp_call_steps.specs.Drains.{record_at}
 use Rattle.smp_words.specs.declared.size.TheConstants.{MOST_CALLS}
 use Rattle.smp_call_steps.proofs.Knows.Handling.{lives_fits, next_stored_is}
-use Rattle.smp_queue.specs.{Next, Load, Store, Known, Handle}
+use Rattle.smp_queue.specs.{Next, Load, Store, Known}
 use Rattle.smp_queue.proofs.Handling.Handles.{in_handle_ready, in_handle_then}
 use Rattle.smp_queue.proofs.Handling.Going.{next_known, next_goes, found_fits}
 use Rattle.smp_queue.specs.handle

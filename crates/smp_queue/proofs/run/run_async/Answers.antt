@@ -1,12 +1,11 @@
-use Rattle.std.proofs.Common.{◌≡◌, ◌∙◌, ◌+◌, ◌%◌, ◌^◌, ◌<◌, ℕ, get_or, set, ap, sym, subst, arith}
-use Rattle.smp_words.specs.Size.{cpus, owner}
+use Rattle.std.proofs.Common.{◌≡◌, ◌∙◌, ◌+◌, ◌%◌, ◌^◌, ℕ, get_or, set, ap, subst, arith}
+use Rattle.smp_words.specs.Size.{owner}
 use Rattle.smp_call_steps.specs.Drains.{second_on}
-use Rattle.smp_call_steps.specs.Histories.{counted_call}
 use Rattle.smp_call_steps.specs.Handling.{ended_call}
 use Rattle.smp_words.proofs.Sizes.{owner-below}
 use Rattle.smp_call_steps.proofs.State.Walks.{ends_async}
 use Rattle.smp_call_steps.proofs.Knows.Handling.{lives_stands, lives_front}
-use Rattle.smp_queue.specs.{Known, heard}
+use Rattle.smp_queue.specs.{heard}
 use Rattle.smp_queue.proofs.Handling.Running.{tally_running, has_run}
 use Rattle.smp_queue.specs.handle
 use Rattle.smp_queue.proofs.run.run_async.Goals as goal

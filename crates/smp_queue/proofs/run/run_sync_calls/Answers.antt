@@ -1,11 +1,9 @@
-use Rattle.std.proofs.Common.{arith, Some, refl, ap, ◌∙◌, sym}
-use Rattle.smp_call_steps.specs.Drains.{record_at, first_on, by_class}
-use Rattle.smp_queue.specs.{Class, Flags, Next, Load, Known}
+use Rattle.std.proofs.Common.{arith, refl, ◌∙◌, sym}
+use Rattle.smp_queue.specs.{Flags, Next, Load}
 use Rattle.smp_queue.proofs.Handling.Ahead.{ahead_less, ahead_then, same_taken}
 use Rattle.smp_queue.proofs.Handling.Handles.{in_handle_ready}
 use Rattle.smp_queue.proofs.Handling.Running.{more_run}
 use Rattle.smp_queue.proofs.Handling.Going.{first_at, found_fits, sync_flags_at, class_goes, class_kept, kept_on, run_kept}
-use Rattle.smp_queue.specs.handle
 use Rattle.smp_queue.proofs.run.run_sync_calls.Goals as goal
 
 pub load-link-requires : goal.load-link-requires

@@ -1,7 +1,5 @@
-use Rattle.std.proofs.Common.{arith, List, ℕ, subst, ap, ◌∙◌}
+use Rattle.std.proofs.Common.{arith}
 use mathlib.Core.Option.{some}
-use Rattle.smp_queue.specs.Names.{Cpu}
-use Rattle.smp_queue.specs.{Closes}
 use Rattle.smp_queue.proofs.Audits.Closed.{closes}
 use Rattle.smp_queue.proofs.seat.close.Goals as goal
 

@@ -1,6 +1,4 @@
-use Rattle.std.proofs.Common.{rules, arith, ap, subst, ◌∙◌}
-use Rattle.smp_call_steps.specs.Known.{Moment}
-use Rattle.smp_queue.specs.{Known}
+use Rattle.std.proofs.Common.{rules, arith, ap, ◌∙◌}
 use Rattle.smp_queue.proofs.TheRule.Keeps.{load_allowed, can_same}
 use Rattle.smp_queue.proofs.TheRule.Cells.{cell_below}
 use Rattle.smp_queue.proofs.seat.load.Goals as goal

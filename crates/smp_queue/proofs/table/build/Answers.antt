@@ -1,6 +1,5 @@
-use Rattle.std.proofs.Common.{◌≡◌, ◌+◌, length, cond, Some, None, refl, sym, ap, ◌∙◌, subst, arith}
-use Rattle.smp_call_steps.specs.Known.{fresh}
-use Rattle.smp_queue.specs.{TableValue, cpu_of, fresh_cpu, table_with, AreWaiting, Setting, Maker, made_with}
+use Rattle.std.proofs.Common.{refl, arith}
+use Rattle.smp_queue.specs.{table_with, made_with}
 use Rattle.smp_queue.proofs.TheRule.Seating.{seats_more, seats_wait, seats_left}
 use Rattle.smp_queue.proofs.table.build.Goals as goal
 

@@ -1,6 +1,4 @@
-use Rattle.std.proofs.Common.{arith, ◌≡◌, ℕ, true, sym, subst}
-use Rattle.smp_mask.specs.Mask.{has}
-use Rattle.smp_queue.specs.{IsShown}
+use Rattle.std.proofs.Common.{arith}
 use Rattle.smp_queue.proofs.Audits.Showing.{is_shown}
 use Rattle.smp_queue.proofs.cpu.CallCpu.is_shown.Goals as goal
 

@@ -1,5 +1,5 @@
 use Rattle.std.proofs.Common.{arith, ℕ, ◌+◌, ◌%◌, ◌^◌, set, get_or, sym, ap, ◌∙◌, subst}
-use Rattle.smp_queue.specs.{Posting, CpuValue, IsKept}
+use Rattle.smp_queue.specs.{Posting, IsKept}
 use Rattle.smp_queue.proofs.Posts.Kept.{kept_posted}
 use Rattle.smp_queue.proofs.Posts.Own.{mine_of, posts_then}
 use Rattle.smp_queue.proofs.Posts.Shown.{marked_then}
