@@ -41,14 +41,10 @@ pub record Touches (id : ℕ) (places places' : ℕ → RecPlace) (at at' : Word
   pub info : (u : ℕ) → u ≢ id → at' (Info u) ≡ at (Info u)
   pub next : (u : ℕ) → u ≢ id → at' (Next u) ≡ at (Next u)
 
--- a record of another CPU is not the one that I mind
-pub else_minded : (me cpu id u : ℕ) (places : ℕ → RecPlace) → Minds me id (places id) → cpu ≢ me → Minds cpu u (places u) → u ≢ id
-else_minded me cpu id u places mine ne theirs e = search (one_minds, arith)
-
 -- a step on a record that I mind leaves the others alone
 pub leaves_others : (me id : ℕ) (places places' : ℕ → RecPlace) (at at' : Word → ℕ) → Minds me id (places id) → Touches id places places' at at' → (cpu : ℕ)
     → cpu ≢ me → LeavesTo cpu places places' at at'
-leaves_others me id places places' at at' mine t cpu ne = search (else_minded, arith)
+leaves_others me id places places' at at' mine t cpu ne = search (one_minds, arith)
 
 -- a step on words of CPUs alone
 pub leaves_all : (places : ℕ → RecPlace) (at at' : Word → ℕ) → ((id : ℕ) → at' (Flags id) ≡ at (Flags id)) → ((id : ℕ) → at' (Func id) ≡ at (Func id))

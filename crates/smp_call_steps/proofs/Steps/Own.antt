@@ -87,9 +87,6 @@ module _ (a : CallState) (at at' : Word → ℕ) (control : ℕ → ControlValue
   elsewhere : (u : ℕ) (p : RecPlace) → a.place u ≡ p → (IsHome p → ⊥) → u ≢ id
   elsewhere u p e away f = away (subst IsHome (sym (ap a.place f) ∙ e) o.before)
 
-  placed_else : (p : RecPlace) → (IsHome p → ⊥) → (calls : List Call) → AllPlaced a.place p calls → AllPlaced places' p calls
-  placed_else p away = search (every, elsewhere, arith)
-
   written_else : (p : RecPlace) → (IsHome p → ⊥) → (calls : List Call) → AllPlaced a.place p calls → AllByRecursion (IsWrittenIn at) calls
       → AllByRecursion (IsWrittenIn at') calls
   written_else p away [] q w = tt
@@ -115,7 +112,7 @@ module _ (a : CallState) (at at' : Word → ℕ) (control : ℕ → ControlValue
   there_id = elim o.after [ inl e ↦ rw e tt | inr e ↦ rw (e.0, o.owned) e.1 ]
 
   placed' : Placed places' held' a.queue a.batch a.running a.confirmed
-  placed' = search (placed_else, away_queue, away_batch, away_running, cases_eq, there_id, there_else, holds_else, arith)
+  placed' = search (away_queue, away_batch, away_running, cases_eq, there_id, there_else, holds_else, every, elsewhere, arith)
 
   written' : WrittenIn at' places' a.queue a.batch a.running
   written' = search (cases_eq, written_else, away_queue, away_batch, away_running, arith)
