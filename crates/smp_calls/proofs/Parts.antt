@@ -83,7 +83,6 @@ picks_with says mask online this others called result here are picks made member
     search (called_here, out, cases_eq, own_target, eq-eqb, ne_eqb, others_targets, result_else, arith)
 
 module _ {H : Type 0} (leads : H → Heard → H → Type 0) where
-
   -- and then waited for, with a direct call before or not
   pub calls_waited_for : (old mid new : CpuValue) (before m after : H) (class : Class) (func info : ℕ) (to : List ℕ) (here : Option Heard) (wait : Bool) →
       CallsMany leads old before mid m to class func info here false → WaitsFor leads mid m new after to wait →

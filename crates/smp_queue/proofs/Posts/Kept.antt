@@ -31,7 +31,6 @@ kept_fresh v number e l o = record {
 }
 
 module _ {v : Known} {number : ℕ} {queued ran : List ℕ} (k : IsKept v number queued ran) where
-
   -- also where it has tried in vain
   pub kept_lost : (found : Found) → IsKept (lost_tries found v) number queued ran
   kept_lost found = search arith
