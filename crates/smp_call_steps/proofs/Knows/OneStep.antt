@@ -137,11 +137,8 @@ module _ {a : CallState} {at : Word → ℕ} {control : ℕ → ControlValue} {v
   others : (o : Known) → o.number ≢ me → Sees a control o → Sees (Told a at me v.drain st) (put controls me after) o
   others o ne k =
       let there : put controls me after o.number ≡ control o.number = put_other controls me after o.number ne ∙ put_other control me standing o.number ne in
-      record {
-        stage = ap (λ (c : ControlValue). told_stage c.stage) there ∙ k.stage;
-        drain = ap (λ (c : ControlValue). c.drain) there ∙ k.drain;
-        part = part_else me v.drain s st o.number ne ∙ k.part;
-      }
+      let part = part_else me v.drain s st o.number ne ∙ k.part in
+      search (there, part, arith)
 
   one_step : GoesOn a control me (at_after at (access_of at me st)) (known_tells (a.queue me) v seen)
   one_step = record {

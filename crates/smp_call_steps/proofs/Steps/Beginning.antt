@@ -166,26 +166,22 @@ module _ {a : CallState} {at : Word → ℕ} {control : ℕ → ControlValue} (m
       Shows (begins_async a me (call ∷ rest)) (put_word at (Flags call.id) 0) (put control me c)
   begun_async next call rest c front idle held hand stage stands =
       let to : RecPlace = place.Free in
-      record {
-        held = held_after me s c (rw stage held);
-        stands = begun_stands call rest front idle to (AsyncCall call) (put_word at (Flags call.id) 0) c
-            (record {
-              place_stays = λ u ne. test_else u call.id to (a.place u) ne;
-              flags = λ u ne. test_else u call.id 0 (at (Flags u)) ne;
-              func = λ _ _. refl;
-              info = λ _ _. refl;
-              next = λ _ _. refl;
-            }) stands;
-        hands = hands_after me s c hand;
-        placed = begun_placed call rest front idle to (AsyncCall call) tt tt;
-        written = begun_written call rest front idle to (AsyncCall call) (put (flags_in at) call.id 0) (λ u ne. test_else u call.id 0 (at (Flags u)) ne)
-            (test_here call.id 0 (at (Flags call.id))) tt;
-        chained = s.chained;
-        links = s.links;
-        noticed = s.noticed;
-        recorded = begun_recorded call rest front idle to (AsyncCall call) refl;
-        tallied = begun_tallied call rest front idle to (AsyncCall call) refl;
-      }
+      let held' = held_after me s c (rw stage held) in
+      let stands' = begun_stands call rest front idle to (AsyncCall call) (put_word at (Flags call.id) 0) c
+          (record {
+          place_stays = λ u ne. test_else u call.id to (a.place u) ne;
+          flags = λ u ne. test_else u call.id 0 (at (Flags u)) ne;
+          func = λ _ _. refl;
+          info = λ _ _. refl;
+          next = λ _ _. refl;
+          }) stands in
+      let hands = hands_after me s c hand in
+      let placed = begun_placed call rest front idle to (AsyncCall call) tt tt in
+      let written = begun_written call rest front idle to (AsyncCall call) (put (flags_in at) call.id 0) (λ u ne. test_else u call.id 0 (at (Flags u)) ne)
+          (test_here call.id 0 (at (Flags call.id))) tt in
+      let recorded = begun_recorded call rest front idle to (AsyncCall call) refl in
+      let tallied = begun_tallied call rest front idle to (AsyncCall call) refl in
+      search (held', stands', hands, placed, written, recorded, tallied, arith)
 
   pub begin_async_step : (call : Call) (next : Option ℕ) → (control me).stage ≡ Some (Handle (handle.BeginAsync call next))
       → StepShows a at control me (Handle (handle.BeginAsync call next))

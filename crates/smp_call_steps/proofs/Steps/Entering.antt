@@ -33,19 +33,12 @@ module _ {a : CallState} {at : Word → ℕ} {control : ℕ → ControlValue} (m
   -- a step that stores the own handling word alone
   stores_hand : (n : ℕ) (c : ControlValue) → a.held me ≡ held_of c.stage → Stands a.place (put_word at (Hand me) n) (share_of a me) me c → HandIs c.stage n →
       Shows a (put_word at (Hand me) n) (put control me c)
-  stores_hand n c held stands hand = record {
-    held = held_after me s c held;
-    stands = stands_after me s (put_word at (Hand me) n) a.place (share_of a) c (λ _ _. refl)
-        (λ cpu _. leaves_all a.place at (put_word at (Hand me) n) (λ _. refl) (λ _. refl) (λ _. refl) (λ _. refl) cpu) stands;
-    hands = hands_stored me s c n hand;
-    placed = s.placed;
-    written = s.written;
-    chained = s.chained;
-    links = s.links;
-    noticed = s.noticed;
-    recorded = s.recorded;
-    tallied = s.tallied;
-  }
+  stores_hand n c held stands hand =
+      let held' = held_after me s c held in
+      let stands' = stands_after me s (put_word at (Hand me) n) a.place (share_of a) c (λ _ _. refl)
+          (λ cpu _. leaves_all a.place at (put_word at (Hand me) n) (λ _. refl) (λ _. refl) (λ _. refl) (λ _. refl) cpu) stands in
+      let hands = hands_stored me s c n hand in
+      search (held', stands', hands, arith)
 
   pub enter_step : (control me).stage ≡ Some (Handle handle.Enter) → StepShows a at control me (Handle handle.Enter)
   enter_step e =

@@ -96,22 +96,12 @@ module _ {cpu : ℕ} {places places' : ℕ → RecPlace} {at at' : Word → ℕ}
 
   Walks-kept : (s : Share) (d : DrainValue) (walk : Walk) (here : ℕ) (front rest : List Call) (running : Running) → AllPlaced places (place.Batch cpu) s.batch
       → Walks (nexts_in at) s d walk here front rest running → Walks (nexts_in at') s d walk here front rest running
-  Walks-kept s d walk here front rest running b h = record {
-    passed = h.passed;
-    begun = h.begun;
-    whole = h.whole;
-    begun_are = h.begun_are;
-    leads_here = Path-kept (nexts_in at) (nexts_in at') (IsPlaced places (place.Batch cpu)) same_next (link_to walk.first) (async_calls h.passed) here
-        (walks_passed (IsPlaced places (place.Batch cpu)) h b) h.leads_here;
-    ends_at = h.ends_at;
-    leads_on = Path-kept (nexts_in at) (nexts_in at') (IsPlaced places (place.Batch cpu)) same_next here rest 0
-        (walks_rest (IsPlaced places (place.Batch cpu)) h b) h.leads_on;
-    apart = h.apart;
-    counted = h.counted;
-    batch = h.batch;
-    running_is = h.running_is;
-    accepted = h.accepted;
-  }
+  Walks-kept s d walk here front rest running b h =
+      let leads_here = Path-kept (nexts_in at) (nexts_in at') (IsPlaced places (place.Batch cpu)) same_next (link_to walk.first) (async_calls h.passed) here
+          (walks_passed (IsPlaced places (place.Batch cpu)) h b) h.leads_here in
+      let leads_on = Path-kept (nexts_in at) (nexts_in at') (IsPlaced places (place.Batch cpu)) same_next here rest 0
+          (walks_rest (IsPlaced places (place.Batch cpu)) h b) h.leads_on in
+      search (leads_here, leads_on, arith)
 
   walked_next : (s : Share) (d : DrainValue) (walk : Walk) (id : ℕ) (call : Call) (rest : List Call) → AllPlaced places (place.Batch cpu) s.batch
       → Walks (nexts_in at) s d walk (id + 1) [] (call ∷ rest) Nothing → at' (Next id) ≡ at (Next id)
@@ -121,18 +111,10 @@ module _ {cpu : ℕ} {places places' : ℕ → RecPlace} {at at' : Word → ℕ}
 
   Ends-kept : (s : Share) (d : DrainValue) (here : ℕ) (front rest : List Call) (running : Running) → AllPlaced places (place.Batch cpu) s.batch
       → Ends (nexts_in at) s d here front rest running → Ends (nexts_in at') s d here front rest running
-  Ends-kept s d here front rest running b h = record {
-    begun = h.begun;
-    whole = h.whole;
-    apart = h.apart;
-    leads_on = Path-kept (nexts_in at) (nexts_in at') (IsPlaced places (place.Batch cpu)) same_next here rest 0
-        (ends_rest (IsPlaced places (place.Batch cpu)) h b) h.leads_on;
-    asyncs = h.asyncs;
-    counted = h.counted;
-    batch = h.batch;
-    running_is = h.running_is;
-    accepted = h.accepted;
-  }
+  Ends-kept s d here front rest running b h =
+      let leads_on = Path-kept (nexts_in at) (nexts_in at') (IsPlaced places (place.Batch cpu)) same_next here rest 0
+          (ends_rest (IsPlaced places (place.Batch cpu)) h b) h.leads_on in
+      search (leads_on, arith)
 
   ended_next : (s : Share) (d : DrainValue) (id : ℕ) (call : Call) (rest : List Call) → AllPlaced places (place.Batch cpu) s.batch
       → Ends (nexts_in at) s d (id + 1) [] (call ∷ rest) Nothing → at' (Next id) ≡ at (Next id)

@@ -17,20 +17,13 @@ pub passes_sync : (nexts nexts' : ℕ → ℕ) (s : Share) (d : DrainValue) (wal
     → (h : Walks nexts s d walk (call.id + 1) [] (call ∷ rest) Nothing) → call.class ≡ Sync →
     Path nexts' (link_to walk'.first) (async_calls h.passed) (link_to next) → EndsAt walk'.last (async_calls h.passed) → Path nexts' (link_to next) rest 0
     → Walks nexts' s d walk' (link_to next) (call ∷ []) rest Nothing
-passes_sync nexts nexts' s d walk walk' next call rest h e here ends on = record {
-  passed = h.passed ++ call ∷ [];
-  begun = sync_calls h.passed;
-  whole = h.whole ∙ sym (append_assoc h.passed (call ∷ []) rest);
-  begun_are = sync_calls-push h.passed call ∙ ap (λ (c : Class). sync_calls h.passed ++ if_sync c call) e;
-  leads_here = subst (λ (xs : List Call). Path nexts' (link_to walk'.first) xs (link_to next)) (sym (passed_sync h.passed call e)) here;
-  ends_at = subst (EndsAt walk'.last) (sym (passed_sync h.passed call e)) ends;
-  leads_on = on;
-  apart = h.apart;
-  counted = h.counted;
-  batch = h.batch ∙ ap (λ (c : Class). (if_sync c call ++ sync_calls rest) ++ async_calls s.last) e;
-  running_is = h.running_is;
-  accepted = h.accepted;
-}
+passes_sync nexts nexts' s d walk walk' next call rest h e here ends on =
+    let passed = h.passed ++ call ∷ [] in
+    let begun = sync_calls h.passed in
+    let whole = h.whole ∙ sym (append_assoc h.passed (call ∷ []) rest) in
+    let begun_are = sync_calls-push h.passed call ∙ ap (λ (c : Class). sync_calls h.passed ++ if_sync c call) e in
+    let batch = h.batch ∙ ap (λ (c : Class). (if_sync c call ++ sync_calls rest) ++ async_calls s.last) e in
+    search (passed, begun, whole, begun_are, passed_sync, batch, arith)
 
 -- an ASYNC record stays in it
 passes_async : (nexts : ℕ → ℕ) (s : Share) (d : DrainValue) (walk : Walk) (id : ℕ) (next : Option ℕ) (call : Call) (rest : List Call)

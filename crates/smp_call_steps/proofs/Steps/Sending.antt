@@ -13,18 +13,11 @@ use Rattle.smp_call_steps.specs.place
 -- a step that changes no word and no call
 pub stands_on : (a : CallState) (at : Word → ℕ) (control : ℕ → ControlValue) (me : ℕ) (next : ControlValue) → Shows a at control →
     a.held me ≡ held_of next.stage → Stands a.place at (share_of a me) me next → HandIs next.stage (at (Hand me)) → Shows a at (put control me next)
-stands_on a at control me next s held stands hand = record {
-  held = put_all (λ cpu (x : ControlValue). a.held cpu ≡ held_of x.stage) control me next held (λ cpu _. s.held cpu);
-  stands = put_all (λ cpu x. Stands a.place at (share_of a cpu) cpu x) control me next stands (λ cpu _. s.stands cpu);
-  hands = put_all (λ cpu (x : ControlValue). HandIs x.stage (at (Hand cpu))) control me next hand (λ cpu _. s.hands cpu);
-  placed = s.placed;
-  written = s.written;
-  chained = s.chained;
-  links = s.links;
-  noticed = s.noticed;
-  recorded = s.recorded;
-  tallied = s.tallied;
-}
+stands_on a at control me next s held stands hand =
+    let held' = put_all (λ cpu (x : ControlValue). a.held cpu ≡ held_of x.stage) control me next held (λ cpu _. s.held cpu) in
+    let stands' = put_all (λ cpu x. Stands a.place at (share_of a cpu) cpu x) control me next stands (λ cpu _. s.stands cpu) in
+    let hands = put_all (λ cpu (x : ControlValue). HandIs x.stage (at (Hand cpu))) control me next hand (λ cpu _. s.hands cpu) in
+    search (held', stands', hands, arith)
 
 -- a record whose flags have no LOCK is free
 pub unlocked_free : (p : RecPlace) (flags : ℕ) → FlagsShow p flags → (flags % 2 == 1) ≡ false → p ≡ place.Free

@@ -134,29 +134,26 @@ module _ {a : CallState} {at : Word → ℕ} {control : ℕ → ControlValue} (m
       let after : Share = share_of (takes a me) me in
       let whole : last_batch (put a.taken me (a.taken me ++ a.queue me ∷ []) me) ≡ a.queue me =
       ap last_batch (test_here me (a.taken me ++ a.queue me ∷ []) (a.taken me)) ∙ last_batch-push (a.taken me) (a.queue me) in
-      record {
-        held = held_after me s c (holds_nothing me s handle.Take e);
-        stands = stands_after me s (put_word at (Head me) 0) (place' a at me) (share_of (takes a me)) c
-            (λ cpu ne. at_test cpu me (λ b.
-            record {
-              last = last_batch (cond b (a.taken me ++ a.queue me ∷ []) (a.taken cpu));
-              batch = cond b (order (a.queue me)) (a.batch cpu);
-              running = a.running cpu;
-              accepted = cond b false (a.accepted cpu);
-            } ≡ share_of a cpu) (λ f. absurd (ne f)) (λ _. refl))
-            (λ cpu _. leaves_taken cpu) (
-              was.0,
-              reverse_goes (nexts_in at) after no_drain None (record_at link) (a.queue me) [] (whole ∙ sym (append-nil (a.queue me)))
-                  (subst (λ (n : ℕ). Leads (nexts_in at) n (a.queue me) 0) (sym (link_back link)) (s.chained.chain me)) refl
-                  (subst IsApart (sym whole) (s.placed.queue_apart me)) refl
-                  (test_here me (order (a.queue me)) (a.batch me) ∙ ap order (sym whole)) k.1 (test_here me false (a.accepted me)),
-            );
-        hands = hands_after me s c (hand_of_reverse None (record_at link) (at (Hand me)) (hand_at me s handle.Take e));
-        placed = placed_taken a at me k.0 s.placed;
-        written = written_taken a at me s.written;
-        chained = chained_taken a at me s.chained;
-        links = s.links;
-        noticed = noticed_taken a at me s.noticed;
-        recorded = recorded_taken a at me k.0 k.1 s.recorded;
-        tallied = s.tallied;
-      }
+      let held = held_after me s c (holds_nothing me s handle.Take e) in
+      let stands = stands_after me s (put_word at (Head me) 0) (place' a at me) (share_of (takes a me)) c
+          (λ cpu ne. at_test cpu me (λ b.
+          record {
+          last = last_batch (cond b (a.taken me ++ a.queue me ∷ []) (a.taken cpu));
+          batch = cond b (order (a.queue me)) (a.batch cpu);
+          running = a.running cpu;
+          accepted = cond b false (a.accepted cpu);
+          } ≡ share_of a cpu) (λ f. absurd (ne f)) (λ _. refl))
+          (λ cpu _. leaves_taken cpu) (
+          was.0,
+          reverse_goes (nexts_in at) after no_drain None (record_at link) (a.queue me) [] (whole ∙ sym (append-nil (a.queue me)))
+          (subst (λ (n : ℕ). Leads (nexts_in at) n (a.queue me) 0) (sym (link_back link)) (s.chained.chain me)) refl
+          (subst IsApart (sym whole) (s.placed.queue_apart me)) refl
+          (test_here me (order (a.queue me)) (a.batch me) ∙ ap order (sym whole)) k.1 (test_here me false (a.accepted me)),
+          ) in
+      let hands = hands_after me s c (hand_of_reverse None (record_at link) (at (Hand me)) (hand_at me s handle.Take e)) in
+      let placed = placed_taken a at me k.0 s.placed in
+      let written = written_taken a at me s.written in
+      let chained = chained_taken a at me s.chained in
+      let noticed = noticed_taken a at me s.noticed in
+      let recorded = recorded_taken a at me k.0 k.1 s.recorded in
+      search (held, stands, hands, placed, written, chained, noticed, recorded, arith)
