@@ -54,16 +54,9 @@ kept_here false m n cpu kept out h = out refl cpu ∙ (ap (λ b. has m cpu && no
 module _ {H : Type 0} (leads : H → Heard → H → Type 0) where
   pub asking_start : (c : CpuValue) (h : H) (says : ℕ → Bool → Type 0) (call : ℕ → Call) (others : ℕ)
       → Asking leads c h c h says call others others others others
-  asking_start c h says call others = record {
-    queued = [];
-    called_are = refl;
-    owed_are = refl;
-    queues = queues_none leads c h call;
-    among = λ x m. m;
-    owed_among = λ x m. m;
-    waiting = λ x l m. m;
-    answered = λ x l m n. absurd (let e = sym m ∙ n in cc);
-  }
+  asking_start c h says call others =
+      let queues = queues_none leads c h call in
+      search (queues, arith)
 
   pub asking_more : {old mid new : CpuValue} {before m after : H} {says : ℕ → Bool → Type 0} (call : ℕ → Call)
       (others left next cpu called owed called' owed' : ℕ) (asked first : Bool) →

@@ -1,6 +1,6 @@
 -- The list of words as a function from names: a store in the list is a put at the name. With Sizes, the only proofs
 -- that know the numbers of the words.
-use Rattle.std.proofs.Common.{◌≡◌, ℕ, ◌+◌, ◌*◌, ◌-◌, ◌/◌, ◌%◌, ◌<◌, ◌≤◌, Bool, true, false, ◌==◌, ◌&&◌, nat_lt, cond, Option, Some, None, List, length, sym}
+use Rattle.std.proofs.Common.{◌≡◌, ℕ, ◌+◌, ◌*◌, ◌-◌, ◌/◌, ◌%◌, ◌<◌, ◌≤◌, Bool, true, false, ◌==◌, nat_lt, cond, Option, Some, None, List, length, sym}
 use Rattle.std.proofs.Common.{refl, ap, ◌∙◌, arith}
 use Rattle.std.proofs.lemmas.Bool.{ltb-true, and_parts, lt-ltb, le-ltb}
 use Rattle.smp_words.specs.Size.{cpus, records, table_size}
@@ -49,10 +49,7 @@ cpu_reads : (base c i : ℕ) → cpu_word base c ≡ Some i → (c < NR_CPUS) ×
 cpu_reads base c i e = let p = cond_some (nat_lt c NR_CPUS) (base + c) i e in (ltb-true c NR_CPUS p.0, p.1)
 
 pair_reads : (base x y i : ℕ) → pair_word base x y ≡ Some i → (x < NR_CPUS) × (y < NR_CPUS) × (base + NR_CPUS * x + y ≡ i)
-pair_reads base x y i e =
-    let p = cond_some (nat_lt x NR_CPUS && nat_lt y NR_CPUS) (base + NR_CPUS * x + y) i e in
-    let q = and_parts (nat_lt x NR_CPUS) (nat_lt y NR_CPUS) p.0 in
-    (ltb-true x NR_CPUS q.0, ltb-true y NR_CPUS q.1, p.1)
+pair_reads base x y i e = search (cond_some, nat_lt, and_parts, ltb-true, arith)
 
 record_reads : (base r i : ℕ) → record_word base r ≡ Some i → (r < RECORDS) × (base + WORDS_OF_ONE * r ≡ i)
 record_reads base r i e = let p = cond_some (nat_lt r RECORDS) (base + WORDS_OF_ONE * r) i e in (ltb-true r RECORDS p.0, p.1)
@@ -78,55 +75,18 @@ record Past (i : ℕ) : Type 0 where
   flags : nat_lt i FLAGS ≡ false
 
 past : (i : ℕ) → FLAGS ≤ i → Past i
-past i l = record {
-  intrs = le-ltb i INTRS (omega arith);
-  hands = le-ltb i HANDS (omega arith);
-  queued = le-ltb i QUEUED (omega arith);
-  ran = le-ltb i RAN (omega arith);
-  flags = le-ltb i FLAGS l;
-}
+past i l = search (le-ltb, arith)
 
 -- the word at a place among a record's words
 record_at : (i r k : ℕ) → k < WORDS_OF_ONE → FLAGS + k + WORDS_OF_ONE * r ≡ i → word_at i ≡ record_word_at r k
-record_at i r k l e =
-    let p = past i (omega arith) in
-    let one : (i - FLAGS) / WORDS_OF_ONE ≡ r = omega arith in
-    let two : (i - FLAGS) % WORDS_OF_ONE ≡ k = omega arith in
-    rw (p.intrs, p.hands, p.queued, p.ran, p.flags, one, two) refl
+record_at i r k l e = search (past, arith)
 
 word_at-reads : (w : Word) (i : ℕ) → Reads w i → word_at i ≡ w
-word_at-reads (Head c) i p =
-    let l : i < INTRS = omega arith in
-    let e : i ≡ c = omega arith in
-    rw (lt-ltb i INTRS l, e) refl
-word_at-reads (Intr c) i p =
-    let a : INTRS ≤ i = omega arith in
-    let l : i < HANDS = omega arith in
-    let e : i - INTRS ≡ c = omega arith in
-    rw (le-ltb i INTRS a, lt-ltb i HANDS l, e) refl
-word_at-reads (Hand c) i p =
-    let a : INTRS ≤ i = omega arith in
-    let b : HANDS ≤ i = omega arith in
-    let l : i < QUEUED = omega arith in
-    let e : i - HANDS ≡ c = omega arith in
-    rw (le-ltb i INTRS a, le-ltb i HANDS b, lt-ltb i QUEUED l, e) refl
-word_at-reads (Queued s d) i p =
-    let a : INTRS ≤ i = omega arith in
-    let b : HANDS ≤ i = omega arith in
-    let c : QUEUED ≤ i = omega arith in
-    let l : i < RAN = omega arith in
-    let e : (i - QUEUED) / NR_CPUS ≡ s = omega arith in
-    let f : (i - QUEUED) % NR_CPUS ≡ d = omega arith in
-    rw (le-ltb i INTRS a, le-ltb i HANDS b, le-ltb i QUEUED c, lt-ltb i RAN l, e, f) refl
-word_at-reads (Ran s d) i p =
-    let a : INTRS ≤ i = omega arith in
-    let b : HANDS ≤ i = omega arith in
-    let c : QUEUED ≤ i = omega arith in
-    let q : RAN ≤ i = omega arith in
-    let l : i < FLAGS = omega arith in
-    let e : (i - RAN) / NR_CPUS ≡ s = omega arith in
-    let f : (i - RAN) % NR_CPUS ≡ d = omega arith in
-    rw (le-ltb i INTRS a, le-ltb i HANDS b, le-ltb i QUEUED c, le-ltb i RAN q, lt-ltb i FLAGS l, e, f) refl
+word_at-reads (Head c) i p = search (lt-ltb, arith)
+word_at-reads (Intr c) i p = search (le-ltb, lt-ltb, arith)
+word_at-reads (Hand c) i p = search (le-ltb, lt-ltb, arith)
+word_at-reads (Queued s d) i p = search (le-ltb, lt-ltb, arith)
+word_at-reads (Ran s d) i p = search (le-ltb, lt-ltb, arith)
 word_at-reads (Flags r) i p = record_at i r 0 (omega arith) (omega arith)
 word_at-reads (Func r) i p = record_at i r 1 (omega arith) (omega arith)
 word_at-reads (Info r) i p = record_at i r 2 (omega arith) (omega arith)

@@ -1,5 +1,5 @@
 -- Words that lie in a list, each in a place of its own: a store there is a put at the word.
-use Rattle.std.proofs.Common.{◌≡◌, ◌≢◌, ℕ, ◌<◌, Bool, true, false, cond, Option, Some, None, List, length, set, subst, refl, ap, ◌∙◌}
+use Rattle.std.proofs.Common.{arith, ◌≡◌, ◌≢◌, ℕ, ◌<◌, Bool, true, false, cond, Option, Some, None, List, length, set, refl, ap, ◌∙◌}
 use Rattle.std.proofs.lemmas.List.{get_or-set_same, get_or-set_other}
 use Rattle.smp_words.specs.Put.{put_word, same_word}
 use Rattle.smp_words.specs.Layout.{number_at}
@@ -12,9 +12,7 @@ number_kept words i n (Some j) ne = get_or-set_other words i j n 0 (λ e. ne (ap
 
 module _ (place : Word → Option ℕ) (one : (u w : Word) (i : ℕ) → place u ≡ Some i → place w ≡ Some i → u ≡ w) where
   other_place : (u w : Word) (i : ℕ) → same_word u w ≡ false → place w ≡ Some i → place u ≢ Some i
-  other_place u w i s e f =
-      let same : same_word u w ≡ true = subst (λ (x : Word). same_word u x ≡ true) (one u w i f e) (same_word-itself u) in
-      cc
+  other_place u w i s e f = search (same_word-itself, arith)
 
   number_stored : (words : List ℕ) (w u : Word) (i n : ℕ) (b : Bool) → i < length words → place w ≡ Some i → same_word u w ≡ b →
       number_at (set words i n) (place u) ≡ cond b n (number_at words (place u))

@@ -1,5 +1,5 @@
 -- What holds of a function with one value put in another's place.
-use Rattle.std.proofs.Common.{◌≡◌, ◌≢◌, ℕ, Bool, true, false, ◌==◌, cond, sym, subst, refl}
+use Rattle.std.proofs.Common.{arith, ◌≡◌, ◌≢◌, ℕ, Bool, true, false, ◌==◌, cond, refl}
 use Rattle.std.proofs.lemmas.Bool.{eqb-true, eqb-false}
 use Rattle.smp_words.specs.Put.{put}
 
@@ -24,10 +24,8 @@ pub put_other : {A : Type 0} (f : ℕ → A) (i : ℕ) (v : A) (j : ℕ) → j �
 put_other f i v j ne = test_else j i v (f j) ne
 
 pub put_all : {A : Type 0} (R : ℕ → A → Type 0) (f : ℕ → A) (i : ℕ) (v : A) → R i v → ((j : ℕ) → j ≢ i → R j (f j)) → (j : ℕ) → R j (put f i v j)
-put_all {A} R f i v here others j =
-    at_test j i (λ b. R j (cond b v (f j))) (λ e. let P : ℕ → Type 0 = λ k. R k v in subst P (sym e) here) (λ ne. others j ne)
+put_all {A} R f i v here others j = search (at_test, arith)
 
 pub put_both : {A B : Type 0} (R : ℕ → A → B → Type 0) (f : ℕ → A) (g : ℕ → B) (i : ℕ) (v : A) (w : B) → R i v w → ((j : ℕ) → j ≢ i → R j (f j) (g j)) → (j : ℕ)
     → R j (put f i v j) (put g i w j)
-put_both {A} {B} R f g i v w here others j =
-    at_test j i (λ b. R j (cond b v (f j)) (cond b w (g j))) (λ e. let P : ℕ → Type 0 = λ k. R k v w in subst P (sym e) here) (λ ne. others j ne)
+put_both {A} {B} R f g i v w here others j = search (at_test, arith)

@@ -1,5 +1,5 @@
 -- To whom a record belongs. The only proofs that know how records are numbered.
-use Rattle.std.proofs.Common.{◌≡◌, ℕ, ◌+◌, ◌-◌, ◌*◌, ◌/◌, ◌<◌, ◌≤◌, refl, inl, inr, arith}
+use Rattle.std.proofs.Common.{◌≡◌, ℕ, ◌+◌, ◌-◌, ◌*◌, ◌/◌, ◌<◌, ◌≤◌, refl, arith}
 use Rattle.std.proofs.lemmas.Bool.{cases_lt, lt-ltb, le-ltb}
 use Rattle.smp_words.specs.Size.{cpus, records, records_of_one, owner, record_of}
 use Rattle.smp_words.specs.declared.size.TheConstants.{FIRST_OF_ONE, MORE_OF_ONE, FIRST_RECORDS}
@@ -22,32 +22,14 @@ unfolding owner
 owner_far id l = rw (le-ltb id FIRST_RECORDS l) refl
 
 pub owner-of_record : (source k : ℕ) → source < cpus → k < records_of_one → owner (record_of source k) ≡ source
-owner-of_record source k s l = elim (cases_lt k FIRST_OF_ONE) [
-  | inl low ↦ let n = near source k low in let o = owner_near (record_of source k) (omega arith) in omega arith
-  | inr high ↦ let n = far source k high in let o = owner_far (record_of source k) (omega arith) in omega arith
-]
+owner-of_record source k s l = search (cases_lt, near, owner_near, far, owner_far, arith)
 
 -- one source's records are as many as their local numbers
 pub one_local : (source j k : ℕ) → j < records_of_one → k < records_of_one → record_of source j ≡ record_of source k → j ≡ k
-one_local source j k b l e = elim (cases_lt j FIRST_OF_ONE) [
-  | inl low ↦ let n = near source j low in elim (cases_lt k FIRST_OF_ONE) [
-    | inl low_too ↦ let m = near source k low_too in omega arith
-    | inr high ↦ let m = far source k high in omega arith
-  ]
-  | inr high ↦ let n = far source j high in elim (cases_lt k FIRST_OF_ONE) [
-    | inl low ↦ let m = near source k low in omega arith
-    | inr high_too ↦ let m = far source k high_too in omega arith
-  ]
-]
+one_local source j k b l e = search (cases_lt, near, far, arith)
 
 pub record_of-below : (source k : ℕ) → source < cpus → k < records_of_one → record_of source k < records
-record_of-below source k s l = elim (cases_lt k FIRST_OF_ONE) [
-  | inl low ↦ let n = near source k low in omega arith
-  | inr high ↦ let n = far source k high in omega arith
-]
+record_of-below source k s l = search (cases_lt, near, far, arith)
 
 pub owner-below : (id : ℕ) → id < records → owner id < cpus
-owner-below id l = elim (cases_lt id FIRST_RECORDS) [
-  | inl low ↦ let o = owner_near id low in omega arith
-  | inr high ↦ let o = owner_far id high in omega arith
-]
+owner-below id l = search (cases_lt, owner_near, owner_far, arith)

@@ -1,16 +1,14 @@
 -- A CPU inside handle: what holds of it by the laws, and what it knows after each of its steps.
-use Rattle.std.proofs.Common.{◌≡◌, ◌≢◌, ℕ, ◌%◌, ◌<◌, ◌==◌, Bool, true, false, cond, Option, Some, None, List, [], ◌∷◌, ◌++◌, sym, subst, refl, ap, ◌∙◌}
-use Rattle.std.proofs.Common.{arith}
+use Rattle.std.proofs.Common.{◌≡◌, ◌≢◌, ℕ, ◌%◌, ◌<◌, ◌==◌, Bool, true, cond, Option, Some, None, List, [], ◌∷◌, ◌++◌, sym, subst, ap, ◌∙◌, arith}
 use Rattle.std.proofs.lemmas.Bool.{eq-eqb}
 use Rattle.smp_words.specs.Size.{cpus, records}
 use Rattle.smp_words.specs.Access.{word_of}
-use Rattle.smp_call_steps.specs.{CallState, CountedCall, DrainValue, handle_goes, record_at, first_on}
-use Rattle.smp_call_steps.specs.{handle_outcome, drain_after, IsPlaced, AllPlaced, bit, nexts_in, last_batch, orders, running_call, ControlValue}
-use Rattle.smp_call_steps.specs.{access_of, FitsStage, Share, share_of, HandleStands, held_of, Part, part_confirmed, part_accepted}
-use Rattle.smp_call_steps.specs.{part_after, told_stage, told_post, told_handle, known_told, known_taking, stage_after}
+use Rattle.smp_call_steps.specs.{CallState, CountedCall, DrainValue, record_at, first_on, handle_outcome, drain_after, IsPlaced, AllPlaced}
+use Rattle.smp_call_steps.specs.{nexts_in, last_batch, orders, running_call, ControlValue, access_of, FitsStage, Share, share_of, HandleStands, held_of, Part}
+use Rattle.smp_call_steps.specs.{part_confirmed, part_after, told_stage, told_post, told_handle, known_told, known_taking, stage_after}
 use Rattle.smp_call_steps.specs.{drain_then, tried_after, heads_after, log_after, MayStep, known_access, Lives, GoesOn, handling, goes_known}
-use Rattle.smp_call_steps.specs.{accepted_known, taken_known, ended_call, Call, Word, Head, Intr, Hand, Flags}
-use Rattle.smp_call_steps.specs.{Func, Info, Next, Access, Act, Posting, PostStage, Walk, HandleStage, Outcome, Stage, Post, Handle}
+use Rattle.smp_call_steps.specs.{taken_known, ended_call, Call, Word, Head, Hand, Flags, Func, Info, Next, Access, Act, Posting, PostStage, Walk}
+use Rattle.smp_call_steps.specs.{HandleStage, Stage, Post, Handle}
 use Rattle.smp_words.proofs.Links.{HasIndex}
 use Rattle.smp_call_steps.proofs.Machine.Accesses.{access_in_table}
 use Rattle.smp_call_steps.proofs.State.Walks.{walks_rest, same_record}
@@ -104,14 +102,6 @@ module _ {v : Known} (l : Lives v) where
   pub lives_front : (call : Call) (rest : List Call) → v.part.batch ≡ call ∷ rest → call.id < records
   lives_front call rest e = search (same_share, arith)
 
-  -- an interrupt word is 0 or 1
-  pub lives_intr : (cpu : ℕ) → (l.at (Intr cpu) == 1) ≡ cond (l.at (Intr cpu) == 0) false true
-  lives_intr cpu = subst (λ (n : ℕ). (n == 1) ≡ cond (n == 0) false true) (sym (l.shown.noticed.words cpu)) (bit_is (l.calls.pending cpu))
-    where
-      bit_is : (b : Bool) → (bit b == 1) ≡ cond (bit b == 0) false true
-      bit_is true = refl
-      bit_is false = refl
-
 -- what a CPU that stands here knows after a step
 pub told_at : (queue : List Call) (v : Known) (s : Option Stage) (act : Act) (w : Word) (found put : Option ℕ) → v.stage ≡ s →
     known_taking queue v act w found put
@@ -127,16 +117,6 @@ told_at queue v s act w found put e = search arith
 
 pub entered_is : (v : Known) (cpu : ℕ) → v.stage ≡ None → known_told v act.Store (Hand cpu) None (Some 1) ≡ handling handle.Accept v.drain v
 entered_is v cpu e = told_at [] v None act.Store (Hand cpu) None (Some 1) e
-
-pub accepted_is : (queue : List Call) (v : Known) (cpu n : ℕ) → v.stage ≡ Some (Handle handle.Accept) → (n == 1) ≡ cond (n == 0) false true →
-    known_taking queue v act.Swap (Intr cpu) (Some n) (Some 0) ≡ accepted_known (cond (n == 0) false true) v
-accepted_is queue v cpu n e one = told_at queue v (Some (Handle handle.Accept)) act.Swap (Intr cpu) (Some n) (Some 0) e ∙ by_test (n == 0) (n == 1) one
-  where
-    by_test : (b c : Bool) → c ≡ cond b false true →
-        record v { stage = (cond {A = Outcome} b (handle_goes handle.LeaveIdle) (handle_goes handle.Take)).next; part = part_accepted c v.part }
-        ≡ accepted_known (cond b false true) v
-    by_test true c f = λ i. record v { stage = Some (Handle handle.LeaveIdle); part = part_accepted (f i) v.part }
-    by_test false c f = λ i. record v { stage = Some (Handle handle.Take); part = part_accepted (f i) v.part }
 
 pub taken_is : (queue : List Call) (v : Known) (cpu n : ℕ) → v.stage ≡ Some (Handle handle.Take)
     → known_taking queue v act.Swap (Head cpu) (Some n) (Some 0) ≡ taken_known queue (record_at n) v

@@ -3,9 +3,9 @@ use Rattle.std.proofs.Common.{arith, ◌≡◌, ◌≢◌, ℕ, ◌-◌, ◌%◌
 use Rattle.smp_words.proofs.Puts.{put_same, put_other}
 use Rattle.smp_words.specs.Put.{put}
 use Rattle.smp_call_steps.specs.{CallState, ends, goes_to, DrainValue, handle_goes, record_at, second_on, first_on, reverse_on, by_class, unlink_after, Call}
-use Rattle.smp_call_steps.specs.{Class, Sync, Async, Word, Head, Intr, Flags, Access, Seen, Note, Posting, Walk, Outcome, Stage, Post, Handle}
-use Rattle.smp_call_steps.specs.{ControlValue, access_of, outcome_of, drain_of, control_after, part_after, told_post, told_handle, told_stage, Sees}
-use Rattle.smp_call_steps.specs.{known_tells, stage_after, drain_then, MayStep, known_access, GoesOn}
+use Rattle.smp_call_steps.specs.{Class, Sync, Async, Word, Head, Intr, Flags, Access, Seen, Note, Posting, Walk, Outcome, Stage, Post, Handle, ControlValue}
+use Rattle.smp_call_steps.specs.{access_of, outcome_of, drain_of, control_after, part_after, told_post, told_handle, told_stage, Sees, known_tells}
+use Rattle.smp_call_steps.specs.{stage_after, drain_then, MayStep, known_access, GoesOn}
 use Rattle.smp_words.specs.Flags.{class_of}
 use Rattle.smp_words.specs.Access.{word_of, at_after, seen_of}
 use Rattle.smp_call_steps.specs.Shows.{Shows}

@@ -1,10 +1,8 @@
 -- What a CPU knows after each step of a post, of a send and of a question for a record.
-use Rattle.std.proofs.Common.{◌≡◌, ℕ, ◌+◌, ◌-◌, ◌%◌, ◌^◌, Bool, true, false, ◌==◌, cond, Some, None, length, sym, refl, ap, ◌∙◌, arith}
-use Rattle.std.proofs.Common.{true≢false, eq-eqb}
+use Rattle.std.proofs.Common.{◌≡◌, ℕ, ◌+◌, ◌-◌, ◌%◌, ◌^◌, Bool, true, false, ◌==◌, cond, Some, None, length, sym, refl, ap, ◌∙◌, arith, true≢false, eq-eqb}
 use Rattle.smp_words.specs.Flags.{flags_of}
-use Rattle.smp_call_steps.specs.{sent_to, posted, known_told, known_access, posting_of, standing, outside_known, confirmed_known}
-use Rattle.smp_call_steps.specs.{queued_known, looked_known, lost_one, Class, Sync, Async, Head, Queued, Flags, Func, Info, Next, Store, Posting, PostStage}
-use Rattle.smp_call_steps.specs.{Post}
+use Rattle.smp_call_steps.specs.{sent_to, posted, known_told, known_access, posting_of, standing, outside_known, confirmed_known, queued_known, looked_known}
+use Rattle.smp_call_steps.specs.{lost_one, Class, Sync, Async, Head, Queued, Flags, Func, Info, Next, Store, Posting, PostStage, Post}
 use Rattle.smp_call_steps.specs.declared.known.Known.{Known}
 use Rattle.smp_call_steps.specs.act
 use Rattle.smp_call_steps.specs.post

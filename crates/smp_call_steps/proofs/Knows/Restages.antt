@@ -2,10 +2,9 @@
 use Rattle.std.proofs.Common.{arith, ◌≡◌, ℕ, ◌%◌, ◌<◌, true, false, ◌==◌, Option, Some, None, get_or, sym, subst, refl, ap, ◌∙◌, ◌⊎◌, inl, inr}
 use Rattle.smp_words.specs.Put.{put}
 use Rattle.smp_words.specs.Size.{records, owner}
-use Rattle.smp_call_steps.specs.{CallState, DrainValue, handle_access, source_at, ControlValue, access_of, Rests, StandsAt, PostKnows}
-use Rattle.smp_call_steps.specs.{share_of, held_of, HandIs, told_post, told_handle, told_stage, Sees, MayStep, MayPost, Moment}
-use Rattle.smp_call_steps.specs.{known_access, ran_tally, is_confirmed, Word, Hand, Flags, RecPlace, Posting, PostStage, HandleStage, Stage}
-use Rattle.smp_call_steps.specs.{Send, Done, Post, Handle}
+use Rattle.smp_call_steps.specs.{CallState, DrainValue, handle_access, source_at, ControlValue, access_of, Rests, StandsAt, PostKnows, share_of, held_of}
+use Rattle.smp_call_steps.specs.{HandIs, told_post, told_handle, told_stage, Sees, MayStep, MayPost, Moment, known_access, ran_tally, is_confirmed, Word}
+use Rattle.smp_call_steps.specs.{Hand, Flags, RecPlace, Posting, PostStage, HandleStage, Stage, Send, Done, Post, Handle}
 use Rattle.smp_call_steps.specs.Shows.{Shows}
 use Rattle.smp_call_steps.proofs.Basics.Rows.{row-at}
 use Rattle.smp_call_steps.proofs.Steps.Sending.{stands_on}

@@ -3,8 +3,8 @@ use Rattle.std.proofs.Common.{arith, ◌≡◌, ℕ, ◌<◌, Some, List, [], �
 use Rattle.smp_words.specs.Size.{cpus, records}
 use Rattle.smp_words.specs.Access.{word_of}
 use Rattle.smp_call_steps.specs.{CallState, Running, Nothing, SyncCall, CountedCall, DrainValue, link_to, IsPlaced, locked_by, AllPlaced, ControlValue}
-use Rattle.smp_call_steps.specs.{access_of, Share, StandsAt, HandleStands, Reverses, Walks, Ends, PostStands, nexts_in, Call, Word, Next, RecPlace}
-use Rattle.smp_call_steps.specs.{Posting, PostStage, Walk, HandleStage, Stage, Send, Done, Post, Handle}
+use Rattle.smp_call_steps.specs.{access_of, Share, StandsAt, HandleStands, Reverses, Walks, Ends, PostStands, nexts_in, Call, Word, Next, RecPlace, Posting}
+use Rattle.smp_call_steps.specs.{PostStage, Walk, HandleStage, Stage, Send, Done, Post, Handle}
 use Rattle.smp_call_steps.specs.Shows.{Shows}
 use Rattle.smp_call_steps.proofs.Basics.Alls.{every_right}
 use Rattle.smp_call_steps.proofs.State.Walks.{reverses_all, walks_rest, walks_last, ends_rest, same_record}

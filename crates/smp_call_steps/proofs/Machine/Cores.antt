@@ -7,8 +7,7 @@ use Rattle.smp_words.specs.Size.{cpus, table_size}
 use Rattle.smp_words.specs.Put.{put, put_word}
 use Rattle.smp_words.specs.Layout.{index_of, number_in, put_in, put_at}
 use Rattle.smp_words.specs.Access.{word_of, put_by, put_if, at_after, words_after, seen_of}
-use Rattle.smp_call_steps.specs.{CallState, tells, ControlValue, access_of, outcome_of, control_after, ValuesShow, control_of, Word, Access, Seen}
-use Rattle.smp_call_steps.specs.{Stage}
+use Rattle.smp_call_steps.specs.{CallState, tells, ControlValue, access_of, outcome_of, control_after, ValuesShow, control_of, Word, Access, Seen, Stage}
 use Rattle.smp_call_steps.proofs.Machine.Accesses.{access_in_table}
 use Rattle.smp_call_steps.proofs.Steps.Every.{step_shown}
 use Rattle.smp_words.proofs.Links.{HasIndex, number_in-put_in}

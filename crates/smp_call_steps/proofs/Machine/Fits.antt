@@ -3,8 +3,8 @@ use Rattle.std.proofs.Common.{◌≡◌, ℕ, ◌+◌, ◌^◌, ◌<◌, ◌≤�
 use Rattle.std.specs.List.{AllByRecursion}
 use Rattle.smp_words.specs.Size.{records}
 use Rattle.smp_words.specs.Access.{word_of}
-use Rattle.smp_call_steps.specs.{CallState, ControlValue, FitsStage, access_of, IsApart, IsPlaced, Leads, Path, nexts_in, Call, Word, Head, Func}
-use Rattle.smp_call_steps.specs.{Next, Walk, HandleStage, Stage, Handle}
+use Rattle.smp_call_steps.specs.{CallState, ControlValue, FitsStage, access_of, IsApart, IsPlaced, Leads, Path, nexts_in, Call, Word, Head, Func, Next, Walk}
+use Rattle.smp_call_steps.specs.{HandleStage, Stage, Handle}
 use Rattle.smp_call_steps.specs.Shows.{Shows}
 use Rattle.smp_words.specs.declared.size.TheConstants.{MOST_CALLS}
 use Rattle.smp_call_steps.proofs.Basics.Alls.{every, every_left}

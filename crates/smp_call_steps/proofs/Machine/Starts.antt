@@ -1,15 +1,13 @@
 -- A command of the call half that may start begins where it should, and changes no call.
-use Rattle.std.proofs.Common.{◌≡◌, ℕ, ◌<◌, Bool, true, false, ◌||◌, not, nat_lt, cond, Option, Some, None, List, refl, arith}
-use Rattle.std.proofs.Common.{replicate}
+use Rattle.std.proofs.Common.{◌≡◌, ℕ, ◌<◌, Bool, true, false, ◌||◌, not, nat_lt, cond, Option, Some, None, List, refl, arith, replicate}
 use Rattle.std.proofs.lemmas.Bool.{ltb-true, le-ltb, cases_lt, and_parts}
 use Rattle.smp_mask.specs.Mask.{has}
 use Rattle.smp_mask.specs.declared.error.SmpError.{SmpError}
 use Rattle.smp_words.specs.Size.{cpus, table_size, records_of_one}
 use Rattle.smp_words.specs.Put.{put}
 use Rattle.smp_words.specs.Layout.{index_of, number_in}
-use Rattle.smp_call_steps.specs.{CallState, no_calls, DrainValue, ControlValue, command_refusal, first_stage, control_at, NamesRecord, Share}
-use Rattle.smp_call_steps.specs.{share_of, Rests, StandsAt, held_of, HandIs, ValuesShow, control_of, outside, hands_in, Word}
-use Rattle.smp_call_steps.specs.{RecPlace}
+use Rattle.smp_call_steps.specs.{CallState, no_calls, DrainValue, ControlValue, command_refusal, first_stage, control_at, NamesRecord, Share, share_of, Rests}
+use Rattle.smp_call_steps.specs.{StandsAt, held_of, HandIs, ValuesShow, control_of, outside, hands_in, Word, RecPlace}
 use Rattle.smp_words.specs.Limits.{AreLimits}
 use Rattle.smp_call_steps.specs.Start.{has_record}
 use Rattle.smp_words.specs.Commands.{FitsCommand}

@@ -4,8 +4,8 @@ use Rattle.std.proofs.lemmas.Bool.{ne_eqb}
 use Rattle.std.proofs.lemmas.List.Sums.{sum_by-append}
 use Rattle.smp_words.specs.Size.{owner}
 use Rattle.smp_call_steps.specs.{CallState, Running, Nothing, calls_by, batches, async_call, ConfirmedCallsRan, orders, running_call, if_sync, if_async}
-use Rattle.smp_call_steps.specs.{sync_calls, async_calls, order, Holds, locked_by, AllPlaced, ControlValue, Share, StandsAt, PostKnows, held_of}
-use Rattle.smp_call_steps.specs.{held_of_post, DrainValue, Call, Class, Sync, Async, Word, RecPlace, Posting, PostStage, Stage, Post}
+use Rattle.smp_call_steps.specs.{sync_calls, async_calls, order, Holds, locked_by, AllPlaced, ControlValue, Share, StandsAt, PostKnows, held_of, held_of_post}
+use Rattle.smp_call_steps.specs.{DrainValue, Call, Class, Sync, Async, Word, RecPlace, Posting, PostStage, Stage, Post}
 use Rattle.smp_call_steps.specs.Shows.{Shows}
 use Rattle.smp_call_steps.specs.place
 use Rattle.smp_call_steps.specs.post

@@ -1,11 +1,9 @@
 -- Where no record is locked and nobody handles calls, each call that was queued has run, once.
-use Rattle.std.proofs.Common.{◌≡◌, ◌≢◌, ℕ, ◌+◌, ◌%◌, ◌^◌, Bool, true, false, cond, Option, Some, None, List, [], ◌∷◌, ◌++◌, length, sym, refl, ap, ◌∙◌}
-use Rattle.std.proofs.Common.{arith}
+use Rattle.std.proofs.Common.{◌≡◌, ◌≢◌, ℕ, ◌+◌, ◌%◌, ◌^◌, Bool, true, false, cond, Option, Some, None, List, [], ◌∷◌, ◌++◌, length, sym, refl, ap, ◌∙◌, arith}
 use Rattle.std.proofs.lemmas.List.{append-nil}
-use Rattle.smp_call_steps.specs.{CallState, Holding, Marked, marked, others_marked, batches_marked, marked_from, sent_to}
-use Rattle.smp_call_steps.specs.{calls_from, orders, if_sync, if_async, sync_calls, async_calls, order, Holds}
-use Rattle.smp_call_steps.specs.{AllPlaced, FlagsShow, hands_in, ControlValue, Share, share_of, Rests, StandsAt, HandIs, DrainValue, Call, Class, Sync, Async}
-use Rattle.smp_call_steps.specs.{Word, Hand, Queued, Ran, Flags, RecPlace, HandleStage, Stage, Handle}
+use Rattle.smp_call_steps.specs.{CallState, Holding, Marked, marked, others_marked, batches_marked, marked_from, sent_to, calls_from, orders, if_sync}
+use Rattle.smp_call_steps.specs.{if_async, sync_calls, async_calls, order, Holds, AllPlaced, FlagsShow, hands_in, ControlValue, Share, share_of, Rests}
+use Rattle.smp_call_steps.specs.{StandsAt, HandIs, DrainValue, Call, Class, Sync, Async, Word, Hand, Queued, Ran, Flags, RecPlace, HandleStage, Stage, Handle}
 use Rattle.smp_call_steps.specs.Shows.{Shows}
 use Rattle.smp_call_steps.proofs.State.Counts.{held_place}
 use Rattle.smp_call_steps.specs.place

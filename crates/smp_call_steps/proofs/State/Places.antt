@@ -5,11 +5,11 @@ use Rattle.std.proofs.lemmas.Bool.{eqb-true, eq-eqb, or_cases, cases_lt}
 use Rattle.std.proofs.lemmas.List.{get_or_past}
 use Rattle.std.specs.List.{AllByRecursion, list_any}
 use Rattle.smp_words.specs.Size.{cpus, records}
-use Rattle.smp_call_steps.specs.{has_record, down_link, up_link, between_of, is_this, running_of, CallState, Running, Nothing}
-use Rattle.smp_call_steps.specs.{DrainValue, link_to, if_sync, if_async, sync_calls, async_calls, HasRecord, IsAbsent, IsApart, IsPlaced, IsThere}
-use Rattle.smp_call_steps.specs.{locked_by, AllPlaced, HasChain, chain_in, ids, ControlValue, Share, share_of, Rests, StandsAt, HandleStands, Reverses, Walks}
-use Rattle.smp_call_steps.specs.{Ends, Leads, Path, nexts_in, FlagsShow, control_of, outside, Call, Class, Sync, Async, Word, Head, Flags, RecPlace, Walk}
-use Rattle.smp_call_steps.specs.{HandleStage, Stage, Send, Done, Post, Handle}
+use Rattle.smp_call_steps.specs.{has_record, down_link, up_link, between_of, is_this, running_of, CallState, Running, Nothing, DrainValue, link_to, if_sync}
+use Rattle.smp_call_steps.specs.{if_async, sync_calls, async_calls, HasRecord, IsAbsent, IsApart, IsPlaced, IsThere, locked_by, AllPlaced, HasChain, chain_in}
+use Rattle.smp_call_steps.specs.{ids, ControlValue, Share, share_of, Rests, StandsAt, HandleStands, Reverses, Walks, Ends, Leads, Path, nexts_in, FlagsShow}
+use Rattle.smp_call_steps.specs.{control_of, outside, Call, Class, Sync, Async, Word, Head, Flags, RecPlace, Walk, HandleStage, Stage, Send, Done, Post}
+use Rattle.smp_call_steps.specs.{Handle}
 use Rattle.smp_words.specs.Layout.{number_in}
 use Rattle.smp_call_steps.specs.Shows.{Shows}
 use Rattle.smp_call_steps.proofs.Basics.Alls.{every, every_append, every_left, every_right, every_async}

@@ -1,15 +1,14 @@
 -- What each step does of the functions that calls run, and what it says of them.
-use Rattle.std.proofs.Common.{◌≡◌, ℕ, ◌+◌, ◌%◌, ◌==◌, nat_lt, Bool, true, false, cond, inl, inr, Option, Some, None, List, ◌∷◌, sym, subst, refl}
-use Rattle.std.proofs.Common.{arith}
+use Rattle.std.proofs.Common.{◌≡◌, ℕ, ◌+◌, ◌%◌, ◌==◌, nat_lt, Bool, true, false, cond, inl, inr, Option, Some, None, List, ◌∷◌, sym, subst, refl, arith}
 use Rattle.std.proofs.lemmas.Bool.{lt-ltb}
 use Rattle.smp_words.specs.Flags.{flags_of}
 use Rattle.smp_words.specs.Put.{put}
 use Rattle.smp_words.specs.Size.{owner}
 use Rattle.smp_words.proofs.Puts.{put_same}
-use Rattle.smp_call_steps.specs.{CallState, Holding, Running, Nothing, confirms, appended, begins_sync, begins_async, unlocks, releases, links}
-use Rattle.smp_call_steps.specs.{flags_told, head_told, tells, link_to, runs_as, place_as, told_of, is_call, BeginsIt, FunctionGoes, ends, goes_to}
-use Rattle.smp_call_steps.specs.{ControlValue, seen_then, Call, Class, Sync, Async, Word, Intr, Flags, Note, Outcome, Posting, PostStage}
-use Rattle.smp_call_steps.specs.{HandleStage, Stage, Send, Done, Post, Handle}
+use Rattle.smp_call_steps.specs.{CallState, Holding, Running, Nothing, confirms, appended, begins_sync, begins_async, unlocks, releases, links, flags_told}
+use Rattle.smp_call_steps.specs.{head_told, tells, link_to, runs_as, place_as, told_of, is_call, BeginsIt, FunctionGoes, ends, goes_to, ControlValue}
+use Rattle.smp_call_steps.specs.{seen_then, Call, Class, Sync, Async, Word, Intr, Flags, Note, Outcome, Posting, PostStage, HandleStage, Stage, Send, Done}
+use Rattle.smp_call_steps.specs.{Post, Handle}
 use Rattle.smp_call_steps.specs.Shows.{Shows}
 use Rattle.smp_call_steps.proofs.State.Walks.{walks_sync, ends_async as async_next}
 use Rattle.smp_call_steps.proofs.Steps.Turns.{stands_at, holds_nothing}

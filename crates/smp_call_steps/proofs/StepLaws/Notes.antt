@@ -1,12 +1,12 @@
 -- What each step queues, and that its note says what holds.
-use Rattle.std.proofs.Common.{arith, ◌≡◌, ◌≢◌, ℕ, ◌+◌, ◌%◌, ◌==◌, nat_lt, Bool, true, false, cond, inl, Option, Some, None, List, [], ◌∷◌, sym}
-use Rattle.std.proofs.Common.{refl, ap, ◌∙◌, eqb-true}
+use Rattle.std.proofs.Common.{arith, ◌≡◌, ◌≢◌, ℕ, ◌+◌, ◌%◌, ◌==◌, nat_lt, Bool, true, false, cond, inl, Option, Some, None, List, [], ◌∷◌, sym, refl, ap, ◌∙◌}
+use Rattle.std.proofs.Common.{eqb-true}
 use Rattle.smp_words.specs.Flags.{flags_of}
 use Rattle.smp_words.proofs.Puts.{put_same, test_here}
-use Rattle.smp_call_steps.specs.{CallState, Holding, Running, Nothing, confirms, accepts, begins_sync, begins_async, counts, unlocks}
-use Rattle.smp_call_steps.specs.{releases, links, flags_told, head_told, tells, link_to, is_queued, queued_note, QueueGoes, SaidMeans, ends, goes_to}
-use Rattle.smp_call_steps.specs.{ControlValue, holding, seen_then, FlagsShow, Call, Class, Sync, Async, Word, Head, Intr, Flags, RecPlace}
-use Rattle.smp_call_steps.specs.{Outcome, Posting, PostStage, HandleStage, Stage, Send, Done, Post, Handle}
+use Rattle.smp_call_steps.specs.{CallState, Holding, Running, Nothing, confirms, accepts, begins_sync, begins_async, counts, unlocks, releases, links}
+use Rattle.smp_call_steps.specs.{flags_told, head_told, tells, link_to, is_queued, queued_note, QueueGoes, SaidMeans, ends, goes_to, ControlValue, holding}
+use Rattle.smp_call_steps.specs.{seen_then, FlagsShow, Call, Class, Sync, Async, Word, Head, Intr, Flags, RecPlace, Outcome, Posting, PostStage, HandleStage}
+use Rattle.smp_call_steps.specs.{Stage, Send, Done, Post, Handle}
 use Rattle.smp_call_steps.specs.Shows.{Shows}
 use Rattle.smp_call_steps.proofs.Knows.Parts.{first_link}
 use Rattle.smp_call_steps.proofs.StepLaws.Premises.{rests}

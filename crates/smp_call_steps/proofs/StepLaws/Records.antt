@@ -3,9 +3,8 @@ use Rattle.std.proofs.Common.{arith, ◌≡◌, ℕ, zero, suc, Bool, true, fals
 use Rattle.smp_words.specs.Access.{act_of, word_of, found_by, put_by, put_if, at_after}
 use Rattle.smp_words.specs.Put.{put_word}
 use Rattle.smp_words.proofs.Puts.{at_test}
-use Rattle.smp_call_steps.specs.{CallState, Holding, Holds, HoldsUncounted, MayStoreFlags, MaySee, IsWordOf, MayStoreAt}
-use Rattle.smp_call_steps.specs.{ControlValue, access_of, KeepsRecords, Word, Head, Intr, Flags, Func, Info, Next, Access, Load, Store, Swap, Exchange}
-use Rattle.smp_call_steps.specs.{RecPlace, Stage}
+use Rattle.smp_call_steps.specs.{CallState, Holding, Holds, HoldsUncounted, MayStoreFlags, MaySee, IsWordOf, MayStoreAt, ControlValue, access_of}
+use Rattle.smp_call_steps.specs.{KeepsRecords, Word, Head, Intr, Flags, Func, Info, Next, Access, Load, Store, Swap, Exchange, RecPlace, Stage}
 use Rattle.smp_call_steps.specs.Shows.{Shows}
 use Rattle.smp_call_steps.proofs.State.Counts.{held_place}
 use Rattle.smp_call_steps.proofs.StepLaws.Premises.{may_see}

@@ -3,8 +3,8 @@ use Rattle.std.proofs.Common.{arith, ◌≡◌, ℕ, ◌==◌, Bool, true, false
 use Rattle.std.proofs.Common.{append_assoc}
 use Rattle.std.proofs.lemmas.List.{append-nil}
 use Rattle.smp_words.proofs.Puts.{at_test}
-use Rattle.smp_call_steps.specs.{CallState, Running, Nothing, runs_as, ends_as, Told, told_of, is_call, FunctionGoes, begun_in, Said, all_said}
-use Rattle.smp_call_steps.specs.{call_in, said_by, SaysWhatBegins, running_call, Call, Class, Sync, Async, Note, Seen}
+use Rattle.smp_call_steps.specs.{CallState, Running, Nothing, runs_as, ends_as, Told, told_of, is_call, FunctionGoes, begun_in, Said, all_said, call_in}
+use Rattle.smp_call_steps.specs.{said_by, SaysWhatBegins, running_call, Call, Class, Sync, Async, Note, Seen}
 use Rattle.smp_call_steps.specs.note
 
 all_said-append : (xs ys : List Call) → all_said (xs ++ ys) ≡ all_said xs ++ all_said ys

@@ -1,8 +1,8 @@
 -- What a CPU does with what it finds in a head, until its call is queued.
 use Rattle.std.proofs.Common.{arith, ◌≡◌, ℕ, ◌+◌, ◌-◌, nat_lt, Bool, true, false, cond, Some, None}
 use Rattle.smp_words.specs.Access.{word_of}
-use Rattle.smp_call_steps.specs.{CallState, ends, goes_to, ControlValue, access_of, outcome_of, seen_then}
-use Rattle.smp_call_steps.specs.{GoesOnWith, Word, Head, Note, Posting, PostStage, HandleStage, Stage, Send, Done, Post, Handle}
+use Rattle.smp_call_steps.specs.{CallState, ends, goes_to, ControlValue, access_of, outcome_of, seen_then, GoesOnWith, Word, Head, Note, Posting, PostStage}
+use Rattle.smp_call_steps.specs.{HandleStage, Stage, Send, Done, Post, Handle}
 use Rattle.smp_call_steps.specs.Shows.{Shows}
 use Rattle.smp_call_steps.proofs.Steps.Turns.{holds_nothing}
 use Rattle.smp_call_steps.specs.act

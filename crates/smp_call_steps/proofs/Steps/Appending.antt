@@ -7,10 +7,10 @@ use Rattle.std.specs.List.{AllByRecursion}
 use Rattle.smp_call_steps.proofs.State.Batches.{has_left, has_right}
 use Rattle.smp_words.specs.Put.{put, put_word}
 use Rattle.smp_words.specs.Size.{owner}
-use Rattle.smp_call_steps.specs.{CallState, Holding, Sending, appended, is_nil, ControlValue, Placed, IsCall, IsThere, Holds, IsApart}
-use Rattle.smp_call_steps.specs.{locked_by, AllPlaced, Chained, Leads, Linked, Noticed, IsNoticed, is_pending, is_accepted, is_owed}
-use Rattle.smp_call_steps.specs.{IsEmpty, nexts_in, heads_in, intrs_in, queued_in, ran_in, IsWrittenIn, WrittenIn, Recorded, Tallied, mark, sent_to}
-use Rattle.smp_call_steps.specs.{marked_from, history_of, one_held, share_of, held_of, HandIs, Call, Word, Head, Hand, Queued, Next, RecPlace}
+use Rattle.smp_call_steps.specs.{CallState, Holding, Sending, appended, is_nil, ControlValue, Placed, IsCall, IsThere, Holds, IsApart, locked_by, AllPlaced}
+use Rattle.smp_call_steps.specs.{Chained, Leads, Linked, Noticed, IsNoticed, is_pending, is_accepted, is_owed, IsEmpty, nexts_in, heads_in, intrs_in}
+use Rattle.smp_call_steps.specs.{queued_in, ran_in, IsWrittenIn, WrittenIn, Recorded, Tallied, mark, sent_to, marked_from, history_of, one_held, share_of}
+use Rattle.smp_call_steps.specs.{held_of, HandIs, Call, Word, Head, Hand, Queued, Next, RecPlace}
 use Rattle.smp_call_steps.specs.Stands.{Stands}
 use Rattle.smp_call_steps.specs.Shows.{Shows}
 use Rattle.smp_words.proofs.Puts.{at_test, put_all, put_other, put_same}

@@ -1,14 +1,14 @@
 -- The steps of handle that begin a call: the front of the batch runs, and its record stays locked or is free.
-use Rattle.std.proofs.Common.{◌≡◌, ◌≢◌, ℕ, ◌+◌, nat_lt, inl, inr, true, cond, Option, Some, None, List, [], ◌∷◌, ◌++◌, sym, subst, refl}
-use Rattle.std.proofs.Common.{ap, ◌∙◌, arith, append_assoc}
+use Rattle.std.proofs.Common.{◌≡◌, ◌≢◌, ℕ, ◌+◌, nat_lt, inl, inr, true, cond, Option, Some, None, List, [], ◌∷◌, ◌++◌, sym, subst, refl, ap, ◌∙◌, arith}
+use Rattle.std.proofs.Common.{append_assoc}
 use Rattle.std.proofs.lemmas.Bool.{lt-ltb}
 use Rattle.std.proofs.lemmas.List.{append-nil}
 use Rattle.std.specs.List.{AllByRecursion}
 use Rattle.smp_words.specs.Put.{put, put_word}
-use Rattle.smp_call_steps.specs.{CallState, Running, Nothing, SyncCall, AsyncCall, begins_sync, begins_async, sync_calls}
-use Rattle.smp_call_steps.specs.{async_calls, DrainValue, ControlValue, IsApart, HasRecord, IsThere, Placed, locked_by, AllPlaced, FlagsShow, IsWritten}
-use Rattle.smp_call_steps.specs.{Written, last_batch, flags_in, funcs_in, infos_in, queued_in, ran_in, IsWrittenIn, orders, running_call, counted_call}
-use Rattle.smp_call_steps.specs.{Recorded, Tallied, share_of, HandIs, Call, Word, Hand, Flags, RecPlace, Walk, Handle}
+use Rattle.smp_call_steps.specs.{CallState, Running, Nothing, SyncCall, AsyncCall, begins_sync, begins_async, sync_calls, async_calls, DrainValue}
+use Rattle.smp_call_steps.specs.{ControlValue, IsApart, HasRecord, IsThere, Placed, locked_by, AllPlaced, FlagsShow, IsWritten, Written, last_batch, flags_in}
+use Rattle.smp_call_steps.specs.{funcs_in, infos_in, queued_in, ran_in, IsWrittenIn, orders, running_call, counted_call, Recorded, Tallied, share_of, HandIs}
+use Rattle.smp_call_steps.specs.{Call, Word, Hand, Flags, RecPlace, Walk, Handle}
 use Rattle.smp_call_steps.specs.Stands.{Stands}
 use Rattle.smp_call_steps.specs.Shows.{Shows}
 use Rattle.smp_words.proofs.Puts.{at_test, test_here, test_else}
@@ -168,17 +168,17 @@ module _ {a : CallState} {at : Word → ℕ} {control : ℕ → ControlValue} (m
       let to : RecPlace = place.Free in
       let held' = held_after me s c (rw stage held) in
       let stands' = begun_stands call rest front idle to (AsyncCall call) (put_word at (Flags call.id) 0) c
-          (record {
-          place_stays = λ u ne. test_else u call.id to (a.place u) ne;
-          flags = λ u ne. test_else u call.id 0 (at (Flags u)) ne;
-          func = λ _ _. refl;
-          info = λ _ _. refl;
-          next = λ _ _. refl;
-          }) stands in
+      (record {
+        place_stays = λ u ne. test_else u call.id to (a.place u) ne;
+        flags = λ u ne. test_else u call.id 0 (at (Flags u)) ne;
+        func = λ _ _. refl;
+        info = λ _ _. refl;
+        next = λ _ _. refl;
+      }) stands in
       let hands = hands_after me s c hand in
       let placed = begun_placed call rest front idle to (AsyncCall call) tt tt in
       let written = begun_written call rest front idle to (AsyncCall call) (put (flags_in at) call.id 0) (λ u ne. test_else u call.id 0 (at (Flags u)) ne)
-          (test_here call.id 0 (at (Flags call.id))) tt in
+      (test_here call.id 0 (at (Flags call.id))) tt in
       let recorded = begun_recorded call rest front idle to (AsyncCall call) refl in
       let tallied = begun_tallied call rest front idle to (AsyncCall call) refl in
       search (held', stands', hands, placed, written, recorded, tallied, arith)

@@ -4,10 +4,10 @@ use Rattle.std.proofs.lemmas.List.{append-nil}
 use Rattle.std.specs.List.{AllByRecursion}
 use Rattle.smp_words.specs.Size.{owner}
 use Rattle.smp_words.specs.Put.{put, put_word}
-use Rattle.smp_call_steps.specs.{CallState, Holding, Running, Nothing, CountedCall, counts, ends_sync, ends_async, DrainValue, second_on}
-use Rattle.smp_call_steps.specs.{first_on, ControlValue, HasRecord, IsThere, Placed, locked_by, AllPlaced, IsWritten, Written, last_batch, flags_in, funcs_in}
-use Rattle.smp_call_steps.specs.{infos_in, nexts_in, queued_in, ran_in, IsWrittenIn, orders, running_call, counted_call, Recorded, Tallied, Share, share_of}
-use Rattle.smp_call_steps.specs.{HandIs, held_of, Call, Word, Hand, Ran, Flags, RecPlace, Walk, Handle}
+use Rattle.smp_call_steps.specs.{CallState, Holding, Running, Nothing, CountedCall, counts, ends_sync, ends_async, DrainValue, second_on, first_on}
+use Rattle.smp_call_steps.specs.{ControlValue, HasRecord, IsThere, Placed, locked_by, AllPlaced, IsWritten, Written, last_batch, flags_in, funcs_in, infos_in}
+use Rattle.smp_call_steps.specs.{nexts_in, queued_in, ran_in, IsWrittenIn, orders, running_call, counted_call, Recorded, Tallied, Share, share_of, HandIs}
+use Rattle.smp_call_steps.specs.{held_of, Call, Word, Hand, Ran, Flags, RecPlace, Walk, Handle}
 use Rattle.smp_call_steps.specs.Stands.{Stands}
 use Rattle.smp_call_steps.specs.Shows.{Shows}
 use Rattle.smp_words.proofs.Puts.{at_test, test_here, test_else}

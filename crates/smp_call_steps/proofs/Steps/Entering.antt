@@ -36,7 +36,7 @@ module _ {a : CallState} {at : Word → ℕ} {control : ℕ → ControlValue} (m
   stores_hand n c held stands hand =
       let held' = held_after me s c held in
       let stands' = stands_after me s (put_word at (Hand me) n) a.place (share_of a) c (λ _ _. refl)
-          (λ cpu _. leaves_all a.place at (put_word at (Hand me) n) (λ _. refl) (λ _. refl) (λ _. refl) (λ _. refl) cpu) stands in
+      (λ cpu _. leaves_all a.place at (put_word at (Hand me) n) (λ _. refl) (λ _. refl) (λ _. refl) (λ _. refl) cpu) stands in
       let hands = hands_stored me s c n hand in
       search (held', stands', hands, arith)
 

@@ -98,9 +98,9 @@ module _ {cpu : ℕ} {places places' : ℕ → RecPlace} {at at' : Word → ℕ}
       → Walks (nexts_in at) s d walk here front rest running → Walks (nexts_in at') s d walk here front rest running
   Walks-kept s d walk here front rest running b h =
       let leads_here = Path-kept (nexts_in at) (nexts_in at') (IsPlaced places (place.Batch cpu)) same_next (link_to walk.first) (async_calls h.passed) here
-          (walks_passed (IsPlaced places (place.Batch cpu)) h b) h.leads_here in
+      (walks_passed (IsPlaced places (place.Batch cpu)) h b) h.leads_here in
       let leads_on = Path-kept (nexts_in at) (nexts_in at') (IsPlaced places (place.Batch cpu)) same_next here rest 0
-          (walks_rest (IsPlaced places (place.Batch cpu)) h b) h.leads_on in
+      (walks_rest (IsPlaced places (place.Batch cpu)) h b) h.leads_on in
       search (leads_here, leads_on, arith)
 
   walked_next : (s : Share) (d : DrainValue) (walk : Walk) (id : ℕ) (call : Call) (rest : List Call) → AllPlaced places (place.Batch cpu) s.batch
@@ -113,7 +113,7 @@ module _ {cpu : ℕ} {places places' : ℕ → RecPlace} {at at' : Word → ℕ}
       → Ends (nexts_in at) s d here front rest running → Ends (nexts_in at') s d here front rest running
   Ends-kept s d here front rest running b h =
       let leads_on = Path-kept (nexts_in at) (nexts_in at') (IsPlaced places (place.Batch cpu)) same_next here rest 0
-          (ends_rest (IsPlaced places (place.Batch cpu)) h b) h.leads_on in
+      (ends_rest (IsPlaced places (place.Batch cpu)) h b) h.leads_on in
       search (leads_on, arith)
 
   ended_next : (s : Share) (d : DrainValue) (id : ℕ) (call : Call) (rest : List Call) → AllPlaced places (place.Batch cpu) s.batch

@@ -4,9 +4,9 @@ use Rattle.std.proofs.lemmas.Bool.{cases_eq}
 use Rattle.std.specs.List.{AllByRecursion}
 use Rattle.smp_words.specs.Put.{put}
 use Rattle.smp_words.specs.Size.{owner}
-use Rattle.smp_call_steps.specs.{CallState, Holding, ControlValue, Placed, IsThere, Holds, AllPlaced, FlagsShow, Chained, Linked, LinkIs}
-use Rattle.smp_call_steps.specs.{Noticed, nexts_in, heads_in, intrs_in, queued_in, ran_in, IsWrittenIn, WrittenIn, Tallied, StandsAt, share_of, held_of}
-use Rattle.smp_call_steps.specs.{held_of_post, HandIs, Call, Word, Head, Intr, Hand, Flags, RecPlace, Posting, PostStage, Stage, Post}
+use Rattle.smp_call_steps.specs.{CallState, Holding, ControlValue, Placed, IsThere, Holds, AllPlaced, FlagsShow, Chained, Linked, LinkIs, Noticed, nexts_in}
+use Rattle.smp_call_steps.specs.{heads_in, intrs_in, queued_in, ran_in, IsWrittenIn, WrittenIn, Tallied, StandsAt, share_of, held_of, held_of_post, HandIs}
+use Rattle.smp_call_steps.specs.{Call, Word, Head, Intr, Hand, Flags, RecPlace, Posting, PostStage, Stage, Post}
 use Rattle.smp_call_steps.specs.Stands.{Stands}
 use Rattle.smp_call_steps.specs.Shows.{Shows}
 use Rattle.smp_words.proofs.Puts.{at_test, put_all}

@@ -2,10 +2,10 @@
 use Rattle.std.proofs.Common.{arith, ◌≡◌, ◌≢◌, ℕ, ◌⊎◌, inl, inr, false, cond, Some, None, List, [], ◌∷◌, ◌++◌, sym, subst, refl, ap, ◌∙◌, append_assoc}
 use Rattle.std.proofs.lemmas.List.{append-nil}
 use Rattle.smp_words.specs.Put.{put, put_word}
-use Rattle.smp_call_steps.specs.{order, CallState, Running, Nothing, place_taken, takes, no_drain, record_at, reverse_on, ControlValue, IsApart}
-use Rattle.smp_call_steps.specs.{IsPlaced, IsThere, Placed, Leads, FlagsShow, Chained, last_batch, IsEmpty, IsNoticed, is_pending}
-use Rattle.smp_call_steps.specs.{is_accepted, is_owed, Noticed, nexts_in, heads_in, intrs_in, WrittenIn, marked, batches_marked, history_of}
-use Rattle.smp_call_steps.specs.{marked_from, sent_to, orders, running_call, Recorded, Share, share_of, Call, Word, Head, Hand, RecPlace, Handle}
+use Rattle.smp_call_steps.specs.{order, CallState, Running, Nothing, place_taken, takes, no_drain, record_at, reverse_on, ControlValue, IsApart, IsPlaced}
+use Rattle.smp_call_steps.specs.{IsThere, Placed, Leads, FlagsShow, Chained, last_batch, IsEmpty, IsNoticed, is_pending, is_accepted, is_owed, Noticed}
+use Rattle.smp_call_steps.specs.{nexts_in, heads_in, intrs_in, WrittenIn, marked, batches_marked, history_of, marked_from, sent_to, orders, running_call}
+use Rattle.smp_call_steps.specs.{Recorded, Share, share_of, Call, Word, Head, Hand, RecPlace, Handle}
 use Rattle.smp_call_steps.specs.Shows.{Shows}
 use Rattle.smp_words.proofs.Puts.{at_test, test_here, test_else}
 use Rattle.smp_call_steps.proofs.Basics.Alls.{every}
@@ -136,20 +136,20 @@ module _ {a : CallState} {at : Word → ℕ} {control : ℕ → ControlValue} (m
       ap last_batch (test_here me (a.taken me ++ a.queue me ∷ []) (a.taken me)) ∙ last_batch-push (a.taken me) (a.queue me) in
       let held = held_after me s c (holds_nothing me s handle.Take e) in
       let stands = stands_after me s (put_word at (Head me) 0) (place' a at me) (share_of (takes a me)) c
-          (λ cpu ne. at_test cpu me (λ b.
-          record {
-          last = last_batch (cond b (a.taken me ++ a.queue me ∷ []) (a.taken cpu));
-          batch = cond b (order (a.queue me)) (a.batch cpu);
-          running = a.running cpu;
-          accepted = cond b false (a.accepted cpu);
-          } ≡ share_of a cpu) (λ f. absurd (ne f)) (λ _. refl))
-          (λ cpu _. leaves_taken cpu) (
-          was.0,
-          reverse_goes (nexts_in at) after no_drain None (record_at link) (a.queue me) [] (whole ∙ sym (append-nil (a.queue me)))
-          (subst (λ (n : ℕ). Leads (nexts_in at) n (a.queue me) 0) (sym (link_back link)) (s.chained.chain me)) refl
-          (subst IsApart (sym whole) (s.placed.queue_apart me)) refl
-          (test_here me (order (a.queue me)) (a.batch me) ∙ ap order (sym whole)) k.1 (test_here me false (a.accepted me)),
-          ) in
+      (λ cpu ne. at_test cpu me (λ b.
+      record {
+        last = last_batch (cond b (a.taken me ++ a.queue me ∷ []) (a.taken cpu));
+        batch = cond b (order (a.queue me)) (a.batch cpu);
+        running = a.running cpu;
+        accepted = cond b false (a.accepted cpu);
+      } ≡ share_of a cpu) (λ f. absurd (ne f)) (λ _. refl))
+      (λ cpu _. leaves_taken cpu) (
+        was.0,
+        reverse_goes (nexts_in at) after no_drain None (record_at link) (a.queue me) [] (whole ∙ sym (append-nil (a.queue me)))
+            (subst (λ (n : ℕ). Leads (nexts_in at) n (a.queue me) 0) (sym (link_back link)) (s.chained.chain me)) refl
+            (subst IsApart (sym whole) (s.placed.queue_apart me)) refl
+            (test_here me (order (a.queue me)) (a.batch me) ∙ ap order (sym whole)) k.1 (test_here me false (a.accepted me)),
+      ) in
       let hands = hands_after me s c (hand_of_reverse None (record_at link) (at (Hand me)) (hand_at me s handle.Take e)) in
       let placed = placed_taken a at me k.0 s.placed in
       let written = written_taken a at me s.written in

@@ -101,17 +101,10 @@ drained_run k v words (audit.Left left) c a = tt
 -- what an audit tells of its table
 pub audited : (t : TableValue) (d : SeatValue) (words : List ℕ) (answer : Audit) → d.table ≡ t.table → Closes (setting_of t) d.known words
     → AuditAnswers (number_in words) answer → Audited t (cpu_of d) answer
-audited t d words answer e c a = record {
-  calls = c.calls;
-  at = number_in words;
-  controls = c.controls;
-  shown = c.shown;
-  view = λ i. record (cpu_of d) { table = e i; setting = c.setting_is i; part = sym c.sees.part i };
-  below = c.below;
-  absent = λ cpu l. let sees = c.absent cpu l in sees.part;
-  answers = a;
-  drained = drained_run (setting_of t) d.known words answer c a;
-}
+audited t d words answer e c a =
+    let at = number_in words in
+    let drained = drained_run (setting_of t) d.known words answer c a in
+    search (at, drained, arith)
 
 -- the words by the value of the CPU that closed the table, and by what it knew
 

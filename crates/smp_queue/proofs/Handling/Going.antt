@@ -4,8 +4,7 @@ use Rattle.atomic_table.specs.Seated.{TableId}
 use Rattle.smp_words.specs.Access.{word_of}
 use Rattle.smp_call_steps.specs.Drains.{record_at, unlink_after, handle_outcome, by_class, FitsFound, reverse_on, first_on, second_on}
 use Rattle.smp_words.specs.Flags.{class_of}
-use Rattle.smp_queue.specs.{Sync, Word, Flags, Func, Info, Next, Known, Walk, HandleStage, Stage, Handle, Heard, HasRunAll, SeatValue, Loads}
-use Rattle.smp_queue.specs.{InHandle}
+use Rattle.smp_queue.specs.{Sync, Word, Flags, Func, Info, Next, Known, Walk, HandleStage, Stage, Handle, Heard, HasRunAll, SeatValue, Loads, InHandle}
 use Rattle.smp_call_steps.specs.Known.{known_access, Moment}
 use Rattle.smp_call_steps.specs.Handling.{goes_known}
 use Rattle.smp_call_steps.proofs.Knows.Handling.{lives_fits, next_found_is, func_found_is, info_found_is, flags_found_is, lives_locked}

@@ -1,6 +1,6 @@
 -- A CPU that runs its batch: what it knows after each call.
-use Rattle.std.proofs.Common.{◌≡◌, ℕ, ◌+◌, ◌%◌, ◌^◌, ◌<◌, Option, List, [], ◌∷◌, ◌++◌, length, length-set, get_or, set, append-nil, append_assoc, sym}
-use Rattle.std.proofs.Common.{ap, ◌∙◌, arith}
+use Rattle.std.proofs.Common.{◌≡◌, ℕ, ◌+◌, ◌%◌, ◌^◌, ◌<◌, Option, List, [], ◌∷◌, ◌++◌, length, length-set, get_or, set, append-nil, append_assoc, sym, ap}
+use Rattle.std.proofs.Common.{◌∙◌, arith}
 use Rattle.std.proofs.lemmas.List.{get_or-set_same, get_or-set_other}
 use Rattle.std.proofs.lemmas.Bool.{cases_eq}
 use Rattle.std.proofs.lemmas.Fn.{FoldsTo-push}
@@ -33,14 +33,10 @@ module _ {H : Type 0} (leads : H → Heard → H → Type 0) (t : TableId) (s s'
       → s'.known ≡ ended_call stage call (begun_async call next s.known) →
       InHandle t s' stage → counts' ≡ set counts (owner call.id) ((get_or counts (owner call.id) 0 + 1) % 2 ^ 64) → leads before (heard_of call) after →
       HasRun leads t s s' stage call counts' before after
-  has_run table a in_range batch known at is heard = record {
-    at = at;
-    drain = ap (λ (u : Known). u.drain) known;
-    batch = batch ∙ ap (λ (calls : List Call). call ∷ calls) (sym (ap (λ (u : Known). u.part.batch) known ∙ ap rest_of batch));
-    cpu = (λ i. cpu_of (record { table = (at.table_is ∙ sym table) i; known = known i })) ∙ (λ i. runs (call ∷ []) (sym known i).part (cpu_of s));
-    counts_are = more_ran counts counts' s.known s'.known call a in_range (ap (λ (u : Known). u.part.ran) known) is;
-    heard_it = heard;
-  }
+  has_run table a in_range batch known at is heard =
+      let batch' = batch ∙ ap (λ (calls : List Call). call ∷ calls) (sym (ap (λ (u : Known). u.part.batch) known ∙ ap rest_of batch)) in
+      let counts_are = more_ran counts counts' s.known s'.known call a in_range (ap (λ (u : Known). u.part.ran) known) is in
+      search (batch', counts_are, arith)
 
 -- calls after calls
 pub more_calls : (calls more : List Call) (now : Part) (c : CpuValue)

@@ -6,8 +6,7 @@ use Rattle.smp_call_steps.specs.Heads.{Found}
 use Rattle.smp_call_steps.specs.Known.{standing, Lives}
 use Rattle.smp_call_steps.proofs.Basics.Lists.{sent_to-push, one_if-same}
 use Rattle.smp_call_steps.proofs.Knows.Restages.{free_outside}
-use Rattle.smp_queue.specs.{Class, Known, Posting, GivesUp, CpuValue, MayQueue, cpu_of, posts, ShowsThat, IsFree, call_by, IsMarked, SeatValue}
-use Rattle.smp_queue.specs.{uncounted}
+use Rattle.smp_queue.specs.{Class, Known, Posting, GivesUp, CpuValue, MayQueue, cpu_of, posts, ShowsThat, IsFree, call_by, IsMarked, SeatValue, uncounted}
 use Rattle.smp_queue.specs.post
 
 module _ (d : SeatValue) (l : Lives d.known) where
