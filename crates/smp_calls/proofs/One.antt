@@ -41,11 +41,11 @@ same_record number j k b l = search (cases_eq, eq-eqb, ne_eqb, one_local, arith)
 pub locks_at : (c : CpuValue) (k j : ℕ) → IsSized c → k < records_of_one → j < records_of_one
     → get_or (set c.part.confirmed (record_of c.number k) false) (record_of c.number j) false
     ≡ cond (record_of c.number j == record_of c.number k) false (confirmed_at c j)
-locks_at c k j s l b = search (cases_eq, eq-eqb, get_or, set, set_here, one_local, ne_eqb, set_else, arith)
+locks_at c k j s l b = search (cases_eq, eq-eqb, set_here, one_local, ne_eqb, set_else, arith)
 
 -- what is owed once a CPU was sent an interrupt, whether it was owed one or not
 owed_at : (owes : List Bool) (to x : ℕ) → get_or (set (set owes to true) to false) x false ≡ (get_or owes x false && not (to == x || false))
-owed_at owes to x = search (cases_eq, eq-eqb, get_or, set, set_false, and_false, ne_eqb, get_or-set_other, and_true, arith)
+owed_at owes to x = search (cases_eq, eq-eqb, set_false, and_false, ne_eqb, get_or-set_other, and_true, arith)
 
 -- the CPU after one call was queued, with what it has found in the head, and its interrupt sent
 abbrev pub sent_one : ℕ → ℕ → Class → ℕ → ℕ → Bool → Found → CpuValue → CpuValue
@@ -72,7 +72,7 @@ module _ {H : Type 0} (leads : H → Heard → H → Type 0) where
       Leaves leads c h (sent_one k to class func info first found c) h (sendings (λ _. call_by c.number k class func info) (one_queued to first))
       (calls_and_interrupts (one_queued to first))
       (λ x. owes_at c x && not (is_first_to x (one_queued to first))) (λ j. cond (j == k) false (confirmed_at c j))
-  leaves_sent true found c h k to class func info s l = search (length-set, set, append_assoc, owed_at, locked, handles_same, arith)
+  leaves_sent true found c h k to class func info s l = search (length-set, append_assoc, owed_at, locked, handles_same, arith)
   leaves_sent false found c h k to class func info s l = search (length-set, and_true, locked, handles_same, arith)
 
   -- the same of a CPU with this number that has become another one

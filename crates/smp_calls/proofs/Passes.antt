@@ -60,10 +60,10 @@ all_in false i = refl
 
 owed_after : (owes : List Bool) (cpu c : ℕ) (o i : Bool) → get_or owes c false ≡ (o && not i)
     → get_or (set owes cpu false) c false ≡ (o && not (i || (cpu == c || false)))
-owed_after owes cpu c o i e = search (cases_eq, eq-eqb, get_or, set, set_false, all_in, ne_eqb, get_or-set_other, or_false, arith)
+owed_after owes cpu c o i e = search (cases_eq, eq-eqb, set_false, all_in, ne_eqb, get_or-set_other, or_false, arith)
 
 pub sends_more : (old mid new : CpuValue) (cpu : ℕ) (xs : List ℕ) → Sends old mid xs → new ≡ sends cpu mid → Sends old new (xs ++ cpu ∷ [])
-sends_more old mid new cpu xs s e = search (set, interrupts_to-more, length-set, get_or, owed_after, is_in-append, arith)
+sends_more old mid new cpu xs s e = search (interrupts_to-more, length-set, owed_after, is_in-append, arith)
 
 -- ---- waiting
 

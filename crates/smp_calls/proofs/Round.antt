@@ -80,7 +80,7 @@ owed_else false owes to c e = refl
 
 owed_then : (first : Bool) (owes : List Bool) (to c : ℕ) → is_first_to c (one_queued to first) ≡ true → c < length owes
     → get_or (cond first (set owes to true) owes) c false ≡ true
-owed_then true owes to c e l = search (eqb-true, or_false, get_or, set, get_or-set_same, arith)
+owed_then true owes to c e l = search (eqb-true, or_false, get_or-set_same, arith)
 owed_then false owes to c e l = cc
 
 owes_length : (first : Bool) (owes : List Bool) (to : ℕ) → length (cond first (set owes to true) owes) ≡ length owes

@@ -30,7 +30,7 @@ set_else c i j b other = get_or-set_other c.part.confirmed i j b false other
 
 -- whether a record is confirmed once that of number k is
 pub confirms_at : (c : CpuValue) (k j : ℕ) → IsSized c → k < records_of_one → j < records_of_one → confirmed_at (confirms k c) j ≡ (j == k || confirmed_at c j)
-confirms_at c k j s l b = search (cases_eq, eq-eqb, slice_index_or, slice_set, set_here, ne_eqb, set_else, one_local, arith)
+confirms_at c k j s l b = search (cases_eq, eq-eqb, set_here, ne_eqb, set_else, one_local, arith)
 
 module _ {H : Type 0} (leads : H → Heard → H → Type 0) where
   pub leaves_none : (c : CpuValue) (h : H) → Leaves leads c h c h [] [] (owes_at c) (confirmed_at c)

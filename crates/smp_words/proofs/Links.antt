@@ -49,7 +49,7 @@ cpu_reads : (base c i : ℕ) → cpu_word base c ≡ Some i → (c < NR_CPUS) ×
 cpu_reads base c i e = let p = cond_some (nat_lt c NR_CPUS) (base + c) i e in (ltb-true c NR_CPUS p.0, p.1)
 
 pair_reads : (base x y i : ℕ) → pair_word base x y ≡ Some i → (x < NR_CPUS) × (y < NR_CPUS) × (base + NR_CPUS * x + y ≡ i)
-pair_reads base x y i e = search (cond_some, nat_lt, and_parts, ltb-true, arith)
+pair_reads base x y i e = search (cond_some, and_parts, ltb-true, arith)
 
 record_reads : (base r i : ℕ) → record_word base r ≡ Some i → (r < RECORDS) × (base + WORDS_OF_ONE * r ≡ i)
 record_reads base r i e = let p = cond_some (nat_lt r RECORDS) (base + WORDS_OF_ONE * r) i e in (ltb-true r RECORDS p.0, p.1)

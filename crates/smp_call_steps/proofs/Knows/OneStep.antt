@@ -1,5 +1,5 @@
 -- One step of a CPU that knows v: what holds after it, and what each CPU knows then.
-use Rattle.std.proofs.Common.{arith, ◌≡◌, ◌≢◌, ℕ, ◌-◌, ◌%◌, nat_lt, Bool, true, false, ◌==◌, cond, Option, Some, None, refl, ap, ◌∙◌}
+use Rattle.std.proofs.Common.{arith, ◌≡◌, ◌≢◌, ℕ, ◌-◌, ◌%◌, Bool, true, false, ◌==◌, cond, Option, Some, None, refl, ap, ◌∙◌}
 use Rattle.smp_words.proofs.Puts.{put_same, put_other}
 use Rattle.smp_words.specs.Put.{put}
 use Rattle.smp_call_steps.specs.{CallState, ends, goes_to, DrainValue, handle_goes, record_at, second_on, first_on, reverse_on, by_class, unlink_after, Call}
@@ -78,7 +78,7 @@ accept_told false = refl
 follows : (at : Word → ℕ) (me : ℕ) (d : DrainValue) (st : Stage) → Follows at me d st
 follows at me d (Post p post.LoadFlags) = flags_follow (at (Flags p.id) % 2 == 1) p.is_online p
 follows at me d (Post p post.Lock) = lock_follow p.class p at me d
-follows at me d (Post p (post.Exchange link tries)) = search (exchange_follow, nat_lt, arith)
+follows at me d (Post p (post.Exchange link tries)) = search (exchange_follow, arith)
 follows at me d (Handle handle.Accept) = accept_told (at (Intr me) == 0)
 follows at me d (Handle handle.Take) = reverse_told None (record_at (at (Head me)))
 follows at me d (Handle (handle.ReverseStore newer id older)) = reverse_told (Some id) older

@@ -1,5 +1,5 @@
 -- A CPU may stand at any stage that its steps so far leave open.
-use Rattle.std.proofs.Common.{arith, ◌≡◌, ℕ, ◌%◌, ◌<◌, true, false, ◌==◌, Option, Some, None, get_or, sym, subst, refl, ap, ◌∙◌, ◌⊎◌, inl, inr}
+use Rattle.std.proofs.Common.{arith, ◌≡◌, ℕ, ◌%◌, ◌<◌, true, false, ◌==◌, Option, Some, None, sym, subst, refl, ap, ◌∙◌, ◌⊎◌, inl, inr}
 use Rattle.smp_words.specs.Put.{put}
 use Rattle.smp_words.specs.Size.{records, owner}
 use Rattle.smp_call_steps.specs.{CallState, DrainValue, handle_access, source_at, ControlValue, access_of, Rests, StandsAt, PostKnows, share_of, held_of}
@@ -117,7 +117,7 @@ module _ {a : CallState} {at : Word → ℕ} {control : ℕ → ControlValue} {v
 
   -- a confirmed record is free, where its source is outside
   pub free_outside : (id : ℕ) → owner id ≡ me → id < records → v.stage ≡ None → is_confirmed v id ≡ true → a.place id ≡ place.Free
-  free_outside id own small out conf = search (known_held, get_or, row-at, arith)
+  free_outside id own small out conf = search (known_held, row-at, arith)
 
   pub aims_told : (st : Stage) → MayStep v st → told_stage (Some st) ≡ v.stage
   aims_told (Post p st) aims = aims.told

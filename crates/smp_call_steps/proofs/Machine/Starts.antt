@@ -49,11 +49,11 @@ begins_outside online cpu _ hand e = e
 
 -- a record that a source has is one of its local numbers
 pub record_below : (nr k : ℕ) → has_record nr k ≡ true → k < records_of_one
-record_below nr k e = search (cases_lt, nat_lt, le-ltb, ltb-true, and_parts, arith)
+record_below nr k e = search (cases_lt, le-ltb, ltb-true, and_parts, arith)
 
 -- a command that may start names a record that there is
 pub names_record : (nr online cpu : ℕ) (c : Command) → command_refusal nr online cpu c ≡ None → NamesRecord c
-names_record nr online cpu (command.Post k to class func info tries) e = search (nat_lt, or_false, then_none, ltb-true, not_false, arith)
+names_record nr online cpu (command.Post k to class func info tries) e = search (or_false, then_none, ltb-true, not_false, arith)
 names_record nr online cpu (command.Done k) e = record_below nr k (else_none (has_record nr k) None _ e).0
 names_record nr online cpu (command.Send to) e = tt
 names_record nr online cpu command.Handle e = tt
@@ -64,7 +64,7 @@ begins : (nr online : ℕ) (places : ℕ → RecPlace) (at : Word → ℕ) (s : 
     StandsAt places at s d cpu None → StandsAt places at s d cpu (first_stage online cpu c)
 begins nr online places at s d cpu (command.Post k to class func info tries) limits l e f h =
     let one = not (nat_lt k records_of_one) in
-    search (one, or_false, then_none, ltb-true, not_false, nat_lt, owner-of_record, record_of-below, online_below, arith)
+    search (one, or_false, then_none, ltb-true, not_false, owner-of_record, record_of-below, online_below, arith)
 begins nr online places at s d cpu (command.Send to) limits l e f h = (h, online_below nr online to limits (else_none (has online to) None _ e).0, l)
 begins nr online places at s d cpu (command.Done k) limits l e f h = search (record_below, else_none, owner-of_record, record_of-below, arith)
 begins nr online places at s d cpu command.Handle limits l e f h = (l, h)

@@ -1,5 +1,5 @@
 -- What each step does of the functions that calls run, and what it says of them.
-use Rattle.std.proofs.Common.{◌≡◌, ℕ, ◌+◌, ◌%◌, ◌==◌, nat_lt, Bool, true, false, cond, inl, inr, Option, Some, None, List, ◌∷◌, sym, subst, refl, arith}
+use Rattle.std.proofs.Common.{◌≡◌, ℕ, ◌+◌, ◌%◌, ◌==◌, Bool, true, false, cond, inl, inr, Option, Some, None, List, ◌∷◌, sym, subst, refl, arith}
 use Rattle.std.proofs.lemmas.Bool.{lt-ltb}
 use Rattle.smp_words.specs.Flags.{flags_of}
 use Rattle.smp_words.specs.Put.{put}
@@ -86,7 +86,7 @@ module _ (a : CallState) (at : Word → ℕ) (control : ℕ → ControlValue) (s
   goes_post p post.LoadFlags e = search (told_confirms, said_flags, arith)
   goes_post p post.Lock e = inl (record { same = told_lock a me p.class p.id; says = refl })
   goes_post p (post.StoreNext link tries) e = inl (record { same = told_links a me link (a.held me); says = refl })
-  goes_post p (post.Exchange link tries) e = search (told_exchange, said_exchange, nat_lt, arith)
+  goes_post p (post.Exchange link tries) e = search (told_exchange, said_exchange, arith)
   goes_post p post.Release e = search arith
   goes_post p _ e = inl (record { same = refl; says = refl })
 

@@ -91,7 +91,7 @@ module _ (a : CallState) (at : Word → ℕ) (control : ℕ → ControlValue) (s
   queues_post p post.LoadFlags e = search (sent_confirms, said_flags, arith)
   queues_post p post.Lock e = inl (record { same = sent_lock a me p.class p.id; says = refl })
   queues_post p (post.StoreNext link tries) e = inl (record { same = sent_links a me link (a.held me); says = refl })
-  queues_post p (post.Exchange link tries) e = search (exchanged, nat_lt, arith)
+  queues_post p (post.Exchange link tries) e = search (exchanged, arith)
   queues_post p post.Release e = inl (record { same = sent_releases a me p.id (a.held me); says = refl })
   queues_post p _ e = inl (record { same = refl; says = refl })
 
@@ -157,7 +157,7 @@ module _ (a : CallState) (at : Word → ℕ) (control : ℕ → ControlValue) (s
 
   means_post : (p : Posting) (stage : PostStage) → (control me).stage ≡ Some (Post p stage) → Means (Post p stage)
   means_post p post.LoadFlags e = means_flags p.id (at (Flags p.id) % 2 == 1) p.is_online p refl refl
-  means_post p (post.Exchange link tries) e = search (means_exchange, nat_lt, arith)
+  means_post p (post.Exchange link tries) e = search (means_exchange, arith)
   means_post p post.Release e = search (put_same, arith)
   means_post p _ e = tt
 

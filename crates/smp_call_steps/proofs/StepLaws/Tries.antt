@@ -1,5 +1,5 @@
 -- What a CPU does with what it finds in a head, until its call is queued.
-use Rattle.std.proofs.Common.{arith, ◌≡◌, ℕ, ◌+◌, ◌-◌, nat_lt, Bool, true, false, cond, Some, None}
+use Rattle.std.proofs.Common.{arith, ◌≡◌, ℕ, ◌+◌, ◌-◌, Bool, true, false, cond, Some, None}
 use Rattle.smp_words.specs.Access.{word_of}
 use Rattle.smp_call_steps.specs.{CallState, ends, goes_to, ControlValue, access_of, outcome_of, seen_then, GoesOnWith, Word, Head, Note, Posting, PostStage}
 use Rattle.smp_call_steps.specs.{HandleStage, Stage, Send, Done, Post, Handle}
@@ -29,7 +29,7 @@ module _ (a : CallState) (at : Word → ℕ) (control : ℕ → ControlValue) (s
   goes_post : (p : Posting) (stage : PostStage) → (control me).stage ≡ Some (Post p stage) → Goes (Post p stage)
   goes_post p post.LoadHead e next f at' = search (some_same, arith)
   goes_post p (post.StoreNext link tries) e next f at' = search (some_same, arith)
-  goes_post p (post.Exchange link tries) e next f at' = search (lost, nat_lt, arith)
+  goes_post p (post.Exchange link tries) e next f at' = search (lost, arith)
   goes_post p _ e next f at' = tt
 
   goes_handle : (stage : HandleStage) → (control me).stage ≡ Some (Handle stage) → Goes (Handle stage)

@@ -23,7 +23,7 @@ pub more_ran : (counts counts' : List ℕ) (v w : Known) (call : Call) → AreRa
     counts' ≡ set counts (owner call.id) ((get_or counts (owner call.id) 0 + 1) % 2 ^ 64) → AreRan counts' w
 more_ran counts counts' v w call a in_range ran is = rw is (record {
   sized = length-set counts (owner call.id) ((get_or counts (owner call.id) 0 + 1) % 2 ^ 64) ∙ a.sized;
-  are = search (cases_eq, get_or-set_same, get_or, owner-below, count_wraps, count-same, get_or-set_other, count-other, arith);
+  are = search (cases_eq, get_or-set_same, owner-below, count_wraps, count-same, get_or-set_other, count-other, arith);
 })
 
 -- a call has begun and ended

@@ -1,5 +1,5 @@
 -- A CPU's own records, and what a post leaves of its CPU.
-use Rattle.std.proofs.Common.{◌≡◌, ℕ, zero, suc, ◌^◌, ◌<◌, Bool, false, not, ◌||◌, ◌==◌, nat_lt, None, List, [], ◌∷◌, get_or, set, refl, ap, arith}
+use Rattle.std.proofs.Common.{◌≡◌, ℕ, zero, suc, ◌^◌, ◌<◌, Bool, false, not, ◌||◌, ◌==◌, nat_lt, None, List, [], ◌∷◌, set, refl, ap, arith}
 use Rattle.std.proofs.lemmas.Bool.{or_parts, ltb-true}
 use Rattle.std.proofs.lemmas.List.{get_or-set_same}
 use Rattle.atomic_table.specs.Seated.{TableId}
@@ -22,7 +22,7 @@ at_own table d number k id queued ran m is sized l e = search (owner-of_record, 
 -- a post that is not misused is by a record of its CPU
 pub small_record : (k to number tries : ℕ) (fits : Bool) → ((((not (nat_lt k records_of_one) || tries == 0) || to == number)) || fits) ≡ false
     → k < records_of_one
-small_record k to number tries fits e = search (or_parts, nat_lt, ltb-true, not_false, arith)
+small_record k to number tries fits e = search (or_parts, ltb-true, not_false, arith)
 
 pub allowed_record : (nr online number k to func info tries : ℕ) (class : Class)
     → command_refusal nr online number (command.Post k to class func info tries) ≡ None → k < records_of_one
@@ -32,7 +32,7 @@ allowed_record nr online number k to func info tries class e = small_record k to
 pub may_queue : (s s' : SeatValue) (number k id to func info : ℕ) (class : Class) (queued ran : List ℕ) → IsKept s.known number queued ran → k < records_of_one
     → id ≡ record_of number k →
     to < cpus → func < 2 ^ 16 → info < 2 ^ 64 → s'.known ≡ confirmed_known id s.known → MayQueue (cpu_of s') (posting_of id class func info to)
-may_queue s s' number k id to func info class queued ran m l e below f i known = search (record_of-below, owner-of_record, get_or, get_or-set_same, arith)
+may_queue s s' number k id to func info class queued ran m l e below f i known = search (record_of-below, owner-of_record, get_or-set_same, arith)
 
 -- the record is the CPU's own, as its seat shows
 pub mine_of : (table : TableId) (s : SeatValue) (c : CpuValue) (p : Posting) → cpu_of s ≡ c → c.table ≡ table → table.words ≡ cells → MayQueue c p

@@ -1,5 +1,5 @@
 -- What a post shows of the calls: the record that it gave up is free, and its mark is that of the queue history.
-use Rattle.std.proofs.Common.{arith, ◌≡◌, ℕ, Bool, get_or}
+use Rattle.std.proofs.Common.{arith, ◌≡◌, ℕ, Bool}
 use Rattle.smp_words.specs.Size.{record_of}
 use Rattle.smp_call_steps.specs.Calls.{CallState}
 use Rattle.smp_call_steps.specs.Heads.{Found}
@@ -18,7 +18,7 @@ module _ (d : SeatValue) (l : Lives d.known) where
   pub free_then : (v w : Known) (new : CpuValue) (p : Posting) (k : ℕ) (found : Found) → GivesUp found w d.known
       → w ≡ standing (uncounted p) post.Count v →
       v.part ≡ new.part → v.number ≡ new.number → MayQueue new p → p.id ≡ record_of new.number k → ShowsThat (cpu_of d) (IsFree (cpu_of d) k)
-  free_then v w new p k found left stands part number may is = search (get_or, shows_that, free_outside, arith)
+  free_then v w new p k found left stands part number may is = search (shows_that, free_outside, arith)
 
   -- a CPU that has queued a call
   pub marked_then : (old : CpuValue) (k to func info : ℕ) (class : Class) (first : Bool) (found : Found)

@@ -17,7 +17,7 @@ pub one_more-ran-requires : goal.one_more-ran-requires
 one_more-ran-requires g c = search (lives_stands, owner-below, lives_front, arith)
 
 pub count_async-requires-clause-count : goal.count_async-requires-clause-count
-count_async-requires-clause-count g c = search (lives_stands, owner-below, lives_front, tally_running, get_or, arith)
+count_async-requires-clause-count g c = search (lives_stands, owner-below, lives_front, tally_running, arith)
 
 pub returns : goal.returns
 returns g c =
