@@ -69,7 +69,7 @@ pub record HasFoundEdge {H F : Type 0} (hears : H → Heard → H → Type 0) (r
   pub works : Works hears runs old h f new h' f' (with_gate false (own_of old))
   pub outside : new.stops.inside ≡ None
 
--- it has made a patch by one, with this answer, and held the gate until that was complete
+-- it has made a patch by one, with this answer
 pub record PatchesByOne {H F : Type 0} (hears : H → Heard → H → Type 0) (runs : F → Called → F → Type 0) (t : TableValue) (k : ℕ) (up : Bool)
     (old : PlaceValue) (h : H) (f : F) (new : PlaceValue) (h' : H) (f' : F) (answer : ℤ) : Type 0 where
   pub work : Work
@@ -85,7 +85,7 @@ Patches hears runs t k up old h f new h' f' (Err (error.KeyRange e)) = (e ≡ en
     × ((answer : ℤ) × (answer ≢ pos 0) × PatchesByOne hears runs t k up old h f new h' f' answer)
 Patches hears runs t k up old h f new h' f' (Err _) = ⊥
 
--- it has found a count at which the key would turn, while it held the gate, and has then made a patch by one
+-- it has made a patch by one, and some value that held the gate had found a count at which the key would turn
 pub record HasPatched {H F : Type 0} (hears : H → Heard → H → Type 0) (runs : F → Called → F → Type 0) (t : TableValue) (k : ℕ) (up : Bool)
     (old : PlaceValue) (h : H) (f : F) (new : PlaceValue) (h' : H) (f' : F) (answer : ℤ) : Type 0 where
   pub at_gate : CpuValue

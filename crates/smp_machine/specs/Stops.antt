@@ -65,8 +65,8 @@ with_queued source work o = with_put (item source work) (members work.mask) (wit
 abbrev pub gives_gate : PlaceValue → PlaceValue
 gives_gate p = record p { stops = gated false p.stops }
 
--- a stop held the gate until it was given up: a long one as its last step, with its result collected, any other when its
--- works were queued, and collected its result after that
+-- some value held the gate: for a long stop with its result collected, for any other with its works queued. The other parts
+-- of a stop give such a value too, so this says nothing of when the gate was given up
 abbrev pub HoldsGate : {H F : Type 0} → (H → Heard → H → Type 0) → (F → Called → F → Type 0) → Bool → Work → ℕ → PlaceValue → H → F
     → PlaceValue → H → F → Type 0
 HoldsGate hears runs true work word old h f new h' f' = (holder : PlaceValue)
@@ -76,7 +76,7 @@ HoldsGate {H} {F} hears runs false work word old h f new h' f' = (holder : Place
     × Works hears runs (gives_gate holder) heard called new h' f' (with_collected word (own_of (gives_gate holder)))
 
 -- a CPU that was in no stop has made a stop of this work, with this answer, and is in none. Its works were queued once for
--- each CPU of the mask, and the queues show it; a long stop gave the gate up last
+-- each CPU of the mask
 pub record HasStopped {H F : Type 0} (hears : H → Heard → H → Type 0) (runs : F → Called → F → Type 0) (long : Bool) (work : Work)
     (old : PlaceValue) (h : H) (f : F) (new : PlaceValue) (h' : H) (f' : F) (answer : ℤ) : Type 0 where
   pub word : ℕ

@@ -1,7 +1,6 @@
 //! The steps round the function of a stop. Each is lent what the function runs on, and the step after the call, the
 //! completion of a stop of one CPU or the acknowledgement of `RUN` of a Multi stop, asks that the call has led it from
-//! what it was at its beginning to what it is: so the CPU makes that step neither before the function has run, nor with
-//! another call or another answer. No other page can make these steps.
+//! what it was at its beginning to what it is. Which function is lent, no clause says.
 
 ghost use Rattle.std.specs.Prelude.{◌≡◌, ◌≢◌, Some, None};
 ghost use Rattle.smp_words.specs.Access.{one_less};
