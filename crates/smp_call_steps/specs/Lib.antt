@@ -32,6 +32,10 @@ pub mod Premises
 pub mod Notes
 pub mod Tries
 pub mod StepLaws
+-- what a command takes from its arguments, and what it is refused for
+pub mod Begins
+pub mod Refusals
+pub mod Drained
 -- the laws
 pub mod Promises
 -- the machine: a list of words, and a list of controls
@@ -68,6 +72,9 @@ unfoldable pub use Premises.*
 unfoldable pub use Notes.*
 unfoldable pub use Tries.*
 unfoldable pub use StepLaws.*
+unfoldable pub use Begins.*
+unfoldable pub use Refusals.*
+unfoldable pub use Drained.*
 unfoldable pub use Promises.*
 unfoldable pub use Value.*
 unfoldable pub use Sound.*

@@ -101,6 +101,9 @@ pub fn confirmed_calls_have_run()
 
 ghost use Rattle.smp_call_steps.specs.StepLaws.{OfEachStep, IsPremised, KeepsRecords, KeepsFunctions, KeepsQueues, NoteHolds, TriesGoOn};
 ghost use Rattle.smp_call_steps.specs.StepLaws.{KnownStepsKeepLaws};
+ghost use Rattle.smp_call_steps.specs.Begins.{CommandsBeginSo, PostsStay, PostsQueueTheirCalls, PostsTryAsOften, NotesEndCommands};
+ghost use Rattle.smp_call_steps.specs.Refusals.{RefusalsAreOfTheNumbers};
+ghost use Rattle.smp_call_steps.specs.Drained.{DrainedRunsAll, QueuesAreShort};
 
 /// What holds before each step. A free record is locked by its own source, which holds none; a head is exchanged for the
 /// record that is held, whose call is counted for that CPU. A CPU swaps its own interrupt word with nothing left to run,
@@ -144,4 +147,42 @@ pub fn tries_go_on()
 /// All of this holds of a CPU at words that threads share, at each stage that what it knows leaves open.
 pub fn known_steps_keep_laws()
     ensures { KnownStepsKeepLaws }
+{}
+
+/// A command of the call half is refused for just these reasons. A post is refused with E4 where its record may not carry
+/// such a call, it may not try, or its destination is the own CPU. A send is refused with E1 where its destination is not
+/// online. A `done` is refused with E4 where the CPU has no such record.
+pub fn refusals_are_of_the_numbers()
+    ensures { RefusalsAreOfTheNumbers }
+{}
+
+/// The first step of a command is to the word that the command names, and a post has the numbers of its command.
+pub fn commands_begin_so()
+    ensures { CommandsBeginSo }
+{}
+
+/// A post keeps its numbers from its first step to its last, and the call that it queues has them.
+pub fn posts_queue_their_calls()
+    ensures stay { PostsStay }
+    ensures queue { PostsQueueTheirCalls }
+{}
+
+/// A post may make as many exchanges as its command says, and gives up only once it has lost all of them.
+pub fn posts_try_as_often()
+    ensures { PostsTryAsOften }
+{}
+
+/// The step that ends a command has a note. No other step has one, but that with which a call begins to run.
+pub fn notes_end_commands()
+    ensures { NotesEndCommands }
+{}
+
+/// On a drained machine the calls that have run are the calls that were queued, for each source and CPU.
+pub fn drained_machines_ran_all()
+    ensures { DrainedRunsAll }
+{}
+
+/// A queue has at most as many calls as there are records, so a walk along its links ends.
+pub fn queues_are_short()
+    ensures { QueuesAreShort }
 {}

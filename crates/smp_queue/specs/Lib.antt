@@ -17,6 +17,8 @@ pub mod Handling
 -- what holds while threads run
 pub mod Laws
 pub mod Posted
+-- what is refused, by numbers
+pub mod Refusals
 -- all of it by one name, for proofs
 unfoldable pub use Names.*
 unfoldable pub use Cells.*

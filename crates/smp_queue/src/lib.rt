@@ -31,6 +31,7 @@ mod closing;
 mod cpu;
 mod handle;
 mod handler;
+pub mod laws;
 mod post;
 mod reverse;
 mod rule;

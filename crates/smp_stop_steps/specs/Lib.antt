@@ -41,6 +41,7 @@ pub mod New
 pub mod Begins
 pub mod Starts
 pub mod Refusals
+pub mod Commands
 pub mod StepLaws
 pub mod Kept
 -- what a CPU knows

@@ -213,3 +213,44 @@ pub fn nothing_is_known()
 pub fn moves_are_known()
     ensures { MovesAreKnown }
 {}
+
+ghost use Rattle.smp_stop_steps.specs.Commands.{CommandsBeginSo, BeginsStoreTheWork, WorksAreBegun, NudgesGoSo, NotesEndCommands};
+ghost use Rattle.smp_stop_steps.specs.Commands.{InterruptsGoOffAtDisable};
+
+/// The first step of a command is to the word that the command names: the gate, the own slot, the slot of the stop that the
+/// CPU is in, the key or the site.
+pub fn commands_begin_so()
+    ensures { CommandsBeginSo }
+{}
+
+/// A begin stores its own work, field by field, and opens the stop of just that work.
+pub fn works_are_begun()
+    ensures stores { BeginsStoreTheWork }
+    ensures begun { WorksAreBegun }
+{}
+
+/// A nudge exchanges the count that it has found for one more or one less, as its command says. It says `stop` just where
+/// the key would turn on or off.
+pub fn nudges_go_so()
+    ensures { NudgesGoSo }
+{}
+
+/// The step that ends a command has a note. No other step has one, but that after which a function runs.
+pub fn notes_end_commands()
+    ensures { NotesEndCommands }
+{}
+
+/// A CPU's interrupts go off only by a load that finds `DISABLE_IRQ` in the state word of its stop.
+pub fn interrupts_go_off_at_disable()
+    ensures { InterruptsGoOffAtDisable }
+{}
+
+ghost use Rattle.std.specs.Prelude.{ℕ, ◌<◌, ◌≤◌, true};
+ghost use Rattle.smp_mask.specs.Mask.{has};
+ghost use Rattle.smp_stop_steps.specs.Value.{setup_of};
+ghost use Rattle.smp_labels.specs.Labels.{Labels};
+
+/// The first CPU online, which alone makes patches, is the one with the least number.
+pub fn first_is_least()
+    ensures { (online : ℕ) (labels : Labels) (c : ℕ) → c < 32 → has online c ≡ true → (setup_of online labels).first ≤ c }
+{}

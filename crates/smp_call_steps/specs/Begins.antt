@@ -1,0 +1,89 @@
+-- What a command's steps take from the command, and how it ends.
+use Rattle.std.specs.Prelude.{◌≡◌, ◌≢◌, ◌⊎◌, ℕ, ◌<◌, ◌+◌, ◌-◌, ◌++◌, [], ◌∷◌, Option, Some, None}
+use Rattle.smp_mask.specs.Mask.{has}
+use Rattle.smp_words.specs.Access.{word_of}
+use Rattle.smp_words.specs.Size.{record_of}
+use Rattle.smp_words.specs.declared.command.Command.{Command}
+use Rattle.smp_words.specs.declared.command.Command.TheVariants as command
+use Rattle.smp_call_steps.specs.Calls.{CallState, tells}
+use Rattle.smp_call_steps.specs.Drains.{DrainValue}
+use Rattle.smp_call_steps.specs.Posts.{post_outcome}
+use Rattle.smp_call_steps.specs.Stages.{access_of, outcome_of}
+use Rattle.smp_call_steps.specs.Start.{first_stage}
+use Rattle.smp_call_steps.specs.StepLaws.{OfEachStep, seen_then}
+use Rattle.smp_call_steps.specs.Names.{Word, Head, Intr, Hand, Flags, Access, Load, Store, Note, Posting, PostStage, Outcome, Stage, Post}
+use Rattle.smp_call_steps.specs.Names.note
+use Rattle.smp_call_steps.specs.Names.post
+
+-- the posting of a post: by the source's record of that number, to that CPU, with that class, function, info and tries
+abbrev pub IsPostingOf : ℕ → ℕ → Command → Posting → Type 0
+IsPostingOf online cpu (command.Post k to class func info tries) p = (p.id ≡ record_of cpu k) × ((p.to ≡ to) × ((p.is_online ≡ has online to)
+    × ((p.class ≡ class) × ((p.func ≡ func) × ((p.info ≡ info) × (p.tries ≡ tries))))))
+IsPostingOf online cpu _ p = ⊥
+
+-- a post begins with the posting that it names
+abbrev pub BeginsPosting : ℕ → ℕ → Command → Option Stage → Type 0
+BeginsPosting online cpu command (Some (Post p stage)) = IsPostingOf online cpu command p
+BeginsPosting online cpu command _ = Unit {0}
+
+-- the first access of a command is to the word that it names
+abbrev pub FirstAccess : ℕ → Command → Access → Type 0
+FirstAccess cpu (command.Post k to class func info tries) access = access ≡ Load (Flags (record_of cpu k))
+FirstAccess cpu (command.Send to) access = access ≡ Store (Intr to) 1
+FirstAccess cpu (command.Done k) access = access ≡ Load (Flags (record_of cpu k))
+FirstAccess cpu command.Handle access = access ≡ Store (Hand cpu) 1
+FirstAccess cpu _ access = ⊥
+
+-- where it begins, it begins so
+abbrev pub BeginsAt : ℕ → Command → Option Stage → Type 0
+BeginsAt cpu command None = Unit {0}
+BeginsAt cpu command (Some stage) = (at : Word → ℕ) → FirstAccess cpu command (access_of at cpu stage)
+
+abbrev pub CommandsBeginSo : Type 0
+CommandsBeginSo = (online cpu : ℕ) (command : Command) → let first = first_stage online cpu command in
+    BeginsAt cpu command first × BeginsPosting online cpu command first
+
+-- a post stays the same post until it ends
+abbrev pub IsOfPost : Posting → Option Stage → Type 0
+IsOfPost p None = Unit {0}
+IsOfPost p (Some (Post q stage)) = q ≡ p
+IsOfPost p (Some _) = ⊥
+
+abbrev pub PostsStay : Type 0
+PostsStay = (p : Posting) (stage : PostStage) (found : ℕ) → IsOfPost p (post_outcome p stage found).next
+
+-- A step by which a post wins its exchange queues its own call, at the end of its own CPU's queue.
+abbrev pub QueuesItsCall : CallState → (Word → ℕ) → DrainValue → ℕ → Stage → Type 0
+QueuesItsCall a at d me (Post p (post.Exchange link tries)) = at (Head p.to) ≡ link →
+    (tells a (seen_then at d me (Post p (post.Exchange link tries)))).queue p.to
+    ≡ a.queue p.to ++ record { id = p.id; class = p.class; func = p.func; info = p.info } ∷ []
+QueuesItsCall a at d me _ = Unit {0}
+
+abbrev pub PostsQueueTheirCalls : Type 0
+PostsQueueTheirCalls = OfEachStep QueuesItsCall
+
+-- how many exchanges a post may still make: all of its tries at first, and one less after each that is lost
+abbrev pub MayTry : Posting → PostStage → ℕ → Option Stage → Type 0
+MayTry p post.LoadHead found next = next ≡ Some (Post p (post.StoreNext found p.tries))
+MayTry p (post.StoreNext link tries) found next = next ≡ Some (Post p (post.Exchange link tries))
+MayTry p (post.Exchange link tries) found next = found ≢ link →
+    ((1 < tries) × (next ≡ Some (Post p (post.StoreNext found (tries - 1))))) ⊎ ((1 < tries → ⊥) × (next ≡ Some (Post p post.Uncount)))
+MayTry p _ found next = Unit {0}
+
+abbrev pub PostsTryAsOften : Type 0
+PostsTryAsOften = (p : Posting) (stage : PostStage) (found : ℕ) → MayTry p stage found (post_outcome p stage found).next
+
+-- whether a note tells of a call that runs
+abbrev pub IsOfCall : Option Note → Type 0
+IsOfCall (Some (note.Call source func info)) = Unit {0}
+IsOfCall _ = ⊥
+
+-- A command ends with the step that has its note, and only there; in the middle a step may say that a call runs, and nothing else.
+abbrev pub EndsSo : Option Note → Option Stage → Type 0
+EndsSo None None = ⊥
+EndsSo None (Some stage) = Unit {0}
+EndsSo (Some n) None = IsOfCall (Some n) → ⊥
+EndsSo (Some n) (Some stage) = IsOfCall (Some n)
+
+abbrev pub NotesEndCommands : Type 0
+NotesEndCommands = (d : DrainValue) (stage : Stage) (found : ℕ) → let o = outcome_of d stage found in EndsSo o.note o.next

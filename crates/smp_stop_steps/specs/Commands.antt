@@ -1,0 +1,137 @@
+-- What a command's steps take from the command, where its note stands, and when interrupts go off.
+use Rattle.std.specs.Prelude.{◌≡◌, ◌≢◌, ◌⊎◌, ℕ, ◌<◌, ◌≤◌, ◌+◌, ◌++◌, Bool, true, false, [], ◌∷◌, Option, Some, None}
+use Rattle.smp_mask.specs.Mask.{has}
+use Rattle.smp_words.specs.Access.{word_of, seen_of}
+use Rattle.smp_words.specs.Kinds.{kind_word}
+use Rattle.smp_words.specs.declared.access.Access.{Access}
+use Rattle.smp_words.specs.declared.access.Access.TheVariants.{Load, Store, Exchange}
+use Rattle.smp_words.specs.declared.command.Command.{Command}
+use Rattle.smp_words.specs.declared.command.Command.TheVariants as command
+use Rattle.smp_words.specs.declared.field.Field.{Field}
+use Rattle.smp_words.specs.declared.field.Field.TheVariants as field
+use Rattle.smp_words.specs.declared.seen.Act.TheVariants as act
+use Rattle.smp_words.specs.declared.seen.Note.{Note}
+use Rattle.smp_words.specs.declared.seen.Note.TheVariants as note
+use Rattle.smp_words.specs.declared.word.Word.{Word}
+use Rattle.smp_words.specs.declared.word.Word.TheVariants.{Gate, Slot, Key, Site}
+use Rattle.smp_words.specs.declared.work.Kind.{Kind}
+use Rattle.smp_words.specs.declared.work.Kind.TheVariants.{One}
+use Rattle.smp_words.specs.declared.work.Work.{Work}
+use Rattle.smp_stop_steps.specs.Counts.{mask_weight}
+use Rattle.smp_stop_steps.specs.Promises.{OfEachCpu}
+use Rattle.smp_stop_steps.specs.Stages.{StopControlValue, stop_access, stop_outcome}
+use Rattle.smp_stop_steps.specs.Starts.{stop_first}
+use Rattle.smp_stop_steps.specs.Steps.{state_after}
+use Rattle.smp_stop_steps.specs.declared.stage.StopStage.{StopStage}
+use Rattle.smp_stop_steps.specs.declared.stage.StopStage.TheVariants.{Begin, NudgeKey, ExchangeKey}
+use Rattle.smp_stop_steps.specs.declared.stage.Visit.{Visit}
+
+-- the first access of a command, by a CPU in this stop or in none, is to the word that the command names
+abbrev pub FirstAccess : ℕ → Option Visit → Command → Access → Type 0
+FirstAccess cpu visit command.Gate access = access ≡ Exchange Gate 0 (cpu + 1)
+FirstAccess cpu visit command.Ungate access = access ≡ Store Gate 0
+FirstAccess cpu visit (command.Begin work) access = access ≡ Store (Slot cpu field.Kind) (kind_word work.kind)
+FirstAccess cpu visit (command.Enter slot) access = word_of access ≡ Slot slot field.Roll
+FirstAccess cpu (Some v) (command.Advance answer) access = access ≡ Load (Slot v.slot field.State)
+FirstAccess cpu (Some v) (command.RunOne answer) access = access ≡ Load (Slot v.slot field.Func)
+FirstAccess cpu (Some v) command.Finish access = (word_of access ≡ Slot v.slot field.Result) ⊎ (word_of access ≡ Slot v.slot field.Todo)
+FirstAccess cpu visit command.Poll access = access ≡ Load (Slot cpu field.Done)
+FirstAccess cpu visit (command.Key k) access = access ≡ Load (Key k)
+FirstAccess cpu visit (command.Site i) access = access ≡ Load (Site i)
+FirstAccess cpu visit (command.Nudge k up) access = access ≡ Load (Key k)
+FirstAccess cpu visit _ access = ⊥
+
+-- where it begins, it begins so
+abbrev pub BeginsAt : ℕ → StopControlValue → Command → Option StopStage → Type 0
+BeginsAt cpu c command None = Unit {0}
+BeginsAt cpu c command (Some stage) = (n : ℕ) → FirstAccess cpu c.visit command (stop_access n cpu c.changes stage)
+
+-- a begin and a nudge begin with the work, and the key and the way, of the command
+abbrev pub BeginsWhat : Command → Option StopStage → Type 0
+BeginsWhat (command.Begin work) first = first ≡ Some (Begin work field.Kind)
+BeginsWhat (command.Nudge k up) first = first ≡ Some (NudgeKey k up)
+BeginsWhat _ first = Unit {0}
+
+abbrev pub CommandsBeginSo : Type 0
+CommandsBeginSo = (cpu : ℕ) (c : StopControlValue) (command : Command) → let first = stop_first c command in
+    BeginsAt cpu c command first × BeginsWhat command first
+
+-- what a begin of this work stores in each field, where there are n CPUs
+abbrev pub Stores : ℕ → Work → Field → ℕ → Type 0
+Stores n work field.Kind x = x ≡ kind_word work.kind
+Stores n work field.Mask x = x ≡ work.mask
+Stores n work field.Active x = x ≡ work.active
+Stores n work field.Func x = x ≡ work.func
+Stores n work field.Arg x = x ≡ work.arg
+Stores n work field.Result x = x ≡ 0
+Stores n work field.Todo x = x ≡ mask_weight n work.mask
+Stores n work field.Done x = x ≡ 0
+Stores n work field.Ack x = x ≡ mask_weight n work.mask
+Stores n work field.State x = ((work.kind ≡ One) × (x ≡ 0)) ⊎ ((work.kind ≢ One) × (x ≡ 1))
+Stores n work field.Roll x = x ≡ work.mask
+
+-- a store into the own slot of what belongs there
+abbrev pub IsStoreOf : ℕ → ℕ → Work → Field → Access → Type 0
+IsStoreOf n cpu work f (Store (Slot s g) x) = (s ≡ cpu) × ((g ≡ f) × Stores n work f x)
+IsStoreOf n cpu work f _ = ⊥
+
+-- a begin stays that of its work until it ends
+abbrev pub IsOfBegin : Work → Option StopStage → Type 0
+IsOfBegin work None = Unit {0}
+IsOfBegin work (Some (Begin w f)) = w ≡ work
+IsOfBegin work (Some _) = ⊥
+
+-- each of its stores, and what follows
+abbrev pub BeginsStoreTheWork : Type 0
+BeginsStoreTheWork = (n cpu : ℕ) (c : StopControlValue) (work : Work) (f : Field) (found : ℕ) →
+    IsStoreOf n cpu work f (stop_access n cpu c.changes (Begin work f)) × IsOfBegin work (stop_outcome cpu c (Begin work f) found).control.stage
+
+-- the last store of a begin opens the stop of its work
+abbrev pub WorksAreBegun : Type 0
+WorksAreBegun = OfEachCpu (λ u p at c me.
+    (work : Work) → c.stage ≡ Some (Begin work field.Roll) →
+    (state_after u p at c me (Begin work field.Roll)).begun me ≡ p.begun me ++ work ∷ [])
+
+-- the load of a nudge goes on to the exchange of the count found for the next one in that direction
+abbrev pub NudgesBy : ℕ → Bool → ℕ → Option StopStage → Type 0
+NudgesBy k true found (Some (ExchangeKey j expected new)) = (j ≡ k) × ((expected ≡ found) × (new ≡ found + 1))
+NudgesBy k false found (Some (ExchangeKey j expected new)) = (j ≡ k) × ((expected ≡ found) × (found ≡ new + 1))
+NudgesBy k up found (Some _) = ⊥
+NudgesBy k up found None = Unit {0}
+
+-- or it ends: with `stop` just where the key would turn on, or off
+abbrev pub SaysStop : Bool → ℕ → Option Note → Type 0
+SaysStop true found (Some note.Stop) = found ≡ 0
+SaysStop false found (Some note.Stop) = found ≡ 1
+SaysStop up found _ = Unit {0}
+
+abbrev pub NudgesGoSo : Type 0
+NudgesGoSo = (me : ℕ) (c : StopControlValue) (k : ℕ) (up : Bool) (found : ℕ) → let o = stop_outcome me c (NudgeKey k up) found in
+    NudgesBy k up found o.control.stage × SaysStop up found o.note
+
+-- whether a note tells of a function that runs
+abbrev pub IsOfRun : Option Note → Type 0
+IsOfRun (Some (note.Run func arg)) = Unit {0}
+IsOfRun _ = ⊥
+
+-- A command ends with the step that has its note, and only there; in the middle a step may say that a function runs, and nothing else.
+abbrev pub EndsSo : Option Note → Option StopStage → Type 0
+EndsSo None None = ⊥
+EndsSo None (Some stage) = Unit {0}
+EndsSo (Some n) None = IsOfRun (Some n) → ⊥
+EndsSo (Some n) (Some stage) = IsOfRun (Some n)
+
+abbrev pub NotesEndCommands : Type 0
+NotesEndCommands = (me : ℕ) (c : StopControlValue) (stage : StopStage) (found : ℕ) → let o = stop_outcome me c stage found in
+    EndsSo o.note o.control.stage
+
+-- Interrupts go off only by a load that finds phase 2 in the state word of the stop that the CPU is in. So they are on while it is
+-- in PREPARE, in a stop of one CPU, and in no stop.
+abbrev pub GoesOff : Access → ℕ → Type 0
+GoesOff (Load (Slot s field.State)) found = found ≡ 2
+GoesOff _ found = ⊥
+
+abbrev pub InterruptsGoOffAtDisable : Type 0
+InterruptsGoOffAtDisable = OfEachCpu (λ u p at c me.
+    (stage : StopStage) → c.stage ≡ Some stage → p.now.irq me ≡ true → (state_after u p at c me stage).now.irq me ≡ false →
+    let access = stop_access u.cpus me c.changes stage in GoesOff access (at (word_of access)))
