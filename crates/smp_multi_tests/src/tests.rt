@@ -7,6 +7,7 @@ mod nudges;
 mod patches;
 mod rounds;
 mod threads;
+mod witness;
 
 use self::line::Act::{Answer, Begin, Called, Enter, Gate, InStop, Open, Poll, Run};
 use self::line::{Line, play, play_stops};
