@@ -39,102 +39,33 @@ module _ (u : Setup) (p : StopState) (at : Word → ℕ) (seat : ℕ → Seat) (
   in_visit v e = subst (λ x. SitsAtRest x (seat me)) e at_rest
 
   -- the source after it, and what the words show then
-  pub begun_shown : (stage : StopStage) → MayBegin u me (at Gate) c stage → (y : Source) × (StopShows u p at seat (put source me y)) × Sits u me (at Gate)
-      (stop_goes c stage).control (seat me) y
-  begun_shown TakeGate m = (source me, kept, record { below = s.below; irq = s.irq; seat = at_rest; source = owns_if; gate_held = tt })
-    where
-      kept : StopShows u p at seat (put source me (source me))
-      kept = subst (λ x. StopShows u p at seat x) (sym (put_same_fn source me)) h
-  begun_shown OpenGate m = (
-    source me,
-    subst (λ x. StopShows u p at seat x) (sym (put_same_fn source me)) h,
-    record {
-      below = s.below;
-      irq = s.irq;
-      seat =
-          at_rest;
-      source = owns_if;
-      gate_held = m;
-    },
-  )
+  abbrev BegunShown : StopStage → Type 0
+  BegunShown stage = (y : Source) × (StopShows u p at seat (put source me y)) × Sits u me (at Gate) (stop_goes c stage).control (seat me) y
+
+  -- a command of a source that stays as it was
+  begun_same : (stage : StopStage) → Sits u me (at Gate) (stop_goes c stage).control (seat me) (source me) → BegunShown stage
+  begun_same stage sits = (source me, subst (λ x. StopShows u p at seat x) (sym (put_same_fn source me)) h, sits)
+
+  pub begun_shown : (stage : StopStage) → MayBegin u me (at Gate) c stage → BegunShown stage
+  begun_shown TakeGate m = begun_same TakeGate (search (at_rest, owns_if, arith))
+  begun_shown OpenGate m = begun_same OpenGate (search (at_rest, owns_if, arith))
   begun_shown (Begin work Kind) m =
       let closed_ : source me ≡ Shut = subst (λ b. OwnsIf b (source me)) m.1 owns_if in
-      let shut : (p.now.stop me).is_open ≡ false = subst (SourceShows u p.gate (p.now.stop me) (λ f. at (Slot me f)) me) closed_ (h.sources me) in (
+      let shut : (p.now.stop me).is_open ≡ false = subst (SourceShows u p.gate (p.now.stop me) (λ f. at (Slot me f)) me) closed_ (h.sources me) in
+      let sources' = put_all (λ j x. SourceShows u p.gate (p.now.stop j) (λ f. at (Slot j f)) j x) source me (Drafts work 0) (search (gate_mine, arith)) (λ j _. h.sources j) in (
         Drafts work 0,
-        record {
-          setup = h.setup;
-          present = h.present;
-          gate = h.gate;
-          callings = h.callings;
-          closing = h.closing;
-          past = h.past;
-          owns = h.owns;
-          counts = h.counts;
-          sources = put_all (λ j x. SourceShows u p.gate (p.now.stop j) (λ f. at (Slot j f)) j x) source me (Drafts work 0)
-              record {
-                shut = shut;
-                holds = gate_mine me p.gate (sym h.gate ∙ m.0);
-                is_work = m.2;
-                stored = λ f low. absurd (let z : ⊥ = omega (arith, low) in z);
-                told = record {
-                  kind = λ l. absurd (omega arith);
-                  mask = λ l. absurd (omega arith);
-                  active = λ l. absurd (omega arith);
-                  func =
-                      λ l. absurd (omega arith);
-                  arg = λ l. absurd (omega arith);
-                };
-              }
-              (λ j ne. h.sources j);
-        },
-        record { below = s.below; irq = s.irq; seat = at_rest; source = (m.1, refl); gate_held = tt },
+        search (sources', arith),
+        search (at_rest, arith),
       )
-  begun_shown (Enter slot) m = (
-    source me,
-    subst (λ x. StopShows u p at seat x) (sym (put_same_fn source me)) h,
-    record { below = s.below; irq = s.irq; seat = (m.0, subst (λ x. SitsAtRest x (seat me)) m.0 at_rest, m.1); source = owns_if; gate_held = tt },
-  )
-  begun_shown (Advance v (round.Look answer)) m = (
-    source me,
-    subst (λ x. StopShows u p at seat x) (sym (put_same_fn source me)) h,
-    record { below = s.below; irq = s.irq; seat = (m.0, (m.1, m.2, in_visit v m.0)); source = owns_if; gate_held = tt },
-  )
-  begun_shown (Complete v (completion.LoadFunc answer)) m = (
-    source me,
-    subst (λ x. StopShows u p at seat x) (sym (put_same_fn source me)) h,
-    record { below = s.below; irq = s.irq; seat = (m.0, (m.1, in_visit v m.0)); source = owns_if; gate_held = tt },
-  )
-  begun_shown (Complete v completion.StoreAnswer) m = (
-    source me,
-    subst (λ x. StopShows u p at seat x) (sym (put_same_fn source me)) h,
-    record { below = s.below; irq = s.irq; seat = (m.0, (m.2, inl m.1, in_visit v m.0)); source = owns_if; gate_held = tt },
-  )
-  begun_shown (Complete v completion.CountDown) m =
-      let x = in_visit v m.0 in (
-        source me,
-        subst (λ x. StopShows u p at seat x) (sym (put_same_fn source me)) h,
-        record { below = s.below; irq = s.irq; seat = (m.0, (x.0, inl (m.2, x.1, inl m.1, x.2))); source = owns_if; gate_held = tt },
-      )
-  begun_shown LoadDone m = (
-    source me,
-    subst (λ x. StopShows u p at seat x) (sym (put_same_fn source me)) h,
-    record { below = s.below; irq = s.irq; seat = at_rest; source = (m, subst (λ b. OwnsIf b (source me)) m owns_if); gate_held = tt },
-  )
-  begun_shown (ReadKey k) m = (
-    source me,
-    subst (λ x. StopShows u p at seat x) (sym (put_same_fn source me)) h,
-    record { below = s.below; irq = s.irq; seat = (m.0, m.1, at_rest); source = owns_if; gate_held = tt },
-  )
-  begun_shown (ReadSite i) m = (
-    source me,
-    subst (λ x. StopShows u p at seat x) (sym (put_same_fn source me)) h,
-    record { below = s.below; irq = s.irq; seat = (m.0, m.1, at_rest); source = owns_if; gate_held = tt },
-  )
-  begun_shown (NudgeKey k up) m = (
-    source me,
-    subst (λ x. StopShows u p at seat x) (sym (put_same_fn source me)) h,
-    record { below = s.below; irq = s.irq; seat = (m.0, m.1, m.2, at_rest); source = owns_if; gate_held = tt },
-  )
+  begun_shown (Enter slot) m = begun_same (Enter slot) (search (at_rest, owns_if, arith))
+  begun_shown (Advance v (round.Look answer)) m = begun_same (Advance v (round.Look answer)) (search (in_visit, owns_if, arith))
+  begun_shown (Complete v (completion.LoadFunc answer)) m = begun_same (Complete v (completion.LoadFunc answer)) (search (in_visit, owns_if, arith))
+  begun_shown (Complete v completion.StoreAnswer) m = begun_same (Complete v completion.StoreAnswer) (search (in_visit, owns_if, inl, arith))
+  begun_shown (Complete v completion.CountDown) m = begun_same (Complete v completion.CountDown) (search (in_visit, owns_if, inl, arith))
+  begun_shown LoadDone m = begun_same LoadDone (search (at_rest, owns_if, arith))
+  begun_shown (ReadKey k) m = begun_same (ReadKey k) (search (at_rest, owns_if, arith))
+  begun_shown (ReadSite i) m = begun_same (ReadSite i) (search (at_rest, owns_if, arith))
+  begun_shown (NudgeKey k up) m = begun_same (NudgeKey k up) (search (at_rest, owns_if, arith))
   begun_shown _ m = absurd m
 
 -- the CPU's function is where its first stage says
