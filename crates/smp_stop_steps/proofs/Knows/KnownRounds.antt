@@ -43,9 +43,7 @@ small n l = omega arith
 
 -- what is told of who carries, and of who has called
 told_carried : (f : Calling) → told_calling (carried_call f) ≡ carried_call (told_calling f)
-told_carried Idle = refl
-told_carried (Calls call) = refl
-told_carried (Carries answer) = refl
+told_carried f = search arith
 
 module _ (p : StopState) (at : Word → ℕ) (seat : ℕ → Seat) (source : ℕ → Source) (v : Known) (h : StopShows (setup_in v.setting) p at seat source)
     (sees : Sees p seat source v) where
@@ -70,20 +68,7 @@ module _ (p : StopState) (at : Word → ℕ) (seat : ℕ → Seat) (source : ℕ
   pub reads_now : (n : Present) (calls : ℕ → List StopCall) (more : List Reading) → n.readings v.number ≡ more → ((c : ℕ) → c ≢ v.number →
       n.readings c ≡ p.now.readings c) →
       Leaves v.number p (record p { now = n; calls = calls }) (record (v.part) { readings = more })
-  reads_now n calls more mine others = let k = sees.part_is in record {
-    mine = record {
-      holds = k.holds;
-      begun = k.begun;
-      collected = k.collected;
-      answers = k.answers;
-      looks = k.looks;
-      calling = k.calling;
-      readings = mine;
-      nudged = k.nudged;
-      patched = k.patched;
-    };
-    others = λ c ne. ap (λ x. record (columns_of p c) { readings = x }) (others c ne);
-  }
+  reads_now n calls more mine others = search arith
 
   -- entering
 
@@ -144,29 +129,23 @@ module _ (p : StopState) (at : Word → ℕ) (seat : ℕ → Seat) (source : ℕ
 
   left_mine : (b : Bool) (n : Present) (s : ℕ) (w job : Work) → w ≡ job → n.readings ≡ p.now.readings →
       (cond b (leaves n v.number s w) n).readings v.number ≡ (read_since b s job v).readings
-  left_mine true n s w job same e = put_same n.readings v.number (first_readings v.number s w) ∙ ap (first_readings v.number s) same
-  left_mine false n s w job same e = ap (λ f. f v.number) e ∙ sees.part_is.readings
+  left_mine b n s w job same e = search (put_same, arith)
 
   left_other : (b : Bool) (n : Present) (s : ℕ) (w : Work) → n.readings ≡ p.now.readings → (c : ℕ) → c ≢ v.number →
       (cond b (leaves n v.number s w) n).readings c ≡ p.now.readings c
-  left_other true n s w e c ne = put_other n.readings v.number (first_readings v.number s w) c ne ∙ ap (λ f. f c) e
-  left_other false n s w e c ne = ap (λ f. f c) e
+  left_other b n s w e c ne = search (put_other, arith)
 
   -- the function of who has acknowledged a phase, or of another CPU
 
   ran_mine : (b : Bool) (g : Calling) → told_calling g ≡ carried_call v.part.calling → told_calling ((cond b (put p.calling v.number g) p.calling) v.number)
       ≡ cond b (carried_call v.part.calling) v.part.calling
-  ran_mine true g e = ap told_calling (put_same p.calling v.number g) ∙ e
-  ran_mine false g e = sees.part_is.calling
+  ran_mine b g e = search (put_same, arith)
 
   ran_other : (b : Bool) (g : Calling) (c : ℕ) → c ≢ v.number → (cond b (put p.calling v.number g) p.calling) c ≡ p.calling c
-  ran_other true g c ne = put_other p.calling v.number g c ne
-  ran_other false g c ne = refl
+  ran_other b g c ne = search (put_other, arith)
 
   has_called : (w : Work) (f : Calling) → HasCalled v.number w (told_calling f) → HasCalled v.number w f
-  has_called w Idle k = k
-  has_called w (Calls call) k = tt
-  has_called w (Carries answer) k = tt
+  has_called w f k = search arith
 
   -- the columns of who acknowledges
   acked_leaves : (n : Present) (calls : ℕ → List StopCall) (calling : ℕ → Calling) (part : Part) →
@@ -174,22 +153,7 @@ module _ (p : StopState) (at : Word → ℕ) (seat : ℕ → Seat) (source : ℕ
       told_calling (calling v.number) ≡ part.calling → ((c : ℕ) → c ≢ v.number → calling c ≡ p.calling c) →
       part ≡ record (v.part) { readings = part.readings; calling = part.calling } →
       Leaves v.number p (record p { now = n; calls = calls; calling = calling }) part
-  acked_leaves n calls calling part mine others calls_mine calls_others same = let k = sees.part_is in
-      subst (Leaves v.number p (record p { now = n; calls = calls; calling = calling })) (sym same) record {
-        mine = record {
-          holds = k.holds;
-          begun = k.begun;
-          collected = k.collected;
-          answers = k.answers;
-          looks = k.looks;
-          calling = calls_mine;
-          readings = mine;
-          nudged = k.nudged;
-          patched = k.patched;
-        };
-        others = λ c ne. ap (λ x. record (columns_of p c) { readings = n.readings c; calling = told_calling x }) (calls_others c ne) ∙ ap
-            (λ x. record (columns_of p c) { readings = x }) (others c ne);
-      }
+  acked_leaves n calls calling part mine others calls_mine calls_others same = search (Leaves, arith)
 
   pub acknowledge : (s : ℕ) (w : Work) (a : ℕ) → v.seat ≡ In s w a (a + 1) Rests → (a ≡ 2 → HasCalled v.number w v.part.calling) →
       let found = at (Slot s field.Ack) in

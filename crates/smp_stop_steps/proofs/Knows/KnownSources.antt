@@ -29,30 +29,20 @@ use Rattle.smp_stop_steps.proofs.Knows.Parts.{Leaves, goes, goes_source, goes_st
 use Rattle.smp_stop_steps.proofs.Steps.Sources.{gate_taken, gate_opened, field_stored, roll_stored, done_loaded, result_loaded, kind_back, work_ext}
 
 holder : (g : Option ℕ) (me : ℕ) → holds_it g me ≡ true → g ≡ Some me
-holder None me e = cc
-holder (Some c) me e = ap Some (eqb-true c me e)
+holder g me e = search (eqb-true, arith)
 
 -- a CPU that is told to draft nothing drafts nothing
 not_draft : (y told : Source) → told_source y ≡ told → is_drafting told ≡ false → (w : Work) (k : ℕ) → y ≢ Drafts w k
 not_draft y told is idle w k e = let bad : true ≡ false = sym (ap is_drafting (sym is ∙ ap told_source e)) ∙ idle in cc
 
 is_shut : (y : Source) → told_source y ≡ Shut → y ≡ Shut
-is_shut Shut e = refl
-is_shut (Drafts w k) e = cc
-is_shut (Owns w) e = cc
-is_shut (Collects w) e = cc
+is_shut y e = search arith
 
 is_owns : (y : Source) (w : Work) → told_source y ≡ Owns w → y ≡ Owns w
-is_owns Shut w e = cc
-is_owns (Drafts x k) w e = cc
-is_owns (Owns x) w e = e
-is_owns (Collects x) w e = cc
+is_owns y w e = search arith
 
 is_collects : (y : Source) (w : Work) → told_source y ≡ Collects w → y ≡ Collects w
-is_collects Shut w e = cc
-is_collects (Drafts x k) w e = cc
-is_collects (Owns x) w e = cc
-is_collects (Collects x) w e = e
+is_collects y w e = search arith
 
 -- the work that a source drafts, told so far as this one
 record IsDraft (y : Source) (w : Work) (k : ℕ) : Type 0 where
@@ -61,13 +51,7 @@ record IsDraft (y : Source) (w : Work) (k : ℕ) : Type 0 where
   same : told_work k work ≡ told_work k w
 
 is_draft : (y : Source) (w : Work) (k : ℕ) → told_source y ≡ Drafts (told_work k w) k → IsDraft y w k
-is_draft Shut w k e = cc
-is_draft (Drafts x j) w k e =
-    let same : j ≡ k = cc in
-    let works : told_work j x ≡ told_work k w = cc in
-    record { work = x; is = ap (Drafts x) same; same = subst (λ n. told_work n x ≡ told_work k w) same works }
-is_draft (Owns x) w k e = cc
-is_draft (Collects x) w k e = cc
+is_draft y w k e = search arith
 
 -- two works of which the same is told have the same first k fields
 module _ (k : ℕ) (x w : Work) (same : told_work k x ≡ told_work k w) where
@@ -90,73 +74,25 @@ module _ (k : ℕ) (x w : Work) (same : told_work k x ≡ told_work k w) where
   arg_same l = told_at 4 (λ (z : Work). z.arg) 0 l (ap (λ (z : Work). z.arg) same)
 
   value_same : (n : ℕ) (f : Field) → order f < k → begun_value n x f ≡ begun_value n w f
-  value_same n field.Kind l = ap (λ (z : KindOf). begun_value n (record x { kind = z }) field.Kind) (kind_same l)
-  value_same n field.Mask l = mask_same l
-  value_same n field.Active l = active_same l
-  value_same n field.Func l = func_same l
-  value_same n field.Arg l = arg_same l
-  value_same n field.Result l = refl
-  value_same n field.Todo l = ap (mask_weight n) (mask_same (omega arith))
-  value_same n field.Done l = refl
-  value_same n field.Ack l = ap (mask_weight n) (mask_same (omega arith))
-  value_same n field.State l = ap (λ (z : KindOf). begun_value n (record x { kind = z }) field.State) (kind_same (omega arith))
-  value_same n field.Roll l = mask_same (omega arith)
+  value_same n f l = search (kind_same, mask_same, active_same, func_same, arg_same, arith)
 
   drafted_same : (now : Work) → IsDrafted k now x → IsDrafted k now w
-  drafted_same now d = record {
-    kind = λ l. d.kind l ∙ kind_same l;
-    mask = λ l. d.mask l ∙ mask_same l;
-    active = λ l. d.active l ∙ active_same l;
-    func = λ l. d.func l ∙ func_same l;
-    arg = λ l. d.arg l ∙ arg_same l;
-  }
+  drafted_same now d = search (d.kind, kind_same, d.mask, mask_same, d.active, active_same, d.func, func_same, d.arg, arg_same, arith)
 
 -- one more field is told
 pub draft_next : (f : Field) (w : Work) → order f ≢ 0 → order f < 10 → drafted f (begun_value cpus w f) (told_work (order f) w) ≡ told_work (order f + 1) w
-draft_next field.Kind w ne l = absurd (ne refl)
-draft_next field.Mask w ne l = refl
-draft_next field.Active w ne l = refl
-draft_next field.Func w ne l = refl
-draft_next field.Arg w ne l = refl
-draft_next field.Result w ne l = refl
-draft_next field.Todo w ne l = refl
-draft_next field.Done w ne l = refl
-draft_next field.Ack w ne l = refl
-draft_next field.State w ne l = refl
-draft_next field.Roll w ne l = absurd (let z : ⊥ = omega (arith, l) in z)
+draft_next f w ne l = search arith
 
 pub stored_draft : (f : Field) (n : ℕ) (v : Known) → order f ≢ 0 → order f < 10 → is_drafting v.source ≡ true → slot_stored f n v ≡ drafted_known f n v
-stored_draft field.Kind n v ne l e = absurd (ne refl)
-stored_draft field.Mask n v ne l e = ap (λ b. cond b (drafted_known field.Mask n v) v) e
-stored_draft field.Active n v ne l e = ap (λ b. cond b (drafted_known field.Active n v) v) e
-stored_draft field.Func n v ne l e = ap (λ b. cond b (drafted_known field.Func n v) v) e
-stored_draft field.Arg n v ne l e = ap (λ b. cond b (drafted_known field.Arg n v) v) e
-stored_draft field.Result n v ne l e = ap (λ b. cond b (drafted_known field.Result n v) (member_stored field.Result n v)) e
-stored_draft field.Todo n v ne l e = ap (λ b. cond b (drafted_known field.Todo n v) v) e
-stored_draft field.Done n v ne l e = ap (λ b. cond b (drafted_known field.Done n v) (member_stored field.Done n v)) e
-stored_draft field.Ack n v ne l e = ap (λ b. cond b (drafted_known field.Ack n v) (member_stored field.Ack n v)) e
-stored_draft field.State n v ne l e = ap (λ b. cond b (drafted_known field.State n v) (member_stored field.State n v)) e
-stored_draft field.Roll n v ne l e = absurd (let z : ⊥ = omega (arith, l) in z)
+stored_draft f n v ne l e = search arith
 
 -- a store but the last one drafts the work
 shut_drafts : (p : StopState) (s : ℕ) (f : Field) (x : ℕ) → order f < 10 → stored_shut p s f x ≡ record p { now = drafts p.now s f x }
-shut_drafts p s field.Kind x l = refl
-shut_drafts p s field.Mask x l = refl
-shut_drafts p s field.Active x l = refl
-shut_drafts p s field.Func x l = refl
-shut_drafts p s field.Arg x l = refl
-shut_drafts p s field.Result x l = refl
-shut_drafts p s field.Todo x l = refl
-shut_drafts p s field.Done x l = refl
-shut_drafts p s field.Ack x l = refl
-shut_drafts p s field.State x l = refl
-shut_drafts p s field.Roll x l = absurd (let z : ⊥ = omega (arith, l) in z)
+shut_drafts p s f x l = search arith
 
 -- done is 1 where it is not 0
 done_is : (n : ℕ) (standing : ℕ → Standing) (e : Ending) (done : ℕ) → DoneShows n standing e done → (done == 0) ≡ false → done ≡ 1
-done_is n standing Running done d ne = let bad : true ≡ false = sym (eq-eqb done 0 d.0) ∙ ne in cc
-done_is n standing (Last c) done d ne = let bad : true ≡ false = sym (eq-eqb done 0 d.0) ∙ ne in cc
-done_is n standing Ended done d ne = d.0
+done_is n standing e done d ne = search (eq-eqb, arith)
 
 module _ (p : StopState) (at : Word → ℕ) (seat : ℕ → Seat) (source : ℕ → Source) (v : Known) (h : StopShows (setup_in v.setting) p at seat source)
     (sees : Sees p seat source v) where
@@ -177,20 +113,7 @@ module _ (p : StopState) (at : Word → ℕ) (seat : ℕ → Seat) (source : ℕ
 
   holds_alone : (g : Option ℕ) (b : Bool) → holds_it g v.number ≡ b → ((c : ℕ) → c ≢ v.number → holds_it g c ≡ holds_it p.gate c) →
       Leaves v.number p (record p { gate = g }) (record (v.part) { holds = b })
-  holds_alone g b mine others = let k = sees.part_is in record {
-    mine = record {
-      holds = mine;
-      begun = k.begun;
-      collected = k.collected;
-      answers = k.answers;
-      looks = k.looks;
-      calling = k.calling;
-      readings = k.readings;
-      nudged = k.nudged;
-      patched = k.patched;
-    };
-    others = λ c ne. ap (λ x. record (columns_of p c) { holds = x }) (others c ne);
-  }
+  holds_alone g b mine others = search arith
 
   pub take_gate : Goes (put_if put_word at Gate (cond (at Gate == 0) (Some (v.number + 1)) None))
       (gate_known act.Cas (cond (at Gate == 0) (Some (v.number + 1)) None) v)

@@ -29,43 +29,21 @@ use Rattle.smp_stop_steps.proofs.Steps.RoundSteps.{change_here}
 
 -- between its first and its last store alone a patch leaves the table unlawful
 pub lawful_outside : (x : Patching) (t : Table) → LabelsShow x t → is_between x ≡ false → IsLawful t
-lawful_outside Whole t l e = l
-lawful_outside (Patches c work count [] rest) t l e = subst IsLawful (sym l.2) l.1
-lawful_outside (Patches c work count (change ∷ made) []) t l e = l.4.lawful
-lawful_outside (Patches c work count (change ∷ made) (next ∷ rest)) t l e = cc
+lawful_outside x t l e = search arith
 
 module _ (u : Setup) (p : StopState) (at : Word → ℕ) (seat : ℕ → Seat) (source : ℕ → Source) (h : StopShows u p at seat source) where
   pub is_lawful : IsLawfulOutside p at
   is_lawful e = lawful_outside p.now.patching (labels_in at) h.present.labels e
 
   pub has_patcher : HasPatcher u p
-  has_patcher c work count made rest e =
-      let r : RunnerShows u.first (Patches c work count made rest) seat = subst (λ x. RunnerShows u.first x seat) e h.present.runner in
-      let s = r.1.0 in
-      let st : Stands p.now c (Alters s work count made rest) = subst (Stands p.now c) r.1.1 (h.present.stands c) in (
-        s,
-        record {
-          inside = st.0;
-          stands = st.1;
-          work_is = st.3;
-          kind = st.4;
-          active = patcher_active u p at seat source h s c work count made rest r.1.1;
-          first = r.0;
-          alone = record {
-            law = function_law u.cpus (p.now.stop s) (λ f. at (Slot s f)) (h.present.slots s) c st.1;
-            all_off = all_off u p.now at seat
-                h.present s c st.1;
-          };
-        },
-      )
+  has_patcher c work count made rest e = search (h.present.stands, patcher_active, function_law, h.present.slots, all_off, h.present, arith)
 
   module _ (c : StopControlValue) (me : ℕ) (sits : Sits u me (at Gate) c (seat me) (source me)) where
     abbrev IsNext : Change → Type 0
     IsNext change = IsNextOfPatch p me change
 
     stored_itself : (x : Change) → label_stored (store_of x) ≡ Some x
-    stored_itself (place.Key k, n) = refl
-    stored_itself (place.Site i, n) = refl
+    stored_itself x = search arith
 
     store_is_next : (v : Visit) (made : ℕ) → SitsInRound u me c.changes v (round.StoreChange made) (seat me) → (change : Change) →
         label_stored (store_of (change_at c.changes made)) ≡ Some change → IsNext change
@@ -94,29 +72,11 @@ module _ (u : Setup) (p : StopState) (at : Word → ℕ) (seat : ℕ → Seat) (
     in_round v (round.Raise ran) s change e = cc
 
     in_completion : (v : Visit) (stage : CompletionStage) (change : Change) → label_stored (completion_access v stage) ≡ Some change → IsNext change
-    in_completion v (completion.LoadFunc answer) change e = cc
-    in_completion v (completion.LoadArg answer func) change e = cc
-    in_completion v completion.StoreAnswer change e = cc
-    in_completion v completion.CountDown change e = cc
+    in_completion v stage change e = search arith
 
     at_stage : (stage : StopStage) → SitsAt u me c (Some stage) (seat me) → (change : Change) → label_stored (stop_access u.cpus me c.changes stage) ≡ Some
         change → IsNext change
-    at_stage TakeGate s change e = cc
-    at_stage OpenGate s change e = cc
-    at_stage (Begin work f) s change e = cc
-    at_stage (Enter slot) s change e = cc
-    at_stage (EnterKind slot) s change e = cc
-    at_stage (EnterMask slot kind) s change e = cc
-    at_stage (EnterActive slot kind mask) s change e = cc
-    at_stage (Advance v stage) s change e = in_round v stage s.1 change e
-    at_stage (Complete v stage) s change e = in_completion v stage change e
-    at_stage (Close slot) s change e = cc
-    at_stage LoadDone s change e = cc
-    at_stage LoadResult s change e = cc
-    at_stage (ReadKey k) s change e = cc
-    at_stage (ReadSite i) s change e = cc
-    at_stage (NudgeKey k up) s change e = cc
-    at_stage (ExchangeKey k expected new) s change e = cc
+    at_stage stage s change e = search (in_round, in_completion, arith)
 
     pub stores_patch : (stage : StopStage) → c.stage ≡ Some stage → (change : Change) → label_stored (stop_access u.cpus me c.changes stage) ≡ Some change →
         IsNext change

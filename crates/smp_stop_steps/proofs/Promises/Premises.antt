@@ -43,11 +43,7 @@ use Rattle.smp_stop_steps.proofs.State.Works.{called_is}
 use Rattle.smp_stop_steps.proofs.State.Acknowledged.{fills_me, rests_me, sets_me}
 
 completed_is : (x : Standing) → is_of x ≡ true → unfinished x ≡ 0 → HasCompleted x
-completed_is Outside of z = cc
-completed_is Called of z = absurd (omega arith)
-completed_is (Inside a l) of z = absurd (omega arith)
-completed_is (Answering a v) of z = absurd (omega arith)
-completed_is (Completed a v) of z = tt
+completed_is x of z = search arith
 
 module _ (u : Setup) (p : StopState) (at : Word → ℕ) (seat : ℕ → Seat) (source : ℕ → Source) (h : StopShows u p at seat source) (c : StopControlValue) (me : ℕ)
     (s : Sits u me (at Gate) c (seat me) (source me)) where
@@ -75,30 +71,10 @@ module _ (u : Setup) (p : StopState) (at : Word → ℕ) (seat : ℕ → Seat) (
 
   -- through all phases, and with nothing to do for the next one
   through : (j : ℕ) (w : Work) (v : Visit) → IsLoaded v w → IsThroughAll v → seat me ≡ In j w v.acked v.acked Rests → IsThrough (p.now.stop j) me v.acked
-  through j w v loaded all is =
-      let st = stands (In j w v.acked v.acked Rests) is in
-      let kinds = ((h.present.slots j).shows (open_in j w v.acked v.acked Rests is)).kinds in (
-        ⊎_elim (λ (e : v.acked ≡ 4). inl e) (λ (e : v.kind ≡ One). inr (one_phase (p.now.stop j).work.kind (p.now.stop j).phase (ap (λ (x : Work). x.kind)
-            st.3 ∙ (sym loaded.kind ∙ e)) kinds)) all,
-        rests_me me (p.now.stop j).raising st.2,
-      )
+  through j w v loaded all is = search (stands, v.acked, h.present.slots, open_in, one_phase, rests_me, arith)
 
   raised : (j : ℕ) (w : Work) (a : ℕ) → seat me ≡ In j w a a Sets → MayStore p me j field.State (a + 1)
-  raised j w a is =
-      let st = stands (In j w a a Sets) is in
-      let op = open_in j w a a Sets is in
-      let o = (h.present.slots j).shows op in
-      let mine = sets_me me (p.now.stop j).raising st.2 in
-      let busy : (p.now.stop j).phase ≢ 0 = λ z. let bad : Nobody ≡ Raises me = sym (o.calm z) ∙ mine in cc in
-      let ack : AckShows u.cpus (p.now.stop j).phase (p.now.stop j).standing (Raises me) (slot j field.Ack) =
-      subst (λ r. AckShows u.cpus (p.now.stop j).phase (p.now.stop j).standing r (slot j field.Ack)) mine (o.ack busy) in
-      let level : Inside (p.now.stop j).phase (p.now.stop j).phase ≡ Inside a a = sym ack.2 ∙ st.1 in
-      let phase : (p.now.stop j).phase ≡ a = cc in (
-        mine,
-        ap (λ n. n + 1) (sym phase),
-        λ d of. all_acknowledged u.cpus (p.now.stop j) (slot j) (h.present.slots j) ack.1 d
-            (subst (λ b. is_of ((p.now.stop j).standing d) ≡ (b && has (p.now.stop j).work.mask d)) op ((h.present.slots j).members d) ∙ of),
-      )
+  raised j w a is = search (stands, open_in, h.present.slots, sets_me, all_acknowledged, arith)
 
   in_round : (v : Visit) (stage : RoundStage) → SitsInRound u me c.changes v stage (seat me) → May (round_access u.cpus c.changes v stage)
   in_round v (round.Look answer) x = (stands (In v.slot x.2.0 v.acked v.acked Rests) x.2.2).0
@@ -126,23 +102,7 @@ module _ (u : Setup) (p : StopState) (at : Word → ℕ) (seat : ℕ → Seat) (
   in_round v (round.Raise ran) x = stored_open v.slot (v.acked + 1) field.State (open_in v.slot x.0 v.acked v.acked Sets x.2) (raised v.slot x.0 v.acked x.2)
 
   in_completion : (v : Visit) (stage : CompletionStage) → SitsInCompletion v stage (seat me) → May (completion_access v stage)
-  in_completion v (completion.LoadFunc answer) x = (stands (In v.slot x.1.0 v.acked v.acked Rests) x.1.2).0
-  in_completion v (completion.LoadArg answer func) x = (stands (In v.slot x.1.0 v.acked v.acked Rests) x.1.2).0
-  in_completion v completion.StoreAnswer x =
-      let st = stands (In v.slot x.2.0 v.acked v.acked Rests) x.2.2 in
-      stored_open v.slot v.answer field.Result (open_in v.slot x.2.0 v.acked v.acked Rests x.2.2)
-      (st.0, subst (λ (y : Standing). IsThrough (p.now.stop v.slot) me (acked y)) (sym st.1) (through v.slot x.2.0 v x.2.1 x.1 x.2.2))
-  in_completion v completion.CountDown x = ⊎_elim
-      (λ (y : (v.answer ≡ 0) × IsLoaded v x.0 × IsThroughAll v × (seat me ≡ In v.slot x.0 v.acked v.acked Rests)).
-      let st = stands (In v.slot x.0 v.acked v.acked Rests) y.3 in (
-        st.0,
-        subst (λ (z : Standing). IsThrough (p.now.stop v.slot) me (acked z)) (sym st.1)
-            (through v.slot x.0 v y.1 y.2 y.3),
-      ))
-      (λ (y : seat me ≡ Gives v.slot x.0 v.acked v.answer).
-      let st = stands (Gives v.slot x.0 v.acked v.answer) y in
-      let k = keeps_inside u.cpus (p.now.stop v.slot) (slot v.slot) (h.present.slots v.slot) me (Answering v.acked v.answer) st.1 in
-      (st.0, subst (λ (z : Standing). IsThrough (p.now.stop v.slot) me (acked z)) (sym st.1) (k.2, rests_me me (p.now.stop v.slot).raising st.2))) x.1
+  in_completion v stage x = search (stands, v.acked, stored_open, open_in, through, keeps_inside, h.present.slots, rests_me, arith)
 
   at_stage : (stage : StopStage) → SitsAt u me c (Some stage) (seat me) → SourceSits c.is_open (Some stage) (source me) →
       HoldsGate me (at Gate) (Some stage) → May (stop_access u.cpus me c.changes stage)
@@ -190,5 +150,4 @@ module _ (u : Setup) (p : StopState) (at : Word → ℕ) (seat : ℕ → Seat) (
       exchanged false = tt
 
   pub may_see : (stage : StopStage) → c.stage ≡ Some stage → May (stop_access u.cpus me c.changes stage)
-  may_see stage e = at_stage stage (subst (λ (x : Option StopStage). SitsAt u me c x (seat me)) e s.seat)
-      (subst (λ (x : Option StopStage). SourceSits c.is_open x (source me)) e s.source) (subst (HoldsGate me (at Gate)) e s.gate_held)
+  may_see stage e = search (at_stage, c.is_open, arith)

@@ -30,20 +30,14 @@ nobody_raises cpus stop ack me a l (Raises r) is small ne h = absurd (none_raise
 
 -- whose turn it is, by a CPU's turn
 pub fills_me : (me : ℕ) (r : Raising) → turn_of r me ≡ Fills → r ≡ Refills me
-fills_me me Nobody e = cc
-fills_me me (Refills r) e = at_test me r (λ b. cond b Fills Rests ≡ Fills → Refills r ≡ Refills me) (λ same _. ap Refills (sym same)) (λ ne e. cc) e
-fills_me me (Raises r) e = at_test me r (λ b. cond b Sets Rests ≡ Fills → Raises r ≡ Refills me) (λ same e. cc) (λ ne e. cc) e
+fills_me me r e = search (at_test, arith)
 
 pub sets_me : (me : ℕ) (r : Raising) → turn_of r me ≡ Sets → r ≡ Raises me
-sets_me me Nobody e = cc
-sets_me me (Refills r) e = at_test me r (λ b. cond b Fills Rests ≡ Sets → Refills r ≡ Raises me) (λ same e. cc) (λ ne e. cc) e
-sets_me me (Raises r) e = at_test me r (λ b. cond b Sets Rests ≡ Sets → Raises r ≡ Raises me) (λ same _. ap Raises (sym same)) (λ ne e. cc) e
+sets_me me r e = search (at_test, arith)
 
 -- who has nothing to do for the next phase does not set it
 pub rests_me : (me : ℕ) (r : Raising) → turn_of r me ≡ Rests → IsNot me r
-rests_me me Nobody e = tt
-rests_me me (Refills r) e = λ same. at_test me r (λ b. cond b Fills Rests ≡ Rests → ⊥) (λ _ e. cc) (λ ne _. ne (sym same)) e
-rests_me me (Raises r) e = λ same. at_test me r (λ b. cond b Sets Rests ≡ Rests → ⊥) (λ _ e. cc) (λ ne _. ne (sym same)) e
+rests_me me r e = search (at_test, arith)
 
 module _ (u : Setup) (p : Present) (at : Word → ℕ) (seat : ℕ → Seat) (h : PresentShows u p at seat)
     (s me : ℕ) (irq' : ℕ → Bool) (readings' : ℕ → List Reading) (save : SaveMe p me p.inside irq' readings') where
@@ -59,8 +53,7 @@ module _ (u : Setup) (p : Present) (at : Word → ℕ) (seat : ℕ → Seat) (h 
   -- where a CPU that stays inside is at home
   home_stays : (stop' : Stop) (a l : ℕ) → (p.stop s).standing me ≡ Inside a l → p.inside me ≡ Some s →
       (j : ℕ) → is_inside ((put p.stop s stop' j).standing me) ≡ true → p.inside me ≡ Some j
-  home_stays stop' a l is in_ j = at_test j s (λ b. is_inside ((cond b stop' (p.stop j)).standing me) ≡ true → p.inside me ≡ Some j)
-      (λ e _. in_ ∙ ap Some (sym e)) (λ ne. h.homes j me)
+  home_stays stop' a l is in_ j = search (at_test, h.homes, arith)
 
   -- fetch_sub of the count, by a CPU that looked at a new phase
   pub step_acknowledges : (job : Work) (a : ℕ) → seat me ≡ In s job a (a + 1) Rests →

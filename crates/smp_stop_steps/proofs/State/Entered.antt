@@ -145,8 +145,7 @@ module _ (u : Setup) (p : Present) (at : Word → ℕ) (seat : ℕ → Seat) (h 
     at_home : (stop' : Stop) (to : Option ℕ) → ((j : ℕ) → is_inside ((p.stop j).standing me) ≡ true → j ≡ s) → (is_inside (stop'.standing me) ≡ true →
         to ≡ Some s) →
         (j : ℕ) → is_inside ((put p.stop s stop' j).standing me) ≡ true → put p.inside me to me ≡ Some j
-    at_home stop' to only here j i = put_same p.inside me to ∙ at_test j s (λ b. is_inside ((cond b stop' (p.stop j)).standing me) ≡ true → to ≡ Some j)
-        (λ e i. here i ∙ ap Some (sym e)) (λ ne i. absurd (ne (only j i))) i
+    at_home stop' to only here j i = search (put_same, at_test, arith)
 
     save : (to : Option ℕ) → SaveMe p me (put p.inside me to) p.irq p.readings
     save to = record { inside = λ c ne. put_other p.inside me to c ne; irq = λ c ne. refl; readings = λ c ne. refl }

@@ -28,20 +28,7 @@ use Rattle.std.specs.List.{AllByRecursion}
 
 -- what a change leaves is on or off as it says
 stands_left : (change : KeyChange) (n : ℕ) → IfSome (state_left change) (λ on. is_on (count_left change n) ≡ on)
-stands_left Off n = refl
-stands_left On n = at_test n 0 (λ b. is_on (cond b 1 n) ≡ true) (λ _. refl) (λ ne. above n ne)
-  where
-    above : (n : ℕ) → n ≢ 0 → is_on n ≡ true
-    above n ne = lt-ltb 0 n (let z : 0 < n = omega arith in z)
-stands_left Up n = go (nat_lt n 65535) refl
-  where
-    go : (b : Bool) → nat_lt n 65535 ≡ b → is_on (count_or n (cond b (Some (n + 1)) None)) ≡ true
-    go true e = lt-ltb 0 (n + 1) (omega arith)
-    go false e = elim (cases_lt 0 n) [
-      | inl some ↦ lt-ltb 0 n some
-      | inr none ↦ absurd (let bad : true ≡ false = sym (lt-ltb n 65535 (omega arith)) ∙ e in cc)
-    ]
-stands_left Down n = tt
+stands_left change n = search (at_test, lt-ltb, nat_lt, cases_lt, arith)
 
 abbrev IsOff : ℕ → ℕ → Type 0
 IsOff l a = (nat_lt l 2 || a == 4) ≡ false
@@ -52,25 +39,7 @@ off_at l a m ne = ap (λ b. b || a == 4) (le-ltb l 2 m) ∙ ne_eqb a 4 ne
 -- a CPU inside that has acknowledged 2 and not 4 has its interrupts off
 pub off_inside : (p : Present) (c s a l : ℕ) (seat : Seat) → Stands p c seat → p.inside c ≡ Some s → (p.stop s).standing c ≡ Inside a l → 2 ≤ l → a ≢ 4 →
     irq_of seat ≡ false
-off_inside p c s a l Free st in_ is m ne = let bad : None ≡ Some s = sym st ∙ in_ in cc
-off_inside p c s a l (In s' job a' l' t) st in_ is m ne =
-    let e : Some s' ≡ Some s = sym st.0 ∙ in_ in
-    let same : s' ≡ s = cc in
-    let is' : (p.stop s).standing c ≡ Inside a' l' = subst (λ s. (p.stop s).standing c ≡ Inside a' l') same st.1 in
-    let f : Inside a' l' ≡ Inside a l = sym is' ∙ is in
-    let ea : a' ≡ a = cc in let el : l' ≡ l = cc in turns t (omega arith) (λ z. ne (sym ea ∙ z))
-  where
-    turns : (t : Turn) → 2 ≤ l' → a' ≢ 4 → irq_of (In s' job a' l' t) ≡ false
-    turns Rests m ne = off_at l' a' m ne
-    turns Fills m ne = le-ltb l' 2 m
-    turns Sets m ne = le-ltb l' 2 m
-off_inside p c s a l (Gives s' job a' v) st in_ is m ne =
-    let e : Some s' ≡ Some s = sym st.0 ∙ in_ in
-    let same : s' ≡ s = cc in
-    let is' : (p.stop s).standing c ≡ Answering a' v = subst (λ s. (p.stop s).standing c ≡ Answering a' v) same st.1 in
-    let f : Answering a' v ≡ Inside a l = sym is' ∙ is in cc
-off_inside p c s a l (Alters s' w count made rest) st in_ is m ne = refl
-off_inside p c s a l (Closes s') st in_ is m ne = let bad : None ≡ Some s = sym st.0 ∙ in_ in cc
+off_inside p c s a l seat st in_ is m ne = search (off_at, le-ltb, arith)
 
 module _ (u : Setup) (p : Present) (at : Word → ℕ) (seat : ℕ → Seat) (h : PresentShows u p at seat) (s me : ℕ) where
   -- while a function runs, its whole mask has interrupts off
@@ -103,11 +72,7 @@ module _ (u : Setup) (p : Present) (at : Word → ℕ) (seat : ℕ → Seat) (h 
   -- where a change of what is patched leaves the other CPUs
   alters_other : (x : Patching) (c : ℕ) → c ≢ me → ((w : Work) (count : ℕ) (made rest : List Change) → p.patching ≡ Patches c w count made rest → ⊥) →
       (y : Seat) → Stands p c y → Stands (patches x) c y
-  alters_other x c ne none_ Free st = st
-  alters_other x c ne none_ (In j job a l t) st = st
-  alters_other x c ne none_ (Gives j job a v) st = st
-  alters_other x c ne none_ (Alters j w count made rest) st = absurd (none_ w count made rest st.5)
-  alters_other x c ne none_ (Closes j) st = st
+  alters_other x c ne none_ y st = search arith
 
   -- the first online CPU, inside a patch at phase 3, begins its stores: these lead to the lawful table with the key as it shall be
   pub patch_starts : (job : Work) (plan : List Change) → seat me ≡ In s job 2 3 Rests → job.kind ≡ Patch → has job.active me ≡ true →
@@ -205,24 +170,11 @@ module _ (u : Setup) (p : Present) (at : Word → ℕ) (seat : ℕ → Seat) (h 
   -- while somebody patches, every online CPU has its interrupts off
   pub off_while_patched : u.online me ≡ true → (c : ℕ) (w : Work) (count : ℕ) (made rest : List Change) → p.patching ≡ Patches c w count made rest →
       p.irq me ≡ false
-  off_while_patched on_ c w count made rest is =
-      let r : RunnerShows u.first (Patches c w count made rest) seat = subst (λ x. RunnerShows u.first x seat) is h.runner in
-      let s = r.1.0 in
-      let st : Stands p c (Alters s w count made rest) = subst (Stands p c) r.1.1 (h.stands c) in
-      let open_ = is_open_inside u.cpus (p.stop s) (λ f. at (Slot s f)) (h.slots s) c (Inside 2 3) st.1 refl in
-      let kind : (p.stop s).work.kind ≡ Patch = ap (λ (x : Work). x.kind) st.3 ∙ st.4 in
-      all_off u p at seat h s c st.1 me ((h.works s open_ kind).all me ∙ on_)
+  off_while_patched on_ c w count made rest is = search (h.stands, is_open_inside, h.slots, all_off, h.works, arith)
 
   -- where a CPU has its interrupts on, nobody patches
   pub nobody_patches : u.online me ≡ true → p.irq me ≡ true → p.patching ≡ Whole
-  nobody_patches on_ i = go p.patching refl
-    where
-      apart : true ≡ false → ⊥
-      apart e = cc
-
-      go : (x : Patching) → p.patching ≡ x → x ≡ Whole
-      go Whole e = refl
-      go (Patches c w count made rest) e = absurd (apart (sym i ∙ off_while_patched on_ c w count made rest e))
+  nobody_patches on_ i = search (off_while_patched, arith)
 
   pub lawful_when_on : u.online me ≡ true → p.irq me ≡ true → IsLawful (labels_in at)
   lawful_when_on on_ i = subst (λ x. LabelsShow x (labels_in at)) (nobody_patches on_ i) h.labels

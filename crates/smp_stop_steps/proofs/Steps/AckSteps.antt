@@ -42,22 +42,7 @@ module _ (u : Setup) (p : StopState) (at : Word → ℕ) (seat : ℕ → Seat) (
       Sits u me (at Gate) (cond b (stop_goes (record c { visit = Some (visit_acked v answer ran) }) (Advance (visit_acked v answer ran) (round.Refill ran)))
       (turn_ends (record c { visit = Some (visit_acked v answer ran) }) (v.acked + 1) ran)).control
       (In v.slot work (v.acked + 1) (v.acked + 1) (cond b Fills Rests)) (source me)
-  acked_sits answer ran work loaded y irq run true = record {
-    below = s.below;
-    irq = irq;
-    seat =
-        (refl, (work, record { kind = loaded.kind; mask = loaded.mask; active = loaded.active }, refl, run));
-    source = y;
-    gate_held = tt;
-  }
-  acked_sits answer ran work loaded y irq run false = record {
-    below = s.below;
-    irq = at_test (v.acked + 1) 4 (λ d. cond d true c.interrupts ≡ nat_lt (v.acked + 1) 2 || d) (λ _. sym (or_true (nat_lt (v.acked + 1) 2)))
-        (λ _. irq ∙ sym (or_false (nat_lt (v.acked + 1) 2) false refl));
-    seat = (work, record { kind = loaded.kind; mask = loaded.mask; active = loaded.active }, refl);
-    source = y;
-    gate_held = tt;
-  }
+  acked_sits answer ran work loaded y irq run b = search (at_test, nat_lt, or_true, or_false, arith)
 
   pub acknowledge : CarriesIn c (p.calling me) → (answer : ℕ) (ran : Bool) → c.stage ≡ Some (Advance v (round.Acknowledge answer ran)) →
       StopStep u p at seat source c me (Advance v (round.Acknowledge answer ran))

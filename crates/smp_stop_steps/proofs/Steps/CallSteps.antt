@@ -50,79 +50,44 @@ use Rattle.smp_stop_steps.proofs.Steps.Stages.{at_seat}
 
 -- no store calls a function
 open_calling : (p : StopState) (me s v : ℕ) (f : Field) → told_of (stored_open p me s f v) ≡ told_of p
-open_calling p me s v field.Kind = refl
-open_calling p me s v field.Mask = refl
-open_calling p me s v field.Active = refl
-open_calling p me s v field.Func = refl
-open_calling p me s v field.Arg = refl
-open_calling p me s v field.State = refl
-open_calling p me s v field.Ack = refl
-open_calling p me s v field.Roll = refl
-open_calling p me s v field.Todo = refl
-open_calling p me s v field.Result = refl
-open_calling p me s v field.Done = refl
+open_calling p me s v f = search arith
 
 shut_calling : (p : StopState) (s v : ℕ) (f : Field) → told_of (stored_shut p s f v) ≡ told_of p
-shut_calling p s v field.Kind = refl
-shut_calling p s v field.Mask = refl
-shut_calling p s v field.Active = refl
-shut_calling p s v field.Func = refl
-shut_calling p s v field.Arg = refl
-shut_calling p s v field.State = refl
-shut_calling p s v field.Ack = refl
-shut_calling p s v field.Roll = refl
-shut_calling p s v field.Todo = refl
-shut_calling p s v field.Result = refl
-shut_calling p s v field.Done = refl
+shut_calling p s v f = search arith
 
 store_calling : (p : StopState) (me s v : ℕ) (f : Field) (b : Bool) → told_of (cond b (stored_open p me s f v) (stored_shut p s f v)) ≡ told_of p
-store_calling p me s v f true = open_calling p me s v f
-store_calling p me s v f false = shut_calling p s v f
+store_calling p me s v f b = search (open_calling, shut_calling, arith)
 
 either_calling : (p q : StopState) (b : Bool) → told_of q ≡ told_of p → told_of (cond b q p) ≡ told_of p
-either_calling p q true e = e
-either_calling p q false e = refl
+either_calling p q b e = search arith
 
 gate_calling : (p : StopState) (me n : ℕ) (b : Bool) → told_of (gate_told p me act.Cas (cond b (Some n) None)) ≡ told_of p
-gate_calling p me n true = refl
-gate_calling p me n false = refl
+gate_calling p me n b = search arith
 
 nudge_calling : (u : Setup) (p : StopState) (me k found n : ℕ) (b : Bool) → told_of (key_told u p me k act.Cas (Some found) (cond b (Some n) None)) ≡ told_of p
-nudge_calling u p me k found n true = refl
-nudge_calling u p me k found n false = refl
+nudge_calling u p me k found n b = search arith
 
 patch_calling : (u : Setup) (p : StopState) (at : Word → ℕ) (me : ℕ) (x : Change) →
     told_of (tells u p (seen_of me (store_of x) (at (word_of (store_of x))) None) 0) ≡ told_of p
-patch_calling u p at me (place.Key k, n) = refl
-patch_calling u p at me (place.Site i, n) = refl
+patch_calling u p at me x = search arith
 
 -- what is carried where nothing is called stays
 quiet_carried : (v : Visit) (f : Calling) → IsQuiet (Some v) f → carried_call f ≡ f
-quiet_carried v Idle k = refl
-quiet_carried v (Calls call) k = absurd k
-quiet_carried v (Carries x) k = refl
+quiet_carried v f k = search arith
 
 quiet_visit : (v w : Visit) (f : Calling) → w.answer ≡ v.answer → IsQuiet (Some v) f → IsQuiet (Some w) f
-quiet_visit v w Idle same k = same ∙ k
-quiet_visit v w (Calls call) same k = absurd k
-quiet_visit v w (Carries x) same k = same ∙ k
+quiet_visit v w f same k = search arith
 
 -- before RUN is acknowledged who calls nothing carries nothing
 quiet_early : (c s : ℕ) (w : Work) (l : ℕ) (t : Turn) (v : Visit) (f : Calling) → IsQuiet (Some v) f → v.acked ≡ 2 → IsCalling c (In s w 2 l t) f → f ≡ Idle
-quiet_early c s w l t v Idle q two k = refl
-quiet_early c s w l t v (Calls call) q two k = absurd q
-quiet_early c s w l t v (Carries x) q two k = absurd (let z : ⊥ = omega (arith, k.0) in z)
+quiet_early c s w l t v f q two k = search (q, arith)
 
 -- nor does it in a stop of kind One
 quiet_one : (c s : ℕ) (w : Work) (a l : ℕ) (t : Turn) (v : Visit) (f : Calling) → IsQuiet (Some v) f → a ≡ 0 → IsCalling c (In s w a l t) f → f ≡ Idle
-quiet_one c s w a l t v Idle q none k = refl
-quiet_one c s w a l t v (Calls call) q none k = absurd q
-quiet_one c s w a l t v (Carries x) q none k = absurd (let z : ⊥ = omega (arith, none, k.0) in z)
+quiet_one c s w a l t v f q none k = search (q, none, arith)
 
 quiet_none : (f : Calling) → IsQuiet None f → f ≡ Idle
-quiet_none Idle k = refl
-quiet_none (Calls call) k = absurd k
-quiet_none (Carries x) k = absurd k
+quiet_none f k = search arith
 
 module _ (u : Setup) (p : StopState) (at : Word → ℕ) (seat : ℕ → Seat) (source : ℕ → Source) (h : StopShows u p at seat source) (c : StopControlValue) (me : ℕ)
     (s : Sits u me (at Gate) c (seat me) (source me)) (k : CarriesIn c (p.calling me)) where
@@ -141,41 +106,21 @@ module _ (u : Setup) (p : StopState) (at : Word → ℕ) (seat : ℕ → Seat) (
   -- a step that calls nothing
   plain : (stage : StopStage) → told_of (state_after u p at c me stage) ≡ told_of p → is_run (note_then u at c me stage) ≡ false →
       CarriesIn (control_then u at c me stage) f → Now stage
-  plain stage same says mine = record {
-    mine = subst (λ (x : Told). CarriesIn (control_then u at c me stage) (x.calling me)) (sym same) mine;
-    others = λ cpu ne. ap (λ (x : Told). x.calling cpu) same;
-    goes = inl record { same = same; says = says };
-  }
+  plain stage same says mine = search (stage, arith)
 
   module _ (v : Visit) where
     quiet : c.visit ≡ Some v → IsQuiet c.visit f → IsQuiet (Some v) f
     quiet visit q = subst (λ x. IsQuiet x f) visit q
 
     look : (answer : ℕ) → c.stage ≡ Some (Advance v (round.Look answer)) → Now (Advance v (round.Look answer))
-    look answer e = plain (Advance v (round.Look answer)) refl (elim (at (Slot v.slot field.State) == v.acked) as
-        (λ b. is_run (cond b (stop_ends c note.Same) (looked_on me c v answer (at (Slot v.slot field.State)))).note ≡ false) [ true ↦ refl | false ↦ refl ])
-        (go (at (Slot v.slot field.State) == v.acked) (at (Slot v.slot field.State) == 3 && has v.active me))
-      where
-        q : IsQuiet c.visit f
-        q = at_stage (Advance v (round.Look answer)) e
-
-        go : (b d : Bool) → CarriesIn (cond b (stop_ends c note.Same)
-            (stop_goes (record c { interrupts = cond (at (Slot v.slot field.State) == 2) false c.interrupts })
-            (Advance v (cond d (round.LoadFunc answer) (round.Acknowledge answer false))))).control f
-        go true d = q
-        go false true = q
-        go false false = quiet (at_seat s (Advance v (round.Look answer)) e).0 q
+    look answer e = search (plain, v.active, c.visit, at_stage, quiet, at_seat, arith)
 
     -- load of the argument of a function that the CPU may call
     called : (s : ℕ) (w : Work) (a l answer : ℕ) → seat me ≡ In s w a l Rests → may_call me w (Inside a l) ≡ true →
         let found = at (Slot s field.Arg) in
         let p' = told u p me act.Load (Slot s field.Arg) (Some found) None answer in
         p' ≡ calls_now p me (p.now.stop s).work found answer
-    called s w a l answer is may =
-        let st : Stands p.now me (In s w a l Rests) = subst (Stands p.now me) is (h.present.stands me) in
-        let true_ : may_call me (p.now.stop s).work ((p.now.stop s).standing me) ≡ true = ap (λ (x : Work). may_call me x ((p.now.stop s).standing me))
-        st.3 ∙ (ap (may_call me w) st.1 ∙ may) in
-        ap (λ b. cond b (calls_now p me (p.now.stop s).work (at (Slot s field.Arg)) answer) p) true_
+    called s w a l answer is may = search (h.present.stands, arith)
 
     calls : (stage : StopStage) (s : ℕ) (w : Work) (a l answer : ℕ) → state_after u p at c me stage ≡ told u p me act.Load (Slot s field.Arg)
         (Some (at (Slot s field.Arg))) None answer →
@@ -287,29 +232,16 @@ module _ (u : Setup) (p : StopState) (at : Word → ℕ) (seat : ℕ → Seat) (
             either false false = q
 
     load_entry : (key word site : ℕ) → c.stage ≡ Some (Advance v (round.LoadEntry key word site)) → Now (Advance v (round.LoadEntry key word site))
-    load_entry key word site e =
-        let q = at_stage (Advance v (round.LoadEntry key word site)) e in
-        plain (Advance v (round.LoadEntry key word site)) refl refl (elim (at (word_of (round_access u.cpus c.changes v (round.LoadEntry key word site))) ==
-        0 || site + 1 == MOST_SITES) as
-        (λ b. CarriesAt c.visit (Some (Advance v (cond b (round.StoreChange 0) (round.LoadEntry key word (site + 1))))) f) [ true ↦ q | false ↦ q ])
+    load_entry key word site e = search (at_stage, plain, c.visit, arith)
 
     store_change : (made : ℕ) → c.stage ≡ Some (Advance v (round.StoreChange made)) → Now (Advance v (round.StoreChange made))
-    store_change made e =
-        let x = (at_seat s (Advance v (round.StoreChange made)) e).1 in
-        let q = at_stage (Advance v (round.StoreChange made)) e in
-        let is : seat me ≡ Alters v.slot x.0 x.1 x.6.0 x.6.1 = x.6.4 in
-        let st : Stands p.now me (Alters v.slot x.0 x.1 x.6.0 x.6.1) = subst (Stands p.now me) is (h.present.stands me) in
-        let idle = idle_alters me v.slot x.0 x.1 x.6.0 x.6.1 f (calling_at (Alters v.slot x.0 x.1 x.6.0 x.6.1) is) in
-        plain (Advance v (round.StoreChange made)) (patch_calling u p at me (change_at c.changes made)) refl (elim (made + 1 == length c.changes) as
-        (λ b. CarriesAt c.visit (Some (Advance v (cond b (round.Acknowledge 0 true) (round.StoreChange (made + 1))))) f)
-        [ true ↦ subst (IsAcking v 0 true) (sym idle) (x.2.kind ∙ st.4) | false ↦ q ])
+    store_change made e = search (at_seat, at_stage, h.present.stands, idle_alters, calling_at, plain, patch_calling, c.visit, arith)
 
     -- the acknowledgement
     acked_control : (answer : ℕ) (ran b : Bool) (g : Calling) → IsQuiet (Some (visit_acked v answer ran)) g →
         CarriesIn (cond b (stop_goes (record c { visit = Some (visit_acked v answer ran) }) (Advance (visit_acked v answer ran) (round.Refill ran)))
         (turn_ends (record c { visit = Some (visit_acked v answer ran) }) (v.acked + 1) ran)).control g
-    acked_control answer ran true g q = q
-    acked_control answer ran false g q = q
+    acked_control answer ran b g q = search (q, arith)
 
     acknowledge : (answer : ℕ) (ran : Bool) → c.stage ≡ Some (Advance v (round.Acknowledge answer ran)) → Now (Advance v (round.Acknowledge answer ran))
     acknowledge answer ran e = let x = (at_seat s (Advance v (round.Acknowledge answer ran)) e).1 in either x.0 x.1 x.3
@@ -407,30 +339,10 @@ module _ (u : Setup) (p : StopState) (at : Word → ℕ) (seat : ℕ → Seat) (
 
     -- the completion
     none_acked : (work : Work) → work.kind ≡ One → seat me ≡ In v.slot work v.acked v.acked Rests → v.acked ≡ 0
-    none_acked work one is =
-        let st : Stands p.now me (In v.slot work v.acked v.acked Rests) = subst (Stands p.now me) is (h.present.stands me) in
-        let open_ = is_open_inside u.cpus (p.now.stop v.slot) (λ g. at (Slot v.slot g)) (h.present.slots v.slot) me (Inside v.acked v.acked) st.1 refl in
-        let phase = one_phase (p.now.stop v.slot).work.kind (p.now.stop v.slot).phase (ap (λ (x : Work). x.kind) st.3 ∙ one) ((h.present.slots v.slot).shows
-        open_).kinds in
-        let near = (keeps_inside u.cpus (p.now.stop v.slot) (λ g. at (Slot v.slot g)) (h.present.slots v.slot) me (Inside v.acked v.acked) st.1).1 in
-        ⊎_elim (λ (e : v.acked ≡ (p.now.stop v.slot).phase). e ∙ phase) (λ (e : v.acked + 1 ≡ (p.now.stop v.slot).phase). absurd (let z : ⊥ =
-        omega (arith, e, phase) in z)) near
+    none_acked work one is = search (h.present.stands, is_open_inside, h.present.slots, one_phase, keeps_inside, arith)
 
     one_arg : (answer func : ℕ) → c.stage ≡ Some (Complete v (completion.LoadArg answer func)) → Now (Complete v (completion.LoadArg answer func))
-    one_arg answer func e =
-        let x = (at_seat s (Complete v (completion.LoadArg answer func)) e).1 in
-        let one : x.1.0.kind ≡ One = sym x.1.1.kind ∙ x.0 in
-        let may : may_call me x.1.0 (Inside v.acked v.acked) ≡ true = ap (λ (y : KindOf). is_one y || ((v.acked == 2 && v.acked == 3) &&
-        (has x.1.0.active me && is_multi y))) one in
-        let st : Stands p.now me (In v.slot x.1.0 v.acked v.acked Rests) = subst (Stands p.now me) x.1.2 (h.present.stands me) in
-        calls (Complete v (completion.LoadArg answer func)) v.slot x.1.0 v.acked v.acked answer refl x.1.2 may
-        (quiet_one me v.slot x.1.0 v.acked v.acked Rests v f (quiet (at_seat s (Complete v (completion.LoadArg answer func)) e).0
-        (at_stage (Complete v (completion.LoadArg answer func)) e))
-        (none_acked x.1.0 one x.1.2) (calling_at (In v.slot x.1.0 v.acked v.acked Rests) x.1.2)) refl
-        (ap (λ n. Some (note.Run n (at (Slot v.slot field.Arg)))) x.1.3)
-        (λ call same. elim (answer == 0) as (λ b. CarriesAt (Some (record v { answer = answer }))
-        (Some (Complete (record v { answer = answer }) (cond b completion.CountDown completion.StoreAnswer))) (Calls call))
-        [ true ↦ sym same | false ↦ sym same ])
+    one_arg answer func e = search (at_seat, v.acked, h.present.stands, calls, quiet_one, quiet, at_stage, none_acked, calling_at, arith)
 
     count_down : c.stage ≡ Some (Complete v completion.CountDown) → Now (Complete v completion.CountDown)
     count_down e = let x = (at_seat s (Complete v completion.CountDown) e).1 in either x.0 x.1
@@ -496,10 +408,7 @@ module _ (u : Setup) (p : StopState) (at : Word → ℕ) (seat : ℕ → Seat) (
 
   -- the note of a turn
   turn_silent : (p : ℕ) (ran : Bool) → is_run (Some (turn_note p ran)) ≡ false
-  turn_silent p ran = elim (p == 4) as (λ d. is_run (Some (cond d note.Left (cond ran note.Ran (note.Moved p)))) ≡ false) [
-    | true ↦ refl
-    | false ↦ elim ran as (λ d. is_run (Some (cond d note.Ran (note.Moved p))) ≡ false) [ true ↦ refl | false ↦ refl ]
-  ]
+  turn_silent p ran = search arith
 
   pub call_step : (stage : StopStage) → c.stage ≡ Some stage → Now stage
   call_step TakeGate e = plain TakeGate (gate_calling p me (me + 1) (at Gate == 0))

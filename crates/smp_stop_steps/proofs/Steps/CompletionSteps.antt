@@ -160,9 +160,7 @@ module _ (u : Setup) (p : StopState) (at : Word → ℕ) (seat : ℕ → Seat) (
     through_of work loaded t = ⊎_elim (λ (x : v.acked ≡ 4). inl x) (λ (x : v.kind ≡ One). inr (sym loaded.kind ∙ x)) t
 
     ends : (f : Calling) → IsEnding v f → v.answer ≡ answer_in f
-    ends Idle is = is.1
-    ends (Calls call) is = is
-    ends (Carries x) is = is
+    ends f is = search arith
 
     store_answer : CarriesIn c (p.calling me) → c.stage ≡ Some (Complete v completion.StoreAnswer) → StopStep u p at seat source c me
         (Complete v completion.StoreAnswer)
@@ -194,8 +192,7 @@ module _ (u : Setup) (p : StopState) (at : Word → ℕ) (seat : ℕ → Seat) (
     counted_sits : OwnsIf c.is_open (source me) → c.interrupts ≡ true → (b : Bool) →
         Sits u me (at Gate) (cond b (stop_goes (record c { visit = None }) (Close v.slot)) (stop_ends (record c { visit = None }) note.Finished)).control
         (cond b (Closes v.slot) Free) (source me)
-    counted_sits y on true = record { below = s.below; irq = on; seat = (refl, refl); source = y; gate_held = tt }
-    counted_sits y on false = record { below = s.below; irq = on; seat = refl; source = y; gate_held = tt }
+    counted_sits y on b = search arith
 
     count_down : c.stage ≡ Some (Complete v completion.CountDown) → StopStep u p at seat source c me (Complete v completion.CountDown)
     count_down e =

@@ -42,9 +42,7 @@ use Rattle.smp_mask.specs.Mask.{has}
 use Rattle.smp_stop_steps.proofs.State.Acknowledged.{rests_me}
 
 pub one_phase : (k : KindOf) (p : ℕ) → k ≡ One → IsPhaseOf k p → p ≡ 0
-one_phase One p e h = h
-one_phase Multi p e h = cc
-one_phase Patch p e h = cc
+one_phase k p e h = search arith
 
 module _ (u : Setup) (p : StopState) (at : Word → ℕ) (seat : ℕ → Seat) (source : ℕ → Source) (h : StopShows u p at seat source) (s me : ℕ) where
   abbrev w : Field → ℕ
@@ -116,16 +114,7 @@ module _ (u : Setup) (p : StopState) (at : Word → ℕ) (seat : ℕ → Seat) (
     is_done = ⊎_elim (λ (e : a ≡ 4). inl e) (λ (e : job.kind ≡ One). inr (phase_one e)) through
 
     pub on_now : irq_of (seat me) ≡ true
-    on_now = ap irq_of is ∙ ⊎_elim (λ (e : a ≡ 4). ap (λ b. nat_lt l 2 || b) (eq-eqb a 4 e) ∙ or_true (nat_lt l 2)) (λ (e : job.kind ≡ One). early
-        (phase_one e)) through
-      where
-        early : (p.now.stop s).phase ≡ 0 → nat_lt l 2 || a == 4 ≡ true
-        early z =
-            let k = keeps_inside u.cpus (p.now.stop s) w (h.present.slots s) me (Inside a l) st.1 in
-            let none : a ≡ 0 = ⊎_elim (λ (e : a ≡ (p.now.stop s).phase). omega arith) (λ (e : a + 1 ≡ (p.now.stop s).phase). absurd (omega arith)) k.1 in
-            let zero_ : l ≡ 0 = ⊎_elim (λ (e : l ≡ a). omega arith) (λ (e : (l ≡ a + 1) × ((p.now.stop s).phase ≡ l)). let x = e.1 in let y = e.0 in
-            absurd (omega arith)) k.2 in
-            ap (λ n. nat_lt n 2 || a == 4) zero_
+    on_now = search (nat_lt, eq-eqb, or_true, phase_one, keeps_inside, h.present.slots, arith)
 
     -- store of an answer that is not 0
     pub result_stored : (v answer : ℕ) → v ≢ 0 → IsCalling me (Gives s job a v) (p.calling me) →

@@ -36,44 +36,15 @@ sum_most f zero small = omega arith
 sum_most f (suc n) small = let a = small n in let b = sum_most f n small in omega arith
 
 behind_most : (p : ℕ) (x : Standing) → behind p x ≤ 1
-behind_most p Outside = omega arith
-behind_most p Called = most (0 == p)
-  where
-    most : (b : Bool) → cond b 0 1 ≤ 1
-    most true = omega arith
-    most false = omega arith
-behind_most p (Inside a l) = most (a == p)
-  where
-    most : (b : Bool) → cond b 0 1 ≤ 1
-    most true = omega arith
-    most false = omega arith
-behind_most p (Answering a v) = most (a == p)
-  where
-    most : (b : Bool) → cond b 0 1 ≤ 1
-    most true = omega arith
-    most false = omega arith
-behind_most p (Completed a v) = most (a == p)
-  where
-    most : (b : Bool) → cond b 0 1 ≤ 1
-    most true = omega arith
-    most false = omega arith
+behind_most p x = search arith
 
 unfinished_most : (x : Standing) → unfinished x ≤ 1
-unfinished_most Outside = omega arith
-unfinished_most Called = omega arith
-unfinished_most (Inside a l) = omega arith
-unfinished_most (Answering a v) = omega arith
-unfinished_most (Completed a v) = omega arith
+unfinished_most x = search arith
 
 module _ (u : Setup) (p : StopState) (at : Word → ℕ) (seat : ℕ → Seat) (source : ℕ → Source) (h : StopShows u p at seat source) (s me : ℕ) where
   -- who patches is active in its stop
   pub patcher_active : (work : Work) (count : ℕ) (made rest : List Change) → seat me ≡ Alters s work count made rest → has work.active me ≡ true
-  patcher_active work count made rest is =
-      let st : Stands p.now me (Alters s work count made rest) = subst (Stands p.now me) is (h.present.stands me) in
-      let r : RunnerShows u.first (Patches me work count made rest) seat = subst (λ x. RunnerShows u.first x seat) st.5 h.present.runner in
-      let open_ = is_open_inside u.cpus (p.now.stop s) (λ f. at (Slot s f)) (h.present.slots s) me (Inside 2 3) st.1 refl in
-      let works = h.present.works s open_ (ap (λ (w : Work). w.kind) st.3 ∙ st.4) in
-      ap (λ (w : Work). has w.active me) (sym st.3) ∙ (works.first me ∙ eq-eqb me u.first r.0)
+  patcher_active work count made rest is = search (h.present.stands, is_open_inside, h.present.slots, h.present.works, eq-eqb, arith)
 
   module _ (job : Work) (a l : ℕ) (t : Turn) (is : seat me ≡ In s job a l t) where
     st : Stands p.now me (In s job a l t)
@@ -119,8 +90,7 @@ module _ (u : Setup) (p : StopState) (at : Word → ℕ) (seat : ℕ → Seat) (
 
     -- the state is the phase that the CPU acknowledged, or the one after it
     pub state_near : (at (Slot s State) ≡ a) ⊎ (at (Slot s State) ≡ a + 1)
-    state_near = let e = shown.state in ⊎_elim (λ (x : a ≡ (p.now.stop s).phase). inl (e ∙ sym x)) (λ (x : a + 1 ≡ (p.now.stop s).phase). inr (e ∙ sym x))
-        inside_keeps.1
+    state_near = search arith
 
     -- todo is not 0, and at most the number of CPUs
     pub todo_bounds : (0 < at (Slot s Todo)) × (at (Slot s Todo) ≤ u.cpus)
@@ -163,8 +133,7 @@ module _ (u : Setup) (p : StopState) (at : Word → ℕ) (seat : ℕ → Seat) (
 
   pub ack_bounds_patched : (job : Work) (count : ℕ) (made : List Change) → seat me ≡ Alters s job count made [] →
       (0 < at (Slot s Ack)) × (at (Slot s Ack) ≤ u.cpus)
-  ack_bounds_patched job count made is = let now : Stands p.now me (Alters s job count made []) = subst (Stands p.now me) is (h.present.stands me) in
-      ack_known 2 now.1
+  ack_bounds_patched job count made is = search (h.present.stands, ack_known, arith)
 
   -- the same of todo, for who has stored its answer
   pub todo_bounds_answered : (job : Work) (a v : ℕ) → seat me ≡ Gives s job a v → (0 < at (Slot s Todo)) × (at (Slot s Todo) ≤ u.cpus)
@@ -199,32 +168,4 @@ high_none u p at seat source h slot c high = (h.present.slots slot).roll c ∙ g
 pub no_stops_shown : (u : Setup) (at : Word → ℕ) → IsSetup u → at Gate ≡ 0 → ((s : ℕ) → at (Slot s Roll) ≡ 0) → AreEntriesOf u.entries (labels_in at) →
     IsLawful (labels_in at) →
     ((k : ℕ) → at (Key k) ≡ 0) → StopShows u no_stops at (λ _. Free) (λ _. Shut)
-no_stops_shown u at setup gate rolls entries lawful off = record {
-  setup = setup;
-  present = record {
-    slots = λ s. record {
-      members = λ c. refl;
-      roll = λ c. ap (λ n. has n c) (rolls s) ∙ ap (λ n. n == 1) (bit_at-zero c);
-      keeps = λ c. tt;
-      shows = λ bad. absurd (apart bad);
-    };
-    stands = λ c. refl;
-    homes = λ s c bad. absurd (apart bad);
-    irq = λ c. refl;
-    works = λ s bad kind. absurd (apart bad);
-    runner = tt;
-    entries = entries;
-    labels = lawful;
-    read = λ c on i. tt;
-  };
-  gate = gate;
-  callings = λ c. tt;
-  closing = λ s c bad. absurd (apart bad);
-  sources = λ s. refl;
-  past = λ s. ([], record { each = tt; begun_are = refl; collected_are = refl; answers_are = λ c. refl });
-  owns = λ s bad kind in_ late. absurd (apart bad);
-  counts = λ k. opened_count u.cpus k (at (Key k)) (off k);
-}
-  where
-    apart : false ≡ true → ⊥
-    apart e = cc
+no_stops_shown u at setup gate rolls entries lawful off = search (bit_at-zero, opened_count, arith)

@@ -54,21 +54,17 @@ use Rattle.smp_words.proofs.Puts.{put_same}
 
 -- steps after which nothing is heard
 either_heard : (p q : StopState) (b : Bool) → heard_of q ≡ heard_of p → heard_of (cond b q p) ≡ heard_of p
-either_heard p q true e = e
-either_heard p q false e = refl
+either_heard p q b e = search arith
 
 ack_heard : (p : StopState) (me s n : ℕ) (b : Bool) → heard_of (cond b (stored_open p me s field.Ack n) (stored_shut p s field.Ack n)) ≡ heard_of p
-ack_heard p me s n true = refl
-ack_heard p me s n false = refl
+ack_heard p me s n b = search arith
 
 result_heard : (p : StopState) (me s n : ℕ) (b : Bool) → heard_of (cond b (stored_open p me s field.Result n) (stored_shut p s field.Result n)) ≡ heard_of p
-result_heard p me s n true = refl
-result_heard p me s n false = refl
+result_heard p me s n b = search arith
 
 patch_heard : (u : Setup) (p : StopState) (at : Word → ℕ) (me : ℕ) (x : Change) →
     heard_of (tells u p (seen_of me (store_of x) (at (word_of (store_of x))) None) 0) ≡ heard_of p
-patch_heard u p at me (place.Key k, n) = refl
-patch_heard u p at me (place.Site i, n) = refl
+patch_heard u p at me x = search arith
 
 -- steps that acknowledge no phase, and leave no stop
 same_still : (p : StopState) (me : ℕ) → StaysStill p p me
@@ -76,72 +72,37 @@ same_still p me s in_ = record { acked = inl refl; inside = inl in_ }
 
 put_acked : (f : ℕ → Stop) (i me : ℕ) (x : Stop) → acked (x.standing me) ≡ acked ((f i).standing me) → (s : ℕ) →
     acked ((put f i x s).standing me) ≡ acked ((f s).standing me)
-put_acked f i me x same s = at_test s i (λ b. acked ((cond b x (f s)).standing me) ≡ acked ((f s).standing me))
-    (λ e. same ∙ ap (λ j. acked ((f j).standing me)) (sym e)) (λ _. refl)
+put_acked f i me x same s = search (at_test, same, arith)
 
 draft_still : (p : StopState) (me slot n : ℕ) (f : Field) → StaysStill p (record p { now = drafts p.now slot f n }) me
-draft_still p me slot n f s in_ = record {
-  acked = inl (put_acked p.now.stop slot me (record (p.now.stop slot) { work = drafted f n (p.now.stop slot).work }) refl s);
-  inside = inl in_;
-}
+draft_still p me slot n f s in_ = search (put_acked, arith)
 
 looked_acked : (x : Standing) (n : ℕ) → acked (looked_by x n) ≡ acked x
-looked_acked Outside n = refl
-looked_acked Called n = refl
-looked_acked (Inside a l) n = refl
-looked_acked (Answering a v) n = refl
-looked_acked (Completed a v) n = refl
+looked_acked x n = search arith
 
 answered_acked : (x : Standing) (n : ℕ) → acked (answered_by x n) ≡ acked x
-answered_acked Outside n = refl
-answered_acked Called n = refl
-answered_acked (Inside a l) n = refl
-answered_acked (Answering a v) n = refl
-answered_acked (Completed a v) n = refl
+answered_acked x n = search arith
 
 either_still : (p q : StopState) (me : ℕ) (b : Bool) → StaysStill p q me → StaysStill p (cond b q p) me
-either_still p q me true h = h
-either_still p q me false h = same_still p me
+either_still p q me b h = search (same_still, arith)
 
 ack_still : (p : StopState) (me slot n : ℕ) (b : Bool) → StaysStill p (cond b (stored_open p me slot field.Ack n) (stored_shut p slot field.Ack n)) me
-ack_still p me slot n true s in_ = record { acked = inl (put_acked p.now.stop slot me (refilled (p.now.stop slot) me) refl s); inside = inl in_ }
-ack_still p me slot n false s in_ = draft_still p me slot n field.Ack s in_
+ack_still p me slot n b s in_ = search (put_acked, draft_still, arith)
 
 result_still : (p : StopState) (me slot n : ℕ) (b : Bool) → StaysStill p (cond b (stored_open p me slot field.Result n) (stored_shut p slot field.Result n)) me
-result_still p me slot n true s in_ = record {
-  acked = inl (put_acked p.now.stop slot me (stands_at (p.now.stop slot) me (answered_by ((p.now.stop slot).standing me) n))
-      (ap acked (put_same (p.now.stop slot).standing me (answered_by ((p.now.stop slot).standing me) n)) ∙
-      answered_acked ((p.now.stop slot).standing me) n) s);
-  inside = inl in_;
-}
-result_still p me slot n false s in_ = draft_still p me slot n field.Result s in_
+result_still p me slot n b s in_ = search (put_acked, put_same, answered_acked, draft_still, arith)
 
 loaded_still : (u : Setup) (p : StopState) (me key found : ℕ) (x : Option ℕ) → StaysStill p (record p { now = key_loaded u p.now me key found x }) me
-loaded_still u p me key found None s in_ = record { acked = inl refl; inside = inl in_ }
-loaded_still u p me key found (Some j) s in_ = either (is_at_run ((p.now.stop j).standing me) && is_patch (p.now.stop j).work.kind) s in_
-  where
-    either : (b : Bool) → StaysStill p (record p {
-      now = cond b (record (p.now) { patching = patch_begun u me (p.now.stop j).work found }) (reads p.now me (ReadKey key (is_on found)));
-    }) me
-    either true s in_ = record { acked = inl refl; inside = inl in_ }
-    either false s in_ = record { acked = inl refl; inside = inl in_ }
+loaded_still u p me key found x s in_ = search (found, arith)
 
 patch_still : (u : Setup) (p : StopState) (at : Word → ℕ) (me : ℕ) (x : Change) →
     StaysStill p (tells u p (seen_of me (store_of x) (at (word_of (store_of x))) None) 0) me
-patch_still u p at me (place.Key k, n) s in_ = record { acked = inl refl; inside = inl in_ }
-patch_still u p at me (place.Site i, n) s in_ = record { acked = inl refl; inside = inl in_ }
+patch_still u p at me x s in_ = search arith
 
 -- who says that it runs a function has called it
 run_called : (p q : StopState) (me func arg answer : ℕ) → FunctionGoes p q me (Some (note.Run func arg)) answer →
     (call : StopCall) × (q.calling me ≡ Calls call) × (call.func ≡ func) × (call.arg ≡ arg)
-run_called p q me func arg answer (inl x) = let bad : true ≡ false = x.says in cc
-run_called p q me func arg answer (inr (inl x)) =
-    let same : Some (note.Run func arg) ≡ Some (note.Run x.call.func x.call.arg) = x.says in
-    let funcs : x.call.func ≡ func = cc in
-    let args : x.call.arg ≡ arg = cc in
-    (x.call, ap (λ (y : Told). y.calling me) x.calls ∙ put_same p.calling me (Calls x.call), funcs, args)
-run_called p q me func arg answer (inr (inr (inl x))) = let bad : true ≡ false = x.says in cc
-run_called p q me func arg answer (inr (inr (inr x))) = let bad : true ≡ false = x.says in cc
+run_called p q me func arg answer h6 = search (arg, put_same, arith)
 
 module _ (u : Setup) (p : StopState) (at : Word → ℕ) (seat : ℕ → Seat) (source : ℕ → Source) (h : StopShows u p at seat source) (c : StopControlValue) (me : ℕ)
     (s : Sits u me (at Gate) c (seat me) (source me)) (k : CarriesIn c (p.calling me)) where
@@ -200,15 +161,7 @@ module _ (u : Setup) (p : StopState) (at : Word → ℕ) (seat : ℕ → Seat) (
       }
 
   entering : (slot : ℕ) → c.stage ≡ Some (Enter slot) → Fits (Enter slot)
-  entering slot e = go (has (at (Slot slot field.Roll)) me)
-    where
-      free : p.now.inside me ≡ None
-      free = let x = seat_at (Enter slot) e in subst (Stands p.now me) x.1 (h.present.stands me)
-
-      go : (b : Bool) → NoteFits p (cond b (record p { now = enters p.now me slot }) p) me
-          (cond b (stop_goes c (EnterKind slot)) (stop_ends c note.Stale)).note
-      go true = (inl refl, λ j in_. absurd (let bad : None ≡ Some j = sym free ∙ in_ in let z : ⊥ = cc in z))
-      go false = (free, refl)
+  entering slot e = search (seat_at, h.present.stands, arith)
 
   module _ (v : Visit) where
     looked : (answer : ℕ) → c.stage ≡ Some (Advance v (round.Look answer)) → Fits (Advance v (round.Look answer))
@@ -260,13 +213,11 @@ module _ (u : Setup) (p : StopState) (at : Word → ℕ) (seat : ℕ → Seat) (
 
     arg_heard : (slot answer : ℕ) → heard_of (cond (may_call me (p.now.stop slot).work ((p.now.stop slot).standing me))
         (calls_now p me (p.now.stop slot).work (at (Slot slot field.Arg)) answer) p) ≡ heard_of p
-    arg_heard slot answer = either_heard p (calls_now p me (p.now.stop slot).work (at (Slot slot field.Arg)) answer)
-        (may_call me (p.now.stop slot).work ((p.now.stop slot).standing me)) refl
+    arg_heard slot answer = search (either_heard, arith)
 
     arg_still : (slot answer : ℕ) → StaysStill p (cond (may_call me (p.now.stop slot).work ((p.now.stop slot).standing me))
         (calls_now p me (p.now.stop slot).work (at (Slot slot field.Arg)) answer) p) me
-    arg_still slot answer = either_still p (calls_now p me (p.now.stop slot).work (at (Slot slot field.Arg)) answer) me
-        (may_call me (p.now.stop slot).work ((p.now.stop slot).standing me)) (λ j in_. record { acked = inl refl; inside = inl in_ })
+    arg_still slot answer = search (either_still, arith)
 
     arg : (answer func : ℕ) → c.stage ≡ Some (Advance v (round.LoadArg answer func)) → Fits (Advance v (round.LoadArg answer func))
     arg answer func e = go (is_multi v.kind) refl
@@ -366,14 +317,7 @@ module _ (u : Setup) (p : StopState) (at : Word → ℕ) (seat : ℕ → Seat) (
 
         -- the last to acknowledge is to set the next phase
         acked_still : (at (Slot v.slot field.Ack) == 1) ≡ true → StaysStill p (acked_after false) me
-        acked_still one j is =
-            let both : Some j ≡ Some v.slot = sym is ∙ in_ in
-            let same : j ≡ v.slot = cc in
-            record {
-              acked = inr (ap (λ i. (put p.now.stop v.slot acked_stop i).raising) same ∙ (ap (λ (x : Stop). x.raising) acked_here ∙
-                  ap (λ b. cond b (Refills me) (p.now.stop v.slot).raising) one));
-              inside = inl is;
-            }
+        acked_still one j is = search (acked_here, one, arith)
 
         acked_fits : (b d : Bool) → (at (Slot v.slot field.Ack) == 1) ≡ b → (phase == 4) ≡ d → NoteFits p (acked_after (d && not b)) me
             (cond b (stop_goes acked_control (Advance (visit_acked v answer ran) (round.Refill ran)))
@@ -394,33 +338,13 @@ module _ (u : Setup) (p : StopState) (at : Word → ℕ) (seat : ℕ → Seat) (
             acked_turn ran refl (λ is_four. let bad : true ≡ false = sym (eq-eqb phase 4 is_four) ∙ four in cc)
 
         ack_fits : Fits (Advance v (round.Acknowledge answer ran))
-        ack_fits = subst (λ (y : Standing). NoteFits p (acknowledges p me v.slot y (at (Slot v.slot field.Ack))) me
-            (note_then u at c me (Advance v (round.Acknowledge answer ran)))) (sym st) (acked_fits (at (Slot v.slot field.Ack) == 1) (phase == 4) refl refl)
+        ack_fits = search (st, acked_fits, arith)
 
       run_of : (b : Bool) → RunsIf me v b → HasRun me (visit_acked v answer b) b
-      run_of true runs = record { at_run = λ _. ap (λ n. n + 1) runs.0; active = λ _. runs.2 }
-      run_of false runs = record { at_run = λ bad. cc; active = λ three. runs (omega arith) }
+      run_of b runs = search arith
 
       acknowledge : c.stage ≡ Some (Advance v (round.Acknowledge answer ran)) → Fits (Advance v (round.Acknowledge answer ran))
-      acknowledge e = let x = (seat_at (Advance v (round.Acknowledge answer ran)) e).1 in either x.0 x.1 x.3
-        where
-          either : (work : Work) → IsLoaded v work →
-              (((seat me ≡ In v.slot work v.acked (v.acked + 1) Rests) × RunsIf me v ran) ⊎ ((v.acked ≡ 2) × (ran ≡ true) ×
-              ((count : ℕ) × (answer ≡ patch_answer work count) × (seat me ≡ Alters v.slot work count (plan_at u work count) [])))) →
-              Fits (Advance v (round.Acknowledge answer ran))
-          either work loaded (inl (is, runs)) =
-              let st = stands (In v.slot work v.acked (v.acked + 1) Rests) is in
-              ack_fits st.0 st.1 (off (v.acked == 3) refl) (run_of ran runs) (loaded.active ∙ ap (λ (w : Work). w.active) (sym st.3))
-            where
-              off : (b : Bool) → (v.acked == 3) ≡ b → (p.now.irq me ≡ false) ⊎ (phase ≢ 4)
-              off true three = inl (h.present.irq me ∙ (ap irq_of is ∙ ap (λ n. irq_of (In v.slot work n (n + 1) Rests)) (eqb-true v.acked 3 three)))
-              off false three = inr (λ is_four. let bad : true ≡ false = sym (eq-eqb v.acked 3 (omega arith)) ∙ three in cc)
-          either work loaded (inr (two, runs, (n, answers, is))) =
-              let st = stands (Alters v.slot work n (plan_at u work n) []) is in
-              let its = patcher_active u p at seat source h v.slot me work n (plan_at u work n) [] is in
-              let active : has v.active me ≡ true = ap (λ m. has m me) loaded.active ∙ its in
-              ack_fits st.0 (st.1 ∙ ap (λ n. Inside n (n + 1)) (sym two)) (inl (h.present.irq me ∙ ap irq_of is))
-              (record { at_run = λ _. ap (λ n. n + 1) two; active = λ _. active ∙ sym runs }) (loaded.active ∙ ap (λ (w : Work). w.active) (sym st.3))
+      acknowledge e = search (seat_at, v.acked, stands, ack_fits, run_of, h.present.irq, eqb-true, eq-eqb, patcher_active, v.active, arith)
 
     -- who sets the phase after EXIT leaves with it
     module _ (ran : Bool) where
@@ -480,13 +404,7 @@ module _ (u : Setup) (p : StopState) (at : Word → ℕ) (seat : ℕ → Seat) (
             raised_turn ran refl (λ is_four. let bad : true ≡ false = sym (eq-eqb v.acked 4 is_four) ∙ four in cc)
 
       raise : c.stage ≡ Some (Advance v (round.Raise ran)) → Fits (Advance v (round.Raise ran))
-      raise e =
-          let x = (seat_at (Advance v (round.Raise ran)) e).1 in
-          let st = stands (In v.slot x.0 v.acked v.acked Sets) x.2 in
-          let op = is_open_inside u.cpus (p.now.stop v.slot) (λ f. at (Slot v.slot f)) (h.present.slots v.slot) me (Inside v.acked v.acked) st.1 refl in
-          subst (λ b. NoteFits p (cond b (stored_open p me v.slot field.State (v.acked + 1)) (stored_shut p v.slot field.State (v.acked + 1))) me
-          (note_then u at c me (Advance v (round.Raise ran)))) (sym op)
-          (raised_fits x.0 x.1 x.2 x.3 st.0 st.1 st.3 (v.acked == 4) (v.acked + 1 == 5) refl refl)
+      raise e = search (seat_at, stands, v.acked, is_open_inside, h.present.slots, raised_fits, arith)
 
     count_down : c.stage ≡ Some (Complete v completion.CountDown) → Fits (Complete v completion.CountDown)
     count_down e = let x = (seat_at (Complete v completion.CountDown) e).1 in either x.0 x.1
@@ -525,13 +443,7 @@ module _ (u : Setup) (p : StopState) (at : Word → ℕ) (seat : ℕ → Seat) (
             (go v.acked v.answer st.0 (ap acked st.1) (found == 1) refl)
 
   close : (slot : ℕ) → c.stage ≡ Some (Close slot) → Fits (Close slot)
-  close slot e =
-      let st = stands (Closes slot) (seat_at (Close slot) e).1 in
-      subst (λ b. NoteFits p (cond b (stored_open p me slot field.Done 1) (stored_shut p slot field.Done 1)) me (Some note.Finished)) (sym st.1) (record {
-        same = refl;
-        outside = st.0;
-        finished = inr (slot, st.2, ap (λ (x : Stop). x.ending) (put_same p.now.stop slot (ended (p.now.stop slot))));
-      })
+  close slot e = search (stands, seat_at, put_same, arith)
 
   load_done : c.stage ≡ Some LoadDone → Fits LoadDone
   load_done e = go (at (Slot me field.Done) == 0) refl

@@ -42,43 +42,14 @@ module _ (u : Setup) (p : StopState) (at : Word → ℕ) (seat : ℕ → Seat) (
       PresentShows u (record (p.now) { readings = readings'; patching = patching' }) at' seat' → ((c : ℕ) → IsCalling c (seat' c) (p.calling c)) →
       AreClosing p.now seat' →
       StopShows u (record p { now = record (p.now) { readings = readings'; patching = patching' }; nudged = nudged'; patched = patched' }) at' seat' source
-  label_step readings' patching' nudged' patched' at' seat' gate slots own counts present callings closing = record {
-    setup = h.setup;
-    present = present;
-    gate = gate ∙ h.gate;
-    callings = callings;
-    closing = closing;
-    sources = λ j. source_same u p.gate j (p.now.stop j) (λ f. at (Slot j f)) (λ f. at' (Slot j f)) (slots j) (source j) (h.sources j);
-    past = h.past;
-    owns = own;
-    counts = counts;
-  }
+  label_step readings' patching' nudged' patched' at' seat' gate slots own counts present callings closing = search (source_same, h.sources, arith)
 
   run_is : (x : Standing) → is_at_run x ≡ true → x ≡ Inside 2 3
-  run_is Outside e = cc
-  run_is Called e = cc
-  run_is (Inside a l) e = let a_two = eqb-true a 2 (first_true (a == 2) (l == 3) e) in let l_three = eqb-true l 3 (second_true (a == 2) (l == 3) e) in cc
-    where
-      first_true : (b c : Bool) → b && c ≡ true → b ≡ true
-      first_true true c e = refl
-      first_true false c e = cc
-
-      second_true : (b c : Bool) → b && c ≡ true → c ≡ true
-      second_true true c e = e
-      second_true false c e = cc
-  run_is (Answering a v) e = cc
-  run_is (Completed a v) e = cc
+  run_is x e = search (eqb-true, arith)
 
   -- where interrupts are on, the CPU is not at phase 3
   pub not_run : (s : ℕ) → p.now.irq me ≡ true → p.now.inside me ≡ Some s → is_at_run ((p.now.stop s).standing me) ≡ false
-  not_run s on in_ = go (is_at_run ((p.now.stop s).standing me)) refl
-    where
-      go : (b : Bool) → is_at_run ((p.now.stop s).standing me) ≡ b → b ≡ false
-      go false e = refl
-      go true e =
-          let is = run_is ((p.now.stop s).standing me) e in
-          let off = off_inside p.now me s 2 3 (seat me) (h.present.stands me) in_ is (omega arith) (λ z. omega arith) in
-          let bad : true ≡ false = sym on ∙ (h.present.irq me ∙ off) in cc
+  not_run s on in_ = search (run_is, off_inside, h.present.stands, h.present.irq, arith)
 
   -- load of a key, where interrupts are on: a reading
   pub key_read : (k answer : ℕ) → p.now.irq me ≡ true →
@@ -100,9 +71,7 @@ module _ (u : Setup) (p : StopState) (at : Word → ℕ) (seat : ℕ → Seat) (
 
   -- load of a site, where interrupts are on: a reading
   pub site_read : (i answer : ℕ) → StopShows u (told u p me act.Load (Site i) (Some (at (Site i))) None answer) at seat source
-  site_read i answer = label_step (put p.now.readings me (p.now.readings me ++ ReadSite i (is_on (at (Site i))) ∷ [])) p.now.patching p.nudged p.patched at
-      seat refl (λ j f. refl) h.owns h.counts
-      (reads_label u p.now at seat h.present me (ReadSite i (is_on (at (Site i)))) refl) h.callings h.closing
+  site_read i answer = search (label_step, h.owns, reads_label, h.present, h.callings, arith)
 
   entries_same : (at' : Word → ℕ) → ((i : ℕ) → at' (Entry i) ≡ at (Entry i)) → AreEntriesOf u.entries (labels_in at')
   entries_same at' same = record { few = h.present.entries.few; read = λ i l. same i ∙ h.present.entries.read i l }
@@ -114,20 +83,17 @@ module _ (u : Setup) (p : StopState) (at : Word → ℕ) (seat : ℕ → Seat) (
     at' = put_word at (Key k) new
 
     on_kept : (j : ℕ) → is_on (at' (Key j)) ≡ is_on (at (Key j))
-    on_kept j = at_test j k (λ b. is_on (cond b new (at (Key j))) ≡ is_on (at (Key j)))
-        (λ e. nudge.same ∙ ap is_on (sym was ∙ ap (λ i. at (Key i)) (sym e))) (λ _. refl)
+    on_kept j = search (at_test, arith)
 
     agrees_kept : (r : Reading) → Agrees (labels_in at) r → Agrees (labels_in at') r
-    agrees_kept (ReadKey j x) a = on_kept j ∙ a
-    agrees_kept (ReadSite i x) a = a
+    agrees_kept r a = search (on_kept, arith)
 
     all_agree : (rs : List Reading) → AllByRecursion (Agrees (labels_in at)) rs → AllByRecursion (Agrees (labels_in at')) rs
     all_agree [] a = tt
     all_agree (r ∷ rs) a = (agrees_kept r a.0, all_agree rs a.1)
 
     stands_kept : (x : Option Bool) (m n : ℕ) → is_on n ≡ is_on m → IfSome x (λ b. is_on m ≡ b) → IfSome x (λ b. is_on n ≡ b)
-    stands_kept None m n e s = tt
-    stands_kept (Some b) m n e s = e ∙ s
+    stands_kept x m n e s = search arith
 
     pub key_exchanged : (answer : ℕ) → StopShows u (told u p me act.Cas (Key k) (Some found) (Some new) answer) at' seat source
     key_exchanged answer =
@@ -187,9 +153,7 @@ module _ (u : Setup) (p : StopState) (at : Word → ℕ) (seat : ℕ → Seat) (
 
     alters_calling : (count : ℕ) (made rest made' rest' : List Change) → seat me ≡ Alters s job count made rest → (c : ℕ) →
         IsCalling c (put seat me (Alters s job count made' rest') c) (p.calling c)
-    alters_calling count made rest made' rest' is = calling_same seat p.calling h.callings me (Alters s job count made' rest')
-        (subst (IsCalling me (Alters s job count made' rest')) (sym (idle_alters me s job count made rest (p.calling me)
-        (subst (λ x. IsCalling me x (p.calling me)) is (h.callings me)))) tt)
+    alters_calling count made rest made' rest' is = search (calling_same, h.callings, idle_alters, arith)
 
     -- store of the key by a patch, its first store: the count goes from what the patch has found
     pub key_stored : (count : ℕ) (made rest : List Change) (k n answer : ℕ) → me < u.cpus → seat me ≡ Alters s job count made ((place.Key k, n) ∷ rest) →

@@ -41,26 +41,11 @@ use Rattle.std.specs.List.{AllByRecursion}
 
 -- a look changes whether interrupts are on at phase 2 alone
 pub look_irq : (l a n p : ℕ) → n ≡ p → IsLevel p a → ((l ≡ a) ⊎ ((l ≡ a + 1) × (p ≡ l))) → n ≢ 2 → nat_lt l 2 ≡ nat_lt n 2
-look_irq l a n p e level near ne = elim (cases_lt n 2) [
-  | inl low ↦ lt-ltb l 2 (below low) ∙ sym (lt-ltb n 2 low)
-  | inr high ↦ le-ltb l 2 (above high) ∙ sym (le-ltb n 2 high)
-]
-  where
-    below : n < 2 → l < 2
-    below low = ⊎_elim (λ (x : l ≡ a). ⊎_elim (λ (y : a ≡ p). omega arith) (λ (y : a + 1 ≡ p). omega arith) level) (λ (x : (l ≡ a + 1) × (p ≡ l)). let z =
-        x.1 in omega arith) near
-
-    above : 2 ≤ n → 2 ≤ l
-    above high = ⊎_elim (λ (x : l ≡ a). ⊎_elim (λ (y : a ≡ p). omega arith) (λ (y : a + 1 ≡ p). omega arith) level) (λ (x : (l ≡ a + 1) × (p ≡ l)). let z =
-        x.1 in omega arith) near
+look_irq l a n p e level near ne = search (cases_lt, lt-ltb, le-ltb, near, arith)
 
 -- no CPU has acknowledged more than the phase
 pub acked_most_phase : (cpus p c : ℕ) (x : Standing) → Keeps cpus p c x → acked x ≤ p
-acked_most_phase cpus p c Outside k = omega arith
-acked_most_phase cpus p c Called k = omega arith
-acked_most_phase cpus p c (Inside a l) k = ⊎_elim (λ (e : a ≡ p). omega arith) (λ (e : a + 1 ≡ p). omega arith) k.1
-acked_most_phase cpus p c (Answering a v) k = ⊎_elim (λ (e : a ≡ p). omega arith) (λ (e : a + 1 ≡ p). omega arith) k.1
-acked_most_phase cpus p c (Completed a v) k = ⊎_elim (λ (e : a ≡ p). omega arith) (λ (e : a + 1 ≡ p). omega arith) k.1
+acked_most_phase cpus p c x k = search arith
 
 module _ (u : Setup) (p : StopState) (at : Word → ℕ) (seat : ℕ → Seat) (source : ℕ → Source) (h : StopShows u p at seat source) (s me : ℕ) where
   abbrev pub now : Present
@@ -158,9 +143,7 @@ module _ (u : Setup) (p : StopState) (at : Word → ℕ) (seat : ℕ → Seat) (
 
   -- who is not inside the function of a patch does not end one
   not_patching : (x : Patching) → IsNoPatch (seat me) → RunnerShows u.first x seat → unpatched me x ≡ x
-  not_patching Whole idle r = refl
-  not_patching (Patches c w count made rest) idle r = ap (λ b. cond b Whole (Patches c w count made rest))
-      (ne_eqb c me (λ e. subst IsNoPatch (sym (ap seat e) ∙ r.1.1) idle))
+  not_patching x idle r = search (ne_eqb, IsNoPatch, arith)
 
   -- with the key of its own patch a source's readings begin when it leaves
   leave_agrees : (job : Work) (a l : ℕ) (t : Turn) → seat me ≡ In s job a l t → 4 ≤ (p.now.stop s).phase → AllByRecursion (Agrees (labels_in at))
@@ -224,9 +207,7 @@ module _ (u : Setup) (p : StopState) (at : Word → ℕ) (seat : ℕ → Seat) (
         (λ ne op kind in_ late. h.owns j op kind in_ late)
 
     leaves_irq : (b : Bool) → irq_of (In s job (a + 1) (a + 1) (cond b Fills Rests)) ≡ cond (a + 1 == 4 && not b) true (nat_lt (a + 1) 2)
-    leaves_irq true = at_test (a + 1) 4 (λ c. nat_lt (a + 1) 2 ≡ cond (c && false) true (nat_lt (a + 1) 2)) (λ _. refl) (λ _. refl)
-    leaves_irq false = at_test (a + 1) 4 (λ c. nat_lt (a + 1) 2 || c ≡ cond (c && true) true (nat_lt (a + 1) 2)) (λ e. or_true (nat_lt (a + 1) 2))
-        (λ ne. or_false (nat_lt (a + 1) 2) false refl)
+    leaves_irq b = search (at_test, nat_lt, or_true, or_false, arith)
 
     -- an acknowledgement, over a state in which nobody or another patches
     ack_shown : (x : Patching) (seat0 : ℕ → Seat) (calls' : ℕ → List StopCall) (calling' : ℕ → Calling) → PresentShows u (record (p.now) { patching = x })
@@ -302,18 +283,8 @@ module _ (u : Setup) (p : StopState) (at : Word → ℕ) (seat : ℕ → Seat) (
     -- the function of a CPU that patches nothing, once the phase is acknowledged
     acked_calling : (b : Bool) → (a + 1 == 3) ≡ b → seat me ≡ In s job a (a + 1) Rests → job.kind ≢ One → (a ≡ 2 → HasCalled me job (p.calling me)) →
         (c : ℕ) → IsCalling c (put seat me next c) (cond b (put p.calling me (carried me p.now.patching (p.calling me))) p.calling c)
-    acked_calling false e is many ready =
-        calling_same seat p.calling h.callings me next
-        (calling_acked me s job a (cond (found == 1) Fills Rests) (p.calling me) (λ two. let bad : true ≡ false =
-        sym (eq-eqb (a + 1) 3 (omega (arith, two))) ∙ e in cc) many (subst (λ x. IsCalling me x (p.calling me)) is (h.callings me)))
-    acked_calling true e is many ready =
-        let two : a ≡ 2 = let x = eqb-true (a + 1) 3 e in omega arith in
-        let t = cond (found == 1) Fills Rests in
-        let alone = carried_alone u.first p.now.patching seat me (p.calling me) (subst IsNoPatch (sym is) tt) h.present.runner in
-        let ran = calling_ran me s job t (p.calling me) many (ready two) (subst (λ n. IsCalling me (In s job n (n + 1) Rests) (p.calling me)) two
-        (subst (λ x. IsCalling me x (p.calling me)) is (h.callings me))) in
-        calling_next seat p.calling h.callings me next (carried me p.now.patching (p.calling me))
-        (subst (IsCalling me next) (sym alone) (subst (λ n. IsCalling me (In s job (n + 1) (n + 1) t) (carried_call (p.calling me))) (sym two) ran))
+    acked_calling b e is many ready =
+        search (calling_same, h.callings, calling_acked, eq-eqb, eqb-true, carried_alone, IsNoPatch, calling_ran, calling_next, arith)
 
     -- fetch_sub of the count, by a CPU that has looked at a new phase and runs no patch
     pub ack_subtracted : seat me ≡ In s job a (a + 1) Rests → (a ≡ 2 → HasCalled me job (p.calling me)) →

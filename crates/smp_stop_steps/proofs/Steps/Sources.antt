@@ -38,119 +38,19 @@ use Rattle.smp_words.specs.declared.word.Word.{Word}
 use Rattle.smp_mask.specs.Mask.{has}
 
 pub kind_back : (k : KindOf) → kind_at (kind_word k) ≡ k
-kind_back One = refl
-kind_back Multi = refl
-kind_back Patch = refl
+kind_back k = search arith
 
 -- one more store of begin tells one more number of the work
 drafted_more : (cpus : ℕ) (f : Field) (k : ℕ) (now work : Work) → order f ≡ k → IsDrafted k now work →
     IsDrafted (k + 1) (drafted f (begun_value cpus work f) now) work
-drafted_more cpus Kind k now work e d = record {
-  kind = λ _. kind_back work.kind;
-  mask = λ l. absurd (omega arith);
-  active = λ l. absurd (omega arith);
-  func = λ l. absurd (omega arith);
-  arg = λ l. absurd (omega arith);
-}
-drafted_more cpus Mask k now work e d = record {
-  kind = λ _. d.kind (omega arith);
-  mask = λ _. refl;
-  active = λ l. absurd (omega arith);
-  func =
-      λ l. absurd (omega arith);
-  arg = λ l. absurd (omega arith);
-}
-drafted_more cpus Active k now work e d = record {
-  kind = λ _. d.kind (omega arith);
-  mask = λ _. d.mask (omega arith);
-  active = λ _. refl;
-  func =
-      λ l. absurd (omega arith);
-  arg = λ l. absurd (omega arith);
-}
-drafted_more cpus Func k now work e d = record {
-  kind = λ _. d.kind (omega arith);
-  mask = λ _. d.mask (omega arith);
-  active = λ _. d.active (omega arith);
-  func = λ _. refl;
-  arg = λ l. absurd (omega arith);
-}
-drafted_more cpus Arg k now work e d = record {
-  kind = λ _. d.kind (omega arith);
-  mask = λ _. d.mask (omega arith);
-  active = λ _. d.active (omega arith);
-  func = λ _. d.func (omega arith);
-  arg = λ _. refl;
-}
-drafted_more cpus Result k now work e d = record {
-  kind = λ _. d.kind (omega arith);
-  mask = λ _. d.mask (omega arith);
-  active = λ _. d.active (omega arith);
-  func = λ _. d.func (omega arith);
-  arg = λ _. d.arg (omega arith);
-}
-drafted_more cpus Todo k now work e d = record {
-  kind = λ _. d.kind (omega arith);
-  mask = λ _. d.mask (omega arith);
-  active = λ _. d.active (omega arith);
-  func = λ _. d.func (omega arith);
-  arg = λ _. d.arg (omega arith);
-}
-drafted_more cpus Done k now work e d = record {
-  kind = λ _. d.kind (omega arith);
-  mask = λ _. d.mask (omega arith);
-  active = λ _. d.active (omega arith);
-  func = λ _. d.func (omega arith);
-  arg = λ _. d.arg (omega arith);
-}
-drafted_more cpus Ack k now work e d = record {
-  kind = λ _. d.kind (omega arith);
-  mask = λ _. d.mask (omega arith);
-  active = λ _. d.active (omega arith);
-  func = λ _. d.func (omega arith);
-  arg = λ _. d.arg (omega arith);
-}
-drafted_more cpus State k now work e d = record {
-  kind = λ _. d.kind (omega arith);
-  mask = λ _. d.mask (omega arith);
-  active = λ _. d.active (omega arith);
-  func = λ _. d.func (omega arith);
-  arg = λ _. d.arg (omega arith);
-}
-drafted_more cpus Roll k now work e d = record {
-  kind = λ _. d.kind (omega arith);
-  mask = λ _. d.mask (omega arith);
-  active = λ _. d.active (omega arith);
-  func = λ _. d.func (omega arith);
-  arg = λ _. d.arg (omega arith);
-}
+drafted_more cpus f k now work e d = search (kind_back, d.kind, d.mask, d.active, d.func, d.arg, arith)
 
 not_roll : (f : Field) → order f < 10 → same_field f Roll true ≡ false
-not_roll Kind l = refl
-not_roll Mask l = refl
-not_roll Active l = refl
-not_roll Func l = refl
-not_roll Arg l = refl
-not_roll Result l = refl
-not_roll Todo l = refl
-not_roll Done l = refl
-not_roll Ack l = refl
-not_roll State l = refl
-not_roll Roll l = absurd (let z : ⊥ = omega (arith, l) in z)
+not_roll f l = search arith
 
 -- a store but the last one drafts the work
 shut_told : (p : StopState) (s : ℕ) (f : Field) (v : ℕ) → order f < 10 → stored_shut p s f v ≡ record p { now = drafts p.now s f v }
-shut_told p s Kind v l = refl
-shut_told p s Mask v l = refl
-shut_told p s Active v l = refl
-shut_told p s Func v l = refl
-shut_told p s Arg v l = refl
-shut_told p s Result v l = refl
-shut_told p s Todo v l = refl
-shut_told p s Done v l = refl
-shut_told p s Ack v l = refl
-shut_told p s State v l = refl
-shut_told p s Roll v l = absurd (let z : ⊥ = omega (arith, l) in z)
+shut_told p s f v l = search arith
 
 -- the field of a place among the stores of begin
 field_of : ℕ → Field
@@ -160,17 +60,7 @@ field_of n =
 
 field_of-order : (f : Field) → field_of (order f) ≡ f
 unfolding field_of
-field_of-order Kind = refl
-field_of-order Mask = refl
-field_of-order Active = refl
-field_of-order Func = refl
-field_of-order Arg = refl
-field_of-order Result = refl
-field_of-order Todo = refl
-field_of-order Done = refl
-field_of-order Ack = refl
-field_of-order State = refl
-field_of-order Roll = refl
+field_of-order f = search arith
 
 one_order : (f g : Field) → order f ≡ order g → f ≡ g
 one_order f g e = sym (field_of-order f) ∙ (ap field_of e ∙ field_of-order g)
@@ -180,16 +70,7 @@ field_itself f b = ap (λ c. cond c b false) (eq-eqb (place_of f) (place_of f) r
 
 stored_more : (cpus : ℕ) (at : Word → ℕ) (s : ℕ) (work : Work) (k : ℕ) (g : Field) → order g ≡ k → IsStored cpus (λ f. at (Slot s f)) work k →
     IsStored cpus (λ f. put_word at (Slot s g) (begun_value cpus work g) (Slot s f)) work (k + 1)
-stored_more cpus at s work k g is h f l = at_test (order f) (order g) (λ _. put_word at (Slot s g) (begun_value cpus work g) (Slot s f) ≡ begun_value cpus
-    work f)
-    (λ e. let same = one_order f g e in
-    subst (λ x. put_word at (Slot s g) (begun_value cpus work g) (Slot s x) ≡ begun_value cpus work x) (sym same)
-    (ap (λ b. cond b (begun_value cpus work g) (at (Slot s g))) (field_itself g (s == s) ∙ eq-eqb s s refl)))
-    (λ ne. other f (λ e. ne (ap order e)) ∙ h f (omega arith))
-  where
-    other : (f : Field) → f ≢ g → put_word at (Slot s g) (begun_value cpus work g) (Slot s f) ≡ at (Slot s f)
-    other f ne = at_test (place_of f) (place_of g) (λ b. cond (cond b (s == s) false) (begun_value cpus work g) (at (Slot s f)) ≡ at (Slot s f))
-        (λ e. absurd (ne (one_place f g e))) (λ _. refl)
+stored_more cpus at s work k g is h f l = search (at_test, one_order, field_itself, eq-eqb, one_place, arith)
 
 pub work_ext : (x y : Work) → x.kind ≡ y.kind → x.mask ≡ y.mask → x.active ≡ y.active → x.func ≡ y.func → x.arg ≡ y.arg → x ≡ y
 work_ext x y a b c d e = λ k. record { kind = a k; mask = b k; active = c k; func = d k; arg = e k }
@@ -344,66 +225,9 @@ module _ (u : Setup) (p : StopState) (at : Word → ℕ) (seat : ℕ → Seat) (
 
   -- compare-exchange of the gate, that won
   pub gate_taken : (answer : ℕ) → at Gate ≡ 0 → StopShows u (told u p me act.Cas Gate (Some 0) (Some (me + 1)) answer) (put_word at Gate (me + 1)) seat source
-  gate_taken answer free = record {
-    setup = h.setup;
-    present = other_gate (me + 1);
-    gate = refl;
-    callings = h.callings;
-    closing = h.closing;
-    sources = λ j. another j (source j) (h.sources j);
-    past = h.past;
-    owns = h.owns;
-    counts = h.counts;
-  }
-    where
-      other_gate : (n : ℕ) → PresentShows u p.now (put_word at Gate n) seat
-      other_gate n = record {
-        slots = h.present.slots;
-        stands = h.present.stands;
-        homes = h.present.homes;
-        irq = h.present.irq;
-        works = h.present.works;
-        runner = h.present.runner;
-        entries = h.present.entries;
-        labels = h.present.labels;
-        read = h.present.read;
-      }
-
-      another : (j : ℕ) (x : Source) → SourceShows u p.gate (p.now.stop j) (λ f. at (Slot j f)) j x → SourceShows u (Some me) (p.now.stop j)
-          (λ f. at (Slot j f)) j x
-      another j Shut s = s
-      another j (Drafts work k) s = let bad : None ≡ Some j = sym (gate_free p.gate (sym h.gate ∙ free)) ∙ s.holds in cc
-      another j (Owns work) s = s
-      another j (Collects work) s = s
+  gate_taken answer free = search (h.sources, gate_free, arith)
 
   -- store of 0 to the gate by its holder, which begins no stop
   pub gate_opened : (answer : ℕ) → p.gate ≡ Some me → ((work : Work) (k : ℕ) → source me ≢ Drafts work k) →
       StopShows u (told u p me act.Store Gate None (Some 0) answer) (put_word at Gate 0) seat source
-  gate_opened answer holds idle = record {
-    setup = h.setup;
-    present = record {
-      slots = h.present.slots;
-      stands = h.present.stands;
-      homes = h.present.homes;
-      irq = h.present.irq;
-      works = h.present.works;
-      runner = h.present.runner;
-      entries = h.present.entries;
-      labels = h.present.labels;
-      read = h.present.read;
-    };
-    gate = refl;
-    callings = h.callings;
-    closing = h.closing;
-    sources = λ j. another j (source j) refl (h.sources j);
-    past = h.past;
-    owns = h.owns;
-    counts = h.counts;
-  }
-    where
-      another : (j : ℕ) (x : Source) → source j ≡ x → SourceShows u p.gate (p.now.stop j) (λ f. at (Slot j f)) j x → SourceShows u None (p.now.stop j)
-          (λ f. at (Slot j f)) j x
-      another j Shut e s = s
-      another j (Drafts work k) e s = let one : Some me ≡ Some j = sym holds ∙ s.holds in let same : me ≡ j = cc in absurd (idle work k (ap source same ∙ e))
-      another j (Owns work) e s = s
-      another j (Collects work) e s = s
+  gate_opened answer holds idle = search (h.sources, arith)

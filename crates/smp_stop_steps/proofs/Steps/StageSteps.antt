@@ -37,19 +37,7 @@ use Rattle.smp_words.specs.declared.word.Word.{Word}
 
 -- a nudge moves a count by one
 one_apart : (up : Bool) (n new : ℕ) → count_after (nudge_of up) n ≡ Some new → (new ≡ n + 1) ⊎ (n ≡ new + 1)
-one_apart true n new e = go (nat_lt n 65535) e
-  where
-    go : (b : Bool) → cond b (Some (n + 1)) None ≡ Some new → (new ≡ n + 1) ⊎ (n ≡ new + 1)
-    go true e = let same : n + 1 ≡ new = cc in inl (sym same)
-    go false e = cc
-one_apart false n new e = go (n == 0) refl e
-  where
-    go : (b : Bool) → (n == 0) ≡ b → cond b None (Some (n - 1)) ≡ Some new → (new ≡ n + 1) ⊎ (n ≡ new + 1)
-    go true z e = cc
-    go false z e =
-        let same : n - 1 ≡ new = cc in
-        let some : n ≢ 0 = λ none. let bad : true ≡ false = sym (eq-eqb n 0 none) ∙ z in cc in
-        inr (omega arith)
+one_apart up n new e = search (nat_lt, eq-eqb, arith)
 
 pub less_one : (n : ℕ) → 0 < n → n < 2 ^ 64 → one_less n ≡ n - 1
 less_one n some small = omega arith
@@ -66,11 +54,7 @@ module _ (u : Setup) (p : StopState) (at : Word → ℕ) (seat : ℕ → Seat) (
   gate_is_taken false e = h
 
   not_drafting : {y : Source} → OwnsIf c.is_open y → (work : Work) (k : ℕ) → y ≢ Drafts work k
-  not_drafting {y} o work k e = go c.is_open o
-    where
-      go : (b : Bool) → OwnsIf b y → ⊥
-      go true o = let bad : Owns o.0 ≡ Drafts work k = sym o.1 ∙ e in cc
-      go false o = let bad : Shut ≡ Drafts work k = sym o ∙ e in cc
+  not_drafting {y} o work k e = search (c.is_open, arith)
 
   pub take_gate : c.stage ≡ Some TakeGate → StopStep u p at seat source c me TakeGate
   take_gate e =

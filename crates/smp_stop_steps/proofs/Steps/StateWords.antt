@@ -35,13 +35,10 @@ abbrev pub ArePhases : (Word → ℕ) → Type 0
 ArePhases at = (s : ℕ) → at (Slot s field.State) ≤ 5
 
 either : (b : Bool) (n m : ℕ) → n ≤ 5 → m ≤ 5 → cond b n m ≤ 5
-either true n m l k = l
-either false n m l k = k
+either b n m l k = search arith
 
 first_small : (kind : Kind) → first_phase kind ≤ 5
-first_small One = omega arith
-first_small Multi = omega arith
-first_small Patch = omega arith
+first_small kind = search arith
 
 -- a store that is not to a state word
 
@@ -51,21 +48,10 @@ module _ (at : Word → ℕ) (h : ArePhases at) where
   gate_after false n = h
 
   label_after : (to : Place) (n : ℕ) → ArePhases (put_word at (label_word to) n)
-  label_after (place.Key k) n = λ s. h s
-  label_after (place.Site i) n = λ s. h s
+  label_after to n = search arith
 
   begun_after : (cpus me : ℕ) (work : Work) (f : Field) → ArePhases (put_word at (Slot me f) (begun_value cpus work f))
-  begun_after cpus me work field.Kind = λ s. h s
-  begun_after cpus me work field.Mask = λ s. h s
-  begun_after cpus me work field.Active = λ s. h s
-  begun_after cpus me work field.Func = λ s. h s
-  begun_after cpus me work field.Arg = λ s. h s
-  begun_after cpus me work field.State = λ s. either (s == me) (first_phase work.kind) (at (Slot s field.State)) (first_small work.kind) (h s)
-  begun_after cpus me work field.Ack = λ s. h s
-  begun_after cpus me work field.Roll = λ s. h s
-  begun_after cpus me work field.Todo = λ s. h s
-  begun_after cpus me work field.Result = λ s. h s
-  begun_after cpus me work field.Done = λ s. h s
+  begun_after cpus me work f = search (either, first_small, arith)
 
   completion_after : (v : Visit) (st : CompletionStage) → ArePhases (at_after at (completion_access v st))
   completion_after v (completion.LoadFunc answer) = h
@@ -79,12 +65,7 @@ module _ (u : Setup) (p : StopState) (at : Word → ℕ) (seat : ℕ → Seat) (
     (c : StopControlValue) (me : ℕ) where
   -- who sets the next phase has acknowledged this one, which is at most 4
   raised_small : (w : Visit) → SitsIn w w.acked Sets (seat me) → w.acked + 1 ≤ 5
-  raised_small w x =
-      let stands : Stands p.now me (In w.slot x.0 w.acked w.acked Sets) = subst (Stands p.now me) x.2 (v.present.stands me) in
-      let k : Keeps u.cpus (p.now.stop w.slot).phase me (Inside w.acked w.acked) = subst (Keeps u.cpus (p.now.stop w.slot).phase me) stands.1
-      ((v.present.slots w.slot).keeps me) in
-      let most : w.acked ≤ 4 = k.4 in
-      omega arith
+  raised_small w x = search (w.acked, v.present.stands, v.present.slots, arith)
 
   round_after : (w : Visit) (st : RoundStage) → SitsInRound u me c.changes w st (seat me) → ArePhases (at_after at (round_access u.cpus c.changes w st))
   round_after w (round.Look answer) x = h

@@ -30,13 +30,13 @@ use Rattle.smp_stop_steps.specs.State.{Calling, Idle, Calls, Carries}
 module _ (u : Setup) (p : StopState) (at : Word → ℕ) (seat : ℕ → Seat) (source : ℕ → Source) (h : StopShows u p at seat source) (c : StopControlValue) (me : ℕ)
     (s : Sits u me (at Gate) c (seat me) (source me)) (outside : c.stage ≡ None) where
   at_rest : SitsAtRest c.visit (seat me)
-  at_rest = subst (λ (st : Option StopStage). SitsAt u me c st (seat me)) outside s.seat
+  at_rest = search arith
 
   owns_if : OwnsIf c.is_open (source me)
   owns_if = subst (λ (st : Option StopStage). SourceSits c.is_open st (source me)) outside s.source
 
   in_visit : (v : Visit) → c.visit ≡ Some v → SitsIn v v.acked Rests (seat me)
-  in_visit v e = subst (λ x. SitsAtRest x (seat me)) e at_rest
+  in_visit v e = search arith
 
   -- the source after it, and what the words show then
   abbrev BegunShown : StopStage → Type 0
@@ -71,30 +71,7 @@ module _ (u : Setup) (p : StopState) (at : Word → ℕ) (seat : ℕ → Seat) (
 -- the CPU's function is where its first stage says
 begun_carries : (u : Setup) (c : StopControlValue) (me gate : ℕ) → c.stage ≡ None → (f : Calling) → CarriesIn c f → (stage : StopStage) →
     MayBegin u me gate c stage → CarriesIn (stop_goes c stage).control f
-begun_carries u c me gate outside f k stage m = go stage m
-  where
-    quiet : IsQuiet c.visit f
-    quiet = subst (λ (st : Option StopStage). CarriesAt c.visit st f) outside k
-
-    ends : (v : Visit) (g : Calling) → v.acked ≡ 4 → IsQuiet (Some v) g → IsEnding v g
-    ends v Idle four q = (four, q)
-    ends v (Calls call) four q = absurd q
-    ends v (Carries x) four q = q
-
-    go : (stage : StopStage) → MayBegin u me gate c stage → CarriesIn (stop_goes c stage).control f
-    go TakeGate m = quiet
-    go OpenGate m = quiet
-    go (Begin work Kind) m = quiet
-    go (Enter slot) m = quiet
-    go (Advance v (round.Look answer)) m = quiet
-    go (Complete v (completion.LoadFunc answer)) m = quiet
-    go (Complete v completion.StoreAnswer) m = ends v f m.1 (subst (λ x. IsQuiet x f) m.0 quiet)
-    go (Complete v completion.CountDown) m = ends v f m.1 (subst (λ x. IsQuiet x f) m.0 quiet)
-    go LoadDone m = quiet
-    go (ReadKey k) m = quiet
-    go (ReadSite i) m = quiet
-    go (NudgeKey k up) m = quiet
-    go _ m = absurd m
+begun_carries u c me gate outside f k stage m = search (k, arith)
 
 -- over a stop half
 pub begun_value_shown : (u : Setup) (p : StopState) (t : StopWords) (controls : List StopControlValue) → StopsShow u p t controls → (me : ℕ) → me < u.cpus →

@@ -22,24 +22,19 @@ use Rattle.smp_stop_steps.specs.declared.start.Terms.{Terms}
 
 -- no error: the test has passed
 pub passed : (b : Bool) (e : SmpError) → unless b e ≡ None → b ≡ true
-passed true e n = refl
-passed false e n = cc
+passed b e n = search arith
 
 pub both : (x y : Bool) → (x && y) ≡ true → (x ≡ true) × (y ≡ true)
-both true y e = (refl, e)
-both false y e = cc
+both x y e = search arith
 
 pub of_both : (x y : Bool) → x ≡ true → y ≡ true → (x && y) ≡ true
-of_both true y e f = f
-of_both false y e f = cc
+of_both x y e f = search arith
 
 pub not_true : (x : Bool) → not x ≡ true → x ≡ false
-not_true false e = refl
-not_true true e = cc
+not_true x e = search arith
 
 pub if_passed : (b : Bool) (x : Option SmpError) (e : SmpError) → cond b x (Some e) ≡ None → (b ≡ true) × (x ≡ None)
-if_passed true x e n = (refl, n)
-if_passed false x e n = cc
+if_passed b x e n = search arith
 
 pub ne_false : (m n : ℕ) → (m == n) ≡ false → m ≢ n
 ne_false m n e = grind (arith, nat_tests)
@@ -53,12 +48,10 @@ within mask online e c is = grind (arith, nat_tests, bit_at-lt online c, bit_at-
 
 -- and the other way round
 absorbed : (x y : Bool) → (x ≡ true → y ≡ true) → (x && y) ≡ x
-absorbed true y f = f refl
-absorbed false y f = refl
+absorbed x y f = search arith
 
 pub all_within : (mask online : ℕ) → ((c : ℕ) → has mask c ≡ true → has online c ≡ true) → bit_and mask online ≡ mask
-all_within mask online all =
-    same_members (bit_and mask online) mask (λ c. has_and mask online c ∙ absorbed (has mask c) (has online c) (all c))
+all_within mask online all = search (same_members, bit_and, has_and, absorbed, arith)
 
 -- the members of a mask are below it
 small : (n : ℕ) → n < 2 ^ n
@@ -102,20 +95,13 @@ some_outside mask online ne = go (search_below mask online mask)
 
 -- a mask of one CPU
 pub one_bit : (n c : ℕ) → has (2 ^ n) c ≡ (c == n)
-one_bit n c = elim (cases_eq c n) [
-  | inl same ↦ rw same (ap (λ b. b == 1) (bit_at-pow_same n) ∙ sym (eq-eqb n n refl))
-  | inr other ↦ ap (λ b. b == 1) (bit_at-pow_other n c other) ∙ sym (ne_eqb c n other)
-]
+one_bit n c = search (bit_at-pow_same, eq-eqb, bit_at-pow_other, ne_eqb, arith)
 
 pub not_one : (k : Kind) → is_one k ≡ false → k ≢ One
-not_one One e = cc
-not_one Multi e = λ z. cc
-not_one Patch e = λ z. cc
+not_one k e = search arith
 
 pub is_one_kind : (k : Kind) → is_one k ≡ true → k ≡ One
-is_one_kind One e = refl
-is_one_kind Multi e = cc
-is_one_kind Patch e = cc
+is_one_kind k e = search arith
 
 module _ (v : StopsValue) (cpu : ℕ) where
   abbrev u : Setup
@@ -126,24 +112,10 @@ module _ (v : StopsValue) (cpu : ℕ) where
 
   -- a work that fits is one that begin takes
   is_patch : (work : Work) → fits_patch t work ≡ true → IsPatchWork u work
-  is_patch work e =
-      let x = both ((work.mask == v.online && work.active == 2 ^ first_below v.online cpus) && nat_lt work.func v.labels.keys) (nat_lt work.arg 4) e in
-      let y = both (work.mask == v.online && work.active == 2 ^ first_below v.online cpus) (nat_lt work.func v.labels.keys) x.0 in
-      let z = both (work.mask == v.online) (work.active == 2 ^ first_below v.online cpus) y.0 in
-      let mask = is_same work.mask v.online z.0 in
-      let active = is_same work.active (2 ^ first_below v.online cpus) z.1 in
-      let small = ltb-true work.arg 4 x.1 in
-      record {
-        all = λ k. ap (λ m. has m k) mask;
-        first = λ k. ap (λ m. has m k) active ∙ one_bit (first_below v.online cpus) k;
-        key = ltb-true work.func v.labels.keys y.1;
-        change = omega arith;
-      }
+  is_patch work e = search (both, v.online, nat_lt, work.func, work.arg, is_same, work.mask, work.active, ltb-true, one_bit, v.labels.keys, arith)
 
   pub is_kind : (work : Work) (k : Kind) → fits_kind t work k ≡ true → IsOfKind u work k
-  is_kind work One e = is_same (mask_weight cpus work.mask) 1 e
-  is_kind work Multi e = tt
-  is_kind work Patch e = is_patch work e
+  is_kind work k e = search (is_same, is_patch, arith)
 
   -- and the other way round
   patch_fits : (work : Work) → IsPatchWork u work → fits_patch t work ≡ true
@@ -158,11 +130,7 @@ module _ (v : StopsValue) (cpu : ℕ) where
       (lt-ltb work.func v.labels.keys is.key)) (lt-ltb work.arg 4 (omega arith))
 
   kind_fits : (work : Work) (k : Kind) → IsOfKind u work k → fits_kind t work k ≡ true
-  kind_fits work One is = eq-eqb (mask_weight cpus work.mask) 1 is
-  kind_fits work Multi is = refl
-  kind_fits work Patch is = patch_fits work is
+  kind_fits work k is = search (eq-eqb, patch_fits, arith)
 
   pub work_fits : (work : Work) → mask_weight cpus work.mask ≢ 0 → IsOfKind u work work.kind → fits_work t work ≡ true
-  work_fits work some is =
-      of_both (not (mask_weight cpus work.mask == 0)) (fits_kind t work work.kind) (ap not (ne_eqb (mask_weight cpus work.mask) 0 some))
-      (kind_fits work work.kind is)
+  work_fits work some is = search (of_both, ne_eqb, kind_fits, work.kind, arith)

@@ -69,19 +69,13 @@ module _ (u : Setup) (p : StopState) (at : Word → ℕ) (seat : ℕ → Seat) (
 
   module _ (me : ℕ) where
     open_in : (s : ℕ) (work : Work) (a l : ℕ) (t : Turn) → seat me ≡ In s work a l t → (p.now.stop s).is_open ≡ true
-    open_in s work a l t is =
-        let st : Stands p.now me (In s work a l t) = subst (Stands p.now me) is (h.present.stands me) in
-        is_open_inside u.cpus (p.now.stop s) (λ f. at (Slot s f)) (h.present.slots s) me (Inside a l) st.1 refl
+    open_in s work a l t is = search (h.present.stands, is_open_inside, h.present.slots, arith)
 
     open_gives : (s : ℕ) (work : Work) (a v : ℕ) → seat me ≡ Gives s work a v → (p.now.stop s).is_open ≡ true
-    open_gives s work a v is =
-        let st : Stands p.now me (Gives s work a v) = subst (Stands p.now me) is (h.present.stands me) in
-        is_open_inside u.cpus (p.now.stop s) (λ f. at (Slot s f)) (h.present.slots s) me (Answering a v) st.1 refl
+    open_gives s work a v is = search (h.present.stands, is_open_inside, h.present.slots, arith)
 
     open_alters : (s : ℕ) (work : Work) (count : ℕ) (made rest : List Change) → seat me ≡ Alters s work count made rest → (p.now.stop s).is_open ≡ true
-    open_alters s work count made rest is =
-        let st : Stands p.now me (Alters s work count made rest) = subst (Stands p.now me) is (h.present.stands me) in
-        is_open_inside u.cpus (p.now.stop s) (λ f. at (Slot s f)) (h.present.slots s) me (Inside 2 3) st.1 refl
+    open_alters s work count made rest is = search (h.present.stands, is_open_inside, h.present.slots, arith)
 
     -- the slot that a CPU is in, and its work
     pub below_in : (s : ℕ) (work : Work) (a l : ℕ) (t : Turn) → seat me ≡ In s work a l t → s < cpus
@@ -100,11 +94,7 @@ module _ (u : Setup) (p : StopState) (at : Word → ℕ) (seat : ℕ → Seat) (
 
     -- the key of a patch is one of the table
     key_below : (s : ℕ) (work : Work) → (p.now.stop s).is_open ≡ true → (p.now.stop s).work ≡ work → work.kind ≡ Patch → work.func < MOST_KEYS
-    key_below s work op same kind =
-        let w = h.present.works s op (ap (λ (x : Work). x.kind) same ∙ kind) in
-        let k : (p.now.stop s).work.func < u.keys = w.key in
-        let e : (p.now.stop s).work.func ≡ work.func = ap (λ (x : Work). x.func) same in
-        let m = h.setup.few_keys in omega arith
+    key_below s work op same kind = search (h.present.works, arith)
 
     -- the changes of a patch
     sites_named : (key : ℕ) (on : Bool) (i : ℕ) (entries : List ℕ) → i + length entries ≤ MOST_SITES → AllByRecursion IsNamedChange
@@ -122,8 +112,7 @@ module _ (u : Setup) (p : StopState) (at : Word → ℕ) (seat : ℕ → Seat) (
     at_split (x ∷ before) change rest all = at_split before change rest all.1
 
     named_store : (change : Change) → IsNamedChange change → IsStopWord (word_of (store_of change))
-    named_store (place.Key k, n) h = h
-    named_store (place.Site i, n) h = h
+    named_store change h = search arith
 
     module _ (c : StopControlValue) (s : Sits u me (at Gate) c (seat me) (source me)) where
       me_below : me < cpus
@@ -170,76 +159,12 @@ module _ (u : Setup) (p : StopState) (at : Word → ℕ) (seat : ℕ → Seat) (
       round_named v (round.Raise ran) x = below_in v.slot x.0 v.acked v.acked Sets x.2
 
       completion_named : (v : Visit) (stage : CompletionStage) → SitsInCompletion v stage (seat me) → IsStopWord (word_of (completion_access v stage))
-      completion_named v (completion.LoadFunc answer) x = below_in v.slot x.1.0 v.acked v.acked Rests x.1.2
-      completion_named v (completion.LoadArg answer func) x = below_in v.slot x.1.0 v.acked v.acked Rests x.1.2
-      completion_named v completion.StoreAnswer x = below_in v.slot x.2.0 v.acked v.acked Rests x.2.2
-      completion_named v completion.CountDown x = ⊎_elim
-          (λ (y : (v.answer ≡ 0) × IsLoaded v x.0 × IsThroughAll v × (seat me ≡ In v.slot x.0 v.acked v.acked Rests)). below_in v.slot x.0 v.acked v.acked
-          Rests y.3)
-          (λ (y : seat me ≡ Gives v.slot x.0 v.acked v.answer). below_gives v.slot x.0 v.acked v.answer y) x.1
+      completion_named v stage x = search (below_in, v.acked, below_gives, arith)
 
       -- the word of the next access is in the table
       pub stage_named : (stage : StopStage) → c.stage ≡ Some stage → IsStopWord (word_of (stop_access u.cpus me c.changes stage))
-      stage_named TakeGate e = tt
-      stage_named OpenGate e = tt
-      stage_named (Begin work f) e = me_below
-      stage_named (Enter slot) e = let x = at_seat s (Enter slot) e in let low = x.2 in omega arith
-      stage_named (EnterKind slot) e = let x = at_seat s (EnterKind slot) e in below_in slot x.0 0 0 Rests x.1
-      stage_named (EnterMask slot kind) e = let x = at_seat s (EnterMask slot kind) e in below_in slot x.0 0 0 Rests x.1
-      stage_named (EnterActive slot kind mask) e = let x = at_seat s (EnterActive slot kind mask) e in below_in slot x.0 0 0 Rests x.1
-      stage_named (Advance v stage) e = round_named v stage (at_seat s (Advance v stage) e).1
-      stage_named (Complete v stage) e = completion_named v stage (at_seat s (Complete v stage) e).1
-      stage_named (Close slot) e =
-          let x = at_seat s (Close slot) e in
-          let st : Stands p.now me (Closes slot) = subst (Stands p.now me) x.1 (h.present.stands me) in
-          open_below slot st.1
-      stage_named LoadDone e = me_below
-      stage_named LoadResult e = me_below
-      stage_named (ReadKey k) e = let x = at_seat s (ReadKey k) e in let low = x.1 in let m = h.setup.few_keys in omega arith
-      stage_named (NudgeKey k up) e = let x = at_seat s (NudgeKey k up) e in let low = x.2 in let m = h.setup.few_keys in omega arith
-      stage_named (ExchangeKey k expected new) e = let x = at_seat s (ExchangeKey k expected new) e in let low = x.2 in let m = h.setup.few_keys in omega arith
-      stage_named (ReadSite i) e = let x = at_seat s (ReadSite i) e in let low = x.1 in let f = h.present.entries.few in omega arith
+      stage_named stage e = search (me_below, at_seat, below_in, round_named, completion_named, h.present.stands, open_below, arith)
 
       -- another CPU that holds the gate holds it after the step
       pub gate_stays : (stage : StopStage) → c.stage ≡ Some stage → (cpu : ℕ) → cpu ≢ me → at Gate ≡ cpu + 1 → at_then u at c me stage Gate ≡ cpu + 1
-      gate_stays TakeGate e cpu ne held = go (at Gate == 0) refl
-        where
-          go : (b : Bool) → (at Gate == 0) ≡ b → (put_if put_word at Gate (cond b (Some (me + 1)) None)) Gate ≡ cpu + 1
-          go true z = let zero_ = eqb_zero (at Gate) z in absurd (omega arith)
-            where
-              eqb_zero : (n : ℕ) → (n == 0) ≡ true → n ≡ 0
-              eqb_zero zero e = refl
-              eqb_zero (suc n) e = let bad : true ≡ false = sym e ∙ ne_eqb (suc n) 0 (λ z. omega arith) in cc
-          go false z = held
-      gate_stays OpenGate e cpu ne held =
-          let mine : at Gate ≡ me + 1 = subst (HoldsGate me (at Gate)) e s.gate_held in absurd (ne (omega arith))
-      gate_stays (Begin work f) e cpu ne held = held
-      gate_stays (Enter slot) e cpu ne held = held
-      gate_stays (EnterKind slot) e cpu ne held = held
-      gate_stays (EnterMask slot kind) e cpu ne held = held
-      gate_stays (EnterActive slot kind mask) e cpu ne held = held
-      gate_stays (Advance v (round.Look answer)) e cpu ne held = held
-      gate_stays (Advance v (round.LoadFunc answer)) e cpu ne held = held
-      gate_stays (Advance v (round.LoadArg answer func)) e cpu ne held = held
-      gate_stays (Advance v (round.LoadKey key change)) e cpu ne held = held
-      gate_stays (Advance v (round.LoadEntry key word site)) e cpu ne held = held
-      gate_stays (Advance v (round.StoreChange made)) e cpu ne held = other (change_at c.changes made)
-        where
-          other : (change : Change) → at_after at (store_of change) Gate ≡ cpu + 1
-          other (place.Key k, n) = held
-          other (place.Site i, n) = held
-      gate_stays (Advance v (round.Acknowledge answer ran)) e cpu ne held = held
-      gate_stays (Advance v (round.Refill ran)) e cpu ne held = held
-      gate_stays (Advance v (round.Raise ran)) e cpu ne held = held
-      gate_stays (Complete v (completion.LoadFunc answer)) e cpu ne held = held
-      gate_stays (Complete v (completion.LoadArg answer func)) e cpu ne held = held
-      gate_stays (Complete v completion.StoreAnswer) e cpu ne held = held
-      gate_stays (Complete v completion.CountDown) e cpu ne held = held
-      gate_stays (Close slot) e cpu ne held = held
-      gate_stays LoadDone e cpu ne held = held
-      gate_stays LoadResult e cpu ne held = held
-      gate_stays (ReadKey k) e cpu ne held = held
-      gate_stays (ReadSite i) e cpu ne held = held
-      gate_stays (NudgeKey k up) e cpu ne held = held
-      gate_stays (ExchangeKey k expected new) e cpu ne held =
-          elim (at (Key k) == expected) as (λ b. (put_if put_word at (Key k) (cond b (Some new) None)) Gate ≡ cpu + 1) [ true ↦ held | false ↦ held ]
+      gate_stays stage e cpu ne held = search (ne_eqb, arith)

@@ -53,10 +53,7 @@ first_is mask (suc k) = let i = first_is mask k in go (cases_eq (first_below mas
         (sym (ne_eqb (first_below mask k) k ne)) ((λ z. absurd (let s = (some ne).0 in omega arith)), λ _. (let s = (some ne).0 in (omega arith, (some ne).1)))
 
 first_online : (mask : ℕ) → ((c : ℕ) × (has mask c ≡ true)) → ((c : ℕ) → has mask c ≡ true → c < cpus) → has mask (first_below mask cpus) ≡ true
-first_online mask member below = elim (cases_eq (first_below mask cpus) cpus) [
-  | inl e ↦ absurd (let bad : true ≡ false = sym member.1 ∙ (first_is mask cpus).0 e member.0 (below member.0 member.1) in cc)
-  | inr ne ↦ ((first_is mask cpus).1 ne).1
-]
+first_online mask member below = search (first_is, arith)
 
 -- zeros behind a list are read as nothing there
 read_zeros : (xs : List ℕ) (n i : ℕ) → get_or (xs ++ replicate n 0) i 0 ≡ get_or xs i 0

@@ -52,18 +52,12 @@ use Rattle.smp_labels.specs.declared.words.TheConstants.{MOST_SITES}
 -- the controls by CPU, with one of them set
 pub stop_controls_by_cpu : (controls : List StopControlValue) (me cpu : ℕ) (x : StopControlValue) → me < length controls →
     stop_control_of (slice_set controls me x) cpu ≡ put (stop_control_of controls) me x cpu
-stop_controls_by_cpu controls me cpu x low = at_test cpu me (λ b. stop_control_of (slice_set controls me x) cpu ≡ cond b x (stop_control_of controls cpu))
-    (λ e. subst (λ j. stop_control_of (slice_set controls me x) j ≡ x) (sym e) (get_or-set_same controls me x stop_outside low))
-    (λ ne. get_or-set_other controls me cpu x stop_outside ne)
+stop_controls_by_cpu controls me cpu x low = search (at_test, get_or-set_same, get_or-set_other, arith)
 
 -- a CPU inside a command of the stop half is one that there can be
 pub stop_inside_below : (controls : List StopControlValue) (me : ℕ) (stage : StopStage) → (stop_control_of controls me).stage ≡ Some stage →
     me < length controls
-stop_inside_below controls me stage e = elim (cases_lt me (length controls)) [
-  | inl low ↦ low
-  | inr past ↦ absurd (let none : (stop_control_of controls me).stage ≡ None = ap (λ (c : StopControlValue). c.stage) (get_or_past controls me stop_outside
-      past) in let bad : Some stage ≡ None = sym e ∙ none in cc)
-]
+stop_inside_below controls me stage e = search (cases_lt, get_or_past, arith)
 
 -- the entry words of a label table have their form
 record HasEntries (t : Table) : Type 0 where
@@ -71,15 +65,7 @@ record HasEntries (t : Table) : Type 0 where
 
 -- no entry changes more than one site
 change_long : (key : ℕ) (on : Bool) (i : ℕ) (x : ℕ) → length (site_change key on i (entry_at x)) ≤ 1
-change_long key on i x = go (entry_at x)
-  where
-    go : (e : Option SiteEntry) → length (site_change key on i e) ≤ 1
-    go None = omega arith
-    go (Some e) = either (e.key == key) (place.Site i, kind_word_site (kind_of on e.branch))
-      where
-        either : (b : Bool) (change : Change) → length (cond b (change ∷ []) []) ≤ 1
-        either true change = omega arith
-        either false change = omega arith
+change_long key on i x = search arith
 
 changes_long : (key : ℕ) (on : Bool) (i : ℕ) (xs : List ℕ) → length (site_changes key on i xs) ≤ length xs
 changes_long key on i [] = omega arith
@@ -242,31 +228,4 @@ module _ (u : Setup) (few : u.cpus ≡ cpus) (p : StopState) (t : StopWords) (co
 
   -- the store of a patch that is made next is one of its changes
   pub stop_access_fits : FitsAccess c stage
-  stop_access_fits = go stage e
-    where
-      go : (st : StopStage) → c.stage ≡ Some st → FitsAccess c st
-      go TakeGate e = tt
-      go OpenGate e = tt
-      go (Begin work f) e = tt
-      go (Enter slot) e = tt
-      go (EnterKind slot) e = tt
-      go (EnterMask slot kind) e = tt
-      go (EnterActive slot kind mask) e = tt
-      go (Advance w (round.StoreChange made)) e = let x : SitsAt u me c (Some (Advance w (round.StoreChange made))) (v.seat me) =
-          subst (λ (y : Option StopStage). SitsAt u me c y (v.seat me)) e (v.sits me below).seat in x.1.4
-      go (Advance w (round.Look answer)) e = tt
-      go (Advance w (round.LoadFunc answer)) e = tt
-      go (Advance w (round.LoadArg answer func)) e = tt
-      go (Advance w (round.LoadKey key change)) e = tt
-      go (Advance w (round.LoadEntry key word site)) e = tt
-      go (Advance w (round.Acknowledge answer ran)) e = tt
-      go (Advance w (round.Refill ran)) e = tt
-      go (Advance w (round.Raise ran)) e = tt
-      go (Complete w st) e = tt
-      go (Close slot) e = tt
-      go LoadDone e = tt
-      go LoadResult e = tt
-      go (ReadKey k) e = tt
-      go (ReadSite i) e = tt
-      go (NudgeKey k up) e = tt
-      go (ExchangeKey k expected new) e = tt
+  stop_access_fits = search (v.seat, v.sits, below, arith)
