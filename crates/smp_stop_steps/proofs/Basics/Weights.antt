@@ -22,11 +22,7 @@ bit_is mask k = let low = bit_at-lt mask k in go (bit_at mask k) low
 -- the members of a mask below k are as many as the ones among its low k bits
 pub weight_ones : (k mask : ℕ) → mask_weight k mask ≡ ones (mask % 2 ^ k)
 unfolding sum_below
-weight_ones zero mask =
-    let e : mask % 1 ≡ 0 = omega arith in
-    let none = ones-le 0 0 (omega arith) in
-    let z : ones (mask % 1) ≡ ones 0 = ap ones e in
-    omega arith
+weight_ones zero mask = search (ones-le, arith)
 weight_ones (suc k) mask =
     let next : suc k ≡ 1 + k = omega arith in
     let low : mask % 2 ^ k < 2 ^ k = omega (arith, pow_pos k) in

@@ -82,11 +82,7 @@ module _ (u : Setup) (p : StopState) (at : Word → ℕ) (seat : ℕ → Seat) (
   in_round v (round.LoadArg answer func) x = (stands (In v.slot x.1.0 2 3 Rests) x.1.1.3).0
   in_round v (round.LoadKey key change) x = tt
   in_round v (round.LoadEntry key word site) x = tt
-  in_round v (round.StoreChange made) x = patched (change_at c.changes made)
-    where
-      patched : (y : Change) → May (store_of y)
-      patched (place.Key k, n) = tt
-      patched (place.Site i, n) = tt
+  in_round v (round.StoreChange made) x = search arith
   in_round v (round.Acknowledge answer ran) x = ⊎_elim
       (λ (y : (seat me ≡ In v.slot x.0 v.acked (v.acked + 1) Rests) × RunsIf me v ran). let st = stands (In v.slot x.0 v.acked (v.acked + 1) Rests) y.0 in
       (st.0, (v.acked, st.1, phase v.acked st.1)))
@@ -96,9 +92,7 @@ module _ (u : Setup) (p : StopState) (at : Word → ℕ) (seat : ℕ → Seat) (
       phase : (a : ℕ) → (p.now.stop v.slot).standing me ≡ Inside a (a + 1) → (p.now.stop v.slot).phase ≡ a + 1
       phase a is = ⊎_elim (λ (e : a + 1 ≡ a). absurd (let z : ⊥ = omega (arith, e) in z)) (λ (e : (a + 1 ≡ a + 1) × ((p.now.stop v.slot).phase ≡ a + 1)). e.1)
           (keeps_inside u.cpus (p.now.stop v.slot) (slot v.slot) (h.present.slots v.slot) me (Inside a (a + 1)) is).2
-  in_round v (round.Refill ran) x =
-      let st = stands (In v.slot x.0 v.acked v.acked Fills) x.2 in stored_open v.slot (mask_weight u.cpus v.mask) field.Ack (open_in v.slot x.0 v.acked
-      v.acked Fills x.2) (fills_me me (p.now.stop v.slot).raising st.2)
+  in_round v (round.Refill ran) x = search (stands, v.acked, stored_open, open_in, fills_me, arith)
   in_round v (round.Raise ran) x = stored_open v.slot (v.acked + 1) field.State (open_in v.slot x.0 v.acked v.acked Sets x.2) (raised v.slot x.0 v.acked x.2)
 
   in_completion : (v : Visit) (stage : CompletionStage) → SitsInCompletion v stage (seat me) → May (completion_access v stage)
@@ -106,19 +100,10 @@ module _ (u : Setup) (p : StopState) (at : Word → ℕ) (seat : ℕ → Seat) (
 
   at_stage : (stage : StopStage) → SitsAt u me c (Some stage) (seat me) → SourceSits c.is_open (Some stage) (source me) →
       HoldsGate me (at Gate) (Some stage) → May (stop_access u.cpus me c.changes stage)
-  at_stage TakeGate x y g = taken (at Gate == 0) refl
-    where
-      taken : (b : Bool) → (at Gate == 0) ≡ b → MaySee p me act.Cas Gate (Some (at Gate)) (cond b (Some (me + 1)) None)
-      taken true e = gate_free p.gate (sym h.gate ∙ eqb-true (at Gate) 0 e)
-      taken false e = tt
+  at_stage TakeGate x y g = search (gate_free, eqb-true, arith)
   at_stage OpenGate x y g = gate_mine me p.gate (sym h.gate ∙ g)
-  at_stage (Begin work f) x y g = let d : DraftShows u p.gate (p.now.stop me) (slot me) me work (order f) = source_is (Drafts work (order f)) y.1 in
-      stored_shut (begun_value u.cpus work f) f d.shut d.holds
-  at_stage (Enter j) x y g = λ found. (
-    subst (Stands p.now me) x.1 (h.present.stands me),
-    called_is ((p.now.stop j).standing me)
-        (sym ((h.present.slots j).roll me) ∙ found),
-  )
+  at_stage (Begin work f) x y g = search (source_is, stored_shut, arith)
+  at_stage (Enter j) x y g = search (h.present.stands, called_is, h.present.slots, arith)
   at_stage (EnterKind j) x y g = (stands (In j x.0 0 0 Rests) x.1).0
   at_stage (EnterMask j kind) x y g = (stands (In j x.0 0 0 Rests) x.1).0
   at_stage (EnterActive j kind mask) x y g = (stands (In j x.0 0 0 Rests) x.1).0
@@ -143,11 +128,7 @@ module _ (u : Setup) (p : StopState) (at : Word → ℕ) (seat : ℕ → Seat) (
   at_stage (ReadKey k) x y g = tt
   at_stage (ReadSite i) x y g = tt
   at_stage (NudgeKey k up) x y g = tt
-  at_stage (ExchangeKey k expected new) x y g = exchanged (at (Key k) == expected)
-    where
-      exchanged : (b : Bool) → MaySee p me act.Cas (Key k) (Some (at (Key k))) (cond b (Some new) None)
-      exchanged true = tt
-      exchanged false = tt
+  at_stage (ExchangeKey k expected new) x y g = search arith
 
   pub may_see : (stage : StopStage) → c.stage ≡ Some stage → May (stop_access u.cpus me c.changes stage)
   may_see stage e = search (at_stage, c.is_open, arith)

@@ -28,8 +28,7 @@ module _ (u : Setup) (p : Present) (at : Word → ℕ) (seat : ℕ → Seat) (h 
   pub owns_stores : (s me t k n : ℕ) (job : Work) (count : ℕ) (made rest : List Change) → seat me ≡ Alters t job count made rest →
       OwnsKey u.first p (λ j. at (Key j)) s →
       OwnsKey u.first p (λ j. put_word at (Key k) n (Key j)) s
-  owns_stores s me t k n job count made rest is own open_ kind in_ done =
-      search (h.stands, is_open_inside, h.slots, h.runner, h.works, mask_is, all_inside, h.homes, arith)
+  owns_stores s me t k n job count made rest is own open_ kind in_ done = search (is_open_inside, mask_is, all_inside, arith)
 
   -- at phase 4 the key stands so: with it the source's readings begin when it leaves
   pub owns_at_leave : (s : ℕ) → (p.stop s).is_open ≡ true → (p.stop s).work.kind ≡ Patch → is_inside ((p.stop s).standing s) ≡ true → 4 ≤ (p.stop s).phase →

@@ -78,8 +78,7 @@ module _ (cpus : ℕ) (stop : Stop) (word : Field → ℕ) (g : SlotShows cpus s
   -- it looked at a new state, which is then the phase, and it has not acknowledged that: fetch_sub of the count
   pub acknowledges_slot : (a : ℕ) → stop.standing me ≡ Inside a (a + 1) →
       SlotShows cpus (acknowledged stop me (a + 1) (word Ack)) (put_field word Ack (word Ack - 1))
-  acknowledges_slot a is =
-      search (keeps_inside, g.shows, is_open_inside, put_all, g.members, g.roll, g.keeps, acked_more, unfinished_inside, done_inside, result_inside, arith)
+  acknowledges_slot a is = search (keeps_inside, is_open_inside, put_all, acked_more, unfinished_inside, done_inside, result_inside, arith)
 
   -- whoever emptied the count fills it: store of the weight, which is that of the mask
   pub refills_slot : stop.raising ≡ Refills me → stop.is_open ≡ true → stop.phase ≢ 0 →

@@ -56,28 +56,12 @@ module _ (cpus : ℕ) (stop : Stop) (word : Field → ℕ) (g : SlotShows cpus s
   pub enters_slot : (n : ℕ) → has (word Roll) me ≡ true → has n me ≡ false → ((c : ℕ) → c ≢ me → has n c ≡ has (word Roll) c) →
       SlotShows cpus (stands stop me (Inside 0 0)) (put_field word Roll n)
   enters_slot n found here others =
-      search (
-        called_is,
-        g.roll,
-        g.shows,
-        is_open_inside,
-        keeps_inside,
-        put_all,
-        g.members,
-        g.keeps,
-        ack_kept,
-        not_raising,
-        unfinished_kept,
-        done_kept,
-        result_kept,
-        arith,
-      )
+      search (called_is, is_open_inside, keeps_inside, put_all, ack_kept, not_raising, unfinished_kept, done_kept, result_kept, arith)
 
   -- it looks at the state, which is the one that it acknowledged or the next
   pub looks_slot : (a l : ℕ) → stop.standing me ≡ Inside a l → a ≢ 4 → IsNot me stop.raising →
       SlotShows cpus (stands stop me (Inside a (word State))) word
-  looks_slot a l is more calm_ =
-      search (g.shows, is_open_inside, keeps_inside, put_all, g.members, g.roll, g.keeps, ack_kept, unfinished_kept, done_kept, result_kept, arith)
+  looks_slot a l is more calm_ = search (is_open_inside, keeps_inside, put_all, ack_kept, unfinished_kept, done_kept, result_kept, arith)
 
   -- an answer that is not 0 goes into the result word
   pub answers_slot : (a l v : ℕ) → stop.standing me ≡ Inside a l → v ≢ 0 → IsThrough stop me a →

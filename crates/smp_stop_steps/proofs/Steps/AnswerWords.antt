@@ -143,15 +143,13 @@ module _ (me : ℕ) (c : StopControlValue) (v : Visit) (found : ℕ) (h : HasI32
   called answer func fits b = search arith
 
   round_goes : (st : RoundStage) → AnswersFit (Advance v st) → AnswersGo (Advance v st) found (round_outcome me c v st found)
-  round_goes (round.Look answer) x = choose me c (Advance v (round.Look answer)) found h (found == v.acked) (stop_ends c note.Same)
-      (looked_on me c v answer found) (ends me c (Advance v (round.Look answer)) found h note.Same tt) (looked answer x.1)
+  round_goes (round.Look answer) x = search (choose, ends, looked, arith)
   round_goes (round.LoadFunc answer) x = goes me c (Advance v (round.LoadFunc answer)) found h (Advance v (round.LoadArg answer found)) x (inl refl)
   round_goes (round.LoadArg answer func) x = called answer func x.1 (is_multi v.kind)
   round_goes (round.LoadKey key change) x = keyed 0 (Advance v (round.LoadKey key change)) key (count_after change found)
   round_goes (round.LoadEntry key word site) x = entered (Advance v (round.LoadEntry key word site)) key word site
   round_goes (round.StoreChange made) x = stored (Advance v (round.StoreChange made)) made _
-  round_goes (round.Acknowledge answer ran) x = acked (Advance v (round.Acknowledge answer ran)) (visit_acked v answer ran)
-      (either ran answer v.answer x.1 small) ran
+  round_goes (round.Acknowledge answer ran) x = search (acked, either, arith)
   round_goes (round.Refill ran) x = goes me c (Advance v (round.Refill ran)) found h (Advance v (round.Raise ran)) x (inr refl)
   round_goes (round.Raise ran) x = turn_over (Advance v (round.Raise ran)) c.visit h.visit v.acked ran
 

@@ -127,22 +127,7 @@ module _ (u : Setup) (p : StopState) (at : Word → ℕ) (seat : ℕ → Seat) (
         seat me ≡ In s w a l Rests → may_call me w (Inside a l) ≡ true → f ≡ Idle → answer_at stage ≡ answer → note_then u at c me stage ≡ Some
         (note.Run w.func (at (Slot s field.Arg))) →
         ((call : StopCall) → call.answer ≡ answer → CarriesIn (control_then u at c me stage) (Calls call)) → Now stage
-    calls stage s w a l answer is_told is may idle answered says mine =
-        let st : Stands p.now me (In s w a l Rests) = subst (Stands p.now me) is (h.present.stands me) in
-        let call : StopCall = record { func = (p.now.stop s).work.func; arg = at (Slot s field.Arg); answer = answer } in
-        let after : told_of (state_after u p at c me stage) ≡ record (told_of p) { calling = put p.calling me (Calls call) } =
-        ap told_of (is_told ∙ called s w a l answer is may) in record {
-          mine = subst (λ (x : Told). CarriesIn (control_then u at c me stage) (x.calling me)) (sym after) (subst (CarriesIn (control_then u at c me stage))
-              (sym (put_same p.calling me (Calls call))) (mine call refl));
-          others = λ cpu ne. ap (λ (x : Told). x.calling cpu) after ∙ put_other p.calling me (Calls call) cpu ne;
-          goes = inr (inl record {
-            call = call;
-            idle = idle;
-            calls = after;
-            says = says ∙ ap (λ (x : Work). Some (note.Run x.func (at (Slot s field.Arg)))) (sym st.3);
-            answers = sym answered;
-          });
-        }
+    calls stage s w a l answer is_told is may idle answered says mine = search (h.present.stands, stage, called, put_same, put_other, arith)
 
     load_arg : (answer func : ℕ) → c.stage ≡ Some (Advance v (round.LoadArg answer func)) → Now (Advance v (round.LoadArg answer func))
     load_arg answer func e =
@@ -411,53 +396,13 @@ module _ (u : Setup) (p : StopState) (at : Word → ℕ) (seat : ℕ → Seat) (
   turn_silent p ran = search arith
 
   pub call_step : (stage : StopStage) → c.stage ≡ Some stage → Now stage
-  call_step TakeGate e = plain TakeGate (gate_calling p me (me + 1) (at Gate == 0))
-      (elim (at Gate == 0) as (λ b. is_run (Some (cond b note.Gate note.Taken)) ≡ false) [ true ↦ refl | false ↦ refl ]) (at_stage TakeGate e)
+  call_step TakeGate e = search (plain, gate_calling, at_stage, arith)
   call_step OpenGate e = plain OpenGate refl refl (at_stage OpenGate e)
-  call_step (Begin work g) e = plain (Begin work g) (store_calling p me me (begun_value u.cpus work g) g (p.now.stop me).is_open) (silent g) (next g)
-    where
-      q : IsQuiet c.visit f
-      q = at_stage (Begin work g) e
-
-      silent : (g : Field) → is_run (begun_next c work g).note ≡ false
-      silent field.Kind = refl
-      silent field.Mask = refl
-      silent field.Active = refl
-      silent field.Func = refl
-      silent field.Arg = refl
-      silent field.Result = refl
-      silent field.Todo = refl
-      silent field.Done = refl
-      silent field.Ack = refl
-      silent field.State = refl
-      silent field.Roll = refl
-
-      next : (g : Field) → CarriesIn (begun_next c work g).control f
-      next field.Kind = q
-      next field.Mask = q
-      next field.Active = q
-      next field.Func = q
-      next field.Arg = q
-      next field.Result = q
-      next field.Todo = q
-      next field.Done = q
-      next field.Ack = q
-      next field.State = q
-      next field.Roll = q
-  call_step (Enter slot) e =
-      let x = at_seat s (Enter slot) e in
-      let q : IsQuiet c.visit f = at_stage (Enter slot) e in
-      plain (Enter slot) (either_calling p (record p { now = enters p.now me slot }) (has (at (Slot slot field.Roll)) me) refl)
-      (elim (has (at (Slot slot field.Roll)) me) as (λ b. is_run (cond b (stop_goes c (EnterKind slot)) (stop_ends c note.Stale)).note ≡ false)
-      [ true ↦ refl | false ↦ refl ]) (elim (has (at (Slot slot field.Roll)) me) as
-      (λ b. CarriesIn (cond b (stop_goes c (EnterKind slot)) (stop_ends c note.Stale)).control f) [
-        | true ↦ quiet_none f (subst (λ y. IsQuiet y f) x.0 q)
-        | false ↦ q
-      ])
+  call_step (Begin work g) e = search (plain, store_calling, c.visit, at_stage, arith)
+  call_step (Enter slot) e = search (at_seat, c.visit, at_stage, plain, either_calling, quiet_none, arith)
   call_step (EnterKind slot) e = plain (EnterKind slot) refl refl (at_stage (EnterKind slot) e)
   call_step (EnterMask slot kind) e = plain (EnterMask slot kind) refl refl (at_stage (EnterMask slot kind) e)
-  call_step (EnterActive slot kind mask) e = plain (EnterActive slot kind mask) refl refl
-      (subst (IsQuiet (Some (visit_of slot kind mask (at (Slot slot field.Active))))) (sym (at_stage (EnterActive slot kind mask) e)) refl)
+  call_step (EnterActive slot kind mask) e = search (plain, at_stage, arith)
   call_step (Advance v (round.Look answer)) e = look v answer e
   call_step (Advance v (round.LoadFunc answer)) e = plain (Advance v (round.LoadFunc answer)) refl refl (at_stage (Advance v (round.LoadFunc answer)) e)
   call_step (Advance v (round.LoadArg answer func)) e = load_arg v answer func e
@@ -465,26 +410,18 @@ module _ (u : Setup) (p : StopState) (at : Word → ℕ) (seat : ℕ → Seat) (
   call_step (Advance v (round.LoadEntry key word site)) e = load_entry v key word site e
   call_step (Advance v (round.StoreChange made)) e = store_change v made e
   call_step (Advance v (round.Acknowledge answer ran)) e = acknowledge v answer ran e
-  call_step (Advance v (round.Refill ran)) e = plain (Advance v (round.Refill ran)) (store_calling p me v.slot (mask_weight u.cpus v.mask) field.Ack
-      (p.now.stop v.slot).is_open) refl (at_stage (Advance v (round.Refill ran)) e)
-  call_step (Advance v (round.Raise ran)) e = plain (Advance v (round.Raise ran)) (store_calling p me v.slot (v.acked + 1) field.State
-      (p.now.stop v.slot).is_open) (turn_silent v.acked ran) (at_stage (Advance v (round.Raise ran)) e)
-  call_step (Complete v (completion.LoadFunc answer)) e = plain (Complete v (completion.LoadFunc answer)) refl refl
-      (at_stage (Complete v (completion.LoadFunc answer)) e)
+  call_step (Advance v (round.Refill ran)) e = search (plain, store_calling, at_stage, arith)
+  call_step (Advance v (round.Raise ran)) e = search (plain, store_calling, turn_silent, v.acked, at_stage, arith)
+  call_step (Complete v (completion.LoadFunc answer)) e = search (plain, at_stage, arith)
   call_step (Complete v (completion.LoadArg answer func)) e = one_arg v answer func e
-  call_step (Complete v completion.StoreAnswer) e = plain (Complete v completion.StoreAnswer) (store_calling p me v.slot v.answer field.Result
-      (p.now.stop v.slot).is_open) refl (at_stage (Complete v completion.StoreAnswer) e)
+  call_step (Complete v completion.StoreAnswer) e = search (plain, store_calling, at_stage, arith)
   call_step (Complete v completion.CountDown) e = count_down v e
   call_step (Close slot) e = plain (Close slot) (store_calling p me slot 1 field.Done (p.now.stop slot).is_open) refl (at_stage (Close slot) e)
-  call_step LoadDone e = plain LoadDone refl (elim (at (Slot me field.Done) == 0) as
-      (λ b. is_run (cond b (stop_ends c note.Pending) (stop_goes c LoadResult)).note ≡ false) [ true ↦ refl | false ↦ refl ])
-      (elim (at (Slot me field.Done) == 0) as (λ b. CarriesIn (cond b (stop_ends c note.Pending) (stop_goes c LoadResult)).control f)
-      [ true ↦ at_stage LoadDone e | false ↦ at_stage LoadDone e ])
+  call_step LoadDone e = search (plain, at_stage, arith)
   call_step LoadResult e = plain LoadResult refl refl (at_stage LoadResult e)
   call_step (ReadKey k) e = plain (ReadKey k) refl (elim (is_on (at (Key k))) as (λ b. is_run (Some (cond b note.On note.Off)) ≡ false)
       [ true ↦ refl | false ↦ refl ]) (at_stage (ReadKey k) e)
-  call_step (ReadSite i) e = plain (ReadSite i) refl (elim (is_on (at (Site i))) as (λ b. is_run (Some (cond b note.Jmp note.Nop)) ≡ false)
-      [ true ↦ refl | false ↦ refl ]) (at_stage (ReadSite i) e)
+  call_step (ReadSite i) e = search (plain, at_stage, arith)
   call_step (NudgeKey k up) e = plain (NudgeKey k up) refl (silent (count_after (nudge_of up) (at (Key k)))) (nudged (count_after (nudge_of up) (at (Key k))))
     where
       q : IsQuiet c.visit f

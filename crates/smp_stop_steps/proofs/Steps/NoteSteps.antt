@@ -334,8 +334,7 @@ module _ (u : Setup) (p : StopState) (at : Word → ℕ) (seat : ℕ → Seat) (
                 readings = put p.now.readings me (first_readings me v.slot w);
               }) (sym (ap (λ (x : Stop). x.work) acked_here));
             }
-        acked_fits false false one four =
-            acked_turn ran refl (λ is_four. let bad : true ≡ false = sym (eq-eqb phase 4 is_four) ∙ four in cc)
+        acked_fits false false one four = search (acked_turn, eq-eqb, arith)
 
         ack_fits : Fits (Advance v (round.Acknowledge answer ran))
         ack_fits = search (st, acked_fits, arith)
@@ -396,12 +395,9 @@ module _ (u : Setup) (p : StopState) (at : Word → ℕ) (seat : ℕ → Seat) (
                 readings = put p.now.readings me (first_readings me v.slot w);
               }) (sym (ap (λ (x : Stop). x.work) raised_here));
             }
-        raised_fits true false four five =
-            let is_four : v.acked ≡ 4 = eqb-true v.acked 4 four in let bad : true ≡ false = sym (eq-eqb (v.acked + 1) 5 (omega arith)) ∙ five in cc
-        raised_fits false true four five =
-            let is_five : v.acked + 1 ≡ 5 = eqb-true (v.acked + 1) 5 five in let bad : true ≡ false = sym (eq-eqb v.acked 4 (omega arith)) ∙ four in cc
-        raised_fits false false four five =
-            raised_turn ran refl (λ is_four. let bad : true ≡ false = sym (eq-eqb v.acked 4 is_four) ∙ four in cc)
+        raised_fits true false four five = search (eqb-true, v.acked, eq-eqb, arith)
+        raised_fits false true four five = search (eqb-true, eq-eqb, v.acked, arith)
+        raised_fits false false four five = search (raised_turn, eq-eqb, v.acked, arith)
 
       raise : c.stage ≡ Some (Advance v (round.Raise ran)) → Fits (Advance v (round.Raise ran))
       raise e = search (seat_at, stands, v.acked, is_open_inside, h.present.slots, raised_fits, arith)
@@ -533,50 +529,28 @@ module _ (u : Setup) (p : StopState) (at : Word → ℕ) (seat : ℕ → Seat) (
 
   pub note_fits : (stage : StopStage) → c.stage ≡ Some stage → Fits stage
   note_fits TakeGate e = gated
-  note_fits OpenGate e = (gate_mine me p.gate (sym h.gate ∙ held), refl)
-    where
-      held : at Gate ≡ me + 1
-      held = subst (HoldsGate me (at Gate)) e s.gate_held
+  note_fits OpenGate e = search (gate_mine, arith)
   note_fits (Begin work f) e = begun work f e
   note_fits (Enter slot) e = entering slot e
   note_fits (EnterKind slot) e = (inl refl, same_still p me)
   note_fits (EnterMask slot kind) e = (inl refl, same_still p me)
-  note_fits (EnterActive slot kind mask) e =
-      let x = seat_at (EnterActive slot kind mask) e in
-      let st = stands (In slot x.0 0 0 Rests) x.1 in
-      (record { slot = slot; inside = st.0; stands = st.1 }, refl)
+  note_fits (EnterActive slot kind mask) e = search (seat_at, stands, arith)
   note_fits (Advance v (round.Look answer)) e = looked v answer e
   note_fits (Advance v (round.LoadFunc answer)) e = (inl refl, same_still p me)
   note_fits (Advance v (round.LoadArg answer func)) e = arg v answer func e
   note_fits (Advance v (round.LoadKey key change)) e = load_key v key change e
   note_fits (Advance v (round.LoadEntry key word site)) e = (inl refl, same_still p me)
-  note_fits (Advance v (round.StoreChange made)) e =
-      (inl (patch_heard u p at me (change_at c.changes made)), patch_still u p at me (change_at c.changes made))
+  note_fits (Advance v (round.StoreChange made)) e = search (patch_heard, patch_still, arith)
   note_fits (Advance v (round.Acknowledge answer ran)) e = acknowledge v answer ran e
-  note_fits (Advance v (round.Refill ran)) e = (
-    inl (ack_heard p me v.slot (mask_weight u.cpus v.mask) (p.now.stop v.slot).is_open),
-    ack_still p me v.slot (mask_weight u.cpus v.mask) (p.now.stop v.slot).is_open,
-  )
+  note_fits (Advance v (round.Refill ran)) e = search (ack_heard, ack_still, arith)
   note_fits (Advance v (round.Raise ran)) e = raise v ran e
   note_fits (Complete v (completion.LoadFunc answer)) e = (inl refl, same_still p me)
-  note_fits (Complete v (completion.LoadArg answer func)) e = (
-    run_called p (state_after u p at c me (Complete v (completion.LoadArg answer func))) me func (at (Slot v.slot field.Arg)) answer
-        (goes (Complete v (completion.LoadArg answer func)) e),
-    arg_heard v v.slot answer,
-  )
-  note_fits (Complete v completion.StoreAnswer) e = (
-    inl (result_heard p me v.slot v.answer (p.now.stop v.slot).is_open),
-    result_still p me v.slot v.answer (p.now.stop v.slot).is_open,
-  )
+  note_fits (Complete v (completion.LoadArg answer func)) e = search (run_called, goes, arg_heard, arith)
+  note_fits (Complete v completion.StoreAnswer) e = search (result_heard, result_still, arith)
   note_fits (Complete v completion.CountDown) e = count_down v e
   note_fits (Close slot) e = close slot e
   note_fits LoadDone e = load_done e
-  note_fits LoadResult e = record {
-    found = at (Slot me field.Result);
-    collected = refl;
-    shut = ap (λ (x : Stop). x.is_open) (put_same p.now.stop me (closed (p.now.stop me)));
-    as_i32 = refl;
-  }
+  note_fits LoadResult e = search (put_same, arith)
   note_fits (ReadsKey key) e = read_key key e
   note_fits (ReadsSite site) e = read_site site
   note_fits (NudgeKey key up) e = nudge key up e

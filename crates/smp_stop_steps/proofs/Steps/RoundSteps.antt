@@ -52,18 +52,13 @@ ack_small n m few most = omega arith
 
 pub change_here : (before : List Change) (change : Change) (rest : List Change) → change_at (before ++ change ∷ rest) (length before) ≡ change
 change_here [] change rest = refl
-change_here (x ∷ before) change rest =
-    ap (λ b. cond b x (change_at (before ++ change ∷ rest) (suc (length before) - 1))) (ne_eqb (suc (length before)) 0 (λ z. omega arith))
-    ∙ (ap (λ n. change_at (before ++ change ∷ rest) n) (let e : suc (length before) - 1 ≡ length before = omega arith in e) ∙ change_here before change rest)
+change_here (x ∷ before) change rest = search (change_here before change rest, ne_eqb, arith)
 
 -- the changes of one entry more
 changes-push : (key : ℕ) (on : Bool) (i : ℕ) (xs : List ℕ) (x : ℕ) → site_changes key on i (xs ++ x ∷ []) ≡ site_changes key on i xs ++ site_change key on
     (i + length xs) (entry_at x)
 changes-push key on i [] x = append-nil (site_change key on i (entry_at x)) ∙ ap (λ n. site_change key on n (entry_at x)) (let e : i ≡ i + 0 = omega arith in e)
-changes-push key on i (y ∷ xs) x =
-    ap (λ l. site_change key on i (entry_at y) ++ l) (changes-push key on (i + 1) xs x ∙ ap (λ n. site_changes key on (i + 1) xs ++ site_change key on n
-    (entry_at x)) (let e : i + 1 + length xs ≡ i + suc (length xs) = omega arith in e))
-    ∙ sym (append_assoc (site_change key on i (entry_at y)) (site_changes key on (i + 1) xs) (site_change key on (i + suc (length xs)) (entry_at x)))
+changes-push key on i (y ∷ xs) x = search (changes-push key on (i + 1) xs x, append_assoc, arith)
 
 module _ (u : Setup) (p : StopState) (at : Word → ℕ) (seat : ℕ → Seat) (source : ℕ → Source) (h : StopShows u p at seat source) (c : StopControlValue) (me : ℕ)
     (s : Sits u me (at Gate) c (seat me) (source me)) (v : Visit) where

@@ -283,8 +283,7 @@ module _ (u : Setup) (p : StopState) (at : Word → ℕ) (seat : ℕ → Seat) (
     -- the function of a CPU that patches nothing, once the phase is acknowledged
     acked_calling : (b : Bool) → (a + 1 == 3) ≡ b → seat me ≡ In s job a (a + 1) Rests → job.kind ≢ One → (a ≡ 2 → HasCalled me job (p.calling me)) →
         (c : ℕ) → IsCalling c (put seat me next c) (cond b (put p.calling me (carried me p.now.patching (p.calling me))) p.calling c)
-    acked_calling b e is many ready =
-        search (calling_same, h.callings, calling_acked, eq-eqb, eqb-true, carried_alone, IsNoPatch, calling_ran, calling_next, arith)
+    acked_calling b e is many ready = search (calling_same, calling_acked, eq-eqb, eqb-true, carried_alone, IsNoPatch, calling_ran, calling_next, arith)
 
     -- fetch_sub of the count, by a CPU that has looked at a new phase and runs no patch
     pub ack_subtracted : seat me ≡ In s job a (a + 1) Rests → (a ≡ 2 → HasCalled me job (p.calling me)) →

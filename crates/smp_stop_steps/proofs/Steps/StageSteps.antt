@@ -103,85 +103,22 @@ module _ (u : Setup) (p : StopState) (at : Word → ℕ) (seat : ℕ → Seat) (
       )
 
   pub begin_step : (work : Work) (f : Field) → c.stage ≡ Some (Begin work f) → StopStep u p at seat source c me (Begin work f)
-  begin_step work Kind e = let d = drafts_step work Kind Mask e (omega arith) refl in record {
-    seat_after = seat me;
-    source_after = Drafts work 1;
-    shows =
-        d.0;
-    sits = d.1;
-  }
-  begin_step work Mask e = let d = drafts_step work Mask Active e (omega arith) refl in record {
-    seat_after = seat me;
-    source_after = Drafts work 2;
-    shows =
-        d.0;
-    sits = d.1;
-  }
-  begin_step work Active e = let d = drafts_step work Active Func e (omega arith) refl in record {
-    seat_after = seat me;
-    source_after =
-        Drafts work 3;
-    shows = d.0;
-    sits = d.1;
-  }
-  begin_step work Func e = let d = drafts_step work Func Arg e (omega arith) refl in record {
-    seat_after = seat me;
-    source_after = Drafts work 4;
-    shows =
-        d.0;
-    sits = d.1;
-  }
-  begin_step work Arg e = let d = drafts_step work Arg Result e (omega arith) refl in record {
-    seat_after = seat me;
-    source_after = Drafts work 5;
-    shows =
-        d.0;
-    sits = d.1;
-  }
-  begin_step work Result e = let d = drafts_step work Result Todo e (omega arith) refl in record {
-    seat_after = seat me;
-    source_after =
-        Drafts work 6;
-    shows = d.0;
-    sits = d.1;
-  }
-  begin_step work Todo e = let d = drafts_step work Todo Done e (omega arith) refl in record {
-    seat_after = seat me;
-    source_after = Drafts work 7;
-    shows =
-        d.0;
-    sits = d.1;
-  }
-  begin_step work Done e = let d = drafts_step work Done Ack e (omega arith) refl in record {
-    seat_after = seat me;
-    source_after = Drafts work 8;
-    shows =
-        d.0;
-    sits = d.1;
-  }
-  begin_step work Ack e = let d = drafts_step work Ack State e (omega arith) refl in record {
-    seat_after = seat me;
-    source_after = Drafts work 9;
-    shows =
-        d.0;
-    sits = d.1;
-  }
-  begin_step work State e = let d = drafts_step work State Roll e (omega arith) refl in record {
-    seat_after = seat me;
-    source_after = Drafts work 10;
-    shows = d.0;
-    sits = d.1;
-  }
+  begin_step work Kind e = let d = drafts_step work Kind Mask e (omega arith) refl in search (d, arith)
+  begin_step work Mask e = let d = drafts_step work Mask Active e (omega arith) refl in search (d, arith)
+  begin_step work Active e = let d = drafts_step work Active Func e (omega arith) refl in search (d, arith)
+  begin_step work Func e = let d = drafts_step work Func Arg e (omega arith) refl in search (d, arith)
+  begin_step work Arg e = let d = drafts_step work Arg Result e (omega arith) refl in search (d, arith)
+  begin_step work Result e = let d = drafts_step work Result Todo e (omega arith) refl in search (d, arith)
+  begin_step work Todo e = let d = drafts_step work Todo Done e (omega arith) refl in search (d, arith)
+  begin_step work Done e = let d = drafts_step work Done Ack e (omega arith) refl in search (d, arith)
+  begin_step work Ack e = let d = drafts_step work Ack State e (omega arith) refl in search (d, arith)
+  begin_step work State e = let d = drafts_step work State Roll e (omega arith) refl in search (d, arith)
   begin_step work Roll e =
       let y = begins_source work Roll e in
-      record {
-        seat_after = seat me;
-        source_after = Owns work;
-        shows = moved_source u seat source me (state_after u p at c me (Begin work Roll)) (at_then u at c me (Begin work Roll)) (Owns work)
-            (roll_stored u p at seat source h
-            me work 0 y.1);
-        sits = record { below = s.below; irq = s.irq; seat = begins_seat work Roll e; source = (work, refl); gate_held = tt };
-      }
+      let shows = moved_source u seat source me (state_after u p at c me (Begin work Roll)) (at_then u at c me (Begin work Roll)) (Owns work)
+      (roll_stored u p at seat source h me work 0 y.1) in
+      let rest = begins_seat work Roll e in
+      search (shows, rest, arith)
 
   -- a step that only loads
   nothing : (stage next : Option StopStage) (c' : StopControlValue) → c'.interrupts ≡ c.interrupts → SitsAt u me c' c'.stage (seat me) →

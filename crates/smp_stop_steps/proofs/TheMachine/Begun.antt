@@ -49,14 +49,7 @@ module _ (u : Setup) (p : StopState) (at : Word → ℕ) (seat : ℕ → Seat) (
   pub begun_shown : (stage : StopStage) → MayBegin u me (at Gate) c stage → BegunShown stage
   begun_shown TakeGate m = begun_same TakeGate (search (at_rest, owns_if, arith))
   begun_shown OpenGate m = begun_same OpenGate (search (at_rest, owns_if, arith))
-  begun_shown (Begin work Kind) m =
-      let closed_ : source me ≡ Shut = subst (λ b. OwnsIf b (source me)) m.1 owns_if in
-      let shut : (p.now.stop me).is_open ≡ false = subst (SourceShows u p.gate (p.now.stop me) (λ f. at (Slot me f)) me) closed_ (h.sources me) in
-      let sources' = put_all (λ j x. SourceShows u p.gate (p.now.stop j) (λ f. at (Slot j f)) j x) source me (Drafts work 0) (search (gate_mine, arith)) (λ j _. h.sources j) in (
-        Drafts work 0,
-        search (sources', arith),
-        search (at_rest, arith),
-      )
+  begun_shown (Begin work Kind) m = search (owns_if, h.sources, put_all, gate_mine, at_rest, arith)
   begun_shown (Enter slot) m = begun_same (Enter slot) (search (at_rest, owns_if, arith))
   begun_shown (Advance v (round.Look answer)) m = begun_same (Advance v (round.Look answer)) (search (in_visit, owns_if, arith))
   begun_shown (Complete v (completion.LoadFunc answer)) m = begun_same (Complete v (completion.LoadFunc answer)) (search (in_visit, owns_if, arith))

@@ -100,12 +100,7 @@ module _ (u : Setup) (p : StopState) (at : Word → ℕ) (seat : ℕ → Seat) (
     sites_named : (key : ℕ) (on : Bool) (i : ℕ) (entries : List ℕ) → i + length entries ≤ MOST_SITES → AllByRecursion IsNamedChange
         (site_changes key on i entries)
     sites_named key on i [] fits = tt
-    sites_named key on i (x ∷ rest) fits = joined (entry_at x) (site_changes key on (i + 1) rest) (sites_named key on (i + 1) rest (omega arith))
-      where
-        joined : (e : Option SiteEntry) (xs : List Change) → AllByRecursion IsNamedChange xs → AllByRecursion IsNamedChange (site_change key on i e ++ xs)
-        joined None xs all = all
-        joined (Some e) xs all = elim (e.key == key) as (λ b. AllByRecursion IsNamedChange (cond b ((place.Site i, kind_word_site (kind_of on e.branch)) ∷
-            []) [] ++ xs)) [ true ↦ ((let z : i < MOST_SITES = omega arith in z), all) | false ↦ all ]
+    sites_named key on i (x ∷ rest) fits = search (sites_named key on (i + 1) rest (omega arith), arith)
 
     at_split : (before : List Change) (change : Change) (rest : List Change) → AllByRecursion IsNamedChange (before ++ change ∷ rest) → IsNamedChange change
     at_split [] change rest all = all.0
@@ -123,11 +118,7 @@ module _ (u : Setup) (p : StopState) (at : Word → ℕ) (seat : ℕ → Seat) (
       round_named v (round.Look answer) x = below_in v.slot x.2.0 v.acked v.acked Rests x.2.2
       round_named v (round.LoadFunc answer) x = below_in v.slot x.1.0 2 3 Rests x.1.1.3
       round_named v (round.LoadArg answer func) x = below_in v.slot x.1.0 2 3 Rests x.1.1.3
-      round_named v (round.LoadKey key change) x =
-          let work = x.1.0 in
-          let run = x.1.1 in
-          let st : Stands p.now me (In v.slot work 2 3 Rests) = subst (Stands p.now me) run.3 (h.present.stands me) in
-          subst (λ k. k < MOST_KEYS) (sym x.1.2) (key_below v.slot work (open_in v.slot work 2 3 Rests run.3) st.3 (sym run.0.kind ∙ x.0))
+      round_named v (round.LoadKey key change) x = search (h.present.stands, key_below, open_in, arith)
       round_named v (round.LoadEntry key word site) x = x.3
       round_named v (round.StoreChange made) x = go x.0 x.1 x.4 x.5 x.6.0 x.6.1 x.6.2 x.6.3 x.6.4
         where
@@ -151,10 +142,7 @@ module _ (u : Setup) (p : StopState) (at : Word → ℕ) (seat : ℕ → Seat) (
               plan_named work key word true b = tt
               plan_named work key word false true = (key, sites_named work.func (is_on word) 0 u.entries (let f = h.present.entries.few in omega arith))
               plan_named work key word false false = (key, tt)
-      round_named v (round.Acknowledge answer ran) x = ⊎_elim
-          (λ (y : (seat me ≡ In v.slot x.0 v.acked (v.acked + 1) Rests) × RunsIf me v ran). below_in v.slot x.0 v.acked (v.acked + 1) Rests y.0)
-          (λ (y : (v.acked ≡ 2) × (ran ≡ true) × ((count : ℕ) × (answer ≡ patch_answer x.0 count) × (seat me ≡ Alters v.slot x.0 count (plan_at u x.0 count)
-          []))). below_alters v.slot x.0 y.2.0 (plan_at u x.0 y.2.0) [] y.2.2) x.3
+      round_named v (round.Acknowledge answer ran) x = search (v.acked, below_in, below_alters, arith)
       round_named v (round.Refill ran) x = below_in v.slot x.0 v.acked v.acked Fills x.2
       round_named v (round.Raise ran) x = below_in v.slot x.0 v.acked v.acked Sets x.2
 

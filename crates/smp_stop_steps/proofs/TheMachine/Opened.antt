@@ -27,30 +27,7 @@ pub first_is : (mask k : ℕ) → (first_below mask k ≡ k → (c : ℕ) → c 
     (has mask (first_below mask k) ≡ true))
 unfolding first_below
 first_is mask zero = (λ _ c low. absurd (omega arith), λ ne. absurd (ne refl))
-first_is mask (suc k) = let i = first_is mask k in go (cases_eq (first_below mask k) k) i.0 i.1
-  where
-    go : (first_below mask k ≡ k) ⊎ (first_below mask k ≢ k) → (first_below mask k ≡ k → (c : ℕ) → c < k → has mask c ≡ false) → (first_below mask k ≢ k →
-        (first_below mask k < k) × (has mask (first_below mask k) ≡ true)) →
-        (cond (first_below mask k == k) (cond (has mask k) k (suc k)) (first_below mask k) ≡ suc k → (c : ℕ) → c < suc k → has mask c ≡ false) ×
-        (cond (first_below mask k == k) (cond (has mask k) k (suc k)) (first_below mask k) ≢ suc k →
-        (cond (first_below mask k == k) (cond (has mask k) k (suc k)) (first_below mask k) < suc k) ×
-        (has mask (cond (first_below mask k == k) (cond (has mask k) k (suc k)) (first_below mask k)) ≡ true))
-    go (inl e) none some = subst (λ b. (cond b (cond (has mask k) k (suc k)) (first_below mask k) ≡ suc k → (c : ℕ) → c < suc k → has mask c ≡ false) ×
-        (cond b (cond (has mask k) k (suc k)) (first_below mask k) ≢ suc k → (cond b (cond (has mask k) k (suc k)) (first_below mask k) < suc k) ×
-        (has mask (cond b (cond (has mask k) k (suc k)) (first_below mask k)) ≡ true)))
-        (sym (eq-eqb (first_below mask k) k e)) (here (has mask k) refl)
-      where
-        here : (b : Bool) → has mask k ≡ b → (cond b k (suc k) ≡ suc k → (c : ℕ) → c < suc k → has mask c ≡ false) × (cond b k (suc k) ≢ suc k →
-            (cond b k (suc k) < suc k) × (has mask (cond b k (suc k)) ≡ true))
-        here true is = ((λ z. absurd (let y : k ≡ suc k = z in omega arith)), λ _. (omega arith, is))
-        here false is = (
-          (λ _ c low. elim (cases_eq c k) [ inl same ↦ subst (λ c. has mask c ≡ false) (sym same) is | inr other ↦ none e c (omega arith) ]),
-          λ ne. absurd (ne refl),
-        )
-    go (inr ne) none some = subst (λ b. (cond b (cond (has mask k) k (suc k)) (first_below mask k) ≡ suc k → (c : ℕ) → c < suc k → has mask c ≡ false) ×
-        (cond b (cond (has mask k) k (suc k)) (first_below mask k) ≢ suc k → (cond b (cond (has mask k) k (suc k)) (first_below mask k) < suc k) ×
-        (has mask (cond b (cond (has mask k) k (suc k)) (first_below mask k)) ≡ true)))
-        (sym (ne_eqb (first_below mask k) k ne)) ((λ z. absurd (let s = (some ne).0 in omega arith)), λ _. (let s = (some ne).0 in (omega arith, (some ne).1)))
+first_is mask (suc k) = search (first_is mask k, eq-eqb, ne_eqb, arith)
 
 first_online : (mask : ℕ) → ((c : ℕ) × (has mask c ≡ true)) → ((c : ℕ) → has mask c ≡ true → c < cpus) → has mask (first_below mask cpus) ≡ true
 first_online mask member below = search (first_is, arith)

@@ -118,54 +118,33 @@ module _ (v : StopsValue) (p : StopState) (shown : StopShown p v) (me : ℕ) (lo
 
   begins : (work : Work) (b : Bool) → (p.now.stop me).is_open ≡ b → BeginRefuses u p me work (begin_refusal t work b)
   begins work true is = is
-  begins work false shut = go (t.holds_gate && fits_work t work) (bit_and work.mask v.online == work.mask) refl refl
-    where
-      fits : (t.holds_gate && fits_work t work) ≡ true → FitsGate u p me work
-      fits e =
-          let x = both t.holds_gate (fits_work t work) e in
-          let y = both (not (mask_weight cpus work.mask == 0)) (fits_kind t work work.kind) x.1 in
-          record {
-            holds = holds x.0;
-            some = ne_false (mask_weight cpus work.mask) 0 (not_true (mask_weight cpus work.mask == 0) y.0);
-            kind = is_kind v me work work.kind y.1;
-          }
-
-      go : (b d : Bool) → (t.holds_gate && fits_work t work) ≡ b → (bit_and work.mask v.online == work.mask) ≡ d →
-          BeginRefuses u p me work (cond b (unless d error.NoStopper) (Some error.BadArgument))
-      go false d e f = (
-        shut,
-        λ m. false_true (t.holds_gate && fits_work t work) e (of_both t.holds_gate (fits_work t work) (held m.holds) (work_fits v me work m.some m.kind)),
+  begins work false shut =
+      search (
+        bit_and,
+        work.mask,
+        both,
+        holds,
+        ne_false,
+        not_true,
+        is_kind,
+        work.kind,
+        false_true,
+        of_both,
+        held,
+        work_fits,
+        within,
+        v.online,
+        is_same,
+        some_outside,
+        arith,
       )
-      go true true e f = (shut, fits e, within work.mask v.online (is_same (bit_and work.mask v.online) work.mask f))
-      go true false e f = (shut, fits e, some_outside work.mask v.online (ne_false (bit_and work.mask v.online) work.mask f))
 
   reads : (n limit : ℕ) → Refuses ((p.now.irq me ≡ true) × (n < limit)) error.BadArgument (unless (c.interrupts && nat_lt n limit) error.BadArgument)
   reads n limit = search (refuses, nat_lt, both, c.interrupts, irq, ltb-true, false_true, of_both, lt-ltb, arith)
 
   pub is_refusal : (x : Command) → IsRefusal u v.nr p me x (refusal_on t c x)
   is_refusal x =
-      search (
-        refuses_flag,
-        c.interrupts,
-        irq,
-        refuses,
-        holds,
-        false_true,
-        held,
-        open_is,
-        begins,
-        enters,
-        c.visit,
-        advances,
-        runs,
-        finishes,
-        c.is_open,
-        reads,
-        nat_lt,
-        length-map,
-        v.labels.entries,
-        arith,
-      )
+      search (refuses_flag, irq, refuses, holds, false_true, held, open_is, begins, enters, advances, runs, finishes, reads, nat_lt, length-map, arith)
 
 pub refuses_by_state : (v : StopsValue) (p : StopState) → StopShown p v → RefusesByState v p
 refuses_by_state v p shown cpu low idle x = is_refusal v p shown cpu low idle x

@@ -48,8 +48,7 @@ module _ (v : StopsValue) (cpu : ℕ) (low : cpu < cpus) (below : (k : ℕ) → 
 
   pub begins_work : (work : Work) (is_open : Bool) → c.is_open ≡ is_open → work.func < 2 ^ 16 → begin_refusal t work is_open ≡ None →
       (gate ≡ cpu + 1) × (c.is_open ≡ false) × IsWork u work
-  begins_work work is_open shut small e =
-      search (if_passed, both, within, work.mask, v.online, is_same, bit_and, passed, ne_false, not_true, is_kind, work.kind, arith)
+  begins_work work is_open shut small e = search (if_passed, both, within, is_same, bit_and, passed, ne_false, not_true, is_kind, arith)
 
   enters : (slot : ℕ) (x : Option Visit) → c.visit ≡ x → (is_free x && has_slot v.nr slot) ≡ true → (c.visit ≡ None) × (slot < cpus)
   enters slot x is e = search (ltb-true, both, nat_lt, arith)
@@ -71,24 +70,7 @@ module _ (v : StopsValue) (cpu : ℕ) (low : cpu < cpus) (below : (k : ℕ) → 
   reads n limit e = let x = both c.interrupts (nat_lt n limit) e in (x.0, ltb-true n limit x.1)
 
   may_begin_if : (x : Command) → FitsCommand x → refusal_on t c x ≡ None → MayBeginIf u cpu gate c (stop_first c x)
-  may_begin_if x f e =
-      search (
-        is_same,
-        passed,
-        begins_work,
-        c.is_open,
-        enters,
-        c.visit,
-        advances,
-        runs,
-        finishes,
-        reads,
-        v.labels.keys,
-        nat_lt,
-        length-map,
-        v.labels.entries,
-        arith,
-      )
+  may_begin_if x f e = search (is_same, passed, begins_work, enters, advances, runs, finishes, reads, nat_lt, length-map, arith)
 
 -- a command that may start may begin at its first stage
 pub may_begin : (v : StopsValue) (cpu : ℕ) (x : Command) (stage : StopStage) → cpu < cpus → ((k : ℕ) → has v.online k ≡ true → k < cpus) →

@@ -58,19 +58,7 @@ number_put t is Gate n h (Key k) = refl
 number_put t is Gate n h (Entry i) = refl
 number_put t is Gate n h (Site i) = refl
 number_put t is Gate n h _ = refl
-number_put t is (Slot s f) n h (Slot r g) = go (same_word (Slot r g) (Slot s f)) refl
-  where
-    go : (b : Bool) → same_word (Slot r g) (Slot s f) ≡ b → number_at (put_at t.slots (slot_cell s f) n) (slot_cell r g) ≡ cond b n
-        (number_at t.slots (slot_cell r g))
-    go true e =
-        let same = same_word-true (Slot r g) (Slot s f) e in
-        let one : r ≡ s = cc in
-        let two : g ≡ f = cc in
-        subst (λ r. number_at (put_at t.slots (slot_cell s f) n) (slot_cell r g) ≡ n) (sym one) (subst (λ g. number_at (put_at t.slots (slot_cell s f) n)
-        (slot_cell s g) ≡ n) (sym two) (slot_put_same t.slots s f n h is.slots))
-    go false e = slot_put_other t.slots s r f g n h is.slots
-        (λ one two. let bad : true ≡ false = sym (subst (λ r. same_word (Slot r g) (Slot s f) ≡ true) (sym one)
-        (subst (λ g. same_word (Slot s g) (Slot s f) ≡ true) (sym two) (same_word-itself (Slot s f)))) ∙ e in cc)
+number_put t is (Slot s f) n h (Slot r g) = search (t.slots, same_word-true, slot_put_same, slot_put_other, same_word-itself, arith)
 number_put t is (Slot s f) n h Gate = refl
 number_put t is (Slot s f) n h (Key k) = refl
 number_put t is (Slot s f) n h (Entry i) = refl
