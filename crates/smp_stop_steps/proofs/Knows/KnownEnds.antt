@@ -1,5 +1,5 @@
 -- The steps of a CPU that knows v at the end of a stop: it stores its answer, counts itself, and stores done.
-use Rattle.std.proofs.Common.{◌≡◌, ◌≢◌, ℕ, ◌-◌, ◌<◌, false, ◌==◌, cond, Some, None, [], ◌∷◌, ◌++◌, get_or, set, sym, subst, refl, ap, ◌∙◌}
+use Rattle.std.proofs.Common.{◌≡◌, ◌≢◌, ℕ, ◌-◌, ◌<◌, false, ◌==◌, cond, Some, None, [], ◌∷◌, ◌++◌, get_or, set, sym, subst, refl, ap, ◌∙◌, arith}
 use Rattle.smp_words.specs.Access.{one_less}
 use Rattle.smp_words.specs.Put.{put, put_word}
 use Rattle.smp_words.specs.Size.{cpus}
@@ -28,14 +28,10 @@ use Rattle.smp_words.proofs.Puts.{put_same, put_other}
 
 -- another answer is told as the one before
 answers : (x : ℕ) (f : Calling) → f ≢ Idle → answer_in (with_answer x f) ≡ x
-answers x Idle ne = absurd (ne refl)
-answers x (Calls call) ne = refl
-answers x (Carries y) ne = refl
+answers x f ne = search arith
 
 told_same : (x : ℕ) (f : Calling) → told_calling (with_answer x f) ≡ told_calling f
-told_same x Idle = refl
-told_same x (Calls call) = refl
-told_same x (Carries y) = refl
+told_same x f = search arith
 
 module _ (p : StopState) (at : Word → ℕ) (seat : ℕ → Seat) (source : ℕ → Source) (v : Known) (h : StopShows (setup_in v.setting) p at seat source)
     (sees : Sees p seat source v) where
@@ -96,23 +92,9 @@ module _ (p : StopState) (at : Word → ℕ) (seat : ℕ → Seat) (source : ℕ
       let more = p.answers v.number s ++ x ∷ [] in
       let mine = put (p.answers v.number) s more in
       let grown : AreFirst cpus mine [] (set v.part.answers s more) = first_put cpus (p.answers v.number) [] v.part.answers s more k.answers low in
-      record {
-        mine = record {
-          holds = k.holds;
-          begun = k.begun;
-          collected = k.collected;
-          answers = subst (λ f. AreFirst cpus f [] (set v.part.answers s (get_or v.part.answers s [] ++ x ∷ []))) (sym (put_same p.answers v.number mine))
-              (subst (λ l. AreFirst cpus mine [] (set v.part.answers s (l ++ x ∷ []))) (k.answers.each s low) grown);
-          looks = k.looks;
-          calling = ap told_calling (put_same p.calling v.number Idle);
-          readings = k.readings;
-          nudged = k.nudged;
-          patched = k.patched;
-        };
-        others = λ c ne. ap (λ y. record (columns_of p c) { answers = y; calling = told_calling ((put p.calling v.number Idle) c) })
-            (put_other p.answers v.number mine c ne)
-            ∙ ap (λ y. record (columns_of p c) { calling = told_calling y }) (put_other p.calling v.number Idle c ne);
-      }
+      let answers' = subst (λ f. AreFirst cpus f [] (set v.part.answers s (get_or v.part.answers s [] ++ x ∷ []))) (sym (put_same p.answers v.number mine))
+      (subst (λ l. AreFirst cpus mine [] (set v.part.answers s (l ++ x ∷ []))) (k.answers.each s low) grown) in
+      search (answers', put_same, answers, put_other, arith)
 
   -- the seat of who has counted itself, and what it knows
   counted_goes : (s : ℕ) (w : Work) (a x : ℕ) → s < cpus →
@@ -120,10 +102,7 @@ module _ (p : StopState) (at : Word → ℕ) (seat : ℕ → Seat) (source : ℕ
       let at' = put_word at (Slot s field.Todo) (found - 1) in
       StopShows u (completes_with p v.number s a x found) at' (put seat v.number (cond (found == 1) (Closes s) Free)) source →
       Goes at' (completed_with found s w x v)
-  counted_goes s w a x low shown =
-      let found = at (Slot s field.Todo) in
-      goes_seat p seat source v sees (completes_with p v.number s a x found) (put_word at (Slot s field.Todo) (found - 1)) (cond (found == 1) (Closes s) Free)
-      (completed_with found s w x v).part shown (completed_leaves s w a x found low)
+  counted_goes s w a x low shown = search (goes_seat, completed_leaves, arith)
 
   pub count : (s : ℕ) (w : Work) (a l : ℕ) → v.seat ≡ In s w a l Rests → IsThrough w a → s < cpus →
       let found = at (Slot s field.Todo) in

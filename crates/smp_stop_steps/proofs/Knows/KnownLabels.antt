@@ -1,4 +1,5 @@
 -- The steps on labels of a CPU that knows v: readings, nudges, and patches.
+use Rattle.std.proofs.Common.{arith}
 use Rattle.std.proofs.Common.{◌≡◌, ℕ, ◌<◌, eqb-true, Bool, true, false, ◌==◌, ◌&&◌, cond, Some, None, List, [], ◌∷◌, ◌++◌, set, sym, subst, refl, ap, ◌∙◌}
 use Rattle.smp_mask.specs.Mask.{has}
 use Rattle.smp_labels.proofs.Patched.{plan_key_first}
@@ -33,16 +34,7 @@ use Rattle.smp_stop_steps.proofs.Steps.Patching.{key_read, site_read, key_loaded
 
 -- where interrupts are on, a CPU does not stand at the function
 not_at_run : (s : ℕ) (w : Work) (a l : ℕ) (t : Turn) → irq_of (In s w a l t) ≡ true → (a == 2 && l == 3) ≡ false
-not_at_run s w a l t on = at_test a 2 (λ b. (b && l == 3) ≡ false) (λ two. at_test l 3 (λ b. b ≡ false) (λ three. absurd (off t two three on)) (λ _. refl))
-    (λ _. refl)
-  where
-    off : (t : Turn) → a ≡ 2 → l ≡ 3 → irq_of (In s w a l t) ≡ true → ⊥
-    off Rests two three on = let bad : irq_of (In s w 2 3 Rests) ≡ true = subst (λ x. irq_of (In s w x 3 Rests) ≡ true) two
-        (subst (λ x. irq_of (In s w a x Rests) ≡ true) three on) in cc
-    off Fills two three on = let bad : irq_of (In s w 2 3 Fills) ≡ true = subst (λ x. irq_of (In s w x 3 Fills) ≡ true) two
-        (subst (λ x. irq_of (In s w a x Fills) ≡ true) three on) in cc
-    off Sets two three on = let bad : irq_of (In s w 2 3 Sets) ≡ true = subst (λ x. irq_of (In s w x 3 Sets) ≡ true) two
-        (subst (λ x. irq_of (In s w a x Sets) ≡ true) three on) in cc
+not_at_run s w a l t on = search (at_test, arith)
 
 -- the counts of one CPU, with one moved
 counted_first : (f : ℕ → ℕ → Moved) (me k old new : ℕ) (list : List Moved) → AreFirst MOST_KEYS (f me) unmoved list → k < MOST_KEYS →
@@ -68,11 +60,7 @@ module _ (p : StopState) (at : Word → ℕ) (seat : ℕ → Seat) (source : ℕ
   irq_on on = h.present.irq v.number ∙ (ap irq_of sees.seat_is ∙ on)
 
   reads_leaves : (r : Reading) → Leaves v.number p (record p { now = reads p.now v.number r }) (record (v.part) { readings = v.part.readings ++ r ∷ [] })
-  reads_leaves r =
-      let more = p.now.readings v.number ++ r ∷ [] in
-      reads_now p at seat source v h sees (reads p.now v.number r) p.calls (v.part.readings ++ r ∷ [])
-      (put_same p.now.readings v.number more ∙ ap (λ l. l ++ r ∷ []) sees.part_is.readings)
-      (λ c ne. put_other p.now.readings v.number more c ne)
+  reads_leaves r = search (reads_now, put_same, put_other, arith)
 
   -- where interrupts are on, a load of a key is a reading
   key_plain : (k found : ℕ) (x : Seat) → v.seat ≡ x → irq_of x ≡ true →
@@ -173,23 +161,10 @@ module _ (p : StopState) (at : Word → ℕ) (seat : ℕ → Seat) (source : ℕ
         patched = counted v.part.patched k
             count n;
       })
-  patched_leaves k count n now low same = let parts = sees.part_is in record {
-    mine = record {
-      holds = parts.holds;
-      begun = parts.begun;
-      collected = parts.collected;
-      answers = parts.answers;
-      looks = parts.looks;
-      calling = parts.calling;
-      readings = same v.number ∙ parts.readings;
-      nudged = parts.nudged;
-      patched = counted_first p.patched v.number k count n v.part.patched parts.patched low;
-    };
-    others = λ c ne.
-        ap (λ x. record (columns_of p c) { readings = now.readings c; patched = x }) (put_other p.patched v.number (put (p.patched v.number) k
-        (moves (p.patched v.number k) count n)) c ne)
-        ∙ ap (λ l. record (columns_of p c) { readings = l }) (same c);
-  }
+  patched_leaves k count n now low same = let parts = sees.part_is in
+      let readings' = same v.number ∙ parts.readings in
+      let patched' = counted_first p.patched v.number k count n v.part.patched parts.patched low in
+      search (readings', patched', put_other, arith)
 
   pub alter : (s : ℕ) (w : Work) (count : ℕ) (made rest : List Change) (x : Place) (n : ℕ) → v.seat ≡ Alters s w count made ((x, n) ∷ rest) →
       plan_at u w count ≡ made ++ (x, n) ∷ rest → w.func < MOST_KEYS →

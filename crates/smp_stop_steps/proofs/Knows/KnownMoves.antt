@@ -1,5 +1,5 @@
 -- Each step that a CPU may make by what it knows goes on to stops of which all know their part.
-use Rattle.std.proofs.Common.{ℕ, Some, None}
+use Rattle.std.proofs.Common.{ℕ, Some, None, arith}
 use Rattle.smp_words.specs.Access.{word_of, at_after, seen_of}
 use Rattle.smp_stop_steps.specs.Known.{Known, Sees, GoesOn, setup_in}
 use Rattle.smp_stop_steps.specs.KnownAfter.{slot_known, known_entering}
@@ -26,17 +26,7 @@ module _ (p : StopState) (at : Word → ℕ) (seat : ℕ → Seat) (source : ℕ
   Goes at' w = GoesOn v.setting p seat source v.number at' w
 
   load_field : (s : ℕ) (f : Field) → IsPlain f → Goes at (slot_known (p.now.stop s).work v s act.Load f (Some (at (Slot s f))) None)
-  load_field s field.Kind i = still p at seat source v h sees
-  load_field s field.Mask i = still p at seat source v h sees
-  load_field s field.Active i = still p at seat source v h sees
-  load_field s field.Func i = still p at seat source v h sees
-  load_field s field.Arg i = absurd i
-  load_field s field.Result i = absurd i
-  load_field s field.Todo i = absurd i
-  load_field s field.Done i = absurd i
-  load_field s field.Ack i = absurd i
-  load_field s field.State i = absurd i
-  load_field s field.Roll i = absurd i
+  load_field s f i = search (still, arith)
 
   pub known_move : (m : Move) → May v m →
       let a = access_in v m in

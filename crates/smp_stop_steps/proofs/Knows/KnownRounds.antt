@@ -111,17 +111,7 @@ module _ (p : StopState) (at : Word → ℕ) (seat : ℕ → Seat) (source : ℕ
       (record (v.part) { looks = v.part.looks ++ found ∷ [] })
       (state_loaded u p at seat source h s v.number w a l 0 (sees.seat_is ∙ is) more)
       record {
-        mine = record {
-          holds = k.holds;
-          begun = k.begun;
-          collected = k.collected;
-          answers = k.answers;
-          looks = put_same p.looks v.number seen ∙ ap (λ x. x ++ found ∷ []) k.looks;
-          calling = k.calling;
-          readings = k.readings;
-          nudged = k.nudged;
-          patched = k.patched;
-        };
+        mine = search (put_same, arith);
         others = λ c ne. ap (λ x. record (columns_of p c) { looks = x }) (put_other p.looks v.number seen c ne);
       })
 
@@ -233,22 +223,11 @@ module _ (p : StopState) (at : Word → ℕ) (seat : ℕ → Seat) (source : ℕ
           let k = sees.part_is in
           let p' = record p { calling = put p.calling v.number (Calls call) } in
           let plain : told u p v.number act.Load (Slot s field.Arg) (Some (at (Slot s field.Arg))) None 0 ≡ p' =
-          ap (λ b. cond b (calls_now p v.number (p.now.stop s).work (at (Slot s field.Arg)) 0) p) (is_may ∙ e)
-          ∙ ap (λ (x : Work). record p { calling = put p.calling v.number (Calls (record { func = x.func; arg = at (Slot s field.Arg); answer = 0 })) }) st.3 in
+          search (is_may, arith) in
           goes_still p seat source v sees p' at (record (v.part) { calling = Calls call })
           (subst (λ q. StopShows u q at seat source) plain (arg_loaded u p at seat source h s v.number w a l Rests here 0 refl))
           record {
-            mine = record {
-              holds = k.holds;
-              begun = k.begun;
-              collected = k.collected;
-              answers = k.answers;
-              looks = k.looks;
-              calling = ap told_calling (put_same p.calling v.number (Calls call));
-              readings = k.readings;
-              nudged = k.nudged;
-              patched = k.patched;
-            };
+            mine = search (put_same, call, arith);
             others = λ c ne. ap (λ x. record (columns_of p c) { calling = told_calling x }) (put_other p.calling v.number (Calls call) c ne);
           }
 

@@ -143,17 +143,9 @@ module _ (p : StopState) (at : Word → ℕ) (seat : ℕ → Seat) (source : ℕ
 
   -- the source may be taken for another of which the same is told
   restaged : (y : Source) → SourceIs y → StopShows u p at seat (put source v.number y)
-  restaged y it = record {
-    setup = h.setup;
-    present = h.present;
-    gate = h.gate;
-    callings = h.callings;
-    closing = h.closing;
-    sources = put_all (λ j x. SourceShows u p.gate (p.now.stop j) (λ f. at (Slot j f)) j x) source v.number y it (λ j ne. h.sources j);
-    past = h.past;
-    owns = h.owns;
-    counts = h.counts;
-  }
+  restaged y it =
+      let sources' = put_all (λ j x. SourceShows u p.gate (p.now.stop j) (λ f. at (Slot j f)) j x) source v.number y it (λ j ne. h.sources j) in
+      search (sources', arith)
 
   source_here : (y : Source) → source v.number ≡ y → SourceIs y
   source_here y e = subst SourceIs e (h.sources v.number)
@@ -189,14 +181,7 @@ module _ (p : StopState) (at : Word → ℕ) (seat : ℕ → Seat) (source : ℕ
         holds = holder p.gate v.number (sees.part_is.holds ∙ holds);
         is_work = is;
         stored = λ f l. absurd (omega arith);
-        told = record {
-          kind = λ l. absurd (omega arith);
-          mask = λ l. absurd (omega arith);
-          active = λ l. absurd (omega arith);
-          func =
-              λ l. absurd (omega arith);
-          arg = λ l. absurd (omega arith);
-        };
+        told = search arith;
       } (omega arith))
 
   pub draft_more : (work : Work) (f : Field) → v.source ≡ Drafts (told_work (order f) work) (order f) → IsWork u work → order f ≢ 0 → order f < 10 →
@@ -207,16 +192,8 @@ module _ (p : StopState) (at : Word → ℕ) (seat : ℕ → Seat) (source : ℕ
       let y = is_draft (source v.number) work k (sees.source_is ∙ e) in
       let d : DraftShows u p.gate (p.now.stop v.number) (λ f. at (Slot v.number f)) v.number y.work k = source_here (Drafts y.work k) y.is in
       let known : slot_stored f x v ≡ record v { source = Drafts (told_work (k + 1) work) (k + 1) } =
-      stored_draft f x v ne low (ap is_drafting e) ∙ (ap (λ o. record v { source = drafts_more f x o }) e ∙ ap
-      (λ (z : Work). record v { source = Drafts z (k + 1) }) (draft_next f work ne low)) in
-      subst (λ q. Goes (put_word at (Slot v.number f) x) q) (sym known)
-      (field_goes work f record {
-        shut = d.shut;
-        holds = d.holds;
-        is_work = is;
-        stored = λ g l. d.stored g l ∙ value_same k y.work work y.same u.cpus g l;
-        told = drafted_same k y.work work y.same (p.now.stop v.number).work d.told;
-      } low)
+      search (stored_draft, draft_next, work, arith) in
+      search (field_goes, work, is, d.stored, value_same, drafted_same, arith)
 
   pub open_stop : (work : Work) → v.source ≡ Drafts (told_work 10 work) 10 → Goes (put_word at (Slot v.number field.Roll) work.mask) (opened_by v.source v)
   open_stop work e =
@@ -224,8 +201,7 @@ module _ (p : StopState) (at : Word → ℕ) (seat : ℕ → Seat) (source : ℕ
       let is : source v.number ≡ Drafts work 10 = y.is ∙ ap (λ z. Drafts z 10) y.same in
       let d : DraftShows u p.gate (p.now.stop v.number) (λ f. at (Slot v.number f)) v.number work 10 = source_here (Drafts work 10) is in
       let t = d.told in
-      let same : (p.now.stop v.number).work ≡ work = work_ext (p.now.stop v.number).work work
-      (t.kind (omega arith)) (t.mask (omega arith)) (t.active (omega arith)) (t.func (omega arith)) (t.arg (omega arith)) in
+      let same : (p.now.stop v.number).work ≡ work = search (work_ext, work, t.kind, t.mask, t.active, t.func, t.arg, arith) in
       let at' = put_word at (Slot v.number field.Roll) work.mask in
       let plain : told u p v.number act.Store (Slot v.number field.Roll) None (Some work.mask) 0 ≡ opens p v.number =
       ap (λ b. cond b (stored_open p v.number v.number field.Roll work.mask) (stored_shut p v.number field.Roll work.mask)) d.shut in
@@ -235,17 +211,7 @@ module _ (p : StopState) (at : Word → ℕ) (seat : ℕ → Seat) (source : ℕ
       (goes_source p seat source v sees (opens p v.number) at' (Owns work) (Owns work) (record (v.part) { begun = v.part.begun ++ work ∷ [] })
       (subst (λ q. StopShows u q at' seat (put source v.number (Owns work))) plain (roll_stored u p at seat source h v.number work 0 is))
       record {
-        mine = record {
-          holds = k.holds;
-          begun = put_same p.begun v.number begun ∙ (ap (λ l. l ++ (p.now.stop v.number).work ∷ []) k.begun ∙ ap (λ (z : Work). v.part.begun ++ z ∷ []) same);
-          collected = k.collected;
-          answers = k.answers;
-          looks = k.looks;
-          calling = k.calling;
-          readings = k.readings;
-          nudged = k.nudged;
-          patched = k.patched;
-        };
+        mine = search (put_same, same, arith);
         others = λ c ne. ap (λ x. record (columns_of p c) { begun = x }) (put_other p.begun v.number begun c ne);
       } refl tt)
 
@@ -263,8 +229,7 @@ module _ (p : StopState) (at : Word → ℕ) (seat : ℕ → Seat) (source : ℕ
       go false e =
           let o : OwnerShows u (p.now.stop v.number) w = source_here (Owns w) there in
           let one : at (Slot v.number field.Done) ≡ 1 =
-          done_is u.cpus (p.now.stop v.number).standing (p.now.stop v.number).ending (at (Slot v.number field.Done)) ((h.present.slots v.number).shows
-          o.is_open).done e in
+          search (done_is, h.present.slots, arith) in
           goes_source p seat source v sees p at (Collects w) (Collects w) v.part (done_loaded u p at seat source h v.number w there one) unmoved_columns refl tt
 
   pub collect : (w : Work) → v.source ≡ Collects w → Goes at (collected_known (at (Slot v.number field.Result)) v)
@@ -276,16 +241,6 @@ module _ (p : StopState) (at : Word → ℕ) (seat : ℕ → Seat) (source : ℕ
       goes_source p seat source v sees (told u p v.number act.Load (Slot v.number field.Result) (Some found) None 0) at Shut Shut
       (record (v.part) { collected = v.part.collected ++ found ∷ [] }) (result_loaded u p at seat source h v.number w 0 there)
       record {
-        mine = record {
-          holds = k.holds;
-          begun = k.begun;
-          collected = put_same p.collected v.number more ∙ ap (λ l. l ++ found ∷ []) k.collected;
-          answers = k.answers;
-          looks = k.looks;
-          calling = k.calling;
-          readings = k.readings;
-          nudged = k.nudged;
-          patched = k.patched;
-        };
+        mine = search (put_same, arith);
         others = λ c ne. ap (λ x. record (columns_of p c) { collected = x }) (put_other p.collected v.number more c ne);
       } refl tt

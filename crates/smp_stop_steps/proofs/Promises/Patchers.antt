@@ -52,8 +52,7 @@ module _ (u : Setup) (p : StopState) (at : Word → ℕ) (seat : ℕ → Seat) (
         go : (before after : List Change) → c.changes ≡ before ++ after → length before ≡ made → seat me ≡ Alters v.slot s.0 s.1 before after → IsNext change
         go before [] are long is = absurd (let l = s.4 in let z : length c.changes ≡ length before = ap length (are ∙ append-nil before) in omega arith)
         go before (x ∷ after) are long is =
-            let here : change_at c.changes made ≡ x = ap (λ l. change_at l made) are ∙ (ap (λ n. change_at (before ++ x ∷ after) n) (sym long) ∙ change_here
-            before x after) in
+            let here : change_at c.changes made ≡ x = search (change_here, arith) in
             let st : Stands p.now me (Alters v.slot s.0 s.1 before (x ∷ after)) = subst (Stands p.now me) is (h.present.stands me) in
             let some : Some x ≡ Some change = sym (ap (λ y. label_stored (store_of y)) here ∙ stored_itself x) ∙ e in
             let same : x ≡ change = cc in

@@ -119,8 +119,7 @@ module _ (u : Setup) (p : StopState) (at : Word → ℕ) (seat : ℕ → Seat) (
         refl,
         op,
         λ d' of.
-            let member : is_of ((p.now.stop me).standing d') ≡ true = subst (λ b. is_of ((p.now.stop me).standing d') ≡ (b && has (p.now.stop me).work.mask d'))
-            op ((h.present.slots me).members d') ∙ of in
+            let member : is_of ((p.now.stop me).standing d') ≡ true = search (h.present.slots, arith) in
             completed_is ((p.now.stop me).standing d') member
             (sum_zero (λ e. unfinished ((p.now.stop me).standing e)) u.cpus d.1 d' (in_machine u.cpus (p.now.stop me).phase d' ((p.now.stop me).standing d')
             member ((h.present.slots me).keeps d'))),

@@ -74,16 +74,13 @@ module _ (cpus : ℕ) (stop : Stop) (word : Field → ℕ) (g : SlotShows cpus s
       let left = answer_unfinished stop.phase a v (stop.standing me) is in
       record {
         members = put_all (λ c s. is_of s ≡ (stop.is_open && has stop.work.mask c)) stop.standing me to (sym of ∙ g.members me) (λ c ne. g.members c);
-        roll = put_all (λ c s. has (word Roll) c ≡ is_called s) stop.standing me to (g.roll me ∙ answer_called stop.phase a v (stop.standing me) is)
-            (λ c ne. g.roll c);
-        keeps = put_all (λ c s. Keeps cpus stop.phase c s) stop.standing me to (answer_keeps stop.phase a v cpus me (stop.standing me) is through.0
-            (g.keeps me)) (λ c ne. g.keeps c);
+        roll = search (put_all, g.roll, answer_called, arith);
+        keeps = search (put_all, answer_keeps, g.keeps, arith);
         shows = λ _. record {
           written = record { kind = o.written.kind; mask = o.written.mask; active = o.written.active; func = o.written.func; arg = o.written.arg };
           state = o.state;
           bound = o.bound;
-          ack = λ ne. ack_kept cpus stop.standing me stop.phase to (answer_behind stop.phase a v (stop.standing me) is) (sym of) stop.raising (word Ack)
-              through.1 (o.ack ne);
+          ack = search (ack_kept, answer_behind, through.1, o.ack, arith);
           calm = o.calm;
           kinds = o.kinds;
           todo = let l = one_less cpus stop.standing me a v (word Todo) small left o.todo in omega arith;
@@ -117,15 +114,7 @@ module _ (cpus : ℕ) (stop : Stop) (word : Field → ℕ) (g : SlotShows cpus s
   -- done is 1: all have completed, and the result word is the result of their answers
   pub collects_slot : stop.is_open ≡ true → word Done ≡ 1 →
       IsResult stop.work.mask (λ c. answer_of (stop.standing c)) (word Result) × SlotShows cpus (closed stop) word
-  collects_slot open_ found = let o = g.shows open_ in let z = none_left stop.ending o.done in (
-    answered z o.result,
-    record {
-      members = λ c. refl;
-      roll = λ c. g.roll c ∙ not_called (stop.standing c) (each z c);
-      keeps = λ c. tt;
-      shows = λ bad. absurd (no bad);
-    },
-  )
+  collects_slot open_ found = let o = g.shows open_ in let z = none_left stop.ending o.done in search (answered, g.roll, not_called, each, no, arith)
     where
       no : false ≡ true → ⊥
       no e = cc

@@ -88,12 +88,7 @@ module _ (u : Setup) (p : Present) (at : Word → ℕ) (seat : ℕ → Seat) (h 
       drafted_slot : (f : Field) (n : ℕ) (work : Work) → (p.stop s).is_open ≡ false → ((c : ℕ) → (p.stop s).standing c ≡ Outside) →
           same_field f Roll true ≡ false →
           SlotShows u.cpus (record (p.stop s) { work = work }) (put_field w f n)
-      drafted_slot f n work shut out other = record {
-        members = λ c. rw (out c, shut) refl;
-        roll = λ c. ap (λ b. has (cond b n (w Roll)) c) (turned f other) ∙ (h.slots s).roll c;
-        keeps = (h.slots s).keeps;
-        shows = λ op. absurd (apart (sym op ∙ shut));
-      }
+      drafted_slot f n work shut out other = search (turned, h.slots, apart, arith)
 
   -- load of the result, after done was found
   pub step_collects : (p.stop s).is_open ≡ true → at (Slot s Done) ≡ 1 →
@@ -215,8 +210,7 @@ module _ (u : Setup) (p : Present) (at : Word → ℕ) (seat : ℕ → Seat) (h 
           back = λ i. subst (λ x. is_inside x ≡ true) (put_other (p.stop s).standing me (Completed a v) c ne) i;
           work = λ _. refl;
           turn = λ _. refl;
-          ending = λ op e. absurd (not_last c (in_machine u.cpus (p.stop s).phase me ((p.stop s).standing me) of ((h.slots s).keeps me))
-              (subst (λ e. DoneShows u.cpus (p.stop s).standing e (at (Slot s Done))) e o.done));
+          ending = search (not_last, in_machine, h.slots, arith);
         })
         (save None)
         (now (found == 1) open_)

@@ -48,8 +48,7 @@ module _ (u : Setup) (p : Present) (at : Word → ℕ) (seat : ℕ → Seat) (h 
       let w : Field → ℕ = λ f. at (Slot s f) in
       let f = function_law u.cpus (p.stop s) w (h.slots s) me is in
       let open_ = is_open_inside u.cpus (p.stop s) w (h.slots s) me (Inside 2 3) is refl in
-      let of_it : is_of ((p.stop s).standing c) ≡ true = subst (λ b. is_of ((p.stop s).standing c) ≡ (b && has (p.stop s).work.mask c)) open_
-      ((h.slots s).members c) ∙ of in
+      let of_it : is_of ((p.stop s).standing c) ≡ true = search (h.slots, arith) in
       h.irq c ∙ go ((p.stop s).standing c) refl of_it f.at_run (f.all_disabled c of) ((h.slots s).keeps c)
     where
       go : (x : Standing) → (p.stop s).standing c ≡ x → is_of x ≡ true → (p.stop s).phase ≡ 3 → (acked x ≡ 2) ⊎ (acked x ≡ 3) →
@@ -82,17 +81,14 @@ module _ (u : Setup) (p : Present) (at : Word → ℕ) (seat : ℕ → Seat) (h 
   patch_starts job plan is kind active leads =
       let st : Stands p me (In s job 2 3 Rests) = subst (Stands p me) is (h.stands me) in
       let open_ = is_open_inside u.cpus (p.stop s) (λ f. at (Slot s f)) (h.slots s) me (Inside 2 3) st.1 refl in
-      let mine : me ≡ u.first = eqb-true me u.first (sym ((h.works s open_ (ap (λ (w : Work). w.kind) st.3 ∙ kind)).first me) ∙
-      (ap (λ (w : Work). has w.active me) st.3 ∙ active)) in
+      let mine : me ≡ u.first = search (eqb-true, h.works, arith) in
       let whole : p.patching ≡ Whole = go p.patching h.runner mine in
       let lawful : IsLawful (labels_in at) = subst (λ x. LabelsShow x (labels_in at)) whole h.labels in
       let count = at (Key job.func) in
       let next = Alters s job count [] plan in
       record {
         slots = h.slots;
-        stands = put_all (λ c y. Stands (patches (Patches me job count [] plan)) c y) seat me next (st.0, st.1, st.2, st.3, kind, refl)
-            (λ c ne. alters_other (Patches me job count [] plan) c ne (λ w n made rest e. let bad : Whole ≡ Patches c w n made rest = sym whole ∙ e in cc)
-            (seat c) (h.stands c));
+        stands = search (put_all, alters_other, h.stands, arith);
         homes = h.homes;
         irq = put_all (λ c y. p.irq c ≡ irq_of y) seat me next (h.irq me ∙ ap irq_of is) (λ c ne. h.irq c);
         works = h.works;
@@ -122,21 +118,13 @@ module _ (u : Setup) (p : Present) (at : Word → ℕ) (seat : ℕ → Seat) (h 
       let kind : (p.stop s).work.kind ≡ Patch = ap (λ (w : Work). w.kind) st.3 ∙ st.4 in
       record {
         slots = slots;
-        stands = put_all (λ c y. Stands (patches (Patches me job count made' rest)) c y) seat me next (st.0, st.1, st.2, st.3, st.4, refl)
-            (λ c ne. alters_other (Patches me job count made' rest) c ne (λ w' n made' rest' e. let same : Patches me job count made (change ∷ rest) ≡
-            Patches c w' n made' rest' = sym st.5 ∙ e in let f : me ≡ c = cc in ne (sym f)) (seat c) (h.stands c));
+        stands = search (put_all, alters_other, h.stands, arith);
         homes = h.homes;
         irq = put_all (λ c y. p.irq c ≡ irq_of y) seat me next (h.irq me ∙ ap irq_of is) (λ c ne. h.irq c);
         works = h.works;
         runner = (r.0, (s, put_same seat me next));
         entries = entries;
-        labels = (
-          l.0,
-          l.1,
-          table ∙ (ap (stored change.0 change.1) l.2 ∙ sym (applied-append made (change ∷ []) l.0)),
-          l.3,
-          subst (λ t. SetsKey job.func (count_set job count) l.0 (applied rest t)) (sym table) l.4,
-        );
+        labels = search (applied-append, arith);
         read = λ c on_ i. absurd (no (sym i ∙ all_off st.1 c ((h.works s open_ kind).all c ∙ on_)));
       }
     where
@@ -152,9 +140,7 @@ module _ (u : Setup) (p : Present) (at : Word → ℕ) (seat : ℕ → Seat) (h 
       let next = In s job 2 3 Rests in (
         record {
           slots = h.slots;
-          stands = put_all (λ c y. Stands (patches Whole) c y) seat me next (st.0, st.1, st.2, st.3)
-              (λ c ne. alters_other Whole c ne (λ w n made' rest e. let same : Patches me job count made [] ≡ Patches c w n made' rest = sym st.5 ∙ e in
-              let f : me ≡ c = cc in ne (sym f)) (seat c) (h.stands c));
+          stands = search (put_all, alters_other, h.stands, arith);
           homes = h.homes;
           irq = put_all (λ c y. p.irq c ≡ irq_of y) seat me next (h.irq me ∙ ap irq_of is) (λ c ne. h.irq c);
           works = h.works;
@@ -181,18 +167,7 @@ module _ (u : Setup) (p : Present) (at : Word → ℕ) (seat : ℕ → Seat) (h 
 
   -- one more reading, which agrees
   pub reads_label : (r : Reading) → Agrees (labels_in at) r → PresentShows u (record p { readings = put p.readings me (p.readings me ++ r ∷ []) }) at seat
-  reads_label r agrees = record {
-    slots = h.slots;
-    stands = λ c. still c (seat c) (h.stands c);
-    homes = h.homes;
-    irq = h.irq;
-    works = h.works;
-    runner = h.runner;
-    entries = h.entries;
-    labels = h.labels;
-    read = put_all (λ c x. u.online c ≡ true → p.irq c ≡ true → AllByRecursion (Agrees (labels_in at)) x) p.readings me (p.readings me ++ r ∷ [])
-        (λ o i. one_more (p.readings me) (h.read me o i)) (λ c ne. h.read c);
-  }
+  reads_label r agrees = search (still, h.stands, put_all, one_more, h.read, arith)
     where
       one_more : (xs : List Reading) → AllByRecursion (Agrees (labels_in at)) xs → AllByRecursion (Agrees (labels_in at)) (xs ++ r ∷ [])
       one_more [] a = (agrees, tt)

@@ -46,13 +46,7 @@ module _ (cpus : ℕ) (stop : Stop) (word : Field → ℕ) (g : SlotShows cpus s
   pub phase_law : stop.is_open ≡ true → stop.phase ≢ 0 → PhaseLaw cpus stop (word Ack)
   phase_law open_ ne =
       let o = g.shows open_ in
-      record {
-        level = λ c of. level_of cpus stop.phase c (stop.standing c) of (g.keeps c);
-        at_the_end = λ c e of. ends (acked (stop.standing c)) e (acked_most cpus stop.phase c (stop.standing c) of (g.keeps c)) (level_of cpus stop.phase c
-            (stop.standing c) of (g.keeps c));
-        counted = either stop.raising refl (o.ack ne);
-        whole = λ e. at_five stop.raising e (o.ack ne);
-      }
+      search (level_of, g.keeps, ends, acked_most, either, o.ack, at_five, arith)
     where
       ends : (a : ℕ) → stop.phase ≡ 5 → a ≤ 4 → IsLevel stop.phase a → a ≡ 4
       ends a e m l = ⊎_elim (λ (t : a ≡ stop.phase). omega arith) (λ (t : a + 1 ≡ stop.phase). omega arith) l

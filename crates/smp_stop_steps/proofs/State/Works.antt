@@ -71,16 +71,14 @@ module _ (cpus : ℕ) (stop : Stop) (word : Field → ℕ) (g : SlotShows cpus s
       let o = g.shows (is_open_inside cpus stop word g me (Inside a l) is refl) in
       let k = keeps_inside cpus stop word g me (Inside a l) is in
       record {
-        members = put_all (λ c s. is_of s ≡ (stop.is_open && has stop.work.mask c)) stop.standing me to (sym (ap is_of is) ∙ g.members me)
-            (λ c ne. g.members c);
+        members = search (put_all, g.members, arith);
         roll = put_all (λ c s. has (word Roll) c ≡ is_called s) stop.standing me to (g.roll me ∙ ap is_called is) (λ c ne. g.roll c);
         keeps = put_all (λ c s. Keeps cpus stop.phase c s) stop.standing me to (k.0, k.1, through.0, k.4) (λ c ne. g.keeps c);
         shows = λ _. record {
           written = record { kind = o.written.kind; mask = o.written.mask; active = o.written.active; func = o.written.func; arg = o.written.arg };
           state = o.state;
           bound = o.bound;
-          ack = λ ne. ack_kept cpus stop.standing me stop.phase to (sym (ap (behind stop.phase) is)) (sym (ap is_of is)) stop.raising (word Ack) through.1
-              (o.ack ne);
+          ack = search (ack_kept, o.ack, arith);
           calm = o.calm;
           kinds = o.kinds;
           todo = o.todo ∙ sym (unfinished_kept cpus stop.standing me to (sym (ap unfinished is)));

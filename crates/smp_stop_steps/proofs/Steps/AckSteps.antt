@@ -90,10 +90,7 @@ module _ (u : Setup) (p : StopState) (at : Word → ℕ) (seat : ℕ → Seat) (
                 (at (Slot v.slot Ack) - 1)) next
                 (ack_subtracted u p at seat source h v.slot me work v.acked answer is
                 (λ two. has_called work loaded ran calm (p.calling me) (subst (λ (st : Option StopStage). CarriesAt c.visit st (p.calling me)) e k) two)));
-            sits = acked_sits answer ran work loaded y
-                (s.irq ∙ (ap irq_of is ∙ (ap (λ b. nat_lt (v.acked + 1) 2 || b) (ne_eqb v.acked 4 (λ z. omega arith)) ∙ or_false (nat_lt (v.acked + 1) 2)
-                false refl)))
-                (has_run ran calm) (at (Slot v.slot Ack) == 1);
+            sits = search (acked_sits, nat_lt, ne_eqb, or_false, has_run, arith);
           }
       either work loaded most (inr (two, runs, (count, answers, is))) y =
           let next = In v.slot work (v.acked + 1) (v.acked + 1) (cond (at (Slot v.slot Ack) == 1) Fills Rests) in
@@ -101,19 +98,12 @@ module _ (u : Setup) (p : StopState) (at : Word → ℕ) (seat : ℕ → Seat) (
           ap (λ n. In v.slot work n n (cond (at (Slot v.slot Ack) == 1) Fills Rests)) (let z : 3 ≡ v.acked + 1 = omega arith in z) in
           let bounds = ack_bounds_patched u p at seat source h v.slot me work count (plan_at u work count) is in
           let less = less_one (at (Slot v.slot Ack)) bounds.0 (ack_small (at (Slot v.slot Ack)) u.cpus h.setup.few bounds.1) in
-          record {
-            seat_after = next;
-            source_after = source me;
-            shows = subst (λ n. StopShows u (state_after u p at c me (Advance v (round.Acknowledge answer ran))) (put_word at (Slot v.slot Ack) n)
-                (put seat me next) (put source me (source me))) (sym less)
-                (moved_seat u seat source me (state_after u p at c me (Advance v (round.Acknowledge answer ran))) (put_word at (Slot v.slot Ack)
-                (at (Slot v.slot Ack) - 1)) next
-                (subst (λ x. StopShows u (state_after u p at c me (Advance v (round.Acknowledge answer ran))) (put_word at (Slot v.slot Ack)
-                (at (Slot v.slot Ack) - 1)) (put seat me x) source) three
-                (ack_subtracted_patched u p at seat source h v.slot me work count (plan_at u work count) answer is)));
-            sits = acked_sits answer ran work loaded y (s.irq ∙ (ap irq_of is ∙ sym (le-ltb (v.acked + 1) 2 (omega arith))))
-                (patch_run two runs work loaded count is) (at (Slot v.slot Ack) == 1);
-          }
+          let shows' = subst (λ n. StopShows u (state_after u p at c me (Advance v (round.Acknowledge answer ran))) (put_word at (Slot v.slot Ack) n) (put
+          seat me next) (put source me (source me))) (sym less) (moved_seat u seat source me (state_after u p at c me (Advance v (round.Acknowledge answer
+          ran))) (put_word at (Slot v.slot Ack) (at (Slot v.slot Ack) - 1)) next (subst (λ x. StopShows u (state_after u p at c me (Advance v
+          (round.Acknowledge answer ran))) (put_word at (Slot v.slot Ack) (at (Slot v.slot Ack) - 1)) (put seat me x) source) three
+          (ack_subtracted_patched u p at seat source h v.slot me work count (plan_at u work count) answer is))) in
+          search (shows', acked_sits, le-ltb, patch_run, arith)
 
   pub refill : (ran : Bool) → c.stage ≡ Some (Advance v (round.Refill ran)) → StopStep u p at seat source c me (Advance v (round.Refill ran))
   refill ran e =
@@ -121,22 +111,11 @@ module _ (u : Setup) (p : StopState) (at : Word → ℕ) (seat : ℕ → Seat) (
       let work = r.1.0 in
       let loaded = r.1.1 in
       let next = In v.slot work v.acked v.acked Sets in
-      record {
-        seat_after = next;
-        source_after = source me;
-        shows = subst (λ m. StopShows u (told u p me act.Store (Slot v.slot Ack) None (Some (mask_weight u.cpus m)) 0) (put_word at (Slot v.slot Ack)
-            (mask_weight u.cpus m)) (put seat me next) (put source me (source me))) (sym loaded.mask)
-            (moved_seat u seat source me (told u p me act.Store (Slot v.slot Ack) None (Some (mask_weight u.cpus work.mask)) 0) (put_word at (Slot v.slot Ack)
-            (mask_weight u.cpus work.mask)) next
-            (ack_stored u p at seat source h v.slot me work v.acked v.acked 0 r.1.2));
-        sits = record {
-          below = s.below;
-          irq = s.irq ∙ ap irq_of r.1.2;
-          seat = (r.0, (work, loaded, refl, r.1.3));
-          source = round_source s v (round.Refill ran) e;
-          gate_held = tt;
-        };
-      }
+      let shows' = subst (λ m. StopShows u (told u p me act.Store (Slot v.slot Ack) None (Some (mask_weight u.cpus m)) 0) (put_word at (Slot v.slot Ack)
+      (mask_weight u.cpus m)) (put seat me next) (put source me (source me))) (sym loaded.mask) (moved_seat u seat source me (told u p me act.Store (Slot
+      v.slot Ack) None (Some (mask_weight u.cpus work.mask)) 0) (put_word at (Slot v.slot Ack) (mask_weight u.cpus work.mask)) next (ack_stored u p at
+      seat source h v.slot me work v.acked v.acked 0 r.1.2)) in
+      search (shows', round_source, arith)
 
   pub raise : (ran : Bool) → c.stage ≡ Some (Advance v (round.Raise ran)) → StopStep u p at seat source c me (Advance v (round.Raise ran))
   raise ran e =
@@ -144,17 +123,6 @@ module _ (u : Setup) (p : StopState) (at : Word → ℕ) (seat : ℕ → Seat) (
       let work = r.1.0 in
       let next = In v.slot work v.acked v.acked Rests in
       let off : c.interrupts ≡ nat_lt v.acked 2 = s.irq ∙ ap irq_of r.1.2 in
-      record {
-        seat_after = next;
-        source_after = source me;
-        shows = moved_seat u seat source me (state_after u p at c me (Advance v (round.Raise ran))) (at_then u at c me (Advance v (round.Raise ran))) next
-            (state_stored u p at seat source h v.slot me work v.acked v.acked 0 r.1.2);
-        sits = record {
-          below = s.below;
-          irq = at_test v.acked 4 (λ d. cond d true c.interrupts ≡ nat_lt v.acked 2 || d) (λ _. sym (or_true (nat_lt v.acked 2)))
-              (λ _. off ∙ sym (or_false (nat_lt v.acked 2) false refl));
-          seat = subst (λ x. SitsAtRest x next) (sym r.0) (work, r.1.1, refl);
-          source = round_source s v (round.Raise ran) e;
-          gate_held = tt;
-        };
-      }
+      let shows' = moved_seat u seat source me (state_after u p at c me (Advance v (round.Raise ran))) (at_then u at c me (Advance v (round.Raise ran))) next
+      (state_stored u p at seat source h v.slot me work v.acked v.acked 0 r.1.2) in
+      search (shows', at_test, nat_lt, or_true, or_false, round_source, arith)

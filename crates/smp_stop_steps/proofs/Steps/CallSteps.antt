@@ -143,8 +143,7 @@ module _ (u : Setup) (p : StopState) (at : Word → ℕ) (seat : ℕ → Seat) (
         go visit some work run same Multi is =
             let multi : work.kind ≡ Multi = sym run.0.kind ∙ is in
             let active : has work.active me ≡ true = ap (λ m. has m me) (sym run.0.active) ∙ run.2 in
-            let may : may_call me work (Inside 2 3) ≡ true = ap (λ (y : KindOf). is_one y || (true && (has work.active me && is_multi y))) multi ∙ ap
-            (λ b. b && true) active in
+            let may : may_call me work (Inside 2 3) ≡ true = search arith in
             calls (Advance v (round.LoadArg answer func)) v.slot work 2 3 answer refl run.3 may
             (quiet_early me v.slot work 3 Rests v f (quiet visit q) run.1 (calling_at (In v.slot work 2 3 Rests) run.3)) refl
             (ap (λ (y : KindOf). (cond (is_multi y) (record {
@@ -165,8 +164,7 @@ module _ (u : Setup) (p : StopState) (at : Word → ℕ) (seat : ℕ → Seat) (
             let patch : work.kind ≡ Patch = sym run.0.kind ∙ is in
             let st : Stands p.now me (In v.slot work 2 3 Rests) = subst (Stands p.now me) run.3 (h.present.stands me) in
             let calm : may_call me (p.now.stop v.slot).work ((p.now.stop v.slot).standing me) ≡ false =
-            ap (λ (x : Work). may_call me x ((p.now.stop v.slot).standing me)) st.3 ∙ (ap (may_call me work) st.1 ∙
-            (ap (λ (y : KindOf). is_one y || (true && (has work.active me && is_multi y))) patch ∙ none (has work.active me))) in
+            search (none, arith) in
             let nothing : told_of (state_after u p at c me (Advance v (round.LoadArg answer func))) ≡ told_of p =
             ap (λ b. told_of (cond b (calls_now p me (p.now.stop v.slot).work (at (Slot v.slot field.Arg)) answer) p)) calm in
             plain (Advance v (round.LoadArg answer func)) nothing
@@ -262,24 +260,8 @@ module _ (u : Setup) (p : StopState) (at : Word → ℕ) (seat : ℕ → Seat) (
             g ≡ carried me p.now.patching f → p.now.inside me ≡ Some v.slot → (b ≡ true → HasCalled me (p.now.stop v.slot).work f ⊎
             ((p.now.stop v.slot).work.kind ≡ Patch)) →
             (b ≡ true → IsQuiet (Some (visit_acked v answer ran)) g) → (b ≡ false → IsQuiet (Some (visit_acked v answer ran)) f) → Now stage
-        done true g same is in_ ready y n = record {
-          mine = subst (CarriesIn (control_then u at c me stage)) (sym (ap (λ (x : Told). x.calling me) same ∙ put_same p.calling me g))
-              (acked_control answer ran (found == 1) g (y refl));
-          others = λ cpu ne. ap (λ (x : Told). x.calling cpu) same ∙ put_other p.calling me g cpu ne;
-          goes = inr (inr (inl record {
-            slot = v.slot;
-            inside = in_;
-            called = ready refl;
-            carries = same ∙ ap (λ y. record (told_of p) { calling = put p.calling me y; calls = called_more p.calls me f }) is;
-            says = silent;
-          }));
-        }
-        done false g same is in_ ready y n = record {
-          mine = subst (CarriesIn (control_then u at c me stage)) (sym (ap (λ (x : Told). x.calling me) same)) (acked_control answer ran (found == 1) f
-              (n refl));
-          others = λ cpu ne. ap (λ (x : Told). x.calling cpu) same;
-          goes = inl record { same = same; says = silent };
-        }
+        done true g same is in_ ready y n = search (stage, put_same, acked_control, found, put_other, called, calls, silent, arith)
+        done false g same is in_ ready y n = search (stage, acked_control, found, silent, arith)
 
         -- who acknowledges RUN has called its function, or is not to call one
         has_called : (w work : Work) → w ≡ work → IsLoaded v work → (b : Bool) → RunsIf me v b → (g : Calling) → IsAcking v answer b g → v.acked ≡ 2 →
@@ -311,16 +293,13 @@ module _ (u : Setup) (p : StopState) (at : Word → ℕ) (seat : ℕ → Seat) (
             let st : Stands p.now me (In v.slot work v.acked (v.acked + 1) Rests) = subst (Stands p.now me) is (h.present.stands me) in
             let alone = carried_alone u.first p.now.patching seat me f (subst IsNoPatch (sym is) tt) h.present.runner in
             let q = at_stage stage e in
-            done (v.acked + 1 == 3) (carried me p.now.patching f) (after (v.acked + 1) st.1) refl st.0
-            (λ three. inl (has_called (p.now.stop v.slot).work work st.3 loaded ran runs f q (let z = eqb-true (v.acked + 1) 3 three in omega arith)))
-            (λ _. subst (IsQuiet (Some (visit_acked v answer ran))) (sym alone) (ran_on ran f refl runs q)) (λ other. stays ran f refl runs q other)
+            search (done, after, has_called, q, eqb-true, ran_on, stays, arith)
         either work loaded (inr (two, r, (n, answers, is))) =
             let st : Stands p.now me (Alters v.slot work n (plan_at u work n) []) = subst (Stands p.now me) is (h.present.stands me) in
             let standing : (p.now.stop v.slot).standing me ≡ Inside v.acked 3 = st.1 ∙ ap (λ n. Inside n 3) (sym two) in
             let own : carried me p.now.patching f ≡ Carries (patch_answer work n) =
             ap (λ x. carried me x f) st.5 ∙ ap (λ b. cond b (Carries (patch_answer work n)) (carried_call f)) (eq-eqb me me refl) in
-            done true (carried me p.now.patching f) (after 3 standing) refl st.0 (λ _. inr (ap (λ (x : Work). x.kind) st.3 ∙ st.4))
-            (λ _. subst (IsQuiet (Some (visit_acked v answer ran))) (sym own) (ap (λ b. cond b answer v.answer) r ∙ answers)) (λ bad. cc)
+            search (done, after, arith)
 
     -- the completion
     none_acked : (work : Work) → work.kind ≡ One → seat me ≡ In v.slot work v.acked v.acked Rests → v.acked ≡ 0
@@ -350,25 +329,11 @@ module _ (u : Setup) (p : StopState) (at : Word → ℕ) (seat : ℕ → Seat) (
         done : (a x : ℕ) → told_of (state_after u p at c me (Complete v completion.CountDown)) ≡ told_of (completes_with p me v.slot a x found) →
             p.now.inside me ≡ Some v.slot → x ≡ v.answer →
             ((p.now.stop v.slot).work.kind ≡ One → f ≢ Idle) → Now (Complete v completion.CountDown)
-        done a x same in_ answers called = record {
-          mine = subst (CarriesIn (control_then u at c me (Complete v completion.CountDown))) (sym (ap (λ (y : Told). y.calling me) same ∙ put_same
-              p.calling me Idle))
-              (elim (found == 1) as (λ b. CarriesIn (cond b (stop_goes (record c { visit = None }) (Close v.slot)) (stop_ends (record c { visit = None })
-              note.Finished)).control Idle) [ true ↦ tt | false ↦ tt ]);
-          others = λ cpu ne. ap (λ (y : Told). y.calling cpu) same ∙ put_other p.calling me Idle cpu ne;
-          goes = inr (inr (inr record {
-            slot = v.slot;
-            inside = in_;
-            called = called;
-            completes = same ∙ ap (λ n. record {
-              calling = put p.calling me Idle;
-              calls = called_more p.calls me f;
-              answers = put p.answers me
-                  (put (p.answers me) v.slot (p.answers me v.slot ++ n ∷ []));
-            }) (answers ∙ ending f q);
-            says = silent;
-          }));
-        }
+        done a x same in_ answers called =
+            let mine' = subst (CarriesIn (control_then u at c me (Complete v completion.CountDown))) (sym (ap (λ (y : Told). y.calling me) same ∙ put_same
+            p.calling me Idle)) (elim (found == 1) as (λ b. CarriesIn (cond b (stop_goes (record c { visit = None }) (Close v.slot)) (stop_ends (record c
+            { visit = None }) note.Finished)).control Idle) [ true ↦ tt | false ↦ tt ]) in
+            search (mine', put_other, called, calls, ending, q, silent, arith)
 
         left_one : (g : Calling) → IsEnding v g → v.acked ≡ 0 → g ≢ Idle
         left_one Idle is none = λ _. let four = is.0 in omega arith

@@ -117,10 +117,7 @@ answer_replaced u p at seat source h me s w a l t x is = record {
   setup = h.setup;
   present = h.present;
   gate = h.gate;
-  callings = put_all (λ c y. IsCalling c (seat c) y) p.calling me (with_answer x (p.calling me))
-      (subst (λ y. IsCalling me y (with_answer x (p.calling me))) (sym is) (answered_in me s w a l t x (p.calling me)
-      (subst (λ y. IsCalling me y (p.calling me)) is (h.callings me))))
-      (λ c ne. h.callings c);
+  callings = search (put_all, answered_in, h.callings, arith);
   closing = h.closing;
   sources = h.sources;
   past = h.past;

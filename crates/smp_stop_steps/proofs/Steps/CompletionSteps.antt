@@ -73,20 +73,9 @@ module _ (u : Setup) (p : StopState) (at : Word → ℕ) (seat : ℕ → Seat) (
   close : (slot : ℕ) → c.stage ≡ Some (Close slot) → StopStep u p at seat source c me (Close slot)
   close slot e =
       let x = at_seat s (Close slot) e in
-      record {
-        seat_after = Free;
-        source_after = source me;
-        shows = moved_seat u seat source me (state_after u p at c me (Close slot)) (at_then u at c me (Close slot)) Free (done_stored u p at seat source h
-            slot me 0 x.1);
-        sits = record {
-          below = s.below;
-          irq = s.irq ∙ ap irq_of x.1;
-          seat = subst (λ x. SitsAtRest x Free) (sym x.0) refl;
-          source = at_source s (Close slot)
-              e;
-          gate_held = tt;
-        };
-      }
+      let shows' = moved_seat u seat source me (state_after u p at c me (Close slot)) (at_then u at c me (Close slot)) Free (done_stored u p at seat source h
+      slot me 0 x.1) in
+      search (shows', at_source, arith)
 
   module _ (v : Visit) where
     one_func : (answer : ℕ) → c.stage ≡ Some (Complete v (completion.LoadFunc answer)) → StopStep u p at seat source c me
@@ -97,27 +86,17 @@ module _ (u : Setup) (p : StopState) (at : Word → ℕ) (seat : ℕ → Seat) (
           seat_after = seat me;
           source_after = source me;
           shows = still u seat source me p at h;
-          sits = record {
-            below = s.below;
-            irq = s.irq;
-            seat = (x.0, (x.1.0, (x.1.1.0, x.1.1.1, x.1.1.2, (work_words u p at seat source h v.slot me x.1.1.0 v.acked v.acked Rests x.1.1.2).func)));
-            source = at_source s (Complete v (completion.LoadFunc answer)) e;
-            gate_held = tt;
-          };
+          sits = search (work_words, at_source, arith);
         }
 
     one_arg : (answer func : ℕ) → c.stage ≡ Some (Complete v (completion.LoadArg answer func)) → StopStep u p at seat source c me
         (Complete v (completion.LoadArg answer func))
     one_arg answer func e =
         let x = at_seat s (Complete v (completion.LoadArg answer func)) e in
-        record {
-          seat_after = seat me;
-          source_after = source me;
-          shows = still u seat source me (state_after u p at c me (Complete v (completion.LoadArg answer func))) at (arg_loaded u p at seat source h v.slot
-              me x.1.1.0
-              v.acked v.acked Rests x.1.1.2 answer refl);
-          sits = go x.1.0 x.1.1.0 x.1.1.1 x.1.1.2 (at_source s (Complete v (completion.LoadArg answer func)) e) (answer == 0) refl;
-        }
+        let shows' = still u seat source me (state_after u p at c me (Complete v (completion.LoadArg answer func))) at (arg_loaded u p at seat source h v.slot
+        me x.1.1.0 v.acked v.acked Rests x.1.1.2 answer refl) in
+        let sits' = go x.1.0 x.1.1.0 x.1.1.1 x.1.1.2 (at_source s (Complete v (completion.LoadArg answer func)) e) (answer == 0) refl in
+        search (shows', sits', arith)
       where
         go : v.kind ≡ One → (work : Work) → IsLoaded v work → seat me ≡ In v.slot work v.acked v.acked Rests → OwnsIf c.is_open (source me) → (b : Bool) →
             (answer == 0) ≡ b →
@@ -125,36 +104,8 @@ module _ (u : Setup) (p : StopState) (at : Word → ℕ) (seat : ℕ → Seat) (
               stage = Some (Complete (record v { answer = answer }) (cond b completion.CountDown completion.StoreAnswer));
               visit = Some (record v { answer = answer });
             }) (seat me) (source me)
-        go one work loaded is y true z = record {
-          below = s.below;
-          irq = s.irq;
-          seat = (refl, (work, inl (eqb-true answer 0 z, record { kind = loaded.kind; mask = loaded.mask; active = loaded.active }, inr one, is)));
-          source = y;
-          gate_held = tt;
-        }
-        go one work loaded is y false z = record {
-          below = s.below;
-          irq = s.irq;
-          seat = (
-            refl,
-            (
-              (λ none. let bad : true ≡ false = sym (eq-eqb answer 0 none) ∙ z in cc),
-              inr one,
-              (
-                work,
-                record {
-                  kind = loaded.kind;
-                  mask =
-                      loaded.mask;
-                  active = loaded.active;
-                },
-                is,
-              ),
-            ),
-          );
-          source = y;
-          gate_held = tt;
-        }
+        go one work loaded is y true z = search (eqb-true, arith)
+        go one work loaded is y false z = search (eq-eqb, arith)
 
     through_of : (work : Work) → IsLoaded v work → IsThroughAll v → (v.acked ≡ 4) ⊎ (work.kind ≡ One)
     through_of work loaded t = ⊎_elim (λ (x : v.acked ≡ 4). inl x) (λ (x : v.kind ≡ One). inr (sym loaded.kind ∙ x)) t
@@ -180,13 +131,7 @@ module _ (u : Setup) (p : StopState) (at : Word → ℕ) (seat : ℕ → Seat) (
               (calling_given me v.slot work v.acked v.acked v.answer (p.calling me) some through
               (ends (p.calling me) (subst (λ (st : Option StopStage). CarriesAt c.visit st (p.calling me)) e k))
               (subst (λ x. IsCalling me x (p.calling me)) is (h.callings me))));
-          sits = record {
-            below = s.below;
-            irq = s.irq ∙ on_now u p at seat source h v.slot me work v.acked v.acked is through;
-            seat = (x.0, (work, inr refl));
-            source = at_source s (Complete v completion.StoreAnswer) e;
-            gate_held = tt;
-          };
+          sits = search (on_now, at_source, arith);
         }
 
     counted_sits : OwnsIf c.is_open (source me) → c.interrupts ≡ true → (b : Bool) →
@@ -208,29 +153,21 @@ module _ (u : Setup) (p : StopState) (at : Word → ℕ) (seat : ℕ → Seat) (
             let next = cond (found == 1) (Closes v.slot) Free in
             let bounds = todo_bounds u p at seat source h v.slot me work v.acked v.acked Rests is in
             let less = less_one found bounds.0 (ack_small found u.cpus h.setup.few bounds.1) in
-            record {
-              seat_after = next;
-              source_after = source me;
-              shows = subst (λ n. StopShows u (state_after u p at c me (Complete v completion.CountDown)) (put_word at (Slot v.slot Todo) n)
-                  (put seat me next) (put source me (source me))) (sym less)
-                  (moved_seat u seat source me (state_after u p at c me (Complete v completion.CountDown)) (put_word at (Slot v.slot Todo) (found - 1)) next
-                  (todo_subtracted u p at seat source h v.slot me work v.acked v.acked 0 is through));
-              sits = counted_sits y (s.irq ∙ on_now u p at seat source h v.slot me work v.acked v.acked is through) (found == 1);
-            }
+            let shows' = subst (λ n. StopShows u (state_after u p at c me (Complete v completion.CountDown)) (put_word at (Slot v.slot Todo) n) (put seat me
+            next) (put source me (source me))) (sym less) (moved_seat u seat source me (state_after u p at c me (Complete v completion.CountDown))
+            (put_word at (Slot v.slot Todo) (found - 1)) next (todo_subtracted u p at seat source h v.slot me work v.acked v.acked 0 is through)) in
+            let sits' = counted_sits y (s.irq ∙ on_now u p at seat source h v.slot me work v.acked v.acked is through) (found == 1) in
+            search (shows', sits', arith)
         either work (inr is) y =
             let found = at (Slot v.slot Todo) in
             let next = cond (found == 1) (Closes v.slot) Free in
             let bounds = todo_bounds_answered u p at seat source h v.slot me work v.acked v.answer is in
             let less = less_one found bounds.0 (ack_small found u.cpus h.setup.few bounds.1) in
-            record {
-              seat_after = next;
-              source_after = source me;
-              shows = subst (λ n. StopShows u (state_after u p at c me (Complete v completion.CountDown)) (put_word at (Slot v.slot Todo) n)
-                  (put seat me next) (put source me (source me))) (sym less)
-                  (moved_seat u seat source me (state_after u p at c me (Complete v completion.CountDown)) (put_word at (Slot v.slot Todo) (found - 1)) next
-                  (todo_subtracted_answered u p at seat source h v.slot me work v.acked v.answer 0 is));
-              sits = counted_sits y (s.irq ∙ ap irq_of is) (found == 1);
-            }
+            let shows' = subst (λ n. StopShows u (state_after u p at c me (Complete v completion.CountDown)) (put_word at (Slot v.slot Todo) n) (put seat me
+            next) (put source me (source me))) (sym less) (moved_seat u seat source me (state_after u p at c me (Complete v completion.CountDown))
+            (put_word at (Slot v.slot Todo) (found - 1)) next (todo_subtracted_answered u p at seat source h v.slot me work v.acked v.answer 0 is)) in
+            let sits' = counted_sits y (s.irq ∙ ap irq_of is) (found == 1) in
+            search (shows', sits', arith)
 
   -- any step of any command
   pub stop_step_shown : CarriesIn c (p.calling me) → (stage : StopStage) → c.stage ≡ Some stage → StopStep u p at seat source c me stage

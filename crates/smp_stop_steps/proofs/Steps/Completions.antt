@@ -60,14 +60,7 @@ module _ (u : Setup) (p : StopState) (at : Word → ℕ) (seat : ℕ → Seat) (
       let called : (p.now.stop s).standing me ≡ Called = called_is ((p.now.stop s).standing me) (sym ((h.present.slots s).roll me) ∙ found) in
       let open_ = is_open_inside u.cpus (p.now.stop s) w (h.present.slots s) me Called called refl in
       let k = keeps_inside u.cpus (p.now.stop s) w (h.present.slots s) me Called called in
-      let stays : StaysOpen (p.now.stop s) stop' = record {
-        was = open_;
-        now = open_;
-        work = refl;
-        end = λ e. e;
-        given = put_all (λ c y. answer_now y ≡ answer_now ((p.now.stop s).standing c)) (p.now.stop s).standing me to (sym (ap answer_now called))
-            (λ c ne. refl);
-      } in
+      let stays : StaysOpen (p.now.stop s) stop' = search (open_, put_all, arith) in
       let at' = put_word at (Slot s Roll) n in
       subst (λ b. StopShows u (cond b (record p { now = enters p.now me s }) p) at' (put seat me (In s (p.now.stop s).work 0 0 Rests)) source) (sym found)
       (open_step u p at seat source h s stop' inside' p.now.irq p.now.readings p.now.patching at' (put seat me (In s (p.now.stop s).work 0 0 Rests)) p.looks
@@ -123,20 +116,8 @@ module _ (u : Setup) (p : StopState) (at : Word → ℕ) (seat : ℕ → Seat) (
         let to = Answering a v in
         let stop' = stands (p.now.stop s) me to in
         let at' = put_word at (Slot s Result) v in
-        let inside : MovesInside ((p.now.stop s).standing me) to = record {
-          inside = λ _. ap is_inside st.1;
-          late =
-              λ x. subst (λ (y : Standing). 3 ≤ acked y) (sym st.1) x;
-          given = sym (ap answer_now st.1);
-        } in
-        let stays : StaysOpen (p.now.stop s) stop' = record {
-          was = open_;
-          now = open_;
-          work = refl;
-          end = λ e. e;
-          given = moves_given u.first s me
-              (p.now.stop s) to inside;
-        } in
+        let inside : MovesInside ((p.now.stop s).standing me) to = search arith in
+        let stays : StaysOpen (p.now.stop s) stop' = search (open_, moves_given, arith) in
         subst (λ b. StopShows u (cond b (stored_open p me s Result v) (stored_shut p s Result v)) at' (put seat me (Gives s job a v)) source) (sym open_)
         (subst (λ (x : Standing). StopShows u (record p { now = with_stop p.now s (stands (p.now.stop s) me (answered_by x v)) }) at'
         (put seat me (Gives s job a v)) source) (sym st.1)

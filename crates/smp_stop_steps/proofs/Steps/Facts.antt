@@ -68,21 +68,11 @@ module _ (u : Setup) (p : StopState) (at : Word → ℕ) (seat : ℕ → Seat) (
             StopShows u (cond b (calls_now p me (p.now.stop s).work (at (Slot s Arg)) answer) p) at seat source
         go false e = h
         go true e =
-            let may : may_call me job (Inside a l) ≡ true = sym (ap (λ (w : Work). may_call me w ((p.now.stop s).standing me)) st.3 ∙ ap (may_call me job)
-            st.1) ∙ e in
+            let may : may_call me job (Inside a l) ≡ true = search arith in
             let calls : IsCalling me (In s job a l Rests) (Calls called) = ((ap (λ (w : Work). w.func) st.3, work_words.arg), call_may me job a l may) in
-            record {
-              setup = h.setup;
-              present = h.present;
-              gate = h.gate;
-              callings = put_all (λ c x. IsCalling c (seat c) x) p.calling me (Calls called) (subst (λ x. IsCalling me x (Calls called))
-                  (sym (is ∙ ap (In s job a l) rests)) calls) (λ c ne. h.callings c);
-              closing = h.closing;
-              sources = h.sources;
-              past = h.past;
-              owns = h.owns;
-              counts = h.counts;
-            }
+            let callings' = put_all (λ c x. IsCalling c (seat c) x) p.calling me (Calls called) (subst (λ x. IsCalling me x (Calls called)) (sym (is ∙ ap (In
+            s job a l) rests)) calls) (λ c ne. h.callings c) in
+            search (callings', arith)
 
     -- the CPU is of the mask, and of the machine
     pub inside_keeps : Keeps u.cpus (p.now.stop s).phase me (Inside a l)
@@ -111,12 +101,10 @@ module _ (u : Setup) (p : StopState) (at : Word → ℕ) (seat : ℕ → Seat) (
   ack_known a is =
       let o = (h.present.slots s).shows (is_open_inside u.cpus (p.now.stop s) (λ f. at (Slot s f)) (h.present.slots s) me (Inside a (a + 1)) is refl) in
       let k = keeps_inside u.cpus (p.now.stop s) (λ f. at (Slot s f)) (h.present.slots s) me (Inside a (a + 1)) is in
-      let phase : (p.now.stop s).phase ≡ a + 1 = ⊎_elim (λ (e : a + 1 ≡ a). absurd (omega arith)) (λ (e : (a + 1 ≡ a + 1) × ((p.now.stop s).phase ≡ a + 1)).
-      e.1) k.2 in
+      let phase : (p.now.stop s).phase ≡ a + 1 = search arith in
       let busy : (p.now.stop s).phase ≢ 0 = λ z. omega arith in
       let none = nobody_raises u.cpus (p.now.stop s) (at (Slot s Ack)) me a (a + 1) (p.now.stop s).raising is k.0 (λ e. omega arith) (o.ack busy) in
-      let counted : at (Slot s Ack) ≡ count_behind u.cpus (p.now.stop s).phase (p.now.stop s).standing = subst (λ r. AckShows u.cpus (p.now.stop s).phase
-      (p.now.stop s).standing r (at (Slot s Ack))) none (o.ack busy) in
+      let counted : at (Slot s Ack) ≡ count_behind u.cpus (p.now.stop s).phase (p.now.stop s).standing = search (o.ack, arith) in
       let most = sum_most (λ c. behind (p.now.stop s).phase ((p.now.stop s).standing c)) u.cpus (λ c. behind_most (p.now.stop s).phase
       ((p.now.stop s).standing c)) in (
         more (at (Slot s Ack)) (λ z. none_raises u.cpus (p.now.stop s).phase (p.now.stop s).standing me a (a + 1) is k.0 (λ e. omega arith)

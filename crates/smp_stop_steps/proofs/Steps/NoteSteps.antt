@@ -137,8 +137,7 @@ module _ (u : Setup) (p : StopState) (at : Word → ℕ) (seat : ℕ → Seat) (
   begun : (work : Work) (f : Field) → c.stage ≡ Some (Begin work f) → Fits (Begin work f)
   begun work f e =
       let d : DraftShows u p.gate (p.now.stop me) (λ f. at (Slot me f)) me work (order f) = source_is (Drafts work (order f)) (source_at (Begin work f) e).1 in
-      subst (λ b. NoteFits p (cond b (stored_open p me me f (begun_value u.cpus work f)) (stored_shut p me f (begun_value u.cpus work f))) me
-      (begun_next c work f).note) (sym d.shut) (go d.shut f)
+      search (go, arith)
     where
       here : put p.now.stop me (opened (p.now.stop me) (p.now.stop me).work) me ≡ opened (p.now.stop me) (p.now.stop me).work
       here = put_same p.now.stop me (opened (p.now.stop me) (p.now.stop me).work)
@@ -174,12 +173,7 @@ module _ (u : Setup) (p : StopState) (at : Word → ℕ) (seat : ℕ → Seat) (
         after d = record (looks p me v.slot found) { now = record (looks_now p.now me v.slot found) { irq = cond d (put p.now.irq me false) p.now.irq } }
 
         still : (d : Bool) → StaysStill p (after d) me
-        still d j in_ = record {
-          acked = inl (put_acked p.now.stop v.slot me (stands_at (p.now.stop v.slot) me (looked_by ((p.now.stop v.slot).standing me) found))
-              (ap acked (put_same (p.now.stop v.slot).standing me (looked_by ((p.now.stop v.slot).standing me) found)) ∙
-              looked_acked ((p.now.stop v.slot).standing me) found) j);
-          inside = inl in_;
-        }
+        still d j in_ = search (put_acked, found, put_same, looked_acked, arith)
 
         go : (work : Work) → seat me ≡ In v.slot work v.acked v.acked Rests → (b d : Bool) → (found == v.acked) ≡ b → (found == 2) ≡ d →
             NoteFits p (after d) me (cond b (stop_ends c note.Same) (looked_on me c v answer found)).note
@@ -266,9 +260,7 @@ module _ (u : Setup) (p : StopState) (at : Word → ℕ) (seat : ℕ → Seat) (
             let run = x.1.1 in
             let st : Stands p.now me (In v.slot x.1.0 2 3 Rests) = stands (In v.slot x.1.0 2 3 Rests) run.3 in
             let kind : (p.now.stop v.slot).work.kind ≡ Patch = ap (λ (w : Work). w.kind) st.3 ∙ (sym run.0.kind ∙ x.0) in
-            ap (λ y. heard_of (record p { now = key_loaded u p.now me key found y })) st.0 ∙
-            patch (is_at_run ((p.now.stop v.slot).standing me) && is_patch (p.now.stop v.slot).work.kind)
-            (ap (λ y. is_at_run y && is_patch (p.now.stop v.slot).work.kind) st.1 ∙ ap is_patch kind)
+            search (found, patch, arith)
 
     -- the acknowledgement of a phase
     module _ (answer : ℕ) (ran : Bool) where
@@ -329,10 +321,7 @@ module _ (u : Setup) (p : StopState) (at : Word → ℕ) (seat : ℕ → Seat) (
             record {
               acked = record { slot = v.slot; inside = in_; stands = acked_stands ∙ ap (λ n. Inside n n) is_four };
               off = ⊎_elim (λ (o : p.now.irq me ≡ false). o) (λ (ne : phase ≢ 4). absurd (ne is_four)) off;
-              on = ap (λ (w : Work). record (heard_of p) {
-                irq = put p.now.irq me true;
-                readings = put p.now.readings me (first_readings me v.slot w);
-              }) (sym (ap (λ (x : Stop). x.work) acked_here));
+              on = search (acked_here, arith);
             }
         acked_fits false false one four = search (acked_turn, eq-eqb, arith)
 
@@ -390,10 +379,7 @@ module _ (u : Setup) (p : StopState) (at : Word → ℕ) (seat : ℕ → Seat) (
             record {
               acked = record { slot = v.slot; inside = in_; stands = raised_stands ∙ ap (λ n. Inside n n) is_four };
               off = h.present.irq me ∙ (ap irq_of is ∙ ap (λ n. irq_of (In v.slot work n n Sets)) is_four);
-              on = ap (λ (w : Work). record (heard_of p) {
-                irq = put p.now.irq me true;
-                readings = put p.now.readings me (first_readings me v.slot w);
-              }) (sym (ap (λ (x : Stop). x.work) raised_here));
+              on = search (raised_here, arith);
             }
         raised_fits true false four five = search (eqb-true, v.acked, eq-eqb, arith)
         raised_fits false true four five = search (eqb-true, eq-eqb, v.acked, arith)
@@ -415,11 +401,7 @@ module _ (u : Setup) (p : StopState) (at : Word → ℕ) (seat : ℕ → Seat) (
             let both : Some j ≡ Some v.slot = sym is ∙ in_ in
             let same : j ≡ v.slot = cc in
             let next = completed (p.now.stop v.slot) me a x found in
-            record {
-              acked = inl (put_acked p.now.stop v.slot me next (ap acked (put_same (p.now.stop v.slot).standing me (Completed a x)) ∙ sym was) j);
-              inside = inr (ap (λ i. (put p.now.stop v.slot next i).ending) same ∙ (ap (λ (y : Stop). y.ending) (put_same p.now.stop v.slot next) ∙
-                  ap (λ b. cond b (Last me) (p.now.stop v.slot).ending) one));
-            }
+            search (put_acked, next, put_same, same, one, arith)
 
         go : (a x : ℕ) → p.now.inside me ≡ Some v.slot → acked ((p.now.stop v.slot).standing me) ≡ a → (b : Bool) → (found == 1) ≡ b →
             NoteFits p (completes_with p me v.slot a x found) me

@@ -136,20 +136,7 @@ module _ (u : Setup) (p : StopState) (at : Word → ℕ) (seat : ℕ → Seat) (
         (calling_same seat p.calling h.callings me (Alters s job found [] plan) (subst (IsCalling me (Alters s job found [] plan))
         (sym (idle_patch me s job 3 Rests (p.calling me) kind (subst (λ x. IsCalling me x (p.calling me)) is (h.callings me)))) tt))
         (closing_seat p.now seat me (Alters s job found [] plan) h.closing (subst IsNotClosing (sym is) tt)) in
-        subst (λ x. StopShows u (record p { now = key_loaded u p.now me job.func found x }) at seat' source) (sym st.0)
-        (subst (λ x. StopShows u (record p {
-          now = cond (is_at_run x && is_patch (p.now.stop s).work.kind)
-              (record (p.now) { patching = patch_begun u me (p.now.stop s).work found }) (reads p.now me (ReadKey job.func (is_on found)));
-        }) at seat' source)
-        (sym st.1)
-        (subst (λ (x : Work). StopShows u (record p {
-          now = cond (is_patch x.kind) (record (p.now) { patching = patch_begun u me x found })
-              (reads p.now me (ReadKey job.func (is_on found)));
-        }) at seat' source) (sym st.3)
-        (subst (λ k. StopShows u (record p {
-          now = cond (is_patch k) (record (p.now) { patching = patch_begun u me job found })
-              (reads p.now me (ReadKey job.func (is_on found)));
-        }) at seat' source) (sym kind) shown)))
+        search arith
 
     alters_calling : (count : ℕ) (made rest made' rest' : List Change) → seat me ≡ Alters s job count made rest → (c : ℕ) →
         IsCalling c (put seat me (Alters s job count made' rest') c) (p.calling c)
@@ -162,8 +149,7 @@ module _ (u : Setup) (p : StopState) (at : Word → ℕ) (seat : ℕ → Seat) (
         (put seat me (Alters s job count (made ++ (place.Key k, n) ∷ []) rest)) source
     key_stored count made rest k n answer below is none here =
         let st : Stands p.now me (Alters s job count made ((place.Key k, n) ∷ rest)) = subst (Stands p.now me) is (h.present.stands me) in
-        let l : LabelsShow (Patches me job count made ((place.Key k, n) ∷ rest)) (labels_in at) = subst (λ x. LabelsShow x (labels_in at)) st.5
-        h.present.labels in
+        let l : LabelsShow (Patches me job count made ((place.Key k, n) ∷ rest)) (labels_in at) = search arith in
         let was : at (Key k) ≡ count = ap (λ (t : Table). t.key k) (l.2 ∙ ap (λ m. applied m l.0) none) ∙ (ap l.0.key here ∙ l.3) in
         let made' = made ++ (place.Key k, n) ∷ [] in
         let at' = put_word at (Key k) n in

@@ -79,12 +79,7 @@ module _ (u : Setup) (p : StopState) (at : Word → ℕ) (seat : ℕ → Seat) (
       let irq' = cond (found == 2) (put p.now.irq me false) p.now.irq in
       let looks' = put p.looks me (p.looks me ++ found ∷ []) in
       let next = In s job a found Rests in
-      let inside : MovesInside ((p.now.stop s).standing me) to = record {
-        inside = λ _. ap is_inside st.1;
-        late = λ x. subst (λ (y : Standing). 3 ≤ acked y)
-            (sym st.1) x;
-        given = sym (ap answer_now st.1);
-      } in
+      let inside : MovesInside ((p.now.stop s).standing me) to = search arith in
       subst (λ (x : Standing). StopShows u (record p {
         now = after p.now s (stands (p.now.stop s) me (looked_by x found)) p.now.inside irq' p.now.readings
             p.now.patching;
@@ -241,8 +236,7 @@ module _ (u : Setup) (p : StopState) (at : Word → ℕ) (seat : ℕ → Seat) (
         record {
           inside = λ c ne. refl;
           irq = λ c ne. put_other p.now.irq me true c ne;
-          readings = λ c ne. put_other p.now.readings me
-              (first_readings me s (p.now.stop s).work) c ne;
+          readings = search (put_other, arith);
         }
         job a is
         (put_same p.now.irq me true ∙ sym (leaves_irq (found == 1) ∙ ap (λ b. cond b true (nat_lt (a + 1) 2)) e))
@@ -292,12 +286,9 @@ module _ (u : Setup) (p : StopState) (at : Word → ℕ) (seat : ℕ → Seat) (
         let st = here job a (a + 1) Rests is in
         let k = keeps job a (a + 1) Rests is in
         let idle : IsNoPatch (seat me) = subst IsNoPatch (sym is) tt in
-        let phase : (p.now.stop s).phase ≡ a + 1 = ⊎_elim (λ (e : a + 1 ≡ a). absurd (omega arith))
-        (λ (e : (a + 1 ≡ a + 1) × ((p.now.stop s).phase ≡ a + 1)). e.1) k.2 in
-        let many : job.kind ≢ One = λ one. several ((p.now.stop s).work.kind) (ap (λ (w : Work). w.kind) st.3 ∙ one) (shown job a (a + 1) Rests is).kinds
-        phase in
-        let off : p.now.irq me ≡ nat_lt (a + 1) 2 = h.present.irq me ∙ (ap irq_of is ∙ or_false (nat_lt (a + 1) 2) (a == 4)
-        (ne_eqb a 4 (λ e. let m = k.3 in omega arith))) in
+        let phase : (p.now.stop s).phase ≡ a + 1 = search arith in
+        let many : job.kind ≢ One = search (several, shown, arith) in
+        let off : p.now.irq me ≡ nat_lt (a + 1) 2 = search (h.present.irq, or_false, nat_lt, ne_eqb, arith) in
         subst (λ (x : Standing). StopShows u (acknowledges p me s x found) (put_word at (Slot s Ack) (found - 1)) (put seat me next) source) (sym st.1)
         (subst (λ (x : Patching). StopShows u (record p {
           now = cond (a + 1 == 4 && not (found == 1)) (leaves (acked_now x) me s (p.now.stop s).work)
@@ -380,8 +371,7 @@ module _ (u : Setup) (p : StopState) (at : Word → ℕ) (seat : ℕ → Seat) (
       let v = mask_weight u.cpus job.mask in
       let stop' = refilled (p.now.stop s) me in
       let next = In s job a l Sets in
-      let whole : weight u.cpus (p.now.stop s).standing ≡ v = weight_of_mask u.cpus (p.now.stop s) (λ f. at (Slot s f)) (h.present.slots s) open_ ∙ ap
-      (λ (w : Work). mask_weight u.cpus w.mask) st.3 in
+      let whole : weight u.cpus (p.now.stop s).standing ≡ v = search (weight_of_mask, h.present.slots, arith) in
       let stays : StaysOpen (p.now.stop s) stop' = record { was = open_; now = open_; work = refl; end = λ e. e; given = λ c. refl } in
       subst (λ b. StopShows u (cond b (stored_open p me s Ack v) (stored_shut p s Ack v)) (put_word at (Slot s Ack) v) (put seat me next) source) (sym open_)
       (open_step u p at seat source h s stop' p.now.inside p.now.irq p.now.readings p.now.patching (put_word at (Slot s Ack) v) (put seat me next) p.looks
@@ -427,8 +417,7 @@ module _ (u : Setup) (p : StopState) (at : Word → ℕ) (seat : ℕ → Seat) (
       let stays : StaysOpen (p.now.stop s) stop' = record { was = open_; now = open_; work = refl; end = λ e. e; given = λ c. refl } in
       let own = λ (irq' : ℕ → Bool) (readings' : ℕ → List Reading).
       owns_kept u.first p.now (λ k. at (Key k)) s stop' p.now.inside irq' readings' p.now.patching stays record { inside = λ i. i; late = λ i. i } h.owns in
-      subst (λ b. StopShows u (cond b (stored_open p me s State (a + 1)) (stored_shut p s State (a + 1))) at' (put seat me next) source) (sym open_)
-      (go (a + 1 == 5) refl st phase looked busy stays own)
+      search (go, arith)
     where
       one : (r : Raising) → turn_of r me ≡ Sets → r ≡ Nobody → ⊥
       one Nobody e z = cc

@@ -96,16 +96,12 @@ module _ (u : Setup) (p : StopState) (at : Word → ℕ) (seat : ℕ → Seat) (
     closing = λ j c. at_test j me (λ b. let y = cond b stop' (p.now.stop j) in y.is_open ≡ true → y.ending ≡ Last c → (seat c ≡ Closes j) × HasCompleted
         (y.standing c))
         (λ e op l. absurd (last c op l)) (λ ne. h.closing j c);
-    sources = put_both (λ j x y. SourceShows u p.gate y (λ f. at' (Slot j f)) j x) source p.now.stop me next stop' here
-        (λ j ne. source_same u p.gate j (p.now.stop j) (λ f. at (Slot j f)) (λ f. at' (Slot j f)) (slots j ne) (source j) (h.sources j));
+    sources = search (put_both, source_same, h.sources, arith);
     past = λ j. at_test j me (λ b. HasPast (cond b stop' (p.now.stop j)) (begun' j) (collected' j) (λ c. p.answers c j))
         (λ e. let P : ℕ → Type 0 = λ k. HasPast stop' (begun' k) (collected' k) (λ c. p.answers c k) in subst P (sym e) past)
         (λ ne. let P : List Work → List ℕ → Type 0 = λ x y. HasPast (p.now.stop j) x y (λ c. p.answers c j) in
         subst (λ x. P x (collected' j)) (sym (begun j ne)) (subst (λ y. P (p.begun j) y) (sym (collected j ne)) (h.past j)));
-    owns = λ j. at_test j me (λ b. let y = cond b stop' (p.now.stop j) in
-        y.is_open ≡ true → y.work.kind ≡ Patch → is_inside (y.standing j) ≡ true → 3 ≤ acked (y.standing u.first) → StandsSet y.work (at' (Key y.work.func)))
-        (λ e op kind in_ late. absurd (nobody j in_))
-        (λ ne op kind in_ late. subst (StandsSet (p.now.stop j).work) (sym (keys (p.now.stop j).work.func)) (h.owns j op kind in_ late));
+    owns = search (at_test, h.owns, arith);
     counts = λ k. subst (CountShows u.cpus p.nudged p.patched k) (sym (keys k)) (h.counts k);
   }
 
@@ -136,8 +132,7 @@ module _ (u : Setup) (p : StopState) (at : Word → ℕ) (seat : ℕ → Seat) (
         holds = d.holds;
         is_work = d.is_work;
         stored = stored_more u.cpus at me work k f place d.stored;
-        told = drafted_more u.cpus f
-            k (p.now.stop me).work work place d.told;
+        told = search (drafted_more, arith);
       }
       (past_same (p.now.stop me) stop' (p.begun me) (p.collected me) (λ c. p.answers c me) refl (λ op. absurd (apart (sym op ∙ d.shut))) (λ c. refl)
       (h.past me))
@@ -153,8 +148,7 @@ module _ (u : Setup) (p : StopState) (at : Word → ℕ) (seat : ℕ → Seat) (
   roll_stored work answer is =
       let d = draft work 10 is in
       let at' = put_word at (Slot me Roll) work.mask in
-      let same : (p.now.stop me).work ≡ work = work_ext (p.now.stop me).work work (d.told.kind (omega arith)) (d.told.mask (omega arith))
-      (d.told.active (omega arith)) (d.told.func (omega arith)) (d.told.arg (omega arith)) in
+      let same : (p.now.stop me).work ≡ work = search (work_ext, d.told.kind, d.told.mask, d.told.active, d.told.func, d.told.arg, arith) in
       let stop' = opened (p.now.stop me) work in
       let out = all_outside u.cpus (p.now.stop me) w (h.present.slots me) d.shut in
       subst (λ b. StopShows u (cond b (stored_open p me me Roll work.mask) (stored_shut p me Roll work.mask)) at' seat (put source me (Owns work))) (sym d.shut)
@@ -176,18 +170,7 @@ module _ (u : Setup) (p : StopState) (at : Word → ℕ) (seat : ℕ → Seat) (
 
   -- load of done, that found it set
   pub done_loaded : (work : Work) → source me ≡ Owns work → at (Slot me Done) ≡ 1 → StopShows u p at seat (put source me (Collects work))
-  done_loaded work is found = record {
-    setup = h.setup;
-    present = h.present;
-    gate = h.gate;
-    callings = h.callings;
-    closing = h.closing;
-    past = h.past;
-    owns = h.owns;
-    counts = h.counts;
-    sources = put_all (λ j x. SourceShows u p.gate (p.now.stop j) (λ f. at (Slot j f)) j x) source me (Collects work)
-        (owner work is, ends (p.now.stop me).ending refl ((h.present.slots me).shows (owner work is).is_open).done) (λ j ne. h.sources j);
-  }
+  done_loaded work is found = search (put_all, owner, ends, h.present.slots, h.sources, arith)
     where
       ends : (e : Ending) → (p.now.stop me).ending ≡ e → DoneShows u.cpus (p.now.stop me).standing e (at (Slot me Done)) → (p.now.stop me).ending ≡ Ended
       ends Running e d = absurd (let x = d.0 in omega arith)
@@ -200,8 +183,7 @@ module _ (u : Setup) (p : StopState) (at : Word → ℕ) (seat : ℕ → Seat) (
   result_loaded work answer is =
       let o : OwnerShows u (p.now.stop me) work × ((p.now.stop me).ending ≡ Ended) = subst (SourceShows u p.gate (p.now.stop me) w me) is (h.sources me) in
       let shown = (h.present.slots me).shows o.0.is_open in
-      let d : DoneShows u.cpus (p.now.stop me).standing Ended (at (Slot me Done)) = subst (λ e. DoneShows u.cpus (p.now.stop me).standing e
-      (at (Slot me Done))) o.1 shown.done in
+      let d : DoneShows u.cpus (p.now.stop me).standing Ended (at (Slot me Done)) = search arith in
       let result = at (Slot me Result) in
       let stop' = closed (p.now.stop me) in
       source_step stop' p.begun (put p.collected me (p.collected me ++ result ∷ [])) at Shut refl (λ j ne f. refl) (λ k. refl) refl

@@ -60,25 +60,17 @@ module _ (u : Setup) (p : StopState) (at : Word → ℕ) (seat : ℕ → Seat) (
   take_gate e =
       let x : AtRest = subst (λ (st : Option StopStage). SitsAt u me c st (seat me)) e s.seat in
       let y : OwnsIf c.is_open (source me) = subst (λ (st : Option StopStage). SourceSits c.is_open st (source me)) e s.source in
-      record {
-        seat_after = seat me;
-        source_after = source me;
-        shows = still u seat source me (state_after u p at c me TakeGate) (at_then u at c me TakeGate) (gate_is_taken (at Gate == 0) refl);
-        sits = record { below = s.below; irq = s.irq; seat = x; source = y; gate_held = tt };
-      }
+      let shows' = still u seat source me (state_after u p at c me TakeGate) (at_then u at c me TakeGate) (gate_is_taken (at Gate == 0) refl) in
+      search (shows', arith)
 
   pub open_gate : c.stage ≡ Some OpenGate → StopStep u p at seat source c me OpenGate
   open_gate e =
       let x : AtRest = subst (λ (st : Option StopStage). SitsAt u me c st (seat me)) e s.seat in
       let y : OwnsIf c.is_open (source me) = subst (λ (st : Option StopStage). SourceSits c.is_open st (source me)) e s.source in
       let g : at Gate ≡ me + 1 = subst (HoldsGate me (at Gate)) e s.gate_held in
-      record {
-        seat_after = seat me;
-        source_after = source me;
-        shows = still u seat source me (state_after u p at c me OpenGate) (at_then u at c me OpenGate) (gate_opened u p at seat source h me 0
-            (gate_mine me p.gate (sym h.gate ∙ g)) (not_drafting y));
-        sits = record { below = s.below; irq = s.irq; seat = x; source = y; gate_held = tt };
-      }
+      let shows' = still u seat source me (state_after u p at c me OpenGate) (at_then u at c me OpenGate) (gate_opened u p at seat source h me 0 (gate_mine me
+      p.gate (sym h.gate ∙ g)) (not_drafting y)) in
+      search (shows', arith)
 
   -- begin
   begins_seat : (work : Work) (f : Field) → c.stage ≡ Some (Begin work f) → AtRest
@@ -140,52 +132,35 @@ module _ (u : Setup) (p : StopState) (at : Word → ℕ) (seat : ℕ → Seat) (
 
   pub enter_mask : (slot : ℕ) (kind : KindOf) → c.stage ≡ Some (EnterMask slot kind) → StopStep u p at seat source c me (EnterMask slot kind)
   enter_mask slot kind e =
-      let x : (work : Work) × (seat me ≡ In slot work 0 0 Rests) × (kind ≡ work.kind) = subst (λ (st : Option StopStage). SitsAt u me c st (seat me)) e
-      s.seat in
+      let x : (work : Work) × (seat me ≡ In slot work 0 0 Rests) × (kind ≡ work.kind) = search arith in
       let y : OwnsIf c.is_open (source me) = subst (λ (st : Option StopStage). SourceSits c.is_open st (source me)) e s.source in
       let w = work_words u p at seat source h slot me x.0 0 0 Rests x.1 in
-      record {
-        seat_after = seat me;
-        source_after = source me;
-        shows = still u seat source me (state_after u p at c me (EnterMask slot kind)) at h;
-        sits = record { below = s.below; irq = s.irq; seat = (x.0, x.1, x.2, w.mask); source = y; gate_held = tt };
-      }
+      let shows' = still u seat source me (state_after u p at c me (EnterMask slot kind)) at h in
+      search (shows', arith)
 
   pub enter_active : (slot : ℕ) (kind : KindOf) (mask : ℕ) → c.stage ≡ Some (EnterActive slot kind mask) → StopStep u p at seat source c me
       (EnterActive slot kind mask)
   enter_active slot kind mask e =
-      let x : (work : Work) × (seat me ≡ In slot work 0 0 Rests) × (kind ≡ work.kind) × (mask ≡ work.mask) = subst (λ (st : Option StopStage). SitsAt u me c
-      st (seat me)) e s.seat in
+      let x : (work : Work) × (seat me ≡ In slot work 0 0 Rests) × (kind ≡ work.kind) × (mask ≡ work.mask) = search arith in
       let y : OwnsIf c.is_open (source me) = subst (λ (st : Option StopStage). SourceSits c.is_open st (source me)) e s.source in
       let w = work_words u p at seat source h slot me x.0 0 0 Rests x.1 in
-      record {
-        seat_after = seat me;
-        source_after = source me;
-        shows = still u seat source me (state_after u p at c me (EnterActive slot kind mask)) at h;
-        sits = record { below = s.below; irq = s.irq; seat = (x.0, record { kind = x.2; mask = x.3; active = w.active }, x.1); source = y; gate_held = tt };
-      }
+      let shows' = still u seat source me (state_after u p at c me (EnterActive slot kind mask)) at h in
+      search (shows', arith)
 
   pub read_key : (k : ℕ) → c.stage ≡ Some (ReadKey k) → StopStep u p at seat source c me (ReadKey k)
   read_key k e =
       let x : (c.interrupts ≡ true) × (k < u.keys) × AtRest = subst (λ (st : Option StopStage). SitsAt u me c st (seat me)) e s.seat in
       let y : OwnsIf c.is_open (source me) = subst (λ (st : Option StopStage). SourceSits c.is_open st (source me)) e s.source in
-      record {
-        seat_after = seat me;
-        source_after = source me;
-        shows = still u seat source me (state_after u p at c me (ReadKey k)) at (key_read u p at seat source h me k 0 (h.present.irq me ∙ (sym s.irq ∙ x.0)));
-        sits = record { below = s.below; irq = s.irq; seat = x.2; source = y; gate_held = tt };
-      }
+      let shows' = still u seat source me (state_after u p at c me (ReadKey k)) at (key_read u p at seat source h me k 0 (h.present.irq me ∙ (sym s.irq ∙
+      x.0))) in
+      search (shows', arith)
 
   pub read_site : (i : ℕ) → c.stage ≡ Some (ReadSite i) → StopStep u p at seat source c me (ReadSite i)
   read_site i e =
       let x : (c.interrupts ≡ true) × (i < length u.entries) × AtRest = subst (λ (st : Option StopStage). SitsAt u me c st (seat me)) e s.seat in
       let y : OwnsIf c.is_open (source me) = subst (λ (st : Option StopStage). SourceSits c.is_open st (source me)) e s.source in
-      record {
-        seat_after = seat me;
-        source_after = source me;
-        shows = still u seat source me (state_after u p at c me (ReadSite i)) at (site_read u p at seat source h me i 0);
-        sits = record { below = s.below; irq = s.irq; seat = x.2; source = y; gate_held = tt };
-      }
+      let shows' = still u seat source me (state_after u p at c me (ReadSite i)) at (site_read u p at seat source h me i 0) in
+      search (shows', arith)
 
   -- the load of a nudge is a reading
   pub nudge_key : (k : ℕ) (up : Bool) → c.stage ≡ Some (NudgeKey k up) → StopStep u p at seat source c me (NudgeKey k up)
@@ -196,12 +171,8 @@ module _ (u : Setup) (p : StopState) (at : Word → ℕ) (seat : ℕ → Seat) (
       let few = h.setup.few_keys in
       let low = x.2 in
       let fits = (lawful_when_on u p.now at seat h.present me x.1 on).keys k (omega arith) in
-      record {
-        seat_after = seat me;
-        source_after = source me;
-        shows = still u seat source me (state_after u p at c me (NudgeKey k up)) at (key_read u p at seat source h me k 0 on);
-        sits = go x y fits (count_after (nudge_of up) (at (Key k))) refl;
-      }
+      let shows' = still u seat source me (state_after u p at c me (NudgeKey k up)) at (key_read u p at seat source h me k 0 on) in
+      search (shows', go x y fits (count_after (nudge_of up) (at (Key k))) refl, arith)
     where
       go : (c.interrupts ≡ true) × (u.online me ≡ true) × (k < u.keys) × AtRest → OwnsIf c.is_open (source me) → IsKeyWord (at (Key k)) → (o : Option ℕ) →
           count_after (nudge_of up) (at (Key k)) ≡ o →
@@ -212,39 +183,17 @@ module _ (u : Setup) (p : StopState) (at : Word → ℕ) (seat : ℕ → Seat) (
           either : (b : Bool) → xor (is_on (at (Key k))) (is_on new) ≡ b → Sits u me (at Gate) (cond b (stop_ends c note.Stop)
               (stop_goes c (ExchangeKey k (at (Key k)) new))).control (seat me) (source me)
           either true z = record { below = s.below; irq = s.irq; seat = x.3; source = y; gate_held = tt }
-          either false z = record {
-            below = s.below;
-            irq = s.irq;
-            seat = (
-              x.0,
-              x.1,
-              x.2,
-              record {
-                one = one_apart up (at (Key k)) new e;
-                same = sym (xor_same (is_on (at (Key k))) (is_on new) z);
-                word =
-                    subst IsKeyWord (ap (count_or (at (Key k))) e) (left_in_form (nudge_of up) (at (Key k)) fits);
-              },
-              x.3,
-            );
-            source = y;
-            gate_held = tt;
-          }
+          either false z = search (one_apart, xor_same, left_in_form, arith)
 
   -- its compare-exchange
   pub exchange_key : (k expected new : ℕ) → c.stage ≡ Some (ExchangeKey k expected new) → StopStep u p at seat source c me (ExchangeKey k expected new)
   exchange_key k expected new e =
-      let x : (c.interrupts ≡ true) × (u.online me ≡ true) × (k < u.keys) × IsNudge expected new × AtRest = subst (λ (st : Option StopStage). SitsAt u me c
-      st (seat me)) e s.seat in
+      let x : (c.interrupts ≡ true) × (u.online me ≡ true) × (k < u.keys) × IsNudge expected new × AtRest = search arith in
       let y : OwnsIf c.is_open (source me) = subst (λ (st : Option StopStage). SourceSits c.is_open st (source me)) e s.source in
       let on : p.now.irq me ≡ true = h.present.irq me ∙ (sym s.irq ∙ x.0) in
-      record {
-        seat_after = seat me;
-        source_after = source me;
-        shows = still u seat source me (state_after u p at c me (ExchangeKey k expected new)) (at_then u at c me (ExchangeKey k expected new))
-            (go x.1 on x.3 (at (Key k) == expected) refl);
-        sits = record { below = s.below; irq = s.irq; seat = x.4; source = y; gate_held = tt };
-      }
+      let shows' = still u seat source me (state_after u p at c me (ExchangeKey k expected new)) (at_then u at c me (ExchangeKey k expected new)) (go x.1 on
+      x.3 (at (Key k) == expected) refl) in
+      search (shows', arith)
     where
       go : u.online me ≡ true → p.now.irq me ≡ true → IsNudge expected new → (b : Bool) → (at (Key k) == expected) ≡ b →
           StopShows u (told u p me act.Cas (Key k) (Some (at (Key k))) (cond b (Some new) None) 0)
@@ -252,8 +201,7 @@ module _ (u : Setup) (p : StopState) (at : Word → ℕ) (seat : ℕ → Seat) (
       go online on nudge true z =
           let same = eqb-true (at (Key k)) expected z in
           key_exchanged u p at seat source h me k (at (Key k)) new s.below online on refl record {
-            one = subst (λ n. (new ≡ n + 1) ⊎ (n ≡ new + 1))
-                (sym same) nudge.one;
+            one = search arith;
             same = nudge.same ∙ ap is_on (sym same);
             word = nudge.word;
           } 0
@@ -263,8 +211,7 @@ module _ (u : Setup) (p : StopState) (at : Word → ℕ) (seat : ℕ → Seat) (
   pub load_done : c.stage ≡ Some LoadDone → StopStep u p at seat source c me LoadDone
   load_done e =
       let x : AtRest = subst (λ (st : Option StopStage). SitsAt u me c st (seat me)) e s.seat in
-      let y : (c.is_open ≡ true) × ((work : Work) × (source me ≡ Owns work)) = subst (λ (st : Option StopStage). SourceSits c.is_open st (source me)) e
-      s.source in
+      let y : (c.is_open ≡ true) × ((work : Work) × (source me ≡ Owns work)) = search arith in
       let g = go x y.0 y.1.0 y.1.1 (at (Slot me Done) == 0) refl in
       record { seat_after = seat me; source_after = g.0; shows = g.1; sits = g.2 }
     where
@@ -305,11 +252,6 @@ module _ (u : Setup) (p : StopState) (at : Word → ℕ) (seat : ℕ → Seat) (
   pub load_result : c.stage ≡ Some LoadResult → StopStep u p at seat source c me LoadResult
   load_result e =
       let x : AtRest = subst (λ (st : Option StopStage). SitsAt u me c st (seat me)) e s.seat in
-      let y : (c.is_open ≡ true) × ((work : Work) × (source me ≡ Collects work)) = subst (λ (st : Option StopStage). SourceSits c.is_open st (source me)) e
-      s.source in
-      record {
-        seat_after = seat me;
-        source_after = Shut;
-        shows = moved_source u seat source me (state_after u p at c me LoadResult) at Shut (result_loaded u p at seat source h me y.1.0 0 y.1.1);
-        sits = record { below = s.below; irq = s.irq; seat = x; source = refl; gate_held = tt };
-      }
+      let y : (c.is_open ≡ true) × ((work : Work) × (source me ≡ Collects work)) = search arith in
+      let shows' = moved_source u seat source me (state_after u p at c me LoadResult) at Shut (result_loaded u p at seat source h me y.1.0 0 y.1.1) in
+      search (shows', arith)

@@ -1,6 +1,6 @@
 -- Answers of stop functions where a command begins, and after a step of a stop half.
 use Rattle.std.specs.Int.{w32, cast_signed}
-use Rattle.std.proofs.Common.{◌≡◌, ℕ, ℤ, ◌<◌, ◌==◌, Bool, true, false, cond, Option, Some, None, List, length, sym, subst, refl, rules, FitsSigned}
+use Rattle.std.proofs.Common.{◌≡◌, ℕ, ℤ, ◌<◌, ◌==◌, Bool, true, false, cond, Option, Some, None, List, length, sym, subst, refl, rules, FitsSigned, arith}
 use Rattle.std.proofs.lemmas.Int.{to_z-of_z}
 use Rattle.std.specs.Prelude.{slice_set}
 use Rattle.smp_words.proofs.Puts.{at_test}
@@ -36,39 +36,10 @@ answers_are_taken c v answer e f = begins_with answer f c.visit v e
 
 -- the first stage of a command with an answer has the word of an i32
 pub first_fits : (c : StopControlValue) (x : Command) → VisitFits c.visit → FitsCommand x → StageFits (stop_first c x)
-first_fits c command.Gate k f = tt
-first_fits c command.Ungate k f = tt
-first_fits c (command.Begin work) k f = tt
-first_fits c (command.Enter slot) k f = tt
-first_fits c (command.Advance answer) k f = go c.visit k
-  where
-    go : (x : Option Visit) → VisitFits x → StageFits (in_visit x (λ w. Advance w (round.Look (answer_word answer))))
-    go None k = tt
-    go (Some w) k = (k, word_fits answer f)
-first_fits c (command.RunOne answer) k f = go c.visit k
-  where
-    go : (x : Option Visit) → VisitFits x → StageFits (in_visit x (λ w. Complete w (completion.LoadFunc (answer_word answer))))
-    go None k = tt
-    go (Some w) k = (k, word_fits answer f)
-first_fits c command.Finish k f = go c.visit k
-  where
-    ends : (b : Bool) → CompletionFits (cond b completion.CountDown completion.StoreAnswer)
-    ends true = tt
-    ends false = tt
-
-    go : (x : Option Visit) → VisitFits x → StageFits (in_visit x (λ w. Complete w (completes_from w)))
-    go None k = tt
-    go (Some w) k = (k, ends (w.answer == 0))
-first_fits c command.Poll k f = tt
-first_fits c (command.Key i) k f = tt
-first_fits c (command.Site i) k f = tt
-first_fits c (command.Nudge i up) k f = tt
-first_fits c _ k f = tt
+first_fits c x k f = search (c.visit, word_fits, arith)
 
 -- where one CPU stands anew, with answers of i32s
 pub answers_set : (controls : List StopControlValue) (me : ℕ) (new : StopControlValue) → me < length controls →
     ((cpu : ℕ) → HasI32Answers (stop_control_of controls cpu)) → HasI32Answers new →
     (cpu : ℕ) → HasI32Answers (stop_control_of (slice_set controls me new) cpu)
-answers_set controls me new low all h cpu =
-    subst HasI32Answers (sym (stop_controls_by_cpu controls me cpu new low))
-    (at_test cpu me (λ d. HasI32Answers (cond d new (stop_control_of controls cpu))) (λ same. h) (λ ne. all cpu))
+answers_set controls me new low all h cpu = search (stop_controls_by_cpu, at_test, arith)

@@ -124,10 +124,7 @@ module _ (v : StopsValue) (cpu : ℕ) where
       let mask : work.mask ≡ v.online = same_members work.mask v.online is.all in
       let active : work.active ≡ 2 ^ first = same_members work.active (2 ^ first) (λ c. is.first c ∙ sym (one_bit first c)) in
       let change = is.change in
-      of_both ((work.mask == v.online && work.active == 2 ^ first) && nat_lt work.func v.labels.keys) (nat_lt work.arg 4)
-      (of_both (work.mask == v.online && work.active == 2 ^ first) (nat_lt work.func v.labels.keys)
-      (of_both (work.mask == v.online) (work.active == 2 ^ first) (eq-eqb work.mask v.online mask) (eq-eqb work.active (2 ^ first) active))
-      (lt-ltb work.func v.labels.keys is.key)) (lt-ltb work.arg 4 (omega arith))
+      search (of_both, nat_lt, eq-eqb, lt-ltb, arith)
 
   kind_fits : (work : Work) (k : Kind) → IsOfKind u work k → fits_kind t work k ≡ true
   kind_fits work k is = search (eq-eqb, patch_fits, arith)

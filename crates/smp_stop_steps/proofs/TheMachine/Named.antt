@@ -130,12 +130,9 @@ module _ (u : Setup) (p : StopState) (at : Word → ℕ) (seat : ℕ → Seat) (
           go work count low plan before (change ∷ rest) are long is =
               let st : Stands p.now me (Alters v.slot work count before (change ∷ rest)) = subst (Stands p.now me) is (h.present.stands me) in
               let key = key_below v.slot work (open_alters v.slot work count before (change ∷ rest) is) st.3 st.4 in
-              let all : AllByRecursion IsNamedChange (plan_at u work count) = plan_named work key (count_set work count) (count == count_set work count)
-              (xor (is_on count) (is_on (count_set work count))) in
-              let here : change_at c.changes made ≡ change = ap (λ l. change_at l made) are ∙ (ap (λ n. change_at (before ++ change ∷ rest) n) (sym long) ∙
-              change_here before change rest) in
-              subst (λ (x : Change). IsStopWord (word_of (store_of x))) (sym here)
-              (named_store change (at_split before change rest (subst (AllByRecursion IsNamedChange) (sym plan ∙ are) all)))
+              let all : AllByRecursion IsNamedChange (plan_at u work count) = search (plan_named, arith) in
+              let here : change_at c.changes made ≡ change = search (change_here, arith) in
+              search (IsStopWord, named_store, at_split, arith)
             where
               plan_named : (work : Work) → work.func < MOST_KEYS → (word : ℕ) (a b : Bool) → AllByRecursion IsNamedChange
                   (cond a [] (cond b (patch_of work.func word u.entries) ((place.Key work.func, word) ∷ [])))

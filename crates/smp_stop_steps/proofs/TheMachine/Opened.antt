@@ -56,8 +56,7 @@ opened_shown online labels t controls member below are gate slots entries lawful
       gate (λ s. rw slots (zero_at SLOT_WORDS (slot_cell s field.Roll)))
       record {
         few = let l = length-map labels.entries entry_word in let f = are.few_sites in omega arith;
-        read = λ i low. rw entries
-            (read_zeros (map entry_word labels.entries) (MOST_SITES - length labels.entries) i);
+        read = search (read_zeros, arith);
       }
       lawful (λ k. rw off (get_or-same 0 MOST_KEYS k));
   sits = λ cpu low. rw outside (rw (get_or-same stop_outside cpus cpu) record { below = low; irq = refl; seat = refl; source = refl; gate_held = tt });

@@ -100,8 +100,7 @@ module _ (u : Setup) (few : u.cpus ≡ cpus) (p : StopState) (t : StopWords) (co
       record {
         seat = put v.seat me one.seat_after;
         source = put v.source me one.source_after;
-        shows = subst (λ (x : Word → ℕ). StopShows u (state_after u p at c me stage) x (put v.seat me one.seat_after) (put v.source me one.source_after))
-            (sym names) one.shows;
+        shows = search arith;
         sits = λ cpu low. subst (λ (x : Word → ℕ). Sits u cpu (x Gate) (stop_control_of (slice_set controls me (control_then u at c me stage)) cpu)
             (put v.seat me one.seat_after cpu) (put v.source me one.source_after cpu)) (sym names)
             (subst (λ k. Sits u cpu (at_then u at c me stage Gate) k (put v.seat me one.seat_after cpu) (put v.source me one.source_after cpu))
@@ -116,8 +115,7 @@ module _ (u : Setup) (few : u.cpus ≡ cpus) (p : StopState) (t : StopWords) (co
             cpu))
             (λ same. subst (λ k. CarriesIn (control_then u at c me stage) ((state_after u p at c me stage).calling k)) (sym same) calls.mine)
             (λ ne. subst (CarriesIn (stop_control_of controls cpu)) (sym (calls.others cpu ne)) (v.carries cpu low)));
-        shut = λ cpu high. at_test cpu me (λ b. cond b one.source_after (v.source cpu) ≡ Shut) (λ same. absurd (let b = below in omega arith))
-            (λ _. v.shut cpu high);
+        shut = search (at_test, v.source, below, v.shut, arith);
       }
     where
       held : (cpu : ℕ) → cpu ≢ me → (st : Option StopStage) → HoldsGate cpu (at Gate) st → HoldsGate cpu (at_then u at c me stage Gate) st
@@ -141,14 +139,9 @@ module _ (u : Setup) (few : u.cpus ≡ cpus) (p : StopState) (t : StopWords) (co
 
       others : (cpu : ℕ) → cpu ≢ me → Sits u cpu (at Gate) (stop_control_of controls cpu) (v.seat cpu) (v.source cpu) →
           Sits u cpu (at_then u at c me stage Gate) (stop_control_of controls cpu) (v.seat cpu) (v.source cpu)
-      others cpu ne s = record {
-        below = s.below;
-        irq = s.irq;
-        seat = s.seat;
-        source = s.source;
-        gate_held =
-            held cpu ne (stop_control_of controls cpu).stage s.gate_held;
-      }
+      others cpu ne s =
+          let gate_held' = held cpu ne (stop_control_of controls cpu).stage s.gate_held in
+          search (gate_held', arith)
 
   -- the table stays one
   pub stop_table_shown : IsStopTable (stop_words_after t (stop_access u.cpus me c.changes stage))
