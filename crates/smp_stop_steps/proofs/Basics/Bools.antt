@@ -1,5 +1,5 @@
 -- Tests that are joined.
-use Rattle.std.proofs.Common.{◌≡◌, Bool, true, false, ◌&&◌, ◌||◌, refl, arith}
+use Rattle.std.proofs.Common.{◌≡◌, Bool, true, false, ◌&&◌, ◌||◌, arith}
 
 pub or_true : (b : Bool) → b || true ≡ true
 or_true b = search arith

@@ -1,5 +1,5 @@
 -- The changes of a patch, one after another.
-use Rattle.std.proofs.Common.{◌≡◌, ℕ, zero, suc, ◌-◌, cond, refl, sym, ap, ◌∙◌, List, [], ◌∷◌, get_or, ne_eqb, arith}
+use Rattle.std.proofs.Common.{◌≡◌, ℕ, zero, suc, refl, List, [], ◌∷◌, get_or, ne_eqb, arith}
 use Rattle.smp_stop_steps.specs.Labels.{Change}
 use Rattle.smp_stop_steps.specs.Stages.{change_at}
 use Rattle.smp_labels.specs.declared.patch.Place.TheVariants as place

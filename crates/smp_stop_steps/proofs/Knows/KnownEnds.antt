@@ -8,7 +8,7 @@ use Rattle.smp_stop_steps.proofs.Steps.Callings.{answer_replaced, calling_given}
 use Rattle.smp_stop_steps.specs.Seats.{Seat, Free, In, Gives, Closes, Rests}
 use Rattle.smp_stop_steps.specs.Shows.{StopShows}
 use Rattle.smp_stop_steps.specs.Sources.{Source}
-use Rattle.smp_stop_steps.specs.State.{Setup, StopState, Calling, Idle, Calls, Carries}
+use Rattle.smp_stop_steps.specs.State.{Setup, StopState, Calling, Idle}
 use Rattle.smp_stop_steps.specs.Stop.{Standing}
 use Rattle.smp_stop_steps.specs.Tells.{told, stored_open, stored_shut, completes, completes_with}
 use Rattle.smp_stop_steps.specs.Known.{told_calling, Known, Sees, GoesOn, columns_of, AreFirst, setup_in}

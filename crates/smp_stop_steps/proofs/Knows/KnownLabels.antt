@@ -12,7 +12,7 @@ use Rattle.smp_words.specs.Put.{put, put_word}
 use Rattle.smp_words.proofs.Puts.{at_test, put_same, put_other}
 use Rattle.smp_stop_steps.specs.KeyCounts.{moves, moved_by}
 use Rattle.smp_stop_steps.specs.Labels.{Change, Patches, Reading, ReadKey, ReadSite, count_set}
-use Rattle.smp_stop_steps.specs.Seats.{Seat, Free, In, Gives, Alters, Closes, Turn, Rests, Fills, Sets, irq_of}
+use Rattle.smp_stop_steps.specs.Seats.{Seat, Free, In, Gives, Alters, Closes, Turn, Rests, irq_of}
 use Rattle.smp_stop_steps.specs.Shows.{StopShows}
 use Rattle.smp_stop_steps.specs.Sits.{IsNudge}
 use Rattle.smp_stop_steps.specs.Sources.{Source}

@@ -14,10 +14,10 @@ use Rattle.smp_stop_steps.specs.Seats.{Seat, Free, In, Alters, Turn, Rests, Fill
 use Rattle.smp_stop_steps.specs.Shows.{StopShows}
 use Rattle.smp_stop_steps.specs.Sources.{Source}
 use Rattle.smp_stop_steps.specs.Stages.{all_but}
-use Rattle.smp_stop_steps.specs.State.{Setup, StopState, Present, StopCall, Calling, Calls, Carries, Idle}
+use Rattle.smp_stop_steps.specs.State.{Setup, StopState, Present, StopCall, Calling, Calls, Carries}
 use Rattle.smp_stop_steps.specs.Stop.{Standing, Inside, acknowledged, raised}
-use Rattle.smp_stop_steps.specs.Tells.{told, enters, acknowledges, acknowledges_now, raises, stored_open, stored_shut, first_readings, with_stop}
-use Rattle.smp_stop_steps.specs.Tells.{leaves, unpatched, carried, may_call, carried_call, calls_now}
+use Rattle.smp_stop_steps.specs.Tells.{told, enters, acknowledges, acknowledges_now, raises, stored_open, stored_shut, with_stop}
+use Rattle.smp_stop_steps.specs.Tells.{leaves, unpatched, carried, may_call, carried_call}
 use Rattle.smp_stop_steps.specs.Known.{told_calling, Known, Sees, GoesOn, columns_of, setup_in, Part}
 use Rattle.smp_stop_steps.specs.KnownAfter.{called_by, ran_since, is_drafting, drafted_known, slot_stored, member_stored, refilled_by, raised_by}
 use Rattle.smp_stop_steps.specs.KnownAfter.{looked_known, looked_to, acked_by, read_since}

@@ -6,16 +6,15 @@ use Rattle.smp_words.specs.Access.{put_if}
 use Rattle.smp_words.specs.Put.{put, put_word}
 use Rattle.smp_words.specs.Size.{cpus}
 use Rattle.smp_words.proofs.Puts.{put_all, put_same, put_other}
-use Rattle.smp_stop_steps.specs.Counts.{mask_weight}
 use Rattle.smp_stop_steps.specs.Seats.{Seat}
 use Rattle.smp_stop_steps.specs.Shows.{StopShows}
 use Rattle.smp_stop_steps.specs.Slots.{DoneShows, begun_value, order}
 use Rattle.smp_stop_steps.specs.Sources.{Source, Shut, Drafts, Owns, Collects, SourceShows, DraftShows, OwnerShows, IsDrafted, IsWork}
 use Rattle.smp_stop_steps.specs.State.{Setup, StopState}
-use Rattle.smp_stop_steps.specs.Stop.{Standing, Ending, Running, Last, Ended}
+use Rattle.smp_stop_steps.specs.Stop.{Standing, Ending}
 use Rattle.smp_stop_steps.specs.Tells.{told, drafted, drafts, opens, stored_open, stored_shut}
 use Rattle.smp_stop_steps.specs.Known.{Known, Sees, GoesOn, IsBegun, columns_of, told_source, told_work, holds_it, setup_in}
-use Rattle.smp_stop_steps.specs.KnownAfter.{is_drafting, drafts_more, drafted_known, draft_known, opened_by, slot_stored, member_stored, gate_known}
+use Rattle.smp_stop_steps.specs.KnownAfter.{is_drafting, drafted_known, draft_known, opened_by, slot_stored, gate_known}
 use Rattle.smp_stop_steps.specs.KnownAfter.{done_by, collected_known}
 use Rattle.smp_words.specs.declared.seen.Act.TheVariants as act
 use Rattle.smp_words.specs.declared.field.Field.{Field}

@@ -1,20 +1,17 @@
 -- When a stop function runs, and who is to store done.
-use Rattle.std.proofs.Common.{◌≡◌, ℕ, true, inl, inr, ⊎_elim, sym, subst, refl, ap, ◌∙◌, arith}
-use Rattle.smp_mask.specs.Mask.{has}
-use Rattle.smp_stop_steps.specs.Callings.{IsCallOf, IsCalling}
+use Rattle.std.proofs.Common.{◌≡◌, ℕ, true, sym, subst, refl, ◌∙◌, arith}
 use Rattle.smp_stop_steps.specs.Closings.{IsLast, IsClosing}
-use Rattle.smp_stop_steps.specs.Functions.{RunsFunction, HasFunctions}
-use Rattle.smp_stop_steps.specs.Seats.{Seat, Free, In, Gives, Alters, Closes, Stands}
+use Rattle.smp_stop_steps.specs.Functions.{HasFunctions}
+use Rattle.smp_stop_steps.specs.Seats.{Seat, Closes, Stands}
 use Rattle.smp_stop_steps.specs.Shows.{StopShows}
 use Rattle.smp_stop_steps.specs.Slots.{DoneShows}
 use Rattle.smp_stop_steps.specs.Sources.{Source}
-use Rattle.smp_stop_steps.specs.State.{Setup, StopState, Calls}
+use Rattle.smp_stop_steps.specs.State.{Setup, StopState}
 use Rattle.smp_stop_steps.specs.Stop.{Ending, Running, Last, Ended, Inside}
-use Rattle.smp_stop_steps.specs.Tells.{calls_at_run, is_multi}
+use Rattle.smp_stop_steps.specs.Tells.{is_multi}
 use Rattle.smp_words.specs.declared.field.Field.TheVariants as field
 use Rattle.smp_words.specs.declared.work.Kind.{Kind as KindOf}
-use Rattle.smp_words.specs.declared.work.Kind.TheVariants.{One, Multi, Patch}
-use Rattle.smp_words.specs.declared.work.Work.{Work}
+use Rattle.smp_words.specs.declared.work.Kind.TheVariants.{Multi}
 use Rattle.smp_words.specs.declared.word.Word.{Word}
 use Rattle.smp_words.specs.declared.word.Word.TheVariants.{Slot}
 use Rattle.smp_stop_steps.proofs.Basics.Bools.{both_true}

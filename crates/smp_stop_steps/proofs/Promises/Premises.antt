@@ -1,34 +1,29 @@
 -- Who may make which step: what holds of the stops before it.
 use Rattle.smp_stop_steps.proofs.State.Gates.{gate_free, gate_mine}
-use Rattle.std.proofs.Common.{◌≡◌, ◌≢◌, ℕ, ◌+◌, Bool, [], true, false, ◌==◌, ◌&&◌, cond, inl, inr, ⊎_elim, Option, Some, None, sym, subst}
-use Rattle.std.proofs.Common.{refl, ap, ◌∙◌, arith, eqb-true}
-use Rattle.smp_mask.specs.Mask.{has}
-use Rattle.smp_labels.specs.declared.patch.Place.TheVariants as place
+use Rattle.std.proofs.Common.{◌≡◌, ℕ, ◌+◌, [], true, false, ⊎_elim, Some, None, sym, subst}
+use Rattle.std.proofs.Common.{refl, ◌∙◌, arith, eqb-true}
 use Rattle.smp_words.specs.Access.{word_of, seen_of}
 use Rattle.smp_words.specs.declared.access.Access.{Access}
 use Rattle.smp_words.specs.declared.field.Field.{Field}
 use Rattle.smp_words.specs.declared.field.Field.TheVariants as field
-use Rattle.smp_words.specs.declared.seen.Act.TheVariants as act
-use Rattle.smp_words.specs.declared.work.Kind.TheVariants.{One}
 use Rattle.smp_words.specs.declared.work.Work.{Work}
 use Rattle.smp_words.specs.declared.word.Word.{Word}
-use Rattle.smp_words.specs.declared.word.Word.TheVariants.{Gate, Slot, Key}
+use Rattle.smp_words.specs.declared.word.Word.TheVariants.{Gate, Slot}
 use Rattle.smp_stop_steps.specs.Callings.{HasCompleted}
-use Rattle.smp_stop_steps.specs.Labels.{Change, patch_answer}
+use Rattle.smp_stop_steps.specs.Labels.{patch_answer}
 use Rattle.smp_stop_steps.specs.Laws.{IsThrough}
 use Rattle.smp_stop_steps.specs.Premises.{MayStore, MayStoreIf, MaySee}
-use Rattle.smp_stop_steps.specs.Counts.{mask_weight, unfinished}
+use Rattle.smp_stop_steps.specs.Counts.{unfinished}
 use Rattle.smp_stop_steps.specs.Tells.{plan_at}
-use Rattle.smp_stop_steps.specs.Seats.{Seat, In, Gives, Alters, Closes, Turn, Rests, Fills, Sets, Stands}
+use Rattle.smp_stop_steps.specs.Seats.{Seat, In, Alters, Closes, Turn, Rests, Sets, Stands}
 use Rattle.smp_stop_steps.specs.Shows.{StopShows}
 use Rattle.smp_stop_steps.specs.Sits.{RunsIf, HoldsGate, IsLoaded, IsThroughAll, Sits, SitsAt, SitsInCompletion, SitsInRound, SourceSits}
-use Rattle.smp_stop_steps.specs.Slots.{AckShows, DoneShows, begun_value, order}
-use Rattle.smp_stop_steps.specs.Sources.{Source, Drafts, Owns, Collects, SourceShows, DraftShows, OwnerShows}
-use Rattle.smp_stop_steps.specs.Stages.{StopControlValue, change_at, completion_access, round_access, stop_access, store_of}
+use Rattle.smp_stop_steps.specs.Slots.{DoneShows}
+use Rattle.smp_stop_steps.specs.Sources.{Source, Owns, Collects, SourceShows, OwnerShows}
+use Rattle.smp_stop_steps.specs.Stages.{StopControlValue, completion_access, round_access, stop_access}
 use Rattle.smp_stop_steps.specs.State.{Setup, StopState}
-use Rattle.smp_stop_steps.specs.Stop.{Standing, Outside, Called, Inside, Answering, Completed, Nobody, Raises, Ended, acked, is_of}
+use Rattle.smp_stop_steps.specs.Stop.{Standing, Inside, Ended, is_of}
 use Rattle.smp_stop_steps.specs.declared.stage.CompletionStage.{CompletionStage}
-use Rattle.smp_stop_steps.specs.declared.stage.CompletionStage.TheVariants as completion
 use Rattle.smp_stop_steps.specs.declared.stage.RoundStage.{RoundStage}
 use Rattle.smp_stop_steps.specs.declared.stage.RoundStage.TheVariants as round
 use Rattle.smp_stop_steps.specs.declared.stage.StopStage.{StopStage}

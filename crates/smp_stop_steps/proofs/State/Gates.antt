@@ -1,5 +1,5 @@
 -- Who holds the gate, by its word.
-use Rattle.std.proofs.Common.{◌≡◌, ℕ, ◌+◌, Option, Some, None, refl, ap, arith}
+use Rattle.std.proofs.Common.{◌≡◌, ℕ, ◌+◌, Option, Some, None, arith}
 use Rattle.smp_stop_steps.specs.Shows.{gate_word}
 
 pub gate_free : (g : Option ℕ) → gate_word g ≡ 0 → g ≡ None

@@ -1,14 +1,14 @@
 -- A step on one slot, among all slots and CPUs.
-use Rattle.std.proofs.Common.{◌≡◌, ◌≢◌, ℕ, Bool, true, false, ◌==◌, cond, sym, subst, refl, ap, ◌∙◌, Option, Some, List, arith}
+use Rattle.std.proofs.Common.{◌≡◌, ◌≢◌, ℕ, Bool, true, false, cond, sym, subst, refl, ap, ◌∙◌, Option, Some, List, arith}
 use Rattle.smp_words.proofs.Puts.{at_test, put_all, put_other}
-use Rattle.smp_words.specs.Put.{place_of, put, put_word, same_field}
-use Rattle.smp_stop_steps.specs.Labels.{Agrees, LabelsShow, Patches, Patching, Reading, Whole, labels_in}
+use Rattle.smp_words.specs.Put.{put, put_word, same_field}
+use Rattle.smp_stop_steps.specs.Labels.{Agrees, LabelsShow, Patching, Reading, labels_in}
 use Rattle.smp_stop_steps.specs.Present.{PresentShows, RunnerShows}
-use Rattle.smp_stop_steps.specs.Seats.{Alters, Closes, Free, Gives, In, Rests, Seat, Stands, Turn, irq_of, turn_of}
+use Rattle.smp_stop_steps.specs.Seats.{Alters, Seat, Stands, Turn, irq_of, turn_of}
 use Rattle.smp_stop_steps.specs.Slots.{SlotShows, put_field}
 use Rattle.smp_stop_steps.specs.Sources.{IsPatchWork}
 use Rattle.smp_stop_steps.specs.State.{Present, Setup}
-use Rattle.smp_stop_steps.specs.Stop.{Answering, Inside, Last, Standing, Stop, is_inside}
+use Rattle.smp_stop_steps.specs.Stop.{Last, Standing, Stop, is_inside}
 use Rattle.smp_stop_steps.specs.Tells.{leaves}
 use Rattle.smp_words.specs.declared.field.Field.{Field}
 use Rattle.smp_words.specs.declared.work.Kind.TheVariants.{Patch}

@@ -1,18 +1,17 @@
 -- A source's own key, until it has left its Patch stop.
-use Rattle.std.proofs.Common.{◌≡◌, ℕ, ◌+◌, ◌≤◌, true, ◌&&◌, sym, subst, refl, ap, ◌∙◌, ◌⊎◌, arith, ⊎_elim, Some, List}
+use Rattle.std.proofs.Common.{◌≡◌, ℕ, ◌≤◌, true, ◌&&◌, subst, arith, List}
 use Rattle.smp_stop_steps.proofs.State.Ends.{function_law}
 use Rattle.smp_stop_steps.proofs.State.Phases.{is_open_inside}
 use Rattle.smp_stop_steps.proofs.State.Raises.{level_of}
 use Rattle.smp_words.specs.Put.{put_word}
-use Rattle.smp_stop_steps.specs.Labels.{Change, Patches, Patching, StandsSet}
-use Rattle.smp_stop_steps.specs.Present.{OwnsKey, PresentShows, RunnerShows}
-use Rattle.smp_stop_steps.specs.Seats.{Alters, Seat, Stands}
-use Rattle.smp_stop_steps.specs.Slots.{Keeps}
+use Rattle.smp_stop_steps.specs.Labels.{Change, StandsSet}
+use Rattle.smp_stop_steps.specs.Present.{OwnsKey, PresentShows}
+use Rattle.smp_stop_steps.specs.Seats.{Alters, Seat}
 use Rattle.smp_stop_steps.specs.State.{Present, Setup}
-use Rattle.smp_stop_steps.specs.Stop.{Answering, Called, Completed, Inside, Outside, Standing, acked, is_inside, is_of}
+use Rattle.smp_stop_steps.specs.Stop.{Inside, is_inside, is_of}
 use Rattle.smp_words.specs.declared.work.Kind.TheVariants.{Patch}
 use Rattle.smp_words.specs.declared.work.Work.{Work}
-use Rattle.smp_words.specs.declared.word.Word.TheVariants.{Key, Slot}
+use Rattle.smp_words.specs.declared.word.Word.TheVariants.{Key}
 use Rattle.smp_words.specs.declared.word.Word.{Word}
 use Rattle.smp_mask.specs.Mask.{has}
 

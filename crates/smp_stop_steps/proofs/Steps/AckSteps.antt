@@ -1,7 +1,7 @@
 -- The steps that acknowledge a phase and set the next one, by a CPU's stage.
 use Rattle.smp_stop_steps.proofs.Basics.Bools.{or_false, or_true}
 use Rattle.smp_stop_steps.proofs.Steps.Same.{moved_seat}
-use Rattle.std.proofs.Common.{◌≡◌, ℕ, ◌+◌, ◌-◌, ◌≤◌, Bool, true, false, nat_lt, le-ltb, ne_eqb, ◌==◌, ◌||◌, cond, sym, subst, refl, ap, ◌∙◌, ◌⊎◌, inl}
+use Rattle.std.proofs.Common.{◌≡◌, ℕ, ◌+◌, ◌-◌, ◌≤◌, Bool, true, false, nat_lt, le-ltb, ne_eqb, ◌==◌, cond, sym, subst, ap, ◌∙◌, ◌⊎◌, inl}
 use Rattle.std.proofs.Common.{inr, arith, Option, Some, None, []}
 use Rattle.smp_words.proofs.Puts.{at_test}
 use Rattle.smp_stop_steps.proofs.Steps.Facts.{ack_bounds, ack_bounds_patched, patcher_active}
@@ -13,7 +13,7 @@ use Rattle.smp_stop_steps.specs.Counts.{mask_weight}
 use Rattle.smp_stop_steps.specs.Labels.{patch_answer}
 use Rattle.smp_stop_steps.specs.Seats.{Alters, Fills, In, Rests, Seat, Sets, irq_of}
 use Rattle.smp_stop_steps.specs.Shows.{StopShows}
-use Rattle.smp_stop_steps.specs.Sits.{HasRun, RunsIf, IsLoaded, OwnsIf, Sits, SitsAtRest}
+use Rattle.smp_stop_steps.specs.Sits.{HasRun, RunsIf, IsLoaded, OwnsIf, Sits}
 use Rattle.smp_stop_steps.specs.Sources.{Source}
 use Rattle.smp_stop_steps.specs.Stages.{StopControlValue, stop_goes, turn_ends, visit_acked}
 use Rattle.smp_stop_steps.specs.State.{Setup, StopState, Calling, Calls, Carries, Idle}

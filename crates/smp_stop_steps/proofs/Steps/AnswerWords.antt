@@ -1,15 +1,9 @@
 -- Each result word is that of an i32, and so is each answer that a CPU has where it stands.
 use Rattle.std.specs.Int.{w32, cast_signed}
-use Rattle.std.proofs.Common.{◌≡◌, ℕ, ◌+◌, ◌%◌, ◌^◌, Bool, true, false, ◌==◌, ◌&&◌, ◌||◌, cond, Option, Some, None, subst, refl, ap, inl, inr}
-use Rattle.std.proofs.Common.{arith, List, ◌∷◌, [], ◌++◌}
-use Rattle.smp_mask.specs.Mask.{has}
-use Rattle.smp_labels.specs.Entries.{entry_at}
-use Rattle.smp_labels.specs.Keys.{is_on, change_of, count_after}
-use Rattle.smp_labels.specs.Kinds.{xor}
-use Rattle.smp_labels.specs.Plans.{site_change}
+use Rattle.std.proofs.Common.{◌≡◌, ℕ, ◌+◌, ◌%◌, ◌^◌, Bool, true, false, ◌==◌, cond, Option, Some, None, refl, ap, inl, inr}
+use Rattle.std.proofs.Common.{arith, List}
+use Rattle.smp_labels.specs.Keys.{change_of, count_after}
 use Rattle.smp_labels.specs.declared.patch.Place.{Place}
-use Rattle.smp_labels.specs.declared.patch.Place.TheVariants as place
-use Rattle.smp_labels.specs.declared.words.TheConstants.{MOST_SITES}
 use Rattle.smp_words.specs.Access.{at_after, put_if, word_of}
 use Rattle.smp_words.specs.Put.{put_word}
 use Rattle.smp_words.specs.declared.field.Field.{Field}
@@ -19,16 +13,16 @@ use Rattle.smp_words.specs.declared.seen.Note.TheVariants as note
 use Rattle.smp_words.specs.declared.work.Work.{Work}
 use Rattle.smp_words.specs.declared.word.Word.{Word}
 use Rattle.smp_words.specs.declared.word.Word.TheVariants.{Gate, Slot, Key}
-use Rattle.smp_stop_steps.specs.AnswerWords.{IsI32Word, AreI32Words, StageFits, VisitFits, HasI32Answers, IsKept, NoteAnswers}
+use Rattle.smp_stop_steps.specs.AnswerWords.{IsI32Word, AreI32Words, VisitFits, HasI32Answers, IsKept, NoteAnswers}
 use Rattle.smp_stop_steps.specs.AnswerWords.{AnswersFit, AnswersGo, KeepsAnswers}
 use Rattle.smp_stop_steps.specs.Labels.{Change}
 use Rattle.smp_stop_steps.specs.Slots.{begun_value}
 use Rattle.smp_stop_steps.specs.Stages.{StopControlValue, StopOutcome, acked_on, begun_next, change_at, completion_access, completion_outcome, entry_on}
-use Rattle.smp_stop_steps.specs.Stages.{key_on, label_word, looked_on, nudge_of, nudge_on, round_access, round_outcome, stop_access, stop_ends, stop_goes}
-use Rattle.smp_stop_steps.specs.Stages.{stop_outcome, turn_ends, turn_note, visit_acked}
+use Rattle.smp_stop_steps.specs.Stages.{key_on, label_word, looked_on, nudge_on, round_access, round_outcome, stop_access, stop_ends, stop_goes}
+use Rattle.smp_stop_steps.specs.Stages.{stop_outcome, turn_ends, turn_note}
 use Rattle.smp_stop_steps.specs.State.{Setup}
 use Rattle.smp_stop_steps.specs.Tells.{is_multi}
-use Rattle.smp_stop_steps.specs.declared.phase.TheConstants.{DISABLE_IRQ, RUN, EXIT}
+use Rattle.smp_stop_steps.specs.declared.phase.TheConstants.{EXIT}
 use Rattle.smp_stop_steps.specs.declared.stage.CompletionStage.{CompletionStage}
 use Rattle.smp_stop_steps.specs.declared.stage.CompletionStage.TheVariants as completion
 use Rattle.smp_stop_steps.specs.declared.stage.RoundStage.{RoundStage}

@@ -1,14 +1,13 @@
 -- Each step of a CPU's command leaves its function where the next stage says, and the functions of all others.
 use Rattle.smp_stop_steps.proofs.Steps.Completions.{one_phase}
 use Rattle.smp_stop_steps.proofs.State.Phases.{is_open_inside, keeps_inside}
-use Rattle.std.proofs.Common.{◌≡◌, ◌≢◌, ℕ, ◌+◌, Bool, true, false, eq-eqb, eqb-true, ◌==◌, ◌&&◌, ◌||◌, cond, ◌⊎◌, inl, inr, Option}
-use Rattle.std.proofs.Common.{Some, None, [], ◌∷◌, length, sym, subst, refl, ap, ◌∙◌, arith, ⊎_elim, ◌++◌}
+use Rattle.std.proofs.Common.{◌≡◌, ◌≢◌, ℕ, ◌+◌, Bool, true, false, eq-eqb, eqb-true, ◌==◌, ◌&&◌, cond, ◌⊎◌, inl, inr, Option}
+use Rattle.std.proofs.Common.{Some, None, [], ◌∷◌, sym, subst, refl, ap, ◌∙◌, arith}
 use Rattle.smp_mask.specs.Mask.{has}
 use Rattle.smp_labels.specs.Keys.{change_of, count_after, is_on}
 use Rattle.smp_labels.specs.Kinds.{xor}
 use Rattle.smp_labels.specs.declared.keys.Change.{Change as KeyChange}
 use Rattle.smp_labels.specs.declared.patch.Place.TheVariants as place
-use Rattle.smp_labels.specs.declared.words.TheConstants.{MOST_SITES}
 use Rattle.smp_words.specs.Access.{word_of, seen_of}
 use Rattle.smp_words.specs.Put.{put}
 use Rattle.smp_words.specs.declared.field.Field.{Field}
@@ -19,24 +18,22 @@ use Rattle.smp_words.specs.declared.work.Kind.{Kind as KindOf}
 use Rattle.smp_words.specs.declared.work.Kind.TheVariants.{One, Multi, Patch}
 use Rattle.smp_words.specs.declared.work.Work.{Work}
 use Rattle.smp_words.specs.declared.word.Word.{Word}
-use Rattle.smp_words.specs.declared.word.Word.TheVariants.{Gate, Slot, Key, Site}
+use Rattle.smp_words.specs.declared.word.Word.TheVariants.{Gate, Slot, Key}
 use Rattle.smp_stop_steps.specs.Callings.{IsCalling, answer_in, HasCalled}
 use Rattle.smp_stop_steps.specs.Carries.{CarriesAt, CarriesIn, IsQuiet, IsAcking, IsEnding}
 use Rattle.smp_stop_steps.specs.Labels.{Change, patch_answer}
-use Rattle.smp_stop_steps.specs.Counts.{mask_weight}
-use Rattle.smp_stop_steps.specs.Slots.{begun_value}
 use Rattle.smp_stop_steps.specs.Seats.{Seat, In, Gives, Alters, Rests, Stands, Turn}
 use Rattle.smp_stop_steps.specs.Shows.{StopShows}
 use Rattle.smp_stop_steps.specs.Sits.{IsLoaded, RunsIf, Sits, SitsAtRun, IsThroughAll}
 use Rattle.smp_stop_steps.specs.Sources.{Source}
-use Rattle.smp_stop_steps.specs.Stages.{StopControlValue, answer_at, turn_note, begun_next, change_at, visit_of}
-use Rattle.smp_stop_steps.specs.Stages.{key_on, looked_on, nudge_of, nudge_on, round_access}
+use Rattle.smp_stop_steps.specs.Stages.{StopControlValue, answer_at, turn_note}
+use Rattle.smp_stop_steps.specs.Stages.{key_on, nudge_of, nudge_on}
 use Rattle.smp_stop_steps.specs.Stages.{stop_ends, stop_goes, store_of, turn_ends, visit_acked}
 use Rattle.smp_stop_steps.specs.State.{Setup, StopState, Calling, Idle, Calls, Carries, StopCall}
 use Rattle.smp_stop_steps.specs.Steps.{CallStep, control_then, state_after, told_of, is_run, note_then, Told}
 use Rattle.smp_stop_steps.specs.Stop.{Standing, Inside}
-use Rattle.smp_stop_steps.specs.Tells.{acknowledges, enters, called_more, calls_now, carried, carried_call, completes, completes_with}
-use Rattle.smp_stop_steps.specs.Tells.{gate_told, is_multi, is_one, key_told, may_call, plan_at, stored_open, stored_shut, tells, told}
+use Rattle.smp_stop_steps.specs.Tells.{acknowledges, called_more, calls_now, carried, carried_call, completes, completes_with}
+use Rattle.smp_stop_steps.specs.Tells.{gate_told, is_multi, key_told, may_call, plan_at, stored_open, stored_shut, tells, told}
 use Rattle.smp_stop_steps.specs.declared.stage.CompletionStage.TheVariants as completion
 use Rattle.smp_stop_steps.specs.declared.stage.RoundStage.TheVariants as round
 use Rattle.smp_stop_steps.specs.declared.stage.StopStage.{StopStage}

@@ -17,7 +17,7 @@ use Rattle.smp_stop_steps.specs.Shows.{StopShows}
 use Rattle.smp_stop_steps.specs.Sits.{IsLoaded, IsThroughAll, OwnsIf, Sits, SitsAtRest}
 use Rattle.smp_stop_steps.specs.Sources.{Source}
 use Rattle.smp_stop_steps.specs.Stages.{StopControlValue, all_but, stop_ends, stop_goes}
-use Rattle.smp_stop_steps.specs.State.{Setup, StopState, Calling, Calls, Carries, Idle}
+use Rattle.smp_stop_steps.specs.State.{Setup, StopState, Calling}
 use Rattle.smp_stop_steps.specs.Steps.{StopStep, at_then, state_after}
 use Rattle.smp_words.specs.declared.seen.Note.TheVariants as note
 use Rattle.smp_words.specs.declared.field.Field.TheVariants.{Roll, Todo}

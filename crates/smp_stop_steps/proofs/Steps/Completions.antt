@@ -3,7 +3,7 @@ use Rattle.smp_stop_steps.proofs.Basics.Bools.{or_true}
 use Rattle.smp_stop_steps.specs.Callings.{IsCalling, AreClosing, HasCompleted}
 use Rattle.smp_stop_steps.proofs.Steps.Callings.{calling_same, IsNotClosing, idle_free, closing_kept, idle_closes, closing_seat, calling_next}
 use Rattle.smp_stop_steps.specs.Labels.{StandsSet}
-use Rattle.std.proofs.Common.{◌≡◌, ◌≢◌, ℕ, ◌+◌, ◌-◌, ◌≤◌, Bool, true, false, nat_lt, eq-eqb, ◌==◌, ◌||◌, cond, sym, subst, refl, ap, ◌∙◌, ◌⊎◌, inl}
+use Rattle.std.proofs.Common.{◌≡◌, ◌≢◌, ℕ, ◌+◌, ◌-◌, ◌≤◌, Bool, true, false, nat_lt, eq-eqb, ◌==◌, cond, sym, subst, refl, ap, ◌∙◌, ◌⊎◌, inl}
 use Rattle.std.proofs.Common.{inr, arith, ⊎_elim, Option, Some, None, List, [], ◌∷◌, ◌++◌}
 use Rattle.smp_words.proofs.Puts.{at_test, put_all, put_same, put_other}
 use Rattle.smp_stop_steps.proofs.Basics.Counts.{sum_zero}
@@ -33,7 +33,7 @@ use Rattle.smp_stop_steps.specs.Tells.{answered_by, completes, completes_with, e
 use Rattle.smp_words.specs.declared.seen.Act.TheVariants as act
 use Rattle.smp_words.specs.declared.field.Field.TheVariants.{Done, Result, Roll, Todo}
 use Rattle.smp_words.specs.declared.field.Field.{Field}
-use Rattle.smp_words.specs.declared.work.Kind.TheVariants.{Multi, One, Patch}
+use Rattle.smp_words.specs.declared.work.Kind.TheVariants.{One, Patch}
 use Rattle.smp_words.specs.declared.work.Kind.{Kind as KindOf}
 use Rattle.smp_words.specs.declared.work.Work.{Work}
 use Rattle.smp_words.specs.declared.word.Word.TheVariants.{Key, Slot}

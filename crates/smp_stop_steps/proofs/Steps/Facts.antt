@@ -4,7 +4,7 @@ use Rattle.smp_stop_steps.proofs.Steps.Callings.{call_may}
 use Rattle.smp_stop_steps.specs.Callings.{IsCalling}
 use Rattle.smp_stop_steps.specs.Tells.{told, may_call, calls_now}
 use Rattle.smp_stop_steps.proofs.State.KeyCounts.{opened_count}
-use Rattle.std.proofs.Common.{◌≡◌, ◌≢◌, ℕ, ◌+◌, ◌<◌, ◌≤◌, Bool, true, false, ◌==◌, cond, sym, subst, refl, ap, ◌∙◌, ◌⊎◌, inl, inr, arith, ⊎_elim}
+use Rattle.std.proofs.Common.{◌≡◌, ◌≢◌, ℕ, ◌+◌, ◌<◌, ◌≤◌, Bool, true, false, cond, sym, subst, refl, ap, ◌∙◌, ◌⊎◌, arith}
 use Rattle.std.proofs.Common.{eq-eqb}
 use Rattle.std.proofs.Common.{zero, suc, List, [], Some, None}
 use Rattle.std.proofs.lemmas.Nat.Bits.{bit_at-zero}
@@ -12,11 +12,10 @@ use Rattle.smp_stop_steps.proofs.Basics.Counts.{sum_zero}
 use Rattle.smp_stop_steps.proofs.State.Phases.{is_open_inside, keeps_inside, none_raises}
 use Rattle.smp_stop_steps.proofs.State.Acknowledged.{nobody_raises}
 use Rattle.smp_stop_steps.specs.Counts.{behind, count_behind, sum_below, unfinished}
-use Rattle.smp_stop_steps.specs.Labels.{Change, Patches, labels_in}
-use Rattle.smp_stop_steps.specs.Present.{RunnerShows}
+use Rattle.smp_stop_steps.specs.Labels.{Change, labels_in}
 use Rattle.smp_stop_steps.specs.Seats.{Alters, Free, Gives, In, Rests, Seat, Stands, Turn}
 use Rattle.smp_stop_steps.specs.Shows.{StopShows}
-use Rattle.smp_stop_steps.specs.Slots.{AckShows, IsWritten, Keeps, OpenShows}
+use Rattle.smp_stop_steps.specs.Slots.{IsWritten, Keeps, OpenShows}
 use Rattle.smp_stop_steps.specs.Sources.{Shut, Source}
 use Rattle.smp_stop_steps.specs.State.{IsSetup, Setup, StopState, no_stops, StopCall, Calls}
 use Rattle.smp_stop_steps.specs.Stop.{Answering, Called, Completed, Inside, Outside, Standing, is_called}

@@ -1,11 +1,11 @@
 -- What a step on an open stop leaves to the sources, to the past and to the keys that sources know.
 use Rattle.smp_stop_steps.specs.KeyCounts.{CountShows}
-use Rattle.std.proofs.Common.{◌≡◌, ◌≢◌, ℕ, ◌≤◌, Bool, true, false, ◌==◌, cond, sym, subst, refl, ap, ◌∙◌, Option, List, [], ◌∷◌, ◌++◌, arith}
+use Rattle.std.proofs.Common.{◌≡◌, ◌≢◌, ℕ, ◌≤◌, Bool, true, ◌==◌, cond, sym, subst, refl, ap, ◌∙◌, Option, List, arith}
 use Rattle.smp_words.proofs.Puts.{at_test, put_all}
 use Rattle.smp_stop_steps.proofs.State.Moves.{field_false}
-use Rattle.smp_words.specs.Put.{put, put_word, same_field}
+use Rattle.smp_words.specs.Put.{put, put_word}
 use Rattle.smp_stop_steps.specs.Labels.{Patching, Reading, StandsSet}
-use Rattle.smp_stop_steps.specs.Past.{HasPast, answer_now, answers_of, works_of}
+use Rattle.smp_stop_steps.specs.Past.{HasPast, answer_now}
 use Rattle.smp_stop_steps.specs.Present.{OwnsKey, PresentShows}
 use Rattle.smp_stop_steps.specs.Seats.{Seat}
 use Rattle.smp_stop_steps.specs.Shows.{StopShows}

@@ -19,24 +19,23 @@ use Rattle.smp_words.specs.declared.work.Work.{Work}
 use Rattle.smp_words.specs.declared.word.Word.{Word}
 use Rattle.smp_words.specs.declared.word.Word.TheVariants.{Gate, Slot, Key, Site}
 use Rattle.smp_stop_steps.specs.Carries.{CarriesIn}
-use Rattle.smp_stop_steps.specs.Counts.{mask_weight}
-use Rattle.smp_stop_steps.specs.Labels.{Change, ReadKey, ReadSite, patch_answer}
+use Rattle.smp_stop_steps.specs.Labels.{Change, ReadKey, ReadSite}
 use Rattle.smp_stop_steps.specs.Notes.{StaysStill, HasRead, NoteFits, heard_of}
-use Rattle.smp_stop_steps.specs.Seats.{Seat, In, Gives, Alters, Closes, Rests, Sets, Stands, irq_of}
+use Rattle.smp_stop_steps.specs.Seats.{Seat, In, Gives, Rests, Sets, Stands, irq_of}
 use Rattle.smp_stop_steps.specs.Shows.{StopShows, gate_word}
-use Rattle.smp_stop_steps.specs.Sits.{HasRun, HoldsGate, IsLoaded, IsNudge, IsThroughAll, RunsIf, Sits, SitsAt, SourceSits}
+use Rattle.smp_stop_steps.specs.Sits.{HasRun, IsLoaded, IsNudge, IsThroughAll, RunsIf, Sits, SitsAt, SourceSits}
 use Rattle.smp_stop_steps.specs.Slots.{DoneShows, begun_value, order}
 use Rattle.smp_stop_steps.specs.Sources.{Source, Drafts, Owns, DraftShows, OwnerShows, SourceShows}
-use Rattle.smp_stop_steps.specs.Stages.{StopControlValue, answer_at, begun_next, change_at, key_on, looked_on, nudge_of, nudge_on}
+use Rattle.smp_stop_steps.specs.Stages.{StopControlValue, answer_at, begun_next, key_on, looked_on, nudge_of, nudge_on}
 use Rattle.smp_stop_steps.specs.Stages.{stop_ends, stop_goes, store_of, visit_acked}
 use Rattle.smp_stop_steps.specs.State.{Setup, Present, StopState, StopCall, Calls}
-use Rattle.smp_stop_steps.specs.Steps.{FunctionGoes, Told, note_then, state_after}
-use Rattle.smp_stop_steps.specs.Stop.{Standing, Outside, Called, Inside, Answering, Completed, Refills, Last, Ended, Stop}
-use Rattle.smp_stop_steps.specs.Stop.{acked, acknowledged, closed, completed, ended, opened, raised, refilled, stands as stands_at}
-use Rattle.smp_stop_steps.specs.Tells.{answered_by, drafted, drafts}
-use Rattle.smp_stop_steps.specs.Tells.{acknowledges, completes, completes_with, calls_now, enters, first_readings, gate_told}
-use Rattle.smp_stop_steps.specs.Tells.{is_at_run, is_multi, is_patch, key_loaded, key_told, leaves, looked_by, looks, looks_now, may_call, patch_begun}
-use Rattle.smp_stop_steps.specs.Tells.{plan_at, reads, stored_open, stored_shut, tells, unpatched, with_stop}
+use Rattle.smp_stop_steps.specs.Steps.{FunctionGoes, note_then, state_after}
+use Rattle.smp_stop_steps.specs.Stop.{Standing, Inside, Ended, Stop}
+use Rattle.smp_stop_steps.specs.Stop.{acked, acknowledged, completed, opened, raised, stands as stands_at}
+use Rattle.smp_stop_steps.specs.Tells.{answered_by, drafts}
+use Rattle.smp_stop_steps.specs.Tells.{acknowledges, completes, completes_with, calls_now, gate_told}
+use Rattle.smp_stop_steps.specs.Tells.{is_multi, is_patch, key_loaded, key_told, leaves, looked_by, looks, looks_now, may_call, patch_begun}
+use Rattle.smp_stop_steps.specs.Tells.{reads, stored_open, stored_shut, tells, unpatched, with_stop}
 use Rattle.smp_stop_steps.specs.declared.stage.CompletionStage.TheVariants as completion
 use Rattle.smp_stop_steps.specs.declared.stage.RoundStage.TheVariants as round
 use Rattle.smp_stop_steps.specs.declared.stage.StopStage.{StopStage}

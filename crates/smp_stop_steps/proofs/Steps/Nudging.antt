@@ -1,33 +1,28 @@
 -- Laws of nudges and patches, by where a CPU stands.
 use Rattle.std.proofs.Common.{◌≡◌, ◌≢◌, ℕ, ◌+◌, ◌-◌, ◌<◌, Bool, true, false, nat_lt, ltb-true, lt-ltb, eq-eqb, eqb-true, ◌==◌, ◌&&◌, cond, sym, subst}
-use Rattle.std.proofs.Common.{refl, ap, ◌∙◌, ◌⊎◌, inl, inr, ⊎_elim, arith, Option, Some, None, List, [], ◌∷◌, ◌++◌}
+use Rattle.std.proofs.Common.{refl, ap, ◌∙◌, inl, inr, arith, Option, Some, None, List, [], ◌∷◌, ◌++◌}
 use Rattle.std.proofs.lemmas.Bool.{cases_lt}
-use Rattle.smp_labels.specs.Keys.{is_on, change_of, count_after, IsKeyWord}
+use Rattle.smp_labels.specs.Keys.{is_on, count_after, IsKeyWord}
 use Rattle.smp_labels.specs.Kinds.{xor}
 use Rattle.smp_labels.specs.declared.keys.Change.TheVariants.{Up, Down}
-use Rattle.smp_words.specs.Access.{put_if}
 use Rattle.smp_words.proofs.Puts.{at_test, put_same}
 use Rattle.smp_stop_steps.proofs.State.Patched.{lawful_when_on, nobody_patches}
 use Rattle.smp_stop_steps.proofs.Steps.Patching.{not_run}
-use Rattle.smp_words.specs.Put.{put_word}
-use Rattle.smp_stop_steps.specs.Labels.{Change, Patches, ReadKey, Whole, patch_answer, reading_of, state_left}
-use Rattle.smp_stop_steps.specs.Present.{RunnerShows}
+use Rattle.smp_stop_steps.specs.Labels.{Change, Patches, ReadKey, Whole}
 use Rattle.smp_stop_steps.specs.Promises.{IsPatched, KeysStand, Nudges, ReadsOwnPatch, StandsAtEdge}
-use Rattle.smp_stop_steps.specs.Seats.{Alters, In, Rests, Seat, Stands}
+use Rattle.smp_stop_steps.specs.Seats.{Seat}
 use Rattle.smp_stop_steps.specs.Shows.{StopShows}
-use Rattle.smp_stop_steps.specs.Sits.{RunsIf, IsNudge, Sits, SitsAtRest}
+use Rattle.smp_stop_steps.specs.Sits.{Sits, SitsAtRest}
 use Rattle.smp_stop_steps.specs.Sources.{Source}
 use Rattle.smp_stop_steps.specs.Stages.{StopControlValue, nudge_on, stop_ends, stop_goes}
 use Rattle.smp_stop_steps.specs.State.{Present, Setup, StopState}
 use Rattle.smp_stop_steps.specs.Steps.{at_then, state_after}
-use Rattle.smp_stop_steps.specs.Tells.{first_readings, is_patch, key_loaded, patch_begun, plan_at, reads}
+use Rattle.smp_stop_steps.specs.Tells.{is_patch, key_loaded, patch_begun, reads}
 use Rattle.smp_words.specs.declared.seen.Note.TheVariants as note
-use Rattle.smp_stop_steps.specs.declared.stage.CompletionStage.TheVariants as completion
 use Rattle.smp_stop_steps.specs.declared.stage.RoundStage.TheVariants as round
 use Rattle.smp_stop_steps.specs.declared.stage.StopStage.{StopStage}
-use Rattle.smp_stop_steps.specs.declared.stage.StopStage.TheVariants.{Advance, Begin, Close, Complete, Enter, EnterActive, EnterKind, EnterMask}
-use Rattle.smp_stop_steps.specs.declared.stage.StopStage.TheVariants.{ExchangeKey, LoadDone, LoadResult, NudgeKey, OpenGate, ReadKey as LoadKey}
-use Rattle.smp_stop_steps.specs.declared.stage.StopStage.TheVariants.{ReadSite, TakeGate}
+use Rattle.smp_stop_steps.specs.declared.stage.StopStage.TheVariants.{Advance}
+use Rattle.smp_stop_steps.specs.declared.stage.StopStage.TheVariants.{ExchangeKey, NudgeKey}
 use Rattle.smp_stop_steps.specs.declared.stage.Visit.{Visit}
 use Rattle.smp_words.specs.declared.work.Kind.TheVariants.{Patch}
 use Rattle.smp_words.specs.declared.work.Work.{Work}

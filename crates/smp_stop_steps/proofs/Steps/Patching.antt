@@ -5,7 +5,7 @@ use Rattle.smp_stop_steps.proofs.State.KeyCounts.{counts_nudged, counts_patched}
 use Rattle.std.specs.List.{AllByRecursion}
 use Rattle.smp_stop_steps.specs.Sits.{IsNudge}
 use Rattle.smp_stop_steps.specs.KeyCounts.{CountShows, moved_by}
-use Rattle.std.proofs.Common.{◌≡◌, ℕ, Bool, true, false, eqb-true, ◌==◌, ◌&&◌, cond, sym, subst, refl, ap, ◌∙◌, arith, Option, Some, None, List, []}
+use Rattle.std.proofs.Common.{◌≡◌, ℕ, Bool, true, false, eqb-true, ◌&&◌, cond, sym, subst, refl, ap, ◌∙◌, arith, Option, Some, None, List, []}
 use Rattle.std.proofs.Common.{◌∷◌, ◌++◌, ◌<◌, IfSome}
 use Rattle.smp_words.proofs.Puts.{at_test}
 use Rattle.smp_stop_steps.proofs.Steps.Kept.{source_same}
@@ -13,13 +13,13 @@ use Rattle.smp_stop_steps.proofs.State.Owns.{owns_stores}
 use Rattle.smp_stop_steps.proofs.State.Patched.{off_inside, patch_starts, patch_stores, reads_label, nobody_patches, lawful_when_on}
 use Rattle.smp_stop_steps.proofs.State.Phases.{is_open_inside}
 use Rattle.smp_words.specs.Put.{put, put_word}
-use Rattle.smp_stop_steps.specs.Labels.{Change, Patches, Patching, ReadKey, ReadSite, Reading, labels_in, Agrees, LabelsShow, count_set, state_left}
+use Rattle.smp_stop_steps.specs.Labels.{Change, Patches, Patching, ReadKey, Reading, labels_in, Agrees, LabelsShow, count_set, state_left}
 use Rattle.smp_stop_steps.specs.Present.{OwnsKey, PresentShows}
 use Rattle.smp_stop_steps.specs.Seats.{Alters, In, Rests, Seat, Stands}
 use Rattle.smp_stop_steps.specs.Shows.{StopShows}
 use Rattle.smp_stop_steps.specs.Sources.{Source}
 use Rattle.smp_stop_steps.specs.State.{Setup, StopState, Moved}
-use Rattle.smp_stop_steps.specs.Stop.{Answering, Called, Completed, Inside, Outside, Standing}
+use Rattle.smp_stop_steps.specs.Stop.{Inside, Standing}
 use Rattle.smp_stop_steps.specs.Tells.{is_at_run, is_patch, key_loaded, patch_begun, patched_more, reads, told, plan_at, key_patched}
 use Rattle.smp_words.specs.declared.seen.Act.TheVariants as act
 use Rattle.smp_words.specs.declared.field.Field.{Field}

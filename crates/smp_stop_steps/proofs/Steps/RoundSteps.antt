@@ -3,7 +3,7 @@ use Rattle.smp_stop_steps.proofs.Steps.Same.{moved_seat, still}
 use Rattle.smp_labels.proofs.Patched.{plan_same, plan_tests, plan_key_first}
 use Rattle.smp_labels.specs.Kinds.{xor}
 use Rattle.smp_labels.specs.declared.keys.Change.{Change as KeyChange}
-use Rattle.std.proofs.Common.{◌≡◌, ◌≢◌, ℕ, suc, ◌+◌, ◌-◌, ◌^◌, ◌<◌, ◌≤◌, Bool, true, false, nat_lt, eq-eqb, ne_eqb, eqb-true, ◌==◌, ◌&&◌, ◌||◌, cond}
+use Rattle.std.proofs.Common.{◌≡◌, ◌≢◌, ℕ, ◌+◌, ◌^◌, ◌<◌, ◌≤◌, Bool, true, false, nat_lt, eq-eqb, ne_eqb, eqb-true, ◌==◌, ◌&&◌, ◌||◌, cond}
 use Rattle.std.proofs.Common.{sym, subst, refl, ap, ◌∙◌, inl, inr, arith, ⊎_elim, Option, Some, None, List, [], ◌∷◌, ◌++◌, length, take, get_or}
 use Rattle.std.proofs.Common.{length-append, length-take-le, take_all, append_assoc}
 use Rattle.std.proofs.lemmas.Bool.{cases_lt}
@@ -17,9 +17,9 @@ use Rattle.smp_words.specs.Put.{put}
 use Rattle.smp_stop_steps.specs.Labels.{Change, count_set, answer_for, patch_answer}
 use Rattle.smp_stop_steps.specs.Seats.{Alters, In, Rests, Seat, irq_of}
 use Rattle.smp_stop_steps.specs.Shows.{StopShows}
-use Rattle.smp_stop_steps.specs.Sits.{IsLoaded, OwnsIf, Sits, SitsAtRest, SitsAtRun, changes_of, SitsAtEntry}
+use Rattle.smp_stop_steps.specs.Sits.{IsLoaded, OwnsIf, Sits, SitsAtRun, changes_of, SitsAtEntry}
 use Rattle.smp_stop_steps.specs.Sources.{Source}
-use Rattle.smp_stop_steps.specs.Stages.{StopControlValue, change_at, entry_on, round_outcome, stop_ends, stop_goes, store_of, key_on}
+use Rattle.smp_stop_steps.specs.Stages.{StopControlValue, change_at, entry_on, stop_ends, stop_goes, store_of, key_on}
 use Rattle.smp_stop_steps.specs.State.{Setup, StopState}
 use Rattle.smp_stop_steps.specs.Steps.{StopStep, state_after}
 use Rattle.smp_stop_steps.specs.Tells.{is_multi, tells, told, plan_at}

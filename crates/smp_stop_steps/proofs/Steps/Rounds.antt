@@ -3,7 +3,7 @@ use Rattle.smp_stop_steps.proofs.Basics.Bools.{both_true, or_false, or_true}
 use Rattle.smp_stop_steps.specs.Callings.{HasCalled, IsCalling, AreClosing}
 use Rattle.smp_stop_steps.proofs.Steps.Callings.{calling_same, calling_looked, IsNotClosing, calling_turned, closing_kept, calling_acked, idle_patch}
 use Rattle.smp_stop_steps.proofs.Steps.Callings.{carried_alone, calling_next, calling_ran}
-use Rattle.std.proofs.Common.{◌≡◌, ◌≢◌, ℕ, ◌+◌, ◌-◌, ◌<◌, ◌≤◌, Bool, true, false, not, nat_lt, lt-ltb, le-ltb, eqb-true, eq-eqb, ne_eqb, ◌==◌, ◌&&◌}
+use Rattle.std.proofs.Common.{◌≡◌, ◌≢◌, ℕ, ◌+◌, ◌-◌, ◌≤◌, Bool, true, false, not, nat_lt, lt-ltb, le-ltb, eqb-true, eq-eqb, ne_eqb, ◌==◌, ◌&&◌}
 use Rattle.std.proofs.Common.{◌||◌, cond, sym, subst, refl, ap, ◌∙◌, ◌⊎◌, inl, inr, arith, ⊎_elim, Some, None, List, [], ◌∷◌, ◌++◌, Option, IfSome}
 use Rattle.std.proofs.lemmas.Bool.{cases_lt, cases_eq}
 use Rattle.smp_words.proofs.Puts.{at_test, put_all, put_same, put_other}
@@ -24,7 +24,7 @@ use Rattle.smp_stop_steps.specs.Shows.{StopShows}
 use Rattle.smp_stop_steps.specs.Slots.{AckShows, IsLevel, Keeps, OpenShows, IsPhaseOf}
 use Rattle.smp_stop_steps.specs.Sources.{Source}
 use Rattle.smp_stop_steps.specs.State.{Present, Setup, StopCall, StopState, Calling, Carries}
-use Rattle.smp_stop_steps.specs.Stop.{Answering, Called, Completed, Inside, Nobody, Outside, Raises, Raising, Refills, Standing, Stop, acked}
+use Rattle.smp_stop_steps.specs.Stop.{Inside, Nobody, Raises, Raising, Refills, Standing, Stop, acked}
 use Rattle.smp_stop_steps.specs.Stop.{acknowledged, is_inside, raised, refilled, stands}
 use Rattle.smp_stop_steps.specs.Tells.{acknowledges, first_readings, is_patch, leaves, looked_by, stored_open, stored_shut, told}
 use Rattle.smp_stop_steps.specs.Tells.{unpatched, with_stop, called_more, carried, carried_call}

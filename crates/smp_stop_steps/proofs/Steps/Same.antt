@@ -1,5 +1,5 @@
 -- A step that leaves a CPU's seat or its source as it was.
-use Rattle.std.proofs.Common.{◌≡◌, ℕ, Bool, true, false, cond, sym, subst, refl, ap, arith}
+use Rattle.std.proofs.Common.{◌≡◌, ℕ, Bool, true, false, cond, sym, subst, refl, ap}
 use Rattle.smp_words.proofs.Puts.{at_test}
 use Rattle.smp_words.proofs.SameWords.{same_word-true}
 use Rattle.smp_words.specs.Put.{put, put_word, same_word}

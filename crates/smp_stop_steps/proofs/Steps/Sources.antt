@@ -2,8 +2,7 @@
 use Rattle.smp_stop_steps.proofs.State.Gates.{gate_free}
 use Rattle.smp_stop_steps.specs.Callings.{HasCompleted}
 use Rattle.smp_stop_steps.specs.KeyCounts.{CountShows}
-use Rattle.smp_stop_steps.specs.Labels.{StandsSet}
-use Rattle.std.proofs.Common.{◌≡◌, ◌≢◌, ℕ, ◌+◌, ◌<◌, ◌≤◌, Bool, true, false, eq-eqb, ◌==◌, cond, sym, subst, refl, ap, ◌∙◌, arith, Some, None}
+use Rattle.std.proofs.Common.{◌≡◌, ◌≢◌, ℕ, ◌+◌, ◌<◌, Bool, true, false, eq-eqb, ◌==◌, cond, sym, subst, refl, ap, ◌∙◌, arith, Some, None}
 use Rattle.std.proofs.Common.{List, [], ◌∷◌, ◌++◌}
 use Rattle.smp_words.proofs.Puts.{at_test, put_all, put_both, put_same, put_other}
 use Rattle.smp_words.proofs.SameWords.{one_place}
@@ -24,13 +23,12 @@ use Rattle.smp_stop_steps.specs.Slots.{DoneShows, IsStored, begun_value, order}
 use Rattle.smp_words.specs.Kinds.{kind_at, kind_word}
 use Rattle.smp_stop_steps.specs.Sources.{Collects, DraftShows, Drafts, IsDrafted, OwnerShows, Owns, Shut, Source, SourceShows}
 use Rattle.smp_stop_steps.specs.State.{Setup, StopState}
-use Rattle.smp_stop_steps.specs.Stop.{Answering, Called, Completed, Ended, Ending, Inside, Last, Outside, Running, Standing, Stop, acked, answer_of}
+use Rattle.smp_stop_steps.specs.Stop.{Answering, Called, Completed, Ended, Ending, Inside, Last, Outside, Running, Standing, Stop, answer_of}
 use Rattle.smp_stop_steps.specs.Stop.{closed, is_inside, is_of, opened}
 use Rattle.smp_stop_steps.specs.Tells.{drafted, drafts, stored_open, stored_shut, told, with_stop}
 use Rattle.smp_words.specs.declared.seen.Act.TheVariants as act
 use Rattle.smp_words.specs.declared.field.Field.TheVariants.{Ack, Active, Arg, Done, Func, Kind, Mask, Result, Roll, State, Todo}
 use Rattle.smp_words.specs.declared.field.Field.{Field}
-use Rattle.smp_words.specs.declared.work.Kind.TheVariants.{Multi, One, Patch}
 use Rattle.smp_words.specs.declared.work.Kind.{Kind as KindOf}
 use Rattle.smp_words.specs.declared.work.Work.{Work}
 use Rattle.smp_words.specs.declared.word.Word.TheVariants.{Gate, Key, Slot}

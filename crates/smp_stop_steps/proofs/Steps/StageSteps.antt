@@ -4,9 +4,9 @@ use Rattle.smp_stop_steps.proofs.Steps.Same.{moved_source, still}
 use Rattle.smp_stop_steps.proofs.State.Patched.{lawful_when_on}
 use Rattle.smp_labels.proofs.Patched.{left_in_form, xor_same}
 use Rattle.smp_labels.specs.Kinds.{xor}
-use Rattle.smp_labels.specs.Keys.{is_on, count_after, count_or, IsKeyWord}
-use Rattle.std.proofs.Common.{◌≡◌, ◌≢◌, ℕ, ◌+◌, ◌-◌, ◌^◌, ◌<◌, Bool, true, false, eq-eqb, eqb-true, ◌==◌, cond, sym, subst, refl, ap, ◌∙◌, ◌⊎◌, inl}
-use Rattle.std.proofs.Common.{inr, arith, nat_lt, Option, Some, None, length}
+use Rattle.smp_labels.specs.Keys.{is_on, count_after, IsKeyWord}
+use Rattle.std.proofs.Common.{◌≡◌, ◌≢◌, ℕ, ◌+◌, ◌-◌, ◌^◌, ◌<◌, Bool, true, false, eq-eqb, eqb-true, ◌==◌, cond, sym, subst, refl, ap, ◌∙◌, ◌⊎◌}
+use Rattle.std.proofs.Common.{arith, nat_lt, Option, Some, None, length}
 use Rattle.smp_stop_steps.proofs.Steps.Facts.{work_words}
 use Rattle.smp_stop_steps.proofs.Steps.Patching.{key_read, site_read, key_exchanged}
 use Rattle.smp_stop_steps.proofs.Steps.Sources.{done_loaded, field_stored, gate_opened, gate_taken, kind_back, result_loaded, roll_stored}

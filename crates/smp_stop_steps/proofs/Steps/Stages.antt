@@ -1,6 +1,6 @@
 -- What a CPU's stage says of its seat and of its source.
 use Rattle.std.specs.Prelude.{◌≡◌, ℕ, Option, Some}
-use Rattle.std.proofs.Common.{subst, arith}
+use Rattle.std.proofs.Common.{subst}
 use Rattle.smp_stop_steps.specs.Seats.{Seat}
 use Rattle.smp_stop_steps.specs.Sits.{OwnsIf, Sits, SitsAt, SitsInRound, SourceSits}
 use Rattle.smp_stop_steps.specs.Sources.{Source}

@@ -1,16 +1,16 @@
 -- No state word is ever more than 5, whether a stop is open in its slot or not.
-use Rattle.std.proofs.Common.{ℕ, ◌+◌, ◌≤◌, Bool, true, false, ◌==◌, cond, Some, subst, arith, None}
+use Rattle.std.proofs.Common.{ℕ, ◌+◌, ◌≤◌, Bool, true, false, ◌==◌, cond, Some, arith, None}
 use Rattle.smp_words.specs.Access.{at_after, put_if}
 use Rattle.smp_words.specs.Put.{put_word}
 use Rattle.smp_stop_steps.specs.Labels.{Change}
-use Rattle.smp_stop_steps.specs.Seats.{Seat, In, Sets, Stands}
+use Rattle.smp_stop_steps.specs.Seats.{Seat, Sets}
 use Rattle.smp_stop_steps.specs.Shows.{StopShows}
 use Rattle.smp_stop_steps.specs.Sits.{SitsAt, SitsIn, SitsInRound}
-use Rattle.smp_stop_steps.specs.Slots.{Keeps, begun_value}
+use Rattle.smp_stop_steps.specs.Slots.{begun_value}
 use Rattle.smp_stop_steps.specs.Sources.{Source}
 use Rattle.smp_stop_steps.specs.Stages.{StopControlValue, change_at, completion_access, label_word, round_access, stop_access}
 use Rattle.smp_stop_steps.specs.State.{Setup, StopState}
-use Rattle.smp_stop_steps.specs.Stop.{Inside, first_phase}
+use Rattle.smp_stop_steps.specs.Stop.{first_phase}
 use Rattle.smp_words.specs.declared.field.Field.{Field}
 use Rattle.smp_words.specs.declared.field.Field.TheVariants as field
 use Rattle.smp_stop_steps.specs.declared.stage.CompletionStage.TheVariants as completion
@@ -22,12 +22,10 @@ use Rattle.smp_stop_steps.specs.declared.stage.StopStage.TheVariants.{LoadDone, 
 use Rattle.smp_stop_steps.specs.declared.stage.StopStage.TheVariants.{ExchangeKey}
 use Rattle.smp_stop_steps.specs.declared.stage.StopStage.{StopStage}
 use Rattle.smp_stop_steps.specs.declared.stage.Visit.{Visit}
-use Rattle.smp_words.specs.declared.work.Kind.TheVariants.{One, Multi, Patch}
 use Rattle.smp_words.specs.declared.work.Kind.{Kind}
 use Rattle.smp_words.specs.declared.work.Work.{Work}
 use Rattle.smp_words.specs.declared.word.Word.TheVariants.{Gate, Slot, Key}
 use Rattle.smp_words.specs.declared.word.Word.{Word}
-use Rattle.smp_labels.specs.declared.patch.Place.TheVariants as place
 use Rattle.smp_labels.specs.declared.patch.Place.{Place}
 
 -- each state word is a phase, or 5

@@ -1,14 +1,13 @@
 -- Answers of stop functions where a command begins, and after a step of a stop half.
 use Rattle.std.specs.Int.{w32, cast_signed}
-use Rattle.std.proofs.Common.{◌≡◌, ℕ, ℤ, ◌<◌, ◌==◌, Bool, true, false, cond, Option, Some, None, List, length, sym, subst, refl, rules, FitsSigned, arith}
+use Rattle.std.proofs.Common.{◌≡◌, ℕ, ℤ, ◌<◌, Option, Some, None, List, length, refl, rules, FitsSigned, arith}
 use Rattle.std.proofs.lemmas.Int.{to_z-of_z}
 use Rattle.std.specs.Prelude.{slice_set}
 use Rattle.smp_words.proofs.Puts.{at_test}
 use Rattle.smp_words.specs.Commands.{FitsCommand}
 use Rattle.smp_words.specs.declared.command.Command.{Command}
-use Rattle.smp_words.specs.declared.command.Command.TheVariants as command
-use Rattle.smp_stop_steps.specs.AnswerWords.{AnswersAreTaken, BeginsWith, CompletionFits, HasI32Answers, IsI32Word, StageFits, VisitFits}
-use Rattle.smp_stop_steps.specs.Stages.{StopControlValue, completes_from}
+use Rattle.smp_stop_steps.specs.AnswerWords.{AnswersAreTaken, BeginsWith, HasI32Answers, IsI32Word, StageFits, VisitFits}
+use Rattle.smp_stop_steps.specs.Stages.{StopControlValue}
 use Rattle.smp_stop_steps.specs.Starts.{answer_word, in_visit, stop_first}
 use Rattle.smp_stop_steps.specs.Value.{stop_control_of}
 use Rattle.smp_stop_steps.specs.declared.stage.CompletionStage.TheVariants as completion

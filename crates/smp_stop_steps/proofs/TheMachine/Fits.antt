@@ -10,7 +10,7 @@ use Rattle.smp_mask.proofs.Sets.{has_above, has_and, same_members}
 use Rattle.smp_mask.specs.declared.error.SmpError.{SmpError}
 use Rattle.smp_words.specs.Size.{cpus}
 use Rattle.smp_words.specs.declared.work.Kind.{Kind}
-use Rattle.smp_words.specs.declared.work.Kind.TheVariants.{One, Multi, Patch}
+use Rattle.smp_words.specs.declared.work.Kind.TheVariants.{One}
 use Rattle.smp_words.specs.declared.work.Work.{Work}
 use Rattle.smp_stop_steps.specs.Counts.{mask_weight}
 use Rattle.smp_stop_steps.specs.Sources.{IsOfKind, IsPatchWork}

@@ -1,5 +1,5 @@
 -- What the code of a step makes of the stop half of a machine.
-use Rattle.std.proofs.Common.{◌≡◌, ℕ, Some, List, length, sym, subst, refl, ap, ◌∙◌, arith}
+use Rattle.std.proofs.Common.{◌≡◌, ℕ, Some, List, sym, subst, refl, arith}
 use Rattle.std.proofs.lemmas.List.{length-set}
 use Rattle.smp_stop_steps.specs.State.{StopState}
 use Rattle.smp_stop_steps.specs.Tells.{tells}

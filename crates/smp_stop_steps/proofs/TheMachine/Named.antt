@@ -1,43 +1,33 @@
 -- The word of each access of the stop half is in its table, and no step takes the gate from its holder.
 use Rattle.smp_stop_steps.specs.Tells.{plan_at}
-use Rattle.std.proofs.Common.{◌≡◌, ◌≢◌, ℕ, zero, suc, ◌+◌, ◌<◌, ◌≤◌, Bool, true, false, ◌==◌, cond, sym, subst, refl, ap, ◌∙◌, inl, inr, arith}
-use Rattle.std.proofs.Common.{⊎_elim, ne_eqb, Option, Some, None, List, [], ◌∷◌, ◌++◌, length}
+use Rattle.std.proofs.Common.{◌≡◌, ◌≢◌, ℕ, ◌+◌, ◌<◌, ◌≤◌, Bool, true, false, cond, sym, subst, ap, ◌∙◌, inl, inr, arith}
+use Rattle.std.proofs.Common.{ne_eqb, Some, List, [], ◌∷◌, ◌++◌, length}
 use Rattle.std.proofs.lemmas.Bool.{cases_lt}
 use Rattle.std.proofs.lemmas.List.{append-nil}
 use Rattle.smp_stop_steps.proofs.State.Phases.{is_open_inside}
 use Rattle.smp_stop_steps.proofs.Steps.RoundSteps.{change_here}
 use Rattle.smp_stop_steps.proofs.TheMachine.Tables.{IsStopWord}
-use Rattle.smp_words.specs.Access.{at_after, word_of, put_if}
-use Rattle.smp_words.specs.Put.{put_word}
+use Rattle.smp_words.specs.Access.{word_of}
 use Rattle.smp_words.specs.Size.{cpus}
-use Rattle.smp_stop_steps.specs.Labels.{Change, count_set, patch_answer}
-use Rattle.smp_stop_steps.specs.Seats.{Alters, Closes, Fills, Gives, In, Rests, Seat, Sets, Stands, Turn}
+use Rattle.smp_stop_steps.specs.Labels.{Change}
+use Rattle.smp_stop_steps.specs.Seats.{Alters, Fills, Gives, In, Rests, Seat, Sets, Stands, Turn}
 use Rattle.smp_stop_steps.specs.Shows.{StopShows}
-use Rattle.smp_stop_steps.specs.Sits.{RunsIf, HoldsGate, IsLoaded, IsThroughAll, Sits, SitsInCompletion, SitsInRound}
+use Rattle.smp_stop_steps.specs.Sits.{Sits, SitsInCompletion, SitsInRound}
 use Rattle.smp_stop_steps.specs.Sources.{Collects, Drafts, IsWork, Owns, Shut, Source, SourceShows}
 use Rattle.smp_stop_steps.specs.Stages.{StopControlValue, change_at, completion_access, label_word, round_access, stop_access, store_of}
 use Rattle.smp_stop_steps.specs.State.{Setup, StopState}
 use Rattle.smp_stop_steps.specs.Steps.{at_then}
-use Rattle.smp_stop_steps.specs.Stop.{Answering, Inside}
-use Rattle.smp_stop_steps.specs.declared.stage.CompletionStage.TheVariants as completion
 use Rattle.smp_stop_steps.specs.declared.stage.CompletionStage.{CompletionStage}
 use Rattle.smp_stop_steps.specs.declared.stage.RoundStage.TheVariants as round
 use Rattle.smp_stop_steps.specs.declared.stage.RoundStage.{RoundStage}
-use Rattle.smp_stop_steps.specs.declared.stage.StopStage.TheVariants.{Advance, Begin, Close, Complete, Enter, EnterActive, EnterKind, EnterMask}
-use Rattle.smp_stop_steps.specs.declared.stage.StopStage.TheVariants.{LoadDone, LoadResult, OpenGate, ReadKey, ReadSite, TakeGate, NudgeKey}
-use Rattle.smp_stop_steps.specs.declared.stage.StopStage.TheVariants.{ExchangeKey}
 use Rattle.smp_stop_steps.specs.declared.stage.StopStage.{StopStage}
 use Rattle.smp_stop_steps.specs.declared.stage.Visit.{Visit}
 use Rattle.smp_words.specs.declared.work.Kind.TheVariants.{Patch}
 use Rattle.smp_words.specs.declared.work.Work.{Work}
-use Rattle.smp_words.specs.declared.word.Word.TheVariants.{Gate, Slot, Key}
+use Rattle.smp_words.specs.declared.word.Word.TheVariants.{Gate, Slot}
 use Rattle.smp_words.specs.declared.word.Word.{Word}
-use Rattle.smp_labels.specs.Entries.{entry_at}
 use Rattle.smp_labels.specs.Keys.{is_on}
-use Rattle.smp_labels.specs.Kinds.{kind_of, xor}
-use Rattle.smp_labels.specs.Kinds.{kind_word as kind_word_site}
-use Rattle.smp_labels.specs.Plans.{patch_of, site_change, site_changes}
-use Rattle.smp_labels.specs.declared.entries.Entry.{Entry as SiteEntry}
+use Rattle.smp_labels.specs.Plans.{patch_of, site_changes}
 use Rattle.smp_labels.specs.declared.patch.Place.TheVariants as place
 use Rattle.smp_labels.specs.declared.words.TheConstants.{MOST_KEYS, MOST_SITES}
 use Rattle.std.specs.List.{AllByRecursion}

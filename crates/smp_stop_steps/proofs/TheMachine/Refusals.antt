@@ -1,29 +1,24 @@
 -- Each refusal of a command of the stop half is that of the state of the stops.
-use Rattle.std.proofs.Common.{◌≡◌, ◌≢◌, ℕ, ◌+◌, ◌<◌, Bool, true, false, ◌==◌, ◌&&◌, ◌||◌, not, nat_lt, lt-ltb, cond, sym, subst, refl, ap, ◌∙◌, ◌⊎◌}
-use Rattle.std.proofs.Common.{inl, inr, ⊎_elim, arith, Option, Some, None, length, bit_and, eq-eqb, ne_eqb}
+use Rattle.std.proofs.Common.{◌≡◌, ◌≢◌, ℕ, ◌+◌, ◌<◌, Bool, true, false, ◌&&◌, nat_lt, lt-ltb, sym, subst, ap, ◌∙◌}
+use Rattle.std.proofs.Common.{arith, Option, Some, None, bit_and, eq-eqb, ne_eqb}
 use Rattle.std.proofs.lemmas.Bool.{ltb-true}
 use Rattle.std.proofs.lemmas.List.{length-map}
-use Rattle.smp_labels.specs.Entries.{entry_word}
 use Rattle.smp_mask.specs.declared.error.SmpError.{SmpError}
 use Rattle.smp_mask.specs.declared.error.SmpError.TheVariants as error
 use Rattle.smp_words.specs.Size.{cpus}
-use Rattle.smp_words.specs.declared.field.Field.{Field}
 use Rattle.smp_words.specs.declared.command.Command.{Command}
-use Rattle.smp_words.specs.declared.command.Command.TheVariants as command
 use Rattle.smp_words.specs.declared.work.Kind.{Kind}
-use Rattle.smp_words.specs.declared.work.Kind.TheVariants.{One, Multi, Patch}
+use Rattle.smp_words.specs.declared.work.Kind.TheVariants.{One}
 use Rattle.smp_words.specs.declared.work.Work.{Work}
-use Rattle.smp_words.specs.declared.word.Word.TheVariants.{Gate, Slot}
-use Rattle.smp_stop_steps.specs.Counts.{mask_weight}
-use Rattle.smp_stop_steps.specs.Refusals.{BeginRefuses, FitsGate, IsRefusal, MayAdvance, MayEnter, MayFinish, MayRun, RefusesByState, Refuses}
-use Rattle.smp_stop_steps.specs.Seats.{In, Rests, Stands}
+use Rattle.smp_words.specs.declared.word.Word.TheVariants.{Gate}
+use Rattle.smp_stop_steps.specs.Refusals.{BeginRefuses, IsRefusal, MayAdvance, MayEnter, MayFinish, MayRun, RefusesByState, Refuses}
+use Rattle.smp_stop_steps.specs.Seats.{Stands}
 use Rattle.smp_stop_steps.specs.Shows.{gate_word}
 use Rattle.smp_stop_steps.specs.Sits.{OwnsIf, SitsAt, SitsAtRest, SourceSits}
-use Rattle.smp_stop_steps.specs.Sources.{OwnerShows, SourceShows}
 use Rattle.smp_stop_steps.specs.Stages.{StopControlValue}
-use Rattle.smp_stop_steps.specs.Starts.{begin_refusal, fits_kind, fits_work, has_slot, is_free, may_advance, may_finish, may_run, refusal_on, terms_of, unless}
+use Rattle.smp_stop_steps.specs.Starts.{begin_refusal, has_slot, is_free, may_advance, may_finish, may_run, refusal_on, terms_of, unless}
 use Rattle.smp_stop_steps.specs.State.{Setup, StopState}
-use Rattle.smp_stop_steps.specs.Stop.{Inside, acked}
+use Rattle.smp_stop_steps.specs.Stop.{Inside}
 use Rattle.smp_stop_steps.specs.Table.{stop_number}
 use Rattle.smp_stop_steps.specs.Tells.{is_one}
 use Rattle.smp_stop_steps.specs.Value.{StopsValue, StopShown, setup_of, stop_control_of}

@@ -1,17 +1,12 @@
 -- What each step that a stop half may make next keeps.
 use Rattle.std.proofs.Common.{◌≡◌, ℕ, ◌<◌, List, Option, Some, length, arith}
-use Rattle.smp_labels.specs.declared.patch.Place.TheVariants as place
 use Rattle.smp_words.specs.Access.{word_of}
 use Rattle.smp_words.specs.declared.seen.Note.{Note}
 use Rattle.smp_stop_steps.specs.Labels.{Change}
 use Rattle.smp_stop_steps.specs.Notes.{NoteFits, StopNoteFits}
-use Rattle.smp_stop_steps.specs.Stages.{change_at, stop_access, store_of}
+use Rattle.smp_stop_steps.specs.Stages.{stop_access, store_of}
 use Rattle.smp_stop_steps.specs.Steps.{note_then, state_after}
-use Rattle.smp_stop_steps.specs.declared.stage.CompletionStage.TheVariants as completion
-use Rattle.smp_stop_steps.specs.declared.stage.RoundStage.TheVariants as round
 use Rattle.smp_stop_steps.specs.declared.stage.StopStage.{StopStage}
-use Rattle.smp_stop_steps.specs.declared.stage.StopStage.TheVariants.{TakeGate, OpenGate, Begin, Enter, EnterKind, EnterMask, EnterActive, Advance}
-use Rattle.smp_stop_steps.specs.declared.stage.StopStage.TheVariants.{Complete, Close, LoadDone, LoadResult, ReadKey, ReadSite, NudgeKey, ExchangeKey}
 use Rattle.smp_words.specs.Size.{cpus}
 use Rattle.smp_stop_steps.specs.State.{StopState}
 use Rattle.smp_stop_steps.specs.StepLaws.{StepsKeepLaws, StopNoteTold}

@@ -1,7 +1,7 @@
 -- A step, over a stop table and a list of controls.
 use Rattle.smp_stop_steps.specs.Carries.{CarriesIn}
 use Rattle.smp_stop_steps.proofs.Steps.CallSteps.{call_step}
-use Rattle.std.proofs.Common.{◌≡◌, ◌≢◌, ℕ, ◌+◌, ◌<◌, ◌≤◌, Bool, true, false, ◌==◌, cond, sym, subst, ap, ◌∙◌, inl, inr, arith, Option, Some, None}
+use Rattle.std.proofs.Common.{◌≡◌, ◌≢◌, ℕ, ◌+◌, ◌<◌, ◌≤◌, Bool, cond, sym, subst, ap, ◌∙◌, arith, Option, Some, None}
 use Rattle.std.proofs.Common.{List, [], ◌∷◌, length, length-append, length-take-le, take, ◌^◌}
 use Rattle.std.proofs.lemmas.List.{get_or-set_same, get_or-set_other, get_or_past}
 use Rattle.std.proofs.lemmas.Bool.{cases_lt}
@@ -17,12 +17,10 @@ use Rattle.smp_stop_steps.proofs.TheMachine.Tables.{IsStopWord, stop_words_by_na
 use Rattle.smp_words.specs.Access.{word_of}
 use Rattle.smp_words.specs.Put.{put}
 use Rattle.smp_words.specs.Size.{cpus}
-use Rattle.smp_stop_steps.specs.Labels.{Change, LabelsShow, Patches, Patching, Whole, labels_in}
+use Rattle.smp_stop_steps.specs.Labels.{LabelsShow, Patches, Patching, Whole, labels_in}
 use Rattle.smp_stop_steps.specs.Seats.{Rests}
-use Rattle.smp_stop_steps.specs.Shows.{StopShows}
 use Rattle.smp_stop_steps.specs.Sits.{HoldsGate, Sits, SitsAt, SitsInRound, changes_of}
-use Rattle.smp_stop_steps.specs.Sources.{Shut}
-use Rattle.smp_stop_steps.specs.Stages.{FitsAccess, FitsRound, FitsStop, StopControlValue, round_access, stop_access, stop_outside}
+use Rattle.smp_stop_steps.specs.Stages.{FitsAccess, FitsRound, FitsStop, StopControlValue, round_access, stop_access}
 use Rattle.smp_stop_steps.specs.State.{Setup, StopState}
 use Rattle.smp_stop_steps.specs.Steps.{at_then, control_then, state_after}
 use Rattle.smp_stop_steps.specs.Table.{StopWords, stop_number, stop_words_after}
@@ -41,12 +39,8 @@ use Rattle.smp_words.specs.declared.word.Word.{Word}
 use Rattle.smp_labels.proofs.Stores.{entries_kept}
 use Rattle.smp_labels.specs.Entries.{IsEntryWord, entry_at}
 use Rattle.smp_labels.specs.Keys.{is_on}
-use Rattle.smp_labels.specs.Kinds.{kind_of}
-use Rattle.smp_labels.specs.Kinds.{kind_word as kind_word_site}
 use Rattle.smp_labels.specs.Law.{Table}
 use Rattle.smp_labels.specs.Plans.{site_change, site_changes}
-use Rattle.smp_labels.specs.declared.entries.Entry.{Entry as SiteEntry}
-use Rattle.smp_labels.specs.declared.patch.Place.TheVariants as place
 use Rattle.smp_labels.specs.declared.words.TheConstants.{MOST_SITES}
 
 -- the controls by CPU, with one of them set

@@ -1,5 +1,5 @@
 -- What a kept stop half takes.
-use Rattle.std.proofs.Common.{◌≡◌, Bool, true, false, List, [], ◌∷◌, Option, Some, None, ap, ◌∙◌, refl, arith}
+use Rattle.std.proofs.Common.{◌≡◌, Bool, true, List, Option, ap, arith}
 use Rattle.smp_sparse.specs.Count.{Tells}
 use Rattle.smp_stop_steps.specs.Labels.{Change}
 use Rattle.smp_stop_steps.specs.Stages.{StopControlValue, stop_outside}
