@@ -4,8 +4,7 @@ use Rattle.std.specs.Int.{bit_at, w64}
 use Rattle.std.proofs.lemmas.Bool.{cases_lt, cases_eq}
 use Rattle.std.proofs.lemmas.Bool.Decides.{nat_tests}
 use Rattle.std.proofs.lemmas.Nat.Bits.{bit_at-lt, bit_at_and, bit_at_clear_same, bit_at_clear_other, same_from_bits}
-use Rattle.smp_mask.specs.Mask.{has}
-use Rattle.smp_stop_steps.specs.Stages.{all_but}
+use Rattle.smp_stop_steps.specs.{has, all_but}
 
 pub clear_same : (n k : ℕ) → k < 64 → has (bit_and n (all_but k)) k ≡ false
 clear_same n k low = grind (arith, nat_tests, bit_at_clear_same w64 n k low)

@@ -1,8 +1,7 @@
 -- The changes of a patch, one after another.
 use Rattle.std.proofs.Common.{◌≡◌, ℕ, zero, suc, refl, List, [], ◌∷◌, get_or, ne_eqb, arith}
-use Rattle.smp_stop_steps.specs.Labels.{Change}
-use Rattle.smp_stop_steps.specs.Stages.{change_at}
-use Rattle.smp_labels.specs.declared.patch.Place.TheVariants as place
+use Rattle.smp_stop_steps.specs.{Change, change_at}
+use Rattle.smp_stop_steps.specs.place
 
 pub read_change : (xs : List Change) (i : ℕ) → get_or xs i (place.Key 0, 0) ≡ change_at xs i
 read_change [] i = refl

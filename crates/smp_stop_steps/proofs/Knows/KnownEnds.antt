@@ -1,30 +1,21 @@
 -- The steps of a CPU that knows v at the end of a stop: it stores its answer, counts itself, and stores done.
 use Rattle.std.proofs.Common.{◌≡◌, ◌≢◌, ℕ, ◌-◌, ◌<◌, false, ◌==◌, cond, Some, None, [], ◌∷◌, ◌++◌, get_or, set, sym, subst, refl, ap, ◌∙◌, arith}
 use Rattle.smp_words.specs.Access.{one_less}
-use Rattle.smp_words.specs.Put.{put, put_word}
-use Rattle.smp_words.specs.Size.{cpus}
-use Rattle.smp_stop_steps.specs.Callings.{IsCalling, answer_in, with_answer}
+use Rattle.smp_words.proofs.Puts.{put_same, put_other}
+use Rattle.smp_stop_steps.specs.{put, put_word, cpus, IsCalling, answer_in, with_answer, Seat, Free, In, Gives, Closes, Rests, StopShows, Source, Setup}
+use Rattle.smp_stop_steps.specs.{StopState, Calling, Idle, Standing, told, stored_open, stored_shut, completes, completes_with, told_calling, Sees, GoesOn}
+use Rattle.smp_stop_steps.specs.{columns_of, AreFirst, setup_in, is_drafting, drafted_known, slot_stored, member_stored, given_by, completed_by}
+use Rattle.smp_stop_steps.specs.{completed_with, Work, Word, Slot}
 use Rattle.smp_stop_steps.proofs.Steps.Callings.{answer_replaced, calling_given}
-use Rattle.smp_stop_steps.specs.Seats.{Seat, Free, In, Gives, Closes, Rests}
-use Rattle.smp_stop_steps.specs.Shows.{StopShows}
-use Rattle.smp_stop_steps.specs.Sources.{Source}
-use Rattle.smp_stop_steps.specs.State.{Setup, StopState, Calling, Idle}
-use Rattle.smp_stop_steps.specs.Stop.{Standing}
-use Rattle.smp_stop_steps.specs.Tells.{told, stored_open, stored_shut, completes, completes_with}
-use Rattle.smp_stop_steps.specs.Known.{told_calling, Known, Sees, GoesOn, columns_of, AreFirst, setup_in}
-use Rattle.smp_stop_steps.specs.KnownAfter.{is_drafting, drafted_known, slot_stored, member_stored, given_by, completed_by, completed_with}
+use Rattle.smp_stop_steps.specs.Known.{Known}
 use Rattle.smp_stop_steps.specs.Moves.{IsThrough}
-use Rattle.smp_words.specs.declared.seen.Act.TheVariants as act
-use Rattle.smp_words.specs.declared.field.Field.TheVariants as field
-use Rattle.smp_words.specs.declared.work.Work.{Work}
-use Rattle.smp_words.specs.declared.word.Word.{Word}
-use Rattle.smp_words.specs.declared.word.Word.TheVariants.{Slot}
 use Rattle.smp_stop_steps.proofs.Steps.Completions.{result_stored, todo_subtracted, todo_subtracted_answered, done_stored}
 use Rattle.smp_stop_steps.proofs.Steps.Facts.{todo_bounds, todo_bounds_answered}
 use Rattle.smp_stop_steps.proofs.Knows.KnownRounds.{open_at, stands, small}
 use Rattle.smp_stop_steps.proofs.Knows.Parts.{Leaves, first_put, goes_seat}
 use Rattle.smp_stop_steps.proofs.Steps.StageSteps.{less_one}
-use Rattle.smp_words.proofs.Puts.{put_same, put_other}
+use Rattle.smp_stop_steps.specs.act
+use Rattle.smp_stop_steps.specs.field
 
 -- another answer is told as the one before
 answers : (x : ℕ) (f : Calling) → f ≢ Idle → answer_in (with_answer x f) ≡ x

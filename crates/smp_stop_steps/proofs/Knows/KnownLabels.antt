@@ -1,36 +1,23 @@
 -- The steps on labels of a CPU that knows v: readings, nudges, and patches.
-use Rattle.std.proofs.Common.{arith}
-use Rattle.std.proofs.Common.{◌≡◌, ℕ, ◌<◌, eqb-true, Bool, true, false, ◌==◌, ◌&&◌, cond, Some, None, List, [], ◌∷◌, ◌++◌, set, sym, subst, refl, ap, ◌∙◌}
-use Rattle.smp_mask.specs.Mask.{has}
+use Rattle.std.proofs.Common.{arith, ◌≡◌, ℕ, ◌<◌, eqb-true, Bool, true, false, ◌==◌, ◌&&◌, cond, Some, None, List, [], ◌∷◌, ◌++◌, set, sym, subst, refl, ap}
+use Rattle.std.proofs.Common.{◌∙◌}
 use Rattle.smp_labels.proofs.Patched.{plan_key_first}
-use Rattle.smp_labels.specs.Keys.{is_on}
-use Rattle.smp_labels.specs.declared.patch.Place.{Place}
-use Rattle.smp_labels.specs.declared.patch.Place.TheVariants as place
-use Rattle.smp_labels.specs.declared.words.TheConstants.{MOST_KEYS}
-use Rattle.smp_words.specs.Access.{word_of, at_after, seen_of, put_if}
-use Rattle.smp_words.specs.Put.{put, put_word}
+use Rattle.smp_words.specs.Access.{put_if}
 use Rattle.smp_words.proofs.Puts.{at_test, put_same, put_other}
-use Rattle.smp_stop_steps.specs.KeyCounts.{moves, moved_by}
-use Rattle.smp_stop_steps.specs.Labels.{Change, Patches, Reading, ReadKey, ReadSite, count_set}
-use Rattle.smp_stop_steps.specs.Seats.{Seat, Free, In, Gives, Alters, Closes, Turn, Rests, irq_of}
-use Rattle.smp_stop_steps.specs.Shows.{StopShows}
-use Rattle.smp_stop_steps.specs.Sits.{IsNudge}
-use Rattle.smp_stop_steps.specs.Sources.{Source}
-use Rattle.smp_stop_steps.specs.Stages.{store_of}
-use Rattle.smp_stop_steps.specs.State.{Setup, StopState, Present, Moved, unmoved}
-use Rattle.smp_stop_steps.specs.Tells.{told, is_patch, is_at_run, reads, key_loaded, key_patched, patched_more, patch_begun, plan_at}
-use Rattle.smp_stop_steps.specs.Known.{Known, Sees, GoesOn, columns_of, AreFirst, setup_in}
-use Rattle.smp_stop_steps.specs.KnownAfter.{reads_more, key_loaded_by, key_known, altered_by, patched_from, counted, known_entering}
+use Rattle.smp_stop_steps.specs.{has, is_on, Place, MOST_KEYS, word_of, at_after, seen_of, put, put_word, moves, moved_by, Change, Patches, Reading, ReadKey}
+use Rattle.smp_stop_steps.specs.{ReadSite, count_set, Seat, Free, In, Gives, Alters, Closes, Turn, Rests, irq_of, StopShows, IsNudge, Source, store_of, Setup}
+use Rattle.smp_stop_steps.specs.{StopState, Moved, unmoved, told, is_patch, is_at_run, reads, key_loaded, key_patched, patched_more, patch_begun, plan_at}
+use Rattle.smp_stop_steps.specs.{Sees, GoesOn, columns_of, AreFirst, setup_in, reads_more, key_loaded_by, key_known, altered_by, patched_from, counted}
+use Rattle.smp_stop_steps.specs.{known_entering, Patch, Work, Word, Key, Site}
+use Rattle.smp_stop_steps.specs.State.{Present}
+use Rattle.smp_stop_steps.specs.Known.{Known}
 use Rattle.smp_stop_steps.specs.Moves.{entering}
-use Rattle.smp_words.specs.declared.seen.Act.TheVariants as act
-use Rattle.smp_words.specs.declared.work.Kind.TheVariants.{Patch}
-use Rattle.smp_words.specs.declared.work.Work.{Work}
-use Rattle.smp_words.specs.declared.word.Word.{Word}
-use Rattle.smp_words.specs.declared.word.Word.TheVariants.{Key, Site}
 use Rattle.smp_stop_steps.proofs.Knows.KnownRounds.{stands, reads_now}
 use Rattle.smp_stop_steps.proofs.Knows.KnownSources.{still}
 use Rattle.smp_stop_steps.proofs.Knows.Parts.{Leaves, first_put, goes_seat, goes_still}
 use Rattle.smp_stop_steps.proofs.Steps.Patching.{key_read, site_read, key_loaded_first, key_stored, site_stored, key_exchanged}
+use Rattle.smp_stop_steps.specs.place
+use Rattle.smp_stop_steps.specs.act
 
 -- where interrupts are on, a CPU does not stand at the function
 not_at_run : (s : ℕ) (w : Work) (a l : ℕ) (t : Turn) → irq_of (In s w a l t) ≡ true → (a == 2 && l == 3) ≡ false

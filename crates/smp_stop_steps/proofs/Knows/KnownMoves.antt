@@ -1,23 +1,16 @@
 -- Each step that a CPU may make by what it knows goes on to stops of which all know their part.
 use Rattle.std.proofs.Common.{ℕ, Some, None, arith}
-use Rattle.smp_words.specs.Access.{word_of, at_after, seen_of}
-use Rattle.smp_stop_steps.specs.Known.{Known, Sees, GoesOn, setup_in}
-use Rattle.smp_stop_steps.specs.KnownAfter.{slot_known, known_entering}
-use Rattle.smp_stop_steps.specs.Moves.{Move, TakeGate, OpenGate, Draft, DraftMore, Open, Enter, Look, Acknowledge, AcknowledgePatch, Refill, Raise}
-use Rattle.smp_stop_steps.specs.Moves.{Give, Count, CountGiven, Close, LookDone, Collect}
-use Rattle.smp_stop_steps.specs.Moves.{ReadKey, ReadSite, Nudge, BeginPatch, Alter, LoadArg, LoadField, LoadEntry, May, access_in, entering, IsPlain}
-use Rattle.smp_stop_steps.specs.Seats.{Seat}
-use Rattle.smp_stop_steps.specs.Shows.{StopShows}
-use Rattle.smp_stop_steps.specs.Sources.{Source}
-use Rattle.smp_stop_steps.specs.State.{StopState}
-use Rattle.smp_words.specs.declared.seen.Act.TheVariants as act
-use Rattle.smp_words.specs.declared.field.Field.{Field}
-use Rattle.smp_words.specs.declared.word.Word.{Word}
-use Rattle.smp_words.specs.declared.word.Word.TheVariants.{Slot}
+use Rattle.smp_stop_steps.specs.{word_of, at_after, seen_of, Sees, GoesOn, setup_in, slot_known, known_entering, Seat, StopShows, Source, StopState, Field}
+use Rattle.smp_stop_steps.specs.{Word, Slot}
+use Rattle.smp_stop_steps.specs.Known.{Known}
+use Rattle.smp_stop_steps.specs.Moves.{Move, TakeGate, OpenGate, Draft, DraftMore, Open, Enter, Look, Acknowledge, AcknowledgePatch, Refill, Raise, Give}
+use Rattle.smp_stop_steps.specs.Moves.{Count, CountGiven, Close, LookDone, Collect, ReadKey, ReadSite, Nudge, BeginPatch, Alter, LoadArg, LoadField}
+use Rattle.smp_stop_steps.specs.Moves.{LoadEntry, May, access_in, entering, IsPlain}
 use Rattle.smp_stop_steps.proofs.Knows.KnownEnds.{give, count, count_given, close}
 use Rattle.smp_stop_steps.proofs.Knows.KnownLabels.{read_key, read_site, nudge, begin_patch, alter}
 use Rattle.smp_stop_steps.proofs.Knows.KnownRounds.{enter, load_arg, look, acknowledge, acknowledge_patch, refill, raise}
 use Rattle.smp_stop_steps.proofs.Knows.KnownSources.{still, take_gate, open_gate, draft, draft_more, open_stop, look_done, collect}
+use Rattle.smp_stop_steps.specs.act
 
 module _ (p : StopState) (at : Word → ℕ) (seat : ℕ → Seat) (source : ℕ → Source) (v : Known) (h : StopShows (setup_in v.setting) p at seat source)
     (sees : Sees p seat source v) where

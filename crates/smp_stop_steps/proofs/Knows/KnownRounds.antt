@@ -1,32 +1,18 @@
 -- The steps of a CPU that knows v: it enters a stop, and goes through its phases.
+use Rattle.std.proofs.Common.{◌≡◌, ◌≢◌, ℕ, ◌+◌, ◌-◌, ◌<◌, ◌≤◌, ◌^◌, Bool, true, false, ◌==◌, ◌&&◌, not, cond, Some, None, List, [], ◌∷◌, ◌++◌, sym, subst}
+use Rattle.std.proofs.Common.{refl, ap, ◌∙◌, arith, bit_and, eq-eqb}
+use Rattle.smp_words.specs.Access.{one_less}
+use Rattle.smp_words.proofs.Puts.{put_same, put_other}
+use Rattle.smp_stop_steps.specs.{HasCalled, has, put, put_word, cpus, mask_weight, Change, Reading, patch_answer, Seat, Free, In, Alters, Turn, Rests, Fills}
+use Rattle.smp_stop_steps.specs.{Sets, Stands, StopShows, Source, all_but, Setup, StopState, StopCall, Calling, Calls, Standing, Inside, acknowledged, raised}
+use Rattle.smp_stop_steps.specs.{told, enters, acknowledges, acknowledges_now, raises, stored_open, stored_shut, with_stop, leaves, unpatched, carried}
+use Rattle.smp_stop_steps.specs.{may_call, carried_call, told_calling, Sees, GoesOn, columns_of, setup_in, Part, called_by, ran_since, is_drafting}
+use Rattle.smp_stop_steps.specs.{drafted_known, slot_stored, member_stored, refilled_by, raised_by, looked_known, looked_to, acked_by, read_since, Field}
+use Rattle.smp_stop_steps.specs.{Work, Word, Slot}
 use Rattle.smp_stop_steps.proofs.Steps.Same.{word_same}
 use Rattle.smp_stop_steps.proofs.Steps.Callings.{carried_alone}
-use Rattle.smp_stop_steps.specs.Callings.{HasCalled}
-use Rattle.std.proofs.Common.{◌≡◌, ◌≢◌, ℕ, ◌+◌, ◌-◌, ◌<◌, ◌≤◌, ◌^◌, Bool, true, false, ◌==◌, ◌&&◌, not, cond, Some, None, List, [], ◌∷◌, ◌++◌, sym}
-use Rattle.std.proofs.Common.{subst, refl, ap, ◌∙◌, arith, bit_and, eq-eqb}
-use Rattle.smp_mask.specs.Mask.{has}
-use Rattle.smp_words.specs.Access.{one_less}
-use Rattle.smp_words.specs.Put.{put, put_word}
-use Rattle.smp_words.specs.Size.{cpus}
-use Rattle.smp_stop_steps.specs.Counts.{mask_weight}
-use Rattle.smp_stop_steps.specs.Labels.{Change, Reading, patch_answer}
-use Rattle.smp_stop_steps.specs.Seats.{Seat, Free, In, Alters, Turn, Rests, Fills, Sets, Stands}
-use Rattle.smp_stop_steps.specs.Shows.{StopShows}
-use Rattle.smp_stop_steps.specs.Sources.{Source}
-use Rattle.smp_stop_steps.specs.Stages.{all_but}
-use Rattle.smp_stop_steps.specs.State.{Setup, StopState, Present, StopCall, Calling, Calls, Carries}
-use Rattle.smp_stop_steps.specs.Stop.{Standing, Inside, acknowledged, raised}
-use Rattle.smp_stop_steps.specs.Tells.{told, enters, acknowledges, acknowledges_now, raises, stored_open, stored_shut, with_stop}
-use Rattle.smp_stop_steps.specs.Tells.{leaves, unpatched, carried, may_call, carried_call}
-use Rattle.smp_stop_steps.specs.Known.{told_calling, Known, Sees, GoesOn, columns_of, setup_in, Part}
-use Rattle.smp_stop_steps.specs.KnownAfter.{called_by, ran_since, is_drafting, drafted_known, slot_stored, member_stored, refilled_by, raised_by}
-use Rattle.smp_stop_steps.specs.KnownAfter.{looked_known, looked_to, acked_by, read_since}
-use Rattle.smp_words.specs.declared.seen.Act.TheVariants as act
-use Rattle.smp_words.specs.declared.field.Field.{Field}
-use Rattle.smp_words.specs.declared.field.Field.TheVariants as field
-use Rattle.smp_words.specs.declared.work.Work.{Work}
-use Rattle.smp_words.specs.declared.word.Word.{Word}
-use Rattle.smp_words.specs.declared.word.Word.TheVariants.{Slot}
+use Rattle.smp_stop_steps.specs.State.{Present, Carries}
+use Rattle.smp_stop_steps.specs.Known.{Known}
 use Rattle.smp_stop_steps.proofs.Basics.Bits.{clear_same, clear_other, clear_none}
 use Rattle.smp_stop_steps.proofs.Steps.Completions.{roll_cleared}
 use Rattle.smp_stop_steps.proofs.State.Moves.{IsNoPatch}
@@ -36,7 +22,8 @@ use Rattle.smp_stop_steps.proofs.Knows.Parts.{Leaves, goes_seat, goes_still}
 use Rattle.smp_stop_steps.proofs.State.Phases.{is_open_inside}
 use Rattle.smp_stop_steps.proofs.Steps.Rounds.{state_loaded, ack_subtracted, ack_subtracted_patched, ack_stored, state_stored}
 use Rattle.smp_stop_steps.proofs.Steps.StageSteps.{less_one}
-use Rattle.smp_words.proofs.Puts.{put_same, put_other}
+use Rattle.smp_stop_steps.specs.act
+use Rattle.smp_stop_steps.specs.field
 
 pub small : (n : ℕ) → n ≤ cpus → n < 2 ^ 64
 small n l = omega arith

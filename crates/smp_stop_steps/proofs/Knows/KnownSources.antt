@@ -1,31 +1,19 @@
 -- The steps of a source that knows v: the gate, begin, and the ends of its own stop.
-use Rattle.smp_stop_steps.proofs.State.Gates.{gate_free}
-use Rattle.std.proofs.Common.{◌≡◌, ◌≢◌, ℕ, ◌+◌, ◌<◌, nat_lt, lt-ltb, eqb-true, eq-eqb, ne_eqb, Bool, true, false, ◌==◌, cond, Option, Some, None, []}
-use Rattle.std.proofs.Common.{◌∷◌, ◌++◌, sym, subst, refl, ap, ◌∙◌, arith}
+use Rattle.std.proofs.Common.{◌≡◌, ◌≢◌, ℕ, ◌+◌, ◌<◌, nat_lt, lt-ltb, eqb-true, eq-eqb, ne_eqb, Bool, true, false, ◌==◌, cond, Option, Some, None, [], ◌∷◌}
+use Rattle.std.proofs.Common.{◌++◌, sym, subst, refl, ap, ◌∙◌, arith}
 use Rattle.smp_words.specs.Access.{put_if}
-use Rattle.smp_words.specs.Put.{put, put_word}
-use Rattle.smp_words.specs.Size.{cpus}
 use Rattle.smp_words.proofs.Puts.{put_all, put_same, put_other}
-use Rattle.smp_stop_steps.specs.Seats.{Seat}
-use Rattle.smp_stop_steps.specs.Shows.{StopShows}
-use Rattle.smp_stop_steps.specs.Slots.{DoneShows, begun_value, order}
-use Rattle.smp_stop_steps.specs.Sources.{Source, Shut, Drafts, Owns, Collects, SourceShows, DraftShows, OwnerShows, IsDrafted, IsWork}
-use Rattle.smp_stop_steps.specs.State.{Setup, StopState}
-use Rattle.smp_stop_steps.specs.Stop.{Standing, Ending}
-use Rattle.smp_stop_steps.specs.Tells.{told, drafted, drafts, opens, stored_open, stored_shut}
-use Rattle.smp_stop_steps.specs.Known.{Known, Sees, GoesOn, IsBegun, columns_of, told_source, told_work, holds_it, setup_in}
-use Rattle.smp_stop_steps.specs.KnownAfter.{is_drafting, drafted_known, draft_known, opened_by, slot_stored, gate_known}
-use Rattle.smp_stop_steps.specs.KnownAfter.{done_by, collected_known}
-use Rattle.smp_words.specs.declared.seen.Act.TheVariants as act
-use Rattle.smp_words.specs.declared.field.Field.{Field}
-use Rattle.smp_words.specs.declared.field.Field.TheVariants as field
-use Rattle.smp_words.specs.declared.work.Kind.{Kind as KindOf}
-use Rattle.smp_words.specs.declared.work.Kind.TheVariants.{One}
-use Rattle.smp_words.specs.declared.work.Work.{Work}
-use Rattle.smp_words.specs.declared.word.Word.{Word}
-use Rattle.smp_words.specs.declared.word.Word.TheVariants.{Gate, Slot}
+use Rattle.smp_stop_steps.specs.{put, put_word, cpus, Seat, StopShows, DoneShows, begun_value, order, Source, Shut, Drafts, Owns, Collects, SourceShows}
+use Rattle.smp_stop_steps.specs.{DraftShows, OwnerShows, IsDrafted, IsWork, Setup, StopState, Standing, Ending, told, drafted, drafts, opens, stored_open}
+use Rattle.smp_stop_steps.specs.{stored_shut, Sees, GoesOn, IsBegun, columns_of, told_source, told_work, holds_it, setup_in, is_drafting, drafted_known}
+use Rattle.smp_stop_steps.specs.{draft_known, opened_by, slot_stored, gate_known, done_by, collected_known, Field, Kind as KindOf, One, Work, Word, Gate}
+use Rattle.smp_stop_steps.specs.{Slot}
+use Rattle.smp_stop_steps.proofs.State.Gates.{gate_free}
+use Rattle.smp_stop_steps.specs.Known.{Known}
 use Rattle.smp_stop_steps.proofs.Knows.Parts.{Leaves, goes, goes_source, goes_still}
 use Rattle.smp_stop_steps.proofs.Steps.Sources.{gate_taken, gate_opened, field_stored, roll_stored, done_loaded, result_loaded, kind_back, work_ext}
+use Rattle.smp_stop_steps.specs.act
+use Rattle.smp_stop_steps.specs.field
 
 holder : (g : Option ℕ) (me : ℕ) → holds_it g me ≡ true → g ≡ Some me
 holder g me e = search (eqb-true, arith)

@@ -3,14 +3,9 @@ use Rattle.std.proofs.Common.{◌≡◌, ◌≢◌, ℕ, ◌<◌, List, get_or, 
 use Rattle.std.proofs.lemmas.List.{length-set, length-replicate, get_or-set_same, get_or-set_other}
 use Rattle.smp_words.proofs.Puts.{at_test, put_same, put_other}
 use Rattle.smp_words.proofs.Zeros.{get_or-same}
-use Rattle.smp_words.specs.Put.{put}
-use Rattle.smp_words.specs.Size.{cpus}
-use Rattle.smp_words.specs.declared.word.Word.{Word}
-use Rattle.smp_stop_steps.specs.Known.{Known, Part, Setting, fresh, columns_of, AreFirst, IsPart, Sees, GoesOn, IsBegun, told_source, setup_in}
-use Rattle.smp_stop_steps.specs.Seats.{Seat, Free}
-use Rattle.smp_stop_steps.specs.Shows.{StopShows}
-use Rattle.smp_stop_steps.specs.Sources.{Source, Shut}
-use Rattle.smp_stop_steps.specs.State.{StopState, no_stops}
+use Rattle.smp_stop_steps.specs.{put, cpus, Word, Part, Setting, fresh, columns_of, AreFirst, IsPart, Sees, GoesOn, IsBegun, told_source, setup_in, Seat}
+use Rattle.smp_stop_steps.specs.{Free, StopShows, Source, Shut, StopState, no_stops}
+use Rattle.smp_stop_steps.specs.Known.{Known}
 
 -- the list of a function's first values, with one changed
 pub first_put : {A : Type 0} (n : ℕ) (f : ℕ → A) (d : A) (list : List A) (i : ℕ) (x : A) → AreFirst n f d list → i < n → AreFirst n (put f i x) d (set list i x)

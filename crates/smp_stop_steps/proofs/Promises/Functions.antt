@@ -1,23 +1,11 @@
 -- When a stop function runs, and who is to store done.
 use Rattle.std.proofs.Common.{◌≡◌, ℕ, true, sym, subst, refl, ◌∙◌, arith}
-use Rattle.smp_stop_steps.specs.Closings.{IsLast, IsClosing}
-use Rattle.smp_stop_steps.specs.Functions.{HasFunctions}
-use Rattle.smp_stop_steps.specs.Seats.{Seat, Closes, Stands}
-use Rattle.smp_stop_steps.specs.Shows.{StopShows}
-use Rattle.smp_stop_steps.specs.Slots.{DoneShows}
-use Rattle.smp_stop_steps.specs.Sources.{Source}
-use Rattle.smp_stop_steps.specs.State.{Setup, StopState}
-use Rattle.smp_stop_steps.specs.Stop.{Ending, Running, Last, Ended, Inside}
-use Rattle.smp_stop_steps.specs.Tells.{is_multi}
-use Rattle.smp_words.specs.declared.field.Field.TheVariants as field
-use Rattle.smp_words.specs.declared.work.Kind.{Kind as KindOf}
-use Rattle.smp_words.specs.declared.work.Kind.TheVariants.{Multi}
-use Rattle.smp_words.specs.declared.word.Word.{Word}
-use Rattle.smp_words.specs.declared.word.Word.TheVariants.{Slot}
+use Rattle.smp_stop_steps.specs.{IsLast, IsClosing, HasFunctions, Seat, Closes, Stands, StopShows, DoneShows, Source, Setup, StopState, Ending, Running, Last}
+use Rattle.smp_stop_steps.specs.{Ended, Inside, is_multi, Kind as KindOf, Multi, Word, Slot, RunsAlone}
 use Rattle.smp_stop_steps.proofs.Basics.Bools.{both_true}
 use Rattle.smp_stop_steps.proofs.State.Ends.{function_law}
 use Rattle.smp_stop_steps.proofs.State.Patched.{all_off}
-use Rattle.smp_stop_steps.specs.Promises.{RunsAlone}
+use Rattle.smp_stop_steps.specs.field
 
 multi_kind : (k : KindOf) → is_multi k ≡ true → k ≡ Multi
 multi_kind k e = search arith

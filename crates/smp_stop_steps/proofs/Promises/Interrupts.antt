@@ -1,13 +1,6 @@
 -- When a CPU's interrupts are off.
 use Rattle.std.proofs.Common.{◌≡◌, ℕ, ◌+◌, ◌≤◌, true, false, le-ltb, ne_eqb, ⊎_elim, Some, None, ap, ◌∙◌, arith}
-use Rattle.smp_stop_steps.specs.Interrupts.{HasNotLeft, InterruptLaw}
-use Rattle.smp_stop_steps.specs.Seats.{Seat, Stands, irq_of}
-use Rattle.smp_stop_steps.specs.Shows.{StopShows}
-use Rattle.smp_stop_steps.specs.Sources.{Source}
-use Rattle.smp_stop_steps.specs.State.{Setup, StopState}
-use Rattle.smp_stop_steps.specs.Stop.{Inside, is_inside}
-use Rattle.smp_words.specs.declared.word.Word.{Word}
-use Rattle.smp_words.specs.declared.word.Word.TheVariants.{Slot}
+use Rattle.smp_stop_steps.specs.{HasNotLeft, InterruptLaw, Seat, Stands, irq_of, StopShows, Source, Setup, StopState, Inside, is_inside, Word, Slot}
 use Rattle.smp_stop_steps.proofs.State.Phases.{keeps_inside}
 
 module _ (u : Setup) (p : StopState) (at : Word → ℕ) (seat : ℕ → Seat) (source : ℕ → Source) (h : StopShows u p at seat source) (c : ℕ) where

@@ -2,25 +2,15 @@
 use Rattle.std.proofs.Common.{◌≡◌, ℕ, false, Option, Some, List, [], ◌∷◌, ◌++◌, length, sym, subst, ap, ◌∙◌, arith}
 use Rattle.std.proofs.lemmas.List.{append-nil}
 use Rattle.smp_labels.specs.Law.{IsLawful, Table}
-use Rattle.smp_stop_steps.specs.Labels.{Change, Patching, Patches, LabelsShow, labels_in}
-use Rattle.smp_stop_steps.specs.Patchers.{is_between, IsLawfulOutside, HasPatcher, IsNextOfPatch, label_stored}
-use Rattle.smp_stop_steps.specs.Seats.{Seat, Alters, Stands}
-use Rattle.smp_stop_steps.specs.Shows.{StopShows}
-use Rattle.smp_stop_steps.specs.Sits.{Sits, SitsAt, SitsInRound}
-use Rattle.smp_stop_steps.specs.Sources.{Source}
-use Rattle.smp_stop_steps.specs.Stages.{StopControlValue, change_at, completion_access, round_access, stop_access, store_of}
-use Rattle.smp_stop_steps.specs.State.{Setup, StopState}
-use Rattle.smp_stop_steps.specs.declared.stage.RoundStage.{RoundStage}
-use Rattle.smp_stop_steps.specs.declared.stage.RoundStage.TheVariants as round
-use Rattle.smp_stop_steps.specs.declared.stage.CompletionStage.{CompletionStage}
-use Rattle.smp_stop_steps.specs.declared.stage.StopStage.{StopStage}
-use Rattle.smp_stop_steps.specs.declared.stage.Visit.{Visit}
-use Rattle.smp_words.specs.declared.word.Word.{Word}
-use Rattle.smp_words.specs.declared.word.Word.TheVariants.{Gate}
+use Rattle.smp_stop_steps.specs.{Change, Patching, Patches, LabelsShow, labels_in, is_between, IsLawfulOutside, HasPatcher, IsNextOfPatch, label_stored, Seat}
+use Rattle.smp_stop_steps.specs.{Alters, Stands, StopShows, SitsAt, SitsInRound, Source, StopControlValue, change_at, completion_access, round_access}
+use Rattle.smp_stop_steps.specs.{stop_access, store_of, Setup, StopState, RoundStage, CompletionStage, StopStage, Visit, Word, Gate}
+use Rattle.smp_stop_steps.specs.Sits.{Sits}
 use Rattle.smp_stop_steps.proofs.State.Ends.{function_law}
 use Rattle.smp_stop_steps.proofs.State.Patched.{all_off}
 use Rattle.smp_stop_steps.proofs.Steps.Facts.{patcher_active}
 use Rattle.smp_stop_steps.proofs.Steps.RoundSteps.{change_here}
+use Rattle.smp_stop_steps.specs.round
 
 -- between its first and its last store alone a patch leaves the table unlawful
 pub lawful_outside : (x : Patching) (t : Table) → LabelsShow x t → is_between x ≡ false → IsLawful t

@@ -1,41 +1,22 @@
 -- Who may make which step: what holds of the stops before it.
+use Rattle.std.proofs.Common.{◌≡◌, ℕ, ◌+◌, [], true, false, ⊎_elim, Some, None, sym, subst, refl, ◌∙◌, arith, eqb-true}
+use Rattle.smp_stop_steps.specs.{word_of, seen_of, Access, Field, Work, Word, Gate, Slot, HasCompleted, patch_answer, IsThrough, MayStore, MayStoreIf, MaySee}
+use Rattle.smp_stop_steps.specs.{unfinished, plan_at, Seat, In, Alters, Closes, Turn, Rests, Sets, Stands, StopShows, RunsIf, HoldsGate, IsLoaded}
+use Rattle.smp_stop_steps.specs.{IsThroughAll, SitsAt, SitsInCompletion, SitsInRound, SourceSits, DoneShows, Source, Owns, Collects, SourceShows, OwnerShows}
+use Rattle.smp_stop_steps.specs.{StopControlValue, completion_access, round_access, stop_access, Setup, StopState, Standing, Inside, Ended, is_of}
+use Rattle.smp_stop_steps.specs.{CompletionStage, RoundStage, StopStage, TakeGate, OpenGate, Begin, Enter, EnterKind, EnterMask, EnterActive, Advance}
+use Rattle.smp_stop_steps.specs.{Complete, Close, LoadDone, LoadResult, NudgeKey, ExchangeKey, Visit}
 use Rattle.smp_stop_steps.proofs.State.Gates.{gate_free, gate_mine}
-use Rattle.std.proofs.Common.{◌≡◌, ℕ, ◌+◌, [], true, false, ⊎_elim, Some, None, sym, subst}
-use Rattle.std.proofs.Common.{refl, ◌∙◌, arith, eqb-true}
-use Rattle.smp_words.specs.Access.{word_of, seen_of}
-use Rattle.smp_words.specs.declared.access.Access.{Access}
-use Rattle.smp_words.specs.declared.field.Field.{Field}
-use Rattle.smp_words.specs.declared.field.Field.TheVariants as field
-use Rattle.smp_words.specs.declared.work.Work.{Work}
-use Rattle.smp_words.specs.declared.word.Word.{Word}
-use Rattle.smp_words.specs.declared.word.Word.TheVariants.{Gate, Slot}
-use Rattle.smp_stop_steps.specs.Callings.{HasCompleted}
-use Rattle.smp_stop_steps.specs.Labels.{patch_answer}
-use Rattle.smp_stop_steps.specs.Laws.{IsThrough}
-use Rattle.smp_stop_steps.specs.Premises.{MayStore, MayStoreIf, MaySee}
-use Rattle.smp_stop_steps.specs.Counts.{unfinished}
-use Rattle.smp_stop_steps.specs.Tells.{plan_at}
-use Rattle.smp_stop_steps.specs.Seats.{Seat, In, Alters, Closes, Turn, Rests, Sets, Stands}
-use Rattle.smp_stop_steps.specs.Shows.{StopShows}
-use Rattle.smp_stop_steps.specs.Sits.{RunsIf, HoldsGate, IsLoaded, IsThroughAll, Sits, SitsAt, SitsInCompletion, SitsInRound, SourceSits}
-use Rattle.smp_stop_steps.specs.Slots.{DoneShows}
-use Rattle.smp_stop_steps.specs.Sources.{Source, Owns, Collects, SourceShows, OwnerShows}
-use Rattle.smp_stop_steps.specs.Stages.{StopControlValue, completion_access, round_access, stop_access}
-use Rattle.smp_stop_steps.specs.State.{Setup, StopState}
-use Rattle.smp_stop_steps.specs.Stop.{Standing, Inside, Ended, is_of}
-use Rattle.smp_stop_steps.specs.declared.stage.CompletionStage.{CompletionStage}
-use Rattle.smp_stop_steps.specs.declared.stage.RoundStage.{RoundStage}
-use Rattle.smp_stop_steps.specs.declared.stage.RoundStage.TheVariants as round
-use Rattle.smp_stop_steps.specs.declared.stage.StopStage.{StopStage}
-use Rattle.smp_stop_steps.specs.declared.stage.StopStage.TheVariants.{TakeGate, OpenGate, Begin, Enter, EnterKind, EnterMask, EnterActive, Advance}
-use Rattle.smp_stop_steps.specs.declared.stage.StopStage.TheVariants.{Complete, Close, LoadDone, LoadResult, ReadKey, ReadSite, NudgeKey, ExchangeKey}
-use Rattle.smp_stop_steps.specs.declared.stage.Visit.{Visit}
+use Rattle.smp_stop_steps.specs.Sits.{Sits}
+use Rattle.smp_stop_steps.specs.declared.stage.StopStage.TheVariants.{ReadKey, ReadSite}
 use Rattle.smp_stop_steps.proofs.Steps.Completions.{one_phase}
 use Rattle.smp_stop_steps.proofs.Basics.Counts.{sum_zero}
 use Rattle.smp_stop_steps.proofs.State.Phases.{is_open_inside, keeps_inside}
 use Rattle.smp_stop_steps.proofs.State.Raises.{all_acknowledged, in_machine}
 use Rattle.smp_stop_steps.proofs.State.Works.{called_is}
 use Rattle.smp_stop_steps.proofs.State.Acknowledged.{fills_me, rests_me, sets_me}
+use Rattle.smp_stop_steps.specs.field
+use Rattle.smp_stop_steps.specs.round
 
 completed_is : (x : Standing) → is_of x ≡ true → unfinished x ≡ 0 → HasCompleted x
 completed_is x of z = search arith

@@ -1,25 +1,17 @@
 -- Acknowledging, refilling, raising and looking, among all slots and CPUs.
 use Rattle.std.proofs.Common.{◌≡◌, ◌≢◌, ℕ, ◌+◌, ◌-◌, ◌<◌, Bool, true, false, ◌==◌, cond, sym, subst, refl, ap, ◌∙◌, arith, ⊎_elim, ne_eqb, eq-eqb, Some, List}
+use Rattle.std.specs.List.{AllByRecursion}
 use Rattle.smp_words.proofs.Puts.{at_test, put_same, put_other}
+use Rattle.smp_words.specs.declared.field.Field.TheVariants.{Ack, State}
+use Rattle.smp_stop_steps.specs.{put, put_word, weight, Agrees, Reading, labels_in, IsNot, PresentShows, Fills, In, Rests, Seat, Sets, Stands, Turn, irq_of}
+use Rattle.smp_stop_steps.specs.{turn_of, AckShows, Setup, Inside, Nobody, Raises, Raising, Refills, Standing, acknowledged, is_inside, raised, refilled}
+use Rattle.smp_stop_steps.specs.{stands, Field, Work, Slot, Word}
 use Rattle.smp_stop_steps.proofs.State.Moves.{IsNoPatch, SaveMe, moved, moves, slot_put, slot_same}
 use Rattle.smp_stop_steps.proofs.State.Phases.{acknowledges_slot, is_open_inside, keeps_inside, none_raises, refills_slot}
 use Rattle.smp_stop_steps.proofs.State.Raises.{raises_slot}
 use Rattle.smp_stop_steps.proofs.State.Works.{looks_slot}
-use Rattle.smp_words.specs.Put.{put, put_word}
-use Rattle.smp_stop_steps.specs.Counts.{weight}
-use Rattle.smp_stop_steps.specs.Labels.{Agrees, Reading, labels_in}
-use Rattle.smp_stop_steps.specs.Laws.{IsNot}
-use Rattle.smp_stop_steps.specs.Present.{PresentShows}
-use Rattle.smp_stop_steps.specs.Seats.{Fills, In, Rests, Seat, Sets, Stands, Turn, irq_of, turn_of}
-use Rattle.smp_stop_steps.specs.Slots.{AckShows}
-use Rattle.smp_stop_steps.specs.State.{Present, Setup}
-use Rattle.smp_stop_steps.specs.Stop.{Inside, Nobody, Raises, Raising, Refills, Standing, Stop, acknowledged, is_inside, raised, refilled, stands}
-use Rattle.smp_words.specs.declared.field.Field.TheVariants.{Ack, State}
-use Rattle.smp_words.specs.declared.field.Field.{Field}
-use Rattle.smp_words.specs.declared.work.Work.{Work}
-use Rattle.smp_words.specs.declared.word.Word.TheVariants.{Slot}
-use Rattle.smp_words.specs.declared.word.Word.{Word}
-use Rattle.std.specs.List.{AllByRecursion}
+use Rattle.smp_stop_steps.specs.State.{Present}
+use Rattle.smp_stop_steps.specs.Stop.{Stop}
 
 -- nobody raises while one of the mask is behind
 pub nobody_raises : (cpus : ℕ) (stop : Stop) (ack me a l : ℕ) (r : Raising) → stop.standing me ≡ Inside a l → me < cpus → a ≢ stop.phase →

@@ -1,20 +1,15 @@
 -- Opening, completing and collecting, and the function law.
 use Rattle.std.proofs.Common.{◌≡◌, ◌≢◌, ℕ, ◌+◌, ◌-◌, ◌<◌, true, false, ◌==◌, ◌&&◌, cond, sym, subst, refl, ap, ◌∙◌, ◌⊎◌, inl, inr, arith, ⊎_elim}
 use Rattle.smp_words.proofs.Puts.{at_test, put_all, put_same, put_other}
+use Rattle.smp_words.specs.declared.field.Field.TheVariants.{Done, Result, Roll, Todo}
+use Rattle.smp_stop_steps.specs.{put, behind, count_unfinished, mask_weight, unfinished, FunctionLaw, IsAnswer, IsResult, IsThrough, DoneShows, HasGiven}
+use Rattle.smp_stop_steps.specs.{IsStored, Keeps, ResultShows, SlotShows, put_field, Answering, Called, Completed, Ended, Ending, Inside, Last, Outside}
+use Rattle.smp_stop_steps.specs.{Running, Standing, answer_of, closed, completed, ended, is_called, is_of, opened, Field, Work, has}
 use Rattle.smp_stop_steps.proofs.Basics.Counts.{sum_put, sum_same, sum_zero}
 use Rattle.smp_stop_steps.proofs.State.Phases.{is_open_inside, keeps_inside}
 use Rattle.smp_stop_steps.proofs.State.Raises.{in_machine, level_of}
 use Rattle.smp_stop_steps.proofs.State.Works.{ack_kept, outside_is, result_kept}
-use Rattle.smp_words.specs.Put.{put}
-use Rattle.smp_stop_steps.specs.Counts.{behind, count_unfinished, mask_weight, unfinished}
-use Rattle.smp_stop_steps.specs.Laws.{FunctionLaw, IsAnswer, IsResult, IsThrough}
-use Rattle.smp_stop_steps.specs.Slots.{DoneShows, HasGiven, IsStored, Keeps, ResultShows, SlotShows, put_field}
-use Rattle.smp_stop_steps.specs.Stop.{Answering, Called, Completed, Ended, Ending, Inside, Last, Outside, Running, Standing, Stop, answer_of}
-use Rattle.smp_stop_steps.specs.Stop.{closed, completed, ended, is_called, is_of, opened}
-use Rattle.smp_words.specs.declared.field.Field.TheVariants.{Done, Result, Roll, Todo}
-use Rattle.smp_words.specs.declared.field.Field.{Field}
-use Rattle.smp_words.specs.declared.work.Work.{Work}
-use Rattle.smp_mask.specs.Mask.{has}
+use Rattle.smp_stop_steps.specs.Stop.{Stop}
 
 -- what an answering CPU has: its parts, whichever way it answers
 abbrev IsUnfinished : Standing → Type 0

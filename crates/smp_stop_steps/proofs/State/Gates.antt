@@ -1,6 +1,6 @@
 -- Who holds the gate, by its word.
 use Rattle.std.proofs.Common.{◌≡◌, ℕ, ◌+◌, Option, Some, None, arith}
-use Rattle.smp_stop_steps.specs.Shows.{gate_word}
+use Rattle.smp_stop_steps.specs.{gate_word}
 
 pub gate_free : (g : Option ℕ) → gate_word g ≡ 0 → g ≡ None
 gate_free g e = search arith

@@ -1,13 +1,8 @@
 -- The count law: a key's word is what all CPUs together have moved it.
 use Rattle.std.proofs.Common.{◌≡◌, ◌≢◌, ℕ, zero, suc, ◌+◌, ◌-◌, ◌<◌, refl, ap, ◌∙◌, arith}
 use Rattle.smp_words.proofs.Puts.{at_test, put_same, put_other}
+use Rattle.smp_stop_steps.specs.{put, put_word, sum_below, moves, moved_by, ups, downs, CountShows, Moved, unmoved, Word, Key}
 use Rattle.smp_stop_steps.proofs.Basics.Counts.{sum_put, sum_same}
-use Rattle.smp_words.specs.Put.{put, put_word}
-use Rattle.smp_stop_steps.specs.Counts.{sum_below}
-use Rattle.smp_stop_steps.specs.KeyCounts.{moves, moved_by, ups, downs, CountShows}
-use Rattle.smp_stop_steps.specs.State.{Moved, unmoved}
-use Rattle.smp_words.specs.declared.word.Word.{Word}
-use Rattle.smp_words.specs.declared.word.Word.TheVariants.{Key}
 
 none_moved : (n : ℕ) → sum_below (λ _. 0) n ≡ 0
 unfolding sum_below

@@ -1,22 +1,13 @@
 -- A step on one slot, among all slots and CPUs.
 use Rattle.std.proofs.Common.{◌≡◌, ◌≢◌, ℕ, Bool, true, false, cond, sym, subst, refl, ap, ◌∙◌, Option, Some, List, arith}
-use Rattle.smp_words.proofs.Puts.{at_test, put_all, put_other}
-use Rattle.smp_words.specs.Put.{put, put_word, same_field}
-use Rattle.smp_stop_steps.specs.Labels.{Agrees, LabelsShow, Patching, Reading, labels_in}
-use Rattle.smp_stop_steps.specs.Present.{PresentShows, RunnerShows}
-use Rattle.smp_stop_steps.specs.Seats.{Alters, Seat, Stands, Turn, irq_of, turn_of}
-use Rattle.smp_stop_steps.specs.Slots.{SlotShows, put_field}
-use Rattle.smp_stop_steps.specs.Sources.{IsPatchWork}
-use Rattle.smp_stop_steps.specs.State.{Present, Setup}
-use Rattle.smp_stop_steps.specs.Stop.{Last, Standing, Stop, is_inside}
-use Rattle.smp_stop_steps.specs.Tells.{leaves}
-use Rattle.smp_words.specs.declared.field.Field.{Field}
-use Rattle.smp_words.specs.declared.work.Kind.TheVariants.{Patch}
-use Rattle.smp_words.specs.declared.work.Work.{Work}
-use Rattle.smp_words.specs.declared.word.Word.TheVariants.{Slot}
-use Rattle.smp_words.specs.declared.word.Word.{Word}
-use Rattle.smp_labels.specs.Plans.{AreEntriesOf}
 use Rattle.std.specs.List.{AllByRecursion}
+use Rattle.smp_words.proofs.Puts.{at_test, put_all, put_other}
+use Rattle.smp_words.specs.Put.{same_field}
+use Rattle.smp_labels.specs.Plans.{AreEntriesOf}
+use Rattle.smp_stop_steps.specs.{put, put_word, Agrees, LabelsShow, Patching, Reading, labels_in, PresentShows, RunnerShows, Alters, Seat, Stands, Turn}
+use Rattle.smp_stop_steps.specs.{irq_of, turn_of, SlotShows, put_field, IsPatchWork, Setup, Last, Standing, is_inside, leaves, Field, Patch, Work, Slot, Word}
+use Rattle.smp_stop_steps.specs.State.{Present}
+use Rattle.smp_stop_steps.specs.Stop.{Stop}
 
 -- what a step on a slot leaves to one CPU
 pub record LeavesTo (c : ℕ) (old new : Stop) : Type 0 where

@@ -2,12 +2,10 @@
 use Rattle.std.proofs.Common.{◌≡◌, ℕ, Bool, true, false, cond, refl, ap, ◌∙◌, List, [], ◌∷◌, ◌++◌, arith}
 use Rattle.std.proofs.lemmas.List.{append-nil}
 use Rattle.smp_words.proofs.Puts.{at_test}
-use Rattle.smp_words.specs.Put.{put}
-use Rattle.smp_stop_steps.specs.Laws.{IsResult}
-use Rattle.smp_stop_steps.specs.Past.{AllPast, Past, PastShows, answer_now, answers_of, results_of, works_of}
-use Rattle.smp_stop_steps.specs.Stop.{Outside, Stop, answer_of, closed, completed, opened}
-use Rattle.smp_words.specs.declared.work.Work.{Work}
-use Rattle.smp_mask.specs.Mask.{has}
+use Rattle.smp_stop_steps.specs.{put, IsResult, AllPast, PastShows, answer_now, answers_of, results_of, works_of, Outside, answer_of, closed, completed}
+use Rattle.smp_stop_steps.specs.{opened, Work, has}
+use Rattle.smp_stop_steps.specs.Past.{Past}
+use Rattle.smp_stop_steps.specs.Stop.{Stop}
 
 module _ (y : Past) where
   all_push : (xs : List Past) → AllPast xs → IsResult y.work.mask y.answer y.result → AllPast (xs ++ y ∷ [])

@@ -1,29 +1,21 @@
 -- The label law: patching, and reading.
 use Rattle.std.proofs.lemmas.Bool.{cases_lt}
+use Rattle.std.proofs.Common.{◌≡◌, ◌≢◌, ℕ, ◌+◌, ◌≤◌, true, false, nat_lt, ◌==◌, ◌||◌, sym, subst, refl, ap, ◌∙◌, ◌⊎◌, arith, le-ltb, eqb-true, ⊎_elim, ne_eqb}
+use Rattle.std.proofs.Common.{Some, List, [], ◌∷◌, ◌++◌, lt-ltb, IfSome}
+use Rattle.std.specs.List.{AllByRecursion}
 use Rattle.smp_labels.specs.declared.keys.Change.{Change as KeyChange}
-use Rattle.std.proofs.Common.{◌≡◌, ◌≢◌, ℕ, ◌+◌, ◌≤◌, true, false, nat_lt, ◌==◌, ◌||◌, sym, subst, refl, ap, ◌∙◌, ◌⊎◌, arith, le-ltb, eqb-true}
-use Rattle.std.proofs.Common.{⊎_elim, ne_eqb, Some, List, [], ◌∷◌, ◌++◌, lt-ltb, IfSome}
 use Rattle.smp_words.proofs.Puts.{put_all, at_test, put_same}
-use Rattle.smp_stop_steps.proofs.State.Ends.{function_law}
-use Rattle.smp_stop_steps.proofs.State.Phases.{is_open_inside}
-use Rattle.smp_words.specs.Put.{put}
-use Rattle.smp_stop_steps.specs.Labels.{Agrees, Change, LabelsShow, Patches, Patching, Reading, Whole, labels_in, StandsSet, count_set, state_left}
-use Rattle.smp_stop_steps.specs.Present.{PresentShows, RunnerShows}
-use Rattle.smp_stop_steps.specs.Seats.{Alters, Closes, Free, Gives, In, Rests, Seat, Stands, irq_of}
-use Rattle.smp_stop_steps.specs.Slots.{Keeps, SlotShows}
-use Rattle.smp_stop_steps.specs.State.{Present, Setup}
-use Rattle.smp_stop_steps.specs.Stop.{Answering, Called, Completed, Inside, Outside, Standing, acked, is_inside, is_of}
-use Rattle.smp_words.specs.declared.field.Field.{Field}
-use Rattle.smp_words.specs.declared.work.Kind.TheVariants.{Patch}
-use Rattle.smp_words.specs.declared.work.Work.{Work}
-use Rattle.smp_words.specs.declared.word.Word.TheVariants.{Key, Slot}
-use Rattle.smp_words.specs.declared.word.Word.{Word}
 use Rattle.smp_labels.proofs.Stores.{applied-append}
-use Rattle.smp_labels.specs.Keys.{is_on, change_of, count_left}
+use Rattle.smp_labels.specs.Keys.{count_left}
 use Rattle.smp_labels.specs.Law.{IsLawful}
 use Rattle.smp_labels.specs.Plans.{AreEntriesOf, SetsKey, applied, stored}
-use Rattle.smp_mask.specs.Mask.{has}
-use Rattle.std.specs.List.{AllByRecursion}
+use Rattle.smp_stop_steps.specs.{put, Agrees, Change, LabelsShow, Patches, Patching, Reading, Whole, labels_in, StandsSet, count_set, state_left}
+use Rattle.smp_stop_steps.specs.{PresentShows, RunnerShows, Alters, Closes, Free, Gives, In, Rests, Seat, Stands, irq_of, Keeps, SlotShows, Setup, Answering}
+use Rattle.smp_stop_steps.specs.{Called, Completed, Inside, Outside, Standing, acked, is_inside, is_of, Field, Patch, Work, Key, Slot, Word, is_on, change_of}
+use Rattle.smp_stop_steps.specs.{has}
+use Rattle.smp_stop_steps.proofs.State.Ends.{function_law}
+use Rattle.smp_stop_steps.proofs.State.Phases.{is_open_inside}
+use Rattle.smp_stop_steps.specs.State.{Present}
 
 -- what a change leaves is on or off as it says
 stands_left : (change : KeyChange) (n : ℕ) → IfSome (state_left change) (λ on. is_on (count_left change n) ≡ on)

@@ -1,15 +1,11 @@
 -- Acknowledging, refilling and raising keep what the words of a slot show.
-use Rattle.std.proofs.Common.{◌≡◌, ◌≢◌, ℕ, ◌+◌, ◌-◌, ◌<◌, true, ◌==◌, cond, subst, refl, ap, ◌∙◌, arith}
-use Rattle.std.proofs.Common.{ne_eqb, eq-eqb}
+use Rattle.std.proofs.Common.{◌≡◌, ◌≢◌, ℕ, ◌+◌, ◌-◌, ◌<◌, true, ◌==◌, cond, subst, refl, ap, ◌∙◌, arith, ne_eqb, eq-eqb}
 use Rattle.smp_words.proofs.Puts.{at_test, put_all, put_same, put_other}
-use Rattle.smp_stop_steps.proofs.Basics.Counts.{sum_put, sum_same, sum_zero}
-use Rattle.smp_words.specs.Put.{put}
-use Rattle.smp_stop_steps.specs.Counts.{behind, count_behind, count_unfinished, weight}
-use Rattle.smp_stop_steps.specs.Slots.{AckShows, DoneShows, Keeps, ResultShows, SlotShows, put_field}
-use Rattle.smp_stop_steps.specs.Stop.{Ending, Inside, Nobody, Raising, Refills}
-use Rattle.smp_stop_steps.specs.Stop.{Standing, Stop, acked, acknowledged, is_of, refilled}
 use Rattle.smp_words.specs.declared.field.Field.TheVariants.{Ack}
-use Rattle.smp_words.specs.declared.field.Field.{Field}
+use Rattle.smp_stop_steps.specs.{put, behind, count_behind, count_unfinished, weight, AckShows, DoneShows, Keeps, ResultShows, SlotShows, put_field, Ending}
+use Rattle.smp_stop_steps.specs.{Inside, Nobody, Raising, Refills, Standing, acked, acknowledged, is_of, refilled, Field}
+use Rattle.smp_stop_steps.proofs.Basics.Counts.{sum_put, sum_same, sum_zero}
+use Rattle.smp_stop_steps.specs.Stop.{Stop}
 
 abbrev IsZero : ℕ → Type 0
 IsZero n = n ≡ 0

@@ -1,14 +1,11 @@
 -- Raising the phase, and the phase law.
 use Rattle.std.proofs.Common.{◌≡◌, ◌≢◌, ℕ, ◌+◌, ◌<◌, ◌≤◌, true, sym, subst, ◌∙◌, ◌⊎◌, inl, inr, arith, ⊎_elim, ne_eqb}
+use Rattle.smp_words.specs.declared.field.Field.TheVariants.{Ack, State}
+use Rattle.smp_stop_steps.specs.{behind, count_behind, one, weight, PhaseLaw, AckShows, IsLevel, IsPhaseOf, Keeps, SlotShows, put_field, Inside, Nobody}
+use Rattle.smp_stop_steps.specs.{Raises, Raising, Refills, Standing, acked, is_of, raised, Field, Kind as KindOf}
 use Rattle.smp_stop_steps.proofs.Basics.Counts.{sum_same, sum_zero}
 use Rattle.smp_stop_steps.proofs.State.Phases.{has_acknowledged}
-use Rattle.smp_stop_steps.specs.Counts.{behind, count_behind, one, weight}
-use Rattle.smp_stop_steps.specs.Laws.{PhaseLaw}
-use Rattle.smp_stop_steps.specs.Slots.{AckShows, IsLevel, IsPhaseOf, Keeps, SlotShows, put_field}
-use Rattle.smp_stop_steps.specs.Stop.{Inside, Nobody, Raises, Raising, Refills, Standing, Stop, acked, is_of, raised}
-use Rattle.smp_words.specs.declared.field.Field.TheVariants.{Ack, State}
-use Rattle.smp_words.specs.declared.field.Field.{Field}
-use Rattle.smp_words.specs.declared.work.Kind.{Kind as KindOf}
+use Rattle.smp_stop_steps.specs.Stop.{Stop}
 
 pub in_machine : (cpus p c : ℕ) (s : Standing) → is_of s ≡ true → Keeps cpus p c s → c < cpus
 in_machine cpus p c s of k = search arith

@@ -1,17 +1,13 @@
 -- Opening, entering, looking, answering, completing and collecting keep what the words of a slot show.
 use Rattle.std.proofs.Common.{◌≡◌, ◌≢◌, ℕ, true, false, sym, subst, refl, ap, ◌∙◌, ◌⊎◌, inr, arith}
 use Rattle.smp_words.proofs.Puts.{put_all, put_same, put_other}
+use Rattle.smp_words.specs.declared.field.Field.TheVariants.{Done, Result, Roll, State}
+use Rattle.smp_stop_steps.specs.{put, behind, bit, count_behind, count_unfinished, mask_weight, one, unfinished, weight, IsNot, IsThrough, AckShows}
+use Rattle.smp_stop_steps.specs.{DoneShows, HasGiven, Keeps, ResultShows, SlotShows, put_field, Answering, Called, Ending, Inside, Outside, Raising, Standing}
+use Rattle.smp_stop_steps.specs.{is_called, is_of, stands, Field, has}
 use Rattle.smp_stop_steps.proofs.Basics.Counts.{sum_same}
 use Rattle.smp_stop_steps.proofs.State.Phases.{is_open_inside, keeps_inside}
-use Rattle.smp_words.specs.Put.{put}
-use Rattle.smp_stop_steps.specs.Counts.{behind, bit, count_behind, count_unfinished, mask_weight, one, unfinished, weight}
-use Rattle.smp_stop_steps.specs.Laws.{IsNot, IsThrough}
-use Rattle.smp_stop_steps.specs.Slots.{AckShows, DoneShows, HasGiven, Keeps, ResultShows, SlotShows, put_field}
-use Rattle.smp_stop_steps.specs.Stop.{Answering, Called, Ending, Inside, Outside, Raising}
-use Rattle.smp_stop_steps.specs.Stop.{Standing, Stop, is_called, is_of, stands}
-use Rattle.smp_words.specs.declared.field.Field.TheVariants.{Done, Result, Roll, State}
-use Rattle.smp_words.specs.declared.field.Field.{Field}
-use Rattle.smp_mask.specs.Mask.{has}
+use Rattle.smp_stop_steps.specs.Stop.{Stop}
 
 -- a CPU whose standing changes to one that counts the same
 module _ (cpus : ℕ) (standing : ℕ → Standing) (me p : ℕ) (to : Standing) (same : behind p to ≡ behind p (standing me)) (of : is_of to ≡ is_of (standing me))

@@ -1,38 +1,23 @@
 -- The steps that acknowledge a phase and set the next one, by a CPU's stage.
+use Rattle.std.proofs.Common.{◌≡◌, ℕ, ◌+◌, ◌-◌, ◌≤◌, Bool, true, false, nat_lt, le-ltb, ne_eqb, ◌==◌, cond, sym, subst, ap, ◌∙◌, ◌⊎◌, inl, inr, arith, Option}
+use Rattle.std.proofs.Common.{Some, None, []}
+use Rattle.smp_words.proofs.Puts.{at_test}
+use Rattle.smp_words.specs.declared.field.Field.TheVariants.{Ack}
+use Rattle.smp_stop_steps.specs.{put, put_word, mask_weight, patch_answer, Alters, Fills, In, Rests, Seat, Sets, irq_of, StopShows, HasRun, RunsIf, IsLoaded}
+use Rattle.smp_stop_steps.specs.{OwnsIf, Source, StopControlValue, stop_goes, turn_ends, visit_acked, Setup, StopState, Calling, Calls, Idle, StopStep}
+use Rattle.smp_stop_steps.specs.{at_then, state_after, told, plan_at, Advance, StopStage, Visit, Patch, Multi, Work, Gate, Slot, Word, has, CarriesIn}
+use Rattle.smp_stop_steps.specs.{CarriesAt, IsAcking, HasCalled}
 use Rattle.smp_stop_steps.proofs.Basics.Bools.{or_false, or_true}
 use Rattle.smp_stop_steps.proofs.Steps.Same.{moved_seat}
-use Rattle.std.proofs.Common.{◌≡◌, ℕ, ◌+◌, ◌-◌, ◌≤◌, Bool, true, false, nat_lt, le-ltb, ne_eqb, ◌==◌, cond, sym, subst, ap, ◌∙◌, ◌⊎◌, inl}
-use Rattle.std.proofs.Common.{inr, arith, Option, Some, None, []}
-use Rattle.smp_words.proofs.Puts.{at_test}
 use Rattle.smp_stop_steps.proofs.Steps.Facts.{ack_bounds, ack_bounds_patched, patcher_active}
 use Rattle.smp_stop_steps.proofs.Steps.RoundSteps.{ack_small}
 use Rattle.smp_stop_steps.proofs.Steps.Rounds.{ack_stored, ack_subtracted, ack_subtracted_patched, state_stored}
 use Rattle.smp_stop_steps.proofs.Steps.StageSteps.{less_one}
-use Rattle.smp_words.specs.Put.{put, put_word}
-use Rattle.smp_stop_steps.specs.Counts.{mask_weight}
-use Rattle.smp_stop_steps.specs.Labels.{patch_answer}
-use Rattle.smp_stop_steps.specs.Seats.{Alters, Fills, In, Rests, Seat, Sets, irq_of}
-use Rattle.smp_stop_steps.specs.Shows.{StopShows}
-use Rattle.smp_stop_steps.specs.Sits.{HasRun, RunsIf, IsLoaded, OwnsIf, Sits}
-use Rattle.smp_stop_steps.specs.Sources.{Source}
-use Rattle.smp_stop_steps.specs.Stages.{StopControlValue, stop_goes, turn_ends, visit_acked}
-use Rattle.smp_stop_steps.specs.State.{Setup, StopState, Calling, Calls, Carries, Idle}
-use Rattle.smp_stop_steps.specs.Steps.{StopStep, at_then, state_after}
-use Rattle.smp_stop_steps.specs.Tells.{told, plan_at}
-use Rattle.smp_words.specs.declared.seen.Act.TheVariants as act
-use Rattle.smp_words.specs.declared.field.Field.TheVariants.{Ack}
-use Rattle.smp_stop_steps.specs.declared.stage.RoundStage.TheVariants as round
-use Rattle.smp_stop_steps.specs.declared.stage.StopStage.TheVariants.{Advance}
-use Rattle.smp_stop_steps.specs.declared.stage.StopStage.{StopStage}
-use Rattle.smp_stop_steps.specs.declared.stage.Visit.{Visit}
-use Rattle.smp_words.specs.declared.work.Kind.TheVariants.{Patch, Multi}
-use Rattle.smp_words.specs.declared.work.Work.{Work}
-use Rattle.smp_words.specs.declared.word.Word.TheVariants.{Gate, Slot}
-use Rattle.smp_words.specs.declared.word.Word.{Word}
-use Rattle.smp_mask.specs.Mask.{has}
-use Rattle.smp_stop_steps.specs.Carries.{CarriesIn, CarriesAt, IsAcking}
-use Rattle.smp_stop_steps.specs.Callings.{HasCalled}
+use Rattle.smp_stop_steps.specs.Sits.{Sits}
+use Rattle.smp_stop_steps.specs.State.{Carries}
 use Rattle.smp_stop_steps.proofs.Steps.Stages.{in_round, round_source}
+use Rattle.smp_stop_steps.specs.act
+use Rattle.smp_stop_steps.specs.round
 
 module _ (u : Setup) (p : StopState) (at : Word → ℕ) (seat : ℕ → Seat) (source : ℕ → Source) (h : StopShows u p at seat source) (c : StopControlValue) (me : ℕ)
     (s : Sits u me (at Gate) c (seat me) (source me)) (v : Visit) where

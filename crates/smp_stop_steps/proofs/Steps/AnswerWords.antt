@@ -1,36 +1,18 @@
 -- Each result word is that of an i32, and so is each answer that a CPU has where it stands.
 use Rattle.std.specs.Int.{w32, cast_signed}
-use Rattle.std.proofs.Common.{◌≡◌, ℕ, ◌+◌, ◌%◌, ◌^◌, Bool, true, false, ◌==◌, cond, Option, Some, None, refl, ap, inl, inr}
-use Rattle.std.proofs.Common.{arith, List}
-use Rattle.smp_labels.specs.Keys.{change_of, count_after}
-use Rattle.smp_labels.specs.declared.patch.Place.{Place}
-use Rattle.smp_words.specs.Access.{at_after, put_if, word_of}
-use Rattle.smp_words.specs.Put.{put_word}
-use Rattle.smp_words.specs.declared.field.Field.{Field}
-use Rattle.smp_words.specs.declared.field.Field.TheVariants as field
-use Rattle.smp_words.specs.declared.seen.Note.{Note}
-use Rattle.smp_words.specs.declared.seen.Note.TheVariants as note
-use Rattle.smp_words.specs.declared.work.Work.{Work}
-use Rattle.smp_words.specs.declared.word.Word.{Word}
-use Rattle.smp_words.specs.declared.word.Word.TheVariants.{Gate, Slot, Key}
-use Rattle.smp_stop_steps.specs.AnswerWords.{IsI32Word, AreI32Words, VisitFits, HasI32Answers, IsKept, NoteAnswers}
-use Rattle.smp_stop_steps.specs.AnswerWords.{AnswersFit, AnswersGo, KeepsAnswers}
-use Rattle.smp_stop_steps.specs.Labels.{Change}
-use Rattle.smp_stop_steps.specs.Slots.{begun_value}
-use Rattle.smp_stop_steps.specs.Stages.{StopControlValue, StopOutcome, acked_on, begun_next, change_at, completion_access, completion_outcome, entry_on}
-use Rattle.smp_stop_steps.specs.Stages.{key_on, label_word, looked_on, nudge_on, round_access, round_outcome, stop_access, stop_ends, stop_goes}
-use Rattle.smp_stop_steps.specs.Stages.{stop_outcome, turn_ends, turn_note}
-use Rattle.smp_stop_steps.specs.State.{Setup}
-use Rattle.smp_stop_steps.specs.Tells.{is_multi}
-use Rattle.smp_stop_steps.specs.declared.phase.TheConstants.{EXIT}
-use Rattle.smp_stop_steps.specs.declared.stage.CompletionStage.{CompletionStage}
-use Rattle.smp_stop_steps.specs.declared.stage.CompletionStage.TheVariants as completion
-use Rattle.smp_stop_steps.specs.declared.stage.RoundStage.{RoundStage}
-use Rattle.smp_stop_steps.specs.declared.stage.RoundStage.TheVariants as round
-use Rattle.smp_stop_steps.specs.declared.stage.StopStage.{StopStage}
-use Rattle.smp_stop_steps.specs.declared.stage.StopStage.TheVariants.{Advance, Begin, Close, Complete, Enter, EnterActive, EnterKind, EnterMask}
-use Rattle.smp_stop_steps.specs.declared.stage.StopStage.TheVariants.{ExchangeKey, LoadDone, LoadResult, NudgeKey, OpenGate, ReadKey, ReadSite, TakeGate}
-use Rattle.smp_stop_steps.specs.declared.stage.Visit.{Visit}
+use Rattle.std.proofs.Common.{◌≡◌, ℕ, ◌+◌, ◌%◌, ◌^◌, Bool, true, false, ◌==◌, cond, Option, Some, None, refl, ap, inl, inr, arith, List}
+use Rattle.smp_words.specs.Access.{put_if}
+use Rattle.smp_stop_steps.specs.{change_of, count_after, Place, at_after, word_of, put_word, Field, Note, Work, Word, Gate, Slot, Key, IsI32Word, AreI32Words}
+use Rattle.smp_stop_steps.specs.{VisitFits, HasI32Answers, IsKept, NoteAnswers, AnswersFit, AnswersGo, KeepsAnswers, Change, begun_value, StopControlValue}
+use Rattle.smp_stop_steps.specs.{StopOutcome, acked_on, begun_next, change_at, completion_access, completion_outcome, entry_on, key_on, label_word, looked_on}
+use Rattle.smp_stop_steps.specs.{nudge_on, round_access, round_outcome, stop_access, stop_ends, stop_goes, stop_outcome, turn_ends, turn_note, Setup}
+use Rattle.smp_stop_steps.specs.{is_multi, EXIT, CompletionStage, RoundStage, StopStage, Advance, Begin, Close, Complete, Enter, EnterActive, EnterKind}
+use Rattle.smp_stop_steps.specs.{EnterMask, ExchangeKey, LoadDone, LoadResult, NudgeKey, OpenGate, TakeGate, Visit}
+use Rattle.smp_stop_steps.specs.declared.stage.StopStage.TheVariants.{ReadKey, ReadSite}
+use Rattle.smp_stop_steps.specs.field
+use Rattle.smp_stop_steps.specs.note
+use Rattle.smp_stop_steps.specs.completion
+use Rattle.smp_stop_steps.specs.round
 
 either : (b : Bool) (n m : ℕ) → IsI32Word n → IsI32Word m → IsI32Word (cond b n m)
 either b n m l k = search arith

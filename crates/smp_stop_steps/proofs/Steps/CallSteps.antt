@@ -1,49 +1,31 @@
 -- Each step of a CPU's command leaves its function where the next stage says, and the functions of all others.
-use Rattle.smp_stop_steps.proofs.Steps.Completions.{one_phase}
-use Rattle.smp_stop_steps.proofs.State.Phases.{is_open_inside, keeps_inside}
-use Rattle.std.proofs.Common.{◌≡◌, ◌≢◌, ℕ, ◌+◌, Bool, true, false, eq-eqb, eqb-true, ◌==◌, ◌&&◌, cond, ◌⊎◌, inl, inr, Option}
-use Rattle.std.proofs.Common.{Some, None, [], ◌∷◌, sym, subst, refl, ap, ◌∙◌, arith}
-use Rattle.smp_mask.specs.Mask.{has}
-use Rattle.smp_labels.specs.Keys.{change_of, count_after, is_on}
+use Rattle.std.proofs.Common.{◌≡◌, ◌≢◌, ℕ, ◌+◌, Bool, true, false, eq-eqb, eqb-true, ◌==◌, ◌&&◌, cond, ◌⊎◌, inl, inr, Option, Some, None, [], ◌∷◌, sym, subst}
+use Rattle.std.proofs.Common.{refl, ap, ◌∙◌, arith}
 use Rattle.smp_labels.specs.Kinds.{xor}
 use Rattle.smp_labels.specs.declared.keys.Change.{Change as KeyChange}
-use Rattle.smp_labels.specs.declared.patch.Place.TheVariants as place
-use Rattle.smp_words.specs.Access.{word_of, seen_of}
-use Rattle.smp_words.specs.Put.{put}
-use Rattle.smp_words.specs.declared.field.Field.{Field}
-use Rattle.smp_words.specs.declared.field.Field.TheVariants as field
-use Rattle.smp_words.specs.declared.seen.Act.TheVariants as act
-use Rattle.smp_words.specs.declared.seen.Note.TheVariants as note
-use Rattle.smp_words.specs.declared.work.Kind.{Kind as KindOf}
-use Rattle.smp_words.specs.declared.work.Kind.TheVariants.{One, Multi, Patch}
-use Rattle.smp_words.specs.declared.work.Work.{Work}
-use Rattle.smp_words.specs.declared.word.Word.{Word}
-use Rattle.smp_words.specs.declared.word.Word.TheVariants.{Gate, Slot, Key}
-use Rattle.smp_stop_steps.specs.Callings.{IsCalling, answer_in, HasCalled}
-use Rattle.smp_stop_steps.specs.Carries.{CarriesAt, CarriesIn, IsQuiet, IsAcking, IsEnding}
-use Rattle.smp_stop_steps.specs.Labels.{Change, patch_answer}
-use Rattle.smp_stop_steps.specs.Seats.{Seat, In, Gives, Alters, Rests, Stands, Turn}
-use Rattle.smp_stop_steps.specs.Shows.{StopShows}
-use Rattle.smp_stop_steps.specs.Sits.{IsLoaded, RunsIf, Sits, SitsAtRun, IsThroughAll}
-use Rattle.smp_stop_steps.specs.Sources.{Source}
-use Rattle.smp_stop_steps.specs.Stages.{StopControlValue, answer_at, turn_note}
-use Rattle.smp_stop_steps.specs.Stages.{key_on, nudge_of, nudge_on}
-use Rattle.smp_stop_steps.specs.Stages.{stop_ends, stop_goes, store_of, turn_ends, visit_acked}
-use Rattle.smp_stop_steps.specs.State.{Setup, StopState, Calling, Idle, Calls, Carries, StopCall}
-use Rattle.smp_stop_steps.specs.Steps.{CallStep, control_then, state_after, told_of, is_run, note_then, Told}
-use Rattle.smp_stop_steps.specs.Stop.{Standing, Inside}
-use Rattle.smp_stop_steps.specs.Tells.{acknowledges, called_more, calls_now, carried, carried_call, completes, completes_with}
-use Rattle.smp_stop_steps.specs.Tells.{gate_told, is_multi, key_told, may_call, plan_at, stored_open, stored_shut, tells, told}
-use Rattle.smp_stop_steps.specs.declared.stage.CompletionStage.TheVariants as completion
-use Rattle.smp_stop_steps.specs.declared.stage.RoundStage.TheVariants as round
-use Rattle.smp_stop_steps.specs.declared.stage.StopStage.{StopStage}
-use Rattle.smp_stop_steps.specs.declared.stage.StopStage.TheVariants.{TakeGate, OpenGate, Begin, Enter, EnterKind, EnterMask, EnterActive, Advance}
-use Rattle.smp_stop_steps.specs.declared.stage.StopStage.TheVariants.{Complete, Close, LoadDone, LoadResult, ReadKey, ReadSite, NudgeKey, ExchangeKey}
-use Rattle.smp_stop_steps.specs.declared.stage.Visit.{Visit}
+use Rattle.smp_words.proofs.Puts.{put_same, put_other}
+use Rattle.smp_stop_steps.specs.{has, change_of, count_after, is_on, word_of, seen_of, put, Field, Kind as KindOf, One, Multi, Patch, Work, Word, Gate, Slot}
+use Rattle.smp_stop_steps.specs.{Key, IsCalling, answer_in, HasCalled, CarriesAt, CarriesIn, IsQuiet, IsAcking, IsEnding, Change, patch_answer, Seat, In}
+use Rattle.smp_stop_steps.specs.{Gives, Alters, Rests, Stands, Turn, StopShows, IsLoaded, RunsIf, SitsAtRun, IsThroughAll, Source, StopControlValue}
+use Rattle.smp_stop_steps.specs.{answer_at, turn_note, key_on, nudge_of, nudge_on, stop_ends, stop_goes, store_of, turn_ends, visit_acked, Setup, StopState}
+use Rattle.smp_stop_steps.specs.{Calling, Idle, Calls, StopCall, CallStep, control_then, state_after, told_of, is_run, note_then, Told, Standing, Inside}
+use Rattle.smp_stop_steps.specs.{acknowledges, called_more, calls_now, carried, carried_call, completes, completes_with, gate_told, is_multi, key_told}
+use Rattle.smp_stop_steps.specs.{may_call, plan_at, stored_open, stored_shut, tells, told, StopStage, TakeGate, OpenGate, Begin, Enter, EnterKind, EnterMask}
+use Rattle.smp_stop_steps.specs.{EnterActive, Advance, Complete, Close, LoadDone, LoadResult, NudgeKey, ExchangeKey, Visit}
+use Rattle.smp_stop_steps.proofs.Steps.Completions.{one_phase}
+use Rattle.smp_stop_steps.proofs.State.Phases.{is_open_inside, keeps_inside}
+use Rattle.smp_stop_steps.specs.Sits.{Sits}
+use Rattle.smp_stop_steps.specs.State.{Carries}
+use Rattle.smp_stop_steps.specs.declared.stage.StopStage.TheVariants.{ReadKey, ReadSite}
 use Rattle.smp_stop_steps.proofs.Steps.Callings.{carried_alone, idle_alters, idle_patch}
 use Rattle.smp_stop_steps.proofs.State.Moves.{IsNoPatch}
-use Rattle.smp_words.proofs.Puts.{put_same, put_other}
 use Rattle.smp_stop_steps.proofs.Steps.Stages.{at_seat}
+use Rattle.smp_stop_steps.specs.place
+use Rattle.smp_stop_steps.specs.field
+use Rattle.smp_stop_steps.specs.act
+use Rattle.smp_stop_steps.specs.note
+use Rattle.smp_stop_steps.specs.completion
+use Rattle.smp_stop_steps.specs.round
 
 -- no store calls a function
 open_calling : (p : StopState) (me s v : ℕ) (f : Field) → told_of (stored_open p me s f v) ≡ told_of p

@@ -1,22 +1,12 @@
 -- The functions that run, and who is to store done, after a step.
-use Rattle.smp_stop_steps.proofs.Basics.Bools.{both_true}
-use Rattle.std.proofs.Common.{◌≡◌, ◌≢◌, ℕ, ◌+◌, Bool, true, ◌&&◌, ◌⊎◌, cond, List, ne_eqb, sym, subst, ap}
-use Rattle.std.proofs.Common.{◌∙◌, arith, eqb-true}
+use Rattle.std.proofs.Common.{◌≡◌, ◌≢◌, ℕ, ◌+◌, Bool, true, ◌&&◌, ◌⊎◌, cond, List, ne_eqb, sym, subst, ap, ◌∙◌, arith, eqb-true}
 use Rattle.smp_words.proofs.Puts.{at_test, put_all, put_both, put_other}
-use Rattle.smp_words.specs.Put.{put}
-use Rattle.smp_words.specs.declared.work.Kind.{Kind as KindOf}
-use Rattle.smp_words.specs.declared.work.Kind.TheVariants.{One, Patch}
-use Rattle.smp_words.specs.declared.work.Work.{Work}
-use Rattle.smp_stop_steps.specs.Callings.{with_answer, IsCalling, answer_in, MayCall, HasCalled, AreClosing, HasCompleted}
-use Rattle.smp_stop_steps.specs.Labels.{Change, Patching}
-use Rattle.smp_stop_steps.specs.Present.{RunnerShows}
-use Rattle.smp_stop_steps.specs.Shows.{StopShows}
-use Rattle.smp_stop_steps.specs.Sources.{Source}
-use Rattle.smp_words.specs.declared.word.Word.{Word}
-use Rattle.smp_stop_steps.specs.Seats.{Seat, Free, In, Gives, Alters, Closes, Turn, Rests}
-use Rattle.smp_stop_steps.specs.State.{Setup, StopState, Calling, Idle, Present}
-use Rattle.smp_stop_steps.specs.Stop.{Stop, Inside, Last}
-use Rattle.smp_stop_steps.specs.Tells.{carried, carried_call, is_multi, may_call}
+use Rattle.smp_stop_steps.specs.{put, Kind as KindOf, One, Patch, Work, with_answer, IsCalling, answer_in, MayCall, HasCalled, AreClosing, HasCompleted}
+use Rattle.smp_stop_steps.specs.{Change, Patching, RunnerShows, StopShows, Source, Word, Seat, Free, In, Gives, Alters, Closes, Turn, Rests, Setup, StopState}
+use Rattle.smp_stop_steps.specs.{Calling, Idle, Inside, Last, carried, carried_call, is_multi, may_call}
+use Rattle.smp_stop_steps.proofs.Basics.Bools.{both_true}
+use Rattle.smp_stop_steps.specs.State.{Present}
+use Rattle.smp_stop_steps.specs.Stop.{Stop}
 use Rattle.smp_stop_steps.proofs.State.Moves.{IsNoPatch}
 
 module _ (seat : ℕ → Seat) (calling : ℕ → Calling) (h : (c : ℕ) → IsCalling c (seat c) (calling c)) (me : ℕ) (next : Seat) where

@@ -1,42 +1,26 @@
 -- The steps at the ends of a stop for one CPU, by its stage; and all steps.
+use Rattle.std.proofs.Common.{◌≡◌, ℕ, ◌-◌, ◌<◌, Bool, true, false, eq-eqb, eqb-true, ◌==◌, cond, sym, subst, refl, ap, ◌∙◌, ◌⊎◌, inl, inr, arith, ⊎_elim}
+use Rattle.std.proofs.Common.{Option, Some, None, bit_and}
+use Rattle.smp_words.specs.declared.field.Field.TheVariants.{Roll, Todo}
+use Rattle.smp_stop_steps.specs.{IsCalling, answer_in, put, put_word, one, Closes, Free, Gives, In, Rests, Seat, irq_of, StopShows, IsLoaded, IsThroughAll}
+use Rattle.smp_stop_steps.specs.{OwnsIf, SitsAtRest, Source, StopControlValue, all_but, stop_ends, stop_goes, Setup, StopState, Calling, StopStep, at_then}
+use Rattle.smp_stop_steps.specs.{state_after, Advance, Begin, Close, Complete, Enter, EnterActive, EnterKind, EnterMask, LoadDone, LoadResult, OpenGate}
+use Rattle.smp_stop_steps.specs.{TakeGate, NudgeKey, ExchangeKey, StopStage, Visit, One, Work, Gate, Slot, Word, has, CarriesIn, CarriesAt, IsEnding}
 use Rattle.smp_stop_steps.proofs.Steps.Same.{word_same, moved_seat, still}
-use Rattle.smp_stop_steps.specs.Callings.{IsCalling, answer_in}
-use Rattle.std.proofs.Common.{◌≡◌, ℕ, ◌-◌, ◌<◌, Bool, true, false, eq-eqb, eqb-true, ◌==◌, cond, sym, subst, refl, ap, ◌∙◌, ◌⊎◌, inl, inr, arith}
-use Rattle.std.proofs.Common.{⊎_elim, Option, Some, None, bit_and}
 use Rattle.smp_stop_steps.proofs.Steps.AckSteps.{acknowledge, raise, refill}
 use Rattle.smp_stop_steps.proofs.Basics.Bits.{clear_none, clear_other, clear_same}
 use Rattle.smp_stop_steps.proofs.Steps.Completions.{done_stored, on_now, result_stored, roll_cleared, roll_stale, todo_subtracted, todo_subtracted_answered}
-use Rattle.smp_stop_steps.proofs.Steps.Facts.{high_none, todo_bounds, todo_bounds_answered}
+use Rattle.smp_stop_steps.proofs.Steps.Facts.{high_none, todo_bounds, todo_bounds_answered, arg_loaded, work_words}
 use Rattle.smp_stop_steps.proofs.Steps.RoundSteps.{ack_small, load_arg, load_entry, load_func, load_key, look, store_change}
-use Rattle.smp_stop_steps.proofs.Steps.StageSteps.{begin_step, enter_active, enter_kind, enter_mask, less_one, load_done, load_result, open_gate}
-use Rattle.smp_stop_steps.proofs.Steps.StageSteps.{read_key, read_site, take_gate, nudge_key, exchange_key}
-use Rattle.smp_words.specs.Put.{put, put_word}
-use Rattle.smp_stop_steps.specs.Counts.{one}
-use Rattle.smp_stop_steps.specs.Seats.{Closes, Free, Gives, In, Rests, Seat, irq_of}
-use Rattle.smp_stop_steps.specs.Shows.{StopShows}
-use Rattle.smp_stop_steps.specs.Sits.{IsLoaded, IsThroughAll, OwnsIf, Sits, SitsAtRest}
-use Rattle.smp_stop_steps.specs.Sources.{Source}
-use Rattle.smp_stop_steps.specs.Stages.{StopControlValue, all_but, stop_ends, stop_goes}
-use Rattle.smp_stop_steps.specs.State.{Setup, StopState, Calling}
-use Rattle.smp_stop_steps.specs.Steps.{StopStep, at_then, state_after}
-use Rattle.smp_words.specs.declared.seen.Note.TheVariants as note
-use Rattle.smp_words.specs.declared.field.Field.TheVariants.{Roll, Todo}
-use Rattle.smp_stop_steps.specs.declared.stage.CompletionStage.TheVariants as completion
-use Rattle.smp_stop_steps.specs.declared.stage.RoundStage.TheVariants as round
-use Rattle.smp_stop_steps.specs.declared.stage.StopStage.TheVariants.{Advance, Begin, Close, Complete, Enter, EnterActive, EnterKind, EnterMask}
-use Rattle.smp_stop_steps.specs.declared.stage.StopStage.TheVariants.{LoadDone, LoadResult, OpenGate, ReadKey, ReadSite, TakeGate, NudgeKey}
-use Rattle.smp_stop_steps.specs.declared.stage.StopStage.TheVariants.{ExchangeKey}
-use Rattle.smp_stop_steps.specs.declared.stage.StopStage.{StopStage}
-use Rattle.smp_stop_steps.specs.declared.stage.Visit.{Visit}
-use Rattle.smp_words.specs.declared.work.Kind.TheVariants.{One}
-use Rattle.smp_words.specs.declared.work.Work.{Work}
-use Rattle.smp_words.specs.declared.word.Word.TheVariants.{Gate, Slot}
-use Rattle.smp_words.specs.declared.word.Word.{Word}
-use Rattle.smp_mask.specs.Mask.{has}
-use Rattle.smp_stop_steps.specs.Carries.{CarriesIn, CarriesAt, IsEnding}
+use Rattle.smp_stop_steps.proofs.Steps.StageSteps.{begin_step, enter_active, enter_kind, enter_mask, less_one, load_done, load_result, open_gate, read_key}
+use Rattle.smp_stop_steps.proofs.Steps.StageSteps.{read_site, take_gate, nudge_key, exchange_key}
+use Rattle.smp_stop_steps.specs.Sits.{Sits}
+use Rattle.smp_stop_steps.specs.declared.stage.StopStage.TheVariants.{ReadKey, ReadSite}
 use Rattle.smp_stop_steps.proofs.Steps.Callings.{calling_given}
-use Rattle.smp_stop_steps.proofs.Steps.Facts.{arg_loaded, work_words}
 use Rattle.smp_stop_steps.proofs.Steps.Stages.{at_seat, at_source}
+use Rattle.smp_stop_steps.specs.note
+use Rattle.smp_stop_steps.specs.completion
+use Rattle.smp_stop_steps.specs.round
 
 module _ (u : Setup) (p : StopState) (at : Word → ℕ) (seat : ℕ → Seat) (source : ℕ → Source) (h : StopShows u p at seat source) (c : StopControlValue) (me : ℕ)
     (s : Sits u me (at Gate) c (seat me) (source me)) where

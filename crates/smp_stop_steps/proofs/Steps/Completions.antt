@@ -1,45 +1,29 @@
 -- The kinds of step at the ends of a stop for one CPU: it enters, stores its answer, counts itself, and stores done.
-use Rattle.smp_stop_steps.proofs.Basics.Bools.{or_true}
-use Rattle.smp_stop_steps.specs.Callings.{IsCalling, AreClosing, HasCompleted}
-use Rattle.smp_stop_steps.proofs.Steps.Callings.{calling_same, IsNotClosing, idle_free, closing_kept, idle_closes, closing_seat, calling_next}
-use Rattle.smp_stop_steps.specs.Labels.{StandsSet}
-use Rattle.std.proofs.Common.{◌≡◌, ◌≢◌, ℕ, ◌+◌, ◌-◌, ◌≤◌, Bool, true, false, nat_lt, eq-eqb, ◌==◌, cond, sym, subst, refl, ap, ◌∙◌, ◌⊎◌, inl}
-use Rattle.std.proofs.Common.{inr, arith, ⊎_elim, Option, Some, None, List, [], ◌∷◌, ◌++◌}
+use Rattle.std.proofs.Common.{◌≡◌, ◌≢◌, ℕ, ◌+◌, ◌-◌, ◌≤◌, Bool, true, false, nat_lt, eq-eqb, ◌==◌, cond, sym, subst, refl, ap, ◌∙◌, ◌⊎◌, inl, inr, arith}
+use Rattle.std.proofs.Common.{⊎_elim, Option, Some, None, List, [], ◌∷◌, ◌++◌}
 use Rattle.smp_words.proofs.Puts.{at_test, put_all, put_same, put_other}
+use Rattle.smp_words.specs.declared.field.Field.TheVariants.{Done, Result, Roll, Todo}
+use Rattle.smp_stop_steps.specs.{IsCalling, AreClosing, HasCompleted, StandsSet, put, put_word, one, unfinished, IsAnswer, HasPast, answer_now, OwnsKey}
+use Rattle.smp_stop_steps.specs.{Closes, Free, Gives, In, Rests, Seat, Stands, irq_of, turn_of, StopShows, DoneShows, IsDone, IsLevel, IsPhaseOf, Source}
+use Rattle.smp_stop_steps.specs.{Setup, StopState, Idle, Answering, Called, Completed, Ended, Inside, Outside, Standing, acked, completed, ended, is_inside}
+use Rattle.smp_stop_steps.specs.{is_of, stands, Last, answered_by, completes, completes_with, enters, stored_open, stored_shut, told, with_stop, called_more}
+use Rattle.smp_stop_steps.specs.{Field, One, Patch, Kind as KindOf, Work, Key, Slot, Word, has}
+use Rattle.smp_stop_steps.proofs.Basics.Bools.{or_true}
+use Rattle.smp_stop_steps.proofs.Steps.Callings.{calling_same, IsNotClosing, idle_free, closing_kept, idle_closes, closing_seat, calling_next}
 use Rattle.smp_stop_steps.proofs.Basics.Counts.{sum_zero}
 use Rattle.smp_stop_steps.proofs.State.Ends.{answer_of_it, answer_unfinished}
 use Rattle.smp_stop_steps.proofs.State.Entered.{step_answers, step_completes, step_enters, step_finishes}
-use Rattle.smp_stop_steps.proofs.Steps.Kept.{MovesInside, StaysOpen, after, moves_early, moves_given, open_step, open_step_with, other_slots}
-use Rattle.smp_stop_steps.proofs.Steps.Kept.{owns_kept, past_answers}
+use Rattle.smp_stop_steps.proofs.Steps.Kept.{MovesInside, StaysOpen, after, moves_early, moves_given, open_step, open_step_with, other_slots, owns_kept}
+use Rattle.smp_stop_steps.proofs.Steps.Kept.{past_answers}
 use Rattle.smp_stop_steps.proofs.State.Moves.{IsNoPatch}
 use Rattle.smp_stop_steps.proofs.State.Pasts.{past_completes}
 use Rattle.smp_stop_steps.proofs.State.Phases.{is_open_inside, keeps_inside}
 use Rattle.smp_stop_steps.proofs.State.Raises.{in_machine}
 use Rattle.smp_stop_steps.proofs.Steps.Rounds.{acked_most_phase}
 use Rattle.smp_stop_steps.proofs.State.Works.{called_is}
-use Rattle.smp_words.specs.Put.{put, put_word}
-use Rattle.smp_stop_steps.specs.Counts.{one, unfinished}
-use Rattle.smp_stop_steps.specs.Laws.{IsAnswer}
-use Rattle.smp_stop_steps.specs.Past.{HasPast, answer_now}
-use Rattle.smp_stop_steps.specs.Present.{OwnsKey}
-use Rattle.smp_stop_steps.specs.Seats.{Closes, Free, Gives, In, Rests, Seat, Stands, irq_of, turn_of}
-use Rattle.smp_stop_steps.specs.Shows.{StopShows}
-use Rattle.smp_stop_steps.specs.Slots.{DoneShows, IsDone, IsLevel, IsPhaseOf}
-use Rattle.smp_stop_steps.specs.Sources.{Source}
-use Rattle.smp_stop_steps.specs.State.{Setup, StopState, Idle}
-use Rattle.smp_stop_steps.specs.Stop.{Answering, Called, Completed, Ended, Inside, Outside, Standing, acked}
-use Rattle.smp_stop_steps.specs.Stop.{completed, ended, is_inside, is_of, stands, Last, Stop}
-use Rattle.smp_stop_steps.specs.Tells.{answered_by, completes, completes_with, enters, stored_open, stored_shut, told, with_stop, called_more}
-use Rattle.smp_words.specs.declared.seen.Act.TheVariants as act
-use Rattle.smp_words.specs.declared.field.Field.TheVariants.{Done, Result, Roll, Todo}
-use Rattle.smp_words.specs.declared.field.Field.{Field}
-use Rattle.smp_words.specs.declared.work.Kind.TheVariants.{One, Patch}
-use Rattle.smp_words.specs.declared.work.Kind.{Kind as KindOf}
-use Rattle.smp_words.specs.declared.work.Work.{Work}
-use Rattle.smp_words.specs.declared.word.Word.TheVariants.{Key, Slot}
-use Rattle.smp_words.specs.declared.word.Word.{Word}
-use Rattle.smp_mask.specs.Mask.{has}
+use Rattle.smp_stop_steps.specs.Stop.{Stop}
 use Rattle.smp_stop_steps.proofs.State.Acknowledged.{rests_me}
+use Rattle.smp_stop_steps.specs.act
 
 pub one_phase : (k : KindOf) (p : ℕ) → k ≡ One → IsPhaseOf k p → p ≡ 0
 one_phase k p e h = search arith

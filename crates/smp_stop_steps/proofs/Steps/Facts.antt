@@ -1,32 +1,20 @@
 -- What a CPU inside a stop finds, and the state at first.
-use Rattle.smp_words.proofs.Puts.{put_all}
-use Rattle.smp_stop_steps.proofs.Steps.Callings.{call_may}
-use Rattle.smp_stop_steps.specs.Callings.{IsCalling}
-use Rattle.smp_stop_steps.specs.Tells.{told, may_call, calls_now}
-use Rattle.smp_stop_steps.proofs.State.KeyCounts.{opened_count}
-use Rattle.std.proofs.Common.{◌≡◌, ◌≢◌, ℕ, ◌+◌, ◌<◌, ◌≤◌, Bool, true, false, cond, sym, subst, refl, ap, ◌∙◌, ◌⊎◌, arith}
-use Rattle.std.proofs.Common.{eq-eqb}
-use Rattle.std.proofs.Common.{zero, suc, List, [], Some, None}
+use Rattle.std.proofs.Common.{◌≡◌, ◌≢◌, ℕ, ◌+◌, ◌<◌, ◌≤◌, Bool, true, false, cond, sym, subst, refl, ap, ◌∙◌, ◌⊎◌, arith, eq-eqb, zero, suc, List, [], Some}
+use Rattle.std.proofs.Common.{None}
 use Rattle.std.proofs.lemmas.Nat.Bits.{bit_at-zero}
+use Rattle.smp_words.proofs.Puts.{put_all}
+use Rattle.smp_words.specs.declared.field.Field.TheVariants.{Ack, Arg, Roll, State, Todo}
+use Rattle.smp_labels.specs.Law.{IsLawful}
+use Rattle.smp_labels.specs.Plans.{AreEntriesOf}
+use Rattle.smp_stop_steps.specs.{IsCalling, told, may_call, calls_now, behind, count_behind, sum_below, unfinished, Change, labels_in, Alters, Free, Gives}
+use Rattle.smp_stop_steps.specs.{In, Rests, Seat, Stands, Turn, StopShows, IsWritten, Keeps, OpenShows, Shut, Source, IsSetup, Setup, StopState, no_stops}
+use Rattle.smp_stop_steps.specs.{StopCall, Calls, Answering, Called, Completed, Inside, Outside, Standing, is_called, Work, Gate, Slot, Key, Word, has}
+use Rattle.smp_stop_steps.proofs.Steps.Callings.{call_may}
+use Rattle.smp_stop_steps.proofs.State.KeyCounts.{opened_count}
 use Rattle.smp_stop_steps.proofs.Basics.Counts.{sum_zero}
 use Rattle.smp_stop_steps.proofs.State.Phases.{is_open_inside, keeps_inside, none_raises}
 use Rattle.smp_stop_steps.proofs.State.Acknowledged.{nobody_raises}
-use Rattle.smp_stop_steps.specs.Counts.{behind, count_behind, sum_below, unfinished}
-use Rattle.smp_stop_steps.specs.Labels.{Change, labels_in}
-use Rattle.smp_stop_steps.specs.Seats.{Alters, Free, Gives, In, Rests, Seat, Stands, Turn}
-use Rattle.smp_stop_steps.specs.Shows.{StopShows}
-use Rattle.smp_stop_steps.specs.Slots.{IsWritten, Keeps, OpenShows}
-use Rattle.smp_stop_steps.specs.Sources.{Shut, Source}
-use Rattle.smp_stop_steps.specs.State.{IsSetup, Setup, StopState, no_stops, StopCall, Calls}
-use Rattle.smp_stop_steps.specs.Stop.{Answering, Called, Completed, Inside, Outside, Standing, is_called}
-use Rattle.smp_words.specs.declared.field.Field.TheVariants.{Ack, Arg, Roll, State, Todo}
-use Rattle.smp_words.specs.declared.seen.Act.TheVariants as act
-use Rattle.smp_words.specs.declared.work.Work.{Work}
-use Rattle.smp_words.specs.declared.word.Word.TheVariants.{Gate, Slot, Key}
-use Rattle.smp_words.specs.declared.word.Word.{Word}
-use Rattle.smp_labels.specs.Law.{IsLawful}
-use Rattle.smp_labels.specs.Plans.{AreEntriesOf}
-use Rattle.smp_mask.specs.Mask.{has}
+use Rattle.smp_stop_steps.specs.act
 
 -- a sum of numbers of at most 1
 sum_most : (f : ℕ → ℕ) (n : ℕ) → ((c : ℕ) → f c ≤ 1) → sum_below f n ≤ n

@@ -1,23 +1,12 @@
 -- What a step on an open stop leaves to the sources, to the past and to the keys that sources know.
-use Rattle.smp_stop_steps.specs.KeyCounts.{CountShows}
 use Rattle.std.proofs.Common.{◌≡◌, ◌≢◌, ℕ, ◌≤◌, Bool, true, ◌==◌, cond, sym, subst, refl, ap, ◌∙◌, Option, List, arith}
 use Rattle.smp_words.proofs.Puts.{at_test, put_all}
+use Rattle.smp_stop_steps.specs.{CountShows, put, put_word, Patching, Reading, StandsSet, HasPast, answer_now, OwnsKey, PresentShows, Seat, StopShows}
+use Rattle.smp_stop_steps.specs.{Collects, Drafts, Owns, Shut, Source, SourceShows, AreClosing, IsCalling, Calling, Setup, StopCall, StopState, Ended}
+use Rattle.smp_stop_steps.specs.{Standing, acked, is_inside, Field, Patch, Work, Gate, Key, Slot, Word}
 use Rattle.smp_stop_steps.proofs.State.Moves.{field_false}
-use Rattle.smp_words.specs.Put.{put, put_word}
-use Rattle.smp_stop_steps.specs.Labels.{Patching, Reading, StandsSet}
-use Rattle.smp_stop_steps.specs.Past.{HasPast, answer_now}
-use Rattle.smp_stop_steps.specs.Present.{OwnsKey, PresentShows}
-use Rattle.smp_stop_steps.specs.Seats.{Seat}
-use Rattle.smp_stop_steps.specs.Shows.{StopShows}
-use Rattle.smp_stop_steps.specs.Sources.{Collects, Drafts, Owns, Shut, Source, SourceShows}
-use Rattle.smp_stop_steps.specs.Callings.{AreClosing, IsCalling}
-use Rattle.smp_stop_steps.specs.State.{Calling, Present, Setup, StopCall, StopState}
-use Rattle.smp_stop_steps.specs.Stop.{Ended, Standing, Stop, acked, is_inside}
-use Rattle.smp_words.specs.declared.field.Field.{Field}
-use Rattle.smp_words.specs.declared.work.Kind.TheVariants.{Patch}
-use Rattle.smp_words.specs.declared.work.Work.{Work}
-use Rattle.smp_words.specs.declared.word.Word.TheVariants.{Gate, Key, Slot}
-use Rattle.smp_words.specs.declared.word.Word.{Word}
+use Rattle.smp_stop_steps.specs.State.{Present}
+use Rattle.smp_stop_steps.specs.Stop.{Stop}
 
 module _ (u : Setup) (gate : Option ℕ) (s : ℕ) where
   -- a source whose slot is as it was

@@ -1,55 +1,35 @@
 -- What the note of each step of a CPU's command says of the state.
-use Rattle.std.proofs.Common.{◌≡◌, ◌≢◌, ℕ, ◌+◌, Bool, true, false, eq-eqb, eqb-true, ◌==◌, ◌&&◌, not, cond, ◌⊎◌, inl, inr, Option, Some, None, [], ◌∷◌}
-use Rattle.std.proofs.Common.{◌++◌, ⊎_elim, sym, subst, refl, ap, ◌∙◌, arith}
-use Rattle.smp_mask.specs.Mask.{has}
-use Rattle.smp_labels.specs.Keys.{change_of, count_after, is_on}
+use Rattle.std.proofs.Common.{◌≡◌, ◌≢◌, ℕ, ◌+◌, Bool, true, false, eq-eqb, eqb-true, ◌==◌, ◌&&◌, not, cond, ◌⊎◌, inl, inr, Option, Some, None, [], ◌∷◌, ◌++◌}
+use Rattle.std.proofs.Common.{⊎_elim, sym, subst, refl, ap, ◌∙◌, arith}
 use Rattle.smp_labels.specs.Kinds.{xor}
 use Rattle.smp_labels.specs.declared.keys.Change.{Change as KeyChange}
-use Rattle.smp_labels.specs.declared.patch.Place.TheVariants as place
-use Rattle.smp_words.specs.Access.{word_of, seen_of}
-use Rattle.smp_words.specs.Put.{put}
-use Rattle.smp_words.proofs.Puts.{at_test}
-use Rattle.smp_words.specs.declared.field.Field.{Field}
-use Rattle.smp_words.specs.declared.field.Field.TheVariants as field
-use Rattle.smp_words.specs.declared.seen.Act.TheVariants as act
-use Rattle.smp_words.specs.declared.seen.Note.{Note}
-use Rattle.smp_words.specs.declared.seen.Note.TheVariants as note
-use Rattle.smp_words.specs.declared.work.Kind.TheVariants.{Patch}
-use Rattle.smp_words.specs.declared.work.Work.{Work}
-use Rattle.smp_words.specs.declared.word.Word.{Word}
-use Rattle.smp_words.specs.declared.word.Word.TheVariants.{Gate, Slot, Key, Site}
-use Rattle.smp_stop_steps.specs.Carries.{CarriesIn}
-use Rattle.smp_stop_steps.specs.Labels.{Change, ReadKey, ReadSite}
-use Rattle.smp_stop_steps.specs.Notes.{StaysStill, HasRead, NoteFits, heard_of}
-use Rattle.smp_stop_steps.specs.Seats.{Seat, In, Gives, Rests, Sets, Stands, irq_of}
-use Rattle.smp_stop_steps.specs.Shows.{StopShows, gate_word}
-use Rattle.smp_stop_steps.specs.Sits.{HasRun, IsLoaded, IsNudge, IsThroughAll, RunsIf, Sits, SitsAt, SourceSits}
-use Rattle.smp_stop_steps.specs.Slots.{DoneShows, begun_value, order}
-use Rattle.smp_stop_steps.specs.Sources.{Source, Drafts, Owns, DraftShows, OwnerShows, SourceShows}
-use Rattle.smp_stop_steps.specs.Stages.{StopControlValue, answer_at, begun_next, key_on, looked_on, nudge_of, nudge_on}
-use Rattle.smp_stop_steps.specs.Stages.{stop_ends, stop_goes, store_of, visit_acked}
-use Rattle.smp_stop_steps.specs.State.{Setup, Present, StopState, StopCall, Calls}
-use Rattle.smp_stop_steps.specs.Steps.{FunctionGoes, note_then, state_after}
-use Rattle.smp_stop_steps.specs.Stop.{Standing, Inside, Ended, Stop}
-use Rattle.smp_stop_steps.specs.Stop.{acked, acknowledged, completed, opened, raised, stands as stands_at}
-use Rattle.smp_stop_steps.specs.Tells.{answered_by, drafts}
-use Rattle.smp_stop_steps.specs.Tells.{acknowledges, completes, completes_with, calls_now, gate_told}
-use Rattle.smp_stop_steps.specs.Tells.{is_multi, is_patch, key_loaded, key_told, leaves, looked_by, looks, looks_now, may_call, patch_begun}
-use Rattle.smp_stop_steps.specs.Tells.{reads, stored_open, stored_shut, tells, unpatched, with_stop}
-use Rattle.smp_stop_steps.specs.declared.stage.CompletionStage.TheVariants as completion
-use Rattle.smp_stop_steps.specs.declared.stage.RoundStage.TheVariants as round
-use Rattle.smp_stop_steps.specs.declared.stage.StopStage.{StopStage}
-use Rattle.smp_stop_steps.specs.declared.stage.StopStage.TheVariants.{TakeGate, OpenGate, Begin, Enter, EnterKind, EnterMask, EnterActive, Advance}
-use Rattle.smp_stop_steps.specs.declared.stage.StopStage.TheVariants.{Complete, Close, LoadDone, LoadResult, ReadKey as ReadsKey, ReadSite as ReadsSite}
-use Rattle.smp_stop_steps.specs.declared.stage.StopStage.TheVariants.{NudgeKey, ExchangeKey}
-use Rattle.smp_stop_steps.specs.declared.stage.Visit.{Visit}
+use Rattle.smp_words.proofs.Puts.{at_test, put_same}
+use Rattle.smp_stop_steps.specs.{has, change_of, count_after, is_on, word_of, seen_of, put, Field, Note, Patch, Work, Word, Gate, Slot, Key, Site, CarriesIn}
+use Rattle.smp_stop_steps.specs.{Change, ReadKey, ReadSite, StaysStill, HasRead, NoteFits, heard_of, Seat, In, Gives, Rests, Sets, Stands, irq_of, StopShows}
+use Rattle.smp_stop_steps.specs.{gate_word, HasRun, IsLoaded, IsNudge, IsThroughAll, RunsIf, SitsAt, SourceSits, DoneShows, begun_value, order, Source}
+use Rattle.smp_stop_steps.specs.{Drafts, Owns, DraftShows, OwnerShows, SourceShows, StopControlValue, answer_at, begun_next, key_on, looked_on, nudge_of}
+use Rattle.smp_stop_steps.specs.{nudge_on, stop_ends, stop_goes, store_of, visit_acked, Setup, StopState, StopCall, Calls, FunctionGoes, note_then}
+use Rattle.smp_stop_steps.specs.{state_after, Standing, Inside, Ended, acked, acknowledged, completed, opened, raised, stands as stands_at, answered_by}
+use Rattle.smp_stop_steps.specs.{drafts, acknowledges, completes, completes_with, calls_now, gate_told, is_multi, is_patch, key_loaded, key_told, leaves}
+use Rattle.smp_stop_steps.specs.{looked_by, looks, looks_now, may_call, patch_begun, reads, stored_open, stored_shut, tells, unpatched, with_stop, StopStage}
+use Rattle.smp_stop_steps.specs.{TakeGate, OpenGate, Begin, Enter, EnterKind, EnterMask, EnterActive, Advance, Complete, Close, LoadDone, LoadResult}
+use Rattle.smp_stop_steps.specs.{NudgeKey, ExchangeKey, Visit}
+use Rattle.smp_stop_steps.specs.Sits.{Sits}
+use Rattle.smp_stop_steps.specs.State.{Present}
+use Rattle.smp_stop_steps.specs.Stop.{Stop}
+use Rattle.smp_stop_steps.specs.declared.stage.StopStage.TheVariants.{ReadKey as ReadsKey, ReadSite as ReadsSite}
 use Rattle.smp_stop_steps.proofs.Basics.Counts.{put_own}
 use Rattle.smp_stop_steps.proofs.State.Gates.{gate_free, gate_mine}
 use Rattle.smp_stop_steps.proofs.State.Phases.{is_open_inside}
 use Rattle.smp_stop_steps.proofs.Steps.CallSteps.{call_step}
 use Rattle.smp_stop_steps.proofs.Steps.Facts.{patcher_active}
 use Rattle.smp_stop_steps.proofs.Steps.Patching.{not_run}
-use Rattle.smp_words.proofs.Puts.{put_same}
+use Rattle.smp_stop_steps.specs.place
+use Rattle.smp_stop_steps.specs.field
+use Rattle.smp_stop_steps.specs.act
+use Rattle.smp_stop_steps.specs.note
+use Rattle.smp_stop_steps.specs.completion
+use Rattle.smp_stop_steps.specs.round
 
 -- steps after which nothing is heard
 either_heard : (p q : StopState) (b : Bool) → heard_of q ≡ heard_of p → heard_of (cond b q p) ≡ heard_of p

@@ -1,34 +1,21 @@
 -- Laws of nudges and patches, by where a CPU stands.
-use Rattle.std.proofs.Common.{◌≡◌, ◌≢◌, ℕ, ◌+◌, ◌-◌, ◌<◌, Bool, true, false, nat_lt, ltb-true, lt-ltb, eq-eqb, eqb-true, ◌==◌, ◌&&◌, cond, sym, subst}
-use Rattle.std.proofs.Common.{refl, ap, ◌∙◌, inl, inr, arith, Option, Some, None, List, [], ◌∷◌, ◌++◌}
+use Rattle.std.proofs.Common.{◌≡◌, ◌≢◌, ℕ, ◌+◌, ◌-◌, ◌<◌, Bool, true, false, nat_lt, ltb-true, lt-ltb, eq-eqb, eqb-true, ◌==◌, ◌&&◌, cond, sym, subst, refl}
+use Rattle.std.proofs.Common.{ap, ◌∙◌, inl, inr, arith, Option, Some, None, List, [], ◌∷◌, ◌++◌}
 use Rattle.std.proofs.lemmas.Bool.{cases_lt}
-use Rattle.smp_labels.specs.Keys.{is_on, count_after, IsKeyWord}
 use Rattle.smp_labels.specs.Kinds.{xor}
 use Rattle.smp_labels.specs.declared.keys.Change.TheVariants.{Up, Down}
 use Rattle.smp_words.proofs.Puts.{at_test, put_same}
+use Rattle.smp_stop_steps.specs.{is_on, count_after, IsKeyWord, Change, Patches, ReadKey, Whole, IsPatched, KeysStand, Nudges, ReadsOwnPatch, StandsAtEdge}
+use Rattle.smp_stop_steps.specs.{Seat, StopShows, SitsAtRest, Source, StopControlValue, nudge_on, stop_ends, stop_goes, Setup, StopState, at_then}
+use Rattle.smp_stop_steps.specs.{state_after, is_patch, key_loaded, patch_begun, reads, StopStage, Advance, ExchangeKey, NudgeKey, Visit, Patch, Work, Word}
+use Rattle.smp_stop_steps.specs.{Gate, Key}
 use Rattle.smp_stop_steps.proofs.State.Patched.{lawful_when_on, nobody_patches}
 use Rattle.smp_stop_steps.proofs.Steps.Patching.{not_run}
-use Rattle.smp_stop_steps.specs.Labels.{Change, Patches, ReadKey, Whole}
-use Rattle.smp_stop_steps.specs.Promises.{IsPatched, KeysStand, Nudges, ReadsOwnPatch, StandsAtEdge}
-use Rattle.smp_stop_steps.specs.Seats.{Seat}
-use Rattle.smp_stop_steps.specs.Shows.{StopShows}
-use Rattle.smp_stop_steps.specs.Sits.{Sits, SitsAtRest}
-use Rattle.smp_stop_steps.specs.Sources.{Source}
-use Rattle.smp_stop_steps.specs.Stages.{StopControlValue, nudge_on, stop_ends, stop_goes}
-use Rattle.smp_stop_steps.specs.State.{Present, Setup, StopState}
-use Rattle.smp_stop_steps.specs.Steps.{at_then, state_after}
-use Rattle.smp_stop_steps.specs.Tells.{is_patch, key_loaded, patch_begun, reads}
-use Rattle.smp_words.specs.declared.seen.Note.TheVariants as note
-use Rattle.smp_stop_steps.specs.declared.stage.RoundStage.TheVariants as round
-use Rattle.smp_stop_steps.specs.declared.stage.StopStage.{StopStage}
-use Rattle.smp_stop_steps.specs.declared.stage.StopStage.TheVariants.{Advance}
-use Rattle.smp_stop_steps.specs.declared.stage.StopStage.TheVariants.{ExchangeKey, NudgeKey}
-use Rattle.smp_stop_steps.specs.declared.stage.Visit.{Visit}
-use Rattle.smp_words.specs.declared.work.Kind.TheVariants.{Patch}
-use Rattle.smp_words.specs.declared.work.Work.{Work}
-use Rattle.smp_words.specs.declared.word.Word.{Word}
-use Rattle.smp_words.specs.declared.word.Word.TheVariants.{Gate, Key}
+use Rattle.smp_stop_steps.specs.Sits.{Sits}
+use Rattle.smp_stop_steps.specs.State.{Present}
 use Rattle.smp_stop_steps.proofs.Steps.Stages.{at_seat}
+use Rattle.smp_stop_steps.specs.note
+use Rattle.smp_stop_steps.specs.round
 
 module _ (u : Setup) (p : StopState) (at : Word → ℕ) (seat : ℕ → Seat) (source : ℕ → Source) (h : StopShows u p at seat source) (c : StopControlValue) (me : ℕ)
     (s : Sits u me (at Gate) c (seat me) (source me)) where

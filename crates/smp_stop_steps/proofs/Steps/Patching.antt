@@ -1,38 +1,23 @@
 -- The kinds of step on labels: readings, and the loads and stores of a patch.
-use Rattle.smp_stop_steps.proofs.Steps.Callings.{calling_same, closing_seat, idle_patch, idle_alters, IsNotClosing}
-use Rattle.smp_stop_steps.specs.Callings.{IsCalling, AreClosing}
-use Rattle.smp_stop_steps.proofs.State.KeyCounts.{counts_nudged, counts_patched}
 use Rattle.std.specs.List.{AllByRecursion}
-use Rattle.smp_stop_steps.specs.Sits.{IsNudge}
-use Rattle.smp_stop_steps.specs.KeyCounts.{CountShows, moved_by}
-use Rattle.std.proofs.Common.{◌≡◌, ℕ, Bool, true, false, eqb-true, ◌&&◌, cond, sym, subst, refl, ap, ◌∙◌, arith, Option, Some, None, List, []}
-use Rattle.std.proofs.Common.{◌∷◌, ◌++◌, ◌<◌, IfSome}
+use Rattle.std.proofs.Common.{◌≡◌, ℕ, Bool, true, false, eqb-true, ◌&&◌, cond, sym, subst, refl, ap, ◌∙◌, arith, Option, Some, None, List, [], ◌∷◌, ◌++◌, ◌<◌}
+use Rattle.std.proofs.Common.{IfSome}
 use Rattle.smp_words.proofs.Puts.{at_test}
+use Rattle.smp_labels.proofs.Patched.{plan_leads, left_in_form, count_lawful}
+use Rattle.smp_labels.specs.Law.{Table}
+use Rattle.smp_labels.specs.Plans.{AreEntriesOf, applied}
+use Rattle.smp_stop_steps.specs.{IsCalling, AreClosing, IsNudge, CountShows, moved_by, put, put_word, Change, Patches, Patching, ReadKey, Reading, labels_in}
+use Rattle.smp_stop_steps.specs.{Agrees, LabelsShow, count_set, state_left, OwnsKey, PresentShows, Alters, In, Rests, Seat, Stands, StopShows, Source, Setup}
+use Rattle.smp_stop_steps.specs.{StopState, Moved, Inside, Standing, is_at_run, is_patch, key_loaded, patch_begun, patched_more, reads, told, plan_at}
+use Rattle.smp_stop_steps.specs.{key_patched, Field, Patch, Work, Entry, Gate, Key, Site, Slot, Word, is_on, change_of, has}
+use Rattle.smp_stop_steps.proofs.Steps.Callings.{calling_same, closing_seat, idle_patch, idle_alters, IsNotClosing}
+use Rattle.smp_stop_steps.proofs.State.KeyCounts.{counts_nudged, counts_patched}
 use Rattle.smp_stop_steps.proofs.Steps.Kept.{source_same}
 use Rattle.smp_stop_steps.proofs.State.Owns.{owns_stores}
 use Rattle.smp_stop_steps.proofs.State.Patched.{off_inside, patch_starts, patch_stores, reads_label, nobody_patches, lawful_when_on}
 use Rattle.smp_stop_steps.proofs.State.Phases.{is_open_inside}
-use Rattle.smp_words.specs.Put.{put, put_word}
-use Rattle.smp_stop_steps.specs.Labels.{Change, Patches, Patching, ReadKey, Reading, labels_in, Agrees, LabelsShow, count_set, state_left}
-use Rattle.smp_stop_steps.specs.Present.{OwnsKey, PresentShows}
-use Rattle.smp_stop_steps.specs.Seats.{Alters, In, Rests, Seat, Stands}
-use Rattle.smp_stop_steps.specs.Shows.{StopShows}
-use Rattle.smp_stop_steps.specs.Sources.{Source}
-use Rattle.smp_stop_steps.specs.State.{Setup, StopState, Moved}
-use Rattle.smp_stop_steps.specs.Stop.{Inside, Standing}
-use Rattle.smp_stop_steps.specs.Tells.{is_at_run, is_patch, key_loaded, patch_begun, patched_more, reads, told, plan_at, key_patched}
-use Rattle.smp_words.specs.declared.seen.Act.TheVariants as act
-use Rattle.smp_words.specs.declared.field.Field.{Field}
-use Rattle.smp_words.specs.declared.work.Kind.TheVariants.{Patch}
-use Rattle.smp_words.specs.declared.work.Work.{Work}
-use Rattle.smp_words.specs.declared.word.Word.TheVariants.{Entry, Gate, Key, Site, Slot}
-use Rattle.smp_words.specs.declared.word.Word.{Word}
-use Rattle.smp_labels.proofs.Patched.{plan_leads, left_in_form, count_lawful}
-use Rattle.smp_labels.specs.Keys.{is_on, change_of}
-use Rattle.smp_labels.specs.Law.{Table}
-use Rattle.smp_labels.specs.Plans.{AreEntriesOf, applied}
-use Rattle.smp_labels.specs.declared.patch.Place.TheVariants as place
-use Rattle.smp_mask.specs.Mask.{has}
+use Rattle.smp_stop_steps.specs.act
+use Rattle.smp_stop_steps.specs.place
 
 module _ (u : Setup) (p : StopState) (at : Word → ℕ) (seat : ℕ → Seat) (source : ℕ → Source) (h : StopShows u p at seat source) (me : ℕ) where
   -- a step that leaves the stops

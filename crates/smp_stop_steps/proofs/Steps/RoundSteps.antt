@@ -1,47 +1,32 @@
 -- The steps of a turn of `multi_cpu_stop`, by a CPU's stage.
-use Rattle.smp_stop_steps.proofs.Steps.Same.{moved_seat, still}
+use Rattle.std.proofs.Common.{◌≡◌, ◌≢◌, ℕ, ◌+◌, ◌^◌, ◌<◌, ◌≤◌, Bool, true, false, nat_lt, eq-eqb, ne_eqb, eqb-true, ◌==◌, ◌&&◌, ◌||◌, cond, sym, subst, refl}
+use Rattle.std.proofs.Common.{ap, ◌∙◌, inl, inr, arith, ⊎_elim, Option, Some, None, List, [], ◌∷◌, ◌++◌, length, take, get_or, length-append, length-take-le}
+use Rattle.std.proofs.Common.{take_all, append_assoc}
+use Rattle.std.proofs.lemmas.Bool.{cases_lt}
+use Rattle.std.proofs.lemmas.List.{take_more, get_or_past, append-nil}
 use Rattle.smp_labels.proofs.Patched.{plan_same, plan_tests, plan_key_first}
 use Rattle.smp_labels.specs.Kinds.{xor}
 use Rattle.smp_labels.specs.declared.keys.Change.{Change as KeyChange}
-use Rattle.std.proofs.Common.{◌≡◌, ◌≢◌, ℕ, ◌+◌, ◌^◌, ◌<◌, ◌≤◌, Bool, true, false, nat_lt, eq-eqb, ne_eqb, eqb-true, ◌==◌, ◌&&◌, ◌||◌, cond}
-use Rattle.std.proofs.Common.{sym, subst, refl, ap, ◌∙◌, inl, inr, arith, ⊎_elim, Option, Some, None, List, [], ◌∷◌, ◌++◌, length, take, get_or}
-use Rattle.std.proofs.Common.{length-append, length-take-le, take_all, append_assoc}
-use Rattle.std.proofs.lemmas.Bool.{cases_lt}
-use Rattle.std.proofs.lemmas.List.{take_more, get_or_past, append-nil}
 use Rattle.smp_words.proofs.Puts.{at_test}
+use Rattle.smp_words.specs.declared.field.Field.TheVariants.{Arg, State}
+use Rattle.smp_labels.specs.Entries.{entry_at}
+use Rattle.smp_labels.specs.Keys.{count_or}
+use Rattle.smp_labels.specs.Plans.{site_change, plan_of}
+use Rattle.smp_stop_steps.specs.{at_after, seen_of, word_of, put, Change, count_set, answer_for, patch_answer, Alters, In, Rests, Seat, irq_of, StopShows}
+use Rattle.smp_stop_steps.specs.{IsLoaded, OwnsIf, SitsAtRun, changes_of, SitsAtEntry, Source, StopControlValue, change_at, entry_on, stop_ends, stop_goes}
+use Rattle.smp_stop_steps.specs.{store_of, key_on, Setup, StopState, StopStep, state_after, is_multi, tells, told, plan_at, Advance, Visit, Multi, One, Patch}
+use Rattle.smp_stop_steps.specs.{Kind as KindOf, Work, Entry, Gate, Key, Slot, Word, is_on, change_of, count_after, patch_of, site_changes, MOST_SITES, has}
+use Rattle.smp_stop_steps.proofs.Steps.Same.{moved_seat, still}
 use Rattle.smp_stop_steps.proofs.Steps.Facts.{arg_loaded, inside_keeps, state_near, work_words}
 use Rattle.smp_stop_steps.proofs.Steps.Patching.{key_loaded_first, key_stored, site_stored}
 use Rattle.smp_stop_steps.proofs.Steps.Rounds.{look_irq, state_loaded}
-use Rattle.smp_words.specs.Access.{at_after, seen_of, word_of}
-use Rattle.smp_words.specs.Put.{put}
-use Rattle.smp_stop_steps.specs.Labels.{Change, count_set, answer_for, patch_answer}
-use Rattle.smp_stop_steps.specs.Seats.{Alters, In, Rests, Seat, irq_of}
-use Rattle.smp_stop_steps.specs.Shows.{StopShows}
-use Rattle.smp_stop_steps.specs.Sits.{IsLoaded, OwnsIf, Sits, SitsAtRun, changes_of, SitsAtEntry}
-use Rattle.smp_stop_steps.specs.Sources.{Source}
-use Rattle.smp_stop_steps.specs.Stages.{StopControlValue, change_at, entry_on, stop_ends, stop_goes, store_of, key_on}
-use Rattle.smp_stop_steps.specs.State.{Setup, StopState}
-use Rattle.smp_stop_steps.specs.Steps.{StopStep, state_after}
-use Rattle.smp_stop_steps.specs.Tells.{is_multi, tells, told, plan_at}
-use Rattle.smp_words.specs.declared.seen.Act.TheVariants as act
-use Rattle.smp_words.specs.declared.seen.Note.TheVariants as note
-use Rattle.smp_words.specs.declared.field.Field.TheVariants.{Arg, State}
-use Rattle.smp_stop_steps.specs.declared.stage.RoundStage.TheVariants as round
-use Rattle.smp_stop_steps.specs.declared.stage.StopStage.TheVariants.{Advance}
-use Rattle.smp_stop_steps.specs.declared.stage.Visit.{Visit}
-use Rattle.smp_words.specs.declared.work.Kind.TheVariants.{Multi, One, Patch}
-use Rattle.smp_words.specs.declared.work.Kind.{Kind as KindOf}
-use Rattle.smp_words.specs.declared.work.Work.{Work}
-use Rattle.smp_words.specs.declared.word.Word.TheVariants.{Entry, Gate, Key, Slot}
-use Rattle.smp_words.specs.declared.word.Word.{Word}
-use Rattle.smp_labels.specs.Entries.{entry_at}
-use Rattle.smp_labels.specs.Keys.{is_on, change_of, count_after, count_or}
-use Rattle.smp_labels.specs.Plans.{patch_of, site_change, site_changes, plan_of}
-use Rattle.smp_labels.specs.declared.patch.Place.TheVariants as place
-use Rattle.smp_labels.specs.declared.words.TheConstants.{MOST_SITES}
-use Rattle.smp_mask.specs.Mask.{has}
+use Rattle.smp_stop_steps.specs.Sits.{Sits}
 use Rattle.smp_stop_steps.proofs.Steps.Stages.{in_round, round_source}
 use Rattle.smp_stop_steps.proofs.Basics.Bools.{both_true}
+use Rattle.smp_stop_steps.specs.act
+use Rattle.smp_stop_steps.specs.note
+use Rattle.smp_stop_steps.specs.round
+use Rattle.smp_stop_steps.specs.place
 
 some_is : {A : Type 0} {x y : A} → Some x ≡ Some y → x ≡ y
 some_is {A} {x} {y} e = cc

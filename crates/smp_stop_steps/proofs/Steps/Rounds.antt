@@ -1,12 +1,20 @@
 -- The kinds of step of a round: a CPU looks at the phase, acknowledges it, refills the count, and stores the next phase.
+use Rattle.std.proofs.Common.{◌≡◌, ◌≢◌, ℕ, ◌+◌, ◌-◌, ◌≤◌, Bool, true, false, not, nat_lt, lt-ltb, le-ltb, eqb-true, eq-eqb, ne_eqb, ◌==◌, ◌&&◌, ◌||◌, cond}
+use Rattle.std.proofs.Common.{sym, subst, refl, ap, ◌∙◌, ◌⊎◌, inl, inr, arith, ⊎_elim, Some, None, List, [], ◌∷◌, ◌++◌, Option, IfSome}
+use Rattle.std.proofs.lemmas.Bool.{cases_lt, cases_eq}
+use Rattle.std.specs.List.{AllByRecursion}
+use Rattle.smp_words.proofs.Puts.{at_test, put_all, put_same, put_other}
+use Rattle.smp_words.specs.declared.field.Field.TheVariants.{Ack, State}
+use Rattle.smp_stop_steps.specs.{HasCalled, IsCalling, AreClosing, put, put_word, mask_weight, weight, Agrees, Change, Patches, Patching, Reading, Whole}
+use Rattle.smp_stop_steps.specs.{labels_in, StandsSet, reading_of, state_left, patch_answer, answer_now, OwnsKey, PresentShows, RunnerShows, Alters, Fills}
+use Rattle.smp_stop_steps.specs.{In, Rests, Seat, Sets, Stands, Turn, irq_of, turn_of, StopShows, AckShows, IsLevel, Keeps, OpenShows, IsPhaseOf, Source}
+use Rattle.smp_stop_steps.specs.{Setup, StopCall, StopState, Calling, Inside, Nobody, Raises, Raising, Refills, Standing, acked, acknowledged, is_inside}
+use Rattle.smp_stop_steps.specs.{raised, refilled, stands, acknowledges, first_readings, is_patch, leaves, looked_by, stored_open, stored_shut, told}
+use Rattle.smp_stop_steps.specs.{unpatched, with_stop, called_more, carried, carried_call, Multi, One, Patch, Kind as KindOf, Work, Key, Slot, Word, is_on}
+use Rattle.smp_stop_steps.specs.{change_of, has}
 use Rattle.smp_stop_steps.proofs.Basics.Bools.{both_true, or_false, or_true}
-use Rattle.smp_stop_steps.specs.Callings.{HasCalled, IsCalling, AreClosing}
 use Rattle.smp_stop_steps.proofs.Steps.Callings.{calling_same, calling_looked, IsNotClosing, calling_turned, closing_kept, calling_acked, idle_patch}
 use Rattle.smp_stop_steps.proofs.Steps.Callings.{carried_alone, calling_next, calling_ran}
-use Rattle.std.proofs.Common.{◌≡◌, ◌≢◌, ℕ, ◌+◌, ◌-◌, ◌≤◌, Bool, true, false, not, nat_lt, lt-ltb, le-ltb, eqb-true, eq-eqb, ne_eqb, ◌==◌, ◌&&◌}
-use Rattle.std.proofs.Common.{◌||◌, cond, sym, subst, refl, ap, ◌∙◌, ◌⊎◌, inl, inr, arith, ⊎_elim, Some, None, List, [], ◌∷◌, ◌++◌, Option, IfSome}
-use Rattle.std.proofs.lemmas.Bool.{cases_lt, cases_eq}
-use Rattle.smp_words.proofs.Puts.{at_test, put_all, put_same, put_other}
 use Rattle.smp_stop_steps.proofs.Steps.Kept.{MovesInside, StaysOpen, after, moves_early, moves_given, open_step, other_slots, owns_kept, put_twice}
 use Rattle.smp_stop_steps.proofs.State.Moves.{IsNoPatch, SaveMe}
 use Rattle.smp_stop_steps.proofs.State.Owns.{owns_at_leave}
@@ -14,30 +22,9 @@ use Rattle.smp_stop_steps.proofs.State.Patched.{patch_ends}
 use Rattle.smp_stop_steps.proofs.State.Phases.{is_open_inside, keeps_inside}
 use Rattle.smp_stop_steps.proofs.State.Acknowledged.{step_acknowledges, step_looks, step_raises, step_refills, sets_me}
 use Rattle.smp_stop_steps.proofs.State.Works.{weight_of_mask}
-use Rattle.smp_words.specs.Put.{put, put_word}
-use Rattle.smp_stop_steps.specs.Counts.{mask_weight, weight}
-use Rattle.smp_stop_steps.specs.Labels.{Agrees, Change, Patches, Patching, Reading, Whole, labels_in, StandsSet, reading_of, state_left, patch_answer}
-use Rattle.smp_stop_steps.specs.Past.{answer_now}
-use Rattle.smp_stop_steps.specs.Present.{OwnsKey, PresentShows, RunnerShows}
-use Rattle.smp_stop_steps.specs.Seats.{Alters, Fills, In, Rests, Seat, Sets, Stands, Turn, irq_of, turn_of}
-use Rattle.smp_stop_steps.specs.Shows.{StopShows}
-use Rattle.smp_stop_steps.specs.Slots.{AckShows, IsLevel, Keeps, OpenShows, IsPhaseOf}
-use Rattle.smp_stop_steps.specs.Sources.{Source}
-use Rattle.smp_stop_steps.specs.State.{Present, Setup, StopCall, StopState, Calling, Carries}
-use Rattle.smp_stop_steps.specs.Stop.{Inside, Nobody, Raises, Raising, Refills, Standing, Stop, acked}
-use Rattle.smp_stop_steps.specs.Stop.{acknowledged, is_inside, raised, refilled, stands}
-use Rattle.smp_stop_steps.specs.Tells.{acknowledges, first_readings, is_patch, leaves, looked_by, stored_open, stored_shut, told}
-use Rattle.smp_stop_steps.specs.Tells.{unpatched, with_stop, called_more, carried, carried_call}
-use Rattle.smp_words.specs.declared.seen.Act.TheVariants as act
-use Rattle.smp_words.specs.declared.field.Field.TheVariants.{Ack, State}
-use Rattle.smp_words.specs.declared.work.Kind.TheVariants.{Multi, One, Patch}
-use Rattle.smp_words.specs.declared.work.Kind.{Kind as KindOf}
-use Rattle.smp_words.specs.declared.work.Work.{Work}
-use Rattle.smp_words.specs.declared.word.Word.TheVariants.{Key, Slot}
-use Rattle.smp_words.specs.declared.word.Word.{Word}
-use Rattle.smp_labels.specs.Keys.{is_on, change_of}
-use Rattle.smp_mask.specs.Mask.{has}
-use Rattle.std.specs.List.{AllByRecursion}
+use Rattle.smp_stop_steps.specs.State.{Present, Carries}
+use Rattle.smp_stop_steps.specs.Stop.{Stop}
+use Rattle.smp_stop_steps.specs.act
 
 -- a look changes whether interrupts are on at phase 2 alone
 pub look_irq : (l a n p : ℕ) → n ≡ p → IsLevel p a → ((l ≡ a) ⊎ ((l ≡ a + 1) × (p ≡ l))) → n ≢ 2 → nat_lt l 2 ≡ nat_lt n 2

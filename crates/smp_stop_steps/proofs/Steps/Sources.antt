@@ -1,11 +1,16 @@
 -- The kinds of step of a source: the gate, the stores of begin, and the looks for the result.
-use Rattle.smp_stop_steps.proofs.State.Gates.{gate_free}
-use Rattle.smp_stop_steps.specs.Callings.{HasCompleted}
-use Rattle.smp_stop_steps.specs.KeyCounts.{CountShows}
-use Rattle.std.proofs.Common.{◌≡◌, ◌≢◌, ℕ, ◌+◌, ◌<◌, Bool, true, false, eq-eqb, ◌==◌, cond, sym, subst, refl, ap, ◌∙◌, arith, Some, None}
-use Rattle.std.proofs.Common.{List, [], ◌∷◌, ◌++◌}
+use Rattle.std.proofs.Common.{◌≡◌, ◌≢◌, ℕ, ◌+◌, ◌<◌, Bool, true, false, eq-eqb, ◌==◌, cond, sym, subst, refl, ap, ◌∙◌, arith, Some, None, List, [], ◌∷◌, ◌++◌}
 use Rattle.smp_words.proofs.Puts.{at_test, put_all, put_both, put_same, put_other}
 use Rattle.smp_words.proofs.SameWords.{one_place}
+use Rattle.smp_words.specs.Put.{place_of, same_field}
+use Rattle.smp_words.specs.Kinds.{kind_at, kind_word}
+use Rattle.smp_words.specs.declared.field.Field.TheVariants.{Ack, Active, Arg, Done, Func, Kind, Mask, Result, Roll, State, Todo}
+use Rattle.smp_stop_steps.specs.{HasCompleted, CountShows, put, put_word, unfinished, HasPast, answer_now, PresentShows, Seat, Closes, StopShows, DoneShows}
+use Rattle.smp_stop_steps.specs.{IsStored, begun_value, order, Collects, DraftShows, Drafts, IsDrafted, OwnerShows, Owns, Shut, Source, SourceShows, Setup}
+use Rattle.smp_stop_steps.specs.{StopState, Answering, Called, Completed, Ended, Ending, Inside, Last, Outside, Running, Standing, answer_of, closed}
+use Rattle.smp_stop_steps.specs.{is_inside, is_of, opened, drafted, drafts, stored_open, stored_shut, told, with_stop, Field, Kind as KindOf, Work, Gate, Key}
+use Rattle.smp_stop_steps.specs.{Slot, Word, has}
+use Rattle.smp_stop_steps.proofs.State.Gates.{gate_free}
 use Rattle.smp_stop_steps.proofs.Basics.Counts.{sum_zero}
 use Rattle.smp_stop_steps.proofs.State.Ends.{all_outside, collects_slot}
 use Rattle.smp_stop_steps.proofs.State.Entered.{step_collects, step_drafts, step_opens}
@@ -13,27 +18,8 @@ use Rattle.smp_stop_steps.proofs.Steps.Kept.{after, other_slots, past_same, sour
 use Rattle.smp_stop_steps.proofs.State.Owns.{mask_is}
 use Rattle.smp_stop_steps.proofs.State.Pasts.{past_collects, past_opens}
 use Rattle.smp_stop_steps.proofs.State.Raises.{in_machine}
-use Rattle.smp_words.specs.Put.{place_of, put, put_word, same_field}
-use Rattle.smp_stop_steps.specs.Counts.{unfinished}
-use Rattle.smp_stop_steps.specs.Past.{HasPast, answer_now}
-use Rattle.smp_stop_steps.specs.Present.{PresentShows}
-use Rattle.smp_stop_steps.specs.Seats.{Seat, Closes}
-use Rattle.smp_stop_steps.specs.Shows.{StopShows}
-use Rattle.smp_stop_steps.specs.Slots.{DoneShows, IsStored, begun_value, order}
-use Rattle.smp_words.specs.Kinds.{kind_at, kind_word}
-use Rattle.smp_stop_steps.specs.Sources.{Collects, DraftShows, Drafts, IsDrafted, OwnerShows, Owns, Shut, Source, SourceShows}
-use Rattle.smp_stop_steps.specs.State.{Setup, StopState}
-use Rattle.smp_stop_steps.specs.Stop.{Answering, Called, Completed, Ended, Ending, Inside, Last, Outside, Running, Standing, Stop, answer_of}
-use Rattle.smp_stop_steps.specs.Stop.{closed, is_inside, is_of, opened}
-use Rattle.smp_stop_steps.specs.Tells.{drafted, drafts, stored_open, stored_shut, told, with_stop}
-use Rattle.smp_words.specs.declared.seen.Act.TheVariants as act
-use Rattle.smp_words.specs.declared.field.Field.TheVariants.{Ack, Active, Arg, Done, Func, Kind, Mask, Result, Roll, State, Todo}
-use Rattle.smp_words.specs.declared.field.Field.{Field}
-use Rattle.smp_words.specs.declared.work.Kind.{Kind as KindOf}
-use Rattle.smp_words.specs.declared.work.Work.{Work}
-use Rattle.smp_words.specs.declared.word.Word.TheVariants.{Gate, Key, Slot}
-use Rattle.smp_words.specs.declared.word.Word.{Word}
-use Rattle.smp_mask.specs.Mask.{has}
+use Rattle.smp_stop_steps.specs.Stop.{Stop}
+use Rattle.smp_stop_steps.specs.act
 
 pub kind_back : (k : KindOf) → kind_at (kind_word k) ≡ k
 kind_back k = search arith

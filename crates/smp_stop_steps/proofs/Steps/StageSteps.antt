@@ -1,39 +1,26 @@
 -- Each step of a CPU's command keeps what the words show of the stops, and what was seen of it tells the stops after it.
+use Rattle.std.proofs.Common.{◌≡◌, ◌≢◌, ℕ, ◌+◌, ◌-◌, ◌^◌, ◌<◌, Bool, true, false, eq-eqb, eqb-true, ◌==◌, cond, sym, subst, refl, ap, ◌∙◌, ◌⊎◌, arith, nat_lt}
+use Rattle.std.proofs.Common.{Option, Some, None, length}
+use Rattle.smp_labels.proofs.Patched.{left_in_form, xor_same}
+use Rattle.smp_labels.specs.Kinds.{xor}
+use Rattle.smp_words.specs.Access.{one_less, put_if}
+use Rattle.smp_words.specs.Kinds.{kind_at}
+use Rattle.smp_words.specs.declared.field.Field.TheVariants.{Ack, Active, Arg, Done, Func, Kind, Mask, Result, Roll, State, Todo}
+use Rattle.smp_stop_steps.specs.{is_on, count_after, IsKeyWord, put, put_word, In, Rests, Seat, StopShows, HoldsGate, OwnsIf, SitsAt, SitsAtRest, SourceSits}
+use Rattle.smp_stop_steps.specs.{IsNudge, DoneShows, begun_value, order, Collects, Drafts, OwnerShows, Owns, Shut, Source, SourceShows, StopControlValue}
+use Rattle.smp_stop_steps.specs.{stop_ends, stop_goes, nudge_on, nudge_of, Setup, StopState, StopStep, at_then, state_after, Ended, Ending, Last, Running}
+use Rattle.smp_stop_steps.specs.{gate_told, told, Field, Begin, EnterActive, EnterKind, EnterMask, LoadDone, LoadResult, OpenGate, TakeGate, NudgeKey}
+use Rattle.smp_stop_steps.specs.{ExchangeKey, StopStage, Kind as KindOf, Work, Gate, Slot, Key, Word}
 use Rattle.smp_stop_steps.proofs.State.Gates.{gate_mine}
 use Rattle.smp_stop_steps.proofs.Steps.Same.{moved_source, still}
 use Rattle.smp_stop_steps.proofs.State.Patched.{lawful_when_on}
-use Rattle.smp_labels.proofs.Patched.{left_in_form, xor_same}
-use Rattle.smp_labels.specs.Kinds.{xor}
-use Rattle.smp_labels.specs.Keys.{is_on, count_after, IsKeyWord}
-use Rattle.std.proofs.Common.{◌≡◌, ◌≢◌, ℕ, ◌+◌, ◌-◌, ◌^◌, ◌<◌, Bool, true, false, eq-eqb, eqb-true, ◌==◌, cond, sym, subst, refl, ap, ◌∙◌, ◌⊎◌}
-use Rattle.std.proofs.Common.{arith, nat_lt, Option, Some, None, length}
 use Rattle.smp_stop_steps.proofs.Steps.Facts.{work_words}
 use Rattle.smp_stop_steps.proofs.Steps.Patching.{key_read, site_read, key_exchanged}
 use Rattle.smp_stop_steps.proofs.Steps.Sources.{done_loaded, field_stored, gate_opened, gate_taken, kind_back, result_loaded, roll_stored}
-use Rattle.smp_words.specs.Access.{one_less, put_if}
-use Rattle.smp_words.specs.Put.{put, put_word}
-use Rattle.smp_stop_steps.specs.Seats.{In, Rests, Seat}
-use Rattle.smp_stop_steps.specs.Shows.{StopShows}
-use Rattle.smp_stop_steps.specs.Sits.{HoldsGate, OwnsIf, Sits, SitsAt, SitsAtRest, SourceSits, IsNudge}
-use Rattle.smp_stop_steps.specs.Slots.{DoneShows, begun_value, order}
-use Rattle.smp_words.specs.Kinds.{kind_at}
-use Rattle.smp_stop_steps.specs.Sources.{Collects, Drafts, OwnerShows, Owns, Shut, Source, SourceShows}
-use Rattle.smp_stop_steps.specs.Stages.{StopControlValue, stop_ends, stop_goes, nudge_on, nudge_of}
-use Rattle.smp_stop_steps.specs.State.{Setup, StopState}
-use Rattle.smp_stop_steps.specs.Steps.{StopStep, at_then, state_after}
-use Rattle.smp_stop_steps.specs.Stop.{Ended, Ending, Last, Running}
-use Rattle.smp_stop_steps.specs.Tells.{gate_told, told}
-use Rattle.smp_words.specs.declared.seen.Act.TheVariants as act
-use Rattle.smp_words.specs.declared.seen.Note.TheVariants as note
-use Rattle.smp_words.specs.declared.field.Field.TheVariants.{Ack, Active, Arg, Done, Func, Kind, Mask, Result, Roll, State, Todo}
-use Rattle.smp_words.specs.declared.field.Field.{Field}
-use Rattle.smp_stop_steps.specs.declared.stage.StopStage.TheVariants.{Begin, EnterActive, EnterKind, EnterMask, LoadDone, LoadResult, OpenGate}
-use Rattle.smp_stop_steps.specs.declared.stage.StopStage.TheVariants.{ReadKey, ReadSite, TakeGate, NudgeKey, ExchangeKey}
-use Rattle.smp_stop_steps.specs.declared.stage.StopStage.{StopStage}
-use Rattle.smp_words.specs.declared.work.Kind.{Kind as KindOf}
-use Rattle.smp_words.specs.declared.work.Work.{Work}
-use Rattle.smp_words.specs.declared.word.Word.TheVariants.{Gate, Slot, Key}
-use Rattle.smp_words.specs.declared.word.Word.{Word}
+use Rattle.smp_stop_steps.specs.Sits.{Sits}
+use Rattle.smp_stop_steps.specs.declared.stage.StopStage.TheVariants.{ReadKey, ReadSite}
+use Rattle.smp_stop_steps.specs.act
+use Rattle.smp_stop_steps.specs.note
 
 -- a nudge moves a count by one
 one_apart : (up : Bool) (n new : ℕ) → count_after (nudge_of up) n ≡ Some new → (new ≡ n + 1) ⊎ (n ≡ new + 1)

@@ -1,32 +1,14 @@
 -- No state word is ever more than 5, whether a stop is open in its slot or not.
 use Rattle.std.proofs.Common.{ℕ, ◌+◌, ◌≤◌, Bool, true, false, ◌==◌, cond, Some, arith, None}
-use Rattle.smp_words.specs.Access.{at_after, put_if}
-use Rattle.smp_words.specs.Put.{put_word}
-use Rattle.smp_stop_steps.specs.Labels.{Change}
-use Rattle.smp_stop_steps.specs.Seats.{Seat, Sets}
-use Rattle.smp_stop_steps.specs.Shows.{StopShows}
-use Rattle.smp_stop_steps.specs.Sits.{SitsAt, SitsIn, SitsInRound}
-use Rattle.smp_stop_steps.specs.Slots.{begun_value}
-use Rattle.smp_stop_steps.specs.Sources.{Source}
-use Rattle.smp_stop_steps.specs.Stages.{StopControlValue, change_at, completion_access, label_word, round_access, stop_access}
-use Rattle.smp_stop_steps.specs.State.{Setup, StopState}
-use Rattle.smp_stop_steps.specs.Stop.{first_phase}
-use Rattle.smp_words.specs.declared.field.Field.{Field}
-use Rattle.smp_words.specs.declared.field.Field.TheVariants as field
-use Rattle.smp_stop_steps.specs.declared.stage.CompletionStage.TheVariants as completion
-use Rattle.smp_stop_steps.specs.declared.stage.CompletionStage.{CompletionStage}
-use Rattle.smp_stop_steps.specs.declared.stage.RoundStage.TheVariants as round
-use Rattle.smp_stop_steps.specs.declared.stage.RoundStage.{RoundStage}
-use Rattle.smp_stop_steps.specs.declared.stage.StopStage.TheVariants.{Advance, Begin, Close, Complete, Enter, EnterActive, EnterKind, EnterMask}
-use Rattle.smp_stop_steps.specs.declared.stage.StopStage.TheVariants.{LoadDone, LoadResult, OpenGate, ReadKey, ReadSite, TakeGate, NudgeKey}
-use Rattle.smp_stop_steps.specs.declared.stage.StopStage.TheVariants.{ExchangeKey}
-use Rattle.smp_stop_steps.specs.declared.stage.StopStage.{StopStage}
-use Rattle.smp_stop_steps.specs.declared.stage.Visit.{Visit}
-use Rattle.smp_words.specs.declared.work.Kind.{Kind}
-use Rattle.smp_words.specs.declared.work.Work.{Work}
-use Rattle.smp_words.specs.declared.word.Word.TheVariants.{Gate, Slot, Key}
-use Rattle.smp_words.specs.declared.word.Word.{Word}
-use Rattle.smp_labels.specs.declared.patch.Place.{Place}
+use Rattle.smp_words.specs.Access.{put_if}
+use Rattle.smp_stop_steps.specs.{at_after, put_word, Change, Seat, Sets, StopShows, SitsAt, SitsIn, SitsInRound, begun_value, Source, StopControlValue}
+use Rattle.smp_stop_steps.specs.{change_at, completion_access, label_word, round_access, stop_access, Setup, StopState, first_phase, Field, CompletionStage}
+use Rattle.smp_stop_steps.specs.{RoundStage, Advance, Begin, Close, Complete, Enter, EnterActive, EnterKind, EnterMask, LoadDone, LoadResult, OpenGate}
+use Rattle.smp_stop_steps.specs.{TakeGate, NudgeKey, ExchangeKey, StopStage, Visit, Kind, Work, Gate, Slot, Key, Word, Place}
+use Rattle.smp_stop_steps.specs.declared.stage.StopStage.TheVariants.{ReadKey, ReadSite}
+use Rattle.smp_stop_steps.specs.field
+use Rattle.smp_stop_steps.specs.completion
+use Rattle.smp_stop_steps.specs.round
 
 -- each state word is a phase, or 5
 abbrev pub ArePhases : (Word → ℕ) → Type 0

@@ -5,16 +5,11 @@ use Rattle.std.proofs.lemmas.Int.{to_z-of_z}
 use Rattle.std.specs.Prelude.{slice_set}
 use Rattle.smp_words.proofs.Puts.{at_test}
 use Rattle.smp_words.specs.Commands.{FitsCommand}
-use Rattle.smp_words.specs.declared.command.Command.{Command}
-use Rattle.smp_stop_steps.specs.AnswerWords.{AnswersAreTaken, BeginsWith, HasI32Answers, IsI32Word, StageFits, VisitFits}
-use Rattle.smp_stop_steps.specs.Stages.{StopControlValue}
-use Rattle.smp_stop_steps.specs.Starts.{answer_word, in_visit, stop_first}
-use Rattle.smp_stop_steps.specs.Value.{stop_control_of}
-use Rattle.smp_stop_steps.specs.declared.stage.CompletionStage.TheVariants as completion
-use Rattle.smp_stop_steps.specs.declared.stage.RoundStage.TheVariants as round
-use Rattle.smp_stop_steps.specs.declared.stage.StopStage.TheVariants.{Advance, Complete}
-use Rattle.smp_stop_steps.specs.declared.stage.Visit.{Visit}
+use Rattle.smp_stop_steps.specs.{Command, AnswersAreTaken, BeginsWith, HasI32Answers, IsI32Word, StageFits, VisitFits, StopControlValue, answer_word}
+use Rattle.smp_stop_steps.specs.{in_visit, stop_first, stop_control_of, Advance, Complete, Visit}
 use Rattle.smp_stop_steps.proofs.TheMachine.Values.{stop_controls_by_cpu}
+use Rattle.smp_stop_steps.specs.completion
+use Rattle.smp_stop_steps.specs.round
 
 -- the word of an i32
 word_fits : (answer : ℤ) → FitsSigned w32 answer → IsI32Word (answer_word answer)

@@ -1,31 +1,18 @@
 -- A command that may begin begins where its CPU sits, and changes no stop.
-use Rattle.smp_stop_steps.proofs.State.Gates.{gate_mine}
 use Rattle.std.proofs.Common.{◌≡◌, ℕ, ◌<◌, cond, sym, subst, inl, arith, Option, Some, None, List, length}
+use Rattle.std.specs.Prelude.{slice_set}
 use Rattle.smp_words.proofs.Puts.{at_test, put_all}
+use Rattle.smp_words.specs.declared.field.Field.TheVariants.{Kind}
+use Rattle.smp_stop_steps.specs.{put, MayBegin, Rests, Seat, StopShows, OwnsIf, SitsAtRest, SitsIn, SourceSits, Shut, Source, StopControlValue, stop_goes}
+use Rattle.smp_stop_steps.specs.{Setup, StopState, StopWords, stop_number, StopsShow, stop_control_of, Advance, Begin, Complete, Enter, LoadDone, OpenGate}
+use Rattle.smp_stop_steps.specs.{NudgeKey, TakeGate, StopStage, Visit, Gate, Word, CarriesIn, Calling}
+use Rattle.smp_stop_steps.proofs.State.Gates.{gate_mine}
 use Rattle.smp_stop_steps.proofs.Steps.Same.{put_same_fn}
 use Rattle.smp_stop_steps.proofs.TheMachine.Values.{stop_controls_by_cpu}
-use Rattle.smp_words.specs.Put.{put}
-use Rattle.smp_stop_steps.specs.Begins.{MayBegin}
-use Rattle.smp_stop_steps.specs.Seats.{Rests, Seat}
-use Rattle.smp_stop_steps.specs.Shows.{StopShows}
-use Rattle.smp_stop_steps.specs.Sits.{OwnsIf, Sits, SitsAtRest, SitsIn, SourceSits}
-use Rattle.smp_stop_steps.specs.Sources.{Shut, Source}
-use Rattle.smp_stop_steps.specs.Stages.{StopControlValue, stop_goes}
-use Rattle.smp_stop_steps.specs.State.{Setup, StopState}
-use Rattle.smp_stop_steps.specs.Table.{StopWords, stop_number}
-use Rattle.smp_stop_steps.specs.Value.{StopsShow, stop_control_of}
-use Rattle.smp_words.specs.declared.field.Field.TheVariants.{Kind}
-use Rattle.smp_stop_steps.specs.declared.stage.CompletionStage.TheVariants as completion
-use Rattle.smp_stop_steps.specs.declared.stage.RoundStage.TheVariants as round
-use Rattle.smp_stop_steps.specs.declared.stage.StopStage.TheVariants.{Advance, Begin, Complete, Enter, LoadDone, OpenGate, NudgeKey, ReadKey, ReadSite}
-use Rattle.smp_stop_steps.specs.declared.stage.StopStage.TheVariants.{TakeGate}
-use Rattle.smp_stop_steps.specs.declared.stage.StopStage.{StopStage}
-use Rattle.smp_stop_steps.specs.declared.stage.Visit.{Visit}
-use Rattle.smp_words.specs.declared.word.Word.TheVariants.{Gate}
-use Rattle.smp_words.specs.declared.word.Word.{Word}
-use Rattle.std.specs.Prelude.{slice_set}
-use Rattle.smp_stop_steps.specs.Carries.{CarriesIn}
-use Rattle.smp_stop_steps.specs.State.{Calling}
+use Rattle.smp_stop_steps.specs.Sits.{Sits}
+use Rattle.smp_stop_steps.specs.declared.stage.StopStage.TheVariants.{ReadKey, ReadSite}
+use Rattle.smp_stop_steps.specs.completion
+use Rattle.smp_stop_steps.specs.round
 
 module _ (u : Setup) (p : StopState) (at : Word → ℕ) (seat : ℕ → Seat) (source : ℕ → Source) (h : StopShows u p at seat source) (c : StopControlValue) (me : ℕ)
     (s : Sits u me (at Gate) c (seat me) (source me)) (outside : c.stage ≡ None) where

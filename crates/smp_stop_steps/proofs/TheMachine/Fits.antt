@@ -1,23 +1,13 @@
 -- Tests of what a command asks for: what they mean of numbers and masks, and of a work.
-use Rattle.std.proofs.Common.{◌≡◌, ◌≢◌, ℕ, zero, suc, ◌<◌, ◌≤◌, ◌^◌, Bool, true, false, ◌==◌, ◌&&◌, not, nat_lt, lt-ltb, lit<, cond, sym, refl}
-use Rattle.std.proofs.Common.{ap, ◌∙◌, ◌⊎◌, inl, inr, arith, Option, Some, None, bit_and, eqb-true, eq-eqb, ne_eqb}
+use Rattle.std.proofs.Common.{◌≡◌, ◌≢◌, ℕ, zero, suc, ◌<◌, ◌≤◌, ◌^◌, Bool, true, false, ◌==◌, ◌&&◌, not, nat_lt, lt-ltb, lit<, cond, sym, refl, ap, ◌∙◌, ◌⊎◌}
+use Rattle.std.proofs.Common.{inl, inr, arith, Option, Some, None, bit_and, eqb-true, eq-eqb, ne_eqb}
 use Rattle.std.proofs.Math.Pow.{pow-lt}
 use Rattle.std.proofs.lemmas.Bool.{ltb-true, cases_eq}
 use Rattle.std.proofs.lemmas.Bool.Decides.{nat_tests}
 use Rattle.std.proofs.lemmas.Nat.Bits.{bit_at-lt, bit_at_and, bit_at-pow_same, bit_at-pow_other}
-use Rattle.smp_mask.specs.Mask.{has}
 use Rattle.smp_mask.proofs.Sets.{has_above, has_and, same_members}
-use Rattle.smp_mask.specs.declared.error.SmpError.{SmpError}
-use Rattle.smp_words.specs.Size.{cpus}
-use Rattle.smp_words.specs.declared.work.Kind.{Kind}
-use Rattle.smp_words.specs.declared.work.Kind.TheVariants.{One}
-use Rattle.smp_words.specs.declared.work.Work.{Work}
-use Rattle.smp_stop_steps.specs.Counts.{mask_weight}
-use Rattle.smp_stop_steps.specs.Sources.{IsOfKind, IsPatchWork}
-use Rattle.smp_stop_steps.specs.Starts.{fits_kind, fits_patch, fits_work, terms_of, unless}
-use Rattle.smp_stop_steps.specs.State.{Setup}
-use Rattle.smp_stop_steps.specs.Tells.{is_one}
-use Rattle.smp_stop_steps.specs.Value.{StopsValue, first_below, setup_of}
+use Rattle.smp_stop_steps.specs.{has, SmpError, cpus, Kind, One, Work, mask_weight, IsOfKind, IsPatchWork, fits_kind, fits_patch, fits_work, terms_of, unless}
+use Rattle.smp_stop_steps.specs.{Setup, is_one, StopsValue, first_below, setup_of}
 use Rattle.smp_stop_steps.specs.declared.start.Terms.{Terms}
 
 -- no error: the test has passed

@@ -1,19 +1,13 @@
 -- What the code of a step makes of the stop half of a machine.
 use Rattle.std.proofs.Common.{◌≡◌, ℕ, Some, List, sym, subst, refl, arith}
 use Rattle.std.proofs.lemmas.List.{length-set}
-use Rattle.smp_stop_steps.specs.State.{StopState}
-use Rattle.smp_stop_steps.specs.Tells.{tells}
-use Rattle.smp_stop_steps.specs.Stages.{StopControlValue, stop_outcome, answer_at}
-use Rattle.smp_stop_steps.specs.Table.{StopWords, stop_number}
-use Rattle.smp_stop_steps.specs.Value.{StopsValue, StopsShow, IsStopTable, setup_of, stop_control_of}
-use Rattle.smp_stop_steps.specs.Machine.{AreSoundStops, stop_found_at, stop_seen_at, stop_stepped}
+use Rattle.smp_stop_steps.specs.{StopState, tells, StopControlValue, stop_outcome, answer_at, StopWords, stop_number, StopsValue, StopsShow, IsStopTable}
+use Rattle.smp_stop_steps.specs.{setup_of, stop_control_of, AreSoundStops, stop_found_at, stop_seen_at, stop_stepped, AreI32Words, HasI32Answers, Seen}
+use Rattle.smp_stop_steps.specs.{StopStage}
 use Rattle.smp_stop_steps.proofs.Steps.StateWords.{ArePhases}
-use Rattle.smp_stop_steps.specs.AnswerWords.{AreI32Words, HasI32Answers}
 use Rattle.smp_stop_steps.proofs.Steps.AnswerWords.{keeps_answers}
 use Rattle.smp_stop_steps.proofs.TheMachine.Answered.{answers_set}
 use Rattle.smp_stop_steps.proofs.TheMachine.Values.{stop_inside_below, stop_value_shown, stop_table_shown, stop_phases_kept, stop_results_kept}
-use Rattle.smp_words.specs.declared.seen.Seen.{Seen}
-use Rattle.smp_stop_steps.specs.declared.stage.StopStage.{StopStage}
 
 pub record StopMade (v : StopsValue) (cpu : ℕ) (stage : StopStage) (seen : Seen) (table' : StopWords) (controls' : List StopControlValue) : Type 0 where
   pub at_stage : (stop_control_of v.controls cpu).stage ≡ Some stage

@@ -1,25 +1,16 @@
 -- A stop half as it is made shows that nothing was begun.
-use Rattle.std.proofs.Common.{◌≡◌, ◌≢◌, ℕ, zero, suc, ◌-◌, ◌<◌, true, false, List, [], ◌∷◌, ◌++◌, length, map, get_or, replicate}
-use Rattle.std.proofs.Common.{refl, arith, eq-eqb, ne_eqb}
+use Rattle.std.proofs.Common.{◌≡◌, ◌≢◌, ℕ, zero, suc, ◌-◌, ◌<◌, true, false, List, [], ◌∷◌, ◌++◌, length, map, get_or, replicate, refl, arith, eq-eqb, ne_eqb}
 use Rattle.std.proofs.lemmas.List.{length-map}
-use Rattle.smp_mask.specs.Mask.{has}
 use Rattle.smp_labels.specs.Entries.{entry_word}
 use Rattle.smp_labels.specs.Labels.{Labels, AreLabels}
 use Rattle.smp_labels.specs.Law.{IsLawful}
 use Rattle.smp_labels.specs.declared.entries.Entry.{Entry}
-use Rattle.smp_labels.specs.declared.words.TheConstants.{MOST_SITES, MOST_KEYS}
-use Rattle.smp_words.specs.Size.{cpus}
-use Rattle.smp_stop_steps.specs.Labels.{labels_in}
-use Rattle.smp_stop_steps.specs.State.{no_stops}
-use Rattle.smp_stop_steps.specs.Seats.{Free}
-use Rattle.smp_stop_steps.specs.Sources.{Shut}
-use Rattle.smp_stop_steps.specs.Stages.{StopControlValue, stop_outside}
-use Rattle.smp_stop_steps.specs.Table.{StopWords, stop_number, slot_cell}
-use Rattle.smp_stop_steps.specs.Value.{StopsShow, setup_of, first_below}
 use Rattle.smp_words.specs.declared.size.TheConstants.{SLOT_WORDS}
-use Rattle.smp_words.specs.declared.field.Field.TheVariants as field
 use Rattle.smp_words.proofs.Zeros.{get_or-same, zero_at}
+use Rattle.smp_stop_steps.specs.{has, MOST_SITES, MOST_KEYS, cpus, labels_in, no_stops, Free, Shut, StopControlValue, stop_outside, StopWords, stop_number}
+use Rattle.smp_stop_steps.specs.{slot_cell, StopsShow, setup_of, first_below}
 use Rattle.smp_stop_steps.proofs.Steps.Facts.{no_stops_shown}
+use Rattle.smp_stop_steps.specs.field
 
 -- the least member, where there is one
 pub first_is : (mask k : ℕ) → (first_below mask k ≡ k → (c : ℕ) → c < k → has mask c ≡ false) × (first_below mask k ≢ k → (first_below mask k < k) ×

@@ -1,35 +1,18 @@
 -- Each refusal of a command of the stop half is that of the state of the stops.
-use Rattle.std.proofs.Common.{◌≡◌, ◌≢◌, ℕ, ◌+◌, ◌<◌, Bool, true, false, ◌&&◌, nat_lt, lt-ltb, sym, subst, ap, ◌∙◌}
-use Rattle.std.proofs.Common.{arith, Option, Some, None, bit_and, eq-eqb, ne_eqb}
+use Rattle.std.proofs.Common.{◌≡◌, ◌≢◌, ℕ, ◌+◌, ◌<◌, Bool, true, false, ◌&&◌, nat_lt, lt-ltb, sym, subst, ap, ◌∙◌, arith, Option, Some, None, bit_and, eq-eqb}
+use Rattle.std.proofs.Common.{ne_eqb}
 use Rattle.std.proofs.lemmas.Bool.{ltb-true}
 use Rattle.std.proofs.lemmas.List.{length-map}
-use Rattle.smp_mask.specs.declared.error.SmpError.{SmpError}
-use Rattle.smp_mask.specs.declared.error.SmpError.TheVariants as error
-use Rattle.smp_words.specs.Size.{cpus}
-use Rattle.smp_words.specs.declared.command.Command.{Command}
-use Rattle.smp_words.specs.declared.work.Kind.{Kind}
-use Rattle.smp_words.specs.declared.work.Kind.TheVariants.{One}
-use Rattle.smp_words.specs.declared.work.Work.{Work}
-use Rattle.smp_words.specs.declared.word.Word.TheVariants.{Gate}
-use Rattle.smp_stop_steps.specs.Refusals.{BeginRefuses, IsRefusal, MayAdvance, MayEnter, MayFinish, MayRun, RefusesByState, Refuses}
-use Rattle.smp_stop_steps.specs.Seats.{Stands}
-use Rattle.smp_stop_steps.specs.Shows.{gate_word}
-use Rattle.smp_stop_steps.specs.Sits.{OwnsIf, SitsAt, SitsAtRest, SourceSits}
-use Rattle.smp_stop_steps.specs.Stages.{StopControlValue}
-use Rattle.smp_stop_steps.specs.Starts.{begin_refusal, has_slot, is_free, may_advance, may_finish, may_run, refusal_on, terms_of, unless}
-use Rattle.smp_stop_steps.specs.State.{Setup, StopState}
-use Rattle.smp_stop_steps.specs.Stop.{Inside}
-use Rattle.smp_stop_steps.specs.Table.{stop_number}
-use Rattle.smp_stop_steps.specs.Tells.{is_one}
-use Rattle.smp_stop_steps.specs.Value.{StopsValue, StopShown, setup_of, stop_control_of}
-use Rattle.smp_stop_steps.specs.declared.stage.StopStage.{StopStage}
-use Rattle.smp_stop_steps.specs.declared.stage.Visit.{Visit}
+use Rattle.smp_stop_steps.specs.{SmpError, cpus, Command, Kind, One, Work, Gate, BeginRefuses, IsRefusal, MayAdvance, MayEnter, MayFinish, MayRun}
+use Rattle.smp_stop_steps.specs.{RefusesByState, Refuses, Stands, gate_word, OwnsIf, SitsAt, SitsAtRest, SourceSits, StopControlValue, begin_refusal}
+use Rattle.smp_stop_steps.specs.{has_slot, is_free, may_advance, may_finish, may_run, refusal_on, terms_of, unless, Setup, StopState, Inside, stop_number}
+use Rattle.smp_stop_steps.specs.{is_one, StopsValue, StopShown, setup_of, stop_control_of, StopStage, Visit}
 use Rattle.smp_stop_steps.specs.declared.start.Terms.{Terms}
 use Rattle.smp_stop_steps.proofs.State.Gates.{gate_mine}
-use Rattle.smp_stop_steps.proofs.State.Phases.{is_open_inside}
+use Rattle.smp_stop_steps.proofs.State.Phases.{is_open_inside, keeps_inside}
 use Rattle.smp_stop_steps.proofs.Steps.Completions.{one_phase}
-use Rattle.smp_stop_steps.proofs.State.Phases.{keeps_inside}
 use Rattle.smp_stop_steps.proofs.TheMachine.Fits.{both, is_kind, is_one_kind, is_same, ne_false, not_one, not_true, of_both, some_outside, within, work_fits}
+use Rattle.smp_stop_steps.specs.error
 
 -- a test that says when a command may start
 refuses : (b : Bool) (e : SmpError) (may : Type 0) → (b ≡ true → may) → (b ≡ false → may → ⊥) → Refuses may e (unless b e)

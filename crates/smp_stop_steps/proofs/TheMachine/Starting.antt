@@ -1,29 +1,15 @@
 -- A command of the stop half that may start may begin at its first stage.
-use Rattle.std.proofs.Common.{◌≡◌, ℕ, ◌+◌, ◌<◌, ◌^◌, Bool, true, false, ◌==◌, ◌&&◌, nat_lt, cond}
-use Rattle.std.proofs.Common.{arith, Option, Some, None, bit_and}
+use Rattle.std.proofs.Common.{◌≡◌, ℕ, ◌+◌, ◌<◌, ◌^◌, Bool, true, false, ◌==◌, ◌&&◌, nat_lt, cond, arith, Option, Some, None, bit_and}
 use Rattle.std.proofs.lemmas.Bool.{ltb-true}
 use Rattle.std.proofs.lemmas.List.{length-map}
-use Rattle.smp_mask.specs.Mask.{has}
-use Rattle.smp_words.specs.Size.{cpus}
 use Rattle.smp_words.specs.Commands.{FitsCommand}
+use Rattle.smp_stop_steps.specs.{has, cpus, MayBegin, MayBeginAt, IsWork, StopControlValue, completes_from, begin_refusal, refusal_on, stop_first}
+use Rattle.smp_stop_steps.specs.{stop_refusal, terms_of, has_slot, is_free, in_visit, may_advance, may_run, may_finish, Setup, stop_number, StopsValue}
+use Rattle.smp_stop_steps.specs.{setup_of, stop_control_of, Command, StopStage, Advance, Complete, Visit, Work, Gate}
 use Rattle.smp_stop_steps.proofs.TheMachine.Fits.{both, if_passed, is_kind, is_one_kind, is_same, ne_false, not_one, not_true, passed, within}
-use Rattle.smp_stop_steps.specs.Begins.{MayBegin, MayBeginAt}
-use Rattle.smp_stop_steps.specs.Sources.{IsWork}
-use Rattle.smp_stop_steps.specs.Stages.{StopControlValue, completes_from}
-use Rattle.smp_stop_steps.specs.Starts.{begin_refusal, refusal_on, stop_first, stop_refusal, terms_of}
-use Rattle.smp_stop_steps.specs.Starts.{has_slot, is_free, in_visit, may_advance, may_run, may_finish}
-use Rattle.smp_stop_steps.specs.State.{Setup}
-use Rattle.smp_stop_steps.specs.Table.{stop_number}
-use Rattle.smp_stop_steps.specs.Value.{StopsValue, setup_of, stop_control_of}
-use Rattle.smp_words.specs.declared.command.Command.{Command}
-use Rattle.smp_stop_steps.specs.declared.stage.CompletionStage.TheVariants as completion
-use Rattle.smp_stop_steps.specs.declared.stage.RoundStage.TheVariants as round
-use Rattle.smp_stop_steps.specs.declared.stage.StopStage.{StopStage}
-use Rattle.smp_stop_steps.specs.declared.stage.StopStage.TheVariants.{Advance, Complete}
-use Rattle.smp_stop_steps.specs.declared.stage.Visit.{Visit}
 use Rattle.smp_stop_steps.specs.declared.start.Terms.{Terms}
-use Rattle.smp_words.specs.declared.work.Work.{Work}
-use Rattle.smp_words.specs.declared.word.Word.TheVariants.{Gate}
+use Rattle.smp_stop_steps.specs.completion
+use Rattle.smp_stop_steps.specs.round
 
 -- a stage that a CPU may begin at, where there is one
 abbrev MayBeginIf : Setup → ℕ → ℕ → StopControlValue → Option StopStage → Type 0

@@ -1,18 +1,7 @@
 -- What each step that a stop half may make next keeps.
 use Rattle.std.proofs.Common.{◌≡◌, ℕ, ◌<◌, List, Option, Some, length, arith}
-use Rattle.smp_words.specs.Access.{word_of}
-use Rattle.smp_words.specs.declared.seen.Note.{Note}
-use Rattle.smp_stop_steps.specs.Labels.{Change}
-use Rattle.smp_stop_steps.specs.Notes.{NoteFits, StopNoteFits}
-use Rattle.smp_stop_steps.specs.Stages.{stop_access, store_of}
-use Rattle.smp_stop_steps.specs.Steps.{note_then, state_after}
-use Rattle.smp_stop_steps.specs.declared.stage.StopStage.{StopStage}
-use Rattle.smp_words.specs.Size.{cpus}
-use Rattle.smp_stop_steps.specs.State.{StopState}
-use Rattle.smp_stop_steps.specs.StepLaws.{StepsKeepLaws, StopNoteTold}
-use Rattle.smp_stop_steps.specs.Table.{stop_number}
-use Rattle.smp_stop_steps.specs.Value.{StopsValue, StopShown, setup_of, stop_control_of}
-use Rattle.smp_stop_steps.specs.Machine.{AreSoundStops}
+use Rattle.smp_stop_steps.specs.{word_of, Note, Change, NoteFits, StopNoteFits, stop_access, store_of, note_then, state_after, StopStage, cpus, StopState}
+use Rattle.smp_stop_steps.specs.{StepsKeepLaws, StopNoteTold, stop_number, StopsValue, StopShown, setup_of, stop_control_of, AreSoundStops}
 use Rattle.smp_stop_steps.proofs.Steps.AnswerWords.{keeps_answers}
 use Rattle.smp_stop_steps.proofs.Steps.CallSteps.{call_step}
 use Rattle.smp_stop_steps.proofs.Steps.NoteSteps.{note_fits}

@@ -1,47 +1,30 @@
 -- A step, over a stop table and a list of controls.
-use Rattle.smp_stop_steps.specs.Carries.{CarriesIn}
-use Rattle.smp_stop_steps.proofs.Steps.CallSteps.{call_step}
-use Rattle.std.proofs.Common.{◌≡◌, ◌≢◌, ℕ, ◌+◌, ◌<◌, ◌≤◌, Bool, cond, sym, subst, ap, ◌∙◌, arith, Option, Some, None}
-use Rattle.std.proofs.Common.{List, [], ◌∷◌, length, length-append, length-take-le, take, ◌^◌}
+use Rattle.std.proofs.Common.{◌≡◌, ◌≢◌, ℕ, ◌+◌, ◌<◌, ◌≤◌, Bool, cond, sym, subst, ap, ◌∙◌, arith, Option, Some, None, List, [], ◌∷◌, length, length-append}
+use Rattle.std.proofs.Common.{length-take-le, take, ◌^◌}
 use Rattle.std.proofs.lemmas.List.{get_or-set_same, get_or-set_other, get_or_past}
 use Rattle.std.proofs.lemmas.Bool.{cases_lt}
 use Rattle.std.specs.Prelude.{slice_set}
 use Rattle.smp_words.proofs.Puts.{at_test}
+use Rattle.smp_labels.proofs.Stores.{entries_kept}
+use Rattle.smp_labels.specs.Entries.{IsEntryWord, entry_at}
+use Rattle.smp_labels.specs.Law.{Table}
+use Rattle.smp_labels.specs.Plans.{site_change}
+use Rattle.smp_stop_steps.specs.{CarriesIn, AreI32Words, HasI32Answers, word_of, put, cpus, LabelsShow, Patches, Patching, Whole, labels_in, Rests, HoldsGate}
+use Rattle.smp_stop_steps.specs.{SitsAt, SitsInRound, changes_of, FitsAccess, FitsRound, FitsStop, StopControlValue, round_access, stop_access, Setup}
+use Rattle.smp_stop_steps.specs.{StopState, at_then, control_then, state_after, StopWords, stop_number, stop_words_after, IsStopTable, StopsShow}
+use Rattle.smp_stop_steps.specs.{stop_control_of, RoundStage, Advance, Begin, Close, Complete, Enter, EnterActive, EnterKind, EnterMask, LoadDone, LoadResult}
+use Rattle.smp_stop_steps.specs.{OpenGate, TakeGate, NudgeKey, ExchangeKey, StopStage, Visit, Work, Entry, Gate, Word, is_on, site_changes, MOST_SITES}
+use Rattle.smp_stop_steps.proofs.Steps.CallSteps.{call_step}
 use Rattle.smp_stop_steps.proofs.Steps.CompletionSteps.{stop_step_shown}
 use Rattle.smp_stop_steps.proofs.Steps.Facts.{work_words}
 use Rattle.smp_stop_steps.proofs.TheMachine.Named.{gate_stays, stage_named, work_in}
-use Rattle.smp_stop_steps.specs.AnswerWords.{AreI32Words, HasI32Answers}
 use Rattle.smp_stop_steps.proofs.Steps.AnswerWords.{keeps_answers}
 use Rattle.smp_stop_steps.proofs.Steps.StateWords.{ArePhases, phases_after}
 use Rattle.smp_stop_steps.proofs.TheMachine.Tables.{IsStopWord, stop_words_by_name, table_after}
-use Rattle.smp_words.specs.Access.{word_of}
-use Rattle.smp_words.specs.Put.{put}
-use Rattle.smp_words.specs.Size.{cpus}
-use Rattle.smp_stop_steps.specs.Labels.{LabelsShow, Patches, Patching, Whole, labels_in}
-use Rattle.smp_stop_steps.specs.Seats.{Rests}
-use Rattle.smp_stop_steps.specs.Sits.{HoldsGate, Sits, SitsAt, SitsInRound, changes_of}
-use Rattle.smp_stop_steps.specs.Stages.{FitsAccess, FitsRound, FitsStop, StopControlValue, round_access, stop_access}
-use Rattle.smp_stop_steps.specs.State.{Setup, StopState}
-use Rattle.smp_stop_steps.specs.Steps.{at_then, control_then, state_after}
-use Rattle.smp_stop_steps.specs.Table.{StopWords, stop_number, stop_words_after}
-use Rattle.smp_stop_steps.specs.Value.{IsStopTable, StopsShow, stop_control_of}
-use Rattle.smp_stop_steps.specs.declared.stage.CompletionStage.TheVariants as completion
-use Rattle.smp_stop_steps.specs.declared.stage.RoundStage.TheVariants as round
-use Rattle.smp_stop_steps.specs.declared.stage.RoundStage.{RoundStage}
-use Rattle.smp_stop_steps.specs.declared.stage.StopStage.TheVariants.{Advance, Begin, Close, Complete, Enter, EnterActive, EnterKind, EnterMask}
-use Rattle.smp_stop_steps.specs.declared.stage.StopStage.TheVariants.{LoadDone, LoadResult, OpenGate, ReadKey, ReadSite, TakeGate, NudgeKey}
-use Rattle.smp_stop_steps.specs.declared.stage.StopStage.TheVariants.{ExchangeKey}
-use Rattle.smp_stop_steps.specs.declared.stage.StopStage.{StopStage}
-use Rattle.smp_stop_steps.specs.declared.stage.Visit.{Visit}
-use Rattle.smp_words.specs.declared.work.Work.{Work}
-use Rattle.smp_words.specs.declared.word.Word.TheVariants.{Entry, Gate}
-use Rattle.smp_words.specs.declared.word.Word.{Word}
-use Rattle.smp_labels.proofs.Stores.{entries_kept}
-use Rattle.smp_labels.specs.Entries.{IsEntryWord, entry_at}
-use Rattle.smp_labels.specs.Keys.{is_on}
-use Rattle.smp_labels.specs.Law.{Table}
-use Rattle.smp_labels.specs.Plans.{site_change, site_changes}
-use Rattle.smp_labels.specs.declared.words.TheConstants.{MOST_SITES}
+use Rattle.smp_stop_steps.specs.Sits.{Sits}
+use Rattle.smp_stop_steps.specs.declared.stage.StopStage.TheVariants.{ReadKey, ReadSite}
+use Rattle.smp_stop_steps.specs.completion
+use Rattle.smp_stop_steps.specs.round
 
 -- the controls by CPU, with one of them set
 pub stop_controls_by_cpu : (controls : List StopControlValue) (me cpu : ℕ) (x : StopControlValue) → me < length controls →

@@ -1,11 +1,7 @@
 -- What a kept stop half takes.
 use Rattle.std.proofs.Common.{◌≡◌, Bool, true, List, Option, ap, arith}
 use Rattle.smp_sparse.specs.Count.{Tells}
-use Rattle.smp_stop_steps.specs.Labels.{Change}
-use Rattle.smp_stop_steps.specs.Stages.{StopControlValue, stop_outside}
-use Rattle.smp_stop_steps.specs.Weights.{is_stop_outside}
-use Rattle.smp_stop_steps.specs.declared.stage.StopStage.{StopStage}
-use Rattle.smp_stop_steps.specs.declared.stage.Visit.{Visit}
+use Rattle.smp_stop_steps.specs.{Change, StopControlValue, stop_outside, is_stop_outside, StopStage, Visit}
 
 abbrev control_with : Option StopStage → Option Visit → List Change → Bool → Bool → StopControlValue
 control_with stage visit changes interrupts is_open =
