@@ -26,8 +26,4 @@ pub clear_none : (n k : ℕ) → k < 64 → has n k ≡ false → ((c : ℕ) →
 clear_none n k low missing high = same_from_bits (bit_and n (all_but k)) n (λ c. bit c)
   where
     bit : (c : ℕ) → bit_at (bit_and n (all_but k)) c ≡ bit_at n c
-    bit c = elim (cases_eq c k) [
-      | inl same ↦ subst (λ c. bit_at (bit_and n (all_but k)) c ≡ bit_at n c) (sym same) (bit_zero (bit_and n (all_but k)) k (clear_same n k low) ∙ sym
-          (bit_zero n k missing))
-      | inr other ↦ clear_bit n k c low other (high c)
-    ]
+    bit c = search (bit_and, bit_zero, clear_same, clear_bit, arith)

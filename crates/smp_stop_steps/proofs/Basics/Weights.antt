@@ -67,8 +67,4 @@ first_at mask n (suc k) least low = elim (cases_lt n k) [
 ]
   where
     missing : k ≤ n → (c : ℕ) → c < k → has mask c ≡ false
-    missing from c low = go (has mask c) refl
-      where
-        go : (b : Bool) → has mask c ≡ b → b ≡ false
-        go false e = refl
-        go true e = absurd (omega (arith, least.least c e))
+    missing from c low = search arith

@@ -21,9 +21,7 @@ module _ (u : Setup) (p : StopState) (at : Word → ℕ) (seat : ℕ → Seat) (
   last_stores s op none zero_ = go (p.now.stop s).ending refl ((h.present.slots s).shows op).done
     where
       one_last : (c : ℕ) → (p.now.stop s).ending ≡ Last c → (d : ℕ) → seat d ≡ Closes s → d ≡ c
-      one_last c e d is =
-          let st : Stands p.now d (Closes s) = subst (Stands p.now d) is (h.present.stands d) in
-          let both : Last d ≡ Last c = sym st.2 ∙ e in cc
+      one_last c e d is = search (h.present.stands, arith)
 
       go : (e : Ending) → (p.now.stop s).ending ≡ e → DoneShows u.cpus (p.now.stop s).standing e (at (Slot s field.Done)) → (c : ℕ) × IsLast p seat s c
       go Running e d = absurd (d.1 (sym ((h.present.slots s).shows op).todo ∙ none))

@@ -36,12 +36,7 @@ module _ (u : Setup) (p : StopState) (at : Word → ℕ) (seat : ℕ → Seat) (
       where
         go : (before after : List Change) → c.changes ≡ before ++ after → length before ≡ made → seat me ≡ Alters v.slot s.0 s.1 before after → IsNext change
         go before [] are long is = absurd (let l = s.4 in let z : length c.changes ≡ length before = ap length (are ∙ append-nil before) in omega arith)
-        go before (x ∷ after) are long is =
-            let here : change_at c.changes made ≡ x = search (change_here, arith) in
-            let st : Stands p.now me (Alters v.slot s.0 s.1 before (x ∷ after)) = subst (Stands p.now me) is (h.present.stands me) in
-            let some : Some x ≡ Some change = sym (ap (λ y. label_stored (store_of y)) here ∙ stored_itself x) ∙ e in
-            let same : x ≡ change = cc in
-            record { work = s.0; count = s.1; made = before; rest = after; patching = st.5 ∙ ap (λ y. Patches me s.0 s.1 before (y ∷ after)) same }
+        go before (x ∷ after) are long is = search (change_here, h.present.stands, stored_itself, arith)
 
     in_round : (v : Visit) (stage : RoundStage) → SitsInRound u me c.changes v stage (seat me) → (change : Change) →
         label_stored (round_access u.cpus c.changes v stage) ≡ Some change → IsNext change

@@ -66,8 +66,7 @@ module _ (u : Setup) (p : StopState) (at : Word → ℕ) (seat : ℕ → Seat) (
       let st = stands (Alters v.slot x.0 y.2.0 (plan_at u x.0 y.2.0) []) y.2.2 in (st.0, (2, st.1, phase 2 st.1))) x.3
     where
       phase : (a : ℕ) → (p.now.stop v.slot).standing me ≡ Inside a (a + 1) → (p.now.stop v.slot).phase ≡ a + 1
-      phase a is = ⊎_elim (λ (e : a + 1 ≡ a). absurd (let z : ⊥ = omega (arith, e) in z)) (λ (e : (a + 1 ≡ a + 1) × ((p.now.stop v.slot).phase ≡ a + 1)). e.1)
-          (keeps_inside u.cpus (p.now.stop v.slot) (slot v.slot) (h.present.slots v.slot) me (Inside a (a + 1)) is).2
+      phase a is = search (keeps_inside, h.present.slots, arith)
   in_round v (round.Refill ran) x = search (stands, v.acked, stored_open, open_in, fills_me, arith)
   in_round v (round.Raise ran) x = stored_open v.slot (v.acked + 1) field.State (open_in v.slot x.0 v.acked v.acked Sets x.2) (raised v.slot x.0 v.acked x.2)
 

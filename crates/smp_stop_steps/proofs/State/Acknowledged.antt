@@ -83,12 +83,10 @@ module _ (u : Setup) (p : Present) (at : Word → ℕ) (seat : ℕ → Seat) (h 
       (subst IsNoPatch (sym is) tt) (λ op kind. h.works s op kind)
     where
       other_turn : (c : ℕ) → c ≢ me → (b : Bool) → turn_of (cond b (Refills me) Nobody) c ≡ Rests
-      other_turn c ne true = ap (λ b. cond b Fills Rests) (ne_eqb c me ne)
-      other_turn c ne false = refl
+      other_turn c ne b = search (ne_eqb, arith)
 
       own_turn : (b : Bool) → turn_of (cond b (Refills me) Nobody) me ≡ cond b Fills Rests
-      own_turn true = ap (λ b. cond b Fills Rests) (eq-eqb me me refl)
-      own_turn false = refl
+      own_turn b = search (eq-eqb, arith)
 
   -- store of the count, by the one that found 1
   pub step_refills : (job : Work) (a l : ℕ) → seat me ≡ In s job a l Fills → (p.stop s).phase ≢ 0 →

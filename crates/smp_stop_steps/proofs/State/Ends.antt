@@ -113,9 +113,7 @@ module _ (cpus : ℕ) (stop : Stop) (word : Field → ℕ) (g : SlotShows cpus s
       no e = cc
 
       none_left : (e : Ending) → DoneShows cpus stop.standing e (word Done) → count_unfinished cpus stop.standing ≡ 0
-      none_left Running h = absurd (let e = h.0 in omega arith)
-      none_left (Last c) h = h.1
-      none_left Ended h = h.1
+      none_left e h = search arith
 
       mask_is : (c : ℕ) → is_of (stop.standing c) ≡ has stop.work.mask c
       mask_is c = subst (λ b. is_of (stop.standing c) ≡ (b && has stop.work.mask c)) open_ (g.members c)
@@ -124,41 +122,14 @@ module _ (cpus : ℕ) (stop : Stop) (word : Field → ℕ) (g : SlotShows cpus s
       each z c of = sum_zero (λ c. unfinished (stop.standing c)) cpus z c (in_machine cpus stop.phase c (stop.standing c) of (g.keeps c))
 
       not_called : (s : Standing) → (is_of s ≡ true → unfinished s ≡ 0) → is_called s ≡ false
-      not_called Outside h = refl
-      not_called Called h = absurd (let e : 1 ≡ 0 = h refl in omega arith)
-      not_called (Inside a l) h = refl
-      not_called (Answering a v) h = refl
-      not_called (Completed a v) h = refl
+      not_called s h = search arith
 
       given : (s : Standing) → is_of s ≡ true → (is_of s ≡ true → unfinished s ≡ 0) → HasGiven s (answer_of s)
-      given Outside of h = cc
-      given Called of h = absurd (let e : 1 ≡ 0 = h refl in omega arith)
-      given (Inside a l) of h = absurd (let e : 1 ≡ 0 = h refl in omega arith)
-      given (Answering a v) of h = refl
-      given (Completed a v) of h = refl
+      given s of h = search arith
 
       given_of : (s : Standing) (w : ℕ) → HasGiven s w → (is_of s ≡ true) × (answer_of s ≡ w)
-      given_of Outside w h = absurd h
-      given_of Called w h = absurd h
-      given_of (Inside a l) w h = absurd h
-      given_of (Answering a v) w h = (refl, h)
-      given_of (Completed a v) w h = (refl, h)
+      given_of s w h = search arith
 
       answered : count_unfinished cpus stop.standing ≡ 0 → ResultShows stop.standing (word Result) →
           IsResult stop.work.mask (λ c. answer_of (stop.standing c)) (word Result)
-      answered z h = ⊎_elim
-          (λ (t : (word Result ≡ 0) × ((c w : ℕ) → HasGiven (stop.standing c) w → w ≡ 0)). inl (
-            t.0,
-            λ c of. t.1 c (answer_of (stop.standing c))
-                (given (stop.standing c) (mask_is c ∙ of) (each z c)),
-          ))
-          (λ (t : (word Result ≢ 0) × ((c : ℕ) × HasGiven (stop.standing c) (word Result))). inr (
-            t.0,
-            (
-              t.1.0,
-              sym (mask_is t.1.0) ∙ (given_of (stop.standing t.1.0) (word Result) t.1.1).0,
-              (given_of (stop.standing t.1.0) (word Result)
-                  t.1.1).1,
-            ),
-          ))
-          h
+      answered z h = search (given, mask_is, each, given_of, arith)

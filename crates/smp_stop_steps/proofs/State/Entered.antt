@@ -41,9 +41,7 @@ module _ (u : Setup) (p : Present) (at : Word → ℕ) (seat : ℕ → Seat) (h 
       (λ _ kind. patch_of_kind work.kind kind is_work.kind)
     where
       patch_of_kind : (k : KindOf) → k ≡ Patch → IsOfKind u work k → IsPatchWork u work
-      patch_of_kind One e is = cc
-      patch_of_kind Multi e is = cc
-      patch_of_kind Patch e is = is
+      patch_of_kind k e is = search arith
 
       apart : true ≡ false → ⊥
       apart e = cc
@@ -52,8 +50,7 @@ module _ (u : Setup) (p : Present) (at : Word → ℕ) (seat : ℕ → Seat) (h 
       nobody e i = let bad : false ≡ true = sym (ap is_inside e) ∙ i in cc
 
       calls : (b : Bool) → is_inside (cond b Called Outside) ≡ true → ⊥
-      calls true e = cc
-      calls false e = cc
+      calls b e = search arith
 
   -- store of a field but the roll, where no stop is open
   pub step_drafts : (f : Field) (n : ℕ) (work : Work) → (p.stop s).is_open ≡ false → same_field f Roll true ≡ false →
@@ -73,8 +70,7 @@ module _ (u : Setup) (p : Present) (at : Word → ℕ) (seat : ℕ → Seat) (h 
       nobody e i = let bad : false ≡ true = sym (ap is_inside e) ∙ i in cc
 
       turned : (f : Field) → same_field f Roll true ≡ false → same_field Roll f true ≡ false
-      turned f e = at_test (place_of Roll) (place_of f) (λ b. cond b true false ≡ false)
-          (λ same. let bad : true ≡ false = sym (ap (λ b. cond b true false) (eq-eqb (place_of f) (place_of Roll) (sym same))) ∙ e in cc) (λ _. refl)
+      turned f e = search (at_test, eq-eqb, arith)
 
       drafted_slot : (f : Field) (n : ℕ) (work : Work) → (p.stop s).is_open ≡ false → ((c : ℕ) → (p.stop s).standing c ≡ Outside) →
           same_field f Roll true ≡ false →
@@ -102,21 +98,13 @@ module _ (u : Setup) (p : Present) (at : Word → ℕ) (seat : ℕ → Seat) (h 
       apart e = cc
 
       none_left : (e : Ending) → DoneShows u.cpus (p.stop s).standing e (at (Slot s Done)) → count_unfinished u.cpus (p.stop s).standing ≡ 0
-      none_left Running d = absurd (let e = d.0 in omega arith)
-      none_left (Last c) d = d.1
-      none_left Ended d = d.1
+      none_left e d = search arith
 
       running : (c : ℕ) (e : Ending) → e ≡ Last c → DoneShows u.cpus (p.stop s).standing e (at (Slot s Done)) → ⊥
-      running c Running e d = let x = d.0 in omega arith
-      running c (Last r) e d = let x = d.0 in omega arith
-      running c Ended e d = cc
+      running c e e' d = search arith
 
       inside_unfinished : (x : Standing) → is_inside x ≡ true → (is_of x ≡ true) × (unfinished x ≡ 1)
-      inside_unfinished Outside e = cc
-      inside_unfinished Called e = cc
-      inside_unfinished (Inside a l) e = (refl, refl)
-      inside_unfinished (Answering a v) e = (refl, refl)
-      inside_unfinished (Completed a v) e = cc
+      inside_unfinished x e = search arith
 
       gone : count_unfinished u.cpus (p.stop s).standing ≡ 0 → (c : ℕ) → is_inside ((p.stop s).standing c) ≡ true → ⊥
       gone z c i =
@@ -168,19 +156,10 @@ module _ (u : Setup) (p : Present) (at : Word → ℕ) (seat : ℕ → Seat) (h 
         (λ op kind. h.works s op kind)
       where
         turns : (r : Raising) → IsNot me r → turn_of r me ≡ Rests
-        turns Nobody ne = refl
-        turns (Refills r) ne = ap (λ b. cond b Fills Rests) (ne_eqb me r (λ e. ne (sym e)))
-        turns (Raises r) ne = ap (λ b. cond b Sets Rests) (ne_eqb me r (λ e. ne (sym e)))
+        turns r ne = search (ne_eqb, arith)
 
         quiet : (p.stop s).standing me ≡ Called → OpenShows u.cpus (p.stop s) w → turn_of (p.stop s).raising me ≡ Rests
-        quiet called o = turns (p.stop s).raising (either (p.stop s).phase refl)
-          where
-            not_in : (p.stop s).standing me ≢ Inside (p.stop s).phase (p.stop s).phase
-            not_in e = let bad : Called ≡ Inside (p.stop s).phase (p.stop s).phase = sym called ∙ e in cc
-
-            either : (n : ℕ) → (p.stop s).phase ≡ n → IsNot me (p.stop s).raising
-            either zero e = subst (IsNot me) (sym (o.calm e)) tt
-            either (suc n) e = not_raising u.cpus (p.stop s).phase (p.stop s).standing me (at (Slot s Ack)) (p.stop s).raising not_in (o.ack (λ z. omega arith))
+        quiet called o = search (turns, o.calm, not_raising, o.ack, arith)
 
     -- fetch_sub of todo
     pub step_completes : (a v : ℕ) → p.inside me ≡ Some s → IsAnswer ((p.stop s).standing me) a v → turn_of (p.stop s).raising me ≡ Rests →
@@ -216,8 +195,7 @@ module _ (u : Setup) (p : Present) (at : Word → ℕ) (seat : ℕ → Seat) (h 
         apart e = cc
 
         irq_after : (b : Bool) → irq_of (cond b (Closes s) Free) ≡ true
-        irq_after true = refl
-        irq_after false = refl
+        irq_after b = search arith
 
         not_last : (c : ℕ) → me < u.cpus → DoneShows u.cpus (p.stop s).standing (Last c) (at (Slot s Done)) → ⊥
         not_last c small d =
@@ -227,14 +205,7 @@ module _ (u : Setup) (p : Present) (at : Word → ℕ) (seat : ℕ → Seat) (h 
         now : (b : Bool) → (p.stop s).is_open ≡ true →
             Stands (moved p s (record (p.stop s) { standing = put (p.stop s).standing me (Completed a v); ending = cond b (Last me) (p.stop s).ending })
             (put p.inside me None) p.irq p.readings) me (cond b (Closes s) Free)
-        now true op = (
-          put_same p.inside me None,
-          at_test s s (λ b. (cond b (record (p.stop s) { standing = put (p.stop s).standing me (Completed a v); ending = Last me }) (p.stop s)).is_open ≡
-              true) (λ _. op) (λ _. op),
-          at_test s s (λ b. (cond b (record (p.stop s) { standing = put (p.stop s).standing me (Completed a v); ending = Last me }) (p.stop s)).ending ≡
-              Last me) (λ _. refl) (λ ne. absurd (ne refl)),
-        )
-        now false op = put_same p.inside me None
+        now b op = search (put_same, at_test, arith)
 
     -- store of done by the last
     pub step_finishes : seat me ≡ Closes s →

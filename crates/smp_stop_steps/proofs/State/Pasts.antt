@@ -27,8 +27,7 @@ module _ (y : Past) where
       split : (b : Bool) → cond b (x.answer c ∷ (answers_of c xs ++ cond (has y.work.mask c) (y.answer c ∷ []) []))
           (answers_of c xs ++ cond (has y.work.mask c) (y.answer c ∷ []) [])
           ≡ cond b (x.answer c ∷ answers_of c xs) (answers_of c xs) ++ cond (has y.work.mask c) (y.answer c ∷ []) []
-      split true = refl
-      split false = refl
+      split b = search arith
 
 module _ (past : List Past) (stop : Stop) (begun : List Work) (collected : List ℕ) (answers : ℕ → List ℕ) (h : PastShows past stop begun collected answers)
   where

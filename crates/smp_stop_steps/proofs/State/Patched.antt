@@ -44,16 +44,7 @@ module _ (u : Setup) (p : Present) (at : Word → ℕ) (seat : ℕ → Seat) (h 
     where
       go : (x : Standing) → (p.stop s).standing c ≡ x → is_of x ≡ true → (p.stop s).phase ≡ 3 → (acked x ≡ 2) ⊎ (acked x ≡ 3) →
           Keeps u.cpus (p.stop s).phase c x → irq_of (seat c) ≡ false
-      go Outside e of run a k = cc
-      go Called e of run a k = absurd (⊎_elim (λ (t : 0 ≡ 2). omega arith) (λ (t : 0 ≡ 3). omega arith) a)
-      go (Inside b l) e of run a k = off_inside p c s b l (seat c) (h.stands c) (h.homes s c (ap is_inside e)) e
-          (⊎_elim (λ (t : l ≡ b). ⊎_elim (λ (u : b ≡ 2). omega arith) (λ (u : b ≡ 3). omega arith) a) (λ (t : (l ≡ b + 1) × ((p.stop s).phase ≡ l)). let x =
-          t.1 in omega arith) k.2)
-          (λ z. ⊎_elim (λ (u : b ≡ 2). omega arith) (λ (u : b ≡ 3). omega arith) a)
-      go (Answering b v) e of run a k = absurd (⊎_elim (λ (t : b ≡ 4). ⊎_elim (λ (u : b ≡ 2). omega arith) (λ (u : b ≡ 3). omega arith) a)
-          (λ (t : (p.stop s).phase ≡ 0). omega arith) k.2)
-      go (Completed b v) e of run a k = absurd (⊎_elim (λ (t : b ≡ 4). ⊎_elim (λ (u : b ≡ 2). omega arith) (λ (u : b ≡ 3). omega arith) a)
-          (λ (t : (p.stop s).phase ≡ 0). omega arith) k.2)
+      go x e of run a k = search (off_inside, h.stands, h.homes, arith)
 
   -- what is now, with another patch
   abbrev pub patches : Patching → Present
@@ -90,9 +81,7 @@ module _ (u : Setup) (p : Present) (at : Word → ℕ) (seat : ℕ → Seat) (h 
       }
     where
       go : (x : Patching) → RunnerShows u.first x seat → me ≡ u.first → x ≡ Whole
-      go Whole r mine = refl
-      go (Patches c w count made rest) r mine = let same : c ≡ me = r.0 ∙ sym mine in let bad : In s job 2 3 Rests ≡ Alters r.1.0 w count made rest =
-          sym is ∙ (sym (ap seat same) ∙ r.1.1) in cc
+      go x r mine = search arith
 
   -- one of its stores
   pub patch_stores : (job : Work) (count : ℕ) (made rest : List Change) (change : Change) (at' : Word → ℕ) → seat me ≡ Alters s job count made (change ∷ rest) →
@@ -165,8 +154,4 @@ module _ (u : Setup) (p : Present) (at : Word → ℕ) (seat : ℕ → Seat) (h 
       one_more (x ∷ xs) a = (a.0, one_more xs a.1)
 
       still : (c : ℕ) (y : Seat) → Stands p c y → Stands (record p { readings = put p.readings me (p.readings me ++ r ∷ []) }) c y
-      still c Free st = st
-      still c (In j job a l t) st = st
-      still c (Gives j job a v) st = st
-      still c (Alters j w count made rest) st = st
-      still c (Closes j) st = st
+      still c y st = search arith

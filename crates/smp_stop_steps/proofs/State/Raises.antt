@@ -49,18 +49,10 @@ module _ (cpus : ℕ) (stop : Stop) (word : Field → ℕ) (g : SlotShows cpus s
 
       either : (r : Raising) → stop.raising ≡ r → AckShows cpus stop.phase stop.standing r (word Ack) →
           ((word Ack ≡ count_behind cpus stop.phase stop.standing) ⊎ ((r : ℕ) × (stop.raising ≡ Raises r) × (word Ack ≡ weight cpus stop.standing)))
-      either Nobody e h = inl h
-      either (Refills r) e h = inl (h.0 ∙ sym h.1)
-      either (Raises r) e h = inr (r, e, h.0)
+      either r e h = search arith
 
       four : (r : ℕ) → stop.phase ≡ 5 → stop.standing r ≡ Inside stop.phase stop.phase → ⊥
-      four r e is = let k : Keeps cpus stop.phase r (Inside stop.phase stop.phase) = subst (Keeps cpus stop.phase r) is (g.keeps r) in let m : stop.phase ≤
-          4 = k.4 in omega arith
+      four r e is = search (g.keeps, arith)
 
       at_five : (r : Raising) → stop.phase ≡ 5 → AckShows cpus stop.phase stop.standing r (word Ack) → word Ack ≡ weight cpus stop.standing
-      at_five Nobody e h = h ∙ sum_same (λ c. one (stop.standing c)) (λ c. behind stop.phase (stop.standing c)) cpus
-          (λ c _. subst (λ p. behind p (stop.standing c) ≡ one (stop.standing c)) (sym e)
-          (behind_next 4 (stop.standing c) (λ of. ends (acked (stop.standing c)) e (acked_most cpus stop.phase c (stop.standing c) of (g.keeps c))
-          (level_of cpus stop.phase c (stop.standing c) of (g.keeps c)))))
-      at_five (Refills r) e h = absurd (four r e h.2)
-      at_five (Raises r) e h = absurd (four r e h.2)
+      at_five r e h = search (sum_same, behind_next, ends, acked_most, g.keeps, level_of, four, arith)

@@ -40,16 +40,10 @@ module _ (u : Setup) (p : StopState) (at : Word → ℕ) (seat : ℕ → Seat) (
 
       -- who acknowledges RUN has called its function, or is not to call one
       has_called : (work : Work) → IsLoaded v work → (b : Bool) → RunsIf me v b → (f : Calling) → IsAcking v answer b f → v.acked ≡ 2 → HasCalled me work f
-      has_called work loaded true runs Idle is two = let bad : Multi ≡ Patch = sym runs.1 ∙ is in cc
-      has_called work loaded true runs (Calls call) is two = tt
-      has_called work loaded true runs (Carries x) is two = absurd is
-      has_called work loaded false runs Idle is two = ap (λ m. has m me) (sym loaded.active) ∙ runs two
-      has_called work loaded false runs (Calls call) is two = absurd is
-      has_called work loaded false runs (Carries x) is two = tt
+      has_called work loaded b runs f is two = search arith
 
       has_run : (b : Bool) → RunsIf me v b → HasRun me (visit_acked v answer ran) b
-      has_run true runs = record { at_run = λ _. ap (λ n. n + 1) runs.0; active = λ _. runs.2 }
-      has_run false runs = record { at_run = λ bad. cc; active = λ three. runs (omega arith) }
+      has_run b runs = search arith
 
       patch_run : v.acked ≡ 2 → ran ≡ true → (work : Work) → IsLoaded v work → (count : ℕ) →
           seat me ≡ Alters v.slot work count (plan_at u work count) [] → HasRun me (visit_acked v answer ran) ran

@@ -119,49 +119,8 @@ module _ (u : Setup) (p : StopState) (at : Word → ℕ) (seat : ℕ → Seat) (
         go : c.visit ≡ Some v → v.kind ≢ One → (work : Work) → SitsAtRun me v work (seat me) → func ≡ work.func → (kind : KindOf) → v.kind ≡ kind →
             Now (Advance v (round.LoadArg answer func))
         go visit some work run same One is = absurd (some is)
-        go visit some work run same Multi is =
-            let multi : work.kind ≡ Multi = sym run.0.kind ∙ is in
-            let active : has work.active me ≡ true = ap (λ m. has m me) (sym run.0.active) ∙ run.2 in
-            let may : may_call me work (Inside 2 3) ≡ true = search arith in
-            calls (Advance v (round.LoadArg answer func)) v.slot work 2 3 answer refl run.3 may
-            (quiet_early me v.slot work 3 Rests v f (quiet visit q) run.1 (calling_at (In v.slot work 2 3 Rests) run.3)) refl
-            (ap (λ (y : KindOf). (cond (is_multi y) (record {
-              control = record c { stage = Some (Advance v (round.Acknowledge answer true)) };
-              note =
-                  Some (note.Run func (at (Slot v.slot field.Arg)));
-            })
-            (stop_goes c (Advance v (round.LoadKey func (change_of (at (Slot v.slot field.Arg))))))).note) is
-            ∙ ap (λ n. Some (note.Run n (at (Slot v.slot field.Arg)))) same)
-            (λ call equal. subst (λ (y : KindOf). CarriesIn (cond (is_multi y)
-            (record {
-              control = record c { stage = Some (Advance v (round.Acknowledge answer true)) };
-              note =
-                  Some (note.Run func (at (Slot v.slot field.Arg)));
-            })
-            (stop_goes c (Advance v (round.LoadKey func (change_of (at (Slot v.slot field.Arg))))))).control (Calls call)) (sym is) (sym equal))
-        go visit some work run same Patch is =
-            let patch : work.kind ≡ Patch = sym run.0.kind ∙ is in
-            let st : Stands p.now me (In v.slot work 2 3 Rests) = subst (Stands p.now me) run.3 (h.present.stands me) in
-            let calm : may_call me (p.now.stop v.slot).work ((p.now.stop v.slot).standing me) ≡ false =
-            search (none, arith) in
-            let nothing : told_of (state_after u p at c me (Advance v (round.LoadArg answer func))) ≡ told_of p =
-            ap (λ b. told_of (cond b (calls_now p me (p.now.stop v.slot).work (at (Slot v.slot field.Arg)) answer) p)) calm in
-            plain (Advance v (round.LoadArg answer func)) nothing
-            (ap (λ (y : KindOf). is_run (cond (is_multi y) (record {
-              control = record c { stage = Some (Advance v (round.Acknowledge answer true)) };
-              note =
-                  Some (note.Run func (at (Slot v.slot field.Arg)));
-            })
-            (stop_goes c (Advance v (round.LoadKey func (change_of (at (Slot v.slot field.Arg))))))).note) is)
-            (subst (λ (y : KindOf). CarriesIn (cond (is_multi y) (record {
-              control = record c { stage = Some (Advance v (round.Acknowledge answer true)) };
-              note = Some (note.Run func (at (Slot v.slot field.Arg)));
-            })
-            (stop_goes c (Advance v (round.LoadKey func (change_of (at (Slot v.slot field.Arg))))))).control f) (sym is) q)
-          where
-            none : (b : Bool) → (b && false) ≡ false
-            none true = refl
-            none false = refl
+        go visit some work run same Multi is = search (work.active, calls, quiet_early, quiet, q, calling_at, arith)
+        go visit some work run same Patch is = search (h.present.stands, plain, q, arith)
 
     load_key : (key : ℕ) (change : KeyChange) → c.stage ≡ Some (Advance v (round.LoadKey key change)) → Now (Advance v (round.LoadKey key change))
     load_key key change e =
@@ -175,10 +134,7 @@ module _ (u : Setup) (p : StopState) (at : Word → ℕ) (seat : ℕ → Seat) (
         q = at_stage (Advance v (round.LoadKey key change)) e
 
         silent : (o : Option ℕ) → is_run (key_on c v key (at (Key key)) o).note ≡ false
-        silent None = refl
-        silent (Some new) = elim (at (Key key) == new) as (λ b. is_run (cond b (stop_goes (record c { changes = [] }) (Advance v (round.Acknowledge 0 true)))
-            (stop_goes (record c { changes = (place.Key key, new) ∷ [] }) (Advance v (cond (xor (is_on (at (Key key))) (is_on new))
-            (round.LoadEntry key new 0) (round.StoreChange 0))))).note ≡ false) [ true ↦ refl | false ↦ refl ]
+        silent o = search arith
 
         acking : (answer : ℕ) → v.kind ≡ Patch → f ≡ Idle → IsAcking v answer true f
         acking answer kind idle = subst (IsAcking v answer true) (sym idle) kind
@@ -222,15 +178,7 @@ module _ (u : Setup) (p : StopState) (at : Word → ℕ) (seat : ℕ → Seat) (
         after a st = ap (λ (x : Standing). told_of (acknowledges p me v.slot x found)) st
 
         silent : is_run (note_then u at c me stage) ≡ false
-        silent = elim (found == 1) as (λ b. is_run (cond b (stop_goes (record c { visit = Some (visit_acked v answer ran) })
-            (Advance (visit_acked v answer ran) (round.Refill ran)))
-            (turn_ends (record c { visit = Some (visit_acked v answer ran) }) (v.acked + 1) ran)).note ≡ false) [
-              | true ↦ refl
-              | false ↦ elim (v.acked + 1 == 4) as (λ d. is_run (Some (cond d note.Left (cond ran note.Ran (note.Moved (v.acked + 1))))) ≡ false) [
-                | true ↦ refl
-                | false ↦ elim ran as (λ d. is_run (Some (cond d note.Ran (note.Moved (v.acked + 1)))) ≡ false) [ true ↦ refl | false ↦ refl ]
-              ]
-            ]
+        silent = search (found, arith)
 
         done : (b : Bool) (g : Calling) → told_of (state_after u p at c me stage) ≡ record (told_of p) {
           calling = cond b (put p.calling me g) p.calling;
@@ -245,40 +193,22 @@ module _ (u : Setup) (p : StopState) (at : Word → ℕ) (seat : ℕ → Seat) (
         -- who acknowledges RUN has called its function, or is not to call one
         has_called : (w work : Work) → w ≡ work → IsLoaded v work → (b : Bool) → RunsIf me v b → (g : Calling) → IsAcking v answer b g → v.acked ≡ 2 →
             HasCalled me w g
-        has_called w work same loaded true runs Idle is two = let bad : Multi ≡ Patch = sym runs.1 ∙ is in cc
-        has_called w work same loaded true runs (Calls call) is two = tt
-        has_called w work same loaded true runs (Carries x) is two = absurd is
-        has_called w work same loaded false runs Idle is two = ap (λ (x : Work). has x.active me) same ∙ (ap (λ m. has m me) (sym loaded.active) ∙ runs two)
-        has_called w work same loaded false runs (Calls call) is two = absurd is
-        has_called w work same loaded false runs (Carries x) is two = tt
+        has_called w work same loaded b runs g is two = search arith
 
         -- who has called its function carries its answer, any other what it carried
         ran_on : (b : Bool) (g : Calling) → ran ≡ b → RunsIf me v b → IsAcking v answer b g → IsQuiet (Some (visit_acked v answer b)) (carried_call g)
-        ran_on true Idle r runs is = let bad : Multi ≡ Patch = sym runs.1 ∙ is in cc
-        ran_on true (Calls call) r runs is = is
-        ran_on true (Carries x) r runs is = absurd is
-        ran_on false g r runs is = subst (IsQuiet (Some (visit_acked v answer false))) (sym (quiet_carried v g is))
-            (quiet_visit v (visit_acked v answer false) g refl is)
+        ran_on b g r runs is = search (quiet_carried, quiet_visit, arith)
 
         stays : (b : Bool) (g : Calling) → ran ≡ b → RunsIf me v b → IsAcking v answer b g → (v.acked + 1 == 3) ≡ false →
             IsQuiet (Some (visit_acked v answer b)) g
-        stays true g r runs is other = let bad : true ≡ false = sym (eq-eqb (v.acked + 1) 3 (let t = runs.0 in omega arith)) ∙ other in cc
-        stays false g r runs is other = quiet_visit v (visit_acked v answer false) g refl is
+        stays b g r runs is other = search (eq-eqb, quiet_visit, arith)
 
         either : (work : Work) → IsLoaded v work →
             (((seat me ≡ In v.slot work v.acked (v.acked + 1) Rests) × RunsIf me v ran) ⊎ ((v.acked ≡ 2) × (ran ≡ true) ×
             ((count : ℕ) × (answer ≡ patch_answer work count) × (seat me ≡ Alters v.slot work count (plan_at u work count) [])))) → Now stage
         either work loaded (inl (is, runs)) =
-            let st : Stands p.now me (In v.slot work v.acked (v.acked + 1) Rests) = subst (Stands p.now me) is (h.present.stands me) in
-            let alone = carried_alone u.first p.now.patching seat me f (subst IsNoPatch (sym is) tt) h.present.runner in
-            let q = at_stage stage e in
-            search (done, after, has_called, q, eqb-true, ran_on, stays, arith)
-        either work loaded (inr (two, r, (n, answers, is))) =
-            let st : Stands p.now me (Alters v.slot work n (plan_at u work n) []) = subst (Stands p.now me) is (h.present.stands me) in
-            let standing : (p.now.stop v.slot).standing me ≡ Inside v.acked 3 = st.1 ∙ ap (λ n. Inside n 3) (sym two) in
-            let own : carried me p.now.patching f ≡ Carries (patch_answer work n) =
-            ap (λ x. carried me x f) st.5 ∙ ap (λ b. cond b (Carries (patch_answer work n)) (carried_call f)) (eq-eqb me me refl) in
-            search (done, after, arith)
+            search (v.acked, h.present.stands, carried_alone, IsNoPatch, at_stage, stage, done, after, has_called, eqb-true, ran_on, stays, arith)
+        either work loaded (inr (two, r, (n, answers, is))) = search (h.present.stands, v.acked, eq-eqb, done, after, arith)
 
     -- the completion
     none_acked : (work : Work) → work.kind ≡ One → seat me ≡ In v.slot work v.acked v.acked Rests → v.acked ≡ 0
@@ -297,39 +227,25 @@ module _ (u : Setup) (p : StopState) (at : Word → ℕ) (seat : ℕ → Seat) (
         q = at_stage (Complete v completion.CountDown) e
 
         ending : (g : Calling) → IsEnding v g → v.answer ≡ answer_in g
-        ending Idle is = is.1
-        ending (Calls call) is = is
-        ending (Carries x) is = is
+        ending g is = search arith
 
         silent : is_run (note_then u at c me (Complete v completion.CountDown)) ≡ false
-        silent = elim (found == 1) as (λ b. is_run (cond b (stop_goes (record c { visit = None }) (Close v.slot)) (stop_ends (record c { visit = None })
-            note.Finished)).note ≡ false) [ true ↦ refl | false ↦ refl ]
+        silent = search (found, arith)
 
         done : (a x : ℕ) → told_of (state_after u p at c me (Complete v completion.CountDown)) ≡ told_of (completes_with p me v.slot a x found) →
             p.now.inside me ≡ Some v.slot → x ≡ v.answer →
             ((p.now.stop v.slot).work.kind ≡ One → f ≢ Idle) → Now (Complete v completion.CountDown)
-        done a x same in_ answers called =
-            let mine' = subst (CarriesIn (control_then u at c me (Complete v completion.CountDown))) (sym (ap (λ (y : Told). y.calling me) same ∙ put_same
-            p.calling me Idle)) (elim (found == 1) as (λ b. CarriesIn (cond b (stop_goes (record c { visit = None }) (Close v.slot)) (stop_ends (record c
-            { visit = None }) note.Finished)).control Idle) [ true ↦ tt | false ↦ tt ]) in
-            search (mine', put_other, called, calls, ending, q, silent, arith)
+        done a x same in_ answers called = search (put_same, found, put_other, called, calls, ending, q, silent, arith)
 
         left_one : (g : Calling) → IsEnding v g → v.acked ≡ 0 → g ≢ Idle
-        left_one Idle is none = λ _. let four = is.0 in omega arith
-        left_one (Calls call) is none = λ bad. cc
-        left_one (Carries x) is none = λ bad. cc
+        left_one g is none = search arith
 
         given_called : (work : Work) (a x : ℕ) (g : Calling) → IsCalling me (Gives v.slot work a x) g → g ≢ Idle
-        given_called work a x Idle is = absurd is
-        given_called work a x (Calls call) is = λ bad. cc
-        given_called work a x (Carries y) is = λ bad. cc
+        given_called work a x g is = search arith
 
         either : (work : Work) → (((v.answer ≡ 0) × IsLoaded v work × IsThroughAll v × (seat me ≡ In v.slot work v.acked v.acked Rests)) ⊎
             (seat me ≡ Gives v.slot work v.acked v.answer)) → Now (Complete v completion.CountDown)
-        either work (inl (none, loaded, all, is)) =
-            let st : Stands p.now me (In v.slot work v.acked v.acked Rests) = subst (Stands p.now me) is (h.present.stands me) in
-            done v.acked 0 (ap (λ (x : Standing). told_of (completes p me v.slot x found)) st.1) st.0 (sym none)
-            (λ one. left_one f q (none_acked work (ap (λ (x : Work). x.kind) (sym st.3) ∙ one) is))
+        either work (inl (none, loaded, all, is)) = search (v.acked, h.present.stands, done, found, none, left_one, q, none_acked, arith)
         either work (inr is) =
             let st : Stands p.now me (Gives v.slot work v.acked v.answer) = subst (Stands p.now me) is (h.present.stands me) in
             done v.acked v.answer (ap (λ (x : Standing). told_of (completes p me v.slot x found)) st.1) st.0 refl
@@ -372,14 +288,11 @@ module _ (u : Setup) (p : StopState) (at : Word → ℕ) (seat : ℕ → Seat) (
       q = at_stage (NudgeKey k up) e
 
       silent : (o : Option ℕ) → is_run (nudge_on c k (at (Key k)) o).note ≡ false
-      silent None = refl
-      silent (Some new) = elim (xor (is_on (at (Key k))) (is_on new)) as
-          (λ b. is_run (cond b (stop_ends c note.Stop) (stop_goes c (ExchangeKey k (at (Key k)) new))).note ≡ false) [ true ↦ refl | false ↦ refl ]
+      silent o = search arith
 
       nudged : (o : Option ℕ) → CarriesIn (nudge_on c k (at (Key k)) o).control f
       nudged None = q
-      nudged (Some new) = elim (xor (is_on (at (Key k))) (is_on new)) as
-          (λ b. CarriesIn (cond b (stop_ends c note.Stop) (stop_goes c (ExchangeKey k (at (Key k)) new))).control f) [ true ↦ q | false ↦ q ]
+      nudged (Some new) = search (q, arith)
   call_step (ExchangeKey k expected new) e = plain (ExchangeKey k expected new) (nudge_calling u p me k (at (Key k)) new (at (Key k) == expected))
       (elim (at (Key k) == expected) as (λ b. is_run (Some (cond b note.Done note.Lost)) ≡ false) [ true ↦ refl | false ↦ refl ])
       (at_stage (ExchangeKey k expected new) e)

@@ -59,18 +59,14 @@ module _ (u : Setup) (p : StopState) (at : Word → ℕ) (seat : ℕ → Seat) (
       (λ c ne. put_other (p.now.stop s).standing me to c ne) refl refl))
     where
       low : IsLevel (p.now.stop s).phase 0 → (c : ℕ) → acked ((p.now.stop s).standing c) ≤ 1
-      low level c = let m = acked_most_phase u.cpus (p.now.stop s).phase c ((p.now.stop s).standing c) ((h.present.slots s).keeps c) in
-          ⊎_elim (λ (e : 0 ≡ (p.now.stop s).phase). omega arith) (λ (e : 0 + 1 ≡ (p.now.stop s).phase). omega arith) level
+      low level c = search (acked_most_phase, h.present.slots, arith)
 
       early : IsLevel (p.now.stop s).phase 0 → (c : ℕ) → acked (put (p.now.stop s).standing me (Inside 0 0) c) ≤ 1
       early level = put_all (λ c y. acked y ≤ 1) (p.now.stop s).standing me (Inside 0 0) (omega arith) (λ c ne. low level c)
 
       own : IsLevel (p.now.stop s).phase 0 → (j : ℕ) → OwnsKey u.first (after p.now s (stands (p.now.stop s) me (Inside 0 0)) (put p.now.inside me (Some s))
           p.now.irq p.now.readings p.now.patching) (λ k. at (Key k)) j
-      own level j =
-          at_test j s (λ b. let y = cond b (stands (p.now.stop s) me (Inside 0 0)) (p.now.stop j) in
-          y.is_open ≡ true → y.work.kind ≡ Patch → is_inside (y.standing j) ≡ true → 3 ≤ acked (y.standing u.first) → StandsSet y.work (at (Key y.work.func)))
-          (λ e op kind in_ late. let m = early level u.first in absurd (omega arith)) (λ ne. h.owns j)
+      own level j = search (at_test, early, h.owns, arith)
 
   -- fetch_and of the roll, that did not find it: E7
   pub roll_stale : (new : Option ℕ) (answer : ℕ) → has (at (Slot s Roll)) me ≡ false →
@@ -156,8 +152,7 @@ module _ (u : Setup) (p : StopState) (at : Word → ℕ) (seat : ℕ → Seat) (
       (last found)
     where
       ends : (b : Bool) → IsCalling me (cond b (Closes s) Free) Idle
-      ends true = tt
-      ends false = tt
+      ends b = search arith
 
       -- the last of all is to store done
       last : (found : ℕ) → AreClosing (record (p.now) {
@@ -192,11 +187,7 @@ module _ (u : Setup) (p : StopState) (at : Word → ℕ) (seat : ℕ → Seat) (
               (λ ne o l. closing_seat p.now seat me (Closes s) h.closing calm j c o l)
 
       acked_it : (x : Standing) → IsAnswer x a v → acked x ≡ a
-      acked_it Outside e = absurd e
-      acked_it Called e = absurd e
-      acked_it (Inside b l) e = e.0
-      acked_it (Answering b w) e = e.0
-      acked_it (Completed b w) e = absurd e
+      acked_it x e = search arith
 
       ended_not : (p.now.stop s).ending ≡ Ended → DoneShows u.cpus (p.now.stop s).standing Ended (at (Slot s Done)) → is_of ((p.now.stop s).standing me) ≡
           true → ⊥
@@ -206,12 +197,10 @@ module _ (u : Setup) (p : StopState) (at : Word → ℕ) (seat : ℕ → Seat) (
           let one_ = answer_unfinished (p.now.stop s).phase a v ((p.now.stop s).standing me) is in omega arith
 
       here_more : (x : List ℕ) (c : ℕ) → put p.answers me (put (p.answers me) s x) c s ≡ put (λ c. p.answers c s) me x c
-      here_more x c = at_test c me (λ b. (cond b (put (p.answers me) s x) (p.answers c)) s ≡ cond b x (p.answers c s)) (λ _. put_same (p.answers me) s x)
-          (λ _. refl)
+      here_more x c = search (at_test, put_same, arith)
 
       there_same : (j : ℕ) → j ≢ s → (x : List ℕ) (c : ℕ) → put p.answers me (put (p.answers me) s x) c j ≡ p.answers c j
-      there_same j ne x c = at_test c me (λ b. (cond b (put (p.answers me) s x) (p.answers c)) j ≡ p.answers c j) (λ e. put_other (p.answers me) s x j ne ∙
-          ap (λ k. p.answers k j) (sym e)) (λ _. refl)
+      there_same j ne x c = search (at_test, put_other, arith)
 
   -- fetch_sub of todo, by who answers 0
   pub todo_subtracted : (job : Work) (a l answer : ℕ) → seat me ≡ In s job a l Rests → (a ≡ 4) ⊎ (job.kind ≡ One) →

@@ -80,8 +80,7 @@ module _ (u : Setup) (p : StopState) (at : Word → ℕ) (seat : ℕ → Seat) (
         )
       where
         more : (n : ℕ) → n ≢ 0 → 0 < n
-        more zero ne = absurd (ne refl)
-        more (suc n) ne = omega arith
+        more n ne = search arith
 
   -- the count of acknowledgements is not 0, and at most the number of CPUs, for who has looked at a new phase
   ack_known : (a : ℕ) → (p.now.stop s).standing me ≡ Inside a (a + 1) → (0 < at (Slot s Ack)) × (at (Slot s Ack) ≤ u.cpus)
@@ -100,8 +99,7 @@ module _ (u : Setup) (p : StopState) (at : Word → ℕ) (seat : ℕ → Seat) (
       )
     where
       more : (n : ℕ) → n ≢ 0 → 0 < n
-      more zero ne = absurd (ne refl)
-      more (suc n) ne = omega arith
+      more n ne = search arith
 
   pub ack_bounds : (job : Work) (a : ℕ) → seat me ≡ In s job a (a + 1) Rests → (0 < at (Slot s Ack)) × (at (Slot s Ack) ≤ u.cpus)
   ack_bounds job a is = ack_known a (st job a (a + 1) Rests is).1
@@ -124,8 +122,7 @@ module _ (u : Setup) (p : StopState) (at : Word → ℕ) (seat : ℕ → Seat) (
       )
     where
       more : (n : ℕ) → n ≢ 0 → 0 < n
-      more zero ne = absurd (ne refl)
-      more (suc n) ne = omega arith
+      more n ne = search arith
 
 -- a roll has no CPU past the last
 pub high_none : (u : Setup) (p : StopState) (at : Word → ℕ) (seat : ℕ → Seat) (source : ℕ → Source) → StopShows u p at seat source → (slot c : ℕ) → 64 ≤ c →

@@ -132,11 +132,7 @@ module _ (u : Setup) (p : StopState) (at : Word → ℕ) (seat : ℕ → Seat) (
       go shut field.Done = (inl refl, draft_still p me me (begun_value u.cpus work field.Done) field.Done)
       go shut field.Ack = (inl refl, draft_still p me me (begun_value u.cpus work field.Ack) field.Ack)
       go shut field.State = (inl refl, draft_still p me me (begun_value u.cpus work field.State) field.State)
-      go shut field.Roll = record {
-        shut = shut;
-        is_open = ap (λ (x : Stop). x.is_open) here;
-        begun = ap (λ (w : Work). record (heard_of p) { begun = put p.begun me (p.begun me ++ w ∷ []) }) (sym (ap (λ (x : Stop). x.work) here));
-      }
+      go shut field.Roll = search (here, arith)
 
   entering : (slot : ℕ) → c.stage ≡ Some (Enter slot) → Fits (Enter slot)
   entering slot e = search (seat_at, h.present.stands, arith)
@@ -222,24 +218,15 @@ module _ (u : Setup) (p : StopState) (at : Word → ℕ) (seat : ℕ → Seat) (
         found = at (Key key)
 
         none : (o : Option ℕ) → (key_on c v key found o).note ≡ None
-        none None = refl
-        none (Some new) = elim (found == new) as (λ b. (cond b (stop_goes (record c { changes = [] }) (Advance v (round.Acknowledge 0 true)))
-            (stop_goes (record c { changes = (place.Key key, new) ∷ [] }) (Advance v (cond (xor (is_on found) (is_on new))
-            (round.LoadEntry key new 0) (round.StoreChange 0))))).note ≡ None) [ true ↦ refl | false ↦ refl ]
+        none o = search (found, arith)
 
         patch : (b : Bool) → b ≡ true → heard_of (record p {
           now = cond b (record (p.now) { patching = patch_begun u me (p.now.stop v.slot).work found }) (reads p.now me (ReadKey key (is_on found)));
         }) ≡ heard_of p
-        patch true is = refl
-        patch false is = cc
+        patch b is = search arith
 
         unheard : heard_of (record p { now = key_loaded u p.now me key found (p.now.inside me) }) ≡ heard_of p
-        unheard =
-            let x = (seat_at (Advance v (round.LoadKey key change)) e).1 in
-            let run = x.1.1 in
-            let st : Stands p.now me (In v.slot x.1.0 2 3 Rests) = stands (In v.slot x.1.0 2 3 Rests) run.3 in
-            let kind : (p.now.stop v.slot).work.kind ≡ Patch = ap (λ (w : Work). w.kind) st.3 ∙ (sym run.0.kind ∙ x.0) in
-            search (found, patch, arith)
+        unheard = search (seat_at, stands, found, patch, arith)
 
     -- the acknowledgement of a phase
     module _ (answer : ℕ) (ran : Bool) where
@@ -376,11 +363,7 @@ module _ (u : Setup) (p : StopState) (at : Word → ℕ) (seat : ℕ → Seat) (
         -- the last to complete is to store done
         still : (a x : ℕ) → p.now.inside me ≡ Some v.slot → acked ((p.now.stop v.slot).standing me) ≡ a → (found == 1) ≡ true →
             StaysStill p (completes_with p me v.slot a x found) me
-        still a x in_ was one j is =
-            let both : Some j ≡ Some v.slot = sym is ∙ in_ in
-            let same : j ≡ v.slot = cc in
-            let next = completed (p.now.stop v.slot) me a x found in
-            search (put_acked, next, put_same, same, one, arith)
+        still a x in_ was one j is = search (found, put_acked, put_same, one, arith)
 
         go : (a x : ℕ) → p.now.inside me ≡ Some v.slot → acked ((p.now.stop v.slot).standing me) ≡ a → (b : Bool) → (found == 1) ≡ b →
             NoteFits p (completes_with p me v.slot a x found) me
@@ -390,14 +373,7 @@ module _ (u : Setup) (p : StopState) (at : Word → ℕ) (seat : ℕ → Seat) (
 
         either : (work : Work) → (((v.answer ≡ 0) × IsLoaded v work × IsThroughAll v × (seat me ≡ In v.slot work v.acked v.acked Rests)) ⊎
             (seat me ≡ Gives v.slot work v.acked v.answer)) → Fits (Complete v completion.CountDown)
-        either work (inl (none, loaded, all, is)) =
-            let st = stands (In v.slot work v.acked v.acked Rests) is in
-            subst (λ (y : Standing). NoteFits p (completes p me v.slot y found) me (note_then u at c me (Complete v completion.CountDown))) (sym st.1)
-            (go v.acked 0 st.0 (ap acked st.1) (found == 1) refl)
-        either work (inr is) =
-            let st = stands (Gives v.slot work v.acked v.answer) is in
-            subst (λ (y : Standing). NoteFits p (completes p me v.slot y found) me (note_then u at c me (Complete v completion.CountDown))) (sym st.1)
-            (go v.acked v.answer st.0 (ap acked st.1) (found == 1) refl)
+        either work h1 = search (stands, v.acked, found, go, arith)
 
   close : (slot : ℕ) → c.stage ≡ Some (Close slot) → Fits (Close slot)
   close slot e = search (stands, seat_at, put_same, arith)
@@ -409,10 +385,7 @@ module _ (u : Setup) (p : StopState) (at : Word → ℕ) (seat : ℕ → Seat) (
       owner = source_is (Owns (source_at LoadDone e).1.0) (source_at LoadDone e).1.1
 
       not_ended : at (Slot me field.Done) ≡ 0 → (p.now.stop me).ending ≢ Ended
-      not_ended none is =
-          let d : DoneShows u.cpus (p.now.stop me).standing Ended (at (Slot me field.Done)) =
-          subst (λ x. DoneShows u.cpus (p.now.stop me).standing x (at (Slot me field.Done))) is ((h.present.slots me).shows owner.is_open).done in
-          let one : at (Slot me field.Done) ≡ 1 = d.0 in omega (arith, one, none)
+      not_ended none is = search (h.present.slots, none, arith)
 
       go : (b : Bool) → (at (Slot me field.Done) == 0) ≡ b → NoteFits p p me (cond b (stop_ends c note.Pending) (stop_goes c LoadResult)).note
       go true none = (owner.is_open, not_ended (eqb-true (at (Slot me field.Done)) 0 none), refl)

@@ -61,30 +61,13 @@ module _ (u : Setup) (p : StopState) (at : Word → ℕ) (seat : ℕ → Seat) (
     where
       -- a nudge that goes on has another note
       goes : (n : ℕ) → Refuses k (Some n) → ⊥
-      goes n = go (xor (is_on (at (Key k))) (is_on n))
-        where
-          go : (b : Bool) → (cond b (stop_ends c note.Stop) (stop_goes c (ExchangeKey k (at (Key k)) n))).note ≢ Some note.KeyRange
-          go true e = cc
-          go false e = cc
+      goes n = search arith
 
       stands : (up : Bool) → IsKeyWord (at (Key k)) → Refuses k (count_after (cond up Up Down) (at (Key k))) → at (Key k) ≡ cond up 65535 0
-      stands true fits refused = go (nat_lt (at (Key k)) 65535) refl refused
-        where
-          go : (b : Bool) → nat_lt (at (Key k)) 65535 ≡ b → Refuses k (cond b (Some (at (Key k) + 1)) None) → at (Key k) ≡ 65535
-          go true z refused = absurd (goes (at (Key k) + 1) refused)
-          go false z refused = elim (cases_lt (at (Key k)) 65535) [
-            | inl low ↦ absurd (let bad : true ≡ false = sym (lt-ltb (at (Key k)) 65535 low) ∙ z in cc)
-            | inr high ↦ omega arith
-          ]
-      stands false fits refused = go (at (Key k) == 0) refl refused
-        where
-          go : (b : Bool) → (at (Key k) == 0) ≡ b → Refuses k (cond b None (Some (at (Key k) - 1))) → at (Key k) ≡ 0
-          go true z refused = eqb-true (at (Key k)) 0 z
-          go false z refused = absurd (goes (at (Key k) - 1) refused)
+      stands up fits refused = search (nat_lt, goes, cases_lt, lt-ltb, eqb-true, arith)
 
       shows : (up : Bool) → at (Key k) ≡ cond up 65535 0 → is_on (at (Key k)) ≡ up
-      shows true e = ap is_on e
-      shows false e = ap is_on e
+      shows up e = search arith
 
   -- outside a patch
   loaded : KeysStand at at

@@ -42,17 +42,10 @@ module _ (u : Setup) (p : StopState) (at : Word → ℕ) (seat : ℕ → Seat) (
   key_read k answer on = go (p.now.inside me) refl
     where
       read : StopShows u (record p { now = reads p.now me (ReadKey k (is_on (at (Key k)))) }) at seat source
-      read = label_step (put p.now.readings me (p.now.readings me ++ ReadKey k (is_on (at (Key k))) ∷ [])) p.now.patching p.nudged p.patched at seat refl
-          (λ j f. refl) h.owns h.counts
-          (reads_label u p.now at seat h.present me (ReadKey k (is_on (at (Key k)))) refl) h.callings h.closing
+      read = search (label_step, h.owns, reads_label, h.present, h.callings, arith)
 
       go : (x : Option ℕ) → p.now.inside me ≡ x → StopShows u (record p { now = key_loaded u p.now me k (at (Key k)) x }) at seat source
-      go None e = read
-      go (Some s) e = subst (λ b. StopShows u (record p {
-        now = cond (b && is_patch (p.now.stop s).work.kind)
-            (record (p.now) { patching = patch_begun u me (p.now.stop s).work (at (Key k)) }) (reads p.now me (ReadKey k (is_on (at (Key k)))));
-      }) at seat source)
-          (sym (not_run s on e)) read
+      go x e = search (read, not_run, arith)
 
   -- load of a site, where interrupts are on: a reading
   pub site_read : (i answer : ℕ) → StopShows u (told u p me act.Load (Site i) (Some (at (Site i))) None answer) at seat source

@@ -64,8 +64,7 @@ module _ (u : Setup) (p : StopState) (at : Word → ℕ) (seat : ℕ → Seat) (
       not_three a b three e = subst (λ x. (x && b) ≡ false) (eq-eqb a 3 three) e
 
       next : (work : Work) → seat me ≡ In v.slot work v.acked v.acked Rests → at (Slot v.slot State) ≢ v.acked → at (Slot v.slot State) ≡ v.acked + 1
-      next work is ne = ⊎_elim (λ (x : at (Slot v.slot State) ≡ v.acked). absurd (ne x)) (λ (x : at (Slot v.slot State) ≡ v.acked + 1). x)
-          (state_near u p at seat source h v.slot me work v.acked v.acked Rests is)
+      next work is ne = search (state_near, arith)
 
       off : (work : Work) → seat me ≡ In v.slot work v.acked v.acked Rests → v.acked ≢ 4 → at (Slot v.slot State) ≡ v.acked + 1 →
           cond (at (Slot v.slot State) == 2) false c.interrupts ≡ nat_lt (at (Slot v.slot State)) 2 || v.acked == 4
@@ -83,19 +82,9 @@ module _ (u : Setup) (p : StopState) (at : Word → ℕ) (seat : ℕ → Seat) (
           Sits u me (at Gate) (cond b (stop_ends c note.Same) (stop_goes (record c { interrupts = cond (at (Slot v.slot State) == 2) false c.interrupts })
           (Advance v (cond d (round.LoadFunc answer) (round.Acknowledge answer false))))).control
           (In v.slot work v.acked (at (Slot v.slot State)) Rests) (source me)
-      go work is visit loaded more y true same d f =
-          let e2 = eqb-true (at (Slot v.slot State)) v.acked same in
-          search (below, arith)
-      go work is visit loaded more y false other true f =
-          let up = next work is (λ z. let bad : true ≡ false = sym (eq-eqb (at (Slot v.slot State)) v.acked z) ∙ other in cc) in
-          let t = both_true (at (Slot v.slot State) == 3) (has v.active me) f in
-          let three = eqb-true (at (Slot v.slot State)) 3 t.0 in
-          let two : v.acked ≡ 2 = omega arith in
-          let x : In v.slot work v.acked (at (Slot v.slot State)) Rests ≡ In v.slot work 2 3 Rests = search arith in
-          search (below, off, in_round, arith)
-      go work is visit loaded more y false other false f =
-          let up = next work is (λ z. let bad : true ≡ false = sym (eq-eqb (at (Slot v.slot State)) v.acked z) ∙ other in cc) in
-          search (below, off, not_three, arith)
+      go work is visit loaded more y true same d f = search (eqb-true, v.acked, below, arith)
+      go work is visit loaded more y false other true f = search (next, eq-eqb, v.acked, both_true, v.active, eqb-true, below, off, in_round, arith)
+      go work is visit loaded more y false other false f = search (next, eq-eqb, v.acked, below, off, not_three, arith)
 
   pub load_func : (answer : ℕ) → c.stage ≡ Some (Advance v (round.LoadFunc answer)) → StopStep u p at seat source c me (Advance v (round.LoadFunc answer))
   load_func answer e =
@@ -135,10 +124,8 @@ module _ (u : Setup) (p : StopState) (at : Word → ℕ) (seat : ℕ → Seat) (
           }) (stop_goes c (Advance v (round.LoadKey func (change_of (at (Slot v.slot Arg))))))).control
           (seat me) (source me)
       go visit some work run same y One k = absurd (some k)
-      go visit some work run same y Multi k =
-          search arith
-      go visit some work run same y Patch k =
-          search (work_words, arith)
+      go visit some work run same y Multi k = search arith
+      go visit some work run same y Patch k = search (work_words, arith)
 
   -- the first load of a patch
   pub load_key : (key : ℕ) (change : KeyChange) → c.stage ≡ Some (Advance v (round.LoadKey key change)) → StopStep u p at seat source c me
@@ -162,17 +149,13 @@ module _ (u : Setup) (p : StopState) (at : Word → ℕ) (seat : ℕ → Seat) (
       nothing_made : (work : Work) (found : ℕ) (o : Option ℕ) → count_after (change_of work.arg) found ≡ o → plan_of work.func found (count_or found o)
           u.entries ≡ [] →
           Alters v.slot work found [] (plan_of work.func found (count_or found o) u.entries) ≡ Alters v.slot work found (plan_at u work found) []
-      nothing_made work found o e none =
-          let whole : plan_at u work found ≡ [] = ap (λ x. plan_of work.func found (count_or found x) u.entries) e ∙ none in
-          ap (λ l. Alters v.slot work found [] l) none ∙ ap (λ l. Alters v.slot work found l []) (sym whole)
+      nothing_made work found o e none = search (found, work.func, arith)
 
       go : c.visit ≡ Some v → (work : Work) → SitsAtRun me v work (seat me) → OwnsIf c.is_open (source me) → (found : ℕ) (o : Option ℕ) →
           count_after (change_of work.arg) found ≡ o →
           Sits u me (at Gate) (key_on c v work.func found o).control (Alters v.slot work found [] (plan_of work.func found (count_or found o) u.entries))
           (source me)
-      go visit work run y found None e =
-          let irq' = s.irq ∙ ap irq_of run.3 in
-          search (irq', found, nothing_made, plan_same, eq-eqb, arith)
+      go visit work run y found None e = search (found, nothing_made, plan_same, eq-eqb, arith)
       go visit work run y found (Some new) e = split (found == new) refl (xor (is_on found) (is_on new)) refl
         where
           left : new ≡ count_set work found
@@ -258,8 +241,7 @@ module _ (u : Setup) (p : StopState) (at : Word → ℕ) (seat : ℕ → Seat) (
       go : c.visit ≡ Some v → (work : Work) (count : ℕ) → IsLoaded v work → v.acked ≡ 2 → made < length c.changes → c.changes ≡ plan_at u work count →
           (before after : List Change) → c.changes ≡ before ++ after → length before ≡ made →
           seat me ≡ Alters v.slot work count before after → OwnsIf c.is_open (source me) → StopStep u p at seat source c me (Advance v (round.StoreChange made))
-      go visit work count loaded two low plan before [] are long is y =
-          absurd (let same : length c.changes ≡ length before = ap length (are ∙ append-nil before) in omega arith)
+      go visit work count loaded two low plan before [] are long is y = search (append-nil, arith)
       go visit work count loaded two low plan before (change ∷ rest) are long is y =
           let here : change_at c.changes made ≡ change = search (change_here, arith) in
           let next = Alters v.slot work count (before ++ change ∷ []) rest in

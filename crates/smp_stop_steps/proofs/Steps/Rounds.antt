@@ -101,12 +101,10 @@ module _ (u : Setup) (p : StopState) (at : Word → ℕ) (seat : ℕ → Seat) (
       (closing_kept p.now seat me next h.closing (subst IsNotClosing (sym is) tt) s stop' (λ c ne. put_other (p.now.stop s).standing me to c ne) refl refl))
     where
       near : (l ≡ a) ⊎ ((l ≡ a + 1) × ((p.now.stop s).phase ≡ l)) → a ≡ 2 → l ≡ 3 → (p.now.stop s).phase ≡ 3
-      near k two three = ⊎_elim (λ (e : l ≡ a). absurd (let z : ⊥ = omega (arith, two, three) in z)) (λ (e : (l ≡ a + 1) × ((p.now.stop s).phase ≡ l)).
-          e.1 ∙ three) k
+      near k two three = search arith
 
       other_irq : (b : Bool) (c : ℕ) → c ≢ me → cond b (put p.now.irq me false) p.now.irq c ≡ p.now.irq c
-      other_irq true c ne = put_other p.now.irq me false c ne
-      other_irq false c ne = refl
+      other_irq b c ne = search (put_other, arith)
 
       save : (found : ℕ) → SaveMe p.now me p.now.inside (cond (found == 2) (put p.now.irq me false) p.now.irq) p.now.readings
       save found = record { inside = λ c ne. refl; irq = λ c ne. other_irq (found == 2) c ne; readings = λ c ne. refl }
@@ -114,14 +112,11 @@ module _ (u : Setup) (p : StopState) (at : Word → ℕ) (seat : ℕ → Seat) (
       turned : (found : ℕ) → found ≡ found → found ≡ (p.now.stop s).phase → Keeps u.cpus (p.now.stop s).phase me (Inside a l) → p.now.irq me ≡ nat_lt l 2 ||
           a == 4 →
           cond (found == 2) (put p.now.irq me false) p.now.irq me ≡ nat_lt found 2 || a == 4
-      turned found _ e k i = at_test found 2 (λ b. cond b (put p.now.irq me false) p.now.irq me ≡ nat_lt found 2 || a == 4)
-          (λ two. put_same p.now.irq me false ∙ sym (ap (λ n. nat_lt n 2 || a == 4) two ∙ ne_eqb a 4 more))
-          (λ ne. i ∙ ap (λ b. b || a == 4) (look_irq l a found (p.now.stop s).phase e k.1 k.2 ne))
+      turned found h1 e k i = search (at_test, nat_lt, put_same, ne_eqb, look_irq, arith)
 
       before : (found : ℕ) → nat_lt found 2 || a == 4 ≡ cond (found == 2) (put p.now.irq me false) p.now.irq me → nat_lt found 2 || a == 4 ≡ true →
           p.now.irq me ≡ true
-      before found e i = at_test found 2 (λ b. cond b (put p.now.irq me false) p.now.irq me ≡ true → p.now.irq me ≡ true)
-          (λ _ x. let bad : true ≡ false = sym x ∙ put_same p.now.irq me false in cc) (λ _ x. x) (sym e ∙ i)
+      before found e i = search (at_test, put_same, arith)
 
   -- who is not inside the function of a patch does not end one
   not_patching : (x : Patching) → IsNoPatch (seat me) → RunnerShows u.first x seat → unpatched me x ≡ x
@@ -133,14 +128,11 @@ module _ (u : Setup) (p : StopState) (at : Word → ℕ) (seat : ℕ → Seat) (
   leave_agrees job a l t is late = go (is_patch job.kind) refl (s == me) refl
     where
       kind_patch : (k : KindOf) → is_patch k ≡ true → k ≡ Patch
-      kind_patch One e = cc
-      kind_patch Multi e = cc
-      kind_patch Patch e = refl
+      kind_patch k e = search arith
 
       reads : (n : ℕ) → n ≡ at (Key job.func) → (x : Option Bool) → IfSome x (λ on. is_on n ≡ on) → AllByRecursion (Agrees (labels_in at))
           (reading_of job.func x)
-      reads n same None k = tt
-      reads n same (Some on) k = (ap is_on (sym same) ∙ k, tt)
+      reads n same x k = search arith
 
       go : (b : Bool) → is_patch job.kind ≡ b → (c : Bool) → (s == me) ≡ c → AllByRecursion (Agrees (labels_in at))
           (cond (b && c) (reading_of job.func (state_left (change_of job.arg))) [])
@@ -292,23 +284,13 @@ module _ (u : Setup) (p : StopState) (at : Word → ℕ) (seat : ℕ → Seat) (
         (a + 1 == 4 && not (found == 1)) refl))
       where
         several : (k : KindOf) → k ≡ One → IsPhaseOf k (p.now.stop s).phase → (p.now.stop s).phase ≡ a + 1 → ⊥
-        several One e z phase = omega arith
-        several Multi e z phase = cc
-        several Patch e z phase = cc
+        several k e z phase = search arith
 
         still : (b : Bool) → IsNoPatch (seat me) → cond b (unpatched me p.now.patching) p.now.patching ≡ p.now.patching
-        still true idle = not_patching p.now.patching idle h.present.runner
-        still false idle = refl
+        still b idle = search (not_patching, arith)
 
         active : (p.now.stop s).work.kind ≡ Patch → me ≡ u.first → a ≡ 2 → (p.now.stop s).work ≡ job → ⊥
-        active kind mine two same =
-            let w = h.present.works s (is_open job a (a + 1) Rests is) kind in
-            let yes : has (p.now.stop s).work.active me ≡ true = w.first me ∙ eq-eqb me u.first mine in
-            let here = subst (λ n. IsCalling me (In s job n (a + 1) Rests) (p.calling me)) two (subst (λ x. IsCalling me x (p.calling me)) is
-            (h.callings me)) in
-            let idle = idle_patch me s job (a + 1) Rests (p.calling me) (ap (λ (w : Work). w.kind) (sym same) ∙ kind) here in
-            let passive : has (p.now.stop s).work.active me ≡ false = ap (λ (w : Work). has w.active me) same ∙ subst (HasCalled me job) idle (ready two) in
-            let bad : true ≡ false = sym yes ∙ passive in cc
+        active kind mine two same = search (h.present.works, is_open, eq-eqb, h.callings, idle_patch, arith)
 
   -- the same at phase 3, by the CPU that has made all stores of its patch
   pub ack_subtracted_patched : (job : Work) (count : ℕ) (made : List Change) (answer : ℕ) → seat me ≡ Alters s job count made [] →
@@ -379,9 +361,7 @@ module _ (u : Setup) (p : StopState) (at : Word → ℕ) (seat : ℕ → Seat) (
       (closing_kept p.now seat me next h.closing (subst IsNotClosing (sym is) tt) s stop' (λ c ne. refl) refl refl))
     where
       one : (r : Raising) → turn_of r me ≡ Fills → r ≡ Nobody → ⊥
-      one Nobody e z = cc
-      one (Refills r) e z = cc
-      one (Raises r) e z = cc
+      one r e z = search arith
 
   -- store of the next phase by the one that refilled the count; from 4 to 5 it leaves
   pub state_stored : (job : Work) (a l answer : ℕ) → seat me ≡ In s job a l Sets →
@@ -407,13 +387,10 @@ module _ (u : Setup) (p : StopState) (at : Word → ℕ) (seat : ℕ → Seat) (
       search (go, arith)
     where
       one : (r : Raising) → turn_of r me ≡ Sets → r ≡ Nobody → ⊥
-      one Nobody e z = cc
-      one (Refills r) e z = cc
-      one (Raises r) e z = cc
+      one r e z = search arith
 
       callings : (c : ℕ) → IsCalling c (put seat me (In s job a l Rests) c) (p.calling c)
-      callings = calling_same seat p.calling h.callings me (In s job a l Rests) (calling_turned me s job a l Sets Rests (p.calling me) (λ e. cc)
-          (subst (λ x. IsCalling me x (p.calling me)) is (h.callings me)))
+      callings = search (calling_same, h.callings, calling_turned, arith)
 
       closing : AreClosing (record (p.now) { stop = put p.now.stop s (raised (p.now.stop s) (a + 1)) }) (put seat me (In s job a l Rests))
       closing = closing_kept p.now seat me (In s job a l Rests) h.closing (subst IsNotClosing (sym is) tt) s (raised (p.now.stop s) (a + 1)) (λ c ne. refl)

@@ -146,8 +146,7 @@ module _ (u : Setup) (p : StopState) (at : Word → ℕ) (seat : ℕ → Seat) (
       (step_opens u p.now at seat h.present me work d.shut d.is_work d.stored)))
     where
       called_not : (b : Bool) → is_inside (cond b Called Outside) ≡ true → ⊥
-      called_not true e = cc
-      called_not false e = cc
+      called_not b e = search arith
 
   owner : (work : Work) → source me ≡ Owns work → OwnerShows u (p.now.stop me) work
   owner work is = subst (SourceShows u p.gate (p.now.stop me) w me) is (h.sources me)
@@ -157,9 +156,7 @@ module _ (u : Setup) (p : StopState) (at : Word → ℕ) (seat : ℕ → Seat) (
   done_loaded work is found = search (put_all, owner, ends, h.present.slots, h.sources, arith)
     where
       ends : (e : Ending) → (p.now.stop me).ending ≡ e → DoneShows u.cpus (p.now.stop me).standing e (at (Slot me Done)) → (p.now.stop me).ending ≡ Ended
-      ends Running e d = absurd (let x = d.0 in omega arith)
-      ends (Last c) e d = absurd (let x = d.0 in omega arith)
-      ends Ended e d = e
+      ends e e' d = search arith
 
   -- load of the result, after that: collect
   pub result_loaded : (work : Work) (answer : ℕ) → source me ≡ Collects work →
@@ -183,11 +180,7 @@ module _ (u : Setup) (p : StopState) (at : Word → ℕ) (seat : ℕ → Seat) (
       (step_collects u p.now at seat h.present me o.0.is_open d.0)
     where
       all : {b : Bool} (x : Standing) → is_of x ≡ b → (is_of x ≡ true → unfinished x ≡ 0) → answer_now x ≡ cond b (answer_of x ∷ []) []
-      all {b} Outside e z = ap (λ c. cond c (0 ∷ []) []) e
-      all {b} Called e z = absurd (let f : 1 ≡ 0 = z refl in omega arith)
-      all {b} (Inside a l) e z = absurd (let f : 1 ≡ 0 = z refl in omega arith)
-      all {b} (Answering a v) e z = absurd (let f : 1 ≡ 0 = z refl in omega arith)
-      all {b} (Completed a v) e z = ap (λ c. cond c (v ∷ []) []) e
+      all {b} x e z = search arith
 
   -- compare-exchange of the gate, that won
   pub gate_taken : (answer : ℕ) → at Gate ≡ 0 → StopShows u (told u p me act.Cas Gate (Some 0) (Some (me + 1)) answer) (put_word at Gate (me + 1)) seat source

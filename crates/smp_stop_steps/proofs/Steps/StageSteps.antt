@@ -203,17 +203,7 @@ module _ (u : Setup) (p : StopState) (at : Word → ℕ) (seat : ℕ → Seat) (
       record { seat_after = seat me; source_after = g.0; shows = g.1; sits = g.2 }
     where
       open_done : (work : Work) → source me ≡ Owns work → (at (Slot me Done) == 0) ≡ false → at (Slot me Done) ≡ 1
-      open_done work own ne =
-          let o : OwnerShows u (p.now.stop me) work = subst (SourceShows u p.gate (p.now.stop me) (λ f. at (Slot me f)) me) own (h.sources me) in
-          done_one (p.now.stop me).ending ((h.present.slots me).shows o.is_open).done
-        where
-          apart : at (Slot me Done) ≡ 0 → ⊥
-          apart z = let bad : true ≡ false = sym (eq-eqb (at (Slot me Done)) 0 z) ∙ ne in cc
-
-          done_one : (end : Ending) → DoneShows u.cpus (p.now.stop me).standing end (at (Slot me Done)) → at (Slot me Done) ≡ 1
-          done_one Running d = absurd (apart d.0)
-          done_one (Last r) d = absurd (apart d.0)
-          done_one Ended d = d.0
+      open_done work own ne = search (h.sources, h.present.slots, eq-eqb, arith)
 
       go : AtRest → c.is_open ≡ true → (work : Work) → source me ≡ Owns work → (b : Bool) → (at (Slot me Done) == 0) ≡ b →
           (y : Source) × (StopShows u p at (put seat me (seat me)) (put source me y)) × Sits u me (at Gate) (cond b (stop_ends c note.Pending)

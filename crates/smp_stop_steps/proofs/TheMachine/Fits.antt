@@ -59,24 +59,15 @@ search_below mask online (suc k) = go (search_below mask online k) (has mask k) 
         ((c : ℕ) × (has mask c ≡ true) × (has online c ≡ false))
     go (inr found) x y m o = inr found
     go (inl all) true false m o = inr (k, m, o)
-    go (inl all) true true m o = inl (λ c l is. elim (cases_eq c k) [
-      | inl same ↦ ap (has online) same ∙ o
-      | inr other ↦ all c (omega arith) is
-    ])
-    go (inl all) false y m o = inl (λ c l is. elim (cases_eq c k) [
-      | inl same ↦ let bad : true ≡ false = sym is ∙ (ap (has mask) same ∙ m) in cc
-      | inr other ↦ all c (omega arith) is
-    ])
+    go (inl all) true true m o = search arith
+    go (inl all) false y m o = search arith
 
 -- some member of a mask is none of the others, where not all are
 pub some_outside : (mask online : ℕ) → bit_and mask online ≢ mask → (c : ℕ) × (has mask c ≡ true) × (has online c ≡ false)
 some_outside mask online ne = go (search_below mask online mask)
   where
     below_it : (c : ℕ) → has mask c ≡ true → (b : Bool) → nat_lt c mask ≡ b → c < mask
-    below_it c is true e = ltb-true c mask e
-    below_it c is false e =
-        let high : mask ≤ c = grind (arith, nat_tests) in
-        let bad : true ≡ false = sym is ∙ has_above mask mask c (small mask) high in cc
+    below_it c is b e = search (ltb-true, nat_tests, has_above, small, arith)
 
     go : (((c : ℕ) → c < mask → has mask c ≡ true → has online c ≡ true) ⊎ ((c : ℕ) × (has mask c ≡ true) × (has online c ≡ false))) →
         (c : ℕ) × (has mask c ≡ true) × (has online c ≡ false)

@@ -98,20 +98,9 @@ module _ (u : Setup) (p : StopState) (at : Word → ℕ) (seat : ℕ → Seat) (
           go : (work : Work) (count : ℕ) → made < length c.changes → c.changes ≡ plan_at u work count → (before after : List Change) →
               c.changes ≡ before ++ after → length before ≡ made →
               seat me ≡ Alters v.slot work count before after → IsStopWord (word_of (store_of (change_at c.changes made)))
-          go work count low plan before [] are long is = absurd (let same : length c.changes ≡ length before = ap length (are ∙ append-nil before) in
-              omega arith)
+          go work count low plan before [] are long is = search (append-nil, arith)
           go work count low plan before (change ∷ rest) are long is =
-              let st : Stands p.now me (Alters v.slot work count before (change ∷ rest)) = subst (Stands p.now me) is (h.present.stands me) in
-              let key = key_below v.slot work (open_alters v.slot work count before (change ∷ rest) is) st.3 st.4 in
-              let all : AllByRecursion IsNamedChange (plan_at u work count) = search (plan_named, arith) in
-              let here : change_at c.changes made ≡ change = search (change_here, arith) in
-              search (IsStopWord, named_store, at_split, arith)
-            where
-              plan_named : (work : Work) → work.func < MOST_KEYS → (word : ℕ) (a b : Bool) → AllByRecursion IsNamedChange
-                  (cond a [] (cond b (patch_of work.func word u.entries) ((place.Key work.func, word) ∷ [])))
-              plan_named work key word true b = tt
-              plan_named work key word false true = (key, sites_named work.func (is_on word) 0 u.entries (let f = h.present.entries.few in omega arith))
-              plan_named work key word false false = (key, tt)
+              search (h.present.stands, key_below, open_alters, change_here, IsStopWord, named_store, at_split, work.func, sites_named, arith)
       round_named v (round.Acknowledge answer ran) x = search (v.acked, below_in, below_alters, arith)
       round_named v (round.Refill ran) x = below_in v.slot x.0 v.acked v.acked Fills x.2
       round_named v (round.Raise ran) x = below_in v.slot x.0 v.acked v.acked Sets x.2

@@ -31,5 +31,4 @@ module _ (v : StopsValue) (sound : IsSoundHalf v) (cpu : ℕ) (low : cpu < cpus)
     where
       go : (o : Option StopStage) → stop_first (stop_control_of v.controls cpu) c ≡ o → IsSoundHalf (stop_begun_if v cpu o)
       go None first = sound
-      go (Some stage) first = begun_sound stage (may_begin v cpu c stage low below online fits allowed first)
-          (subst StageFits first (first_fits (stop_control_of v.controls cpu) c (sound.answers cpu).visit fits))
+      go (Some stage) first = search (begun_sound, may_begin, first_fits, sound.answers, arith)

@@ -96,29 +96,11 @@ module _ (u : Setup) (few : u.cpus ≡ cpus) (p : StopState) (t : StopWords) (co
       }
     where
       held : (cpu : ℕ) → cpu ≢ me → (st : Option StopStage) → HoldsGate cpu (at Gate) st → HoldsGate cpu (at_then u at c me stage Gate) st
-      held cpu ne None h = tt
-      held cpu ne (Some OpenGate) h = gate_stays u p at v.seat v.source v.shows few v.shut me c (v.sits me below) stage e cpu ne h
-      held cpu ne (Some TakeGate) h = tt
-      held cpu ne (Some (Begin work f)) h = tt
-      held cpu ne (Some (Enter slot)) h = tt
-      held cpu ne (Some (EnterKind slot)) h = tt
-      held cpu ne (Some (EnterMask slot kind)) h = tt
-      held cpu ne (Some (EnterActive slot kind mask)) h = tt
-      held cpu ne (Some (Advance w st)) h = tt
-      held cpu ne (Some (Complete w st)) h = tt
-      held cpu ne (Some (Close slot)) h = tt
-      held cpu ne (Some LoadDone) h = tt
-      held cpu ne (Some LoadResult) h = tt
-      held cpu ne (Some (ReadKey k)) h = tt
-      held cpu ne (Some (ReadSite i)) h = tt
-      held cpu ne (Some (NudgeKey k up)) h = tt
-      held cpu ne (Some (ExchangeKey k expected new)) h = tt
+      held cpu ne st h = search (gate_stays, v.seat, v.source, v.shows, v.shut, v.sits, below, arith)
 
       others : (cpu : ℕ) → cpu ≢ me → Sits u cpu (at Gate) (stop_control_of controls cpu) (v.seat cpu) (v.source cpu) →
           Sits u cpu (at_then u at c me stage Gate) (stop_control_of controls cpu) (v.seat cpu) (v.source cpu)
-      others cpu ne s =
-          let gate_held' = held cpu ne (stop_control_of controls cpu).stage s.gate_held in
-          search (gate_held', arith)
+      others cpu ne s = search (held, arith)
 
   -- the table stays one
   pub stop_table_shown : IsStopTable (stop_words_after t (stop_access u.cpus me c.changes stage))
