@@ -28,9 +28,8 @@ counted_first : (f : ℕ → ℕ → Moved) (me k old new : ℕ) (list : List Mo
     AreFirst MOST_KEYS (moved_by f me k old new me) unmoved (counted list k old new)
 counted_first f me k old new list h low =
     let mine = put (f me) k (moves (f me k) old new) in
-    subst (λ g. AreFirst MOST_KEYS g unmoved (counted list k old new)) (sym (put_same f me mine))
-    (subst (λ (m : Moved). AreFirst MOST_KEYS mine unmoved (set list k (moves m old new))) (h.each k low)
-    (first_put MOST_KEYS (f me) unmoved list k (moves (f me k) old new) h low))
+    let shown' = first_put MOST_KEYS (f me) unmoved list k (moves (f me k) old new) h low in
+    search (put_same f me mine, ← h.each k low, shown', arith)
 
 module _ (p : StopState) (at : Word → ℕ) (seat : ℕ → Seat) (source : ℕ → Source) (v : Known) (h : StopShows (setup_in v.setting) p at seat source)
     (sees : Sees p seat source v) where
@@ -99,25 +98,13 @@ module _ (p : StopState) (at : Word → ℕ) (seat : ℕ → Seat) (source : ℕ
       go true e =
           let was : at (Key k) ≡ found = eqb-true (at (Key k)) found e in
           let parts = sees.part_is in
-          subst (λ n. Goes (put_word at (Key k) new) (record v { part = record (v.part) { nudged = counted v.part.nudged k n new } })) (sym was)
-          (goes_still p seat source v sees (record p { nudged = moved_by p.nudged v.number k found new }) (put_word at (Key k) new)
-          (record (v.part) { nudged = counted v.part.nudged k found new })
-          (key_exchanged u p at seat source h v.number k found new sees.below online (irq_on on) was is 0)
-          record {
-            mine = record {
-              holds = parts.holds;
-              begun = parts.begun;
-              collected = parts.collected;
-              answers = parts.answers;
-              looks = parts.looks;
-              calling = parts.calling;
-              readings = parts.readings;
-              nudged = counted_first p.nudged v.number k found new v.part.nudged parts.nudged low;
-              patched = parts.patched;
-            };
-            others = λ c ne. ap (λ x. record (columns_of p c) { nudged = x }) (put_other p.nudged v.number (put (p.nudged v.number) k
-                (moves (p.nudged v.number k) found new)) c ne);
-          })
+          let shown' = goes_still p seat source v sees (record p { nudged = moved_by p.nudged v.number k found new }) (put_word at (Key k) new) (record
+              (v.part) { nudged = counted v.part.nudged k found new }) (key_exchanged u p at seat source h v.number k found new sees.below online (irq_on on)
+              was is 0) record { mine = record { holds = parts.holds; begun = parts.begun; collected = parts.collected; answers = parts.answers; looks =
+              parts.looks; calling = parts.calling; readings = parts.readings; nudged = counted_first p.nudged v.number k found new v.part.nudged parts.nudged
+              low; patched = parts.patched; }; others = λ c ne. ap (λ x. record (columns_of p c) { nudged = x }) (put_other p.nudged v.number (put (p.nudged
+              v.number) k (moves (p.nudged v.number k) found new)) c ne); } in
+          search (was, shown', arith)
 
   -- patches
 
@@ -136,11 +123,10 @@ module _ (p : StopState) (at : Word → ℕ) (seat : ℕ → Seat) (source : ℕ
       (ap (λ (z : Work). z.kind) st.3 ∙ kind)) in
       let known : key_loaded_by w.func found v.seat v ≡ record v { seat = next } =
       ap (λ x. key_loaded_by w.func found x v) is ∙ ap (λ k. cond (is_patch k) (record v { seat = next }) (reads_more r v)) kind in
-      subst (λ q. Goes at q) (sym known)
-      (goes_seat p seat source v sees (record p { now = patch }) at next v.part
-      (subst (λ n. StopShows u (record p { now = n }) at (put seat v.number next) source) plain (key_loaded_first u p at seat source h v.number s w 0
-      (sees.seat_is ∙ is) kind active))
-      record { mine = sees.part_is; others = λ c ne. refl })
+      let shown' = goes_seat p seat source v sees (record p { now = patch }) at next v.part (subst (λ n. StopShows u (record p { now = n }) at (put seat
+          v.number next) source) plain (key_loaded_first u p at seat source h v.number s w 0 (sees.seat_is ∙ is) kind active)) record { mine = sees.part_is;
+          others = λ c ne. refl } in
+      search (known, shown', arith)
 
   -- the counts that this CPU has moved as a runner of patches
   patched_leaves : (k count n : ℕ) (now : Present) → k < MOST_KEYS → ((c : ℕ) → now.readings c ≡ p.now.readings c) →
@@ -167,15 +153,13 @@ module _ (p : StopState) (at : Word → ℕ) (seat : ℕ → Seat) (source : ℕ
       let p' = record p { now = record (p.now) { patching = more }; patched = moved_by p.patched v.number k count n } in
       let plain : told u p v.number act.Store (Key k) None (Some n) 0 ≡ p' =
       ap (λ y. record p { now = record (p.now) { patching = patched_more y }; patched = key_patched y p.patched v.number k n }) st.5 in
-      subst (λ y. Goes at' (record v { seat = altered_by y; part = record (v.part) { patched = patched_from y k n v.part.patched } })) (sym is)
-      (goes_seat p seat source v sees p' at' next (record (v.part) { patched = counted v.part.patched k count n })
-      (subst (λ q. StopShows u q at' (put seat v.number next) source) plain
-      (key_stored u p at seat source h v.number s w count made rest k n 0 sees.below (sees.seat_is ∙ is) first.0 first.1))
-      (patched_leaves k count n p'.now (subst (λ i. i < MOST_KEYS) (sym first.1) low) (λ c. refl)))
+      let shown' = goes_seat p seat source v sees p' at' next (record (v.part) { patched = counted v.part.patched k count n }) (subst (λ q. StopShows u q at'
+          (put seat v.number next) source) plain (key_stored u p at seat source h v.number s w count made rest k n 0 sees.below (sees.seat_is ∙ is) first.0
+          first.1)) (patched_leaves k count n p'.now (subst (λ i. i < MOST_KEYS) (sym first.1) low) (λ c. refl)) in
+      search (is, shown', arith)
   alter s w count made rest (place.Site i) n is plan low =
       let next = Alters s w count (made ++ (place.Site i, n) ∷ []) rest in
       let p' = told u p v.number act.Store (Site i) None (Some n) 0 in
-      subst (λ y. Goes (put_word at (Site i) n) (record v { seat = altered_by y })) (sym is)
-      (goes_seat p seat source v sees p' (put_word at (Site i) n) next v.part (site_stored u p at seat source h v.number s w count made rest i n 0
-      (sees.seat_is ∙ is))
-      record { mine = sees.part_is; others = λ c ne. refl })
+      let shown' = goes_seat p seat source v sees p' (put_word at (Site i) n) next v.part (site_stored u p at seat source h v.number s w count made rest i n 0
+          (sees.seat_is ∙ is)) record { mine = sees.part_is; others = λ c ne. refl } in
+      search (is, shown', arith)

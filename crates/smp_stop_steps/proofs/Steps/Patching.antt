@@ -131,15 +131,12 @@ module _ (u : Setup) (p : StopState) (at : Word → ℕ) (seat : ℕ → Seat) (
         let was : at (Key k) ≡ count = ap (λ (t : Table). t.key k) (l.2 ∙ ap (λ m. applied m l.0) none) ∙ (ap l.0.key here ∙ l.3) in
         let made' = made ++ (place.Key k, n) ∷ [] in
         let at' = put_word at (Key k) n in
-        subst (λ x. StopShows u (record p { now = record (p.now) { patching = patched_more x }; patched = key_patched x p.patched me k n }) at'
-        (put seat me (Alters s job count made' rest)) source) (sym st.5)
-        (label_step p.now.readings (Patches me job count made' rest) p.nudged (moved_by p.patched me k count n) at'
-        (put seat me (Alters s job count made' rest)) refl (λ j f. refl)
-        (λ j. owns_stores u p.now at seat h.present j me s k n job count made ((place.Key k, n) ∷ rest) is (h.owns j))
-        (counts_patched u.cpus p.nudged p.patched at me k count n below was h.counts)
-        (patch_stores u p.now at seat h.present s me job count made rest (place.Key k, n) at' is refl h.present.slots (entries_same at' (λ i. refl)))
-        (alters_calling count made ((place.Key k, n) ∷ rest) made' rest is) (closing_seat p.now seat me (Alters s job count made' rest) h.closing
-        (subst IsNotClosing (sym is) tt)))
+        let shown' = label_step p.now.readings (Patches me job count made' rest) p.nudged (moved_by p.patched me k count n) at' (put seat me (Alters s job
+            count made' rest)) refl (λ j f. refl) (λ j. owns_stores u p.now at seat h.present j me s k n job count made ((place.Key k, n) ∷ rest) is (h.owns
+            j)) (counts_patched u.cpus p.nudged p.patched at me k count n below was h.counts) (patch_stores u p.now at seat h.present s me job count made rest
+            (place.Key k, n) at' is refl h.present.slots (entries_same at' (λ i. refl))) (alters_calling count made ((place.Key k, n) ∷ rest) made' rest is)
+            (closing_seat p.now seat me (Alters s job count made' rest) h.closing (subst IsNotClosing (sym is) tt)) in
+        search (st.5, shown', arith)
 
     -- store of a site by a patch
     pub site_stored : (count : ℕ) (made rest : List Change) (i n answer : ℕ) → seat me ≡ Alters s job count made ((place.Site i, n) ∷ rest) →
@@ -149,10 +146,8 @@ module _ (u : Setup) (p : StopState) (at : Word → ℕ) (seat : ℕ → Seat) (
         let st : Stands p.now me (Alters s job count made ((place.Site i, n) ∷ rest)) = subst (Stands p.now me) is (h.present.stands me) in
         let made' = made ++ (place.Site i, n) ∷ [] in
         let at' = put_word at (Site i) n in
-        subst (λ x. StopShows u (record p { now = record (p.now) { patching = patched_more x } }) at' (put seat me (Alters s job count made' rest)) source)
-        (sym st.5)
-        (label_step p.now.readings (Patches me job count made' rest) p.nudged p.patched at' (put seat me (Alters s job count made' rest)) refl (λ j f. refl)
-        h.owns h.counts
-        (patch_stores u p.now at seat h.present s me job count made rest (place.Site i, n) at' is refl h.present.slots (entries_same at' (λ i. refl)))
-        (alters_calling count made ((place.Site i, n) ∷ rest) made' rest is) (closing_seat p.now seat me (Alters s job count made' rest) h.closing
-        (subst IsNotClosing (sym is) tt)))
+        let shown' = label_step p.now.readings (Patches me job count made' rest) p.nudged p.patched at' (put seat me (Alters s job count made' rest)) refl (λ
+            j f. refl) h.owns h.counts (patch_stores u p.now at seat h.present s me job count made rest (place.Site i, n) at' is refl h.present.slots
+            (entries_same at' (λ i. refl))) (alters_calling count made ((place.Site i, n) ∷ rest) made' rest is) (closing_seat p.now seat me (Alters s job
+            count made' rest) h.closing (subst IsNotClosing (sym is) tt)) in
+        search (st.5, shown', arith)
