@@ -1,20 +1,14 @@
 -- Who may make which step of the stop half: what holds of the stops before it.
 use Rattle.std.specs.Prelude.{◌≡◌, ℕ, ◌+◌, Bool, true, false, Option, Some, None}
-use Rattle.smp_mask.specs.Mask.{has}
-use Rattle.smp_words.specs.Access.{word_of, seen_of}
+use Rattle.smp_stop_steps.specs.Names.{has, word_of, seen_of, StopStage, Field, Act, Word, Gate, Slot}
 use Rattle.smp_stop_steps.specs.Callings.{HasCompleted}
 use Rattle.smp_stop_steps.specs.Laws.{IsThrough}
 use Rattle.smp_stop_steps.specs.Promises.{OfEachCpu}
 use Rattle.smp_stop_steps.specs.Stages.{stop_access}
 use Rattle.smp_stop_steps.specs.State.{StopState}
 use Rattle.smp_stop_steps.specs.Stop.{Stop, Inside, Called, Refills, Raises, Last, acked}
-use Rattle.smp_stop_steps.specs.declared.stage.StopStage.{StopStage}
-use Rattle.smp_words.specs.declared.field.Field.{Field}
-use Rattle.smp_words.specs.declared.field.Field.TheVariants as field
-use Rattle.smp_words.specs.declared.seen.Act.{Act}
-use Rattle.smp_words.specs.declared.seen.Act.TheVariants as act
-use Rattle.smp_words.specs.declared.word.Word.{Word}
-use Rattle.smp_words.specs.declared.word.Word.TheVariants.{Gate, Slot}
+use Rattle.smp_stop_steps.specs.Names.field
+use Rattle.smp_stop_steps.specs.Names.act
 
 abbrev pub AllAcknowledged : Stop → Type 0
 AllAcknowledged stop = (c : ℕ) → has stop.work.mask c ≡ true → acked (stop.standing c) ≡ stop.phase
