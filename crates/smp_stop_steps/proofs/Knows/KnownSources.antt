@@ -160,8 +160,14 @@ module _ (p : StopState) (at : Word → ℕ) (seat : ℕ → Seat) (source : ℕ
       Goes (put_word at (Slot v.number field.Kind) (begun_value cpus work field.Kind)) (draft_known (begun_value cpus work field.Kind) v)
   draft work shut holds is =
       let closed : (p.now.stop v.number).is_open ≡ false = source_here Shut (is_shut (source v.number) (sees.source_is ∙ shut)) in
-      let shown' = field_goes work field.Kind record { shut = closed; holds = holder p.gate v.number (sees.part_is.holds ∙ holds); is_work = is; stored = λ f
-          l. absurd (omega arith); told = search arith; } (omega arith) in
+      let shown' = field_goes work field.Kind record {
+        shut = closed;
+        holds = holder p.gate v.number (sees.part_is.holds ∙ holds);
+        is_work = is;
+        stored = λ f
+            l. absurd (omega arith);
+        told = search arith;
+      } (omega arith) in
       search (kind_back work.kind, shown', arith)
 
   pub draft_more : (work : Work) (f : Field) → v.source ≡ Drafts (told_work (order f) work) (order f) → IsWork u work → order f ≢ 0 → order f < 10 →
@@ -188,9 +194,12 @@ module _ (p : StopState) (at : Word → ℕ) (seat : ℕ → Seat) (source : ℕ
       let begun = p.begun v.number ++ (p.now.stop v.number).work ∷ [] in
       let k = sees.part_is in
       let shown' = goes_source p seat source v sees (opens p v.number) at' (Owns work) (Owns work) (record (v.part) { begun = v.part.begun ++ work ∷ [] })
-          (subst (λ q. StopShows u q at' seat (put source v.number (Owns work))) plain (roll_stored u p at seat source h v.number work 0 is)) record { mine =
-          search (put_same, same, arith); others = λ c ne. ap (λ x. record (columns_of p c) { begun = x }) (put_other p.begun v.number begun c ne); } refl tt
-          in
+      (subst (λ q. StopShows u q at' seat (put source v.number (Owns work))) plain (roll_stored u p at seat source h v.number work 0 is)) record {
+        mine =
+            search (put_same, same, arith);
+        others = λ c ne. ap (λ x. record (columns_of p c) { begun = x }) (put_other p.begun v.number begun c ne);
+      } refl tt
+      in
       search (e, shown', arith)
 
   -- the end of its stop

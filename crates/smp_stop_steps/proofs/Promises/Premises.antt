@@ -56,9 +56,9 @@ module _ (u : Setup) (p : StopState) (at : Word → ℕ) (seat : ℕ → Seat) (
   in_round v (round.Look answer) x = (stands (In v.slot x.2.0 v.acked v.acked Rests) x.2.2).0
   in_round v (round.LoadFunc answer) x = (stands (In v.slot x.1.0 2 3 Rests) x.1.1.3).0
   in_round v (round.LoadArg answer func) x = (stands (In v.slot x.1.0 2 3 Rests) x.1.1.3).0
-  in_round v (round.LoadKey key change) x = tt
-  in_round v (round.LoadEntry key word site) x = tt
-  in_round v (round.StoreChange made) x = search arith
+  in_round v (round.LoadKey key change) x = search (stands, arith)
+  in_round v (round.LoadEntry key word site) x = search (stands, arith)
+  in_round v (round.StoreChange made) x = search (stands, arith)
   in_round v (round.Acknowledge answer ran) x = ⊎_elim
       (λ (y : (seat me ≡ In v.slot x.0 v.acked (v.acked + 1) Rests) × RunsIf me v ran). let st = stands (In v.slot x.0 v.acked (v.acked + 1) Rests) y.0 in
       (st.0, (v.acked, st.1, phase v.acked st.1)))
@@ -99,10 +99,10 @@ module _ (u : Setup) (p : StopState) (at : Word → ℕ) (seat : ℕ → Seat) (
             (sum_zero (λ e. unfinished ((p.now.stop me).standing e)) u.cpus d.1 d' (in_machine u.cpus (p.now.stop me).phase d' ((p.now.stop me).standing d')
             member ((h.present.slots me).keeps d'))),
       )
-  at_stage (ReadKey k) x y g = tt
-  at_stage (ReadSite i) x y g = tt
-  at_stage (NudgeKey k up) x y g = tt
-  at_stage (ExchangeKey k expected new) x y g = search arith
+  at_stage (ReadKey k) x y g = search (stands, arith)
+  at_stage (ReadSite i) x y g = search (stands, arith)
+  at_stage (NudgeKey k up) x y g = search (stands, arith)
+  at_stage (ExchangeKey k expected new) x y g = search (stands, arith)
 
   pub may_see : (stage : StopStage) → c.stage ≡ Some stage → May (stop_access u.cpus me c.changes stage)
   may_see stage e = search (at_stage, c.is_open, arith)

@@ -132,10 +132,10 @@ module _ (u : Setup) (p : StopState) (at : Word → ℕ) (seat : ℕ → Seat) (
         let made' = made ++ (place.Key k, n) ∷ [] in
         let at' = put_word at (Key k) n in
         let shown' = label_step p.now.readings (Patches me job count made' rest) p.nudged (moved_by p.patched me k count n) at' (put seat me (Alters s job
-            count made' rest)) refl (λ j f. refl) (λ j. owns_stores u p.now at seat h.present j me s k n job count made ((place.Key k, n) ∷ rest) is (h.owns
-            j)) (counts_patched u.cpus p.nudged p.patched at me k count n below was h.counts) (patch_stores u p.now at seat h.present s me job count made rest
-            (place.Key k, n) at' is refl h.present.slots (entries_same at' (λ i. refl))) (alters_calling count made ((place.Key k, n) ∷ rest) made' rest is)
-            (closing_seat p.now seat me (Alters s job count made' rest) h.closing (subst IsNotClosing (sym is) tt)) in
+        count made' rest)) refl (λ j f. refl) (λ j. owns_stores u p.now at seat h.present j me s k n job count made ((place.Key k, n) ∷ rest) is (h.owns
+        j)) (counts_patched u.cpus p.nudged p.patched at me k count n below was h.counts) (patch_stores u p.now at seat h.present s me job count made rest
+        (place.Key k, n) at' is refl h.present.slots (entries_same at' (λ i. refl))) (alters_calling count made ((place.Key k, n) ∷ rest) made' rest is)
+        (closing_seat p.now seat me (Alters s job count made' rest) h.closing (subst IsNotClosing (sym is) tt)) in
         search (st.5, shown', arith)
 
     -- store of a site by a patch
@@ -147,7 +147,7 @@ module _ (u : Setup) (p : StopState) (at : Word → ℕ) (seat : ℕ → Seat) (
         let made' = made ++ (place.Site i, n) ∷ [] in
         let at' = put_word at (Site i) n in
         let shown' = label_step p.now.readings (Patches me job count made' rest) p.nudged p.patched at' (put seat me (Alters s job count made' rest)) refl (λ
-            j f. refl) h.owns h.counts (patch_stores u p.now at seat h.present s me job count made rest (place.Site i, n) at' is refl h.present.slots
-            (entries_same at' (λ i. refl))) (alters_calling count made ((place.Site i, n) ∷ rest) made' rest is) (closing_seat p.now seat me (Alters s job
-            count made' rest) h.closing (subst IsNotClosing (sym is) tt)) in
+        j f. refl) h.owns h.counts (patch_stores u p.now at seat h.present s me job count made rest (place.Site i, n) at' is refl h.present.slots
+        (entries_same at' (λ i. refl))) (alters_calling count made ((place.Site i, n) ∷ rest) made' rest is) (closing_seat p.now seat me (Alters s job
+        count made' rest) h.closing (subst IsNotClosing (sym is) tt)) in
         search (st.5, shown', arith)
