@@ -1,24 +1,16 @@
 -- Answers of stop functions, as words have them: the 32 bits of an i32, from the command to the result that is collected.
 use Rattle.std.specs.Int.{w32, cast_signed}
 use Rattle.std.specs.Prelude.{◌≡◌, ◌⊎◌, ℕ, ℤ, ◌^◌, ◌<◌, Option, Some, None, FitsSigned}
-use Rattle.smp_words.specs.Access.{word_of}
+use Rattle.smp_stop_steps.specs.Names.{word_of, CompletionStage, RoundStage, StopStage, Advance, Complete, Visit, Note, Word, Slot}
 use Rattle.smp_stop_steps.specs.Stages.{StopControlValue, StopOutcome, stop_access, stop_outcome, answer_at}
 use Rattle.smp_stop_steps.specs.Starts.{stop_first}
 use Rattle.smp_stop_steps.specs.State.{Setup}
 use Rattle.smp_stop_steps.specs.Steps.{at_then}
-use Rattle.smp_stop_steps.specs.declared.stage.CompletionStage.{CompletionStage}
-use Rattle.smp_stop_steps.specs.declared.stage.CompletionStage.TheVariants as completion
-use Rattle.smp_stop_steps.specs.declared.stage.RoundStage.{RoundStage}
-use Rattle.smp_stop_steps.specs.declared.stage.RoundStage.TheVariants as round
-use Rattle.smp_stop_steps.specs.declared.stage.StopStage.{StopStage}
-use Rattle.smp_stop_steps.specs.declared.stage.StopStage.TheVariants.{Advance, Complete}
-use Rattle.smp_stop_steps.specs.declared.stage.Visit.{Visit}
-use Rattle.smp_words.specs.declared.command.Command.TheVariants as command
-use Rattle.smp_words.specs.declared.field.Field.TheVariants as field
-use Rattle.smp_words.specs.declared.seen.Note.{Note}
-use Rattle.smp_words.specs.declared.seen.Note.TheVariants as note
-use Rattle.smp_words.specs.declared.word.Word.{Word}
-use Rattle.smp_words.specs.declared.word.Word.TheVariants.{Slot}
+use Rattle.smp_stop_steps.specs.Names.completion
+use Rattle.smp_stop_steps.specs.Names.round
+use Rattle.smp_stop_steps.specs.Names.command
+use Rattle.smp_stop_steps.specs.Names.field
+use Rattle.smp_stop_steps.specs.Names.note
 
 -- the 32 bits of an i32
 abbrev pub IsI32Word : ℕ → Type 0

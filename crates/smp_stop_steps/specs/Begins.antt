@@ -1,19 +1,15 @@
 -- Where a command of the stop half may begin.
 use Rattle.std.specs.Prelude.{◌≡◌, ◌≢◌, ℕ, ◌+◌, ◌<◌, true, false, Some, None, length, slice_set}
+use Rattle.smp_stop_steps.specs.Names.{StopStage, TakeGate, OpenGate, Begin, Enter, Advance, Complete, LoadDone, NudgeKey, One, Gate, EXIT}
 use Rattle.smp_stop_steps.specs.State.{Setup}
 use Rattle.smp_stop_steps.specs.Sources.{IsWork}
 use Rattle.smp_stop_steps.specs.Stages.{StopControlValue, stop_goes}
 use Rattle.smp_stop_steps.specs.Table.{stop_number}
 use Rattle.smp_stop_steps.specs.Value.{StopsValue, setup_of, stop_control_of}
-use Rattle.smp_words.specs.declared.field.Field.TheVariants as field
-use Rattle.smp_stop_steps.specs.declared.stage.CompletionStage.TheVariants as completion
-use Rattle.smp_stop_steps.specs.declared.stage.RoundStage.TheVariants as round
-use Rattle.smp_stop_steps.specs.declared.stage.StopStage.{StopStage}
-use Rattle.smp_stop_steps.specs.declared.stage.StopStage.TheVariants.{TakeGate, OpenGate, Begin, Enter, Advance, Complete, LoadDone, ReadKey, ReadSite}
-use Rattle.smp_stop_steps.specs.declared.stage.StopStage.TheVariants.{NudgeKey}
-use Rattle.smp_words.specs.declared.work.Kind.TheVariants.{One}
-use Rattle.smp_words.specs.declared.word.Word.TheVariants.{Gate}
-use Rattle.smp_stop_steps.specs.declared.phase.TheConstants.{EXIT}
+use Rattle.smp_stop_steps.specs.declared.stage.StopStage.TheVariants.{ReadKey, ReadSite}
+use Rattle.smp_stop_steps.specs.Names.field
+use Rattle.smp_stop_steps.specs.Names.completion
+use Rattle.smp_stop_steps.specs.Names.round
 
 -- a CPU outside a command may begin one at this stage; gate is the number in its word
 abbrev pub MayBegin : Setup → ℕ → ℕ → StopControlValue → StopStage → Type 0

@@ -1,13 +1,10 @@
 -- How far a CPU is with the function of the stop that it is in, by its seat.
 use Rattle.std.specs.Prelude.{◌≡◌, ◌⊎◌, ℕ, ◌≤◌, true, false}
-use Rattle.smp_mask.specs.Mask.{has}
+use Rattle.smp_stop_steps.specs.Names.{has, One, Work, DISABLE_IRQ, RUN}
 use Rattle.smp_stop_steps.specs.Seats.{Seat, Free, In, Gives, Alters, Closes, Turn, Rests}
 use Rattle.smp_stop_steps.specs.State.{StopCall, Calling, Idle, Calls, Carries, Present}
 use Rattle.smp_stop_steps.specs.Stop.{Standing, Completed, Last}
 use Rattle.smp_stop_steps.specs.Tells.{calls_at_run}
-use Rattle.smp_words.specs.declared.work.Kind.TheVariants.{One}
-use Rattle.smp_words.specs.declared.work.Work.{Work}
-use Rattle.smp_stop_steps.specs.declared.phase.TheConstants.{DISABLE_IRQ, RUN}
 
 -- the answer that it completes with: 0 where it has called no function
 abbrev pub answer_in : Calling → ℕ

@@ -1,15 +1,11 @@
 -- How far a CPU is with its function, by its stage: that it has called it, and with which answer it completes.
 use Rattle.std.specs.Prelude.{◌≡◌, ℕ, Bool, true, false, Option, Some, None}
+use Rattle.smp_stop_steps.specs.Names.{StopStage, Advance, Complete, EnterKind, EnterMask, EnterActive, Visit, Patch, EXIT}
 use Rattle.smp_stop_steps.specs.Callings.{answer_in}
 use Rattle.smp_stop_steps.specs.Stages.{StopControlValue}
 use Rattle.smp_stop_steps.specs.State.{Calling, Idle, Calls, Carries}
-use Rattle.smp_stop_steps.specs.declared.stage.CompletionStage.TheVariants as completion
-use Rattle.smp_stop_steps.specs.declared.stage.RoundStage.TheVariants as round
-use Rattle.smp_stop_steps.specs.declared.stage.StopStage.{StopStage}
-use Rattle.smp_stop_steps.specs.declared.stage.StopStage.TheVariants.{Advance, Complete, EnterKind, EnterMask, EnterActive}
-use Rattle.smp_stop_steps.specs.declared.stage.Visit.{Visit}
-use Rattle.smp_words.specs.declared.work.Kind.TheVariants.{Patch}
-use Rattle.smp_stop_steps.specs.declared.phase.TheConstants.{EXIT}
+use Rattle.smp_stop_steps.specs.Names.completion
+use Rattle.smp_stop_steps.specs.Names.round
 
 -- it calls no function now, and its visit has the answer that it carries
 abbrev pub IsQuiet : Option Visit → Calling → Type 0

@@ -1,6 +1,6 @@
 -- How many CPUs have a property, as sums over all CPUs.
 use Rattle.std.specs.Prelude.{ℕ, zero, suc, ◌+◌, Bool, true, false, ◌==◌, cond}
-use Rattle.smp_mask.specs.Mask.{has}
+use Rattle.smp_stop_steps.specs.Names.{has}
 use Rattle.smp_stop_steps.specs.Stop.{Standing, Outside, Called, Inside, Answering, Completed, is_of}
 
 -- the sum of f over the numbers below n

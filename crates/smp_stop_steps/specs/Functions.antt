@@ -1,7 +1,6 @@
 -- When a stop function runs, that it runs once, and what becomes of its answer.
 use Rattle.std.specs.Prelude.{◌≡◌, ◌⊎◌, ℕ, true, Some}
-use Rattle.smp_mask.specs.Mask.{has}
-use Rattle.smp_words.specs.Put.{put}
+use Rattle.smp_stop_steps.specs.Names.{has, put, DISABLE_IRQ, RUN, StopStage, One, Multi, Work, Word, Gate}
 use Rattle.smp_stop_steps.specs.Callings.{IsCallOf, with_answer}
 use Rattle.smp_stop_steps.specs.Carries.{CarriesIn}
 use Rattle.smp_stop_steps.specs.Promises.{RunsAlone}
@@ -13,12 +12,6 @@ use Rattle.smp_stop_steps.specs.Stages.{StopControlValue, answer_at}
 use Rattle.smp_stop_steps.specs.State.{Setup, StopState, StopCall, Calls}
 use Rattle.smp_stop_steps.specs.Steps.{FunctionGoes, note_then, state_after}
 use Rattle.smp_stop_steps.specs.Stop.{Inside}
-use Rattle.smp_stop_steps.specs.declared.phase.TheConstants.{DISABLE_IRQ, RUN}
-use Rattle.smp_stop_steps.specs.declared.stage.StopStage.{StopStage}
-use Rattle.smp_words.specs.declared.work.Kind.TheVariants.{One, Multi}
-use Rattle.smp_words.specs.declared.work.Work.{Work}
-use Rattle.smp_words.specs.declared.word.Word.{Word}
-use Rattle.smp_words.specs.declared.word.Word.TheVariants.{Gate}
 
 -- a CPU that is active in its Multi stop, at RUN, which it has not acknowledged, while the whole mask has acknowledged
 -- DISABLE_IRQ and has its interrupts off

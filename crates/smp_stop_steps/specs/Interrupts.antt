@@ -1,12 +1,11 @@
 -- When a CPU's interrupts are off.
 use Rattle.std.specs.Prelude.{◌≡◌, ◌≢◌, ℕ, ◌≤◌, true, false, None}
+use Rattle.smp_stop_steps.specs.Names.{DISABLE_IRQ, EXIT, Word}
 use Rattle.smp_stop_steps.specs.Seats.{Seat, Rests, turn_of}
 use Rattle.smp_stop_steps.specs.Shows.{StopShows}
 use Rattle.smp_stop_steps.specs.Sources.{Source}
 use Rattle.smp_stop_steps.specs.State.{Setup, StopState}
 use Rattle.smp_stop_steps.specs.Stop.{Stop, Inside}
-use Rattle.smp_stop_steps.specs.declared.phase.TheConstants.{DISABLE_IRQ, EXIT}
-use Rattle.smp_words.specs.declared.word.Word.{Word}
 
 -- the CPU has not left the stop: it has not acknowledged EXIT, or is to set the phase after it
 abbrev pub HasNotLeft : Stop → ℕ → ℕ → Type 0

@@ -1,16 +1,12 @@
 -- What a CPU knows of the stops: where it is with them, as far as its steps have told, and its own part of their state.
 use Rattle.std.specs.Prelude.{◌≡◌, ◌≢◌, ℕ, ◌<◌, nat_lt, Bool, false, ◌==◌, cond, Option, Some, None, List, [], length, replicate, slice_index_or}
-use Rattle.smp_labels.specs.declared.words.TheConstants.{MOST_KEYS}
-use Rattle.smp_words.specs.Size.{cpus}
+use Rattle.smp_stop_steps.specs.Names.{MOST_KEYS, cpus, One, Work, Word}
 use Rattle.smp_stop_steps.specs.Seats.{Seat, Free}
 use Rattle.smp_stop_steps.specs.Shows.{StopShows}
 use Rattle.smp_stop_steps.specs.Sources.{Source, Shut, Drafts, Owns, Collects}
 use Rattle.smp_stop_steps.specs.Labels.{Reading}
 use Rattle.smp_stop_steps.specs.State.{Calling, Idle, Calls, Carries, Setup, StopState, Moved, unmoved}
 use Rattle.smp_stop_steps.specs.Value.{setup_of}
-use Rattle.smp_words.specs.declared.work.Kind.TheVariants.{One}
-use Rattle.smp_words.specs.declared.work.Work.{Work}
-use Rattle.smp_words.specs.declared.word.Word.{Word}
 pub use Rattle.smp_stop_steps.specs.declared.known.Known.{Known}
 pub use Rattle.smp_stop_steps.specs.declared.known.Part.{Part}
 pub use Rattle.smp_stop_steps.specs.declared.known.Setting.{Setting}

@@ -1,7 +1,6 @@
 -- What a CPU knows after a step of its own, as the step tells it.
 use Rattle.std.specs.Prelude.{ℕ, ◌+◌, Bool, true, false, ◌==◌, ◌&&◌, ◌||◌, not, cond, Option, Some, List, [], ◌∷◌, ◌++◌, slice_index_or, slice_set}
-use Rattle.smp_mask.specs.Mask.{has}
-use Rattle.smp_labels.specs.Keys.{is_on}
+use Rattle.smp_stop_steps.specs.Names.{has, is_on, Act, Field, One, Work, Word, Gate, Slot, Key, Site, DISABLE_IRQ, RUN, EXIT, OVER}
 use Rattle.smp_stop_steps.specs.KeyCounts.{moves}
 use Rattle.smp_stop_steps.specs.Known.{Known, Part, setup_in}
 use Rattle.smp_stop_steps.specs.Labels.{Reading, ReadKey, ReadSite}
@@ -10,15 +9,8 @@ use Rattle.smp_stop_steps.specs.Stop.{Inside}
 use Rattle.smp_stop_steps.specs.Sources.{Source, Shut, Drafts, Owns, Collects}
 use Rattle.smp_stop_steps.specs.State.{Moved, unmoved, Carries, Calls, Idle}
 use Rattle.smp_stop_steps.specs.Tells.{carried_call, may_call, drafted, first_readings, is_one, is_patch, calls_at_run, plan_at}
-use Rattle.smp_words.specs.declared.seen.Act.{Act}
-use Rattle.smp_words.specs.declared.seen.Act.TheVariants as act
-use Rattle.smp_words.specs.declared.field.Field.{Field}
-use Rattle.smp_words.specs.declared.field.Field.TheVariants as field
-use Rattle.smp_words.specs.declared.work.Kind.TheVariants.{One}
-use Rattle.smp_words.specs.declared.work.Work.{Work}
-use Rattle.smp_words.specs.declared.word.Word.{Word}
-use Rattle.smp_words.specs.declared.word.Word.TheVariants.{Gate, Slot, Key, Site}
-use Rattle.smp_stop_steps.specs.declared.phase.TheConstants.{DISABLE_IRQ, RUN, EXIT, OVER}
+use Rattle.smp_stop_steps.specs.Names.act
+use Rattle.smp_stop_steps.specs.Names.field
 
 -- of the gate
 abbrev pub gate_known : Act → Option ℕ → Known → Known

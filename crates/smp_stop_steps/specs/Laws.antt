@@ -1,10 +1,9 @@
 -- What a stop promises: the phase law, the function law, and the results of stops.
 use Rattle.std.specs.Prelude.{◌≡◌, ◌≢◌, ◌⊎◌, ℕ, true}
-use Rattle.smp_mask.specs.Mask.{has}
+use Rattle.smp_stop_steps.specs.Names.{has, DISABLE_IRQ, RUN, EXIT, OVER}
 use Rattle.smp_stop_steps.specs.Stop.{Standing, Inside, Answering, Raising, Nobody, Refills, Raises, Stop, acked, is_of}
 use Rattle.smp_stop_steps.specs.Counts.{count_behind, weight}
 use Rattle.smp_stop_steps.specs.Slots.{IsLevel, IsDone}
-use Rattle.smp_stop_steps.specs.declared.phase.TheConstants.{DISABLE_IRQ, RUN, EXIT, OVER}
 
 -- the phase law, of an open stop of several CPUs: each CPU of the mask has acknowledged the phase or the one before
 -- it, at OVER the one before; the count is the number of those that have not acknowledged it, but from the refill until

@@ -1,3 +1,5 @@
+-- types by their names
+pub mod Names
 -- one stop, and what the words of its slot show
 pub mod Stop
 pub mod Counts
@@ -49,3 +51,45 @@ pub mod Known
 pub mod KnownAfter
 pub mod Moves
 pub mod Weights
+-- all of it by one name, for proofs
+unfoldable pub use Names.*
+unfoldable pub use Stop.*
+unfoldable pub use Counts.*
+unfoldable pub use Slots.*
+unfoldable pub use Laws.*
+unfoldable pub use Labels.*
+unfoldable pub use State.*
+unfoldable pub use KeyCounts.*
+unfoldable pub use Tells.*
+unfoldable pub use Seats.*
+unfoldable pub use Callings.*
+unfoldable pub use Sources.*
+unfoldable pub use Past.*
+unfoldable pub use Present.*
+unfoldable pub use Shows.*
+unfoldable pub use Stages.*
+unfoldable pub use Sits.*
+unfoldable pub use Carries.*
+unfoldable pub use Steps.*
+unfoldable pub use Promises.*
+unfoldable pub use Functions.*
+unfoldable pub use Notes.*
+unfoldable pub use Closings.*
+unfoldable pub use Premises.*
+unfoldable pub use Interrupts.*
+unfoldable pub use Patchers.*
+unfoldable pub use StopLaws.*
+unfoldable pub use Table.*
+unfoldable pub use Numbers.*
+unfoldable pub use Value.*
+unfoldable pub use AnswerWords.*
+unfoldable pub use Machine.*
+unfoldable pub use New.*
+unfoldable pub use Begins.*
+unfoldable pub use Starts.*
+unfoldable pub use Refusals.*
+unfoldable pub use StepLaws.*
+unfoldable pub use Kept.*
+unfoldable pub use Known.*
+unfoldable pub use KnownAfter.*
+unfoldable pub use Weights.*

@@ -1,20 +1,14 @@
 -- One step of the stop half of a machine, and what every such half keeps.
 use Rattle.std.specs.Prelude.{◌≡◌, ℕ, ◌≤◌, Option, Some, List, length, slice_set}
 use Rattle.smp_labels.specs.Labels.{Labels}
-use Rattle.smp_words.specs.Size.{cpus}
-use Rattle.smp_words.specs.Access.{word_of, seen_of}
+use Rattle.smp_stop_steps.specs.Names.{cpus, word_of, seen_of, Access, Seen, StopStage, Slot, OVER}
 use Rattle.smp_stop_steps.specs.AnswerWords.{AreI32Words, HasI32Answers}
 use Rattle.smp_stop_steps.specs.State.{StopState}
 use Rattle.smp_stop_steps.specs.Tells.{tells}
 use Rattle.smp_stop_steps.specs.Stages.{StopControlValue, StopOutcome, stop_access, stop_outcome, answer_at}
 use Rattle.smp_stop_steps.specs.Table.{StopWords, stop_number, stop_words_after}
 use Rattle.smp_stop_steps.specs.Value.{StopsValue, StopShown, StopsShow, IsStopTable, setup_of, stop_control_of}
-use Rattle.smp_words.specs.declared.access.Access.{Access}
-use Rattle.smp_words.specs.declared.seen.Seen.{Seen}
-use Rattle.smp_words.specs.declared.field.Field.TheVariants as field
-use Rattle.smp_stop_steps.specs.declared.stage.StopStage.{StopStage}
-use Rattle.smp_words.specs.declared.word.Word.TheVariants.{Slot}
-use Rattle.smp_stop_steps.specs.declared.phase.TheConstants.{OVER}
+use Rattle.smp_stop_steps.specs.Names.field
 
 -- the access that a CPU makes at this stage, and what it finds
 abbrev pub stop_access_at : StopsValue → ℕ → StopStage → Access

@@ -1,9 +1,8 @@
 -- The kinds of step, by what a CPU knows: which it may make, and its access.
 use Rattle.std.specs.Prelude.{◌≡◌, ◌≢◌, ◌⊎◌, ℕ, ◌+◌, ◌<◌, true, false, None, List, [], ◌∷◌, ◌++◌}
-use Rattle.smp_mask.specs.Mask.{has}
-use Rattle.smp_labels.specs.declared.words.TheConstants.{MOST_KEYS}
-use Rattle.smp_words.specs.Access.{word_of, at_after, seen_of}
-use Rattle.smp_words.specs.Size.{cpus}
+use Rattle.smp_words.specs.declared.access.Access.TheVariants.{Load, Store, Exchange, Sub, And}
+use Rattle.smp_stop_steps.specs.Names.{has, MOST_KEYS, word_of, at_after, seen_of, cpus, Access, Field, One, Patch, Work, Word, Gate, Slot, Key, Entry, Site}
+use Rattle.smp_stop_steps.specs.Names.{DISABLE_IRQ, RUN, EXIT}
 use Rattle.smp_stop_steps.specs.Counts.{mask_weight}
 use Rattle.smp_stop_steps.specs.Known.{Known, Setting, Sees, GoesOn, fresh, setup_in, told_work}
 use Rattle.smp_stop_steps.specs.KnownAfter.{is_drafting, known_entering, no_work}
@@ -17,15 +16,7 @@ use Rattle.smp_stop_steps.specs.Sources.{Source, Shut, Drafts, Owns, Collects, I
 use Rattle.smp_stop_steps.specs.Stages.{all_but, store_of}
 use Rattle.smp_stop_steps.specs.State.{Idle, StopState, no_stops}
 use Rattle.smp_stop_steps.specs.Tells.{plan_at}
-use Rattle.smp_words.specs.declared.access.Access.{Access}
-use Rattle.smp_words.specs.declared.access.Access.TheVariants.{Load, Store, Exchange, Sub, And}
-use Rattle.smp_words.specs.declared.field.Field.{Field}
-use Rattle.smp_words.specs.declared.field.Field.TheVariants as field
-use Rattle.smp_words.specs.declared.work.Kind.TheVariants.{One, Patch}
-use Rattle.smp_words.specs.declared.work.Work.{Work}
-use Rattle.smp_words.specs.declared.word.Word.{Word}
-use Rattle.smp_words.specs.declared.word.Word.TheVariants.{Gate, Slot, Key, Entry, Site}
-use Rattle.smp_stop_steps.specs.declared.phase.TheConstants.{DISABLE_IRQ, RUN, EXIT}
+use Rattle.smp_stop_steps.specs.Names.field
 
 pub data Move : Type 0 where
   TakeGate : Move

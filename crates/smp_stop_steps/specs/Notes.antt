@@ -1,14 +1,7 @@
 -- What the note of a step of the stop half says of the state.
 use Rattle.std.specs.Int.{w32, cast_signed}
 use Rattle.std.specs.Prelude.{◌≡◌, ◌≢◌, ◌⊎◌, ℕ, ℤ, ◌+◌, ◌%◌, ◌^◌, Bool, true, false, Option, Some, None, List, [], ◌∷◌, ◌++◌}
-use Rattle.smp_mask.specs.Mask.{has}
-use Rattle.smp_words.specs.Put.{put}
-use Rattle.smp_words.specs.declared.seen.Note.{Note}
-use Rattle.smp_words.specs.declared.seen.Note.TheVariants as note
-use Rattle.smp_words.specs.declared.seen.Seen.{Seen}
-use Rattle.smp_words.specs.declared.word.Word.{Word}
-use Rattle.smp_words.specs.declared.word.Word.TheVariants.{Gate, Slot, Key, Entry, Site}
-use Rattle.smp_words.specs.declared.work.Work.{Work}
+use Rattle.smp_stop_steps.specs.Names.{has, put, Note, Seen, Word, Gate, Slot, Key, Entry, Site, Work, StopStage}
 use Rattle.smp_stop_steps.specs.KeyCounts.{moved_by}
 use Rattle.smp_stop_steps.specs.Labels.{Reading, ReadKey, ReadSite}
 use Rattle.smp_stop_steps.specs.Carries.{CarriesIn}
@@ -21,7 +14,7 @@ use Rattle.smp_stop_steps.specs.State.{Setup, StopState, StopCall, Moved, Calls}
 use Rattle.smp_stop_steps.specs.Steps.{note_then, state_after}
 use Rattle.smp_stop_steps.specs.Stop.{Inside, Refills, Last, Ended, acked}
 use Rattle.smp_stop_steps.specs.Tells.{first_readings, tells}
-use Rattle.smp_stop_steps.specs.declared.stage.StopStage.{StopStage}
+use Rattle.smp_stop_steps.specs.Names.note
 
 -- what only a step with a note of its own may change: the gate, the works begun, the results collected, interrupts that go
 -- on, the readings, and the nudges

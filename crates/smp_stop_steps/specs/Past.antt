@@ -1,9 +1,8 @@
 -- What was begun, answered and collected: the results of stops.
 use Rattle.std.specs.Prelude.{◌≡◌, ℕ, cond, List, [], ◌∷◌, ◌++◌}
-use Rattle.smp_mask.specs.Mask.{has}
+use Rattle.smp_stop_steps.specs.Names.{has, Work}
 use Rattle.smp_stop_steps.specs.Stop.{Standing, Completed, Stop}
 use Rattle.smp_stop_steps.specs.Laws.{IsResult}
-use Rattle.smp_words.specs.declared.work.Work.{Work}
 
 -- a stop that was collected: its work, what each CPU of its mask answered, and its result
 pub record Past : Type 0 where

@@ -1,7 +1,8 @@
 -- The label law outside the stores of patches, and who makes these.
 use Rattle.std.specs.Prelude.{◌≡◌, ℕ, Bool, true, false, Option, Some, None, List, ◌∷◌}
-use Rattle.smp_mask.specs.Mask.{has}
 use Rattle.smp_labels.specs.Law.{IsLawful}
+use Rattle.smp_words.specs.declared.access.Access.TheVariants.{Store}
+use Rattle.smp_stop_steps.specs.Names.{has, StopStage, DISABLE_IRQ, RUN, Patch, Work, Word, Key, Site, Access}
 use Rattle.smp_stop_steps.specs.Labels.{Change, Patching, Patches, labels_in}
 use Rattle.smp_stop_steps.specs.Promises.{OfEachCpu, RunsAlone}
 use Rattle.smp_stop_steps.specs.Seats.{Seat}
@@ -10,15 +11,7 @@ use Rattle.smp_stop_steps.specs.Sources.{Source}
 use Rattle.smp_stop_steps.specs.Stages.{stop_access}
 use Rattle.smp_stop_steps.specs.State.{Setup, StopState}
 use Rattle.smp_stop_steps.specs.Stop.{Inside}
-use Rattle.smp_stop_steps.specs.declared.stage.StopStage.{StopStage}
-use Rattle.smp_stop_steps.specs.declared.phase.TheConstants.{DISABLE_IRQ, RUN}
-use Rattle.smp_words.specs.declared.work.Kind.TheVariants.{Patch}
-use Rattle.smp_words.specs.declared.work.Work.{Work}
-use Rattle.smp_words.specs.declared.word.Word.{Word}
-use Rattle.smp_words.specs.declared.word.Word.TheVariants.{Key, Site}
-use Rattle.smp_words.specs.declared.access.Access.{Access}
-use Rattle.smp_words.specs.declared.access.Access.TheVariants.{Store}
-use Rattle.smp_labels.specs.declared.patch.Place.TheVariants as place
+use Rattle.smp_stop_steps.specs.Names.place
 
 -- a patch has made its first store and not its last
 abbrev pub is_between : Patching → Bool

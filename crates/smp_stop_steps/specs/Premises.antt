@@ -1,20 +1,14 @@
 -- Who may make which step of the stop half: what holds of the stops before it.
-use Rattle.std.specs.Prelude.{◌≡◌, ℕ, ◌+◌, Bool, true, false, Option, Some, None}
-use Rattle.smp_mask.specs.Mask.{has}
-use Rattle.smp_words.specs.Access.{word_of, seen_of}
+use Rattle.std.specs.Prelude.{◌≡◌, ◌≢◌, ◌⊎◌, ℕ, ◌+◌, Bool, true, false, Option, Some, None}
+use Rattle.smp_stop_steps.specs.Names.{has, word_of, seen_of, StopStage, Field, Act, Word, Gate, Slot, Key, Entry, Site}
 use Rattle.smp_stop_steps.specs.Callings.{HasCompleted}
 use Rattle.smp_stop_steps.specs.Laws.{IsThrough}
 use Rattle.smp_stop_steps.specs.Promises.{OfEachCpu}
 use Rattle.smp_stop_steps.specs.Stages.{stop_access}
 use Rattle.smp_stop_steps.specs.State.{StopState}
 use Rattle.smp_stop_steps.specs.Stop.{Stop, Inside, Called, Refills, Raises, Last, acked}
-use Rattle.smp_stop_steps.specs.declared.stage.StopStage.{StopStage}
-use Rattle.smp_words.specs.declared.field.Field.{Field}
-use Rattle.smp_words.specs.declared.field.Field.TheVariants as field
-use Rattle.smp_words.specs.declared.seen.Act.{Act}
-use Rattle.smp_words.specs.declared.seen.Act.TheVariants as act
-use Rattle.smp_words.specs.declared.word.Word.{Word}
-use Rattle.smp_words.specs.declared.word.Word.TheVariants.{Gate, Slot}
+use Rattle.smp_stop_steps.specs.Names.field
+use Rattle.smp_stop_steps.specs.Names.act
 
 abbrev pub AllAcknowledged : Stop → Type 0
 AllAcknowledged stop = (c : ℕ) → has stop.work.mask c ≡ true → acked (stop.standing c) ≡ stop.phase
@@ -45,17 +39,31 @@ MayLoad p me s field.Done = (s ≡ me) × ((p.now.stop s).is_open ≡ true)
 MayLoad p me s field.Result = (s ≡ me) × ((p.now.stop s).is_open ≡ true) × AllCompleted (p.now.stop s)
 MayLoad p me s f = p.now.inside me ≡ Some s
 
--- what holds before a step that is seen so
+-- it has looked at RUN in a stop, and not acknowledged it
+abbrev pub IsAtRun : StopState → ℕ → Type 0
+IsAtRun p me = (s : ℕ) × (p.now.inside me ≡ Some s) × ((p.now.stop s).standing me ≡ Inside 2 3)
+
+-- a load of a key or a site: with interrupts on, or in the function of a patch
+abbrev pub MayRead : StopState → ℕ → Type 0
+MayRead p me = (p.now.irq me ≡ true) ⊎ IsAtRun p me
+
+-- what holds before a step that is seen so; there is no other step
 abbrev pub MaySee : StopState → ℕ → Act → Word → Option ℕ → Option ℕ → Type 0
 MaySee p me act.Cas Gate found (Some n) = p.gate ≡ None
+MaySee p me act.Cas Gate found None = p.gate ≢ None
 MaySee p me act.Store Gate found put = p.gate ≡ Some me
 MaySee p me act.Store (Slot s f) found (Some n) = MayStoreIf (p.now.stop s).is_open p me s f n
-MaySee p me act.And (Slot s f) (Some found) put = has found me ≡ true → (p.now.inside me ≡ None) × ((p.now.stop s).standing me ≡ Called)
+MaySee p me act.And (Slot s field.Roll) (Some found) put = has found me ≡ true → (p.now.inside me ≡ None) × ((p.now.stop s).standing me ≡ Called)
 MaySee p me act.Load (Slot s f) found put = MayLoad p me s f
 MaySee p me act.Sub (Slot s field.Ack) found put = (p.now.inside me ≡ Some s) × IsToAcknowledge (p.now.stop s) me
 MaySee p me act.Sub (Slot s field.Todo) found put = (p.now.inside me ≡ Some s) × IsThrough (p.now.stop s) me (acked ((p.now.stop s).standing me))
-MaySee p me act.Sub w found put = ⊥
-MaySee p me _ _ found put = Unit {0}
+MaySee p me act.Load (Key k) found put = MayRead p me
+MaySee p me act.Load (Site i) found put = MayRead p me
+MaySee p me act.Load (Entry i) found put = IsAtRun p me
+MaySee p me act.Store (Key k) found put = IsAtRun p me
+MaySee p me act.Store (Site i) found put = IsAtRun p me
+MaySee p me act.Cas (Key k) found put = p.now.irq me ≡ true
+MaySee p me _ w found put = ⊥
 
 abbrev pub StepsArePremised : Type 0
 StepsArePremised = OfEachCpu (λ u p at c me.

@@ -2,16 +2,13 @@
 use Rattle.std.specs.Prelude.{◌≡◌, ℕ, ◌≤◌, true, Some}
 use Rattle.std.specs.List.{AllByRecursion}
 use Rattle.smp_labels.specs.Plans.{AreEntriesOf}
+use Rattle.smp_stop_steps.specs.Names.{Patch, Word, Slot, RUN}
 use Rattle.smp_stop_steps.specs.Stop.{acked, is_inside}
 use Rattle.smp_stop_steps.specs.Slots.{SlotShows}
 use Rattle.smp_stop_steps.specs.Labels.{Patching, Whole, Patches, LabelsShow, labels_in, Agrees, StandsSet}
 use Rattle.smp_stop_steps.specs.State.{Setup, Present}
 use Rattle.smp_stop_steps.specs.Seats.{Seat, Alters, Stands, irq_of}
 use Rattle.smp_stop_steps.specs.Sources.{IsPatchWork}
-use Rattle.smp_words.specs.declared.work.Kind.TheVariants.{Patch}
-use Rattle.smp_words.specs.declared.word.Word.{Word}
-use Rattle.smp_words.specs.declared.word.Word.TheVariants.{Slot}
-use Rattle.smp_stop_steps.specs.declared.phase.TheConstants.{RUN}
 
 -- who patches is the first online CPU, inside the function of a patch
 abbrev pub RunnerShows : ℕ → Patching → (ℕ → Seat) → Type 0

@@ -1,10 +1,10 @@
 -- The laws of the stop half, of any number of CPUs and of any words that show stops.
 use Rattle.std.specs.Prelude.{◌≡◌, ◌≢◌, ℕ, ◌<◌, Bool, true, false, if◌then◌else◌, Some, List, [], ◌∷◌, ◌++◌}
 use Rattle.std.specs.List.{AllByRecursion}
-use Rattle.smp_mask.specs.Mask.{has}
-use Rattle.smp_labels.specs.Keys.{is_on}
 use Rattle.smp_labels.specs.Law.{IsLawful}
 use Rattle.smp_labels.specs.Plans.{AreEntriesOf}
+use Rattle.smp_words.specs.declared.seen.Note.TheVariants.{KeyRange}
+use Rattle.smp_stop_steps.specs.Names.{has, is_on, StopStage, Advance, NudgeKey, ExchangeKey, Visit, Patch, Work, Word, Gate, Slot, Key, Site}
 use Rattle.smp_stop_steps.specs.Stop.{Inside}
 use Rattle.smp_stop_steps.specs.Laws.{PhaseLaw, FunctionLaw}
 use Rattle.smp_stop_steps.specs.KeyCounts.{CountShows}
@@ -18,16 +18,8 @@ use Rattle.smp_stop_steps.specs.Carries.{CarriesIn}
 use Rattle.smp_stop_steps.specs.Sits.{Sits, IsNudge}
 use Rattle.smp_stop_steps.specs.Steps.{StopStep, CallStep, at_then, state_after}
 use Rattle.smp_stop_steps.specs.Tells.{plan_at, first_readings}
-use Rattle.smp_words.specs.declared.seen.Note.TheVariants.{KeyRange}
-use Rattle.smp_words.specs.declared.field.Field.TheVariants as field
 use Rattle.smp_stop_steps.specs.declared.stage.RoundStage.TheVariants.{Acknowledge}
-use Rattle.smp_stop_steps.specs.declared.stage.StopStage.{StopStage}
-use Rattle.smp_stop_steps.specs.declared.stage.StopStage.TheVariants.{Advance, NudgeKey, ExchangeKey}
-use Rattle.smp_stop_steps.specs.declared.stage.Visit.{Visit}
-use Rattle.smp_words.specs.declared.work.Kind.TheVariants.{Patch}
-use Rattle.smp_words.specs.declared.work.Work.{Work}
-use Rattle.smp_words.specs.declared.word.Word.{Word}
-use Rattle.smp_words.specs.declared.word.Word.TheVariants.{Gate, Slot, Key, Site}
+use Rattle.smp_stop_steps.specs.Names.field
 
 -- at first: words with all slots and the gate free and a lawful label table with all keys off show that nothing was begun
 abbrev pub NothingBegun : Type 0

@@ -1,19 +1,14 @@
 -- What a command of the stop half is refused for, said of the state of the stops.
 use Rattle.std.specs.Prelude.{◌≡◌, ◌≢◌, ◌⊎◌, ℕ, ◌<◌, true, false, Option, Some, None, length}
-use Rattle.smp_mask.specs.Mask.{has}
-use Rattle.smp_mask.specs.declared.error.SmpError.{SmpError}
-use Rattle.smp_mask.specs.declared.error.SmpError.TheVariants as error
-use Rattle.smp_words.specs.Size.{cpus}
-use Rattle.smp_words.specs.declared.command.Command.{Command}
-use Rattle.smp_words.specs.declared.command.Command.TheVariants as command
-use Rattle.smp_words.specs.declared.work.Kind.TheVariants.{One}
-use Rattle.smp_words.specs.declared.work.Work.{Work}
+use Rattle.smp_stop_steps.specs.Names.{has, SmpError, cpus, Command, One, Work}
 use Rattle.smp_stop_steps.specs.Counts.{mask_weight}
 use Rattle.smp_stop_steps.specs.Sources.{IsOfKind}
 use Rattle.smp_stop_steps.specs.Starts.{stop_refusal}
 use Rattle.smp_stop_steps.specs.State.{Setup, StopState}
 use Rattle.smp_stop_steps.specs.Stop.{acked}
 use Rattle.smp_stop_steps.specs.Value.{StopsValue, StopShown, setup_of, stop_control_of}
+use Rattle.smp_stop_steps.specs.Names.error
+use Rattle.smp_stop_steps.specs.Names.command
 
 -- no refusal where the command may start, else just this one
 abbrev pub Refuses : Type 0 → SmpError → Option SmpError → Type 0

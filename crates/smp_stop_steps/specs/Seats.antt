@@ -1,5 +1,6 @@
 -- Where a CPU is with the stops.
 use Rattle.std.specs.Prelude.{◌≡◌, ℕ, Bool, true, false, ◌==◌, ◌||◌, nat_lt, cond, Some, None}
+use Rattle.smp_stop_steps.specs.Names.{Patch, DISABLE_IRQ, RUN, EXIT}
 use Rattle.smp_stop_steps.specs.Stop.{Inside, Answering, Raising, Nobody, Refills, Raises, Last}
 use Rattle.smp_stop_steps.specs.Labels.{Patches}
 use Rattle.smp_stop_steps.specs.State.{Present}
@@ -7,8 +8,6 @@ pub use Rattle.smp_stop_steps.specs.declared.known.Seat.{Seat}
 pub use Rattle.smp_stop_steps.specs.declared.known.Seat.TheVariants.{Free, In, Gives, Alters, Closes}
 pub use Rattle.smp_stop_steps.specs.declared.known.Turn.{Turn}
 pub use Rattle.smp_stop_steps.specs.declared.known.Turn.TheVariants.{Rests, Fills, Sets}
-use Rattle.smp_words.specs.declared.work.Kind.TheVariants.{Patch}
-use Rattle.smp_stop_steps.specs.declared.phase.TheConstants.{DISABLE_IRQ, RUN, EXIT}
 
 -- what a CPU is to do for the next phase
 abbrev pub turn_of : Raising → ℕ → Turn

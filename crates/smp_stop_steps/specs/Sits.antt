@@ -1,10 +1,8 @@
 -- Which seat and which source a CPU's stage stands for.
 use Rattle.std.specs.Prelude.{◌≡◌, ◌≢◌, ◌⊎◌, ℕ, ◌+◌, ◌<◌, ◌≤◌, Bool, true, false, Option, Some, None, List, [], ◌∷◌, ◌++◌, length, take}
-use Rattle.smp_mask.specs.Mask.{has}
-use Rattle.smp_labels.specs.Keys.{is_on, change_of, IsKeyWord}
-use Rattle.smp_labels.specs.Plans.{patch_of, site_changes}
-use Rattle.smp_labels.specs.declared.patch.Place.TheVariants as place
-use Rattle.smp_labels.specs.declared.words.TheConstants.{MOST_SITES}
+use Rattle.smp_stop_steps.specs.Names.{has, is_on, change_of, IsKeyWord, patch_of, site_changes, MOST_SITES, CompletionStage, RoundStage, StopStage, OpenGate}
+use Rattle.smp_stop_steps.specs.Names.{Begin, Enter, EnterKind, EnterMask, EnterActive, Advance, Complete, Close, LoadDone, LoadResult, NudgeKey, ExchangeKey}
+use Rattle.smp_stop_steps.specs.Names.{Visit, One, Multi, Patch, Work, DISABLE_IRQ, RUN, EXIT}
 use Rattle.smp_stop_steps.specs.Labels.{Change, count_set, patch_answer}
 use Rattle.smp_stop_steps.specs.Tells.{plan_at}
 use Rattle.smp_stop_steps.specs.Slots.{order}
@@ -12,17 +10,10 @@ use Rattle.smp_stop_steps.specs.State.{Setup}
 use Rattle.smp_stop_steps.specs.Seats.{Seat, Free, In, Gives, Alters, Closes, Turn, Rests, Fills, Sets, irq_of}
 use Rattle.smp_stop_steps.specs.Sources.{Source, Shut, Drafts, Owns, Collects}
 use Rattle.smp_stop_steps.specs.Stages.{StopControlValue}
-use Rattle.smp_stop_steps.specs.declared.stage.CompletionStage.{CompletionStage}
-use Rattle.smp_stop_steps.specs.declared.stage.CompletionStage.TheVariants as completion
-use Rattle.smp_stop_steps.specs.declared.stage.RoundStage.{RoundStage}
-use Rattle.smp_stop_steps.specs.declared.stage.RoundStage.TheVariants as round
-use Rattle.smp_stop_steps.specs.declared.stage.StopStage.{StopStage}
-use Rattle.smp_stop_steps.specs.declared.stage.StopStage.TheVariants.{OpenGate, Begin, Enter, EnterKind, EnterMask, EnterActive, Advance, Complete}
-use Rattle.smp_stop_steps.specs.declared.stage.StopStage.TheVariants.{Close, LoadDone, LoadResult, ReadKey, ReadSite, NudgeKey, ExchangeKey}
-use Rattle.smp_stop_steps.specs.declared.stage.Visit.{Visit}
-use Rattle.smp_words.specs.declared.work.Kind.TheVariants.{One, Multi, Patch}
-use Rattle.smp_words.specs.declared.work.Work.{Work}
-use Rattle.smp_stop_steps.specs.declared.phase.TheConstants.{DISABLE_IRQ, RUN, EXIT}
+use Rattle.smp_stop_steps.specs.declared.stage.StopStage.TheVariants.{ReadKey, ReadSite}
+use Rattle.smp_stop_steps.specs.Names.place
+use Rattle.smp_stop_steps.specs.Names.completion
+use Rattle.smp_stop_steps.specs.Names.round
 
 -- what a visit has loaded of its work
 pub record IsLoaded (v : Visit) (work : Work) : Type 0 where

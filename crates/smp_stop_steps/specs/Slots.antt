@@ -1,17 +1,12 @@
 -- What the words of one slot show of its stop.
 use Rattle.std.specs.Prelude.{◌≡◌, ◌≢◌, ◌⊎◌, ℕ, ◌+◌, ◌<◌, ◌≤◌, true, ◌&&◌, cond}
-use Rattle.smp_mask.specs.Mask.{has}
 use Rattle.smp_words.specs.Put.{same_field}
-use Rattle.smp_stop_steps.specs.Stop.{Standing, Outside, Called, Inside, Answering, Completed, Raising, Nobody, Refills, Raises, Ending, Running}
-use Rattle.smp_stop_steps.specs.Stop.{Last, Ended, Stop, is_of, is_called, first_phase}
-use Rattle.smp_stop_steps.specs.Counts.{count_behind, count_unfinished, weight, mask_weight}
-use Rattle.smp_words.specs.declared.field.Field.{Field}
-use Rattle.smp_words.specs.declared.field.Field.TheVariants as field
-use Rattle.smp_words.specs.declared.work.Kind.{Kind}
-use Rattle.smp_words.specs.declared.work.Kind.TheVariants.{One, Multi, Patch}
-use Rattle.smp_words.specs.declared.work.Work.{Work}
 use Rattle.smp_words.specs.Kinds.{kind_word}
-use Rattle.smp_stop_steps.specs.declared.phase.TheConstants.{EXIT, OVER}
+use Rattle.smp_stop_steps.specs.Names.{has, Field, Kind, One, Multi, Patch, Work, EXIT, OVER}
+use Rattle.smp_stop_steps.specs.Stop.{Standing, Outside, Called, Inside, Answering, Completed, Raising, Nobody, Refills, Raises, Ending, Running, Last, Ended}
+use Rattle.smp_stop_steps.specs.Stop.{Stop, is_of, is_called, first_phase}
+use Rattle.smp_stop_steps.specs.Counts.{count_behind, count_unfinished, weight, mask_weight}
+use Rattle.smp_stop_steps.specs.Names.field
 
 -- the words of a slot, with one changed
 abbrev pub put_field : (Field → ℕ) → Field → ℕ → Field → ℕ

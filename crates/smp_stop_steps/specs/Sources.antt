@@ -1,16 +1,12 @@
 -- Where a source is with its own stop.
 use Rattle.std.specs.Prelude.{◌≡◌, ◌≢◌, ℕ, ◌<◌, ◌^◌, true, false, ◌==◌, Option, Some, ◌≤◌}
-use Rattle.smp_mask.specs.Mask.{has}
+use Rattle.smp_stop_steps.specs.Names.{has, Field, Kind, One, Multi, Patch, Work}
 use Rattle.smp_stop_steps.specs.Stop.{Stop, Ended}
 use Rattle.smp_stop_steps.specs.Counts.{mask_weight}
 use Rattle.smp_stop_steps.specs.Slots.{IsStored}
 use Rattle.smp_stop_steps.specs.State.{Setup}
 pub use Rattle.smp_stop_steps.specs.declared.known.Source.{Source}
 pub use Rattle.smp_stop_steps.specs.declared.known.Source.TheVariants.{Shut, Drafts, Owns, Collects}
-use Rattle.smp_words.specs.declared.field.Field.{Field}
-use Rattle.smp_words.specs.declared.work.Kind.{Kind}
-use Rattle.smp_words.specs.declared.work.Kind.TheVariants.{One, Multi, Patch}
-use Rattle.smp_words.specs.declared.work.Work.{Work}
 
 -- a patch is of all online CPUs, its function runs on the first of them, and it makes one of the four changes to a key's count
 pub record IsPatchWork (u : Setup) (work : Work) : Type 0 where

@@ -2,31 +2,22 @@
 use Rattle.std.specs.Int.{cast_unsigned, w32}
 use Rattle.std.specs.Int.Bits.{bit_and}
 use Rattle.std.specs.Prelude.{ℕ, ℤ, ◌+◌, ◌^◌, Bool, true, false, ◌==◌, ◌&&◌, ◌||◌, not, nat_lt, if◌then◌else◌, Option, Some, None, length}
-use Rattle.smp_mask.specs.declared.error.SmpError.{SmpError}
-use Rattle.smp_mask.specs.declared.error.SmpError.TheVariants as error
-use Rattle.smp_words.specs.Size.{cpus}
 use Rattle.smp_words.specs.declared.size.TheConstants.{FIRST_TARGETS}
+use Rattle.smp_stop_steps.specs.Names.{SmpError, cpus, Command, StopStage, TakeGate, OpenGate, Begin, Enter, Advance, Complete, LoadDone, NudgeKey, Visit}
+use Rattle.smp_stop_steps.specs.Names.{Kind, One, Multi, Patch, Work, Gate, EXIT}
 use Rattle.smp_stop_steps.specs.Counts.{mask_weight}
 use Rattle.smp_stop_steps.specs.Stages.{StopControlValue, completes_from}
 use Rattle.smp_stop_steps.specs.Table.{stop_number}
 use Rattle.smp_stop_steps.specs.Tells.{is_one}
 use Rattle.smp_stop_steps.specs.Value.{StopsValue, first_below, stop_control_of}
 use Rattle.smp_stop_steps.specs.Begins.{stop_begun}
-use Rattle.smp_words.specs.declared.command.Command.{Command}
-use Rattle.smp_words.specs.declared.command.Command.TheVariants as command
-use Rattle.smp_words.specs.declared.field.Field.TheVariants as field
-use Rattle.smp_stop_steps.specs.declared.stage.CompletionStage.TheVariants as completion
-use Rattle.smp_stop_steps.specs.declared.stage.RoundStage.TheVariants as round
-use Rattle.smp_stop_steps.specs.declared.stage.StopStage.{StopStage}
-use Rattle.smp_stop_steps.specs.declared.stage.StopStage.TheVariants.{TakeGate, OpenGate, Begin, Enter, Advance, Complete, LoadDone, ReadKey, ReadSite}
-use Rattle.smp_stop_steps.specs.declared.stage.StopStage.TheVariants.{NudgeKey}
-use Rattle.smp_stop_steps.specs.declared.stage.Visit.{Visit}
+use Rattle.smp_stop_steps.specs.declared.stage.StopStage.TheVariants.{ReadKey, ReadSite}
 use Rattle.smp_stop_steps.specs.declared.start.Terms.{Terms}
-use Rattle.smp_words.specs.declared.work.Kind.{Kind}
-use Rattle.smp_words.specs.declared.work.Kind.TheVariants.{One, Multi, Patch}
-use Rattle.smp_words.specs.declared.work.Work.{Work}
-use Rattle.smp_words.specs.declared.word.Word.TheVariants.{Gate}
-use Rattle.smp_stop_steps.specs.declared.phase.TheConstants.{EXIT}
+use Rattle.smp_stop_steps.specs.Names.error
+use Rattle.smp_stop_steps.specs.Names.command
+use Rattle.smp_stop_steps.specs.Names.field
+use Rattle.smp_stop_steps.specs.Names.completion
+use Rattle.smp_stop_steps.specs.Names.round
 
 -- what the half of this value is asked for before a CPU starts a command
 abbrev pub terms_of : StopsValue → ℕ → Terms

@@ -1,13 +1,12 @@
 -- The state of all stops: what is now, and the lists of the past.
 use Rattle.std.specs.Prelude.{◌≡◌, ◌≢◌, ℕ, ◌<◌, ◌≤◌, Bool, true, Option, None, List, [], length, slice_index}
+use Rattle.smp_stop_steps.specs.Names.{MOST_KEYS, Work}
 use Rattle.smp_stop_steps.specs.Stop.{Stop, no_stop}
 use Rattle.smp_stop_steps.specs.Labels.{Patching, Whole, Reading}
-use Rattle.smp_labels.specs.declared.words.TheConstants.{MOST_KEYS}
 pub use Rattle.smp_stop_steps.specs.declared.known.StopCall.{StopCall}
 pub use Rattle.smp_stop_steps.specs.declared.known.Calling.{Calling}
 pub use Rattle.smp_stop_steps.specs.declared.known.Calling.TheVariants.{Idle, Calls, Carries}
 pub use Rattle.smp_stop_steps.specs.declared.known.Moved.{Moved}
-use Rattle.smp_words.specs.declared.work.Work.{Work}
 
 -- what a table is made with: how many CPUs there are, which are online, the first of them, how many
 -- keys there are, and the entry words of the sites

@@ -1,6 +1,6 @@
 -- What each step that a stop half may make next keeps, beside the stops that it tells.
 use Rattle.std.specs.Prelude.{◌≡◌, ℕ, Some, None}
-use Rattle.smp_words.specs.Access.{word_of, seen_of}
+use Rattle.smp_stop_steps.specs.Names.{word_of, seen_of, StopStage, Word}
 use Rattle.smp_stop_steps.specs.AnswerWords.{KeepsAnswers}
 use Rattle.smp_stop_steps.specs.Labels.{Change}
 use Rattle.smp_stop_steps.specs.Machine.{stop_seen_at}
@@ -13,8 +13,6 @@ use Rattle.smp_stop_steps.specs.Steps.{FunctionGoes, note_then, state_after}
 use Rattle.smp_stop_steps.specs.Table.{stop_number}
 use Rattle.smp_stop_steps.specs.Tells.{tells}
 use Rattle.smp_stop_steps.specs.Value.{StopsValue, StopShown, setup_of, stop_control_of}
-use Rattle.smp_stop_steps.specs.declared.stage.StopStage.{StopStage}
-use Rattle.smp_words.specs.declared.word.Word.{Word}
 
 -- of the step of a CPU at this stage: who may make it, what it does of functions, that a store to a label is one of a patch,
 -- that its note says what it has changed, and that answers and results stay those of i32s

@@ -1,7 +1,6 @@
 -- What is to be proved of each step of a command of the stop half.
 use Rattle.std.specs.Prelude.{◌≡◌, ◌≢◌, ◌⊎◌, ℕ, Bool, true, false, Option, Some, List, [], ◌∷◌, ◌++◌}
-use Rattle.smp_words.specs.Put.{put}
-use Rattle.smp_words.specs.Access.{word_of, at_after, seen_of}
+use Rattle.smp_stop_steps.specs.Names.{put, word_of, at_after, seen_of, StopStage, Note, One, Patch, Word, Gate}
 use Rattle.smp_stop_steps.specs.Callings.{HasCalled, answer_in}
 use Rattle.smp_stop_steps.specs.State.{Setup, StopState, Calling, Idle, Calls, StopCall}
 use Rattle.smp_stop_steps.specs.Tells.{called_more, carried, tells}
@@ -11,12 +10,7 @@ use Rattle.smp_stop_steps.specs.Shows.{StopShows}
 use Rattle.smp_stop_steps.specs.Stages.{StopControlValue, stop_access, stop_outcome, answer_at}
 use Rattle.smp_stop_steps.specs.Carries.{CarriesIn}
 use Rattle.smp_stop_steps.specs.Sits.{Sits}
-use Rattle.smp_stop_steps.specs.declared.stage.StopStage.{StopStage}
-use Rattle.smp_words.specs.declared.seen.Note.{Note}
-use Rattle.smp_words.specs.declared.seen.Note.TheVariants as note
-use Rattle.smp_words.specs.declared.work.Kind.TheVariants.{One, Patch}
-use Rattle.smp_words.specs.declared.word.Word.{Word}
-use Rattle.smp_words.specs.declared.word.Word.TheVariants.{Gate}
+use Rattle.smp_stop_steps.specs.Names.note
 
 -- the state after a step of a CPU at this stage
 abbrev pub state_after : Setup → StopState → (Word → ℕ) → StopControlValue → ℕ → StopStage → StopState

@@ -1,11 +1,6 @@
 -- One stop: its work, its phase, where each CPU is with it, who sets the next phase, and how far it has completed.
 use Rattle.std.specs.Prelude.{ℕ, Bool, true, false, ◌==◌, cond}
-use Rattle.smp_mask.specs.Mask.{has}
-use Rattle.smp_words.specs.Put.{put}
-use Rattle.smp_words.specs.declared.work.Kind.{Kind}
-use Rattle.smp_words.specs.declared.work.Kind.TheVariants.{One, Multi, Patch}
-use Rattle.smp_words.specs.declared.work.Work.{Work}
-use Rattle.smp_stop_steps.specs.declared.phase.TheConstants.{PREPARE}
+use Rattle.smp_stop_steps.specs.Names.{has, put, Kind, One, Multi, Patch, Work, PREPARE}
 
 -- where a CPU is with one stop
 pub data Standing : Type 0 where

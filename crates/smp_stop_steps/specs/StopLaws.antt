@@ -1,5 +1,6 @@
 -- All laws of the stop half, of these stops and these words.
 use Rattle.std.specs.Prelude.{◌≡◌, ◌≢◌, ℕ, true}
+use Rattle.smp_stop_steps.specs.Names.{DISABLE_IRQ, RUN, Word, Slot, Key}
 use Rattle.smp_stop_steps.specs.Closings.{HasLast}
 use Rattle.smp_stop_steps.specs.Functions.{HasFunctions}
 use Rattle.smp_stop_steps.specs.Interrupts.{InterruptLaw}
@@ -12,10 +13,7 @@ use Rattle.smp_stop_steps.specs.Shows.{StopShows}
 use Rattle.smp_stop_steps.specs.Sources.{Source}
 use Rattle.smp_stop_steps.specs.State.{Setup, StopState}
 use Rattle.smp_stop_steps.specs.Stop.{Inside}
-use Rattle.smp_stop_steps.specs.declared.phase.TheConstants.{DISABLE_IRQ, RUN}
-use Rattle.smp_words.specs.declared.field.Field.TheVariants as field
-use Rattle.smp_words.specs.declared.word.Word.{Word}
-use Rattle.smp_words.specs.declared.word.Word.TheVariants.{Slot, Key}
+use Rattle.smp_stop_steps.specs.Names.field
 
 pub record KeepsStopLaws (u : Setup) (p : StopState) (at : Word → ℕ) : Type 0 where
   -- the phase law, of each open stop of several CPUs

@@ -1,25 +1,15 @@
 -- The state after a step, from what the step shows, and the answer of the function that it calls, which no step shows.
 use Rattle.std.specs.Prelude.{ℕ, Bool, true, false, ◌==◌, ◌&&◌, ◌||◌, not, cond, Option, Some, None, List, [], ◌∷◌, ◌++◌}
-use Rattle.smp_mask.specs.Mask.{has}
-use Rattle.smp_labels.specs.Keys.{is_on, change_of}
 use Rattle.smp_labels.specs.Plans.{plan_of}
-use Rattle.smp_words.specs.Put.{put}
-use Rattle.smp_stop_steps.specs.Stop.{Standing, Inside, Answering, Stop, stands, acknowledged, refilled, raised, completed, ended, opened, closed}
 use Rattle.smp_words.specs.Kinds.{kind_at}
+use Rattle.smp_stop_steps.specs.Names.{has, is_on, change_of, put, Act, Seen, Field, Kind, One, Multi, Patch, Work, Word, Gate, Slot, Key, Site, DISABLE_IRQ}
+use Rattle.smp_stop_steps.specs.Names.{RUN, EXIT, OVER}
+use Rattle.smp_stop_steps.specs.Stop.{Standing, Inside, Answering, Stop, stands, acknowledged, refilled, raised, completed, ended, opened, closed}
 use Rattle.smp_stop_steps.specs.KeyCounts.{moved_by}
 use Rattle.smp_stop_steps.specs.Labels.{Change, Patching, Whole, Patches, Reading, ReadKey, ReadSite, count_set, patch_answer, state_left, reading_of}
 use Rattle.smp_stop_steps.specs.State.{Setup, Present, StopState, StopCall, Moved, Calling, Idle, Calls, Carries}
-use Rattle.smp_words.specs.declared.seen.Act.{Act}
-use Rattle.smp_words.specs.declared.seen.Act.TheVariants as act
-use Rattle.smp_words.specs.declared.seen.Seen.{Seen}
-use Rattle.smp_words.specs.declared.field.Field.{Field}
-use Rattle.smp_words.specs.declared.field.Field.TheVariants as field
-use Rattle.smp_words.specs.declared.work.Kind.{Kind}
-use Rattle.smp_words.specs.declared.work.Kind.TheVariants.{One, Multi, Patch}
-use Rattle.smp_words.specs.declared.work.Work.{Work}
-use Rattle.smp_words.specs.declared.word.Word.{Word}
-use Rattle.smp_words.specs.declared.word.Word.TheVariants.{Gate, Slot, Key, Site}
-use Rattle.smp_stop_steps.specs.declared.phase.TheConstants.{DISABLE_IRQ, RUN, EXIT, OVER}
+use Rattle.smp_stop_steps.specs.Names.act
+use Rattle.smp_stop_steps.specs.Names.field
 
 abbrev pub is_one : Kind → Bool
 is_one One = true

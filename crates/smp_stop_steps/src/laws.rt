@@ -108,6 +108,8 @@ ghost use Rattle.smp_stop_steps.specs.Premises.{StepsArePremised};
 /// phases, the last stores done, and the source collects once all have completed. So the slot of an open stop is stored to
 /// by CPUs in it and by the last to complete alone, and that of a stop that is not open by its source; only the fetch_and
 /// of a roll may be any CPU's.
+/// A key or a site is loaded with interrupts on, or in the function of a patch; an entry is loaded, and a key or a site
+/// stored to, in such a function alone; and a count is exchanged with interrupts on.
 pub fn steps_are_premised()
     ensures { StepsArePremised }
 {}

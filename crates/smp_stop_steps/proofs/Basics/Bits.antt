@@ -4,8 +4,7 @@ use Rattle.std.specs.Int.{bit_at, w64}
 use Rattle.std.proofs.lemmas.Bool.{cases_lt, cases_eq}
 use Rattle.std.proofs.lemmas.Bool.Decides.{nat_tests}
 use Rattle.std.proofs.lemmas.Nat.Bits.{bit_at-lt, bit_at_and, bit_at_clear_same, bit_at_clear_other, same_from_bits}
-use Rattle.smp_mask.specs.Mask.{has}
-use Rattle.smp_stop_steps.specs.Stages.{all_but}
+use Rattle.smp_stop_steps.specs.{has, all_but}
 
 pub clear_same : (n k : ℕ) → k < 64 → has (bit_and n (all_but k)) k ≡ false
 clear_same n k low = grind (arith, nat_tests, bit_at_clear_same w64 n k low)
@@ -27,8 +26,4 @@ pub clear_none : (n k : ℕ) → k < 64 → has n k ≡ false → ((c : ℕ) →
 clear_none n k low missing high = same_from_bits (bit_and n (all_but k)) n (λ c. bit c)
   where
     bit : (c : ℕ) → bit_at (bit_and n (all_but k)) c ≡ bit_at n c
-    bit c = elim (cases_eq c k) [
-      | inl same ↦ subst (λ c. bit_at (bit_and n (all_but k)) c ≡ bit_at n c) (sym same) (bit_zero (bit_and n (all_but k)) k (clear_same n k low) ∙ sym
-          (bit_zero n k missing))
-      | inr other ↦ clear_bit n k c low other (high c)
-    ]
+    bit c = search (bit_and, bit_zero, clear_same, clear_bit, arith)

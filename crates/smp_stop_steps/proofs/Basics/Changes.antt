@@ -1,12 +1,9 @@
 -- The changes of a patch, one after another.
-use Rattle.std.proofs.Common.{◌≡◌, ℕ, zero, suc, ◌-◌, cond, refl, sym, ap, ◌∙◌, List, [], ◌∷◌, get_or, ne_eqb, arith}
-use Rattle.smp_stop_steps.specs.Labels.{Change}
-use Rattle.smp_stop_steps.specs.Stages.{change_at}
-use Rattle.smp_labels.specs.declared.patch.Place.TheVariants as place
+use Rattle.std.proofs.Common.{◌≡◌, ℕ, zero, suc, refl, List, [], ◌∷◌, get_or, ne_eqb, arith}
+use Rattle.smp_stop_steps.specs.{Change, change_at}
+use Rattle.smp_stop_steps.specs.place
 
 pub read_change : (xs : List Change) (i : ℕ) → get_or xs i (place.Key 0, 0) ≡ change_at xs i
 read_change [] i = refl
 read_change (x ∷ xs) zero = refl
-read_change (x ∷ xs) (suc i) =
-    read_change xs i ∙ sym (ap (λ b. cond b x (change_at xs (suc i - 1))) (ne_eqb (suc i) 0 (λ z. omega arith)) ∙ ap (change_at xs) (let e : suc i - 1 ≡ i =
-    omega arith in e))
+read_change (x ∷ xs) (suc i) = search (read_change xs i, ne_eqb, arith)

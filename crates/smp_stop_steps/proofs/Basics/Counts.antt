@@ -4,8 +4,7 @@ use mathlib.Core.Logic.{dite}
 use mathlib.Core.Path.{fun_ext}
 use Rattle.smp_words.proofs.Puts.{at_test}
 use native.Mathlib.Decide.{ℕ_discrete}
-use Rattle.smp_words.specs.Put.{put}
-use Rattle.smp_stop_steps.specs.Counts.{sum_below}
+use Rattle.smp_stop_steps.specs.{put, sum_below}
 
 -- what is there already
 pub put_own : {A : Type 0} (f : ℕ → A) (i : ℕ) (v : A) → f i ≡ v → put f i v ≡ f

@@ -1,15 +1,14 @@
 -- The bits of a mask: how many of them are set, and the least.
-use Rattle.std.proofs.Common.{◌≡◌, ℕ, zero, suc, ◌+◌, ◌*◌, ◌%◌, ◌^◌, ◌<◌, ◌≤◌, Bool, true, false, ◌≢◌, ◌==◌, ap, sym, ◌∙◌, refl, inl, inr, eq-eqb}
-use Rattle.std.proofs.Common.{ne_eqb, arith}
+use Rattle.std.proofs.Common.{◌≡◌, ℕ, zero, suc, ◌+◌, ◌*◌, ◌%◌, ◌^◌, ◌<◌, ◌≤◌, Bool, true, false, ◌≢◌, ◌==◌, ap, sym, ◌∙◌, refl, inl, inr, eq-eqb, ne_eqb}
+use Rattle.std.proofs.Common.{arith}
 use Rattle.std.proofs.lemmas.Bool.{cases_lt}
 use Rattle.std.proofs.lemmas.Nat.{mod-pow-add, ones-le, ones_cat, pow_pos}
 use Rattle.std.proofs.lemmas.Nat.Bits.{bit_at-lt}
 use Rattle.std.specs.Int.{bit_at}
 use Rattle.std.specs.Int.Count.{ones}
 use lib.Count.{ones_step}
-use Rattle.smp_mask.specs.Mask.{has, IsLeast}
-use Rattle.smp_stop_steps.specs.Counts.{sum_below, bit, mask_weight}
-use Rattle.smp_stop_steps.specs.Value.{first_below}
+use Rattle.smp_mask.specs.Mask.{IsLeast}
+use Rattle.smp_stop_steps.specs.{has, sum_below, bit, mask_weight, first_below}
 
 bit_is : (mask k : ℕ) → bit (has mask k) ≡ ones (bit_at mask k)
 bit_is mask k = let low = bit_at-lt mask k in go (bit_at mask k) low
@@ -22,11 +21,7 @@ bit_is mask k = let low = bit_at-lt mask k in go (bit_at mask k) low
 -- the members of a mask below k are as many as the ones among its low k bits
 pub weight_ones : (k mask : ℕ) → mask_weight k mask ≡ ones (mask % 2 ^ k)
 unfolding sum_below
-weight_ones zero mask =
-    let e : mask % 1 ≡ 0 = omega arith in
-    let none = ones-le 0 0 (omega arith) in
-    let z : ones (mask % 1) ≡ ones 0 = ap ones e in
-    omega arith
+weight_ones zero mask = search (ones-le, arith)
 weight_ones (suc k) mask =
     let next : suc k ≡ 1 + k = omega arith in
     let low : mask % 2 ^ k < 2 ^ k = omega (arith, pow_pos k) in
@@ -72,8 +67,4 @@ first_at mask n (suc k) least low = elim (cases_lt n k) [
 ]
   where
     missing : k ≤ n → (c : ℕ) → c < k → has mask c ≡ false
-    missing from c low = go (has mask c) refl
-      where
-        go : (b : Bool) → has mask c ≡ b → b ≡ false
-        go false e = refl
-        go true e = absurd (omega (arith, least.least c e))
+    missing from c low = search arith

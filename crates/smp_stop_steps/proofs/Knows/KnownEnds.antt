@@ -1,41 +1,28 @@
 -- The steps of a CPU that knows v at the end of a stop: it stores its answer, counts itself, and stores done.
-use Rattle.std.proofs.Common.{◌≡◌, ◌≢◌, ℕ, ◌-◌, ◌<◌, false, ◌==◌, cond, Some, None, [], ◌∷◌, ◌++◌, get_or, set, sym, subst, refl, ap, ◌∙◌}
+use Rattle.std.proofs.Common.{◌≡◌, ◌≢◌, ℕ, ◌-◌, ◌<◌, false, ◌==◌, cond, Some, None, [], ◌∷◌, ◌++◌, get_or, set, sym, subst, refl, ap, ◌∙◌, arith}
 use Rattle.smp_words.specs.Access.{one_less}
-use Rattle.smp_words.specs.Put.{put, put_word}
-use Rattle.smp_words.specs.Size.{cpus}
-use Rattle.smp_stop_steps.specs.Callings.{IsCalling, answer_in, with_answer}
+use Rattle.smp_words.proofs.Puts.{put_same, put_other}
+use Rattle.smp_stop_steps.specs.{put, put_word, cpus, IsCalling, answer_in, with_answer, Seat, Free, In, Gives, Closes, Rests, StopShows, Source, Setup}
+use Rattle.smp_stop_steps.specs.{StopState, Calling, Idle, Standing, told, stored_open, stored_shut, completes, completes_with, told_calling, Sees, GoesOn}
+use Rattle.smp_stop_steps.specs.{columns_of, AreFirst, setup_in, is_drafting, drafted_known, slot_stored, member_stored, given_by, completed_by}
+use Rattle.smp_stop_steps.specs.{completed_with, Work, Word, Slot}
 use Rattle.smp_stop_steps.proofs.Steps.Callings.{answer_replaced, calling_given}
-use Rattle.smp_stop_steps.specs.Seats.{Seat, Free, In, Gives, Closes, Rests}
-use Rattle.smp_stop_steps.specs.Shows.{StopShows}
-use Rattle.smp_stop_steps.specs.Sources.{Source}
-use Rattle.smp_stop_steps.specs.State.{Setup, StopState, Calling, Idle, Calls, Carries}
-use Rattle.smp_stop_steps.specs.Stop.{Standing}
-use Rattle.smp_stop_steps.specs.Tells.{told, stored_open, stored_shut, completes, completes_with}
-use Rattle.smp_stop_steps.specs.Known.{told_calling, Known, Sees, GoesOn, columns_of, AreFirst, setup_in}
-use Rattle.smp_stop_steps.specs.KnownAfter.{is_drafting, drafted_known, slot_stored, member_stored, given_by, completed_by, completed_with}
+use Rattle.smp_stop_steps.specs.Known.{Known}
 use Rattle.smp_stop_steps.specs.Moves.{IsThrough}
-use Rattle.smp_words.specs.declared.seen.Act.TheVariants as act
-use Rattle.smp_words.specs.declared.field.Field.TheVariants as field
-use Rattle.smp_words.specs.declared.work.Work.{Work}
-use Rattle.smp_words.specs.declared.word.Word.{Word}
-use Rattle.smp_words.specs.declared.word.Word.TheVariants.{Slot}
 use Rattle.smp_stop_steps.proofs.Steps.Completions.{result_stored, todo_subtracted, todo_subtracted_answered, done_stored}
 use Rattle.smp_stop_steps.proofs.Steps.Facts.{todo_bounds, todo_bounds_answered}
 use Rattle.smp_stop_steps.proofs.Knows.KnownRounds.{open_at, stands, small}
 use Rattle.smp_stop_steps.proofs.Knows.Parts.{Leaves, first_put, goes_seat}
 use Rattle.smp_stop_steps.proofs.Steps.StageSteps.{less_one}
-use Rattle.smp_words.proofs.Puts.{put_same, put_other}
+use Rattle.smp_stop_steps.specs.act
+use Rattle.smp_stop_steps.specs.field
 
 -- another answer is told as the one before
 answers : (x : ℕ) (f : Calling) → f ≢ Idle → answer_in (with_answer x f) ≡ x
-answers x Idle ne = absurd (ne refl)
-answers x (Calls call) ne = refl
-answers x (Carries y) ne = refl
+answers x f ne = search arith
 
 told_same : (x : ℕ) (f : Calling) → told_calling (with_answer x f) ≡ told_calling f
-told_same x Idle = refl
-told_same x (Calls call) = refl
-told_same x (Carries y) = refl
+told_same x f = search arith
 
 module _ (p : StopState) (at : Word → ℕ) (seat : ℕ → Seat) (source : ℕ → Source) (v : Known) (h : StopShows (setup_in v.setting) p at seat source)
     (sees : Sees p seat source v) where
@@ -69,25 +56,27 @@ module _ (p : StopState) (at : Word → ℕ) (seat : ℕ → Seat) (source : ℕ
       let known : slot_stored field.Result x v ≡ record v { seat = Gives s w a x } =
       ap (λ b. cond b (drafted_known field.Result x v) (member_stored field.Result x v)) idle ∙ ap (λ y. record v { seat = given_by x y }) is in
       let k = sees.part_is in
-      subst (λ q. Goes at' q) (sym known)
-      (goes_seat p seat source v sees (stored_open p0 v.number s field.Result x) at' (Gives s w a x) v.part
-      (subst (λ q. StopShows u q at' (put seat v.number (Gives s w a x)) source)
-      (ap (λ b. cond b (stored_open p0 v.number s field.Result x) (stored_shut p0 s field.Result x)) (open_at p at seat source v h sees s w a l Rests is))
-      (result_stored u p0 at seat source h0 s v.number w a l here through x 0 some calls))
-      record {
+      let shown' = goes_seat p seat source v sees (stored_open p0 v.number s field.Result x) at' (Gives s w a x) v.part (subst (λ q. StopShows u q at' (put
+      seat v.number (Gives s w a x)) source) (ap (λ b. cond b (stored_open p0 v.number s field.Result x) (stored_shut p0 s field.Result x)) (open_at p at
+      seat source v h sees s w a l Rests is)) (result_stored u p0 at seat source h0 s v.number w a l here through x 0 some calls)) record {
         mine = record {
           holds = k.holds;
           begun = k.begun;
           collected = k.collected;
           answers = k.answers;
           looks = k.looks;
-          calling = ap told_calling mine ∙ (told_same x f ∙ k.calling);
+          calling = ap told_calling mine ∙ (told_same x f ∙
+              k.calling);
           readings = k.readings;
           nudged = k.nudged;
           patched = k.patched;
         };
-        others = λ c ne. ap (λ y. record (columns_of p c) { calling = told_calling y }) (put_other p.calling v.number g c ne);
-      })
+        others = λ c ne. ap (λ y. record (columns_of p c) {
+          calling =
+              told_calling y;
+        }) (put_other p.calling v.number g c ne);
+      } in
+      search (known, shown', arith)
 
   completed_leaves : (s : ℕ) (w : Work) (a x found : ℕ) → s < cpus → Leaves v.number p (completes_with p v.number s a x found) (completed_with found s w x
       v).part
@@ -96,23 +85,9 @@ module _ (p : StopState) (at : Word → ℕ) (seat : ℕ → Seat) (source : ℕ
       let more = p.answers v.number s ++ x ∷ [] in
       let mine = put (p.answers v.number) s more in
       let grown : AreFirst cpus mine [] (set v.part.answers s more) = first_put cpus (p.answers v.number) [] v.part.answers s more k.answers low in
-      record {
-        mine = record {
-          holds = k.holds;
-          begun = k.begun;
-          collected = k.collected;
-          answers = subst (λ f. AreFirst cpus f [] (set v.part.answers s (get_or v.part.answers s [] ++ x ∷ []))) (sym (put_same p.answers v.number mine))
-              (subst (λ l. AreFirst cpus mine [] (set v.part.answers s (l ++ x ∷ []))) (k.answers.each s low) grown);
-          looks = k.looks;
-          calling = ap told_calling (put_same p.calling v.number Idle);
-          readings = k.readings;
-          nudged = k.nudged;
-          patched = k.patched;
-        };
-        others = λ c ne. ap (λ y. record (columns_of p c) { answers = y; calling = told_calling ((put p.calling v.number Idle) c) })
-            (put_other p.answers v.number mine c ne)
-            ∙ ap (λ y. record (columns_of p c) { calling = told_calling y }) (put_other p.calling v.number Idle c ne);
-      }
+      let answers' = subst (λ f. AreFirst cpus f [] (set v.part.answers s (get_or v.part.answers s [] ++ x ∷ []))) (sym (put_same p.answers v.number mine))
+      (subst (λ l. AreFirst cpus mine [] (set v.part.answers s (l ++ x ∷ []))) (k.answers.each s low) grown) in
+      search (answers', put_same, answers, put_other, arith)
 
   -- the seat of who has counted itself, and what it knows
   counted_goes : (s : ℕ) (w : Work) (a x : ℕ) → s < cpus →
@@ -120,10 +95,7 @@ module _ (p : StopState) (at : Word → ℕ) (seat : ℕ → Seat) (source : ℕ
       let at' = put_word at (Slot s field.Todo) (found - 1) in
       StopShows u (completes_with p v.number s a x found) at' (put seat v.number (cond (found == 1) (Closes s) Free)) source →
       Goes at' (completed_with found s w x v)
-  counted_goes s w a x low shown =
-      let found = at (Slot s field.Todo) in
-      goes_seat p seat source v sees (completes_with p v.number s a x found) (put_word at (Slot s field.Todo) (found - 1)) (cond (found == 1) (Closes s) Free)
-      (completed_with found s w x v).part shown (completed_leaves s w a x found low)
+  counted_goes s w a x low shown = search (goes_seat, completed_leaves, arith)
 
   pub count : (s : ℕ) (w : Work) (a l : ℕ) → v.seat ≡ In s w a l Rests → IsThrough w a → s < cpus →
       let found = at (Slot s field.Todo) in
@@ -134,11 +106,9 @@ module _ (p : StopState) (at : Word → ℕ) (seat : ℕ → Seat) (source : ℕ
       let st = stands p at seat source v h sees (In s w a l Rests) is in
       let bounds = todo_bounds u p at seat source h s v.number w a l Rests here in
       let at' = put_word at (Slot s field.Todo) (found - 1) in
-      subst (λ x. Goes (put_word at (Slot s field.Todo) x) (completed_by found v.seat v)) (sym (less_one found bounds.0 (small found bounds.1)))
-      (subst (λ x. Goes at' (completed_by found x v)) (sym is)
-      (counted_goes s w a 0 low
-      (subst (λ (x : Standing). StopShows u (completes p v.number s x found) at' (put seat v.number (cond (found == 1) (Closes s) Free)) source) st.1
-      (todo_subtracted u p at seat source h s v.number w a l 0 here through))))
+      let shown' = counted_goes s w a 0 low (subst (λ (x : Standing). StopShows u (completes p v.number s x found) at' (put seat v.number (cond (found == 1)
+      (Closes s) Free)) source) st.1 (todo_subtracted u p at seat source h s v.number w a l 0 here through)) in
+      search (less_one found bounds.0 (small found bounds.1), is, shown', arith)
 
   pub count_given : (s : ℕ) (w : Work) (a x : ℕ) → v.seat ≡ Gives s w a x → s < cpus →
       let found = at (Slot s field.Todo) in
@@ -149,11 +119,9 @@ module _ (p : StopState) (at : Word → ℕ) (seat : ℕ → Seat) (source : ℕ
       let st = stands p at seat source v h sees (Gives s w a x) is in
       let bounds = todo_bounds_answered u p at seat source h s v.number w a x here in
       let at' = put_word at (Slot s field.Todo) (found - 1) in
-      subst (λ y. Goes (put_word at (Slot s field.Todo) y) (completed_by found v.seat v)) (sym (less_one found bounds.0 (small found bounds.1)))
-      (subst (λ y. Goes at' (completed_by found y v)) (sym is)
-      (counted_goes s w a x low
-      (subst (λ (y : Standing). StopShows u (completes p v.number s y found) at' (put seat v.number (cond (found == 1) (Closes s) Free)) source) st.1
-      (todo_subtracted_answered u p at seat source h s v.number w a x 0 here))))
+      let shown' = counted_goes s w a x low (subst (λ (y : Standing). StopShows u (completes p v.number s y found) at' (put seat v.number (cond (found == 1)
+      (Closes s) Free)) source) st.1 (todo_subtracted_answered u p at seat source h s v.number w a x 0 here)) in
+      search (less_one found bounds.0 (small found bounds.1), is, shown', arith)
 
   pub close : (s : ℕ) → v.seat ≡ Closes s → is_drafting v.source ≡ false → Goes (put_word at (Slot s field.Done) 1) (slot_stored field.Done 1 v)
   close s is idle =
@@ -162,7 +130,6 @@ module _ (p : StopState) (at : Word → ℕ) (seat : ℕ → Seat) (source : ℕ
       let plain : told u p v.number act.Store (Slot s field.Done) None (Some 1) 0 ≡ stored_open p v.number s field.Done 1 =
       ap (λ b. cond b (stored_open p v.number s field.Done 1) (stored_shut p s field.Done 1)) st.1 in
       let known : slot_stored field.Done 1 v ≡ record v { seat = Free } = ap (λ b. cond b (drafted_known field.Done 1 v) (member_stored field.Done 1 v)) idle in
-      subst (λ q. Goes at' q) (sym known)
-      (goes_seat p seat source v sees (stored_open p v.number s field.Done 1) at' Free v.part
-      (subst (λ q. StopShows u q at' (put seat v.number Free) source) plain (done_stored u p at seat source h s v.number 0 (sees.seat_is ∙ is)))
-      record { mine = sees.part_is; others = λ c ne. refl })
+      let shown' = goes_seat p seat source v sees (stored_open p v.number s field.Done 1) at' Free v.part (subst (λ q. StopShows u q at' (put seat v.number
+      Free) source) plain (done_stored u p at seat source h s v.number 0 (sees.seat_is ∙ is))) record { mine = sees.part_is; others = λ c ne. refl } in
+      search (known, shown', arith)

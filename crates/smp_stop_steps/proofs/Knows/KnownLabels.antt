@@ -1,57 +1,35 @@
 -- The steps on labels of a CPU that knows v: readings, nudges, and patches.
-use Rattle.std.proofs.Common.{◌≡◌, ℕ, ◌<◌, eqb-true, Bool, true, false, ◌==◌, ◌&&◌, cond, Some, None, List, [], ◌∷◌, ◌++◌, set, sym, subst, refl, ap, ◌∙◌}
-use Rattle.smp_mask.specs.Mask.{has}
+use Rattle.std.proofs.Common.{arith, ◌≡◌, ℕ, ◌<◌, eqb-true, Bool, true, false, ◌==◌, ◌&&◌, cond, Some, None, List, [], ◌∷◌, ◌++◌, set, sym, subst, refl, ap}
+use Rattle.std.proofs.Common.{◌∙◌}
 use Rattle.smp_labels.proofs.Patched.{plan_key_first}
-use Rattle.smp_labels.specs.Keys.{is_on}
-use Rattle.smp_labels.specs.declared.patch.Place.{Place}
-use Rattle.smp_labels.specs.declared.patch.Place.TheVariants as place
-use Rattle.smp_labels.specs.declared.words.TheConstants.{MOST_KEYS}
-use Rattle.smp_words.specs.Access.{word_of, at_after, seen_of, put_if}
-use Rattle.smp_words.specs.Put.{put, put_word}
+use Rattle.smp_words.specs.Access.{put_if}
 use Rattle.smp_words.proofs.Puts.{at_test, put_same, put_other}
-use Rattle.smp_stop_steps.specs.KeyCounts.{moves, moved_by}
-use Rattle.smp_stop_steps.specs.Labels.{Change, Patches, Reading, ReadKey, ReadSite, count_set}
-use Rattle.smp_stop_steps.specs.Seats.{Seat, Free, In, Gives, Alters, Closes, Turn, Rests, Fills, Sets, irq_of}
-use Rattle.smp_stop_steps.specs.Shows.{StopShows}
-use Rattle.smp_stop_steps.specs.Sits.{IsNudge}
-use Rattle.smp_stop_steps.specs.Sources.{Source}
-use Rattle.smp_stop_steps.specs.Stages.{store_of}
-use Rattle.smp_stop_steps.specs.State.{Setup, StopState, Present, Moved, unmoved}
-use Rattle.smp_stop_steps.specs.Tells.{told, is_patch, is_at_run, reads, key_loaded, key_patched, patched_more, patch_begun, plan_at}
-use Rattle.smp_stop_steps.specs.Known.{Known, Sees, GoesOn, columns_of, AreFirst, setup_in}
-use Rattle.smp_stop_steps.specs.KnownAfter.{reads_more, key_loaded_by, key_known, altered_by, patched_from, counted, known_entering}
+use Rattle.smp_stop_steps.specs.{has, is_on, Place, MOST_KEYS, word_of, at_after, seen_of, put, put_word, moves, moved_by, Change, Patches, Reading, ReadKey}
+use Rattle.smp_stop_steps.specs.{ReadSite, count_set, Seat, Free, In, Gives, Alters, Closes, Turn, Rests, irq_of, StopShows, IsNudge, Source, store_of, Setup}
+use Rattle.smp_stop_steps.specs.{StopState, Moved, unmoved, told, is_patch, is_at_run, reads, key_loaded, key_patched, patched_more, patch_begun, plan_at}
+use Rattle.smp_stop_steps.specs.{Sees, GoesOn, columns_of, AreFirst, setup_in, reads_more, key_loaded_by, key_known, altered_by, patched_from, counted}
+use Rattle.smp_stop_steps.specs.{known_entering, Patch, Work, Word, Key, Site}
+use Rattle.smp_stop_steps.specs.State.{Present}
+use Rattle.smp_stop_steps.specs.Known.{Known}
 use Rattle.smp_stop_steps.specs.Moves.{entering}
-use Rattle.smp_words.specs.declared.seen.Act.TheVariants as act
-use Rattle.smp_words.specs.declared.work.Kind.TheVariants.{Patch}
-use Rattle.smp_words.specs.declared.work.Work.{Work}
-use Rattle.smp_words.specs.declared.word.Word.{Word}
-use Rattle.smp_words.specs.declared.word.Word.TheVariants.{Key, Site}
 use Rattle.smp_stop_steps.proofs.Knows.KnownRounds.{stands, reads_now}
 use Rattle.smp_stop_steps.proofs.Knows.KnownSources.{still}
 use Rattle.smp_stop_steps.proofs.Knows.Parts.{Leaves, first_put, goes_seat, goes_still}
 use Rattle.smp_stop_steps.proofs.Steps.Patching.{key_read, site_read, key_loaded_first, key_stored, site_stored, key_exchanged}
+use Rattle.smp_stop_steps.specs.place
+use Rattle.smp_stop_steps.specs.act
 
 -- where interrupts are on, a CPU does not stand at the function
 not_at_run : (s : ℕ) (w : Work) (a l : ℕ) (t : Turn) → irq_of (In s w a l t) ≡ true → (a == 2 && l == 3) ≡ false
-not_at_run s w a l t on = at_test a 2 (λ b. (b && l == 3) ≡ false) (λ two. at_test l 3 (λ b. b ≡ false) (λ three. absurd (off t two three on)) (λ _. refl))
-    (λ _. refl)
-  where
-    off : (t : Turn) → a ≡ 2 → l ≡ 3 → irq_of (In s w a l t) ≡ true → ⊥
-    off Rests two three on = let bad : irq_of (In s w 2 3 Rests) ≡ true = subst (λ x. irq_of (In s w x 3 Rests) ≡ true) two
-        (subst (λ x. irq_of (In s w a x Rests) ≡ true) three on) in cc
-    off Fills two three on = let bad : irq_of (In s w 2 3 Fills) ≡ true = subst (λ x. irq_of (In s w x 3 Fills) ≡ true) two
-        (subst (λ x. irq_of (In s w a x Fills) ≡ true) three on) in cc
-    off Sets two three on = let bad : irq_of (In s w 2 3 Sets) ≡ true = subst (λ x. irq_of (In s w x 3 Sets) ≡ true) two
-        (subst (λ x. irq_of (In s w a x Sets) ≡ true) three on) in cc
+not_at_run s w a l t on = search (at_test, arith)
 
 -- the counts of one CPU, with one moved
 counted_first : (f : ℕ → ℕ → Moved) (me k old new : ℕ) (list : List Moved) → AreFirst MOST_KEYS (f me) unmoved list → k < MOST_KEYS →
     AreFirst MOST_KEYS (moved_by f me k old new me) unmoved (counted list k old new)
 counted_first f me k old new list h low =
     let mine = put (f me) k (moves (f me k) old new) in
-    subst (λ g. AreFirst MOST_KEYS g unmoved (counted list k old new)) (sym (put_same f me mine))
-    (subst (λ (m : Moved). AreFirst MOST_KEYS mine unmoved (set list k (moves m old new))) (h.each k low)
-    (first_put MOST_KEYS (f me) unmoved list k (moves (f me k) old new) h low))
+    let shown' = first_put MOST_KEYS (f me) unmoved list k (moves (f me k) old new) h low in
+    search (put_same f me mine, ← h.each k low, shown', arith)
 
 module _ (p : StopState) (at : Word → ℕ) (seat : ℕ → Seat) (source : ℕ → Source) (v : Known) (h : StopShows (setup_in v.setting) p at seat source)
     (sees : Sees p seat source v) where
@@ -68,11 +46,7 @@ module _ (p : StopState) (at : Word → ℕ) (seat : ℕ → Seat) (source : ℕ
   irq_on on = h.present.irq v.number ∙ (ap irq_of sees.seat_is ∙ on)
 
   reads_leaves : (r : Reading) → Leaves v.number p (record p { now = reads p.now v.number r }) (record (v.part) { readings = v.part.readings ++ r ∷ [] })
-  reads_leaves r =
-      let more = p.now.readings v.number ++ r ∷ [] in
-      reads_now p at seat source v h sees (reads p.now v.number r) p.calls (v.part.readings ++ r ∷ [])
-      (put_same p.now.readings v.number more ∙ ap (λ l. l ++ r ∷ []) sees.part_is.readings)
-      (λ c ne. put_other p.now.readings v.number more c ne)
+  reads_leaves r = search (reads_now, put_same, put_other, arith)
 
   -- where interrupts are on, a load of a key is a reading
   key_plain : (k found : ℕ) (x : Seat) → v.seat ≡ x → irq_of x ≡ true →
@@ -124,25 +98,26 @@ module _ (p : StopState) (at : Word → ℕ) (seat : ℕ → Seat) (source : ℕ
       go true e =
           let was : at (Key k) ≡ found = eqb-true (at (Key k)) found e in
           let parts = sees.part_is in
-          subst (λ n. Goes (put_word at (Key k) new) (record v { part = record (v.part) { nudged = counted v.part.nudged k n new } })) (sym was)
-          (goes_still p seat source v sees (record p { nudged = moved_by p.nudged v.number k found new }) (put_word at (Key k) new)
-          (record (v.part) { nudged = counted v.part.nudged k found new })
-          (key_exchanged u p at seat source h v.number k found new sees.below online (irq_on on) was is 0)
-          record {
+          let shown' = goes_still p seat source v sees (record p { nudged = moved_by p.nudged v.number k found new }) (put_word at (Key k) new) (record
+          (v.part) { nudged = counted v.part.nudged k found new }) (key_exchanged u p at seat source h v.number k found new sees.below online (irq_on on)
+          was is 0) record {
             mine = record {
               holds = parts.holds;
               begun = parts.begun;
               collected = parts.collected;
               answers = parts.answers;
-              looks = parts.looks;
+              looks =
+                  parts.looks;
               calling = parts.calling;
               readings = parts.readings;
-              nudged = counted_first p.nudged v.number k found new v.part.nudged parts.nudged low;
+              nudged = counted_first p.nudged v.number k found new v.part.nudged parts.nudged
+                  low;
               patched = parts.patched;
             };
-            others = λ c ne. ap (λ x. record (columns_of p c) { nudged = x }) (put_other p.nudged v.number (put (p.nudged v.number) k
-                (moves (p.nudged v.number k) found new)) c ne);
-          })
+            others = λ c ne. ap (λ x. record (columns_of p c) { nudged = x }) (put_other p.nudged v.number (put (p.nudged
+                v.number) k (moves (p.nudged v.number k) found new)) c ne);
+          } in
+          search (was, shown', arith)
 
   -- patches
 
@@ -161,11 +136,12 @@ module _ (p : StopState) (at : Word → ℕ) (seat : ℕ → Seat) (source : ℕ
       (ap (λ (z : Work). z.kind) st.3 ∙ kind)) in
       let known : key_loaded_by w.func found v.seat v ≡ record v { seat = next } =
       ap (λ x. key_loaded_by w.func found x v) is ∙ ap (λ k. cond (is_patch k) (record v { seat = next }) (reads_more r v)) kind in
-      subst (λ q. Goes at q) (sym known)
-      (goes_seat p seat source v sees (record p { now = patch }) at next v.part
-      (subst (λ n. StopShows u (record p { now = n }) at (put seat v.number next) source) plain (key_loaded_first u p at seat source h v.number s w 0
-      (sees.seat_is ∙ is) kind active))
-      record { mine = sees.part_is; others = λ c ne. refl })
+      let shown' = goes_seat p seat source v sees (record p { now = patch }) at next v.part (subst (λ n. StopShows u (record p { now = n }) at (put seat
+      v.number next) source) plain (key_loaded_first u p at seat source h v.number s w 0 (sees.seat_is ∙ is) kind active)) record {
+        mine = sees.part_is;
+        others = λ c ne. refl;
+      } in
+      search (known, shown', arith)
 
   -- the counts that this CPU has moved as a runner of patches
   patched_leaves : (k count n : ℕ) (now : Present) → k < MOST_KEYS → ((c : ℕ) → now.readings c ≡ p.now.readings c) →
@@ -173,23 +149,10 @@ module _ (p : StopState) (at : Word → ℕ) (seat : ℕ → Seat) (source : ℕ
         patched = counted v.part.patched k
             count n;
       })
-  patched_leaves k count n now low same = let parts = sees.part_is in record {
-    mine = record {
-      holds = parts.holds;
-      begun = parts.begun;
-      collected = parts.collected;
-      answers = parts.answers;
-      looks = parts.looks;
-      calling = parts.calling;
-      readings = same v.number ∙ parts.readings;
-      nudged = parts.nudged;
-      patched = counted_first p.patched v.number k count n v.part.patched parts.patched low;
-    };
-    others = λ c ne.
-        ap (λ x. record (columns_of p c) { readings = now.readings c; patched = x }) (put_other p.patched v.number (put (p.patched v.number) k
-        (moves (p.patched v.number k) count n)) c ne)
-        ∙ ap (λ l. record (columns_of p c) { readings = l }) (same c);
-  }
+  patched_leaves k count n now low same = let parts = sees.part_is in
+      let readings' = same v.number ∙ parts.readings in
+      let patched' = counted_first p.patched v.number k count n v.part.patched parts.patched low in
+      search (readings', patched', put_other, arith)
 
   pub alter : (s : ℕ) (w : Work) (count : ℕ) (made rest : List Change) (x : Place) (n : ℕ) → v.seat ≡ Alters s w count made ((x, n) ∷ rest) →
       plan_at u w count ≡ made ++ (x, n) ∷ rest → w.func < MOST_KEYS →
@@ -205,15 +168,13 @@ module _ (p : StopState) (at : Word → ℕ) (seat : ℕ → Seat) (source : ℕ
       let p' = record p { now = record (p.now) { patching = more }; patched = moved_by p.patched v.number k count n } in
       let plain : told u p v.number act.Store (Key k) None (Some n) 0 ≡ p' =
       ap (λ y. record p { now = record (p.now) { patching = patched_more y }; patched = key_patched y p.patched v.number k n }) st.5 in
-      subst (λ y. Goes at' (record v { seat = altered_by y; part = record (v.part) { patched = patched_from y k n v.part.patched } })) (sym is)
-      (goes_seat p seat source v sees p' at' next (record (v.part) { patched = counted v.part.patched k count n })
-      (subst (λ q. StopShows u q at' (put seat v.number next) source) plain
-      (key_stored u p at seat source h v.number s w count made rest k n 0 sees.below (sees.seat_is ∙ is) first.0 first.1))
-      (patched_leaves k count n p'.now (subst (λ i. i < MOST_KEYS) (sym first.1) low) (λ c. refl)))
+      let shown' = goes_seat p seat source v sees p' at' next (record (v.part) { patched = counted v.part.patched k count n }) (subst (λ q. StopShows u q at'
+      (put seat v.number next) source) plain (key_stored u p at seat source h v.number s w count made rest k n 0 sees.below (sees.seat_is ∙ is) first.0
+      first.1)) (patched_leaves k count n p'.now (subst (λ i. i < MOST_KEYS) (sym first.1) low) (λ c. refl)) in
+      search (is, shown', arith)
   alter s w count made rest (place.Site i) n is plan low =
       let next = Alters s w count (made ++ (place.Site i, n) ∷ []) rest in
       let p' = told u p v.number act.Store (Site i) None (Some n) 0 in
-      subst (λ y. Goes (put_word at (Site i) n) (record v { seat = altered_by y })) (sym is)
-      (goes_seat p seat source v sees p' (put_word at (Site i) n) next v.part (site_stored u p at seat source h v.number s w count made rest i n 0
-      (sees.seat_is ∙ is))
-      record { mine = sees.part_is; others = λ c ne. refl })
+      let shown' = goes_seat p seat source v sees p' (put_word at (Site i) n) next v.part (site_stored u p at seat source h v.number s w count made rest i n 0
+      (sees.seat_is ∙ is)) record { mine = sees.part_is; others = λ c ne. refl } in
+      search (is, shown', arith)

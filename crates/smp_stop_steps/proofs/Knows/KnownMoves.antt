@@ -1,24 +1,16 @@
 -- Each step that a CPU may make by what it knows goes on to stops of which all know their part.
-use Rattle.std.proofs.Common.{ℕ, Some, None}
-use Rattle.smp_words.specs.Access.{word_of, at_after, seen_of}
-use Rattle.smp_stop_steps.specs.Known.{Known, Sees, GoesOn, setup_in}
-use Rattle.smp_stop_steps.specs.KnownAfter.{slot_known, known_entering}
-use Rattle.smp_stop_steps.specs.Moves.{Move, TakeGate, OpenGate, Draft, DraftMore, Open, Enter, Look, Acknowledge, AcknowledgePatch, Refill, Raise}
-use Rattle.smp_stop_steps.specs.Moves.{Give, Count, CountGiven, Close, LookDone, Collect}
-use Rattle.smp_stop_steps.specs.Moves.{ReadKey, ReadSite, Nudge, BeginPatch, Alter, LoadArg, LoadField, LoadEntry, May, access_in, entering, IsPlain}
-use Rattle.smp_stop_steps.specs.Seats.{Seat}
-use Rattle.smp_stop_steps.specs.Shows.{StopShows}
-use Rattle.smp_stop_steps.specs.Sources.{Source}
-use Rattle.smp_stop_steps.specs.State.{StopState}
-use Rattle.smp_words.specs.declared.seen.Act.TheVariants as act
-use Rattle.smp_words.specs.declared.field.Field.{Field}
-use Rattle.smp_words.specs.declared.field.Field.TheVariants as field
-use Rattle.smp_words.specs.declared.word.Word.{Word}
-use Rattle.smp_words.specs.declared.word.Word.TheVariants.{Slot}
+use Rattle.std.proofs.Common.{ℕ, Some, None, arith}
+use Rattle.smp_stop_steps.specs.{word_of, at_after, seen_of, Sees, GoesOn, setup_in, slot_known, known_entering, Seat, StopShows, Source, StopState, Field}
+use Rattle.smp_stop_steps.specs.{Word, Slot}
+use Rattle.smp_stop_steps.specs.Known.{Known}
+use Rattle.smp_stop_steps.specs.Moves.{Move, TakeGate, OpenGate, Draft, DraftMore, Open, Enter, Look, Acknowledge, AcknowledgePatch, Refill, Raise, Give}
+use Rattle.smp_stop_steps.specs.Moves.{Count, CountGiven, Close, LookDone, Collect, ReadKey, ReadSite, Nudge, BeginPatch, Alter, LoadArg, LoadField}
+use Rattle.smp_stop_steps.specs.Moves.{LoadEntry, May, access_in, entering, IsPlain}
 use Rattle.smp_stop_steps.proofs.Knows.KnownEnds.{give, count, count_given, close}
 use Rattle.smp_stop_steps.proofs.Knows.KnownLabels.{read_key, read_site, nudge, begin_patch, alter}
 use Rattle.smp_stop_steps.proofs.Knows.KnownRounds.{enter, load_arg, look, acknowledge, acknowledge_patch, refill, raise}
 use Rattle.smp_stop_steps.proofs.Knows.KnownSources.{still, take_gate, open_gate, draft, draft_more, open_stop, look_done, collect}
+use Rattle.smp_stop_steps.specs.act
 
 module _ (p : StopState) (at : Word → ℕ) (seat : ℕ → Seat) (source : ℕ → Source) (v : Known) (h : StopShows (setup_in v.setting) p at seat source)
     (sees : Sees p seat source v) where
@@ -26,17 +18,7 @@ module _ (p : StopState) (at : Word → ℕ) (seat : ℕ → Seat) (source : ℕ
   Goes at' w = GoesOn v.setting p seat source v.number at' w
 
   load_field : (s : ℕ) (f : Field) → IsPlain f → Goes at (slot_known (p.now.stop s).work v s act.Load f (Some (at (Slot s f))) None)
-  load_field s field.Kind i = still p at seat source v h sees
-  load_field s field.Mask i = still p at seat source v h sees
-  load_field s field.Active i = still p at seat source v h sees
-  load_field s field.Func i = still p at seat source v h sees
-  load_field s field.Arg i = absurd i
-  load_field s field.Result i = absurd i
-  load_field s field.Todo i = absurd i
-  load_field s field.Done i = absurd i
-  load_field s field.Ack i = absurd i
-  load_field s field.State i = absurd i
-  load_field s field.Roll i = absurd i
+  load_field s f i = search (still, arith)
 
   pub known_move : (m : Move) → May v m →
       let a = access_in v m in

@@ -1,32 +1,18 @@
 -- The steps of a CPU that knows v: it enters a stop, and goes through its phases.
+use Rattle.std.proofs.Common.{◌≡◌, ◌≢◌, ℕ, ◌+◌, ◌-◌, ◌<◌, ◌≤◌, ◌^◌, Bool, true, false, ◌==◌, ◌&&◌, not, cond, Some, None, List, [], ◌∷◌, ◌++◌, sym, subst}
+use Rattle.std.proofs.Common.{refl, ap, ◌∙◌, arith, bit_and, eq-eqb}
+use Rattle.smp_words.specs.Access.{one_less}
+use Rattle.smp_words.proofs.Puts.{put_same, put_other}
+use Rattle.smp_stop_steps.specs.{HasCalled, has, put, put_word, cpus, mask_weight, Change, Reading, patch_answer, Seat, Free, In, Alters, Turn, Rests, Fills}
+use Rattle.smp_stop_steps.specs.{Sets, Stands, StopShows, Source, all_but, Setup, StopState, StopCall, Calling, Calls, Standing, Inside, acknowledged, raised}
+use Rattle.smp_stop_steps.specs.{told, enters, acknowledges, acknowledges_now, raises, stored_open, stored_shut, with_stop, leaves, unpatched, carried}
+use Rattle.smp_stop_steps.specs.{may_call, carried_call, told_calling, Sees, GoesOn, columns_of, setup_in, Part, called_by, ran_since, is_drafting}
+use Rattle.smp_stop_steps.specs.{drafted_known, slot_stored, member_stored, refilled_by, raised_by, looked_known, looked_to, acked_by, read_since, Field}
+use Rattle.smp_stop_steps.specs.{Work, Word, Slot}
 use Rattle.smp_stop_steps.proofs.Steps.Same.{word_same}
 use Rattle.smp_stop_steps.proofs.Steps.Callings.{carried_alone}
-use Rattle.smp_stop_steps.specs.Callings.{HasCalled}
-use Rattle.std.proofs.Common.{◌≡◌, ◌≢◌, ℕ, ◌+◌, ◌-◌, ◌<◌, ◌≤◌, ◌^◌, Bool, true, false, ◌==◌, ◌&&◌, not, cond, Some, None, List, [], ◌∷◌, ◌++◌, sym}
-use Rattle.std.proofs.Common.{subst, refl, ap, ◌∙◌, arith, bit_and, eq-eqb}
-use Rattle.smp_mask.specs.Mask.{has}
-use Rattle.smp_words.specs.Access.{one_less}
-use Rattle.smp_words.specs.Put.{put, put_word}
-use Rattle.smp_words.specs.Size.{cpus}
-use Rattle.smp_stop_steps.specs.Counts.{mask_weight}
-use Rattle.smp_stop_steps.specs.Labels.{Change, Reading, patch_answer}
-use Rattle.smp_stop_steps.specs.Seats.{Seat, Free, In, Alters, Turn, Rests, Fills, Sets, Stands}
-use Rattle.smp_stop_steps.specs.Shows.{StopShows}
-use Rattle.smp_stop_steps.specs.Sources.{Source}
-use Rattle.smp_stop_steps.specs.Stages.{all_but}
-use Rattle.smp_stop_steps.specs.State.{Setup, StopState, Present, StopCall, Calling, Calls, Carries, Idle}
-use Rattle.smp_stop_steps.specs.Stop.{Standing, Inside, acknowledged, raised}
-use Rattle.smp_stop_steps.specs.Tells.{told, enters, acknowledges, acknowledges_now, raises, stored_open, stored_shut, first_readings, with_stop}
-use Rattle.smp_stop_steps.specs.Tells.{leaves, unpatched, carried, may_call, carried_call, calls_now}
-use Rattle.smp_stop_steps.specs.Known.{told_calling, Known, Sees, GoesOn, columns_of, setup_in, Part}
-use Rattle.smp_stop_steps.specs.KnownAfter.{called_by, ran_since, is_drafting, drafted_known, slot_stored, member_stored, refilled_by, raised_by}
-use Rattle.smp_stop_steps.specs.KnownAfter.{looked_known, looked_to, acked_by, read_since}
-use Rattle.smp_words.specs.declared.seen.Act.TheVariants as act
-use Rattle.smp_words.specs.declared.field.Field.{Field}
-use Rattle.smp_words.specs.declared.field.Field.TheVariants as field
-use Rattle.smp_words.specs.declared.work.Work.{Work}
-use Rattle.smp_words.specs.declared.word.Word.{Word}
-use Rattle.smp_words.specs.declared.word.Word.TheVariants.{Slot}
+use Rattle.smp_stop_steps.specs.State.{Present, Carries}
+use Rattle.smp_stop_steps.specs.Known.{Known}
 use Rattle.smp_stop_steps.proofs.Basics.Bits.{clear_same, clear_other, clear_none}
 use Rattle.smp_stop_steps.proofs.Steps.Completions.{roll_cleared}
 use Rattle.smp_stop_steps.proofs.State.Moves.{IsNoPatch}
@@ -36,16 +22,15 @@ use Rattle.smp_stop_steps.proofs.Knows.Parts.{Leaves, goes_seat, goes_still}
 use Rattle.smp_stop_steps.proofs.State.Phases.{is_open_inside}
 use Rattle.smp_stop_steps.proofs.Steps.Rounds.{state_loaded, ack_subtracted, ack_subtracted_patched, ack_stored, state_stored}
 use Rattle.smp_stop_steps.proofs.Steps.StageSteps.{less_one}
-use Rattle.smp_words.proofs.Puts.{put_same, put_other}
+use Rattle.smp_stop_steps.specs.act
+use Rattle.smp_stop_steps.specs.field
 
 pub small : (n : ℕ) → n ≤ cpus → n < 2 ^ 64
 small n l = omega arith
 
 -- what is told of who carries, and of who has called
 told_carried : (f : Calling) → told_calling (carried_call f) ≡ carried_call (told_calling f)
-told_carried Idle = refl
-told_carried (Calls call) = refl
-told_carried (Carries answer) = refl
+told_carried f = search arith
 
 module _ (p : StopState) (at : Word → ℕ) (seat : ℕ → Seat) (source : ℕ → Source) (v : Known) (h : StopShows (setup_in v.setting) p at seat source)
     (sees : Sees p seat source v) where
@@ -70,20 +55,7 @@ module _ (p : StopState) (at : Word → ℕ) (seat : ℕ → Seat) (source : ℕ
   pub reads_now : (n : Present) (calls : ℕ → List StopCall) (more : List Reading) → n.readings v.number ≡ more → ((c : ℕ) → c ≢ v.number →
       n.readings c ≡ p.now.readings c) →
       Leaves v.number p (record p { now = n; calls = calls }) (record (v.part) { readings = more })
-  reads_now n calls more mine others = let k = sees.part_is in record {
-    mine = record {
-      holds = k.holds;
-      begun = k.begun;
-      collected = k.collected;
-      answers = k.answers;
-      looks = k.looks;
-      calling = k.calling;
-      readings = mine;
-      nudged = k.nudged;
-      patched = k.patched;
-    };
-    others = λ c ne. ap (λ x. record (columns_of p c) { readings = x }) (others c ne);
-  }
+  reads_now n calls more mine others = search arith
 
   -- entering
 
@@ -121,52 +93,35 @@ module _ (p : StopState) (at : Word → ℕ) (seat : ℕ → Seat) (source : ℕ
       let found = at (Slot s field.State) in
       let seen = p.looks v.number ++ found ∷ [] in
       let k = sees.part_is in
-      subst (λ x. Goes at (record v { seat = looked_to found x; part = record (v.part) { looks = v.part.looks ++ found ∷ [] } })) (sym is)
-      (goes_seat p seat source v sees (told u p v.number act.Load (Slot s field.State) (Some found) None 0) at (In s w a found Rests)
-      (record (v.part) { looks = v.part.looks ++ found ∷ [] })
-      (state_loaded u p at seat source h s v.number w a l 0 (sees.seat_is ∙ is) more)
-      record {
-        mine = record {
-          holds = k.holds;
-          begun = k.begun;
-          collected = k.collected;
-          answers = k.answers;
-          looks = put_same p.looks v.number seen ∙ ap (λ x. x ++ found ∷ []) k.looks;
-          calling = k.calling;
-          readings = k.readings;
-          nudged = k.nudged;
-          patched = k.patched;
-        };
+      let shown' = goes_seat p seat source v sees (told u p v.number act.Load (Slot s field.State) (Some found) None 0) at (In s w a found Rests) (record
+      (v.part) { looks = v.part.looks ++ found ∷ [] }) (state_loaded u p at seat source h s v.number w a l 0 (sees.seat_is ∙ is) more) record {
+        mine =
+            search (put_same, arith);
         others = λ c ne. ap (λ x. record (columns_of p c) { looks = x }) (put_other p.looks v.number seen c ne);
-      })
+      } in
+      search (is, shown', arith)
 
   -- the readings of who leaves, or not
 
   left_mine : (b : Bool) (n : Present) (s : ℕ) (w job : Work) → w ≡ job → n.readings ≡ p.now.readings →
       (cond b (leaves n v.number s w) n).readings v.number ≡ (read_since b s job v).readings
-  left_mine true n s w job same e = put_same n.readings v.number (first_readings v.number s w) ∙ ap (first_readings v.number s) same
-  left_mine false n s w job same e = ap (λ f. f v.number) e ∙ sees.part_is.readings
+  left_mine b n s w job same e = search (put_same, arith)
 
   left_other : (b : Bool) (n : Present) (s : ℕ) (w : Work) → n.readings ≡ p.now.readings → (c : ℕ) → c ≢ v.number →
       (cond b (leaves n v.number s w) n).readings c ≡ p.now.readings c
-  left_other true n s w e c ne = put_other n.readings v.number (first_readings v.number s w) c ne ∙ ap (λ f. f c) e
-  left_other false n s w e c ne = ap (λ f. f c) e
+  left_other b n s w e c ne = search (put_other, arith)
 
   -- the function of who has acknowledged a phase, or of another CPU
 
   ran_mine : (b : Bool) (g : Calling) → told_calling g ≡ carried_call v.part.calling → told_calling ((cond b (put p.calling v.number g) p.calling) v.number)
       ≡ cond b (carried_call v.part.calling) v.part.calling
-  ran_mine true g e = ap told_calling (put_same p.calling v.number g) ∙ e
-  ran_mine false g e = sees.part_is.calling
+  ran_mine b g e = search (put_same, arith)
 
   ran_other : (b : Bool) (g : Calling) (c : ℕ) → c ≢ v.number → (cond b (put p.calling v.number g) p.calling) c ≡ p.calling c
-  ran_other true g c ne = put_other p.calling v.number g c ne
-  ran_other false g c ne = refl
+  ran_other b g c ne = search (put_other, arith)
 
   has_called : (w : Work) (f : Calling) → HasCalled v.number w (told_calling f) → HasCalled v.number w f
-  has_called w Idle k = k
-  has_called w (Calls call) k = tt
-  has_called w (Carries answer) k = tt
+  has_called w f k = search arith
 
   -- the columns of who acknowledges
   acked_leaves : (n : Present) (calls : ℕ → List StopCall) (calling : ℕ → Calling) (part : Part) →
@@ -174,22 +129,7 @@ module _ (p : StopState) (at : Word → ℕ) (seat : ℕ → Seat) (source : ℕ
       told_calling (calling v.number) ≡ part.calling → ((c : ℕ) → c ≢ v.number → calling c ≡ p.calling c) →
       part ≡ record (v.part) { readings = part.readings; calling = part.calling } →
       Leaves v.number p (record p { now = n; calls = calls; calling = calling }) part
-  acked_leaves n calls calling part mine others calls_mine calls_others same = let k = sees.part_is in
-      subst (Leaves v.number p (record p { now = n; calls = calls; calling = calling })) (sym same) record {
-        mine = record {
-          holds = k.holds;
-          begun = k.begun;
-          collected = k.collected;
-          answers = k.answers;
-          looks = k.looks;
-          calling = calls_mine;
-          readings = mine;
-          nudged = k.nudged;
-          patched = k.patched;
-        };
-        others = λ c ne. ap (λ x. record (columns_of p c) { readings = n.readings c; calling = told_calling x }) (calls_others c ne) ∙ ap
-            (λ x. record (columns_of p c) { readings = x }) (others c ne);
-      }
+  acked_leaves n calls calling part mine others calls_mine calls_others same = search (Leaves, arith)
 
   pub acknowledge : (s : ℕ) (w : Work) (a : ℕ) → v.seat ≡ In s w a (a + 1) Rests → (a ≡ 2 → HasCalled v.number w v.part.calling) →
       let found = at (Slot s field.Ack) in
@@ -210,18 +150,13 @@ module _ (p : StopState) (at : Word → ℕ) (seat : ℕ → Seat) (source : ℕ
       } in
       let part = ran_since (a + 1 == 3) (read_since leaves_it s w v) in
       let alone = carried_alone u.first p.now.patching seat v.number (p.calling v.number) (subst IsNoPatch (sym here) tt) h.present.runner in
-      subst (λ x. Goes (put_word at (Slot s field.Ack) x) (acked_by found v.seat v)) (sym (less_one found bounds.0 (small found bounds.1)))
-      (subst (λ x. Goes at' (acked_by found x v)) (sym is)
-      (goes_seat p seat source v sees p' at' next part
-      (subst (λ (x : Standing). StopShows u (acknowledges p v.number s x found) at' (put seat v.number next) source) st.1
-      (ack_subtracted u p at seat source h s v.number w a 0 here (λ two. has_called w (p.calling v.number) (subst (HasCalled v.number w)
-      (sym sees.part_is.calling) (ready two)))))
-      (acked_leaves (acknowledges_now p.now v.number s (a + 1) found) p'.calls p'.calling part
-      (left_mine leaves_it n s (p.now.stop s).work w st.3 refl)
-      (left_other leaves_it n s (p.now.stop s).work refl)
-      (ran_mine (a + 1 == 3) (carried v.number p.now.patching (p.calling v.number)) (ap told_calling alone ∙ (told_carried (p.calling v.number) ∙ ap
-      carried_call sees.part_is.calling)))
-      (ran_other (a + 1 == 3) (carried v.number p.now.patching (p.calling v.number))) refl)))
+      let shown' = goes_seat p seat source v sees p' at' next part (subst (λ (x : Standing). StopShows u (acknowledges p v.number s x found) at' (put seat
+      v.number next) source) st.1 (ack_subtracted u p at seat source h s v.number w a 0 here (λ two. has_called w (p.calling v.number) (subst (HasCalled
+      v.number w) (sym sees.part_is.calling) (ready two))))) (acked_leaves (acknowledges_now p.now v.number s (a + 1) found) p'.calls p'.calling part
+      (left_mine leaves_it n s (p.now.stop s).work w st.3 refl) (left_other leaves_it n s (p.now.stop s).work refl) (ran_mine (a + 1 == 3) (carried
+      v.number p.now.patching (p.calling v.number)) (ap told_calling alone ∙ (told_carried (p.calling v.number) ∙ ap carried_call sees.part_is.calling)))
+      (ran_other (a + 1 == 3) (carried v.number p.now.patching (p.calling v.number))) refl) in
+      search (less_one found bounds.0 (small found bounds.1), is, shown', arith)
 
   pub acknowledge_patch : (s : ℕ) (w : Work) (count : ℕ) (made : List Change) → v.seat ≡ Alters s w count made [] →
       let found = at (Slot s field.Ack) in
@@ -237,15 +172,12 @@ module _ (p : StopState) (at : Word → ℕ) (seat : ℕ → Seat) (source : ℕ
       ap (λ x. carried v.number x (p.calling v.number)) st.5 ∙ ap (λ b. cond b (Carries (patch_answer w count)) (carried_call (p.calling v.number)))
       (eq-eqb v.number v.number refl) in
       let p' = acknowledges p v.number s (Inside 2 3) found in
-      subst (λ x. Goes (put_word at (Slot s field.Ack) x) (acked_by found v.seat v)) (sym (less_one found bounds.0 (small found bounds.1)))
-      (subst (λ x. Goes at' (acked_by found x v)) (sym is)
-      (goes_seat p seat source v sees p' at' next (record (v.part) { calling = Carries 0 })
-      (subst (λ (x : Standing). StopShows u (acknowledges p v.number s x found) at' (put seat v.number next) source) st.1
-      (ack_subtracted_patched u p at seat source h s v.number w count made 0 here))
-      (acked_leaves (acknowledges_now p.now v.number s 3 found) p'.calls p'.calling (record (v.part) { calling = Carries 0 })
-      sees.part_is.readings (λ c ne. refl)
-      (ap told_calling (put_same p.calling v.number (carried v.number p.now.patching (p.calling v.number)) ∙ own))
-      (λ c ne. put_other p.calling v.number (carried v.number p.now.patching (p.calling v.number)) c ne) refl)))
+      let shown' = goes_seat p seat source v sees p' at' next (record (v.part) { calling = Carries 0 }) (subst (λ (x : Standing). StopShows u (acknowledges p
+      v.number s x found) at' (put seat v.number next) source) st.1 (ack_subtracted_patched u p at seat source h s v.number w count made 0 here))
+      (acked_leaves (acknowledges_now p.now v.number s 3 found) p'.calls p'.calling (record (v.part) { calling = Carries 0 }) sees.part_is.readings (λ c
+      ne. refl) (ap told_calling (put_same p.calling v.number (carried v.number p.now.patching (p.calling v.number)) ∙ own)) (λ c ne. put_other p.calling
+      v.number (carried v.number p.now.patching (p.calling v.number)) c ne) refl) in
+      search (less_one found bounds.0 (small found bounds.1), is, shown', arith)
 
   -- with the load of the argument it calls the function, where it may
   pub load_arg : (s : ℕ) (w : Work) (a l : ℕ) → v.seat ≡ In s w a l Rests → Goes at (called_by (at (Slot s field.Arg)) v.seat v)
@@ -269,22 +201,11 @@ module _ (p : StopState) (at : Word → ℕ) (seat : ℕ → Seat) (source : ℕ
           let k = sees.part_is in
           let p' = record p { calling = put p.calling v.number (Calls call) } in
           let plain : told u p v.number act.Load (Slot s field.Arg) (Some (at (Slot s field.Arg))) None 0 ≡ p' =
-          ap (λ b. cond b (calls_now p v.number (p.now.stop s).work (at (Slot s field.Arg)) 0) p) (is_may ∙ e)
-          ∙ ap (λ (x : Work). record p { calling = put p.calling v.number (Calls (record { func = x.func; arg = at (Slot s field.Arg); answer = 0 })) }) st.3 in
+          search (is_may, arith) in
           goes_still p seat source v sees p' at (record (v.part) { calling = Calls call })
           (subst (λ q. StopShows u q at seat source) plain (arg_loaded u p at seat source h s v.number w a l Rests here 0 refl))
           record {
-            mine = record {
-              holds = k.holds;
-              begun = k.begun;
-              collected = k.collected;
-              answers = k.answers;
-              looks = k.looks;
-              calling = ap told_calling (put_same p.calling v.number (Calls call));
-              readings = k.readings;
-              nudged = k.nudged;
-              patched = k.patched;
-            };
+            mine = search (put_same, call, arith);
             others = λ c ne. ap (λ x. record (columns_of p c) { calling = told_calling x }) (put_other p.calling v.number (Calls call) c ne);
           }
 
@@ -296,11 +217,10 @@ module _ (p : StopState) (at : Word → ℕ) (seat : ℕ → Seat) (source : ℕ
       let at' = put_word at (Slot s field.Ack) x in
       let known : slot_stored field.Ack x v ≡ record v { seat = In s w a l Sets } =
       ap (λ b. cond b (drafted_known field.Ack x v) (member_stored field.Ack x v)) idle ∙ ap (λ y. record v { seat = refilled_by y }) is in
-      subst (λ q. Goes at' q) (sym known)
-      (goes_seat p seat source v sees (stored_open p v.number s field.Ack x) at' (In s w a l Sets) v.part
-      (subst (λ q. StopShows u q at' (put seat v.number (In s w a l Sets)) source) (stored_plain s field.Ack x w a l Fills is)
-      (ack_stored u p at seat source h s v.number w a l 0 (sees.seat_is ∙ is)))
-      record { mine = sees.part_is; others = λ c ne. refl })
+      let shown' = goes_seat p seat source v sees (stored_open p v.number s field.Ack x) at' (In s w a l Sets) v.part (subst (λ q. StopShows u q at' (put seat
+      v.number (In s w a l Sets)) source) (stored_plain s field.Ack x w a l Fills is) (ack_stored u p at seat source h s v.number w a l 0 (sees.seat_is ∙
+      is))) record { mine = sees.part_is; others = λ c ne. refl } in
+      search (known, shown', arith)
 
   pub raise : (s : ℕ) (w : Work) (a l : ℕ) → v.seat ≡ In s w a l Sets → is_drafting v.source ≡ false →
       Goes (put_word at (Slot s field.State) (a + 1)) (slot_stored field.State (a + 1) v)
@@ -312,9 +232,8 @@ module _ (p : StopState) (at : Word → ℕ) (seat : ℕ → Seat) (source : ℕ
       let known : slot_stored field.State x v ≡ record v { seat = In s w a l Rests; part = part } =
       ap (λ b. cond b (drafted_known field.State x v) (member_stored field.State x v)) idle ∙ ap (λ y. raised_by x y v) is in
       let n = with_stop p.now s (raised (p.now.stop s) x) in
-      subst (λ q. Goes at' q) (sym known)
-      (goes_seat p seat source v sees (stored_open p v.number s field.State x) at' (In s w a l Rests) part
-      (subst (λ q. StopShows u q at' (put seat v.number (In s w a l Rests)) source) (stored_plain s field.State x w a l Sets is)
-      (state_stored u p at seat source h s v.number w a l 0 (sees.seat_is ∙ is)))
-      (reads_now (raises p.now v.number s x) p.calls part.readings
-      (left_mine (x == 5) n s (p.now.stop s).work w st.3 refl) (left_other (x == 5) n s (p.now.stop s).work refl)))
+      let shown' = goes_seat p seat source v sees (stored_open p v.number s field.State x) at' (In s w a l Rests) part (subst (λ q. StopShows u q at' (put
+      seat v.number (In s w a l Rests)) source) (stored_plain s field.State x w a l Sets is) (state_stored u p at seat source h s v.number w a l 0
+      (sees.seat_is ∙ is))) (reads_now (raises p.now v.number s x) p.calls part.readings (left_mine (x == 5) n s (p.now.stop s).work w st.3 refl)
+      (left_other (x == 5) n s (p.now.stop s).work refl)) in
+      search (known, shown', arith)

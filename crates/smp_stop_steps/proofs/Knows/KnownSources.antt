@@ -1,58 +1,35 @@
 -- The steps of a source that knows v: the gate, begin, and the ends of its own stop.
-use Rattle.smp_stop_steps.proofs.State.Gates.{gate_free}
-use Rattle.std.proofs.Common.{◌≡◌, ◌≢◌, ℕ, ◌+◌, ◌<◌, nat_lt, lt-ltb, eqb-true, eq-eqb, ne_eqb, Bool, true, false, ◌==◌, cond, Option, Some, None, []}
-use Rattle.std.proofs.Common.{◌∷◌, ◌++◌, sym, subst, refl, ap, ◌∙◌, arith}
+use Rattle.std.proofs.Common.{◌≡◌, ◌≢◌, ℕ, ◌+◌, ◌<◌, nat_lt, lt-ltb, eqb-true, eq-eqb, ne_eqb, Bool, true, false, ◌==◌, cond, Option, Some, None, [], ◌∷◌}
+use Rattle.std.proofs.Common.{◌++◌, sym, subst, refl, ap, ◌∙◌, arith}
 use Rattle.smp_words.specs.Access.{put_if}
-use Rattle.smp_words.specs.Put.{put, put_word}
-use Rattle.smp_words.specs.Size.{cpus}
 use Rattle.smp_words.proofs.Puts.{put_all, put_same, put_other}
-use Rattle.smp_stop_steps.specs.Counts.{mask_weight}
-use Rattle.smp_stop_steps.specs.Seats.{Seat}
-use Rattle.smp_stop_steps.specs.Shows.{StopShows}
-use Rattle.smp_stop_steps.specs.Slots.{DoneShows, begun_value, order}
-use Rattle.smp_stop_steps.specs.Sources.{Source, Shut, Drafts, Owns, Collects, SourceShows, DraftShows, OwnerShows, IsDrafted, IsWork}
-use Rattle.smp_stop_steps.specs.State.{Setup, StopState}
-use Rattle.smp_stop_steps.specs.Stop.{Standing, Ending, Running, Last, Ended}
-use Rattle.smp_stop_steps.specs.Tells.{told, drafted, drafts, opens, stored_open, stored_shut}
-use Rattle.smp_stop_steps.specs.Known.{Known, Sees, GoesOn, IsBegun, columns_of, told_source, told_work, holds_it, setup_in}
-use Rattle.smp_stop_steps.specs.KnownAfter.{is_drafting, drafts_more, drafted_known, draft_known, opened_by, slot_stored, member_stored, gate_known}
-use Rattle.smp_stop_steps.specs.KnownAfter.{done_by, collected_known}
-use Rattle.smp_words.specs.declared.seen.Act.TheVariants as act
-use Rattle.smp_words.specs.declared.field.Field.{Field}
-use Rattle.smp_words.specs.declared.field.Field.TheVariants as field
-use Rattle.smp_words.specs.declared.work.Kind.{Kind as KindOf}
-use Rattle.smp_words.specs.declared.work.Kind.TheVariants.{One}
-use Rattle.smp_words.specs.declared.work.Work.{Work}
-use Rattle.smp_words.specs.declared.word.Word.{Word}
-use Rattle.smp_words.specs.declared.word.Word.TheVariants.{Gate, Slot}
+use Rattle.smp_stop_steps.specs.{put, put_word, cpus, Seat, StopShows, DoneShows, begun_value, order, Source, Shut, Drafts, Owns, Collects, SourceShows}
+use Rattle.smp_stop_steps.specs.{DraftShows, OwnerShows, IsDrafted, IsWork, Setup, StopState, Standing, Ending, told, drafted, drafts, opens, stored_open}
+use Rattle.smp_stop_steps.specs.{stored_shut, Sees, GoesOn, IsBegun, columns_of, told_source, told_work, holds_it, setup_in, is_drafting, drafted_known}
+use Rattle.smp_stop_steps.specs.{draft_known, opened_by, slot_stored, gate_known, done_by, collected_known, Field, Kind as KindOf, One, Work, Word, Gate}
+use Rattle.smp_stop_steps.specs.{Slot}
+use Rattle.smp_stop_steps.proofs.State.Gates.{gate_free}
+use Rattle.smp_stop_steps.specs.Known.{Known}
 use Rattle.smp_stop_steps.proofs.Knows.Parts.{Leaves, goes, goes_source, goes_still}
 use Rattle.smp_stop_steps.proofs.Steps.Sources.{gate_taken, gate_opened, field_stored, roll_stored, done_loaded, result_loaded, kind_back, work_ext}
+use Rattle.smp_stop_steps.specs.act
+use Rattle.smp_stop_steps.specs.field
 
 holder : (g : Option ℕ) (me : ℕ) → holds_it g me ≡ true → g ≡ Some me
-holder None me e = cc
-holder (Some c) me e = ap Some (eqb-true c me e)
+holder g me e = search (eqb-true, arith)
 
 -- a CPU that is told to draft nothing drafts nothing
 not_draft : (y told : Source) → told_source y ≡ told → is_drafting told ≡ false → (w : Work) (k : ℕ) → y ≢ Drafts w k
 not_draft y told is idle w k e = let bad : true ≡ false = sym (ap is_drafting (sym is ∙ ap told_source e)) ∙ idle in cc
 
 is_shut : (y : Source) → told_source y ≡ Shut → y ≡ Shut
-is_shut Shut e = refl
-is_shut (Drafts w k) e = cc
-is_shut (Owns w) e = cc
-is_shut (Collects w) e = cc
+is_shut y e = search arith
 
 is_owns : (y : Source) (w : Work) → told_source y ≡ Owns w → y ≡ Owns w
-is_owns Shut w e = cc
-is_owns (Drafts x k) w e = cc
-is_owns (Owns x) w e = e
-is_owns (Collects x) w e = cc
+is_owns y w e = search arith
 
 is_collects : (y : Source) (w : Work) → told_source y ≡ Collects w → y ≡ Collects w
-is_collects Shut w e = cc
-is_collects (Drafts x k) w e = cc
-is_collects (Owns x) w e = cc
-is_collects (Collects x) w e = e
+is_collects y w e = search arith
 
 -- the work that a source drafts, told so far as this one
 record IsDraft (y : Source) (w : Work) (k : ℕ) : Type 0 where
@@ -61,13 +38,7 @@ record IsDraft (y : Source) (w : Work) (k : ℕ) : Type 0 where
   same : told_work k work ≡ told_work k w
 
 is_draft : (y : Source) (w : Work) (k : ℕ) → told_source y ≡ Drafts (told_work k w) k → IsDraft y w k
-is_draft Shut w k e = cc
-is_draft (Drafts x j) w k e =
-    let same : j ≡ k = cc in
-    let works : told_work j x ≡ told_work k w = cc in
-    record { work = x; is = ap (Drafts x) same; same = subst (λ n. told_work n x ≡ told_work k w) same works }
-is_draft (Owns x) w k e = cc
-is_draft (Collects x) w k e = cc
+is_draft y w k e = search arith
 
 -- two works of which the same is told have the same first k fields
 module _ (k : ℕ) (x w : Work) (same : told_work k x ≡ told_work k w) where
@@ -90,73 +61,25 @@ module _ (k : ℕ) (x w : Work) (same : told_work k x ≡ told_work k w) where
   arg_same l = told_at 4 (λ (z : Work). z.arg) 0 l (ap (λ (z : Work). z.arg) same)
 
   value_same : (n : ℕ) (f : Field) → order f < k → begun_value n x f ≡ begun_value n w f
-  value_same n field.Kind l = ap (λ (z : KindOf). begun_value n (record x { kind = z }) field.Kind) (kind_same l)
-  value_same n field.Mask l = mask_same l
-  value_same n field.Active l = active_same l
-  value_same n field.Func l = func_same l
-  value_same n field.Arg l = arg_same l
-  value_same n field.Result l = refl
-  value_same n field.Todo l = ap (mask_weight n) (mask_same (omega arith))
-  value_same n field.Done l = refl
-  value_same n field.Ack l = ap (mask_weight n) (mask_same (omega arith))
-  value_same n field.State l = ap (λ (z : KindOf). begun_value n (record x { kind = z }) field.State) (kind_same (omega arith))
-  value_same n field.Roll l = mask_same (omega arith)
+  value_same n f l = search (kind_same, mask_same, active_same, func_same, arg_same, arith)
 
   drafted_same : (now : Work) → IsDrafted k now x → IsDrafted k now w
-  drafted_same now d = record {
-    kind = λ l. d.kind l ∙ kind_same l;
-    mask = λ l. d.mask l ∙ mask_same l;
-    active = λ l. d.active l ∙ active_same l;
-    func = λ l. d.func l ∙ func_same l;
-    arg = λ l. d.arg l ∙ arg_same l;
-  }
+  drafted_same now d = search (d.kind, kind_same, d.mask, mask_same, d.active, active_same, d.func, func_same, d.arg, arg_same, arith)
 
 -- one more field is told
 pub draft_next : (f : Field) (w : Work) → order f ≢ 0 → order f < 10 → drafted f (begun_value cpus w f) (told_work (order f) w) ≡ told_work (order f + 1) w
-draft_next field.Kind w ne l = absurd (ne refl)
-draft_next field.Mask w ne l = refl
-draft_next field.Active w ne l = refl
-draft_next field.Func w ne l = refl
-draft_next field.Arg w ne l = refl
-draft_next field.Result w ne l = refl
-draft_next field.Todo w ne l = refl
-draft_next field.Done w ne l = refl
-draft_next field.Ack w ne l = refl
-draft_next field.State w ne l = refl
-draft_next field.Roll w ne l = absurd (let z : ⊥ = omega (arith, l) in z)
+draft_next f w ne l = search arith
 
 pub stored_draft : (f : Field) (n : ℕ) (v : Known) → order f ≢ 0 → order f < 10 → is_drafting v.source ≡ true → slot_stored f n v ≡ drafted_known f n v
-stored_draft field.Kind n v ne l e = absurd (ne refl)
-stored_draft field.Mask n v ne l e = ap (λ b. cond b (drafted_known field.Mask n v) v) e
-stored_draft field.Active n v ne l e = ap (λ b. cond b (drafted_known field.Active n v) v) e
-stored_draft field.Func n v ne l e = ap (λ b. cond b (drafted_known field.Func n v) v) e
-stored_draft field.Arg n v ne l e = ap (λ b. cond b (drafted_known field.Arg n v) v) e
-stored_draft field.Result n v ne l e = ap (λ b. cond b (drafted_known field.Result n v) (member_stored field.Result n v)) e
-stored_draft field.Todo n v ne l e = ap (λ b. cond b (drafted_known field.Todo n v) v) e
-stored_draft field.Done n v ne l e = ap (λ b. cond b (drafted_known field.Done n v) (member_stored field.Done n v)) e
-stored_draft field.Ack n v ne l e = ap (λ b. cond b (drafted_known field.Ack n v) (member_stored field.Ack n v)) e
-stored_draft field.State n v ne l e = ap (λ b. cond b (drafted_known field.State n v) (member_stored field.State n v)) e
-stored_draft field.Roll n v ne l e = absurd (let z : ⊥ = omega (arith, l) in z)
+stored_draft f n v ne l e = search arith
 
 -- a store but the last one drafts the work
 shut_drafts : (p : StopState) (s : ℕ) (f : Field) (x : ℕ) → order f < 10 → stored_shut p s f x ≡ record p { now = drafts p.now s f x }
-shut_drafts p s field.Kind x l = refl
-shut_drafts p s field.Mask x l = refl
-shut_drafts p s field.Active x l = refl
-shut_drafts p s field.Func x l = refl
-shut_drafts p s field.Arg x l = refl
-shut_drafts p s field.Result x l = refl
-shut_drafts p s field.Todo x l = refl
-shut_drafts p s field.Done x l = refl
-shut_drafts p s field.Ack x l = refl
-shut_drafts p s field.State x l = refl
-shut_drafts p s field.Roll x l = absurd (let z : ⊥ = omega (arith, l) in z)
+shut_drafts p s f x l = search arith
 
 -- done is 1 where it is not 0
 done_is : (n : ℕ) (standing : ℕ → Standing) (e : Ending) (done : ℕ) → DoneShows n standing e done → (done == 0) ≡ false → done ≡ 1
-done_is n standing Running done d ne = let bad : true ≡ false = sym (eq-eqb done 0 d.0) ∙ ne in cc
-done_is n standing (Last c) done d ne = let bad : true ≡ false = sym (eq-eqb done 0 d.0) ∙ ne in cc
-done_is n standing Ended done d ne = d.0
+done_is n standing e done d ne = search (eq-eqb, arith)
 
 module _ (p : StopState) (at : Word → ℕ) (seat : ℕ → Seat) (source : ℕ → Source) (v : Known) (h : StopShows (setup_in v.setting) p at seat source)
     (sees : Sees p seat source v) where
@@ -177,20 +100,7 @@ module _ (p : StopState) (at : Word → ℕ) (seat : ℕ → Seat) (source : ℕ
 
   holds_alone : (g : Option ℕ) (b : Bool) → holds_it g v.number ≡ b → ((c : ℕ) → c ≢ v.number → holds_it g c ≡ holds_it p.gate c) →
       Leaves v.number p (record p { gate = g }) (record (v.part) { holds = b })
-  holds_alone g b mine others = let k = sees.part_is in record {
-    mine = record {
-      holds = mine;
-      begun = k.begun;
-      collected = k.collected;
-      answers = k.answers;
-      looks = k.looks;
-      calling = k.calling;
-      readings = k.readings;
-      nudged = k.nudged;
-      patched = k.patched;
-    };
-    others = λ c ne. ap (λ x. record (columns_of p c) { holds = x }) (others c ne);
-  }
+  holds_alone g b mine others = search arith
 
   pub take_gate : Goes (put_if put_word at Gate (cond (at Gate == 0) (Some (v.number + 1)) None))
       (gate_known act.Cas (cond (at Gate == 0) (Some (v.number + 1)) None) v)
@@ -220,17 +130,9 @@ module _ (p : StopState) (at : Word → ℕ) (seat : ℕ → Seat) (source : ℕ
 
   -- the source may be taken for another of which the same is told
   restaged : (y : Source) → SourceIs y → StopShows u p at seat (put source v.number y)
-  restaged y it = record {
-    setup = h.setup;
-    present = h.present;
-    gate = h.gate;
-    callings = h.callings;
-    closing = h.closing;
-    sources = put_all (λ j x. SourceShows u p.gate (p.now.stop j) (λ f. at (Slot j f)) j x) source v.number y it (λ j ne. h.sources j);
-    past = h.past;
-    owns = h.owns;
-    counts = h.counts;
-  }
+  restaged y it =
+      let sources' = put_all (λ j x. SourceShows u p.gate (p.now.stop j) (λ f. at (Slot j f)) j x) source v.number y it (λ j ne. h.sources j) in
+      search (sources', arith)
 
   source_here : (y : Source) → source v.number ≡ y → SourceIs y
   source_here y e = subst SourceIs e (h.sources v.number)
@@ -258,23 +160,15 @@ module _ (p : StopState) (at : Word → ℕ) (seat : ℕ → Seat) (source : ℕ
       Goes (put_word at (Slot v.number field.Kind) (begun_value cpus work field.Kind)) (draft_known (begun_value cpus work field.Kind) v)
   draft work shut holds is =
       let closed : (p.now.stop v.number).is_open ≡ false = source_here Shut (is_shut (source v.number) (sees.source_is ∙ shut)) in
-      subst (λ (k : KindOf). Goes (put_word at (Slot v.number field.Kind) (begun_value cpus work field.Kind))
-      (record v { source = Drafts (record { kind = k; mask = 0; active = 0; func = 0; arg = 0 }) 1 }))
-      (sym (kind_back work.kind))
-      (field_goes work field.Kind record {
+      let shown' = field_goes work field.Kind record {
         shut = closed;
         holds = holder p.gate v.number (sees.part_is.holds ∙ holds);
         is_work = is;
-        stored = λ f l. absurd (omega arith);
-        told = record {
-          kind = λ l. absurd (omega arith);
-          mask = λ l. absurd (omega arith);
-          active = λ l. absurd (omega arith);
-          func =
-              λ l. absurd (omega arith);
-          arg = λ l. absurd (omega arith);
-        };
-      } (omega arith))
+        stored = λ f
+            l. absurd (omega arith);
+        told = search arith;
+      } (omega arith) in
+      search (kind_back work.kind, shown', arith)
 
   pub draft_more : (work : Work) (f : Field) → v.source ≡ Drafts (told_work (order f) work) (order f) → IsWork u work → order f ≢ 0 → order f < 10 →
       Goes (put_word at (Slot v.number f) (begun_value cpus work f)) (slot_stored f (begun_value cpus work f) v)
@@ -284,16 +178,8 @@ module _ (p : StopState) (at : Word → ℕ) (seat : ℕ → Seat) (source : ℕ
       let y = is_draft (source v.number) work k (sees.source_is ∙ e) in
       let d : DraftShows u p.gate (p.now.stop v.number) (λ f. at (Slot v.number f)) v.number y.work k = source_here (Drafts y.work k) y.is in
       let known : slot_stored f x v ≡ record v { source = Drafts (told_work (k + 1) work) (k + 1) } =
-      stored_draft f x v ne low (ap is_drafting e) ∙ (ap (λ o. record v { source = drafts_more f x o }) e ∙ ap
-      (λ (z : Work). record v { source = Drafts z (k + 1) }) (draft_next f work ne low)) in
-      subst (λ q. Goes (put_word at (Slot v.number f) x) q) (sym known)
-      (field_goes work f record {
-        shut = d.shut;
-        holds = d.holds;
-        is_work = is;
-        stored = λ g l. d.stored g l ∙ value_same k y.work work y.same u.cpus g l;
-        told = drafted_same k y.work work y.same (p.now.stop v.number).work d.told;
-      } low)
+      search (stored_draft, draft_next, work, arith) in
+      search (field_goes, work, is, d.stored, value_same, drafted_same, arith)
 
   pub open_stop : (work : Work) → v.source ≡ Drafts (told_work 10 work) 10 → Goes (put_word at (Slot v.number field.Roll) work.mask) (opened_by v.source v)
   open_stop work e =
@@ -301,30 +187,20 @@ module _ (p : StopState) (at : Word → ℕ) (seat : ℕ → Seat) (source : ℕ
       let is : source v.number ≡ Drafts work 10 = y.is ∙ ap (λ z. Drafts z 10) y.same in
       let d : DraftShows u p.gate (p.now.stop v.number) (λ f. at (Slot v.number f)) v.number work 10 = source_here (Drafts work 10) is in
       let t = d.told in
-      let same : (p.now.stop v.number).work ≡ work = work_ext (p.now.stop v.number).work work
-      (t.kind (omega arith)) (t.mask (omega arith)) (t.active (omega arith)) (t.func (omega arith)) (t.arg (omega arith)) in
+      let same : (p.now.stop v.number).work ≡ work = search (work_ext, work, t.kind, t.mask, t.active, t.func, t.arg, arith) in
       let at' = put_word at (Slot v.number field.Roll) work.mask in
       let plain : told u p v.number act.Store (Slot v.number field.Roll) None (Some work.mask) 0 ≡ opens p v.number =
       ap (λ b. cond b (stored_open p v.number v.number field.Roll work.mask) (stored_shut p v.number field.Roll work.mask)) d.shut in
       let begun = p.begun v.number ++ (p.now.stop v.number).work ∷ [] in
       let k = sees.part_is in
-      subst (λ o. Goes at' (opened_by o v)) (sym e)
-      (goes_source p seat source v sees (opens p v.number) at' (Owns work) (Owns work) (record (v.part) { begun = v.part.begun ++ work ∷ [] })
-      (subst (λ q. StopShows u q at' seat (put source v.number (Owns work))) plain (roll_stored u p at seat source h v.number work 0 is))
-      record {
-        mine = record {
-          holds = k.holds;
-          begun = put_same p.begun v.number begun ∙ (ap (λ l. l ++ (p.now.stop v.number).work ∷ []) k.begun ∙ ap (λ (z : Work). v.part.begun ++ z ∷ []) same);
-          collected = k.collected;
-          answers = k.answers;
-          looks = k.looks;
-          calling = k.calling;
-          readings = k.readings;
-          nudged = k.nudged;
-          patched = k.patched;
-        };
+      let shown' = goes_source p seat source v sees (opens p v.number) at' (Owns work) (Owns work) (record (v.part) { begun = v.part.begun ++ work ∷ [] })
+      (subst (λ q. StopShows u q at' seat (put source v.number (Owns work))) plain (roll_stored u p at seat source h v.number work 0 is)) record {
+        mine =
+            search (put_same, same, arith);
         others = λ c ne. ap (λ x. record (columns_of p c) { begun = x }) (put_other p.begun v.number begun c ne);
-      } refl tt)
+      } refl tt
+      in
+      search (e, shown', arith)
 
   -- the end of its stop
 
@@ -340,8 +216,7 @@ module _ (p : StopState) (at : Word → ℕ) (seat : ℕ → Seat) (source : ℕ
       go false e =
           let o : OwnerShows u (p.now.stop v.number) w = source_here (Owns w) there in
           let one : at (Slot v.number field.Done) ≡ 1 =
-          done_is u.cpus (p.now.stop v.number).standing (p.now.stop v.number).ending (at (Slot v.number field.Done)) ((h.present.slots v.number).shows
-          o.is_open).done e in
+          search (done_is, h.present.slots, arith) in
           goes_source p seat source v sees p at (Collects w) (Collects w) v.part (done_loaded u p at seat source h v.number w there one) unmoved_columns refl tt
 
   pub collect : (w : Work) → v.source ≡ Collects w → Goes at (collected_known (at (Slot v.number field.Result)) v)
@@ -353,16 +228,6 @@ module _ (p : StopState) (at : Word → ℕ) (seat : ℕ → Seat) (source : ℕ
       goes_source p seat source v sees (told u p v.number act.Load (Slot v.number field.Result) (Some found) None 0) at Shut Shut
       (record (v.part) { collected = v.part.collected ++ found ∷ [] }) (result_loaded u p at seat source h v.number w 0 there)
       record {
-        mine = record {
-          holds = k.holds;
-          begun = k.begun;
-          collected = put_same p.collected v.number more ∙ ap (λ l. l ++ found ∷ []) k.collected;
-          answers = k.answers;
-          looks = k.looks;
-          calling = k.calling;
-          readings = k.readings;
-          nudged = k.nudged;
-          patched = k.patched;
-        };
+        mine = search (put_same, arith);
         others = λ c ne. ap (λ x. record (columns_of p c) { collected = x }) (put_other p.collected v.number more c ne);
       } refl tt

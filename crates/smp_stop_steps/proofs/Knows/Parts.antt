@@ -1,49 +1,22 @@
 -- What a step of a CPU leaves to it and to all others.
-use Rattle.std.proofs.Common.{◌≡◌, ◌≢◌, ℕ, ◌<◌, cond, List, [], get_or, set, replicate, sym, subst, refl, ap, ◌∙◌}
+use Rattle.std.proofs.Common.{◌≡◌, ◌≢◌, ℕ, ◌<◌, List, get_or, set, replicate, sym, arith}
 use Rattle.std.proofs.lemmas.List.{length-set, length-replicate, get_or-set_same, get_or-set_other}
 use Rattle.smp_words.proofs.Puts.{at_test, put_same, put_other}
 use Rattle.smp_words.proofs.Zeros.{get_or-same}
-use Rattle.smp_words.specs.Put.{put}
-use Rattle.smp_words.specs.Size.{cpus}
-use Rattle.smp_labels.specs.declared.words.TheConstants.{MOST_KEYS}
-use Rattle.smp_words.specs.declared.word.Word.{Word}
-use Rattle.smp_stop_steps.specs.Known.{Known, Part, Setting, fresh, Columns, columns_of, AreFirst, IsPart, Sees, GoesOn, IsBegun, told_source, setup_in}
-use Rattle.smp_stop_steps.specs.Seats.{Seat, Free}
-use Rattle.smp_stop_steps.specs.Shows.{StopShows}
-use Rattle.smp_stop_steps.specs.Sources.{Source, Shut}
-use Rattle.smp_stop_steps.specs.State.{StopState, no_stops, unmoved}
+use Rattle.smp_stop_steps.specs.{put, cpus, Word, Part, Setting, fresh, columns_of, AreFirst, IsPart, Sees, GoesOn, IsBegun, told_source, setup_in, Seat}
+use Rattle.smp_stop_steps.specs.{Free, StopShows, Source, Shut, StopState, no_stops}
+use Rattle.smp_stop_steps.specs.Known.{Known}
 
 -- the list of a function's first values, with one changed
 pub first_put : {A : Type 0} (n : ℕ) (f : ℕ → A) (d : A) (list : List A) (i : ℕ) (x : A) → AreFirst n f d list → i < n → AreFirst n (put f i x) d (set list i x)
-first_put {A} n f d list i x h l = record {
-  sized = length-set list i x ∙ h.sized;
-  each = λ j m. at_test j i (λ b. cond b x (f j) ≡ get_or (set list i x) j d)
-      (λ e. sym (ap (λ k. get_or (set list i x) k d) e ∙ get_or-set_same list i x d (subst (λ k. i < k) (sym h.sized) l)))
-      (λ ne. h.each j m ∙ sym (get_or-set_other list i j x d ne));
-}
+first_put {A} n f d list i x h l = search (length-set, at_test, get_or, get_or-set_same, h.each, get_or-set_other, arith)
 
 first_same : {A : Type 0} (n : ℕ) (x : A) → AreFirst n (λ _. x) x (replicate n x)
 first_same {A} n x = record { sized = length-replicate n x; each = λ i l. sym (get_or-same x n i) }
 
 -- a CPU that has done nothing knows its part of the stops at first
 pub fresh_sees : (k : Setting) (me : ℕ) → me < cpus → Sees no_stops (λ _. Free) (λ _. Shut) (fresh k me)
-fresh_sees k me low = record {
-  below = low;
-  seat_is = refl;
-  source_is = refl;
-  is_begun = tt;
-  part_is = record {
-    holds = refl;
-    begun = refl;
-    collected = refl;
-    answers = first_same cpus [];
-    looks = refl;
-    calling = refl;
-    readings = refl;
-    nudged = first_same MOST_KEYS unmoved;
-    patched = first_same MOST_KEYS unmoved;
-  };
-}
+fresh_sees k me low = search (first_same, arith)
 
 -- what a step leaves: this part to its CPU, and their columns to the others
 pub record Leaves (me : ℕ) (p p' : StopState) (part : Part) : Type 0 where
@@ -57,39 +30,20 @@ module _ (p : StopState) (seat : ℕ → Seat) (source : ℕ → Source) (v : Kn
       seat' v.number ≡ x → told_source (source' v.number) ≡ y → IsBegun (source' v.number) →
       ((c : ℕ) → c ≢ v.number → seat' c ≡ seat c) → ((c : ℕ) → c ≢ v.number → source' c ≡ source c) →
       GoesOn v.setting p seat source v.number at' (record v { seat = x; source = y; part = part })
-  goes p' at' seat' source' x y part shown leaves here there begun seats sources = record {
-    stops = p';
-    seats = seat';
-    sources = source';
-    shown = shown;
-    mine = record { below = sees.below; seat_is = here; source_is = there; is_begun = begun; part_is = leaves.mine };
-    number_is = refl;
-    setting_is = refl;
-    others = λ o ne s. record {
-      below = s.below;
-      seat_is = seats o.number ne ∙ s.seat_is;
-      source_is = ap told_source (sources o.number ne) ∙ s.source_is;
-      is_begun = subst IsBegun (sym (sources o.number ne)) s.is_begun;
-      part_is = subst (λ (c : Columns). IsPart c o.part) (sym (leaves.others o.number ne)) s.part_is;
-    };
-  }
+  goes p' at' seat' source' x y part shown leaves here there begun seats sources = search (leaves.others, arith)
 
   -- one that moves the CPU's seat alone
   pub goes_seat : (p' : StopState) (at' : Word → ℕ) (x : Seat) (part : Part) → StopShows (setup_in v.setting) p' at' (put seat v.number x) source →
       Leaves v.number p p' part → GoesOn v.setting p seat source v.number at' (record v { seat = x; part = part })
-  goes_seat p' at' x part shown leaves = goes p' at' (put seat v.number x) source x v.source part shown leaves
-      (put_same seat v.number x) sees.source_is sees.is_begun (λ c ne. put_other seat v.number x c ne) (λ c ne. refl)
+  goes_seat p' at' x part shown leaves = search (goes, v.source, put_same, sees.source_is, sees.is_begun, put_other, arith)
 
   -- one that moves its source alone
   pub goes_source : (p' : StopState) (at' : Word → ℕ) (y told : Source) (part : Part) → StopShows (setup_in v.setting) p' at' seat (put source v.number y) →
       Leaves v.number p p' part → told_source y ≡ told → IsBegun y →
       GoesOn v.setting p seat source v.number at' (record v { source = told; part = part })
-  goes_source p' at' y told part shown leaves is begun = goes p' at' seat (put source v.number y) v.seat told part shown leaves
-      sees.seat_is (ap told_source (put_same source v.number y) ∙ is) (subst IsBegun (sym (put_same source v.number y)) begun)
-      (λ c ne. refl) (λ c ne. put_other source v.number y c ne)
+  goes_source p' at' y told part shown leaves is begun = search (goes, v.seat, sees.seat_is, put_same, put_other, arith)
 
   -- one that moves neither
   pub goes_still : (p' : StopState) (at' : Word → ℕ) (part : Part) → StopShows (setup_in v.setting) p' at' seat source → Leaves v.number p p' part →
       GoesOn v.setting p seat source v.number at' (record v { part = part })
-  goes_still p' at' part shown leaves = goes p' at' seat source v.seat v.source part shown leaves
-      sees.seat_is sees.source_is sees.is_begun (λ c ne. refl) (λ c ne. refl)
+  goes_still p' at' part shown leaves = search (goes, v.seat, v.source, sees.seat_is, sees.source_is, sees.is_begun, arith)

@@ -1,76 +1,27 @@
 -- When a stop function runs, and who is to store done.
-use Rattle.std.proofs.Common.{◌≡◌, ℕ, true, inl, inr, ⊎_elim, sym, subst, refl, ap, ◌∙◌, arith}
-use Rattle.smp_mask.specs.Mask.{has}
-use Rattle.smp_stop_steps.specs.Callings.{IsCallOf, IsCalling}
-use Rattle.smp_stop_steps.specs.Closings.{IsLast, IsClosing}
-use Rattle.smp_stop_steps.specs.Functions.{RunsFunction, HasFunctions}
-use Rattle.smp_stop_steps.specs.Seats.{Seat, Free, In, Gives, Alters, Closes, Stands}
-use Rattle.smp_stop_steps.specs.Shows.{StopShows}
-use Rattle.smp_stop_steps.specs.Slots.{DoneShows}
-use Rattle.smp_stop_steps.specs.Sources.{Source}
-use Rattle.smp_stop_steps.specs.State.{Setup, StopState, Calls}
-use Rattle.smp_stop_steps.specs.Stop.{Ending, Running, Last, Ended, Inside}
-use Rattle.smp_stop_steps.specs.Tells.{calls_at_run, is_multi}
-use Rattle.smp_words.specs.declared.field.Field.TheVariants as field
-use Rattle.smp_words.specs.declared.work.Kind.{Kind as KindOf}
-use Rattle.smp_words.specs.declared.work.Kind.TheVariants.{One, Multi, Patch}
-use Rattle.smp_words.specs.declared.work.Work.{Work}
-use Rattle.smp_words.specs.declared.word.Word.{Word}
-use Rattle.smp_words.specs.declared.word.Word.TheVariants.{Slot}
+use Rattle.std.proofs.Common.{◌≡◌, ℕ, true, sym, subst, refl, ◌∙◌, arith}
+use Rattle.smp_stop_steps.specs.{IsLast, IsClosing, HasFunctions, Seat, Closes, Stands, StopShows, DoneShows, Source, Setup, StopState, Ending, Running, Last}
+use Rattle.smp_stop_steps.specs.{Ended, Inside, is_multi, Kind as KindOf, Multi, Word, Slot, RunsAlone}
 use Rattle.smp_stop_steps.proofs.Basics.Bools.{both_true}
 use Rattle.smp_stop_steps.proofs.State.Ends.{function_law}
 use Rattle.smp_stop_steps.proofs.State.Patched.{all_off}
-use Rattle.smp_stop_steps.specs.Promises.{RunsAlone}
+use Rattle.smp_stop_steps.specs.field
 
 multi_kind : (k : KindOf) → is_multi k ≡ true → k ≡ Multi
-multi_kind One e = cc
-multi_kind Multi e = refl
-multi_kind Patch e = cc
+multi_kind k e = search arith
 
 module _ (u : Setup) (p : StopState) (at : Word → ℕ) (seat : ℕ → Seat) (source : ℕ → Source) (h : StopShows u p at seat source) where
   pub runs_alone : (s me : ℕ) → (p.now.stop s).standing me ≡ Inside 2 3 → RunsAlone p s me
-  runs_alone s me is = record {
-    law = function_law u.cpus (p.now.stop s) (λ f. at (Slot s f)) (h.present.slots s) me is;
-    all_off = all_off u p.now at seat h.present s me is;
-  }
+  runs_alone s me is = search (function_law, h.present.slots, all_off, h.present, arith)
 
   pub has_functions : HasFunctions p
-  has_functions c call is = go (seat c) refl (subst (IsCalling c (seat c)) is (h.callings c))
-    where
-      go : (x : Seat) → seat c ≡ x → IsCalling c x (Calls call) → (s : ℕ) × RunsFunction p s c call
-      go Free e k = absurd k
-      go (In s w a l t) e k =
-          let st : Stands p.now c (In s w a l t) = subst (Stands p.now c) e (h.present.stands c) in
-          let work : w ≡ (p.now.stop s).work = sym st.3 in (
-            s,
-            record {
-              inside = st.0;
-              is_call = subst (λ (x : Work). IsCallOf x call) work k.0;
-              runs = ⊎_elim (λ (one : w.kind ≡ One). inl (ap (λ (x : Work). x.kind) (sym work) ∙ one))
-                  (λ (m : (a ≡ 2) × (l ≡ 3) × (calls_at_run c w ≡ true)).
-                  let b = both_true (has w.active c) (is_multi w.kind) m.2 in
-                  let stands : (p.now.stop s).standing c ≡ Inside 2 3 = st.1 ∙ (ap (λ n. Inside n l) m.0 ∙ ap (Inside 2) m.1) in
-                  inr record {
-                    multi = ap (λ (x : Work). x.kind) (sym work) ∙ multi_kind w.kind b.1;
-                    active = ap (λ (x : Work). has x.active c) (sym work) ∙ b.0;
-                    stands = stands;
-                    alone = runs_alone s c stands;
-                  }) k.1.1;
-            },
-          )
-      go (Gives s w a v) e k =
-          let st : Stands p.now c (Gives s w a v) = subst (Stands p.now c) e (h.present.stands c) in
-          (s, record { inside = st.0; is_call = subst (λ (x : Work). IsCallOf x call) (sym st.3) k.0; runs = inl (ap (λ (x : Work). x.kind) st.3 ∙ k.1) })
-      go (Alters s w count made rest) e k = absurd k
-      go (Closes s) e k = absurd k
+  has_functions c call is = search (h.callings, h.present.stands, both_true, multi_kind, runs_alone, arith)
 
   pub last_stores : IsClosing p at seat
   last_stores s op none zero_ = go (p.now.stop s).ending refl ((h.present.slots s).shows op).done
     where
       one_last : (c : ℕ) → (p.now.stop s).ending ≡ Last c → (d : ℕ) → seat d ≡ Closes s → d ≡ c
-      one_last c e d is =
-          let st : Stands p.now d (Closes s) = subst (Stands p.now d) is (h.present.stands d) in
-          let both : Last d ≡ Last c = sym st.2 ∙ e in cc
+      one_last c e d is = search (h.present.stands, arith)
 
       go : (e : Ending) → (p.now.stop s).ending ≡ e → DoneShows u.cpus (p.now.stop s).standing e (at (Slot s field.Done)) → (c : ℕ) × IsLast p seat s c
       go Running e d = absurd (d.1 (sym ((h.present.slots s).shows op).todo ∙ none))

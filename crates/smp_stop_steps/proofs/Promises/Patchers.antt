@@ -1,71 +1,34 @@
 -- The label law outside the stores of patches, and who makes these.
-use Rattle.std.proofs.Common.{◌≡◌, ℕ, false, Option, Some, List, [], ◌∷◌, ◌++◌, length, sym, subst, refl, ap, ◌∙◌, arith}
+use Rattle.std.proofs.Common.{◌≡◌, ℕ, false, Option, Some, List, [], ◌∷◌, ◌++◌, length, sym, subst, ap, ◌∙◌, arith}
 use Rattle.std.proofs.lemmas.List.{append-nil}
 use Rattle.smp_labels.specs.Law.{IsLawful, Table}
-use Rattle.smp_labels.specs.declared.patch.Place.TheVariants as place
-use Rattle.smp_stop_steps.specs.Labels.{Change, Patching, Whole, Patches, LabelsShow, labels_in}
-use Rattle.smp_stop_steps.specs.Patchers.{is_between, IsLawfulOutside, HasPatcher, IsNextOfPatch, label_stored}
-use Rattle.smp_stop_steps.specs.Present.{RunnerShows}
-use Rattle.smp_stop_steps.specs.Seats.{Seat, Alters, Stands}
-use Rattle.smp_stop_steps.specs.Shows.{StopShows}
-use Rattle.smp_stop_steps.specs.Sits.{Sits, SitsAt, SitsInRound}
-use Rattle.smp_stop_steps.specs.Sources.{Source}
-use Rattle.smp_stop_steps.specs.Stages.{StopControlValue, change_at, completion_access, round_access, stop_access, store_of}
-use Rattle.smp_stop_steps.specs.State.{Setup, StopState}
-use Rattle.smp_stop_steps.specs.declared.stage.RoundStage.{RoundStage}
-use Rattle.smp_stop_steps.specs.declared.stage.RoundStage.TheVariants as round
-use Rattle.smp_stop_steps.specs.declared.stage.CompletionStage.{CompletionStage}
-use Rattle.smp_stop_steps.specs.declared.stage.CompletionStage.TheVariants as completion
-use Rattle.smp_stop_steps.specs.declared.stage.StopStage.{StopStage}
-use Rattle.smp_stop_steps.specs.declared.stage.StopStage.TheVariants.{TakeGate, OpenGate, Begin, Enter, EnterKind, EnterMask, EnterActive, Advance}
-use Rattle.smp_stop_steps.specs.declared.stage.StopStage.TheVariants.{Complete, Close, LoadDone, LoadResult, ReadKey, ReadSite, NudgeKey, ExchangeKey}
-use Rattle.smp_stop_steps.specs.declared.stage.Visit.{Visit}
-use Rattle.smp_words.specs.declared.word.Word.{Word}
-use Rattle.smp_words.specs.declared.word.Word.TheVariants.{Gate, Slot}
+use Rattle.smp_stop_steps.specs.{Change, Patching, Patches, LabelsShow, labels_in, is_between, IsLawfulOutside, HasPatcher, IsNextOfPatch, label_stored, Seat}
+use Rattle.smp_stop_steps.specs.{Alters, Stands, StopShows, SitsAt, SitsInRound, Source, StopControlValue, change_at, completion_access, round_access}
+use Rattle.smp_stop_steps.specs.{stop_access, store_of, Setup, StopState, RoundStage, CompletionStage, StopStage, Visit, Word, Gate}
+use Rattle.smp_stop_steps.specs.Sits.{Sits}
 use Rattle.smp_stop_steps.proofs.State.Ends.{function_law}
 use Rattle.smp_stop_steps.proofs.State.Patched.{all_off}
 use Rattle.smp_stop_steps.proofs.Steps.Facts.{patcher_active}
 use Rattle.smp_stop_steps.proofs.Steps.RoundSteps.{change_here}
+use Rattle.smp_stop_steps.specs.round
 
 -- between its first and its last store alone a patch leaves the table unlawful
 pub lawful_outside : (x : Patching) (t : Table) → LabelsShow x t → is_between x ≡ false → IsLawful t
-lawful_outside Whole t l e = l
-lawful_outside (Patches c work count [] rest) t l e = subst IsLawful (sym l.2) l.1
-lawful_outside (Patches c work count (change ∷ made) []) t l e = l.4.lawful
-lawful_outside (Patches c work count (change ∷ made) (next ∷ rest)) t l e = cc
+lawful_outside x t l e = search arith
 
 module _ (u : Setup) (p : StopState) (at : Word → ℕ) (seat : ℕ → Seat) (source : ℕ → Source) (h : StopShows u p at seat source) where
   pub is_lawful : IsLawfulOutside p at
   is_lawful e = lawful_outside p.now.patching (labels_in at) h.present.labels e
 
   pub has_patcher : HasPatcher u p
-  has_patcher c work count made rest e =
-      let r : RunnerShows u.first (Patches c work count made rest) seat = subst (λ x. RunnerShows u.first x seat) e h.present.runner in
-      let s = r.1.0 in
-      let st : Stands p.now c (Alters s work count made rest) = subst (Stands p.now c) r.1.1 (h.present.stands c) in (
-        s,
-        record {
-          inside = st.0;
-          stands = st.1;
-          work_is = st.3;
-          kind = st.4;
-          active = patcher_active u p at seat source h s c work count made rest r.1.1;
-          first = r.0;
-          alone = record {
-            law = function_law u.cpus (p.now.stop s) (λ f. at (Slot s f)) (h.present.slots s) c st.1;
-            all_off = all_off u p.now at seat
-                h.present s c st.1;
-          };
-        },
-      )
+  has_patcher c work count made rest e = search (h.present.stands, patcher_active, function_law, h.present.slots, all_off, h.present, arith)
 
   module _ (c : StopControlValue) (me : ℕ) (sits : Sits u me (at Gate) c (seat me) (source me)) where
     abbrev IsNext : Change → Type 0
     IsNext change = IsNextOfPatch p me change
 
     stored_itself : (x : Change) → label_stored (store_of x) ≡ Some x
-    stored_itself (place.Key k, n) = refl
-    stored_itself (place.Site i, n) = refl
+    stored_itself x = search arith
 
     store_is_next : (v : Visit) (made : ℕ) → SitsInRound u me c.changes v (round.StoreChange made) (seat me) → (change : Change) →
         label_stored (store_of (change_at c.changes made)) ≡ Some change → IsNext change
@@ -73,13 +36,7 @@ module _ (u : Setup) (p : StopState) (at : Word → ℕ) (seat : ℕ → Seat) (
       where
         go : (before after : List Change) → c.changes ≡ before ++ after → length before ≡ made → seat me ≡ Alters v.slot s.0 s.1 before after → IsNext change
         go before [] are long is = absurd (let l = s.4 in let z : length c.changes ≡ length before = ap length (are ∙ append-nil before) in omega arith)
-        go before (x ∷ after) are long is =
-            let here : change_at c.changes made ≡ x = ap (λ l. change_at l made) are ∙ (ap (λ n. change_at (before ++ x ∷ after) n) (sym long) ∙ change_here
-            before x after) in
-            let st : Stands p.now me (Alters v.slot s.0 s.1 before (x ∷ after)) = subst (Stands p.now me) is (h.present.stands me) in
-            let some : Some x ≡ Some change = sym (ap (λ y. label_stored (store_of y)) here ∙ stored_itself x) ∙ e in
-            let same : x ≡ change = cc in
-            record { work = s.0; count = s.1; made = before; rest = after; patching = st.5 ∙ ap (λ y. Patches me s.0 s.1 before (y ∷ after)) same }
+        go before (x ∷ after) are long is = search (change_here, h.present.stands, stored_itself, arith)
 
     in_round : (v : Visit) (stage : RoundStage) → SitsInRound u me c.changes v stage (seat me) → (change : Change) →
         label_stored (round_access u.cpus c.changes v stage) ≡ Some change → IsNext change
@@ -94,29 +51,11 @@ module _ (u : Setup) (p : StopState) (at : Word → ℕ) (seat : ℕ → Seat) (
     in_round v (round.Raise ran) s change e = cc
 
     in_completion : (v : Visit) (stage : CompletionStage) (change : Change) → label_stored (completion_access v stage) ≡ Some change → IsNext change
-    in_completion v (completion.LoadFunc answer) change e = cc
-    in_completion v (completion.LoadArg answer func) change e = cc
-    in_completion v completion.StoreAnswer change e = cc
-    in_completion v completion.CountDown change e = cc
+    in_completion v stage change e = search arith
 
     at_stage : (stage : StopStage) → SitsAt u me c (Some stage) (seat me) → (change : Change) → label_stored (stop_access u.cpus me c.changes stage) ≡ Some
         change → IsNext change
-    at_stage TakeGate s change e = cc
-    at_stage OpenGate s change e = cc
-    at_stage (Begin work f) s change e = cc
-    at_stage (Enter slot) s change e = cc
-    at_stage (EnterKind slot) s change e = cc
-    at_stage (EnterMask slot kind) s change e = cc
-    at_stage (EnterActive slot kind mask) s change e = cc
-    at_stage (Advance v stage) s change e = in_round v stage s.1 change e
-    at_stage (Complete v stage) s change e = in_completion v stage change e
-    at_stage (Close slot) s change e = cc
-    at_stage LoadDone s change e = cc
-    at_stage LoadResult s change e = cc
-    at_stage (ReadKey k) s change e = cc
-    at_stage (ReadSite i) s change e = cc
-    at_stage (NudgeKey k up) s change e = cc
-    at_stage (ExchangeKey k expected new) s change e = cc
+    at_stage stage s change e = search (in_round, in_completion, arith)
 
     pub stores_patch : (stage : StopStage) → c.stage ≡ Some stage → (change : Change) → label_stored (stop_access u.cpus me c.changes stage) ≡ Some change →
         IsNext change

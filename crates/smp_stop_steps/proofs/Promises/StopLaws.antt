@@ -1,12 +1,6 @@
 -- Stops that words show keep all laws.
 use Rattle.std.proofs.Common.{ℕ}
-use Rattle.smp_stop_steps.specs.Seats.{Seat}
-use Rattle.smp_stop_steps.specs.Shows.{StopShows}
-use Rattle.smp_stop_steps.specs.Sources.{Source}
-use Rattle.smp_stop_steps.specs.State.{Setup, StopState}
-use Rattle.smp_stop_steps.specs.StopLaws.{KeepsStopLaws}
-use Rattle.smp_words.specs.declared.word.Word.{Word}
-use Rattle.smp_words.specs.declared.word.Word.TheVariants.{Slot}
+use Rattle.smp_stop_steps.specs.{Seat, StopShows, Source, Setup, StopState, KeepsStopLaws, Word, Slot}
 use Rattle.smp_stop_steps.proofs.Promises.Functions.{last_stores, has_functions, runs_alone}
 use Rattle.smp_stop_steps.proofs.Promises.Interrupts.{interrupt_law}
 use Rattle.smp_stop_steps.proofs.State.Patched.{lawful_when_on, off_while_patched}

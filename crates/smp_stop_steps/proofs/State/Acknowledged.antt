@@ -1,25 +1,17 @@
 -- Acknowledging, refilling, raising and looking, among all slots and CPUs.
 use Rattle.std.proofs.Common.{◌≡◌, ◌≢◌, ℕ, ◌+◌, ◌-◌, ◌<◌, Bool, true, false, ◌==◌, cond, sym, subst, refl, ap, ◌∙◌, arith, ⊎_elim, ne_eqb, eq-eqb, Some, List}
+use Rattle.std.specs.List.{AllByRecursion}
 use Rattle.smp_words.proofs.Puts.{at_test, put_same, put_other}
+use Rattle.smp_words.specs.declared.field.Field.TheVariants.{Ack, State}
+use Rattle.smp_stop_steps.specs.{put, put_word, weight, Agrees, Reading, labels_in, IsNot, PresentShows, Fills, In, Rests, Seat, Sets, Stands, Turn, irq_of}
+use Rattle.smp_stop_steps.specs.{turn_of, AckShows, Setup, Inside, Nobody, Raises, Raising, Refills, Standing, acknowledged, is_inside, raised, refilled}
+use Rattle.smp_stop_steps.specs.{stands, Field, Work, Slot, Word}
 use Rattle.smp_stop_steps.proofs.State.Moves.{IsNoPatch, SaveMe, moved, moves, slot_put, slot_same}
 use Rattle.smp_stop_steps.proofs.State.Phases.{acknowledges_slot, is_open_inside, keeps_inside, none_raises, refills_slot}
 use Rattle.smp_stop_steps.proofs.State.Raises.{raises_slot}
 use Rattle.smp_stop_steps.proofs.State.Works.{looks_slot}
-use Rattle.smp_words.specs.Put.{put, put_word}
-use Rattle.smp_stop_steps.specs.Counts.{weight}
-use Rattle.smp_stop_steps.specs.Labels.{Agrees, Reading, labels_in}
-use Rattle.smp_stop_steps.specs.Laws.{IsNot}
-use Rattle.smp_stop_steps.specs.Present.{PresentShows}
-use Rattle.smp_stop_steps.specs.Seats.{Fills, In, Rests, Seat, Sets, Stands, Turn, irq_of, turn_of}
-use Rattle.smp_stop_steps.specs.Slots.{AckShows}
-use Rattle.smp_stop_steps.specs.State.{Present, Setup}
-use Rattle.smp_stop_steps.specs.Stop.{Inside, Nobody, Raises, Raising, Refills, Standing, Stop, acknowledged, is_inside, raised, refilled, stands}
-use Rattle.smp_words.specs.declared.field.Field.TheVariants.{Ack, State}
-use Rattle.smp_words.specs.declared.field.Field.{Field}
-use Rattle.smp_words.specs.declared.work.Work.{Work}
-use Rattle.smp_words.specs.declared.word.Word.TheVariants.{Slot}
-use Rattle.smp_words.specs.declared.word.Word.{Word}
-use Rattle.std.specs.List.{AllByRecursion}
+use Rattle.smp_stop_steps.specs.State.{Present}
+use Rattle.smp_stop_steps.specs.Stop.{Stop}
 
 -- nobody raises while one of the mask is behind
 pub nobody_raises : (cpus : ℕ) (stop : Stop) (ack me a l : ℕ) (r : Raising) → stop.standing me ≡ Inside a l → me < cpus → a ≢ stop.phase →
@@ -30,20 +22,14 @@ nobody_raises cpus stop ack me a l (Raises r) is small ne h = absurd (none_raise
 
 -- whose turn it is, by a CPU's turn
 pub fills_me : (me : ℕ) (r : Raising) → turn_of r me ≡ Fills → r ≡ Refills me
-fills_me me Nobody e = cc
-fills_me me (Refills r) e = at_test me r (λ b. cond b Fills Rests ≡ Fills → Refills r ≡ Refills me) (λ same _. ap Refills (sym same)) (λ ne e. cc) e
-fills_me me (Raises r) e = at_test me r (λ b. cond b Sets Rests ≡ Fills → Raises r ≡ Refills me) (λ same e. cc) (λ ne e. cc) e
+fills_me me r e = search (at_test, arith)
 
 pub sets_me : (me : ℕ) (r : Raising) → turn_of r me ≡ Sets → r ≡ Raises me
-sets_me me Nobody e = cc
-sets_me me (Refills r) e = at_test me r (λ b. cond b Fills Rests ≡ Sets → Refills r ≡ Raises me) (λ same e. cc) (λ ne e. cc) e
-sets_me me (Raises r) e = at_test me r (λ b. cond b Sets Rests ≡ Sets → Raises r ≡ Raises me) (λ same _. ap Raises (sym same)) (λ ne e. cc) e
+sets_me me r e = search (at_test, arith)
 
 -- who has nothing to do for the next phase does not set it
 pub rests_me : (me : ℕ) (r : Raising) → turn_of r me ≡ Rests → IsNot me r
-rests_me me Nobody e = tt
-rests_me me (Refills r) e = λ same. at_test me r (λ b. cond b Fills Rests ≡ Rests → ⊥) (λ _ e. cc) (λ ne _. ne (sym same)) e
-rests_me me (Raises r) e = λ same. at_test me r (λ b. cond b Sets Rests ≡ Rests → ⊥) (λ _ e. cc) (λ ne _. ne (sym same)) e
+rests_me me r e = search (at_test, arith)
 
 module _ (u : Setup) (p : Present) (at : Word → ℕ) (seat : ℕ → Seat) (h : PresentShows u p at seat)
     (s me : ℕ) (irq' : ℕ → Bool) (readings' : ℕ → List Reading) (save : SaveMe p me p.inside irq' readings') where
@@ -59,8 +45,7 @@ module _ (u : Setup) (p : Present) (at : Word → ℕ) (seat : ℕ → Seat) (h 
   -- where a CPU that stays inside is at home
   home_stays : (stop' : Stop) (a l : ℕ) → (p.stop s).standing me ≡ Inside a l → p.inside me ≡ Some s →
       (j : ℕ) → is_inside ((put p.stop s stop' j).standing me) ≡ true → p.inside me ≡ Some j
-  home_stays stop' a l is in_ j = at_test j s (λ b. is_inside ((cond b stop' (p.stop j)).standing me) ≡ true → p.inside me ≡ Some j)
-      (λ e _. in_ ∙ ap Some (sym e)) (λ ne. h.homes j me)
+  home_stays stop' a l is in_ j = search (at_test, h.homes, arith)
 
   -- fetch_sub of the count, by a CPU that looked at a new phase
   pub step_acknowledges : (job : Work) (a : ℕ) → seat me ≡ In s job a (a + 1) Rests →
@@ -76,8 +61,7 @@ module _ (u : Setup) (p : Present) (at : Word → ℕ) (seat : ℕ → Seat) (h 
       let k = keeps_inside u.cpus (p.stop s) w (h.slots s) me (Inside a (a + 1)) st.1 in
       let o = (h.slots s).shows (is_open_inside u.cpus (p.stop s) w (h.slots s) me (Inside a (a + 1)) st.1 refl) in
       let at_ : (p.stop s).phase ≡ a + 1 = ⊎_elim (λ (e : a + 1 ≡ a). absurd (omega arith)) (λ (e : (a + 1 ≡ a + 1) × ((p.stop s).phase ≡ a + 1)). e.1) k.2 in
-      let no : (p.stop s).raising ≡ Nobody = nobody_raises u.cpus (p.stop s) found me a (a + 1) (p.stop s).raising st.1 k.0 (omega arith)
-      (o.ack (omega arith)) in
+      let no : (p.stop s).raising ≡ Nobody = search (nobody_raises, o.ack, arith) in
       moves u p at (put_word at (Slot s Ack) (found - 1)) seat s me stop' p.inside irq' readings' (In s job (a + 1) (a + 1) (cond (found == 1) Fills Rests)) h
       (slot_put u.cpus p.stop at s Ack (found - 1) stop' h.slots (acknowledges_slot u.cpus (p.stop s) w (h.slots s) me a st.1)) refl
       (λ c ne. record {
@@ -99,12 +83,10 @@ module _ (u : Setup) (p : Present) (at : Word → ℕ) (seat : ℕ → Seat) (h 
       (subst IsNoPatch (sym is) tt) (λ op kind. h.works s op kind)
     where
       other_turn : (c : ℕ) → c ≢ me → (b : Bool) → turn_of (cond b (Refills me) Nobody) c ≡ Rests
-      other_turn c ne true = ap (λ b. cond b Fills Rests) (ne_eqb c me ne)
-      other_turn c ne false = refl
+      other_turn c ne b = search (ne_eqb, arith)
 
       own_turn : (b : Bool) → turn_of (cond b (Refills me) Nobody) me ≡ cond b Fills Rests
-      own_turn true = ap (λ b. cond b Fills Rests) (eq-eqb me me refl)
-      own_turn false = refl
+      own_turn b = search (eq-eqb, arith)
 
   -- store of the count, by the one that found 1
   pub step_refills : (job : Work) (a l : ℕ) → seat me ≡ In s job a l Fills → (p.stop s).phase ≢ 0 →

@@ -1,32 +1,23 @@
 -- Entering, completing, opening and collecting, among all slots and CPUs.
-use Rattle.std.proofs.Common.{◌≡◌, ◌≢◌, ℕ, zero, suc, ◌-◌, ◌<◌, Bool, true, false, ◌==◌, cond, sym, subst, refl, ap, ◌∙◌, ◌⊎◌, arith, ne_eqb, eq-eqb}
-use Rattle.std.proofs.Common.{Option, Some, None}
+use Rattle.std.proofs.Common.{◌≡◌, ◌≢◌, ℕ, zero, suc, ◌-◌, ◌<◌, Bool, true, false, ◌==◌, cond, sym, subst, refl, ap, ◌∙◌, ◌⊎◌, arith, ne_eqb, eq-eqb, Option}
+use Rattle.std.proofs.Common.{Some, None}
 use Rattle.smp_words.proofs.Puts.{at_test, put_same, put_other}
+use Rattle.smp_words.specs.Put.{place_of, same_field}
+use Rattle.smp_words.specs.declared.field.Field.TheVariants.{Ack, Done, Result, Roll, Todo}
+use Rattle.smp_labels.specs.Plans.{stored}
+use Rattle.smp_stop_steps.specs.{put, put_word, count_unfinished, unfinished, IsAnswer, IsNot, IsThrough, PresentShows, Closes, Fills, Free, Gives, In, Rests}
+use Rattle.smp_stop_steps.specs.{Seat, Sets, Stands, irq_of, turn_of, DoneShows, IsStored, OpenShows, SlotShows, put_field, IsOfKind, IsPatchWork, IsWork}
+use Rattle.smp_stop_steps.specs.{Setup, Answering, Called, Completed, Ended, Ending, Inside, Last, Nobody, Outside, Raises, Raising, Refills, Running}
+use Rattle.smp_stop_steps.specs.{Standing, closed, completed, ended, is_inside, is_of, opened, stands, Field, Multi, One, Patch, Kind as KindOf, Work, Slot}
+use Rattle.smp_stop_steps.specs.{Word, has}
 use Rattle.smp_stop_steps.proofs.Basics.Counts.{sum_zero}
 use Rattle.smp_stop_steps.proofs.State.Ends.{all_outside, answer_of_it, answer_unfinished, collects_slot, completes_slot, finishes_slot, opens_slot}
 use Rattle.smp_stop_steps.proofs.State.Moves.{IsNoPatch, SaveMe, moved, moves, slot_put, slot_same, source_moves}
 use Rattle.smp_stop_steps.proofs.State.Phases.{is_open_inside}
 use Rattle.smp_stop_steps.proofs.State.Raises.{in_machine}
 use Rattle.smp_stop_steps.proofs.State.Works.{answers_slot, called_is, enters_slot, not_raising}
-use Rattle.smp_words.specs.Put.{place_of, put, put_word, same_field}
-use Rattle.smp_stop_steps.specs.Counts.{count_unfinished, unfinished}
-use Rattle.smp_stop_steps.specs.Laws.{IsAnswer, IsNot, IsThrough}
-use Rattle.smp_stop_steps.specs.Present.{PresentShows}
-use Rattle.smp_stop_steps.specs.Seats.{Closes, Fills, Free, Gives, In, Rests, Seat, Sets, Stands, irq_of, turn_of}
-use Rattle.smp_stop_steps.specs.Slots.{DoneShows, IsStored, OpenShows, SlotShows, put_field}
-use Rattle.smp_stop_steps.specs.Sources.{IsOfKind, IsPatchWork, IsWork}
-use Rattle.smp_stop_steps.specs.State.{Present, Setup}
-use Rattle.smp_stop_steps.specs.Stop.{Answering, Called, Completed, Ended, Ending, Inside, Last, Nobody, Outside, Raises, Raising, Refills, Running}
-use Rattle.smp_stop_steps.specs.Stop.{Standing, Stop, closed, completed, ended, is_inside, is_of, opened, stands}
-use Rattle.smp_words.specs.declared.field.Field.TheVariants.{Ack, Done, Result, Roll, Todo}
-use Rattle.smp_words.specs.declared.field.Field.{Field}
-use Rattle.smp_words.specs.declared.work.Kind.TheVariants.{Multi, One, Patch}
-use Rattle.smp_words.specs.declared.work.Kind.{Kind as KindOf}
-use Rattle.smp_words.specs.declared.work.Work.{Work}
-use Rattle.smp_words.specs.declared.word.Word.TheVariants.{Slot}
-use Rattle.smp_words.specs.declared.word.Word.{Word}
-use Rattle.smp_labels.specs.Plans.{stored}
-use Rattle.smp_mask.specs.Mask.{has}
+use Rattle.smp_stop_steps.specs.State.{Present}
+use Rattle.smp_stop_steps.specs.Stop.{Stop}
 
 module _ (u : Setup) (p : Present) (at : Word → ℕ) (seat : ℕ → Seat) (h : PresentShows u p at seat) (s : ℕ) where
   abbrev w : Field → ℕ
@@ -50,9 +41,7 @@ module _ (u : Setup) (p : Present) (at : Word → ℕ) (seat : ℕ → Seat) (h 
       (λ _ kind. patch_of_kind work.kind kind is_work.kind)
     where
       patch_of_kind : (k : KindOf) → k ≡ Patch → IsOfKind u work k → IsPatchWork u work
-      patch_of_kind One e is = cc
-      patch_of_kind Multi e is = cc
-      patch_of_kind Patch e is = is
+      patch_of_kind k e is = search arith
 
       apart : true ≡ false → ⊥
       apart e = cc
@@ -61,8 +50,7 @@ module _ (u : Setup) (p : Present) (at : Word → ℕ) (seat : ℕ → Seat) (h 
       nobody e i = let bad : false ≡ true = sym (ap is_inside e) ∙ i in cc
 
       calls : (b : Bool) → is_inside (cond b Called Outside) ≡ true → ⊥
-      calls true e = cc
-      calls false e = cc
+      calls b e = search arith
 
   -- store of a field but the roll, where no stop is open
   pub step_drafts : (f : Field) (n : ℕ) (work : Work) → (p.stop s).is_open ≡ false → same_field f Roll true ≡ false →
@@ -82,18 +70,12 @@ module _ (u : Setup) (p : Present) (at : Word → ℕ) (seat : ℕ → Seat) (h 
       nobody e i = let bad : false ≡ true = sym (ap is_inside e) ∙ i in cc
 
       turned : (f : Field) → same_field f Roll true ≡ false → same_field Roll f true ≡ false
-      turned f e = at_test (place_of Roll) (place_of f) (λ b. cond b true false ≡ false)
-          (λ same. let bad : true ≡ false = sym (ap (λ b. cond b true false) (eq-eqb (place_of f) (place_of Roll) (sym same))) ∙ e in cc) (λ _. refl)
+      turned f e = search (at_test, eq-eqb, arith)
 
       drafted_slot : (f : Field) (n : ℕ) (work : Work) → (p.stop s).is_open ≡ false → ((c : ℕ) → (p.stop s).standing c ≡ Outside) →
           same_field f Roll true ≡ false →
           SlotShows u.cpus (record (p.stop s) { work = work }) (put_field w f n)
-      drafted_slot f n work shut out other = record {
-        members = λ c. rw (out c, shut) refl;
-        roll = λ c. ap (λ b. has (cond b n (w Roll)) c) (turned f other) ∙ (h.slots s).roll c;
-        keeps = (h.slots s).keeps;
-        shows = λ op. absurd (apart (sym op ∙ shut));
-      }
+      drafted_slot f n work shut out other = search (turned, h.slots, apart, arith)
 
   -- load of the result, after done was found
   pub step_collects : (p.stop s).is_open ≡ true → at (Slot s Done) ≡ 1 →
@@ -116,21 +98,13 @@ module _ (u : Setup) (p : Present) (at : Word → ℕ) (seat : ℕ → Seat) (h 
       apart e = cc
 
       none_left : (e : Ending) → DoneShows u.cpus (p.stop s).standing e (at (Slot s Done)) → count_unfinished u.cpus (p.stop s).standing ≡ 0
-      none_left Running d = absurd (let e = d.0 in omega arith)
-      none_left (Last c) d = d.1
-      none_left Ended d = d.1
+      none_left e d = search arith
 
       running : (c : ℕ) (e : Ending) → e ≡ Last c → DoneShows u.cpus (p.stop s).standing e (at (Slot s Done)) → ⊥
-      running c Running e d = let x = d.0 in omega arith
-      running c (Last r) e d = let x = d.0 in omega arith
-      running c Ended e d = cc
+      running c e e' d = search arith
 
       inside_unfinished : (x : Standing) → is_inside x ≡ true → (is_of x ≡ true) × (unfinished x ≡ 1)
-      inside_unfinished Outside e = cc
-      inside_unfinished Called e = cc
-      inside_unfinished (Inside a l) e = (refl, refl)
-      inside_unfinished (Answering a v) e = (refl, refl)
-      inside_unfinished (Completed a v) e = cc
+      inside_unfinished x e = search arith
 
       gone : count_unfinished u.cpus (p.stop s).standing ≡ 0 → (c : ℕ) → is_inside ((p.stop s).standing c) ≡ true → ⊥
       gone z c i =
@@ -145,8 +119,7 @@ module _ (u : Setup) (p : Present) (at : Word → ℕ) (seat : ℕ → Seat) (h 
     at_home : (stop' : Stop) (to : Option ℕ) → ((j : ℕ) → is_inside ((p.stop j).standing me) ≡ true → j ≡ s) → (is_inside (stop'.standing me) ≡ true →
         to ≡ Some s) →
         (j : ℕ) → is_inside ((put p.stop s stop' j).standing me) ≡ true → put p.inside me to me ≡ Some j
-    at_home stop' to only here j i = put_same p.inside me to ∙ at_test j s (λ b. is_inside ((cond b stop' (p.stop j)).standing me) ≡ true → to ≡ Some j)
-        (λ e i. here i ∙ ap Some (sym e)) (λ ne i. absurd (ne (only j i))) i
+    at_home stop' to only here j i = search (put_same, at_test, arith)
 
     save : (to : Option ℕ) → SaveMe p me (put p.inside me to) p.irq p.readings
     save to = record { inside = λ c ne. put_other p.inside me to c ne; irq = λ c ne. refl; readings = λ c ne. refl }
@@ -183,19 +156,10 @@ module _ (u : Setup) (p : Present) (at : Word → ℕ) (seat : ℕ → Seat) (h 
         (λ op kind. h.works s op kind)
       where
         turns : (r : Raising) → IsNot me r → turn_of r me ≡ Rests
-        turns Nobody ne = refl
-        turns (Refills r) ne = ap (λ b. cond b Fills Rests) (ne_eqb me r (λ e. ne (sym e)))
-        turns (Raises r) ne = ap (λ b. cond b Sets Rests) (ne_eqb me r (λ e. ne (sym e)))
+        turns r ne = search (ne_eqb, arith)
 
         quiet : (p.stop s).standing me ≡ Called → OpenShows u.cpus (p.stop s) w → turn_of (p.stop s).raising me ≡ Rests
-        quiet called o = turns (p.stop s).raising (either (p.stop s).phase refl)
-          where
-            not_in : (p.stop s).standing me ≢ Inside (p.stop s).phase (p.stop s).phase
-            not_in e = let bad : Called ≡ Inside (p.stop s).phase (p.stop s).phase = sym called ∙ e in cc
-
-            either : (n : ℕ) → (p.stop s).phase ≡ n → IsNot me (p.stop s).raising
-            either zero e = subst (IsNot me) (sym (o.calm e)) tt
-            either (suc n) e = not_raising u.cpus (p.stop s).phase (p.stop s).standing me (at (Slot s Ack)) (p.stop s).raising not_in (o.ack (λ z. omega arith))
+        quiet called o = search (turns, o.calm, not_raising, o.ack, arith)
 
     -- fetch_sub of todo
     pub step_completes : (a v : ℕ) → p.inside me ≡ Some s → IsAnswer ((p.stop s).standing me) a v → turn_of (p.stop s).raising me ≡ Rests →
@@ -216,8 +180,7 @@ module _ (u : Setup) (p : Present) (at : Word → ℕ) (seat : ℕ → Seat) (h 
           back = λ i. subst (λ x. is_inside x ≡ true) (put_other (p.stop s).standing me (Completed a v) c ne) i;
           work = λ _. refl;
           turn = λ _. refl;
-          ending = λ op e. absurd (not_last c (in_machine u.cpus (p.stop s).phase me ((p.stop s).standing me) of ((h.slots s).keeps me))
-              (subst (λ e. DoneShows u.cpus (p.stop s).standing e (at (Slot s Done))) e o.done));
+          ending = search (not_last, in_machine, h.slots, arith);
         })
         (save None)
         (now (found == 1) open_)
@@ -232,8 +195,7 @@ module _ (u : Setup) (p : Present) (at : Word → ℕ) (seat : ℕ → Seat) (h 
         apart e = cc
 
         irq_after : (b : Bool) → irq_of (cond b (Closes s) Free) ≡ true
-        irq_after true = refl
-        irq_after false = refl
+        irq_after b = search arith
 
         not_last : (c : ℕ) → me < u.cpus → DoneShows u.cpus (p.stop s).standing (Last c) (at (Slot s Done)) → ⊥
         not_last c small d =
@@ -243,14 +205,7 @@ module _ (u : Setup) (p : Present) (at : Word → ℕ) (seat : ℕ → Seat) (h 
         now : (b : Bool) → (p.stop s).is_open ≡ true →
             Stands (moved p s (record (p.stop s) { standing = put (p.stop s).standing me (Completed a v); ending = cond b (Last me) (p.stop s).ending })
             (put p.inside me None) p.irq p.readings) me (cond b (Closes s) Free)
-        now true op = (
-          put_same p.inside me None,
-          at_test s s (λ b. (cond b (record (p.stop s) { standing = put (p.stop s).standing me (Completed a v); ending = Last me }) (p.stop s)).is_open ≡
-              true) (λ _. op) (λ _. op),
-          at_test s s (λ b. (cond b (record (p.stop s) { standing = put (p.stop s).standing me (Completed a v); ending = Last me }) (p.stop s)).ending ≡
-              Last me) (λ _. refl) (λ ne. absurd (ne refl)),
-        )
-        now false op = put_same p.inside me None
+        now b op = search (put_same, at_test, arith)
 
     -- store of done by the last
     pub step_finishes : seat me ≡ Closes s →

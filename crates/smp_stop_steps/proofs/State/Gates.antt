@@ -1,11 +1,9 @@
 -- Who holds the gate, by its word.
-use Rattle.std.proofs.Common.{◌≡◌, ℕ, ◌+◌, Option, Some, None, refl, ap, arith}
-use Rattle.smp_stop_steps.specs.Shows.{gate_word}
+use Rattle.std.proofs.Common.{◌≡◌, ℕ, ◌+◌, Option, Some, None, arith}
+use Rattle.smp_stop_steps.specs.{gate_word}
 
 pub gate_free : (g : Option ℕ) → gate_word g ≡ 0 → g ≡ None
-gate_free None e = refl
-gate_free (Some c) e = absurd (omega arith)
+gate_free g e = search arith
 
 pub gate_mine : (me : ℕ) (g : Option ℕ) → gate_word g ≡ me + 1 → g ≡ Some me
-gate_mine me None e = absurd (omega arith)
-gate_mine me (Some n) e = ap Some (let x : n ≡ me = omega arith in x)
+gate_mine me g e = search arith

@@ -1,13 +1,8 @@
 -- The count law: a key's word is what all CPUs together have moved it.
-use Rattle.std.proofs.Common.{◌≡◌, ◌≢◌, ℕ, zero, suc, ◌+◌, ◌-◌, ◌<◌, cond, refl, sym, ap, subst, ◌∙◌, arith}
+use Rattle.std.proofs.Common.{◌≡◌, ◌≢◌, ℕ, zero, suc, ◌+◌, ◌-◌, ◌<◌, refl, ap, ◌∙◌, arith}
 use Rattle.smp_words.proofs.Puts.{at_test, put_same, put_other}
+use Rattle.smp_stop_steps.specs.{put, put_word, sum_below, moves, moved_by, ups, downs, CountShows, Moved, unmoved, Word, Key}
 use Rattle.smp_stop_steps.proofs.Basics.Counts.{sum_put, sum_same}
-use Rattle.smp_words.specs.Put.{put, put_word}
-use Rattle.smp_stop_steps.specs.Counts.{sum_below}
-use Rattle.smp_stop_steps.specs.KeyCounts.{moves, moved_by, ups, downs, CountShows}
-use Rattle.smp_stop_steps.specs.State.{Moved, unmoved}
-use Rattle.smp_words.specs.declared.word.Word.{Word}
-use Rattle.smp_words.specs.declared.word.Word.TheVariants.{Key}
 
 none_moved : (n : ℕ) → sum_below (λ _. 0) n ≡ 0
 unfolding sum_below
@@ -29,8 +24,7 @@ module _ (n : ℕ) (f : ℕ → ℕ → Moved) (me k old new : ℕ) (low : me < 
   others c ne = ap (λ (g : ℕ → Moved). g k) (put_other f me (put (f me) k (moves (f me k) old new)) c ne)
 
   elsewhere : (j : ℕ) → j ≢ k → (c : ℕ) → f' c j ≡ f c j
-  elsewhere j ne c = at_test c me (λ b. cond b (put (f me) k (moves (f me k) old new)) (f c) j ≡ f c j)
-      (λ e. put_other (f me) k (moves (f me k) old new) j ne ∙ ap (λ i. f i j) (sym e)) (λ _. refl)
+  elsewhere j ne c = search (at_test, put_other, arith)
 
   up_moved : ups n f' k ≡ ups n f k + (new - old)
   up_moved =
@@ -54,13 +48,7 @@ module _ (n : ℕ) (f : ℕ → ℕ → Moved) (me k old new : ℕ) (low : me < 
 module _ (n : ℕ) (nudged patched : ℕ → ℕ → Moved) (at : Word → ℕ) (me k old new : ℕ)
     (low : me < n) (was : at (Key k) ≡ old) (h : (j : ℕ) → CountShows n nudged patched j (at (Key j))) where
   pub counts_nudged : (j : ℕ) → CountShows n (moved_by nudged me k old new) patched j (put_word at (Key k) new (Key j))
-  counts_nudged j = at_test j k (λ b. CountShows n (moved_by nudged me k old new) patched j (cond b new (at (Key j))))
-      (λ e. subst (λ j. CountShows n (moved_by nudged me k old new) patched j new) (sym e)
-      (let a = h k in let u = up_moved n nudged me k old new low in let d = down_moved n nudged me k old new low in omega arith))
-      (λ ne. let a = h j in let u = up_stays n nudged me k old new low j ne in let d = down_stays n nudged me k old new low j ne in omega arith)
+  counts_nudged j = search (at_test, up_moved, down_moved, up_stays, down_stays, arith)
 
   pub counts_patched : (j : ℕ) → CountShows n nudged (moved_by patched me k old new) j (put_word at (Key k) new (Key j))
-  counts_patched j = at_test j k (λ b. CountShows n nudged (moved_by patched me k old new) j (cond b new (at (Key j))))
-      (λ e. subst (λ j. CountShows n nudged (moved_by patched me k old new) j new) (sym e)
-      (let a = h k in let u = up_moved n patched me k old new low in let d = down_moved n patched me k old new low in omega arith))
-      (λ ne. let a = h j in let u = up_stays n patched me k old new low j ne in let d = down_stays n patched me k old new low j ne in omega arith)
+  counts_patched j = search (at_test, up_moved, down_moved, up_stays, down_stays, arith)

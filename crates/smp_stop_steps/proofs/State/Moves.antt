@@ -1,22 +1,13 @@
 -- A step on one slot, among all slots and CPUs.
-use Rattle.std.proofs.Common.{◌≡◌, ◌≢◌, ℕ, Bool, true, false, ◌==◌, cond, sym, subst, refl, ap, ◌∙◌, Option, Some, List}
-use Rattle.smp_words.proofs.Puts.{at_test, put_all, put_other}
-use Rattle.smp_words.specs.Put.{place_of, put, put_word, same_field}
-use Rattle.smp_stop_steps.specs.Labels.{Agrees, LabelsShow, Patches, Patching, Reading, Whole, labels_in}
-use Rattle.smp_stop_steps.specs.Present.{PresentShows, RunnerShows}
-use Rattle.smp_stop_steps.specs.Seats.{Alters, Closes, Free, Gives, In, Rests, Seat, Stands, Turn, irq_of, turn_of}
-use Rattle.smp_stop_steps.specs.Slots.{SlotShows, put_field}
-use Rattle.smp_stop_steps.specs.Sources.{IsPatchWork}
-use Rattle.smp_stop_steps.specs.State.{Present, Setup}
-use Rattle.smp_stop_steps.specs.Stop.{Answering, Inside, Last, Standing, Stop, is_inside}
-use Rattle.smp_stop_steps.specs.Tells.{leaves}
-use Rattle.smp_words.specs.declared.field.Field.{Field}
-use Rattle.smp_words.specs.declared.work.Kind.TheVariants.{Patch}
-use Rattle.smp_words.specs.declared.work.Work.{Work}
-use Rattle.smp_words.specs.declared.word.Word.TheVariants.{Slot}
-use Rattle.smp_words.specs.declared.word.Word.{Word}
-use Rattle.smp_labels.specs.Plans.{AreEntriesOf}
+use Rattle.std.proofs.Common.{◌≡◌, ◌≢◌, ℕ, Bool, true, false, cond, sym, subst, refl, ap, ◌∙◌, Option, Some, List, arith}
 use Rattle.std.specs.List.{AllByRecursion}
+use Rattle.smp_words.proofs.Puts.{at_test, put_all, put_other}
+use Rattle.smp_words.specs.Put.{same_field}
+use Rattle.smp_labels.specs.Plans.{AreEntriesOf}
+use Rattle.smp_stop_steps.specs.{put, put_word, Agrees, LabelsShow, Patching, Reading, labels_in, PresentShows, RunnerShows, Alters, Seat, Stands, Turn}
+use Rattle.smp_stop_steps.specs.{irq_of, turn_of, SlotShows, put_field, IsPatchWork, Setup, Last, Standing, is_inside, leaves, Field, Patch, Work, Slot, Word}
+use Rattle.smp_stop_steps.specs.State.{Present}
+use Rattle.smp_stop_steps.specs.Stop.{Stop}
 
 -- what a step on a slot leaves to one CPU
 pub record LeavesTo (c : ℕ) (old new : Stop) : Type 0 where
@@ -37,11 +28,7 @@ pub record SaveMe (p : Present) (me : ℕ) (inside' : ℕ → Option ℕ) (irq' 
   pub readings : (c : ℕ) → c ≢ me → readings' c ≡ p.readings c
 
 pub field_false : (f g : Field) → same_field f g false ≡ false
-field_false f g = both (place_of f == place_of g)
-  where
-    both : (b : Bool) → cond b false false ≡ false
-    both true = refl
-    both false = refl
+field_false f g = search arith
 
 pub slot_put : (cpus : ℕ) (stop : ℕ → Stop) (at : Word → ℕ) (s : ℕ) (g : Field) (n : ℕ) (stop' : Stop) →
     ((j : ℕ) → SlotShows cpus (stop j) (λ f. at (Slot j f))) → SlotShows cpus stop' (put_field (λ f. at (Slot s f)) g n) →
@@ -60,8 +47,7 @@ module _ (p : Present) (s me : ℕ) (stop' : Stop) (inside' : ℕ → Option ℕ
   module _ (c : ℕ) (leaves : LeavesTo c (p.stop s) stop') (same : inside' c ≡ p.inside c) where
     -- a fact on the stop that a CPU is in
     standing_kept : (j : ℕ) (to : Standing) → is_inside to ≡ true → (p.stop j).standing c ≡ to → (put p.stop s stop' j).standing c ≡ to
-    standing_kept j to of is = put_all (λ j x. (p.stop j).standing c ≡ to → x.standing c ≡ to) p.stop s stop' (λ e. leaves.on (ap is_inside e ∙ of) ∙ e)
-        (λ j _ e. e) j is
+    standing_kept j to of is = search (put_all, leaves.on, arith)
 
     turn_kept : (j : ℕ) (t : Turn) (to : Standing) → is_inside to ≡ true → (p.stop j).standing c ≡ to → turn_of (p.stop j).raising c ≡ t →
         turn_of (put p.stop s stop' j).raising c ≡ t
@@ -69,35 +55,14 @@ module _ (p : Present) (s me : ℕ) (stop' : Stop) (inside' : ℕ → Option ℕ
         (λ i e. leaves.turn (ap is_inside i ∙ of) ∙ e) (λ j _ i e. e) j is
 
     work_kept : (j : ℕ) (to : Standing) (w : Work) → is_inside to ≡ true → (p.stop j).standing c ≡ to → (p.stop j).work ≡ w → (put p.stop s stop' j).work ≡ w
-    work_kept j to w of is = put_all (λ j x. (p.stop j).standing c ≡ to → (p.stop j).work ≡ w → x.work ≡ w) p.stop s stop'
-        (λ i e. leaves.work (ap is_inside i ∙ of) ∙ e) (λ j _ i e. e) j is
+    work_kept j to w of is = search (put_all, leaves.work, arith)
 
     pub stands_kept : (seat : Seat) → Stands p c seat → Stands (moved p s stop' inside' irq' readings') c seat
-    stands_kept Free h = same ∙ h
-    stands_kept (In j w a l t) h = (
-      same ∙ h.0,
-      standing_kept j (Inside a l) refl h.1,
-      turn_kept j t (Inside a l) refl h.1 h.2,
-      work_kept j (Inside a l) w
-          refl h.1 h.3,
-    )
-    stands_kept (Gives j w a v) h = (
-      same ∙ h.0,
-      standing_kept j (Answering a v) refl h.1,
-      turn_kept j Rests (Answering a v) refl h.1 h.2,
-      work_kept j
-          (Answering a v) w refl h.1 h.3,
-    )
-    stands_kept (Alters j w count made rest) h =
-        (same ∙ h.0, standing_kept j (Inside 2 3) refl h.1, turn_kept j Rests (Inside 2 3) refl h.1 h.2, work_kept j (Inside 2 3) w refl h.1 h.3, h.4, h.5)
-    stands_kept (Closes j) h = let e = put_all (λ j x. (p.stop j).is_open ≡ true → (p.stop j).ending ≡ Last c → (x.is_open ≡ true) × (x.ending ≡ Last c))
-        p.stop s stop' (λ o e. leaves.ending o e) (λ j _ o e. (o, e)) j h.1 h.2 in
-        (same ∙ h.0, e.0, e.1)
+    stands_kept seat h = search (standing_kept, turn_kept, work_kept, put_all, leaves.ending, arith)
 
     pub home_kept : ((j : ℕ) → is_inside ((p.stop j).standing c) ≡ true → p.inside c ≡ Some j) →
         (j : ℕ) → is_inside ((put p.stop s stop' j).standing c) ≡ true → inside' c ≡ Some j
-    home_kept homes j of = same ∙ homes j (put_all (λ j x. is_inside (x.standing c) ≡ true → is_inside ((p.stop j).standing c) ≡ true) p.stop s stop'
-        (λ o. leaves.back o) (λ j _ o. o) j of)
+    home_kept homes j of = search (put_all, leaves.back, arith)
 
 -- the CPU is not inside the function of a patch
 abbrev pub IsNoPatch : Seat → Type 0
@@ -107,9 +72,7 @@ IsNoPatch _ = Unit {0}
 -- the one that patches is another
 pub runner_kept : (first : ℕ) (patching : Patching) (seat : ℕ → Seat) (me : ℕ) (next : Seat) → IsNoPatch (seat me) → RunnerShows first patching seat →
     RunnerShows first patching (put seat me next)
-runner_kept first Whole seat me next mine h = tt
-runner_kept first (Patches c w count made rest) seat me next mine h =
-    (h.0, (h.1.0, put_other seat me next c (λ (e : c ≡ me). subst IsNoPatch (sym (ap seat e) ∙ h.1.1) mine) ∙ h.1.1))
+runner_kept first patching seat me next mine h = search (put_other, arith)
 
 -- a step of one CPU on one slot; the words of the labels stay
 pub moves : (u : Setup) (p : Present) (at at' : Word → ℕ) (seat : ℕ → Seat) (s me : ℕ) (stop' : Stop)

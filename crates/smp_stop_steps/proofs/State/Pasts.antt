@@ -1,13 +1,11 @@
 -- The lists of the past, over opening, completing and collecting.
-use Rattle.std.proofs.Common.{◌≡◌, ℕ, Bool, true, false, cond, sym, refl, ap, ◌∙◌, List, [], ◌∷◌, ◌++◌}
+use Rattle.std.proofs.Common.{◌≡◌, ℕ, Bool, true, false, cond, refl, ap, ◌∙◌, List, [], ◌∷◌, ◌++◌, arith}
 use Rattle.std.proofs.lemmas.List.{append-nil}
 use Rattle.smp_words.proofs.Puts.{at_test}
-use Rattle.smp_words.specs.Put.{put}
-use Rattle.smp_stop_steps.specs.Laws.{IsResult}
-use Rattle.smp_stop_steps.specs.Past.{AllPast, Past, PastShows, answer_now, answers_of, results_of, works_of}
-use Rattle.smp_stop_steps.specs.Stop.{Called, Completed, Outside, Stop, answer_of, closed, completed, opened}
-use Rattle.smp_words.specs.declared.work.Work.{Work}
-use Rattle.smp_mask.specs.Mask.{has}
+use Rattle.smp_stop_steps.specs.{put, IsResult, AllPast, PastShows, answer_now, answers_of, results_of, works_of, Outside, answer_of, closed, completed}
+use Rattle.smp_stop_steps.specs.{opened, Work, has}
+use Rattle.smp_stop_steps.specs.Past.{Past}
+use Rattle.smp_stop_steps.specs.Stop.{Stop}
 
 module _ (y : Past) where
   all_push : (xs : List Past) → AllPast xs → IsResult y.work.mask y.answer y.result → AllPast (xs ++ y ∷ [])
@@ -29,50 +27,23 @@ module _ (y : Past) where
       split : (b : Bool) → cond b (x.answer c ∷ (answers_of c xs ++ cond (has y.work.mask c) (y.answer c ∷ []) []))
           (answers_of c xs ++ cond (has y.work.mask c) (y.answer c ∷ []) [])
           ≡ cond b (x.answer c ∷ answers_of c xs) (answers_of c xs) ++ cond (has y.work.mask c) (y.answer c ∷ []) []
-      split true = refl
-      split false = refl
+      split b = search arith
 
 module _ (past : List Past) (stop : Stop) (begun : List Work) (collected : List ℕ) (answers : ℕ → List ℕ) (h : PastShows past stop begun collected answers)
   where
     -- open: what was begun grows by the work
     pub past_opens : (work : Work) → stop.is_open ≡ false → ((c : ℕ) → stop.standing c ≡ Outside) → PastShows past (opened stop work) (begun ++ work ∷ [])
         collected answers
-    past_opens work shut out = record {
-      each = h.each;
-      begun_are = ap (λ l. l ++ work ∷ []) (h.begun_are ∙ (ap (λ b. works_of past ++ cond b (stop.work ∷ []) []) shut ∙ append-nil (works_of past)));
-      collected_are = h.collected_are;
-      answers_are = λ c. h.answers_are c ∙ ap (λ l. answers_of c past ++ l) (ap answer_now (out c) ∙ calls (has work.mask c));
-    }
-      where
-        calls : (b : Bool) → [] ≡ answer_now (cond b Called Outside)
-        calls true = refl
-        calls false = refl
+    past_opens work shut out = search (append-nil, h.answers_are, work.mask, arith)
 
     -- complete: the answers of this CPU grow by its answer
     pub past_completes : (me a v found : ℕ) → answer_now (stop.standing me) ≡ [] → PastShows past (completed stop me a v found) begun collected
         (put answers me (answers me ++ v ∷ []))
-    past_completes me a v found none_ = record {
-      each = h.each;
-      begun_are = h.begun_are;
-      collected_are = h.collected_are;
-      answers_are = λ c. at_test c me (λ b. cond b (answers me ++ v ∷ []) (answers c) ≡ answers_of c past ++ answer_now
-          (cond b (Completed a v) (stop.standing c)))
-          (λ e. ap (λ l. l ++ v ∷ []) (h.answers_are me ∙ (ap (λ l. answers_of me past ++ l) none_ ∙ append-nil (answers_of me past))) ∙ ap
-          (λ c. answers_of c past ++ v ∷ []) (sym e))
-          (λ ne. h.answers_are c);
-    }
+    past_completes me a v found none_ = search (at_test, h.answers_are, append-nil, arith)
 
     -- collect: what was collected grows by a result of the answers of its mask
     pub past_collects : (result : ℕ) → stop.is_open ≡ true → IsResult stop.work.mask (λ c. answer_of (stop.standing c)) result →
         ((c : ℕ) → answer_now (stop.standing c) ≡ cond (has stop.work.mask c) (answer_of (stop.standing c) ∷ []) []) →
         PastShows (past ++ record { work = stop.work; answer = λ c. answer_of (stop.standing c); result = result } ∷ []) (closed stop) begun
         (collected ++ result ∷ []) answers
-    past_collects result open_ is all =
-        let y : Past = record { work = stop.work; answer = λ c. answer_of (stop.standing c); result = result } in record {
-          each = all_push y past h.each is;
-          begun_are = h.begun_are ∙ (ap (λ b. works_of past ++ cond b (stop.work ∷ []) []) open_ ∙ (sym (works_push y past) ∙ sym
-              (append-nil (works_of (past ++ y ∷ [])))));
-          collected_are = ap (λ l. l ++ result ∷ []) h.collected_are ∙ sym (results_push y past);
-          answers_are = λ c. h.answers_are c ∙ (ap (λ l. answers_of c past ++ l) (all c) ∙ (sym (answers_push y c past) ∙ sym
-              (append-nil (answers_of c (past ++ y ∷ [])))));
-        }
+    past_collects result open_ is all = search (all_push, h.each, works_push, append-nil, results_push, h.answers_are, answers_push, arith)

@@ -1,47 +1,25 @@
 -- The label law: patching, and reading.
 use Rattle.std.proofs.lemmas.Bool.{cases_lt}
-use Rattle.smp_labels.specs.declared.keys.Change.TheVariants.{Off, On, Up, Down}
+use Rattle.std.proofs.Common.{◌≡◌, ◌≢◌, ℕ, ◌+◌, ◌≤◌, true, false, nat_lt, ◌==◌, ◌||◌, sym, subst, refl, ap, ◌∙◌, ◌⊎◌, arith, le-ltb, eqb-true, ⊎_elim, ne_eqb}
+use Rattle.std.proofs.Common.{Some, List, [], ◌∷◌, ◌++◌, lt-ltb, IfSome}
+use Rattle.std.specs.List.{AllByRecursion}
 use Rattle.smp_labels.specs.declared.keys.Change.{Change as KeyChange}
-use Rattle.std.proofs.Common.{◌≡◌, ◌≢◌, ℕ, ◌+◌, ◌≤◌, true, false, nat_lt, ◌==◌, ◌&&◌, ◌||◌, sym, subst, refl, ap, ◌∙◌, ◌⊎◌, arith, le-ltb, eqb-true}
-use Rattle.std.proofs.Common.{⊎_elim, ne_eqb, Some, None, List, [], ◌∷◌, ◌++◌, lt-ltb, IfSome, cond, ◌<◌, Bool, inl, inr}
 use Rattle.smp_words.proofs.Puts.{put_all, at_test, put_same}
-use Rattle.smp_stop_steps.proofs.State.Ends.{function_law}
-use Rattle.smp_stop_steps.proofs.State.Phases.{is_open_inside}
-use Rattle.smp_words.specs.Put.{put}
-use Rattle.smp_stop_steps.specs.Labels.{Agrees, Change, LabelsShow, Patches, Patching, Reading, Whole, labels_in, StandsSet, count_set, state_left}
-use Rattle.smp_stop_steps.specs.Present.{PresentShows, RunnerShows}
-use Rattle.smp_stop_steps.specs.Seats.{Alters, Closes, Fills, Free, Gives, In, Rests, Seat, Sets, Stands, Turn, irq_of}
-use Rattle.smp_stop_steps.specs.Slots.{Keeps, SlotShows}
-use Rattle.smp_stop_steps.specs.State.{Present, Setup}
-use Rattle.smp_stop_steps.specs.Stop.{Answering, Called, Completed, Inside, Outside, Standing, acked, is_inside, is_of}
-use Rattle.smp_words.specs.declared.field.Field.{Field}
-use Rattle.smp_words.specs.declared.work.Kind.TheVariants.{Patch}
-use Rattle.smp_words.specs.declared.work.Work.{Work}
-use Rattle.smp_words.specs.declared.word.Word.TheVariants.{Key, Slot}
-use Rattle.smp_words.specs.declared.word.Word.{Word}
 use Rattle.smp_labels.proofs.Stores.{applied-append}
-use Rattle.smp_labels.specs.Keys.{is_on, change_of, count_left, count_or}
+use Rattle.smp_labels.specs.Keys.{count_left}
 use Rattle.smp_labels.specs.Law.{IsLawful}
 use Rattle.smp_labels.specs.Plans.{AreEntriesOf, SetsKey, applied, stored}
-use Rattle.smp_mask.specs.Mask.{has}
-use Rattle.std.specs.List.{AllByRecursion}
+use Rattle.smp_stop_steps.specs.{put, Agrees, Change, LabelsShow, Patches, Patching, Reading, Whole, labels_in, StandsSet, count_set, state_left}
+use Rattle.smp_stop_steps.specs.{PresentShows, RunnerShows, Alters, Closes, Free, Gives, In, Rests, Seat, Stands, irq_of, Keeps, SlotShows, Setup, Answering}
+use Rattle.smp_stop_steps.specs.{Called, Completed, Inside, Outside, Standing, acked, is_inside, is_of, Field, Patch, Work, Key, Slot, Word, is_on, change_of}
+use Rattle.smp_stop_steps.specs.{has}
+use Rattle.smp_stop_steps.proofs.State.Ends.{function_law}
+use Rattle.smp_stop_steps.proofs.State.Phases.{is_open_inside}
+use Rattle.smp_stop_steps.specs.State.{Present}
 
 -- what a change leaves is on or off as it says
 stands_left : (change : KeyChange) (n : ℕ) → IfSome (state_left change) (λ on. is_on (count_left change n) ≡ on)
-stands_left Off n = refl
-stands_left On n = at_test n 0 (λ b. is_on (cond b 1 n) ≡ true) (λ _. refl) (λ ne. above n ne)
-  where
-    above : (n : ℕ) → n ≢ 0 → is_on n ≡ true
-    above n ne = lt-ltb 0 n (let z : 0 < n = omega arith in z)
-stands_left Up n = go (nat_lt n 65535) refl
-  where
-    go : (b : Bool) → nat_lt n 65535 ≡ b → is_on (count_or n (cond b (Some (n + 1)) None)) ≡ true
-    go true e = lt-ltb 0 (n + 1) (omega arith)
-    go false e = elim (cases_lt 0 n) [
-      | inl some ↦ lt-ltb 0 n some
-      | inr none ↦ absurd (let bad : true ≡ false = sym (lt-ltb n 65535 (omega arith)) ∙ e in cc)
-    ]
-stands_left Down n = tt
+stands_left change n = search (at_test, lt-ltb, nat_lt, cases_lt, arith)
 
 abbrev IsOff : ℕ → ℕ → Type 0
 IsOff l a = (nat_lt l 2 || a == 4) ≡ false
@@ -52,25 +30,7 @@ off_at l a m ne = ap (λ b. b || a == 4) (le-ltb l 2 m) ∙ ne_eqb a 4 ne
 -- a CPU inside that has acknowledged 2 and not 4 has its interrupts off
 pub off_inside : (p : Present) (c s a l : ℕ) (seat : Seat) → Stands p c seat → p.inside c ≡ Some s → (p.stop s).standing c ≡ Inside a l → 2 ≤ l → a ≢ 4 →
     irq_of seat ≡ false
-off_inside p c s a l Free st in_ is m ne = let bad : None ≡ Some s = sym st ∙ in_ in cc
-off_inside p c s a l (In s' job a' l' t) st in_ is m ne =
-    let e : Some s' ≡ Some s = sym st.0 ∙ in_ in
-    let same : s' ≡ s = cc in
-    let is' : (p.stop s).standing c ≡ Inside a' l' = subst (λ s. (p.stop s).standing c ≡ Inside a' l') same st.1 in
-    let f : Inside a' l' ≡ Inside a l = sym is' ∙ is in
-    let ea : a' ≡ a = cc in let el : l' ≡ l = cc in turns t (omega arith) (λ z. ne (sym ea ∙ z))
-  where
-    turns : (t : Turn) → 2 ≤ l' → a' ≢ 4 → irq_of (In s' job a' l' t) ≡ false
-    turns Rests m ne = off_at l' a' m ne
-    turns Fills m ne = le-ltb l' 2 m
-    turns Sets m ne = le-ltb l' 2 m
-off_inside p c s a l (Gives s' job a' v) st in_ is m ne =
-    let e : Some s' ≡ Some s = sym st.0 ∙ in_ in
-    let same : s' ≡ s = cc in
-    let is' : (p.stop s).standing c ≡ Answering a' v = subst (λ s. (p.stop s).standing c ≡ Answering a' v) same st.1 in
-    let f : Answering a' v ≡ Inside a l = sym is' ∙ is in cc
-off_inside p c s a l (Alters s' w count made rest) st in_ is m ne = refl
-off_inside p c s a l (Closes s') st in_ is m ne = let bad : None ≡ Some s = sym st.0 ∙ in_ in cc
+off_inside p c s a l seat st in_ is m ne = search (off_at, le-ltb, arith)
 
 module _ (u : Setup) (p : Present) (at : Word → ℕ) (seat : ℕ → Seat) (h : PresentShows u p at seat) (s me : ℕ) where
   -- while a function runs, its whole mask has interrupts off
@@ -79,22 +39,12 @@ module _ (u : Setup) (p : Present) (at : Word → ℕ) (seat : ℕ → Seat) (h 
       let w : Field → ℕ = λ f. at (Slot s f) in
       let f = function_law u.cpus (p.stop s) w (h.slots s) me is in
       let open_ = is_open_inside u.cpus (p.stop s) w (h.slots s) me (Inside 2 3) is refl in
-      let of_it : is_of ((p.stop s).standing c) ≡ true = subst (λ b. is_of ((p.stop s).standing c) ≡ (b && has (p.stop s).work.mask c)) open_
-      ((h.slots s).members c) ∙ of in
+      let of_it : is_of ((p.stop s).standing c) ≡ true = search (h.slots, arith) in
       h.irq c ∙ go ((p.stop s).standing c) refl of_it f.at_run (f.all_disabled c of) ((h.slots s).keeps c)
     where
       go : (x : Standing) → (p.stop s).standing c ≡ x → is_of x ≡ true → (p.stop s).phase ≡ 3 → (acked x ≡ 2) ⊎ (acked x ≡ 3) →
           Keeps u.cpus (p.stop s).phase c x → irq_of (seat c) ≡ false
-      go Outside e of run a k = cc
-      go Called e of run a k = absurd (⊎_elim (λ (t : 0 ≡ 2). omega arith) (λ (t : 0 ≡ 3). omega arith) a)
-      go (Inside b l) e of run a k = off_inside p c s b l (seat c) (h.stands c) (h.homes s c (ap is_inside e)) e
-          (⊎_elim (λ (t : l ≡ b). ⊎_elim (λ (u : b ≡ 2). omega arith) (λ (u : b ≡ 3). omega arith) a) (λ (t : (l ≡ b + 1) × ((p.stop s).phase ≡ l)). let x =
-          t.1 in omega arith) k.2)
-          (λ z. ⊎_elim (λ (u : b ≡ 2). omega arith) (λ (u : b ≡ 3). omega arith) a)
-      go (Answering b v) e of run a k = absurd (⊎_elim (λ (t : b ≡ 4). ⊎_elim (λ (u : b ≡ 2). omega arith) (λ (u : b ≡ 3). omega arith) a)
-          (λ (t : (p.stop s).phase ≡ 0). omega arith) k.2)
-      go (Completed b v) e of run a k = absurd (⊎_elim (λ (t : b ≡ 4). ⊎_elim (λ (u : b ≡ 2). omega arith) (λ (u : b ≡ 3). omega arith) a)
-          (λ (t : (p.stop s).phase ≡ 0). omega arith) k.2)
+      go x e of run a k = search (off_inside, h.stands, h.homes, arith)
 
   -- what is now, with another patch
   abbrev pub patches : Patching → Present
@@ -103,11 +53,7 @@ module _ (u : Setup) (p : Present) (at : Word → ℕ) (seat : ℕ → Seat) (h 
   -- where a change of what is patched leaves the other CPUs
   alters_other : (x : Patching) (c : ℕ) → c ≢ me → ((w : Work) (count : ℕ) (made rest : List Change) → p.patching ≡ Patches c w count made rest → ⊥) →
       (y : Seat) → Stands p c y → Stands (patches x) c y
-  alters_other x c ne none_ Free st = st
-  alters_other x c ne none_ (In j job a l t) st = st
-  alters_other x c ne none_ (Gives j job a v) st = st
-  alters_other x c ne none_ (Alters j w count made rest) st = absurd (none_ w count made rest st.5)
-  alters_other x c ne none_ (Closes j) st = st
+  alters_other x c ne none_ y st = search arith
 
   -- the first online CPU, inside a patch at phase 3, begins its stores: these lead to the lawful table with the key as it shall be
   pub patch_starts : (job : Work) (plan : List Change) → seat me ≡ In s job 2 3 Rests → job.kind ≡ Patch → has job.active me ≡ true →
@@ -117,17 +63,14 @@ module _ (u : Setup) (p : Present) (at : Word → ℕ) (seat : ℕ → Seat) (h 
   patch_starts job plan is kind active leads =
       let st : Stands p me (In s job 2 3 Rests) = subst (Stands p me) is (h.stands me) in
       let open_ = is_open_inside u.cpus (p.stop s) (λ f. at (Slot s f)) (h.slots s) me (Inside 2 3) st.1 refl in
-      let mine : me ≡ u.first = eqb-true me u.first (sym ((h.works s open_ (ap (λ (w : Work). w.kind) st.3 ∙ kind)).first me) ∙
-      (ap (λ (w : Work). has w.active me) st.3 ∙ active)) in
+      let mine : me ≡ u.first = search (eqb-true, h.works, arith) in
       let whole : p.patching ≡ Whole = go p.patching h.runner mine in
       let lawful : IsLawful (labels_in at) = subst (λ x. LabelsShow x (labels_in at)) whole h.labels in
       let count = at (Key job.func) in
       let next = Alters s job count [] plan in
       record {
         slots = h.slots;
-        stands = put_all (λ c y. Stands (patches (Patches me job count [] plan)) c y) seat me next (st.0, st.1, st.2, st.3, kind, refl)
-            (λ c ne. alters_other (Patches me job count [] plan) c ne (λ w n made rest e. let bad : Whole ≡ Patches c w n made rest = sym whole ∙ e in cc)
-            (seat c) (h.stands c));
+        stands = search (put_all, alters_other, h.stands, arith);
         homes = h.homes;
         irq = put_all (λ c y. p.irq c ≡ irq_of y) seat me next (h.irq me ∙ ap irq_of is) (λ c ne. h.irq c);
         works = h.works;
@@ -138,9 +81,7 @@ module _ (u : Setup) (p : Present) (at : Word → ℕ) (seat : ℕ → Seat) (h 
       }
     where
       go : (x : Patching) → RunnerShows u.first x seat → me ≡ u.first → x ≡ Whole
-      go Whole r mine = refl
-      go (Patches c w count made rest) r mine = let same : c ≡ me = r.0 ∙ sym mine in let bad : In s job 2 3 Rests ≡ Alters r.1.0 w count made rest =
-          sym is ∙ (sym (ap seat same) ∙ r.1.1) in cc
+      go x r mine = search arith
 
   -- one of its stores
   pub patch_stores : (job : Work) (count : ℕ) (made rest : List Change) (change : Change) (at' : Word → ℕ) → seat me ≡ Alters s job count made (change ∷ rest) →
@@ -157,21 +98,13 @@ module _ (u : Setup) (p : Present) (at : Word → ℕ) (seat : ℕ → Seat) (h 
       let kind : (p.stop s).work.kind ≡ Patch = ap (λ (w : Work). w.kind) st.3 ∙ st.4 in
       record {
         slots = slots;
-        stands = put_all (λ c y. Stands (patches (Patches me job count made' rest)) c y) seat me next (st.0, st.1, st.2, st.3, st.4, refl)
-            (λ c ne. alters_other (Patches me job count made' rest) c ne (λ w' n made' rest' e. let same : Patches me job count made (change ∷ rest) ≡
-            Patches c w' n made' rest' = sym st.5 ∙ e in let f : me ≡ c = cc in ne (sym f)) (seat c) (h.stands c));
+        stands = search (put_all, alters_other, h.stands, arith);
         homes = h.homes;
         irq = put_all (λ c y. p.irq c ≡ irq_of y) seat me next (h.irq me ∙ ap irq_of is) (λ c ne. h.irq c);
         works = h.works;
         runner = (r.0, (s, put_same seat me next));
         entries = entries;
-        labels = (
-          l.0,
-          l.1,
-          table ∙ (ap (stored change.0 change.1) l.2 ∙ sym (applied-append made (change ∷ []) l.0)),
-          l.3,
-          subst (λ t. SetsKey job.func (count_set job count) l.0 (applied rest t)) (sym table) l.4,
-        );
+        labels = search (applied-append, arith);
         read = λ c on_ i. absurd (no (sym i ∙ all_off st.1 c ((h.works s open_ kind).all c ∙ on_)));
       }
     where
@@ -187,9 +120,7 @@ module _ (u : Setup) (p : Present) (at : Word → ℕ) (seat : ℕ → Seat) (h 
       let next = In s job 2 3 Rests in (
         record {
           slots = h.slots;
-          stands = put_all (λ c y. Stands (patches Whole) c y) seat me next (st.0, st.1, st.2, st.3)
-              (λ c ne. alters_other Whole c ne (λ w n made' rest e. let same : Patches me job count made [] ≡ Patches c w n made' rest = sym st.5 ∙ e in
-              let f : me ≡ c = cc in ne (sym f)) (seat c) (h.stands c));
+          stands = search (put_all, alters_other, h.stands, arith);
           homes = h.homes;
           irq = put_all (λ c y. p.irq c ≡ irq_of y) seat me next (h.irq me ∙ ap irq_of is) (λ c ne. h.irq c);
           works = h.works;
@@ -205,50 +136,22 @@ module _ (u : Setup) (p : Present) (at : Word → ℕ) (seat : ℕ → Seat) (h 
   -- while somebody patches, every online CPU has its interrupts off
   pub off_while_patched : u.online me ≡ true → (c : ℕ) (w : Work) (count : ℕ) (made rest : List Change) → p.patching ≡ Patches c w count made rest →
       p.irq me ≡ false
-  off_while_patched on_ c w count made rest is =
-      let r : RunnerShows u.first (Patches c w count made rest) seat = subst (λ x. RunnerShows u.first x seat) is h.runner in
-      let s = r.1.0 in
-      let st : Stands p c (Alters s w count made rest) = subst (Stands p c) r.1.1 (h.stands c) in
-      let open_ = is_open_inside u.cpus (p.stop s) (λ f. at (Slot s f)) (h.slots s) c (Inside 2 3) st.1 refl in
-      let kind : (p.stop s).work.kind ≡ Patch = ap (λ (x : Work). x.kind) st.3 ∙ st.4 in
-      all_off u p at seat h s c st.1 me ((h.works s open_ kind).all me ∙ on_)
+  off_while_patched on_ c w count made rest is = search (h.stands, is_open_inside, h.slots, all_off, h.works, arith)
 
   -- where a CPU has its interrupts on, nobody patches
   pub nobody_patches : u.online me ≡ true → p.irq me ≡ true → p.patching ≡ Whole
-  nobody_patches on_ i = go p.patching refl
-    where
-      apart : true ≡ false → ⊥
-      apart e = cc
-
-      go : (x : Patching) → p.patching ≡ x → x ≡ Whole
-      go Whole e = refl
-      go (Patches c w count made rest) e = absurd (apart (sym i ∙ off_while_patched on_ c w count made rest e))
+  nobody_patches on_ i = search (off_while_patched, arith)
 
   pub lawful_when_on : u.online me ≡ true → p.irq me ≡ true → IsLawful (labels_in at)
   lawful_when_on on_ i = subst (λ x. LabelsShow x (labels_in at)) (nobody_patches on_ i) h.labels
 
   -- one more reading, which agrees
   pub reads_label : (r : Reading) → Agrees (labels_in at) r → PresentShows u (record p { readings = put p.readings me (p.readings me ++ r ∷ []) }) at seat
-  reads_label r agrees = record {
-    slots = h.slots;
-    stands = λ c. still c (seat c) (h.stands c);
-    homes = h.homes;
-    irq = h.irq;
-    works = h.works;
-    runner = h.runner;
-    entries = h.entries;
-    labels = h.labels;
-    read = put_all (λ c x. u.online c ≡ true → p.irq c ≡ true → AllByRecursion (Agrees (labels_in at)) x) p.readings me (p.readings me ++ r ∷ [])
-        (λ o i. one_more (p.readings me) (h.read me o i)) (λ c ne. h.read c);
-  }
+  reads_label r agrees = search (still, h.stands, put_all, one_more, h.read, arith)
     where
       one_more : (xs : List Reading) → AllByRecursion (Agrees (labels_in at)) xs → AllByRecursion (Agrees (labels_in at)) (xs ++ r ∷ [])
       one_more [] a = (agrees, tt)
       one_more (x ∷ xs) a = (a.0, one_more xs a.1)
 
       still : (c : ℕ) (y : Seat) → Stands p c y → Stands (record p { readings = put p.readings me (p.readings me ++ r ∷ []) }) c y
-      still c Free st = st
-      still c (In j job a l t) st = st
-      still c (Gives j job a v) st = st
-      still c (Alters j w count made rest) st = st
-      still c (Closes j) st = st
+      still c y st = search arith

@@ -1,38 +1,23 @@
 -- The steps that acknowledge a phase and set the next one, by a CPU's stage.
+use Rattle.std.proofs.Common.{◌≡◌, ℕ, ◌+◌, ◌-◌, ◌≤◌, Bool, true, false, nat_lt, le-ltb, ne_eqb, ◌==◌, cond, sym, subst, ap, ◌∙◌, ◌⊎◌, inl, inr, arith, Option}
+use Rattle.std.proofs.Common.{Some, None, []}
+use Rattle.smp_words.proofs.Puts.{at_test}
+use Rattle.smp_words.specs.declared.field.Field.TheVariants.{Ack}
+use Rattle.smp_stop_steps.specs.{put, put_word, mask_weight, patch_answer, Alters, Fills, In, Rests, Seat, Sets, irq_of, StopShows, HasRun, RunsIf, IsLoaded}
+use Rattle.smp_stop_steps.specs.{OwnsIf, Source, StopControlValue, stop_goes, turn_ends, visit_acked, Setup, StopState, Calling, Calls, Idle, StopStep}
+use Rattle.smp_stop_steps.specs.{at_then, state_after, told, plan_at, Advance, StopStage, Visit, Patch, Multi, Work, Gate, Slot, Word, has, CarriesIn}
+use Rattle.smp_stop_steps.specs.{CarriesAt, IsAcking, HasCalled}
 use Rattle.smp_stop_steps.proofs.Basics.Bools.{or_false, or_true}
 use Rattle.smp_stop_steps.proofs.Steps.Same.{moved_seat}
-use Rattle.std.proofs.Common.{◌≡◌, ℕ, ◌+◌, ◌-◌, ◌≤◌, Bool, true, false, nat_lt, le-ltb, ne_eqb, ◌==◌, ◌||◌, cond, sym, subst, refl, ap, ◌∙◌, ◌⊎◌, inl}
-use Rattle.std.proofs.Common.{inr, arith, Option, Some, None, []}
-use Rattle.smp_words.proofs.Puts.{at_test}
 use Rattle.smp_stop_steps.proofs.Steps.Facts.{ack_bounds, ack_bounds_patched, patcher_active}
 use Rattle.smp_stop_steps.proofs.Steps.RoundSteps.{ack_small}
 use Rattle.smp_stop_steps.proofs.Steps.Rounds.{ack_stored, ack_subtracted, ack_subtracted_patched, state_stored}
 use Rattle.smp_stop_steps.proofs.Steps.StageSteps.{less_one}
-use Rattle.smp_words.specs.Put.{put, put_word}
-use Rattle.smp_stop_steps.specs.Counts.{mask_weight}
-use Rattle.smp_stop_steps.specs.Labels.{patch_answer}
-use Rattle.smp_stop_steps.specs.Seats.{Alters, Fills, In, Rests, Seat, Sets, irq_of}
-use Rattle.smp_stop_steps.specs.Shows.{StopShows}
-use Rattle.smp_stop_steps.specs.Sits.{HasRun, RunsIf, IsLoaded, OwnsIf, Sits, SitsAtRest}
-use Rattle.smp_stop_steps.specs.Sources.{Source}
-use Rattle.smp_stop_steps.specs.Stages.{StopControlValue, stop_goes, turn_ends, visit_acked}
-use Rattle.smp_stop_steps.specs.State.{Setup, StopState, Calling, Calls, Carries, Idle}
-use Rattle.smp_stop_steps.specs.Steps.{StopStep, at_then, state_after}
-use Rattle.smp_stop_steps.specs.Tells.{told, plan_at}
-use Rattle.smp_words.specs.declared.seen.Act.TheVariants as act
-use Rattle.smp_words.specs.declared.field.Field.TheVariants.{Ack}
-use Rattle.smp_stop_steps.specs.declared.stage.RoundStage.TheVariants as round
-use Rattle.smp_stop_steps.specs.declared.stage.StopStage.TheVariants.{Advance}
-use Rattle.smp_stop_steps.specs.declared.stage.StopStage.{StopStage}
-use Rattle.smp_stop_steps.specs.declared.stage.Visit.{Visit}
-use Rattle.smp_words.specs.declared.work.Kind.TheVariants.{Patch, Multi}
-use Rattle.smp_words.specs.declared.work.Work.{Work}
-use Rattle.smp_words.specs.declared.word.Word.TheVariants.{Gate, Slot}
-use Rattle.smp_words.specs.declared.word.Word.{Word}
-use Rattle.smp_mask.specs.Mask.{has}
-use Rattle.smp_stop_steps.specs.Carries.{CarriesIn, CarriesAt, IsAcking}
-use Rattle.smp_stop_steps.specs.Callings.{HasCalled}
+use Rattle.smp_stop_steps.specs.Sits.{Sits}
+use Rattle.smp_stop_steps.specs.State.{Carries}
 use Rattle.smp_stop_steps.proofs.Steps.Stages.{in_round, round_source}
+use Rattle.smp_stop_steps.specs.act
+use Rattle.smp_stop_steps.specs.round
 
 module _ (u : Setup) (p : StopState) (at : Word → ℕ) (seat : ℕ → Seat) (source : ℕ → Source) (h : StopShows u p at seat source) (c : StopControlValue) (me : ℕ)
     (s : Sits u me (at Gate) c (seat me) (source me)) (v : Visit) where
@@ -42,22 +27,7 @@ module _ (u : Setup) (p : StopState) (at : Word → ℕ) (seat : ℕ → Seat) (
       Sits u me (at Gate) (cond b (stop_goes (record c { visit = Some (visit_acked v answer ran) }) (Advance (visit_acked v answer ran) (round.Refill ran)))
       (turn_ends (record c { visit = Some (visit_acked v answer ran) }) (v.acked + 1) ran)).control
       (In v.slot work (v.acked + 1) (v.acked + 1) (cond b Fills Rests)) (source me)
-  acked_sits answer ran work loaded y irq run true = record {
-    below = s.below;
-    irq = irq;
-    seat =
-        (refl, (work, record { kind = loaded.kind; mask = loaded.mask; active = loaded.active }, refl, run));
-    source = y;
-    gate_held = tt;
-  }
-  acked_sits answer ran work loaded y irq run false = record {
-    below = s.below;
-    irq = at_test (v.acked + 1) 4 (λ d. cond d true c.interrupts ≡ nat_lt (v.acked + 1) 2 || d) (λ _. sym (or_true (nat_lt (v.acked + 1) 2)))
-        (λ _. irq ∙ sym (or_false (nat_lt (v.acked + 1) 2) false refl));
-    seat = (work, record { kind = loaded.kind; mask = loaded.mask; active = loaded.active }, refl);
-    source = y;
-    gate_held = tt;
-  }
+  acked_sits answer ran work loaded y irq run b = search (at_test, nat_lt, or_true, or_false, arith)
 
   pub acknowledge : CarriesIn c (p.calling me) → (answer : ℕ) (ran : Bool) → c.stage ≡ Some (Advance v (round.Acknowledge answer ran)) →
       StopStep u p at seat source c me (Advance v (round.Acknowledge answer ran))
@@ -70,16 +40,10 @@ module _ (u : Setup) (p : StopState) (at : Word → ℕ) (seat : ℕ → Seat) (
 
       -- who acknowledges RUN has called its function, or is not to call one
       has_called : (work : Work) → IsLoaded v work → (b : Bool) → RunsIf me v b → (f : Calling) → IsAcking v answer b f → v.acked ≡ 2 → HasCalled me work f
-      has_called work loaded true runs Idle is two = let bad : Multi ≡ Patch = sym runs.1 ∙ is in cc
-      has_called work loaded true runs (Calls call) is two = tt
-      has_called work loaded true runs (Carries x) is two = absurd is
-      has_called work loaded false runs Idle is two = ap (λ m. has m me) (sym loaded.active) ∙ runs two
-      has_called work loaded false runs (Calls call) is two = absurd is
-      has_called work loaded false runs (Carries x) is two = tt
+      has_called work loaded b runs f is two = search arith
 
       has_run : (b : Bool) → RunsIf me v b → HasRun me (visit_acked v answer ran) b
-      has_run true runs = record { at_run = λ _. ap (λ n. n + 1) runs.0; active = λ _. runs.2 }
-      has_run false runs = record { at_run = λ bad. cc; active = λ three. runs (omega arith) }
+      has_run b runs = search arith
 
       patch_run : v.acked ≡ 2 → ran ≡ true → (work : Work) → IsLoaded v work → (count : ℕ) →
           seat me ≡ Alters v.slot work count (plan_at u work count) [] → HasRun me (visit_acked v answer ran) ran
@@ -105,10 +69,7 @@ module _ (u : Setup) (p : StopState) (at : Word → ℕ) (seat : ℕ → Seat) (
                 (at (Slot v.slot Ack) - 1)) next
                 (ack_subtracted u p at seat source h v.slot me work v.acked answer is
                 (λ two. has_called work loaded ran calm (p.calling me) (subst (λ (st : Option StopStage). CarriesAt c.visit st (p.calling me)) e k) two)));
-            sits = acked_sits answer ran work loaded y
-                (s.irq ∙ (ap irq_of is ∙ (ap (λ b. nat_lt (v.acked + 1) 2 || b) (ne_eqb v.acked 4 (λ z. omega arith)) ∙ or_false (nat_lt (v.acked + 1) 2)
-                false refl)))
-                (has_run ran calm) (at (Slot v.slot Ack) == 1);
+            sits = search (acked_sits, nat_lt, ne_eqb, or_false, has_run, arith);
           }
       either work loaded most (inr (two, runs, (count, answers, is))) y =
           let next = In v.slot work (v.acked + 1) (v.acked + 1) (cond (at (Slot v.slot Ack) == 1) Fills Rests) in
@@ -116,19 +77,12 @@ module _ (u : Setup) (p : StopState) (at : Word → ℕ) (seat : ℕ → Seat) (
           ap (λ n. In v.slot work n n (cond (at (Slot v.slot Ack) == 1) Fills Rests)) (let z : 3 ≡ v.acked + 1 = omega arith in z) in
           let bounds = ack_bounds_patched u p at seat source h v.slot me work count (plan_at u work count) is in
           let less = less_one (at (Slot v.slot Ack)) bounds.0 (ack_small (at (Slot v.slot Ack)) u.cpus h.setup.few bounds.1) in
-          record {
-            seat_after = next;
-            source_after = source me;
-            shows = subst (λ n. StopShows u (state_after u p at c me (Advance v (round.Acknowledge answer ran))) (put_word at (Slot v.slot Ack) n)
-                (put seat me next) (put source me (source me))) (sym less)
-                (moved_seat u seat source me (state_after u p at c me (Advance v (round.Acknowledge answer ran))) (put_word at (Slot v.slot Ack)
-                (at (Slot v.slot Ack) - 1)) next
-                (subst (λ x. StopShows u (state_after u p at c me (Advance v (round.Acknowledge answer ran))) (put_word at (Slot v.slot Ack)
-                (at (Slot v.slot Ack) - 1)) (put seat me x) source) three
-                (ack_subtracted_patched u p at seat source h v.slot me work count (plan_at u work count) answer is)));
-            sits = acked_sits answer ran work loaded y (s.irq ∙ (ap irq_of is ∙ sym (le-ltb (v.acked + 1) 2 (omega arith))))
-                (patch_run two runs work loaded count is) (at (Slot v.slot Ack) == 1);
-          }
+          let shows' = subst (λ n. StopShows u (state_after u p at c me (Advance v (round.Acknowledge answer ran))) (put_word at (Slot v.slot Ack) n) (put
+          seat me next) (put source me (source me))) (sym less) (moved_seat u seat source me (state_after u p at c me (Advance v (round.Acknowledge answer
+          ran))) (put_word at (Slot v.slot Ack) (at (Slot v.slot Ack) - 1)) next (subst (λ x. StopShows u (state_after u p at c me (Advance v
+          (round.Acknowledge answer ran))) (put_word at (Slot v.slot Ack) (at (Slot v.slot Ack) - 1)) (put seat me x) source) three
+          (ack_subtracted_patched u p at seat source h v.slot me work count (plan_at u work count) answer is))) in
+          search (shows', acked_sits, le-ltb, patch_run, arith)
 
   pub refill : (ran : Bool) → c.stage ≡ Some (Advance v (round.Refill ran)) → StopStep u p at seat source c me (Advance v (round.Refill ran))
   refill ran e =
@@ -136,22 +90,11 @@ module _ (u : Setup) (p : StopState) (at : Word → ℕ) (seat : ℕ → Seat) (
       let work = r.1.0 in
       let loaded = r.1.1 in
       let next = In v.slot work v.acked v.acked Sets in
-      record {
-        seat_after = next;
-        source_after = source me;
-        shows = subst (λ m. StopShows u (told u p me act.Store (Slot v.slot Ack) None (Some (mask_weight u.cpus m)) 0) (put_word at (Slot v.slot Ack)
-            (mask_weight u.cpus m)) (put seat me next) (put source me (source me))) (sym loaded.mask)
-            (moved_seat u seat source me (told u p me act.Store (Slot v.slot Ack) None (Some (mask_weight u.cpus work.mask)) 0) (put_word at (Slot v.slot Ack)
-            (mask_weight u.cpus work.mask)) next
-            (ack_stored u p at seat source h v.slot me work v.acked v.acked 0 r.1.2));
-        sits = record {
-          below = s.below;
-          irq = s.irq ∙ ap irq_of r.1.2;
-          seat = (r.0, (work, loaded, refl, r.1.3));
-          source = round_source s v (round.Refill ran) e;
-          gate_held = tt;
-        };
-      }
+      let shows' = subst (λ m. StopShows u (told u p me act.Store (Slot v.slot Ack) None (Some (mask_weight u.cpus m)) 0) (put_word at (Slot v.slot Ack)
+      (mask_weight u.cpus m)) (put seat me next) (put source me (source me))) (sym loaded.mask) (moved_seat u seat source me (told u p me act.Store (Slot
+      v.slot Ack) None (Some (mask_weight u.cpus work.mask)) 0) (put_word at (Slot v.slot Ack) (mask_weight u.cpus work.mask)) next (ack_stored u p at
+      seat source h v.slot me work v.acked v.acked 0 r.1.2)) in
+      search (shows', round_source, arith)
 
   pub raise : (ran : Bool) → c.stage ≡ Some (Advance v (round.Raise ran)) → StopStep u p at seat source c me (Advance v (round.Raise ran))
   raise ran e =
@@ -159,17 +102,6 @@ module _ (u : Setup) (p : StopState) (at : Word → ℕ) (seat : ℕ → Seat) (
       let work = r.1.0 in
       let next = In v.slot work v.acked v.acked Rests in
       let off : c.interrupts ≡ nat_lt v.acked 2 = s.irq ∙ ap irq_of r.1.2 in
-      record {
-        seat_after = next;
-        source_after = source me;
-        shows = moved_seat u seat source me (state_after u p at c me (Advance v (round.Raise ran))) (at_then u at c me (Advance v (round.Raise ran))) next
-            (state_stored u p at seat source h v.slot me work v.acked v.acked 0 r.1.2);
-        sits = record {
-          below = s.below;
-          irq = at_test v.acked 4 (λ d. cond d true c.interrupts ≡ nat_lt v.acked 2 || d) (λ _. sym (or_true (nat_lt v.acked 2)))
-              (λ _. off ∙ sym (or_false (nat_lt v.acked 2) false refl));
-          seat = subst (λ x. SitsAtRest x next) (sym r.0) (work, r.1.1, refl);
-          source = round_source s v (round.Raise ran) e;
-          gate_held = tt;
-        };
-      }
+      let shows' = moved_seat u seat source me (state_after u p at c me (Advance v (round.Raise ran))) (at_then u at c me (Advance v (round.Raise ran))) next
+      (state_stored u p at seat source h v.slot me work v.acked v.acked 0 r.1.2) in
+      search (shows', at_test, nat_lt, or_true, or_false, round_source, arith)

@@ -1,128 +1,72 @@
 -- Each step of a CPU's command leaves its function where the next stage says, and the functions of all others.
-use Rattle.smp_stop_steps.proofs.Steps.Completions.{one_phase}
-use Rattle.smp_stop_steps.proofs.State.Phases.{is_open_inside, keeps_inside}
-use Rattle.std.proofs.Common.{◌≡◌, ◌≢◌, ℕ, ◌+◌, Bool, true, false, eq-eqb, eqb-true, ◌==◌, ◌&&◌, ◌||◌, cond, ◌⊎◌, inl, inr, Option}
-use Rattle.std.proofs.Common.{Some, None, [], ◌∷◌, length, sym, subst, refl, ap, ◌∙◌, arith, ⊎_elim, ◌++◌}
-use Rattle.smp_mask.specs.Mask.{has}
-use Rattle.smp_labels.specs.Keys.{change_of, count_after, is_on}
+use Rattle.std.proofs.Common.{◌≡◌, ◌≢◌, ℕ, ◌+◌, Bool, true, false, eq-eqb, eqb-true, ◌==◌, ◌&&◌, cond, ◌⊎◌, inl, inr, Option, Some, None, [], ◌∷◌, sym, subst}
+use Rattle.std.proofs.Common.{refl, ap, ◌∙◌, arith}
 use Rattle.smp_labels.specs.Kinds.{xor}
 use Rattle.smp_labels.specs.declared.keys.Change.{Change as KeyChange}
-use Rattle.smp_labels.specs.declared.patch.Place.TheVariants as place
-use Rattle.smp_labels.specs.declared.words.TheConstants.{MOST_SITES}
-use Rattle.smp_words.specs.Access.{word_of, seen_of}
-use Rattle.smp_words.specs.Put.{put}
-use Rattle.smp_words.specs.declared.field.Field.{Field}
-use Rattle.smp_words.specs.declared.field.Field.TheVariants as field
-use Rattle.smp_words.specs.declared.seen.Act.TheVariants as act
-use Rattle.smp_words.specs.declared.seen.Note.TheVariants as note
-use Rattle.smp_words.specs.declared.work.Kind.{Kind as KindOf}
-use Rattle.smp_words.specs.declared.work.Kind.TheVariants.{One, Multi, Patch}
-use Rattle.smp_words.specs.declared.work.Work.{Work}
-use Rattle.smp_words.specs.declared.word.Word.{Word}
-use Rattle.smp_words.specs.declared.word.Word.TheVariants.{Gate, Slot, Key, Site}
-use Rattle.smp_stop_steps.specs.Callings.{IsCalling, answer_in, HasCalled}
-use Rattle.smp_stop_steps.specs.Carries.{CarriesAt, CarriesIn, IsQuiet, IsAcking, IsEnding}
-use Rattle.smp_stop_steps.specs.Labels.{Change, patch_answer}
-use Rattle.smp_stop_steps.specs.Counts.{mask_weight}
-use Rattle.smp_stop_steps.specs.Slots.{begun_value}
-use Rattle.smp_stop_steps.specs.Seats.{Seat, In, Gives, Alters, Rests, Stands, Turn}
-use Rattle.smp_stop_steps.specs.Shows.{StopShows}
-use Rattle.smp_stop_steps.specs.Sits.{IsLoaded, RunsIf, Sits, SitsAtRun, IsThroughAll}
-use Rattle.smp_stop_steps.specs.Sources.{Source}
-use Rattle.smp_stop_steps.specs.Stages.{StopControlValue, answer_at, turn_note, begun_next, change_at, visit_of}
-use Rattle.smp_stop_steps.specs.Stages.{key_on, looked_on, nudge_of, nudge_on, round_access}
-use Rattle.smp_stop_steps.specs.Stages.{stop_ends, stop_goes, store_of, turn_ends, visit_acked}
-use Rattle.smp_stop_steps.specs.State.{Setup, StopState, Calling, Idle, Calls, Carries, StopCall}
-use Rattle.smp_stop_steps.specs.Steps.{CallStep, control_then, state_after, told_of, is_run, note_then, Told}
-use Rattle.smp_stop_steps.specs.Stop.{Standing, Inside}
-use Rattle.smp_stop_steps.specs.Tells.{acknowledges, enters, called_more, calls_now, carried, carried_call, completes, completes_with}
-use Rattle.smp_stop_steps.specs.Tells.{gate_told, is_multi, is_one, key_told, may_call, plan_at, stored_open, stored_shut, tells, told}
-use Rattle.smp_stop_steps.specs.declared.stage.CompletionStage.TheVariants as completion
-use Rattle.smp_stop_steps.specs.declared.stage.RoundStage.TheVariants as round
-use Rattle.smp_stop_steps.specs.declared.stage.StopStage.{StopStage}
-use Rattle.smp_stop_steps.specs.declared.stage.StopStage.TheVariants.{TakeGate, OpenGate, Begin, Enter, EnterKind, EnterMask, EnterActive, Advance}
-use Rattle.smp_stop_steps.specs.declared.stage.StopStage.TheVariants.{Complete, Close, LoadDone, LoadResult, ReadKey, ReadSite, NudgeKey, ExchangeKey}
-use Rattle.smp_stop_steps.specs.declared.stage.Visit.{Visit}
+use Rattle.smp_words.proofs.Puts.{put_same, put_other}
+use Rattle.smp_stop_steps.specs.{has, change_of, count_after, is_on, word_of, seen_of, put, Field, Kind as KindOf, One, Multi, Patch, Work, Word, Gate, Slot}
+use Rattle.smp_stop_steps.specs.{Key, IsCalling, answer_in, HasCalled, CarriesAt, CarriesIn, IsQuiet, IsAcking, IsEnding, Change, patch_answer, Seat, In}
+use Rattle.smp_stop_steps.specs.{Gives, Alters, Rests, Stands, Turn, StopShows, IsLoaded, RunsIf, SitsAtRun, IsThroughAll, Source, StopControlValue}
+use Rattle.smp_stop_steps.specs.{answer_at, turn_note, key_on, nudge_of, nudge_on, stop_ends, stop_goes, store_of, turn_ends, visit_acked, Setup, StopState}
+use Rattle.smp_stop_steps.specs.{Calling, Idle, Calls, StopCall, CallStep, control_then, state_after, told_of, is_run, note_then, Told, Standing, Inside}
+use Rattle.smp_stop_steps.specs.{acknowledges, called_more, calls_now, carried, carried_call, completes, completes_with, gate_told, is_multi, key_told}
+use Rattle.smp_stop_steps.specs.{may_call, plan_at, stored_open, stored_shut, tells, told, StopStage, TakeGate, OpenGate, Begin, Enter, EnterKind, EnterMask}
+use Rattle.smp_stop_steps.specs.{EnterActive, Advance, Complete, Close, LoadDone, LoadResult, NudgeKey, ExchangeKey, Visit}
+use Rattle.smp_stop_steps.proofs.Steps.Completions.{one_phase}
+use Rattle.smp_stop_steps.proofs.State.Phases.{is_open_inside, keeps_inside}
+use Rattle.smp_stop_steps.specs.Sits.{Sits}
+use Rattle.smp_stop_steps.specs.State.{Carries}
+use Rattle.smp_stop_steps.specs.declared.stage.StopStage.TheVariants.{ReadKey, ReadSite}
 use Rattle.smp_stop_steps.proofs.Steps.Callings.{carried_alone, idle_alters, idle_patch}
 use Rattle.smp_stop_steps.proofs.State.Moves.{IsNoPatch}
-use Rattle.smp_words.proofs.Puts.{put_same, put_other}
 use Rattle.smp_stop_steps.proofs.Steps.Stages.{at_seat}
+use Rattle.smp_stop_steps.specs.place
+use Rattle.smp_stop_steps.specs.field
+use Rattle.smp_stop_steps.specs.act
+use Rattle.smp_stop_steps.specs.note
+use Rattle.smp_stop_steps.specs.completion
+use Rattle.smp_stop_steps.specs.round
 
 -- no store calls a function
 open_calling : (p : StopState) (me s v : ℕ) (f : Field) → told_of (stored_open p me s f v) ≡ told_of p
-open_calling p me s v field.Kind = refl
-open_calling p me s v field.Mask = refl
-open_calling p me s v field.Active = refl
-open_calling p me s v field.Func = refl
-open_calling p me s v field.Arg = refl
-open_calling p me s v field.State = refl
-open_calling p me s v field.Ack = refl
-open_calling p me s v field.Roll = refl
-open_calling p me s v field.Todo = refl
-open_calling p me s v field.Result = refl
-open_calling p me s v field.Done = refl
+open_calling p me s v f = search arith
 
 shut_calling : (p : StopState) (s v : ℕ) (f : Field) → told_of (stored_shut p s f v) ≡ told_of p
-shut_calling p s v field.Kind = refl
-shut_calling p s v field.Mask = refl
-shut_calling p s v field.Active = refl
-shut_calling p s v field.Func = refl
-shut_calling p s v field.Arg = refl
-shut_calling p s v field.State = refl
-shut_calling p s v field.Ack = refl
-shut_calling p s v field.Roll = refl
-shut_calling p s v field.Todo = refl
-shut_calling p s v field.Result = refl
-shut_calling p s v field.Done = refl
+shut_calling p s v f = search arith
 
 store_calling : (p : StopState) (me s v : ℕ) (f : Field) (b : Bool) → told_of (cond b (stored_open p me s f v) (stored_shut p s f v)) ≡ told_of p
-store_calling p me s v f true = open_calling p me s v f
-store_calling p me s v f false = shut_calling p s v f
+store_calling p me s v f b = search (open_calling, shut_calling, arith)
 
 either_calling : (p q : StopState) (b : Bool) → told_of q ≡ told_of p → told_of (cond b q p) ≡ told_of p
-either_calling p q true e = e
-either_calling p q false e = refl
+either_calling p q b e = search arith
 
 gate_calling : (p : StopState) (me n : ℕ) (b : Bool) → told_of (gate_told p me act.Cas (cond b (Some n) None)) ≡ told_of p
-gate_calling p me n true = refl
-gate_calling p me n false = refl
+gate_calling p me n b = search arith
 
 nudge_calling : (u : Setup) (p : StopState) (me k found n : ℕ) (b : Bool) → told_of (key_told u p me k act.Cas (Some found) (cond b (Some n) None)) ≡ told_of p
-nudge_calling u p me k found n true = refl
-nudge_calling u p me k found n false = refl
+nudge_calling u p me k found n b = search arith
 
 patch_calling : (u : Setup) (p : StopState) (at : Word → ℕ) (me : ℕ) (x : Change) →
     told_of (tells u p (seen_of me (store_of x) (at (word_of (store_of x))) None) 0) ≡ told_of p
-patch_calling u p at me (place.Key k, n) = refl
-patch_calling u p at me (place.Site i, n) = refl
+patch_calling u p at me x = search arith
 
 -- what is carried where nothing is called stays
 quiet_carried : (v : Visit) (f : Calling) → IsQuiet (Some v) f → carried_call f ≡ f
-quiet_carried v Idle k = refl
-quiet_carried v (Calls call) k = absurd k
-quiet_carried v (Carries x) k = refl
+quiet_carried v f k = search arith
 
 quiet_visit : (v w : Visit) (f : Calling) → w.answer ≡ v.answer → IsQuiet (Some v) f → IsQuiet (Some w) f
-quiet_visit v w Idle same k = same ∙ k
-quiet_visit v w (Calls call) same k = absurd k
-quiet_visit v w (Carries x) same k = same ∙ k
+quiet_visit v w f same k = search arith
 
 -- before RUN is acknowledged who calls nothing carries nothing
 quiet_early : (c s : ℕ) (w : Work) (l : ℕ) (t : Turn) (v : Visit) (f : Calling) → IsQuiet (Some v) f → v.acked ≡ 2 → IsCalling c (In s w 2 l t) f → f ≡ Idle
-quiet_early c s w l t v Idle q two k = refl
-quiet_early c s w l t v (Calls call) q two k = absurd q
-quiet_early c s w l t v (Carries x) q two k = absurd (let z : ⊥ = omega (arith, k.0) in z)
+quiet_early c s w l t v f q two k = search (q, arith)
 
 -- nor does it in a stop of kind One
 quiet_one : (c s : ℕ) (w : Work) (a l : ℕ) (t : Turn) (v : Visit) (f : Calling) → IsQuiet (Some v) f → a ≡ 0 → IsCalling c (In s w a l t) f → f ≡ Idle
-quiet_one c s w a l t v Idle q none k = refl
-quiet_one c s w a l t v (Calls call) q none k = absurd q
-quiet_one c s w a l t v (Carries x) q none k = absurd (let z : ⊥ = omega (arith, none, k.0) in z)
+quiet_one c s w a l t v f q none k = search (q, none, arith)
 
 quiet_none : (f : Calling) → IsQuiet None f → f ≡ Idle
-quiet_none Idle k = refl
-quiet_none (Calls call) k = absurd k
-quiet_none (Carries x) k = absurd k
+quiet_none f k = search arith
 
 module _ (u : Setup) (p : StopState) (at : Word → ℕ) (seat : ℕ → Seat) (source : ℕ → Source) (h : StopShows u p at seat source) (c : StopControlValue) (me : ℕ)
     (s : Sits u me (at Gate) c (seat me) (source me)) (k : CarriesIn c (p.calling me)) where
@@ -141,63 +85,28 @@ module _ (u : Setup) (p : StopState) (at : Word → ℕ) (seat : ℕ → Seat) (
   -- a step that calls nothing
   plain : (stage : StopStage) → told_of (state_after u p at c me stage) ≡ told_of p → is_run (note_then u at c me stage) ≡ false →
       CarriesIn (control_then u at c me stage) f → Now stage
-  plain stage same says mine = record {
-    mine = subst (λ (x : Told). CarriesIn (control_then u at c me stage) (x.calling me)) (sym same) mine;
-    others = λ cpu ne. ap (λ (x : Told). x.calling cpu) same;
-    goes = inl record { same = same; says = says };
-  }
+  plain stage same says mine = search (stage, arith)
 
   module _ (v : Visit) where
     quiet : c.visit ≡ Some v → IsQuiet c.visit f → IsQuiet (Some v) f
     quiet visit q = subst (λ x. IsQuiet x f) visit q
 
     look : (answer : ℕ) → c.stage ≡ Some (Advance v (round.Look answer)) → Now (Advance v (round.Look answer))
-    look answer e = plain (Advance v (round.Look answer)) refl (elim (at (Slot v.slot field.State) == v.acked) as
-        (λ b. is_run (cond b (stop_ends c note.Same) (looked_on me c v answer (at (Slot v.slot field.State)))).note ≡ false) [ true ↦ refl | false ↦ refl ])
-        (go (at (Slot v.slot field.State) == v.acked) (at (Slot v.slot field.State) == 3 && has v.active me))
-      where
-        q : IsQuiet c.visit f
-        q = at_stage (Advance v (round.Look answer)) e
-
-        go : (b d : Bool) → CarriesIn (cond b (stop_ends c note.Same)
-            (stop_goes (record c { interrupts = cond (at (Slot v.slot field.State) == 2) false c.interrupts })
-            (Advance v (cond d (round.LoadFunc answer) (round.Acknowledge answer false))))).control f
-        go true d = q
-        go false true = q
-        go false false = quiet (at_seat s (Advance v (round.Look answer)) e).0 q
+    look answer e = search (plain, v.active, c.visit, at_stage, quiet, at_seat, arith)
 
     -- load of the argument of a function that the CPU may call
     called : (s : ℕ) (w : Work) (a l answer : ℕ) → seat me ≡ In s w a l Rests → may_call me w (Inside a l) ≡ true →
         let found = at (Slot s field.Arg) in
         let p' = told u p me act.Load (Slot s field.Arg) (Some found) None answer in
         p' ≡ calls_now p me (p.now.stop s).work found answer
-    called s w a l answer is may =
-        let st : Stands p.now me (In s w a l Rests) = subst (Stands p.now me) is (h.present.stands me) in
-        let true_ : may_call me (p.now.stop s).work ((p.now.stop s).standing me) ≡ true = ap (λ (x : Work). may_call me x ((p.now.stop s).standing me))
-        st.3 ∙ (ap (may_call me w) st.1 ∙ may) in
-        ap (λ b. cond b (calls_now p me (p.now.stop s).work (at (Slot s field.Arg)) answer) p) true_
+    called s w a l answer is may = search (h.present.stands, arith)
 
     calls : (stage : StopStage) (s : ℕ) (w : Work) (a l answer : ℕ) → state_after u p at c me stage ≡ told u p me act.Load (Slot s field.Arg)
         (Some (at (Slot s field.Arg))) None answer →
         seat me ≡ In s w a l Rests → may_call me w (Inside a l) ≡ true → f ≡ Idle → answer_at stage ≡ answer → note_then u at c me stage ≡ Some
         (note.Run w.func (at (Slot s field.Arg))) →
         ((call : StopCall) → call.answer ≡ answer → CarriesIn (control_then u at c me stage) (Calls call)) → Now stage
-    calls stage s w a l answer is_told is may idle answered says mine =
-        let st : Stands p.now me (In s w a l Rests) = subst (Stands p.now me) is (h.present.stands me) in
-        let call : StopCall = record { func = (p.now.stop s).work.func; arg = at (Slot s field.Arg); answer = answer } in
-        let after : told_of (state_after u p at c me stage) ≡ record (told_of p) { calling = put p.calling me (Calls call) } =
-        ap told_of (is_told ∙ called s w a l answer is may) in record {
-          mine = subst (λ (x : Told). CarriesIn (control_then u at c me stage) (x.calling me)) (sym after) (subst (CarriesIn (control_then u at c me stage))
-              (sym (put_same p.calling me (Calls call))) (mine call refl));
-          others = λ cpu ne. ap (λ (x : Told). x.calling cpu) after ∙ put_other p.calling me (Calls call) cpu ne;
-          goes = inr (inl record {
-            call = call;
-            idle = idle;
-            calls = after;
-            says = says ∙ ap (λ (x : Work). Some (note.Run x.func (at (Slot s field.Arg)))) (sym st.3);
-            answers = sym answered;
-          });
-        }
+    calls stage s w a l answer is_told is may idle answered says mine = search (h.present.stands, stage, called, put_same, put_other, arith)
 
     load_arg : (answer func : ℕ) → c.stage ≡ Some (Advance v (round.LoadArg answer func)) → Now (Advance v (round.LoadArg answer func))
     load_arg answer func e =
@@ -210,51 +119,8 @@ module _ (u : Setup) (p : StopState) (at : Word → ℕ) (seat : ℕ → Seat) (
         go : c.visit ≡ Some v → v.kind ≢ One → (work : Work) → SitsAtRun me v work (seat me) → func ≡ work.func → (kind : KindOf) → v.kind ≡ kind →
             Now (Advance v (round.LoadArg answer func))
         go visit some work run same One is = absurd (some is)
-        go visit some work run same Multi is =
-            let multi : work.kind ≡ Multi = sym run.0.kind ∙ is in
-            let active : has work.active me ≡ true = ap (λ m. has m me) (sym run.0.active) ∙ run.2 in
-            let may : may_call me work (Inside 2 3) ≡ true = ap (λ (y : KindOf). is_one y || (true && (has work.active me && is_multi y))) multi ∙ ap
-            (λ b. b && true) active in
-            calls (Advance v (round.LoadArg answer func)) v.slot work 2 3 answer refl run.3 may
-            (quiet_early me v.slot work 3 Rests v f (quiet visit q) run.1 (calling_at (In v.slot work 2 3 Rests) run.3)) refl
-            (ap (λ (y : KindOf). (cond (is_multi y) (record {
-              control = record c { stage = Some (Advance v (round.Acknowledge answer true)) };
-              note =
-                  Some (note.Run func (at (Slot v.slot field.Arg)));
-            })
-            (stop_goes c (Advance v (round.LoadKey func (change_of (at (Slot v.slot field.Arg))))))).note) is
-            ∙ ap (λ n. Some (note.Run n (at (Slot v.slot field.Arg)))) same)
-            (λ call equal. subst (λ (y : KindOf). CarriesIn (cond (is_multi y)
-            (record {
-              control = record c { stage = Some (Advance v (round.Acknowledge answer true)) };
-              note =
-                  Some (note.Run func (at (Slot v.slot field.Arg)));
-            })
-            (stop_goes c (Advance v (round.LoadKey func (change_of (at (Slot v.slot field.Arg))))))).control (Calls call)) (sym is) (sym equal))
-        go visit some work run same Patch is =
-            let patch : work.kind ≡ Patch = sym run.0.kind ∙ is in
-            let st : Stands p.now me (In v.slot work 2 3 Rests) = subst (Stands p.now me) run.3 (h.present.stands me) in
-            let calm : may_call me (p.now.stop v.slot).work ((p.now.stop v.slot).standing me) ≡ false =
-            ap (λ (x : Work). may_call me x ((p.now.stop v.slot).standing me)) st.3 ∙ (ap (may_call me work) st.1 ∙
-            (ap (λ (y : KindOf). is_one y || (true && (has work.active me && is_multi y))) patch ∙ none (has work.active me))) in
-            let nothing : told_of (state_after u p at c me (Advance v (round.LoadArg answer func))) ≡ told_of p =
-            ap (λ b. told_of (cond b (calls_now p me (p.now.stop v.slot).work (at (Slot v.slot field.Arg)) answer) p)) calm in
-            plain (Advance v (round.LoadArg answer func)) nothing
-            (ap (λ (y : KindOf). is_run (cond (is_multi y) (record {
-              control = record c { stage = Some (Advance v (round.Acknowledge answer true)) };
-              note =
-                  Some (note.Run func (at (Slot v.slot field.Arg)));
-            })
-            (stop_goes c (Advance v (round.LoadKey func (change_of (at (Slot v.slot field.Arg))))))).note) is)
-            (subst (λ (y : KindOf). CarriesIn (cond (is_multi y) (record {
-              control = record c { stage = Some (Advance v (round.Acknowledge answer true)) };
-              note = Some (note.Run func (at (Slot v.slot field.Arg)));
-            })
-            (stop_goes c (Advance v (round.LoadKey func (change_of (at (Slot v.slot field.Arg))))))).control f) (sym is) q)
-          where
-            none : (b : Bool) → (b && false) ≡ false
-            none true = refl
-            none false = refl
+        go visit some work run same Multi is = search (work.active, calls, quiet_early, quiet, q, calling_at, arith)
+        go visit some work run same Patch is = search (h.present.stands, plain, q, arith)
 
     load_key : (key : ℕ) (change : KeyChange) → c.stage ≡ Some (Advance v (round.LoadKey key change)) → Now (Advance v (round.LoadKey key change))
     load_key key change e =
@@ -268,10 +134,7 @@ module _ (u : Setup) (p : StopState) (at : Word → ℕ) (seat : ℕ → Seat) (
         q = at_stage (Advance v (round.LoadKey key change)) e
 
         silent : (o : Option ℕ) → is_run (key_on c v key (at (Key key)) o).note ≡ false
-        silent None = refl
-        silent (Some new) = elim (at (Key key) == new) as (λ b. is_run (cond b (stop_goes (record c { changes = [] }) (Advance v (round.Acknowledge 0 true)))
-            (stop_goes (record c { changes = (place.Key key, new) ∷ [] }) (Advance v (cond (xor (is_on (at (Key key))) (is_on new))
-            (round.LoadEntry key new 0) (round.StoreChange 0))))).note ≡ false) [ true ↦ refl | false ↦ refl ]
+        silent o = search arith
 
         acking : (answer : ℕ) → v.kind ≡ Patch → f ≡ Idle → IsAcking v answer true f
         acking answer kind idle = subst (IsAcking v answer true) (sym idle) kind
@@ -287,29 +150,16 @@ module _ (u : Setup) (p : StopState) (at : Word → ℕ) (seat : ℕ → Seat) (
             either false false = q
 
     load_entry : (key word site : ℕ) → c.stage ≡ Some (Advance v (round.LoadEntry key word site)) → Now (Advance v (round.LoadEntry key word site))
-    load_entry key word site e =
-        let q = at_stage (Advance v (round.LoadEntry key word site)) e in
-        plain (Advance v (round.LoadEntry key word site)) refl refl (elim (at (word_of (round_access u.cpus c.changes v (round.LoadEntry key word site))) ==
-        0 || site + 1 == MOST_SITES) as
-        (λ b. CarriesAt c.visit (Some (Advance v (cond b (round.StoreChange 0) (round.LoadEntry key word (site + 1))))) f) [ true ↦ q | false ↦ q ])
+    load_entry key word site e = search (at_stage, plain, c.visit, arith)
 
     store_change : (made : ℕ) → c.stage ≡ Some (Advance v (round.StoreChange made)) → Now (Advance v (round.StoreChange made))
-    store_change made e =
-        let x = (at_seat s (Advance v (round.StoreChange made)) e).1 in
-        let q = at_stage (Advance v (round.StoreChange made)) e in
-        let is : seat me ≡ Alters v.slot x.0 x.1 x.6.0 x.6.1 = x.6.4 in
-        let st : Stands p.now me (Alters v.slot x.0 x.1 x.6.0 x.6.1) = subst (Stands p.now me) is (h.present.stands me) in
-        let idle = idle_alters me v.slot x.0 x.1 x.6.0 x.6.1 f (calling_at (Alters v.slot x.0 x.1 x.6.0 x.6.1) is) in
-        plain (Advance v (round.StoreChange made)) (patch_calling u p at me (change_at c.changes made)) refl (elim (made + 1 == length c.changes) as
-        (λ b. CarriesAt c.visit (Some (Advance v (cond b (round.Acknowledge 0 true) (round.StoreChange (made + 1))))) f)
-        [ true ↦ subst (IsAcking v 0 true) (sym idle) (x.2.kind ∙ st.4) | false ↦ q ])
+    store_change made e = search (at_seat, at_stage, h.present.stands, idle_alters, calling_at, plain, patch_calling, c.visit, arith)
 
     -- the acknowledgement
     acked_control : (answer : ℕ) (ran b : Bool) (g : Calling) → IsQuiet (Some (visit_acked v answer ran)) g →
         CarriesIn (cond b (stop_goes (record c { visit = Some (visit_acked v answer ran) }) (Advance (visit_acked v answer ran) (round.Refill ran)))
         (turn_ends (record c { visit = Some (visit_acked v answer ran) }) (v.acked + 1) ran)).control g
-    acked_control answer ran true g q = q
-    acked_control answer ran false g q = q
+    acked_control answer ran b g q = search (q, arith)
 
     acknowledge : (answer : ℕ) (ran : Bool) → c.stage ≡ Some (Advance v (round.Acknowledge answer ran)) → Now (Advance v (round.Acknowledge answer ran))
     acknowledge answer ran e = let x = (at_seat s (Advance v (round.Acknowledge answer ran)) e).1 in either x.0 x.1 x.3
@@ -328,15 +178,7 @@ module _ (u : Setup) (p : StopState) (at : Word → ℕ) (seat : ℕ → Seat) (
         after a st = ap (λ (x : Standing). told_of (acknowledges p me v.slot x found)) st
 
         silent : is_run (note_then u at c me stage) ≡ false
-        silent = elim (found == 1) as (λ b. is_run (cond b (stop_goes (record c { visit = Some (visit_acked v answer ran) })
-            (Advance (visit_acked v answer ran) (round.Refill ran)))
-            (turn_ends (record c { visit = Some (visit_acked v answer ran) }) (v.acked + 1) ran)).note ≡ false) [
-              | true ↦ refl
-              | false ↦ elim (v.acked + 1 == 4) as (λ d. is_run (Some (cond d note.Left (cond ran note.Ran (note.Moved (v.acked + 1))))) ≡ false) [
-                | true ↦ refl
-                | false ↦ elim ran as (λ d. is_run (Some (cond d note.Ran (note.Moved (v.acked + 1)))) ≡ false) [ true ↦ refl | false ↦ refl ]
-              ]
-            ]
+        silent = search (found, arith)
 
         done : (b : Bool) (g : Calling) → told_of (state_after u p at c me stage) ≡ record (told_of p) {
           calling = cond b (put p.calling me g) p.calling;
@@ -345,92 +187,35 @@ module _ (u : Setup) (p : StopState) (at : Word → ℕ) (seat : ℕ → Seat) (
             g ≡ carried me p.now.patching f → p.now.inside me ≡ Some v.slot → (b ≡ true → HasCalled me (p.now.stop v.slot).work f ⊎
             ((p.now.stop v.slot).work.kind ≡ Patch)) →
             (b ≡ true → IsQuiet (Some (visit_acked v answer ran)) g) → (b ≡ false → IsQuiet (Some (visit_acked v answer ran)) f) → Now stage
-        done true g same is in_ ready y n = record {
-          mine = subst (CarriesIn (control_then u at c me stage)) (sym (ap (λ (x : Told). x.calling me) same ∙ put_same p.calling me g))
-              (acked_control answer ran (found == 1) g (y refl));
-          others = λ cpu ne. ap (λ (x : Told). x.calling cpu) same ∙ put_other p.calling me g cpu ne;
-          goes = inr (inr (inl record {
-            slot = v.slot;
-            inside = in_;
-            called = ready refl;
-            carries = same ∙ ap (λ y. record (told_of p) { calling = put p.calling me y; calls = called_more p.calls me f }) is;
-            says = silent;
-          }));
-        }
-        done false g same is in_ ready y n = record {
-          mine = subst (CarriesIn (control_then u at c me stage)) (sym (ap (λ (x : Told). x.calling me) same)) (acked_control answer ran (found == 1) f
-              (n refl));
-          others = λ cpu ne. ap (λ (x : Told). x.calling cpu) same;
-          goes = inl record { same = same; says = silent };
-        }
+        done true g same is in_ ready y n = search (stage, put_same, acked_control, found, put_other, called, calls, silent, arith)
+        done false g same is in_ ready y n = search (stage, acked_control, found, silent, arith)
 
         -- who acknowledges RUN has called its function, or is not to call one
         has_called : (w work : Work) → w ≡ work → IsLoaded v work → (b : Bool) → RunsIf me v b → (g : Calling) → IsAcking v answer b g → v.acked ≡ 2 →
             HasCalled me w g
-        has_called w work same loaded true runs Idle is two = let bad : Multi ≡ Patch = sym runs.1 ∙ is in cc
-        has_called w work same loaded true runs (Calls call) is two = tt
-        has_called w work same loaded true runs (Carries x) is two = absurd is
-        has_called w work same loaded false runs Idle is two = ap (λ (x : Work). has x.active me) same ∙ (ap (λ m. has m me) (sym loaded.active) ∙ runs two)
-        has_called w work same loaded false runs (Calls call) is two = absurd is
-        has_called w work same loaded false runs (Carries x) is two = tt
+        has_called w work same loaded b runs g is two = search arith
 
         -- who has called its function carries its answer, any other what it carried
         ran_on : (b : Bool) (g : Calling) → ran ≡ b → RunsIf me v b → IsAcking v answer b g → IsQuiet (Some (visit_acked v answer b)) (carried_call g)
-        ran_on true Idle r runs is = let bad : Multi ≡ Patch = sym runs.1 ∙ is in cc
-        ran_on true (Calls call) r runs is = is
-        ran_on true (Carries x) r runs is = absurd is
-        ran_on false g r runs is = subst (IsQuiet (Some (visit_acked v answer false))) (sym (quiet_carried v g is))
-            (quiet_visit v (visit_acked v answer false) g refl is)
+        ran_on b g r runs is = search (quiet_carried, quiet_visit, arith)
 
         stays : (b : Bool) (g : Calling) → ran ≡ b → RunsIf me v b → IsAcking v answer b g → (v.acked + 1 == 3) ≡ false →
             IsQuiet (Some (visit_acked v answer b)) g
-        stays true g r runs is other = let bad : true ≡ false = sym (eq-eqb (v.acked + 1) 3 (let t = runs.0 in omega arith)) ∙ other in cc
-        stays false g r runs is other = quiet_visit v (visit_acked v answer false) g refl is
+        stays b g r runs is other = search (eq-eqb, quiet_visit, arith)
 
         either : (work : Work) → IsLoaded v work →
             (((seat me ≡ In v.slot work v.acked (v.acked + 1) Rests) × RunsIf me v ran) ⊎ ((v.acked ≡ 2) × (ran ≡ true) ×
             ((count : ℕ) × (answer ≡ patch_answer work count) × (seat me ≡ Alters v.slot work count (plan_at u work count) [])))) → Now stage
         either work loaded (inl (is, runs)) =
-            let st : Stands p.now me (In v.slot work v.acked (v.acked + 1) Rests) = subst (Stands p.now me) is (h.present.stands me) in
-            let alone = carried_alone u.first p.now.patching seat me f (subst IsNoPatch (sym is) tt) h.present.runner in
-            let q = at_stage stage e in
-            done (v.acked + 1 == 3) (carried me p.now.patching f) (after (v.acked + 1) st.1) refl st.0
-            (λ three. inl (has_called (p.now.stop v.slot).work work st.3 loaded ran runs f q (let z = eqb-true (v.acked + 1) 3 three in omega arith)))
-            (λ _. subst (IsQuiet (Some (visit_acked v answer ran))) (sym alone) (ran_on ran f refl runs q)) (λ other. stays ran f refl runs q other)
-        either work loaded (inr (two, r, (n, answers, is))) =
-            let st : Stands p.now me (Alters v.slot work n (plan_at u work n) []) = subst (Stands p.now me) is (h.present.stands me) in
-            let standing : (p.now.stop v.slot).standing me ≡ Inside v.acked 3 = st.1 ∙ ap (λ n. Inside n 3) (sym two) in
-            let own : carried me p.now.patching f ≡ Carries (patch_answer work n) =
-            ap (λ x. carried me x f) st.5 ∙ ap (λ b. cond b (Carries (patch_answer work n)) (carried_call f)) (eq-eqb me me refl) in
-            done true (carried me p.now.patching f) (after 3 standing) refl st.0 (λ _. inr (ap (λ (x : Work). x.kind) st.3 ∙ st.4))
-            (λ _. subst (IsQuiet (Some (visit_acked v answer ran))) (sym own) (ap (λ b. cond b answer v.answer) r ∙ answers)) (λ bad. cc)
+            search (v.acked, h.present.stands, carried_alone, IsNoPatch, at_stage, stage, done, after, has_called, eqb-true, ran_on, stays, arith)
+        either work loaded (inr (two, r, (n, answers, is))) = search (h.present.stands, v.acked, eq-eqb, done, after, arith)
 
     -- the completion
     none_acked : (work : Work) → work.kind ≡ One → seat me ≡ In v.slot work v.acked v.acked Rests → v.acked ≡ 0
-    none_acked work one is =
-        let st : Stands p.now me (In v.slot work v.acked v.acked Rests) = subst (Stands p.now me) is (h.present.stands me) in
-        let open_ = is_open_inside u.cpus (p.now.stop v.slot) (λ g. at (Slot v.slot g)) (h.present.slots v.slot) me (Inside v.acked v.acked) st.1 refl in
-        let phase = one_phase (p.now.stop v.slot).work.kind (p.now.stop v.slot).phase (ap (λ (x : Work). x.kind) st.3 ∙ one) ((h.present.slots v.slot).shows
-        open_).kinds in
-        let near = (keeps_inside u.cpus (p.now.stop v.slot) (λ g. at (Slot v.slot g)) (h.present.slots v.slot) me (Inside v.acked v.acked) st.1).1 in
-        ⊎_elim (λ (e : v.acked ≡ (p.now.stop v.slot).phase). e ∙ phase) (λ (e : v.acked + 1 ≡ (p.now.stop v.slot).phase). absurd (let z : ⊥ =
-        omega (arith, e, phase) in z)) near
+    none_acked work one is = search (h.present.stands, is_open_inside, h.present.slots, one_phase, keeps_inside, arith)
 
     one_arg : (answer func : ℕ) → c.stage ≡ Some (Complete v (completion.LoadArg answer func)) → Now (Complete v (completion.LoadArg answer func))
-    one_arg answer func e =
-        let x = (at_seat s (Complete v (completion.LoadArg answer func)) e).1 in
-        let one : x.1.0.kind ≡ One = sym x.1.1.kind ∙ x.0 in
-        let may : may_call me x.1.0 (Inside v.acked v.acked) ≡ true = ap (λ (y : KindOf). is_one y || ((v.acked == 2 && v.acked == 3) &&
-        (has x.1.0.active me && is_multi y))) one in
-        let st : Stands p.now me (In v.slot x.1.0 v.acked v.acked Rests) = subst (Stands p.now me) x.1.2 (h.present.stands me) in
-        calls (Complete v (completion.LoadArg answer func)) v.slot x.1.0 v.acked v.acked answer refl x.1.2 may
-        (quiet_one me v.slot x.1.0 v.acked v.acked Rests v f (quiet (at_seat s (Complete v (completion.LoadArg answer func)) e).0
-        (at_stage (Complete v (completion.LoadArg answer func)) e))
-        (none_acked x.1.0 one x.1.2) (calling_at (In v.slot x.1.0 v.acked v.acked Rests) x.1.2)) refl
-        (ap (λ n. Some (note.Run n (at (Slot v.slot field.Arg)))) x.1.3)
-        (λ call same. elim (answer == 0) as (λ b. CarriesAt (Some (record v { answer = answer }))
-        (Some (Complete (record v { answer = answer }) (cond b completion.CountDown completion.StoreAnswer))) (Calls call))
-        [ true ↦ sym same | false ↦ sym same ])
+    one_arg answer func e = search (at_seat, v.acked, h.present.stands, calls, quiet_one, quiet, at_stage, none_acked, calling_at, arith)
 
     count_down : c.stage ≡ Some (Complete v completion.CountDown) → Now (Complete v completion.CountDown)
     count_down e = let x = (at_seat s (Complete v completion.CountDown) e).1 in either x.0 x.1
@@ -442,53 +227,25 @@ module _ (u : Setup) (p : StopState) (at : Word → ℕ) (seat : ℕ → Seat) (
         q = at_stage (Complete v completion.CountDown) e
 
         ending : (g : Calling) → IsEnding v g → v.answer ≡ answer_in g
-        ending Idle is = is.1
-        ending (Calls call) is = is
-        ending (Carries x) is = is
+        ending g is = search arith
 
         silent : is_run (note_then u at c me (Complete v completion.CountDown)) ≡ false
-        silent = elim (found == 1) as (λ b. is_run (cond b (stop_goes (record c { visit = None }) (Close v.slot)) (stop_ends (record c { visit = None })
-            note.Finished)).note ≡ false) [ true ↦ refl | false ↦ refl ]
+        silent = search (found, arith)
 
         done : (a x : ℕ) → told_of (state_after u p at c me (Complete v completion.CountDown)) ≡ told_of (completes_with p me v.slot a x found) →
             p.now.inside me ≡ Some v.slot → x ≡ v.answer →
             ((p.now.stop v.slot).work.kind ≡ One → f ≢ Idle) → Now (Complete v completion.CountDown)
-        done a x same in_ answers called = record {
-          mine = subst (CarriesIn (control_then u at c me (Complete v completion.CountDown))) (sym (ap (λ (y : Told). y.calling me) same ∙ put_same
-              p.calling me Idle))
-              (elim (found == 1) as (λ b. CarriesIn (cond b (stop_goes (record c { visit = None }) (Close v.slot)) (stop_ends (record c { visit = None })
-              note.Finished)).control Idle) [ true ↦ tt | false ↦ tt ]);
-          others = λ cpu ne. ap (λ (y : Told). y.calling cpu) same ∙ put_other p.calling me Idle cpu ne;
-          goes = inr (inr (inr record {
-            slot = v.slot;
-            inside = in_;
-            called = called;
-            completes = same ∙ ap (λ n. record {
-              calling = put p.calling me Idle;
-              calls = called_more p.calls me f;
-              answers = put p.answers me
-                  (put (p.answers me) v.slot (p.answers me v.slot ++ n ∷ []));
-            }) (answers ∙ ending f q);
-            says = silent;
-          }));
-        }
+        done a x same in_ answers called = search (put_same, found, put_other, called, calls, ending, q, silent, arith)
 
         left_one : (g : Calling) → IsEnding v g → v.acked ≡ 0 → g ≢ Idle
-        left_one Idle is none = λ _. let four = is.0 in omega arith
-        left_one (Calls call) is none = λ bad. cc
-        left_one (Carries x) is none = λ bad. cc
+        left_one g is none = search arith
 
         given_called : (work : Work) (a x : ℕ) (g : Calling) → IsCalling me (Gives v.slot work a x) g → g ≢ Idle
-        given_called work a x Idle is = absurd is
-        given_called work a x (Calls call) is = λ bad. cc
-        given_called work a x (Carries y) is = λ bad. cc
+        given_called work a x g is = search arith
 
         either : (work : Work) → (((v.answer ≡ 0) × IsLoaded v work × IsThroughAll v × (seat me ≡ In v.slot work v.acked v.acked Rests)) ⊎
             (seat me ≡ Gives v.slot work v.acked v.answer)) → Now (Complete v completion.CountDown)
-        either work (inl (none, loaded, all, is)) =
-            let st : Stands p.now me (In v.slot work v.acked v.acked Rests) = subst (Stands p.now me) is (h.present.stands me) in
-            done v.acked 0 (ap (λ (x : Standing). told_of (completes p me v.slot x found)) st.1) st.0 (sym none)
-            (λ one. left_one f q (none_acked work (ap (λ (x : Work). x.kind) (sym st.3) ∙ one) is))
+        either work (inl (none, loaded, all, is)) = search (v.acked, h.present.stands, done, found, none, left_one, q, none_acked, arith)
         either work (inr is) =
             let st : Stands p.now me (Gives v.slot work v.acked v.answer) = subst (Stands p.now me) is (h.present.stands me) in
             done v.acked v.answer (ap (λ (x : Standing). told_of (completes p me v.slot x found)) st.1) st.0 refl
@@ -496,59 +253,16 @@ module _ (u : Setup) (p : StopState) (at : Word → ℕ) (seat : ℕ → Seat) (
 
   -- the note of a turn
   turn_silent : (p : ℕ) (ran : Bool) → is_run (Some (turn_note p ran)) ≡ false
-  turn_silent p ran = elim (p == 4) as (λ d. is_run (Some (cond d note.Left (cond ran note.Ran (note.Moved p)))) ≡ false) [
-    | true ↦ refl
-    | false ↦ elim ran as (λ d. is_run (Some (cond d note.Ran (note.Moved p))) ≡ false) [ true ↦ refl | false ↦ refl ]
-  ]
+  turn_silent p ran = search arith
 
   pub call_step : (stage : StopStage) → c.stage ≡ Some stage → Now stage
-  call_step TakeGate e = plain TakeGate (gate_calling p me (me + 1) (at Gate == 0))
-      (elim (at Gate == 0) as (λ b. is_run (Some (cond b note.Gate note.Taken)) ≡ false) [ true ↦ refl | false ↦ refl ]) (at_stage TakeGate e)
+  call_step TakeGate e = search (plain, gate_calling, at_stage, arith)
   call_step OpenGate e = plain OpenGate refl refl (at_stage OpenGate e)
-  call_step (Begin work g) e = plain (Begin work g) (store_calling p me me (begun_value u.cpus work g) g (p.now.stop me).is_open) (silent g) (next g)
-    where
-      q : IsQuiet c.visit f
-      q = at_stage (Begin work g) e
-
-      silent : (g : Field) → is_run (begun_next c work g).note ≡ false
-      silent field.Kind = refl
-      silent field.Mask = refl
-      silent field.Active = refl
-      silent field.Func = refl
-      silent field.Arg = refl
-      silent field.Result = refl
-      silent field.Todo = refl
-      silent field.Done = refl
-      silent field.Ack = refl
-      silent field.State = refl
-      silent field.Roll = refl
-
-      next : (g : Field) → CarriesIn (begun_next c work g).control f
-      next field.Kind = q
-      next field.Mask = q
-      next field.Active = q
-      next field.Func = q
-      next field.Arg = q
-      next field.Result = q
-      next field.Todo = q
-      next field.Done = q
-      next field.Ack = q
-      next field.State = q
-      next field.Roll = q
-  call_step (Enter slot) e =
-      let x = at_seat s (Enter slot) e in
-      let q : IsQuiet c.visit f = at_stage (Enter slot) e in
-      plain (Enter slot) (either_calling p (record p { now = enters p.now me slot }) (has (at (Slot slot field.Roll)) me) refl)
-      (elim (has (at (Slot slot field.Roll)) me) as (λ b. is_run (cond b (stop_goes c (EnterKind slot)) (stop_ends c note.Stale)).note ≡ false)
-      [ true ↦ refl | false ↦ refl ]) (elim (has (at (Slot slot field.Roll)) me) as
-      (λ b. CarriesIn (cond b (stop_goes c (EnterKind slot)) (stop_ends c note.Stale)).control f) [
-        | true ↦ quiet_none f (subst (λ y. IsQuiet y f) x.0 q)
-        | false ↦ q
-      ])
+  call_step (Begin work g) e = search (plain, store_calling, c.visit, at_stage, arith)
+  call_step (Enter slot) e = search (at_seat, c.visit, at_stage, plain, either_calling, quiet_none, arith)
   call_step (EnterKind slot) e = plain (EnterKind slot) refl refl (at_stage (EnterKind slot) e)
   call_step (EnterMask slot kind) e = plain (EnterMask slot kind) refl refl (at_stage (EnterMask slot kind) e)
-  call_step (EnterActive slot kind mask) e = plain (EnterActive slot kind mask) refl refl
-      (subst (IsQuiet (Some (visit_of slot kind mask (at (Slot slot field.Active))))) (sym (at_stage (EnterActive slot kind mask) e)) refl)
+  call_step (EnterActive slot kind mask) e = search (plain, at_stage, arith)
   call_step (Advance v (round.Look answer)) e = look v answer e
   call_step (Advance v (round.LoadFunc answer)) e = plain (Advance v (round.LoadFunc answer)) refl refl (at_stage (Advance v (round.LoadFunc answer)) e)
   call_step (Advance v (round.LoadArg answer func)) e = load_arg v answer func e
@@ -556,40 +270,29 @@ module _ (u : Setup) (p : StopState) (at : Word → ℕ) (seat : ℕ → Seat) (
   call_step (Advance v (round.LoadEntry key word site)) e = load_entry v key word site e
   call_step (Advance v (round.StoreChange made)) e = store_change v made e
   call_step (Advance v (round.Acknowledge answer ran)) e = acknowledge v answer ran e
-  call_step (Advance v (round.Refill ran)) e = plain (Advance v (round.Refill ran)) (store_calling p me v.slot (mask_weight u.cpus v.mask) field.Ack
-      (p.now.stop v.slot).is_open) refl (at_stage (Advance v (round.Refill ran)) e)
-  call_step (Advance v (round.Raise ran)) e = plain (Advance v (round.Raise ran)) (store_calling p me v.slot (v.acked + 1) field.State
-      (p.now.stop v.slot).is_open) (turn_silent v.acked ran) (at_stage (Advance v (round.Raise ran)) e)
-  call_step (Complete v (completion.LoadFunc answer)) e = plain (Complete v (completion.LoadFunc answer)) refl refl
-      (at_stage (Complete v (completion.LoadFunc answer)) e)
+  call_step (Advance v (round.Refill ran)) e = search (plain, store_calling, at_stage, arith)
+  call_step (Advance v (round.Raise ran)) e = search (plain, store_calling, turn_silent, v.acked, at_stage, arith)
+  call_step (Complete v (completion.LoadFunc answer)) e = search (plain, at_stage, arith)
   call_step (Complete v (completion.LoadArg answer func)) e = one_arg v answer func e
-  call_step (Complete v completion.StoreAnswer) e = plain (Complete v completion.StoreAnswer) (store_calling p me v.slot v.answer field.Result
-      (p.now.stop v.slot).is_open) refl (at_stage (Complete v completion.StoreAnswer) e)
+  call_step (Complete v completion.StoreAnswer) e = search (plain, store_calling, at_stage, arith)
   call_step (Complete v completion.CountDown) e = count_down v e
   call_step (Close slot) e = plain (Close slot) (store_calling p me slot 1 field.Done (p.now.stop slot).is_open) refl (at_stage (Close slot) e)
-  call_step LoadDone e = plain LoadDone refl (elim (at (Slot me field.Done) == 0) as
-      (λ b. is_run (cond b (stop_ends c note.Pending) (stop_goes c LoadResult)).note ≡ false) [ true ↦ refl | false ↦ refl ])
-      (elim (at (Slot me field.Done) == 0) as (λ b. CarriesIn (cond b (stop_ends c note.Pending) (stop_goes c LoadResult)).control f)
-      [ true ↦ at_stage LoadDone e | false ↦ at_stage LoadDone e ])
+  call_step LoadDone e = search (plain, at_stage, arith)
   call_step LoadResult e = plain LoadResult refl refl (at_stage LoadResult e)
   call_step (ReadKey k) e = plain (ReadKey k) refl (elim (is_on (at (Key k))) as (λ b. is_run (Some (cond b note.On note.Off)) ≡ false)
       [ true ↦ refl | false ↦ refl ]) (at_stage (ReadKey k) e)
-  call_step (ReadSite i) e = plain (ReadSite i) refl (elim (is_on (at (Site i))) as (λ b. is_run (Some (cond b note.Jmp note.Nop)) ≡ false)
-      [ true ↦ refl | false ↦ refl ]) (at_stage (ReadSite i) e)
+  call_step (ReadSite i) e = search (plain, at_stage, arith)
   call_step (NudgeKey k up) e = plain (NudgeKey k up) refl (silent (count_after (nudge_of up) (at (Key k)))) (nudged (count_after (nudge_of up) (at (Key k))))
     where
       q : IsQuiet c.visit f
       q = at_stage (NudgeKey k up) e
 
       silent : (o : Option ℕ) → is_run (nudge_on c k (at (Key k)) o).note ≡ false
-      silent None = refl
-      silent (Some new) = elim (xor (is_on (at (Key k))) (is_on new)) as
-          (λ b. is_run (cond b (stop_ends c note.Stop) (stop_goes c (ExchangeKey k (at (Key k)) new))).note ≡ false) [ true ↦ refl | false ↦ refl ]
+      silent o = search arith
 
       nudged : (o : Option ℕ) → CarriesIn (nudge_on c k (at (Key k)) o).control f
       nudged None = q
-      nudged (Some new) = elim (xor (is_on (at (Key k))) (is_on new)) as
-          (λ b. CarriesIn (cond b (stop_ends c note.Stop) (stop_goes c (ExchangeKey k (at (Key k)) new))).control f) [ true ↦ q | false ↦ q ]
+      nudged (Some new) = search (q, arith)
   call_step (ExchangeKey k expected new) e = plain (ExchangeKey k expected new) (nudge_calling u p me k (at (Key k)) new (at (Key k) == expected))
       (elim (at (Key k) == expected) as (λ b. is_run (Some (cond b note.Done note.Lost)) ≡ false) [ true ↦ refl | false ↦ refl ])
       (at_stage (ExchangeKey k expected new) e)

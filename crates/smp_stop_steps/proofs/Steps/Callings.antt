@@ -1,23 +1,12 @@
 -- The functions that run, and who is to store done, after a step.
-use Rattle.smp_stop_steps.proofs.Basics.Bools.{both_true}
-use Rattle.std.proofs.Common.{◌≡◌, ◌≢◌, ℕ, ◌+◌, Bool, true, false, ◌==◌, ◌&&◌, ◌⊎◌, inl, inr, ⊎_elim, cond, List, ne_eqb, sym, subst, refl, ap}
-use Rattle.std.proofs.Common.{◌∙◌, arith, ◌||◌, eqb-true}
-use Rattle.smp_mask.specs.Mask.{has}
+use Rattle.std.proofs.Common.{◌≡◌, ◌≢◌, ℕ, ◌+◌, Bool, true, ◌&&◌, ◌⊎◌, cond, List, ne_eqb, sym, subst, ap, ◌∙◌, arith, eqb-true}
 use Rattle.smp_words.proofs.Puts.{at_test, put_all, put_both, put_other}
-use Rattle.smp_words.specs.Put.{put}
-use Rattle.smp_words.specs.declared.work.Kind.{Kind as KindOf}
-use Rattle.smp_words.specs.declared.work.Kind.TheVariants.{One, Multi, Patch}
-use Rattle.smp_words.specs.declared.work.Work.{Work}
-use Rattle.smp_stop_steps.specs.Callings.{with_answer, IsCalling, answer_in, MayCall, HasCalled, AreClosing, HasCompleted}
-use Rattle.smp_stop_steps.specs.Labels.{Change, Patching, Whole, Patches, patch_answer}
-use Rattle.smp_stop_steps.specs.Present.{RunnerShows}
-use Rattle.smp_stop_steps.specs.Shows.{StopShows}
-use Rattle.smp_stop_steps.specs.Sources.{Source}
-use Rattle.smp_words.specs.declared.word.Word.{Word}
-use Rattle.smp_stop_steps.specs.Seats.{Seat, Free, In, Gives, Alters, Closes, Turn, Rests}
-use Rattle.smp_stop_steps.specs.State.{Setup, StopState, Calling, Idle, Calls, Carries, Present}
-use Rattle.smp_stop_steps.specs.Stop.{Stop, Inside, Last}
-use Rattle.smp_stop_steps.specs.Tells.{calls_at_run, carried, carried_call, is_multi, is_one, may_call}
+use Rattle.smp_stop_steps.specs.{put, Kind as KindOf, One, Patch, Work, with_answer, IsCalling, answer_in, MayCall, HasCalled, AreClosing, HasCompleted}
+use Rattle.smp_stop_steps.specs.{Change, Patching, RunnerShows, StopShows, Source, Word, Seat, Free, In, Gives, Alters, Closes, Turn, Rests, Setup, StopState}
+use Rattle.smp_stop_steps.specs.{Calling, Idle, Inside, Last, carried, carried_call, is_multi, may_call}
+use Rattle.smp_stop_steps.proofs.Basics.Bools.{both_true}
+use Rattle.smp_stop_steps.specs.State.{Present}
+use Rattle.smp_stop_steps.specs.Stop.{Stop}
 use Rattle.smp_stop_steps.proofs.State.Moves.{IsNoPatch}
 
 module _ (seat : ℕ → Seat) (calling : ℕ → Calling) (h : (c : ℕ) → IsCalling c (seat c) (calling c)) (me : ℕ) (next : Seat) where
@@ -31,100 +20,56 @@ module _ (seat : ℕ → Seat) (calling : ℕ → Calling) (h : (c : ℕ) → Is
 
 -- which seats leave no function to run
 pub idle_free : (c : ℕ) (f : Calling) → IsCalling c Free f → f ≡ Idle
-idle_free c Idle k = refl
-idle_free c (Calls call) k = absurd k
-idle_free c (Carries x) k = absurd k
+idle_free c f k = search arith
 
 pub idle_closes : (c s : ℕ) (f : Calling) → IsCalling c (Closes s) f → f ≡ Idle
-idle_closes c s Idle k = refl
-idle_closes c s (Calls call) k = absurd k
-idle_closes c s (Carries x) k = absurd k
+idle_closes c s f k = search arith
 
 pub idle_alters : (c s : ℕ) (w : Work) (count : ℕ) (made rest : List Change) (f : Calling) → IsCalling c (Alters s w count made rest) f → f ≡ Idle
-idle_alters c s w count made rest Idle k = refl
-idle_alters c s w count made rest (Calls call) k = absurd k
-idle_alters c s w count made rest (Carries x) k = absurd k
+idle_alters c s w count made rest f k = search arith
 
 patch_not_multi : (k : KindOf) (b : Bool) → k ≡ Patch → (b && is_multi k) ≡ true → ⊥
-patch_not_multi One b e c = cc
-patch_not_multi Multi b e c = cc
-patch_not_multi Patch true e c = cc
-patch_not_multi Patch false e c = cc
+patch_not_multi k b e c = search arith
 
 -- nor does a CPU that is to patch
 pub idle_patch : (c s : ℕ) (w : Work) (l : ℕ) (t : Turn) (f : Calling) → w.kind ≡ Patch → IsCalling c (In s w 2 l t) f → f ≡ Idle
-idle_patch c s w l t Idle kind k = refl
-idle_patch c s w l t (Calls call) kind k = absurd (⊎_elim (λ (one : w.kind ≡ One). let bad : Patch ≡ One = sym kind ∙ one in cc)
-    (λ (m : (2 ≡ 2) × (l ≡ 3) × (calls_at_run c w ≡ true)). patch_not_multi w.kind (has w.active c) kind m.2) k.1.1)
-idle_patch c s w l t (Carries x) kind k = absurd (let z : ⊥ = omega (arith, k.0) in z)
+idle_patch c s w l t f kind k = search (kind, patch_not_multi, w.kind, w.active, arith)
 
 -- a look, at the phase that it has looked at or at the next
 pub calling_looked : (c s : ℕ) (w : Work) (a l found : ℕ) (f : Calling) → (a ≡ 2 → l ≡ 3 → found ≡ 3) → IsCalling c (In s w a l Rests) f →
     IsCalling c (In s w a found Rests) f
-calling_looked c s w a l found Idle same k = k
-calling_looked c s w a l found (Calls call) same k =
-    (k.0, (refl, ⊎_elim (λ (one : w.kind ≡ One). inl one) (λ (m : (a ≡ 2) × (l ≡ 3) × (calls_at_run c w ≡ true)). inr (m.0, same m.0 m.1, m.2)) k.1.1))
-calling_looked c s w a l found (Carries x) same k = k
+calling_looked c s w a l found f same k = search arith
 
 -- a turn, of a CPU that sets the next phase
 pub calling_turned : (c s : ℕ) (w : Work) (a l : ℕ) (t t' : Turn) (f : Calling) → (t ≡ Rests → ⊥) → IsCalling c (In s w a l t) f → IsCalling c (In s w a l t') f
-calling_turned c s w a l t t' Idle ne k = k
-calling_turned c s w a l t t' (Calls call) ne k = absurd (ne k.1.0)
-calling_turned c s w a l t t' (Carries x) ne k = k
+calling_turned c s w a l t t' f ne k = search arith
 
 -- an acknowledgement of another phase than RUN, in a stop of several CPUs
 pub calling_acked : (c s : ℕ) (w : Work) (a : ℕ) (t : Turn) (f : Calling) → a ≢ 2 → w.kind ≢ One → IsCalling c (In s w a (a + 1) Rests) f →
     IsCalling c (In s w (a + 1) (a + 1) t) f
-calling_acked c s w a t Idle ne many k = λ l. k (omega (arith, l, ne))
-calling_acked c s w a t (Calls call) ne many k = absurd (⊎_elim (λ (one : w.kind ≡ One). many one)
-    (λ (m : (a ≡ 2) × (a + 1 ≡ 3) × (calls_at_run c w ≡ true)). ne m.0) k.1.1)
-calling_acked c s w a t (Carries x) ne many k = (let l = k.0 in omega arith, k.1)
+calling_acked c s w a t f ne many k = search arith
 
 active_multi : (k : KindOf) (b : Bool) → (b && is_multi k) ≡ true → b ≡ true
-active_multi k true e = refl
-active_multi k false e = cc
+active_multi k b e = search arith
 
 -- and one of RUN, which no patch ends
 pub calling_ran : (c s : ℕ) (w : Work) (t : Turn) (f : Calling) → w.kind ≢ One → HasCalled c w f → IsCalling c (In s w 2 3 Rests) f →
     IsCalling c (In s w 3 3 t) (carried_call f)
-calling_ran c s w t Idle many idle k = λ _. idle
-calling_ran c s w t (Calls call) many idle k = (
-  omega arith,
-  ⊎_elim (λ (one : w.kind ≡ One). absurd (many one)) (λ (m : (2 ≡ 2) × (3 ≡ 3) × (calls_at_run c w ≡ true)). active_multi w.kind
-      (has w.active c) m.2) k.1.1,
-)
-calling_ran c s w t (Carries x) many idle k = absurd (let z : ⊥ = omega (arith, k.0) in z)
+calling_ran c s w t f many idle k = search (active_multi, w.active, arith)
 
 -- who patches nothing carries no answer of a patch
 pub carried_alone : (first : ℕ) (x : Patching) (seat : ℕ → Seat) (me : ℕ) (f : Calling) → IsNoPatch (seat me) → RunnerShows first x seat →
     carried me x f ≡ carried_call f
-carried_alone first Whole seat me f idle r = refl
-carried_alone first (Patches c w count made rest) seat me f idle r =
-    ap (λ b. cond b (Carries (patch_answer w count)) (carried_call f)) (ne_eqb c me (λ e. subst IsNoPatch (sym (ap seat e) ∙ r.1.1) idle))
+carried_alone first x seat me f idle r = search (ne_eqb, IsNoPatch, arith)
 
 -- the function that is called with the load of its argument
 pub call_may : (c : ℕ) (w : Work) (a l : ℕ) → may_call c w (Inside a l) ≡ true → MayCall c w a l Rests
-call_may c w a l e = (refl, kind w.kind refl e)
-  where
-    kind : (k : KindOf) → w.kind ≡ k → (is_one k || ((a == 2 && l == 3) && (has w.active c && is_multi k))) ≡ true →
-        (w.kind ≡ One) ⊎ ((a ≡ 2) × (l ≡ 3) × (calls_at_run c w ≡ true))
-    kind One is e = inl is
-    kind Multi is e = let x = both_true (a == 2 && l == 3) (has w.active c && true) e in let y = both_true (a == 2) (l == 3) x.0 in
-        inr (eqb-true a 2 y.0, eqb-true l 3 y.1, ap (λ k. has w.active c && is_multi k) is ∙ x.1)
-    kind Patch is e = let x = both_true (a == 2 && l == 3) (has w.active c && false) e in let y = both_true (has w.active c) false x.1 in let bad : false ≡
-        true = y.1 in cc
+call_may c w a l e = search (w.kind, w.active, both_true, eqb-true, arith)
 
 -- the answer that is stored, by a CPU that is through
 pub calling_given : (c s : ℕ) (w : Work) (a l : ℕ) (v : ℕ) (f : Calling) → v ≢ 0 → (a ≡ 4) ⊎ (w.kind ≡ One) → v ≡ answer_in f →
     IsCalling c (In s w a l Rests) f → IsCalling c (Gives s w a v) f
-calling_given c s w a l v Idle some through is k = absurd (some is)
-calling_given c s w a l v (Calls call) some through is k = (
-  k.0,
-  ⊎_elim (λ (e : a ≡ 4). ⊎_elim (λ (one : w.kind ≡ One). one)
-      (λ (m : (a ≡ 2) × (l ≡ 3) × (calls_at_run c w ≡ true)). absurd (let z : ⊥ = omega (arith, e, m.0) in z)) k.1.1) (λ (one : w.kind ≡ One). one) through,
-  sym is,
-)
-calling_given c s w a l v (Carries x) some through is k = sym is
+calling_given c s w a l v f some through is k = search arith
 
 -- a CPU at this seat has no done to store
 abbrev pub IsNotClosing : Seat → Type 0
@@ -152,9 +97,7 @@ module _ (n : Present) (seat : ℕ → Seat) (me : ℕ) (next : Seat) (h : AreCl
 
 -- until a completion tells it, any answer may be put for that of the function of a CPU in a stop
 answered_in : (c s : ℕ) (w : Work) (a l : ℕ) (t : Turn) (x : ℕ) (f : Calling) → IsCalling c (In s w a l t) f → IsCalling c (In s w a l t) (with_answer x f)
-answered_in c s w a l t x Idle k = k
-answered_in c s w a l t x (Calls call) k = k
-answered_in c s w a l t x (Carries y) k = k
+answered_in c s w a l t x f k = search arith
 
 pub answer_replaced : (u : Setup) (p : StopState) (at : Word → ℕ) (seat : ℕ → Seat) (source : ℕ → Source) → StopShows u p at seat source →
     (me s : ℕ) (w : Work) (a l : ℕ) (t : Turn) (x : ℕ) → seat me ≡ In s w a l t →
@@ -163,10 +106,7 @@ answer_replaced u p at seat source h me s w a l t x is = record {
   setup = h.setup;
   present = h.present;
   gate = h.gate;
-  callings = put_all (λ c y. IsCalling c (seat c) y) p.calling me (with_answer x (p.calling me))
-      (subst (λ y. IsCalling me y (with_answer x (p.calling me))) (sym is) (answered_in me s w a l t x (p.calling me)
-      (subst (λ y. IsCalling me y (p.calling me)) is (h.callings me))))
-      (λ c ne. h.callings c);
+  callings = search (put_all, answered_in, h.callings, arith);
   closing = h.closing;
   sources = h.sources;
   past = h.past;

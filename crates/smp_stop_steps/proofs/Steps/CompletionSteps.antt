@@ -1,42 +1,26 @@
 -- The steps at the ends of a stop for one CPU, by its stage; and all steps.
+use Rattle.std.proofs.Common.{◌≡◌, ℕ, ◌-◌, ◌<◌, Bool, true, false, eq-eqb, eqb-true, ◌==◌, cond, sym, subst, refl, ap, ◌∙◌, ◌⊎◌, inl, inr, arith, ⊎_elim}
+use Rattle.std.proofs.Common.{Option, Some, None, bit_and}
+use Rattle.smp_words.specs.declared.field.Field.TheVariants.{Roll, Todo}
+use Rattle.smp_stop_steps.specs.{IsCalling, answer_in, put, put_word, one, Closes, Free, Gives, In, Rests, Seat, irq_of, StopShows, IsLoaded, IsThroughAll}
+use Rattle.smp_stop_steps.specs.{OwnsIf, SitsAtRest, Source, StopControlValue, all_but, stop_ends, stop_goes, Setup, StopState, Calling, StopStep, at_then}
+use Rattle.smp_stop_steps.specs.{state_after, Advance, Begin, Close, Complete, Enter, EnterActive, EnterKind, EnterMask, LoadDone, LoadResult, OpenGate}
+use Rattle.smp_stop_steps.specs.{TakeGate, NudgeKey, ExchangeKey, StopStage, Visit, One, Work, Gate, Slot, Word, has, CarriesIn, CarriesAt, IsEnding}
 use Rattle.smp_stop_steps.proofs.Steps.Same.{word_same, moved_seat, still}
-use Rattle.smp_stop_steps.specs.Callings.{IsCalling, answer_in}
-use Rattle.std.proofs.Common.{◌≡◌, ℕ, ◌-◌, ◌<◌, Bool, true, false, eq-eqb, eqb-true, ◌==◌, cond, sym, subst, refl, ap, ◌∙◌, ◌⊎◌, inl, inr, arith}
-use Rattle.std.proofs.Common.{⊎_elim, Option, Some, None, bit_and}
 use Rattle.smp_stop_steps.proofs.Steps.AckSteps.{acknowledge, raise, refill}
 use Rattle.smp_stop_steps.proofs.Basics.Bits.{clear_none, clear_other, clear_same}
 use Rattle.smp_stop_steps.proofs.Steps.Completions.{done_stored, on_now, result_stored, roll_cleared, roll_stale, todo_subtracted, todo_subtracted_answered}
-use Rattle.smp_stop_steps.proofs.Steps.Facts.{high_none, todo_bounds, todo_bounds_answered}
+use Rattle.smp_stop_steps.proofs.Steps.Facts.{high_none, todo_bounds, todo_bounds_answered, arg_loaded, work_words}
 use Rattle.smp_stop_steps.proofs.Steps.RoundSteps.{ack_small, load_arg, load_entry, load_func, load_key, look, store_change}
-use Rattle.smp_stop_steps.proofs.Steps.StageSteps.{begin_step, enter_active, enter_kind, enter_mask, less_one, load_done, load_result, open_gate}
-use Rattle.smp_stop_steps.proofs.Steps.StageSteps.{read_key, read_site, take_gate, nudge_key, exchange_key}
-use Rattle.smp_words.specs.Put.{put, put_word}
-use Rattle.smp_stop_steps.specs.Counts.{one}
-use Rattle.smp_stop_steps.specs.Seats.{Closes, Free, Gives, In, Rests, Seat, irq_of}
-use Rattle.smp_stop_steps.specs.Shows.{StopShows}
-use Rattle.smp_stop_steps.specs.Sits.{IsLoaded, IsThroughAll, OwnsIf, Sits, SitsAtRest}
-use Rattle.smp_stop_steps.specs.Sources.{Source}
-use Rattle.smp_stop_steps.specs.Stages.{StopControlValue, all_but, stop_ends, stop_goes}
-use Rattle.smp_stop_steps.specs.State.{Setup, StopState, Calling, Calls, Carries, Idle}
-use Rattle.smp_stop_steps.specs.Steps.{StopStep, at_then, state_after}
-use Rattle.smp_words.specs.declared.seen.Note.TheVariants as note
-use Rattle.smp_words.specs.declared.field.Field.TheVariants.{Roll, Todo}
-use Rattle.smp_stop_steps.specs.declared.stage.CompletionStage.TheVariants as completion
-use Rattle.smp_stop_steps.specs.declared.stage.RoundStage.TheVariants as round
-use Rattle.smp_stop_steps.specs.declared.stage.StopStage.TheVariants.{Advance, Begin, Close, Complete, Enter, EnterActive, EnterKind, EnterMask}
-use Rattle.smp_stop_steps.specs.declared.stage.StopStage.TheVariants.{LoadDone, LoadResult, OpenGate, ReadKey, ReadSite, TakeGate, NudgeKey}
-use Rattle.smp_stop_steps.specs.declared.stage.StopStage.TheVariants.{ExchangeKey}
-use Rattle.smp_stop_steps.specs.declared.stage.StopStage.{StopStage}
-use Rattle.smp_stop_steps.specs.declared.stage.Visit.{Visit}
-use Rattle.smp_words.specs.declared.work.Kind.TheVariants.{One}
-use Rattle.smp_words.specs.declared.work.Work.{Work}
-use Rattle.smp_words.specs.declared.word.Word.TheVariants.{Gate, Slot}
-use Rattle.smp_words.specs.declared.word.Word.{Word}
-use Rattle.smp_mask.specs.Mask.{has}
-use Rattle.smp_stop_steps.specs.Carries.{CarriesIn, CarriesAt, IsEnding}
+use Rattle.smp_stop_steps.proofs.Steps.StageSteps.{begin_step, enter_active, enter_kind, enter_mask, less_one, load_done, load_result, open_gate, read_key}
+use Rattle.smp_stop_steps.proofs.Steps.StageSteps.{read_site, take_gate, nudge_key, exchange_key}
+use Rattle.smp_stop_steps.specs.Sits.{Sits}
+use Rattle.smp_stop_steps.specs.declared.stage.StopStage.TheVariants.{ReadKey, ReadSite}
 use Rattle.smp_stop_steps.proofs.Steps.Callings.{calling_given}
-use Rattle.smp_stop_steps.proofs.Steps.Facts.{arg_loaded, work_words}
 use Rattle.smp_stop_steps.proofs.Steps.Stages.{at_seat, at_source}
+use Rattle.smp_stop_steps.specs.note
+use Rattle.smp_stop_steps.specs.completion
+use Rattle.smp_stop_steps.specs.round
 
 module _ (u : Setup) (p : StopState) (at : Word → ℕ) (seat : ℕ → Seat) (source : ℕ → Source) (h : StopShows u p at seat source) (c : StopControlValue) (me : ℕ)
     (s : Sits u me (at Gate) c (seat me) (source me)) where
@@ -73,20 +57,9 @@ module _ (u : Setup) (p : StopState) (at : Word → ℕ) (seat : ℕ → Seat) (
   close : (slot : ℕ) → c.stage ≡ Some (Close slot) → StopStep u p at seat source c me (Close slot)
   close slot e =
       let x = at_seat s (Close slot) e in
-      record {
-        seat_after = Free;
-        source_after = source me;
-        shows = moved_seat u seat source me (state_after u p at c me (Close slot)) (at_then u at c me (Close slot)) Free (done_stored u p at seat source h
-            slot me 0 x.1);
-        sits = record {
-          below = s.below;
-          irq = s.irq ∙ ap irq_of x.1;
-          seat = subst (λ x. SitsAtRest x Free) (sym x.0) refl;
-          source = at_source s (Close slot)
-              e;
-          gate_held = tt;
-        };
-      }
+      let shows' = moved_seat u seat source me (state_after u p at c me (Close slot)) (at_then u at c me (Close slot)) Free (done_stored u p at seat source h
+      slot me 0 x.1) in
+      search (shows', at_source, arith)
 
   module _ (v : Visit) where
     one_func : (answer : ℕ) → c.stage ≡ Some (Complete v (completion.LoadFunc answer)) → StopStep u p at seat source c me
@@ -97,27 +70,17 @@ module _ (u : Setup) (p : StopState) (at : Word → ℕ) (seat : ℕ → Seat) (
           seat_after = seat me;
           source_after = source me;
           shows = still u seat source me p at h;
-          sits = record {
-            below = s.below;
-            irq = s.irq;
-            seat = (x.0, (x.1.0, (x.1.1.0, x.1.1.1, x.1.1.2, (work_words u p at seat source h v.slot me x.1.1.0 v.acked v.acked Rests x.1.1.2).func)));
-            source = at_source s (Complete v (completion.LoadFunc answer)) e;
-            gate_held = tt;
-          };
+          sits = search (work_words, at_source, arith);
         }
 
     one_arg : (answer func : ℕ) → c.stage ≡ Some (Complete v (completion.LoadArg answer func)) → StopStep u p at seat source c me
         (Complete v (completion.LoadArg answer func))
     one_arg answer func e =
         let x = at_seat s (Complete v (completion.LoadArg answer func)) e in
-        record {
-          seat_after = seat me;
-          source_after = source me;
-          shows = still u seat source me (state_after u p at c me (Complete v (completion.LoadArg answer func))) at (arg_loaded u p at seat source h v.slot
-              me x.1.1.0
-              v.acked v.acked Rests x.1.1.2 answer refl);
-          sits = go x.1.0 x.1.1.0 x.1.1.1 x.1.1.2 (at_source s (Complete v (completion.LoadArg answer func)) e) (answer == 0) refl;
-        }
+        let shows' = still u seat source me (state_after u p at c me (Complete v (completion.LoadArg answer func))) at (arg_loaded u p at seat source h v.slot
+        me x.1.1.0 v.acked v.acked Rests x.1.1.2 answer refl) in
+        let sits' = go x.1.0 x.1.1.0 x.1.1.1 x.1.1.2 (at_source s (Complete v (completion.LoadArg answer func)) e) (answer == 0) refl in
+        search (shows', sits', arith)
       where
         go : v.kind ≡ One → (work : Work) → IsLoaded v work → seat me ≡ In v.slot work v.acked v.acked Rests → OwnsIf c.is_open (source me) → (b : Bool) →
             (answer == 0) ≡ b →
@@ -125,44 +88,14 @@ module _ (u : Setup) (p : StopState) (at : Word → ℕ) (seat : ℕ → Seat) (
               stage = Some (Complete (record v { answer = answer }) (cond b completion.CountDown completion.StoreAnswer));
               visit = Some (record v { answer = answer });
             }) (seat me) (source me)
-        go one work loaded is y true z = record {
-          below = s.below;
-          irq = s.irq;
-          seat = (refl, (work, inl (eqb-true answer 0 z, record { kind = loaded.kind; mask = loaded.mask; active = loaded.active }, inr one, is)));
-          source = y;
-          gate_held = tt;
-        }
-        go one work loaded is y false z = record {
-          below = s.below;
-          irq = s.irq;
-          seat = (
-            refl,
-            (
-              (λ none. let bad : true ≡ false = sym (eq-eqb answer 0 none) ∙ z in cc),
-              inr one,
-              (
-                work,
-                record {
-                  kind = loaded.kind;
-                  mask =
-                      loaded.mask;
-                  active = loaded.active;
-                },
-                is,
-              ),
-            ),
-          );
-          source = y;
-          gate_held = tt;
-        }
+        go one work loaded is y true z = search (eqb-true, arith)
+        go one work loaded is y false z = search (eq-eqb, arith)
 
     through_of : (work : Work) → IsLoaded v work → IsThroughAll v → (v.acked ≡ 4) ⊎ (work.kind ≡ One)
     through_of work loaded t = ⊎_elim (λ (x : v.acked ≡ 4). inl x) (λ (x : v.kind ≡ One). inr (sym loaded.kind ∙ x)) t
 
     ends : (f : Calling) → IsEnding v f → v.answer ≡ answer_in f
-    ends Idle is = is.1
-    ends (Calls call) is = is
-    ends (Carries x) is = is
+    ends f is = search arith
 
     store_answer : CarriesIn c (p.calling me) → c.stage ≡ Some (Complete v completion.StoreAnswer) → StopStep u p at seat source c me
         (Complete v completion.StoreAnswer)
@@ -182,20 +115,13 @@ module _ (u : Setup) (p : StopState) (at : Word → ℕ) (seat : ℕ → Seat) (
               (calling_given me v.slot work v.acked v.acked v.answer (p.calling me) some through
               (ends (p.calling me) (subst (λ (st : Option StopStage). CarriesAt c.visit st (p.calling me)) e k))
               (subst (λ x. IsCalling me x (p.calling me)) is (h.callings me))));
-          sits = record {
-            below = s.below;
-            irq = s.irq ∙ on_now u p at seat source h v.slot me work v.acked v.acked is through;
-            seat = (x.0, (work, inr refl));
-            source = at_source s (Complete v completion.StoreAnswer) e;
-            gate_held = tt;
-          };
+          sits = search (on_now, at_source, arith);
         }
 
     counted_sits : OwnsIf c.is_open (source me) → c.interrupts ≡ true → (b : Bool) →
         Sits u me (at Gate) (cond b (stop_goes (record c { visit = None }) (Close v.slot)) (stop_ends (record c { visit = None }) note.Finished)).control
         (cond b (Closes v.slot) Free) (source me)
-    counted_sits y on true = record { below = s.below; irq = on; seat = (refl, refl); source = y; gate_held = tt }
-    counted_sits y on false = record { below = s.below; irq = on; seat = refl; source = y; gate_held = tt }
+    counted_sits y on b = search arith
 
     count_down : c.stage ≡ Some (Complete v completion.CountDown) → StopStep u p at seat source c me (Complete v completion.CountDown)
     count_down e =
@@ -211,29 +137,21 @@ module _ (u : Setup) (p : StopState) (at : Word → ℕ) (seat : ℕ → Seat) (
             let next = cond (found == 1) (Closes v.slot) Free in
             let bounds = todo_bounds u p at seat source h v.slot me work v.acked v.acked Rests is in
             let less = less_one found bounds.0 (ack_small found u.cpus h.setup.few bounds.1) in
-            record {
-              seat_after = next;
-              source_after = source me;
-              shows = subst (λ n. StopShows u (state_after u p at c me (Complete v completion.CountDown)) (put_word at (Slot v.slot Todo) n)
-                  (put seat me next) (put source me (source me))) (sym less)
-                  (moved_seat u seat source me (state_after u p at c me (Complete v completion.CountDown)) (put_word at (Slot v.slot Todo) (found - 1)) next
-                  (todo_subtracted u p at seat source h v.slot me work v.acked v.acked 0 is through));
-              sits = counted_sits y (s.irq ∙ on_now u p at seat source h v.slot me work v.acked v.acked is through) (found == 1);
-            }
+            let shows' = subst (λ n. StopShows u (state_after u p at c me (Complete v completion.CountDown)) (put_word at (Slot v.slot Todo) n) (put seat me
+            next) (put source me (source me))) (sym less) (moved_seat u seat source me (state_after u p at c me (Complete v completion.CountDown))
+            (put_word at (Slot v.slot Todo) (found - 1)) next (todo_subtracted u p at seat source h v.slot me work v.acked v.acked 0 is through)) in
+            let sits' = counted_sits y (s.irq ∙ on_now u p at seat source h v.slot me work v.acked v.acked is through) (found == 1) in
+            search (shows', sits', arith)
         either work (inr is) y =
             let found = at (Slot v.slot Todo) in
             let next = cond (found == 1) (Closes v.slot) Free in
             let bounds = todo_bounds_answered u p at seat source h v.slot me work v.acked v.answer is in
             let less = less_one found bounds.0 (ack_small found u.cpus h.setup.few bounds.1) in
-            record {
-              seat_after = next;
-              source_after = source me;
-              shows = subst (λ n. StopShows u (state_after u p at c me (Complete v completion.CountDown)) (put_word at (Slot v.slot Todo) n)
-                  (put seat me next) (put source me (source me))) (sym less)
-                  (moved_seat u seat source me (state_after u p at c me (Complete v completion.CountDown)) (put_word at (Slot v.slot Todo) (found - 1)) next
-                  (todo_subtracted_answered u p at seat source h v.slot me work v.acked v.answer 0 is));
-              sits = counted_sits y (s.irq ∙ ap irq_of is) (found == 1);
-            }
+            let shows' = subst (λ n. StopShows u (state_after u p at c me (Complete v completion.CountDown)) (put_word at (Slot v.slot Todo) n) (put seat me
+            next) (put source me (source me))) (sym less) (moved_seat u seat source me (state_after u p at c me (Complete v completion.CountDown))
+            (put_word at (Slot v.slot Todo) (found - 1)) next (todo_subtracted_answered u p at seat source h v.slot me work v.acked v.answer 0 is)) in
+            let sits' = counted_sits y (s.irq ∙ ap irq_of is) (found == 1) in
+            search (shows', sits', arith)
 
   -- any step of any command
   pub stop_step_shown : CarriesIn c (p.calling me) → (stage : StopStage) → c.stage ≡ Some stage → StopStep u p at seat source c me stage

@@ -1,50 +1,32 @@
 -- The kinds of step at the ends of a stop for one CPU: it enters, stores its answer, counts itself, and stores done.
-use Rattle.smp_stop_steps.proofs.Basics.Bools.{or_true}
-use Rattle.smp_stop_steps.specs.Callings.{IsCalling, AreClosing, HasCompleted}
-use Rattle.smp_stop_steps.proofs.Steps.Callings.{calling_same, IsNotClosing, idle_free, closing_kept, idle_closes, closing_seat, calling_next}
-use Rattle.smp_stop_steps.specs.Labels.{StandsSet}
-use Rattle.std.proofs.Common.{◌≡◌, ◌≢◌, ℕ, ◌+◌, ◌-◌, ◌≤◌, Bool, true, false, nat_lt, eq-eqb, ◌==◌, ◌||◌, cond, sym, subst, refl, ap, ◌∙◌, ◌⊎◌, inl}
-use Rattle.std.proofs.Common.{inr, arith, ⊎_elim, Option, Some, None, List, [], ◌∷◌, ◌++◌}
+use Rattle.std.proofs.Common.{◌≡◌, ◌≢◌, ℕ, ◌+◌, ◌-◌, ◌≤◌, Bool, true, false, nat_lt, eq-eqb, ◌==◌, cond, sym, subst, refl, ap, ◌∙◌, ◌⊎◌, inl, inr, arith}
+use Rattle.std.proofs.Common.{⊎_elim, Option, Some, None, List, [], ◌∷◌, ◌++◌}
 use Rattle.smp_words.proofs.Puts.{at_test, put_all, put_same, put_other}
+use Rattle.smp_words.specs.declared.field.Field.TheVariants.{Done, Result, Roll, Todo}
+use Rattle.smp_stop_steps.specs.{IsCalling, AreClosing, HasCompleted, StandsSet, put, put_word, one, unfinished, IsAnswer, HasPast, answer_now, OwnsKey}
+use Rattle.smp_stop_steps.specs.{Closes, Free, Gives, In, Rests, Seat, Stands, irq_of, turn_of, StopShows, DoneShows, IsDone, IsLevel, IsPhaseOf, Source}
+use Rattle.smp_stop_steps.specs.{Setup, StopState, Idle, Answering, Called, Completed, Ended, Inside, Outside, Standing, acked, completed, ended, is_inside}
+use Rattle.smp_stop_steps.specs.{is_of, stands, Last, answered_by, completes, completes_with, enters, stored_open, stored_shut, told, with_stop, called_more}
+use Rattle.smp_stop_steps.specs.{Field, One, Patch, Kind as KindOf, Work, Key, Slot, Word, has}
+use Rattle.smp_stop_steps.proofs.Basics.Bools.{or_true}
+use Rattle.smp_stop_steps.proofs.Steps.Callings.{calling_same, IsNotClosing, idle_free, closing_kept, idle_closes, closing_seat, calling_next}
 use Rattle.smp_stop_steps.proofs.Basics.Counts.{sum_zero}
 use Rattle.smp_stop_steps.proofs.State.Ends.{answer_of_it, answer_unfinished}
 use Rattle.smp_stop_steps.proofs.State.Entered.{step_answers, step_completes, step_enters, step_finishes}
-use Rattle.smp_stop_steps.proofs.Steps.Kept.{MovesInside, StaysOpen, after, moves_early, moves_given, open_step, open_step_with, other_slots}
-use Rattle.smp_stop_steps.proofs.Steps.Kept.{owns_kept, past_answers}
+use Rattle.smp_stop_steps.proofs.Steps.Kept.{MovesInside, StaysOpen, after, moves_early, moves_given, open_step, open_step_with, other_slots, owns_kept}
+use Rattle.smp_stop_steps.proofs.Steps.Kept.{past_answers}
 use Rattle.smp_stop_steps.proofs.State.Moves.{IsNoPatch}
 use Rattle.smp_stop_steps.proofs.State.Pasts.{past_completes}
 use Rattle.smp_stop_steps.proofs.State.Phases.{is_open_inside, keeps_inside}
 use Rattle.smp_stop_steps.proofs.State.Raises.{in_machine}
 use Rattle.smp_stop_steps.proofs.Steps.Rounds.{acked_most_phase}
 use Rattle.smp_stop_steps.proofs.State.Works.{called_is}
-use Rattle.smp_words.specs.Put.{put, put_word}
-use Rattle.smp_stop_steps.specs.Counts.{one, unfinished}
-use Rattle.smp_stop_steps.specs.Laws.{IsAnswer}
-use Rattle.smp_stop_steps.specs.Past.{HasPast, answer_now}
-use Rattle.smp_stop_steps.specs.Present.{OwnsKey}
-use Rattle.smp_stop_steps.specs.Seats.{Closes, Free, Gives, In, Rests, Seat, Stands, irq_of, turn_of}
-use Rattle.smp_stop_steps.specs.Shows.{StopShows}
-use Rattle.smp_stop_steps.specs.Slots.{DoneShows, IsDone, IsLevel, IsPhaseOf}
-use Rattle.smp_stop_steps.specs.Sources.{Source}
-use Rattle.smp_stop_steps.specs.State.{Setup, StopState, Idle}
-use Rattle.smp_stop_steps.specs.Stop.{Answering, Called, Completed, Ended, Inside, Outside, Standing, acked}
-use Rattle.smp_stop_steps.specs.Stop.{completed, ended, is_inside, is_of, stands, Last, Stop}
-use Rattle.smp_stop_steps.specs.Tells.{answered_by, completes, completes_with, enters, stored_open, stored_shut, told, with_stop, called_more}
-use Rattle.smp_words.specs.declared.seen.Act.TheVariants as act
-use Rattle.smp_words.specs.declared.field.Field.TheVariants.{Done, Result, Roll, Todo}
-use Rattle.smp_words.specs.declared.field.Field.{Field}
-use Rattle.smp_words.specs.declared.work.Kind.TheVariants.{Multi, One, Patch}
-use Rattle.smp_words.specs.declared.work.Kind.{Kind as KindOf}
-use Rattle.smp_words.specs.declared.work.Work.{Work}
-use Rattle.smp_words.specs.declared.word.Word.TheVariants.{Key, Slot}
-use Rattle.smp_words.specs.declared.word.Word.{Word}
-use Rattle.smp_mask.specs.Mask.{has}
+use Rattle.smp_stop_steps.specs.Stop.{Stop}
 use Rattle.smp_stop_steps.proofs.State.Acknowledged.{rests_me}
+use Rattle.smp_stop_steps.specs.act
 
 pub one_phase : (k : KindOf) (p : ℕ) → k ≡ One → IsPhaseOf k p → p ≡ 0
-one_phase One p e h = h
-one_phase Multi p e h = cc
-one_phase Patch p e h = cc
+one_phase k p e h = search arith
 
 module _ (u : Setup) (p : StopState) (at : Word → ℕ) (seat : ℕ → Seat) (source : ℕ → Source) (h : StopShows u p at seat source) (s me : ℕ) where
   abbrev w : Field → ℕ
@@ -62,40 +44,27 @@ module _ (u : Setup) (p : StopState) (at : Word → ℕ) (seat : ℕ → Seat) (
       let called : (p.now.stop s).standing me ≡ Called = called_is ((p.now.stop s).standing me) (sym ((h.present.slots s).roll me) ∙ found) in
       let open_ = is_open_inside u.cpus (p.now.stop s) w (h.present.slots s) me Called called refl in
       let k = keeps_inside u.cpus (p.now.stop s) w (h.present.slots s) me Called called in
-      let stays : StaysOpen (p.now.stop s) stop' = record {
-        was = open_;
-        now = open_;
-        work = refl;
-        end = λ e. e;
-        given = put_all (λ c y. answer_now y ≡ answer_now ((p.now.stop s).standing c)) (p.now.stop s).standing me to (sym (ap answer_now called))
-            (λ c ne. refl);
-      } in
+      let stays : StaysOpen (p.now.stop s) stop' = search (open_, put_all, arith) in
       let at' = put_word at (Slot s Roll) n in
-      subst (λ b. StopShows u (cond b (record p { now = enters p.now me s }) p) at' (put seat me (In s (p.now.stop s).work 0 0 Rests)) source) (sym found)
-      (open_step u p at seat source h s stop' inside' p.now.irq p.now.readings p.now.patching at' (put seat me (In s (p.now.stop s).work 0 0 Rests)) p.looks
-      p.calls p.calling stays
-      refl (λ k. refl) (other_slots at s Roll n)
-      (own k.1)
-      (step_enters u p.now at seat h.present s me n is found clears others)
-      (calling_same seat p.calling h.callings me (In s (p.now.stop s).work 0 0 Rests)
-      (subst (IsCalling me (In s (p.now.stop s).work 0 0 Rests)) (sym (idle_free me (p.calling me) (subst (λ x. IsCalling me x (p.calling me)) is
-      (h.callings me)))) (λ l. absurd (let z : ⊥ = omega (arith, l) in z))))
-      (closing_kept p.now seat me (In s (p.now.stop s).work 0 0 Rests) h.closing (subst IsNotClosing (sym is) tt) s stop'
-      (λ c ne. put_other (p.now.stop s).standing me to c ne) refl refl))
+      let shown' = open_step u p at seat source h s stop' inside' p.now.irq p.now.readings p.now.patching at' (put seat me (In s (p.now.stop s).work 0 0
+      Rests)) p.looks p.calls p.calling stays refl (λ k. refl) (other_slots at s Roll n) (own k.1) (step_enters u p.now at seat h.present s me n is found
+      clears others) (calling_same seat p.calling h.callings me (In s (p.now.stop s).work 0 0 Rests) (subst (IsCalling me (In s (p.now.stop s).work 0 0
+      Rests)) (sym (idle_free me (p.calling me) (subst (λ x. IsCalling me x (p.calling me)) is (h.callings me)))) (λ l. absurd (let z : ⊥ = omega (
+        arith,
+        l,
+      ) in z)))) (closing_kept p.now seat me (In s (p.now.stop s).work 0 0 Rests) h.closing (subst IsNotClosing (sym is) tt) s stop' (λ c ne. put_other
+      (p.now.stop s).standing me to c ne) refl refl) in
+      search (found, shown', arith)
     where
       low : IsLevel (p.now.stop s).phase 0 → (c : ℕ) → acked ((p.now.stop s).standing c) ≤ 1
-      low level c = let m = acked_most_phase u.cpus (p.now.stop s).phase c ((p.now.stop s).standing c) ((h.present.slots s).keeps c) in
-          ⊎_elim (λ (e : 0 ≡ (p.now.stop s).phase). omega arith) (λ (e : 0 + 1 ≡ (p.now.stop s).phase). omega arith) level
+      low level c = search (acked_most_phase, h.present.slots, arith)
 
       early : IsLevel (p.now.stop s).phase 0 → (c : ℕ) → acked (put (p.now.stop s).standing me (Inside 0 0) c) ≤ 1
       early level = put_all (λ c y. acked y ≤ 1) (p.now.stop s).standing me (Inside 0 0) (omega arith) (λ c ne. low level c)
 
       own : IsLevel (p.now.stop s).phase 0 → (j : ℕ) → OwnsKey u.first (after p.now s (stands (p.now.stop s) me (Inside 0 0)) (put p.now.inside me (Some s))
           p.now.irq p.now.readings p.now.patching) (λ k. at (Key k)) j
-      own level j =
-          at_test j s (λ b. let y = cond b (stands (p.now.stop s) me (Inside 0 0)) (p.now.stop j) in
-          y.is_open ≡ true → y.work.kind ≡ Patch → is_inside (y.standing j) ≡ true → 3 ≤ acked (y.standing u.first) → StandsSet y.work (at (Key y.work.func)))
-          (λ e op kind in_ late. let m = early level u.first in absurd (omega arith)) (λ ne. h.owns j)
+      own level j = search (at_test, early, h.owns, arith)
 
   -- fetch_and of the roll, that did not find it: E7
   pub roll_stale : (new : Option ℕ) (answer : ℕ) → has (at (Slot s Roll)) me ≡ false →
@@ -116,16 +85,7 @@ module _ (u : Setup) (p : StopState) (at : Word → ℕ) (seat : ℕ → Seat) (
     is_done = ⊎_elim (λ (e : a ≡ 4). inl e) (λ (e : job.kind ≡ One). inr (phase_one e)) through
 
     pub on_now : irq_of (seat me) ≡ true
-    on_now = ap irq_of is ∙ ⊎_elim (λ (e : a ≡ 4). ap (λ b. nat_lt l 2 || b) (eq-eqb a 4 e) ∙ or_true (nat_lt l 2)) (λ (e : job.kind ≡ One). early
-        (phase_one e)) through
-      where
-        early : (p.now.stop s).phase ≡ 0 → nat_lt l 2 || a == 4 ≡ true
-        early z =
-            let k = keeps_inside u.cpus (p.now.stop s) w (h.present.slots s) me (Inside a l) st.1 in
-            let none : a ≡ 0 = ⊎_elim (λ (e : a ≡ (p.now.stop s).phase). omega arith) (λ (e : a + 1 ≡ (p.now.stop s).phase). absurd (omega arith)) k.1 in
-            let zero_ : l ≡ 0 = ⊎_elim (λ (e : l ≡ a). omega arith) (λ (e : (l ≡ a + 1) × ((p.now.stop s).phase ≡ l)). let x = e.1 in let y = e.0 in
-            absurd (omega arith)) k.2 in
-            ap (λ n. nat_lt n 2 || a == 4) zero_
+    on_now = search (nat_lt, eq-eqb, or_true, phase_one, keeps_inside, h.present.slots, arith)
 
     -- store of an answer that is not 0
     pub result_stored : (v answer : ℕ) → v ≢ 0 → IsCalling me (Gives s job a v) (p.calling me) →
@@ -134,32 +94,15 @@ module _ (u : Setup) (p : StopState) (at : Word → ℕ) (seat : ℕ → Seat) (
         let to = Answering a v in
         let stop' = stands (p.now.stop s) me to in
         let at' = put_word at (Slot s Result) v in
-        let inside : MovesInside ((p.now.stop s).standing me) to = record {
-          inside = λ _. ap is_inside st.1;
-          late =
-              λ x. subst (λ (y : Standing). 3 ≤ acked y) (sym st.1) x;
-          given = sym (ap answer_now st.1);
-        } in
-        let stays : StaysOpen (p.now.stop s) stop' = record {
-          was = open_;
-          now = open_;
-          work = refl;
-          end = λ e. e;
-          given = moves_given u.first s me
-              (p.now.stop s) to inside;
-        } in
-        subst (λ b. StopShows u (cond b (stored_open p me s Result v) (stored_shut p s Result v)) at' (put seat me (Gives s job a v)) source) (sym open_)
-        (subst (λ (x : Standing). StopShows u (record p { now = with_stop p.now s (stands (p.now.stop s) me (answered_by x v)) }) at'
-        (put seat me (Gives s job a v)) source) (sym st.1)
-        (open_step u p at seat source h s stop' p.now.inside p.now.irq p.now.readings p.now.patching at' (put seat me (Gives s job a v)) p.looks p.calls
-        p.calling stays
-        refl (λ k. refl) (other_slots at s Result v)
-        (owns_kept u.first p.now (λ k. at (Key k)) s stop' p.now.inside p.now.irq p.now.readings p.now.patching stays (moves_early u.first s me
-        (p.now.stop s) to inside stop' refl) h.owns)
-        (step_answers u p.now at seat h.present s me job a l v is some is_done (rests_me me (p.now.stop s).raising st.2) on_now)
-        (calling_same seat p.calling h.callings me (Gives s job a v) calls)
-        (closing_kept p.now seat me (Gives s job a v) h.closing (subst IsNotClosing (sym is) tt) s stop' (λ c ne. put_other (p.now.stop s).standing me to c
-        ne) refl refl)))
+        let inside : MovesInside ((p.now.stop s).standing me) to = search arith in
+        let stays : StaysOpen (p.now.stop s) stop' = search (open_, moves_given, arith) in
+        let shown' = open_step u p at seat source h s stop' p.now.inside p.now.irq p.now.readings p.now.patching at' (put seat me (Gives s job a v)) p.looks
+        p.calls p.calling stays refl (λ k. refl) (other_slots at s Result v) (owns_kept u.first p.now (λ k. at (Key k)) s stop' p.now.inside p.now.irq
+        p.now.readings p.now.patching stays (moves_early u.first s me (p.now.stop s) to inside stop' refl) h.owns) (step_answers u p.now at seat h.present
+        s me job a l v is some is_done (rests_me me (p.now.stop s).raising st.2) on_now) (calling_same seat p.calling h.callings me (Gives s job a v)
+        calls) (closing_kept p.now seat me (Gives s job a v) h.closing (subst IsNotClosing (sym is) tt) s stop' (λ c ne. put_other (p.now.stop s).standing
+        me to c ne) refl refl) in
+        search (open_, st.1, shown', arith)
 
   -- fetch_sub of todo, of whoever is ready to be counted
   completes_shown : (job : Work) (a v : ℕ) → p.now.inside me ≡ Some s → IsAnswer ((p.now.stop s).standing me) a v → turn_of (p.now.stop s).raising me ≡
@@ -202,8 +145,7 @@ module _ (u : Setup) (p : StopState) (at : Word → ℕ) (seat : ℕ → Seat) (
       (last found)
     where
       ends : (b : Bool) → IsCalling me (cond b (Closes s) Free) Idle
-      ends true = tt
-      ends false = tt
+      ends b = search arith
 
       -- the last of all is to store done
       last : (found : ℕ) → AreClosing (record (p.now) {
@@ -238,11 +180,7 @@ module _ (u : Setup) (p : StopState) (at : Word → ℕ) (seat : ℕ → Seat) (
               (λ ne o l. closing_seat p.now seat me (Closes s) h.closing calm j c o l)
 
       acked_it : (x : Standing) → IsAnswer x a v → acked x ≡ a
-      acked_it Outside e = absurd e
-      acked_it Called e = absurd e
-      acked_it (Inside b l) e = e.0
-      acked_it (Answering b w) e = e.0
-      acked_it (Completed b w) e = absurd e
+      acked_it x e = search arith
 
       ended_not : (p.now.stop s).ending ≡ Ended → DoneShows u.cpus (p.now.stop s).standing Ended (at (Slot s Done)) → is_of ((p.now.stop s).standing me) ≡
           true → ⊥
@@ -252,12 +190,10 @@ module _ (u : Setup) (p : StopState) (at : Word → ℕ) (seat : ℕ → Seat) (
           let one_ = answer_unfinished (p.now.stop s).phase a v ((p.now.stop s).standing me) is in omega arith
 
       here_more : (x : List ℕ) (c : ℕ) → put p.answers me (put (p.answers me) s x) c s ≡ put (λ c. p.answers c s) me x c
-      here_more x c = at_test c me (λ b. (cond b (put (p.answers me) s x) (p.answers c)) s ≡ cond b x (p.answers c s)) (λ _. put_same (p.answers me) s x)
-          (λ _. refl)
+      here_more x c = search (at_test, put_same, arith)
 
       there_same : (j : ℕ) → j ≢ s → (x : List ℕ) (c : ℕ) → put p.answers me (put (p.answers me) s x) c j ≡ p.answers c j
-      there_same j ne x c = at_test c me (λ b. (cond b (put (p.answers me) s x) (p.answers c)) j ≡ p.answers c j) (λ e. put_other (p.answers me) s x j ne ∙
-          ap (λ k. p.answers k j) (sym e)) (λ _. refl)
+      there_same j ne x c = search (at_test, put_other, arith)
 
   -- fetch_sub of todo, by who answers 0
   pub todo_subtracted : (job : Work) (a l answer : ℕ) → seat me ≡ In s job a l Rests → (a ≡ 4) ⊎ (job.kind ≡ One) →
@@ -267,10 +203,9 @@ module _ (u : Setup) (p : StopState) (at : Word → ℕ) (seat : ℕ → Seat) (
   todo_subtracted job a l answer is through =
       let found = at (Slot s Todo) in
       let now = st job a l is through in
-      subst (λ (x : Standing). StopShows u (completes p me s x found) (put_word at (Slot s Todo) (found - 1))
-      (put seat me (cond (found == 1) (Closes s) Free)) source) (sym now.1)
-      (completes_shown job a 0 now.0 (subst (λ x. IsAnswer x a 0) (sym now.1) (refl, refl)) now.2 (is_done job a l is through) (on_now job a l is through)
-      (subst IsNoPatch (sym is) tt) (subst IsNotClosing (sym is) tt) (ap answer_now now.1))
+      let shown' = completes_shown job a 0 now.0 (subst (λ x. IsAnswer x a 0) (sym now.1) (refl, refl)) now.2 (is_done job a l is through) (on_now job a l is
+      through) (subst IsNoPatch (sym is) tt) (subst IsNotClosing (sym is) tt) (ap answer_now now.1) in
+      search (now.1, shown', arith)
 
   -- and by who has stored its answer
   pub todo_subtracted_answered : (job : Work) (a v answer : ℕ) → seat me ≡ Gives s job a v →
@@ -281,10 +216,9 @@ module _ (u : Setup) (p : StopState) (at : Word → ℕ) (seat : ℕ → Seat) (
       let found = at (Slot s Todo) in
       let now : Stands p.now me (Gives s job a v) = subst (Stands p.now me) is (h.present.stands me) in
       let k = keeps_inside u.cpus (p.now.stop s) w (h.present.slots s) me (Answering a v) now.1 in
-      subst (λ (x : Standing). StopShows u (completes p me s x found) (put_word at (Slot s Todo) (found - 1))
-      (put seat me (cond (found == 1) (Closes s) Free)) source) (sym now.1)
-      (completes_shown job a v now.0 (subst (λ x. IsAnswer x a v) (sym now.1) (refl, refl)) now.2 k.2 (ap irq_of is) (subst IsNoPatch (sym is) tt)
-      (subst IsNotClosing (sym is) tt) (ap answer_now now.1))
+      let shown' = completes_shown job a v now.0 (subst (λ x. IsAnswer x a v) (sym now.1) (refl, refl)) now.2 k.2 (ap irq_of is) (subst IsNoPatch (sym is) tt)
+      (subst IsNotClosing (sym is) tt) (ap answer_now now.1) in
+      search (now.1, shown', arith)
 
   -- store of done by the last
   pub done_stored : (answer : ℕ) → seat me ≡ Closes s → StopShows u (told u p me act.Store (Slot s Done) None (Some 1) answer) (put_word at (Slot s Done) 1)
@@ -293,20 +227,11 @@ module _ (u : Setup) (p : StopState) (at : Word → ℕ) (seat : ℕ → Seat) (
       let now : Stands p.now me (Closes s) = subst (Stands p.now me) is (h.present.stands me) in
       let stop' = ended (p.now.stop s) in
       let stays : StaysOpen (p.now.stop s) stop' = record { was = now.1; now = now.1; work = refl; end = λ _. refl; given = λ c. refl } in
-      subst (λ b. StopShows u (cond b (stored_open p me s Done 1) (stored_shut p s Done 1)) (put_word at (Slot s Done) 1) (put seat me Free) source) (sym now.1)
-      (open_step u p at seat source h s stop' p.now.inside p.now.irq p.now.readings p.now.patching (put_word at (Slot s Done) 1) (put seat me Free) p.looks
-      p.calls p.calling stays
-      refl (λ k. refl) (other_slots at s Done 1)
-      (owns_kept u.first p.now (λ k. at (Key k)) s stop' p.now.inside p.now.irq p.now.readings p.now.patching stays record {
-        inside = λ i. i;
-        late =
-            λ i. i;
-      } h.owns)
-      (step_finishes u p.now at seat h.present s me is)
-      (calling_same seat p.calling h.callings me Free (subst (IsCalling me Free)
-      (sym (idle_closes me s (p.calling me) (subst (λ x. IsCalling me x (p.calling me)) is (h.callings me)))) tt))
-      (λ j c. at_test j s (λ b. let y = cond b stop' (p.now.stop j) in y.is_open ≡ true → y.ending ≡ Last c → (put seat me Free c ≡ Closes j) × HasCompleted
-      (y.standing c))
-      (λ e o l. let bad : Ended ≡ Last c = l in cc)
-      (λ ne o l. let k = h.closing j c o l in
-      (put_other seat me Free c (λ same. let two : Closes j ≡ Closes s = sym k.0 ∙ (ap seat same ∙ is) in let bad : j ≡ s = cc in ne bad) ∙ k.0, k.1))))
+      let shown' = open_step u p at seat source h s stop' p.now.inside p.now.irq p.now.readings p.now.patching (put_word at (Slot s Done) 1) (put seat me
+      Free) p.looks p.calls p.calling stays refl (λ k. refl) (other_slots at s Done 1) (owns_kept u.first p.now (λ k. at (Key k)) s stop' p.now.inside
+      p.now.irq p.now.readings p.now.patching stays record { inside = λ i. i; late = λ i. i } h.owns) (step_finishes u p.now at seat h.present s me is)
+      (calling_same seat p.calling h.callings me Free (subst (IsCalling me Free) (sym (idle_closes me s (p.calling me) (subst (λ x. IsCalling me x
+      (p.calling me)) is (h.callings me)))) tt)) (λ j c. at_test j s (λ b. let y = cond b stop' (p.now.stop j) in y.is_open ≡ true → y.ending ≡ Last c →
+      (put seat me Free c ≡ Closes j) × HasCompleted (y.standing c)) (λ e o l. let bad : Ended ≡ Last c = l in cc) (λ ne o l. let k = h.closing j c o l in
+      (put_other seat me Free c (λ same. let two : Closes j ≡ Closes s = sym k.0 ∙ (ap seat same ∙ is) in let bad : j ≡ s = cc in ne bad) ∙ k.0, k.1))) in
+      search (now.1, shown', arith)

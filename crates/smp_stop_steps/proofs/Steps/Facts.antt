@@ -1,33 +1,20 @@
 -- What a CPU inside a stop finds, and the state at first.
-use Rattle.smp_words.proofs.Puts.{put_all}
-use Rattle.smp_stop_steps.proofs.Steps.Callings.{call_may}
-use Rattle.smp_stop_steps.specs.Callings.{IsCalling}
-use Rattle.smp_stop_steps.specs.Tells.{told, may_call, calls_now}
-use Rattle.smp_stop_steps.proofs.State.KeyCounts.{opened_count}
-use Rattle.std.proofs.Common.{◌≡◌, ◌≢◌, ℕ, ◌+◌, ◌<◌, ◌≤◌, Bool, true, false, ◌==◌, cond, sym, subst, refl, ap, ◌∙◌, ◌⊎◌, inl, inr, arith, ⊎_elim}
-use Rattle.std.proofs.Common.{eq-eqb}
-use Rattle.std.proofs.Common.{zero, suc, List, [], Some, None}
+use Rattle.std.proofs.Common.{◌≡◌, ◌≢◌, ℕ, ◌+◌, ◌<◌, ◌≤◌, Bool, true, false, cond, sym, subst, refl, ap, ◌∙◌, ◌⊎◌, arith, eq-eqb, zero, suc, List, [], Some}
+use Rattle.std.proofs.Common.{None}
 use Rattle.std.proofs.lemmas.Nat.Bits.{bit_at-zero}
+use Rattle.smp_words.proofs.Puts.{put_all}
+use Rattle.smp_words.specs.declared.field.Field.TheVariants.{Ack, Arg, Roll, State, Todo}
+use Rattle.smp_labels.specs.Law.{IsLawful}
+use Rattle.smp_labels.specs.Plans.{AreEntriesOf}
+use Rattle.smp_stop_steps.specs.{IsCalling, told, may_call, calls_now, behind, count_behind, sum_below, unfinished, Change, labels_in, Alters, Free, Gives}
+use Rattle.smp_stop_steps.specs.{In, Rests, Seat, Stands, Turn, StopShows, IsWritten, Keeps, OpenShows, Shut, Source, IsSetup, Setup, StopState, no_stops}
+use Rattle.smp_stop_steps.specs.{StopCall, Calls, Answering, Called, Completed, Inside, Outside, Standing, is_called, Work, Gate, Slot, Key, Word, has}
+use Rattle.smp_stop_steps.proofs.Steps.Callings.{call_may}
+use Rattle.smp_stop_steps.proofs.State.KeyCounts.{opened_count}
 use Rattle.smp_stop_steps.proofs.Basics.Counts.{sum_zero}
 use Rattle.smp_stop_steps.proofs.State.Phases.{is_open_inside, keeps_inside, none_raises}
 use Rattle.smp_stop_steps.proofs.State.Acknowledged.{nobody_raises}
-use Rattle.smp_stop_steps.specs.Counts.{behind, count_behind, sum_below, unfinished}
-use Rattle.smp_stop_steps.specs.Labels.{Change, Patches, labels_in}
-use Rattle.smp_stop_steps.specs.Present.{RunnerShows}
-use Rattle.smp_stop_steps.specs.Seats.{Alters, Free, Gives, In, Rests, Seat, Stands, Turn}
-use Rattle.smp_stop_steps.specs.Shows.{StopShows}
-use Rattle.smp_stop_steps.specs.Slots.{AckShows, IsWritten, Keeps, OpenShows}
-use Rattle.smp_stop_steps.specs.Sources.{Shut, Source}
-use Rattle.smp_stop_steps.specs.State.{IsSetup, Setup, StopState, no_stops, StopCall, Calls}
-use Rattle.smp_stop_steps.specs.Stop.{Answering, Called, Completed, Inside, Outside, Standing, is_called}
-use Rattle.smp_words.specs.declared.field.Field.TheVariants.{Ack, Arg, Roll, State, Todo}
-use Rattle.smp_words.specs.declared.seen.Act.TheVariants as act
-use Rattle.smp_words.specs.declared.work.Work.{Work}
-use Rattle.smp_words.specs.declared.word.Word.TheVariants.{Gate, Slot, Key}
-use Rattle.smp_words.specs.declared.word.Word.{Word}
-use Rattle.smp_labels.specs.Law.{IsLawful}
-use Rattle.smp_labels.specs.Plans.{AreEntriesOf}
-use Rattle.smp_mask.specs.Mask.{has}
+use Rattle.smp_stop_steps.specs.act
 
 -- a sum of numbers of at most 1
 sum_most : (f : ℕ → ℕ) (n : ℕ) → ((c : ℕ) → f c ≤ 1) → sum_below f n ≤ n
@@ -36,44 +23,15 @@ sum_most f zero small = omega arith
 sum_most f (suc n) small = let a = small n in let b = sum_most f n small in omega arith
 
 behind_most : (p : ℕ) (x : Standing) → behind p x ≤ 1
-behind_most p Outside = omega arith
-behind_most p Called = most (0 == p)
-  where
-    most : (b : Bool) → cond b 0 1 ≤ 1
-    most true = omega arith
-    most false = omega arith
-behind_most p (Inside a l) = most (a == p)
-  where
-    most : (b : Bool) → cond b 0 1 ≤ 1
-    most true = omega arith
-    most false = omega arith
-behind_most p (Answering a v) = most (a == p)
-  where
-    most : (b : Bool) → cond b 0 1 ≤ 1
-    most true = omega arith
-    most false = omega arith
-behind_most p (Completed a v) = most (a == p)
-  where
-    most : (b : Bool) → cond b 0 1 ≤ 1
-    most true = omega arith
-    most false = omega arith
+behind_most p x = search arith
 
 unfinished_most : (x : Standing) → unfinished x ≤ 1
-unfinished_most Outside = omega arith
-unfinished_most Called = omega arith
-unfinished_most (Inside a l) = omega arith
-unfinished_most (Answering a v) = omega arith
-unfinished_most (Completed a v) = omega arith
+unfinished_most x = search arith
 
 module _ (u : Setup) (p : StopState) (at : Word → ℕ) (seat : ℕ → Seat) (source : ℕ → Source) (h : StopShows u p at seat source) (s me : ℕ) where
   -- who patches is active in its stop
   pub patcher_active : (work : Work) (count : ℕ) (made rest : List Change) → seat me ≡ Alters s work count made rest → has work.active me ≡ true
-  patcher_active work count made rest is =
-      let st : Stands p.now me (Alters s work count made rest) = subst (Stands p.now me) is (h.present.stands me) in
-      let r : RunnerShows u.first (Patches me work count made rest) seat = subst (λ x. RunnerShows u.first x seat) st.5 h.present.runner in
-      let open_ = is_open_inside u.cpus (p.now.stop s) (λ f. at (Slot s f)) (h.present.slots s) me (Inside 2 3) st.1 refl in
-      let works = h.present.works s open_ (ap (λ (w : Work). w.kind) st.3 ∙ st.4) in
-      ap (λ (w : Work). has w.active me) (sym st.3) ∙ (works.first me ∙ eq-eqb me u.first r.0)
+  patcher_active work count made rest is = search (h.present.stands, is_open_inside, h.present.slots, h.present.works, eq-eqb, arith)
 
   module _ (job : Work) (a l : ℕ) (t : Turn) (is : seat me ≡ In s job a l t) where
     st : Stands p.now me (In s job a l t)
@@ -97,21 +55,11 @@ module _ (u : Setup) (p : StopState) (at : Word → ℕ) (seat : ℕ → Seat) (
             StopShows u (cond b (calls_now p me (p.now.stop s).work (at (Slot s Arg)) answer) p) at seat source
         go false e = h
         go true e =
-            let may : may_call me job (Inside a l) ≡ true = sym (ap (λ (w : Work). may_call me w ((p.now.stop s).standing me)) st.3 ∙ ap (may_call me job)
-            st.1) ∙ e in
+            let may : may_call me job (Inside a l) ≡ true = search arith in
             let calls : IsCalling me (In s job a l Rests) (Calls called) = ((ap (λ (w : Work). w.func) st.3, work_words.arg), call_may me job a l may) in
-            record {
-              setup = h.setup;
-              present = h.present;
-              gate = h.gate;
-              callings = put_all (λ c x. IsCalling c (seat c) x) p.calling me (Calls called) (subst (λ x. IsCalling me x (Calls called))
-                  (sym (is ∙ ap (In s job a l) rests)) calls) (λ c ne. h.callings c);
-              closing = h.closing;
-              sources = h.sources;
-              past = h.past;
-              owns = h.owns;
-              counts = h.counts;
-            }
+            let callings' = put_all (λ c x. IsCalling c (seat c) x) p.calling me (Calls called) (subst (λ x. IsCalling me x (Calls called)) (sym (is ∙ ap (In
+            s job a l) rests)) calls) (λ c ne. h.callings c) in
+            search (callings', arith)
 
     -- the CPU is of the mask, and of the machine
     pub inside_keeps : Keeps u.cpus (p.now.stop s).phase me (Inside a l)
@@ -119,8 +67,7 @@ module _ (u : Setup) (p : StopState) (at : Word → ℕ) (seat : ℕ → Seat) (
 
     -- the state is the phase that the CPU acknowledged, or the one after it
     pub state_near : (at (Slot s State) ≡ a) ⊎ (at (Slot s State) ≡ a + 1)
-    state_near = let e = shown.state in ⊎_elim (λ (x : a ≡ (p.now.stop s).phase). inl (e ∙ sym x)) (λ (x : a + 1 ≡ (p.now.stop s).phase). inr (e ∙ sym x))
-        inside_keeps.1
+    state_near = search arith
 
     -- todo is not 0, and at most the number of CPUs
     pub todo_bounds : (0 < at (Slot s Todo)) × (at (Slot s Todo) ≤ u.cpus)
@@ -133,20 +80,17 @@ module _ (u : Setup) (p : StopState) (at : Word → ℕ) (seat : ℕ → Seat) (
         )
       where
         more : (n : ℕ) → n ≢ 0 → 0 < n
-        more zero ne = absurd (ne refl)
-        more (suc n) ne = omega arith
+        more n ne = search arith
 
   -- the count of acknowledgements is not 0, and at most the number of CPUs, for who has looked at a new phase
   ack_known : (a : ℕ) → (p.now.stop s).standing me ≡ Inside a (a + 1) → (0 < at (Slot s Ack)) × (at (Slot s Ack) ≤ u.cpus)
   ack_known a is =
       let o = (h.present.slots s).shows (is_open_inside u.cpus (p.now.stop s) (λ f. at (Slot s f)) (h.present.slots s) me (Inside a (a + 1)) is refl) in
       let k = keeps_inside u.cpus (p.now.stop s) (λ f. at (Slot s f)) (h.present.slots s) me (Inside a (a + 1)) is in
-      let phase : (p.now.stop s).phase ≡ a + 1 = ⊎_elim (λ (e : a + 1 ≡ a). absurd (omega arith)) (λ (e : (a + 1 ≡ a + 1) × ((p.now.stop s).phase ≡ a + 1)).
-      e.1) k.2 in
+      let phase : (p.now.stop s).phase ≡ a + 1 = search arith in
       let busy : (p.now.stop s).phase ≢ 0 = λ z. omega arith in
       let none = nobody_raises u.cpus (p.now.stop s) (at (Slot s Ack)) me a (a + 1) (p.now.stop s).raising is k.0 (λ e. omega arith) (o.ack busy) in
-      let counted : at (Slot s Ack) ≡ count_behind u.cpus (p.now.stop s).phase (p.now.stop s).standing = subst (λ r. AckShows u.cpus (p.now.stop s).phase
-      (p.now.stop s).standing r (at (Slot s Ack))) none (o.ack busy) in
+      let counted : at (Slot s Ack) ≡ count_behind u.cpus (p.now.stop s).phase (p.now.stop s).standing = search (o.ack, arith) in
       let most = sum_most (λ c. behind (p.now.stop s).phase ((p.now.stop s).standing c)) u.cpus (λ c. behind_most (p.now.stop s).phase
       ((p.now.stop s).standing c)) in (
         more (at (Slot s Ack)) (λ z. none_raises u.cpus (p.now.stop s).phase (p.now.stop s).standing me a (a + 1) is k.0 (λ e. omega arith)
@@ -155,16 +99,14 @@ module _ (u : Setup) (p : StopState) (at : Word → ℕ) (seat : ℕ → Seat) (
       )
     where
       more : (n : ℕ) → n ≢ 0 → 0 < n
-      more zero ne = absurd (ne refl)
-      more (suc n) ne = omega arith
+      more n ne = search arith
 
   pub ack_bounds : (job : Work) (a : ℕ) → seat me ≡ In s job a (a + 1) Rests → (0 < at (Slot s Ack)) × (at (Slot s Ack) ≤ u.cpus)
   ack_bounds job a is = ack_known a (st job a (a + 1) Rests is).1
 
   pub ack_bounds_patched : (job : Work) (count : ℕ) (made : List Change) → seat me ≡ Alters s job count made [] →
       (0 < at (Slot s Ack)) × (at (Slot s Ack) ≤ u.cpus)
-  ack_bounds_patched job count made is = let now : Stands p.now me (Alters s job count made []) = subst (Stands p.now me) is (h.present.stands me) in
-      ack_known 2 now.1
+  ack_bounds_patched job count made is = search (h.present.stands, ack_known, arith)
 
   -- the same of todo, for who has stored its answer
   pub todo_bounds_answered : (job : Work) (a v : ℕ) → seat me ≡ Gives s job a v → (0 < at (Slot s Todo)) × (at (Slot s Todo) ≤ u.cpus)
@@ -180,8 +122,7 @@ module _ (u : Setup) (p : StopState) (at : Word → ℕ) (seat : ℕ → Seat) (
       )
     where
       more : (n : ℕ) → n ≢ 0 → 0 < n
-      more zero ne = absurd (ne refl)
-      more (suc n) ne = omega arith
+      more n ne = search arith
 
 -- a roll has no CPU past the last
 pub high_none : (u : Setup) (p : StopState) (at : Word → ℕ) (seat : ℕ → Seat) (source : ℕ → Source) → StopShows u p at seat source → (slot c : ℕ) → 64 ≤ c →
@@ -199,32 +140,4 @@ high_none u p at seat source h slot c high = (h.present.slots slot).roll c ∙ g
 pub no_stops_shown : (u : Setup) (at : Word → ℕ) → IsSetup u → at Gate ≡ 0 → ((s : ℕ) → at (Slot s Roll) ≡ 0) → AreEntriesOf u.entries (labels_in at) →
     IsLawful (labels_in at) →
     ((k : ℕ) → at (Key k) ≡ 0) → StopShows u no_stops at (λ _. Free) (λ _. Shut)
-no_stops_shown u at setup gate rolls entries lawful off = record {
-  setup = setup;
-  present = record {
-    slots = λ s. record {
-      members = λ c. refl;
-      roll = λ c. ap (λ n. has n c) (rolls s) ∙ ap (λ n. n == 1) (bit_at-zero c);
-      keeps = λ c. tt;
-      shows = λ bad. absurd (apart bad);
-    };
-    stands = λ c. refl;
-    homes = λ s c bad. absurd (apart bad);
-    irq = λ c. refl;
-    works = λ s bad kind. absurd (apart bad);
-    runner = tt;
-    entries = entries;
-    labels = lawful;
-    read = λ c on i. tt;
-  };
-  gate = gate;
-  callings = λ c. tt;
-  closing = λ s c bad. absurd (apart bad);
-  sources = λ s. refl;
-  past = λ s. ([], record { each = tt; begun_are = refl; collected_are = refl; answers_are = λ c. refl });
-  owns = λ s bad kind in_ late. absurd (apart bad);
-  counts = λ k. opened_count u.cpus k (at (Key k)) (off k);
-}
-  where
-    apart : false ≡ true → ⊥
-    apart e = cc
+no_stops_shown u at setup gate rolls entries lawful off = search (bit_at-zero, opened_count, arith)

@@ -1,36 +1,19 @@
 -- What a step on an open stop leaves to the sources, to the past and to the keys that sources know.
-use Rattle.smp_stop_steps.specs.KeyCounts.{CountShows}
-use Rattle.std.proofs.Common.{◌≡◌, ◌≢◌, ℕ, ◌≤◌, Bool, true, false, ◌==◌, cond, sym, subst, refl, ap, ◌∙◌, Option, List, [], ◌∷◌, ◌++◌}
+use Rattle.std.proofs.Common.{◌≡◌, ◌≢◌, ℕ, ◌≤◌, Bool, true, ◌==◌, cond, sym, subst, refl, ap, ◌∙◌, Option, List, arith}
 use Rattle.smp_words.proofs.Puts.{at_test, put_all}
+use Rattle.smp_stop_steps.specs.{CountShows, put, put_word, Patching, Reading, StandsSet, HasPast, answer_now, OwnsKey, PresentShows, Seat, StopShows}
+use Rattle.smp_stop_steps.specs.{Collects, Drafts, Owns, Shut, Source, SourceShows, AreClosing, IsCalling, Calling, Setup, StopCall, StopState, Ended}
+use Rattle.smp_stop_steps.specs.{Standing, acked, is_inside, Field, Patch, Work, Gate, Key, Slot, Word}
 use Rattle.smp_stop_steps.proofs.State.Moves.{field_false}
-use Rattle.smp_words.specs.Put.{put, put_word, same_field}
-use Rattle.smp_stop_steps.specs.Labels.{Patching, Reading, StandsSet}
-use Rattle.smp_stop_steps.specs.Past.{HasPast, answer_now, answers_of, works_of}
-use Rattle.smp_stop_steps.specs.Present.{OwnsKey, PresentShows}
-use Rattle.smp_stop_steps.specs.Seats.{Seat}
-use Rattle.smp_stop_steps.specs.Shows.{StopShows}
-use Rattle.smp_stop_steps.specs.Sources.{Collects, Drafts, Owns, Shut, Source, SourceShows}
-use Rattle.smp_stop_steps.specs.Callings.{AreClosing, IsCalling}
-use Rattle.smp_stop_steps.specs.State.{Calling, Present, Setup, StopCall, StopState}
-use Rattle.smp_stop_steps.specs.Stop.{Ended, Standing, Stop, acked, is_inside}
-use Rattle.smp_words.specs.declared.field.Field.{Field}
-use Rattle.smp_words.specs.declared.work.Kind.TheVariants.{Patch}
-use Rattle.smp_words.specs.declared.work.Work.{Work}
-use Rattle.smp_words.specs.declared.word.Word.TheVariants.{Gate, Key, Slot}
-use Rattle.smp_words.specs.declared.word.Word.{Word}
+use Rattle.smp_stop_steps.specs.State.{Present}
+use Rattle.smp_stop_steps.specs.Stop.{Stop}
 
 module _ (u : Setup) (gate : Option ℕ) (s : ℕ) where
   -- a source whose slot is as it was
   pub source_same : (stop : Stop) (word word' : Field → ℕ) → ((f : Field) → word' f ≡ word f) → (x : Source) → SourceShows u gate stop word s x →
       SourceShows u gate stop word' s x
   source_same stop word word' same Shut h = h
-  source_same stop word word' same (Drafts work k) h = record {
-    shut = h.shut;
-    holds = h.holds;
-    is_work = h.is_work;
-    stored = λ f l. same f ∙ h.stored f l;
-    told = h.told;
-  }
+  source_same stop word word' same (Drafts work k) h = search (h.stored, arith)
   source_same stop word word' same (Owns work) h = h
   source_same stop word word' same (Collects work) h = h
 
@@ -38,32 +21,13 @@ module _ (u : Setup) (gate : Option ℕ) (s : ℕ) where
   pub source_open : (stop stop' : Stop) (word word' : Field → ℕ) → stop.is_open ≡ true → stop'.is_open ≡ true → stop'.work ≡ stop.work →
       (stop.ending ≡ Ended → stop'.ending ≡ Ended) →
       (x : Source) → SourceShows u gate stop word s x → SourceShows u gate stop' word' s x
-  source_open stop stop' word word' was now same end Shut h = let bad : true ≡ false = sym was ∙ h in cc
-  source_open stop stop' word word' was now same end (Drafts work k) h = let bad : true ≡ false = sym was ∙ h.shut in cc
-  source_open stop stop' word word' was now same end (Owns work) h = record { is_open = now; work_is = same ∙ h.work_is; is_work = h.is_work }
-  source_open stop stop' word word' was now same end (Collects work) h = (
-    record { is_open = now; work_is = same ∙ h.0.work_is; is_work = h.0.is_work },
-    end
-        h.1,
-  )
+  source_open stop stop' word word' was now same end x h = search (was, now, end, arith)
 
 -- the past, where nothing begins, is answered or collected
 pub past_same : (stop stop' : Stop) (begun : List Work) (collected : List ℕ) (answers : ℕ → List ℕ) → stop'.is_open ≡ stop.is_open →
     (stop.is_open ≡ true → stop'.work ≡ stop.work) →
     ((c : ℕ) → answer_now (stop'.standing c) ≡ answer_now (stop.standing c)) → HasPast stop begun collected answers → HasPast stop' begun collected answers
-past_same stop stop' begun collected answers op work given h = (
-  h.0,
-  record {
-    each = h.1.each;
-    begun_are = h.1.begun_are ∙ ap (λ l. works_of h.0 ++ l) (now stop.is_open refl);
-    collected_are = h.1.collected_are;
-    answers_are = λ c. h.1.answers_are c ∙ ap (λ l. answers_of c h.0 ++ l) (sym (given c));
-  },
-)
-  where
-    now : (b : Bool) → stop.is_open ≡ b → cond stop.is_open (stop.work ∷ []) [] ≡ cond stop'.is_open (stop'.work ∷ []) []
-    now true e = ap (λ b. cond b (stop.work ∷ []) []) e ∙ (ap (λ w. w ∷ []) (sym (work e)) ∙ ap (λ b. cond b (stop'.work ∷ []) []) (sym (op ∙ e)))
-    now false e = ap (λ b. cond b (stop.work ∷ []) []) e ∙ ap (λ b. cond b (stop'.work ∷ []) []) (sym (op ∙ e))
+past_same stop stop' begun collected answers op work given h = search (h.1.answers_are, given, stop'.is_open, work, arith)
 
 -- what is now, with one stop and other columns changed
 abbrev pub after : Present → ℕ → Stop → (ℕ → Option ℕ) → (ℕ → Bool) → (ℕ → List Reading) → Patching → Present
@@ -98,15 +62,7 @@ owns_kept first n key s stop' inside' irq' readings' patching' stays early own j
 -- the past, by the answers of each CPU
 pub past_answers : (stop : Stop) (begun : List Work) (collected : List ℕ) (answers answers' : ℕ → List ℕ) → ((c : ℕ) → answers' c ≡ answers c) →
     HasPast stop begun collected answers → HasPast stop begun collected answers'
-past_answers stop begun collected answers answers' same h = (
-  h.0,
-  record {
-    each = h.1.each;
-    begun_are = h.1.begun_are;
-    collected_are = h.1.collected_are;
-    answers_are = λ c. same c ∙ h.1.answers_are c;
-  },
-)
+past_answers stop begun collected answers answers' same h = search (h.1.answers_are, arith)
 
 module _ (u : Setup) (p : StopState) (at : Word → ℕ) (seat : ℕ → Seat) (source : ℕ → Source) (h : StopShows u p at seat source) (s : ℕ) (stop' : Stop)
     (inside' : ℕ → Option ℕ) (irq' : ℕ → Bool) (readings' : ℕ → List Reading) (patching' : Patching) (at' : Word → ℕ) (seat' : ℕ → Seat) where
@@ -158,8 +114,7 @@ module _ (u : Setup) (p : StopState) (at : Word → ℕ) (seat : ℕ → Seat) (
 
 -- the words of other slots, where one field of one slot was changed
 pub other_slots : (at : Word → ℕ) (s : ℕ) (g : Field) (n : ℕ) (j : ℕ) → j ≢ s → (f : Field) → put_word at (Slot s g) n (Slot j f) ≡ at (Slot j f)
-other_slots at s g n j ne f = at_test j s (λ b. cond (same_field f g b) n (at (Slot j f)) ≡ at (Slot j f)) (λ e. absurd (ne e))
-    (λ _. ap (λ b. cond b n (at (Slot j f))) (field_false f g))
+other_slots at s g n j ne f = search (at_test, field_false, arith)
 
 -- a CPU that goes elsewhere inside a stop
 pub record MovesInside (old new : Standing) : Type 0 where
@@ -169,20 +124,14 @@ pub record MovesInside (old new : Standing) : Type 0 where
 
 module _ (first s me : ℕ) (stop : Stop) (to : Standing) (m : MovesInside (stop.standing me) to) where
   pub moves_early : (stop' : Stop) → stop'.standing ≡ put stop.standing me to → IsEarly first s stop stop'
-  moves_early stop' e = record {
-    inside = subst (λ (st : ℕ → Standing). is_inside (st s) ≡ true → is_inside (stop.standing s) ≡ true) (sym e)
-        (put_all (λ c x. is_inside x ≡ true → is_inside (stop.standing c) ≡ true) stop.standing me to m.inside (λ c ne i. i) s);
-    late = subst (λ (st : ℕ → Standing). 3 ≤ acked (st first) → 3 ≤ acked (stop.standing first)) (sym e)
-        (put_all (λ c x. 3 ≤ acked x → 3 ≤ acked (stop.standing c)) stop.standing me to m.late (λ c ne l. l) first);
-  }
+  moves_early stop' e = search (put_all, m.inside, m.late, arith)
 
   pub moves_given : (c : ℕ) → answer_now (put stop.standing me to c) ≡ answer_now (stop.standing c)
   moves_given = put_all (λ c x. answer_now x ≡ answer_now (stop.standing c)) stop.standing me to m.given (λ c ne. refl)
 
 -- a put over a put at the same place
 put_over : {A : Type 0} (b : Bool) (v w x : A) → cond b w (cond b v x) ≡ cond b w x
-put_over {A} true v w x = refl
-put_over {A} false v w x = refl
+put_over {A} b v w x = search arith
 
 pub put_twice : {A : Type 0} (f : ℕ → A) (i : ℕ) (v w : A) → put (put f i v) i w ≡ put f i w
 put_twice {A} f i v w = λ k j. put_over (j == i) v w (f j) k

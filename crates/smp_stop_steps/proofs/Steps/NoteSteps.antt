@@ -1,74 +1,49 @@
 -- What the note of each step of a CPU's command says of the state.
-use Rattle.std.proofs.Common.{◌≡◌, ◌≢◌, ℕ, ◌+◌, Bool, true, false, eq-eqb, eqb-true, ◌==◌, ◌&&◌, not, cond, ◌⊎◌, inl, inr, Option, Some, None, [], ◌∷◌}
-use Rattle.std.proofs.Common.{◌++◌, ⊎_elim, sym, subst, refl, ap, ◌∙◌, arith}
-use Rattle.smp_mask.specs.Mask.{has}
-use Rattle.smp_labels.specs.Keys.{change_of, count_after, is_on}
+use Rattle.std.proofs.Common.{◌≡◌, ◌≢◌, ℕ, ◌+◌, Bool, true, false, eq-eqb, eqb-true, ◌==◌, ◌&&◌, not, cond, ◌⊎◌, inl, inr, Option, Some, None, [], ◌∷◌, ◌++◌}
+use Rattle.std.proofs.Common.{⊎_elim, sym, subst, refl, ap, ◌∙◌, arith}
 use Rattle.smp_labels.specs.Kinds.{xor}
 use Rattle.smp_labels.specs.declared.keys.Change.{Change as KeyChange}
-use Rattle.smp_labels.specs.declared.patch.Place.TheVariants as place
-use Rattle.smp_words.specs.Access.{word_of, seen_of}
-use Rattle.smp_words.specs.Put.{put}
-use Rattle.smp_words.proofs.Puts.{at_test}
-use Rattle.smp_words.specs.declared.field.Field.{Field}
-use Rattle.smp_words.specs.declared.field.Field.TheVariants as field
-use Rattle.smp_words.specs.declared.seen.Act.TheVariants as act
-use Rattle.smp_words.specs.declared.seen.Note.{Note}
-use Rattle.smp_words.specs.declared.seen.Note.TheVariants as note
-use Rattle.smp_words.specs.declared.work.Kind.TheVariants.{Patch}
-use Rattle.smp_words.specs.declared.work.Work.{Work}
-use Rattle.smp_words.specs.declared.word.Word.{Word}
-use Rattle.smp_words.specs.declared.word.Word.TheVariants.{Gate, Slot, Key, Site}
-use Rattle.smp_stop_steps.specs.Carries.{CarriesIn}
-use Rattle.smp_stop_steps.specs.Counts.{mask_weight}
-use Rattle.smp_stop_steps.specs.Labels.{Change, ReadKey, ReadSite, patch_answer}
-use Rattle.smp_stop_steps.specs.Notes.{StaysStill, HasRead, NoteFits, heard_of}
-use Rattle.smp_stop_steps.specs.Seats.{Seat, In, Gives, Alters, Closes, Rests, Sets, Stands, irq_of}
-use Rattle.smp_stop_steps.specs.Shows.{StopShows, gate_word}
-use Rattle.smp_stop_steps.specs.Sits.{HasRun, HoldsGate, IsLoaded, IsNudge, IsThroughAll, RunsIf, Sits, SitsAt, SourceSits}
-use Rattle.smp_stop_steps.specs.Slots.{DoneShows, begun_value, order}
-use Rattle.smp_stop_steps.specs.Sources.{Source, Drafts, Owns, DraftShows, OwnerShows, SourceShows}
-use Rattle.smp_stop_steps.specs.Stages.{StopControlValue, answer_at, begun_next, change_at, key_on, looked_on, nudge_of, nudge_on}
-use Rattle.smp_stop_steps.specs.Stages.{stop_ends, stop_goes, store_of, visit_acked}
-use Rattle.smp_stop_steps.specs.State.{Setup, Present, StopState, StopCall, Calls}
-use Rattle.smp_stop_steps.specs.Steps.{FunctionGoes, Told, note_then, state_after}
-use Rattle.smp_stop_steps.specs.Stop.{Standing, Outside, Called, Inside, Answering, Completed, Refills, Last, Ended, Stop}
-use Rattle.smp_stop_steps.specs.Stop.{acked, acknowledged, closed, completed, ended, opened, raised, refilled, stands as stands_at}
-use Rattle.smp_stop_steps.specs.Tells.{answered_by, drafted, drafts}
-use Rattle.smp_stop_steps.specs.Tells.{acknowledges, completes, completes_with, calls_now, enters, first_readings, gate_told}
-use Rattle.smp_stop_steps.specs.Tells.{is_at_run, is_multi, is_patch, key_loaded, key_told, leaves, looked_by, looks, looks_now, may_call, patch_begun}
-use Rattle.smp_stop_steps.specs.Tells.{plan_at, reads, stored_open, stored_shut, tells, unpatched, with_stop}
-use Rattle.smp_stop_steps.specs.declared.stage.CompletionStage.TheVariants as completion
-use Rattle.smp_stop_steps.specs.declared.stage.RoundStage.TheVariants as round
-use Rattle.smp_stop_steps.specs.declared.stage.StopStage.{StopStage}
-use Rattle.smp_stop_steps.specs.declared.stage.StopStage.TheVariants.{TakeGate, OpenGate, Begin, Enter, EnterKind, EnterMask, EnterActive, Advance}
-use Rattle.smp_stop_steps.specs.declared.stage.StopStage.TheVariants.{Complete, Close, LoadDone, LoadResult, ReadKey as ReadsKey, ReadSite as ReadsSite}
-use Rattle.smp_stop_steps.specs.declared.stage.StopStage.TheVariants.{NudgeKey, ExchangeKey}
-use Rattle.smp_stop_steps.specs.declared.stage.Visit.{Visit}
+use Rattle.smp_words.proofs.Puts.{at_test, put_same}
+use Rattle.smp_stop_steps.specs.{has, change_of, count_after, is_on, word_of, seen_of, put, Field, Note, Patch, Work, Word, Gate, Slot, Key, Site, CarriesIn}
+use Rattle.smp_stop_steps.specs.{Change, ReadKey, ReadSite, StaysStill, HasRead, NoteFits, heard_of, Seat, In, Gives, Rests, Sets, Stands, irq_of, StopShows}
+use Rattle.smp_stop_steps.specs.{gate_word, HasRun, IsLoaded, IsNudge, IsThroughAll, RunsIf, SitsAt, SourceSits, DoneShows, begun_value, order, Source}
+use Rattle.smp_stop_steps.specs.{Drafts, Owns, DraftShows, OwnerShows, SourceShows, StopControlValue, answer_at, begun_next, key_on, looked_on, nudge_of}
+use Rattle.smp_stop_steps.specs.{nudge_on, stop_ends, stop_goes, store_of, visit_acked, Setup, StopState, StopCall, Calls, FunctionGoes, note_then}
+use Rattle.smp_stop_steps.specs.{state_after, Standing, Inside, Ended, acked, acknowledged, completed, opened, raised, stands as stands_at, answered_by}
+use Rattle.smp_stop_steps.specs.{drafts, acknowledges, completes, completes_with, calls_now, gate_told, is_multi, is_patch, key_loaded, key_told, leaves}
+use Rattle.smp_stop_steps.specs.{looked_by, looks, looks_now, may_call, patch_begun, reads, stored_open, stored_shut, tells, unpatched, with_stop, StopStage}
+use Rattle.smp_stop_steps.specs.{TakeGate, OpenGate, Begin, Enter, EnterKind, EnterMask, EnterActive, Advance, Complete, Close, LoadDone, LoadResult}
+use Rattle.smp_stop_steps.specs.{NudgeKey, ExchangeKey, Visit}
+use Rattle.smp_stop_steps.specs.Sits.{Sits}
+use Rattle.smp_stop_steps.specs.State.{Present}
+use Rattle.smp_stop_steps.specs.Stop.{Stop}
+use Rattle.smp_stop_steps.specs.declared.stage.StopStage.TheVariants.{ReadKey as ReadsKey, ReadSite as ReadsSite}
 use Rattle.smp_stop_steps.proofs.Basics.Counts.{put_own}
 use Rattle.smp_stop_steps.proofs.State.Gates.{gate_free, gate_mine}
 use Rattle.smp_stop_steps.proofs.State.Phases.{is_open_inside}
 use Rattle.smp_stop_steps.proofs.Steps.CallSteps.{call_step}
 use Rattle.smp_stop_steps.proofs.Steps.Facts.{patcher_active}
 use Rattle.smp_stop_steps.proofs.Steps.Patching.{not_run}
-use Rattle.smp_words.proofs.Puts.{put_same}
+use Rattle.smp_stop_steps.specs.place
+use Rattle.smp_stop_steps.specs.field
+use Rattle.smp_stop_steps.specs.act
+use Rattle.smp_stop_steps.specs.note
+use Rattle.smp_stop_steps.specs.completion
+use Rattle.smp_stop_steps.specs.round
 
 -- steps after which nothing is heard
 either_heard : (p q : StopState) (b : Bool) → heard_of q ≡ heard_of p → heard_of (cond b q p) ≡ heard_of p
-either_heard p q true e = e
-either_heard p q false e = refl
+either_heard p q b e = search arith
 
 ack_heard : (p : StopState) (me s n : ℕ) (b : Bool) → heard_of (cond b (stored_open p me s field.Ack n) (stored_shut p s field.Ack n)) ≡ heard_of p
-ack_heard p me s n true = refl
-ack_heard p me s n false = refl
+ack_heard p me s n b = search arith
 
 result_heard : (p : StopState) (me s n : ℕ) (b : Bool) → heard_of (cond b (stored_open p me s field.Result n) (stored_shut p s field.Result n)) ≡ heard_of p
-result_heard p me s n true = refl
-result_heard p me s n false = refl
+result_heard p me s n b = search arith
 
 patch_heard : (u : Setup) (p : StopState) (at : Word → ℕ) (me : ℕ) (x : Change) →
     heard_of (tells u p (seen_of me (store_of x) (at (word_of (store_of x))) None) 0) ≡ heard_of p
-patch_heard u p at me (place.Key k, n) = refl
-patch_heard u p at me (place.Site i, n) = refl
+patch_heard u p at me x = search arith
 
 -- steps that acknowledge no phase, and leave no stop
 same_still : (p : StopState) (me : ℕ) → StaysStill p p me
@@ -76,72 +51,37 @@ same_still p me s in_ = record { acked = inl refl; inside = inl in_ }
 
 put_acked : (f : ℕ → Stop) (i me : ℕ) (x : Stop) → acked (x.standing me) ≡ acked ((f i).standing me) → (s : ℕ) →
     acked ((put f i x s).standing me) ≡ acked ((f s).standing me)
-put_acked f i me x same s = at_test s i (λ b. acked ((cond b x (f s)).standing me) ≡ acked ((f s).standing me))
-    (λ e. same ∙ ap (λ j. acked ((f j).standing me)) (sym e)) (λ _. refl)
+put_acked f i me x same s = search (at_test, same, arith)
 
 draft_still : (p : StopState) (me slot n : ℕ) (f : Field) → StaysStill p (record p { now = drafts p.now slot f n }) me
-draft_still p me slot n f s in_ = record {
-  acked = inl (put_acked p.now.stop slot me (record (p.now.stop slot) { work = drafted f n (p.now.stop slot).work }) refl s);
-  inside = inl in_;
-}
+draft_still p me slot n f s in_ = search (put_acked, arith)
 
 looked_acked : (x : Standing) (n : ℕ) → acked (looked_by x n) ≡ acked x
-looked_acked Outside n = refl
-looked_acked Called n = refl
-looked_acked (Inside a l) n = refl
-looked_acked (Answering a v) n = refl
-looked_acked (Completed a v) n = refl
+looked_acked x n = search arith
 
 answered_acked : (x : Standing) (n : ℕ) → acked (answered_by x n) ≡ acked x
-answered_acked Outside n = refl
-answered_acked Called n = refl
-answered_acked (Inside a l) n = refl
-answered_acked (Answering a v) n = refl
-answered_acked (Completed a v) n = refl
+answered_acked x n = search arith
 
 either_still : (p q : StopState) (me : ℕ) (b : Bool) → StaysStill p q me → StaysStill p (cond b q p) me
-either_still p q me true h = h
-either_still p q me false h = same_still p me
+either_still p q me b h = search (same_still, arith)
 
 ack_still : (p : StopState) (me slot n : ℕ) (b : Bool) → StaysStill p (cond b (stored_open p me slot field.Ack n) (stored_shut p slot field.Ack n)) me
-ack_still p me slot n true s in_ = record { acked = inl (put_acked p.now.stop slot me (refilled (p.now.stop slot) me) refl s); inside = inl in_ }
-ack_still p me slot n false s in_ = draft_still p me slot n field.Ack s in_
+ack_still p me slot n b s in_ = search (put_acked, draft_still, arith)
 
 result_still : (p : StopState) (me slot n : ℕ) (b : Bool) → StaysStill p (cond b (stored_open p me slot field.Result n) (stored_shut p slot field.Result n)) me
-result_still p me slot n true s in_ = record {
-  acked = inl (put_acked p.now.stop slot me (stands_at (p.now.stop slot) me (answered_by ((p.now.stop slot).standing me) n))
-      (ap acked (put_same (p.now.stop slot).standing me (answered_by ((p.now.stop slot).standing me) n)) ∙
-      answered_acked ((p.now.stop slot).standing me) n) s);
-  inside = inl in_;
-}
-result_still p me slot n false s in_ = draft_still p me slot n field.Result s in_
+result_still p me slot n b s in_ = search (put_acked, put_same, answered_acked, draft_still, arith)
 
 loaded_still : (u : Setup) (p : StopState) (me key found : ℕ) (x : Option ℕ) → StaysStill p (record p { now = key_loaded u p.now me key found x }) me
-loaded_still u p me key found None s in_ = record { acked = inl refl; inside = inl in_ }
-loaded_still u p me key found (Some j) s in_ = either (is_at_run ((p.now.stop j).standing me) && is_patch (p.now.stop j).work.kind) s in_
-  where
-    either : (b : Bool) → StaysStill p (record p {
-      now = cond b (record (p.now) { patching = patch_begun u me (p.now.stop j).work found }) (reads p.now me (ReadKey key (is_on found)));
-    }) me
-    either true s in_ = record { acked = inl refl; inside = inl in_ }
-    either false s in_ = record { acked = inl refl; inside = inl in_ }
+loaded_still u p me key found x s in_ = search (found, arith)
 
 patch_still : (u : Setup) (p : StopState) (at : Word → ℕ) (me : ℕ) (x : Change) →
     StaysStill p (tells u p (seen_of me (store_of x) (at (word_of (store_of x))) None) 0) me
-patch_still u p at me (place.Key k, n) s in_ = record { acked = inl refl; inside = inl in_ }
-patch_still u p at me (place.Site i, n) s in_ = record { acked = inl refl; inside = inl in_ }
+patch_still u p at me x s in_ = search arith
 
 -- who says that it runs a function has called it
 run_called : (p q : StopState) (me func arg answer : ℕ) → FunctionGoes p q me (Some (note.Run func arg)) answer →
     (call : StopCall) × (q.calling me ≡ Calls call) × (call.func ≡ func) × (call.arg ≡ arg)
-run_called p q me func arg answer (inl x) = let bad : true ≡ false = x.says in cc
-run_called p q me func arg answer (inr (inl x)) =
-    let same : Some (note.Run func arg) ≡ Some (note.Run x.call.func x.call.arg) = x.says in
-    let funcs : x.call.func ≡ func = cc in
-    let args : x.call.arg ≡ arg = cc in
-    (x.call, ap (λ (y : Told). y.calling me) x.calls ∙ put_same p.calling me (Calls x.call), funcs, args)
-run_called p q me func arg answer (inr (inr (inl x))) = let bad : true ≡ false = x.says in cc
-run_called p q me func arg answer (inr (inr (inr x))) = let bad : true ≡ false = x.says in cc
+run_called p q me func arg answer h6 = search (arg, put_same, arith)
 
 module _ (u : Setup) (p : StopState) (at : Word → ℕ) (seat : ℕ → Seat) (source : ℕ → Source) (h : StopShows u p at seat source) (c : StopControlValue) (me : ℕ)
     (s : Sits u me (at Gate) c (seat me) (source me)) (k : CarriesIn c (p.calling me)) where
@@ -176,8 +116,7 @@ module _ (u : Setup) (p : StopState) (at : Word → ℕ) (seat : ℕ → Seat) (
   begun : (work : Work) (f : Field) → c.stage ≡ Some (Begin work f) → Fits (Begin work f)
   begun work f e =
       let d : DraftShows u p.gate (p.now.stop me) (λ f. at (Slot me f)) me work (order f) = source_is (Drafts work (order f)) (source_at (Begin work f) e).1 in
-      subst (λ b. NoteFits p (cond b (stored_open p me me f (begun_value u.cpus work f)) (stored_shut p me f (begun_value u.cpus work f))) me
-      (begun_next c work f).note) (sym d.shut) (go d.shut f)
+      search (go, arith)
     where
       here : put p.now.stop me (opened (p.now.stop me) (p.now.stop me).work) me ≡ opened (p.now.stop me) (p.now.stop me).work
       here = put_same p.now.stop me (opened (p.now.stop me) (p.now.stop me).work)
@@ -193,22 +132,10 @@ module _ (u : Setup) (p : StopState) (at : Word → ℕ) (seat : ℕ → Seat) (
       go shut field.Done = (inl refl, draft_still p me me (begun_value u.cpus work field.Done) field.Done)
       go shut field.Ack = (inl refl, draft_still p me me (begun_value u.cpus work field.Ack) field.Ack)
       go shut field.State = (inl refl, draft_still p me me (begun_value u.cpus work field.State) field.State)
-      go shut field.Roll = record {
-        shut = shut;
-        is_open = ap (λ (x : Stop). x.is_open) here;
-        begun = ap (λ (w : Work). record (heard_of p) { begun = put p.begun me (p.begun me ++ w ∷ []) }) (sym (ap (λ (x : Stop). x.work) here));
-      }
+      go shut field.Roll = search (here, arith)
 
   entering : (slot : ℕ) → c.stage ≡ Some (Enter slot) → Fits (Enter slot)
-  entering slot e = go (has (at (Slot slot field.Roll)) me)
-    where
-      free : p.now.inside me ≡ None
-      free = let x = seat_at (Enter slot) e in subst (Stands p.now me) x.1 (h.present.stands me)
-
-      go : (b : Bool) → NoteFits p (cond b (record p { now = enters p.now me slot }) p) me
-          (cond b (stop_goes c (EnterKind slot)) (stop_ends c note.Stale)).note
-      go true = (inl refl, λ j in_. absurd (let bad : None ≡ Some j = sym free ∙ in_ in let z : ⊥ = cc in z))
-      go false = (free, refl)
+  entering slot e = search (seat_at, h.present.stands, arith)
 
   module _ (v : Visit) where
     looked : (answer : ℕ) → c.stage ≡ Some (Advance v (round.Look answer)) → Fits (Advance v (round.Look answer))
@@ -221,12 +148,7 @@ module _ (u : Setup) (p : StopState) (at : Word → ℕ) (seat : ℕ → Seat) (
         after d = record (looks p me v.slot found) { now = record (looks_now p.now me v.slot found) { irq = cond d (put p.now.irq me false) p.now.irq } }
 
         still : (d : Bool) → StaysStill p (after d) me
-        still d j in_ = record {
-          acked = inl (put_acked p.now.stop v.slot me (stands_at (p.now.stop v.slot) me (looked_by ((p.now.stop v.slot).standing me) found))
-              (ap acked (put_same (p.now.stop v.slot).standing me (looked_by ((p.now.stop v.slot).standing me) found)) ∙
-              looked_acked ((p.now.stop v.slot).standing me) found) j);
-          inside = inl in_;
-        }
+        still d j in_ = search (put_acked, found, put_same, looked_acked, arith)
 
         go : (work : Work) → seat me ≡ In v.slot work v.acked v.acked Rests → (b d : Bool) → (found == v.acked) ≡ b → (found == 2) ≡ d →
             NoteFits p (after d) me (cond b (stop_ends c note.Same) (looked_on me c v answer found)).note
@@ -260,13 +182,11 @@ module _ (u : Setup) (p : StopState) (at : Word → ℕ) (seat : ℕ → Seat) (
 
     arg_heard : (slot answer : ℕ) → heard_of (cond (may_call me (p.now.stop slot).work ((p.now.stop slot).standing me))
         (calls_now p me (p.now.stop slot).work (at (Slot slot field.Arg)) answer) p) ≡ heard_of p
-    arg_heard slot answer = either_heard p (calls_now p me (p.now.stop slot).work (at (Slot slot field.Arg)) answer)
-        (may_call me (p.now.stop slot).work ((p.now.stop slot).standing me)) refl
+    arg_heard slot answer = search (either_heard, arith)
 
     arg_still : (slot answer : ℕ) → StaysStill p (cond (may_call me (p.now.stop slot).work ((p.now.stop slot).standing me))
         (calls_now p me (p.now.stop slot).work (at (Slot slot field.Arg)) answer) p) me
-    arg_still slot answer = either_still p (calls_now p me (p.now.stop slot).work (at (Slot slot field.Arg)) answer) me
-        (may_call me (p.now.stop slot).work ((p.now.stop slot).standing me)) (λ j in_. record { acked = inl refl; inside = inl in_ })
+    arg_still slot answer = search (either_still, arith)
 
     arg : (answer func : ℕ) → c.stage ≡ Some (Advance v (round.LoadArg answer func)) → Fits (Advance v (round.LoadArg answer func))
     arg answer func e = go (is_multi v.kind) refl
@@ -298,26 +218,15 @@ module _ (u : Setup) (p : StopState) (at : Word → ℕ) (seat : ℕ → Seat) (
         found = at (Key key)
 
         none : (o : Option ℕ) → (key_on c v key found o).note ≡ None
-        none None = refl
-        none (Some new) = elim (found == new) as (λ b. (cond b (stop_goes (record c { changes = [] }) (Advance v (round.Acknowledge 0 true)))
-            (stop_goes (record c { changes = (place.Key key, new) ∷ [] }) (Advance v (cond (xor (is_on found) (is_on new))
-            (round.LoadEntry key new 0) (round.StoreChange 0))))).note ≡ None) [ true ↦ refl | false ↦ refl ]
+        none o = search (found, arith)
 
         patch : (b : Bool) → b ≡ true → heard_of (record p {
           now = cond b (record (p.now) { patching = patch_begun u me (p.now.stop v.slot).work found }) (reads p.now me (ReadKey key (is_on found)));
         }) ≡ heard_of p
-        patch true is = refl
-        patch false is = cc
+        patch b is = search arith
 
         unheard : heard_of (record p { now = key_loaded u p.now me key found (p.now.inside me) }) ≡ heard_of p
-        unheard =
-            let x = (seat_at (Advance v (round.LoadKey key change)) e).1 in
-            let run = x.1.1 in
-            let st : Stands p.now me (In v.slot x.1.0 2 3 Rests) = stands (In v.slot x.1.0 2 3 Rests) run.3 in
-            let kind : (p.now.stop v.slot).work.kind ≡ Patch = ap (λ (w : Work). w.kind) st.3 ∙ (sym run.0.kind ∙ x.0) in
-            ap (λ y. heard_of (record p { now = key_loaded u p.now me key found y })) st.0 ∙
-            patch (is_at_run ((p.now.stop v.slot).standing me) && is_patch (p.now.stop v.slot).work.kind)
-            (ap (λ y. is_at_run y && is_patch (p.now.stop v.slot).work.kind) st.1 ∙ ap is_patch kind)
+        unheard = search (seat_at, stands, found, patch, arith)
 
     -- the acknowledgement of a phase
     module _ (answer : ℕ) (ran : Bool) where
@@ -366,14 +275,7 @@ module _ (u : Setup) (p : StopState) (at : Word → ℕ) (seat : ℕ → Seat) (
 
         -- the last to acknowledge is to set the next phase
         acked_still : (at (Slot v.slot field.Ack) == 1) ≡ true → StaysStill p (acked_after false) me
-        acked_still one j is =
-            let both : Some j ≡ Some v.slot = sym is ∙ in_ in
-            let same : j ≡ v.slot = cc in
-            record {
-              acked = inr (ap (λ i. (put p.now.stop v.slot acked_stop i).raising) same ∙ (ap (λ (x : Stop). x.raising) acked_here ∙
-                  ap (λ b. cond b (Refills me) (p.now.stop v.slot).raising) one));
-              inside = inl is;
-            }
+        acked_still one j is = search (acked_here, one, arith)
 
         acked_fits : (b d : Bool) → (at (Slot v.slot field.Ack) == 1) ≡ b → (phase == 4) ≡ d → NoteFits p (acked_after (d && not b)) me
             (cond b (stop_goes acked_control (Advance (visit_acked v answer ran) (round.Refill ran)))
@@ -385,42 +287,18 @@ module _ (u : Setup) (p : StopState) (at : Word → ℕ) (seat : ℕ → Seat) (
             record {
               acked = record { slot = v.slot; inside = in_; stands = acked_stands ∙ ap (λ n. Inside n n) is_four };
               off = ⊎_elim (λ (o : p.now.irq me ≡ false). o) (λ (ne : phase ≢ 4). absurd (ne is_four)) off;
-              on = ap (λ (w : Work). record (heard_of p) {
-                irq = put p.now.irq me true;
-                readings = put p.now.readings me (first_readings me v.slot w);
-              }) (sym (ap (λ (x : Stop). x.work) acked_here));
+              on = search (acked_here, arith);
             }
-        acked_fits false false one four =
-            acked_turn ran refl (λ is_four. let bad : true ≡ false = sym (eq-eqb phase 4 is_four) ∙ four in cc)
+        acked_fits false false one four = search (acked_turn, eq-eqb, arith)
 
         ack_fits : Fits (Advance v (round.Acknowledge answer ran))
-        ack_fits = subst (λ (y : Standing). NoteFits p (acknowledges p me v.slot y (at (Slot v.slot field.Ack))) me
-            (note_then u at c me (Advance v (round.Acknowledge answer ran)))) (sym st) (acked_fits (at (Slot v.slot field.Ack) == 1) (phase == 4) refl refl)
+        ack_fits = search (st, acked_fits, arith)
 
       run_of : (b : Bool) → RunsIf me v b → HasRun me (visit_acked v answer b) b
-      run_of true runs = record { at_run = λ _. ap (λ n. n + 1) runs.0; active = λ _. runs.2 }
-      run_of false runs = record { at_run = λ bad. cc; active = λ three. runs (omega arith) }
+      run_of b runs = search arith
 
       acknowledge : c.stage ≡ Some (Advance v (round.Acknowledge answer ran)) → Fits (Advance v (round.Acknowledge answer ran))
-      acknowledge e = let x = (seat_at (Advance v (round.Acknowledge answer ran)) e).1 in either x.0 x.1 x.3
-        where
-          either : (work : Work) → IsLoaded v work →
-              (((seat me ≡ In v.slot work v.acked (v.acked + 1) Rests) × RunsIf me v ran) ⊎ ((v.acked ≡ 2) × (ran ≡ true) ×
-              ((count : ℕ) × (answer ≡ patch_answer work count) × (seat me ≡ Alters v.slot work count (plan_at u work count) [])))) →
-              Fits (Advance v (round.Acknowledge answer ran))
-          either work loaded (inl (is, runs)) =
-              let st = stands (In v.slot work v.acked (v.acked + 1) Rests) is in
-              ack_fits st.0 st.1 (off (v.acked == 3) refl) (run_of ran runs) (loaded.active ∙ ap (λ (w : Work). w.active) (sym st.3))
-            where
-              off : (b : Bool) → (v.acked == 3) ≡ b → (p.now.irq me ≡ false) ⊎ (phase ≢ 4)
-              off true three = inl (h.present.irq me ∙ (ap irq_of is ∙ ap (λ n. irq_of (In v.slot work n (n + 1) Rests)) (eqb-true v.acked 3 three)))
-              off false three = inr (λ is_four. let bad : true ≡ false = sym (eq-eqb v.acked 3 (omega arith)) ∙ three in cc)
-          either work loaded (inr (two, runs, (n, answers, is))) =
-              let st = stands (Alters v.slot work n (plan_at u work n) []) is in
-              let its = patcher_active u p at seat source h v.slot me work n (plan_at u work n) [] is in
-              let active : has v.active me ≡ true = ap (λ m. has m me) loaded.active ∙ its in
-              ack_fits st.0 (st.1 ∙ ap (λ n. Inside n (n + 1)) (sym two)) (inl (h.present.irq me ∙ ap irq_of is))
-              (record { at_run = λ _. ap (λ n. n + 1) two; active = λ _. active ∙ sym runs }) (loaded.active ∙ ap (λ (w : Work). w.active) (sym st.3))
+      acknowledge e = search (seat_at, v.acked, stands, ack_fits, run_of, h.present.irq, eqb-true, eq-eqb, patcher_active, v.active, arith)
 
     -- who sets the phase after EXIT leaves with it
     module _ (ran : Bool) where
@@ -467,26 +345,14 @@ module _ (u : Setup) (p : StopState) (at : Word → ℕ) (seat : ℕ → Seat) (
             record {
               acked = record { slot = v.slot; inside = in_; stands = raised_stands ∙ ap (λ n. Inside n n) is_four };
               off = h.present.irq me ∙ (ap irq_of is ∙ ap (λ n. irq_of (In v.slot work n n Sets)) is_four);
-              on = ap (λ (w : Work). record (heard_of p) {
-                irq = put p.now.irq me true;
-                readings = put p.now.readings me (first_readings me v.slot w);
-              }) (sym (ap (λ (x : Stop). x.work) raised_here));
+              on = search (raised_here, arith);
             }
-        raised_fits true false four five =
-            let is_four : v.acked ≡ 4 = eqb-true v.acked 4 four in let bad : true ≡ false = sym (eq-eqb (v.acked + 1) 5 (omega arith)) ∙ five in cc
-        raised_fits false true four five =
-            let is_five : v.acked + 1 ≡ 5 = eqb-true (v.acked + 1) 5 five in let bad : true ≡ false = sym (eq-eqb v.acked 4 (omega arith)) ∙ four in cc
-        raised_fits false false four five =
-            raised_turn ran refl (λ is_four. let bad : true ≡ false = sym (eq-eqb v.acked 4 is_four) ∙ four in cc)
+        raised_fits true false four five = search (eqb-true, v.acked, eq-eqb, arith)
+        raised_fits false true four five = search (eqb-true, eq-eqb, v.acked, arith)
+        raised_fits false false four five = search (raised_turn, eq-eqb, v.acked, arith)
 
       raise : c.stage ≡ Some (Advance v (round.Raise ran)) → Fits (Advance v (round.Raise ran))
-      raise e =
-          let x = (seat_at (Advance v (round.Raise ran)) e).1 in
-          let st = stands (In v.slot x.0 v.acked v.acked Sets) x.2 in
-          let op = is_open_inside u.cpus (p.now.stop v.slot) (λ f. at (Slot v.slot f)) (h.present.slots v.slot) me (Inside v.acked v.acked) st.1 refl in
-          subst (λ b. NoteFits p (cond b (stored_open p me v.slot field.State (v.acked + 1)) (stored_shut p v.slot field.State (v.acked + 1))) me
-          (note_then u at c me (Advance v (round.Raise ran)))) (sym op)
-          (raised_fits x.0 x.1 x.2 x.3 st.0 st.1 st.3 (v.acked == 4) (v.acked + 1 == 5) refl refl)
+      raise e = search (seat_at, stands, v.acked, is_open_inside, h.present.slots, raised_fits, arith)
 
     count_down : c.stage ≡ Some (Complete v completion.CountDown) → Fits (Complete v completion.CountDown)
     count_down e = let x = (seat_at (Complete v completion.CountDown) e).1 in either x.0 x.1
@@ -497,15 +363,7 @@ module _ (u : Setup) (p : StopState) (at : Word → ℕ) (seat : ℕ → Seat) (
         -- the last to complete is to store done
         still : (a x : ℕ) → p.now.inside me ≡ Some v.slot → acked ((p.now.stop v.slot).standing me) ≡ a → (found == 1) ≡ true →
             StaysStill p (completes_with p me v.slot a x found) me
-        still a x in_ was one j is =
-            let both : Some j ≡ Some v.slot = sym is ∙ in_ in
-            let same : j ≡ v.slot = cc in
-            let next = completed (p.now.stop v.slot) me a x found in
-            record {
-              acked = inl (put_acked p.now.stop v.slot me next (ap acked (put_same (p.now.stop v.slot).standing me (Completed a x)) ∙ sym was) j);
-              inside = inr (ap (λ i. (put p.now.stop v.slot next i).ending) same ∙ (ap (λ (y : Stop). y.ending) (put_same p.now.stop v.slot next) ∙
-                  ap (λ b. cond b (Last me) (p.now.stop v.slot).ending) one));
-            }
+        still a x in_ was one j is = search (found, put_acked, put_same, one, arith)
 
         go : (a x : ℕ) → p.now.inside me ≡ Some v.slot → acked ((p.now.stop v.slot).standing me) ≡ a → (b : Bool) → (found == 1) ≡ b →
             NoteFits p (completes_with p me v.slot a x found) me
@@ -515,23 +373,10 @@ module _ (u : Setup) (p : StopState) (at : Word → ℕ) (seat : ℕ → Seat) (
 
         either : (work : Work) → (((v.answer ≡ 0) × IsLoaded v work × IsThroughAll v × (seat me ≡ In v.slot work v.acked v.acked Rests)) ⊎
             (seat me ≡ Gives v.slot work v.acked v.answer)) → Fits (Complete v completion.CountDown)
-        either work (inl (none, loaded, all, is)) =
-            let st = stands (In v.slot work v.acked v.acked Rests) is in
-            subst (λ (y : Standing). NoteFits p (completes p me v.slot y found) me (note_then u at c me (Complete v completion.CountDown))) (sym st.1)
-            (go v.acked 0 st.0 (ap acked st.1) (found == 1) refl)
-        either work (inr is) =
-            let st = stands (Gives v.slot work v.acked v.answer) is in
-            subst (λ (y : Standing). NoteFits p (completes p me v.slot y found) me (note_then u at c me (Complete v completion.CountDown))) (sym st.1)
-            (go v.acked v.answer st.0 (ap acked st.1) (found == 1) refl)
+        either work h1 = search (stands, v.acked, found, go, arith)
 
   close : (slot : ℕ) → c.stage ≡ Some (Close slot) → Fits (Close slot)
-  close slot e =
-      let st = stands (Closes slot) (seat_at (Close slot) e).1 in
-      subst (λ b. NoteFits p (cond b (stored_open p me slot field.Done 1) (stored_shut p slot field.Done 1)) me (Some note.Finished)) (sym st.1) (record {
-        same = refl;
-        outside = st.0;
-        finished = inr (slot, st.2, ap (λ (x : Stop). x.ending) (put_same p.now.stop slot (ended (p.now.stop slot))));
-      })
+  close slot e = search (stands, seat_at, put_same, arith)
 
   load_done : c.stage ≡ Some LoadDone → Fits LoadDone
   load_done e = go (at (Slot me field.Done) == 0) refl
@@ -540,10 +385,7 @@ module _ (u : Setup) (p : StopState) (at : Word → ℕ) (seat : ℕ → Seat) (
       owner = source_is (Owns (source_at LoadDone e).1.0) (source_at LoadDone e).1.1
 
       not_ended : at (Slot me field.Done) ≡ 0 → (p.now.stop me).ending ≢ Ended
-      not_ended none is =
-          let d : DoneShows u.cpus (p.now.stop me).standing Ended (at (Slot me field.Done)) =
-          subst (λ x. DoneShows u.cpus (p.now.stop me).standing x (at (Slot me field.Done))) is ((h.present.slots me).shows owner.is_open).done in
-          let one : at (Slot me field.Done) ≡ 1 = d.0 in omega (arith, one, none)
+      not_ended none is = search (h.present.slots, none, arith)
 
       go : (b : Bool) → (at (Slot me field.Done) == 0) ≡ b → NoteFits p p me (cond b (stop_ends c note.Pending) (stop_goes c LoadResult)).note
       go true none = (owner.is_open, not_ended (eqb-true (at (Slot me field.Done)) 0 none), refl)
@@ -621,50 +463,28 @@ module _ (u : Setup) (p : StopState) (at : Word → ℕ) (seat : ℕ → Seat) (
 
   pub note_fits : (stage : StopStage) → c.stage ≡ Some stage → Fits stage
   note_fits TakeGate e = gated
-  note_fits OpenGate e = (gate_mine me p.gate (sym h.gate ∙ held), refl)
-    where
-      held : at Gate ≡ me + 1
-      held = subst (HoldsGate me (at Gate)) e s.gate_held
+  note_fits OpenGate e = search (gate_mine, arith)
   note_fits (Begin work f) e = begun work f e
   note_fits (Enter slot) e = entering slot e
   note_fits (EnterKind slot) e = (inl refl, same_still p me)
   note_fits (EnterMask slot kind) e = (inl refl, same_still p me)
-  note_fits (EnterActive slot kind mask) e =
-      let x = seat_at (EnterActive slot kind mask) e in
-      let st = stands (In slot x.0 0 0 Rests) x.1 in
-      (record { slot = slot; inside = st.0; stands = st.1 }, refl)
+  note_fits (EnterActive slot kind mask) e = search (seat_at, stands, arith)
   note_fits (Advance v (round.Look answer)) e = looked v answer e
   note_fits (Advance v (round.LoadFunc answer)) e = (inl refl, same_still p me)
   note_fits (Advance v (round.LoadArg answer func)) e = arg v answer func e
   note_fits (Advance v (round.LoadKey key change)) e = load_key v key change e
   note_fits (Advance v (round.LoadEntry key word site)) e = (inl refl, same_still p me)
-  note_fits (Advance v (round.StoreChange made)) e =
-      (inl (patch_heard u p at me (change_at c.changes made)), patch_still u p at me (change_at c.changes made))
+  note_fits (Advance v (round.StoreChange made)) e = search (patch_heard, patch_still, arith)
   note_fits (Advance v (round.Acknowledge answer ran)) e = acknowledge v answer ran e
-  note_fits (Advance v (round.Refill ran)) e = (
-    inl (ack_heard p me v.slot (mask_weight u.cpus v.mask) (p.now.stop v.slot).is_open),
-    ack_still p me v.slot (mask_weight u.cpus v.mask) (p.now.stop v.slot).is_open,
-  )
+  note_fits (Advance v (round.Refill ran)) e = search (ack_heard, ack_still, arith)
   note_fits (Advance v (round.Raise ran)) e = raise v ran e
   note_fits (Complete v (completion.LoadFunc answer)) e = (inl refl, same_still p me)
-  note_fits (Complete v (completion.LoadArg answer func)) e = (
-    run_called p (state_after u p at c me (Complete v (completion.LoadArg answer func))) me func (at (Slot v.slot field.Arg)) answer
-        (goes (Complete v (completion.LoadArg answer func)) e),
-    arg_heard v v.slot answer,
-  )
-  note_fits (Complete v completion.StoreAnswer) e = (
-    inl (result_heard p me v.slot v.answer (p.now.stop v.slot).is_open),
-    result_still p me v.slot v.answer (p.now.stop v.slot).is_open,
-  )
+  note_fits (Complete v (completion.LoadArg answer func)) e = search (run_called, goes, arg_heard, arith)
+  note_fits (Complete v completion.StoreAnswer) e = search (result_heard, result_still, arith)
   note_fits (Complete v completion.CountDown) e = count_down v e
   note_fits (Close slot) e = close slot e
   note_fits LoadDone e = load_done e
-  note_fits LoadResult e = record {
-    found = at (Slot me field.Result);
-    collected = refl;
-    shut = ap (λ (x : Stop). x.is_open) (put_same p.now.stop me (closed (p.now.stop me)));
-    as_i32 = refl;
-  }
+  note_fits LoadResult e = search (put_same, arith)
   note_fits (ReadsKey key) e = read_key key e
   note_fits (ReadsSite site) e = read_site site
   note_fits (NudgeKey key up) e = nudge key up e

@@ -1,39 +1,21 @@
 -- Laws of nudges and patches, by where a CPU stands.
-use Rattle.std.proofs.Common.{◌≡◌, ◌≢◌, ℕ, ◌+◌, ◌-◌, ◌<◌, Bool, true, false, nat_lt, ltb-true, lt-ltb, eq-eqb, eqb-true, ◌==◌, ◌&&◌, cond, sym, subst}
-use Rattle.std.proofs.Common.{refl, ap, ◌∙◌, ◌⊎◌, inl, inr, ⊎_elim, arith, Option, Some, None, List, [], ◌∷◌, ◌++◌}
+use Rattle.std.proofs.Common.{◌≡◌, ◌≢◌, ℕ, ◌+◌, ◌-◌, ◌<◌, Bool, true, false, nat_lt, ltb-true, lt-ltb, eq-eqb, eqb-true, ◌==◌, ◌&&◌, cond, sym, subst, refl}
+use Rattle.std.proofs.Common.{ap, ◌∙◌, inl, inr, arith, Option, Some, None, List, [], ◌∷◌, ◌++◌}
 use Rattle.std.proofs.lemmas.Bool.{cases_lt}
-use Rattle.smp_labels.specs.Keys.{is_on, change_of, count_after, IsKeyWord}
 use Rattle.smp_labels.specs.Kinds.{xor}
 use Rattle.smp_labels.specs.declared.keys.Change.TheVariants.{Up, Down}
-use Rattle.smp_words.specs.Access.{put_if}
 use Rattle.smp_words.proofs.Puts.{at_test, put_same}
+use Rattle.smp_stop_steps.specs.{is_on, count_after, IsKeyWord, Change, Patches, ReadKey, Whole, IsPatched, KeysStand, Nudges, ReadsOwnPatch, StandsAtEdge}
+use Rattle.smp_stop_steps.specs.{Seat, StopShows, SitsAtRest, Source, StopControlValue, nudge_on, stop_ends, stop_goes, Setup, StopState, at_then}
+use Rattle.smp_stop_steps.specs.{state_after, is_patch, key_loaded, patch_begun, reads, StopStage, Advance, ExchangeKey, NudgeKey, Visit, Patch, Work, Word}
+use Rattle.smp_stop_steps.specs.{Gate, Key}
 use Rattle.smp_stop_steps.proofs.State.Patched.{lawful_when_on, nobody_patches}
 use Rattle.smp_stop_steps.proofs.Steps.Patching.{not_run}
-use Rattle.smp_words.specs.Put.{put_word}
-use Rattle.smp_stop_steps.specs.Labels.{Change, Patches, ReadKey, Whole, patch_answer, reading_of, state_left}
-use Rattle.smp_stop_steps.specs.Present.{RunnerShows}
-use Rattle.smp_stop_steps.specs.Promises.{IsPatched, KeysStand, Nudges, ReadsOwnPatch, StandsAtEdge}
-use Rattle.smp_stop_steps.specs.Seats.{Alters, In, Rests, Seat, Stands}
-use Rattle.smp_stop_steps.specs.Shows.{StopShows}
-use Rattle.smp_stop_steps.specs.Sits.{RunsIf, IsNudge, Sits, SitsAtRest}
-use Rattle.smp_stop_steps.specs.Sources.{Source}
-use Rattle.smp_stop_steps.specs.Stages.{StopControlValue, nudge_on, stop_ends, stop_goes}
-use Rattle.smp_stop_steps.specs.State.{Present, Setup, StopState}
-use Rattle.smp_stop_steps.specs.Steps.{at_then, state_after}
-use Rattle.smp_stop_steps.specs.Tells.{first_readings, is_patch, key_loaded, patch_begun, plan_at, reads}
-use Rattle.smp_words.specs.declared.seen.Note.TheVariants as note
-use Rattle.smp_stop_steps.specs.declared.stage.CompletionStage.TheVariants as completion
-use Rattle.smp_stop_steps.specs.declared.stage.RoundStage.TheVariants as round
-use Rattle.smp_stop_steps.specs.declared.stage.StopStage.{StopStage}
-use Rattle.smp_stop_steps.specs.declared.stage.StopStage.TheVariants.{Advance, Begin, Close, Complete, Enter, EnterActive, EnterKind, EnterMask}
-use Rattle.smp_stop_steps.specs.declared.stage.StopStage.TheVariants.{ExchangeKey, LoadDone, LoadResult, NudgeKey, OpenGate, ReadKey as LoadKey}
-use Rattle.smp_stop_steps.specs.declared.stage.StopStage.TheVariants.{ReadSite, TakeGate}
-use Rattle.smp_stop_steps.specs.declared.stage.Visit.{Visit}
-use Rattle.smp_words.specs.declared.work.Kind.TheVariants.{Patch}
-use Rattle.smp_words.specs.declared.work.Work.{Work}
-use Rattle.smp_words.specs.declared.word.Word.{Word}
-use Rattle.smp_words.specs.declared.word.Word.TheVariants.{Gate, Key}
+use Rattle.smp_stop_steps.specs.Sits.{Sits}
+use Rattle.smp_stop_steps.specs.State.{Present}
 use Rattle.smp_stop_steps.proofs.Steps.Stages.{at_seat}
+use Rattle.smp_stop_steps.specs.note
+use Rattle.smp_stop_steps.specs.round
 
 module _ (u : Setup) (p : StopState) (at : Word → ℕ) (seat : ℕ → Seat) (source : ℕ → Source) (h : StopShows u p at seat source) (c : StopControlValue) (me : ℕ)
     (s : Sits u me (at Gate) c (seat me) (source me)) where
@@ -42,20 +24,7 @@ module _ (u : Setup) (p : StopState) (at : Word → ℕ) (seat : ℕ → Seat) (
 
   -- who nudges
   pub nudges : (k expected new : ℕ) → c.stage ≡ Some (ExchangeKey k expected new) → Nudges u p me expected new
-  nudges k expected new e =
-      let x : (c.interrupts ≡ true) × (u.online me ≡ true) × (k < u.keys) × IsNudge expected new × SitsAtRest c.visit (seat me) =
-      at_seat s (ExchangeKey k expected new) e in
-      let on = on_now x.0 in
-      record { online = x.1; irq = on; whole = nobody_patches u p.now at seat h.present me x.1 on; nudge = x.3; some = above x.3 }
-    where
-      from_on : (n : ℕ) → is_on n ≡ true → 0 < n
-      from_on n e = ltb-true 0 n e
-
-      above : IsNudge expected new → (0 < expected) × (0 < new)
-      above nudge = ⊎_elim
-          (λ (more : new ≡ expected + 1). (from_on expected (sym nudge.same ∙ lt-ltb 0 new (omega arith)), (let z : 0 < new = omega arith in z)))
-          (λ (less : expected ≡ new + 1). ((let z : 0 < expected = omega arith in z), from_on new (nudge.same ∙ lt-ltb 0 expected (omega arith))))
-          nudge.one
+  nudges k expected new e = search (c.visit, at_seat, on_now, nobody_patches, h.present, ltb-true, lt-ltb, arith)
 
   -- what is now says what was said, and that the key was read
   abbrev Reads : ℕ → Present → Type 0
@@ -92,112 +61,26 @@ module _ (u : Setup) (p : StopState) (at : Word → ℕ) (seat : ℕ → Seat) (
     where
       -- a nudge that goes on has another note
       goes : (n : ℕ) → Refuses k (Some n) → ⊥
-      goes n = go (xor (is_on (at (Key k))) (is_on n))
-        where
-          go : (b : Bool) → (cond b (stop_ends c note.Stop) (stop_goes c (ExchangeKey k (at (Key k)) n))).note ≢ Some note.KeyRange
-          go true e = cc
-          go false e = cc
+      goes n = search arith
 
       stands : (up : Bool) → IsKeyWord (at (Key k)) → Refuses k (count_after (cond up Up Down) (at (Key k))) → at (Key k) ≡ cond up 65535 0
-      stands true fits refused = go (nat_lt (at (Key k)) 65535) refl refused
-        where
-          go : (b : Bool) → nat_lt (at (Key k)) 65535 ≡ b → Refuses k (cond b (Some (at (Key k) + 1)) None) → at (Key k) ≡ 65535
-          go true z refused = absurd (goes (at (Key k) + 1) refused)
-          go false z refused = elim (cases_lt (at (Key k)) 65535) [
-            | inl low ↦ absurd (let bad : true ≡ false = sym (lt-ltb (at (Key k)) 65535 low) ∙ z in cc)
-            | inr high ↦ omega arith
-          ]
-      stands false fits refused = go (at (Key k) == 0) refl refused
-        where
-          go : (b : Bool) → (at (Key k) == 0) ≡ b → Refuses k (cond b None (Some (at (Key k) - 1))) → at (Key k) ≡ 0
-          go true z refused = eqb-true (at (Key k)) 0 z
-          go false z refused = absurd (goes (at (Key k) - 1) refused)
+      stands up fits refused = search (nat_lt, goes, cases_lt, lt-ltb, eqb-true, arith)
 
       shows : (up : Bool) → at (Key k) ≡ cond up 65535 0 → is_on (at (Key k)) ≡ up
-      shows true e = ap is_on e
-      shows false e = ap is_on e
+      shows up e = search arith
 
   -- outside a patch
   loaded : KeysStand at at
   loaded = record { keys = λ k. refl; sites = λ i. refl }
 
   pub keys_stand : (stage : StopStage) → c.stage ≡ Some stage → p.now.patching ≡ Whole → KeysStand at (at_then u at c me stage)
-  keys_stand TakeGate e w = elim (at Gate == 0) as (λ b. KeysStand at (put_if put_word at Gate (cond b (Some (me + 1)) None))) [
-    | true ↦ record { keys = λ k. refl; sites = λ i. refl }
-    | false ↦ loaded
-  ]
-  keys_stand OpenGate e w = record { keys = λ k. refl; sites = λ i. refl }
-  keys_stand (Begin work f) e w = record { keys = λ k. refl; sites = λ i. refl }
-  keys_stand (Enter slot) e w = record { keys = λ k. refl; sites = λ i. refl }
-  keys_stand (EnterKind slot) e w = loaded
-  keys_stand (EnterMask slot kind) e w = loaded
-  keys_stand (EnterActive slot kind mask) e w = loaded
-  keys_stand (Advance v (round.Look answer)) e w = loaded
-  keys_stand (Advance v (round.LoadFunc answer)) e w = loaded
-  keys_stand (Advance v (round.LoadArg answer func)) e w = loaded
-  keys_stand (Advance v (round.LoadKey key change)) e w = loaded
-  keys_stand (Advance v (round.LoadEntry key word site)) e w = loaded
-  keys_stand (Advance v (round.StoreChange made)) e w =
-      let x = (at_seat s (Advance v (round.StoreChange made)) e).1 in
-      let st : Stands p.now me (Alters v.slot x.0 x.1 x.6.0 x.6.1) = subst (Stands p.now me) x.6.4 (h.present.stands me) in
-      let bad : Whole ≡ Patches me x.0 x.1 x.6.0 x.6.1 = sym w ∙ st.5 in cc
-  keys_stand (Advance v (round.Acknowledge answer ran)) e w = record { keys = λ k. refl; sites = λ i. refl }
-  keys_stand (Advance v (round.Refill ran)) e w = record { keys = λ k. refl; sites = λ i. refl }
-  keys_stand (Advance v (round.Raise ran)) e w = record { keys = λ k. refl; sites = λ i. refl }
-  keys_stand (Complete v (completion.LoadFunc answer)) e w = loaded
-  keys_stand (Complete v (completion.LoadArg answer func)) e w = loaded
-  keys_stand (Complete v completion.StoreAnswer) e w = record { keys = λ k. refl; sites = λ i. refl }
-  keys_stand (Complete v completion.CountDown) e w = record { keys = λ k. refl; sites = λ i. refl }
-  keys_stand (Close slot) e w = record { keys = λ k. refl; sites = λ i. refl }
-  keys_stand LoadDone e w = loaded
-  keys_stand LoadResult e w = loaded
-  keys_stand (LoadKey k) e w = loaded
-  keys_stand (ReadSite i) e w = loaded
-  keys_stand (NudgeKey k up) e w = loaded
-  keys_stand (ExchangeKey k expected new) e w = go (at (Key k) == expected) refl
-    where
-      go : (b : Bool) → (at (Key k) == expected) ≡ b → KeysStand at (put_if put_word at (Key k) (cond b (Some new) None))
-      go true z = record {
-        keys = λ j. at_test j k (λ b. is_on (cond b new (at (Key j))) ≡ is_on (at (Key j)))
-            (λ same. (nudges k expected new e).nudge.same ∙ ap is_on (sym (eqb-true (at (Key k)) expected z) ∙ ap (λ i. at (Key i)) (sym same))) (λ _. refl);
-        sites = λ i. refl;
-      }
-      go false z = loaded
+  keys_stand stage e w = search (loaded, at_seat, h.present.stands, at_test, nudges, eqb-true, arith)
 
   -- a patch that is to acknowledge
   pub patch_answers : (v : Visit) (answer : ℕ) (ran : Bool) → c.stage ≡ Some (Advance v (round.Acknowledge answer ran)) →
       (work : Work) (count : ℕ) (made rest : List Change) → p.now.patching ≡ Patches me work count made rest → IsPatched u work count made rest answer ran
-  patch_answers v answer ran e work count made rest is =
-      let x = (at_seat s (Advance v (round.Acknowledge answer ran)) e).1 in
-      either x.0 x.3
-    where
-      either : (w : Work) → ((seat me ≡ In v.slot w v.acked (v.acked + 1) Rests) × RunsIf me v ran) ⊎
-          ((v.acked ≡ 2) × (ran ≡ true) × ((n : ℕ) × (answer ≡ patch_answer w n) × (seat me ≡ Alters v.slot w n (plan_at u w n) []))) →
-          IsPatched u work count made rest answer ran
-      either w (inl (sits, calm)) =
-          let r : RunnerShows u.first (Patches me work count made rest) seat = subst (λ x. RunnerShows u.first x seat) is h.present.runner in
-          let bad : In v.slot w v.acked (v.acked + 1) Rests ≡ Alters r.1.0 work count made rest = sym sits ∙ r.1.1 in cc
-      either w (inr (two, runs, (n, answers, sits))) =
-          let st : Stands p.now me (Alters v.slot w n (plan_at u w n) []) = subst (Stands p.now me) sits (h.present.stands me) in
-          let same : Patches me w n (plan_at u w n) [] ≡ Patches me work count made rest = sym st.5 ∙ is in
-          let is_work : w ≡ work = cc in
-          let is_count : n ≡ count = cc in
-          let is_made : plan_at u w n ≡ made = cc in
-          let is_rest : [] ≡ rest = cc in
-          record {
-            all = sym is_made ∙ (ap (λ x. plan_at u x n) is_work ∙ ap (λ i. plan_at u work i) is_count);
-            none_left = sym is_rest;
-            answers = answers ∙ (ap (λ x. patch_answer x n) is_work ∙ ap (λ i. patch_answer work i) is_count);
-            runs = runs;
-          }
+  patch_answers v answer ran e work count made rest is = search (at_seat, v.acked, h.present.stands, arith)
 
 -- what a CPU knows of the key as it leaves its own patch
 pub own_patch_is_read : (me : ℕ) (work : Work) → work.kind ≡ Patch → ReadsOwnPatch me work
-own_patch_is_read me work kind = record { off = by_number 0; on = by_number 1; up = by_number 2; down = by_number 3 }
-  where
-    own : (is_patch work.kind && me == me) ≡ true
-    own = ap (λ k. is_patch k && me == me) kind ∙ eq-eqb me me refl
-
-    by_number : (n : ℕ) → work.arg ≡ n → first_readings me me work ≡ reading_of work.func (state_left (change_of n))
-    by_number n e =
-        ap (λ b. cond b (reading_of work.func (state_left (change_of work.arg))) []) own ∙ ap (λ a. reading_of work.func (state_left (change_of a))) e
+own_patch_is_read me work kind = search (eq-eqb, work.func, arith)

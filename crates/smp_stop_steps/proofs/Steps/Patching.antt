@@ -1,38 +1,23 @@
 -- The kinds of step on labels: readings, and the loads and stores of a patch.
-use Rattle.smp_stop_steps.proofs.Steps.Callings.{calling_same, closing_seat, idle_patch, idle_alters, IsNotClosing}
-use Rattle.smp_stop_steps.specs.Callings.{IsCalling, AreClosing}
-use Rattle.smp_stop_steps.proofs.State.KeyCounts.{counts_nudged, counts_patched}
 use Rattle.std.specs.List.{AllByRecursion}
-use Rattle.smp_stop_steps.specs.Sits.{IsNudge}
-use Rattle.smp_stop_steps.specs.KeyCounts.{CountShows, moved_by}
-use Rattle.std.proofs.Common.{◌≡◌, ℕ, Bool, true, false, eqb-true, ◌==◌, ◌&&◌, cond, sym, subst, refl, ap, ◌∙◌, arith, Option, Some, None, List, []}
-use Rattle.std.proofs.Common.{◌∷◌, ◌++◌, ◌<◌, IfSome}
+use Rattle.std.proofs.Common.{◌≡◌, ℕ, Bool, true, false, eqb-true, ◌&&◌, cond, sym, subst, refl, ap, ◌∙◌, arith, Option, Some, None, List, [], ◌∷◌, ◌++◌, ◌<◌}
+use Rattle.std.proofs.Common.{IfSome}
 use Rattle.smp_words.proofs.Puts.{at_test}
+use Rattle.smp_labels.proofs.Patched.{plan_leads, left_in_form, count_lawful}
+use Rattle.smp_labels.specs.Law.{Table}
+use Rattle.smp_labels.specs.Plans.{AreEntriesOf, applied}
+use Rattle.smp_stop_steps.specs.{IsCalling, AreClosing, IsNudge, CountShows, moved_by, put, put_word, Change, Patches, Patching, ReadKey, Reading, labels_in}
+use Rattle.smp_stop_steps.specs.{Agrees, LabelsShow, count_set, state_left, OwnsKey, PresentShows, Alters, In, Rests, Seat, Stands, StopShows, Source, Setup}
+use Rattle.smp_stop_steps.specs.{StopState, Moved, Inside, Standing, is_at_run, is_patch, key_loaded, patch_begun, patched_more, reads, told, plan_at}
+use Rattle.smp_stop_steps.specs.{key_patched, Field, Patch, Work, Entry, Gate, Key, Site, Slot, Word, is_on, change_of, has}
+use Rattle.smp_stop_steps.proofs.Steps.Callings.{calling_same, closing_seat, idle_patch, idle_alters, IsNotClosing}
+use Rattle.smp_stop_steps.proofs.State.KeyCounts.{counts_nudged, counts_patched}
 use Rattle.smp_stop_steps.proofs.Steps.Kept.{source_same}
 use Rattle.smp_stop_steps.proofs.State.Owns.{owns_stores}
 use Rattle.smp_stop_steps.proofs.State.Patched.{off_inside, patch_starts, patch_stores, reads_label, nobody_patches, lawful_when_on}
 use Rattle.smp_stop_steps.proofs.State.Phases.{is_open_inside}
-use Rattle.smp_words.specs.Put.{put, put_word}
-use Rattle.smp_stop_steps.specs.Labels.{Change, Patches, Patching, ReadKey, ReadSite, Reading, labels_in, Agrees, LabelsShow, count_set, state_left}
-use Rattle.smp_stop_steps.specs.Present.{OwnsKey, PresentShows}
-use Rattle.smp_stop_steps.specs.Seats.{Alters, In, Rests, Seat, Stands}
-use Rattle.smp_stop_steps.specs.Shows.{StopShows}
-use Rattle.smp_stop_steps.specs.Sources.{Source}
-use Rattle.smp_stop_steps.specs.State.{Setup, StopState, Moved}
-use Rattle.smp_stop_steps.specs.Stop.{Answering, Called, Completed, Inside, Outside, Standing}
-use Rattle.smp_stop_steps.specs.Tells.{is_at_run, is_patch, key_loaded, patch_begun, patched_more, reads, told, plan_at, key_patched}
-use Rattle.smp_words.specs.declared.seen.Act.TheVariants as act
-use Rattle.smp_words.specs.declared.field.Field.{Field}
-use Rattle.smp_words.specs.declared.work.Kind.TheVariants.{Patch}
-use Rattle.smp_words.specs.declared.work.Work.{Work}
-use Rattle.smp_words.specs.declared.word.Word.TheVariants.{Entry, Gate, Key, Site, Slot}
-use Rattle.smp_words.specs.declared.word.Word.{Word}
-use Rattle.smp_labels.proofs.Patched.{plan_leads, left_in_form, count_lawful}
-use Rattle.smp_labels.specs.Keys.{is_on, change_of}
-use Rattle.smp_labels.specs.Law.{Table}
-use Rattle.smp_labels.specs.Plans.{AreEntriesOf, applied}
-use Rattle.smp_labels.specs.declared.patch.Place.TheVariants as place
-use Rattle.smp_mask.specs.Mask.{has}
+use Rattle.smp_stop_steps.specs.act
+use Rattle.smp_stop_steps.specs.place
 
 module _ (u : Setup) (p : StopState) (at : Word → ℕ) (seat : ℕ → Seat) (source : ℕ → Source) (h : StopShows u p at seat source) (me : ℕ) where
   -- a step that leaves the stops
@@ -42,43 +27,14 @@ module _ (u : Setup) (p : StopState) (at : Word → ℕ) (seat : ℕ → Seat) (
       PresentShows u (record (p.now) { readings = readings'; patching = patching' }) at' seat' → ((c : ℕ) → IsCalling c (seat' c) (p.calling c)) →
       AreClosing p.now seat' →
       StopShows u (record p { now = record (p.now) { readings = readings'; patching = patching' }; nudged = nudged'; patched = patched' }) at' seat' source
-  label_step readings' patching' nudged' patched' at' seat' gate slots own counts present callings closing = record {
-    setup = h.setup;
-    present = present;
-    gate = gate ∙ h.gate;
-    callings = callings;
-    closing = closing;
-    sources = λ j. source_same u p.gate j (p.now.stop j) (λ f. at (Slot j f)) (λ f. at' (Slot j f)) (slots j) (source j) (h.sources j);
-    past = h.past;
-    owns = own;
-    counts = counts;
-  }
+  label_step readings' patching' nudged' patched' at' seat' gate slots own counts present callings closing = search (source_same, h.sources, arith)
 
   run_is : (x : Standing) → is_at_run x ≡ true → x ≡ Inside 2 3
-  run_is Outside e = cc
-  run_is Called e = cc
-  run_is (Inside a l) e = let a_two = eqb-true a 2 (first_true (a == 2) (l == 3) e) in let l_three = eqb-true l 3 (second_true (a == 2) (l == 3) e) in cc
-    where
-      first_true : (b c : Bool) → b && c ≡ true → b ≡ true
-      first_true true c e = refl
-      first_true false c e = cc
-
-      second_true : (b c : Bool) → b && c ≡ true → c ≡ true
-      second_true true c e = e
-      second_true false c e = cc
-  run_is (Answering a v) e = cc
-  run_is (Completed a v) e = cc
+  run_is x e = search (eqb-true, arith)
 
   -- where interrupts are on, the CPU is not at phase 3
   pub not_run : (s : ℕ) → p.now.irq me ≡ true → p.now.inside me ≡ Some s → is_at_run ((p.now.stop s).standing me) ≡ false
-  not_run s on in_ = go (is_at_run ((p.now.stop s).standing me)) refl
-    where
-      go : (b : Bool) → is_at_run ((p.now.stop s).standing me) ≡ b → b ≡ false
-      go false e = refl
-      go true e =
-          let is = run_is ((p.now.stop s).standing me) e in
-          let off = off_inside p.now me s 2 3 (seat me) (h.present.stands me) in_ is (omega arith) (λ z. omega arith) in
-          let bad : true ≡ false = sym on ∙ (h.present.irq me ∙ off) in cc
+  not_run s on in_ = search (run_is, off_inside, h.present.stands, h.present.irq, arith)
 
   -- load of a key, where interrupts are on: a reading
   pub key_read : (k answer : ℕ) → p.now.irq me ≡ true →
@@ -86,23 +42,14 @@ module _ (u : Setup) (p : StopState) (at : Word → ℕ) (seat : ℕ → Seat) (
   key_read k answer on = go (p.now.inside me) refl
     where
       read : StopShows u (record p { now = reads p.now me (ReadKey k (is_on (at (Key k)))) }) at seat source
-      read = label_step (put p.now.readings me (p.now.readings me ++ ReadKey k (is_on (at (Key k))) ∷ [])) p.now.patching p.nudged p.patched at seat refl
-          (λ j f. refl) h.owns h.counts
-          (reads_label u p.now at seat h.present me (ReadKey k (is_on (at (Key k)))) refl) h.callings h.closing
+      read = search (label_step, h.owns, reads_label, h.present, h.callings, arith)
 
       go : (x : Option ℕ) → p.now.inside me ≡ x → StopShows u (record p { now = key_loaded u p.now me k (at (Key k)) x }) at seat source
-      go None e = read
-      go (Some s) e = subst (λ b. StopShows u (record p {
-        now = cond (b && is_patch (p.now.stop s).work.kind)
-            (record (p.now) { patching = patch_begun u me (p.now.stop s).work (at (Key k)) }) (reads p.now me (ReadKey k (is_on (at (Key k)))));
-      }) at seat source)
-          (sym (not_run s on e)) read
+      go x e = search (read, not_run, arith)
 
   -- load of a site, where interrupts are on: a reading
   pub site_read : (i answer : ℕ) → StopShows u (told u p me act.Load (Site i) (Some (at (Site i))) None answer) at seat source
-  site_read i answer = label_step (put p.now.readings me (p.now.readings me ++ ReadSite i (is_on (at (Site i))) ∷ [])) p.now.patching p.nudged p.patched at
-      seat refl (λ j f. refl) h.owns h.counts
-      (reads_label u p.now at seat h.present me (ReadSite i (is_on (at (Site i)))) refl) h.callings h.closing
+  site_read i answer = search (label_step, h.owns, reads_label, h.present, h.callings, arith)
 
   entries_same : (at' : Word → ℕ) → ((i : ℕ) → at' (Entry i) ≡ at (Entry i)) → AreEntriesOf u.entries (labels_in at')
   entries_same at' same = record { few = h.present.entries.few; read = λ i l. same i ∙ h.present.entries.read i l }
@@ -114,20 +61,17 @@ module _ (u : Setup) (p : StopState) (at : Word → ℕ) (seat : ℕ → Seat) (
     at' = put_word at (Key k) new
 
     on_kept : (j : ℕ) → is_on (at' (Key j)) ≡ is_on (at (Key j))
-    on_kept j = at_test j k (λ b. is_on (cond b new (at (Key j))) ≡ is_on (at (Key j)))
-        (λ e. nudge.same ∙ ap is_on (sym was ∙ ap (λ i. at (Key i)) (sym e))) (λ _. refl)
+    on_kept j = search (at_test, arith)
 
     agrees_kept : (r : Reading) → Agrees (labels_in at) r → Agrees (labels_in at') r
-    agrees_kept (ReadKey j x) a = on_kept j ∙ a
-    agrees_kept (ReadSite i x) a = a
+    agrees_kept r a = search (on_kept, arith)
 
     all_agree : (rs : List Reading) → AllByRecursion (Agrees (labels_in at)) rs → AllByRecursion (Agrees (labels_in at')) rs
     all_agree [] a = tt
     all_agree (r ∷ rs) a = (agrees_kept r a.0, all_agree rs a.1)
 
     stands_kept : (x : Option Bool) (m n : ℕ) → is_on n ≡ is_on m → IfSome x (λ b. is_on m ≡ b) → IfSome x (λ b. is_on n ≡ b)
-    stands_kept None m n e s = tt
-    stands_kept (Some b) m n e s = e ∙ s
+    stands_kept x m n e s = search arith
 
     pub key_exchanged : (answer : ℕ) → StopShows u (told u p me act.Cas (Key k) (Some found) (Some new) answer) at' seat source
     key_exchanged answer =
@@ -170,26 +114,11 @@ module _ (u : Setup) (p : StopState) (at : Word → ℕ) (seat : ℕ → Seat) (
         (calling_same seat p.calling h.callings me (Alters s job found [] plan) (subst (IsCalling me (Alters s job found [] plan))
         (sym (idle_patch me s job 3 Rests (p.calling me) kind (subst (λ x. IsCalling me x (p.calling me)) is (h.callings me)))) tt))
         (closing_seat p.now seat me (Alters s job found [] plan) h.closing (subst IsNotClosing (sym is) tt)) in
-        subst (λ x. StopShows u (record p { now = key_loaded u p.now me job.func found x }) at seat' source) (sym st.0)
-        (subst (λ x. StopShows u (record p {
-          now = cond (is_at_run x && is_patch (p.now.stop s).work.kind)
-              (record (p.now) { patching = patch_begun u me (p.now.stop s).work found }) (reads p.now me (ReadKey job.func (is_on found)));
-        }) at seat' source)
-        (sym st.1)
-        (subst (λ (x : Work). StopShows u (record p {
-          now = cond (is_patch x.kind) (record (p.now) { patching = patch_begun u me x found })
-              (reads p.now me (ReadKey job.func (is_on found)));
-        }) at seat' source) (sym st.3)
-        (subst (λ k. StopShows u (record p {
-          now = cond (is_patch k) (record (p.now) { patching = patch_begun u me job found })
-              (reads p.now me (ReadKey job.func (is_on found)));
-        }) at seat' source) (sym kind) shown)))
+        search arith
 
     alters_calling : (count : ℕ) (made rest made' rest' : List Change) → seat me ≡ Alters s job count made rest → (c : ℕ) →
         IsCalling c (put seat me (Alters s job count made' rest') c) (p.calling c)
-    alters_calling count made rest made' rest' is = calling_same seat p.calling h.callings me (Alters s job count made' rest')
-        (subst (IsCalling me (Alters s job count made' rest')) (sym (idle_alters me s job count made rest (p.calling me)
-        (subst (λ x. IsCalling me x (p.calling me)) is (h.callings me)))) tt)
+    alters_calling count made rest made' rest' is = search (calling_same, h.callings, idle_alters, arith)
 
     -- store of the key by a patch, its first store: the count goes from what the patch has found
     pub key_stored : (count : ℕ) (made rest : List Change) (k n answer : ℕ) → me < u.cpus → seat me ≡ Alters s job count made ((place.Key k, n) ∷ rest) →
@@ -198,20 +127,16 @@ module _ (u : Setup) (p : StopState) (at : Word → ℕ) (seat : ℕ → Seat) (
         (put seat me (Alters s job count (made ++ (place.Key k, n) ∷ []) rest)) source
     key_stored count made rest k n answer below is none here =
         let st : Stands p.now me (Alters s job count made ((place.Key k, n) ∷ rest)) = subst (Stands p.now me) is (h.present.stands me) in
-        let l : LabelsShow (Patches me job count made ((place.Key k, n) ∷ rest)) (labels_in at) = subst (λ x. LabelsShow x (labels_in at)) st.5
-        h.present.labels in
+        let l : LabelsShow (Patches me job count made ((place.Key k, n) ∷ rest)) (labels_in at) = search arith in
         let was : at (Key k) ≡ count = ap (λ (t : Table). t.key k) (l.2 ∙ ap (λ m. applied m l.0) none) ∙ (ap l.0.key here ∙ l.3) in
         let made' = made ++ (place.Key k, n) ∷ [] in
         let at' = put_word at (Key k) n in
-        subst (λ x. StopShows u (record p { now = record (p.now) { patching = patched_more x }; patched = key_patched x p.patched me k n }) at'
-        (put seat me (Alters s job count made' rest)) source) (sym st.5)
-        (label_step p.now.readings (Patches me job count made' rest) p.nudged (moved_by p.patched me k count n) at'
-        (put seat me (Alters s job count made' rest)) refl (λ j f. refl)
-        (λ j. owns_stores u p.now at seat h.present j me s k n job count made ((place.Key k, n) ∷ rest) is (h.owns j))
-        (counts_patched u.cpus p.nudged p.patched at me k count n below was h.counts)
-        (patch_stores u p.now at seat h.present s me job count made rest (place.Key k, n) at' is refl h.present.slots (entries_same at' (λ i. refl)))
-        (alters_calling count made ((place.Key k, n) ∷ rest) made' rest is) (closing_seat p.now seat me (Alters s job count made' rest) h.closing
-        (subst IsNotClosing (sym is) tt)))
+        let shown' = label_step p.now.readings (Patches me job count made' rest) p.nudged (moved_by p.patched me k count n) at' (put seat me (Alters s job
+        count made' rest)) refl (λ j f. refl) (λ j. owns_stores u p.now at seat h.present j me s k n job count made ((place.Key k, n) ∷ rest) is (h.owns
+        j)) (counts_patched u.cpus p.nudged p.patched at me k count n below was h.counts) (patch_stores u p.now at seat h.present s me job count made rest
+        (place.Key k, n) at' is refl h.present.slots (entries_same at' (λ i. refl))) (alters_calling count made ((place.Key k, n) ∷ rest) made' rest is)
+        (closing_seat p.now seat me (Alters s job count made' rest) h.closing (subst IsNotClosing (sym is) tt)) in
+        search (st.5, shown', arith)
 
     -- store of a site by a patch
     pub site_stored : (count : ℕ) (made rest : List Change) (i n answer : ℕ) → seat me ≡ Alters s job count made ((place.Site i, n) ∷ rest) →
@@ -221,10 +146,8 @@ module _ (u : Setup) (p : StopState) (at : Word → ℕ) (seat : ℕ → Seat) (
         let st : Stands p.now me (Alters s job count made ((place.Site i, n) ∷ rest)) = subst (Stands p.now me) is (h.present.stands me) in
         let made' = made ++ (place.Site i, n) ∷ [] in
         let at' = put_word at (Site i) n in
-        subst (λ x. StopShows u (record p { now = record (p.now) { patching = patched_more x } }) at' (put seat me (Alters s job count made' rest)) source)
-        (sym st.5)
-        (label_step p.now.readings (Patches me job count made' rest) p.nudged p.patched at' (put seat me (Alters s job count made' rest)) refl (λ j f. refl)
-        h.owns h.counts
-        (patch_stores u p.now at seat h.present s me job count made rest (place.Site i, n) at' is refl h.present.slots (entries_same at' (λ i. refl)))
-        (alters_calling count made ((place.Site i, n) ∷ rest) made' rest is) (closing_seat p.now seat me (Alters s job count made' rest) h.closing
-        (subst IsNotClosing (sym is) tt)))
+        let shown' = label_step p.now.readings (Patches me job count made' rest) p.nudged p.patched at' (put seat me (Alters s job count made' rest)) refl (λ
+        j f. refl) h.owns h.counts (patch_stores u p.now at seat h.present s me job count made rest (place.Site i, n) at' is refl h.present.slots
+        (entries_same at' (λ i. refl))) (alters_calling count made ((place.Site i, n) ∷ rest) made' rest is) (closing_seat p.now seat me (Alters s job
+        count made' rest) h.closing (subst IsNotClosing (sym is) tt)) in
+        search (st.5, shown', arith)

@@ -1,47 +1,32 @@
 -- The steps of a turn of `multi_cpu_stop`, by a CPU's stage.
-use Rattle.smp_stop_steps.proofs.Steps.Same.{moved_seat, still}
+use Rattle.std.proofs.Common.{◌≡◌, ◌≢◌, ℕ, ◌+◌, ◌^◌, ◌<◌, ◌≤◌, Bool, true, false, nat_lt, eq-eqb, ne_eqb, eqb-true, ◌==◌, ◌&&◌, ◌||◌, cond, sym, subst, refl}
+use Rattle.std.proofs.Common.{ap, ◌∙◌, inl, inr, arith, ⊎_elim, Option, Some, None, List, [], ◌∷◌, ◌++◌, length, take, get_or, length-append, length-take-le}
+use Rattle.std.proofs.Common.{take_all, append_assoc}
+use Rattle.std.proofs.lemmas.Bool.{cases_lt}
+use Rattle.std.proofs.lemmas.List.{take_more, get_or_past, append-nil}
 use Rattle.smp_labels.proofs.Patched.{plan_same, plan_tests, plan_key_first}
 use Rattle.smp_labels.specs.Kinds.{xor}
 use Rattle.smp_labels.specs.declared.keys.Change.{Change as KeyChange}
-use Rattle.std.proofs.Common.{◌≡◌, ◌≢◌, ℕ, suc, ◌+◌, ◌-◌, ◌^◌, ◌<◌, ◌≤◌, Bool, true, false, nat_lt, eq-eqb, ne_eqb, eqb-true, ◌==◌, ◌&&◌, ◌||◌, cond}
-use Rattle.std.proofs.Common.{sym, subst, refl, ap, ◌∙◌, inl, inr, arith, ⊎_elim, Option, Some, None, List, [], ◌∷◌, ◌++◌, length, take, get_or}
-use Rattle.std.proofs.Common.{length-append, length-take-le, take_all, append_assoc}
-use Rattle.std.proofs.lemmas.Bool.{cases_lt}
-use Rattle.std.proofs.lemmas.List.{take_more, get_or_past, append-nil}
 use Rattle.smp_words.proofs.Puts.{at_test}
+use Rattle.smp_words.specs.declared.field.Field.TheVariants.{Arg, State}
+use Rattle.smp_labels.specs.Entries.{entry_at}
+use Rattle.smp_labels.specs.Keys.{count_or}
+use Rattle.smp_labels.specs.Plans.{site_change, plan_of}
+use Rattle.smp_stop_steps.specs.{at_after, seen_of, word_of, put, Change, count_set, answer_for, patch_answer, Alters, In, Rests, Seat, irq_of, StopShows}
+use Rattle.smp_stop_steps.specs.{IsLoaded, OwnsIf, SitsAtRun, changes_of, SitsAtEntry, Source, StopControlValue, change_at, entry_on, stop_ends, stop_goes}
+use Rattle.smp_stop_steps.specs.{store_of, key_on, Setup, StopState, StopStep, state_after, is_multi, tells, told, plan_at, Advance, Visit, Multi, One, Patch}
+use Rattle.smp_stop_steps.specs.{Kind as KindOf, Work, Entry, Gate, Key, Slot, Word, is_on, change_of, count_after, patch_of, site_changes, MOST_SITES, has}
+use Rattle.smp_stop_steps.proofs.Steps.Same.{moved_seat, still}
 use Rattle.smp_stop_steps.proofs.Steps.Facts.{arg_loaded, inside_keeps, state_near, work_words}
 use Rattle.smp_stop_steps.proofs.Steps.Patching.{key_loaded_first, key_stored, site_stored}
 use Rattle.smp_stop_steps.proofs.Steps.Rounds.{look_irq, state_loaded}
-use Rattle.smp_words.specs.Access.{at_after, seen_of, word_of}
-use Rattle.smp_words.specs.Put.{put}
-use Rattle.smp_stop_steps.specs.Labels.{Change, count_set, answer_for, patch_answer}
-use Rattle.smp_stop_steps.specs.Seats.{Alters, In, Rests, Seat, irq_of}
-use Rattle.smp_stop_steps.specs.Shows.{StopShows}
-use Rattle.smp_stop_steps.specs.Sits.{IsLoaded, OwnsIf, Sits, SitsAtRest, SitsAtRun, changes_of, SitsAtEntry}
-use Rattle.smp_stop_steps.specs.Sources.{Source}
-use Rattle.smp_stop_steps.specs.Stages.{StopControlValue, change_at, entry_on, round_outcome, stop_ends, stop_goes, store_of, key_on}
-use Rattle.smp_stop_steps.specs.State.{Setup, StopState}
-use Rattle.smp_stop_steps.specs.Steps.{StopStep, state_after}
-use Rattle.smp_stop_steps.specs.Tells.{is_multi, tells, told, plan_at}
-use Rattle.smp_words.specs.declared.seen.Act.TheVariants as act
-use Rattle.smp_words.specs.declared.seen.Note.TheVariants as note
-use Rattle.smp_words.specs.declared.field.Field.TheVariants.{Arg, State}
-use Rattle.smp_stop_steps.specs.declared.stage.RoundStage.TheVariants as round
-use Rattle.smp_stop_steps.specs.declared.stage.StopStage.TheVariants.{Advance}
-use Rattle.smp_stop_steps.specs.declared.stage.Visit.{Visit}
-use Rattle.smp_words.specs.declared.work.Kind.TheVariants.{Multi, One, Patch}
-use Rattle.smp_words.specs.declared.work.Kind.{Kind as KindOf}
-use Rattle.smp_words.specs.declared.work.Work.{Work}
-use Rattle.smp_words.specs.declared.word.Word.TheVariants.{Entry, Gate, Key, Slot}
-use Rattle.smp_words.specs.declared.word.Word.{Word}
-use Rattle.smp_labels.specs.Entries.{entry_at}
-use Rattle.smp_labels.specs.Keys.{is_on, change_of, count_after, count_or}
-use Rattle.smp_labels.specs.Plans.{patch_of, site_change, site_changes, plan_of}
-use Rattle.smp_labels.specs.declared.patch.Place.TheVariants as place
-use Rattle.smp_labels.specs.declared.words.TheConstants.{MOST_SITES}
-use Rattle.smp_mask.specs.Mask.{has}
+use Rattle.smp_stop_steps.specs.Sits.{Sits}
 use Rattle.smp_stop_steps.proofs.Steps.Stages.{in_round, round_source}
 use Rattle.smp_stop_steps.proofs.Basics.Bools.{both_true}
+use Rattle.smp_stop_steps.specs.act
+use Rattle.smp_stop_steps.specs.note
+use Rattle.smp_stop_steps.specs.round
+use Rattle.smp_stop_steps.specs.place
 
 some_is : {A : Type 0} {x y : A} → Some x ≡ Some y → x ≡ y
 some_is {A} {x} {y} e = cc
@@ -52,18 +37,13 @@ ack_small n m few most = omega arith
 
 pub change_here : (before : List Change) (change : Change) (rest : List Change) → change_at (before ++ change ∷ rest) (length before) ≡ change
 change_here [] change rest = refl
-change_here (x ∷ before) change rest =
-    ap (λ b. cond b x (change_at (before ++ change ∷ rest) (suc (length before) - 1))) (ne_eqb (suc (length before)) 0 (λ z. omega arith))
-    ∙ (ap (λ n. change_at (before ++ change ∷ rest) n) (let e : suc (length before) - 1 ≡ length before = omega arith in e) ∙ change_here before change rest)
+change_here (x ∷ before) change rest = search (change_here before change rest, ne_eqb, arith)
 
 -- the changes of one entry more
 changes-push : (key : ℕ) (on : Bool) (i : ℕ) (xs : List ℕ) (x : ℕ) → site_changes key on i (xs ++ x ∷ []) ≡ site_changes key on i xs ++ site_change key on
     (i + length xs) (entry_at x)
 changes-push key on i [] x = append-nil (site_change key on i (entry_at x)) ∙ ap (λ n. site_change key on n (entry_at x)) (let e : i ≡ i + 0 = omega arith in e)
-changes-push key on i (y ∷ xs) x =
-    ap (λ l. site_change key on i (entry_at y) ++ l) (changes-push key on (i + 1) xs x ∙ ap (λ n. site_changes key on (i + 1) xs ++ site_change key on n
-    (entry_at x)) (let e : i + 1 + length xs ≡ i + suc (length xs) = omega arith in e))
-    ∙ sym (append_assoc (site_change key on i (entry_at y)) (site_changes key on (i + 1) xs) (site_change key on (i + suc (length xs)) (entry_at x)))
+changes-push key on i (y ∷ xs) x = search (changes-push key on (i + 1) xs x, append_assoc, arith)
 
 module _ (u : Setup) (p : StopState) (at : Word → ℕ) (seat : ℕ → Seat) (source : ℕ → Source) (h : StopShows u p at seat source) (c : StopControlValue) (me : ℕ)
     (s : Sits u me (at Gate) c (seat me) (source me)) (v : Visit) where
@@ -75,21 +55,16 @@ module _ (u : Setup) (p : StopState) (at : Word → ℕ) (seat : ℕ → Seat) (
       let work = r.1.2.0 in
       let is : seat me ≡ In v.slot work v.acked v.acked Rests = r.1.2.2 in
       let found = at (Slot v.slot State) in
-      record {
-        seat_after = In v.slot work v.acked found Rests;
-        source_after = source me;
-        shows = moved_seat u seat source me (state_after u p at c me (Advance v (round.Look answer))) at (In v.slot work v.acked found Rests)
-            (state_loaded u p at seat
-            source h v.slot me work v.acked v.acked 0 is r.1.1);
-        sits = go work is r.0 r.1.2.1 r.1.1 y (found == v.acked) refl (found == 3 && has v.active me) refl;
-      }
+      let shows' = moved_seat u seat source me (state_after u p at c me (Advance v (round.Look answer))) at (In v.slot work v.acked found Rests) (state_loaded
+      u p at seat source h v.slot me work v.acked v.acked 0 is r.1.1) in
+      let sits' = go work is r.0 r.1.2.1 r.1.1 y (found == v.acked) refl (found == 3 && has v.active me) refl in
+      search (shows', sits', arith)
     where
       not_three : (a : ℕ) (b : Bool) → a ≡ 3 → ((a == 3) && b) ≡ false → b ≡ false
       not_three a b three e = subst (λ x. (x && b) ≡ false) (eq-eqb a 3 three) e
 
       next : (work : Work) → seat me ≡ In v.slot work v.acked v.acked Rests → at (Slot v.slot State) ≢ v.acked → at (Slot v.slot State) ≡ v.acked + 1
-      next work is ne = ⊎_elim (λ (x : at (Slot v.slot State) ≡ v.acked). absurd (ne x)) (λ (x : at (Slot v.slot State) ≡ v.acked + 1). x)
-          (state_near u p at seat source h v.slot me work v.acked v.acked Rests is)
+      next work is ne = search (state_near, arith)
 
       off : (work : Work) → seat me ≡ In v.slot work v.acked v.acked Rests → v.acked ≢ 4 → at (Slot v.slot State) ≡ v.acked + 1 →
           cond (at (Slot v.slot State) == 2) false c.interrupts ≡ nat_lt (at (Slot v.slot State)) 2 || v.acked == 4
@@ -107,52 +82,9 @@ module _ (u : Setup) (p : StopState) (at : Word → ℕ) (seat : ℕ → Seat) (
           Sits u me (at Gate) (cond b (stop_ends c note.Same) (stop_goes (record c { interrupts = cond (at (Slot v.slot State) == 2) false c.interrupts })
           (Advance v (cond d (round.LoadFunc answer) (round.Acknowledge answer false))))).control
           (In v.slot work v.acked (at (Slot v.slot State)) Rests) (source me)
-      go work is visit loaded more y true same d f =
-          let e2 = eqb-true (at (Slot v.slot State)) v.acked same in
-          subst (λ n. Sits u me (at Gate) (stop_ends c note.Same).control (In v.slot work v.acked n Rests) (source me)) (sym e2)
-          record {
-            below = s.below;
-            irq = s.irq ∙ ap irq_of is;
-            seat = subst (λ x. SitsAtRest x (In v.slot work v.acked v.acked Rests)) (sym visit)
-                (work, loaded, refl);
-            source = y;
-            gate_held = tt;
-          }
-      go work is visit loaded more y false other true f =
-          let up = next work is (λ z. let bad : true ≡ false = sym (eq-eqb (at (Slot v.slot State)) v.acked z) ∙ other in cc) in
-          let t = both_true (at (Slot v.slot State) == 3) (has v.active me) f in
-          let three = eqb-true (at (Slot v.slot State)) 3 t.0 in
-          let two : v.acked ≡ 2 = omega arith in
-          let x : In v.slot work v.acked (at (Slot v.slot State)) Rests ≡ In v.slot work 2 3 Rests = ap (λ n. In v.slot work n (at (Slot v.slot State))
-          Rests) two ∙ ap (λ n. In v.slot work 2 n Rests) three in
-          record {
-            below = s.below;
-            irq = off work is more up;
-            seat = (visit, ((in_round s v (round.Look answer) e).1.0, (work, (loaded, two, t.1, x))));
-            source = y;
-            gate_held = tt;
-          }
-      go work is visit loaded more y false other false f =
-          let up = next work is (λ z. let bad : true ≡ false = sym (eq-eqb (at (Slot v.slot State)) v.acked z) ∙ other in cc) in
-          record {
-            below = s.below;
-            irq = off work is more up;
-            seat = (
-              visit,
-              (
-                work,
-                loaded,
-                below work is more,
-                inl (
-                  ap (λ n. In v.slot work v.acked n Rests) up,
-                  λ two. not_three (at (Slot v.slot State))
-                      (has v.active me) (omega arith) f,
-                ),
-              ),
-            );
-            source = y;
-            gate_held = tt;
-          }
+      go work is visit loaded more y true same d f = search (eqb-true, v.acked, below, arith)
+      go work is visit loaded more y false other true f = search (next, eq-eqb, v.acked, both_true, v.active, eqb-true, below, off, in_round, arith)
+      go work is visit loaded more y false other false f = search (next, eq-eqb, v.acked, below, off, not_three, arith)
 
   pub load_func : (answer : ℕ) → c.stage ≡ Some (Advance v (round.LoadFunc answer)) → StopStep u p at seat source c me (Advance v (round.LoadFunc answer))
   load_func answer e =
@@ -178,14 +110,10 @@ module _ (u : Setup) (p : StopState) (at : Word → ℕ) (seat : ℕ → Seat) (
   load_arg answer func e =
       let r = in_round s v (round.LoadArg answer func) e in
       let run = r.1.1.1 in
-      record {
-        seat_after = seat me;
-        source_after = source me;
-        shows = still u seat source me (state_after u p at c me (Advance v (round.LoadArg answer func))) at (arg_loaded u p at seat source h v.slot me
-            r.1.1.0 2 3 Rests
-            run.3 answer refl);
-        sits = go r.0 r.1.0 r.1.1.0 run r.1.1.2 (round_source s v (round.LoadArg answer func) e) v.kind refl;
-      }
+      let shows' = still u seat source me (state_after u p at c me (Advance v (round.LoadArg answer func))) at (arg_loaded u p at seat source h v.slot me
+      r.1.1.0 2 3 Rests run.3 answer refl) in
+      let sits' = go r.0 r.1.0 r.1.1.0 run r.1.1.2 (round_source s v (round.LoadArg answer func) e) v.kind refl in
+      search (shows', sits', arith)
     where
       go : c.visit ≡ Some v → v.kind ≢ One → (work : Work) → SitsAtRun me v work (seat me) → func ≡ work.func → OwnsIf c.is_open (source me) →
           (k : KindOf) → v.kind ≡ k →
@@ -196,46 +124,8 @@ module _ (u : Setup) (p : StopState) (at : Word → ℕ) (seat : ℕ → Seat) (
           }) (stop_goes c (Advance v (round.LoadKey func (change_of (at (Slot v.slot Arg))))))).control
           (seat me) (source me)
       go visit some work run same y One k = absurd (some k)
-      go visit some work run same y Multi k =
-          record {
-            below = s.below;
-            irq = s.irq;
-            seat = (
-              visit,
-              (
-                work,
-                run.0,
-                (let two = run.1 in omega arith),
-                inl (
-                  run.3 ∙ (ap (λ n. In v.slot work n 3 Rests) (sym run.1) ∙ ap
-                      (λ n. In v.slot work v.acked n Rests) (let two = run.1 in omega arith)),
-                  (run.1, k, run.2),
-                ),
-              ),
-            );
-            source = y;
-            gate_held = tt;
-          }
-      go visit some work run same y Patch k =
-          record {
-            below = s.below;
-            irq = s.irq;
-            seat = (
-              visit,
-              (
-                k,
-                (
-                  work,
-                  run,
-                  same,
-                  ap change_of (work_words u p at seat source h v.slot me work 2 3 Rests
-                      run.3).arg,
-                ),
-              ),
-            );
-            source = y;
-            gate_held = tt;
-          }
+      go visit some work run same y Multi k = search arith
+      go visit some work run same y Patch k = search (work_words, arith)
 
   -- the first load of a patch
   pub load_key : (key : ℕ) (change : KeyChange) → c.stage ≡ Some (Advance v (round.LoadKey key change)) → StopStep u p at seat source c me
@@ -250,53 +140,22 @@ module _ (u : Setup) (p : StopState) (at : Word → ℕ) (seat : ℕ → Seat) (
       let active : has work.active me ≡ true = ap (λ m. has m me) (sym run.0.active) ∙ run.2 in
       let found = at (Key work.func) in
       let next = Alters v.slot work found [] (plan_at u work found) in
-      record {
-        seat_after = next;
-        source_after = source me;
-        shows = moved_seat u seat source me (state_after u p at c me (Advance v (round.LoadKey key change))) at next
-            (subst (λ k. StopShows u (told u p me act.Load (Key k) (Some (at (Key k))) None 0) at (put seat me next) source) (sym same)
-            (key_loaded_first u p at seat source h me v.slot work 0 run.3 kind active));
-        sits = subst (λ k. Sits u me (at Gate) (round_outcome me c v (round.LoadKey k change) (at (Key k))).control next (source me)) (sym same)
-            (subst (λ w. Sits u me (at Gate) (round_outcome me c v (round.LoadKey work.func w) found).control next (source me)) (sym is_change)
-            (go r.0 work run (round_source s v (round.LoadKey key change) e) found (count_after (change_of work.arg) found) refl));
-      }
+      let shows' = moved_seat u seat source me (state_after u p at c me (Advance v (round.LoadKey key change))) at next (subst (λ k. StopShows u (told u p me
+      act.Load (Key k) (Some (at (Key k))) None 0) at (put seat me next) source) (sym same) (key_loaded_first u p at seat source h me v.slot work 0 run.3
+      kind active)) in
+      search (shows', next, found, go, round_source, arith)
     where
       -- where the plan is empty, all of it is made
       nothing_made : (work : Work) (found : ℕ) (o : Option ℕ) → count_after (change_of work.arg) found ≡ o → plan_of work.func found (count_or found o)
           u.entries ≡ [] →
           Alters v.slot work found [] (plan_of work.func found (count_or found o) u.entries) ≡ Alters v.slot work found (plan_at u work found) []
-      nothing_made work found o e none =
-          let whole : plan_at u work found ≡ [] = ap (λ x. plan_of work.func found (count_or found x) u.entries) e ∙ none in
-          ap (λ l. Alters v.slot work found [] l) none ∙ ap (λ l. Alters v.slot work found l []) (sym whole)
+      nothing_made work found o e none = search (found, work.func, arith)
 
       go : c.visit ≡ Some v → (work : Work) → SitsAtRun me v work (seat me) → OwnsIf c.is_open (source me) → (found : ℕ) (o : Option ℕ) →
           count_after (change_of work.arg) found ≡ o →
           Sits u me (at Gate) (key_on c v work.func found o).control (Alters v.slot work found [] (plan_of work.func found (count_or found o) u.entries))
           (source me)
-      go visit work run y found None e = record {
-        below = s.below;
-        irq = s.irq ∙ ap irq_of run.3;
-        seat = (
-          visit,
-          (
-            work,
-            run.0,
-            (let two = run.1 in omega arith),
-            inr (
-              run.1,
-              refl,
-              (
-                found,
-                sym (ap answer_for e),
-                nothing_made work found None e
-                    (plan_same work.func found found u.entries (eq-eqb found found refl)),
-              ),
-            ),
-          ),
-        );
-        source = y;
-        gate_held = tt;
-      }
+      go visit work run y found None e = search (found, nothing_made, plan_same, eq-eqb, arith)
       go visit work run y found (Some new) e = split (found == new) refl (xor (is_on found) (is_on new)) refl
         where
           left : new ≡ count_set work found
@@ -307,114 +166,28 @@ module _ (u : Setup) (p : StopState) (at : Word → ℕ) (seat : ℕ → Seat) (
               (stop_goes (record c { changes = (place.Key work.func, new) ∷ [] }) (Advance v (cond b (round.LoadEntry work.func new 0)
               (round.StoreChange 0))))).control
               (Alters v.slot work found [] (plan_of work.func found new u.entries)) (source me)
-          split true z b x = record {
-            below = s.below;
-            irq = s.irq ∙ ap irq_of run.3;
-            seat = (
-              visit,
-              (
-                work,
-                run.0,
-                (let two = run.1 in omega arith),
-                inr (
-                  run.1,
-                  refl,
-                  (
-                    found,
-                    sym (ap answer_for e),
-                    nothing_made work found
-                        (Some new) e (plan_same work.func found new u.entries z),
-                  ),
-                ),
-              ),
-            );
-            source = y;
-            gate_held = tt;
-          }
-          split false z true x = record {
-            below = s.below;
-            irq = s.irq ∙ ap irq_of run.3;
-            seat = (
-              visit,
-              (
-                work,
-                record {
-                  count = found;
-                  patch = (run.0, run.1, ap (λ n. Alters v.slot work found [] (plan_of work.func found n u.entries)) left);
-                  key_is = refl;
-                  word_is = left;
-                  sites = ap (λ n. plan_of work.func found n u.entries) (sym left) ∙ plan_tests work.func found new u.entries false z true x;
-                },
-                omega arith,
-                omega arith,
-                refl,
-              ),
-            );
-            source = y;
-            gate_held = tt;
-          }
-          split false z false x = record {
-            below = s.below;
-            irq = s.irq ∙ ap irq_of run.3;
-            seat = (
-              visit,
-              (
-                work,
-                found,
-                run.0,
-                run.1,
-                omega arith,
-                sym (plan_tests work.func found new u.entries false z false x) ∙ ap (λ n. plan_of work.func found n u.entries) left,
-                (
-                  [],
-                  (place.Key work.func, new) ∷ [],
-                  refl,
-                  refl,
-                  ap (λ l. Alters v.slot work found [] l) (plan_tests work.func found new u.entries false z
-                      false x),
-                ),
-              ),
-            );
-            source = y;
-            gate_held = tt;
-          }
+          split true z b x =
+              let irq' = s.irq ∙ ap irq_of run.3 in
+              search (irq', found, nothing_made, plan_same, arith)
+          split false z true x =
+              let irq' = s.irq ∙ ap irq_of run.3 in
+              search (irq', found, left, plan_tests, arith)
+          split false z false x =
+              let irq' = s.irq ∙ ap irq_of run.3 in
+              search (irq', found, plan_tests, left, arith)
 
   -- load of an entry
   pub load_entry : (key word site : ℕ) → c.stage ≡ Some (Advance v (round.LoadEntry key word site)) → StopStep u p at seat source c me
       (Advance v (round.LoadEntry key word site))
   load_entry key word site e =
       let r = in_round s v (round.LoadEntry key word site) e in
-      record {
-        seat_after = seat me;
-        source_after = source me;
-        shows = still u seat source me p at h;
-        sits = subst (λ k. Sits u me (at Gate) (entry_on c v k word site (at (Entry site))).control (seat me) (source me)) (sym r.1.1.key_is)
-            (loads r.0 r.1.0 r.1.1 r.1.2 r.1.3 r.1.4 (round_source s v (round.LoadEntry key word site) e));
-      }
+      search (still u seat source me p at h, loads, round_source, arith)
     where
       -- all is loaded
       whole : c.visit ≡ Some v → (work : Work) → SitsAtEntry u v work key word (seat me) → OwnsIf c.is_open (source me) → (changes : List Change) →
           changes ≡ patch_of work.func word u.entries →
           Sits u me (at Gate) (stop_goes (record c { changes = changes }) (Advance v (round.StoreChange 0))).control (seat me) (source me)
-      whole visit work patch y changes is = record {
-        below = s.below;
-        irq = s.irq;
-        seat = (
-          visit,
-          (
-            work,
-            patch.count,
-            patch.patch.0,
-            patch.patch.1,
-            subst (λ (l : List Change). 0 < length l) (sym is) (omega arith),
-            is ∙ sym
-                patch.sites,
-            ([], changes, refl, refl, patch.patch.2 ∙ ap (λ l. Alters v.slot work patch.count [] l) (patch.sites ∙ sym is)),
-          ),
-        );
-        source = y;
-        gate_held = tt;
-      }
+      whole visit work patch y changes is = search arith
 
       loads : c.visit ≡ Some v → (work : Work) → SitsAtEntry u v work key word (seat me) → site ≤ length u.entries → site < MOST_SITES →
           c.changes ≡ changes_of u work word site → OwnsIf c.is_open (source me) →
@@ -438,24 +211,14 @@ module _ (u : Setup) (p : StopState) (at : Word → ℕ) (seat : ℕ → Seat) (
               let sized : length (take site u.entries) ≡ site = length-take-le site u.entries (omega arith) in
               let long : 0 + length (take site u.entries) ≡ site = omega arith in
               let pushed = changes-push work.func (is_on word) 0 (take site u.entries) (get_or u.entries site 0) in
-              ap (λ l. l ++ site_change work.func (is_on word) site (entry_at (at (Entry site)))) are
-              ∙ ap (λ l. (place.Key work.func, word) ∷ l)
-              (ap (λ n. site_changes work.func (is_on word) 0 (take site u.entries) ++ site_change work.func (is_on word) site (entry_at n)) here
-              ∙ (ap (λ n. site_changes work.func (is_on word) 0 (take site u.entries) ++ site_change work.func (is_on word) n
-              (entry_at (get_or u.entries site 0))) (sym long)
-              ∙ (sym pushed ∙ ap (λ l. site_changes work.func (is_on word) 0 l) (sym (take_more u.entries site 0 more)))))
+              search (here, get_or, take_more, arith)
 
           go : (b : Bool) → (site + 1 == MOST_SITES) ≡ b → site < length u.entries → Sits u me (at Gate) (entry_on c v work.func word site
               (at (Entry site))).control (seat me) (source me)
           go b last more =
               let some : (at (Entry site) == 0) ≡ false = ne_eqb (at (Entry site)) 0 (λ z. h.setup.named site more (sym here ∙ z)) in
               let changes' = c.changes ++ site_change work.func (is_on word) site (entry_at (at (Entry site))) in
-              subst (λ d. Sits u me (at Gate) (stop_goes (record c { changes = changes' })
-              (Advance v (cond (d || site + 1 == MOST_SITES) (round.StoreChange 0) (round.LoadEntry work.func word (site + 1))))).control (seat me)
-              (source me)) (sym some)
-              (subst (λ d. Sits u me (at Gate) (stop_goes (record c { changes = changes' })
-              (Advance v (cond d (round.StoreChange 0) (round.LoadEntry work.func word (site + 1))))).control (seat me) (source me)) (sym last)
-              (either b last more))
+              search (either, arith)
             where
               either : (b : Bool) → (site + 1 == MOST_SITES) ≡ b → site < length u.entries →
                   Sits u me (at Gate) (stop_goes (record c { changes = c.changes ++ site_change work.func (is_on word) site (entry_at (at (Entry site))) })
@@ -467,29 +230,7 @@ module _ (u : Setup) (p : StopState) (at : Word → ℕ) (seat : ℕ → Seat) (
                   h.present.entries.few in omega arith)))
               either false last more =
                   let on : site + 1 ≢ MOST_SITES = λ z. let bad : true ≡ false = sym (eq-eqb (site + 1) MOST_SITES z) ∙ last in cc in
-                  record {
-                    below = s.below;
-                    irq = s.irq;
-                    seat = (
-                      visit,
-                      (
-                        work,
-                        record {
-                          count = patch.count;
-                          patch = patch.patch;
-                          key_is = refl;
-                          word_is =
-                              patch.word_is;
-                          sites = patch.sites;
-                        },
-                        omega arith,
-                        omega arith,
-                        grown more,
-                      ),
-                    );
-                    source = y;
-                    gate_held = tt;
-                  }
+                  search (grown, arith)
 
   -- a store of a patch
   pub store_change : (made : ℕ) → c.stage ≡ Some (Advance v (round.StoreChange made)) → StopStep u p at seat source c me (Advance v (round.StoreChange made))
@@ -500,24 +241,16 @@ module _ (u : Setup) (p : StopState) (at : Word → ℕ) (seat : ℕ → Seat) (
       go : c.visit ≡ Some v → (work : Work) (count : ℕ) → IsLoaded v work → v.acked ≡ 2 → made < length c.changes → c.changes ≡ plan_at u work count →
           (before after : List Change) → c.changes ≡ before ++ after → length before ≡ made →
           seat me ≡ Alters v.slot work count before after → OwnsIf c.is_open (source me) → StopStep u p at seat source c me (Advance v (round.StoreChange made))
-      go visit work count loaded two low plan before [] are long is y =
-          absurd (let same : length c.changes ≡ length before = ap length (are ∙ append-nil before) in omega arith)
+      go visit work count loaded two low plan before [] are long is y = search (append-nil, arith)
       go visit work count loaded two low plan before (change ∷ rest) are long is y =
-          let here : change_at c.changes made ≡ change = ap (λ l. change_at l made) are ∙ (ap (λ n. change_at (before ++ change ∷ rest) n) (sym long) ∙
-          change_here before change rest) in
+          let here : change_at c.changes made ≡ change = search (change_here, arith) in
           let next = Alters v.slot work count (before ++ change ∷ []) rest in
           let stored = shown change before rest work count is plan are in
           record {
             seat_after = next;
             source_after = source me;
-            shows = subst (λ (x : Change). StopShows u (tells u p (seen_of me (store_of x) (at (word_of (store_of x))) None) 0) (at_after at (store_of x))
-                (put seat me next) (put source me (source me))) (sym here)
-                (moved_seat u seat source me (tells u p (seen_of me (store_of change) (at (word_of (store_of change))) None) 0)
-                (at_after at (store_of change)) next stored);
-            sits = subst (λ (x : Change). Sits u me (at_after at (store_of x) Gate)
-                (stop_goes c (Advance v (cond (made + 1 == length c.changes) (round.Acknowledge 0 true) (round.StoreChange (made + 1))))).control next
-                (source me)) (sym here)
-                (gate_kept change (ends visit work count loaded two low plan before change rest are long is y (made + 1 == length c.changes) refl));
+            shows = search (next, here, moved_seat, arith);
+            sits = search (next, here, gate_kept, ends, arith);
           }
         where
           shown : (change : Change) (before rest : List Change) (work : Work) (count : ℕ) → seat me ≡ Alters v.slot work count before (change ∷ rest) →
@@ -553,30 +286,8 @@ module _ (u : Setup) (p : StopState) (at : Word → ℕ) (seat : ℕ → Seat) (
               Sits u me (at Gate) (stop_goes c (Advance v (cond b (round.Acknowledge 0 true) (round.StoreChange (made + 1))))).control
               (Alters v.slot work count (before ++ change ∷ []) rest) (source me)
           ends visit work count loaded two low plan before change [] are long is y true last =
-              record {
-                below = s.below;
-                irq = s.irq ∙ ap irq_of is;
-                seat = (
-                  visit,
-                  (
-                    work,
-                    loaded,
-                    (let t = two in omega arith),
-                    inr (
-                      two,
-                      refl,
-                      (
-                        count,
-                        made_some work count (λ none. no_change before change (sym are ∙ (plan ∙ none))),
-                        ap (λ l. Alters v.slot work count l
-                            []) (sym are ∙ plan),
-                      ),
-                    ),
-                  ),
-                );
-                source = y;
-                gate_held = tt;
-              }
+              let irq' = s.irq ∙ ap irq_of is in
+              search (irq', made_some, no_change, arith)
           ends visit work count loaded two low plan before change (x ∷ rest) are long is y true last =
               absurd (let all : made + 1 ≡ length c.changes = eqb-true (made + 1) (length c.changes) last in
               let sized : length c.changes ≡ length before + length (change ∷ x ∷ rest) = ap length are ∙ length-append before (change ∷ x ∷ rest) in

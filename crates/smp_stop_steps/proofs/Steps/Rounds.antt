@@ -1,12 +1,20 @@
 -- The kinds of step of a round: a CPU looks at the phase, acknowledges it, refills the count, and stores the next phase.
+use Rattle.std.proofs.Common.{◌≡◌, ◌≢◌, ℕ, ◌+◌, ◌-◌, ◌≤◌, Bool, true, false, not, nat_lt, lt-ltb, le-ltb, eqb-true, eq-eqb, ne_eqb, ◌==◌, ◌&&◌, ◌||◌, cond}
+use Rattle.std.proofs.Common.{sym, subst, refl, ap, ◌∙◌, ◌⊎◌, inl, inr, arith, ⊎_elim, Some, None, List, [], ◌∷◌, ◌++◌, Option, IfSome}
+use Rattle.std.proofs.lemmas.Bool.{cases_lt, cases_eq}
+use Rattle.std.specs.List.{AllByRecursion}
+use Rattle.smp_words.proofs.Puts.{at_test, put_all, put_same, put_other}
+use Rattle.smp_words.specs.declared.field.Field.TheVariants.{Ack, State}
+use Rattle.smp_stop_steps.specs.{HasCalled, IsCalling, AreClosing, put, put_word, mask_weight, weight, Agrees, Change, Patches, Patching, Reading, Whole}
+use Rattle.smp_stop_steps.specs.{labels_in, StandsSet, reading_of, state_left, patch_answer, answer_now, OwnsKey, PresentShows, RunnerShows, Alters, Fills}
+use Rattle.smp_stop_steps.specs.{In, Rests, Seat, Sets, Stands, Turn, irq_of, turn_of, StopShows, AckShows, IsLevel, Keeps, OpenShows, IsPhaseOf, Source}
+use Rattle.smp_stop_steps.specs.{Setup, StopCall, StopState, Calling, Inside, Nobody, Raises, Raising, Refills, Standing, acked, acknowledged, is_inside}
+use Rattle.smp_stop_steps.specs.{raised, refilled, stands, acknowledges, first_readings, is_patch, leaves, looked_by, stored_open, stored_shut, told}
+use Rattle.smp_stop_steps.specs.{unpatched, with_stop, called_more, carried, carried_call, Multi, One, Patch, Kind as KindOf, Work, Key, Slot, Word, is_on}
+use Rattle.smp_stop_steps.specs.{change_of, has}
 use Rattle.smp_stop_steps.proofs.Basics.Bools.{both_true, or_false, or_true}
-use Rattle.smp_stop_steps.specs.Callings.{HasCalled, IsCalling, AreClosing}
 use Rattle.smp_stop_steps.proofs.Steps.Callings.{calling_same, calling_looked, IsNotClosing, calling_turned, closing_kept, calling_acked, idle_patch}
 use Rattle.smp_stop_steps.proofs.Steps.Callings.{carried_alone, calling_next, calling_ran}
-use Rattle.std.proofs.Common.{◌≡◌, ◌≢◌, ℕ, ◌+◌, ◌-◌, ◌<◌, ◌≤◌, Bool, true, false, not, nat_lt, lt-ltb, le-ltb, eqb-true, eq-eqb, ne_eqb, ◌==◌, ◌&&◌}
-use Rattle.std.proofs.Common.{◌||◌, cond, sym, subst, refl, ap, ◌∙◌, ◌⊎◌, inl, inr, arith, ⊎_elim, Some, None, List, [], ◌∷◌, ◌++◌, Option, IfSome}
-use Rattle.std.proofs.lemmas.Bool.{cases_lt, cases_eq}
-use Rattle.smp_words.proofs.Puts.{at_test, put_all, put_same, put_other}
 use Rattle.smp_stop_steps.proofs.Steps.Kept.{MovesInside, StaysOpen, after, moves_early, moves_given, open_step, other_slots, owns_kept, put_twice}
 use Rattle.smp_stop_steps.proofs.State.Moves.{IsNoPatch, SaveMe}
 use Rattle.smp_stop_steps.proofs.State.Owns.{owns_at_leave}
@@ -14,53 +22,17 @@ use Rattle.smp_stop_steps.proofs.State.Patched.{patch_ends}
 use Rattle.smp_stop_steps.proofs.State.Phases.{is_open_inside, keeps_inside}
 use Rattle.smp_stop_steps.proofs.State.Acknowledged.{step_acknowledges, step_looks, step_raises, step_refills, sets_me}
 use Rattle.smp_stop_steps.proofs.State.Works.{weight_of_mask}
-use Rattle.smp_words.specs.Put.{put, put_word}
-use Rattle.smp_stop_steps.specs.Counts.{mask_weight, weight}
-use Rattle.smp_stop_steps.specs.Labels.{Agrees, Change, Patches, Patching, Reading, Whole, labels_in, StandsSet, reading_of, state_left, patch_answer}
-use Rattle.smp_stop_steps.specs.Past.{answer_now}
-use Rattle.smp_stop_steps.specs.Present.{OwnsKey, PresentShows, RunnerShows}
-use Rattle.smp_stop_steps.specs.Seats.{Alters, Fills, In, Rests, Seat, Sets, Stands, Turn, irq_of, turn_of}
-use Rattle.smp_stop_steps.specs.Shows.{StopShows}
-use Rattle.smp_stop_steps.specs.Slots.{AckShows, IsLevel, Keeps, OpenShows, IsPhaseOf}
-use Rattle.smp_stop_steps.specs.Sources.{Source}
-use Rattle.smp_stop_steps.specs.State.{Present, Setup, StopCall, StopState, Calling, Carries}
-use Rattle.smp_stop_steps.specs.Stop.{Answering, Called, Completed, Inside, Nobody, Outside, Raises, Raising, Refills, Standing, Stop, acked}
-use Rattle.smp_stop_steps.specs.Stop.{acknowledged, is_inside, raised, refilled, stands}
-use Rattle.smp_stop_steps.specs.Tells.{acknowledges, first_readings, is_patch, leaves, looked_by, stored_open, stored_shut, told}
-use Rattle.smp_stop_steps.specs.Tells.{unpatched, with_stop, called_more, carried, carried_call}
-use Rattle.smp_words.specs.declared.seen.Act.TheVariants as act
-use Rattle.smp_words.specs.declared.field.Field.TheVariants.{Ack, State}
-use Rattle.smp_words.specs.declared.work.Kind.TheVariants.{Multi, One, Patch}
-use Rattle.smp_words.specs.declared.work.Kind.{Kind as KindOf}
-use Rattle.smp_words.specs.declared.work.Work.{Work}
-use Rattle.smp_words.specs.declared.word.Word.TheVariants.{Key, Slot}
-use Rattle.smp_words.specs.declared.word.Word.{Word}
-use Rattle.smp_labels.specs.Keys.{is_on, change_of}
-use Rattle.smp_mask.specs.Mask.{has}
-use Rattle.std.specs.List.{AllByRecursion}
+use Rattle.smp_stop_steps.specs.State.{Present, Carries}
+use Rattle.smp_stop_steps.specs.Stop.{Stop}
+use Rattle.smp_stop_steps.specs.act
 
 -- a look changes whether interrupts are on at phase 2 alone
 pub look_irq : (l a n p : ℕ) → n ≡ p → IsLevel p a → ((l ≡ a) ⊎ ((l ≡ a + 1) × (p ≡ l))) → n ≢ 2 → nat_lt l 2 ≡ nat_lt n 2
-look_irq l a n p e level near ne = elim (cases_lt n 2) [
-  | inl low ↦ lt-ltb l 2 (below low) ∙ sym (lt-ltb n 2 low)
-  | inr high ↦ le-ltb l 2 (above high) ∙ sym (le-ltb n 2 high)
-]
-  where
-    below : n < 2 → l < 2
-    below low = ⊎_elim (λ (x : l ≡ a). ⊎_elim (λ (y : a ≡ p). omega arith) (λ (y : a + 1 ≡ p). omega arith) level) (λ (x : (l ≡ a + 1) × (p ≡ l)). let z =
-        x.1 in omega arith) near
-
-    above : 2 ≤ n → 2 ≤ l
-    above high = ⊎_elim (λ (x : l ≡ a). ⊎_elim (λ (y : a ≡ p). omega arith) (λ (y : a + 1 ≡ p). omega arith) level) (λ (x : (l ≡ a + 1) × (p ≡ l)). let z =
-        x.1 in omega arith) near
+look_irq l a n p e level near ne = search (cases_lt, lt-ltb, le-ltb, near, arith)
 
 -- no CPU has acknowledged more than the phase
 pub acked_most_phase : (cpus p c : ℕ) (x : Standing) → Keeps cpus p c x → acked x ≤ p
-acked_most_phase cpus p c Outside k = omega arith
-acked_most_phase cpus p c Called k = omega arith
-acked_most_phase cpus p c (Inside a l) k = ⊎_elim (λ (e : a ≡ p). omega arith) (λ (e : a + 1 ≡ p). omega arith) k.1
-acked_most_phase cpus p c (Answering a v) k = ⊎_elim (λ (e : a ≡ p). omega arith) (λ (e : a + 1 ≡ p). omega arith) k.1
-acked_most_phase cpus p c (Completed a v) k = ⊎_elim (λ (e : a ≡ p). omega arith) (λ (e : a + 1 ≡ p). omega arith) k.1
+acked_most_phase cpus p c x k = search arith
 
 module _ (u : Setup) (p : StopState) (at : Word → ℕ) (seat : ℕ → Seat) (source : ℕ → Source) (h : StopShows u p at seat source) (s me : ℕ) where
   abbrev pub now : Present
@@ -94,52 +66,36 @@ module _ (u : Setup) (p : StopState) (at : Word → ℕ) (seat : ℕ → Seat) (
       let irq' = cond (found == 2) (put p.now.irq me false) p.now.irq in
       let looks' = put p.looks me (p.looks me ++ found ∷ []) in
       let next = In s job a found Rests in
-      let inside : MovesInside ((p.now.stop s).standing me) to = record {
-        inside = λ _. ap is_inside st.1;
-        late = λ x. subst (λ (y : Standing). 3 ≤ acked y)
-            (sym st.1) x;
-        given = sym (ap answer_now st.1);
-      } in
-      subst (λ (x : Standing). StopShows u (record p {
-        now = after p.now s (stands (p.now.stop s) me (looked_by x found)) p.now.inside irq' p.now.readings
-            p.now.patching;
-        looks = looks';
-      }) at (put seat me next) source)
-      (sym st.1)
-      (open_step u p at seat source h s stop' p.now.inside irq' p.now.readings p.now.patching at (put seat me next) looks' p.calls p.calling
+      let inside : MovesInside ((p.now.stop s).standing me) to = search arith in
+      let shown' = open_step u p at seat source h s stop' p.now.inside irq' p.now.readings p.now.patching at (put seat me next) looks' p.calls p.calling
       record {
         was = is_open job a l Rests is;
         now = is_open job a l Rests is;
         work = refl;
         end = λ e. e;
-        given = moves_given u.first s me (p.now.stop s) to
-            inside;
-      }
-      refl (λ k. refl) (λ j ne f. refl)
-      (owns_kept u.first p.now (λ k. at (Key k)) s stop' p.now.inside irq' p.now.readings p.now.patching
+        given = moves_given u.first s me (p.now.stop s)
+            to inside;
+      } refl (λ k. refl) (λ j ne f. refl) (owns_kept u.first p.now (λ k. at (Key k)) s stop' p.now.inside irq' p.now.readings p.now.patching
       record {
         was = is_open job a l Rests is;
         now = is_open job a l Rests is;
         work = refl;
         end = λ e. e;
-        given = moves_given u.first s me (p.now.stop s) to
-            inside;
-      }
-      (moves_early u.first s me (p.now.stop s) to inside stop' refl) h.owns)
-      (step_looks u p.now at seat h.present s me irq' p.now.readings (save found) job a l is more
-      (turned found refl (o.state ∙ refl) k (h.present.irq me ∙ ap irq_of is))
-      (λ on i. h.present.read me on (before found (sym (turned found refl (o.state ∙ refl) k (h.present.irq me ∙ ap irq_of is)) ∙ refl) i)))
-      (calling_same seat p.calling h.callings me next (calling_looked me s job a l found (p.calling me) (λ two three. o.state ∙ near k.2 two three)
-      (subst (λ x. IsCalling me x (p.calling me)) is (h.callings me))))
-      (closing_kept p.now seat me next h.closing (subst IsNotClosing (sym is) tt) s stop' (λ c ne. put_other (p.now.stop s).standing me to c ne) refl refl))
+        given = moves_given u.first s me (p.now.stop s)
+            to inside;
+      } (moves_early u.first s me (p.now.stop s) to inside stop' refl) h.owns) (step_looks u p.now at seat h.present s me irq' p.now.readings
+      (save found) job a l is more (turned found refl (o.state ∙ refl) k (h.present.irq me ∙ ap irq_of is)) (λ on i. h.present.read me on (before found
+      (sym (turned found refl (o.state ∙ refl) k (h.present.irq me ∙ ap irq_of is)) ∙ refl) i))) (calling_same seat p.calling h.callings me next
+      (calling_looked me s job a l found (p.calling me) (λ two three. o.state ∙ near k.2 two three) (subst (λ x. IsCalling me x (p.calling me)) is
+      (h.callings me)))) (closing_kept p.now seat me next h.closing (subst IsNotClosing (sym is) tt) s stop' (λ c ne. put_other (p.now.stop s).standing me
+      to c ne) refl refl) in
+      search (st.1, shown', arith)
     where
       near : (l ≡ a) ⊎ ((l ≡ a + 1) × ((p.now.stop s).phase ≡ l)) → a ≡ 2 → l ≡ 3 → (p.now.stop s).phase ≡ 3
-      near k two three = ⊎_elim (λ (e : l ≡ a). absurd (let z : ⊥ = omega (arith, two, three) in z)) (λ (e : (l ≡ a + 1) × ((p.now.stop s).phase ≡ l)).
-          e.1 ∙ three) k
+      near k two three = search arith
 
       other_irq : (b : Bool) (c : ℕ) → c ≢ me → cond b (put p.now.irq me false) p.now.irq c ≡ p.now.irq c
-      other_irq true c ne = put_other p.now.irq me false c ne
-      other_irq false c ne = refl
+      other_irq b c ne = search (put_other, arith)
 
       save : (found : ℕ) → SaveMe p.now me p.now.inside (cond (found == 2) (put p.now.irq me false) p.now.irq) p.now.readings
       save found = record { inside = λ c ne. refl; irq = λ c ne. other_irq (found == 2) c ne; readings = λ c ne. refl }
@@ -147,20 +103,15 @@ module _ (u : Setup) (p : StopState) (at : Word → ℕ) (seat : ℕ → Seat) (
       turned : (found : ℕ) → found ≡ found → found ≡ (p.now.stop s).phase → Keeps u.cpus (p.now.stop s).phase me (Inside a l) → p.now.irq me ≡ nat_lt l 2 ||
           a == 4 →
           cond (found == 2) (put p.now.irq me false) p.now.irq me ≡ nat_lt found 2 || a == 4
-      turned found _ e k i = at_test found 2 (λ b. cond b (put p.now.irq me false) p.now.irq me ≡ nat_lt found 2 || a == 4)
-          (λ two. put_same p.now.irq me false ∙ sym (ap (λ n. nat_lt n 2 || a == 4) two ∙ ne_eqb a 4 more))
-          (λ ne. i ∙ ap (λ b. b || a == 4) (look_irq l a found (p.now.stop s).phase e k.1 k.2 ne))
+      turned found h1 e k i = search (at_test, nat_lt, put_same, ne_eqb, look_irq, arith)
 
       before : (found : ℕ) → nat_lt found 2 || a == 4 ≡ cond (found == 2) (put p.now.irq me false) p.now.irq me → nat_lt found 2 || a == 4 ≡ true →
           p.now.irq me ≡ true
-      before found e i = at_test found 2 (λ b. cond b (put p.now.irq me false) p.now.irq me ≡ true → p.now.irq me ≡ true)
-          (λ _ x. let bad : true ≡ false = sym x ∙ put_same p.now.irq me false in cc) (λ _ x. x) (sym e ∙ i)
+      before found e i = search (at_test, put_same, arith)
 
   -- who is not inside the function of a patch does not end one
   not_patching : (x : Patching) → IsNoPatch (seat me) → RunnerShows u.first x seat → unpatched me x ≡ x
-  not_patching Whole idle r = refl
-  not_patching (Patches c w count made rest) idle r = ap (λ b. cond b Whole (Patches c w count made rest))
-      (ne_eqb c me (λ e. subst IsNoPatch (sym (ap seat e) ∙ r.1.1) idle))
+  not_patching x idle r = search (ne_eqb, IsNoPatch, arith)
 
   -- with the key of its own patch a source's readings begin when it leaves
   leave_agrees : (job : Work) (a l : ℕ) (t : Turn) → seat me ≡ In s job a l t → 4 ≤ (p.now.stop s).phase → AllByRecursion (Agrees (labels_in at))
@@ -168,14 +119,11 @@ module _ (u : Setup) (p : StopState) (at : Word → ℕ) (seat : ℕ → Seat) (
   leave_agrees job a l t is late = go (is_patch job.kind) refl (s == me) refl
     where
       kind_patch : (k : KindOf) → is_patch k ≡ true → k ≡ Patch
-      kind_patch One e = cc
-      kind_patch Multi e = cc
-      kind_patch Patch e = refl
+      kind_patch k e = search arith
 
       reads : (n : ℕ) → n ≡ at (Key job.func) → (x : Option Bool) → IfSome x (λ on. is_on n ≡ on) → AllByRecursion (Agrees (labels_in at))
           (reading_of job.func x)
-      reads n same None k = tt
-      reads n same (Some on) k = (ap is_on (sym same) ∙ k, tt)
+      reads n same x k = search arith
 
       go : (b : Bool) → is_patch job.kind ≡ b → (c : Bool) → (s == me) ≡ c → AllByRecursion (Agrees (labels_in at))
           (cond (b && c) (reading_of job.func (state_left (change_of job.arg))) [])
@@ -224,9 +172,7 @@ module _ (u : Setup) (p : StopState) (at : Word → ℕ) (seat : ℕ → Seat) (
         (λ ne op kind in_ late. h.owns j op kind in_ late)
 
     leaves_irq : (b : Bool) → irq_of (In s job (a + 1) (a + 1) (cond b Fills Rests)) ≡ cond (a + 1 == 4 && not b) true (nat_lt (a + 1) 2)
-    leaves_irq true = at_test (a + 1) 4 (λ c. nat_lt (a + 1) 2 ≡ cond (c && false) true (nat_lt (a + 1) 2)) (λ _. refl) (λ _. refl)
-    leaves_irq false = at_test (a + 1) 4 (λ c. nat_lt (a + 1) 2 || c ≡ cond (c && true) true (nat_lt (a + 1) 2)) (λ e. or_true (nat_lt (a + 1) 2))
-        (λ ne. or_false (nat_lt (a + 1) 2) false refl)
+    leaves_irq b = search (at_test, nat_lt, or_true, or_false, arith)
 
     -- an acknowledgement, over a state in which nobody or another patches
     ack_shown : (x : Patching) (seat0 : ℕ → Seat) (calls' : ℕ → List StopCall) (calling' : ℕ → Calling) → PresentShows u (record (p.now) { patching = x })
@@ -243,55 +189,48 @@ module _ (u : Setup) (p : StopState) (at : Word → ℕ) (seat : ℕ → Seat) (
         let readings' = put p.now.readings me (first_readings me s (p.now.stop s).work) in
         let at' = put_word at (Slot s Ack) (found - 1) in
         let to = Inside (a + 1) (a + 1) in
-        subst (λ (y : ℕ → Seat). StopShows u (record p { now = leaves (acked_now x) me s (p.now.stop s).work; calls = calls'; calling = calling' }) at' y
-        source) same
-        (open_step u p at seat source h s acked_stop p.now.inside irq' readings' x at' (put seat0 me next) p.looks calls' calling'
-        record {
-          was = op;
+        let shown' = open_step u p at seat source h s acked_stop p.now.inside irq' readings' x at' (put seat0 me next) p.looks calls' calling' record {
+          was =
+              op;
           now = op;
           work = refl;
           end = λ e. e;
-          given = put_all (λ c y. answer_now y ≡ answer_now ((p.now.stop s).standing c))
-              (p.now.stop s).standing me to (sym (ap answer_now st)) (λ c ne. refl);
-        }
-        refl (λ k. refl) (other_slots at s Ack (found - 1))
-        (owns_acked x irq' readings' st known)
-        (step_acknowledges u (record (p.now) { patching = x }) at seat0 present s me irq' readings'
-        record {
+          given = put_all (λ c y. answer_now y ≡ answer_now ((p.now.stop s).standing c)) (p.now.stop s).standing me
+              to (sym (ap answer_now st)) (λ c ne. refl);
+        } refl (λ k. refl) (other_slots at s Ack (found - 1)) (owns_acked x irq' readings' st known)
+        (step_acknowledges u (record (p.now) { patching = x }) at seat0 present s me irq' readings' record {
           inside = λ c ne. refl;
-          irq = λ c ne. put_other p.now.irq me true c ne;
-          readings = λ c ne. put_other p.now.readings me
-              (first_readings me s (p.now.stop s).work) c ne;
-        }
-        job a is
-        (put_same p.now.irq me true ∙ sym (leaves_irq (found == 1) ∙ ap (λ b. cond b true (nat_lt (a + 1) 2)) e))
-        (λ _ _. subst (AllByRecursion (Agrees (labels_in at))) (sym (put_same p.now.readings me (first_readings me s (p.now.stop s).work)))
-        (agrees (eqb-true (a + 1) 4 (both_true (a + 1 == 4) (not (found == 1)) e).0))))
-        (subst (λ (y : ℕ → Seat). (c : ℕ) → IsCalling c (y c) (calling' c)) (sym same) callings)
-        (subst (AreClosing (record (acked_now x) { irq = irq'; readings = readings' })) (sym same) (closing_kept p.now seat me next h.closing idle s
-        acked_stop (λ c ne. put_other (p.now.stop s).standing me to c ne) refl refl)))
+          irq = λ c ne.
+              put_other p.now.irq me true c ne;
+          readings = search (put_other, arith);
+        } job a is (put_same p.now.irq me true ∙ sym (leaves_irq (found == 1) ∙ ap
+        (λ b. cond b true (nat_lt (a + 1) 2)) e)) (λ _ _. subst (AllByRecursion (Agrees (labels_in at))) (sym (put_same p.now.readings me (first_readings
+        me s (p.now.stop s).work))) (agrees (eqb-true (a + 1) 4 (both_true (a + 1 == 4) (not (found == 1)) e).0)))) (subst (λ (y : ℕ → Seat). (c : ℕ) →
+        IsCalling c (y c) (calling' c)) (sym same) callings) (subst (AreClosing (record (acked_now x) { irq = irq'; readings = readings' })) (sym same)
+        (closing_kept p.now seat me next h.closing idle s acked_stop (λ c ne. put_other (p.now.stop s).standing me to c ne) refl refl)) in
+        search (← same, shown', arith)
     ack_shown x seat0 calls' calling' present is off same st op known agrees callings idle false e =
         let at' = put_word at (Slot s Ack) (found - 1) in
         let to = Inside (a + 1) (a + 1) in
         let turned : p.now.irq me ≡ irq_of next = off ∙ sym (leaves_irq (found == 1) ∙ ap (λ b. cond b true (nat_lt (a + 1) 2)) e) in
-        subst (λ (y : ℕ → Seat). StopShows u (record p { now = acked_now x; calls = calls'; calling = calling' }) at' y source) same
-        (open_step u p at seat source h s acked_stop p.now.inside p.now.irq p.now.readings x at' (put seat0 me next) p.looks calls' calling'
+        let shown' = open_step u p at seat source h s acked_stop p.now.inside p.now.irq p.now.readings x at' (put seat0 me next) p.looks calls' calling'
         record {
           was = op;
           now = op;
           work = refl;
           end = λ e. e;
-          given = put_all (λ c y. answer_now y ≡ answer_now ((p.now.stop s).standing c))
-              (p.now.stop s).standing me to (sym (ap answer_now st)) (λ c ne. refl);
-        }
-        refl (λ k. refl) (other_slots at s Ack (found - 1))
-        (owns_acked x p.now.irq p.now.readings st known)
-        (step_acknowledges u (record (p.now) { patching = x }) at seat0 present s me p.now.irq p.now.readings
-        record { inside = λ c ne. refl; irq = λ c ne. refl; readings = λ c ne. refl }
-        job a is turned (λ on i. h.present.read me on (turned ∙ i)))
-        (subst (λ (y : ℕ → Seat). (c : ℕ) → IsCalling c (y c) (calling' c)) (sym same) callings)
-        (subst (AreClosing (acked_now x)) (sym same) (closing_kept p.now seat me next h.closing idle s acked_stop (λ c ne. put_other (p.now.stop s).standing
-        me to c ne) refl refl)))
+          given = put_all (λ c y. answer_now y ≡ answer_now ((p.now.stop s).standing c)) (p.now.stop
+              s).standing me to (sym (ap answer_now st)) (λ c ne. refl);
+        } refl (λ k. refl) (other_slots at s Ack (found - 1)) (owns_acked x p.now.irq
+        p.now.readings st known) (step_acknowledges u (record (p.now) { patching = x }) at seat0 present s me p.now.irq p.now.readings record {
+          inside = λ
+              c ne. refl;
+          irq = λ c ne. refl;
+          readings = λ c ne. refl;
+        } job a is turned (λ on i. h.present.read me on (turned ∙ i))) (subst (λ (y : ℕ → Seat).
+        (c : ℕ) → IsCalling c (y c) (calling' c)) (sym same) callings) (subst (AreClosing (acked_now x)) (sym same) (closing_kept p.now seat me next
+        h.closing idle s acked_stop (λ c ne. put_other (p.now.stop s).standing me to c ne) refl refl)) in
+        search (← same, shown', arith)
 
     abbrev pub calls_then : ℕ → List StopCall
     calls_then = cond (a + 1 == 3) (called_more p.calls me (p.calling me)) p.calls
@@ -302,18 +241,7 @@ module _ (u : Setup) (p : StopState) (at : Word → ℕ) (seat : ℕ → Seat) (
     -- the function of a CPU that patches nothing, once the phase is acknowledged
     acked_calling : (b : Bool) → (a + 1 == 3) ≡ b → seat me ≡ In s job a (a + 1) Rests → job.kind ≢ One → (a ≡ 2 → HasCalled me job (p.calling me)) →
         (c : ℕ) → IsCalling c (put seat me next c) (cond b (put p.calling me (carried me p.now.patching (p.calling me))) p.calling c)
-    acked_calling false e is many ready =
-        calling_same seat p.calling h.callings me next
-        (calling_acked me s job a (cond (found == 1) Fills Rests) (p.calling me) (λ two. let bad : true ≡ false =
-        sym (eq-eqb (a + 1) 3 (omega (arith, two))) ∙ e in cc) many (subst (λ x. IsCalling me x (p.calling me)) is (h.callings me)))
-    acked_calling true e is many ready =
-        let two : a ≡ 2 = let x = eqb-true (a + 1) 3 e in omega arith in
-        let t = cond (found == 1) Fills Rests in
-        let alone = carried_alone u.first p.now.patching seat me (p.calling me) (subst IsNoPatch (sym is) tt) h.present.runner in
-        let ran = calling_ran me s job t (p.calling me) many (ready two) (subst (λ n. IsCalling me (In s job n (n + 1) Rests) (p.calling me)) two
-        (subst (λ x. IsCalling me x (p.calling me)) is (h.callings me))) in
-        calling_next seat p.calling h.callings me next (carried me p.now.patching (p.calling me))
-        (subst (IsCalling me next) (sym alone) (subst (λ n. IsCalling me (In s job (n + 1) (n + 1) t) (carried_call (p.calling me))) (sym two) ran))
+    acked_calling b e is many ready = search (calling_same, calling_acked, eq-eqb, eqb-true, carried_alone, IsNoPatch, calling_ran, calling_next, arith)
 
     -- fetch_sub of the count, by a CPU that has looked at a new phase and runs no patch
     pub ack_subtracted : seat me ≡ In s job a (a + 1) Rests → (a ≡ 2 → HasCalled me job (p.calling me)) →
@@ -322,45 +250,23 @@ module _ (u : Setup) (p : StopState) (at : Word → ℕ) (seat : ℕ → Seat) (
         let st = here job a (a + 1) Rests is in
         let k = keeps job a (a + 1) Rests is in
         let idle : IsNoPatch (seat me) = subst IsNoPatch (sym is) tt in
-        let phase : (p.now.stop s).phase ≡ a + 1 = ⊎_elim (λ (e : a + 1 ≡ a). absurd (omega arith))
-        (λ (e : (a + 1 ≡ a + 1) × ((p.now.stop s).phase ≡ a + 1)). e.1) k.2 in
-        let many : job.kind ≢ One = λ one. several ((p.now.stop s).work.kind) (ap (λ (w : Work). w.kind) st.3 ∙ one) (shown job a (a + 1) Rests is).kinds
-        phase in
-        let off : p.now.irq me ≡ nat_lt (a + 1) 2 = h.present.irq me ∙ (ap irq_of is ∙ or_false (nat_lt (a + 1) 2) (a == 4)
-        (ne_eqb a 4 (λ e. let m = k.3 in omega arith))) in
-        subst (λ (x : Standing). StopShows u (acknowledges p me s x found) (put_word at (Slot s Ack) (found - 1)) (put seat me next) source) (sym st.1)
-        (subst (λ (x : Patching). StopShows u (record p {
-          now = cond (a + 1 == 4 && not (found == 1)) (leaves (acked_now x) me s (p.now.stop s).work)
-              (acked_now x);
-          calls = calls_then;
-          calling = calling_then p.now.patching;
-        }) (put_word at (Slot s Ack) (found - 1)) (put seat me next) source)
-        (sym (still (a + 1 == 3) idle))
-        (ack_shown p.now.patching seat calls_then (calling_then p.now.patching) h.present is off refl st.1 (is_open job a (a + 1) Rests is)
-        (λ kind mine two. absurd (active kind mine two st.3))
-        (λ four. subst (λ (w : Work). AllByRecursion (Agrees (labels_in at)) (first_readings me s w)) (sym st.3) (leave_agrees job a (a + 1) Rests is
-        (omega arith)))
-        (acked_calling (a + 1 == 3) refl is many ready) (subst IsNotClosing (sym is) tt)
-        (a + 1 == 4 && not (found == 1)) refl))
+        let phase : (p.now.stop s).phase ≡ a + 1 = search arith in
+        let many : job.kind ≢ One = search (several, shown, arith) in
+        let off : p.now.irq me ≡ nat_lt (a + 1) 2 = search (h.present.irq, or_false, nat_lt, ne_eqb, arith) in
+        let shown' = ack_shown p.now.patching seat calls_then (calling_then p.now.patching) h.present is off refl st.1 (is_open job a (a + 1) Rests is) (λ
+        kind mine two. absurd (active kind mine two st.3)) (λ four. subst (λ (w : Work). AllByRecursion (Agrees (labels_in at)) (first_readings me s w))
+        (sym st.3) (leave_agrees job a (a + 1) Rests is (omega arith))) (acked_calling (a + 1 == 3) refl is many ready) (subst IsNotClosing (sym is) tt)
+        (a + 1 == 4 && not (found == 1)) refl in
+        search (st.1, still (a + 1 == 3) idle, shown', arith)
       where
         several : (k : KindOf) → k ≡ One → IsPhaseOf k (p.now.stop s).phase → (p.now.stop s).phase ≡ a + 1 → ⊥
-        several One e z phase = omega arith
-        several Multi e z phase = cc
-        several Patch e z phase = cc
+        several k e z phase = search arith
 
         still : (b : Bool) → IsNoPatch (seat me) → cond b (unpatched me p.now.patching) p.now.patching ≡ p.now.patching
-        still true idle = not_patching p.now.patching idle h.present.runner
-        still false idle = refl
+        still b idle = search (not_patching, arith)
 
         active : (p.now.stop s).work.kind ≡ Patch → me ≡ u.first → a ≡ 2 → (p.now.stop s).work ≡ job → ⊥
-        active kind mine two same =
-            let w = h.present.works s (is_open job a (a + 1) Rests is) kind in
-            let yes : has (p.now.stop s).work.active me ≡ true = w.first me ∙ eq-eqb me u.first mine in
-            let here = subst (λ n. IsCalling me (In s job n (a + 1) Rests) (p.calling me)) two (subst (λ x. IsCalling me x (p.calling me)) is
-            (h.callings me)) in
-            let idle = idle_patch me s job (a + 1) Rests (p.calling me) (ap (λ (w : Work). w.kind) (sym same) ∙ kind) here in
-            let passive : has (p.now.stop s).work.active me ≡ false = ap (λ (w : Work). has w.active me) same ∙ subst (HasCalled me job) idle (ready two) in
-            let bad : true ≡ false = sym yes ∙ passive in cc
+        active kind mine two same = search (h.present.works, is_open, eq-eqb, h.callings, idle_patch, arith)
 
   -- the same at phase 3, by the CPU that has made all stores of its patch
   pub ack_subtracted_patched : (job : Work) (count : ℕ) (made : List Change) (answer : ℕ) → seat me ≡ Alters s job count made [] →
@@ -377,27 +283,11 @@ module _ (u : Setup) (p : StopState) (at : Word → ℕ) (seat : ℕ → Seat) (
       let runner : RunnerShows u.first (Patches me job count made []) seat = subst (λ x. RunnerShows u.first x seat) st.5 h.present.runner in
       let works = h.present.works s open_ (ap (λ (w : Work). w.kind) st.3 ∙ st.4) in
       let active : has job.active me ≡ true = ap (λ (w : Work). has w.active me) (sym st.3) ∙ (works.first me ∙ eq-eqb me u.first runner.0) in
-      subst (λ (x : Standing). StopShows u (acknowledges p me s x found) (put_word at (Slot s Ack) (found - 1)) (put seat me next) source) (sym st.1)
-      (subst (λ (x : Patching). StopShows u (record p {
-        now = acked_now job 2 answer (unpatched me x);
-        calls = calls_then job 2 answer;
-        calling =
-            calling_then job 2 answer x;
-      }) (put_word at (Slot s Ack) (found - 1)) (put seat me next) source)
-      (sym st.5)
-      (subst (λ b. StopShows u (record p {
-        now = acked_now job 2 answer (cond b Whole (Patches me job count made []));
-        calls = calls_then job 2 answer;
-        calling = put p.calling me (cond b (Carries (patch_answer job count)) (carried_call (p.calling me)));
-      }) (put_word at (Slot s Ack) (found - 1))
-      (put seat me next) source)
-      (sym (eq-eqb me me refl))
-      (ack_shown job 2 answer Whole seat0 (calls_then job 2 answer) (put p.calling me (Carries (patch_answer job count))) ends.0
-      (put_same seat me (In s job 2 3 Rests)) (h.present.irq me ∙ ap irq_of is) (put_twice seat me (In s job 2 3 Rests) next) st.1 open_
-      (λ kind mine two. subst (λ (w : Work). StandsSet w (at (Key w.func))) (sym st.3) ends.1)
-      (λ four. absurd (let z : ⊥ = omega (arith, four) in z))
-      (calling_next seat p.calling h.callings me next (Carries (patch_answer job count)) (omega arith, active)) (subst IsNotClosing (sym is) tt)
-      false refl)))
+      let shown' = ack_shown job 2 answer Whole seat0 (calls_then job 2 answer) (put p.calling me (Carries (patch_answer job count))) ends.0 (put_same seat me
+      (In s job 2 3 Rests)) (h.present.irq me ∙ ap irq_of is) (put_twice seat me (In s job 2 3 Rests) next) st.1 open_ (λ kind mine two. subst (λ (w :
+      Work). StandsSet w (at (Key w.func))) (sym st.3) ends.1) (λ four. absurd (let z : ⊥ = omega (arith, four) in z)) (calling_next seat p.calling
+      h.callings me next (Carries (patch_answer job count)) (omega arith, active)) (subst IsNotClosing (sym is) tt) false refl in
+      search (st.1, st.5, eq-eqb me me refl, shown', arith)
 
   -- store of the count by the one that emptied it: the weight of the mask
   pub ack_stored : (job : Work) (a l answer : ℕ) → seat me ≡ In s job a l Fills →
@@ -410,31 +300,20 @@ module _ (u : Setup) (p : StopState) (at : Word → ℕ) (seat : ℕ → Seat) (
       let v = mask_weight u.cpus job.mask in
       let stop' = refilled (p.now.stop s) me in
       let next = In s job a l Sets in
-      let whole : weight u.cpus (p.now.stop s).standing ≡ v = weight_of_mask u.cpus (p.now.stop s) (λ f. at (Slot s f)) (h.present.slots s) open_ ∙ ap
-      (λ (w : Work). mask_weight u.cpus w.mask) st.3 in
+      let whole : weight u.cpus (p.now.stop s).standing ≡ v = search (weight_of_mask, h.present.slots, arith) in
       let stays : StaysOpen (p.now.stop s) stop' = record { was = open_; now = open_; work = refl; end = λ e. e; given = λ c. refl } in
-      subst (λ b. StopShows u (cond b (stored_open p me s Ack v) (stored_shut p s Ack v)) (put_word at (Slot s Ack) v) (put seat me next) source) (sym open_)
-      (open_step u p at seat source h s stop' p.now.inside p.now.irq p.now.readings p.now.patching (put_word at (Slot s Ack) v) (put seat me next) p.looks
-      p.calls p.calling stays
-      refl (λ k. refl) (other_slots at s Ack v)
-      (owns_kept u.first p.now (λ k. at (Key k)) s stop' p.now.inside p.now.irq p.now.readings p.now.patching stays record {
-        inside = λ i. i;
-        late =
-            λ i. i;
-      } h.owns)
-      (subst (λ n. PresentShows u (after p.now s stop' p.now.inside p.now.irq p.now.readings p.now.patching) (put_word at (Slot s Ack) n)
-      (put seat me next)) whole
-      (step_refills u p.now at seat h.present s me p.now.irq p.now.readings record { inside = λ c ne. refl; irq = λ c ne. refl; readings = λ c ne. refl }
-      job a l is (λ z. one (p.now.stop s).raising st.2 (o.calm z)) (h.present.irq me ∙ ap irq_of is) (λ on i. h.present.read me on
-      (h.present.irq me ∙ (ap irq_of is ∙ i)))))
-      (calling_same seat p.calling h.callings me next (calling_turned me s job a l Fills Sets (p.calling me) (λ e. cc)
-      (subst (λ x. IsCalling me x (p.calling me)) is (h.callings me))))
-      (closing_kept p.now seat me next h.closing (subst IsNotClosing (sym is) tt) s stop' (λ c ne. refl) refl refl))
+      let shown' = open_step u p at seat source h s stop' p.now.inside p.now.irq p.now.readings p.now.patching (put_word at (Slot s Ack) v) (put seat me next)
+      p.looks p.calls p.calling stays refl (λ k. refl) (other_slots at s Ack v) (owns_kept u.first p.now (λ k. at (Key k)) s stop' p.now.inside p.now.irq
+      p.now.readings p.now.patching stays record { inside = λ i. i; late = λ i. i } h.owns) (subst (λ n. PresentShows u (after p.now s stop' p.now.inside
+      p.now.irq p.now.readings p.now.patching) (put_word at (Slot s Ack) n) (put seat me next)) whole (step_refills u p.now at seat h.present s me
+      p.now.irq p.now.readings record { inside = λ c ne. refl; irq = λ c ne. refl; readings = λ c ne. refl } job a l is (λ z. one (p.now.stop s).raising
+      st.2 (o.calm z)) (h.present.irq me ∙ ap irq_of is) (λ on i. h.present.read me on (h.present.irq me ∙ (ap irq_of is ∙ i))))) (calling_same seat
+      p.calling h.callings me next (calling_turned me s job a l Fills Sets (p.calling me) (λ e. cc) (subst (λ x. IsCalling me x (p.calling me)) is
+      (h.callings me)))) (closing_kept p.now seat me next h.closing (subst IsNotClosing (sym is) tt) s stop' (λ c ne. refl) refl refl) in
+      search (open_, shown', arith)
     where
       one : (r : Raising) → turn_of r me ≡ Fills → r ≡ Nobody → ⊥
-      one Nobody e z = cc
-      one (Refills r) e z = cc
-      one (Raises r) e z = cc
+      one r e z = search arith
 
   -- store of the next phase by the one that refilled the count; from 4 to 5 it leaves
   pub state_stored : (job : Work) (a l answer : ℕ) → seat me ≡ In s job a l Sets →
@@ -457,17 +336,13 @@ module _ (u : Setup) (p : StopState) (at : Word → ℕ) (seat : ℕ → Seat) (
       let stays : StaysOpen (p.now.stop s) stop' = record { was = open_; now = open_; work = refl; end = λ e. e; given = λ c. refl } in
       let own = λ (irq' : ℕ → Bool) (readings' : ℕ → List Reading).
       owns_kept u.first p.now (λ k. at (Key k)) s stop' p.now.inside irq' readings' p.now.patching stays record { inside = λ i. i; late = λ i. i } h.owns in
-      subst (λ b. StopShows u (cond b (stored_open p me s State (a + 1)) (stored_shut p s State (a + 1))) at' (put seat me next) source) (sym open_)
-      (go (a + 1 == 5) refl st phase looked busy stays own)
+      search (go, arith)
     where
       one : (r : Raising) → turn_of r me ≡ Sets → r ≡ Nobody → ⊥
-      one Nobody e z = cc
-      one (Refills r) e z = cc
-      one (Raises r) e z = cc
+      one r e z = search arith
 
       callings : (c : ℕ) → IsCalling c (put seat me (In s job a l Rests) c) (p.calling c)
-      callings = calling_same seat p.calling h.callings me (In s job a l Rests) (calling_turned me s job a l Sets Rests (p.calling me) (λ e. cc)
-          (subst (λ x. IsCalling me x (p.calling me)) is (h.callings me)))
+      callings = search (calling_same, h.callings, calling_turned, arith)
 
       closing : AreClosing (record (p.now) { stop = put p.now.stop s (raised (p.now.stop s) (a + 1)) }) (put seat me (In s job a l Rests))
       closing = closing_kept p.now seat me (In s job a l Rests) h.closing (subst IsNotClosing (sym is) tt) s (raised (p.now.stop s) (a + 1)) (λ c ne. refl)

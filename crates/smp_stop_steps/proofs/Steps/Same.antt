@@ -2,12 +2,7 @@
 use Rattle.std.proofs.Common.{◌≡◌, ℕ, Bool, true, false, cond, sym, subst, refl, ap}
 use Rattle.smp_words.proofs.Puts.{at_test}
 use Rattle.smp_words.proofs.SameWords.{same_word-true}
-use Rattle.smp_words.specs.Put.{put, put_word, same_word}
-use Rattle.smp_words.specs.declared.word.Word.{Word}
-use Rattle.smp_stop_steps.specs.Seats.{Seat}
-use Rattle.smp_stop_steps.specs.Shows.{StopShows}
-use Rattle.smp_stop_steps.specs.Sources.{Source}
-use Rattle.smp_stop_steps.specs.State.{Setup, StopState}
+use Rattle.smp_stop_steps.specs.{put, put_word, same_word, Word, Seat, StopShows, Source, Setup, StopState}
 
 -- a put of what is there
 put_kept : {A : Type 0} (f : ℕ → A) (i j : ℕ) → put f i (f i) j ≡ f j

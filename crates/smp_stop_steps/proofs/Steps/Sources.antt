@@ -1,12 +1,16 @@
 -- The kinds of step of a source: the gate, the stores of begin, and the looks for the result.
-use Rattle.smp_stop_steps.proofs.State.Gates.{gate_free}
-use Rattle.smp_stop_steps.specs.Callings.{HasCompleted}
-use Rattle.smp_stop_steps.specs.KeyCounts.{CountShows}
-use Rattle.smp_stop_steps.specs.Labels.{StandsSet}
-use Rattle.std.proofs.Common.{◌≡◌, ◌≢◌, ℕ, ◌+◌, ◌<◌, ◌≤◌, Bool, true, false, eq-eqb, ◌==◌, cond, sym, subst, refl, ap, ◌∙◌, arith, Some, None}
-use Rattle.std.proofs.Common.{List, [], ◌∷◌, ◌++◌}
+use Rattle.std.proofs.Common.{◌≡◌, ◌≢◌, ℕ, ◌+◌, ◌<◌, Bool, true, false, eq-eqb, ◌==◌, cond, sym, subst, refl, ap, ◌∙◌, arith, Some, None, List, [], ◌∷◌, ◌++◌}
 use Rattle.smp_words.proofs.Puts.{at_test, put_all, put_both, put_same, put_other}
 use Rattle.smp_words.proofs.SameWords.{one_place}
+use Rattle.smp_words.specs.Put.{place_of, same_field}
+use Rattle.smp_words.specs.Kinds.{kind_at, kind_word}
+use Rattle.smp_words.specs.declared.field.Field.TheVariants.{Ack, Active, Arg, Done, Func, Kind, Mask, Result, Roll, State, Todo}
+use Rattle.smp_stop_steps.specs.{HasCompleted, CountShows, put, put_word, unfinished, HasPast, answer_now, PresentShows, Seat, Closes, StopShows, DoneShows}
+use Rattle.smp_stop_steps.specs.{IsStored, begun_value, order, Collects, DraftShows, Drafts, IsDrafted, OwnerShows, Owns, Shut, Source, SourceShows, Setup}
+use Rattle.smp_stop_steps.specs.{StopState, Answering, Called, Completed, Ended, Ending, Inside, Last, Outside, Running, Standing, answer_of, closed}
+use Rattle.smp_stop_steps.specs.{is_inside, is_of, opened, drafted, drafts, stored_open, stored_shut, told, with_stop, Field, Kind as KindOf, Work, Gate, Key}
+use Rattle.smp_stop_steps.specs.{Slot, Word, has}
+use Rattle.smp_stop_steps.proofs.State.Gates.{gate_free}
 use Rattle.smp_stop_steps.proofs.Basics.Counts.{sum_zero}
 use Rattle.smp_stop_steps.proofs.State.Ends.{all_outside, collects_slot}
 use Rattle.smp_stop_steps.proofs.State.Entered.{step_collects, step_drafts, step_opens}
@@ -14,143 +18,23 @@ use Rattle.smp_stop_steps.proofs.Steps.Kept.{after, other_slots, past_same, sour
 use Rattle.smp_stop_steps.proofs.State.Owns.{mask_is}
 use Rattle.smp_stop_steps.proofs.State.Pasts.{past_collects, past_opens}
 use Rattle.smp_stop_steps.proofs.State.Raises.{in_machine}
-use Rattle.smp_words.specs.Put.{place_of, put, put_word, same_field}
-use Rattle.smp_stop_steps.specs.Counts.{unfinished}
-use Rattle.smp_stop_steps.specs.Past.{HasPast, answer_now}
-use Rattle.smp_stop_steps.specs.Present.{PresentShows}
-use Rattle.smp_stop_steps.specs.Seats.{Seat, Closes}
-use Rattle.smp_stop_steps.specs.Shows.{StopShows}
-use Rattle.smp_stop_steps.specs.Slots.{DoneShows, IsStored, begun_value, order}
-use Rattle.smp_words.specs.Kinds.{kind_at, kind_word}
-use Rattle.smp_stop_steps.specs.Sources.{Collects, DraftShows, Drafts, IsDrafted, OwnerShows, Owns, Shut, Source, SourceShows}
-use Rattle.smp_stop_steps.specs.State.{Setup, StopState}
-use Rattle.smp_stop_steps.specs.Stop.{Answering, Called, Completed, Ended, Ending, Inside, Last, Outside, Running, Standing, Stop, acked, answer_of}
-use Rattle.smp_stop_steps.specs.Stop.{closed, is_inside, is_of, opened}
-use Rattle.smp_stop_steps.specs.Tells.{drafted, drafts, stored_open, stored_shut, told, with_stop}
-use Rattle.smp_words.specs.declared.seen.Act.TheVariants as act
-use Rattle.smp_words.specs.declared.field.Field.TheVariants.{Ack, Active, Arg, Done, Func, Kind, Mask, Result, Roll, State, Todo}
-use Rattle.smp_words.specs.declared.field.Field.{Field}
-use Rattle.smp_words.specs.declared.work.Kind.TheVariants.{Multi, One, Patch}
-use Rattle.smp_words.specs.declared.work.Kind.{Kind as KindOf}
-use Rattle.smp_words.specs.declared.work.Work.{Work}
-use Rattle.smp_words.specs.declared.word.Word.TheVariants.{Gate, Key, Slot}
-use Rattle.smp_words.specs.declared.word.Word.{Word}
-use Rattle.smp_mask.specs.Mask.{has}
+use Rattle.smp_stop_steps.specs.Stop.{Stop}
+use Rattle.smp_stop_steps.specs.act
 
 pub kind_back : (k : KindOf) → kind_at (kind_word k) ≡ k
-kind_back One = refl
-kind_back Multi = refl
-kind_back Patch = refl
+kind_back k = search arith
 
 -- one more store of begin tells one more number of the work
 drafted_more : (cpus : ℕ) (f : Field) (k : ℕ) (now work : Work) → order f ≡ k → IsDrafted k now work →
     IsDrafted (k + 1) (drafted f (begun_value cpus work f) now) work
-drafted_more cpus Kind k now work e d = record {
-  kind = λ _. kind_back work.kind;
-  mask = λ l. absurd (omega arith);
-  active = λ l. absurd (omega arith);
-  func = λ l. absurd (omega arith);
-  arg = λ l. absurd (omega arith);
-}
-drafted_more cpus Mask k now work e d = record {
-  kind = λ _. d.kind (omega arith);
-  mask = λ _. refl;
-  active = λ l. absurd (omega arith);
-  func =
-      λ l. absurd (omega arith);
-  arg = λ l. absurd (omega arith);
-}
-drafted_more cpus Active k now work e d = record {
-  kind = λ _. d.kind (omega arith);
-  mask = λ _. d.mask (omega arith);
-  active = λ _. refl;
-  func =
-      λ l. absurd (omega arith);
-  arg = λ l. absurd (omega arith);
-}
-drafted_more cpus Func k now work e d = record {
-  kind = λ _. d.kind (omega arith);
-  mask = λ _. d.mask (omega arith);
-  active = λ _. d.active (omega arith);
-  func = λ _. refl;
-  arg = λ l. absurd (omega arith);
-}
-drafted_more cpus Arg k now work e d = record {
-  kind = λ _. d.kind (omega arith);
-  mask = λ _. d.mask (omega arith);
-  active = λ _. d.active (omega arith);
-  func = λ _. d.func (omega arith);
-  arg = λ _. refl;
-}
-drafted_more cpus Result k now work e d = record {
-  kind = λ _. d.kind (omega arith);
-  mask = λ _. d.mask (omega arith);
-  active = λ _. d.active (omega arith);
-  func = λ _. d.func (omega arith);
-  arg = λ _. d.arg (omega arith);
-}
-drafted_more cpus Todo k now work e d = record {
-  kind = λ _. d.kind (omega arith);
-  mask = λ _. d.mask (omega arith);
-  active = λ _. d.active (omega arith);
-  func = λ _. d.func (omega arith);
-  arg = λ _. d.arg (omega arith);
-}
-drafted_more cpus Done k now work e d = record {
-  kind = λ _. d.kind (omega arith);
-  mask = λ _. d.mask (omega arith);
-  active = λ _. d.active (omega arith);
-  func = λ _. d.func (omega arith);
-  arg = λ _. d.arg (omega arith);
-}
-drafted_more cpus Ack k now work e d = record {
-  kind = λ _. d.kind (omega arith);
-  mask = λ _. d.mask (omega arith);
-  active = λ _. d.active (omega arith);
-  func = λ _. d.func (omega arith);
-  arg = λ _. d.arg (omega arith);
-}
-drafted_more cpus State k now work e d = record {
-  kind = λ _. d.kind (omega arith);
-  mask = λ _. d.mask (omega arith);
-  active = λ _. d.active (omega arith);
-  func = λ _. d.func (omega arith);
-  arg = λ _. d.arg (omega arith);
-}
-drafted_more cpus Roll k now work e d = record {
-  kind = λ _. d.kind (omega arith);
-  mask = λ _. d.mask (omega arith);
-  active = λ _. d.active (omega arith);
-  func = λ _. d.func (omega arith);
-  arg = λ _. d.arg (omega arith);
-}
+drafted_more cpus f k now work e d = search (kind_back, d.kind, d.mask, d.active, d.func, d.arg, arith)
 
 not_roll : (f : Field) → order f < 10 → same_field f Roll true ≡ false
-not_roll Kind l = refl
-not_roll Mask l = refl
-not_roll Active l = refl
-not_roll Func l = refl
-not_roll Arg l = refl
-not_roll Result l = refl
-not_roll Todo l = refl
-not_roll Done l = refl
-not_roll Ack l = refl
-not_roll State l = refl
-not_roll Roll l = absurd (let z : ⊥ = omega (arith, l) in z)
+not_roll f l = search arith
 
 -- a store but the last one drafts the work
 shut_told : (p : StopState) (s : ℕ) (f : Field) (v : ℕ) → order f < 10 → stored_shut p s f v ≡ record p { now = drafts p.now s f v }
-shut_told p s Kind v l = refl
-shut_told p s Mask v l = refl
-shut_told p s Active v l = refl
-shut_told p s Func v l = refl
-shut_told p s Arg v l = refl
-shut_told p s Result v l = refl
-shut_told p s Todo v l = refl
-shut_told p s Done v l = refl
-shut_told p s Ack v l = refl
-shut_told p s State v l = refl
-shut_told p s Roll v l = absurd (let z : ⊥ = omega (arith, l) in z)
+shut_told p s f v l = search arith
 
 -- the field of a place among the stores of begin
 field_of : ℕ → Field
@@ -160,17 +44,7 @@ field_of n =
 
 field_of-order : (f : Field) → field_of (order f) ≡ f
 unfolding field_of
-field_of-order Kind = refl
-field_of-order Mask = refl
-field_of-order Active = refl
-field_of-order Func = refl
-field_of-order Arg = refl
-field_of-order Result = refl
-field_of-order Todo = refl
-field_of-order Done = refl
-field_of-order Ack = refl
-field_of-order State = refl
-field_of-order Roll = refl
+field_of-order f = search arith
 
 one_order : (f g : Field) → order f ≡ order g → f ≡ g
 one_order f g e = sym (field_of-order f) ∙ (ap field_of e ∙ field_of-order g)
@@ -180,16 +54,7 @@ field_itself f b = ap (λ c. cond c b false) (eq-eqb (place_of f) (place_of f) r
 
 stored_more : (cpus : ℕ) (at : Word → ℕ) (s : ℕ) (work : Work) (k : ℕ) (g : Field) → order g ≡ k → IsStored cpus (λ f. at (Slot s f)) work k →
     IsStored cpus (λ f. put_word at (Slot s g) (begun_value cpus work g) (Slot s f)) work (k + 1)
-stored_more cpus at s work k g is h f l = at_test (order f) (order g) (λ _. put_word at (Slot s g) (begun_value cpus work g) (Slot s f) ≡ begun_value cpus
-    work f)
-    (λ e. let same = one_order f g e in
-    subst (λ x. put_word at (Slot s g) (begun_value cpus work g) (Slot s x) ≡ begun_value cpus work x) (sym same)
-    (ap (λ b. cond b (begun_value cpus work g) (at (Slot s g))) (field_itself g (s == s) ∙ eq-eqb s s refl)))
-    (λ ne. other f (λ e. ne (ap order e)) ∙ h f (omega arith))
-  where
-    other : (f : Field) → f ≢ g → put_word at (Slot s g) (begun_value cpus work g) (Slot s f) ≡ at (Slot s f)
-    other f ne = at_test (place_of f) (place_of g) (λ b. cond (cond b (s == s) false) (begun_value cpus work g) (at (Slot s f)) ≡ at (Slot s f))
-        (λ e. absurd (ne (one_place f g e))) (λ _. refl)
+stored_more cpus at s work k g is h f l = search (at_test, one_order, field_itself, eq-eqb, one_place, arith)
 
 pub work_ext : (x y : Work) → x.kind ≡ y.kind → x.mask ≡ y.mask → x.active ≡ y.active → x.func ≡ y.func → x.arg ≡ y.arg → x ≡ y
 work_ext x y a b c d e = λ k. record { kind = a k; mask = b k; active = c k; func = d k; arg = e k }
@@ -215,16 +80,12 @@ module _ (u : Setup) (p : StopState) (at : Word → ℕ) (seat : ℕ → Seat) (
     closing = λ j c. at_test j me (λ b. let y = cond b stop' (p.now.stop j) in y.is_open ≡ true → y.ending ≡ Last c → (seat c ≡ Closes j) × HasCompleted
         (y.standing c))
         (λ e op l. absurd (last c op l)) (λ ne. h.closing j c);
-    sources = put_both (λ j x y. SourceShows u p.gate y (λ f. at' (Slot j f)) j x) source p.now.stop me next stop' here
-        (λ j ne. source_same u p.gate j (p.now.stop j) (λ f. at (Slot j f)) (λ f. at' (Slot j f)) (slots j ne) (source j) (h.sources j));
+    sources = search (put_both, source_same, h.sources, arith);
     past = λ j. at_test j me (λ b. HasPast (cond b stop' (p.now.stop j)) (begun' j) (collected' j) (λ c. p.answers c j))
         (λ e. let P : ℕ → Type 0 = λ k. HasPast stop' (begun' k) (collected' k) (λ c. p.answers c k) in subst P (sym e) past)
         (λ ne. let P : List Work → List ℕ → Type 0 = λ x y. HasPast (p.now.stop j) x y (λ c. p.answers c j) in
         subst (λ x. P x (collected' j)) (sym (begun j ne)) (subst (λ y. P (p.begun j) y) (sym (collected j ne)) (h.past j)));
-    owns = λ j. at_test j me (λ b. let y = cond b stop' (p.now.stop j) in
-        y.is_open ≡ true → y.work.kind ≡ Patch → is_inside (y.standing j) ≡ true → 3 ≤ acked (y.standing u.first) → StandsSet y.work (at' (Key y.work.func)))
-        (λ e op kind in_ late. absurd (nobody j in_))
-        (λ ne op kind in_ late. subst (StandsSet (p.now.stop j).work) (sym (keys (p.now.stop j).work.func)) (h.owns j op kind in_ late));
+    owns = search (at_test, h.owns, arith);
     counts = λ k. subst (CountShows u.cpus p.nudged p.patched k) (sym (keys k)) (h.counts k);
   }
 
@@ -247,21 +108,18 @@ module _ (u : Setup) (p : StopState) (at : Word → ℕ) (seat : ℕ → Seat) (
       let work' = drafted f v (p.now.stop me).work in
       let stop' : Stop = record (p.now.stop me) { work = work' } in
       let out = all_outside u.cpus (p.now.stop me) w (h.present.slots me) d.shut in
-      subst (λ b. StopShows u (cond b (stored_open p me me f v) (stored_shut p me f v)) at' seat (put source me (Drafts work (k + 1)))) (sym d.shut)
-      (subst (λ q. StopShows u q at' seat (put source me (Drafts work (k + 1)))) (sym (shut_told p me f v fresh))
-      (source_step stop' p.begun p.collected at' (Drafts work (k + 1)) refl (other_slots at me f v) (λ k. refl)
-      record {
+      let shown' = source_step stop' p.begun p.collected at' (Drafts work (k + 1)) refl (other_slots at me f v) (λ k. refl) record {
         shut = d.shut;
-        holds = d.holds;
+        holds =
+            d.holds;
         is_work = d.is_work;
         stored = stored_more u.cpus at me work k f place d.stored;
-        told = drafted_more u.cpus f
-            k (p.now.stop me).work work place d.told;
-      }
-      (past_same (p.now.stop me) stop' (p.begun me) (p.collected me) (λ c. p.answers c me) refl (λ op. absurd (apart (sym op ∙ d.shut))) (λ c. refl)
-      (h.past me))
-      (λ j ne. refl) (λ j ne. refl) (λ c. outside_not ((p.now.stop me).standing c) (out c)) (λ c op l. apart (sym op ∙ d.shut))
-      (step_drafts u p.now at seat h.present me f v work' d.shut (not_roll f fresh))))
+        told = search (drafted_more, arith);
+      } (past_same
+      (p.now.stop me) stop' (p.begun me) (p.collected me) (λ c. p.answers c me) refl (λ op. absurd (apart (sym op ∙ d.shut))) (λ c. refl) (h.past me)) (λ
+      j ne. refl) (λ j ne. refl) (λ c. outside_not ((p.now.stop me).standing c) (out c)) (λ c op l. apart (sym op ∙ d.shut)) (step_drafts u p.now at seat
+      h.present me f v work' d.shut (not_roll f fresh)) in
+      search (d.shut, shut_told p me f v fresh, shown', arith)
     where
       apart : true ≡ false → ⊥
       apart e = cc
@@ -272,46 +130,31 @@ module _ (u : Setup) (p : StopState) (at : Word → ℕ) (seat : ℕ → Seat) (
   roll_stored work answer is =
       let d = draft work 10 is in
       let at' = put_word at (Slot me Roll) work.mask in
-      let same : (p.now.stop me).work ≡ work = work_ext (p.now.stop me).work work (d.told.kind (omega arith)) (d.told.mask (omega arith))
-      (d.told.active (omega arith)) (d.told.func (omega arith)) (d.told.arg (omega arith)) in
+      let same : (p.now.stop me).work ≡ work = search (work_ext, d.told.kind, d.told.mask, d.told.active, d.told.func, d.told.arg, arith) in
       let stop' = opened (p.now.stop me) work in
       let out = all_outside u.cpus (p.now.stop me) w (h.present.slots me) d.shut in
-      subst (λ b. StopShows u (cond b (stored_open p me me Roll work.mask) (stored_shut p me Roll work.mask)) at' seat (put source me (Owns work))) (sym d.shut)
-      (subst (λ (x : Work). StopShows u (record p { now = with_stop p.now me (opened (p.now.stop me) x); begun = put p.begun me (p.begun me ++ x ∷ []) })
-      at' seat (put source me (Owns work))) (sym same)
-      (source_step stop' (put p.begun me (p.begun me ++ work ∷ [])) p.collected at' (Owns work) refl (other_slots at me Roll work.mask) (λ k. refl)
-      record { is_open = refl; work_is = refl; is_work = d.is_work }
-      (subst (λ l. HasPast stop' l (p.collected me) (λ c. p.answers c me)) (sym (put_same p.begun me (p.begun me ++ work ∷ [])))
-      ((h.past me).0, past_opens (h.past me).0 (p.now.stop me) (p.begun me) (p.collected me) (λ c. p.answers c me) (h.past me).1 work d.shut out))
-      (λ j ne. put_other p.begun me (p.begun me ++ work ∷ []) j ne) (λ j ne. refl) (λ c. called_not (has work.mask c)) (λ c op l. cc)
-      (step_opens u p.now at seat h.present me work d.shut d.is_work d.stored)))
+      let shown' = source_step stop' (put p.begun me (p.begun me ++ work ∷ [])) p.collected at' (Owns work) refl (other_slots at me Roll work.mask) (λ k.
+      refl) record { is_open = refl; work_is = refl; is_work = d.is_work } (subst (λ l. HasPast stop' l (p.collected me) (λ c. p.answers c me)) (sym
+      (put_same p.begun me (p.begun me ++ work ∷ []))) (
+        (h.past me).0,
+        past_opens (h.past me).0 (p.now.stop me) (p.begun me) (p.collected me) (λ c.
+            p.answers c me) (h.past me).1 work d.shut out,
+      )) (λ j ne. put_other p.begun me (p.begun me ++ work ∷ []) j ne) (λ j ne. refl) (λ c. called_not (has
+      work.mask c)) (λ c op l. cc) (step_opens u p.now at seat h.present me work d.shut d.is_work d.stored) in
+      search (d.shut, same, shown', arith)
     where
       called_not : (b : Bool) → is_inside (cond b Called Outside) ≡ true → ⊥
-      called_not true e = cc
-      called_not false e = cc
+      called_not b e = search arith
 
   owner : (work : Work) → source me ≡ Owns work → OwnerShows u (p.now.stop me) work
   owner work is = subst (SourceShows u p.gate (p.now.stop me) w me) is (h.sources me)
 
   -- load of done, that found it set
   pub done_loaded : (work : Work) → source me ≡ Owns work → at (Slot me Done) ≡ 1 → StopShows u p at seat (put source me (Collects work))
-  done_loaded work is found = record {
-    setup = h.setup;
-    present = h.present;
-    gate = h.gate;
-    callings = h.callings;
-    closing = h.closing;
-    past = h.past;
-    owns = h.owns;
-    counts = h.counts;
-    sources = put_all (λ j x. SourceShows u p.gate (p.now.stop j) (λ f. at (Slot j f)) j x) source me (Collects work)
-        (owner work is, ends (p.now.stop me).ending refl ((h.present.slots me).shows (owner work is).is_open).done) (λ j ne. h.sources j);
-  }
+  done_loaded work is found = search (put_all, owner, ends, h.present.slots, h.sources, arith)
     where
       ends : (e : Ending) → (p.now.stop me).ending ≡ e → DoneShows u.cpus (p.now.stop me).standing e (at (Slot me Done)) → (p.now.stop me).ending ≡ Ended
-      ends Running e d = absurd (let x = d.0 in omega arith)
-      ends (Last c) e d = absurd (let x = d.0 in omega arith)
-      ends Ended e d = e
+      ends e e' d = search arith
 
   -- load of the result, after that: collect
   pub result_loaded : (work : Work) (answer : ℕ) → source me ≡ Collects work →
@@ -319,8 +162,7 @@ module _ (u : Setup) (p : StopState) (at : Word → ℕ) (seat : ℕ → Seat) (
   result_loaded work answer is =
       let o : OwnerShows u (p.now.stop me) work × ((p.now.stop me).ending ≡ Ended) = subst (SourceShows u p.gate (p.now.stop me) w me) is (h.sources me) in
       let shown = (h.present.slots me).shows o.0.is_open in
-      let d : DoneShows u.cpus (p.now.stop me).standing Ended (at (Slot me Done)) = subst (λ e. DoneShows u.cpus (p.now.stop me).standing e
-      (at (Slot me Done))) o.1 shown.done in
+      let d : DoneShows u.cpus (p.now.stop me).standing Ended (at (Slot me Done)) = search arith in
       let result = at (Slot me Result) in
       let stop' = closed (p.now.stop me) in
       source_step stop' p.begun (put p.collected me (p.collected me ++ result ∷ [])) at Shut refl (λ j ne f. refl) (λ k. refl) refl
@@ -336,74 +178,13 @@ module _ (u : Setup) (p : StopState) (at : Word → ℕ) (seat : ℕ → Seat) (
       (step_collects u p.now at seat h.present me o.0.is_open d.0)
     where
       all : {b : Bool} (x : Standing) → is_of x ≡ b → (is_of x ≡ true → unfinished x ≡ 0) → answer_now x ≡ cond b (answer_of x ∷ []) []
-      all {b} Outside e z = ap (λ c. cond c (0 ∷ []) []) e
-      all {b} Called e z = absurd (let f : 1 ≡ 0 = z refl in omega arith)
-      all {b} (Inside a l) e z = absurd (let f : 1 ≡ 0 = z refl in omega arith)
-      all {b} (Answering a v) e z = absurd (let f : 1 ≡ 0 = z refl in omega arith)
-      all {b} (Completed a v) e z = ap (λ c. cond c (v ∷ []) []) e
+      all {b} x e z = search arith
 
   -- compare-exchange of the gate, that won
   pub gate_taken : (answer : ℕ) → at Gate ≡ 0 → StopShows u (told u p me act.Cas Gate (Some 0) (Some (me + 1)) answer) (put_word at Gate (me + 1)) seat source
-  gate_taken answer free = record {
-    setup = h.setup;
-    present = other_gate (me + 1);
-    gate = refl;
-    callings = h.callings;
-    closing = h.closing;
-    sources = λ j. another j (source j) (h.sources j);
-    past = h.past;
-    owns = h.owns;
-    counts = h.counts;
-  }
-    where
-      other_gate : (n : ℕ) → PresentShows u p.now (put_word at Gate n) seat
-      other_gate n = record {
-        slots = h.present.slots;
-        stands = h.present.stands;
-        homes = h.present.homes;
-        irq = h.present.irq;
-        works = h.present.works;
-        runner = h.present.runner;
-        entries = h.present.entries;
-        labels = h.present.labels;
-        read = h.present.read;
-      }
-
-      another : (j : ℕ) (x : Source) → SourceShows u p.gate (p.now.stop j) (λ f. at (Slot j f)) j x → SourceShows u (Some me) (p.now.stop j)
-          (λ f. at (Slot j f)) j x
-      another j Shut s = s
-      another j (Drafts work k) s = let bad : None ≡ Some j = sym (gate_free p.gate (sym h.gate ∙ free)) ∙ s.holds in cc
-      another j (Owns work) s = s
-      another j (Collects work) s = s
+  gate_taken answer free = search (h.sources, gate_free, arith)
 
   -- store of 0 to the gate by its holder, which begins no stop
   pub gate_opened : (answer : ℕ) → p.gate ≡ Some me → ((work : Work) (k : ℕ) → source me ≢ Drafts work k) →
       StopShows u (told u p me act.Store Gate None (Some 0) answer) (put_word at Gate 0) seat source
-  gate_opened answer holds idle = record {
-    setup = h.setup;
-    present = record {
-      slots = h.present.slots;
-      stands = h.present.stands;
-      homes = h.present.homes;
-      irq = h.present.irq;
-      works = h.present.works;
-      runner = h.present.runner;
-      entries = h.present.entries;
-      labels = h.present.labels;
-      read = h.present.read;
-    };
-    gate = refl;
-    callings = h.callings;
-    closing = h.closing;
-    sources = λ j. another j (source j) refl (h.sources j);
-    past = h.past;
-    owns = h.owns;
-    counts = h.counts;
-  }
-    where
-      another : (j : ℕ) (x : Source) → source j ≡ x → SourceShows u p.gate (p.now.stop j) (λ f. at (Slot j f)) j x → SourceShows u None (p.now.stop j)
-          (λ f. at (Slot j f)) j x
-      another j Shut e s = s
-      another j (Drafts work k) e s = let one : Some me ≡ Some j = sym holds ∙ s.holds in let same : me ≡ j = cc in absurd (idle work k (ap source same ∙ e))
-      another j (Owns work) e s = s
-      another j (Collects work) e s = s
+  gate_opened answer holds idle = search (h.sources, arith)

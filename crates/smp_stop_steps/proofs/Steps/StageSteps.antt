@@ -1,55 +1,30 @@
 -- Each step of a CPU's command keeps what the words show of the stops, and what was seen of it tells the stops after it.
+use Rattle.std.proofs.Common.{◌≡◌, ◌≢◌, ℕ, ◌+◌, ◌-◌, ◌^◌, ◌<◌, Bool, true, false, eq-eqb, eqb-true, ◌==◌, cond, sym, subst, refl, ap, ◌∙◌, ◌⊎◌, arith, nat_lt}
+use Rattle.std.proofs.Common.{Option, Some, None, length}
+use Rattle.smp_labels.proofs.Patched.{left_in_form, xor_same}
+use Rattle.smp_labels.specs.Kinds.{xor}
+use Rattle.smp_words.specs.Access.{one_less, put_if}
+use Rattle.smp_words.specs.Kinds.{kind_at}
+use Rattle.smp_words.specs.declared.field.Field.TheVariants.{Ack, Active, Arg, Done, Func, Kind, Mask, Result, Roll, State, Todo}
+use Rattle.smp_stop_steps.specs.{is_on, count_after, IsKeyWord, put, put_word, In, Rests, Seat, StopShows, HoldsGate, OwnsIf, SitsAt, SitsAtRest, SourceSits}
+use Rattle.smp_stop_steps.specs.{IsNudge, DoneShows, begun_value, order, Collects, Drafts, OwnerShows, Owns, Shut, Source, SourceShows, StopControlValue}
+use Rattle.smp_stop_steps.specs.{stop_ends, stop_goes, nudge_on, nudge_of, Setup, StopState, StopStep, at_then, state_after, Ended, Ending, Last, Running}
+use Rattle.smp_stop_steps.specs.{gate_told, told, Field, Begin, EnterActive, EnterKind, EnterMask, LoadDone, LoadResult, OpenGate, TakeGate, NudgeKey}
+use Rattle.smp_stop_steps.specs.{ExchangeKey, StopStage, Kind as KindOf, Work, Gate, Slot, Key, Word}
 use Rattle.smp_stop_steps.proofs.State.Gates.{gate_mine}
 use Rattle.smp_stop_steps.proofs.Steps.Same.{moved_source, still}
 use Rattle.smp_stop_steps.proofs.State.Patched.{lawful_when_on}
-use Rattle.smp_labels.proofs.Patched.{left_in_form, xor_same}
-use Rattle.smp_labels.specs.Kinds.{xor}
-use Rattle.smp_labels.specs.Keys.{is_on, count_after, count_or, IsKeyWord}
-use Rattle.std.proofs.Common.{◌≡◌, ◌≢◌, ℕ, ◌+◌, ◌-◌, ◌^◌, ◌<◌, Bool, true, false, eq-eqb, eqb-true, ◌==◌, cond, sym, subst, refl, ap, ◌∙◌, ◌⊎◌, inl}
-use Rattle.std.proofs.Common.{inr, arith, nat_lt, Option, Some, None, length}
 use Rattle.smp_stop_steps.proofs.Steps.Facts.{work_words}
 use Rattle.smp_stop_steps.proofs.Steps.Patching.{key_read, site_read, key_exchanged}
 use Rattle.smp_stop_steps.proofs.Steps.Sources.{done_loaded, field_stored, gate_opened, gate_taken, kind_back, result_loaded, roll_stored}
-use Rattle.smp_words.specs.Access.{one_less, put_if}
-use Rattle.smp_words.specs.Put.{put, put_word}
-use Rattle.smp_stop_steps.specs.Seats.{In, Rests, Seat}
-use Rattle.smp_stop_steps.specs.Shows.{StopShows}
-use Rattle.smp_stop_steps.specs.Sits.{HoldsGate, OwnsIf, Sits, SitsAt, SitsAtRest, SourceSits, IsNudge}
-use Rattle.smp_stop_steps.specs.Slots.{DoneShows, begun_value, order}
-use Rattle.smp_words.specs.Kinds.{kind_at}
-use Rattle.smp_stop_steps.specs.Sources.{Collects, Drafts, OwnerShows, Owns, Shut, Source, SourceShows}
-use Rattle.smp_stop_steps.specs.Stages.{StopControlValue, stop_ends, stop_goes, nudge_on, nudge_of}
-use Rattle.smp_stop_steps.specs.State.{Setup, StopState}
-use Rattle.smp_stop_steps.specs.Steps.{StopStep, at_then, state_after}
-use Rattle.smp_stop_steps.specs.Stop.{Ended, Ending, Last, Running}
-use Rattle.smp_stop_steps.specs.Tells.{gate_told, told}
-use Rattle.smp_words.specs.declared.seen.Act.TheVariants as act
-use Rattle.smp_words.specs.declared.seen.Note.TheVariants as note
-use Rattle.smp_words.specs.declared.field.Field.TheVariants.{Ack, Active, Arg, Done, Func, Kind, Mask, Result, Roll, State, Todo}
-use Rattle.smp_words.specs.declared.field.Field.{Field}
-use Rattle.smp_stop_steps.specs.declared.stage.StopStage.TheVariants.{Begin, EnterActive, EnterKind, EnterMask, LoadDone, LoadResult, OpenGate}
-use Rattle.smp_stop_steps.specs.declared.stage.StopStage.TheVariants.{ReadKey, ReadSite, TakeGate, NudgeKey, ExchangeKey}
-use Rattle.smp_stop_steps.specs.declared.stage.StopStage.{StopStage}
-use Rattle.smp_words.specs.declared.work.Kind.{Kind as KindOf}
-use Rattle.smp_words.specs.declared.work.Work.{Work}
-use Rattle.smp_words.specs.declared.word.Word.TheVariants.{Gate, Slot, Key}
-use Rattle.smp_words.specs.declared.word.Word.{Word}
+use Rattle.smp_stop_steps.specs.Sits.{Sits}
+use Rattle.smp_stop_steps.specs.declared.stage.StopStage.TheVariants.{ReadKey, ReadSite}
+use Rattle.smp_stop_steps.specs.act
+use Rattle.smp_stop_steps.specs.note
 
 -- a nudge moves a count by one
 one_apart : (up : Bool) (n new : ℕ) → count_after (nudge_of up) n ≡ Some new → (new ≡ n + 1) ⊎ (n ≡ new + 1)
-one_apart true n new e = go (nat_lt n 65535) e
-  where
-    go : (b : Bool) → cond b (Some (n + 1)) None ≡ Some new → (new ≡ n + 1) ⊎ (n ≡ new + 1)
-    go true e = let same : n + 1 ≡ new = cc in inl (sym same)
-    go false e = cc
-one_apart false n new e = go (n == 0) refl e
-  where
-    go : (b : Bool) → (n == 0) ≡ b → cond b None (Some (n - 1)) ≡ Some new → (new ≡ n + 1) ⊎ (n ≡ new + 1)
-    go true z e = cc
-    go false z e =
-        let same : n - 1 ≡ new = cc in
-        let some : n ≢ 0 = λ none. let bad : true ≡ false = sym (eq-eqb n 0 none) ∙ z in cc in
-        inr (omega arith)
+one_apart up n new e = search (nat_lt, eq-eqb, arith)
 
 pub less_one : (n : ℕ) → 0 < n → n < 2 ^ 64 → one_less n ≡ n - 1
 less_one n some small = omega arith
@@ -66,35 +41,23 @@ module _ (u : Setup) (p : StopState) (at : Word → ℕ) (seat : ℕ → Seat) (
   gate_is_taken false e = h
 
   not_drafting : {y : Source} → OwnsIf c.is_open y → (work : Work) (k : ℕ) → y ≢ Drafts work k
-  not_drafting {y} o work k e = go c.is_open o
-    where
-      go : (b : Bool) → OwnsIf b y → ⊥
-      go true o = let bad : Owns o.0 ≡ Drafts work k = sym o.1 ∙ e in cc
-      go false o = let bad : Shut ≡ Drafts work k = sym o ∙ e in cc
+  not_drafting {y} o work k e = search (c.is_open, arith)
 
   pub take_gate : c.stage ≡ Some TakeGate → StopStep u p at seat source c me TakeGate
   take_gate e =
       let x : AtRest = subst (λ (st : Option StopStage). SitsAt u me c st (seat me)) e s.seat in
       let y : OwnsIf c.is_open (source me) = subst (λ (st : Option StopStage). SourceSits c.is_open st (source me)) e s.source in
-      record {
-        seat_after = seat me;
-        source_after = source me;
-        shows = still u seat source me (state_after u p at c me TakeGate) (at_then u at c me TakeGate) (gate_is_taken (at Gate == 0) refl);
-        sits = record { below = s.below; irq = s.irq; seat = x; source = y; gate_held = tt };
-      }
+      let shows' = still u seat source me (state_after u p at c me TakeGate) (at_then u at c me TakeGate) (gate_is_taken (at Gate == 0) refl) in
+      search (shows', arith)
 
   pub open_gate : c.stage ≡ Some OpenGate → StopStep u p at seat source c me OpenGate
   open_gate e =
       let x : AtRest = subst (λ (st : Option StopStage). SitsAt u me c st (seat me)) e s.seat in
       let y : OwnsIf c.is_open (source me) = subst (λ (st : Option StopStage). SourceSits c.is_open st (source me)) e s.source in
       let g : at Gate ≡ me + 1 = subst (HoldsGate me (at Gate)) e s.gate_held in
-      record {
-        seat_after = seat me;
-        source_after = source me;
-        shows = still u seat source me (state_after u p at c me OpenGate) (at_then u at c me OpenGate) (gate_opened u p at seat source h me 0
-            (gate_mine me p.gate (sym h.gate ∙ g)) (not_drafting y));
-        sits = record { below = s.below; irq = s.irq; seat = x; source = y; gate_held = tt };
-      }
+      let shows' = still u seat source me (state_after u p at c me OpenGate) (at_then u at c me OpenGate) (gate_opened u p at seat source h me 0 (gate_mine me
+      p.gate (sym h.gate ∙ g)) (not_drafting y)) in
+      search (shows', arith)
 
   -- begin
   begins_seat : (work : Work) (f : Field) → c.stage ≡ Some (Begin work f) → AtRest
@@ -119,85 +82,22 @@ module _ (u : Setup) (p : StopState) (at : Word → ℕ) (seat : ℕ → Seat) (
       )
 
   pub begin_step : (work : Work) (f : Field) → c.stage ≡ Some (Begin work f) → StopStep u p at seat source c me (Begin work f)
-  begin_step work Kind e = let d = drafts_step work Kind Mask e (omega arith) refl in record {
-    seat_after = seat me;
-    source_after = Drafts work 1;
-    shows =
-        d.0;
-    sits = d.1;
-  }
-  begin_step work Mask e = let d = drafts_step work Mask Active e (omega arith) refl in record {
-    seat_after = seat me;
-    source_after = Drafts work 2;
-    shows =
-        d.0;
-    sits = d.1;
-  }
-  begin_step work Active e = let d = drafts_step work Active Func e (omega arith) refl in record {
-    seat_after = seat me;
-    source_after =
-        Drafts work 3;
-    shows = d.0;
-    sits = d.1;
-  }
-  begin_step work Func e = let d = drafts_step work Func Arg e (omega arith) refl in record {
-    seat_after = seat me;
-    source_after = Drafts work 4;
-    shows =
-        d.0;
-    sits = d.1;
-  }
-  begin_step work Arg e = let d = drafts_step work Arg Result e (omega arith) refl in record {
-    seat_after = seat me;
-    source_after = Drafts work 5;
-    shows =
-        d.0;
-    sits = d.1;
-  }
-  begin_step work Result e = let d = drafts_step work Result Todo e (omega arith) refl in record {
-    seat_after = seat me;
-    source_after =
-        Drafts work 6;
-    shows = d.0;
-    sits = d.1;
-  }
-  begin_step work Todo e = let d = drafts_step work Todo Done e (omega arith) refl in record {
-    seat_after = seat me;
-    source_after = Drafts work 7;
-    shows =
-        d.0;
-    sits = d.1;
-  }
-  begin_step work Done e = let d = drafts_step work Done Ack e (omega arith) refl in record {
-    seat_after = seat me;
-    source_after = Drafts work 8;
-    shows =
-        d.0;
-    sits = d.1;
-  }
-  begin_step work Ack e = let d = drafts_step work Ack State e (omega arith) refl in record {
-    seat_after = seat me;
-    source_after = Drafts work 9;
-    shows =
-        d.0;
-    sits = d.1;
-  }
-  begin_step work State e = let d = drafts_step work State Roll e (omega arith) refl in record {
-    seat_after = seat me;
-    source_after = Drafts work 10;
-    shows = d.0;
-    sits = d.1;
-  }
+  begin_step work Kind e = let d = drafts_step work Kind Mask e (omega arith) refl in search (d, arith)
+  begin_step work Mask e = let d = drafts_step work Mask Active e (omega arith) refl in search (d, arith)
+  begin_step work Active e = let d = drafts_step work Active Func e (omega arith) refl in search (d, arith)
+  begin_step work Func e = let d = drafts_step work Func Arg e (omega arith) refl in search (d, arith)
+  begin_step work Arg e = let d = drafts_step work Arg Result e (omega arith) refl in search (d, arith)
+  begin_step work Result e = let d = drafts_step work Result Todo e (omega arith) refl in search (d, arith)
+  begin_step work Todo e = let d = drafts_step work Todo Done e (omega arith) refl in search (d, arith)
+  begin_step work Done e = let d = drafts_step work Done Ack e (omega arith) refl in search (d, arith)
+  begin_step work Ack e = let d = drafts_step work Ack State e (omega arith) refl in search (d, arith)
+  begin_step work State e = let d = drafts_step work State Roll e (omega arith) refl in search (d, arith)
   begin_step work Roll e =
       let y = begins_source work Roll e in
-      record {
-        seat_after = seat me;
-        source_after = Owns work;
-        shows = moved_source u seat source me (state_after u p at c me (Begin work Roll)) (at_then u at c me (Begin work Roll)) (Owns work)
-            (roll_stored u p at seat source h
-            me work 0 y.1);
-        sits = record { below = s.below; irq = s.irq; seat = begins_seat work Roll e; source = (work, refl); gate_held = tt };
-      }
+      let shows = moved_source u seat source me (state_after u p at c me (Begin work Roll)) (at_then u at c me (Begin work Roll)) (Owns work)
+      (roll_stored u p at seat source h me work 0 y.1) in
+      let rest = begins_seat work Roll e in
+      search (shows, rest, arith)
 
   -- a step that only loads
   nothing : (stage next : Option StopStage) (c' : StopControlValue) → c'.interrupts ≡ c.interrupts → SitsAt u me c' c'.stage (seat me) →
@@ -219,52 +119,35 @@ module _ (u : Setup) (p : StopState) (at : Word → ℕ) (seat : ℕ → Seat) (
 
   pub enter_mask : (slot : ℕ) (kind : KindOf) → c.stage ≡ Some (EnterMask slot kind) → StopStep u p at seat source c me (EnterMask slot kind)
   enter_mask slot kind e =
-      let x : (work : Work) × (seat me ≡ In slot work 0 0 Rests) × (kind ≡ work.kind) = subst (λ (st : Option StopStage). SitsAt u me c st (seat me)) e
-      s.seat in
+      let x : (work : Work) × (seat me ≡ In slot work 0 0 Rests) × (kind ≡ work.kind) = search arith in
       let y : OwnsIf c.is_open (source me) = subst (λ (st : Option StopStage). SourceSits c.is_open st (source me)) e s.source in
       let w = work_words u p at seat source h slot me x.0 0 0 Rests x.1 in
-      record {
-        seat_after = seat me;
-        source_after = source me;
-        shows = still u seat source me (state_after u p at c me (EnterMask slot kind)) at h;
-        sits = record { below = s.below; irq = s.irq; seat = (x.0, x.1, x.2, w.mask); source = y; gate_held = tt };
-      }
+      let shows' = still u seat source me (state_after u p at c me (EnterMask slot kind)) at h in
+      search (shows', arith)
 
   pub enter_active : (slot : ℕ) (kind : KindOf) (mask : ℕ) → c.stage ≡ Some (EnterActive slot kind mask) → StopStep u p at seat source c me
       (EnterActive slot kind mask)
   enter_active slot kind mask e =
-      let x : (work : Work) × (seat me ≡ In slot work 0 0 Rests) × (kind ≡ work.kind) × (mask ≡ work.mask) = subst (λ (st : Option StopStage). SitsAt u me c
-      st (seat me)) e s.seat in
+      let x : (work : Work) × (seat me ≡ In slot work 0 0 Rests) × (kind ≡ work.kind) × (mask ≡ work.mask) = search arith in
       let y : OwnsIf c.is_open (source me) = subst (λ (st : Option StopStage). SourceSits c.is_open st (source me)) e s.source in
       let w = work_words u p at seat source h slot me x.0 0 0 Rests x.1 in
-      record {
-        seat_after = seat me;
-        source_after = source me;
-        shows = still u seat source me (state_after u p at c me (EnterActive slot kind mask)) at h;
-        sits = record { below = s.below; irq = s.irq; seat = (x.0, record { kind = x.2; mask = x.3; active = w.active }, x.1); source = y; gate_held = tt };
-      }
+      let shows' = still u seat source me (state_after u p at c me (EnterActive slot kind mask)) at h in
+      search (shows', arith)
 
   pub read_key : (k : ℕ) → c.stage ≡ Some (ReadKey k) → StopStep u p at seat source c me (ReadKey k)
   read_key k e =
       let x : (c.interrupts ≡ true) × (k < u.keys) × AtRest = subst (λ (st : Option StopStage). SitsAt u me c st (seat me)) e s.seat in
       let y : OwnsIf c.is_open (source me) = subst (λ (st : Option StopStage). SourceSits c.is_open st (source me)) e s.source in
-      record {
-        seat_after = seat me;
-        source_after = source me;
-        shows = still u seat source me (state_after u p at c me (ReadKey k)) at (key_read u p at seat source h me k 0 (h.present.irq me ∙ (sym s.irq ∙ x.0)));
-        sits = record { below = s.below; irq = s.irq; seat = x.2; source = y; gate_held = tt };
-      }
+      let shows' = still u seat source me (state_after u p at c me (ReadKey k)) at (key_read u p at seat source h me k 0 (h.present.irq me ∙ (sym s.irq ∙
+      x.0))) in
+      search (shows', arith)
 
   pub read_site : (i : ℕ) → c.stage ≡ Some (ReadSite i) → StopStep u p at seat source c me (ReadSite i)
   read_site i e =
       let x : (c.interrupts ≡ true) × (i < length u.entries) × AtRest = subst (λ (st : Option StopStage). SitsAt u me c st (seat me)) e s.seat in
       let y : OwnsIf c.is_open (source me) = subst (λ (st : Option StopStage). SourceSits c.is_open st (source me)) e s.source in
-      record {
-        seat_after = seat me;
-        source_after = source me;
-        shows = still u seat source me (state_after u p at c me (ReadSite i)) at (site_read u p at seat source h me i 0);
-        sits = record { below = s.below; irq = s.irq; seat = x.2; source = y; gate_held = tt };
-      }
+      let shows' = still u seat source me (state_after u p at c me (ReadSite i)) at (site_read u p at seat source h me i 0) in
+      search (shows', arith)
 
   -- the load of a nudge is a reading
   pub nudge_key : (k : ℕ) (up : Bool) → c.stage ≡ Some (NudgeKey k up) → StopStep u p at seat source c me (NudgeKey k up)
@@ -275,12 +158,8 @@ module _ (u : Setup) (p : StopState) (at : Word → ℕ) (seat : ℕ → Seat) (
       let few = h.setup.few_keys in
       let low = x.2 in
       let fits = (lawful_when_on u p.now at seat h.present me x.1 on).keys k (omega arith) in
-      record {
-        seat_after = seat me;
-        source_after = source me;
-        shows = still u seat source me (state_after u p at c me (NudgeKey k up)) at (key_read u p at seat source h me k 0 on);
-        sits = go x y fits (count_after (nudge_of up) (at (Key k))) refl;
-      }
+      let shows' = still u seat source me (state_after u p at c me (NudgeKey k up)) at (key_read u p at seat source h me k 0 on) in
+      search (shows', go x y fits (count_after (nudge_of up) (at (Key k))) refl, arith)
     where
       go : (c.interrupts ≡ true) × (u.online me ≡ true) × (k < u.keys) × AtRest → OwnsIf c.is_open (source me) → IsKeyWord (at (Key k)) → (o : Option ℕ) →
           count_after (nudge_of up) (at (Key k)) ≡ o →
@@ -291,39 +170,17 @@ module _ (u : Setup) (p : StopState) (at : Word → ℕ) (seat : ℕ → Seat) (
           either : (b : Bool) → xor (is_on (at (Key k))) (is_on new) ≡ b → Sits u me (at Gate) (cond b (stop_ends c note.Stop)
               (stop_goes c (ExchangeKey k (at (Key k)) new))).control (seat me) (source me)
           either true z = record { below = s.below; irq = s.irq; seat = x.3; source = y; gate_held = tt }
-          either false z = record {
-            below = s.below;
-            irq = s.irq;
-            seat = (
-              x.0,
-              x.1,
-              x.2,
-              record {
-                one = one_apart up (at (Key k)) new e;
-                same = sym (xor_same (is_on (at (Key k))) (is_on new) z);
-                word =
-                    subst IsKeyWord (ap (count_or (at (Key k))) e) (left_in_form (nudge_of up) (at (Key k)) fits);
-              },
-              x.3,
-            );
-            source = y;
-            gate_held = tt;
-          }
+          either false z = search (one_apart, xor_same, left_in_form, arith)
 
   -- its compare-exchange
   pub exchange_key : (k expected new : ℕ) → c.stage ≡ Some (ExchangeKey k expected new) → StopStep u p at seat source c me (ExchangeKey k expected new)
   exchange_key k expected new e =
-      let x : (c.interrupts ≡ true) × (u.online me ≡ true) × (k < u.keys) × IsNudge expected new × AtRest = subst (λ (st : Option StopStage). SitsAt u me c
-      st (seat me)) e s.seat in
+      let x : (c.interrupts ≡ true) × (u.online me ≡ true) × (k < u.keys) × IsNudge expected new × AtRest = search arith in
       let y : OwnsIf c.is_open (source me) = subst (λ (st : Option StopStage). SourceSits c.is_open st (source me)) e s.source in
       let on : p.now.irq me ≡ true = h.present.irq me ∙ (sym s.irq ∙ x.0) in
-      record {
-        seat_after = seat me;
-        source_after = source me;
-        shows = still u seat source me (state_after u p at c me (ExchangeKey k expected new)) (at_then u at c me (ExchangeKey k expected new))
-            (go x.1 on x.3 (at (Key k) == expected) refl);
-        sits = record { below = s.below; irq = s.irq; seat = x.4; source = y; gate_held = tt };
-      }
+      let shows' = still u seat source me (state_after u p at c me (ExchangeKey k expected new)) (at_then u at c me (ExchangeKey k expected new)) (go x.1 on
+      x.3 (at (Key k) == expected) refl) in
+      search (shows', arith)
     where
       go : u.online me ≡ true → p.now.irq me ≡ true → IsNudge expected new → (b : Bool) → (at (Key k) == expected) ≡ b →
           StopShows u (told u p me act.Cas (Key k) (Some (at (Key k))) (cond b (Some new) None) 0)
@@ -331,8 +188,7 @@ module _ (u : Setup) (p : StopState) (at : Word → ℕ) (seat : ℕ → Seat) (
       go online on nudge true z =
           let same = eqb-true (at (Key k)) expected z in
           key_exchanged u p at seat source h me k (at (Key k)) new s.below online on refl record {
-            one = subst (λ n. (new ≡ n + 1) ⊎ (n ≡ new + 1))
-                (sym same) nudge.one;
+            one = search arith;
             same = nudge.same ∙ ap is_on (sym same);
             word = nudge.word;
           } 0
@@ -342,23 +198,12 @@ module _ (u : Setup) (p : StopState) (at : Word → ℕ) (seat : ℕ → Seat) (
   pub load_done : c.stage ≡ Some LoadDone → StopStep u p at seat source c me LoadDone
   load_done e =
       let x : AtRest = subst (λ (st : Option StopStage). SitsAt u me c st (seat me)) e s.seat in
-      let y : (c.is_open ≡ true) × ((work : Work) × (source me ≡ Owns work)) = subst (λ (st : Option StopStage). SourceSits c.is_open st (source me)) e
-      s.source in
+      let y : (c.is_open ≡ true) × ((work : Work) × (source me ≡ Owns work)) = search arith in
       let g = go x y.0 y.1.0 y.1.1 (at (Slot me Done) == 0) refl in
       record { seat_after = seat me; source_after = g.0; shows = g.1; sits = g.2 }
     where
       open_done : (work : Work) → source me ≡ Owns work → (at (Slot me Done) == 0) ≡ false → at (Slot me Done) ≡ 1
-      open_done work own ne =
-          let o : OwnerShows u (p.now.stop me) work = subst (SourceShows u p.gate (p.now.stop me) (λ f. at (Slot me f)) me) own (h.sources me) in
-          done_one (p.now.stop me).ending ((h.present.slots me).shows o.is_open).done
-        where
-          apart : at (Slot me Done) ≡ 0 → ⊥
-          apart z = let bad : true ≡ false = sym (eq-eqb (at (Slot me Done)) 0 z) ∙ ne in cc
-
-          done_one : (end : Ending) → DoneShows u.cpus (p.now.stop me).standing end (at (Slot me Done)) → at (Slot me Done) ≡ 1
-          done_one Running d = absurd (apart d.0)
-          done_one (Last r) d = absurd (apart d.0)
-          done_one Ended d = d.0
+      open_done work own ne = search (h.sources, h.present.slots, eq-eqb, arith)
 
       go : AtRest → c.is_open ≡ true → (work : Work) → source me ≡ Owns work → (b : Bool) → (at (Slot me Done) == 0) ≡ b →
           (y : Source) × (StopShows u p at (put seat me (seat me)) (put source me y)) × Sits u me (at Gate) (cond b (stop_ends c note.Pending)
@@ -384,11 +229,6 @@ module _ (u : Setup) (p : StopState) (at : Word → ℕ) (seat : ℕ → Seat) (
   pub load_result : c.stage ≡ Some LoadResult → StopStep u p at seat source c me LoadResult
   load_result e =
       let x : AtRest = subst (λ (st : Option StopStage). SitsAt u me c st (seat me)) e s.seat in
-      let y : (c.is_open ≡ true) × ((work : Work) × (source me ≡ Collects work)) = subst (λ (st : Option StopStage). SourceSits c.is_open st (source me)) e
-      s.source in
-      record {
-        seat_after = seat me;
-        source_after = Shut;
-        shows = moved_source u seat source me (state_after u p at c me LoadResult) at Shut (result_loaded u p at seat source h me y.1.0 0 y.1.1);
-        sits = record { below = s.below; irq = s.irq; seat = x; source = refl; gate_held = tt };
-      }
+      let y : (c.is_open ≡ true) × ((work : Work) × (source me ≡ Collects work)) = search arith in
+      let shows' = moved_source u seat source me (state_after u p at c me LoadResult) at Shut (result_loaded u p at seat source h me y.1.0 0 y.1.1) in
+      search (shows', arith)

@@ -1,15 +1,8 @@
 -- What a CPU's stage says of its seat and of its source.
 use Rattle.std.specs.Prelude.{◌≡◌, ℕ, Option, Some}
 use Rattle.std.proofs.Common.{subst}
-use Rattle.smp_stop_steps.specs.Seats.{Seat}
-use Rattle.smp_stop_steps.specs.Sits.{OwnsIf, Sits, SitsAt, SitsInRound, SourceSits}
-use Rattle.smp_stop_steps.specs.Sources.{Source}
-use Rattle.smp_stop_steps.specs.Stages.{StopControlValue}
-use Rattle.smp_stop_steps.specs.State.{Setup}
-use Rattle.smp_stop_steps.specs.declared.stage.RoundStage.{RoundStage}
-use Rattle.smp_stop_steps.specs.declared.stage.StopStage.TheVariants.{Advance}
-use Rattle.smp_stop_steps.specs.declared.stage.StopStage.{StopStage}
-use Rattle.smp_stop_steps.specs.declared.stage.Visit.{Visit}
+use Rattle.smp_stop_steps.specs.{Seat, OwnsIf, SitsAt, SitsInRound, SourceSits, Source, StopControlValue, Setup, RoundStage, Advance, StopStage, Visit}
+use Rattle.smp_stop_steps.specs.Sits.{Sits}
 
 module _ {u : Setup} {me gate : ℕ} {c : StopControlValue} {x : Seat} {y : Source} (s : Sits u me gate c x y) where
   pub at_seat : (stage : StopStage) → c.stage ≡ Some stage → SitsAt u me c (Some stage) x

@@ -1,47 +1,24 @@
 -- No state word is ever more than 5, whether a stop is open in its slot or not.
-use Rattle.std.proofs.Common.{ℕ, ◌+◌, ◌≤◌, Bool, true, false, ◌==◌, cond, Some, subst, arith, None}
-use Rattle.smp_words.specs.Access.{at_after, put_if}
-use Rattle.smp_words.specs.Put.{put_word}
-use Rattle.smp_stop_steps.specs.Labels.{Change}
-use Rattle.smp_stop_steps.specs.Seats.{Seat, In, Sets, Stands}
-use Rattle.smp_stop_steps.specs.Shows.{StopShows}
-use Rattle.smp_stop_steps.specs.Sits.{SitsAt, SitsIn, SitsInRound}
-use Rattle.smp_stop_steps.specs.Slots.{Keeps, begun_value}
-use Rattle.smp_stop_steps.specs.Sources.{Source}
-use Rattle.smp_stop_steps.specs.Stages.{StopControlValue, change_at, completion_access, label_word, round_access, stop_access}
-use Rattle.smp_stop_steps.specs.State.{Setup, StopState}
-use Rattle.smp_stop_steps.specs.Stop.{Inside, first_phase}
-use Rattle.smp_words.specs.declared.field.Field.{Field}
-use Rattle.smp_words.specs.declared.field.Field.TheVariants as field
-use Rattle.smp_stop_steps.specs.declared.stage.CompletionStage.TheVariants as completion
-use Rattle.smp_stop_steps.specs.declared.stage.CompletionStage.{CompletionStage}
-use Rattle.smp_stop_steps.specs.declared.stage.RoundStage.TheVariants as round
-use Rattle.smp_stop_steps.specs.declared.stage.RoundStage.{RoundStage}
-use Rattle.smp_stop_steps.specs.declared.stage.StopStage.TheVariants.{Advance, Begin, Close, Complete, Enter, EnterActive, EnterKind, EnterMask}
-use Rattle.smp_stop_steps.specs.declared.stage.StopStage.TheVariants.{LoadDone, LoadResult, OpenGate, ReadKey, ReadSite, TakeGate, NudgeKey}
-use Rattle.smp_stop_steps.specs.declared.stage.StopStage.TheVariants.{ExchangeKey}
-use Rattle.smp_stop_steps.specs.declared.stage.StopStage.{StopStage}
-use Rattle.smp_stop_steps.specs.declared.stage.Visit.{Visit}
-use Rattle.smp_words.specs.declared.work.Kind.TheVariants.{One, Multi, Patch}
-use Rattle.smp_words.specs.declared.work.Kind.{Kind}
-use Rattle.smp_words.specs.declared.work.Work.{Work}
-use Rattle.smp_words.specs.declared.word.Word.TheVariants.{Gate, Slot, Key}
-use Rattle.smp_words.specs.declared.word.Word.{Word}
-use Rattle.smp_labels.specs.declared.patch.Place.TheVariants as place
-use Rattle.smp_labels.specs.declared.patch.Place.{Place}
+use Rattle.std.proofs.Common.{ℕ, ◌+◌, ◌≤◌, Bool, true, false, ◌==◌, cond, Some, arith, None}
+use Rattle.smp_words.specs.Access.{put_if}
+use Rattle.smp_stop_steps.specs.{at_after, put_word, Change, Seat, Sets, StopShows, SitsAt, SitsIn, SitsInRound, begun_value, Source, StopControlValue}
+use Rattle.smp_stop_steps.specs.{change_at, completion_access, label_word, round_access, stop_access, Setup, StopState, first_phase, Field, CompletionStage}
+use Rattle.smp_stop_steps.specs.{RoundStage, Advance, Begin, Close, Complete, Enter, EnterActive, EnterKind, EnterMask, LoadDone, LoadResult, OpenGate}
+use Rattle.smp_stop_steps.specs.{TakeGate, NudgeKey, ExchangeKey, StopStage, Visit, Kind, Work, Gate, Slot, Key, Word, Place}
+use Rattle.smp_stop_steps.specs.declared.stage.StopStage.TheVariants.{ReadKey, ReadSite}
+use Rattle.smp_stop_steps.specs.field
+use Rattle.smp_stop_steps.specs.completion
+use Rattle.smp_stop_steps.specs.round
 
 -- each state word is a phase, or 5
 abbrev pub ArePhases : (Word → ℕ) → Type 0
 ArePhases at = (s : ℕ) → at (Slot s field.State) ≤ 5
 
 either : (b : Bool) (n m : ℕ) → n ≤ 5 → m ≤ 5 → cond b n m ≤ 5
-either true n m l k = l
-either false n m l k = k
+either b n m l k = search arith
 
 first_small : (kind : Kind) → first_phase kind ≤ 5
-first_small One = omega arith
-first_small Multi = omega arith
-first_small Patch = omega arith
+first_small kind = search arith
 
 -- a store that is not to a state word
 
@@ -51,21 +28,10 @@ module _ (at : Word → ℕ) (h : ArePhases at) where
   gate_after false n = h
 
   label_after : (to : Place) (n : ℕ) → ArePhases (put_word at (label_word to) n)
-  label_after (place.Key k) n = λ s. h s
-  label_after (place.Site i) n = λ s. h s
+  label_after to n = search arith
 
   begun_after : (cpus me : ℕ) (work : Work) (f : Field) → ArePhases (put_word at (Slot me f) (begun_value cpus work f))
-  begun_after cpus me work field.Kind = λ s. h s
-  begun_after cpus me work field.Mask = λ s. h s
-  begun_after cpus me work field.Active = λ s. h s
-  begun_after cpus me work field.Func = λ s. h s
-  begun_after cpus me work field.Arg = λ s. h s
-  begun_after cpus me work field.State = λ s. either (s == me) (first_phase work.kind) (at (Slot s field.State)) (first_small work.kind) (h s)
-  begun_after cpus me work field.Ack = λ s. h s
-  begun_after cpus me work field.Roll = λ s. h s
-  begun_after cpus me work field.Todo = λ s. h s
-  begun_after cpus me work field.Result = λ s. h s
-  begun_after cpus me work field.Done = λ s. h s
+  begun_after cpus me work f = search (either, first_small, arith)
 
   completion_after : (v : Visit) (st : CompletionStage) → ArePhases (at_after at (completion_access v st))
   completion_after v (completion.LoadFunc answer) = h
@@ -79,12 +45,7 @@ module _ (u : Setup) (p : StopState) (at : Word → ℕ) (seat : ℕ → Seat) (
     (c : StopControlValue) (me : ℕ) where
   -- who sets the next phase has acknowledged this one, which is at most 4
   raised_small : (w : Visit) → SitsIn w w.acked Sets (seat me) → w.acked + 1 ≤ 5
-  raised_small w x =
-      let stands : Stands p.now me (In w.slot x.0 w.acked w.acked Sets) = subst (Stands p.now me) x.2 (v.present.stands me) in
-      let k : Keeps u.cpus (p.now.stop w.slot).phase me (Inside w.acked w.acked) = subst (Keeps u.cpus (p.now.stop w.slot).phase me) stands.1
-      ((v.present.slots w.slot).keeps me) in
-      let most : w.acked ≤ 4 = k.4 in
-      omega arith
+  raised_small w x = search (w.acked, v.present.stands, v.present.slots, arith)
 
   round_after : (w : Visit) (st : RoundStage) → SitsInRound u me c.changes w st (seat me) → ArePhases (at_after at (round_access u.cpus c.changes w st))
   round_after w (round.Look answer) x = h

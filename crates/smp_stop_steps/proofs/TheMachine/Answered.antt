@@ -1,21 +1,15 @@
 -- Answers of stop functions where a command begins, and after a step of a stop half.
 use Rattle.std.specs.Int.{w32, cast_signed}
-use Rattle.std.proofs.Common.{◌≡◌, ℕ, ℤ, ◌<◌, ◌==◌, Bool, true, false, cond, Option, Some, None, List, length, sym, subst, refl, rules, FitsSigned}
+use Rattle.std.proofs.Common.{◌≡◌, ℕ, ℤ, ◌<◌, Option, Some, None, List, length, refl, rules, FitsSigned, arith}
 use Rattle.std.proofs.lemmas.Int.{to_z-of_z}
 use Rattle.std.specs.Prelude.{slice_set}
 use Rattle.smp_words.proofs.Puts.{at_test}
 use Rattle.smp_words.specs.Commands.{FitsCommand}
-use Rattle.smp_words.specs.declared.command.Command.{Command}
-use Rattle.smp_words.specs.declared.command.Command.TheVariants as command
-use Rattle.smp_stop_steps.specs.AnswerWords.{AnswersAreTaken, BeginsWith, CompletionFits, HasI32Answers, IsI32Word, StageFits, VisitFits}
-use Rattle.smp_stop_steps.specs.Stages.{StopControlValue, completes_from}
-use Rattle.smp_stop_steps.specs.Starts.{answer_word, in_visit, stop_first}
-use Rattle.smp_stop_steps.specs.Value.{stop_control_of}
-use Rattle.smp_stop_steps.specs.declared.stage.CompletionStage.TheVariants as completion
-use Rattle.smp_stop_steps.specs.declared.stage.RoundStage.TheVariants as round
-use Rattle.smp_stop_steps.specs.declared.stage.StopStage.TheVariants.{Advance, Complete}
-use Rattle.smp_stop_steps.specs.declared.stage.Visit.{Visit}
+use Rattle.smp_stop_steps.specs.{Command, AnswersAreTaken, BeginsWith, HasI32Answers, IsI32Word, StageFits, VisitFits, StopControlValue, answer_word}
+use Rattle.smp_stop_steps.specs.{in_visit, stop_first, stop_control_of, Advance, Complete, Visit}
 use Rattle.smp_stop_steps.proofs.TheMachine.Values.{stop_controls_by_cpu}
+use Rattle.smp_stop_steps.specs.completion
+use Rattle.smp_stop_steps.specs.round
 
 -- the word of an i32
 word_fits : (answer : ℤ) → FitsSigned w32 answer → IsI32Word (answer_word answer)
@@ -36,39 +30,10 @@ answers_are_taken c v answer e f = begins_with answer f c.visit v e
 
 -- the first stage of a command with an answer has the word of an i32
 pub first_fits : (c : StopControlValue) (x : Command) → VisitFits c.visit → FitsCommand x → StageFits (stop_first c x)
-first_fits c command.Gate k f = tt
-first_fits c command.Ungate k f = tt
-first_fits c (command.Begin work) k f = tt
-first_fits c (command.Enter slot) k f = tt
-first_fits c (command.Advance answer) k f = go c.visit k
-  where
-    go : (x : Option Visit) → VisitFits x → StageFits (in_visit x (λ w. Advance w (round.Look (answer_word answer))))
-    go None k = tt
-    go (Some w) k = (k, word_fits answer f)
-first_fits c (command.RunOne answer) k f = go c.visit k
-  where
-    go : (x : Option Visit) → VisitFits x → StageFits (in_visit x (λ w. Complete w (completion.LoadFunc (answer_word answer))))
-    go None k = tt
-    go (Some w) k = (k, word_fits answer f)
-first_fits c command.Finish k f = go c.visit k
-  where
-    ends : (b : Bool) → CompletionFits (cond b completion.CountDown completion.StoreAnswer)
-    ends true = tt
-    ends false = tt
-
-    go : (x : Option Visit) → VisitFits x → StageFits (in_visit x (λ w. Complete w (completes_from w)))
-    go None k = tt
-    go (Some w) k = (k, ends (w.answer == 0))
-first_fits c command.Poll k f = tt
-first_fits c (command.Key i) k f = tt
-first_fits c (command.Site i) k f = tt
-first_fits c (command.Nudge i up) k f = tt
-first_fits c _ k f = tt
+first_fits c x k f = search (c.visit, word_fits, arith)
 
 -- where one CPU stands anew, with answers of i32s
 pub answers_set : (controls : List StopControlValue) (me : ℕ) (new : StopControlValue) → me < length controls →
     ((cpu : ℕ) → HasI32Answers (stop_control_of controls cpu)) → HasI32Answers new →
     (cpu : ℕ) → HasI32Answers (stop_control_of (slice_set controls me new) cpu)
-answers_set controls me new low all h cpu =
-    subst HasI32Answers (sym (stop_controls_by_cpu controls me cpu new low))
-    (at_test cpu me (λ d. HasI32Answers (cond d new (stop_control_of controls cpu))) (λ same. h) (λ ne. all cpu))
+answers_set controls me new low all h cpu = search (stop_controls_by_cpu, at_test, arith)

@@ -1,169 +1,57 @@
 -- A command that may begin begins where its CPU sits, and changes no stop.
-use Rattle.smp_stop_steps.proofs.State.Gates.{gate_mine}
-use Rattle.std.proofs.Common.{◌≡◌, ℕ, ◌<◌, false, cond, sym, subst, refl, ◌∙◌, inl, arith, Option, Some, None, List, length}
+use Rattle.std.proofs.Common.{◌≡◌, ℕ, ◌<◌, cond, sym, subst, inl, arith, Option, Some, None, List, length}
+use Rattle.std.specs.Prelude.{slice_set}
 use Rattle.smp_words.proofs.Puts.{at_test, put_all}
+use Rattle.smp_words.specs.declared.field.Field.TheVariants.{Kind}
+use Rattle.smp_stop_steps.specs.{put, MayBegin, Rests, Seat, StopShows, OwnsIf, SitsAtRest, SitsIn, SourceSits, Shut, Source, StopControlValue, stop_goes}
+use Rattle.smp_stop_steps.specs.{Setup, StopState, StopWords, stop_number, StopsShow, stop_control_of, Advance, Begin, Complete, Enter, LoadDone, OpenGate}
+use Rattle.smp_stop_steps.specs.{NudgeKey, TakeGate, StopStage, Visit, Gate, Word, CarriesIn, Calling}
+use Rattle.smp_stop_steps.proofs.State.Gates.{gate_mine}
 use Rattle.smp_stop_steps.proofs.Steps.Same.{put_same_fn}
 use Rattle.smp_stop_steps.proofs.TheMachine.Values.{stop_controls_by_cpu}
-use Rattle.smp_words.specs.Put.{put}
-use Rattle.smp_stop_steps.specs.Begins.{MayBegin}
-use Rattle.smp_stop_steps.specs.Seats.{Rests, Seat}
-use Rattle.smp_stop_steps.specs.Shows.{StopShows}
-use Rattle.smp_stop_steps.specs.Sits.{OwnsIf, Sits, SitsAt, SitsAtRest, SitsIn, SourceSits}
-use Rattle.smp_stop_steps.specs.Sources.{Drafts, Shut, Source, SourceShows}
-use Rattle.smp_stop_steps.specs.Stages.{StopControlValue, stop_goes}
-use Rattle.smp_stop_steps.specs.State.{Setup, StopState}
-use Rattle.smp_stop_steps.specs.Table.{StopWords, stop_number}
-use Rattle.smp_stop_steps.specs.Value.{StopsShow, stop_control_of}
-use Rattle.smp_words.specs.declared.field.Field.TheVariants.{Kind}
-use Rattle.smp_stop_steps.specs.declared.stage.CompletionStage.TheVariants as completion
-use Rattle.smp_stop_steps.specs.declared.stage.RoundStage.TheVariants as round
-use Rattle.smp_stop_steps.specs.declared.stage.StopStage.TheVariants.{Advance, Begin, Complete, Enter, LoadDone, OpenGate, NudgeKey, ReadKey, ReadSite}
-use Rattle.smp_stop_steps.specs.declared.stage.StopStage.TheVariants.{TakeGate}
-use Rattle.smp_stop_steps.specs.declared.stage.StopStage.{StopStage}
-use Rattle.smp_stop_steps.specs.declared.stage.Visit.{Visit}
-use Rattle.smp_words.specs.declared.word.Word.TheVariants.{Gate, Slot}
-use Rattle.smp_words.specs.declared.word.Word.{Word}
-use Rattle.std.specs.Prelude.{slice_set}
-use Rattle.smp_stop_steps.specs.Carries.{CarriesAt, CarriesIn, IsEnding, IsQuiet}
-use Rattle.smp_stop_steps.specs.State.{Calling, Idle, Calls, Carries}
+use Rattle.smp_stop_steps.specs.Sits.{Sits}
+use Rattle.smp_stop_steps.specs.declared.stage.StopStage.TheVariants.{ReadKey, ReadSite}
+use Rattle.smp_stop_steps.specs.completion
+use Rattle.smp_stop_steps.specs.round
 
 module _ (u : Setup) (p : StopState) (at : Word → ℕ) (seat : ℕ → Seat) (source : ℕ → Source) (h : StopShows u p at seat source) (c : StopControlValue) (me : ℕ)
     (s : Sits u me (at Gate) c (seat me) (source me)) (outside : c.stage ≡ None) where
   at_rest : SitsAtRest c.visit (seat me)
-  at_rest = subst (λ (st : Option StopStage). SitsAt u me c st (seat me)) outside s.seat
+  at_rest = search arith
 
   owns_if : OwnsIf c.is_open (source me)
   owns_if = subst (λ (st : Option StopStage). SourceSits c.is_open st (source me)) outside s.source
 
   in_visit : (v : Visit) → c.visit ≡ Some v → SitsIn v v.acked Rests (seat me)
-  in_visit v e = subst (λ x. SitsAtRest x (seat me)) e at_rest
+  in_visit v e = search arith
 
   -- the source after it, and what the words show then
-  pub begun_shown : (stage : StopStage) → MayBegin u me (at Gate) c stage → (y : Source) × (StopShows u p at seat (put source me y)) × Sits u me (at Gate)
-      (stop_goes c stage).control (seat me) y
-  begun_shown TakeGate m = (source me, kept, record { below = s.below; irq = s.irq; seat = at_rest; source = owns_if; gate_held = tt })
-    where
-      kept : StopShows u p at seat (put source me (source me))
-      kept = subst (λ x. StopShows u p at seat x) (sym (put_same_fn source me)) h
-  begun_shown OpenGate m = (
-    source me,
-    subst (λ x. StopShows u p at seat x) (sym (put_same_fn source me)) h,
-    record {
-      below = s.below;
-      irq = s.irq;
-      seat =
-          at_rest;
-      source = owns_if;
-      gate_held = m;
-    },
-  )
-  begun_shown (Begin work Kind) m =
-      let closed_ : source me ≡ Shut = subst (λ b. OwnsIf b (source me)) m.1 owns_if in
-      let shut : (p.now.stop me).is_open ≡ false = subst (SourceShows u p.gate (p.now.stop me) (λ f. at (Slot me f)) me) closed_ (h.sources me) in (
-        Drafts work 0,
-        record {
-          setup = h.setup;
-          present = h.present;
-          gate = h.gate;
-          callings = h.callings;
-          closing = h.closing;
-          past = h.past;
-          owns = h.owns;
-          counts = h.counts;
-          sources = put_all (λ j x. SourceShows u p.gate (p.now.stop j) (λ f. at (Slot j f)) j x) source me (Drafts work 0)
-              record {
-                shut = shut;
-                holds = gate_mine me p.gate (sym h.gate ∙ m.0);
-                is_work = m.2;
-                stored = λ f low. absurd (let z : ⊥ = omega (arith, low) in z);
-                told = record {
-                  kind = λ l. absurd (omega arith);
-                  mask = λ l. absurd (omega arith);
-                  active = λ l. absurd (omega arith);
-                  func =
-                      λ l. absurd (omega arith);
-                  arg = λ l. absurd (omega arith);
-                };
-              }
-              (λ j ne. h.sources j);
-        },
-        record { below = s.below; irq = s.irq; seat = at_rest; source = (m.1, refl); gate_held = tt },
-      )
-  begun_shown (Enter slot) m = (
-    source me,
-    subst (λ x. StopShows u p at seat x) (sym (put_same_fn source me)) h,
-    record { below = s.below; irq = s.irq; seat = (m.0, subst (λ x. SitsAtRest x (seat me)) m.0 at_rest, m.1); source = owns_if; gate_held = tt },
-  )
-  begun_shown (Advance v (round.Look answer)) m = (
-    source me,
-    subst (λ x. StopShows u p at seat x) (sym (put_same_fn source me)) h,
-    record { below = s.below; irq = s.irq; seat = (m.0, (m.1, m.2, in_visit v m.0)); source = owns_if; gate_held = tt },
-  )
-  begun_shown (Complete v (completion.LoadFunc answer)) m = (
-    source me,
-    subst (λ x. StopShows u p at seat x) (sym (put_same_fn source me)) h,
-    record { below = s.below; irq = s.irq; seat = (m.0, (m.1, in_visit v m.0)); source = owns_if; gate_held = tt },
-  )
-  begun_shown (Complete v completion.StoreAnswer) m = (
-    source me,
-    subst (λ x. StopShows u p at seat x) (sym (put_same_fn source me)) h,
-    record { below = s.below; irq = s.irq; seat = (m.0, (m.2, inl m.1, in_visit v m.0)); source = owns_if; gate_held = tt },
-  )
-  begun_shown (Complete v completion.CountDown) m =
-      let x = in_visit v m.0 in (
-        source me,
-        subst (λ x. StopShows u p at seat x) (sym (put_same_fn source me)) h,
-        record { below = s.below; irq = s.irq; seat = (m.0, (x.0, inl (m.2, x.1, inl m.1, x.2))); source = owns_if; gate_held = tt },
-      )
-  begun_shown LoadDone m = (
-    source me,
-    subst (λ x. StopShows u p at seat x) (sym (put_same_fn source me)) h,
-    record { below = s.below; irq = s.irq; seat = at_rest; source = (m, subst (λ b. OwnsIf b (source me)) m owns_if); gate_held = tt },
-  )
-  begun_shown (ReadKey k) m = (
-    source me,
-    subst (λ x. StopShows u p at seat x) (sym (put_same_fn source me)) h,
-    record { below = s.below; irq = s.irq; seat = (m.0, m.1, at_rest); source = owns_if; gate_held = tt },
-  )
-  begun_shown (ReadSite i) m = (
-    source me,
-    subst (λ x. StopShows u p at seat x) (sym (put_same_fn source me)) h,
-    record { below = s.below; irq = s.irq; seat = (m.0, m.1, at_rest); source = owns_if; gate_held = tt },
-  )
-  begun_shown (NudgeKey k up) m = (
-    source me,
-    subst (λ x. StopShows u p at seat x) (sym (put_same_fn source me)) h,
-    record { below = s.below; irq = s.irq; seat = (m.0, m.1, m.2, at_rest); source = owns_if; gate_held = tt },
-  )
+  abbrev BegunShown : StopStage → Type 0
+  BegunShown stage = (y : Source) × (StopShows u p at seat (put source me y)) × Sits u me (at Gate) (stop_goes c stage).control (seat me) y
+
+  -- a command of a source that stays as it was
+  begun_same : (stage : StopStage) → Sits u me (at Gate) (stop_goes c stage).control (seat me) (source me) → BegunShown stage
+  begun_same stage sits = (source me, subst (λ x. StopShows u p at seat x) (sym (put_same_fn source me)) h, sits)
+
+  pub begun_shown : (stage : StopStage) → MayBegin u me (at Gate) c stage → BegunShown stage
+  begun_shown TakeGate m = begun_same TakeGate (search (at_rest, owns_if, arith))
+  begun_shown OpenGate m = begun_same OpenGate (search (at_rest, owns_if, arith))
+  begun_shown (Begin work Kind) m = search (owns_if, h.sources, put_all, gate_mine, at_rest, arith)
+  begun_shown (Enter slot) m = begun_same (Enter slot) (search (at_rest, owns_if, arith))
+  begun_shown (Advance v (round.Look answer)) m = begun_same (Advance v (round.Look answer)) (search (in_visit, owns_if, arith))
+  begun_shown (Complete v (completion.LoadFunc answer)) m = begun_same (Complete v (completion.LoadFunc answer)) (search (in_visit, owns_if, arith))
+  begun_shown (Complete v completion.StoreAnswer) m = begun_same (Complete v completion.StoreAnswer) (search (in_visit, owns_if, inl, arith))
+  begun_shown (Complete v completion.CountDown) m = begun_same (Complete v completion.CountDown) (search (in_visit, owns_if, inl, arith))
+  begun_shown LoadDone m = begun_same LoadDone (search (at_rest, owns_if, arith))
+  begun_shown (ReadKey k) m = begun_same (ReadKey k) (search (at_rest, owns_if, arith))
+  begun_shown (ReadSite i) m = begun_same (ReadSite i) (search (at_rest, owns_if, arith))
+  begun_shown (NudgeKey k up) m = begun_same (NudgeKey k up) (search (at_rest, owns_if, arith))
   begun_shown _ m = absurd m
 
 -- the CPU's function is where its first stage says
 begun_carries : (u : Setup) (c : StopControlValue) (me gate : ℕ) → c.stage ≡ None → (f : Calling) → CarriesIn c f → (stage : StopStage) →
     MayBegin u me gate c stage → CarriesIn (stop_goes c stage).control f
-begun_carries u c me gate outside f k stage m = go stage m
-  where
-    quiet : IsQuiet c.visit f
-    quiet = subst (λ (st : Option StopStage). CarriesAt c.visit st f) outside k
-
-    ends : (v : Visit) (g : Calling) → v.acked ≡ 4 → IsQuiet (Some v) g → IsEnding v g
-    ends v Idle four q = (four, q)
-    ends v (Calls call) four q = absurd q
-    ends v (Carries x) four q = q
-
-    go : (stage : StopStage) → MayBegin u me gate c stage → CarriesIn (stop_goes c stage).control f
-    go TakeGate m = quiet
-    go OpenGate m = quiet
-    go (Begin work Kind) m = quiet
-    go (Enter slot) m = quiet
-    go (Advance v (round.Look answer)) m = quiet
-    go (Complete v (completion.LoadFunc answer)) m = quiet
-    go (Complete v completion.StoreAnswer) m = ends v f m.1 (subst (λ x. IsQuiet x f) m.0 quiet)
-    go (Complete v completion.CountDown) m = ends v f m.1 (subst (λ x. IsQuiet x f) m.0 quiet)
-    go LoadDone m = quiet
-    go (ReadKey k) m = quiet
-    go (ReadSite i) m = quiet
-    go (NudgeKey k up) m = quiet
-    go _ m = absurd m
+begun_carries u c me gate outside f k stage m = search (k, arith)
 
 -- over a stop half
 pub begun_value_shown : (u : Setup) (p : StopState) (t : StopWords) (controls : List StopControlValue) → StopsShow u p t controls → (me : ℕ) → me < u.cpus →

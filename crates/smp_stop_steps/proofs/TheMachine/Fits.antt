@@ -1,45 +1,30 @@
 -- Tests of what a command asks for: what they mean of numbers and masks, and of a work.
-use Rattle.std.proofs.Common.{◌≡◌, ◌≢◌, ℕ, zero, suc, ◌<◌, ◌≤◌, ◌^◌, Bool, true, false, ◌==◌, ◌&&◌, not, nat_lt, lt-ltb, lit<, cond, sym, refl}
-use Rattle.std.proofs.Common.{ap, ◌∙◌, ◌⊎◌, inl, inr, arith, Option, Some, None, bit_and, eqb-true, eq-eqb, ne_eqb}
+use Rattle.std.proofs.Common.{◌≡◌, ◌≢◌, ℕ, zero, suc, ◌<◌, ◌≤◌, ◌^◌, Bool, true, false, ◌==◌, ◌&&◌, not, nat_lt, lt-ltb, lit<, cond, sym, refl, ap, ◌∙◌, ◌⊎◌}
+use Rattle.std.proofs.Common.{inl, inr, arith, Option, Some, None, bit_and, eqb-true, eq-eqb, ne_eqb}
 use Rattle.std.proofs.Math.Pow.{pow-lt}
 use Rattle.std.proofs.lemmas.Bool.{ltb-true, cases_eq}
 use Rattle.std.proofs.lemmas.Bool.Decides.{nat_tests}
 use Rattle.std.proofs.lemmas.Nat.Bits.{bit_at-lt, bit_at_and, bit_at-pow_same, bit_at-pow_other}
-use Rattle.smp_mask.specs.Mask.{has}
 use Rattle.smp_mask.proofs.Sets.{has_above, has_and, same_members}
-use Rattle.smp_mask.specs.declared.error.SmpError.{SmpError}
-use Rattle.smp_words.specs.Size.{cpus}
-use Rattle.smp_words.specs.declared.work.Kind.{Kind}
-use Rattle.smp_words.specs.declared.work.Kind.TheVariants.{One, Multi, Patch}
-use Rattle.smp_words.specs.declared.work.Work.{Work}
-use Rattle.smp_stop_steps.specs.Counts.{mask_weight}
-use Rattle.smp_stop_steps.specs.Sources.{IsOfKind, IsPatchWork}
-use Rattle.smp_stop_steps.specs.Starts.{fits_kind, fits_patch, fits_work, terms_of, unless}
-use Rattle.smp_stop_steps.specs.State.{Setup}
-use Rattle.smp_stop_steps.specs.Tells.{is_one}
-use Rattle.smp_stop_steps.specs.Value.{StopsValue, first_below, setup_of}
+use Rattle.smp_stop_steps.specs.{has, SmpError, cpus, Kind, One, Work, mask_weight, IsOfKind, IsPatchWork, fits_kind, fits_patch, fits_work, terms_of, unless}
+use Rattle.smp_stop_steps.specs.{Setup, is_one, StopsValue, first_below, setup_of}
 use Rattle.smp_stop_steps.specs.declared.start.Terms.{Terms}
 
 -- no error: the test has passed
 pub passed : (b : Bool) (e : SmpError) → unless b e ≡ None → b ≡ true
-passed true e n = refl
-passed false e n = cc
+passed b e n = search arith
 
 pub both : (x y : Bool) → (x && y) ≡ true → (x ≡ true) × (y ≡ true)
-both true y e = (refl, e)
-both false y e = cc
+both x y e = search arith
 
 pub of_both : (x y : Bool) → x ≡ true → y ≡ true → (x && y) ≡ true
-of_both true y e f = f
-of_both false y e f = cc
+of_both x y e f = search arith
 
 pub not_true : (x : Bool) → not x ≡ true → x ≡ false
-not_true false e = refl
-not_true true e = cc
+not_true x e = search arith
 
 pub if_passed : (b : Bool) (x : Option SmpError) (e : SmpError) → cond b x (Some e) ≡ None → (b ≡ true) × (x ≡ None)
-if_passed true x e n = (refl, n)
-if_passed false x e n = cc
+if_passed b x e n = search arith
 
 pub ne_false : (m n : ℕ) → (m == n) ≡ false → m ≢ n
 ne_false m n e = grind (arith, nat_tests)
@@ -53,12 +38,10 @@ within mask online e c is = grind (arith, nat_tests, bit_at-lt online c, bit_at-
 
 -- and the other way round
 absorbed : (x y : Bool) → (x ≡ true → y ≡ true) → (x && y) ≡ x
-absorbed true y f = f refl
-absorbed false y f = refl
+absorbed x y f = search arith
 
 pub all_within : (mask online : ℕ) → ((c : ℕ) → has mask c ≡ true → has online c ≡ true) → bit_and mask online ≡ mask
-all_within mask online all =
-    same_members (bit_and mask online) mask (λ c. has_and mask online c ∙ absorbed (has mask c) (has online c) (all c))
+all_within mask online all = search (same_members, bit_and, has_and, absorbed, arith)
 
 -- the members of a mask are below it
 small : (n : ℕ) → n < 2 ^ n
@@ -76,24 +59,15 @@ search_below mask online (suc k) = go (search_below mask online k) (has mask k) 
         ((c : ℕ) × (has mask c ≡ true) × (has online c ≡ false))
     go (inr found) x y m o = inr found
     go (inl all) true false m o = inr (k, m, o)
-    go (inl all) true true m o = inl (λ c l is. elim (cases_eq c k) [
-      | inl same ↦ ap (has online) same ∙ o
-      | inr other ↦ all c (omega arith) is
-    ])
-    go (inl all) false y m o = inl (λ c l is. elim (cases_eq c k) [
-      | inl same ↦ let bad : true ≡ false = sym is ∙ (ap (has mask) same ∙ m) in cc
-      | inr other ↦ all c (omega arith) is
-    ])
+    go (inl all) true true m o = search arith
+    go (inl all) false y m o = search arith
 
 -- some member of a mask is none of the others, where not all are
 pub some_outside : (mask online : ℕ) → bit_and mask online ≢ mask → (c : ℕ) × (has mask c ≡ true) × (has online c ≡ false)
 some_outside mask online ne = go (search_below mask online mask)
   where
     below_it : (c : ℕ) → has mask c ≡ true → (b : Bool) → nat_lt c mask ≡ b → c < mask
-    below_it c is true e = ltb-true c mask e
-    below_it c is false e =
-        let high : mask ≤ c = grind (arith, nat_tests) in
-        let bad : true ≡ false = sym is ∙ has_above mask mask c (small mask) high in cc
+    below_it c is b e = search (ltb-true, nat_tests, has_above, small, arith)
 
     go : (((c : ℕ) → c < mask → has mask c ≡ true → has online c ≡ true) ⊎ ((c : ℕ) × (has mask c ≡ true) × (has online c ≡ false))) →
         (c : ℕ) × (has mask c ≡ true) × (has online c ≡ false)
@@ -102,20 +76,13 @@ some_outside mask online ne = go (search_below mask online mask)
 
 -- a mask of one CPU
 pub one_bit : (n c : ℕ) → has (2 ^ n) c ≡ (c == n)
-one_bit n c = elim (cases_eq c n) [
-  | inl same ↦ rw same (ap (λ b. b == 1) (bit_at-pow_same n) ∙ sym (eq-eqb n n refl))
-  | inr other ↦ ap (λ b. b == 1) (bit_at-pow_other n c other) ∙ sym (ne_eqb c n other)
-]
+one_bit n c = search (bit_at-pow_same, eq-eqb, bit_at-pow_other, ne_eqb, arith)
 
 pub not_one : (k : Kind) → is_one k ≡ false → k ≢ One
-not_one One e = cc
-not_one Multi e = λ z. cc
-not_one Patch e = λ z. cc
+not_one k e = search arith
 
 pub is_one_kind : (k : Kind) → is_one k ≡ true → k ≡ One
-is_one_kind One e = refl
-is_one_kind Multi e = cc
-is_one_kind Patch e = cc
+is_one_kind k e = search arith
 
 module _ (v : StopsValue) (cpu : ℕ) where
   abbrev u : Setup
@@ -126,24 +93,10 @@ module _ (v : StopsValue) (cpu : ℕ) where
 
   -- a work that fits is one that begin takes
   is_patch : (work : Work) → fits_patch t work ≡ true → IsPatchWork u work
-  is_patch work e =
-      let x = both ((work.mask == v.online && work.active == 2 ^ first_below v.online cpus) && nat_lt work.func v.labels.keys) (nat_lt work.arg 4) e in
-      let y = both (work.mask == v.online && work.active == 2 ^ first_below v.online cpus) (nat_lt work.func v.labels.keys) x.0 in
-      let z = both (work.mask == v.online) (work.active == 2 ^ first_below v.online cpus) y.0 in
-      let mask = is_same work.mask v.online z.0 in
-      let active = is_same work.active (2 ^ first_below v.online cpus) z.1 in
-      let small = ltb-true work.arg 4 x.1 in
-      record {
-        all = λ k. ap (λ m. has m k) mask;
-        first = λ k. ap (λ m. has m k) active ∙ one_bit (first_below v.online cpus) k;
-        key = ltb-true work.func v.labels.keys y.1;
-        change = omega arith;
-      }
+  is_patch work e = search (both, v.online, nat_lt, work.func, work.arg, is_same, work.mask, work.active, ltb-true, one_bit, v.labels.keys, arith)
 
   pub is_kind : (work : Work) (k : Kind) → fits_kind t work k ≡ true → IsOfKind u work k
-  is_kind work One e = is_same (mask_weight cpus work.mask) 1 e
-  is_kind work Multi e = tt
-  is_kind work Patch e = is_patch work e
+  is_kind work k e = search (is_same, is_patch, arith)
 
   -- and the other way round
   patch_fits : (work : Work) → IsPatchWork u work → fits_patch t work ≡ true
@@ -152,17 +105,10 @@ module _ (v : StopsValue) (cpu : ℕ) where
       let mask : work.mask ≡ v.online = same_members work.mask v.online is.all in
       let active : work.active ≡ 2 ^ first = same_members work.active (2 ^ first) (λ c. is.first c ∙ sym (one_bit first c)) in
       let change = is.change in
-      of_both ((work.mask == v.online && work.active == 2 ^ first) && nat_lt work.func v.labels.keys) (nat_lt work.arg 4)
-      (of_both (work.mask == v.online && work.active == 2 ^ first) (nat_lt work.func v.labels.keys)
-      (of_both (work.mask == v.online) (work.active == 2 ^ first) (eq-eqb work.mask v.online mask) (eq-eqb work.active (2 ^ first) active))
-      (lt-ltb work.func v.labels.keys is.key)) (lt-ltb work.arg 4 (omega arith))
+      search (of_both, nat_lt, eq-eqb, lt-ltb, arith)
 
   kind_fits : (work : Work) (k : Kind) → IsOfKind u work k → fits_kind t work k ≡ true
-  kind_fits work One is = eq-eqb (mask_weight cpus work.mask) 1 is
-  kind_fits work Multi is = refl
-  kind_fits work Patch is = patch_fits work is
+  kind_fits work k is = search (eq-eqb, patch_fits, arith)
 
   pub work_fits : (work : Work) → mask_weight cpus work.mask ≢ 0 → IsOfKind u work work.kind → fits_work t work ≡ true
-  work_fits work some is =
-      of_both (not (mask_weight cpus work.mask == 0)) (fits_kind t work work.kind) (ap not (ne_eqb (mask_weight cpus work.mask) 0 some))
-      (kind_fits work work.kind is)
+  work_fits work some is = search (of_both, ne_eqb, kind_fits, work.kind, arith)

@@ -1,19 +1,13 @@
 -- What the code of a step makes of the stop half of a machine.
-use Rattle.std.proofs.Common.{◌≡◌, ℕ, Some, List, length, sym, subst, refl, ap, ◌∙◌}
+use Rattle.std.proofs.Common.{◌≡◌, ℕ, Some, List, sym, subst, refl, arith}
 use Rattle.std.proofs.lemmas.List.{length-set}
-use Rattle.smp_stop_steps.specs.State.{StopState}
-use Rattle.smp_stop_steps.specs.Tells.{tells}
-use Rattle.smp_stop_steps.specs.Stages.{StopControlValue, stop_outcome, answer_at}
-use Rattle.smp_stop_steps.specs.Table.{StopWords, stop_number}
-use Rattle.smp_stop_steps.specs.Value.{StopsValue, StopsShow, IsStopTable, setup_of, stop_control_of}
-use Rattle.smp_stop_steps.specs.Machine.{AreSoundStops, stop_found_at, stop_seen_at, stop_stepped}
+use Rattle.smp_stop_steps.specs.{StopState, tells, StopControlValue, stop_outcome, answer_at, StopWords, stop_number, StopsValue, StopsShow, IsStopTable}
+use Rattle.smp_stop_steps.specs.{setup_of, stop_control_of, AreSoundStops, stop_found_at, stop_seen_at, stop_stepped, AreI32Words, HasI32Answers, Seen}
+use Rattle.smp_stop_steps.specs.{StopStage}
 use Rattle.smp_stop_steps.proofs.Steps.StateWords.{ArePhases}
-use Rattle.smp_stop_steps.specs.AnswerWords.{AreI32Words, HasI32Answers}
 use Rattle.smp_stop_steps.proofs.Steps.AnswerWords.{keeps_answers}
 use Rattle.smp_stop_steps.proofs.TheMachine.Answered.{answers_set}
 use Rattle.smp_stop_steps.proofs.TheMachine.Values.{stop_inside_below, stop_value_shown, stop_table_shown, stop_phases_kept, stop_results_kept}
-use Rattle.smp_words.specs.declared.seen.Seen.{Seen}
-use Rattle.smp_stop_steps.specs.declared.stage.StopStage.{StopStage}
 
 pub record StopMade (v : StopsValue) (cpu : ℕ) (stage : StopStage) (seen : Seen) (table' : StopWords) (controls' : List StopControlValue) : Type 0 where
   pub at_stage : (stop_control_of v.controls cpu).stage ≡ Some stage
@@ -25,30 +19,19 @@ module _ (v : StopsValue) (sound : AreSoundStops v.online v.labels v.table v.con
     (controls' : List StopControlValue) (m : StopMade v cpu stage seen table' controls') where
   pub made_told : (p : StopState) → StopsShow (setup_of v.online v.labels) p v.table v.controls → StopsShow (setup_of v.online v.labels)
       (tells (setup_of v.online v.labels) p (stop_seen_at v cpu stage) (answer_at stage)) table' controls'
-  made_told p shown =
-      let now : StopsShow (setup_of v.online v.labels) (tells (setup_of v.online v.labels) p (stop_seen_at v cpu stage) (answer_at stage))
-      (stop_stepped v cpu stage).table (stop_stepped v cpu stage).controls =
-      stop_value_shown (setup_of v.online v.labels) refl p v.table v.controls shown sound.sized sound.table_is cpu stage m.at_stage in
-      subst (λ (t : StopWords). StopsShow (setup_of v.online v.labels) (tells (setup_of v.online v.labels) p (stop_seen_at v cpu stage) (answer_at stage)) t
-      controls') (sym m.is_table)
-      (subst (λ (c : List StopControlValue). StopsShow (setup_of v.online v.labels) (tells (setup_of v.online v.labels) p (stop_seen_at v cpu stage)
-      (answer_at stage)) (stop_stepped v cpu stage).table c) (sym m.is_controls) now)
+  made_told p shown = search (v.online, stop_value_shown, v.table, sound.sized, sound.table_is, arith)
 
   pub made_sound : AreSoundStops v.online v.labels table' controls'
-  made_sound = record {
-    sized = ap length m.is_controls ∙ (length-set v.controls cpu (stop_outcome cpu (stop_control_of v.controls cpu) stage
-        (stop_found_at v cpu stage)).control ∙ sound.sized);
-    table_is = subst IsStopTable (sym m.is_table) (stop_table_shown (setup_of v.online v.labels) refl sound.stops v.table v.controls sound.shown sound.sized
-        sound.table_is cpu stage m.at_stage);
-    phases = subst (λ (t : StopWords). ArePhases (stop_number t)) (sym m.is_table) (stop_phases_kept (setup_of v.online v.labels) refl sound.stops v.table
-        v.controls sound.shown sound.sized sound.table_is cpu stage m.at_stage sound.phases);
-    results = subst (λ (t : StopWords). AreI32Words (stop_number t)) (sym m.is_table) (stop_results_kept (setup_of v.online v.labels) refl sound.stops v.table
-        v.controls sound.shown sound.sized sound.table_is cpu stage m.at_stage sound.results (sound.answers cpu));
-    answers = subst (λ (x : List StopControlValue). (k : ℕ) → HasI32Answers (stop_control_of x k)) (sym m.is_controls)
-        (answers_set v.controls cpu (stop_outcome cpu (stop_control_of v.controls cpu) stage (stop_found_at v cpu stage)).control
-        (stop_inside_below v.controls cpu stage m.at_stage) sound.answers
-        (keeps_answers (setup_of v.online v.labels) (stop_number v.table) sound.results (stop_control_of v.controls cpu) cpu (sound.answers cpu) stage
-        m.at_stage).goes.control);
-    stops = tells (setup_of v.online v.labels) sound.stops (stop_seen_at v cpu stage) (answer_at stage);
-    shown = made_told sound.stops sound.shown;
-  }
+  made_sound =
+      let table_is' = subst IsStopTable (sym m.is_table) (stop_table_shown (setup_of v.online v.labels) refl sound.stops v.table v.controls sound.shown
+      sound.sized sound.table_is cpu stage m.at_stage) in
+      let phases' = subst (λ (t : StopWords). ArePhases (stop_number t)) (sym m.is_table) (stop_phases_kept (setup_of v.online v.labels) refl sound.stops
+      v.table v.controls sound.shown sound.sized sound.table_is cpu stage m.at_stage sound.phases) in
+      let results' = subst (λ (t : StopWords). AreI32Words (stop_number t)) (sym m.is_table) (stop_results_kept (setup_of v.online v.labels) refl sound.stops
+      v.table v.controls sound.shown sound.sized sound.table_is cpu stage m.at_stage sound.results (sound.answers cpu)) in
+      let answers' = subst (λ (x : List StopControlValue). (k : ℕ) → HasI32Answers (stop_control_of x k)) (sym m.is_controls) (answers_set v.controls cpu
+      (stop_outcome cpu (stop_control_of v.controls cpu) stage (stop_found_at v cpu stage)).control (stop_inside_below v.controls cpu stage m.at_stage)
+      sound.answers (keeps_answers (setup_of v.online v.labels) (stop_number v.table) sound.results (stop_control_of v.controls cpu) cpu (sound.answers
+      cpu) stage m.at_stage).goes.control) in
+      let stops' = tells (setup_of v.online v.labels) sound.stops (stop_seen_at v cpu stage) (answer_at stage) in
+      search (table_is', phases', results', answers', stops', length-set, made_told sound.stops sound.shown, arith)

@@ -1,47 +1,20 @@
 -- The word of each access of the stop half is in its table, and no step takes the gate from its holder.
-use Rattle.smp_stop_steps.specs.Tells.{plan_at}
-use Rattle.std.proofs.Common.{◌≡◌, ◌≢◌, ℕ, zero, suc, ◌+◌, ◌<◌, ◌≤◌, Bool, true, false, ◌==◌, cond, sym, subst, refl, ap, ◌∙◌, inl, inr, arith}
-use Rattle.std.proofs.Common.{⊎_elim, ne_eqb, Option, Some, None, List, [], ◌∷◌, ◌++◌, length}
+use Rattle.std.proofs.Common.{◌≡◌, ◌≢◌, ℕ, ◌+◌, ◌<◌, ◌≤◌, Bool, true, false, cond, sym, subst, ap, ◌∙◌, inl, inr, arith, ne_eqb, Some, List, [], ◌∷◌, ◌++◌}
+use Rattle.std.proofs.Common.{length}
 use Rattle.std.proofs.lemmas.Bool.{cases_lt}
 use Rattle.std.proofs.lemmas.List.{append-nil}
+use Rattle.std.specs.List.{AllByRecursion}
+use Rattle.smp_stop_steps.specs.{plan_at, word_of, cpus, Change, Alters, Fills, Gives, In, Rests, Seat, Sets, Stands, Turn, StopShows, SitsInCompletion}
+use Rattle.smp_stop_steps.specs.{SitsInRound, Collects, Drafts, IsWork, Owns, Shut, Source, SourceShows, StopControlValue, change_at, completion_access}
+use Rattle.smp_stop_steps.specs.{label_word, round_access, stop_access, store_of, Setup, StopState, at_then, CompletionStage, RoundStage, StopStage, Visit}
+use Rattle.smp_stop_steps.specs.{Patch, Work, Gate, Slot, Word, is_on, patch_of, site_changes, MOST_KEYS, MOST_SITES}
 use Rattle.smp_stop_steps.proofs.State.Phases.{is_open_inside}
 use Rattle.smp_stop_steps.proofs.Steps.RoundSteps.{change_here}
 use Rattle.smp_stop_steps.proofs.TheMachine.Tables.{IsStopWord}
-use Rattle.smp_words.specs.Access.{at_after, word_of, put_if}
-use Rattle.smp_words.specs.Put.{put_word}
-use Rattle.smp_words.specs.Size.{cpus}
-use Rattle.smp_stop_steps.specs.Labels.{Change, count_set, patch_answer}
-use Rattle.smp_stop_steps.specs.Seats.{Alters, Closes, Fills, Gives, In, Rests, Seat, Sets, Stands, Turn}
-use Rattle.smp_stop_steps.specs.Shows.{StopShows}
-use Rattle.smp_stop_steps.specs.Sits.{RunsIf, HoldsGate, IsLoaded, IsThroughAll, Sits, SitsInCompletion, SitsInRound}
-use Rattle.smp_stop_steps.specs.Sources.{Collects, Drafts, IsWork, Owns, Shut, Source, SourceShows}
-use Rattle.smp_stop_steps.specs.Stages.{StopControlValue, change_at, completion_access, label_word, round_access, stop_access, store_of}
-use Rattle.smp_stop_steps.specs.State.{Setup, StopState}
-use Rattle.smp_stop_steps.specs.Steps.{at_then}
-use Rattle.smp_stop_steps.specs.Stop.{Answering, Inside}
-use Rattle.smp_stop_steps.specs.declared.stage.CompletionStage.TheVariants as completion
-use Rattle.smp_stop_steps.specs.declared.stage.CompletionStage.{CompletionStage}
-use Rattle.smp_stop_steps.specs.declared.stage.RoundStage.TheVariants as round
-use Rattle.smp_stop_steps.specs.declared.stage.RoundStage.{RoundStage}
-use Rattle.smp_stop_steps.specs.declared.stage.StopStage.TheVariants.{Advance, Begin, Close, Complete, Enter, EnterActive, EnterKind, EnterMask}
-use Rattle.smp_stop_steps.specs.declared.stage.StopStage.TheVariants.{LoadDone, LoadResult, OpenGate, ReadKey, ReadSite, TakeGate, NudgeKey}
-use Rattle.smp_stop_steps.specs.declared.stage.StopStage.TheVariants.{ExchangeKey}
-use Rattle.smp_stop_steps.specs.declared.stage.StopStage.{StopStage}
-use Rattle.smp_stop_steps.specs.declared.stage.Visit.{Visit}
-use Rattle.smp_words.specs.declared.work.Kind.TheVariants.{Patch}
-use Rattle.smp_words.specs.declared.work.Work.{Work}
-use Rattle.smp_words.specs.declared.word.Word.TheVariants.{Gate, Slot, Key}
-use Rattle.smp_words.specs.declared.word.Word.{Word}
-use Rattle.smp_labels.specs.Entries.{entry_at}
-use Rattle.smp_labels.specs.Keys.{is_on}
-use Rattle.smp_labels.specs.Kinds.{kind_of, xor}
-use Rattle.smp_labels.specs.Kinds.{kind_word as kind_word_site}
-use Rattle.smp_labels.specs.Plans.{patch_of, site_change, site_changes}
-use Rattle.smp_labels.specs.declared.entries.Entry.{Entry as SiteEntry}
-use Rattle.smp_labels.specs.declared.patch.Place.TheVariants as place
-use Rattle.smp_labels.specs.declared.words.TheConstants.{MOST_KEYS, MOST_SITES}
-use Rattle.std.specs.List.{AllByRecursion}
+use Rattle.smp_stop_steps.specs.Sits.{Sits}
 use Rattle.smp_stop_steps.proofs.Steps.Stages.{at_seat}
+use Rattle.smp_stop_steps.specs.round
+use Rattle.smp_stop_steps.specs.place
 
 -- the changes of a patch are of words in the table
 abbrev pub IsNamedChange : Change → Type 0
@@ -69,19 +42,13 @@ module _ (u : Setup) (p : StopState) (at : Word → ℕ) (seat : ℕ → Seat) (
 
   module _ (me : ℕ) where
     open_in : (s : ℕ) (work : Work) (a l : ℕ) (t : Turn) → seat me ≡ In s work a l t → (p.now.stop s).is_open ≡ true
-    open_in s work a l t is =
-        let st : Stands p.now me (In s work a l t) = subst (Stands p.now me) is (h.present.stands me) in
-        is_open_inside u.cpus (p.now.stop s) (λ f. at (Slot s f)) (h.present.slots s) me (Inside a l) st.1 refl
+    open_in s work a l t is = search (h.present.stands, is_open_inside, h.present.slots, arith)
 
     open_gives : (s : ℕ) (work : Work) (a v : ℕ) → seat me ≡ Gives s work a v → (p.now.stop s).is_open ≡ true
-    open_gives s work a v is =
-        let st : Stands p.now me (Gives s work a v) = subst (Stands p.now me) is (h.present.stands me) in
-        is_open_inside u.cpus (p.now.stop s) (λ f. at (Slot s f)) (h.present.slots s) me (Answering a v) st.1 refl
+    open_gives s work a v is = search (h.present.stands, is_open_inside, h.present.slots, arith)
 
     open_alters : (s : ℕ) (work : Work) (count : ℕ) (made rest : List Change) → seat me ≡ Alters s work count made rest → (p.now.stop s).is_open ≡ true
-    open_alters s work count made rest is =
-        let st : Stands p.now me (Alters s work count made rest) = subst (Stands p.now me) is (h.present.stands me) in
-        is_open_inside u.cpus (p.now.stop s) (λ f. at (Slot s f)) (h.present.slots s) me (Inside 2 3) st.1 refl
+    open_alters s work count made rest is = search (h.present.stands, is_open_inside, h.present.slots, arith)
 
     -- the slot that a CPU is in, and its work
     pub below_in : (s : ℕ) (work : Work) (a l : ℕ) (t : Turn) → seat me ≡ In s work a l t → s < cpus
@@ -100,30 +67,20 @@ module _ (u : Setup) (p : StopState) (at : Word → ℕ) (seat : ℕ → Seat) (
 
     -- the key of a patch is one of the table
     key_below : (s : ℕ) (work : Work) → (p.now.stop s).is_open ≡ true → (p.now.stop s).work ≡ work → work.kind ≡ Patch → work.func < MOST_KEYS
-    key_below s work op same kind =
-        let w = h.present.works s op (ap (λ (x : Work). x.kind) same ∙ kind) in
-        let k : (p.now.stop s).work.func < u.keys = w.key in
-        let e : (p.now.stop s).work.func ≡ work.func = ap (λ (x : Work). x.func) same in
-        let m = h.setup.few_keys in omega arith
+    key_below s work op same kind = search (h.present.works, arith)
 
     -- the changes of a patch
     sites_named : (key : ℕ) (on : Bool) (i : ℕ) (entries : List ℕ) → i + length entries ≤ MOST_SITES → AllByRecursion IsNamedChange
         (site_changes key on i entries)
     sites_named key on i [] fits = tt
-    sites_named key on i (x ∷ rest) fits = joined (entry_at x) (site_changes key on (i + 1) rest) (sites_named key on (i + 1) rest (omega arith))
-      where
-        joined : (e : Option SiteEntry) (xs : List Change) → AllByRecursion IsNamedChange xs → AllByRecursion IsNamedChange (site_change key on i e ++ xs)
-        joined None xs all = all
-        joined (Some e) xs all = elim (e.key == key) as (λ b. AllByRecursion IsNamedChange (cond b ((place.Site i, kind_word_site (kind_of on e.branch)) ∷
-            []) [] ++ xs)) [ true ↦ ((let z : i < MOST_SITES = omega arith in z), all) | false ↦ all ]
+    sites_named key on i (x ∷ rest) fits = search (sites_named key on (i + 1) rest (omega arith), arith)
 
     at_split : (before : List Change) (change : Change) (rest : List Change) → AllByRecursion IsNamedChange (before ++ change ∷ rest) → IsNamedChange change
     at_split [] change rest all = all.0
     at_split (x ∷ before) change rest all = at_split before change rest all.1
 
     named_store : (change : Change) → IsNamedChange change → IsStopWord (word_of (store_of change))
-    named_store (place.Key k, n) h = h
-    named_store (place.Site i, n) h = h
+    named_store change h = search arith
 
     module _ (c : StopControlValue) (s : Sits u me (at Gate) c (seat me) (source me)) where
       me_below : me < cpus
@@ -134,112 +91,27 @@ module _ (u : Setup) (p : StopState) (at : Word → ℕ) (seat : ℕ → Seat) (
       round_named v (round.Look answer) x = below_in v.slot x.2.0 v.acked v.acked Rests x.2.2
       round_named v (round.LoadFunc answer) x = below_in v.slot x.1.0 2 3 Rests x.1.1.3
       round_named v (round.LoadArg answer func) x = below_in v.slot x.1.0 2 3 Rests x.1.1.3
-      round_named v (round.LoadKey key change) x =
-          let work = x.1.0 in
-          let run = x.1.1 in
-          let st : Stands p.now me (In v.slot work 2 3 Rests) = subst (Stands p.now me) run.3 (h.present.stands me) in
-          subst (λ k. k < MOST_KEYS) (sym x.1.2) (key_below v.slot work (open_in v.slot work 2 3 Rests run.3) st.3 (sym run.0.kind ∙ x.0))
+      round_named v (round.LoadKey key change) x = search (h.present.stands, key_below, open_in, arith)
       round_named v (round.LoadEntry key word site) x = x.3
       round_named v (round.StoreChange made) x = go x.0 x.1 x.4 x.5 x.6.0 x.6.1 x.6.2 x.6.3 x.6.4
         where
           go : (work : Work) (count : ℕ) → made < length c.changes → c.changes ≡ plan_at u work count → (before after : List Change) →
               c.changes ≡ before ++ after → length before ≡ made →
               seat me ≡ Alters v.slot work count before after → IsStopWord (word_of (store_of (change_at c.changes made)))
-          go work count low plan before [] are long is = absurd (let same : length c.changes ≡ length before = ap length (are ∙ append-nil before) in
-              omega arith)
+          go work count low plan before [] are long is = search (append-nil, arith)
           go work count low plan before (change ∷ rest) are long is =
-              let st : Stands p.now me (Alters v.slot work count before (change ∷ rest)) = subst (Stands p.now me) is (h.present.stands me) in
-              let key = key_below v.slot work (open_alters v.slot work count before (change ∷ rest) is) st.3 st.4 in
-              let all : AllByRecursion IsNamedChange (plan_at u work count) = plan_named work key (count_set work count) (count == count_set work count)
-              (xor (is_on count) (is_on (count_set work count))) in
-              let here : change_at c.changes made ≡ change = ap (λ l. change_at l made) are ∙ (ap (λ n. change_at (before ++ change ∷ rest) n) (sym long) ∙
-              change_here before change rest) in
-              subst (λ (x : Change). IsStopWord (word_of (store_of x))) (sym here)
-              (named_store change (at_split before change rest (subst (AllByRecursion IsNamedChange) (sym plan ∙ are) all)))
-            where
-              plan_named : (work : Work) → work.func < MOST_KEYS → (word : ℕ) (a b : Bool) → AllByRecursion IsNamedChange
-                  (cond a [] (cond b (patch_of work.func word u.entries) ((place.Key work.func, word) ∷ [])))
-              plan_named work key word true b = tt
-              plan_named work key word false true = (key, sites_named work.func (is_on word) 0 u.entries (let f = h.present.entries.few in omega arith))
-              plan_named work key word false false = (key, tt)
-      round_named v (round.Acknowledge answer ran) x = ⊎_elim
-          (λ (y : (seat me ≡ In v.slot x.0 v.acked (v.acked + 1) Rests) × RunsIf me v ran). below_in v.slot x.0 v.acked (v.acked + 1) Rests y.0)
-          (λ (y : (v.acked ≡ 2) × (ran ≡ true) × ((count : ℕ) × (answer ≡ patch_answer x.0 count) × (seat me ≡ Alters v.slot x.0 count (plan_at u x.0 count)
-          []))). below_alters v.slot x.0 y.2.0 (plan_at u x.0 y.2.0) [] y.2.2) x.3
+              search (h.present.stands, key_below, open_alters, change_here, IsStopWord, named_store, at_split, work.func, sites_named, arith)
+      round_named v (round.Acknowledge answer ran) x = search (v.acked, below_in, below_alters, arith)
       round_named v (round.Refill ran) x = below_in v.slot x.0 v.acked v.acked Fills x.2
       round_named v (round.Raise ran) x = below_in v.slot x.0 v.acked v.acked Sets x.2
 
       completion_named : (v : Visit) (stage : CompletionStage) → SitsInCompletion v stage (seat me) → IsStopWord (word_of (completion_access v stage))
-      completion_named v (completion.LoadFunc answer) x = below_in v.slot x.1.0 v.acked v.acked Rests x.1.2
-      completion_named v (completion.LoadArg answer func) x = below_in v.slot x.1.0 v.acked v.acked Rests x.1.2
-      completion_named v completion.StoreAnswer x = below_in v.slot x.2.0 v.acked v.acked Rests x.2.2
-      completion_named v completion.CountDown x = ⊎_elim
-          (λ (y : (v.answer ≡ 0) × IsLoaded v x.0 × IsThroughAll v × (seat me ≡ In v.slot x.0 v.acked v.acked Rests)). below_in v.slot x.0 v.acked v.acked
-          Rests y.3)
-          (λ (y : seat me ≡ Gives v.slot x.0 v.acked v.answer). below_gives v.slot x.0 v.acked v.answer y) x.1
+      completion_named v stage x = search (below_in, v.acked, below_gives, arith)
 
       -- the word of the next access is in the table
       pub stage_named : (stage : StopStage) → c.stage ≡ Some stage → IsStopWord (word_of (stop_access u.cpus me c.changes stage))
-      stage_named TakeGate e = tt
-      stage_named OpenGate e = tt
-      stage_named (Begin work f) e = me_below
-      stage_named (Enter slot) e = let x = at_seat s (Enter slot) e in let low = x.2 in omega arith
-      stage_named (EnterKind slot) e = let x = at_seat s (EnterKind slot) e in below_in slot x.0 0 0 Rests x.1
-      stage_named (EnterMask slot kind) e = let x = at_seat s (EnterMask slot kind) e in below_in slot x.0 0 0 Rests x.1
-      stage_named (EnterActive slot kind mask) e = let x = at_seat s (EnterActive slot kind mask) e in below_in slot x.0 0 0 Rests x.1
-      stage_named (Advance v stage) e = round_named v stage (at_seat s (Advance v stage) e).1
-      stage_named (Complete v stage) e = completion_named v stage (at_seat s (Complete v stage) e).1
-      stage_named (Close slot) e =
-          let x = at_seat s (Close slot) e in
-          let st : Stands p.now me (Closes slot) = subst (Stands p.now me) x.1 (h.present.stands me) in
-          open_below slot st.1
-      stage_named LoadDone e = me_below
-      stage_named LoadResult e = me_below
-      stage_named (ReadKey k) e = let x = at_seat s (ReadKey k) e in let low = x.1 in let m = h.setup.few_keys in omega arith
-      stage_named (NudgeKey k up) e = let x = at_seat s (NudgeKey k up) e in let low = x.2 in let m = h.setup.few_keys in omega arith
-      stage_named (ExchangeKey k expected new) e = let x = at_seat s (ExchangeKey k expected new) e in let low = x.2 in let m = h.setup.few_keys in omega arith
-      stage_named (ReadSite i) e = let x = at_seat s (ReadSite i) e in let low = x.1 in let f = h.present.entries.few in omega arith
+      stage_named stage e = search (me_below, at_seat, below_in, round_named, completion_named, h.present.stands, open_below, arith)
 
       -- another CPU that holds the gate holds it after the step
       pub gate_stays : (stage : StopStage) → c.stage ≡ Some stage → (cpu : ℕ) → cpu ≢ me → at Gate ≡ cpu + 1 → at_then u at c me stage Gate ≡ cpu + 1
-      gate_stays TakeGate e cpu ne held = go (at Gate == 0) refl
-        where
-          go : (b : Bool) → (at Gate == 0) ≡ b → (put_if put_word at Gate (cond b (Some (me + 1)) None)) Gate ≡ cpu + 1
-          go true z = let zero_ = eqb_zero (at Gate) z in absurd (omega arith)
-            where
-              eqb_zero : (n : ℕ) → (n == 0) ≡ true → n ≡ 0
-              eqb_zero zero e = refl
-              eqb_zero (suc n) e = let bad : true ≡ false = sym e ∙ ne_eqb (suc n) 0 (λ z. omega arith) in cc
-          go false z = held
-      gate_stays OpenGate e cpu ne held =
-          let mine : at Gate ≡ me + 1 = subst (HoldsGate me (at Gate)) e s.gate_held in absurd (ne (omega arith))
-      gate_stays (Begin work f) e cpu ne held = held
-      gate_stays (Enter slot) e cpu ne held = held
-      gate_stays (EnterKind slot) e cpu ne held = held
-      gate_stays (EnterMask slot kind) e cpu ne held = held
-      gate_stays (EnterActive slot kind mask) e cpu ne held = held
-      gate_stays (Advance v (round.Look answer)) e cpu ne held = held
-      gate_stays (Advance v (round.LoadFunc answer)) e cpu ne held = held
-      gate_stays (Advance v (round.LoadArg answer func)) e cpu ne held = held
-      gate_stays (Advance v (round.LoadKey key change)) e cpu ne held = held
-      gate_stays (Advance v (round.LoadEntry key word site)) e cpu ne held = held
-      gate_stays (Advance v (round.StoreChange made)) e cpu ne held = other (change_at c.changes made)
-        where
-          other : (change : Change) → at_after at (store_of change) Gate ≡ cpu + 1
-          other (place.Key k, n) = held
-          other (place.Site i, n) = held
-      gate_stays (Advance v (round.Acknowledge answer ran)) e cpu ne held = held
-      gate_stays (Advance v (round.Refill ran)) e cpu ne held = held
-      gate_stays (Advance v (round.Raise ran)) e cpu ne held = held
-      gate_stays (Complete v (completion.LoadFunc answer)) e cpu ne held = held
-      gate_stays (Complete v (completion.LoadArg answer func)) e cpu ne held = held
-      gate_stays (Complete v completion.StoreAnswer) e cpu ne held = held
-      gate_stays (Complete v completion.CountDown) e cpu ne held = held
-      gate_stays (Close slot) e cpu ne held = held
-      gate_stays LoadDone e cpu ne held = held
-      gate_stays LoadResult e cpu ne held = held
-      gate_stays (ReadKey k) e cpu ne held = held
-      gate_stays (ReadSite i) e cpu ne held = held
-      gate_stays (NudgeKey k up) e cpu ne held = held
-      gate_stays (ExchangeKey k expected new) e cpu ne held =
-          elim (at (Key k) == expected) as (λ b. (put_if put_word at (Key k) (cond b (Some new) None)) Gate ≡ cpu + 1) [ true ↦ held | false ↦ held ]
+      gate_stays stage e cpu ne held = search (ne_eqb, arith)

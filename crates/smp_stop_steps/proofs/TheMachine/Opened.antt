@@ -1,62 +1,26 @@
 -- A stop half as it is made shows that nothing was begun.
-use Rattle.std.proofs.Common.{◌≡◌, ◌≢◌, ℕ, zero, suc, ◌-◌, ◌<◌, Bool, true, false, ◌==◌, cond, List, [], ◌∷◌, ◌++◌, length, map, get_or, replicate}
-use Rattle.std.proofs.Common.{sym, subst, refl, ◌∙◌, arith, inl, inr, ◌⊎◌, eq-eqb, ne_eqb}
-use Rattle.std.proofs.lemmas.Bool.{cases_eq}
+use Rattle.std.proofs.Common.{◌≡◌, ◌≢◌, ℕ, zero, suc, ◌-◌, ◌<◌, true, false, List, [], ◌∷◌, ◌++◌, length, map, get_or, replicate, refl, arith, eq-eqb, ne_eqb}
 use Rattle.std.proofs.lemmas.List.{length-map}
-use Rattle.smp_mask.specs.Mask.{has}
 use Rattle.smp_labels.specs.Entries.{entry_word}
 use Rattle.smp_labels.specs.Labels.{Labels, AreLabels}
 use Rattle.smp_labels.specs.Law.{IsLawful}
 use Rattle.smp_labels.specs.declared.entries.Entry.{Entry}
-use Rattle.smp_labels.specs.declared.words.TheConstants.{MOST_SITES, MOST_KEYS}
-use Rattle.smp_words.specs.Size.{cpus}
-use Rattle.smp_stop_steps.specs.Labels.{labels_in}
-use Rattle.smp_stop_steps.specs.State.{no_stops}
-use Rattle.smp_stop_steps.specs.Seats.{Free}
-use Rattle.smp_stop_steps.specs.Sources.{Shut}
-use Rattle.smp_stop_steps.specs.Stages.{StopControlValue, stop_outside}
-use Rattle.smp_stop_steps.specs.Table.{StopWords, stop_number, slot_cell}
-use Rattle.smp_stop_steps.specs.Value.{StopsShow, setup_of, first_below}
 use Rattle.smp_words.specs.declared.size.TheConstants.{SLOT_WORDS}
-use Rattle.smp_words.specs.declared.field.Field.TheVariants as field
 use Rattle.smp_words.proofs.Zeros.{get_or-same, zero_at}
+use Rattle.smp_stop_steps.specs.{has, MOST_SITES, MOST_KEYS, cpus, labels_in, no_stops, Free, Shut, StopControlValue, stop_outside, StopWords, stop_number}
+use Rattle.smp_stop_steps.specs.{slot_cell, StopsShow, setup_of, first_below}
 use Rattle.smp_stop_steps.proofs.Steps.Facts.{no_stops_shown}
+use Rattle.smp_stop_steps.specs.field
 
 -- the least member, where there is one
 pub first_is : (mask k : ℕ) → (first_below mask k ≡ k → (c : ℕ) → c < k → has mask c ≡ false) × (first_below mask k ≢ k → (first_below mask k < k) ×
     (has mask (first_below mask k) ≡ true))
 unfolding first_below
 first_is mask zero = (λ _ c low. absurd (omega arith), λ ne. absurd (ne refl))
-first_is mask (suc k) = let i = first_is mask k in go (cases_eq (first_below mask k) k) i.0 i.1
-  where
-    go : (first_below mask k ≡ k) ⊎ (first_below mask k ≢ k) → (first_below mask k ≡ k → (c : ℕ) → c < k → has mask c ≡ false) → (first_below mask k ≢ k →
-        (first_below mask k < k) × (has mask (first_below mask k) ≡ true)) →
-        (cond (first_below mask k == k) (cond (has mask k) k (suc k)) (first_below mask k) ≡ suc k → (c : ℕ) → c < suc k → has mask c ≡ false) ×
-        (cond (first_below mask k == k) (cond (has mask k) k (suc k)) (first_below mask k) ≢ suc k →
-        (cond (first_below mask k == k) (cond (has mask k) k (suc k)) (first_below mask k) < suc k) ×
-        (has mask (cond (first_below mask k == k) (cond (has mask k) k (suc k)) (first_below mask k)) ≡ true))
-    go (inl e) none some = subst (λ b. (cond b (cond (has mask k) k (suc k)) (first_below mask k) ≡ suc k → (c : ℕ) → c < suc k → has mask c ≡ false) ×
-        (cond b (cond (has mask k) k (suc k)) (first_below mask k) ≢ suc k → (cond b (cond (has mask k) k (suc k)) (first_below mask k) < suc k) ×
-        (has mask (cond b (cond (has mask k) k (suc k)) (first_below mask k)) ≡ true)))
-        (sym (eq-eqb (first_below mask k) k e)) (here (has mask k) refl)
-      where
-        here : (b : Bool) → has mask k ≡ b → (cond b k (suc k) ≡ suc k → (c : ℕ) → c < suc k → has mask c ≡ false) × (cond b k (suc k) ≢ suc k →
-            (cond b k (suc k) < suc k) × (has mask (cond b k (suc k)) ≡ true))
-        here true is = ((λ z. absurd (let y : k ≡ suc k = z in omega arith)), λ _. (omega arith, is))
-        here false is = (
-          (λ _ c low. elim (cases_eq c k) [ inl same ↦ subst (λ c. has mask c ≡ false) (sym same) is | inr other ↦ none e c (omega arith) ]),
-          λ ne. absurd (ne refl),
-        )
-    go (inr ne) none some = subst (λ b. (cond b (cond (has mask k) k (suc k)) (first_below mask k) ≡ suc k → (c : ℕ) → c < suc k → has mask c ≡ false) ×
-        (cond b (cond (has mask k) k (suc k)) (first_below mask k) ≢ suc k → (cond b (cond (has mask k) k (suc k)) (first_below mask k) < suc k) ×
-        (has mask (cond b (cond (has mask k) k (suc k)) (first_below mask k)) ≡ true)))
-        (sym (ne_eqb (first_below mask k) k ne)) ((λ z. absurd (let s = (some ne).0 in omega arith)), λ _. (let s = (some ne).0 in (omega arith, (some ne).1)))
+first_is mask (suc k) = search (first_is mask k, eq-eqb, ne_eqb, arith)
 
 first_online : (mask : ℕ) → ((c : ℕ) × (has mask c ≡ true)) → ((c : ℕ) → has mask c ≡ true → c < cpus) → has mask (first_below mask cpus) ≡ true
-first_online mask member below = elim (cases_eq (first_below mask cpus) cpus) [
-  | inl e ↦ absurd (let bad : true ≡ false = sym member.1 ∙ (first_is mask cpus).0 e member.0 (below member.0 member.1) in cc)
-  | inr ne ↦ ((first_is mask cpus).1 ne).1
-]
+first_online mask member below = search (first_is, arith)
 
 -- zeros behind a list are read as nothing there
 read_zeros : (xs : List ℕ) (n i : ℕ) → get_or (xs ++ replicate n 0) i 0 ≡ get_or xs i 0
@@ -82,8 +46,7 @@ opened_shown online labels t controls member below are gate slots entries lawful
       gate (λ s. rw slots (zero_at SLOT_WORDS (slot_cell s field.Roll)))
       record {
         few = let l = length-map labels.entries entry_word in let f = are.few_sites in omega arith;
-        read = λ i low. rw entries
-            (read_zeros (map entry_word labels.entries) (MOST_SITES - length labels.entries) i);
+        read = search (read_zeros, arith);
       }
       lawful (λ k. rw off (get_or-same 0 MOST_KEYS k));
   sits = λ cpu low. rw outside (rw (get_or-same stop_outside cpus cpu) record { below = low; irq = refl; seat = refl; source = refl; gate_held = tt });

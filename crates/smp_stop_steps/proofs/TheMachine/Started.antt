@@ -1,16 +1,9 @@
 -- A stop half stays whole where a command begins.
 use Rattle.std.proofs.Common.{◌≡◌, ℕ, ◌<◌, true, Option, Some, None, length, refl, subst, ◌∙◌, arith}
 use Rattle.std.proofs.lemmas.List.{length-set}
-use Rattle.smp_mask.specs.Mask.{has}
-use Rattle.smp_words.specs.Size.{cpus}
 use Rattle.smp_words.specs.Commands.{FitsCommand}
-use Rattle.smp_words.specs.declared.command.Command.{Command}
-use Rattle.smp_stop_steps.specs.AnswerWords.{AnswersFit, StageFits}
-use Rattle.smp_stop_steps.specs.Begins.{MayBeginAt, stop_begun}
-use Rattle.smp_stop_steps.specs.Machine.{IsSoundHalf}
-use Rattle.smp_stop_steps.specs.Starts.{stop_begun_if, stop_first, stop_refusal, stop_started}
-use Rattle.smp_stop_steps.specs.Value.{StopsValue, setup_of, stop_control_of}
-use Rattle.smp_stop_steps.specs.declared.stage.StopStage.{StopStage}
+use Rattle.smp_stop_steps.specs.{has, cpus, Command, AnswersFit, StageFits, MayBeginAt, stop_begun, IsSoundHalf, stop_begun_if, stop_first, stop_refusal}
+use Rattle.smp_stop_steps.specs.{stop_started, StopsValue, setup_of, stop_control_of, StopStage}
 use Rattle.smp_stop_steps.proofs.TheMachine.Answered.{answers_set, first_fits}
 use Rattle.smp_stop_steps.proofs.TheMachine.Begun.{begun_value_shown}
 use Rattle.smp_stop_steps.proofs.TheMachine.Starting.{may_begin}
@@ -38,5 +31,4 @@ module _ (v : StopsValue) (sound : IsSoundHalf v) (cpu : ℕ) (low : cpu < cpus)
     where
       go : (o : Option StopStage) → stop_first (stop_control_of v.controls cpu) c ≡ o → IsSoundHalf (stop_begun_if v cpu o)
       go None first = sound
-      go (Some stage) first = begun_sound stage (may_begin v cpu c stage low below online fits allowed first)
-          (subst StageFits first (first_fits (stop_control_of v.controls cpu) c (sound.answers cpu).visit fits))
+      go (Some stage) first = search (begun_sound, may_begin, first_fits, sound.answers, arith)

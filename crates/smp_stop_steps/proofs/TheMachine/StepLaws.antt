@@ -1,23 +1,7 @@
 -- What each step that a stop half may make next keeps.
 use Rattle.std.proofs.Common.{◌≡◌, ℕ, ◌<◌, List, Option, Some, length, arith}
-use Rattle.smp_labels.specs.declared.patch.Place.TheVariants as place
-use Rattle.smp_words.specs.Access.{word_of}
-use Rattle.smp_words.specs.declared.seen.Note.{Note}
-use Rattle.smp_stop_steps.specs.Labels.{Change}
-use Rattle.smp_stop_steps.specs.Notes.{NoteFits, StopNoteFits}
-use Rattle.smp_stop_steps.specs.Stages.{change_at, stop_access, store_of}
-use Rattle.smp_stop_steps.specs.Steps.{note_then, state_after}
-use Rattle.smp_stop_steps.specs.declared.stage.CompletionStage.TheVariants as completion
-use Rattle.smp_stop_steps.specs.declared.stage.RoundStage.TheVariants as round
-use Rattle.smp_stop_steps.specs.declared.stage.StopStage.{StopStage}
-use Rattle.smp_stop_steps.specs.declared.stage.StopStage.TheVariants.{TakeGate, OpenGate, Begin, Enter, EnterKind, EnterMask, EnterActive, Advance}
-use Rattle.smp_stop_steps.specs.declared.stage.StopStage.TheVariants.{Complete, Close, LoadDone, LoadResult, ReadKey, ReadSite, NudgeKey, ExchangeKey}
-use Rattle.smp_words.specs.Size.{cpus}
-use Rattle.smp_stop_steps.specs.State.{StopState}
-use Rattle.smp_stop_steps.specs.StepLaws.{StepsKeepLaws, StopNoteTold}
-use Rattle.smp_stop_steps.specs.Table.{stop_number}
-use Rattle.smp_stop_steps.specs.Value.{StopsValue, StopShown, setup_of, stop_control_of}
-use Rattle.smp_stop_steps.specs.Machine.{AreSoundStops}
+use Rattle.smp_stop_steps.specs.{word_of, Note, Change, NoteFits, StopNoteFits, stop_access, store_of, note_then, state_after, StopStage, cpus, StopState}
+use Rattle.smp_stop_steps.specs.{StepsKeepLaws, StopNoteTold, stop_number, StopsValue, StopShown, setup_of, stop_control_of, AreSoundStops}
 use Rattle.smp_stop_steps.proofs.Steps.AnswerWords.{keeps_answers}
 use Rattle.smp_stop_steps.proofs.Steps.CallSteps.{call_step}
 use Rattle.smp_stop_steps.proofs.Steps.NoteSteps.{note_fits}
@@ -43,38 +27,11 @@ steps_keep_laws v p sound shown cpu stage e =
 
 -- the word of a step of the stop half is one of its table
 patch_noted : (p q : StopState) (me : ℕ) (said : Option Note) (x : Change) → NoteFits p q me said → StopNoteFits p q me (word_of (store_of x)) said
-patch_noted p q me said (place.Key k, n) f = f
-patch_noted p q me said (place.Site i, n) f = f
+patch_noted p q me said x f = search arith
 
 noted : (p q : StopState) (me : ℕ) (said : Option Note) (n : ℕ) (changes : List Change) (stage : StopStage) → NoteFits p q me said →
     StopNoteFits p q me (word_of (stop_access n me changes stage)) said
-noted p q me said n changes TakeGate f = f
-noted p q me said n changes OpenGate f = f
-noted p q me said n changes (Begin work g) f = f
-noted p q me said n changes (Enter slot) f = f
-noted p q me said n changes (EnterKind slot) f = f
-noted p q me said n changes (EnterMask slot kind) f = f
-noted p q me said n changes (EnterActive slot kind mask) f = f
-noted p q me said n changes (Advance v (round.Look answer)) f = f
-noted p q me said n changes (Advance v (round.LoadFunc answer)) f = f
-noted p q me said n changes (Advance v (round.LoadArg answer func)) f = f
-noted p q me said n changes (Advance v (round.LoadKey key change)) f = f
-noted p q me said n changes (Advance v (round.LoadEntry key word site)) f = f
-noted p q me said n changes (Advance v (round.StoreChange made)) f = patch_noted p q me said (change_at changes made) f
-noted p q me said n changes (Advance v (round.Acknowledge answer ran)) f = f
-noted p q me said n changes (Advance v (round.Refill ran)) f = f
-noted p q me said n changes (Advance v (round.Raise ran)) f = f
-noted p q me said n changes (Complete v (completion.LoadFunc answer)) f = f
-noted p q me said n changes (Complete v (completion.LoadArg answer func)) f = f
-noted p q me said n changes (Complete v completion.StoreAnswer) f = f
-noted p q me said n changes (Complete v completion.CountDown) f = f
-noted p q me said n changes (Close slot) f = f
-noted p q me said n changes LoadDone f = f
-noted p q me said n changes LoadResult f = f
-noted p q me said n changes (ReadKey k) f = f
-noted p q me said n changes (ReadSite i) f = f
-noted p q me said n changes (NudgeKey k up) f = f
-noted p q me said n changes (ExchangeKey k expected new) f = f
+noted p q me said n changes stage f = search (patch_noted, arith)
 
 pub note_told : (v : StopsValue) (cpu : ℕ) (stage : StopStage) → length v.controls ≡ cpus → (stop_control_of v.controls cpu).stage ≡ Some stage →
     StopNoteTold v cpu stage

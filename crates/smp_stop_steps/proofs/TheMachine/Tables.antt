@@ -1,25 +1,18 @@
 -- The words of a stop table as a function from names: a store in the table is a put at the name.
-use Rattle.std.proofs.Common.{◌≡◌, ◌≢◌, ℕ, ◌+◌, ◌*◌, ◌<◌, ◌≤◌, Bool, true, false, ◌==◌, cond, Option, Some, None, List, length, sym, subst, refl, ap}
-use Rattle.std.proofs.Common.{◌∙◌, arith, lt-ltb, le-ltb, ne_eqb, inl, inr}
-use Rattle.std.proofs.lemmas.Bool.{eq-eqb, cases_lt, cases_eq}
+use Rattle.std.proofs.Common.{◌≡◌, ◌≢◌, ℕ, ◌+◌, ◌*◌, ◌<◌, ◌≤◌, Bool, true, false, ◌==◌, cond, Option, Some, None, List, length, refl, ap, arith, lt-ltb}
+use Rattle.std.proofs.Common.{le-ltb, ne_eqb}
+use Rattle.std.proofs.lemmas.Bool.{eq-eqb, cases_lt}
 use Rattle.std.proofs.lemmas.List.{get_or-set_same, get_or-set_other, length-set}
 use Rattle.std.specs.Int.Bits.{bit_and}
 use Rattle.std.specs.Prelude.{slice_set, slice_index}
-use Rattle.smp_labels.specs.declared.words.TheConstants.{MOST_KEYS, MOST_SITES}
-use Rattle.smp_words.specs.Put.{put_word, same_word, place_of}
-use Rattle.smp_words.specs.Access.{word_of, one_less, at_after, put_if}
+use Rattle.smp_words.specs.Put.{place_of}
+use Rattle.smp_words.specs.Access.{one_less, put_if}
 use Rattle.smp_words.specs.Layout.{number_at, put_at}
-use Rattle.smp_words.specs.Size.{cpus}
-use Rattle.smp_stop_steps.specs.Table.{StopWords, slot_cell, stop_number, stop_put, stop_words_after}
-use Rattle.smp_stop_steps.specs.Value.{IsStopTable}
 use Rattle.smp_words.proofs.SameWords.{same_word-true, same_word-itself, one_place}
-use Rattle.smp_words.specs.declared.access.Access.{Access}
 use Rattle.smp_words.specs.declared.access.Access.TheVariants.{Load, Store, Swap, Exchange, Sub, And}
 use Rattle.smp_words.specs.declared.size.TheConstants.{NR_CPUS, FIELDS, SLOT_WORDS}
-use Rattle.smp_words.specs.declared.field.Field.{Field}
-use Rattle.smp_words.specs.declared.field.Field.TheVariants as field
-use Rattle.smp_words.specs.declared.word.Word.{Word}
-use Rattle.smp_words.specs.declared.word.Word.TheVariants.{Gate, Slot, Key, Entry, Site}
+use Rattle.smp_stop_steps.specs.{MOST_KEYS, MOST_SITES, put_word, word_of, at_after, cpus, StopWords, slot_cell, stop_number, stop_put, stop_words_after}
+use Rattle.smp_stop_steps.specs.{IsStopTable, Access, Field, Word, Gate, Slot, Key, Entry, Site}
 
 -- the words that are in the table
 abbrev pub IsStopWord : Word → Type 0
@@ -31,17 +24,7 @@ IsStopWord (Site i) = i < MOST_SITES
 IsStopWord _ = ⊥
 
 place_below : (f : Field) → place_of f < FIELDS
-place_below field.Kind = omega arith
-place_below field.Mask = omega arith
-place_below field.Active = omega arith
-place_below field.Func = omega arith
-place_below field.Arg = omega arith
-place_below field.State = omega arith
-place_below field.Ack = omega arith
-place_below field.Roll = omega arith
-place_below field.Todo = omega arith
-place_below field.Result = omega arith
-place_below field.Done = omega arith
+place_below f = search arith
 
 cell_is : (s : ℕ) (f : Field) → s < NR_CPUS → slot_cell s f ≡ Some (FIELDS * s + place_of f)
 cell_is s f low = ap (λ b. cond b (Some (FIELDS * s + place_of f)) None) (lt-ltb s NR_CPUS low)
@@ -51,29 +34,14 @@ cell_none s f high = ap (λ b. cond b (Some (FIELDS * s + place_of f)) None) (le
 
 -- a list with one element put, by index
 list_put : (xs : List ℕ) (i n j : ℕ) → i < length xs → slice_index (slice_set xs i n) j ≡ cond (j == i) n (slice_index xs j)
-list_put xs i n j low = elim (cases_eq j i) [
-  | inl e ↦ subst (λ j. slice_index (slice_set xs i n) j ≡ cond (j == i) n (slice_index xs j)) (sym e) (get_or-set_same xs i n 0 low ∙ sym
-      (ap (λ b. cond b n (slice_index xs i)) (eq-eqb i i refl)))
-  | inr ne ↦ get_or-set_other xs i j n 0 ne ∙ sym (ap (λ b. cond b n (slice_index xs j)) (ne_eqb j i ne))
-]
+list_put xs i n j low = search (get_or-set_same, eq-eqb, get_or-set_other, ne_eqb, arith)
 
 slot_put_same : (xs : List ℕ) (s : ℕ) (f : Field) (n : ℕ) → s < NR_CPUS → length xs ≡ SLOT_WORDS → number_at (put_at xs (slot_cell s f) n) (slot_cell s f) ≡ n
-slot_put_same xs s f n low long =
-    let p = place_below f in
-    subst (λ c. number_at (put_at xs c n) c ≡ n) (sym (cell_is s f low)) (get_or-set_same xs (FIELDS * s + place_of f) n 0 (omega arith))
+slot_put_same xs s f n low long = search (place_below, cell_is, get_or-set_same, arith)
 
 slot_put_other : (xs : List ℕ) (s t : ℕ) (f g : Field) (n : ℕ) → s < NR_CPUS → length xs ≡ SLOT_WORDS → ((t ≡ s) → g ≢ f) →
     number_at (put_at xs (slot_cell s f) n) (slot_cell t g) ≡ number_at xs (slot_cell t g)
-slot_put_other xs s t f g n low long other = elim (cases_lt t NR_CPUS) [
-  | inl within ↦
-      let p = place_below f in
-      let q = place_below g in
-      subst (λ c. number_at (put_at xs c n) (slot_cell t g) ≡ number_at xs (slot_cell t g)) (sym (cell_is s f low))
-      (subst (λ c. number_at (slice_set xs (FIELDS * s + place_of f) n) c ≡ number_at xs c) (sym (cell_is t g within))
-      (get_or-set_other xs (FIELDS * s + place_of f) (FIELDS * t + place_of g) n 0
-      (λ e. let same : t ≡ s = omega arith in other same (one_place g f (omega arith)))))
-  | inr past ↦ subst (λ c. number_at (put_at xs (slot_cell s f) n) c ≡ number_at xs c) (sym (cell_none t g past)) refl
-]
+slot_put_other xs s t f g n low long other = search (cases_lt, place_below, cell_is, get_or-set_other, one_place, cell_none, arith)
 
 -- a store in a word that there is
 number_put : (t : StopWords) → IsStopTable t → (w : Word) (n : ℕ) → IsStopWord w → (x : Word) → stop_number (stop_put t w n) x ≡ put_word (stop_number t) w n x
@@ -83,19 +51,7 @@ number_put t is Gate n h (Key k) = refl
 number_put t is Gate n h (Entry i) = refl
 number_put t is Gate n h (Site i) = refl
 number_put t is Gate n h _ = refl
-number_put t is (Slot s f) n h (Slot r g) = go (same_word (Slot r g) (Slot s f)) refl
-  where
-    go : (b : Bool) → same_word (Slot r g) (Slot s f) ≡ b → number_at (put_at t.slots (slot_cell s f) n) (slot_cell r g) ≡ cond b n
-        (number_at t.slots (slot_cell r g))
-    go true e =
-        let same = same_word-true (Slot r g) (Slot s f) e in
-        let one : r ≡ s = cc in
-        let two : g ≡ f = cc in
-        subst (λ r. number_at (put_at t.slots (slot_cell s f) n) (slot_cell r g) ≡ n) (sym one) (subst (λ g. number_at (put_at t.slots (slot_cell s f) n)
-        (slot_cell s g) ≡ n) (sym two) (slot_put_same t.slots s f n h is.slots))
-    go false e = slot_put_other t.slots s r f g n h is.slots
-        (λ one two. let bad : true ≡ false = sym (subst (λ r. same_word (Slot r g) (Slot s f) ≡ true) (sym one)
-        (subst (λ g. same_word (Slot s g) (Slot s f) ≡ true) (sym two) (same_word-itself (Slot s f)))) ∙ e in cc)
+number_put t is (Slot s f) n h (Slot r g) = search (t.slots, same_word-true, slot_put_same, slot_put_other, same_word-itself, arith)
 number_put t is (Slot s f) n h Gate = refl
 number_put t is (Slot s f) n h (Key k) = refl
 number_put t is (Slot s f) n h (Entry i) = refl
@@ -139,16 +95,10 @@ stop_words_by_name t is (Sub w) h = put_by_name t is w (one_less (stop_number t 
 stop_words_by_name t is (And w n) h = put_by_name t is w (bit_and (stop_number t w) n) h
 
 length_put : (xs : List ℕ) (c : Option ℕ) (n : ℕ) → length (put_at xs c n) ≡ length xs
-length_put xs None n = refl
-length_put xs (Some i) n = length-set xs i n
+length_put xs c n = search (length-set, arith)
 
 table_put : (t : StopWords) → IsStopTable t → (w : Word) (n : ℕ) → IsStopWord w → IsStopTable (stop_put t w n)
-table_put t is Gate n h = record { slots = is.slots; keys = is.keys; entries = is.entries; sites = is.sites }
-table_put t is (Slot s f) n h = record { slots = length_put t.slots (slot_cell s f) n ∙ is.slots; keys = is.keys; entries = is.entries; sites = is.sites }
-table_put t is (Key k) n h = record { slots = is.slots; keys = length-set t.keys k n ∙ is.keys; entries = is.entries; sites = is.sites }
-table_put t is (Entry i) n h = record { slots = is.slots; keys = is.keys; entries = length-set t.entries i n ∙ is.entries; sites = is.sites }
-table_put t is (Site i) n h = record { slots = is.slots; keys = is.keys; entries = is.entries; sites = length-set t.sites i n ∙ is.sites }
-table_put t is _ n h = absurd h
+table_put t is w n h = search (length_put, t.slots, length-set, t.keys, t.entries, t.sites, arith)
 
 -- a table stays one
 pub table_after : (t : StopWords) → IsStopTable t → (access : Access) → IsStopWord (word_of access) → IsStopTable (stop_words_after t access)

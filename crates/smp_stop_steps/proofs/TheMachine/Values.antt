@@ -1,69 +1,40 @@
 -- A step, over a stop table and a list of controls.
-use Rattle.smp_stop_steps.specs.Carries.{CarriesIn}
-use Rattle.smp_stop_steps.proofs.Steps.CallSteps.{call_step}
-use Rattle.std.proofs.Common.{◌≡◌, ◌≢◌, ℕ, ◌+◌, ◌<◌, ◌≤◌, Bool, true, false, ◌==◌, cond, sym, subst, ap, ◌∙◌, inl, inr, arith, Option, Some, None}
-use Rattle.std.proofs.Common.{List, [], ◌∷◌, length, length-append, length-take-le, take, ◌^◌}
+use Rattle.std.proofs.Common.{◌≡◌, ◌≢◌, ℕ, ◌+◌, ◌<◌, ◌≤◌, Bool, cond, sym, subst, ap, ◌∙◌, arith, Option, Some, None, List, [], ◌∷◌, length, length-append}
+use Rattle.std.proofs.Common.{length-take-le, take, ◌^◌}
 use Rattle.std.proofs.lemmas.List.{get_or-set_same, get_or-set_other, get_or_past}
 use Rattle.std.proofs.lemmas.Bool.{cases_lt}
 use Rattle.std.specs.Prelude.{slice_set}
 use Rattle.smp_words.proofs.Puts.{at_test}
+use Rattle.smp_labels.proofs.Stores.{entries_kept}
+use Rattle.smp_labels.specs.Entries.{IsEntryWord, entry_at}
+use Rattle.smp_labels.specs.Law.{Table}
+use Rattle.smp_labels.specs.Plans.{site_change}
+use Rattle.smp_stop_steps.specs.{CarriesIn, AreI32Words, HasI32Answers, word_of, put, cpus, LabelsShow, Patches, Patching, Whole, labels_in, Rests, HoldsGate}
+use Rattle.smp_stop_steps.specs.{SitsAt, SitsInRound, changes_of, FitsAccess, FitsRound, FitsStop, StopControlValue, round_access, stop_access, Setup}
+use Rattle.smp_stop_steps.specs.{StopState, at_then, control_then, state_after, StopWords, stop_number, stop_words_after, IsStopTable, StopsShow}
+use Rattle.smp_stop_steps.specs.{stop_control_of, RoundStage, Advance, Begin, Close, Complete, Enter, EnterActive, EnterKind, EnterMask, LoadDone, LoadResult}
+use Rattle.smp_stop_steps.specs.{OpenGate, TakeGate, NudgeKey, ExchangeKey, StopStage, Visit, Work, Entry, Gate, Word, is_on, site_changes, MOST_SITES}
+use Rattle.smp_stop_steps.proofs.Steps.CallSteps.{call_step}
 use Rattle.smp_stop_steps.proofs.Steps.CompletionSteps.{stop_step_shown}
 use Rattle.smp_stop_steps.proofs.Steps.Facts.{work_words}
 use Rattle.smp_stop_steps.proofs.TheMachine.Named.{gate_stays, stage_named, work_in}
-use Rattle.smp_stop_steps.specs.AnswerWords.{AreI32Words, HasI32Answers}
 use Rattle.smp_stop_steps.proofs.Steps.AnswerWords.{keeps_answers}
 use Rattle.smp_stop_steps.proofs.Steps.StateWords.{ArePhases, phases_after}
 use Rattle.smp_stop_steps.proofs.TheMachine.Tables.{IsStopWord, stop_words_by_name, table_after}
-use Rattle.smp_words.specs.Access.{word_of}
-use Rattle.smp_words.specs.Put.{put}
-use Rattle.smp_words.specs.Size.{cpus}
-use Rattle.smp_stop_steps.specs.Labels.{Change, LabelsShow, Patches, Patching, Whole, labels_in}
-use Rattle.smp_stop_steps.specs.Seats.{Rests}
-use Rattle.smp_stop_steps.specs.Shows.{StopShows}
-use Rattle.smp_stop_steps.specs.Sits.{HoldsGate, Sits, SitsAt, SitsInRound, changes_of}
-use Rattle.smp_stop_steps.specs.Sources.{Shut}
-use Rattle.smp_stop_steps.specs.Stages.{FitsAccess, FitsRound, FitsStop, StopControlValue, round_access, stop_access, stop_outside}
-use Rattle.smp_stop_steps.specs.State.{Setup, StopState}
-use Rattle.smp_stop_steps.specs.Steps.{at_then, control_then, state_after}
-use Rattle.smp_stop_steps.specs.Table.{StopWords, stop_number, stop_words_after}
-use Rattle.smp_stop_steps.specs.Value.{IsStopTable, StopsShow, stop_control_of}
-use Rattle.smp_stop_steps.specs.declared.stage.CompletionStage.TheVariants as completion
-use Rattle.smp_stop_steps.specs.declared.stage.RoundStage.TheVariants as round
-use Rattle.smp_stop_steps.specs.declared.stage.RoundStage.{RoundStage}
-use Rattle.smp_stop_steps.specs.declared.stage.StopStage.TheVariants.{Advance, Begin, Close, Complete, Enter, EnterActive, EnterKind, EnterMask}
-use Rattle.smp_stop_steps.specs.declared.stage.StopStage.TheVariants.{LoadDone, LoadResult, OpenGate, ReadKey, ReadSite, TakeGate, NudgeKey}
-use Rattle.smp_stop_steps.specs.declared.stage.StopStage.TheVariants.{ExchangeKey}
-use Rattle.smp_stop_steps.specs.declared.stage.StopStage.{StopStage}
-use Rattle.smp_stop_steps.specs.declared.stage.Visit.{Visit}
-use Rattle.smp_words.specs.declared.work.Work.{Work}
-use Rattle.smp_words.specs.declared.word.Word.TheVariants.{Entry, Gate}
-use Rattle.smp_words.specs.declared.word.Word.{Word}
-use Rattle.smp_labels.proofs.Stores.{entries_kept}
-use Rattle.smp_labels.specs.Entries.{IsEntryWord, entry_at}
-use Rattle.smp_labels.specs.Keys.{is_on}
-use Rattle.smp_labels.specs.Kinds.{kind_of}
-use Rattle.smp_labels.specs.Kinds.{kind_word as kind_word_site}
-use Rattle.smp_labels.specs.Law.{Table}
-use Rattle.smp_labels.specs.Plans.{site_change, site_changes}
-use Rattle.smp_labels.specs.declared.entries.Entry.{Entry as SiteEntry}
-use Rattle.smp_labels.specs.declared.patch.Place.TheVariants as place
-use Rattle.smp_labels.specs.declared.words.TheConstants.{MOST_SITES}
+use Rattle.smp_stop_steps.specs.Sits.{Sits}
+use Rattle.smp_stop_steps.specs.declared.stage.StopStage.TheVariants.{ReadKey, ReadSite}
+use Rattle.smp_stop_steps.specs.completion
+use Rattle.smp_stop_steps.specs.round
 
 -- the controls by CPU, with one of them set
 pub stop_controls_by_cpu : (controls : List StopControlValue) (me cpu : ℕ) (x : StopControlValue) → me < length controls →
     stop_control_of (slice_set controls me x) cpu ≡ put (stop_control_of controls) me x cpu
-stop_controls_by_cpu controls me cpu x low = at_test cpu me (λ b. stop_control_of (slice_set controls me x) cpu ≡ cond b x (stop_control_of controls cpu))
-    (λ e. subst (λ j. stop_control_of (slice_set controls me x) j ≡ x) (sym e) (get_or-set_same controls me x stop_outside low))
-    (λ ne. get_or-set_other controls me cpu x stop_outside ne)
+stop_controls_by_cpu controls me cpu x low = search (at_test, get_or-set_same, get_or-set_other, arith)
 
 -- a CPU inside a command of the stop half is one that there can be
 pub stop_inside_below : (controls : List StopControlValue) (me : ℕ) (stage : StopStage) → (stop_control_of controls me).stage ≡ Some stage →
     me < length controls
-stop_inside_below controls me stage e = elim (cases_lt me (length controls)) [
-  | inl low ↦ low
-  | inr past ↦ absurd (let none : (stop_control_of controls me).stage ≡ None = ap (λ (c : StopControlValue). c.stage) (get_or_past controls me stop_outside
-      past) in let bad : Some stage ≡ None = sym e ∙ none in cc)
-]
+stop_inside_below controls me stage e = search (cases_lt, get_or_past, arith)
 
 -- the entry words of a label table have their form
 record HasEntries (t : Table) : Type 0 where
@@ -71,15 +42,7 @@ record HasEntries (t : Table) : Type 0 where
 
 -- no entry changes more than one site
 change_long : (key : ℕ) (on : Bool) (i : ℕ) (x : ℕ) → length (site_change key on i (entry_at x)) ≤ 1
-change_long key on i x = go (entry_at x)
-  where
-    go : (e : Option SiteEntry) → length (site_change key on i e) ≤ 1
-    go None = omega arith
-    go (Some e) = either (e.key == key) (place.Site i, kind_word_site (kind_of on e.branch))
-      where
-        either : (b : Bool) (change : Change) → length (cond b (change ∷ []) []) ≤ 1
-        either true change = omega arith
-        either false change = omega arith
+change_long key on i x = search arith
 
 changes_long : (key : ℕ) (on : Bool) (i : ℕ) (xs : List ℕ) → length (site_changes key on i xs) ≤ length xs
 changes_long key on i [] = omega arith
@@ -114,8 +77,7 @@ module _ (u : Setup) (few : u.cpus ≡ cpus) (p : StopState) (t : StopWords) (co
       record {
         seat = put v.seat me one.seat_after;
         source = put v.source me one.source_after;
-        shows = subst (λ (x : Word → ℕ). StopShows u (state_after u p at c me stage) x (put v.seat me one.seat_after) (put v.source me one.source_after))
-            (sym names) one.shows;
+        shows = search arith;
         sits = λ cpu low. subst (λ (x : Word → ℕ). Sits u cpu (x Gate) (stop_control_of (slice_set controls me (control_then u at c me stage)) cpu)
             (put v.seat me one.seat_after cpu) (put v.source me one.source_after cpu)) (sym names)
             (subst (λ k. Sits u cpu (at_then u at c me stage Gate) k (put v.seat me one.seat_after cpu) (put v.source me one.source_after cpu))
@@ -130,39 +92,15 @@ module _ (u : Setup) (few : u.cpus ≡ cpus) (p : StopState) (t : StopWords) (co
             cpu))
             (λ same. subst (λ k. CarriesIn (control_then u at c me stage) ((state_after u p at c me stage).calling k)) (sym same) calls.mine)
             (λ ne. subst (CarriesIn (stop_control_of controls cpu)) (sym (calls.others cpu ne)) (v.carries cpu low)));
-        shut = λ cpu high. at_test cpu me (λ b. cond b one.source_after (v.source cpu) ≡ Shut) (λ same. absurd (let b = below in omega arith))
-            (λ _. v.shut cpu high);
+        shut = search (at_test, v.source, below, v.shut, arith);
       }
     where
       held : (cpu : ℕ) → cpu ≢ me → (st : Option StopStage) → HoldsGate cpu (at Gate) st → HoldsGate cpu (at_then u at c me stage Gate) st
-      held cpu ne None h = tt
-      held cpu ne (Some OpenGate) h = gate_stays u p at v.seat v.source v.shows few v.shut me c (v.sits me below) stage e cpu ne h
-      held cpu ne (Some TakeGate) h = tt
-      held cpu ne (Some (Begin work f)) h = tt
-      held cpu ne (Some (Enter slot)) h = tt
-      held cpu ne (Some (EnterKind slot)) h = tt
-      held cpu ne (Some (EnterMask slot kind)) h = tt
-      held cpu ne (Some (EnterActive slot kind mask)) h = tt
-      held cpu ne (Some (Advance w st)) h = tt
-      held cpu ne (Some (Complete w st)) h = tt
-      held cpu ne (Some (Close slot)) h = tt
-      held cpu ne (Some LoadDone) h = tt
-      held cpu ne (Some LoadResult) h = tt
-      held cpu ne (Some (ReadKey k)) h = tt
-      held cpu ne (Some (ReadSite i)) h = tt
-      held cpu ne (Some (NudgeKey k up)) h = tt
-      held cpu ne (Some (ExchangeKey k expected new)) h = tt
+      held cpu ne st h = search (gate_stays, v.seat, v.source, v.shows, v.shut, v.sits, below, arith)
 
       others : (cpu : ℕ) → cpu ≢ me → Sits u cpu (at Gate) (stop_control_of controls cpu) (v.seat cpu) (v.source cpu) →
           Sits u cpu (at_then u at c me stage Gate) (stop_control_of controls cpu) (v.seat cpu) (v.source cpu)
-      others cpu ne s = record {
-        below = s.below;
-        irq = s.irq;
-        seat = s.seat;
-        source = s.source;
-        gate_held =
-            held cpu ne (stop_control_of controls cpu).stage s.gate_held;
-      }
+      others cpu ne s = search (held, arith)
 
   -- the table stays one
   pub stop_table_shown : IsStopTable (stop_words_after t (stop_access u.cpus me c.changes stage))
@@ -242,31 +180,4 @@ module _ (u : Setup) (few : u.cpus ≡ cpus) (p : StopState) (t : StopWords) (co
 
   -- the store of a patch that is made next is one of its changes
   pub stop_access_fits : FitsAccess c stage
-  stop_access_fits = go stage e
-    where
-      go : (st : StopStage) → c.stage ≡ Some st → FitsAccess c st
-      go TakeGate e = tt
-      go OpenGate e = tt
-      go (Begin work f) e = tt
-      go (Enter slot) e = tt
-      go (EnterKind slot) e = tt
-      go (EnterMask slot kind) e = tt
-      go (EnterActive slot kind mask) e = tt
-      go (Advance w (round.StoreChange made)) e = let x : SitsAt u me c (Some (Advance w (round.StoreChange made))) (v.seat me) =
-          subst (λ (y : Option StopStage). SitsAt u me c y (v.seat me)) e (v.sits me below).seat in x.1.4
-      go (Advance w (round.Look answer)) e = tt
-      go (Advance w (round.LoadFunc answer)) e = tt
-      go (Advance w (round.LoadArg answer func)) e = tt
-      go (Advance w (round.LoadKey key change)) e = tt
-      go (Advance w (round.LoadEntry key word site)) e = tt
-      go (Advance w (round.Acknowledge answer ran)) e = tt
-      go (Advance w (round.Refill ran)) e = tt
-      go (Advance w (round.Raise ran)) e = tt
-      go (Complete w st) e = tt
-      go (Close slot) e = tt
-      go LoadDone e = tt
-      go LoadResult e = tt
-      go (ReadKey k) e = tt
-      go (ReadSite i) e = tt
-      go (NudgeKey k up) e = tt
-      go (ExchangeKey k expected new) e = tt
+  stop_access_fits = search (v.seat, v.sits, below, arith)

@@ -1,11 +1,7 @@
 -- What a kept stop half takes.
-use Rattle.std.proofs.Common.{◌≡◌, Bool, true, false, List, [], ◌∷◌, Option, Some, None, ap, ◌∙◌, refl}
+use Rattle.std.proofs.Common.{◌≡◌, Bool, true, List, Option, ap, arith}
 use Rattle.smp_sparse.specs.Count.{Tells}
-use Rattle.smp_stop_steps.specs.Labels.{Change}
-use Rattle.smp_stop_steps.specs.Stages.{StopControlValue, stop_outside}
-use Rattle.smp_stop_steps.specs.Weights.{is_stop_outside}
-use Rattle.smp_stop_steps.specs.declared.stage.StopStage.{StopStage}
-use Rattle.smp_stop_steps.specs.declared.stage.Visit.{Visit}
+use Rattle.smp_stop_steps.specs.{Change, StopControlValue, stop_outside, is_stop_outside, StopStage, Visit}
 
 abbrev control_with : Option StopStage → Option Visit → List Change → Bool → Bool → StopControlValue
 control_with stage visit changes interrupts is_open =
@@ -13,12 +9,7 @@ control_with stage visit changes interrupts is_open =
 
 outside_if : (stage : Option StopStage) (visit : Option Visit) (changes : List Change) (interrupts is_open : Bool) →
     is_stop_outside (control_with stage visit changes interrupts is_open) ≡ true → control_with stage visit changes interrupts is_open ≡ stop_outside
-outside_if (Some s) visit changes interrupts is_open is = absurd cc
-outside_if None (Some v) changes interrupts is_open is = absurd cc
-outside_if None None (c ∷ rest) interrupts is_open is = absurd cc
-outside_if None None [] false is_open is = absurd cc
-outside_if None None [] true true is = absurd cc
-outside_if None None [] true false is = refl
+outside_if stage visit changes interrupts is_open is = search arith
 
 -- the test holds of a CPU in no stop, outside a command, and of no other
 pub stop_outside_tells : Tells stop_outside is_stop_outside

@@ -1,5 +1,5 @@
+use Rattle.smp_stop_steps.specs.{Slot}
 use Rattle.smp_stop_steps.proofs.State.Raises.{phase_law}
-use Rattle.smp_words.specs.declared.word.Word.TheVariants.{Slot}
 use Rattle.smp_stop_steps.proofs.laws.phase_law.Goals as goal
 
 pub returns : goal.returns

@@ -2,10 +2,8 @@ use Rattle.std.proofs.Common.{◌≡◌, ℕ, Bool, true, false, nat_lt, cond, S
 use Rattle.smp_words.specs.Layout.{number_if}
 use Rattle.smp_words.specs.StopLayout.{stop_index_of}
 use Rattle.smp_words.specs.declared.size.TheConstants.{NR_CPUS, MOST_KEYS, MOST_SITES}
-use Rattle.smp_words.specs.declared.word.Word.{Word}
+use Rattle.smp_stop_steps.specs.{Word, is_there, StopWords, stop_number_of}
 use Rattle.smp_words.specs.declared.word.Word.TheVariants as word
-use Rattle.smp_stop_steps.specs.Numbers.{is_there}
-use Rattle.smp_stop_steps.specs.Table.{StopWords, stop_number_of}
 use Rattle.smp_stop_steps.proofs.laws.words_have_numbers.Goals as goal
 
 -- two numbers that are there where the same holds

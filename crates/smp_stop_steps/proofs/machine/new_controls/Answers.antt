@@ -1,5 +1,5 @@
 use Rattle.std.proofs.Common.{◌≡◌, arith}
-use Rattle.smp_words.specs.Size.{cpus}
+use Rattle.smp_stop_steps.specs.{cpus}
 use Rattle.smp_stop_steps.proofs.machine.new_controls.Goals as goal
 
 pub returns : goal.returns

@@ -1,5 +1,5 @@
 use Rattle.std.proofs.Common.{◌≡◌, replicate}
-use Rattle.smp_stop_steps.specs.Stages.{stop_outside}
+use Rattle.smp_stop_steps.specs.{stop_outside}
 use Rattle.smp_stop_steps.proofs.machine.new_controls.Given as goal
 
 abbrev pub invariant-loop-cpu : goal.invariant-loop-cpu

@@ -1,5 +1,5 @@
 use Rattle.std.proofs.Common.{sym}
-use Rattle.smp_words.specs.Size.{cpus}
+use Rattle.smp_stop_steps.specs.{cpus}
 use Rattle.smp_stop_steps.proofs.Basics.Weights.{first_at, first_past}
 use Rattle.smp_stop_steps.proofs.mask.first_of.Goals as goal
 

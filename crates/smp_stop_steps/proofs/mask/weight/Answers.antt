@@ -1,5 +1,5 @@
 use Rattle.std.proofs.Common.{◌∙◌, sym}
-use Rattle.smp_words.specs.Size.{cpus}
+use Rattle.smp_stop_steps.specs.{cpus}
 use Rattle.smp_stop_steps.proofs.Basics.Weights.{weight_ones}
 use Rattle.smp_stop_steps.proofs.mask.weight.Goals as goal
 

@@ -1,6 +1,5 @@
 use Rattle.std.proofs.Common.{◌∙◌, ap, List}
-use Rattle.smp_stop_steps.specs.Labels.{Change}
-use Rattle.smp_stop_steps.specs.Stages.{StopControlValue, change_at}
+use Rattle.smp_stop_steps.specs.{Change, StopControlValue, change_at}
 use Rattle.smp_stop_steps.proofs.Basics.Changes.{read_change}
 use Rattle.smp_stop_steps.proofs.control.StopControl.change.Goals as goal
 

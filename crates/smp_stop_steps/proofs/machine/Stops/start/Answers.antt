@@ -1,11 +1,7 @@
 use Rattle.std.proofs.Common.{◌≡◌, List, Some, length, sym, subst, ◌∙◌, ap, arith, rules}
 use Rattle.std.proofs.lemmas.List.{get_or_read}
-use Rattle.smp_words.specs.Size.{cpus}
-use Rattle.smp_stop_steps.specs.Stages.{StopControlValue, stop_outside}
-use Rattle.smp_stop_steps.specs.Starts.{stop_first}
-use Rattle.smp_stop_steps.specs.Value.{StopsValue, stop_control_of}
 use Rattle.smp_words.specs.Commands.{FitsCommand}
-use Rattle.smp_stop_steps.specs.AnswerWords.{StageFits}
+use Rattle.smp_stop_steps.specs.{cpus, StopControlValue, stop_outside, stop_first, StopsValue, stop_control_of, StageFits}
 use Rattle.smp_stop_steps.proofs.TheMachine.Answered.{first_fits}
 use Rattle.smp_stop_steps.proofs.TheMachine.Starting.{may_begin}
 use Rattle.smp_stop_steps.proofs.machine.Stops.start.Goals as goal

@@ -1,4 +1,4 @@
-use Rattle.smp_stop_steps.specs.Value.{StopsValue}
+use Rattle.smp_stop_steps.specs.{StopsValue}
 use Rattle.smp_stop_steps.proofs.TheMachine.StepLaws.{steps_keep_laws}
 use Rattle.smp_stop_steps.proofs.machine.Stops.steps_keep_laws.Goals as goal
 
