@@ -2,6 +2,7 @@ mod calls;
 mod counts;
 mod line;
 mod memory;
+mod numbers;
 mod patches;
 mod stops;
 

@@ -26,7 +26,7 @@ before g c =
     }
 
 allowed : (g : given.Over) (c : goal.After-start-arg-1 g) → refusal_of (before g c) c.args.cpu c.args.command ≡ None
-allowed g c = rw (← c.self.view_is) at (sym c.refusal.ensures ∙ c.in_default.is)
+allowed g c = rw (← c.self.view_is) at (sym c.refusal.ensures.exact ∙ c.in_default.is)
 
 -- the same where the first stage is asked for
 abbrev first : (g : given.Over) (c : goal.After-first_stage-arg-1 g) → CoreValue
@@ -40,7 +40,7 @@ first g c =
     }
 
 asked : (g : given.Over) (c : goal.After-first_stage-arg-1 g) → refusal_of (first g c) c.args.cpu c.args.command ≡ None
-asked g c = rw (← c.self.view_is) at (sym c.refusal.ensures ∙ c.in_default.is)
+asked g c = rw (← c.self.view_is) at (sym c.refusal.ensures.exact ∙ c.in_default.is)
 
 pub first_stage-stage-requires-clause-record : goal.first_stage-stage-requires-clause-record
 first_stage-stage-requires-clause-record g c =
