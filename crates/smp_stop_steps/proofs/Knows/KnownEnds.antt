@@ -51,17 +51,30 @@ module _ (p : StopState) (at : Word → ℕ) (seat : ℕ → Seat) (source : ℕ
       let called : f ≢ Idle = λ none. runs (sym sees.part_is.calling ∙ ap told_calling none) in
       let mine : p0.calling v.number ≡ g = put_same p.calling v.number g in
       let calls : IsCalling v.number (Gives s w a x) (p0.calling v.number) = subst (IsCalling v.number (Gives s w a x)) (sym mine)
-      (calling_given v.number s w a l x g some through (sym (answers x f called)) (subst (λ y. IsCalling v.number y g) here
-      (subst (IsCalling v.number (seat v.number)) mine (h0.callings v.number)))) in
+      (search (calling_given, answers, h0.callings, arith)) in
       let known : slot_stored field.Result x v ≡ record v { seat = Gives s w a x } =
       ap (λ b. cond b (drafted_known field.Result x v) (member_stored field.Result x v)) idle ∙ ap (λ y. record v { seat = given_by x y }) is in
       let k = sees.part_is in
       let shown' = goes_seat p seat source v sees (stored_open p0 v.number s field.Result x) at' (Gives s w a x) v.part (subst (λ q. StopShows u q at' (put
-          seat v.number (Gives s w a x)) source) (ap (λ b. cond b (stored_open p0 v.number s field.Result x) (stored_shut p0 s field.Result x)) (open_at p at
-          seat source v h sees s w a l Rests is)) (result_stored u p0 at seat source h0 s v.number w a l here through x 0 some calls)) record { mine = record
-          { holds = k.holds; begun = k.begun; collected = k.collected; answers = k.answers; looks = k.looks; calling = ap told_calling mine ∙ (told_same x f ∙
-          k.calling); readings = k.readings; nudged = k.nudged; patched = k.patched; }; others = λ c ne. ap (λ y. record (columns_of p c) { calling =
-          told_calling y }) (put_other p.calling v.number g c ne); } in
+      seat v.number (Gives s w a x)) source) (ap (λ b. cond b (stored_open p0 v.number s field.Result x) (stored_shut p0 s field.Result x)) (open_at p at
+      seat source v h sees s w a l Rests is)) (result_stored u p0 at seat source h0 s v.number w a l here through x 0 some calls)) record {
+        mine = record {
+          holds = k.holds;
+          begun = k.begun;
+          collected = k.collected;
+          answers = k.answers;
+          looks = k.looks;
+          calling = ap told_calling mine ∙ (told_same x f ∙
+              k.calling);
+          readings = k.readings;
+          nudged = k.nudged;
+          patched = k.patched;
+        };
+        others = λ c ne. ap (λ y. record (columns_of p c) {
+          calling =
+              told_calling y;
+        }) (put_other p.calling v.number g c ne);
+      } in
       search (known, shown', arith)
 
   completed_leaves : (s : ℕ) (w : Work) (a x found : ℕ) → s < cpus → Leaves v.number p (completes_with p v.number s a x found) (completed_with found s w x
@@ -93,7 +106,7 @@ module _ (p : StopState) (at : Word → ℕ) (seat : ℕ → Seat) (source : ℕ
       let bounds = todo_bounds u p at seat source h s v.number w a l Rests here in
       let at' = put_word at (Slot s field.Todo) (found - 1) in
       let shown' = counted_goes s w a 0 low (subst (λ (x : Standing). StopShows u (completes p v.number s x found) at' (put seat v.number (cond (found == 1)
-          (Closes s) Free)) source) st.1 (todo_subtracted u p at seat source h s v.number w a l 0 here through)) in
+      (Closes s) Free)) source) st.1 (todo_subtracted u p at seat source h s v.number w a l 0 here through)) in
       search (less_one found bounds.0 (small found bounds.1), is, shown', arith)
 
   pub count_given : (s : ℕ) (w : Work) (a x : ℕ) → v.seat ≡ Gives s w a x → s < cpus →
@@ -106,7 +119,7 @@ module _ (p : StopState) (at : Word → ℕ) (seat : ℕ → Seat) (source : ℕ
       let bounds = todo_bounds_answered u p at seat source h s v.number w a x here in
       let at' = put_word at (Slot s field.Todo) (found - 1) in
       let shown' = counted_goes s w a x low (subst (λ (y : Standing). StopShows u (completes p v.number s y found) at' (put seat v.number (cond (found == 1)
-          (Closes s) Free)) source) st.1 (todo_subtracted_answered u p at seat source h s v.number w a x 0 here)) in
+      (Closes s) Free)) source) st.1 (todo_subtracted_answered u p at seat source h s v.number w a x 0 here)) in
       search (less_one found bounds.0 (small found bounds.1), is, shown', arith)
 
   pub close : (s : ℕ) → v.seat ≡ Closes s → is_drafting v.source ≡ false → Goes (put_word at (Slot s field.Done) 1) (slot_stored field.Done 1 v)
@@ -117,5 +130,5 @@ module _ (p : StopState) (at : Word → ℕ) (seat : ℕ → Seat) (source : ℕ
       ap (λ b. cond b (stored_open p v.number s field.Done 1) (stored_shut p s field.Done 1)) st.1 in
       let known : slot_stored field.Done 1 v ≡ record v { seat = Free } = ap (λ b. cond b (drafted_known field.Done 1 v) (member_stored field.Done 1 v)) idle in
       let shown' = goes_seat p seat source v sees (stored_open p v.number s field.Done 1) at' Free v.part (subst (λ q. StopShows u q at' (put seat v.number
-          Free) source) plain (done_stored u p at seat source h s v.number 0 (sees.seat_is ∙ is))) record { mine = sees.part_is; others = λ c ne. refl } in
+      Free) source) plain (done_stored u p at seat source h s v.number 0 (sees.seat_is ∙ is))) record { mine = sees.part_is; others = λ c ne. refl } in
       search (known, shown', arith)

@@ -58,10 +58,7 @@ module _ (p : StopState) (at : Word → ℕ) (seat : ℕ → Seat) (source : ℕ
       let calm = not_at_run s w a l t on in
       let patch = record (p.now) { patching = patch_begun u v.number (p.now.stop s).work found } in
       let plain = reads p.now v.number (ReadKey k (is_on found)) in (
-        ap (λ i. key_loaded u p.now v.number k found i) st.0
-            ∙ (ap (λ y. cond (is_at_run y && is_patch (p.now.stop s).work.kind) patch plain) st.1 ∙ ap (λ b. cond (b && is_patch (p.now.stop s).work.kind)
-            patch plain) calm),
-        ap (λ b. cond (b && is_patch w.kind) (record v { seat = Alters s w found [] (plan_at u w found) }) (reads_more (ReadKey k (is_on found)) v)) calm,
+      search arith
       )
   key_plain k found (Gives s w a x) e on =
       let st = stands p at seat source v h sees (Gives s w a x) e in
@@ -99,11 +96,24 @@ module _ (p : StopState) (at : Word → ℕ) (seat : ℕ → Seat) (source : ℕ
           let was : at (Key k) ≡ found = eqb-true (at (Key k)) found e in
           let parts = sees.part_is in
           let shown' = goes_still p seat source v sees (record p { nudged = moved_by p.nudged v.number k found new }) (put_word at (Key k) new) (record
-              (v.part) { nudged = counted v.part.nudged k found new }) (key_exchanged u p at seat source h v.number k found new sees.below online (irq_on on)
-              was is 0) record { mine = record { holds = parts.holds; begun = parts.begun; collected = parts.collected; answers = parts.answers; looks =
-              parts.looks; calling = parts.calling; readings = parts.readings; nudged = counted_first p.nudged v.number k found new v.part.nudged parts.nudged
-              low; patched = parts.patched; }; others = λ c ne. ap (λ x. record (columns_of p c) { nudged = x }) (put_other p.nudged v.number (put (p.nudged
-              v.number) k (moves (p.nudged v.number k) found new)) c ne); } in
+          (v.part) { nudged = counted v.part.nudged k found new }) (key_exchanged u p at seat source h v.number k found new sees.below online (irq_on on)
+          was is 0) record {
+            mine = record {
+              holds = parts.holds;
+              begun = parts.begun;
+              collected = parts.collected;
+              answers = parts.answers;
+              looks =
+                  parts.looks;
+              calling = parts.calling;
+              readings = parts.readings;
+              nudged = counted_first p.nudged v.number k found new v.part.nudged parts.nudged
+                  low;
+              patched = parts.patched;
+            };
+            others = λ c ne. ap (λ x. record (columns_of p c) { nudged = x }) (put_other p.nudged v.number (put (p.nudged
+                v.number) k (moves (p.nudged v.number k) found new)) c ne);
+          } in
           search (was, shown', arith)
 
   -- patches
@@ -119,13 +129,14 @@ module _ (p : StopState) (at : Word → ℕ) (seat : ℕ → Seat) (source : ℕ
       let reading = reads p.now v.number r in
       let plain : key_loaded u p.now v.number w.func found (p.now.inside v.number) ≡ patch =
       ap (λ i. key_loaded u p.now v.number w.func found i) st.0
-      ∙ (ap (λ y. cond (is_at_run y && is_patch (p.now.stop s).work.kind) patch reading) st.1 ∙ ap (λ k. cond (is_patch k) patch reading)
-      (ap (λ (z : Work). z.kind) st.3 ∙ kind)) in
+      ∙ (search arith) in
       let known : key_loaded_by w.func found v.seat v ≡ record v { seat = next } =
       ap (λ x. key_loaded_by w.func found x v) is ∙ ap (λ k. cond (is_patch k) (record v { seat = next }) (reads_more r v)) kind in
       let shown' = goes_seat p seat source v sees (record p { now = patch }) at next v.part (subst (λ n. StopShows u (record p { now = n }) at (put seat
-          v.number next) source) plain (key_loaded_first u p at seat source h v.number s w 0 (sees.seat_is ∙ is) kind active)) record { mine = sees.part_is;
-          others = λ c ne. refl } in
+      v.number next) source) plain (key_loaded_first u p at seat source h v.number s w 0 (sees.seat_is ∙ is) kind active)) record {
+        mine = sees.part_is;
+        others = λ c ne. refl;
+      } in
       search (known, shown', arith)
 
   -- the counts that this CPU has moved as a runner of patches
@@ -154,12 +165,12 @@ module _ (p : StopState) (at : Word → ℕ) (seat : ℕ → Seat) (source : ℕ
       let plain : told u p v.number act.Store (Key k) None (Some n) 0 ≡ p' =
       ap (λ y. record p { now = record (p.now) { patching = patched_more y }; patched = key_patched y p.patched v.number k n }) st.5 in
       let shown' = goes_seat p seat source v sees p' at' next (record (v.part) { patched = counted v.part.patched k count n }) (subst (λ q. StopShows u q at'
-          (put seat v.number next) source) plain (key_stored u p at seat source h v.number s w count made rest k n 0 sees.below (sees.seat_is ∙ is) first.0
-          first.1)) (patched_leaves k count n p'.now (subst (λ i. i < MOST_KEYS) (sym first.1) low) (λ c. refl)) in
+      (put seat v.number next) source) plain (key_stored u p at seat source h v.number s w count made rest k n 0 sees.below (sees.seat_is ∙ is) first.0
+      first.1)) (patched_leaves k count n p'.now (subst (λ i. i < MOST_KEYS) (sym first.1) low) (λ c. refl)) in
       search (is, shown', arith)
   alter s w count made rest (place.Site i) n is plan low =
       let next = Alters s w count (made ++ (place.Site i, n) ∷ []) rest in
       let p' = told u p v.number act.Store (Site i) None (Some n) 0 in
       let shown' = goes_seat p seat source v sees p' (put_word at (Site i) n) next v.part (site_stored u p at seat source h v.number s w count made rest i n 0
-          (sees.seat_is ∙ is)) record { mine = sees.part_is; others = λ c ne. refl } in
+      (sees.seat_is ∙ is)) record { mine = sees.part_is; others = λ c ne. refl } in
       search (is, shown', arith)

@@ -94,8 +94,11 @@ module _ (p : StopState) (at : Word → ℕ) (seat : ℕ → Seat) (source : ℕ
       let seen = p.looks v.number ++ found ∷ [] in
       let k = sees.part_is in
       let shown' = goes_seat p seat source v sees (told u p v.number act.Load (Slot s field.State) (Some found) None 0) at (In s w a found Rests) (record
-          (v.part) { looks = v.part.looks ++ found ∷ [] }) (state_loaded u p at seat source h s v.number w a l 0 (sees.seat_is ∙ is) more) record { mine =
-          search (put_same, arith); others = λ c ne. ap (λ x. record (columns_of p c) { looks = x }) (put_other p.looks v.number seen c ne); } in
+      (v.part) { looks = v.part.looks ++ found ∷ [] }) (state_loaded u p at seat source h s v.number w a l 0 (sees.seat_is ∙ is) more) record {
+        mine =
+            search (put_same, arith);
+        others = λ c ne. ap (λ x. record (columns_of p c) { looks = x }) (put_other p.looks v.number seen c ne);
+      } in
       search (is, shown', arith)
 
   -- the readings of who leaves, or not
@@ -148,11 +151,11 @@ module _ (p : StopState) (at : Word → ℕ) (seat : ℕ → Seat) (source : ℕ
       let part = ran_since (a + 1 == 3) (read_since leaves_it s w v) in
       let alone = carried_alone u.first p.now.patching seat v.number (p.calling v.number) (subst IsNoPatch (sym here) tt) h.present.runner in
       let shown' = goes_seat p seat source v sees p' at' next part (subst (λ (x : Standing). StopShows u (acknowledges p v.number s x found) at' (put seat
-          v.number next) source) st.1 (ack_subtracted u p at seat source h s v.number w a 0 here (λ two. has_called w (p.calling v.number) (subst (HasCalled
-          v.number w) (sym sees.part_is.calling) (ready two))))) (acked_leaves (acknowledges_now p.now v.number s (a + 1) found) p'.calls p'.calling part
-          (left_mine leaves_it n s (p.now.stop s).work w st.3 refl) (left_other leaves_it n s (p.now.stop s).work refl) (ran_mine (a + 1 == 3) (carried
-          v.number p.now.patching (p.calling v.number)) (ap told_calling alone ∙ (told_carried (p.calling v.number) ∙ ap carried_call sees.part_is.calling)))
-          (ran_other (a + 1 == 3) (carried v.number p.now.patching (p.calling v.number))) refl) in
+      v.number next) source) st.1 (ack_subtracted u p at seat source h s v.number w a 0 here (λ two. has_called w (p.calling v.number) (subst (HasCalled
+      v.number w) (sym sees.part_is.calling) (ready two))))) (acked_leaves (acknowledges_now p.now v.number s (a + 1) found) p'.calls p'.calling part
+      (left_mine leaves_it n s (p.now.stop s).work w st.3 refl) (left_other leaves_it n s (p.now.stop s).work refl) (ran_mine (a + 1 == 3) (carried
+      v.number p.now.patching (p.calling v.number)) (ap told_calling alone ∙ (told_carried (p.calling v.number) ∙ ap carried_call sees.part_is.calling)))
+      (ran_other (a + 1 == 3) (carried v.number p.now.patching (p.calling v.number))) refl) in
       search (less_one found bounds.0 (small found bounds.1), is, shown', arith)
 
   pub acknowledge_patch : (s : ℕ) (w : Work) (count : ℕ) (made : List Change) → v.seat ≡ Alters s w count made [] →
@@ -170,10 +173,8 @@ module _ (p : StopState) (at : Word → ℕ) (seat : ℕ → Seat) (source : ℕ
       (eq-eqb v.number v.number refl) in
       let p' = acknowledges p v.number s (Inside 2 3) found in
       let shown' = goes_seat p seat source v sees p' at' next (record (v.part) { calling = Carries 0 }) (subst (λ (x : Standing). StopShows u (acknowledges p
-          v.number s x found) at' (put seat v.number next) source) st.1 (ack_subtracted_patched u p at seat source h s v.number w count made 0 here))
-          (acked_leaves (acknowledges_now p.now v.number s 3 found) p'.calls p'.calling (record (v.part) { calling = Carries 0 }) sees.part_is.readings (λ c
-          ne. refl) (ap told_calling (put_same p.calling v.number (carried v.number p.now.patching (p.calling v.number)) ∙ own)) (λ c ne. put_other p.calling
-          v.number (carried v.number p.now.patching (p.calling v.number)) c ne) refl) in
+      v.number s x found) at' (put seat v.number next) source) st.1 (ack_subtracted_patched u p at seat source h s v.number w count made 0 here))
+      (search (acked_leaves, put_same, put_other, arith)) in
       search (less_one found bounds.0 (small found bounds.1), is, shown', arith)
 
   -- with the load of the argument it calls the function, where it may
@@ -201,10 +202,7 @@ module _ (p : StopState) (at : Word → ℕ) (seat : ℕ → Seat) (source : ℕ
           search (is_may, arith) in
           goes_still p seat source v sees p' at (record (v.part) { calling = Calls call })
           (subst (λ q. StopShows u q at seat source) plain (arg_loaded u p at seat source h s v.number w a l Rests here 0 refl))
-          record {
-            mine = search (put_same, call, arith);
-            others = λ c ne. ap (λ x. record (columns_of p c) { calling = told_calling x }) (put_other p.calling v.number (Calls call) c ne);
-          }
+          (search (put_same, call, put_other, arith))
 
   pub refill : (s : ℕ) (w : Work) (a l : ℕ) → v.seat ≡ In s w a l Fills → is_drafting v.source ≡ false →
       let x = mask_weight cpus w.mask in
@@ -215,8 +213,8 @@ module _ (p : StopState) (at : Word → ℕ) (seat : ℕ → Seat) (source : ℕ
       let known : slot_stored field.Ack x v ≡ record v { seat = In s w a l Sets } =
       ap (λ b. cond b (drafted_known field.Ack x v) (member_stored field.Ack x v)) idle ∙ ap (λ y. record v { seat = refilled_by y }) is in
       let shown' = goes_seat p seat source v sees (stored_open p v.number s field.Ack x) at' (In s w a l Sets) v.part (subst (λ q. StopShows u q at' (put seat
-          v.number (In s w a l Sets)) source) (stored_plain s field.Ack x w a l Fills is) (ack_stored u p at seat source h s v.number w a l 0 (sees.seat_is ∙
-          is))) record { mine = sees.part_is; others = λ c ne. refl } in
+      v.number (In s w a l Sets)) source) (stored_plain s field.Ack x w a l Fills is) (ack_stored u p at seat source h s v.number w a l 0 (sees.seat_is ∙
+      is))) record { mine = sees.part_is; others = λ c ne. refl } in
       search (known, shown', arith)
 
   pub raise : (s : ℕ) (w : Work) (a l : ℕ) → v.seat ≡ In s w a l Sets → is_drafting v.source ≡ false →
@@ -230,7 +228,7 @@ module _ (p : StopState) (at : Word → ℕ) (seat : ℕ → Seat) (source : ℕ
       ap (λ b. cond b (drafted_known field.State x v) (member_stored field.State x v)) idle ∙ ap (λ y. raised_by x y v) is in
       let n = with_stop p.now s (raised (p.now.stop s) x) in
       let shown' = goes_seat p seat source v sees (stored_open p v.number s field.State x) at' (In s w a l Rests) part (subst (λ q. StopShows u q at' (put
-          seat v.number (In s w a l Rests)) source) (stored_plain s field.State x w a l Sets is) (state_stored u p at seat source h s v.number w a l 0
-          (sees.seat_is ∙ is))) (reads_now (raises p.now v.number s x) p.calls part.readings (left_mine (x == 5) n s (p.now.stop s).work w st.3 refl)
-          (left_other (x == 5) n s (p.now.stop s).work refl)) in
+      seat v.number (In s w a l Rests)) source) (stored_plain s field.State x w a l Sets is) (state_stored u p at seat source h s v.number w a l 0
+      (sees.seat_is ∙ is))) (reads_now (raises p.now v.number s x) p.calls part.readings (left_mine (x == 5) n s (p.now.stop s).work w st.3 refl)
+      (left_other (x == 5) n s (p.now.stop s).work refl)) in
       search (known, shown', arith)

@@ -113,8 +113,7 @@ module _ (p : StopState) (at : Word → ℕ) (seat : ℕ → Seat) (source : ℕ
           let free : p.gate ≡ None = gate_free p.gate (sym h.gate ∙ eqb-true (at Gate) 0 e) in
           goes_still p seat source v sees (record p { gate = Some v.number }) (put_word at Gate (v.number + 1)) (record (v.part) { holds = true })
           (gate_taken u p at seat source h v.number 0 (eqb-true (at Gate) 0 e))
-          (holds_alone (Some v.number) true (eq-eqb v.number v.number refl)
-          (λ c ne. ne_eqb v.number c (λ same. ne (sym same)) ∙ sym (ap (λ g. holds_it g c) free)))
+          (search (holds_alone, eq-eqb, ne_eqb, arith))
 
   pub open_gate : v.part.holds ≡ true → is_drafting v.source ≡ false → Goes (put_word at Gate 0) (record v { part = record (v.part) { holds = false } })
   open_gate holds idle =
@@ -160,8 +159,7 @@ module _ (p : StopState) (at : Word → ℕ) (seat : ℕ → Seat) (source : ℕ
       Goes (put_word at (Slot v.number field.Kind) (begun_value cpus work field.Kind)) (draft_known (begun_value cpus work field.Kind) v)
   draft work shut holds is =
       let closed : (p.now.stop v.number).is_open ≡ false = source_here Shut (is_shut (source v.number) (sees.source_is ∙ shut)) in
-      let shown' = field_goes work field.Kind record { shut = closed; holds = holder p.gate v.number (sees.part_is.holds ∙ holds); is_work = is; stored = λ f
-          l. absurd (omega arith); told = search arith; } (omega arith) in
+      let shown' = field_goes work field.Kind (search (holder, is, arith)) (omega arith) in
       search (kind_back work.kind, shown', arith)
 
   pub draft_more : (work : Work) (f : Field) → v.source ≡ Drafts (told_work (order f) work) (order f) → IsWork u work → order f ≢ 0 → order f < 10 →
@@ -188,16 +186,14 @@ module _ (p : StopState) (at : Word → ℕ) (seat : ℕ → Seat) (source : ℕ
       let begun = p.begun v.number ++ (p.now.stop v.number).work ∷ [] in
       let k = sees.part_is in
       let shown' = goes_source p seat source v sees (opens p v.number) at' (Owns work) (Owns work) (record (v.part) { begun = v.part.begun ++ work ∷ [] })
-          (subst (λ q. StopShows u q at' seat (put source v.number (Owns work))) plain (roll_stored u p at seat source h v.number work 0 is)) record { mine =
-          search (put_same, same, arith); others = λ c ne. ap (λ x. record (columns_of p c) { begun = x }) (put_other p.begun v.number begun c ne); } refl tt
-          in
+      (subst (λ q. StopShows u q at' seat (put source v.number (Owns work))) plain (roll_stored u p at seat source h v.number work 0 is)) (search (put_same, same, put_other, arith)) refl tt
+      in
       search (e, shown', arith)
 
   -- the end of its stop
 
   pub look_done : (w : Work) → v.source ≡ Owns w → Goes at (record v { source = done_by (at (Slot v.number field.Done)) v.source })
-  look_done w is = subst (λ o. Goes at (record v { source = done_by (at (Slot v.number field.Done)) o })) (sym is) (go (at (Slot v.number field.Done) == 0)
-      refl)
+  look_done w is = subst (λ o. Goes at (record v { source = done_by (at (Slot v.number field.Done)) o })) (sym is) (search (go, arith))
     where
       there : source v.number ≡ Owns w
       there = is_owns (source v.number) w (sees.source_is ∙ is)
@@ -218,7 +214,4 @@ module _ (p : StopState) (at : Word → ℕ) (seat : ℕ → Seat) (source : ℕ
       let k = sees.part_is in
       goes_source p seat source v sees (told u p v.number act.Load (Slot v.number field.Result) (Some found) None 0) at Shut Shut
       (record (v.part) { collected = v.part.collected ++ found ∷ [] }) (result_loaded u p at seat source h v.number w 0 there)
-      record {
-        mine = search (put_same, arith);
-        others = λ c ne. ap (λ x. record (columns_of p c) { collected = x }) (put_other p.collected v.number more c ne);
-      } refl tt
+      (search (put_same, put_other, arith)) refl tt

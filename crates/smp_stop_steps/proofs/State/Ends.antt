@@ -42,8 +42,7 @@ module _ (cpus : ℕ) (standing : ℕ → Standing) (me a v todo : ℕ) (small :
     standing) where
   one_less : count_unfinished cpus (put standing me (Completed a v)) + 1 ≡ todo
   one_less =
-      let s = sum_put (λ c. unfinished (standing c)) (λ c. unfinished (put standing me (Completed a v) c)) me cpus small (λ j other. ap unfinished
-      (put_other standing me (Completed a v) j other)) in
+      let s = sum_put (λ c. unfinished (standing c)) (λ c. unfinished (put standing me (Completed a v) c)) me cpus small (search (put_other, arith)) in
       let now : unfinished (put standing me (Completed a v) me) ≡ 0 = ap unfinished (put_same standing me (Completed a v)) in
       let then : unfinished (standing me) ≡ 1 = is in
       omega arith

@@ -31,13 +31,7 @@ module _ (u : Setup) (p : Present) (at : Word → ℕ) (seat : ℕ → Seat) (h 
       source_moves u p at (put_word at (Slot s Roll) work.mask) seat s (opened (p.stop s) work) h
       (slot_put u.cpus p.stop at s Roll work.mask (opened (p.stop s) work) h.slots (opens_slot u.cpus (p.stop s) w (h.slots s) work is_work.below
       is_work.some stored)) refl
-      (λ c. record {
-        on = λ i. absurd (nobody (out c) i);
-        back = λ i. absurd (calls (has work.mask c) i);
-        work = λ i. absurd (nobody (out c) i);
-        turn = λ i. absurd (nobody (out c) i);
-        ending = λ op e. absurd (apart (sym op ∙ shut));
-      })
+      (search (nobody, calls, apart, arith))
       (λ _ kind. patch_of_kind work.kind kind is_work.kind)
     where
       patch_of_kind : (k : KindOf) → k ≡ Patch → IsOfKind u work k → IsPatchWork u work
@@ -85,13 +79,7 @@ module _ (u : Setup) (p : Present) (at : Word → ℕ) (seat : ℕ → Seat) (h 
       let z = none_left (p.stop s).ending o.done in
       source_moves u p at at seat s (closed (p.stop s)) h
       (slot_same u.cpus p.stop at s (closed (p.stop s)) h.slots (collects_slot u.cpus (p.stop s) w (h.slots s) open_ found).1) refl
-      (λ c. record {
-        on = λ i. absurd (gone z c i);
-        back = λ i. absurd (apart i);
-        work = λ _. refl;
-        turn = λ _. refl;
-        ending = λ op e. absurd (running c (p.stop s).ending e o.done);
-      })
+      (search (gone, apart, running, arith))
       (λ bad kind. absurd (apart bad))
     where
       apart : false ≡ true → ⊥
@@ -110,8 +98,7 @@ module _ (u : Setup) (p : Present) (at : Word → ℕ) (seat : ℕ → Seat) (h 
       gone z c i =
           let both = inside_unfinished ((p.stop s).standing c) i in
           let one = both.1 in
-          let zero_ = sum_zero (λ c. unfinished ((p.stop s).standing c)) u.cpus z c (in_machine u.cpus (p.stop s).phase c ((p.stop s).standing c) both.0
-          ((h.slots s).keeps c)) in
+          let zero_ = sum_zero (λ c. unfinished ((p.stop s).standing c)) u.cpus z c (search (in_machine, h.slots, arith)) in
           omega arith
 
   module _ (me : ℕ) where
@@ -136,18 +123,9 @@ module _ (u : Setup) (p : Present) (at : Word → ℕ) (seat : ℕ → Seat) (h 
         let o = (h.slots s).shows (is_open_inside u.cpus (p.stop s) w (h.slots s) me Called called refl) in
         moves u p at (put_word at (Slot s Roll) n) seat s me stop' (put p.inside me (Some s)) p.irq p.readings (In s (p.stop s).work 0 0 Rests) h
         (slot_put u.cpus p.stop at s Roll n stop' h.slots (enters_slot u.cpus (p.stop s) w (h.slots s) me n found clears others)) refl
-        (λ c ne. record {
-          on = λ _. put_other (p.stop s).standing me to c ne;
-          back = λ i. subst (λ x. is_inside x ≡ true) (put_other (p.stop s).standing me to c ne) i;
-          work = λ _. refl;
-          turn = λ _. refl;
-          ending = λ op e. (op, e);
-        })
+        (search (put_other, arith))
         (save (Some s)) (
-          put_same p.inside me (Some s),
-          at_test s s (λ b. (cond b stop' (p.stop s)).standing me ≡ to) (λ _. put_same (p.stop s).standing me to) (λ ne. absurd (ne refl)),
-          at_test s s (λ b. turn_of (cond b stop' (p.stop s)).raising me ≡ Rests) (λ _. quiet called o) (λ ne. absurd (ne refl)),
-          at_test s s (λ b. (cond b stop' (p.stop s)).work ≡ (p.stop s).work) (λ _. refl) (λ _. refl),
+        search (put_same, at_test, quiet, arith)
         )
         (at_home stop' (Some s) (λ j i. absurd (let bad : None ≡ Some j = sym st ∙ h.homes j me i in cc)) (λ _. refl))
         (h.irq me ∙ ap irq_of is)
@@ -175,17 +153,10 @@ module _ (u : Setup) (p : Present) (at : Word → ℕ) (seat : ℕ → Seat) (h 
         let o = (h.slots s).shows open_ in
         moves u p at (put_word at (Slot s Todo) (found - 1)) seat s me stop' (put p.inside me None) p.irq p.readings (cond (found == 1) (Closes s) Free) h
         (slot_put u.cpus p.stop at s Todo (found - 1) stop' h.slots (completes_slot u.cpus (p.stop s) w (h.slots s) me a v is through)) refl
-        (λ c ne. record {
-          on = λ _. put_other (p.stop s).standing me (Completed a v) c ne;
-          back = λ i. subst (λ x. is_inside x ≡ true) (put_other (p.stop s).standing me (Completed a v) c ne) i;
-          work = λ _. refl;
-          turn = λ _. refl;
-          ending = search (not_last, in_machine, h.slots, arith);
-        })
+        (search (put_other, not_last, in_machine, arith))
         (save None)
         (now (found == 1) open_)
-        (at_home stop' None (λ j i. let e : Some s ≡ Some j = sym in_ ∙ h.homes j me i in let f : j ≡ s = cc in f)
-        (λ i. absurd (apart (subst (λ x. is_inside x ≡ true) (put_same (p.stop s).standing me (Completed a v)) i))))
+        (search (at_home, h.homes, apart, put_same, arith))
         (h.irq me ∙ (on ∙ sym (irq_after (found == 1))))
         (λ o i. h.read me o (h.irq me ∙ on))
         mine
@@ -214,17 +185,10 @@ module _ (u : Setup) (p : Present) (at : Word → ℕ) (seat : ℕ → Seat) (h 
         let st : Stands p me (Closes s) = subst (Stands p me) is (h.stands me) in
         moves u p at (put_word at (Slot s Done) 1) seat s me (ended (p.stop s)) p.inside p.irq p.readings Free h
         (slot_put u.cpus p.stop at s Done 1 (ended (p.stop s)) h.slots (finishes_slot u.cpus (p.stop s) w (h.slots s) me st.2)) refl
-        (λ c ne. record {
-          on = λ _. refl;
-          back = λ i. i;
-          work = λ _. refl;
-          turn = λ _. refl;
-          ending = λ op e. absurd (let same : Last me ≡ Last c = sym st.2 ∙ e in let f : me ≡ c = cc in ne (sym f));
-        })
+        (search arith)
         record { inside = λ c ne. refl; irq = λ c ne. refl; readings = λ c ne. refl }
         st.0
-        (λ j. at_test j s (λ b. is_inside ((cond b (ended (p.stop s)) (p.stop j)).standing me) ≡ true → p.inside me ≡ Some j)
-        (λ e i. h.homes j me (subst (λ k. is_inside ((p.stop k).standing me) ≡ true) (sym e) i)) (λ ne. h.homes j me))
+        (search (at_test, h.homes, arith))
         (h.irq me ∙ ap irq_of is)
         (λ on i. h.read me on (h.irq me ∙ ap irq_of is))
         (subst IsNoPatch (sym is) tt)
@@ -241,21 +205,11 @@ module _ (u : Setup) (p : Present) (at : Word → ℕ) (seat : ℕ → Seat) (h 
         let st : Stands p me (In s job a l Rests) = subst (Stands p me) is (h.stands me) in
         moves u p at (put_word at (Slot s Result) v) seat s me stop' p.inside p.irq p.readings (Gives s job a v) h
         (slot_put u.cpus p.stop at s Result v stop' h.slots (answers_slot u.cpus (p.stop s) w (h.slots s) me a l v st.1 some (through, quiet))) refl
-        (λ c ne. record {
-          on = λ _. put_other (p.stop s).standing me to c ne;
-          back = λ i. subst (λ x. is_inside x ≡ true) (put_other (p.stop s).standing me to c ne) i;
-          work = λ _. refl;
-          turn = λ _. refl;
-          ending = λ op e. (op, e);
-        })
+        (search (put_other, arith))
         record { inside = λ c ne. refl; irq = λ c ne. refl; readings = λ c ne. refl } (
-          st.0,
-          at_test s s (λ b. (cond b stop' (p.stop s)).standing me ≡ to) (λ _. put_same (p.stop s).standing me to) (λ ne. absurd (ne refl)),
-          at_test s s (λ b. turn_of (cond b stop' (p.stop s)).raising me ≡ Rests) (λ _. st.2) (λ ne. absurd (ne refl)),
-          at_test s s (λ b. (cond b stop' (p.stop s)).work ≡ job) (λ _. st.3) (λ ne. absurd (ne refl)),
+        search (at_test, put_same, arith)
         )
-        (λ j. at_test j s (λ b. is_inside ((cond b stop' (p.stop j)).standing me) ≡ true → p.inside me ≡ Some j)
-        (λ e i. st.0 ∙ ap Some (sym e)) (λ ne. h.homes j me))
+        (search (at_test, h.homes, arith))
         (h.irq me ∙ on)
         (λ o i. h.read me o (h.irq me ∙ on))
         (subst IsNoPatch (sym is) tt)

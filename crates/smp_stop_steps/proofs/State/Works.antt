@@ -17,8 +17,7 @@ module _ (cpus : ℕ) (standing : ℕ → Standing) (me p : ℕ) (to : Standing)
         (λ j _. put_all (λ j s. behind p s ≡ behind p (standing j)) standing me to same (λ j ne. refl) j)
 
     weight_kept : weight cpus (put standing me to) ≡ weight cpus standing
-    weight_kept = sum_same (λ c. one (standing c)) (λ c. one (put standing me to c)) cpus (λ j _. put_all (λ j s. one s ≡ one (standing j)) standing me to
-        (ap bit of) (λ j ne. refl) j)
+    weight_kept = sum_same (λ c. one (standing c)) (λ c. one (put standing me to c)) cpus (search (put_all, arith))
 
     pub ack_kept : (r : Raising) (ack : ℕ) → IsNot me r → AckShows cpus p standing r ack → AckShows cpus p (put standing me to) r ack
     ack_kept r ack ne h = search (behind_kept, put_other, weight_kept, arith)

@@ -279,8 +279,7 @@ module _ (u : Setup) (p : StopState) (at : Word → ℕ) (seat : ℕ → Seat) (
   call_step (Close slot) e = plain (Close slot) (store_calling p me slot 1 field.Done (p.now.stop slot).is_open) refl (at_stage (Close slot) e)
   call_step LoadDone e = search (plain, at_stage, arith)
   call_step LoadResult e = plain LoadResult refl refl (at_stage LoadResult e)
-  call_step (ReadKey k) e = plain (ReadKey k) refl (elim (is_on (at (Key k))) as (λ b. is_run (Some (cond b note.On note.Off)) ≡ false)
-      [ true ↦ refl | false ↦ refl ]) (at_stage (ReadKey k) e)
+  call_step (ReadKey k) e = plain (ReadKey k) refl (search arith) (at_stage (ReadKey k) e)
   call_step (ReadSite i) e = search (plain, at_stage, arith)
   call_step (NudgeKey k up) e = plain (NudgeKey k up) refl (silent (count_after (nudge_of up) (at (Key k)))) (nudged (count_after (nudge_of up) (at (Key k))))
     where

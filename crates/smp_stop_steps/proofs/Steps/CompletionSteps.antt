@@ -57,8 +57,7 @@ module _ (u : Setup) (p : StopState) (at : Word → ℕ) (seat : ℕ → Seat) (
   close : (slot : ℕ) → c.stage ≡ Some (Close slot) → StopStep u p at seat source c me (Close slot)
   close slot e =
       let x = at_seat s (Close slot) e in
-      let shows' = moved_seat u seat source me (state_after u p at c me (Close slot)) (at_then u at c me (Close slot)) Free (done_stored u p at seat source h
-      slot me 0 x.1) in
+      let shows' = moved_seat u seat source me (state_after u p at c me (Close slot)) (at_then u at c me (Close slot)) Free (search (done_stored, arith)) in
       search (shows', at_source, arith)
 
   module _ (v : Visit) where

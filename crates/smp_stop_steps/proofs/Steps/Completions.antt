@@ -47,11 +47,13 @@ module _ (u : Setup) (p : StopState) (at : Word → ℕ) (seat : ℕ → Seat) (
       let stays : StaysOpen (p.now.stop s) stop' = search (open_, put_all, arith) in
       let at' = put_word at (Slot s Roll) n in
       let shown' = open_step u p at seat source h s stop' inside' p.now.irq p.now.readings p.now.patching at' (put seat me (In s (p.now.stop s).work 0 0
-          Rests)) p.looks p.calls p.calling stays refl (λ k. refl) (other_slots at s Roll n) (own k.1) (step_enters u p.now at seat h.present s me n is found
-          clears others) (calling_same seat p.calling h.callings me (In s (p.now.stop s).work 0 0 Rests) (subst (IsCalling me (In s (p.now.stop s).work 0 0
-          Rests)) (sym (idle_free me (p.calling me) (subst (λ x. IsCalling me x (p.calling me)) is (h.callings me)))) (λ l. absurd (let z : ⊥ = omega (arith,
-          l) in z)))) (closing_kept p.now seat me (In s (p.now.stop s).work 0 0 Rests) h.closing (subst IsNotClosing (sym is) tt) s stop' (λ c ne. put_other
-          (p.now.stop s).standing me to c ne) refl refl) in
+      Rests)) p.looks p.calls p.calling stays refl (λ k. refl) (other_slots at s Roll n) (own k.1) (step_enters u p.now at seat h.present s me n is found
+      clears others) (calling_same seat p.calling h.callings me (In s (p.now.stop s).work 0 0 Rests) (subst (IsCalling me (In s (p.now.stop s).work 0 0
+      Rests)) (sym (idle_free me (p.calling me) (subst (λ x. IsCalling me x (p.calling me)) is (h.callings me)))) (λ l. absurd (let z : ⊥ = omega (
+        arith,
+        l,
+      ) in z)))) (closing_kept p.now seat me (In s (p.now.stop s).work 0 0 Rests) h.closing (subst IsNotClosing (sym is) tt) s stop' (λ c ne. put_other
+      (p.now.stop s).standing me to c ne) refl refl) in
       search (found, shown', arith)
     where
       low : IsLevel (p.now.stop s).phase 0 → (c : ℕ) → acked ((p.now.stop s).standing c) ≤ 1
@@ -95,11 +97,11 @@ module _ (u : Setup) (p : StopState) (at : Word → ℕ) (seat : ℕ → Seat) (
         let inside : MovesInside ((p.now.stop s).standing me) to = search arith in
         let stays : StaysOpen (p.now.stop s) stop' = search (open_, moves_given, arith) in
         let shown' = open_step u p at seat source h s stop' p.now.inside p.now.irq p.now.readings p.now.patching at' (put seat me (Gives s job a v)) p.looks
-            p.calls p.calling stays refl (λ k. refl) (other_slots at s Result v) (owns_kept u.first p.now (λ k. at (Key k)) s stop' p.now.inside p.now.irq
-            p.now.readings p.now.patching stays (moves_early u.first s me (p.now.stop s) to inside stop' refl) h.owns) (step_answers u p.now at seat h.present
-            s me job a l v is some is_done (rests_me me (p.now.stop s).raising st.2) on_now) (calling_same seat p.calling h.callings me (Gives s job a v)
-            calls) (closing_kept p.now seat me (Gives s job a v) h.closing (subst IsNotClosing (sym is) tt) s stop' (λ c ne. put_other (p.now.stop s).standing
-            me to c ne) refl refl) in
+        p.calls p.calling stays refl (λ k. refl) (other_slots at s Result v) (owns_kept u.first p.now (λ k. at (Key k)) s stop' p.now.inside p.now.irq
+        p.now.readings p.now.patching stays (moves_early u.first s me (p.now.stop s) to inside stop' refl) h.owns) (step_answers u p.now at seat h.present
+        s me job a l v is some is_done (rests_me me (p.now.stop s).raising st.2) on_now) (calling_same seat p.calling h.callings me (Gives s job a v)
+        calls) (closing_kept p.now seat me (Gives s job a v) h.closing (subst IsNotClosing (sym is) tt) s stop' (λ c ne. put_other (p.now.stop s).standing
+        me to c ne) refl refl) in
         search (open_, st.1, shown', arith)
 
   -- fetch_sub of todo, of whoever is ready to be counted
@@ -183,8 +185,7 @@ module _ (u : Setup) (p : StopState) (at : Word → ℕ) (seat : ℕ → Seat) (
       ended_not : (p.now.stop s).ending ≡ Ended → DoneShows u.cpus (p.now.stop s).standing Ended (at (Slot s Done)) → is_of ((p.now.stop s).standing me) ≡
           true → ⊥
       ended_not e d of =
-          let z = sum_zero (λ c. unfinished ((p.now.stop s).standing c)) u.cpus d.1 me (in_machine u.cpus (p.now.stop s).phase me
-          ((p.now.stop s).standing me) of ((h.present.slots s).keeps me)) in
+          let z = sum_zero (λ c. unfinished ((p.now.stop s).standing c)) u.cpus d.1 me (search (in_machine, h.present.slots, arith)) in
           let one_ = answer_unfinished (p.now.stop s).phase a v ((p.now.stop s).standing me) is in omega arith
 
       here_more : (x : List ℕ) (c : ℕ) → put p.answers me (put (p.answers me) s x) c s ≡ put (λ c. p.answers c s) me x c
@@ -201,8 +202,7 @@ module _ (u : Setup) (p : StopState) (at : Word → ℕ) (seat : ℕ → Seat) (
   todo_subtracted job a l answer is through =
       let found = at (Slot s Todo) in
       let now = st job a l is through in
-      let shown' = completes_shown job a 0 now.0 (subst (λ x. IsAnswer x a 0) (sym now.1) (refl, refl)) now.2 (is_done job a l is through) (on_now job a l is
-          through) (subst IsNoPatch (sym is) tt) (subst IsNotClosing (sym is) tt) (ap answer_now now.1) in
+      let shown' = completes_shown job a 0 now.0 (subst (λ x. IsAnswer x a 0) (sym now.1) (refl, refl)) now.2 (is_done job a l is through) (search (on_now, arith)) (subst IsNoPatch (sym is) tt) (subst IsNotClosing (sym is) tt) (ap answer_now now.1) in
       search (now.1, shown', arith)
 
   -- and by who has stored its answer
@@ -215,7 +215,7 @@ module _ (u : Setup) (p : StopState) (at : Word → ℕ) (seat : ℕ → Seat) (
       let now : Stands p.now me (Gives s job a v) = subst (Stands p.now me) is (h.present.stands me) in
       let k = keeps_inside u.cpus (p.now.stop s) w (h.present.slots s) me (Answering a v) now.1 in
       let shown' = completes_shown job a v now.0 (subst (λ x. IsAnswer x a v) (sym now.1) (refl, refl)) now.2 k.2 (ap irq_of is) (subst IsNoPatch (sym is) tt)
-          (subst IsNotClosing (sym is) tt) (ap answer_now now.1) in
+      (subst IsNotClosing (sym is) tt) (ap answer_now now.1) in
       search (now.1, shown', arith)
 
   -- store of done by the last
@@ -226,10 +226,10 @@ module _ (u : Setup) (p : StopState) (at : Word → ℕ) (seat : ℕ → Seat) (
       let stop' = ended (p.now.stop s) in
       let stays : StaysOpen (p.now.stop s) stop' = record { was = now.1; now = now.1; work = refl; end = λ _. refl; given = λ c. refl } in
       let shown' = open_step u p at seat source h s stop' p.now.inside p.now.irq p.now.readings p.now.patching (put_word at (Slot s Done) 1) (put seat me
-          Free) p.looks p.calls p.calling stays refl (λ k. refl) (other_slots at s Done 1) (owns_kept u.first p.now (λ k. at (Key k)) s stop' p.now.inside
-          p.now.irq p.now.readings p.now.patching stays record { inside = λ i. i; late = λ i. i; } h.owns) (step_finishes u p.now at seat h.present s me is)
-          (calling_same seat p.calling h.callings me Free (subst (IsCalling me Free) (sym (idle_closes me s (p.calling me) (subst (λ x. IsCalling me x
-          (p.calling me)) is (h.callings me)))) tt)) (λ j c. at_test j s (λ b. let y = cond b stop' (p.now.stop j) in y.is_open ≡ true → y.ending ≡ Last c →
-          (put seat me Free c ≡ Closes j) × HasCompleted (y.standing c)) (λ e o l. let bad : Ended ≡ Last c = l in cc) (λ ne o l. let k = h.closing j c o l in
-          (put_other seat me Free c (λ same. let two : Closes j ≡ Closes s = sym k.0 ∙ (ap seat same ∙ is) in let bad : j ≡ s = cc in ne bad) ∙ k.0, k.1))) in
+      Free) p.looks p.calls p.calling stays refl (λ k. refl) (other_slots at s Done 1) (owns_kept u.first p.now (λ k. at (Key k)) s stop' p.now.inside
+      p.now.irq p.now.readings p.now.patching stays record { inside = λ i. i; late = λ i. i } h.owns) (step_finishes u p.now at seat h.present s me is)
+      (calling_same seat p.calling h.callings me Free (subst (IsCalling me Free) (sym (idle_closes me s (p.calling me) (subst (λ x. IsCalling me x
+      (p.calling me)) is (h.callings me)))) tt)) (λ j c. at_test j s (λ b. let y = cond b stop' (p.now.stop j) in y.is_open ≡ true → y.ending ≡ Last c →
+      (put seat me Free c ≡ Closes j) × HasCompleted (y.standing c)) (λ e o l. let bad : Ended ≡ Last c = l in cc) (λ ne o l. let k = h.closing j c o l in
+      (put_other seat me Free c (λ same. let two : Closes j ≡ Closes s = sym k.0 ∙ (ap seat same ∙ is) in let bad : j ≡ s = cc in ne bad) ∙ k.0, k.1))) in
       search (now.1, shown', arith)

@@ -57,8 +57,7 @@ module _ (u : Setup) (p : StopState) (at : Word → ℕ) (seat : ℕ → Seat) (
         go true e =
             let may : may_call me job (Inside a l) ≡ true = search arith in
             let calls : IsCalling me (In s job a l Rests) (Calls called) = ((ap (λ (w : Work). w.func) st.3, work_words.arg), call_may me job a l may) in
-            let callings' = put_all (λ c x. IsCalling c (seat c) x) p.calling me (Calls called) (subst (λ x. IsCalling me x (Calls called)) (sym (is ∙ ap (In
-            s job a l) rests)) calls) (λ c ne. h.callings c) in
+            let callings' = put_all (λ c x. IsCalling c (seat c) x) p.calling me (Calls called) (search (called, arith)) (λ c ne. h.callings c) in
             search (callings', arith)
 
     -- the CPU is of the mask, and of the machine
@@ -91,8 +90,7 @@ module _ (u : Setup) (p : StopState) (at : Word → ℕ) (seat : ℕ → Seat) (
       let busy : (p.now.stop s).phase ≢ 0 = λ z. omega arith in
       let none = nobody_raises u.cpus (p.now.stop s) (at (Slot s Ack)) me a (a + 1) (p.now.stop s).raising is k.0 (λ e. omega arith) (o.ack busy) in
       let counted : at (Slot s Ack) ≡ count_behind u.cpus (p.now.stop s).phase (p.now.stop s).standing = search (o.ack, arith) in
-      let most = sum_most (λ c. behind (p.now.stop s).phase ((p.now.stop s).standing c)) u.cpus (λ c. behind_most (p.now.stop s).phase
-      ((p.now.stop s).standing c)) in (
+      let most = sum_most (λ c. behind (p.now.stop s).phase ((p.now.stop s).standing c)) u.cpus (search (behind_most, arith)) in (
         more (at (Slot s Ack)) (λ z. none_raises u.cpus (p.now.stop s).phase (p.now.stop s).standing me a (a + 1) is k.0 (λ e. omega arith)
             (sym counted ∙ z)),
         omega arith,

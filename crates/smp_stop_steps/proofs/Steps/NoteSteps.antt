@@ -170,8 +170,7 @@ module _ (u : Setup) (p : StopState) (at : Word → ℕ) (seat : ℕ → Seat) (
 
             stood : (put p.now.stop v.slot next v.slot).standing me ≡ Inside v.acked v.acked
             stood = ap (λ (x : Stop). x.standing me) (put_same p.now.stop v.slot next) ∙
-                (put_same (p.now.stop v.slot).standing me (looked_by ((p.now.stop v.slot).standing me) found) ∙
-                (ap (λ x. looked_by x found) st.1 ∙ ap (Inside v.acked) same))
+                (search (put_same, found, same, arith))
 
             quiet : (d : Bool) → (found == 2) ≡ d → heard_of (after d) ≡ heard_of p
             quiet false two = refl

@@ -79,8 +79,7 @@ module _ (u : Setup) (p : StopState) (at : Word → ℕ) (seat : ℕ → Seat) (
         let lawful = lawful_when_on u p.now at seat h.present me online on in
         let same : is_on new ≡ is_on (at (Key k)) = nudge.same ∙ ap is_on (sym was) in
         label_step p.now.readings p.now.patching (moved_by p.nudged me k found new) p.patched at' seat refl (λ j f. refl)
-        (λ j op kind in_ late. stands_kept (state_left (change_of (p.now.stop j).work.arg)) (at (Key (p.now.stop j).work.func))
-        (at' (Key (p.now.stop j).work.func)) (on_kept (p.now.stop j).work.func) (h.owns j op kind in_ late))
+        (search (stands_kept, on_kept, h.owns, arith))
         (counts_nudged u.cpus p.nudged p.patched at me k found new below was h.counts)
         record {
           slots = h.present.slots;
@@ -111,8 +110,7 @@ module _ (u : Setup) (p : StopState) (at : Word → ℕ) (seat : ℕ → Seat) (
         (patch_starts u p.now at seat h.present s me job plan is kind active
         (λ lawful. plan_leads job.func (count_set job found) u.entries (labels_in at) (left_in_form (change_of job.arg) found
         (lawful.keys job.func (omega arith))) lawful h.present.entries))
-        (calling_same seat p.calling h.callings me (Alters s job found [] plan) (subst (IsCalling me (Alters s job found [] plan))
-        (sym (idle_patch me s job 3 Rests (p.calling me) kind (subst (λ x. IsCalling me x (p.calling me)) is (h.callings me)))) tt))
+        (search (calling_same, idle_patch, h.callings, arith))
         (closing_seat p.now seat me (Alters s job found [] plan) h.closing (subst IsNotClosing (sym is) tt)) in
         search arith
 
@@ -132,10 +130,10 @@ module _ (u : Setup) (p : StopState) (at : Word → ℕ) (seat : ℕ → Seat) (
         let made' = made ++ (place.Key k, n) ∷ [] in
         let at' = put_word at (Key k) n in
         let shown' = label_step p.now.readings (Patches me job count made' rest) p.nudged (moved_by p.patched me k count n) at' (put seat me (Alters s job
-            count made' rest)) refl (λ j f. refl) (λ j. owns_stores u p.now at seat h.present j me s k n job count made ((place.Key k, n) ∷ rest) is (h.owns
-            j)) (counts_patched u.cpus p.nudged p.patched at me k count n below was h.counts) (patch_stores u p.now at seat h.present s me job count made rest
-            (place.Key k, n) at' is refl h.present.slots (entries_same at' (λ i. refl))) (alters_calling count made ((place.Key k, n) ∷ rest) made' rest is)
-            (closing_seat p.now seat me (Alters s job count made' rest) h.closing (subst IsNotClosing (sym is) tt)) in
+        count made' rest)) refl (λ j f. refl) (λ j. owns_stores u p.now at seat h.present j me s k n job count made ((place.Key k, n) ∷ rest) is (h.owns
+        j)) (counts_patched u.cpus p.nudged p.patched at me k count n below was h.counts) (patch_stores u p.now at seat h.present s me job count made rest
+        (place.Key k, n) at' is refl h.present.slots (entries_same at' (λ i. refl))) (alters_calling count made ((place.Key k, n) ∷ rest) made' rest is)
+        (closing_seat p.now seat me (Alters s job count made' rest) h.closing (subst IsNotClosing (sym is) tt)) in
         search (st.5, shown', arith)
 
     -- store of a site by a patch
@@ -146,8 +144,5 @@ module _ (u : Setup) (p : StopState) (at : Word → ℕ) (seat : ℕ → Seat) (
         let st : Stands p.now me (Alters s job count made ((place.Site i, n) ∷ rest)) = subst (Stands p.now me) is (h.present.stands me) in
         let made' = made ++ (place.Site i, n) ∷ [] in
         let at' = put_word at (Site i) n in
-        let shown' = label_step p.now.readings (Patches me job count made' rest) p.nudged p.patched at' (put seat me (Alters s job count made' rest)) refl (λ
-            j f. refl) h.owns h.counts (patch_stores u p.now at seat h.present s me job count made rest (place.Site i, n) at' is refl h.present.slots
-            (entries_same at' (λ i. refl))) (alters_calling count made ((place.Site i, n) ∷ rest) made' rest is) (closing_seat p.now seat me (Alters s job
-            count made' rest) h.closing (subst IsNotClosing (sym is) tt)) in
+        let shown' = label_step p.now.readings (Patches me job count made' rest) p.nudged p.patched at' (put seat me (Alters s job count made' rest)) refl (search arith) h.owns h.counts (search (patch_stores, entries_same, arith)) (alters_calling count made ((place.Site i, n) ∷ rest) made' rest is) (search (closing_seat, IsNotClosing, arith)) in
         search (st.5, shown', arith)

@@ -70,8 +70,7 @@ module _ (u : Setup) (p : StopState) (at : Word → ℕ) (seat : ℕ → Seat) (
           cond (at (Slot v.slot State) == 2) false c.interrupts ≡ nat_lt (at (Slot v.slot State)) 2 || v.acked == 4
       off work is more up = at_test (at (Slot v.slot State)) 2 (λ b. cond b false c.interrupts ≡ nat_lt (at (Slot v.slot State)) 2 || v.acked == 4)
           (λ two. sym (ap (λ n. nat_lt n 2 || v.acked == 4) two ∙ ne_eqb v.acked 4 more))
-          (λ ne. (s.irq ∙ ap irq_of is) ∙ ap (λ b. b || v.acked == 4) (look_irq v.acked v.acked (at (Slot v.slot State)) (at (Slot v.slot State)) refl
-          (inr (sym up)) (inl refl) ne))
+          (λ ne. (s.irq ∙ ap irq_of is) ∙ ap (λ b. b || v.acked == 4) (search (look_irq, arith)))
 
       below : (work : Work) → seat me ≡ In v.slot work v.acked v.acked Rests → v.acked ≢ 4 → v.acked ≤ 3
       below work is more = let k = inside_keeps u p at seat source h v.slot me work v.acked v.acked Rests is in let m = k.4 in omega arith
@@ -226,8 +225,7 @@ module _ (u : Setup) (p : StopState) (at : Word → ℕ) (seat : ℕ → Seat) (
               either true last more =
                   let end : site + 1 ≡ MOST_SITES = eqb-true (site + 1) MOST_SITES last in
                   whole visit work patch y (c.changes ++ site_change work.func (is_on word) site (entry_at (at (Entry site))))
-                  (grown more ∙ ap (λ l. (place.Key work.func, word) ∷ site_changes work.func (is_on word) 0 l) (take_all (site + 1) u.entries (let few =
-                  h.present.entries.few in omega arith)))
+                  (search (grown, take_all, arith))
               either false last more =
                   let on : site + 1 ≢ MOST_SITES = λ z. let bad : true ≡ false = sym (eq-eqb (site + 1) MOST_SITES z) ∙ last in cc in
                   search (grown, arith)
@@ -276,8 +274,7 @@ module _ (u : Setup) (p : StopState) (at : Word → ℕ) (seat : ℕ → Seat) (
           made_some work count some = found (count_after (change_of work.arg) count) refl
             where
               found : (o : Option ℕ) → count_after (change_of work.arg) count ≡ o → 0 ≡ answer_for (count_after (change_of work.arg) count)
-              found None e = absurd (some (ap (λ o. plan_of work.func count (count_or count o) u.entries) e ∙ plan_same work.func count count u.entries
-                  (eq-eqb count count refl)))
+              found None e = absurd (search (plan_same, eq-eqb, arith))
               found (Some new) e = sym (ap answer_for e)
 
           ends : c.visit ≡ Some v → (work : Work) (count : ℕ) → IsLoaded v work → v.acked ≡ 2 → made < length c.changes → c.changes ≡ plan_at u work count →
@@ -289,9 +286,7 @@ module _ (u : Setup) (p : StopState) (at : Word → ℕ) (seat : ℕ → Seat) (
               let irq' = s.irq ∙ ap irq_of is in
               search (irq', made_some, no_change, arith)
           ends visit work count loaded two low plan before change (x ∷ rest) are long is y true last =
-              absurd (let all : made + 1 ≡ length c.changes = eqb-true (made + 1) (length c.changes) last in
-              let sized : length c.changes ≡ length before + length (change ∷ x ∷ rest) = ap length are ∙ length-append before (change ∷ x ∷ rest) in
-              omega arith)
+              absurd (search (eqb-true, length-append, arith))
           ends visit work count loaded two low plan before change rest are long is y false last =
               let on : made + 1 ≢ length c.changes = λ z. let bad : true ≡ false = sym (eq-eqb (made + 1) (length c.changes) z) ∙ last in cc in
               record {

@@ -68,15 +68,27 @@ module _ (u : Setup) (p : StopState) (at : Word → ℕ) (seat : ℕ → Seat) (
       let next = In s job a found Rests in
       let inside : MovesInside ((p.now.stop s).standing me) to = search arith in
       let shown' = open_step u p at seat source h s stop' p.now.inside irq' p.now.readings p.now.patching at (put seat me next) looks' p.calls p.calling
-          record { was = is_open job a l Rests is; now = is_open job a l Rests is; work = refl; end = λ e. e; given = moves_given u.first s me (p.now.stop s)
-          to inside; } refl (λ k. refl) (λ j ne f. refl) (owns_kept u.first p.now (λ k. at (Key k)) s stop' p.now.inside irq' p.now.readings p.now.patching
-          record { was = is_open job a l Rests is; now = is_open job a l Rests is; work = refl; end = λ e. e; given = moves_given u.first s me (p.now.stop s)
-          to inside; } (moves_early u.first s me (p.now.stop s) to inside stop' refl) h.owns) (step_looks u p.now at seat h.present s me irq' p.now.readings
-          (save found) job a l is more (turned found refl (o.state ∙ refl) k (h.present.irq me ∙ ap irq_of is)) (λ on i. h.present.read me on (before found
-          (sym (turned found refl (o.state ∙ refl) k (h.present.irq me ∙ ap irq_of is)) ∙ refl) i))) (calling_same seat p.calling h.callings me next
-          (calling_looked me s job a l found (p.calling me) (λ two three. o.state ∙ near k.2 two three) (subst (λ x. IsCalling me x (p.calling me)) is
-          (h.callings me)))) (closing_kept p.now seat me next h.closing (subst IsNotClosing (sym is) tt) s stop' (λ c ne. put_other (p.now.stop s).standing me
-          to c ne) refl refl) in
+      record {
+        was = is_open job a l Rests is;
+        now = is_open job a l Rests is;
+        work = refl;
+        end = λ e. e;
+        given = moves_given u.first s me (p.now.stop s)
+            to inside;
+      } refl (λ k. refl) (λ j ne f. refl) (owns_kept u.first p.now (λ k. at (Key k)) s stop' p.now.inside irq' p.now.readings p.now.patching
+      record {
+        was = is_open job a l Rests is;
+        now = is_open job a l Rests is;
+        work = refl;
+        end = λ e. e;
+        given = moves_given u.first s me (p.now.stop s)
+            to inside;
+      } (moves_early u.first s me (p.now.stop s) to inside stop' refl) h.owns) (step_looks u p.now at seat h.present s me irq' p.now.readings
+      (save found) job a l is more (turned found refl (o.state ∙ refl) k (h.present.irq me ∙ ap irq_of is)) (λ on i. h.present.read me on (before found
+      (sym (turned found refl (o.state ∙ refl) k (h.present.irq me ∙ ap irq_of is)) ∙ refl) i))) (calling_same seat p.calling h.callings me next
+      (calling_looked me s job a l found (p.calling me) (λ two three. o.state ∙ near k.2 two three) (subst (λ x. IsCalling me x (p.calling me)) is
+      (h.callings me)))) (closing_kept p.now seat me next h.closing (subst IsNotClosing (sym is) tt) s stop' (λ c ne. put_other (p.now.stop s).standing me
+      to c ne) refl refl) in
       search (st.1, shown', arith)
     where
       near : (l ≡ a) ⊎ ((l ≡ a + 1) × ((p.now.stop s).phase ≡ l)) → a ≡ 2 → l ≡ 3 → (p.now.stop s).phase ≡ 3
@@ -151,11 +163,7 @@ module _ (u : Setup) (p : StopState) (at : Word → ℕ) (seat : ℕ → Seat) (
         (λ _. ap is_inside st) (λ c ne i. i) s (subst (λ k. is_inside (acked_stop.standing k) ≡ true) e in_) in
         at_test u.first me (λ b. 3 ≤ acked (cond b (Inside (a + 1) (a + 1)) ((p.now.stop s).standing u.first)) → StandsSet (p.now.stop s).work
         (at (Key (p.now.stop s).work.func)))
-        (λ f late. elim (cases_eq a 2) [
-          | inl two ↦ known kind (sym f) two
-          | inr ne ↦ h.owns s op kind i (subst (λ c. 3 ≤ acked ((p.now.stop s).standing c)) (sym f) (subst (λ (y : Standing). 3 ≤ acked y) (sym st)
-              (let z : 3 ≤ a = omega arith in z)))
-        ])
+        (search arith)
         (λ ne late. h.owns s op kind i late) late)
         (λ ne op kind in_ late. h.owns j op kind in_ late)
 
@@ -177,27 +185,39 @@ module _ (u : Setup) (p : StopState) (at : Word → ℕ) (seat : ℕ → Seat) (
         let readings' = put p.now.readings me (first_readings me s (p.now.stop s).work) in
         let at' = put_word at (Slot s Ack) (found - 1) in
         let to = Inside (a + 1) (a + 1) in
-        let shown' = open_step u p at seat source h s acked_stop p.now.inside irq' readings' x at' (put seat0 me next) p.looks calls' calling' record { was =
-            op; now = op; work = refl; end = λ e. e; given = put_all (λ c y. answer_now y ≡ answer_now ((p.now.stop s).standing c)) (p.now.stop s).standing me
-            to (sym (ap answer_now st)) (λ c ne. refl); } refl (λ k. refl) (other_slots at s Ack (found - 1)) (owns_acked x irq' readings' st known)
-            (step_acknowledges u (record (p.now) { patching = x }) at seat0 present s me irq' readings' record { inside = λ c ne. refl; irq = λ c ne.
-            put_other p.now.irq me true c ne; readings = search (put_other, arith); } job a is (put_same p.now.irq me true ∙ sym (leaves_irq (found == 1) ∙ ap
-            (λ b. cond b true (nat_lt (a + 1) 2)) e)) (λ _ _. subst (AllByRecursion (Agrees (labels_in at))) (sym (put_same p.now.readings me (first_readings
-            me s (p.now.stop s).work))) (agrees (eqb-true (a + 1) 4 (both_true (a + 1 == 4) (not (found == 1)) e).0)))) (subst (λ (y : ℕ → Seat). (c : ℕ) →
-            IsCalling c (y c) (calling' c)) (sym same) callings) (subst (AreClosing (record (acked_now x) { irq = irq'; readings = readings' })) (sym same)
-            (closing_kept p.now seat me next h.closing idle s acked_stop (λ c ne. put_other (p.now.stop s).standing me to c ne) refl refl)) in
+        let shown' = open_step u p at seat source h s acked_stop p.now.inside irq' readings' x at' (put seat0 me next) p.looks calls' calling' (search (put_all, arith)) refl (λ k. refl) (other_slots at s Ack (found - 1)) (owns_acked x irq' readings' st known)
+        (step_acknowledges u (record (p.now) { patching = x }) at seat0 present s me irq' readings' record {
+          inside = λ c ne. refl;
+          irq = λ c ne.
+              put_other p.now.irq me true c ne;
+          readings = search (put_other, arith);
+        } job a is (put_same p.now.irq me true ∙ sym (leaves_irq (found == 1) ∙ ap
+        (λ b. cond b true (nat_lt (a + 1) 2)) e)) (λ _ _. subst (AllByRecursion (Agrees (labels_in at))) (sym (put_same p.now.readings me (first_readings
+        me s (p.now.stop s).work))) (agrees (eqb-true (a + 1) 4 (both_true (a + 1 == 4) (not (found == 1)) e).0)))) (subst (λ (y : ℕ → Seat). (c : ℕ) →
+        IsCalling c (y c) (calling' c)) (sym same) callings) (subst (AreClosing (record (acked_now x) { irq = irq'; readings = readings' })) (sym same)
+        (closing_kept p.now seat me next h.closing idle s acked_stop (λ c ne. put_other (p.now.stop s).standing me to c ne) refl refl)) in
         search (← same, shown', arith)
     ack_shown x seat0 calls' calling' present is off same st op known agrees callings idle false e =
         let at' = put_word at (Slot s Ack) (found - 1) in
         let to = Inside (a + 1) (a + 1) in
         let turned : p.now.irq me ≡ irq_of next = off ∙ sym (leaves_irq (found == 1) ∙ ap (λ b. cond b true (nat_lt (a + 1) 2)) e) in
         let shown' = open_step u p at seat source h s acked_stop p.now.inside p.now.irq p.now.readings x at' (put seat0 me next) p.looks calls' calling'
-            record { was = op; now = op; work = refl; end = λ e. e; given = put_all (λ c y. answer_now y ≡ answer_now ((p.now.stop s).standing c)) (p.now.stop
-            s).standing me to (sym (ap answer_now st)) (λ c ne. refl); } refl (λ k. refl) (other_slots at s Ack (found - 1)) (owns_acked x p.now.irq
-            p.now.readings st known) (step_acknowledges u (record (p.now) { patching = x }) at seat0 present s me p.now.irq p.now.readings record { inside = λ
-            c ne. refl; irq = λ c ne. refl; readings = λ c ne. refl } job a is turned (λ on i. h.present.read me on (turned ∙ i))) (subst (λ (y : ℕ → Seat).
-            (c : ℕ) → IsCalling c (y c) (calling' c)) (sym same) callings) (subst (AreClosing (acked_now x)) (sym same) (closing_kept p.now seat me next
-            h.closing idle s acked_stop (λ c ne. put_other (p.now.stop s).standing me to c ne) refl refl)) in
+        record {
+          was = op;
+          now = op;
+          work = refl;
+          end = λ e. e;
+          given = put_all (λ c y. answer_now y ≡ answer_now ((p.now.stop s).standing c)) (p.now.stop
+              s).standing me to (sym (ap answer_now st)) (λ c ne. refl);
+        } refl (λ k. refl) (other_slots at s Ack (found - 1)) (owns_acked x p.now.irq
+        p.now.readings st known) (step_acknowledges u (record (p.now) { patching = x }) at seat0 present s me p.now.irq p.now.readings record {
+          inside = λ
+              c ne. refl;
+          irq = λ c ne. refl;
+          readings = λ c ne. refl;
+        } job a is turned (λ on i. h.present.read me on (turned ∙ i))) (subst (λ (y : ℕ → Seat).
+        (c : ℕ) → IsCalling c (y c) (calling' c)) (sym same) callings) (subst (AreClosing (acked_now x)) (sym same) (closing_kept p.now seat me next
+        h.closing idle s acked_stop (λ c ne. put_other (p.now.stop s).standing me to c ne) refl refl)) in
         search (← same, shown', arith)
 
     abbrev pub calls_then : ℕ → List StopCall
@@ -222,9 +242,9 @@ module _ (u : Setup) (p : StopState) (at : Word → ℕ) (seat : ℕ → Seat) (
         let many : job.kind ≢ One = search (several, shown, arith) in
         let off : p.now.irq me ≡ nat_lt (a + 1) 2 = search (h.present.irq, or_false, nat_lt, ne_eqb, arith) in
         let shown' = ack_shown p.now.patching seat calls_then (calling_then p.now.patching) h.present is off refl st.1 (is_open job a (a + 1) Rests is) (λ
-            kind mine two. absurd (active kind mine two st.3)) (λ four. subst (λ (w : Work). AllByRecursion (Agrees (labels_in at)) (first_readings me s w))
-            (sym st.3) (leave_agrees job a (a + 1) Rests is (omega arith))) (acked_calling (a + 1 == 3) refl is many ready) (subst IsNotClosing (sym is) tt)
-            (a + 1 == 4 && not (found == 1)) refl in
+        kind mine two. absurd (active kind mine two st.3)) (λ four. subst (λ (w : Work). AllByRecursion (Agrees (labels_in at)) (first_readings me s w))
+        (sym st.3) (leave_agrees job a (a + 1) Rests is (omega arith))) (acked_calling (a + 1 == 3) refl is many ready) (subst IsNotClosing (sym is) tt)
+        (a + 1 == 4 && not (found == 1)) refl in
         search (st.1, still (a + 1 == 3) idle, shown', arith)
       where
         several : (k : KindOf) → k ≡ One → IsPhaseOf k (p.now.stop s).phase → (p.now.stop s).phase ≡ a + 1 → ⊥
@@ -251,10 +271,7 @@ module _ (u : Setup) (p : StopState) (at : Word → ℕ) (seat : ℕ → Seat) (
       let runner : RunnerShows u.first (Patches me job count made []) seat = subst (λ x. RunnerShows u.first x seat) st.5 h.present.runner in
       let works = h.present.works s open_ (ap (λ (w : Work). w.kind) st.3 ∙ st.4) in
       let active : has job.active me ≡ true = ap (λ (w : Work). has w.active me) (sym st.3) ∙ (works.first me ∙ eq-eqb me u.first runner.0) in
-      let shown' = ack_shown job 2 answer Whole seat0 (calls_then job 2 answer) (put p.calling me (Carries (patch_answer job count))) ends.0 (put_same seat me
-          (In s job 2 3 Rests)) (h.present.irq me ∙ ap irq_of is) (put_twice seat me (In s job 2 3 Rests) next) st.1 open_ (λ kind mine two. subst (λ (w :
-          Work). StandsSet w (at (Key w.func))) (sym st.3) ends.1) (λ four. absurd (let z : ⊥ = omega (arith, four) in z)) (calling_next seat p.calling
-          h.callings me next (Carries (patch_answer job count)) (omega arith, active)) (subst IsNotClosing (sym is) tt) false refl in
+      let shown' = ack_shown job 2 answer Whole seat0 (calls_then job 2 answer) (put p.calling me (Carries (patch_answer job count))) ends.0 (search (put_same, arith)) (h.present.irq me ∙ ap irq_of is) (put_twice seat me (In s job 2 3 Rests) next) st.1 open_ (search arith) (λ four. absurd (let z : ⊥ = omega (arith, four) in z)) (search (calling_next, h.callings, active, arith)) (subst IsNotClosing (sym is) tt) false refl in
       search (st.1, st.5, eq-eqb me me refl, shown', arith)
 
   -- store of the count by the one that emptied it: the weight of the mask
@@ -271,13 +288,13 @@ module _ (u : Setup) (p : StopState) (at : Word → ℕ) (seat : ℕ → Seat) (
       let whole : weight u.cpus (p.now.stop s).standing ≡ v = search (weight_of_mask, h.present.slots, arith) in
       let stays : StaysOpen (p.now.stop s) stop' = record { was = open_; now = open_; work = refl; end = λ e. e; given = λ c. refl } in
       let shown' = open_step u p at seat source h s stop' p.now.inside p.now.irq p.now.readings p.now.patching (put_word at (Slot s Ack) v) (put seat me next)
-          p.looks p.calls p.calling stays refl (λ k. refl) (other_slots at s Ack v) (owns_kept u.first p.now (λ k. at (Key k)) s stop' p.now.inside p.now.irq
-          p.now.readings p.now.patching stays record { inside = λ i. i; late = λ i. i; } h.owns) (subst (λ n. PresentShows u (after p.now s stop' p.now.inside
-          p.now.irq p.now.readings p.now.patching) (put_word at (Slot s Ack) n) (put seat me next)) whole (step_refills u p.now at seat h.present s me
-          p.now.irq p.now.readings record { inside = λ c ne. refl; irq = λ c ne. refl; readings = λ c ne. refl } job a l is (λ z. one (p.now.stop s).raising
-          st.2 (o.calm z)) (h.present.irq me ∙ ap irq_of is) (λ on i. h.present.read me on (h.present.irq me ∙ (ap irq_of is ∙ i))))) (calling_same seat
-          p.calling h.callings me next (calling_turned me s job a l Fills Sets (p.calling me) (λ e. cc) (subst (λ x. IsCalling me x (p.calling me)) is
-          (h.callings me)))) (closing_kept p.now seat me next h.closing (subst IsNotClosing (sym is) tt) s stop' (λ c ne. refl) refl refl) in
+      p.looks p.calls p.calling stays refl (λ k. refl) (other_slots at s Ack v) (owns_kept u.first p.now (λ k. at (Key k)) s stop' p.now.inside p.now.irq
+      p.now.readings p.now.patching stays record { inside = λ i. i; late = λ i. i } h.owns) (subst (λ n. PresentShows u (after p.now s stop' p.now.inside
+      p.now.irq p.now.readings p.now.patching) (put_word at (Slot s Ack) n) (put seat me next)) whole (step_refills u p.now at seat h.present s me
+      p.now.irq p.now.readings record { inside = λ c ne. refl; irq = λ c ne. refl; readings = λ c ne. refl } job a l is (λ z. one (p.now.stop s).raising
+      st.2 (o.calm z)) (h.present.irq me ∙ ap irq_of is) (λ on i. h.present.read me on (h.present.irq me ∙ (ap irq_of is ∙ i))))) (calling_same seat
+      p.calling h.callings me next (calling_turned me s job a l Fills Sets (p.calling me) (λ e. cc) (subst (λ x. IsCalling me x (p.calling me)) is
+      (h.callings me)))) (closing_kept p.now seat me next h.closing (subst IsNotClosing (sym is) tt) s stop' (λ c ne. refl) refl refl) in
       search (open_, shown', arith)
     where
       one : (r : Raising) → turn_of r me ≡ Fills → r ≡ Nobody → ⊥

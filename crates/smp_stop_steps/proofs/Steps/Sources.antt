@@ -108,11 +108,17 @@ module _ (u : Setup) (p : StopState) (at : Word → ℕ) (seat : ℕ → Seat) (
       let work' = drafted f v (p.now.stop me).work in
       let stop' : Stop = record (p.now.stop me) { work = work' } in
       let out = all_outside u.cpus (p.now.stop me) w (h.present.slots me) d.shut in
-      let shown' = source_step stop' p.begun p.collected at' (Drafts work (k + 1)) refl (other_slots at me f v) (λ k. refl) record { shut = d.shut; holds =
-          d.holds; is_work = d.is_work; stored = stored_more u.cpus at me work k f place d.stored; told = search (drafted_more, arith); } (past_same
-          (p.now.stop me) stop' (p.begun me) (p.collected me) (λ c. p.answers c me) refl (λ op. absurd (apart (sym op ∙ d.shut))) (λ c. refl) (h.past me)) (λ
-          j ne. refl) (λ j ne. refl) (λ c. outside_not ((p.now.stop me).standing c) (out c)) (λ c op l. apart (sym op ∙ d.shut)) (step_drafts u p.now at seat
-          h.present me f v work' d.shut (not_roll f fresh)) in
+      let shown' = source_step stop' p.begun p.collected at' (Drafts work (k + 1)) refl (other_slots at me f v) (λ k. refl) record {
+        shut = d.shut;
+        holds =
+            d.holds;
+        is_work = d.is_work;
+        stored = stored_more u.cpus at me work k f place d.stored;
+        told = search (drafted_more, arith);
+      } (past_same
+      (p.now.stop me) stop' (p.begun me) (p.collected me) (λ c. p.answers c me) refl (λ op. absurd (apart (sym op ∙ d.shut))) (λ c. refl) (h.past me)) (λ
+      j ne. refl) (λ j ne. refl) (λ c. outside_not ((p.now.stop me).standing c) (out c)) (λ c op l. apart (sym op ∙ d.shut)) (step_drafts u p.now at seat
+      h.present me f v work' d.shut (not_roll f fresh)) in
       search (d.shut, shut_told p me f v fresh, shown', arith)
     where
       apart : true ≡ false → ⊥
@@ -128,10 +134,13 @@ module _ (u : Setup) (p : StopState) (at : Word → ℕ) (seat : ℕ → Seat) (
       let stop' = opened (p.now.stop me) work in
       let out = all_outside u.cpus (p.now.stop me) w (h.present.slots me) d.shut in
       let shown' = source_step stop' (put p.begun me (p.begun me ++ work ∷ [])) p.collected at' (Owns work) refl (other_slots at me Roll work.mask) (λ k.
-          refl) record { is_open = refl; work_is = refl; is_work = d.is_work } (subst (λ l. HasPast stop' l (p.collected me) (λ c. p.answers c me)) (sym
-          (put_same p.begun me (p.begun me ++ work ∷ []))) ((h.past me).0, past_opens (h.past me).0 (p.now.stop me) (p.begun me) (p.collected me) (λ c.
-          p.answers c me) (h.past me).1 work d.shut out)) (λ j ne. put_other p.begun me (p.begun me ++ work ∷ []) j ne) (λ j ne. refl) (λ c. called_not (has
-          work.mask c)) (λ c op l. cc) (step_opens u p.now at seat h.present me work d.shut d.is_work d.stored) in
+      refl) record { is_open = refl; work_is = refl; is_work = d.is_work } (subst (λ l. HasPast stop' l (p.collected me) (λ c. p.answers c me)) (sym
+      (put_same p.begun me (p.begun me ++ work ∷ []))) (
+        (h.past me).0,
+        past_opens (h.past me).0 (p.now.stop me) (p.begun me) (p.collected me) (λ c.
+            p.answers c me) (h.past me).1 work d.shut out,
+      )) (λ j ne. put_other p.begun me (p.begun me ++ work ∷ []) j ne) (λ j ne. refl) (λ c. called_not (has
+      work.mask c)) (λ c op l. cc) (step_opens u p.now at seat h.present me work d.shut d.is_work d.stored) in
       search (d.shut, same, shown', arith)
     where
       called_not : (b : Bool) → is_inside (cond b Called Outside) ≡ true → ⊥

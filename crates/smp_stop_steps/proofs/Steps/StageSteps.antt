@@ -55,8 +55,7 @@ module _ (u : Setup) (p : StopState) (at : Word → ℕ) (seat : ℕ → Seat) (
       let x : AtRest = subst (λ (st : Option StopStage). SitsAt u me c st (seat me)) e s.seat in
       let y : OwnsIf c.is_open (source me) = subst (λ (st : Option StopStage). SourceSits c.is_open st (source me)) e s.source in
       let g : at Gate ≡ me + 1 = subst (HoldsGate me (at Gate)) e s.gate_held in
-      let shows' = still u seat source me (state_after u p at c me OpenGate) (at_then u at c me OpenGate) (gate_opened u p at seat source h me 0 (gate_mine me
-      p.gate (sym h.gate ∙ g)) (not_drafting y)) in
+      let shows' = still u seat source me (state_after u p at c me OpenGate) (at_then u at c me OpenGate) (search (gate_opened, gate_mine, not_drafting, arith)) in
       search (shows', arith)
 
   -- begin
@@ -138,8 +137,7 @@ module _ (u : Setup) (p : StopState) (at : Word → ℕ) (seat : ℕ → Seat) (
   read_key k e =
       let x : (c.interrupts ≡ true) × (k < u.keys) × AtRest = subst (λ (st : Option StopStage). SitsAt u me c st (seat me)) e s.seat in
       let y : OwnsIf c.is_open (source me) = subst (λ (st : Option StopStage). SourceSits c.is_open st (source me)) e s.source in
-      let shows' = still u seat source me (state_after u p at c me (ReadKey k)) at (key_read u p at seat source h me k 0 (h.present.irq me ∙ (sym s.irq ∙
-      x.0))) in
+      let shows' = still u seat source me (state_after u p at c me (ReadKey k)) at (key_read u p at seat source h me k 0 (search (h.present.irq, arith))) in
       search (shows', arith)
 
   pub read_site : (i : ℕ) → c.stage ≡ Some (ReadSite i) → StopStep u p at seat source c me (ReadSite i)
@@ -178,8 +176,7 @@ module _ (u : Setup) (p : StopState) (at : Word → ℕ) (seat : ℕ → Seat) (
       let x : (c.interrupts ≡ true) × (u.online me ≡ true) × (k < u.keys) × IsNudge expected new × AtRest = search arith in
       let y : OwnsIf c.is_open (source me) = subst (λ (st : Option StopStage). SourceSits c.is_open st (source me)) e s.source in
       let on : p.now.irq me ≡ true = h.present.irq me ∙ (sym s.irq ∙ x.0) in
-      let shows' = still u seat source me (state_after u p at c me (ExchangeKey k expected new)) (at_then u at c me (ExchangeKey k expected new)) (go x.1 on
-      x.3 (at (Key k) == expected) refl) in
+      let shows' = still u seat source me (state_after u p at c me (ExchangeKey k expected new)) (at_then u at c me (ExchangeKey k expected new)) (search (go, x.3, arith)) in
       search (shows', arith)
     where
       go : u.online me ≡ true → p.now.irq me ≡ true → IsNudge expected new → (b : Bool) → (at (Key k) == expected) ≡ b →
@@ -187,11 +184,7 @@ module _ (u : Setup) (p : StopState) (at : Word → ℕ) (seat : ℕ → Seat) (
           (put_if put_word at (Key k) (cond b (Some new) None)) seat source
       go online on nudge true z =
           let same = eqb-true (at (Key k)) expected z in
-          key_exchanged u p at seat source h me k (at (Key k)) new s.below online on refl record {
-            one = search arith;
-            same = nudge.same ∙ ap is_on (sym same);
-            word = nudge.word;
-          } 0
+          key_exchanged u p at seat source h me k (at (Key k)) new s.below online on refl (search arith) 0
       go online on nudge false z = h
 
   -- the looks of a source
