@@ -48,7 +48,6 @@ module _ (p : StopState) (at : Word → ℕ) (seat : ℕ → Seat) (source : ℕ
       let g = with_answer x f in
       let p0 = answering x in
       let h0 = answers_so s w a l x here in
-      let called : f ≢ Idle = λ none. runs (sym sees.part_is.calling ∙ ap told_calling none) in
       let mine : p0.calling v.number ≡ g = put_same p.calling v.number g in
       let calls : IsCalling v.number (Gives s w a x) (p0.calling v.number) = subst (IsCalling v.number (Gives s w a x)) (sym mine)
       (search (calling_given, answers, h0.callings, arith)) in

@@ -54,7 +54,6 @@ module _ (p : StopState) (at : Word → ℕ) (seat : ℕ → Seat) (source : ℕ
       reads_more (ReadKey k (is_on found)) v)
   key_plain k found Free e on = (ap (λ i. key_loaded u p.now v.number k found i) (stands p at seat source v h sees Free e), refl)
   key_plain k found (In s w a l t) e on =
-      let st = stands p at seat source v h sees (In s w a l t) e in
       let calm = not_at_run s w a l t on in
       let patch = record (p.now) { patching = patch_begun u v.number (p.now.stop s).work found } in
       let plain = reads p.now v.number (ReadKey k (is_on found)) in (
@@ -126,7 +125,6 @@ module _ (p : StopState) (at : Word → ℕ) (seat : ℕ → Seat) (source : ℕ
       let next = Alters s w found [] (plan_at u w found) in
       let st = stands p at seat source v h sees (In s w 2 3 Rests) is in
       let patch = record (p.now) { patching = patch_begun u v.number (p.now.stop s).work found } in
-      let reading = reads p.now v.number r in
       let plain : key_loaded u p.now v.number w.func found (p.now.inside v.number) ≡ patch =
       ap (λ i. key_loaded u p.now v.number w.func found i) st.0
       ∙ (search arith) in

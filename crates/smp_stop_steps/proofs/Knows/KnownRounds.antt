@@ -65,7 +65,7 @@ module _ (p : StopState) (at : Word → ℕ) (seat : ℕ → Seat) (source : ℕ
   enter s free = go (has (at (Slot s field.Roll)) v.number) refl
     where
       low : v.number < 64
-      low = let few = h.setup.few in let b = sees.below in omega arith
+      low = omega arith
 
       go : (b : Bool) → has (at (Slot s field.Roll)) v.number ≡ b →
           Goes (put_word at (Slot s field.Roll) (bit_and (at (Slot s field.Roll)) (all_but v.number)))
@@ -92,7 +92,6 @@ module _ (p : StopState) (at : Word → ℕ) (seat : ℕ → Seat) (source : ℕ
   look s w a l is more =
       let found = at (Slot s field.State) in
       let seen = p.looks v.number ++ found ∷ [] in
-      let k = sees.part_is in
       let shown' = goes_seat p seat source v sees (told u p v.number act.Load (Slot s field.State) (Some found) None 0) at (In s w a found Rests) (record
       (v.part) { looks = v.part.looks ++ found ∷ [] }) (state_loaded u p at seat source h s v.number w a l 0 (sees.seat_is ∙ is) more) record {
         mine =
@@ -168,9 +167,6 @@ module _ (p : StopState) (at : Word → ℕ) (seat : ℕ → Seat) (source : ℕ
       let bounds = ack_bounds_patched u p at seat source h s v.number w count made here in
       let at' = put_word at (Slot s field.Ack) (found - 1) in
       let next = In s w 3 3 (cond (found == 1) Fills Rests) in
-      let own : carried v.number p.now.patching (p.calling v.number) ≡ Carries (patch_answer w count) =
-      ap (λ x. carried v.number x (p.calling v.number)) st.5 ∙ ap (λ b. cond b (Carries (patch_answer w count)) (carried_call (p.calling v.number)))
-      (eq-eqb v.number v.number refl) in
       let p' = acknowledges p v.number s (Inside 2 3) found in
       let shown' = goes_seat p seat source v sees p' at' next (record (v.part) { calling = Carries 0 }) (subst (λ (x : Standing). StopShows u (acknowledges p
       v.number s x found) at' (put seat v.number next) source) st.1 (ack_subtracted_patched u p at seat source h s v.number w count made 0 here))
@@ -196,7 +192,6 @@ module _ (p : StopState) (at : Word → ℕ) (seat : ℕ → Seat) (source : ℕ
       go : (b : Bool) → may_call v.number w (Inside a l) ≡ b → Goes at (cond b (record v { part = record (v.part) { calling = Calls call } }) v)
       go false e = still p at seat source v h sees
       go true e =
-          let k = sees.part_is in
           let p' = record p { calling = put p.calling v.number (Calls call) } in
           let plain : told u p v.number act.Load (Slot s field.Arg) (Some (at (Slot s field.Arg))) None 0 ≡ p' =
           search (is_may, arith) in

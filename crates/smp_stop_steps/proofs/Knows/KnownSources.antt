@@ -20,7 +20,7 @@ holder g me e = search (eqb-true, arith)
 
 -- a CPU that is told to draft nothing drafts nothing
 not_draft : (y told : Source) → told_source y ≡ told → is_drafting told ≡ false → (w : Work) (k : ℕ) → y ≢ Drafts w k
-not_draft y told is idle w k e = let bad : true ≡ false = sym (ap is_drafting (sym is ∙ ap told_source e)) ∙ idle in cc
+not_draft y told is idle w k e = cc
 
 is_shut : (y : Source) → told_source y ≡ Shut → y ≡ Shut
 is_shut y e = search arith
@@ -110,7 +110,6 @@ module _ (p : StopState) (at : Word → ℕ) (seat : ℕ → Seat) (source : ℕ
           (gate_known act.Cas (cond b (Some (v.number + 1)) None) v)
       go false e = still
       go true e =
-          let free : p.gate ≡ None = gate_free p.gate (sym h.gate ∙ eqb-true (at Gate) 0 e) in
           goes_still p seat source v sees (record p { gate = Some v.number }) (put_word at Gate (v.number + 1)) (record (v.part) { holds = true })
           (gate_taken u p at seat source h v.number 0 (eqb-true (at Gate) 0 e))
           (search (holds_alone, eq-eqb, ne_eqb, arith))
@@ -158,7 +157,6 @@ module _ (p : StopState) (at : Word → ℕ) (seat : ℕ → Seat) (source : ℕ
   pub draft : (work : Work) → v.source ≡ Shut → v.part.holds ≡ true → IsWork u work →
       Goes (put_word at (Slot v.number field.Kind) (begun_value cpus work field.Kind)) (draft_known (begun_value cpus work field.Kind) v)
   draft work shut holds is =
-      let closed : (p.now.stop v.number).is_open ≡ false = source_here Shut (is_shut (source v.number) (sees.source_is ∙ shut)) in
       let shown' = field_goes work field.Kind (search (holder, is, arith)) (omega arith) in
       search (kind_back work.kind, shown', arith)
 
@@ -184,7 +182,6 @@ module _ (p : StopState) (at : Word → ℕ) (seat : ℕ → Seat) (source : ℕ
       let plain : told u p v.number act.Store (Slot v.number field.Roll) None (Some work.mask) 0 ≡ opens p v.number =
       ap (λ b. cond b (stored_open p v.number v.number field.Roll work.mask) (stored_shut p v.number field.Roll work.mask)) d.shut in
       let begun = p.begun v.number ++ (p.now.stop v.number).work ∷ [] in
-      let k = sees.part_is in
       let shown' = goes_source p seat source v sees (opens p v.number) at' (Owns work) (Owns work) (record (v.part) { begun = v.part.begun ++ work ∷ [] })
       (subst (λ q. StopShows u q at' seat (put source v.number (Owns work))) plain (roll_stored u p at seat source h v.number work 0 is)) (search (put_same, same, put_other, arith)) refl tt
       in
@@ -201,7 +198,6 @@ module _ (p : StopState) (at : Word → ℕ) (seat : ℕ → Seat) (source : ℕ
       go : (b : Bool) → (at (Slot v.number field.Done) == 0) ≡ b → Goes at (record v { source = cond b (Owns w) (Collects w) })
       go true e = subst (λ o. Goes at (record v { source = o })) is still
       go false e =
-          let o : OwnerShows u (p.now.stop v.number) w = source_here (Owns w) there in
           let one : at (Slot v.number field.Done) ≡ 1 =
           search (done_is, h.present.slots, arith) in
           goes_source p seat source v sees p at (Collects w) (Collects w) v.part (done_loaded u p at seat source h v.number w there one) unmoved_columns refl tt
@@ -210,8 +206,6 @@ module _ (p : StopState) (at : Word → ℕ) (seat : ℕ → Seat) (source : ℕ
   collect w is =
       let found = at (Slot v.number field.Result) in
       let there = is_collects (source v.number) w (sees.source_is ∙ is) in
-      let more = p.collected v.number ++ found ∷ [] in
-      let k = sees.part_is in
       goes_source p seat source v sees (told u p v.number act.Load (Slot v.number field.Result) (Some found) None 0) at Shut Shut
       (record (v.part) { collected = v.part.collected ++ found ∷ [] }) (result_loaded u p at seat source h v.number w 0 there)
       (search (put_same, put_other, arith)) refl tt

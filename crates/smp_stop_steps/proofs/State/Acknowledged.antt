@@ -60,7 +60,6 @@ module _ (u : Setup) (p : Present) (at : Word → ℕ) (seat : ℕ → Seat) (h 
       let st : Stands p me (In s job a (a + 1) Rests) = subst (Stands p me) is (h.stands me) in
       let k = keeps_inside u.cpus (p.stop s) w (h.slots s) me (Inside a (a + 1)) st.1 in
       let o = (h.slots s).shows (is_open_inside u.cpus (p.stop s) w (h.slots s) me (Inside a (a + 1)) st.1 refl) in
-      let at_ : (p.stop s).phase ≡ a + 1 = ⊎_elim (λ (e : a + 1 ≡ a). absurd (omega arith)) (λ (e : (a + 1 ≡ a + 1) × ((p.stop s).phase ≡ a + 1)). e.1) k.2 in
       let no : (p.stop s).raising ≡ Nobody = search (nobody_raises, o.ack, arith) in
       moves u p at (put_word at (Slot s Ack) (found - 1)) seat s me stop' p.inside irq' readings' (In s job (a + 1) (a + 1) (cond (found == 1) Fills Rests)) h
       (slot_put u.cpus p.stop at s Ack (found - 1) stop' h.slots (acknowledges_slot u.cpus (p.stop s) w (h.slots s) me a st.1)) refl

@@ -106,7 +106,7 @@ module _ (cpus : ℕ) (stop : Stop) (word : Field → ℕ) (g : SlotShows cpus s
   -- done is 1: all have completed, and the result word is the result of their answers
   pub collects_slot : stop.is_open ≡ true → word Done ≡ 1 →
       IsResult stop.work.mask (λ c. answer_of (stop.standing c)) (word Result) × SlotShows cpus (closed stop) word
-  collects_slot open_ found = let o = g.shows open_ in let z = none_left stop.ending o.done in search (answered, g.roll, not_called, each, no, arith)
+  collects_slot open_ found = search (answered, g.roll, not_called, each, no, arith)
     where
       no : false ≡ true → ⊥
       no e = cc

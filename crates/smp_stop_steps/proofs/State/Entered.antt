@@ -27,7 +27,6 @@ module _ (u : Setup) (p : Present) (at : Word → ℕ) (seat : ℕ → Seat) (h 
   pub step_opens : (work : Work) → (p.stop s).is_open ≡ false → IsWork u work → IsStored u.cpus w work 10 →
       PresentShows u (moved p s (opened (p.stop s) work) p.inside p.irq p.readings) (put_word at (Slot s Roll) work.mask) seat
   step_opens work shut is_work stored =
-      let out = all_outside u.cpus (p.stop s) w (h.slots s) shut in
       source_moves u p at (put_word at (Slot s Roll) work.mask) seat s (opened (p.stop s) work) h
       (slot_put u.cpus p.stop at s Roll work.mask (opened (p.stop s) work) h.slots (opens_slot u.cpus (p.stop s) w (h.slots s) work is_work.below
       is_work.some stored)) refl
@@ -41,7 +40,7 @@ module _ (u : Setup) (p : Present) (at : Word → ℕ) (seat : ℕ → Seat) (h 
       apart e = cc
 
       nobody : {x : Standing} → x ≡ Outside → is_inside x ≡ true → ⊥
-      nobody e i = let bad : false ≡ true = sym (ap is_inside e) ∙ i in cc
+      nobody e i = cc
 
       calls : (b : Bool) → is_inside (cond b Called Outside) ≡ true → ⊥
       calls b e = search arith
@@ -61,7 +60,7 @@ module _ (u : Setup) (p : Present) (at : Word → ℕ) (seat : ℕ → Seat) (h 
       apart e = cc
 
       nobody : {x : Standing} → x ≡ Outside → is_inside x ≡ true → ⊥
-      nobody e i = let bad : false ≡ true = sym (ap is_inside e) ∙ i in cc
+      nobody e i = cc
 
       turned : (f : Field) → same_field f Roll true ≡ false → same_field Roll f true ≡ false
       turned f e = search (at_test, eq-eqb, arith)
@@ -75,8 +74,6 @@ module _ (u : Setup) (p : Present) (at : Word → ℕ) (seat : ℕ → Seat) (h 
   pub step_collects : (p.stop s).is_open ≡ true → at (Slot s Done) ≡ 1 →
       PresentShows u (moved p s (closed (p.stop s)) p.inside p.irq p.readings) at seat
   step_collects open_ found =
-      let o = (h.slots s).shows open_ in
-      let z = none_left (p.stop s).ending o.done in
       source_moves u p at at seat s (closed (p.stop s)) h
       (slot_same u.cpus p.stop at s (closed (p.stop s)) h.slots (collects_slot u.cpus (p.stop s) w (h.slots s) open_ found).1) refl
       (search (gone, apart, running, arith))
@@ -97,7 +94,6 @@ module _ (u : Setup) (p : Present) (at : Word → ℕ) (seat : ℕ → Seat) (h 
       gone : count_unfinished u.cpus (p.stop s).standing ≡ 0 → (c : ℕ) → is_inside ((p.stop s).standing c) ≡ true → ⊥
       gone z c i =
           let both = inside_unfinished ((p.stop s).standing c) i in
-          let one = both.1 in
           let zero_ = sum_zero (λ c. unfinished ((p.stop s).standing c)) u.cpus z c (search (in_machine, h.slots, arith)) in
           omega arith
 
@@ -119,8 +115,6 @@ module _ (u : Setup) (p : Present) (at : Word → ℕ) (seat : ℕ → Seat) (h 
         let to = Inside 0 0 in
         let stop' = stands (p.stop s) me to in
         let st : Stands p me Free = subst (Stands p me) is (h.stands me) in
-        let called : (p.stop s).standing me ≡ Called = called_is ((p.stop s).standing me) (sym ((h.slots s).roll me) ∙ found) in
-        let o = (h.slots s).shows (is_open_inside u.cpus (p.stop s) w (h.slots s) me Called called refl) in
         moves u p at (put_word at (Slot s Roll) n) seat s me stop' (put p.inside me (Some s)) p.irq p.readings (In s (p.stop s).work 0 0 Rests) h
         (slot_put u.cpus p.stop at s Roll n stop' h.slots (enters_slot u.cpus (p.stop s) w (h.slots s) me n found clears others)) refl
         (search (put_other, arith))

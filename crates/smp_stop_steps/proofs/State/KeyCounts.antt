@@ -11,7 +11,7 @@ none_moved (suc n) = let e = none_moved n in omega arith
 
 -- at first
 pub opened_count : (n k word : ℕ) → word ≡ 0 → CountShows n (λ _ _. unmoved) (λ _ _. unmoved) k word
-opened_count n k word e = let z = none_moved n in omega arith
+opened_count n k word e = omega arith
 
 module _ (n : ℕ) (f : ℕ → ℕ → Moved) (me k old new : ℕ) (low : me < n) where
   abbrev f' : ℕ → ℕ → Moved

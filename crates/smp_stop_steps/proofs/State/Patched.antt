@@ -38,7 +38,6 @@ module _ (u : Setup) (p : Present) (at : Word → ℕ) (seat : ℕ → Seat) (h 
   all_off is c of =
       let w : Field → ℕ = λ f. at (Slot s f) in
       let f = function_law u.cpus (p.stop s) w (h.slots s) me is in
-      let open_ = is_open_inside u.cpus (p.stop s) w (h.slots s) me (Inside 2 3) is refl in
       let of_it : is_of ((p.stop s).standing c) ≡ true = search (h.slots, arith) in
       h.irq c ∙ go ((p.stop s).standing c) refl of_it f.at_run (f.all_disabled c of) ((h.slots s).keeps c)
     where
@@ -61,8 +60,6 @@ module _ (u : Setup) (p : Present) (at : Word → ℕ) (seat : ℕ → Seat) (h 
       (IsLawful (labels_in at) → SetsKey job.func (count_set job count) (labels_in at) (applied plan (labels_in at))) →
       PresentShows u (patches (Patches me job count [] plan)) at (put seat me (Alters s job count [] plan))
   patch_starts job plan is kind active leads =
-      let st : Stands p me (In s job 2 3 Rests) = subst (Stands p me) is (h.stands me) in
-      let open_ = is_open_inside u.cpus (p.stop s) (λ f. at (Slot s f)) (h.slots s) me (Inside 2 3) st.1 refl in
       let mine : me ≡ u.first = search (eqb-true, h.works, arith) in
       let whole : p.patching ≡ Whole = go p.patching h.runner mine in
       let lawful : IsLawful (labels_in at) = subst (λ x. LabelsShow x (labels_in at)) whole h.labels in
@@ -92,7 +89,6 @@ module _ (u : Setup) (p : Present) (at : Word → ℕ) (seat : ℕ → Seat) (h 
       let st : Stands p me (Alters s job count made (change ∷ rest)) = subst (Stands p me) is (h.stands me) in
       let open_ = is_open_inside u.cpus (p.stop s) (λ f. at (Slot s f)) (h.slots s) me (Inside 2 3) st.1 refl in
       let r : RunnerShows u.first (Patches me job count made (change ∷ rest)) seat = subst (λ x. RunnerShows u.first x seat) st.5 h.runner in
-      let l : LabelsShow (Patches me job count made (change ∷ rest)) (labels_in at) = subst (λ x. LabelsShow x (labels_in at)) st.5 h.labels in
       let made' = made ++ change ∷ [] in
       let next = Alters s job count made' rest in
       let kind : (p.stop s).work.kind ≡ Patch = ap (λ (w : Work). w.kind) st.3 ∙ st.4 in

@@ -101,7 +101,6 @@ module _ (u : Setup) (p : StopState) (at : Word → ℕ) (seat : ℕ → Seat) (
       let r = in_round s v (round.Raise ran) e in
       let work = r.1.0 in
       let next = In v.slot work v.acked v.acked Rests in
-      let off : c.interrupts ≡ nat_lt v.acked 2 = s.irq ∙ ap irq_of r.1.2 in
       let shows' = moved_seat u seat source me (state_after u p at c me (Advance v (round.Raise ran))) (at_then u at c me (Advance v (round.Raise ran))) next
       (state_stored u p at seat source h v.slot me work v.acked v.acked 0 r.1.2) in
       search (shows', at_test, nat_lt, or_true, or_false, round_source, arith)

@@ -31,7 +31,7 @@ module _ (u : Setup) (p : StopState) (at : Word → ℕ) (seat : ℕ → Seat) (
       record { seat_after = g.0; source_after = source me; shows = g.1; sits = g.2 }
     where
       low : me < 64
-      low = let few = h.setup.few in let b = s.below in omega arith
+      low = omega arith
 
       go : c.visit ≡ None → seat me ≡ Free → OwnsIf c.is_open (source me) → (b : Bool) → has (at (Slot slot Roll)) me ≡ b →
           (x : Seat) × (StopShows u (state_after u p at c me (Enter slot)) (at_then u at c me (Enter slot)) (put seat me x) (put source me (source me))) ×
@@ -64,7 +64,6 @@ module _ (u : Setup) (p : StopState) (at : Word → ℕ) (seat : ℕ → Seat) (
     one_func : (answer : ℕ) → c.stage ≡ Some (Complete v (completion.LoadFunc answer)) → StopStep u p at seat source c me
         (Complete v (completion.LoadFunc answer))
     one_func answer e =
-        let x = at_seat s (Complete v (completion.LoadFunc answer)) e in
         record {
           seat_after = seat me;
           source_after = source me;

@@ -115,7 +115,6 @@ module _ (u : Setup) (p : StopState) (at : Word → ℕ) (seat : ℕ → Seat) (
 
   begun : (work : Work) (f : Field) → c.stage ≡ Some (Begin work f) → Fits (Begin work f)
   begun work f e =
-      let d : DraftShows u p.gate (p.now.stop me) (λ f. at (Slot me f)) me work (order f) = source_is (Drafts work (order f)) (source_at (Begin work f) e).1 in
       search (go, arith)
     where
       here : put p.now.stop me (opened (p.now.stop me) (p.now.stop me).work) me ≡ opened (p.now.stop me) (p.now.stop me).work

@@ -73,7 +73,7 @@ module _ (u : Setup) (p : StopState) (at : Word → ℕ) (seat : ℕ → Seat) (
           (λ ne. (s.irq ∙ ap irq_of is) ∙ ap (λ b. b || v.acked == 4) (search (look_irq, arith)))
 
       below : (work : Work) → seat me ≡ In v.slot work v.acked v.acked Rests → v.acked ≢ 4 → v.acked ≤ 3
-      below work is more = let k = inside_keeps u p at seat source h v.slot me work v.acked v.acked Rests is in let m = k.4 in omega arith
+      below work is more = let k = inside_keeps u p at seat source h v.slot me work v.acked v.acked Rests is in omega arith
 
       go : (work : Work) → seat me ≡ In v.slot work v.acked v.acked Rests → c.visit ≡ Some v → IsLoaded v work → v.acked ≢ 4 →
           OwnsIf c.is_open (source me) → (b : Bool) → (at (Slot v.slot State) == v.acked) ≡ b →
@@ -134,7 +134,6 @@ module _ (u : Setup) (p : StopState) (at : Word → ℕ) (seat : ℕ → Seat) (
       let work = r.1.1.0 in
       let run = r.1.1.1 in
       let same : key ≡ work.func = r.1.1.2 in
-      let is_change : change ≡ change_of work.arg = r.1.1.3 in
       let kind : work.kind ≡ Patch = sym run.0.kind ∙ r.1.0 in
       let active : has work.active me ≡ true = ap (λ m. has m me) (sym run.0.active) ∙ run.2 in
       let found = at (Key work.func) in
@@ -179,7 +178,6 @@ module _ (u : Setup) (p : StopState) (at : Word → ℕ) (seat : ℕ → Seat) (
   pub load_entry : (key word site : ℕ) → c.stage ≡ Some (Advance v (round.LoadEntry key word site)) → StopStep u p at seat source c me
       (Advance v (round.LoadEntry key word site))
   load_entry key word site e =
-      let r = in_round s v (round.LoadEntry key word site) e in
       search (still u seat source me p at h, loads, round_source, arith)
     where
       -- all is loaded
@@ -223,11 +221,9 @@ module _ (u : Setup) (p : StopState) (at : Word → ℕ) (seat : ℕ → Seat) (
                   Sits u me (at Gate) (stop_goes (record c { changes = c.changes ++ site_change work.func (is_on word) site (entry_at (at (Entry site))) })
                   (Advance v (cond b (round.StoreChange 0) (round.LoadEntry work.func word (site + 1))))).control (seat me) (source me)
               either true last more =
-                  let end : site + 1 ≡ MOST_SITES = eqb-true (site + 1) MOST_SITES last in
                   whole visit work patch y (c.changes ++ site_change work.func (is_on word) site (entry_at (at (Entry site))))
                   (search (grown, take_all, arith))
               either false last more =
-                  let on : site + 1 ≢ MOST_SITES = λ z. let bad : true ≡ false = sym (eq-eqb (site + 1) MOST_SITES z) ∙ last in cc in
                   search (grown, arith)
 
   -- a store of a patch

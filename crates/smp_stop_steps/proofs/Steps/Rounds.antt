@@ -236,7 +236,6 @@ module _ (u : Setup) (p : StopState) (at : Word → ℕ) (seat : ℕ → Seat) (
         StopShows u (told u p me act.Sub (Slot s Ack) (Some found) (Some (found - 1)) answer) (put_word at (Slot s Ack) (found - 1)) (put seat me next) source
     ack_subtracted is ready =
         let st = here job a (a + 1) Rests is in
-        let k = keeps job a (a + 1) Rests is in
         let idle : IsNoPatch (seat me) = subst IsNoPatch (sym is) tt in
         let phase : (p.now.stop s).phase ≡ a + 1 = search arith in
         let many : job.kind ≢ One = search (several, shown, arith) in
@@ -308,7 +307,6 @@ module _ (u : Setup) (p : StopState) (at : Word → ℕ) (seat : ℕ → Seat) (
       let st = here job a l Sets is in
       let open_ = is_open job a l Sets is in
       let o = shown job a l Sets is in
-      let at' = put_word at (Slot s State) (a + 1) in
       let stop' = raised (p.now.stop s) (a + 1) in
       let next = In s job a l Rests in
       let busy : (p.now.stop s).phase ≢ 0 = λ z. one (p.now.stop s).raising st.2 (o.calm z) in

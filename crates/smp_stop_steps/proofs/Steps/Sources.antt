@@ -94,7 +94,7 @@ module _ (u : Setup) (p : StopState) (at : Word → ℕ) (seat : ℕ → Seat) (
   draft work k is = subst (SourceShows u p.gate (p.now.stop me) w me) is (h.sources me)
 
   outside_not : (x : Standing) → x ≡ Outside → is_inside x ≡ true → ⊥
-  outside_not x e i = let bad : false ≡ true = sym (ap is_inside e) ∙ i in cc
+  outside_not x e i = cc
 
   -- store of a field of a stop that is not yet open
   pub field_stored : (work : Work) (k : ℕ) (f : Field) (answer : ℕ) → source me ≡ Drafts work k → order f ≡ k → k < 10 →
@@ -161,7 +161,6 @@ module _ (u : Setup) (p : StopState) (at : Word → ℕ) (seat : ℕ → Seat) (
       StopShows u (told u p me act.Load (Slot me Result) (Some (at (Slot me Result))) None answer) at seat (put source me Shut)
   result_loaded work answer is =
       let o : OwnerShows u (p.now.stop me) work × ((p.now.stop me).ending ≡ Ended) = subst (SourceShows u p.gate (p.now.stop me) w me) is (h.sources me) in
-      let shown = (h.present.slots me).shows o.0.is_open in
       let d : DoneShows u.cpus (p.now.stop me).standing Ended (at (Slot me Done)) = search arith in
       let result = at (Slot me Result) in
       let stop' = closed (p.now.stop me) in

@@ -45,16 +45,11 @@ module _ (u : Setup) (p : StopState) (at : Word → ℕ) (seat : ℕ → Seat) (
 
   pub take_gate : c.stage ≡ Some TakeGate → StopStep u p at seat source c me TakeGate
   take_gate e =
-      let x : AtRest = subst (λ (st : Option StopStage). SitsAt u me c st (seat me)) e s.seat in
-      let y : OwnsIf c.is_open (source me) = subst (λ (st : Option StopStage). SourceSits c.is_open st (source me)) e s.source in
       let shows' = still u seat source me (state_after u p at c me TakeGate) (at_then u at c me TakeGate) (gate_is_taken (at Gate == 0) refl) in
       search (shows', arith)
 
   pub open_gate : c.stage ≡ Some OpenGate → StopStep u p at seat source c me OpenGate
   open_gate e =
-      let x : AtRest = subst (λ (st : Option StopStage). SitsAt u me c st (seat me)) e s.seat in
-      let y : OwnsIf c.is_open (source me) = subst (λ (st : Option StopStage). SourceSits c.is_open st (source me)) e s.source in
-      let g : at Gate ≡ me + 1 = subst (HoldsGate me (at Gate)) e s.gate_held in
       let shows' = still u seat source me (state_after u p at c me OpenGate) (at_then u at c me OpenGate) (search (gate_opened, gate_mine, not_drafting, arith)) in
       search (shows', arith)
 
@@ -127,23 +122,16 @@ module _ (u : Setup) (p : StopState) (at : Word → ℕ) (seat : ℕ → Seat) (
   pub enter_active : (slot : ℕ) (kind : KindOf) (mask : ℕ) → c.stage ≡ Some (EnterActive slot kind mask) → StopStep u p at seat source c me
       (EnterActive slot kind mask)
   enter_active slot kind mask e =
-      let x : (work : Work) × (seat me ≡ In slot work 0 0 Rests) × (kind ≡ work.kind) × (mask ≡ work.mask) = search arith in
-      let y : OwnsIf c.is_open (source me) = subst (λ (st : Option StopStage). SourceSits c.is_open st (source me)) e s.source in
-      let w = work_words u p at seat source h slot me x.0 0 0 Rests x.1 in
       let shows' = still u seat source me (state_after u p at c me (EnterActive slot kind mask)) at h in
       search (shows', arith)
 
   pub read_key : (k : ℕ) → c.stage ≡ Some (ReadKey k) → StopStep u p at seat source c me (ReadKey k)
   read_key k e =
-      let x : (c.interrupts ≡ true) × (k < u.keys) × AtRest = subst (λ (st : Option StopStage). SitsAt u me c st (seat me)) e s.seat in
-      let y : OwnsIf c.is_open (source me) = subst (λ (st : Option StopStage). SourceSits c.is_open st (source me)) e s.source in
       let shows' = still u seat source me (state_after u p at c me (ReadKey k)) at (key_read u p at seat source h me k 0 (search (h.present.irq, arith))) in
       search (shows', arith)
 
   pub read_site : (i : ℕ) → c.stage ≡ Some (ReadSite i) → StopStep u p at seat source c me (ReadSite i)
   read_site i e =
-      let x : (c.interrupts ≡ true) × (i < length u.entries) × AtRest = subst (λ (st : Option StopStage). SitsAt u me c st (seat me)) e s.seat in
-      let y : OwnsIf c.is_open (source me) = subst (λ (st : Option StopStage). SourceSits c.is_open st (source me)) e s.source in
       let shows' = still u seat source me (state_after u p at c me (ReadSite i)) at (site_read u p at seat source h me i 0) in
       search (shows', arith)
 
@@ -153,8 +141,6 @@ module _ (u : Setup) (p : StopState) (at : Word → ℕ) (seat : ℕ → Seat) (
       let x : (c.interrupts ≡ true) × (u.online me ≡ true) × (k < u.keys) × AtRest = subst (λ (st : Option StopStage). SitsAt u me c st (seat me)) e s.seat in
       let y : OwnsIf c.is_open (source me) = subst (λ (st : Option StopStage). SourceSits c.is_open st (source me)) e s.source in
       let on : p.now.irq me ≡ true = h.present.irq me ∙ (sym s.irq ∙ x.0) in
-      let few = h.setup.few_keys in
-      let low = x.2 in
       let fits = (lawful_when_on u p.now at seat h.present me x.1 on).keys k (omega arith) in
       let shows' = still u seat source me (state_after u p at c me (NudgeKey k up)) at (key_read u p at seat source h me k 0 on) in
       search (shows', go x y fits (count_after (nudge_of up) (at (Key k))) refl, arith)
@@ -174,8 +160,6 @@ module _ (u : Setup) (p : StopState) (at : Word → ℕ) (seat : ℕ → Seat) (
   pub exchange_key : (k expected new : ℕ) → c.stage ≡ Some (ExchangeKey k expected new) → StopStep u p at seat source c me (ExchangeKey k expected new)
   exchange_key k expected new e =
       let x : (c.interrupts ≡ true) × (u.online me ≡ true) × (k < u.keys) × IsNudge expected new × AtRest = search arith in
-      let y : OwnsIf c.is_open (source me) = subst (λ (st : Option StopStage). SourceSits c.is_open st (source me)) e s.source in
-      let on : p.now.irq me ≡ true = h.present.irq me ∙ (sym s.irq ∙ x.0) in
       let shows' = still u seat source me (state_after u p at c me (ExchangeKey k expected new)) (at_then u at c me (ExchangeKey k expected new)) (search (go, x.3, arith)) in
       search (shows', arith)
     where
@@ -183,7 +167,6 @@ module _ (u : Setup) (p : StopState) (at : Word → ℕ) (seat : ℕ → Seat) (
           StopShows u (told u p me act.Cas (Key k) (Some (at (Key k))) (cond b (Some new) None) 0)
           (put_if put_word at (Key k) (cond b (Some new) None)) seat source
       go online on nudge true z =
-          let same = eqb-true (at (Key k)) expected z in
           key_exchanged u p at seat source h me k (at (Key k)) new s.below online on refl (search arith) 0
       go online on nudge false z = h
 
@@ -221,7 +204,6 @@ module _ (u : Setup) (p : StopState) (at : Word → ℕ) (seat : ℕ → Seat) (
 
   pub load_result : c.stage ≡ Some LoadResult → StopStep u p at seat source c me LoadResult
   load_result e =
-      let x : AtRest = subst (λ (st : Option StopStage). SitsAt u me c st (seat me)) e s.seat in
       let y : (c.is_open ≡ true) × ((work : Work) × (source me ≡ Collects work)) = search arith in
       let shows' = moved_source u seat source me (state_after u p at c me LoadResult) at Shut (result_loaded u p at seat source h me y.1.0 0 y.1.1) in
       search (shows', arith)

@@ -35,8 +35,8 @@ module _ (u : Setup) (p : StopState) (at : Word → ℕ) (seat : ℕ → Seat) (
   open_work s op = go (source s) (h.sources s)
     where
       go : (y : Source) → SourceShows u p.gate (p.now.stop s) (λ f. at (Slot s f)) s y → IsWork u (p.now.stop s).work
-      go Shut d = let bad : true ≡ false = sym op ∙ d in cc
-      go (Drafts work k) d = let bad : true ≡ false = sym op ∙ d.shut in cc
+      go Shut d = cc
+      go (Drafts work k) d = cc
       go (Owns work) d = subst (IsWork u) (sym d.work_is) d.is_work
       go (Collects work) d = subst (IsWork u) (sym d.0.work_is) d.0.is_work
 
@@ -84,7 +84,7 @@ module _ (u : Setup) (p : StopState) (at : Word → ℕ) (seat : ℕ → Seat) (
 
     module _ (c : StopControlValue) (s : Sits u me (at Gate) c (seat me) (source me)) where
       me_below : me < cpus
-      me_below = let b = s.below in omega arith
+      me_below = omega arith
 
       round_named : (v : Visit) (stage : RoundStage) → SitsInRound u me c.changes v stage (seat me) →
           IsStopWord (word_of (round_access u.cpus c.changes v stage))
