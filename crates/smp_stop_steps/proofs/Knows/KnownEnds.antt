@@ -63,16 +63,12 @@ module _ (p : StopState) (at : Word → ℕ) (seat : ℕ → Seat) (source : ℕ
           collected = k.collected;
           answers = k.answers;
           looks = k.looks;
-          calling = ap told_calling mine ∙ (told_same x f ∙
-              k.calling);
+          calling = ap told_calling mine ∙ (told_same x f ∙ k.calling);
           readings = k.readings;
           nudged = k.nudged;
           patched = k.patched;
         };
-        others = λ c ne. ap (λ y. record (columns_of p c) {
-          calling =
-              told_calling y;
-        }) (put_other p.calling v.number g c ne);
+        others = λ c ne. ap (λ y. record (columns_of p c) { calling = told_calling y }) (put_other p.calling v.number g c ne);
       } in
       search (known, shown', arith)
 

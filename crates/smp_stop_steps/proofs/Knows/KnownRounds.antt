@@ -1,14 +1,13 @@
 -- The steps of a CPU that knows v: it enters a stop, and goes through its phases.
 use Rattle.std.proofs.Common.{◌≡◌, ◌≢◌, ℕ, ◌+◌, ◌-◌, ◌<◌, ◌≤◌, ◌^◌, Bool, true, false, ◌==◌, ◌&&◌, not, cond, Some, None, List, [], ◌∷◌, ◌++◌, sym, subst}
-use Rattle.std.proofs.Common.{refl, ap, ◌∙◌, arith, bit_and, eq-eqb}
+use Rattle.std.proofs.Common.{refl, ap, ◌∙◌, arith, bit_and}
 use Rattle.smp_words.specs.Access.{one_less}
 use Rattle.smp_words.proofs.Puts.{put_same, put_other}
-use Rattle.smp_stop_steps.specs.{HasCalled, has, put, put_word, cpus, mask_weight, Change, Reading, patch_answer, Seat, Free, In, Alters, Turn, Rests, Fills}
-use Rattle.smp_stop_steps.specs.{Sets, Stands, StopShows, Source, all_but, Setup, StopState, StopCall, Calling, Calls, Standing, Inside, acknowledged, raised}
-use Rattle.smp_stop_steps.specs.{told, enters, acknowledges, acknowledges_now, raises, stored_open, stored_shut, with_stop, leaves, unpatched, carried}
-use Rattle.smp_stop_steps.specs.{may_call, carried_call, told_calling, Sees, GoesOn, columns_of, setup_in, Part, called_by, ran_since, is_drafting}
-use Rattle.smp_stop_steps.specs.{drafted_known, slot_stored, member_stored, refilled_by, raised_by, looked_known, looked_to, acked_by, read_since, Field}
-use Rattle.smp_stop_steps.specs.{Work, Word, Slot}
+use Rattle.smp_stop_steps.specs.{HasCalled, has, put, put_word, cpus, mask_weight, Change, Reading, Seat, Free, In, Alters, Turn, Rests, Fills, Sets, Stands}
+use Rattle.smp_stop_steps.specs.{StopShows, Source, all_but, Setup, StopState, StopCall, Calling, Calls, Standing, Inside, acknowledged, raised, told, enters}
+use Rattle.smp_stop_steps.specs.{acknowledges, acknowledges_now, raises, stored_open, stored_shut, with_stop, leaves, unpatched, carried, may_call}
+use Rattle.smp_stop_steps.specs.{carried_call, told_calling, Sees, GoesOn, columns_of, setup_in, Part, called_by, ran_since, is_drafting, drafted_known}
+use Rattle.smp_stop_steps.specs.{slot_stored, member_stored, refilled_by, raised_by, looked_known, acked_by, read_since, Field, Work, Word, Slot}
 use Rattle.smp_stop_steps.proofs.Steps.Same.{word_same}
 use Rattle.smp_stop_steps.proofs.Steps.Callings.{carried_alone}
 use Rattle.smp_stop_steps.specs.State.{Present, Carries}
@@ -94,8 +93,7 @@ module _ (p : StopState) (at : Word → ℕ) (seat : ℕ → Seat) (source : ℕ
       let seen = p.looks v.number ++ found ∷ [] in
       let shown' = goes_seat p seat source v sees (told u p v.number act.Load (Slot s field.State) (Some found) None 0) at (In s w a found Rests) (record
       (v.part) { looks = v.part.looks ++ found ∷ [] }) (state_loaded u p at seat source h s v.number w a l 0 (sees.seat_is ∙ is) more) record {
-        mine =
-            search (put_same, arith);
+        mine = search (put_same, arith);
         others = λ c ne. ap (λ x. record (columns_of p c) { looks = x }) (put_other p.looks v.number seen c ne);
       } in
       search (is, shown', arith)
@@ -144,8 +142,7 @@ module _ (p : StopState) (at : Word → ℕ) (seat : ℕ → Seat) (source : ℕ
       let leaves_it = a + 1 == 4 && not (found == 1) in
       let n : Present = record (p.now) {
         stop = put p.now.stop s (acknowledged (p.now.stop s) v.number (a + 1) found);
-        patching = cond (a + 1 == 3)
-            (unpatched v.number p.now.patching) p.now.patching;
+        patching = cond (a + 1 == 3) (unpatched v.number p.now.patching) p.now.patching;
       } in
       let part = ran_since (a + 1 == 3) (read_since leaves_it s w v) in
       let alone = carried_alone u.first p.now.patching seat v.number (p.calling v.number) (subst IsNoPatch (sym here) tt) h.present.runner in

@@ -4,11 +4,9 @@ use Rattle.std.proofs.Common.{◌++◌, sym, subst, refl, ap, ◌∙◌, arith}
 use Rattle.smp_words.specs.Access.{put_if}
 use Rattle.smp_words.proofs.Puts.{put_all, put_same, put_other}
 use Rattle.smp_stop_steps.specs.{put, put_word, cpus, Seat, StopShows, DoneShows, begun_value, order, Source, Shut, Drafts, Owns, Collects, SourceShows}
-use Rattle.smp_stop_steps.specs.{DraftShows, OwnerShows, IsDrafted, IsWork, Setup, StopState, Standing, Ending, told, drafted, drafts, opens, stored_open}
-use Rattle.smp_stop_steps.specs.{stored_shut, Sees, GoesOn, IsBegun, columns_of, told_source, told_work, holds_it, setup_in, is_drafting, drafted_known}
-use Rattle.smp_stop_steps.specs.{draft_known, opened_by, slot_stored, gate_known, done_by, collected_known, Field, Kind as KindOf, One, Work, Word, Gate}
-use Rattle.smp_stop_steps.specs.{Slot}
-use Rattle.smp_stop_steps.proofs.State.Gates.{gate_free}
+use Rattle.smp_stop_steps.specs.{DraftShows, IsDrafted, IsWork, Setup, StopState, Standing, Ending, told, drafted, drafts, opens, stored_open, stored_shut}
+use Rattle.smp_stop_steps.specs.{Sees, GoesOn, IsBegun, told_source, told_work, holds_it, setup_in, is_drafting, drafted_known, draft_known, opened_by}
+use Rattle.smp_stop_steps.specs.{slot_stored, gate_known, done_by, collected_known, Field, One, Work, Word, Gate, Slot}
 use Rattle.smp_stop_steps.specs.Known.{Known}
 use Rattle.smp_stop_steps.proofs.Knows.Parts.{Leaves, goes, goes_source, goes_still}
 use Rattle.smp_stop_steps.proofs.Steps.Sources.{gate_taken, gate_opened, field_stored, roll_stored, done_loaded, result_loaded, kind_back, work_ext}
@@ -21,9 +19,6 @@ holder g me e = search (eqb-true, arith)
 -- a CPU that is told to draft nothing drafts nothing
 not_draft : (y told : Source) → told_source y ≡ told → is_drafting told ≡ false → (w : Work) (k : ℕ) → y ≢ Drafts w k
 not_draft y told is idle w k e = cc
-
-is_shut : (y : Source) → told_source y ≡ Shut → y ≡ Shut
-is_shut y e = search arith
 
 is_owns : (y : Source) (w : Work) → told_source y ≡ Owns w → y ≡ Owns w
 is_owns y w e = search arith

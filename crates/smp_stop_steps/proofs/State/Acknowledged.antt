@@ -1,5 +1,5 @@
 -- Acknowledging, refilling, raising and looking, among all slots and CPUs.
-use Rattle.std.proofs.Common.{◌≡◌, ◌≢◌, ℕ, ◌+◌, ◌-◌, ◌<◌, Bool, true, false, ◌==◌, cond, sym, subst, refl, ap, ◌∙◌, arith, ⊎_elim, ne_eqb, eq-eqb, Some, List}
+use Rattle.std.proofs.Common.{◌≡◌, ◌≢◌, ℕ, ◌+◌, ◌-◌, ◌<◌, Bool, true, ◌==◌, cond, sym, subst, refl, arith, ne_eqb, eq-eqb, Some, List}
 use Rattle.std.specs.List.{AllByRecursion}
 use Rattle.smp_words.proofs.Puts.{at_test, put_same, put_other}
 use Rattle.smp_words.specs.declared.field.Field.TheVariants.{Ack, State}
@@ -64,9 +64,7 @@ module _ (u : Setup) (p : Present) (at : Word → ℕ) (seat : ℕ → Seat) (h 
       moves u p at (put_word at (Slot s Ack) (found - 1)) seat s me stop' p.inside irq' readings' (In s job (a + 1) (a + 1) (cond (found == 1) Fills Rests)) h
       (slot_put u.cpus p.stop at s Ack (found - 1) stop' h.slots (acknowledges_slot u.cpus (p.stop s) w (h.slots s) me a st.1)) refl
       (search (put_other, other_turn, arith))
-      save (
-      search (at_test, put_same, own_turn, work_here, arith)
-      )
+      save (search (at_test, put_same, own_turn, work_here, arith))
       (home_stays stop' a (a + 1) st.1 st.0) off read
       (subst IsNoPatch (sym is) tt) (λ op kind. h.works s op kind)
     where
@@ -90,9 +88,7 @@ module _ (u : Setup) (p : Present) (at : Word → ℕ) (seat : ℕ → Seat) (h 
       (In s job a l Sets) h
       (search (slot_put, refills_slot, h.slots, arith)) refl
       (search (ne_eqb, arith))
-      save (
-      search (standing_here, turn_here, eq-eqb, work_here, arith)
-      )
+      save (search (standing_here, turn_here, eq-eqb, work_here, arith))
       (home_stays (refilled (p.stop s) me) a l st.1 st.0) off read
       (subst IsNoPatch (sym is) tt) (λ op kind. h.works s op kind)
 

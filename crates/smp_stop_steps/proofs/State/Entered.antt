@@ -1,21 +1,19 @@
 -- Entering, completing, opening and collecting, among all slots and CPUs.
-use Rattle.std.proofs.Common.{◌≡◌, ◌≢◌, ℕ, zero, suc, ◌-◌, ◌<◌, Bool, true, false, ◌==◌, cond, sym, subst, refl, ap, ◌∙◌, ◌⊎◌, arith, ne_eqb, eq-eqb, Option}
-use Rattle.std.proofs.Common.{Some, None}
+use Rattle.std.proofs.Common.{◌≡◌, ◌≢◌, ℕ, ◌-◌, ◌<◌, Bool, true, false, ◌==◌, cond, sym, subst, refl, ap, ◌∙◌, ◌⊎◌, arith, ne_eqb, eq-eqb, Option, Some, None}
 use Rattle.smp_words.proofs.Puts.{at_test, put_same, put_other}
-use Rattle.smp_words.specs.Put.{place_of, same_field}
-use Rattle.smp_words.specs.declared.field.Field.TheVariants.{Ack, Done, Result, Roll, Todo}
+use Rattle.smp_words.specs.Put.{same_field}
+use Rattle.smp_words.specs.declared.field.Field.TheVariants.{Done, Result, Roll, Todo}
 use Rattle.smp_labels.specs.Plans.{stored}
-use Rattle.smp_stop_steps.specs.{put, put_word, count_unfinished, unfinished, IsAnswer, IsNot, IsThrough, PresentShows, Closes, Fills, Free, Gives, In, Rests}
-use Rattle.smp_stop_steps.specs.{Seat, Sets, Stands, irq_of, turn_of, DoneShows, IsStored, OpenShows, SlotShows, put_field, IsOfKind, IsPatchWork, IsWork}
-use Rattle.smp_stop_steps.specs.{Setup, Answering, Called, Completed, Ended, Ending, Inside, Last, Nobody, Outside, Raises, Raising, Refills, Running}
-use Rattle.smp_stop_steps.specs.{Standing, closed, completed, ended, is_inside, is_of, opened, stands, Field, Multi, One, Patch, Kind as KindOf, Work, Slot}
-use Rattle.smp_stop_steps.specs.{Word, has}
+use Rattle.smp_stop_steps.specs.{put, put_word, count_unfinished, unfinished, IsAnswer, IsNot, IsThrough, PresentShows, Closes, Free, Gives, In, Rests, Seat}
+use Rattle.smp_stop_steps.specs.{Stands, irq_of, turn_of, DoneShows, IsStored, OpenShows, SlotShows, put_field, IsOfKind, IsPatchWork, IsWork, Setup}
+use Rattle.smp_stop_steps.specs.{Answering, Called, Completed, Ending, Inside, Last, Outside, Raising, Standing, closed, completed, ended, is_inside, is_of}
+use Rattle.smp_stop_steps.specs.{opened, stands, Field, Patch, Kind as KindOf, Work, Slot, Word, has}
 use Rattle.smp_stop_steps.proofs.Basics.Counts.{sum_zero}
 use Rattle.smp_stop_steps.proofs.State.Ends.{all_outside, answer_of_it, answer_unfinished, collects_slot, completes_slot, finishes_slot, opens_slot}
 use Rattle.smp_stop_steps.proofs.State.Moves.{IsNoPatch, SaveMe, moved, moves, slot_put, slot_same, source_moves}
 use Rattle.smp_stop_steps.proofs.State.Phases.{is_open_inside}
 use Rattle.smp_stop_steps.proofs.State.Raises.{in_machine}
-use Rattle.smp_stop_steps.proofs.State.Works.{answers_slot, called_is, enters_slot, not_raising}
+use Rattle.smp_stop_steps.proofs.State.Works.{answers_slot, enters_slot, not_raising}
 use Rattle.smp_stop_steps.specs.State.{Present}
 use Rattle.smp_stop_steps.specs.Stop.{Stop}
 
@@ -71,8 +69,7 @@ module _ (u : Setup) (p : Present) (at : Word → ℕ) (seat : ℕ → Seat) (h 
       drafted_slot f n work shut out other = search (turned, h.slots, apart, arith)
 
   -- load of the result, after done was found
-  pub step_collects : (p.stop s).is_open ≡ true → at (Slot s Done) ≡ 1 →
-      PresentShows u (moved p s (closed (p.stop s)) p.inside p.irq p.readings) at seat
+  pub step_collects : (p.stop s).is_open ≡ true → at (Slot s Done) ≡ 1 → PresentShows u (moved p s (closed (p.stop s)) p.inside p.irq p.readings) at seat
   step_collects open_ found =
       source_moves u p at at seat s (closed (p.stop s)) h
       (slot_same u.cpus p.stop at s (closed (p.stop s)) h.slots (collects_slot u.cpus (p.stop s) w (h.slots s) open_ found).1) refl
@@ -81,9 +78,6 @@ module _ (u : Setup) (p : Present) (at : Word → ℕ) (seat : ℕ → Seat) (h 
     where
       apart : false ≡ true → ⊥
       apart e = cc
-
-      none_left : (e : Ending) → DoneShows u.cpus (p.stop s).standing e (at (Slot s Done)) → count_unfinished u.cpus (p.stop s).standing ≡ 0
-      none_left e d = search arith
 
       running : (c : ℕ) (e : Ending) → e ≡ Last c → DoneShows u.cpus (p.stop s).standing e (at (Slot s Done)) → ⊥
       running c e e' d = search arith
@@ -118,9 +112,7 @@ module _ (u : Setup) (p : Present) (at : Word → ℕ) (seat : ℕ → Seat) (h 
         moves u p at (put_word at (Slot s Roll) n) seat s me stop' (put p.inside me (Some s)) p.irq p.readings (In s (p.stop s).work 0 0 Rests) h
         (slot_put u.cpus p.stop at s Roll n stop' h.slots (enters_slot u.cpus (p.stop s) w (h.slots s) me n found clears others)) refl
         (search (put_other, arith))
-        (save (Some s)) (
-        search (put_same, at_test, quiet, arith)
-        )
+        (save (Some s)) (search (put_same, at_test, quiet, arith))
         (at_home stop' (Some s) (λ j i. absurd (let bad : None ≡ Some j = sym st ∙ h.homes j me i in cc)) (λ _. refl))
         (h.irq me ∙ ap irq_of is)
         (λ on i. h.read me on (h.irq me ∙ ap irq_of is))
@@ -200,9 +192,7 @@ module _ (u : Setup) (p : Present) (at : Word → ℕ) (seat : ℕ → Seat) (h 
         moves u p at (put_word at (Slot s Result) v) seat s me stop' p.inside p.irq p.readings (Gives s job a v) h
         (slot_put u.cpus p.stop at s Result v stop' h.slots (answers_slot u.cpus (p.stop s) w (h.slots s) me a l v st.1 some (through, quiet))) refl
         (search (put_other, arith))
-        record { inside = λ c ne. refl; irq = λ c ne. refl; readings = λ c ne. refl } (
-        search (at_test, put_same, arith)
-        )
+        record { inside = λ c ne. refl; irq = λ c ne. refl; readings = λ c ne. refl } (search (at_test, put_same, arith))
         (search (at_test, h.homes, arith))
         (h.irq me ∙ on)
         (λ o i. h.read me o (h.irq me ∙ on))

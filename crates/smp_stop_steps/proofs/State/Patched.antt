@@ -1,7 +1,7 @@
 -- The label law: patching, and reading.
 use Rattle.std.proofs.lemmas.Bool.{cases_lt}
-use Rattle.std.proofs.Common.{◌≡◌, ◌≢◌, ℕ, ◌+◌, ◌≤◌, true, false, nat_lt, ◌==◌, ◌||◌, sym, subst, refl, ap, ◌∙◌, ◌⊎◌, arith, le-ltb, eqb-true, ⊎_elim, ne_eqb}
-use Rattle.std.proofs.Common.{Some, List, [], ◌∷◌, ◌++◌, lt-ltb, IfSome}
+use Rattle.std.proofs.Common.{◌≡◌, ◌≢◌, ℕ, ◌≤◌, true, false, nat_lt, ◌==◌, ◌||◌, sym, subst, refl, ap, ◌∙◌, ◌⊎◌, arith, le-ltb, eqb-true, ne_eqb, Some, List}
+use Rattle.std.proofs.Common.{[], ◌∷◌, ◌++◌, lt-ltb, IfSome}
 use Rattle.std.specs.List.{AllByRecursion}
 use Rattle.smp_labels.specs.declared.keys.Change.{Change as KeyChange}
 use Rattle.smp_words.proofs.Puts.{put_all, at_test, put_same}
@@ -10,9 +10,8 @@ use Rattle.smp_labels.specs.Keys.{count_left}
 use Rattle.smp_labels.specs.Law.{IsLawful}
 use Rattle.smp_labels.specs.Plans.{AreEntriesOf, SetsKey, applied, stored}
 use Rattle.smp_stop_steps.specs.{put, Agrees, Change, LabelsShow, Patches, Patching, Reading, Whole, labels_in, StandsSet, count_set, state_left}
-use Rattle.smp_stop_steps.specs.{PresentShows, RunnerShows, Alters, Closes, Free, Gives, In, Rests, Seat, Stands, irq_of, Keeps, SlotShows, Setup, Answering}
-use Rattle.smp_stop_steps.specs.{Called, Completed, Inside, Outside, Standing, acked, is_inside, is_of, Field, Patch, Work, Key, Slot, Word, is_on, change_of}
-use Rattle.smp_stop_steps.specs.{has}
+use Rattle.smp_stop_steps.specs.{PresentShows, RunnerShows, Alters, In, Rests, Seat, Stands, irq_of, Keeps, SlotShows, Setup, Inside, Standing, acked, is_of}
+use Rattle.smp_stop_steps.specs.{Field, Patch, Work, Key, Slot, Word, is_on, change_of, has}
 use Rattle.smp_stop_steps.proofs.State.Ends.{function_law}
 use Rattle.smp_stop_steps.proofs.State.Phases.{is_open_inside}
 use Rattle.smp_stop_steps.specs.State.{Present}

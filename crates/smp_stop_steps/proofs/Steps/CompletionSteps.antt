@@ -64,12 +64,7 @@ module _ (u : Setup) (p : StopState) (at : Word → ℕ) (seat : ℕ → Seat) (
     one_func : (answer : ℕ) → c.stage ≡ Some (Complete v (completion.LoadFunc answer)) → StopStep u p at seat source c me
         (Complete v (completion.LoadFunc answer))
     one_func answer e =
-        record {
-          seat_after = seat me;
-          source_after = source me;
-          shows = still u seat source me p at h;
-          sits = search (work_words, at_source, arith);
-        }
+        record { seat_after = seat me; source_after = source me; shows = still u seat source me p at h; sits = search (work_words, at_source, arith) }
 
     one_arg : (answer func : ℕ) → c.stage ≡ Some (Complete v (completion.LoadArg answer func)) → StopStep u p at seat source c me
         (Complete v (completion.LoadArg answer func))
@@ -122,9 +117,7 @@ module _ (u : Setup) (p : StopState) (at : Word → ℕ) (seat : ℕ → Seat) (
     counted_sits y on b = search arith
 
     count_down : c.stage ≡ Some (Complete v completion.CountDown) → StopStep u p at seat source c me (Complete v completion.CountDown)
-    count_down e =
-        let x = at_seat s (Complete v completion.CountDown) e in
-        either x.1.0 x.1.1 (at_source s (Complete v completion.CountDown) e)
+    count_down e = let x = at_seat s (Complete v completion.CountDown) e in either x.1.0 x.1.1 (at_source s (Complete v completion.CountDown) e)
       where
         either : (work : Work) → (((v.answer ≡ 0) × IsLoaded v work × IsThroughAll v × (seat me ≡ In v.slot work v.acked v.acked Rests)) ⊎
             (seat me ≡ Gives v.slot work v.acked v.answer)) →

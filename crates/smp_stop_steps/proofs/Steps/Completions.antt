@@ -1,13 +1,12 @@
 -- The kinds of step at the ends of a stop for one CPU: it enters, stores its answer, counts itself, and stores done.
-use Rattle.std.proofs.Common.{◌≡◌, ◌≢◌, ℕ, ◌+◌, ◌-◌, ◌≤◌, Bool, true, false, nat_lt, eq-eqb, ◌==◌, cond, sym, subst, refl, ap, ◌∙◌, ◌⊎◌, inl, inr, arith}
-use Rattle.std.proofs.Common.{⊎_elim, Option, Some, None, List, [], ◌∷◌, ◌++◌}
+use Rattle.std.proofs.Common.{◌≡◌, ◌≢◌, ℕ, ◌-◌, ◌≤◌, Bool, true, false, nat_lt, eq-eqb, ◌==◌, cond, sym, subst, refl, ap, ◌∙◌, ◌⊎◌, inl, inr, arith, ⊎_elim}
+use Rattle.std.proofs.Common.{Option, Some, None, List, [], ◌∷◌, ◌++◌}
 use Rattle.smp_words.proofs.Puts.{at_test, put_all, put_same, put_other}
 use Rattle.smp_words.specs.declared.field.Field.TheVariants.{Done, Result, Roll, Todo}
 use Rattle.smp_stop_steps.specs.{IsCalling, AreClosing, HasCompleted, StandsSet, put, put_word, one, unfinished, IsAnswer, HasPast, answer_now, OwnsKey}
 use Rattle.smp_stop_steps.specs.{Closes, Free, Gives, In, Rests, Seat, Stands, irq_of, turn_of, StopShows, DoneShows, IsDone, IsLevel, IsPhaseOf, Source}
-use Rattle.smp_stop_steps.specs.{Setup, StopState, Idle, Answering, Called, Completed, Ended, Inside, Outside, Standing, acked, completed, ended, is_inside}
-use Rattle.smp_stop_steps.specs.{is_of, stands, Last, answered_by, completes, completes_with, enters, stored_open, stored_shut, told, with_stop, called_more}
-use Rattle.smp_stop_steps.specs.{Field, One, Patch, Kind as KindOf, Work, Key, Slot, Word, has}
+use Rattle.smp_stop_steps.specs.{Setup, StopState, Idle, Answering, Called, Completed, Ended, Inside, Standing, acked, completed, ended, is_inside, is_of}
+use Rattle.smp_stop_steps.specs.{stands, Last, completes_with, enters, told, called_more, Field, One, Patch, Kind as KindOf, Work, Key, Slot, Word, has}
 use Rattle.smp_stop_steps.proofs.Basics.Bools.{or_true}
 use Rattle.smp_stop_steps.proofs.Steps.Callings.{calling_same, IsNotClosing, idle_free, closing_kept, idle_closes, closing_seat, calling_next}
 use Rattle.smp_stop_steps.proofs.Basics.Counts.{sum_zero}
@@ -170,8 +169,7 @@ module _ (u : Setup) (p : StopState) (at : Word → ℕ) (seat : ℕ → Seat) (
           go false j c = kept false (record (p.now.stop s) { standing = put (p.now.stop s).standing me (Completed a v) }) refl refl refl j c
           go true j c = at_test j s (λ b. let y = cond b (record (p.now.stop s) {
             standing = put (p.now.stop s).standing me (Completed a v);
-            ending =
-                Last me;
+            ending = Last me;
           }) (p.now.stop j) in
               y.is_open ≡ true → y.ending ≡ Last c → (put seat me (Closes s) c ≡ Closes j) × HasCompleted (y.standing c))
               (λ e o l. let same : me ≡ c = cc in

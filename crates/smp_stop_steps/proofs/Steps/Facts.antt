@@ -9,7 +9,6 @@ use Rattle.smp_labels.specs.Plans.{AreEntriesOf}
 use Rattle.smp_stop_steps.specs.{IsCalling, told, may_call, calls_now, behind, count_behind, sum_below, unfinished, Change, labels_in, Alters, Free, Gives}
 use Rattle.smp_stop_steps.specs.{In, Rests, Seat, Stands, Turn, StopShows, IsWritten, Keeps, OpenShows, Shut, Source, IsSetup, Setup, StopState, no_stops}
 use Rattle.smp_stop_steps.specs.{StopCall, Calls, Answering, Called, Completed, Inside, Outside, Standing, is_called, Work, Gate, Slot, Key, Word, has}
-use Rattle.smp_stop_steps.proofs.Steps.Callings.{call_may}
 use Rattle.smp_stop_steps.proofs.State.KeyCounts.{opened_count}
 use Rattle.smp_stop_steps.proofs.Basics.Counts.{sum_zero}
 use Rattle.smp_stop_steps.proofs.State.Phases.{is_open_inside, keeps_inside, none_raises}

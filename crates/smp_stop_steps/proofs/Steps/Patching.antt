@@ -1,15 +1,14 @@
 -- The kinds of step on labels: readings, and the loads and stores of a patch.
 use Rattle.std.specs.List.{AllByRecursion}
-use Rattle.std.proofs.Common.{◌≡◌, ℕ, Bool, true, false, eqb-true, ◌&&◌, cond, sym, subst, refl, ap, ◌∙◌, arith, Option, Some, None, List, [], ◌∷◌, ◌++◌, ◌<◌}
-use Rattle.std.proofs.Common.{IfSome}
+use Rattle.std.proofs.Common.{◌≡◌, ℕ, Bool, true, false, eqb-true, sym, subst, refl, ap, ◌∙◌, arith, Option, Some, None, List, [], ◌∷◌, ◌++◌, ◌<◌, IfSome}
 use Rattle.smp_words.proofs.Puts.{at_test}
 use Rattle.smp_labels.proofs.Patched.{plan_leads, left_in_form, count_lawful}
 use Rattle.smp_labels.specs.Law.{Table}
 use Rattle.smp_labels.specs.Plans.{AreEntriesOf, applied}
 use Rattle.smp_stop_steps.specs.{IsCalling, AreClosing, IsNudge, CountShows, moved_by, put, put_word, Change, Patches, Patching, ReadKey, Reading, labels_in}
-use Rattle.smp_stop_steps.specs.{Agrees, LabelsShow, count_set, state_left, OwnsKey, PresentShows, Alters, In, Rests, Seat, Stands, StopShows, Source, Setup}
-use Rattle.smp_stop_steps.specs.{StopState, Moved, Inside, Standing, is_at_run, is_patch, key_loaded, patch_begun, patched_more, reads, told, plan_at}
-use Rattle.smp_stop_steps.specs.{key_patched, Field, Patch, Work, Entry, Gate, Key, Site, Slot, Word, is_on, change_of, has}
+use Rattle.smp_stop_steps.specs.{Agrees, LabelsShow, count_set, OwnsKey, PresentShows, Alters, In, Rests, Seat, Stands, StopShows, Source, Setup, StopState}
+use Rattle.smp_stop_steps.specs.{Moved, Inside, Standing, is_at_run, key_loaded, reads, told, plan_at, Field, Patch, Work, Entry, Gate, Key, Site, Slot, Word}
+use Rattle.smp_stop_steps.specs.{is_on, change_of, has}
 use Rattle.smp_stop_steps.proofs.Steps.Callings.{calling_same, closing_seat, idle_patch, idle_alters, IsNotClosing}
 use Rattle.smp_stop_steps.proofs.State.KeyCounts.{counts_nudged, counts_patched}
 use Rattle.smp_stop_steps.proofs.Steps.Kept.{source_same}
@@ -37,8 +36,7 @@ module _ (u : Setup) (p : StopState) (at : Word → ℕ) (seat : ℕ → Seat) (
   not_run s on in_ = search (run_is, off_inside, h.present.stands, h.present.irq, arith)
 
   -- load of a key, where interrupts are on: a reading
-  pub key_read : (k answer : ℕ) → p.now.irq me ≡ true →
-      StopShows u (told u p me act.Load (Key k) (Some (at (Key k))) None answer) at seat source
+  pub key_read : (k answer : ℕ) → p.now.irq me ≡ true → StopShows u (told u p me act.Load (Key k) (Some (at (Key k))) None answer) at seat source
   key_read k answer on = go (p.now.inside me) refl
     where
       read : StopShows u (record p { now = reads p.now me (ReadKey k (is_on (at (Key k)))) }) at seat source

@@ -1,6 +1,6 @@
 -- The steps of a turn of `multi_cpu_stop`, by a CPU's stage.
 use Rattle.std.proofs.Common.{◌≡◌, ◌≢◌, ℕ, ◌+◌, ◌^◌, ◌<◌, ◌≤◌, Bool, true, false, nat_lt, eq-eqb, ne_eqb, eqb-true, ◌==◌, ◌&&◌, ◌||◌, cond, sym, subst, refl}
-use Rattle.std.proofs.Common.{ap, ◌∙◌, inl, inr, arith, ⊎_elim, Option, Some, None, List, [], ◌∷◌, ◌++◌, length, take, get_or, length-append, length-take-le}
+use Rattle.std.proofs.Common.{ap, ◌∙◌, inl, inr, arith, Option, Some, None, List, [], ◌∷◌, ◌++◌, length, take, get_or, length-append, length-take-le}
 use Rattle.std.proofs.Common.{take_all, append_assoc}
 use Rattle.std.proofs.lemmas.Bool.{cases_lt}
 use Rattle.std.proofs.lemmas.List.{take_more, get_or_past, append-nil}
@@ -27,9 +27,6 @@ use Rattle.smp_stop_steps.specs.act
 use Rattle.smp_stop_steps.specs.note
 use Rattle.smp_stop_steps.specs.round
 use Rattle.smp_stop_steps.specs.place
-
-some_is : {A : Type 0} {x y : A} → Some x ≡ Some y → x ≡ y
-some_is {A} {x} {y} e = cc
 
 -- a wide number of CPUs
 pub ack_small : (n m : ℕ) → m ≤ 64 → n ≤ m → n < 2 ^ 64
@@ -96,10 +93,8 @@ module _ (u : Setup) (p : StopState) (at : Word → ℕ) (seat : ℕ → Seat) (
         sits = record {
           below = s.below;
           irq = s.irq;
-          seat =
-              (r.0, (r.1.0, (r.1.1.0, run, (work_words u p at seat source h v.slot me r.1.1.0 2 3 Rests run.3).func)));
-          source =
-              round_source s v (round.LoadFunc answer) e;
+          seat = (r.0, (r.1.0, (r.1.1.0, run, (work_words u p at seat source h v.slot me r.1.1.0 2 3 Rests run.3).func)));
+          source = round_source s v (round.LoadFunc answer) e;
           gate_held = tt;
         };
       }
@@ -164,21 +159,14 @@ module _ (u : Setup) (p : StopState) (at : Word → ℕ) (seat : ℕ → Seat) (
               (stop_goes (record c { changes = (place.Key work.func, new) ∷ [] }) (Advance v (cond b (round.LoadEntry work.func new 0)
               (round.StoreChange 0))))).control
               (Alters v.slot work found [] (plan_of work.func found new u.entries)) (source me)
-          split true z b x =
-              let irq' = s.irq ∙ ap irq_of run.3 in
-              search (irq', found, nothing_made, plan_same, arith)
-          split false z true x =
-              let irq' = s.irq ∙ ap irq_of run.3 in
-              search (irq', found, left, plan_tests, arith)
-          split false z false x =
-              let irq' = s.irq ∙ ap irq_of run.3 in
-              search (irq', found, plan_tests, left, arith)
+          split true z b x = let irq' = s.irq ∙ ap irq_of run.3 in search (irq', found, nothing_made, plan_same, arith)
+          split false z true x = let irq' = s.irq ∙ ap irq_of run.3 in search (irq', found, left, plan_tests, arith)
+          split false z false x = let irq' = s.irq ∙ ap irq_of run.3 in search (irq', found, plan_tests, left, arith)
 
   -- load of an entry
   pub load_entry : (key word site : ℕ) → c.stage ≡ Some (Advance v (round.LoadEntry key word site)) → StopStep u p at seat source c me
       (Advance v (round.LoadEntry key word site))
-  load_entry key word site e =
-      search (still u seat source me p at h, loads, round_source, arith)
+  load_entry key word site e = search (still u seat source me p at h, loads, round_source, arith)
     where
       -- all is loaded
       whole : c.visit ≡ Some v → (work : Work) → SitsAtEntry u v work key word (seat me) → OwnsIf c.is_open (source me) → (changes : List Change) →
@@ -223,8 +211,7 @@ module _ (u : Setup) (p : StopState) (at : Word → ℕ) (seat : ℕ → Seat) (
               either true last more =
                   whole visit work patch y (c.changes ++ site_change work.func (is_on word) site (entry_at (at (Entry site))))
                   (search (grown, take_all, arith))
-              either false last more =
-                  search (grown, arith)
+              either false last more = search (grown, arith)
 
   -- a store of a patch
   pub store_change : (made : ℕ) → c.stage ≡ Some (Advance v (round.StoreChange made)) → StopStep u p at seat source c me (Advance v (round.StoreChange made))
@@ -281,8 +268,7 @@ module _ (u : Setup) (p : StopState) (at : Word → ℕ) (seat : ℕ → Seat) (
           ends visit work count loaded two low plan before change [] are long is y true last =
               let irq' = s.irq ∙ ap irq_of is in
               search (irq', made_some, no_change, arith)
-          ends visit work count loaded two low plan before change (x ∷ rest) are long is y true last =
-              absurd (search (eqb-true, length-append, arith))
+          ends visit work count loaded two low plan before change (x ∷ rest) are long is y true last = absurd (search (eqb-true, length-append, arith))
           ends visit work count loaded two low plan before change rest are long is y false last =
               let on : made + 1 ≢ length c.changes = λ z. let bad : true ≡ false = sym (eq-eqb (made + 1) (length c.changes) z) ∙ last in cc in
               record {
@@ -300,8 +286,7 @@ module _ (u : Setup) (p : StopState) (at : Word → ℕ) (seat : ℕ → Seat) (
                     (
                       before ++ change ∷ [],
                       rest,
-                      are ∙ sym (append_assoc before (change ∷ [])
-                          rest),
+                      are ∙ sym (append_assoc before (change ∷ []) rest),
                       length-append before (change ∷ []) ∙ (let z = long in omega arith),
                       refl,
                     ),

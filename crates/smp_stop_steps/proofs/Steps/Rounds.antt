@@ -1,17 +1,16 @@
 -- The kinds of step of a round: a CPU looks at the phase, acknowledges it, refills the count, and stores the next phase.
 use Rattle.std.proofs.Common.{◌≡◌, ◌≢◌, ℕ, ◌+◌, ◌-◌, ◌≤◌, Bool, true, false, not, nat_lt, lt-ltb, le-ltb, eqb-true, eq-eqb, ne_eqb, ◌==◌, ◌&&◌, ◌||◌, cond}
-use Rattle.std.proofs.Common.{sym, subst, refl, ap, ◌∙◌, ◌⊎◌, inl, inr, arith, ⊎_elim, Some, None, List, [], ◌∷◌, ◌++◌, Option, IfSome}
-use Rattle.std.proofs.lemmas.Bool.{cases_lt, cases_eq}
+use Rattle.std.proofs.Common.{sym, subst, refl, ap, ◌∙◌, ◌⊎◌, arith, Some, None, List, [], ◌∷◌, ◌++◌, Option, IfSome}
+use Rattle.std.proofs.lemmas.Bool.{cases_lt}
 use Rattle.std.specs.List.{AllByRecursion}
 use Rattle.smp_words.proofs.Puts.{at_test, put_all, put_same, put_other}
 use Rattle.smp_words.specs.declared.field.Field.TheVariants.{Ack, State}
 use Rattle.smp_stop_steps.specs.{HasCalled, IsCalling, AreClosing, put, put_word, mask_weight, weight, Agrees, Change, Patches, Patching, Reading, Whole}
 use Rattle.smp_stop_steps.specs.{labels_in, StandsSet, reading_of, state_left, patch_answer, answer_now, OwnsKey, PresentShows, RunnerShows, Alters, Fills}
 use Rattle.smp_stop_steps.specs.{In, Rests, Seat, Sets, Stands, Turn, irq_of, turn_of, StopShows, AckShows, IsLevel, Keeps, OpenShows, IsPhaseOf, Source}
-use Rattle.smp_stop_steps.specs.{Setup, StopCall, StopState, Calling, Inside, Nobody, Raises, Raising, Refills, Standing, acked, acknowledged, is_inside}
-use Rattle.smp_stop_steps.specs.{raised, refilled, stands, acknowledges, first_readings, is_patch, leaves, looked_by, stored_open, stored_shut, told}
-use Rattle.smp_stop_steps.specs.{unpatched, with_stop, called_more, carried, carried_call, Multi, One, Patch, Kind as KindOf, Work, Key, Slot, Word, is_on}
-use Rattle.smp_stop_steps.specs.{change_of, has}
+use Rattle.smp_stop_steps.specs.{Setup, StopCall, StopState, Calling, Inside, Nobody, Raises, Raising, Standing, acked, acknowledged, is_inside, raised}
+use Rattle.smp_stop_steps.specs.{refilled, stands, first_readings, is_patch, leaves, told, unpatched, with_stop, called_more, carried, One, Patch}
+use Rattle.smp_stop_steps.specs.{Kind as KindOf, Work, Key, Slot, Word, is_on, change_of, has}
 use Rattle.smp_stop_steps.proofs.Basics.Bools.{both_true, or_false, or_true}
 use Rattle.smp_stop_steps.proofs.Steps.Callings.{calling_same, calling_looked, IsNotClosing, calling_turned, closing_kept, calling_acked, idle_patch}
 use Rattle.smp_stop_steps.proofs.Steps.Callings.{carried_alone, calling_next, calling_ran}
@@ -73,16 +72,14 @@ module _ (u : Setup) (p : StopState) (at : Word → ℕ) (seat : ℕ → Seat) (
         now = is_open job a l Rests is;
         work = refl;
         end = λ e. e;
-        given = moves_given u.first s me (p.now.stop s)
-            to inside;
+        given = moves_given u.first s me (p.now.stop s) to inside;
       } refl (λ k. refl) (λ j ne f. refl) (owns_kept u.first p.now (λ k. at (Key k)) s stop' p.now.inside irq' p.now.readings p.now.patching
       record {
         was = is_open job a l Rests is;
         now = is_open job a l Rests is;
         work = refl;
         end = λ e. e;
-        given = moves_given u.first s me (p.now.stop s)
-            to inside;
+        given = moves_given u.first s me (p.now.stop s) to inside;
       } (moves_early u.first s me (p.now.stop s) to inside stop' refl) h.owns) (step_looks u p.now at seat h.present s me irq' p.now.readings
       (save found) job a l is more (turned found refl (o.state ∙ refl) k (h.present.irq me ∙ ap irq_of is)) (λ on i. h.present.read me on (before found
       (sym (turned found refl (o.state ∙ refl) k (h.present.irq me ∙ ap irq_of is)) ∙ refl) i))) (calling_same seat p.calling h.callings me next
@@ -188,8 +185,7 @@ module _ (u : Setup) (p : StopState) (at : Word → ℕ) (seat : ℕ → Seat) (
         let shown' = open_step u p at seat source h s acked_stop p.now.inside irq' readings' x at' (put seat0 me next) p.looks calls' calling' (search (put_all, arith)) refl (λ k. refl) (other_slots at s Ack (found - 1)) (owns_acked x irq' readings' st known)
         (step_acknowledges u (record (p.now) { patching = x }) at seat0 present s me irq' readings' record {
           inside = λ c ne. refl;
-          irq = λ c ne.
-              put_other p.now.irq me true c ne;
+          irq = λ c ne. put_other p.now.irq me true c ne;
           readings = search (put_other, arith);
         } job a is (put_same p.now.irq me true ∙ sym (leaves_irq (found == 1) ∙ ap
         (λ b. cond b true (nat_lt (a + 1) 2)) e)) (λ _ _. subst (AllByRecursion (Agrees (labels_in at))) (sym (put_same p.now.readings me (first_readings
@@ -211,8 +207,7 @@ module _ (u : Setup) (p : StopState) (at : Word → ℕ) (seat : ℕ → Seat) (
               s).standing me to (sym (ap answer_now st)) (λ c ne. refl);
         } refl (λ k. refl) (other_slots at s Ack (found - 1)) (owns_acked x p.now.irq
         p.now.readings st known) (step_acknowledges u (record (p.now) { patching = x }) at seat0 present s me p.now.irq p.now.readings record {
-          inside = λ
-              c ne. refl;
+          inside = λ c ne. refl;
           irq = λ c ne. refl;
           readings = λ c ne. refl;
         } job a is turned (λ on i. h.present.read me on (turned ∙ i))) (subst (λ (y : ℕ → Seat).

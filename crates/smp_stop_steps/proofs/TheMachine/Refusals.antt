@@ -44,9 +44,6 @@ module _ (v : StopsValue) (p : StopState) (shown : StopShown p v) (me : ℕ) (lo
   abbrev c : StopControlValue
   c = stop_control_of v.controls me
 
-  abbrev Is : Command → Option SmpError → Type 0
-  Is x r = IsRefusal u v.nr p me x r
-
   irq : c.interrupts ≡ p.now.irq me
   irq = (shown.sits me low).irq ∙ sym (shown.shows.present.irq me)
 
