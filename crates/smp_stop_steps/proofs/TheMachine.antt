@@ -12,4 +12,3 @@ pub mod Starting
 pub mod Started
 pub mod Refusals
 pub mod Kept
-pub mod Weights

@@ -111,8 +111,7 @@ NoteFits p q me (Some note.Same) = ((a : ℕ) × HasAcked q me a) × IsUnheard p
 NoteFits p q me (Some (note.Moved phase)) = HasAckedAs q me phase false × (phase ≢ 4) × IsUnheard p q
 NoteFits p q me (Some note.Ran) = HasAckedAs q me 3 true × IsUnheard p q
 NoteFits p q me (Some note.Left) = HasLeft p q me
-NoteFits p q me (Some (note.Run func arg)) =
-    ((call : StopCall) × (q.calling me ≡ Calls call) × (call.func ≡ func) × (call.arg ≡ arg)) × IsUnheard p q
+NoteFits p q me (Some (note.Run func arg)) = ((call : StopCall) × (q.calling me ≡ Calls call) × (call.func ≡ func) × (call.arg ≡ arg)) × IsUnheard p q
 NoteFits p q me (Some note.Finished) = HasFinished p q me
 NoteFits p q me (Some note.Pending) = ((p.now.stop me).is_open ≡ true) × ((p.now.stop me).ending ≢ Ended) × IsUnheard p q
 NoteFits p q me (Some (note.Result result)) = HasCollected p q me result

@@ -94,8 +94,7 @@ pub record Nudges (u : Setup) (p : StopState) (me expected new : ℕ) : Type 0 w
   pub some : (0 < expected) × (0 < new)
 
 abbrev pub NudgesStand : Type 0
-NudgesStand = OfEachCpu (λ u p at c me.
-    (k expected new : ℕ) → c.stage ≡ Some (ExchangeKey k expected new) → Nudges u p me expected new)
+NudgesStand = OfEachCpu (λ u p at c me. (k expected new : ℕ) → c.stage ≡ Some (ExchangeKey k expected new) → Nudges u p me expected new)
 
 -- a nudge that is refused at the end of the range: the count stands there, and the load has read the key
 pub record StandsAtEdge (old new : StopState) (at : Word → ℕ) (me k : ℕ) (up : Bool) : Type 0 where

@@ -50,8 +50,7 @@ pub record FitsGate (u : Setup) (p : StopState) (me : ℕ) (work : Work) : Type 
 -- begin: E8 where the own stop is open; else E4 where the gate is another's, or nobody's, or the work is none; else E3
 -- where a CPU of it is not online
 abbrev pub BeginRefuses : Setup → StopState → ℕ → Work → Option SmpError → Type 0
-BeginRefuses u p me work None =
-    ((p.now.stop me).is_open ≡ false) × FitsGate u p me work × ((c : ℕ) → has work.mask c ≡ true → u.online c ≡ true)
+BeginRefuses u p me work None = ((p.now.stop me).is_open ≡ false) × FitsGate u p me work × ((c : ℕ) → has work.mask c ≡ true → u.online c ≡ true)
 BeginRefuses u p me work (Some error.SlotBusy) = (p.now.stop me).is_open ≡ true
 BeginRefuses u p me work (Some error.BadArgument) = ((p.now.stop me).is_open ≡ false) × (FitsGate u p me work → ⊥)
 BeginRefuses u p me work (Some error.NoStopper) =

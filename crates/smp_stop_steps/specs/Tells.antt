@@ -51,10 +51,7 @@ drafts n s f value = with_stop n s (record (n.stop s) { work = drafted f value (
 
 -- open
 abbrev pub opens : StopState → ℕ → StopState
-opens p s = record p {
-  now = with_stop p.now s (opened (p.now.stop s) (p.now.stop s).work);
-  begun = put p.begun s (p.begun s ++ (p.now.stop s).work ∷ []);
-}
+opens p s = record p { now = with_stop p.now s (opened (p.now.stop s) (p.now.stop s).work); begun = put p.begun s (p.begun s ++ (p.now.stop s).work ∷ []) }
 
 -- enter
 abbrev pub enters : Present → ℕ → ℕ → Present

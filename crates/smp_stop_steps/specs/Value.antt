@@ -16,9 +16,7 @@ use Rattle.smp_stop_steps.specs.Table.{StopWords, stop_number}
 -- the least member of a mask below k, or k where there is none
 unfoldable pub first_below : ℕ → ℕ → ℕ
 first_below mask zero = zero
-first_below mask (suc k) =
-    let first = first_below mask k in
-    if first == k then (if has mask k then k else suc k) else first
+first_below mask (suc k) = let first = first_below mask k in if first == k then (if has mask k then k else suc k) else first
 
 -- how many CPUs there are and those online, the labels, the words, and where each CPU stands
 pub record StopsValue : Type 0 where
@@ -34,8 +32,7 @@ setup_of online labels = record {
   online = has online;
   first = first_below online cpus;
   keys = labels.keys;
-  entries =
-      map entry_word labels.entries;
+  entries = map entry_word labels.entries;
 }
 
 -- where a CPU stands; outside where there is no such CPU

@@ -13,7 +13,7 @@ put_own {A} f i v e = fun_ext (λ j. at_test j i (λ b. cond b v (f j) ≡ f j) 
 pub sum_same : (f g : ℕ → ℕ) (n : ℕ) → ((j : ℕ) → j < n → g j ≡ f j) → sum_below g n ≡ sum_below f n
 unfolding sum_below
 sum_same f g zero same = refl
-sum_same f g (suc n) same = let a = same n (omega arith) in let b = sum_same f g n (λ j l. same j (omega arith)) in omega arith
+sum_same f g (suc n) same = let b = sum_same f g n (λ j l. same j (omega arith)) in omega arith
 
 pub sum_put : (f g : ℕ → ℕ) (i n : ℕ) → i < n → ((j : ℕ) → j ≢ i → g j ≡ f j) → sum_below g n + f i ≡ sum_below f n + g i
 unfolding sum_below

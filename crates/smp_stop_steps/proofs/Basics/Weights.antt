@@ -1,6 +1,5 @@
 -- The bits of a mask: how many of them are set, and the least.
-use Rattle.std.proofs.Common.{◌≡◌, ℕ, zero, suc, ◌+◌, ◌*◌, ◌%◌, ◌^◌, ◌<◌, ◌≤◌, Bool, true, false, ◌≢◌, ◌==◌, ap, sym, ◌∙◌, refl, inl, inr, eq-eqb, ne_eqb}
-use Rattle.std.proofs.Common.{arith}
+use Rattle.std.proofs.Common.{◌≡◌, ℕ, zero, suc, ◌+◌, ◌*◌, ◌%◌, ◌^◌, ◌<◌, ◌≤◌, true, false, ◌≢◌, ◌==◌, ap, sym, ◌∙◌, refl, inl, inr, eq-eqb, ne_eqb, arith}
 use Rattle.std.proofs.lemmas.Bool.{cases_lt}
 use Rattle.std.proofs.lemmas.Nat.{mod-pow-add, ones-le, ones_cat, pow_pos}
 use Rattle.std.proofs.lemmas.Nat.Bits.{bit_at-lt}
@@ -57,9 +56,7 @@ first_past mask (suc k) none = first_missing mask k (first_past mask k (λ c low
 pub first_at : (mask n k : ℕ) → IsLeast (λ c. has mask c) n → n < k → first_below mask k ≡ n
 first_at mask n zero least low = absurd (omega arith)
 first_at mask n (suc k) least low = elim (cases_lt n k) [
-  | inl before ↦
-      let e = first_at mask n k least before in
-      first_kept mask k (λ same. omega arith) ∙ e
+  | inl before ↦ let e = first_at mask n k least before in first_kept mask k (λ same. omega arith) ∙ e
   | inr from ↦
       let here : n ≡ k = omega arith in
       let past : first_below mask k ≡ k = first_past mask k (λ c low. missing from c low) in

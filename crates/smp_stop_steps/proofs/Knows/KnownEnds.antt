@@ -48,11 +48,9 @@ module _ (p : StopState) (at : Word → ℕ) (seat : ℕ → Seat) (source : ℕ
       let g = with_answer x f in
       let p0 = answering x in
       let h0 = answers_so s w a l x here in
-      let called : f ≢ Idle = λ none. runs (sym sees.part_is.calling ∙ ap told_calling none) in
       let mine : p0.calling v.number ≡ g = put_same p.calling v.number g in
       let calls : IsCalling v.number (Gives s w a x) (p0.calling v.number) = subst (IsCalling v.number (Gives s w a x)) (sym mine)
-      (calling_given v.number s w a l x g some through (sym (answers x f called)) (subst (λ y. IsCalling v.number y g) here
-      (subst (IsCalling v.number (seat v.number)) mine (h0.callings v.number)))) in
+      (search (calling_given, answers, h0.callings, arith)) in
       let known : slot_stored field.Result x v ≡ record v { seat = Gives s w a x } =
       ap (λ b. cond b (drafted_known field.Result x v) (member_stored field.Result x v)) idle ∙ ap (λ y. record v { seat = given_by x y }) is in
       let k = sees.part_is in
@@ -65,16 +63,12 @@ module _ (p : StopState) (at : Word → ℕ) (seat : ℕ → Seat) (source : ℕ
           collected = k.collected;
           answers = k.answers;
           looks = k.looks;
-          calling = ap told_calling mine ∙ (told_same x f ∙
-              k.calling);
+          calling = ap told_calling mine ∙ (told_same x f ∙ k.calling);
           readings = k.readings;
           nudged = k.nudged;
           patched = k.patched;
         };
-        others = λ c ne. ap (λ y. record (columns_of p c) {
-          calling =
-              told_calling y;
-        }) (put_other p.calling v.number g c ne);
+        others = λ c ne. ap (λ y. record (columns_of p c) { calling = told_calling y }) (put_other p.calling v.number g c ne);
       } in
       search (known, shown', arith)
 

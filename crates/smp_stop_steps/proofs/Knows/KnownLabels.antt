@@ -1,14 +1,13 @@
 -- The steps on labels of a CPU that knows v: readings, nudges, and patches.
-use Rattle.std.proofs.Common.{arith, ◌≡◌, ℕ, ◌<◌, eqb-true, Bool, true, false, ◌==◌, ◌&&◌, cond, Some, None, List, [], ◌∷◌, ◌++◌, set, sym, subst, refl, ap}
-use Rattle.std.proofs.Common.{◌∙◌}
+use Rattle.std.proofs.Common.{arith, ◌≡◌, ℕ, ◌<◌, eqb-true, Bool, true, false, ◌==◌, ◌&&◌, cond, Some, None, List, [], ◌∷◌, ◌++◌, sym, subst, refl, ap, ◌∙◌}
 use Rattle.smp_labels.proofs.Patched.{plan_key_first}
 use Rattle.smp_words.specs.Access.{put_if}
 use Rattle.smp_words.proofs.Puts.{at_test, put_same, put_other}
 use Rattle.smp_stop_steps.specs.{has, is_on, Place, MOST_KEYS, word_of, at_after, seen_of, put, put_word, moves, moved_by, Change, Patches, Reading, ReadKey}
 use Rattle.smp_stop_steps.specs.{ReadSite, count_set, Seat, Free, In, Gives, Alters, Closes, Turn, Rests, irq_of, StopShows, IsNudge, Source, store_of, Setup}
 use Rattle.smp_stop_steps.specs.{StopState, Moved, unmoved, told, is_patch, is_at_run, reads, key_loaded, key_patched, patched_more, patch_begun, plan_at}
-use Rattle.smp_stop_steps.specs.{Sees, GoesOn, columns_of, AreFirst, setup_in, reads_more, key_loaded_by, key_known, altered_by, patched_from, counted}
-use Rattle.smp_stop_steps.specs.{known_entering, Patch, Work, Word, Key, Site}
+use Rattle.smp_stop_steps.specs.{Sees, GoesOn, columns_of, AreFirst, setup_in, reads_more, key_loaded_by, key_known, counted, known_entering, Patch, Work}
+use Rattle.smp_stop_steps.specs.{Word, Key, Site}
 use Rattle.smp_stop_steps.specs.State.{Present}
 use Rattle.smp_stop_steps.specs.Known.{Known}
 use Rattle.smp_stop_steps.specs.Moves.{entering}
@@ -54,15 +53,9 @@ module _ (p : StopState) (at : Word → ℕ) (seat : ℕ → Seat) (source : ℕ
       reads_more (ReadKey k (is_on found)) v)
   key_plain k found Free e on = (ap (λ i. key_loaded u p.now v.number k found i) (stands p at seat source v h sees Free e), refl)
   key_plain k found (In s w a l t) e on =
-      let st = stands p at seat source v h sees (In s w a l t) e in
       let calm = not_at_run s w a l t on in
       let patch = record (p.now) { patching = patch_begun u v.number (p.now.stop s).work found } in
-      let plain = reads p.now v.number (ReadKey k (is_on found)) in (
-        ap (λ i. key_loaded u p.now v.number k found i) st.0
-            ∙ (ap (λ y. cond (is_at_run y && is_patch (p.now.stop s).work.kind) patch plain) st.1 ∙ ap (λ b. cond (b && is_patch (p.now.stop s).work.kind)
-            patch plain) calm),
-        ap (λ b. cond (b && is_patch w.kind) (record v { seat = Alters s w found [] (plan_at u w found) }) (reads_more (ReadKey k (is_on found)) v)) calm,
-      )
+      let plain = reads p.now v.number (ReadKey k (is_on found)) in (search arith)
   key_plain k found (Gives s w a x) e on =
       let st = stands p at seat source v h sees (Gives s w a x) e in
       let patch = record (p.now) { patching = patch_begun u v.number (p.now.stop s).work found } in
@@ -106,12 +99,10 @@ module _ (p : StopState) (at : Word → ℕ) (seat : ℕ → Seat) (source : ℕ
               begun = parts.begun;
               collected = parts.collected;
               answers = parts.answers;
-              looks =
-                  parts.looks;
+              looks = parts.looks;
               calling = parts.calling;
               readings = parts.readings;
-              nudged = counted_first p.nudged v.number k found new v.part.nudged parts.nudged
-                  low;
+              nudged = counted_first p.nudged v.number k found new v.part.nudged parts.nudged low;
               patched = parts.patched;
             };
             others = λ c ne. ap (λ x. record (columns_of p c) { nudged = x }) (put_other p.nudged v.number (put (p.nudged
@@ -129,11 +120,9 @@ module _ (p : StopState) (at : Word → ℕ) (seat : ℕ → Seat) (source : ℕ
       let next = Alters s w found [] (plan_at u w found) in
       let st = stands p at seat source v h sees (In s w 2 3 Rests) is in
       let patch = record (p.now) { patching = patch_begun u v.number (p.now.stop s).work found } in
-      let reading = reads p.now v.number r in
       let plain : key_loaded u p.now v.number w.func found (p.now.inside v.number) ≡ patch =
       ap (λ i. key_loaded u p.now v.number w.func found i) st.0
-      ∙ (ap (λ y. cond (is_at_run y && is_patch (p.now.stop s).work.kind) patch reading) st.1 ∙ ap (λ k. cond (is_patch k) patch reading)
-      (ap (λ (z : Work). z.kind) st.3 ∙ kind)) in
+      ∙ (search arith) in
       let known : key_loaded_by w.func found v.seat v ≡ record v { seat = next } =
       ap (λ x. key_loaded_by w.func found x v) is ∙ ap (λ k. cond (is_patch k) (record v { seat = next }) (reads_more r v)) kind in
       let shown' = goes_seat p seat source v sees (record p { now = patch }) at next v.part (subst (λ n. StopShows u (record p { now = n }) at (put seat

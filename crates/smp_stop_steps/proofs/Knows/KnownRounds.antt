@@ -1,14 +1,13 @@
 -- The steps of a CPU that knows v: it enters a stop, and goes through its phases.
 use Rattle.std.proofs.Common.{◌≡◌, ◌≢◌, ℕ, ◌+◌, ◌-◌, ◌<◌, ◌≤◌, ◌^◌, Bool, true, false, ◌==◌, ◌&&◌, not, cond, Some, None, List, [], ◌∷◌, ◌++◌, sym, subst}
-use Rattle.std.proofs.Common.{refl, ap, ◌∙◌, arith, bit_and, eq-eqb}
+use Rattle.std.proofs.Common.{refl, ap, ◌∙◌, arith, bit_and}
 use Rattle.smp_words.specs.Access.{one_less}
 use Rattle.smp_words.proofs.Puts.{put_same, put_other}
-use Rattle.smp_stop_steps.specs.{HasCalled, has, put, put_word, cpus, mask_weight, Change, Reading, patch_answer, Seat, Free, In, Alters, Turn, Rests, Fills}
-use Rattle.smp_stop_steps.specs.{Sets, Stands, StopShows, Source, all_but, Setup, StopState, StopCall, Calling, Calls, Standing, Inside, acknowledged, raised}
-use Rattle.smp_stop_steps.specs.{told, enters, acknowledges, acknowledges_now, raises, stored_open, stored_shut, with_stop, leaves, unpatched, carried}
-use Rattle.smp_stop_steps.specs.{may_call, carried_call, told_calling, Sees, GoesOn, columns_of, setup_in, Part, called_by, ran_since, is_drafting}
-use Rattle.smp_stop_steps.specs.{drafted_known, slot_stored, member_stored, refilled_by, raised_by, looked_known, looked_to, acked_by, read_since, Field}
-use Rattle.smp_stop_steps.specs.{Work, Word, Slot}
+use Rattle.smp_stop_steps.specs.{HasCalled, has, put, put_word, cpus, mask_weight, Change, Reading, Seat, Free, In, Alters, Turn, Rests, Fills, Sets, Stands}
+use Rattle.smp_stop_steps.specs.{StopShows, Source, all_but, Setup, StopState, StopCall, Calling, Calls, Standing, Inside, acknowledged, raised, told, enters}
+use Rattle.smp_stop_steps.specs.{acknowledges, acknowledges_now, raises, stored_open, stored_shut, with_stop, leaves, unpatched, carried, may_call}
+use Rattle.smp_stop_steps.specs.{carried_call, told_calling, Sees, GoesOn, columns_of, setup_in, Part, called_by, ran_since, is_drafting, drafted_known}
+use Rattle.smp_stop_steps.specs.{slot_stored, member_stored, refilled_by, raised_by, looked_known, acked_by, read_since, Field, Work, Word, Slot}
 use Rattle.smp_stop_steps.proofs.Steps.Same.{word_same}
 use Rattle.smp_stop_steps.proofs.Steps.Callings.{carried_alone}
 use Rattle.smp_stop_steps.specs.State.{Present, Carries}
@@ -65,7 +64,7 @@ module _ (p : StopState) (at : Word → ℕ) (seat : ℕ → Seat) (source : ℕ
   enter s free = go (has (at (Slot s field.Roll)) v.number) refl
     where
       low : v.number < 64
-      low = let few = h.setup.few in let b = sees.below in omega arith
+      low = omega arith
 
       go : (b : Bool) → has (at (Slot s field.Roll)) v.number ≡ b →
           Goes (put_word at (Slot s field.Roll) (bit_and (at (Slot s field.Roll)) (all_but v.number)))
@@ -92,11 +91,9 @@ module _ (p : StopState) (at : Word → ℕ) (seat : ℕ → Seat) (source : ℕ
   look s w a l is more =
       let found = at (Slot s field.State) in
       let seen = p.looks v.number ++ found ∷ [] in
-      let k = sees.part_is in
       let shown' = goes_seat p seat source v sees (told u p v.number act.Load (Slot s field.State) (Some found) None 0) at (In s w a found Rests) (record
       (v.part) { looks = v.part.looks ++ found ∷ [] }) (state_loaded u p at seat source h s v.number w a l 0 (sees.seat_is ∙ is) more) record {
-        mine =
-            search (put_same, arith);
+        mine = search (put_same, arith);
         others = λ c ne. ap (λ x. record (columns_of p c) { looks = x }) (put_other p.looks v.number seen c ne);
       } in
       search (is, shown', arith)
@@ -145,8 +142,7 @@ module _ (p : StopState) (at : Word → ℕ) (seat : ℕ → Seat) (source : ℕ
       let leaves_it = a + 1 == 4 && not (found == 1) in
       let n : Present = record (p.now) {
         stop = put p.now.stop s (acknowledged (p.now.stop s) v.number (a + 1) found);
-        patching = cond (a + 1 == 3)
-            (unpatched v.number p.now.patching) p.now.patching;
+        patching = cond (a + 1 == 3) (unpatched v.number p.now.patching) p.now.patching;
       } in
       let part = ran_since (a + 1 == 3) (read_since leaves_it s w v) in
       let alone = carried_alone u.first p.now.patching seat v.number (p.calling v.number) (subst IsNoPatch (sym here) tt) h.present.runner in
@@ -168,15 +164,10 @@ module _ (p : StopState) (at : Word → ℕ) (seat : ℕ → Seat) (source : ℕ
       let bounds = ack_bounds_patched u p at seat source h s v.number w count made here in
       let at' = put_word at (Slot s field.Ack) (found - 1) in
       let next = In s w 3 3 (cond (found == 1) Fills Rests) in
-      let own : carried v.number p.now.patching (p.calling v.number) ≡ Carries (patch_answer w count) =
-      ap (λ x. carried v.number x (p.calling v.number)) st.5 ∙ ap (λ b. cond b (Carries (patch_answer w count)) (carried_call (p.calling v.number)))
-      (eq-eqb v.number v.number refl) in
       let p' = acknowledges p v.number s (Inside 2 3) found in
       let shown' = goes_seat p seat source v sees p' at' next (record (v.part) { calling = Carries 0 }) (subst (λ (x : Standing). StopShows u (acknowledges p
       v.number s x found) at' (put seat v.number next) source) st.1 (ack_subtracted_patched u p at seat source h s v.number w count made 0 here))
-      (acked_leaves (acknowledges_now p.now v.number s 3 found) p'.calls p'.calling (record (v.part) { calling = Carries 0 }) sees.part_is.readings (λ c
-      ne. refl) (ap told_calling (put_same p.calling v.number (carried v.number p.now.patching (p.calling v.number)) ∙ own)) (λ c ne. put_other p.calling
-      v.number (carried v.number p.now.patching (p.calling v.number)) c ne) refl) in
+      (search (acked_leaves, put_same, put_other, arith)) in
       search (less_one found bounds.0 (small found bounds.1), is, shown', arith)
 
   -- with the load of the argument it calls the function, where it may
@@ -198,16 +189,12 @@ module _ (p : StopState) (at : Word → ℕ) (seat : ℕ → Seat) (source : ℕ
       go : (b : Bool) → may_call v.number w (Inside a l) ≡ b → Goes at (cond b (record v { part = record (v.part) { calling = Calls call } }) v)
       go false e = still p at seat source v h sees
       go true e =
-          let k = sees.part_is in
           let p' = record p { calling = put p.calling v.number (Calls call) } in
           let plain : told u p v.number act.Load (Slot s field.Arg) (Some (at (Slot s field.Arg))) None 0 ≡ p' =
           search (is_may, arith) in
           goes_still p seat source v sees p' at (record (v.part) { calling = Calls call })
           (subst (λ q. StopShows u q at seat source) plain (arg_loaded u p at seat source h s v.number w a l Rests here 0 refl))
-          record {
-            mine = search (put_same, call, arith);
-            others = λ c ne. ap (λ x. record (columns_of p c) { calling = told_calling x }) (put_other p.calling v.number (Calls call) c ne);
-          }
+          (search (put_same, call, put_other, arith))
 
   pub refill : (s : ℕ) (w : Work) (a l : ℕ) → v.seat ≡ In s w a l Fills → is_drafting v.source ≡ false →
       let x = mask_weight cpus w.mask in

@@ -4,11 +4,9 @@ use Rattle.std.proofs.Common.{◌++◌, sym, subst, refl, ap, ◌∙◌, arith}
 use Rattle.smp_words.specs.Access.{put_if}
 use Rattle.smp_words.proofs.Puts.{put_all, put_same, put_other}
 use Rattle.smp_stop_steps.specs.{put, put_word, cpus, Seat, StopShows, DoneShows, begun_value, order, Source, Shut, Drafts, Owns, Collects, SourceShows}
-use Rattle.smp_stop_steps.specs.{DraftShows, OwnerShows, IsDrafted, IsWork, Setup, StopState, Standing, Ending, told, drafted, drafts, opens, stored_open}
-use Rattle.smp_stop_steps.specs.{stored_shut, Sees, GoesOn, IsBegun, columns_of, told_source, told_work, holds_it, setup_in, is_drafting, drafted_known}
-use Rattle.smp_stop_steps.specs.{draft_known, opened_by, slot_stored, gate_known, done_by, collected_known, Field, Kind as KindOf, One, Work, Word, Gate}
-use Rattle.smp_stop_steps.specs.{Slot}
-use Rattle.smp_stop_steps.proofs.State.Gates.{gate_free}
+use Rattle.smp_stop_steps.specs.{DraftShows, IsDrafted, IsWork, Setup, StopState, Standing, Ending, told, drafted, drafts, opens, stored_open, stored_shut}
+use Rattle.smp_stop_steps.specs.{Sees, GoesOn, IsBegun, told_source, told_work, holds_it, setup_in, is_drafting, drafted_known, draft_known, opened_by}
+use Rattle.smp_stop_steps.specs.{slot_stored, gate_known, done_by, collected_known, Field, One, Work, Word, Gate, Slot}
 use Rattle.smp_stop_steps.specs.Known.{Known}
 use Rattle.smp_stop_steps.proofs.Knows.Parts.{Leaves, goes, goes_source, goes_still}
 use Rattle.smp_stop_steps.proofs.Steps.Sources.{gate_taken, gate_opened, field_stored, roll_stored, done_loaded, result_loaded, kind_back, work_ext}
@@ -20,10 +18,7 @@ holder g me e = search (eqb-true, arith)
 
 -- a CPU that is told to draft nothing drafts nothing
 not_draft : (y told : Source) → told_source y ≡ told → is_drafting told ≡ false → (w : Work) (k : ℕ) → y ≢ Drafts w k
-not_draft y told is idle w k e = let bad : true ≡ false = sym (ap is_drafting (sym is ∙ ap told_source e)) ∙ idle in cc
-
-is_shut : (y : Source) → told_source y ≡ Shut → y ≡ Shut
-is_shut y e = search arith
+not_draft y told is idle w k e = cc
 
 is_owns : (y : Source) (w : Work) → told_source y ≡ Owns w → y ≡ Owns w
 is_owns y w e = search arith
@@ -110,11 +105,9 @@ module _ (p : StopState) (at : Word → ℕ) (seat : ℕ → Seat) (source : ℕ
           (gate_known act.Cas (cond b (Some (v.number + 1)) None) v)
       go false e = still
       go true e =
-          let free : p.gate ≡ None = gate_free p.gate (sym h.gate ∙ eqb-true (at Gate) 0 e) in
           goes_still p seat source v sees (record p { gate = Some v.number }) (put_word at Gate (v.number + 1)) (record (v.part) { holds = true })
           (gate_taken u p at seat source h v.number 0 (eqb-true (at Gate) 0 e))
-          (holds_alone (Some v.number) true (eq-eqb v.number v.number refl)
-          (λ c ne. ne_eqb v.number c (λ same. ne (sym same)) ∙ sym (ap (λ g. holds_it g c) free)))
+          (search (holds_alone, eq-eqb, ne_eqb, arith))
 
   pub open_gate : v.part.holds ≡ true → is_drafting v.source ≡ false → Goes (put_word at Gate 0) (record v { part = record (v.part) { holds = false } })
   open_gate holds idle =
@@ -159,15 +152,7 @@ module _ (p : StopState) (at : Word → ℕ) (seat : ℕ → Seat) (source : ℕ
   pub draft : (work : Work) → v.source ≡ Shut → v.part.holds ≡ true → IsWork u work →
       Goes (put_word at (Slot v.number field.Kind) (begun_value cpus work field.Kind)) (draft_known (begun_value cpus work field.Kind) v)
   draft work shut holds is =
-      let closed : (p.now.stop v.number).is_open ≡ false = source_here Shut (is_shut (source v.number) (sees.source_is ∙ shut)) in
-      let shown' = field_goes work field.Kind record {
-        shut = closed;
-        holds = holder p.gate v.number (sees.part_is.holds ∙ holds);
-        is_work = is;
-        stored = λ f
-            l. absurd (omega arith);
-        told = search arith;
-      } (omega arith) in
+      let shown' = field_goes work field.Kind (search (holder, is, arith)) (omega arith) in
       search (kind_back work.kind, shown', arith)
 
   pub draft_more : (work : Work) (f : Field) → v.source ≡ Drafts (told_work (order f) work) (order f) → IsWork u work → order f ≢ 0 → order f < 10 →
@@ -192,21 +177,15 @@ module _ (p : StopState) (at : Word → ℕ) (seat : ℕ → Seat) (source : ℕ
       let plain : told u p v.number act.Store (Slot v.number field.Roll) None (Some work.mask) 0 ≡ opens p v.number =
       ap (λ b. cond b (stored_open p v.number v.number field.Roll work.mask) (stored_shut p v.number field.Roll work.mask)) d.shut in
       let begun = p.begun v.number ++ (p.now.stop v.number).work ∷ [] in
-      let k = sees.part_is in
       let shown' = goes_source p seat source v sees (opens p v.number) at' (Owns work) (Owns work) (record (v.part) { begun = v.part.begun ++ work ∷ [] })
-      (subst (λ q. StopShows u q at' seat (put source v.number (Owns work))) plain (roll_stored u p at seat source h v.number work 0 is)) record {
-        mine =
-            search (put_same, same, arith);
-        others = λ c ne. ap (λ x. record (columns_of p c) { begun = x }) (put_other p.begun v.number begun c ne);
-      } refl tt
+      (subst (λ q. StopShows u q at' seat (put source v.number (Owns work))) plain (roll_stored u p at seat source h v.number work 0 is)) (search (put_same, same, put_other, arith)) refl tt
       in
       search (e, shown', arith)
 
   -- the end of its stop
 
   pub look_done : (w : Work) → v.source ≡ Owns w → Goes at (record v { source = done_by (at (Slot v.number field.Done)) v.source })
-  look_done w is = subst (λ o. Goes at (record v { source = done_by (at (Slot v.number field.Done)) o })) (sym is) (go (at (Slot v.number field.Done) == 0)
-      refl)
+  look_done w is = subst (λ o. Goes at (record v { source = done_by (at (Slot v.number field.Done)) o })) (sym is) (search (go, arith))
     where
       there : source v.number ≡ Owns w
       there = is_owns (source v.number) w (sees.source_is ∙ is)
@@ -214,7 +193,6 @@ module _ (p : StopState) (at : Word → ℕ) (seat : ℕ → Seat) (source : ℕ
       go : (b : Bool) → (at (Slot v.number field.Done) == 0) ≡ b → Goes at (record v { source = cond b (Owns w) (Collects w) })
       go true e = subst (λ o. Goes at (record v { source = o })) is still
       go false e =
-          let o : OwnerShows u (p.now.stop v.number) w = source_here (Owns w) there in
           let one : at (Slot v.number field.Done) ≡ 1 =
           search (done_is, h.present.slots, arith) in
           goes_source p seat source v sees p at (Collects w) (Collects w) v.part (done_loaded u p at seat source h v.number w there one) unmoved_columns refl tt
@@ -223,11 +201,6 @@ module _ (p : StopState) (at : Word → ℕ) (seat : ℕ → Seat) (source : ℕ
   collect w is =
       let found = at (Slot v.number field.Result) in
       let there = is_collects (source v.number) w (sees.source_is ∙ is) in
-      let more = p.collected v.number ++ found ∷ [] in
-      let k = sees.part_is in
       goes_source p seat source v sees (told u p v.number act.Load (Slot v.number field.Result) (Some found) None 0) at Shut Shut
       (record (v.part) { collected = v.part.collected ++ found ∷ [] }) (result_loaded u p at seat source h v.number w 0 there)
-      record {
-        mine = search (put_same, arith);
-        others = λ c ne. ap (λ x. record (columns_of p c) { collected = x }) (put_other p.collected v.number more c ne);
-      } refl tt
+      (search (put_same, put_other, arith)) refl tt

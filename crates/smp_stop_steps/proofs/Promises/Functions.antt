@@ -1,7 +1,7 @@
 -- When a stop function runs, and who is to store done.
-use Rattle.std.proofs.Common.{◌≡◌, ℕ, true, sym, subst, refl, ◌∙◌, arith}
-use Rattle.smp_stop_steps.specs.{IsLast, IsClosing, HasFunctions, Seat, Closes, Stands, StopShows, DoneShows, Source, Setup, StopState, Ending, Running, Last}
-use Rattle.smp_stop_steps.specs.{Ended, Inside, is_multi, Kind as KindOf, Multi, Word, Slot, RunsAlone}
+use Rattle.std.proofs.Common.{◌≡◌, ℕ, true, sym, refl, ◌∙◌, arith}
+use Rattle.smp_stop_steps.specs.{IsLast, IsClosing, HasFunctions, Seat, Closes, StopShows, DoneShows, Source, Setup, StopState, Ending, Running, Last, Ended}
+use Rattle.smp_stop_steps.specs.{Inside, is_multi, Kind as KindOf, Multi, Word, Slot, RunsAlone}
 use Rattle.smp_stop_steps.proofs.Basics.Bools.{both_true}
 use Rattle.smp_stop_steps.proofs.State.Ends.{function_law}
 use Rattle.smp_stop_steps.proofs.State.Patched.{all_off}

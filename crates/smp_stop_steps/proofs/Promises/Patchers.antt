@@ -1,10 +1,10 @@
 -- The label law outside the stores of patches, and who makes these.
-use Rattle.std.proofs.Common.{◌≡◌, ℕ, false, Option, Some, List, [], ◌∷◌, ◌++◌, length, sym, subst, ap, ◌∙◌, arith}
+use Rattle.std.proofs.Common.{◌≡◌, ℕ, false, Option, Some, List, [], ◌∷◌, ◌++◌, length, subst, ap, ◌∙◌, arith}
 use Rattle.std.proofs.lemmas.List.{append-nil}
 use Rattle.smp_labels.specs.Law.{IsLawful, Table}
-use Rattle.smp_stop_steps.specs.{Change, Patching, Patches, LabelsShow, labels_in, is_between, IsLawfulOutside, HasPatcher, IsNextOfPatch, label_stored, Seat}
-use Rattle.smp_stop_steps.specs.{Alters, Stands, StopShows, SitsAt, SitsInRound, Source, StopControlValue, change_at, completion_access, round_access}
-use Rattle.smp_stop_steps.specs.{stop_access, store_of, Setup, StopState, RoundStage, CompletionStage, StopStage, Visit, Word, Gate}
+use Rattle.smp_stop_steps.specs.{Change, Patching, LabelsShow, labels_in, is_between, IsLawfulOutside, HasPatcher, IsNextOfPatch, label_stored, Seat, Alters}
+use Rattle.smp_stop_steps.specs.{StopShows, SitsAt, SitsInRound, Source, StopControlValue, change_at, completion_access, round_access, stop_access, store_of}
+use Rattle.smp_stop_steps.specs.{Setup, StopState, RoundStage, CompletionStage, StopStage, Visit, Word, Gate}
 use Rattle.smp_stop_steps.specs.Sits.{Sits}
 use Rattle.smp_stop_steps.proofs.State.Ends.{function_law}
 use Rattle.smp_stop_steps.proofs.State.Patched.{all_off}

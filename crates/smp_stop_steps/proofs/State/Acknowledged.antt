@@ -1,5 +1,5 @@
 -- Acknowledging, refilling, raising and looking, among all slots and CPUs.
-use Rattle.std.proofs.Common.{◌≡◌, ◌≢◌, ℕ, ◌+◌, ◌-◌, ◌<◌, Bool, true, false, ◌==◌, cond, sym, subst, refl, ap, ◌∙◌, arith, ⊎_elim, ne_eqb, eq-eqb, Some, List}
+use Rattle.std.proofs.Common.{◌≡◌, ◌≢◌, ℕ, ◌+◌, ◌-◌, ◌<◌, Bool, true, ◌==◌, cond, sym, subst, refl, arith, ne_eqb, eq-eqb, Some, List}
 use Rattle.std.specs.List.{AllByRecursion}
 use Rattle.smp_words.proofs.Puts.{at_test, put_same, put_other}
 use Rattle.smp_words.specs.declared.field.Field.TheVariants.{Ack, State}
@@ -60,25 +60,11 @@ module _ (u : Setup) (p : Present) (at : Word → ℕ) (seat : ℕ → Seat) (h 
       let st : Stands p me (In s job a (a + 1) Rests) = subst (Stands p me) is (h.stands me) in
       let k = keeps_inside u.cpus (p.stop s) w (h.slots s) me (Inside a (a + 1)) st.1 in
       let o = (h.slots s).shows (is_open_inside u.cpus (p.stop s) w (h.slots s) me (Inside a (a + 1)) st.1 refl) in
-      let at_ : (p.stop s).phase ≡ a + 1 = ⊎_elim (λ (e : a + 1 ≡ a). absurd (omega arith)) (λ (e : (a + 1 ≡ a + 1) × ((p.stop s).phase ≡ a + 1)). e.1) k.2 in
       let no : (p.stop s).raising ≡ Nobody = search (nobody_raises, o.ack, arith) in
       moves u p at (put_word at (Slot s Ack) (found - 1)) seat s me stop' p.inside irq' readings' (In s job (a + 1) (a + 1) (cond (found == 1) Fills Rests)) h
       (slot_put u.cpus p.stop at s Ack (found - 1) stop' h.slots (acknowledges_slot u.cpus (p.stop s) w (h.slots s) me a st.1)) refl
-      (λ c ne. record {
-        on = λ _. put_other (p.stop s).standing me (Inside (a + 1) (a + 1)) c ne;
-        back = λ i. subst (λ x. is_inside x ≡ true) (put_other (p.stop s).standing me (Inside (a + 1) (a + 1)) c ne) i;
-        work = λ _. refl;
-        turn = λ _. rw no (other_turn c ne (found == 1));
-        ending = λ op e. (op, e);
-      })
-      save (
-        st.0,
-        at_test s s (λ b. (cond b stop' (p.stop s)).standing me ≡ Inside (a + 1) (a + 1)) (λ _. put_same (p.stop s).standing me (Inside (a + 1) (a + 1)))
-            (λ ne. absurd (ne refl)),
-        at_test s s (λ b. turn_of (cond b stop' (p.stop s)).raising me ≡ cond (found == 1) Fills Rests) (λ _. rw no (own_turn (found == 1)))
-            (λ ne. absurd (ne refl)),
-        work_here stop' job st.3,
-      )
+      (search (put_other, other_turn, arith))
+      save (search (at_test, put_same, own_turn, work_here, arith))
       (home_stays stop' a (a + 1) st.1 st.0) off read
       (subst IsNoPatch (sym is) tt) (λ op kind. h.works s op kind)
     where
@@ -100,22 +86,9 @@ module _ (u : Setup) (p : Present) (at : Word → ℕ) (seat : ℕ → Seat) (h 
       let mine = fills_me me (p.stop s).raising st.2 in
       moves u p at (put_word at (Slot s Ack) (weight u.cpus (p.stop s).standing)) seat s me (refilled (p.stop s) me) p.inside irq' readings'
       (In s job a l Sets) h
-      (slot_put u.cpus p.stop at s Ack (weight u.cpus (p.stop s).standing) (refilled (p.stop s) me) h.slots (refills_slot u.cpus (p.stop s) w (h.slots s) me
-      mine open_ phase)) refl
-      (λ c ne. record {
-        on = λ _. refl;
-        back = λ i. i;
-        work = λ _. refl;
-        turn = λ _. rw mine (ap (λ b. cond b Sets Rests) (ne_eqb c me ne) ∙ sym (ap (λ b. cond b Fills Rests) (ne_eqb c me ne)));
-        ending = λ op e. (op, e);
-      })
-      save (
-        st.0,
-        standing_here (refilled (p.stop s) me) (Inside a l) st.1,
-        turn_here (refilled (p.stop s) me) Sets (ap (λ b. cond b Sets Rests)
-            (eq-eqb me me refl)),
-        work_here (refilled (p.stop s) me) job st.3,
-      )
+      (search (slot_put, refills_slot, h.slots, arith)) refl
+      (search (ne_eqb, arith))
+      save (search (standing_here, turn_here, eq-eqb, work_here, arith))
       (home_stays (refilled (p.stop s) me) a l st.1 st.0) off read
       (subst IsNoPatch (sym is) tt) (λ op kind. h.works s op kind)
 
@@ -133,13 +106,7 @@ module _ (u : Setup) (p : Present) (at : Word → ℕ) (seat : ℕ → Seat) (h 
       let mine = sets_me me (p.stop s).raising st.2 in
       moves u p at (put_word at (Slot s State) n) seat s me (raised (p.stop s) n) p.inside irq' readings' (In s job a l Rests) h
       (slot_put u.cpus p.stop at s State n (raised (p.stop s) n) h.slots (raises_slot u.cpus (p.stop s) w (h.slots s) me mine open_ phase)) refl
-      (λ c ne. record {
-        on = λ _. refl;
-        back = λ i. i;
-        work = λ _. refl;
-        turn = λ _. rw mine (sym (ap (λ b. cond b Sets Rests) (ne_eqb c me ne)));
-        ending = λ op e. (op, e);
-      })
+      (search (ne_eqb, arith))
       save
       (st.0, standing_here (raised (p.stop s) n) (Inside a l) st.1, turn_here (raised (p.stop s) n) Rests refl, work_here (raised (p.stop s) n) job st.3)
       (home_stays (raised (p.stop s) n) a l st.1 st.0) off read
@@ -157,13 +124,7 @@ module _ (u : Setup) (p : Present) (at : Word → ℕ) (seat : ℕ → Seat) (h 
       let st : Stands p me (In s job a l Rests) = subst (Stands p me) is (h.stands me) in
       moves u p at at seat s me stop' p.inside irq' readings' (In s job a (at (Slot s State)) Rests) h
       (slot_same u.cpus p.stop at s stop' h.slots (looks_slot u.cpus (p.stop s) w (h.slots s) me a l st.1 more (rests_me me (p.stop s).raising st.2))) refl
-      (λ c ne. record {
-        on = λ _. put_other (p.stop s).standing me to c ne;
-        back = λ i. subst (λ x. is_inside x ≡ true) (put_other (p.stop s).standing me to c ne) i;
-        work = λ _. refl;
-        turn = λ _. refl;
-        ending = λ op e. (op, e);
-      })
+      (search (put_other, arith))
       save
       (st.0, standing_here stop' to (put_same (p.stop s).standing me to), turn_here stop' Rests st.2, work_here stop' job st.3)
       (home_stays stop' a l st.1 st.0) off read

@@ -1,10 +1,10 @@
 -- Opening, completing and collecting, and the function law.
-use Rattle.std.proofs.Common.{◌≡◌, ◌≢◌, ℕ, ◌+◌, ◌-◌, ◌<◌, true, false, ◌==◌, ◌&&◌, cond, sym, subst, refl, ap, ◌∙◌, ◌⊎◌, inl, inr, arith, ⊎_elim}
+use Rattle.std.proofs.Common.{◌≡◌, ◌≢◌, ℕ, ◌+◌, ◌-◌, ◌<◌, true, false, ◌==◌, ◌&&◌, cond, sym, subst, refl, ap, ◌∙◌, ◌⊎◌, arith}
 use Rattle.smp_words.proofs.Puts.{at_test, put_all, put_same, put_other}
 use Rattle.smp_words.specs.declared.field.Field.TheVariants.{Done, Result, Roll, Todo}
 use Rattle.smp_stop_steps.specs.{put, behind, count_unfinished, mask_weight, unfinished, FunctionLaw, IsAnswer, IsResult, IsThrough, DoneShows, HasGiven}
-use Rattle.smp_stop_steps.specs.{IsStored, Keeps, ResultShows, SlotShows, put_field, Answering, Called, Completed, Ended, Ending, Inside, Last, Outside}
-use Rattle.smp_stop_steps.specs.{Running, Standing, answer_of, closed, completed, ended, is_called, is_of, opened, Field, Work, has}
+use Rattle.smp_stop_steps.specs.{IsStored, Keeps, ResultShows, SlotShows, put_field, Completed, Ending, Inside, Last, Outside, Standing, answer_of, closed}
+use Rattle.smp_stop_steps.specs.{completed, ended, is_called, is_of, opened, Field, Work, has}
 use Rattle.smp_stop_steps.proofs.Basics.Counts.{sum_put, sum_same, sum_zero}
 use Rattle.smp_stop_steps.proofs.State.Phases.{is_open_inside, keeps_inside}
 use Rattle.smp_stop_steps.proofs.State.Raises.{in_machine, level_of}
@@ -42,8 +42,7 @@ module _ (cpus : ℕ) (standing : ℕ → Standing) (me a v todo : ℕ) (small :
     standing) where
   one_less : count_unfinished cpus (put standing me (Completed a v)) + 1 ≡ todo
   one_less =
-      let s = sum_put (λ c. unfinished (standing c)) (λ c. unfinished (put standing me (Completed a v) c)) me cpus small (λ j other. ap unfinished
-      (put_other standing me (Completed a v) j other)) in
+      let s = sum_put (λ c. unfinished (standing c)) (λ c. unfinished (put standing me (Completed a v) c)) me cpus small (search (put_other, arith)) in
       let now : unfinished (put standing me (Completed a v) me) ≡ 0 = ap unfinished (put_same standing me (Completed a v)) in
       let then : unfinished (standing me) ≡ 1 = is in
       omega arith
@@ -95,10 +94,6 @@ module _ (cpus : ℕ) (stop : Stop) (word : Field → ℕ) (g : SlotShows cpus s
   pub all_outside : stop.is_open ≡ false → (c : ℕ) → stop.standing c ≡ Outside
   all_outside shut c = outside_is (stop.standing c) (g.members c ∙ ap (λ b. b && has stop.work.mask c) shut)
 
-  -- a slot that is not open: any store but that of roll
-  pub stores_shut : stop.is_open ≡ false → (word' : Field → ℕ) → word' Roll ≡ word Roll → SlotShows cpus stop word'
-  stores_shut shut word' same = search (g.roll, arith)
-
   -- store of roll
   pub opens_slot : (work : Work) → ((c : ℕ) → has work.mask c ≡ true → c < cpus) → mask_weight cpus work.mask ≢ 0 → IsStored cpus word work 10 →
       SlotShows cpus (opened stop work) (put_field word Roll work.mask)
@@ -107,13 +102,10 @@ module _ (cpus : ℕ) (stop : Stop) (word : Field → ℕ) (g : SlotShows cpus s
   -- done is 1: all have completed, and the result word is the result of their answers
   pub collects_slot : stop.is_open ≡ true → word Done ≡ 1 →
       IsResult stop.work.mask (λ c. answer_of (stop.standing c)) (word Result) × SlotShows cpus (closed stop) word
-  collects_slot open_ found = let o = g.shows open_ in let z = none_left stop.ending o.done in search (answered, g.roll, not_called, each, no, arith)
+  collects_slot open_ found = search (answered, g.roll, not_called, each, no, arith)
     where
       no : false ≡ true → ⊥
       no e = cc
-
-      none_left : (e : Ending) → DoneShows cpus stop.standing e (word Done) → count_unfinished cpus stop.standing ≡ 0
-      none_left e h = search arith
 
       mask_is : (c : ℕ) → is_of (stop.standing c) ≡ has stop.work.mask c
       mask_is c = subst (λ b. is_of (stop.standing c) ≡ (b && has stop.work.mask c)) open_ (g.members c)

@@ -1,21 +1,19 @@
 -- Entering, completing, opening and collecting, among all slots and CPUs.
-use Rattle.std.proofs.Common.{◌≡◌, ◌≢◌, ℕ, zero, suc, ◌-◌, ◌<◌, Bool, true, false, ◌==◌, cond, sym, subst, refl, ap, ◌∙◌, ◌⊎◌, arith, ne_eqb, eq-eqb, Option}
-use Rattle.std.proofs.Common.{Some, None}
+use Rattle.std.proofs.Common.{◌≡◌, ◌≢◌, ℕ, ◌-◌, ◌<◌, Bool, true, false, ◌==◌, cond, sym, subst, refl, ap, ◌∙◌, ◌⊎◌, arith, ne_eqb, eq-eqb, Option, Some, None}
 use Rattle.smp_words.proofs.Puts.{at_test, put_same, put_other}
-use Rattle.smp_words.specs.Put.{place_of, same_field}
-use Rattle.smp_words.specs.declared.field.Field.TheVariants.{Ack, Done, Result, Roll, Todo}
+use Rattle.smp_words.specs.Put.{same_field}
+use Rattle.smp_words.specs.declared.field.Field.TheVariants.{Done, Result, Roll, Todo}
 use Rattle.smp_labels.specs.Plans.{stored}
-use Rattle.smp_stop_steps.specs.{put, put_word, count_unfinished, unfinished, IsAnswer, IsNot, IsThrough, PresentShows, Closes, Fills, Free, Gives, In, Rests}
-use Rattle.smp_stop_steps.specs.{Seat, Sets, Stands, irq_of, turn_of, DoneShows, IsStored, OpenShows, SlotShows, put_field, IsOfKind, IsPatchWork, IsWork}
-use Rattle.smp_stop_steps.specs.{Setup, Answering, Called, Completed, Ended, Ending, Inside, Last, Nobody, Outside, Raises, Raising, Refills, Running}
-use Rattle.smp_stop_steps.specs.{Standing, closed, completed, ended, is_inside, is_of, opened, stands, Field, Multi, One, Patch, Kind as KindOf, Work, Slot}
-use Rattle.smp_stop_steps.specs.{Word, has}
+use Rattle.smp_stop_steps.specs.{put, put_word, count_unfinished, unfinished, IsAnswer, IsNot, IsThrough, PresentShows, Closes, Free, Gives, In, Rests, Seat}
+use Rattle.smp_stop_steps.specs.{Stands, irq_of, turn_of, DoneShows, IsStored, OpenShows, SlotShows, put_field, IsOfKind, IsPatchWork, IsWork, Setup}
+use Rattle.smp_stop_steps.specs.{Answering, Called, Completed, Ending, Inside, Last, Outside, Raising, Standing, closed, completed, ended, is_inside, is_of}
+use Rattle.smp_stop_steps.specs.{opened, stands, Field, Patch, Kind as KindOf, Work, Slot, Word, has}
 use Rattle.smp_stop_steps.proofs.Basics.Counts.{sum_zero}
 use Rattle.smp_stop_steps.proofs.State.Ends.{all_outside, answer_of_it, answer_unfinished, collects_slot, completes_slot, finishes_slot, opens_slot}
 use Rattle.smp_stop_steps.proofs.State.Moves.{IsNoPatch, SaveMe, moved, moves, slot_put, slot_same, source_moves}
 use Rattle.smp_stop_steps.proofs.State.Phases.{is_open_inside}
 use Rattle.smp_stop_steps.proofs.State.Raises.{in_machine}
-use Rattle.smp_stop_steps.proofs.State.Works.{answers_slot, called_is, enters_slot, not_raising}
+use Rattle.smp_stop_steps.proofs.State.Works.{answers_slot, enters_slot, not_raising}
 use Rattle.smp_stop_steps.specs.State.{Present}
 use Rattle.smp_stop_steps.specs.Stop.{Stop}
 
@@ -27,17 +25,10 @@ module _ (u : Setup) (p : Present) (at : Word → ℕ) (seat : ℕ → Seat) (h 
   pub step_opens : (work : Work) → (p.stop s).is_open ≡ false → IsWork u work → IsStored u.cpus w work 10 →
       PresentShows u (moved p s (opened (p.stop s) work) p.inside p.irq p.readings) (put_word at (Slot s Roll) work.mask) seat
   step_opens work shut is_work stored =
-      let out = all_outside u.cpus (p.stop s) w (h.slots s) shut in
       source_moves u p at (put_word at (Slot s Roll) work.mask) seat s (opened (p.stop s) work) h
       (slot_put u.cpus p.stop at s Roll work.mask (opened (p.stop s) work) h.slots (opens_slot u.cpus (p.stop s) w (h.slots s) work is_work.below
       is_work.some stored)) refl
-      (λ c. record {
-        on = λ i. absurd (nobody (out c) i);
-        back = λ i. absurd (calls (has work.mask c) i);
-        work = λ i. absurd (nobody (out c) i);
-        turn = λ i. absurd (nobody (out c) i);
-        ending = λ op e. absurd (apart (sym op ∙ shut));
-      })
+      (search (nobody, calls, apart, arith))
       (λ _ kind. patch_of_kind work.kind kind is_work.kind)
     where
       patch_of_kind : (k : KindOf) → k ≡ Patch → IsOfKind u work k → IsPatchWork u work
@@ -47,7 +38,7 @@ module _ (u : Setup) (p : Present) (at : Word → ℕ) (seat : ℕ → Seat) (h 
       apart e = cc
 
       nobody : {x : Standing} → x ≡ Outside → is_inside x ≡ true → ⊥
-      nobody e i = let bad : false ≡ true = sym (ap is_inside e) ∙ i in cc
+      nobody e i = cc
 
       calls : (b : Bool) → is_inside (cond b Called Outside) ≡ true → ⊥
       calls b e = search arith
@@ -67,7 +58,7 @@ module _ (u : Setup) (p : Present) (at : Word → ℕ) (seat : ℕ → Seat) (h 
       apart e = cc
 
       nobody : {x : Standing} → x ≡ Outside → is_inside x ≡ true → ⊥
-      nobody e i = let bad : false ≡ true = sym (ap is_inside e) ∙ i in cc
+      nobody e i = cc
 
       turned : (f : Field) → same_field f Roll true ≡ false → same_field Roll f true ≡ false
       turned f e = search (at_test, eq-eqb, arith)
@@ -78,27 +69,15 @@ module _ (u : Setup) (p : Present) (at : Word → ℕ) (seat : ℕ → Seat) (h 
       drafted_slot f n work shut out other = search (turned, h.slots, apart, arith)
 
   -- load of the result, after done was found
-  pub step_collects : (p.stop s).is_open ≡ true → at (Slot s Done) ≡ 1 →
-      PresentShows u (moved p s (closed (p.stop s)) p.inside p.irq p.readings) at seat
+  pub step_collects : (p.stop s).is_open ≡ true → at (Slot s Done) ≡ 1 → PresentShows u (moved p s (closed (p.stop s)) p.inside p.irq p.readings) at seat
   step_collects open_ found =
-      let o = (h.slots s).shows open_ in
-      let z = none_left (p.stop s).ending o.done in
       source_moves u p at at seat s (closed (p.stop s)) h
       (slot_same u.cpus p.stop at s (closed (p.stop s)) h.slots (collects_slot u.cpus (p.stop s) w (h.slots s) open_ found).1) refl
-      (λ c. record {
-        on = λ i. absurd (gone z c i);
-        back = λ i. absurd (apart i);
-        work = λ _. refl;
-        turn = λ _. refl;
-        ending = λ op e. absurd (running c (p.stop s).ending e o.done);
-      })
+      (search (gone, apart, running, arith))
       (λ bad kind. absurd (apart bad))
     where
       apart : false ≡ true → ⊥
       apart e = cc
-
-      none_left : (e : Ending) → DoneShows u.cpus (p.stop s).standing e (at (Slot s Done)) → count_unfinished u.cpus (p.stop s).standing ≡ 0
-      none_left e d = search arith
 
       running : (c : ℕ) (e : Ending) → e ≡ Last c → DoneShows u.cpus (p.stop s).standing e (at (Slot s Done)) → ⊥
       running c e e' d = search arith
@@ -109,9 +88,7 @@ module _ (u : Setup) (p : Present) (at : Word → ℕ) (seat : ℕ → Seat) (h 
       gone : count_unfinished u.cpus (p.stop s).standing ≡ 0 → (c : ℕ) → is_inside ((p.stop s).standing c) ≡ true → ⊥
       gone z c i =
           let both = inside_unfinished ((p.stop s).standing c) i in
-          let one = both.1 in
-          let zero_ = sum_zero (λ c. unfinished ((p.stop s).standing c)) u.cpus z c (in_machine u.cpus (p.stop s).phase c ((p.stop s).standing c) both.0
-          ((h.slots s).keeps c)) in
+          let zero_ = sum_zero (λ c. unfinished ((p.stop s).standing c)) u.cpus z c (search (in_machine, h.slots, arith)) in
           omega arith
 
   module _ (me : ℕ) where
@@ -132,23 +109,10 @@ module _ (u : Setup) (p : Present) (at : Word → ℕ) (seat : ℕ → Seat) (h 
         let to = Inside 0 0 in
         let stop' = stands (p.stop s) me to in
         let st : Stands p me Free = subst (Stands p me) is (h.stands me) in
-        let called : (p.stop s).standing me ≡ Called = called_is ((p.stop s).standing me) (sym ((h.slots s).roll me) ∙ found) in
-        let o = (h.slots s).shows (is_open_inside u.cpus (p.stop s) w (h.slots s) me Called called refl) in
         moves u p at (put_word at (Slot s Roll) n) seat s me stop' (put p.inside me (Some s)) p.irq p.readings (In s (p.stop s).work 0 0 Rests) h
         (slot_put u.cpus p.stop at s Roll n stop' h.slots (enters_slot u.cpus (p.stop s) w (h.slots s) me n found clears others)) refl
-        (λ c ne. record {
-          on = λ _. put_other (p.stop s).standing me to c ne;
-          back = λ i. subst (λ x. is_inside x ≡ true) (put_other (p.stop s).standing me to c ne) i;
-          work = λ _. refl;
-          turn = λ _. refl;
-          ending = λ op e. (op, e);
-        })
-        (save (Some s)) (
-          put_same p.inside me (Some s),
-          at_test s s (λ b. (cond b stop' (p.stop s)).standing me ≡ to) (λ _. put_same (p.stop s).standing me to) (λ ne. absurd (ne refl)),
-          at_test s s (λ b. turn_of (cond b stop' (p.stop s)).raising me ≡ Rests) (λ _. quiet called o) (λ ne. absurd (ne refl)),
-          at_test s s (λ b. (cond b stop' (p.stop s)).work ≡ (p.stop s).work) (λ _. refl) (λ _. refl),
-        )
+        (search (put_other, arith))
+        (save (Some s)) (search (put_same, at_test, quiet, arith))
         (at_home stop' (Some s) (λ j i. absurd (let bad : None ≡ Some j = sym st ∙ h.homes j me i in cc)) (λ _. refl))
         (h.irq me ∙ ap irq_of is)
         (λ on i. h.read me on (h.irq me ∙ ap irq_of is))
@@ -175,17 +139,10 @@ module _ (u : Setup) (p : Present) (at : Word → ℕ) (seat : ℕ → Seat) (h 
         let o = (h.slots s).shows open_ in
         moves u p at (put_word at (Slot s Todo) (found - 1)) seat s me stop' (put p.inside me None) p.irq p.readings (cond (found == 1) (Closes s) Free) h
         (slot_put u.cpus p.stop at s Todo (found - 1) stop' h.slots (completes_slot u.cpus (p.stop s) w (h.slots s) me a v is through)) refl
-        (λ c ne. record {
-          on = λ _. put_other (p.stop s).standing me (Completed a v) c ne;
-          back = λ i. subst (λ x. is_inside x ≡ true) (put_other (p.stop s).standing me (Completed a v) c ne) i;
-          work = λ _. refl;
-          turn = λ _. refl;
-          ending = search (not_last, in_machine, h.slots, arith);
-        })
+        (search (put_other, not_last, in_machine, arith))
         (save None)
         (now (found == 1) open_)
-        (at_home stop' None (λ j i. let e : Some s ≡ Some j = sym in_ ∙ h.homes j me i in let f : j ≡ s = cc in f)
-        (λ i. absurd (apart (subst (λ x. is_inside x ≡ true) (put_same (p.stop s).standing me (Completed a v)) i))))
+        (search (at_home, h.homes, apart, put_same, arith))
         (h.irq me ∙ (on ∙ sym (irq_after (found == 1))))
         (λ o i. h.read me o (h.irq me ∙ on))
         mine
@@ -214,17 +171,10 @@ module _ (u : Setup) (p : Present) (at : Word → ℕ) (seat : ℕ → Seat) (h 
         let st : Stands p me (Closes s) = subst (Stands p me) is (h.stands me) in
         moves u p at (put_word at (Slot s Done) 1) seat s me (ended (p.stop s)) p.inside p.irq p.readings Free h
         (slot_put u.cpus p.stop at s Done 1 (ended (p.stop s)) h.slots (finishes_slot u.cpus (p.stop s) w (h.slots s) me st.2)) refl
-        (λ c ne. record {
-          on = λ _. refl;
-          back = λ i. i;
-          work = λ _. refl;
-          turn = λ _. refl;
-          ending = λ op e. absurd (let same : Last me ≡ Last c = sym st.2 ∙ e in let f : me ≡ c = cc in ne (sym f));
-        })
+        (search arith)
         record { inside = λ c ne. refl; irq = λ c ne. refl; readings = λ c ne. refl }
         st.0
-        (λ j. at_test j s (λ b. is_inside ((cond b (ended (p.stop s)) (p.stop j)).standing me) ≡ true → p.inside me ≡ Some j)
-        (λ e i. h.homes j me (subst (λ k. is_inside ((p.stop k).standing me) ≡ true) (sym e) i)) (λ ne. h.homes j me))
+        (search (at_test, h.homes, arith))
         (h.irq me ∙ ap irq_of is)
         (λ on i. h.read me on (h.irq me ∙ ap irq_of is))
         (subst IsNoPatch (sym is) tt)
@@ -241,21 +191,9 @@ module _ (u : Setup) (p : Present) (at : Word → ℕ) (seat : ℕ → Seat) (h 
         let st : Stands p me (In s job a l Rests) = subst (Stands p me) is (h.stands me) in
         moves u p at (put_word at (Slot s Result) v) seat s me stop' p.inside p.irq p.readings (Gives s job a v) h
         (slot_put u.cpus p.stop at s Result v stop' h.slots (answers_slot u.cpus (p.stop s) w (h.slots s) me a l v st.1 some (through, quiet))) refl
-        (λ c ne. record {
-          on = λ _. put_other (p.stop s).standing me to c ne;
-          back = λ i. subst (λ x. is_inside x ≡ true) (put_other (p.stop s).standing me to c ne) i;
-          work = λ _. refl;
-          turn = λ _. refl;
-          ending = λ op e. (op, e);
-        })
-        record { inside = λ c ne. refl; irq = λ c ne. refl; readings = λ c ne. refl } (
-          st.0,
-          at_test s s (λ b. (cond b stop' (p.stop s)).standing me ≡ to) (λ _. put_same (p.stop s).standing me to) (λ ne. absurd (ne refl)),
-          at_test s s (λ b. turn_of (cond b stop' (p.stop s)).raising me ≡ Rests) (λ _. st.2) (λ ne. absurd (ne refl)),
-          at_test s s (λ b. (cond b stop' (p.stop s)).work ≡ job) (λ _. st.3) (λ ne. absurd (ne refl)),
-        )
-        (λ j. at_test j s (λ b. is_inside ((cond b stop' (p.stop j)).standing me) ≡ true → p.inside me ≡ Some j)
-        (λ e i. st.0 ∙ ap Some (sym e)) (λ ne. h.homes j me))
+        (search (put_other, arith))
+        record { inside = λ c ne. refl; irq = λ c ne. refl; readings = λ c ne. refl } (search (at_test, put_same, arith))
+        (search (at_test, h.homes, arith))
         (h.irq me ∙ on)
         (λ o i. h.read me o (h.irq me ∙ on))
         (subst IsNoPatch (sym is) tt)

@@ -1,17 +1,12 @@
 -- The count law: a key's word is what all CPUs together have moved it.
-use Rattle.std.proofs.Common.{◌≡◌, ◌≢◌, ℕ, zero, suc, ◌+◌, ◌-◌, ◌<◌, refl, ap, ◌∙◌, arith}
+use Rattle.std.proofs.Common.{◌≡◌, ◌≢◌, ℕ, ◌+◌, ◌-◌, ◌<◌, ap, ◌∙◌, arith}
 use Rattle.smp_words.proofs.Puts.{at_test, put_same, put_other}
-use Rattle.smp_stop_steps.specs.{put, put_word, sum_below, moves, moved_by, ups, downs, CountShows, Moved, unmoved, Word, Key}
+use Rattle.smp_stop_steps.specs.{put, put_word, moves, moved_by, ups, downs, CountShows, Moved, unmoved, Word, Key}
 use Rattle.smp_stop_steps.proofs.Basics.Counts.{sum_put, sum_same}
-
-none_moved : (n : ℕ) → sum_below (λ _. 0) n ≡ 0
-unfolding sum_below
-none_moved zero = refl
-none_moved (suc n) = let e = none_moved n in omega arith
 
 -- at first
 pub opened_count : (n k word : ℕ) → word ≡ 0 → CountShows n (λ _ _. unmoved) (λ _ _. unmoved) k word
-opened_count n k word e = let z = none_moved n in omega arith
+opened_count n k word e = omega arith
 
 module _ (n : ℕ) (f : ℕ → ℕ → Moved) (me k old new : ℕ) (low : me < n) where
   abbrev f' : ℕ → ℕ → Moved

@@ -97,10 +97,7 @@ moves u p at at' seat s me stop' inside' irq' readings' next h slots same leaves
   runner = runner_kept u.first p.patching seat me next mine h.runner;
   entries = subst (AreEntriesOf u.entries) (sym same) h.entries;
   labels = subst (LabelsShow p.patching) (sym same) h.labels;
-  read = λ c on i. subst (λ t. AllByRecursion (Agrees t) (readings' c)) (sym same) (at_test c me (λ _. u.online c ≡ true → irq' c ≡ true →
-      AllByRecursion (Agrees (labels_in at)) (readings' c))
-      (λ e. subst (λ c. u.online c ≡ true → irq' c ≡ true → AllByRecursion (Agrees (labels_in at)) (readings' c)) (sym e) (λ on i. read on (sym off ∙ i)))
-      (λ ne on i. subst (AllByRecursion (Agrees (labels_in at))) (sym (save.readings c ne)) (h.read c on (sym (save.irq c ne) ∙ i))) on i);
+  read = λ c on i. subst (λ t. AllByRecursion (Agrees t) (readings' c)) (sym same) (search (at_test, save.readings, h.read, save.irq, arith));
 }
 
 -- the source opens or closes its slot: no CPU moves

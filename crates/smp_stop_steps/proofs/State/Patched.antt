@@ -1,7 +1,7 @@
 -- The label law: patching, and reading.
 use Rattle.std.proofs.lemmas.Bool.{cases_lt}
-use Rattle.std.proofs.Common.{◌≡◌, ◌≢◌, ℕ, ◌+◌, ◌≤◌, true, false, nat_lt, ◌==◌, ◌||◌, sym, subst, refl, ap, ◌∙◌, ◌⊎◌, arith, le-ltb, eqb-true, ⊎_elim, ne_eqb}
-use Rattle.std.proofs.Common.{Some, List, [], ◌∷◌, ◌++◌, lt-ltb, IfSome}
+use Rattle.std.proofs.Common.{◌≡◌, ◌≢◌, ℕ, ◌≤◌, true, false, nat_lt, ◌==◌, ◌||◌, sym, subst, refl, ap, ◌∙◌, ◌⊎◌, arith, le-ltb, eqb-true, ne_eqb, Some, List}
+use Rattle.std.proofs.Common.{[], ◌∷◌, ◌++◌, lt-ltb, IfSome}
 use Rattle.std.specs.List.{AllByRecursion}
 use Rattle.smp_labels.specs.declared.keys.Change.{Change as KeyChange}
 use Rattle.smp_words.proofs.Puts.{put_all, at_test, put_same}
@@ -10,9 +10,8 @@ use Rattle.smp_labels.specs.Keys.{count_left}
 use Rattle.smp_labels.specs.Law.{IsLawful}
 use Rattle.smp_labels.specs.Plans.{AreEntriesOf, SetsKey, applied, stored}
 use Rattle.smp_stop_steps.specs.{put, Agrees, Change, LabelsShow, Patches, Patching, Reading, Whole, labels_in, StandsSet, count_set, state_left}
-use Rattle.smp_stop_steps.specs.{PresentShows, RunnerShows, Alters, Closes, Free, Gives, In, Rests, Seat, Stands, irq_of, Keeps, SlotShows, Setup, Answering}
-use Rattle.smp_stop_steps.specs.{Called, Completed, Inside, Outside, Standing, acked, is_inside, is_of, Field, Patch, Work, Key, Slot, Word, is_on, change_of}
-use Rattle.smp_stop_steps.specs.{has}
+use Rattle.smp_stop_steps.specs.{PresentShows, RunnerShows, Alters, In, Rests, Seat, Stands, irq_of, Keeps, SlotShows, Setup, Inside, Standing, acked, is_of}
+use Rattle.smp_stop_steps.specs.{Field, Patch, Work, Key, Slot, Word, is_on, change_of, has}
 use Rattle.smp_stop_steps.proofs.State.Ends.{function_law}
 use Rattle.smp_stop_steps.proofs.State.Phases.{is_open_inside}
 use Rattle.smp_stop_steps.specs.State.{Present}
@@ -38,7 +37,6 @@ module _ (u : Setup) (p : Present) (at : Word → ℕ) (seat : ℕ → Seat) (h 
   all_off is c of =
       let w : Field → ℕ = λ f. at (Slot s f) in
       let f = function_law u.cpus (p.stop s) w (h.slots s) me is in
-      let open_ = is_open_inside u.cpus (p.stop s) w (h.slots s) me (Inside 2 3) is refl in
       let of_it : is_of ((p.stop s).standing c) ≡ true = search (h.slots, arith) in
       h.irq c ∙ go ((p.stop s).standing c) refl of_it f.at_run (f.all_disabled c of) ((h.slots s).keeps c)
     where
@@ -61,8 +59,6 @@ module _ (u : Setup) (p : Present) (at : Word → ℕ) (seat : ℕ → Seat) (h 
       (IsLawful (labels_in at) → SetsKey job.func (count_set job count) (labels_in at) (applied plan (labels_in at))) →
       PresentShows u (patches (Patches me job count [] plan)) at (put seat me (Alters s job count [] plan))
   patch_starts job plan is kind active leads =
-      let st : Stands p me (In s job 2 3 Rests) = subst (Stands p me) is (h.stands me) in
-      let open_ = is_open_inside u.cpus (p.stop s) (λ f. at (Slot s f)) (h.slots s) me (Inside 2 3) st.1 refl in
       let mine : me ≡ u.first = search (eqb-true, h.works, arith) in
       let whole : p.patching ≡ Whole = go p.patching h.runner mine in
       let lawful : IsLawful (labels_in at) = subst (λ x. LabelsShow x (labels_in at)) whole h.labels in
@@ -92,7 +88,6 @@ module _ (u : Setup) (p : Present) (at : Word → ℕ) (seat : ℕ → Seat) (h 
       let st : Stands p me (Alters s job count made (change ∷ rest)) = subst (Stands p me) is (h.stands me) in
       let open_ = is_open_inside u.cpus (p.stop s) (λ f. at (Slot s f)) (h.slots s) me (Inside 2 3) st.1 refl in
       let r : RunnerShows u.first (Patches me job count made (change ∷ rest)) seat = subst (λ x. RunnerShows u.first x seat) st.5 h.runner in
-      let l : LabelsShow (Patches me job count made (change ∷ rest)) (labels_in at) = subst (λ x. LabelsShow x (labels_in at)) st.5 h.labels in
       let made' = made ++ change ∷ [] in
       let next = Alters s job count made' rest in
       let kind : (p.stop s).work.kind ≡ Patch = ap (λ (w : Work). w.kind) st.3 ∙ st.4 in

@@ -10,9 +10,6 @@ use Rattle.smp_stop_steps.specs.Stop.{Stop}
 abbrev IsZero : ℕ → Type 0
 IsZero n = n ≡ 0
 
-one_zero : IsZero 1 → ⊥
-one_zero h = omega (arith, h)
-
 -- who is behind counts 1, who is not counts 0
 pub behind_none : (p a l : ℕ) → behind p (Inside a l) ≡ 0 → a ≡ p
 behind_none p a l = at_test a p (λ b. IsZero (cond b 0 1) → a ≡ p) (λ e _. e) (λ ne h. absurd (let z : ⊥ = omega (arith, h) in z))
@@ -24,8 +21,7 @@ pub behind_zero : (p l : ℕ) → behind p (Inside p l) ≡ 0
 behind_zero p l = ap (λ b. cond b 0 1) (eq-eqb p p refl)
 
 -- a CPU of the mask that has not acknowledged the phase keeps anybody from raising
-pub none_raises : (cpus p : ℕ) (standing : ℕ → Standing) (me a l : ℕ) → standing me ≡ Inside a l → me < cpus → a ≢ p →
-    count_behind cpus p standing ≢ 0
+pub none_raises : (cpus p : ℕ) (standing : ℕ → Standing) (me a l : ℕ) → standing me ≡ Inside a l → me < cpus → a ≢ p → count_behind cpus p standing ≢ 0
 none_raises cpus p standing me a l is small ne zero_ =
     ne (behind_none p a l (subst (λ s. behind p s ≡ 0) is (sum_zero (λ c. behind p (standing c)) cpus zero_ me small)))
 
@@ -52,9 +48,6 @@ acked_more cpus p standing me a l ack r is small ne h = search (ack_found, one_f
 module _ (cpus : ℕ) (standing : ℕ → Standing) (me : ℕ) (a l a' l' : ℕ) (is : standing me ≡ Inside a l) where
   unfinished_inside : count_unfinished cpus (put standing me (Inside a' l')) ≡ count_unfinished cpus standing
   unfinished_inside = search (sum_same, put_all, arith)
-
-  weight_inside : weight cpus (put standing me (Inside a' l')) ≡ weight cpus standing
-  weight_inside = search (sum_same, put_all, arith)
 
   result_inside : (n : ℕ) → ResultShows standing n → ResultShows (put standing me (Inside a' l')) n
   result_inside n h = search (put_all, arith)

@@ -1,8 +1,8 @@
 -- Raising the phase, and the phase law.
-use Rattle.std.proofs.Common.{◌≡◌, ◌≢◌, ℕ, ◌+◌, ◌<◌, ◌≤◌, true, sym, subst, ◌∙◌, ◌⊎◌, inl, inr, arith, ⊎_elim, ne_eqb}
+use Rattle.std.proofs.Common.{◌≡◌, ◌≢◌, ℕ, ◌+◌, ◌<◌, ◌≤◌, true, ◌⊎◌, arith, ⊎_elim, ne_eqb}
 use Rattle.smp_words.specs.declared.field.Field.TheVariants.{Ack, State}
-use Rattle.smp_stop_steps.specs.{behind, count_behind, one, weight, PhaseLaw, AckShows, IsLevel, IsPhaseOf, Keeps, SlotShows, put_field, Inside, Nobody}
-use Rattle.smp_stop_steps.specs.{Raises, Raising, Refills, Standing, acked, is_of, raised, Field, Kind as KindOf}
+use Rattle.smp_stop_steps.specs.{behind, count_behind, one, weight, PhaseLaw, AckShows, IsLevel, IsPhaseOf, Keeps, SlotShows, put_field, Inside, Raises}
+use Rattle.smp_stop_steps.specs.{Raising, Standing, acked, is_of, raised, Field, Kind as KindOf}
 use Rattle.smp_stop_steps.proofs.Basics.Counts.{sum_same, sum_zero}
 use Rattle.smp_stop_steps.proofs.State.Phases.{has_acknowledged}
 use Rattle.smp_stop_steps.specs.Stop.{Stop}
@@ -40,9 +40,7 @@ module _ (cpus : ℕ) (stop : Stop) (word : Field → ℕ) (g : SlotShows cpus s
   raises_slot me is open_ ne = search (g.shows, all_acknowledged, g.keeps, keeps_on, sum_same, behind_next, raised_kind, arith)
 
   pub phase_law : stop.is_open ≡ true → stop.phase ≢ 0 → PhaseLaw cpus stop (word Ack)
-  phase_law open_ ne =
-      let o = g.shows open_ in
-      search (level_of, g.keeps, ends, acked_most, either, o.ack, at_five, arith)
+  phase_law open_ ne = let o = g.shows open_ in search (level_of, g.keeps, ends, acked_most, either, o.ack, at_five, arith)
     where
       ends : (a : ℕ) → stop.phase ≡ 5 → a ≤ 4 → IsLevel stop.phase a → a ≡ 4
       ends a e m l = ⊎_elim (λ (t : a ≡ stop.phase). omega arith) (λ (t : a + 1 ≡ stop.phase). omega arith) l

@@ -2,9 +2,9 @@
 use Rattle.std.proofs.Common.{◌≡◌, ◌≢◌, ℕ, true, false, sym, subst, refl, ap, ◌∙◌, ◌⊎◌, inr, arith}
 use Rattle.smp_words.proofs.Puts.{put_all, put_same, put_other}
 use Rattle.smp_words.specs.declared.field.Field.TheVariants.{Done, Result, Roll, State}
-use Rattle.smp_stop_steps.specs.{put, behind, bit, count_behind, count_unfinished, mask_weight, one, unfinished, weight, IsNot, IsThrough, AckShows}
-use Rattle.smp_stop_steps.specs.{DoneShows, HasGiven, Keeps, ResultShows, SlotShows, put_field, Answering, Called, Ending, Inside, Outside, Raising, Standing}
-use Rattle.smp_stop_steps.specs.{is_called, is_of, stands, Field, has}
+use Rattle.smp_stop_steps.specs.{put, behind, count_behind, count_unfinished, mask_weight, one, unfinished, weight, IsNot, IsThrough, AckShows, DoneShows}
+use Rattle.smp_stop_steps.specs.{HasGiven, Keeps, ResultShows, SlotShows, put_field, Answering, Called, Ending, Inside, Outside, Raising, Standing, is_called}
+use Rattle.smp_stop_steps.specs.{is_of, stands, Field, has}
 use Rattle.smp_stop_steps.proofs.Basics.Counts.{sum_same}
 use Rattle.smp_stop_steps.proofs.State.Phases.{is_open_inside, keeps_inside}
 use Rattle.smp_stop_steps.specs.Stop.{Stop}
@@ -17,8 +17,7 @@ module _ (cpus : ℕ) (standing : ℕ → Standing) (me p : ℕ) (to : Standing)
         (λ j _. put_all (λ j s. behind p s ≡ behind p (standing j)) standing me to same (λ j ne. refl) j)
 
     weight_kept : weight cpus (put standing me to) ≡ weight cpus standing
-    weight_kept = sum_same (λ c. one (standing c)) (λ c. one (put standing me to c)) cpus (λ j _. put_all (λ j s. one s ≡ one (standing j)) standing me to
-        (ap bit of) (λ j ne. refl) j)
+    weight_kept = sum_same (λ c. one (standing c)) (λ c. one (put standing me to c)) cpus (search (put_all, arith))
 
     pub ack_kept : (r : Raising) (ack : ℕ) → IsNot me r → AckShows cpus p standing r ack → AckShows cpus p (put standing me to) r ack
     ack_kept r ack ne h = search (behind_kept, put_other, weight_kept, arith)
@@ -55,8 +54,7 @@ module _ (cpus : ℕ) (stop : Stop) (word : Field → ℕ) (g : SlotShows cpus s
       search (called_is, is_open_inside, keeps_inside, put_all, ack_kept, not_raising, unfinished_kept, done_kept, result_kept, arith)
 
   -- it looks at the state, which is the one that it acknowledged or the next
-  pub looks_slot : (a l : ℕ) → stop.standing me ≡ Inside a l → a ≢ 4 → IsNot me stop.raising →
-      SlotShows cpus (stands stop me (Inside a (word State))) word
+  pub looks_slot : (a l : ℕ) → stop.standing me ≡ Inside a l → a ≢ 4 → IsNot me stop.raising → SlotShows cpus (stands stop me (Inside a (word State))) word
   looks_slot a l is more calm_ = search (is_open_inside, keeps_inside, put_all, ack_kept, unfinished_kept, done_kept, result_kept, arith)
 
   -- an answer that is not 0 goes into the result word

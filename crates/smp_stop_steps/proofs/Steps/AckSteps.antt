@@ -1,12 +1,11 @@
 -- The steps that acknowledge a phase and set the next one, by a CPU's stage.
-use Rattle.std.proofs.Common.{◌≡◌, ℕ, ◌+◌, ◌-◌, ◌≤◌, Bool, true, false, nat_lt, le-ltb, ne_eqb, ◌==◌, cond, sym, subst, ap, ◌∙◌, ◌⊎◌, inl, inr, arith, Option}
-use Rattle.std.proofs.Common.{Some, None, []}
+use Rattle.std.proofs.Common.{◌≡◌, ℕ, ◌+◌, ◌-◌, ◌≤◌, Bool, true, nat_lt, le-ltb, ne_eqb, ◌==◌, cond, sym, subst, ap, ◌∙◌, ◌⊎◌, inl, inr, arith, Option, Some}
+use Rattle.std.proofs.Common.{None, []}
 use Rattle.smp_words.proofs.Puts.{at_test}
 use Rattle.smp_words.specs.declared.field.Field.TheVariants.{Ack}
-use Rattle.smp_stop_steps.specs.{put, put_word, mask_weight, patch_answer, Alters, Fills, In, Rests, Seat, Sets, irq_of, StopShows, HasRun, RunsIf, IsLoaded}
-use Rattle.smp_stop_steps.specs.{OwnsIf, Source, StopControlValue, stop_goes, turn_ends, visit_acked, Setup, StopState, Calling, Calls, Idle, StopStep}
-use Rattle.smp_stop_steps.specs.{at_then, state_after, told, plan_at, Advance, StopStage, Visit, Patch, Multi, Work, Gate, Slot, Word, has, CarriesIn}
-use Rattle.smp_stop_steps.specs.{CarriesAt, IsAcking, HasCalled}
+use Rattle.smp_stop_steps.specs.{put, put_word, mask_weight, patch_answer, Alters, Fills, In, Rests, Seat, Sets, StopShows, HasRun, RunsIf, IsLoaded, OwnsIf}
+use Rattle.smp_stop_steps.specs.{Source, StopControlValue, stop_goes, turn_ends, visit_acked, Setup, StopState, Calling, StopStep, at_then, state_after, told}
+use Rattle.smp_stop_steps.specs.{plan_at, Advance, StopStage, Visit, Work, Gate, Slot, Word, has, CarriesIn, CarriesAt, IsAcking, HasCalled}
 use Rattle.smp_stop_steps.proofs.Basics.Bools.{or_false, or_true}
 use Rattle.smp_stop_steps.proofs.Steps.Same.{moved_seat}
 use Rattle.smp_stop_steps.proofs.Steps.Facts.{ack_bounds, ack_bounds_patched, patcher_active}
@@ -14,7 +13,6 @@ use Rattle.smp_stop_steps.proofs.Steps.RoundSteps.{ack_small}
 use Rattle.smp_stop_steps.proofs.Steps.Rounds.{ack_stored, ack_subtracted, ack_subtracted_patched, state_stored}
 use Rattle.smp_stop_steps.proofs.Steps.StageSteps.{less_one}
 use Rattle.smp_stop_steps.specs.Sits.{Sits}
-use Rattle.smp_stop_steps.specs.State.{Carries}
 use Rattle.smp_stop_steps.proofs.Steps.Stages.{in_round, round_source}
 use Rattle.smp_stop_steps.specs.act
 use Rattle.smp_stop_steps.specs.round
@@ -35,9 +33,6 @@ module _ (u : Setup) (p : StopState) (at : Word → ℕ) (seat : ℕ → Seat) (
       let r = in_round s v (round.Acknowledge answer ran) e in
       either r.1.0 r.1.1 r.1.2 r.1.3 (round_source s v (round.Acknowledge answer ran) e)
     where
-      found : ℕ
-      found = at (Slot v.slot Ack)
-
       -- who acknowledges RUN has called its function, or is not to call one
       has_called : (work : Work) → IsLoaded v work → (b : Bool) → RunsIf me v b → (f : Calling) → IsAcking v answer b f → v.acked ≡ 2 → HasCalled me work f
       has_called work loaded b runs f is two = search arith
@@ -101,7 +96,6 @@ module _ (u : Setup) (p : StopState) (at : Word → ℕ) (seat : ℕ → Seat) (
       let r = in_round s v (round.Raise ran) e in
       let work = r.1.0 in
       let next = In v.slot work v.acked v.acked Rests in
-      let off : c.interrupts ≡ nat_lt v.acked 2 = s.irq ∙ ap irq_of r.1.2 in
       let shows' = moved_seat u seat source me (state_after u p at c me (Advance v (round.Raise ran))) (at_then u at c me (Advance v (round.Raise ran))) next
       (state_stored u p at seat source h v.slot me work v.acked v.acked 0 r.1.2) in
       search (shows', at_test, nat_lt, or_true, or_false, round_source, arith)

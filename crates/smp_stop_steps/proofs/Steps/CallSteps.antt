@@ -1,21 +1,20 @@
 -- Each step of a CPU's command leaves its function where the next stage says, and the functions of all others.
-use Rattle.std.proofs.Common.{◌≡◌, ◌≢◌, ℕ, ◌+◌, Bool, true, false, eq-eqb, eqb-true, ◌==◌, ◌&&◌, cond, ◌⊎◌, inl, inr, Option, Some, None, [], ◌∷◌, sym, subst}
-use Rattle.std.proofs.Common.{refl, ap, ◌∙◌, arith}
+use Rattle.std.proofs.Common.{◌≡◌, ◌≢◌, ℕ, ◌+◌, Bool, true, false, eq-eqb, eqb-true, ◌==◌, cond, ◌⊎◌, inl, inr, Option, Some, None, [], ◌∷◌, sym, subst, refl}
+use Rattle.std.proofs.Common.{ap, ◌∙◌, arith}
 use Rattle.smp_labels.specs.Kinds.{xor}
 use Rattle.smp_labels.specs.declared.keys.Change.{Change as KeyChange}
 use Rattle.smp_words.proofs.Puts.{put_same, put_other}
-use Rattle.smp_stop_steps.specs.{has, change_of, count_after, is_on, word_of, seen_of, put, Field, Kind as KindOf, One, Multi, Patch, Work, Word, Gate, Slot}
-use Rattle.smp_stop_steps.specs.{Key, IsCalling, answer_in, HasCalled, CarriesAt, CarriesIn, IsQuiet, IsAcking, IsEnding, Change, patch_answer, Seat, In}
-use Rattle.smp_stop_steps.specs.{Gives, Alters, Rests, Stands, Turn, StopShows, IsLoaded, RunsIf, SitsAtRun, IsThroughAll, Source, StopControlValue}
-use Rattle.smp_stop_steps.specs.{answer_at, turn_note, key_on, nudge_of, nudge_on, stop_ends, stop_goes, store_of, turn_ends, visit_acked, Setup, StopState}
-use Rattle.smp_stop_steps.specs.{Calling, Idle, Calls, StopCall, CallStep, control_then, state_after, told_of, is_run, note_then, Told, Standing, Inside}
-use Rattle.smp_stop_steps.specs.{acknowledges, called_more, calls_now, carried, carried_call, completes, completes_with, gate_told, is_multi, key_told}
-use Rattle.smp_stop_steps.specs.{may_call, plan_at, stored_open, stored_shut, tells, told, StopStage, TakeGate, OpenGate, Begin, Enter, EnterKind, EnterMask}
-use Rattle.smp_stop_steps.specs.{EnterActive, Advance, Complete, Close, LoadDone, LoadResult, NudgeKey, ExchangeKey, Visit}
+use Rattle.smp_stop_steps.specs.{count_after, is_on, word_of, seen_of, put, Field, Kind as KindOf, One, Multi, Patch, Work, Word, Gate, Slot, Key, IsCalling}
+use Rattle.smp_stop_steps.specs.{answer_in, HasCalled, CarriesAt, CarriesIn, IsQuiet, IsAcking, IsEnding, Change, patch_answer, Seat, In, Gives, Alters}
+use Rattle.smp_stop_steps.specs.{Rests, Stands, Turn, StopShows, IsLoaded, RunsIf, SitsAtRun, IsThroughAll, Source, StopControlValue, answer_at, turn_note}
+use Rattle.smp_stop_steps.specs.{key_on, nudge_of, nudge_on, stop_goes, store_of, turn_ends, visit_acked, Setup, StopState, Calling, Idle, Calls, StopCall}
+use Rattle.smp_stop_steps.specs.{CallStep, control_then, state_after, told_of, is_run, note_then, Standing, Inside, acknowledges, called_more, calls_now}
+use Rattle.smp_stop_steps.specs.{carried, carried_call, completes, completes_with, gate_told, key_told, may_call, plan_at, stored_open, stored_shut, tells}
+use Rattle.smp_stop_steps.specs.{told, StopStage, TakeGate, OpenGate, Begin, Enter, EnterKind, EnterMask, EnterActive, Advance, Complete, Close, LoadDone}
+use Rattle.smp_stop_steps.specs.{LoadResult, NudgeKey, ExchangeKey, Visit}
 use Rattle.smp_stop_steps.proofs.Steps.Completions.{one_phase}
 use Rattle.smp_stop_steps.proofs.State.Phases.{is_open_inside, keeps_inside}
 use Rattle.smp_stop_steps.specs.Sits.{Sits}
-use Rattle.smp_stop_steps.specs.State.{Carries}
 use Rattle.smp_stop_steps.specs.declared.stage.StopStage.TheVariants.{ReadKey, ReadSite}
 use Rattle.smp_stop_steps.proofs.Steps.Callings.{carried_alone, idle_alters, idle_patch}
 use Rattle.smp_stop_steps.proofs.State.Moves.{IsNoPatch}
@@ -109,9 +108,7 @@ module _ (u : Setup) (p : StopState) (at : Word → ℕ) (seat : ℕ → Seat) (
     calls stage s w a l answer is_told is may idle answered says mine = search (h.present.stands, stage, called, put_same, put_other, arith)
 
     load_arg : (answer func : ℕ) → c.stage ≡ Some (Advance v (round.LoadArg answer func)) → Now (Advance v (round.LoadArg answer func))
-    load_arg answer func e =
-        let x = at_seat s (Advance v (round.LoadArg answer func)) e in
-        go x.0 x.1.0 x.1.1.0 x.1.1.1 x.1.1.2 v.kind refl
+    load_arg answer func e = let x = at_seat s (Advance v (round.LoadArg answer func)) e in go x.0 x.1.0 x.1.1.0 x.1.1.1 x.1.1.2 v.kind refl
       where
         q : IsQuiet c.visit f
         q = at_stage (Advance v (round.LoadArg answer func)) e
@@ -279,8 +276,7 @@ module _ (u : Setup) (p : StopState) (at : Word → ℕ) (seat : ℕ → Seat) (
   call_step (Close slot) e = plain (Close slot) (store_calling p me slot 1 field.Done (p.now.stop slot).is_open) refl (at_stage (Close slot) e)
   call_step LoadDone e = search (plain, at_stage, arith)
   call_step LoadResult e = plain LoadResult refl refl (at_stage LoadResult e)
-  call_step (ReadKey k) e = plain (ReadKey k) refl (elim (is_on (at (Key k))) as (λ b. is_run (Some (cond b note.On note.Off)) ≡ false)
-      [ true ↦ refl | false ↦ refl ]) (at_stage (ReadKey k) e)
+  call_step (ReadKey k) e = plain (ReadKey k) refl (search arith) (at_stage (ReadKey k) e)
   call_step (ReadSite i) e = search (plain, at_stage, arith)
   call_step (NudgeKey k up) e = plain (NudgeKey k up) refl (silent (count_after (nudge_of up) (at (Key k)))) (nudged (count_after (nudge_of up) (at (Key k))))
     where

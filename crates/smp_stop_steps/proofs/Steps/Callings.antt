@@ -1,10 +1,9 @@
 -- The functions that run, and who is to store done, after a step.
-use Rattle.std.proofs.Common.{◌≡◌, ◌≢◌, ℕ, ◌+◌, Bool, true, ◌&&◌, ◌⊎◌, cond, List, ne_eqb, sym, subst, ap, ◌∙◌, arith, eqb-true}
+use Rattle.std.proofs.Common.{◌≡◌, ◌≢◌, ℕ, ◌+◌, Bool, true, ◌&&◌, ◌⊎◌, cond, List, ne_eqb, sym, subst, ap, ◌∙◌, arith}
 use Rattle.smp_words.proofs.Puts.{at_test, put_all, put_both, put_other}
-use Rattle.smp_stop_steps.specs.{put, Kind as KindOf, One, Patch, Work, with_answer, IsCalling, answer_in, MayCall, HasCalled, AreClosing, HasCompleted}
-use Rattle.smp_stop_steps.specs.{Change, Patching, RunnerShows, StopShows, Source, Word, Seat, Free, In, Gives, Alters, Closes, Turn, Rests, Setup, StopState}
-use Rattle.smp_stop_steps.specs.{Calling, Idle, Inside, Last, carried, carried_call, is_multi, may_call}
-use Rattle.smp_stop_steps.proofs.Basics.Bools.{both_true}
+use Rattle.smp_stop_steps.specs.{put, Kind as KindOf, One, Patch, Work, with_answer, IsCalling, answer_in, HasCalled, AreClosing, HasCompleted, Change}
+use Rattle.smp_stop_steps.specs.{Patching, RunnerShows, StopShows, Source, Word, Seat, Free, In, Gives, Alters, Closes, Turn, Rests, Setup, StopState}
+use Rattle.smp_stop_steps.specs.{Calling, Idle, Last, carried, carried_call, is_multi}
 use Rattle.smp_stop_steps.specs.State.{Present}
 use Rattle.smp_stop_steps.specs.Stop.{Stop}
 use Rattle.smp_stop_steps.proofs.State.Moves.{IsNoPatch}
@@ -61,10 +60,6 @@ calling_ran c s w t f many idle k = search (active_multi, w.active, arith)
 pub carried_alone : (first : ℕ) (x : Patching) (seat : ℕ → Seat) (me : ℕ) (f : Calling) → IsNoPatch (seat me) → RunnerShows first x seat →
     carried me x f ≡ carried_call f
 carried_alone first x seat me f idle r = search (ne_eqb, IsNoPatch, arith)
-
--- the function that is called with the load of its argument
-pub call_may : (c : ℕ) (w : Work) (a l : ℕ) → may_call c w (Inside a l) ≡ true → MayCall c w a l Rests
-call_may c w a l e = search (w.kind, w.active, both_true, eqb-true, arith)
 
 -- the answer that is stored, by a CPU that is through
 pub calling_given : (c s : ℕ) (w : Work) (a l : ℕ) (v : ℕ) (f : Calling) → v ≢ 0 → (a ≡ 4) ⊎ (w.kind ≡ One) → v ≡ answer_in f →

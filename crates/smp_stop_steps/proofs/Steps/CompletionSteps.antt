@@ -31,7 +31,7 @@ module _ (u : Setup) (p : StopState) (at : Word → ℕ) (seat : ℕ → Seat) (
       record { seat_after = g.0; source_after = source me; shows = g.1; sits = g.2 }
     where
       low : me < 64
-      low = let few = h.setup.few in let b = s.below in omega arith
+      low = omega arith
 
       go : c.visit ≡ None → seat me ≡ Free → OwnsIf c.is_open (source me) → (b : Bool) → has (at (Slot slot Roll)) me ≡ b →
           (x : Seat) × (StopShows u (state_after u p at c me (Enter slot)) (at_then u at c me (Enter slot)) (put seat me x) (put source me (source me))) ×
@@ -57,21 +57,14 @@ module _ (u : Setup) (p : StopState) (at : Word → ℕ) (seat : ℕ → Seat) (
   close : (slot : ℕ) → c.stage ≡ Some (Close slot) → StopStep u p at seat source c me (Close slot)
   close slot e =
       let x = at_seat s (Close slot) e in
-      let shows' = moved_seat u seat source me (state_after u p at c me (Close slot)) (at_then u at c me (Close slot)) Free (done_stored u p at seat source h
-      slot me 0 x.1) in
+      let shows' = moved_seat u seat source me (state_after u p at c me (Close slot)) (at_then u at c me (Close slot)) Free (search (done_stored, arith)) in
       search (shows', at_source, arith)
 
   module _ (v : Visit) where
     one_func : (answer : ℕ) → c.stage ≡ Some (Complete v (completion.LoadFunc answer)) → StopStep u p at seat source c me
         (Complete v (completion.LoadFunc answer))
     one_func answer e =
-        let x = at_seat s (Complete v (completion.LoadFunc answer)) e in
-        record {
-          seat_after = seat me;
-          source_after = source me;
-          shows = still u seat source me p at h;
-          sits = search (work_words, at_source, arith);
-        }
+        record { seat_after = seat me; source_after = source me; shows = still u seat source me p at h; sits = search (work_words, at_source, arith) }
 
     one_arg : (answer func : ℕ) → c.stage ≡ Some (Complete v (completion.LoadArg answer func)) → StopStep u p at seat source c me
         (Complete v (completion.LoadArg answer func))
@@ -124,9 +117,7 @@ module _ (u : Setup) (p : StopState) (at : Word → ℕ) (seat : ℕ → Seat) (
     counted_sits y on b = search arith
 
     count_down : c.stage ≡ Some (Complete v completion.CountDown) → StopStep u p at seat source c me (Complete v completion.CountDown)
-    count_down e =
-        let x = at_seat s (Complete v completion.CountDown) e in
-        either x.1.0 x.1.1 (at_source s (Complete v completion.CountDown) e)
+    count_down e = let x = at_seat s (Complete v completion.CountDown) e in either x.1.0 x.1.1 (at_source s (Complete v completion.CountDown) e)
       where
         either : (work : Work) → (((v.answer ≡ 0) × IsLoaded v work × IsThroughAll v × (seat me ≡ In v.slot work v.acked v.acked Rests)) ⊎
             (seat me ≡ Gives v.slot work v.acked v.answer)) →

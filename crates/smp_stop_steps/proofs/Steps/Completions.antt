@@ -1,13 +1,12 @@
 -- The kinds of step at the ends of a stop for one CPU: it enters, stores its answer, counts itself, and stores done.
-use Rattle.std.proofs.Common.{◌≡◌, ◌≢◌, ℕ, ◌+◌, ◌-◌, ◌≤◌, Bool, true, false, nat_lt, eq-eqb, ◌==◌, cond, sym, subst, refl, ap, ◌∙◌, ◌⊎◌, inl, inr, arith}
-use Rattle.std.proofs.Common.{⊎_elim, Option, Some, None, List, [], ◌∷◌, ◌++◌}
+use Rattle.std.proofs.Common.{◌≡◌, ◌≢◌, ℕ, ◌-◌, ◌≤◌, Bool, true, false, nat_lt, eq-eqb, ◌==◌, cond, sym, subst, refl, ap, ◌∙◌, ◌⊎◌, inl, inr, arith, ⊎_elim}
+use Rattle.std.proofs.Common.{Option, Some, None, List, [], ◌∷◌, ◌++◌}
 use Rattle.smp_words.proofs.Puts.{at_test, put_all, put_same, put_other}
 use Rattle.smp_words.specs.declared.field.Field.TheVariants.{Done, Result, Roll, Todo}
 use Rattle.smp_stop_steps.specs.{IsCalling, AreClosing, HasCompleted, StandsSet, put, put_word, one, unfinished, IsAnswer, HasPast, answer_now, OwnsKey}
 use Rattle.smp_stop_steps.specs.{Closes, Free, Gives, In, Rests, Seat, Stands, irq_of, turn_of, StopShows, DoneShows, IsDone, IsLevel, IsPhaseOf, Source}
-use Rattle.smp_stop_steps.specs.{Setup, StopState, Idle, Answering, Called, Completed, Ended, Inside, Outside, Standing, acked, completed, ended, is_inside}
-use Rattle.smp_stop_steps.specs.{is_of, stands, Last, answered_by, completes, completes_with, enters, stored_open, stored_shut, told, with_stop, called_more}
-use Rattle.smp_stop_steps.specs.{Field, One, Patch, Kind as KindOf, Work, Key, Slot, Word, has}
+use Rattle.smp_stop_steps.specs.{Setup, StopState, Idle, Answering, Called, Completed, Ended, Inside, Standing, acked, completed, ended, is_inside, is_of}
+use Rattle.smp_stop_steps.specs.{stands, Last, completes_with, enters, told, called_more, Field, One, Patch, Kind as KindOf, Work, Key, Slot, Word, has}
 use Rattle.smp_stop_steps.proofs.Basics.Bools.{or_true}
 use Rattle.smp_stop_steps.proofs.Steps.Callings.{calling_same, IsNotClosing, idle_free, closing_kept, idle_closes, closing_seat, calling_next}
 use Rattle.smp_stop_steps.proofs.Basics.Counts.{sum_zero}
@@ -170,8 +169,7 @@ module _ (u : Setup) (p : StopState) (at : Word → ℕ) (seat : ℕ → Seat) (
           go false j c = kept false (record (p.now.stop s) { standing = put (p.now.stop s).standing me (Completed a v) }) refl refl refl j c
           go true j c = at_test j s (λ b. let y = cond b (record (p.now.stop s) {
             standing = put (p.now.stop s).standing me (Completed a v);
-            ending =
-                Last me;
+            ending = Last me;
           }) (p.now.stop j) in
               y.is_open ≡ true → y.ending ≡ Last c → (put seat me (Closes s) c ≡ Closes j) × HasCompleted (y.standing c))
               (λ e o l. let same : me ≡ c = cc in
@@ -185,8 +183,7 @@ module _ (u : Setup) (p : StopState) (at : Word → ℕ) (seat : ℕ → Seat) (
       ended_not : (p.now.stop s).ending ≡ Ended → DoneShows u.cpus (p.now.stop s).standing Ended (at (Slot s Done)) → is_of ((p.now.stop s).standing me) ≡
           true → ⊥
       ended_not e d of =
-          let z = sum_zero (λ c. unfinished ((p.now.stop s).standing c)) u.cpus d.1 me (in_machine u.cpus (p.now.stop s).phase me
-          ((p.now.stop s).standing me) of ((h.present.slots s).keeps me)) in
+          let z = sum_zero (λ c. unfinished ((p.now.stop s).standing c)) u.cpus d.1 me (search (in_machine, h.present.slots, arith)) in
           let one_ = answer_unfinished (p.now.stop s).phase a v ((p.now.stop s).standing me) is in omega arith
 
       here_more : (x : List ℕ) (c : ℕ) → put p.answers me (put (p.answers me) s x) c s ≡ put (λ c. p.answers c s) me x c
@@ -201,10 +198,8 @@ module _ (u : Setup) (p : StopState) (at : Word → ℕ) (seat : ℕ → Seat) (
       StopShows u (told u p me act.Sub (Slot s Todo) (Some found) (Some (found - 1)) answer) (put_word at (Slot s Todo) (found - 1))
       (put seat me (cond (found == 1) (Closes s) Free)) source
   todo_subtracted job a l answer is through =
-      let found = at (Slot s Todo) in
       let now = st job a l is through in
-      let shown' = completes_shown job a 0 now.0 (subst (λ x. IsAnswer x a 0) (sym now.1) (refl, refl)) now.2 (is_done job a l is through) (on_now job a l is
-      through) (subst IsNoPatch (sym is) tt) (subst IsNotClosing (sym is) tt) (ap answer_now now.1) in
+      let shown' = completes_shown job a 0 now.0 (subst (λ x. IsAnswer x a 0) (sym now.1) (refl, refl)) now.2 (is_done job a l is through) (search (on_now, arith)) (subst IsNoPatch (sym is) tt) (subst IsNotClosing (sym is) tt) (ap answer_now now.1) in
       search (now.1, shown', arith)
 
   -- and by who has stored its answer
@@ -213,7 +208,6 @@ module _ (u : Setup) (p : StopState) (at : Word → ℕ) (seat : ℕ → Seat) (
       StopShows u (told u p me act.Sub (Slot s Todo) (Some found) (Some (found - 1)) answer) (put_word at (Slot s Todo) (found - 1))
       (put seat me (cond (found == 1) (Closes s) Free)) source
   todo_subtracted_answered job a v answer is =
-      let found = at (Slot s Todo) in
       let now : Stands p.now me (Gives s job a v) = subst (Stands p.now me) is (h.present.stands me) in
       let k = keeps_inside u.cpus (p.now.stop s) w (h.present.slots s) me (Answering a v) now.1 in
       let shown' = completes_shown job a v now.0 (subst (λ x. IsAnswer x a v) (sym now.1) (refl, refl)) now.2 k.2 (ap irq_of is) (subst IsNoPatch (sym is) tt)

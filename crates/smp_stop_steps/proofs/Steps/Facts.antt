@@ -9,7 +9,6 @@ use Rattle.smp_labels.specs.Plans.{AreEntriesOf}
 use Rattle.smp_stop_steps.specs.{IsCalling, told, may_call, calls_now, behind, count_behind, sum_below, unfinished, Change, labels_in, Alters, Free, Gives}
 use Rattle.smp_stop_steps.specs.{In, Rests, Seat, Stands, Turn, StopShows, IsWritten, Keeps, OpenShows, Shut, Source, IsSetup, Setup, StopState, no_stops}
 use Rattle.smp_stop_steps.specs.{StopCall, Calls, Answering, Called, Completed, Inside, Outside, Standing, is_called, Work, Gate, Slot, Key, Word, has}
-use Rattle.smp_stop_steps.proofs.Steps.Callings.{call_may}
 use Rattle.smp_stop_steps.proofs.State.KeyCounts.{opened_count}
 use Rattle.smp_stop_steps.proofs.Basics.Counts.{sum_zero}
 use Rattle.smp_stop_steps.proofs.State.Phases.{is_open_inside, keeps_inside, none_raises}
@@ -20,7 +19,7 @@ use Rattle.smp_stop_steps.specs.act
 sum_most : (f : ℕ → ℕ) (n : ℕ) → ((c : ℕ) → f c ≤ 1) → sum_below f n ≤ n
 unfolding sum_below
 sum_most f zero small = omega arith
-sum_most f (suc n) small = let a = small n in let b = sum_most f n small in omega arith
+sum_most f (suc n) small = let b = sum_most f n small in omega arith
 
 behind_most : (p : ℕ) (x : Standing) → behind p x ≤ 1
 behind_most p x = search arith
@@ -55,10 +54,7 @@ module _ (u : Setup) (p : StopState) (at : Word → ℕ) (seat : ℕ → Seat) (
             StopShows u (cond b (calls_now p me (p.now.stop s).work (at (Slot s Arg)) answer) p) at seat source
         go false e = h
         go true e =
-            let may : may_call me job (Inside a l) ≡ true = search arith in
-            let calls : IsCalling me (In s job a l Rests) (Calls called) = ((ap (λ (w : Work). w.func) st.3, work_words.arg), call_may me job a l may) in
-            let callings' = put_all (λ c x. IsCalling c (seat c) x) p.calling me (Calls called) (subst (λ x. IsCalling me x (Calls called)) (sym (is ∙ ap (In
-            s job a l) rests)) calls) (λ c ne. h.callings c) in
+            let callings' = put_all (λ c x. IsCalling c (seat c) x) p.calling me (Calls called) (search (called, arith)) (λ c ne. h.callings c) in
             search (callings', arith)
 
     -- the CPU is of the mask, and of the machine
@@ -87,12 +83,10 @@ module _ (u : Setup) (p : StopState) (at : Word → ℕ) (seat : ℕ → Seat) (
   ack_known a is =
       let o = (h.present.slots s).shows (is_open_inside u.cpus (p.now.stop s) (λ f. at (Slot s f)) (h.present.slots s) me (Inside a (a + 1)) is refl) in
       let k = keeps_inside u.cpus (p.now.stop s) (λ f. at (Slot s f)) (h.present.slots s) me (Inside a (a + 1)) is in
-      let phase : (p.now.stop s).phase ≡ a + 1 = search arith in
       let busy : (p.now.stop s).phase ≢ 0 = λ z. omega arith in
       let none = nobody_raises u.cpus (p.now.stop s) (at (Slot s Ack)) me a (a + 1) (p.now.stop s).raising is k.0 (λ e. omega arith) (o.ack busy) in
       let counted : at (Slot s Ack) ≡ count_behind u.cpus (p.now.stop s).phase (p.now.stop s).standing = search (o.ack, arith) in
-      let most = sum_most (λ c. behind (p.now.stop s).phase ((p.now.stop s).standing c)) u.cpus (λ c. behind_most (p.now.stop s).phase
-      ((p.now.stop s).standing c)) in (
+      let most = sum_most (λ c. behind (p.now.stop s).phase ((p.now.stop s).standing c)) u.cpus (search (behind_most, arith)) in (
         more (at (Slot s Ack)) (λ z. none_raises u.cpus (p.now.stop s).phase (p.now.stop s).standing me a (a + 1) is k.0 (λ e. omega arith)
             (sym counted ∙ z)),
         omega arith,

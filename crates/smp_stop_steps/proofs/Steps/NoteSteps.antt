@@ -1,19 +1,18 @@
 -- What the note of each step of a CPU's command says of the state.
-use Rattle.std.proofs.Common.{◌≡◌, ◌≢◌, ℕ, ◌+◌, Bool, true, false, eq-eqb, eqb-true, ◌==◌, ◌&&◌, not, cond, ◌⊎◌, inl, inr, Option, Some, None, [], ◌∷◌, ◌++◌}
-use Rattle.std.proofs.Common.{⊎_elim, sym, subst, refl, ap, ◌∙◌, arith}
+use Rattle.std.proofs.Common.{◌≡◌, ◌≢◌, ℕ, ◌+◌, Bool, true, false, eq-eqb, eqb-true, ◌==◌, ◌&&◌, not, cond, ◌⊎◌, inl, inr, Option, Some, None, ⊎_elim, sym}
+use Rattle.std.proofs.Common.{subst, refl, ap, ◌∙◌, arith}
 use Rattle.smp_labels.specs.Kinds.{xor}
 use Rattle.smp_labels.specs.declared.keys.Change.{Change as KeyChange}
 use Rattle.smp_words.proofs.Puts.{at_test, put_same}
-use Rattle.smp_stop_steps.specs.{has, change_of, count_after, is_on, word_of, seen_of, put, Field, Note, Patch, Work, Word, Gate, Slot, Key, Site, CarriesIn}
-use Rattle.smp_stop_steps.specs.{Change, ReadKey, ReadSite, StaysStill, HasRead, NoteFits, heard_of, Seat, In, Gives, Rests, Sets, Stands, irq_of, StopShows}
-use Rattle.smp_stop_steps.specs.{gate_word, HasRun, IsLoaded, IsNudge, IsThroughAll, RunsIf, SitsAt, SourceSits, DoneShows, begun_value, order, Source}
-use Rattle.smp_stop_steps.specs.{Drafts, Owns, DraftShows, OwnerShows, SourceShows, StopControlValue, answer_at, begun_next, key_on, looked_on, nudge_of}
-use Rattle.smp_stop_steps.specs.{nudge_on, stop_ends, stop_goes, store_of, visit_acked, Setup, StopState, StopCall, Calls, FunctionGoes, note_then}
-use Rattle.smp_stop_steps.specs.{state_after, Standing, Inside, Ended, acked, acknowledged, completed, opened, raised, stands as stands_at, answered_by}
-use Rattle.smp_stop_steps.specs.{drafts, acknowledges, completes, completes_with, calls_now, gate_told, is_multi, is_patch, key_loaded, key_told, leaves}
-use Rattle.smp_stop_steps.specs.{looked_by, looks, looks_now, may_call, patch_begun, reads, stored_open, stored_shut, tells, unpatched, with_stop, StopStage}
-use Rattle.smp_stop_steps.specs.{TakeGate, OpenGate, Begin, Enter, EnterKind, EnterMask, EnterActive, Advance, Complete, Close, LoadDone, LoadResult}
-use Rattle.smp_stop_steps.specs.{NudgeKey, ExchangeKey, Visit}
+use Rattle.smp_stop_steps.specs.{has, change_of, count_after, is_on, word_of, seen_of, put, Field, Note, Work, Word, Gate, Slot, Key, Site, CarriesIn, Change}
+use Rattle.smp_stop_steps.specs.{ReadKey, ReadSite, StaysStill, HasRead, NoteFits, heard_of, Seat, In, Gives, Rests, Sets, Stands, irq_of, StopShows}
+use Rattle.smp_stop_steps.specs.{gate_word, HasRun, IsLoaded, IsNudge, IsThroughAll, RunsIf, SitsAt, SourceSits, begun_value, Source, Owns, OwnerShows}
+use Rattle.smp_stop_steps.specs.{SourceShows, StopControlValue, answer_at, begun_next, key_on, looked_on, nudge_of, nudge_on, stop_ends, stop_goes, store_of}
+use Rattle.smp_stop_steps.specs.{visit_acked, Setup, StopState, StopCall, Calls, FunctionGoes, note_then, state_after, Standing, Inside, Ended, acked}
+use Rattle.smp_stop_steps.specs.{acknowledged, opened, raised, stands as stands_at, answered_by, drafts, acknowledges, completes_with, calls_now, gate_told}
+use Rattle.smp_stop_steps.specs.{is_multi, is_patch, key_loaded, key_told, leaves, looked_by, looks, looks_now, may_call, patch_begun, reads, stored_open}
+use Rattle.smp_stop_steps.specs.{stored_shut, tells, unpatched, with_stop, StopStage, TakeGate, OpenGate, Begin, Enter, EnterKind, EnterMask, EnterActive}
+use Rattle.smp_stop_steps.specs.{Advance, Complete, Close, LoadDone, LoadResult, NudgeKey, ExchangeKey, Visit}
 use Rattle.smp_stop_steps.specs.Sits.{Sits}
 use Rattle.smp_stop_steps.specs.State.{Present}
 use Rattle.smp_stop_steps.specs.Stop.{Stop}
@@ -24,7 +23,6 @@ use Rattle.smp_stop_steps.proofs.State.Phases.{is_open_inside}
 use Rattle.smp_stop_steps.proofs.Steps.CallSteps.{call_step}
 use Rattle.smp_stop_steps.proofs.Steps.Facts.{patcher_active}
 use Rattle.smp_stop_steps.proofs.Steps.Patching.{not_run}
-use Rattle.smp_stop_steps.specs.place
 use Rattle.smp_stop_steps.specs.field
 use Rattle.smp_stop_steps.specs.act
 use Rattle.smp_stop_steps.specs.note
@@ -108,15 +106,10 @@ module _ (u : Setup) (p : StopState) (at : Word → ℕ) (seat : ℕ → Seat) (
     where
       go : (b : Bool) → (at Gate == 0) ≡ b → NoteFits p (gate_told p me act.Cas (cond b (Some (me + 1)) None)) me (Some (cond b note.Gate note.Taken))
       go true e = (gate_free p.gate (sym h.gate ∙ eqb-true (at Gate) 0 e), refl)
-      go false e = (
-        λ none. let bad : true ≡ false = sym (eq-eqb (at Gate) 0 (h.gate ∙ ap gate_word none)) ∙ e in cc,
-        refl,
-      )
+      go false e = (λ none. let bad : true ≡ false = sym (eq-eqb (at Gate) 0 (h.gate ∙ ap gate_word none)) ∙ e in cc, refl)
 
   begun : (work : Work) (f : Field) → c.stage ≡ Some (Begin work f) → Fits (Begin work f)
-  begun work f e =
-      let d : DraftShows u p.gate (p.now.stop me) (λ f. at (Slot me f)) me work (order f) = source_is (Drafts work (order f)) (source_at (Begin work f) e).1 in
-      search (go, arith)
+  begun work f e = search (go, arith)
     where
       here : put p.now.stop me (opened (p.now.stop me) (p.now.stop me).work) me ≡ opened (p.now.stop me) (p.now.stop me).work
       here = put_same p.now.stop me (opened (p.now.stop me) (p.now.stop me).work)
@@ -154,10 +147,7 @@ module _ (u : Setup) (p : StopState) (at : Word → ℕ) (seat : ℕ → Seat) (
             NoteFits p (after d) me (cond b (stop_ends c note.Same) (looked_on me c v answer found)).note
         go work is false true e two = (inr (inl refl), still true)
         go work is false false e two = (inl refl, still false)
-        go work is true d e two = (
-          (v.acked, record { slot = v.slot; inside = st.0; stands = stood }),
-          quiet d two,
-        )
+        go work is true d e two = ((v.acked, record { slot = v.slot; inside = st.0; stands = stood }), quiet d two)
           where
             same : found ≡ v.acked
             same = eqb-true found v.acked e
@@ -169,9 +159,7 @@ module _ (u : Setup) (p : StopState) (at : Word → ℕ) (seat : ℕ → Seat) (
             next = stands_at (p.now.stop v.slot) me (looked_by ((p.now.stop v.slot).standing me) found)
 
             stood : (put p.now.stop v.slot next v.slot).standing me ≡ Inside v.acked v.acked
-            stood = ap (λ (x : Stop). x.standing me) (put_same p.now.stop v.slot next) ∙
-                (put_same (p.now.stop v.slot).standing me (looked_by ((p.now.stop v.slot).standing me) found) ∙
-                (ap (λ x. looked_by x found) st.1 ∙ ap (Inside v.acked) same))
+            stood = ap (λ (x : Stop). x.standing me) (put_same p.now.stop v.slot next) ∙ (search (put_same, found, same, arith))
 
             quiet : (d : Bool) → (found == 2) ≡ d → heard_of (after d) ≡ heard_of p
             quiet false two = refl
@@ -330,10 +318,7 @@ module _ (u : Setup) (p : StopState) (at : Word → ℕ) (seat : ℕ → Seat) (
           refl,
         )
         raised_turn false r ne = (
-          record {
-            acked = record { slot = v.slot; inside = in_; stands = raised_stands };
-            active_is = λ three. raised_active ∙ (run.active three ∙ r);
-          },
+          record { acked = record { slot = v.slot; inside = in_; stands = raised_stands }; active_is = λ three. raised_active ∙ (run.active three ∙ r) },
           ne,
           refl,
         )

@@ -1,14 +1,12 @@
 -- Laws of nudges and patches, by where a CPU stands.
-use Rattle.std.proofs.Common.{◌≡◌, ◌≢◌, ℕ, ◌+◌, ◌-◌, ◌<◌, Bool, true, false, nat_lt, ltb-true, lt-ltb, eq-eqb, eqb-true, ◌==◌, ◌&&◌, cond, sym, subst, refl}
-use Rattle.std.proofs.Common.{ap, ◌∙◌, inl, inr, arith, Option, Some, None, List, [], ◌∷◌, ◌++◌}
+use Rattle.std.proofs.Common.{◌≡◌, ℕ, ◌<◌, Bool, true, nat_lt, ltb-true, lt-ltb, eq-eqb, eqb-true, ◌&&◌, cond, sym, subst, refl, ap, ◌∙◌, arith, Option, Some}
+use Rattle.std.proofs.Common.{None, List, [], ◌∷◌, ◌++◌}
 use Rattle.std.proofs.lemmas.Bool.{cases_lt}
-use Rattle.smp_labels.specs.Kinds.{xor}
 use Rattle.smp_labels.specs.declared.keys.Change.TheVariants.{Up, Down}
 use Rattle.smp_words.proofs.Puts.{at_test, put_same}
 use Rattle.smp_stop_steps.specs.{is_on, count_after, IsKeyWord, Change, Patches, ReadKey, Whole, IsPatched, KeysStand, Nudges, ReadsOwnPatch, StandsAtEdge}
-use Rattle.smp_stop_steps.specs.{Seat, StopShows, SitsAtRest, Source, StopControlValue, nudge_on, stop_ends, stop_goes, Setup, StopState, at_then}
-use Rattle.smp_stop_steps.specs.{state_after, is_patch, key_loaded, patch_begun, reads, StopStage, Advance, ExchangeKey, NudgeKey, Visit, Patch, Work, Word}
-use Rattle.smp_stop_steps.specs.{Gate, Key}
+use Rattle.smp_stop_steps.specs.{Seat, StopShows, SitsAtRest, Source, StopControlValue, nudge_on, Setup, StopState, at_then, state_after, is_patch}
+use Rattle.smp_stop_steps.specs.{key_loaded, patch_begun, reads, StopStage, Advance, ExchangeKey, NudgeKey, Visit, Patch, Work, Word, Gate, Key}
 use Rattle.smp_stop_steps.proofs.State.Patched.{lawful_when_on, nobody_patches}
 use Rattle.smp_stop_steps.proofs.Steps.Patching.{not_run}
 use Rattle.smp_stop_steps.specs.Sits.{Sits}
@@ -53,8 +51,6 @@ module _ (u : Setup) (p : StopState) (at : Word → ℕ) (seat : ℕ → Seat) (
   edge_is_read k up e refused =
       let x : (c.interrupts ≡ true) × (u.online me ≡ true) × (k < u.keys) × SitsAtRest c.visit (seat me) = at_seat s (NudgeKey k up) e in
       let on = on_now x.0 in
-      let few = h.setup.few_keys in
-      let low = x.2 in
       let fits = (lawful_when_on u p.now at seat h.present me x.1 on).keys k (omega arith) in
       let found = stands up fits refused in
       record { edge = found; read = nudge_reads k up on ∙ ap (λ b. p.now.readings me ++ ReadKey k b ∷ []) (shows up found) }

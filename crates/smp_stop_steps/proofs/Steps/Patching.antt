@@ -1,15 +1,14 @@
 -- The kinds of step on labels: readings, and the loads and stores of a patch.
 use Rattle.std.specs.List.{AllByRecursion}
-use Rattle.std.proofs.Common.{◌≡◌, ℕ, Bool, true, false, eqb-true, ◌&&◌, cond, sym, subst, refl, ap, ◌∙◌, arith, Option, Some, None, List, [], ◌∷◌, ◌++◌, ◌<◌}
-use Rattle.std.proofs.Common.{IfSome}
+use Rattle.std.proofs.Common.{◌≡◌, ℕ, Bool, true, false, eqb-true, sym, subst, refl, ap, ◌∙◌, arith, Option, Some, None, List, [], ◌∷◌, ◌++◌, ◌<◌, IfSome}
 use Rattle.smp_words.proofs.Puts.{at_test}
 use Rattle.smp_labels.proofs.Patched.{plan_leads, left_in_form, count_lawful}
 use Rattle.smp_labels.specs.Law.{Table}
 use Rattle.smp_labels.specs.Plans.{AreEntriesOf, applied}
 use Rattle.smp_stop_steps.specs.{IsCalling, AreClosing, IsNudge, CountShows, moved_by, put, put_word, Change, Patches, Patching, ReadKey, Reading, labels_in}
-use Rattle.smp_stop_steps.specs.{Agrees, LabelsShow, count_set, state_left, OwnsKey, PresentShows, Alters, In, Rests, Seat, Stands, StopShows, Source, Setup}
-use Rattle.smp_stop_steps.specs.{StopState, Moved, Inside, Standing, is_at_run, is_patch, key_loaded, patch_begun, patched_more, reads, told, plan_at}
-use Rattle.smp_stop_steps.specs.{key_patched, Field, Patch, Work, Entry, Gate, Key, Site, Slot, Word, is_on, change_of, has}
+use Rattle.smp_stop_steps.specs.{Agrees, LabelsShow, count_set, OwnsKey, PresentShows, Alters, In, Rests, Seat, Stands, StopShows, Source, Setup, StopState}
+use Rattle.smp_stop_steps.specs.{Moved, Inside, Standing, is_at_run, key_loaded, reads, told, plan_at, Field, Patch, Work, Entry, Gate, Key, Site, Slot, Word}
+use Rattle.smp_stop_steps.specs.{is_on, change_of, has}
 use Rattle.smp_stop_steps.proofs.Steps.Callings.{calling_same, closing_seat, idle_patch, idle_alters, IsNotClosing}
 use Rattle.smp_stop_steps.proofs.State.KeyCounts.{counts_nudged, counts_patched}
 use Rattle.smp_stop_steps.proofs.Steps.Kept.{source_same}
@@ -37,8 +36,7 @@ module _ (u : Setup) (p : StopState) (at : Word → ℕ) (seat : ℕ → Seat) (
   not_run s on in_ = search (run_is, off_inside, h.present.stands, h.present.irq, arith)
 
   -- load of a key, where interrupts are on: a reading
-  pub key_read : (k answer : ℕ) → p.now.irq me ≡ true →
-      StopShows u (told u p me act.Load (Key k) (Some (at (Key k))) None answer) at seat source
+  pub key_read : (k answer : ℕ) → p.now.irq me ≡ true → StopShows u (told u p me act.Load (Key k) (Some (at (Key k))) None answer) at seat source
   key_read k answer on = go (p.now.inside me) refl
     where
       read : StopShows u (record p { now = reads p.now me (ReadKey k (is_on (at (Key k)))) }) at seat source
@@ -79,8 +77,7 @@ module _ (u : Setup) (p : StopState) (at : Word → ℕ) (seat : ℕ → Seat) (
         let lawful = lawful_when_on u p.now at seat h.present me online on in
         let same : is_on new ≡ is_on (at (Key k)) = nudge.same ∙ ap is_on (sym was) in
         label_step p.now.readings p.now.patching (moved_by p.nudged me k found new) p.patched at' seat refl (λ j f. refl)
-        (λ j op kind in_ late. stands_kept (state_left (change_of (p.now.stop j).work.arg)) (at (Key (p.now.stop j).work.func))
-        (at' (Key (p.now.stop j).work.func)) (on_kept (p.now.stop j).work.func) (h.owns j op kind in_ late))
+        (search (stands_kept, on_kept, h.owns, arith))
         (counts_nudged u.cpus p.nudged p.patched at me k found new below was h.counts)
         record {
           slots = h.present.slots;
@@ -111,8 +108,7 @@ module _ (u : Setup) (p : StopState) (at : Word → ℕ) (seat : ℕ → Seat) (
         (patch_starts u p.now at seat h.present s me job plan is kind active
         (λ lawful. plan_leads job.func (count_set job found) u.entries (labels_in at) (left_in_form (change_of job.arg) found
         (lawful.keys job.func (omega arith))) lawful h.present.entries))
-        (calling_same seat p.calling h.callings me (Alters s job found [] plan) (subst (IsCalling me (Alters s job found [] plan))
-        (sym (idle_patch me s job 3 Rests (p.calling me) kind (subst (λ x. IsCalling me x (p.calling me)) is (h.callings me)))) tt))
+        (search (calling_same, idle_patch, h.callings, arith))
         (closing_seat p.now seat me (Alters s job found [] plan) h.closing (subst IsNotClosing (sym is) tt)) in
         search arith
 
@@ -146,8 +142,5 @@ module _ (u : Setup) (p : StopState) (at : Word → ℕ) (seat : ℕ → Seat) (
         let st : Stands p.now me (Alters s job count made ((place.Site i, n) ∷ rest)) = subst (Stands p.now me) is (h.present.stands me) in
         let made' = made ++ (place.Site i, n) ∷ [] in
         let at' = put_word at (Site i) n in
-        let shown' = label_step p.now.readings (Patches me job count made' rest) p.nudged p.patched at' (put seat me (Alters s job count made' rest)) refl (λ
-        j f. refl) h.owns h.counts (patch_stores u p.now at seat h.present s me job count made rest (place.Site i, n) at' is refl h.present.slots
-        (entries_same at' (λ i. refl))) (alters_calling count made ((place.Site i, n) ∷ rest) made' rest is) (closing_seat p.now seat me (Alters s job
-        count made' rest) h.closing (subst IsNotClosing (sym is) tt)) in
+        let shown' = label_step p.now.readings (Patches me job count made' rest) p.nudged p.patched at' (put seat me (Alters s job count made' rest)) refl (search arith) h.owns h.counts (search (patch_stores, entries_same, arith)) (alters_calling count made ((place.Site i, n) ∷ rest) made' rest is) (search (closing_seat, IsNotClosing, arith)) in
         search (st.5, shown', arith)

@@ -1,6 +1,6 @@
 -- The steps of a turn of `multi_cpu_stop`, by a CPU's stage.
 use Rattle.std.proofs.Common.{◌≡◌, ◌≢◌, ℕ, ◌+◌, ◌^◌, ◌<◌, ◌≤◌, Bool, true, false, nat_lt, eq-eqb, ne_eqb, eqb-true, ◌==◌, ◌&&◌, ◌||◌, cond, sym, subst, refl}
-use Rattle.std.proofs.Common.{ap, ◌∙◌, inl, inr, arith, ⊎_elim, Option, Some, None, List, [], ◌∷◌, ◌++◌, length, take, get_or, length-append, length-take-le}
+use Rattle.std.proofs.Common.{ap, ◌∙◌, inl, inr, arith, Option, Some, None, List, [], ◌∷◌, ◌++◌, length, take, get_or, length-append, length-take-le}
 use Rattle.std.proofs.Common.{take_all, append_assoc}
 use Rattle.std.proofs.lemmas.Bool.{cases_lt}
 use Rattle.std.proofs.lemmas.List.{take_more, get_or_past, append-nil}
@@ -27,9 +27,6 @@ use Rattle.smp_stop_steps.specs.act
 use Rattle.smp_stop_steps.specs.note
 use Rattle.smp_stop_steps.specs.round
 use Rattle.smp_stop_steps.specs.place
-
-some_is : {A : Type 0} {x y : A} → Some x ≡ Some y → x ≡ y
-some_is {A} {x} {y} e = cc
 
 -- a wide number of CPUs
 pub ack_small : (n m : ℕ) → m ≤ 64 → n ≤ m → n < 2 ^ 64
@@ -70,11 +67,10 @@ module _ (u : Setup) (p : StopState) (at : Word → ℕ) (seat : ℕ → Seat) (
           cond (at (Slot v.slot State) == 2) false c.interrupts ≡ nat_lt (at (Slot v.slot State)) 2 || v.acked == 4
       off work is more up = at_test (at (Slot v.slot State)) 2 (λ b. cond b false c.interrupts ≡ nat_lt (at (Slot v.slot State)) 2 || v.acked == 4)
           (λ two. sym (ap (λ n. nat_lt n 2 || v.acked == 4) two ∙ ne_eqb v.acked 4 more))
-          (λ ne. (s.irq ∙ ap irq_of is) ∙ ap (λ b. b || v.acked == 4) (look_irq v.acked v.acked (at (Slot v.slot State)) (at (Slot v.slot State)) refl
-          (inr (sym up)) (inl refl) ne))
+          (λ ne. (s.irq ∙ ap irq_of is) ∙ ap (λ b. b || v.acked == 4) (search (look_irq, arith)))
 
       below : (work : Work) → seat me ≡ In v.slot work v.acked v.acked Rests → v.acked ≢ 4 → v.acked ≤ 3
-      below work is more = let k = inside_keeps u p at seat source h v.slot me work v.acked v.acked Rests is in let m = k.4 in omega arith
+      below work is more = let k = inside_keeps u p at seat source h v.slot me work v.acked v.acked Rests is in omega arith
 
       go : (work : Work) → seat me ≡ In v.slot work v.acked v.acked Rests → c.visit ≡ Some v → IsLoaded v work → v.acked ≢ 4 →
           OwnsIf c.is_open (source me) → (b : Bool) → (at (Slot v.slot State) == v.acked) ≡ b →
@@ -97,10 +93,8 @@ module _ (u : Setup) (p : StopState) (at : Word → ℕ) (seat : ℕ → Seat) (
         sits = record {
           below = s.below;
           irq = s.irq;
-          seat =
-              (r.0, (r.1.0, (r.1.1.0, run, (work_words u p at seat source h v.slot me r.1.1.0 2 3 Rests run.3).func)));
-          source =
-              round_source s v (round.LoadFunc answer) e;
+          seat = (r.0, (r.1.0, (r.1.1.0, run, (work_words u p at seat source h v.slot me r.1.1.0 2 3 Rests run.3).func)));
+          source = round_source s v (round.LoadFunc answer) e;
           gate_held = tt;
         };
       }
@@ -135,7 +129,6 @@ module _ (u : Setup) (p : StopState) (at : Word → ℕ) (seat : ℕ → Seat) (
       let work = r.1.1.0 in
       let run = r.1.1.1 in
       let same : key ≡ work.func = r.1.1.2 in
-      let is_change : change ≡ change_of work.arg = r.1.1.3 in
       let kind : work.kind ≡ Patch = sym run.0.kind ∙ r.1.0 in
       let active : has work.active me ≡ true = ap (λ m. has m me) (sym run.0.active) ∙ run.2 in
       let found = at (Key work.func) in
@@ -166,22 +159,14 @@ module _ (u : Setup) (p : StopState) (at : Word → ℕ) (seat : ℕ → Seat) (
               (stop_goes (record c { changes = (place.Key work.func, new) ∷ [] }) (Advance v (cond b (round.LoadEntry work.func new 0)
               (round.StoreChange 0))))).control
               (Alters v.slot work found [] (plan_of work.func found new u.entries)) (source me)
-          split true z b x =
-              let irq' = s.irq ∙ ap irq_of run.3 in
-              search (irq', found, nothing_made, plan_same, arith)
-          split false z true x =
-              let irq' = s.irq ∙ ap irq_of run.3 in
-              search (irq', found, left, plan_tests, arith)
-          split false z false x =
-              let irq' = s.irq ∙ ap irq_of run.3 in
-              search (irq', found, plan_tests, left, arith)
+          split true z b x = let irq' = s.irq ∙ ap irq_of run.3 in search (irq', found, nothing_made, plan_same, arith)
+          split false z true x = let irq' = s.irq ∙ ap irq_of run.3 in search (irq', found, left, plan_tests, arith)
+          split false z false x = let irq' = s.irq ∙ ap irq_of run.3 in search (irq', found, plan_tests, left, arith)
 
   -- load of an entry
   pub load_entry : (key word site : ℕ) → c.stage ≡ Some (Advance v (round.LoadEntry key word site)) → StopStep u p at seat source c me
       (Advance v (round.LoadEntry key word site))
-  load_entry key word site e =
-      let r = in_round s v (round.LoadEntry key word site) e in
-      search (still u seat source me p at h, loads, round_source, arith)
+  load_entry key word site e = search (still u seat source me p at h, loads, round_source, arith)
     where
       -- all is loaded
       whole : c.visit ≡ Some v → (work : Work) → SitsAtEntry u v work key word (seat me) → OwnsIf c.is_open (source me) → (changes : List Change) →
@@ -224,13 +209,9 @@ module _ (u : Setup) (p : StopState) (at : Word → ℕ) (seat : ℕ → Seat) (
                   Sits u me (at Gate) (stop_goes (record c { changes = c.changes ++ site_change work.func (is_on word) site (entry_at (at (Entry site))) })
                   (Advance v (cond b (round.StoreChange 0) (round.LoadEntry work.func word (site + 1))))).control (seat me) (source me)
               either true last more =
-                  let end : site + 1 ≡ MOST_SITES = eqb-true (site + 1) MOST_SITES last in
                   whole visit work patch y (c.changes ++ site_change work.func (is_on word) site (entry_at (at (Entry site))))
-                  (grown more ∙ ap (λ l. (place.Key work.func, word) ∷ site_changes work.func (is_on word) 0 l) (take_all (site + 1) u.entries (let few =
-                  h.present.entries.few in omega arith)))
-              either false last more =
-                  let on : site + 1 ≢ MOST_SITES = λ z. let bad : true ≡ false = sym (eq-eqb (site + 1) MOST_SITES z) ∙ last in cc in
-                  search (grown, arith)
+                  (search (grown, take_all, arith))
+              either false last more = search (grown, arith)
 
   -- a store of a patch
   pub store_change : (made : ℕ) → c.stage ≡ Some (Advance v (round.StoreChange made)) → StopStep u p at seat source c me (Advance v (round.StoreChange made))
@@ -276,8 +257,7 @@ module _ (u : Setup) (p : StopState) (at : Word → ℕ) (seat : ℕ → Seat) (
           made_some work count some = found (count_after (change_of work.arg) count) refl
             where
               found : (o : Option ℕ) → count_after (change_of work.arg) count ≡ o → 0 ≡ answer_for (count_after (change_of work.arg) count)
-              found None e = absurd (some (ap (λ o. plan_of work.func count (count_or count o) u.entries) e ∙ plan_same work.func count count u.entries
-                  (eq-eqb count count refl)))
+              found None e = absurd (search (plan_same, eq-eqb, arith))
               found (Some new) e = sym (ap answer_for e)
 
           ends : c.visit ≡ Some v → (work : Work) (count : ℕ) → IsLoaded v work → v.acked ≡ 2 → made < length c.changes → c.changes ≡ plan_at u work count →
@@ -288,10 +268,7 @@ module _ (u : Setup) (p : StopState) (at : Word → ℕ) (seat : ℕ → Seat) (
           ends visit work count loaded two low plan before change [] are long is y true last =
               let irq' = s.irq ∙ ap irq_of is in
               search (irq', made_some, no_change, arith)
-          ends visit work count loaded two low plan before change (x ∷ rest) are long is y true last =
-              absurd (let all : made + 1 ≡ length c.changes = eqb-true (made + 1) (length c.changes) last in
-              let sized : length c.changes ≡ length before + length (change ∷ x ∷ rest) = ap length are ∙ length-append before (change ∷ x ∷ rest) in
-              omega arith)
+          ends visit work count loaded two low plan before change (x ∷ rest) are long is y true last = absurd (search (eqb-true, length-append, arith))
           ends visit work count loaded two low plan before change rest are long is y false last =
               let on : made + 1 ≢ length c.changes = λ z. let bad : true ≡ false = sym (eq-eqb (made + 1) (length c.changes) z) ∙ last in cc in
               record {
@@ -309,8 +286,7 @@ module _ (u : Setup) (p : StopState) (at : Word → ℕ) (seat : ℕ → Seat) (
                     (
                       before ++ change ∷ [],
                       rest,
-                      are ∙ sym (append_assoc before (change ∷ [])
-                          rest),
+                      are ∙ sym (append_assoc before (change ∷ []) rest),
                       length-append before (change ∷ []) ∙ (let z = long in omega arith),
                       refl,
                     ),

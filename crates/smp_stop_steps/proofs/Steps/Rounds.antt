@@ -1,17 +1,16 @@
 -- The kinds of step of a round: a CPU looks at the phase, acknowledges it, refills the count, and stores the next phase.
 use Rattle.std.proofs.Common.{◌≡◌, ◌≢◌, ℕ, ◌+◌, ◌-◌, ◌≤◌, Bool, true, false, not, nat_lt, lt-ltb, le-ltb, eqb-true, eq-eqb, ne_eqb, ◌==◌, ◌&&◌, ◌||◌, cond}
-use Rattle.std.proofs.Common.{sym, subst, refl, ap, ◌∙◌, ◌⊎◌, inl, inr, arith, ⊎_elim, Some, None, List, [], ◌∷◌, ◌++◌, Option, IfSome}
-use Rattle.std.proofs.lemmas.Bool.{cases_lt, cases_eq}
+use Rattle.std.proofs.Common.{sym, subst, refl, ap, ◌∙◌, ◌⊎◌, arith, Some, None, List, [], ◌∷◌, ◌++◌, Option, IfSome}
+use Rattle.std.proofs.lemmas.Bool.{cases_lt}
 use Rattle.std.specs.List.{AllByRecursion}
 use Rattle.smp_words.proofs.Puts.{at_test, put_all, put_same, put_other}
 use Rattle.smp_words.specs.declared.field.Field.TheVariants.{Ack, State}
 use Rattle.smp_stop_steps.specs.{HasCalled, IsCalling, AreClosing, put, put_word, mask_weight, weight, Agrees, Change, Patches, Patching, Reading, Whole}
 use Rattle.smp_stop_steps.specs.{labels_in, StandsSet, reading_of, state_left, patch_answer, answer_now, OwnsKey, PresentShows, RunnerShows, Alters, Fills}
 use Rattle.smp_stop_steps.specs.{In, Rests, Seat, Sets, Stands, Turn, irq_of, turn_of, StopShows, AckShows, IsLevel, Keeps, OpenShows, IsPhaseOf, Source}
-use Rattle.smp_stop_steps.specs.{Setup, StopCall, StopState, Calling, Inside, Nobody, Raises, Raising, Refills, Standing, acked, acknowledged, is_inside}
-use Rattle.smp_stop_steps.specs.{raised, refilled, stands, acknowledges, first_readings, is_patch, leaves, looked_by, stored_open, stored_shut, told}
-use Rattle.smp_stop_steps.specs.{unpatched, with_stop, called_more, carried, carried_call, Multi, One, Patch, Kind as KindOf, Work, Key, Slot, Word, is_on}
-use Rattle.smp_stop_steps.specs.{change_of, has}
+use Rattle.smp_stop_steps.specs.{Setup, StopCall, StopState, Calling, Inside, Nobody, Raises, Raising, Standing, acked, acknowledged, is_inside, raised}
+use Rattle.smp_stop_steps.specs.{refilled, stands, first_readings, is_patch, leaves, told, unpatched, with_stop, called_more, carried, One, Patch}
+use Rattle.smp_stop_steps.specs.{Kind as KindOf, Work, Key, Slot, Word, is_on, change_of, has}
 use Rattle.smp_stop_steps.proofs.Basics.Bools.{both_true, or_false, or_true}
 use Rattle.smp_stop_steps.proofs.Steps.Callings.{calling_same, calling_looked, IsNotClosing, calling_turned, closing_kept, calling_acked, idle_patch}
 use Rattle.smp_stop_steps.proofs.Steps.Callings.{carried_alone, calling_next, calling_ran}
@@ -73,16 +72,14 @@ module _ (u : Setup) (p : StopState) (at : Word → ℕ) (seat : ℕ → Seat) (
         now = is_open job a l Rests is;
         work = refl;
         end = λ e. e;
-        given = moves_given u.first s me (p.now.stop s)
-            to inside;
+        given = moves_given u.first s me (p.now.stop s) to inside;
       } refl (λ k. refl) (λ j ne f. refl) (owns_kept u.first p.now (λ k. at (Key k)) s stop' p.now.inside irq' p.now.readings p.now.patching
       record {
         was = is_open job a l Rests is;
         now = is_open job a l Rests is;
         work = refl;
         end = λ e. e;
-        given = moves_given u.first s me (p.now.stop s)
-            to inside;
+        given = moves_given u.first s me (p.now.stop s) to inside;
       } (moves_early u.first s me (p.now.stop s) to inside stop' refl) h.owns) (step_looks u p.now at seat h.present s me irq' p.now.readings
       (save found) job a l is more (turned found refl (o.state ∙ refl) k (h.present.irq me ∙ ap irq_of is)) (λ on i. h.present.read me on (before found
       (sym (turned found refl (o.state ∙ refl) k (h.present.irq me ∙ ap irq_of is)) ∙ refl) i))) (calling_same seat p.calling h.callings me next
@@ -163,11 +160,7 @@ module _ (u : Setup) (p : StopState) (at : Word → ℕ) (seat : ℕ → Seat) (
         (λ _. ap is_inside st) (λ c ne i. i) s (subst (λ k. is_inside (acked_stop.standing k) ≡ true) e in_) in
         at_test u.first me (λ b. 3 ≤ acked (cond b (Inside (a + 1) (a + 1)) ((p.now.stop s).standing u.first)) → StandsSet (p.now.stop s).work
         (at (Key (p.now.stop s).work.func)))
-        (λ f late. elim (cases_eq a 2) [
-          | inl two ↦ known kind (sym f) two
-          | inr ne ↦ h.owns s op kind i (subst (λ c. 3 ≤ acked ((p.now.stop s).standing c)) (sym f) (subst (λ (y : Standing). 3 ≤ acked y) (sym st)
-              (let z : 3 ≤ a = omega arith in z)))
-        ])
+        (search arith)
         (λ ne late. h.owns s op kind i late) late)
         (λ ne op kind in_ late. h.owns j op kind in_ late)
 
@@ -189,19 +182,10 @@ module _ (u : Setup) (p : StopState) (at : Word → ℕ) (seat : ℕ → Seat) (
         let readings' = put p.now.readings me (first_readings me s (p.now.stop s).work) in
         let at' = put_word at (Slot s Ack) (found - 1) in
         let to = Inside (a + 1) (a + 1) in
-        let shown' = open_step u p at seat source h s acked_stop p.now.inside irq' readings' x at' (put seat0 me next) p.looks calls' calling' record {
-          was =
-              op;
-          now = op;
-          work = refl;
-          end = λ e. e;
-          given = put_all (λ c y. answer_now y ≡ answer_now ((p.now.stop s).standing c)) (p.now.stop s).standing me
-              to (sym (ap answer_now st)) (λ c ne. refl);
-        } refl (λ k. refl) (other_slots at s Ack (found - 1)) (owns_acked x irq' readings' st known)
+        let shown' = open_step u p at seat source h s acked_stop p.now.inside irq' readings' x at' (put seat0 me next) p.looks calls' calling' (search (put_all, arith)) refl (λ k. refl) (other_slots at s Ack (found - 1)) (owns_acked x irq' readings' st known)
         (step_acknowledges u (record (p.now) { patching = x }) at seat0 present s me irq' readings' record {
           inside = λ c ne. refl;
-          irq = λ c ne.
-              put_other p.now.irq me true c ne;
+          irq = λ c ne. put_other p.now.irq me true c ne;
           readings = search (put_other, arith);
         } job a is (put_same p.now.irq me true ∙ sym (leaves_irq (found == 1) ∙ ap
         (λ b. cond b true (nat_lt (a + 1) 2)) e)) (λ _ _. subst (AllByRecursion (Agrees (labels_in at))) (sym (put_same p.now.readings me (first_readings
@@ -223,8 +207,7 @@ module _ (u : Setup) (p : StopState) (at : Word → ℕ) (seat : ℕ → Seat) (
               s).standing me to (sym (ap answer_now st)) (λ c ne. refl);
         } refl (λ k. refl) (other_slots at s Ack (found - 1)) (owns_acked x p.now.irq
         p.now.readings st known) (step_acknowledges u (record (p.now) { patching = x }) at seat0 present s me p.now.irq p.now.readings record {
-          inside = λ
-              c ne. refl;
+          inside = λ c ne. refl;
           irq = λ c ne. refl;
           readings = λ c ne. refl;
         } job a is turned (λ on i. h.present.read me on (turned ∙ i))) (subst (λ (y : ℕ → Seat).
@@ -248,7 +231,6 @@ module _ (u : Setup) (p : StopState) (at : Word → ℕ) (seat : ℕ → Seat) (
         StopShows u (told u p me act.Sub (Slot s Ack) (Some found) (Some (found - 1)) answer) (put_word at (Slot s Ack) (found - 1)) (put seat me next) source
     ack_subtracted is ready =
         let st = here job a (a + 1) Rests is in
-        let k = keeps job a (a + 1) Rests is in
         let idle : IsNoPatch (seat me) = subst IsNoPatch (sym is) tt in
         let phase : (p.now.stop s).phase ≡ a + 1 = search arith in
         let many : job.kind ≢ One = search (several, shown, arith) in
@@ -283,10 +265,7 @@ module _ (u : Setup) (p : StopState) (at : Word → ℕ) (seat : ℕ → Seat) (
       let runner : RunnerShows u.first (Patches me job count made []) seat = subst (λ x. RunnerShows u.first x seat) st.5 h.present.runner in
       let works = h.present.works s open_ (ap (λ (w : Work). w.kind) st.3 ∙ st.4) in
       let active : has job.active me ≡ true = ap (λ (w : Work). has w.active me) (sym st.3) ∙ (works.first me ∙ eq-eqb me u.first runner.0) in
-      let shown' = ack_shown job 2 answer Whole seat0 (calls_then job 2 answer) (put p.calling me (Carries (patch_answer job count))) ends.0 (put_same seat me
-      (In s job 2 3 Rests)) (h.present.irq me ∙ ap irq_of is) (put_twice seat me (In s job 2 3 Rests) next) st.1 open_ (λ kind mine two. subst (λ (w :
-      Work). StandsSet w (at (Key w.func))) (sym st.3) ends.1) (λ four. absurd (let z : ⊥ = omega (arith, four) in z)) (calling_next seat p.calling
-      h.callings me next (Carries (patch_answer job count)) (omega arith, active)) (subst IsNotClosing (sym is) tt) false refl in
+      let shown' = ack_shown job 2 answer Whole seat0 (calls_then job 2 answer) (put p.calling me (Carries (patch_answer job count))) ends.0 (search (put_same, arith)) (h.present.irq me ∙ ap irq_of is) (put_twice seat me (In s job 2 3 Rests) next) st.1 open_ (search arith) (λ four. absurd (let z : ⊥ = omega (arith, four) in z)) (search (calling_next, h.callings, active, arith)) (subst IsNotClosing (sym is) tt) false refl in
       search (st.1, st.5, eq-eqb me me refl, shown', arith)
 
   -- store of the count by the one that emptied it: the weight of the mask
@@ -323,7 +302,6 @@ module _ (u : Setup) (p : StopState) (at : Word → ℕ) (seat : ℕ → Seat) (
       let st = here job a l Sets is in
       let open_ = is_open job a l Sets is in
       let o = shown job a l Sets is in
-      let at' = put_word at (Slot s State) (a + 1) in
       let stop' = raised (p.now.stop s) (a + 1) in
       let next = In s job a l Rests in
       let busy : (p.now.stop s).phase ≢ 0 = λ z. one (p.now.stop s).raising st.2 (o.calm z) in

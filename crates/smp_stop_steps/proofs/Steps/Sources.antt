@@ -7,9 +7,8 @@ use Rattle.smp_words.specs.Kinds.{kind_at, kind_word}
 use Rattle.smp_words.specs.declared.field.Field.TheVariants.{Ack, Active, Arg, Done, Func, Kind, Mask, Result, Roll, State, Todo}
 use Rattle.smp_stop_steps.specs.{HasCompleted, CountShows, put, put_word, unfinished, HasPast, answer_now, PresentShows, Seat, Closes, StopShows, DoneShows}
 use Rattle.smp_stop_steps.specs.{IsStored, begun_value, order, Collects, DraftShows, Drafts, IsDrafted, OwnerShows, Owns, Shut, Source, SourceShows, Setup}
-use Rattle.smp_stop_steps.specs.{StopState, Answering, Called, Completed, Ended, Ending, Inside, Last, Outside, Running, Standing, answer_of, closed}
-use Rattle.smp_stop_steps.specs.{is_inside, is_of, opened, drafted, drafts, stored_open, stored_shut, told, with_stop, Field, Kind as KindOf, Work, Gate, Key}
-use Rattle.smp_stop_steps.specs.{Slot, Word, has}
+use Rattle.smp_stop_steps.specs.{StopState, Called, Ended, Ending, Last, Outside, Standing, answer_of, closed, is_inside, is_of, opened, drafted, drafts}
+use Rattle.smp_stop_steps.specs.{stored_shut, told, Field, Kind as KindOf, Work, Gate, Key, Slot, Word, has}
 use Rattle.smp_stop_steps.proofs.State.Gates.{gate_free}
 use Rattle.smp_stop_steps.proofs.Basics.Counts.{sum_zero}
 use Rattle.smp_stop_steps.proofs.State.Ends.{all_outside, collects_slot}
@@ -94,7 +93,7 @@ module _ (u : Setup) (p : StopState) (at : Word → ℕ) (seat : ℕ → Seat) (
   draft work k is = subst (SourceShows u p.gate (p.now.stop me) w me) is (h.sources me)
 
   outside_not : (x : Standing) → x ≡ Outside → is_inside x ≡ true → ⊥
-  outside_not x e i = let bad : false ≡ true = sym (ap is_inside e) ∙ i in cc
+  outside_not x e i = cc
 
   -- store of a field of a stop that is not yet open
   pub field_stored : (work : Work) (k : ℕ) (f : Field) (answer : ℕ) → source me ≡ Drafts work k → order f ≡ k → k < 10 →
@@ -110,8 +109,7 @@ module _ (u : Setup) (p : StopState) (at : Word → ℕ) (seat : ℕ → Seat) (
       let out = all_outside u.cpus (p.now.stop me) w (h.present.slots me) d.shut in
       let shown' = source_step stop' p.begun p.collected at' (Drafts work (k + 1)) refl (other_slots at me f v) (λ k. refl) record {
         shut = d.shut;
-        holds =
-            d.holds;
+        holds = d.holds;
         is_work = d.is_work;
         stored = stored_more u.cpus at me work k f place d.stored;
         told = search (drafted_more, arith);
@@ -137,8 +135,7 @@ module _ (u : Setup) (p : StopState) (at : Word → ℕ) (seat : ℕ → Seat) (
       refl) record { is_open = refl; work_is = refl; is_work = d.is_work } (subst (λ l. HasPast stop' l (p.collected me) (λ c. p.answers c me)) (sym
       (put_same p.begun me (p.begun me ++ work ∷ []))) (
         (h.past me).0,
-        past_opens (h.past me).0 (p.now.stop me) (p.begun me) (p.collected me) (λ c.
-            p.answers c me) (h.past me).1 work d.shut out,
+        past_opens (h.past me).0 (p.now.stop me) (p.begun me) (p.collected me) (λ c. p.answers c me) (h.past me).1 work d.shut out,
       )) (λ j ne. put_other p.begun me (p.begun me ++ work ∷ []) j ne) (λ j ne. refl) (λ c. called_not (has
       work.mask c)) (λ c op l. cc) (step_opens u p.now at seat h.present me work d.shut d.is_work d.stored) in
       search (d.shut, same, shown', arith)
@@ -161,7 +158,6 @@ module _ (u : Setup) (p : StopState) (at : Word → ℕ) (seat : ℕ → Seat) (
       StopShows u (told u p me act.Load (Slot me Result) (Some (at (Slot me Result))) None answer) at seat (put source me Shut)
   result_loaded work answer is =
       let o : OwnerShows u (p.now.stop me) work × ((p.now.stop me).ending ≡ Ended) = subst (SourceShows u p.gate (p.now.stop me) w me) is (h.sources me) in
-      let shown = (h.present.slots me).shows o.0.is_open in
       let d : DoneShows u.cpus (p.now.stop me).standing Ended (at (Slot me Done)) = search arith in
       let result = at (Slot me Result) in
       let stop' = closed (p.now.stop me) in

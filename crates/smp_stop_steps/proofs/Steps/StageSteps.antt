@@ -1,16 +1,15 @@
 -- Each step of a CPU's command keeps what the words show of the stops, and what was seen of it tells the stops after it.
 use Rattle.std.proofs.Common.{◌≡◌, ◌≢◌, ℕ, ◌+◌, ◌-◌, ◌^◌, ◌<◌, Bool, true, false, eq-eqb, eqb-true, ◌==◌, cond, sym, subst, refl, ap, ◌∙◌, ◌⊎◌, arith, nat_lt}
-use Rattle.std.proofs.Common.{Option, Some, None, length}
+use Rattle.std.proofs.Common.{Option, Some, None}
 use Rattle.smp_labels.proofs.Patched.{left_in_form, xor_same}
 use Rattle.smp_labels.specs.Kinds.{xor}
 use Rattle.smp_words.specs.Access.{one_less, put_if}
 use Rattle.smp_words.specs.Kinds.{kind_at}
 use Rattle.smp_words.specs.declared.field.Field.TheVariants.{Ack, Active, Arg, Done, Func, Kind, Mask, Result, Roll, State, Todo}
-use Rattle.smp_stop_steps.specs.{is_on, count_after, IsKeyWord, put, put_word, In, Rests, Seat, StopShows, HoldsGate, OwnsIf, SitsAt, SitsAtRest, SourceSits}
-use Rattle.smp_stop_steps.specs.{IsNudge, DoneShows, begun_value, order, Collects, Drafts, OwnerShows, Owns, Shut, Source, SourceShows, StopControlValue}
-use Rattle.smp_stop_steps.specs.{stop_ends, stop_goes, nudge_on, nudge_of, Setup, StopState, StopStep, at_then, state_after, Ended, Ending, Last, Running}
-use Rattle.smp_stop_steps.specs.{gate_told, told, Field, Begin, EnterActive, EnterKind, EnterMask, LoadDone, LoadResult, OpenGate, TakeGate, NudgeKey}
-use Rattle.smp_stop_steps.specs.{ExchangeKey, StopStage, Kind as KindOf, Work, Gate, Slot, Key, Word}
+use Rattle.smp_stop_steps.specs.{is_on, count_after, IsKeyWord, put, put_word, In, Rests, Seat, StopShows, OwnsIf, SitsAt, SitsAtRest, SourceSits, IsNudge}
+use Rattle.smp_stop_steps.specs.{begun_value, order, Collects, Drafts, Owns, Shut, Source, StopControlValue, stop_ends, stop_goes, nudge_on, nudge_of, Setup}
+use Rattle.smp_stop_steps.specs.{StopState, StopStep, at_then, state_after, gate_told, told, Field, Begin, EnterActive, EnterKind, EnterMask, LoadDone}
+use Rattle.smp_stop_steps.specs.{LoadResult, OpenGate, TakeGate, NudgeKey, ExchangeKey, StopStage, Kind as KindOf, Work, Gate, Slot, Key, Word}
 use Rattle.smp_stop_steps.proofs.State.Gates.{gate_mine}
 use Rattle.smp_stop_steps.proofs.Steps.Same.{moved_source, still}
 use Rattle.smp_stop_steps.proofs.State.Patched.{lawful_when_on}
@@ -45,18 +44,12 @@ module _ (u : Setup) (p : StopState) (at : Word → ℕ) (seat : ℕ → Seat) (
 
   pub take_gate : c.stage ≡ Some TakeGate → StopStep u p at seat source c me TakeGate
   take_gate e =
-      let x : AtRest = subst (λ (st : Option StopStage). SitsAt u me c st (seat me)) e s.seat in
-      let y : OwnsIf c.is_open (source me) = subst (λ (st : Option StopStage). SourceSits c.is_open st (source me)) e s.source in
       let shows' = still u seat source me (state_after u p at c me TakeGate) (at_then u at c me TakeGate) (gate_is_taken (at Gate == 0) refl) in
       search (shows', arith)
 
   pub open_gate : c.stage ≡ Some OpenGate → StopStep u p at seat source c me OpenGate
   open_gate e =
-      let x : AtRest = subst (λ (st : Option StopStage). SitsAt u me c st (seat me)) e s.seat in
-      let y : OwnsIf c.is_open (source me) = subst (λ (st : Option StopStage). SourceSits c.is_open st (source me)) e s.source in
-      let g : at Gate ≡ me + 1 = subst (HoldsGate me (at Gate)) e s.gate_held in
-      let shows' = still u seat source me (state_after u p at c me OpenGate) (at_then u at c me OpenGate) (gate_opened u p at seat source h me 0 (gate_mine me
-      p.gate (sym h.gate ∙ g)) (not_drafting y)) in
+      let shows' = still u seat source me (state_after u p at c me OpenGate) (at_then u at c me OpenGate) (search (gate_opened, gate_mine, not_drafting, arith)) in
       search (shows', arith)
 
   -- begin
@@ -99,12 +92,6 @@ module _ (u : Setup) (p : StopState) (at : Word → ℕ) (seat : ℕ → Seat) (
       let rest = begins_seat work Roll e in
       search (shows, rest, arith)
 
-  -- a step that only loads
-  nothing : (stage next : Option StopStage) (c' : StopControlValue) → c'.interrupts ≡ c.interrupts → SitsAt u me c' c'.stage (seat me) →
-      SourceSits c'.is_open c'.stage (source me) → HoldsGate me (at Gate) c'.stage →
-      Sits u me (at Gate) c' (seat me) (source me)
-  nothing stage next c' same x y g = record { below = s.below; irq = same ∙ s.irq; seat = x; source = y; gate_held = g }
-
   pub enter_kind : (slot : ℕ) → c.stage ≡ Some (EnterKind slot) → StopStep u p at seat source c me (EnterKind slot)
   enter_kind slot e =
       let x : (work : Work) × (seat me ≡ In slot work 0 0 Rests) = subst (λ (st : Option StopStage). SitsAt u me c st (seat me)) e s.seat in
@@ -127,25 +114,15 @@ module _ (u : Setup) (p : StopState) (at : Word → ℕ) (seat : ℕ → Seat) (
 
   pub enter_active : (slot : ℕ) (kind : KindOf) (mask : ℕ) → c.stage ≡ Some (EnterActive slot kind mask) → StopStep u p at seat source c me
       (EnterActive slot kind mask)
-  enter_active slot kind mask e =
-      let x : (work : Work) × (seat me ≡ In slot work 0 0 Rests) × (kind ≡ work.kind) × (mask ≡ work.mask) = search arith in
-      let y : OwnsIf c.is_open (source me) = subst (λ (st : Option StopStage). SourceSits c.is_open st (source me)) e s.source in
-      let w = work_words u p at seat source h slot me x.0 0 0 Rests x.1 in
-      let shows' = still u seat source me (state_after u p at c me (EnterActive slot kind mask)) at h in
-      search (shows', arith)
+  enter_active slot kind mask e = let shows' = still u seat source me (state_after u p at c me (EnterActive slot kind mask)) at h in search (shows', arith)
 
   pub read_key : (k : ℕ) → c.stage ≡ Some (ReadKey k) → StopStep u p at seat source c me (ReadKey k)
   read_key k e =
-      let x : (c.interrupts ≡ true) × (k < u.keys) × AtRest = subst (λ (st : Option StopStage). SitsAt u me c st (seat me)) e s.seat in
-      let y : OwnsIf c.is_open (source me) = subst (λ (st : Option StopStage). SourceSits c.is_open st (source me)) e s.source in
-      let shows' = still u seat source me (state_after u p at c me (ReadKey k)) at (key_read u p at seat source h me k 0 (h.present.irq me ∙ (sym s.irq ∙
-      x.0))) in
+      let shows' = still u seat source me (state_after u p at c me (ReadKey k)) at (key_read u p at seat source h me k 0 (search (h.present.irq, arith))) in
       search (shows', arith)
 
   pub read_site : (i : ℕ) → c.stage ≡ Some (ReadSite i) → StopStep u p at seat source c me (ReadSite i)
   read_site i e =
-      let x : (c.interrupts ≡ true) × (i < length u.entries) × AtRest = subst (λ (st : Option StopStage). SitsAt u me c st (seat me)) e s.seat in
-      let y : OwnsIf c.is_open (source me) = subst (λ (st : Option StopStage). SourceSits c.is_open st (source me)) e s.source in
       let shows' = still u seat source me (state_after u p at c me (ReadSite i)) at (site_read u p at seat source h me i 0) in
       search (shows', arith)
 
@@ -155,8 +132,6 @@ module _ (u : Setup) (p : StopState) (at : Word → ℕ) (seat : ℕ → Seat) (
       let x : (c.interrupts ≡ true) × (u.online me ≡ true) × (k < u.keys) × AtRest = subst (λ (st : Option StopStage). SitsAt u me c st (seat me)) e s.seat in
       let y : OwnsIf c.is_open (source me) = subst (λ (st : Option StopStage). SourceSits c.is_open st (source me)) e s.source in
       let on : p.now.irq me ≡ true = h.present.irq me ∙ (sym s.irq ∙ x.0) in
-      let few = h.setup.few_keys in
-      let low = x.2 in
       let fits = (lawful_when_on u p.now at seat h.present me x.1 on).keys k (omega arith) in
       let shows' = still u seat source me (state_after u p at c me (NudgeKey k up)) at (key_read u p at seat source h me k 0 on) in
       search (shows', go x y fits (count_after (nudge_of up) (at (Key k))) refl, arith)
@@ -176,22 +151,13 @@ module _ (u : Setup) (p : StopState) (at : Word → ℕ) (seat : ℕ → Seat) (
   pub exchange_key : (k expected new : ℕ) → c.stage ≡ Some (ExchangeKey k expected new) → StopStep u p at seat source c me (ExchangeKey k expected new)
   exchange_key k expected new e =
       let x : (c.interrupts ≡ true) × (u.online me ≡ true) × (k < u.keys) × IsNudge expected new × AtRest = search arith in
-      let y : OwnsIf c.is_open (source me) = subst (λ (st : Option StopStage). SourceSits c.is_open st (source me)) e s.source in
-      let on : p.now.irq me ≡ true = h.present.irq me ∙ (sym s.irq ∙ x.0) in
-      let shows' = still u seat source me (state_after u p at c me (ExchangeKey k expected new)) (at_then u at c me (ExchangeKey k expected new)) (go x.1 on
-      x.3 (at (Key k) == expected) refl) in
+      let shows' = still u seat source me (state_after u p at c me (ExchangeKey k expected new)) (at_then u at c me (ExchangeKey k expected new)) (search (go, x.3, arith)) in
       search (shows', arith)
     where
       go : u.online me ≡ true → p.now.irq me ≡ true → IsNudge expected new → (b : Bool) → (at (Key k) == expected) ≡ b →
           StopShows u (told u p me act.Cas (Key k) (Some (at (Key k))) (cond b (Some new) None) 0)
           (put_if put_word at (Key k) (cond b (Some new) None)) seat source
-      go online on nudge true z =
-          let same = eqb-true (at (Key k)) expected z in
-          key_exchanged u p at seat source h me k (at (Key k)) new s.below online on refl record {
-            one = search arith;
-            same = nudge.same ∙ ap is_on (sym same);
-            word = nudge.word;
-          } 0
+      go online on nudge true z = key_exchanged u p at seat source h me k (at (Key k)) new s.below online on refl (search arith) 0
       go online on nudge false z = h
 
   -- the looks of a source
@@ -211,24 +177,16 @@ module _ (u : Setup) (p : StopState) (at : Word → ℕ) (seat : ℕ → Seat) (
       go x op work own true z = (
         source me,
         still u seat source me p at h,
-        record {
-          below = s.below;
-          irq = s.irq;
-          seat = x;
-          source = subst (λ b. OwnsIf b (source me)) (sym op) (work, own);
-          gate_held = tt;
-        },
+        record { below = s.below; irq = s.irq; seat = x; source = subst (λ b. OwnsIf b (source me)) (sym op) (work, own); gate_held = tt },
       )
       go x op work own false z = (
         Collects work,
         moved_source u seat source me p at (Collects work) (done_loaded u p at seat source h me work own (open_done work own z)),
-        record
-            { below = s.below; irq = s.irq; seat = x; source = (op, (work, refl)); gate_held = tt },
+        record { below = s.below; irq = s.irq; seat = x; source = (op, (work, refl)); gate_held = tt },
       )
 
   pub load_result : c.stage ≡ Some LoadResult → StopStep u p at seat source c me LoadResult
   load_result e =
-      let x : AtRest = subst (λ (st : Option StopStage). SitsAt u me c st (seat me)) e s.seat in
       let y : (c.is_open ≡ true) × ((work : Work) × (source me ≡ Collects work)) = search arith in
       let shows' = moved_source u seat source me (state_after u p at c me LoadResult) at Shut (result_loaded u p at seat source h me y.1.0 0 y.1.1) in
       search (shows', arith)

@@ -1,8 +1,8 @@
 -- Tests of what a command asks for: what they mean of numbers and masks, and of a work.
-use Rattle.std.proofs.Common.{◌≡◌, ◌≢◌, ℕ, zero, suc, ◌<◌, ◌≤◌, ◌^◌, Bool, true, false, ◌==◌, ◌&&◌, not, nat_lt, lt-ltb, lit<, cond, sym, refl, ap, ◌∙◌, ◌⊎◌}
-use Rattle.std.proofs.Common.{inl, inr, arith, Option, Some, None, bit_and, eqb-true, eq-eqb, ne_eqb}
+use Rattle.std.proofs.Common.{◌≡◌, ◌≢◌, ℕ, zero, suc, ◌<◌, ◌^◌, Bool, true, false, ◌==◌, ◌&&◌, not, nat_lt, lt-ltb, lit<, cond, sym, refl, ◌∙◌, ◌⊎◌, inl, inr}
+use Rattle.std.proofs.Common.{arith, Option, Some, None, bit_and, eqb-true, eq-eqb, ne_eqb}
 use Rattle.std.proofs.Math.Pow.{pow-lt}
-use Rattle.std.proofs.lemmas.Bool.{ltb-true, cases_eq}
+use Rattle.std.proofs.lemmas.Bool.{ltb-true}
 use Rattle.std.proofs.lemmas.Bool.Decides.{nat_tests}
 use Rattle.std.proofs.lemmas.Nat.Bits.{bit_at-lt, bit_at_and, bit_at-pow_same, bit_at-pow_other}
 use Rattle.smp_mask.proofs.Sets.{has_above, has_and, same_members}
@@ -49,8 +49,7 @@ small zero = lit< tt
 small (suc n) = let s = small n in let more : 2 ^ n < 2 ^ suc n = pow-lt (omega arith) in omega arith
 
 -- all members of a mask below k are among others, or one is not
-search_below : (mask online k : ℕ) → ((c : ℕ) → c < k → has mask c ≡ true → has online c ≡ true) ⊎
-    ((c : ℕ) × (has mask c ≡ true) × (has online c ≡ false))
+search_below : (mask online k : ℕ) → ((c : ℕ) → c < k → has mask c ≡ true → has online c ≡ true) ⊎ ((c : ℕ) × (has mask c ≡ true) × (has online c ≡ false))
 search_below mask online zero = inl (λ c l is. absurd (let z : ⊥ = omega arith in z))
 search_below mask online (suc k) = go (search_below mask online k) (has mask k) (has online k) refl refl
   where

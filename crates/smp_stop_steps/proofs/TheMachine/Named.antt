@@ -1,20 +1,18 @@
 -- The word of each access of the stop half is in its table, and no step takes the gate from its holder.
-use Rattle.std.proofs.Common.{◌≡◌, ◌≢◌, ℕ, ◌+◌, ◌<◌, ◌≤◌, Bool, true, false, cond, sym, subst, ap, ◌∙◌, inl, inr, arith, ne_eqb, Some, List, [], ◌∷◌, ◌++◌}
-use Rattle.std.proofs.Common.{length}
+use Rattle.std.proofs.Common.{◌≡◌, ◌≢◌, ℕ, ◌+◌, ◌<◌, ◌≤◌, Bool, true, false, sym, subst, ◌∙◌, inl, inr, arith, ne_eqb, Some, List, [], ◌∷◌, ◌++◌, length}
 use Rattle.std.proofs.lemmas.Bool.{cases_lt}
 use Rattle.std.proofs.lemmas.List.{append-nil}
 use Rattle.std.specs.List.{AllByRecursion}
 use Rattle.smp_stop_steps.specs.{plan_at, word_of, cpus, Change, Alters, Fills, Gives, In, Rests, Seat, Sets, Stands, Turn, StopShows, SitsInCompletion}
 use Rattle.smp_stop_steps.specs.{SitsInRound, Collects, Drafts, IsWork, Owns, Shut, Source, SourceShows, StopControlValue, change_at, completion_access}
 use Rattle.smp_stop_steps.specs.{label_word, round_access, stop_access, store_of, Setup, StopState, at_then, CompletionStage, RoundStage, StopStage, Visit}
-use Rattle.smp_stop_steps.specs.{Patch, Work, Gate, Slot, Word, is_on, patch_of, site_changes, MOST_KEYS, MOST_SITES}
+use Rattle.smp_stop_steps.specs.{Patch, Work, Gate, Slot, Word, site_changes, MOST_KEYS, MOST_SITES}
 use Rattle.smp_stop_steps.proofs.State.Phases.{is_open_inside}
 use Rattle.smp_stop_steps.proofs.Steps.RoundSteps.{change_here}
 use Rattle.smp_stop_steps.proofs.TheMachine.Tables.{IsStopWord}
 use Rattle.smp_stop_steps.specs.Sits.{Sits}
 use Rattle.smp_stop_steps.proofs.Steps.Stages.{at_seat}
 use Rattle.smp_stop_steps.specs.round
-use Rattle.smp_stop_steps.specs.place
 
 -- the changes of a patch are of words in the table
 abbrev pub IsNamedChange : Change → Type 0
@@ -35,8 +33,8 @@ module _ (u : Setup) (p : StopState) (at : Word → ℕ) (seat : ℕ → Seat) (
   open_work s op = go (source s) (h.sources s)
     where
       go : (y : Source) → SourceShows u p.gate (p.now.stop s) (λ f. at (Slot s f)) s y → IsWork u (p.now.stop s).work
-      go Shut d = let bad : true ≡ false = sym op ∙ d in cc
-      go (Drafts work k) d = let bad : true ≡ false = sym op ∙ d.shut in cc
+      go Shut d = cc
+      go (Drafts work k) d = cc
       go (Owns work) d = subst (IsWork u) (sym d.work_is) d.is_work
       go (Collects work) d = subst (IsWork u) (sym d.0.work_is) d.0.is_work
 
@@ -84,7 +82,7 @@ module _ (u : Setup) (p : StopState) (at : Word → ℕ) (seat : ℕ → Seat) (
 
     module _ (c : StopControlValue) (s : Sits u me (at Gate) c (seat me) (source me)) where
       me_below : me < cpus
-      me_below = let b = s.below in omega arith
+      me_below = omega arith
 
       round_named : (v : Visit) (stage : RoundStage) → SitsInRound u me c.changes v stage (seat me) →
           IsStopWord (word_of (round_access u.cpus c.changes v stage))

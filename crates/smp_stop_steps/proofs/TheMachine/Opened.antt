@@ -44,10 +44,7 @@ opened_shown online labels t controls member below are gate slots entries lawful
   shows = no_stops_shown (setup_of online labels) (stop_number t)
       record { first = first_online online member below; below = below; few = omega arith; few_keys = are.few_keys; named = named_entry labels.entries }
       gate (λ s. rw slots (zero_at SLOT_WORDS (slot_cell s field.Roll)))
-      record {
-        few = let l = length-map labels.entries entry_word in let f = are.few_sites in omega arith;
-        read = search (read_zeros, arith);
-      }
+      (search (length-map, read_zeros, arith))
       lawful (λ k. rw off (get_or-same 0 MOST_KEYS k));
   sits = λ cpu low. rw outside (rw (get_or-same stop_outside cpus cpu) record { below = low; irq = refl; seat = refl; source = refl; gate_held = tt });
   carries = λ cpu low. rw outside (rw (get_or-same stop_outside cpus cpu) tt);

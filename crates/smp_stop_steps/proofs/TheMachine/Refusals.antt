@@ -19,7 +19,7 @@ refuses : (b : Bool) (e : SmpError) (may : Type 0) → (b ≡ true → may) → 
 refuses b e may is otherwise = search arith
 
 false_true : (b : Bool) → b ≡ false → b ≡ true → ⊥
-false_true b f t = let bad : true ≡ false = sym t ∙ f in cc
+false_true b f t = cc
 
 -- the same of a test and a fact that are equal
 refuses_flag : (b x : Bool) (e : SmpError) → b ≡ x → Refuses (x ≡ true) e (unless b e)
@@ -43,9 +43,6 @@ module _ (v : StopsValue) (p : StopState) (shown : StopShown p v) (me : ℕ) (lo
 
   abbrev c : StopControlValue
   c = stop_control_of v.controls me
-
-  abbrev Is : Command → Option SmpError → Type 0
-  Is x r = IsRefusal u v.nr p me x r
 
   irq : c.interrupts ≡ p.now.irq me
   irq = (shown.sits me low).irq ∙ sym (shown.shows.present.irq me)
@@ -83,7 +80,7 @@ module _ (v : StopsValue) (p : StopState) (shown : StopShown p v) (me : ℕ) (lo
 
   -- what is so in the stop that the CPU is in is so in that of its visit
   same_slot : (w : Visit) → IsAt p me w → (s : ℕ) → p.now.inside me ≡ Some s → s ≡ w.slot
-  same_slot w at s is = let both : Some s ≡ Some w.slot = sym is ∙ at.inside in cc
+  same_slot w at s is = cc
 
   advances : (o : Option Visit) → c.visit ≡ o → Refuses (MayAdvance p me) error.BadArgument (unless (may_advance o) error.BadArgument)
   advances o e = search (not_both, visits, refuses, both, not_one, not_true, ne_false, same_slot, false_true, of_both, one_false, ne_eqb, arith)

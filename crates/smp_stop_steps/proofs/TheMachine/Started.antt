@@ -1,9 +1,9 @@
 -- A stop half stays whole where a command begins.
-use Rattle.std.proofs.Common.{◌≡◌, ℕ, ◌<◌, true, Option, Some, None, length, refl, subst, ◌∙◌, arith}
+use Rattle.std.proofs.Common.{◌≡◌, ℕ, ◌<◌, true, Option, Some, None, length, refl, ◌∙◌, arith}
 use Rattle.std.proofs.lemmas.List.{length-set}
 use Rattle.smp_words.specs.Commands.{FitsCommand}
-use Rattle.smp_stop_steps.specs.{has, cpus, Command, AnswersFit, StageFits, MayBeginAt, stop_begun, IsSoundHalf, stop_begun_if, stop_first, stop_refusal}
-use Rattle.smp_stop_steps.specs.{stop_started, StopsValue, setup_of, stop_control_of, StopStage}
+use Rattle.smp_stop_steps.specs.{has, cpus, Command, AnswersFit, MayBeginAt, stop_begun, IsSoundHalf, stop_begun_if, stop_first, stop_refusal, stop_started}
+use Rattle.smp_stop_steps.specs.{StopsValue, setup_of, stop_control_of, StopStage}
 use Rattle.smp_stop_steps.proofs.TheMachine.Answered.{answers_set, first_fits}
 use Rattle.smp_stop_steps.proofs.TheMachine.Begun.{begun_value_shown}
 use Rattle.smp_stop_steps.proofs.TheMachine.Starting.{may_begin}

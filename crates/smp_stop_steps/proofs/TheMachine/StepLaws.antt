@@ -14,7 +14,6 @@ steps_keep_laws v p sound shown cpu stage e =
     let u = setup_of v.online v.labels in
     let at = stop_number v.table in
     let c = stop_control_of v.controls cpu in
-    let sized = sound.sized in
     let below : cpu < cpus = let low = stop_inside_below v.controls cpu stage e in omega arith in
     let s = shown.sits cpu below in
     record {
