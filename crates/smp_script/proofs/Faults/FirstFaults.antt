@@ -1,5 +1,5 @@
 -- The first fault of a text, line by line.
-use Rattle.std.proofs.Common.{◌≡◌, ℕ, zero, suc, ◌+◌, ◌<◌, ◌≤◌, true, false, nat_lt, ◌==◌, List, [], ◌∷◌, ◌++◌, length, drop, get_or, Option, Some, None}
+use Rattle.std.proofs.Common.{◌≡◌, ℕ, zero, suc, ◌+◌, ◌<◌, ◌≤◌, true, false, nat_lt, List, [], ◌∷◌, ◌++◌, length, drop, get_or, Option, Some, None}
 use Rattle.std.proofs.Common.{Result, Ok}
 use Rattle.std.proofs.Common.{Err, refl, sym, ap, ◌∙◌, inl, inr, arith, subst, add-one}
 use Rattle.std.specs.Prelude.{slice_get}
@@ -31,7 +31,6 @@ use Rattle.smp_script.proofs.Faults.LabelFields.{labels_told, third_told}
 use Rattle.smp_script.proofs.Faults.OnlineFaults.{cpus_told, mask_cpus}
 use Rattle.smp_script.proofs.Faults.LineFaults.{FirstOf, RightLine, end_first, events_first, lines_first, read_first, read_right, right_line, shared_first}
 use Rattle.smp_script.proofs.Spelled.Readings.{after_first, after_labels, after_line, after_second, after_table, after_title, title_ok, whole_mask}
-use Rattle.smp_script.specs.FieldFaults.{field_at}
 use Rattle.smp_script.proofs.Reader.Widths.{AreCpus}
 use Rattle.smp_script.specs.declared.version.Version.{Version}
 use Rattle.smp_script.specs.Versions.{limit_of}
@@ -51,12 +50,7 @@ in_that_line : (setting : Setting) (text : List ℕ) (n : ℕ) (line : Line) →
     → IsFault setting text m k cause → LineFault setting (n + 1) (events_to text (n + 1)) (SharesKey text n) line k cause
 in_that_line setting text n line here m k cause e (past_bytes f) = absurd (omega (arith, e))
 in_that_line setting text n line here m k cause e (no_line short few) = absurd (omega (arith, e, short, slice_get_within (lines_of text) n line here))
-in_that_line setting text n line here m k cause e (in_line n' {line = other} found f) =
-    let same : n' ≡ n = omega (arith, e) in
-    let there : slice_get (lines_of text) n ≡ Some other = subst (λ i. slice_get (lines_of text) i ≡ Some other) same found in
-    let one : other ≡ line = cc in
-    subst (λ l. LineFault setting (n + 1) (events_to text (n + 1)) (SharesKey text n) l k cause) one
-    (subst (λ i. LineFault setting (i + 1) (events_to text (i + 1)) (SharesKey text i) other k cause) same f)
+in_that_line setting text n line here m k cause e (in_line n' {line = other} found f) = search arith
 
 -- the first fault of a line is that of the text where no line before has one
 line_first : (setting : Setting) (text : List ℕ) (n : ℕ) (line : Line) (cause : Cause) → slice_get (lines_of text) n ≡ Some line
@@ -104,10 +98,7 @@ none_after setting text n short long m k cause after (in_line n' {line = other} 
 
 ends_right : (setting : Setting) (text : List ℕ) (n : ℕ) → length (lines_of text) ≤ n → 2 ≤ n → NoneBefore setting text (n + 1) → (m k : ℕ) (cause : Cause)
     → IsFault setting text m k cause → ⊥
-ends_right setting text n short long none m k cause f = elim (cases_lt m (n + 1)) [
-  | inl before ↦ none m k cause before f
-  | inr after ↦ none_after setting text n short long m k cause (omega arith) f
-]
+ends_right setting text n short long none m k cause f = search (cases_lt, none_after, arith)
 
 -- what is left of a list
 record Behind {A : Type 0} (xs : List A) (n : ℕ) (x : A) (rest : List A) : Type 0 where
@@ -141,11 +132,7 @@ tells_then setting text (Ok x) f t = t
 tells_then setting text (Err e) f t = t
 
 later_shapes : (setting : Setting) (n : ℕ) → 3 ≤ n → shapes_of setting (n + 1) ≡ requests setting
-later_shapes setting n h =
-    let one : (n + 1 == 1) ≡ false = grind (arith, nat_tests) in
-    let two : (n + 1 == 2) ≡ false = grind (arith, nat_tests) in
-    let three : (n + 1 == 3) ≡ false = grind (arith, nat_tests) in
-    rw (one, two, three) refl
+later_shapes setting n h = search (false, nat_tests, arith)
 
 -- line 3 is no labels line
 abbrev NoLabels : ℕ → List Line → Type 0
@@ -229,9 +216,7 @@ line_tells setting sound text l ls n events earlier here h unlabelled few ended 
     line_first setting text n l cause here s.clear
     (read_first setting (n + 1) (events_to text (n + 1)) (SharesKey text n) l (Matches (fields_of l.text)) (line_directive setting l.text) cause few ended
     (line_shapes setting sound n l h unlabelled) e)
-line_tells setting sound text l ls n events earlier here h unlabelled few ended s rest (Ok d) e =
-    let right = read_right setting (n + 1) l (Matches (fields_of l.text)) (line_directive setting l.text) d (line_shapes setting sound n l h unlabelled) e in
-    read_tells setting text l ls n events earlier d here few ended right s (rest d)
+line_tells setting sound text l ls n events earlier here h unlabelled few ended s rest (Ok d) e = search (read_right, line_shapes, read_tells, arith)
 
 -- the lines from the third on
 lines_tell : (setting : Setting) → IsSound setting → (text : List ℕ) (ls : List Line) (n events : ℕ) (earlier : List Directive)
@@ -263,12 +248,7 @@ lines_tell setting sound text (l ∷ ls) n events earlier e h unlabelled s =
 script_tells_from : (mode : Mode) (version : Version) (text : List ℕ) (table : ℕ × ℕ) (third : Option Labels × List Line) (n : ℕ)
     → IsSound (setting_of mode version table.1) → first_line third.0 ≡ n + 1 → drop n (lines_of text) ≡ third.1 → 2 ≤ n → NoLabels n third.1
     → Reached (setting_of mode version table.1) text n 0 [] → TellsText (setting_of mode version table.1) text (after_labels mode version table third)
-script_tells_from mode version text table third n sound first e h unlabelled s =
-    let setting = setting_of mode version table.1 in
-    let body = lines_tell setting sound text third.1 n 0 [] e h unlabelled s in
-    let there : TellsText setting text (directives_of setting (first_line third.0) 0 [] third.1) = rw first body in
-    tells_then setting text (directives_of setting (first_line third.0) 0 [] third.1)
-    (λ ds. record { version = version; nr = table.0; online = table.1; labels = third.0; directives = ds }) there
+script_tells_from mode version text table third n sound first e h unlabelled s = search (lines_tell, tells_then, arith)
 
 -- the labels line, and then the rest
 labels_line_tells : (mode : Mode) (version : Version) (text : List ℕ) (table : ℕ × ℕ) (l : Line) (ls : List Line)
@@ -331,9 +311,7 @@ table_tells mode version mask text l ls e s ended (Ok table) settled read =
 -- the mask of the second line is that of the CPUs online
 settles : (text : List ℕ) (l : Line) (ls : List Line) (version : Version) (table : ℕ × ℕ) → drop 1 (lines_of text) ≡ l ∷ ls
     → limit_in text ≡ limit_of version → whole_cpus (limit_of version) (fields_of l.text) ≡ Ok table → (online_in text ≡ table.1) × AreCpus table.1
-settles text l ls version table e limit read =
-    let is = whole_mask (limit_of version) (fields_of l.text) table (limit_within version) read in
-    (online_told text l ls version table.1 e limit is, mask_cpus (limit_of version) (field_at (fields_of l.text) 2) table.1 (limit_within version) is)
+settles text l ls version table e limit read = search (whole_mask, limit_within, online_told, mask_cpus, arith)
 
 second_tells : (mode : Mode) (version : Version) (text : List ℕ) (ls : List Line) → drop 1 (lines_of text) ≡ ls → limit_in text ≡ limit_of version
     → Reached (setting_of mode version (online_in text)) text 1 0 []

@@ -25,10 +25,7 @@ right_member mask text good is _ f = f
 
 -- a number past all CPUs is that of none
 far_is_none : (mask far : ℕ) → AreCpus mask → 4294967295 < far → has mask far ≡ false
-far_is_none mask far cpus past = elim (cases_Bool (has mask far)) [
-  | inl on ↦ absurd (omega (arith, cpus far on))
-  | inr off ↦ off
-]
+far_is_none mask far cpus past = search (cases_Bool, arith)
 
 wrong_member : (mask : ℕ) (text : List ℕ) → AreCpus mask → (cause : Cause) → number_in 0 4294967295 text ≡ Err cause → NumberFault 0 4294967295 text cause
     → MemberRead mask text
@@ -51,7 +48,4 @@ pub reads_member : {B : Type 0} (shape : List Form) (fields : List (List ℕ)) (
     → slice_get shape i ≡ Some (member mask) → Clean shape fields i → AreCpus mask
     → (Clean shape fields (i + 1) → Tells shape fields holds (then (value_of (field_at fields i))))
     → Tells shape fields holds (member_of mask (field_at fields i) >>= then)
-reads_member shape fields holds i mask then wants clean cpus more = elim (member_read mask (field_at fields i) cpus) [
-  | no_member cause e f ↦ rw e (record { place = i; form = member mask; wants = wants; wrong = f; before = clean })
-  | is_member e right ↦ rw e (more (passes shape fields i (member mask) wants right clean))
-]
+reads_member shape fields holds i mask then wants clean cpus more = search (member_read, passes, arith)

@@ -1,11 +1,11 @@
 -- A text has one first fault at most.
-use Rattle.std.proofs.Common.{◌≡◌, ℕ, ◌+◌, Bool, true, false, List, Some, Result, Ok, Err, ◌⊎◌, refl, sym, ◌∙◌, inl, inr, arith, subst}
-use Rattle.std.specs.Prelude.{is_ok, slice_get}
+use Rattle.std.proofs.Common.{◌≡◌, ℕ, Bool, true, false, List, Result, Ok, Err, ◌⊎◌, refl, sym, ◌∙◌, inl, inr, arith}
+use Rattle.std.specs.Prelude.{is_ok}
 use Rattle.std.proofs.lemmas.Bool.{cases_order}
 use Rattle.std.proofs.lemmas.Option.{slice_get_within}
 use Rattle.smp_mask.specs.declared.error.Cause.{Cause}
 use Rattle.smp_mask.specs.declared.error.Cause.TheVariants.{Number, Range, Mask}
-use Rattle.smp_script.specs.Lines.{Line, fields_of, lines_of}
+use Rattle.smp_script.specs.Lines.{Line, lines_of}
 use Rattle.smp_script.specs.Numbers.{is_decimal}
 use Rattle.smp_script.specs.Faults.{Fault}
 use Rattle.smp_script.specs.Script.{Script, script_of}
@@ -14,8 +14,8 @@ use Rattle.smp_script.specs.FieldFaults.{field_at, value_of, ActiveFault, FieldF
 use Rattle.smp_script.specs.FieldFaults.{is_signed}
 use Rattle.smp_script.specs.Labels.{has_number, items_of}
 use Rattle.std.specs.List.{list_all}
-use Rattle.smp_script.specs.FirstFault.{LineFault, past_lines, unended, no_shape, wrong_field, shared_key, past_events, IsFault, IsFirstFault, SharesKey}
-use Rattle.smp_script.specs.FirstFault.{past_bytes, no_line, in_line, events_to, setting_in}
+use Rattle.smp_script.specs.FirstFault.{LineFault, past_lines, unended, no_shape, wrong_field, shared_key, past_events, IsFault, IsFirstFault}
+use Rattle.smp_script.specs.FirstFault.{past_bytes, no_line, in_line, setting_in}
 use Rattle.smp_script.specs.declared.mode.Mode.{Mode}
 use Rattle.smp_script.specs.declared.setting.Setting.{Setting}
 use Rattle.smp_script.proofs.Faults.LineFaults.{place_within}
@@ -123,26 +123,15 @@ line_cause setting n events shared line k m c d e (unended f) (unended g) = refl
 line_cause setting n events shared line k m c d e (unended f) _ = absurd (omega (arith, e))
 line_cause setting n events shared line k m c d e (no_shape f) (no_shape g) = refl
 line_cause setting n events shared line k m c d e (no_shape f) _ = absurd (omega (arith, e))
-line_cause setting n events shared line k m c d e (wrong_field i {shape = a} {form = v} s w f) (wrong_field j {shape = b} {form = u} t x g) =
-    let place : j ≡ i = omega (arith, e) in
-    let shape : b ≡ a = cc in
-    let there : slice_get a i ≡ Some u = subst (λ k. slice_get a k ≡ Some u) place (subst (λ z. slice_get z j ≡ Some u) shape x) in
-    let form : u ≡ v = cc in
-    let wrong : FieldFault (fields_of line.text) i v d =
-    subst (λ z. FieldFault (fields_of line.text) i z d) form (subst (λ k. FieldFault (fields_of line.text) k u d) place g) in
-    field_cause (fields_of line.text) i v c d f wrong
-line_cause setting n events shared line k m c d e (wrong_field i {shape = a} {form = v} s w f) (past_events g) =
-    absurd (omega (arith, e, place_within setting n (fields_of line.text) a i v s w))
-line_cause setting n events shared line k m c d e (wrong_field i {shape = a} {form = v} s w f) (shared_key g) =
-    absurd (omega (arith, e, place_within setting n (fields_of line.text) a i v s w))
+line_cause setting n events shared line k m c d e (wrong_field i {shape = a} {form = v} s w f) (wrong_field j {shape = b} {form = u} t x g) = search (field_cause, arith)
+line_cause setting n events shared line k m c d e (wrong_field i {shape = a} {form = v} s w f) (past_events g) = search (place_within, arith)
+line_cause setting n events shared line k m c d e (wrong_field i {shape = a} {form = v} s w f) (shared_key g) = search (place_within, arith)
 line_cause setting n events shared line k m c d e (wrong_field i s w f) _ = absurd (omega (arith, e))
 line_cause setting n events shared line k m c d e (shared_key f) (shared_key g) = refl
-line_cause setting n events shared line k m c d e (shared_key f) (wrong_field j {shape = b} {form = u} t x g) =
-    absurd (omega (arith, e, place_within setting n (fields_of line.text) b j u t x))
+line_cause setting n events shared line k m c d e (shared_key f) (wrong_field j {shape = b} {form = u} t x g) = search (place_within, arith)
 line_cause setting n events shared line k m c d e (shared_key f) _ = absurd (omega (arith, e))
 line_cause setting n events shared line k m c d e (past_events f) (past_events g) = refl
-line_cause setting n events shared line k m c d e (past_events f) (wrong_field j {shape = b} {form = u} t x g) =
-    absurd (omega (arith, e, place_within setting n (fields_of line.text) b j u t x))
+line_cause setting n events shared line k m c d e (past_events f) (wrong_field j {shape = b} {form = u} t x g) = search (place_within, arith)
 line_cause setting n events shared line k m c d e (past_events f) _ = absurd (omega (arith, e))
 
 -- and in a text
@@ -154,29 +143,15 @@ fault_cause setting text n k m l c d e r (no_line f few) (past_bytes g) = absurd
 fault_cause setting text n k m l c d e r (no_line f few) (in_line j {line = b} there g) = absurd (omega (arith, e, slice_get_within (lines_of text) j b there))
 fault_cause setting text n k m l c d e r (in_line i {line = a} here f) (past_bytes g) = absurd (omega (arith, e))
 fault_cause setting text n k m l c d e r (in_line i {line = a} here f) (no_line g few) = absurd (omega (arith, e, slice_get_within (lines_of text) i a here))
-fault_cause setting text n k m l c d e r (in_line i {line = a} here f) (in_line j {line = b} there g) =
-    let place : j ≡ i = omega (arith, e) in
-    let found : slice_get (lines_of text) i ≡ Some b = subst (λ x. slice_get (lines_of text) x ≡ Some b) place there in
-    let line : b ≡ a = cc in
-    line_cause setting (i + 1) (events_to text (i + 1)) (SharesKey text i) a k l c d r f
-    (subst (λ x. LineFault setting (i + 1) (events_to text (i + 1)) (SharesKey text i) x l d) line
-    (subst (λ x. LineFault setting (x + 1) (events_to text (x + 1)) (SharesKey text x) b l d) place g))
+fault_cause setting text n k m l c d e r (in_line i {line = a} here f) (in_line j {line = b} there g) = search (line_cause, arith)
 
 -- first faults are in one line
 one_line : (setting : Setting) (text : List ℕ) (n m : ℕ) (c d : Cause) → IsFirstFault setting text n c → IsFirstFault setting text m d → n ≡ m
-one_line setting text n m c d a b = elim (cases_order n m) [
-  | inl same ↦ same
-  | inr (inl less) ↦ absurd (b.before n a.rank c less a.fault)
-  | inr (inr more) ↦ absurd (a.before m b.rank d more b.fault)
-]
+one_line setting text n m c d a b = search (cases_order, arith)
 
 -- and have one cause
 one_cause : (setting : Setting) (text : List ℕ) (n m : ℕ) (c d : Cause) → IsFirstFault setting text n c → IsFirstFault setting text m d → n ≡ m → c ≡ d
-one_cause setting text n m c d a b e = elim (cases_order a.rank b.rank) [
-  | inl same ↦ fault_cause setting text n a.rank m b.rank c d e same a.fault b.fault
-  | inr (inl less) ↦ absurd (b.least a.rank c less (subst (λ x. IsFault setting text x a.rank c) e a.fault))
-  | inr (inr more) ↦ absurd (a.least b.rank d more (subst (λ x. IsFault setting text x b.rank d) (sym e) b.fault))
-]
+one_cause setting text n m c d a b e = search (cases_order, fault_cause, arith)
 
 -- a text with a first fault is refused with it
 refused_with : (setting : Setting) (text : List ℕ) (n : ℕ) (cause : Cause) → IsFirstFault setting text n cause → (r : Result Script Fault)

@@ -12,7 +12,7 @@ use Rattle.smp_mask.specs.declared.error.Cause.TheVariants.{Mask, Range}
 use Rattle.smp_mask.specs.declared.mask.TheConstants.{NR_CPUS}
 use Rattle.smp_mask.proofs.Members.{item_member, none_below}
 use Rattle.smp_mask.proofs.Sets.{has_none}
-use Rattle.smp_script.specs.Fields.{mask_of, stays_below}
+use Rattle.smp_script.specs.Fields.{mask_of}
 use Rattle.smp_script.specs.Commands.{are_whole}
 use Rattle.smp_script.specs.Script.{are_online, cpus_of, table_of, whole_cpus}
 use Rattle.smp_script.specs.Shapes.{online, cpus, has_shape}
@@ -33,22 +33,11 @@ no_members m below none cpu = elim (cases_Bool (has m cpu)) [
 ]
 
 is_outside : (nr m : ℕ) → AreCpus m → are_online nr m ≡ false → IsOutside nr m
-is_outside nr m below h = elim (cases_lt 0 (length (members m))) [
-  | inr none ↦ inl (no_members m below (omega arith))
-  | inl some ↦
-      let test : nat_lt 0 (length (members m)) ≡ true = grind (arith, nat_tests) in
-      let all : stays_below nr m ≡ false = rw test at h in
-      let far = some_fails (λ cpu. nat_lt cpu nr) (members m) all in
-      inr (get_or (members m) far.0 0, (item_member m NR_CPUS far.0 0 far.1).1, grind (arith, nat_tests, far.2))
-]
+is_outside nr m below h = search (cases_lt, length, no_members, nat_lt, true, nat_tests, false, some_fails, get_or, item_member, arith)
 
 not_outside : (nr m : ℕ) → AreCpus m → are_online nr m ≡ true → IsOutside nr m → ⊥
-not_outside nr m below h (inl none) =
-    let empty : members m ≡ [] = none_below m NR_CPUS (λ c _. none c) in
-    let bad : false ≡ true = rw empty at h in cc
-not_outside nr m below h (inr far) =
-    let parts = and_parts (nat_lt 0 (length (members m))) (stays_below nr m) h in
-    let bad : true ≡ false = sym parts.1 ∙ one_above nr m NR_CPUS far.0 (below far.0 far.1) far.1 far.2 in cc
+not_outside nr m below h (inl none) = search (none_below, false, true, arith)
+not_outside nr m below h (inr far) = search (and_parts, nat_lt, length, true, false, one_above, arith)
 
 -- the CPUs of a list are CPUs
 are_cpus : (limit : ℕ) (text : List ℕ) (m : ℕ) → limit ≤ NR_CPUS → IsMaskOf limit text m → AreCpus m

@@ -5,7 +5,6 @@ use Rattle.std.specs.Str.{bytes_eq}
 use Rattle.std.proofs.lemmas.Bool.{cases_Bool}
 use Rattle.std.proofs.lemmas.Bool.Decides.{nat_tests}
 use Rattle.std.proofs.lemmas.Slice.Eq.{bytes_eq-Decides}
-use Rattle.smp_mask.specs.Mask.{members}
 use Rattle.smp_mask.specs.ListText.{list_text}
 use Rattle.smp_mask.specs.Reading.{after, digit, longer, mask_of_text, or_refused, read_from, step}
 use Rattle.smp_mask.specs.declared.mask.TheConstants.{NR_CPUS}
@@ -73,21 +72,11 @@ some_text (b ∷ bs) m e some = grind (arith, nat_tests)
 
 no_dash : (text : List ℕ) (m : ℕ) → mask_of_text NR_CPUS text ≡ Ok m → bytes_eq text (codes "-") ≡ false
 unfolding read_from
-no_dash text m e = elim (cases_Bool (bytes_eq text (codes "-"))) [
-  | inl dash ↦
-      let same : text ≡ codes "-" = (bytes_eq-Decides text (codes "-")).0 dash in
-      let bad : mask_of_text NR_CPUS (codes "-") ≡ Ok m = ap (mask_of_text NR_CPUS) (sym same) ∙ e in
-      cc
-  | inr other ↦ other
-]
+no_dash text m e = search (cases_Bool, bytes_eq-Decides, arith)
 
 -- some CPU online is some member
 some_online : (nr mask : ℕ) → are_online nr mask ≡ true → mask ≡ 0 → ⊥
-some_online nr mask h z =
-    let long : nat_lt 0 (length (members mask)) ≡ true = grind (arith, h) in
-    let none : members mask ≡ [] = none_below mask NR_CPUS (λ c l. rw z (grind (arith, nat_tests))) in
-    let bad : nat_lt 0 (length {A = ℕ} []) ≡ true = ap (λ xs. nat_lt 0 (length xs)) (sym none) ∙ long in
-    cc
+some_online nr mask h z = search (nat_lt, length, true, none_below, nat_tests, arith)
 
 -- the canonical text of a mask is one of its texts
 list_is_text : (limit m : ℕ) → limit ≤ NR_CPUS → m < 2 ^ limit → (m ≡ 0 → ⊥) → IsMaskText limit (list_text m) m

@@ -99,10 +99,7 @@ lines_are_read setting n events earlier ((masks, d) ∷ lines) f s apart keys co
 cpus_are_read : (limit : ℕ) (nr online : ℕ) (mask : List ℕ) → 1 ≤ nr → nr ≤ limit → limit ≤ NR_CPUS → is_field mask ≡ true → mask_of limit mask ≡ Ok online
     → are_online nr online ≡ true
     → whole_cpus limit (codes "cpus" ∷ decimal nr ∷ mask ∷ []) ≡ Ok (nr, online)
-cpus_are_read limit nr online mask some within few field is_mask are =
-    let words : list_all is_field (codes "cpus" ∷ decimal nr ∷ mask ∷ []) ≡ true = rw (is_field-decimal nr (omega arith), field) refl in
-    let read = number_in-decimal 1 limit nr some within (omega arith) in
-    rw (whole_fields (codes "cpus" ∷ decimal nr ∷ mask ∷ []) words, read, is_mask, are) refl
+cpus_are_read limit nr online mask some within few field is_mask are = search (true, is_field-decimal, number_in-decimal, whole_fields, arith)
 
 longer : (n : ℕ) → n ≤ 65536 → nat_lt 65536 n ≡ false
 longer n h = grind (arith, nat_tests)
@@ -119,10 +116,7 @@ no_labels_line : (setting : Setting) (lines : List (Masks × Directive)) → All
     → labels_at (lines_of (spelled_lines lines)) ≡ Ok (None, lines_of (spelled_lines lines))
 unfolding spelled_lines
 no_labels_line setting [] f s = refl
-no_labels_line setting ((masks, d) ∷ lines) f s =
-    let fields = words_are_fields setting masks d f.0 s.0 in
-    rw (lines_of-line (directive_words masks d) (spelled_lines lines) fields)
-    (rw (fields_back (directive_words masks d) (some_words masks d) fields, not_labels masks d) refl)
+no_labels_line setting ((masks, d) ∷ lines) f s = search (words_are_fields, lines_of-line, fields_back, some_words, not_labels, arith)
 
 third_read : (setting : Setting) (labels : Option Labels) (lines : List (Masks × Directive)) → LabelsFit labels → AllByRecursion (Fits setting) (asked lines)
     → AllByRecursion (SpellLine setting.limit) lines
