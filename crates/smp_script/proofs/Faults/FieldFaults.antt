@@ -89,6 +89,12 @@ pub data Judged {A : Type 0} (Wrong : Cause → Type 0) (read : Result A Cause) 
   fine : (x : A) → read ≡ Ok x → ((cause : Cause) → Wrong cause → ⊥) → Judged Wrong read
   faulty : (cause : Cause) → read ≡ Err cause → Wrong cause → Judged Wrong read
 
+pub number_judged : (low high : ℕ) (text : List ℕ) → Judged (NumberFault low high text) (number_in low high text)
+number_judged low high text = elim (number_read low high text) [
+  | is_read good e right ↦ fine (value_of text) e right
+  | is_wrong cause e f ↦ faulty cause e f
+]
+
 -- a field of this form, and what is read after it
 pub reads_field : {A B : Type 0} (shape : List Form) (fields : List (List ℕ)) (holds : B → Type 0) (i : ℕ) (form : Form) (read : Result A Cause)
     (then : A → Result B Cause) → slice_get shape i ≡ Some form → Clean shape fields i

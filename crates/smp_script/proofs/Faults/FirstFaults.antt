@@ -23,8 +23,8 @@ use Rattle.smp_script.specs.Labels.{is_labels, whole_labels}
 use Rattle.smp_script.specs.Shapes.{requests, shapes_of}
 use Rattle.smp_script.specs.FirstFault.{IsFault, IsFirstFault, LineFault, SharesKey, past_bytes, no_line, in_line, events_in, events_to, limit_in}
 use Rattle.smp_script.specs.FirstFault.{online_in, setting_in}
-use Rattle.smp_script.proofs.Faults.LineShapes.{IsQuiet, Matches, TellsLine}
-use Rattle.smp_script.proofs.Faults.RequestLines.{IsSound, line_told}
+use Rattle.smp_script.proofs.Faults.LineShapes.{IsQuiet, TellsLine}
+use Rattle.smp_script.proofs.Faults.RequestLines.{IsSound, Spells, line_told}
 use Rattle.smp_script.proofs.Faults.SharedKeys.{Agree, agree_more, agree_none, not_shares, quiet_apart, shares_told}
 use Rattle.smp_script.proofs.Faults.TitleFields.{title_told}
 use Rattle.smp_script.proofs.Faults.LabelFields.{labels_told, third_told}
@@ -144,7 +144,7 @@ past_labels n [] h = tt
 past_labels n (l ∷ ls) h = λ e. absurd (omega (arith, e))
 
 line_shapes : (setting : Setting) → IsSound setting → (n : ℕ) (line : Line) → 2 ≤ n → (n ≡ 2 → is_labels (fields_of line.text) ≡ false)
-    → TellsLine (shapes_of setting (n + 1)) (fields_of line.text) (Matches (fields_of line.text)) (line_directive setting line.text)
+    → TellsLine (shapes_of setting (n + 1)) (fields_of line.text) (Spells setting (fields_of line.text)) (line_directive setting line.text)
 unfolding line_directive
 line_shapes setting sound n line h unlabelled = elim (cases_lt 2 n) [
   | inl later ↦ rw (later_shapes setting n (omega arith)) (line_told setting sound (fields_of line.text))
@@ -176,21 +176,21 @@ quiet_line setting text n l b here few ended right s =
 
 -- a line that is read, and then the rest
 read_tells : (setting : Setting) (text : List ℕ) (l : Line) (ls : List Line) (n events : ℕ) (earlier : List Directive) (d : Directive)
-    → slice_get (lines_of text) n ≡ Some l → n + 1 ≤ 2000 → l.ended ≡ true → RightLine setting (n + 1) l (Matches (fields_of l.text)) d
+    → slice_get (lines_of text) n ≡ Some l → n + 1 ≤ 2000 → l.ended ≡ true → RightLine setting (n + 1) l (Spells setting (fields_of l.text)) d
     → Reached setting text n events earlier
     → (Reached setting text (n + 1) (events + events_of d) (earlier ++ d ∷ [])
     → TellsText setting text (directives_of setting (n + 1 + 1) (events + events_of d) (earlier ++ d ∷ []) ls))
     → TellsText setting text (after_line setting (n + 1) events earlier ls d)
 read_tells setting text l ls n events earlier d here few ended right s rest =
-    let holds = Matches (fields_of l.text) in
+    let holds = Spells setting (fields_of l.text) in
     let all = events_to text (n + 1) in
-    let more : all ≡ events + events_of d = events_more text n l here ∙ ap (λ k. events_to text n + k) right.holding.0 ∙ ap (λ k. k + events_of d) s.made in
+    let more : all ≡ events + events_of d = events_more text n l here ∙ ap (λ k. events_to text n + k) right.holding.matches.0 ∙ ap (λ k. k + events_of d) s.made in
     elim (cases_Bool (shares earlier d)) [
       | inl shared ↦
-          let is = shares_told text n l earlier d here right.holding.1 s.keys shared in
+          let is = shares_told text n l earlier d here right.holding.matches.1 s.keys shared in
           rw shared (line_first setting text n l SharedKey here s.clear (shared_first setting (n + 1) all (SharesKey text n) l holds d few ended right is))
       | inr apart ↦
-          let none = not_shares text n l earlier d here right.holding.1 s.keys apart in
+          let none = not_shares text n l earlier d here right.holding.matches.1 s.keys apart in
           elim (cases_Bool (nat_lt 100000 (events + events_of d))) [
             | inl past ↦
                 let over : 100000 < all = grind (arith, nat_tests, past, more) in
@@ -199,7 +199,7 @@ read_tells setting text l ls n events earlier d here few ended right s rest =
             | inr within ↦
                 let under : all ≤ 100000 = grind (arith, nat_tests, within, more) in
                 let clear = line_right setting text n l here s.clear (right_line setting (n + 1) all (SharesKey text n) l holds d few ended right none under) in
-                let go = rest (record { clear = clear; made = more; keys = agree_more text n l earlier d here right.holding.1 s.keys }) in
+                let go = rest (record { clear = clear; made = more; keys = agree_more text n l earlier d here right.holding.matches.1 s.keys }) in
                 rw (apart, within) (tells_then setting text (directives_of setting (n + 1 + 1) (events + events_of d) (earlier ++ d ∷ []) ls) (λ ds. d ∷ ds) go)
           ]
     ]
@@ -214,7 +214,7 @@ line_tells : (setting : Setting) → IsSound setting → (text : List ℕ) (l : 
     → TellsText setting text (at_line (n + 1) r >>= after_line setting (n + 1) events earlier ls)
 line_tells setting sound text l ls n events earlier here h unlabelled few ended s rest (Err cause) e =
     line_first setting text n l cause here s.clear
-    (read_first setting (n + 1) (events_to text (n + 1)) (SharesKey text n) l (Matches (fields_of l.text)) (line_directive setting l.text) cause few ended
+    (read_first setting (n + 1) (events_to text (n + 1)) (SharesKey text n) l (Spells setting (fields_of l.text)) (line_directive setting l.text) cause few ended
     (line_shapes setting sound n l h unlabelled) e)
 line_tells setting sound text l ls n events earlier here h unlabelled few ended s rest (Ok d) e = search (read_right, line_shapes, read_tells, arith)
 

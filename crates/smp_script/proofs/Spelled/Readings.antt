@@ -28,7 +28,6 @@ use Rattle.smp_script.specs.Spelling.{DirectiveFits, IsSpelling, Masks, SpellLin
 use Rattle.smp_script.proofs.Texts.Decimals.{number_in-ok}
 use Rattle.smp_script.proofs.Spelled.ReadParts.{both, guarded, placed_ok, same_word}
 use Rattle.smp_script.proofs.Spelled.LineReadings.{line_fields, line_ok}
-use Rattle.smp_script.proofs.Spelled.ReplayReadings.{one_word}
 use Rattle.smp_script.proofs.Spelled.LabelReadings.{labels_ok}
 use Rattle.smp_script.proofs.Texts.Splits.{Begins, join_parts, line_back, no_line}
 use Rattle.smp_script.specs.declared.version.Version.{Version}
@@ -138,7 +137,7 @@ record AreCpus (limit : ℕ) (fields : List (List ℕ)) (table : ℕ × ℕ) : T
 
 table_ok : (limit : ℕ) (nr mask : List ℕ) (table : ℕ × ℕ) → limit ≤ NR_CPUS → table_of limit nr mask ≡ Ok table
     → AreCpus limit (codes "cpus" ∷ nr ∷ mask ∷ []) table
-table_ok limit nr mask table few h = search (both, guarded, number_in-ok, one_word, arith)
+table_ok limit nr mask table few h = search (both, guarded, number_in-ok, arith)
 
 cpus_ok : (limit : ℕ) (fields : List (List ℕ)) (table : ℕ × ℕ) → limit ≤ NR_CPUS → cpus_of limit fields ≡ Ok table → AreCpus limit fields table
 cpus_ok limit (word ∷ nr ∷ mask ∷ []) table few h =

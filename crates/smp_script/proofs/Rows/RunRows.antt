@@ -1,0 +1,190 @@
+-- The rows of a run: what its lines ask for, by their shapes.
+use Rattle.std.proofs.Common.{◌≡◌, ℕ, ◌<◌, ◌≤◌, ◌^◌, Bool, true, false, List, [], ◌∷◌, map, Result, Ok, Err, codes, refl, arith, inl, inr}
+use Rattle.std.specs.Fmt.{decimal}
+use Rattle.std.specs.List.{AllByRecursion}
+use Rattle.std.specs.Str.{bytes_eq}
+use Rattle.std.proofs.lemmas.Bool.{cases_Bool}
+use Rattle.smp_mask.specs.declared.error.Cause.{Cause}
+use Rattle.smp_mask.specs.declared.error.Cause.TheVariants.{Word}
+use Rattle.smp_mask.specs.declared.mask.TheConstants.{NR_CPUS}
+use Rattle.smp_script.specs.declared.directive.Directive.{Directive}
+use Rattle.smp_script.specs.declared.directive.Directive.TheVariants.{Do}
+use Rattle.smp_script.specs.declared.mode.Mode.TheVariants.{Run}
+use Rattle.smp_script.specs.declared.request.Request.{Request}
+use Rattle.smp_script.specs.declared.request.Request.TheVariants as request
+use Rattle.smp_script.specs.declared.request.Which.{Which}
+use Rattle.smp_script.specs.declared.request.Which.TheVariants.{All, Even, Odd}
+use Rattle.smp_script.specs.Commands.{run_line}
+use Rattle.smp_script.specs.Faults.{◌>>=◌}
+use Rattle.smp_script.specs.FieldFaults.{value_of}
+use Rattle.smp_script.specs.Requests.{among, do_of, member_of, operation_of, repeated, wait_of, which_of}
+use Rattle.smp_script.specs.Shapes.{active, bits, cpu_list, func_arg, func_info, number, operation, operations, is_one_of, switch, wait, which}
+use Rattle.smp_script.proofs.Reader.Widths.{AreCpus}
+use Rattle.smp_script.specs.Fields.{mask_of, word16, word64}
+use Rattle.smp_script.specs.Numbers.{number_in}
+use Rattle.smp_script.proofs.Rows.Forms.{ForEach, Known, of_one}
+use Rattle.smp_script.proofs.Rows.Rows.{IsRow, Row, bind_assoc, by_text, choose, cond_bind, cond_same, read_rows}
+use Rattle.smp_script.proofs.Rows.Words.{AreWords, masked, plain}
+use Rattle.smp_script.proofs.Spelled.ReadParts.{same_word}
+use Rattle.smp_script.proofs.Texts.Decimals.{value_of_decimal}
+
+abbrev pub which_in : List ℕ → Which
+which_in = by_text ((codes "all", All) ∷ (codes "even", Even) ∷ []) Odd
+
+abbrev pub waits : List ℕ → Bool
+waits w = bytes_eq w (codes "wait")
+
+-- the rows, where CPUs of masks have to be below the limit, and the CPU of the line is one of these
+abbrev pub run_rows : ℕ → ℕ → List (Row Directive)
+run_rows limit cpus =
+    record {
+      forms = operation cpus (codes "sync", bits 32 ∷ func_info);
+      make = λ do_ cpu count name dst func info. Do cpu count (request.Single true dst func info);
+    }
+    ∷ record {
+      forms = operation cpus (codes "async", bits 32 ∷ func_info);
+      make = λ do_ cpu count name dst func info. Do cpu count (request.Single false dst func info);
+    }
+    ∷ record {
+      forms = operation cpus (codes "user", number 0 1 ∷ bits 32 ∷ func_info);
+      make = λ do_ cpu count name user dst func info. Do cpu count (request.User user dst func info);
+    }
+    ∷ record {
+      forms = operation cpus (codes "any", wait ∷ cpu_list limit ∷ func_info);
+      make = λ do_ cpu count name w mask func info. Do cpu count (request.Any (waits w) mask func info);
+    }
+    ∷ record {
+      forms = operation cpus (codes "many", wait ∷ cpu_list limit ∷ func_info);
+      make = λ do_ cpu count name w mask func info. Do cpu count (request.Many (waits w) mask func info);
+    }
+    ∷ record {
+      forms = operation cpus (codes "cond", which ∷ wait ∷ cpu_list limit ∷ func_info);
+      make = λ do_ cpu count name c w mask func info. Do cpu count (request.Cond (which_in c) (waits w) mask func info);
+    }
+    ∷ record {
+      forms = operation cpus (codes "one", bits 32 ∷ func_arg);
+      make = λ do_ cpu count name dst func arg. Do cpu count (request.One dst func arg);
+    }
+    ∷ record {
+      forms = operation cpus (codes "two", bits 32 ∷ bits 32 ∷ func_arg);
+      make = λ do_ cpu count name a b func arg. Do cpu count (request.Two a b func arg);
+    }
+    ∷ record {
+      forms = operation cpus (codes "machine", active limit ∷ func_arg);
+      make = λ do_ cpu count name mask func arg. Do cpu count (request.Machine mask func arg);
+    }
+    ∷ record {
+      forms = operation cpus (codes "set", bits 32 ∷ switch ∷ []);
+      make = λ do_ cpu count name key on. Do cpu count (request.Set key (bytes_eq on (codes "on")));
+    }
+    ∷ record { forms = operation cpus (codes "inc", bits 32 ∷ []); make = λ do_ cpu count name key. Do cpu count (request.Inc key) }
+    ∷ record { forms = operation cpus (codes "dec", bits 32 ∷ []); make = λ do_ cpu count name key. Do cpu count (request.Dec key) }
+    ∷ []
+
+abbrev names : ℕ → List (List ℕ)
+names limit = map (λ op. op.0) (operations limit)
+
+-- a line is read by its row
+abbrev ByRow : ℕ → ℕ → List (List ℕ) → Result Directive Cause → Type 0
+ByRow limit cpus fields read = read ≡ read_rows (run_rows limit cpus) fields
+
+abbrev Named : ℕ → ℕ → List ℕ → List ℕ → List (List ℕ) → List ℕ → Type 0
+Named limit cpus cpu count arguments name =
+    ByRow limit cpus (codes "do" ∷ cpu ∷ count ∷ name ∷ arguments) (operation_of limit name arguments >>= repeated cpus cpu count)
+
+-- the two words of `cond`, and what is read after them
+two_words : (c w : List ℕ) (inner : Which → Bool → Result Request Cause) (then : Result Request Cause → Result Directive Cause)
+    (flat : Which → Bool → Result Directive Cause) → ((x : Which) (b : Bool) → then (inner x b) ≡ flat x b)
+    → ((which_of c >>= λ x. wait_of w >>= λ b. Ok (inner x b)) >>= then)
+    ≡ choose (codes "all" ∷ codes "even" ∷ codes "odd" ∷ []) c (λ t. choose (codes "wait" ∷ codes "nowait" ∷ []) w (λ u. flat (which_in t) (waits u)) (Err Word)) (Err Word)
+two_words c w inner then flat same = simp (cond_bind, same)
+
+cond_same_words : (limit cpus : ℕ) (cpu count c w m func info : List ℕ) → Named limit cpus cpu count (c ∷ w ∷ m ∷ func ∷ info ∷ []) (codes "cond")
+unfolding repeated
+cond_same_words limit cpus cpu count c w m func info =
+    two_words c w (λ x b. among (request.Cond x b) limit m func info) (repeated cpus cpu count) (λ x b.
+    member_of cpus cpu >>= λ p. number_in 1 10000 count >>= λ n. mask_of limit m >>= λ s. word16 func >>= λ f. word64 info >>= λ i.
+    Ok (Do p n (request.Cond x b s f i))) (λ x b. simp bind_assoc)
+
+named_same : (limit cpus : ℕ) (cpu count : List ℕ) (arguments : List (List ℕ)) → ForEach (Named limit cpus cpu count arguments) (names limit)
+unfolding repeated
+named_same limit cpus cpu count [] = assumption
+named_same limit cpus cpu count (a ∷ []) = simp (bind_assoc, cond_bind) assumption
+named_same limit cpus cpu count (a ∷ b ∷ []) = simp (bind_assoc, cond_bind) assumption
+named_same limit cpus cpu count (a ∷ b ∷ c ∷ []) = simp (bind_assoc, cond_bind) assumption
+named_same limit cpus cpu count (a ∷ b ∷ c ∷ d ∷ []) = (refl, (refl, (simp (bind_assoc, cond_bind), (simp (bind_assoc, cond_bind), (simp (bind_assoc, cond_bind), (refl, (refl, (simp (bind_assoc, cond_bind), (refl, (refl, (refl, (refl, tt))))))))))))
+named_same limit cpus cpu count (a ∷ b ∷ c ∷ d ∷ e ∷ []) = (refl, (refl, (refl, (refl, (refl, (cond_same_words limit cpus cpu count a b c d e, (refl, (refl, (refl, (refl, (refl, (refl, tt))))))))))))
+named_same limit cpus cpu count (a ∷ b ∷ c ∷ d ∷ e ∷ f ∷ rest) = assumption
+
+-- none of the names
+none_of : (ws : List (List ℕ)) (name : List ℕ) → is_one_of ws name ≡ false → ForEach (λ w. bytes_eq name w ≡ false) ws
+none_of [] name h = tt
+none_of (w ∷ ws) name h = (grind (arith, h), none_of ws name (grind (arith, h)))
+
+-- an operation, by its name
+operation_same : (limit cpus : ℕ) (cpu count name : List ℕ) (arguments : List (List ℕ)) → Named limit cpus cpu count arguments name
+operation_same limit cpus cpu count name arguments = elim (cases_Bool (is_one_of (names limit) name)) [
+  | inl is ↦ of_one (Named limit cpus cpu count arguments) (names limit) name (named_same limit cpus cpu count arguments) is
+  | inr none ↦
+      let n = none_of (names limit) name none in
+      simp (n.0, n.1.0, n.1.1.0, n.1.1.1.0, n.1.1.1.1.0, n.1.1.1.1.1.0, n.1.1.1.1.1.1.0, n.1.1.1.1.1.1.1.0, n.1.1.1.1.1.1.1.1.0, n.1.1.1.1.1.1.1.1.1.0, n.1.1.1.1.1.1.1.1.1.1.0, n.1.1.1.1.1.1.1.1.1.1.1.0, cond_same)
+]
+
+do_same : (limit cpus : ℕ) (rest : List (List ℕ)) → ByRow limit cpus (codes "do" ∷ rest) (do_of limit cpus rest)
+do_same limit cpus [] = refl
+do_same limit cpus (cpu ∷ []) = refl
+do_same limit cpus (cpu ∷ count ∷ []) = refl
+do_same limit cpus (cpu ∷ count ∷ name ∷ arguments) = operation_same limit cpus cpu count name arguments
+
+-- the fields of a line
+pub run_same : (limit cpus : ℕ) (word : List ℕ) (rest : List (List ℕ)) → ByRow limit cpus (word ∷ rest) (run_line limit cpus word rest)
+run_same limit cpus word rest = elim (cases_Bool (bytes_eq word (codes "do"))) [
+  | inl is ↦ rw (same_word word (codes "do") is) (do_same limit cpus rest)
+  | inr other ↦ simp (other, cond_same)
+]
+
+value32 : (n : ℕ) → n < 2 ^ 32 → value_of (decimal n) ≡ n
+value32 n small = value_of_decimal n (omega arith)
+
+-- what the rows make are such lines
+pub run_are : (limit cpus : ℕ) → AllByRecursion (IsRow (AreWords Run limit cpus)) (run_rows limit cpus)
+run_are limit cpus = (
+  record { sound = search arith; all = search (plain, arith) },
+  (
+    record { sound = search arith; all = search (plain, arith) },
+    (
+      record { sound = search arith; all = search (plain, arith) },
+      (
+        record { sound = search arith; all = search (masked 5, arith) },
+        (
+          record { sound = search arith; all = search (masked 5, arith) },
+          (
+            record { sound = search arith; all = λ cpu small on count lo hi. (search (masked 6, arith), (search (masked 6, arith), (search (masked 6, arith), tt))) },
+            (
+              record { sound = search arith; all = search (plain, arith) },
+              (
+                record { sound = search arith; all = search (plain, arith) },
+                (
+                  record { sound = search arith; all = search (masked 4, plain, arith) },
+                  (
+                    record { sound = search arith; all = search (plain, value32, arith) },
+                    (
+                      record { sound = search arith; all = search (plain, value32, arith) },
+                      (
+                        record { sound = search arith; all = search (plain, value32, arith) },
+                        tt,
+                      ),
+                    ),
+                  ),
+                ),
+              ),
+            ),
+          ),
+        ),
+      ),
+    ),
+  ),
+)
+
+pub run_known : (limit cpus : ℕ) → limit ≤ NR_CPUS → AreCpus cpus → AllByRecursion (λ row. AllByRecursion Known row.forms) (run_rows limit cpus)
+run_known limit cpus few are = assumption
