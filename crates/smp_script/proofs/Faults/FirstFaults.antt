@@ -132,7 +132,7 @@ tells_then setting text (Ok x) f t = t
 tells_then setting text (Err e) f t = t
 
 later_shapes : (setting : Setting) (n : ℕ) → 3 ≤ n → shapes_of setting (n + 1) ≡ requests setting
-later_shapes setting n h = search (false, nat_tests, arith)
+later_shapes setting n h = search (nat_tests, arith)
 
 -- line 3 is no labels line
 abbrev NoLabels : ℕ → List Line → Type 0

@@ -105,7 +105,7 @@ past_all setting n events shared line shape s under k cause far (past_events f) 
 all_clean : (setting : Setting) (n events : ℕ) (shared : Type 0) (line : Line) (shape : List Form) → n ≤ 2000 → line.ended ≡ true
     → shape_of setting n (fields_of line.text) ≡ Some shape → Clean shape (fields_of line.text) (length shape) → (shared → ⊥) → events ≤ 100000
     → (k : ℕ) (cause : Cause) → LineFault setting n events shared line k cause → ⊥
-all_clean setting n events shared line shape h e s clean apart under k cause f = search (cases_lt, length, clean_past, past_all, arith)
+all_clean setting n events shared line shape h e s clean apart under k cause f = search (cases_lt, clean_past, past_all, arith)
 
 -- the first fault of a line that is not read
 shape_first : (setting : Setting) (n events : ℕ) (shared : Type 0) (line : Line) (shape : List Form) (cause : Cause) → n ≤ 2000 → line.ended ≡ true

@@ -1,5 +1,5 @@
 -- The mask of the CPUs online, and what is wrong with its field.
-use Rattle.std.proofs.Common.{◌≡◌, ℕ, ◌≤◌, true, false, ◌==◌, nat_lt, List, [], ◌∷◌, length, drop, get_or, Result, Ok, Err, codes, refl, sym, ◌∙◌, inl, inr}
+use Rattle.std.proofs.Common.{◌≡◌, ℕ, ◌≤◌, true, false, ◌==◌, nat_lt, List, [], ◌∷◌, length, drop, Result, Ok, Err, codes, refl, sym, ◌∙◌, inl, inr}
 use Rattle.std.proofs.Common.{arith}
 use Rattle.std.proofs.Common.{subst}
 use Rattle.std.specs.Str.{bytes_eq}
@@ -33,11 +33,11 @@ no_members m below none cpu = elim (cases_Bool (has m cpu)) [
 ]
 
 is_outside : (nr m : ℕ) → AreCpus m → are_online nr m ≡ false → IsOutside nr m
-is_outside nr m below h = search (cases_lt, length, no_members, nat_lt, true, nat_tests, false, some_fails, get_or, item_member, arith)
+is_outside nr m below h = search (cases_lt, no_members, nat_tests, some_fails, item_member, arith)
 
 not_outside : (nr m : ℕ) → AreCpus m → are_online nr m ≡ true → IsOutside nr m → ⊥
-not_outside nr m below h (inl none) = search (none_below, false, true, arith)
-not_outside nr m below h (inr far) = search (and_parts, nat_lt, length, true, false, one_above, arith)
+not_outside nr m below h (inl none) = search (none_below, arith)
+not_outside nr m below h (inr far) = search (and_parts, one_above, arith)
 
 -- the CPUs of a list are CPUs
 are_cpus : (limit : ℕ) (text : List ℕ) (m : ℕ) → limit ≤ NR_CPUS → IsMaskOf limit text m → AreCpus m

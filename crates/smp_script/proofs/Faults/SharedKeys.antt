@@ -92,7 +92,7 @@ differ x y h e = let same = eq-eqb x y e in let bad : false ≡ true = sym (ap n
 both : (mine theirs : Option KeyUse) → is_shared mine theirs ≡ true → Both mine theirs
 both None theirs h = cc
 both (Some one) None h = cc
-both (Some one) (Some other) h = search (and_parts, not, eqb-true, differ, arith)
+both (Some one) (Some other) h = search (and_parts, eqb-true, differ, arith)
 
 -- a line that shares its key with one that was read does so in the text
 pub shares_told : (text : List ℕ) (n : ℕ) (line : Line) (earlier : List Directive) (d : Directive) → slice_get (lines_of text) n ≡ Some line

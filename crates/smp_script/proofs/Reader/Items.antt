@@ -1,5 +1,5 @@
 -- The items of a labels line.
-use Rattle.std.proofs.Common.{◌≡◌, ℕ, ◌<◌, ◌≤◌, Bool, true, false, nat_lt, nat_le, arith, rules, All, ◌&&◌, List, [], ◌∷◌, map, Option, Some, None, Ok, Err}
+use Rattle.std.proofs.Common.{◌≡◌, ℕ, ◌<◌, ◌≤◌, Bool, true, false, arith, rules, All, ◌&&◌, List, [], ◌∷◌, map, Option, Some, None, Ok, Err}
 use Rattle.std.proofs.Common.{length, codes, refl, sym, ap, ◌∙◌}
 use Rattle.std.specs.List.{join_with_byte, list_all}
 use Rattle.std.specs.Str.{bytes_eq}
@@ -30,7 +30,7 @@ no_branch key rest h0 h1 = search (first_of, parts_no_branch, arith)
 
 below_known : (keys : ℕ) (item : Option Item) → keys ≤ MOST_KEYS → is_among keys item ≡ true → (entry_in item).key < keys
 below_known keys None few h = cc
-below_known keys (Some (text, branch)) few h = search (and_parts, nat_lt, nat_tests, nat_le, true, arith)
+below_known keys (Some (text, branch)) few h = search (and_parts, nat_tests, arith)
 
 -- entries of items whose keys are below a number are below it
 pub entries_below : (keys : ℕ) (items : List (List ℕ)) → keys ≤ MOST_KEYS → list_all (is_below keys) items ≡ true → All (λ e. e.key < keys) (map entry_of items)
@@ -44,15 +44,15 @@ entries_below keys (i ∷ is) few h =
 -- more items than a table has sites
 pub many_items : {X : Type 0} (f : X → List ℕ) (keys : ℕ) (xs : List X) → list_all (λ x. has_number (f x)) xs ≡ true → MOST_SITES < length xs
     → Err Range ≡ entries_in keys (map f xs)
-many_items f keys xs numbers many = search (map, true, all_map, length, length-map, nat_lt, nat_tests, arith)
+many_items f keys xs numbers many = search (all_map, length-map, nat_tests, arith)
 
 -- the items of a lawful map
 pub good_items : {X : Type 0} (f : X → List ℕ) (keys : ℕ) (xs : List X) → list_all (λ x. has_number (f x)) xs ≡ true → length xs ≤ MOST_SITES
     → list_all (λ x. is_below keys (f x)) xs ≡ true
     → entries_in keys (map f xs) ≡ Ok (record { keys = keys; entries = map entry_of (map f xs) })
-good_items f keys xs numbers few below = search (map, true, all_map, length, length-map, nat_lt, false, nat_tests, arith)
+good_items f keys xs numbers few below = search (all_map, length-map, nat_tests, arith)
 
 -- they make a map
 pub make_labels : {X : Type 0} (f : X → List ℕ) (keys : ℕ) (xs : List X) → keys ≤ MOST_KEYS → length xs ≤ MOST_SITES
     → list_all (λ x. is_below keys (f x)) xs ≡ true → AreLabels keys (map entry_of (map f xs))
-make_labels f keys xs few_keys few below = search (map, true, all_map, length-map, entries_below, arith)
+make_labels f keys xs few_keys few below = search (all_map, length-map, entries_below, arith)

@@ -72,17 +72,17 @@ one_above nr mask (suc k) cpu h member above = elim (cases_lt cpu k) [
 
 -- a mask stays below a limit exactly where all its members do
 pub member_below : (limit m : ℕ) → AreCpus m → stays_below limit m ≡ true → (cpu : ℕ) → has m cpu ≡ true → cpu < limit
-member_below limit m cpus h cpu on = search (cases_lt, true, false, one_above, arith)
+member_below limit m cpus h cpu on = search (cases_lt, one_above, arith)
 
 pub all_stay : (limit m : ℕ) → ((cpu : ℕ) → has m cpu ≡ true → cpu < limit) → stays_below limit m ≡ true
-all_stay limit m below = search (cases_Bool, some_fails, nat_lt, get_or, item_member, nat_tests, arith)
+all_stay limit m below = search (cases_Bool, some_fails, item_member, nat_tests, arith)
 
 items_wider : (limit : ℕ) (items : _) → limit ≤ NR_CPUS → AreItems limit items → AreItems NR_CPUS items
 items_wider limit [] few h = tt
 items_wider limit (i ∷ is) few h = ((h.0.0, omega (arith, h.0.1, few)), items_wider limit is few h.1)
 
 named_first : (i : _) (is : _) → lowest i ≤ highest i → names (i ∷ is) (highest i) ≡ true
-named_first i is up = search (nat_le, true, nat_tests, arith)
+named_first i is up = search (nat_tests, arith)
 
 named_later : (i : _) (is : _) (cpu : ℕ) → names is cpu ≡ true → names (i ∷ is) cpu ≡ true
 named_later i is cpu h = or_right (is_within cpu i) (names is cpu) h

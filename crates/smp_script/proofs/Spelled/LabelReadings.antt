@@ -77,7 +77,7 @@ field_back keys field few h = elim (cases_Bool (bytes_eq field (codes "-"))) [
 
 entries_ok : (keys : ℕ) (items : List (List ℕ)) (m : Labels) → entries_in keys items ≡ Ok m
     → (length items ≤ MOST_SITES) × (list_all (is_below keys) items ≡ true) × (record { keys = keys; entries = map entry_of items } ≡ m)
-entries_ok keys items m h = search (guarded, nat_lt, length, map, cases_Bool, nat_tests, arith)
+entries_ok keys items m h = search (guarded, cases_Bool, nat_tests, arith)
 
 -- these are the texts of a labels line
 record AreTexts (keys items : List ℕ) (m : Labels) : Type 0 where

@@ -1,5 +1,5 @@
 -- Decimal numbers, as they are written.
-use Rattle.std.proofs.Common.{◌≡◌, ℕ, ◌<◌, ◌≤◌, ◌^◌, true, false, ◌==◌, nat_le, List, [], ◌∷◌, length, get_or, Ok, refl, sym, ap, ◌∙◌}
+use Rattle.std.proofs.Common.{◌≡◌, ℕ, ◌<◌, ◌≤◌, ◌^◌, true, false, ◌==◌, List, [], ◌∷◌, length, get_or, Ok, refl, sym, ap, ◌∙◌}
 use Rattle.std.proofs.Common.{arith}
 use Rattle.std.specs.Fmt.{decimal}
 use Rattle.std.specs.List.{list_all}
@@ -21,7 +21,7 @@ own = numerals_by_fold AreDigits tells value_after (record { empty = λ n. refl;
 
 decimal_from : (ds : List ℕ) → AreDigits ds → 0 < length ds → (get_or ds 0 0 ≡ 48 → length ds ≡ 1) → is_decimal ds ≡ true
 decimal_from [] h long first = absurd (omega arith)
-decimal_from (d ∷ ds) h long first = search (cases_Bool, nat_tests, length, true, arith)
+decimal_from (d ∷ ds) h long first = search (cases_Bool, nat_tests, arith)
 
 decimal_parts : (ds : List ℕ) → is_decimal ds ≡ true → AreDigits ds × (0 < length ds) × (get_or ds 0 0 ≡ 48 → length ds ≡ 1)
 decimal_parts [] h = cc
@@ -29,14 +29,14 @@ decimal_parts (d ∷ ds) h = (grind (arith, h), omega arith, λ e. grind (arith,
 
 -- what `decimal` writes is a decimal number
 pub is_decimal-decimal : (n : ℕ) → n < 2 ^ 64 → is_decimal (decimal n) ≡ true
-is_decimal-decimal n small = search (decimal_from, digits_decimal, own, decimal_nonempty, cases_lt, first_decimal, length, decimal_digit, arith)
+is_decimal-decimal n small = search (decimal_from, digits_decimal, own, decimal_nonempty, cases_lt, first_decimal, decimal_digit, arith)
 
 pub value_of_decimal : (n : ℕ) → n < 2 ^ 64 → value_after 0 (decimal n) ≡ n
 value_of_decimal n small = digits_value-decimal own n small
 
 -- a number that is written is read
 pub number_in-decimal : (low high n : ℕ) → low ≤ n → n ≤ high → n < 2 ^ 64 → number_in low high (decimal n) ≡ Ok n
-number_in-decimal low high n above below small = search (digits_value-decimal, own, nat_le, true, nat_tests, is_decimal-decimal, arith)
+number_in-decimal low high n above below small = search (digits_value-decimal, own, nat_tests, is_decimal-decimal, arith)
 
 lacks_digits : (c : ℕ) (ds : List ℕ) → is_digit c ≡ false → AreDigits ds → lacks c ds ≡ true
 lacks_digits c [] h a = refl
@@ -51,10 +51,10 @@ decimal_lacks c n h small = lacks_digits c (decimal n) h (digits_decimal own n s
 
 -- it is a field
 pub is_field-decimal : (n : ℕ) → n < 2 ^ 64 → is_field (decimal n) ≡ true
-is_field-decimal n small = search (digits_decimal, own, length, false, nat_tests, decimal_nonempty, lacks_digits, arith)
+is_field-decimal n small = search (digits_decimal, own, nat_tests, decimal_nonempty, lacks_digits, arith)
 
 within : (low high : ℕ) (text : List ℕ) (n : ℕ) → number_in low high text ≡ Ok n → (is_decimal text ≡ true) × (value_after 0 text ≡ n) × (low ≤ n) × (n ≤ high)
-within low high text n h = search (cases_Bool, nat_le, nat_tests, arith)
+within low high text n h = search (cases_Bool, nat_tests, arith)
 
 -- a number that is read was written so
 pub number_in-ok : (low high : ℕ) (text : List ℕ) (n : ℕ) → high < 2 ^ 64 → number_in low high text ≡ Ok n → (text ≡ decimal n) × (low ≤ n) × (n ≤ high)

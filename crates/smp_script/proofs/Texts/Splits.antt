@@ -85,7 +85,7 @@ never b (l ∷ ls) h = cc
 onto_begins : (b : ℕ) (bs : List ℕ) (l : Line) (ls : List Line) (all : List Line) → (b == 10) ≡ false → all ≡ lines_of bs
     → ((m : Line) (ms : List Line) → all ≡ m ∷ ms → m.ended ≡ true → Begins bs m.text ms) → onto_line b all ≡ l ∷ ls → l.ended ≡ true
     → Begins (b ∷ bs) l.text ls
-onto_begins b bs l ls [] other e more h ended = search (false, true, head_same, arith)
+onto_begins b bs l ls [] other e more h ended = search (head_same, arith)
 onto_begins b bs l ls (m ∷ ms) other e more h ended =
     let head : record { text = b ∷ m.text; ended = m.ended } ≡ l = head_same _ _ _ _ h in
     let tail : ms ≡ ls = tail_same _ _ _ _ h in
@@ -118,4 +118,4 @@ line_back (b ∷ bs) l ls h ended = elim (cases_Bool (b == 10)) [
 -- a text with no line is empty
 pub no_line : (bs : List ℕ) → lines_of bs ≡ [] → bs ≡ []
 no_line [] h = refl
-no_line (b ∷ bs) h = search (cases_Bool, true, never, arith)
+no_line (b ∷ bs) h = search (cases_Bool, never, arith)

@@ -26,11 +26,11 @@ AreSmall entries = AllByRecursion (λ e. e.key < 4) entries
 
 -- an item is read
 item_read : (e : Entry) → e.key < 4 → item_of (item_text e) ≡ Some (decimal e.key, e.branch)
-item_read e small = search (true, decimal_lacks, cases_Bool, parts_front, arith)
+item_read e small = search (decimal_lacks, cases_Bool, parts_front, arith)
 
 -- and has no byte of another kind
 item_lacks : (c : ℕ) (e : Entry) → is_digit c ≡ false → (58 == c) ≡ false → e.key < 4 → lacks c (item_text e) ≡ true
-item_lacks c e digit colon small = search (true, decimal_lacks, false, nat_tests, cases_Bool, lacks-append, arith)
+item_lacks c e digit colon small = search (decimal_lacks, nat_tests, cases_Bool, lacks-append, arith)
 
 items_lack : (c : ℕ) (es : List Entry) → is_digit c ≡ false → (58 == c) ≡ false → AreSmall es → list_all (lacks c) (map item_text es) ≡ true
 items_lack c [] digit colon small = refl
@@ -75,7 +75,7 @@ has_number_read : (e : Entry) → e.key < 4 → has_number (item_text e) ≡ tru
 has_number_read e small = rw (item_read e small) (is_decimal-decimal e.key (omega arith))
 
 below_read : (keys : ℕ) (e : Entry) → e.key < 4 → e.key < keys → is_below keys (item_text e) ≡ true
-below_read keys e small under = search (value_of_decimal, nat_lt, true, nat_tests, item_read, is_decimal-decimal, arith)
+below_read keys e small under = search (value_of_decimal, nat_tests, item_read, is_decimal-decimal, arith)
 
 entry_read : (e : Entry) → e.key < 4 → entry_of (item_text e) ≡ e
 entry_read e small = rw (item_read e small) (rw (word_read e.key small) refl)

@@ -15,12 +15,11 @@ use Rattle.smp_script.specs.declared.setting.Setting.{Setting}
 use Rattle.smp_script.specs.Keys.{AreApart, shares}
 use Rattle.smp_script.specs.Modes.{mode_text, setting_of}
 use Rattle.smp_script.proofs.Reader.ApartKeys.{apart_at_first, apart_both}
-use Rattle.smp_script.proofs.Written.ReplayWriting.{replay_fields, replay_read}
-use Rattle.smp_script.proofs.Written.RunWriting.{run_fields, run_read}
+use Rattle.smp_script.proofs.Written.LineWriting.{line_written}
 use Rattle.smp_script.specs.Lines.{fields_of, lines_of}
 use Rattle.smp_script.specs.Fields.{mask_of}
 use Rattle.smp_script.specs.Labels.{is_labels}
-use Rattle.smp_script.specs.Commands.{directive_of, line_directive}
+use Rattle.smp_script.specs.Commands.{line_directive}
 use Rattle.smp_script.specs.Script.{Script, are_online, directives_of, events_of, first_line, labels_at, script_of, title_of, whole_cpus}
 use Rattle.smp_script.specs.Spelling.{DirectiveFits, IsSpelling, LabelsFit, Masks, SpellLine, directive_words, is_field}
 use Rattle.smp_script.specs.Spelling.{labels_before, line_before, spelled_lines}
@@ -42,24 +41,13 @@ some_words masks (Step cpu count) = omega arith
 some_words masks Show = omega arith
 some_words masks (Do cpu count request) = omega arith
 
--- the words of a line are fields, and are read as the line
-mode_fields : (mode : Mode) (limit mask : ℕ) (masks : Masks) (d : Directive) → DirectiveFits mode mask d → SpellLine limit (masks, d)
-    → list_all is_field (directive_words masks d) ≡ true
-mode_fields Replay limit mask masks d f s = replay_fields limit mask masks d f s
-mode_fields Run limit mask masks d f s = run_fields limit mask masks d f s
-
-mode_read : (mode : Mode) (limit mask : ℕ) (masks : Masks) (d : Directive) → DirectiveFits mode mask d → SpellLine limit (masks, d)
-    → directive_of (record { mode = mode; limit = limit; online = mask }) (directive_words masks d) ≡ Ok d
-mode_read Replay limit mask masks d f s = replay_read limit mask masks d f s
-mode_read Run limit mask masks d f s = run_read limit mask masks d f s
-
 -- the numbers of a line fit, as the first two lines settle
 abbrev Fits : Setting → Directive → Type 0
 Fits setting d = DirectiveFits setting.mode setting.online d
 
 words_are_fields : (setting : Setting) (masks : Masks) (d : Directive) → Fits setting d → SpellLine setting.limit (masks, d)
     → list_all is_field (directive_words masks d) ≡ true
-words_are_fields setting masks d f s = mode_fields setting.mode setting.limit setting.online masks d f s
+words_are_fields setting masks d f s = (line_written setting.mode setting.limit setting.online masks d f s).0
 
 line_read : (setting : Setting) (masks : Masks) (d : Directive) → Fits setting d → SpellLine setting.limit (masks, d)
     → line_directive setting (join_with_byte 32 (directive_words masks d)) ≡ Ok d
@@ -67,7 +55,7 @@ unfolding line_directive
 line_read setting masks d f s =
     let fields = words_are_fields setting masks d f s in
     rw (fields_back (directive_words masks d) (some_words masks d) fields, whole_fields (directive_words masks d) fields)
-    (mode_read setting.mode setting.limit setting.online masks d f s)
+    (line_written setting.mode setting.limit setting.online masks d f s).1
 
 abbrev asked : List (Masks × Directive) → List Directive
 asked lines = map (λ l. l.1) lines
@@ -99,7 +87,7 @@ lines_are_read setting n events earlier ((masks, d) ∷ lines) f s apart keys co
 cpus_are_read : (limit : ℕ) (nr online : ℕ) (mask : List ℕ) → 1 ≤ nr → nr ≤ limit → limit ≤ NR_CPUS → is_field mask ≡ true → mask_of limit mask ≡ Ok online
     → are_online nr online ≡ true
     → whole_cpus limit (codes "cpus" ∷ decimal nr ∷ mask ∷ []) ≡ Ok (nr, online)
-cpus_are_read limit nr online mask some within few field is_mask are = search (true, is_field-decimal, number_in-decimal, whole_fields, arith)
+cpus_are_read limit nr online mask some within few field is_mask are = search (is_field-decimal, number_in-decimal, whole_fields, arith)
 
 longer : (n : ℕ) → n ≤ 65536 → nat_lt 65536 n ≡ false
 longer n h = grind (arith, nat_tests)
