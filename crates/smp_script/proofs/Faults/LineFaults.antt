@@ -48,11 +48,7 @@ lines_first setting n events shared line h = record { rank = 0; fault = past_lin
 
 only_lines : (setting : Setting) (n events : ℕ) (shared : Type 0) (line : Line) → n ≤ 2000 → NoneBelow setting n events shared line 1
 only_lines setting n events shared line h k cause below (past_lines f) = omega arith
-only_lines setting n events shared line h k cause below (unended f) = omega arith
-only_lines setting n events shared line h k cause below (no_shape f) = omega arith
-only_lines setting n events shared line h k cause below (wrong_field i e w f) = omega arith
-only_lines setting n events shared line h k cause below (shared_key f) = omega arith
-only_lines setting n events shared line h k cause below (past_events f) = omega arith
+only_lines setting n events shared line h k cause below _ = omega arith
 
 pub end_first : (setting : Setting) (n events : ℕ) (shared : Type 0) (line : Line) → n ≤ 2000 → line.ended ≡ false → FirstOf setting n events shared line Cut
 end_first setting n events shared line h e = record { rank = 1; fault = unended e; least = only_lines setting n events shared line h }
@@ -60,10 +56,7 @@ end_first setting n events shared line h e = record { rank = 1; fault = unended 
 only_ends : (setting : Setting) (n events : ℕ) (shared : Type 0) (line : Line) → n ≤ 2000 → line.ended ≡ true → NoneBelow setting n events shared line 2
 only_ends setting n events shared line h e k cause below (past_lines f) = omega arith
 only_ends setting n events shared line h e k cause below (unended f) = let bad : true ≡ false = sym e ∙ f in cc
-only_ends setting n events shared line h e k cause below (no_shape f) = omega arith
-only_ends setting n events shared line h e k cause below (wrong_field i g w f) = omega arith
-only_ends setting n events shared line h e k cause below (shared_key f) = omega arith
-only_ends setting n events shared line h e k cause below (past_events f) = omega arith
+only_ends setting n events shared line h e k cause below _ = omega arith
 
 -- a line of this shape whose first fields are right
 clean_to : (setting : Setting) (n events : ℕ) (shared : Type 0) (line : Line) (shape : List Form) (i : ℕ) → n ≤ 2000 → line.ended ≡ true
@@ -74,8 +67,7 @@ clean_to setting n events shared line shape i h e s within clean k cause below (
 clean_to setting n events shared line shape i h e s within clean k cause below (unended f) = let bad : true ≡ false = sym e ∙ f in cc
 clean_to setting n events shared line shape i h e s within clean k cause below (no_shape f) = cc
 clean_to setting n events shared line shape i h e s within clean k cause below (wrong_field j {shape = other} {form = form} t w f) = search arith
-clean_to setting n events shared line shape i h e s within clean k cause below (shared_key f) = omega arith
-clean_to setting n events shared line shape i h e s within clean k cause below (past_events f) = omega arith
+clean_to setting n events shared line shape i h e s within clean k cause below _ = omega arith
 
 -- a line with nothing wrong in its fields, whose key no other CPU has
 clean_past : (setting : Setting) (n events : ℕ) (shared : Type 0) (line : Line) (shape : List Form) → n ≤ 2000 → line.ended ≡ true
@@ -94,12 +86,9 @@ clean_past setting n events shared line shape h e s clean apart k cause below (p
 -- no fault has a higher rank
 past_all : (setting : Setting) (n events : ℕ) (shared : Type 0) (line : Line) (shape : List Form) → shape_of setting n (fields_of line.text) ≡ Some shape
     → events ≤ 100000 → (k : ℕ) (cause : Cause) → 4 + length (fields_of line.text) ≤ k → LineFault setting n events shared line k cause → ⊥
-past_all setting n events shared line shape s under k cause far (past_lines f) = omega arith
-past_all setting n events shared line shape s under k cause far (unended f) = omega arith
-past_all setting n events shared line shape s under k cause far (no_shape f) = omega arith
 past_all setting n events shared line shape s under k cause far (wrong_field j {shape = other} {form = form} t w f) = search (place_within, arith)
-past_all setting n events shared line shape s under k cause far (shared_key f) = omega arith
 past_all setting n events shared line shape s under k cause far (past_events f) = omega arith
+past_all setting n events shared line shape s under k cause far _ = omega arith
 
 -- and with no event too many
 all_clean : (setting : Setting) (n events : ℕ) (shared : Type 0) (line : Line) (shape : List Form) → n ≤ 2000 → line.ended ≡ true

@@ -21,87 +21,40 @@ use Rattle.smp_script.specs.declared.setting.Setting.{Setting}
 use Rattle.smp_script.proofs.Faults.LineFaults.{place_within}
 use Rattle.smp_script.proofs.Faults.FirstFaults.{TellsText, script_tells}
 
--- a fault of the form or of the range, by one test
-one_of_two : (b : Bool) (c d : Cause) → ((c ≡ Number) × (b ≡ false)) ⊎ ((c ≡ Range) × (b ≡ true)) → ((d ≡ Number) × (b ≡ false)) ⊎ ((d ≡ Range) × (b ≡ true))
-    → c ≡ d
-one_of_two b c d (inl x) (inl y) = x.0 ∙ sym y.0
-one_of_two b c d (inl x) (inr y) = let bad : false ≡ true = sym x.1 ∙ y.1 in cc
-one_of_two b c d (inr x) (inl y) = let bad : false ≡ true = sym y.1 ∙ x.1 in cc
-one_of_two b c d (inr x) (inr y) = x.0 ∙ sym y.0
-
--- a number's fault is of its form or of its range
-is_number_fault : (low high : ℕ) (text : List ℕ) (c : Cause) → NumberFault low high text c
-    → ((c ≡ Number) × (is_decimal text ≡ false)) ⊎ ((c ≡ Range) × (is_decimal text ≡ true))
-is_number_fault low high text Number f = inl (refl, f)
-is_number_fault low high text Range f = inr (refl, f.0)
-is_number_fault low high text _ f = absurd f
-
+-- two faults of a field have one cause
 number_cause : (low high : ℕ) (text : List ℕ) (c d : Cause) → NumberFault low high text c → NumberFault low high text d → c ≡ d
-number_cause low high text c d f g = one_of_two (is_decimal text) c d (is_number_fault low high text c f) (is_number_fault low high text d g)
-
--- a mask's fault is of its form or of its CPUs
-is_online_fault : (limit nr : ℕ) (text : List ℕ) (c : Cause) → OnlineFault limit nr text c
-    → ((c ≡ Mask) × OnlineFault limit nr text Mask) ⊎ ((c ≡ Range) × OnlineFault limit nr text Range)
-is_online_fault limit nr text Mask f = inl (refl, f)
-is_online_fault limit nr text Range f = inr (refl, f)
-is_online_fault limit nr text _ f = absurd f
+number_cause low high text Number Number f g = refl
+number_cause low high text Range Range f g = refl
+number_cause low high text _ _ f g = search
 
 online_cause : (limit nr : ℕ) (text : List ℕ) (c d : Cause) → OnlineFault limit nr text c → OnlineFault limit nr text d → c ≡ d
-online_cause limit nr text c d f g = elim (is_online_fault limit nr text c f) [
-  | inl a ↦ elim (is_online_fault limit nr text d g) [
-    | inl b ↦ a.0 ∙ sym b.0
-    | inr b ↦ absurd (a.1 b.1.0 b.1.1)
-  ]
-  | inr a ↦ elim (is_online_fault limit nr text d g) [
-    | inl b ↦ absurd (b.1 a.1.0 a.1.1)
-    | inr b ↦ a.0 ∙ sym b.0
-  ]
-]
-
--- a signed number's of its form or of its range
-is_signed_fault : (text : List ℕ) (c : Cause) → SignedFault text c → ((c ≡ Number) × (is_signed text ≡ false)) ⊎ ((c ≡ Range) × (is_signed text ≡ true))
-is_signed_fault text Number f = inl (refl, f)
-is_signed_fault text Range f = inr (refl, f.0)
-is_signed_fault text _ f = absurd f
+online_cause limit nr text Mask Range f g = absurd (f g.0 g.1)
+online_cause limit nr text Range Mask f g = absurd (g f.0 f.1)
+online_cause limit nr text Mask Mask f g = refl
+online_cause limit nr text _ _ f g = search
 
 signed_cause : (text : List ℕ) (c d : Cause) → SignedFault text c → SignedFault text d → c ≡ d
-signed_cause text c d f g = one_of_two (is_signed text) c d (is_signed_fault text c f) (is_signed_fault text d g)
-
--- a mask has one kind of fault
-is_mask_fault : (limit : ℕ) (text : List ℕ) (c : Cause) → MaskFault limit text c → c ≡ Mask
-is_mask_fault limit text Mask f = refl
-is_mask_fault limit text _ f = absurd f
+signed_cause text Number Number f g = refl
+signed_cause text Range Range f g = refl
+signed_cause text _ _ f g = search
 
 mask_cause : (limit : ℕ) (text : List ℕ) (c d : Cause) → MaskFault limit text c → MaskFault limit text d → c ≡ d
-mask_cause limit text c d f g = is_mask_fault limit text c f ∙ sym (is_mask_fault limit text d g)
-
--- the items' faults are of their form or of their range
-is_items_fault : (keys : ℕ) (text : List ℕ) (c : Cause) → ItemsFault keys text c
-    → ((c ≡ Number) × (list_all has_number (items_of text) ≡ false)) ⊎ ((c ≡ Range) × (list_all has_number (items_of text) ≡ true))
-is_items_fault keys text Number f = inl (refl, f)
-is_items_fault keys text Range f = inr (refl, f.0)
-is_items_fault keys text _ f = absurd f
+mask_cause limit text Mask Mask f g = refl
+mask_cause limit text _ _ f g = search
 
 items_cause : (keys : ℕ) (text : List ℕ) (c d : Cause) → ItemsFault keys text c → ItemsFault keys text d → c ≡ d
-items_cause keys text c d f g = one_of_two (list_all has_number (items_of text)) c d (is_items_fault keys text c f) (is_items_fault keys text d g)
-
--- a stop's mask has one kind of fault
-is_active_fault : (limit : ℕ) (text : List ℕ) (c : Cause) → ActiveFault limit text c → c ≡ Mask
-is_active_fault limit text Mask f = refl
-is_active_fault limit text _ f = absurd f
+items_cause keys text Number Number f g = refl
+items_cause keys text Range Range f g = refl
+items_cause keys text _ _ f g = search
 
 active_cause : (limit : ℕ) (text : List ℕ) (c d : Cause) → ActiveFault limit text c → ActiveFault limit text d → c ≡ d
-active_cause limit text c d f g = is_active_fault limit text c f ∙ sym (is_active_fault limit text d g)
-
--- a CPU's fault is of its form or of its range
-is_member_fault : (mask : ℕ) (text : List ℕ) (c : Cause) → MemberFault mask text c
-    → ((c ≡ Number) × (is_decimal text ≡ false)) ⊎ ((c ≡ Range) × (is_decimal text ≡ true))
-is_member_fault mask text Number f = inl (refl, f)
-is_member_fault mask text Range f = inr (refl, f.0)
-is_member_fault mask text _ f = absurd f
+active_cause limit text Mask Mask f g = refl
+active_cause limit text _ _ f g = search
 
 member_cause : (mask : ℕ) (text : List ℕ) (c d : Cause) → MemberFault mask text c → MemberFault mask text d → c ≡ d
-member_cause mask text c d f g = one_of_two (is_decimal text) c d (is_member_fault mask text c f) (is_member_fault mask text d g)
+member_cause mask text Number Number f g = refl
+member_cause mask text Range Range f g = refl
+member_cause mask text _ _ f g = search
 
 field_cause : (fields : List (List ℕ)) (i : ℕ) (form : Form) (c d : Cause) → FieldFault fields i form c → FieldFault fields i form d → c ≡ d
 field_cause fields i (word w) c d f g = absurd f
@@ -118,21 +71,16 @@ field_cause fields i (online limit) c d f g = online_cause limit (value_of (fiel
 line_cause : (setting : Setting) (n events : ℕ) (shared : Type 0) (line : Line) (k m : ℕ) (c d : Cause) → k ≡ m → LineFault setting n events shared line k c
     → LineFault setting n events shared line m d → c ≡ d
 line_cause setting n events shared line k m c d e (past_lines f) (past_lines g) = refl
-line_cause setting n events shared line k m c d e (past_lines f) _ = absurd (omega (arith, e))
 line_cause setting n events shared line k m c d e (unended f) (unended g) = refl
-line_cause setting n events shared line k m c d e (unended f) _ = absurd (omega (arith, e))
 line_cause setting n events shared line k m c d e (no_shape f) (no_shape g) = refl
-line_cause setting n events shared line k m c d e (no_shape f) _ = absurd (omega (arith, e))
 line_cause setting n events shared line k m c d e (wrong_field i {shape = a} {form = v} s w f) (wrong_field j {shape = b} {form = u} t x g) = search (field_cause, arith)
 line_cause setting n events shared line k m c d e (wrong_field i {shape = a} {form = v} s w f) (past_events g) = search (place_within, arith)
 line_cause setting n events shared line k m c d e (wrong_field i {shape = a} {form = v} s w f) (shared_key g) = search (place_within, arith)
-line_cause setting n events shared line k m c d e (wrong_field i s w f) _ = absurd (omega (arith, e))
 line_cause setting n events shared line k m c d e (shared_key f) (shared_key g) = refl
 line_cause setting n events shared line k m c d e (shared_key f) (wrong_field j {shape = b} {form = u} t x g) = search (place_within, arith)
-line_cause setting n events shared line k m c d e (shared_key f) _ = absurd (omega (arith, e))
 line_cause setting n events shared line k m c d e (past_events f) (past_events g) = refl
 line_cause setting n events shared line k m c d e (past_events f) (wrong_field j {shape = b} {form = u} t x g) = search (place_within, arith)
-line_cause setting n events shared line k m c d e (past_events f) _ = absurd (omega (arith, e))
+line_cause setting n events shared line k m c d e _ _ = absurd (omega (arith, e))
 
 -- and in a text
 fault_cause : (setting : Setting) (text : List ℕ) (n k m l : ℕ) (c d : Cause) → n ≡ m → k ≡ l → IsFault setting text n k c → IsFault setting text m l d → c ≡ d

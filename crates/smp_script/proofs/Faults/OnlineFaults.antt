@@ -91,9 +91,6 @@ no_cpus limit fields empty = no_whole fields (cpus limit) refl empty
 
 cpus_shapes : (limit : ℕ) (fields : List (List ℕ)) → limit ≤ NR_CPUS → are_whole fields ≡ true
     → TellsLine (cpus limit ∷ []) fields (λ t. IsQuiet fields) (cpus_of limit fields)
-cpus_shapes limit [] few whole = shapeless refl refl
-cpus_shapes limit (a ∷ []) few whole = shapeless refl refl
-cpus_shapes limit (a ∷ b ∷ []) few whole = shapeless refl refl
 cpus_shapes limit (a ∷ nr ∷ mask ∷ []) few whole = elim (cases_Bool (bytes_eq a (codes "cpus"))) [
   | inr no_ ↦ shapeless (skips_word a (nr ∷ mask ∷ []) (codes "cpus") (drop 1 (cpus limit)) [] no_) (rw no_ refl)
   | inl yes_ ↦
@@ -101,7 +98,7 @@ cpus_shapes limit (a ∷ nr ∷ mask ∷ []) few whole = elim (cases_Bool (bytes
       let some_mask : (length mask == 0) ≡ false = grind (arith, whole) in
       rw (same_word a (codes "cpus") yes_) (shaped (cpus limit) (table_of limit nr mask) (rw (some_mask, some_nr) refl) refl (table_told limit nr mask few))
 ]
-cpus_shapes limit (a ∷ b ∷ c ∷ d ∷ rest) few whole = shapeless refl refl
+cpus_shapes limit _ few whole = shapeless refl refl
 
 -- what reading the second line tells
 pub cpus_told : (limit : ℕ) (fields : List (List ℕ)) → limit ≤ NR_CPUS

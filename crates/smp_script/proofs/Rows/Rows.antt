@@ -111,11 +111,13 @@ are_as_many [] [] = true
 are_as_many (form ∷ forms) (text ∷ texts) = are_as_many forms texts
 are_as_many _ _ = false
 
+pub cond_same : {A : Type 0} (b : Bool) (x : A) → cond b x x ≡ x
+cond_same true x = refl
+cond_same false x = refl
+
 both_tests : {X : Type 0} (a b : Bool) (x y : X) → cond a (cond b x y) y ≡ cond (b && a) x y
-both_tests true true x y = refl
-both_tests true false x y = refl
-both_tests false true x y = refl
-both_tests false false x y = refl
+both_tests a true x y = refl
+both_tests a false x y = cond_same a y
 
 -- they are those that have the shape
 pub tries_shape : {X : Type 0} (forms : List Form) (texts : List (List ℕ)) (then : List (List ℕ) → X) (or : X) → AllByRecursion Sound forms
@@ -205,10 +207,6 @@ cond_bind false r s f = refl
 pub bind_assoc : {A B C E : Type 0} (r : Result A E) (f : A → Result B E) (g : B → Result C E) → ((r >>= f) >>= g) ≡ (r >>= λ x. f x >>= g)
 bind_assoc (Ok x) f g = refl
 bind_assoc (Err e) f g = refl
-
-pub cond_same : {A : Type 0} (b : Bool) (x : A) → cond b x x ≡ x
-cond_same true x = refl
-cond_same false x = refl
 
 -- what stands beside the text, or the last
 abbrev pub by_text : {A : Type 0} → List (List ℕ × A) → A → List ℕ → A

@@ -131,10 +131,8 @@ operation_same limit cpus cpu count name arguments = elim (cases_Bool (is_one_of
 ]
 
 do_same : (limit cpus : ℕ) (rest : List (List ℕ)) → ByRow limit cpus (codes "do" ∷ rest) (do_of limit cpus rest)
-do_same limit cpus [] = refl
-do_same limit cpus (cpu ∷ []) = refl
-do_same limit cpus (cpu ∷ count ∷ []) = refl
 do_same limit cpus (cpu ∷ count ∷ name ∷ arguments) = operation_same limit cpus cpu count name arguments
+do_same limit cpus _ = refl
 
 -- the fields of a line
 pub run_same : (limit cpus : ℕ) (word : List ℕ) (rest : List (List ℕ)) → ByRow limit cpus (word ∷ rest) (run_line limit cpus word rest)

@@ -37,9 +37,7 @@ fields_back (t ∷ ts) some h = fields_join t ts h
 
 some_words : (masks : Masks) (d : Directive) → 0 < length (directive_words masks d)
 some_words masks (Start cpu command) = omega arith
-some_words masks (Step cpu count) = omega arith
-some_words masks Show = omega arith
-some_words masks (Do cpu count request) = omega arith
+some_words masks _ = omega arith
 
 -- the numbers of a line fit, as the first two lines settle
 abbrev Fits : Setting → Directive → Type 0
@@ -94,9 +92,7 @@ longer n h = grind (arith, nat_tests)
 
 not_labels : (masks : Masks) (d : Directive) → is_labels (directive_words masks d) ≡ false
 not_labels masks (Start cpu command) = refl
-not_labels masks (Step cpu count) = refl
-not_labels masks Show = refl
-not_labels masks (Do cpu count request) = refl
+not_labels masks _ = refl
 
 -- lines of a script are no labels line
 no_labels_line : (setting : Setting) (lines : List (Masks × Directive)) → AllByRecursion (Fits setting) (asked lines)
@@ -114,16 +110,14 @@ third_read setting (Some labels) lines h f s = labels_line_read labels (spelled_
 
 title_fields : (mode : Mode) (version : Version) → list_all is_field (codes "smp" ∷ version_text version ∷ mode_text mode ∷ []) ≡ true
 title_fields Replay One = refl
-title_fields Replay Two = refl
 title_fields Run One = refl
-title_fields Run Two = refl
+title_fields _ _ = refl
 
 title_read : (mode : Mode) (version : Version)
     → title_of mode (fields_of (join_with_byte 32 (codes "smp" ∷ version_text version ∷ mode_text mode ∷ []))) ≡ Ok version
 title_read Replay One = refl
-title_read Replay Two = refl
 title_read Run One = refl
-title_read Run Two = refl
+title_read _ _ = refl
 
 -- a spelling of a script is read as it
 pub spelling_is_read : (mode : Mode) (mask : List ℕ) (lines : List (Masks × Directive)) (script : Script) (text : List ℕ)
