@@ -66,10 +66,7 @@ whole_shape [] [] h e = refl
 whole_shape _ _ h e = cc
 
 pub no_whole : (fields : List (List ℕ)) (shape : List Form) → has_texts shape ≡ true → are_whole fields ≡ false → has_shape fields shape ≡ false
-no_whole fields shape h e = elim (cases_Bool (has_shape fields shape)) [
-  | inr no_ ↦ no_
-  | inl yes_ ↦ let bad : true ≡ false = sym (whole_shape fields shape h yes_) ∙ e in cc
-]
+no_whole fields shape h e = grind (cases_Bool, whole_shape, arith)
 
 -- where a field is empty, none of these shapes
 pub none_whole : (fields : List (List ℕ)) (shapes : List (List Form)) → list_all has_texts shapes ≡ true → are_whole fields ≡ false

@@ -74,8 +74,7 @@ meets : (lines : List Line) (n place : ℕ) (mine : Option KeyUse) (line : Line)
 meets [] n place mine line below there is = cc
 meets (l ∷ ls) zero place mine line below there is = absurd (omega arith)
 meets (l ∷ ls) (suc n) zero mine line below there is = search arith
-meets (l ∷ ls) (suc n) (suc place) mine line below there is =
-    rw (meets ls n place mine line (omega arith) there is) (or_true (has_shared mine l))
+meets (l ∷ ls) (suc n) (suc place) mine line below there is = grind (or_true, meets ls n place mine line (omega arith) there is, arith)
 
 -- two uses of one key by two CPUs
 record Both (mine theirs : Option KeyUse) : Type 0 where

@@ -22,7 +22,7 @@ use Rattle.smp_script.specs.FieldFaults.{value_of}
 use Rattle.smp_script.proofs.Rows.Forms.{Known}
 use Rattle.smp_script.proofs.Rows.Words.{AreWords, masked_twice, plain}
 use Rattle.smp_script.proofs.Texts.Decimals.{value_of_decimal}
-use Rattle.smp_script.proofs.Rows.Rows.{IsRow, Row, by_text, cond_bind, cond_same, read_rows}
+use Rattle.smp_script.proofs.Rows.Rows.{◌⨾◌, IsRow, Row, are_rows, by_text, cond_bind, cond_same, read_rows}
 use Rattle.smp_script.proofs.Spelled.ReadParts.{same_word}
 
 abbrev pub class_in : List ℕ → Class
@@ -115,31 +115,13 @@ step_counts n few = value_of_decimal n (omega arith)
 
 -- what the rows make are such lines
 pub replay_are : (limit mask : ℕ) → AllByRecursion (IsRow (AreWords Replay limit mask)) (replay_rows limit)
-replay_are limit mask = (
-  record { sound = omega arith; all = search (plain, arith) },
-  (
-    record { sound = omega arith; all = λ cpu a b. (λ text m read other o reads. search (masked_twice 4 5 text m other o, arith), (λ text m read other o reads. search (masked_twice 4 5 text m other o, arith), (λ text m read other o reads. search (masked_twice 4 5 text m other o, arith), tt))) },
-    (
-      record { sound = omega arith; all = search (plain, arith) },
-      (
-        record { sound = omega arith; all = search (plain, arith) },
-        (
-          record { sound = omega arith; all = search (plain, arith) },
-          (
-            record { sound = omega arith; all = search (plain, arith) },
-            (
-              record { sound = omega arith; all = search (plain, step_counts, arith) },
-              (
-                record { sound = (tt, tt); all = search (plain, arith) },
-                tt,
-              ),
-            ),
-          ),
-        ),
-      ),
-    ),
-  ),
-)
+replay_are limit mask =
+    are_rows (AreWords Replay limit mask) (replay_rows limit) (omega arith) (
+    search (plain, arith)
+    ⨾ (λ cpu a b. (λ text m read other o reads. search (masked_twice 4 5 text m other o, arith)) ⨾ (λ text m read other o reads. search (masked_twice 4 5 text m other o, arith))
+    ⨾ (λ text m read other o reads. search (masked_twice 4 5 text m other o, arith)) ⨾ tt)
+    ⨾ search (plain, arith) ⨾ search (plain, arith) ⨾ search (plain, arith) ⨾ search (plain, arith) ⨾ search (plain, step_counts, arith)
+    ⨾ search (plain, arith) ⨾ tt)
 
 pub replay_known : (limit : ℕ) → limit ≤ NR_CPUS → AllByRecursion (λ row. AllByRecursion Known row.forms) (replay_rows limit)
 replay_known limit few = assumption

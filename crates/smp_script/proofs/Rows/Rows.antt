@@ -156,8 +156,18 @@ pub record IsRow {R : Type 0} (P : List (List ℕ) → R → Type 0) (row : Row 
   pub sound : AllByRecursion Sound row.forms
   pub all : ForAll row.forms row.make P
 
+-- one row more
+infixr 15 ◌⨾◌
+pub ◌⨾◌ : {A B : Type 0} → A → B → A × B
+x ⨾ y = (x, y)
+
+pub are_rows : {R : Type 0} (P : List (List ℕ) → R → Type 0) (rows : List (Row R)) → AllByRecursion (λ row. AllByRecursion Sound row.forms) rows
+    → AllByRecursion (λ row. ForAll row.forms row.make P) rows → AllByRecursion (IsRow P) rows
+are_rows P [] sound all = tt
+are_rows P (row ∷ rows) sound all = (record { sound = sound.0; all = all.0 }, are_rows P rows sound.1 all.1)
+
 -- what was read is such
-pub tells_also : {R : Type 0} (shape : List Form) (fields : List (List ℕ)) (holds : R → Type 0) (read : Result R Cause)
+tells_also : {R : Type 0} (shape : List Form) (fields : List (List ℕ)) (holds : R → Type 0) (read : Result R Cause)
     → Tells shape fields (λ r. Unit {0}) read → ((r : R) → read ≡ Ok r → holds r) → Tells shape fields holds read
 tells_also shape fields holds (Ok r) told all = (told.0, all r refl)
 tells_also shape fields holds (Err cause) told all = told

@@ -31,26 +31,12 @@ join_byte mark b t (u ∷ us) = refl
 -- the parts, joined, are the text
 pub join_parts : (mark : ℕ) (bs : List ℕ) → join_with_byte mark (parts_of mark bs) ≡ bs
 join_parts mark [] = refl
-join_parts mark (b ∷ bs) =
-    let rest = first_of mark bs in
-    let back : join_with_byte mark (rest.part ∷ rest.others) ≡ bs = ap (join_with_byte mark) (sym rest.are) ∙ join_parts mark bs in
-    elim (cases_Bool (b == mark)) [
-      | inl same ↦
-          let here : b ≡ mark = grind (arith, nat_tests, same) in
-          rw (same, rest.are) (join_mark mark rest.part rest.others ∙ ap (λ t. mark ∷ t) back ∙ ap (λ x. x ∷ bs) (sym here))
-      | inr other ↦ rw (other, rest.are) (join_byte mark b rest.part rest.others ∙ ap (λ t. b ∷ t) back)
-    ]
+join_parts mark (b ∷ bs) = grind (first_of, cases_Bool, nat_tests, join_mark, join_byte, join_parts mark bs, arith)
 
 -- no part has such a byte
 pub parts_lack_marks : (mark : ℕ) (bs : List ℕ) → list_all (lacks mark) (parts_of mark bs) ≡ true
 parts_lack_marks mark [] = refl
-parts_lack_marks mark (b ∷ bs) =
-    let rest = first_of mark bs in
-    let others : list_all (lacks mark) (rest.part ∷ rest.others) ≡ true = ap (list_all (lacks mark)) (sym rest.are) ∙ parts_lack_marks mark bs in
-    elim (cases_Bool (b == mark)) [
-      | inl same ↦ rw same (parts_lack_marks mark bs)
-      | inr other ↦ rw (other, rest.are) (rw other others)
-    ]
+parts_lack_marks mark (b ∷ bs) = grind (first_of, cases_Bool, parts_lack_marks mark bs, arith)
 
 -- nor a byte that the text lacks
 pub parts_lack : (mark c : ℕ) (bs : List ℕ) → lacks c bs ≡ true → list_all (lacks c) (parts_of mark bs) ≡ true

@@ -60,11 +60,7 @@ which_written Even = (refl, refl)
 which_written Odd = (refl, refl)
 
 minus_field : (text : List ℕ) → is_field text ≡ true → is_field (45 ∷ text) ≡ true
-minus_field text h =
-    let p = and_parts (not (length text == 0)) (lacks 32 text && lacks 10 text) h in
-    let q = and_parts (lacks 32 text) (lacks 10 text) p.1 in
-    let long : (length (45 ∷ text) == 0) ≡ false = grind (arith, nat_tests) in
-    rw (long, q.0, q.1) refl
+minus_field text h = grind (and_parts, nat_tests, arith)
 
 signed_field : (z : ℤ) → IsAnswer z → is_field (signed_decimal z) ≡ true
 signed_field (pos n) h = is_field-decimal n (omega (arith, h))
@@ -72,16 +68,12 @@ signed_field (negsuc n) h = minus_field (decimal (suc n)) (is_field-decimal (suc
 
 plain_read : (text : List ℕ) (n : ℕ) → lacks 45 text ≡ true → number_in 0 2147483647 text ≡ Ok n → signed_of text ≡ Ok (pos n)
 plain_read [] n h e = cc
-plain_read (b ∷ bs) n h e =
-    let other : (b == 45) ≡ false = grind (arith, h) in
-    rw (other, e) refl
+plain_read (b ∷ bs) n h e = grind arith
 
 signed_read : (z : ℤ) → IsAnswer z → signed_of (signed_decimal z) ≡ Ok z
 signed_read (pos n) h = plain_read (decimal n) n (decimal_lacks 45 n refl (omega (arith, h)))
     (number_in-decimal 0 2147483647 n (omega arith) (omega (arith, h)) (omega (arith, h)))
-signed_read (negsuc n) h =
-    let read = number_in-decimal 0 2147483648 (suc n) (omega arith) (omega (arith, h)) (omega (arith, h)) in
-    rw read refl
+signed_read (negsuc n) h = grind (number_in-decimal, arith)
 
 member_read : (mask cpu : ℕ) → cpu < 2 ^ 32 → has mask cpu ≡ true → member_of mask (decimal cpu) ≡ Ok cpu
 member_read mask cpu h on = let read = number_in-decimal 0 4294967295 cpu (omega arith) (omega arith) (omega arith) in rw (read, on) refl
