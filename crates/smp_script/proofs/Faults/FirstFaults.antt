@@ -17,13 +17,14 @@ use Rattle.smp_script.specs.Modes.{setting_of}
 use Rattle.smp_script.specs.Lines.{Line, fields_of, lines_of}
 use Rattle.smp_script.specs.Faults.{Fault, ◌>>=◌, at_line}
 use Rattle.smp_script.specs.Commands.{line_directive}
-use Rattle.smp_script.specs.Script.{directives_of, events_of, first_line, labels_at, line_at, script_of, title_of, whole_cpus}
+use Rattle.smp_script.specs.Script.{Script, directives_of, events_of, first_line, labels_at, line_at, script_of, title_of, whole_cpus}
 use Rattle.smp_labels.specs.Labels.{Labels}
 use Rattle.smp_script.specs.Labels.{is_labels, whole_labels}
 use Rattle.smp_script.specs.Shapes.{requests, shapes_of}
 use Rattle.smp_script.specs.FirstFault.{IsFault, IsFirstFault, LineFault, SharesKey, past_bytes, no_line, in_line, events_in, events_to, limit_in}
 use Rattle.smp_script.specs.FirstFault.{online_in, setting_in}
 use Rattle.smp_script.proofs.Faults.LineShapes.{IsQuiet, TellsLine}
+use Rattle.smp_script.proofs.Rows.Rows.{bind_assoc}
 use Rattle.smp_script.proofs.Faults.RequestLines.{IsSound, Spells, line_told}
 use Rattle.smp_script.proofs.Faults.SharedKeys.{Agree, agree_more, agree_none, not_shares, quiet_apart, shares_told}
 use Rattle.smp_script.proofs.Faults.TitleFields.{title_told}
@@ -174,6 +175,33 @@ quiet_line setting text n l b here few ended right s =
       keys = keys;
     }
 
+-- a line of the front, and then the rest
+front_tells : {B : Type 0} (setting : Setting) (text : List ℕ) (n : ℕ) (l : Line) (read : Result B Cause) (then : B → Result Script Fault)
+    → slice_get (lines_of text) n ≡ Some l → n + 1 ≤ 2000 → l.ended ≡ true → Reached setting text n 0 []
+    → TellsLine (shapes_of setting (n + 1)) (fields_of l.text) (λ b. IsQuiet (fields_of l.text)) read
+    → ((b : B) → read ≡ Ok b → Reached setting text (n + 1) 0 [] → TellsText setting text (then b))
+    → TellsText setting text (at_line (n + 1) read >>= then)
+front_tells setting text n l (Err cause) then here few ended s told rest =
+    line_first setting text n l cause here s.clear
+    (read_first setting (n + 1) (events_to text (n + 1)) (SharesKey text n) l (λ b. IsQuiet (fields_of l.text)) (Err cause) cause few ended told refl)
+front_tells setting text n l (Ok b) then here few ended s told rest =
+    rest b refl (quiet_line setting text n l b here few ended (read_right setting (n + 1) l (λ x. IsQuiet (fields_of l.text)) (Ok b) b told refl) s)
+
+-- the line that has to stand there, and then the rest
+stands_tells : (setting : Setting) (text : List ℕ) (n : ℕ) (ls : List Line) (then : List ℕ × List Line → Result Script Fault) → drop n (lines_of text) ≡ ls
+    → n ≤ 1 → Reached setting text n 0 []
+    → ((l : Line) (rest : List Line) → Behind (lines_of text) n l rest → drop n (lines_of text) ≡ l ∷ rest → l.ended ≡ true
+    → TellsText setting text (then (l.text, rest)))
+    → TellsText setting text (line_at (n + 1) ls >>= then)
+stands_tells setting text n [] then e few s go = missing_first setting text n (none_behind (lines_of text) n e) few s.clear
+stands_tells setting text n (l ∷ ls) then e few s go =
+    let left = behind_of (lines_of text) n l ls e in
+    elim (cases_Bool l.ended) [
+      | inr open_end ↦ rw open_end (line_first setting text n l Cut left.here s.clear
+          (end_first setting (n + 1) (events_to text (n + 1)) (SharesKey text n) l (omega arith) open_end))
+      | inl ended ↦ rw ended (go l ls left e ended)
+    ]
+
 -- a line that is read, and then the rest
 read_tells : (setting : Setting) (text : List ℕ) (l : Line) (ls : List Line) (n events : ℕ) (earlier : List Directive) (d : Directive)
     → slice_get (lines_of text) n ≡ Some l → n + 1 ≤ 2000 → l.ended ≡ true → RightLine setting (n + 1) l (Spells setting (fields_of l.text)) d
@@ -250,115 +278,59 @@ script_tells_from : (mode : Mode) (version : Version) (text : List ℕ) (table :
     → Reached (setting_of mode version table.1) text n 0 [] → TellsText (setting_of mode version table.1) text (after_labels mode version table third)
 script_tells_from mode version text table third n sound first e h unlabelled s = search (lines_tell, tells_then, arith)
 
--- the labels line, and then the rest
-labels_line_tells : (mode : Mode) (version : Version) (text : List ℕ) (table : ℕ × ℕ) (l : Line) (ls : List Line)
-    → IsSound (setting_of mode version table.1) → drop 2 (lines_of text) ≡ l ∷ ls → Reached (setting_of mode version table.1) text 2 0 []
-    → is_labels (fields_of l.text) ≡ true → l.ended ≡ true → (r : Result Labels Cause) → whole_labels (fields_of l.text) ≡ r
-    → TellsText (setting_of mode version table.1) text ((at_line 3 r >>= λ labels. Ok (Some labels, ls)) >>= after_labels mode version table)
-labels_line_tells mode version text table l ls sound e s is ended (Err cause) read =
-    let setting = setting_of mode version table.1 in
-    let left = behind_of (lines_of text) 2 l ls e in
-    line_first setting text 2 l cause left.here s.clear
-    (read_first setting 3 (events_to text 3) (SharesKey text 2) l (λ m. IsQuiet (fields_of l.text)) (whole_labels (fields_of l.text)) cause
-    (omega arith) ended (labels_told setting (fields_of l.text) is) read)
-labels_line_tells mode version text table l ls sound e s is ended (Ok labels) read =
-    let setting = setting_of mode version table.1 in
-    let left = behind_of (lines_of text) 2 l ls e in
-    let right = read_right setting 3 l (λ m. IsQuiet (fields_of l.text)) (whole_labels (fields_of l.text)) labels
-    (labels_told setting (fields_of l.text) is) read in
-    script_tells_from mode version text table (Some labels, ls) 3 sound refl left.next (omega arith) (past_labels 3 ls (omega arith))
-    (quiet_line setting text 2 l labels left.here (omega arith) ended right s)
-
 -- the third line, and then the rest
 third_tells : (mode : Mode) (version : Version) (text : List ℕ) (table : ℕ × ℕ) (ls : List Line) → IsSound (setting_of mode version table.1)
     → drop 2 (lines_of text) ≡ ls → Reached (setting_of mode version table.1) text 2 0 []
     → TellsText (setting_of mode version table.1) text (labels_at ls >>= after_labels mode version table)
 third_tells mode version text table [] sound e s = script_tells_from mode version text table (None, []) 2 sound refl e (omega arith) tt s
-third_tells mode version text table (l ∷ ls) sound e s = elim (cases_Bool (is_labels (fields_of l.text))) [
-  | inr other ↦ rw other (script_tells_from mode version text table (None, l ∷ ls) 2 sound refl e (omega arith) (λ same. other) s)
-  | inl is ↦ elim (cases_Bool l.ended) [
-    | inr open_end ↦
-        let setting = setting_of mode version table.1 in
-        rw (is, open_end) (line_first setting text 2 l Cut (behind_of (lines_of text) 2 l ls e).here s.clear
-        (end_first setting 3 (events_to text 3) (SharesKey text 2) l (omega arith) open_end))
-    | inl ended ↦ rw (is, ended) (labels_line_tells mode version text table l ls sound e s is ended (whole_labels (fields_of l.text)) refl)
-  ]
-]
-
--- the second line, and then the rest; what it says of the CPUs online is what it settles
-table_tells : (mode : Mode) (version : Version) (mask : ℕ) (text : List ℕ) (l : Line) (ls : List Line) → drop 1 (lines_of text) ≡ l ∷ ls
-    → Reached (setting_of mode version mask) text 1 0 [] → l.ended ≡ true → (r : Result (ℕ × ℕ) Cause)
-    → ((table : ℕ × ℕ) → r ≡ Ok table → (mask ≡ table.1) × AreCpus table.1)
-    → whole_cpus (limit_of version) (fields_of l.text) ≡ r
-    → TellsText (setting_of mode version mask) text (at_line 2 r >>= after_table mode version ls)
-table_tells mode version mask text l ls e s ended (Err cause) settled read =
-    let setting = setting_of mode version mask in
-    let left = behind_of (lines_of text) 1 l ls e in
-    line_first setting text 1 l cause left.here s.clear
-    (read_first setting 2 (events_to text 2) (SharesKey text 1) l (λ t. IsQuiet (fields_of l.text)) (whole_cpus (limit_of version) (fields_of l.text)) cause
-    (omega arith) ended (cpus_told (limit_of version) (fields_of l.text) (limit_within version)) read)
-table_tells mode version mask text l ls e s ended (Ok table) settled read =
-    let setting = setting_of mode version mask in
-    let left = behind_of (lines_of text) 1 l ls e in
-    let right = read_right setting 2 l (λ t. IsQuiet (fields_of l.text)) (whole_cpus (limit_of version) (fields_of l.text)) table
-    (cpus_told (limit_of version) (fields_of l.text) (limit_within version)) read in
-    let known = settled table refl in
-    let stands = quiet_line setting text 1 l table left.here (omega arith) ended right s in
-    let there = third_tells mode version text table ls (record { few = limit_within version; cpus = known.1 }) left.next
-    (subst (λ m. Reached (setting_of mode version m) text 2 0 []) known.0 stands) in
-    subst (λ m. TellsText (setting_of mode version m) text (labels_at ls >>= after_labels mode version table)) (sym known.0) there
+third_tells mode version text table (l ∷ ls) sound e s =
+    let setting = setting_of mode version table.1 in
+    let left = behind_of (lines_of text) 2 l ls e in
+    elim (cases_Bool (is_labels (fields_of l.text))) [
+      | inr other ↦ rw other (script_tells_from mode version text table (None, l ∷ ls) 2 sound refl e (omega arith) (λ same. other) s)
+      | inl is ↦ elim (cases_Bool l.ended) [
+        | inr open_end ↦
+            rw (is, open_end) (line_first setting text 2 l Cut left.here s.clear
+            (end_first setting 3 (events_to text 3) (SharesKey text 2) l (omega arith) open_end))
+        | inl ended ↦ rw (is, ended, bind_assoc)
+            (front_tells setting text 2 l (whole_labels (fields_of l.text)) (λ labels. after_labels mode version table (Some labels, ls)) left.here
+            (omega arith) ended s (labels_told setting (fields_of l.text) is) (λ labels read stands.
+            script_tells_from mode version text table (Some labels, ls) 3 sound refl left.next (omega arith) (past_labels 3 ls (omega arith)) stands))
+      ]
+    ]
 
 -- the mask of the second line is that of the CPUs online
 settles : (text : List ℕ) (l : Line) (ls : List Line) (version : Version) (table : ℕ × ℕ) → drop 1 (lines_of text) ≡ l ∷ ls
     → limit_in text ≡ limit_of version → whole_cpus (limit_of version) (fields_of l.text) ≡ Ok table → (online_in text ≡ table.1) × AreCpus table.1
 settles text l ls version table e limit read = search (whole_mask, limit_within, online_told, mask_cpus, arith)
 
+-- the second line, and then the rest; what it says of the CPUs online is what it settles
 second_tells : (mode : Mode) (version : Version) (text : List ℕ) (ls : List Line) → drop 1 (lines_of text) ≡ ls → limit_in text ≡ limit_of version
     → Reached (setting_of mode version (online_in text)) text 1 0 []
     → TellsText (setting_of mode version (online_in text)) text (line_at 2 ls >>= after_second mode version)
-second_tells mode version text [] e limit s =
-    missing_first (setting_of mode version (online_in text)) text 1 (none_behind (lines_of text) 1 e) (omega arith) s.clear
-second_tells mode version text (l ∷ ls) e limit s = elim (cases_Bool l.ended) [
-  | inr open_end ↦
-      let setting = setting_of mode version (online_in text) in
-      rw open_end (line_first setting text 1 l Cut (behind_of (lines_of text) 1 l ls e).here s.clear
-      (end_first setting 2 (events_to text 2) (SharesKey text 1) l (omega arith) open_end))
-  | inl ended ↦
-      rw ended (table_tells mode version (online_in text) text l ls e s ended (whole_cpus (limit_of version) (fields_of l.text))
-      (λ table read. settles text l ls version table e limit read) refl)
-]
+second_tells mode version text ls e limit s =
+    let setting = setting_of mode version (online_in text) in
+    stands_tells setting text 1 ls (after_second mode version) e (omega arith) s (λ l rest left at ended.
+    front_tells setting text 1 l (whole_cpus (limit_of version) (fields_of l.text)) (after_table mode version rest) left.here (omega arith) ended s
+    (cpus_told (limit_of version) (fields_of l.text) (limit_within version)) (λ table read stands.
+    let known = settles text l rest version table at limit read in
+    let there = third_tells mode version text table rest (record { few = limit_within version; cpus = known.1 }) left.next
+    (subst (λ m. Reached (setting_of mode version m) text 2 0 []) known.0 stands) in
+    subst (λ m. TellsText (setting_of mode version m) text (labels_at rest >>= after_labels mode version table)) (sym known.0) there))
 
 -- the first line, and then the rest
-title_tells : (mode : Mode) (text : List ℕ) (l : Line) (ls : List Line) → drop 0 (lines_of text) ≡ l ∷ ls → Reached (setting_in mode text) text 0 0 []
-    → l.ended ≡ true → (r : Result Version Cause) → title_of mode (fields_of l.text) ≡ r
-    → TellsText (setting_in mode text) text (at_line 1 r >>= after_title mode (l.text, ls))
-title_tells mode text l ls e s ended (Err cause) read =
-    let setting = setting_in mode text in
-    let left = behind_of (lines_of text) 0 l ls e in
-    line_first setting text 0 l cause left.here s.clear
-    (read_first setting 1 (events_to text 1) (SharesKey text 0) l (λ t. IsQuiet (fields_of l.text)) (title_of mode (fields_of l.text)) cause (omega arith) ended
-    (title_told mode (fields_of l.text)) read)
-title_tells mode text l ls e s ended (Ok version) read =
-    let setting = setting_in mode text in
-    let left = behind_of (lines_of text) 0 l ls e in
-    let right = read_right setting 1 l (λ t. IsQuiet (fields_of l.text)) (title_of mode (fields_of l.text)) version (title_told mode (fields_of l.text)) read in
-    let stands = quiet_line setting text 0 l version left.here (omega arith) ended right s in
-    let limit : limit_in text ≡ limit_of version = limit_told mode text l ls version e (title_ok mode (fields_of l.text) version read) in
-    let same : setting_in mode text ≡ setting_of mode version (online_in text) =
-    ap (λ k. record { mode = mode; limit = k; online = online_in text }) limit in
-    let rest = second_tells mode version text ls left.next limit (subst (λ x. Reached x text 1 0 []) same stands) in
-    subst (λ x. TellsText x text (line_at 2 ls >>= after_second mode version)) (sym same) rest
-
 first_tells : (mode : Mode) (text : List ℕ) (ls : List Line) → lines_of text ≡ ls → Reached (setting_in mode text) text 0 0 []
     → TellsText (setting_in mode text) text (line_at 1 ls >>= after_first mode)
-first_tells mode text [] e s = missing_first (setting_in mode text) text 0 (none_behind (lines_of text) 0 e) (omega arith) s.clear
-first_tells mode text (l ∷ ls) e s = elim (cases_Bool l.ended) [
-  | inr open_end ↦
-      let setting = setting_in mode text in
-      rw open_end (line_first setting text 0 l Cut (behind_of (lines_of text) 0 l ls e).here s.clear
-      (end_first setting 1 (events_to text 1) (SharesKey text 0) l (omega arith) open_end))
-  | inl ended ↦ rw ended (title_tells mode text l ls e s ended (title_of mode (fields_of l.text)) refl)
-]
+first_tells mode text ls e s =
+    let setting = setting_in mode text in
+    stands_tells setting text 0 ls (after_first mode) e (omega arith) s (λ l rest left at ended.
+    front_tells setting text 0 l (title_of mode (fields_of l.text)) (after_title mode (l.text, rest)) left.here (omega arith) ended s
+    (title_told mode (fields_of l.text)) (λ version read stands.
+    let limit : limit_in text ≡ limit_of version = limit_told mode text l rest version at (title_ok mode (fields_of l.text) version read) in
+    let same : setting_in mode text ≡ setting_of mode version (online_in text) =
+    ap (λ k. record { mode = mode; limit = k; online = online_in text }) limit in
+    let more = second_tells mode version text rest left.next limit (subst (λ x. Reached x text 1 0 []) same stands) in
+    subst (λ x. TellsText x text (line_at 2 rest >>= after_second mode version)) (sym same) more))
 
 -- a text that is not too long has no fault as a whole
 none_long : (setting : Setting) (text : List ℕ) → length text ≤ 65536 → NoneBefore setting text 1

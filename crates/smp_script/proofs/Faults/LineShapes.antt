@@ -1,9 +1,9 @@
 -- Which shape the fields of a line have, and what reading them by that shape tells.
-use Rattle.std.proofs.Common.{◌≡◌, ℕ, ◌+◌, Bool, true, false, not, ◌&&◌, ◌==◌, List, [], ◌∷◌, length, Some, None, Result, Err, refl}
-use Rattle.std.proofs.Common.{sym, ◌∙◌, inl, inr, arith}
+use Rattle.std.proofs.Common.{◌≡◌, ℕ, ◌+◌, Bool, true, false, not, ◌==◌, List, [], ◌∷◌, length, Some, None, Result, Err, refl}
+use Rattle.std.proofs.Common.{◌∙◌, arith}
 use Rattle.std.specs.Prelude.{find, slice_get}
 use Rattle.std.specs.Str.{bytes_eq}
-use Rattle.std.proofs.lemmas.Bool.{cases_Bool, and_parts, and_right, or_cases}
+use Rattle.std.proofs.lemmas.Bool.{cases_Bool, and_parts, and_right}
 use Rattle.std.proofs.lemmas.Bool.Decides.{nat_tests}
 use Rattle.std.specs.List.{list_all}
 use Rattle.smp_mask.specs.declared.error.Cause.{Cause}
@@ -11,13 +11,11 @@ use Rattle.smp_mask.specs.declared.error.Cause.TheVariants.{Word}
 use Rattle.smp_script.specs.declared.directive.Directive.{Directive}
 use Rattle.smp_script.specs.Commands.{are_whole}
 use Rattle.smp_script.specs.Script.{events_of}
-use Rattle.smp_script.specs.Shapes.{Form, word, words, number, signed, cpu_list, online, items}
-use Rattle.smp_script.specs.Shapes.{has_shape, has_word, is_one_of}
+use Rattle.smp_script.specs.Shapes.{Form, word}
+use Rattle.smp_script.specs.Shapes.{has_shape, has_word}
 use Rattle.smp_script.specs.FirstFault.{events_in}
-use Rattle.smp_script.proofs.Spelled.ReadParts.{same_word}
 use Rattle.smp_script.proofs.Faults.FieldFaults.{Clean, Tells, passes}
 use Rattle.smp_script.specs.Keys.{key_of}
-use Rattle.smp_script.specs.Shapes.{active, member}
 use Rattle.smp_script.specs.FirstFault.{key_in}
 
 -- what reading the fields of a line tells: they have no shape, or one by which they are read

@@ -1,19 +1,15 @@
 -- A text has one first fault at most.
-use Rattle.std.proofs.Common.{◌≡◌, ℕ, Bool, true, false, List, Result, Ok, Err, ◌⊎◌, refl, sym, ◌∙◌, inl, inr, arith}
+use Rattle.std.proofs.Common.{◌≡◌, ℕ, true, List, Result, Ok, Err, refl, arith}
 use Rattle.std.specs.Prelude.{is_ok}
 use Rattle.std.proofs.lemmas.Bool.{cases_order}
 use Rattle.std.proofs.lemmas.Option.{slice_get_within}
 use Rattle.smp_mask.specs.declared.error.Cause.{Cause}
 use Rattle.smp_mask.specs.declared.error.Cause.TheVariants.{Number, Range, Mask}
 use Rattle.smp_script.specs.Lines.{Line, lines_of}
-use Rattle.smp_script.specs.Numbers.{is_decimal}
 use Rattle.smp_script.specs.Faults.{Fault}
 use Rattle.smp_script.specs.Script.{Script, script_of}
 use Rattle.smp_script.specs.Shapes.{Form, word, words, number, signed, cpu_list, active, online, member, items}
 use Rattle.smp_script.specs.FieldFaults.{field_at, value_of, ActiveFault, FieldFault, ItemsFault, MaskFault, MemberFault, NumberFault, OnlineFault, SignedFault}
-use Rattle.smp_script.specs.FieldFaults.{is_signed}
-use Rattle.smp_script.specs.Labels.{has_number, items_of}
-use Rattle.std.specs.List.{list_all}
 use Rattle.smp_script.specs.FirstFault.{LineFault, past_lines, unended, no_shape, wrong_field, shared_key, past_events, IsFault, IsFirstFault}
 use Rattle.smp_script.specs.FirstFault.{past_bytes, no_line, in_line, setting_in}
 use Rattle.smp_script.specs.declared.mode.Mode.{Mode}

@@ -8,7 +8,7 @@ use Rattle.std.proofs.lemmas.List.Sums.{sum_by-cons}
 use Rattle.smp_mask.specs.declared.mask.TheConstants.{NR_CPUS}
 use Rattle.smp_labels.specs.Labels.{Labels}
 use Rattle.smp_script.specs.declared.directive.Directive.{Directive}
-use Rattle.smp_script.specs.declared.directive.Directive.TheVariants.{Start, Step, Show, Do}
+use Rattle.smp_script.specs.declared.directive.Directive.TheVariants.{Start}
 use Rattle.smp_script.specs.declared.mode.Mode.{Mode}
 use Rattle.smp_script.specs.declared.mode.Mode.TheVariants.{Replay, Run}
 use Rattle.smp_script.specs.declared.setting.Setting.{Setting}
@@ -27,7 +27,7 @@ use Rattle.smp_script.proofs.Texts.Decimals.{is_field-decimal, number_in-decimal
 use Rattle.smp_script.proofs.Written.LabelWriting.{labels_line_read}
 use Rattle.smp_script.proofs.Texts.Joins.{fields_join, lines_of-line, whole_fields}
 use Rattle.smp_script.specs.declared.version.Version.{Version}
-use Rattle.smp_script.specs.declared.version.Version.TheVariants.{One, Two}
+use Rattle.smp_script.specs.declared.version.Version.TheVariants.{One}
 use Rattle.smp_script.specs.Versions.{limit_of, version_text}
 use Rattle.smp_script.proofs.Reader.Versions.{limit_within}
 
