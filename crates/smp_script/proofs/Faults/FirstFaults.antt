@@ -212,7 +212,8 @@ read_tells : (setting : Setting) (text : List ℕ) (l : Line) (ls : List Line) (
 read_tells setting text l ls n events earlier d here few ended right s rest =
     let holds = Spells setting (fields_of l.text) in
     let all = events_to text (n + 1) in
-    let more : all ≡ events + events_of d = events_more text n l here ∙ ap (λ k. events_to text n + k) right.holding.matches.0 ∙ ap (λ k. k + events_of d) s.made in
+    let more : all ≡ events + events_of d =
+    events_more text n l here ∙ ap (λ k. events_to text n + k) right.holding.matches.0 ∙ ap (λ k. k + events_of d) s.made in
     elim (cases_Bool (shares earlier d)) [
       | inl shared ↦
           let is = shares_told text n l earlier d here right.holding.matches.1 s.keys shared in
@@ -242,8 +243,8 @@ line_tells : (setting : Setting) → IsSound setting → (text : List ℕ) (l : 
     → TellsText setting text (at_line (n + 1) r >>= after_line setting (n + 1) events earlier ls)
 line_tells setting sound text l ls n events earlier here h unlabelled few ended s rest (Err cause) e =
     line_first setting text n l cause here s.clear
-    (read_first setting (n + 1) (events_to text (n + 1)) (SharesKey text n) l (Spells setting (fields_of l.text)) (line_directive setting l.text) cause few ended
-    (line_shapes setting sound n l h unlabelled) e)
+    (read_first setting (n + 1) (events_to text (n + 1)) (SharesKey text n) l (Spells setting (fields_of l.text)) (line_directive setting l.text) cause
+    few ended (line_shapes setting sound n l h unlabelled) e)
 line_tells setting sound text l ls n events earlier here h unlabelled few ended s rest (Ok d) e = search (read_right, line_shapes, read_tells, arith)
 
 -- the lines from the third on

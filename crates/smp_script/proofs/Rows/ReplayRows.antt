@@ -118,7 +118,8 @@ pub replay_are : (limit mask : ℕ) → AllByRecursion (IsRow (AreWords Replay l
 replay_are limit mask =
     are_rows (AreWords Replay limit mask) (replay_rows limit) (omega arith) (
     search (plain, arith)
-    ⨾ (λ cpu a b. (λ text m read other o reads. search (masked_twice 4 5 text m other o, arith)) ⨾ (λ text m read other o reads. search (masked_twice 4 5 text m other o, arith))
+    ⨾ (λ cpu a b. (λ text m read other o reads. search (masked_twice 4 5 text m other o, arith))
+    ⨾ (λ text m read other o reads. search (masked_twice 4 5 text m other o, arith))
     ⨾ (λ text m read other o reads. search (masked_twice 4 5 text m other o, arith)) ⨾ tt)
     ⨾ search (plain, arith) ⨾ search (plain, arith) ⨾ search (plain, arith) ⨾ search (plain, arith) ⨾ search (plain, step_counts, arith)
     ⨾ search (plain, arith) ⨾ tt)
