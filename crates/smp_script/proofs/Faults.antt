@@ -8,8 +8,6 @@ pub mod LineShapes
 pub mod TitleFields
 pub mod OnlineFaults
 pub mod LabelFields
-pub mod ReplayShapes
-pub mod RunShapes
 pub mod RequestLines
 pub mod LineFaults
 -- the text

@@ -2,6 +2,8 @@
 pub mod Texts
 -- what the functions that read rest on
 pub mod Reader
+-- lines by their rows: a shape, and what is made of its fields
+pub mod Rows
 -- a script as it is written reads back
 pub mod Written
 -- a text that reads as a script is one as it is written

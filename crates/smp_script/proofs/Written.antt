@@ -1,5 +1,4 @@
 pub mod LabelWriting
-pub mod ReplayWriting
-pub mod RunWriting
+pub mod LineWriting
 pub mod Writing
 pub mod CanonicalTexts

@@ -1,5 +1,5 @@
 -- Fields, read from left to right up to the first at fault.
-use Rattle.std.proofs.Common.{◌≡◌, ℕ, ◌+◌, ◌<◌, ◌≤◌, true, false, nat_le, List, length, Some, Result, Ok, Err, refl, sym, ◌∙◌, inl, inr, arith, subst}
+use Rattle.std.proofs.Common.{◌≡◌, ℕ, ◌+◌, ◌<◌, ◌≤◌, true, false, nat_le, List, length, Some, Result, Ok, Err, refl, sym, ◌∙◌, inl, inr, arith}
 use Rattle.std.specs.Prelude.{slice_get}
 use Rattle.std.proofs.lemmas.Bool.{cases_lt, cases_Bool}
 use Rattle.std.proofs.lemmas.Bool.Decides.{nat_tests}
@@ -33,14 +33,7 @@ none_yet shape fields i form cause h e f = absurd (omega arith)
 -- a field with nothing wrong
 pub passes : (shape : List Form) (fields : List (List ℕ)) (i : ℕ) (form : Form) → slice_get shape i ≡ Some form
     → ((cause : Cause) → FieldFault fields i form cause → ⊥) → Clean shape fields i → Clean shape fields (i + 1)
-passes shape fields i form wants right clean j other cause h e f = elim (cases_lt j i) [
-  | inl below ↦ clean j other cause below e f
-  | inr at ↦
-      let same : j ≡ i = omega arith in
-      let e' : slice_get shape i ≡ Some other = subst (λ k. slice_get shape k ≡ Some other) same e in
-      let one : other ≡ form = cc in
-      right cause (subst (λ x. FieldFault fields i x cause) one (subst (λ k. FieldFault fields k other cause) same f))
-]
+passes shape fields i form wants right clean j other cause h e f = grind (cases_lt, arith)
 
 -- a number is read, or what is wrong with it
 pub data NumberRead (low high : ℕ) (text : List ℕ) : Type 0 where
@@ -79,29 +72,30 @@ pub reads_number : {B : Type 0} (shape : List Form) (fields : List (List ℕ)) (
     → slice_get shape i ≡ Some (number low high) → Clean shape fields i
     → (Clean shape fields (i + 1) → Tells shape fields holds (then (value_of (field_at fields i))))
     → Tells shape fields holds (number_in low high (field_at fields i) >>= then)
-reads_number shape fields holds i low high then wants clean more = elim (number_read low high (field_at fields i)) [
-  | is_wrong cause e f ↦ rw e (record { place = i; form = number low high; wants = wants; wrong = f; before = clean })
-  | is_read good e right ↦ rw e (more (passes shape fields i (number low high) wants right clean))
-]
+reads_number shape fields holds i low high then wants clean more = grind (number_read, passes, arith)
 
 -- a field is read, or what is wrong with it
 pub data Judged {A : Type 0} (Wrong : Cause → Type 0) (read : Result A Cause) : Type 0 where
   fine : (x : A) → read ≡ Ok x → ((cause : Cause) → Wrong cause → ⊥) → Judged Wrong read
   faulty : (cause : Cause) → read ≡ Err cause → Wrong cause → Judged Wrong read
 
+pub number_judged : (low high : ℕ) (text : List ℕ) → Judged (NumberFault low high text) (number_in low high text)
+number_judged low high text = elim (number_read low high text) [
+  | is_read good e right ↦ fine (value_of text) e right
+  | is_wrong cause e f ↦ faulty cause e f
+]
+
 -- a field of this form, and what is read after it
 pub reads_field : {A B : Type 0} (shape : List Form) (fields : List (List ℕ)) (holds : B → Type 0) (i : ℕ) (form : Form) (read : Result A Cause)
     (then : A → Result B Cause) → slice_get shape i ≡ Some form → Clean shape fields i
     → Judged (FieldFault fields i form) read → ((x : A) → Clean shape fields (i + 1) → Tells shape fields holds (then x))
     → Tells shape fields holds (read >>= then)
-reads_field shape fields holds i form read then wants clean (faulty cause e f) more =
-    rw e (record { place = i; form = form; wants = wants; wrong = f; before = clean })
+reads_field shape fields holds i form read then wants clean (faulty cause e f) more = grind arith
 reads_field shape fields holds i form read then wants clean (fine x e right) more = rw e (more x (passes shape fields i form wants right clean))
 
 -- the last field
 pub reads_last : {A : Type 0} (shape : List Form) (fields : List (List ℕ)) (holds : A → Type 0) (i : ℕ) (form : Form) (read : Result A Cause)
     → slice_get shape i ≡ Some form → Clean shape fields i → length shape ≡ i + 1
     → ((x : A) → holds x) → Judged (FieldFault fields i form) read → Tells shape fields holds read
-reads_last shape fields holds i form read wants clean all hold (faulty cause e f) =
-    rw e (record { place = i; form = form; wants = wants; wrong = f; before = clean })
+reads_last shape fields holds i form read wants clean all hold (faulty cause e f) = grind arith
 reads_last shape fields holds i form read wants clean all hold (fine x e right) = rw e (rw all (passes shape fields i form wants right clean), hold x)

@@ -1,5 +1,5 @@
 -- The first fault of a text, line by line.
-use Rattle.std.proofs.Common.{◌≡◌, ℕ, zero, suc, ◌+◌, ◌<◌, ◌≤◌, true, false, nat_lt, ◌==◌, List, [], ◌∷◌, ◌++◌, length, drop, get_or, Option, Some, None}
+use Rattle.std.proofs.Common.{◌≡◌, ℕ, zero, suc, ◌+◌, ◌<◌, ◌≤◌, true, false, nat_lt, List, [], ◌∷◌, ◌++◌, length, drop, get_or, Option, Some, None}
 use Rattle.std.proofs.Common.{Result, Ok}
 use Rattle.std.proofs.Common.{Err, refl, sym, ap, ◌∙◌, inl, inr, arith, subst, add-one}
 use Rattle.std.specs.Prelude.{slice_get}
@@ -17,21 +17,21 @@ use Rattle.smp_script.specs.Modes.{setting_of}
 use Rattle.smp_script.specs.Lines.{Line, fields_of, lines_of}
 use Rattle.smp_script.specs.Faults.{Fault, ◌>>=◌, at_line}
 use Rattle.smp_script.specs.Commands.{line_directive}
-use Rattle.smp_script.specs.Script.{directives_of, events_of, first_line, labels_at, line_at, script_of, title_of, whole_cpus}
+use Rattle.smp_script.specs.Script.{Script, directives_of, events_of, first_line, labels_at, line_at, script_of, title_of, whole_cpus}
 use Rattle.smp_labels.specs.Labels.{Labels}
 use Rattle.smp_script.specs.Labels.{is_labels, whole_labels}
 use Rattle.smp_script.specs.Shapes.{requests, shapes_of}
 use Rattle.smp_script.specs.FirstFault.{IsFault, IsFirstFault, LineFault, SharesKey, past_bytes, no_line, in_line, events_in, events_to, limit_in}
 use Rattle.smp_script.specs.FirstFault.{online_in, setting_in}
-use Rattle.smp_script.proofs.Faults.LineShapes.{IsQuiet, Matches, TellsLine}
-use Rattle.smp_script.proofs.Faults.RequestLines.{IsSound, line_told}
+use Rattle.smp_script.proofs.Faults.LineShapes.{IsQuiet, TellsLine}
+use Rattle.smp_script.proofs.Rows.Rows.{bind_assoc}
+use Rattle.smp_script.proofs.Faults.RequestLines.{IsSound, Spells, line_told}
 use Rattle.smp_script.proofs.Faults.SharedKeys.{Agree, agree_more, agree_none, not_shares, quiet_apart, shares_told}
 use Rattle.smp_script.proofs.Faults.TitleFields.{title_told}
 use Rattle.smp_script.proofs.Faults.LabelFields.{labels_told, third_told}
 use Rattle.smp_script.proofs.Faults.OnlineFaults.{cpus_told, mask_cpus}
 use Rattle.smp_script.proofs.Faults.LineFaults.{FirstOf, RightLine, end_first, events_first, lines_first, read_first, read_right, right_line, shared_first}
 use Rattle.smp_script.proofs.Spelled.Readings.{after_first, after_labels, after_line, after_second, after_table, after_title, title_ok, whole_mask}
-use Rattle.smp_script.specs.FieldFaults.{field_at}
 use Rattle.smp_script.proofs.Reader.Widths.{AreCpus}
 use Rattle.smp_script.specs.declared.version.Version.{Version}
 use Rattle.smp_script.specs.Versions.{limit_of}
@@ -51,12 +51,7 @@ in_that_line : (setting : Setting) (text : List ℕ) (n : ℕ) (line : Line) →
     → IsFault setting text m k cause → LineFault setting (n + 1) (events_to text (n + 1)) (SharesKey text n) line k cause
 in_that_line setting text n line here m k cause e (past_bytes f) = absurd (omega (arith, e))
 in_that_line setting text n line here m k cause e (no_line short few) = absurd (omega (arith, e, short, slice_get_within (lines_of text) n line here))
-in_that_line setting text n line here m k cause e (in_line n' {line = other} found f) =
-    let same : n' ≡ n = omega (arith, e) in
-    let there : slice_get (lines_of text) n ≡ Some other = subst (λ i. slice_get (lines_of text) i ≡ Some other) same found in
-    let one : other ≡ line = cc in
-    subst (λ l. LineFault setting (n + 1) (events_to text (n + 1)) (SharesKey text n) l k cause) one
-    (subst (λ i. LineFault setting (i + 1) (events_to text (i + 1)) (SharesKey text i) other k cause) same f)
+in_that_line setting text n line here m k cause e (in_line n' {line = other} found f) = search arith
 
 -- the first fault of a line is that of the text where no line before has one
 line_first : (setting : Setting) (text : List ℕ) (n : ℕ) (line : Line) (cause : Cause) → slice_get (lines_of text) n ≡ Some line
@@ -104,10 +99,7 @@ none_after setting text n short long m k cause after (in_line n' {line = other} 
 
 ends_right : (setting : Setting) (text : List ℕ) (n : ℕ) → length (lines_of text) ≤ n → 2 ≤ n → NoneBefore setting text (n + 1) → (m k : ℕ) (cause : Cause)
     → IsFault setting text m k cause → ⊥
-ends_right setting text n short long none m k cause f = elim (cases_lt m (n + 1)) [
-  | inl before ↦ none m k cause before f
-  | inr after ↦ none_after setting text n short long m k cause (omega arith) f
-]
+ends_right setting text n short long none m k cause f = search (cases_lt, none_after, arith)
 
 -- what is left of a list
 record Behind {A : Type 0} (xs : List A) (n : ℕ) (x : A) (rest : List A) : Type 0 where
@@ -141,11 +133,7 @@ tells_then setting text (Ok x) f t = t
 tells_then setting text (Err e) f t = t
 
 later_shapes : (setting : Setting) (n : ℕ) → 3 ≤ n → shapes_of setting (n + 1) ≡ requests setting
-later_shapes setting n h =
-    let one : (n + 1 == 1) ≡ false = grind (arith, nat_tests) in
-    let two : (n + 1 == 2) ≡ false = grind (arith, nat_tests) in
-    let three : (n + 1 == 3) ≡ false = grind (arith, nat_tests) in
-    rw (one, two, three) refl
+later_shapes setting n h = search (nat_tests, arith)
 
 -- line 3 is no labels line
 abbrev NoLabels : ℕ → List Line → Type 0
@@ -157,7 +145,7 @@ past_labels n [] h = tt
 past_labels n (l ∷ ls) h = λ e. absurd (omega (arith, e))
 
 line_shapes : (setting : Setting) → IsSound setting → (n : ℕ) (line : Line) → 2 ≤ n → (n ≡ 2 → is_labels (fields_of line.text) ≡ false)
-    → TellsLine (shapes_of setting (n + 1)) (fields_of line.text) (Matches (fields_of line.text)) (line_directive setting line.text)
+    → TellsLine (shapes_of setting (n + 1)) (fields_of line.text) (Spells setting (fields_of line.text)) (line_directive setting line.text)
 unfolding line_directive
 line_shapes setting sound n line h unlabelled = elim (cases_lt 2 n) [
   | inl later ↦ rw (later_shapes setting n (omega arith)) (line_told setting sound (fields_of line.text))
@@ -187,23 +175,51 @@ quiet_line setting text n l b here few ended right s =
       keys = keys;
     }
 
+-- a line of the front, and then the rest
+front_tells : {B : Type 0} (setting : Setting) (text : List ℕ) (n : ℕ) (l : Line) (read : Result B Cause) (then : B → Result Script Fault)
+    → slice_get (lines_of text) n ≡ Some l → n + 1 ≤ 2000 → l.ended ≡ true → Reached setting text n 0 []
+    → TellsLine (shapes_of setting (n + 1)) (fields_of l.text) (λ b. IsQuiet (fields_of l.text)) read
+    → ((b : B) → read ≡ Ok b → Reached setting text (n + 1) 0 [] → TellsText setting text (then b))
+    → TellsText setting text (at_line (n + 1) read >>= then)
+front_tells setting text n l (Err cause) then here few ended s told rest =
+    line_first setting text n l cause here s.clear
+    (read_first setting (n + 1) (events_to text (n + 1)) (SharesKey text n) l (λ b. IsQuiet (fields_of l.text)) (Err cause) cause few ended told refl)
+front_tells setting text n l (Ok b) then here few ended s told rest =
+    rest b refl (quiet_line setting text n l b here few ended (read_right setting (n + 1) l (λ x. IsQuiet (fields_of l.text)) (Ok b) b told refl) s)
+
+-- the line that has to stand there, and then the rest
+stands_tells : (setting : Setting) (text : List ℕ) (n : ℕ) (ls : List Line) (then : List ℕ × List Line → Result Script Fault) → drop n (lines_of text) ≡ ls
+    → n ≤ 1 → Reached setting text n 0 []
+    → ((l : Line) (rest : List Line) → Behind (lines_of text) n l rest → drop n (lines_of text) ≡ l ∷ rest → l.ended ≡ true
+    → TellsText setting text (then (l.text, rest)))
+    → TellsText setting text (line_at (n + 1) ls >>= then)
+stands_tells setting text n [] then e few s go = missing_first setting text n (none_behind (lines_of text) n e) few s.clear
+stands_tells setting text n (l ∷ ls) then e few s go =
+    let left = behind_of (lines_of text) n l ls e in
+    elim (cases_Bool l.ended) [
+      | inr open_end ↦ rw open_end (line_first setting text n l Cut left.here s.clear
+          (end_first setting (n + 1) (events_to text (n + 1)) (SharesKey text n) l (omega arith) open_end))
+      | inl ended ↦ rw ended (go l ls left e ended)
+    ]
+
 -- a line that is read, and then the rest
 read_tells : (setting : Setting) (text : List ℕ) (l : Line) (ls : List Line) (n events : ℕ) (earlier : List Directive) (d : Directive)
-    → slice_get (lines_of text) n ≡ Some l → n + 1 ≤ 2000 → l.ended ≡ true → RightLine setting (n + 1) l (Matches (fields_of l.text)) d
+    → slice_get (lines_of text) n ≡ Some l → n + 1 ≤ 2000 → l.ended ≡ true → RightLine setting (n + 1) l (Spells setting (fields_of l.text)) d
     → Reached setting text n events earlier
     → (Reached setting text (n + 1) (events + events_of d) (earlier ++ d ∷ [])
     → TellsText setting text (directives_of setting (n + 1 + 1) (events + events_of d) (earlier ++ d ∷ []) ls))
     → TellsText setting text (after_line setting (n + 1) events earlier ls d)
 read_tells setting text l ls n events earlier d here few ended right s rest =
-    let holds = Matches (fields_of l.text) in
+    let holds = Spells setting (fields_of l.text) in
     let all = events_to text (n + 1) in
-    let more : all ≡ events + events_of d = events_more text n l here ∙ ap (λ k. events_to text n + k) right.holding.0 ∙ ap (λ k. k + events_of d) s.made in
+    let more : all ≡ events + events_of d =
+    events_more text n l here ∙ ap (λ k. events_to text n + k) right.holding.matches.0 ∙ ap (λ k. k + events_of d) s.made in
     elim (cases_Bool (shares earlier d)) [
       | inl shared ↦
-          let is = shares_told text n l earlier d here right.holding.1 s.keys shared in
+          let is = shares_told text n l earlier d here right.holding.matches.1 s.keys shared in
           rw shared (line_first setting text n l SharedKey here s.clear (shared_first setting (n + 1) all (SharesKey text n) l holds d few ended right is))
       | inr apart ↦
-          let none = not_shares text n l earlier d here right.holding.1 s.keys apart in
+          let none = not_shares text n l earlier d here right.holding.matches.1 s.keys apart in
           elim (cases_Bool (nat_lt 100000 (events + events_of d))) [
             | inl past ↦
                 let over : 100000 < all = grind (arith, nat_tests, past, more) in
@@ -212,7 +228,7 @@ read_tells setting text l ls n events earlier d here few ended right s rest =
             | inr within ↦
                 let under : all ≤ 100000 = grind (arith, nat_tests, within, more) in
                 let clear = line_right setting text n l here s.clear (right_line setting (n + 1) all (SharesKey text n) l holds d few ended right none under) in
-                let go = rest (record { clear = clear; made = more; keys = agree_more text n l earlier d here right.holding.1 s.keys }) in
+                let go = rest (record { clear = clear; made = more; keys = agree_more text n l earlier d here right.holding.matches.1 s.keys }) in
                 rw (apart, within) (tells_then setting text (directives_of setting (n + 1 + 1) (events + events_of d) (earlier ++ d ∷ []) ls) (λ ds. d ∷ ds) go)
           ]
     ]
@@ -227,11 +243,9 @@ line_tells : (setting : Setting) → IsSound setting → (text : List ℕ) (l : 
     → TellsText setting text (at_line (n + 1) r >>= after_line setting (n + 1) events earlier ls)
 line_tells setting sound text l ls n events earlier here h unlabelled few ended s rest (Err cause) e =
     line_first setting text n l cause here s.clear
-    (read_first setting (n + 1) (events_to text (n + 1)) (SharesKey text n) l (Matches (fields_of l.text)) (line_directive setting l.text) cause few ended
-    (line_shapes setting sound n l h unlabelled) e)
-line_tells setting sound text l ls n events earlier here h unlabelled few ended s rest (Ok d) e =
-    let right = read_right setting (n + 1) l (Matches (fields_of l.text)) (line_directive setting l.text) d (line_shapes setting sound n l h unlabelled) e in
-    read_tells setting text l ls n events earlier d here few ended right s (rest d)
+    (read_first setting (n + 1) (events_to text (n + 1)) (SharesKey text n) l (Spells setting (fields_of l.text)) (line_directive setting l.text) cause
+    few ended (line_shapes setting sound n l h unlabelled) e)
+line_tells setting sound text l ls n events earlier here h unlabelled few ended s rest (Ok d) e = search (read_right, line_shapes, read_tells, arith)
 
 -- the lines from the third on
 lines_tell : (setting : Setting) → IsSound setting → (text : List ℕ) (ls : List Line) (n events : ℕ) (earlier : List Directive)
@@ -263,124 +277,61 @@ lines_tell setting sound text (l ∷ ls) n events earlier e h unlabelled s =
 script_tells_from : (mode : Mode) (version : Version) (text : List ℕ) (table : ℕ × ℕ) (third : Option Labels × List Line) (n : ℕ)
     → IsSound (setting_of mode version table.1) → first_line third.0 ≡ n + 1 → drop n (lines_of text) ≡ third.1 → 2 ≤ n → NoLabels n third.1
     → Reached (setting_of mode version table.1) text n 0 [] → TellsText (setting_of mode version table.1) text (after_labels mode version table third)
-script_tells_from mode version text table third n sound first e h unlabelled s =
-    let setting = setting_of mode version table.1 in
-    let body = lines_tell setting sound text third.1 n 0 [] e h unlabelled s in
-    let there : TellsText setting text (directives_of setting (first_line third.0) 0 [] third.1) = rw first body in
-    tells_then setting text (directives_of setting (first_line third.0) 0 [] third.1)
-    (λ ds. record { version = version; nr = table.0; online = table.1; labels = third.0; directives = ds }) there
-
--- the labels line, and then the rest
-labels_line_tells : (mode : Mode) (version : Version) (text : List ℕ) (table : ℕ × ℕ) (l : Line) (ls : List Line)
-    → IsSound (setting_of mode version table.1) → drop 2 (lines_of text) ≡ l ∷ ls → Reached (setting_of mode version table.1) text 2 0 []
-    → is_labels (fields_of l.text) ≡ true → l.ended ≡ true → (r : Result Labels Cause) → whole_labels (fields_of l.text) ≡ r
-    → TellsText (setting_of mode version table.1) text ((at_line 3 r >>= λ labels. Ok (Some labels, ls)) >>= after_labels mode version table)
-labels_line_tells mode version text table l ls sound e s is ended (Err cause) read =
-    let setting = setting_of mode version table.1 in
-    let left = behind_of (lines_of text) 2 l ls e in
-    line_first setting text 2 l cause left.here s.clear
-    (read_first setting 3 (events_to text 3) (SharesKey text 2) l (λ m. IsQuiet (fields_of l.text)) (whole_labels (fields_of l.text)) cause
-    (omega arith) ended (labels_told setting (fields_of l.text) is) read)
-labels_line_tells mode version text table l ls sound e s is ended (Ok labels) read =
-    let setting = setting_of mode version table.1 in
-    let left = behind_of (lines_of text) 2 l ls e in
-    let right = read_right setting 3 l (λ m. IsQuiet (fields_of l.text)) (whole_labels (fields_of l.text)) labels
-    (labels_told setting (fields_of l.text) is) read in
-    script_tells_from mode version text table (Some labels, ls) 3 sound refl left.next (omega arith) (past_labels 3 ls (omega arith))
-    (quiet_line setting text 2 l labels left.here (omega arith) ended right s)
+script_tells_from mode version text table third n sound first e h unlabelled s = search (lines_tell, tells_then, arith)
 
 -- the third line, and then the rest
 third_tells : (mode : Mode) (version : Version) (text : List ℕ) (table : ℕ × ℕ) (ls : List Line) → IsSound (setting_of mode version table.1)
     → drop 2 (lines_of text) ≡ ls → Reached (setting_of mode version table.1) text 2 0 []
     → TellsText (setting_of mode version table.1) text (labels_at ls >>= after_labels mode version table)
 third_tells mode version text table [] sound e s = script_tells_from mode version text table (None, []) 2 sound refl e (omega arith) tt s
-third_tells mode version text table (l ∷ ls) sound e s = elim (cases_Bool (is_labels (fields_of l.text))) [
-  | inr other ↦ rw other (script_tells_from mode version text table (None, l ∷ ls) 2 sound refl e (omega arith) (λ same. other) s)
-  | inl is ↦ elim (cases_Bool l.ended) [
-    | inr open_end ↦
-        let setting = setting_of mode version table.1 in
-        rw (is, open_end) (line_first setting text 2 l Cut (behind_of (lines_of text) 2 l ls e).here s.clear
-        (end_first setting 3 (events_to text 3) (SharesKey text 2) l (omega arith) open_end))
-    | inl ended ↦ rw (is, ended) (labels_line_tells mode version text table l ls sound e s is ended (whole_labels (fields_of l.text)) refl)
-  ]
-]
-
--- the second line, and then the rest; what it says of the CPUs online is what it settles
-table_tells : (mode : Mode) (version : Version) (mask : ℕ) (text : List ℕ) (l : Line) (ls : List Line) → drop 1 (lines_of text) ≡ l ∷ ls
-    → Reached (setting_of mode version mask) text 1 0 [] → l.ended ≡ true → (r : Result (ℕ × ℕ) Cause)
-    → ((table : ℕ × ℕ) → r ≡ Ok table → (mask ≡ table.1) × AreCpus table.1)
-    → whole_cpus (limit_of version) (fields_of l.text) ≡ r
-    → TellsText (setting_of mode version mask) text (at_line 2 r >>= after_table mode version ls)
-table_tells mode version mask text l ls e s ended (Err cause) settled read =
-    let setting = setting_of mode version mask in
-    let left = behind_of (lines_of text) 1 l ls e in
-    line_first setting text 1 l cause left.here s.clear
-    (read_first setting 2 (events_to text 2) (SharesKey text 1) l (λ t. IsQuiet (fields_of l.text)) (whole_cpus (limit_of version) (fields_of l.text)) cause
-    (omega arith) ended (cpus_told (limit_of version) (fields_of l.text) (limit_within version)) read)
-table_tells mode version mask text l ls e s ended (Ok table) settled read =
-    let setting = setting_of mode version mask in
-    let left = behind_of (lines_of text) 1 l ls e in
-    let right = read_right setting 2 l (λ t. IsQuiet (fields_of l.text)) (whole_cpus (limit_of version) (fields_of l.text)) table
-    (cpus_told (limit_of version) (fields_of l.text) (limit_within version)) read in
-    let known = settled table refl in
-    let stands = quiet_line setting text 1 l table left.here (omega arith) ended right s in
-    let there = third_tells mode version text table ls (record { few = limit_within version; cpus = known.1 }) left.next
-    (subst (λ m. Reached (setting_of mode version m) text 2 0 []) known.0 stands) in
-    subst (λ m. TellsText (setting_of mode version m) text (labels_at ls >>= after_labels mode version table)) (sym known.0) there
+third_tells mode version text table (l ∷ ls) sound e s =
+    let setting = setting_of mode version table.1 in
+    let left = behind_of (lines_of text) 2 l ls e in
+    elim (cases_Bool (is_labels (fields_of l.text))) [
+      | inr other ↦ rw other (script_tells_from mode version text table (None, l ∷ ls) 2 sound refl e (omega arith) (λ same. other) s)
+      | inl is ↦ elim (cases_Bool l.ended) [
+        | inr open_end ↦
+            rw (is, open_end) (line_first setting text 2 l Cut left.here s.clear
+            (end_first setting 3 (events_to text 3) (SharesKey text 2) l (omega arith) open_end))
+        | inl ended ↦ rw (is, ended, bind_assoc)
+            (front_tells setting text 2 l (whole_labels (fields_of l.text)) (λ labels. after_labels mode version table (Some labels, ls)) left.here
+            (omega arith) ended s (labels_told setting (fields_of l.text) is) (λ labels read stands.
+            script_tells_from mode version text table (Some labels, ls) 3 sound refl left.next (omega arith) (past_labels 3 ls (omega arith)) stands))
+      ]
+    ]
 
 -- the mask of the second line is that of the CPUs online
 settles : (text : List ℕ) (l : Line) (ls : List Line) (version : Version) (table : ℕ × ℕ) → drop 1 (lines_of text) ≡ l ∷ ls
     → limit_in text ≡ limit_of version → whole_cpus (limit_of version) (fields_of l.text) ≡ Ok table → (online_in text ≡ table.1) × AreCpus table.1
-settles text l ls version table e limit read =
-    let is = whole_mask (limit_of version) (fields_of l.text) table (limit_within version) read in
-    (online_told text l ls version table.1 e limit is, mask_cpus (limit_of version) (field_at (fields_of l.text) 2) table.1 (limit_within version) is)
+settles text l ls version table e limit read = search (whole_mask, limit_within, online_told, mask_cpus, arith)
 
+-- the second line, and then the rest; what it says of the CPUs online is what it settles
 second_tells : (mode : Mode) (version : Version) (text : List ℕ) (ls : List Line) → drop 1 (lines_of text) ≡ ls → limit_in text ≡ limit_of version
     → Reached (setting_of mode version (online_in text)) text 1 0 []
     → TellsText (setting_of mode version (online_in text)) text (line_at 2 ls >>= after_second mode version)
-second_tells mode version text [] e limit s =
-    missing_first (setting_of mode version (online_in text)) text 1 (none_behind (lines_of text) 1 e) (omega arith) s.clear
-second_tells mode version text (l ∷ ls) e limit s = elim (cases_Bool l.ended) [
-  | inr open_end ↦
-      let setting = setting_of mode version (online_in text) in
-      rw open_end (line_first setting text 1 l Cut (behind_of (lines_of text) 1 l ls e).here s.clear
-      (end_first setting 2 (events_to text 2) (SharesKey text 1) l (omega arith) open_end))
-  | inl ended ↦
-      rw ended (table_tells mode version (online_in text) text l ls e s ended (whole_cpus (limit_of version) (fields_of l.text))
-      (λ table read. settles text l ls version table e limit read) refl)
-]
+second_tells mode version text ls e limit s =
+    let setting = setting_of mode version (online_in text) in
+    stands_tells setting text 1 ls (after_second mode version) e (omega arith) s (λ l rest left at ended.
+    front_tells setting text 1 l (whole_cpus (limit_of version) (fields_of l.text)) (after_table mode version rest) left.here (omega arith) ended s
+    (cpus_told (limit_of version) (fields_of l.text) (limit_within version)) (λ table read stands.
+    let known = settles text l rest version table at limit read in
+    let there = third_tells mode version text table rest (record { few = limit_within version; cpus = known.1 }) left.next
+    (subst (λ m. Reached (setting_of mode version m) text 2 0 []) known.0 stands) in
+    subst (λ m. TellsText (setting_of mode version m) text (labels_at rest >>= after_labels mode version table)) (sym known.0) there))
 
 -- the first line, and then the rest
-title_tells : (mode : Mode) (text : List ℕ) (l : Line) (ls : List Line) → drop 0 (lines_of text) ≡ l ∷ ls → Reached (setting_in mode text) text 0 0 []
-    → l.ended ≡ true → (r : Result Version Cause) → title_of mode (fields_of l.text) ≡ r
-    → TellsText (setting_in mode text) text (at_line 1 r >>= after_title mode (l.text, ls))
-title_tells mode text l ls e s ended (Err cause) read =
-    let setting = setting_in mode text in
-    let left = behind_of (lines_of text) 0 l ls e in
-    line_first setting text 0 l cause left.here s.clear
-    (read_first setting 1 (events_to text 1) (SharesKey text 0) l (λ t. IsQuiet (fields_of l.text)) (title_of mode (fields_of l.text)) cause (omega arith) ended
-    (title_told mode (fields_of l.text)) read)
-title_tells mode text l ls e s ended (Ok version) read =
-    let setting = setting_in mode text in
-    let left = behind_of (lines_of text) 0 l ls e in
-    let right = read_right setting 1 l (λ t. IsQuiet (fields_of l.text)) (title_of mode (fields_of l.text)) version (title_told mode (fields_of l.text)) read in
-    let stands = quiet_line setting text 0 l version left.here (omega arith) ended right s in
-    let limit : limit_in text ≡ limit_of version = limit_told mode text l ls version e (title_ok mode (fields_of l.text) version read) in
-    let same : setting_in mode text ≡ setting_of mode version (online_in text) =
-    ap (λ k. record { mode = mode; limit = k; online = online_in text }) limit in
-    let rest = second_tells mode version text ls left.next limit (subst (λ x. Reached x text 1 0 []) same stands) in
-    subst (λ x. TellsText x text (line_at 2 ls >>= after_second mode version)) (sym same) rest
-
 first_tells : (mode : Mode) (text : List ℕ) (ls : List Line) → lines_of text ≡ ls → Reached (setting_in mode text) text 0 0 []
     → TellsText (setting_in mode text) text (line_at 1 ls >>= after_first mode)
-first_tells mode text [] e s = missing_first (setting_in mode text) text 0 (none_behind (lines_of text) 0 e) (omega arith) s.clear
-first_tells mode text (l ∷ ls) e s = elim (cases_Bool l.ended) [
-  | inr open_end ↦
-      let setting = setting_in mode text in
-      rw open_end (line_first setting text 0 l Cut (behind_of (lines_of text) 0 l ls e).here s.clear
-      (end_first setting 1 (events_to text 1) (SharesKey text 0) l (omega arith) open_end))
-  | inl ended ↦ rw ended (title_tells mode text l ls e s ended (title_of mode (fields_of l.text)) refl)
-]
+first_tells mode text ls e s =
+    let setting = setting_in mode text in
+    stands_tells setting text 0 ls (after_first mode) e (omega arith) s (λ l rest left at ended.
+    front_tells setting text 0 l (title_of mode (fields_of l.text)) (after_title mode (l.text, rest)) left.here (omega arith) ended s
+    (title_told mode (fields_of l.text)) (λ version read stands.
+    let limit : limit_in text ≡ limit_of version = limit_told mode text l rest version at (title_ok mode (fields_of l.text) version read) in
+    let same : setting_in mode text ≡ setting_of mode version (online_in text) =
+    ap (λ k. record { mode = mode; limit = k; online = online_in text }) limit in
+    let more = second_tells mode version text rest left.next limit (subst (λ x. Reached x text 1 0 []) same stands) in
+    subst (λ x. TellsText x text (line_at 2 rest >>= after_second mode version)) (sym same) more))
 
 -- a text that is not too long has no fault as a whole
 none_long : (setting : Setting) (text : List ℕ) → length text ≤ 65536 → NoneBefore setting text 1

@@ -14,8 +14,8 @@ use Rattle.smp_script.specs.Shapes.{items, labels, requests, has_shape}
 use Rattle.smp_script.specs.declared.setting.Setting.{Setting}
 use Rattle.smp_script.specs.FieldFaults.{ItemsFault, value_of}
 use Rattle.smp_script.proofs.Faults.FieldFaults.{Judged, fine, faulty, Tells, none_yet, reads_last, reads_number}
-use Rattle.smp_script.proofs.Faults.LineShapes.{IsQuiet, Matches, TellsLine, shapeless, shaped, no_whole, passes_word, skips, skips_word}
-use Rattle.smp_script.proofs.Faults.RequestLines.{IsSound, line_told, no_labels, no_request}
+use Rattle.smp_script.proofs.Faults.LineShapes.{IsQuiet, TellsLine, shapeless, shaped, no_whole, passes_word, skips, skips_word}
+use Rattle.smp_script.proofs.Faults.RequestLines.{IsSound, Spells, line_told, no_labels, no_request}
 use Rattle.smp_script.proofs.Spelled.ReadParts.{same_word}
 
 right_items : (keys : ℕ) (field : List ℕ) → list_all has_number (items_of field) ≡ true → length (items_of field) ≤ MOST_SITES
@@ -95,5 +95,5 @@ also_shaped setting fields holds read h (shaped shape by_shape s is told) = shap
 
 -- what reading line 3 tells, where it is no labels line
 pub third_told : (setting : Setting) → IsSound setting → (fields : List (List ℕ)) → is_labels fields ≡ false
-    → TellsLine (labels ∷ requests setting) fields (Matches fields) (whole_directive setting fields)
-third_told setting sound fields h = also_shaped setting fields (Matches fields) (whole_directive setting fields) h (line_told setting sound fields)
+    → TellsLine (labels ∷ requests setting) fields (Spells setting fields) (whole_directive setting fields)
+third_told setting sound fields h = also_shaped setting fields (Spells setting fields) (whole_directive setting fields) h (line_told setting sound fields)

@@ -9,7 +9,7 @@ use Rattle.smp_script.specs.declared.setting.Setting.{Setting}
 use Rattle.smp_script.specs.Lines.{Line, fields_of}
 use Rattle.smp_script.specs.Shapes.{Form, has_shape, has_word, shape_of, shapes_of}
 use Rattle.smp_script.specs.FirstFault.{LineFault, past_lines, unended, no_shape, wrong_field, shared_key, past_events}
-use Rattle.smp_script.proofs.Faults.FieldFaults.{Clean, FirstWrong, Tells}
+use Rattle.smp_script.proofs.Faults.FieldFaults.{Clean, FirstWrong}
 use Rattle.smp_script.proofs.Faults.LineShapes.{TellsLine, shapeless, shaped}
 
 -- a shape has as many fields as the line
@@ -48,11 +48,7 @@ lines_first setting n events shared line h = record { rank = 0; fault = past_lin
 
 only_lines : (setting : Setting) (n events : ℕ) (shared : Type 0) (line : Line) → n ≤ 2000 → NoneBelow setting n events shared line 1
 only_lines setting n events shared line h k cause below (past_lines f) = omega arith
-only_lines setting n events shared line h k cause below (unended f) = omega arith
-only_lines setting n events shared line h k cause below (no_shape f) = omega arith
-only_lines setting n events shared line h k cause below (wrong_field i e w f) = omega arith
-only_lines setting n events shared line h k cause below (shared_key f) = omega arith
-only_lines setting n events shared line h k cause below (past_events f) = omega arith
+only_lines setting n events shared line h k cause below _ = omega arith
 
 pub end_first : (setting : Setting) (n events : ℕ) (shared : Type 0) (line : Line) → n ≤ 2000 → line.ended ≡ false → FirstOf setting n events shared line Cut
 end_first setting n events shared line h e = record { rank = 1; fault = unended e; least = only_lines setting n events shared line h }
@@ -60,10 +56,7 @@ end_first setting n events shared line h e = record { rank = 1; fault = unended 
 only_ends : (setting : Setting) (n events : ℕ) (shared : Type 0) (line : Line) → n ≤ 2000 → line.ended ≡ true → NoneBelow setting n events shared line 2
 only_ends setting n events shared line h e k cause below (past_lines f) = omega arith
 only_ends setting n events shared line h e k cause below (unended f) = let bad : true ≡ false = sym e ∙ f in cc
-only_ends setting n events shared line h e k cause below (no_shape f) = omega arith
-only_ends setting n events shared line h e k cause below (wrong_field i g w f) = omega arith
-only_ends setting n events shared line h e k cause below (shared_key f) = omega arith
-only_ends setting n events shared line h e k cause below (past_events f) = omega arith
+only_ends setting n events shared line h e k cause below _ = omega arith
 
 -- a line of this shape whose first fields are right
 clean_to : (setting : Setting) (n events : ℕ) (shared : Type 0) (line : Line) (shape : List Form) (i : ℕ) → n ≤ 2000 → line.ended ≡ true
@@ -73,11 +66,8 @@ clean_to : (setting : Setting) (n events : ℕ) (shared : Type 0) (line : Line) 
 clean_to setting n events shared line shape i h e s within clean k cause below (past_lines f) = omega arith
 clean_to setting n events shared line shape i h e s within clean k cause below (unended f) = let bad : true ≡ false = sym e ∙ f in cc
 clean_to setting n events shared line shape i h e s within clean k cause below (no_shape f) = cc
-clean_to setting n events shared line shape i h e s within clean k cause below (wrong_field j {shape = other} {form = form} t w f) =
-    let same : other ≡ shape = cc in
-    clean j form cause (omega arith) (subst (λ x. slice_get x j ≡ Some form) same w) f
-clean_to setting n events shared line shape i h e s within clean k cause below (shared_key f) = omega arith
-clean_to setting n events shared line shape i h e s within clean k cause below (past_events f) = omega arith
+clean_to setting n events shared line shape i h e s within clean k cause below (wrong_field j {shape = other} {form = form} t w f) = search arith
+clean_to setting n events shared line shape i h e s within clean k cause below _ = omega arith
 
 -- a line with nothing wrong in its fields, whose key no other CPU has
 clean_past : (setting : Setting) (n events : ℕ) (shared : Type 0) (line : Line) (shape : List Form) → n ≤ 2000 → line.ended ≡ true
@@ -96,22 +86,15 @@ clean_past setting n events shared line shape h e s clean apart k cause below (p
 -- no fault has a higher rank
 past_all : (setting : Setting) (n events : ℕ) (shared : Type 0) (line : Line) (shape : List Form) → shape_of setting n (fields_of line.text) ≡ Some shape
     → events ≤ 100000 → (k : ℕ) (cause : Cause) → 4 + length (fields_of line.text) ≤ k → LineFault setting n events shared line k cause → ⊥
-past_all setting n events shared line shape s under k cause far (past_lines f) = omega arith
-past_all setting n events shared line shape s under k cause far (unended f) = omega arith
-past_all setting n events shared line shape s under k cause far (no_shape f) = omega arith
-past_all setting n events shared line shape s under k cause far (wrong_field j {shape = other} {form = form} t w f) =
-    omega (arith, place_within setting n (fields_of line.text) other j form t w)
-past_all setting n events shared line shape s under k cause far (shared_key f) = omega arith
+past_all setting n events shared line shape s under k cause far (wrong_field j {shape = other} {form = form} t w f) = search (place_within, arith)
 past_all setting n events shared line shape s under k cause far (past_events f) = omega arith
+past_all setting n events shared line shape s under k cause far _ = omega arith
 
 -- and with no event too many
 all_clean : (setting : Setting) (n events : ℕ) (shared : Type 0) (line : Line) (shape : List Form) → n ≤ 2000 → line.ended ≡ true
     → shape_of setting n (fields_of line.text) ≡ Some shape → Clean shape (fields_of line.text) (length shape) → (shared → ⊥) → events ≤ 100000
     → (k : ℕ) (cause : Cause) → LineFault setting n events shared line k cause → ⊥
-all_clean setting n events shared line shape h e s clean apart under k cause f = elim (cases_lt k (4 + length (fields_of line.text))) [
-  | inl below ↦ clean_past setting n events shared line shape h e s clean apart k cause below f
-  | inr far ↦ past_all setting n events shared line shape s under k cause far f
-]
+all_clean setting n events shared line shape h e s clean apart under k cause f = search (cases_lt, clean_past, past_all, arith)
 
 -- the first fault of a line that is not read
 shape_first : (setting : Setting) (n events : ℕ) (shared : Type 0) (line : Line) (shape : List Form) (cause : Cause) → n ≤ 2000 → line.ended ≡ true
@@ -132,9 +115,7 @@ pub read_first : {B : Type 0} (setting : Setting) (n events : ℕ) (shared : Typ
 read_first {B} setting n events shared line holds read cause h e (shapeless s is) bad =
     let same : Word ≡ cause = let t : ◌≡◌ {A = Result B Cause} (Err Word) (Err cause) = sym is ∙ bad in cc in
     subst (λ c. FirstOf setting n events shared line c) same (record { rank = 2; fault = no_shape s; least = only_ends setting n events shared line h e })
-read_first setting n events shared line holds read cause h e (shaped shape by_shape s is told) bad =
-    let at_err : Tells shape (fields_of line.text) holds (Err cause) = subst (λ r. Tells shape (fields_of line.text) holds r) (sym is ∙ bad) told in
-    shape_first setting n events shared line shape cause h e s at_err
+read_first setting n events shared line holds read cause h e (shaped shape by_shape s is told) bad = search (shape_first, arith)
 
 -- a line that is read
 pub record RightLine {B : Type 0} (setting : Setting) (n : ℕ) (line : Line) (holds : B → Type 0) (b : B) : Type 0 where
@@ -146,9 +127,7 @@ pub record RightLine {B : Type 0} (setting : Setting) (n : ℕ) (line : Line) (h
 pub read_right : {B : Type 0} (setting : Setting) (n : ℕ) (line : Line) (holds : B → Type 0) (read : Result B Cause) (b : B)
     → TellsLine (shapes_of setting n) (fields_of line.text) holds read → read ≡ Ok b → RightLine setting n line holds b
 read_right {B} setting n line holds read b (shapeless s is) good = let t : ◌≡◌ {A = Result B Cause} (Err Word) (Ok b) = sym is ∙ good in cc
-read_right setting n line holds read b (shaped shape by_shape s is told) good =
-    let at_ok : Tells shape (fields_of line.text) holds (Ok b) = subst (λ r. Tells shape (fields_of line.text) holds r) (sym is ∙ good) told in
-    record { shape = shape; has = s; clean = at_ok.0; holding = at_ok.1 }
+read_right setting n line holds read b (shaped shape by_shape s is told) good = search arith
 
 -- it has no fault, unless another CPU has its key, or it makes too many events
 pub right_line : {B : Type 0} (setting : Setting) (n events : ℕ) (shared : Type 0) (line : Line) (holds : B → Type 0) (b : B) → n ≤ 2000

@@ -1,9 +1,9 @@
 -- Which shape the fields of a line have, and what reading them by that shape tells.
-use Rattle.std.proofs.Common.{◌≡◌, ℕ, ◌+◌, Bool, true, false, not, ◌&&◌, ◌==◌, List, [], ◌∷◌, length, Some, None, Result, Err, refl}
-use Rattle.std.proofs.Common.{sym, ◌∙◌, inl, inr, arith}
+use Rattle.std.proofs.Common.{◌≡◌, ℕ, ◌+◌, Bool, true, false, not, ◌==◌, List, [], ◌∷◌, length, Some, None, Result, Err, refl}
+use Rattle.std.proofs.Common.{◌∙◌, arith}
 use Rattle.std.specs.Prelude.{find, slice_get}
 use Rattle.std.specs.Str.{bytes_eq}
-use Rattle.std.proofs.lemmas.Bool.{cases_Bool, and_parts, and_right, or_cases}
+use Rattle.std.proofs.lemmas.Bool.{cases_Bool, and_parts, and_right}
 use Rattle.std.proofs.lemmas.Bool.Decides.{nat_tests}
 use Rattle.std.specs.List.{list_all}
 use Rattle.smp_mask.specs.declared.error.Cause.{Cause}
@@ -11,13 +11,11 @@ use Rattle.smp_mask.specs.declared.error.Cause.TheVariants.{Word}
 use Rattle.smp_script.specs.declared.directive.Directive.{Directive}
 use Rattle.smp_script.specs.Commands.{are_whole}
 use Rattle.smp_script.specs.Script.{events_of}
-use Rattle.smp_script.specs.Shapes.{Form, word, words, number, signed, cpu_list, online, items}
-use Rattle.smp_script.specs.Shapes.{has_shape, has_word, is_one_of}
+use Rattle.smp_script.specs.Shapes.{Form, word}
+use Rattle.smp_script.specs.Shapes.{has_shape, has_word}
 use Rattle.smp_script.specs.FirstFault.{events_in}
-use Rattle.smp_script.proofs.Spelled.ReadParts.{same_word}
 use Rattle.smp_script.proofs.Faults.FieldFaults.{Clean, Tells, passes}
 use Rattle.smp_script.specs.Keys.{key_of}
-use Rattle.smp_script.specs.Shapes.{active, member}
 use Rattle.smp_script.specs.FirstFault.{key_in}
 
 -- what reading the fields of a line tells: they have no shape, or one by which they are read
@@ -49,60 +47,24 @@ pub skips_word : (a : List ℕ) (fields : List (List ℕ)) (w : List ℕ) (forms
     → find (has_shape (a ∷ fields)) ((word w ∷ forms) ∷ shapes) ≡ find (has_shape (a ∷ fields)) shapes
 skips_word a fields w forms shapes h = skips (a ∷ fields) (word w ∷ forms) shapes (and_right (has_shape fields forms) (bytes_eq a w) h)
 
--- the words of a shape are not empty
+-- no field of the shape may be empty
 abbrev pub has_texts : List Form → Bool
-has_texts [] = true
-has_texts (word w ∷ forms) = not (length w == 0) && has_texts forms
-has_texts (words ws ∷ forms) = list_all (λ w. not (length w == 0)) ws && has_texts forms
-has_texts (_ ∷ forms) = has_texts forms
+has_texts shape = list_all (λ form. not (has_word form [])) shape
 
-one_of_texts : (ws : List (List ℕ)) (field : List ℕ) → list_all (λ w. not (length w == 0)) ws ≡ true → is_one_of ws field ≡ true
-    → not (length field == 0) ≡ true
-one_of_texts [] field h e = cc
-one_of_texts (w ∷ ws) field h e =
-    let parts = and_parts (not (length w == 0)) (list_all (λ x. not (length x == 0)) ws) h in
-    elim (or_cases (bytes_eq field w) (is_one_of ws field) e) [
-      | inl here ↦ rw (same_word field w here) parts.0
-      | inr more ↦ one_of_texts ws field parts.1 more
-    ]
-
--- a field that may stand in a shape is not empty
-never_empty : (form : Form) (forms : List Form) (field : List ℕ) → has_texts (form ∷ forms) ≡ true → has_word form field ≡ true → not (length field == 0) ≡ true
-never_empty (word w) forms field h e = rw (same_word field w e) (grind (arith, h))
-never_empty (words ws) forms field h e = one_of_texts ws field (and_parts (list_all (λ w. not (length w == 0)) ws) (has_texts forms) h).0 e
-never_empty (number low high) forms field h e = e
-never_empty signed forms field h e = e
-never_empty (cpu_list limit) forms field h e = e
-never_empty (active limit) forms field h e = e
-never_empty (online limit) forms field h e = e
-never_empty (member mask) forms field h e = e
-never_empty items forms [] h e = cc
-never_empty items forms (b ∷ bs) h e = grind (arith, nat_tests)
-
-texts_after : (form : Form) (forms : List Form) → has_texts (form ∷ forms) ≡ true → has_texts forms ≡ true
-texts_after (word w) forms h = grind (arith, h)
-texts_after (words ws) forms h = (and_parts (list_all (λ w. not (length w == 0)) ws) (has_texts forms) h).1
-texts_after (number low high) forms h = h
-texts_after signed forms h = h
-texts_after (cpu_list limit) forms h = h
-texts_after (active limit) forms h = h
-texts_after (online limit) forms h = h
-texts_after (member mask) forms h = h
-texts_after items forms h = h
+never_empty : (form : Form) (field : List ℕ) → not (has_word form []) ≡ true → has_word form field ≡ true → not (length field == 0) ≡ true
+never_empty form [] h e = grind (arith, h, e)
+never_empty form (b ∷ bs) h e = grind (arith, nat_tests)
 
 whole_shape : (fields : List (List ℕ)) (shape : List Form) → has_texts shape ≡ true → has_shape fields shape ≡ true → are_whole fields ≡ true
-whole_shape [] [] h e = refl
-whole_shape [] (form ∷ forms) h e = cc
-whole_shape (field ∷ fields) [] h e = cc
 whole_shape (field ∷ fields) (form ∷ forms) h e =
+    let right = and_parts (not (has_word form [])) (has_texts forms) h in
     let parts = and_parts (has_shape fields forms) (has_word form field) e in
-    rw (never_empty form forms field h parts.1, whole_shape fields forms (texts_after form forms h) parts.0) refl
+    rw (never_empty form field right.0 parts.1, whole_shape fields forms right.1 parts.0) refl
+whole_shape [] [] h e = refl
+whole_shape _ _ h e = cc
 
 pub no_whole : (fields : List (List ℕ)) (shape : List Form) → has_texts shape ≡ true → are_whole fields ≡ false → has_shape fields shape ≡ false
-no_whole fields shape h e = elim (cases_Bool (has_shape fields shape)) [
-  | inr no_ ↦ no_
-  | inl yes_ ↦ let bad : true ≡ false = sym (whole_shape fields shape h yes_) ∙ e in cc
-]
+no_whole fields shape h e = grind (cases_Bool, whole_shape, arith)
 
 -- where a field is empty, none of these shapes
 pub none_whole : (fields : List (List ℕ)) (shapes : List (List Form)) → list_all has_texts shapes ≡ true → are_whole fields ≡ false

@@ -1,107 +1,56 @@
 -- A text has one first fault at most.
-use Rattle.std.proofs.Common.{◌≡◌, ℕ, ◌+◌, Bool, true, false, List, Some, Result, Ok, Err, ◌⊎◌, refl, sym, ◌∙◌, inl, inr, arith, subst}
-use Rattle.std.specs.Prelude.{is_ok, slice_get}
+use Rattle.std.proofs.Common.{◌≡◌, ℕ, true, List, Result, Ok, Err, refl, arith}
+use Rattle.std.specs.Prelude.{is_ok}
 use Rattle.std.proofs.lemmas.Bool.{cases_order}
 use Rattle.std.proofs.lemmas.Option.{slice_get_within}
 use Rattle.smp_mask.specs.declared.error.Cause.{Cause}
 use Rattle.smp_mask.specs.declared.error.Cause.TheVariants.{Number, Range, Mask}
-use Rattle.smp_script.specs.Lines.{Line, fields_of, lines_of}
-use Rattle.smp_script.specs.Numbers.{is_decimal}
+use Rattle.smp_script.specs.Lines.{Line, lines_of}
 use Rattle.smp_script.specs.Faults.{Fault}
 use Rattle.smp_script.specs.Script.{Script, script_of}
 use Rattle.smp_script.specs.Shapes.{Form, word, words, number, signed, cpu_list, active, online, member, items}
 use Rattle.smp_script.specs.FieldFaults.{field_at, value_of, ActiveFault, FieldFault, ItemsFault, MaskFault, MemberFault, NumberFault, OnlineFault, SignedFault}
-use Rattle.smp_script.specs.FieldFaults.{is_signed}
-use Rattle.smp_script.specs.Labels.{has_number, items_of}
-use Rattle.std.specs.List.{list_all}
-use Rattle.smp_script.specs.FirstFault.{LineFault, past_lines, unended, no_shape, wrong_field, shared_key, past_events, IsFault, IsFirstFault, SharesKey}
-use Rattle.smp_script.specs.FirstFault.{past_bytes, no_line, in_line, events_to, setting_in}
+use Rattle.smp_script.specs.FirstFault.{LineFault, past_lines, unended, no_shape, wrong_field, shared_key, past_events, IsFault, IsFirstFault}
+use Rattle.smp_script.specs.FirstFault.{past_bytes, no_line, in_line, setting_in}
 use Rattle.smp_script.specs.declared.mode.Mode.{Mode}
 use Rattle.smp_script.specs.declared.setting.Setting.{Setting}
 use Rattle.smp_script.proofs.Faults.LineFaults.{place_within}
 use Rattle.smp_script.proofs.Faults.FirstFaults.{TellsText, script_tells}
 
--- a fault of the form or of the range, by one test
-one_of_two : (b : Bool) (c d : Cause) → ((c ≡ Number) × (b ≡ false)) ⊎ ((c ≡ Range) × (b ≡ true)) → ((d ≡ Number) × (b ≡ false)) ⊎ ((d ≡ Range) × (b ≡ true))
-    → c ≡ d
-one_of_two b c d (inl x) (inl y) = x.0 ∙ sym y.0
-one_of_two b c d (inl x) (inr y) = let bad : false ≡ true = sym x.1 ∙ y.1 in cc
-one_of_two b c d (inr x) (inl y) = let bad : false ≡ true = sym y.1 ∙ x.1 in cc
-one_of_two b c d (inr x) (inr y) = x.0 ∙ sym y.0
-
--- a number's fault is of its form or of its range
-is_number_fault : (low high : ℕ) (text : List ℕ) (c : Cause) → NumberFault low high text c
-    → ((c ≡ Number) × (is_decimal text ≡ false)) ⊎ ((c ≡ Range) × (is_decimal text ≡ true))
-is_number_fault low high text Number f = inl (refl, f)
-is_number_fault low high text Range f = inr (refl, f.0)
-is_number_fault low high text _ f = absurd f
-
+-- two faults of a field have one cause
 number_cause : (low high : ℕ) (text : List ℕ) (c d : Cause) → NumberFault low high text c → NumberFault low high text d → c ≡ d
-number_cause low high text c d f g = one_of_two (is_decimal text) c d (is_number_fault low high text c f) (is_number_fault low high text d g)
-
--- a mask's fault is of its form or of its CPUs
-is_online_fault : (limit nr : ℕ) (text : List ℕ) (c : Cause) → OnlineFault limit nr text c
-    → ((c ≡ Mask) × OnlineFault limit nr text Mask) ⊎ ((c ≡ Range) × OnlineFault limit nr text Range)
-is_online_fault limit nr text Mask f = inl (refl, f)
-is_online_fault limit nr text Range f = inr (refl, f)
-is_online_fault limit nr text _ f = absurd f
+number_cause low high text Number Number f g = refl
+number_cause low high text Range Range f g = refl
+number_cause low high text _ _ f g = search
 
 online_cause : (limit nr : ℕ) (text : List ℕ) (c d : Cause) → OnlineFault limit nr text c → OnlineFault limit nr text d → c ≡ d
-online_cause limit nr text c d f g = elim (is_online_fault limit nr text c f) [
-  | inl a ↦ elim (is_online_fault limit nr text d g) [
-    | inl b ↦ a.0 ∙ sym b.0
-    | inr b ↦ absurd (a.1 b.1.0 b.1.1)
-  ]
-  | inr a ↦ elim (is_online_fault limit nr text d g) [
-    | inl b ↦ absurd (b.1 a.1.0 a.1.1)
-    | inr b ↦ a.0 ∙ sym b.0
-  ]
-]
-
--- a signed number's of its form or of its range
-is_signed_fault : (text : List ℕ) (c : Cause) → SignedFault text c → ((c ≡ Number) × (is_signed text ≡ false)) ⊎ ((c ≡ Range) × (is_signed text ≡ true))
-is_signed_fault text Number f = inl (refl, f)
-is_signed_fault text Range f = inr (refl, f.0)
-is_signed_fault text _ f = absurd f
+online_cause limit nr text Mask Range f g = absurd (f g.0 g.1)
+online_cause limit nr text Range Mask f g = absurd (g f.0 f.1)
+online_cause limit nr text Mask Mask f g = refl
+online_cause limit nr text _ _ f g = search
 
 signed_cause : (text : List ℕ) (c d : Cause) → SignedFault text c → SignedFault text d → c ≡ d
-signed_cause text c d f g = one_of_two (is_signed text) c d (is_signed_fault text c f) (is_signed_fault text d g)
-
--- a mask has one kind of fault
-is_mask_fault : (limit : ℕ) (text : List ℕ) (c : Cause) → MaskFault limit text c → c ≡ Mask
-is_mask_fault limit text Mask f = refl
-is_mask_fault limit text _ f = absurd f
+signed_cause text Number Number f g = refl
+signed_cause text Range Range f g = refl
+signed_cause text _ _ f g = search
 
 mask_cause : (limit : ℕ) (text : List ℕ) (c d : Cause) → MaskFault limit text c → MaskFault limit text d → c ≡ d
-mask_cause limit text c d f g = is_mask_fault limit text c f ∙ sym (is_mask_fault limit text d g)
-
--- the items' faults are of their form or of their range
-is_items_fault : (keys : ℕ) (text : List ℕ) (c : Cause) → ItemsFault keys text c
-    → ((c ≡ Number) × (list_all has_number (items_of text) ≡ false)) ⊎ ((c ≡ Range) × (list_all has_number (items_of text) ≡ true))
-is_items_fault keys text Number f = inl (refl, f)
-is_items_fault keys text Range f = inr (refl, f.0)
-is_items_fault keys text _ f = absurd f
+mask_cause limit text Mask Mask f g = refl
+mask_cause limit text _ _ f g = search
 
 items_cause : (keys : ℕ) (text : List ℕ) (c d : Cause) → ItemsFault keys text c → ItemsFault keys text d → c ≡ d
-items_cause keys text c d f g = one_of_two (list_all has_number (items_of text)) c d (is_items_fault keys text c f) (is_items_fault keys text d g)
-
--- a stop's mask has one kind of fault
-is_active_fault : (limit : ℕ) (text : List ℕ) (c : Cause) → ActiveFault limit text c → c ≡ Mask
-is_active_fault limit text Mask f = refl
-is_active_fault limit text _ f = absurd f
+items_cause keys text Number Number f g = refl
+items_cause keys text Range Range f g = refl
+items_cause keys text _ _ f g = search
 
 active_cause : (limit : ℕ) (text : List ℕ) (c d : Cause) → ActiveFault limit text c → ActiveFault limit text d → c ≡ d
-active_cause limit text c d f g = is_active_fault limit text c f ∙ sym (is_active_fault limit text d g)
-
--- a CPU's fault is of its form or of its range
-is_member_fault : (mask : ℕ) (text : List ℕ) (c : Cause) → MemberFault mask text c
-    → ((c ≡ Number) × (is_decimal text ≡ false)) ⊎ ((c ≡ Range) × (is_decimal text ≡ true))
-is_member_fault mask text Number f = inl (refl, f)
-is_member_fault mask text Range f = inr (refl, f.0)
-is_member_fault mask text _ f = absurd f
+active_cause limit text Mask Mask f g = refl
+active_cause limit text _ _ f g = search
 
 member_cause : (mask : ℕ) (text : List ℕ) (c d : Cause) → MemberFault mask text c → MemberFault mask text d → c ≡ d
-member_cause mask text c d f g = one_of_two (is_decimal text) c d (is_member_fault mask text c f) (is_member_fault mask text d g)
+member_cause mask text Number Number f g = refl
+member_cause mask text Range Range f g = refl
+member_cause mask text _ _ f g = search
 
 field_cause : (fields : List (List ℕ)) (i : ℕ) (form : Form) (c d : Cause) → FieldFault fields i form c → FieldFault fields i form d → c ≡ d
 field_cause fields i (word w) c d f g = absurd f
@@ -118,32 +67,17 @@ field_cause fields i (online limit) c d f g = online_cause limit (value_of (fiel
 line_cause : (setting : Setting) (n events : ℕ) (shared : Type 0) (line : Line) (k m : ℕ) (c d : Cause) → k ≡ m → LineFault setting n events shared line k c
     → LineFault setting n events shared line m d → c ≡ d
 line_cause setting n events shared line k m c d e (past_lines f) (past_lines g) = refl
-line_cause setting n events shared line k m c d e (past_lines f) _ = absurd (omega (arith, e))
 line_cause setting n events shared line k m c d e (unended f) (unended g) = refl
-line_cause setting n events shared line k m c d e (unended f) _ = absurd (omega (arith, e))
 line_cause setting n events shared line k m c d e (no_shape f) (no_shape g) = refl
-line_cause setting n events shared line k m c d e (no_shape f) _ = absurd (omega (arith, e))
 line_cause setting n events shared line k m c d e (wrong_field i {shape = a} {form = v} s w f) (wrong_field j {shape = b} {form = u} t x g) =
-    let place : j ≡ i = omega (arith, e) in
-    let shape : b ≡ a = cc in
-    let there : slice_get a i ≡ Some u = subst (λ k. slice_get a k ≡ Some u) place (subst (λ z. slice_get z j ≡ Some u) shape x) in
-    let form : u ≡ v = cc in
-    let wrong : FieldFault (fields_of line.text) i v d =
-    subst (λ z. FieldFault (fields_of line.text) i z d) form (subst (λ k. FieldFault (fields_of line.text) k u d) place g) in
-    field_cause (fields_of line.text) i v c d f wrong
-line_cause setting n events shared line k m c d e (wrong_field i {shape = a} {form = v} s w f) (past_events g) =
-    absurd (omega (arith, e, place_within setting n (fields_of line.text) a i v s w))
-line_cause setting n events shared line k m c d e (wrong_field i {shape = a} {form = v} s w f) (shared_key g) =
-    absurd (omega (arith, e, place_within setting n (fields_of line.text) a i v s w))
-line_cause setting n events shared line k m c d e (wrong_field i s w f) _ = absurd (omega (arith, e))
+    search (field_cause, arith)
+line_cause setting n events shared line k m c d e (wrong_field i {shape = a} {form = v} s w f) (past_events g) = search (place_within, arith)
+line_cause setting n events shared line k m c d e (wrong_field i {shape = a} {form = v} s w f) (shared_key g) = search (place_within, arith)
 line_cause setting n events shared line k m c d e (shared_key f) (shared_key g) = refl
-line_cause setting n events shared line k m c d e (shared_key f) (wrong_field j {shape = b} {form = u} t x g) =
-    absurd (omega (arith, e, place_within setting n (fields_of line.text) b j u t x))
-line_cause setting n events shared line k m c d e (shared_key f) _ = absurd (omega (arith, e))
+line_cause setting n events shared line k m c d e (shared_key f) (wrong_field j {shape = b} {form = u} t x g) = search (place_within, arith)
 line_cause setting n events shared line k m c d e (past_events f) (past_events g) = refl
-line_cause setting n events shared line k m c d e (past_events f) (wrong_field j {shape = b} {form = u} t x g) =
-    absurd (omega (arith, e, place_within setting n (fields_of line.text) b j u t x))
-line_cause setting n events shared line k m c d e (past_events f) _ = absurd (omega (arith, e))
+line_cause setting n events shared line k m c d e (past_events f) (wrong_field j {shape = b} {form = u} t x g) = search (place_within, arith)
+line_cause setting n events shared line k m c d e _ _ = absurd (omega (arith, e))
 
 -- and in a text
 fault_cause : (setting : Setting) (text : List ℕ) (n k m l : ℕ) (c d : Cause) → n ≡ m → k ≡ l → IsFault setting text n k c → IsFault setting text m l d → c ≡ d
@@ -154,29 +88,15 @@ fault_cause setting text n k m l c d e r (no_line f few) (past_bytes g) = absurd
 fault_cause setting text n k m l c d e r (no_line f few) (in_line j {line = b} there g) = absurd (omega (arith, e, slice_get_within (lines_of text) j b there))
 fault_cause setting text n k m l c d e r (in_line i {line = a} here f) (past_bytes g) = absurd (omega (arith, e))
 fault_cause setting text n k m l c d e r (in_line i {line = a} here f) (no_line g few) = absurd (omega (arith, e, slice_get_within (lines_of text) i a here))
-fault_cause setting text n k m l c d e r (in_line i {line = a} here f) (in_line j {line = b} there g) =
-    let place : j ≡ i = omega (arith, e) in
-    let found : slice_get (lines_of text) i ≡ Some b = subst (λ x. slice_get (lines_of text) x ≡ Some b) place there in
-    let line : b ≡ a = cc in
-    line_cause setting (i + 1) (events_to text (i + 1)) (SharesKey text i) a k l c d r f
-    (subst (λ x. LineFault setting (i + 1) (events_to text (i + 1)) (SharesKey text i) x l d) line
-    (subst (λ x. LineFault setting (x + 1) (events_to text (x + 1)) (SharesKey text x) b l d) place g))
+fault_cause setting text n k m l c d e r (in_line i {line = a} here f) (in_line j {line = b} there g) = search (line_cause, arith)
 
 -- first faults are in one line
 one_line : (setting : Setting) (text : List ℕ) (n m : ℕ) (c d : Cause) → IsFirstFault setting text n c → IsFirstFault setting text m d → n ≡ m
-one_line setting text n m c d a b = elim (cases_order n m) [
-  | inl same ↦ same
-  | inr (inl less) ↦ absurd (b.before n a.rank c less a.fault)
-  | inr (inr more) ↦ absurd (a.before m b.rank d more b.fault)
-]
+one_line setting text n m c d a b = search (cases_order, arith)
 
 -- and have one cause
 one_cause : (setting : Setting) (text : List ℕ) (n m : ℕ) (c d : Cause) → IsFirstFault setting text n c → IsFirstFault setting text m d → n ≡ m → c ≡ d
-one_cause setting text n m c d a b e = elim (cases_order a.rank b.rank) [
-  | inl same ↦ fault_cause setting text n a.rank m b.rank c d e same a.fault b.fault
-  | inr (inl less) ↦ absurd (b.least a.rank c less (subst (λ x. IsFault setting text x a.rank c) e a.fault))
-  | inr (inr more) ↦ absurd (a.least b.rank d more (subst (λ x. IsFault setting text x b.rank d) (sym e) b.fault))
-]
+one_cause setting text n m c d a b e = search (cases_order, fault_cause, arith)
 
 -- a text with a first fault is refused with it
 refused_with : (setting : Setting) (text : List ℕ) (n : ℕ) (cause : Cause) → IsFirstFault setting text n cause → (r : Result Script Fault)

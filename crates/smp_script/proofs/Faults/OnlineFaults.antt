@@ -1,5 +1,5 @@
 -- The mask of the CPUs online, and what is wrong with its field.
-use Rattle.std.proofs.Common.{◌≡◌, ℕ, ◌≤◌, true, false, ◌==◌, nat_lt, List, [], ◌∷◌, length, drop, get_or, Result, Ok, Err, codes, refl, sym, ◌∙◌, inl, inr}
+use Rattle.std.proofs.Common.{◌≡◌, ℕ, ◌≤◌, true, false, ◌==◌, nat_lt, List, [], ◌∷◌, length, drop, Result, Ok, Err, codes, refl, sym, ◌∙◌, inl, inr}
 use Rattle.std.proofs.Common.{arith}
 use Rattle.std.proofs.Common.{subst}
 use Rattle.std.specs.Str.{bytes_eq}
@@ -12,7 +12,7 @@ use Rattle.smp_mask.specs.declared.error.Cause.TheVariants.{Mask, Range}
 use Rattle.smp_mask.specs.declared.mask.TheConstants.{NR_CPUS}
 use Rattle.smp_mask.proofs.Members.{item_member, none_below}
 use Rattle.smp_mask.proofs.Sets.{has_none}
-use Rattle.smp_script.specs.Fields.{mask_of, stays_below}
+use Rattle.smp_script.specs.Fields.{mask_of}
 use Rattle.smp_script.specs.Commands.{are_whole}
 use Rattle.smp_script.specs.Script.{are_online, cpus_of, table_of, whole_cpus}
 use Rattle.smp_script.specs.Shapes.{online, cpus, has_shape}
@@ -33,22 +33,11 @@ no_members m below none cpu = elim (cases_Bool (has m cpu)) [
 ]
 
 is_outside : (nr m : ℕ) → AreCpus m → are_online nr m ≡ false → IsOutside nr m
-is_outside nr m below h = elim (cases_lt 0 (length (members m))) [
-  | inr none ↦ inl (no_members m below (omega arith))
-  | inl some ↦
-      let test : nat_lt 0 (length (members m)) ≡ true = grind (arith, nat_tests) in
-      let all : stays_below nr m ≡ false = rw test at h in
-      let far = some_fails (λ cpu. nat_lt cpu nr) (members m) all in
-      inr (get_or (members m) far.0 0, (item_member m NR_CPUS far.0 0 far.1).1, grind (arith, nat_tests, far.2))
-]
+is_outside nr m below h = search (cases_lt, no_members, nat_tests, some_fails, item_member, arith)
 
 not_outside : (nr m : ℕ) → AreCpus m → are_online nr m ≡ true → IsOutside nr m → ⊥
-not_outside nr m below h (inl none) =
-    let empty : members m ≡ [] = none_below m NR_CPUS (λ c _. none c) in
-    let bad : false ≡ true = rw empty at h in cc
-not_outside nr m below h (inr far) =
-    let parts = and_parts (nat_lt 0 (length (members m))) (stays_below nr m) h in
-    let bad : true ≡ false = sym parts.1 ∙ one_above nr m NR_CPUS far.0 (below far.0 far.1) far.1 far.2 in cc
+not_outside nr m below h (inl none) = search (none_below, arith)
+not_outside nr m below h (inr far) = search (and_parts, one_above, arith)
 
 -- the CPUs of a list are CPUs
 are_cpus : (limit : ℕ) (text : List ℕ) (m : ℕ) → limit ≤ NR_CPUS → IsMaskOf limit text m → AreCpus m
@@ -102,9 +91,6 @@ no_cpus limit fields empty = no_whole fields (cpus limit) refl empty
 
 cpus_shapes : (limit : ℕ) (fields : List (List ℕ)) → limit ≤ NR_CPUS → are_whole fields ≡ true
     → TellsLine (cpus limit ∷ []) fields (λ t. IsQuiet fields) (cpus_of limit fields)
-cpus_shapes limit [] few whole = shapeless refl refl
-cpus_shapes limit (a ∷ []) few whole = shapeless refl refl
-cpus_shapes limit (a ∷ b ∷ []) few whole = shapeless refl refl
 cpus_shapes limit (a ∷ nr ∷ mask ∷ []) few whole = elim (cases_Bool (bytes_eq a (codes "cpus"))) [
   | inr no_ ↦ shapeless (skips_word a (nr ∷ mask ∷ []) (codes "cpus") (drop 1 (cpus limit)) [] no_) (rw no_ refl)
   | inl yes_ ↦
@@ -112,7 +98,7 @@ cpus_shapes limit (a ∷ nr ∷ mask ∷ []) few whole = elim (cases_Bool (bytes
       let some_mask : (length mask == 0) ≡ false = grind (arith, whole) in
       rw (same_word a (codes "cpus") yes_) (shaped (cpus limit) (table_of limit nr mask) (rw (some_mask, some_nr) refl) refl (table_told limit nr mask few))
 ]
-cpus_shapes limit (a ∷ b ∷ c ∷ d ∷ rest) few whole = shapeless refl refl
+cpus_shapes limit _ few whole = shapeless refl refl
 
 -- what reading the second line tells
 pub cpus_told : (limit : ℕ) (fields : List (List ℕ)) → limit ≤ NR_CPUS

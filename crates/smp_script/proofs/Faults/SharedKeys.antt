@@ -48,11 +48,7 @@ agree_none text n line here e a = λ mine.
 -- a line that was read
 pub agree_more : (text : List ℕ) (n : ℕ) (line : Line) (earlier : List Directive) (d : Directive) → slice_get (lines_of text) n ≡ Some line
     → key_in (fields_of line.text) ≡ key_of d → Agree text n earlier → Agree text (n + 1) (earlier ++ d ∷ [])
-agree_more text n line earlier d here e a = λ mine.
-    let read = list_any (λ x. is_shared mine (key_of x)) earlier in
-    line_more text n line here mine ∙ ap (λ b. b || has_shared mine line) (a mine) ∙ ap (λ k. read || is_shared mine k) e
-    ∙ ap (λ b. read || b) (sym (or_nothing (is_shared mine (key_of d))))
-    ∙ sym (list_any-append (λ x. is_shared mine (key_of x)) earlier (d ∷ []))
+agree_more text n line earlier d here e a = search (line_more, or_nothing, list_any-append, arith)
 
 -- a line among the first n that has the key
 record Found (lines : List Line) (n : ℕ) (mine : Option KeyUse) : Type 0 where
@@ -77,11 +73,8 @@ meets : (lines : List Line) (n place : ℕ) (mine : Option KeyUse) (line : Line)
     → has_shared mine line ≡ true → list_any (has_shared mine) (take n lines) ≡ true
 meets [] n place mine line below there is = cc
 meets (l ∷ ls) zero place mine line below there is = absurd (omega arith)
-meets (l ∷ ls) (suc n) zero mine line below there is =
-    let same : l ≡ line = cc in
-    rw (same, is) refl
-meets (l ∷ ls) (suc n) (suc place) mine line below there is =
-    rw (meets ls n place mine line (omega arith) there is) (or_true (has_shared mine l))
+meets (l ∷ ls) (suc n) zero mine line below there is = search arith
+meets (l ∷ ls) (suc n) (suc place) mine line below there is = grind (or_true, meets ls n place mine line (omega arith) there is, arith)
 
 -- two uses of one key by two CPUs
 record Both (mine theirs : Option KeyUse) : Type 0 where
@@ -98,9 +91,7 @@ differ x y h e = let same = eq-eqb x y e in let bad : false ≡ true = sym (ap n
 both : (mine theirs : Option KeyUse) → is_shared mine theirs ≡ true → Both mine theirs
 both None theirs h = cc
 both (Some one) None h = cc
-both (Some one) (Some other) h =
-    let p = and_parts (one.1 == other.1) (not (one.0 == other.0)) h in
-    record { one = one; other = other; mine_is = refl; theirs_is = refl; key = eqb-true one.1 other.1 p.0; apart = differ one.0 other.0 p.1 }
+both (Some one) (Some other) h = search (and_parts, eqb-true, differ, arith)
 
 -- a line that shares its key with one that was read does so in the text
 pub shares_told : (text : List ℕ) (n : ℕ) (line : Line) (earlier : List Directive) (d : Directive) → slice_get (lines_of text) n ≡ Some line
@@ -136,8 +127,4 @@ not_shares text n line earlier d here e a h s =
 
 -- a line with no key shares none
 pub quiet_apart : (text : List ℕ) (n : ℕ) (line : Line) → slice_get (lines_of text) n ≡ Some line → key_in (fields_of line.text) ≡ None → SharesKey text n → ⊥
-quiet_apart text n line here e s =
-    let same : Some s.line ≡ Some line = sym s.here ∙ here in
-    let one : s.line ≡ line = cc in
-    let bad : None ≡ Some (s.cpu, s.key) = sym e ∙ subst (λ l. key_in (fields_of l.text) ≡ Some (s.cpu, s.key)) one s.uses in
-    cc
+quiet_apart text n line here e s = search arith

@@ -18,14 +18,10 @@ low_test n = grind (arith, nat_tests)
 
 -- how a number is read that is not too far
 number_near : (high : ℕ) (text : List ℕ) → is_decimal text ≡ true → nat_lt high (value_of text) ≡ false → number_in 0 high text ≡ Ok (value_of text)
-number_near high text good near =
-    let within : nat_le (value_of text) high ≡ true = grind (arith, nat_tests, near) in
-    rw (good, low_test (value_of text), within) refl
+number_near high text good near = search (nat_tests, low_test, arith)
 
 number_far : (high : ℕ) (text : List ℕ) → is_decimal text ≡ true → nat_lt high (value_of text) ≡ true → number_in 0 high text ≡ Err Range
-number_far high text good far =
-    let past : nat_le (value_of text) high ≡ false = grind (arith, nat_tests, far) in
-    rw (good, low_test (value_of text), past) refl
+number_far high text good far = search (nat_tests, low_test, arith)
 
 plain_judged : (b : ℕ) (bs : List ℕ) → (b == 45) ≡ false → Judged (SignedFault (b ∷ bs)) (signed_of (b ∷ bs))
 plain_judged b bs plain = elim (cases_Bool (is_decimal (b ∷ bs))) [

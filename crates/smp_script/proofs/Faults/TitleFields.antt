@@ -30,9 +30,6 @@ title_right mode version =
 
 -- what reading the first tells
 pub title_told : (mode : Mode) (fields : List (List ℕ)) → TellsLine (title mode ∷ []) fields (λ v. IsQuiet fields) (title_of mode fields)
-title_told mode [] = shapeless refl refl
-title_told mode (a ∷ []) = shapeless refl refl
-title_told mode (a ∷ b ∷ []) = shapeless refl refl
 title_told mode (a ∷ b ∷ c ∷ []) = elim (cases_Bool (bytes_eq a (codes "smp"))) [
   | inr no_a ↦ shapeless (skips_word a (b ∷ c ∷ []) (codes "smp") (drop 1 (title mode)) [] no_a) (rw no_a refl)
   | inl is_a ↦ elim (cases_Bool (bytes_eq c (mode_text mode))) [
@@ -48,4 +45,4 @@ title_told mode (a ∷ b ∷ c ∷ []) = elim (cases_Bool (bytes_eq a (codes "sm
     ]
   ]
 ]
-title_told mode (a ∷ b ∷ c ∷ d ∷ rest) = shapeless refl refl
+title_told mode _ = shapeless refl refl

@@ -1,5 +1,5 @@
 -- The lines of a script, one by one.
-use Rattle.std.proofs.Common.{◌≡◌, ℕ, ◌+◌, ◌≤◌, ◌<◌, List, [], ◌∷◌, ◌++◌, Result, Ok, Err, true, false, nat_lt, refl, sym, ap, ◌∙◌, arith, append_assoc}
+use Rattle.std.proofs.Common.{◌≡◌, ℕ, ◌+◌, ◌≤◌, ◌<◌, List, [], ◌∷◌, ◌++◌, Result, Ok, Err, true, false, refl, sym, ap, ◌∙◌, arith, append_assoc}
 use Rattle.std.proofs.Common.{append-nil, sum_by}
 use Rattle.std.proofs.lemmas.List.Sums.{sum_by-append}
 use Rattle.std.proofs.lemmas.Bool.Decides.{nat_tests}
@@ -28,18 +28,12 @@ pub record Stands (setting : Setting) (n count : ℕ) (front : List Directive) (
 pub too_many : {setting : Setting} {n events : ℕ} {front : List Directive} {lines : List Line} {all : Result (List Directive) Fault} (l : Line) (ls : List Line)
     → Stands setting n events front lines all → lines ≡ l ∷ ls → 2000 < n → all ≡ Err (n, TooLong)
 unfolding directives_of
-too_many {setting} {n} {events} {front} l ls s e h =
-    let t : nat_lt 2000 n ≡ true = grind (arith, nat_tests) in
-    let r : with_front front (directives_of setting n events front (l ∷ ls)) ≡ Err (n, TooLong) = rw t refl in
-    sym s.told ∙ ap (λ x. with_front front (directives_of setting n events front x)) e ∙ r
+too_many {setting} {n} {events} {front} l ls s e h = search (nat_tests, arith)
 
 pub is_cut : {setting : Setting} {n events : ℕ} {front : List Directive} {lines : List Line} {all : Result (List Directive) Fault} (l : Line) (ls : List Line)
     → Stands setting n events front lines all → lines ≡ l ∷ ls → n ≤ 2000 → l.ended ≡ false → all ≡ Err (n, Cut)
 unfolding directives_of
-is_cut {setting} {n} {events} {front} l ls s e h ended =
-    let t : nat_lt 2000 n ≡ false = grind (arith, nat_tests) in
-    let r : with_front front (directives_of setting n events front (l ∷ ls)) ≡ Err (n, Cut) = rw (t, ended) refl in
-    sym s.told ∙ ap (λ x. with_front front (directives_of setting n events front x)) e ∙ r
+is_cut {setting} {n} {events} {front} l ls s e h ended = search (nat_tests, arith)
 
 -- a line that is no directive's
 pub is_bad : {setting : Setting} {n events : ℕ} {front : List Directive} {lines : List Line} {all : Result (List Directive) Fault} (l : Line) (ls : List Line)
@@ -48,42 +42,22 @@ pub is_bad : {setting : Setting} {n events : ℕ} {front : List Directive} {line
     → Fails d all
 unfolding directives_of
 is_bad l ls s e h ended errors.NoMemory f = tt
-is_bad {setting} {n} {events} {front} l ls s e h ended (errors.BadScript k cause) f =
-    let t : nat_lt 2000 n ≡ false = grind (arith, nat_tests) in
-    let r : with_front front (directives_of setting n events front (l ∷ ls)) ≡ Err (k, cause) = rw (t, ended, f) refl in
-    sym s.told ∙ ap (λ x. with_front front (directives_of setting n events front x)) e ∙ r
-is_bad l ls s e h ended errors.NoCpu f = absurd f
-is_bad l ls s e h ended errors.Busy f = absurd f
-is_bad l ls s e h ended errors.NoStopper f = absurd f
-is_bad l ls s e h ended errors.BadArgument f = absurd f
-is_bad l ls s e h ended errors.Contended f = absurd f
-is_bad l ls s e h ended errors.Stale f = absurd f
-is_bad l ls s e h ended errors.SlotBusy f = absurd f
-is_bad l ls s e h ended errors.IdleStep f = absurd f
-is_bad l ls s e h ended (errors.BadMask k) f = absurd f
-is_bad l ls s e h ended (errors.StreamFailed k) f = absurd f
-is_bad l ls s e h ended (errors.KeyRange k) f = absurd f
+is_bad {setting} {n} {events} {front} l ls s e h ended (errors.BadScript k cause) f = search (nat_tests, arith)
+is_bad l ls s e h ended _ f = absurd f
 
 -- the line with a key of another CPU
 pub is_of_another : {setting : Setting} {n events : ℕ} {front : List Directive} {lines : List Line} {all : Result (List Directive) Fault} (l : Line)
     (ls : List Line) → Stands setting n events front lines all → lines ≡ l ∷ ls → n ≤ 2000 → l.ended ≡ true → (directive : Directive)
     → at_line n (line_directive setting l.text) ≡ Ok directive → shares front directive ≡ true → all ≡ Err (n, SharedKey)
 unfolding directives_of
-is_of_another {setting} {n} {events} {front} l ls s e h ended directive f shared =
-    let t : nat_lt 2000 n ≡ false = grind (arith, nat_tests) in
-    let r : with_front front (directives_of setting n events front (l ∷ ls)) ≡ Err (n, SharedKey) = rw (t, ended, f) (rw shared refl) in
-    sym s.told ∙ ap (λ x. with_front front (directives_of setting n events front x)) e ∙ r
+is_of_another {setting} {n} {events} {front} l ls s e h ended directive f shared = search (nat_tests, arith)
 
 -- the line that passes the limit of events
 pub is_past : {setting : Setting} {n events : ℕ} {front : List Directive} {lines : List Line} {all : Result (List Directive) Fault} (l : Line) (ls : List Line)
     → Stands setting n events front lines all → lines ≡ l ∷ ls → n ≤ 2000 → l.ended ≡ true → (directive : Directive)
     → at_line n (line_directive setting l.text) ≡ Ok directive → shares front directive ≡ false → 100000 < events + events_of directive → all ≡ Err (n, TooLong)
 unfolding directives_of
-is_past {setting} {n} {events} {front} l ls s e h ended directive f apart past =
-    let t : nat_lt 2000 n ≡ false = grind (arith, nat_tests) in
-    let u : nat_lt 100000 (events + events_of directive) ≡ true = grind (arith, nat_tests) in
-    let r : with_front front (directives_of setting n events front (l ∷ ls)) ≡ Err (n, TooLong) = rw (t, ended, f) (rw (apart, u) refl) in
-    sym s.told ∙ ap (λ x. with_front front (directives_of setting n events front x)) e ∙ r
+is_past {setting} {n} {events} {front} l ls s e h ended directive f apart past = search (nat_tests, arith)
 
 front_push : (front : List Directive) (directive : Directive) (read : Result (List Directive) Fault)
     → with_front front (read >>= λ ds. Ok (directive ∷ ds)) ≡ with_front (front ++ directive ∷ []) read
@@ -96,19 +70,7 @@ pub goes_on : {setting : Setting} {n events : ℕ} {front : List Directive} {lin
     → at_line n (line_directive setting l.text) ≡ Ok directive → shares front directive ≡ false → events + events_of directive ≤ 100000
     → Stands setting (n + 1) (events + events_of directive) (front ++ directive ∷ []) ls all
 unfolding directives_of
-goes_on {setting} {n} {events} {front} l ls s e h ended directive f apart fits =
-    let t : nat_lt 2000 n ≡ false = grind (arith, nat_tests) in
-    let u : nat_lt 100000 (events + events_of directive) ≡ false = grind (arith, nat_tests) in
-    let r : with_front front (directives_of setting n events front (l ∷ ls)) ≡ with_front front
-    (directives_of setting (n + 1) (events + events_of directive) (front ++ directive ∷ []) ls >>= λ ds. Ok (directive ∷ ds)) =
-    rw (t, ended, f) (rw (apart, u) refl) in
-    record {
-      told = sym (front_push front directive (directives_of setting (n + 1) (events + events_of directive) (front ++ directive ∷ []) ls)) ∙ sym r
-          ∙ ap (λ x. with_front front (directives_of setting n events front x)) (sym e) ∙ s.told;
-      line = omega arith;
-      events = fits;
-      total = grind (arith, s.total, sum_by-append events_of front (directive ∷ []));
-    }
+goes_on {setting} {n} {events} {front} l ls s e h ended directive f apart fits = search (nat_tests, front_push, sum_by-append, arith)
 
 pub ends : {setting : Setting} {n events : ℕ} {front : List Directive} {lines : List Line} {all : Result (List Directive) Fault}
     → Stands setting n events front lines all

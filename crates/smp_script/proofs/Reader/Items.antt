@@ -1,5 +1,5 @@
 -- The items of a labels line.
-use Rattle.std.proofs.Common.{◌≡◌, ℕ, ◌<◌, ◌≤◌, Bool, true, false, nat_lt, nat_le, arith, rules, All, ◌&&◌, List, [], ◌∷◌, map, Option, Some, None, Ok, Err}
+use Rattle.std.proofs.Common.{◌≡◌, ℕ, ◌<◌, ◌≤◌, Bool, true, false, arith, rules, All, ◌&&◌, List, [], ◌∷◌, map, Option, Some, None, Ok, Err}
 use Rattle.std.proofs.Common.{length, codes, refl, sym, ap, ◌∙◌}
 use Rattle.std.specs.List.{join_with_byte, list_all}
 use Rattle.std.specs.Str.{bytes_eq}
@@ -10,7 +10,6 @@ use Rattle.smp_labels.specs.Labels.{AreLabels}
 use Rattle.smp_labels.specs.declared.words.TheConstants.{MOST_KEYS, MOST_SITES}
 use Rattle.smp_mask.specs.declared.error.Cause.TheVariants.{Range}
 use Rattle.smp_script.specs.Lines.{parts_of}
-use Rattle.smp_script.specs.Numbers.{is_decimal, value_after}
 use Rattle.smp_script.specs.Labels.{Item, entries_in, entry_in, has_number, entry_of, is_among, is_below, item_in, item_of}
 use Rattle.smp_script.proofs.Texts.Splits.{first_of, join_parts}
 
@@ -27,18 +26,11 @@ parts_no_branch key rest part [] h0 h1 e =
 parts_no_branch key rest part (o ∷ os) h0 h1 e = refl
 
 pub no_branch : (key rest : List ℕ) → bytes_eq rest (codes "0") ≡ false → bytes_eq rest (codes "1") ≡ false → item_in (key ∷ parts_of 58 rest) ≡ None
-no_branch key rest h0 h1 =
-    let f = first_of 58 rest in
-    ap (λ ps. item_in (key ∷ ps)) f.are ∙ parts_no_branch key rest f.part f.others h0 h1 f.are
+no_branch key rest h0 h1 = search (first_of, parts_no_branch, arith)
 
 below_known : (keys : ℕ) (item : Option Item) → keys ≤ MOST_KEYS → is_among keys item ≡ true → (entry_in item).key < keys
 below_known keys None few h = cc
-below_known keys (Some (text, branch)) few h =
-    let parts = and_parts (is_decimal text) (nat_lt (value_after 0 text) keys) h in
-    let small : value_after 0 text < keys = grind (arith, nat_tests, parts.1) in
-    let low : nat_le 0 (value_after 0 text) ≡ true = grind (arith, nat_tests) in
-    let high : nat_le (value_after 0 text) 4294967295 ≡ true = grind (arith, nat_tests, small, few) in
-    rw (parts.0, low, high) small
+below_known keys (Some (text, branch)) few h = search (and_parts, nat_tests, arith)
 
 -- entries of items whose keys are below a number are below it
 pub entries_below : (keys : ℕ) (items : List (List ℕ)) → keys ≤ MOST_KEYS → list_all (is_below keys) items ≡ true → All (λ e. e.key < keys) (map entry_of items)
@@ -52,30 +44,15 @@ entries_below keys (i ∷ is) few h =
 -- more items than a table has sites
 pub many_items : {X : Type 0} (f : X → List ℕ) (keys : ℕ) (xs : List X) → list_all (λ x. has_number (f x)) xs ≡ true → MOST_SITES < length xs
     → Err Range ≡ entries_in keys (map f xs)
-many_items f keys xs numbers many =
-    let all : list_all has_number (map f xs) ≡ true = all_map has_number f xs ∙ numbers in
-    let long : length (map f xs) ≡ length xs = length-map xs f in
-    let test : nat_lt MOST_SITES (length (map f xs)) ≡ true = grind (arith, nat_tests, long, many) in
-    rw (all, test) refl
+many_items f keys xs numbers many = search (all_map, length-map, nat_tests, arith)
 
 -- the items of a lawful map
 pub good_items : {X : Type 0} (f : X → List ℕ) (keys : ℕ) (xs : List X) → list_all (λ x. has_number (f x)) xs ≡ true → length xs ≤ MOST_SITES
     → list_all (λ x. is_below keys (f x)) xs ≡ true
     → entries_in keys (map f xs) ≡ Ok (record { keys = keys; entries = map entry_of (map f xs) })
-good_items f keys xs numbers few below =
-    let all : list_all has_number (map f xs) ≡ true = all_map has_number f xs ∙ numbers in
-    let under : list_all (is_below keys) (map f xs) ≡ true = all_map (is_below keys) f xs ∙ below in
-    let long : length (map f xs) ≡ length xs = length-map xs f in
-    let test : nat_lt MOST_SITES (length (map f xs)) ≡ false = grind (arith, nat_tests, long, few) in
-    rw (all, test, under) refl
+good_items f keys xs numbers few below = search (all_map, length-map, nat_tests, arith)
 
 -- they make a map
 pub make_labels : {X : Type 0} (f : X → List ℕ) (keys : ℕ) (xs : List X) → keys ≤ MOST_KEYS → length xs ≤ MOST_SITES
     → list_all (λ x. is_below keys (f x)) xs ≡ true → AreLabels keys (map entry_of (map f xs))
-make_labels f keys xs few_keys few below =
-    let under : list_all (is_below keys) (map f xs) ≡ true = all_map (is_below keys) f xs ∙ below in
-    record {
-      few_keys = few_keys;
-      few_sites = omega (arith, length-map (map f xs) entry_of, length-map xs f);
-      known = entries_below keys (map f xs) few_keys under;
-    }
+make_labels f keys xs few_keys few below = search (all_map, length-map, entries_below, arith)

@@ -1,5 +1,5 @@
 -- How many CPUs the versions may speak of.
-use Rattle.std.proofs.Common.{◌≡◌, ℕ, ◌≤◌, List, ◌∷◌, [], drop, Ok, codes, refl, ap, ◌∙◌, arith}
+use Rattle.std.proofs.Common.{◌≡◌, ℕ, ◌≤◌, List, ◌∷◌, [], drop, Ok, codes, refl, ap, arith}
 use Rattle.smp_mask.specs.declared.mask.TheConstants.{NR_CPUS}
 use Rattle.smp_script.specs.declared.version.Version.{Version}
 use Rattle.smp_script.specs.declared.version.Version.TheVariants.{One, Two}
@@ -8,7 +8,7 @@ use Rattle.smp_script.specs.Versions.{limit_of, version_text}
 use Rattle.smp_script.specs.declared.mode.Mode.{Mode}
 use Rattle.smp_script.specs.Fields.{mask_of}
 use Rattle.smp_script.specs.FieldFaults.{field_at}
-use Rattle.smp_script.specs.FirstFault.{limit_in, online_in, online_word, or_none}
+use Rattle.smp_script.specs.FirstFault.{limit_in, online_in, online_word}
 use Rattle.smp_script.specs.Modes.{mode_text}
 
 -- no more than there can be
@@ -30,8 +30,4 @@ second_word (t ∷ m ∷ ms) rest l e = let same : m ≡ l = cc in ap (λ x. fie
 -- and the second which are online
 pub online_told : (text : List ℕ) (l : Line) (ls : List Line) (version : Version) (mask : ℕ) → drop 1 (lines_of text) ≡ l ∷ ls
     → limit_in text ≡ limit_of version → mask_of (limit_of version) (field_at (fields_of l.text) 2) ≡ Ok mask → online_in text ≡ mask
-online_told text l ls version mask e limit read =
-    let word = second_word (lines_of text) ls l e in
-    let is : mask_of (limit_in text) (online_word (lines_of text)) ≡ Ok mask =
-    ap (λ k. mask_of k (online_word (lines_of text))) limit ∙ ap (mask_of (limit_of version)) word ∙ read in
-    ap or_none is
+online_told text l ls version mask e limit read = search (second_word, arith)

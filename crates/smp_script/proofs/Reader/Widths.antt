@@ -5,7 +5,7 @@ use Rattle.std.specs.List.{list_all}
 use Rattle.std.proofs.lemmas.Bool.{cases_Bool, cases_lt, and_parts, or_cases, or_right}
 use Rattle.std.proofs.lemmas.Bool.Decides.{nat_tests}
 use Rattle.smp_mask.specs.CpuList.{AreItems, IsListOf, IsMaskOf, highest, is_within, lowest, names}
-use Rattle.smp_mask.specs.Mask.{has, members, members_below}
+use Rattle.smp_mask.specs.Mask.{has, members_below}
 use Rattle.smp_mask.specs.Reading.{mask_of_text}
 use Rattle.smp_mask.specs.declared.mask.TheConstants.{NR_CPUS}
 use Rattle.smp_mask.proofs.Accepts.{reads_list, with_items}
@@ -72,29 +72,17 @@ one_above nr mask (suc k) cpu h member above = elim (cases_lt cpu k) [
 
 -- a mask stays below a limit exactly where all its members do
 pub member_below : (limit m : ℕ) → AreCpus m → stays_below limit m ≡ true → (cpu : ℕ) → has m cpu ≡ true → cpu < limit
-member_below limit m cpus h cpu on = elim (cases_lt cpu limit) [
-  | inl below ↦ below
-  | inr above ↦ let bad : true ≡ false = sym h ∙ one_above limit m NR_CPUS cpu (cpus cpu on) on (omega arith) in cc
-]
+member_below limit m cpus h cpu on = search (cases_lt, one_above, arith)
 
 pub all_stay : (limit m : ℕ) → ((cpu : ℕ) → has m cpu ≡ true → cpu < limit) → stays_below limit m ≡ true
-all_stay limit m below = elim (cases_Bool (stays_below limit m)) [
-  | inl all ↦ all
-  | inr some ↦
-      let far = some_fails (λ cpu. nat_lt cpu limit) (members m) some in
-      let under = below (get_or (members m) far.0 0) (item_member m NR_CPUS far.0 0 far.1).1 in
-      absurd (grind (arith, nat_tests, far.2, under))
-]
+all_stay limit m below = search (cases_Bool, some_fails, item_member, nat_tests, arith)
 
 items_wider : (limit : ℕ) (items : _) → limit ≤ NR_CPUS → AreItems limit items → AreItems NR_CPUS items
 items_wider limit [] few h = tt
 items_wider limit (i ∷ is) few h = ((h.0.0, omega (arith, h.0.1, few)), items_wider limit is few h.1)
 
 named_first : (i : _) (is : _) → lowest i ≤ highest i → names (i ∷ is) (highest i) ≡ true
-named_first i is up =
-    let low : nat_le (lowest i) (highest i) ≡ true = grind (arith, nat_tests) in
-    let high : nat_le (highest i) (highest i) ≡ true = grind (arith, nat_tests) in
-    rw (low, high) refl
+named_first i is up = search (nat_tests, arith)
 
 named_later : (i : _) (is : _) (cpu : ℕ) → names is cpu ≡ true → names (i ∷ is) cpu ≡ true
 named_later i is cpu h = or_right (is_within cpu i) (names is cpu) h

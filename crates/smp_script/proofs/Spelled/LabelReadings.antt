@@ -1,5 +1,5 @@
 -- What a labels line is that is read.
-use Rattle.std.proofs.Common.{◌≡◌, ℕ, ◌<◌, ◌≤◌, true, false, nat_lt, nat_le, ◌&&◌, List, [], ◌∷◌, ◌++◌, map, length, Option, Some, None, Result, Ok, Err, cond}
+use Rattle.std.proofs.Common.{◌≡◌, ℕ, ◌<◌, ◌≤◌, true, false, nat_lt, nat_le, ◌&&◌, List, [], ◌∷◌, ◌++◌, map, length, Option, Some, None, Result, Ok}
 use Rattle.std.proofs.Common.{codes, refl, sym, ap, ◌∙◌, inl, inr, arith, subst}
 use Rattle.std.specs.Fmt.{decimal}
 use Rattle.std.specs.List.{join_with_byte, list_all}
@@ -7,15 +7,14 @@ use Rattle.std.specs.Str.{bytes_eq}
 use Rattle.std.proofs.lemmas.List.{map-id}
 use Rattle.std.proofs.lemmas.Bool.{cases_Bool, and_parts}
 use Rattle.std.proofs.lemmas.Bool.Decides.{nat_tests}
-use Rattle.smp_mask.specs.declared.error.Cause.{Cause}
-use Rattle.smp_mask.specs.declared.error.Cause.TheVariants.{Cut, Word, Number, Range}
+use Rattle.smp_mask.specs.declared.error.Cause.TheVariants.{Cut, Word}
 use Rattle.smp_labels.specs.Labels.{AreLabels, Labels}
 use Rattle.smp_labels.specs.declared.words.TheConstants.{MOST_KEYS, MOST_SITES}
 use Rattle.smp_script.specs.Lines.{Line, fields_of, lines_of, parts_of}
 use Rattle.smp_script.specs.Numbers.{is_decimal, number_in, value_after}
 use Rattle.smp_script.specs.Faults.{Fault, ◌>>=◌, at_line}
 use Rattle.smp_script.specs.Commands.{are_whole}
-use Rattle.smp_script.specs.Labels.{entries_in, entry_in, entry_of, has_number, is_among, is_below, is_item, is_labels, item_in, items_of, labels_in, labels_of}
+use Rattle.smp_script.specs.Labels.{entries_in, entry_in, entry_of, is_among, is_below, is_item, is_labels, item_in, items_of, labels_in, labels_of}
 use Rattle.smp_script.specs.Labels.{whole_labels}
 use Rattle.smp_script.specs.Fields.{word32}
 use Rattle.smp_script.specs.Script.{labels_at}
@@ -78,18 +77,7 @@ field_back keys field few h = elim (cases_Bool (bytes_eq field (codes "-"))) [
 
 entries_ok : (keys : ℕ) (items : List (List ℕ)) (m : Labels) → entries_in keys items ≡ Ok m
     → (length items ≤ MOST_SITES) × (list_all (is_below keys) items ≡ true) × (record { keys = keys; entries = map entry_of items } ≡ m)
-entries_ok keys items m h =
-    let g =
-    guarded (list_all has_number items)
-    (cond (nat_lt MOST_SITES (length items)) (Err Range)
-    (cond (list_all (is_below keys) items) (Ok (record { keys = keys; entries = map entry_of items })) (Err Range))) Number m h in
-    elim (cases_Bool (nat_lt MOST_SITES (length items))) [
-      | inl many ↦ let bad : ◌≡◌ {A = Result Labels Cause} (Err Range) (Ok m) = rw many at g.1 in cc
-      | inr few ↦
-          let b = guarded (list_all (is_below keys) items) (Ok (record { keys = keys; entries = map entry_of items })) Range m (rw few at g.1) in
-          let made = b.1 in
-          (grind (arith, nat_tests, few), b.0, cc)
-    ]
+entries_ok keys items m h = search (guarded, cases_Bool, nat_tests, arith)
 
 -- these are the texts of a labels line
 record AreTexts (keys items : List ℕ) (m : Labels) : Type 0 where
@@ -131,9 +119,7 @@ pub record BeginsLabels (bs : List ℕ) (third : Option Labels × List Line) : T
 
 pub labels_ok : (bs : List ℕ) (ls : List Line) (third : Option Labels × List Line) → lines_of bs ≡ ls → labels_at ls ≡ Ok third → BeginsLabels bs third
 unfolding line_before
-labels_ok bs [] third e h =
-    let same : ◌≡◌ {A = Option Labels × List Line} (None, []) third = cc in
-    subst (λ x. BeginsLabels bs x) same (record { rest = bs; text_is = refl; others_are = sym e; fit = tt })
+labels_ok bs [] third e h = search arith
 labels_ok bs (l ∷ ls) third e h = elim (cases_Bool (is_labels (fields_of l.text))) [
   | inr other ↦
       let t : ◌≡◌ {A = Result (Option Labels × List Line) Fault} (Ok (None, l ∷ ls)) (Ok third) = rw other at h in

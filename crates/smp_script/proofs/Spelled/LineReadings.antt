@@ -10,8 +10,10 @@ use Rattle.smp_script.specs.Commands.{are_whole, directive_of, line_directive, m
 use Rattle.smp_script.specs.Lines.{fields_of}
 use Rattle.smp_script.specs.Spelling.{DirectiveFits, Masks, SpellLine, directive_words, is_field, lacks}
 use Rattle.smp_script.proofs.Spelled.ReadParts.{guarded}
-use Rattle.smp_script.proofs.Spelled.ReplayReadings.{replay_ok}
-use Rattle.smp_script.proofs.Spelled.RunReadings.{run_ok}
+use Rattle.smp_script.proofs.Rows.ReplayRows.{replay_are, replay_rows, replay_same}
+use Rattle.smp_script.proofs.Rows.Rows.{rows_said}
+use Rattle.smp_script.proofs.Rows.RunRows.{run_are, run_rows, run_same}
+use Rattle.smp_script.proofs.Rows.Words.{AreWords}
 use Rattle.smp_script.proofs.Texts.Splits.{join_parts, parts_lack, parts_lack_marks}
 
 -- fields that are not empty and have no space and no line feed
@@ -36,30 +38,29 @@ pub record IsLine (setting : Setting) (text : List ℕ) (d : Directive) : Type 0
   pub spell : SpellLine setting.limit (masks, d)
   pub fit : DirectiveFits setting.mode setting.online d
 
--- these fields are the words of a line
-record AreLineWords (mode : Mode) (limit mask : ℕ) (fields : List (List ℕ)) (d : Directive) : Type 0 where
-  masks : Masks
-  words : fields ≡ directive_words masks d
-  spell : SpellLine limit (masks, d)
-  fit : DirectiveFits mode mask d
+-- the fields of a line that is read are its words
+words_ok : (mode : Mode) (limit mask : ℕ) (word : List ℕ) (rest : List (List ℕ)) (d : Directive) → are_whole (word ∷ rest) ≡ true
+    → mode_line mode limit mask word rest ≡ Ok d → AreWords mode limit mask (word ∷ rest) d
+words_ok Replay limit mask word rest d whole h =
+    rows_said (AreWords Replay limit mask) (replay_rows limit) (word ∷ rest) d (replay_are limit mask) whole (sym (replay_same limit word rest) ∙ h)
+words_ok Run limit mask word rest d whole h =
+    rows_said (AreWords Run limit mask) (run_rows limit mask) (word ∷ rest) d (run_are limit mask) whole (sym (run_same limit mask word rest) ∙ h)
 
-mode_ok : (mode : Mode) (limit mask : ℕ) (word : List ℕ) (rest : List (List ℕ)) (d : Directive) → list_all is_field (word ∷ rest) ≡ true
-    → mode_line mode limit mask word rest ≡ Ok d → AreLineWords mode limit mask (word ∷ rest) d
-mode_ok Replay limit mask word rest d good h =
-    let w = replay_ok limit word rest d good h in
-    record { masks = w.masks; words = w.words; spell = w.spell; fit = w.fit mask }
-mode_ok Run limit mask word rest d good h =
-    let w = run_ok limit mask word rest d good h in
-    record { masks = w.masks; words = w.words; spell = w.spell; fit = w.fit }
+directive_ok : (setting : Setting) (fields : List (List ℕ)) (d : Directive) → are_whole fields ≡ true → directive_of setting fields ≡ Ok d
+    → AreWords setting.mode setting.limit setting.online fields d
+directive_ok setting [] d whole h = cc
+directive_ok setting (word ∷ rest) d whole h = words_ok setting.mode setting.limit setting.online word rest d whole h
 
-directive_ok : (setting : Setting) (fields : List (List ℕ)) (d : Directive) → list_all is_field fields ≡ true → directive_of setting fields ≡ Ok d
-    → AreLineWords setting.mode setting.limit setting.online fields d
-directive_ok setting [] d good h = cc
-directive_ok setting (word ∷ rest) d good h = mode_ok setting.mode setting.limit setting.online word rest d good h
-
-pub line_ok : (setting : Setting) (text : List ℕ) (d : Directive) → lacks 10 text ≡ true → line_directive setting text ≡ Ok d → IsLine setting text d
+pub line_ok : (setting : Setting) (text : List ℕ) (d : Directive) → lacks 10 text ≡ true → line_directive setting text ≡ Ok d
+    → IsLine setting text d
 unfolding line_directive
 line_ok setting text d on_line h =
-    let g = guarded (are_whole (fields_of text)) (directive_of setting (fields_of text)) Word d h in
-    let w = directive_ok setting (fields_of text) d (line_fields text on_line g.0) g.1 in
-    record { masks = w.masks; text_is = sym (join_parts 32 text) ∙ ap (join_with_byte 32) w.words; spell = w.spell; fit = w.fit }
+    let fields = fields_of text in
+    let g = guarded (are_whole fields) (directive_of setting fields) Word d h in
+    let w = directive_ok setting fields d g.0 g.1 in
+    record {
+      masks = w.masks;
+      text_is = sym (join_parts 32 text) ∙ ap (join_with_byte 32) w.words;
+      spell = w.spell (line_fields text on_line g.0);
+      fit = w.fit;
+    }

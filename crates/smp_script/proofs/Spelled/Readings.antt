@@ -9,7 +9,7 @@ use Rattle.std.proofs.lemmas.Bool.{cases_Bool, and_parts}
 use Rattle.std.proofs.lemmas.Bool.Decides.{nat_tests}
 use Rattle.std.proofs.lemmas.List.Sums.{sum_by-cons}
 use Rattle.smp_mask.specs.declared.mask.TheConstants.{NR_CPUS}
-use Rattle.smp_mask.specs.declared.error.Cause.TheVariants.{TooLong, Cut, Word, Range, SharedKey}
+use Rattle.smp_mask.specs.declared.error.Cause.TheVariants.{TooLong, Cut, Word, SharedKey}
 use Rattle.smp_labels.specs.Labels.{Labels}
 use Rattle.smp_script.specs.declared.directive.Directive.{Directive}
 use Rattle.smp_script.specs.declared.mode.Mode.{Mode}
@@ -19,7 +19,6 @@ use Rattle.smp_script.specs.Keys.{AreApart, shares}
 use Rattle.smp_script.specs.Modes.{mode_text, setting_of}
 use Rattle.smp_script.proofs.Reader.ApartKeys.{apart_from}
 use Rattle.smp_script.specs.Lines.{Line, fields_of, lines_of}
-use Rattle.smp_script.specs.Numbers.{number_in}
 use Rattle.smp_script.specs.Faults.{Fault, ◌>>=◌, at_line}
 use Rattle.smp_script.specs.Fields.{mask_of}
 use Rattle.smp_script.specs.Commands.{are_whole, line_directive}
@@ -29,12 +28,9 @@ use Rattle.smp_script.specs.Spelling.{DirectiveFits, IsSpelling, Masks, SpellLin
 use Rattle.smp_script.proofs.Texts.Decimals.{number_in-ok}
 use Rattle.smp_script.proofs.Spelled.ReadParts.{both, guarded, placed_ok, same_word}
 use Rattle.smp_script.proofs.Spelled.LineReadings.{line_fields, line_ok}
-use Rattle.smp_script.proofs.Spelled.ReplayReadings.{one_word}
 use Rattle.smp_script.proofs.Spelled.LabelReadings.{labels_ok}
 use Rattle.smp_script.proofs.Texts.Splits.{Begins, join_parts, line_back, no_line}
-use Rattle.smp_mask.specs.declared.error.Cause.{Cause}
 use Rattle.smp_script.specs.declared.version.Version.{Version}
-use Rattle.smp_script.specs.declared.version.Version.TheVariants.{One, Two}
 use Rattle.smp_script.specs.Versions.{limit_of, version_of, version_text}
 use Rattle.smp_script.proofs.Reader.Versions.{limit_within}
 
@@ -59,19 +55,7 @@ after_line setting n events earlier ls d =
 pub lines_ok : (setting : Setting) (n events : ℕ) (earlier : List Directive) (ls : List Line) (bs : List ℕ) (ds : List Directive) → lines_of bs ≡ ls
     → n ≤ 2001 → events ≤ 100000 → directives_of setting n events earlier ls ≡ Ok ds → AreLines setting n events earlier bs ds
 unfolding directives_of spelled_lines line_before
-lines_ok setting n events earlier [] bs ds e few under h =
-    let none : [] ≡ ds = cc in
-    subst (λ x. AreLines setting n events earlier bs x) none (record {
-      lines = [];
-      lines_are = refl;
-      spell = tt;
-      text = no_line bs e;
-      fit = tt;
-      apart = tt;
-      keys = tt;
-      count = omega arith;
-      total = omega arith;
-    })
+lines_ok setting n events earlier [] bs ds e few under h = search (no_line, arith)
 lines_ok setting n events earlier (l ∷ ls) bs ds e few under h = elim (cases_Bool (nat_lt 2000 n)) [
   | inl many ↦ let bad : ◌≡◌ {A = Result (List Directive) Fault} (Err (n, TooLong)) (Ok ds) = rw many at h in cc
   | inr fits ↦
@@ -129,23 +113,10 @@ after_first mode first = at_line 1 (title_of mode (fields_of first.0)) >>= after
 
 front_ok : (n : ℕ) (bs : List ℕ) (ls : List Line) (p : List ℕ × List Line) → lines_of bs ≡ ls → line_at n ls ≡ Ok p → Begins bs p.0 p.1
 front_ok n bs [] p e h = cc
-front_ok n bs (l ∷ ls) p e h =
-    let g = guarded l.ended (Ok (l.text, ls)) (n, Cut) p h in
-    let same : (l.text, ls) ≡ p = let t = g.1 in cc in
-    subst (λ q. Begins bs q.0 q.1) same (line_back bs l ls e g.0)
+front_ok n bs (l ∷ ls) p e h = search (guarded, line_back, arith)
 
 version_ok : (text : List ℕ) (version : Version) → version_of text ≡ Ok version → text ≡ version_text version
-version_ok text version h = elim (cases_Bool (bytes_eq text (version_text One))) [
-  | inl one ↦
-      let e : ◌≡◌ {A = Result Version Cause} (Ok One) (Ok version) = rw one at h in
-      let same : One ≡ version = cc in
-      same_word text (version_text One) one ∙ ap version_text same
-  | inr other ↦
-      let g = guarded (bytes_eq text (version_text Two)) (Ok Two) Word version (rw other at h) in
-      let e = g.1 in
-      let same : Two ≡ version = cc in
-      same_word text (version_text Two) g.0 ∙ ap version_text same
-]
+version_ok text version h = search (cases_Bool, same_word, guarded, arith)
 
 pub title_ok : (mode : Mode) (fields : List (List ℕ)) (version : Version) → title_of mode fields ≡ Ok version
     → fields ≡ codes "smp" ∷ version_text version ∷ mode_text mode ∷ []
@@ -166,14 +137,7 @@ record AreCpus (limit : ℕ) (fields : List (List ℕ)) (table : ℕ × ℕ) : T
 
 table_ok : (limit : ℕ) (nr mask : List ℕ) (table : ℕ × ℕ) → limit ≤ NR_CPUS → table_of limit nr mask ≡ Ok table
     → AreCpus limit (codes "cpus" ∷ nr ∷ mask ∷ []) table
-table_ok limit nr mask table few h =
-    let a = both (number_in 1 limit nr) (λ n. mask_of limit mask >>= λ m. cond (are_online n m) (Ok (n, m)) (Err Range)) table h in
-    let b = both (mask_of limit mask) (λ m. cond (are_online a.value m) (Ok (a.value, m)) (Err Range)) table a.then in
-    let g = guarded (are_online a.value b.value) (Ok (a.value, b.value)) Range table b.then in
-    let same : (a.value, b.value) ≡ table = let t = g.1 in cc in
-    let n = number_in-ok 1 limit nr a.value (omega (arith, few)) a.first in
-    subst (λ t. AreCpus limit (codes "cpus" ∷ nr ∷ mask ∷ []) t) same
-    (record { mask = mask; words = one_word _ _ (λ t. codes "cpus" ∷ t ∷ mask ∷ []) n.0; mask_is = b.first; some = n.1; within = n.2; online = g.0 })
+table_ok limit nr mask table few h = search (both, guarded, number_in-ok, arith)
 
 cpus_ok : (limit : ℕ) (fields : List (List ℕ)) (table : ℕ × ℕ) → limit ≤ NR_CPUS → cpus_of limit fields ≡ Ok table → AreCpus limit fields table
 cpus_ok limit (word ∷ nr ∷ mask ∷ []) table few h =
@@ -184,10 +148,7 @@ cpus_ok limit _ table few h = cc
 -- the second line's mask
 pub whole_mask : (limit : ℕ) (fields : List (List ℕ)) (table : ℕ × ℕ) → limit ≤ NR_CPUS → whole_cpus limit fields ≡ Ok table
     → mask_of limit (field_at fields 2) ≡ Ok table.1
-whole_mask limit fields table few h =
-    let g = guarded (are_whole fields) (cpus_of limit fields) Word table h in
-    let c = cpus_ok limit fields table few g.1 in
-    ap (λ f. mask_of limit (field_at f 2)) c.words ∙ c.mask_is
+whole_mask limit fields table few h = search (guarded, cpus_ok, arith)
 
 mask_field : (nr mask : List ℕ) → list_all is_field (codes "cpus" ∷ nr ∷ mask ∷ []) ≡ true → is_field mask ≡ true
 mask_field nr mask good = (and_parts (is_field mask) true (and_parts (is_field nr) (is_field mask && true) good).1).0

@@ -1,14 +1,12 @@
 -- Decimal numbers, as they are written.
-use Rattle.std.proofs.Common.{◌≡◌, ℕ, ◌<◌, ◌≤◌, ◌^◌, true, false, ◌&&◌, ◌==◌, nat_le, List, [], ◌∷◌, length, get_or, Result, Ok, Err, refl, sym, ap, ◌∙◌, inl}
-use Rattle.std.proofs.Common.{inr, arith}
+use Rattle.std.proofs.Common.{◌≡◌, ℕ, ◌<◌, ◌≤◌, ◌^◌, true, false, ◌==◌, List, [], ◌∷◌, length, get_or, Ok, refl, sym, ap, ◌∙◌}
+use Rattle.std.proofs.Common.{arith}
 use Rattle.std.specs.Fmt.{decimal}
 use Rattle.std.specs.List.{list_all}
 use Rattle.std.proofs.lemmas.Bool.{cases_lt, cases_Bool}
 use Rattle.std.proofs.lemmas.Bool.Decides.{nat_tests}
 use Rattle.std.proofs.lemmas.Fmt.{decimal_digit, decimal_nonempty, digits_decimal, digits_value-decimal, first_decimal, decimal-digits_value}
 use Rattle.std.proofs.lemmas.Str.Parse.{IsDigitsTest, IsNumeralModel, numerals_by_fold}
-use Rattle.smp_mask.specs.declared.error.Cause.{Cause}
-use Rattle.smp_mask.specs.declared.error.Cause.TheVariants.{Number, Range}
 use Rattle.smp_script.specs.Numbers.{is_digit, is_decimal, value_after, number_in}
 use Rattle.smp_script.specs.Spelling.{lacks, is_field}
 
@@ -16,25 +14,14 @@ abbrev AreDigits : List ℕ → Type 0
 AreDigits ds = list_all is_digit ds ≡ true
 
 tells : IsDigitsTest AreDigits
-tells = record {
-  empty = refl;
-  parts = λ c cs h. ((grind (arith, nat_tests, h), grind (arith, nat_tests, h)), grind (arith, nat_tests, h));
-  more = λ c cs r h. grind (arith, nat_tests, r.0, r.1, h);
-}
+tells = search (nat_tests, arith)
 
 own : IsNumeralModel AreDigits (value_after 0)
 own = numerals_by_fold AreDigits tells value_after (record { empty = λ n. refl; more = λ n c cs r. refl })
 
 decimal_from : (ds : List ℕ) → AreDigits ds → 0 < length ds → (get_or ds 0 0 ≡ 48 → length ds ≡ 1) → is_decimal ds ≡ true
 decimal_from [] h long first = absurd (omega arith)
-decimal_from (d ∷ ds) h long first = elim (cases_Bool (d == 48)) [
-  | inl zero_first ↦
-      let here : d ≡ 48 = grind (arith, nat_tests, zero_first) in
-      let alone : length ds ≡ 0 = let e = first here in omega (arith, e) in
-      let test : (length ds == 0) ≡ true = grind (arith, nat_tests, alone) in
-      rw (h, zero_first, test) refl
-  | inr other ↦ rw (h, other) refl
-]
+decimal_from (d ∷ ds) h long first = search (cases_Bool, nat_tests, arith)
 
 decimal_parts : (ds : List ℕ) → is_decimal ds ≡ true → AreDigits ds × (0 < length ds) × (get_or ds 0 0 ≡ 48 → length ds ≡ 1)
 decimal_parts [] h = cc
@@ -42,21 +29,14 @@ decimal_parts (d ∷ ds) h = (grind (arith, h), omega arith, λ e. grind (arith,
 
 -- what `decimal` writes is a decimal number
 pub is_decimal-decimal : (n : ℕ) → n < 2 ^ 64 → is_decimal (decimal n) ≡ true
-is_decimal-decimal n small = decimal_from (decimal n) (digits_decimal own n small) (decimal_nonempty n small) (λ e. elim (cases_lt 0 n) [
-  | inl some ↦ absurd (omega (arith, first_decimal n some small))
-  | inr none ↦ ap length (decimal_digit n (omega arith))
-])
+is_decimal-decimal n small = search (decimal_from, digits_decimal, own, decimal_nonempty, cases_lt, first_decimal, decimal_digit, arith)
 
 pub value_of_decimal : (n : ℕ) → n < 2 ^ 64 → value_after 0 (decimal n) ≡ n
 value_of_decimal n small = digits_value-decimal own n small
 
 -- a number that is written is read
 pub number_in-decimal : (low high n : ℕ) → low ≤ n → n ≤ high → n < 2 ^ 64 → number_in low high (decimal n) ≡ Ok n
-number_in-decimal low high n above below small =
-    let value : value_after 0 (decimal n) ≡ n = digits_value-decimal own n small in
-    let over : nat_le low n ≡ true = grind (arith, nat_tests) in
-    let under : nat_le n high ≡ true = grind (arith, nat_tests) in
-    rw (is_decimal-decimal n small, value, over, under) refl
+number_in-decimal low high n above below small = search (digits_value-decimal, own, nat_tests, is_decimal-decimal, arith)
 
 lacks_digits : (c : ℕ) (ds : List ℕ) → is_digit c ≡ false → AreDigits ds → lacks c ds ≡ true
 lacks_digits c [] h a = refl
@@ -71,22 +51,10 @@ decimal_lacks c n h small = lacks_digits c (decimal n) h (digits_decimal own n s
 
 -- it is a field
 pub is_field-decimal : (n : ℕ) → n < 2 ^ 64 → is_field (decimal n) ≡ true
-is_field-decimal n small =
-    let a : AreDigits (decimal n) = digits_decimal own n small in
-    let long : (length (decimal n) == 0) ≡ false = grind (arith, nat_tests, decimal_nonempty n small) in
-    rw (long, lacks_digits 32 (decimal n) refl a, lacks_digits 10 (decimal n) refl a) refl
+is_field-decimal n small = search (digits_decimal, own, nat_tests, decimal_nonempty, lacks_digits, arith)
 
 within : (low high : ℕ) (text : List ℕ) (n : ℕ) → number_in low high text ≡ Ok n → (is_decimal text ≡ true) × (value_after 0 text ≡ n) × (low ≤ n) × (n ≤ high)
-within low high text n h = elim (cases_Bool (is_decimal text)) [
-  | inl good ↦ elim (cases_Bool (nat_le low (value_after 0 text) && nat_le (value_after 0 text) high)) [
-    | inl in_range ↦
-        let e : ◌≡◌ {A = Result ℕ Cause} (Ok (value_after 0 text)) (Ok n) = rw (good, in_range) at h in
-        let same : value_after 0 text ≡ n = cc in
-        (good, same, grind (arith, nat_tests, in_range, same), grind (arith, nat_tests, in_range, same))
-    | inr out ↦ let e : ◌≡◌ {A = Result ℕ Cause} (Err Range) (Ok n) = rw (good, out) at h in cc
-  ]
-  | inr bad ↦ let e : ◌≡◌ {A = Result ℕ Cause} (Err Number) (Ok n) = rw bad at h in cc
-]
+within low high text n h = search (cases_Bool, nat_tests, arith)
 
 -- a number that is read was written so
 pub number_in-ok : (low high : ℕ) (text : List ℕ) (n : ℕ) → high < 2 ^ 64 → number_in low high text ≡ Ok n → (text ≡ decimal n) × (low ≤ n) × (n ≤ high)

@@ -16,9 +16,7 @@ parts_none mark (b ∷ bs) none =
 pub parts_some : (mark : ℕ) (bs : List ℕ) (i : ℕ) → i < length bs → get_or bs i 0 ≡ mark → ((k : ℕ) → k < i → get_or bs k 0 ≡ mark → ⊥)
     → parts_of mark bs ≡ take i bs ∷ parts_of mark (drop (suc i) bs)
 parts_some mark [] i h e none = absurd (omega arith)
-parts_some mark (b ∷ bs) zero h e none =
-    let t : (b == mark) ≡ true = grind (arith, nat_tests, e) in
-    rw t refl
+parts_some mark (b ∷ bs) zero h e none = search (nat_tests, arith)
 parts_some mark (b ∷ bs) (suc i) h e none =
     let head : b ≡ mark → ⊥ = none 0 (omega arith) in
     let f : (b == mark) ≡ false = grind (arith, nat_tests, head) in
@@ -29,9 +27,7 @@ parts_some mark (b ∷ bs) (suc i) h e none =
 pub lines_some : (bs : List ℕ) (i : ℕ) → i < length bs → get_or bs i 0 ≡ 10 → ((k : ℕ) → k < i → get_or bs k 0 ≡ 10 → ⊥)
     → lines_of bs ≡ record { text = take i bs; ended = true } ∷ lines_of (drop (suc i) bs)
 lines_some [] i h e none = absurd (omega arith)
-lines_some (b ∷ bs) zero h e none =
-    let t : (b == 10) ≡ true = grind (arith, nat_tests, e) in
-    rw t refl
+lines_some (b ∷ bs) zero h e none = search (nat_tests, arith)
 lines_some (b ∷ bs) (suc i) h e none =
     let head : b ≡ 10 → ⊥ = none 0 (omega arith) in
     let f : (b == 10) ≡ false = grind (arith, nat_tests, head) in

@@ -16,9 +16,7 @@ parts_plain mark (b ∷ bs) h =
 
 -- such a byte ends the first part
 pub parts_front : (mark : ℕ) (t rest : List ℕ) → lacks mark t ≡ true → parts_of mark (t ++ mark ∷ rest) ≡ t ∷ parts_of mark rest
-parts_front mark [] rest h =
-    let here : (mark == mark) ≡ true = grind (arith, nat_tests) in
-    rw here refl
+parts_front mark [] rest h = search (nat_tests, arith)
 parts_front mark (b ∷ bs) rest h =
     let here : (b == mark) ≡ false = grind (arith, h) in
     let more : lacks mark bs ≡ true = grind (arith, h) in
@@ -26,9 +24,7 @@ parts_front mark (b ∷ bs) rest h =
 
 -- parts that are joined are read
 pub parts_join : (mark : ℕ) (t : List ℕ) (ts : List (List ℕ)) → list_all (lacks mark) (t ∷ ts) ≡ true → parts_of mark (join_with_byte mark (t ∷ ts)) ≡ t ∷ ts
-parts_join mark t [] h =
-    let here : lacks mark t ≡ true = grind (arith, h) in
-    parts_plain mark t here
+parts_join mark t [] h = search (parts_plain, arith)
 parts_join mark t (u ∷ us) h =
     let here : lacks mark t ≡ true = grind (arith, h) in
     let rest : list_all (lacks mark) (u ∷ us) ≡ true = grind (arith, h) in

@@ -31,26 +31,12 @@ join_byte mark b t (u ∷ us) = refl
 -- the parts, joined, are the text
 pub join_parts : (mark : ℕ) (bs : List ℕ) → join_with_byte mark (parts_of mark bs) ≡ bs
 join_parts mark [] = refl
-join_parts mark (b ∷ bs) =
-    let rest = first_of mark bs in
-    let back : join_with_byte mark (rest.part ∷ rest.others) ≡ bs = ap (join_with_byte mark) (sym rest.are) ∙ join_parts mark bs in
-    elim (cases_Bool (b == mark)) [
-      | inl same ↦
-          let here : b ≡ mark = grind (arith, nat_tests, same) in
-          rw (same, rest.are) (join_mark mark rest.part rest.others ∙ ap (λ t. mark ∷ t) back ∙ ap (λ x. x ∷ bs) (sym here))
-      | inr other ↦ rw (other, rest.are) (join_byte mark b rest.part rest.others ∙ ap (λ t. b ∷ t) back)
-    ]
+join_parts mark (b ∷ bs) = grind (first_of, cases_Bool, nat_tests, join_mark, join_byte, join_parts mark bs, arith)
 
 -- no part has such a byte
 pub parts_lack_marks : (mark : ℕ) (bs : List ℕ) → list_all (lacks mark) (parts_of mark bs) ≡ true
 parts_lack_marks mark [] = refl
-parts_lack_marks mark (b ∷ bs) =
-    let rest = first_of mark bs in
-    let others : list_all (lacks mark) (rest.part ∷ rest.others) ≡ true = ap (list_all (lacks mark)) (sym rest.are) ∙ parts_lack_marks mark bs in
-    elim (cases_Bool (b == mark)) [
-      | inl same ↦ rw same (parts_lack_marks mark bs)
-      | inr other ↦ rw (other, rest.are) (rw other others)
-    ]
+parts_lack_marks mark (b ∷ bs) = grind (first_of, cases_Bool, parts_lack_marks mark bs, arith)
 
 -- nor a byte that the text lacks
 pub parts_lack : (mark c : ℕ) (bs : List ℕ) → lacks c bs ≡ true → list_all (lacks c) (parts_of mark bs) ≡ true
@@ -85,8 +71,7 @@ never b (l ∷ ls) h = cc
 onto_begins : (b : ℕ) (bs : List ℕ) (l : Line) (ls : List Line) (all : List Line) → (b == 10) ≡ false → all ≡ lines_of bs
     → ((m : Line) (ms : List Line) → all ≡ m ∷ ms → m.ended ≡ true → Begins bs m.text ms) → onto_line b all ≡ l ∷ ls → l.ended ≡ true
     → Begins (b ∷ bs) l.text ls
-onto_begins b bs l ls [] other e more h ended =
-    let bad : false ≡ true = ap (λ x. x.ended) (head_same _ _ _ _ h) ∙ ended in cc
+onto_begins b bs l ls [] other e more h ended = search (head_same, arith)
 onto_begins b bs l ls (m ∷ ms) other e more h ended =
     let head : record { text = b ∷ m.text; ended = m.ended } ≡ l = head_same _ _ _ _ h in
     let tail : ms ≡ ls = tail_same _ _ _ _ h in
@@ -119,7 +104,4 @@ line_back (b ∷ bs) l ls h ended = elim (cases_Bool (b == 10)) [
 -- a text with no line is empty
 pub no_line : (bs : List ℕ) → lines_of bs ≡ [] → bs ≡ []
 no_line [] h = refl
-no_line (b ∷ bs) h = elim (cases_Bool (b == 10)) [
-  | inl feed ↦ let same : ◌≡◌ {A = List Line} (record { text = []; ended = true } ∷ lines_of bs) [] = rw feed at h in cc
-  | inr other ↦ let same : onto_line b (lines_of bs) ≡ [] = rw other at h in absurd (never b (lines_of bs) same)
-]
+no_line (b ∷ bs) h = search (cases_Bool, never, arith)

@@ -1,11 +1,10 @@
 -- The canonical text of a script.
-use Rattle.std.proofs.Common.{◌≡◌, ℕ, map, ◌<◌, ◌≤◌, ◌^◌, ◌+◌, Bool, true, false, ◌==◌, nat_lt, cond, List, [], ◌∷◌, length, Option, Some, None, Result, Ok}
+use Rattle.std.proofs.Common.{◌≡◌, ℕ, map, ◌<◌, ◌≤◌, ◌^◌, ◌+◌, Bool, true, false, ◌==◌, cond, List, [], ◌∷◌, length, Option, Some, None, Result, Ok}
 use Rattle.std.proofs.Common.{codes, refl, sym, ap, ◌∙◌, inl, inr, arith}
 use Rattle.std.specs.Str.{bytes_eq}
 use Rattle.std.proofs.lemmas.Bool.{cases_Bool}
 use Rattle.std.proofs.lemmas.Bool.Decides.{nat_tests}
 use Rattle.std.proofs.lemmas.Slice.Eq.{bytes_eq-Decides}
-use Rattle.smp_mask.specs.Mask.{members}
 use Rattle.smp_mask.specs.ListText.{list_text}
 use Rattle.smp_mask.specs.Reading.{after, digit, longer, mask_of_text, or_refused, read_from, step}
 use Rattle.smp_mask.specs.declared.mask.TheConstants.{NR_CPUS}
@@ -15,11 +14,10 @@ use Rattle.smp_mask.proofs.Members.{none_below}
 use Rattle.smp_script.specs.Script.{Script, are_online, script_of}
 use Rattle.smp_script.specs.Spelling.{IsLawful, IsMaskText, LineHasSets, SpellLine, canonical_lines, canonical_text, lacks, line_masks, mask_text}
 use Rattle.smp_script.specs.declared.directive.Directive.{Directive}
-use Rattle.smp_script.specs.declared.directive.Directive.TheVariants.{Start, Step, Show, Do}
+use Rattle.smp_script.specs.declared.directive.Directive.TheVariants.{Start, Do}
 use Rattle.smp_script.specs.declared.mode.Mode.{Mode}
 use Rattle.smp_script.specs.declared.request.Request.TheVariants as request
-use Rattle.smp_words.specs.declared.command.Command.TheVariants.{Post, Send, Done, Handle, Gate, Ungate, Begin, Enter, Advance, RunOne, Finish, Poll, Key, Site}
-use Rattle.smp_words.specs.declared.command.Command.TheVariants.{Nudge}
+use Rattle.smp_words.specs.declared.command.Command.TheVariants.{Begin}
 use Rattle.std.specs.List.{AllByRecursion}
 use Rattle.smp_script.proofs.Written.Writing.{spelling_is_read}
 use Rattle.std.proofs.Math.Nat.{pow-le-pow_right}
@@ -73,21 +71,11 @@ some_text (b ∷ bs) m e some = grind (arith, nat_tests)
 
 no_dash : (text : List ℕ) (m : ℕ) → mask_of_text NR_CPUS text ≡ Ok m → bytes_eq text (codes "-") ≡ false
 unfolding read_from
-no_dash text m e = elim (cases_Bool (bytes_eq text (codes "-"))) [
-  | inl dash ↦
-      let same : text ≡ codes "-" = (bytes_eq-Decides text (codes "-")).0 dash in
-      let bad : mask_of_text NR_CPUS (codes "-") ≡ Ok m = ap (mask_of_text NR_CPUS) (sym same) ∙ e in
-      cc
-  | inr other ↦ other
-]
+no_dash text m e = search (cases_Bool, bytes_eq-Decides, arith)
 
 -- some CPU online is some member
 some_online : (nr mask : ℕ) → are_online nr mask ≡ true → mask ≡ 0 → ⊥
-some_online nr mask h z =
-    let long : nat_lt 0 (length (members mask)) ≡ true = grind (arith, h) in
-    let none : members mask ≡ [] = none_below mask NR_CPUS (λ c l. rw z (grind (arith, nat_tests))) in
-    let bad : nat_lt 0 (length {A = ℕ} []) ≡ true = ap (λ xs. nat_lt 0 (length xs)) (sym none) ∙ long in
-    cc
+some_online nr mask h z = search (none_below, nat_tests, arith)
 
 -- the canonical text of a mask is one of its texts
 list_is_text : (limit m : ℕ) → limit ≤ NR_CPUS → m < 2 ^ limit → (m ≡ 0 → ⊥) → IsMaskText limit (list_text m) m
@@ -114,35 +102,9 @@ mask_is_text limit m few set = elim (cases_Bool (m == 0)) [
 ]
 
 line_is_spelled : (limit : ℕ) (d : Directive) → limit ≤ NR_CPUS → LineHasSets limit d → SpellLine limit (line_masks d, d)
-line_is_spelled limit (Start cpu (Begin work)) few h = (mask_is_text limit work.mask few h.0, mask_is_text limit work.active few h.1)
-line_is_spelled limit (Start cpu (Post number dst class func info tries)) few h = tt
-line_is_spelled limit (Start cpu (Send dst)) few h = tt
-line_is_spelled limit (Start cpu (Done number)) few h = tt
-line_is_spelled limit (Start cpu Handle) few h = tt
-line_is_spelled limit (Start cpu Gate) few h = tt
-line_is_spelled limit (Start cpu Ungate) few h = tt
-line_is_spelled limit (Start cpu (Enter slot)) few h = tt
-line_is_spelled limit (Start cpu (Advance answer)) few h = tt
-line_is_spelled limit (Start cpu (RunOne answer)) few h = tt
-line_is_spelled limit (Start cpu Finish) few h = tt
-line_is_spelled limit (Start cpu Poll) few h = tt
-line_is_spelled limit (Start cpu (Key key)) few h = tt
-line_is_spelled limit (Start cpu (Site site)) few h = tt
-line_is_spelled limit (Start cpu (Nudge key up)) few h = tt
-line_is_spelled limit (Step cpu count) few h = tt
-line_is_spelled limit Show few h = tt
-line_is_spelled limit (Do cpu count (request.Single wait dst func info)) few h = tt
-line_is_spelled limit (Do cpu count (request.User user dst func info)) few h = tt
-line_is_spelled limit (Do cpu count (request.Any wait mask func info)) few h = mask_is_text limit mask few h
-line_is_spelled limit (Do cpu count (request.Many wait mask func info)) few h = mask_is_text limit mask few h
-line_is_spelled limit (Do cpu count (request.Cond which wait mask func info)) few h = mask_is_text limit mask few h
-line_is_spelled limit (Do cpu count (request.One dst func arg)) few h = tt
-line_is_spelled limit (Do cpu count (request.Two a b func arg)) few h = tt
-line_is_spelled limit (Do cpu count (request.Machine None func arg)) few h = tt
-line_is_spelled limit (Do cpu count (request.Machine (Some mask) func arg)) few h = mask_is_text limit mask few h
-line_is_spelled limit (Do cpu count (request.Set key on)) few h = tt
-line_is_spelled limit (Do cpu count (request.Inc key)) few h = tt
-line_is_spelled limit (Do cpu count (request.Dec key)) few h = tt
+line_is_spelled limit (Start cpu (Begin work)) few h = search mask_is_text
+line_is_spelled limit (Do cpu count (request.Machine (Some mask) func arg)) few h = search mask_is_text
+line_is_spelled limit _ few h = search mask_is_text
 
 lines_are_spelled : (limit : ℕ) (ds : List Directive) → limit ≤ NR_CPUS → AllByRecursion (LineHasSets limit) ds
     → AllByRecursion (SpellLine limit) (canonical_lines ds)

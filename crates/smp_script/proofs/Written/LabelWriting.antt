@@ -11,7 +11,7 @@ use Rattle.smp_labels.specs.Labels.{AreLabels, Labels}
 use Rattle.smp_labels.specs.declared.entries.Entry.{Entry}
 use Rattle.smp_labels.specs.declared.words.TheConstants.{MOST_KEYS, MOST_SITES}
 use Rattle.smp_script.specs.Lines.{fields_of, lines_of}
-use Rattle.smp_script.specs.Numbers.{is_digit, value_after}
+use Rattle.smp_script.specs.Numbers.{is_digit}
 use Rattle.smp_script.specs.Fields.{word32}
 use Rattle.smp_script.specs.Labels.{Item, entry_of, has_number, is_below, is_item, is_labels, item_of, items_of, labels_in, whole_labels}
 use Rattle.smp_script.specs.Script.{labels_at}
@@ -26,23 +26,11 @@ AreSmall entries = AllByRecursion (λ e. e.key < 4) entries
 
 -- an item is read
 item_read : (e : Entry) → e.key < 4 → item_of (item_text e) ≡ Some (decimal e.key, e.branch)
-item_read e small =
-    let plain : lacks 58 (decimal e.key) ≡ true = decimal_lacks 58 e.key refl (omega arith) in
-    elim (cases_Bool e.branch) [
-      | inl on ↦ rw on (rw (parts_front 58 (decimal e.key) (codes "1") plain) refl)
-      | inr off ↦ rw off (rw (parts_front 58 (decimal e.key) (codes "0") plain) refl)
-    ]
+item_read e small = search (decimal_lacks, cases_Bool, parts_front, arith)
 
 -- and has no byte of another kind
 item_lacks : (c : ℕ) (e : Entry) → is_digit c ≡ false → (58 == c) ≡ false → e.key < 4 → lacks c (item_text e) ≡ true
-item_lacks c e digit colon small =
-    let front : lacks c (decimal e.key) ≡ true = decimal_lacks c e.key digit (omega arith) in
-    let zero_ : (48 == c) ≡ false = grind (arith, nat_tests, digit) in
-    let one_ : (49 == c) ≡ false = grind (arith, nat_tests, digit) in
-    elim (cases_Bool e.branch) [
-      | inl on ↦ rw (on, lacks-append c (decimal e.key) (58 ∷ codes "1"), front, colon, one_) refl
-      | inr off ↦ rw (off, lacks-append c (decimal e.key) (58 ∷ codes "0"), front, colon, zero_) refl
-    ]
+item_lacks c e digit colon small = search (decimal_lacks, nat_tests, cases_Bool, lacks-append, arith)
 
 items_lack : (c : ℕ) (es : List Entry) → is_digit c ≡ false → (58 == c) ≡ false → AreSmall es → list_all (lacks c) (map item_text es) ≡ true
 items_lack c [] digit colon small = refl
@@ -87,10 +75,7 @@ has_number_read : (e : Entry) → e.key < 4 → has_number (item_text e) ≡ tru
 has_number_read e small = rw (item_read e small) (is_decimal-decimal e.key (omega arith))
 
 below_read : (keys : ℕ) (e : Entry) → e.key < 4 → e.key < keys → is_below keys (item_text e) ≡ true
-below_read keys e small under =
-    let value : value_after 0 (decimal e.key) ≡ e.key = value_of_decimal e.key (omega arith) in
-    let test : nat_lt e.key keys ≡ true = grind (arith, nat_tests) in
-    rw (item_read e small) (rw (is_decimal-decimal e.key (omega arith), value, test) refl)
+below_read keys e small under = search (value_of_decimal, nat_tests, item_read, is_decimal-decimal, arith)
 
 entry_read : (e : Entry) → e.key < 4 → entry_of (item_text e) ≡ e
 entry_read e small = rw (item_read e small) (rw (word_read e.key small) refl)

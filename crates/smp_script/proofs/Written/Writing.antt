@@ -8,19 +8,18 @@ use Rattle.std.proofs.lemmas.List.Sums.{sum_by-cons}
 use Rattle.smp_mask.specs.declared.mask.TheConstants.{NR_CPUS}
 use Rattle.smp_labels.specs.Labels.{Labels}
 use Rattle.smp_script.specs.declared.directive.Directive.{Directive}
-use Rattle.smp_script.specs.declared.directive.Directive.TheVariants.{Start, Step, Show, Do}
+use Rattle.smp_script.specs.declared.directive.Directive.TheVariants.{Start}
 use Rattle.smp_script.specs.declared.mode.Mode.{Mode}
 use Rattle.smp_script.specs.declared.mode.Mode.TheVariants.{Replay, Run}
 use Rattle.smp_script.specs.declared.setting.Setting.{Setting}
 use Rattle.smp_script.specs.Keys.{AreApart, shares}
 use Rattle.smp_script.specs.Modes.{mode_text, setting_of}
 use Rattle.smp_script.proofs.Reader.ApartKeys.{apart_at_first, apart_both}
-use Rattle.smp_script.proofs.Written.ReplayWriting.{replay_fields, replay_read}
-use Rattle.smp_script.proofs.Written.RunWriting.{run_fields, run_read}
+use Rattle.smp_script.proofs.Written.LineWriting.{line_written}
 use Rattle.smp_script.specs.Lines.{fields_of, lines_of}
 use Rattle.smp_script.specs.Fields.{mask_of}
 use Rattle.smp_script.specs.Labels.{is_labels}
-use Rattle.smp_script.specs.Commands.{directive_of, line_directive}
+use Rattle.smp_script.specs.Commands.{line_directive}
 use Rattle.smp_script.specs.Script.{Script, are_online, directives_of, events_of, first_line, labels_at, script_of, title_of, whole_cpus}
 use Rattle.smp_script.specs.Spelling.{DirectiveFits, IsSpelling, LabelsFit, Masks, SpellLine, directive_words, is_field}
 use Rattle.smp_script.specs.Spelling.{labels_before, line_before, spelled_lines}
@@ -28,7 +27,7 @@ use Rattle.smp_script.proofs.Texts.Decimals.{is_field-decimal, number_in-decimal
 use Rattle.smp_script.proofs.Written.LabelWriting.{labels_line_read}
 use Rattle.smp_script.proofs.Texts.Joins.{fields_join, lines_of-line, whole_fields}
 use Rattle.smp_script.specs.declared.version.Version.{Version}
-use Rattle.smp_script.specs.declared.version.Version.TheVariants.{One, Two}
+use Rattle.smp_script.specs.declared.version.Version.TheVariants.{One}
 use Rattle.smp_script.specs.Versions.{limit_of, version_text}
 use Rattle.smp_script.proofs.Reader.Versions.{limit_within}
 
@@ -38,20 +37,7 @@ fields_back (t ∷ ts) some h = fields_join t ts h
 
 some_words : (masks : Masks) (d : Directive) → 0 < length (directive_words masks d)
 some_words masks (Start cpu command) = omega arith
-some_words masks (Step cpu count) = omega arith
-some_words masks Show = omega arith
-some_words masks (Do cpu count request) = omega arith
-
--- the words of a line are fields, and are read as the line
-mode_fields : (mode : Mode) (limit mask : ℕ) (masks : Masks) (d : Directive) → DirectiveFits mode mask d → SpellLine limit (masks, d)
-    → list_all is_field (directive_words masks d) ≡ true
-mode_fields Replay limit mask masks d f s = replay_fields limit mask masks d f s
-mode_fields Run limit mask masks d f s = run_fields limit mask masks d f s
-
-mode_read : (mode : Mode) (limit mask : ℕ) (masks : Masks) (d : Directive) → DirectiveFits mode mask d → SpellLine limit (masks, d)
-    → directive_of (record { mode = mode; limit = limit; online = mask }) (directive_words masks d) ≡ Ok d
-mode_read Replay limit mask masks d f s = replay_read limit mask masks d f s
-mode_read Run limit mask masks d f s = run_read limit mask masks d f s
+some_words masks _ = omega arith
 
 -- the numbers of a line fit, as the first two lines settle
 abbrev Fits : Setting → Directive → Type 0
@@ -59,7 +45,7 @@ Fits setting d = DirectiveFits setting.mode setting.online d
 
 words_are_fields : (setting : Setting) (masks : Masks) (d : Directive) → Fits setting d → SpellLine setting.limit (masks, d)
     → list_all is_field (directive_words masks d) ≡ true
-words_are_fields setting masks d f s = mode_fields setting.mode setting.limit setting.online masks d f s
+words_are_fields setting masks d f s = (line_written setting.mode setting.limit setting.online masks d f s).0
 
 line_read : (setting : Setting) (masks : Masks) (d : Directive) → Fits setting d → SpellLine setting.limit (masks, d)
     → line_directive setting (join_with_byte 32 (directive_words masks d)) ≡ Ok d
@@ -67,7 +53,7 @@ unfolding line_directive
 line_read setting masks d f s =
     let fields = words_are_fields setting masks d f s in
     rw (fields_back (directive_words masks d) (some_words masks d) fields, whole_fields (directive_words masks d) fields)
-    (mode_read setting.mode setting.limit setting.online masks d f s)
+    (line_written setting.mode setting.limit setting.online masks d f s).1
 
 abbrev asked : List (Masks × Directive) → List Directive
 asked lines = map (λ l. l.1) lines
@@ -99,19 +85,14 @@ lines_are_read setting n events earlier ((masks, d) ∷ lines) f s apart keys co
 cpus_are_read : (limit : ℕ) (nr online : ℕ) (mask : List ℕ) → 1 ≤ nr → nr ≤ limit → limit ≤ NR_CPUS → is_field mask ≡ true → mask_of limit mask ≡ Ok online
     → are_online nr online ≡ true
     → whole_cpus limit (codes "cpus" ∷ decimal nr ∷ mask ∷ []) ≡ Ok (nr, online)
-cpus_are_read limit nr online mask some within few field is_mask are =
-    let words : list_all is_field (codes "cpus" ∷ decimal nr ∷ mask ∷ []) ≡ true = rw (is_field-decimal nr (omega arith), field) refl in
-    let read = number_in-decimal 1 limit nr some within (omega arith) in
-    rw (whole_fields (codes "cpus" ∷ decimal nr ∷ mask ∷ []) words, read, is_mask, are) refl
+cpus_are_read limit nr online mask some within few field is_mask are = search (is_field-decimal, number_in-decimal, whole_fields, arith)
 
 longer : (n : ℕ) → n ≤ 65536 → nat_lt 65536 n ≡ false
 longer n h = grind (arith, nat_tests)
 
 not_labels : (masks : Masks) (d : Directive) → is_labels (directive_words masks d) ≡ false
 not_labels masks (Start cpu command) = refl
-not_labels masks (Step cpu count) = refl
-not_labels masks Show = refl
-not_labels masks (Do cpu count request) = refl
+not_labels masks _ = refl
 
 -- lines of a script are no labels line
 no_labels_line : (setting : Setting) (lines : List (Masks × Directive)) → AllByRecursion (Fits setting) (asked lines)
@@ -119,10 +100,7 @@ no_labels_line : (setting : Setting) (lines : List (Masks × Directive)) → All
     → labels_at (lines_of (spelled_lines lines)) ≡ Ok (None, lines_of (spelled_lines lines))
 unfolding spelled_lines
 no_labels_line setting [] f s = refl
-no_labels_line setting ((masks, d) ∷ lines) f s =
-    let fields = words_are_fields setting masks d f.0 s.0 in
-    rw (lines_of-line (directive_words masks d) (spelled_lines lines) fields)
-    (rw (fields_back (directive_words masks d) (some_words masks d) fields, not_labels masks d) refl)
+no_labels_line setting ((masks, d) ∷ lines) f s = search (words_are_fields, lines_of-line, fields_back, some_words, not_labels, arith)
 
 third_read : (setting : Setting) (labels : Option Labels) (lines : List (Masks × Directive)) → LabelsFit labels → AllByRecursion (Fits setting) (asked lines)
     → AllByRecursion (SpellLine setting.limit) lines
@@ -132,16 +110,14 @@ third_read setting (Some labels) lines h f s = labels_line_read labels (spelled_
 
 title_fields : (mode : Mode) (version : Version) → list_all is_field (codes "smp" ∷ version_text version ∷ mode_text mode ∷ []) ≡ true
 title_fields Replay One = refl
-title_fields Replay Two = refl
 title_fields Run One = refl
-title_fields Run Two = refl
+title_fields _ _ = refl
 
 title_read : (mode : Mode) (version : Version)
     → title_of mode (fields_of (join_with_byte 32 (codes "smp" ∷ version_text version ∷ mode_text mode ∷ []))) ≡ Ok version
 title_read Replay One = refl
-title_read Replay Two = refl
 title_read Run One = refl
-title_read Run Two = refl
+title_read _ _ = refl
 
 -- a spelling of a script is read as it
 pub spelling_is_read : (mode : Mode) (mask : List ℕ) (lines : List (Masks × Directive)) (script : Script) (text : List ℕ)
