@@ -1,26 +1,20 @@
-//! What a script prints, beside what it is to print.
+//! What an example prints, beside what it is to print.
 
-ghost use Rattle.std.specs.Prelude.{◌≡◌};
+ghost use Rattle.std.specs.Prelude.{◌≡◌, false};
 ghost use Rattle.std.specs.Str.{bytes_eq};
+ghost use Rattle.smp_script.specs.Watched.{failed_of};
 
+use crate::kind::Kind;
+use smp_explore::Unwatched;
 use smp_mask::SmpError;
 use smp_replay::replay_script;
+use smp_report::explore_script;
 use smp_run::{FreePace, run_script};
-use smp_script::{Mode, Watched};
+use smp_script::Watched;
+use smp_show::show_lanes;
 use std::alloc::Global;
 use std::sync::Wait;
 use std::thread::Threads;
-
-/// The kind of an example, by the words that `smp_runner` takes it with: `None` where they are none of the two.
-pub fn mode_of(words: &[u8]) -> Option<Mode> {
-    if are_same(words, b"replay\n") {
-        Some(Mode::Replay)
-    } else if are_same(words, b"run\n") {
-        Some(Mode::Run)
-    } else {
-        None
-    }
-}
 
 // Whether these are the same bytes.
 fn are_same(printed: &[u8], expected: &[u8]) -> bool
@@ -29,21 +23,39 @@ fn are_same(printed: &[u8], expected: &[u8]) -> bool
     printed == expected
 }
 
-/// Whether a script prints these bytes, to the last, when it is replayed or run. `BadScript` where it is no script of this
-/// kind, `NoMemory` where a growth was refused or a thread can't be started.
+// Takes an example as its kind says.
+fn take<T: Threads + Wait + Sync>(
+    threads: &T,
+    alloc: Global,
+    kind: Kind,
+    reader: &mut Watched<&[u8]>,
+    writer: &mut Watched<Vec<u8>>,
+) -> Option<SmpError>
+    requires reads { failed_of reader.old ≡ false }
+    requires writes { failed_of writer.old ≡ false }
+{
+    match kind {
+        Kind::Replay => replay_script(alloc, reader, writer).err(),
+        Kind::Run => run_script(threads, alloc, reader, writer, &FreePace).err(),
+        Kind::Lanes => show_lanes(alloc, reader, writer).err(),
+        Kind::Explore(task) => explore_script(alloc, task, reader, writer, &mut Unwatched).err(),
+    }
+}
+
+/// Whether an example of this kind prints these bytes, to the last. `BadScript` where its text is none of this kind,
+/// `NoMemory` where a growth was refused or a thread can't be started.
 pub fn prints<T: Threads + Wait + Sync>(
     threads: &T,
     alloc: Global,
-    mode: Mode,
-    script: &[u8],
+    kind: Kind,
+    text: &[u8],
     expected: &[u8],
 ) -> Result<bool, SmpError> {
-    let mut reader = Watched::new(script);
+    let mut reader = Watched::new(text);
     let mut writer = Watched::new(Vec::new(alloc));
-    match mode {
-        Mode::Replay => replay_script(alloc, &mut reader, &mut writer)?,
-        Mode::Run => run_script(threads, alloc, &mut reader, &mut writer, &FreePace)?,
-    };
+    if let Some(error) = take(threads, alloc, kind, &mut reader, &mut writer) {
+        return Err(error);
+    }
     let printed = writer.into_inner();
     Ok(are_same(printed.as_slice(), expected))
 }

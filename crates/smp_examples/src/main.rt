@@ -1,12 +1,18 @@
-//! Replays or runs the examples of the folder that it is run in, and compares what each prints with what is expected of it.
+//! Takes each example of the folder that it is run in, and compares what it prints with what is expected of it.
 //!
-//! An example is a script `NAME.smp`, and `NAME.smp.stdout` is what it prints. The examples stand in `data`, so that the gate
-//! compares all of them. `NAME.smp.args` is the word by which it is taken, as `smp_runner` takes it: `replay` or `run`.
+//! An example is a text `NAME.smp`, and `NAME.smp.stdout` is what it prints. `NAME.smp.args` is the word by which it is
+//! taken. The examples stand in `data`, so that the gate compares all of them: those of `smp_runner` at its top, and those of
+//! `smp` in the folder `smp`.
+//!
+//! - `kind`: How an example is taken.
+//! - `compare`: What an example prints, beside what it is to print.
 #![tactic(auto)]
 
 mod compare;
+mod kind;
 
-use crate::compare::{mode_of, prints};
+use crate::compare::prints;
+use crate::kind::kind_of;
 use smp_mask::SmpError;
 use std::fs::{File, read_dir};
 use std::io;
@@ -27,14 +33,14 @@ fn read_beside(rt: &HostRuntime, name: &str, ending: &str) -> io::Result<Vec<u8>
     read_file(rt, format!(in rt.alloc(); "{name}.{ending}")?.as_str())
 }
 
-// The names of the scripts in this folder, ascending.
-fn scripts(rt: &HostRuntime) -> io::Result<Vec<String>> {
+// The names of the examples in this folder, ascending, each behind `front`.
+fn examples_in(rt: &HostRuntime, folder: &str, front: &str) -> io::Result<Vec<String>> {
     let mut names = Vec::new(rt.alloc());
-    for entry in read_dir(rt, ".")? {
+    for entry in read_dir(rt, folder)? {
         let entry = entry?;
         let name = entry.file_name();
         if name.ends_with(".smp") {
-            names.push(String::from_str(rt.alloc(), name)?)?;
+            names.push(format!(in rt.alloc(); "{front}{name}")?)?;
         }
     }
     names.sort()?;
@@ -57,30 +63,43 @@ fn compare_one<T: Threads + Wait + Sync>(
     threads: &T,
     name: &str,
 ) -> io::Result<bool> {
-    let script = read_file(rt, name)?;
+    let text = read_file(rt, name)?;
     let expected = read_beside(rt, name, "stdout")?;
-    let words = read_beside(rt, name, "args")?;
-    let Some(mode) = mode_of(words.as_slice()) else {
-        println!(rt; "{name}: its words are neither replay nor run")?;
+    let word = read_beside(rt, name, "args")?;
+    let Some(kind) = kind_of(word.as_slice()) else {
+        println!(rt; "{name}: there is no such way to take it")?;
         return Ok(false);
     };
     let answer = prints(
         threads,
         rt.alloc(),
-        mode,
-        script.as_slice(),
+        kind,
+        text.as_slice(),
         expected.as_slice(),
     );
     tell(rt, name, answer)
 }
 
-fn main(rt: HostRuntime) -> io::Result<ExitCode> {
-    let names = scripts(&rt)?;
+// Compares the examples of a folder, and prints how many there are: whether all are as expected.
+fn compare_all<T: Threads + Wait + Sync>(
+    rt: &HostRuntime,
+    threads: &T,
+    folder: &str,
+    front: &str,
+) -> io::Result<bool> {
+    let names = examples_in(rt, folder, front)?;
     let mut all = true;
     for name in names.iter() {
-        all = compare_one(&rt, &rt, name.as_str())? && all;
+        all = compare_one(rt, threads, name.as_str())? && all;
     }
     let count = names.len();
     println!(rt; "{count} examples")?;
+    Ok(all)
+}
+
+fn main(rt: HostRuntime) -> io::Result<ExitCode> {
+    let runner = compare_all(&rt, &rt, ".", "")?;
+    let smp = compare_all(&rt, &rt, "smp", "smp/")?;
+    let all = runner && smp;
     Ok(ExitCode::from(if all { 0 } else { 1 }))
 }

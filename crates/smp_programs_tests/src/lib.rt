@@ -1,5 +1,0 @@
-//! Worked explorations, and texts with faults.
-#![tactic(auto)]
-
-#[cfg(test)]
-mod tests;

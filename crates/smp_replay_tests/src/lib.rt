@@ -1,5 +1,0 @@
-//! Worked scripts, byte for byte, and failing devices.
-#![tactic(auto)]
-
-#[cfg(test)]
-mod tests;

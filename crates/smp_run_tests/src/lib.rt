@@ -1,5 +1,0 @@
-//! Worked run scripts.
-#![tactic(auto)]
-
-#[cfg(test)]
-mod tests;

@@ -1,0 +1,2 @@
+mod replays;
+mod runs;

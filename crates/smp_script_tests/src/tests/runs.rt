@@ -1,0 +1,181 @@
+mod paces;
+
+use crate::tests::runs::paces::{Counts, Meets, Stays};
+use smp_mask::{Cause, SmpError};
+use smp_run::*;
+use smp_script::{Outcome, Watched};
+use std::alloc::Global;
+use std::sync::Wait;
+use std::test::*;
+use std::thread::Threads;
+
+/// How the run of a script ends, and what it writes.
+fn run<R: Threads + Wait + Sync, P: Pace + Sync>(
+    rt: &R,
+    alloc: Global,
+    script: &[u8],
+    pace: &P,
+) -> (Result<Outcome, SmpError>, Vec<u8, Global>) {
+    let mut reader = Watched::new(script);
+    let mut writer = Watched::new(Vec::new(alloc));
+    let answer = run_script(rt, alloc, &mut reader, &mut writer, pace);
+    (answer, writer.into_inner())
+}
+
+const FOUR: &[u8] =
+    b"smp 1 run\ncpus 4 0-3\ndo 0 100 many wait 0-3 1 0\ndo 0 100 many nowait 0-3 1 0\ndo 1 100 many wait 0-3 1 0\ndo 1 100 many nowait 0-3 1 0\ndo 2 100 many wait 0-3 1 0\ndo 2 100 many nowait 0-3 1 0\ndo 3 100 many wait 0-3 1 0\ndo 3 100 many nowait 0-3 1 0\n";
+
+const FOUR_PRINT: &[u8] =
+    b"3 1-3\n4 1-3\n5 0,2-3\n6 0,2-3\n7 0-1,3\n8 0-1,3\n9 0-2\n10 0-2\ntally 0 1 200 200\ntally 0 2 200 200\ntally 0 3 200 200\ntally 1 0 200 200\ntally 1 2 200 200\ntally 1 3 200 200\ntally 2 0 200 200\ntally 2 1 200 200\ntally 2 3 200 200\ntally 3 0 200 200\ntally 3 1 200 200\ntally 3 2 200 200\ndrained\n";
+
+const STOPS: &[u8] =
+    b"smp 1 run\ncpus 4 0,1,3\nlabels 1 0:0,0:1\ndo 0 1 set 0 on\ndo 0 1 set 0 on\ndo 1 1 two 3 1 2 7\ndo 3 1 one 2 5 5\ndo 3 1 sync 2 5 5\ndo 0 1 machine none 1 0\n";
+
+const STOPS_PRINT: &[u8] =
+    b"4 true\n5 false\n6 7\n7 E3\n8 E1\n9 0\ntally 0 1 0 0\ntally 0 3 0 0\ntally 1 0 0 0\ntally 1 3 0 0\ntally 3 0 0 0\ntally 3 1 0 0\nkey 0 on\nsite 0 JMP\nsite 1 NOP\ndrained\n";
+
+#[test]
+fn runs_of_four_cpus(rt: HostRuntime) {
+    let (answer, written) = run(&rt, rt.alloc(), FOUR, &FreePace);
+    assert_eq!(rt; answer, Ok(Outcome::Done));
+    assert_eq!(rt; written.as_slice(), FOUR_PRINT);
+}
+
+#[test]
+fn stops_keys_and_refusals(rt: HostRuntime) {
+    let (answer, written) = run(&rt, rt.alloc(), STOPS, &FreePace);
+    assert_eq!(rt; answer, Ok(Outcome::Done));
+    assert_eq!(rt; written.as_slice(), STOPS_PRINT);
+}
+
+// Row by row: a key that stands so makes no stop; one raised from 0 or lowered to 0 turns; below 0 there is no count.
+#[test]
+fn keys_that_are_counted(rt: HostRuntime) {
+    let script: &[u8] =
+        b"smp 1 run\ncpus 2 0-1\nlabels 1 0:0\ndo 0 2 inc 0\ndo 0 1 dec 0\ndo 0 1 set 0 on\ndo 0 1 dec 0\ndo 0 1 dec 0\ndo 0 3 inc 0\ndo 0 1 set 0 off\n";
+    let print: &[u8] =
+        b"4 false\n5 false\n6 false\n7 true\n8 E13\n9 false\n10 true\ntally 0 1 0 0\ntally 1 0 0 0\nkey 0 off\nsite 0 NOP\ndrained\n";
+    let (answer, written) = run(&rt, rt.alloc(), script, &FreePace);
+    assert_eq!(rt; answer, Ok(Outcome::Done));
+    assert_eq!(rt; written.as_slice(), print);
+}
+
+// 65,535 is the last count.
+#[test]
+fn a_key_that_is_full(rt: HostRuntime) {
+    let script: &[u8] =
+        b"smp 1 run\ncpus 2 0-1\nlabels 1 0:0\ndo 0 10000 inc 0\ndo 0 10000 inc 0\ndo 0 10000 inc 0\ndo 0 10000 inc 0\ndo 0 10000 inc 0\ndo 0 10000 inc 0\ndo 0 10000 inc 0\n";
+    let print: &[u8] =
+        b"4 false\n5 false\n6 false\n7 false\n8 false\n9 false\n10 E13\ntally 0 1 0 0\ntally 1 0 0 0\nkey 0 on\nsite 0 JMP\ndrained\n";
+    let (answer, written) = run(&rt, rt.alloc(), script, &FreePace);
+    assert_eq!(rt; answer, Ok(Outcome::Done));
+    assert_eq!(rt; written.as_slice(), print);
+}
+
+// Each family, each stop and each change of a key, with each refusal.
+#[test]
+fn each_request_and_its_refusals(rt: HostRuntime) {
+    let script: &[u8] =
+        b"smp 1 run\ncpus 4 0-1,3\nlabels 1 -\ndo 3 1 sync 2 5 5\ndo 0 2 sync 1 5 5\ndo 0 3 sync 0 5 5\ndo 1 9 user 1 3 5 5\ndo 1 1 user 0 2 5 5\ndo 0 1 any wait 2-3 5 5\ndo 3 1 any nowait 2-3 5 5\ndo 3 1 any wait 2 5 5\ndo 0 1 cond even wait 0-3 5 5\ndo 1 1 cond odd nowait 0-3 5 5\ndo 1 1 many wait 2 5 5\ndo 3 2 cond all wait 0-7 5 5\ndo 0 1 one 3 5 2147483647\ndo 0 1 one 2 5 1\ndo 1 1 two 1 1 5 1\ndo 1 1 two 1 2 5 1\ndo 1 1 two 0 3 5 9\ndo 3 1 machine 2 5 7\ndo 3 1 machine 1-3 5 7\ndo 0 1 set 1 on\ndo 0 1 inc 1\ndo 0 1 dec 4\ndo 0 1 dec 0\n";
+    let print: &[u8] =
+        b"4 E1\n5 ok\n6 ok\n7 ok\n8 E1\n9 3\n10 3\n11 E1\n12 0\n13 1,3\n14 -\n15 0-1,3\n16 2147483647\n17 E3\n18 E4\n19 E3\n20 9\n21 0\n22 7\n23 E4\n24 E4\n25 E4\n26 E13\ntally 0 1 2 2\ntally 0 3 1 1\ntally 1 0 0 0\ntally 1 3 10 10\ntally 3 0 2 2\ntally 3 1 2 2\nkey 0 off\ndrained\n";
+    let (answer, written) = run(&rt, rt.alloc(), script, &FreePace);
+    assert_eq!(rt; answer, Ok(Outcome::Done));
+    assert_eq!(rt; written.as_slice(), print);
+}
+
+// One call of CPU 0 to each of the 31 others: each repetition has its own tally.
+#[test]
+fn runs_of_all_cpus(rt: HostRuntime) -> Result<(), Fail> {
+    let alloc = rt.alloc();
+    let script: &[u8] = b"smp 2 run\ncpus 32 0-31\ndo 0 1 many wait 0-31 1 0\n";
+    let mut print = String::new(alloc);
+    write!(print, "3 1-31\n")?;
+    for source in 0..32u32 {
+        for to in 0..32u32 {
+            if source != to {
+                let count = u32::from(source == 0);
+                write!(print, "tally {source} {to} {count} {count}\n")?;
+            }
+        }
+    }
+    write!(print, "drained\n")?;
+    assert_eq!(rt; print.as_str().lines().count(), 1 + 992 + 1);
+    let (answer, written) = run(&rt, alloc, script, &FreePace);
+    assert_eq!(rt; answer, Ok(Outcome::Done));
+    assert_eq!(rt; written.as_slice(), print.as_bytes());
+    Ok(())
+}
+
+#[test]
+fn two_handlers_at_once(rt: HostRuntime) {
+    let script: &[u8] = b"smp 1 run\ncpus 3 0-2\ndo 2 1 many nowait 0-1 1 0\n";
+    let print: &[u8] =
+        b"3 0-1\ntally 0 1 0 0\ntally 0 2 0 0\ntally 1 0 0 0\ntally 1 2 0 0\ntally 2 0 1 1\ntally 2 1 1 1\ndrained\n";
+    let pace = Meets::new();
+    let (answer, written) = run(&rt, rt.alloc(), script, &pace);
+    assert_eq!(rt; answer, Ok(Outcome::Done));
+    assert_eq!(rt; written.as_slice(), print);
+    assert!(rt; pace.have_met());
+}
+
+// A CPU that does not poll at the end leaves what is queued for it; the labels are told all the same.
+#[test]
+fn a_cpu_that_does_not_poll(rt: HostRuntime) {
+    let cases: [(&[u8], &[u8]); 2] = [
+        (
+            b"smp 1 run\ncpus 2 0-1\ndo 0 1 async 1 7 9\n",
+            b"3 ok\nleft 1 1 0\n",
+        ),
+        (
+            b"smp 1 run\ncpus 2 0-1\nlabels 1 0:1\ndo 0 1 async 1 7 9\n",
+            b"4 ok\nkey 0 off\nsite 0 JMP\nleft 1 1 0\n",
+        ),
+    ];
+    for (script, print) in cases {
+        let (answer, written) = run(&rt, rt.alloc(), script, &Stays(1));
+        assert_eq!(rt; answer, Ok(Outcome::Left));
+        assert_eq!(rt; written.as_slice(), print);
+    }
+}
+
+// Each repetition runs, on the CPU that is called, with what its line says: 7 calls of function 3 from CPU 0 on CPU 1, given
+// 5, and 2 of function 4 on CPU 0 itself, given 6.
+#[test]
+fn each_repetition_is_made(rt: HostRuntime) {
+    let script: &[u8] = b"smp 1 run\ncpus 2 0-1\ndo 0 7 sync 1 3 5\ndo 0 2 any wait 0-1 4 6\n";
+    let pace = Counts::new();
+    let (answer, _written) = run(&rt, rt.alloc(), script, &pace);
+    assert_eq!(rt; answer, Ok(Outcome::Done));
+    assert_eq!(rt; pace.calls(), 9);
+    assert_eq!(rt; pace.sum(), 7 * 1_003_005 + 2 * 4_006);
+}
+
+// No line makes a CPU that is not online, and the last repetition is the one that is told: the first `set` turns the key.
+#[test]
+fn the_last_repetition_is_told(rt: HostRuntime) {
+    let script: &[u8] = b"smp 1 run\ncpus 1 0\nlabels 1 0:0\ndo 0 2 set 0 on\ndo 0 1 set 0 on\n";
+    let print: &[u8] = b"4 false\n5 false\nkey 0 on\nsite 0 JMP\ndrained\n";
+    let (answer, written) = run(&rt, rt.alloc(), script, &FreePace);
+    assert_eq!(rt; answer, Ok(Outcome::Done));
+    assert_eq!(rt; written.as_slice(), print);
+}
+
+#[test]
+fn scripts_that_are_not_lawful(rt: HostRuntime) {
+    let cases: [(&[u8], u32, Cause); 4] = [
+        (b"smp 1 replay\ncpus 1 0\n", 1, Cause::Word),
+        (b"smp 1 run\ncpus 2 0\ndo 1 1 sync 0 1 0\n", 3, Cause::Range),
+        (
+            b"smp 1 run\ncpus 2 0-1\ndo 0 1 set 0 on\ndo 1 1 inc 0\n",
+            4,
+            Cause::SharedKey,
+        ),
+        (b"smp 1 run\ncpus 2 0-1\ndo 0 1 set 0 on", 3, Cause::Cut),
+    ];
+    for (script, line, cause) in cases {
+        let (answer, written) = run(&rt, rt.alloc(), script, &FreePace);
+        assert_eq!(rt; answer, Err(SmpError::BadScript { line, cause }));
+        assert!(rt; written.is_empty());
+    }
+}
