@@ -32,16 +32,16 @@ fn prints_errors(rt: HostRuntime) -> Result<(), Fail> {
 #[test]
 fn prints_causes(rt: HostRuntime) -> Result<(), Fail> {
     let texts = [
-        (Cause::TooLong, "E9 line 0 TooLong"),
-        (Cause::Cut, "E9 line 0 Cut"),
-        (Cause::Word, "E9 line 0 Word"),
-        (Cause::Number, "E9 line 0 Number"),
-        (Cause::Range, "E9 line 0 Range"),
-        (Cause::Mask, "E9 line 0 Mask"),
-        (Cause::SharedKey, "E9 line 0 SharedKey"),
+        (Cause::TooLong, "E9 line 7 TooLong"),
+        (Cause::Cut, "E9 line 7 Cut"),
+        (Cause::Word, "E9 line 7 Word"),
+        (Cause::Number, "E9 line 7 Number"),
+        (Cause::Range, "E9 line 7 Range"),
+        (Cause::Mask, "E9 line 7 Mask"),
+        (Cause::SharedKey, "E9 line 7 SharedKey"),
     ];
     for (cause, text) in texts {
-        let error = SmpError::BadScript { line: 0, cause };
+        let error = SmpError::BadScript { line: 7, cause };
         assert_eq!(rt; error.to_string(rt.alloc())?.as_str(), text);
     }
     Ok(())

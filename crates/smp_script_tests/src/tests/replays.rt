@@ -1,8 +1,10 @@
 mod devices;
+mod further;
 mod scripts;
 mod worked;
 
 use devices::{Again, Narrow, Slow};
+use further::*;
 use linked_list_allocator::LocalHeap;
 use scripts::*;
 use smp_mask::{Cause, Side, SmpError};
@@ -29,12 +31,17 @@ fn one_call(rt: HostRuntime) {
 
 #[test]
 fn worked_cases(rt: HostRuntime) {
-    let cases: [(&[u8], &[u8]); 5] = [
+    let cases: [(&[u8], &[u8]); 10] = [
         (MARKS, MARKS_PRINTS),
         (TWO_CLASSES, TWO_CLASSES_PRINTS),
         (BUSY_RECORD, BUSY_RECORD_PRINTS),
         (CONTENDED, CONTENDED_PRINTS),
         (STOP_OF_TWO, STOP_OF_TWO_PRINTS),
+        (FREE_RECORD, FREE_RECORD_PRINTS),
+        (EQUAL_HEADS, EQUAL_HEADS_PRINTS),
+        (LATE_POST, LATE_POST_PRINTS),
+        (FIVE_TRIES, FIVE_TRIES_PRINTS),
+        (SECOND_KEY, SECOND_KEY_PRINTS),
     ];
     for (script, prints) in cases {
         let (answer, written) = replayed(&rt, script);
@@ -126,13 +133,6 @@ fn faults_of_labels_stops_and_nudges(rt: HostRuntime) {
 }
 
 #[test]
-fn records_of_two_sources(rt: HostRuntime) {
-    let (answer, written) = replayed(&rt, TWO_SOURCES);
-    assert_eq!(rt; answer, Ok(Outcome::Done));
-    assert!(rt; written.as_slice().ends_with(THEIR_LAST_STEPS));
-}
-
-#[test]
 fn records_of_far_calls(rt: HostRuntime) {
     let cases: [(&[u8], &[u8]); 2] = [
         (
@@ -195,7 +195,7 @@ fn faults_by_version(rt: HostRuntime) {
 
 #[test]
 fn stops_at_a_refused_event(rt: HostRuntime) {
-    let cases: [(&[u8], &[u8]); 2] = [
+    let cases: [(&[u8], &[u8]); 4] = [
         (
             b"smp 1 replay\ncpus 2 0-1\nstep 1 1\nshow\n",
             b"stopped 0 E10\n",
@@ -203,6 +203,14 @@ fn stops_at_a_refused_event(rt: HostRuntime) {
         (
             b"smp 1 replay\ncpus 2 0-1\nstart 0 handle\nstart 0 handle\nshow\n",
             b"stopped 1 E2\n",
+        ),
+        (
+            b"smp 1 replay\ncpus 3 0-1\nstart 2 handle\n",
+            b"stopped 0 E1\n",
+        ),
+        (
+            b"smp 1 replay\ncpus 3 0-1\nstart 0 send 2\n",
+            b"stopped 0 E1\n",
         ),
     ];
     for (script, output) in cases {

@@ -145,32 +145,6 @@ pub const ITS_LAST_STEPS: &[u8] = b"0 load slot.0.state 3
 0 store slot.0.state 4 ; ran
 ";
 
-/// Asynchronous calls from two CPUs, one of which posts behind the other's back.
-pub const TWO_SOURCES: &[u8] = b"smp 1 replay
-cpus 3 0-2
-start 1 post 10 2 async 1 1 1
-step 1 8
-start 0 send 2
-step 0 1
-start 0 post 10 2 async 2 2 1
-step 0 7
-start 2 handle
-step 2 13
-start 1 post 10 2 async 3 3 1
-step 1 8
-step 0 1
-show
-";
-
-pub const THEIR_LAST_STEPS: &[u8] = b"1 cas head.2 0 > 23 ; owed
-0 cas head.2 23 > 11 ; queued
-queue 0:
-queue 1:
-queue 2: 22 10
-locked: 10 22
-phase:
-";
-
 /// Nudges before and after a patch that brings the count to 1, and one that comes too late.
 pub const NUDGES: &[u8] = b"smp 2 replay
 cpus 10 0,9
