@@ -81,7 +81,7 @@ module _ (p : StopState) (at : Word → ℕ) (seat : ℕ → Seat) (source : ℕ
       let grown : AreFirst cpus mine [] (set v.part.answers s more) = first_put cpus (p.answers v.number) [] v.part.answers s more k.answers low in
       let answers' = subst (λ f. AreFirst cpus f [] (set v.part.answers s (get_or v.part.answers s [] ++ x ∷ []))) (sym (put_same p.answers v.number mine))
       (subst (λ l. AreFirst cpus mine [] (set v.part.answers s (l ++ x ∷ []))) (k.answers.each s low) grown) in
-      search (answers', put_same, answers, put_other, arith)
+      search (answers', put_same, put_other, arith)
 
   -- the seat of who has counted itself, and what it knows
   counted_goes : (s : ℕ) (w : Work) (a x : ℕ) → s < cpus →

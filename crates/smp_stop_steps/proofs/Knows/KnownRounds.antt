@@ -194,7 +194,7 @@ module _ (p : StopState) (at : Word → ℕ) (seat : ℕ → Seat) (source : ℕ
           search (is_may, arith) in
           goes_still p seat source v sees p' at (record (v.part) { calling = Calls call })
           (subst (λ q. StopShows u q at seat source) plain (arg_loaded u p at seat source h s v.number w a l Rests here 0 refl))
-          (search (put_same, call, put_other, arith))
+          (search (put_same, put_other, arith))
 
   pub refill : (s : ℕ) (w : Work) (a l : ℕ) → v.seat ≡ In s w a l Fills → is_drafting v.source ≡ false →
       let x = mask_weight cpus w.mask in

@@ -35,15 +35,15 @@ module _ (p : StopState) (seat : ℕ → Seat) (source : ℕ → Source) (v : Kn
   -- one that moves the CPU's seat alone
   pub goes_seat : (p' : StopState) (at' : Word → ℕ) (x : Seat) (part : Part) → StopShows (setup_in v.setting) p' at' (put seat v.number x) source →
       Leaves v.number p p' part → GoesOn v.setting p seat source v.number at' (record v { seat = x; part = part })
-  goes_seat p' at' x part shown leaves = search (goes, v.source, put_same, sees.source_is, sees.is_begun, put_other, arith)
+  goes_seat p' at' x part shown leaves = search (goes, put_same, sees.source_is, sees.is_begun, put_other, arith)
 
   -- one that moves its source alone
   pub goes_source : (p' : StopState) (at' : Word → ℕ) (y told : Source) (part : Part) → StopShows (setup_in v.setting) p' at' seat (put source v.number y) →
       Leaves v.number p p' part → told_source y ≡ told → IsBegun y →
       GoesOn v.setting p seat source v.number at' (record v { source = told; part = part })
-  goes_source p' at' y told part shown leaves is begun = search (goes, v.seat, sees.seat_is, put_same, put_other, arith)
+  goes_source p' at' y told part shown leaves is begun = search (goes, sees.seat_is, put_same, put_other, arith)
 
   -- one that moves neither
   pub goes_still : (p' : StopState) (at' : Word → ℕ) (part : Part) → StopShows (setup_in v.setting) p' at' seat source → Leaves v.number p p' part →
       GoesOn v.setting p seat source v.number at' (record v { part = part })
-  goes_still p' at' part shown leaves = search (goes, v.seat, v.source, sees.seat_is, sees.source_is, sees.is_begun, arith)
+  goes_still p' at' part shown leaves = search (goes, sees.seat_is, sees.source_is, sees.is_begun, arith)

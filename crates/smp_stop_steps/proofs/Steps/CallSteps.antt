@@ -268,7 +268,7 @@ module _ (u : Setup) (p : StopState) (at : Word → ℕ) (seat : ℕ → Seat) (
   call_step (Advance v (round.StoreChange made)) e = store_change v made e
   call_step (Advance v (round.Acknowledge answer ran)) e = acknowledge v answer ran e
   call_step (Advance v (round.Refill ran)) e = search (plain, store_calling, at_stage, arith)
-  call_step (Advance v (round.Raise ran)) e = search (plain, store_calling, turn_silent, v.acked, at_stage, arith)
+  call_step (Advance v (round.Raise ran)) e = search (plain, store_calling, turn_silent, at_stage, arith)
   call_step (Complete v (completion.LoadFunc answer)) e = search (plain, at_stage, arith)
   call_step (Complete v (completion.LoadArg answer func)) e = one_arg v answer func e
   call_step (Complete v completion.StoreAnswer) e = search (plain, store_calling, at_stage, arith)

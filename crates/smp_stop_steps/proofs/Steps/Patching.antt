@@ -77,7 +77,7 @@ module _ (u : Setup) (p : StopState) (at : Word → ℕ) (seat : ℕ → Seat) (
         let lawful = lawful_when_on u p.now at seat h.present me online on in
         let same : is_on new ≡ is_on (at (Key k)) = nudge.same ∙ ap is_on (sym was) in
         label_step p.now.readings p.now.patching (moved_by p.nudged me k found new) p.patched at' seat refl (λ j f. refl)
-        (search (stands_kept, on_kept, h.owns, arith))
+        (search (on_kept, h.owns, arith))
         (counts_nudged u.cpus p.nudged p.patched at me k found new below was h.counts)
         record {
           slots = h.present.slots;

@@ -230,8 +230,8 @@ module _ (u : Setup) (p : StopState) (at : Word → ℕ) (seat : ℕ → Seat) (
           record {
             seat_after = next;
             source_after = source me;
-            shows = search (next, here, moved_seat, arith);
-            sits = search (next, here, gate_kept, ends, arith);
+            shows = search (here, moved_seat, arith);
+            sits = search (gate_kept, ends, arith);
           }
         where
           shown : (change : Change) (before rest : List Change) (work : Work) (count : ℕ) → seat me ≡ Alters v.slot work count before (change ∷ rest) →

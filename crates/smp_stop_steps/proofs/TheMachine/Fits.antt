@@ -41,7 +41,7 @@ absorbed : (x y : Bool) → (x ≡ true → y ≡ true) → (x && y) ≡ x
 absorbed x y f = search arith
 
 pub all_within : (mask online : ℕ) → ((c : ℕ) → has mask c ≡ true → has online c ≡ true) → bit_and mask online ≡ mask
-all_within mask online all = search (same_members, bit_and, has_and, absorbed, arith)
+all_within mask online all = search (same_members, has_and, absorbed, arith)
 
 -- the members of a mask are below it
 small : (n : ℕ) → n < 2 ^ n
