@@ -11,6 +11,7 @@ use crate::workload::Workload;
 use crossbeam_utils::{Backoff, CachePadded};
 use smp_machine::Machine;
 use smp_mask::CpuMask;
+use smp_start::StartLine;
 use std::alloc::Global;
 use std::sync::Wait;
 use std::sync::atomic::{AtomicU64, Ordering};
@@ -18,42 +19,53 @@ use std::thread;
 use std::thread::Threads;
 use std::time::Clock;
 
-/// What the threads are told: to count, where they do; that the first thread is through; or to leave at once, where one
-/// of them could not be started.
-const COUNT: u64 = 1;
-
-const OVER: u64 = 2;
-
-const LEAVE: u64 = 3;
-
 /// What the threads share beside the machine.
 #[derive(Drop)]
 struct Progress {
-    sign: AtomicU64,
+    /// Those that count begin here, once the key is on.
+    start: StartLine,
+    /// Not 0 once the first thread is through.
+    over: AtomicU64,
     /// What the threads that are through have done, modulo 2^64.
-    done: AtomicU64,
+    sum: AtomicU64,
 }
 
 impl Progress {
-    fn tell(&self, sign: u64) {
-        self.sign.store(sign, Ordering::SeqCst);
+    fn tell_over(&self) {
+        self.over.store(1, Ordering::SeqCst);
     }
 
-    /// Whether the threads were told this, or what comes after it.
-    fn is_told(&self, sign: u64) -> bool {
-        self.sign.load(Ordering::SeqCst) >= sign
+    fn is_over(&self) -> bool {
+        self.over.load(Ordering::SeqCst) != 0
     }
 
     fn note(&self, stand: &Stand) {
-        self.done.fetch_add(stand.done(), Ordering::SeqCst);
+        self.sum.fetch_add(stand.done(), Ordering::SeqCst);
     }
 }
 
-/// Polls until it is told this.
-fn answer<R: Wait>(rt: &R, stand: &mut Stand, progress: &Progress, sign: u64) {
+/// What a thread waits for while it polls.
+#[derive(Clone, Copy)]
+enum Until {
+    /// That it may count.
+    Start,
+    /// That the first thread is through.
+    Over,
+}
+
+/// Whether a thread need not poll any more.
+fn is_reached(progress: &Progress, until: Until) -> bool {
+    match until {
+        Until::Start => progress.start.look().is_some(),
+        Until::Over => progress.is_over(),
+    }
+}
+
+/// Polls until this is reached.
+fn answer<R: Wait>(rt: &R, stand: &mut Stand, progress: &Progress, until: Until) {
     let mut backoff = Backoff::new();
     for _ in rt.forever() {
-        if progress.is_told(sign) {
+        if is_reached(progress, until) {
             return;
         }
         if stand.poll(rt) {
@@ -67,9 +79,6 @@ fn answer<R: Wait>(rt: &R, stand: &mut Stand, progress: &Progress, sign: u64) {
 
 /// Counts the key up and down: so often, or until the first thread is through.
 fn count<R: Wait>(rt: &R, stand: &mut Stand, progress: &Progress, limit: Limit) {
-    if progress.is_told(LEAVE) {
-        return;
-    }
     if let Some(batches) = batches_of(limit) {
         for _ in 0..batches {
             count_batch(rt, stand);
@@ -77,7 +86,7 @@ fn count<R: Wait>(rt: &R, stand: &mut Stand, progress: &Progress, limit: Limit) 
         return;
     }
     for _ in rt.forever() {
-        if progress.is_told(OVER) {
+        if progress.is_over() {
             return;
         }
         count_batch(rt, stand);
@@ -89,10 +98,12 @@ fn count<R: Wait>(rt: &R, stand: &mut Stand, progress: &Progress, limit: Limit) 
 fn help<R: Wait>(rt: &R, mut stand: Stand, progress: &Progress, workload: Workload, limit: Limit) {
     match workload {
         Workload::CountAll => {
-            answer(rt, &mut stand, progress, COUNT);
-            count(rt, &mut stand, progress, limit);
+            answer(rt, &mut stand, progress, Until::Start);
+            if progress.start.wait(rt) {
+                count(rt, &mut stand, progress, limit);
+            }
         }
-        _ => answer(rt, &mut stand, progress, OVER),
+        _ => answer(rt, &mut stand, progress, Until::Over),
     }
     progress.note(&stand);
 }
@@ -124,7 +135,7 @@ fn lead<R: Wait + Clock + Eprint>(
     if workload == Workload::CountOne || workload == Workload::CountAll {
         // The key is on from here on. The first batch begins only now.
         stand.set_key(rt, true);
-        progress.tell(COUNT);
+        progress.start.open();
         meter.lap(0);
     }
     repeat(rt, stand, workload, meter);
@@ -140,8 +151,9 @@ fn run_threads<'a, R: Wait + Threads + Clock + Eprint + Sync>(
 ) -> Option<u64> {
     // All threads look at it all the time, so that it must share no line with what one of them writes.
     let shared = CachePadded::new(Progress {
-        sign: AtomicU64::new(0),
-        done: AtomicU64::new(0),
+        start: StartLine::new(),
+        over: AtomicU64::new(0),
+        sum: AtomicU64::new(0),
     });
     let progress: &Progress = &shared;
     let limit = meter.limit();
@@ -153,12 +165,14 @@ fn run_threads<'a, R: Wait + Threads + Clock + Eprint + Sync>(
         }
         if started {
             lead(rt, &mut first, progress, workload, meter);
+        } else {
+            progress.start.cancel();
         }
         progress.note(&first);
-        progress.tell(if started { OVER } else { LEAVE });
+        progress.tell_over();
     });
     if started {
-        Some(progress.done.load(Ordering::SeqCst))
+        Some(progress.sum.load(Ordering::SeqCst))
     } else {
         None
     }

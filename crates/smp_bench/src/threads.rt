@@ -9,6 +9,7 @@ use crate::workload::Workload;
 use crossbeam_utils::{Backoff, CachePadded};
 use smp_mask::CpuMask;
 use smp_queue::CallTable;
+use smp_start::StartLine;
 use std::alloc::Global;
 use std::sync::Wait;
 use std::sync::atomic::{AtomicU64, Ordering};
@@ -19,46 +20,29 @@ use std::time::Clock;
 /// Operations of one thread that are timed together.
 const BATCH: u32 = 100;
 
-/// What the threads are told: to begin, and to stop.
-const BEGIN: u64 = 1;
-
-const STOP: u64 = 2;
-
-/// What the threads share beside the table.
+/// What the threads share beside the table. A source is done once it has made its last call.
 #[derive(Drop)]
 struct Progress {
-    sign: AtomicU64,
-    /// How many sources have made their last call.
-    done: AtomicU64,
+    start: StartLine,
+    /// Not 0 once all are to stop.
+    stop: AtomicU64,
 }
 
 impl Progress {
-    fn tell(&self, sign: u64) {
-        self.sign.store(sign, Ordering::SeqCst);
+    fn stop(&self) {
+        self.stop.store(1, Ordering::SeqCst);
     }
 
-    fn is_told(&self, sign: u64) -> bool {
-        self.sign.load(Ordering::SeqCst) == sign
+    fn is_stopped(&self) -> bool {
+        self.stop.load(Ordering::SeqCst) != 0
     }
-}
-
-/// Waits for the first sign.
-fn await_sign<R: Wait>(rt: &R, progress: &Progress) {
-    let backoff = Backoff::new();
-    for _ in rt.forever() {
-        if !progress.is_told(0) {
-            return;
-        }
-        backoff.snooze();
-    }
-    unreachable!()
 }
 
 /// Handles a CPU's own interrupts until it is told to stop.
 fn answer<R: Wait>(rt: &R, mut seat: Seat, progress: &Progress) {
     let mut backoff = Backoff::new();
     for _ in rt.forever() {
-        if progress.is_told(STOP) {
+        if progress.is_stopped() {
             return;
         }
         if seat.poll() > 0 {
@@ -72,14 +56,16 @@ fn answer<R: Wait>(rt: &R, mut seat: Seat, progress: &Progress) {
 
 /// Calls CPU 0 without wait, so often or until it is told to stop.
 fn call_zero<R: Wait>(rt: &R, mut seat: Seat, progress: &Progress, times: u64) {
-    await_sign(rt, progress);
+    if !progress.start.wait(rt) {
+        return;
+    }
     for _ in 0..times {
-        if progress.is_told(STOP) {
+        if progress.is_stopped() {
             break;
         }
         seat.single(rt, 0, false);
     }
-    progress.done.fetch_add(1, Ordering::SeqCst);
+    progress.start.note_done();
 }
 
 /// What a thread beside the first does.
@@ -108,7 +94,7 @@ fn call_and_wait<R: Wait + Clock + Eprint>(
             }
         }
         if !meter.lap(BATCH) {
-            progress.tell(STOP);
+            progress.stop();
             return;
         }
     }
@@ -127,12 +113,12 @@ fn handle_all<R: Wait + Clock + Eprint>(
     let mut since = 0u32;
     let mut backoff = Backoff::new();
     for _ in rt.forever() {
-        let over = progress.done.load(Ordering::SeqCst) >= sources;
+        let over = progress.start.done() >= sources;
         let ran = seat.poll();
         since = since.wrapping_add(ran);
         if since >= BATCH || over {
             if !meter.lap(since) {
-                progress.tell(STOP);
+                progress.stop();
             }
             since = 0;
         }
@@ -176,8 +162,8 @@ fn run_threads<'a, R: Wait + Threads + Clock + Eprint + Sync>(
 ) -> bool {
     // All threads look at it all the time, so that it must share no line with what one of them writes.
     let shared = CachePadded::new(Progress {
-        sign: AtomicU64::new(0),
-        done: AtomicU64::new(0),
+        start: StartLine::new(),
+        stop: AtomicU64::new(0),
     });
     let progress: &Progress = &shared;
     let sources = helpers.len() as u64;
@@ -192,11 +178,11 @@ fn run_threads<'a, R: Wait + Threads + Clock + Eprint + Sync>(
             let spawned = scope.spawn(move || help(rt, helper, progress, workload, times));
             started = started && spawned.is_ok();
         }
+        progress.start.settle(started);
         if started {
-            progress.tell(BEGIN);
             lead(rt, &mut first, workload, sources, others, progress, meter);
         } else {
-            progress.tell(STOP);
+            progress.stop();
         }
     });
     started

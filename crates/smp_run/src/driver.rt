@@ -14,42 +14,9 @@ use crossbeam_utils::Backoff;
 use smp_machine::{Cpu, Machine};
 use smp_script::directive::Directive;
 use smp_script::request::Request;
+use smp_start::StartLine;
 use std::alloc::Global;
 use std::sync::Wait;
-use std::sync::atomic::{AtomicU64, Ordering};
-
-/// The threads wait for one of these: they begin, or leave at once since one of them could not be started.
-pub(crate) const BEGIN: u64 = 1;
-
-pub(crate) const LEAVE: u64 = 2;
-
-/// What the threads tell each other: whether they may begin, and how many CPUs have made their calls.
-#[derive(Drop)]
-pub(crate) struct Progress {
-    pub(crate) sign: AtomicU64,
-    pub(crate) done: AtomicU64,
-}
-
-impl Progress {
-    pub(crate) fn new() -> Progress {
-        Progress {
-            sign: AtomicU64::new(0),
-            done: AtomicU64::new(0),
-        }
-    }
-
-    /// Waits for the sign: whether to begin.
-    fn may_begin<R: Wait>(&self, rt: &R) -> bool {
-        let backoff = Backoff::new();
-        for _ in rt.forever() {
-            match self.sign.load(Ordering::SeqCst) {
-                0 => backoff.snooze(),
-                seen => return seen == BEGIN,
-            }
-        }
-        unreachable!()
-    }
-}
 
 /// What the thread of a CPU has: the CPU, and room for the answer of each line of the script.
 #[derive(Drop)]
@@ -100,13 +67,17 @@ impl<'a, P: Pace> Player<'a, P> {
         }
     }
 
-    /// Polls until so many CPUs have made their calls, and once more.
-    fn poll_until<R: Wait>(&mut self, rt: &R, done: &AtomicU64, all: u64)
+    /// Where the pace says so, polls until all CPUs have made their calls, and once more.
+    fn poll_until<R: Wait>(&mut self, rt: &R, start: &StartLine)
         ensures { IsSame self.old self.new }
     {
+        if !self.functions.pace.polls(self.cpu.number()) {
+            return;
+        }
+        let all = self.machine.online().weight() as u64;
         let backoff = Backoff::new();
         for _ in rt.forever() {
-            let last = done.load(Ordering::SeqCst) >= all;
+            let last = start.done() >= all;
             self.poll(rt);
             if last {
                 return;
@@ -115,46 +86,23 @@ impl<'a, P: Pace> Player<'a, P> {
         }
         unreachable!()
     }
-
-    /// Makes the CPU's lines, tells the others so, and polls where the pace says so.
-    fn play<R: Wait>(
-        &mut self,
-        rt: &R,
-        lines: &[Directive],
-        answers: &mut [Answer],
-        progress: &Progress,
-        all: u64,
-    )
-        requires lawful { AreLines self.old.machine.now.calls.online lines.now }
-        requires sized { length answers.old ≡ length lines.now }
-        ensures same { IsSame self.old self.new }
-        ensures answered { Answered self.old.machine.now.calls.online (keys_at self.old.machine.now)
-            (λ c. c ≡ self.old.cpu.calls.number) lines.now answers.new }
-    {
-        self.answer_all(rt, lines, answers);
-        progress.done.fetch_add(1, Ordering::SeqCst);
-        if self.functions.pace.polls(self.cpu.number()) {
-            self.poll_until(rt, &progress.done, all);
-        }
-    }
 }
 
-/// What the thread of a CPU does: once all are started, its lines; then it polls until all CPUs are done, and once
-/// more. None where it may not begin.
+/// What the thread of a CPU does: once all are started, its lines; then it polls until all CPUs have made theirs. None where
+/// it may not begin.
 pub(crate) fn drive<R: Wait, P: Pace>(
     rt: &R,
     machine: &Machine<Global>,
     lines: &[Directive],
     pace: &P,
-    progress: &Progress,
-    all: u64,
+    start: &StartLine,
     seat: Seat,
 ) -> Option<Seat>
     requires lawful { AreLines machine.now.calls.online lines.now }
     requires ready { IsReady machine.now lines.now seat }
     ensures { IsDriven machine.now lines.now seat.cpu.calls.number result }
 {
-    if !progress.may_begin(rt) {
+    if !start.wait(rt) {
         return None;
     }
     let Seat { cpu, mut answers } = seat;
@@ -168,7 +116,9 @@ pub(crate) fn drive<R: Wait, P: Pace>(
         functions,
         echo: Echo,
     };
-    player.play(rt, lines, answers.as_mut_slice(), progress, all);
+    player.answer_all(rt, lines, answers.as_mut_slice());
+    start.note_done();
+    player.poll_until(rt, start);
     let Player { cpu, .. } = player;
     Some(Seat { cpu, answers })
 }

@@ -7,13 +7,13 @@ ghost use Rattle.smp_run.specs.Seats.{AreLines};
 ghost use Rattle.smp_run.specs.Tasks.{IsStarted, AreStarted};
 
 use crate::answer::Answer;
-use crate::driver::{BEGIN, LEAVE, Progress, Seat, drive};
+use crate::driver::{Seat, drive};
 use crate::pace::Pace;
 use smp_machine::{Cpu, Machine};
 use smp_script::directive::Directive;
+use smp_start::StartLine;
 use std::alloc::Global;
 use std::sync::Wait;
-use std::sync::atomic::Ordering;
 use std::thread;
 use std::thread::{Promise, PromisedHandle, Scope, Threads};
 
@@ -36,84 +36,6 @@ type Thread<'a> = PromisedHandle<Option<Seat>, Task<'a>>;
 
 /// By the CPUs' numbers, the threads of those that are online.
 type Handles<'a> = Vec<Option<Thread<'a>>, Global>;
-
-/// A seat on a thread of its own; None where the thread can't be started.
-fn start<'s, 'e, R: Wait + Sync, P: Pace + Sync>(
-    scope: &Scope<'s, &'e ()>,
-    rt: &'e R,
-    machine: &'e Machine<Global>,
-    lines: &'e [Directive],
-    pace: &'e P,
-    progress: &'e Progress,
-    all: u64,
-    seat: Seat,
-) -> Option<Thread<'e>>
-    requires lawful { AreLines machine.now.calls.online lines.now }
-    requires ready { IsReady machine.now lines.now seat }
-    ensures { IfSome result (λ h. (h.promise.machine.now ≡ machine.now) × (h.promise.lines.now ≡ lines.now) × (h.promise.number ≡ seat.cpu.calls.number)) }
-{
-    let number = seat.cpu.number();
-    let task = Task {
-        machine,
-        lines,
-        number,
-    };
-    scope
-        .spawn_with(task, move || {
-            drive(rt, machine, lines, pace, progress, all, seat)
-        })
-        .ok()
-}
-
-/// The same of a seat, if there is one.
-fn start_if<'s, 'e, R: Wait + Sync, P: Pace + Sync>(
-    scope: &Scope<'s, &'e ()>,
-    rt: &'e R,
-    machine: &'e Machine<Global>,
-    lines: &'e [Directive],
-    pace: &'e P,
-    progress: &'e Progress,
-    all: u64,
-    seat: Option<Seat>,
-) -> Option<Option<Thread<'e>>>
-    requires lawful { AreLines machine.now.calls.online lines.now }
-    requires ready { IfSome seat (λ s. IsReady machine.now lines.now s) }
-    ensures { IfSome result (λ h. (cpu : ℕ) → IsSeat machine.now lines.now cpu seat → IsStarted machine.now lines.now cpu h) }
-{
-    match seat {
-        Some(seat) => Some(Some(start(scope, rt, machine, lines, pace, progress, all, seat)?)),
-        None => Some(None),
-    }
-}
-
-/// Starts each seat on a thread of its own, until one can't be started: all threads, or those that were started.
-fn start_all<'s, 'e, R: Wait + Sync, P: Pace + Sync>(
-    scope: &Scope<'s, &'e ()>,
-    rt: &'e R,
-    machine: &'e Machine<Global>,
-    lines: &'e [Directive],
-    pace: &'e P,
-    progress: &'e Progress,
-    all: u64,
-    seats: Vec<Option<Seat>, Global>,
-    mut handles: Handles<'e>,
-) -> Result<Handles<'e>, Handles<'e>>
-    requires lawful { AreLines machine.now.calls.online lines.now }
-    requires seats { AreSeats machine.now lines.now (vec_len seats) seats.items }
-    requires room { vec_len seats ≤ vec_capacity handles }
-    requires none { vec_len handles ≡ 0 }
-    ensures { IfOk result (λ h. (vec_len h ≡ vec_len seats) × AreStarted machine.now lines.now (vec_len h) h.items) }
-{
-    for seat in seats {
-        let Some(handle) = start_if(scope, rt, machine, lines, pace, progress, all, seat) else {
-            return Err(handles);
-        };
-        let Ok(()) = handles.push(handle) else {
-            unreachable!()
-        };
-    }
-    Ok(handles)
-}
 
 /// The CPU that a line is of.
 fn cpu_of(line: &Directive) -> u32
@@ -197,50 +119,117 @@ pub struct Driven {
     pub last: Cpu<Global>,
 }
 
-/// Starts a thread for each seat, lets all begin once all are started, and gathers the answers.
-fn run_seats<'s, 'e, R: Wait + Threads + Sync, P: Pace + Sync>(
-    scope: &Scope<'s, &'e ()>,
+/// What the threads of a run share: the machine, the lines of the script, the pace, and the line at which they start.
+#[derive(Drop)]
+struct Run<'e, R, P> {
     rt: &'e R,
-    alloc: Global,
     machine: &'e Machine<Global>,
     lines: &'e [Directive],
     pace: &'e P,
-    progress: &'e Progress,
-    all: u64,
-    seats: Vec<Option<Seat>, Global>,
-    mut answers: Vec<Answer, Global>,
-) -> Option<Driven>
-    requires lawful { AreLines machine.now.calls.online lines.now }
-    requires seats { AreSeats machine.now lines.now (vec_len seats) seats.items }
-    requires sized { vec_len answers ≡ length lines.now }
-    ensures { IfSome result (λ d. AreJoined machine.now lines.now (vec_len seats) d.last d.answers.items) }
-{
-    let handles = Vec::with_capacity(alloc, seats.len()).ok()?;
-    match start_all(
-        scope, rt, machine, lines, pace, progress, all, seats, handles,
-    ) {
-        Ok(handles) => {
-            progress.sign.store(BEGIN, Ordering::SeqCst);
-            let last = join_all(rt, machine, lines, handles, answers.as_mut_slice())?;
-            Some(Driven { answers, last })
+    start: &'e StartLine,
+}
+
+impl<'e, R: Wait + Threads + Sync, P: Pace + Sync> Run<'e, R, P> {
+    /// Starts the thread of a seat. None where it can't be started.
+    fn start<'s>(&self, scope: &Scope<'s, &'e ()>, seat: Seat) -> Option<Thread<'e>>
+        requires lawful { AreLines self.now.machine.now.calls.online self.now.lines.now }
+        requires ready { IsReady self.now.machine.now self.now.lines.now seat }
+        ensures { IfSome result (λ h. (h.promise.machine.now ≡ self.now.machine.now) × (h.promise.lines.now ≡ self.now.lines.now)
+            × (h.promise.number ≡ seat.cpu.calls.number)) }
+    {
+        let (rt, machine, lines) = (self.rt, self.machine, self.lines);
+        let (pace, start) = (self.pace, self.start);
+        let number = seat.cpu.number();
+        let task = Task {
+            machine,
+            lines,
+            number,
+        };
+        scope
+            .spawn_with(task, move || drive(rt, machine, lines, pace, start, seat))
+            .ok()
+    }
+
+    /// Starts the thread of a seat, if there is one.
+    fn start_if<'s>(
+        &self,
+        scope: &Scope<'s, &'e ()>,
+        seat: Option<Seat>,
+    ) -> Option<Option<Thread<'e>>>
+        requires lawful { AreLines self.now.machine.now.calls.online self.now.lines.now }
+        requires ready { IfSome seat (λ s. IsReady self.now.machine.now self.now.lines.now s) }
+        ensures { IfSome result (λ h. (cpu : ℕ) → IsSeat self.now.machine.now self.now.lines.now cpu seat
+            → IsStarted self.now.machine.now self.now.lines.now cpu h) }
+    {
+        match seat {
+            Some(seat) => Some(Some(self.start(scope, seat)?)),
+            None => Some(None),
         }
-        Err(started) => {
-            progress.sign.store(LEAVE, Ordering::SeqCst);
-            leave_all(rt, started);
-            None
+    }
+
+    /// Starts the thread of each seat, until one can't be started: all threads, or those that were started.
+    fn start_all<'s>(
+        &self,
+        scope: &Scope<'s, &'e ()>,
+        seats: Vec<Option<Seat>, Global>,
+        mut handles: Handles<'e>,
+    ) -> Result<Handles<'e>, Handles<'e>>
+        requires lawful { AreLines self.now.machine.now.calls.online self.now.lines.now }
+        requires seats { AreSeats self.now.machine.now self.now.lines.now (vec_len seats) seats.items }
+        requires room { vec_len seats ≤ vec_capacity handles }
+        requires none { vec_len handles ≡ 0 }
+        ensures { IfOk result (λ h. (vec_len h ≡ vec_len seats) × AreStarted self.now.machine.now self.now.lines.now (vec_len h) h.items) }
+    {
+        for seat in seats {
+            let Some(handle) = self.start_if(scope, seat) else {
+                return Err(handles);
+            };
+            let Ok(()) = handles.push(handle) else {
+                unreachable!()
+            };
+        }
+        Ok(handles)
+    }
+
+    /// Starts the thread of each seat, lets all begin once all are started, and gathers the answers. None where one can't be
+    /// started: then none begins.
+    fn run_seats<'s>(
+        &self,
+        scope: &Scope<'s, &'e ()>,
+        alloc: Global,
+        seats: Vec<Option<Seat>, Global>,
+        mut answers: Vec<Answer, Global>,
+    ) -> Option<Driven>
+        requires lawful { AreLines self.now.machine.now.calls.online self.now.lines.now }
+        requires seats { AreSeats self.now.machine.now self.now.lines.now (vec_len seats) seats.items }
+        requires sized { vec_len answers ≡ length self.now.lines.now }
+        ensures { IfSome result (λ d. AreJoined self.now.machine.now self.now.lines.now (vec_len seats) d.last d.answers.items) }
+    {
+        let handles = Vec::with_capacity(alloc, seats.len()).ok()?;
+        match self.start_all(scope, seats, handles) {
+            Ok(handles) => {
+                self.start.open();
+                let (rt, machine, lines) = (self.rt, self.machine, self.lines);
+                let last = join_all(rt, machine, lines, handles, answers.as_mut_slice())?;
+                Some(Driven { answers, last })
+            }
+            Err(started) => {
+                self.start.cancel();
+                leave_all(self.rt, started);
+                None
+            }
         }
     }
 }
 
-/// The same in a scope of its own.
+/// Drives each seat on a thread of its own, in a scope of theirs.
 fn run_scope<'e, R: Wait + Threads + Sync, P: Pace + Sync>(
     rt: &'e R,
     alloc: Global,
     machine: &'e Machine<Global>,
     lines: &'e [Directive],
     pace: &'e P,
-    progress: &'e Progress,
-    all: u64,
+    start: &'e StartLine,
     seats: Vec<Option<Seat>, Global>,
     answers: Vec<Answer, Global>,
 ) -> Option<Driven>
@@ -256,15 +245,20 @@ fn run_scope<'e, R: Wait + Threads + Sync, P: Pace + Sync>(
             requires { AreLines machine.now.calls.online lines.now × AreSeats machine.now lines.now (vec_len seats) seats.items × (vec_len answers ≡ length lines.now) }
             ensures { IfSome result (λ d. AreJoined machine.entry.now lines.entry.now (vec_len seats) d.last d.answers.items) }
         {
-            run_seats(
-                scope, rt, alloc, machine, lines, pace, progress, all, seats, answers,
-            )
+            let run = Run {
+                rt,
+                machine,
+                lines,
+                pace,
+                start,
+            };
+            run.run_seats(scope, alloc, seats, answers)
         },
     )
 }
 
-/// Drives each seat on a thread of its own. None where a thread can't be started, or memory ran out before the
-/// first was: then no CPU has begun.
+/// Drives each seat on a thread of its own. None where a thread can't be started, or memory ran out before the first was:
+/// then no CPU has begun.
 pub(crate) fn run_all<R: Wait + Threads + Sync, P: Pace + Sync>(
     rt: &R,
     alloc: Global,
@@ -279,9 +273,6 @@ pub(crate) fn run_all<R: Wait + Threads + Sync, P: Pace + Sync>(
     requires sized { vec_len answers ≡ length lines.now }
     ensures { IfSome result (λ d. AreJoined machine.now lines.now (vec_len seats) d.last d.answers.items) }
 {
-    let progress = Progress::new();
-    let all = machine.online().weight() as u64;
-    run_scope(
-        rt, alloc, machine, lines, pace, &progress, all, seats, answers,
-    )
+    let line = StartLine::new();
+    run_scope(rt, alloc, machine, lines, pace, &line, seats, answers)
 }

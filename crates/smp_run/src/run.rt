@@ -108,34 +108,6 @@ fn finish(
     Ok(Ran { text, left })
 }
 
-/// The same from a machine on that has made no call.
-fn run_machine<R: Threads + Wait + Sync, P: Pace + Sync>(
-    rt: &R,
-    alloc: Global,
-    machine: Machine<Global>,
-    boot: MachineBoot<Global>,
-    nr: u32,
-    labels: &LabelMap,
-    first: usize,
-    lines: &[Directive],
-    pace: &P,
-) -> Result<Ran, AllocError>
-    requires limits { AreLimits nr machine.calls.online }
-    requires nr { machine.calls.nr ≡ nr }
-    requires full { IsFull boot machine }
-    requires first { first ≤ 4 }
-    requires labels { machine.stops.setting.labels ≡ labels.now }
-    requires lawful { AreLines machine.calls.online lines.now }
-    ensures { IfOk result (λ r. Prints nr machine.calls.online labels.now first lines.now (string_bytes r.text) r.left) }
-{
-    let seats = seat_all(alloc, &machine, boot, nr, lines)?;
-    let answers = Vec::from_elem(alloc, Answer::Done, lines.len())?;
-    let Some(driven) = run_all(rt, alloc, &machine, lines, pace, seats, answers) else {
-        return Err(AllocError);
-    };
-    finish(alloc, machine, labels, first, lines, driven)
-}
-
 /// The labels of a script: none where it has no labels line.
 fn labels_of<'a>(script: &'a Script<Global>, none: &'a LabelMap) -> &'a LabelMap
     requires { none.now ≡ labels_of None }
@@ -155,6 +127,34 @@ fn first_of(script: &Script<Global>) -> usize
     if script.labels.is_some() { 4 } else { 3 }
 }
 
+/// Drives the CPUs of a machine that has made no call by the lines of a script.
+fn run_machine<R: Threads + Wait + Sync, P: Pace + Sync>(
+    rt: &R,
+    alloc: Global,
+    opened: (Machine<Global>, MachineBoot<Global>),
+    script: &Script<Global>,
+    pace: &P,
+) -> Result<Ran, AllocError>
+    requires limits { AreLimits script.now.nr script.now.online }
+    requires lawful { AreLines script.now.online script.now.directives.items }
+    requires nr { opened.0.calls.nr ≡ script.now.nr }
+    requires online { opened.0.calls.online ≡ script.now.online }
+    requires full { IsFull opened.1 opened.0 }
+    requires labels { opened.0.stops.setting.labels ≡ labels_of script.now.labels }
+    ensures { IfOk result (λ r. Printed (meaning_of script.now) (string_bytes r.text) r.left) }
+{
+    let (machine, boot) = opened;
+    let lines = script.directives.as_slice();
+    let seats = seat_all(alloc, &machine, boot, script.nr, lines)?;
+    let answers = Vec::from_elem(alloc, Answer::Done, lines.len())?;
+    let Some(driven) = run_all(rt, alloc, &machine, lines, pace, seats, answers) else {
+        return Err(AllocError);
+    };
+    let none = LabelMap::empty();
+    let labels = labels_of(script, &none);
+    finish(alloc, machine, labels, first_of(script), lines, driven)
+}
+
 /// Drives each CPU of a run script that is online on a thread of its own, from a machine with no calls, no stops and all
 /// keys off: what it prints. `NoMemory` where a growth is refused or a thread can't be started. That is before any CPU has
 /// begun, or once all have ended.
@@ -171,14 +171,10 @@ pub fn run_lines<R: Threads + Wait + Sync, P: Pace + Sync>(
 {
     let none = LabelMap::empty();
     let labels = labels_of(script, &none);
-    let first = first_of(script);
-    let lines = script.directives.as_slice();
-    let Ok((machine, boot)) = Machine::new(alloc, script.nr, script.online, labels) else {
+    let Ok(opened) = Machine::new(alloc, script.nr, script.online, labels) else {
         return Err(SmpError::NoMemory);
     };
-    match run_machine(
-        rt, alloc, machine, boot, script.nr, labels, first, lines, pace,
-    ) {
+    match run_machine(rt, alloc, opened, script, pace) {
         Ok(ran) => Ok(ran),
         Err(_) => Err(SmpError::NoMemory),
     }

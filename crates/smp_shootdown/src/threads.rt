@@ -9,6 +9,7 @@ use crate::tlb::{Entry, Tlb};
 use crossbeam_utils::Backoff;
 use smp_mask::CpuMask;
 use smp_queue::{Audit, Boot, CallTable, Tally};
+use smp_start::StartLine;
 use std::alloc::Global;
 use std::sync::Wait;
 use std::sync::atomic::{AtomicU64, Ordering};
@@ -23,11 +24,6 @@ const LAST: u32 = 4;
 
 /// The users of each address space. The last one is not dropped.
 const USERS: [&str; 5] = ["0-2", "0-3", "2", "0-1", "0-3"];
-
-/// The threads wait for this before they begin; or leave at once, where one of them could not be started.
-const BEGIN: u64 = 1;
-
-const LEAVE: u64 = 2;
 
 /// What one CPU has seen when its address space was dropped: how many CPUs it has called, and how many entries were gone.
 #[derive(Drop)]
@@ -58,9 +54,8 @@ impl Seen {
 /// What the threads share beside the table.
 #[derive(Drop)]
 struct Progress {
-    sign: AtomicU64,
-    /// How many CPUs have dropped their address space.
-    done: AtomicU64,
+    /// A CPU is done once it has dropped its address space.
+    start: StartLine,
     /// How many entries are left in all TLBs.
     left: AtomicU64,
     seen: [Seen; SPACES],
@@ -69,8 +64,7 @@ struct Progress {
 impl Progress {
     fn new() -> Progress {
         Progress {
-            sign: AtomicU64::new(0),
-            done: AtomicU64::new(0),
+            start: StartLine::new(),
             left: AtomicU64::new(0),
             seen: [Seen::new(), Seen::new(), Seen::new(), Seen::new()],
         }
@@ -85,24 +79,12 @@ pub struct Report {
     pub calls: u64,
 }
 
-/// Waits for the sign: whether to begin.
-fn may_begin<R: Wait>(rt: &R, sign: &AtomicU64) -> bool {
-    let backoff = Backoff::new();
-    for _ in rt.forever() {
-        match sign.load(Ordering::SeqCst) {
-            0 => backoff.snooze(),
-            seen => return seen == BEGIN,
-        }
-    }
-    unreachable!()
-}
-
 /// Is done with its own address space, and polls until all CPUs are, and once more.
-fn poll_to_the_end<R: Wait>(mmu: &mut Mmu, rt: &R, done: &AtomicU64) {
-    done.fetch_add(1, Ordering::SeqCst);
+fn poll_to_the_end<R: Wait>(mmu: &mut Mmu, rt: &R, start: &StartLine) {
+    start.note_done();
     let backoff = Backoff::new();
     for _ in rt.forever() {
-        let last = done.load(Ordering::SeqCst) >= CPUS as u64;
+        let last = start.done() >= CPUS as u64;
         mmu.poll();
         if last {
             return;
@@ -121,13 +103,13 @@ fn drop_one<R: Wait>(
     seen: &Seen,
     progress: &Progress,
 ) {
-    if !may_begin(rt, &progress.sign) {
+    if !progress.start.wait(rt) {
         return;
     }
     let called = mmu.shoot_down(rt, &space);
     seen.called.store(called.weight() as u64, Ordering::SeqCst);
     seen.gone.store(gone.of(space.id), Ordering::SeqCst);
-    poll_to_the_end(&mut mmu, rt, &progress.done);
+    poll_to_the_end(&mut mmu, rt, &progress.start);
     progress
         .left
         .fetch_add(mmu.entries() as u64, Ordering::SeqCst);
@@ -208,8 +190,7 @@ fn run_threads<R: Wait + Threads + Sync>(
             let spawned = scope.spawn(move || drop_one(mmu, rt, space, gone, seen, progress));
             started = started && spawned.is_ok();
         }
-        let sign = if started { BEGIN } else { LEAVE };
-        progress.sign.store(sign, Ordering::SeqCst);
+        progress.start.settle(started);
     });
     started
 }

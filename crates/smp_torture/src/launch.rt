@@ -10,11 +10,12 @@ use crate::error::TortureError;
 use crate::kind::KINDS;
 use crate::made::Made;
 use crate::member::Member;
-use crate::plan::{BEGIN, LEAVE, Plan, Progress};
+use crate::plan::Plan;
 use crate::report::Report;
 use crate::sheet::Sheet;
 use crate::torturer::Torturer;
 use smp_machine::{Cpu, Machine, MachineBoot};
+use smp_start::StartLine;
 use std::alloc::Global;
 use std::sync::Wait;
 use std::thread;
@@ -94,12 +95,12 @@ fn help<R: Wait + Clock + Eprint>(
     rt: &R,
     torturer: Torturer,
     plan: &Plan,
-    progress: &Progress,
+    start: &StartLine,
 ) -> Option<Report> {
-    if !progress.may_begin(rt) {
+    if !start.wait(rt) {
         return None;
     }
-    let (_, report) = torturer.run(rt, plan, progress);
+    let (_, report) = torturer.run(rt, plan, start);
     Some(report)
 }
 
@@ -108,12 +109,12 @@ fn start_all<'s, 'e, R: Wait + Clock + Eprint + Sync>(
     scope: &Scope<'s, &'e ()>,
     rt: &'e R,
     plan: &'e Plan,
-    progress: &'e Progress,
+    start: &'e StartLine,
     helpers: Vec<Torturer<'e>, Global>,
     mut handles: Handles,
 ) -> Option<Handles> {
     for helper in helpers {
-        let handle = scope.spawn(move || help(rt, helper, plan, progress)).ok()?;
+        let handle = scope.spawn(move || help(rt, helper, plan, start)).ok()?;
         handles.push(handle).ok()?;
     }
     Some(handles)
@@ -138,19 +139,19 @@ fn run_all<'s, 'e, R: Wait + Threads + Clock + Eprint + Sync>(
     rt: &'e R,
     alloc: Global,
     plan: &'e Plan,
-    progress: &'e Progress,
+    start: &'e StartLine,
     first: Torturer<'e>,
     helpers: Vec<Torturer<'e>, Global>,
 ) -> Option<Ended>
     ensures { IfSome result (λ e. IsAt first.entry.member.machine.now e.last) }
 {
     let handles = Vec::new(alloc);
-    let Some(handles) = start_all(scope, rt, plan, progress, helpers, handles) else {
-        progress.tell(LEAVE);
+    let Some(handles) = start_all(scope, rt, plan, start, helpers, handles) else {
+        start.cancel();
         return None;
     };
-    progress.tell(BEGIN);
-    let (last, report) = first.run(rt, plan, progress);
+    start.open();
+    let (last, report) = first.run(rt, plan, start);
     let mut reports = Vec::new(alloc);
     reports.push(report).ok()?;
     let reports = join_all(rt, handles, reports)?;
@@ -162,7 +163,7 @@ fn run_scope<'e, R: Wait + Threads + Clock + Eprint + Sync>(
     rt: &'e R,
     alloc: Global,
     plan: &'e Plan,
-    progress: &'e Progress,
+    start: &'e StartLine,
     first: Torturer<'e>,
     helpers: Vec<Torturer<'e>, Global>,
 ) -> Option<Ended>
@@ -173,7 +174,7 @@ fn run_scope<'e, R: Wait + Threads + Clock + Eprint + Sync>(
         rt,
         move |scope| -> Option<Ended>
             ensures { IfSome result (λ e. IsAt first.entry.member.machine.now e.last) }
-        { run_all(scope, rt, alloc, plan, progress, first, helpers) },
+        { run_all(scope, rt, alloc, plan, start, first, helpers) },
     )
 }
 
@@ -195,6 +196,6 @@ pub fn torture<R: Wait + Threads + Clock + Eprint + Sync>(
     for number in 1..plan.request.threads {
         helpers.push(room.torturer(alloc, plan, number)?)?;
     }
-    let progress = Progress::new();
-    run_scope(rt, alloc, plan, &progress, first, helpers).ok_or(TortureError::NoThread)
+    let start = StartLine::new();
+    run_scope(rt, alloc, plan, &start, first, helpers).ok_or(TortureError::NoThread)
 }

@@ -7,11 +7,12 @@ use crate::choice::Choice;
 use crate::kind::KINDS;
 use crate::made::Made;
 use crate::member::Member;
-use crate::plan::{Plan, Progress};
+use crate::plan::Plan;
 use crate::report::Report;
 use crate::sheet::Sheet;
 use crossbeam_utils::Backoff;
 use smp_machine::Cpu;
+use smp_start::StartLine;
 use std::alloc::Global;
 use std::sync::Wait;
 use std::time::{Clock, Instant};
@@ -75,12 +76,12 @@ impl<'a> Torturer<'a> {
     }
 
     /// Polls until all CPUs have made their last call, and once more.
-    fn poll_to_the_end<R: Wait>(&mut self, rt: &R, cpus: u32, progress: &Progress)
+    fn poll_to_the_end<R: Wait>(&mut self, rt: &R, cpus: u32, start: &StartLine)
         ensures { self.new.member.machine ≡ self.old.member.machine }
     {
         let backoff = Backoff::new();
         for _ in rt.forever() {
-            let last = progress.are_done(cpus);
+            let last = start.done() >= u64::from(cpus);
             self.member.poll(rt);
             if last {
                 return;
@@ -121,13 +122,13 @@ impl<'a> Torturer<'a> {
         mut self,
         rt: &R,
         plan: &Plan,
-        progress: &Progress,
+        start: &StartLine,
     ) -> (Cpu<Global>, Report)
         ensures { IsAt self.entry.member.machine.now result.0 }
     {
         self.act_all(rt, plan);
-        progress.note_done();
-        self.poll_to_the_end(rt, plan.request.threads, progress);
+        start.note_done();
+        self.poll_to_the_end(rt, plan.request.threads, start);
         self.close()
     }
 }

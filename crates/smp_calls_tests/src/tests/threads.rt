@@ -5,6 +5,7 @@ ghost use Rattle.std.specs.Prelude.{◌≡◌};
 use super::*;
 use crossbeam_utils::Backoff;
 use smp_queue::Left;
+use smp_start::StartLine;
 use std::thread;
 use std::thread::Threads;
 
@@ -14,24 +15,17 @@ const ROUNDS: usize = 50;
 /// How many CPUs make calls, each with a thread.
 const CALLERS: u64 = 4;
 
-/// The threads wait for this before they begin; or leave at once, where one of them could not be started.
-const BEGIN: u64 = 1;
-
-const LEAVE: u64 = 2;
-
-/// Whether the threads may begin, how many CPUs have made their calls, and how many heard what they should.
+/// Where the threads start, and how many CPUs heard what they should.
 #[derive(Drop)]
 struct Progress {
-    sign: AtomicU64,
-    done: AtomicU64,
+    start: StartLine,
     right: AtomicU64,
 }
 
 impl Progress {
     fn new() -> Progress {
         Progress {
-            sign: AtomicU64::new(0),
-            done: AtomicU64::new(0),
+            start: StartLine::new(),
             right: AtomicU64::new(0),
         }
     }
@@ -46,18 +40,6 @@ fn repeat_by_user<R: Wait>(driver: &mut Driver, rt: &R, dst: u32) {
         }
         driver.poll();
         backoff.snooze();
-    }
-    unreachable!()
-}
-
-/// Waits for the sign: whether to begin.
-fn may_begin<R: Wait>(rt: &R, sign: &AtomicU64) -> bool {
-    let backoff = Backoff::new();
-    for _ in rt.forever() {
-        match sign.load(Ordering::SeqCst) {
-            0 => backoff.snooze(),
-            seen => return seen == BEGIN,
-        }
     }
     unreachable!()
 }
@@ -108,11 +90,11 @@ fn has_heard_all(driver: &Driver, all: CpuMask) -> bool {
 }
 
 /// Is done with its calls, and polls until all CPUs are, and once more.
-fn poll_to_the_end<R: Wait>(driver: &mut Driver, rt: &R, done: &AtomicU64) {
-    done.fetch_add(1, Ordering::SeqCst);
+fn poll_to_the_end<R: Wait>(driver: &mut Driver, rt: &R, start: &StartLine) {
+    start.note_done();
     let backoff = Backoff::new();
     for _ in rt.forever() {
-        let last = done.load(Ordering::SeqCst) >= CALLERS;
+        let last = start.done() >= CALLERS;
         driver.poll();
         if last {
             return;
@@ -124,14 +106,14 @@ fn poll_to_the_end<R: Wait>(driver: &mut Driver, rt: &R, done: &AtomicU64) {
 
 /// What one thread does: its calls, then it polls until all CPUs are done, and once more.
 fn run<R: Wait>(mut driver: Driver, rt: &R, all: CpuMask, progress: &Progress) {
-    if !may_begin(rt, &progress.sign) {
+    if !progress.start.wait(rt) {
         return;
     }
     let mut refused = false;
     for _ in 0..ROUNDS {
         refused |= call_all(&mut driver, rt, all).is_err();
     }
-    poll_to_the_end(&mut driver, rt, &progress.done);
+    poll_to_the_end(&mut driver, rt, &progress.start);
     if !refused && driver.heard.whole && has_heard_all(&driver, all) {
         progress.right.fetch_add(1, Ordering::SeqCst);
     }
@@ -194,8 +176,7 @@ fn run_threads<R: Wait + Threads + Sync>(
             let spawned = scope.spawn(move || run(driver, rt, all, progress));
             started = started && spawned.is_ok();
         }
-        let sign = if started { BEGIN } else { LEAVE };
-        progress.sign.store(sign, Ordering::SeqCst);
+        progress.start.settle(started);
     });
 }
 

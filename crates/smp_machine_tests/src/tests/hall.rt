@@ -4,21 +4,15 @@ use super::line::{Part, play_parts};
 use super::member::{Member, Room};
 use super::*;
 use crossbeam_utils::Backoff;
+use smp_start::StartLine;
 use std::sync::atomic::{AtomicU64, Ordering};
 use std::thread;
 use std::thread::Threads;
 
-/// The threads wait for this before they begin; or leave at once, where one of them could not be started.
-const BEGIN: u64 = 1;
-
-const LEAVE: u64 = 2;
-
-/// What the threads share: whether they may begin, how many CPUs have played their parts, how many saw what they should,
-/// on which CPUs stop functions have run, and how often the flag was raised.
+/// What the threads share: where they start, how many CPUs saw what they should, on which CPUs stop functions have run, and how often the flag was raised.
 #[derive(Drop)]
 pub struct Hall {
-    sign: AtomicU64,
-    done: AtomicU64,
+    start: StartLine,
     right: AtomicU64,
     ran: AtomicU64,
     flag: AtomicU64,
@@ -27,8 +21,7 @@ pub struct Hall {
 impl Hall {
     pub fn new() -> Hall {
         Hall {
-            sign: AtomicU64::new(0),
-            done: AtomicU64::new(0),
+            start: StartLine::new(),
             right: AtomicU64::new(0),
             ran: AtomicU64::new(0),
             flag: AtomicU64::new(0),
@@ -54,25 +47,13 @@ impl Hall {
     }
 }
 
-/// Waits for the sign: whether to begin.
-fn may_begin<R: Wait>(rt: &R, sign: &AtomicU64) -> bool {
-    let backoff = Backoff::new();
-    for _ in rt.forever() {
-        match sign.load(Ordering::SeqCst) {
-            0 => backoff.snooze(),
-            seen => return seen == BEGIN,
-        }
-    }
-    unreachable!()
-}
-
 /// Is done with its part, and polls until all CPUs are, and once more.
 fn poll_to_the_end<R: Wait>(me: &mut Member, rt: &R, cpus: u64) {
     let hall = me.hall;
-    hall.done.fetch_add(1, Ordering::SeqCst);
+    hall.start.note_done();
     let backoff = Backoff::new();
     for _ in rt.forever() {
-        let last = hall.done.load(Ordering::SeqCst) >= cpus;
+        let last = hall.start.done() >= cpus;
         me.poll(rt);
         if last {
             return;
@@ -85,7 +66,7 @@ fn poll_to_the_end<R: Wait>(me: &mut Member, rt: &R, cpus: u64) {
 /// What one thread does.
 fn run<R: Wait>(mut me: Member, rt: &R, cpus: u64, parts: &[Part]) {
     let hall = me.hall;
-    if !may_begin(rt, &hall.sign) {
+    if !hall.start.wait(rt) {
         return;
     }
     let right = play_parts(rt, &mut me, parts);
@@ -109,8 +90,7 @@ fn run_threads<R: Wait + Threads + Sync>(
             let spawned = scope.spawn(move || run(member, rt, cpus, parts));
             started = started && spawned.is_ok();
         }
-        let sign = if started { BEGIN } else { LEAVE };
-        hall.sign.store(sign, Ordering::SeqCst);
+        hall.start.settle(started);
     });
 }
 

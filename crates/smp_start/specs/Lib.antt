@@ -1,0 +1,2 @@
+-- how a sign is shared
+pub mod Sign
