@@ -2,11 +2,11 @@
 
 use super::*;
 
-/// Looks, when it runs, at another CPU of its stop: what a turn of it answers, and whether its interrupts are on.
+/// Makes, when it runs, two turns of another CPU of its stop: what they answer, and whether its interrupts are on then.
 #[derive(Drop)]
 struct Witness<'a> {
     other: Driver<'a>,
-    turn: Option<Turn>,
+    turns: (Option<Turn>, Option<Turn>),
     are_on: bool,
 }
 
@@ -14,7 +14,8 @@ impl<'a> StopFunc for Witness<'a> {
     ghost leads = { λ _ _ _. Unit {0} };
 
     fn run(&mut self, _cpu: u32, _func: u16, _arg: u64) -> i32 {
-        self.turn = self.other.advance(&mut Answerer::new(0)).ok();
+        let first = self.other.advance(&mut Answerer::new(0)).ok();
+        self.turns = (first, self.other.advance(&mut Answerer::new(0)).ok());
         self.are_on = self.other.cpu.interrupts_on();
         0
     }
@@ -43,19 +44,19 @@ fn the_others_wait_while_a_function_runs(rt: HostRuntime) -> Result<(), Fail> {
     assert!(rt; turns_as(&mut zero, &[Turn::Moved(1)]));
     assert!(rt; turns_as(&mut one, &[Turn::Moved(1), Turn::Moved(2)]));
     assert!(rt; turns_as(&mut zero, &[Turn::Moved(2)]));
-    assert!(rt; turns_as(&mut one, &[Turn::Moved(3)]));
     runs_before(&rt, &mut zero, one);
     Ok(())
 }
 
-/// CPU 0 is to run the function, and CPU 1 has acknowledged `RUN`.
+/// CPU 0 is to run the function. While it does, CPU 1 acknowledges `RUN` and then waits, since CPU 0 has not.
 fn runs_before(rt: &impl Abort, zero: &mut Driver, one: Driver) {
     let mut witness = Witness {
         other: one,
-        turn: None,
+        turns: (None, None),
         are_on: true,
     };
     assert_eq!(rt; zero.advance(&mut witness), Ok(Turn::Ran));
-    assert_eq!(rt; (witness.turn, witness.are_on), (Some(Turn::Same), false));
+    assert_eq!(rt; witness.turns, (Some(Turn::Moved(3)), Some(Turn::Same)));
+    assert!(rt; !witness.are_on);
     assert!(rt; turns_as(&mut witness.other, &[Turn::Left]));
 }
