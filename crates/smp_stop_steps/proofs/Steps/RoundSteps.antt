@@ -227,12 +227,7 @@ module _ (u : Setup) (p : StopState) (at : Word → ℕ) (seat : ℕ → Seat) (
           let here : change_at c.changes made ≡ change = search (change_here, arith) in
           let next = Alters v.slot work count (before ++ change ∷ []) rest in
           let stored = shown change before rest work count is plan are in
-          record {
-            seat_after = next;
-            source_after = source me;
-            shows = search (here, moved_seat, arith);
-            sits = search (gate_kept, ends, arith);
-          }
+          record { seat_after = next; source_after = source me; shows = search (here, moved_seat, arith); sits = search (gate_kept, ends, arith) }
         where
           shown : (change : Change) (before rest : List Change) (work : Work) (count : ℕ) → seat me ≡ Alters v.slot work count before (change ∷ rest) →
               c.changes ≡ plan_at u work count → c.changes ≡ before ++ change ∷ rest →

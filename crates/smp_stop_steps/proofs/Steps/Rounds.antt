@@ -6,7 +6,7 @@ use Rattle.std.specs.List.{AllByRecursion}
 use Rattle.smp_words.proofs.Puts.{at_test, put_all, put_same, put_other}
 use Rattle.smp_words.specs.declared.field.Field.TheVariants.{Ack, State}
 use Rattle.smp_stop_steps.specs.{HasCalled, IsCalling, AreClosing, put, put_word, mask_weight, weight, Agrees, Change, Patches, Patching, Reading, Whole}
-use Rattle.smp_stop_steps.specs.{labels_in, StandsSet, reading_of, state_left, patch_answer, answer_now, OwnsKey, PresentShows, RunnerShows, Alters, Fills}
+use Rattle.smp_stop_steps.specs.{labels_in, StandsSet, reading_of, state_left, patch_answer, OwnsKey, PresentShows, RunnerShows, Alters, Fills}
 use Rattle.smp_stop_steps.specs.{In, Rests, Seat, Sets, Stands, Turn, irq_of, turn_of, StopShows, AckShows, IsLevel, Keeps, OpenShows, IsPhaseOf, Source}
 use Rattle.smp_stop_steps.specs.{Setup, StopCall, StopState, Calling, Inside, Nobody, Raises, Raising, Standing, acked, acknowledged, is_inside, raised}
 use Rattle.smp_stop_steps.specs.{refilled, stands, first_readings, is_patch, leaves, told, unpatched, with_stop, called_more, carried, One, Patch}
@@ -203,8 +203,7 @@ module _ (u : Setup) (p : StopState) (at : Word → ℕ) (seat : ℕ → Seat) (
           now = op;
           work = refl;
           end = λ e. e;
-          given = put_all (λ c y. answer_now y ≡ answer_now ((p.now.stop s).standing c)) (p.now.stop
-              s).standing me to (sym (ap answer_now st)) (λ c ne. refl);
+          given = search (put_all, arith);
         } refl (λ k. refl) (other_slots at s Ack (found - 1)) (owns_acked x p.now.irq
         p.now.readings st known) (step_acknowledges u (record (p.now) { patching = x }) at seat0 present s me p.now.irq p.now.readings record {
           inside = λ c ne. refl;
