@@ -112,7 +112,8 @@ module _ (p : StopState) (at : Word → ℕ) (seat : ℕ → Seat) (source : ℕ
       let st = stands p at seat source v h sees (Closes s) is in
       let plain : told u p v.number act.Store (Slot s field.Done) None (Some 1) 0 ≡ stored_open p v.number s field.Done 1 =
       ap (λ b. cond b (stored_open p v.number s field.Done 1) (stored_shut p s field.Done 1)) st.1 in
-      let known : slot_stored field.Done 1 v ≡ record v { seat = Free } = ap (λ b. cond b (drafted_known field.Done 1 v) (member_stored field.Done 1 v)) idle in
+      let known : slot_stored field.Done 1 v ≡ record v { seat = Free } = ap (λ b. cond b (drafted_known field.Done 1 v) (member_stored field.Done 1 v))
+      idle in
       let shown' = goes_seat p seat source v sees (stored_open p v.number s field.Done 1) at' Free v.part (subst (λ q. StopShows u q at' (put seat v.number
       Free) source) plain (done_stored u p at seat source h s v.number 0 (sees.seat_is ∙ is))) record { mine = sees.part_is; others = λ c ne. refl } in
       search (known, shown', arith)

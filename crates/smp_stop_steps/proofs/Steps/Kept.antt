@@ -100,7 +100,8 @@ module _ (u : Setup) (p : StopState) (at : Word → ℕ) (seat : ℕ → Seat) (
       ((j : ℕ) → OwnsKey u.first (after p.now s stop' inside' irq' readings' patching') (λ k. at' (Key k)) j) →
       PresentShows u (after p.now s stop' inside' irq' readings' patching') at' seat' →
       ((c : ℕ) → IsCalling c (seat' c) (calling' c)) → AreClosing (after p.now s stop' inside' irq' readings' patching') seat' →
-      StopShows u (record p { now = after p.now s stop' inside' irq' readings' patching'; looks = looks'; calls = calls'; calling = calling' }) at' seat' source
+      StopShows u (record p { now = after p.now s stop' inside' irq' readings' patching'; looks = looks'; calls = calls'; calling = calling' }) at' seat'
+      source
   open_step looks' calls' calling' stays gate keys slots own present callings closing = open_step_with looks' calls' calling' p.answers stays.was stays.now
       stays.work stays.end gate keys slots
       (λ j. at_test j s (λ b. HasPast (cond b stop' (p.now.stop j)) (p.begun j) (p.collected j) (λ c. p.answers c j))

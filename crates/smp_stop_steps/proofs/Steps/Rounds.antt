@@ -170,7 +170,8 @@ module _ (u : Setup) (p : StopState) (at : Word → ℕ) (seat : ℕ → Seat) (
     -- an acknowledgement, over a state in which nobody or another patches
     ack_shown : (x : Patching) (seat0 : ℕ → Seat) (calls' : ℕ → List StopCall) (calling' : ℕ → Calling) → PresentShows u (record (p.now) { patching = x })
         at seat0 → seat0 me ≡ In s job a (a + 1) Rests →
-        p.now.irq me ≡ nat_lt (a + 1) 2 → put seat0 me next ≡ put seat me next → (p.now.stop s).standing me ≡ Inside a (a + 1) → (p.now.stop s).is_open ≡ true →
+        p.now.irq me ≡ nat_lt (a + 1) 2 → put seat0 me next ≡ put seat me next → (p.now.stop s).standing me ≡ Inside a (a + 1) → (p.now.stop s).is_open ≡
+        true →
         ((p.now.stop s).work.kind ≡ Patch → me ≡ u.first → a ≡ 2 → StandsSet (p.now.stop s).work (at (Key (p.now.stop s).work.func))) →
         (a + 1 ≡ 4 → AllByRecursion (Agrees (labels_in at)) (first_readings me s (p.now.stop s).work)) →
         ((c : ℕ) → IsCalling c (put seat me next c) (calling' c)) → IsNotClosing (seat me) →
@@ -182,7 +183,8 @@ module _ (u : Setup) (p : StopState) (at : Word → ℕ) (seat : ℕ → Seat) (
         let readings' = put p.now.readings me (first_readings me s (p.now.stop s).work) in
         let at' = put_word at (Slot s Ack) (found - 1) in
         let to = Inside (a + 1) (a + 1) in
-        let shown' = open_step u p at seat source h s acked_stop p.now.inside irq' readings' x at' (put seat0 me next) p.looks calls' calling' (search (put_all, arith)) refl (λ k. refl) (other_slots at s Ack (found - 1)) (owns_acked x irq' readings' st known)
+        let shown' = open_step u p at seat source h s acked_stop p.now.inside irq' readings' x at' (put seat0 me next) p.looks calls' calling' (search
+        (put_all, arith)) refl (λ k. refl) (other_slots at s Ack (found - 1)) (owns_acked x irq' readings' st known)
         (step_acknowledges u (record (p.now) { patching = x }) at seat0 present s me irq' readings' record {
           inside = λ c ne. refl;
           irq = λ c ne. put_other p.now.irq me true c ne;
@@ -264,7 +266,9 @@ module _ (u : Setup) (p : StopState) (at : Word → ℕ) (seat : ℕ → Seat) (
       let runner : RunnerShows u.first (Patches me job count made []) seat = subst (λ x. RunnerShows u.first x seat) st.5 h.present.runner in
       let works = h.present.works s open_ (ap (λ (w : Work). w.kind) st.3 ∙ st.4) in
       let active : has job.active me ≡ true = ap (λ (w : Work). has w.active me) (sym st.3) ∙ (works.first me ∙ eq-eqb me u.first runner.0) in
-      let shown' = ack_shown job 2 answer Whole seat0 (calls_then job 2 answer) (put p.calling me (Carries (patch_answer job count))) ends.0 (search (put_same, arith)) (h.present.irq me ∙ ap irq_of is) (put_twice seat me (In s job 2 3 Rests) next) st.1 open_ (search arith) (λ four. absurd (let z : ⊥ = omega (arith, four) in z)) (search (calling_next, h.callings, active, arith)) (subst IsNotClosing (sym is) tt) false refl in
+      let shown' = ack_shown job 2 answer Whole seat0 (calls_then job 2 answer) (put p.calling me (Carries (patch_answer job count))) ends.0 (search
+      (put_same, arith)) (h.present.irq me ∙ ap irq_of is) (put_twice seat me (In s job 2 3 Rests) next) st.1 open_ (search arith) (λ four. absurd (let
+      z : ⊥ = omega (arith, four) in z)) (search (calling_next, h.callings, active, arith)) (subst IsNotClosing (sym is) tt) false refl in
       search (st.1, st.5, eq-eqb me me refl, shown', arith)
 
   -- store of the count by the one that emptied it: the weight of the mask
