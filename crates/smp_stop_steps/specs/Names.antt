@@ -20,7 +20,8 @@ pub use Rattle.smp_labels.specs.declared.patch.Place.{Place}
 pub use Rattle.smp_labels.specs.Keys.{is_on, change_of, count_after, IsKeyWord}
 pub use Rattle.smp_labels.specs.Plans.{patch_of, site_changes}
 pub use Rattle.smp_stop_steps.specs.declared.stage.StopStage.{StopStage}
-pub use Rattle.smp_stop_steps.specs.declared.stage.StopStage.TheVariants.{TakeGate, OpenGate, Begin, Enter, EnterKind, EnterMask, EnterActive, Advance, Complete, Close, LoadDone, LoadResult, NudgeKey, ExchangeKey}
+pub use Rattle.smp_stop_steps.specs.declared.stage.StopStage.TheVariants.{TakeGate, OpenGate, Begin, Enter, EnterKind, EnterMask, EnterActive}
+pub use Rattle.smp_stop_steps.specs.declared.stage.StopStage.TheVariants.{Advance, Complete, Close, LoadDone, LoadResult, NudgeKey, ExchangeKey}
 pub use Rattle.smp_stop_steps.specs.declared.stage.RoundStage.{RoundStage}
 pub use Rattle.smp_stop_steps.specs.declared.stage.CompletionStage.{CompletionStage}
 pub use Rattle.smp_stop_steps.specs.declared.stage.Visit.{Visit}

@@ -49,25 +49,14 @@ module _ (p : StopState) (at : Word → ℕ) (seat : ℕ → Seat) (source : ℕ
       let p0 = answering x in
       let h0 = answers_so s w a l x here in
       let mine : p0.calling v.number ≡ g = put_same p.calling v.number g in
-      let calls : IsCalling v.number (Gives s w a x) (p0.calling v.number) = subst (IsCalling v.number (Gives s w a x)) (sym mine)
-      (search (calling_given, answers, h0.callings, arith)) in
+      let calls : IsCalling v.number (Gives s w a x) (p0.calling v.number) = search (calling_given, answers, arith) in
       let known : slot_stored field.Result x v ≡ record v { seat = Gives s w a x } =
       ap (λ b. cond b (drafted_known field.Result x v) (member_stored field.Result x v)) idle ∙ ap (λ y. record v { seat = given_by x y }) is in
       let k = sees.part_is in
       let shown' = goes_seat p seat source v sees (stored_open p0 v.number s field.Result x) at' (Gives s w a x) v.part (subst (λ q. StopShows u q at' (put
       seat v.number (Gives s w a x)) source) (ap (λ b. cond b (stored_open p0 v.number s field.Result x) (stored_shut p0 s field.Result x)) (open_at p at
       seat source v h sees s w a l Rests is)) (result_stored u p0 at seat source h0 s v.number w a l here through x 0 some calls)) record {
-        mine = record {
-          holds = k.holds;
-          begun = k.begun;
-          collected = k.collected;
-          answers = k.answers;
-          looks = k.looks;
-          calling = ap told_calling mine ∙ (told_same x f ∙ k.calling);
-          readings = k.readings;
-          nudged = k.nudged;
-          patched = k.patched;
-        };
+        mine = search (answers, told_same, arith);
         others = λ c ne. ap (λ y. record (columns_of p c) { calling = told_calling y }) (put_other p.calling v.number g c ne);
       } in
       search (known, shown', arith)
@@ -123,7 +112,8 @@ module _ (p : StopState) (at : Word → ℕ) (seat : ℕ → Seat) (source : ℕ
       let st = stands p at seat source v h sees (Closes s) is in
       let plain : told u p v.number act.Store (Slot s field.Done) None (Some 1) 0 ≡ stored_open p v.number s field.Done 1 =
       ap (λ b. cond b (stored_open p v.number s field.Done 1) (stored_shut p s field.Done 1)) st.1 in
-      let known : slot_stored field.Done 1 v ≡ record v { seat = Free } = ap (λ b. cond b (drafted_known field.Done 1 v) (member_stored field.Done 1 v)) idle in
+      let known : slot_stored field.Done 1 v ≡ record v { seat = Free } = ap (λ b. cond b (drafted_known field.Done 1 v) (member_stored field.Done 1 v))
+      idle in
       let shown' = goes_seat p seat source v sees (stored_open p v.number s field.Done 1) at' Free v.part (subst (λ q. StopShows u q at' (put seat v.number
       Free) source) plain (done_stored u p at seat source h s v.number 0 (sees.seat_is ∙ is))) record { mine = sees.part_is; others = λ c ne. refl } in
       search (known, shown', arith)

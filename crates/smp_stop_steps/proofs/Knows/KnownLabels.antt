@@ -6,7 +6,7 @@ use Rattle.smp_words.proofs.Puts.{at_test, put_same, put_other}
 use Rattle.smp_stop_steps.specs.{has, is_on, Place, MOST_KEYS, word_of, at_after, seen_of, put, put_word, moves, moved_by, Change, Patches, Reading, ReadKey}
 use Rattle.smp_stop_steps.specs.{ReadSite, count_set, Seat, Free, In, Gives, Alters, Closes, Turn, Rests, irq_of, StopShows, IsNudge, Source, store_of, Setup}
 use Rattle.smp_stop_steps.specs.{StopState, Moved, unmoved, told, is_patch, is_at_run, reads, key_loaded, key_patched, patched_more, patch_begun, plan_at}
-use Rattle.smp_stop_steps.specs.{Sees, GoesOn, columns_of, AreFirst, setup_in, reads_more, key_loaded_by, key_known, counted, known_entering, Patch, Work}
+use Rattle.smp_stop_steps.specs.{Sees, GoesOn, AreFirst, setup_in, reads_more, key_loaded_by, key_known, counted, known_entering, Patch, Work}
 use Rattle.smp_stop_steps.specs.{Word, Key, Site}
 use Rattle.smp_stop_steps.specs.State.{Present}
 use Rattle.smp_stop_steps.specs.Known.{Known}
@@ -94,19 +94,8 @@ module _ (p : StopState) (at : Word → ℕ) (seat : ℕ → Seat) (source : ℕ
           let shown' = goes_still p seat source v sees (record p { nudged = moved_by p.nudged v.number k found new }) (put_word at (Key k) new) (record
           (v.part) { nudged = counted v.part.nudged k found new }) (key_exchanged u p at seat source h v.number k found new sees.below online (irq_on on)
           was is 0) record {
-            mine = record {
-              holds = parts.holds;
-              begun = parts.begun;
-              collected = parts.collected;
-              answers = parts.answers;
-              looks = parts.looks;
-              calling = parts.calling;
-              readings = parts.readings;
-              nudged = counted_first p.nudged v.number k found new v.part.nudged parts.nudged low;
-              patched = parts.patched;
-            };
-            others = λ c ne. ap (λ x. record (columns_of p c) { nudged = x }) (put_other p.nudged v.number (put (p.nudged
-                v.number) k (moves (p.nudged v.number k) found new)) c ne);
+            mine = search (counted_first, arith);
+            others = search (put_other, arith);
           } in
           search (was, shown', arith)
 
@@ -121,8 +110,7 @@ module _ (p : StopState) (at : Word → ℕ) (seat : ℕ → Seat) (source : ℕ
       let st = stands p at seat source v h sees (In s w 2 3 Rests) is in
       let patch = record (p.now) { patching = patch_begun u v.number (p.now.stop s).work found } in
       let plain : key_loaded u p.now v.number w.func found (p.now.inside v.number) ≡ patch =
-      ap (λ i. key_loaded u p.now v.number w.func found i) st.0
-      ∙ (search arith) in
+      search arith in
       let known : key_loaded_by w.func found v.seat v ≡ record v { seat = next } =
       ap (λ x. key_loaded_by w.func found x v) is ∙ ap (λ k. cond (is_patch k) (record v { seat = next }) (reads_more r v)) kind in
       let shown' = goes_seat p seat source v sees (record p { now = patch }) at next v.part (subst (λ n. StopShows u (record p { now = n }) at (put seat

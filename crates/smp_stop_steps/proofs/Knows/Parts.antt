@@ -8,7 +8,8 @@ use Rattle.smp_stop_steps.specs.{Free, StopShows, Source, Shut, StopState, no_st
 use Rattle.smp_stop_steps.specs.Known.{Known}
 
 -- the list of a function's first values, with one changed
-pub first_put : {A : Type 0} (n : ℕ) (f : ℕ → A) (d : A) (list : List A) (i : ℕ) (x : A) → AreFirst n f d list → i < n → AreFirst n (put f i x) d (set list i x)
+pub first_put : {A : Type 0} (n : ℕ) (f : ℕ → A) (d : A) (list : List A) (i : ℕ) (x : A) → AreFirst n f d list → i < n → AreFirst n (put f i x) d (set list
+    i x)
 first_put {A} n f d list i x h l = search (length-set, at_test, get_or, get_or-set_same, h.each, get_or-set_other, arith)
 
 first_same : {A : Type 0} (n : ℕ) (x : A) → AreFirst n (λ _. x) x (replicate n x)

@@ -102,7 +102,8 @@ module _ (u : Setup) (p : Present) (at : Word → ℕ) (seat : ℕ → Seat) (h 
     save to = record { inside = λ c ne. put_other p.inside me to c ne; irq = λ c ne. refl; readings = λ c ne. refl }
 
     -- fetch_and of the roll, that found the own bit
-    pub step_enters : (n : ℕ) → seat me ≡ Free → has (at (Slot s Roll)) me ≡ true → has n me ≡ false → ((c : ℕ) → c ≢ me → has n c ≡ has (at (Slot s Roll)) c) →
+    pub step_enters : (n : ℕ) → seat me ≡ Free → has (at (Slot s Roll)) me ≡ true → has n me ≡ false → ((c : ℕ) → c ≢ me → has n c ≡ has (at (Slot s Roll))
+        c) →
         PresentShows u (moved p s (stands (p.stop s) me (Inside 0 0)) (put p.inside me (Some s)) p.irq p.readings) (put_word at (Slot s Roll) n)
         (put seat me (In s (p.stop s).work 0 0 Rests))
     step_enters n is found clears others =

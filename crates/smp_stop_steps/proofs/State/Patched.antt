@@ -80,7 +80,8 @@ module _ (u : Setup) (p : Present) (at : Word → ℕ) (seat : ℕ → Seat) (h 
       go x r mine = search arith
 
   -- one of its stores
-  pub patch_stores : (job : Work) (count : ℕ) (made rest : List Change) (change : Change) (at' : Word → ℕ) → seat me ≡ Alters s job count made (change ∷ rest) →
+  pub patch_stores : (job : Work) (count : ℕ) (made rest : List Change) (change : Change) (at' : Word → ℕ) → seat me ≡ Alters s job count made (change ∷
+      rest) →
       labels_in at' ≡ stored change.0 change.1 (labels_in at) → ((j : ℕ) → SlotShows u.cpus (p.stop j) (λ f. at' (Slot j f))) →
       AreEntriesOf u.entries (labels_in at') →
       PresentShows u (patches (Patches me job count (made ++ change ∷ []) rest)) at' (put seat me (Alters s job count (made ++ change ∷ []) rest))

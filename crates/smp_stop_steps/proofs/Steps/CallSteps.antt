@@ -141,7 +141,8 @@ module _ (u : Setup) (p : StopState) (at : Word → ℕ) (seat : ℕ → Seat) (
         go kind idle (Some new) = either (at (Key key) == new) (xor (is_on (at (Key key))) (is_on new))
           where
             either : (b d : Bool) → CarriesIn (cond b (stop_goes (record c { changes = [] }) (Advance v (round.Acknowledge 0 true)))
-                (stop_goes (record c { changes = (place.Key key, new) ∷ [] }) (Advance v (cond d (round.LoadEntry key new 0) (round.StoreChange 0))))).control f
+                (stop_goes (record c { changes = (place.Key key, new) ∷ [] }) (Advance v (cond d (round.LoadEntry key new 0) (round.StoreChange
+                0))))).control f
             either true d = acking 0 kind idle
             either false true = q
             either false false = q

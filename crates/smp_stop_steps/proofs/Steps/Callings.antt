@@ -40,7 +40,8 @@ pub calling_looked : (c s : ℕ) (w : Work) (a l found : ℕ) (f : Calling) → 
 calling_looked c s w a l found f same k = search arith
 
 -- a turn, of a CPU that sets the next phase
-pub calling_turned : (c s : ℕ) (w : Work) (a l : ℕ) (t t' : Turn) (f : Calling) → (t ≡ Rests → ⊥) → IsCalling c (In s w a l t) f → IsCalling c (In s w a l t') f
+pub calling_turned : (c s : ℕ) (w : Work) (a l : ℕ) (t t' : Turn) (f : Calling) → (t ≡ Rests → ⊥) → IsCalling c (In s w a l t) f → IsCalling c (In s w a l
+    t') f
 calling_turned c s w a l t t' f ne k = search arith
 
 -- an acknowledgement of another phase than RUN, in a stop of several CPUs

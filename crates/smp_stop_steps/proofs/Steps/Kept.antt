@@ -88,10 +88,7 @@ module _ (u : Setup) (p : StopState) (at : Word → ℕ) (seat : ℕ → Seat) (
     gate = gate ∙ h.gate;
     callings = callings;
     closing = closing;
-    sources = λ j. at_test j s (λ b. SourceShows u p.gate (cond b stop' (p.now.stop j)) (λ f. at' (Slot j f)) j (source j))
-        (λ e. let P : ℕ → Type 0 = λ k. SourceShows u p.gate stop' (λ f. at' (Slot k f)) k (source k) in
-        subst P (sym e) (source_open u p.gate s (p.now.stop s) stop' (λ f. at (Slot s f)) (λ f. at' (Slot s f)) was now work end (source s) (h.sources s)))
-        (λ ne. source_same u p.gate j (p.now.stop j) (λ f. at (Slot j f)) (λ f. at' (Slot j f)) (slots j ne) (source j) (h.sources j));
+    sources = search (at_test, source_open, was, now, work, end, h.sources, source_same, arith);
     past = past;
     owns = own;
     counts = λ k. subst (CountShows u.cpus p.nudged p.patched k) (sym (keys k)) (h.counts k);
@@ -103,7 +100,8 @@ module _ (u : Setup) (p : StopState) (at : Word → ℕ) (seat : ℕ → Seat) (
       ((j : ℕ) → OwnsKey u.first (after p.now s stop' inside' irq' readings' patching') (λ k. at' (Key k)) j) →
       PresentShows u (after p.now s stop' inside' irq' readings' patching') at' seat' →
       ((c : ℕ) → IsCalling c (seat' c) (calling' c)) → AreClosing (after p.now s stop' inside' irq' readings' patching') seat' →
-      StopShows u (record p { now = after p.now s stop' inside' irq' readings' patching'; looks = looks'; calls = calls'; calling = calling' }) at' seat' source
+      StopShows u (record p { now = after p.now s stop' inside' irq' readings' patching'; looks = looks'; calls = calls'; calling = calling' }) at' seat'
+      source
   open_step looks' calls' calling' stays gate keys slots own present callings closing = open_step_with looks' calls' calling' p.answers stays.was stays.now
       stays.work stays.end gate keys slots
       (λ j. at_test j s (λ b. HasPast (cond b stop' (p.now.stop j)) (p.begun j) (p.collected j) (λ c. p.answers c j))

@@ -307,7 +307,8 @@ module _ (u : Setup) (p : StopState) (at : Word → ℕ) (seat : ℕ → Seat) (
         raised_stands = ap (λ (x : Stop). x.standing me) raised_here ∙ st
 
         raised_active : has (put p.now.stop v.slot raised_stop v.slot).work.active me ≡ has v.active me
-        raised_active = ap (λ (x : Stop). has x.work.active me) raised_here ∙ (ap (λ (w : Work). has w.active me) same ∙ ap (λ m. has m me) (sym loaded.active))
+        raised_active = ap (λ (x : Stop). has x.work.active me) raised_here ∙ (ap (λ (w : Work). has w.active me) same ∙ ap (λ m. has m me) (sym
+            loaded.active))
 
         raised_turn : (r : Bool) → ran ≡ r → v.acked ≢ 4 → NoteFits p (raised_after false) me (Some (cond r note.Ran (note.Moved v.acked)))
         raised_turn true r ne = (

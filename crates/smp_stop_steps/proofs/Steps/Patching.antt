@@ -142,5 +142,7 @@ module _ (u : Setup) (p : StopState) (at : Word → ℕ) (seat : ℕ → Seat) (
         let st : Stands p.now me (Alters s job count made ((place.Site i, n) ∷ rest)) = subst (Stands p.now me) is (h.present.stands me) in
         let made' = made ++ (place.Site i, n) ∷ [] in
         let at' = put_word at (Site i) n in
-        let shown' = label_step p.now.readings (Patches me job count made' rest) p.nudged p.patched at' (put seat me (Alters s job count made' rest)) refl (search arith) h.owns h.counts (search (patch_stores, entries_same, arith)) (alters_calling count made ((place.Site i, n) ∷ rest) made' rest is) (search (closing_seat, IsNotClosing, arith)) in
+        let shown' = label_step p.now.readings (Patches me job count made' rest) p.nudged p.patched at' (put seat me (Alters s job count made' rest)) refl
+        (search arith) h.owns h.counts (search (patch_stores, entries_same, arith)) (alters_calling count made ((place.Site i, n) ∷ rest) made' rest is)
+        (search (closing_seat, IsNotClosing, arith)) in
         search (st.5, shown', arith)

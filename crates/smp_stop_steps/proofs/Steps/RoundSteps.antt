@@ -39,7 +39,8 @@ change_here (x ∷ before) change rest = search (change_here before change rest,
 -- the changes of one entry more
 changes-push : (key : ℕ) (on : Bool) (i : ℕ) (xs : List ℕ) (x : ℕ) → site_changes key on i (xs ++ x ∷ []) ≡ site_changes key on i xs ++ site_change key on
     (i + length xs) (entry_at x)
-changes-push key on i [] x = append-nil (site_change key on i (entry_at x)) ∙ ap (λ n. site_change key on n (entry_at x)) (let e : i ≡ i + 0 = omega arith in e)
+changes-push key on i [] x =
+    append-nil (site_change key on i (entry_at x)) ∙ ap (λ n. site_change key on n (entry_at x)) (let e : i ≡ i + 0 = omega arith in e)
 changes-push key on i (y ∷ xs) x = search (changes-push key on (i + 1) xs x, append_assoc, arith)
 
 module _ (u : Setup) (p : StopState) (at : Word → ℕ) (seat : ℕ → Seat) (source : ℕ → Source) (h : StopShows u p at seat source) (c : StopControlValue) (me : ℕ)
@@ -221,18 +222,14 @@ module _ (u : Setup) (p : StopState) (at : Word → ℕ) (seat : ℕ → Seat) (
     where
       go : c.visit ≡ Some v → (work : Work) (count : ℕ) → IsLoaded v work → v.acked ≡ 2 → made < length c.changes → c.changes ≡ plan_at u work count →
           (before after : List Change) → c.changes ≡ before ++ after → length before ≡ made →
-          seat me ≡ Alters v.slot work count before after → OwnsIf c.is_open (source me) → StopStep u p at seat source c me (Advance v (round.StoreChange made))
+          seat me ≡ Alters v.slot work count before after → OwnsIf c.is_open (source me) → StopStep u p at seat source c me (Advance v (round.StoreChange
+          made))
       go visit work count loaded two low plan before [] are long is y = search (append-nil, arith)
       go visit work count loaded two low plan before (change ∷ rest) are long is y =
           let here : change_at c.changes made ≡ change = search (change_here, arith) in
           let next = Alters v.slot work count (before ++ change ∷ []) rest in
           let stored = shown change before rest work count is plan are in
-          record {
-            seat_after = next;
-            source_after = source me;
-            shows = search (here, moved_seat, arith);
-            sits = search (gate_kept, ends, arith);
-          }
+          record { seat_after = next; source_after = source me; shows = search (here, moved_seat, arith); sits = search (gate_kept, ends, arith) }
         where
           shown : (change : Change) (before rest : List Change) (work : Work) (count : ℕ) → seat me ≡ Alters v.slot work count before (change ∷ rest) →
               c.changes ≡ plan_at u work count → c.changes ≡ before ++ change ∷ rest →

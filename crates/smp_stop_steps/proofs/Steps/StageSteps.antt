@@ -49,7 +49,12 @@ module _ (u : Setup) (p : StopState) (at : Word → ℕ) (seat : ℕ → Seat) (
 
   pub open_gate : c.stage ≡ Some OpenGate → StopStep u p at seat source c me OpenGate
   open_gate e =
-      let shows' = still u seat source me (state_after u p at c me OpenGate) (at_then u at c me OpenGate) (search (gate_opened, gate_mine, not_drafting, arith)) in
+      let shows' = still u seat source me (state_after u p at c me OpenGate) (at_then u at c me OpenGate) (search (
+        gate_opened,
+        gate_mine,
+        not_drafting,
+        arith,
+      )) in
       search (shows', arith)
 
   -- begin
@@ -151,7 +156,8 @@ module _ (u : Setup) (p : StopState) (at : Word → ℕ) (seat : ℕ → Seat) (
   pub exchange_key : (k expected new : ℕ) → c.stage ≡ Some (ExchangeKey k expected new) → StopStep u p at seat source c me (ExchangeKey k expected new)
   exchange_key k expected new e =
       let x : (c.interrupts ≡ true) × (u.online me ≡ true) × (k < u.keys) × IsNudge expected new × AtRest = search arith in
-      let shows' = still u seat source me (state_after u p at c me (ExchangeKey k expected new)) (at_then u at c me (ExchangeKey k expected new)) (search (go, x.3, arith)) in
+      let shows' = still u seat source me (state_after u p at c me (ExchangeKey k expected new)) (at_then u at c me (ExchangeKey k expected new)) (search
+      (go, x.3, arith)) in
       search (shows', arith)
     where
       go : u.online me ≡ true → p.now.irq me ≡ true → IsNudge expected new → (b : Bool) → (at (Key k) == expected) ≡ b →
