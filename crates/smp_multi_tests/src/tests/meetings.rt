@@ -2,6 +2,7 @@
 
 use super::*;
 use crossbeam_utils::Backoff;
+use smp_start::StartLine;
 use std::sync::Wait;
 use std::sync::atomic::{AtomicU64, Ordering};
 use std::thread;
@@ -16,16 +17,11 @@ const CPUS: u32 = 4;
 /// How often a CPU tries again before it gives up: a test that fails ends too.
 const TRIES: u64 = 10_000_000;
 
-/// The threads wait for this before they begin; or leave at once, where one of them could not be started.
-const BEGIN: u64 = 1;
-
-const LEAVE: u64 = 2;
-
-/// What the threads share: whether they may begin, a counter that stop functions alone write, how many functions run
+/// What the threads share: where they start, a counter that stop functions alone write, how many functions run
 /// now, and how many CPUs saw what they should.
 #[derive(Drop)]
 struct Hall {
-    sign: AtomicU64,
+    start: StartLine,
     count: AtomicU64,
     running: AtomicU64,
     right: AtomicU64,
@@ -156,21 +152,9 @@ fn meet(cpu: &mut Driver, member: &mut Member, all: CpuMask, round: u32) -> bool
     call_all(cpu, work) && attend(cpu, member, source) && collect(cpu, active, func)
 }
 
-/// Waits for the sign: whether to begin.
-fn may_begin<R: Wait>(rt: &R, sign: &AtomicU64) -> bool {
-    let backoff = Backoff::new();
-    for _ in rt.forever() {
-        match sign.load(Ordering::SeqCst) {
-            0 => backoff.snooze(),
-            seen => return seen == BEGIN,
-        }
-    }
-    unreachable!()
-}
-
 /// What one thread does.
 fn run<R: Wait>(mut cpu: Driver, rt: &R, hall: &Hall, all: CpuMask) {
-    if !may_begin(rt, &hall.sign) {
+    if !hall.start.wait(rt) {
         return;
     }
     let mut member = Member {
@@ -203,8 +187,7 @@ fn run_threads<R: Wait + Threads + Sync>(
             let spawned = scope.spawn(move || run(driver, rt, hall, all));
             started = started && spawned.is_ok();
         }
-        let sign = if started { BEGIN } else { LEAVE };
-        hall.sign.store(sign, Ordering::SeqCst);
+        hall.start.settle(started);
     });
 }
 
@@ -213,7 +196,7 @@ fn run_all<R: Wait + Threads + Sync>(rt: &R, alloc: Global) -> Result<(u64, u64)
     let none = LabelMap::empty();
     let all: CpuMask = "0-3".parse()?;
     let hall = Hall {
-        sign: AtomicU64::new(0),
+        start: StartLine::new(),
         count: AtomicU64::new(0),
         running: AtomicU64::new(0),
         right: AtomicU64::new(0),

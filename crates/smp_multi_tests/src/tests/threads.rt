@@ -2,6 +2,7 @@
 
 use super::*;
 use crossbeam_utils::Backoff;
+use smp_start::StartLine;
 use std::sync::Wait;
 use std::sync::atomic::{AtomicU64, Ordering};
 use std::thread;
@@ -13,24 +14,17 @@ const STOPS: u64 = 500;
 /// How many CPUs there are, each with a thread.
 const CPUS: u32 = 4;
 
-/// The threads wait for this before they begin; or leave at once, where one of them could not be started.
-const BEGIN: u64 = 1;
-
-const LEAVE: u64 = 2;
-
-/// Whether the threads may begin, how many CPUs have made their stops, and how many saw what they should.
+/// Where the threads start, and how many CPUs saw what they should.
 #[derive(Drop)]
 struct Progress {
-    sign: AtomicU64,
-    done: AtomicU64,
+    start: StartLine,
     right: AtomicU64,
 }
 
 impl Progress {
     fn new() -> Progress {
         Progress {
-            sign: AtomicU64::new(0),
-            done: AtomicU64::new(0),
+            start: StartLine::new(),
             right: AtomicU64::new(0),
         }
     }
@@ -64,18 +58,6 @@ fn serve(cpu: &mut Driver, teller: &mut Teller) -> bool {
         }
     }
     whole
-}
-
-/// Waits for the sign: whether to begin.
-fn may_begin<R: Wait>(rt: &R, sign: &AtomicU64) -> bool {
-    let backoff = Backoff::new();
-    for _ in rt.forever() {
-        match sign.load(Ordering::SeqCst) {
-            0 => backoff.snooze(),
-            seen => return seen == BEGIN,
-        }
-    }
-    unreachable!()
 }
 
 /// Takes the gate by trying again, and serves while it waits. Whether all could be served.
@@ -142,13 +124,13 @@ fn serve_to_the_end<R: Wait>(
     cpu: &mut Driver,
     rt: &R,
     teller: &mut Teller,
-    done: &AtomicU64,
+    start: &StartLine,
 ) -> bool {
-    done.fetch_add(1, Ordering::SeqCst);
+    start.note_done();
     let backoff = Backoff::new();
     let mut whole = true;
     for _ in rt.forever() {
-        let last = done.load(Ordering::SeqCst) >= u64::from(CPUS);
+        let last = start.done() >= u64::from(CPUS);
         whole = serve(cpu, teller) && whole;
         if last {
             return whole;
@@ -160,12 +142,12 @@ fn serve_to_the_end<R: Wait>(
 
 /// What one thread does: its stops, then it serves until all CPUs are done.
 fn run<R: Wait>(mut cpu: Driver, rt: &R, progress: &Progress) {
-    if !may_begin(rt, &progress.sign) {
+    if !progress.start.wait(rt) {
         return;
     }
     let mut teller = Teller { calls: 0 };
     let stopped = stop_all(&mut cpu, rt, &mut teller);
-    let served = serve_to_the_end(&mut cpu, rt, &mut teller, &progress.done);
+    let served = serve_to_the_end(&mut cpu, rt, &mut teller, &progress.start);
     // Each CPU makes as many stops on each.
     if stopped && served && teller.calls == STOPS {
         progress.right.fetch_add(1, Ordering::SeqCst);
@@ -184,8 +166,7 @@ fn run_threads<R: Wait + Threads + Sync>(
             let spawned = scope.spawn(move || run(driver, rt, progress));
             started = started && spawned.is_ok();
         }
-        let sign = if started { BEGIN } else { LEAVE };
-        progress.sign.store(sign, Ordering::SeqCst);
+        progress.start.settle(started);
     });
 }
 
