@@ -1,4 +1,4 @@
-//! Worked cases of masks, of label words, and of lists kept in little.
+//! Worked cases of masks, of label words, of lists kept in little, and of start lines.
 #![tactic(auto)]
 
 #[cfg(test)]
