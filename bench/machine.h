@@ -1,7 +1,7 @@
 /*
- * The pure machine in plain C, for explore.c: the words, steps and refusals of docs/FORMATS.md, one access to a word a
- * step, for up to 8 CPUs, without patches, keys and sites; and programs of its commands, with the rule for a command in
- * vain of docs/MODEL.md ("Schedules").
+ * The pure machine in plain C, for explore.c: the words, steps and refusals of docs/formats/words.md, one access to a word
+ * a step, for up to 8 CPUs, without patches, keys and sites; and programs of its commands, with the rule for a command
+ * in vain of docs/formats/explorations.md.
  */
 #include <stdbool.h>
 #include <stddef.h>

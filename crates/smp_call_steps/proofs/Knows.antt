@@ -6,3 +6,4 @@ pub mod Posted
 pub mod Handling
 pub mod Logs
 pub mod Heads
+pub mod Counts

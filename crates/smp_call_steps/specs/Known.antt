@@ -1,5 +1,5 @@
 -- What a CPU knows of the calls: where it stands, as far as its steps have told, and its own part of the call state.
-use Rattle.std.specs.Prelude.{◌≡◌, ◌≢◌, ℕ, ◌+◌, ◌%◌, ◌^◌, ◌<◌, Bool, true, false, ◌==◌, if◌then◌else◌, Option, Some, None, List, [], ◌∷◌, ◌++◌, length}
+use Rattle.std.specs.Prelude.{◌≡◌, ◌≢◌, ℕ, ◌+◌, ◌*◌, ◌%◌, ◌^◌, ◌<◌, Bool, true, false, ◌==◌, if◌then◌else◌, Option, Some, None, List, [], ◌∷◌, ◌++◌, length}
 use Rattle.std.specs.Prelude.{slice_index_or}
 use Rattle.smp_words.specs.Size.{cpus, records, owner}
 use Rattle.smp_words.specs.Flags.{class_of}
@@ -59,7 +59,7 @@ pub record Sees (a : CallState) (control : ℕ → ControlValue) (v : Known) : T
 
 -- a CPU that has done nothing yet
 abbrev pub fresh : Setting → ℕ → Known
-fresh k me = record { setting = k; number = me; stage = None; drain = no_drain; part = part_of no_calls me; tried = 0; heads = []; log = [] }
+fresh k me = record { setting = k; number = me; stage = None; drain = no_drain; part = part_of no_calls me; tried = 0; heads = []; log = []; steps = 0 }
 
 -- what follows a step of a post, as the step tells it
 
@@ -134,6 +134,12 @@ log_after act.Cas (Head to) (Some n) log = log ++ logged.Queued to ∷ []
 log_after act.Store (Intr to) put log = log ++ logged.Interrupted to ∷ []
 log_after _ w put log = log
 
+-- how many steps it has made outside handle after it: the steps of handle are those of its own step table
+abbrev pub steps_after : Option Stage → Word → ℕ → ℕ
+steps_after (Some (Handle stage)) w n = n
+steps_after s (Hand cpu) n = n
+steps_after s w n = n + 1
+
 -- what a CPU knows after a step of its own; a swap of the head takes this queue
 abbrev pub known_taking : List Call → Known → Act → Word → Option ℕ → Option ℕ → Known
 known_taking queue v act w found put = record v {
@@ -143,6 +149,7 @@ known_taking queue v act w found put = record v {
   tried = tried_after act v.tried;
   heads = heads_after act w found v.stage v.heads;
   log = log_after act w put v.log;
+  steps = steps_after v.stage w v.steps;
 }
 
 -- the same of a step that takes no queue
@@ -227,19 +234,23 @@ outside_known v = record v { stage = None }
 abbrev pub confirmed_known : ℕ → Known → Known
 confirmed_known id v = record v { part = part_confirmed id v.part }
 
--- a CPU that has loaded a head and found this number
+-- a CPU that has made so many steps more outside handle
+abbrev pub stepped : ℕ → Known → Known
+stepped n v = record v { steps = v.steps + n }
+
+-- a CPU that has counted a call, and then has loaded a head and found this number
 abbrev pub looked_known : ℕ → Known → Known
-looked_known n v = record v { heads = v.heads ++ head.Loaded n ∷ [] }
+looked_known n v = record v { heads = v.heads ++ head.Loaded n ∷ []; steps = v.steps + 2 }
 
--- a CPU that has made a compare-exchange in vain: it expected one number and found the other
+-- a CPU that has linked its record, and has made a compare-exchange in vain: it expected one number and found the other
 abbrev pub lost_one : ℕ → ℕ → Known → Known
-lost_one expected found v = record v { tried = v.tried + 1; heads = v.heads ++ head.Exchanged expected found ∷ [] }
+lost_one expected found v = record v { tried = v.tried + 1; heads = v.heads ++ head.Exchanged expected found ∷ []; steps = v.steps + 2 }
 
--- a CPU that has found these numbers in a head, and so has made its compare-exchanges in vain
+-- a CPU that has counted a call and found these numbers in a head, and so has made its compare-exchanges in vain
 abbrev pub lost_tries : Found → Known → Known
-lost_tries f v = record v { tried = v.tried + times_lost f; heads = heads_with v.heads f }
+lost_tries f v = record v { tried = v.tried + times_lost f; heads = heads_with v.heads f; steps = v.steps + (2 + 2 * times_lost f) }
 
--- a CPU that has queued this call, by a compare-exchange that expected this number and found it
+-- a CPU that has linked its record and queued this call, by a compare-exchange that expected this number and found it
 abbrev pub queued_known : Call → ℕ → Bool → ℕ → Known → Known
 queued_known call to first link v = record v {
   stage = None;
@@ -247,6 +258,7 @@ queued_known call to first link v = record v {
   tried = v.tried + 1;
   heads = v.heads ++ head.Exchanged link link ∷ [];
   log = v.log ++ logged.Queued to ∷ [];
+  steps = v.steps + 2;
 }
 
 -- whether it has seen its record confirmed

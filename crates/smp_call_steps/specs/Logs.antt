@@ -1,12 +1,12 @@
--- What a CPU's log says of the state of the calls, and what it has seen of heads of its steps.
-use Rattle.std.specs.Prelude.{◌≡◌, ℕ, ◌≤◌, true, Option, Some, None, List, [], ◌∷◌, ◌++◌, length}
+-- What a CPU's log says of the state of the calls, what it has seen of heads, and its number of steps.
+use Rattle.std.specs.Prelude.{◌≡◌, ℕ, ◌+◌, ◌≤◌, true, Option, Some, None, List, [], ◌∷◌, ◌++◌, length}
 use Rattle.smp_words.specs.Put.{put}
 use Rattle.smp_words.specs.Access.{word_of, seen_of}
 use Rattle.smp_call_steps.specs.Calls.{CallState, tells}
 use Rattle.smp_call_steps.specs.Known.{Sees, MayStep, known_access, known_tells}
 use Rattle.smp_call_steps.specs.Shows.{Shows}
 use Rattle.smp_call_steps.specs.Stages.{ControlValue}
-use Rattle.smp_call_steps.specs.Names.{Call, Word, Head, Access, Load, Exchange, Stage, Logged, HeadSeen}
+use Rattle.smp_call_steps.specs.Names.{Call, Word, Head, Access, Load, Exchange, Stage, Handle, Logged, HeadSeen}
 use Rattle.smp_call_steps.specs.Names.logged
 use Rattle.smp_call_steps.specs.Names.head
 use Rattle.smp_call_steps.specs.declared.known.Known.{Known}
@@ -62,3 +62,14 @@ abbrev pub HeadsTell : Type 0
 HeadsTell = (v : Known) (stage : Stage) → MayStep v stage → (found : ℕ) (queue : List Call) →
     let seen = seen_of v.number (known_access v stage) found None in
     (known_tells queue v seen).heads ≡ heads_and (head_in (known_access v stage) found) v.heads
+
+-- how many steps outside handle there are after one at this stage
+abbrev pub counted_at : Stage → ℕ → ℕ
+counted_at (Handle stage) n = n
+counted_at stage n = n + 1
+
+-- each step that a CPU may make outside handle is counted once, and no step of handle is
+abbrev pub StepsCount : Type 0
+StepsCount = (v : Known) (stage : Stage) → MayStep v stage → (found : ℕ) (queue : List Call) →
+    let seen = seen_of v.number (known_access v stage) found None in
+    (known_tells queue v seen).steps ≡ counted_at stage v.steps

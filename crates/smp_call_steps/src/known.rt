@@ -83,4 +83,6 @@ pub struct Known {
     pub heads: LinkedList<HeadSeen>,
     /// The calls that it has queued and the interrupts that it has sent, in the order in which it did so.
     pub log: LinkedList<Logged>,
+    /// How many steps it has made outside `handle`.
+    pub steps: u64,
 }

@@ -7,7 +7,7 @@ ghost use Rattle.std.specs.Prelude.{List};
 ghost use Rattle.smp_call_steps.specs.BatchLinks.{KeepBatchLinks};
 ghost use Rattle.smp_call_steps.specs.Classes.{RunByClass};
 ghost use Rattle.smp_call_steps.specs.HaveRun.{ConfirmedRun, ConfirmedSyncEnd};
-ghost use Rattle.smp_call_steps.specs.Logs.{LogsTell, HeadsTell};
+ghost use Rattle.smp_call_steps.specs.Logs.{LogsTell, HeadsTell, StepsCount};
 ghost use Rattle.smp_call_steps.specs.Promises.{NothingCalled, StepsAreTold, KeepThePlaceLaw, KeepTheInterruptLaw};
 ghost use Rattle.smp_call_steps.specs.Promises.{KeepTheQueueHistory, KeepTheTallyLaw, RunAtMostOnce};
 ghost use Rattle.smp_call_steps.specs.QueueOrder.{KeepsClasses, AsyncsLast, RunInQueueOrder};
@@ -34,6 +34,11 @@ pub fn logs_tell()
 /// compare-exchange with the number that this expects, and by nothing else.
 pub fn heads_tell()
     ensures { HeadsTell }
+{}
+
+/// Each step of a CPU outside `handle` is counted once in its number of steps, and no step inside `handle` is.
+pub fn steps_count()
+    ensures { StepsCount }
 {}
 
 /// Each record is in exactly one place: free, held by its source, or locked in one queue, one batch or one SYNC call that

@@ -1,5 +1,5 @@
 -- The loops that send an interrupt to each of many CPUs, and that wait for the record of each.
-use Rattle.std.proofs.Common.{arith, ◌≡◌, length-set, ℕ, ◌<◌, ◌==◌, ◌||◌, ◌&&◌, not, Bool, true, false, List, [], ◌∷◌, ◌++◌, append_assoc, set, get_or, refl}
+use Rattle.std.proofs.Common.{arith, ◌≡◌, length-set, length-append, ℕ, ◌+◌, ◌<◌, ◌==◌, ◌||◌, ◌&&◌, not, Bool, true, false, List, [], ◌∷◌, ◌++◌, append_assoc, set, get_or, refl}
 use Rattle.std.proofs.Common.{sym, ap, ◌∙◌}
 use Rattle.std.proofs.lemmas.Bool.{cases_eq, ne_eqb, eq-eqb}
 use Rattle.std.proofs.lemmas.List.{append-nil, get_or-set_other}
@@ -43,7 +43,13 @@ passed_all all left xs p none = sym (append-nil xs) ∙ (ap (λ (ys : List ℕ).
 -- ---- sending
 
 pub sends_none : (c : CpuValue) → Sends c c []
-sends_none c = record { others_are = λ i. record c { log = sym (append-nil c.log) i }; owes_sized = refl; owes_are = λ x. sym (and_true (owes_at c x)) }
+sends_none c =
+    let same : c.steps ≡ c.steps + 0 = omega arith in
+    record {
+      others_are = λ i. record c { log = sym (append-nil c.log) i; steps = same i };
+      owes_sized = refl;
+      owes_are = λ x. sym (and_true (owes_at c x));
+    }
 
 interrupts_to-push : (xs : List ℕ) (x : ℕ) → interrupts_to xs ++ logged.Interrupted x ∷ [] ≡ interrupts_to (xs ++ x ∷ [])
 interrupts_to-push [] x = refl
@@ -63,7 +69,7 @@ owed_after : (owes : List Bool) (cpu c : ℕ) (o i : Bool) → get_or owes c fal
 owed_after owes cpu c o i e = search (cases_eq, eq-eqb, set_false, all_in, ne_eqb, get_or-set_other, or_false, arith)
 
 pub sends_more : (old mid new : CpuValue) (cpu : ℕ) (xs : List ℕ) → Sends old mid xs → new ≡ sends cpu mid → Sends old new (xs ++ cpu ∷ [])
-sends_more old mid new cpu xs s e = search (interrupts_to-more, length-set, owed_after, is_in-append, arith)
+sends_more old mid new cpu xs s e = search (interrupts_to-more, length-append, length-set, owed_after, is_in-append, arith)
 
 -- ---- waiting
 

@@ -9,7 +9,7 @@ use Rattle.smp_words.proofs.Sizes.{record_of-below, one_local}
 use Rattle.smp_words.specs.declared.call.Call.{Call}
 use Rattle.smp_call_steps.specs.declared.known.Sending.{Sending}
 use Rattle.smp_call_steps.specs.declared.known.Logged.{Logged}
-use Rattle.smp_queue.specs.Cpu.{CpuValue, confirmed_at, confirms}
+use Rattle.smp_queue.specs.Cpu.{CpuValue, confirmed_at, confirms, looks}
 use Rattle.smp_queue.specs.Handling.{Grows, asks, drains}
 use Rattle.smp_queue.specs.declared.handler.Heard.{Heard}
 use Rattle.smp_calls.specs.Families.{IsSized, Leaves, owes_at}
@@ -62,13 +62,18 @@ module _ {H : Type 0} (leads : H → Heard → H → Type 0) where
       search (n, append-nil, handles_nothing, arith)
 
   -- a record is seen confirmed
-  pub leaves_confirmed : (c d : CpuValue) (h : H) (k : ℕ) → IsSized c → k < records_of_one → d ≡ confirms k c
+  -- one step more changes nothing of it
+  pub leaves_looked : {old mid new : CpuValue} {m after : H} {s : List Sending} {x : List Logged} {o d : ℕ → Bool} → mid ≡ looks old
+      → Leaves leads mid m new after s x o d → Leaves leads old m new after s x o d
+  leaves_looked {old} {mid} {new} {m} {after} {s} {x} {o} {d} e l = search arith
+
+  pub leaves_confirmed : (c d : CpuValue) (h : H) (k : ℕ) → IsSized c → k < records_of_one → d ≡ looks (confirms k c)
       → Leaves leads c h d h [] [] (owes_at c) (λ j. j == k || confirmed_at c j)
   leaves_confirmed c d h k s l e = search (length-set, append-nil, confirms_at, handles_same, arith)
 
   -- the same after some waiting
   pub leaves_ended : (old mid new : CpuValue) (before m : H) (k : ℕ) → IsSized old → k < records_of_one
-      → Leaves leads old before mid m [] [] (owes_at old) (confirmed_at old) → new ≡ confirms k mid →
+      → Leaves leads old before mid m [] [] (owes_at old) (confirmed_at old) → new ≡ looks (confirms k mid) →
       Leaves leads old before new m [] [] (owes_at old) (λ j. j == k || confirmed_at old j)
   leaves_ended old mid new before m k s l f e =
       let g = leaves_confirmed mid new m k (sized_moved old mid f.number_is f.sized s) l e in

@@ -10,7 +10,7 @@ use Rattle.smp_call_steps.specs.declared.known.Sending.{Sending}
 use Rattle.smp_call_steps.specs.declared.known.Logged.{Logged}
 use Rattle.smp_words.specs.declared.call.Call.{Call}
 use Rattle.smp_words.specs.declared.call.Class.{Class}
-use Rattle.smp_queue.specs.Cpu.{CpuValue, confirmed_at, confirms}
+use Rattle.smp_queue.specs.Cpu.{CpuValue, confirmed_at, confirms, looks}
 use Rattle.smp_queue.specs.Handling.{heard}
 use Rattle.smp_queue.specs.declared.handler.Heard.{Heard}
 use Rattle.smp_calls.specs.Handles.{Handles}
@@ -86,10 +86,10 @@ abbrev pub CallsHere : {H : Type 0} → (H → Heard → H → Type 0) → CpuVa
 CallsHere {H = H} leads old before new after func info wait =
     (called : H) × QueuesNone leads old before new called wait × leads called (heard old.number func info) after
 
--- a call by a record of the user, on the CPU itself: the record was seen confirmed, and nothing else was done
+-- a call by a record of the user, on the CPU itself: the record was seen confirmed by one step, and nothing else was done
 abbrev pub CallsUserHere : {H : Type 0} → (H → Heard → H → Type 0) → CpuValue → H → CpuValue → H → ℕ → ℕ → ℕ → Type 0
 CallsUserHere leads old before new after u func info =
-    (new ≡ confirms (user_record u) old) × leads before (heard old.number func info) after
+    (new ≡ looks (confirms (user_record u) old)) × leads before (heard old.number func info) after
 
 -- a CPU has handled nothing
 pub record HandlesNone (old new : CpuValue) : Type 0 where
@@ -97,11 +97,13 @@ pub record HandlesNone (old new : CpuValue) : Type 0 where
   pub taken_is : new.part.taken ≡ old.part.taken
   pub ran_is : new.part.ran ≡ old.part.ran
 
--- why a call by a record of the user is refused, and what that leaves. E4 comes first, then E2, then E1
+-- why a call by a record of the user is refused, and what that leaves. E4 comes first, by no step, then E2 and then E1, each by
+-- one step, the load of the record's flags
 abbrev pub RefusesUser : ℕ → CpuValue → CpuValue → ℕ → ℕ → SmpError → Type 0
 RefusesUser online old new u dst error.BadArgument = (2 ≤ u) × (new ≡ old)
-RefusesUser online old new u dst error.Busy = (u < 2) × (confirmed_at old (user_record u) ≢ true) × (new ≡ old)
-RefusesUser online old new u dst error.NoCpu = (u < 2) × (dst ≢ old.number) × (has online dst ≡ false) × (new ≡ confirms (user_record u) old)
+RefusesUser online old new u dst error.Busy = (u < 2) × (confirmed_at old (user_record u) ≢ true) × (new ≡ looks old)
+RefusesUser online old new u dst error.NoCpu = (u < 2) × (dst ≢ old.number) × (has online dst ≡ false)
+    × (new ≡ looks (confirms (user_record u) old))
 RefusesUser online old new u dst _ = ⊥
 
 -- calls to these CPUs, ascending, each by its record for calls to many, and a direct call, if any; the records are confirmed exactly where

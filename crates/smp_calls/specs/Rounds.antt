@@ -1,5 +1,5 @@
 -- The parts of a call to many: queue each call, send each interrupt, wait for each record.
-use Rattle.std.specs.Prelude.{◌≡◌, length, ℕ, ◌<◌, Bool, true, false, not, ◌&&◌, ◌||◌, if◌then◌else◌, Option, Some, None, List, [], ◌∷◌, ◌++◌}
+use Rattle.std.specs.Prelude.{◌≡◌, length, ℕ, ◌+◌, ◌<◌, Bool, true, false, not, ◌&&◌, ◌||◌, if◌then◌else◌, Option, Some, None, List, [], ◌∷◌, ◌++◌}
 use Rattle.smp_mask.specs.Mask.{has, members}
 use Rattle.smp_words.specs.Size.{cpus, record_of}
 use Rattle.smp_words.specs.declared.call.Call.{Call}
@@ -21,9 +21,9 @@ pub record Queues {H : Type 0} (leads : H → Heard → H → Type 0) (old : Cpu
   pub kept : (c : ℕ) → is_first_to c queued ≡ false → owes_at new c ≡ owes_at old c
   pub due : (c : ℕ) → is_first_to c queued ≡ true → c < length old.part.owes → owes_at new c ≡ true
 
--- one interrupt was sent to each of these CPUs, in order, and nothing else was done
+-- one interrupt was sent to each of these CPUs, in order, each by one step, and nothing else was done
 pub record Sends (old new : CpuValue) (sent : List ℕ) : Type 0 where
-  pub others_are : new ≡ record old { part = record (old.part) { owes = new.part.owes }; log = old.log ++ interrupts_to sent }
+  pub others_are : new ≡ record old { part = record (old.part) { owes = new.part.owes }; log = old.log ++ interrupts_to sent; steps = old.steps + length sent }
   pub owes_sized : length new.part.owes ≡ length old.part.owes
   pub owes_are : (c : ℕ) → owes_at new c ≡ (owes_at old c && not (is_in c sent))
 

@@ -86,6 +86,9 @@ impl<'a, A: Allocator, R: Wait, H: Handler + Drop> Caller<'a, A, R, H> {
             × CallsOne H.leads self.old.cpu self.old.handler self.new.cpu self.new.handler dst func info wait) }
         ensures here { IfOk result (λ _. dst ≡ self.old.cpu.number →
             CallsHere H.leads self.old.cpu self.old.handler self.new.cpu self.new.handler func info wait) }
+        ensures at_once { IfOk result (λ _. wait ≡ true → dst ≡ self.old.cpu.number → (self.new.cpu ≡ self.old.cpu)
+            × H.leads self.old.handler (heard self.old.cpu.number func info) self.new.handler) }
+        ensures stays { IfErr result (λ _. wait ≡ true → (self.new.cpu ≡ self.old.cpu) × (self.new.handler ≡ self.old.handler)) }
         ensures refused { IfErr result (λ e. (e ≡ SmpError.NoCpu) × (dst ≢ self.old.cpu.number) × (has self.old.table.now.online dst ≡ false)
             × QueuesNone H.leads self.old.cpu self.old.handler self.new.cpu self.new.handler wait) }
         ensures ended { IfOk result (λ _. wait ≡ true → dst ≢ self.old.cpu.number →
@@ -155,6 +158,8 @@ impl<'a, A: Allocator, R: Wait, H: Handler + Drop> Caller<'a, A, R, H> {
             CallsOne H.leads self.old.cpu self.old.handler self.new.cpu self.new.handler cpu func info wait) }
         ensures here { IfOk result (λ cpu. cpu ≡ self.old.cpu.number →
             CallsHere H.leads self.old.cpu self.old.handler self.new.cpu self.new.handler func info wait) }
+        ensures at_once { IfOk result (λ cpu. wait ≡ true → cpu ≡ self.old.cpu.number → (self.new.cpu ≡ self.old.cpu)
+            × H.leads self.old.handler (heard self.old.cpu.number func info) self.new.handler) }
         ensures refused { IfErr result (λ e. (e ≡ SmpError.NoCpu) × HasNone mask self.old.table.now.online self.old.cpu.number
             × (self.new.cpu ≡ self.old.cpu) × (self.new.handler ≡ self.old.handler)) }
         ensures ended { IfOk result (λ cpu. wait ≡ true → cpu ≢ self.old.cpu.number →

@@ -2,6 +2,8 @@
 
 ghost use Rattle.std.specs.Prelude.{◌≡◌, ◌≢◌, true, false, None, Some, [], ◌∷◌, IfOk, IfErr};
 ghost use Rattle.smp_mask.specs.Mask.{has};
+ghost use Rattle.smp_queue.specs.Cpu.{confirmed_at};
+ghost use Rattle.smp_queue.specs.Handling.{heard};
 ghost use Rattle.smp_calls.specs.Records.{call_by, single_record as single_record_in};
 ghost use Rattle.smp_calls.specs.Ended.{HaveEnded};
 ghost use Rattle.smp_calls.specs.Families.{IsSized, CallsOne, CallsHere, QueuesNone};
@@ -25,7 +27,8 @@ fn free_async<A: Allocator, R: Wait, H: Handler>(
 )
     requires table { me.old.table ≡ table.now.table }
     requires sized { IsSized me.old }
-    ensures { QueuesNone H.leads me.old handler.old me.new handler.new wait }
+    ensures none { QueuesNone H.leads me.old handler.old me.new handler.new wait }
+    ensures waited { wait ≡ true → (me.new ≡ me.old) × (handler.new ≡ handler.old) }
 {
     if !wait {
         wait_for(table, rt, me, handler, ASYNC_RECORD);
@@ -44,7 +47,8 @@ fn call_here<A: Allocator, R: Wait, H: Handler>(
 )
     requires table { me.old.table ≡ table.now.table }
     requires sized { IsSized me.old }
-    ensures { CallsHere H.leads me.old handler.old me.new handler.new func info wait }
+    ensures here { CallsHere H.leads me.old handler.old me.new handler.new func info wait }
+    ensures at_once { wait ≡ true → (me.new ≡ me.old) × H.leads handler.old (heard me.old.number func info) handler.new }
 {
     free_async(table, rt, me, handler, wait);
     handler.call(me.number(), func, info);
@@ -80,7 +84,7 @@ fn call_there<A: Allocator, R: Wait, H: Handler>(
 ///
 /// The function runs on the CPU `dst`, with this CPU as its source. With `wait` the call returns once it has run
 /// there. Without, it uses the async record, for whose last call it first waits, whatever `dst` is. On this CPU
-/// it runs at once, and nothing is queued. While it waits, the CPU handles its own interrupts.
+/// it runs at once, with `wait` before any step, and nothing is queued. While it waits, the CPU handles its own interrupts.
 ///
 /// A call to another CPU is queued at the compare-exchange that wins in its post. It may wait, for the record's last
 /// call and with `wait` for its own; the targets of the calls that it waits for must poll.
@@ -100,6 +104,10 @@ pub fn call_single<A: Allocator, R: Wait, H: Handler>(
     ensures queued { IfOk result (λ _. dst ≢ me.old.number → (has table.now.online dst ≡ true)
         × CallsOne H.leads me.old handler.old me.new handler.new dst func info wait) }
     ensures here { IfOk result (λ _. dst ≡ me.old.number → CallsHere H.leads me.old handler.old me.new handler.new func info wait) }
+    ensures at_once { IfOk result (λ _. wait ≡ true → dst ≡ me.old.number → (me.new ≡ me.old) × H.leads handler.old (heard me.old.number func info) handler.new) }
+    ensures stays { IfErr result (λ _. wait ≡ true → (me.new ≡ me.old) × (handler.new ≡ handler.old)) }
+    ensures freed { IfOk result (λ _. wait ≡ false → dst ≡ me.old.number → confirmed_at me.new 1 ≡ true) }
+    ensures waits { IfErr result (λ _. wait ≡ false → confirmed_at me.new 1 ≡ true) }
     ensures refused { IfErr result (λ e. (e ≡ SmpError.NoCpu) × (dst ≢ me.old.number) × (has table.now.online dst ≡ false)
         × QueuesNone H.leads me.old handler.old me.new handler.new wait) }
     ensures ended { IfOk result (λ _. wait ≡ true → dst ≢ me.old.number →

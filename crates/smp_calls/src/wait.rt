@@ -2,7 +2,7 @@
 
 ghost use Rattle.std.specs.Prelude.{◌≡◌, ◌≢◌, ◌<◌, ◌==◌, ◌||◌, None, [], true, false, if◌then◌else◌};
 ghost use Rattle.smp_call_steps.specs.Start.{has_record};
-ghost use Rattle.smp_queue.specs.Cpu.{confirmed_at, confirms};
+ghost use Rattle.smp_queue.specs.Cpu.{confirmed_at, confirms, looks};
 ghost use Rattle.smp_calls.specs.Families.{IsSized, Leaves, owes_at};
 
 use crossbeam_utils::Backoff;
@@ -10,11 +10,11 @@ use smp_queue::{CallCpu, CallTable, Handler};
 use std::alloc::Allocator;
 use std::sync::Wait;
 
-/// Whether the record is unlocked; if so, it is confirmed.
+/// Whether the record is unlocked, by one step; if so, it is confirmed.
 pub(crate) fn is_done<A: Allocator>(table: &CallTable<A>, me: &mut CallCpu, k: u32) -> bool
     requires table { me.old.table ≡ table.now.table }
     requires record { has_record table.now.nr k ≡ true }
-    ensures known { me.new ≡ if result then confirms k me.old else me.old }
+    ensures known { me.new ≡ looks (if result then confirms k me.old else me.old) }
     ensures locked { result ≡ false → confirmed_at me.old k ≢ true }
 {
     match table.is_done(me, k) {

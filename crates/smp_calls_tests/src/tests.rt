@@ -1,5 +1,6 @@
 ghost use Rattle.std.specs.Prelude.{◌≡◌, IfOk};
 
+mod conditions;
 mod threads;
 mod users;
 mod waiting;
@@ -154,6 +155,10 @@ impl<'a> Driver<'a> {
 
     fn poll(&mut self) {
         self.table.handle(&mut self.cpu, &mut self.heard);
+    }
+
+    fn interrupt(&mut self, to: u32) -> Result<(), SmpError> {
+        self.table.send(&mut self.cpu, to)
     }
 
     fn is_done(&mut self, k: u32) -> Result<bool, SmpError> {

@@ -1,13 +1,13 @@
 -- A change of a key's count by one, out of its parts.
-use Rattle.std.proofs.Common.{◌≡◌, ◌≢◌, ◌⊎◌, inl, inr, ℕ, ℤ, pos, Bool, true, false, None, Result, Ok, Err, List, [], ◌∷◌, ◌++◌}
+use Rattle.std.proofs.Common.{◌≡◌, inl, inr, ℕ, ℤ, pos, Bool, true, false, None, Result, Ok, Err, List, [], ◌∷◌, ◌++◌}
 use Rattle.std.proofs.Common.{append_assoc, refl, sym, ap, ◌∙◌, subst}
 use Rattle.std.proofs.lemmas.List.{append-nil}
-use Rattle.smp_labels.specs.Keys.{is_on, edge_of}
+use Rattle.smp_labels.specs.Keys.{edge_of}
 use Rattle.smp_mask.specs.declared.error.SmpError.{SmpError}
 use Rattle.smp_mask.specs.declared.error.SmpError.TheVariants as error
 use Rattle.smp_queue.specs.declared.handler.Heard.{Heard}
 use Rattle.smp_multi.specs.Cpu.{TableValue, CpuValue, gated}
-use Rattle.smp_multi.specs.Names.{Reading, ReadKey}
+use Rattle.smp_multi.specs.Names.{Reading}
 use Rattle.smp_multi.specs.Nudges.{turn_at, edge_at, end_of, nudged, loads_count, NudgeAnswers}
 use Rattle.smp_multi.specs.Laws.{FindsCount}
 use Rattle.smp_multi.specs.Reads.{reads, HasKey}
@@ -19,7 +19,8 @@ use Rattle.smp_machine.specs.Keys.{MayChange}
 use Rattle.smp_machine.specs.Own.{Own, own_of, with_gate}
 use Rattle.smp_machine.specs.Place.{PlaceValue}
 use Rattle.smp_machine.specs.Works.{Works}
-use Rattle.smp_machine.proofs.Works.{works_own, works_both}
+use Rattle.smp_machine.proofs.Served.{later_still, own_after}
+use Rattle.smp_machine.proofs.Works.{works_still, works_both}
 use Rattle.smp_machine.proofs.Stopping.{works_gate}
 use Rattle.smp_machine.proofs.KeyStops.{stopped_after}
 
@@ -100,7 +101,7 @@ module _ {H F : Type 0} (hears : H → Heard → H → Type 0) (runs : F → Cal
   works_loads count p m h f l e =
       let s = loads_count k count (reads_all l.readings p.stops) in
       subst (λ (x : PlaceValue). Works hears runs p h f x h f (own_of p)) (sym (e ∙ ap (λ (c : CpuValue). record p { stops = c }) l.is))
-      (works_own hears runs p (record p { stops = s }) h f refl refl refl refl refl refl refl)
+      (works_still hears runs p (record p { stops = s }) h f refl (later_still p.stops s refl refl refl refl refl refl) refl refl refl refl refl refl)
 
   works_nudged : (count : ℕ) (p m : PlaceValue) (loaded : CpuValue) (h : H) (f : F) → Loads k count p.stops loaded → m.stops ≡ nudged up k loaded
       → m ≡ record p { stops = m.stops } → Works hears runs p h f m h f (with_nudge up k (own_of p))
@@ -108,7 +109,7 @@ module _ {H F : Type 0} (hears : H → Heard → H → Type 0) (runs : F → Cal
       let s = nudged up k (loads_count k count (reads_all l.readings p.stops)) in
       let is : m.stops ≡ s = n ∙ ap (nudged up k) l.is in
       subst (λ (x : PlaceValue). Works hears runs p h f x h f (with_nudge up k (own_of p))) (sym (e ∙ ap (λ (c : CpuValue). record p { stops = c }) is))
-      (works_own hears runs p (record p { stops = s }) h f refl refl refl refl refl refl refl)
+      (works_still hears runs p (record p { stops = s }) h f refl (later_still p.stops s refl refl refl refl refl refl) refl refl refl refl refl refl)
 
   -- the count was nudged, and the gate is given up
   pub counts_nudged : (p m new : PlaceValue) (h : H) (f : F) → Nudges k up p.stops m.stops (Ok true) → m ≡ record p { stops = m.stops }
@@ -119,7 +120,9 @@ module _ {H F : Type 0} (hears : H → Heard → H → Type 0) (runs : F → Cal
       record {
         count = n.0;
         stays = n.3;
-        found = last_found k n.0 p.stops n.1 new.stops l (ap (λ (c : CpuValue). c.number) is) (ap (λ (c : CpuValue). c.part.readings) is);
+        before = reads_all l.readings p.stops;
+        finds = l.finds;
+        is = is ∙ ap (λ (c : CpuValue). gated false (nudged up k c)) l.is;
         works = works_both hears runs (with_nudge up k) (with_gate false) (works_nudged n.0 p m n.1 h f l n.5 e) (works_gate hears runs m new h f false g);
         outside = ap (λ (c : CpuValue). c.inside) is ∙ (ap (λ (c : CpuValue). c.inside) l.is ∙ outside);
       }
@@ -132,7 +135,9 @@ module _ {H F : Type 0} (hears : H → Heard → H → Type 0) (runs : F → Cal
       let is : new.stops ≡ gated false m.stops = ap (λ (y : PlaceValue). y.stops) g in (
         n.0,
         inl (record {
-          found = last_found k (edge_at up) p.stops m.stops new.stops l (ap (λ (c : CpuValue). c.number) is) (ap (λ (c : CpuValue). c.part.readings) is);
+          before = reads_all l.readings p.stops;
+          finds = l.finds;
+          is = is ∙ ap (gated false) l.is;
           works = works_both hears runs (λ o. o) (with_gate false) (works_loads (edge_at up) p m h f l e) (works_gate hears runs m new h f false g);
           outside = ap (λ (c : CpuValue). c.inside) is ∙ (ap (λ (c : CpuValue). c.inside) l.is ∙ outside);
         }),
@@ -154,7 +159,12 @@ module _ {H F : Type 0} (hears : H → Heard → H → Type 0) (runs : F → Cal
   patches_after : (g : Own → Own) {p m new : PlaceValue} {h h₁ h' : H} {f f₁ f' : F} (answer : ℤ) → ((o : Own) → with_gate false (g o) ≡ with_gate false o)
       → Works hears runs p h f m h₁ f₁ (g (own_of p)) → PatchesByOne hears runs t k up m h₁ f₁ new h' f' answer
       → PatchesByOne hears runs t k up p h f new h' f' answer
-  patches_after g {p} answer same w b = record { work = b.work; patch = b.patch; stopped = stopped_after hears runs g b.work answer same w b.stopped }
+  patches_after g {p} {m} {new} answer same w b = record {
+    work = b.work;
+    patch = b.patch;
+    stopped = stopped_after hears runs g b.work answer same w b.stopped;
+    last = own_after p m new w.serves w.passes_number b.last;
+  }
 
   -- a patch by one, after a nudge that has found that the key would turn
   pub counts_patched : (r : Result Bool SmpError) (p m new : PlaceValue) (h h' : H) (f f' : F) → Loads k (turn_at up) p.stops m.stops
@@ -191,7 +201,9 @@ module _ {H F : Type 0} (hears : H → Heard → H → Type 0) (runs : F → Cal
   counts_after held (Ok false) p m new h h₁ h' f f₁ f' w c = record {
     count = c.count;
     stays = c.stays;
-    found = c.found;
+    before = c.before;
+    finds = c.finds;
+    is = c.is;
     works = works_both hears runs (with_gate held) (λ o. with_nudge up k (with_gate false o)) w c.works;
     outside = c.outside;
   }
@@ -205,7 +217,9 @@ module _ {H F : Type 0} (hears : H → Heard → H → Type 0) (runs : F → Cal
   counts_after held (Err (error.KeyRange x)) p m new h h₁ h' f f₁ f' w (a, inl c) = (
     a,
     inl (record {
-      found = c.found;
+      before = c.before;
+      finds = c.finds;
+      is = c.is;
       works = works_both hears runs (with_gate held) (with_gate false) w c.works;
       outside = c.outside;
     }),

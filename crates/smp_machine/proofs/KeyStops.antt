@@ -1,27 +1,24 @@
 -- A patch by its source, out of its parts.
-use Rattle.std.proofs.Common.{◌≡◌, ◌≢◌, ℕ, ℤ, Bool, true, false, Option, Some, None, List, [], ◌∷◌, ◌++◌, ◌==◌, ◌&&◌, cond}
+use Rattle.std.proofs.Common.{◌≡◌, ◌≢◌, ℕ, ℤ, Bool, true, false, Option, Some, None, [], ◌∷◌, ◌==◌, ◌&&◌, cond}
 use Rattle.std.proofs.Common.{refl, sym, ap, ◌∙◌, subst, eq-eqb}
 use Rattle.smp_labels.specs.Keys.{change_of, change_word}
-use Rattle.smp_labels.specs.declared.keys.Change.{Change}
 use Rattle.smp_mask.specs.Mask.{members}
 use Rattle.smp_queue.specs.declared.handler.Heard.{Heard}
 use Rattle.smp_stop_steps.specs.Labels.{reading_of, state_left}
 use Rattle.smp_stop_steps.specs.Tells.{first_readings, is_patch}
-use Rattle.smp_multi.specs.Answers.{Enters}
-use Rattle.smp_multi.specs.Cpu.{TableValue, CpuValue, Inside, enters, gated, begins}
-use Rattle.smp_multi.specs.Names.{Work, One, Patch, ReadKey, Reading, StopCall, Moved, Setting}
+use Rattle.smp_multi.specs.Cpu.{TableValue, CpuValue, Inside, gated, begins}
+use Rattle.smp_multi.specs.Names.{Work, One, Patch, ReadKey, Reading}
 use Rattle.smp_multi.specs.Reads.{reads}
 use Rattle.smp_multi.specs.declared.func.Called.{Called}
-use Rattle.atomic_table.specs.Seated.{TableId}
 use Rattle.smp_machine.specs.declared.work_queue.Item.{Item}
-use Rattle.smp_machine.specs.Keys.{IsPatchOf, Reads, state_of}
+use Rattle.smp_machine.specs.Keys.{state_of}
 use Rattle.smp_machine.specs.Own.{Own, own_of, with_gate, with_begun, with_collected, with_put}
-use Rattle.smp_machine.specs.Passes.{PassesValue, takes, TakenIsShown}
-use Rattle.smp_machine.specs.Place.{MachineValue, PlaceValue}
+use Rattle.smp_machine.specs.Place.{PlaceValue}
 use Rattle.smp_machine.specs.Stops.{item, with_queued, with_stop, AreShown, HasCollected, HasStopped}
-use Rattle.smp_machine.specs.Takes.{TakesFront, EntersFront, TakesNext}
+use Rattle.smp_machine.specs.Takes.{EntersFront}
 use Rattle.smp_machine.specs.Works.{Works, ReadsAnew}
-use Rattle.smp_machine.proofs.Works.{works_own, works_as, works_both}
+use Rattle.smp_machine.proofs.Served.{later_still}
+use Rattle.smp_machine.proofs.Works.{works_still, works_as, works_both}
 use Rattle.smp_machine.proofs.Stopping.{works_begin, works_gate, last_open, shown_at}
 
 some_same : {A : Type 0} {a b : A} → Some a ≡ Some b → a ≡ b
@@ -92,7 +89,8 @@ module _ {H F : Type 0} (hears : H → Heard → H → Type 0) (runs : F → Cal
       → Works hears runs p h f new h f (own_of p)
   works_read p new h f r e =
       subst (λ (x : PlaceValue). Works hears runs p h f x h f (own_of p)) (sym e)
-      (works_own hears runs p (record p { stops = reads r p.stops }) h f refl refl refl refl refl refl refl)
+      (works_still hears runs p (record p { stops = reads r p.stops }) h f refl
+      (later_still p.stops (reads r p.stops) refl refl refl refl refl refl) refl refl refl refl refl refl)
 
   -- a long stop after a stretch in which at most the gate was taken
   pub stopped_after : {old m new : PlaceValue} {h h₁ h' : H} {f f₁ f' : F} (g : Own → Own) (work : Work) (v : ℤ)

@@ -6,6 +6,8 @@ pub mod Held
 pub mod Made
 -- the CPUs of a machine as it is made
 pub mod Seating
+-- works that were taken were served
+pub mod Served
 -- one stretch of work after another
 pub mod Works
 -- what a look and a turn leave of a CPU
@@ -22,3 +24,5 @@ pub mod Polls
 pub mod KeyCounts
 -- readings of a key and of its sites agree
 pub mod ReadLaws
+-- what the definitions of stops, polls and queues come to
+pub mod StopLaws

@@ -13,6 +13,7 @@ use Rattle.smp_machine.specs.Passes.{PassesValue}
 use Rattle.smp_machine.specs.Place.{MachineValue, PlaceValue}
 use Rattle.smp_machine.specs.Takes.{TakesFront, EntersFront, TakesNext, TakesWork}
 use Rattle.smp_machine.specs.Works.{Works, LooksOnceMore, LooksOnceOrMore, TurnsStop, ReadsAnew}
+use Rattle.smp_machine.proofs.Served.{later_still, serves_next}
 use Rattle.smp_machine.proofs.Works.{works_own, works_none, works_then, works_as}
 
 -- it has worked, has put and taken nothing, and is still in the same stop
@@ -39,7 +40,8 @@ front_queues old new (Some x) t =
 -- to enter a stop changes nothing but where the CPU is
 front_inside : (m : MachineValue) (old new : StopCpuValue) (front : Option Item) (slot : Option ℕ) → EntersFront m.stops old new front slot
     → new ≡ record old { inside = new.inside }
-front_inside m old new front None e = subst (λ (x : StopCpuValue). x ≡ record old { inside = x.inside }) (sym e) refl
+front_inside m old new None None e = subst (λ (x : StopCpuValue). x ≡ record old { inside = x.inside }) (sym e) refl
+front_inside m old new (Some x) None e = subst (λ (y : StopCpuValue). y ≡ record old { inside = y.inside }) (sym e.0) refl
 front_inside m old new None (Some slot) e = absurd e
 front_inside m old new (Some x) (Some slot) e = subst (λ (y : StopCpuValue). y ≡ record old { inside = y.inside }) (sym e.1.1.is) refl
 
@@ -88,8 +90,10 @@ module _ {H F : Type 0} (hears : H → Heard → H → Type 0) (leads : F → Ca
       let p = front_queues old.passes new.passes t.front t.passes_are in
       let e = front_inside m old.stops new.stops t.front slot t.stops_are in
       works_as hears leads (own_of old) (next_own m old new slot t)
-      (works_own hears leads old new h f t.calls_are (ap (λ (c : StopCpuValue). c.table) e) (ap (λ (c : StopCpuValue). c.setting) e)
-      (ap (λ (c : StopCpuValue). c.number) e) (ap (λ (c : StopCpuValue). c.part.calls) e) p.0 p.1)
+      (works_own hears leads old new h f t.calls_are (later_still old.stops new.stops (ap (λ (c : StopCpuValue). c.table) e)
+      (ap (λ (c : StopCpuValue). c.setting) e) (ap (λ (c : StopCpuValue). c.number) e) (ap (λ (c : StopCpuValue). c.part.begun) e)
+      (ap (λ (c : StopCpuValue). c.part.collected) e) (ap (λ (c : StopCpuValue). c.part.calls) e)) (ap (λ (c : StopCpuValue). c.part.calls) e) p.0 p.1
+      (serves_next m old new slot t))
 
   pub works_take : (m : MachineValue) (old new : PlaceValue) (h : H) (f : F) (there : Bool) (o : Option Inside) → old.stops.inside ≡ o
       → TakesWork m old new there → Works hears leads old h f new h f (own_of old)

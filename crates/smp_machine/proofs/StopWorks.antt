@@ -21,7 +21,7 @@ use Rattle.smp_stop_steps.proofs.TheMachine.Fits.{all_within, of_both, one_bit}
 use Rattle.smp_multi.specs.Names.{Work, Kind, One, Multi, Patch}
 use Rattle.smp_multi.specs.Cpu.{TableValue}
 use Rattle.smp_machine.specs.Keys.{IsPatchOf}
-use Rattle.smp_machine.specs.Stops.{terms_at_gate, MayBegin, IsOneWork, IsTwoWork, IsMachineWork}
+use Rattle.smp_machine.specs.Stops.{terms_at_gate, MayBegin, IsOneWork, IsTwoWork}
 
 -- how many are in a mask of one CPU
 one_more : (k mask cpu : ℕ) → has mask k ≡ (k == cpu) → mask_weight k mask ≡ bit (nat_lt cpu k)

@@ -1,5 +1,5 @@
 -- A stop, out of its parts.
-use Rattle.std.proofs.Common.{◌≡◌, ◌≢◌, ℕ, ℤ, Bool, true, false, true≢false, ◌==◌, ◌||◌, Option, Some, None}
+use Rattle.std.proofs.Common.{◌≡◌, ℕ, ℤ, Bool, true, false, true≢false, ◌||◌}
 use Rattle.std.proofs.Common.{List, [], ◌∷◌, ◌++◌, slice_index_or}
 use Rattle.std.proofs.Common.{inl, inr, refl, sym, ap, ◌∙◌, subst}
 use Rattle.std.proofs.lemmas.Bool.{cases_eq, ne_eqb}
@@ -8,7 +8,6 @@ use Rattle.smp_mask.specs.Mask.{members}
 use Rattle.smp_queue.specs.declared.handler.Heard.{Heard}
 use Rattle.smp_calls.specs.Queued.{is_in}
 use Rattle.smp_calls.proofs.Round.{is_in-append}
-use Rattle.smp_multi.specs.Answers.{answer_in}
 use Rattle.smp_multi.specs.Cpu.{CpuValue, gated, begins, collects}
 use Rattle.smp_multi.specs.Names.{Work}
 use Rattle.smp_multi.specs.Polls.{IsLastResult}
@@ -21,9 +20,10 @@ use Rattle.smp_machine.specs.Passes.{puts}
 use Rattle.smp_machine.specs.Place.{PlaceValue}
 use Rattle.smp_machine.specs.Stops.{item, with_queued, AreShown, HasCollected, HasStopped}
 use Rattle.smp_machine.specs.Works.{Works}
-use Rattle.smp_machine.proofs.Works.{works_own, works_none, works_then, works_as, works_both}
+use Rattle.smp_machine.proofs.Served.{later_still, later_same, later_begun, later_collected}
+use Rattle.smp_machine.proofs.Works.{works_still, works_as, works_both}
 
-put_all-append : (x : Item) (xs ys : List ℕ) (put : List (List Item)) → put_all x (xs ++ ys) put ≡ put_all x ys (put_all x xs put)
+pub put_all-append : (x : Item) (xs ys : List ℕ) (put : List (List Item)) → put_all x (xs ++ ys) put ≡ put_all x ys (put_all x xs put)
 put_all-append x [] ys put = refl
 put_all-append x (cpu ∷ xs) ys put = put_all-append x xs ys (put_one x cpu put)
 
@@ -33,25 +33,28 @@ module _ {H F : Type 0} (hears : H → Heard → H → Type 0) (runs : F → Cal
       → Works hears runs p h f new h f (with_gate b (own_of p))
   works_gate p new h f b e =
       subst (λ (x : PlaceValue). Works hears runs p h f x h f (with_gate b (own_of p))) (sym e)
-      (works_own hears runs p (record p { stops = gated b p.stops }) h f refl refl refl refl refl refl refl)
+      (works_still hears runs p (record p { stops = gated b p.stops }) h f refl
+      (later_still p.stops (gated b p.stops) refl refl refl refl refl refl) refl refl refl refl refl refl)
 
   pub works_begin : (p new : PlaceValue) (h : H) (f : F) (work : Work) → new ≡ record p { stops = begins work p.stops }
       → Works hears runs p h f new h f (with_begun work (own_of p))
   works_begin p new h f work e =
       subst (λ (x : PlaceValue). Works hears runs p h f x h f (with_begun work (own_of p))) (sym e)
-      (works_own hears runs p (record p { stops = begins work p.stops }) h f refl refl refl refl refl refl refl)
+      (works_still hears runs p (record p { stops = begins work p.stops }) h f refl
+      (later_begun p.stops (begins work p.stops) (work ∷ []) refl refl refl refl refl refl) refl refl refl refl refl refl)
 
   pub works_put : (p new : PlaceValue) (h : H) (f : F) (cpu : ℕ) (x : Item) → new ≡ record p { passes = puts cpu x p.passes }
       → Works hears runs p h f new h f (with_put x (cpu ∷ []) (own_of p))
   works_put p new h f cpu x e =
       subst (λ (y : PlaceValue). Works hears runs p h f y h f (with_put x (cpu ∷ []) (own_of p))) (sym e)
-      (works_own hears runs p (record p { passes = puts cpu x p.passes }) h f refl refl refl refl refl refl refl)
+      (works_still hears runs p (record p { passes = puts cpu x p.passes }) h f refl (later_same p.stops) refl refl refl refl refl refl)
 
   pub works_collect : (p new : PlaceValue) (h : H) (f : F) (word : ℕ) → new ≡ record p { stops = collects word p.stops }
       → Works hears runs p h f new h f (with_collected word (own_of p))
   works_collect p new h f word e =
       subst (λ (x : PlaceValue). Works hears runs p h f x h f (with_collected word (own_of p))) (sym e)
-      (works_own hears runs p (record p { stops = collects word p.stops }) h f refl refl refl refl refl refl refl)
+      (works_still hears runs p (record p { stops = collects word p.stops }) h f refl
+      (later_collected p.stops (collects word p.stops) (word ∷ []) refl refl refl refl refl refl) refl refl refl refl refl refl)
 
   -- after a stretch in which the CPU has made none
   pub works_after : {old mid new : PlaceValue} {h h₁ h₂ : H} {f f₁ f₂ : F} (g : Own → Own) → Works hears runs old h f mid h₁ f₁ (own_of old)

@@ -28,7 +28,9 @@ use Rattle.smp_machine.specs.Own.{own_of}
 use Rattle.smp_machine.specs.Passes.{PassesValue}
 use Rattle.smp_machine.specs.Place.{PlaceValue, HasNotLeft}
 use Rattle.smp_machine.specs.Works.{handled_calls, stop_call, turned, HasRun, Works, Hears, LooksOnce, LooksIfOn, StopMoves, GoesRound}
+use Rattle.smp_machine.specs.Served.{KeepsVisits}
 use Rattle.smp_machine.specs.Works.{completed, StaysIn, TurnsStop}
+use Rattle.smp_machine.proofs.Served.{later_called, keeps_still, keeps_inside, keeps_answer, serves_none}
 
 module _ {H : Type 0} (hears : H → Heard → H → Type 0) where
   -- one look, by what `handle` answers
@@ -65,20 +67,26 @@ pub works_turn : {H F : Type 0} (hears : H → Heard → H → Type 0) (leads : 
     → Hears hears old h mid h' → new.calls ≡ mid.calls → new.passes ≡ mid.passes → StopMoves leads mid.stops f new.stops f'
     → Works hears leads old h f new h' f' (own_of old)
 works_turn hears leads {old} {mid} {new} {h} {h'} {f} {f'} l calls passes s =
-    let kept : new.stops ≡ turned old.stops new.stops = s.kept ∙ ap (λ (x : StopCpuValue). turned x new.stops) l.stops_are in
+    let k : StopMoves leads old.stops f new.stops f' = subst (λ (x : StopCpuValue). StopMoves leads x f new.stops f') l.stops_are s in
     let passed : new.passes ≡ old.passes = passes ∙ l.passes_are in
+    let table = ap (λ (x : StopCpuValue). x.table) k.kept in
+    let setting = ap (λ (x : StopCpuValue). x.setting) k.kept in
+    let number = ap (λ (x : StopCpuValue). x.number) k.kept in
     record {
       calls_kept = subst (λ (x : CallCpuValue). x ≡ handled_calls old.calls x) (sym calls) l.calls_kept;
       handled = subst (λ (x : CallCpuValue). Handles hears old.calls h x h') (sym calls) l.handled;
-      table_is = ap (λ (x : StopCpuValue). x.table) kept;
-      setting_is = ap (λ (x : StopCpuValue). x.setting) kept;
-      number_is = ap (λ (x : StopCpuValue). x.number) kept;
-      ran = s.ran;
-      calls_are = s.calls_are ∙ ap (λ (x : StopCpuValue). x.part.calls ++ map stop_call s.ran) l.stops_are;
-      grows = subst (λ (n : ℕ). HasRun leads n f s.ran f') (ap (λ (x : StopCpuValue). x.number) l.stops_are) s.grows;
+      table_is = table;
+      setting_is = setting;
+      number_is = number;
+      ran = k.ran;
+      calls_are = k.calls_are;
+      grows = k.grows;
       queues_are = ap (λ (x : PassesValue). x.queues) passed;
       passes_number = ap (λ (x : PassesValue). x.number) passed;
-      own_is = λ i. own_of (record { calls = new.calls; stops = kept i; passes = passed i });
+      later = later_called old.stops new.stops (map stop_call k.ran) table setting number (ap (λ (x : StopCpuValue). x.part.begun) k.kept)
+          (ap (λ (x : StopCpuValue). x.part.collected) k.kept) k.calls_are;
+      serves = serves_none old new (ap (λ (x : PassesValue). x.taken) passed) k.keeps;
+      own_is = λ i. own_of (record { calls = new.calls; stops = k.kept i; passes = passed i });
     }
 
 -- a stop of several CPUs, or of one
@@ -156,18 +164,19 @@ module _ {F : Type 0} (leads : F → Called → F → Type 0) where
   not_run old new f f' error.BadArgument r = (r.0, r.1, r.2)
   not_run old new f f' _ r = absurd r
 
-  lit_moves : (old x new : StopCpuValue) (f f' : F) (ran : List Called) → x ≡ turned old x → x.part.calls ≡ old.part.calls ++ map stop_call ran
-      → HasRun leads old.number f ran f' → new ≡ x → StopMoves leads old f new f'
-  lit_moves old x new f f' ran kept calls grows is =
-      subst (λ (y : StopCpuValue). StopMoves leads old f y f') (sym is) (record { kept = kept; ran = ran; calls_are = calls; grows = grows })
+  lit_moves : (old x new : StopCpuValue) (f f' : F) (ran : List Called) → x ≡ turned old x → KeepsVisits old x
+      → x.part.calls ≡ old.part.calls ++ map stop_call ran → HasRun leads old.number f ran f' → new ≡ x → StopMoves leads old f new f'
+  lit_moves old x new f f' ran kept keeps calls grows is =
+      subst (λ (y : StopCpuValue). StopMoves leads old f y f') (sym is) (record { kept = kept; keeps = keeps; ran = ran; calls_are = calls; grows = grows })
 
-  lit_still : (old x new : StopCpuValue) (f f' : F) → x ≡ turned old x → x.part.calls ≡ old.part.calls → f' ≡ f → new ≡ x → StopMoves leads old f new f'
-  lit_still old x new f f' kept calls same is = lit_moves old x new f f' [] kept (calls ∙ sym (append-nil old.part.calls)) (sym same) is
+  lit_still : (old x new : StopCpuValue) (f f' : F) → x ≡ turned old x → KeepsVisits old x → x.part.calls ≡ old.part.calls → f' ≡ f → new ≡ x
+      → StopMoves leads old f new f'
+  lit_still old x new f f' kept keeps calls same is = lit_moves old x new f f' [] kept keeps (calls ∙ sym (append-nil old.part.calls)) (sym same) is
 
   -- nothing was done, where no work is in hand
   pub turns_none : (c : StopCpuValue) (f : F) → c.inside ≡ None → TurnsStop leads c f c f Same
   turns_none c f outside = record {
-    moves = lit_still c c c f f refl refl refl refl;
+    moves = lit_still c c c f f refl (keeps_still c c refl refl) refl refl refl;
     none = λ _. (refl, refl, refl);
     one = λ at. absurd (some_none at.is outside);
     round = λ at. absurd (some_none at.is outside);
@@ -183,7 +192,9 @@ module _ {F : Type 0} (leads : F → Called → F → Type 0) where
       let is : new ≡ answers at.stop.slot (answer_word v) (runs (call_of at.stop v) old) = a.1 in
       record {
         moves = lit_moves old (answers at.stop.slot (answer_word v) (runs (call_of at.stop v) old)) new f f'
-            (called old.number at.stop.work.func at.stop.work.arg v ∷ []) refl refl (f', (refl, a.2), refl) is;
+            (called old.number at.stop.work.func at.stop.work.arg v ∷ []) refl
+            (keeps_answer old (answers at.stop.slot (answer_word v) (runs (call_of at.stop v) old)) at.stop (answer_word v) at.is refl refl)
+            refl (f', (refl, a.2), refl) is;
         none = λ n. absurd (some_none at.is n);
         one = λ _. (record { at = at; answer = v; is = is; ran = a.2 }, refl);
         round = λ r. absurd (not_both old at r);
@@ -192,14 +203,21 @@ module _ {F : Type 0} (leads : F → Called → F → Type 0) where
         read = λ _ stop there several. absurd (several (ap (λ (x : Inside). x.work.kind) (some_same there at.is) ∙ at.one));
       }
 
-  run_moves : (kind : Kind) (stop : Inside) (old new : StopCpuValue) (f f' : F)
+  -- with the phase acknowledged, it is still in its stop
+  acked_keeps : (old x : StopCpuValue) (stop : Inside) (p : ℕ) → old.inside ≡ Some stop → x.inside ≡ Some (record stop { acked = p })
+      → x.part.answers ≡ old.part.answers → KeepsVisits old x
+  acked_keeps old x stop p was is answers = keeps_inside old x stop (record stop { acked = p }) was is refl answers
+
+  run_moves : (kind : Kind) (stop : Inside) (old new : StopCpuValue) (f f' : F) → old.inside ≡ Some stop
       → RunsAt leads stop old new f f' kind → StopMoves leads old f new f'
-  run_moves One stop old new f f' r = absurd r
-  run_moves Multi stop old new f f' r =
-      lit_moves old (carries (answer_word r.0) (runs (call_of stop r.0) (acknowledges stop RUN false old))) new f f'
-      (called old.number stop.work.func stop.work.arg r.0 ∷ []) refl refl (f', (refl, r.2), refl) r.1
-  run_moves Patch stop old new f f' r =
-      lit_still old (carries (patch_answer stop.work r.0) (patches stop.work r.0 (acknowledges stop RUN false old))) new f f' refl refl r.2 r.1
+  run_moves One stop old new f f' in_it r = absurd r
+  run_moves Multi stop old new f f' in_it r =
+      let x = carries (answer_word r.0) (runs (call_of stop r.0) (acknowledges stop RUN false old)) in
+      lit_moves old x new f f' (called old.number stop.work.func stop.work.arg r.0 ∷ []) refl (acked_keeps old x stop RUN in_it refl refl) refl
+      (f', (refl, r.2), refl) r.1
+  run_moves Patch stop old new f f' in_it r =
+      let x = carries (patch_answer stop.work r.0) (patches stop.work r.0 (acknowledges stop RUN false old)) in
+      lit_still old x new f f' refl (acked_keeps old x stop RUN in_it refl refl) refl r.2 r.1
 
   run_inside : (kind : Kind) (stop : Inside) (old new : StopCpuValue) (f f' : F)
       → RunsAt leads stop old new f f' kind → new.inside ≡ Some (record stop { acked = RUN })
@@ -207,15 +225,18 @@ module _ {F : Type 0} (leads : F → Called → F → Type 0) where
   run_inside Multi stop old new f f' r = ap (λ (c : StopCpuValue). c.inside) r.1
   run_inside Patch stop old new f f' r = ap (λ (c : StopCpuValue). c.inside) r.1
 
-  round_moves : (old new mid : StopCpuValue) (stop : Inside) (f f' : F) (turn : Turn) → Advances leads stop old mid f f' turn
+  round_moves : (old new mid : StopCpuValue) (stop : Inside) (f f' : F) (turn : Turn) → old.inside ≡ Some stop → Advances leads stop old mid f f' turn
       → new ≡ completed turn stop mid → StopMoves leads old f new f'
-  round_moves old new mid stop f f' Same a is = lit_still old (looks stop.acked old) new f f' refl refl a.1 (is ∙ a.0)
-  round_moves old new mid stop f f' (Moved p) a is =
-      lit_still old (acknowledges stop p (nat_lt p DISABLE_IRQ) old) new f f' refl refl a.4 (is ∙ a.3)
-  round_moves old new mid stop f f' Ran a is =
-      subst (λ (y : StopCpuValue). StopMoves leads old f y f') (sym is) (run_moves stop.work.kind stop old mid f f' a.2)
-  round_moves old new mid stop f f' Left a is =
-      lit_still old (completed Left stop (reads_anew stop (acknowledges stop EXIT true old))) new f f' refl refl a.2 (is ∙ ap (completed Left stop) a.1)
+  round_moves old new mid stop f f' Same in_it a is =
+      lit_still old (looks stop.acked old) new f f' refl (keeps_still old (looks stop.acked old) refl refl) refl a.1 (is ∙ a.0)
+  round_moves old new mid stop f f' (Moved p) in_it a is =
+      let x = acknowledges stop p (nat_lt p DISABLE_IRQ) old in
+      lit_still old x new f f' refl (acked_keeps old x stop p in_it refl refl) refl a.4 (is ∙ a.3)
+  round_moves old new mid stop f f' Ran in_it a is =
+      subst (λ (y : StopCpuValue). StopMoves leads old f y f') (sym is) (run_moves stop.work.kind stop old mid f f' in_it a.2)
+  round_moves old new mid stop f f' Left in_it a is =
+      let x = completed Left stop (reads_anew stop (acknowledges stop EXIT true old)) in
+      lit_still old x new f f' refl (keeps_answer old x stop (carried_answer old.part.calling) in_it refl refl) refl a.2 (is ∙ ap (completed Left stop) a.1)
 
   stays_at : (old new : StopCpuValue) (stop : Inside) (acked : ℕ) → old.inside ≡ Some stop → acked ≢ EXIT
       → new.inside ≡ Some (record stop { acked = acked }) → StaysIn old new
@@ -245,7 +266,7 @@ module _ {F : Type 0} (leads : F → Called → F → Type 0) where
   turns_round old new f f' turn g =
       let done = round_left old new g.advanced g.at.stop f f' turn g.advances g.is in
       record {
-        moves = round_moves old new g.advanced g.at.stop f f' turn g.advances g.is;
+        moves = round_moves old new g.advanced g.at.stop f f' turn g.at.is g.advances g.is;
         none = λ n. absurd (some_none g.at.is n);
         one = λ at. absurd (not_both old at g.at);
         round = λ _. g;

@@ -10,7 +10,9 @@ use Rattle.smp_multi.specs.Names.{StopCall}
 use Rattle.smp_multi.specs.declared.func.Called.{Called}
 use Rattle.smp_machine.specs.Own.{Own, own_of}
 use Rattle.smp_machine.specs.Place.{MachineValue, PlaceValue, IsAt}
+use Rattle.smp_machine.specs.Served.{IsLater, Serves}
 use Rattle.smp_machine.specs.Works.{handled_calls, stop_call, HasRun, Works}
+use Rattle.smp_machine.proofs.Served.{later_same, later_then, serves_still, serves_then}
 
 folds-append : {P A : Type 0} (R : P → A → P → Type 0) (xs ys : List A) (p q r : P) → FoldsTo R p xs q → FoldsTo R q ys r → FoldsTo R p (xs ++ ys) r
 folds-append R [] ys p q r e f = subst (λ z. FoldsTo R z ys r) (sym e) f
@@ -27,27 +29,37 @@ ran_then old mid new xs ys e f =
     ∙ ap (λ (l : List StopCall). old ++ l) (sym (map-append stop_call xs ys))))
 
 module _ {H F : Type 0} (hears : H → Heard → H → Type 0) (leads : F → Called → F → Type 0) where
-  -- only what its own stop calls change has changed
-  pub works_own : (old new : PlaceValue) (h : H) (f : F) → new.calls ≡ old.calls → new.stops.table ≡ old.stops.table
-      → new.stops.setting ≡ old.stops.setting → new.stops.number ≡ old.stops.number → new.stops.part.calls ≡ old.stops.part.calls
-      → new.passes.queues ≡ old.passes.queues → new.passes.number ≡ old.passes.number → Works hears leads old h f new h f (own_of new)
-  works_own old new h f calls table setting number ran queues passes_number = record {
+  -- only what its own stop calls change has changed, or what it has taken
+  pub works_own : (old new : PlaceValue) (h : H) (f : F) → new.calls ≡ old.calls → IsLater old.stops new.stops
+      → new.stops.part.calls ≡ old.stops.part.calls → new.passes.queues ≡ old.passes.queues → new.passes.number ≡ old.passes.number
+      → Serves old new → Works hears leads old h f new h f (own_of new)
+  works_own old new h f calls later ran queues passes_number serves = record {
     calls_kept = subst (λ (x : CallCpuValue). x ≡ handled_calls old.calls x) (sym calls) refl;
     handled = subst (λ (x : CallCpuValue). Handles hears old.calls h x h) (sym calls) (handles_none hears old.calls h);
-    table_is = table;
-    setting_is = setting;
-    number_is = number;
+    table_is = later.table_is;
+    setting_is = later.setting_is;
+    number_is = later.number_is;
     ran = [];
     calls_are = ran ∙ sym (append-nil old.stops.part.calls);
     grows = refl;
     queues_are = queues;
     passes_number = passes_number;
+    later = later;
+    serves = serves;
     own_is = refl;
   }
 
+  -- no work was taken
+  pub works_still : (old new : PlaceValue) (h : H) (f : F) → new.calls ≡ old.calls → IsLater old.stops new.stops
+      → new.stops.part.calls ≡ old.stops.part.calls → new.stops.part.answers ≡ old.stops.part.answers → new.stops.inside ≡ old.stops.inside
+      → new.passes.queues ≡ old.passes.queues → new.passes.number ≡ old.passes.number → new.passes.taken ≡ old.passes.taken
+      → Works hears leads old h f new h f (own_of new)
+  works_still old new h f calls later ran answers inside queues passes_number taken =
+      works_own old new h f calls later ran queues passes_number (serves_still old new taken answers inside)
+
   -- nothing was done
   pub works_none : (p : PlaceValue) (h : H) (f : F) → Works hears leads p h f p h f (own_of p)
-  works_none p h f = works_own p p h f refl refl refl refl refl refl refl
+  works_none p h f = works_still p p h f refl (later_same p.stops) refl refl refl refl refl refl
 
   -- one stretch, and then another
   pub works_then : {old mid new : PlaceValue} {h h₁ h₂ : H} {f f₁ f₂ : F} {own own' : Own} → Works hears leads old h f mid h₁ f₁ own
@@ -64,6 +76,8 @@ module _ {H F : Type 0} (hears : H → Heard → H → Type 0) (leads : F → Ca
         (subst (λ (n : ℕ). HasRun leads n f₁ b.ran f₂) a.number_is b.grows);
     queues_are = b.queues_are ∙ a.queues_are;
     passes_number = b.passes_number ∙ a.passes_number;
+    later = later_then old.stops mid.stops new.stops a.later b.later;
+    serves = serves_then old mid new a.later b.later a.serves b.serves;
     own_is = b.own_is;
   }
 

@@ -9,12 +9,13 @@ use Rattle.smp_mask.specs.declared.error.SmpError.TheVariants as error
 use Rattle.smp_queue.specs.declared.handler.Heard.{Heard}
 use Rattle.smp_stop_steps.specs.State.{unmoved}
 use Rattle.smp_multi.specs.Names.{Work, Reading, ReadKey}
-use Rattle.smp_multi.specs.Cpu.{TableValue, CpuValue}
+use Rattle.smp_multi.specs.Cpu.{TableValue, CpuValue, gated}
 use Rattle.smp_multi.specs.Nudges.{edge_at, turn_at, end_of, StaysOn, moved_more, nudged, loads_count}
 use Rattle.smp_multi.specs.Laws.{FindsCount}
 use Rattle.smp_multi.specs.declared.func.Called.{Called}
 use Rattle.smp_machine.specs.Keys.{IsPatchOf, MayChange}
 use Rattle.smp_machine.specs.Own.{Own, own_of, with_gate}
+use Rattle.smp_machine.specs.Passes.{LastIsOwn}
 use Rattle.smp_machine.specs.Place.{PlaceValue}
 use Rattle.smp_machine.specs.Stops.{HasStopped, RefusedStill}
 use Rattle.smp_machine.specs.Works.{Works}
@@ -53,28 +54,33 @@ pub record LastFound (k count : ℕ) (new : CpuValue) : Type 0 where
   pub number_is : new.number ≡ before.number
   pub readings_are : new.part.readings ≡ before.part.readings ++ ReadKey k (is_on count) ∷ []
 
--- it has polled, and nudged the count of a key that is on and stays on; the gate is not the CPU's
+-- it has polled, and nudged the count of a key that is on and stays on, as the load before has found it; the gate is not the CPU's
 pub record HasNudged {H F : Type 0} (hears : H → Heard → H → Type 0) (runs : F → Called → F → Type 0) (k : ℕ) (up : Bool) (old : PlaceValue) (h : H) (f : F)
     (new : PlaceValue) (h' : H) (f' : F) : Type 0 where
   pub count : ℕ
   pub stays : StaysOn up count
-  pub found : LastFound k count new.stops
+  pub before : CpuValue
+  pub finds : FindsCount before k count
+  pub is : new.stops ≡ gated false (nudged up k (loads_count k count before))
   pub works : Works hears runs old h f new h' f' (with_nudge up k (with_gate false (own_of old)))
   pub outside : new.stops.inside ≡ None
 
 -- it has found the count at the end of its range, and has done nothing but poll; the gate is not the CPU's
 pub record HasFoundEdge {H F : Type 0} (hears : H → Heard → H → Type 0) (runs : F → Called → F → Type 0) (k : ℕ) (up : Bool) (old : PlaceValue) (h : H)
     (f : F) (new : PlaceValue) (h' : H) (f' : F) : Type 0 where
-  pub found : LastFound k (edge_at up) new.stops
+  pub before : CpuValue
+  pub finds : FindsCount before k (edge_at up)
+  pub is : new.stops ≡ gated false (loads_count k (edge_at up) before)
   pub works : Works hears runs old h f new h' f' (with_gate false (own_of old))
   pub outside : new.stops.inside ≡ None
 
--- it has made a patch by one, with this answer
+-- it has made a patch by one, with this answer, and has taken no work after its own
 pub record PatchesByOne {H F : Type 0} (hears : H → Heard → H → Type 0) (runs : F → Called → F → Type 0) (t : TableValue) (k : ℕ) (up : Bool)
     (old : PlaceValue) (h : H) (f : F) (new : PlaceValue) (h' : H) (f' : F) (answer : ℤ) : Type 0 where
   pub work : Work
   pub patch : IsPatchOf t k (step_of up) work
   pub stopped : HasStopped hears runs true work old h f new h' f' answer
+  pub last : LastIsOwn old.passes new.passes
 
 -- the same, by its answer: E13 where the patch has not answered 0
 abbrev pub Patches : {H F : Type 0} → (H → Heard → H → Type 0) → (F → Called → F → Type 0) → TableValue → ℕ → Bool → PlaceValue → H → F

@@ -8,6 +8,8 @@ pub mod Place
 pub mod Calls
 -- what only a CPU's own stop calls change
 pub mod Own
+-- what became of the works that it has taken
+pub mod Served
 -- what a CPU does between two points of a call
 pub mod Works
 -- what a CPU takes from its own queue
@@ -22,3 +24,5 @@ pub mod Polls
 pub mod Counts
 -- what it has read of keys and sites
 pub mod ReadLaws
+-- what these definitions come to
+pub mod StopLaws

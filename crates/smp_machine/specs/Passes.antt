@@ -76,6 +76,13 @@ PutIsShown p cpu = IsKnown (Puts p.number (put_to p cpu))
 abbrev pub TakenIsShown : PassesValue → Type 0
 TakenIsShown p = (n : ℕ) × IsKnown (Takes n p.taken)
 
+-- since then a CPU has taken works, and the last of them is of its own stop
+pub record LastIsOwn (old new : PassesValue) : Type 0 where
+  pub others : List Item
+  pub last : Item
+  pub own : last.slot ≡ old.number
+  pub taken_are : new.taken ≡ old.taken ++ (others ++ last ∷ [])
+
 -- the names of the queues
 abbrev pub queue_ids : {Q A : Type 0} → List (Slotted (Option Item) (Doing Item Knows) Q A) → List TableId
 queue_ids queues = map (λ q. q.table.shared.table_id) queues

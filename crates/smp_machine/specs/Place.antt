@@ -2,6 +2,7 @@
 use Rattle.std.specs.Prelude.{◌≡◌, ◌≢◌, ◌<◌, ℕ, Bool, false, true, Option, Some, None, IfSome, List, length, slice_index_or, slice_set}
 use Rattle.atomic_table.specs.Seated.{TableId}
 use Rattle.smp_mask.specs.Mask.{has}
+use Rattle.smp_words.specs.Limits.{AreLimits}
 use Rattle.smp_stop_steps.specs.declared.phase.TheConstants.{EXIT}
 use Rattle.smp_queue.specs.Cpu.{TableValue as CallTableValue, CpuValue as CallCpuValue, fresh_cpu as fresh_calls}
 use Rattle.smp_multi.specs.Cpu.{TableValue as StopTableValue, CpuValue as StopCpuValue, Inside, fresh_cpu as fresh_stops, IsAt as IsAtStops}
@@ -19,10 +20,11 @@ pub record PlaceValue : Type 0 where
   pub stops : StopCpuValue
   pub passes : PassesValue
 
--- both tables have the same CPUs
+-- both tables have the same CPUs, within the limits
 pub record IsMachine (m : MachineValue) : Type 0 where
   pub nr : m.stops.nr ≡ m.calls.nr
   pub online : m.stops.setting.online ≡ m.calls.online
+  pub limits : AreLimits m.calls.nr m.calls.online
 
 -- the CPU is one of this machine
 pub record IsAt (m : MachineValue) (p : PlaceValue) : Type 0 where

@@ -7,15 +7,17 @@ use Rattle.smp_multi.specs.Cpu.{TableValue as StopTableValue, CpuValue as StopCp
 use Rattle.smp_machine.specs.declared.work_queue.Item.{Item}
 use Rattle.smp_machine.specs.Passes.{PassesValue, takes, TakenIsShown}
 use Rattle.smp_machine.specs.Place.{MachineValue, PlaceValue}
+use Rattle.smp_machine.specs.Served.{FindsStale}
 
 -- the front of the own queue, where there was one: it is taken, with the law of the queue
 abbrev pub TakesFront : PassesValue → PassesValue → Option Item → Type 0
 TakesFront old new None = new ≡ old
 TakesFront old new (Some x) = (new ≡ takes x old) × TakenIsShown new
 
--- what was taken is entered, by the slot that it names, or is stale
+-- what was taken is entered, by the slot that it names, or is stale, and the CPU is as it was
 abbrev pub EntersFront : StopTableValue → StopCpuValue → StopCpuValue → Option Item → Option ℕ → Type 0
-EntersFront t old new front None = new ≡ old
+EntersFront t old new None None = new ≡ old
+EntersFront t old new (Some x) None = (new ≡ old) × FindsStale old x.slot
 EntersFront t old new (Some x) (Some slot) = (slot ≡ x.slot) × ((kind : Kind) × Enters t slot old new kind)
 EntersFront t old new None (Some slot) = ⊥
 

@@ -19,6 +19,7 @@ use Rattle.smp_multi.specs.declared.turn.Turn.{Turn}
 use Rattle.smp_multi.specs.declared.turn.Turn.TheVariants.{Same, Left}
 use Rattle.smp_machine.specs.Own.{Own, own_of}
 use Rattle.smp_machine.specs.Place.{PlaceValue}
+use Rattle.smp_machine.specs.Served.{KeepsVisits, IsLater, Serves}
 
 -- a CPU of the calls that has only handled
 abbrev pub handled_part : CallPart → CallPart → CallPart
@@ -43,7 +44,7 @@ abbrev pub HasRun : {F : Type 0} → (F → Called → F → Type 0) → ℕ →
 HasRun leads number before ran after = FoldsTo (λ p call q. (call.cpu ≡ number) × leads p call q) before ran after
 
 -- A CPU has handled interrupts and taken part in stops: its handler has heard just what it has run, its stop function
--- has run just its calls, and of what only its own stop calls change this is left.
+-- has run just its calls, the works that it has taken were served, and of what only its own stop calls change this is left.
 pub record Works {H F : Type 0} (hears : H → Heard → H → Type 0) (leads : F → Called → F → Type 0) (old : PlaceValue) (h : H) (f : F)
     (new : PlaceValue) (h' : H) (f' : F) (own : Own) : Type 0 where
   pub calls_kept : new.calls ≡ handled_calls old.calls new.calls
@@ -56,6 +57,8 @@ pub record Works {H F : Type 0} (hears : H → Heard → H → Type 0) (leads : 
   pub grows : HasRun leads old.stops.number f ran f'
   pub queues_are : new.passes.queues ≡ old.passes.queues
   pub passes_number : new.passes.number ≡ old.passes.number
+  pub later : IsLater old.stops new.stops
+  pub serves : Serves old new
   pub own_is : own_of new ≡ own
 
 -- the handler has heard what one look at the interrupt word, or none, has taken; the rest of the CPU is as it was
@@ -100,9 +103,10 @@ turned_part old new = record old {
 abbrev pub turned : StopCpuValue → StopCpuValue → StopCpuValue
 turned old new = record old { inside = new.inside; irq = new.irq; part = turned_part old.part new.part }
 
--- the same, and the stop functions that it has run
+-- the same: it has entered none, and lost none; and the stop functions that it has run
 pub record StopMoves {F : Type 0} (leads : F → Called → F → Type 0) (old : StopCpuValue) (f : F) (new : StopCpuValue) (f' : F) : Type 0 where
   pub kept : new ≡ turned old new
+  pub keeps : KeepsVisits old new
   pub ran : List Called
   pub calls_are : new.part.calls ≡ old.part.calls ++ map stop_call ran
   pub grows : HasRun leads old.number f ran f'

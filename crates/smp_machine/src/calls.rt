@@ -1,7 +1,7 @@
 //! The families of calls on a machine: those of `smp_calls`, by a CPU that has no work in hand.
 //!
-//! Each has two parts: one for a caller's CPU, that refuses with E4 where a work is in hand, and one that is lent the CPU
-//! with its interrupts on. A CPU that waits in a family takes no part in a stop (Linux has preemption off there).
+//! Each refuses with E4 where a work is in hand, and else lends the CPU, with its interrupts on, to the page that handles
+//! ([`crate::hearing`]). A CPU that waits in a family takes no part in a stop (Linux has preemption off there).
 
 ghost use Rattle.std.specs.Prelude.{◌≡◌, ◌≢◌, ◌⊎◌, ◌<◌, ℕ, true, false, None, Some, [], ◌∷◌, if◌then◌else◌, IfOk, IfErr};
 ghost use Rattle.smp_mask.specs.Mask.{has, members};
@@ -16,181 +16,13 @@ ghost use Rattle.smp_machine.specs.Calls.{KeepsStops, RefusedInHand};
 ghost use Rattle.smp_machine.specs.Place.{IsAt};
 
 use crate::cpu::Cpu;
+use crate::hearing::{any, each, many, single, single_async};
 use crate::machine::Machine;
-use crate::place::Place;
-use smp_calls::{call_any, call_async, call_many, call_single, each_cpu_cond};
 use smp_mask::{CpuMask, SmpError};
 use smp_queue::Handler;
 use smp_words::call::Class;
 use std::alloc::Allocator;
 use std::sync::Wait;
-
-/// A call to one CPU. Interrupts are on: while it waits, the CPU handles its own.
-fn single<A: Allocator, R: Wait, H: Handler>(
-    machine: &Machine<A>,
-    rt: &R,
-    me: &mut Place<A>,
-    handler: &mut H,
-    dst: u32,
-    func: u16,
-    info: u64,
-    wait: bool,
-) -> Result<(), SmpError>
-    requires at { IsAt machine.now me.old }
-    requires irq { me.old.stops.irq ≡ true }
-    ensures queued { IfOk result (λ _. dst ≢ me.old.calls.number → (has machine.now.calls.online dst ≡ true)
-        × CallsOne H.leads me.old.calls handler.old me.new.calls handler.new dst func info wait) }
-    ensures here { IfOk result (λ _. dst ≡ me.old.calls.number → CallsHere H.leads me.old.calls handler.old me.new.calls handler.new func info wait) }
-    ensures refused { IfErr result (λ e. (e ≡ SmpError.NoCpu) × (dst ≢ me.old.calls.number) × (has machine.now.calls.online dst ≡ false)
-        × QueuesNone H.leads me.old.calls handler.old me.new.calls handler.new wait) }
-    ensures ended { IfOk result (λ _. wait ≡ true → dst ≢ me.old.calls.number →
-        HaveEnded me.new.calls (λ _. call_by me.old.calls.number (single_record true) Class.Sync func info) (dst ∷ [])) }
-    ensures kept { KeepsStops me.old me.new }
-{
-    call_single(
-        &machine.calls,
-        rt,
-        &mut me.calls,
-        handler,
-        dst,
-        func,
-        info,
-        wait,
-    )
-}
-
-/// A call to one CPU by a record of the user. Interrupts are on: while it waits, the CPU handles its own.
-fn single_async<A: Allocator, R: Wait, H: Handler>(
-    machine: &Machine<A>,
-    rt: &R,
-    me: &mut Place<A>,
-    handler: &mut H,
-    u: u32,
-    dst: u32,
-    func: u16,
-    info: u64,
-) -> Result<(), SmpError>
-    requires at { IsAt machine.now me.old }
-    requires irq { me.old.stops.irq ≡ true }
-    ensures record { IfOk result (λ _. u < 2) }
-    ensures queued { IfOk result (λ _. dst ≢ me.old.calls.number → (has machine.now.calls.online dst ≡ true)
-        × CallsBy H.leads me.old.calls handler.old me.new.calls handler.new (user_record u) Class.Async dst func info false) }
-    ensures here { IfOk result (λ _. dst ≡ me.old.calls.number → CallsUserHere H.leads me.old.calls handler.old me.new.calls handler.new u func info) }
-    ensures still { HandlesNone me.old.calls me.new.calls }
-    ensures untouched { IfOk result (λ _. dst ≢ me.old.calls.number → handler.new ≡ handler.old) }
-    ensures called { IfOk result (λ _. dst ≡ me.old.calls.number → H.leads handler.old (heard me.old.calls.number func info) handler.new) }
-    ensures refused { IfErr result (λ e. RefusesUser machine.now.calls.online me.old.calls me.new.calls u dst e × (handler.new ≡ handler.old)) }
-    ensures kept { KeepsStops me.old me.new }
-{
-    call_async(
-        &machine.calls,
-        rt,
-        &mut me.calls,
-        handler,
-        u,
-        dst,
-        func,
-        info,
-    )
-}
-
-/// A call to any CPU of a mask. Interrupts are on: while it waits, the CPU handles its own.
-fn any<A: Allocator, R: Wait, H: Handler>(
-    machine: &Machine<A>,
-    rt: &R,
-    me: &mut Place<A>,
-    handler: &mut H,
-    mask: CpuMask,
-    func: u16,
-    info: u64,
-    wait: bool,
-) -> Result<u32, SmpError>
-    requires at { IsAt machine.now me.old }
-    requires irq { me.old.stops.irq ≡ true }
-    ensures any { IfOk result (λ cpu. IsAny mask machine.now.calls.online me.old.calls.number cpu) }
-    ensures queued { IfOk result (λ cpu. cpu ≢ me.old.calls.number → CallsOne H.leads me.old.calls handler.old me.new.calls handler.new cpu func info wait) }
-    ensures here { IfOk result (λ cpu. cpu ≡ me.old.calls.number → CallsHere H.leads me.old.calls handler.old me.new.calls handler.new func info wait) }
-    ensures refused { IfErr result (λ e. (e ≡ SmpError.NoCpu) × HasNone mask machine.now.calls.online me.old.calls.number
-        × (me.new.calls ≡ me.old.calls) × (handler.new ≡ handler.old)) }
-    ensures ended { IfOk result (λ cpu. wait ≡ true → cpu ≢ me.old.calls.number →
-        HaveEnded me.new.calls (λ _. call_by me.old.calls.number (single_record true) Class.Sync func info) (cpu ∷ [])) }
-    ensures kept { KeepsStops me.old me.new }
-{
-    call_any(
-        &machine.calls,
-        rt,
-        &mut me.calls,
-        handler,
-        mask,
-        func,
-        info,
-        wait,
-    )
-}
-
-/// A call to many CPUs. Interrupts are on: while it waits, the CPU handles its own.
-fn many<A: Allocator, R: Wait, H: Handler>(
-    machine: &Machine<A>,
-    rt: &R,
-    me: &mut Place<A>,
-    handler: &mut H,
-    mask: CpuMask,
-    func: u16,
-    info: u64,
-    wait: bool,
-) -> CpuMask
-    requires at { IsAt machine.now me.old }
-    requires irq { me.old.stops.irq ≡ true }
-    ensures targets { (c : ℕ) → has result c ≡ is_target mask machine.now.calls.online me.old.calls.number false c }
-    ensures calls { CallsMany H.leads me.old.calls handler.old me.new.calls handler.new (members result) (class_for wait) func info None wait }
-    ensures ended { wait ≡ true → HaveEnded me.new.calls (many_call me.old.calls.number Class.Sync func info) (members result) }
-    ensures kept { KeepsStops me.old me.new }
-{
-    call_many(
-        &machine.calls,
-        rt,
-        &mut me.calls,
-        handler,
-        mask,
-        func,
-        info,
-        wait,
-    )
-}
-
-/// A call to each CPU of which a condition holds. Interrupts are on: while it waits, the CPU handles its own.
-fn each<A: Allocator, R: Wait, H: Handler, C: Fn(u32, u64) -> bool>(
-    machine: &Machine<A>,
-    rt: &R,
-    me: &mut Place<A>,
-    handler: &mut H,
-    mask: CpuMask,
-    func: u16,
-    info: u64,
-    cond: &C,
-    wait: bool,
-) -> CpuMask
-    requires at { IsAt machine.now me.old }
-    requires irq { me.old.stops.irq ≡ true }
-    requires condition { (c : ℕ) → c < cpus → C.pre cond.now c info }
-    ensures picks { Picks (λ c answer. C.post cond.now c info answer) (is_target mask machine.now.calls.online me.old.calls.number true) result }
-    ensures calls { CallsMany H.leads me.old.calls handler.old me.new.calls handler.new (remote me.old.calls.number result) (class_for wait)
-        func info (if has result me.old.calls.number then Some (heard me.old.calls.number func info) else None) wait }
-    ensures ended { wait ≡ true → HaveEnded me.new.calls (many_call me.old.calls.number Class.Sync func info) (remote me.old.calls.number result) }
-    ensures kept { KeepsStops me.old me.new }
-{
-    each_cpu_cond(
-        &machine.calls,
-        rt,
-        &mut me.calls,
-        handler,
-        mask,
-        func,
-        info,
-        cond,
-        wait,
-    )
-}
 
 impl<A: Allocator> Machine<A> {
     /// Calls a function on one CPU (`kernel/smp.c: smp_call_function_single`), as [`smp_calls::call_single`].

@@ -7,6 +7,7 @@ ghost use Rattle.smp_multi.specs.Names.{ReadKey};
 ghost use Rattle.smp_multi.specs.Reads.{reads};
 ghost use Rattle.smp_machine.specs.Keys.{IsPatchOf, Reads, state_of};
 ghost use Rattle.smp_machine.specs.Own.{own_of, with_gate};
+ghost use Rattle.smp_machine.specs.Passes.{LastIsOwn};
 ghost use Rattle.smp_machine.specs.Place.{IsAt};
 ghost use Rattle.smp_machine.specs.Stops.{MayBegin, HasCollected, HasStopped};
 ghost use Rattle.smp_machine.specs.Works.{Works};
@@ -39,6 +40,7 @@ fn run_next<A: Allocator, R: Wait, H: Handler, F: StopFunc>(
     ensures works { Works H.leads F.leads me.old handler.old run.old me.new handler.new run.new (own_of me.old) }
     ensures outside { me.new.stops.inside ≡ None }
     ensures read { result ≡ true → me.new.stops.part.readings ≡ first_readings me.old.stops.number me.old.stops.number work.now }
+    ensures last { result ≡ true → LastIsOwn me.old.passes me.new.passes }
 {
     let number = me.number();
     turn(machine, me, handler, run);
@@ -67,6 +69,7 @@ fn run_own_patch<A: Allocator, R: Wait, H: Handler, F: StopFunc>(
     ensures works { Works H.leads F.leads me.old handler.old run.old me.new handler.new run.new (own_of me.old) }
     ensures outside { me.new.stops.inside ≡ None }
     ensures read { me.new.stops.part.readings ≡ first_readings me.old.stops.number me.old.stops.number work.now }
+    ensures last { LastIsOwn me.old.passes me.new.passes }
 {
     let backoff = Backoff::new();
     for _ in rt.forever() {
@@ -91,6 +94,7 @@ fn collect_quietly<A: Allocator, R: Wait, H: Handler, F: StopFunc>(
     requires begun { me.old.stops.pending ≢ None }
     ensures collected { HasCollected H.leads F.leads me.old handler.old run.old me.new handler.new run.new result }
     ensures read { me.new.stops.part.readings ≡ me.old.stops.part.readings }
+    ensures passes { me.new.passes ≡ me.old.passes }
 {
     let backoff = Backoff::new();
     for _ in rt.forever() {
@@ -122,6 +126,7 @@ pub(crate) fn patch<A: Allocator, R: Wait, H: Handler, F: StopFunc>(
     requires work { MayBegin machine.now.stops work.now }
     ensures stopped { HasStopped H.leads F.leads true work.now me.old handler.old run.old me.new handler.new run.new result }
     ensures read { me.new.stops.part.readings ≡ first_readings me.old.stops.number me.old.stops.number work.now }
+    ensures last { LastIsOwn me.old.passes me.new.passes }
 {
     begin(machine, me, work);
     put_to_all(machine, rt, me, handler, run, work);
@@ -182,6 +187,7 @@ pub(crate) fn set<A: Allocator, R: Wait, H: Handler, F: StopFunc>(
     ensures without { result ≡ false → Works H.leads F.leads me.old handler.old run.old me.new handler.new run.new (with_gate false (own_of me.old)) }
     ensures stopped { result ≡ true → (v : ℤ) × HasStopped H.leads F.leads true work.now me.old handler.old run.old me.new handler.new run.new v }
     ensures read { Reads me.new.stops (ReadKey k on) }
+    ensures last { result ≡ true → LastIsOwn me.old.passes me.new.passes }
     ensures outside { me.new.stops.inside ≡ None }
 {
     take_gate(machine, rt, me, handler, run);

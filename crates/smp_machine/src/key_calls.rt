@@ -7,6 +7,7 @@ ghost use Rattle.std.specs.Prelude.{◌≡◌, true, false, None, IfOk, IfErr};
 ghost use Rattle.smp_multi.specs.Names.{ReadKey};
 ghost use Rattle.smp_machine.specs.Counts.{CountsOr};
 ghost use Rattle.smp_machine.specs.Keys.{MayChange, Reads, RefusesKey, Sets};
+ghost use Rattle.smp_machine.specs.Passes.{LastIsOwn};
 ghost use Rattle.smp_machine.specs.Place.{IsAt};
 ghost use Rattle.smp_machine.specs.Stops.{RefusedStill};
 
@@ -45,6 +46,7 @@ impl<A: Allocator> Machine<A> {
         ensures may { IfOk result (λ _. MayChange self.now.stops me.old k) }
         ensures sets { IfOk result (λ turned. Sets H.leads F.leads self.now.stops k on me.old handler.old run.old me.new handler.new run.new turned) }
         ensures read { IfOk result (λ _. Reads me.new.stops (ReadKey k on)) }
+        ensures last { IfOk result (λ turned. turned ≡ true → LastIsOwn me.old.passes me.new.passes) }
         ensures outside { IfOk result (λ _. me.new.stops.inside ≡ None) }
         ensures err { IfErr result (λ e. RefusesKey self.now.stops me.old k e) }
         ensures kept { IfErr result (λ _. RefusedStill me.old handler.old run.old me.new handler.new run.new) }

@@ -3,10 +3,13 @@
 ghost use Rattle.std.specs.Prelude.{◌≡◌, true, None};
 ghost use Rattle.smp_queue.specs.Laws.{IsShown as CallsAreShown};
 ghost use Rattle.smp_multi.specs.Laws.{IsShown as StopsAreShown};
+ghost use Rattle.smp_machine.specs.StopLaws.{WorksAreOfTheirCpus, StopsAreMadeOnce, PollsSendNothing, QueuesKeepOrder};
 ghost use Rattle.smp_machine.specs.ReadLaws.{KindsFollowKeys};
 
 use crate::cpu::Cpu;
 use crate::machine::Machine;
+use smp_multi::StopFunc;
+use smp_queue::Handler;
 use std::alloc::Allocator;
 
 /// Whatever the threads of other CPUs do: this CPU's value is its part of calls that words of the call table show, and of
@@ -30,4 +33,27 @@ pub fn interrupts_are_on<A: Allocator>(cpu: &Cpu<A>)
 /// went on, agrees. A site jumps exactly where its key and its branch differ (`kernel/jump_label.c: jump_label_type`).
 pub fn kinds_follow_keys()
     ensures { KindsFollowKeys }
+{}
+
+/// Which CPUs the stops stop, which of these are active, and which stops are a rendezvous: that of one CPU is none
+/// (`kernel/stop_machine.c: stop_one_cpu`, `stop_two_cpus`, `stop_machine`).
+pub fn works_are_of_their_cpus()
+    ensures { WorksAreOfTheirCpus }
+{}
+
+/// A stop begins one work, and answers its result; it puts the work once into the queue of each CPU that it stops, and
+/// nothing else anywhere.
+pub fn stops_are_made_once<H: Handler, F: StopFunc>()
+    ensures { StopsAreMadeOnce H.leads F.leads }
+{}
+
+/// A CPU that polls, or waits for the gate or for a stop, sends no call.
+pub fn polls_send_nothing<H: Handler, F: StopFunc>()
+    ensures { PollsSendNothing H.leads F.leads }
+{}
+
+/// Whatever threads put into a stopper queue and take from it: of each source what was taken, and then what is still
+/// there, is what that source has put, in order.
+pub fn queues_keep_order()
+    ensures { QueuesKeepOrder }
 {}

@@ -4,6 +4,7 @@
 mod boot;
 mod calls;
 mod cpu;
+mod hearing;
 mod key;
 mod key_calls;
 mod key_count;

@@ -7,13 +7,14 @@ ghost use Rattle.smp_machine.specs.Place.{IsAt, IsFull};
 
 use crate::boot::{MachineBoot, seat_all};
 use crate::cpu::Cpu;
+use crate::hearing::Hearing;
 use crate::open::open;
 use crate::place::Place;
 use crate::stoppers::Stoppers;
 use smp_labels::LabelMap;
 use smp_mask::{CpuMask, SmpError};
 use smp_multi::StopTable;
-use smp_queue::{Audit, CallTable};
+use smp_queue::Audit;
 use smp_words::limits::are_limits;
 use std::alloc::Allocator;
 use std::marker::Model;
@@ -21,7 +22,7 @@ use std::marker::Model;
 /// The machine: its call table, its stop table and its stopper queues. Threads share it by reference.
 #[derive(Drop)]
 pub struct Machine<A: Allocator> {
-    pub(crate) calls: CallTable<A>,
+    pub(crate) calls: Hearing<A>,
     pub(crate) stops: StopTable<A>,
     pub(crate) queues: Stoppers<A>,
 }
@@ -51,7 +52,7 @@ where
     ensures full { IfOk result (λ t. IsFull t.1 t.0) }
     ensures err { IfErr result (λ e. e ≡ SmpError.NoMemory) }
 {
-    let (calls, call_cpus) = CallTable::new(alloc, nr, online)?;
+    let (calls, call_cpus) = Hearing::new(alloc, nr, online)?;
     let (stops, stop_cpus) = StopTable::new(alloc, nr, online, labels)?;
     let Ok((queues, passes)) = open(alloc) else {
         return Err(SmpError::NoMemory);
@@ -105,7 +106,7 @@ impl<A: Allocator> Machine<A> {
         self.calls.online()
     }
 
-    /// Gives up the machine and one of its CPUs, and answers what is left of calls, as [`CallTable::audit`]. Other CPUs of
+    /// Gives up the machine and one of its CPUs, and answers what is left of calls, as [`smp_queue::CallTable::audit`]. Other CPUs of
     /// the machine are useless afterwards.
     ///
     /// It takes effect at no step, since it owns the machine; it does not wait, and nobody must poll any more.

@@ -1,7 +1,7 @@
 //! A stop, step by step: a CPU takes the gate, begins its stop, puts the work into the queue of each CPU of the mask, and
 //! waits for the result.
 
-ghost use Rattle.std.specs.Prelude.{◌≡◌, ◌≢◌, ◌<◌, ℕ, true, false, if◌then◌else◌, None, MatchOption, [], ◌∷◌, slice_index_or};
+ghost use Rattle.std.specs.Prelude.{◌≡◌, ◌≢◌, ◌<◌, ℕ, true, false, if◌then◌else◌, None, Some, MatchOption, [], ◌∷◌, slice_index_or};
 ghost use Rattle.smp_mask.specs.Mask.{members};
 ghost use Rattle.smp_words.specs.Size.{cpus};
 ghost use Rattle.smp_multi.specs.Answers.{answer_in};
@@ -86,7 +86,7 @@ pub(crate) fn begin<A: Allocator>(machine: &Machine<A>, me: &mut Place<A>, work:
     }
 }
 
-/// Puts the work into this CPU's queue; false where that was full.
+/// Puts the work of the own stop, which is open, into this CPU's queue; false where that was full.
 fn try_put<A: Allocator, R: Wait>(
     machine: &Machine<A>,
     rt: &R,
@@ -96,6 +96,7 @@ fn try_put<A: Allocator, R: Wait>(
 ) -> bool
     requires at { IsAt machine.now me.old }
     requires within { cpu < cpus }
+    requires open { me.old.stops.pending ≡ Some work.now }
     ensures put { result ≡ true → me.new ≡ record me.old { passes = puts cpu (item me.old.stops.number work.now) me.old.passes } }
     ensures shown { result ≡ true → IsKnown (Puts me.old.stops.number (slice_index_or me.new.passes.put cpu [])) }
     ensures full { result ≡ false → me.new ≡ me.old }
@@ -118,6 +119,7 @@ fn put<A: Allocator, R: Wait, H: Handler, F: StopFunc>(
     requires at { IsAt machine.now me.old }
     requires outside { me.old.stops.inside ≡ None }
     requires within { cpu < cpus }
+    requires open { me.old.stops.pending ≡ Some work.now }
     ensures works { Works H.leads F.leads me.old handler.old run.old me.new handler.new run.new
         (with_put (item me.old.stops.number work.now) (cpu ∷ []) (own_of me.old)) }
     ensures stops { me.new.stops ≡ me.old.stops }
@@ -145,6 +147,7 @@ pub(crate) fn put_to_all<A: Allocator, R: Wait, H: Handler, F: StopFunc>(
 )
     requires at { IsAt machine.now me.old }
     requires outside { me.old.stops.inside ≡ None }
+    requires open { me.old.stops.pending ≡ Some work.now }
     ensures works { Works H.leads F.leads me.old handler.old run.old me.new handler.new run.new
         (with_put (item me.old.stops.number work.now) (members work.now.mask) (own_of me.old)) }
     ensures stops { me.new.stops ≡ me.old.stops }

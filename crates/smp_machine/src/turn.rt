@@ -5,9 +5,10 @@ ghost use Rattle.smp_multi.specs.Advance.{IsInRound};
 ghost use Rattle.smp_multi.specs.Cpu.{IsAt as IsAtStops};
 ghost use Rattle.smp_machine.specs.Own.{own_of};
 ghost use Rattle.smp_machine.specs.Place.{IsAt, HasNotLeft};
-ghost use Rattle.smp_machine.specs.Works.{Works, LooksOnce, LooksIfOn, LooksOnceMore, GoesRound, TurnsStop, ReadsAnew};
+ghost use Rattle.smp_machine.specs.Works.{Works, LooksIfOn, LooksOnceMore, GoesRound, TurnsStop, ReadsAnew};
 
 use crate::cpu::Cpu;
+use crate::hearing::hear;
 use crate::machine::Machine;
 use crate::place::Place;
 use crossbeam_utils::Backoff;
@@ -16,20 +17,7 @@ use smp_queue::Handler;
 use std::alloc::Allocator;
 use std::sync::Wait;
 
-/// Handles the CPU's own interrupt, with interrupts on. Outside the families nothing else of this crate does.
-pub(crate) fn handle_own<A: Allocator, H: Handler>(
-    machine: &Machine<A>,
-    me: &mut Place<A>,
-    handler: &mut H,
-)
-    requires at { IsAt machine.now me.old }
-    requires irq { me.old.stops.irq ≡ true }
-    ensures { LooksOnce H.leads me.old handler.old me.new handler.new }
-{
-    machine.calls.handle(&mut me.calls, handler);
-}
-
-/// The same where interrupts are on; where they are off, nothing.
+/// Handles the CPU's own interrupt where interrupts are on; where they are off, nothing.
 pub(crate) fn handle_if_on<A: Allocator, H: Handler>(
     machine: &Machine<A>,
     me: &mut Place<A>,
@@ -39,7 +27,7 @@ pub(crate) fn handle_if_on<A: Allocator, H: Handler>(
     ensures { LooksIfOn H.leads me.old handler.old me.new handler.new }
 {
     if me.stops.interrupts_on() {
-        handle_own(machine, me, handler);
+        hear(machine, me, handler);
     }
 }
 

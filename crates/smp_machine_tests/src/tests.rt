@@ -5,6 +5,8 @@ mod member;
 mod stops;
 mod turns;
 mod users;
+mod waits;
+mod wide;
 
 use linked_list_allocator::LocalHeap;
 use smp_labels::{Entry, LabelMap};

@@ -1,17 +1,17 @@
 -- What the exchanges of a post leave of its CPU.
 use Rattle.std.specs.Prelude.{◌≡◌, Bool, ◌==◌}
 use Rattle.smp_call_steps.specs.Heads.{Found, last_found, AreOthers}
-use Rattle.smp_call_steps.specs.Known.{queued_known, outside_known, lost_tries}
+use Rattle.smp_call_steps.specs.Known.{queued_known, outside_known, stepped, lost_tries}
 use Rattle.smp_call_steps.specs.Stands.{posted}
 use Rattle.smp_queue.specs.Names.{Known, Posting}
 
--- it has found these numbers, has lost an exchange at each but the last, and has queued its call at that
+-- it has counted its call, has found these numbers, has lost an exchange at each but the last, and has queued its call at that
 pub record Appends (p : Posting) (first : Bool) (found : Found) (v w : Known) : Type 0 where
   pub others : AreOthers found
   pub first_is : first ≡ (last_found found == 0)
   pub known_is : w ≡ queued_known (posted p) p.to first (last_found found) (lost_tries found v)
 
--- it has found these numbers, has lost an exchange at each but the last, and has given up
+-- it has counted its call, has found these numbers, has lost an exchange at each but the last, and has given up by two steps
 pub record GivesUp (found : Found) (v w : Known) : Type 0 where
   pub others : AreOthers found
-  pub known_is : w ≡ outside_known (lost_tries found v)
+  pub known_is : w ≡ outside_known (stepped 2 (lost_tries found v))

@@ -1,5 +1,6 @@
 -- What an audit answers, by the words of a table that no thread shares any more.
-use Rattle.std.specs.Prelude.{◌≡◌, ◌≢◌, ℕ, zero, suc, ◌+◌, ◌%◌, ◌^◌, ◌<◌, ◌≤◌, ◌⊎◌, Bool, not, ◌==◌, if◌then◌else◌, List, [], length, slice_index_or}
+use Rattle.std.specs.Prelude.{◌≡◌, ◌≢◌, ℕ, zero, suc, ◌+◌, ◌%◌, ◌^◌, ◌<◌, ◌≤◌, ◌⊎◌, Bool, false, not, ◌==◌, if◌then◌else◌, List, [], length, slice_index_or}
+use Rattle.smp_mask.specs.Mask.{has}
 use Rattle.smp_words.specs.Size.{cpus, records}
 use Rattle.smp_call_steps.specs.Calls.{CallState, no_calls}
 use Rattle.smp_call_steps.specs.Histories.{sent_to, calls_from, marked_from, batches_marked, orders}
@@ -64,8 +65,10 @@ pub record Closes (k : Setting) (v : Known) (words : List ℕ) : Type 0 where
   pub setting_is : v.setting ≡ k
   pub below : v.number < k.nr
   pub absent : (cpu : ℕ) → k.nr ≤ cpu → Sees calls controls (fresh k cpu)
+  pub offline : (cpu : ℕ) → has k.online cpu ≡ false → Sees calls controls (fresh k cpu)
 
--- these words show some calls of the CPUs of this table, of which this value is one CPU's part
+-- these words show some calls of the CPUs of this table, of which this value is one CPU's part; CPUs that the table does
+-- not have, and those that are not online, have done nothing
 pub record ClosesWith (t : TableValue) (last : CpuValue) (words : List ℕ) : Type 0 where
   pub calls : CallState
   pub controls : ℕ → ControlValue
@@ -74,6 +77,7 @@ pub record ClosesWith (t : TableValue) (last : CpuValue) (words : List ℕ) : Ty
   pub below : last.number < t.nr
   pub within : t.nr ≤ cpus
   pub absent : (cpu : ℕ) → t.nr ≤ cpu → Sees calls controls (fresh (setting_of t) cpu)
+  pub offline : (cpu : ℕ) → has t.online cpu ≡ false → Sees calls controls (fresh (setting_of t) cpu)
 
 -- all calls have run: what a source has sent to a CPU is what that has taken, in order, and it has run that in drain order
 pub record HaveRun (a : CallState) : Type 0 where
@@ -85,18 +89,12 @@ abbrev pub IfDrained : Audit → (Tally → Type 0) → Type 0
 IfDrained (audit.Drained t) P = P t
 IfDrained (audit.Left left) P = Unit {0}
 
--- The answer is that of some words, which show some calls. The last CPU's part of these is its own, CPUs that the
--- table does not have have done nothing, and where it is drained the calls have run.
+-- the answer is that of words as a close gives them, and where it is drained the calls that they show have run
 pub record Audited (t : TableValue) (last : CpuValue) (answer : Audit) : Type 0 where
-  pub calls : CallState
-  pub at : Word → ℕ
-  pub controls : ℕ → ControlValue
-  pub shown : Shows calls at controls
-  pub view : last ≡ cpu_in t.table (setting_of t) calls last
-  pub below : last.number < t.nr
-  pub absent : (cpu : ℕ) → t.nr ≤ cpu → part_of calls cpu ≡ part_of no_calls cpu
-  pub answers : AuditAnswers at answer
-  pub drained : IfDrained answer (λ t. HaveRun calls)
+  pub words : List ℕ
+  pub closes : ClosesWith t last words
+  pub answers : AuditAnswers (number_in words) answer
+  pub drained : IfDrained answer (λ t. HaveRun closes.calls)
 
 -- each pair has as many calls queued as run
 abbrev pub AreEqual : Tally → Type 0

@@ -1,5 +1,5 @@
 -- What contracts see of a table, of a CPU and of the CPUs that were not given out.
-use Rattle.std.specs.Prelude.{◌≡◌, ◌≢◌, ℕ, ◌+◌, ◌<◌, ◌%◌, ◌^◌, Bool, true, false, not, ◌||◌, ◌==◌, nat_lt, Option, None, Result, Ok, Err, List}
+use Rattle.std.specs.Prelude.{◌≡◌, ◌≢◌, ℕ, ◌+◌, ◌*◌, ◌<◌, ◌%◌, ◌^◌, Bool, true, false, not, ◌||◌, ◌==◌, nat_lt, Option, None, Result, Ok, Err, List}
 use Rattle.std.specs.Prelude.{[], ◌∷◌, ◌++◌, length, slice_index_or, slice_set, IfSome}
 use Rattle.atomic_table.specs.Seated.{TableId}
 use Rattle.smp_mask.specs.Mask.{has}
@@ -33,8 +33,8 @@ abbrev pub table_with : TableId → Setting → TableValue
 table_with table k = record { table = table; nr = k.nr; online = k.online }
 
 -- a CPU between two calls: its table, what that is made with, its number, its own part of the calls, how many
--- compare-exchanges of heads it has made, what it has found in heads, by which kind of access, and the calls that it has
--- queued and the interrupts that it has sent, in order
+-- compare-exchanges of heads it has made, what it has found in heads, by which kind of access, the calls that it has
+-- queued and the interrupts that it has sent, in order, and how many steps it has made outside handle
 pub record CpuValue : Type 0 where
   pub table : TableId
   pub setting : Setting
@@ -43,6 +43,7 @@ pub record CpuValue : Type 0 where
   pub tried : ℕ
   pub heads : List HeadSeen
   pub log : List Logged
+  pub steps : ℕ
 
 -- what a CPU knows, as contracts see it
 abbrev pub cpu_of : SeatValue → CpuValue
@@ -54,15 +55,16 @@ cpu_of d = record {
   tried = d.known.tried;
   heads = d.known.heads;
   log = d.known.log;
+  steps = d.known.steps;
 }
 
 -- a CPU at this table, with its part of these calls
 abbrev pub cpu_in : TableId → Setting → CallState → CpuValue → CpuValue
 cpu_in table k calls c = record c { table = table; setting = k; part = part_of calls c.number }
 
--- a CPU of this table that has done nothing: all its records are confirmed
+-- a CPU of this table that has done nothing: all its records are confirmed, and it has made no step
 abbrev pub fresh_cpu : TableValue → ℕ → CpuValue
-fresh_cpu t cpu = record { table = t.table; setting = setting_of t; number = cpu; part = part_of no_calls cpu; tried = 0; heads = []; log = [] }
+fresh_cpu t cpu = record { table = t.table; setting = setting_of t; number = cpu; part = part_of no_calls cpu; tried = 0; heads = []; log = []; steps = 0 }
 
 -- what a CPU keeps between two calls: it is online and outside a command, and its counts are those of its calls
 pub record IsKept (v : Known) (number : ℕ) (queued ran : List ℕ) : Type 0 where
@@ -84,13 +86,21 @@ confirmed_at c k = slice_index_or c.part.confirmed (record_of c.number k) false
 abbrev pub confirms : ℕ → CpuValue → CpuValue
 confirms k c = record c { part = part_confirmed (record_of c.number k) c.part }
 
--- a CPU that has sent one interrupt: it owes none
-abbrev pub sends : ℕ → CpuValue → CpuValue
-sends to c = record c { part = part_sent to c.part; log = c.log ++ logged.Interrupted to ∷ [] }
+-- a CPU that has made one step, of which nothing else is told
+abbrev pub looks : CpuValue → CpuValue
+looks c = record c { steps = c.steps + 1 }
 
--- a CPU that has found these numbers in a head, and so has made its compare-exchanges in vain
+-- a CPU that has sent one interrupt, by one step: it owes none
+abbrev pub sends : ℕ → CpuValue → CpuValue
+sends to c = record c { part = part_sent to c.part; log = c.log ++ logged.Interrupted to ∷ []; steps = c.steps + 1 }
+
+-- how many steps a post makes that has found these numbers in a head: eight, and two more for each compare-exchange in vain
+abbrev pub steps_of_post : Found → ℕ
+steps_of_post found = 8 + 2 * times_lost found
+
+-- a CPU that has found these numbers in a head, so has made its compare-exchanges in vain, and has given its record up
 abbrev pub loses : Found → CpuValue → CpuValue
-loses found c = record c { tried = c.tried + times_lost found; heads = heads_with c.heads found }
+loses found c = record c { tried = c.tried + times_lost found; heads = heads_with c.heads found; steps = c.steps + steps_of_post found }
 
 -- a CPU that has found these numbers in a head, and then has queued a call by its record k, into a queue that was empty
 -- or not, by the compare-exchange that expected the last of them
@@ -100,6 +110,7 @@ posts k to class func info first found c = record c {
   tried = (c.tried + times_lost found) + 1;
   heads = heads_won c.heads found;
   log = c.log ++ logged.Queued to ∷ [];
+  steps = c.steps + steps_of_post found;
 }
 
 -- arguments that a post refuses
@@ -108,14 +119,15 @@ misused nr c k to class tries = ((not (nat_lt k records_of_one) || tries == 0) |
 
 -- the answer of a post, and what it leaves of its CPU. E4 comes first, then E2, E1 and E5. Where it queues its call it has
 -- loaded the head, lost some compare-exchanges and won one, each at the number that was found last; the queue was empty where
--- that is 0. At E5 it has lost all its tries, and at every other refusal made none
+-- that is 0. At E5 it has lost all its tries. At E2 and E1 it has made one step, the load of the record's flags, and at E4 none
 abbrev pub PostAnswers : TableValue → CpuValue → CpuValue → ℕ → ℕ → Class → ℕ → ℕ → ℕ → Result Bool SmpError → Type 0
 PostAnswers t old new k to class func info tries (Ok first) = (misused t.nr old k to class tries ≡ false) × (has t.online to ≡ true)
     × (found : Found) × AreOthers found × (first ≡ (last_found found == 0)) × (new ≡ posts k to class func info first found old)
 PostAnswers t old new k to class func info tries (Err error.BadArgument) = (misused t.nr old k to class tries ≡ true) × (new ≡ old)
-PostAnswers t old new k to class func info tries (Err error.Busy) = (misused t.nr old k to class tries ≡ false) × (confirmed_at old k ≢ true) × (new ≡ old)
+PostAnswers t old new k to class func info tries (Err error.Busy) = (misused t.nr old k to class tries ≡ false) × (confirmed_at old k ≢ true)
+    × (new ≡ looks old)
 PostAnswers t old new k to class func info tries (Err error.NoCpu) = (misused t.nr old k to class tries ≡ false) × (has t.online to ≡ false)
-    × (new ≡ confirms k old)
+    × (new ≡ looks (confirms k old))
 PostAnswers t old new k to class func info tries (Err error.Contended) = (misused t.nr old k to class tries ≡ false) × (has t.online to ≡ true)
     × (found : Found) × AreOthers found × (times_lost found ≡ tries) × (new ≡ confirms k (loses found old))
 PostAnswers t old new k to class func info tries (Err _) = ⊥
@@ -131,12 +143,13 @@ pub record MayQueue (c : CpuValue) (p : Posting) : Type 0 where
 -- the same of what comes before the record is written: at Ok its call
 abbrev pub BeginAnswers : TableValue → CpuValue → CpuValue → ℕ → ℕ → Class → ℕ → ℕ → ℕ → Result Posting SmpError → Type 0
 BeginAnswers t old new k to class func info tries (Ok p) =
-    (misused t.nr old k to class tries ≡ false) × (has t.online to ≡ true) × (new ≡ confirms k old) ×
+    (misused t.nr old k to class tries ≡ false) × (has t.online to ≡ true) × (new ≡ looks (confirms k old)) ×
     (p ≡ posting_of (record_of old.number k) class func info to) × MayQueue new p
 BeginAnswers t old new k to class func info tries (Err error.BadArgument) = (misused t.nr old k to class tries ≡ true) × (new ≡ old)
-BeginAnswers t old new k to class func info tries (Err error.Busy) = (misused t.nr old k to class tries ≡ false) × (confirmed_at old k ≢ true) × (new ≡ old)
+BeginAnswers t old new k to class func info tries (Err error.Busy) = (misused t.nr old k to class tries ≡ false) × (confirmed_at old k ≢ true)
+    × (new ≡ looks old)
 BeginAnswers t old new k to class func info tries (Err error.NoCpu) = (misused t.nr old k to class tries ≡ false) × (has t.online to ≡ false)
-    × (new ≡ confirms k old)
+    × (new ≡ looks (confirms k old))
 BeginAnswers t old new k to class func info tries (Err _) = ⊥
 
 -- the CPUs of a table that were not given out: for each number, whether it was not

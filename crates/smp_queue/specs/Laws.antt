@@ -24,8 +24,8 @@ abbrev pub AreFreeFor : CallState → CpuValue → Type 0
 AreFreeFor a c = (id : ℕ) → owner id ≡ c.number → id < records → slice_index_or c.part.confirmed id false ≡ true → a.place id ≡ place.Free
 
 -- Some words show calls that keep all laws, of which this value is one CPU's part, outside a command. The CPU is one of
--- its table and online, and the CPUs that its table does not have have done nothing. Calls by confirmed records have run,
--- those of all CPUs and those of this one.
+-- its table and online, and the CPUs that its table does not have, or that are not online, have done nothing. Calls by
+-- confirmed records have run, those of all CPUs and those of this one.
 pub record IsShown (c : CpuValue) : Type 0 where
   pub calls : CallState
   pub at : Word → ℕ
@@ -34,6 +34,7 @@ pub record IsShown (c : CpuValue) : Type 0 where
   pub below : c.number < c.setting.nr
   pub online : has c.setting.online c.number ≡ true
   pub absent : (cpu : ℕ) → c.setting.nr ≤ cpu → part_of calls cpu ≡ part_of no_calls cpu
+  pub offline : (cpu : ℕ) → has c.setting.online cpu ≡ false → part_of calls cpu ≡ part_of no_calls cpu
   pub outside : told_stage (controls c.number).stage ≡ None
   pub are_free : AreFreeFor calls c
   pub confirmed_ran : ConfirmedCallsRan calls

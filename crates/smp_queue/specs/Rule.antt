@@ -1,8 +1,10 @@
 -- The rule of the table: its words show calls, of which each seat knows its CPU's part.
-use Rattle.std.specs.Prelude.{◌≡◌, ℕ, ◌+◌, ◌<◌, ◌≤◌, length}
+use Rattle.std.specs.Prelude.{◌≡◌, ℕ, zero, suc, ◌+◌, ◌<◌, ◌≤◌, true, false, if◌then◌else◌, length}
 use mathlib.Core.Option.{some}
 use lib.ListN.{get_elem?}
 use Rattle.atomic_table.specs.Table.{State}
+use Rattle.smp_mask.specs.Mask.{has}
+use Rattle.smp_words.specs.Size.{cpus}
 use Rattle.smp_call_steps.specs.Calls.{CallState}
 use Rattle.smp_call_steps.specs.Stages.{ControlValue}
 use Rattle.smp_call_steps.specs.Shows.{Shows}
@@ -20,23 +22,36 @@ abbrev pub made_with : SeatView → Setting
 made_with (Maker n k) = k
 made_with (Cpu v) = v.setting
 
--- the first seat after it has made one for the next CPU
+-- the least number from n on that a mask has, where one of so many has it
+unfoldable pub next_from : ℕ → ℕ → ℕ → ℕ
+next_from zero mask n = n
+next_from (suc k) mask n = if has mask n then n else next_from k mask (n + 1)
+
+-- the next CPU online from a number on
+abbrev pub next_online : Setting → ℕ → ℕ
+next_online k n = next_from cpus k.online n
+
+-- the first seat after it has made one for the next CPU online
 abbrev pub after : SeatView → SeatView
-after (Maker n k) = Maker (n + 1) k
+after (Maker n k) = Maker (next_online k n + 1) k
 after (Cpu v) = Cpu v
 
 -- the seat that it makes
 abbrev pub seat_made : SeatView → SeatView
-seat_made (Maker n k) = Cpu (fresh k n)
+seat_made (Maker n k) = Cpu (fresh k (next_online k n))
 seat_made (Cpu v) = Cpu v
 
--- a seat knows its CPU's part of the calls, and no other seat is of that CPU
+-- the first seat has come to a number: the CPUs below it that are online have a seat
+abbrev pub HasComeTo : SeatView → Setting → ℕ → Type 0
+HasComeTo maker k n = (m : ℕ) × (maker ≡ Maker m k) × (m ≤ n) × ((cpu : ℕ) → m ≤ cpu → cpu < n → has k.online cpu ≡ false)
+
+-- a seat knows its CPU's part of the calls, no other seat is of that CPU, and it is online
 abbrev pub SeatKnows : Setting → CallState → (ℕ → ControlValue) → (ℕ → ℕ) → ℕ → ℕ → SeatView → Type 0
 SeatKnows k a control seat next id (Maker n j) = (n ≡ next) × (id ≡ 0) × (j ≡ k)
-SeatKnows k a control seat next id (Cpu v) = (v.number < next) × (seat v.number ≡ id) × (v.setting ≡ k) × Sees a control v
+SeatKnows k a control seat next id (Cpu v) = (v.number < next) × (seat v.number ≡ id) × (v.setting ≡ k) × Sees a control v × (has k.online v.number ≡ true)
 
--- the words show some calls; each seat knows its part; only CPUs that the table has have a seat, and those with none have
--- done nothing
+-- the words show some calls; each seat knows its part; only CPUs of the table that are online have a seat, and those with
+-- none have done nothing
 pub record Ruled {S : Type 0} (k : Setting) (s : State S SeatView) : Type 0 where
   pub calls : CallState
   pub controls : ℕ → ControlValue
@@ -46,10 +61,13 @@ pub record Ruled {S : Type 0} (k : Setting) (s : State S SeatView) : Type 0 wher
   pub wide : length s.words ≡ cells
   pub shown : Shows calls (number_in s.words) controls
   pub each_seat : (id : ℕ) (v : SeatView) → get_elem? s.views id ≡ some v → SeatKnows k calls controls seat next id v
-  pub absent : (cpu : ℕ) → next ≤ cpu → Sees calls controls (fresh k cpu)
+  pub absent : (cpu : ℕ) → (has k.online cpu ≡ true → next ≤ cpu) → Sees calls controls (fresh k cpu)
 
--- some words show some calls, of which a CPU of the table knows its part; CPUs that the table does not have have done nothing
+-- some words show some calls, of which a CPU of the table that is online knows its part; CPUs that the table does not have,
+-- and those that are not online, have done nothing
 pub record Sits (v : Known) : Type 0 where
   pub lives : Lives v
   pub below : v.number < v.setting.nr
+  pub online : has v.setting.online v.number ≡ true
   pub absent : (cpu : ℕ) → v.setting.nr ≤ cpu → Sees lives.calls lives.controls (fresh v.setting cpu)
+  pub offline : (cpu : ℕ) → has v.setting.online cpu ≡ false → Sees lives.calls lives.controls (fresh v.setting cpu)

@@ -1,8 +1,9 @@
 //! The CPUs of a table that were not given out yet.
 
-ghost use Rattle.std.specs.Prelude.{◌≡◌, true, false, IfOk, IfErr, ◌⊎◌};
+ghost use Rattle.std.specs.Prelude.{◌≡◌, ℕ, ◌<◌, true, false, [], IfOk, IfErr, ◌⊎◌, slice_index_or};
+ghost use Rattle.smp_words.specs.Size.{records_of_one};
 ghost use Rattle.smp_mask.specs.Mask.{has};
-ghost use Rattle.smp_queue.specs.Cpu.{fresh_cpu, is_left, given};
+ghost use Rattle.smp_queue.specs.Cpu.{fresh_cpu, is_left, given, confirmed_at};
 
 use crate::cpu::CallCpu;
 use crate::seat::SeatMaker;
@@ -32,11 +33,15 @@ impl<A: Allocator> Model for Boot<A> {
 }
 
 impl<A: Allocator> Boot<A> {
-    /// This CPU's value: that of a CPU of this table that has done nothing. E1 where it is not online, then E2 where it
+    /// This CPU's value: that of a CPU of this table that has done nothing. Each of its records is confirmed; it has sent,
+    /// taken, run and asked nothing, and owes no CPU an interrupt. E1 `NoCpu` where it is not online, then E2 `Busy` where it
     /// was given out. It makes no step of the table, and does not wait.
     pub fn cpu(&mut self, cpu: u32) -> Result<CallCpu, SmpError>
         ensures ok { IfOk result (λ c. (c ≡ fresh_cpu self.old.table cpu) × (has self.old.table.online cpu ≡ true)
             × (is_left self.old cpu ≡ true) × (self.new ≡ given cpu self.old)) }
+        ensures unused { IfOk result (λ c. (k : ℕ) → k < records_of_one → confirmed_at c k ≡ true) }
+        ensures idle { IfOk result (λ c. (c.part.sent ≡ []) × (c.part.taken ≡ []) × (c.part.ran ≡ []) × (c.part.asked ≡ []) × (c.log ≡ []) × (c.steps ≡ 0)
+            × ((to : ℕ) → slice_index_or c.part.owes to false ≡ false)) }
         ensures err { IfErr result (λ e. ((e ≡ SmpError.NoCpu) × (has self.old.table.online cpu ≡ false))
             ⊎ ((e ≡ SmpError.Busy) × (has self.old.table.online cpu ≡ true) × (is_left self.old cpu ≡ false))) }
         ensures kept { IfErr result (λ e. self.new ≡ self.old) }

@@ -53,7 +53,7 @@ impl CallCpu {
 
     /// At any time, and whatever calls were made with it, a CPU's value is its part of calls that some words show and that
     /// keep all laws, and the CPU stands outside any command. It is one of its table's CPUs and online, and in those calls
-    /// CPUs that its table does not have have done nothing. So a record whose last call it has seen confirmed is free, and
+    /// CPUs that its table does not have, or that are not online, have done nothing. So a record whose last call it has seen confirmed is free, and
     /// each call that it has sent by it has run at its target; the last may still run where it is ASYNC. It makes no step.
     pub fn is_shown(&self)
         ensures { IsShown self.now }

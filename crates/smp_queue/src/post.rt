@@ -6,7 +6,7 @@
 ghost use Rattle.std.specs.Prelude.{◌≡◌, ◌≢◌, ◌+◌, ◌*◌, ◌<◌, ◌%◌, ◌^◌, ◌==◌, true, length, if◌then◌else◌, IfSome, IfNone, Some, None};
 ghost use Rattle.smp_words.specs.Size.{records};
 ghost use Rattle.smp_call_steps.specs.Stands.{posted};
-ghost use Rattle.smp_call_steps.specs.Known.{confirmed_known, queued_known, outside_known, looked_known, lost_one, is_confirmed, standing, Lives};
+ghost use Rattle.smp_call_steps.specs.Known.{confirmed_known, queued_known, outside_known, looked_known, lost_one, stepped, is_confirmed, standing, Lives};
 ghost use Rattle.smp_call_steps.specs.declared.post.PostStage.TheVariants as post;
 ghost use Rattle.smp_call_steps.specs.declared.stage.Stage.TheVariants.{Post};
 ghost use Rattle.smp_queue.specs.Seat.{OwnsRecord, IsMine, IsCounting, IsTallied, uncounted, counted};
@@ -26,7 +26,7 @@ pub(crate) fn is_locked(words: &Words, seat: &mut CpuSeat, id: u32) -> bool
     requires outside { seat.old.known.stage ≡ None }
     ensures table { seat.new.table ≡ words.now.table_id }
     ensures lives { Lives seat.new.known }
-    ensures known { seat.new.known ≡ if result then seat.old.known else confirmed_known id seat.old.known }
+    ensures known { seat.new.known ≡ stepped 1 (if result then seat.old.known else confirmed_known id seat.old.known) }
     ensures locked { result ≡ true → is_confirmed seat.old.known id ≢ true }
 {
     load(words, seat, Word::Flags(id)) % 2 == 1
@@ -38,7 +38,7 @@ pub(crate) fn write_record(words: &Words, seat: &mut CpuSeat, posting: &Posting)
     requires outside { seat.old.known.stage ≡ None }
     requires free { is_confirmed seat.old.known posting.now.id ≡ true }
     ensures table { seat.new.table ≡ words.now.table_id }
-    ensures known { seat.new.known ≡ standing (uncounted posting.now) post.Count seat.old.known }
+    ensures known { seat.new.known ≡ standing (uncounted posting.now) post.Count (stepped 3 seat.old.known) }
 {
     let id = posting.id;
     store(words, seat, Word::Flags(id), posting.class.flags());
@@ -95,7 +95,7 @@ pub(crate) fn give_up(words: &Words, seat: &mut CpuSeat, posting: &Posting, numb
     requires counted { IsTallied seat.old.known posting.now number count }
     ensures table { seat.new.table ≡ words.now.table_id }
     ensures lives { Lives seat.new.known }
-    ensures known { seat.new.known ≡ outside_known seat.old.known }
+    ensures known { seat.new.known ≡ outside_known (stepped 2 seat.old.known) }
 {
     store(words, seat, Word::Queued(number, posting.to), count);
     store(words, seat, Word::Flags(posting.id), 0);

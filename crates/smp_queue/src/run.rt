@@ -1,79 +1,20 @@
 //! How a CPU runs its batch, along its chain: SYNC calls first, each function followed by the unlock of its record,
 //! then ASYNC calls, each unlocked first (`kernel/smp.c: __flush_smp_call_function_queue`).
 
-ghost use Rattle.std.specs.Prelude.{◌≡◌, ◌+◌, ◌%◌, ◌^◌, ◌<◌, Some, None, length, slice_index_or, slice_set};
+ghost use Rattle.std.specs.Prelude.{◌≡◌, Some, None};
 ghost use Rattle.smp_call_steps.specs.Drains.{first_on, second_on};
 ghost use Rattle.smp_call_steps.specs.declared.handle.HandleStage.TheVariants as handle;
 ghost use Rattle.smp_queue.specs.Seat.{InHandle};
-ghost use Rattle.smp_queue.specs.Handling.{AreRan, HasRun, HasRunAll};
+ghost use Rattle.smp_queue.specs.Handling.{AreRan, HasRunAll};
 
 use crate::handler::Handler;
 use crate::rule::Words;
-use crate::seat::{CpuSeat, call_steps, load, store};
+use crate::seat::call_steps::{run_async, run_sync};
+use crate::seat::{CpuSeat, load, store};
 use smp_call_steps::drain::record_of;
 use smp_call_steps::handle::{Walk, link_of};
 use smp_words::call::Class;
-use smp_words::size::owner_of;
 use smp_words::{Call, Word};
-
-/// One call more from this source: how many there are.
-fn one_more(counts: &mut [u64], source: u32) -> u64
-    requires { source < length counts.old }
-    ensures count { result ≡ (slice_index_or counts.old source 0 + 1) % 2 ^ 64 }
-    ensures counts { counts.new ≡ slice_set counts.old source result }
-{
-    let more = counts[source as usize].wrapping_add(1);
-    counts[source as usize] = more;
-    more
-}
-
-/// Runs a SYNC call whose record is out of the chain.
-fn run_sync<H: Handler>(
-    words: &Words,
-    seat: &mut CpuSeat,
-    number: u32,
-    counts: &mut [u64],
-    walk: Walk,
-    call: Call,
-    next: Option<u32>,
-    handler: &mut H,
-)
-    requires me { seat.old.known.number ≡ number }
-    requires at { InHandle words.now.table_id seat.old (handle.BeginSync walk call next) }
-    requires counts { AreRan counts.old seat.old.known }
-    ensures { HasRun H.leads words.now.table_id seat.old seat.new (first_on walk next) call counts.new handler.old handler.new }
-{
-    let source = owner_of(call.id);
-    let tally = Word::Ran(number, source);
-    let begun = call_steps::begin_sync(words, seat, number, walk, call, next, handler);
-    handler.call(source, call.func, call.info);
-    let ran = one_more(counts, source);
-    call_steps::count_sync(words, seat, tally, walk, call, next, ran, handler, &begun);
-    call_steps::end_sync(words, seat, walk, call, next, handler, begun);
-}
-
-/// Runs an ASYNC call.
-fn run_async<H: Handler>(
-    words: &Words,
-    seat: &mut CpuSeat,
-    number: u32,
-    counts: &mut [u64],
-    call: Call,
-    next: Option<u32>,
-    handler: &mut H,
-)
-    requires me { seat.old.known.number ≡ number }
-    requires at { InHandle words.now.table_id seat.old (handle.BeginAsync call next) }
-    requires counts { AreRan counts.old seat.old.known }
-    ensures { HasRun H.leads words.now.table_id seat.old seat.new (second_on next) call counts.new handler.old handler.new }
-{
-    let source = owner_of(call.id);
-    let tally = Word::Ran(number, source);
-    let begun = call_steps::begin_async(words, seat, call, next, handler);
-    handler.call(source, call.func, call.info);
-    let ran = one_more(counts, source);
-    call_steps::count_async(words, seat, tally, call, next, ran, handler, begun);
-}
 
 /// Loads a SYNC call, and takes its record out of the chain.
 fn unlink(words: &Words, seat: &mut CpuSeat, walk: Walk, id: u32, next: Option<u32>) -> (Walk, Call)

@@ -1,7 +1,7 @@
 //! A CPU's seat, and the accesses that it makes. Nothing above this page names a raw seat or a cell, and none can: what
 //! steps is private here. Only the page of the steps round a function call, below this one, has it too.
 
-ghost use Rattle.std.specs.Prelude.{◌≡◌, ◌+◌, ◌<◌, ◌==◌, if◌then◌else◌, IfOk, Some, None};
+ghost use Rattle.std.specs.Prelude.{◌≡◌, ◌+◌, ◌<◌, ◌==◌, true, if◌then◌else◌, IfOk, Some, None};
 ghost use Rattle.std.specs.Mem.Slots.{slots_items, slots_len, IsFull};
 ghost use Rattle.smp_call_steps.specs.Known.{known_told, known_taking, fresh, Moment, Lives};
 ghost use Rattle.smp_words.specs.declared.access.Access.TheVariants as access;
@@ -10,7 +10,9 @@ ghost use Rattle.smp_queue.specs.declared.seat_view.SeatView.TheVariants.{Maker}
 ghost use Rattle.smp_queue.specs.Audit.{Closes};
 ghost use Rattle.smp_queue.specs.Cells.{cells};
 ghost use Rattle.smp_queue.specs.Seat.{SeatValue, Loads, Ready};
-ghost use Rattle.smp_queue.specs.Rule.{Sits};
+ghost use Rattle.smp_queue.specs.Rule.{Sits, HasComeTo};
+ghost use Rattle.smp_words.specs.Size.{cpus};
+ghost use Rattle.smp_mask.specs.Mask.{has};
 ghost use Rattle.smp_queue.specs.Plays.{loaded, stored, exchanged, swapped};
 
 pub mod call_steps;
@@ -42,8 +44,8 @@ impl Model for CpuSeat {
 }
 
 impl CpuSeat {
-    /// What the CPU knows is its part of calls that some words show, in which CPUs that the table does not have have done
-    /// nothing.
+    /// What the CPU knows is its part of calls that some words show, in which CPUs that the table does not have, or that
+    /// are not online, have done nothing.
     pub(crate) fn is_shown(&self)
         ensures { Sits self.now.known }
     {
@@ -98,10 +100,11 @@ where
     Ok((table, SeatMaker { raw }))
 }
 
-/// A seat for the next CPU.
+/// A seat for the next CPU that is online. Only such a CPU ever gets one.
 pub(crate) fn next_seat(words: &Words, maker: &mut SeatMaker, n: u32) -> CpuSeat
-    requires { (maker.old.raw.table_id ≡ words.now.table_id) × (words.now.table_id.words ≡ cells)
-        × (maker.old.raw.me.0 ≡ Maker n words.now.key) × (n < words.now.key.nr) }
+    requires table { (maker.old.raw.table_id ≡ words.now.table_id) × (words.now.table_id.words ≡ cells) }
+    requires come { HasComeTo maker.old.raw.me.0 words.now.key n }
+    requires number { (n < words.now.key.nr) × (n < cpus) × (has words.now.key.online n ≡ true) }
     ensures maker { (maker.new.raw.table_id ≡ words.now.table_id) × (maker.new.raw.me.0 ≡ Maker (n + 1) words.now.key) }
     ensures seat { (result.table ≡ words.now.table_id) × (result.known ≡ fresh words.now.key n) }
 {

@@ -22,7 +22,6 @@ ghost use Rattle.std.specs.Prelude.{◌≡◌, ◌≢◌, ◌⊎◌, ◌↔◌, 
 ghost use Rattle.std.specs.Prelude.{Some, None};
 ghost use Rattle.smp_mask.specs.Mask.{has};
 ghost use Rattle.smp_words.specs.Size.{cpus};
-ghost use Rattle.smp_call_steps.specs.Known.{fresh};
 ghost use Rattle.smp_call_steps.specs.Start.{has_record as has_record_in};
 ghost use Rattle.smp_words.specs.Limits.{AreLimits};
 ghost use Rattle.smp_call_steps.specs.Histories.{sent_to, calls_from};
@@ -31,7 +30,9 @@ ghost use Rattle.smp_words.specs.declared.call.Call.{Call};
 ghost use Rattle.smp_queue.specs.Handling.{Grows, asks, drains};
 ghost use Rattle.smp_queue.specs.Laws.{IsShown};
 ghost use Rattle.smp_queue.specs.Posted.{ShowsThat, IsFree, IsMarked, call_by};
-ghost use Rattle.smp_queue.specs.Cpu.{TableValue, IsFull, cpu_of, PostAnswers, BeginAnswers, confirmed_at, confirms, sends};
+ghost use Rattle.smp_queue.specs.Cells.{cells};
+ghost use Rattle.smp_queue.specs.Rule.{HasComeTo};
+ghost use Rattle.smp_queue.specs.Cpu.{TableValue, IsFull, fresh_cpu, table_with, PostAnswers, BeginAnswers, confirmed_at, confirms, looks, sends};
 ghost use Rattle.smp_queue.specs.Audit.{ClosesWith, Audited, IfDrained, AreEqual, HasRowsOf, HasZerosFrom};
 
 use crate::audit::Audit;
@@ -41,8 +42,8 @@ use crate::cpu::CallCpu;
 use crate::handle::{Handled, handle};
 use crate::handler::Handler;
 use crate::post::{append, append_until_won, is_locked, write_record};
-use crate::rule::Owner;
-use crate::seat::{CpuSeat, lay, next_seat, store};
+use crate::rule::{Owner, Words};
+use crate::seat::{SeatMaker, lay, next_seat, store};
 use smp_call_steps::known::Setting;
 use smp_call_steps::post::Posting;
 use smp_call_steps::start::{has_record, refusal};
@@ -75,21 +76,24 @@ impl<A: Allocator> Model for CallTable<A> {
     ghost invariant = { λ t. IsTable t.owner.shared.table_id t.owner.shared.key t.nr t.online };
 }
 
-/// The CPU of a seat, where it is online.
-fn cpu_if(is_online: bool, seat: CpuSeat, number: u32) -> Option<CallCpu>
-    requires fresh { seat.known ≡ fresh seat.known.setting number }
-    requires below { number < cpus }
-    requires online { is_online ≡ has seat.known.setting.online number }
-    ensures { result ≡ if is_online then Some (cpu_of seat) else None }
+/// The CPU of this number, where it is online; else it gets no seat.
+fn cpu_if(words: &Words, maker: &mut SeatMaker, number: u32, is_online: bool) -> Option<CallCpu>
+    requires table { (maker.old.raw.table_id ≡ words.now.table_id) × (words.now.table_id.words ≡ cells) }
+    requires come { HasComeTo maker.old.raw.me.0 words.now.key number }
+    requires below { (number < words.now.key.nr) × (number < cpus) }
+    requires online { is_online ≡ has words.now.key.online number }
+    ensures table { maker.new.raw.table_id ≡ words.now.table_id }
+    ensures come { HasComeTo maker.new.raw.me.0 words.now.key (number + 1) }
+    ensures cpu { result ≡ if is_online then Some (fresh_cpu (table_with words.now.table_id words.now.key) number) else None }
 {
-    if is_online {
-        Some(CallCpu::new(seat, number))
-    } else {
-        None
+    if !is_online {
+        return None;
     }
+    let seat = next_seat(words, maker, number);
+    Some(CallCpu::new(seat, number))
 }
 
-/// The table, and its CPUs: one seat for each below `nr`, of which those online are kept.
+/// The table, and its CPUs: one seat for each that is online.
 fn build<A: Allocator>(
     alloc: A,
     nr: u32,
@@ -103,8 +107,8 @@ where
     let mut waiting = Vec::with_capacity(alloc, nr as usize)?;
     let (owner, mut maker) = lay(alloc, &Setting { nr, online })?;
     for number in 0..nr {
-        let seat = next_seat(&owner.shared, &mut maker, number);
-        waiting.push(cpu_if(online.contains(number), seat, number))?;
+        let is_online = online.contains(number);
+        waiting.push(cpu_if(&owner.shared, &mut maker, number, is_online))?;
     }
     let table = CallTable { owner, nr, online };
     let boot = Boot {
@@ -152,7 +156,7 @@ impl<A: Allocator> CallTable<A> {
     /// unlocked only if the target of its call polls.
     pub fn is_done(&self, me: &mut CallCpu, k: u32) -> Result<bool, SmpError>
         requires { me.old.table ≡ self.now.table }
-        ensures known { IfOk result (λ done. (has_record_in self.now.nr k ≡ true) × (me.new ≡ if done then confirms k me.old else me.old)) }
+        ensures known { IfOk result (λ done. (has_record_in self.now.nr k ≡ true) × (me.new ≡ looks (if done then confirms k me.old else me.old))) }
         ensures locked { IfOk result (λ done. done ≡ false → confirmed_at me.old k ≢ true) }
         ensures laws { IfOk result (λ _. IsShown me.new) }
         ensures err { IfErr result (λ e. (e ≡ SmpError.BadArgument) × (has_record_in self.now.nr k ≡ false) × (me.new ≡ me.old)) }

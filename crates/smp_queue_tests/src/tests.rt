@@ -211,7 +211,10 @@ fn each_growth_may_be_refused(rt: HostRuntime) -> Result<(), Fail> {
                 assert!(rt; size > 6_752 * 8, "{size} bytes");
                 return Ok(());
             }
-            Err(error) => assert_eq!(rt; error, SmpError::NoMemory, "{size} bytes"),
+            Err(error) => {
+                assert_eq!(rt; error, SmpError::NoMemory, "{size} bytes");
+                assert_eq!(rt; heap.used(), 0, "{size} bytes");
+            }
         }
     }
     assert!(rt; false, "no heap was large enough");

@@ -9,6 +9,9 @@ use std::sync::atomic::{AtomicU64, Ordering};
 use std::thread;
 use std::thread::Threads;
 
+/// How often the flag is read in vain by a function that is slow on purpose.
+const LINGER: u32 = 200_000;
+
 /// What the threads share: where they start, how many CPUs saw what they should, on which CPUs stop functions have run, and how often the flag was raised.
 #[derive(Drop)]
 pub struct Hall {
@@ -44,6 +47,18 @@ impl Hall {
 
     pub fn flag(&self) -> u64 {
         self.flag.load(Ordering::SeqCst)
+    }
+
+    /// Whether the flag was raised this number of times more since it was at this number.
+    pub fn was_raised(&self, before: u64, times: u32) -> bool {
+        self.flag() == before.wrapping_add(u64::from(times))
+    }
+
+    /// Takes some time, and not for ever.
+    pub fn linger(&self) {
+        for _ in 0..LINGER {
+            let _ = self.flag();
+        }
     }
 }
 
@@ -95,7 +110,7 @@ fn run_threads<R: Wait + Threads + Sync>(
 }
 
 /// Runs the CPUs of a machine of these labels on threads, each with its parts, from CPU 0 on: how many saw what they
-/// should. The CPU above them is offline.
+/// should. The CPU above them, where there is one, is offline.
 pub fn in_threads<R: Wait + Threads + Sync>(
     rt: &R,
     alloc: Global,
@@ -106,7 +121,8 @@ pub fn in_threads<R: Wait + Threads + Sync>(
     let online: CpuMask = online.parse()?;
     let cpus = online.weight();
     let hall = Hall::new();
-    let (machine, boot) = Machine::new(alloc, cpus + 1, online, labels)?;
+    let nr = if cpus < NR_CPUS { cpus + 1 } else { NR_CPUS };
+    let (machine, boot) = Machine::new(alloc, nr, online, labels)?;
     let members = Room::new(&machine, boot, &hall).members(alloc, cpus)?;
     run_threads(rt, members, &hall, plays);
     Ok(hall.right.load(Ordering::SeqCst))

@@ -13,12 +13,12 @@ const BELOW: SmpError = SmpError::KeyRange(Edge::Zero);
 
 const ABOVE: SmpError = SmpError::KeyRange(Edge::Full);
 
-/// Two sites of each key, with both branches.
-fn labels(keys: u32) -> Result<LabelMap, SmpError> {
+/// Two sites of each key at least, with both branches.
+pub fn labels(keys: u32) -> Result<LabelMap, SmpError> {
     let mut entries = [Entry {
         key: 0,
         branch: false,
-    }; 4];
+    }; 8];
     for (site, entry) in entries.iter_mut().enumerate() {
         entry.key = (site as u32 / 2) % keys.max(1);
         entry.branch = site % 2 == 1;
@@ -43,6 +43,37 @@ fn a_key_is_turned_with_its_sites(rt: HostRuntime) -> Result<(), Fail> {
     let serves = [Poll];
     let plays: [&[Part]; 2] = [&[(Times(1), &sets)], &[(Times(1), &serves)]];
     assert_eq!(rt; in_threads(&rt, rt.alloc(), "0-1", &labels(1)?, &plays)?, 2);
+    Ok(())
+}
+
+/// CPU 0 sets the last three of four keys, and then each to what it is, which it is told.
+#[test]
+fn each_key_is_set_by_its_number(rt: HostRuntime) -> Result<(), Fail> {
+    let sets = [
+        Set(3, true, Ok(true)),
+        Reads(3, true),
+        Reads(2, false),
+        Set(3, true, Ok(false)),
+        Set(2, true, Ok(true)),
+        Set(1, true, Ok(true)),
+        Set(3, false, Ok(true)),
+        Reads(3, false),
+        Reads(2, true),
+        Reads(1, true),
+        Reads(0, false),
+    ];
+    let stays = [
+        Set(1, true, Ok(false)),
+        Set(2, true, Ok(false)),
+        Set(3, false, Ok(false)),
+    ];
+    let last = [Raise];
+    let serves = [Poll];
+    let plays: [&[Part]; 2] = [
+        &[(Times(1), &sets), (Times(50), &stays), (Times(1), &last)],
+        &[(Until(1), &serves)],
+    ];
+    assert_eq!(rt; in_threads(&rt, rt.alloc(), "0-1", &labels(4)?, &plays)?, 2);
     Ok(())
 }
 

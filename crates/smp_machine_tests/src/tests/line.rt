@@ -16,6 +16,9 @@ pub enum Act {
     /// It stops this CPU for this function.
     One(u32, u16, Result<i32, SmpError>),
     Two(u32, u32, u16, Result<i32, SmpError>),
+    /// It stops the CPU after it, the first after the last, for a function that answers 9: alone, or with itself.
+    OneNext,
+    TwoNext,
     /// It stops the machine for this function with this argument, on these CPUs.
     All(u16, u64, Option<CpuMask>, Result<i32, SmpError>),
     Set(u32, bool, Result<bool, SmpError>),
@@ -33,6 +36,10 @@ pub enum Act {
     Many(CpuMask, Result<CpuMask, SmpError>),
     /// It calls those of these CPUs for which this is said.
     Each(CpuMask, bool, Result<CpuMask, SmpError>),
+    /// It calls a slow function on this CPU, or on these, and waits: all have run it to its end then.
+    SlowSingle(u32),
+    SlowMany(CpuMask),
+    SlowEach(CpuMask),
     TakeWork(bool),
     /// It tries to take a work until there is one.
     AwaitWork,
@@ -62,6 +69,8 @@ impl Act {
         match *self {
             Act::One(dst, func, answer) => me.stop_one(rt, dst, func) == answer,
             Act::Two(a, b, func, answer) => me.stop_two(rt, a, b, func) == answer,
+            Act::OneNext => me.stop_next(rt) == Ok(9),
+            Act::TwoNext => me.stop_with_next(rt) == Ok(9),
             Act::All(func, arg, active, answer) => {
                 me.stop_machine(rt, func, arg, active) == answer
             }
@@ -83,6 +92,9 @@ impl Act {
             Act::Any(mask, answer) => me.any(rt, mask) == answer,
             Act::Many(mask, answer) => me.many(rt, mask) == answer,
             Act::Each(mask, yes, answer) => me.each(rt, mask, yes) == answer,
+            Act::SlowSingle(dst) => me.slow_single(rt, dst),
+            Act::SlowMany(mask) => me.slow_many(rt, mask),
+            Act::SlowEach(mask) => me.slow_each(rt, mask),
             _ => self.serves(rt, me),
         }
     }

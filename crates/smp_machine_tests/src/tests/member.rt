@@ -7,17 +7,26 @@ use super::*;
 use smp_labels::SiteKind;
 use smp_multi::{StopFunc, Turn};
 
-/// Counts the calls that it hears, and keeps the last: its source, its function and its word.
+/// A function of calls that is slow on purpose.
+const SLOW: u16 = 15;
+
+/// Counts the calls that it hears, and keeps the last: its source, its function and its word. A slow function raises the
+/// flag at its end.
 #[derive(Drop)]
-pub struct Ear {
+pub struct Ear<'a> {
     pub calls: u32,
     pub last: (u32, u16, u64),
+    hall: &'a Hall,
 }
 
-impl Handler for Ear {
+impl<'a> Handler for Ear<'a> {
     ghost leads = { λ _ _ _. Unit {0} };
 
     fn call(&mut self, src: u32, func: u16, info: u64) {
+        if func == SLOW {
+            self.hall.linger();
+            self.hall.raise();
+        }
         self.calls = self.calls.saturating_add(1);
         self.last = (src, func, info);
     }
@@ -50,7 +59,7 @@ impl<'a> StopFunc for Teller<'a> {
 pub struct Member<'a> {
     machine: &'a Machine<Global>,
     cpu: Cpu<Global>,
-    pub ear: Ear,
+    pub ear: Ear<'a>,
     pub teller: Teller<'a>,
     pub hall: &'a Hall,
 }
@@ -95,6 +104,27 @@ impl<'a> Member<'a> {
             func,
             4,
         )
+    }
+
+    /// The CPU after this one, of those that are online from 0 on; the first after the last.
+    fn next(&self) -> u32 {
+        let after = self.cpu.number().wrapping_add(1);
+        if after < self.machine.online().weight() {
+            after
+        } else {
+            0
+        }
+    }
+
+    pub fn stop_next<R: Wait>(&mut self, rt: &R) -> Result<i32, SmpError> {
+        let next = self.next();
+        self.stop_one(rt, next, 9)
+    }
+
+    pub fn stop_with_next<R: Wait>(&mut self, rt: &R) -> Result<i32, SmpError> {
+        let next = self.next();
+        let own = self.cpu.number();
+        self.stop_two(rt, next, own, 9)
     }
 
     pub fn stop_machine<R: Wait>(
@@ -181,6 +211,41 @@ impl<'a> Member<'a> {
     }
 }
 
+/// Calls of a slow function, with wait: whether it has come to its end on all CPUs called by the time that they return.
+impl<'a> Member<'a> {
+    pub fn slow_single<R: Wait>(&mut self, rt: &R, dst: u32) -> bool {
+        let before = self.hall.flag();
+        let made = self
+            .machine
+            .call_single(rt, &mut self.cpu, &mut self.ear, dst, SLOW, 0, true);
+        made.is_ok() && self.hall.was_raised(before, 1)
+    }
+
+    pub fn slow_many<R: Wait>(&mut self, rt: &R, mask: CpuMask) -> bool {
+        let before = self.hall.flag();
+        let made = self
+            .machine
+            .call_many(rt, &mut self.cpu, &mut self.ear, mask, SLOW, 0, true);
+        made == Ok(mask) && self.hall.was_raised(before, mask.weight())
+    }
+
+    pub fn slow_each<R: Wait>(&mut self, rt: &R, mask: CpuMask) -> bool {
+        let before = self.hall.flag();
+        let says = |_: u32, _: u64| true;
+        let made = self.machine.each_cpu_cond(
+            rt,
+            &mut self.cpu,
+            &mut self.ear,
+            mask,
+            SLOW,
+            0,
+            &says,
+            true,
+        );
+        made == Ok(mask) && self.hall.was_raised(before, mask.weight())
+    }
+}
+
 /// A CPU that the machine gives out. All CPUs that are left are of that machine.
 fn enter_hall<'a>(
     machine: &'a Machine<Global>,
@@ -198,6 +263,7 @@ fn enter_hall<'a>(
         ear: Ear {
             calls: 0,
             last: (0, 0, 0),
+            hall,
         },
         teller: Teller { calls: 0, hall },
         hall,

@@ -7,7 +7,7 @@ use super::line::Act::{
 use super::line::Often::{Times, Until};
 use super::line::{Act, Part};
 use super::*;
-use smp_multi::Turn::Moved;
+use smp_multi::Turn::{Left, Moved, Same};
 
 const BAD: SmpError = SmpError::BadArgument;
 
@@ -47,6 +47,33 @@ fn functions_run_on_active_cpus_alone(rt: HostRuntime) -> Result<(), Fail> {
     ];
     let none = LabelMap::empty();
     assert_eq!(rt; in_threads(&rt, rt.alloc(), "0-3", &none, &plays)?, 4);
+    Ok(())
+}
+
+/// CPU 0 stops CPU 1, which has left that stop with its first turn.
+#[test]
+fn a_stop_of_one_cpu_is_left_at_once(rt: HostRuntime) -> Result<(), Fail> {
+    let stops = [One(1, 9, Ok(9))];
+    let serves = [AwaitWork, Turn(Left), Turn(Same), Calls(1)];
+    let plays: [&[Part]; 2] = [&[(Times(1), &stops)], &[(Times(1), &serves)]];
+    let none = LabelMap::empty();
+    assert_eq!(rt; in_threads(&rt, rt.alloc(), "0-1", &none, &plays)?, 2);
+    Ok(())
+}
+
+/// CPU 2 stops CPUs 0 and 1. CPU 1 is stopped too: it goes through the phases, and runs no function.
+#[test]
+fn the_second_of_two_is_stopped(rt: HostRuntime) -> Result<(), Fail> {
+    let stops = [Two(0, 1, 9, Ok(9))];
+    let first = [AwaitWork, Turn(Moved(1)), Poll, Calls(1)];
+    let second = [AwaitWork, Turn(Moved(1)), Poll, Calls(0)];
+    let plays: [&[Part]; 3] = [
+        &[(Times(1), &first)],
+        &[(Times(1), &second)],
+        &[(Times(1), &stops)],
+    ];
+    let none = LabelMap::empty();
+    assert_eq!(rt; in_threads(&rt, rt.alloc(), "0-2", &none, &plays)?, 3);
     Ok(())
 }
 

@@ -93,18 +93,10 @@ drained_zeros k v words (audit.Drained t) c a = λ cpu other l m past. (
 drained_zeros k v words (audit.Left left) c a = tt
 
 -- all its calls have run
-drained_run : (k : Setting) (v : Known) (words : List ℕ) (answer : Audit) (c : Closes k v words) → AuditAnswers (number_in words) answer
+pub drained_run : (t : TableValue) (last : CpuValue) (words : List ℕ) (answer : Audit) (c : ClosesWith t last words) → AuditAnswers (number_in words) answer
     → IfDrained answer (λ t. HaveRun c.calls)
-drained_run k v words (audit.Drained t) c a = search (still, all_sent, all_ran, arith)
-drained_run k v words (audit.Left left) c a = tt
-
--- what an audit tells of its table
-pub audited : (t : TableValue) (d : SeatValue) (words : List ℕ) (answer : Audit) → d.table ≡ t.table → Closes (setting_of t) d.known words
-    → AuditAnswers (number_in words) answer → Audited t (cpu_of d) answer
-audited t d words answer e c a =
-    let at = number_in words in
-    let drained = drained_run (setting_of t) d.known words answer c a in
-    search (at, drained, arith)
+drained_run t last words (audit.Drained tally) c a = search (still, all_sent, all_ran, arith)
+drained_run t last words (audit.Left left) c a = tt
 
 -- the words by the value of the CPU that closed the table, and by what it knew
 
@@ -126,6 +118,7 @@ module _ (t : TableValue) (last : CpuValue) (words : List ℕ) (c : ClosesWith t
           tried = last.tried;
           heads = last.heads;
           log = last.log;
+          steps = last.steps;
         };
   }
 

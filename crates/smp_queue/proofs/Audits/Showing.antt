@@ -38,6 +38,7 @@ is_shown d s o e = let l = s.lives in record {
   below = s.below;
   online = o;
   absent = λ cpu far. let sees = s.absent cpu far in sees.part;
+  offline = λ cpu off. let sees = s.offline cpu off in sees.part;
   outside = l.sees.stage ∙ e;
   are_free = λ id own small conf. free_outside l.shown l.sees id own small e conf;
   confirmed_ran = confirmed_calls_ran l.shown;

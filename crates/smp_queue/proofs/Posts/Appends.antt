@@ -3,7 +3,7 @@ use Rattle.std.proofs.Common.{◌≡◌, ◌≢◌, ℕ, ◌==◌, Some, refl, a
 use Rattle.atomic_table.specs.Seated.{TableId}
 use Rattle.smp_call_steps.specs.Heads.{Found, by_load, by_exchange, last_found, AreOthers}
 use Rattle.smp_call_steps.specs.Stands.{posted}
-use Rattle.smp_call_steps.specs.Known.{standing, queued_known, outside_known, looked_known, lost_one, lost_tries}
+use Rattle.smp_call_steps.specs.Known.{standing, queued_known, outside_known, looked_known, lost_one, stepped, lost_tries}
 use Rattle.smp_queue.specs.{Known, Posting, Post, GivesUp, SeatValue, IsMine, IsCounting, IsTallied, counted}
 use Rattle.smp_queue.specs.Appends.{Appends}
 use Rattle.smp_queue.proofs.Posts.Ready.{mine_moved}
@@ -36,8 +36,8 @@ module _ {table : TableId} {before seat : SeatValue} {p : Posting} {link : ℕ} 
   tries_won v e = search arith
 
   -- it has given up
-  pub tries_left : (v : Known) → v ≡ outside_known seat.known → GivesUp found before.known v
-  tries_left v e = record { others = t.others; known_is = e ∙ ap outside_known t.known_is }
+  pub tries_left : (v : Known) → v ≡ outside_known (stepped 2 seat.known) → GivesUp found before.known v
+  tries_left v e = record { others = t.others; known_is = e ∙ ap (λ (u : Known). outside_known (stepped 2 u)) t.known_is }
 
   -- it has lost one more
   pub tries_lost : (next : SeatValue) (n : ℕ) → next.table ≡ table → next.known ≡ lost_one link n seat.known → n ≢ link

@@ -8,7 +8,7 @@ use Rattle.smp_words.specs.Size.{cpus, records}
 use Rattle.smp_call_steps.specs.Stands.{posted}
 use Rattle.smp_call_steps.specs.Histories.{Marked, mark, sent_to, calls_from}
 use Rattle.smp_call_steps.specs.Heads.{Found, last_found}
-use Rattle.smp_call_steps.specs.Known.{fresh, queued_known, lost_tries, standing}
+use Rattle.smp_call_steps.specs.Known.{fresh, queued_known, lost_tries, standing, stepped}
 use Rattle.smp_call_steps.proofs.Basics.Lists.{sent_to-push, one_if-same, one_if-other}
 use Rattle.smp_call_steps.proofs.Basics.Rows.{length-row}
 use Rattle.smp_words.proofs.Zeros.{get_or-same}
@@ -31,7 +31,10 @@ kept_fresh v number e l o = record {
 }
 
 module _ {v : Known} {number : ℕ} {queued ran : List ℕ} (k : IsKept v number queued ran) where
-  -- also where it has tried in vain
+  -- also where it has made steps, or has tried in vain
+  pub kept_stepped : (n : ℕ) → IsKept (stepped n v) number queued ran
+  kept_stepped n = search arith
+
   pub kept_lost : (found : Found) → IsKept (lost_tries found v) number queued ran
   kept_lost found = search arith
 
@@ -68,10 +71,10 @@ module _ {v : Known} {number : ℕ} {queued ran : List ℕ} (k : IsKept v number
 
 -- of a CPU that queued a call
 pub kept_posted : (v w v' : Known) (number : ℕ) (queued ran : List ℕ) (p : Posting) (first : Bool) (found : Found) → IsKept v number queued ran → p.to < cpus →
-    w ≡ standing (uncounted p) post.Count v → Appends p first found w v' →
+    w ≡ standing (uncounted p) post.Count (stepped 3 v) → Appends p first found w v' →
     IsKept v' number (set queued p.to ((get_or queued p.to 0 + 1) % 2 ^ 64)) ran
 kept_posted v w v' number queued ran p first found k l e f =
-    let known : v' ≡ queued_known (posted p) p.to first (last_found found) (lost_tries found v) = f.known_is
+    let known : v' ≡ queued_known (posted p) p.to first (last_found found) (lost_tries found (stepped 3 v)) = f.known_is
     ∙ ap (λ (u : Known). queued_known (posted p) p.to first (last_found found) (lost_tries found u)) e in
     subst (λ (u : Known). IsKept u number (set queued p.to ((get_or queued p.to 0 + 1) % 2 ^ 64)) ran) (sym known)
-    (kept_appended (kept_lost k found) p.to first (last_found found) (posted p) l)
+    (kept_appended (kept_lost (kept_stepped k 3) found) p.to first (last_found found) (posted p) l)

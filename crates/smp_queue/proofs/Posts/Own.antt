@@ -7,9 +7,9 @@ use Rattle.smp_call_steps.proofs.Machine.Starts.{then_none, not_false}
 use Rattle.smp_words.specs.Size.{cpus, records_of_one, record_of}
 use Rattle.smp_call_steps.specs.Start.{command_refusal}
 use Rattle.smp_call_steps.specs.Heads.{Found}
-use Rattle.smp_call_steps.specs.Known.{posting_of, standing, confirmed_known}
+use Rattle.smp_call_steps.specs.Known.{posting_of, standing, stepped, confirmed_known}
 use Rattle.smp_words.proofs.Sizes.{owner-of_record, record_of-below}
-use Rattle.smp_queue.specs.{Class, Known, Posting, cells, SeatValue, OwnsRecord, IsMine, uncounted, GivesUp, CpuValue, IsKept, MayQueue, cpu_of, confirms}
+use Rattle.smp_queue.specs.{Class, Known, Posting, cells, SeatValue, OwnsRecord, IsMine, uncounted, GivesUp, CpuValue, IsKept, MayQueue, cpu_of, confirms, looks}
 use Rattle.smp_queue.specs.{loses, posts}
 use Rattle.smp_queue.specs.Appends.{Appends}
 use Rattle.smp_queue.specs.post
@@ -31,7 +31,7 @@ allowed_record nr online number k to func info tries class e = small_record k to
 -- once a CPU's record k is seen confirmed, it may queue a call by it
 pub may_queue : (s s' : SeatValue) (number k id to func info : ℕ) (class : Class) (queued ran : List ℕ) → IsKept s.known number queued ran → k < records_of_one
     → id ≡ record_of number k →
-    to < cpus → func < 2 ^ 16 → info < 2 ^ 64 → s'.known ≡ confirmed_known id s.known → MayQueue (cpu_of s') (posting_of id class func info to)
+    to < cpus → func < 2 ^ 16 → info < 2 ^ 64 → s'.known ≡ stepped 1 (confirmed_known id s.known) → MayQueue (cpu_of s') (posting_of id class func info to)
 may_queue s s' number k id to func info class queued ran m l e below f i known = search (record_of-below, owner-of_record, get_or-set_same, arith)
 
 -- the record is the CPU's own, as its seat shows
@@ -47,12 +47,12 @@ set_twice (z ∷ zs) (suc i) x y = ap (λ (ws : List _). z ∷ ws) (set_twice zs
 -- what a CPU leaves that has queued the call of this post
 pub posts_then : (s s' : SeatValue) (w : Known) (old new : CpuValue) (k to func info : ℕ) (class : Class) (p : Posting) (first : Bool) (found : Found)
     → cpu_of s ≡ new
-    → new ≡ confirms k old →
-    p ≡ posting_of (record_of old.number k) class func info to → s'.table ≡ old.table → w ≡ standing (uncounted p) post.Count s.known
+    → new ≡ looks (confirms k old) →
+    p ≡ posting_of (record_of old.number k) class func info to → s'.table ≡ old.table → w ≡ standing (uncounted p) post.Count (stepped 3 s.known)
     → Appends p first found w s'.known → cpu_of s' ≡ posts k to class func info first found old
 posts_then s s' w old new k to func info class p first found view confirmed posting table stands queued = search (set_twice, arith)
 
 -- what a CPU leaves that has given up
-pub gives_up_then : (s s' : SeatValue) (w : Known) (old new : CpuValue) (k : ℕ) (p : Posting) (found : Found) → cpu_of s ≡ new → new ≡ confirms k old
-    → s'.table ≡ old.table → w ≡ standing (uncounted p) post.Count s.known → GivesUp found w s'.known → cpu_of s' ≡ confirms k (loses found old)
+pub gives_up_then : (s s' : SeatValue) (w : Known) (old new : CpuValue) (k : ℕ) (p : Posting) (found : Found) → cpu_of s ≡ new → new ≡ looks (confirms k old)
+    → s'.table ≡ old.table → w ≡ standing (uncounted p) post.Count (stepped 3 s.known) → GivesUp found w s'.known → cpu_of s' ≡ confirms k (loses found old)
 gives_up_then s s' w old new k p found view confirmed table stands left = search arith

@@ -1,12 +1,14 @@
 -- Each access keeps the rule of the table, and tells what its play says.
 use Rattle.std.proofs.Common.{◌≡◌, ◌≢◌, ℕ, zero, suc, ◌+◌, ◌<◌, ◌⊎◌, Bool, true, false, ◌==◌, cond, List, [], ◌∷◌, ◌++◌, length, get_or, set, replicate, sym}
-use Rattle.std.proofs.Common.{refl, ap, ◌∙◌, subst, inl, inr, ⊎_elim, arith, Option, Some, None, length-set}
+use Rattle.std.proofs.Common.{refl, ap, ◌∙◌, subst, inl, inr, ⊎_elim, arith, Option, Some, None, length-set, true≢false, ◌≤◌}
 use mathlib.Core.Option.{none, some, some-injective, some-ne-none}
 use lib.ListN.{get_elem?, length-replicate}
 use lib.Seq.{set-get_or}
 use prog.Atomic.{either}
 use Rattle.atomic_table.specs.Table.{State, Me, step, keeps, stepped, Allows, Splits, opening}
 use Rattle.atomic_table.proofs.Lists.{at_set}
+use Rattle.std.proofs.lemmas.Bool.{cases_eq}
+use Rattle.smp_mask.specs.Mask.{has}
 use Rattle.smp_words.proofs.Puts.{put_same, put_other}
 use Rattle.smp_words.specs.Access.{put_if}
 use Rattle.smp_words.specs.Put.{put, put_word}
@@ -19,6 +21,7 @@ use Rattle.smp_call_steps.proofs.Knows.OneStep.{known_step}
 use Rattle.smp_call_steps.proofs.Machine.Starts.{zeros_shown}
 use Rattle.smp_words.proofs.Zeros.{zero_at}
 use Rattle.smp_queue.specs.{Call, Word, Head, Access, Load, Store, Swap, Exchange, Known, Setting, SeatView, Maker, cells, cell_of, number_in, Ruled}
+use Rattle.smp_queue.specs.{next_from, next_online}
 use Rattle.smp_queue.specs.{SeatKnows, Sits, known, after, seat_made, AfterLoad, AfterStore, AfterExchange, AfterSwap, loaded, stored, exchanged, swapped}
 use Rattle.smp_queue.specs.{IsCpuSeat, MayAccess}
 use Rattle.smp_queue.specs.Names.{Cpu}
@@ -84,11 +87,14 @@ module _ {S : Type 0} (k : Setting) where
       each zero v e = subst (SeatKnows k no_calls (λ _. outside) (λ _. 0) 0 0) (some-injective (Maker 0 k) v e) (refl, refl, refl)
       each (suc id) v e = absurd (some-ne-none v (sym e))
 
-  pub splits : (id n : ℕ) (v : SeatView) → v ≡ Maker n k → n < k.nr → Splits {S = S} (Ruled k) id v (after v) (seat_made v)
-  splits id n v is low s r at = subst (λ v. Ruled {S = S} k record { words = s.words; homes = s.homes; views = set s.views id (after v) ++ seat_made v ∷ [] })
-      (sym is) made
+  pub splits : (id m n : ℕ) (v : SeatView) → v ≡ Maker m k → next_online k m ≡ n → m ≤ n → n < k.nr → has k.online n ≡ true
+      → Splits {S = S} (Ruled k) id v (after v) (seat_made v)
+  splits id m n v is next above low online s r at =
+      subst (λ v. Ruled {S = S} k record { words = s.words; homes = s.homes; views = set s.views id (after v) ++ seat_made v ∷ [] }) (sym is)
+      (subst (λ x. Ruled {S = S} k record { words = s.words; homes = s.homes; views = set s.views id (Maker (x + 1) k) ++ Cpu (fresh k x) ∷ [] })
+      (sym next) made)
     where
-      mine : (n ≡ r.next) × (id ≡ 0) × (k ≡ k)
+      mine : (m ≡ r.next) × (id ≡ 0) × (k ≡ k)
       mine = subst (SeatKnows k r.calls r.controls r.seat r.next id) is (r.each_seat id v at)
 
       last : ℕ
@@ -96,9 +102,9 @@ module _ {S : Type 0} (k : Setting) where
 
       old : (j : ℕ) (u : SeatView) → j ≢ id → get_elem? s.views j ≡ some u → SeatKnows k r.calls r.controls r.seat r.next j u
           → SeatKnows k r.calls r.controls (put r.seat n (length (set s.views id (Maker (n + 1) k)))) (n + 1) j u
-      old j (Maker m l) other e h = absurd (other (h.1 ∙ sym mine.1))
+      old j (Maker i l) other e h = absurd (other (h.1 ∙ sym mine.1))
       old j (Cpu w) other e h = let a = h.0 in let b = mine.0 in
-          (omega arith, put_other r.seat n (length (set s.views id (Maker (n + 1) k))) w.number (λ same. let c = same in omega arith) ∙ h.1, h.2, h.3)
+          (omega arith, put_other r.seat n (length (set s.views id (Maker (n + 1) k))) w.number (λ same. let c = same in omega arith) ∙ h.1, h.2, h.3, h.4)
 
       made : Ruled {S = S} k record { words = s.words; homes = s.homes; views = set s.views id (Maker (n + 1) k) ++ Cpu (fresh k n) ∷ [] }
       made = record {
@@ -117,9 +123,10 @@ module _ {S : Type 0} (k : Setting) where
             (λ (t : (j ≢ id) × (get_elem? s.views j ≡ some u)). old j u t.0 t.1 (r.each_seat j u t.1)) (at_set s.views id j (Maker (n + 1) k) u t))
             (λ (t : (j ≡ length (set s.views id (Maker (n + 1) k))) × (Cpu (fresh k n) ≡ u)).
             subst (SeatKnows k r.calls r.controls (put r.seat n (length (set s.views id (Maker (n + 1) k)))) (n + 1) j) t.1
-            (omega arith, put_same r.seat n (length (set s.views id (Maker (n + 1) k))) ∙ sym t.0, refl, r.absent n (let a = mine.0 in omega arith)))
+            (omega arith, put_same r.seat n (length (set s.views id (Maker (n + 1) k))) ∙ sym t.0, refl,
+            r.absent n (λ _. (let a = mine.0 in omega arith)), online))
             (at_snoc (set s.views id (Maker (n + 1) k)) (Cpu (fresh k n)) u j e);
-        absent = λ c l. r.absent c (let a = mine.0 in omega arith);
+        absent = λ c l. r.absent c (λ on. (let a = mine.0 in let b = l on in omega arith));
       }
 
   -- a CPU that has a seat sits among the CPUs of the table
@@ -131,7 +138,10 @@ module _ {S : Type 0} (k : Setting) where
       record {
         lives = record { calls = r.calls; at = number_in s.words; controls = r.controls; shown = r.shown; sees = m.3 };
         below = omega arith;
-        absent = λ cpu l. subst (λ (j : Setting). Sees r.calls r.controls (fresh j cpu)) (sym m.2) (r.absent cpu (omega arith));
+        online = subst (λ (j : Setting). has j.online v.number ≡ true) (sym m.2) m.4;
+        absent = λ cpu l. subst (λ (j : Setting). Sees r.calls r.controls (fresh j cpu)) (sym m.2) (r.absent cpu (λ _. omega arith));
+        offline = λ cpu off. subst (λ (j : Setting). Sees r.calls r.controls (fresh j cpu)) (sym m.2)
+            (r.absent cpu (λ on. absurd (true≢false (sym on ∙ (ap (λ (j : Setting). has j.online cpu) (sym m.2) ∙ off)))));
       }
 
   -- a seat's CPU makes a step of the machine: it has its seat still, and the rule is kept
@@ -144,11 +154,11 @@ module _ {S : Type 0} (k : Setting) where
       mine = r.each_seat id (Cpu v) at
 
       its : SeatKnows k g.calls g.controls r.seat r.next id (Cpu w)
-      its = (subst (λ m. m < r.next) (sym g.number_is) mine.0, ap r.seat g.number_is ∙ mine.1, same ∙ mine.2, g.mine)
+      its = (subst (λ m. m < r.next) (sym g.number_is) mine.0, ap r.seat g.number_is ∙ mine.1, same ∙ mine.2, g.mine, ap (has k.online) g.number_is ∙ mine.4)
 
       other : (j : ℕ) (u : SeatView) → j ≢ id → SeatKnows k r.calls r.controls r.seat r.next j u → SeatKnows k g.calls g.controls r.seat r.next j u
       other j (Maker m l) n h = h
-      other j (Cpu u) n h = (h.0, h.1, h.2, g.others u (λ e. n (sym h.1 ∙ (ap r.seat e ∙ mine.1))) h.3)
+      other j (Cpu u) n h = (h.0, h.1, h.2, g.others u (λ e. n (sym h.1 ∙ (ap r.seat e ∙ mine.1))) h.3, h.4)
 
       ruled : Ruled k (stepped s i n id carried (Cpu w) keeps)
       ruled = record {
@@ -163,7 +173,8 @@ module _ {S : Type 0} (k : Setting) where
             (λ (t : (j ≡ id) × (Cpu w ≡ u)). subst (SeatKnows k g.calls g.controls r.seat r.next j) t.1
             (subst (λ x. SeatKnows k g.calls g.controls r.seat r.next x (Cpu w)) (sym t.0) its))
             (λ (t : (j ≢ id) × (get_elem? s.views j ≡ some u)). other j u t.0 (r.each_seat j u t.1)) (at_set s.views id j (Cpu w) u e);
-        absent = λ c l. g.others (fresh k c) (λ e. let a = mine.0 in let b = e in omega arith) (r.absent c l);
+        absent = λ c l. g.others (fresh k c) (λ e. let a = mine.0 in let b = e in
+            let far = l (ap (has k.online) e ∙ mine.4) in omega arith) (r.absent c l);
       }
 
   module _ (slots id : ℕ) (me : Me S SeatView) (is : IsCpuSeat me.0) where
@@ -259,8 +270,8 @@ pub can_same : (v u : Known) (access : Access) → v ≡ u → MayAccess u acces
 can_same v u access e can = subst (λ (x : Known). MayAccess x access) (sym e) can
 
 -- a CPU that has done nothing has its part of no calls
-fresh_sits : (k : Setting) (n : ℕ) → n < k.nr → Sits (fresh k n)
-fresh_sits k n low =
+fresh_sits : (k : Setting) (n : ℕ) → n < k.nr → has k.online n ≡ true → Sits (fresh k n)
+fresh_sits k n low online =
     record {
       lives = record {
         calls = no_calls;
@@ -270,8 +281,20 @@ fresh_sits k n low =
         sees = record { stage = refl; drain = refl; part = refl };
       };
       below = low;
+      online = online;
       absent = λ _ _. record { stage = refl; drain = refl; part = refl };
+      offline = λ _ _. record { stage = refl; drain = refl; part = refl };
     }
 
-pub fresh_seat_is : (m : SeatView) (k : Setting) (n : ℕ) → n < k.nr → m ≡ Cpu (fresh k n) → IsCpuSeat m × Sits (known m)
-fresh_seat_is m k n low e = (is_of m (fresh k n) e, subst (λ (x : SeatView). Sits (known x)) (sym e) (fresh_sits k n low))
+pub fresh_seat_is : (m : SeatView) (k : Setting) (n : ℕ) → n < k.nr → has k.online n ≡ true → m ≡ Cpu (fresh k n) → IsCpuSeat m × Sits (known m)
+fresh_seat_is m k n low online e = (is_of m (fresh k n) e, subst (λ (x : SeatView). Sits (known x)) (sym e) (fresh_sits k n low online))
+
+-- of the numbers from n on, none below m in the mask, the next in it is m
+pub next_is : (tries mask n m : ℕ) → n ≤ m → m < n + tries → has mask m ≡ true → ((cpu : ℕ) → n ≤ cpu → cpu < m → has mask cpu ≡ false)
+    → next_from tries mask n ≡ m
+unfolding next_from
+next_is zero mask n m low near on off = absurd (omega arith)
+next_is (suc tries) mask n m low near on off = elim (cases_eq n m) [
+  | inl e ↦ rw (ap (has mask) e ∙ on) e
+  | inr ne ↦ rw (off n (omega arith) (omega arith)) (next_is tries mask (n + 1) m (omega arith) (omega arith) on (λ cpu l. off cpu (omega arith)))
+]

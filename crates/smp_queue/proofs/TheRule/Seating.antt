@@ -1,6 +1,6 @@
 -- The CPUs of a table, as they are seated one after the other.
-use Rattle.std.proofs.Common.{◌≡◌, ℕ, ◌+◌, ◌<◌, ◌≤◌, true, false, cond, Option, Some, None, List, [], ◌∷◌, ◌++◌, length, length-append, get_or, map, sym, ap}
-use Rattle.std.proofs.Common.{◌∙◌, subst, arith}
+use Rattle.std.proofs.Common.{◌≡◌, ℕ, zero, suc, refl, ◌+◌, ◌<◌, ◌≤◌, true, false, cond, Option, Some, None, List, [], ◌∷◌, ◌++◌, length, length-append, get_or, map, sym, ap}
+use Rattle.std.proofs.Common.{◌∙◌, subst, arith, inl, inr}
 use Rattle.std.specs.Prelude.{IfSome, is_some}
 use Rattle.std.proofs.lemmas.List.{get_or_push, get_or_append_left, get_or_default}
 use Rattle.std.proofs.lemmas.Bool.{cases_eq}
@@ -8,19 +8,41 @@ use Rattle.std.proofs.Math.ListN.{get_or-map}
 use Rattle.atomic_table.specs.Seated.{TableId}
 use Rattle.smp_mask.specs.Mask.{has}
 use Rattle.smp_words.specs.Limits.{AreLimits}
-use Rattle.smp_queue.specs.{cells, TableValue, CpuValue, fresh_cpu, table_with, AreWaiting, Setting, SeatView, Maker}
+use Rattle.smp_queue.specs.{cells, TableValue, CpuValue, fresh_cpu, table_with, AreWaiting, Setting, SeatView, HasComeTo, next_online}
+use Rattle.smp_words.specs.Size.{cpus, records, records_of_one, record_of}
+use Rattle.smp_words.proofs.Sizes.{record_of-below}
+use Rattle.smp_call_steps.specs.Parts.{row}
+use Rattle.smp_call_steps.proofs.Basics.Rows.{row-at}
+use Rattle.smp_queue.specs.Cpu.{confirmed_at}
+use Rattle.smp_queue.proofs.TheRule.Keeps.{next_is}
 
--- the CPUs below n have a seat, and of these the ones online are kept
+-- where the first seat has come to a CPU that is online, the next seat is its
+pub come_next : {maker : SeatView} (k : Setting) {n : ℕ} → (come : HasComeTo maker k n) → n < cpus → has k.online n ≡ true → next_online k come.0 ≡ n
+come_next k {n} come small online = next_is cpus k.online come.0 n come.2 (omega arith) online come.3
+
+-- it comes past a CPU that is not online
+pub come_past : {maker : SeatView} (k : Setting) {n : ℕ} → HasComeTo maker k n → has k.online n ≡ false → HasComeTo maker k (n + 1)
+come_past k {n} come off = (
+  come.0,
+  come.1,
+  (let l = come.2 in omega arith),
+  λ cpu low high. elim (cases_eq cpu n) [
+    | inl e ↦ ap (has k.online) e ∙ off
+    | inr ne ↦ come.3 cpu low (omega arith)
+  ],
+)
+
+-- the CPUs below n that are online have a seat, and are kept
 pub record AreSeated (table maker_table : TableId) (maker : SeatView) (k : Setting) (n : ℕ) (waiting : List (Option CpuValue)) : Type 0 where
   pub sized : table.words ≡ cells
   pub maker_is : maker_table ≡ table
-  pub next : maker ≡ Maker n k
+  pub next : HasComeTo maker k n
   pub count : length waiting ≡ n
   pub each : (cpu : ℕ) → cpu < n → get_or waiting cpu None ≡ cond (has k.online cpu) (Some (fresh_cpu (table_with table k) cpu)) None
 
 pub seats_more : (table maker_table maker_table' : TableId) (maker maker' : SeatView) (k : Setting) (n : ℕ) (waiting waiting' : List (Option CpuValue))
     (x : Option CpuValue) → AreSeated table maker_table maker k n waiting →
-    maker_table' ≡ table → maker' ≡ Maker (n + 1) k → waiting' ≡ waiting ++ x ∷ [] → x ≡ cond (has k.online n) (Some (fresh_cpu (table_with table k) n)) None
+    maker_table' ≡ table → HasComeTo maker' k (n + 1) → waiting' ≡ waiting ++ x ∷ [] → x ≡ cond (has k.online n) (Some (fresh_cpu (table_with table k) n)) None
     → AreSeated table maker_table' maker' k (n + 1) waiting'
 seats_more table maker_table maker_table' maker maker' k n waiting waiting' x s is next pushed kept =
     let count : length waiting ≡ n = s.count in
@@ -51,3 +73,14 @@ pub waits_fresh : (t : TableValue) (online : ℕ) (waiting : List (Option CpuVal
     → has online cpu ≡ true
     → get_or waiting cpu None ≡ Some c → c ≡ fresh_cpu t cpu
 waits_fresh t online waiting cpu c w h e = subst (λ o. IfSome o (λ c. c ≡ fresh_cpu t cpu)) e (w.fresh_are cpu h)
+
+-- a CPU that has done nothing has each of its records confirmed
+pub born_confirmed : (t : TableValue) (cpu k : ℕ) → cpu < cpus → k < records_of_one → confirmed_at (fresh_cpu t cpu) k ≡ true
+born_confirmed t cpu k l m = row-at records (record_of cpu k) (λ _. true) false (record_of-below cpu k l m)
+
+-- and owes no interrupt
+pub born_owes : (n i : ℕ) → get_or (row n (λ _. false)) i false ≡ false
+unfolding row
+born_owes zero i = refl
+born_owes (suc n) zero = refl
+born_owes (suc n) (suc i) = born_owes n i

@@ -1,12 +1,13 @@
-//! The steps that begin, count and end a call. Each is lent a handler. The beginning gives a token of that call, which
-//! has the handler as it was then; who counts or ends a call shows the token of that call, and that the call has led the
-//! handler from what it was to what it is. So no call is counted, and no SYNC record unlocked, before its function has
-//! run on the handler that is lent.
+//! How a CPU runs one call. `run_sync` begins a SYNC call, calls the handler, counts the call and unlocks its record;
+//! `run_async` unlocks the record of an ASYNC call, calls the handler and counts the call. Both call the handler that
+//! they are given, and their contracts say that it has heard just this call.
 //!
-//! No other page can make these steps: what steps is private to the page of the seats, whose own store asks that no call
-//! begins, is counted or ends by it.
+//! A beginning gives a token of that call, which has the handler as it was then. A step that counts or ends a call is
+//! public: it is lent a handler and shows the token, and it asks that the call has led that handler from what it was to
+//! what it is. No other page can begin a call or make a token, and so none can count or end a call: what steps is
+//! private to the page of the seats, whose own store asks that no call begins, is counted or ends by it.
 
-ghost use Rattle.std.specs.Prelude.{◌≡◌, ◌+◌, ◌%◌, ◌^◌, Some, None};
+ghost use Rattle.std.specs.Prelude.{◌≡◌, ◌+◌, ◌%◌, ◌^◌, ◌<◌, Some, None, length, slice_index_or, slice_set};
 ghost use Rattle.smp_words.specs.Size.{owner};
 ghost use Rattle.smp_call_steps.specs.Drains.{first_on, second_on};
 ghost use Rattle.smp_call_steps.specs.Known.{Lives, known_told, ran_tally};
@@ -16,7 +17,7 @@ ghost use Rattle.smp_words.specs.declared.word.Word.TheVariants.{Ran};
 ghost use Rattle.smp_call_steps.specs.declared.handle.HandleStage.TheVariants as handle;
 ghost use Rattle.smp_queue.specs.Seat.{InHandle, IsStepOfCall};
 ghost use Rattle.smp_queue.specs.Plays.{stored};
-ghost use Rattle.smp_queue.specs.Handling.{heard_of};
+ghost use Rattle.smp_queue.specs.Handling.{heard_of, AreRan, HasRun};
 
 use super::CpuSeat;
 use crate::cell::cell;
@@ -26,6 +27,7 @@ use crate::seat_view::SeatView;
 use atomic_table::Play;
 use smp_call_steps::handle::Walk;
 use smp_words::call::Class;
+use smp_words::size::owner_of;
 use smp_words::{Call, Word};
 use std::snapshot::Snapshot;
 
@@ -53,7 +55,7 @@ fn store_step(words: &Words, seat: &mut CpuSeat, word: Word, number: u64)
 }
 
 /// A SYNC call begins: the handling word names its record, which stays locked.
-pub fn begin_sync<H: Handler>(
+fn begin_sync<H: Handler>(
     words: &Words,
     seat: &mut CpuSeat,
     number: u32,
@@ -123,7 +125,7 @@ pub fn end_sync<H: Handler>(
 }
 
 /// An ASYNC call begins: its record is unlocked.
-pub fn begin_async<H: Handler>(
+fn begin_async<H: Handler>(
     words: &Words,
     seat: &mut CpuSeat,
     call: Call,
@@ -166,4 +168,63 @@ pub fn count_async<H: Handler>(
 {
     let _ = handler;
     store_step(words, seat, tally, count);
+}
+
+/// One call more from this source: how many there are.
+fn one_more(counts: &mut [u64], source: u32) -> u64
+    requires { source < length counts.old }
+    ensures count { result ≡ (slice_index_or counts.old source 0 + 1) % 2 ^ 64 }
+    ensures counts { counts.new ≡ slice_set counts.old source result }
+{
+    let more = counts[source as usize].wrapping_add(1);
+    counts[source as usize] = more;
+    more
+}
+
+/// Runs a SYNC call whose record is out of the chain.
+pub(crate) fn run_sync<H: Handler>(
+    words: &Words,
+    seat: &mut CpuSeat,
+    number: u32,
+    counts: &mut [u64],
+    walk: Walk,
+    call: Call,
+    next: Option<u32>,
+    handler: &mut H,
+)
+    requires me { seat.old.known.number ≡ number }
+    requires at { InHandle words.now.table_id seat.old (handle.BeginSync walk call next) }
+    requires counts { AreRan counts.old seat.old.known }
+    ensures { HasRun H.leads words.now.table_id seat.old seat.new (first_on walk next) call counts.new handler.old handler.new }
+{
+    let source = owner_of(call.id);
+    let tally = Word::Ran(number, source);
+    let begun = begin_sync(words, seat, number, walk, call, next, handler);
+    handler.call(source, call.func, call.info);
+    let ran = one_more(counts, source);
+    count_sync(words, seat, tally, walk, call, next, ran, handler, &begun);
+    end_sync(words, seat, walk, call, next, handler, begun);
+}
+
+/// Runs an ASYNC call.
+pub(crate) fn run_async<H: Handler>(
+    words: &Words,
+    seat: &mut CpuSeat,
+    number: u32,
+    counts: &mut [u64],
+    call: Call,
+    next: Option<u32>,
+    handler: &mut H,
+)
+    requires me { seat.old.known.number ≡ number }
+    requires at { InHandle words.now.table_id seat.old (handle.BeginAsync call next) }
+    requires counts { AreRan counts.old seat.old.known }
+    ensures { HasRun H.leads words.now.table_id seat.old seat.new (second_on next) call counts.new handler.old handler.new }
+{
+    let source = owner_of(call.id);
+    let tally = Word::Ran(number, source);
+    let begun = begin_async(words, seat, call, next, handler);
+    handler.call(source, call.func, call.info);
+    let ran = one_more(counts, source);
+    count_async(words, seat, tally, call, next, ran, handler, begun);
 }

@@ -54,21 +54,24 @@ const IDLE: Handled = Handled {
 
 #[test]
 fn calls_of_two_cpus_run_in_their_order(rt: HostRuntime) -> Result<(), Fail> {
-    // Without an interrupt nothing runs. CPU 0 owes it, and any CPU may send it; that of CPU 0 comes late, and finds
-    // nothing to run.
+    // Without an interrupt nothing runs, and CPU 0 owes it. Any other CPU may send what is owed: then that of CPU 0 comes
+    // late, and finds nothing to run.
     let lines = [
         (0, Call(1, 2, Class::Async, 1, Ok(true))),
         (1, Call(1, 2, Class::Async, 2, Ok(false))),
         (2, Handle(IDLE)),
-        (1, Send(2, Ok(()))),
+        (0, Send(2, Ok(()))),
         (2, Handle(handled(2))),
         (2, Counts(0, (0, 1))),
         (2, Counts(1, (0, 1))),
+        (0, Call(10, 2, Class::Async, 3, Ok(true))),
+        (1, Send(2, Ok(()))),
+        (2, Handle(handled(1))),
         (0, Send(2, Ok(()))),
         (2, Handle(handled(0))),
         (2, Handle(IDLE)),
     ];
-    let calls = [(0, 1, 0), (1, 2, 0)];
+    let calls = [(0, 1, 0), (1, 2, 0), (0, 3, 0)];
     let fault = play(&rt, rt.alloc(), 3, "0-2", &[0, 1, 2], &[&lines], &calls)?;
     assert_eq!(rt; fault, None);
     Ok(())
@@ -263,7 +266,7 @@ impl Handler for Counter {
 }
 
 /// No wait takes more turns than this.
-const TURNS: u32 = 20_000_000;
+const TURNS: u32 = 100_000_000;
 
 /// Posts one call, and handles its own interrupts until the record and the queue allow it; true where it did.
 fn post_at_last(cpu: &mut Driver, k: u32, to: u32, counter: &mut Counter) -> bool {

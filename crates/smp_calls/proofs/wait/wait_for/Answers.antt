@@ -1,8 +1,8 @@
-use Rattle.std.proofs.Common.{subst, []}
+use Rattle.std.proofs.Common.{subst, refl, []}
 use Rattle.smp_call_steps.proofs.Machine.Starts.{record_below}
 use Rattle.smp_queue.specs.Cpu.{CpuValue, confirmed_at}
 use Rattle.smp_calls.specs.Families.{Leaves, owes_at}
-use Rattle.smp_calls.proofs.Steps.{leaves_as, leaves_then, leaves_ended}
+use Rattle.smp_calls.proofs.Steps.{leaves_as, leaves_then, leaves_looked, leaves_ended}
 use Rattle.smp_calls.proofs.wait.wait_for.Goals as goal
 
 pub returns-then-is_done : goal.returns-then-is_done
@@ -16,4 +16,4 @@ loop-preserved g c =
     subst (λ (x : CpuValue). Leaves g.H.Handler.leads x c.loop.handler c.handle_own.new.me c.handle_own.new.handler [] [] (owes_at x) (confirmed_at x))
     c.if-is_done.ensures.known c.handle_own.ensures in
     leaves_as g.H.Handler.leads (owes_at c.args.me.now) (confirmed_at c.args.me.now)
-    (leaves_then g.H.Handler.leads before handled) before.owes_are before.confirmed_are
+    (leaves_then g.H.Handler.leads before (leaves_looked g.H.Handler.leads {old = c.loop.me} refl handled)) before.owes_are before.confirmed_are

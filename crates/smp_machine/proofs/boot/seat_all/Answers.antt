@@ -1,4 +1,4 @@
-use Rattle.std.proofs.Common.{ℕ, refl, sym, ap, ◌∙◌, subst}
+use Rattle.std.proofs.Common.{ℕ, sym, ap, ◌∙◌, subst}
 use Rattle.smp_words.specs.Limits.{AreLimits}
 use Rattle.smp_machine.specs.Place.{MachineValue, AreWaiting}
 use Rattle.smp_mask.specs.Mask.{has}

@@ -1,13 +1,20 @@
-use Rattle.std.proofs.Common.{rules, ap, ◌∙◌}
+use Rattle.std.proofs.Common.{rules, refl, ap, ◌∙◌}
 use Rattle.std.proofs.lemmas.Int.{to_z-of_z}
 use mir.Syntax.{w32}
 use mir.Val.{SFits}
 use Rattle.smp_multi.specs.Cpu.{CpuValue}
 use Rattle.smp_machine.specs.Own.{own_of, with_collected}
 use Rattle.smp_machine.specs.Place.{PlaceValue}
-use Rattle.smp_machine.proofs.Works.{works_as, works_from}
+use Rattle.smp_machine.proofs.Works.{works_none, works_as, works_from}
 use Rattle.smp_machine.proofs.Stopping.{works_after, works_collect}
 use Rattle.smp_machine.proofs.key.collect_quietly.Goals as goal
+
+pub loop-init : goal.loop-init
+loop-init g c = record {
+  works = works_none g.H.Handler.leads g.F.StopFunc.leads c.args.me.now c.args.handler.now c.args.run.now;
+  stops = refl;
+  passes = refl;
+}
 
 pub loop-preserved : goal.loop-preserved
 loop-preserved g c =
@@ -17,6 +24,7 @@ loop-preserved g c =
       works = works_after g.H.Handler.leads g.F.StopFunc.leads (λ o. o) c.loop.invariant.works (works_from g.H.Handler.leads g.F.StopFunc.leads same
           (works_as g.H.Handler.leads g.F.StopFunc.leads (own_of c.loop.me) (ap own_of same) c.turn.ensures.works));
       stops = (c.turn.ensures.stops.none (ap (λ (s : CpuValue). s.inside) stops ∙ c.requires.outside)).0 ∙ stops;
+      passes = c.turn.ensures.passes ∙ (ap (λ (p : PlaceValue). p.passes) same ∙ c.loop.invariant.passes);
     }
 
 pub returns-in-Some-look_done-clause-collected : goal.returns-in-Some-look_done-clause-collected
@@ -35,3 +43,6 @@ returns-in-Some-look_done-clause-collected g c =
 pub returns-in-Some-look_done-clause-read : goal.returns-in-Some-look_done-clause-read
 returns-in-Some-look_done-clause-read g c =
     ap (λ (p : PlaceValue). p.stops.part.readings) c.in-Some-look_done.ensures.2 ∙ ap (λ (s : CpuValue). s.part.readings) c.loop.invariant.stops
+
+pub returns-in-Some-look_done-clause-passes : goal.returns-in-Some-look_done-clause-passes
+returns-in-Some-look_done-clause-passes g c = ap (λ (p : PlaceValue). p.passes) c.in-Some-look_done.ensures.2 ∙ c.loop.invariant.passes

@@ -7,4 +7,5 @@ abbrev pub invariant-loop : goal.invariant-loop
 invariant-loop g l = record {
   works : Works g.H.Handler.leads g.F.StopFunc.leads l.fn.me l.fn.handler l.fn.run l.me l.handler l.run (own_of l.fn.me);
   stops : l.me.stops ≡ l.fn.me.stops;
+  passes : l.me.passes ≡ l.fn.me.passes;
 }

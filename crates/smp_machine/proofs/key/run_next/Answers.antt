@@ -1,7 +1,9 @@
 use Rattle.std.proofs.Common.{ℕ, eqb-true, sym, ap, ◌∙◌}
 use Rattle.smp_stop_steps.specs.Tells.{first_readings}
 use Rattle.smp_machine.specs.Own.{Own}
+use Rattle.smp_machine.specs.Passes.{PassesValue}
 use Rattle.smp_machine.proofs.Polls.{works_next}
+use Rattle.smp_machine.proofs.Served.{own_from, own_to, own_next}
 use Rattle.smp_machine.proofs.Stopping.{works_after}
 use Rattle.smp_machine.proofs.KeyStops.{own_read}
 use Rattle.smp_machine.proofs.key.run_next.Goals as goal
@@ -29,3 +31,11 @@ returns-in-Some-clause-read g c own =
     next.stops_are (ap (λ (o : Own). o.pending) c.turn.ensures.works.own_is ∙ c.requires.begun) c.requires.several
     (eqb-true c.in-Some.slot c.number-number.result own ∙ (c.number-number.ensures.number.1 ∙ sym number)) c.finish_work.ensures.read
     ∙ ap (λ (n : ℕ). first_readings n n c.args.work.now) number
+
+pub returns-in-Some-clause-last : goal.returns-in-Some-clause-last
+returns-in-Some-clause-last g c own =
+    let before = ap (λ (p : PassesValue). p.number) c.turn.ensures.passes in
+    let same = eqb-true c.in-Some.slot c.number-number.result own ∙ (c.number-number.ensures.number.2 ∙ sym before) in
+    own_to c.args.me.now.passes c.take_next.new.me.passes c.finish_work.new.me.passes c.finish_work.ensures.passes
+    (own_from c.args.me.now.passes c.turn.new.me.passes c.take_next.new.me.passes c.turn.ensures.passes
+    (own_next c.args.machine.now c.turn.new.me c.take_next.new.me c.in-Some.slot same c.in-Some.ensures))

@@ -1,4 +1,4 @@
-use Rattle.std.proofs.Common.{Bool, true, Ok, ◌∙◌, subst}
+use Rattle.std.proofs.Common.{Bool, Ok, ◌∙◌, subst}
 use Rattle.smp_multi.specs.Nudges.{turn_at}
 use Rattle.smp_machine.specs.Counts.{Nudges}
 use Rattle.smp_machine.proofs.KeyCounts.{gate_same, gate_nudges, gate_refused, works_loads, counts_nudged, counts_refused, counts_after}

@@ -1,7 +1,6 @@
-use Rattle.std.proofs.Common.{ℕ, ◌<◌, List, [], ◌∷◌, sym, subst, ap, ◌∙◌}
+use Rattle.std.proofs.Common.{◌<◌, [], ◌∷◌, sym, subst, ap, ◌∙◌}
 use Rattle.smp_labels.specs.Keys.{is_on}
 use Rattle.smp_multi.specs.Names.{ReadKey, Setting}
-use Rattle.smp_multi.specs.Cpu.{CpuValue}
 use Rattle.smp_machine.specs.Place.{PlaceValue}
 use Rattle.smp_machine.proofs.KeyCounts.{reads_none, nudge_done, nudge_turns, nudge_lost, nudge_refused, nudges_after}
 use Rattle.smp_machine.proofs.key_count.nudge.Goals as goal

@@ -1,4 +1,4 @@
-use Rattle.std.proofs.Common.{ℕ, ◌<◌, List, [], ◌∷◌, ◌++◌, sym, subst, ap, ◌∙◌}
+use Rattle.std.proofs.Common.{◌<◌, [], ◌∷◌, ◌++◌, sym, subst, ap, ◌∙◌}
 use Rattle.smp_labels.specs.Keys.{is_on}
 use Rattle.smp_multi.specs.Names.{ReadKey, Setting}
 use Rattle.smp_multi.specs.Cpu.{CpuValue}

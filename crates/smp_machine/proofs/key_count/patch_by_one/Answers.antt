@@ -21,6 +21,7 @@ returns-then-answer-eq0 g c =
           (subst (λ (x : Change). IsPatchOf c.machine.inside.stops c.args.k x work) c.step-change.ensures c.patch_work-work.ensures.patch);
       stopped = subst (λ (v : ℤ). HasStopped g.H.Handler.leads g.F.StopFunc.leads true work c.args.me.now c.args.handler.now c.args.run.now
           c.patch-answer.new.me c.patch-answer.new.handler c.patch-answer.new.run v) zero c.patch-answer.ensures.stopped;
+      last = c.patch-answer.ensures.last;
     }
 
 pub returns-else-answer-eq0 : goal.returns-else-answer-eq0
@@ -35,6 +36,7 @@ returns-else-answer-eq0 g c =
           patch = subst (λ (m : MachineValue). IsPatchOf m.stops c.args.k (step_of c.args.up) work) c.machine.view_is
               (subst (λ (x : Change). IsPatchOf c.machine.inside.stops c.args.k x work) c.step-change.ensures c.patch_work-work.ensures.patch);
           stopped = c.patch-answer.ensures.stopped;
+          last = c.patch-answer.ensures.last;
         },
       ),
     )

@@ -1,4 +1,7 @@
-use Rattle.smp_machine.proofs.Polls.{looks_poll}
+use Rattle.std.proofs.Common.{refl}
+use Rattle.smp_machine.specs.Own.{own_of}
+use Rattle.smp_machine.proofs.Works.{works_then, works_as}
+use Rattle.smp_machine.proofs.Polls.{works_take, looks_poll}
 use Rattle.smp_machine.proofs.poll.poll.Goals as goal
 
 pub returns-then-take_work-clause-once : goal.returns-then-take_work-clause-once
@@ -6,3 +9,10 @@ returns-then-take_work-clause-once g c on =
     looks_poll g.H.Handler.leads g.F.StopFunc.leads c.args.machine.now c.args.me.now c.turn.new.me c.take_work.new.me c.finish_work.new.me
     c.turn.new.handler c.finish_work.new.handler c.turn.new.func c.finish_work.new.func c.take_work.result
     (c.turn.ensures.once on) c.take_work.ensures c.finish_work.ensures.works
+
+pub returns-else-take_work-clause-works : goal.returns-else-take_work-clause-works
+returns-else-take_work-clause-works g c =
+    let took = works_take g.H.Handler.leads g.F.StopFunc.leads c.args.machine.now c.turn.new.me c.take_work.new.me c.turn.new.handler c.turn.new.func
+    c.take_work.result c.turn.new.me.stops.inside refl c.take_work.ensures in
+    works_as g.H.Handler.leads g.F.StopFunc.leads (own_of c.args.me.now) c.turn.ensures.works.own_is
+    (works_then g.H.Handler.leads g.F.StopFunc.leads c.turn.ensures.works took)

@@ -4,9 +4,15 @@ use mir.Syntax.{w32}
 use mir.Val.{SFits}
 use Rattle.smp_machine.specs.Own.{own_of, with_collected}
 use Rattle.smp_machine.specs.Place.{PlaceValue}
-use Rattle.smp_machine.proofs.Works.{works_as, works_from}
+use Rattle.smp_machine.proofs.Works.{works_none, works_as, works_from}
 use Rattle.smp_machine.proofs.Stopping.{works_after, works_collect}
 use Rattle.smp_machine.proofs.stop.collect.Goals as goal
+
+pub loop-init : goal.loop-init
+loop-init g c = record {
+  works = works_none g.H.Handler.leads g.F.StopFunc.leads c.args.me.now c.args.handler.now c.args.run.now;
+  outside = c.requires.outside;
+}
 
 pub loop-preserved : goal.loop-preserved
 loop-preserved g c =

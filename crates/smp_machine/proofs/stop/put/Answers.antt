@@ -1,4 +1,4 @@
-use Rattle.std.proofs.Common.{ap, ◌∙◌, subst, ℕ, [], ◌∷◌, slice_index_or}
+use Rattle.std.proofs.Common.{refl, ap, ◌∙◌, subst, ℕ, [], ◌∷◌, slice_index_or}
 use Rattle.smp_multi.specs.Cpu.{CpuValue}
 use Rattle.smp_machine.specs.declared.work_queue.Knows.TheVariants.{Puts}
 use Rattle.smp_machine.specs.WorkQueue.{IsKnown}
@@ -9,6 +9,12 @@ use Rattle.smp_machine.specs.Works.{Works}
 use Rattle.smp_machine.proofs.Works.{works_none, works_as, works_from}
 use Rattle.smp_machine.proofs.Stopping.{works_put, works_after}
 use Rattle.smp_machine.proofs.stop.put.Goals as goal
+
+pub loop-init : goal.loop-init
+loop-init g c = record {
+  works = works_none g.H.Handler.leads g.F.StopFunc.leads c.args.me.now c.args.handler.now c.args.run.now;
+  stops = refl;
+}
 
 pub loop-preserved : goal.loop-preserved
 loop-preserved g c =

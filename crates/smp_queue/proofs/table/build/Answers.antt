@@ -6,11 +6,8 @@ use Rattle.smp_queue.proofs.table.build.Goals as goal
 pub loop-number-init : goal.loop-number-init
 loop-number-init g c = search arith
 
-pub next_seat-seat-requires : goal.next_seat-seat-requires
-next_seat-seat-requires g c = search arith
-
 pub cpu_if-requires-clause-below : goal.cpu_if-requires-clause-below
-cpu_if-requires-clause-below g c = let t = c.loop-number-test.true in let w = c.requires.within in omega arith
+cpu_if-requires-clause-below g c = let t = c.loop-number-test.true in let w = c.requires.within in search arith
 
 pub loop-number-preserved : goal.loop-number-preserved
 loop-number-preserved g c = search (seats_more, arith)
@@ -24,7 +21,7 @@ returns g c =
       refl,
       refl,
       record {
-        table_is = λ i. table_with (s.maker_is i) (made_with (s.next i));
+        table_is = λ i. table_with (s.maker_is i) (made_with (s.next.1 i));
         left_are = search (seats_left, arith);
       },
     )

@@ -1,9 +1,11 @@
-use Rattle.std.proofs.Common.{◌≡◌, true, Option, List, set, map, sym, ap, ◌∙◌, subst}
+use Rattle.std.proofs.Common.{◌≡◌, ℕ, true, false, Option, List, [], set, map, sym, refl, ap, ◌∙◌, subst, slice_index_or}
+use Rattle.std.proofs.lemmas.Result.{IfOk-weaker}
+use Rattle.smp_words.specs.Size.{cpus}
 use Rattle.std.specs.Prelude.{is_some}
 use Rattle.std.proofs.lemmas.List.{map-set}
 use Rattle.smp_mask.specs.Mask.{has}
-use Rattle.smp_queue.specs.{BootValue, CpuValue, fresh_cpu, table_with, is_left, given, made_with}
-use Rattle.smp_queue.proofs.TheRule.Seating.{taken_from, waits_fresh, left_is}
+use Rattle.smp_queue.specs.{BootValue, CpuValue, fresh_cpu, table_with, is_left, given, made_with, confirmed_at}
+use Rattle.smp_queue.proofs.TheRule.Seating.{taken_from, waits_fresh, left_is, born_confirmed, born_owes}
 use Rattle.smp_queue.proofs.boot.Boot.cpu.Goals.{in-Some, in-None}
 use Rattle.smp_queue.proofs.boot.Boot.cpu.Goals as goal
 
@@ -30,3 +32,12 @@ returns-clause-ok g c = elim c.match-take.branch [
       (waits_fresh t b.online items cpu w.in-Some.given m online here, ap (λ o. has o cpu) (sym m.online_is) ∙ online, left, gone))
   | in-None w ↦ rw (w.result-is) tt
 ]
+
+pub returns-clause-unused : goal.returns-clause-unused
+returns-clause-unused g c = IfOk-weaker c.match-take.result _ _ (λ v ok k small. subst (λ (x : CpuValue). confirmed_at x k ≡ true) (sym ok.0)
+    (born_confirmed c.args.self.now.table c.args.cpu k (c.contains.ensures.within c.if-not-contains.false) small)) (returns-clause-ok g c)
+
+pub returns-clause-idle : goal.returns-clause-idle
+returns-clause-idle g c = IfOk-weaker c.match-take.result _ _ (λ v ok. subst (λ (x : CpuValue). (x.part.sent ≡ []) × (x.part.taken ≡ [])
+    × (x.part.ran ≡ []) × (x.part.asked ≡ []) × (x.log ≡ []) × (x.steps ≡ 0) × ((to : ℕ) → slice_index_or x.part.owes to false ≡ false)) (sym ok.0)
+    (refl, refl, refl, refl, refl, refl, λ to. born_owes cpus to)) (returns-clause-ok g c)

@@ -1,15 +1,18 @@
-use Rattle.std.proofs.Common.{subst, refl}
-use Rattle.smp_queue.specs.{Audited, IfDrained, HasRowsOf}
-use Rattle.smp_queue.proofs.Audits.Closed.{last_seat, last_view, last_closes, drained_equal, drained_rows, drained_zeros, audited}
+use Rattle.std.proofs.Common.{subst}
+use Rattle.smp_queue.specs.{IfDrained, HasRowsOf}
+use Rattle.smp_queue.proofs.Audits.Closed.{last_seat, last_view, last_closes, drained_equal, drained_rows, drained_zeros, drained_run}
 use Rattle.smp_queue.proofs.table.CallTable.audit.Goals as goal
 
 pub returns-clause-audited : goal.returns-clause-audited
 returns-clause-audited g c =
     let words = c.close-words.result in
     let e = c.close-words.ensures in
-    subst (λ last. Audited c.args.self last c.audit-audit.result) (last_view c.args.self c.args.last words e)
-    (audited c.args.self (last_seat c.args.self c.args.last words e) words c.audit-audit.result refl
-    (last_closes c.args.self c.args.last words e) c.audit-audit.ensures)
+    record {
+      words = words;
+      closes = e;
+      answers = c.audit-audit.ensures;
+      drained = drained_run c.args.self c.args.last words c.audit-audit.result e c.audit-audit.ensures;
+    }
 
 pub returns-clause-equal : goal.returns-clause-equal
 returns-clause-equal g c =

@@ -8,7 +8,7 @@ use Rattle.smp_call_steps.proofs.Knows.Handling.{lives_stands, lives_front}
 use Rattle.smp_queue.specs.{heard}
 use Rattle.smp_queue.proofs.Handling.Running.{tally_running, has_run}
 use Rattle.smp_queue.specs.handle
-use Rattle.smp_queue.proofs.run.run_sync.Goals as goal
+use Rattle.smp_queue.proofs.seat.call_steps.run_sync.Goals as goal
 
 pub begin_sync-begun-requires-clause-class : goal.begin_sync-begun-requires-clause-class
 begin_sync-begun-requires-clause-class g c =

@@ -8,7 +8,7 @@ use Rattle.smp_call_steps.proofs.Knows.Handling.{lives_stands, lives_front}
 use Rattle.smp_queue.specs.{heard}
 use Rattle.smp_queue.proofs.Handling.Running.{tally_running, has_run}
 use Rattle.smp_queue.specs.handle
-use Rattle.smp_queue.proofs.run.run_async.Goals as goal
+use Rattle.smp_queue.proofs.seat.call_steps.run_async.Goals as goal
 
 pub begin_async-begun-requires-clause-class : goal.begin_async-begun-requires-clause-class
 begin_async-begun-requires-clause-class g c = ends_async (lives_stands c.requires.at.lives (handle.BeginAsync c.args.call c.args.next) c.requires.at.stage_is).1

@@ -2,7 +2,7 @@ use Rattle.std.proofs.Common.{subst}
 use Rattle.smp_machine.specs.Place.{PlaceValue}
 use Rattle.smp_machine.specs.Works.{LooksOnce}
 use Rattle.smp_machine.proofs.Turns.{looks_once}
-use Rattle.smp_machine.proofs.turn.handle_own.Goals as goal
+use Rattle.smp_machine.proofs.hearing.hear.Goals as goal
 
 pub returns : goal.returns
 returns g c =

@@ -4,7 +4,7 @@ use Rattle.smp_words.specs.declared.call.Class.TheVariants.{Sync}
 use Rattle.smp_calls.specs.Ended.{HaveEnded}
 use Rattle.smp_calls.specs.Records.{many_call}
 use Rattle.smp_machine.specs.Place.{PlaceValue}
-use Rattle.smp_machine.proofs.calls.many.Goals as goal
+use Rattle.smp_machine.proofs.hearing.many.Goals as goal
 
 pub returns-clause-ended : goal.returns-clause-ended
 returns-clause-ended g c =

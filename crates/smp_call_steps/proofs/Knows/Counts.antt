@@ -1,0 +1,20 @@
+-- A step outside handle is counted, and a step of handle is not.
+use Rattle.std.proofs.Common.{◌≡◌, ℕ, ◌+◌, ◌≢◌, Option, Some, None, sym, ap, arith, refl, ◌∙◌}
+use Rattle.smp_words.specs.Access.{word_of}
+use Rattle.smp_call_steps.specs.{steps_after, StepsCount, known_access, told_post, told_handle, Posting, PostStage, HandleStage, Post, Handle, Stage, Hand, Word}
+use Rattle.smp_call_steps.specs.declared.known.Known.{Known}
+use Rattle.smp_call_steps.specs.post
+use Rattle.smp_call_steps.specs.handle
+
+post_counts : (v : Known) (p : Posting) (st : PostStage) → steps_after (told_post p st) (word_of (known_access v (Post p st))) v.steps ≡ v.steps + 1
+post_counts v p post.LoadFlags = refl
+post_counts v p _ = refl
+
+handle_counts : (v : Known) (h : HandleStage) → steps_after (told_handle h) (word_of (known_access v (Handle h))) v.steps ≡ v.steps
+handle_counts v handle.Enter = refl
+handle_counts v _ = refl
+
+pub steps_count : StepsCount
+steps_count v (Post p st) may found queue = ap (λ s. steps_after s (word_of (known_access v (Post p st))) v.steps) (sym may.told) ∙ post_counts v p st
+steps_count v (Handle h) may found queue = ap (λ s. steps_after s (word_of (known_access v (Handle h))) v.steps) may.0 ∙ handle_counts v h
+steps_count v stage may found queue = ap (λ s. steps_after s (word_of (known_access v stage)) v.steps) may.0

@@ -1,0 +1,166 @@
+-- What the definitions of stops, polls and queues come to.
+use Rattle.std.proofs.Common.{◌≡◌, ◌↔◌, ◌⊎◌, inl, inr, ℕ, zero, suc, ◌<◌, ◌==◌, ◌&&◌, ◌||◌, nat_lt, Bool, true, false, if◌then◌else◌, Option}
+use Rattle.std.proofs.Common.{List, [], ◌∷◌, ◌++◌, length, filter, slice_index_or, length-set, append_assoc, arith, refl, sym, ap, ◌∙◌, subst}
+use Rattle.std.proofs.Common.{eqb-true, eq-eqb, ne_eqb, lt-ltb}
+use Rattle.std.proofs.lemmas.Bool.{cases_eq}
+use Rattle.std.proofs.lemmas.Bool.Decides.{nat_tests}
+use Rattle.std.proofs.lemmas.List.{append-nil, get_or-set_same, get_or-set_other}
+use Rattle.smp_mask.specs.Mask.{has, members_below}
+use Rattle.smp_mask.specs.declared.mask.TheConstants.{NR_CPUS}
+use Rattle.smp_queue.specs.Cpu.{CpuValue as CallCpuValue}
+use Rattle.smp_queue.specs.declared.handler.Heard.{Heard}
+use Rattle.smp_multi.specs.Names.{Work}
+use Rattle.smp_multi.specs.Cpu.{TableValue}
+use Rattle.smp_multi.specs.declared.func.Called.{Called}
+use Rattle.smp_machine.specs.declared.work_queue.Item.{Item}
+use Rattle.smp_machine.specs.declared.work_queue.Knows.TheVariants.{Takes, Puts}
+use Rattle.smp_machine.specs.StopLaws.{IsOfOne, IsOfTwo, IsOfAll, WorksAreOfTheirCpus, StopsAreMadeOnce, PollsSendNothing, QueuesKeepOrder}
+use Rattle.smp_machine.specs.Own.{Own, put_one, put_all}
+use Rattle.smp_machine.specs.Passes.{put_to}
+use Rattle.smp_machine.specs.Stops.{item, IsOneWork, IsTwoWork, IsMachineWork}
+use Rattle.smp_machine.specs.WorkQueue.{items_by}
+use Rattle.smp_machine.proofs.Stopping.{put_all-append}
+
+-- ---- works
+
+-- a mask that has the CPUs of a test, by what passes it
+member_is : (mask : ℕ) (c : ℕ) (test : Bool) (P : Type 0) → has mask c ≡ test → (test ≡ true → P) → (P → test ≡ true) → (has mask c ≡ true) ↔ P
+member_is mask c test P is to from = ((λ h. to (sym is ∙ h)), λ p. is ∙ from p)
+
+either : (c a b : ℕ) → (c == a || c == b) ≡ true → (c ≡ a) ⊎ (c ≡ b)
+either c a b e = elim (cases_eq c a) [
+  | inl same ↦ inl same
+  | inr apart ↦ inr (eqb-true c b (sym (ap (λ (t : Bool). t || c == b) (ne_eqb c a apart)) ∙ e))
+]
+
+or_right : (t : Bool) → (t || true) ≡ true
+or_right true = refl
+or_right false = refl
+
+among : (c a b : ℕ) → (c ≡ a) ⊎ (c ≡ b) → (c == a || c == b) ≡ true
+among c a b (inl e) = ap (λ (t : Bool). t || c == b) (eq-eqb c a e)
+among c a b (inr e) = ap (λ (t : Bool). c == a || t) (eq-eqb c b e) ∙ or_right (c == a)
+
+one_is : (dst func arg : ℕ) (work : Work) → IsOneWork dst func arg work → IsOfOne dst work
+one_is dst func arg work w = record {
+  kind = w.kind;
+  mask = λ c. member_is work.mask c (c == dst) (c ≡ dst) (w.mask c) (eqb-true c dst) (eq-eqb c dst);
+  active = λ c. member_is work.active c (c == dst) (c ≡ dst) (ap (λ (m : ℕ). has m c) w.active ∙ w.mask c) (eqb-true c dst) (eq-eqb c dst);
+}
+
+two_is : (a b func arg : ℕ) (work : Work) → IsTwoWork a b func arg work → IsOfTwo a b work
+two_is a b func arg work w = record {
+  kind = w.kind;
+  mask = λ c. member_is work.mask c (c == a || c == b) ((c ≡ a) ⊎ (c ≡ b)) (w.mask c) (either c a b) (among c a b);
+  active = λ c. member_is work.active c (c == a) (c ≡ a) (w.active c) (eqb-true c a) (eq-eqb c a);
+}
+
+all_is : (t : TableValue) (func arg : ℕ) (active : Option ℕ) (work : Work) → IsMachineWork t func arg active work → IsOfAll t work
+all_is t func arg active work w = record {
+  kind = w.kind;
+  mask = λ c. ((λ h. sym (ap (λ (m : ℕ). has m c) w.mask) ∙ h), λ h. ap (λ (m : ℕ). has m c) w.mask ∙ h);
+}
+
+pub works_are : WorksAreOfTheirCpus
+works_are = record { one = one_is; two = two_is; all = all_is }
+
+-- ---- what is put
+
+put_sized : (x : Item) (xs : List ℕ) (put : List (List Item)) → length (put_all x xs put) ≡ length put
+put_sized x [] put = refl
+put_sized x (cpu ∷ xs) put = put_sized x xs (put_one x cpu put) ∙ length-set put cpu (slice_index_or put cpu [] ++ x ∷ [])
+
+-- one CPU more, or not
+put_last : (x : Item) (c k : ℕ) (put : List (List Item)) (here : Bool) → c < length put
+    → slice_index_or (put_all x (if here then k ∷ [] else []) put) c [] ≡ slice_index_or put c [] ++ (if here && k == c then x ∷ [] else [])
+put_last x c k put false low = sym (append-nil (slice_index_or put c []))
+put_last x c k put true low = elim (cases_eq k c) [
+  | inl same ↦
+      ap (λ (n : ℕ). slice_index_or (put_one x n put) c []) same
+      ∙ (get_or-set_same put c (slice_index_or put c [] ++ x ∷ []) [] low
+      ∙ sym (ap (λ (t : Bool). slice_index_or put c [] ++ (if t then x ∷ [] else [])) (eq-eqb k c same)))
+  | inr apart ↦
+      get_or-set_other put k c (slice_index_or put k [] ++ x ∷ []) [] (λ e. apart (sym e))
+      ∙ (sym (append-nil (slice_index_or put c [])) ∙ sym (ap (λ (t : Bool). slice_index_or put c [] ++ (if t then x ∷ [] else [])) (ne_eqb k c apart)))
+]
+
+-- of the members below k, this CPU is passed once or not at all
+here : (x : Item) (h : Bool) → (if h && false then x ∷ [] else []) ++ (if h && true then x ∷ [] else []) ≡ (if h && true then x ∷ [] else [])
+here x true = refl
+here x false = refl
+
+not_here : (x : Item) (l : List Item) (h : Bool) → l ++ (if h && false then x ∷ [] else []) ≡ l
+not_here x l true = append-nil l
+not_here x l false = append-nil l
+
+once : (x : Item) (m c k : ℕ) → (if has m c && nat_lt c k then x ∷ [] else []) ++ (if has m k && k == c then x ∷ [] else [])
+    ≡ (if has m c && nat_lt c (suc k) then x ∷ [] else [])
+once x m c k = elim (cases_eq k c) [
+  | inl same ↦
+      let not_yet : nat_lt c k ≡ false = grind (arith, nat_tests) in
+      let now : nat_lt c (suc k) ≡ true = grind (arith, nat_tests) in
+      subst (λ (t : Bool × Bool × Bool × Bool). (if has m c && t.0 then x ∷ [] else []) ++ (if t.1 && t.2 then x ∷ [] else [])
+      ≡ (if has m c && t.3 then x ∷ [] else []))
+      (λ i. (sym not_yet i, has m (sym same i), sym (eq-eqb k c same) i, sym now i)) (here x (has m c))
+  | inr apart ↦
+      let still : nat_lt c (suc k) ≡ nat_lt c k = grind (arith, nat_tests) in
+      subst (λ (t : Bool × Bool). (if has m c && nat_lt c k then x ∷ [] else []) ++ (if has m k && t.0 then x ∷ [] else [])
+      ≡ (if has m c && t.1 then x ∷ [] else []))
+      (λ i. (sym (ne_eqb k c apart) i, sym still i)) (not_here x (if has m c && nat_lt c k then x ∷ [] else []) (has m k))
+]
+
+none_below_0 : (x : Item) (l : List Item) (h : Bool) (c : ℕ) → l ≡ l ++ (if h && nat_lt c 0 then x ∷ [] else [])
+none_below_0 x l h c =
+    let no : nat_lt c 0 ≡ false = grind (arith, nat_tests) in
+    subst (λ (t : Bool). l ≡ l ++ (if h && t then x ∷ [] else [])) (sym no) (sym (not_here x l h))
+
+put_members : (x : Item) (m c k : ℕ) (put : List (List Item)) → c < length put
+    → slice_index_or (put_all x (members_below m k) put) c [] ≡ slice_index_or put c [] ++ (if has m c && nat_lt c k then x ∷ [] else [])
+unfolding members_below
+put_members x m c zero put low = none_below_0 x (slice_index_or put c []) (has m c) c
+put_members x m c (suc k) put low =
+    let last : List ℕ = if has m k then k ∷ [] else [] in
+    let before : List (List Item) = put_all x (members_below m k) put in
+    ap (λ (l : List (List Item)). slice_index_or l c []) (put_all-append x (members_below m k) last put)
+    ∙ (put_last x c k before (has m k) (subst (λ (n : ℕ). c < n) (sym (put_sized x (members_below m k) put)) low)
+    ∙ (ap (λ (l : List Item). l ++ (if has m k && k == c then x ∷ [] else [])) (put_members x m c k put low)
+    ∙ (append_assoc (slice_index_or put c []) (if has m c && nat_lt c k then x ∷ [] else []) (if has m k && k == c then x ∷ [] else [])
+    ∙ ap (λ (l : List Item). slice_index_or put c [] ++ l) (once x m c k))))
+
+below : (x : Item) (h : Bool) (c : ℕ) → c < NR_CPUS → (if h && nat_lt c NR_CPUS then x ∷ [] else []) ≡ (if h then x ∷ [] else [])
+below x true c low = ap (λ (t : Bool). if t then x ∷ [] else []) (lt-ltb c NR_CPUS low)
+below x false c low = refl
+
+-- ---- stops, polls and queues
+
+module _ {H F : Type 0} (hears : H → Heard → H → Type 0) (runs : F → Called → F → Type 0) where
+  pub stops_once : StopsAreMadeOnce hears runs
+  stops_once long work old new h h' f f' answer s = record {
+    begun = ap (λ (o : Own). o.begun) s.works.own_is;
+    word = s.word;
+    collected = ap (λ (o : Own). o.collected) s.works.own_is;
+    answer_is = s.answer_is;
+    put = λ c low sized.
+        let x : Item = item old.stops.number work in
+        ap (λ (o : Own). slice_index_or o.put c []) s.works.own_is
+        ∙ (put_members x work.mask c NR_CPUS old.passes.put sized
+        ∙ ap (λ (l : List Item). put_to old.passes c ++ l) (below x (has work.mask c) c low));
+  }
+
+  pub send_nothing : PollsSendNothing hears runs
+  send_nothing old new h h' f f' own w = record {
+    sent = ap (λ (x : CallCpuValue). x.part.sent) w.calls_kept;
+    owes = ap (λ (x : CallCpuValue). x.part.owes) w.calls_kept;
+    confirmed = ap (λ (x : CallCpuValue). x.part.confirmed) w.calls_kept;
+    log = ap (λ (x : CallCpuValue). x.log) w.calls_kept;
+  }
+
+items_filter : (source : ℕ) (xs : List Item) → items_by source xs ≡ filter (λ x. x.slot == source) xs
+items_filter source [] = refl
+items_filter source (x ∷ xs) = λ i. if x.slot == source then x ∷ items_filter source xs i else items_filter source xs i
+
+pub keep_order : QueuesKeepOrder
+keep_order items taken put views source next at to rule takes puts =
+    let own = rule.each at (Takes next taken) takes in
+    let its = rule.each to (Puts source put) puts in
+    its.2 ∙ (ap (λ (l : List Item). items_by source (l ++ items)) (sym own.2) ∙ items_filter source (taken ++ items))

@@ -1,0 +1,256 @@
+//! The calls of a machine, and all that may run a handler. The call table is private to this page: each function that
+//! lends a CPU with a handler to it asks for that CPU's interrupts on. So no handler runs with interrupts off.
+
+ghost use Rattle.std.specs.Prelude.{◌≡◌, ◌≢◌, ◌⊎◌, ◌<◌, ◌↔◌, ℕ, true, false, None, Some, [], ◌∷◌, if◌then◌else◌, IfOk, IfErr, OnOk, IsErrOf};
+ghost use Rattle.smp_mask.specs.Mask.{has, members};
+ghost use Rattle.smp_words.specs.Limits.{AreLimits};
+ghost use Rattle.smp_words.specs.Size.{cpus};
+ghost use Rattle.smp_queue.specs.Audit.{Audited, IfDrained, AreEqual, HasRowsOf, HasZerosFrom};
+ghost use Rattle.smp_queue.specs.Cpu.{IsFull};
+ghost use Rattle.smp_queue.specs.Handling.{heard};
+ghost use Rattle.smp_calls.specs.Ended.{HaveEnded};
+ghost use Rattle.smp_calls.specs.Families.{CallsOne, CallsBy, CallsHere, CallsUserHere, CallsMany, QueuesNone, RefusesUser, HandlesNone};
+ghost use Rattle.smp_calls.specs.Records.{call_by, many_call, single_record, user_record, class_for};
+ghost use Rattle.smp_calls.specs.Rounds.{Picks};
+ghost use Rattle.smp_calls.specs.Targets.{IsAny, HasNone, is_target, remote};
+ghost use Rattle.smp_machine.specs.Calls.{KeepsStops};
+ghost use Rattle.smp_machine.specs.Place.{IsAt};
+ghost use Rattle.smp_machine.specs.Works.{LooksOnce};
+
+use crate::machine::Machine;
+use crate::place::Place;
+use smp_calls::{call_any, call_async, call_many, call_single, each_cpu_cond};
+use smp_mask::{CpuMask, SmpError};
+use smp_queue::{Audit, Boot, CallCpu, CallTable, Handler};
+use smp_words::call::Class;
+use std::alloc::Allocator;
+use std::marker::Model;
+use std::sync::Wait;
+
+/// The call table of a machine.
+#[derive(Drop)]
+pub(crate) struct Hearing<A: Allocator> {
+    table: CallTable<A>,
+}
+
+impl<A: Allocator> Model for Hearing<A> {
+    ghost use Rattle.smp_queue.specs.Cpu.{TableValue};
+
+    ghost Value = { TableValue };
+
+    ghost view = { λ h. h.table };
+}
+
+impl<A: Allocator> Hearing<A> {
+    /// A call table, and its CPUs: [`CallTable::new`].
+    pub(crate) fn new(alloc: A, nr: u32, online: CpuMask) -> Result<(Hearing<A>, Boot<A>), SmpError>
+    where
+        A: Copy,
+        ensures ok { IfOk result (λ t. (t.0.nr ≡ nr) × (t.0.online ≡ online) × IsFull t.1 t.0) }
+        ensures refused { IsErrOf result SmpError.BadArgument ↔ (¬ (AreLimits nr online)) }
+        ensures only { IfErr result (λ e. (e ≡ SmpError.BadArgument) ⊎ (e ≡ SmpError.NoMemory)) }
+    {
+        let (table, boot) = CallTable::new(alloc, nr, online)?;
+        Ok((Hearing { table }, boot))
+    }
+
+    /// The CPUs that are online.
+    pub(crate) fn online(&self) -> CpuMask
+        ensures known { result ≡ self.now.online }
+        ensures limits { AreLimits self.now.nr result }
+    {
+        self.table.online()
+    }
+
+    /// What is left of calls: [`CallTable::audit`].
+    pub(crate) fn audit(self, last: CallCpu) -> Audit
+        requires { last.table ≡ self.table }
+        ensures audited { Audited self last result }
+        ensures equal { IfDrained result AreEqual }
+        ensures rows { IfDrained result (HasRowsOf last) }
+        ensures zeros { IfDrained result (HasZerosFrom self.nr) }
+    {
+        let Hearing { table } = self;
+        table.audit(last)
+    }
+}
+
+/// Handles the CPU's own interrupt, with interrupts on.
+pub(crate) fn hear<A: Allocator, H: Handler>(
+    machine: &Machine<A>,
+    me: &mut Place<A>,
+    handler: &mut H,
+)
+    requires at { IsAt machine.now me.old }
+    requires irq { me.old.stops.irq ≡ true }
+    ensures { LooksOnce H.leads me.old handler.old me.new handler.new }
+{
+    machine.calls.table.handle(&mut me.calls, handler);
+}
+
+/// A call to one CPU. Interrupts are on: while it waits, the CPU handles its own.
+pub(crate) fn single<A: Allocator, R: Wait, H: Handler>(
+    machine: &Machine<A>,
+    rt: &R,
+    me: &mut Place<A>,
+    handler: &mut H,
+    dst: u32,
+    func: u16,
+    info: u64,
+    wait: bool,
+) -> Result<(), SmpError>
+    requires at { IsAt machine.now me.old }
+    requires irq { me.old.stops.irq ≡ true }
+    ensures queued { IfOk result (λ _. dst ≢ me.old.calls.number → (has machine.now.calls.online dst ≡ true)
+        × CallsOne H.leads me.old.calls handler.old me.new.calls handler.new dst func info wait) }
+    ensures here { IfOk result (λ _. dst ≡ me.old.calls.number → CallsHere H.leads me.old.calls handler.old me.new.calls handler.new func info wait) }
+    ensures refused { IfErr result (λ e. (e ≡ SmpError.NoCpu) × (dst ≢ me.old.calls.number) × (has machine.now.calls.online dst ≡ false)
+        × QueuesNone H.leads me.old.calls handler.old me.new.calls handler.new wait) }
+    ensures ended { IfOk result (λ _. wait ≡ true → dst ≢ me.old.calls.number →
+        HaveEnded me.new.calls (λ _. call_by me.old.calls.number (single_record true) Class.Sync func info) (dst ∷ [])) }
+    ensures kept { KeepsStops me.old me.new }
+{
+    call_single(
+        &machine.calls.table,
+        rt,
+        &mut me.calls,
+        handler,
+        dst,
+        func,
+        info,
+        wait,
+    )
+}
+
+/// A call to one CPU by a record of the user. Interrupts are on: while it waits, the CPU handles its own.
+pub(crate) fn single_async<A: Allocator, R: Wait, H: Handler>(
+    machine: &Machine<A>,
+    rt: &R,
+    me: &mut Place<A>,
+    handler: &mut H,
+    u: u32,
+    dst: u32,
+    func: u16,
+    info: u64,
+) -> Result<(), SmpError>
+    requires at { IsAt machine.now me.old }
+    requires irq { me.old.stops.irq ≡ true }
+    ensures record { IfOk result (λ _. u < 2) }
+    ensures queued { IfOk result (λ _. dst ≢ me.old.calls.number → (has machine.now.calls.online dst ≡ true)
+        × CallsBy H.leads me.old.calls handler.old me.new.calls handler.new (user_record u) Class.Async dst func info false) }
+    ensures here { IfOk result (λ _. dst ≡ me.old.calls.number → CallsUserHere H.leads me.old.calls handler.old me.new.calls handler.new u func info) }
+    ensures still { HandlesNone me.old.calls me.new.calls }
+    ensures untouched { IfOk result (λ _. dst ≢ me.old.calls.number → handler.new ≡ handler.old) }
+    ensures called { IfOk result (λ _. dst ≡ me.old.calls.number → H.leads handler.old (heard me.old.calls.number func info) handler.new) }
+    ensures refused { IfErr result (λ e. RefusesUser machine.now.calls.online me.old.calls me.new.calls u dst e × (handler.new ≡ handler.old)) }
+    ensures kept { KeepsStops me.old me.new }
+{
+    call_async(
+        &machine.calls.table,
+        rt,
+        &mut me.calls,
+        handler,
+        u,
+        dst,
+        func,
+        info,
+    )
+}
+
+/// A call to any CPU of a mask. Interrupts are on: while it waits, the CPU handles its own.
+pub(crate) fn any<A: Allocator, R: Wait, H: Handler>(
+    machine: &Machine<A>,
+    rt: &R,
+    me: &mut Place<A>,
+    handler: &mut H,
+    mask: CpuMask,
+    func: u16,
+    info: u64,
+    wait: bool,
+) -> Result<u32, SmpError>
+    requires at { IsAt machine.now me.old }
+    requires irq { me.old.stops.irq ≡ true }
+    ensures any { IfOk result (λ cpu. IsAny mask machine.now.calls.online me.old.calls.number cpu) }
+    ensures queued { IfOk result (λ cpu. cpu ≢ me.old.calls.number → CallsOne H.leads me.old.calls handler.old me.new.calls handler.new cpu func info wait) }
+    ensures here { IfOk result (λ cpu. cpu ≡ me.old.calls.number → CallsHere H.leads me.old.calls handler.old me.new.calls handler.new func info wait) }
+    ensures refused { IfErr result (λ e. (e ≡ SmpError.NoCpu) × HasNone mask machine.now.calls.online me.old.calls.number
+        × (me.new.calls ≡ me.old.calls) × (handler.new ≡ handler.old)) }
+    ensures ended { IfOk result (λ cpu. wait ≡ true → cpu ≢ me.old.calls.number →
+        HaveEnded me.new.calls (λ _. call_by me.old.calls.number (single_record true) Class.Sync func info) (cpu ∷ [])) }
+    ensures kept { KeepsStops me.old me.new }
+{
+    call_any(
+        &machine.calls.table,
+        rt,
+        &mut me.calls,
+        handler,
+        mask,
+        func,
+        info,
+        wait,
+    )
+}
+
+/// A call to many CPUs. Interrupts are on: while it waits, the CPU handles its own.
+pub(crate) fn many<A: Allocator, R: Wait, H: Handler>(
+    machine: &Machine<A>,
+    rt: &R,
+    me: &mut Place<A>,
+    handler: &mut H,
+    mask: CpuMask,
+    func: u16,
+    info: u64,
+    wait: bool,
+) -> CpuMask
+    requires at { IsAt machine.now me.old }
+    requires irq { me.old.stops.irq ≡ true }
+    ensures targets { (c : ℕ) → has result c ≡ is_target mask machine.now.calls.online me.old.calls.number false c }
+    ensures calls { CallsMany H.leads me.old.calls handler.old me.new.calls handler.new (members result) (class_for wait) func info None wait }
+    ensures ended { wait ≡ true → HaveEnded me.new.calls (many_call me.old.calls.number Class.Sync func info) (members result) }
+    ensures kept { KeepsStops me.old me.new }
+{
+    call_many(
+        &machine.calls.table,
+        rt,
+        &mut me.calls,
+        handler,
+        mask,
+        func,
+        info,
+        wait,
+    )
+}
+
+/// A call to each CPU of which a condition holds. Interrupts are on: while it waits, the CPU handles its own.
+pub(crate) fn each<A: Allocator, R: Wait, H: Handler, C: Fn(u32, u64) -> bool>(
+    machine: &Machine<A>,
+    rt: &R,
+    me: &mut Place<A>,
+    handler: &mut H,
+    mask: CpuMask,
+    func: u16,
+    info: u64,
+    cond: &C,
+    wait: bool,
+) -> CpuMask
+    requires at { IsAt machine.now me.old }
+    requires irq { me.old.stops.irq ≡ true }
+    requires condition { (c : ℕ) → c < cpus → C.pre cond.now c info }
+    ensures picks { Picks (λ c answer. C.post cond.now c info answer) (is_target mask machine.now.calls.online me.old.calls.number true) result }
+    ensures calls { CallsMany H.leads me.old.calls handler.old me.new.calls handler.new (remote me.old.calls.number result) (class_for wait)
+        func info (if has result me.old.calls.number then Some (heard me.old.calls.number func info) else None) wait }
+    ensures ended { wait ≡ true → HaveEnded me.new.calls (many_call me.old.calls.number Class.Sync func info) (remote me.old.calls.number result) }
+    ensures kept { KeepsStops me.old me.new }
+{
+    each_cpu_cond(
+        &machine.calls.table,
+        rt,
+        &mut me.calls,
+        handler,
+        mask,
+        func,
+        info,
+        cond,
+        wait,
+    )
+}
