@@ -122,9 +122,13 @@ module _ {S : Type 0} (k : Setting) where
             (refl, t.0 ∙ mine.1, refl))
             (λ (t : (j ≢ id) × (get_elem? s.views j ≡ some u)). old j u t.0 t.1 (r.each_seat j u t.1)) (at_set s.views id j (Maker (n + 1) k) u t))
             (λ (t : (j ≡ length (set s.views id (Maker (n + 1) k))) × (Cpu (fresh k n) ≡ u)).
-            subst (SeatKnows k r.calls r.controls (put r.seat n (length (set s.views id (Maker (n + 1) k)))) (n + 1) j) t.1
-            (omega arith, put_same r.seat n (length (set s.views id (Maker (n + 1) k))) ∙ sym t.0, refl,
-            r.absent n (λ _. (let a = mine.0 in omega arith)), online))
+            subst (SeatKnows k r.calls r.controls (put r.seat n (length (set s.views id (Maker (n + 1) k)))) (n + 1) j) t.1 (
+              omega arith,
+              put_same r.seat n (length (set s.views id (Maker (n + 1) k))) ∙ sym t.0,
+              refl,
+              r.absent n (λ _. (let a = mine.0 in omega arith)),
+              online,
+            ))
             (at_snoc (set s.views id (Maker (n + 1) k)) (Cpu (fresh k n)) u j e);
         absent = λ c l. r.absent c (λ on. (let a = mine.0 in let b = l on in omega arith));
       }
