@@ -3,7 +3,7 @@
 
 ghost use Rattle.std.specs.Prelude.{◌≡◌, ◌+◌, ◌<◌, ◌==◌, true, if◌then◌else◌, IfOk, Some, None};
 ghost use Rattle.std.specs.Mem.Slots.{slots_items, slots_len, IsFull};
-ghost use Rattle.smp_call_steps.specs.Known.{known_told, known_taking, fresh, Moment, Lives};
+ghost use Rattle.smp_call_steps.specs.Known.{known_told, known_taking, noted_known, fresh, Moment, Lives};
 ghost use Rattle.smp_words.specs.declared.access.Access.TheVariants as access;
 ghost use Rattle.smp_words.specs.declared.seen.Act.TheVariants as act;
 ghost use Rattle.smp_queue.specs.declared.seat_view.SeatView.TheVariants.{Maker};
@@ -13,7 +13,7 @@ ghost use Rattle.smp_queue.specs.Seat.{SeatValue, Loads, Ready};
 ghost use Rattle.smp_queue.specs.Rule.{Sits, HasComeTo};
 ghost use Rattle.smp_words.specs.Size.{cpus};
 ghost use Rattle.smp_mask.specs.Mask.{has};
-ghost use Rattle.smp_queue.specs.Plays.{loaded, stored, exchanged, swapped};
+ghost use Rattle.smp_queue.specs.Plays.{loaded, noted, stored, exchanged, swapped};
 
 pub mod call_steps;
 
@@ -59,6 +59,12 @@ struct Loaded;
 
 impl Play<(), SeatView> for Loaded {
     ghost then = { loaded };
+}
+
+struct Noted;
+
+impl Play<(), SeatView> for Noted {
+    ghost then = { noted };
 }
 
 struct Stored;
@@ -129,6 +135,16 @@ pub(crate) fn load(words: &Words, seat: &mut CpuSeat, word: Word) -> u64
     ensures { Loads words.now.table_id seat.old seat.new word result }
 {
     words.load::<Loaded>(&mut seat.raw, cell(word))
+}
+
+/// Notes a direct call in the CPU's log. What a CPU knows changes at a step alone: this one is a load of a word of its own,
+/// of which nothing is told.
+pub(crate) fn note_call(words: &Words, seat: &mut CpuSeat, word: Word)
+    requires { Ready words.now.table_id seat.old (access.Load word) }
+    ensures table { seat.new.table ≡ words.now.table_id }
+    ensures known { seat.new.known ≡ noted_known seat.old.known }
+{
+    words.load::<Noted>(&mut seat.raw, cell(word));
 }
 
 /// Stores a number in a word.

@@ -27,12 +27,12 @@ ghost use Rattle.smp_words.specs.Limits.{AreLimits};
 ghost use Rattle.smp_call_steps.specs.Histories.{sent_to, calls_from};
 ghost use Rattle.smp_call_steps.specs.Order.{order};
 ghost use Rattle.smp_words.specs.declared.call.Call.{Call};
-ghost use Rattle.smp_queue.specs.Handling.{Grows, asks, drains};
+ghost use Rattle.smp_queue.specs.Handling.{Grows, asks, drains, heard};
 ghost use Rattle.smp_queue.specs.Laws.{IsShown};
 ghost use Rattle.smp_queue.specs.Posted.{ShowsThat, IsFree, IsMarked, call_by};
 ghost use Rattle.smp_queue.specs.Cells.{cells};
 ghost use Rattle.smp_queue.specs.Rule.{HasComeTo};
-ghost use Rattle.smp_queue.specs.Cpu.{TableValue, IsFull, fresh_cpu, table_with, PostAnswers, BeginAnswers, confirmed_at, confirms, looks, sends};
+ghost use Rattle.smp_queue.specs.Cpu.{TableValue, IsFull, fresh_cpu, table_with, PostAnswers, BeginAnswers, confirmed_at, confirms, looks, sends, notes_call};
 ghost use Rattle.smp_queue.specs.Audit.{ClosesWith, Audited, IfDrained, AreEqual, HasRowsOf, HasZerosFrom};
 
 use crate::audit::Audit;
@@ -43,7 +43,7 @@ use crate::handle::{Handled, handle};
 use crate::handler::Handler;
 use crate::post::{append, append_until_won, is_locked, write_record};
 use crate::rule::{Owner, Words};
-use crate::seat::{SeatMaker, lay, next_seat, store};
+use crate::seat::{SeatMaker, lay, next_seat, note_call, store};
 use smp_call_steps::known::Setting;
 use smp_call_steps::post::Posting;
 use smp_call_steps::start::{has_record, refusal};
@@ -307,6 +307,23 @@ impl<A: Allocator> CallTable<A> {
         let first = append_until_won(rt, words, &mut me.seat, &posting, me.number, queued);
         me.queued[to as usize] = queued.wrapping_add(1);
         Ok(first)
+    }
+
+    /// Runs a function on this CPU itself, with no queue, and notes it in the CPU's log: this direct call is made after so
+    /// many steps of the CPU, and after so many takes of its interrupt word.
+    ///
+    /// It takes effect at its one step, a load of a word of its own by which it is noted; it does not wait, and nobody must
+    /// poll.
+    pub fn call_here<H: Handler>(&self, me: &mut CallCpu, handler: &mut H, func: u16, info: u64)
+        requires { me.old.table ≡ self.now.table }
+        ensures called { H.leads handler.old (heard me.old.number func info) handler.new }
+        ensures noted { me.new ≡ notes_call me.old }
+        ensures laws { IsShown me.new }
+    {
+        let own = record_of(me.number, 0);
+        note_call(&self.owner.shared, &mut me.seat, Word::Flags(own));
+        handler.call(me.number, func, info);
+        me.is_shown();
     }
 
     /// Takes the CPU's interrupt and, where one was pending, its whole queue, and runs that batch: SYNC calls
