@@ -25,6 +25,7 @@
 //! calls `handle` time and again.
 #![tactic(auto)]
 
+mod accesses;
 mod audit;
 mod boot;
 mod cell;

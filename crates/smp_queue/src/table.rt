@@ -35,6 +35,7 @@ ghost use Rattle.smp_queue.specs.Rule.{HasComeTo};
 ghost use Rattle.smp_queue.specs.Cpu.{TableValue, IsFull, fresh_cpu, table_with, PostAnswers, BeginAnswers, confirmed_at, confirms, looks, sends, notes_call};
 ghost use Rattle.smp_queue.specs.Audit.{ClosesWith, Audited, IfDrained, AreEqual, HasRowsOf, HasZerosFrom};
 
+use crate::accesses::{Owner, Words};
 use crate::audit::Audit;
 use crate::boot::Boot;
 use crate::closing::ClosedTable;
@@ -42,7 +43,6 @@ use crate::cpu::CallCpu;
 use crate::handle::{Handled, handle};
 use crate::handler::Handler;
 use crate::post::{append, append_until_won, is_locked, write_record};
-use crate::rule::{Owner, Words};
 use crate::seat::{SeatMaker, lay, next_seat, note_call, store};
 use smp_call_steps::known::Setting;
 use smp_call_steps::post::Posting;
@@ -71,20 +71,20 @@ impl<A: Allocator> Model for CallTable<A> {
 
     ghost Value = { TableValue };
 
-    ghost view = { λ t. record { table = t.owner.shared.table_id; nr = t.nr; online = t.online } };
+    ghost view = { λ t. record { table = t.owner.table.shared.table_id; nr = t.nr; online = t.online } };
 
-    ghost invariant = { λ t. IsTable t.owner.shared.table_id t.owner.shared.key t.nr t.online };
+    ghost invariant = { λ t. IsTable t.owner.table.shared.table_id t.owner.table.shared.key t.nr t.online };
 }
 
 /// The CPU of this number, where it is online; else it gets no seat.
-fn cpu_if(words: &Words, maker: &mut SeatMaker, number: u32, is_online: bool) -> Option<CallCpu>
-    requires table { (maker.old.raw.table_id ≡ words.now.table_id) × (words.now.table_id.words ≡ cells) }
-    requires come { HasComeTo maker.old.raw.me.0 words.now.key number }
-    requires below { (number < words.now.key.nr) × (number < cpus) }
-    requires online { is_online ≡ has words.now.key.online number }
-    ensures table { maker.new.raw.table_id ≡ words.now.table_id }
-    ensures come { HasComeTo maker.new.raw.me.0 words.now.key (number + 1) }
-    ensures cpu { result ≡ if is_online then Some (fresh_cpu (table_with words.now.table_id words.now.key) number) else None }
+fn cpu_if(words: Words, maker: &mut SeatMaker, number: u32, is_online: bool) -> Option<CallCpu>
+    requires table { (maker.old.raw.table_id ≡ words.shared.now.table_id) × (words.shared.now.table_id.words ≡ cells) }
+    requires come { HasComeTo maker.old.raw.me.0 words.shared.now.key number }
+    requires below { (number < words.shared.now.key.nr) × (number < cpus) }
+    requires online { is_online ≡ has words.shared.now.key.online number }
+    ensures table { maker.new.raw.table_id ≡ words.entry.shared.now.table_id }
+    ensures come { HasComeTo maker.new.raw.me.0 words.entry.shared.now.key (number + 1) }
+    ensures cpu { result ≡ if is_online then Some (fresh_cpu (table_with words.entry.shared.now.table_id words.entry.shared.now.key) number) else None }
 {
     if !is_online {
         return None;
@@ -108,7 +108,7 @@ where
     let (owner, mut maker) = lay(alloc, &Setting { nr, online })?;
     for number in 0..nr {
         let is_online = online.contains(number);
-        waiting.push(cpu_if(&owner.shared, &mut maker, number, is_online))?;
+        waiting.push(cpu_if(owner.words(), &mut maker, number, is_online))?;
     }
     let table = CallTable { owner, nr, online };
     let boot = Boot {
@@ -165,7 +165,7 @@ impl<A: Allocator> CallTable<A> {
             return Err(SmpError::BadArgument);
         }
         let id = record_of(me.number, k);
-        let locked = is_locked(&self.owner.shared, &mut me.seat, id);
+        let locked = is_locked(self.owner.words(), &mut me.seat, id);
         me.is_shown();
         Ok(!locked)
     }
@@ -201,7 +201,7 @@ impl<A: Allocator> CallTable<A> {
         if !self.online.contains(to) {
             return Err(SmpError::NoCpu);
         }
-        store(&self.owner.shared, &mut me.seat, Word::Intr(to), 1);
+        store(self.owner.words(), &mut me.seat, Word::Intr(to), 1);
         me.is_shown();
         Ok(())
     }
@@ -226,7 +226,7 @@ impl<A: Allocator> CallTable<A> {
             return Err(error);
         }
         let id = record_of(me.number, k);
-        if is_locked(&self.owner.shared, &mut me.seat, id) {
+        if is_locked(self.owner.words(), &mut me.seat, id) {
             return Err(SmpError::Busy);
         }
         if !self.online.contains(to) {
@@ -269,9 +269,9 @@ impl<A: Allocator> CallTable<A> {
         ensures within { IfOk result (λ _. me.new.tried ≤ me.old.tried + tries) }
     {
         let posting = self.begin_post(me, k, to, class, func, info, tries)?;
-        write_record(&self.owner.shared, &mut me.seat, &posting);
+        write_record(self.owner.words(), &mut me.seat, &posting);
         let queued = me.queued[to as usize];
-        let words = &self.owner.shared;
+        let words = self.owner.words();
         match append(words, &mut me.seat, &posting, me.number, queued, tries) {
             Some(first) => {
                 me.queued[to as usize] = queued.wrapping_add(1);
@@ -301,9 +301,9 @@ impl<A: Allocator> CallTable<A> {
         ensures queued { IfErr result (λ e. e ≢ SmpError.Contended) }
     {
         let posting = self.begin_post(me, k, to, class, func, info, 1)?;
-        write_record(&self.owner.shared, &mut me.seat, &posting);
+        write_record(self.owner.words(), &mut me.seat, &posting);
         let queued = me.queued[to as usize];
-        let words = &self.owner.shared;
+        let words = self.owner.words();
         let first = append_until_won(rt, words, &mut me.seat, &posting, me.number, queued);
         me.queued[to as usize] = queued.wrapping_add(1);
         Ok(first)
@@ -321,7 +321,7 @@ impl<A: Allocator> CallTable<A> {
         ensures laws { IsShown me.new }
     {
         let own = record_of(me.number, 0);
-        note_call(&self.owner.shared, &mut me.seat, Word::Flags(own));
+        note_call(self.owner.words(), &mut me.seat, Word::Flags(own));
         handler.call(me.number, func, info);
         me.is_shown();
     }
@@ -339,7 +339,7 @@ impl<A: Allocator> CallTable<A> {
         ensures idle { result.interrupted ≡ false → (me.new ≡ asks false me.old) × (handler.new ≡ handler.old) × (result.ran ≡ 0) }
         ensures laws { IsShown me.new }
     {
-        let words = &self.owner.shared;
+        let words = self.owner.words();
         let handled = handle(words, &mut me.seat, me.number, &mut me.ran, handler);
         me.is_shown();
         handled
