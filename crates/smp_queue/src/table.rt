@@ -30,6 +30,7 @@ ghost use Rattle.smp_words.specs.declared.call.Call.{Call};
 ghost use Rattle.smp_queue.specs.Handling.{Grows, asks, drains, heard};
 ghost use Rattle.smp_queue.specs.Laws.{IsShown};
 ghost use Rattle.smp_queue.specs.Posted.{ShowsThat, IsFree, IsMarked, call_by};
+ghost use Rattle.smp_queue.specs.Empty.{BeginsEmpty};
 ghost use Rattle.smp_queue.specs.Cells.{cells};
 ghost use Rattle.smp_queue.specs.Rule.{HasComeTo};
 ghost use Rattle.smp_queue.specs.Cpu.{TableValue, IsFull, fresh_cpu, table_with, PostAnswers, BeginAnswers, confirmed_at, confirms, looks, sends, notes_call};
@@ -120,13 +121,16 @@ where
 }
 
 impl<A: Allocator> CallTable<A> {
-    /// A table of `nr` CPUs with no calls, and those of its CPUs that are online, each to be handed out once.
+    /// A table of `nr` CPUs with no calls, and those of its CPUs that are online, each to be handed out once. Each CPU has done
+    /// nothing, and one that is not online never will. In whatever words show calls of such CPUs, all queues are empty, no CPU
+    /// has a call to run, and all records are free.
     /// E4 where `nr` is not 1 to `NR_CPUS`, no CPU is online, or one that is online is not below `nr`; E6 where
     /// a growth is refused. It takes effect at no step, since no thread shares the table yet, and does not wait.
     pub fn new(alloc: A, nr: u32, online: CpuMask) -> Result<(CallTable<A>, Boot<A>), SmpError>
     where
         A: Copy,
         ensures ok { IfOk result (λ t. (t.0.nr ≡ nr) × (t.0.online ≡ online) × IsFull t.1 t.0) }
+        ensures empty { IfOk result (λ t. BeginsEmpty t.0) }
         ensures limits { OnOk result (AreLimits nr online) }
         ensures refused { IsErrOf result SmpError.BadArgument ↔ (¬ (AreLimits nr online)) }
         ensures only { IfErr result (λ e. (e ≡ SmpError.BadArgument) ⊎ (e ≡ SmpError.NoMemory)) }
