@@ -10,14 +10,19 @@ use std::collections::LinkedList;
 /// What a table is made with: how many CPUs it has, and those online.
 #[derive(Clone, Copy)]
 pub struct Setting {
+    /// How many CPUs it has.
     pub nr: u32,
+    /// Those of them that are online.
     pub online: CpuMask,
 }
 
 /// A call that was queued, where it went, and whether the queue was empty.
 pub struct Sending {
+    /// The call.
     pub call: Call,
+    /// The CPU in whose queue it was put.
     pub to: u32,
+    /// Whether that queue was empty.
     pub is_first: bool,
 }
 
@@ -42,6 +47,7 @@ pub enum HeadSeen {
 
 /// The call that a CPU runs.
 pub enum Running {
+    /// None.
     Nothing,
     /// A SYNC call, whose record is locked until it ends.
     SyncCall(Call),
@@ -59,6 +65,7 @@ pub struct Part {
     pub taken: LinkedList<LinkedList<Call>>,
     /// What is left to run of the last batch.
     pub batch: LinkedList<Call>,
+    /// The call that it runs.
     pub running: Running,
     /// The calls that it has run.
     pub ran: LinkedList<Call>,
@@ -75,10 +82,15 @@ pub struct Part {
 /// What a CPU knows: what its table is made with, where it stands, as far as its steps have told, its own part of the
 /// calls, and what it has done to other CPUs.
 pub struct Known {
+    /// What its table is made with.
     pub setting: Setting,
+    /// The CPU's number.
     pub number: u32,
+    /// The step that it makes next, or none outside a command.
     pub stage: Option<Stage>,
+    /// How many calls it has reversed of its batch.
     pub drain: Drain,
+    /// Its own part of the calls.
     pub part: Part,
     /// How many compare-exchanges of heads it has made, won and lost.
     pub tried: u64,

@@ -124,8 +124,8 @@ impl<A: Allocator> CallTable<A> {
     /// A table of `nr` CPUs with no calls, and those of its CPUs that are online, each to be handed out once. Each CPU has done
     /// nothing, and one that is not online never will. In whatever words show calls of such CPUs, all queues are empty, no CPU
     /// has a call to run, and all records are free.
-    /// E4 where `nr` is not 1 to `NR_CPUS`, no CPU is online, or one that is online is not below `nr`; E6 where
-    /// a growth is refused. It takes effect at no step, since no thread shares the table yet, and does not wait.
+    /// E4 (`SmpError::BadArgument`) where `nr` is not 1 to `NR_CPUS`, no CPU is online, or one that is online is not below
+    /// `nr`; E6 (`SmpError::NoMemory`) where a growth is refused. It takes effect at no step, since no thread shares the table yet, and does not wait.
     pub fn new(alloc: A, nr: u32, online: CpuMask) -> Result<(CallTable<A>, Boot<A>), SmpError>
     where
         A: Copy,
@@ -154,7 +154,7 @@ impl<A: Allocator> CallTable<A> {
 
     /// Whether the record of this local number is unlocked, as it is when its last call was run or given up, or
     /// it was never used (one turn of `kernel/smp.c: csd_lock_wait`). A record that is unlocked is confirmed.
-    /// E4 where there is no such record.
+    /// E4 (`SmpError::BadArgument`) where there is no such record.
     ///
     /// It takes effect at its one step, the load of the record's flags, and does not wait; a record that is queued is
     /// unlocked only if the target of its call polls.
@@ -192,7 +192,7 @@ impl<A: Allocator> CallTable<A> {
     }
 
     /// Sends an interrupt to a CPU, which then takes its queue (`arch_send_call_function_single_ipi`). One that
-    /// is not owed does no harm. E1 where the CPU is not online.
+    /// is not owed does no harm. E1 (`SmpError::NoCpu`) where the CPU is not online.
     ///
     /// The interrupt is pending at its one step, the store of the interrupt word; it does not wait, and the CPU that is
     /// sent to must poll to take it.
@@ -249,10 +249,10 @@ impl<A: Allocator> CallTable<A> {
 
     /// Queues one call by the CPU's record `k`, and answers whether an interrupt is owed, since the queue was
     /// empty; queued at the compare-exchange (`kernel/smp.c: generic_exec_single`). `tries` counts
-    /// compare-exchanges, each of which expects the number that was found in the head last. E4 where `k` is no
-    /// record, `tries` is 0, `to` is the own CPU or the record may not carry such a call; then E2 where the record
-    /// is locked; then E1 where `to` is not online; then E5 where the tries are used up: then nothing is queued, and
-    /// the record is free again.
+    /// compare-exchanges, each of which expects the number that was found in the head last. E4 (`SmpError::BadArgument`)
+    /// where `k` is no record, `tries` is 0, `to` is the own CPU or the record may not carry such a call; then E2
+    /// (`SmpError::Busy`) where the record is locked; then E1 (`SmpError::NoCpu`) where `to` is not online; then E5
+    /// (`SmpError::Contended`) where the tries are used up: then nothing is queued, and the record is free again.
     ///
     /// The call is queued at the compare-exchange that wins; it makes no more than `tries` of these and does not wait,
     /// and `to` must poll for the call to run.
@@ -285,7 +285,7 @@ impl<A: Allocator> CallTable<A> {
         }
     }
 
-    /// As `post_within`, but tries until its call is queued: it never answers E5. It pauses between two tries.
+    /// As `post_within`, but tries until its call is queued: it never answers E5 (`SmpError::Contended`). It pauses between two tries.
     ///
     /// The call is queued at the compare-exchange that wins; it may wait, but only while other CPUs change the same head
     /// before each of its tries, for which nobody must poll, and `to` must poll for the call to run.
