@@ -1,7 +1,6 @@
 -- What a command's steps take from the command, and how it ends.
-use Rattle.std.specs.Prelude.{◌≡◌, ◌≢◌, ◌⊎◌, ℕ, ◌<◌, ◌+◌, ◌-◌, ◌++◌, [], ◌∷◌, Option, Some, None}
+use Rattle.std.specs.Prelude.{◌≡◌, ◌≢◌, ◌⊎◌, ℕ, ◌<◌, ◌-◌, ◌++◌, [], ◌∷◌, Option, Some, None}
 use Rattle.smp_mask.specs.Mask.{has}
-use Rattle.smp_words.specs.Access.{word_of}
 use Rattle.smp_words.specs.Size.{record_of}
 use Rattle.smp_words.specs.declared.command.Command.{Command}
 use Rattle.smp_words.specs.declared.command.Command.TheVariants as command
@@ -11,7 +10,7 @@ use Rattle.smp_call_steps.specs.Posts.{post_outcome}
 use Rattle.smp_call_steps.specs.Stages.{access_of, outcome_of}
 use Rattle.smp_call_steps.specs.Start.{first_stage}
 use Rattle.smp_call_steps.specs.StepLaws.{OfEachStep, seen_then}
-use Rattle.smp_call_steps.specs.Names.{Word, Head, Intr, Hand, Flags, Access, Load, Store, Note, Posting, PostStage, Outcome, Stage, Post}
+use Rattle.smp_call_steps.specs.Names.{Word, Head, Intr, Hand, Flags, Access, Load, Store, Note, Posting, PostStage, Stage, Post}
 use Rattle.smp_call_steps.specs.Names.note
 use Rattle.smp_call_steps.specs.Names.post
 

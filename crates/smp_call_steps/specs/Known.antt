@@ -59,7 +59,7 @@ pub record Sees (a : CallState) (control : ℕ → ControlValue) (v : Known) : T
 
 -- a CPU that has done nothing yet
 abbrev pub fresh : Setting → ℕ → Known
-fresh k me = record { setting = k; number = me; stage = None; drain = no_drain; part = part_of no_calls me; tried = 0; heads = []; log = []; steps = 0 }
+fresh k me = record { setting = k; number = me; stage = None; drain = no_drain; part = part_of no_calls me; tried = 0; heads = []; log = []; steps = 0; sent_at = 0; asked_at = 0 }
 
 -- what follows a step of a post, as the step tells it
 
@@ -140,6 +140,12 @@ steps_after (Some (Handle stage)) w n = n
 steps_after s (Hand cpu) n = n
 steps_after s w n = n + 1
 
+-- what it counted when it last sent something, after a step by which it counts this now
+abbrev pub sent_after : Act → Word → Option ℕ → ℕ → ℕ → ℕ
+sent_after act.Cas (Head to) (Some n) now before = now
+sent_after act.Store (Intr to) put now before = now
+sent_after _ w put now before = before
+
 -- what a CPU knows after a step of its own; a swap of the head takes this queue
 abbrev pub known_taking : List Call → Known → Act → Word → Option ℕ → Option ℕ → Known
 known_taking queue v act w found put = record v {
@@ -150,6 +156,8 @@ known_taking queue v act w found put = record v {
   heads = heads_after act w found v.stage v.heads;
   log = log_after act w put v.log;
   steps = steps_after v.stage w v.steps;
+  sent_at = sent_after act w put (steps_after v.stage w v.steps) v.sent_at;
+  asked_at = sent_after act w put (length v.part.asked) v.asked_at;
 }
 
 -- the same of a step that takes no queue
@@ -259,7 +267,13 @@ queued_known call to first link v = record v {
   heads = v.heads ++ head.Exchanged link link ∷ [];
   log = v.log ++ logged.Queued to ∷ [];
   steps = v.steps + 2;
+  sent_at = v.steps + 2;
+  asked_at = length v.part.asked;
 }
+
+-- a CPU that has noted a direct call, by one step of which nothing else is told
+abbrev pub noted_known : Known → Known
+noted_known v = record v { log = v.log ++ logged.Called v.steps (length v.part.asked) ∷ []; steps = v.steps + 1 }
 
 -- whether it has seen its record confirmed
 abbrev pub is_confirmed : Known → ℕ → Bool

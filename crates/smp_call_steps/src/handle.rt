@@ -51,16 +51,19 @@ pub enum HandleStage {
         walk: Walk,
         id: u32,
     },
+    /// Load the record's flags, which have its class.
     LoadFlags {
         walk: Walk,
         id: u32,
         next: Option<u32>,
     },
+    /// Load the function of a SYNC call.
     LoadFunc {
         walk: Walk,
         id: u32,
         next: Option<u32>,
     },
+    /// Load its info.
     LoadInfo {
         walk: Walk,
         id: u32,
@@ -80,6 +83,7 @@ pub enum HandleStage {
         call: Call,
         next: Option<u32>,
     },
+    /// Store one more in the tally of calls from its source, once its function has run.
     CountSync {
         walk: Walk,
         call: Call,
@@ -95,10 +99,12 @@ pub enum HandleStage {
     AsyncNext {
         id: u32,
     },
+    /// Load the function of an ASYNC call.
     AsyncFunc {
         id: u32,
         next: Option<u32>,
     },
+    /// Load its info.
     AsyncInfo {
         id: u32,
         next: Option<u32>,
@@ -109,6 +115,7 @@ pub enum HandleStage {
         call: Call,
         next: Option<u32>,
     },
+    /// Store one more in the tally of calls from its source, once its function has run.
     CountAsync {
         call: Call,
         next: Option<u32>,

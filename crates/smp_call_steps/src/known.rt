@@ -10,23 +10,31 @@ use std::collections::LinkedList;
 /// What a table is made with: how many CPUs it has, and those online.
 #[derive(Clone, Copy)]
 pub struct Setting {
+    /// How many CPUs it has.
     pub nr: u32,
+    /// Those of them that are online.
     pub online: CpuMask,
 }
 
 /// A call that was queued, where it went, and whether the queue was empty.
 pub struct Sending {
+    /// The call.
     pub call: Call,
+    /// The CPU in whose queue it was put.
     pub to: u32,
+    /// Whether that queue was empty.
     pub is_first: bool,
 }
 
-/// What a CPU has sent to another one.
+/// What a CPU has sent to another one, or has run itself with no queue.
 pub enum Logged {
     /// A call, into this CPU's queue.
     Queued(u32),
     /// An interrupt, to this CPU.
     Interrupted(u32),
+    /// A direct call: how many steps outside `handle` the CPU had made by then, and how often it had taken its interrupt
+    /// word.
+    Called { steps: u64, asked: u64 },
 }
 
 /// What a CPU has seen of a head.
@@ -39,6 +47,7 @@ pub enum HeadSeen {
 
 /// The call that a CPU runs.
 pub enum Running {
+    /// None.
     Nothing,
     /// A SYNC call, whose record is locked until it ends.
     SyncCall(Call),
@@ -56,6 +65,7 @@ pub struct Part {
     pub taken: LinkedList<LinkedList<Call>>,
     /// What is left to run of the last batch.
     pub batch: LinkedList<Call>,
+    /// The call that it runs.
     pub running: Running,
     /// The calls that it has run.
     pub ran: LinkedList<Call>,
@@ -72,17 +82,27 @@ pub struct Part {
 /// What a CPU knows: what its table is made with, where it stands, as far as its steps have told, its own part of the
 /// calls, and what it has done to other CPUs.
 pub struct Known {
+    /// What its table is made with.
     pub setting: Setting,
+    /// The CPU's number.
     pub number: u32,
+    /// The step that it makes next, or none outside a command.
     pub stage: Option<Stage>,
+    /// How many calls it has reversed of its batch.
     pub drain: Drain,
+    /// Its own part of the calls.
     pub part: Part,
     /// How many compare-exchanges of heads it has made, won and lost.
     pub tried: u64,
     /// What its posts have found in heads, by loads and by compare-exchanges, in order.
     pub heads: LinkedList<HeadSeen>,
-    /// The calls that it has queued and the interrupts that it has sent, in the order in which it did so.
+    /// The calls that it has queued, the interrupts that it has sent and its direct calls that were noted, in the order in
+    /// which it did so.
     pub log: LinkedList<Logged>,
     /// How many steps it has made outside `handle`.
     pub steps: u64,
+    /// How many of these it had made when it last queued a call or sent an interrupt, that step included.
+    pub sent_at: u64,
+    /// How often it had taken its interrupt word by then.
+    pub asked_at: u64,
 }

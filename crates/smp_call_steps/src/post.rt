@@ -18,10 +18,15 @@ use smp_words::word::Word;
 pub struct Posting {
     /// The record.
     pub id: u32,
+    /// The CPU that it is for.
     pub to: u32,
+    /// Whether that CPU is online.
     pub is_online: bool,
+    /// When the record is unlocked: after the function has run, or before.
     pub class: Class,
+    /// The function's number.
     pub func: u16,
+    /// What the function is told.
     pub info: u64,
     /// How many compare-exchanges may be tried.
     pub tries: u32,
@@ -31,15 +36,25 @@ pub struct Posting {
 /// compare-exchanges are left.
 #[derive(Clone, Copy, PartialEq, Eq)]
 pub enum PostStage {
+    /// Load the record's flags.
     LoadFlags,
+    /// Store LOCK and the class in them.
     Lock,
+    /// Store the function in the record.
     StoreFunc,
+    /// Store its info there.
     StoreInfo,
+    /// Store one more in the tally of calls to that CPU.
     Count,
+    /// Load that CPU's head.
     LoadHead,
+    /// Link the record to what was found.
     StoreNext { link: u64, tries: u32 },
+    /// Exchange the head for the record, where it is that number still.
     Exchange { link: u64, tries: u32 },
+    /// All tries are lost: store one less in the tally.
     Uncount,
+    /// Unlock the record.
     Release,
 }
 

@@ -17,14 +17,18 @@ pub enum Stage {
     Send(u32),
     /// Load the flags of this record.
     Done(u32),
+    /// A step of queueing this call.
     Post(Posting, PostStage),
+    /// A step of handling.
     Handle(HandleStage),
 }
 
 /// What a step leads to: the stage after it, or none where the command has ended, and its note.
 #[derive(Clone, Copy)]
 pub struct Outcome {
+    /// The stage after it.
     pub next: Option<Stage>,
+    /// What the step says.
     pub note: Option<Note>,
 }
 

@@ -1,18 +1,18 @@
 -- A call to many, out of its parts.
-use Rattle.std.proofs.Common.{◌≡◌, ℕ, ◌<◌, ◌==◌, ◌||◌, ◌&&◌, not, Bool, true, false, cond, Option, Some, None, List, refl, sym, ap, ◌∙◌, arith}
+use Rattle.std.proofs.Common.{◌≡◌, ℕ, ◌<◌, ◌==◌, ◌||◌, ◌&&◌, not, Bool, true, false, cond, Option, Some, None, List, [], subst, refl, sym, ap, ◌∙◌, arith}
 use Rattle.std.proofs.lemmas.Bool.{cases_eq, ne_eqb, eq-eqb}
 use Rattle.std.proofs.lemmas.Bool.Decides.{nat_tests}
 use Rattle.smp_mask.specs.Mask.{has, members}
 use Rattle.smp_mask.specs.declared.mask.TheConstants.{NR_CPUS}
 use Rattle.smp_words.specs.Size.{cpus, record_of}
 use Rattle.smp_words.specs.declared.call.Class.{Class}
-use Rattle.smp_queue.specs.Cpu.{CpuValue, confirmed_at}
+use Rattle.smp_queue.specs.Cpu.{CpuValue, confirmed_at, notes_call}
 use Rattle.smp_queue.specs.declared.handler.Heard.{Heard}
-use Rattle.smp_calls.specs.Families.{CallsMany, owes_at}
+use Rattle.smp_calls.specs.Families.{CallsMany, IsLast, Leaves, owes_at}
 use Rattle.smp_calls.specs.Queued.{is_first_to, is_used}
 use Rattle.smp_calls.specs.Records.{many_call}
 use Rattle.smp_calls.specs.Targets.{is_target, remote}
-use Rattle.smp_calls.specs.Rounds.{Picks, WaitsFor, HearsIf, is_many}
+use Rattle.smp_calls.specs.Rounds.{Picks, WaitsFor, HearsIf, is_many, noted_if}
 use Rattle.smp_calls.proofs.Steps.{leaves_none, leaves_as, leaves_then, leaves_last}
 use Rattle.smp_calls.proofs.One.{and_true, and_false, or_false}
 use Rattle.smp_calls.proofs.Lists.{filter_members, agreeing}
@@ -110,6 +110,7 @@ module _ {H : Type 0} (leads : H → Heard → H → Type 0) where
           called = c.called;
           ended = c.ended;
           first = c.first;
+          at_once = c.at_once;
           here = c.here;
           later = leaves_as leads (owes_at c.middle) (λ k. (wait && is_used call (record_of old.number k) f.0) || confirmed_at c.middle k)
               (leaves_then leads c.later w) c.later.owes_are
@@ -120,9 +121,23 @@ module _ {H : Type 0} (leads : H → Heard → H → Type 0) where
         },
       )
 
-  -- a direct call, if any, after the queueing
-  pub calls_then_here : (old mid : CpuValue) (before m after : H) (class : Class) (func info : ℕ) (to : List ℕ) (here : Option Heard) →
-      CallsMany leads old before mid m to class func info None false → HearsIf leads m here after →
-      CallsMany leads old before mid after to class func info here false
-  calls_then_here old mid before m after class func info to None f e = search arith
-  calls_then_here old mid before m after class func info to (Some heard) f call = search leaves_none
+  -- a direct call, if any, right after the queueing
+  pub calls_then_here : (old mid new : CpuValue) (before m after : H) (class : Class) (func info : ℕ) (to : List ℕ) (here : Option Heard) →
+      CallsMany leads old before mid m to class func info None false → IsLast old mid to → HearsIf leads m here after → new ≡ noted_if here mid →
+      CallsMany leads old before new after to class func info here false
+  calls_then_here old mid new before m after class func info to None f last e noted = search arith
+  calls_then_here old mid new before m after class func info to (Some heard) f last call noted = (
+    f.0,
+    f.1,
+    record {
+      middle = mid;
+      called = m;
+      ended = after;
+      first = f.2;
+      at_once = subst (λ (xs : List ℕ). IsLast old mid xs) (sym f.1) last;
+      here = call;
+      later = subst (λ (x : CpuValue). Leaves leads (notes_call mid) after x after [] [] (owes_at mid)
+          (λ k. (false && is_used (many_call old.number class func info) (record_of old.number k) f.0) || confirmed_at mid k)) (sym noted)
+          (leaves_none leads (notes_call mid) after);
+    },
+  )

@@ -1,5 +1,5 @@
 -- The loops that send an interrupt to each of many CPUs, and that wait for the record of each.
-use Rattle.std.proofs.Common.{arith, ◌≡◌, length-set, length-append, ℕ, ◌+◌, ◌<◌, ◌==◌, ◌||◌, ◌&&◌, not, Bool, true, false, List, [], ◌∷◌, ◌++◌, append_assoc, set, get_or, refl}
+use Rattle.std.proofs.Common.{arith, ◌≡◌, length, length-set, length-append, ℕ, ◌+◌, ◌<◌, ◌==◌, ◌||◌, ◌&&◌, not, Bool, true, false, List, [], ◌∷◌, ◌++◌, append_assoc, set, get_or, refl}
 use Rattle.std.proofs.Common.{sym, ap, ◌∙◌}
 use Rattle.std.proofs.lemmas.Bool.{cases_eq, ne_eqb, eq-eqb}
 use Rattle.std.proofs.lemmas.List.{append-nil, get_or-set_other}
@@ -9,10 +9,10 @@ use Rattle.smp_words.specs.Size.{records_of_one, record_of}
 use Rattle.smp_queue.specs.Cpu.{CpuValue, confirmed_at, sends}
 use Rattle.smp_call_steps.specs.declared.known.Logged.{Logged}
 use Rattle.smp_queue.specs.declared.handler.Heard.{Heard}
-use Rattle.smp_calls.specs.Families.{Leaves, owes_at}
-use Rattle.smp_calls.specs.Queued.{interrupts_to}
+use Rattle.smp_calls.specs.Families.{Leaves, IsLast, owes_at}
+use Rattle.smp_calls.specs.Queued.{Queued, destinations, firsts, interrupts_to}
 use Rattle.smp_calls.specs.Records.{many_record}
-use Rattle.smp_calls.specs.Rounds.{Sends, WaitsFor, is_many}
+use Rattle.smp_calls.specs.Rounds.{Sends, WaitsFor, is_many, last_of}
 use Rattle.smp_calls.proofs.Steps.{leaves_none, leaves_as, leaves_then}
 use Rattle.smp_calls.proofs.One.{and_true, or_false, same_record, set_false}
 use Rattle.smp_calls.proofs.Round.{is_in-append, is_by-append}
@@ -59,6 +59,11 @@ interrupts_to-push (y ∷ ys) x = ap (λ (zs : List Logged). logged.Interrupted 
 interrupts_to-more : (log : List Logged) (xs : List ℕ) (x : ℕ) → (log ++ interrupts_to xs) ++ logged.Interrupted x ∷ [] ≡ log ++ interrupts_to (xs ++ x ∷ [])
 interrupts_to-more log xs x = search (append_assoc, interrupts_to-push)
 
+-- once one more was sent, it is the last
+last_of-push : (xs : List ℕ) (x now before : ℕ) → last_of (xs ++ x ∷ []) now before ≡ now
+last_of-push [] x now before = refl
+last_of-push (y ∷ ys) x now before = refl
+
 all_in : (o i : Bool) → false ≡ (o && not (i || true))
 all_in true true = refl
 all_in true false = refl
@@ -69,7 +74,18 @@ owed_after : (owes : List Bool) (cpu c : ℕ) (o i : Bool) → get_or owes c fal
 owed_after owes cpu c o i e = search (cases_eq, eq-eqb, set_false, all_in, ne_eqb, get_or-set_other, or_false, arith)
 
 pub sends_more : (old mid new : CpuValue) (cpu : ℕ) (xs : List ℕ) → Sends old mid xs → new ≡ sends cpu mid → Sends old new (xs ++ cpu ∷ [])
-sends_more old mid new cpu xs s e = search (interrupts_to-more, length-append, length-set, owed_after, is_in-append, arith)
+sends_more old mid new cpu xs s e = search (interrupts_to-more, last_of-push, length-append, length-set, owed_after, is_in-append, arith)
+
+-- what was sent last, once interrupts are sent for calls that were queued
+last_sent : (old mid new : CpuValue) (sent : List ℕ) → (mid.steps ≡ mid.sent_at) × (length mid.part.asked ≡ mid.asked_at) → Sends mid new sent
+    → (new.steps ≡ new.sent_at) × (length new.part.asked ≡ new.asked_at)
+last_sent old mid new [] last s = search (s, arith)
+last_sent old mid new (x ∷ xs) last s = search (s, arith)
+
+pub queued_and_sent : (old mid new : CpuValue) (queued : List Queued) → IsLast old mid (destinations queued) → Sends mid new (firsts queued)
+    → IsLast old new (destinations queued)
+queued_and_sent old mid new [] last s = search (s, arith)
+queued_and_sent old mid new (q ∷ qs) last s = last_sent old mid new (firsts (q ∷ qs)) last s
 
 -- ---- waiting
 

@@ -11,7 +11,7 @@ use Rattle.smp_call_steps.specs.declared.known.Logged.{Logged}
 use Rattle.smp_call_steps.specs.Heads.{Found}
 use Rattle.smp_queue.specs.Cpu.{CpuValue, confirmed_at, posts}
 use Rattle.smp_queue.specs.declared.handler.Heard.{Heard}
-use Rattle.smp_calls.specs.Families.{IsSized, Leaves, owes_at}
+use Rattle.smp_calls.specs.Families.{IsSized, Leaves, IsLast, owes_at}
 use Rattle.smp_calls.specs.Queued.{Queued, destinations, firsts, sendings, calls_to, is_in, is_first_to, is_by, is_used}
 use Rattle.smp_calls.specs.Records.{many_call, many_record}
 use Rattle.smp_calls.specs.Rounds.{only_if, Queues}
@@ -91,9 +91,21 @@ first_one : (a b : Bool) → (a || b) ≡ true → b ≡ false → a ≡ true
 first_one true b e n = refl
 first_one false b e n = cc
 
+-- one after the other, to the last of both
+last_then : (old mid new : CpuValue) (xs ys : List ℕ) → IsLast old mid xs → IsLast mid new ys → IsLast old new (xs ++ ys)
+last_then old mid new [] [] f g = (g.0 ∙ f.0, g.1 ∙ f.1, g.2 ∙ f.2, g.3 ∙ f.3)
+last_then old mid new (x ∷ xs) [] f g = (g.0 ∙ (f.0 ∙ sym g.2), g.1 ∙ (f.1 ∙ sym g.3))
+last_then old mid new [] (y ∷ ys) f g = g
+last_then old mid new (x ∷ xs) (y ∷ ys) f g = g
+
+last_both : (old mid new : CpuValue) (xs ys : List Queued) → IsLast old mid (destinations xs) → IsLast mid new (destinations ys)
+    → IsLast old new (destinations (xs ++ ys))
+last_both old mid new xs ys f g = subst (λ (zs : List ℕ). IsLast old new zs) (sym (destinations-append xs ys))
+    (last_then old mid new (destinations xs) (destinations ys) f g)
+
 module _ {H : Type 0} (leads : H → Heard → H → Type 0) where
   pub queues_none : (c : CpuValue) (h : H) (call : ℕ → Call) → Queues leads c h c h call []
-  queues_none c h call = record { leaves = leaves_none leads c h; kept = λ x e. refl; due = λ x e l. cc }
+  queues_none c h call = record { leaves = leaves_none leads c h; kept = λ x e. refl; due = λ x e l. cc; last = (refl, refl, refl, refl) }
 
   -- the step of a post alone
   queues_post : (c : CpuValue) (h : H) (to : ℕ) (class : Class) (func info : ℕ) (first : Bool) (found : Found) → IsSized c → many_record to < records_of_one →
@@ -110,7 +122,7 @@ module _ {H : Type 0} (leads : H → Heard → H → Type 0) where
       (λ k. cond (is_used call (record_of mid.number k) ys) false (confirmed_at mid k))) (sym (sendings-append call xs ys))
       (subst (λ (log : List Logged). Leaves leads old before new after (sendings call xs ++ sendings call ys) log (owes_at new)
       (λ k. cond (is_used call (record_of mid.number k) ys) false (confirmed_at mid k))) (calls_to-both xs ys) both) in
-      search (leaves_as, as_one, cond_both, destinations-append, is_by-append, or_parts, firsts-append, is_in-append, cases_Bool, first_one, arith)
+      search (leaves_as, as_one, last_both, cond_both, destinations-append, is_by-append, or_parts, firsts-append, is_in-append, cases_Bool, first_one, arith)
 
   -- the record was waited for before
   pub queues_one : {old mid new : CpuValue} {before m : H} (k to : ℕ) (class : Class) (func info : ℕ) (asked first : Bool) (found : Found) → asked ≡ true
@@ -138,5 +150,6 @@ module _ {H : Type 0} (leads : H → Heard → H → Type 0) where
           leaves = search (leaves_as, one_queued, by_case, other_record, arith);
           kept = λ c none. posted.kept c none ∙ f.owes_are c;
           due = λ c it below. posted.due c it (subst (λ (n : ℕ). c < n) (sym f.owes_sized) below);
+          last = posted.last;
         },
       )

@@ -1,5 +1,5 @@
 -- What one step of a call leaves, and one step after the other.
-use Rattle.std.proofs.Common.{◌≡◌, ℕ, ◌<◌, ◌==◌, ◌||◌, Bool, true, false, List, [], ◌++◌, append_assoc, length, length-append, length-set, slice_index_or}
+use Rattle.std.proofs.Common.{◌≡◌, ℕ, ◌<◌, ◌==◌, ◌||◌, Bool, true, false, List, [], ◌∷◌, ◌++◌, append_assoc, length, length-append, length-set, slice_index_or}
 use Rattle.std.proofs.Common.{slice_set, refl, sym, ap, ◌∙◌, subst, arith}
 use Rattle.std.proofs.lemmas.List.{append-nil, get_or-set_same, get_or-set_other}
 use Rattle.std.proofs.lemmas.Bool.{cases_eq, ne_eqb, eq-eqb}
@@ -32,6 +32,14 @@ set_else c i j b other = get_or-set_other c.part.confirmed i j b false other
 pub confirms_at : (c : CpuValue) (k j : ℕ) → IsSized c → k < records_of_one → j < records_of_one → confirmed_at (confirms k c) j ≡ (j == k || confirmed_at c j)
 confirms_at c k j s l b = search (cases_eq, eq-eqb, set_here, ne_eqb, set_else, one_local, arith)
 
+-- where a CPU has logged nothing, twice, its last call or interrupt is the same
+still_then : (old mid new : CpuValue) (x y : List Logged) → (x ≡ [] → (mid.sent_at ≡ old.sent_at) × (mid.asked_at ≡ old.asked_at))
+    → (y ≡ [] → (new.sent_at ≡ mid.sent_at) × (new.asked_at ≡ mid.asked_at)) → x ++ y ≡ []
+    → (new.sent_at ≡ old.sent_at) × (new.asked_at ≡ old.asked_at)
+still_then old mid new [] [] f g e = ((g refl).0 ∙ (f refl).0, (g refl).1 ∙ (f refl).1)
+still_then old mid new [] (z ∷ zs) f g e = cc
+still_then old mid new (z ∷ zs) y f g e = cc
+
 module _ {H : Type 0} (leads : H → Heard → H → Type 0) where
   pub leaves_none : (c : CpuValue) (h : H) → Leaves leads c h c h [] [] (owes_at c) (confirmed_at c)
   leaves_none c h = search (append-nil, handles_none, arith)
@@ -44,7 +52,9 @@ module _ {H : Type 0} (leads : H → Heard → H → Type 0) where
 
   pub leaves_then : {old mid new : CpuValue} {before m after : H} {s t : List Sending} {x y : List Logged} {o d p e : ℕ → Bool}
       → Leaves leads old before mid m s x o d → Leaves leads mid m new after t y p e → Leaves leads old before new after (s ++ t) (x ++ y) p e
-  leaves_then {old} {mid} {new} {before} {m} {after} {s} {t} {x} {y} f l = search (append_assoc, length-append, handles_then, arith)
+  leaves_then {old} {mid} {new} {before} {m} {after} {s} {t} {x} {y} f l =
+      let still = still_then old mid new x y f.still l.still in
+      search (append_assoc, length-append, handles_then, still, arith)
 
   -- and where nothing is sent any more
   pub leaves_last : {old new : CpuValue} {before after : H} {s : List Sending} {x : List Logged} {o d : ℕ → Bool}

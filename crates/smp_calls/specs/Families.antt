@@ -10,7 +10,7 @@ use Rattle.smp_call_steps.specs.declared.known.Sending.{Sending}
 use Rattle.smp_call_steps.specs.declared.known.Logged.{Logged}
 use Rattle.smp_words.specs.declared.call.Call.{Call}
 use Rattle.smp_words.specs.declared.call.Class.{Class}
-use Rattle.smp_queue.specs.Cpu.{CpuValue, confirmed_at, confirms, looks}
+use Rattle.smp_queue.specs.Cpu.{CpuValue, confirmed_at, confirms, looks, notes_call}
 use Rattle.smp_queue.specs.Handling.{heard}
 use Rattle.smp_queue.specs.declared.handler.Heard.{Heard}
 use Rattle.smp_calls.specs.Handles.{Handles}
@@ -27,7 +27,8 @@ abbrev pub owes_at : CpuValue → ℕ → Bool
 owes_at c other = slice_index_or c.part.owes other false
 
 -- a CPU has sent these calls, has logged this, now owes these interrupts and has seen these of its records confirmed, and has made a
--- compare-exchange at least for each call; else it has only handled
+-- compare-exchange at least for each call; else it has only handled. Where it has logged nothing, its last call or interrupt is
+-- still the one before
 pub record Leaves {H : Type 0} (leads : H → Heard → H → Type 0) (old : CpuValue) (before : H) (new : CpuValue) (after : H) (sent : List Sending)
     (log : List Logged) (owes confirmed : ℕ → Bool) : Type 0 where
   pub table_is : new.table ≡ old.table
@@ -38,6 +39,7 @@ pub record Leaves {H : Type 0} (leads : H → Heard → H → Type 0) (old : Cpu
   pub sent_is : new.part.sent ≡ old.part.sent ++ sent
   pub log_is : new.log ≡ old.log ++ log
   pub tried : old.tried + length sent ≤ new.tried
+  pub still : log ≡ [] → (new.sent_at ≡ old.sent_at) × (new.asked_at ≡ old.asked_at)
   pub owes_are : (c : ℕ) → owes_at new c ≡ owes c
   pub confirmed_are : (k : ℕ) → k < records_of_one → confirmed_at new k ≡ confirmed k
   pub handled : Handles leads old before new after
@@ -50,16 +52,25 @@ Calls leads old before new after call queued wait =
     (λ c. owes_at old c && not (is_first_to c queued))
     (λ k. if is_used call (record_of old.number k) queued then wait else confirmed_at old k)
 
--- the same, and a direct call: when that is made, all calls are queued and all interrupts sent, and no record that was used is seen
--- confirmed; after it the CPU only waits
+-- since a call was queued for the last of these CPUs, or an interrupt sent, the CPU has made no step and not handled; where there
+-- are none it has done nothing
+abbrev pub IsLast : CpuValue → CpuValue → List ℕ → Type 0
+IsLast old new [] = (new.steps ≡ old.steps) × (length new.part.asked ≡ length old.part.asked)
+    × (new.sent_at ≡ old.sent_at) × (new.asked_at ≡ old.asked_at)
+IsLast old new (to ∷ others) = (new.steps ≡ new.sent_at) × (length new.part.asked ≡ new.asked_at)
+
+-- the same, and a direct call: when that is made, all calls are queued and all interrupts sent, no record that was used is seen
+-- confirmed, and nothing was done since; after it the CPU only waits. The log of the end tells the place: the direct call comes
+-- after these calls and interrupts, and it has the number of steps and of takes of the interrupt word that the last of them had
 pub record CallsAndHere {H : Type 0} (leads : H → Heard → H → Type 0) (old : CpuValue) (before : H) (new : CpuValue) (after : H) (call : ℕ → Call)
     (queued : List Queued) (heard : Heard) (wait : Bool) : Type 0 where
   pub middle : CpuValue
   pub called : H
   pub ended : H
   pub first : Calls leads old before middle called call queued false
+  pub at_once : IsLast old middle (destinations queued)
   pub here : leads called heard ended
-  pub later : Leaves leads middle ended new after [] [] (owes_at middle)
+  pub later : Leaves leads (notes_call middle) ended new after [] [] (owes_at middle)
       (λ k. (wait && is_used call (record_of old.number k) queued) || confirmed_at middle k)
 
 -- with a direct call, if any

@@ -3,9 +3,9 @@ use Rattle.std.specs.Prelude.{◌≡◌, length, ℕ, ◌+◌, ◌<◌, Bool, tr
 use Rattle.smp_mask.specs.Mask.{has, members}
 use Rattle.smp_words.specs.Size.{cpus, record_of}
 use Rattle.smp_words.specs.declared.call.Call.{Call}
-use Rattle.smp_queue.specs.Cpu.{CpuValue, confirmed_at}
+use Rattle.smp_queue.specs.Cpu.{CpuValue, confirmed_at, notes_call}
 use Rattle.smp_queue.specs.declared.handler.Heard.{Heard}
-use Rattle.smp_calls.specs.Families.{Leaves, owes_at}
+use Rattle.smp_calls.specs.Families.{Leaves, IsLast, owes_at}
 use Rattle.smp_calls.specs.Records.{many_record}
 use Rattle.smp_calls.specs.Queued.{Queued, destinations, firsts, sendings, calls_to, interrupts_to, is_first_to, is_used, is_by, is_in}
 
@@ -20,10 +20,22 @@ pub record Queues {H : Type 0} (leads : H → Heard → H → Type 0) (old : Cpu
       (λ k. if is_used call (record_of old.number k) queued then false else confirmed_at old k)
   pub kept : (c : ℕ) → is_first_to c queued ≡ false → owes_at new c ≡ owes_at old c
   pub due : (c : ℕ) → is_first_to c queued ≡ true → c < length old.part.owes → owes_at new c ≡ true
+  pub last : IsLast old new (destinations queued)
+
+-- what a CPU counts when it has last sent something, once it has sent these
+abbrev pub last_of : List ℕ → ℕ → ℕ → ℕ
+last_of [] now before = before
+last_of (x ∷ xs) now before = now
 
 -- one interrupt was sent to each of these CPUs, in order, each by one step, and nothing else was done
 pub record Sends (old new : CpuValue) (sent : List ℕ) : Type 0 where
-  pub others_are : new ≡ record old { part = record (old.part) { owes = new.part.owes }; log = old.log ++ interrupts_to sent; steps = old.steps + length sent }
+  pub others_are : new ≡ record old {
+    part = record (old.part) { owes = new.part.owes };
+    log = old.log ++ interrupts_to sent;
+    steps = old.steps + length sent;
+    sent_at = last_of sent (old.steps + length sent) old.sent_at;
+    asked_at = last_of sent (length old.part.asked) old.asked_at;
+  }
   pub owes_sized : length new.part.owes ≡ length old.part.owes
   pub owes_are : (c : ℕ) → owes_at new c ≡ (owes_at old c && not (is_in c sent))
 
@@ -55,3 +67,8 @@ pub record QueuesEach {H : Type 0} (leads : H → Heard → H → Type 0) (old :
 abbrev pub HearsIf : {H : Type 0} → (H → Heard → H → Type 0) → H → Option Heard → H → Type 0
 HearsIf leads before None after = after ≡ before
 HearsIf leads before (Some heard) after = leads before heard after
+
+-- a CPU that has noted this direct call, if any
+abbrev pub noted_if : Option Heard → CpuValue → CpuValue
+noted_if None c = c
+noted_if (Some heard) c = notes_call c

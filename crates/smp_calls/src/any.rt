@@ -32,7 +32,7 @@ fn any_of(mask: CpuMask, online: CpuMask, this: u32) -> Option<u32>
 /// A call to another CPU is queued at the compare-exchange that wins in its post. It may wait as [`call_single`] does;
 /// the targets of the calls that it waits for must poll.
 ///
-/// E1 where there is no such CPU; then nothing is waited for.
+/// E1 (`SmpError::NoCpu`) where there is no such CPU; then nothing is waited for.
 pub fn call_any<A: Allocator, R: Wait, H: Handler>(
     table: &CallTable<A>,
     rt: &R,

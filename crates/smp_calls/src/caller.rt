@@ -26,9 +26,13 @@ use std::sync::Wait;
 /// A CPU of a table, with the handler that runs its calls. Each method is the call of that name, and promises the same.
 #[derive(Drop)]
 pub struct Caller<'a, A: Allocator, R: Wait, H: Handler + Drop> {
+    /// The CPU's table.
     pub table: &'a CallTable<A>,
+    /// By which its calls wait.
     pub rt: &'a R,
+    /// The CPU itself, for the other calls of its table.
     pub cpu: CallCpu,
+    /// What runs the calls that it hears.
     pub handler: H,
     ghost own: { cpu.table ≡ table.now.table },
 }
@@ -74,7 +78,7 @@ impl<'a, A: Allocator, R: Wait, H: Handler + Drop> Caller<'a, A, R, H> {
     /// A call to another CPU is queued at the compare-exchange that wins in its post. It may wait, for the record's last
     /// call and with `wait` for its own; the targets of the calls that it waits for must poll.
     ///
-    /// E1 where `dst` is another CPU that is not online.
+    /// E1 (`SmpError::NoCpu`) where `dst` is another CPU that is not online.
     pub fn call_single(
         &mut self,
         dst: u32,
@@ -113,8 +117,8 @@ impl<'a, A: Allocator, R: Wait, H: Handler + Drop> Caller<'a, A, R, H> {
     /// A call to another CPU is queued at the compare-exchange that wins in its post. It waits for no call, but its post may
     /// wait while others change the same head, and `dst` must poll for the call to run.
     ///
-    /// E4 where there is no such record; then E2 where the record's last call is not done; then E1 where `dst` is
-    /// another CPU that is not online.
+    /// E4 (`SmpError::BadArgument`) where there is no such record; then E2 (`SmpError::Busy`) where the record's last call is not
+    /// done; then E1 (`SmpError::NoCpu`) where `dst` is another CPU that is not online.
     pub fn call_async(&mut self, u: u32, dst: u32, func: u16, info: u64) -> Result<(), SmpError>
         ensures record { IfOk result (λ _. u < 2) }
         ensures queued { IfOk result (λ _. dst ≢ self.old.cpu.number → (has self.old.table.now.online dst ≡ true)
@@ -145,7 +149,7 @@ impl<'a, A: Allocator, R: Wait, H: Handler + Drop> Caller<'a, A, R, H> {
     ///
     /// A call to another CPU is queued at the compare-exchange that wins in its post. It may wait as `call_single` does.
     ///
-    /// E1 where there is no such CPU; then nothing is waited for.
+    /// E1 (`SmpError::NoCpu`) where there is no such CPU; then nothing is waited for.
     pub fn call_any(
         &mut self,
         mask: CpuMask,

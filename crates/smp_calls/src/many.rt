@@ -8,8 +8,8 @@ ghost use Rattle.smp_queue.specs.Handling.{heard};
 ghost use Rattle.smp_calls.specs.Records.{many_call, class_for as class_in};
 ghost use Rattle.smp_calls.specs.Targets.{is_target, remote};
 ghost use Rattle.smp_calls.specs.Ended.{HaveEnded};
-ghost use Rattle.smp_calls.specs.Families.{IsSized, CallsMany};
-ghost use Rattle.smp_calls.specs.Rounds.{WaitsFor, Picks, HearsIf};
+ghost use Rattle.smp_calls.specs.Families.{IsSized, IsLast, CallsMany};
+ghost use Rattle.smp_calls.specs.Rounds.{WaitsFor, Picks, HearsIf, noted_if};
 
 use crate::each::{queue_each, send_each, wait_each};
 use crate::queue::Job;
@@ -39,6 +39,7 @@ fn queue_all<A: Allocator, R: Wait, H: Handler, C: Fn(u32, u64) -> bool>(
     requires condition { (c : ℕ) → c < cpus → C.pre cond.now c job.info }
     ensures picks { Picks (λ c answer. C.post cond.now c job.info answer) (has others) result }
     ensures calls { CallsMany H.leads me.old handler.old me.new handler.new (members result) job.class job.func job.info None false }
+    ensures last { IsLast me.old me.new (members result) }
 {
     let (called, owed) = queue_each(table, rt, me, handler, others, job, cond);
     send_each(table, me, owed);
@@ -76,11 +77,20 @@ fn runs_here<C: Fn(u32, u64) -> bool>(mask: CpuMask, this: u32, info: u64, cond:
 }
 
 /// Runs the function here, where it is called here.
-fn call_if<H: Handler>(handler: &mut H, this: u32, func: u16, info: u64, here: bool)
-    ensures { HearsIf H.leads handler.old (if here then Some (heard this func info) else None) handler.new }
+fn call_if<A: Allocator, H: Handler>(
+    table: &CallTable<A>,
+    me: &mut CallCpu,
+    handler: &mut H,
+    func: u16,
+    info: u64,
+    here: bool,
+)
+    requires table { me.old.table ≡ table.now.table }
+    ensures called { HearsIf H.leads handler.old (if here then Some (heard me.old.number func info) else None) handler.new }
+    ensures noted { me.new ≡ noted_if (if here then Some (heard me.old.number func info) else None) me.old }
 {
     if here {
-        handler.call(this, func, info);
+        table.call_here(me, handler, func, info);
     }
 }
 
@@ -160,7 +170,7 @@ pub fn each_cpu_cond<A: Allocator, R: Wait, H: Handler, C: Fn(u32, u64) -> bool>
     let job = Job { class, func, info };
     let called = queue_all(table, rt, me, handler, others, job, cond);
     let here = runs_here(mask, this, info, cond);
-    call_if(handler, this, func, info, here);
+    call_if(table, me, handler, func, info, here);
     wait_all(table, rt, me, handler, called, wait);
     me.is_shown();
     with_if(called, this, here)

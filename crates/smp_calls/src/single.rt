@@ -89,7 +89,7 @@ fn call_there<A: Allocator, R: Wait, H: Handler>(
 /// A call to another CPU is queued at the compare-exchange that wins in its post. It may wait, for the record's last
 /// call and with `wait` for its own; the targets of the calls that it waits for must poll.
 ///
-/// E1 where `dst` is another CPU that is not online.
+/// E1 (`SmpError::NoCpu`) where `dst` is another CPU that is not online.
 pub fn call_single<A: Allocator, R: Wait, H: Handler>(
     table: &CallTable<A>,
     rt: &R,

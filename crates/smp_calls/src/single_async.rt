@@ -21,8 +21,8 @@ use std::sync::Wait;
 /// A call to another CPU is queued at the compare-exchange that wins in its post. It waits for no call, so it handles
 /// nothing, but its post may wait while others change the same head, and `dst` must poll for the call to run.
 ///
-/// E4 where there is no such record; then E2 where the record's last call is not done; then E1 where `dst` is
-/// another CPU that is not online.
+/// E4 (`SmpError::BadArgument`) where there is no such record; then E2 (`SmpError::Busy`) where the record's last call is not
+/// done; then E1 (`SmpError::NoCpu`) where `dst` is another CPU that is not online.
 pub fn call_async<A: Allocator, R: Wait, H: Handler>(
     table: &CallTable<A>,
     rt: &R,

@@ -2,6 +2,8 @@
 pub mod TheRule
 -- a CPU between two calls, and a post
 pub mod Posts
+-- a table whose CPUs have done nothing
+pub mod Empty
 -- a CPU inside handle
 pub mod Handling
 -- what an audit and the laws tell

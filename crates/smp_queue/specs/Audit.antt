@@ -2,10 +2,9 @@
 use Rattle.std.specs.Prelude.{◌≡◌, ◌≢◌, ℕ, zero, suc, ◌+◌, ◌%◌, ◌^◌, ◌<◌, ◌≤◌, ◌⊎◌, Bool, false, not, ◌==◌, if◌then◌else◌, List, [], length, slice_index_or}
 use Rattle.smp_mask.specs.Mask.{has}
 use Rattle.smp_words.specs.Size.{cpus, records}
-use Rattle.smp_call_steps.specs.Calls.{CallState, no_calls}
+use Rattle.smp_call_steps.specs.Calls.{CallState}
 use Rattle.smp_call_steps.specs.Histories.{sent_to, calls_from, marked_from, batches_marked, orders}
 use Rattle.smp_call_steps.specs.Known.{Sees, fresh}
-use Rattle.smp_call_steps.specs.Parts.{part_of}
 use Rattle.smp_call_steps.specs.Shows.{Shows}
 use Rattle.smp_call_steps.specs.Stages.{ControlValue}
 use Rattle.smp_queue.specs.Names.{Word, Head, Hand, Queued, Ran, Flags, Known, Setting, Left, Tally, Audit}

@@ -34,7 +34,9 @@ table_with table k = record { table = table; nr = k.nr; online = k.online }
 
 -- a CPU between two calls: its table, what that is made with, its number, its own part of the calls, how many
 -- compare-exchanges of heads it has made, what it has found in heads, by which kind of access, the calls that it has
--- queued and the interrupts that it has sent, in order, and how many steps it has made outside handle
+-- queued, the interrupts that it has sent and its direct calls that were noted, in order, how many steps it has made outside
+-- handle, and how many of these and how many takes of its interrupt word it had made when it last queued a call or sent an
+-- interrupt
 pub record CpuValue : Type 0 where
   pub table : TableId
   pub setting : Setting
@@ -44,6 +46,8 @@ pub record CpuValue : Type 0 where
   pub heads : List HeadSeen
   pub log : List Logged
   pub steps : ℕ
+  pub sent_at : ℕ
+  pub asked_at : ℕ
 
 -- what a CPU knows, as contracts see it
 abbrev pub cpu_of : SeatValue → CpuValue
@@ -56,6 +60,8 @@ cpu_of d = record {
   heads = d.known.heads;
   log = d.known.log;
   steps = d.known.steps;
+  sent_at = d.known.sent_at;
+  asked_at = d.known.asked_at;
 }
 
 -- a CPU at this table, with its part of these calls
@@ -64,7 +70,18 @@ cpu_in table k calls c = record c { table = table; setting = k; part = part_of c
 
 -- a CPU of this table that has done nothing: all its records are confirmed, and it has made no step
 abbrev pub fresh_cpu : TableValue → ℕ → CpuValue
-fresh_cpu t cpu = record { table = t.table; setting = setting_of t; number = cpu; part = part_of no_calls cpu; tried = 0; heads = []; log = []; steps = 0 }
+fresh_cpu t cpu = record {
+  table = t.table;
+  setting = setting_of t;
+  number = cpu;
+  part = part_of no_calls cpu;
+  tried = 0;
+  heads = [];
+  log = [];
+  steps = 0;
+  sent_at = 0;
+  asked_at = 0;
+}
 
 -- what a CPU keeps between two calls: it is online and outside a command, and its counts are those of its calls
 pub record IsKept (v : Known) (number : ℕ) (queued ran : List ℕ) : Type 0 where
@@ -92,7 +109,17 @@ looks c = record c { steps = c.steps + 1 }
 
 -- a CPU that has sent one interrupt, by one step: it owes none
 abbrev pub sends : ℕ → CpuValue → CpuValue
-sends to c = record c { part = part_sent to c.part; log = c.log ++ logged.Interrupted to ∷ []; steps = c.steps + 1 }
+sends to c = record c {
+  part = part_sent to c.part;
+  log = c.log ++ logged.Interrupted to ∷ [];
+  steps = c.steps + 1;
+  sent_at = c.steps + 1;
+  asked_at = length c.part.asked;
+}
+
+-- a CPU that has noted a direct call, by one step of which nothing else is told
+abbrev pub notes_call : CpuValue → CpuValue
+notes_call c = record c { log = c.log ++ logged.Called c.steps (length c.part.asked) ∷ []; steps = c.steps + 1 }
 
 -- how many steps a post makes that has found these numbers in a head: eight, and two more for each compare-exchange in vain
 abbrev pub steps_of_post : Found → ℕ
@@ -111,6 +138,8 @@ posts k to class func info first found c = record c {
   heads = heads_won c.heads found;
   log = c.log ++ logged.Queued to ∷ [];
   steps = c.steps + steps_of_post found;
+  sent_at = c.steps + steps_of_post found;
+  asked_at = length c.part.asked;
 }
 
 -- arguments that a post refuses

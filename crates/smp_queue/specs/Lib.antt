@@ -10,6 +10,8 @@ pub mod Seat
 pub mod Appends
 pub mod Cpu
 pub mod Table
+-- a table whose CPUs have done nothing
+pub mod Empty
 -- what an audit answers
 pub mod Audit
 -- a handler, and what handling makes of it

@@ -34,8 +34,8 @@ impl<A: Allocator> Model for Boot<A> {
 
 impl<A: Allocator> Boot<A> {
     /// This CPU's value: that of a CPU of this table that has done nothing. Each of its records is confirmed; it has sent,
-    /// taken, run and asked nothing, and owes no CPU an interrupt. E1 `NoCpu` where it is not online, then E2 `Busy` where it
-    /// was given out. It makes no step of the table, and does not wait.
+    /// taken, run and asked nothing, and owes no CPU an interrupt. E1 (`SmpError::NoCpu`) where it is not online, then E2
+    /// (`SmpError::Busy`) where it was given out. It makes no step of the table, and does not wait.
     pub fn cpu(&mut self, cpu: u32) -> Result<CallCpu, SmpError>
         ensures ok { IfOk result (λ c. (c ≡ fresh_cpu self.old.table cpu) × (has self.old.table.online cpu ≡ true)
             × (is_left self.old cpu ≡ true) × (self.new ≡ given cpu self.old)) }

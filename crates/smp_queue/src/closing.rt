@@ -4,9 +4,9 @@ ghost use Rattle.std.specs.Prelude.{◌≡◌};
 ghost use Rattle.smp_queue.specs.Cells.{HasCell, cells, number_in};
 ghost use Rattle.smp_queue.specs.Audit.{Closes, AuditAnswers};
 
+use crate::accesses::Owner;
 use crate::audit::{Audit, answer};
 use crate::cell::cell;
-use crate::rule::Owner;
 use crate::seat::{CpuSeat, close};
 use atomic_table::Closed;
 use smp_words::Word;
@@ -33,9 +33,9 @@ impl<A: Allocator> Model for ClosedTable<A> {
 impl<A: Allocator> ClosedTable<A> {
     /// The words of a table, which is given up with one of its seats.
     pub(crate) fn of(owner: Owner<A>, seat: CpuSeat) -> ClosedTable<A>
-        requires table { seat.table ≡ owner.shared.table_id }
-        requires sized { (owner.shared.table_id.words ≡ cells) × (owner.shared.table_id.slots ≡ 0) }
-        ensures { Closes owner.shared.key seat.known result }
+        requires table { seat.table ≡ owner.table.shared.table_id }
+        requires sized { (owner.table.shared.table_id.words ≡ cells) × (owner.table.shared.table_id.slots ≡ 0) }
+        ensures { Closes owner.table.shared.key seat.known result }
     {
         ClosedTable {
             closed: close(owner, seat),

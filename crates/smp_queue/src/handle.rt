@@ -17,9 +17,9 @@ ghost use Rattle.smp_queue.specs.Seat.{InHandle, IsOutside};
 ghost use Rattle.smp_queue.specs.Cpu.{cpu_of};
 ghost use Rattle.smp_queue.specs.Handling.{AreRan, Grows, asks, drains};
 
+use crate::accesses::Words;
 use crate::handler::Handler;
 use crate::reverse::reverse;
-use crate::rule::Words;
 use crate::run::{run_async_calls, run_sync_calls};
 use crate::seat::{CpuSeat, store, swap};
 use smp_call_steps::drain::record_of;
@@ -35,9 +35,9 @@ pub struct Handled {
 }
 
 /// Begins to handle, and takes the interrupt: whether one was pending.
-fn enter(words: &Words, seat: &mut CpuSeat, number: u32) -> bool
-    requires { IsOutside words.now.table_id seat.old number }
-    ensures at { InHandle words.now.table_id seat.new (if result then handle.Take else handle.LeaveIdle) }
+fn enter(words: Words, seat: &mut CpuSeat, number: u32) -> bool
+    requires { IsOutside words.shared.now.table_id seat.old number }
+    ensures at { InHandle words.entry.shared.now.table_id seat.new (if result then handle.Take else handle.LeaveIdle) }
     ensures known { seat.new.known ≡ accepted_known result (handling handle.Accept seat.old.known.drain seat.old.known) }
 {
     store(words, seat, Word::Hand(number), 1);
@@ -45,10 +45,10 @@ fn enter(words: &Words, seat: &mut CpuSeat, number: u32) -> bool
 }
 
 /// Takes the whole queue: the record of its newest call, none where it is empty.
-fn take(words: &Words, seat: &mut CpuSeat, number: u32) -> Option<u32>
+fn take(words: Words, seat: &mut CpuSeat, number: u32) -> Option<u32>
     requires me { seat.old.known.number ≡ number }
-    requires at { InHandle words.now.table_id seat.old handle.Take }
-    ensures at { InHandle words.now.table_id seat.new (reverse_on None result) }
+    requires at { InHandle words.shared.now.table_id seat.old handle.Take }
+    ensures at { InHandle words.entry.shared.now.table_id seat.new (reverse_on None result) }
     ensures known { (queue : List Call) × (seat.new.known ≡ taken_known queue result seat.old.known) }
 {
     let link = swap(words, seat, Word::Head(number), 0);
@@ -56,10 +56,10 @@ fn take(words: &Words, seat: &mut CpuSeat, number: u32) -> Option<u32>
 }
 
 /// Has handled.
-fn leave(words: &Words, seat: &mut CpuSeat, number: u32)
+fn leave(words: Words, seat: &mut CpuSeat, number: u32)
     requires me { seat.old.known.number ≡ number }
-    requires at { (stage : HandleStage) × InHandle words.now.table_id seat.old stage × IsLeaving stage }
-    ensures table { seat.new.table ≡ words.now.table_id }
+    requires at { (stage : HandleStage) × InHandle words.shared.now.table_id seat.old stage × IsLeaving stage }
+    ensures table { seat.new.table ≡ words.entry.shared.now.table_id }
     ensures lives { Lives seat.new.known }
     ensures known { seat.new.known ≡ outside_known seat.old.known }
 {
@@ -68,15 +68,15 @@ fn leave(words: &Words, seat: &mut CpuSeat, number: u32)
 
 /// Takes the interrupt and, where there was one, the queue, and runs that.
 pub(crate) fn handle<H: Handler>(
-    words: &Words,
+    words: Words,
     seat: &mut CpuSeat,
     number: u32,
     counts: &mut [u64],
     handler: &mut H,
 ) -> Handled
-    requires outside { IsOutside words.now.table_id seat.old number }
+    requires outside { IsOutside words.shared.now.table_id seat.old number }
     requires counts { AreRan counts.old seat.old.known }
-    ensures outside { IsOutside words.now.table_id seat.new number }
+    ensures outside { IsOutside words.entry.shared.now.table_id seat.new number }
     ensures counts { AreRan counts.new seat.new.known }
     ensures lives { Lives seat.new.known }
     ensures asked { result.interrupted ≡ true → (batch : List Call) × (cpu_of seat.new ≡ drains batch (asks true (cpu_of seat.old)))

@@ -6,8 +6,11 @@ ghost use Rattle.smp_queue.specs.declared.handler.Heard.{Heard};
 /// A call as its function hears it: the CPU that queued it, the function and its info.
 #[derive(Clone, Copy, Debug, PartialEq, Eq)]
 pub struct Heard {
+    /// The CPU that queued it, or that called it directly.
     pub src: u32,
+    /// The function's number.
     pub func: u16,
+    /// What the function is told.
     pub info: u64,
 }
 

@@ -2,14 +2,14 @@
 
 ghost use Rattle.smp_queue.specs.Refusals.{MisuseIsOfTheNumbers, RecordsAreThoseOfTheNumbers};
 
-/// A post is refused with E4 just where its record may not carry such a call, it has no tries, or it is to the own CPU.
+/// A post is refused with E4 (`SmpError::BadArgument`) just where its record may not carry such a call, it has no tries, or it is to the own CPU.
 /// Record 0 carries SYNC calls, and 1, 10 and 11 ASYNC calls. The records 2 to 9, and those from 12 on, carry calls to one
 /// CPU each.
 pub fn misuse_is_of_the_numbers()
     ensures { MisuseIsOfTheNumbers }
 {}
 
-/// A question for a record is refused with E4 just where the CPU has no record of that number.
+/// A question for a record is refused with E4 (`SmpError::BadArgument`) just where the CPU has no record of that number.
 pub fn records_are_those_of_the_numbers()
     ensures { RecordsAreThoseOfTheNumbers }
 {}

@@ -3,7 +3,8 @@
 //! The machine is that of `smp_call_steps`: the same stages, the same steps, the same laws, between any two steps of
 //! any threads. Each CPU is driven through one value, `CallCpu`.
 //!
-//! Which calls of one table may run together, in the form of `include/linux/llist.h`; `post` is also `post_within`:
+//! Which calls of one table may run together, in the form of `include/linux/llist.h`; `post` is also `post_within`, and
+//! `is_done` also `call_here`:
 //!
 //! | | `post` | `send` | `is_done` | `tally` | `handle` | `Boot::cpu` | `new` | `audit` |
 //! |---|---|---|---|---|---|---|---|---|
@@ -24,6 +25,7 @@
 //! calls `handle` time and again.
 #![tactic(auto)]
 
+mod accesses;
 mod audit;
 mod boot;
 mod cell;

@@ -13,7 +13,7 @@ ghost use Rattle.smp_queue.specs.Seat.{OwnsRecord, IsMine, IsCounting, IsTallied
 ghost use Rattle.smp_queue.specs.Appends.{Appends, GivesUp};
 ghost use Rattle.smp_call_steps.specs.Heads.{Found, times_lost};
 
-use crate::rule::Words;
+use crate::accesses::Words;
 use crate::seat::{CpuSeat, exchange, load, store};
 use crossbeam_utils::Backoff;
 use smp_call_steps::post::Posting;
@@ -21,10 +21,10 @@ use smp_words::Word;
 use std::sync::Wait;
 
 /// Whether the record is locked. It makes one step; a record that is not locked is confirmed.
-pub(crate) fn is_locked(words: &Words, seat: &mut CpuSeat, id: u32) -> bool
-    requires at { OwnsRecord words.now.table_id seat.old id }
+pub(crate) fn is_locked(words: Words, seat: &mut CpuSeat, id: u32) -> bool
+    requires at { OwnsRecord words.shared.now.table_id seat.old id }
     requires outside { seat.old.known.stage ≡ None }
-    ensures table { seat.new.table ≡ words.now.table_id }
+    ensures table { seat.new.table ≡ words.entry.shared.now.table_id }
     ensures lives { Lives seat.new.known }
     ensures known { seat.new.known ≡ stepped 1 (if result then seat.old.known else confirmed_known id seat.old.known) }
     ensures locked { result ≡ true → is_confirmed seat.old.known id ≢ true }
@@ -33,11 +33,11 @@ pub(crate) fn is_locked(words: &Words, seat: &mut CpuSeat, id: u32) -> bool
 }
 
 /// Locks the record, and writes the call into it.
-pub(crate) fn write_record(words: &Words, seat: &mut CpuSeat, posting: &Posting)
-    requires mine { IsMine words.now.table_id seat.old posting.now }
+pub(crate) fn write_record(words: Words, seat: &mut CpuSeat, posting: &Posting)
+    requires mine { IsMine words.shared.now.table_id seat.old posting.now }
     requires outside { seat.old.known.stage ≡ None }
     requires free { is_confirmed seat.old.known posting.now.id ≡ true }
-    ensures table { seat.new.table ≡ words.now.table_id }
+    ensures table { seat.new.table ≡ words.entry.shared.now.table_id }
     ensures known { seat.new.known ≡ standing (uncounted posting.now) post.Count (stepped 3 seat.old.known) }
 {
     let id = posting.id;
@@ -48,15 +48,15 @@ pub(crate) fn write_record(words: &Words, seat: &mut CpuSeat, posting: &Posting)
 
 /// Counts the call, and finds the head of its destination.
 pub(crate) fn count_and_look(
-    words: &Words,
+    words: Words,
     seat: &mut CpuSeat,
     posting: &Posting,
     number: u32,
     count: u64,
 ) -> u64
-    requires mine { IsMine words.now.table_id seat.old posting.now }
+    requires mine { IsMine words.shared.now.table_id seat.old posting.now }
     requires counting { IsCounting seat.old.known posting.now number count }
-    ensures table { seat.new.table ≡ words.now.table_id }
+    ensures table { seat.new.table ≡ words.entry.shared.now.table_id }
     ensures known { seat.new.known ≡ standing (counted posting.now) post.LoadHead (looked_known result seat.old.known) }
 {
     store(
@@ -70,10 +70,10 @@ pub(crate) fn count_and_look(
 
 /// Links the record to what was found last, and tries to put it into the head: what was found there. It is
 /// queued where that is the same.
-pub(crate) fn link(words: &Words, seat: &mut CpuSeat, posting: &Posting, link: u64) -> u64
-    requires mine { IsMine words.now.table_id seat.old posting.now }
+pub(crate) fn link(words: Words, seat: &mut CpuSeat, posting: &Posting, link: u64) -> u64
+    requires mine { IsMine words.shared.now.table_id seat.old posting.now }
     requires stage { seat.old.known.stage ≡ Some (Post (counted posting.now) post.LoadHead) }
-    ensures table { seat.new.table ≡ words.now.table_id }
+    ensures table { seat.new.table ≡ words.entry.shared.now.table_id }
     ensures lives { Lives seat.new.known }
     ensures won { result ≡ link → seat.new.known ≡ queued_known (posted posting.now) posting.now.to (link == 0) link seat.old.known }
     ensures lost { result ≢ link → seat.new.known ≡ lost_one link result seat.old.known }
@@ -89,11 +89,11 @@ pub(crate) fn link(words: &Words, seat: &mut CpuSeat, posting: &Posting, link: u
 }
 
 /// Takes the count back, and unlocks the record.
-pub(crate) fn give_up(words: &Words, seat: &mut CpuSeat, posting: &Posting, number: u32, count: u64)
-    requires mine { IsMine words.now.table_id seat.old posting.now }
+pub(crate) fn give_up(words: Words, seat: &mut CpuSeat, posting: &Posting, number: u32, count: u64)
+    requires mine { IsMine words.shared.now.table_id seat.old posting.now }
     requires stage { seat.old.known.stage ≡ Some (Post (counted posting.now) post.LoadHead) }
     requires counted { IsTallied seat.old.known posting.now number count }
-    ensures table { seat.new.table ≡ words.now.table_id }
+    ensures table { seat.new.table ≡ words.entry.shared.now.table_id }
     ensures lives { Lives seat.new.known }
     ensures known { seat.new.known ≡ outside_known (stepped 2 seat.old.known) }
 {
@@ -104,16 +104,16 @@ pub(crate) fn give_up(words: &Words, seat: &mut CpuSeat, posting: &Posting, numb
 /// Appends the call to the queue of its destination: whether that was empty. None where the tries are used up,
 /// and the record is unlocked again.
 pub(crate) fn append(
-    words: &Words,
+    words: Words,
     seat: &mut CpuSeat,
     posting: &Posting,
     number: u32,
     queued: u64,
     tries: u32,
 ) -> Option<bool>
-    requires mine { IsMine words.now.table_id seat.old posting.now }
+    requires mine { IsMine words.shared.now.table_id seat.old posting.now }
     requires counting { IsCounting seat.old.known posting.now number queued }
-    ensures table { seat.new.table ≡ words.now.table_id }
+    ensures table { seat.new.table ≡ words.entry.shared.now.table_id }
     ensures lives { Lives seat.new.known }
     ensures sent { IfSome result (λ first. (found : Found) × (times_lost found < tries) × Appends posting.now first found seat.old.known seat.new.known) }
     ensures lost { IfNone result ((found : Found) × (times_lost found ≡ tries) × GivesUp found seat.old.known seat.new.known) }
@@ -134,15 +134,15 @@ pub(crate) fn append(
 /// between two tries.
 pub(crate) fn append_until_won<R: Wait>(
     rt: &R,
-    words: &Words,
+    words: Words,
     seat: &mut CpuSeat,
     posting: &Posting,
     number: u32,
     queued: u64,
 ) -> bool
-    requires mine { IsMine words.now.table_id seat.old posting.now }
+    requires mine { IsMine words.shared.now.table_id seat.old posting.now }
     requires counting { IsCounting seat.old.known posting.now number queued }
-    ensures table { seat.new.table ≡ words.now.table_id }
+    ensures table { seat.new.table ≡ words.entry.shared.now.table_id }
     ensures lives { Lives seat.new.known }
     ensures sent { (found : Found) × Appends posting.now result found seat.old.known seat.new.known }
 {

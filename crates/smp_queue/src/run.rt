@@ -7,8 +7,8 @@ ghost use Rattle.smp_call_steps.specs.declared.handle.HandleStage.TheVariants as
 ghost use Rattle.smp_queue.specs.Seat.{InHandle};
 ghost use Rattle.smp_queue.specs.Handling.{AreRan, HasRunAll};
 
+use crate::accesses::Words;
 use crate::handler::Handler;
-use crate::rule::Words;
 use crate::seat::call_steps::{run_async, run_sync};
 use crate::seat::{CpuSeat, load, store};
 use smp_call_steps::drain::record_of;
@@ -17,9 +17,9 @@ use smp_words::call::Class;
 use smp_words::{Call, Word};
 
 /// Loads a SYNC call, and takes its record out of the chain.
-fn unlink(words: &Words, seat: &mut CpuSeat, walk: Walk, id: u32, next: Option<u32>) -> (Walk, Call)
-    requires at { InHandle words.now.table_id seat.old (handle.LoadFunc walk id next) }
-    ensures at { InHandle words.now.table_id seat.new (handle.BeginSync result.0 result.1 next) }
+fn unlink(words: Words, seat: &mut CpuSeat, walk: Walk, id: u32, next: Option<u32>) -> (Walk, Call)
+    requires at { InHandle words.shared.now.table_id seat.old (handle.LoadFunc walk id next) }
+    ensures at { InHandle words.entry.shared.now.table_id seat.new (handle.BeginSync result.0 result.1 next) }
     ensures known { seat.new.known ≡ record (seat.old.known) { stage = seat.new.known.stage } }
 {
     let func = load(words, seat, Word::Func(id));
@@ -47,7 +47,7 @@ fn unlink(words: &Words, seat: &mut CpuSeat, walk: Walk, id: u32, next: Option<u
 
 /// Runs the SYNC calls from this record on: the first ASYNC record that is left.
 pub(crate) fn run_sync_calls<H: Handler>(
-    words: &Words,
+    words: Words,
     seat: &mut CpuSeat,
     number: u32,
     counts: &mut [u64],
@@ -55,9 +55,9 @@ pub(crate) fn run_sync_calls<H: Handler>(
     handler: &mut H,
 ) -> Option<u32>
     requires me { seat.old.known.number ≡ number }
-    requires at { InHandle words.now.table_id seat.old (first_on (record { first = first; last = None }) first) }
+    requires at { InHandle words.shared.now.table_id seat.old (first_on (record { first = first; last = None }) first) }
     requires counts { AreRan counts.old seat.old.known }
-    ensures at { InHandle words.now.table_id seat.new (second_on result) }
+    ensures at { InHandle words.entry.shared.now.table_id seat.new (second_on result) }
     ensures ran { HasRunAll H.leads seat.old seat.new counts.new handler.old handler.new }
 {
     let mut walk = Walk { first, last: None };
@@ -86,7 +86,7 @@ pub(crate) fn run_sync_calls<H: Handler>(
 
 /// Runs the ASYNC calls from this record on.
 pub(crate) fn run_async_calls<H: Handler>(
-    words: &Words,
+    words: Words,
     seat: &mut CpuSeat,
     number: u32,
     counts: &mut [u64],
@@ -94,9 +94,9 @@ pub(crate) fn run_async_calls<H: Handler>(
     handler: &mut H,
 )
     requires me { seat.old.known.number ≡ number }
-    requires at { InHandle words.now.table_id seat.old (second_on first) }
+    requires at { InHandle words.shared.now.table_id seat.old (second_on first) }
     requires counts { AreRan counts.old seat.old.known }
-    ensures at { InHandle words.now.table_id seat.new handle.Leave }
+    ensures at { InHandle words.entry.shared.now.table_id seat.new handle.Leave }
     ensures ran { HasRunAll H.leads seat.old seat.new counts.new handler.old handler.new }
 {
     let mut here = first;

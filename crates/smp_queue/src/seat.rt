@@ -3,7 +3,7 @@
 
 ghost use Rattle.std.specs.Prelude.{◌≡◌, ◌+◌, ◌<◌, ◌==◌, true, if◌then◌else◌, IfOk, Some, None};
 ghost use Rattle.std.specs.Mem.Slots.{slots_items, slots_len, IsFull};
-ghost use Rattle.smp_call_steps.specs.Known.{known_told, known_taking, fresh, Moment, Lives};
+ghost use Rattle.smp_call_steps.specs.Known.{known_told, known_taking, noted_known, fresh, Moment, Lives};
 ghost use Rattle.smp_words.specs.declared.access.Access.TheVariants as access;
 ghost use Rattle.smp_words.specs.declared.seen.Act.TheVariants as act;
 ghost use Rattle.smp_queue.specs.declared.seat_view.SeatView.TheVariants.{Maker};
@@ -13,14 +13,15 @@ ghost use Rattle.smp_queue.specs.Seat.{SeatValue, Loads, Ready};
 ghost use Rattle.smp_queue.specs.Rule.{Sits, HasComeTo};
 ghost use Rattle.smp_words.specs.Size.{cpus};
 ghost use Rattle.smp_mask.specs.Mask.{has};
-ghost use Rattle.smp_queue.specs.Plays.{loaded, stored, exchanged, swapped};
+ghost use Rattle.smp_queue.specs.Plays.{loaded, noted, stored, exchanged, swapped};
 
 pub mod call_steps;
 
+use crate::accesses::{Owner, Words};
 use crate::cell::{CELLS, cell};
-use crate::rule::{NextSeat, Owner, RawSeat, Words};
+use crate::rule::RawSeat;
 use crate::seat_view::SeatView;
-use atomic_table::{Closed, Play, Table};
+use atomic_table::{Closed, Play};
 use smp_call_steps::known::Setting;
 use smp_words::Word;
 use std::alloc::{AllocError, Allocator};
@@ -61,6 +62,12 @@ impl Play<(), SeatView> for Loaded {
     ghost then = { loaded };
 }
 
+struct Noted;
+
+impl Play<(), SeatView> for Noted {
+    ghost then = { noted };
+}
+
 struct Stored;
 
 impl Play<(), SeatView> for Stored {
@@ -92,50 +99,60 @@ pub(crate) fn lay<A: Allocator>(
 ) -> Result<(Owner<A>, SeatMaker), AllocError>
 where
     A: Copy,
-    ensures { IfOk result (λ t. (t.0.shared.table_id.words ≡ cells) × (t.0.shared.table_id.slots ≡ 0) × (t.0.shared.key ≡ setting.now)
-        × (t.1.raw.table_id ≡ t.0.shared.table_id) × (t.1.raw.me.0 ≡ Maker 0 setting.now)) }
+    ensures { IfOk result (λ t. (t.0.table.shared.table_id.words ≡ cells) × (t.0.table.shared.table_id.slots ≡ 0) × (t.0.table.shared.key ≡ setting.now)
+        × (t.1.raw.table_id ≡ t.0.table.shared.table_id) × (t.1.raw.me.0 ≡ Maker 0 setting.now)) }
 {
     let words = Vec::from_elem(alloc, 0u64, CELLS)?;
-    let (table, raw) = Table::of_words(alloc, words.as_slice(), setting)?;
-    Ok((table, SeatMaker { raw }))
+    let (owner, raw) = Owner::new(alloc, words.as_slice(), setting)?;
+    Ok((owner, SeatMaker { raw }))
 }
 
 /// A seat for the next CPU that is online. Only such a CPU ever gets one.
-pub(crate) fn next_seat(words: &Words, maker: &mut SeatMaker, n: u32) -> CpuSeat
-    requires table { (maker.old.raw.table_id ≡ words.now.table_id) × (words.now.table_id.words ≡ cells) }
-    requires come { HasComeTo maker.old.raw.me.0 words.now.key n }
-    requires number { (n < words.now.key.nr) × (n < cpus) × (has words.now.key.online n ≡ true) }
-    ensures maker { (maker.new.raw.table_id ≡ words.now.table_id) × (maker.new.raw.me.0 ≡ Maker (n + 1) words.now.key) }
-    ensures seat { (result.table ≡ words.now.table_id) × (result.known ≡ fresh words.now.key n) }
+pub(crate) fn next_seat(words: Words, maker: &mut SeatMaker, n: u32) -> CpuSeat
+    requires table { (maker.old.raw.table_id ≡ words.shared.now.table_id) × (words.shared.now.table_id.words ≡ cells) }
+    requires come { HasComeTo maker.old.raw.me.0 words.shared.now.key n }
+    requires number { (n < words.shared.now.key.nr) × (n < cpus) × (has words.shared.now.key.online n ≡ true) }
+    ensures maker { (maker.new.raw.table_id ≡ words.entry.shared.now.table_id) × (maker.new.raw.me.0 ≡ Maker (n + 1) words.entry.shared.now.key) }
+    ensures seat { (result.table ≡ words.entry.shared.now.table_id) × (result.known ≡ fresh words.entry.shared.now.key n) }
 {
-    let raw = words.split_seat::<NextSeat>(&mut maker.raw);
+    let raw = words.split_seat(&mut maker.raw);
     CpuSeat { raw }
 }
 
 /// Gives up the table and the seat of a CPU: the words as the last step left them.
 pub(crate) fn close<A: Allocator>(owner: Owner<A>, seat: CpuSeat) -> Closed<(), A>
-    requires table { seat.table ≡ owner.shared.table_id }
-    requires sized { (owner.shared.table_id.words ≡ cells) × (owner.shared.table_id.slots ≡ 0) }
+    requires table { seat.table ≡ owner.table.shared.table_id }
+    requires sized { (owner.table.shared.table_id.words ≡ cells) × (owner.table.shared.table_id.slots ≡ 0) }
     ensures full { IsFull result.words × (slots_len result.words ≡ cells) × (slots_len result.slots ≡ 0) }
-    ensures closes { Closes owner.shared.key seat.known (slots_items result.words) }
+    ensures closes { Closes owner.table.shared.key seat.known (slots_items result.words) }
 {
-    owner.close_with(seat.raw)
+    owner.close(seat.raw)
 }
 
 /// Loads a word.
 #[inline(always)]
-pub(crate) fn load(words: &Words, seat: &mut CpuSeat, word: Word) -> u64
-    requires { Ready words.now.table_id seat.old (access.Load word) }
-    ensures { Loads words.now.table_id seat.old seat.new word result }
+pub(crate) fn load(words: Words, seat: &mut CpuSeat, word: Word) -> u64
+    requires { Ready words.shared.now.table_id seat.old (access.Load word) }
+    ensures { Loads words.entry.shared.now.table_id seat.old seat.new word result }
 {
     words.load::<Loaded>(&mut seat.raw, cell(word))
 }
 
+/// Notes a direct call in the CPU's log. What a CPU knows changes at a step alone: this one is a load of a word of its own,
+/// of which nothing is told.
+pub(crate) fn note_call(words: Words, seat: &mut CpuSeat, word: Word)
+    requires { Ready words.shared.now.table_id seat.old (access.Load word) }
+    ensures table { seat.new.table ≡ words.entry.shared.now.table_id }
+    ensures known { seat.new.known ≡ noted_known seat.old.known }
+{
+    words.load::<Noted>(&mut seat.raw, cell(word));
+}
+
 /// Stores a number in a word.
 #[inline(always)]
-pub(crate) fn store(words: &Words, seat: &mut CpuSeat, word: Word, number: u64)
-    requires { Ready words.now.table_id seat.old (access.Store word number) }
-    ensures table { seat.new.table ≡ words.now.table_id }
+pub(crate) fn store(words: Words, seat: &mut CpuSeat, word: Word, number: u64)
+    requires { Ready words.shared.now.table_id seat.old (access.Store word number) }
+    ensures table { seat.new.table ≡ words.entry.shared.now.table_id }
     ensures lives { Lives seat.new.known }
     ensures known { seat.new.known ≡ known_told seat.old.known act.Store word None (Some number) }
 {
@@ -145,14 +162,14 @@ pub(crate) fn store(words: &Words, seat: &mut CpuSeat, word: Word, number: u64)
 /// Puts a number in a word where another is found, and answers what was found.
 #[inline(always)]
 pub(crate) fn exchange(
-    words: &Words,
+    words: Words,
     seat: &mut CpuSeat,
     word: Word,
     expected: u64,
     number: u64,
 ) -> u64
-    requires { Ready words.now.table_id seat.old (access.Exchange word expected number) }
-    ensures table { seat.new.table ≡ words.now.table_id }
+    requires { Ready words.shared.now.table_id seat.old (access.Exchange word expected number) }
+    ensures table { seat.new.table ≡ words.entry.shared.now.table_id }
     ensures lives { Lives seat.new.known }
     ensures known { seat.new.known ≡ known_told seat.old.known act.Cas word (Some result) (if result == expected then Some number else None) }
 {
@@ -161,9 +178,9 @@ pub(crate) fn exchange(
 
 /// Puts a number in a word, and answers what was found. A swap of the own head takes the queue of that moment.
 #[inline(always)]
-pub(crate) fn swap(words: &Words, seat: &mut CpuSeat, word: Word, number: u64) -> u64
-    requires { Ready words.now.table_id seat.old (access.Swap word number) }
-    ensures table { seat.new.table ≡ words.now.table_id }
+pub(crate) fn swap(words: Words, seat: &mut CpuSeat, word: Word, number: u64) -> u64
+    requires { Ready words.shared.now.table_id seat.old (access.Swap word number) }
+    ensures table { seat.new.table ≡ words.entry.shared.now.table_id }
     ensures lives { Lives seat.new.known }
     ensures known { (t : Moment seat.old.known word result) × (seat.new.known ≡ known_taking
         (t.lives.calls.queue seat.old.known.number) seat.old.known act.Swap word (Some result) (Some number)) }

@@ -7,5 +7,6 @@ use smp_call_steps::known::{Known, Setting};
 pub enum SeatView {
     /// The CPUs below this number have a seat.
     Maker(u32, Setting),
+    /// What this seat's CPU knows.
     Cpu(Known),
 }

@@ -27,14 +27,16 @@ ghost use Rattle.smp_words.specs.Limits.{AreLimits};
 ghost use Rattle.smp_call_steps.specs.Histories.{sent_to, calls_from};
 ghost use Rattle.smp_call_steps.specs.Order.{order};
 ghost use Rattle.smp_words.specs.declared.call.Call.{Call};
-ghost use Rattle.smp_queue.specs.Handling.{Grows, asks, drains};
+ghost use Rattle.smp_queue.specs.Handling.{Grows, asks, drains, heard};
 ghost use Rattle.smp_queue.specs.Laws.{IsShown};
 ghost use Rattle.smp_queue.specs.Posted.{ShowsThat, IsFree, IsMarked, call_by};
+ghost use Rattle.smp_queue.specs.Empty.{BeginsEmpty};
 ghost use Rattle.smp_queue.specs.Cells.{cells};
 ghost use Rattle.smp_queue.specs.Rule.{HasComeTo};
-ghost use Rattle.smp_queue.specs.Cpu.{TableValue, IsFull, fresh_cpu, table_with, PostAnswers, BeginAnswers, confirmed_at, confirms, looks, sends};
+ghost use Rattle.smp_queue.specs.Cpu.{TableValue, IsFull, fresh_cpu, table_with, PostAnswers, BeginAnswers, confirmed_at, confirms, looks, sends, notes_call};
 ghost use Rattle.smp_queue.specs.Audit.{ClosesWith, Audited, IfDrained, AreEqual, HasRowsOf, HasZerosFrom};
 
+use crate::accesses::{Owner, Words};
 use crate::audit::Audit;
 use crate::boot::Boot;
 use crate::closing::ClosedTable;
@@ -42,8 +44,7 @@ use crate::cpu::CallCpu;
 use crate::handle::{Handled, handle};
 use crate::handler::Handler;
 use crate::post::{append, append_until_won, is_locked, write_record};
-use crate::rule::{Owner, Words};
-use crate::seat::{SeatMaker, lay, next_seat, store};
+use crate::seat::{SeatMaker, lay, next_seat, note_call, store};
 use smp_call_steps::known::Setting;
 use smp_call_steps::post::Posting;
 use smp_call_steps::start::{has_record, refusal};
@@ -71,20 +72,20 @@ impl<A: Allocator> Model for CallTable<A> {
 
     ghost Value = { TableValue };
 
-    ghost view = { λ t. record { table = t.owner.shared.table_id; nr = t.nr; online = t.online } };
+    ghost view = { λ t. record { table = t.owner.table.shared.table_id; nr = t.nr; online = t.online } };
 
-    ghost invariant = { λ t. IsTable t.owner.shared.table_id t.owner.shared.key t.nr t.online };
+    ghost invariant = { λ t. IsTable t.owner.table.shared.table_id t.owner.table.shared.key t.nr t.online };
 }
 
 /// The CPU of this number, where it is online; else it gets no seat.
-fn cpu_if(words: &Words, maker: &mut SeatMaker, number: u32, is_online: bool) -> Option<CallCpu>
-    requires table { (maker.old.raw.table_id ≡ words.now.table_id) × (words.now.table_id.words ≡ cells) }
-    requires come { HasComeTo maker.old.raw.me.0 words.now.key number }
-    requires below { (number < words.now.key.nr) × (number < cpus) }
-    requires online { is_online ≡ has words.now.key.online number }
-    ensures table { maker.new.raw.table_id ≡ words.now.table_id }
-    ensures come { HasComeTo maker.new.raw.me.0 words.now.key (number + 1) }
-    ensures cpu { result ≡ if is_online then Some (fresh_cpu (table_with words.now.table_id words.now.key) number) else None }
+fn cpu_if(words: Words, maker: &mut SeatMaker, number: u32, is_online: bool) -> Option<CallCpu>
+    requires table { (maker.old.raw.table_id ≡ words.shared.now.table_id) × (words.shared.now.table_id.words ≡ cells) }
+    requires come { HasComeTo maker.old.raw.me.0 words.shared.now.key number }
+    requires below { (number < words.shared.now.key.nr) × (number < cpus) }
+    requires online { is_online ≡ has words.shared.now.key.online number }
+    ensures table { maker.new.raw.table_id ≡ words.entry.shared.now.table_id }
+    ensures come { HasComeTo maker.new.raw.me.0 words.entry.shared.now.key (number + 1) }
+    ensures cpu { result ≡ if is_online then Some (fresh_cpu (table_with words.entry.shared.now.table_id words.entry.shared.now.key) number) else None }
 {
     if !is_online {
         return None;
@@ -108,7 +109,7 @@ where
     let (owner, mut maker) = lay(alloc, &Setting { nr, online })?;
     for number in 0..nr {
         let is_online = online.contains(number);
-        waiting.push(cpu_if(&owner.shared, &mut maker, number, is_online))?;
+        waiting.push(cpu_if(owner.words(), &mut maker, number, is_online))?;
     }
     let table = CallTable { owner, nr, online };
     let boot = Boot {
@@ -120,13 +121,16 @@ where
 }
 
 impl<A: Allocator> CallTable<A> {
-    /// A table of `nr` CPUs with no calls, and those of its CPUs that are online, each to be handed out once.
-    /// E4 where `nr` is not 1 to `NR_CPUS`, no CPU is online, or one that is online is not below `nr`; E6 where
-    /// a growth is refused. It takes effect at no step, since no thread shares the table yet, and does not wait.
+    /// A table of `nr` CPUs with no calls, and those of its CPUs that are online, each to be handed out once. Each CPU has done
+    /// nothing, and one that is not online never will. In whatever words show calls of such CPUs, all queues are empty, no CPU
+    /// has a call to run, and all records are free.
+    /// E4 (`SmpError::BadArgument`) where `nr` is not 1 to `NR_CPUS`, no CPU is online, or one that is online is not below
+    /// `nr`; E6 (`SmpError::NoMemory`) where a growth is refused. It takes effect at no step, since no thread shares the table yet, and does not wait.
     pub fn new(alloc: A, nr: u32, online: CpuMask) -> Result<(CallTable<A>, Boot<A>), SmpError>
     where
         A: Copy,
         ensures ok { IfOk result (λ t. (t.0.nr ≡ nr) × (t.0.online ≡ online) × IsFull t.1 t.0) }
+        ensures empty { IfOk result (λ t. BeginsEmpty t.0) }
         ensures limits { OnOk result (AreLimits nr online) }
         ensures refused { IsErrOf result SmpError.BadArgument ↔ (¬ (AreLimits nr online)) }
         ensures only { IfErr result (λ e. (e ≡ SmpError.BadArgument) ⊎ (e ≡ SmpError.NoMemory)) }
@@ -150,7 +154,7 @@ impl<A: Allocator> CallTable<A> {
 
     /// Whether the record of this local number is unlocked, as it is when its last call was run or given up, or
     /// it was never used (one turn of `kernel/smp.c: csd_lock_wait`). A record that is unlocked is confirmed.
-    /// E4 where there is no such record.
+    /// E4 (`SmpError::BadArgument`) where there is no such record.
     ///
     /// It takes effect at its one step, the load of the record's flags, and does not wait; a record that is queued is
     /// unlocked only if the target of its call polls.
@@ -165,7 +169,7 @@ impl<A: Allocator> CallTable<A> {
             return Err(SmpError::BadArgument);
         }
         let id = record_of(me.number, k);
-        let locked = is_locked(&self.owner.shared, &mut me.seat, id);
+        let locked = is_locked(self.owner.words(), &mut me.seat, id);
         me.is_shown();
         Ok(!locked)
     }
@@ -188,7 +192,7 @@ impl<A: Allocator> CallTable<A> {
     }
 
     /// Sends an interrupt to a CPU, which then takes its queue (`arch_send_call_function_single_ipi`). One that
-    /// is not owed does no harm. E1 where the CPU is not online.
+    /// is not owed does no harm. E1 (`SmpError::NoCpu`) where the CPU is not online.
     ///
     /// The interrupt is pending at its one step, the store of the interrupt word; it does not wait, and the CPU that is
     /// sent to must poll to take it.
@@ -201,7 +205,7 @@ impl<A: Allocator> CallTable<A> {
         if !self.online.contains(to) {
             return Err(SmpError::NoCpu);
         }
-        store(&self.owner.shared, &mut me.seat, Word::Intr(to), 1);
+        store(self.owner.words(), &mut me.seat, Word::Intr(to), 1);
         me.is_shown();
         Ok(())
     }
@@ -226,7 +230,7 @@ impl<A: Allocator> CallTable<A> {
             return Err(error);
         }
         let id = record_of(me.number, k);
-        if is_locked(&self.owner.shared, &mut me.seat, id) {
+        if is_locked(self.owner.words(), &mut me.seat, id) {
             return Err(SmpError::Busy);
         }
         if !self.online.contains(to) {
@@ -245,10 +249,10 @@ impl<A: Allocator> CallTable<A> {
 
     /// Queues one call by the CPU's record `k`, and answers whether an interrupt is owed, since the queue was
     /// empty; queued at the compare-exchange (`kernel/smp.c: generic_exec_single`). `tries` counts
-    /// compare-exchanges, each of which expects the number that was found in the head last. E4 where `k` is no
-    /// record, `tries` is 0, `to` is the own CPU or the record may not carry such a call; then E2 where the record
-    /// is locked; then E1 where `to` is not online; then E5 where the tries are used up: then nothing is queued, and
-    /// the record is free again.
+    /// compare-exchanges, each of which expects the number that was found in the head last. E4 (`SmpError::BadArgument`)
+    /// where `k` is no record, `tries` is 0, `to` is the own CPU or the record may not carry such a call; then E2
+    /// (`SmpError::Busy`) where the record is locked; then E1 (`SmpError::NoCpu`) where `to` is not online; then E5
+    /// (`SmpError::Contended`) where the tries are used up: then nothing is queued, and the record is free again.
     ///
     /// The call is queued at the compare-exchange that wins; it makes no more than `tries` of these and does not wait,
     /// and `to` must poll for the call to run.
@@ -269,9 +273,9 @@ impl<A: Allocator> CallTable<A> {
         ensures within { IfOk result (λ _. me.new.tried ≤ me.old.tried + tries) }
     {
         let posting = self.begin_post(me, k, to, class, func, info, tries)?;
-        write_record(&self.owner.shared, &mut me.seat, &posting);
+        write_record(self.owner.words(), &mut me.seat, &posting);
         let queued = me.queued[to as usize];
-        let words = &self.owner.shared;
+        let words = self.owner.words();
         match append(words, &mut me.seat, &posting, me.number, queued, tries) {
             Some(first) => {
                 me.queued[to as usize] = queued.wrapping_add(1);
@@ -281,7 +285,7 @@ impl<A: Allocator> CallTable<A> {
         }
     }
 
-    /// As `post_within`, but tries until its call is queued: it never answers E5. It pauses between two tries.
+    /// As `post_within`, but tries until its call is queued: it never answers E5 (`SmpError::Contended`). It pauses between two tries.
     ///
     /// The call is queued at the compare-exchange that wins; it may wait, but only while other CPUs change the same head
     /// before each of its tries, for which nobody must poll, and `to` must poll for the call to run.
@@ -301,12 +305,29 @@ impl<A: Allocator> CallTable<A> {
         ensures queued { IfErr result (λ e. e ≢ SmpError.Contended) }
     {
         let posting = self.begin_post(me, k, to, class, func, info, 1)?;
-        write_record(&self.owner.shared, &mut me.seat, &posting);
+        write_record(self.owner.words(), &mut me.seat, &posting);
         let queued = me.queued[to as usize];
-        let words = &self.owner.shared;
+        let words = self.owner.words();
         let first = append_until_won(rt, words, &mut me.seat, &posting, me.number, queued);
         me.queued[to as usize] = queued.wrapping_add(1);
         Ok(first)
+    }
+
+    /// Runs a function on this CPU itself, with no queue, and notes it in the CPU's log: this direct call is made after so
+    /// many steps of the CPU, and after so many takes of its interrupt word.
+    ///
+    /// It takes effect at its one step, a load of a word of its own by which it is noted; it does not wait, and nobody must
+    /// poll.
+    pub fn call_here<H: Handler>(&self, me: &mut CallCpu, handler: &mut H, func: u16, info: u64)
+        requires { me.old.table ≡ self.now.table }
+        ensures called { H.leads handler.old (heard me.old.number func info) handler.new }
+        ensures noted { me.new ≡ notes_call me.old }
+        ensures laws { IsShown me.new }
+    {
+        let own = record_of(me.number, 0);
+        note_call(self.owner.words(), &mut me.seat, Word::Flags(own));
+        handler.call(me.number, func, info);
+        me.is_shown();
     }
 
     /// Takes the CPU's interrupt and, where one was pending, its whole queue, and runs that batch: SYNC calls
@@ -322,7 +343,7 @@ impl<A: Allocator> CallTable<A> {
         ensures idle { result.interrupted ≡ false → (me.new ≡ asks false me.old) × (handler.new ≡ handler.old) × (result.ran ≡ 0) }
         ensures laws { IsShown me.new }
     {
-        let words = &self.owner.shared;
+        let words = self.owner.words();
         let handled = handle(words, &mut me.seat, me.number, &mut me.ran, handler);
         me.is_shown();
         handled

@@ -79,6 +79,10 @@ impl<'a> Driver<'a> {
         self.table.handle(&mut self.cpu, handler)
     }
 
+    fn call_here<H: Handler>(&mut self, handler: &mut H, func: u16, info: u64) {
+        self.table.call_here(&mut self.cpu, handler, func, info);
+    }
+
     fn is_done(&mut self, k: u32) -> Result<bool, SmpError> {
         self.table.is_done(&mut self.cpu, k)
     }

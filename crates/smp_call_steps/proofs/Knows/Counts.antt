@@ -1,7 +1,7 @@
 -- A step outside handle is counted, and a step of handle is not.
-use Rattle.std.proofs.Common.{◌≡◌, ℕ, ◌+◌, ◌≢◌, Option, Some, None, sym, ap, arith, refl, ◌∙◌}
+use Rattle.std.proofs.Common.{◌≡◌, ◌+◌, sym, ap, refl, ◌∙◌}
 use Rattle.smp_words.specs.Access.{word_of}
-use Rattle.smp_call_steps.specs.{steps_after, StepsCount, known_access, told_post, told_handle, Posting, PostStage, HandleStage, Post, Handle, Stage, Hand, Word}
+use Rattle.smp_call_steps.specs.{steps_after, StepsCount, known_access, told_post, told_handle, Posting, PostStage, HandleStage, Post, Handle}
 use Rattle.smp_call_steps.specs.declared.known.Known.{Known}
 use Rattle.smp_call_steps.specs.post
 use Rattle.smp_call_steps.specs.handle

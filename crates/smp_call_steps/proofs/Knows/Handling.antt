@@ -1,12 +1,12 @@
 -- A CPU inside handle: what holds of it by the laws, and what it knows after each of its steps.
-use Rattle.std.proofs.Common.{◌≡◌, ◌≢◌, ℕ, ◌%◌, ◌<◌, ◌==◌, Bool, true, cond, Option, Some, None, List, [], ◌∷◌, ◌++◌, sym, subst, ap, ◌∙◌, arith}
+use Rattle.std.proofs.Common.{◌≡◌, ◌≢◌, ℕ, ◌%◌, ◌<◌, ◌==◌, Bool, true, cond, Option, Some, None, List, [], ◌∷◌, ◌++◌, length, sym, subst, ap, ◌∙◌, arith}
 use Rattle.std.proofs.lemmas.Bool.{eq-eqb}
 use Rattle.smp_words.specs.Size.{cpus, records}
 use Rattle.smp_words.specs.Access.{word_of}
 use Rattle.smp_call_steps.specs.{CallState, CountedCall, DrainValue, record_at, first_on, handle_outcome, drain_after, IsPlaced, AllPlaced}
 use Rattle.smp_call_steps.specs.{nexts_in, last_batch, orders, running_call, ControlValue, access_of, FitsStage, Share, share_of, HandleStands, held_of, Part}
 use Rattle.smp_call_steps.specs.{part_confirmed, part_after, told_stage, told_post, told_handle, known_told, known_taking, stage_after}
-use Rattle.smp_call_steps.specs.{drain_then, tried_after, heads_after, log_after, steps_after, MayStep, known_access, Lives, GoesOn, handling, goes_known}
+use Rattle.smp_call_steps.specs.{drain_then, tried_after, heads_after, log_after, steps_after, sent_after, MayStep, known_access, Lives, GoesOn, handling, goes_known}
 use Rattle.smp_call_steps.specs.{taken_known, ended_call, Call, Word, Head, Hand, Flags, Func, Info, Next, Access, Act, Posting, PostStage, Walk}
 use Rattle.smp_call_steps.specs.{HandleStage, Stage, Post, Handle}
 use Rattle.smp_words.proofs.Links.{HasIndex}
@@ -113,6 +113,8 @@ pub told_at : (queue : List Call) (v : Known) (s : Option Stage) (act : Act) (w 
       heads = heads_after act w found s v.heads;
       log = log_after act w put v.log;
       steps = steps_after s w v.steps;
+      sent_at = sent_after act w put (steps_after s w v.steps) v.sent_at;
+      asked_at = sent_after act w put (length v.part.asked) v.asked_at;
     }
 told_at queue v s act w found put e = search arith
 

@@ -1,9 +1,9 @@
 -- A step's log is what it has sent.
-use Rattle.std.proofs.Common.{◌≡◌, ℕ, ◌%◌, ◌≤◌, ◌==◌, nat_lt, Bool, true, false, cond, Option, Some, None, List, [], ◌∷◌, length, sym, subst, refl, arith}
-use Rattle.smp_words.specs.Access.{act_of}
+use Rattle.std.proofs.Common.{◌≡◌, ℕ, ◌%◌, ◌≤◌, ◌==◌, nat_lt, Bool, true, false, cond, Option, Some, None, List, [], ◌∷◌, length, sym, ap, ◌∙◌, subst, refl, arith}
+use Rattle.smp_words.specs.Access.{act_of, word_of, seen_of}
 use Rattle.smp_call_steps.specs.{CallState, Holding, Running, CountedCall, SyncCall, AsyncCall, confirms, locked, releases, unlocks, begins_sync}
-use Rattle.smp_call_steps.specs.{begins_async, counts, links, held_told, flags_told, hand_told, appended, told, Sees, MayStep, known_access, log_after}
-use Rattle.smp_call_steps.specs.{SendsNothing, SendsCall, Sends, log_with, LogsTell, ControlValue, Call, Word, Head, Intr, Hand, Queued, Ran, Flags, Func}
+use Rattle.smp_call_steps.specs.{begins_async, counts, links, held_told, flags_told, hand_told, appended, told, Sees, MayStep, known_access, known_tells, log_after, sent_after}
+use Rattle.smp_call_steps.specs.{SendsNothing, SendsCall, Sends, log_with, sent_with, LogsTell, ControlValue, Call, Word, Head, Intr, Hand, Queued, Ran, Flags, Func}
 use Rattle.smp_call_steps.specs.{Info, Next, Act, Stage, Post, Handle, Logged}
 use Rattle.smp_call_steps.specs.Shows.{Shows}
 use Rattle.smp_call_steps.proofs.Knows.Restages.{aims_held}
@@ -100,6 +100,11 @@ module _ (a : CallState) (me : ℕ) where
   log_else act.Store (Intr to) put log e = absurd e
   log_else _ w put log e = refl
 
+  sent_else : (kind : Act) (w : Word) (put : Option ℕ) → IsElse w → (now before : ℕ) → sent_after kind w put now before ≡ before
+  sent_else act.Cas (Head to) put e now before = absurd e
+  sent_else act.Store (Intr to) put e now before = absurd e
+  sent_else _ w put e now before = refl
+
   sends_call : (to : ℕ) (held : Option Holding) → IsHeld held → SendsCall a (appended a me to held) to
   sends_call to (Some h) holds = record { call = h.call; queues = refl; pending = refl }
   sends_call to None holds = absurd holds
@@ -107,21 +112,22 @@ module _ (a : CallState) (me : ℕ) where
   -- a step on this word logs what it sends
   abbrev Logs : Act → Word → Option ℕ → Option ℕ → List Logged → Type 0
   Logs kind w found put log = (sent : Option Logged) × (log_after kind w put log ≡ log_with sent log) × Sends sent a (told a me kind w found put)
+      × ((now before : ℕ) → sent_after kind w put now before ≡ sent_with sent now before)
 
   head_logs : (kind : Act) (to : ℕ) (found put : Option ℕ) (log : List Logged) → (kind ≡ act.Cas → IsHeld (a.held me)) → Logs kind (Head to) found put log
-  head_logs act.Cas to found (Some n) log holds = (Some (logged.Queued to), refl, sends_call to (a.held me) (holds refl))
+  head_logs act.Cas to found (Some n) log holds = (Some (logged.Queued to), refl, sends_call to (a.held me) (holds refl), λ _ _. refl)
   head_logs act.Swap to found put log holds = search (shorter, arith)
-  head_logs _ to found put log holds = (None, refl, quiet a refl refl)
+  head_logs _ to found put log holds = (None, refl, quiet a refl refl, λ _ _. refl)
 
   intr_logs : (kind : Act) (to : ℕ) (found put : Option ℕ) (log : List Logged) → Logs kind (Intr to) found put log
-  intr_logs act.Store to found put log = (Some (logged.Interrupted to), refl, record { queues = refl; pending = refl })
+  intr_logs act.Store to found put log = (Some (logged.Interrupted to), refl, record { queues = refl; pending = refl }, λ _ _. refl)
   intr_logs act.Swap to found put log = search (was_pending, arith)
-  intr_logs _ to found put log = (None, refl, quiet a refl refl)
+  intr_logs _ to found put log = (None, refl, quiet a refl refl, λ _ _. refl)
 
   step_logs : (kind : Act) (w : Word) (found put : Option ℕ) (log : List Logged) → (kind ≡ act.Cas → IsHeld (a.held me)) → Logs kind w found put log
   step_logs kind (Head to) found put log holds = head_logs kind to found put log holds
   step_logs kind (Intr to) found put log holds = intr_logs kind to found put log
-  step_logs kind w found put log holds = (None, log_else kind w put log tt, quiet_else kind w found put tt)
+  step_logs kind w found put log holds = (None, log_else kind w put log tt, quiet_else kind w found put tt, sent_else kind w put tt)
 
 -- at a compare-exchange a CPU holds the call that it queues
 module _ {a : CallState} {at : Word → ℕ} {control : ℕ → ControlValue} {v : Known} (s : Shows a at control) (sees : Sees a control v) where
@@ -131,4 +137,7 @@ module _ {a : CallState} {at : Word → ℕ} {control : ℕ → ControlValue} {v
   holds_at _ aims e = absurd (let f = e in cc)
 
 pub logs_tell : LogsTell
-logs_tell a at control v s sees st aims access is = search (step_logs, holds_at, arith)
+logs_tell a at control v s sees st aims access is =
+    let seen = seen_of v.number access (at (word_of access)) None in
+    let t = step_logs a v.number seen.act seen.word seen.found seen.put v.log (λ e. holds_at s sees st aims (ap act_of is ∙ e)) in
+    (t.0, t.1, t.2, t.3 (known_tells (a.queue v.number) v seen).steps v.sent_at, t.3 (length v.part.asked) v.asked_at)

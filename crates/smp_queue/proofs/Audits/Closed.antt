@@ -10,7 +10,7 @@ use Rattle.smp_call_steps.specs.Calls.{no_calls}
 use Rattle.smp_call_steps.specs.Histories.{sent_to, calls_from}
 use Rattle.smp_call_steps.specs.Known.{told_stage}
 use Rattle.smp_call_steps.specs.Parts.{part_of}
-use Rattle.smp_queue.specs.{Hand, Queued, Ran, Flags, Known, Part, Setting, SeatView, Left, Closes, ClosesWith, Audited, AuditAnswers, HaveRun, IfDrained}
+use Rattle.smp_queue.specs.{Hand, Queued, Ran, Flags, Known, Part, Setting, SeatView, Left, Closes, ClosesWith, AuditAnswers, HaveRun, IfDrained}
 use Rattle.smp_queue.specs.{AreEqual, HasRowsOf, HasZerosFrom, has_lock, has_hand, left_in, nothing_left, number_in, TableValue, CpuValue, setting_of, cpu_of}
 use Rattle.smp_queue.specs.{SeatValue, Ruled}
 use Rattle.smp_queue.specs.Names.{Cpu, Audit}
@@ -119,6 +119,8 @@ module _ (t : TableValue) (last : CpuValue) (words : List ℕ) (c : ClosesWith t
           heads = last.heads;
           log = last.log;
           steps = last.steps;
+          sent_at = last.sent_at;
+          asked_at = last.asked_at;
         };
   }
 

@@ -10,19 +10,19 @@ use Rattle.atomic_table.proofs.Lists.{at_set}
 use Rattle.std.proofs.lemmas.Bool.{cases_eq}
 use Rattle.smp_mask.specs.Mask.{has}
 use Rattle.smp_words.proofs.Puts.{put_same, put_other}
-use Rattle.smp_words.specs.Access.{put_if}
+use Rattle.smp_words.specs.Access.{put_if, seen_of}
 use Rattle.smp_words.specs.Put.{put, put_word}
 use Rattle.smp_call_steps.specs.Calls.{CallState, no_calls}
 use Rattle.smp_call_steps.specs.Stages.{ControlValue}
 use Rattle.smp_call_steps.specs.Value.{outside}
 use Rattle.smp_call_steps.specs.Shows.{Shows}
-use Rattle.smp_call_steps.specs.Known.{Sees, fresh, known_told, known_taking, GoesOn}
+use Rattle.smp_call_steps.specs.Known.{Sees, fresh, known_told, known_taking, noted_known, GoesOn}
 use Rattle.smp_call_steps.proofs.Knows.OneStep.{known_step}
 use Rattle.smp_call_steps.proofs.Machine.Starts.{zeros_shown}
 use Rattle.smp_words.proofs.Zeros.{zero_at}
-use Rattle.smp_queue.specs.{Call, Word, Head, Access, Load, Store, Swap, Exchange, Known, Setting, SeatView, Maker, cells, cell_of, number_in, Ruled}
+use Rattle.smp_queue.specs.{Call, Word, Head, Intr, Access, Load, Store, Swap, Exchange, Known, Setting, SeatView, Maker, cells, cell_of, number_in, Ruled}
 use Rattle.smp_queue.specs.{next_from, next_online}
-use Rattle.smp_queue.specs.{SeatKnows, Sits, known, after, seat_made, AfterLoad, AfterStore, AfterExchange, AfterSwap, loaded, stored, exchanged, swapped}
+use Rattle.smp_queue.specs.{SeatKnows, Sits, known, after, seat_made, AfterLoad, AfterNote, AfterStore, AfterExchange, AfterSwap, loaded, noted, stored, exchanged, swapped}
 use Rattle.smp_queue.specs.{IsCpuSeat, MayAccess}
 use Rattle.smp_queue.specs.Names.{Cpu}
 use Rattle.smp_queue.proofs.TheRule.Cells.{one_cell, number_here, stored_here}
@@ -214,6 +214,25 @@ module _ {S : Type 0} (k : Setting) where
             ap (λ (x : Word). Cpu (known_told v act.Load x (Some (get_or words i 0)) None)) (one_cell w u i e f),
           ),
         ))
+
+    -- a load of which nothing is told: the calls stay, and the CPU's part of them
+    pub note_allowed : (i : ℕ) → Allows (Ruled k) slots id me i (λ n. n) (noted (step slots i 0 0 none) me)
+    note_allowed i = steps i (λ n. n) (AfterNote (step slots i 0 0 none) me) (λ a control words shown wide sees. (
+      noted_known v,
+      refl,
+      subst (λ (x : List ℕ). GoesOn a control v.number (number_in x) (noted_known v)) (sym (set-get_or words i 0))
+          record {
+            seen = seen_of v.number (Load (Intr 0)) 0 None;
+            calls = a;
+            told = refl;
+            controls = control;
+            shown = shown;
+            mine = record { stage = sees.stage; drain = sees.drain; part = sees.part };
+            number_is = refl;
+            others = λ o other s. s;
+          },
+      refl,
+    ))
 
     pub store_allowed : (w : Word) (i x : ℕ) → cell_of w ≡ Some i → MayAccess (known me.0) (Store w x)
         → Allows (Ruled k) slots id me i (λ _. x) (λ _. stored (step slots i x 0 none) me x)

@@ -20,9 +20,9 @@ ghost use Rattle.smp_queue.specs.Plays.{stored};
 ghost use Rattle.smp_queue.specs.Handling.{heard_of, AreRan, HasRun};
 
 use super::CpuSeat;
+use crate::accesses::Words;
 use crate::cell::cell;
 use crate::handler::Handler;
-use crate::rule::Words;
 use crate::seat_view::SeatView;
 use atomic_table::Play;
 use smp_call_steps::handle::Walk;
@@ -45,9 +45,9 @@ pub struct Begun<H> {
 }
 
 #[inline(always)]
-fn store_step(words: &Words, seat: &mut CpuSeat, word: Word, number: u64)
-    requires { IsStepOfCall words.now.table_id seat.old word number }
-    ensures table { seat.new.table ≡ words.now.table_id }
+fn store_step(words: Words, seat: &mut CpuSeat, word: Word, number: u64)
+    requires { IsStepOfCall words.shared.now.table_id seat.old word number }
+    ensures table { seat.new.table ≡ words.entry.shared.now.table_id }
     ensures lives { Lives seat.new.known }
     ensures known { seat.new.known ≡ known_told seat.old.known act.Store word None (Some number) }
 {
@@ -56,7 +56,7 @@ fn store_step(words: &Words, seat: &mut CpuSeat, word: Word, number: u64)
 
 /// A SYNC call begins: the handling word names its record, which stays locked.
 fn begin_sync<H: Handler>(
-    words: &Words,
+    words: Words,
     seat: &mut CpuSeat,
     number: u32,
     walk: Walk,
@@ -65,9 +65,9 @@ fn begin_sync<H: Handler>(
     handler: &H,
 ) -> Begun<H>
     requires me { seat.old.known.number ≡ number }
-    requires at { InHandle words.now.table_id seat.old (handle.BeginSync walk call next) }
+    requires at { InHandle words.shared.now.table_id seat.old (handle.BeginSync walk call next) }
     requires class { call.class ≡ Class.Sync }
-    ensures at { InHandle words.now.table_id seat.new (handle.CountSync walk call next) }
+    ensures at { InHandle words.entry.shared.now.table_id seat.new (handle.CountSync walk call next) }
     ensures known { seat.new.known ≡ begun_sync walk call next seat.old.known }
     ensures of { result.call.value ≡ call }
     ensures before { result.before.value ≡ handler.now }
@@ -81,7 +81,7 @@ fn begin_sync<H: Handler>(
 
 /// A SYNC call whose function has run is counted, as the call of this count from its source, in that source's tally word.
 pub fn count_sync<H: Handler>(
-    words: &Words,
+    words: Words,
     seat: &mut CpuSeat,
     tally: Word,
     walk: Walk,
@@ -91,12 +91,12 @@ pub fn count_sync<H: Handler>(
     handler: &H,
     begun: &Begun<H>,
 )
-    requires at { InHandle words.now.table_id seat.old (handle.CountSync walk call next) }
+    requires at { InHandle words.shared.now.table_id seat.old (handle.CountSync walk call next) }
     requires tally { tally ≡ Ran seat.old.known.number (owner call.id) }
     requires count { count ≡ (ran_tally seat.old.known.part (owner call.id) + 1) % 2 ^ 64 }
     requires of { begun.now.call.value ≡ call }
     requires heard { H.leads begun.now.before.value (heard_of call) handler.now }
-    ensures at { InHandle words.now.table_id seat.new (handle.EndSync walk call next) }
+    ensures at { InHandle words.entry.shared.now.table_id seat.new (handle.EndSync walk call next) }
     ensures known { seat.new.known ≡ counted_sync walk call next seat.old.known }
 {
     let _ = handler;
@@ -106,7 +106,7 @@ pub fn count_sync<H: Handler>(
 
 /// A SYNC call whose function has run ends: its record is unlocked.
 pub fn end_sync<H: Handler>(
-    words: &Words,
+    words: Words,
     seat: &mut CpuSeat,
     walk: Walk,
     call: Call,
@@ -114,10 +114,10 @@ pub fn end_sync<H: Handler>(
     handler: &H,
     begun: Begun<H>,
 )
-    requires at { InHandle words.now.table_id seat.old (handle.EndSync walk call next) }
+    requires at { InHandle words.shared.now.table_id seat.old (handle.EndSync walk call next) }
     requires of { begun.call.value ≡ call }
     requires heard { H.leads begun.before.value (heard_of call) handler.now }
-    ensures at { InHandle words.now.table_id seat.new (first_on walk next) }
+    ensures at { InHandle words.entry.shared.now.table_id seat.new (first_on walk next) }
     ensures known { seat.new.known ≡ ended_call (first_on walk next) call seat.old.known }
 {
     let _ = handler;
@@ -126,15 +126,15 @@ pub fn end_sync<H: Handler>(
 
 /// An ASYNC call begins: its record is unlocked.
 fn begin_async<H: Handler>(
-    words: &Words,
+    words: Words,
     seat: &mut CpuSeat,
     call: Call,
     next: Option<u32>,
     handler: &H,
 ) -> Begun<H>
-    requires at { InHandle words.now.table_id seat.old (handle.BeginAsync call next) }
+    requires at { InHandle words.shared.now.table_id seat.old (handle.BeginAsync call next) }
     requires class { call.class ≡ Class.Async }
-    ensures at { InHandle words.now.table_id seat.new (handle.CountAsync call next) }
+    ensures at { InHandle words.entry.shared.now.table_id seat.new (handle.CountAsync call next) }
     ensures known { seat.new.known ≡ begun_async call next seat.old.known }
     ensures of { result.call.value ≡ call }
     ensures before { result.before.value ≡ handler.now }
@@ -149,7 +149,7 @@ fn begin_async<H: Handler>(
 /// An ASYNC call whose function has run is counted, as the call of this count from its source, in that source's tally
 /// word, and ends.
 pub fn count_async<H: Handler>(
-    words: &Words,
+    words: Words,
     seat: &mut CpuSeat,
     tally: Word,
     call: Call,
@@ -158,12 +158,12 @@ pub fn count_async<H: Handler>(
     handler: &H,
     begun: Begun<H>,
 )
-    requires at { InHandle words.now.table_id seat.old (handle.CountAsync call next) }
+    requires at { InHandle words.shared.now.table_id seat.old (handle.CountAsync call next) }
     requires tally { tally ≡ Ran seat.old.known.number (owner call.id) }
     requires count { count ≡ (ran_tally seat.old.known.part (owner call.id) + 1) % 2 ^ 64 }
     requires of { begun.call.value ≡ call }
     requires heard { H.leads begun.before.value (heard_of call) handler.now }
-    ensures at { InHandle words.now.table_id seat.new (second_on next) }
+    ensures at { InHandle words.entry.shared.now.table_id seat.new (second_on next) }
     ensures known { seat.new.known ≡ ended_call (second_on next) call seat.old.known }
 {
     let _ = handler;
@@ -183,7 +183,7 @@ fn one_more(counts: &mut [u64], source: u32) -> u64
 
 /// Runs a SYNC call whose record is out of the chain.
 pub(crate) fn run_sync<H: Handler>(
-    words: &Words,
+    words: Words,
     seat: &mut CpuSeat,
     number: u32,
     counts: &mut [u64],
@@ -193,9 +193,9 @@ pub(crate) fn run_sync<H: Handler>(
     handler: &mut H,
 )
     requires me { seat.old.known.number ≡ number }
-    requires at { InHandle words.now.table_id seat.old (handle.BeginSync walk call next) }
+    requires at { InHandle words.shared.now.table_id seat.old (handle.BeginSync walk call next) }
     requires counts { AreRan counts.old seat.old.known }
-    ensures { HasRun H.leads words.now.table_id seat.old seat.new (first_on walk next) call counts.new handler.old handler.new }
+    ensures { HasRun H.leads words.entry.shared.now.table_id seat.old seat.new (first_on walk next) call counts.new handler.old handler.new }
 {
     let source = owner_of(call.id);
     let tally = Word::Ran(number, source);
@@ -208,7 +208,7 @@ pub(crate) fn run_sync<H: Handler>(
 
 /// Runs an ASYNC call.
 pub(crate) fn run_async<H: Handler>(
-    words: &Words,
+    words: Words,
     seat: &mut CpuSeat,
     number: u32,
     counts: &mut [u64],
@@ -217,9 +217,9 @@ pub(crate) fn run_async<H: Handler>(
     handler: &mut H,
 )
     requires me { seat.old.known.number ≡ number }
-    requires at { InHandle words.now.table_id seat.old (handle.BeginAsync call next) }
+    requires at { InHandle words.shared.now.table_id seat.old (handle.BeginAsync call next) }
     requires counts { AreRan counts.old seat.old.known }
-    ensures { HasRun H.leads words.now.table_id seat.old seat.new (second_on next) call counts.new handler.old handler.new }
+    ensures { HasRun H.leads words.entry.shared.now.table_id seat.old seat.new (second_on next) call counts.new handler.old handler.new }
 {
     let source = owner_of(call.id);
     let tally = Word::Ran(number, source);

@@ -164,6 +164,21 @@ fn a_record_is_busy_until_its_call_has_run(rt: HostRuntime) -> Result<(), Fail> 
 }
 
 #[test]
+fn a_direct_call_is_heard_and_touches_no_queue(rt: HostRuntime) -> Result<(), Fail> {
+    let (table, mut boot) = CallTable::new(rt.alloc(), 2, "0-1".parse()?)?;
+    let cpu = seat(&table, &mut boot, 1)?;
+    let mut one = Driver { table: &table, cpu };
+    let mut heard = Recorder::new(rt.alloc());
+    one.call_here(&mut heard, 5, 6);
+    one.call_here(&mut heard, 7, 8);
+    assert!(rt; heard.has_heard(&[(1, 5, 6), (1, 7, 8)]));
+    assert!(rt; one.handle(&mut heard) == IDLE);
+    assert_eq!(rt; (one.tally(0), one.tally(1)), ((0, 0), (0, 0)));
+    assert_eq!(rt; one.is_done(0), Ok(true));
+    Ok(())
+}
+
+#[test]
 fn a_table_is_drained_once_its_call_has_run(rt: HostRuntime) -> Result<(), Fail> {
     let (table, mut boot) = CallTable::new(rt.alloc(), 2, "0-1".parse()?)?;
     let mut zero = seat(&table, &mut boot, 0)?;

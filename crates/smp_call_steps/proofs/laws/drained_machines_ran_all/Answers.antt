@@ -1,4 +1,4 @@
-use Rattle.std.proofs.Common.{sym, ◌%◌, arith}
+use Rattle.std.proofs.Common.{sym, arith}
 use Rattle.smp_call_steps.proofs.State.Drained.{Still, as_many_ran, equal_tallies}
 use Rattle.smp_call_steps.proofs.laws.drained_machines_ran_all.Goals as goal
 

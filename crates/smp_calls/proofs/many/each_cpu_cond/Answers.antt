@@ -1,4 +1,4 @@
-use Rattle.std.proofs.Common.{arith, ◌≡◌, ℕ, Bool, List, Option, false, cond, Some, None, sym, subst}
+use Rattle.std.proofs.Common.{arith, ◌≡◌, ℕ, Bool, List, Option, false, cond, Some, None, sym, ◌∙◌, subst}
 use Rattle.smp_mask.specs.Mask.{has, members}
 use Rattle.smp_words.specs.declared.call.Class.{Class}
 use Rattle.smp_queue.specs.Handling.{heard}
@@ -7,6 +7,7 @@ use Rattle.smp_calls.specs.Families.{CallsMany}
 use Rattle.smp_calls.specs.Targets.{remote}
 use Rattle.smp_calls.specs.Ended.{HaveEnded}
 use Rattle.smp_calls.specs.Records.{class_for, many_call}
+use Rattle.smp_calls.specs.Rounds.{HearsIf, noted_if}
 use Rattle.smp_words.specs.declared.call.Class.TheVariants.{Sync}
 use Rattle.smp_calls.proofs.Ended.{many_ended}
 use Rattle.smp_calls.proofs.Parts.{target_online, not_called, picks_with, others_called, called_here, calls_then_here, calls_waited_for}
@@ -32,11 +33,16 @@ returns-clause-calls g c =
     let out : has called this ≡ false =
     not_called c.args.mask c.online.result this c.targets-others.result called c.targets-others.ensures c.queue_all-called.ensures.picks.among in
     let direct : Option Heard = cond here (Some (heard this c.args.func c.args.info)) None in
-    let made = calls_waited_for g.H.Handler.leads c.args.me.now c.queue_all-called.new.me c.wait_all.new.me c.args.handler.now c.call_if.new.handler
+    let mine : c.queue_all-called.new.me.number ≡ this = c.queue_all-called.ensures.calls.2.number_is ∙ sym c.number-this.ensures.number in
+    let heard_it = subst (λ (n : ℕ). HearsIf g.H.Handler.leads c.queue_all-called.new.handler (cond here (Some (heard n c.args.func c.args.info)) None)
+    c.call_if.new.handler) mine c.call_if.ensures.called in
+    let noted = subst (λ (n : ℕ). c.call_if.new.me ≡ noted_if (cond here (Some (heard n c.args.func c.args.info)) None) c.queue_all-called.new.me) mine
+    c.call_if.ensures.noted in
+    let made = calls_waited_for g.H.Handler.leads c.args.me.now c.call_if.new.me c.wait_all.new.me c.args.handler.now c.call_if.new.handler
     c.wait_all.new.handler c.class_for-class.result c.args.func c.args.info (members called) direct c.args.wait
-    (calls_then_here g.H.Handler.leads c.args.me.now c.queue_all-called.new.me c.args.handler.now c.queue_all-called.new.handler c.call_if.new.handler
-    c.class_for-class.result c.args.func c.args.info
-    (members called) direct c.queue_all-called.ensures.calls c.call_if.ensures) c.wait_all.ensures in
+    (calls_then_here g.H.Handler.leads c.args.me.now c.queue_all-called.new.me c.call_if.new.me c.args.handler.now c.queue_all-called.new.handler
+    c.call_if.new.handler c.class_for-class.result c.args.func c.args.info
+    (members called) direct c.queue_all-called.ensures.calls c.queue_all-called.ensures.last heard_it noted) c.wait_all.ensures in
     let Made =
     λ (to : List ℕ) (class : Class) (heard : Option Heard). CallsMany g.H.Handler.leads c.args.me.now c.args.handler.now c.wait_all.new.me
     c.wait_all.new.handler to class c.args.func c.args.info heard c.args.wait in
@@ -56,14 +62,19 @@ returns-clause-ended g c waited =
     let out : has called this ≡ false =
     not_called c.args.mask c.online.result this c.targets-others.result called c.targets-others.ensures c.queue_all-called.ensures.picks.among in
     let direct : Option Heard = cond here (Some (heard this c.args.func c.args.info)) None in
+    let mine : c.queue_all-called.new.me.number ≡ this = c.queue_all-called.ensures.calls.2.number_is ∙ sym c.number-this.ensures.number in
+    let heard_it = subst (λ (n : ℕ). HearsIf g.H.Handler.leads c.queue_all-called.new.handler (cond here (Some (heard n c.args.func c.args.info)) None)
+    c.call_if.new.handler) mine c.call_if.ensures.called in
+    let noted = subst (λ (n : ℕ). c.call_if.new.me ≡ noted_if (cond here (Some (heard n c.args.func c.args.info)) None) c.queue_all-called.new.me) mine
+    c.call_if.ensures.noted in
     let Made = λ (class : Class) (wait : Bool). CallsMany g.H.Handler.leads c.args.me.now c.args.handler.now c.wait_all.new.me c.wait_all.new.handler
     (members called) class c.args.func c.args.info direct wait in
     let made : Made c.class_for-class.result c.args.wait =
-    calls_waited_for g.H.Handler.leads c.args.me.now c.queue_all-called.new.me c.wait_all.new.me c.args.handler.now c.call_if.new.handler
+    calls_waited_for g.H.Handler.leads c.args.me.now c.call_if.new.me c.wait_all.new.me c.args.handler.now c.call_if.new.handler
     c.wait_all.new.handler c.class_for-class.result c.args.func c.args.info (members called) direct c.args.wait
-    (calls_then_here g.H.Handler.leads c.args.me.now c.queue_all-called.new.me c.args.handler.now c.queue_all-called.new.handler c.call_if.new.handler
-    c.class_for-class.result c.args.func c.args.info
-    (members called) direct c.queue_all-called.ensures.calls c.call_if.ensures) c.wait_all.ensures in
+    (calls_then_here g.H.Handler.leads c.args.me.now c.queue_all-called.new.me c.call_if.new.me c.args.handler.now c.queue_all-called.new.handler
+    c.call_if.new.handler c.class_for-class.result c.args.func c.args.info
+    (members called) direct c.queue_all-called.ensures.calls c.queue_all-called.ensures.last heard_it noted) c.wait_all.ensures in
     let ended = many_ended g.H.Handler.leads c.args.me.now c.args.handler.now c.wait_all.new.me c.wait_all.new.handler called c.args.func c.args.info direct
     (subst (λ (b : Bool). Made (class_for b) b) waited (subst (λ (class : Class). Made class c.args.wait) c.class_for-class.ensures made)) c.is_shown.ensures in
     let Ended = λ (to : List ℕ). HaveEnded c.wait_all.new.me (many_call c.args.me.now.number Sync c.args.func c.args.info) to in

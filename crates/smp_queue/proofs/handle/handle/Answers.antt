@@ -11,7 +11,7 @@ returns-clause-asked g c = λ _.
     let first = c.run_sync_calls-left.ensures in
     let second = c.run_async_calls.ensures in
     let h =
-    has_handled g.H.Handler.leads c.args.words.now.table_id c.args.seat.now c.enter.new.seat c.take-newest.new.seat c.reverse-oldest.new.seat
+    has_handled g.H.Handler.leads c.args.words.shared.now.table_id c.args.seat.now c.enter.new.seat c.take-newest.new.seat c.reverse-oldest.new.seat
     c.run_sync_calls-left.new.seat c.run_async_calls.new.seat c.leave-2.new.seat
     k.0 c.take-newest.result c.run_sync_calls-left.new.counts c.run_async_calls.new.counts c.args.handler.now c.run_sync_calls-left.new.handler
     c.run_async_calls.new.handler

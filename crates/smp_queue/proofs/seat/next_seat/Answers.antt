@@ -10,7 +10,7 @@ pub split_seat-raw-requires : goal.split_seat-raw-requires
 split_seat-raw-requires c =
     let come = c.requires.come in
     let number = c.requires.number in
-    let next = come_next c.args.words.now.key come number.1 number.2 in
+    let next = come_next c.args.words.shared.now.key come number.1 number.2 in
     (c.requires.table.0, omega arith, splits _ _ come.0 c.args.n _ come.1 next come.2 number.0 number.2)
 
 pub invariant_of-result : goal.invariant_of-result
@@ -18,16 +18,16 @@ invariant_of-result c =
     let come = c.requires.come in
     let number = c.requires.number in
     fresh_seat_is _ _ c.args.n number.0 number.2 ((λ i. (c.split_seat-raw.ensures.4 i).0) ∙ (ap seat_made come.1
-    ∙ ap (λ n. Cpu (fresh c.args.words.now.key n)) (come_next c.args.words.now.key come number.1 number.2)))
+    ∙ ap (λ n. Cpu (fresh c.args.words.shared.now.key n)) (come_next c.args.words.shared.now.key come number.1 number.2)))
 
 pub returns-clause-maker : goal.returns-clause-maker
 returns-clause-maker c =
     let come = c.requires.come in
-    let next = come_next c.args.words.now.key come c.requires.number.1 c.requires.number.2 in
+    let next = come_next c.args.words.shared.now.key come c.requires.number.1 c.requires.number.2 in
     search (next, arith)
 
 pub returns-clause-seat : goal.returns-clause-seat
 returns-clause-seat c =
     let come = c.requires.come in
-    let next = come_next c.args.words.now.key come c.requires.number.1 c.requires.number.2 in
+    let next = come_next c.args.words.shared.now.key come c.requires.number.1 c.requires.number.2 in
     search (next, arith)

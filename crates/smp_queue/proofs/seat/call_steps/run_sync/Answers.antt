@@ -29,7 +29,7 @@ returns g c =
     c.one_more-ran.ensures.counts ∙
     (ap (set c.args.counts.now c.owner_of-source.result) c.one_more-ran.ensures.count
     ∙ ap (λ (n : ℕ). set c.args.counts.now n ((get_or c.args.counts.now n 0 + 1) % 2 ^ 64)) c.owner_of-source.ensures) in
-    has_run g.H.Handler.leads c.args.words.now.table_id c.args.seat.now c.end_sync.new.seat
+    has_run g.H.Handler.leads c.args.words.shared.now.table_id c.args.seat.now c.end_sync.new.seat
     (first_on c.args.walk c.args.next) c.args.call c.args.next _ c.args.counts.now c.one_more-ran.new.counts c.args.handler.now c.call.new.self
     at.table_is c.requires.counts (lives_front at.lives c.args.call _ batch) batch
     (c.end_sync.ensures.known ∙ ap (ended_call (first_on c.args.walk c.args.next) c.args.call) counted)

@@ -6,7 +6,8 @@ use Rattle.smp_queue.proofs.table.CallTable.begin_post.Goals as goal
 pub is_locked-requires-clause-at : goal.is_locked-requires-clause-at
 is_locked-requires-clause-at g c =
     at_own _ c.me.inside.seat c.me.inside.number c.args.k c.record_of-id.result c.me.inside.queued c.me.inside.ran c.me.invariant
-    (ap (λ d. d.table) c.me.view_is ∙ (c.requires ∙ sym (ap (λ t. t.table) c.self.view_is))) c.self.invariant.sized
+    (ap (λ d. d.table) c.me.view_is ∙ (c.requires ∙ (sym (ap (λ t. t.table) c.self.view_is) ∙ sym c.words.ensures.table)))
+    (ap (λ t. t.words) c.words.ensures.table ∙ c.self.invariant.sized)
     (allowed_record c.self.inside.nr c.self.inside.online c.me.inside.number c.args.k c.args.to c.args.func c.args.info c.args.tries c.args.class
     (sym c.refusal.ensures ∙ c.in_default.is)) c.record_of-id.ensures
 

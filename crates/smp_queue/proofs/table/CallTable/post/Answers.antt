@@ -21,7 +21,7 @@ invariant_of-me g c =
 pub returns-clause-answers : goal.returns-clause-answers
 returns-clause-answers g c =
     let e = c.in_ok-posting.ensures in
-    let table = c.append_until_won-first.ensures.table ∙ (ap (λ t. t.table) c.self.view_is ∙ sym c.requires) in (
+    let table = c.append_until_won-first.ensures.table ∙ (c.words-words.ensures.table ∙ (ap (λ t. t.table) c.self.view_is ∙ sym c.requires)) in (
       e.0,
       e.1,
       c.append_until_won-first.ensures.sent.0,

@@ -22,7 +22,7 @@ invariant_of-me g c =
 pub returns-in-Some-clause-answers : goal.returns-in-Some-clause-answers
 returns-in-Some-clause-answers g c =
     let e = c.in_ok-posting.ensures in
-    let table = c.append.ensures.table ∙ (ap (λ t. t.table) c.self.view_is ∙ sym c.requires) in (
+    let table = c.append.ensures.table ∙ (c.words-words.ensures.table ∙ (ap (λ t. t.table) c.self.view_is ∙ sym c.requires)) in (
       e.0,
       e.1,
       c.in-Some.ensures.sent.0,

@@ -13,8 +13,8 @@ store-requires g c =
     let to : c.args.to < cpus = online_below c.self.inside.nr c.self.inside.online c.args.to c.self.invariant.limits
     (sym c.contains.ensures.member ∙ c.if-not-contains.false) in
     record {
-      table_is = ap (λ d. d.table) c.me.view_is ∙ (c.requires ∙ sym (ap (λ t. t.table) c.self.view_is));
-      sized = c.self.invariant.sized;
+      table_is = ap (λ d. d.table) c.me.view_is ∙ (c.requires ∙ (sym (ap (λ t. t.table) c.self.view_is) ∙ sym c.words.ensures.table));
+      sized = ap (λ t. t.words) c.words.ensures.table ∙ c.self.invariant.sized;
       can = record { stage = Send c.args.to; aims = (m.outside, to, omega arith); is_access = refl };
       apart = tt;
       cell = has_cell (Intr c.args.to) to;
