@@ -42,7 +42,7 @@ use Rattle.smp_multi.specs.Cells.{cells, HasCell}
 use Rattle.smp_multi.specs.Patches.{AtPatch, begins_with, count_in, entries_in, made_in, moved_with, rest_in, stored_all, stored_to}
 use Rattle.smp_multi.specs.Places.{work_in}
 use Rattle.smp_multi.specs.Rounds.{AloneWhile, AtRun, AtTurn}
-use Rattle.smp_multi.specs.Seat.{SeatValue, Ready}
+use Rattle.smp_multi.specs.Seat.{SeatValue, Able, Ready}
 use Rattle.smp_multi.specs.Turns.{HasRun, patched_by, patched_with}
 use Rattle.smp_multi.specs.declared.func.Called.{Called}
 use Rattle.smp_multi.proofs.Cells.{slot_cell, key_cell, entry_cell, site_cell}
@@ -301,21 +301,18 @@ module _ (t : TableId) (d : SeatValue) (v : Visit) (a : AtPatch t d v) (fresh : 
   at_store e i change same low is = same ∙ (stored_is i
       ∙ ap (λ l. with_made (take i plan) l (moved_with job count (take i plan) d.known.part.patched)) (split i change low is))
 
-  pub ready_store : (e : SeatValue) (i : ℕ) (change : Change) → e.table ≡ t → Lives e.known → e.known ≡ stored_to i d.known.seat d.known → i < length plan
-      → change ≡ get_or plan i (place.Key 0, 0) → Ready t e (Store (label_word change.0) change.1)
-  ready_store e i change table lives same low is = subst (λ (k : Known). Ready t (record { table = e.table; known = k }) (store_of change))
+  pub able_store : (e : SeatValue) (i : ℕ) (change : Change) → e.table ≡ t → Lives e.known → e.known ≡ stored_to i d.known.seat d.known → i < length plan
+      → change ≡ get_or plan i (place.Key 0, 0) → Able t e (Store (label_word change.0) change.1)
+  able_store e i change table lives same low is = subst (λ (k : Known). Able t (record { table = e.table; known = k }) (store_of change))
       (sym (at_store e i change same low is)) record {
-        able = record {
-          table_is = table;
-          sized = a.sized;
-          can = record {
-            move = Alter v.slot job count (take i plan) change (drop (i + 1) plan);
-            may = (refl, plan_is ∙ whole i change low is, a.key_low);
-            is_access = refl;
-          };
-          cell = has_cell change.0 change.1 refl;
+        table_is = table;
+        sized = a.sized;
+        can = record {
+          move = Alter v.slot job count (take i plan) change (drop (i + 1) plan);
+          may = (refl, plan_is ∙ whole i change low is, a.key_low);
+          is_access = refl;
         };
-        apart = tt;
+        cell = has_cell change.0 change.1 refl;
       }
     where
       few : length entries ≤ MOST_SITES
@@ -373,19 +370,16 @@ module _ (t : TableId) (d : SeatValue) (v : Visit) (a : AtPatch t d v) (fresh : 
 
 -- the acknowledgement
 
-pub ready_acknowledge_patch : (t : TableId) (d : SeatValue) (v : Visit) → AtPatch t d v → rest_in d.known.seat ≡ [] → Ready t d (Sub (Slot v.slot field.Ack))
-ready_acknowledge_patch t d v a none =
+pub able_acknowledge_patch : (t : TableId) (d : SeatValue) (v : Visit) → AtPatch t d v → rest_in d.known.seat ≡ [] → Able t d (Sub (Slot v.slot field.Ack))
+able_acknowledge_patch t d v a none =
     let w = work_in d.known.seat in
     let count = count_in d.known.seat in
     let made = made_in d.known.seat in
     record {
-      able = record {
-        table_is = a.table_is;
-        sized = a.sized;
-        can = record { move = AcknowledgePatch v.slot w count made; may = a.seat_is ∙ ap (Alters v.slot w count made) none; is_access = refl };
-        cell = slot_cell v.slot field.Ack a.low;
-      };
-      apart = tt;
+      table_is = a.table_is;
+      sized = a.sized;
+      can = record { move = AcknowledgePatch v.slot w count made; may = a.seat_is ∙ ap (Alters v.slot w count made) none; is_access = refl };
+      cell = slot_cell v.slot field.Ack a.low;
     }
 
 -- where the CPU is once it has acknowledged RUN

@@ -3,7 +3,7 @@ use Rattle.std.specs.Prelude.{◌≡◌, ◌≢◌, false}
 use Rattle.atomic_table.specs.Seated.{TableId}
 use Rattle.smp_mask.specs.Mask.{has}
 use Rattle.smp_words.specs.Access.{word_of}
-use Rattle.smp_stop_steps.specs.Moves.{Can, Move, Acknowledge, Give, Count}
+use Rattle.smp_stop_steps.specs.Moves.{Can, Move, Acknowledge, AcknowledgePatch, Alter, Give, Count}
 use Rattle.smp_stop_steps.specs.declared.phase.TheConstants.{DISABLE_IRQ}
 use Rattle.smp_multi.specs.Names.{Access, Known, One, SeatView, Cpu}
 use Rattle.smp_multi.specs.Cells.{cells, HasCell}
@@ -18,10 +18,12 @@ pub record SeatValue : Type 0 where
 abbrev pub IsCpuSeat : SeatView → Type 0
 IsCpuSeat v = v ≡ Cpu (known v)
 
--- a step by which no call of a stop function ends: any but the acknowledgement of RUN by an active CPU, and the end of a
--- stop of kind One
+-- a step by which no call of a stop function ends and no patch is made: any but the acknowledgement of RUN by an active
+-- CPU, the end of a stop of kind One, and a store of a patch
 abbrev pub IsApartFromRuns : Known → Move → Type 0
 IsApartFromRuns v (Acknowledge s w a) = a ≡ DISABLE_IRQ → has w.active v.number ≡ false
+IsApartFromRuns v (AcknowledgePatch s w count made) = ⊥
+IsApartFromRuns v (Alter s w count made change rest) = ⊥
 IsApartFromRuns v (Give s w a l x) = w.kind ≢ One
 IsApartFromRuns v (Count s w a l) = w.kind ≢ One
 IsApartFromRuns v _ = Unit {0}
@@ -33,7 +35,7 @@ pub record Able (table : TableId) (seat : SeatValue) (access : Access) : Type 0 
   pub can : Can seat.known access
   pub cell : HasCell (word_of access)
 
--- the same of one that ends no call of a stop function
+-- the same of one that ends no call of a stop function and makes no patch
 pub record Ready (table : TableId) (seat : SeatValue) (access : Access) : Type 0 where
   pub able : Able table seat access
   pub apart : IsApartFromRuns seat.known able.can.move

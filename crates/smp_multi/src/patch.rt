@@ -1,24 +1,24 @@
 //! A CPU makes the patch of its stop, and acknowledges `RUN` (`kernel/jump_label.c: jump_label_update`).
 
-ghost use Rattle.std.specs.Prelude.{◌≡◌, ◌<◌, [], ℕ, true, slice_index};
+ghost use Rattle.std.specs.Prelude.{◌≡◌, ◌<◌, ℕ, true, slice_index};
 ghost use Rattle.smp_labels.specs.Entries.{IsEntryWord};
 ghost use Rattle.smp_labels.specs.Keys.{change_of};
 ghost use Rattle.smp_labels.specs.Plans.{plan_of};
 ghost use Rattle.smp_labels.specs.declared.words.TheConstants.{MOST_KEYS, MOST_SITES};
 ghost use Rattle.smp_stop_steps.specs.Known.{Lives, Moment};
-ghost use Rattle.smp_stop_steps.specs.KnownAfter.{acked_by};
 ghost use Rattle.smp_stop_steps.specs.Labels.{answer_for as answer_of_patch, patch_answer};
-ghost use Rattle.smp_stop_steps.specs.Stages.{label_word, visit_acked};
+ghost use Rattle.smp_stop_steps.specs.Stages.{visit_acked};
 ghost use Rattle.smp_multi.specs.Names.{Key, Patch, Rests};
 ghost use Rattle.smp_multi.specs.Cells.{cells};
-ghost use Rattle.smp_multi.specs.Patches.{AtPatch, begins_with, entries_in, made_in, rest_in, stored_all};
+ghost use Rattle.smp_multi.specs.Patches.{AtPatch, begins_with, entries_in};
 ghost use Rattle.smp_multi.specs.Places.{work_in};
 ghost use Rattle.smp_multi.specs.Rounds.{AloneWhile, AtRun, AtTurn};
 ghost use Rattle.smp_multi.specs.Turns.{patched_by};
 
 use crate::round::pass;
 use crate::rule::Words;
-use crate::seat::{CpuSeat, load, store, subtract};
+use crate::seat::patch_steps::{acknowledge_patch, store_plan};
+use crate::seat::{CpuSeat, load};
 use arrayvec::ArrayVec;
 use smp_labels::{Change, Entry, MOST_CHANGES, MOST_SITES, Place, is_on, kind_of};
 use smp_stop_steps::stage::Visit;
@@ -105,48 +105,6 @@ fn load_plan(
         }
     }
     plan
-}
-
-/// The word of a place.
-fn word_of(place: Place) -> Word
-    ensures { result ≡ label_word place }
-{
-    match place {
-        Place::Key(key) => Word::Key(key),
-        Place::Site(site) => Word::Site(site),
-    }
-}
-
-/// Makes the stores of a patch, in order.
-fn store_plan(
-    words: &Words,
-    seat: &mut CpuSeat,
-    visit: Visit,
-    plan: &ArrayVec<(Place, u64), MOST_CHANGES>,
-)
-    requires at { AtPatch words.now.table_id seat.old visit }
-    requires fresh { made_in seat.old.known.seat ≡ [] }
-    requires plan { rest_in seat.old.known.seat ≡ plan.now.items }
-    requires lives { Lives seat.old.known }
-    ensures at { AtPatch words.now.table_id seat.new visit }
-    ensures lives { Lives seat.new.known }
-    ensures known { seat.new.known ≡ stored_all seat.old.known.seat seat.old.known }
-{
-    let _ = visit;
-    for (place, number) in plan.as_slice() {
-        store(words, seat, word_of(*place), *number);
-    }
-}
-
-/// Acknowledges `RUN`, with all stores of the patch made, and answers what was found in the count.
-fn acknowledge_patch(words: &Words, seat: &mut CpuSeat, visit: Visit) -> u64
-    requires at { AtPatch words.now.table_id seat.old visit }
-    requires whole { rest_in seat.old.known.seat ≡ [] }
-    ensures table { seat.new.table ≡ words.now.table_id }
-    ensures lives { Lives seat.new.known }
-    ensures known { seat.new.known ≡ acked_by result seat.old.known.seat seat.old.known }
-{
-    subtract(words, seat, Word::Slot(visit.slot, Field::Ack))
 }
 
 /// What a patch answers: 1 where the count stands at the end of its range, so that there is no next one.

@@ -8,10 +8,9 @@ ghost use Rattle.smp_multi.specs.Places.{work_in};
 ghost use Rattle.smp_multi.specs.Running.{AtOne, called_by};
 
 use crate::complete::close_if_last;
-use crate::func::{Called, StopFunc};
+use crate::func::StopFunc;
 use crate::rule::Words;
-use crate::run_steps::{begin_one, end_one};
-use crate::seat::CpuSeat;
+use crate::seat::{CpuSeat, run_steps};
 
 /// Calls the function of the stop of this slot, and completes with its answer.
 pub(crate) fn run_one<F: StopFunc>(
@@ -28,15 +27,7 @@ pub(crate) fn run_one<F: StopFunc>(
     ensures known { seat.new.known ≡ completed_with 0 slot (work_in seat.old.known.seat) (answer_word result) seat.old.known }
     ensures heard { F.leads func.old (called_by seat.old.known result) func.new }
 {
-    let (begun, number_of_func, arg) = begin_one(words, seat, slot, func);
-    let answer = func.run(number, number_of_func, arg);
-    let call = Called {
-        cpu: number,
-        func: number_of_func,
-        arg,
-        answer,
-    };
-    let found = end_one(words, seat, slot, call, func, begun);
+    let (found, answer) = run_steps::run_one(words, seat, number, slot, func);
     close_if_last(words, seat, slot, found);
     answer
 }

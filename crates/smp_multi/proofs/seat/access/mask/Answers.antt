@@ -1,0 +1,29 @@
+use Rattle.std.proofs.Common.{arith, ap, subst, ◌∙◌, ◌≡◌, Some, bit_and}
+use Rattle.smp_stop_steps.specs.Known.{Moment}
+use Rattle.smp_stop_steps.specs.KnownAfter.{known_entering}
+use Rattle.smp_stop_steps.specs.Moves.{entering}
+use Rattle.smp_multi.specs.Names.{Known}
+use Rattle.smp_multi.specs.Names.act
+use Rattle.smp_multi.specs.Rule.{known}
+use Rattle.smp_multi.proofs.Cells.{cell_below}
+use Rattle.smp_multi.proofs.Keeps.{and_allowed, can_same}
+use Rattle.smp_multi.proofs.seat.access.mask.Goals as goal
+
+pub cell-requires : goal.cell-requires
+cell-requires c = c.requires.able.cell
+
+pub fetch_and-requires : goal.fetch_and-requires
+fetch_and-requires c = let r = c.requires.able in let low = cell_below c.args.word c.cell.result c.cell.ensures in let w = r.sized in (
+  ap (λ d. d.table) c.seat.view_is ∙ r.table_is,
+  omega arith,
+  and_allowed _ _ _ _ c.seat.invariant c.args.word c.cell.result c.args.number c.cell.ensures
+      (can_same _ _ _ (ap (λ d. d.known) c.seat.view_is) r.can),
+)
+
+-- the moment, of what the caller sees
+pub returns-clause-known : goal.returns-clause-known
+returns-clause-known c = let e = c.fetch_and.ensures.2.1 c.args.word c.cell.ensures in
+    subst (λ (v : Known). (t : Moment v c.args.word c.fetch_and.result)
+    × (known c.fetch_and.new.seat.me.0 ≡ known_entering (entering t.stops c.args.word) v act.And c.args.word (Some c.fetch_and.result)
+    (Some (bit_and c.fetch_and.result c.args.number))))
+    (ap (λ d. d.known) c.seat.view_is) (e.0, ap known e.1)
