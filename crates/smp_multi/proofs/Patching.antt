@@ -19,7 +19,7 @@ use Rattle.smp_labels.proofs.Patched.{plan_key_first}
 use Rattle.smp_labels.proofs.Stores.{entries_kept}
 use Rattle.smp_mask.specs.Mask.{has}
 use Rattle.smp_words.specs.Size.{cpus}
-use Rattle.smp_stop_steps.specs.Known.{Lives, Moment, setup_in}
+use Rattle.smp_stop_steps.specs.Known.{Lives, Moment, carrying, setup_in}
 use Rattle.smp_stop_steps.specs.KnownAfter.{acked_by, called_by, counted, is_drafting, key_loaded_by, known_told, looked_known, looked_to}
 use Rattle.smp_stop_steps.specs.KnownAfter.{raised_by, reads_more}
 use Rattle.smp_stop_steps.specs.Labels.{Change, LabelsShow, Patching, Patches, Whole, count_set, patch_answer}
@@ -383,15 +383,15 @@ able_acknowledge_patch t d v a none =
     }
 
 -- where the CPU is once it has acknowledged RUN
-pub patch_acked : (t : TableId) (d e : SeatValue) (v x : Visit) (found : ℕ) → AtPatch t d v → e.table ≡ t → e.known ≡ acked_by found d.known.seat d.known
-    → (x.slot ≡ v.slot) × (x.kind ≡ v.kind) × (x.mask ≡ v.mask) × (x.active ≡ v.active) × (x.acked ≡ v.acked + 1)
+pub patch_acked : (t : TableId) (d e : SeatValue) (v x : Visit) (found answer : ℕ) → AtPatch t d v → e.table ≡ t
+    → e.known ≡ acked_by found d.known.seat (carrying answer d.known) → (x.slot ≡ v.slot) × (x.kind ≡ v.kind) × (x.mask ≡ v.mask) × (x.active ≡ v.active) × (x.acked ≡ v.acked + 1)
     → AtTurn t e x x.acked (cond (found == 1) Fills Rests)
-patch_acked t d e v x found a table same moved =
+patch_acked t d e v x found answer a table same moved =
     let w = work_in d.known.seat in
     let duty = cond (found == 1) Fills Rests in
     let run : RUN ≡ x.acked = (let two = a.disabled in let up = moved.4 in omega arith) in
-    let is : e.known ≡ acked_by found (Alters v.slot w (count_in d.known.seat) (made_in d.known.seat) (rest_in d.known.seat)) d.known =
-    same ∙ ap (λ y. acked_by found y d.known) a.seat_is in
+    let is : e.known ≡ acked_by found (Alters v.slot w (count_in d.known.seat) (made_in d.known.seat) (rest_in d.known.seat))
+    (carrying answer d.known) = same ∙ ap (λ y. acked_by found y (carrying answer d.known)) a.seat_is in
     let seat : e.known.seat ≡ In x.slot w x.acked x.acked duty = ap (λ (k : Known). k.seat) is ∙ (λ i. In (sym moved.0 i) w (run i) (run i) duty) in
     let work : w ≡ work_in e.known.seat = sym (ap work_in seat) in
     record {
@@ -406,7 +406,11 @@ patch_acked t d e v x found a table same moved =
 -- all steps of a patch, from the load of its key on
 module _ (k : Known) (s : ℕ) (w : Work) (count : ℕ) (is : k.seat ≡ In s w DISABLE_IRQ RUN Rests) where
   abbrev patched_at : Duty → Known
-  patched_at duty = record k { seat = In s w RUN RUN duty; part = record (k.part) { calling = Carries 0; patched = patched_with w count k.part.patched } }
+  patched_at duty = record k {
+    seat = In s w RUN RUN duty;
+    part = record (k.part) { calling = Carries 0; patched = patched_with w count k.part.patched };
+    carried = patch_answer w count;
+  }
 
   abbrev duty_at : Bool → Duty
   duty_at last = cond last Fills Rests
@@ -415,15 +419,17 @@ module _ (k : Known) (s : ℕ) (w : Work) (count : ℕ) (is : k.seat ≡ In s w 
   passed_same true = refl
   passed_same false = refl
 
-  pub patch_ends : (k1 k2 k3 k4 : Known) (found next : ℕ) → k1 ≡ begins_with count k.seat k → k2 ≡ stored_all k1.seat k1 → k3 ≡ acked_by found k2.seat k2
+  pub patch_ends : (k1 k2 k3 k4 : Known) (found answer next : ℕ) → k1 ≡ begins_with count k.seat k → k2 ≡ stored_all k1.seat k1
+      → answer ≡ patch_answer w count → k3 ≡ acked_by found k2.seat (carrying answer k2)
       → k4 ≡ cond (found == 1) (raised_by next k3.seat k3) k3 → next ≡ 4 → k4 ≡ patched_by count k.seat k
-  patch_ends k1 k2 k3 k4 found next one two three four up =
+  patch_ends k1 k2 k3 k4 found answer next one two says three four up =
       let plan = plan_at (setup_in k.setting) w count in
       let l = patched_with w count k.part.patched in
       let acked = patched_at (duty_at (found == 1)) in
       let a : k1 ≡ record k { seat = Alters s w count [] plan } = one ∙ ap (λ y. begins_with count y k) is in
       let b : k2 ≡ record k { seat = Alters s w count plan []; part = record (k.part) { patched = l } } = two ∙ ap (λ (x : Known). stored_all x.seat x) a in
-      let c : k3 ≡ acked = three ∙ ap (λ (x : Known). acked_by found x.seat x) b in
+      let c : k3 ≡ acked = three ∙ (ap (λ (x : Known). acked_by found x.seat (carrying answer x)) b
+      ∙ ap (λ n. record acked { carried = n }) says) in
       four ∙ (ap (λ (x : Known). cond (found == 1) (raised_by next x.seat x) x) c
       ∙ (ap (λ n. cond (found == 1) (raised_by n acked.seat acked) acked) up ∙ (passed_same (found == 1) ∙ sym (ap (λ y. patched_by count y k) is))))
 
@@ -439,13 +445,13 @@ work_looked n (Closes s) = refl
 -- a CPU that has looked at RUN, where this count was in the key, and has made its patch
 pub has_patched : {F : Type 0} (leads : F → Called → F → Type 0) (old looked new : Known) (v x : Visit) (f : F) (count : ℕ)
     → looked ≡ looked_known RUN old → Moment looked (Key (work_in looked.seat).func) count → new ≡ patched_by count looked.seat looked
-    → x ≡ visit_acked v (patch_answer (work_in looked.seat) count) true → HasRun leads old new v x f f Patch
+    → x ≡ visit_acked v 0 false → HasRun leads old new v x f f Patch
 has_patched leads old looked new v x f count is m same next =
     let work : work_in looked.seat ≡ work_in old.seat = ap (λ (k : Known). work_in k.seat) is ∙ work_looked RUN old.seat in (
       count,
       subst (λ (w : Work). Moment (looked_known RUN old) (Key w.func) count) work
           (subst (λ (k : Known). Moment k (Key (work_in looked.seat).func) count) is m),
       same ∙ ap (λ (k : Known). patched_by count k.seat k) is,
-      next ∙ ap (λ (w : Work). visit_acked v (patch_answer w count) true) work,
+      next,
       refl,
     )

@@ -1,12 +1,12 @@
 //! A CPU makes the patch of its stop, and acknowledges `RUN` (`kernel/jump_label.c: jump_label_update`).
 
-ghost use Rattle.std.specs.Prelude.{◌≡◌, ◌<◌, ℕ, true, slice_index};
+ghost use Rattle.std.specs.Prelude.{◌≡◌, ◌<◌, ℕ, false, slice_index};
 ghost use Rattle.smp_labels.specs.Entries.{IsEntryWord};
 ghost use Rattle.smp_labels.specs.Keys.{change_of};
 ghost use Rattle.smp_labels.specs.Plans.{plan_of};
 ghost use Rattle.smp_labels.specs.declared.words.TheConstants.{MOST_KEYS, MOST_SITES};
 ghost use Rattle.smp_stop_steps.specs.Known.{Lives, Moment};
-ghost use Rattle.smp_stop_steps.specs.Labels.{answer_for as answer_of_patch, patch_answer};
+ghost use Rattle.smp_stop_steps.specs.Labels.{answer_for as answer_of_patch};
 ghost use Rattle.smp_stop_steps.specs.Stages.{visit_acked};
 ghost use Rattle.smp_multi.specs.Names.{Key, Patch, Rests};
 ghost use Rattle.smp_multi.specs.Cells.{cells};
@@ -125,15 +125,15 @@ pub(crate) fn patch_on(words: &Words, seat: &mut CpuSeat, visit: Visit) -> Visit
     ensures lives { Lives seat.new.known }
     ensures patched { (count : ℕ) × Moment seat.old.known (Key (work_in seat.old.known.seat).func) count
         × (seat.new.known ≡ patched_by count seat.old.known.seat seat.old.known)
-        × (result ≡ visit_acked visit (patch_answer (work_in seat.old.known.seat) count) true) }
+        × (result ≡ visit_acked visit 0 false) }
 {
     let (key, change) = load_change(words, seat, visit);
     let count = begin_patch(words, seat, visit, key);
     let next = change.count_after(count);
     let plan = load_plan(words, seat, key, count, next.unwrap_or(count));
     store_plan(words, seat, visit, &plan);
-    let found = acknowledge_patch(words, seat, visit);
-    let visit = visit.acknowledged(answer_for(next), true);
+    let found = acknowledge_patch(words, seat, visit, answer_for(next));
+    let visit = visit.acknowledged(0, false);
     pass(words, seat, visit, found);
     visit
 }

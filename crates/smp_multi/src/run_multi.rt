@@ -1,12 +1,11 @@
 //! A CPU runs the function of a Multi stop, and acknowledges `RUN` (`multi_cpu_stop`).
 
-ghost use Rattle.std.specs.Prelude.{◌≡◌, ℤ, true};
+ghost use Rattle.std.specs.Prelude.{◌≡◌, ℤ, false};
 ghost use Rattle.smp_stop_steps.specs.Known.{Lives};
 ghost use Rattle.smp_stop_steps.specs.Stages.{visit_acked};
-ghost use Rattle.smp_stop_steps.specs.Starts.{answer_word as word_of_answer};
 ghost use Rattle.smp_multi.specs.Names.{Multi, Rests};
 ghost use Rattle.smp_multi.specs.Rounds.{AtRun, AtTurn, passed_by};
-ghost use Rattle.smp_multi.specs.Running.{called_by, calls_now};
+ghost use Rattle.smp_multi.specs.Running.{answered_now, called_by};
 
 use crate::func::StopFunc;
 use crate::round::pass;
@@ -14,9 +13,8 @@ use crate::rule::Words;
 use crate::seat::CpuSeat;
 use crate::seat::run_steps::run_multi;
 use smp_stop_steps::stage::Visit;
-use smp_stop_steps::start::answer_word;
 
-/// Calls the function of a Multi stop, acknowledges `RUN`, and stores the next phase as the last.
+/// Calls the function of a Multi stop, acknowledges `RUN` with its answer, and stores the next phase as the last.
 pub(crate) fn run_on<F: StopFunc>(
     words: &Words,
     seat: &mut CpuSeat,
@@ -28,11 +26,12 @@ pub(crate) fn run_on<F: StopFunc>(
     requires number { seat.old.known.number ≡ number }
     ensures at { AtTurn words.now.table_id seat.new result result.acked Rests }
     ensures lives { Lives seat.new.known }
-    ensures known { seat.new.known ≡ passed_by seat.old.known.seat (calls_now seat.old.known) }
-    ensures heard { (answer : ℤ) × (result ≡ visit_acked visit (word_of_answer answer) true) × F.leads func.old (called_by seat.old.known answer) func.new }
+    ensures visit { result ≡ visit_acked visit 0 false }
+    ensures heard { (answer : ℤ) × (seat.new.known ≡ passed_by seat.old.known.seat (answered_now answer seat.old.known))
+        × F.leads func.old (called_by seat.old.known answer) func.new }
 {
-    let (found, answer) = run_multi(words, seat, number, visit, func);
-    let visit = visit.acknowledged(answer_word(answer), true);
+    let (found, _) = run_multi(words, seat, number, visit, func);
+    let visit = visit.acknowledged(0, false);
     pass(words, seat, visit, found);
     visit
 }

@@ -289,7 +289,7 @@ impl<A: Allocator> StopTable<A> {
         if visit.kind == Kind::One || visit.acked != EXIT {
             return Err(SmpError::BadArgument);
         }
-        complete::finish(&self.owner.shared, &mut me.seat, visit.slot, visit.answer);
+        complete::finish(&self.owner.shared, &mut me.seat, visit.slot);
         me.visit = None;
         Ok(())
     }

@@ -112,7 +112,11 @@ no_part = record {
 }
 
 abbrev pub fresh : Setting → ℕ → Known
-fresh k me = record { setting = k; number = me; seat = Free; source = Shut; part = no_part }
+fresh k me = record { setting = k; number = me; seat = Free; source = Shut; part = no_part; carried = 0 }
+
+-- with this answer, which it carries from now on
+abbrev pub carrying : ℕ → Known → Known
+carrying x v = record v { carried = x }
 
 -- some words show some stops, of which a CPU that knows v knows its part
 pub record Lives (v : Known) : Type 0 where

@@ -1,6 +1,6 @@
 //! A CPU's seat, and the accesses that it makes. No other page names a raw seat or a cell, and none can: what steps is
-//! private here. Steps that end a stop function or store a label are made by `store_any` and `subtract_any`, which only
-//! the pages beside this one see.
+//! private here. Steps that store an answer or a label are made by `store_any`; steps that end a stop function, a patch or
+//! a stop by `subtract_with`, which also puts the answer that the CPU carries. Only the pages beside this one see these two.
 
 ghost use Rattle.std.specs.Prelude.{◌≡◌, ℕ, ◌+◌, ◌<◌, ◌==◌, if◌then◌else◌, IfOk, Some, None};
 ghost use Rattle.std.specs.Int.Bits.{bit_and};
@@ -9,7 +9,7 @@ ghost use Rattle.smp_words.specs.Size.{cpus};
 ghost use Rattle.smp_words.specs.Access.{one_less};
 ghost use Rattle.smp_words.specs.declared.access.Access.TheVariants as access;
 ghost use Rattle.smp_words.specs.declared.seen.Act.TheVariants as act;
-ghost use Rattle.smp_stop_steps.specs.Known.{fresh, Moment, Lives};
+ghost use Rattle.smp_stop_steps.specs.Known.{carrying, fresh, Moment, Lives};
 ghost use Rattle.smp_stop_steps.specs.KnownAfter.{known_told, known_entering};
 ghost use Rattle.smp_stop_steps.specs.Moves.{entering};
 ghost use Rattle.smp_multi.specs.declared.seat_view.SeatView.TheVariants.{Maker};
@@ -30,18 +30,30 @@ use std::marker::Model;
 #[derive(Drop)]
 pub struct CpuSeat {
     raw: RawSeat,
+    /// The answer with which the CPU is to complete the stop that it is in, 0 where it carries none.
+    carried: u64,
 }
 
 impl Model for CpuSeat {
     ghost use Rattle.std.specs.Prelude.{◌≡◌};
+    ghost use Rattle.smp_stop_steps.specs.Known.{carrying};
     ghost use Rattle.smp_multi.specs.Seat.{SeatValue, IsCpuSeat};
     ghost use Rattle.smp_multi.specs.Rule.{known};
 
     ghost Value = { SeatValue };
 
-    ghost view = { λ c. record { table = c.raw.table_id; known = known c.raw.me.0 } };
+    ghost view = { λ c. record { table = c.raw.table_id; known = carrying c.carried (known c.raw.me.0) } };
 
     ghost invariant = { λ c. IsCpuSeat c.raw.me.0 };
+}
+
+impl CpuSeat {
+    /// The answer that the CPU carries.
+    pub(super) fn carried(&self) -> u64
+        ensures { result ≡ self.now.known.carried }
+    {
+        self.carried
+    }
 }
 
 // What each kind of access tells. Only this page plays them.
@@ -111,7 +123,7 @@ pub(crate) fn next_seat(words: &Words, maker: &mut SeatMaker, n: u32) -> CpuSeat
     ensures seat { (result.table ≡ words.now.table_id) × (result.known ≡ fresh words.now.key n) }
 {
     let raw = words.split_seat::<NextSeat>(&mut maker.raw);
-    CpuSeat { raw }
+    CpuSeat { raw, carried: 0 }
 }
 
 /// Loads a word.
@@ -137,7 +149,7 @@ pub(super) fn store_any(words: &Words, seat: &mut CpuSeat, word: Word, number: u
     words.store::<Stored>(&mut seat.raw, cell(word), number);
 }
 
-/// Stores a number in a word, by a step that ends no stop function and stores no label.
+/// Stores a number in a word, by a step that stores no answer and no label.
 #[inline(always)]
 pub(crate) fn store(words: &Words, seat: &mut CpuSeat, word: Word, number: u64)
     requires { Ready words.now.table_id seat.old (access.Store word number) }
@@ -166,18 +178,21 @@ pub(crate) fn exchange(
     words.compare_exchange::<Exchanged>(&mut seat.raw, cell(word), expected, number)
 }
 
-/// Takes 1 from a word, by any step that the CPU may make, and answers what was found.
+/// Takes 1 from a word, by any step that the CPU may make, and answers what was found. With this step the CPU carries
+/// this answer.
 #[inline(always)]
-pub(super) fn subtract_any(words: &Words, seat: &mut CpuSeat, word: Word) -> u64
+pub(super) fn subtract_with(words: &Words, seat: &mut CpuSeat, word: Word, answer: u64) -> u64
     requires { Able words.now.table_id seat.old (access.Sub word) }
     ensures table { seat.new.table ≡ words.now.table_id }
     ensures lives { Lives seat.new.known }
-    ensures known { seat.new.known ≡ known_told seat.old.known act.Sub word (Some result) (Some (one_less result)) }
+    ensures known { seat.new.known ≡ known_told (carrying answer seat.old.known) act.Sub word (Some result) (Some (one_less result)) }
 {
-    words.fetch_sub::<Subtracted>(&mut seat.raw, cell(word), 1)
+    let found = words.fetch_sub::<Subtracted>(&mut seat.raw, cell(word), 1);
+    seat.carried = answer;
+    found
 }
 
-/// Takes 1 from a word, by a step that ends no stop function and no patch, and answers what was found.
+/// Takes 1 from a word, by a step that ends no stop function, no patch and no stop, and answers what was found.
 #[inline(always)]
 pub(crate) fn subtract(words: &Words, seat: &mut CpuSeat, word: Word) -> u64
     requires { Ready words.now.table_id seat.old (access.Sub word) }
@@ -185,7 +200,7 @@ pub(crate) fn subtract(words: &Words, seat: &mut CpuSeat, word: Word) -> u64
     ensures lives { Lives seat.new.known }
     ensures known { seat.new.known ≡ known_told seat.old.known act.Sub word (Some result) (Some (one_less result)) }
 {
-    subtract_any(words, seat, word)
+    words.fetch_sub::<Subtracted>(&mut seat.raw, cell(word), 1)
 }
 
 /// Keeps those bits of a word that this number has, and answers what was found. A CPU that enters a stop learns its

@@ -2,12 +2,14 @@
 //! them. No other page can make them.
 
 ghost use Rattle.std.specs.Prelude.{◌≡◌, []};
-ghost use Rattle.smp_stop_steps.specs.Known.{Lives};
+ghost use Rattle.smp_stop_steps.specs.Known.{Lives, carrying};
 ghost use Rattle.smp_stop_steps.specs.KnownAfter.{acked_by};
+ghost use Rattle.smp_stop_steps.specs.Labels.{patch_answer};
 ghost use Rattle.smp_stop_steps.specs.Stages.{label_word};
-ghost use Rattle.smp_multi.specs.Patches.{AtPatch, made_in, rest_in, stored_all};
+ghost use Rattle.smp_multi.specs.Patches.{AtPatch, count_in, made_in, rest_in, stored_all};
+ghost use Rattle.smp_multi.specs.Places.{work_in};
 
-use super::access::{CpuSeat, store_any, subtract_any};
+use super::access::{CpuSeat, store_any, subtract_with};
 use crate::rule::Words;
 use arrayvec::ArrayVec;
 use smp_labels::{MOST_CHANGES, Place};
@@ -46,13 +48,15 @@ pub(crate) fn store_plan(
     }
 }
 
-/// Acknowledges `RUN`, with all stores of the patch made, and answers what was found in the count.
-pub(crate) fn acknowledge_patch(words: &Words, seat: &mut CpuSeat, visit: Visit) -> u64
+/// Acknowledges `RUN`, with all stores of the patch made, and answers what was found in the count. With this step the CPU
+/// carries the answer of the patch.
+pub(crate) fn acknowledge_patch(words: &Words, seat: &mut CpuSeat, visit: Visit, answer: u64) -> u64
     requires at { AtPatch words.now.table_id seat.old visit }
     requires whole { rest_in seat.old.known.seat ≡ [] }
+    requires answer { answer ≡ patch_answer (work_in seat.old.known.seat) (count_in seat.old.known.seat) }
     ensures table { seat.new.table ≡ words.now.table_id }
     ensures lives { Lives seat.new.known }
-    ensures known { seat.new.known ≡ acked_by result seat.old.known.seat seat.old.known }
+    ensures known { seat.new.known ≡ acked_by result seat.old.known.seat (carrying answer seat.old.known) }
 {
-    subtract_any(words, seat, Word::Slot(visit.slot, Field::Ack))
+    subtract_with(words, seat, Word::Slot(visit.slot, Field::Ack), answer)
 }
