@@ -43,8 +43,8 @@ module _ (x : ℕ) (v : Known) where
   can_by a (BeginPatch s w) h e = record { move = BeginPatch s w; may = h; is_access = e }
   can_by a (Alter s w n made c rest) h e = record { move = Alter s w n made c rest; may = h; is_access = e }
   can_by a (LoadArg s w b l) h e = record { move = LoadArg s w b l; may = h; is_access = e }
-  can_by a (LoadField s f) h e = record { move = LoadField s f; may = h; is_access = e }
-  can_by a (LoadEntry i) h e = record { move = LoadEntry i; may = h; is_access = e }
+  can_by a (LoadField s w b l f) h e = record { move = LoadField s w b l f; may = h; is_access = e }
+  can_by a (LoadEntry s w n made rest i) h e = record { move = LoadEntry s w n made rest i; may = h; is_access = e }
 
   pub can_bare : (a : Access) → Can (carrying x v) a → Can v a
   can_bare a c = can_by a c.move c.may c.is_access

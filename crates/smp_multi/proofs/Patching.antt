@@ -39,7 +39,7 @@ use Rattle.smp_multi.specs.Names.{Moved, Calls, Carries, ReadKey}
 use Rattle.smp_multi.specs.Names.act
 use Rattle.smp_multi.specs.Names.field
 use Rattle.smp_multi.specs.Cells.{cells, HasCell}
-use Rattle.smp_multi.specs.Patches.{AtPatch, begins_with, count_in, entries_in, made_in, moved_with, rest_in, stored_all, stored_to}
+use Rattle.smp_multi.specs.Patches.{AtPatch, IsInPatch, begins_with, count_in, entries_in, made_in, moved_with, rest_in, stored_all, stored_to}
 use Rattle.smp_multi.specs.Places.{work_in}
 use Rattle.smp_multi.specs.Rounds.{AloneWhile, AtRun, AtTurn}
 use Rattle.smp_multi.specs.Seat.{SeatValue, Able, Ready}
@@ -145,11 +145,21 @@ patch_alone t d v a p at seat source h sees =
     let st : Stands p.now d.known.number x = subst (Stands p.now d.known.number) (sees.seat_is ∙ a.seat_is) (h.present.stands d.known.number) in
     runs_alone (setup_in d.known.setting) p at seat source h v.slot d.known.number st.1
 
-pub ready_entry : (t : TableId) (d : SeatValue) (i : ℕ) → d.table ≡ t → t.words ≡ cells → i < MOST_SITES → Ready t d (Load (Entry i))
-ready_entry t d i table sized low = record {
-  able = record { table_is = table; sized = sized; can = record { move = LoadEntry i; may = tt; is_access = refl }; cell = entry_cell i low };
-  apart = tt;
-}
+pub in_patch : (t : TableId) (d : SeatValue) (v : Visit) → AtPatch t d v → IsInPatch d.known
+in_patch t d v a = (v.slot, a.seat_is)
+
+pub ready_entry : (t : TableId) (d : SeatValue) (i : ℕ) → d.table ≡ t → t.words ≡ cells → IsInPatch d.known → i < MOST_SITES → Ready t d (Load (Entry i))
+ready_entry t d i table sized inside low =
+    let x = d.known.seat in
+    record {
+      able = record {
+        table_is = table;
+        sized = sized;
+        can = record { move = LoadEntry inside.0 (work_in x) (count_in x) (made_in x) (rest_in x) i; may = inside.1; is_access = refl };
+        cell = entry_cell i low;
+      };
+      apart = tt;
+    }
 
 -- the plan, entry by entry
 

@@ -10,7 +10,7 @@ ghost use Rattle.smp_stop_steps.specs.Labels.{answer_for as answer_of_patch};
 ghost use Rattle.smp_stop_steps.specs.Stages.{visit_acked};
 ghost use Rattle.smp_multi.specs.Names.{Key, Patch, Rests};
 ghost use Rattle.smp_multi.specs.Cells.{cells};
-ghost use Rattle.smp_multi.specs.Patches.{AtPatch, begins_with, entries_in};
+ghost use Rattle.smp_multi.specs.Patches.{AtPatch, IsInPatch, begins_with, entries_in};
 ghost use Rattle.smp_multi.specs.Places.{work_in};
 ghost use Rattle.smp_multi.specs.Rounds.{AloneWhile, AtRun, AtTurn};
 ghost use Rattle.smp_multi.specs.Turns.{patched_by};
@@ -59,6 +59,7 @@ fn begin_patch(words: &Words, seat: &mut CpuSeat, visit: Visit, key: u32) -> u64
 fn load_entry(words: &Words, seat: &mut CpuSeat, site: u32) -> u64
     requires table { seat.old.table ≡ words.now.table_id }
     requires sized { words.now.table_id.words ≡ cells }
+    requires inside { IsInPatch seat.old.known }
     requires low { site < MOST_SITES }
     ensures table { seat.new.table ≡ words.now.table_id }
     ensures lives { Lives seat.new.known }
@@ -80,6 +81,7 @@ fn load_plan(
 ) -> ArrayVec<(Place, u64), MOST_CHANGES>
     requires table { seat.old.table ≡ words.now.table_id }
     requires sized { words.now.table_id.words ≡ cells }
+    requires inside { IsInPatch seat.old.known }
     requires lives { Lives seat.old.known }
     ensures table { seat.new.table ≡ words.now.table_id }
     ensures lives { Lives seat.new.known }

@@ -45,6 +45,7 @@ pub mod Starts
 pub mod Refusals
 pub mod Commands
 pub mod StepLaws
+pub mod KnownLaws
 pub mod Kept
 -- what a CPU knows
 pub mod Known

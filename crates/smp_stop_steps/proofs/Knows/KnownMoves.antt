@@ -47,5 +47,5 @@ module _ (p : StopState) (at : Word → ℕ) (seat : ℕ → Seat) (source : ℕ
   known_move (BeginPatch s w) m = begin_patch p at seat source v h sees s w m.0 m.1 m.2
   known_move (Alter s w count made change rest) m = alter p at seat source v h sees s w count made rest change.0 change.1 m.0 m.1 m.2
   known_move (LoadArg s w a l) m = load_arg p at seat source v h sees s w a l m
-  known_move (LoadField s f) m = load_field s f m
-  known_move (LoadEntry i) m = still p at seat source v h sees
+  known_move (LoadField s w a l f) m = load_field s f m.0
+  known_move (LoadEntry s w count made rest i) m = still p at seat source v h sees

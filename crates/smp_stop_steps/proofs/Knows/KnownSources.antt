@@ -13,26 +13,26 @@ use Rattle.smp_stop_steps.proofs.Steps.Sources.{gate_taken, gate_opened, field_s
 use Rattle.smp_stop_steps.specs.act
 use Rattle.smp_stop_steps.specs.field
 
-holder : (g : Option ℕ) (me : ℕ) → holds_it g me ≡ true → g ≡ Some me
+pub holder : (g : Option ℕ) (me : ℕ) → holds_it g me ≡ true → g ≡ Some me
 holder g me e = search (eqb-true, arith)
 
 -- a CPU that is told to draft nothing drafts nothing
 not_draft : (y told : Source) → told_source y ≡ told → is_drafting told ≡ false → (w : Work) (k : ℕ) → y ≢ Drafts w k
 not_draft y told is idle w k e = cc
 
-is_owns : (y : Source) (w : Work) → told_source y ≡ Owns w → y ≡ Owns w
+pub is_owns : (y : Source) (w : Work) → told_source y ≡ Owns w → y ≡ Owns w
 is_owns y w e = search arith
 
-is_collects : (y : Source) (w : Work) → told_source y ≡ Collects w → y ≡ Collects w
+pub is_collects : (y : Source) (w : Work) → told_source y ≡ Collects w → y ≡ Collects w
 is_collects y w e = search arith
 
 -- the work that a source drafts, told so far as this one
-record IsDraft (y : Source) (w : Work) (k : ℕ) : Type 0 where
-  work : Work
-  is : y ≡ Drafts work k
-  same : told_work k work ≡ told_work k w
+pub record IsDraft (y : Source) (w : Work) (k : ℕ) : Type 0 where
+  pub work : Work
+  pub is : y ≡ Drafts work k
+  pub same : told_work k work ≡ told_work k w
 
-is_draft : (y : Source) (w : Work) (k : ℕ) → told_source y ≡ Drafts (told_work k w) k → IsDraft y w k
+pub is_draft : (y : Source) (w : Work) (k : ℕ) → told_source y ≡ Drafts (told_work k w) k → IsDraft y w k
 is_draft y w k e = search arith
 
 -- two works of which the same is told have the same first k fields
