@@ -4,7 +4,7 @@ use Rattle.smp_words.specs.declared.access.Access.TheVariants.{Load, Store, Exch
 use Rattle.smp_stop_steps.specs.Names.{has, MOST_KEYS, word_of, at_after, seen_of, cpus, Access, Field, One, Patch, Work, Word, Gate, Slot, Key, Entry, Site}
 use Rattle.smp_stop_steps.specs.Names.{DISABLE_IRQ, RUN, EXIT}
 use Rattle.smp_stop_steps.specs.Counts.{mask_weight}
-use Rattle.smp_stop_steps.specs.Known.{Known, Setting, Sees, GoesOn, fresh, setup_in, told_work}
+use Rattle.smp_stop_steps.specs.Known.{Known, Setting, Sees, GoesOnBy, fresh, setup_in, told_work}
 use Rattle.smp_stop_steps.specs.KnownAfter.{is_drafting, known_entering, no_work}
 use Rattle.smp_stop_steps.specs.Callings.{HasCalled}
 use Rattle.smp_stop_steps.specs.Labels.{Change}
@@ -139,4 +139,5 @@ MovesAreKnown = (p : StopState) (at : Word → ℕ) (seat : ℕ → Seat) (sourc
     (m : Move) → May v m →
     let access = access_in v m in
     let seen = seen_of v.number access (at (word_of access)) None in
-    GoesOn v.setting p seat source v.number (at_after at access) (known_entering (entering p (word_of access)) v seen.act seen.word seen.found seen.put)
+    GoesOnBy v.setting p seat source v.number (at_after at access) (known_entering (entering p (word_of access)) v seen.act seen.word seen.found seen.put)
+    seen

@@ -211,7 +211,8 @@ pub fn nothing_is_known()
 {}
 
 /// Each kind of step that a CPU may make, by what it knows of the stops, goes on to stops that the words show, of which
-/// it knows its part as the step has told it, and every other CPU what it knew. For words that threads share.
+/// it knows its part as the step has told it, and every other CPU what it knew. These stops are just those that the step
+/// tells, of the stops before it; the store of an answer puts that answer for the function's. For words that threads share.
 pub fn moves_are_known()
     ensures { MovesAreKnown }
 {}
