@@ -43,6 +43,7 @@ pub mod New
 pub mod Begins
 pub mod Starts
 pub mod Refusals
+pub mod Members
 pub mod Commands
 pub mod StepLaws
 pub mod KnownLaws

@@ -196,6 +196,16 @@ pub fn refusals_are_of_the_state()
     ensures { RefusalsAreOfTheState }
 {}
 
+ghost use Rattle.smp_stop_steps.specs.Members.{BeginsByMembers};
+
+/// A begin is refused by the members of its masks and by its numbers. E8 where the own stop is open. Then E4 where the gate
+/// is not held, the mask is empty, a stop of kind One has another number of CPUs than one, or a patch is none: its mask is
+/// that of all CPUs online, its active mask has the least of them alone, its `func` is a key, and its `arg` is below 4. Then
+/// E3 where a CPU of the mask is not online. Else it is not refused.
+pub fn begins_by_members()
+    ensures { BeginsByMembers }
+{}
+
 ghost use Rattle.smp_stop_steps.specs.Numbers.{WordsHaveNumbers};
 
 /// A stop table has just the words that have a number in it ([`smp_words::stop_index`]).
