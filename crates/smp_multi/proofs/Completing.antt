@@ -1,19 +1,15 @@
 -- The steps of a completion: the answer, the count, and done by the last of all.
 use Rattle.std.proofs.Common.{◌≡◌, ◌≢◌, ℕ, ◌==◌, Bool, true, false, cond, sym, refl, ap, ◌∙◌, ne_eqb, eq-eqb, eqb-true}
 use Rattle.atomic_table.specs.Seated.{TableId}
+use Rattle.smp_stop_steps.specs.Known.{carrying}
 use Rattle.smp_stop_steps.specs.KnownAfter.{completed_by, completed_with, is_drafting, slot_stored, drafted_known, given_by, member_stored}
 use Rattle.smp_stop_steps.specs.Moves.{Give, Count, CountGiven, Close}
 use Rattle.smp_multi.specs.Names.{Work, One, Slot, Store, Sub, Free, In, Gives, Closes, Rests, Seat, Known, Idle}
 use Rattle.smp_multi.specs.Names.field
 use Rattle.smp_multi.specs.Completes.{AtEnd, AtGiven, AtClose, answered, given, left}
 use Rattle.smp_multi.specs.Places.{work_in}
-use Rattle.smp_multi.specs.Seat.{SeatValue, Able, Ready, IsApartFromRuns}
+use Rattle.smp_multi.specs.Seat.{SeatValue, Able, Ready}
 use Rattle.smp_multi.proofs.Cells.{slot_cell}
-
--- a step that a CPU may make, and by which it ends no call of a function in a stop that is not of kind One
-record Counts (t : TableId) (d : SeatValue) (slot : ℕ) (w : Work) : Type 0 where
-  able : Able t d (Sub (Slot slot field.Todo))
-  apart : w.kind ≢ One → IsApartFromRuns d.known able.can.move
 
 module _ (t : TableId) (d : SeatValue) (slot acked : ℕ) where
   pub able_give : (x : ℕ) → AtEnd t d slot acked → d.known.part.calling ≢ Idle → x ≢ 0 → Able t d (Store (Slot slot field.Result) x)
@@ -23,11 +19,6 @@ module _ (t : TableId) (d : SeatValue) (slot acked : ℕ) where
     can = record { move = Give slot (work_in d.known.seat) acked acked x; may = (a.seat_is, a.through, some, a.idle, calls); is_access = refl };
     cell = slot_cell slot field.Result a.low;
   }
-
-  pub ready_give : (x : ℕ) → AtEnd t d slot acked → (work_in d.known.seat).kind ≢ One → d.known.part.calling ≢ Idle → x ≢ 0
-      → Ready t d (Store (Slot slot field.Result) x)
-  unfolding able_give
-  ready_give x a several calls some = record { able = able_give x a calls some; apart = several }
 
   pub known_give : (x : ℕ) → AtEnd t d slot acked → x ≢ 0 → slot_stored field.Result x d.known ≡ given slot acked x d.known
   known_give x a some =
@@ -52,47 +43,36 @@ module _ (t : TableId) (d : SeatValue) (slot acked : ℕ) where
     calls = λ one none. calls one (sym (ap (λ (z : Known). z.part.calling) same) ∙ none);
   }
 
-  counts : (x : ℕ) (w : Work) → AtGiven t d slot acked x w → Counts t d slot w
-  counts x w a = go (x == 0) a.seat_is
+  pub able_count : (x : ℕ) (w : Work) → AtGiven t d slot acked x w → Able t d (Sub (Slot slot field.Todo))
+  able_count x w a = go (x == 0) a.seat_is
     where
-      go : (b : Bool) → d.known.seat ≡ cond b (In slot w acked acked Rests) (Gives slot w acked x) → Counts t d slot w
+      go : (b : Bool) → d.known.seat ≡ cond b (In slot w acked acked Rests) (Gives slot w acked x) → Able t d (Sub (Slot slot field.Todo))
       go true is =
           record {
-            able = record {
-              table_is = a.table_is;
-              sized = a.sized;
-              can = record { move = Count slot w acked acked; may = (is, a.through, a.low, a.calls); is_access = refl };
-              cell = slot_cell slot field.Todo a.low;
-            };
-            apart = λ several. several;
+            table_is = a.table_is;
+            sized = a.sized;
+            can = record { move = Count slot w acked acked; may = (is, a.through, a.low, a.calls); is_access = refl };
+            cell = slot_cell slot field.Todo a.low;
           }
       go false is =
           record {
-            able = record {
-              table_is = a.table_is;
-              sized = a.sized;
-              can = record { move = CountGiven slot w acked x; may = (is, a.low); is_access = refl };
-              cell = slot_cell slot field.Todo a.low;
-            };
-            apart = λ several. tt;
+            table_is = a.table_is;
+            sized = a.sized;
+            can = record { move = CountGiven slot w acked x; may = (is, a.low); is_access = refl };
+            cell = slot_cell slot field.Todo a.low;
           }
 
-  pub able_count : (x : ℕ) (w : Work) → AtGiven t d slot acked x w → Able t d (Sub (Slot slot field.Todo))
-  able_count x w a = (counts x w a).able
-
-  pub ready_count : (x : ℕ) (w : Work) → AtGiven t d slot acked x w → w.kind ≢ One → Ready t d (Sub (Slot slot field.Todo))
-  ready_count x w a several = record { able = (counts x w a).able; apart = (counts x w a).apart several }
-
-  pub known_count : (x found : ℕ) (w : Work) → AtGiven t d slot acked x w → completed_by found d.known.seat d.known ≡ completed_with found slot w x d.known
-  known_count x found w a = ap (λ (y : Seat). completed_by found y d.known) a.seat_is ∙ go (x == 0) refl
+  pub known_count : (x found : ℕ) (w : Work) → AtGiven t d slot acked x w
+      → completed_by found d.known.seat (carrying 0 d.known) ≡ completed_with found slot w x (carrying 0 d.known)
+  known_count x found w a = ap (λ (y : Seat). completed_by found y (carrying 0 d.known)) a.seat_is ∙ go (x == 0) refl
     where
-      go : (b : Bool) → (x == 0) ≡ b →
-          completed_by found (cond b (In slot w acked acked Rests) (Gives slot w acked x)) d.known ≡ completed_with found slot w x d.known
-      go true e = ap (λ n. completed_with found slot w n d.known) (sym (eqb-true x 0 e))
+      go : (b : Bool) → (x == 0) ≡ b → completed_by found (cond b (In slot w acked acked Rests) (Gives slot w acked x)) (carrying 0 d.known)
+          ≡ completed_with found slot w x (carrying 0 d.known)
+      go true e = ap (λ n. completed_with found slot w n (carrying 0 d.known)) (sym (eqb-true x 0 e))
       go false e = refl
 
-  pub at_close : (e : SeatValue) (x found : ℕ) (w : Work) → AtGiven t d slot acked x w → e.table ≡ t → e.known ≡ completed_with found slot w x d.known
-      → AtClose t e slot found
+  pub at_close : (e : SeatValue) (x found : ℕ) (w : Work) → AtGiven t d slot acked x w → e.table ≡ t
+      → e.known ≡ completed_with found slot w x (carrying 0 d.known) → AtClose t e slot found
   at_close e x found w a table same = record {
     table_is = table;
     sized = a.sized;

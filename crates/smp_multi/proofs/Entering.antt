@@ -71,7 +71,12 @@ module _ (v : Known) (slot found : ℕ) (m : Moment v (Slot slot field.Roll) fou
 pub ready_plain : (t : TableId) (d : SeatValue) (slot : ℕ) (w : Work) (f : Field) → HasEntered t d slot w → IsPlain f → Ready t d (Load (Slot slot f))
 ready_plain t d slot w f h plain = record {
   able =
-      record { table_is = h.table_is; sized = h.sized; can = record { move = LoadField slot f; may = plain; is_access = refl }; cell = slot_cell slot f h.low };
+      record {
+        table_is = h.table_is;
+        sized = h.sized;
+        can = record { move = LoadField slot w 0 0 f; may = (plain, h.seat_is); is_access = refl };
+        cell = slot_cell slot f h.low;
+      };
   apart = tt;
 }
 

@@ -4,8 +4,7 @@ use Rattle.std.proofs.Common.{subst, refl, ap, ◌∙◌, arith}
 use Rattle.atomic_table.specs.Seated.{TableId}
 use Rattle.smp_mask.specs.Mask.{has}
 use Rattle.smp_stop_steps.specs.Callings.{IsCalling, answer_in, with_answer}
-use Rattle.smp_stop_steps.specs.Carries.{IsQuiet}
-use Rattle.smp_stop_steps.specs.Known.{told_calling}
+use Rattle.smp_stop_steps.specs.Known.{carrying, told_calling}
 use Rattle.smp_stop_steps.specs.KnownAfter.{completed_with, has_called, is_drafting}
 use Rattle.smp_stop_steps.specs.Sits.{OwnsIf}
 use Rattle.smp_stop_steps.specs.Tells.{calls_at_run, is_multi, is_one}
@@ -15,20 +14,20 @@ use Rattle.smp_multi.specs.Names.{Work, Kind, One, Multi, Patch, Seat, In, Rests
 use Rattle.smp_multi.specs.Advance.{FinishAnswers}
 use Rattle.smp_multi.specs.Cells.{cells}
 use Rattle.smp_multi.specs.Completes.{AtEnd}
-use Rattle.smp_multi.specs.Cpu.{IsKept, answers, call_with, calls_with, cpu_of, inside_of}
+use Rattle.smp_multi.specs.Cpu.{CallsNone, IsKept, answers, call_with, calls_with, cpu_of, inside_of}
 use Rattle.smp_multi.specs.Places.{work_in}
 use Rattle.smp_multi.specs.Seat.{SeatValue}
 
--- who is quiet completes with the answer of its visit, and carries one where that is not 0
-quiet_answer : (v : Visit) (f : Calling) → IsQuiet (Some v) (with_answer v.answer f) → answer_in (with_answer v.answer f) ≡ v.answer
-quiet_answer v Idle q = sym q
-quiet_answer v (Calls call) q = absurd q
-quiet_answer v (Carries answer) q = refl
+-- who calls none completes with the answer that it carries, and calls none with 0
+quiet_answer : (v : Visit) (x : ℕ) (f : Calling) → CallsNone (Some v) x f → answer_in (with_answer x f) ≡ x
+quiet_answer v x Idle q = sym q
+quiet_answer v x (Calls call) q = absurd q
+quiet_answer v x (Carries answer) q = refl
 
-quiet_carries : (v : Visit) (f : Calling) → IsQuiet (Some v) (with_answer v.answer f) → v.answer ≢ 0 → f ≢ Idle
-quiet_carries v Idle q some e = some q
-quiet_carries v (Calls call) q some e = q
-quiet_carries v (Carries answer) q some e = absurd (let bad : Carries answer ≡ Idle = e in cc)
+quiet_carries : (v : Visit) (x : ℕ) (f : Calling) → CallsNone (Some v) x f → x ≢ 0 → f ≢ Idle
+quiet_carries v x Idle q some e = some q
+quiet_carries v x (Calls call) q some e = q
+quiet_carries v x (Carries answer) q some e = absurd (let bad : Carries answer ≡ Idle = e in cc)
 
 is_several : (k : Kind) → k ≢ One → is_one k ≡ false
 is_several One ne = absurd (ne refl)
@@ -46,6 +45,9 @@ module _ (t : TableId) (d : SeatValue) (number : ℕ) (v : Visit) (holds is_open
 
   abbrev me : ℕ
   me = d.known.number
+
+  abbrev x : ℕ
+  x = d.known.carried
 
   is : d.known.seat ≡ In v.slot k.rests.0 EXIT EXIT Rests
   is = k.rests.2 ∙ (λ i. In v.slot k.rests.0 (left i) (left i) Rests)
@@ -66,8 +68,8 @@ module _ (t : TableId) (d : SeatValue) (number : ℕ) (v : Visit) (holds is_open
   pub end_several : (work_in d.known.seat).kind ≢ One
   end_several one = kind (sym (ap (λ (x : Seat). (work_in x).kind) is) ∙ one)
 
-  pub end_carries : v.answer ≢ 0 → d.known.part.calling ≢ Idle
-  end_carries = quiet_carries v d.known.part.calling k.quiet
+  pub end_carries : d.known.carried ≢ 0 → d.known.part.calling ≢ Idle
+  end_carries = quiet_carries v d.known.carried d.known.part.calling k.quiet
 
   -- who carries no answer is not active
   inactive : d.known.part.calling ≡ Idle → has w.active me ≡ false
@@ -82,25 +84,25 @@ module _ (t : TableId) (d : SeatValue) (number : ℕ) (v : Visit) (holds is_open
       go (Carries answer) h e = cc
 
   -- an active CPU of a Multi stop has called its function, and no other has
-  has_run : (f : Calling) → f ≡ d.known.part.calling → calls_with v.answer me (work_in d.known.seat) d.known.part.calls f
-      ≡ cond (has_called me w) (d.known.part.calls ++ call_with w v.answer ∷ []) d.known.part.calls
-  has_run Idle e = sym (ap (λ b. cond b (d.known.part.calls ++ call_with w v.answer ∷ []) d.known.part.calls)
+  has_run : (f : Calling) → f ≡ d.known.part.calling → calls_with x me (work_in d.known.seat) d.known.part.calls f
+      ≡ cond (has_called me w) (d.known.part.calls ++ call_with w x ∷ []) d.known.part.calls
+  has_run Idle e = sym (ap (λ b. cond b (d.known.part.calls ++ call_with w x ∷ []) d.known.part.calls)
       (ap (λ b. b || calls_at_run me w) (is_several w.kind kind) ∙ ap (λ b. b && is_multi w.kind) (inactive (sym e))))
-  has_run (Calls call) e = absurd (let P : Calling → Type 0 = λ f. IsQuiet (Some v) (with_answer v.answer f) in subst P (sym e) k.quiet)
+  has_run (Calls call) e = absurd (let P : Calling → Type 0 = λ f. CallsNone (Some v) x f in subst P (sym e) k.quiet)
   has_run (Carries answer) e =
-      ap (λ (z : Work). cond (calls_at_run me z) (d.known.part.calls ++ call_with z v.answer ∷ []) d.known.part.calls) (ap work_in is) ∙
-      sym (ap (λ b. cond (b || calls_at_run me w) (d.known.part.calls ++ call_with w v.answer ∷ []) d.known.part.calls) (is_several w.kind kind))
+      ap (λ (z : Work). cond (calls_at_run me z) (d.known.part.calls ++ call_with z x ∷ []) d.known.part.calls) (ap work_in is) ∙
+      sym (ap (λ b. cond (b || calls_at_run me w) (d.known.part.calls ++ call_with w x ∷ []) d.known.part.calls) (is_several w.kind kind))
 
   -- its value once it has completed
-  finished_view : (e : SeatValue) → e.table ≡ d.table → e.known ≡ completed_with 0 v.slot (work_in d.known.seat) v.answer d.known →
-      cpu_of 0 e ≡ answers v.slot (answer_in (with_answer v.answer d.known.part.calling)) (cpu_of v.answer d)
+  finished_view : (e : SeatValue) → e.table ≡ d.table → e.known ≡ completed_with 0 v.slot (work_in d.known.seat) x (carrying 0 d.known) →
+      cpu_of e ≡ answers v.slot (answer_in (with_answer x d.known.part.calling)) (cpu_of d)
   finished_view e table same =
-      let known : e.known ≡ completed_with 0 v.slot w v.answer d.known
-      = same ∙ ap (λ (z : Work). completed_with 0 v.slot z v.answer d.known) (ap work_in is) in
-      let answer = quiet_answer v d.known.part.calling k.quiet in
+      let known : e.known ≡ completed_with 0 v.slot w x (carrying 0 d.known)
+      = same ∙ ap (λ (z : Work). completed_with 0 v.slot z x (carrying 0 d.known)) (ap work_in is) in
+      let answer = quiet_answer v x d.known.part.calling k.quiet in
       let calls = has_run d.known.part.calling refl in
-      (λ i. cpu_of 0 (record { table = table i; known = known i })) ∙
-      (λ i. record (answers v.slot (sym answer i) (cpu_of v.answer d)) {
+      (λ i. cpu_of (record { table = table i; known = known i })) ∙
+      (λ i. record (answers v.slot (sym answer i) (cpu_of d)) {
         part = record (d.known.part) {
           calling = Idle;
           answers = slice_set d.known.part.answers v.slot (slice_index_or d.known.part.answers v.slot [] ++ sym answer i ∷ []);
@@ -108,8 +110,8 @@ module _ (t : TableId) (d : SeatValue) (number : ℕ) (v : Visit) (holds is_open
         };
       })
 
-  pub finish_answers : (e : SeatValue) → e.table ≡ d.table → e.known ≡ completed_with 0 v.slot (work_in d.known.seat) v.answer d.known → (u : Unit) →
-      FinishAnswers (cpu_of v.answer d) (cpu_of 0 e) (Ok u)
+  pub finish_answers : (e : SeatValue) → e.table ≡ d.table → e.known ≡ completed_with 0 v.slot (work_in d.known.seat) d.known.carried (carrying 0 d.known) → (u : Unit) →
+      FinishAnswers (cpu_of d) (cpu_of e) (Ok u)
   finish_answers e table same u = (
     record {
       stop = record { slot = v.slot; work = w; acked = v.acked };

@@ -117,7 +117,7 @@ module _ (p : StopState) (at : Word → ℕ) (seat : ℕ → Seat) (source : ℕ
   moves a can =
       subst (λ (a : Access). let seen = seen_of v.number a (at (word_of a)) None in
       Goes (at_after at a) (known_entering (entering p (word_of a)) v seen.act seen.word seen.found seen.put)) can.is_access
-      (known_move p at seat source v h sees can.move can.may)
+      ((known_move p at seat source v h sees can.move can.may).goes)
 
   load_step : (w : Word) → Can v (Load w) → Goes at (known_told v act.Load w (Some (at w)) None)
   load_step w can = subst (Goes at) (load_else (entering p w) v w (at w)) (moves (Load w) can)

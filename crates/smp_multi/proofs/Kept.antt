@@ -5,8 +5,7 @@ use Rattle.atomic_table.specs.Seated.{TableId}
 use Rattle.smp_mask.specs.Mask.{has}
 use Rattle.smp_words.specs.Size.{cpus}
 use Rattle.smp_stop_steps.specs.Callings.{IsCalling, with_answer}
-use Rattle.smp_stop_steps.specs.Carries.{IsQuiet}
-use Rattle.smp_stop_steps.specs.Known.{setup_in, told_source, told_calling, Lives}
+use Rattle.smp_stop_steps.specs.Known.{carrying, setup_in, told_source, told_calling, Lives}
 use Rattle.smp_stop_steps.specs.KnownAfter.{completed_with, is_drafting}
 use Rattle.smp_stop_steps.specs.Laws.{IsResult}
 use Rattle.smp_stop_steps.specs.Past.{Past, AllPast, works_of, results_of, answers_of, answer_now}
@@ -33,7 +32,7 @@ use Rattle.smp_multi.specs.Names.{Calling, Idle, Calls, Carries}
 use Rattle.smp_multi.specs.Answers.{Enters, RunAnswers, PollAnswers, answer_in}
 use Rattle.smp_multi.specs.Begins.{Begins}
 use Rattle.smp_multi.specs.Cells.{cells}
-use Rattle.smp_multi.specs.Cpu.{TableValue, IsKept, answer_of, call_with, calls_with, part_with, cpu_of, inside_of, is_in, enters, runs}
+use Rattle.smp_multi.specs.Cpu.{TableValue, CallsNone, IsKept, call_with, calls_with, part_with, cpu_of, inside_of, is_in, enters, runs}
 use Rattle.smp_multi.specs.Cpu.{answers, collects}
 use Rattle.smp_multi.specs.Places.{IsVisitOf, IsCalled, entered, work_in, pending_of}
 use Rattle.smp_multi.specs.Polls.{IsLastResult, looked, collected}
@@ -89,10 +88,10 @@ is_free None x rests e = (refl, rests)
 is_free (Some v) x rests e = absurd (let bad : true ≡ false = sym (ap (λ (y : Seat). is_in (inside_of y)) rests.2) ∙ e in cc)
 
 -- and calls no function
-pub idle_outside : (visit : Option Visit) (f : Calling) → visit ≡ None → IsQuiet visit (with_answer (answer_of visit) f) → f ≡ Idle
-idle_outside visit f none quiet = go f (subst (λ x. IsQuiet x (with_answer (answer_of x) f)) none quiet)
+pub idle_outside : (visit : Option Visit) (carried : ℕ) (f : Calling) → visit ≡ None → CallsNone visit carried f → f ≡ Idle
+idle_outside visit carried f none quiet = go f (subst (λ x. CallsNone x carried f) none quiet)
   where
-    go : (f : Calling) → IsQuiet None (with_answer 0 f) → f ≡ Idle
+    go : (f : Calling) → CallsNone None carried f → f ≡ Idle
     go Idle q = refl
     go (Calls call) q = absurd q
     go (Carries answer) q = absurd q
@@ -100,6 +99,12 @@ idle_outside visit f none quiet = go f (subst (λ x. IsQuiet x (with_answer (ans
 pub kept_same : (v u : Known) (number : ℕ) (visit : Option Visit) (holds is_open : Bool) → IsKept v number visit holds is_open → u ≡ v
     → IsKept u number visit holds is_open
 kept_same v u number visit holds is_open kept same = subst (λ (x : Known). IsKept x number visit holds is_open) (sym same) kept
+
+-- who carries no answer outside a stop carries none inside
+quiet_in : (x : Visit) (carried : ℕ) (f : Calling) (visit : Option Visit) → f ≡ Idle → CallsNone visit carried f → CallsNone (Some x) carried f
+quiet_in x carried Idle visit e q = q
+quiet_in x carried (Calls call) visit e q = absurd q
+quiet_in x carried (Carries answer) visit e q = tt
 
 pub kept_entered : (v u : Known) (number : ℕ) (visit : Option Visit) (holds is_open : Bool) (x : Visit) (slot : ℕ) (work : Work)
     → IsKept v number visit holds is_open → v.part.calling ≡ Idle → u ≡ entered slot work v → IsVisitOf slot work x → slot < cpus → Lives u →
@@ -110,7 +115,7 @@ kept_entered v u number visit holds is_open x slot work kept idle same of low li
   online = ap (λ (z : Known). has z.setting.online number) same ∙ kept.online;
   rests = (work, of.loaded, ap (λ (z : Known). z.seat) same ∙ (λ i. In (sym of.slot_is i) work (sym of.fresh i) (sym of.fresh i) Rests));
   low = subst (λ n. n < cpus) (sym of.slot_is) low;
-  quiet = subst (λ (f : Calling). IsQuiet (Some x) (with_answer x.answer f)) (sym (ap (λ (z : Known). z.part.calling) same ∙ idle)) of.unanswered;
+  quiet = subst (λ (z : Known). CallsNone (Some x) z.carried z.part.calling) (sym same) (quiet_in x v.carried v.part.calling visit idle kept.quiet);
   holds_is = kept.holds_is ∙ sym (ap (λ (z : Known). z.part.holds) same);
   owns = subst (OwnsIf is_open) (sym (ap (λ (z : Known). z.source) same)) kept.owns;
   lives = lives;
@@ -122,13 +127,14 @@ idle_part answer v idle =
     ap (λ f. record (v.part) { calls = calls_with answer v.number (work_in v.seat) v.part.calls f; calling = with_answer answer f }) idle
 
 -- a CPU's value by what it knows
-pub entered_view : (x y : ℕ) (d e : SeatValue) (slot : ℕ) (work : Work) → d.known.seat ≡ Free → d.known.part.calling ≡ Idle → e.table ≡ d.table
-    → e.known ≡ entered slot work d.known → cpu_of x e ≡ enters slot work (cpu_of y d)
-entered_view x y d e slot work free idle table same =
+pub entered_view : (d e : SeatValue) (slot : ℕ) (work : Work) → d.known.seat ≡ Free → d.known.part.calling ≡ Idle → e.table ≡ d.table
+    → e.known ≡ entered slot work d.known → cpu_of e ≡ enters slot work (cpu_of d)
+entered_view d e slot work free idle table same =
     let v = entered slot work d.known in
-    (λ i. cpu_of x (record { table = table i; known = same i })) ∙ (
-    ap (λ (k : Part). record (cpu_of x (record { table = d.table; known = v })) { part = k }) (idle_part x v idle ∙ sym (idle_part y d.known idle)) ∙
-    ap (λ (b : Bool). record (enters slot work (cpu_of y d)) { irq = b }) (sym (ap irq_of free)))
+    let x = d.known.carried in
+    (λ i. cpu_of (record { table = table i; known = same i })) ∙ (
+    ap (λ (k : Part). record (cpu_of (record { table = d.table; known = v })) { part = k }) (idle_part x v idle ∙ sym (idle_part x d.known idle)) ∙
+    ap (λ (b : Bool). record (enters slot work (cpu_of d)) { irq = b }) (sym (ap irq_of free)))
 
 -- a stop of one CPU has no phases
 pub no_phase : (v : Known) (slot acked looked : ℕ) (w : Work) → Lives v → v.seat ≡ In slot w acked looked Rests → w.kind ≡ One → acked ≡ 0
@@ -153,7 +159,7 @@ no_phase v slot acked looked w l is one = at_zero (none (l.stops.now.stop slot).
 
 -- before RUN is acknowledged a CPU carries no answer, and between two calls it calls no function
 pub idle_before : (v : Known) (x : Visit) (slot acked looked : ℕ) (w : Work) (t : Duty) → Lives v → v.seat ≡ In slot w acked looked t → acked < RUN
-    → IsQuiet (Some x) (with_answer x.answer v.part.calling) → v.part.calling ≡ Idle
+    → CallsNone (Some x) v.carried v.part.calling → v.part.calling ≡ Idle
 idle_before v x slot acked looked w t l is early quiet = go (l.stops.calling v.number) here l.sees.part_is.calling
   where
     here : IsCalling v.number (In slot w acked looked t) (l.stops.calling v.number)
@@ -161,16 +167,16 @@ idle_before v x slot acked looked w t l is early quiet = go (l.stops.calling v.n
 
     go : (f : Calling) → IsCalling v.number (In slot w acked looked t) f → told_calling f ≡ v.part.calling → v.part.calling ≡ Idle
     go Idle k e = sym e
-    go (Calls call) k e = absurd (let P : Calling → Type 0 = λ f. IsQuiet (Some x) (with_answer x.answer f) in subst P (sym e) quiet)
+    go (Calls call) k e = absurd (let P : Calling → Type 0 = λ f. CallsNone (Some x) v.carried f in subst P (sym e) quiet)
     go (Carries answer) k e = absurd (let late = k.0 in omega (arith, late, early))
 
 -- a CPU that has run the function of a stop of one CPU
-pub ran_view : (y z : ℕ) (d e : SeatValue) (slot : ℕ) (w : Work) (x : ℕ) → w.kind ≡ One → d.known.part.calling ≡ Idle → e.table ≡ d.table
-    → e.known ≡ completed_with 0 slot w x d.known → cpu_of y e ≡ answers slot x (runs (call_with w x) (cpu_of z d))
-ran_view y z d e slot w x one idle table same =
-    (λ i. cpu_of y (record { table = table i; known = same i })) ∙ (
-    ap (λ (k : Kind). cpu_of y (record { table = d.table; known = completed_with 0 slot (record w { kind = k }) x d.known })) one ∙
-    ap (λ (k : Part). answers slot x (runs (call_with w x) (record (cpu_of z d) { part = k }))) (sym (idle_part z d.known idle)))
+pub ran_view : (d e : SeatValue) (slot : ℕ) (w : Work) (x : ℕ) → w.kind ≡ One → d.known.part.calling ≡ Idle → e.table ≡ d.table
+    → e.known ≡ completed_with 0 slot w x (carrying 0 d.known) → cpu_of e ≡ answers slot x (runs (call_with w x) (cpu_of d))
+ran_view d e slot w x one idle table same =
+    (λ i. cpu_of (record { table = table i; known = same i })) ∙ (
+    ap (λ (k : Kind). cpu_of (record { table = d.table; known = completed_with 0 slot (record w { kind = k }) x (carrying 0 d.known) })) one ∙
+    ap (λ (k : Part). answers slot x (runs (call_with w x) (record (cpu_of d) { part = k }))) (sym (idle_part d.known.carried d.known idle)))
 
 -- one stop more, before those that have this last answer
 given_more : (b : Bool) (n : ℕ) (answers before : List ℕ) (v : ℕ) → answers ≡ before ++ v ∷ []
@@ -222,9 +228,9 @@ closed_by u gate stop word me (Owns w) shows e = cc
 closed_by u gate stop word me (Collects w) shows e = cc
 
 -- the result that was collected last is that of the work begun last, whatever answer the CPU carries in another stop
-pub last_result : (a : ℕ) (d : SeatValue) (before : List ℕ) (r : ℕ) → Lives d.known → d.known.source ≡ Shut → d.known.part.collected ≡ before ++ r ∷ []
-    → IsLastResult (cpu_of a d) r
-last_result a d before r l shut is =
+pub last_result : (d : SeatValue) (before : List ℕ) (r : ℕ) → Lives d.known → d.known.source ≡ Shut → d.known.part.collected ≡ before ++ r ∷ []
+    → IsLastResult (cpu_of d) r
+last_result d before r l shut is =
     let v = d.known in
     let me = v.number in
     let u = setup_in v.setting in
@@ -262,26 +268,26 @@ last_result a d before r l shut is =
     }
 
 -- a CPU that has collected a result
-pub collected_view : (x : ℕ) (d e f : SeatValue) (r : ℕ) → e.known ≡ looked true d.known → f.table ≡ d.table → f.known ≡ collected r e.known
-    → cpu_of x f ≡ collects r (cpu_of x d)
-collected_view x d e f r one table two = (λ i. cpu_of x (record { table = table i; known = (two ∙ ap (collected r) one) i }))
+pub collected_view : (d e f : SeatValue) (r : ℕ) → e.known ≡ looked true d.known → f.table ≡ d.table → f.known ≡ collected r e.known
+    → cpu_of f ≡ collects r (cpu_of d)
+collected_view d e f r one table two = (λ i. cpu_of (record { table = table i; known = (two ∙ ap (collected r) one) i }))
 
 -- a slot that may be entered is one of the table
 pub low_slot : (nr slot : ℕ) → has_slot nr slot ≡ true → slot < cpus
 low_slot nr slot e = ltb-true slot cpus (and_parts (nat_lt slot cpus) _ e).0
 
 -- the answer of a CPU that has entered
-pub enters_answer : (t : TableValue) (x y : ℕ) (d e : SeatValue) (slot : ℕ) (work : Work) (visit : Visit) → d.known.seat ≡ Free
+pub enters_answer : (t : TableValue) (d e : SeatValue) (slot : ℕ) (work : Work) (visit : Visit) → d.known.seat ≡ Free
     → d.known.part.calling ≡ Idle → has_slot t.nr slot ≡ true → e.table ≡ d.table → e.known ≡ entered slot work d.known → IsCalled d.known slot work
-    → IsVisitOf slot work visit → Enters t slot (cpu_of x d) (cpu_of y e) visit.kind
-enters_answer t x y d e slot work visit free idle there table same calls of = record {
+    → IsVisitOf slot work visit → Enters t slot (cpu_of d) (cpu_of e) visit.kind
+enters_answer t d e slot work visit free idle there table same calls of = record {
   work = work;
   outside = ap inside_of free;
   there = there;
   member = calls.member;
   own = calls.own;
   kind_is = of.loaded.kind;
-  is = entered_view y x d e slot work free idle table same;
+  is = entered_view d e slot work free idle table same;
 }
 
 -- a CPU that is to run the function of a stop of one CPU
@@ -308,8 +314,8 @@ at_one t d number visit holds is_open kept one table sized =
 -- its answer
 pub run_answers : {F : Type 0} (leads : F → Called → F → Type 0) (d e : SeatValue) (number : ℕ) (visit : Visit) (holds is_open : Bool) (before after : F)
     (v : ℤ) → IsKept d.known number (Some visit) holds is_open → visit.kind ≡ One →
-    e.table ≡ d.table → e.known ≡ completed_with 0 visit.slot (work_in d.known.seat) (answer_word v) d.known → leads before (called_by d.known v) after
-    → RunAnswers leads (cpu_of visit.answer d) (cpu_of 0 e) before after (Ok v)
+    e.table ≡ d.table → e.known ≡ completed_with 0 visit.slot (work_in d.known.seat) (answer_word v) (carrying 0 d.known) → leads before (called_by d.known v) after
+    → RunAnswers leads (cpu_of d) (cpu_of e) before after (Ok v)
 run_answers {F} leads d e number visit holds is_open before after v kept one table same heard =
     let w = kept.rests.0 in
     let kind : w.kind ≡ One = sym kept.rests.1.kind ∙ one in
@@ -317,15 +323,15 @@ run_answers {F} leads d e number visit holds is_open before after v kept one tab
     let none = no_phase d.known visit.slot visit.acked visit.acked w kept.lives kept.rests.2 kind in
     let idle = idle_before d.known visit visit.slot visit.acked visit.acked w Rests kept.lives kept.rests.2 (omega (arith, none)) kept.quiet in (
       record { stop = record { slot = visit.slot; work = w; acked = visit.acked }; is = ap inside_of kept.rests.2; one = kind },
-      ran_view 0 visit.answer d e visit.slot w (answer_word v) kind idle table (same
-          ∙ ap (λ (x : Work). completed_with 0 visit.slot x (answer_word v) d.known) work),
+      ran_view d e visit.slot w (answer_word v) kind idle table (same
+          ∙ ap (λ (x : Work). completed_with 0 visit.slot x (answer_word v) (carrying 0 d.known)) work),
       subst (λ (x : Work). leads before (called d.known.number x.func x.arg v) after) work heard,
     )
 
 -- a CPU that has collected: its stop was open, and the result is the last
 pub poll_answers : (d e f : SeatValue) (number : ℕ) (visit : Option Visit) (holds : Bool) (word : ℕ) (v : ℤ) → IsKept d.known number visit holds true
     → e.known ≡ looked true d.known → f.table ≡ d.table → f.known ≡ collected word e.known → Lives f.known → v ≡ answer_in word →
-    PollAnswers (cpu_of (answer_of visit) d) (cpu_of (answer_of visit) f) (Ok (Some v))
+    PollAnswers (cpu_of d) (cpu_of f) (Ok (Some v))
 poll_answers d e f number visit holds word v kept one table two lives is =
     let all = two ∙ ap (collected word) one in (
       (λ (none : pending_of d.known.source ≡ None). let some : pending_of d.known.source ≡ Some kept.owns.0 = ap pending_of kept.owns.1 in
@@ -333,8 +339,8 @@ poll_answers d e f number visit holds word v kept one table two lives is =
       (
         word,
         is,
-        collected_view (answer_of visit) d e f word one table two,
-        last_result (answer_of visit) f d.known.part.collected word lives (ap (λ (z : Known). z.source) all)
+        collected_view d e f word one table two,
+        last_result f d.known.part.collected word lives (ap (λ (z : Known). z.source) all)
             (ap (λ (z : Known). z.part.collected) all),
       ),
     )

@@ -1,21 +1,20 @@
 -- The label law and the count law at running threads.
-use Rattle.std.proofs.Common.{ℕ}
 use Rattle.smp_stop_steps.specs.Known.{Lives}
 use Rattle.smp_multi.specs.Cpu.{cpu_of}
 use Rattle.smp_multi.specs.LabelLaws.{LabelsAreLawful, CountsAreSums}
 use Rattle.smp_multi.specs.Seat.{SeatValue}
 use Rattle.smp_multi.proofs.Showing.{HasNotGiven, is_shown}
 
-pub labels_lawful : (answer : ℕ) (d : SeatValue) → Lives d.known → HasNotGiven d.known.seat → LabelsAreLawful (cpu_of answer d)
-labels_lawful answer d l free = let s = is_shown answer d l free in record {
+pub labels_lawful : (d : SeatValue) → Lives d.known → HasNotGiven d.known.seat → LabelsAreLawful (cpu_of d)
+labels_lawful d l free = let s = is_shown d l free in record {
   shown = s;
   lawful = s.laws.lawful;
   patchers = s.laws.patchers;
   alone = s.laws.patches;
 }
 
-pub counts_sums : (answer : ℕ) (d : SeatValue) → Lives d.known → HasNotGiven d.known.seat → CountsAreSums (cpu_of answer d)
-counts_sums answer d l free = let s = is_shown answer d l free in record {
+pub counts_sums : (d : SeatValue) → Lives d.known → HasNotGiven d.known.seat → CountsAreSums (cpu_of d)
+counts_sums d l free = let s = is_shown d l free in record {
   shown = s;
   sums = s.laws.counts;
   nudged = l.sees.part_is.nudged;

@@ -2,6 +2,7 @@
 pub mod Cells
 -- the rule: each kind of access keeps it
 pub mod Keeps
+pub mod Carrying
 -- the steps of each call
 pub mod Gates
 pub mod Entering

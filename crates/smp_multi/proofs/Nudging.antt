@@ -69,25 +69,25 @@ found_other found count b is lost same = let bad : true ≡ false = sym (eq-eqb 
 abbrev loaded : SeatValue → ℕ → ℕ → SeatValue
 loaded d k count = record { table = d.table; known = loads_known k count d.known }
 
-module _ (a : ℕ) (d e : SeatValue) (k : ℕ) (up : Bool) (table : e.table ≡ d.table) (lives : Lives e.known)
+module _ (d e : SeatValue) (k : ℕ) (up : Bool) (table : e.table ≡ d.table) (lives : Lives e.known)
     (online : has d.known.setting.online d.known.number ≡ true) (on : irq_of d.known.seat ≡ true) (low : k < d.known.setting.labels.keys)
     (free : HasNotGiven d.known.seat) where
-  loads : (count : ℕ) → Moment d.known (Key k) count → Lives (loads_known k count d.known) → LoadsCount (cpu_of a d) k count
-  loads count m l = record { key = (low, on); finds = finds_count a d k count free m; reads = reads_table a (loaded d k count) l online on }
+  loads : (count : ℕ) → Moment d.known (Key k) count → Lives (loads_known k count d.known) → LoadsCount (cpu_of d) k count
+  loads count m l = record { key = (low, on); finds = finds_count d k count free m; reads = reads_table (loaded d k count) l online on }
 
-  same_view : (w : Known) → e.known ≡ w → cpu_of a e ≡ cpu_of a (record { table = d.table; known = w })
-  same_view w same = λ i. cpu_of a (record { table = table i; known = same i })
+  same_view : (w : Known) → e.known ≡ w → cpu_of e ≡ cpu_of (record { table = d.table; known = w })
+  same_view w same = λ i. cpu_of (record { table = table i; known = same i })
 
   lives_as : (w : Known) → e.known ≡ w → Lives w
   lives_as w same = subst Lives same lives
 
-  pub nudge_answers : (r : Result Nudge SmpError) → NudgeKnown k up d.known e.known r → NudgeAnswers k up (cpu_of a d) (cpu_of a e) r
+  pub nudge_answers : (r : Result Nudge SmpError) → NudgeKnown k up d.known e.known r → NudgeAnswers k up (cpu_of d) (cpu_of e) r
   nudge_answers (Ok Done) h =
       let n = h.0 in
-      (n, loads n h.1 (lives_at _ (Key k) n h.3), h.2, finds_count a (loaded d k n) k n free h.3, same_view (nudged_known up k (loads_known k n d.known)) h.4)
+      (n, loads n h.1 (lives_at _ (Key k) n h.3), h.2, finds_count (loaded d k n) k n free h.3, same_view (nudged_known up k (loads_known k n d.known)) h.4)
   nudge_answers (Ok Lost) h =
       let n = h.0 in
-      (n, h.1, loads n h.2 (lives_at _ (Key k) h.1 h.4), h.3, finds_count a (loaded d k n) k h.1 free h.4, h.5, same_view (loads_known k n d.known) h.6)
+      (n, h.1, loads n h.2 (lives_at _ (Key k) h.1 h.4), h.3, finds_count (loaded d k n) k h.1 free h.4, h.5, same_view (loads_known k n d.known) h.6)
   nudge_answers (Ok Stop) h = let n = h.0 in let w = loads_known k n d.known in (n, loads n h.1 (lives_as w h.3), h.2, same_view w h.3)
   nudge_answers (Err (error.KeyRange x)) h = let n = h.0 in let w = loads_known k n d.known in (n, loads n h.1 (lives_as w h.4), h.2, h.3, same_view w h.4)
   nudge_answers (Err _) h = absurd h

@@ -19,7 +19,7 @@ use Rattle.smp_labels.proofs.Patched.{plan_key_first}
 use Rattle.smp_labels.proofs.Stores.{entries_kept}
 use Rattle.smp_mask.specs.Mask.{has}
 use Rattle.smp_words.specs.Size.{cpus}
-use Rattle.smp_stop_steps.specs.Known.{Lives, Moment, setup_in}
+use Rattle.smp_stop_steps.specs.Known.{Lives, Moment, carrying, setup_in}
 use Rattle.smp_stop_steps.specs.KnownAfter.{acked_by, called_by, counted, is_drafting, key_loaded_by, known_told, looked_known, looked_to}
 use Rattle.smp_stop_steps.specs.KnownAfter.{raised_by, reads_more}
 use Rattle.smp_stop_steps.specs.Labels.{Change, LabelsShow, Patching, Patches, Whole, count_set, patch_answer}
@@ -39,10 +39,10 @@ use Rattle.smp_multi.specs.Names.{Moved, Calls, Carries, ReadKey}
 use Rattle.smp_multi.specs.Names.act
 use Rattle.smp_multi.specs.Names.field
 use Rattle.smp_multi.specs.Cells.{cells, HasCell}
-use Rattle.smp_multi.specs.Patches.{AtPatch, begins_with, count_in, entries_in, made_in, moved_with, rest_in, stored_all, stored_to}
+use Rattle.smp_multi.specs.Patches.{AtPatch, IsInPatch, begins_with, count_in, entries_in, made_in, moved_with, rest_in, stored_all, stored_to}
 use Rattle.smp_multi.specs.Places.{work_in}
 use Rattle.smp_multi.specs.Rounds.{AloneWhile, AtRun, AtTurn}
-use Rattle.smp_multi.specs.Seat.{SeatValue, Ready}
+use Rattle.smp_multi.specs.Seat.{SeatValue, Able, Ready}
 use Rattle.smp_multi.specs.Turns.{HasRun, patched_by, patched_with}
 use Rattle.smp_multi.specs.declared.func.Called.{Called}
 use Rattle.smp_multi.proofs.Cells.{slot_cell, key_cell, entry_cell, site_cell}
@@ -145,11 +145,21 @@ patch_alone t d v a p at seat source h sees =
     let st : Stands p.now d.known.number x = subst (Stands p.now d.known.number) (sees.seat_is ∙ a.seat_is) (h.present.stands d.known.number) in
     runs_alone (setup_in d.known.setting) p at seat source h v.slot d.known.number st.1
 
-pub ready_entry : (t : TableId) (d : SeatValue) (i : ℕ) → d.table ≡ t → t.words ≡ cells → i < MOST_SITES → Ready t d (Load (Entry i))
-ready_entry t d i table sized low = record {
-  able = record { table_is = table; sized = sized; can = record { move = LoadEntry i; may = tt; is_access = refl }; cell = entry_cell i low };
-  apart = tt;
-}
+pub in_patch : (t : TableId) (d : SeatValue) (v : Visit) → AtPatch t d v → IsInPatch d.known
+in_patch t d v a = (v.slot, a.seat_is)
+
+pub ready_entry : (t : TableId) (d : SeatValue) (i : ℕ) → d.table ≡ t → t.words ≡ cells → IsInPatch d.known → i < MOST_SITES → Ready t d (Load (Entry i))
+ready_entry t d i table sized inside low =
+    let x = d.known.seat in
+    record {
+      able = record {
+        table_is = table;
+        sized = sized;
+        can = record { move = LoadEntry inside.0 (work_in x) (count_in x) (made_in x) (rest_in x) i; may = inside.1; is_access = refl };
+        cell = entry_cell i low;
+      };
+      apart = tt;
+    }
 
 -- the plan, entry by entry
 
@@ -301,21 +311,18 @@ module _ (t : TableId) (d : SeatValue) (v : Visit) (a : AtPatch t d v) (fresh : 
   at_store e i change same low is = same ∙ (stored_is i
       ∙ ap (λ l. with_made (take i plan) l (moved_with job count (take i plan) d.known.part.patched)) (split i change low is))
 
-  pub ready_store : (e : SeatValue) (i : ℕ) (change : Change) → e.table ≡ t → Lives e.known → e.known ≡ stored_to i d.known.seat d.known → i < length plan
-      → change ≡ get_or plan i (place.Key 0, 0) → Ready t e (Store (label_word change.0) change.1)
-  ready_store e i change table lives same low is = subst (λ (k : Known). Ready t (record { table = e.table; known = k }) (store_of change))
+  pub able_store : (e : SeatValue) (i : ℕ) (change : Change) → e.table ≡ t → Lives e.known → e.known ≡ stored_to i d.known.seat d.known → i < length plan
+      → change ≡ get_or plan i (place.Key 0, 0) → Able t e (Store (label_word change.0) change.1)
+  able_store e i change table lives same low is = subst (λ (k : Known). Able t (record { table = e.table; known = k }) (store_of change))
       (sym (at_store e i change same low is)) record {
-        able = record {
-          table_is = table;
-          sized = a.sized;
-          can = record {
-            move = Alter v.slot job count (take i plan) change (drop (i + 1) plan);
-            may = (refl, plan_is ∙ whole i change low is, a.key_low);
-            is_access = refl;
-          };
-          cell = has_cell change.0 change.1 refl;
+        table_is = table;
+        sized = a.sized;
+        can = record {
+          move = Alter v.slot job count (take i plan) change (drop (i + 1) plan);
+          may = (refl, plan_is ∙ whole i change low is, a.key_low);
+          is_access = refl;
         };
-        apart = tt;
+        cell = has_cell change.0 change.1 refl;
       }
     where
       few : length entries ≤ MOST_SITES
@@ -373,31 +380,28 @@ module _ (t : TableId) (d : SeatValue) (v : Visit) (a : AtPatch t d v) (fresh : 
 
 -- the acknowledgement
 
-pub ready_acknowledge_patch : (t : TableId) (d : SeatValue) (v : Visit) → AtPatch t d v → rest_in d.known.seat ≡ [] → Ready t d (Sub (Slot v.slot field.Ack))
-ready_acknowledge_patch t d v a none =
+pub able_acknowledge_patch : (t : TableId) (d : SeatValue) (v : Visit) → AtPatch t d v → rest_in d.known.seat ≡ [] → Able t d (Sub (Slot v.slot field.Ack))
+able_acknowledge_patch t d v a none =
     let w = work_in d.known.seat in
     let count = count_in d.known.seat in
     let made = made_in d.known.seat in
     record {
-      able = record {
-        table_is = a.table_is;
-        sized = a.sized;
-        can = record { move = AcknowledgePatch v.slot w count made; may = a.seat_is ∙ ap (Alters v.slot w count made) none; is_access = refl };
-        cell = slot_cell v.slot field.Ack a.low;
-      };
-      apart = tt;
+      table_is = a.table_is;
+      sized = a.sized;
+      can = record { move = AcknowledgePatch v.slot w count made; may = a.seat_is ∙ ap (Alters v.slot w count made) none; is_access = refl };
+      cell = slot_cell v.slot field.Ack a.low;
     }
 
 -- where the CPU is once it has acknowledged RUN
-pub patch_acked : (t : TableId) (d e : SeatValue) (v x : Visit) (found : ℕ) → AtPatch t d v → e.table ≡ t → e.known ≡ acked_by found d.known.seat d.known
-    → (x.slot ≡ v.slot) × (x.kind ≡ v.kind) × (x.mask ≡ v.mask) × (x.active ≡ v.active) × (x.acked ≡ v.acked + 1)
+pub patch_acked : (t : TableId) (d e : SeatValue) (v x : Visit) (found answer : ℕ) → AtPatch t d v → e.table ≡ t
+    → e.known ≡ acked_by found d.known.seat (carrying answer d.known) → (x.slot ≡ v.slot) × (x.kind ≡ v.kind) × (x.mask ≡ v.mask) × (x.active ≡ v.active) × (x.acked ≡ v.acked + 1)
     → AtTurn t e x x.acked (cond (found == 1) Fills Rests)
-patch_acked t d e v x found a table same moved =
+patch_acked t d e v x found answer a table same moved =
     let w = work_in d.known.seat in
     let duty = cond (found == 1) Fills Rests in
     let run : RUN ≡ x.acked = (let two = a.disabled in let up = moved.4 in omega arith) in
-    let is : e.known ≡ acked_by found (Alters v.slot w (count_in d.known.seat) (made_in d.known.seat) (rest_in d.known.seat)) d.known =
-    same ∙ ap (λ y. acked_by found y d.known) a.seat_is in
+    let is : e.known ≡ acked_by found (Alters v.slot w (count_in d.known.seat) (made_in d.known.seat) (rest_in d.known.seat))
+    (carrying answer d.known) = same ∙ ap (λ y. acked_by found y (carrying answer d.known)) a.seat_is in
     let seat : e.known.seat ≡ In x.slot w x.acked x.acked duty = ap (λ (k : Known). k.seat) is ∙ (λ i. In (sym moved.0 i) w (run i) (run i) duty) in
     let work : w ≡ work_in e.known.seat = sym (ap work_in seat) in
     record {
@@ -412,7 +416,11 @@ patch_acked t d e v x found a table same moved =
 -- all steps of a patch, from the load of its key on
 module _ (k : Known) (s : ℕ) (w : Work) (count : ℕ) (is : k.seat ≡ In s w DISABLE_IRQ RUN Rests) where
   abbrev patched_at : Duty → Known
-  patched_at duty = record k { seat = In s w RUN RUN duty; part = record (k.part) { calling = Carries 0; patched = patched_with w count k.part.patched } }
+  patched_at duty = record k {
+    seat = In s w RUN RUN duty;
+    part = record (k.part) { calling = Carries 0; patched = patched_with w count k.part.patched };
+    carried = patch_answer w count;
+  }
 
   abbrev duty_at : Bool → Duty
   duty_at last = cond last Fills Rests
@@ -421,15 +429,17 @@ module _ (k : Known) (s : ℕ) (w : Work) (count : ℕ) (is : k.seat ≡ In s w 
   passed_same true = refl
   passed_same false = refl
 
-  pub patch_ends : (k1 k2 k3 k4 : Known) (found next : ℕ) → k1 ≡ begins_with count k.seat k → k2 ≡ stored_all k1.seat k1 → k3 ≡ acked_by found k2.seat k2
+  pub patch_ends : (k1 k2 k3 k4 : Known) (found answer next : ℕ) → k1 ≡ begins_with count k.seat k → k2 ≡ stored_all k1.seat k1
+      → answer ≡ patch_answer w count → k3 ≡ acked_by found k2.seat (carrying answer k2)
       → k4 ≡ cond (found == 1) (raised_by next k3.seat k3) k3 → next ≡ 4 → k4 ≡ patched_by count k.seat k
-  patch_ends k1 k2 k3 k4 found next one two three four up =
+  patch_ends k1 k2 k3 k4 found answer next one two says three four up =
       let plan = plan_at (setup_in k.setting) w count in
       let l = patched_with w count k.part.patched in
       let acked = patched_at (duty_at (found == 1)) in
       let a : k1 ≡ record k { seat = Alters s w count [] plan } = one ∙ ap (λ y. begins_with count y k) is in
       let b : k2 ≡ record k { seat = Alters s w count plan []; part = record (k.part) { patched = l } } = two ∙ ap (λ (x : Known). stored_all x.seat x) a in
-      let c : k3 ≡ acked = three ∙ ap (λ (x : Known). acked_by found x.seat x) b in
+      let c : k3 ≡ acked = three ∙ (ap (λ (x : Known). acked_by found x.seat (carrying answer x)) b
+      ∙ ap (λ n. record acked { carried = n }) says) in
       four ∙ (ap (λ (x : Known). cond (found == 1) (raised_by next x.seat x) x) c
       ∙ (ap (λ n. cond (found == 1) (raised_by n acked.seat acked) acked) up ∙ (passed_same (found == 1) ∙ sym (ap (λ y. patched_by count y k) is))))
 
@@ -445,13 +455,13 @@ work_looked n (Closes s) = refl
 -- a CPU that has looked at RUN, where this count was in the key, and has made its patch
 pub has_patched : {F : Type 0} (leads : F → Called → F → Type 0) (old looked new : Known) (v x : Visit) (f : F) (count : ℕ)
     → looked ≡ looked_known RUN old → Moment looked (Key (work_in looked.seat).func) count → new ≡ patched_by count looked.seat looked
-    → x ≡ visit_acked v (patch_answer (work_in looked.seat) count) true → HasRun leads old new v x f f Patch
+    → x ≡ visit_acked v 0 false → HasRun leads old new v x f f Patch
 has_patched leads old looked new v x f count is m same next =
     let work : work_in looked.seat ≡ work_in old.seat = ap (λ (k : Known). work_in k.seat) is ∙ work_looked RUN old.seat in (
       count,
       subst (λ (w : Work). Moment (looked_known RUN old) (Key w.func) count) work
           (subst (λ (k : Known). Moment k (Key (work_in looked.seat).func) count) is m),
       same ∙ ap (λ (k : Known). patched_by count k.seat k) is,
-      next ∙ ap (λ (w : Work). visit_acked v (patch_answer w count) true) work,
+      next,
       refl,
     )

@@ -8,7 +8,7 @@ use Rattle.smp_stop_steps.specs.Moves.{LookDone, Collect}
 use Rattle.smp_multi.specs.Names.{Slot, Load, Source, Owns, Collects}
 use Rattle.smp_multi.specs.Names.field
 use Rattle.smp_multi.specs.Answers.{PollAnswers}
-use Rattle.smp_multi.specs.Cpu.{IsKept, answer_of, cpu_of}
+use Rattle.smp_multi.specs.Cpu.{IsKept, cpu_of}
 use Rattle.smp_multi.specs.Laws.{Finds}
 use Rattle.smp_multi.specs.Places.{pending_of}
 use Rattle.smp_multi.specs.Polls.{IsOwner, HasFound, own_work, looked}
@@ -50,19 +50,18 @@ module _ (t : TableId) (d : SeatValue) (number : ℕ) where
 -- a CPU that has found done not set
 pub poll_none : (d e : SeatValue) (number : ℕ) (visit : Option Visit) (holds : Bool) (n : ℕ) (b : Bool) → IsKept d.known number visit holds true
     → e.table ≡ d.table → e.known ≡ looked b d.known → Moment d.known (Slot number field.Done) n → b ≡ not (n == 0) → b ≡ false →
-    PollAnswers (cpu_of (answer_of visit) d) (cpu_of (answer_of visit) e) (Ok None)
+    PollAnswers (cpu_of d) (cpu_of e) (Ok None)
 poll_none d e number visit holds n b kept table same m is none =
-    let a = answer_of visit in
     let w = kept.owns.0 in
     let owned : looked false d.known ≡ d.known = ap (λ y. record (d.known) { source = Owns (own_work y) }) kept.owns.1
     ∙ sym (ap (λ y. record (d.known) { source = y }) kept.owns.1) in
     let known : e.known ≡ d.known = same ∙ (ap (λ c. looked c d.known) none ∙ owned) in
-    let found : Finds (cpu_of a d) (Slot number field.Done) n = finds a d (Slot number field.Done) n (rests_ungiven visit d.known.seat kept.rests) m in (
+    let found : Finds (cpu_of d) (Slot number field.Done) n = finds d (Slot number field.Done) n (rests_ungiven visit d.known.seat kept.rests) m in (
       (λ (closed : pending_of d.known.source ≡ None). let some : pending_of d.known.source ≡ Some w = ap pending_of kept.owns.1 in
           let bad : None ≡ Some w = sym closed ∙ some in cc),
-      (λ i. cpu_of a (record { table = table i; known = known i })),
-      subst (λ k. Finds (cpu_of a d) (Slot k field.Done) 0) (sym kept.number_is)
-          (subst (Finds (cpu_of a d) (Slot number field.Done)) (at_zero (n == 0) refl (sym (sym is ∙ none))) found),
+      (λ i. cpu_of (record { table = table i; known = known i })),
+      subst (λ k. Finds (cpu_of d) (Slot k field.Done) 0) (sym kept.number_is)
+          (subst (Finds (cpu_of d) (Slot number field.Done)) (at_zero (n == 0) refl (sym (sym is ∙ none))) found),
     )
   where
     at_zero : (c : Bool) → (n == 0) ≡ c → false ≡ not c → n ≡ 0

@@ -38,9 +38,9 @@ count_found v k n online on low m =
     subst IsKeyWord (sym m.number_is) ((lawful_when_on (setup_in v.setting) m.stops.now m.at m.seat m.shown.present v.number online irq).keys k low)
 
 -- whoever has interrupts on has read what one lawful table says
-pub reads_table : (a : ℕ) (d : SeatValue) → Lives d.known → has d.known.setting.online d.known.number ≡ true → irq_of d.known.seat ≡ true
-    → ReadsOneTable (cpu_of a d)
-reads_table a d l online on =
+pub reads_table : (d : SeatValue) → Lives d.known → has d.known.setting.online d.known.number ≡ true → irq_of d.known.seat ≡ true
+    → ReadsOneTable (cpu_of d)
+reads_table d l online on =
     let me = d.known.number in
     let irq = l.shown.present.irq me ∙ (ap irq_of l.sees.seat_is ∙ on) in
     record {
@@ -51,23 +51,23 @@ reads_table a d l online on =
     }
 
 -- a CPU that has read
-module _ (a : ℕ) (d e : SeatValue) (r : Reading) (table : e.table ≡ d.table) (same : e.known ≡ reads_more r d.known) (lives : Lives e.known)
+module _ (d e : SeatValue) (r : Reading) (table : e.table ≡ d.table) (same : e.known ≡ reads_more r d.known) (lives : Lives e.known)
     (online : has d.known.setting.online d.known.number ≡ true) (on : irq_of d.known.seat ≡ true) where
-  pub read_view : cpu_of a e ≡ reads r (cpu_of a d)
-  read_view = λ i. cpu_of a (record { table = table i; known = same i })
+  pub read_view : cpu_of e ≡ reads r (cpu_of d)
+  read_view = λ i. cpu_of (record { table = table i; known = same i })
 
-  pub read_table : ReadsOneTable (cpu_of a e)
-  read_table = reads_table a e lives (ap (λ (v : Known). has v.setting.online v.number) same ∙ online) (ap (λ (v : Known). irq_of v.seat) same ∙ on)
+  pub read_table : ReadsOneTable (cpu_of e)
+  read_table = reads_table e lives (ap (λ (v : Known). has v.setting.online v.number) same ∙ online) (ap (λ (v : Known). irq_of v.seat) same ∙ on)
 
-pub key_answers : (a : ℕ) (d e : SeatValue) (k : ℕ) (b : Bool) → e.table ≡ d.table → e.known ≡ reads_more (ReadKey k b) d.known → Lives e.known
+pub key_answers : (d e : SeatValue) (k : ℕ) (b : Bool) → e.table ≡ d.table → e.known ≡ reads_more (ReadKey k b) d.known → Lives e.known
     → has d.known.setting.online d.known.number ≡ true → irq_of d.known.seat ≡ true → k < d.known.setting.labels.keys
-    → KeyAnswers k (cpu_of a d) (cpu_of a e) (Ok b)
-key_answers a d e k b table same lives online on low =
-    ((low, on), read_view a d e (ReadKey k b) table same lives online on, read_table a d e (ReadKey k b) table same lives online on)
+    → KeyAnswers k (cpu_of d) (cpu_of e) (Ok b)
+key_answers d e k b table same lives online on low =
+    ((low, on), read_view d e (ReadKey k b) table same lives online on, read_table d e (ReadKey k b) table same lives online on)
 
-pub site_answers : (a : ℕ) (d e : SeatValue) (i : ℕ) (kind : SiteKind) → e.table ≡ d.table → e.known ≡ reads_more (ReadSite i (jumps kind)) d.known
+pub site_answers : (d e : SeatValue) (i : ℕ) (kind : SiteKind) → e.table ≡ d.table → e.known ≡ reads_more (ReadSite i (jumps kind)) d.known
     → Lives e.known
     → has d.known.setting.online d.known.number ≡ true → irq_of d.known.seat ≡ true → i < length d.known.setting.labels.entries
-    → SiteAnswers i (cpu_of a d) (cpu_of a e) (Ok kind)
-site_answers a d e i kind table same lives online on low =
-    let r = ReadSite i (jumps kind) in ((low, on), read_view a d e r table same lives online on, read_table a d e r table same lives online on)
+    → SiteAnswers i (cpu_of d) (cpu_of e) (Ok kind)
+site_answers d e i kind table same lives online on low =
+    let r = ReadSite i (jumps kind) in ((low, on), read_view d e r table same lives online on, read_table d e r table same lives online on)

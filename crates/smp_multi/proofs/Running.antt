@@ -80,7 +80,7 @@ module _ (t : TableId) (d : SeatValue) (slot : ℕ) where
         record {
           table_is = a.table_is;
           sized = a.sized;
-          can = record { move = LoadField slot f; may = plain; is_access = refl };
+          can = record { move = LoadField slot (work_in d.known.seat) 0 0 f; may = (plain, a.seat_is); is_access = refl };
           cell = slot_cell slot f a.low;
         };
     apart = tt;

@@ -117,9 +117,10 @@ module _ (d : SeatValue) (l : Lives d.known) (y : ℕ) (calls : List StopCall) w
   calling_with = put_same l.stops.calling me (with_answer y (l.stops.calling me))
       ∙ (sym (with_told y (l.stops.calling me)) ∙ ap (with_answer y) l.sees.part_is.calling)
 
-abbrev pub is_shown : (answer : ℕ) (d : SeatValue) → Lives d.known → HasNotGiven d.known.seat → IsShown (cpu_of answer d)
-is_shown answer d l free =
+abbrev pub is_shown : (d : SeatValue) → Lives d.known → HasNotGiven d.known.seat → IsShown (cpu_of d)
+is_shown d l free =
     let me = d.known.number in
+    let answer = d.known.carried in
     let calls = (part_with answer d.known).calls in
     let shown = shown_with d l answer calls free in
     record {
@@ -131,7 +132,6 @@ is_shown answer d l free =
       laws = keeps_laws (setup_in d.known.setting) (stops_with answer calls me l.stops) l.at l.seat l.source shown;
       known = d.known;
       sees = sees_with d l answer calls;
-      answer = answer;
       view = refl;
       inside = inside_shown l.stops.now me d.known.seat (subst (Stands l.stops.now me) l.sees.seat_is (l.shown.present.stands me));
       irq = l.shown.present.irq me ∙ ap irq_of l.sees.seat_is;
@@ -145,11 +145,11 @@ is_shown answer d l free =
 abbrev pub lives_at : (v : Known) (word : Word) (n : ℕ) → Moment v word n → Lives v
 lives_at v word n m = record { stops = m.stops; at = m.at; seat = m.seat; source = m.source; shown = m.shown; sees = m.sees }
 
-pub finds : (a : ℕ) (d : SeatValue) (word : Word) (n : ℕ) → HasNotGiven d.known.seat → Moment d.known word n → Finds (cpu_of a d) word n
-finds a d word n free m = record {
-  shown = is_shown a d (lives_at d.known word n m) free;
+pub finds : (d : SeatValue) (word : Word) (n : ℕ) → HasNotGiven d.known.seat → Moment d.known word n → Finds (cpu_of d) word n
+finds d word n free m = record {
+  shown = is_shown d (lives_at d.known word n m) free;
   found = sym m.number_is;
 }
 
-pub finds_count : (a : ℕ) (d : SeatValue) (k n : ℕ) → HasNotGiven d.known.seat → Moment d.known (Key k) n → FindsCount (cpu_of a d) k n
-finds_count a d k n free m = finds a d (Key k) n free m
+pub finds_count : (d : SeatValue) (k n : ℕ) → HasNotGiven d.known.seat → Moment d.known (Key k) n → FindsCount (cpu_of d) k n
+finds_count d k n free m = finds d (Key k) n free m

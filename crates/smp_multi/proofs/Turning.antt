@@ -183,7 +183,7 @@ module _ (t : TableId) (d : SeatValue) (v : Visit) where
     able = record {
       table_is = a.at.table_is;
       sized = a.at.sized;
-      can = record { move = LoadField v.slot field.Func; may = tt; is_access = refl };
+      can = record { move = LoadField v.slot work v.acked RUN field.Func; may = (tt, a.at.seat_is); is_access = refl };
       cell = slot_cell v.slot field.Func a.at.low;
     };
     apart = tt;

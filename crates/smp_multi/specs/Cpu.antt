@@ -6,7 +6,6 @@ use Rattle.smp_mask.specs.Mask.{has}
 use Rattle.smp_words.specs.Size.{cpus}
 use Rattle.smp_stop_steps.specs.Known.{fresh, Lives}
 use Rattle.smp_stop_steps.specs.Callings.{with_answer}
-use Rattle.smp_stop_steps.specs.Carries.{IsQuiet}
 use Rattle.smp_stop_steps.specs.Seats.{irq_of}
 use Rattle.smp_stop_steps.specs.Sits.{SitsAtRest, OwnsIf}
 use Rattle.smp_stop_steps.specs.Tells.{calls_at_run}
@@ -63,33 +62,28 @@ abbrev pub calls_with : ℕ → ℕ → Work → List StopCall → Calling → L
 calls_with answer me w calls (Carries x) = cond (calls_at_run me w) (calls ++ call_with w answer ∷ []) calls
 calls_with answer me w calls _ = calls
 
--- its part with the answer that it carries, which no step tells before the completion
+-- its part with this answer, which no step tells before the completion
 abbrev pub part_with : ℕ → Known → Part
 part_with answer v = record (v.part) {
   calls = calls_with answer v.number (work_in v.seat) v.part.calls v.part.calling;
   calling = with_answer answer v.part.calling;
 }
 
--- the answer of its function in the stop that it is in; 0 before, and where it calls none
-abbrev pub answer_of : Option Visit → ℕ
-answer_of None = 0
-answer_of (Some x) = x.answer
-
 -- what a CPU knows, with the answer that it carries, as contracts see it
-abbrev pub cpu_of : ℕ → SeatValue → CpuValue
-cpu_of answer d = record {
+abbrev pub cpu_of : SeatValue → CpuValue
+cpu_of d = record {
   table = d.table;
   setting = d.known.setting;
   number = d.known.number;
   pending = pending_of d.known.source;
   inside = inside_of d.known.seat;
   irq = irq_of d.known.seat;
-  part = part_with answer d.known;
+  part = part_with d.known.carried d.known;
 }
 
 -- a CPU that has done nothing
 abbrev pub fresh_cpu : TableId → Setting → ℕ → CpuValue
-fresh_cpu table k cpu = cpu_of 0 (record { table = table; known = fresh k cpu })
+fresh_cpu table k cpu = cpu_of (record { table = table; known = fresh k cpu })
 
 -- the CPU is one of this table
 pub record IsAt (t : TableValue) (c : CpuValue) : Type 0 where
@@ -101,6 +95,12 @@ abbrev pub IsLow : Option Visit → Type 0
 IsLow None = Unit {0}
 IsLow (Some x) = x.slot < cpus
 
+-- it calls no function now; it carries an answer in a stop alone, and 0 where it carries none
+abbrev pub CallsNone : Option Visit → ℕ → Calling → Type 0
+CallsNone visit carried Idle = carried ≡ 0
+CallsNone (Some x) carried (Carries answer) = Unit {0}
+CallsNone _ carried _ = ⊥
+
 -- what a CPU keeps between two calls: it is between two turns of the stop that it is in, calls no function, begins no
 -- stop, and what it knows is its part of some stops
 pub record IsKept (v : Known) (number : ℕ) (visit : Option Visit) (holds is_open : Bool) : Type 0 where
@@ -109,7 +109,7 @@ pub record IsKept (v : Known) (number : ℕ) (visit : Option Visit) (holds is_op
   pub online : has v.setting.online number ≡ true
   pub rests : SitsAtRest visit v.seat
   pub low : IsLow visit
-  pub quiet : IsQuiet visit (with_answer (answer_of visit) v.part.calling)
+  pub quiet : CallsNone visit v.carried v.part.calling
   pub holds_is : holds ≡ v.part.holds
   pub owns : OwnsIf is_open v.source
   pub lives : Lives v

@@ -34,8 +34,7 @@ pub record IsShown (c : CpuValue) : Type 0 where
   pub laws : KeepsStopLaws (setup_in c.setting) stops at
   pub known : Known
   pub sees : Sees stops seat source known
-  pub answer : ℕ
-  pub view : c ≡ cpu_of answer (record { table = c.table; known = known })
+  pub view : c ≡ cpu_of (record { table = c.table; known = known })
   pub inside : IsInside stops.now c.number c.inside
   pub irq : stops.now.irq c.number ≡ c.irq
   pub pending : IsPending (stops.now.stop c.number) c.pending

@@ -30,6 +30,10 @@ abbrev pub rest_in : Seat → List Change
 rest_in (Alters s w count made rest) = rest
 rest_in _ = []
 
+-- a CPU that makes the patch of its stop
+abbrev pub IsInPatch : Known → Type 0
+IsInPatch v = (slot : ℕ) × (v.seat ≡ Alters slot (work_in v.seat) (count_in v.seat) (made_in v.seat) (rest_in v.seat))
+
 -- a CPU in the patch of the stop of its visit
 pub record AtPatch (table : TableId) (seat : SeatValue) (visit : Visit) : Type 0 where
   pub table_is : seat.table ≡ table

@@ -53,7 +53,6 @@ pub record IsVisitOf (slot : ℕ) (work : Work) (visit : Visit) : Type 0 where
   pub loaded : IsLoaded visit work
   pub slot_is : visit.slot ≡ slot
   pub fresh : visit.acked ≡ 0
-  pub unanswered : visit.answer ≡ 0
 
 -- the work of the stop that a CPU is in
 abbrev pub work_in : Seat → Work

@@ -2,7 +2,9 @@
 use Rattle.std.specs.Prelude.{◌≡◌, ℕ, ℤ, ◌<◌, false}
 use Rattle.atomic_table.specs.Seated.{TableId}
 use Rattle.smp_words.specs.Size.{cpus}
+use Rattle.smp_stop_steps.specs.Known.{carrying}
 use Rattle.smp_stop_steps.specs.KnownAfter.{is_drafting}
+use Rattle.smp_stop_steps.specs.Starts.{answer_word}
 use Rattle.smp_multi.specs.Names.{One, In, Rests, Known, Calls}
 use Rattle.smp_multi.specs.declared.func.Called.{Called}
 use Rattle.smp_multi.specs.Cells.{cells}
@@ -32,3 +34,7 @@ pub record AtOne (table : TableId) (seat : SeatValue) (slot : ℕ) : Type 0 wher
 -- and has loaded what its function is called with: it calls it, with no answer yet
 abbrev pub calls_now : Known → Known
 calls_now v = record v { part = record (v.part) { calling = Calls (record { func = (work_in v.seat).func; arg = (work_in v.seat).arg; answer = 0 }) } }
+
+-- and its function has given this answer, which it carries from its acknowledgement on
+abbrev pub answered_now : ℤ → Known → Known
+answered_now answer v = carrying (answer_word answer) (calls_now v)

@@ -1,18 +1,17 @@
 -- What one turn of a stop of several CPUs does, by what the CPU knows before and after it.
 use Rattle.std.specs.Prelude.{◌≡◌, ◌≢◌, ℕ, ℤ, ◌+◌, ◌==◌, true, false, cond, List}
 use Rattle.smp_mask.specs.Mask.{has}
-use Rattle.smp_stop_steps.specs.Known.{Moment}
+use Rattle.smp_stop_steps.specs.Known.{Moment, carrying}
 use Rattle.smp_stop_steps.specs.KnownAfter.{counted, looked_known, looked_to}
 use Rattle.smp_stop_steps.specs.Labels.{count_set, patch_answer}
 use Rattle.smp_stop_steps.specs.Stages.{visit_acked}
-use Rattle.smp_stop_steps.specs.Starts.{answer_word}
 use Rattle.smp_stop_steps.specs.declared.known.Moved.{Moved as CountMoved}
 use Rattle.smp_stop_steps.specs.declared.phase.TheConstants.{DISABLE_IRQ, RUN, EXIT}
 use Rattle.smp_stop_steps.specs.declared.stage.Visit.{Visit}
 use Rattle.smp_multi.specs.Names.{Key, Work, Kind, One, Multi, Patch, Seat, Known, Carries}
 use Rattle.smp_multi.specs.Places.{work_in}
 use Rattle.smp_multi.specs.Rounds.{passed_by, passed_known}
-use Rattle.smp_multi.specs.Running.{calls_now, called_by}
+use Rattle.smp_multi.specs.Running.{answered_now, called_by}
 use Rattle.smp_multi.specs.declared.func.Called.{Called}
 use Rattle.smp_multi.specs.declared.turn.Turn.{Turn}
 use Rattle.smp_multi.specs.declared.turn.Turn.TheVariants.{Same, Moved, Ran, Left}
@@ -21,20 +20,20 @@ use Rattle.smp_multi.specs.declared.turn.Turn.TheVariants.{Same, Moved, Ran, Lef
 abbrev pub patched_with : Work → ℕ → List CountMoved → List CountMoved
 patched_with w count l = cond (count == count_set w count) l (counted l w.func count (count_set w count))
 
--- it has looked at RUN, has made its patch, which has found this count, and has acknowledged RUN
+-- it has looked at RUN, has made its patch, which has found this count, and has acknowledged RUN with the patch's answer
 abbrev pub patched_by : ℕ → Seat → Known → Known
-patched_by count x v = let next = passed_by x v in
+patched_by count x v = let next = passed_by x (carrying (patch_answer (work_in x) count) v) in
     record next { part = record (next.part) { calling = Carries 0; patched = patched_with (work_in x) count v.part.patched } }
 
 -- an active CPU has acknowledged RUN with its function called, or its patch made
 abbrev pub HasRun : {F : Type 0} → (F → Called → F → Type 0) → Known → Known → Visit → Visit → F → F → Kind → Type 0
 HasRun leads old new v v' f g One = ⊥
-HasRun leads old new v v' f g Multi = (answer : ℤ) × (new ≡ passed_by (looked_to RUN old.seat) (calls_now (looked_known RUN old)))
-    × (v' ≡ visit_acked v (answer_word answer) true) × leads f (called_by old answer) g
+HasRun leads old new v v' f g Multi = (answer : ℤ) × (new ≡ passed_by (looked_to RUN old.seat) (answered_now answer (looked_known RUN old)))
+    × (v' ≡ visit_acked v 0 false) × leads f (called_by old answer) g
 HasRun leads old new v v' f g Patch =
     (count : ℕ) × Moment (looked_known RUN old) (Key (work_in old.seat).func) count
     × (new ≡ patched_by count (looked_to RUN old.seat) (looked_known RUN old))
-    × (v' ≡ visit_acked v (patch_answer (work_in old.seat) count) true) × (g ≡ f)
+    × (v' ≡ visit_acked v 0 false) × (g ≡ f)
 
 -- it looks at one phase more; where that is new it acknowledges it, and at RUN an active CPU has called its function
 abbrev pub TurnAnswers : {F : Type 0} → (F → Called → F → Type 0) → Known → Known → Visit → Visit → F → F → Turn → Type 0

@@ -5,7 +5,7 @@ ghost use Rattle.smp_mask.specs.Mask.{has};
 ghost use Rattle.smp_multi.specs.Cpu.{fresh_cpu, is_left, given};
 
 use crate::cpu::StopCpu;
-use crate::rule::RawSeat;
+use crate::seat::SeatMaker;
 use smp_mask::{CpuMask, SmpError};
 use std::alloc::Allocator;
 use std::marker::Model;
@@ -14,7 +14,7 @@ use std::marker::Model;
 #[derive(Drop)]
 pub struct StopBoot<A: Allocator> {
     /// The first seat, which made those of the CPUs.
-    pub(crate) maker: RawSeat,
+    pub(crate) maker: SeatMaker,
     pub(crate) online: CpuMask,
     pub(crate) waiting: Vec<Option<StopCpu>, A>,
 }
@@ -26,9 +26,9 @@ impl<A: Allocator> Model for StopBoot<A> {
 
     ghost Value = { BootValue };
 
-    ghost view = { λ b. record { table = b.maker.table_id; setting = made_with b.maker.me.0; left = map is_some b.waiting.items } };
+    ghost view = { λ b. record { table = b.maker.raw.table_id; setting = made_with b.maker.raw.me.0; left = map is_some b.waiting.items } };
 
-    ghost invariant = { λ b. AreWaiting b.maker.table_id (made_with b.maker.me.0) b.online b.waiting.items };
+    ghost invariant = { λ b. AreWaiting b.maker.raw.table_id (made_with b.maker.raw.me.0) b.online b.waiting.items };
 }
 
 impl<A: Allocator> StopBoot<A> {

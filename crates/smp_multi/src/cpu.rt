@@ -26,11 +26,11 @@ pub struct StopCpu {
 }
 
 impl Model for StopCpu {
-    ghost use Rattle.smp_multi.specs.Cpu.{CpuValue, IsKept, answer_of, cpu_of};
+    ghost use Rattle.smp_multi.specs.Cpu.{CpuValue, IsKept, cpu_of};
 
     ghost Value = { CpuValue };
 
-    ghost view = { λ c. cpu_of (answer_of c.visit) c.seat };
+    ghost view = { λ c. cpu_of c.seat };
 
     ghost invariant = { λ c. IsKept c.seat.known c.number c.visit c.holds c.is_open };
 }

@@ -19,7 +19,7 @@ pub fn is_shown<A: Allocator>(table: &StopTable<A>, cpu: &StopCpu)
 
 /// The function law: from its look at `RUN` to its acknowledgement, as long as that is what a CPU knows, whatever steps
 /// other threads make, the phase is `RUN`, and every CPU of the mask has acknowledged `DISABLE_IRQ` and has its interrupts
-/// off. A CPU calls the function of a Multi stop, and makes a patch, only there ([`crate::run_steps`]).
+/// off. A CPU calls the function of a Multi stop, and makes a patch, only there (`seat/run_steps.rt`).
 pub fn functions_run_alone()
     ensures { FunctionsRunAlone }
 {}

@@ -42,7 +42,6 @@ mod round;
 mod rule;
 mod run;
 mod run_multi;
-pub mod run_steps;
 mod seat;
 mod seat_view;
 mod table;

@@ -1,24 +1,24 @@
 //! A CPU makes the patch of its stop, and acknowledges `RUN` (`kernel/jump_label.c: jump_label_update`).
 
-ghost use Rattle.std.specs.Prelude.{◌≡◌, ◌<◌, [], ℕ, true, slice_index};
+ghost use Rattle.std.specs.Prelude.{◌≡◌, ◌<◌, ℕ, false, slice_index};
 ghost use Rattle.smp_labels.specs.Entries.{IsEntryWord};
 ghost use Rattle.smp_labels.specs.Keys.{change_of};
 ghost use Rattle.smp_labels.specs.Plans.{plan_of};
 ghost use Rattle.smp_labels.specs.declared.words.TheConstants.{MOST_KEYS, MOST_SITES};
 ghost use Rattle.smp_stop_steps.specs.Known.{Lives, Moment};
-ghost use Rattle.smp_stop_steps.specs.KnownAfter.{acked_by};
-ghost use Rattle.smp_stop_steps.specs.Labels.{answer_for as answer_of_patch, patch_answer};
-ghost use Rattle.smp_stop_steps.specs.Stages.{label_word, visit_acked};
+ghost use Rattle.smp_stop_steps.specs.Labels.{answer_for as answer_of_patch};
+ghost use Rattle.smp_stop_steps.specs.Stages.{visit_acked};
 ghost use Rattle.smp_multi.specs.Names.{Key, Patch, Rests};
 ghost use Rattle.smp_multi.specs.Cells.{cells};
-ghost use Rattle.smp_multi.specs.Patches.{AtPatch, begins_with, entries_in, made_in, rest_in, stored_all};
+ghost use Rattle.smp_multi.specs.Patches.{AtPatch, IsInPatch, begins_with, entries_in};
 ghost use Rattle.smp_multi.specs.Places.{work_in};
 ghost use Rattle.smp_multi.specs.Rounds.{AloneWhile, AtRun, AtTurn};
 ghost use Rattle.smp_multi.specs.Turns.{patched_by};
 
 use crate::round::pass;
 use crate::rule::Words;
-use crate::seat::{CpuSeat, load, store, subtract};
+use crate::seat::patch_steps::{acknowledge_patch, store_plan};
+use crate::seat::{CpuSeat, load};
 use arrayvec::ArrayVec;
 use smp_labels::{Change, Entry, MOST_CHANGES, MOST_SITES, Place, is_on, kind_of};
 use smp_stop_steps::stage::Visit;
@@ -59,6 +59,7 @@ fn begin_patch(words: &Words, seat: &mut CpuSeat, visit: Visit, key: u32) -> u64
 fn load_entry(words: &Words, seat: &mut CpuSeat, site: u32) -> u64
     requires table { seat.old.table ≡ words.now.table_id }
     requires sized { words.now.table_id.words ≡ cells }
+    requires inside { IsInPatch seat.old.known }
     requires low { site < MOST_SITES }
     ensures table { seat.new.table ≡ words.now.table_id }
     ensures lives { Lives seat.new.known }
@@ -80,6 +81,7 @@ fn load_plan(
 ) -> ArrayVec<(Place, u64), MOST_CHANGES>
     requires table { seat.old.table ≡ words.now.table_id }
     requires sized { words.now.table_id.words ≡ cells }
+    requires inside { IsInPatch seat.old.known }
     requires lives { Lives seat.old.known }
     ensures table { seat.new.table ≡ words.now.table_id }
     ensures lives { Lives seat.new.known }
@@ -107,48 +109,6 @@ fn load_plan(
     plan
 }
 
-/// The word of a place.
-fn word_of(place: Place) -> Word
-    ensures { result ≡ label_word place }
-{
-    match place {
-        Place::Key(key) => Word::Key(key),
-        Place::Site(site) => Word::Site(site),
-    }
-}
-
-/// Makes the stores of a patch, in order.
-fn store_plan(
-    words: &Words,
-    seat: &mut CpuSeat,
-    visit: Visit,
-    plan: &ArrayVec<(Place, u64), MOST_CHANGES>,
-)
-    requires at { AtPatch words.now.table_id seat.old visit }
-    requires fresh { made_in seat.old.known.seat ≡ [] }
-    requires plan { rest_in seat.old.known.seat ≡ plan.now.items }
-    requires lives { Lives seat.old.known }
-    ensures at { AtPatch words.now.table_id seat.new visit }
-    ensures lives { Lives seat.new.known }
-    ensures known { seat.new.known ≡ stored_all seat.old.known.seat seat.old.known }
-{
-    let _ = visit;
-    for (place, number) in plan.as_slice() {
-        store(words, seat, word_of(*place), *number);
-    }
-}
-
-/// Acknowledges `RUN`, with all stores of the patch made, and answers what was found in the count.
-fn acknowledge_patch(words: &Words, seat: &mut CpuSeat, visit: Visit) -> u64
-    requires at { AtPatch words.now.table_id seat.old visit }
-    requires whole { rest_in seat.old.known.seat ≡ [] }
-    ensures table { seat.new.table ≡ words.now.table_id }
-    ensures lives { Lives seat.new.known }
-    ensures known { seat.new.known ≡ acked_by result seat.old.known.seat seat.old.known }
-{
-    subtract(words, seat, Word::Slot(visit.slot, Field::Ack))
-}
-
 /// What a patch answers: 1 where the count stands at the end of its range, so that there is no next one.
 fn answer_for(next: Option<u64>) -> u64
     ensures { result ≡ answer_of_patch next }
@@ -167,15 +127,15 @@ pub(crate) fn patch_on(words: &Words, seat: &mut CpuSeat, visit: Visit) -> Visit
     ensures lives { Lives seat.new.known }
     ensures patched { (count : ℕ) × Moment seat.old.known (Key (work_in seat.old.known.seat).func) count
         × (seat.new.known ≡ patched_by count seat.old.known.seat seat.old.known)
-        × (result ≡ visit_acked visit (patch_answer (work_in seat.old.known.seat) count) true) }
+        × (result ≡ visit_acked visit 0 false) }
 {
     let (key, change) = load_change(words, seat, visit);
     let count = begin_patch(words, seat, visit, key);
     let next = change.count_after(count);
     let plan = load_plan(words, seat, key, count, next.unwrap_or(count));
     store_plan(words, seat, visit, &plan);
-    let found = acknowledge_patch(words, seat, visit);
-    let visit = visit.acknowledged(answer_for(next), true);
+    let found = acknowledge_patch(words, seat, visit, answer_for(next));
+    let visit = visit.acknowledged(0, false);
     pass(words, seat, visit, found);
     visit
 }

@@ -1,17 +1,16 @@
 //! A CPU runs the function of a stop of one CPU, and completes (`cpu_stopper_thread`).
 
 ghost use Rattle.std.specs.Prelude.{◌≡◌};
-ghost use Rattle.smp_stop_steps.specs.Known.{Lives};
+ghost use Rattle.smp_stop_steps.specs.Known.{Lives, carrying};
 ghost use Rattle.smp_stop_steps.specs.KnownAfter.{completed_with};
 ghost use Rattle.smp_stop_steps.specs.Starts.{answer_word};
 ghost use Rattle.smp_multi.specs.Places.{work_in};
 ghost use Rattle.smp_multi.specs.Running.{AtOne, called_by};
 
 use crate::complete::close_if_last;
-use crate::func::{Called, StopFunc};
+use crate::func::StopFunc;
 use crate::rule::Words;
-use crate::run_steps::{begin_one, end_one};
-use crate::seat::CpuSeat;
+use crate::seat::{CpuSeat, run_steps};
 
 /// Calls the function of the stop of this slot, and completes with its answer.
 pub(crate) fn run_one<F: StopFunc>(
@@ -25,18 +24,10 @@ pub(crate) fn run_one<F: StopFunc>(
     requires number { seat.old.known.number ≡ number }
     ensures table { seat.new.table ≡ words.now.table_id }
     ensures lives { Lives seat.new.known }
-    ensures known { seat.new.known ≡ completed_with 0 slot (work_in seat.old.known.seat) (answer_word result) seat.old.known }
+    ensures known { seat.new.known ≡ completed_with 0 slot (work_in seat.old.known.seat) (answer_word result) (carrying 0 seat.old.known) }
     ensures heard { F.leads func.old (called_by seat.old.known result) func.new }
 {
-    let (begun, number_of_func, arg) = begin_one(words, seat, slot, func);
-    let answer = func.run(number, number_of_func, arg);
-    let call = Called {
-        cpu: number,
-        func: number_of_func,
-        arg,
-        answer,
-    };
-    let found = end_one(words, seat, slot, call, func, begun);
+    let (found, answer) = run_steps::run_one(words, seat, number, slot, func);
     close_if_last(words, seat, slot, found);
     answer
 }

@@ -1,51 +1,20 @@
 //! A CPU runs the function of a Multi stop, and acknowledges `RUN` (`multi_cpu_stop`).
 
-ghost use Rattle.std.specs.Prelude.{◌≡◌, ℤ, true};
+ghost use Rattle.std.specs.Prelude.{◌≡◌, ℤ, false};
 ghost use Rattle.smp_stop_steps.specs.Known.{Lives};
-ghost use Rattle.smp_stop_steps.specs.KnownAfter.{acked_by};
 ghost use Rattle.smp_stop_steps.specs.Stages.{visit_acked};
-ghost use Rattle.smp_stop_steps.specs.Starts.{answer_word as word_of_answer};
 ghost use Rattle.smp_multi.specs.Names.{Multi, Rests};
 ghost use Rattle.smp_multi.specs.Rounds.{AtRun, AtTurn, passed_by};
-ghost use Rattle.smp_multi.specs.Running.{called_by, calls_now};
+ghost use Rattle.smp_multi.specs.Running.{answered_now, called_by};
 
-use crate::func::{Called, StopFunc};
+use crate::func::StopFunc;
 use crate::round::pass;
 use crate::rule::Words;
-use crate::run_steps::{begin_run, end_run};
 use crate::seat::CpuSeat;
+use crate::seat::run_steps::run_multi;
 use smp_stop_steps::stage::Visit;
-use smp_stop_steps::start::answer_word;
 
-/// Calls the function of a Multi stop, and acknowledges `RUN`. Answers what was found in the count, and the function's
-/// answer.
-fn run<F: StopFunc>(
-    words: &Words,
-    seat: &mut CpuSeat,
-    number: u32,
-    visit: Visit,
-    func: &mut F,
-) -> (u64, i32)
-    requires at { AtRun words.now.table_id seat.old visit Multi }
-    requires number { seat.old.known.number ≡ number }
-    ensures table { seat.new.table ≡ words.now.table_id }
-    ensures lives { Lives seat.new.known }
-    ensures known { seat.new.known ≡ acked_by result.0 seat.old.known.seat (calls_now seat.old.known) }
-    ensures heard { F.leads func.old (called_by seat.old.known result.1) func.new }
-{
-    let (begun, number_of_func, arg) = begin_run(words, seat, visit, func);
-    let answer = func.run(number, number_of_func, arg);
-    let call = Called {
-        cpu: number,
-        func: number_of_func,
-        arg,
-        answer,
-    };
-    let found = end_run(words, seat, visit, call, func, begun);
-    (found, answer)
-}
-
-/// Calls the function of a Multi stop, acknowledges `RUN`, and stores the next phase as the last.
+/// Calls the function of a Multi stop, acknowledges `RUN` with its answer, and stores the next phase as the last.
 pub(crate) fn run_on<F: StopFunc>(
     words: &Words,
     seat: &mut CpuSeat,
@@ -57,11 +26,12 @@ pub(crate) fn run_on<F: StopFunc>(
     requires number { seat.old.known.number ≡ number }
     ensures at { AtTurn words.now.table_id seat.new result result.acked Rests }
     ensures lives { Lives seat.new.known }
-    ensures known { seat.new.known ≡ passed_by seat.old.known.seat (calls_now seat.old.known) }
-    ensures heard { (answer : ℤ) × (result ≡ visit_acked visit (word_of_answer answer) true) × F.leads func.old (called_by seat.old.known answer) func.new }
+    ensures visit { result ≡ visit_acked visit 0 false }
+    ensures heard { (answer : ℤ) × (seat.new.known ≡ passed_by seat.old.known.seat (answered_now answer seat.old.known))
+        × F.leads func.old (called_by seat.old.known answer) func.new }
 {
-    let (found, answer) = run(words, seat, number, visit, func);
-    let visit = visit.acknowledged(answer_word(answer), true);
+    let (found, _) = run_multi(words, seat, number, visit, func);
+    let visit = visit.acknowledged(0, false);
     pass(words, seat, visit, found);
     visit
 }

@@ -25,27 +25,23 @@ ghost use Rattle.smp_mask.specs.Mask.{has};
 ghost use Rattle.smp_words.specs.Limits.{AreLimits};
 ghost use Rattle.smp_words.specs.Size.{cpus};
 ghost use Rattle.smp_stop_steps.specs.Known.{fresh, Lives};
-ghost use Rattle.smp_multi.specs.declared.seat_view.SeatView.TheVariants.{Maker};
 ghost use Rattle.smp_multi.specs.Advance.{AdvanceAnswers, FinishAnswers};
 ghost use Rattle.smp_multi.specs.Answers.{BeginAnswers, Enters, IsStale, RunAnswers, PollAnswers};
-ghost use Rattle.smp_multi.specs.Cells.{cells};
 ghost use Rattle.smp_multi.specs.Cpu.{IsAt, IsFull, fresh_cpu, gated};
 ghost use Rattle.smp_multi.specs.Laws.{FindsHeld};
 ghost use Rattle.smp_multi.specs.Nudges.{NudgeAnswers};
 ghost use Rattle.smp_multi.specs.Reads.{KeyAnswers, SiteAnswers};
 
 use crate::boot::StopBoot;
-use crate::cell::FIRST_ENTRY;
 use crate::cpu::StopCpu;
 use crate::func::StopFunc;
 use crate::gate::{leave_gate, take_gate};
 use crate::nudge::Nudge;
 use crate::poll::{collect, is_done};
-use crate::rule::{Owner, RawSeat};
-use crate::seat::{CpuSeat, next_seat};
+use crate::rule::Owner;
+use crate::seat::{CpuSeat, lay, next_seat};
 use crate::turn::{Turn, take_turn};
 use crate::{begin, complete, enter, nudge, read, run};
-use atomic_table::Table;
 use smp_labels::{LabelMap, SiteKind};
 use smp_mask::{CpuMask, SmpError};
 use smp_stop_steps::known::Setting;
@@ -74,27 +70,6 @@ impl<A: Allocator> Model for StopTable<A> {
     ghost view = { λ t. record { table = t.owner.shared.table_id; nr = t.nr; setting = t.setting } };
 
     ghost invariant = { λ t. IsTable t.owner.shared.table_id t.owner.shared.key t.nr t.setting };
-}
-
-/// The words of a table with a free gate, free slots, and these labels with all keys off, and the first seat.
-fn lay<A: Allocator>(
-    alloc: A,
-    nr: u32,
-    setting: &Setting,
-) -> Result<(Owner<A>, RawSeat), AllocError>
-where
-    A: Copy,
-    requires { AreLimits nr setting.now.online }
-    ensures made { IfOk result (λ t. (t.0.shared.table_id.words ≡ cells) × (t.0.shared.table_id.slots ≡ 0) × (t.0.shared.key ≡ setting.now)
-        × (t.1.table_id ≡ t.0.shared.table_id) × (t.1.me.0 ≡ Maker 0 setting.now)) }
-    ensures lives { IfOk result (λ _. (cpu : ℕ) → cpu < cpus → Lives (fresh setting.now cpu)) }
-{
-    let labels = setting.labels.words();
-    let mut words = Vec::from_elem(alloc, 0u64, FIRST_ENTRY)?;
-    words.extend_from_slice(&labels.entries)?;
-    words.extend_from_slice(&labels.sites)?;
-    let (table, seat) = Table::of_words(alloc, words.as_slice(), setting)?;
-    Ok((table, seat))
 }
 
 /// The CPU of a seat, where it is online.
@@ -314,7 +289,7 @@ impl<A: Allocator> StopTable<A> {
         if visit.kind == Kind::One || visit.acked != EXIT {
             return Err(SmpError::BadArgument);
         }
-        complete::finish(&self.owner.shared, &mut me.seat, visit.slot, visit.answer);
+        complete::finish(&self.owner.shared, &mut me.seat, visit.slot);
         me.visit = None;
         Ok(())
     }

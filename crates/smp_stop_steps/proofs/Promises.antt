@@ -4,3 +4,4 @@ pub mod Premises
 pub mod Interrupts
 pub mod Patchers
 pub mod StopLaws
+pub mod KnownPremises

@@ -8,6 +8,7 @@ pub mod Made
 pub mod Opened
 pub mod Begun
 pub mod Fits
+pub mod Members
 pub mod Starting
 pub mod Started
 pub mod Refusals

@@ -1,7 +1,6 @@
 -- What a command's steps take from the command, where its note stands, and when interrupts go off.
-use Rattle.std.specs.Prelude.{◌≡◌, ◌≢◌, ◌⊎◌, ℕ, ◌<◌, ◌≤◌, ◌+◌, ◌++◌, Bool, true, false, [], ◌∷◌, Option, Some, None}
-use Rattle.smp_mask.specs.Mask.{has}
-use Rattle.smp_words.specs.Access.{word_of, seen_of}
+use Rattle.std.specs.Prelude.{◌≡◌, ◌≢◌, ◌⊎◌, ℕ, ◌+◌, ◌++◌, Bool, true, false, [], ◌∷◌, Option, Some, None}
+use Rattle.smp_words.specs.Access.{word_of}
 use Rattle.smp_words.specs.Kinds.{kind_word}
 use Rattle.smp_words.specs.declared.access.Access.{Access}
 use Rattle.smp_words.specs.declared.access.Access.TheVariants.{Load, Store, Exchange}
@@ -9,12 +8,9 @@ use Rattle.smp_words.specs.declared.command.Command.{Command}
 use Rattle.smp_words.specs.declared.command.Command.TheVariants as command
 use Rattle.smp_words.specs.declared.field.Field.{Field}
 use Rattle.smp_words.specs.declared.field.Field.TheVariants as field
-use Rattle.smp_words.specs.declared.seen.Act.TheVariants as act
 use Rattle.smp_words.specs.declared.seen.Note.{Note}
 use Rattle.smp_words.specs.declared.seen.Note.TheVariants as note
-use Rattle.smp_words.specs.declared.word.Word.{Word}
 use Rattle.smp_words.specs.declared.word.Word.TheVariants.{Gate, Slot, Key, Site}
-use Rattle.smp_words.specs.declared.work.Kind.{Kind}
 use Rattle.smp_words.specs.declared.work.Kind.TheVariants.{One}
 use Rattle.smp_words.specs.declared.work.Work.{Work}
 use Rattle.smp_stop_steps.specs.Counts.{mask_weight}

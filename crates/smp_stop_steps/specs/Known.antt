@@ -1,12 +1,15 @@
 -- What a CPU knows of the stops: where it is with them, as far as its steps have told, and its own part of their state.
-use Rattle.std.specs.Prelude.{◌≡◌, ◌≢◌, ℕ, ◌<◌, nat_lt, Bool, false, ◌==◌, cond, Option, Some, None, List, [], length, replicate, slice_index_or}
-use Rattle.smp_stop_steps.specs.Names.{MOST_KEYS, cpus, One, Work, Word}
+use Rattle.std.specs.Prelude.{◌≡◌, ◌≢◌, ◌⊎◌, ℕ, ◌<◌, nat_lt, Bool, false, ◌==◌, cond, Option, Some, None, List, [], length, replicate, slice_index_or}
+use Rattle.smp_stop_steps.specs.Callings.{with_answer}
+use Rattle.smp_stop_steps.specs.Names.{MOST_KEYS, cpus, put, One, Seen, Work, Word, Slot}
 use Rattle.smp_stop_steps.specs.Seats.{Seat, Free}
 use Rattle.smp_stop_steps.specs.Shows.{StopShows}
 use Rattle.smp_stop_steps.specs.Sources.{Source, Shut, Drafts, Owns, Collects}
 use Rattle.smp_stop_steps.specs.Labels.{Reading}
 use Rattle.smp_stop_steps.specs.State.{Calling, Idle, Calls, Carries, Setup, StopState, Moved, unmoved}
+use Rattle.smp_stop_steps.specs.Tells.{tells}
 use Rattle.smp_stop_steps.specs.Value.{setup_of}
+use Rattle.smp_stop_steps.specs.Names.field
 pub use Rattle.smp_stop_steps.specs.declared.known.Known.{Known}
 pub use Rattle.smp_stop_steps.specs.declared.known.Part.{Part}
 pub use Rattle.smp_stop_steps.specs.declared.known.Setting.{Setting}
@@ -112,7 +115,11 @@ no_part = record {
 }
 
 abbrev pub fresh : Setting → ℕ → Known
-fresh k me = record { setting = k; number = me; seat = Free; source = Shut; part = no_part }
+fresh k me = record { setting = k; number = me; seat = Free; source = Shut; part = no_part; carried = 0 }
+
+-- with this answer, which it carries from now on
+abbrev pub carrying : ℕ → Known → Known
+carrying x v = record v { carried = x }
 
 -- some words show some stops, of which a CPU that knows v knows its part
 pub record Lives (v : Known) : Type 0 where
@@ -133,6 +140,17 @@ pub record Moment (v : Known) (word : Word) (number : ℕ) : Type 0 where
   pub sees : Sees stops seat source v
   pub number_is : number ≡ at word
 
+-- the same stops; where the step stores an answer, with that answer of this CPU's function, which no step tells before
+abbrev pub AreAlike : ℕ → Seen → StopState → StopState → Type 0
+AreAlike me seen p q = (q ≡ p) ⊎ ((s x : ℕ) × (seen.word ≡ Slot s field.Result) × (seen.put ≡ Some x)
+    × (q ≡ record p { calling = put p.calling me (with_answer x (p.calling me)) }))
+
+-- these stops are those that the step tells, of the stops before it
+pub record AreTold (u : Setup) (me : ℕ) (p p' : StopState) (seen : Seen) : Type 0 where
+  pub before : StopState
+  pub alike : AreAlike me seen p before
+  pub told : p' ≡ tells u before seen 0
+
 -- the stops go on by a step of this CPU, after which it knows w: what each other CPU knows of them stays true
 pub record GoesOn (k : Setting) (p : StopState) (seat : ℕ → Seat) (source : ℕ → Source) (me : ℕ) (at : Word → ℕ) (w : Known) : Type 0 where
   pub stops : StopState
@@ -143,3 +161,8 @@ pub record GoesOn (k : Setting) (p : StopState) (seat : ℕ → Seat) (source : 
   pub number_is : w.number ≡ me
   pub setting_is : w.setting ≡ k
   pub others : (o : Known) → o.number ≢ me → Sees p seat source o → Sees stops seats sources o
+
+-- the same by this step, which tells just the stops that it goes on to
+pub record GoesOnBy (k : Setting) (p : StopState) (seat : ℕ → Seat) (source : ℕ → Source) (me : ℕ) (at : Word → ℕ) (w : Known) (seen : Seen) : Type 0 where
+  pub goes : GoesOn k p seat source me at w
+  pub told : AreTold (setup_in k) me p goes.stops seen

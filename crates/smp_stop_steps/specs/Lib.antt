@@ -43,8 +43,10 @@ pub mod New
 pub mod Begins
 pub mod Starts
 pub mod Refusals
+pub mod Members
 pub mod Commands
 pub mod StepLaws
+pub mod KnownLaws
 pub mod Kept
 -- what a CPU knows
 pub mod Known

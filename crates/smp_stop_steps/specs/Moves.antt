@@ -4,7 +4,7 @@ use Rattle.smp_words.specs.declared.access.Access.TheVariants.{Load, Store, Exch
 use Rattle.smp_stop_steps.specs.Names.{has, MOST_KEYS, word_of, at_after, seen_of, cpus, Access, Field, One, Patch, Work, Word, Gate, Slot, Key, Entry, Site}
 use Rattle.smp_stop_steps.specs.Names.{DISABLE_IRQ, RUN, EXIT}
 use Rattle.smp_stop_steps.specs.Counts.{mask_weight}
-use Rattle.smp_stop_steps.specs.Known.{Known, Setting, Sees, GoesOn, fresh, setup_in, told_work}
+use Rattle.smp_stop_steps.specs.Known.{Known, Setting, Sees, GoesOnBy, fresh, setup_in, told_work}
 use Rattle.smp_stop_steps.specs.KnownAfter.{is_drafting, known_entering, no_work}
 use Rattle.smp_stop_steps.specs.Callings.{HasCalled}
 use Rattle.smp_stop_steps.specs.Labels.{Change}
@@ -45,9 +45,9 @@ pub data Move : Type 0 where
   Alter : (slot : ℕ) → (work : Work) → (count : ℕ) → (made : List Change) → (change : Change) → (rest : List Change) → Move
   -- the load of the argument, by who is in the stop
   LoadArg : (slot : ℕ) → (work : Work) → (acked looked : ℕ) → Move
-  -- a load that tells nothing
-  LoadField : (slot : ℕ) → (f : Field) → Move
-  LoadEntry : (site : ℕ) → Move
+  -- loads that tell nothing: by who is in the stop, and by who makes its patch
+  LoadField : (slot : ℕ) → (work : Work) → (acked looked : ℕ) → (f : Field) → Move
+  LoadEntry : (slot : ℕ) → (work : Work) → (count : ℕ) → (made rest : List Change) → (site : ℕ) → Move
 
 -- a load of this field tells nothing
 abbrev pub IsPlain : Field → Type 0
@@ -87,8 +87,8 @@ May v (BeginPatch s w) = (v.seat ≡ In s w DISABLE_IRQ RUN Rests) × (w.kind �
 May v (Alter s w count made change rest) = (v.seat ≡ Alters s w count made (change ∷ rest)) × (plan_at (setup_in v.setting) w count ≡ made ++ change ∷ rest)
     × (w.func < MOST_KEYS)
 May v (LoadArg s w a l) = v.seat ≡ In s w a l Rests
-May v (LoadField s f) = IsPlain f
-May v (LoadEntry i) = Unit {0}
+May v (LoadField s w a l f) = IsPlain f × (v.seat ≡ In s w a l Rests)
+May v (LoadEntry s w count made rest i) = v.seat ≡ Alters s w count made rest
 
 -- its access
 abbrev pub access_in : Known → Move → Access
@@ -115,8 +115,8 @@ access_in v (Nudge k found new) = Exchange (Key k) found new
 access_in v (BeginPatch s w) = Load (Key w.func)
 access_in v (Alter s w count made change rest) = store_of change
 access_in v (LoadArg s w a l) = Load (Slot s field.Arg)
-access_in v (LoadField s f) = Load (Slot s f)
-access_in v (LoadEntry i) = Load (Entry i)
+access_in v (LoadField s w a l f) = Load (Slot s f)
+access_in v (LoadEntry s w count made rest i) = Load (Entry i)
 
 -- the work of a stop that is entered at this word
 abbrev pub entering : StopState → Word → Work
@@ -139,4 +139,5 @@ MovesAreKnown = (p : StopState) (at : Word → ℕ) (seat : ℕ → Seat) (sourc
     (m : Move) → May v m →
     let access = access_in v m in
     let seen = seen_of v.number access (at (word_of access)) None in
-    GoesOn v.setting p seat source v.number (at_after at access) (known_entering (entering p (word_of access)) v seen.act seen.word seen.found seen.put)
+    GoesOnBy v.setting p seat source v.number (at_after at access) (known_entering (entering p (word_of access)) v seen.act seen.word seen.found seen.put)
+    seen

@@ -126,4 +126,7 @@ pub struct Known {
     /// The fields that it has not yet stored are put as 0.
     pub source: Source,
     pub part: Part,
+    /// The answer that it carries from its acknowledgement of `RUN` to its completion, else 0. No word has it, and no step
+    /// tells it: who acknowledges puts it.
+    pub carried: u64,
 }

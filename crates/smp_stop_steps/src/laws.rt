@@ -196,6 +196,16 @@ pub fn refusals_are_of_the_state()
     ensures { RefusalsAreOfTheState }
 {}
 
+ghost use Rattle.smp_stop_steps.specs.Members.{BeginsByMembers};
+
+/// A begin is refused by the members of its masks and by its numbers. E8 where the own stop is open. Then E4 where the gate
+/// is not held, the mask is empty, a stop of kind One has another number of CPUs than one, or a patch is none: its mask is
+/// that of all CPUs online, its active mask has the least of them alone, its `func` is a key, and its `arg` is below 4. Then
+/// E3 where a CPU of the mask is not online. Else it is not refused.
+pub fn begins_by_members()
+    ensures { BeginsByMembers }
+{}
+
 ghost use Rattle.smp_stop_steps.specs.Numbers.{WordsHaveNumbers};
 
 /// A stop table has just the words that have a number in it ([`smp_words::stop_index`]).
@@ -211,9 +221,19 @@ pub fn nothing_is_known()
 {}
 
 /// Each kind of step that a CPU may make, by what it knows of the stops, goes on to stops that the words show, of which
-/// it knows its part as the step has told it, and every other CPU what it knew. For words that threads share.
+/// it knows its part as the step has told it, and every other CPU what it knew. These stops are just those that the step
+/// tells, of the stops before it; the store of an answer puts that answer for the function's. For words that threads share.
 pub fn moves_are_known()
     ensures { MovesAreKnown }
+{}
+
+ghost use Rattle.smp_stop_steps.specs.KnownLaws.{KnownMovesKeepLaws};
+
+/// Where threads share the words, what holds before each step that a CPU may make by what it knows is what holds before the
+/// steps of commands (`steps_are_premised`). A store to a key or a site is the next one of its own patch. While nobody
+/// patches, no such step turns a key on or off or changes a site.
+pub fn known_moves_keep_laws()
+    ensures { KnownMovesKeepLaws }
 {}
 
 ghost use Rattle.smp_stop_steps.specs.Commands.{CommandsBeginSo, BeginsStoreTheWork, WorksAreBegun, NudgesGoSo, NotesEndCommands};

@@ -1,19 +1,19 @@
 -- The steps on labels of a CPU that knows v: readings, nudges, and patches.
-use Rattle.std.proofs.Common.{arith, ◌≡◌, ℕ, ◌<◌, eqb-true, Bool, true, false, ◌==◌, ◌&&◌, cond, Some, None, List, [], ◌∷◌, ◌++◌, sym, subst, refl, ap, ◌∙◌}
+use Rattle.std.proofs.Common.{arith, ◌≡◌, ℕ, ◌<◌, eqb-true, Bool, true, false, ◌==◌, ◌&&◌, cond, Option, Some, None, List, [], ◌∷◌, ◌++◌, sym, subst, refl, ap, ◌∙◌}
 use Rattle.smp_labels.proofs.Patched.{plan_key_first}
 use Rattle.smp_words.specs.Access.{put_if}
 use Rattle.smp_words.proofs.Puts.{at_test, put_same, put_other}
 use Rattle.smp_stop_steps.specs.{has, is_on, Place, MOST_KEYS, word_of, at_after, seen_of, put, put_word, moves, moved_by, Change, Patches, Reading, ReadKey}
 use Rattle.smp_stop_steps.specs.{ReadSite, count_set, Seat, Free, In, Gives, Alters, Closes, Turn, Rests, irq_of, StopShows, IsNudge, Source, store_of, Setup}
 use Rattle.smp_stop_steps.specs.{StopState, Moved, unmoved, told, is_patch, is_at_run, reads, key_loaded, key_patched, patched_more, patch_begun, plan_at}
-use Rattle.smp_stop_steps.specs.{Sees, GoesOn, AreFirst, setup_in, reads_more, key_loaded_by, key_known, counted, known_entering, Patch, Work}
+use Rattle.smp_stop_steps.specs.{Sees, GoesOnBy, Act, AreFirst, setup_in, reads_more, key_loaded_by, key_known, counted, known_entering, Patch, Work}
 use Rattle.smp_stop_steps.specs.{Word, Key, Site}
 use Rattle.smp_stop_steps.specs.State.{Present}
 use Rattle.smp_stop_steps.specs.Known.{Known}
 use Rattle.smp_stop_steps.specs.Moves.{entering}
 use Rattle.smp_stop_steps.proofs.Knows.KnownRounds.{stands, reads_now}
 use Rattle.smp_stop_steps.proofs.Knows.KnownSources.{still}
-use Rattle.smp_stop_steps.proofs.Knows.Parts.{Leaves, first_put, goes_seat, goes_still}
+use Rattle.smp_stop_steps.proofs.Knows.Parts.{Leaves, first_put, goes_seat, goes_still, seen_by, told_so}
 use Rattle.smp_stop_steps.proofs.Steps.Patching.{key_read, site_read, key_loaded_first, key_stored, site_stored, key_exchanged}
 use Rattle.smp_stop_steps.specs.place
 use Rattle.smp_stop_steps.specs.act
@@ -35,8 +35,14 @@ module _ (p : StopState) (at : Word → ℕ) (seat : ℕ → Seat) (source : ℕ
   abbrev u : Setup
   u = setup_in v.setting
 
-  abbrev Goes : (Word → ℕ) → Known → Type 0
-  Goes at' w = GoesOn v.setting p seat source v.number at' w
+  abbrev Goes : Act → Word → Option ℕ → Option ℕ → (Word → ℕ) → Known → Type 0
+  Goes a w found new at' known = GoesOnBy v.setting p seat source v.number at' known (seen_by v.number a w found new)
+
+  abbrev Loads : Word → Known → Type 0
+  Loads w known = Goes act.Load w (Some (at w)) None at known
+
+  abbrev Stores : Word → ℕ → Known → Type 0
+  Stores w n known = Goes act.Store w None (Some n) (put_word at w n) known
 
   abbrev IsOn : Type 0
   IsOn = irq_of v.seat ≡ true
@@ -64,35 +70,40 @@ module _ (p : StopState) (at : Word → ℕ) (seat : ℕ → Seat) (source : ℕ
   key_plain k found (Alters s w count made rest) e on = cc
   key_plain k found (Closes s) e on = (ap (λ i. key_loaded u p.now v.number k found i) (stands p at seat source v h sees (Closes s) e).0, refl)
 
-  pub read_key : (k : ℕ) → IsOn → Goes at (key_loaded_by k (at (Key k)) v.seat v)
+  pub read_key : (k : ℕ) → IsOn → Loads (Key k) (key_loaded_by k (at (Key k)) v.seat v)
   read_key k on =
       let found = at (Key k) in
       let r = ReadKey k (is_on found) in
       let plain = key_plain k found v.seat refl on in
-      subst (λ q. Goes at q) (sym plain.1)
-      (goes_still p seat source v sees (record p { now = reads p.now v.number r }) at (record (v.part) { readings = v.part.readings ++ r ∷ [] })
+      let p' = record p { now = reads p.now v.number r } in
+      subst (λ q. Loads (Key k) q) (sym plain.1)
+      (goes_still p seat source v sees p' at (record (v.part) { readings = v.part.readings ++ r ∷ [] })
+      (told_so u v.number p p' act.Load (Key k) (Some found) None (ap (λ (n : Present). record p { now = n }) plain.0))
       (subst (λ n. StopShows u (record p { now = n }) at seat source) plain.0 (key_read u p at seat source h v.number k 0 (irq_on on)))
       (reads_leaves r))
 
-  pub read_site : (i : ℕ) → Goes at (reads_more (ReadSite i (is_on (at (Site i)))) v)
+  pub read_site : (i : ℕ) → Loads (Site i) (reads_more (ReadSite i (is_on (at (Site i)))) v)
   read_site i =
       let r = ReadSite i (is_on (at (Site i))) in
-      goes_still p seat source v sees (record p { now = reads p.now v.number r }) at (record (v.part) { readings = v.part.readings ++ r ∷ [] })
-      (site_read u p at seat source h v.number i 0) (reads_leaves r)
+      let p' = record p { now = reads p.now v.number r } in
+      goes_still p seat source v sees p' at (record (v.part) { readings = v.part.readings ++ r ∷ [] })
+      (told_so u v.number p p' act.Load (Site i) (Some (at (Site i))) None refl) (site_read u p at seat source h v.number i 0) (reads_leaves r)
 
   pub nudge : (k found new : ℕ) → IsOn → has v.setting.online v.number ≡ true → k < MOST_KEYS → IsNudge found new →
-      Goes (put_if put_word at (Key k) (cond (at (Key k) == found) (Some new) None))
-      (key_known act.Cas k (Some (at (Key k))) (cond (at (Key k) == found) (Some new) None) v)
+      let set = cond (at (Key k) == found) (Some new) None in
+      Goes act.Cas (Key k) (Some (at (Key k))) set (put_if put_word at (Key k) set) (key_known act.Cas k (Some (at (Key k))) set v)
   nudge k found new on online low is = go (at (Key k) == found) refl
     where
-      go : (b : Bool) → (at (Key k) == found) ≡ b → Goes (put_if put_word at (Key k) (cond b (Some new) None)) (key_known act.Cas k (Some (at (Key k)))
-          (cond b (Some new) None) v)
-      go false e = still p at seat source v h sees
+      go : (b : Bool) → (at (Key k) == found) ≡ b → let set = cond b (Some new) None in
+          Goes act.Cas (Key k) (Some (at (Key k))) set (put_if put_word at (Key k) set) (key_known act.Cas k (Some (at (Key k))) set v)
+      go false e = still p at seat source v h sees act.Cas (Key k) (Some (at (Key k))) None refl
       go true e =
           let was : at (Key k) ≡ found = eqb-true (at (Key k)) found e in
           let parts = sees.part_is in
-          let shown' = goes_still p seat source v sees (record p { nudged = moved_by p.nudged v.number k found new }) (put_word at (Key k) new) (record
-          (v.part) { nudged = counted v.part.nudged k found new }) (key_exchanged u p at seat source h v.number k found new sees.below online (irq_on on)
+          let p' = record p { nudged = moved_by p.nudged v.number k found new } in
+          let shown' = goes_still p seat source v sees p' (put_word at (Key k) new) (record (v.part) { nudged = counted v.part.nudged k found new })
+          (told_so u v.number p p' act.Cas (Key k) (Some (at (Key k))) (Some new)
+          (ap (λ n. record p { nudged = moved_by p.nudged v.number k n new }) was)) (key_exchanged u p at seat source h v.number k found new sees.below online (irq_on on)
           was is 0) record {
             mine = search (counted_first, arith);
             others = search (put_other, arith);
@@ -102,7 +113,7 @@ module _ (p : StopState) (at : Word → ℕ) (seat : ℕ → Seat) (source : ℕ
   -- patches
 
   pub begin_patch : (s : ℕ) (w : Work) → v.seat ≡ In s w 2 3 Rests → w.kind ≡ Patch → has w.active v.number ≡ true →
-      Goes at (key_loaded_by w.func (at (Key w.func)) v.seat v)
+      Loads (Key w.func) (key_loaded_by w.func (at (Key w.func)) v.seat v)
   begin_patch s w is kind active =
       let found = at (Key w.func) in
       let r = ReadKey w.func (is_on found) in
@@ -113,7 +124,9 @@ module _ (p : StopState) (at : Word → ℕ) (seat : ℕ → Seat) (source : ℕ
       search arith in
       let known : key_loaded_by w.func found v.seat v ≡ record v { seat = next } =
       ap (λ x. key_loaded_by w.func found x v) is ∙ ap (λ k. cond (is_patch k) (record v { seat = next }) (reads_more r v)) kind in
-      let shown' = goes_seat p seat source v sees (record p { now = patch }) at next v.part (subst (λ n. StopShows u (record p { now = n }) at (put seat
+      let p' = record p { now = patch } in
+      let shown' = goes_seat p seat source v sees p' at next v.part
+      (told_so u v.number p p' act.Load (Key w.func) (Some found) None (ap (λ (n : Present). record p { now = n }) plain)) (subst (λ n. StopShows u (record p { now = n }) at (put seat
       v.number next) source) plain (key_loaded_first u p at seat source h v.number s w 0 (sees.seat_is ∙ is) kind active)) record {
         mine = sees.part_is;
         others = λ c ne. refl;
@@ -135,7 +148,7 @@ module _ (p : StopState) (at : Word → ℕ) (seat : ℕ → Seat) (source : ℕ
       plan_at u w count ≡ made ++ (x, n) ∷ rest → w.func < MOST_KEYS →
       let a = store_of (x, n) in
       let seen = seen_of v.number a (at (word_of a)) None in
-      Goes (at_after at a) (known_entering (entering p (word_of a)) v seen.act seen.word seen.found seen.put)
+      GoesOnBy v.setting p seat source v.number (at_after at a) (known_entering (entering p (word_of a)) v seen.act seen.word seen.found seen.put) seen
   alter s w count made rest (place.Key k) n is plan low =
       let next = Alters s w count (made ++ (place.Key k, n) ∷ []) rest in
       let at' = put_word at (Key k) n in
@@ -145,13 +158,15 @@ module _ (p : StopState) (at : Word → ℕ) (seat : ℕ → Seat) (source : ℕ
       let p' = record p { now = record (p.now) { patching = more }; patched = moved_by p.patched v.number k count n } in
       let plain : told u p v.number act.Store (Key k) None (Some n) 0 ≡ p' =
       ap (λ y. record p { now = record (p.now) { patching = patched_more y }; patched = key_patched y p.patched v.number k n }) st.5 in
-      let shown' = goes_seat p seat source v sees p' at' next (record (v.part) { patched = counted v.part.patched k count n }) (subst (λ q. StopShows u q at'
+      let shown' = goes_seat p seat source v sees p' at' next (record (v.part) { patched = counted v.part.patched k count n })
+      (told_so u v.number p p' act.Store (Key k) None (Some n) plain) (subst (λ q. StopShows u q at'
       (put seat v.number next) source) plain (key_stored u p at seat source h v.number s w count made rest k n 0 sees.below (sees.seat_is ∙ is) first.0
       first.1)) (patched_leaves k count n p'.now (subst (λ i. i < MOST_KEYS) (sym first.1) low) (λ c. refl)) in
       search (is, shown', arith)
   alter s w count made rest (place.Site i) n is plan low =
       let next = Alters s w count (made ++ (place.Site i, n) ∷ []) rest in
       let p' = told u p v.number act.Store (Site i) None (Some n) 0 in
-      let shown' = goes_seat p seat source v sees p' (put_word at (Site i) n) next v.part (site_stored u p at seat source h v.number s w count made rest i n 0
+      let shown' = goes_seat p seat source v sees p' (put_word at (Site i) n) next v.part
+      (told_so u v.number p p' act.Store (Site i) None (Some n) refl) (site_stored u p at seat source h v.number s w count made rest i n 0
       (sees.seat_is ∙ is)) record { mine = sees.part_is; others = λ c ne. refl } in
       search (is, shown', arith)

@@ -1,7 +1,7 @@
 -- Each step that a CPU may make by what it knows goes on to stops of which all know their part.
-use Rattle.std.proofs.Common.{ℕ, Some, None, arith}
-use Rattle.smp_stop_steps.specs.{word_of, at_after, seen_of, Sees, GoesOn, setup_in, slot_known, known_entering, Seat, StopShows, Source, StopState, Field}
-use Rattle.smp_stop_steps.specs.{Word, Slot}
+use Rattle.std.proofs.Common.{ℕ, Some, None, refl}
+use Rattle.smp_stop_steps.specs.{word_of, at_after, seen_of, Sees, GoesOnBy, Seen, setup_in, slot_known, known_entering, Seat, StopShows, Source, StopState, Field}
+use Rattle.smp_stop_steps.specs.{Word, Slot, Entry}
 use Rattle.smp_stop_steps.specs.Known.{Known}
 use Rattle.smp_stop_steps.specs.Moves.{Move, TakeGate, OpenGate, Draft, DraftMore, Open, Enter, Look, Acknowledge, AcknowledgePatch, Refill, Raise, Give}
 use Rattle.smp_stop_steps.specs.Moves.{Count, CountGiven, Close, LookDone, Collect, ReadKey, ReadSite, Nudge, BeginPatch, Alter, LoadArg, LoadField}
@@ -10,20 +10,33 @@ use Rattle.smp_stop_steps.proofs.Knows.KnownEnds.{give, count, count_given, clos
 use Rattle.smp_stop_steps.proofs.Knows.KnownLabels.{read_key, read_site, nudge, begin_patch, alter}
 use Rattle.smp_stop_steps.proofs.Knows.KnownRounds.{enter, load_arg, look, acknowledge, acknowledge_patch, refill, raise}
 use Rattle.smp_stop_steps.proofs.Knows.KnownSources.{still, take_gate, open_gate, draft, draft_more, open_stop, look_done, collect}
+use Rattle.smp_stop_steps.proofs.Knows.Parts.{seen_by}
 use Rattle.smp_stop_steps.specs.act
+use Rattle.smp_stop_steps.specs.field
 
 module _ (p : StopState) (at : Word → ℕ) (seat : ℕ → Seat) (source : ℕ → Source) (v : Known) (h : StopShows (setup_in v.setting) p at seat source)
     (sees : Sees p seat source v) where
-  abbrev Goes : (Word → ℕ) → Known → Type 0
-  Goes at' w = GoesOn v.setting p seat source v.number at' w
+  abbrev Goes : Seen → (Word → ℕ) → Known → Type 0
+  Goes seen at' w = GoesOnBy v.setting p seat source v.number at' w seen
 
-  load_field : (s : ℕ) (f : Field) → IsPlain f → Goes at (slot_known (p.now.stop s).work v s act.Load f (Some (at (Slot s f))) None)
-  load_field s f i = search (still, arith)
+  load_field : (s : ℕ) (f : Field) → IsPlain f
+      → Goes (seen_by v.number act.Load (Slot s f) (Some (at (Slot s f))) None) at (slot_known (p.now.stop s).work v s act.Load f (Some (at (Slot s f))) None)
+  load_field s field.Kind i = still p at seat source v h sees act.Load (Slot s field.Kind) (Some (at (Slot s field.Kind))) None refl
+  load_field s field.Mask i = still p at seat source v h sees act.Load (Slot s field.Mask) (Some (at (Slot s field.Mask))) None refl
+  load_field s field.Active i = still p at seat source v h sees act.Load (Slot s field.Active) (Some (at (Slot s field.Active))) None refl
+  load_field s field.Func i = still p at seat source v h sees act.Load (Slot s field.Func) (Some (at (Slot s field.Func))) None refl
+  load_field s field.Arg i = absurd i
+  load_field s field.State i = absurd i
+  load_field s field.Ack i = absurd i
+  load_field s field.Roll i = absurd i
+  load_field s field.Todo i = absurd i
+  load_field s field.Result i = absurd i
+  load_field s field.Done i = absurd i
 
   pub known_move : (m : Move) → May v m →
       let a = access_in v m in
       let seen = seen_of v.number a (at (word_of a)) None in
-      Goes (at_after at a) (known_entering (entering p (word_of a)) v seen.act seen.word seen.found seen.put)
+      Goes seen (at_after at a) (known_entering (entering p (word_of a)) v seen.act seen.word seen.found seen.put)
   known_move TakeGate m = take_gate p at seat source v h sees
   known_move OpenGate m = open_gate p at seat source v h sees m.0 m.1
   known_move (Draft w) m = draft p at seat source v h sees w m.0 m.1 m.2
@@ -47,5 +60,5 @@ module _ (p : StopState) (at : Word → ℕ) (seat : ℕ → Seat) (source : ℕ
   known_move (BeginPatch s w) m = begin_patch p at seat source v h sees s w m.0 m.1 m.2
   known_move (Alter s w count made change rest) m = alter p at seat source v h sees s w count made rest change.0 change.1 m.0 m.1 m.2
   known_move (LoadArg s w a l) m = load_arg p at seat source v h sees s w a l m
-  known_move (LoadField s f) m = load_field s f m
-  known_move (LoadEntry i) m = still p at seat source v h sees
+  known_move (LoadField s w a l f) m = load_field s f m.0
+  known_move (LoadEntry s w count made rest i) m = still p at seat source v h sees act.Load (Entry i) (Some (at (Entry i))) None refl

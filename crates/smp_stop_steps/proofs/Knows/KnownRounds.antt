@@ -1,12 +1,12 @@
 -- The steps of a CPU that knows v: it enters a stop, and goes through its phases.
-use Rattle.std.proofs.Common.{◌≡◌, ◌≢◌, ℕ, ◌+◌, ◌-◌, ◌<◌, ◌≤◌, ◌^◌, Bool, true, false, ◌==◌, ◌&&◌, not, cond, Some, None, List, [], ◌∷◌, ◌++◌, sym, subst}
+use Rattle.std.proofs.Common.{◌≡◌, ◌≢◌, ℕ, ◌+◌, ◌-◌, ◌<◌, ◌≤◌, ◌^◌, Bool, true, false, ◌==◌, ◌&&◌, not, cond, Option, Some, None, List, [], ◌∷◌, ◌++◌, sym, subst}
 use Rattle.std.proofs.Common.{refl, ap, ◌∙◌, arith, bit_and}
 use Rattle.smp_words.specs.Access.{one_less}
 use Rattle.smp_words.proofs.Puts.{put_same, put_other}
 use Rattle.smp_stop_steps.specs.{HasCalled, has, put, put_word, cpus, mask_weight, Change, Reading, Seat, Free, In, Alters, Turn, Rests, Fills, Sets, Stands}
 use Rattle.smp_stop_steps.specs.{StopShows, Source, all_but, Setup, StopState, StopCall, Calling, Calls, Standing, Inside, acknowledged, raised, told, enters}
 use Rattle.smp_stop_steps.specs.{acknowledges, acknowledges_now, raises, stored_open, stored_shut, with_stop, leaves, unpatched, carried, may_call}
-use Rattle.smp_stop_steps.specs.{carried_call, told_calling, Sees, GoesOn, columns_of, setup_in, Part, called_by, ran_since, is_drafting, drafted_known}
+use Rattle.smp_stop_steps.specs.{carried_call, told_calling, Sees, GoesOnBy, Act, columns_of, setup_in, Part, called_by, ran_since, is_drafting, drafted_known}
 use Rattle.smp_stop_steps.specs.{slot_stored, member_stored, refilled_by, raised_by, looked_known, acked_by, read_since, Field, Work, Word, Slot}
 use Rattle.smp_stop_steps.proofs.Steps.Same.{word_same}
 use Rattle.smp_stop_steps.proofs.Steps.Callings.{carried_alone}
@@ -17,7 +17,7 @@ use Rattle.smp_stop_steps.proofs.Steps.Completions.{roll_cleared}
 use Rattle.smp_stop_steps.proofs.State.Moves.{IsNoPatch}
 use Rattle.smp_stop_steps.proofs.Steps.Facts.{high_none, arg_loaded, ack_bounds, ack_bounds_patched}
 use Rattle.smp_stop_steps.proofs.Knows.KnownSources.{still}
-use Rattle.smp_stop_steps.proofs.Knows.Parts.{Leaves, goes_seat, goes_still}
+use Rattle.smp_stop_steps.proofs.Knows.Parts.{Leaves, goes_seat, goes_still, seen_by, told_so}
 use Rattle.smp_stop_steps.proofs.State.Phases.{is_open_inside}
 use Rattle.smp_stop_steps.proofs.Steps.Rounds.{state_loaded, ack_subtracted, ack_subtracted_patched, ack_stored, state_stored}
 use Rattle.smp_stop_steps.proofs.Steps.StageSteps.{less_one}
@@ -36,8 +36,17 @@ module _ (p : StopState) (at : Word → ℕ) (seat : ℕ → Seat) (source : ℕ
   abbrev u : Setup
   u = setup_in v.setting
 
-  abbrev Goes : (Word → ℕ) → Known → Type 0
-  Goes at' w = GoesOn v.setting p seat source v.number at' w
+  abbrev Goes : Act → Word → Option ℕ → Option ℕ → (Word → ℕ) → Known → Type 0
+  Goes a w found new at' known = GoesOnBy v.setting p seat source v.number at' known (seen_by v.number a w found new)
+
+  abbrev Loads : Word → Known → Type 0
+  Loads w known = Goes act.Load w (Some (at w)) None at known
+
+  abbrev Stores : Word → ℕ → Known → Type 0
+  Stores w n known = Goes act.Store w None (Some n) (put_word at w n) known
+
+  abbrev Subs : Word → Known → Type 0
+  Subs w known = Goes act.Sub w (Some (at w)) (Some (one_less (at w))) (put_word at w (one_less (at w))) known
 
   pub stands : (x : Seat) → v.seat ≡ x → Stands p.now v.number x
   stands x e = subst (Stands p.now v.number) (sees.seat_is ∙ e) (h.present.stands v.number)
@@ -59,7 +68,8 @@ module _ (p : StopState) (at : Word → ℕ) (seat : ℕ → Seat) (source : ℕ
   -- entering
 
   pub enter : (s : ℕ) → v.seat ≡ Free →
-      Goes (put_word at (Slot s field.Roll) (bit_and (at (Slot s field.Roll)) (all_but v.number)))
+      let n = bit_and (at (Slot s field.Roll)) (all_but v.number) in
+      Goes act.And (Slot s field.Roll) (Some (at (Slot s field.Roll))) (Some n) (put_word at (Slot s field.Roll) n)
       (cond (has (at (Slot s field.Roll)) v.number) (record v { seat = In s (p.now.stop s).work 0 0 Rests }) v)
   enter s free = go (has (at (Slot s field.Roll)) v.number) refl
     where
@@ -67,7 +77,8 @@ module _ (p : StopState) (at : Word → ℕ) (seat : ℕ → Seat) (source : ℕ
       low = omega arith
 
       go : (b : Bool) → has (at (Slot s field.Roll)) v.number ≡ b →
-          Goes (put_word at (Slot s field.Roll) (bit_and (at (Slot s field.Roll)) (all_but v.number)))
+          let n = bit_and (at (Slot s field.Roll)) (all_but v.number) in
+          Goes act.And (Slot s field.Roll) (Some (at (Slot s field.Roll))) (Some n) (put_word at (Slot s field.Roll) n)
           (cond b (record v { seat = In s (p.now.stop s).work 0 0 Rests }) v)
       go true found =
           let n = bit_and (at (Slot s field.Roll)) (all_but v.number) in
@@ -76,23 +87,28 @@ module _ (p : StopState) (at : Word → ℕ) (seat : ℕ → Seat) (source : ℕ
           let p' = record p { now = enters p.now v.number s } in
           let plain : told u p v.number act.And (Slot s field.Roll) (Some (at (Slot s field.Roll))) (Some n) 0 ≡ p' = ap (λ b. cond b p' p) found in
           goes_seat p seat source v sees p' at' next v.part
+          (told_so u v.number p p' act.And (Slot s field.Roll) (Some (at (Slot s field.Roll))) (Some n) plain)
           (subst (λ q. StopShows u q at' (put seat v.number next) source) plain
           (roll_cleared u p at seat source h s v.number n 0 (sees.seat_is ∙ free) found (clear_same (at (Slot s field.Roll)) v.number low)
           (λ c ne. clear_other (at (Slot s field.Roll)) v.number c low ne (high_none u p at seat source h s c))))
           record { mine = sees.part_is; others = λ c ne. refl }
       go false missing =
-          subst (λ n. Goes (put_word at (Slot s field.Roll) n) v) (sym (clear_none (at (Slot s field.Roll)) v.number low missing
-          (high_none u p at seat source h s)))
-          (subst (λ x. Goes x v) (sym (word_same at (Slot s field.Roll))) (still p at seat source v h sees))
+          let n = bit_and (at (Slot s field.Roll)) (all_but v.number) in
+          let entered = record p { now = enters p.now v.number s } in
+          subst (λ m. Goes act.And (Slot s field.Roll) (Some (at (Slot s field.Roll))) (Some n) (put_word at (Slot s field.Roll) m) v)
+          (sym (clear_none (at (Slot s field.Roll)) v.number low missing (high_none u p at seat source h s)))
+          (subst (λ x. Goes act.And (Slot s field.Roll) (Some (at (Slot s field.Roll))) (Some n) x v) (sym (word_same at (Slot s field.Roll)))
+          (still p at seat source v h sees act.And (Slot s field.Roll) (Some (at (Slot s field.Roll))) (Some n) (ap (λ b. cond b entered p) missing)))
 
   -- a round
 
-  pub look : (s : ℕ) (w : Work) (a l : ℕ) → v.seat ≡ In s w a l Rests → a ≢ 4 → Goes at (looked_known (at (Slot s field.State)) v)
+  pub look : (s : ℕ) (w : Work) (a l : ℕ) → v.seat ≡ In s w a l Rests → a ≢ 4 → Loads (Slot s field.State) (looked_known (at (Slot s field.State)) v)
   look s w a l is more =
       let found = at (Slot s field.State) in
       let seen = p.looks v.number ++ found ∷ [] in
-      let shown' = goes_seat p seat source v sees (told u p v.number act.Load (Slot s field.State) (Some found) None 0) at (In s w a found Rests) (record
-      (v.part) { looks = v.part.looks ++ found ∷ [] }) (state_loaded u p at seat source h s v.number w a l 0 (sees.seat_is ∙ is) more) record {
+      let p' = told u p v.number act.Load (Slot s field.State) (Some found) None 0 in
+      let shown' = goes_seat p seat source v sees p' at (In s w a found Rests) (record (v.part) { looks = v.part.looks ++ found ∷ [] })
+      (told_so u v.number p p' act.Load (Slot s field.State) (Some found) None refl) (state_loaded u p at seat source h s v.number w a l 0 (sees.seat_is ∙ is) more) record {
         mine = search (put_same, arith);
         others = λ c ne. ap (λ x. record (columns_of p c) { looks = x }) (put_other p.looks v.number seen c ne);
       } in
@@ -129,8 +145,7 @@ module _ (p : StopState) (at : Word → ℕ) (seat : ℕ → Seat) (source : ℕ
   acked_leaves n calls calling part mine others calls_mine calls_others same = search (Leaves, arith)
 
   pub acknowledge : (s : ℕ) (w : Work) (a : ℕ) → v.seat ≡ In s w a (a + 1) Rests → (a ≡ 2 → HasCalled v.number w v.part.calling) →
-      let found = at (Slot s field.Ack) in
-      Goes (put_word at (Slot s field.Ack) (one_less found)) (acked_by found v.seat v)
+      Subs (Slot s field.Ack) (acked_by (at (Slot s field.Ack)) v.seat v)
   acknowledge s w a is ready =
       let found = at (Slot s field.Ack) in
       let here = sees.seat_is ∙ is in
@@ -146,8 +161,9 @@ module _ (p : StopState) (at : Word → ℕ) (seat : ℕ → Seat) (source : ℕ
       } in
       let part = ran_since (a + 1 == 3) (read_since leaves_it s w v) in
       let alone = carried_alone u.first p.now.patching seat v.number (p.calling v.number) (subst IsNoPatch (sym here) tt) h.present.runner in
-      let shown' = goes_seat p seat source v sees p' at' next part (subst (λ (x : Standing). StopShows u (acknowledges p v.number s x found) at' (put seat
-      v.number next) source) st.1 (ack_subtracted u p at seat source h s v.number w a 0 here (λ two. has_called w (p.calling v.number) (subst (HasCalled
+      let shown' = goes_seat p seat source v sees p' at' next part (told_so u v.number p p' act.Sub (Slot s field.Ack) (Some found)
+      (Some (one_less found)) (ap (λ (x : Standing). acknowledges p v.number s x found) st.1)) (subst (λ (x : Standing). StopShows u (acknowledges p v.number
+      s x found) at' (put seat v.number next) source) st.1 (ack_subtracted u p at seat source h s v.number w a 0 here (λ two. has_called w (p.calling v.number) (subst (HasCalled
       v.number w) (sym sees.part_is.calling) (ready two))))) (acked_leaves (acknowledges_now p.now v.number s (a + 1) found) p'.calls p'.calling part
       (left_mine leaves_it n s (p.now.stop s).work w st.3 refl) (left_other leaves_it n s (p.now.stop s).work refl) (ran_mine (a + 1 == 3) (carried
       v.number p.now.patching (p.calling v.number)) (ap told_calling alone ∙ (told_carried (p.calling v.number) ∙ ap carried_call sees.part_is.calling)))
@@ -155,8 +171,7 @@ module _ (p : StopState) (at : Word → ℕ) (seat : ℕ → Seat) (source : ℕ
       search (less_one found bounds.0 (small found bounds.1), is, shown', arith)
 
   pub acknowledge_patch : (s : ℕ) (w : Work) (count : ℕ) (made : List Change) → v.seat ≡ Alters s w count made [] →
-      let found = at (Slot s field.Ack) in
-      Goes (put_word at (Slot s field.Ack) (one_less found)) (acked_by found v.seat v)
+      Subs (Slot s field.Ack) (acked_by (at (Slot s field.Ack)) v.seat v)
   acknowledge_patch s w count made is =
       let found = at (Slot s field.Ack) in
       let here = sees.seat_is ∙ is in
@@ -165,14 +180,16 @@ module _ (p : StopState) (at : Word → ℕ) (seat : ℕ → Seat) (source : ℕ
       let at' = put_word at (Slot s field.Ack) (found - 1) in
       let next = In s w 3 3 (cond (found == 1) Fills Rests) in
       let p' = acknowledges p v.number s (Inside 2 3) found in
-      let shown' = goes_seat p seat source v sees p' at' next (record (v.part) { calling = Carries 0 }) (subst (λ (x : Standing). StopShows u (acknowledges p
+      let shown' = goes_seat p seat source v sees p' at' next (record (v.part) { calling = Carries 0 })
+      (told_so u v.number p p' act.Sub (Slot s field.Ack) (Some found) (Some (one_less found)) (ap (λ (x : Standing). acknowledges p v.number s x found) st.1))
+      (subst (λ (x : Standing). StopShows u (acknowledges p
       v.number s x found) at' (put seat v.number next) source) st.1 (ack_subtracted_patched u p at seat source h s v.number w count made 0 here))
       (search (acked_leaves, put_same, put_other, arith)) in
       search (less_one found bounds.0 (small found bounds.1), is, shown', arith)
 
   -- with the load of the argument it calls the function, where it may
-  pub load_arg : (s : ℕ) (w : Work) (a l : ℕ) → v.seat ≡ In s w a l Rests → Goes at (called_by (at (Slot s field.Arg)) v.seat v)
-  load_arg s w a l is = subst (λ x. Goes at (called_by (at (Slot s field.Arg)) x v)) (sym is) (go (may_call v.number w (Inside a l)) refl)
+  pub load_arg : (s : ℕ) (w : Work) (a l : ℕ) → v.seat ≡ In s w a l Rests → Loads (Slot s field.Arg) (called_by (at (Slot s field.Arg)) v.seat v)
+  load_arg s w a l is = subst (λ x. Loads (Slot s field.Arg) (called_by (at (Slot s field.Arg)) x v)) (sym is) (go (may_call v.number w (Inside a l)) refl)
     where
       here : seat v.number ≡ In s w a l Rests
       here = sees.seat_is ∙ is
@@ -186,31 +203,31 @@ module _ (p : StopState) (at : Word → ℕ) (seat : ℕ → Seat) (source : ℕ
       call : StopCall
       call = record { func = w.func; arg = at (Slot s field.Arg); answer = 0 }
 
-      go : (b : Bool) → may_call v.number w (Inside a l) ≡ b → Goes at (cond b (record v { part = record (v.part) { calling = Calls call } }) v)
-      go false e = still p at seat source v h sees
+      go : (b : Bool) → may_call v.number w (Inside a l) ≡ b → Loads (Slot s field.Arg) (cond b (record v { part = record (v.part) { calling = Calls call } }) v)
+      go false e = still p at seat source v h sees act.Load (Slot s field.Arg) (Some (at (Slot s field.Arg))) None (search (is_may, arith))
       go true e =
           let p' = record p { calling = put p.calling v.number (Calls call) } in
           let plain : told u p v.number act.Load (Slot s field.Arg) (Some (at (Slot s field.Arg))) None 0 ≡ p' =
           search (is_may, arith) in
           goes_still p seat source v sees p' at (record (v.part) { calling = Calls call })
-          (subst (λ q. StopShows u q at seat source) plain (arg_loaded u p at seat source h s v.number w a l Rests here 0 refl))
+          (told_so u v.number p p' act.Load (Slot s field.Arg) (Some (at (Slot s field.Arg))) None plain) (subst (λ q. StopShows u q at seat source) plain (arg_loaded u p at seat source h s v.number w a l Rests here 0 refl))
           (search (put_same, put_other, arith))
 
   pub refill : (s : ℕ) (w : Work) (a l : ℕ) → v.seat ≡ In s w a l Fills → is_drafting v.source ≡ false →
-      let x = mask_weight cpus w.mask in
-      Goes (put_word at (Slot s field.Ack) x) (slot_stored field.Ack x v)
+      Stores (Slot s field.Ack) (mask_weight cpus w.mask) (slot_stored field.Ack (mask_weight cpus w.mask) v)
   refill s w a l is idle =
       let x = mask_weight cpus w.mask in
       let at' = put_word at (Slot s field.Ack) x in
       let known : slot_stored field.Ack x v ≡ record v { seat = In s w a l Sets } =
       ap (λ b. cond b (drafted_known field.Ack x v) (member_stored field.Ack x v)) idle ∙ ap (λ y. record v { seat = refilled_by y }) is in
-      let shown' = goes_seat p seat source v sees (stored_open p v.number s field.Ack x) at' (In s w a l Sets) v.part (subst (λ q. StopShows u q at' (put seat
+      let shown' = goes_seat p seat source v sees (stored_open p v.number s field.Ack x) at' (In s w a l Sets) v.part
+      (told_so u v.number p (stored_open p v.number s field.Ack x) act.Store (Slot s field.Ack) None (Some x) (stored_plain s field.Ack x w a l Fills is)) (subst (λ q. StopShows u q at' (put seat
       v.number (In s w a l Sets)) source) (stored_plain s field.Ack x w a l Fills is) (ack_stored u p at seat source h s v.number w a l 0 (sees.seat_is ∙
       is))) record { mine = sees.part_is; others = λ c ne. refl } in
       search (known, shown', arith)
 
   pub raise : (s : ℕ) (w : Work) (a l : ℕ) → v.seat ≡ In s w a l Sets → is_drafting v.source ≡ false →
-      Goes (put_word at (Slot s field.State) (a + 1)) (slot_stored field.State (a + 1) v)
+      Stores (Slot s field.State) (a + 1) (slot_stored field.State (a + 1) v)
   raise s w a l is idle =
       let x = a + 1 in
       let at' = put_word at (Slot s field.State) x in
@@ -219,7 +236,9 @@ module _ (p : StopState) (at : Word → ℕ) (seat : ℕ → Seat) (source : ℕ
       let known : slot_stored field.State x v ≡ record v { seat = In s w a l Rests; part = part } =
       ap (λ b. cond b (drafted_known field.State x v) (member_stored field.State x v)) idle ∙ ap (λ y. raised_by x y v) is in
       let n = with_stop p.now s (raised (p.now.stop s) x) in
-      let shown' = goes_seat p seat source v sees (stored_open p v.number s field.State x) at' (In s w a l Rests) part (subst (λ q. StopShows u q at' (put
+      let shown' = goes_seat p seat source v sees (stored_open p v.number s field.State x) at' (In s w a l Rests) part
+      (told_so u v.number p (stored_open p v.number s field.State x) act.Store (Slot s field.State) None (Some x) (stored_plain s field.State x w a l Sets is))
+      (subst (λ q. StopShows u q at' (put
       seat v.number (In s w a l Rests)) source) (stored_plain s field.State x w a l Sets is) (state_stored u p at seat source h s v.number w a l 0
       (sees.seat_is ∙ is))) (reads_now (raises p.now v.number s x) p.calls part.readings (left_mine (x == 5) n s (p.now.stop s).work w st.3 refl)
       (left_other (x == 5) n s (p.now.stop s).work refl)) in

@@ -5,34 +5,34 @@ use Rattle.smp_words.specs.Access.{put_if}
 use Rattle.smp_words.proofs.Puts.{put_all, put_same, put_other}
 use Rattle.smp_stop_steps.specs.{put, put_word, cpus, Seat, StopShows, DoneShows, begun_value, order, Source, Shut, Drafts, Owns, Collects, SourceShows}
 use Rattle.smp_stop_steps.specs.{DraftShows, IsDrafted, IsWork, Setup, StopState, Standing, Ending, told, drafted, drafts, opens, stored_open, stored_shut}
-use Rattle.smp_stop_steps.specs.{Sees, GoesOn, IsBegun, told_source, told_work, holds_it, setup_in, is_drafting, drafted_known, draft_known, opened_by}
+use Rattle.smp_stop_steps.specs.{Sees, GoesOnBy, Act, IsBegun, told_source, told_work, holds_it, setup_in, is_drafting, drafted_known, draft_known, opened_by}
 use Rattle.smp_stop_steps.specs.{slot_stored, gate_known, done_by, collected_known, Field, One, Work, Word, Gate, Slot}
 use Rattle.smp_stop_steps.specs.Known.{Known}
-use Rattle.smp_stop_steps.proofs.Knows.Parts.{Leaves, goes, goes_source, goes_still}
+use Rattle.smp_stop_steps.proofs.Knows.Parts.{Leaves, goes, goes_source, goes_still, seen_by, told_so}
 use Rattle.smp_stop_steps.proofs.Steps.Sources.{gate_taken, gate_opened, field_stored, roll_stored, done_loaded, result_loaded, kind_back, work_ext}
 use Rattle.smp_stop_steps.specs.act
 use Rattle.smp_stop_steps.specs.field
 
-holder : (g : Option ℕ) (me : ℕ) → holds_it g me ≡ true → g ≡ Some me
+pub holder : (g : Option ℕ) (me : ℕ) → holds_it g me ≡ true → g ≡ Some me
 holder g me e = search (eqb-true, arith)
 
 -- a CPU that is told to draft nothing drafts nothing
 not_draft : (y told : Source) → told_source y ≡ told → is_drafting told ≡ false → (w : Work) (k : ℕ) → y ≢ Drafts w k
 not_draft y told is idle w k e = cc
 
-is_owns : (y : Source) (w : Work) → told_source y ≡ Owns w → y ≡ Owns w
+pub is_owns : (y : Source) (w : Work) → told_source y ≡ Owns w → y ≡ Owns w
 is_owns y w e = search arith
 
-is_collects : (y : Source) (w : Work) → told_source y ≡ Collects w → y ≡ Collects w
+pub is_collects : (y : Source) (w : Work) → told_source y ≡ Collects w → y ≡ Collects w
 is_collects y w e = search arith
 
 -- the work that a source drafts, told so far as this one
-record IsDraft (y : Source) (w : Work) (k : ℕ) : Type 0 where
-  work : Work
-  is : y ≡ Drafts work k
-  same : told_work k work ≡ told_work k w
+pub record IsDraft (y : Source) (w : Work) (k : ℕ) : Type 0 where
+  pub work : Work
+  pub is : y ≡ Drafts work k
+  pub same : told_work k work ≡ told_work k w
 
-is_draft : (y : Source) (w : Work) (k : ℕ) → told_source y ≡ Drafts (told_work k w) k → IsDraft y w k
+pub is_draft : (y : Source) (w : Work) (k : ℕ) → told_source y ≡ Drafts (told_work k w) k → IsDraft y w k
 is_draft y w k e = search arith
 
 -- two works of which the same is told have the same first k fields
@@ -81,15 +81,21 @@ module _ (p : StopState) (at : Word → ℕ) (seat : ℕ → Seat) (source : ℕ
   abbrev u : Setup
   u = setup_in v.setting
 
-  abbrev Goes : (Word → ℕ) → Known → Type 0
-  Goes at' w = GoesOn v.setting p seat source v.number at' w
+  abbrev Goes : Act → Word → Option ℕ → Option ℕ → (Word → ℕ) → Known → Type 0
+  Goes a w found new at' known = GoesOnBy v.setting p seat source v.number at' known (seen_by v.number a w found new)
+
+  abbrev Loads : Word → Known → Type 0
+  Loads w known = Goes act.Load w (Some (at w)) None at known
+
+  abbrev Stores : Word → ℕ → Known → Type 0
+  Stores w n known = Goes act.Store w None (Some n) (put_word at w n) known
 
   -- a step that leaves all columns
   pub unmoved_columns : Leaves v.number p p v.part
   unmoved_columns = record { mine = sees.part_is; others = λ c ne. refl }
 
-  pub still : Goes at v
-  still = goes_still p seat source v sees p at v.part h unmoved_columns
+  pub still : (a : Act) (w : Word) (found new : Option ℕ) → told u p v.number a w found new 0 ≡ p → Goes a w found new at v
+  still a w found new e = goes_still p seat source v sees p at v.part (told_so u v.number p p a w found new e) h unmoved_columns
 
   -- the gate
 
@@ -97,22 +103,25 @@ module _ (p : StopState) (at : Word → ℕ) (seat : ℕ → Seat) (source : ℕ
       Leaves v.number p (record p { gate = g }) (record (v.part) { holds = b })
   holds_alone g b mine others = search arith
 
-  pub take_gate : Goes (put_if put_word at Gate (cond (at Gate == 0) (Some (v.number + 1)) None))
-      (gate_known act.Cas (cond (at Gate == 0) (Some (v.number + 1)) None) v)
+  pub take_gate : let new = cond (at Gate == 0) (Some (v.number + 1)) None in
+      Goes act.Cas Gate (Some (at Gate)) new (put_if put_word at Gate new) (gate_known act.Cas new v)
   take_gate = go (at Gate == 0) refl
     where
-      go : (b : Bool) → (at Gate == 0) ≡ b → Goes (put_if put_word at Gate (cond b (Some (v.number + 1)) None))
-          (gate_known act.Cas (cond b (Some (v.number + 1)) None) v)
-      go false e = still
+      go : (b : Bool) → (at Gate == 0) ≡ b → let new = cond b (Some (v.number + 1)) None in
+          Goes act.Cas Gate (Some (at Gate)) new (put_if put_word at Gate new) (gate_known act.Cas new v)
+      go false e = still act.Cas Gate (Some (at Gate)) None refl
       go true e =
-          goes_still p seat source v sees (record p { gate = Some v.number }) (put_word at Gate (v.number + 1)) (record (v.part) { holds = true })
+          let p' = record p { gate = Some v.number } in
+          goes_still p seat source v sees p' (put_word at Gate (v.number + 1)) (record (v.part) { holds = true })
+          (told_so u v.number p p' act.Cas Gate (Some (at Gate)) (Some (v.number + 1)) refl)
           (gate_taken u p at seat source h v.number 0 (eqb-true (at Gate) 0 e))
           (search (holds_alone, eq-eqb, ne_eqb, arith))
 
-  pub open_gate : v.part.holds ≡ true → is_drafting v.source ≡ false → Goes (put_word at Gate 0) (record v { part = record (v.part) { holds = false } })
+  pub open_gate : v.part.holds ≡ true → is_drafting v.source ≡ false → Stores Gate 0 (record v { part = record (v.part) { holds = false } })
   open_gate holds idle =
       let mine : p.gate ≡ Some v.number = holder p.gate v.number (sees.part_is.holds ∙ holds) in
-      goes_still p seat source v sees (record p { gate = None }) (put_word at Gate 0) (record (v.part) { holds = false })
+      let p' = record p { gate = None } in
+      goes_still p seat source v sees p' (put_word at Gate 0) (record (v.part) { holds = false }) (told_so u v.number p p' act.Store Gate None (Some 0) refl)
       (gate_opened u p at seat source h v.number 0 mine (not_draft (source v.number) v.source sees.source_is idle))
       (holds_alone None false refl (λ c ne. sym (ap (λ g. holds_it g c) mine ∙ ne_eqb v.number c (λ same. ne (sym same)))))
 
@@ -132,7 +141,7 @@ module _ (p : StopState) (at : Word → ℕ) (seat : ℕ → Seat) (source : ℕ
 
   -- a field is stored, by a source that drafts this work
   field_goes : (work : Work) (f : Field) → DraftShows u p.gate (p.now.stop v.number) (λ f. at (Slot v.number f)) v.number work (order f) → order f < 10 →
-      Goes (put_word at (Slot v.number f) (begun_value cpus work f)) (record v { source = Drafts (told_work (order f + 1) work) (order f + 1) })
+      Stores (Slot v.number f) (begun_value cpus work f) (record v { source = Drafts (told_work (order f + 1) work) (order f + 1) })
   field_goes work f d low =
       let drafting = put source v.number (Drafts work (order f)) in
       let next = Drafts work (order f + 1) in
@@ -142,6 +151,7 @@ module _ (p : StopState) (at : Word → ℕ) (seat : ℕ → Seat) (source : ℕ
       ap (λ b. cond b (stored_open p v.number v.number f x) (stored_shut p v.number f x)) d.shut ∙ shut_drafts p v.number f x low in
       let at' = put_word at (Slot v.number f) x in
       goes p seat source v sees p' at' seat (put drafting v.number next) v.seat (told_source next) v.part
+      (told_so u v.number p p' act.Store (Slot v.number f) None (Some x) plain)
       (subst (λ q. StopShows u q at' seat (put drafting v.number next)) plain
       (field_stored u p at seat drafting (restaged (Drafts work (order f)) d) v.number work (order f) f 0 (put_same source v.number (Drafts work (order f)))
       refl low))
@@ -150,13 +160,13 @@ module _ (p : StopState) (at : Word → ℕ) (seat : ℕ → Seat) (source : ℕ
       (λ c ne. refl) (λ c ne. put_other drafting v.number next c ne ∙ put_other source v.number (Drafts work (order f)) c ne)
 
   pub draft : (work : Work) → v.source ≡ Shut → v.part.holds ≡ true → IsWork u work →
-      Goes (put_word at (Slot v.number field.Kind) (begun_value cpus work field.Kind)) (draft_known (begun_value cpus work field.Kind) v)
+      Stores (Slot v.number field.Kind) (begun_value cpus work field.Kind) (draft_known (begun_value cpus work field.Kind) v)
   draft work shut holds is =
       let shown' = field_goes work field.Kind (search (holder, is, arith)) (omega arith) in
       search (kind_back work.kind, shown', arith)
 
   pub draft_more : (work : Work) (f : Field) → v.source ≡ Drafts (told_work (order f) work) (order f) → IsWork u work → order f ≢ 0 → order f < 10 →
-      Goes (put_word at (Slot v.number f) (begun_value cpus work f)) (slot_stored f (begun_value cpus work f) v)
+      Stores (Slot v.number f) (begun_value cpus work f) (slot_stored f (begun_value cpus work f) v)
   draft_more work f e is ne low =
       let x = begun_value cpus work f in
       let k = order f in
@@ -164,9 +174,11 @@ module _ (p : StopState) (at : Word → ℕ) (seat : ℕ → Seat) (source : ℕ
       let d : DraftShows u p.gate (p.now.stop v.number) (λ f. at (Slot v.number f)) v.number y.work k = source_here (Drafts y.work k) y.is in
       let known : slot_stored f x v ≡ record v { source = Drafts (told_work (k + 1) work) (k + 1) } =
       search (stored_draft, draft_next, work, arith) in
-      search (field_goes, work, is, d.stored, value_same, drafted_same, arith)
+      let same : DraftShows u p.gate (p.now.stop v.number) (λ f. at (Slot v.number f)) v.number work k =
+      search (work, is, d.shut, d.holds, d.stored, d.told, value_same, drafted_same, arith) in
+      subst (λ (q : Known). Stores (Slot v.number f) x q) (sym known) (field_goes work f same low)
 
-  pub open_stop : (work : Work) → v.source ≡ Drafts (told_work 10 work) 10 → Goes (put_word at (Slot v.number field.Roll) work.mask) (opened_by v.source v)
+  pub open_stop : (work : Work) → v.source ≡ Drafts (told_work 10 work) 10 → Stores (Slot v.number field.Roll) work.mask (opened_by v.source v)
   open_stop work e =
       let y = is_draft (source v.number) work 10 (sees.source_is ∙ e) in
       let is : source v.number ≡ Drafts work 10 = y.is ∙ ap (λ z. Drafts z 10) y.same in
@@ -178,7 +190,7 @@ module _ (p : StopState) (at : Word → ℕ) (seat : ℕ → Seat) (source : ℕ
       ap (λ b. cond b (stored_open p v.number v.number field.Roll work.mask) (stored_shut p v.number field.Roll work.mask)) d.shut in
       let begun = p.begun v.number ++ (p.now.stop v.number).work ∷ [] in
       let shown' = goes_source p seat source v sees (opens p v.number) at' (Owns work) (Owns work) (record (v.part) { begun = v.part.begun ++ work ∷ [] })
-      (subst (λ q. StopShows u q at' seat (put source v.number (Owns work))) plain (roll_stored u p at seat source h v.number work 0 is)) (search (
+      (told_so u v.number p (opens p v.number) act.Store (Slot v.number field.Roll) None (Some work.mask) plain) (subst (λ q. StopShows u q at' seat (put source v.number (Owns work))) plain (roll_stored u p at seat source h v.number work 0 is)) (search (
         put_same,
         same,
         put_other,
@@ -189,24 +201,27 @@ module _ (p : StopState) (at : Word → ℕ) (seat : ℕ → Seat) (source : ℕ
 
   -- the end of its stop
 
-  pub look_done : (w : Work) → v.source ≡ Owns w → Goes at (record v { source = done_by (at (Slot v.number field.Done)) v.source })
-  look_done w is = subst (λ o. Goes at (record v { source = done_by (at (Slot v.number field.Done)) o })) (sym is) (search (go, arith))
+  pub look_done : (w : Work) → v.source ≡ Owns w → Loads (Slot v.number field.Done) (record v { source = done_by (at (Slot v.number field.Done)) v.source })
+  look_done w is = subst (λ o. Loads (Slot v.number field.Done) (record v { source = done_by (at (Slot v.number field.Done)) o })) (sym is) (search (go, arith))
     where
       there : source v.number ≡ Owns w
       there = is_owns (source v.number) w (sees.source_is ∙ is)
 
-      go : (b : Bool) → (at (Slot v.number field.Done) == 0) ≡ b → Goes at (record v { source = cond b (Owns w) (Collects w) })
-      go true e = subst (λ o. Goes at (record v { source = o })) is still
+      go : (b : Bool) → (at (Slot v.number field.Done) == 0) ≡ b → Loads (Slot v.number field.Done) (record v { source = cond b (Owns w) (Collects w) })
+      go true e = subst (λ o. Loads (Slot v.number field.Done) (record v { source = o })) is
+          (still act.Load (Slot v.number field.Done) (Some (at (Slot v.number field.Done))) None refl)
       go false e =
           let one : at (Slot v.number field.Done) ≡ 1 =
           search (done_is, h.present.slots, arith) in
-          goes_source p seat source v sees p at (Collects w) (Collects w) v.part (done_loaded u p at seat source h v.number w there one) unmoved_columns
+          goes_source p seat source v sees p at (Collects w) (Collects w) v.part
+          (told_so u v.number p p act.Load (Slot v.number field.Done) (Some (at (Slot v.number field.Done))) None refl) (done_loaded u p at seat source h v.number w there one) unmoved_columns
           refl tt
 
-  pub collect : (w : Work) → v.source ≡ Collects w → Goes at (collected_known (at (Slot v.number field.Result)) v)
+  pub collect : (w : Work) → v.source ≡ Collects w → Loads (Slot v.number field.Result) (collected_known (at (Slot v.number field.Result)) v)
   collect w is =
       let found = at (Slot v.number field.Result) in
       let there = is_collects (source v.number) w (sees.source_is ∙ is) in
-      goes_source p seat source v sees (told u p v.number act.Load (Slot v.number field.Result) (Some found) None 0) at Shut Shut
-      (record (v.part) { collected = v.part.collected ++ found ∷ [] }) (result_loaded u p at seat source h v.number w 0 there)
+      let p' = told u p v.number act.Load (Slot v.number field.Result) (Some found) None 0 in
+      goes_source p seat source v sees p' at Shut Shut (record (v.part) { collected = v.part.collected ++ found ∷ [] })
+      (told_so u v.number p p' act.Load (Slot v.number field.Result) (Some found) None refl) (result_loaded u p at seat source h v.number w 0 there)
       (search (put_same, put_other, arith)) refl tt

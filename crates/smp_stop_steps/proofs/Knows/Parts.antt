@@ -1,9 +1,9 @@
 -- What a step of a CPU leaves to it and to all others.
-use Rattle.std.proofs.Common.{◌≡◌, ◌≢◌, ℕ, ◌<◌, List, get_or, set, replicate, sym, arith}
+use Rattle.std.proofs.Common.{◌≡◌, ◌≢◌, ℕ, ◌<◌, List, Option, None, get_or, set, replicate, inl, refl, ap, subst, ◌∙◌, sym, arith}
 use Rattle.std.proofs.lemmas.List.{length-set, length-replicate, get_or-set_same, get_or-set_other}
 use Rattle.smp_words.proofs.Puts.{at_test, put_same, put_other}
 use Rattle.smp_words.proofs.Zeros.{get_or-same}
-use Rattle.smp_stop_steps.specs.{put, cpus, Word, Part, Setting, fresh, columns_of, AreFirst, IsPart, Sees, GoesOn, IsBegun, told_source, setup_in, Seat}
+use Rattle.smp_stop_steps.specs.{put, cpus, Word, Part, Setting, fresh, columns_of, AreFirst, AreTold, Columns, IsPart, Sees, GoesOnBy, IsBegun, Act, Seen, Setup, told, told_source, setup_in, Seat}
 use Rattle.smp_stop_steps.specs.{Free, StopShows, Source, Shut, StopState, no_stops}
 use Rattle.smp_stop_steps.specs.Known.{Known}
 
@@ -24,27 +24,68 @@ pub record Leaves (me : ℕ) (p p' : StopState) (part : Part) : Type 0 where
   pub mine : IsPart (columns_of p' me) part
   pub others : (c : ℕ) → c ≢ me → columns_of p' c ≡ columns_of p c
 
+-- a step of this CPU, as it is seen
+abbrev pub seen_by : ℕ → Act → Word → Option ℕ → Option ℕ → Seen
+seen_by me a w found new = record { cpu = me; act = a; word = w; found = found; put = new; note = None }
+
+pub told_so : (u : Setup) (me : ℕ) (p p' : StopState) (a : Act) (w : Word) (found new : Option ℕ) → told u p me a w found new 0 ≡ p'
+    → AreTold u me p p' (seen_by me a w found new)
+told_so u me p p' a w found new e = record { before = p; alike = inl refl; told = sym e }
+
 module _ (p : StopState) (seat : ℕ → Seat) (source : ℕ → Source) (v : Known) (sees : Sees p seat source v) where
+  -- what a CPU is told to know by a step
+  abbrev pub By : Seen → (Word → ℕ) → Known → Type 0
+  By seen at' w = GoesOnBy v.setting p seat source v.number at' w seen
+
+  abbrev Told : StopState → Seen → Type 0
+  Told p' seen = AreTold (setup_in v.setting) v.number p p' seen
+
   -- a step, after which this CPU is at this seat and source and has this part
-  pub goes : (p' : StopState) (at' : Word → ℕ) (seat' : ℕ → Seat) (source' : ℕ → Source) (x : Seat) (y : Source) (part : Part) →
-      StopShows (setup_in v.setting) p' at' seat' source' → Leaves v.number p p' part →
+  pub goes : {seen : Seen} (p' : StopState) (at' : Word → ℕ) (seat' : ℕ → Seat) (source' : ℕ → Source) (x : Seat) (y : Source) (part : Part) →
+      Told p' seen → StopShows (setup_in v.setting) p' at' seat' source' → Leaves v.number p p' part →
       seat' v.number ≡ x → told_source (source' v.number) ≡ y → IsBegun (source' v.number) →
       ((c : ℕ) → c ≢ v.number → seat' c ≡ seat c) → ((c : ℕ) → c ≢ v.number → source' c ≡ source c) →
-      GoesOn v.setting p seat source v.number at' (record v { seat = x; source = y; part = part })
-  goes p' at' seat' source' x y part shown leaves here there begun seats sources = search (leaves.others, arith)
+      By seen at' (record v { seat = x; source = y; part = part })
+  goes {seen} p' at' seat' source' x y part is shown leaves here there begun seats sources = record {
+    goes =
+        record {
+          stops = p';
+          seats = seat';
+          sources = source';
+          shown = shown;
+          mine = record { below = sees.below; seat_is = here; source_is = there; is_begun = begun; part_is = leaves.mine };
+          number_is = refl;
+          setting_is = refl;
+          others = λ o ne s. record {
+            below = s.below;
+            seat_is = seats o.number ne ∙ s.seat_is;
+            source_is = ap told_source (sources o.number ne) ∙ s.source_is;
+            is_begun = subst IsBegun (sym (sources o.number ne)) s.is_begun;
+            part_is = subst (λ (c : Columns). IsPart c o.part) (sym (leaves.others o.number ne)) s.part_is;
+          };
+        };
+    told = is;
+  }
 
   -- one that moves the CPU's seat alone
-  pub goes_seat : (p' : StopState) (at' : Word → ℕ) (x : Seat) (part : Part) → StopShows (setup_in v.setting) p' at' (put seat v.number x) source →
-      Leaves v.number p p' part → GoesOn v.setting p seat source v.number at' (record v { seat = x; part = part })
-  goes_seat p' at' x part shown leaves = search (goes, put_same, sees.source_is, sees.is_begun, put_other, arith)
+  pub goes_seat : {seen : Seen} (p' : StopState) (at' : Word → ℕ) (x : Seat) (part : Part) → Told p' seen →
+      StopShows (setup_in v.setting) p' at' (put seat v.number x) source →
+      Leaves v.number p p' part → By seen at' (record v { seat = x; part = part })
+  goes_seat {seen} p' at' x part is shown leaves = goes p' at' (put seat v.number x) source x v.source part is shown leaves (put_same seat v.number x)
+      sees.source_is sees.is_begun (λ c ne. put_other seat v.number x c ne) (λ c ne. refl)
 
   -- one that moves its source alone
-  pub goes_source : (p' : StopState) (at' : Word → ℕ) (y told : Source) (part : Part) → StopShows (setup_in v.setting) p' at' seat (put source v.number y) →
-      Leaves v.number p p' part → told_source y ≡ told → IsBegun y →
-      GoesOn v.setting p seat source v.number at' (record v { source = told; part = part })
-  goes_source p' at' y told part shown leaves is begun = search (goes, sees.seat_is, put_same, put_other, arith)
+  pub goes_source : {seen : Seen} (p' : StopState) (at' : Word → ℕ) (y known : Source) (part : Part) → Told p' seen →
+      StopShows (setup_in v.setting) p' at' seat (put source v.number y) →
+      Leaves v.number p p' part → told_source y ≡ known → IsBegun y →
+      By seen at' (record v { source = known; part = part })
+  goes_source {seen} p' at' y known part told shown leaves is begun = goes p' at' seat (put source v.number y) v.seat known part told shown leaves
+      sees.seat_is (ap told_source (put_same source v.number y) ∙ is) (subst IsBegun (sym (put_same source v.number y)) begun) (λ c ne. refl)
+      (λ c ne. put_other source v.number y c ne)
 
   -- one that moves neither
-  pub goes_still : (p' : StopState) (at' : Word → ℕ) (part : Part) → StopShows (setup_in v.setting) p' at' seat source → Leaves v.number p p' part →
-      GoesOn v.setting p seat source v.number at' (record v { part = part })
-  goes_still p' at' part shown leaves = search (goes, sees.seat_is, sees.source_is, sees.is_begun, arith)
+  pub goes_still : {seen : Seen} (p' : StopState) (at' : Word → ℕ) (part : Part) → Told p' seen →
+      StopShows (setup_in v.setting) p' at' seat source → Leaves v.number p p' part →
+      By seen at' (record v { part = part })
+  goes_still {seen} p' at' part is shown leaves = goes p' at' seat source v.seat v.source part is shown leaves sees.seat_is sees.source_is sees.is_begun
+      (λ c ne. refl) (λ c ne. refl)

@@ -27,5 +27,4 @@ returns-clause-visit c = λ work h.
       };
       slot_is = refl;
       fresh = refl;
-      unanswered = refl;
     }

@@ -5,4 +5,4 @@ use Rattle.smp_multi.proofs.Showing.{rests_ungiven}
 use Rattle.smp_multi.proofs.laws.counts_are_sums.Goals as goal
 
 pub returns : goal.returns
-returns g c = subst CountsAreSums c.cpu.view_is (counts_sums _ _ c.cpu.invariant.lives (rests_ungiven _ _ c.cpu.invariant.rests))
+returns g c = subst CountsAreSums c.cpu.view_is (counts_sums _ c.cpu.invariant.lives (rests_ungiven _ _ c.cpu.invariant.rests))

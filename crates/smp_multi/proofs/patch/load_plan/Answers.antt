@@ -1,4 +1,4 @@
-use Rattle.std.proofs.Common.{◌≡◌, ◌+◌, ◌++◌, ◌∷◌, [], length, length-append, true, false, Some, slice_index, ap, sym, subst, ◌∙◌, arith, eq-eqb, ne_eqb}
+use Rattle.std.proofs.Common.{◌≡◌, ◌+◌, ◌++◌, ◌∷◌, [], length, length-append, true, false, rules, Some, slice_index, ap, sym, subst, ◌∙◌, arith, eq-eqb, ne_eqb}
 use Rattle.smp_labels.specs.Entries.{entry_at}
 use Rattle.smp_labels.specs.Keys.{is_on}
 use Rattle.smp_labels.specs.Kinds.{kind_of, kind_word}
@@ -6,7 +6,7 @@ use Rattle.smp_labels.specs.Plans.{site_changes}
 use Rattle.smp_labels.specs.declared.patch.Place.TheVariants as place
 use Rattle.smp_multi.specs.Names.{Known}
 use Rattle.smp_multi.specs.Patches.{entries_in}
-use Rattle.smp_multi.proofs.Patching.{left_more, PlanLeft}
+use Rattle.smp_multi.proofs.Patching.{entries_end, left_more, left_none, PlanLeft}
 use Rattle.smp_multi.proofs.patch.load_plan.Goals.{then-entry-key, else-entry-key}
 use Rattle.smp_multi.proofs.patch.load_plan.Goals as goal
 
@@ -46,3 +46,11 @@ loop-site-preserved c =
             left = subst (PlanLeft c.args.key on (c.loop-site.site + 1) es whole) (sym one) (more false (ne_eqb e.key c.args.key w.if-entry-key.false));
           }
     ]
+
+-- no entry is left where one is none
+pub returns-in_default-clause-plan : goal.returns-in_default-clause-plan
+returns-in_default-clause-plan c =
+    let inv = c.loop-site.invariant in
+    let word = c.load_entry-word.ensures.word in
+    let form = c.load_entry-word.ensures.form in
+    search (rules, left_none, entries_end, inv.left, inv.known, word, form, arith)

@@ -1,9 +1,8 @@
-use Rattle.std.proofs.Common.{◌≡◌, ◌+◌, true, ap, arith, subst, ◌∙◌}
+use Rattle.std.proofs.Common.{◌≡◌, ◌+◌, ap, arith, subst, ◌∙◌}
 use Rattle.smp_labels.specs.Keys.{count_after}
 use Rattle.smp_labels.specs.declared.keys.Change.{Change}
 use Rattle.smp_stop_steps.specs.Known.{Moment}
 use Rattle.smp_stop_steps.specs.Labels.{answer_for, patch_answer}
-use Rattle.smp_stop_steps.specs.Stages.{visit_acked}
 use Rattle.smp_stop_steps.specs.declared.stage.Visit.{Visit}
 use Rattle.smp_multi.specs.Names.{Key, Known}
 use Rattle.smp_multi.specs.Patches.{begins_with}
@@ -26,7 +25,7 @@ returns-clause-patched c =
       count,
       subst (λ n. Moment k (Key n) count) c.load_change-key.ensures.key
           (subst (λ (x : Known). Moment x (Key c.load_change-key.result.0) count) c.load_change-key.ensures.known c.begin_patch-count.ensures.then),
-      patch_ends k c.args.visit.slot w count (is_at_run _ _ c.args.visit c.requires) _ _ _ _ c.acknowledge_patch-found.result _ one c.store_plan.ensures.known
-          c.acknowledge_patch-found.ensures.known c.pass.ensures.known next,
-      c.acknowledged-visit.ensures ∙ ap (λ n. visit_acked c.args.visit n true) answer,
+      patch_ends k c.args.visit.slot w count (is_at_run _ _ c.args.visit c.requires) _ _ _ _ c.acknowledge_patch-found.result c.answer_for.result _ one
+          c.store_plan.ensures.known answer c.acknowledge_patch-found.ensures.known c.pass.ensures.known next,
+      c.acknowledged-visit.ensures,
     )

@@ -9,7 +9,7 @@ pub invariant_of-boot : goal.invariant_of-boot
 invariant_of-boot g c =
     let s = c.loop-number.invariant in
     let wait = seats_wait _ _ _ c.args.nr c.args.setting c.loop-number.number c.loop-number.waiting.items c.requires c.loop-number-test.false s in
-    subst (λ (k : Setting). AreWaiting c.loop-number.maker.table_id k c.args.setting.online c.loop-number.waiting.items) (sym (ap made_with s.next))
+    subst (λ (k : Setting). AreWaiting c.loop-number.maker.raw.table_id k c.args.setting.online c.loop-number.waiting.items) (sym (ap made_with s.next))
     (subst (λ t. AreWaiting t c.args.setting c.args.setting.online c.loop-number.waiting.items) (sym s.maker_is) wait)
 
 pub returns : goal.returns

@@ -15,8 +15,8 @@ returns-clause-ok g c = elim c.match-take.branch [
       let items : List (Option CpuValue) = b.waiting.items in
       let cpu = c.args.cpu in
       let m = c.self.invariant in
-      let t = b.maker.table_id in
-      let k = made_with b.maker.me.0 in
+      let t = b.maker.raw.table_id in
+      let k = made_with b.maker.raw.me.0 in
       let old : BootValue = record { table = t; setting = k; left = map is_some items } in
       let new : BootValue = record { table = t; setting = k; left = map is_some (set items cpu c.take.new.self) } in
       let online : has b.online cpu ≡ true = sym c.contains.ensures.member ∙ c.if-not-contains.false in

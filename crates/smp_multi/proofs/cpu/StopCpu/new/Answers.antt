@@ -4,4 +4,4 @@ use Rattle.smp_multi.specs.Names.{Known}
 use Rattle.smp_multi.proofs.cpu.StopCpu.new.Goals as goal
 
 pub returns : goal.returns
-returns c = ap (λ (v : Known). cpu_of 0 (record { table = c.args.seat.table; known = v })) c.requires.fresh
+returns c = ap (λ (v : Known). cpu_of (record { table = c.args.seat.table; known = v })) c.requires.fresh

@@ -2,7 +2,7 @@ use Rattle.std.proofs.Common.{◌≢◌, Option, Ok, rules, ap, sym, subst, ◌�
 use Rattle.smp_stop_steps.specs.declared.phase.TheConstants.{EXIT}
 use Rattle.smp_stop_steps.specs.declared.stage.Visit.{Visit}
 use Rattle.smp_multi.specs.Advance.{AdvanceAnswers}
-use Rattle.smp_multi.specs.Cpu.{CpuValue, TableValue, IsKept, answer_of, cpu_of}
+use Rattle.smp_multi.specs.Cpu.{CpuValue, TableValue, IsKept, cpu_of}
 use Rattle.smp_multi.specs.Names.{One}
 use Rattle.smp_multi.proofs.Advancing.{advance_answers, advance_kept}
 use Rattle.smp_multi.proofs.table.StopTable.advance.Goals as goal
@@ -29,7 +29,7 @@ returns g c =
     let table = ap (λ (m : CpuValue). m.table) c.me.view_is ∙ (c.requires.table ∙ sym (ap (λ (t : TableValue). t.table) c.self.view_is)) in
     let several : c.in-Some.visit.kind ≢ One = search rules in
     let more : c.in-Some.visit.acked ≢ EXIT = search rules in
-    subst (λ (m : CpuValue). AdvanceAnswers leads m (cpu_of x.answer e) f h (Ok turn))
-    (ap (λ (x : Option Visit). cpu_of (answer_of x) d) (sym c.in-Some.is) ∙ c.me.view_is)
+    subst (λ (m : CpuValue). AdvanceAnswers leads m (cpu_of e) f h (Ok turn))
+    c.me.view_is
     (advance_answers leads _ d e c.me.inside.number c.in-Some.visit x c.me.inside.holds c.me.inside.is_open kept f h c.take_turn-turn.ensures.at table
     several more turn c.take_turn-turn.ensures.answers)

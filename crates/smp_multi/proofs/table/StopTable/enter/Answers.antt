@@ -7,7 +7,7 @@ use Rattle.smp_multi.specs.Names.{Slot, Kind, Free, Idle}
 use Rattle.smp_multi.specs.Names.field
 use Rattle.smp_multi.specs.Answers.{Enters, IsStale}
 use Rattle.smp_multi.specs.Laws.{FindsNoCall}
-use Rattle.smp_multi.specs.Cpu.{CpuValue, TableValue, IsKept, answer_of, cpu_of, is_in}
+use Rattle.smp_multi.specs.Cpu.{CpuValue, TableValue, IsKept, cpu_of, is_in}
 use Rattle.smp_multi.specs.declared.cpu.StopCpu.TheInside.{Inside}
 use Rattle.smp_multi.specs.contracts.cpu.StopCpu as cpu
 use Rattle.smp_multi.proofs.Kept.{is_free, idle_outside, kept_same, kept_entered, enters_answer, low_slot}
@@ -24,7 +24,7 @@ free g c = is_free c.me.inside.visit c.me.inside.seat.known.seat c.me.invariant.
     (ap (λ (m : CpuValue). is_in m.inside) c.me.view_is ∙ (sym c.in_stop.ensures ∙ c.if-in_stop.false))
 
 idle : (g : given.Over) (c : goal.Joined-enter g) → c.me.inside.seat.known.part.calling ≡ Idle
-idle g c = idle_outside c.me.inside.visit c.me.inside.seat.known.part.calling (free g c).0 c.me.invariant.quiet
+idle g c = idle_outside c.me.inside.visit c.me.inside.seat.known.carried c.me.inside.seat.known.part.calling (free g c).0 c.me.invariant.quiet
 
 pub invariant_of-me : goal.invariant_of-me
 invariant_of-me g c = elim c.match-enter.branch [
@@ -46,11 +46,10 @@ returns-clause-ok g c = elim c.match-enter.branch [
       subst (λ (r : Result Kind SmpError). IfOk r (λ kind. Enters c.args.self.now c.args.slot c.args.me.now (cpu.the_view c.match-enter.me-inside) kind))
       (sym w.result-is)
       (subst (λ (m : Inside). Enters c.args.self.now c.args.slot c.args.me.now (cpu.the_view m) w.in-Some.visit.kind) (sym w.me-inside-is)
-      (subst (λ (m : CpuValue). Enters c.args.self.now c.args.slot m (cpu_of w.in-Some.visit.answer c.enter.new.seat) w.in-Some.visit.kind) c.me.view_is
-      (subst (λ (t : TableValue). Enters t c.args.slot (cpu_of (answer_of c.me.inside.visit) d)
-      (cpu_of w.in-Some.visit.answer c.enter.new.seat) w.in-Some.visit.kind) c.self.view_is
-      (enters_answer (record { table = c.self.inside.owner.shared.table_id; nr = c.self.inside.nr; setting = c.self.inside.setting })
-      (answer_of c.me.inside.visit) w.in-Some.visit.answer d c.enter.new.seat c.args.slot k.0 w.in-Some.visit (free g c).1 (idle g c) (there g c) table
+      (subst (λ (m : CpuValue). Enters c.args.self.now c.args.slot m (cpu_of c.enter.new.seat) w.in-Some.visit.kind) c.me.view_is
+      (subst (λ (t : TableValue). Enters t c.args.slot (cpu_of d)
+      (cpu_of c.enter.new.seat) w.in-Some.visit.kind) c.self.view_is
+      (enters_answer (record { table = c.self.inside.owner.shared.table_id; nr = c.self.inside.nr; setting = c.self.inside.setting }) d c.enter.new.seat c.args.slot k.0 w.in-Some.visit (free g c).1 (idle g c) (there g c) table
       k.1 k.2 k.3))))
   | in-None w ↦
       subst (λ (r : Result Kind SmpError). IfOk r (λ kind. Enters c.args.self.now c.args.slot c.args.me.now (cpu.the_view c.match-enter.me-inside) kind))
@@ -65,13 +64,12 @@ returns-clause-err g c =
       | in-Some w ↦ subst Stales (sym w.result-is) tt
       | in-None w ↦
           let d = c.me.inside.seat in
-          let a = answer_of c.me.inside.visit in
           let t = c.enter.ensures.then in
           let table = c.enter.ensures.table
           ∙ sym (ap (λ (m : CpuValue). m.table) c.me.view_is ∙ (c.requires.table ∙ sym (ap (λ (t : TableValue). t.table) c.self.view_is))) in
           let known = w.in-None.ensures.known in
-          let view : cpu_of a c.enter.new.seat ≡ cpu_of a d = λ i. cpu_of a (record { table = table i; known = known i }) in
-          let found = finds a d (Slot c.args.slot field.Roll) t.0 (rests_ungiven _ _ c.me.invariant.rests) t.1 in
+          let view : cpu_of c.enter.new.seat ≡ cpu_of d = λ i. cpu_of (record { table = table i; known = known i }) in
+          let found = finds d (Slot c.args.slot field.Roll) t.0 (rests_ungiven _ _ c.me.invariant.rests) t.1 in
           let none : has t.0 d.known.number ≡ false = ap (has t.0) c.me.invariant.number_is ∙ t.2 w.in-None.is in
           subst Stales (sym w.result-is) (
             refl,

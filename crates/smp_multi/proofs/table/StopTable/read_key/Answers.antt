@@ -1,7 +1,7 @@
 use Rattle.std.proofs.Common.{◌<◌, Ok, ap, sym, subst, ◌∙◌}
 use Rattle.smp_mask.specs.Mask.{has}
 use Rattle.smp_multi.specs.Names.{Setting}
-use Rattle.smp_multi.specs.Cpu.{CpuValue, TableValue, answer_of, cpu_of}
+use Rattle.smp_multi.specs.Cpu.{CpuValue, TableValue, cpu_of}
 use Rattle.smp_multi.specs.Reads.{KeyAnswers}
 use Rattle.smp_multi.proofs.Reading.{key_answers}
 use Rattle.smp_multi.proofs.table.StopTable.read_key.Goals as goal
@@ -10,7 +10,6 @@ pub returns : goal.returns
 returns g c =
     let d = c.me.inside.seat in
     let e = c.read_key.new.seat in
-    let a = answer_of c.me.inside.visit in
     let kept = c.me.invariant in
     let table = c.read_key.ensures.table
     ∙ sym (ap (λ (m : CpuValue). m.table) c.me.view_is ∙ (c.requires.table ∙ sym (ap (λ (t : TableValue). t.table) c.self.view_is))) in
@@ -18,5 +17,5 @@ returns g c =
     let online = ap (has d.known.setting.online) kept.number_is ∙ kept.online in
     let on = ap (λ (m : CpuValue). m.irq) c.me.view_is ∙ (sym c.interrupts_on.ensures.value ∙ c.if-not-interrupts_on.false) in
     let low = subst (λ (s : Setting). c.args.k < s.labels.keys) (sym setting) (subst (λ n. c.args.k < n) c.keys.ensures.value c.if-k-keys.false) in
-    subst (λ (m : CpuValue). KeyAnswers c.args.k m (cpu_of a e) (Ok c.read_key.result)) c.me.view_is
-    (key_answers a d e c.args.k c.read_key.result table c.read_key.ensures.known c.read_key.ensures.lives online on low)
+    subst (λ (m : CpuValue). KeyAnswers c.args.k m (cpu_of e) (Ok c.read_key.result)) c.me.view_is
+    (key_answers d e c.args.k c.read_key.result table c.read_key.ensures.known c.read_key.ensures.lives online on low)

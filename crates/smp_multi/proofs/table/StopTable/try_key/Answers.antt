@@ -1,7 +1,7 @@
 use Rattle.std.proofs.Common.{◌<◌, ap, sym, subst, ◌∙◌}
 use Rattle.smp_mask.specs.Mask.{has}
 use Rattle.smp_multi.specs.Names.{Setting}
-use Rattle.smp_multi.specs.Cpu.{CpuValue, TableValue, answer_of, cpu_of}
+use Rattle.smp_multi.specs.Cpu.{CpuValue, TableValue, cpu_of}
 use Rattle.smp_multi.specs.Nudges.{NudgeAnswers}
 use Rattle.smp_multi.proofs.Nudging.{nudge_answers}
 use Rattle.smp_multi.proofs.Showing.{rests_ungiven}
@@ -11,7 +11,6 @@ pub returns : goal.returns
 returns g c =
     let d = c.me.inside.seat in
     let e = c.try_key.new.seat in
-    let a = answer_of c.me.inside.visit in
     let kept = c.me.invariant in
     let table = c.try_key.ensures.table
     ∙ sym (ap (λ (m : CpuValue). m.table) c.me.view_is ∙ (c.requires.table ∙ sym (ap (λ (t : TableValue). t.table) c.self.view_is))) in
@@ -19,6 +18,6 @@ returns g c =
     let online = ap (has d.known.setting.online) kept.number_is ∙ kept.online in
     let on = ap (λ (m : CpuValue). m.irq) c.me.view_is ∙ (sym c.interrupts_on.ensures.value ∙ c.if-not-interrupts_on.false) in
     let low = subst (λ (s : Setting). c.args.k < s.labels.keys) (sym setting) (subst (λ n. c.args.k < n) c.keys.ensures.value c.if-k-keys.false) in
-    subst (λ (m : CpuValue). NudgeAnswers c.args.k c.args.up m (cpu_of a e) c.try_key.result) c.me.view_is
-    (nudge_answers a d e c.args.k c.args.up table c.try_key.ensures.lives online on low (rests_ungiven _ _ kept.rests)
+    subst (λ (m : CpuValue). NudgeAnswers c.args.k c.args.up m (cpu_of e) c.try_key.result) c.me.view_is
+    (nudge_answers d e c.args.k c.args.up table c.try_key.ensures.lives online on low (rests_ungiven _ _ kept.rests)
     c.try_key.result c.try_key.ensures.known)

@@ -1,6 +1,0 @@
-use Rattle.smp_multi.proofs.Completing.{able_give}
-use Rattle.smp_multi.proofs.Running.{one_end}
-use Rattle.smp_multi.proofs.run_steps.give.Goals as goal
-
-pub store_step-requires : goal.store_step-requires
-store_step-requires c = able_give _ _ c.args.slot 0 c.args.answer (one_end _ _ c.args.slot c.requires.at) c.requires.calls c.if-answer-ne0.true

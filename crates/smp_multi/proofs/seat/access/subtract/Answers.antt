@@ -1,0 +1,32 @@
+use Rattle.std.proofs.Common.{arith, ap, ◌∙◌, Some}
+use Rattle.smp_stop_steps.specs.Known.{carrying}
+use Rattle.smp_stop_steps.specs.KnownAfter.{known_told}
+use Rattle.smp_words.specs.Access.{one_less}
+use Rattle.smp_multi.specs.Names.{Known, SeatView}
+use Rattle.smp_multi.specs.Names.act
+use Rattle.smp_multi.specs.Rule.{known}
+use Rattle.smp_multi.proofs.Carrying.{can_bare, lives_with, sub_with}
+use Rattle.smp_multi.proofs.Cells.{cell_below}
+use Rattle.smp_multi.proofs.Keeps.{sub_allowed, can_same}
+use Rattle.smp_multi.proofs.seat.access.subtract.Goals as goal
+
+pub cell-requires : goal.cell-requires
+cell-requires c = c.requires.able.cell
+
+pub fetch_sub-requires : goal.fetch_sub-requires
+fetch_sub-requires c = let r = c.requires.able in let low = cell_below c.args.word c.cell.result c.cell.ensures in let w = r.sized in (
+  ap (λ d. d.table) c.seat.view_is ∙ r.table_is,
+  omega arith,
+  sub_allowed _ _ _ _ c.seat.invariant c.args.word c.cell.result c.cell.ensures
+      (can_bare c.seat.inside.carried (known c.seat.inside.raw.me.0) _ (can_same _ _ _ (ap (λ d. d.known) c.seat.view_is) r.can)),
+)
+
+pub returns-clause-lives : goal.returns-clause-lives
+returns-clause-lives c = lives_with c.seat.inside.carried (known c.fetch_sub.new.seat.me.0) c.fetch_sub.ensures.2.0
+
+pub returns-clause-known : goal.returns-clause-known
+returns-clause-known c =
+    let told = c.fetch_sub.ensures.2.1 c.args.word c.cell.ensures in
+    ap (λ (s : SeatView). carrying c.seat.inside.carried (known s)) told.1
+    ∙ (sub_with c.seat.inside.carried (known c.seat.inside.raw.me.0) c.args.word c.fetch_sub.result (one_less c.fetch_sub.result)
+    ∙ ap (λ (v : Known). known_told v act.Sub c.args.word (Some c.fetch_sub.result) (Some (one_less c.fetch_sub.result))) (ap (λ d. d.known) c.seat.view_is))

@@ -1,0 +1,32 @@
+use Rattle.std.proofs.Common.{arith, ap, ◌∙◌, Some}
+use Rattle.smp_stop_steps.specs.Known.{carrying}
+use Rattle.smp_stop_steps.specs.KnownAfter.{known_told}
+use Rattle.smp_words.specs.Access.{one_less}
+use Rattle.smp_multi.specs.Names.{Known, SeatView}
+use Rattle.smp_multi.specs.Names.act
+use Rattle.smp_multi.specs.Rule.{known}
+use Rattle.smp_multi.proofs.Carrying.{can_bare, lives_with, sub_with}
+use Rattle.smp_multi.proofs.Cells.{cell_below}
+use Rattle.smp_multi.proofs.Keeps.{sub_allowed, can_same}
+use Rattle.smp_multi.proofs.seat.access.subtract_with.Goals as goal
+
+pub cell-requires : goal.cell-requires
+cell-requires c = c.requires.cell
+
+pub fetch_sub-found-requires : goal.fetch_sub-found-requires
+fetch_sub-found-requires c = let r = c.requires in let low = cell_below c.args.word c.cell.result c.cell.ensures in let w = r.sized in (
+  ap (λ d. d.table) c.seat.view_is ∙ r.table_is,
+  omega arith,
+  sub_allowed _ _ _ _ c.seat.invariant c.args.word c.cell.result c.cell.ensures
+      (can_bare c.seat.inside.carried (known c.seat.inside.raw.me.0) _ (can_same _ _ _ (ap (λ d. d.known) c.seat.view_is) r.can)),
+)
+
+pub returns-clause-lives : goal.returns-clause-lives
+returns-clause-lives c = lives_with c.args.answer (known c.fetch_sub-found.new.seat.me.0) c.fetch_sub-found.ensures.2.0
+
+pub returns-clause-known : goal.returns-clause-known
+returns-clause-known c =
+    let told = c.fetch_sub-found.ensures.2.1 c.args.word c.cell.ensures in
+    ap (λ (s : SeatView). carrying c.args.answer (known s)) told.1
+    ∙ (sub_with c.args.answer (known c.seat.inside.raw.me.0) c.args.word c.fetch_sub-found.result (one_less c.fetch_sub-found.result)
+    ∙ ap (λ (v : Known). known_told (carrying c.args.answer v) act.Sub c.args.word (Some c.fetch_sub-found.result) (Some (one_less c.fetch_sub-found.result))) (ap (λ d. d.known) c.seat.view_is))

@@ -1,6 +1,0 @@
-use Rattle.std.proofs.Common.{arith}
-use Rattle.smp_multi.proofs.Keeps.{splits}
-use Rattle.smp_multi.proofs.seat.next_seat.Goals as goal
-
-pub split_seat-raw-requires : goal.split_seat-raw-requires
-split_seat-raw-requires c = (c.requires.0, omega arith, splits _ _ c.args.n _ c.requires.2 c.requires.3)

@@ -1,0 +1,11 @@
+use Rattle.std.proofs.Common.{◌≡◌}
+use Rattle.smp_stop_steps.specs.Known.{Lives}
+use Rattle.smp_multi.specs.Patches.{stored_to}
+use Rattle.smp_multi.proofs.seat.patch_steps.store_plan.Given as goal
+
+abbrev pub invariant-loop-place : goal.invariant-loop-place
+invariant-loop-place l = record {
+  table : l.seat.table ≡ l.words.table_id;
+  lives : Lives l.seat.known;
+  known : l.seat.known ≡ stored_to l.place-index l.fn.seat.known.seat l.fn.seat.known;
+}

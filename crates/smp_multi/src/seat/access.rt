@@ -1,0 +1,217 @@
+//! A CPU's seat, and the accesses that it makes. No other page names a raw seat or a cell, and none can: what steps is
+//! private here. Steps that store an answer or a label are made by `store_any`; steps that end a stop function, a patch or
+//! a stop by `subtract_with`, which also puts the answer that the CPU carries. Only the pages beside this one see these two.
+
+ghost use Rattle.std.specs.Prelude.{◌≡◌, ℕ, ◌+◌, ◌<◌, ◌==◌, if◌then◌else◌, IfOk, Some, None};
+ghost use Rattle.std.specs.Int.Bits.{bit_and};
+ghost use Rattle.smp_words.specs.Limits.{AreLimits};
+ghost use Rattle.smp_words.specs.Size.{cpus};
+ghost use Rattle.smp_words.specs.Access.{one_less};
+ghost use Rattle.smp_words.specs.declared.access.Access.TheVariants as access;
+ghost use Rattle.smp_words.specs.declared.seen.Act.TheVariants as act;
+ghost use Rattle.smp_stop_steps.specs.Known.{carrying, fresh, Moment, Lives};
+ghost use Rattle.smp_stop_steps.specs.KnownAfter.{known_told, known_entering};
+ghost use Rattle.smp_stop_steps.specs.Moves.{entering};
+ghost use Rattle.smp_multi.specs.declared.seat_view.SeatView.TheVariants.{Maker};
+ghost use Rattle.smp_multi.specs.Cells.{cells};
+ghost use Rattle.smp_multi.specs.Seat.{SeatValue, Able, Ready};
+ghost use Rattle.smp_multi.specs.Plays.{loaded, stored, exchanged, subtracted, masked};
+
+use crate::cell::{FIRST_ENTRY, cell};
+use crate::rule::{NextSeat, Owner, RawSeat, Words};
+use crate::seat_view::SeatView;
+use atomic_table::{Play, Table};
+use smp_stop_steps::known::Setting;
+use smp_words::word::Word;
+use std::alloc::{AllocError, Allocator};
+use std::marker::Model;
+
+/// The seat of one CPU, seen as its table and what the CPU knows.
+#[derive(Drop)]
+pub struct CpuSeat {
+    raw: RawSeat,
+    /// The answer with which the CPU is to complete the stop that it is in, 0 where it carries none.
+    carried: u64,
+}
+
+impl Model for CpuSeat {
+    ghost use Rattle.std.specs.Prelude.{◌≡◌};
+    ghost use Rattle.smp_stop_steps.specs.Known.{carrying};
+    ghost use Rattle.smp_multi.specs.Seat.{SeatValue, IsCpuSeat};
+    ghost use Rattle.smp_multi.specs.Rule.{known};
+
+    ghost Value = { SeatValue };
+
+    ghost view = { λ c. record { table = c.raw.table_id; known = carrying c.carried (known c.raw.me.0) } };
+
+    ghost invariant = { λ c. IsCpuSeat c.raw.me.0 };
+}
+
+impl CpuSeat {
+    /// The answer that the CPU carries.
+    pub(super) fn carried(&self) -> u64
+        ensures { result ≡ self.now.known.carried }
+    {
+        self.carried
+    }
+}
+
+// What each kind of access tells. Only this page plays them.
+
+struct Loaded;
+
+impl Play<(), SeatView> for Loaded {
+    ghost then = { loaded };
+}
+
+struct Stored;
+
+impl Play<(), SeatView> for Stored {
+    ghost then = { stored };
+}
+
+struct Exchanged;
+
+impl Play<(), SeatView> for Exchanged {
+    ghost then = { exchanged };
+}
+
+struct Subtracted;
+
+impl Play<(), SeatView> for Subtracted {
+    ghost then = { subtracted };
+}
+
+struct Masked;
+
+impl Play<(), SeatView> for Masked {
+    ghost then = { masked };
+}
+
+/// The first seat of a table, which makes one for each CPU.
+#[derive(Drop)]
+pub struct SeatMaker {
+    raw: RawSeat,
+}
+
+/// The words of a table with a free gate, free slots, and these labels with all keys off, and the first seat.
+pub(crate) fn lay<A: Allocator>(
+    alloc: A,
+    nr: u32,
+    setting: &Setting,
+) -> Result<(Owner<A>, SeatMaker), AllocError>
+where
+    A: Copy,
+    requires { AreLimits nr setting.now.online }
+    ensures made { IfOk result (λ t. (t.0.shared.table_id.words ≡ cells) × (t.0.shared.table_id.slots ≡ 0) × (t.0.shared.key ≡ setting.now)
+        × (t.1.raw.table_id ≡ t.0.shared.table_id) × (t.1.raw.me.0 ≡ Maker 0 setting.now)) }
+    ensures lives { IfOk result (λ _. (cpu : ℕ) → cpu < cpus → Lives (fresh setting.now cpu)) }
+{
+    let labels = setting.labels.words();
+    let mut words = Vec::from_elem(alloc, 0u64, FIRST_ENTRY)?;
+    words.extend_from_slice(&labels.entries)?;
+    words.extend_from_slice(&labels.sites)?;
+    let (table, raw) = Table::of_words(alloc, words.as_slice(), setting)?;
+    Ok((table, SeatMaker { raw }))
+}
+
+/// A seat for the next CPU.
+pub(crate) fn next_seat(words: &Words, maker: &mut SeatMaker, n: u32) -> CpuSeat
+    requires table { (maker.old.raw.table_id ≡ words.now.table_id) × (words.now.table_id.words ≡ cells) }
+    requires next { (maker.old.raw.me.0 ≡ Maker n words.now.key) × (n < cpus) }
+    ensures maker { (maker.new.raw.table_id ≡ words.now.table_id) × (maker.new.raw.me.0 ≡ Maker (n + 1) words.now.key) }
+    ensures seat { (result.table ≡ words.now.table_id) × (result.known ≡ fresh words.now.key n) }
+{
+    let raw = words.split_seat::<NextSeat>(&mut maker.raw);
+    CpuSeat { raw, carried: 0 }
+}
+
+/// Loads a word.
+#[inline(always)]
+pub(crate) fn load(words: &Words, seat: &mut CpuSeat, word: Word) -> u64
+    requires { Ready words.now.table_id seat.old (access.Load word) }
+    ensures table { seat.new.table ≡ words.now.table_id }
+    ensures lives { Lives seat.new.known }
+    ensures known { seat.new.known ≡ known_told seat.old.known act.Load word (Some result) None }
+    ensures then { Moment seat.old.known word result }
+{
+    words.load::<Loaded>(&mut seat.raw, cell(word))
+}
+
+/// Stores a number in a word, by any step that the CPU may make.
+#[inline(always)]
+pub(super) fn store_any(words: &Words, seat: &mut CpuSeat, word: Word, number: u64)
+    requires { Able words.now.table_id seat.old (access.Store word number) }
+    ensures table { seat.new.table ≡ words.now.table_id }
+    ensures lives { Lives seat.new.known }
+    ensures known { seat.new.known ≡ known_told seat.old.known act.Store word None (Some number) }
+{
+    words.store::<Stored>(&mut seat.raw, cell(word), number);
+}
+
+/// Stores a number in a word, by a step that stores no answer and no label.
+#[inline(always)]
+pub(crate) fn store(words: &Words, seat: &mut CpuSeat, word: Word, number: u64)
+    requires { Ready words.now.table_id seat.old (access.Store word number) }
+    ensures table { seat.new.table ≡ words.now.table_id }
+    ensures lives { Lives seat.new.known }
+    ensures known { seat.new.known ≡ known_told seat.old.known act.Store word None (Some number) }
+{
+    store_any(words, seat, word, number);
+}
+
+/// Puts a number in a word where another is found, and answers what was found.
+#[inline(always)]
+pub(crate) fn exchange(
+    words: &Words,
+    seat: &mut CpuSeat,
+    word: Word,
+    expected: u64,
+    number: u64,
+) -> u64
+    requires { Ready words.now.table_id seat.old (access.Exchange word expected number) }
+    ensures table { seat.new.table ≡ words.now.table_id }
+    ensures lives { Lives seat.new.known }
+    ensures known { seat.new.known ≡ known_told seat.old.known act.Cas word (Some result) (if result == expected then Some number else None) }
+    ensures then { Moment seat.old.known word result }
+{
+    words.compare_exchange::<Exchanged>(&mut seat.raw, cell(word), expected, number)
+}
+
+/// Takes 1 from a word, by any step that the CPU may make, and answers what was found. With this step the CPU carries
+/// this answer.
+#[inline(always)]
+pub(super) fn subtract_with(words: &Words, seat: &mut CpuSeat, word: Word, answer: u64) -> u64
+    requires { Able words.now.table_id seat.old (access.Sub word) }
+    ensures table { seat.new.table ≡ words.now.table_id }
+    ensures lives { Lives seat.new.known }
+    ensures known { seat.new.known ≡ known_told (carrying answer seat.old.known) act.Sub word (Some result) (Some (one_less result)) }
+{
+    let found = words.fetch_sub::<Subtracted>(&mut seat.raw, cell(word), 1);
+    seat.carried = answer;
+    found
+}
+
+/// Takes 1 from a word, by a step that ends no stop function, no patch and no stop, and answers what was found.
+#[inline(always)]
+pub(crate) fn subtract(words: &Words, seat: &mut CpuSeat, word: Word) -> u64
+    requires { Ready words.now.table_id seat.old (access.Sub word) }
+    ensures table { seat.new.table ≡ words.now.table_id }
+    ensures lives { Lives seat.new.known }
+    ensures known { seat.new.known ≡ known_told seat.old.known act.Sub word (Some result) (Some (one_less result)) }
+{
+    words.fetch_sub::<Subtracted>(&mut seat.raw, cell(word), 1)
+}
+
+/// Keeps those bits of a word that this number has, and answers what was found. A CPU that enters a stop learns its
+/// work.
+#[inline(always)]
+pub(crate) fn mask(words: &Words, seat: &mut CpuSeat, word: Word, number: u64) -> u64
+    requires { Ready words.now.table_id seat.old (access.And word number) }
+    ensures table { seat.new.table ≡ words.now.table_id }
+    ensures lives { Lives seat.new.known }
+    ensures known { (t : Moment seat.old.known word result) × (seat.new.known ≡ known_entering (entering t.stops word) seat.old.known act.And word
+        (Some result) (Some (bit_and result number))) }
+{
+    words.fetch_and::<Masked>(&mut seat.raw, cell(word), number)
+}

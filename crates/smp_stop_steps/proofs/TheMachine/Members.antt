@@ -1,0 +1,189 @@
+-- What a begin is refused for, of the members of its masks.
+use Rattle.std.proofs.Common.{◌≡◌, ◌≢◌, ◌⊎◌, ℕ, zero, suc, ◌+◌, ◌<◌, ◌≤◌, ◌^◌, Bool, true, false, ◌==◌, ◌&&◌, not, nat_lt, cond, inl, inr, sym, subst, refl, ap, ◌∙◌}
+use Rattle.std.proofs.Common.{arith, eq-eqb, ne_eqb, lt-ltb, bit_and, Some}
+use Rattle.std.proofs.lemmas.Bool.{cases_eq, cases_lt, ltb-true}
+use Rattle.std.proofs.lemmas.Bool.Decides.{nat_tests}
+use Rattle.smp_mask.proofs.Sets.{has_above, same_members}
+use Rattle.smp_stop_steps.specs.{has, cpus, Kind, One, Multi, Patch, Work, sum_below, bit, mask_weight, first_below, fits_kind, fits_patch, fits_work}
+use Rattle.smp_stop_steps.specs.{begin_refusal, unless}
+use Rattle.smp_stop_steps.specs.Members.{IsAlone, IsPatchOf, HasItsCpus, FitsMembers, RefusesByMembers}
+use Rattle.smp_stop_steps.specs.declared.start.Terms.{Terms}
+use Rattle.smp_stop_steps.proofs.TheMachine.Fits.{both, is_same, of_both, one_bit, some_outside, within}
+use Rattle.smp_stop_steps.proofs.TheMachine.Opened.{first_is}
+use Rattle.smp_stop_steps.specs.error
+
+-- the members of a mask of 32 CPUs are below 32
+member_low : (mask c : ℕ) → mask < 2 ^ 32 → has mask c ≡ true → c < 32
+member_low mask c low is = elim (cases_lt c 32) [
+  | inl below ↦ below
+  | inr above ↦ absurd (let bad : true ≡ false = sym is ∙ has_above 32 mask c low above in cc)
+]
+
+-- how many members there are below k: some, none, or one
+module _ (mask : ℕ) where
+  weight_member : (k : ℕ) → mask_weight k mask ≢ 0 → (c : ℕ) × (c < k) × (has mask c ≡ true)
+  unfolding sum_below
+  weight_member zero some = absurd (some refl)
+  weight_member (suc k) some = go (weight_member k) (has mask k) refl
+    where
+      go : (mask_weight k mask ≢ 0 → (c : ℕ) × (c < k) × (has mask c ≡ true)) → (b : Bool) → has mask k ≡ b
+          → (c : ℕ) × (c < suc k) × (has mask c ≡ true)
+      go before true e = (k, omega arith, e)
+      go before false e =
+          let none : bit (has mask k) ≡ 0 = ap bit e in
+          let m = before (λ z. some (omega (arith, none, z))) in
+          (m.0, (let low = m.1 in omega arith), m.2)
+
+  member_weight : (k c : ℕ) → c < k → has mask c ≡ true → mask_weight k mask ≢ 0
+  unfolding sum_below
+  member_weight zero c low h = λ z. omega arith
+  member_weight (suc k) c low h = elim (cases_eq c k) [
+    | inl same ↦ λ z. let one : bit (has mask k) ≡ 1 = ap bit (ap (has mask) (sym same) ∙ h) in omega arith
+    | inr other ↦ λ z. member_weight k c (omega arith) h (omega arith)
+  ]
+
+  none_below : (k : ℕ) → mask_weight k mask ≡ 0 → (c : ℕ) → c < k → has mask c ≡ false
+  none_below k z c low = go (has mask c) refl
+    where
+      go : (b : Bool) → has mask c ≡ b → b ≡ false
+      go false e = refl
+      go true e = absurd (member_weight k c low e z)
+
+  one_below : (k : ℕ) → mask_weight k mask ≡ 1 → (c : ℕ) × (c < k) × ((d : ℕ) → d < k → has mask d ≡ (d == c))
+  unfolding sum_below
+  one_below zero one = absurd (let bad : 0 ≡ 1 = one in cc)
+  one_below (suc k) one = go (one_below k) (has mask k) refl
+    where
+      at_top : has mask k ≡ true → (d : ℕ) → (d < k) ⊎ (k ≤ d) → d < suc k → has mask d ≡ (d == k)
+      at_top e d (inl below) low =
+          let here : bit (has mask k) ≡ 1 = ap bit e in
+          none_below k (omega (arith, one, here)) d below ∙ sym (ne_eqb d k (λ same. omega (arith, same, below)))
+      at_top e d (inr from) low = let same : d ≡ k = omega arith in ap (has mask) same ∙ (e ∙ sym (eq-eqb d k same))
+
+      below_top : (c : ℕ) → c < k → has mask k ≡ false → ((d : ℕ) → d < k → has mask d ≡ (d == c)) → (d : ℕ) → (d < k) ⊎ (k ≤ d) → d < suc k
+          → has mask d ≡ (d == c)
+      below_top c low e all d (inl below) l = all d below
+      below_top c low e all d (inr from) l =
+          let same : d ≡ k = omega arith in
+          ap (has mask) same ∙ (e ∙ sym (ne_eqb d c (λ z. omega (arith, z, low, same))))
+
+      go : (mask_weight k mask ≡ 1 → (c : ℕ) × (c < k) × ((d : ℕ) → d < k → has mask d ≡ (d == c))) → (b : Bool) → has mask k ≡ b
+          → (c : ℕ) × (c < suc k) × ((d : ℕ) → d < suc k → has mask d ≡ (d == c))
+      go before true e = (k, omega arith, λ d l. at_top e d (cases_lt d k) l)
+      go before false e =
+          let none : bit (has mask k) ≡ 0 = ap bit e in
+          let m = before (omega (arith, one, none)) in
+          (m.0, (let low = m.1 in omega arith), λ d l. below_top m.0 m.1 e m.2 d (cases_lt d k) l)
+
+  alone_weight : (k c : ℕ) → IsAlone mask c → mask_weight k mask ≡ bit (nat_lt c k)
+  unfolding sum_below
+  alone_weight zero c is = grind (arith, nat_tests)
+  alone_weight (suc k) c is = more (is k) (alone_weight k c is)
+    where
+      more : has mask k ≡ (k == c) → mask_weight k mask ≡ bit (nat_lt c k) → bit (has mask k) + mask_weight k mask ≡ bit (nat_lt c (suc k))
+      more here rest = rw (here, rest) (grind (arith, nat_tests))
+
+  -- a mask of 32 CPUs with one member
+  one_alone : mask < 2 ^ 32 → mask_weight 32 mask ≡ 1 → (c : ℕ) × IsAlone mask c
+  one_alone low one =
+      let m = one_below 32 one in (
+        m.0,
+        λ d. elim (cases_lt d 32) [
+          | inl below ↦ m.2 d below
+          | inr above ↦ has_above 32 mask d low above ∙ sym (ne_eqb d m.0 (λ same. let l = m.1 in omega arith))
+        ],
+      )
+
+  alone_one : (c : ℕ) → mask < 2 ^ 32 → IsAlone mask c → mask_weight 32 mask ≡ 1
+  alone_one c low is = let in_range = member_low mask c low (is c ∙ eq-eqb c c refl) in alone_weight 32 c is ∙ ap bit (lt-ltb c 32 in_range)
+
+-- no member comes before the first one
+no_member : {b : Bool} → b ≡ false → b ≡ true → ⊥
+no_member f t = let bad : true ≡ false = sym t ∙ f in cc
+
+pub first_least : (mask k c : ℕ) → c < k → has mask c ≡ true → first_below mask k ≤ c
+unfolding first_below
+first_least mask zero c low member = absurd (omega arith)
+first_least mask (suc k) c low member = go (λ l. first_least mask k c l member) (cases_eq (first_below mask k) k) (cases_eq c k)
+  where
+    go : (c < k → first_below mask k ≤ c) → (first_below mask k ≡ k) ⊎ (first_below mask k ≢ k) → (c ≡ k) ⊎ (c ≢ k) → first_below mask (suc k) ≤ c
+    go before (inl e) (inl d) =
+        let m : has mask k ≡ true = subst (λ n. has mask n ≡ true) d member in
+        rw (eq-eqb (first_below mask k) k e) (rw m (omega arith))
+    go before (inl e) (inr d) = absurd (no_member ((first_is mask k).0 e c (omega arith)) member)
+    go before (inr ne) (inl d) = let s = ((first_is mask k).1 ne).0 in rw (ne_eqb (first_below mask k) k ne) (omega arith)
+    go before (inr ne) (inr d) = let s = before (omega arith) in rw (ne_eqb (first_below mask k) k ne) (omega arith)
+
+-- a begin with these terms, where this CPU is online
+module _ (t : Terms) (work : Work) (low_online : t.online < 2 ^ 32) (low : work.mask < 2 ^ 32) (c : ℕ) (is : has t.online c ≡ true) where
+  abbrev first : ℕ
+  first = first_below t.online cpus
+
+  some_first : first ≢ 32
+  some_first e = no_member ((first_is t.online 32).0 e c (member_low t.online c low_online is)) is
+
+  online_first : has t.online first ≡ true
+  online_first = ((first_is t.online 32).1 some_first).1
+
+  least_first : (d : ℕ) → has t.online d ≡ true → first ≤ d
+  least_first d on = first_least t.online 32 d (member_low t.online d low_online on) on
+
+  patch_of : fits_patch t work ≡ true → IsPatchOf t work
+  patch_of e =
+      let a = both ((work.mask == t.online && work.active == 2 ^ first) && nat_lt work.func t.keys) (nat_lt work.arg 4) e in
+      let b = both (work.mask == t.online && work.active == 2 ^ first) (nat_lt work.func t.keys) a.0 in
+      let m = both (work.mask == t.online) (work.active == 2 ^ first) b.0 in
+      record {
+        all = λ d. ap (λ n. has n d) (is_same work.mask t.online m.0);
+        first = first;
+        online = online_first;
+        least = least_first;
+        runs = λ d. ap (λ n. has n d) (is_same work.active (2 ^ first) m.1) ∙ one_bit first d;
+        key = ltb-true work.func t.keys b.1;
+        change = ltb-true work.arg 4 a.1;
+      }
+
+  of_patch : IsPatchOf t work → fits_patch t work ≡ true
+  of_patch p =
+      let same : p.first ≡ first = (let x = p.least first online_first in let y = least_first p.first p.online in omega arith) in
+      let mask = eq-eqb work.mask t.online (same_members work.mask t.online p.all) in
+      let active = eq-eqb work.active (2 ^ first) (same_members work.active (2 ^ first) (λ d. p.runs d ∙ (ap (λ n. d == n) same ∙ sym (one_bit first d)))) in
+      of_both ((work.mask == t.online && work.active == 2 ^ first) && nat_lt work.func t.keys) (nat_lt work.arg 4)
+      (of_both (work.mask == t.online && work.active == 2 ^ first) (nat_lt work.func t.keys)
+      (of_both (work.mask == t.online) (work.active == 2 ^ first) mask active) (lt-ltb work.func t.keys p.key)) (lt-ltb work.arg 4 p.change)
+
+  kind_of : (k : Kind) → fits_kind t work k ≡ true → HasItsCpus t work k
+  kind_of One e = one_alone work.mask low (is_same (mask_weight 32 work.mask) 1 e)
+  kind_of Multi e = tt
+  kind_of Patch e = patch_of e
+
+  of_kind : (k : Kind) → HasItsCpus t work k → fits_kind t work k ≡ true
+  of_kind One h = eq-eqb (mask_weight 32 work.mask) 1 (alone_one work.mask h.0 low h.1)
+  of_kind Multi h = refl
+  of_kind Patch h = of_patch h
+
+  members_of : t.holds_gate ≡ true → fits_work t work ≡ true → FitsMembers t work
+  members_of holds e =
+      let b = both (not (mask_weight cpus work.mask == 0)) (fits_kind t work work.kind) e in
+      let some = weight_member work.mask 32 (λ z. no_member (ap not (eq-eqb (mask_weight cpus work.mask) 0 z)) b.0) in
+      record { holds = holds; some = (some.0, some.2); kind = kind_of work.kind b.1 }
+
+  of_members : FitsMembers t work → fits_work t work ≡ true
+  of_members f =
+      let some = member_weight work.mask 32 f.some.0 (member_low work.mask f.some.0 low f.some.1) f.some.1 in
+      of_both (not (mask_weight cpus work.mask == 0)) (fits_kind t work work.kind) (ap not (ne_eqb (mask_weight cpus work.mask) 0 some))
+      (of_kind work.kind f.kind)
+
+  pub refuses_members : (is_open : Bool) → RefusesByMembers t work is_open (begin_refusal t work is_open)
+  refuses_members true = refl
+  refuses_members false = go (t.holds_gate && fits_work t work) refl (bit_and work.mask t.online == work.mask) refl
+    where
+      go : (b : Bool) → (t.holds_gate && fits_work t work) ≡ b → (d : Bool) → (bit_and work.mask t.online == work.mask) ≡ d
+          → RefusesByMembers t work false (cond b (unless d error.NoStopper) (Some error.BadArgument))
+      go false e d f = (refl, λ m. no_member e (of_both t.holds_gate (fits_work t work) m.holds (of_members m)))
+      go true e true f =
+          let b = both t.holds_gate (fits_work t work) e in
+          (refl, members_of b.0 b.1, within work.mask t.online (is_same (bit_and work.mask t.online) work.mask f))
+      go true e false f =
+          let b = both t.holds_gate (fits_work t work) e in
+          (refl, members_of b.0 b.1, some_outside work.mask t.online (λ same. no_member f (eq-eqb (bit_and work.mask t.online) work.mask same)))
