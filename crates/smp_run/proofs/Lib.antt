@@ -12,6 +12,8 @@ mod Readings
 mod Staying
 mod Calling
 mod Refusals
+-- what calls send
+mod Sending
 -- lines of a run
 mod Lines
 -- how a run ends

@@ -1,5 +1,7 @@
 -- what lines answer
 pub mod Answers
+-- which calls they ask for
+pub mod Sent
 -- a CPU between two lines
 pub mod Seats
 pub mod Players

@@ -1,6 +1,6 @@
 //! What a CPU calls, and what is answered.
 
-ghost use Rattle.std.specs.Prelude.{◌≡◌, ◌≤◌, ◌&&◌, true, false, IfSome};
+ghost use Rattle.std.specs.Prelude.{◌≡◌, ◌≤◌, ◌&&◌, true, false, [], IfSome, MatchOption};
 ghost use Rattle.smp_mask.specs.declared.error.Edge.TheVariants.{Full, Zero};
 ghost use Rattle.smp_calls.specs.Targets.{is_target};
 ghost use Rattle.smp_script.specs.Spelling.{RequestFits};
@@ -8,6 +8,7 @@ ghost use Rattle.smp_run.specs.Answers.{IsAnswer, IsAnyAnswer, IsCount, IsCpus, 
 ghost use Rattle.smp_run.specs.Answers.{answer_of, call_refusal, key_refusal, one_refusal, two_refusal, says as says_of};
 ghost use Rattle.smp_run.specs.Players.{IsSame};
 ghost use Rattle.smp_run.specs.Seats.{keys_at};
+ghost use Rattle.smp_run.specs.Sent.{HasSent, request_calls};
 
 use crate::answer::Answer;
 use crate::pace::Pace;
@@ -74,9 +75,10 @@ fn turned_or(made: Result<bool, SmpError>) -> Answer
 
 impl<'a, P: Pace> Player<'a, P> {
     /// A poll of the machine: the CPU handles its own interrupt, and takes part in a stop that calls it.
-    #[tactic(auto, using(crate::proofs::Staying::seated_worked, crate::proofs::Staying::number_worked))]
+    #[tactic(auto, using(crate::proofs::Staying::seated_worked, crate::proofs::Staying::number_worked, crate::proofs::Staying::sent_worked))]
     pub(crate) fn poll<R: Wait>(&mut self, rt: &R)
-        ensures { IsSame self.old self.new }
+        ensures same { IsSame self.old self.new }
+        ensures sent { HasSent [] self.old.cpu self.new.cpu }
     {
         self.machine
             .poll(rt, &mut self.cpu, &mut self.functions, &mut self.echo);
@@ -86,6 +88,7 @@ impl<'a, P: Pace> Player<'a, P> {
     fn single<R: Wait>(&mut self, rt: &R, wait: bool, dst: u32, func: u16, info: u64) -> Answer
         ensures same { IsSame self.old self.new }
         ensures answer { IsRefusedOr (call_refusal self.old.machine.now.calls.online dst) IsDone result }
+        ensures sent { HasSent (request_calls self.old.machine.now.calls.online self.old.cpu.calls.number (Request.Single wait dst func info)) self.old.cpu self.new.cpu }
     {
         let (cpu, functions) = (&mut self.cpu, &mut self.functions);
         let made = self
@@ -95,7 +98,7 @@ impl<'a, P: Pace> Player<'a, P> {
     }
 
     /// One call by a record of the user; none where the record is busy.
-    #[tactic(auto, using(crate::proofs::Staying::seated_called, crate::proofs::Calling::call_made, crate::proofs::Calling::user_refused))]
+    #[tactic(auto, using(crate::proofs::Staying::seated_called, crate::proofs::Calling::call_made, crate::proofs::Calling::user_refused, crate::proofs::Sending::user_sent, crate::proofs::Sending::sent_none))]
     fn try_user<R: Wait>(
         &mut self,
         rt: &R,
@@ -107,6 +110,8 @@ impl<'a, P: Pace> Player<'a, P> {
         requires { u ≤ 1 }
         ensures same { IsSame self.old self.new }
         ensures answer { IfSome result (IsRefusedOr (call_refusal self.old.machine.now.calls.online dst) IsDone) }
+        ensures sent { MatchOption result (HasSent [] self.old.cpu self.new.cpu)
+            (λ _. HasSent (request_calls self.old.machine.now.calls.online self.old.cpu.calls.number (Request.User u dst func info)) self.old.cpu self.new.cpu) }
     {
         let (cpu, functions) = (&mut self.cpu, &mut self.functions);
         match self
@@ -124,6 +129,7 @@ impl<'a, P: Pace> Player<'a, P> {
         requires { u ≤ 1 }
         ensures same { IsSame self.old self.new }
         ensures answer { IsRefusedOr (call_refusal self.old.machine.now.calls.online dst) IsDone result }
+        ensures sent { HasSent (request_calls self.old.machine.now.calls.online self.old.cpu.calls.number (Request.User u dst func info)) self.old.cpu self.new.cpu }
     {
         let backoff = Backoff::new();
         for _ in rt.forever() {
@@ -140,7 +146,9 @@ impl<'a, P: Pace> Player<'a, P> {
     fn any<R: Wait>(&mut self, rt: &R, wait: bool, mask: CpuMask, func: u16, info: u64) -> Answer
         ensures same { IsSame self.old self.new }
         ensures answer { IsAnyAnswer mask self.old.machine.now.calls.online self.old.cpu.calls.number result }
+        ensures sent { HasSent (request_calls self.old.machine.now.calls.online self.old.cpu.calls.number (Request.Any wait mask func info)) self.old.cpu self.new.cpu }
     {
+        let _online = self.machine.online();
         let (cpu, functions) = (&mut self.cpu, &mut self.functions);
         let made = self
             .machine
@@ -152,6 +160,7 @@ impl<'a, P: Pace> Player<'a, P> {
     fn many<R: Wait>(&mut self, rt: &R, wait: bool, mask: CpuMask, func: u16, info: u64) -> Answer
         ensures same { IsSame self.old self.new }
         ensures answer { IsCpus (is_target mask self.old.machine.now.calls.online self.old.cpu.calls.number false) result }
+        ensures sent { HasSent (request_calls self.old.machine.now.calls.online self.old.cpu.calls.number (Request.Many wait mask func info)) self.old.cpu self.new.cpu }
     {
         let (cpu, functions) = (&mut self.cpu, &mut self.functions);
         let made = self
@@ -172,6 +181,7 @@ impl<'a, P: Pace> Player<'a, P> {
     ) -> Answer
         ensures same { IsSame self.old self.new }
         ensures answer { IsCpus (λ c. is_target mask self.old.machine.now.calls.online self.old.cpu.calls.number true c && says_of which c) result }
+        ensures sent { HasSent (request_calls self.old.machine.now.calls.online self.old.cpu.calls.number (Request.Cond which wait mask func info)) self.old.cpu self.new.cpu }
     {
         let asked = |cpu: u32, _info: u64| -> bool
             ensures { result ≡ says_of which cpu }
@@ -187,6 +197,7 @@ impl<'a, P: Pace> Player<'a, P> {
     fn one<R: Wait>(&mut self, rt: &R, dst: u32, func: u16, arg: u64) -> Answer
         ensures same { IsSame self.old self.new }
         ensures answer { IsRefusedOr (one_refusal self.old.machine.now.calls.online dst) IsNumber result }
+        ensures sent { HasSent [] self.old.cpu self.new.cpu }
     {
         let _online = self.machine.online();
         let (cpu, functions, echo) = (&mut self.cpu, &mut self.functions, &mut self.echo);
@@ -200,6 +211,7 @@ impl<'a, P: Pace> Player<'a, P> {
     fn two<R: Wait>(&mut self, rt: &R, a: u32, b: u32, func: u16, arg: u64) -> Answer
         ensures same { IsSame self.old self.new }
         ensures answer { IsRefusedOr (two_refusal self.old.machine.now.calls.online a b) IsNumber result }
+        ensures sent { HasSent [] self.old.cpu self.new.cpu }
     {
         let _online = self.machine.online();
         let (cpu, functions, echo) = (&mut self.cpu, &mut self.functions, &mut self.echo);
@@ -213,6 +225,7 @@ impl<'a, P: Pace> Player<'a, P> {
     fn stop_all<R: Wait>(&mut self, rt: &R, active: Option<CpuMask>, func: u16, arg: u64) -> Answer
         ensures same { IsSame self.old self.new }
         ensures answer { IsNumber result }
+        ensures sent { HasSent [] self.old.cpu self.new.cpu }
     {
         let (cpu, functions, echo) = (&mut self.cpu, &mut self.functions, &mut self.echo);
         let made = self
@@ -225,6 +238,7 @@ impl<'a, P: Pace> Player<'a, P> {
     fn set<R: Wait>(&mut self, rt: &R, k: u32, on: bool) -> Answer
         ensures same { IsSame self.old self.new }
         ensures answer { IsRefusedOr (key_refusal (keys_at self.old.machine.now) k) IsTruth result }
+        ensures sent { HasSent [] self.old.cpu self.new.cpu }
     {
         let (cpu, functions, echo) = (&mut self.cpu, &mut self.functions, &mut self.echo);
         let made = self.machine.set_key(rt, cpu, functions, echo, k, on);
@@ -235,6 +249,7 @@ impl<'a, P: Pace> Player<'a, P> {
     fn inc<R: Wait>(&mut self, rt: &R, k: u32) -> Answer
         ensures same { IsSame self.old self.new }
         ensures answer { IsRefusedOr (key_refusal (keys_at self.old.machine.now) k) (IsCount Full) result }
+        ensures sent { HasSent [] self.old.cpu self.new.cpu }
     {
         let (cpu, functions, echo) = (&mut self.cpu, &mut self.functions, &mut self.echo);
         let made = self.machine.key_inc(rt, cpu, functions, echo, k);
@@ -245,6 +260,7 @@ impl<'a, P: Pace> Player<'a, P> {
     fn dec<R: Wait>(&mut self, rt: &R, k: u32) -> Answer
         ensures same { IsSame self.old self.new }
         ensures answer { IsRefusedOr (key_refusal (keys_at self.old.machine.now) k) (IsCount Zero) result }
+        ensures sent { HasSent [] self.old.cpu self.new.cpu }
     {
         let (cpu, functions, echo) = (&mut self.cpu, &mut self.functions, &mut self.echo);
         let made = self.machine.key_dec(rt, cpu, functions, echo, k);
@@ -256,6 +272,7 @@ impl<'a, P: Pace> Player<'a, P> {
         requires { RequestFits request }
         ensures same { IsSame self.old self.new }
         ensures answer { IsAnswer self.old.machine.now.calls.online (keys_at self.old.machine.now) self.old.cpu.calls.number request result }
+        ensures sent { HasSent (request_calls self.old.machine.now.calls.online self.old.cpu.calls.number request) self.old.cpu self.new.cpu }
     {
         match request {
             Request::Single(wait, dst, func, info) => self.single(rt, wait, dst, func, info),

@@ -1,5 +1,6 @@
 //! A CPU at its machine.
 
+ghost use Rattle.std.specs.Prelude.{◌≡◌};
 ghost use Rattle.smp_run.specs.Seats.{IsSeated};
 
 use crate::pace::{Echo, Pace, Paced};
@@ -14,4 +15,28 @@ pub(crate) struct Player<'a, P: Pace> {
     pub(crate) functions: Paced<'a, P>,
     pub(crate) echo: Echo,
     ghost own: { IsSeated machine.now cpu },
+}
+
+impl<'a, P: Pace> Player<'a, P> {
+    /// This CPU at its machine.
+    pub(crate) fn new(
+        machine: &'a Machine<Global>,
+        pace: &'a P,
+        cpu: Cpu<Global>,
+    ) -> Player<'a, P>
+        requires { IsSeated machine.now cpu }
+        ensures machine { result.machine.now ≡ machine.now }
+        ensures cpu { result.cpu ≡ cpu }
+    {
+        let functions = Paced {
+            pace,
+            cpu: cpu.number(),
+        };
+        Player {
+            machine,
+            cpu,
+            functions,
+            echo: Echo,
+        }
+    }
 }
