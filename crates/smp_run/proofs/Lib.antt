@@ -12,8 +12,9 @@ mod Readings
 mod Staying
 mod Calling
 mod Refusals
--- what calls send
+-- what calls send, and which stops they make
 mod Sending
+mod Making
 -- lines of a run
 mod Lines
 -- how a run ends

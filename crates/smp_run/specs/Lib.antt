@@ -4,6 +4,8 @@ pub mod Answers
 pub mod Sent
 -- a CPU between two lines
 pub mod Seats
+-- which stops its lines ask for
+pub mod Made
 pub mod Players
 -- what threads are given and give back
 pub mod Driven

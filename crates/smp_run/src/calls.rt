@@ -7,6 +7,7 @@ ghost use Rattle.smp_script.specs.Spelling.{RequestFits};
 ghost use Rattle.smp_run.specs.Answers.{IsAnswer, IsAnyAnswer, IsCount, IsCpus, IsDone, IsNumber, IsRefusedOr, IsTruth};
 ghost use Rattle.smp_run.specs.Answers.{answer_of, call_refusal, key_refusal, one_refusal, two_refusal, says as says_of};
 ghost use Rattle.smp_run.specs.Players.{IsSame};
+ghost use Rattle.smp_run.specs.Made.{HasMade, Makes};
 ghost use Rattle.smp_run.specs.Seats.{keys_at};
 ghost use Rattle.smp_run.specs.Sent.{HasSent, request_calls};
 
@@ -75,20 +76,22 @@ fn turned_or(made: Result<bool, SmpError>) -> Answer
 
 impl<'a, P: Pace> Player<'a, P> {
     /// A poll of the machine: the CPU handles its own interrupt, and takes part in a stop that calls it.
-    #[tactic(auto, using(crate::proofs::Staying::seated_worked, crate::proofs::Staying::number_worked, crate::proofs::Staying::sent_worked))]
+    #[tactic(auto, using(crate::proofs::Staying::seated_worked, crate::proofs::Staying::number_worked, crate::proofs::Staying::sent_worked, crate::proofs::Making::made_polled))]
     pub(crate) fn poll<R: Wait>(&mut self, rt: &R)
         ensures same { IsSame self.old self.new }
         ensures sent { HasSent [] self.old.cpu self.new.cpu }
+        ensures stops { HasMade [] self.old.cpu self.new.cpu }
     {
         self.machine
             .poll(rt, &mut self.cpu, &mut self.functions, &mut self.echo);
     }
 
-    #[tactic(auto, using(crate::proofs::Staying::seated_called, crate::proofs::Calling::single_answered))]
+    #[tactic(auto, using(crate::proofs::Staying::seated_called, crate::proofs::Calling::single_answered, crate::proofs::Making::made_called))]
     fn single<R: Wait>(&mut self, rt: &R, wait: bool, dst: u32, func: u16, info: u64) -> Answer
         ensures same { IsSame self.old self.new }
         ensures answer { IsRefusedOr (call_refusal self.old.machine.now.calls.online dst) IsDone result }
         ensures sent { HasSent (request_calls self.old.machine.now.calls.online self.old.cpu.calls.number (Request.Single wait dst func info)) self.old.cpu self.new.cpu }
+        ensures stops { HasMade [] self.old.cpu self.new.cpu }
     {
         let (cpu, functions) = (&mut self.cpu, &mut self.functions);
         let made = self
@@ -98,7 +101,7 @@ impl<'a, P: Pace> Player<'a, P> {
     }
 
     /// One call by a record of the user; none where the record is busy.
-    #[tactic(auto, using(crate::proofs::Staying::seated_called, crate::proofs::Calling::call_made, crate::proofs::Calling::user_refused, crate::proofs::Sending::user_sent, crate::proofs::Sending::sent_none))]
+    #[tactic(auto, using(crate::proofs::Staying::seated_called, crate::proofs::Calling::call_made, crate::proofs::Calling::user_refused, crate::proofs::Sending::user_sent, crate::proofs::Sending::sent_none, crate::proofs::Making::made_called))]
     fn try_user<R: Wait>(
         &mut self,
         rt: &R,
@@ -112,6 +115,7 @@ impl<'a, P: Pace> Player<'a, P> {
         ensures answer { IfSome result (IsRefusedOr (call_refusal self.old.machine.now.calls.online dst) IsDone) }
         ensures sent { MatchOption result (HasSent [] self.old.cpu self.new.cpu)
             (λ _. HasSent (request_calls self.old.machine.now.calls.online self.old.cpu.calls.number (Request.User u dst func info)) self.old.cpu self.new.cpu) }
+        ensures stops { HasMade [] self.old.cpu self.new.cpu }
     {
         let (cpu, functions) = (&mut self.cpu, &mut self.functions);
         match self
@@ -130,6 +134,7 @@ impl<'a, P: Pace> Player<'a, P> {
         ensures same { IsSame self.old self.new }
         ensures answer { IsRefusedOr (call_refusal self.old.machine.now.calls.online dst) IsDone result }
         ensures sent { HasSent (request_calls self.old.machine.now.calls.online self.old.cpu.calls.number (Request.User u dst func info)) self.old.cpu self.new.cpu }
+        ensures stops { HasMade [] self.old.cpu self.new.cpu }
     {
         let backoff = Backoff::new();
         for _ in rt.forever() {
@@ -142,11 +147,12 @@ impl<'a, P: Pace> Player<'a, P> {
         unreachable!()
     }
 
-    #[tactic(auto, using(crate::proofs::Staying::seated_called, crate::proofs::Calling::any_answered))]
+    #[tactic(auto, using(crate::proofs::Staying::seated_called, crate::proofs::Calling::any_answered, crate::proofs::Making::made_called))]
     fn any<R: Wait>(&mut self, rt: &R, wait: bool, mask: CpuMask, func: u16, info: u64) -> Answer
         ensures same { IsSame self.old self.new }
         ensures answer { IsAnyAnswer mask self.old.machine.now.calls.online self.old.cpu.calls.number result }
         ensures sent { HasSent (request_calls self.old.machine.now.calls.online self.old.cpu.calls.number (Request.Any wait mask func info)) self.old.cpu self.new.cpu }
+        ensures stops { HasMade [] self.old.cpu self.new.cpu }
     {
         let _online = self.machine.online();
         let (cpu, functions) = (&mut self.cpu, &mut self.functions);
@@ -156,11 +162,12 @@ impl<'a, P: Pace> Player<'a, P> {
         cpu_or(made)
     }
 
-    #[tactic(auto, using(crate::proofs::Staying::seated_called, crate::proofs::Calling::many_answered))]
+    #[tactic(auto, using(crate::proofs::Staying::seated_called, crate::proofs::Calling::many_answered, crate::proofs::Making::made_called))]
     fn many<R: Wait>(&mut self, rt: &R, wait: bool, mask: CpuMask, func: u16, info: u64) -> Answer
         ensures same { IsSame self.old self.new }
         ensures answer { IsCpus (is_target mask self.old.machine.now.calls.online self.old.cpu.calls.number false) result }
         ensures sent { HasSent (request_calls self.old.machine.now.calls.online self.old.cpu.calls.number (Request.Many wait mask func info)) self.old.cpu self.new.cpu }
+        ensures stops { HasMade [] self.old.cpu self.new.cpu }
     {
         let (cpu, functions) = (&mut self.cpu, &mut self.functions);
         let made = self
@@ -169,7 +176,7 @@ impl<'a, P: Pace> Player<'a, P> {
         cpus_or(made)
     }
 
-    #[tactic(auto, using(crate::proofs::Staying::seated_called, crate::proofs::Calling::cond_answered))]
+    #[tactic(auto, using(crate::proofs::Staying::seated_called, crate::proofs::Calling::cond_answered, crate::proofs::Making::made_called))]
     fn cond<R: Wait>(
         &mut self,
         rt: &R,
@@ -182,6 +189,7 @@ impl<'a, P: Pace> Player<'a, P> {
         ensures same { IsSame self.old self.new }
         ensures answer { IsCpus (λ c. is_target mask self.old.machine.now.calls.online self.old.cpu.calls.number true c && says_of which c) result }
         ensures sent { HasSent (request_calls self.old.machine.now.calls.online self.old.cpu.calls.number (Request.Cond which wait mask func info)) self.old.cpu self.new.cpu }
+        ensures stops { HasMade [] self.old.cpu self.new.cpu }
     {
         let asked = |cpu: u32, _info: u64| -> bool
             ensures { result ≡ says_of which cpu }
@@ -198,6 +206,7 @@ impl<'a, P: Pace> Player<'a, P> {
         ensures same { IsSame self.old self.new }
         ensures answer { IsRefusedOr (one_refusal self.old.machine.now.calls.online dst) IsNumber result }
         ensures sent { HasSent [] self.old.cpu self.new.cpu }
+        ensures made { Makes self.old.machine.now.stops (Request.One dst func arg) result self.old.cpu self.new.cpu }
     {
         let _online = self.machine.online();
         let (cpu, functions, echo) = (&mut self.cpu, &mut self.functions, &mut self.echo);
@@ -212,6 +221,7 @@ impl<'a, P: Pace> Player<'a, P> {
         ensures same { IsSame self.old self.new }
         ensures answer { IsRefusedOr (two_refusal self.old.machine.now.calls.online a b) IsNumber result }
         ensures sent { HasSent [] self.old.cpu self.new.cpu }
+        ensures made { Makes self.old.machine.now.stops (Request.Two a b func arg) result self.old.cpu self.new.cpu }
     {
         let _online = self.machine.online();
         let (cpu, functions, echo) = (&mut self.cpu, &mut self.functions, &mut self.echo);
@@ -226,6 +236,7 @@ impl<'a, P: Pace> Player<'a, P> {
         ensures same { IsSame self.old self.new }
         ensures answer { IsNumber result }
         ensures sent { HasSent [] self.old.cpu self.new.cpu }
+        ensures made { Makes self.old.machine.now.stops (Request.Machine active func arg) result self.old.cpu self.new.cpu }
     {
         let (cpu, functions, echo) = (&mut self.cpu, &mut self.functions, &mut self.echo);
         let made = self
@@ -239,6 +250,7 @@ impl<'a, P: Pace> Player<'a, P> {
         ensures same { IsSame self.old self.new }
         ensures answer { IsRefusedOr (key_refusal (keys_at self.old.machine.now) k) IsTruth result }
         ensures sent { HasSent [] self.old.cpu self.new.cpu }
+        ensures made { Makes self.old.machine.now.stops (Request.Set k on) result self.old.cpu self.new.cpu }
     {
         let (cpu, functions, echo) = (&mut self.cpu, &mut self.functions, &mut self.echo);
         let made = self.machine.set_key(rt, cpu, functions, echo, k, on);
@@ -250,6 +262,7 @@ impl<'a, P: Pace> Player<'a, P> {
         ensures same { IsSame self.old self.new }
         ensures answer { IsRefusedOr (key_refusal (keys_at self.old.machine.now) k) (IsCount Full) result }
         ensures sent { HasSent [] self.old.cpu self.new.cpu }
+        ensures made { Makes self.old.machine.now.stops (Request.Inc k) result self.old.cpu self.new.cpu }
     {
         let (cpu, functions, echo) = (&mut self.cpu, &mut self.functions, &mut self.echo);
         let made = self.machine.key_inc(rt, cpu, functions, echo, k);
@@ -261,6 +274,7 @@ impl<'a, P: Pace> Player<'a, P> {
         ensures same { IsSame self.old self.new }
         ensures answer { IsRefusedOr (key_refusal (keys_at self.old.machine.now) k) (IsCount Zero) result }
         ensures sent { HasSent [] self.old.cpu self.new.cpu }
+        ensures made { Makes self.old.machine.now.stops (Request.Dec k) result self.old.cpu self.new.cpu }
     {
         let (cpu, functions, echo) = (&mut self.cpu, &mut self.functions, &mut self.echo);
         let made = self.machine.key_dec(rt, cpu, functions, echo, k);
@@ -273,6 +287,7 @@ impl<'a, P: Pace> Player<'a, P> {
         ensures same { IsSame self.old self.new }
         ensures answer { IsAnswer self.old.machine.now.calls.online (keys_at self.old.machine.now) self.old.cpu.calls.number request result }
         ensures sent { HasSent (request_calls self.old.machine.now.calls.online self.old.cpu.calls.number request) self.old.cpu self.new.cpu }
+        ensures made { Makes self.old.machine.now.stops request result self.old.cpu self.new.cpu }
     {
         match request {
             Request::Single(wait, dst, func, info) => self.single(rt, wait, dst, func, info),

@@ -1,9 +1,10 @@
 //! What the thread of one CPU does.
 
-ghost use Rattle.std.specs.Prelude.{◌≡◌, ◌<◌, ◌≤◌, [], length};
+ghost use Rattle.std.specs.Prelude.{◌≡◌, ◌<◌, ◌≤◌, List, [], length};
 ghost use Rattle.smp_script.specs.Spelling.{RequestFits};
 ghost use Rattle.smp_run.specs.Answers.{Answered, IsAnswer, IsLineAnswer, cpu_of};
 ghost use Rattle.smp_run.specs.Driven.{IsDriven, IsReady};
+ghost use Rattle.smp_run.specs.Made.{AreMakings, HasMade, HasPlayed, IsLineMade, Making, stops_of};
 ghost use Rattle.smp_run.specs.Players.{IsSame};
 ghost use Rattle.smp_run.specs.Seats.{AreLines, IsRunLine, keys_at};
 ghost use Rattle.smp_run.specs.Sent.{HasSent, line_calls, repeated, request_calls, script_calls};
@@ -35,6 +36,8 @@ impl<'a, P: Pace> Player<'a, P> {
         ensures answer { IsAnswer self.old.machine.now.calls.online (keys_at self.old.machine.now) self.old.cpu.calls.number request.now result }
         ensures sent { HasSent (repeated count (request_calls self.old.machine.now.calls.online self.old.cpu.calls.number request.now))
             self.old.cpu self.new.cpu }
+        ensures made { (makings : List Making) × AreMakings self.old.machine.now self.old.cpu.calls.number request.now count result makings
+            × HasMade (stops_of makings) self.old.cpu self.new.cpu }
     {
         for _made in 1..count {
             self.make(rt, *request);
@@ -49,6 +52,8 @@ impl<'a, P: Pace> Player<'a, P> {
         ensures answered { cpu_of line.now ≡ self.old.cpu.calls.number →
             IsLineAnswer self.old.machine.now.calls.online (keys_at self.old.machine.now) line.now answer.new }
         ensures sent { HasSent (line_calls self.old.machine.now.calls.online self.old.cpu.calls.number line.now) self.old.cpu self.new.cpu }
+        ensures made { (makings : List Making) × IsLineMade self.old.machine.now self.old.cpu.calls.number line.now answer.new makings
+            × HasMade (stops_of makings) self.old.cpu self.new.cpu }
     {
         match line {
             Directive::Do(cpu, count, request) if *cpu == self.cpu.number() => {
@@ -67,6 +72,7 @@ impl<'a, P: Pace> Player<'a, P> {
         ensures answered { Answered self.old.machine.now.calls.online (keys_at self.old.machine.now)
             (λ c. c ≡ self.old.cpu.calls.number) lines.now answers.new }
         ensures sent { HasSent (script_calls self.old.machine.now.calls.online self.old.cpu.calls.number lines.now) self.old.cpu self.new.cpu }
+        ensures played { HasPlayed self.old.machine.now lines.now answers.new self.old.cpu self.new.cpu }
     {
         for at in 0..lines.len() {
             self.answer_if(rt, &lines[at], &mut answers[at]);
@@ -77,6 +83,7 @@ impl<'a, P: Pace> Player<'a, P> {
     fn poll_until<R: Wait>(&mut self, rt: &R, start: &StartLine)
         ensures same { IsSame self.old self.new }
         ensures sent { HasSent [] self.old.cpu self.new.cpu }
+        ensures stops { HasMade [] self.old.cpu self.new.cpu }
     {
         if !self.functions.pace.polls(self.cpu.number()) {
             return;
@@ -114,6 +121,8 @@ pub fn play<R: Wait, P: Pace>(
     ensures answered { Answered machine.now.calls.online (keys_at machine.now) (λ c. c ≡ seat.cpu.calls.number) lines.now result.answers.items }
     // It has sent what its lines ask for, and nothing else.
     ensures sent { HasSent (script_calls machine.now.calls.online seat.cpu.calls.number lines.now) seat.cpu result.cpu }
+    // It has made the stops of each repetition, and no others; the last repetition's answer is told.
+    ensures played { HasPlayed machine.now lines.now result.answers.items seat.cpu result.cpu }
 {
     let Seat { cpu, mut answers } = seat;
     let mut player = Player::new(machine, pace, cpu);
