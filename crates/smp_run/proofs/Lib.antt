@@ -17,5 +17,7 @@ mod Sending
 mod Making
 -- lines of a run
 mod Lines
+-- what a CPU has done in a run
+mod Running
 -- how a run ends
 mod Endings

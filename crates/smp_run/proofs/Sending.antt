@@ -48,7 +48,7 @@ sent_nothing : (old new : PlaceValue) → new.calls.part.sent ≡ old.calls.part
 sent_nothing old new e = sent_none old new (e ∙ append-nil old.calls.part.sent)
 
 -- the same calls by another name
-sent_as : (xs ys : List Sent) (old new : PlaceValue) → xs ≡ ys → HasSent xs old new → HasSent ys old new
+pub sent_as : (xs ys : List Sent) (old new : PlaceValue) → xs ≡ ys → HasSent xs old new → HasSent ys old new
 sent_as xs ys old new e s = subst (λ (l : List Sent). HasSent l old new) e s
 
 -- these calls, and then those

@@ -3,7 +3,7 @@
 ghost use Rattle.std.specs.Prelude.{◌≡◌, ◌<◌, ◌≤◌, List, [], length};
 ghost use Rattle.smp_script.specs.Spelling.{RequestFits};
 ghost use Rattle.smp_run.specs.Answers.{Answered, IsAnswer, IsLineAnswer, cpu_of};
-ghost use Rattle.smp_run.specs.Driven.{IsDriven, IsReady};
+ghost use Rattle.smp_run.specs.Driven.{IsDriven, IsNew, IsReady};
 ghost use Rattle.smp_run.specs.Made.{AreMakings, HasMade, HasPlayed, IsLineMade, Making, stops_of};
 ghost use Rattle.smp_run.specs.Players.{IsSame};
 ghost use Rattle.smp_run.specs.Seats.{AreLines, IsRunLine, keys_at};
@@ -142,7 +142,7 @@ pub(crate) fn drive<R: Wait, P: Pace>(
     seat: Seat,
 ) -> Option<Seat>
     requires lawful { AreLines machine.now.calls.online lines.now }
-    requires ready { IsReady machine.now lines.now seat }
+    requires new { IsNew machine.now lines.now seat }
     ensures { IsDriven machine.now lines.now seat.cpu.calls.number result }
 {
     if !start.wait(rt) {
