@@ -1,5 +1,5 @@
 -- What calls of a CPU make of its stops.
-use Rattle.std.proofs.Common.{◌≡◌, ◌≢◌, ◌⊎◌, ℕ, ℤ, pos, suc, ◌+◌, ◌<◌, Bool, true, false, None, inl, inr, Result, Ok, Err, IfOk, IfErr, List, [], ◌∷◌, ◌++◌}
+use Rattle.std.proofs.Common.{◌≡◌, ◌≢◌, ℕ, ℤ, pos, ◌+◌, ◌<◌, Bool, true, false, inl, inr, Result, Ok, Err, IfOk, IfErr, List, [], ◌∷◌, ◌++◌}
 use Rattle.std.proofs.Common.{length, map, slice_index_or, slice_set, append_assoc, refl, sym, ap, subst, ◌∙◌, arith}
 use Rattle.std.specs.List.{AllByRecursion, flat_map}
 use Rattle.std.proofs.lemmas.Bool.{cases_eq}
@@ -12,7 +12,7 @@ use Rattle.smp_multi.specs.Names.{Work}
 use Rattle.smp_multi.specs.declared.func.Called.{Called}
 use Rattle.smp_machine.specs.Calls.{KeepsStops}
 use Rattle.smp_machine.specs.Counts.{CountsOr, PatchesByOne, step_of}
-use Rattle.smp_machine.specs.Keys.{IsPatchOf, Sets, state_of}
+use Rattle.smp_machine.specs.Keys.{IsPatchOf, Sets}
 use Rattle.smp_machine.specs.Own.{Own, own_of}
 use Rattle.smp_machine.specs.Place.{MachineValue, PlaceValue}
 use Rattle.smp_machine.specs.Stops.{HasStopped, RefusedStill}
@@ -25,7 +25,7 @@ use Rattle.smp_run.specs.Answers.{IsAnswer, answer_of}
 use Rattle.smp_run.specs.Made.{Stop, Making, HasMade, IsOneStop, IsStopOf, IsStopOfCount, Makes, IsMaking, IsLineMade, AreLinesMade, stops_of}
 use Rattle.smp_run.specs.Seats.{keys_at}
 use Rattle.smp_run.specs.declared.answer.Answer.{Answer}
-use Rattle.smp_run.specs.declared.answer.Answer.TheVariants.{Number, Turned, Refused}
+use Rattle.smp_run.specs.declared.answer.Answer.TheVariants.{Number, Turned}
 
 -- no stop was begun, and none collected
 made_none : (old new : PlaceValue) → new.stops.part.begun ≡ old.stops.part.begun → new.stops.part.collected ≡ old.stops.part.collected → HasMade [] old new
@@ -96,9 +96,11 @@ module _ {H F : Type 0} (hears : H → Heard → H → Type 0) (runs : F → Cal
       → Says answer → PatchesByOne hears runs t k up old h f new h' f' answer
       → (stops : List Stop) × IsOneStop (IsPatchOf t k (step_of up)) Says stops × HasMade stops old new
   patch_made t k up Says old new h h' f f' answer says p =
-      let s = p.stopped in let stop : Stop = record { work = p.work; word = s.word } in
-      (stop ∷ [], record { stop = stop; fits = p.patch; says = subst Says s.answer_is says; stops_are = refl },
-      made_stop true p.work old new h h' f f' answer s)
+      let s = p.stopped in let stop : Stop = record { work = p.work; word = s.word } in (
+        stop ∷ [],
+        record { stop = stop; fits = p.patch; says = subst Says s.answer_is says; stops_are = refl },
+        made_stop true p.work old new h h' f f' answer s,
+      )
 
   -- a key that is counted
   pub makes_count : (t : TableValue) (k : ℕ) (up : Bool) (old new : PlaceValue) (h h' : H) (f f' : F) (made : Result Bool SmpError)

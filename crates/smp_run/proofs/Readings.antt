@@ -8,7 +8,7 @@ use Rattle.smp_labels.specs.Entries.{entry_word, entry_at}
 use Rattle.smp_labels.specs.Keys.{is_on}
 use Rattle.smp_labels.specs.Kinds.{kind_of, kind_word}
 use Rattle.smp_labels.specs.Labels.{Labels, AreLabels}
-use Rattle.smp_labels.specs.Law.{Table, site_word}
+use Rattle.smp_labels.specs.Law.{site_word}
 use Rattle.smp_labels.specs.declared.entries.Entry.{Entry}
 use Rattle.smp_labels.specs.declared.kinds.SiteKind.{SiteKind}
 use Rattle.smp_labels.specs.declared.kinds.SiteKind.TheVariants.{Nop, Jmp}
@@ -16,7 +16,7 @@ use Rattle.smp_labels.proofs.Lawful.{entry_at-word}
 use Rattle.smp_machine.specs.Counts.{reads_all}
 use Rattle.smp_machine.specs.Place.{MachineValue, PlaceValue}
 use Rattle.smp_multi.specs.Cpu.{CpuValue}
-use Rattle.smp_multi.specs.Names.{Reading, ReadKey, ReadSite}
+use Rattle.smp_multi.specs.Names.{Reading}
 use Rattle.smp_multi.specs.Reads.{ReadsOneTable, jumps, reads}
 use Rattle.smp_stop_steps.specs.Labels.{Agrees}
 use Rattle.smp_run.specs.Readings.{HasRead, HaveKinds, ReadsMore, key_reading, site_reading, keys_read, sites_read}

@@ -1,7 +1,7 @@
 -- What calls of the families send.
-use Rattle.std.proofs.Common.{◌≡◌, ◌≢◌, ℕ, zero, suc, ◌+◌, ◌<◌, ◌≤◌, ◌⊎◌, inl, inr, not, ◌&&◌, ◌||◌, ◌==◌, Bool, true, false, None, Some, Option, Result, Ok, Err}
-use Rattle.std.proofs.Common.{IfOk, IfErr, if◌then◌else◌, filter, take, length, slice_index_or, List, [], ◌∷◌, ◌++◌, map, append_assoc, refl, sym, ap, ◌∙◌, subst, arith}
-use Rattle.std.proofs.lemmas.Bool.{cases_eq, cases_Bool, eq-eqb, ne_eqb, and_parts, and_from, false_from_ne_true}
+use Rattle.std.proofs.Common.{◌≡◌, ◌≢◌, ℕ, zero, suc, ◌+◌, ◌<◌, ◌⊎◌, inl, inr, not, ◌&&◌, ◌||◌, ◌==◌, Bool, true, false, None, Some, Option, Result, Ok, Err}
+use Rattle.std.proofs.Common.{IfOk, IfErr, if◌then◌else◌, filter, take, length, slice_index_or, List, [], ◌∷◌, ◌++◌, append_assoc, refl, sym, ap, ◌∙◌, subst, arith}
+use Rattle.std.proofs.lemmas.Bool.{cases_eq, cases_Bool, eq-eqb, ne_eqb, and_parts, false_from_ne_true}
 use Rattle.std.specs.List.{flat_map}
 use Rattle.std.proofs.lemmas.List.{append-nil, map-append, take_more, flat_map_more}
 use Rattle.std.proofs.lemmas.List.Elements.{filter-append}
@@ -13,10 +13,9 @@ use Rattle.smp_words.specs.Size.{cpus}
 use Rattle.smp_words.specs.declared.call.Call.{Call}
 use Rattle.smp_words.specs.declared.call.Class.{Class}
 use Rattle.smp_words.specs.declared.call.Class.TheVariants.{Async}
-use Rattle.smp_call_steps.specs.declared.known.Sending.{Sending}
-use Rattle.smp_queue.specs.Cpu.{CpuValue, confirms, looks}
+use Rattle.smp_queue.specs.Cpu.{CpuValue}
 use Rattle.smp_queue.specs.declared.handler.Heard.{Heard}
-use Rattle.smp_calls.specs.Families.{Calls, CallsAndHere, CallsBy, CallsHere, CallsMany, CallsOne, CallsUserHere, CallsWith, QueuesNone, RefusesUser}
+use Rattle.smp_calls.specs.Families.{CallsBy, CallsHere, CallsMany, CallsOne, CallsUserHere, CallsWith, QueuesNone}
 use Rattle.smp_calls.specs.Queued.{Queued, destinations, sendings}
 use Rattle.smp_calls.specs.Records.{call_by, class_for, many_call, single_record, user_record}
 use Rattle.smp_calls.specs.Rounds.{Picks}
@@ -201,8 +200,8 @@ remote_passing : (mask online this : ℕ) (says : ℕ → Bool) (called : ℕ) �
 remote_passing mask online this says called picks =
     filter_members called (λ c. not (c == this)) NR_CPUS
     ∙ passing_same (λ c. has called c && not (c == this)) (λ c. is_target mask online this false c && says c) NR_CPUS (λ c l.
-        ap (λ (b : Bool). b && not (c == this)) (picked (is_target mask online this true) says called picks c l)
-        ∙ other_picked (has mask c) (has online c) (c == this) (says c))
+    ap (λ (b : Bool). b && not (c == this)) (picked (is_target mask online this true) says called picks c l)
+    ∙ other_picked (has mask c) (has online c) (c == this) (says c))
 
 module _ {H : Type 0} (leads : H → Heard → H → Type 0) where
   pub any_sent : (online mask func info : ℕ) (wait : Bool) (old new : PlaceValue) (h h' : H) (made : Result ℕ SmpError) → old.stops.inside ≡ None

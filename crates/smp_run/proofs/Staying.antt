@@ -13,7 +13,7 @@ use Rattle.smp_machine.specs.Counts.{CountsOr}
 use Rattle.smp_machine.specs.Keys.{Sets}
 use Rattle.smp_machine.specs.Own.{Own}
 use Rattle.smp_machine.specs.Passes.{PassesValue}
-use Rattle.smp_machine.specs.Place.{MachineValue, PlaceValue, IsAt}
+use Rattle.smp_machine.specs.Place.{MachineValue, PlaceValue}
 use Rattle.smp_machine.specs.Stops.{HasStopped, RefusedStill}
 use Rattle.smp_machine.specs.Works.{Works}
 use Rattle.smp_machine.proofs.Works.{at_still}

@@ -1,5 +1,5 @@
 -- What a CPU reads of the labels at the end of a run.
-use Rattle.std.specs.Prelude.{◌≡◌, ℕ, ◌<◌, Bool, List, [], ◌∷◌, ◌++◌, length, slice_index_or}
+use Rattle.std.specs.Prelude.{◌≡◌, ℕ, ◌<◌, Bool, List, [], ◌∷◌, length, slice_index_or}
 use Rattle.smp_labels.specs.Kinds.{kind_of}
 use Rattle.smp_labels.specs.Labels.{Labels}
 use Rattle.smp_labels.specs.declared.entries.Entry.{Entry}

@@ -19,11 +19,7 @@ pub(crate) struct Player<'a, P: Pace> {
 
 impl<'a, P: Pace> Player<'a, P> {
     /// This CPU at its machine.
-    pub(crate) fn new(
-        machine: &'a Machine<Global>,
-        pace: &'a P,
-        cpu: Cpu<Global>,
-    ) -> Player<'a, P>
+    pub(crate) fn new(machine: &'a Machine<Global>, pace: &'a P, cpu: Cpu<Global>) -> Player<'a, P>
         requires { IsSeated machine.now cpu }
         ensures machine { result.machine.now ≡ machine.now }
         ensures cpu { result.cpu ≡ cpu }

@@ -1,4 +1,4 @@
-use Rattle.std.proofs.Common.{◌≡◌, ◌<◌, ◌++◌, length, ap, ◌∙◌, arith}
+use Rattle.std.proofs.Common.{◌++◌, ap, ◌∙◌, arith}
 use Rattle.smp_multi.specs.Cpu.{CpuValue}
 use Rattle.smp_run.specs.Readings.{keys_read, sites_read}
 use Rattle.smp_run.proofs.Readings.{both_read, kinds_read, same_labels}

@@ -1,7 +1,7 @@
-use Rattle.std.proofs.Common.{rules, ◌≡◌, ℕ, List, [], ◌∷◌, ◌++◌, length, ◌∙◌, refl, sym, subst, arith}
+use Rattle.std.proofs.Common.{rules, ◌≡◌, ℕ, [], ◌∷◌, ◌++◌, length, ◌∙◌, refl, sym, subst, arith}
 use Rattle.smp_machine.specs.Place.{MachineValue}
 use Rattle.smp_run.specs.Answers.{IsLineAnswer}
-use Rattle.smp_run.specs.Made.{AreLinesMade, IsLineMade, stops_of}
+use Rattle.smp_run.specs.Made.{AreLinesMade, IsLineMade}
 use Rattle.smp_run.specs.Seats.{keys_at}
 use Rattle.smp_run.proofs.Answering.{answered_more}
 use Rattle.smp_run.proofs.Making.{lines_more, lines_none, lines_then, made_same}
@@ -36,9 +36,11 @@ loop-at-preserved g c =
           was.2,
       script_more m mid.machine.now first.cpu mid.cpu new lines c.loop-at.at line c.loop-at-test.true
           c.index-lines-at.is same.machine_is same.number_is was.3 call.sent,
-      (made.0 ++ call.made.0 ∷ [],
-          lines_more m this lines c.loop-at.answers c.loop-at.at line answer made.0 call.made.0 c.loop-at-test.true was.1 c.index-lines-at.is told made.1,
-          lines_then made.0 call.made.0 first.cpu mid.cpu new made.2 call.made.2),
+      (
+        made.0 ++ call.made.0 ∷ [],
+        lines_more m this lines c.loop-at.answers c.loop-at.at line answer made.0 call.made.0 c.loop-at-test.true was.1 c.index-lines-at.is told made.1,
+        lines_then made.0 call.made.0 first.cpu mid.cpu new made.2 call.made.2,
+      ),
     )
 
 pub returns-clause-played : goal.returns-clause-played

@@ -1,6 +1,5 @@
-use Rattle.std.proofs.Common.{rules, ◌≡◌, ℕ, suc, List, [], ◌∷◌, ◌++◌, length, ◌∙◌, sym, subst, refl, arith}
+use Rattle.std.proofs.Common.{rules, ◌≡◌, ℕ, suc, [], ◌∷◌, ◌++◌, length, ◌∙◌, sym, subst, refl, arith}
 use Rattle.std.proofs.lemmas.List.{length_push}
-use Rattle.smp_run.specs.Made.{Making}
 use Rattle.smp_run.specs.Sent.{HasSent, repeated, request_calls}
 use Rattle.smp_run.proofs.Making.{made_more, made_same}
 use Rattle.smp_run.proofs.Sending.{repeat_more, repeat_none}
@@ -19,12 +18,16 @@ loop-made-preserved g c =
     same.machine_is same.number_is before.3 before.4 call.ensures.answer call.ensures.made in
     let grown : length (before.0 ++ made.last ∷ []) ≡ suc (length before.0) = omega (arith, length_push before.0 made.last) in (
       record { machine_is = more.machine_is ∙ same.machine_is; number_is = more.number_is ∙ same.number_is },
-      (before.0 ++ made.last ∷ [], search (rules, arith),
-          subst (λ (k : ℕ). HasSent (repeated k (request_calls first.machine.now.calls.online first.cpu.calls.number request)) first.cpu call.new.self.cpu)
-          (sym grown)
-          (repeat_more first.machine.now now.machine.now first.cpu now.cpu call.new.self.cpu request (length before.0)
-          same.machine_is same.number_is before.2 call.ensures.sent),
-          made.each, made.stops),
+      (
+        before.0 ++ made.last ∷ [],
+        search (rules, arith),
+        subst (λ (k : ℕ). HasSent (repeated k (request_calls first.machine.now.calls.online first.cpu.calls.number request)) first.cpu call.new.self.cpu)
+            (sym grown)
+            (repeat_more first.machine.now now.machine.now first.cpu now.cpu call.new.self.cpu request (length before.0)
+            same.machine_is same.number_is before.2 call.ensures.sent),
+        made.each,
+        made.stops,
+      ),
     )
 
 pub returns-clause-sent : goal.returns-clause-sent
@@ -44,12 +47,15 @@ returns-clause-made g c =
     same.machine_is same.number_is before.3 before.4 call.ensures.answer call.ensures.made in
     let grown = length_push before.0 made.last in
     let all : length (before.0 ++ made.last ∷ []) ≡ c.args.count =
-    omega (arith, grown, before.1, c.loop-made-test.false, c.loop-made.auto._made-end, c.requires.count) in
-    (before.0 ++ made.last ∷ [], record {
-      sized = all;
-      each = made.each;
-      before = before.0;
-      last = made.last;
-      makings_are = refl;
-      answer_is = made.answer_is;
-    }, made.stops)
+    omega (arith, grown, before.1, c.loop-made-test.false, c.loop-made.auto._made-end, c.requires.count) in (
+      before.0 ++ made.last ∷ [],
+      record {
+        sized = all;
+        each = made.each;
+        before = before.0;
+        last = made.last;
+        makings_are = refl;
+        answer_is = made.answer_is;
+      },
+      made.stops,
+    )

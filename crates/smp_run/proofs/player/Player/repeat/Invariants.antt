@@ -1,4 +1,4 @@
-use Rattle.std.proofs.Common.{◌≡◌, ℕ, ◌+◌, List, length}
+use Rattle.std.proofs.Common.{◌≡◌, ◌+◌, List, length}
 use Rattle.std.specs.List.{AllByRecursion}
 use Rattle.smp_run.specs.Made.{Making, HasMade, IsMaking, stops_of}
 use Rattle.smp_run.specs.Players.{IsSame}
