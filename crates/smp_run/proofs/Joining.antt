@@ -88,6 +88,7 @@ run_gathered : (m : MachineValue) (lines : List Directive) (from to : List Answe
     → Gathers (λ c. c ≡ p.calls.number) lines from to (length lines) → HasRun m lines from p → HasRun m lines to p
 run_gathered m lines from to p gathered run = let played = run.played in record {
   sent = run.sent;
+  waited = run.waited;
   played = record {
     made = played.made;
     lines_are = record {

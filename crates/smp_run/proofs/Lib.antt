@@ -15,6 +15,7 @@ mod Refusals
 -- what calls send, and which stops they make
 mod Sending
 mod Making
+mod Waiting
 -- lines of a run
 mod Lines
 -- what a CPU has done in a run

@@ -16,10 +16,11 @@ use Rattle.smp_run.specs.Driven.{HasRun}
 use Rattle.smp_run.specs.Made.{HasMade, HasPlayed, stops_of}
 use Rattle.smp_run.specs.Readings.{HasRead}
 use Rattle.smp_run.specs.Runs.{HasAsked}
-use Rattle.smp_run.specs.Sent.{Sent, HasSent, sent_of, script_calls}
+use Rattle.smp_run.specs.Sent.{Sent, HasSent, HasWaited, sent_of, script_calls}
 use Rattle.smp_run.specs.declared.answer.Answer.{Answer}
 use Rattle.smp_run.proofs.Making.{made_as, made_then}
 use Rattle.smp_run.proofs.Sending.{sent_as, sent_then}
+use Rattle.smp_run.proofs.Waiting.{waits_still}
 
 -- a CPU that was given out has done nothing
 pub is_new : (b : BootValue) (m : MachineValue) (n : ℕ) (p : PlaceValue) → b.machine ≡ m → p ≡ fresh_place b.machine n → p ≡ fresh_place m p.calls.number
@@ -30,8 +31,8 @@ is_new b m n p same is =
 -- a new CPU has made its lines, and then polled
 pub run_polled : (m : MachineValue) (lines : List Directive) (answers : List Answer) (old mid new : PlaceValue) → old ≡ fresh_place m old.calls.number
     → new.calls.number ≡ old.calls.number → HasSent (script_calls m.calls.online old.calls.number lines) old mid → HasPlayed m lines answers old mid
-    → HasSent [] mid new → HasMade [] mid new → HasRun m lines answers new
-run_polled m lines answers old mid new fresh number sent played none still =
+    → HasSent [] mid new → HasMade [] mid new → HasWaited new → HasRun m lines answers new
+run_polled m lines answers old mid new fresh number sent played none still waited =
     let this = old.calls.number in let calls = script_calls m.calls.online this lines in
     let all : HasSent calls (fresh_place m this) new =
     subst (λ (p : PlaceValue). HasSent calls p new) fresh (sent_as (calls ++ []) calls old new (append-nil calls) (sent_then calls [] old mid new sent none)) in
@@ -44,6 +45,7 @@ run_polled m lines answers old mid new fresh number sent played none still =
     let kept : HasPlayed m lines answers (fresh_place m this) new = subst (λ (p : PlaceValue). HasPlayed m lines answers p new) fresh done in
     record {
       sent = subst (λ (k : ℕ). sent_of new.calls.part.sent ≡ script_calls m.calls.online k lines) (sym number) all;
+      waited = waited;
       played = subst (λ (k : ℕ). HasPlayed m lines answers (fresh_place m k) new) (sym number) kept;
     }
 
@@ -62,6 +64,7 @@ run_read m lines answers old new readings read run =
     } in
     record {
       sent = subst (λ (c : CallCpuValue). sent_of c.part.sent ≡ script_calls m.calls.online c.number lines) (sym read.calls_are) run.sent;
+      waited = waits_still old new read.calls_are run.waited;
       played = subst (λ (c : CallCpuValue). HasPlayed m lines answers (fresh_place m c.number) new) (sym read.calls_are) kept;
     }
 

@@ -59,7 +59,7 @@ module _ {H F : Type 0} (hears : H → Heard → H → Type 0) (runs : F → Cal
       }
 
   -- a stretch of work after which it is in no stop, or nothing at all
-  abbrev Quiet : PlaceValue → H → F → PlaceValue → H → F → Type 0
+  abbrev pub Quiet : PlaceValue → H → F → PlaceValue → H → F → Type 0
   Quiet old h f new h' f' = ((own : Own) × Works hears runs old h f new h' f' own × (new.stops.inside ≡ None)) ⊎ (new ≡ old)
 
   pub still_quiet : (m : MachineValue) (old new : PlaceValue) (h h' : H) (f f' : F) → Quiet old h f new h' f' → IsSeated m old → IsStill m old new
@@ -74,7 +74,7 @@ module _ {H F : Type 0} (hears : H → Heard → H → Type 0) (runs : F → Cal
   sent_quiet old new h h' f f' (inr same) = sent_none old new (ap (λ (x : PlaceValue). x.calls.part.sent) same)
 
   -- a stop
-  quiet_stopped : (long : Bool) (P : Work → Type 0) (old new : PlaceValue) (h h' : H) (f f' : F) (made : Result ℤ SmpError)
+  pub quiet_stopped : (long : Bool) (P : Work → Type 0) (old new : PlaceValue) (h h' : H) (f f' : F) (made : Result ℤ SmpError)
       → IfOk made (λ v. (work : Work) × P work × HasStopped hears runs long work old h f new h' f' v)
       → IfErr made (λ _. RefusedStill old h f new h' f') → Quiet old h f new h' f'
   quiet_stopped long P old new h h' f f' (Ok v) ok err = inl (_, ok.2.works, ok.2.outside)
@@ -92,7 +92,7 @@ module _ {H F : Type 0} (hears : H → Heard → H → Type 0) (runs : F → Cal
   sent_stopped long P old new h h' f f' made ok err = sent_quiet old new h h' f f' (quiet_stopped long P old new h h' f f' made ok err)
 
   -- a key that is set
-  quiet_set : (t : TableValue) (k : ℕ) (on : Bool) (old new : PlaceValue) (h h' : H) (f f' : F) (made : Result Bool SmpError)
+  pub quiet_set : (t : TableValue) (k : ℕ) (on : Bool) (old new : PlaceValue) (h h' : H) (f f' : F) (made : Result Bool SmpError)
       → IfOk made (λ turned. Sets hears runs t k on old h f new h' f' turned) → IfOk made (λ _. new.stops.inside ≡ None)
       → IfErr made (λ _. RefusedStill old h f new h' f') → Quiet old h f new h' f'
   quiet_set t k on old new h h' f f' (Ok false) sets outside err = inl (_, sets, outside)
@@ -111,7 +111,7 @@ module _ {H F : Type 0} (hears : H → Heard → H → Type 0) (runs : F → Cal
   sent_set t k on old new h h' f f' made sets outside err = sent_quiet old new h h' f f' (quiet_set t k on old new h h' f f' made sets outside err)
 
   -- a key that is counted
-  quiet_counted : (t : TableValue) (k : ℕ) (up : Bool) (old new : PlaceValue) (h h' : H) (f f' : F) (made : Result Bool SmpError)
+  pub quiet_counted : (t : TableValue) (k : ℕ) (up : Bool) (old new : PlaceValue) (h h' : H) (f f' : F) (made : Result Bool SmpError)
       → CountsOr hears runs t k up old h f new h' f' made → Quiet old h f new h' f'
   quiet_counted t k up old new h h' f f' (Ok false) c = inl (_, c.1.works, c.1.outside)
   quiet_counted t k up old new h h' f f' (Ok true) c = inl (_, c.1.patches.stopped.works, c.1.patches.stopped.outside)

@@ -6,13 +6,14 @@ use Rattle.smp_script.specs.declared.directive.Directive.{Directive}
 use Rattle.smp_run.specs.Answers.{Answered, IsJoined}
 use Rattle.smp_run.specs.Made.{HasPlayed}
 use Rattle.smp_run.specs.Seats.{IsSeated, keys_at}
-use Rattle.smp_run.specs.Sent.{sent_of, script_calls}
+use Rattle.smp_run.specs.Sent.{HasWaited, sent_of, script_calls}
 use Rattle.smp_run.specs.declared.answer.Answer.{Answer}
 use Rattle.smp_run.specs.declared.driver.Seat.{Seat}
 
--- a CPU of this machine, with room for the answer of each line
+-- a CPU of this machine, whose waited calls have ended, with room for the answer of each line
 pub record IsReady (m : MachineValue) (lines : List Directive) (s : Seat) : Type 0 where
   pub seated : IsSeated m s.cpu
+  pub waited : HasWaited s.cpu
   pub sized : vec_len s.answers ≡ length lines
 
 -- one that has done nothing
@@ -20,9 +21,11 @@ pub record IsNew (m : MachineValue) (lines : List Directive) (s : Seat) : Type 0
   pub ready : IsReady m lines s
   pub fresh : s.cpu ≡ fresh_place m s.cpu.calls.number
 
--- a CPU that, since it had done nothing, has sent the calls of its own lines, and made their stops with these answers
+-- a CPU that, since it had done nothing, has sent the calls of its own lines, of which those that wait have ended, and made their
+-- stops with these answers
 pub record HasRun (m : MachineValue) (lines : List Directive) (answers : List Answer) (p : PlaceValue) : Type 0 where
   pub sent : sent_of p.calls.part.sent ≡ script_calls m.calls.online p.calls.number lines
+  pub waited : HasWaited p
   pub played : HasPlayed m lines answers (fresh_place m p.calls.number) p
 
 -- the thread of this CPU gives it back, with the answers to its lines; or nothing, where it has not begun

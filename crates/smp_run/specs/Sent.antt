@@ -1,10 +1,12 @@
 -- Which calls the lines of a script ask a CPU to send.
-use Rattle.std.specs.Prelude.{◌≡◌, ℕ, zero, suc, Bool, false, not, ◌&&◌, ◌==◌, if◌then◌else◌, List, [], ◌∷◌, ◌++◌, map}
+use Rattle.std.specs.Prelude.{◌≡◌, ℕ, zero, suc, ◌<◌, Bool, true, false, not, ◌&&◌, ◌==◌, if◌then◌else◌, List, [], ◌∷◌, ◌++◌, map}
 use Rattle.std.specs.List.{flat_map}
 use Rattle.smp_mask.specs.Mask.{has}
-use Rattle.smp_words.specs.Size.{cpus}
+use Rattle.smp_queue.specs.Cpu.{confirmed_at}
+use Rattle.smp_words.specs.Size.{cpus, record_of, records_of_one}
 use Rattle.smp_words.specs.declared.call.Call.{Call}
-use Rattle.smp_words.specs.declared.call.Class.TheVariants.{Async}
+use Rattle.smp_words.specs.declared.call.Class.{Class}
+use Rattle.smp_words.specs.declared.call.Class.TheVariants.{Sync, Async}
 use Rattle.smp_call_steps.specs.declared.known.Sending.{Sending}
 use Rattle.smp_calls.specs.Records.{call_by, many_call, single_record, user_record, class_for}
 use Rattle.smp_calls.specs.Targets.{is_target}
@@ -27,6 +29,20 @@ sent_of sendings = map (λ s. record { call = s.call; to = s.to }) sendings
 -- since then a CPU has sent just these calls, in order
 abbrev pub HasSent : List Sent → PlaceValue → PlaceValue → Type 0
 HasSent calls old new = sent_of new.calls.part.sent ≡ sent_of old.calls.part.sent ++ calls
+
+-- whether calls of a class are waited for
+abbrev pub is_sync : Class → Bool
+is_sync Sync = true
+is_sync Async = false
+
+-- whether the last of some calls by this record is waited for; before them it was as given
+abbrev pub is_waited : Bool → ℕ → List Sending → Bool
+is_waited was id [] = was
+is_waited was id (s ∷ more) = is_waited (if id == s.call.id then is_sync s.call.class else was) id more
+
+-- each record of a CPU whose last call waits was seen confirmed: that call has ended
+pub record HasWaited (p : PlaceValue) : Type 0 where
+  pub each : (k : ℕ) → k < records_of_one → is_waited false (record_of p.calls.number k) p.calls.part.sent ≡ true → confirmed_at p.calls k ≡ true
 
 -- the call for each of these CPUs
 abbrev pub calls_to : (ℕ → Call) → List ℕ → List Sent

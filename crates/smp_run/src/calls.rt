@@ -76,7 +76,7 @@ fn turned_or(made: Result<bool, SmpError>) -> Answer
 
 impl<'a, P: Pace> Player<'a, P> {
     /// A poll of the machine: the CPU handles its own interrupt, and takes part in a stop that calls it.
-    #[tactic(auto, using(crate::proofs::Staying::seated_worked, crate::proofs::Staying::number_worked, crate::proofs::Staying::sent_worked, crate::proofs::Making::made_polled))]
+    #[tactic(auto, using(crate::proofs::Staying::seated_worked, crate::proofs::Staying::number_worked, crate::proofs::Staying::sent_worked, crate::proofs::Making::made_polled, crate::proofs::Waiting::waited_worked))]
     pub(crate) fn poll<R: Wait>(&mut self, rt: &R)
         ensures same { IsSame self.old self.new }
         ensures sent { HasSent [] self.old.cpu self.new.cpu }
@@ -201,7 +201,7 @@ impl<'a, P: Pace> Player<'a, P> {
         cpus_or(made)
     }
 
-    #[tactic(auto, using(crate::proofs::Staying::still_stopped, crate::proofs::Refusals::one_answered))]
+    #[tactic(auto, using(crate::proofs::Staying::still_stopped, crate::proofs::Refusals::one_answered, crate::proofs::Waiting::waited_stopped))]
     fn one<R: Wait>(&mut self, rt: &R, dst: u32, func: u16, arg: u64) -> Answer
         ensures same { IsSame self.old self.new }
         ensures answer { IsRefusedOr (one_refusal self.old.machine.now.calls.online dst) IsNumber result }
@@ -216,7 +216,7 @@ impl<'a, P: Pace> Player<'a, P> {
         number_or(made)
     }
 
-    #[tactic(auto, using(crate::proofs::Staying::still_stopped, crate::proofs::Refusals::two_answered))]
+    #[tactic(auto, using(crate::proofs::Staying::still_stopped, crate::proofs::Refusals::two_answered, crate::proofs::Waiting::waited_stopped))]
     fn two<R: Wait>(&mut self, rt: &R, a: u32, b: u32, func: u16, arg: u64) -> Answer
         ensures same { IsSame self.old self.new }
         ensures answer { IsRefusedOr (two_refusal self.old.machine.now.calls.online a b) IsNumber result }
@@ -231,7 +231,7 @@ impl<'a, P: Pace> Player<'a, P> {
         number_or(made)
     }
 
-    #[tactic(auto, using(crate::proofs::Staying::still_stopped, crate::proofs::Refusals::all_answered))]
+    #[tactic(auto, using(crate::proofs::Staying::still_stopped, crate::proofs::Refusals::all_answered, crate::proofs::Waiting::waited_stopped))]
     fn stop_all<R: Wait>(&mut self, rt: &R, active: Option<CpuMask>, func: u16, arg: u64) -> Answer
         ensures same { IsSame self.old self.new }
         ensures answer { IsNumber result }
@@ -245,7 +245,7 @@ impl<'a, P: Pace> Player<'a, P> {
         number_or(made)
     }
 
-    #[tactic(auto, using(crate::proofs::Staying::still_set, crate::proofs::Refusals::set_answered))]
+    #[tactic(auto, using(crate::proofs::Staying::still_set, crate::proofs::Refusals::set_answered, crate::proofs::Waiting::waited_set))]
     fn set<R: Wait>(&mut self, rt: &R, k: u32, on: bool) -> Answer
         ensures same { IsSame self.old self.new }
         ensures answer { IsRefusedOr (key_refusal (keys_at self.old.machine.now) k) IsTruth result }
@@ -257,7 +257,7 @@ impl<'a, P: Pace> Player<'a, P> {
         turned_or(made)
     }
 
-    #[tactic(auto, using(crate::proofs::Staying::still_counted, crate::proofs::Refusals::counted))]
+    #[tactic(auto, using(crate::proofs::Staying::still_counted, crate::proofs::Refusals::counted, crate::proofs::Waiting::waited_counted))]
     fn inc<R: Wait>(&mut self, rt: &R, k: u32) -> Answer
         ensures same { IsSame self.old self.new }
         ensures answer { IsRefusedOr (key_refusal (keys_at self.old.machine.now) k) (IsCount Full) result }
@@ -269,7 +269,7 @@ impl<'a, P: Pace> Player<'a, P> {
         turned_or(made)
     }
 
-    #[tactic(auto, using(crate::proofs::Staying::still_counted, crate::proofs::Refusals::counted))]
+    #[tactic(auto, using(crate::proofs::Staying::still_counted, crate::proofs::Refusals::counted, crate::proofs::Waiting::waited_counted))]
     fn dec<R: Wait>(&mut self, rt: &R, k: u32) -> Answer
         ensures same { IsSame self.old self.new }
         ensures answer { IsRefusedOr (key_refusal (keys_at self.old.machine.now) k) (IsCount Zero) result }

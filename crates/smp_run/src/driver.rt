@@ -116,6 +116,7 @@ pub fn play<R: Wait, P: Pace>(
 ) -> Seat
     requires lawful { AreLines machine.now.calls.online lines.now }
     requires ready { IsReady machine.now lines.now seat }
+    // It is ready for other lines: each of its calls that waits has ended.
     ensures ready { IsReady machine.now lines.now result }
     ensures number { result.cpu.calls.number ≡ seat.cpu.calls.number }
     ensures answered { Answered machine.now.calls.online (keys_at machine.now) (λ c. c ≡ seat.cpu.calls.number) lines.now result.answers.items }

@@ -17,5 +17,5 @@ returns g c =
       made.ensures.answered,
       run_polled m lines (vec_items made.result.answers) first made.result.cpu last c.requires.new.fresh number made.ensures.sent made.ensures.played
           (subst (λ (p : PlaceValue). HasSent [] p last) new.ensures.cpu polled.ensures.sent)
-          (subst (λ (p : PlaceValue). HasMade [] p last) new.ensures.cpu polled.ensures.stops),
+          (subst (λ (p : PlaceValue). HasMade [] p last) new.ensures.cpu polled.ensures.stops) polled.new.self.waited,
     )
